@@ -1,0 +1,5 @@
+pub mod Label
+pub mod Live
+pub mod Network
+pub mod Path
+pub mod SilentBound
