@@ -1,0 +1,10 @@
+//! The text of a script: its tokens, what script a text spells, and a reader for the scripts that are read so far.
+#![tactic(auto)]
+
+pub mod reader;
+pub mod script;
+pub mod token;
+
+pub use reader::read_script;
+pub use script::Script;
+pub use token::{Symbol, Token, Word};
