@@ -1,0 +1,4 @@
+pub mod Count
+pub mod Texts
+pub mod Load
+pub mod Write
