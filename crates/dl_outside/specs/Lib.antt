@@ -2,3 +2,4 @@ pub mod Count
 pub mod Texts
 pub mod Load
 pub mod Write
+pub mod FaultPlan

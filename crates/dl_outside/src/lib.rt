@@ -1,7 +1,8 @@
 //! The outside as the checker sees it: a shelf that scripts are loaded from, a sink that reports are written to, and their implementations.
 #![tactic(auto)]
 
-pub mod count;
+mod count;
+mod fault_plan;
 pub mod shelf;
 pub mod sink;
 pub mod texts;
