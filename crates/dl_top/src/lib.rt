@@ -1,0 +1,10 @@
+//! The top call: words in, a report out, and an exit status; with the theorem about the answer 0.
+#![tactic(auto)]
+
+pub mod answer;
+pub mod report;
+pub mod words;
+
+pub use answer::{Answer, status_of};
+pub use report::report_of;
+pub use words::{Rule, Words};
