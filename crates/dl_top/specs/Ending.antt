@@ -1,7 +1,9 @@
 -- How a call ends: what was sent, and the exit status.
 use Rattle.std.specs.Prelude.{◌≡◌, ◌⊎◌, ℕ, List, ◌++◌, Option}
+use Rattle.dl_outside.specs.Count.{HasRisen}
 use Rattle.dl_outside.specs.Write.{GrowsBy}
 use Rattle.dl_top.specs.declared.answer.Answer.{Answer}
+use Rattle.dl_top.specs.declared.answer.Answer.TheVariants.{ScriptNotFound, ScriptNotRead}
 use Rattle.dl_top.specs.Report.{report_text, status}
 
 -- What was sent, where it is told, has grown by a front of the report: perhaps nothing, perhaps all of it.
@@ -13,6 +15,13 @@ pub record SinkSigns : Type 1 where
   pub old : Option (List ℕ)
   pub new : Option (List ℕ)
   pub rose : Type 0
+
+abbrev pub sink_signs : (sent_before sent_after : Option (List ℕ)) → (faults_before faults_after : ℕ) → SinkSigns
+sink_signs sent_before sent_after faults_before faults_after = record {
+  old = sent_before;
+  new = sent_after;
+  rose = HasRisen faults_before faults_after;
+}
 
 -- The whole report of an answer, with its status.
 abbrev pub EndsWhole : (Answer → Type 0) → SinkSigns → ℕ → Type 0
@@ -28,3 +37,8 @@ EndsShort Cause sink result = ((sink.new ≡ sink.old) ⊎ ((answer : Answer) ×
 
 abbrev pub Ends : (Answer → Type 0) → SinkSigns → ℕ → Type 0
 Ends Cause sink result = EndsWhole Cause sink result ⊎ EndsBroken Cause sink result ⊎ EndsShort Cause sink result
+
+-- The whole line of a fault of the shelf.
+abbrev pub EndsInShelfFault : (Answer → Type 0) → SinkSigns → Type 0
+EndsInShelfFault Cause sink =
+    (answer : Answer) × ((answer ≡ ScriptNotFound) ⊎ (answer ≡ ScriptNotRead)) × Cause answer × GrowsBy sink.old sink.new (report_text answer)

@@ -1,10 +1,10 @@
 -- The answer that the text of a script calls for.
-use Rattle.std.specs.Prelude.{◌≡◌, ◌⊎◌, ℕ, ◌<◌, ◌≤◌, List, length}
+use Rattle.std.specs.Prelude.{◌≡◌, ◌⊎◌, ℕ, List, length}
 use Rattle.csp_tables.specs.Network.{leaves}
 use Rattle.csp_terms.specs.Network.{Network, SpellsNetwork, IsLive, HasSilentBound}
 use Rattle.dl_top.specs.declared.words.Rule.{Rule}
 use Rattle.dl_top.specs.declared.answer.Answer.{Answer}
-use Rattle.dl_top.specs.declared.answer.Answer.TheVariants.{ScriptTooLong, NotBuilt, DeadlockFree}
+use Rattle.dl_top.specs.declared.answer.Answer.TheVariants.{NotBuilt, DeadlockFree}
 
 -- The text spells this network and no other.
 pub record SpellsOnly (text : List ℕ) (network : Network) : Type 0 where
@@ -23,4 +23,4 @@ TextCallsFor text rule answer =
     (((network : Network) → SpellsNetwork text network → ⊥) × (answer ≡ NotBuilt))
     -- it spells exactly one, which is free of deadlock
     ⊎ ((network : Network) × (bound : ℕ) × SpellsOnly text network × IsDeadlockFree network bound
-        × (answer ≡ DeadlockFree rule (length (leaves network.tree)) bound))
+    × (answer ≡ DeadlockFree rule (length (leaves network.tree)) bound))

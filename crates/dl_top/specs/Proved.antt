@@ -1,5 +1,5 @@
 -- What the answer 0 promises.
-use Rattle.std.specs.Prelude.{◌≡◌, ℕ, List, length, Option, None, Some}
+use Rattle.std.specs.Prelude.{◌≡◌, ℕ, List, length, Option, Some}
 use Rattle.csp_tables.specs.Network.{leaves}
 use Rattle.csp_terms.specs.Network.{Network, SpellsNetwork, IsLive, HasSilentBound}
 use Rattle.dl_outside.specs.declared.texts.NamedText.{NamedText}

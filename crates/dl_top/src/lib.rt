@@ -2,9 +2,14 @@
 #![tactic(auto)]
 
 pub mod answer;
+pub mod judge;
+pub mod load;
 pub mod report;
+pub mod send;
+pub mod top;
 pub mod words;
 
 pub use answer::{Answer, status_of};
 pub use report::report_of;
+pub use top::dl_main;
 pub use words::{Rule, Words};

@@ -29,12 +29,7 @@ fn push_labelled(report: &mut Bytes, label: &[u8], text: &[u8]) -> Result<(), No
 }
 
 /// Adds a line of a label and a number.
-fn push_number(
-    alloc: Global,
-    report: &mut Bytes,
-    label: &[u8],
-    number: u32,
-) -> Result<(), NoMemory>
+fn push_number(alloc: Global, report: &mut Bytes, label: &[u8], number: u32) -> Result<(), NoMemory>
     ensures { OnOk result (report.new ≡ report.old ++ line (label.now ++ decimal number)) }
 {
     let number = format!(in alloc; "{number}")?;
@@ -70,12 +65,7 @@ fn rule_name(rule: Rule) -> &'static [u8]
 }
 
 /// The report of a network that is free of deadlock.
-fn deadlock_free(
-    alloc: Global,
-    rule: Rule,
-    components: u32,
-    bound: u32,
-) -> Result<Bytes, NoMemory>
+fn deadlock_free(alloc: Global, rule: Rule, components: u32, bound: u32) -> Result<Bytes, NoMemory>
     ensures { IfOk result (λ report. report ≡ line (codes "deadlock-free")
         ++ line (codes "rule " ++ rule_text rule)
         ++ line (codes "components " ++ decimal components)

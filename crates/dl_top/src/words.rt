@@ -10,6 +10,7 @@ use std::alloc::Global;
 use std::marker::Model;
 
 const CHECK: &[u8] = b"check";
+
 const CYCLIC: &[u8] = b"cyclic";
 
 /// The design rules that a network can be judged by.

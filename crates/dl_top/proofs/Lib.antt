@@ -1,0 +1,5 @@
+pub mod Judging
+pub mod Loading
+pub mod Sending
+pub mod Proving
+pub mod Settling
