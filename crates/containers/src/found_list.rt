@@ -176,6 +176,7 @@ mod tests {
         assert!(rt; found.is_empty());
         assert_eq!(rt; found.bound(), 7);
         for (x, is_new) in [(3, true), (6, true), (3, false), (0, true), (6, false)] {
+            assert!(rt; (x as usize) < found.bound());
             assert_eq!(rt; found.add(x)?, is_new, "at {x}");
         }
         for (x, is_item) in [
