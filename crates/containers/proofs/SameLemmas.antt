@@ -1,6 +1,6 @@
 -- For a type that holds itself through `Items` and `Boxed`: that what its derived `==` finds equal is one value. `same_rolled` makes the step of an
 -- induction over the type out of a proof for one layer, in which each child is `Known`; `same_items` serves there for a list of children.
-use Rattle.std.proofs.Common.{◌≡◌, Bool, true, false, List, [], ◌∷◌, map, refl, subst}
+use Rattle.std.proofs.Common.{◌≡◌, Bool, true, List, [], ◌∷◌, map, refl, subst}
 use Rattle.std.specs.Cmp.{first_so, second_so}
 use Rattle.std.specs.Cmp.Lexicographic.{pointwise}
 use Rattle.std.proofs.lemmas.Bool.{false≢true}

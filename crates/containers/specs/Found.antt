@@ -1,5 +1,5 @@
 -- Numbers below a bound, each once, in the order in which they were found.
-use Rattle.std.specs.Prelude.{◌≡◌, ℕ, ◌<◌, Bool, false, nat_eq, List, slice_index_or}
+use Rattle.std.specs.Prelude.{◌≡◌, ℕ, Bool, false, nat_eq, List, slice_index_or}
 use Rattle.std.specs.List.{IsDistinct}
 use Rattle.containers.specs.Members.{has}
 

@@ -1,6 +1,6 @@
 ghost use Rattle.std.specs.Prelude.{◌≡◌, ℕ, ◌<◌, ◌≤◌, ◌↔◌, not, false, true, nat_eq, [], ◌∷◌, ◌++◌, All, length, slice_get, slice_index_or, slice_set, replicate, IsTrue, IfOk, OnOk, OnErr, OnSome, IfSome};
 ghost use Rattle.std.specs.List.{IsDistinct};
-ghost use Rattle.containers.specs.Members.{has, with_found};
+ghost use Rattle.containers.specs.Members.{has, with_new};
 ghost use Rattle.containers.specs.Found.{MarksItems};
 
 use std::alloc::{AllocError, Global};
@@ -106,7 +106,7 @@ impl FoundList {
     pub fn add(&mut self, x: u32) -> Result<bool, AllocError>
         requires { x < self.old.bound }
         ensures told { IfOk result (λ new. new ≡ not (has self.old.items x)) }
-        ensures items { OnOk result (self.new.items ≡ with_found self.old.items x) }
+        ensures items { OnOk result (self.new.items ≡ with_new nat_eq self.old.items x) }
         ensures bound { self.new.bound ≡ self.old.bound }
 
         // A known number needs no memory.
@@ -151,7 +151,7 @@ fn add_item(marks: &mut Vec<bool>, items: &mut Vec<u32>, x: u32) -> Result<bool,
     requires below { x < length marks.old.items }
     requires marked { MarksItems marks.old.items items.old.items }
     ensures told { IfOk result (λ new. new ≡ not (has items.old.items x)) }
-    ensures items { OnOk result (items.new.items ≡ with_found items.old.items x) }
+    ensures items { OnOk result (items.new.items ≡ with_new nat_eq items.old.items x) }
     ensures bound { length marks.new.items ≡ length marks.old.items }
     ensures marked { MarksItems marks.new.items items.new.items }
     ensures err { OnErr result (items.new.items ≡ items.old.items) }
