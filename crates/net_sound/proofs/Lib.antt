@@ -4,3 +4,7 @@ pub mod Sharers
 pub mod Within
 pub mod Laps
 pub mod Stuck
+pub mod FlatLists
+pub mod Flattening
+pub mod Local
+pub mod Heart
