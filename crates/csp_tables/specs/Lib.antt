@@ -1,5 +1,16 @@
+pub mod Behaviour
+pub mod Falls
+pub mod Flat
+pub mod Form
+pub mod GoodRanking
 pub mod Label
 pub mod Live
 pub mod Network
+pub mod Part
 pub mod Path
+pub mod Ranking
 pub mod SilentBound
+pub mod Stands
+pub mod Table
+pub mod Trace
+pub mod WellNested

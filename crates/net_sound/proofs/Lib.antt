@@ -1,0 +1,10 @@
+pub mod Agreement
+pub mod Finite
+pub mod Sharers
+pub mod Within
+pub mod Laps
+pub mod Stuck
+pub mod FlatLists
+pub mod Flattening
+pub mod Local
+pub mod Heart

@@ -1,0 +1,4 @@
+pub mod Flattening
+pub mod Heart
+pub mod NoneStuck
+pub mod Projection
