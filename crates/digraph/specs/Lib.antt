@@ -1,0 +1,4 @@
+pub mod Digraph
+pub mod Walk
+pub mod Height
+pub mod Circle
