@@ -109,6 +109,7 @@ module _ (g : Digraph) (marks : List Mark) (heights rest trail : List ℕ) (s : 
 
   pub search_entering : ((k : ℕ) → k + 1 ≡ length trail → HasArc g (get_or trail k 0) w) → IsSearch g (set marks w Open) heights (set rest w (length (targets_of g w))) (trail ++ w ∷ [])
   search_entering follows = record {
+    small = s.small;
     in_range = s.in_range;
     marks_len = length-set marks w Open ∙ s.marks_len;
     heights_len = s.heights_len;

@@ -57,6 +57,7 @@ module _ (g : Digraph) (marks : List Mark) (heights rest trail : List ℕ) (s : 
 
   pub search_finishing : IsSearch g (set marks v Done) heights rest (take (length trail - 1) trail)
   search_finishing = record {
+    small = s.small;
     in_range = s.in_range;
     marks_len = length-set marks v Done ∙ s.marks_len;
     heights_len = s.heights_len;

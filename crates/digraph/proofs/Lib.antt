@@ -6,3 +6,5 @@ pub mod Raising
 pub mod Finishing
 pub mod Turning
 pub mod HeightLaws
+pub mod Looking
+pub mod Ending

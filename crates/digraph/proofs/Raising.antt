@@ -69,6 +69,7 @@ module _ (g : Digraph) (marks : List Mark) (heights rest trail : List ℕ) (s : 
 
   pub search_raising : IsSearch g marks (set heights v (max (get_or heights v 0) (get_or heights w 0 + 1))) (set rest v (get_or rest v 0 - 1)) trail
   search_raising = record {
+    small = s.small;
     in_range = s.in_range;
     marks_len = s.marks_len;
     heights_len = length-set heights v (max (get_or heights v 0) (get_or heights w 0 + 1)) ∙ s.heights_len;

@@ -1,7 +1,7 @@
 -- What holds while walks are followed to their ends. A trail of vertices is being walked. A vertex is new until the trail
 -- first comes to it, open while it is on the trail, and done once the heights of all its targets are known. For each
 -- open vertex `rest` says how many of its targets, the first ones, are still to be looked at.
-use Rattle.std.specs.Prelude.{◌≡◌, ◌≢◌, ℕ, ◌+◌, ◌*◌, ◌<◌, ◌≤◌, Bool, true, false, List, length, sum, count_by, slice_index, slice_index_or}
+use Rattle.std.specs.Prelude.{◌≡◌, ◌≢◌, ℕ, ◌+◌, ◌*◌, ◌^◌, ◌<◌, ◌≤◌, Bool, true, false, List, length, sum, count_by, slice_index, slice_index_or}
 use Rattle.digraph.specs.declared.walks.Mark.{Mark}
 use Rattle.digraph.specs.declared.walks.Mark.TheVariants.{New, Open, Done}
 use Rattle.digraph.specs.Digraph.{Digraph, targets_of, HasArc, InRange}
@@ -29,6 +29,7 @@ abbrev pub StaysMet : List Mark → List Mark → Type 0
 StaysMet before after = (v : ℕ) → mark_at after v ≡ New → mark_at before v ≡ New
 
 pub record IsSearch (g : Digraph) (marks : List Mark) (heights rest trail : List ℕ) : Type 0 where
+  pub small : length g < 2 ^ 32
   pub in_range : InRange g
   pub marks_len : length marks ≡ length g
   pub heights_len : length heights ≡ length g
