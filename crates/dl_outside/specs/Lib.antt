@@ -3,3 +3,4 @@ pub mod Texts
 pub mod Load
 pub mod Write
 pub mod FaultPlan
+pub mod MemoryDevices

@@ -3,10 +3,19 @@
 
 mod count;
 mod fault_plan;
+pub mod memory_shelf;
+pub mod memory_sink;
+mod pieces;
 pub mod shelf;
 pub mod sink;
+pub mod sure_shelf;
+pub mod sure_sink;
 pub mod texts;
 
+pub use memory_shelf::MemoryShelf;
+pub use memory_sink::MemorySink;
 pub use shelf::{LoadFault, Shelf};
 pub use sink::{Sink, SinkFault};
+pub use sure_shelf::SureShelf;
+pub use sure_sink::SureSink;
 pub use texts::NamedText;
