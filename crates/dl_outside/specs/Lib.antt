@@ -4,3 +4,4 @@ pub mod Load
 pub mod Write
 pub mod FaultPlan
 pub mod MemoryDevices
+pub mod QuietShelf

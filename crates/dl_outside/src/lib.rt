@@ -6,6 +6,7 @@ mod fault_plan;
 pub mod memory_shelf;
 pub mod memory_sink;
 mod pieces;
+pub mod quiet_shelf;
 pub mod shelf;
 pub mod sink;
 pub mod sure_shelf;
@@ -14,6 +15,7 @@ pub mod texts;
 
 pub use memory_shelf::MemoryShelf;
 pub use memory_sink::MemorySink;
+pub use quiet_shelf::QuietShelf;
 pub use shelf::{LoadFault, Shelf};
 pub use sink::{Sink, SinkFault};
 pub use sure_shelf::SureShelf;
