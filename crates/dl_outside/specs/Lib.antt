@@ -5,3 +5,4 @@ pub mod Write
 pub mod FaultPlan
 pub mod MemoryDevices
 pub mod QuietShelf
+pub mod FileCounts
