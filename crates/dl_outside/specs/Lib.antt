@@ -5,4 +5,5 @@ pub mod Write
 pub mod FaultPlan
 pub mod MemoryDevices
 pub mod QuietShelf
-pub mod FileCounts
+pub mod FileShelf
+pub mod StdSink

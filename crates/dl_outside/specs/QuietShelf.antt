@@ -1,5 +1,6 @@
 -- A shelf that hands out given strings, and tells nothing of them.
-use Rattle.std.specs.Prelude.{ℕ, ◌≡◌, ◌+◌, ◌-◌, ◌^◌, ◌<◌, ◌≤◌, List, [], ◌∷◌, length, min, Result, Ok, Err}
+use Rattle.std.specs.Prelude.{ℕ, ◌≡◌, ◌+◌, ◌^◌, ◌<◌, ◌≤◌, List, [], ◌∷◌, length, Result, Ok, Err}
+use Rattle.dl_outside.specs.Count.{one_more}
 use Rattle.dl_outside.specs.declared.shelf.LoadFault.{LoadFault}
 use Rattle.dl_outside.specs.declared.shelf.LoadFault.TheVariants.{Missing, TooLong, Failed, NoMemory}
 
@@ -23,7 +24,7 @@ pub record TurnsTo (old new : QuietShelfState) (text : List ℕ) : Type 0 where
 -- It has nothing to turn to, and counts that as a fault.
 pub record FailsToTurn (old new : QuietShelfState) : Type 0 where
   pub none : HasNoNext old.answers old.taken
-  pub counted : new.faults ≡ min (old.faults + 1) (2 ^ 64 - 1)
+  pub counted : new.faults ≡ one_more old.faults
   pub answers_stay : new.answers ≡ old.answers
   pub taken_stays : new.taken ≡ old.taken
 

@@ -1,8 +1,7 @@
 //! The shelf of the system's files. That a file holds what its reads give is trusted, and no part of any proof.
 
-ghost use Rattle.std.specs.Prelude.{◌≡◌, ◌≢◌, ◌+◌, ◌<◌, ◌≤◌, length, None, IfOk, OnErr};
-ghost use Rattle.dl_outside.specs.Count.{HasRisen};
-ghost use Rattle.dl_outside.specs.Load.{AnswersUntold};
+ghost use Rattle.std.specs.Prelude.{◌≡◌, ◌≢◌, ◌≤◌, length, None};
+ghost use Rattle.dl_outside.specs.FileShelf.{OpenAnswers, ReadAnswers, FileAnswers};
 
 use crate::count::raised;
 use crate::shelf::{LoadFault, Shelf};
@@ -21,7 +20,7 @@ pub struct FileShelf<'a, R> {
 }
 
 impl<'a, R> Model for FileShelf<'a, R> {
-    ghost use Rattle.dl_outside.specs.FileCounts.{FileCounts};
+    ghost use Rattle.dl_outside.specs.FileShelf.{FileCounts};
 
     ghost Value = { FileCounts };
 
@@ -38,10 +37,9 @@ impl<R> Drop for FileShelf<'_, R> {
     }
 }
 
-/// Opens the file of this name. An error is counted. A name that is no text is that of no file.
+/// Opens the file of this name. A name that is no text is that of no file.
 fn open_file<R: Files>(files: &R, name: &[u8], faults: &mut u64) -> Result<R::File, LoadFault>
-    ensures counted { OnErr result (HasRisen faults.old faults.new) }
-    ensures not_long { result ≢ Err LoadFault.TooLong }
+    ensures answer { OpenAnswers faults.old faults.new result }
     ensures never_falls { faults.old ≤ faults.new }
 {
     let Ok(path) = str::from_utf8(name) else {
@@ -61,20 +59,16 @@ fn open_file<R: Files>(files: &R, name: &[u8], faults: &mut u64) -> Result<R::Fi
     }
 }
 
-/// Appends what one read gives, and answers how many bytes that are: none at the end. An error is counted, and so are the bytes.
+/// Appends what one read gives, and answers how many bytes that are: none at the end.
 fn read_piece<R: Read>(
     reader: &mut R,
     text: &mut Bytes,
     faults: &mut u64,
     taken: &mut u64,
 ) -> Result<usize, LoadFault>
-    ensures appended { IfOk result (λ n. length text.new ≡ length text.old + n) }
-    ensures counted { IfOk result (λ n. taken.new ≡ taken.old + n) }
-    ensures not_long { result ≢ Err LoadFault.TooLong }
-    ensures not_missing { result ≢ Err LoadFault.Missing }
-    ensures failed { result ≡ Err LoadFault.Failed → HasRisen faults.old faults.new }
-    ensures faults_never_fall { faults.old ≤ faults.new }
-    ensures taken_never_falls { taken.old ≤ taken.new }
+    ensures answer { ReadAnswers (length text.old) (length text.new)
+        (record { faults = faults.old; taken = taken.old }) (record { faults = faults.new; taken = taken.new }) result }
+    ensures never_falls { faults.old ≤ faults.new }
 {
     let mut piece = [0u8; 4096];
     let Ok(count) = reader.read(&mut piece) else {
@@ -98,7 +92,9 @@ fn read_text<R: Read>(
     faults: &mut u64,
     taken: &mut u64,
 ) -> Result<Bytes, LoadFault>
-    ensures answer { AnswersUntold limit (HasRisen faults.old faults.new) (taken.old + limit < taken.new) result }
+    ensures answer { FileAnswers (record { faults = faults.old; taken = taken.old })
+        (record { faults = faults.new; taken = taken.new }) limit result }
+    ensures not_missing { result ≢ Err LoadFault.Missing }
     ensures faults_never_fall { faults.old ≤ faults.new }
     ensures taken_never_falls { taken.old ≤ taken.new }
 {
@@ -131,7 +127,11 @@ impl<R: Files> Shelf for FileShelf<'_, R> {
 
     ghost taken = { λ s. s.taken };
 
-    fn load(&mut self, alloc: Global, name: &[u8], limit: u32) -> Result<Bytes, LoadFault> {
+    fn load(&mut self, alloc: Global, name: &[u8], limit: u32) -> Result<Bytes, LoadFault>
+        ensures answer { FileAnswers self.old self.new limit result }
+        ensures faults_never_fall { self.old.faults ≤ self.new.faults }
+        ensures taken_never_falls { self.old.taken ≤ self.new.taken }
+    {
         let mut file = open_file(self.files, name, &mut self.fault_count)?;
         read_text(
             alloc,

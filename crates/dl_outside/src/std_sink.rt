@@ -1,6 +1,7 @@
 //! The sink of the standard output. That the terminal shows what was sent is trusted, and no part of any proof.
 
 ghost use Rattle.std.specs.Prelude.{◌≡◌, ◌≤◌, length, None};
+ghost use Rattle.dl_outside.specs.StdSink.{PrintAnswers};
 
 use crate::count::raised;
 use crate::sink::{Sink, SinkFault};
@@ -61,7 +62,10 @@ impl<P: Print> Sink for StdSink<'_, P> {
     ghost faults = { λ s. s };
 
     // An error after some bytes is counted, and the bytes are answered.
-    fn write(&mut self, piece: &[u8]) -> Result<usize, SinkFault> {
+    fn write(&mut self, piece: &[u8]) -> Result<usize, SinkFault>
+        ensures answer { PrintAnswers piece.now self.old self.new result }
+        ensures faults_never_fall { self.old ≤ self.new }
+    {
         let printed = print_bytes(self.output, piece);
         if printed < piece.len() {
             self.fault_count = raised(self.fault_count);
