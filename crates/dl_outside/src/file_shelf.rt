@@ -1,6 +1,7 @@
 //! The shelf of the system's files. That a file holds what its reads give is trusted, and no part of any proof.
 
 ghost use Rattle.std.specs.Prelude.{◌≡◌, ◌≢◌, ◌≤◌, length, None};
+ghost use Rattle.std.specs.Str.{IsUtf8};
 ghost use Rattle.dl_outside.specs.FileShelf.{OpenAnswers, ReadAnswers, FileAnswers};
 
 use crate::count::raised;
@@ -41,6 +42,7 @@ impl<R> Drop for FileShelf<'_, R> {
 fn open_file<R: Files>(files: &R, name: &[u8], faults: &mut u64) -> Result<R::File, LoadFault>
     ensures answer { OpenAnswers faults.old faults.new result }
     ensures never_falls { faults.old ≤ faults.new }
+    ensures no_text { ¬ (IsUtf8 name.now) → result ≡ Err LoadFault.Missing }
 {
     let Ok(path) = str::from_utf8(name) else {
         *faults = raised(*faults);
@@ -85,7 +87,7 @@ fn read_piece<R: Read>(
 }
 
 /// Reads to the end, or until more than `limit` bytes are there.
-fn read_text<R: Read>(
+pub(crate) fn read_text<R: Read>(
     alloc: Global,
     reader: &mut R,
     limit: u32,
@@ -131,6 +133,7 @@ impl<R: Files> Shelf for FileShelf<'_, R> {
         ensures answer { FileAnswers self.old self.new limit result }
         ensures faults_never_fall { self.old.faults ≤ self.new.faults }
         ensures taken_never_falls { self.old.taken ≤ self.new.taken }
+        ensures no_text { ¬ (IsUtf8 name.now) → result ≡ Err LoadFault.Missing }
     {
         let mut file = open_file(self.files, name, &mut self.fault_count)?;
         read_text(

@@ -25,3 +25,6 @@ pub use std_sink::StdSink;
 pub use sure_shelf::SureShelf;
 pub use sure_sink::SureSink;
 pub use texts::NamedText;
+
+#[cfg(test)]
+mod tests;

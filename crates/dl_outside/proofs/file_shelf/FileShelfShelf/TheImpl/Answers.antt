@@ -7,4 +7,5 @@ load-tells g c = record {
   answer = file_answer c.args.self.now c.new.self.now c.args.limit c.result c.ensures.answer;
   texts_stay = refl;
   faults_never_fall = c.ensures.faults_never_fall;
-  taken_never_falls = c.ensures.taken_never_falls }
+  taken_never_falls = c.ensures.taken_never_falls;
+}
