@@ -56,8 +56,9 @@ PutsText-set texts name text k held is at =
     record {
       named = ap (option_map (λ (h : NamedText). h.text)) (find-set (has_name name) texts k put found.1 found.0 ((bytes_eq-Decides held.name name).1 called));
       others = λ other differs.
-        let no : bytes_eq held.name other ≡ false = other_name held.name other (λ e. differs (sym e ∙ called)) in
-        ap (option_map (λ (h : NamedText). h.text)) (find_past (has_name other) texts k put held (subst (λ (h : NamedText). bytes_eq h.name other ≡ false) at no) no) }
+          let no : bytes_eq held.name other ≡ false = other_name held.name other (λ e. differs (sym e ∙ called)) in
+          ap (option_map (λ (h : NamedText). h.text)) (find_past (has_name other) texts k put held (subst (λ (h : NamedText). bytes_eq h.name other ≡ false) at no) no);
+    }
 
 -- at the end
 option_or-None : {X : Type 0} (o : Option X) → option_or o None ≡ o
@@ -70,6 +71,7 @@ PutsText-append texts name text is =
     let none = none_found (has_name name) texts is in
     record {
       named = ap (option_map (λ (h : NamedText). h.text))
-        (find-append (has_name name) texts (put ∷ []) ∙ (ap (λ o. option_or o (find (has_name name) (put ∷ []))) none ∙ ap (λ b. cond b (Some put) None) (same_name name)));
+          (find-append (has_name name) texts (put ∷ []) ∙ (ap (λ o. option_or o (find (has_name name) (put ∷ []))) none ∙ ap (λ b. cond b (Some put) None) (same_name name)));
       others = λ other differs. ap (option_map (λ (h : NamedText). h.text))
-        (find-append (has_name other) texts (put ∷ []) ∙ (ap (λ b. option_or (find (has_name other) texts) (cond b (Some put) None)) (other_name name other (λ e. differs (sym e))) ∙ option_or-None _)) }
+          (find-append (has_name other) texts (put ∷ []) ∙ (ap (λ b. option_or (find (has_name other) texts) (cond b (Some put) None)) (other_name name other (λ e. differs (sym e))) ∙ option_or-None _));
+    }

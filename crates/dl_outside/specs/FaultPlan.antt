@@ -21,4 +21,5 @@ abbrev pub after_call : FaultPlan → FaultPlan
 after_call plan = record {
   failing = plan.failing;
   calls = next_number plan;
-  faults = plan.faults + (if fails_next plan then 1 else 0) }
+  faults = plan.faults + (if fails_next plan then 1 else 0);
+}

@@ -3,3 +3,7 @@ pub mod Texts
 pub mod Load
 pub mod Write
 pub mod FaultPlan
+pub mod MemoryDevices
+pub mod QuietShelf
+pub mod FileShelf
+pub mod StdSink

@@ -17,7 +17,6 @@ pub struct NamedText {
     pub text: Bytes,
 }
 
-
 /// The place of the first text of this name.
 fn place_of(texts: &[NamedText], name: &[u8]) -> Option<usize>
     ensures { result ≡ position (has_name name.now) texts.now }
