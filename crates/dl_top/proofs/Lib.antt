@@ -1,3 +1,4 @@
+pub mod Holding
 pub mod Judging
 pub mod Loading
 pub mod Sending

@@ -62,3 +62,7 @@ UntoldMayGive words signs answer =
 abbrev pub MayGive : Option (List NamedText) → List (List ℕ) → ShelfSigns → Answer → Type 0
 MayGive (Some texts) words signs answer = TextsMayGive texts words signs answer
 MayGive None words signs answer = UntoldMayGive words signs answer
+
+-- The texts hold every one that the words name.
+abbrev pub HoldsAllNamed : List NamedText → List (List ℕ) → Type 0
+HoldsAllNamed texts words = (rule : Rule) (name : List ℕ) → Asks words rule name → (text : List ℕ) × (text_of texts name ≡ Some text)
