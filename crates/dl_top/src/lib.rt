@@ -15,3 +15,6 @@ pub use report::report_of;
 pub use sure::dl_sure;
 pub use top::dl_main;
 pub use words::{Rule, Words};
+
+#[cfg(test)]
+mod tests;
