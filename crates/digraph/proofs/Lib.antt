@@ -8,3 +8,4 @@ pub mod Turning
 pub mod HeightLaws
 pub mod Looking
 pub mod Ending
+pub mod Reaching

@@ -4,3 +4,4 @@ pub mod Height
 pub mod Circle
 pub mod Turn
 pub mod Search
+pub mod Found
