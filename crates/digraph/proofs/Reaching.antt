@@ -8,7 +8,7 @@ use Rattle.std.proofs.lemmas.Grind.{flat_map-append}
 use Rattle.std.proofs.lemmas.Map.Keys.{IsDistinct-push}
 use Rattle.std.proofs.lemmas.Bool.{cases_Bool, cond-true, cond-false, or_cases, or_left, or_right, eqb-true}
 use Rattle.std.proofs.lemmas.Cmp.{nat_eq_equiv}
-use Rattle.containers.specs.Members.{has, with_found}
+use Rattle.containers.specs.Members.{has, with_new}
 use Rattle.digraph.specs.Digraph.{Digraph, targets_of, HasArc}
 use Rattle.digraph.specs.Walk.{IsWalk, end_of, Reaches}
 use Rattle.digraph.specs.Found.{found_after, found_over}
@@ -33,9 +33,9 @@ Reaches-arc g v u w r arc = record {
 }
 
 -- one number more
-with_found-cases : (xs : List ℕ) (x : ℕ) → ((has xs x ≡ true) × (with_found xs x ≡ xs)) ⊎ ((has xs x ≡ false) × (with_found xs x ≡ xs ++ x ∷ []))
-with_found-cases xs x =
-    elim (cases_Bool (has xs x)) as (λ _. ((has xs x ≡ true) × (with_found xs x ≡ xs)) ⊎ ((has xs x ≡ false) × (with_found xs x ≡ xs ++ x ∷ []))) [
+with_new-cases : (xs : List ℕ) (x : ℕ) → ((has xs x ≡ true) × (with_new nat_eq xs x ≡ xs)) ⊎ ((has xs x ≡ false) × (with_new nat_eq xs x ≡ xs ++ x ∷ []))
+with_new-cases xs x =
+    elim (cases_Bool (has xs x)) as (λ _. ((has xs x ≡ true) × (with_new nat_eq xs x ≡ xs)) ⊎ ((has xs x ≡ false) × (with_new nat_eq xs x ≡ xs ++ x ∷ []))) [
       inl known ↦ inl (known, cond-true (has xs x) xs (xs ++ x ∷ []) known)
     | inr other ↦ inr (other, cond-false (has xs x) xs (xs ++ x ∷ []) other)
     ]
@@ -53,9 +53,9 @@ or_same true b h = refl
 or_same false true h = h refl
 or_same false false h = refl
 
-has-with_found : (xs : List ℕ) (x v : ℕ) → has (with_found xs x) v ≡ (has xs v || nat_eq v x)
-has-with_found xs x v =
-    elim (with_found-cases xs x) as (λ _. has (with_found xs x) v ≡ (has xs v || nat_eq v x)) [
+has-with_new : (xs : List ℕ) (x v : ℕ) → has (with_new nat_eq xs x) v ≡ (has xs v || nat_eq v x)
+has-with_new xs x v =
+    elim (with_new-cases xs x) as (λ _. has (with_new nat_eq xs x) v ≡ (has xs v || nat_eq v x)) [
       inl p ↦ rw p.1 (or_same (has xs v) (nat_eq v x) (λ e. let same : v ≡ x = eqb-true v x e in rw same p.0))
     | inr p ↦ rw (p.1, list_any-append (nat_eq v) xs (x ∷ []), or_false (nat_eq v x))
     ]
@@ -63,14 +63,14 @@ has-with_found xs x v =
 pub has-found_after : (before xs : List ℕ) (v : ℕ) → has (found_after before xs) v ≡ (has before v || has xs v)
 has-found_after before [] v = sym (or_false (has before v))
 has-found_after before (x ∷ xs) v =
-    has-found_after (with_found before x) xs v ∙ (ap (λ b. b || has xs v) (has-with_found before x v) ∙ or_assoc (has before v) (nat_eq v x) (has xs v))
+    has-found_after (with_new nat_eq before x) xs v ∙ (ap (λ b. b || has xs v) (has-with_new before x v) ∙ or_assoc (has before v) (nat_eq v x) (has xs v))
 
 -- what was found before stays in front
 pub found_after_grows : (before xs : List ℕ) → (more : List ℕ) × (found_after before xs ≡ before ++ more)
 found_after_grows before [] = ([], sym (append-nil before))
 found_after_grows before (x ∷ xs) =
-    let r = found_after_grows (with_found before x) xs in
-    elim (with_found-cases before x) as (λ _. (more : List ℕ) × (found_after (with_found before x) xs ≡ before ++ more)) [
+    let r = found_after_grows (with_new nat_eq before x) xs in
+    elim (with_new-cases before x) as (λ _. (more : List ℕ) × (found_after (with_new nat_eq before x) xs ≡ before ++ more)) [
       inl p ↦ (r.0, r.1 ∙ ap (λ front. front ++ r.0) p.1)
     | inr p ↦ (x ∷ r.0, r.1 ∙ (ap (λ front. front ++ r.0) p.1 ∙ append_assoc before (x ∷ []) r.0))
     ]
@@ -90,7 +90,7 @@ order_more g start place old new h order is =
     let u : ℕ = get_or old place 0 in
     let front : take (place + 1) new ≡ take place old ++ u ∷ [] = ap (take (place + 1)) (is ∙ more.1) ∙ (take-append-le (place + 1) old more.0 (omega arith) ∙ take_more old place 0 h) in
     let targets : flat_map (targets_of g) (take (place + 1) new) ≡ flat_map (targets_of g) (take place old) ++ targets_of g u = ap (flat_map (targets_of g)) front ∙ (flat_map-append (targets_of g) (take place old) (u ∷ []) ∙ ap (λ row. flat_map (targets_of g) (take place old) ++ row) (append-nil (targets_of g u))) in
-    is ∙ sym (ap (found_after (start ∷ [])) targets ∙ (fold-append with_found (start ∷ []) (flat_map (targets_of g) (take place old)) (targets_of g u) ∙ ap (λ before. found_after before (targets_of g u)) (sym order)))
+    is ∙ sym (ap (found_after (start ∷ [])) targets ∙ (fold-append (with_new nat_eq) (start ∷ []) (flat_map (targets_of g) (take place old)) (targets_of g u) ∙ ap (λ before. found_after before (targets_of g u)) (sym order)))
 
 pub reached_more : (g : Digraph) (start place : ℕ) (old new : List ℕ) → place < length old → ((v : ℕ) → IsTrue (has old v) → Reaches g start v) → new ≡ found_after old (targets_of g (get_or old place 0)) → (v : ℕ) → IsTrue (has new v) → Reaches g start v
 reached_more g start place old new h reached is v k =
@@ -121,7 +121,7 @@ module _ (g : Digraph) (start : ℕ) (found : List ℕ) (order : found ≡ found
 pub distinct_found : (before xs : List ℕ) → IsDistinct nat_eq before → IsDistinct nat_eq (found_after before xs)
 distinct_found before [] h = h
 distinct_found before (x ∷ xs) h =
-    distinct_found (with_found before x) xs (elim (with_found-cases before x) as (λ _. IsDistinct nat_eq (with_found before x)) [
+    distinct_found (with_new nat_eq before x) xs (elim (with_new-cases before x) as (λ _. IsDistinct nat_eq (with_new nat_eq before x)) [
       inl p ↦ rw p.1 h
     | inr p ↦ rw p.1 (IsDistinct-push nat_eq_equiv before x h p.0)
     ])
