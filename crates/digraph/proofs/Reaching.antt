@@ -11,33 +11,15 @@ use Rattle.std.proofs.lemmas.Cmp.{nat_eq_equiv}
 use Rattle.containers.specs.Members.{has, with_new}
 use Rattle.digraph.specs.Digraph.{Digraph, targets_of, HasArc}
 use Rattle.digraph.specs.Walk.{IsWalk, end_of, Reaches}
-use Rattle.digraph.specs.Found.{found_after, found_over}
-
--- a walk goes on over one more arc
-IsWalk-push : (g : Digraph) (v : ℕ) (vs : List ℕ) (w : ℕ) → IsWalk g v vs → HasArc g (end_of v vs) w → IsWalk g v (vs ++ w ∷ [])
-IsWalk-push g v [] w walk arc = (arc, tt)
-IsWalk-push g v (u ∷ us) w walk arc = (walk.0, IsWalk-push g u us w walk.1 arc)
-
-end_of-push : (v : ℕ) (vs : List ℕ) (w : ℕ) → end_of v (vs ++ w ∷ []) ≡ w
-end_of-push v [] w = refl
-end_of-push v (u ∷ us) w = end_of-push u us w
-
-pub Reaches-itself : (g : Digraph) (v : ℕ) → Reaches g v v
-Reaches-itself g v = record { passed = []; walk = tt; ends = refl }
-
-pub Reaches-arc : (g : Digraph) (v u w : ℕ) → Reaches g v u → HasArc g u w → Reaches g v w
-Reaches-arc g v u w r arc = record {
-  passed = r.passed ++ w ∷ [];
-  walk = IsWalk-push g v r.passed w r.walk (rw r.ends arc);
-  ends = end_of-push v r.passed w;
-}
+use Rattle.digraph.proofs.WalkLaws.{Reaches-arc}
+use Rattle.digraph.specs.FoundOrder.{found_after, found_over}
 
 -- one number more
 with_new-cases : (xs : List ℕ) (x : ℕ) → ((has xs x ≡ true) × (with_new nat_eq xs x ≡ xs)) ⊎ ((has xs x ≡ false) × (with_new nat_eq xs x ≡ xs ++ x ∷ []))
 with_new-cases xs x =
     elim (cases_Bool (has xs x)) as (λ _. ((has xs x ≡ true) × (with_new nat_eq xs x ≡ xs)) ⊎ ((has xs x ≡ false) × (with_new nat_eq xs x ≡ xs ++ x ∷ []))) [
-      inl known ↦ inl (known, cond-true (has xs x) xs (xs ++ x ∷ []) known)
-    | inr other ↦ inr (other, cond-false (has xs x) xs (xs ++ x ∷ []) other)
+      | inl known ↦ inl (known, cond-true (has xs x) xs (xs ++ x ∷ []) known)
+      | inr other ↦ inr (other, cond-false (has xs x) xs (xs ++ x ∷ []) other)
     ]
 
 or_false : (b : Bool) → (b || false) ≡ b
@@ -56,8 +38,8 @@ or_same false false h = refl
 has-with_new : (xs : List ℕ) (x v : ℕ) → has (with_new nat_eq xs x) v ≡ (has xs v || nat_eq v x)
 has-with_new xs x v =
     elim (with_new-cases xs x) as (λ _. has (with_new nat_eq xs x) v ≡ (has xs v || nat_eq v x)) [
-      inl p ↦ rw p.1 (or_same (has xs v) (nat_eq v x) (λ e. let same : v ≡ x = eqb-true v x e in rw same p.0))
-    | inr p ↦ rw (p.1, list_any-append (nat_eq v) xs (x ∷ []), or_false (nat_eq v x))
+      | inl p ↦ rw p.1 (or_same (has xs v) (nat_eq v x) (λ e. let same : v ≡ x = eqb-true v x e in rw same p.0))
+      | inr p ↦ rw (p.1, list_any-append (nat_eq v) xs (x ∷ []), or_false (nat_eq v x))
     ]
 
 pub has-found_after : (before xs : List ℕ) (v : ℕ) → has (found_after before xs) v ≡ (has before v || has xs v)
@@ -71,16 +53,16 @@ found_after_grows before [] = ([], sym (append-nil before))
 found_after_grows before (x ∷ xs) =
     let r = found_after_grows (with_new nat_eq before x) xs in
     elim (with_new-cases before x) as (λ _. (more : List ℕ) × (found_after (with_new nat_eq before x) xs ≡ before ++ more)) [
-      inl p ↦ (r.0, r.1 ∙ ap (λ front. front ++ r.0) p.1)
-    | inr p ↦ (x ∷ r.0, r.1 ∙ (ap (λ front. front ++ r.0) p.1 ∙ append_assoc before (x ∷ []) r.0))
+      | inl p ↦ (r.0, r.1 ∙ ap (λ front. front ++ r.0) p.1)
+      | inr p ↦ (x ∷ r.0, r.1 ∙ (ap (λ front. front ++ r.0) p.1 ∙ append_assoc before (x ∷ []) r.0))
     ]
 
 has-flat_map : (f : ℕ → List ℕ) (us : List ℕ) (u w : ℕ) → IsTrue (has us u) → IsTrue (has (f u) w) → IsTrue (has (flat_map f us) w)
 has-flat_map f [] u w h k = absurd (cc)
 has-flat_map f (y ∷ ys) u w h k =
     rw (list_any-append (nat_eq w) (f y) (flat_map f ys)) (elim (or_cases (nat_eq u y) (has ys u) h) as (λ _. (has (f y) w || has (flat_map f ys) w) ≡ true) [
-      inl same ↦ let e : u ≡ y = eqb-true u y same in or_left (has (f y) w) (has (flat_map f ys) w) (rw e at k)
-    | inr later ↦ or_right (has (f y) w) (has (flat_map f ys) w) (has-flat_map f ys u w later k)
+      | inl same ↦ let e : u ≡ y = eqb-true u y same in or_left (has (f y) w) (has (flat_map f ys) w) (rw e at k)
+      | inr later ↦ or_right (has (f y) w) (has (flat_map f ys) w) (has-flat_map f ys u w later k)
     ])
 
 -- the step of the search at one place
@@ -97,8 +79,8 @@ reached_more g start place old new h reached is v k =
     let u : ℕ = get_or old place 0 in
     let both : (has old v || has (targets_of g u) v) ≡ true = rw (is, has-found_after old (targets_of g u) v) at k in
     elim (or_cases (has old v) (has (targets_of g u) v) both) as (λ _. Reaches g start v) [
-      inl before ↦ reached v before
-    | inr arc ↦ Reaches-arc g start u v (reached u (list_any_at (nat_eq u) old place 0 h (eq-eqb u u refl))) arc
+      | inl before ↦ reached v before
+      | inr arc ↦ Reaches-arc g start u v (reached u (list_any_at (nat_eq u) old place 0 h (eq-eqb u u refl))) arc
     ]
 
 -- the end of the search
@@ -108,8 +90,8 @@ module _ (g : Digraph) (start : ℕ) (found : List ℕ) (order : found ≡ found
 
   closed : (u w : ℕ) → IsTrue (has found u) → HasArc g u w → IsTrue (has found w)
   closed u w h arc =
-    let t = has-flat_map (targets_of g) found u w h arc in
-    rw (order, has-found_after (start ∷ []) (flat_map (targets_of g) found) w) (or_right (has (start ∷ []) w) (has (flat_map (targets_of g) found) w) t)
+      let t = has-flat_map (targets_of g) found u w h arc in
+      rw (order, has-found_after (start ∷ []) (flat_map (targets_of g) found) w) (or_right (has (start ∷ []) w) (has (flat_map (targets_of g) found) w) t)
 
   along : (v : ℕ) (vs : List ℕ) → IsTrue (has found v) → IsWalk g v vs → IsTrue (has found (end_of v vs))
   along v [] h walk = h
@@ -122,8 +104,8 @@ pub distinct_found : (before xs : List ℕ) → IsDistinct nat_eq before → IsD
 distinct_found before [] h = h
 distinct_found before (x ∷ xs) h =
     distinct_found (with_new nat_eq before x) xs (elim (with_new-cases before x) as (λ _. IsDistinct nat_eq (with_new nat_eq before x)) [
-      inl p ↦ rw p.1 h
-    | inr p ↦ rw p.1 (IsDistinct-push nat_eq_equiv before x h p.0)
+      | inl p ↦ rw p.1 h
+      | inr p ↦ rw p.1 (IsDistinct-push nat_eq_equiv before x h p.0)
     ])
 
 distinct_one : (x : ℕ) → IsDistinct nat_eq (x ∷ [])

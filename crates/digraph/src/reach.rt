@@ -3,7 +3,7 @@ ghost use Rattle.std.specs.List.{IsDistinct};
 ghost use Rattle.containers.specs.Members.{has};
 ghost use Rattle.digraph.specs.Digraph.{targets_of};
 ghost use Rattle.digraph.specs.Walk.{Reaches};
-ghost use Rattle.digraph.specs.Found.{found_after, found_over};
+ghost use Rattle.digraph.specs.FoundOrder.{found_after, found_over};
 
 use crate::rows::Rows;
 use containers::FoundList;

@@ -34,13 +34,49 @@ fn heights_and_circles(rt: HostRuntime) -> Result<(), Fail> {
         ("no vertex", 0, &[], true, &[]),
         ("no arc", 2, &[], true, &[0, 0]),
         ("a chain", 3, &[(0, 1), (1, 2)], true, &[2, 1, 0]),
-        ("a chain to the front", 3, &[(2, 1), (1, 0)], true, &[0, 1, 2]),
-        ("a branch", 4, &[(0, 1), (0, 2), (2, 3)], true, &[2, 0, 1, 0]),
-        ("the long way last", 4, &[(3, 0), (3, 1), (1, 2), (2, 0)], true, &[0, 2, 1, 3]),
-        ("arcs twice", 3, &[(0, 1), (0, 2), (0, 1), (1, 2)], true, &[2, 1, 0]),
+        (
+            "a chain to the front",
+            3,
+            &[(2, 1), (1, 0)],
+            true,
+            &[0, 1, 2],
+        ),
+        (
+            "a branch",
+            4,
+            &[(0, 1), (0, 2), (2, 3)],
+            true,
+            &[2, 0, 1, 0],
+        ),
+        (
+            "the long way last",
+            4,
+            &[(3, 0), (3, 1), (1, 2), (2, 0)],
+            true,
+            &[0, 2, 1, 3],
+        ),
+        (
+            "arcs twice",
+            3,
+            &[(0, 1), (0, 2), (0, 1), (1, 2)],
+            true,
+            &[2, 1, 0],
+        ),
         ("an arc to itself", 3, &[(0, 1), (1, 1)], false, &[1]),
-        ("a circle with a tail", 5, &[(0, 4), (4, 2), (2, 3), (3, 4), (3, 1)], false, &[2, 3, 4]),
-        ("a circle that comes late", 4, &[(0, 1), (3, 2), (2, 3)], false, &[2, 3]),
+        (
+            "a circle with a tail",
+            5,
+            &[(0, 4), (4, 2), (2, 3), (3, 4), (3, 1)],
+            false,
+            &[2, 3, 4],
+        ),
+        (
+            "a circle that comes late",
+            4,
+            &[(0, 1), (3, 2), (2, 3)],
+            false,
+            &[2, 3],
+        ),
     ];
     for (name, count, arcs, ends, want) in cases {
         let rows = digraph(&rt, rt.alloc(), count, arcs)?;
@@ -56,9 +92,27 @@ fn vertices_that_walks_reach(rt: HostRuntime) -> Result<(), Fail> {
     let cases: [(&str, u32, &[(u32, u32)], u32, &[u32]); 5] = [
         ("alone", 1, &[], 0, &[0]),
         ("not against the arcs", 3, &[(0, 1), (1, 2)], 1, &[1, 2]),
-        ("rows in turn", 5, &[(0, 3), (0, 1), (3, 4), (1, 2)], 0, &[0, 3, 1, 4, 2]),
-        ("round a circle", 3, &[(2, 0), (0, 1), (1, 2)], 2, &[2, 0, 1]),
-        ("each once", 4, &[(0, 1), (0, 1), (1, 0), (2, 3)], 0, &[0, 1]),
+        (
+            "rows in turn",
+            5,
+            &[(0, 3), (0, 1), (3, 4), (1, 2)],
+            0,
+            &[0, 3, 1, 4, 2],
+        ),
+        (
+            "round a circle",
+            3,
+            &[(2, 0), (0, 1), (1, 2)],
+            2,
+            &[2, 0, 1],
+        ),
+        (
+            "each once",
+            4,
+            &[(0, 1), (0, 1), (1, 0), (2, 3)],
+            0,
+            &[0, 1],
+        ),
     ];
     for (name, count, arcs, start, want) in cases {
         let rows = digraph(&rt, rt.alloc(), count, arcs)?;

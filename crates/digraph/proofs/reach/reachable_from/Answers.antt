@@ -2,7 +2,7 @@ use Rattle.std.proofs.Common.{◌≡◌, ◌<◌, ◌≤◌, ◌+◌, ℕ, List,
 use Rattle.std.proofs.lemmas.List.{length-append, take_all}
 use Rattle.std.proofs.lemmas.Option.{slice_get_within, get_or_from_slice_get}
 use Rattle.digraph.specs.Digraph.{targets_of}
-use Rattle.digraph.specs.Found.{found_after, found_over}
+use Rattle.digraph.specs.FoundOrder.{found_after, found_over}
 use Rattle.digraph.proofs.Reaching.{order_more, reached_more, found_after_grows, all_reached, distinct_over, start_first}
 use Rattle.digraph.proofs.reach.reachable_from.Goals as goal
 use Rattle.digraph.proofs.reach.reachable_from.Goals.{After-loop-place}
