@@ -10,8 +10,8 @@ use Rattle.digraph.specs.Digraph.{Digraph, targets_of, has_arc, HasArc, InRange}
 pub HasArc-from : (g : Digraph) (v w : ℕ) → HasArc g v w → v < length g
 HasArc-from g v w arc =
     elim (cases_lt v (length g)) as (λ _. v < length g) [
-      inl below ↦ below
-    | inr past ↦ absurd (false≢true (rw get_or_past at arc))
+      | inl below ↦ below
+      | inr past ↦ absurd (false≢true (rw get_or_past at arc))
     ]
 
 -- the target at a place of a row
@@ -33,15 +33,15 @@ or_false false = refl
 pub has_arc-add : (g : Digraph) (from to : ℕ) → from < length g → (v w : ℕ) → has_arc (set g from (targets_of g from ++ to ∷ [])) v w ≡ (has_arc g v w || (v == from && w == to))
 has_arc-add g from to in_range v w =
     elim (cases_eq v from) as (λ _. has_arc (set g from (targets_of g from ++ to ∷ [])) v w ≡ (has_arc g v w || (v == from && w == to))) [
-      inl same ↦ rw (same, eq-eqb from from refl, get_or-set_same g from (targets_of g from ++ to ∷ []) [] in_range, list_any-append (nat_eq w) (targets_of g from) (to ∷ [])) (ap (λ b. list_any (nat_eq w) (targets_of g from) || b) (or_false (nat_eq w to)))
-    | inr other ↦ rw (get_or-set_other g from v (targets_of g from ++ to ∷ []) [] other, ne_eqb v from other) (sym (or_false (has_arc g v w)))
+      | inl same ↦ rw (same, eq-eqb from from refl, get_or-set_same g from (targets_of g from ++ to ∷ []) [] in_range, list_any-append (nat_eq w) (targets_of g from) (to ∷ [])) (ap (λ b. list_any (nat_eq w) (targets_of g from) || b) (or_false (nat_eq w to)))
+      | inr other ↦ rw (get_or-set_other g from v (targets_of g from ++ to ∷ []) [] other, ne_eqb v from other) (sym (or_false (has_arc g v w)))
     ]
 
 pub InRange-add : (g : Digraph) (from to : ℕ) → from < length g → to < length g → InRange g → InRange (set g from (targets_of g from ++ to ∷ []))
 InRange-add g from to a b kept v w arc =
     elim (or_cases (has_arc g v w) (v == from && w == to) (rw (has_arc-add g from to a v w) at arc)) as (λ _. w < length (set g from (targets_of g from ++ to ∷ []))) [
-      inl old ↦ rw length-set (kept v w old)
-    | inr new ↦ let is : w ≡ to = eqb-true w to (and_parts (v == from) (w == to) new).1 in rw (length-set, is) b
+      | inl old ↦ rw length-set (kept v w old)
+      | inr new ↦ let is : w ≡ to = eqb-true w to (and_parts (v == from) (w == to) new).1 in rw (length-set, is) b
     ]
 
 pub InRange-none : (n : ℕ) → InRange (replicate n [])

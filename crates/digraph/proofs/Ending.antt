@@ -17,13 +17,13 @@ three_marks Done = inr (inr refl)
 module _ (g : Digraph) (marks : List Mark) (heights rest : List ℕ) (s : IsSearch g marks heights rest []) (met : (v : ℕ) → v < length g → mark_at marks v ≢ New) where
   all_done : (v : ℕ) → v < length g → mark_at marks v ≡ Done
   all_done v h =
-    elim (three_marks (mark_at marks v)) as (λ _. mark_at marks v ≡ Done) [
-      inl new ↦ absurd (met v h new)
-    | inr met' ↦ elim met' as (λ _. mark_at marks v ≡ Done) [
-        inl open' ↦ let p = s.listed v open' in absurd (omega (arith, p.1))
-      | inr done ↦ done
+      elim (three_marks (mark_at marks v)) as (λ _. mark_at marks v ≡ Done) [
+        | inl new ↦ absurd (met v h new)
+        | inr met' ↦ elim met' as (λ _. mark_at marks v ≡ Done) [
+          | inl open' ↦ let p = s.listed v open' in absurd (omega (arith, p.1))
+          | inr done ↦ done
+        ]
       ]
-    ]
 
   pub heights_found : AreHeights g heights
   heights_found = record {
@@ -33,9 +33,9 @@ module _ (g : Digraph) (marks : List Mark) (heights rest : List ℕ) (s : IsSear
 
   pub heights_below : All (λ height. height < length g) heights
   heights_below k d h =
-    let below : k < length g = rw (← s.heights_len) h in
-    let l = s.counted_done k (all_done k below) in
-    rw (get_or_default heights k d 0 h) (omega (arith, done_count-le marks, s.marks_len))
+      let below : k < length g = rw (← s.heights_len) h in
+      let l = s.counted_done k (all_done k below) in
+      rw (get_or_default heights k d 0 h) (omega (arith, done_count-le marks, s.marks_len))
 
 -- a vector whose whole slice was written
 pub written_back : (n : ℕ) (new old : List ℕ) → n ≡ length old → length new ≡ length old → take n (new ++ drop (length new) old) ≡ new

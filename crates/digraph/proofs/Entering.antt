@@ -24,21 +24,21 @@ module _ (g : Digraph) (marks : List Mark) (heights rest trail : List ℕ) (s : 
   -- a vertex that was done still is
   still_done : (v : ℕ) → mark_at marks v ≡ Done → mark_at (set marks w Open) v ≡ Done
   still_done v done = elim (mark_then v) as (λ _. mark_at (set marks w Open) v ≡ Done) [
-      inl p ↦ let e : mark_at marks v ≡ New = rw p.0 new in absurd (cc)
+    | inl p ↦ let e : mark_at marks v ≡ New = rw p.0 new in absurd (cc)
     | inr p ↦ p.1 ∙ done
-    ]
+  ]
 
   was_done : (v : ℕ) → mark_at (set marks w Open) v ≡ Done → mark_at marks v ≡ Done
   was_done v done = elim (mark_then v) as (λ _. mark_at marks v ≡ Done) [
-      inl p ↦ absurd (cc)
+    | inl p ↦ absurd (cc)
     | inr p ↦ sym p.1 ∙ done
-    ]
+  ]
 
   was_new : (v : ℕ) → mark_at (set marks w Open) v ≡ New → (v ≢ w) × (mark_at marks v ≡ New)
   was_new v h = elim (mark_then v) as (λ _. (v ≢ w) × (mark_at marks v ≡ New)) [
-      inl p ↦ absurd (cc)
+    | inl p ↦ absurd (cc)
     | inr p ↦ (p.0, sym p.1 ∙ h)
-    ]
+  ]
 
   pub stays_met_entering : StaysMet marks (set marks w Open)
   stays_met_entering v h = (was_new v h).1
@@ -61,51 +61,51 @@ module _ (g : Digraph) (marks : List Mark) (heights rest trail : List ℕ) (s : 
 
   arcs_then : ((k : ℕ) → k + 1 ≡ length trail → HasArc g (get_or trail k 0) w) → (k : ℕ) → k + 1 < length (trail ++ w ∷ []) → HasArc g (get_or (trail ++ w ∷ []) k 0) (get_or (trail ++ w ∷ []) (k + 1) 0)
   arcs_then follows k h =
-    let below : k < length trail = omega (arith, length_push trail w) in
-    elim (place (k + 1) h) as (λ _. HasArc g (get_or (trail ++ w ∷ []) k 0) (get_or (trail ++ w ∷ []) (k + 1) 0)) [
-      inl p ↦ rw (old_place k below, p.1) (s.arcs k p.0)
-    | inr p ↦ rw (old_place k below, p.1) (follows k p.0)
-    ]
+      let below : k < length trail = omega (arith, length_push trail w) in
+      elim (place (k + 1) h) as (λ _. HasArc g (get_or (trail ++ w ∷ []) k 0) (get_or (trail ++ w ∷ []) (k + 1) 0)) [
+        | inl p ↦ rw (old_place k below, p.1) (s.arcs k p.0)
+        | inr p ↦ rw (old_place k below, p.1) (follows k p.0)
+      ]
 
   distinct_then : (j k : ℕ) → j < k → k < length (trail ++ w ∷ []) → get_or (trail ++ w ∷ []) j 0 ≢ get_or (trail ++ w ∷ []) k 0
   distinct_then j k h l =
-    let below : j < length trail = omega (arith, length_push trail w) in
-    elim (place k l) as (λ _. get_or (trail ++ w ∷ []) j 0 ≢ get_or (trail ++ w ∷ []) k 0) [
-      inl p ↦ rw (old_place j below, p.1) (s.distinct j k h p.0)
-    | inr p ↦ rw (old_place j below, p.1) (not_on_trail j below)
-    ]
+      let below : j < length trail = omega (arith, length_push trail w) in
+      elim (place k l) as (λ _. get_or (trail ++ w ∷ []) j 0 ≢ get_or (trail ++ w ∷ []) k 0) [
+        | inl p ↦ rw (old_place j below, p.1) (s.distinct j k h p.0)
+        | inr p ↦ rw (old_place j below, p.1) (not_on_trail j below)
+      ]
 
   opened_then : (k : ℕ) → k < length (trail ++ w ∷ []) → mark_at (set marks w Open) (get_or (trail ++ w ∷ []) k 0) ≡ Open
   opened_then k h =
-    elim (place k h) as (λ _. mark_at (set marks w Open) (get_or (trail ++ w ∷ []) k 0) ≡ Open) [
-      inl p ↦ rw p.1 (elim (mark_then (get_or trail k 0)) as (λ _. mark_at (set marks w Open) (get_or trail k 0) ≡ Open) [ inl q ↦ q.1 | inr q ↦ q.1 ∙ s.opened k p.0 ])
-    | inr p ↦ rw p.1 (get_or-set_same marks w Open New in_marks)
-    ]
+      elim (place k h) as (λ _. mark_at (set marks w Open) (get_or (trail ++ w ∷ []) k 0) ≡ Open) [
+        | inl p ↦ rw p.1 (elim (mark_then (get_or trail k 0)) as (λ _. mark_at (set marks w Open) (get_or trail k 0) ≡ Open) [ inl q ↦ q.1 | inr q ↦ q.1 ∙ s.opened k p.0 ])
+        | inr p ↦ rw p.1 (get_or-set_same marks w Open New in_marks)
+      ]
 
   listed_then : (v : ℕ) → mark_at (set marks w Open) v ≡ Open → (k : ℕ) × (k < length (trail ++ w ∷ [])) × (get_or (trail ++ w ∷ []) k 0 ≡ v)
   listed_then v h =
-    elim (mark_then v) as (λ _. (k : ℕ) × (k < length (trail ++ w ∷ [])) × (get_or (trail ++ w ∷ []) k 0 ≡ v)) [
-      inl p ↦ (length trail, omega (arith, length_push trail w), get_or_push trail w 0 (length trail) refl ∙ sym p.0)
-    | inr p ↦ let o = s.listed v (sym p.1 ∙ h) in (o.0, omega (arith, length_push trail w, o.1), old_place o.0 o.1 ∙ o.2)
-    ]
+      elim (mark_then v) as (λ _. (k : ℕ) × (k < length (trail ++ w ∷ [])) × (get_or (trail ++ w ∷ []) k 0 ≡ v)) [
+        | inl p ↦ (length trail, omega (arith, length_push trail w), get_or_push trail w 0 (length trail) refl ∙ sym p.0)
+        | inr p ↦ let o = s.listed v (sym p.1 ∙ h) in (o.0, omega (arith, length_push trail w, o.1), old_place o.0 o.1 ∙ o.2)
+      ]
 
   was_open : (v : ℕ) → v ≢ w → mark_at (set marks w Open) v ≡ Open → mark_at marks v ≡ Open
   was_open v other h = elim (mark_then v) as (λ _. mark_at marks v ≡ Open) [ inl p ↦ absurd (other p.0) | inr p ↦ sym p.1 ∙ h ]
 
   within_then : (v : ℕ) → mark_at (set marks w Open) v ≡ Open → get_or (set rest w (length (targets_of g w))) v 0 ≤ length (targets_of g v)
   within_then v h =
-    elim (rest_then v) as (λ _. get_or (set rest w (length (targets_of g w))) v 0 ≤ length (targets_of g v)) [
-      inl p ↦ rw (p.1, p.0) (omega arith)
-    | inr p ↦ rw p.1 (s.within v (was_open v p.0 h))
-    ]
+      elim (rest_then v) as (λ _. get_or (set rest w (length (targets_of g w))) v 0 ≤ length (targets_of g v)) [
+        | inl p ↦ rw (p.1, p.0) (omega arith)
+        | inr p ↦ rw p.1 (s.within v (was_open v p.0 h))
+      ]
 
   -- a target that was looked at is that of a vertex which was open before
   looked_before : (v k : ℕ) → mark_at (set marks w Open) v ≡ Open → get_or (set rest w (length (targets_of g w))) v 0 ≤ k → k < length (targets_of g v) → (mark_at marks v ≡ Open) × (get_or rest v 0 ≤ k)
   looked_before v k h l m =
-    elim (rest_then v) as (λ _. (mark_at marks v ≡ Open) × (get_or rest v 0 ≤ k)) [
-      inl p ↦ let e : length (targets_of g v) ≡ length (targets_of g w) = ap (λ u. length (targets_of g u)) p.0 in absurd (omega arith)
-    | inr p ↦ (was_open v p.0 h, rw p.1 at l)
-    ]
+      elim (rest_then v) as (λ _. (mark_at marks v ≡ Open) × (get_or rest v 0 ≤ k)) [
+        | inl p ↦ let e : length (targets_of g v) ≡ length (targets_of g w) = ap (λ u. length (targets_of g u)) p.0 in absurd (omega arith)
+        | inr p ↦ (was_open v p.0 h, rw p.1 at l)
+      ]
 
   pub search_entering : ((k : ℕ) → k + 1 ≡ length trail → HasArc g (get_or trail k 0) w) → IsSearch g (set marks w Open) heights (set rest w (length (targets_of g w))) (trail ++ w ∷ [])
   search_entering follows = record {

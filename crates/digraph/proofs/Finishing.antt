@@ -48,12 +48,12 @@ module _ (g : Digraph) (marks : List Mark) (heights rest trail : List ℕ) (s : 
   longest : (vs : List ℕ) → IsWalk g v vs → length vs ≤ get_or heights v 0
   longest [] walk = omega arith
   longest (w ∷ ws) walk =
-    let p = place_of_arc g v w walk.0 in
-    let d = s.looked_at v p.0 opened (omega arith) p.1 in
-    let l = s.lower v p.0 opened (omega arith) p.1 in
-    let m = s.most w (rw p.2 at d) ws walk.1 in
-    let e : get_or heights w 0 < get_or heights v 0 = rw p.2 at l in
-    omega arith
+      let p = place_of_arc g v w walk.0 in
+      let d = s.looked_at v p.0 opened (omega arith) p.1 in
+      let l = s.lower v p.0 opened (omega arith) p.1 in
+      let m = s.most w (rw p.2 at d) ws walk.1 in
+      let e : get_or heights w 0 < get_or heights v 0 = rw p.2 at l in
+      omega arith
 
   pub search_finishing : IsSearch g (set marks v Done) heights rest (take (length trail - 1) trail)
   search_finishing = record {
@@ -63,40 +63,40 @@ module _ (g : Digraph) (marks : List Mark) (heights rest trail : List ℕ) (s : 
     heights_len = s.heights_len;
     rest_len = s.rest_len;
     arcs = λ k h.
-      let n = place (k + 1) h in
-      let p = place k (omega (arith, shorter)) in
-      rw (p.1, n.1) (s.arcs k (omega arith));
+        let n = place (k + 1) h in
+        let p = place k (omega (arith, shorter)) in
+        rw (p.1, n.1) (s.arcs k (omega arith));
     distinct = λ j k h l.
-      let n = place k l in
-      let p = place j (omega (arith, shorter)) in
-      rw (p.1, n.1) (s.distinct j k h (omega arith));
+        let n = place k l in
+        let p = place j (omega (arith, shorter)) in
+        rw (p.1, n.1) (s.distinct j k h (omega arith));
     opened = λ k h.
-      let p = place k h in
-      rw p.1 (elim (mark_then (get_or trail k 0)) as (λ _. mark_at (set marks v Done) (get_or trail k 0) ≡ Open) [
-        inl q ↦ absurd (s.distinct k (length trail - 1) p.0 (omega arith) (q.0 ∙ sym last))
-      | inr q ↦ q.1 ∙ s.opened k (omega arith)
-      ]);
+        let p = place k h in
+        rw p.1 (elim (mark_then (get_or trail k 0)) as (λ _. mark_at (set marks v Done) (get_or trail k 0) ≡ Open) [
+          | inl q ↦ absurd (s.distinct k (length trail - 1) p.0 (omega arith) (q.0 ∙ sym last))
+          | inr q ↦ q.1 ∙ s.opened k (omega arith)
+        ]);
     listed = λ u h.
-      let o = was_open u h in
-      let p = s.listed u o.1 in
-      elim (cases_lt p.0 (length trail - 1)) as (λ _. (k : ℕ) × (k < length (take (length trail - 1) trail)) × (get_or (take (length trail - 1) trail) k 0 ≡ u)) [
-        inl below ↦ (p.0, rw shorter below, get_or-take (length trail - 1) trail p.0 0 below ∙ p.2)
-      | inr past ↦
-          let at_last : p.0 ≡ length trail - 1 = omega (arith, p.1) in
-          absurd (o.0 (sym p.2 ∙ (ap (λ k. get_or trail k 0) at_last ∙ last)))
-      ];
+        let o = was_open u h in
+        let p = s.listed u o.1 in
+        elim (cases_lt p.0 (length trail - 1)) as (λ _. (k : ℕ) × (k < length (take (length trail - 1) trail)) × (get_or (take (length trail - 1) trail) k 0 ≡ u)) [
+          | inl below ↦ (p.0, rw shorter below, get_or-take (length trail - 1) trail p.0 0 below ∙ p.2)
+          | inr past ↦
+              let at_last : p.0 ≡ length trail - 1 = omega (arith, p.1) in
+              absurd (o.0 (sym p.2 ∙ (ap (λ k. get_or trail k 0) at_last ∙ last)))
+        ];
     untouched = λ u h n. s.untouched u h (was_new u n);
     within = λ u h. s.within u (was_open u h).1;
     looked_at = λ u k h l m. still_done _ (s.looked_at u k (was_open u h).1 l m);
     lower = λ u k h l m. s.lower u k (was_open u h).1 l m;
     attained = s.attained;
     most = λ u h vs walk. elim (was_done u h) as (λ _. length vs ≤ get_or heights u 0) [
-        inl same ↦ rw same (longest vs (rw same at walk))
+      | inl same ↦ rw same (longest vs (rw same at walk))
       | inr before ↦ s.most u before vs walk
-      ];
+    ];
     counted = λ u. omega (arith, done_count-done marks v in_marks opened, s.counted u);
     counted_done = λ u h. elim (was_done u h) as (λ _. get_or heights u 0 < done_count (set marks v Done)) [
-        inl same ↦ rw same (omega (arith, done_count-done marks v in_marks opened, s.counted v))
+      | inl same ↦ rw same (omega (arith, done_count-done marks v in_marks opened, s.counted v))
       | inr before ↦ omega (arith, done_count-done marks v in_marks opened, s.counted_done u before)
-      ];
+    ];
   }

@@ -1,10 +1,12 @@
 pub mod Arcs
-pub mod RowVectors
-pub mod Writes
-pub mod Entering
-pub mod Raising
-pub mod Finishing
-pub mod Turning
+pub mod WalkLaws
 pub mod HeightLaws
-pub mod Looking
-pub mod Ending
+mod RowVectors
+mod Writes
+mod Entering
+mod Raising
+mod Finishing
+mod Looking
+mod Ending
+mod Turning
+mod Reaching

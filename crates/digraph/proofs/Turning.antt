@@ -52,65 +52,65 @@ module _ (g : Digraph) (ring : List ℕ) (r : IsRing g ring) (m : ℕ) (best : I
   -- where a vertex of the turned list stands in the ring
   place : (k : ℕ) → k < length ring → (i : ℕ) × (i < length ring) × (get_or (drop m ring ++ take m ring) k 0 ≡ get_or ring i 0) × ((m + k ≡ i) ⊎ (m + k ≡ i + length ring))
   place k h =
-    elim (cases_lt (m + k) (length ring)) as (λ _. (i : ℕ) × (i < length ring) × (get_or (drop m ring ++ take m ring) k 0 ≡ get_or ring i 0) × ((m + k ≡ i) ⊎ (m + k ≡ i + length ring))) [
-      inl inside ↦ (m + k, inside, get_or_append_left (drop m ring) (take m ring) 0 k (omega (arith, front, in_ring)) ∙ get_or-drop m ring k 0, inl refl)
-    | inr past ↦
-        let i : ℕ = k - (length ring - m) in
-        let below : i < m = omega (arith, in_ring) in
-        (i, omega (arith, in_ring), get_or-append_right (drop m ring) (take m ring) (length ring - m) k 0 front (omega (arith, in_ring)) ∙ get_or-take m ring i 0 below, inr (omega (arith, in_ring)))
-    ]
+      elim (cases_lt (m + k) (length ring)) as (λ _. (i : ℕ) × (i < length ring) × (get_or (drop m ring ++ take m ring) k 0 ≡ get_or ring i 0) × ((m + k ≡ i) ⊎ (m + k ≡ i + length ring))) [
+        | inl inside ↦ (m + k, inside, get_or_append_left (drop m ring) (take m ring) 0 k (omega (arith, front, in_ring)) ∙ get_or-drop m ring k 0, inl refl)
+        | inr past ↦
+            let i : ℕ = k - (length ring - m) in
+            let below : i < m = omega (arith, in_ring) in
+            (i, omega (arith, in_ring), get_or-append_right (drop m ring) (take m ring) (length ring - m) k 0 front (omega (arith, in_ring)) ∙ get_or-take m ring i 0 below, inr (omega (arith, in_ring)))
+      ]
 
   -- the arc from a vertex of the ring to the next
   next : (i j : ℕ) → i < length ring → (i + 1 < length ring → j ≡ i + 1) → (i + 1 ≡ length ring → j ≡ 0) → HasArc g (get_or ring i 0) (get_or ring j 0)
   next i j h inside round =
-    elim (cases_lt (i + 1) (length ring)) as (λ _. HasArc g (get_or ring i 0) (get_or ring j 0)) [
-      inl l ↦ rw (inside l) (r.arcs i l)
-    | inr past ↦
-        let at_end : i + 1 ≡ length ring = omega arith in
-        let last : i ≡ length ring - 1 = omega arith in
-        rw (round at_end, last) r.closes
-    ]
+      elim (cases_lt (i + 1) (length ring)) as (λ _. HasArc g (get_or ring i 0) (get_or ring j 0)) [
+        | inl l ↦ rw (inside l) (r.arcs i l)
+        | inr past ↦
+            let at_end : i + 1 ≡ length ring = omega arith in
+            let last : i ≡ length ring - 1 = omega arith in
+            rw (round at_end, last) r.closes
+      ]
 
   apart : (i j : ℕ) → i < length ring → j < length ring → i ≢ j → get_or ring i 0 ≢ get_or ring j 0
   apart i j h l other e =
-    elim (cases_lt i j) as (λ _. ⊥) [
-      inl below ↦ r.distinct i j below l e
-    | inr above ↦ r.distinct j i (omega arith) h (sym e)
-    ]
+      elim (cases_lt i j) as (λ _. ⊥) [
+        | inl below ↦ r.distinct i j below l e
+        | inr above ↦ r.distinct j i (omega arith) h (sym e)
+      ]
 
   first : get_or (drop m ring ++ take m ring) 0 0 ≡ get_or ring m 0
   first =
-    let p = place 0 r.not_empty in
-    elim p.3 as (λ _. get_or (drop m ring ++ take m ring) 0 0 ≡ get_or ring m 0) [
-      inl e ↦ let f : p.0 ≡ m = omega arith in rw (p.2, f)
-    | inr e ↦ absurd (omega (arith, in_ring))
-    ]
+      let p = place 0 r.not_empty in
+      elim p.3 as (λ _. get_or (drop m ring ++ take m ring) 0 0 ≡ get_or ring m 0) [
+        | inl e ↦ let f : p.0 ≡ m = omega arith in rw (p.2, f)
+        | inr e ↦ absurd (omega (arith, in_ring))
+      ]
 
   turned_arcs : (k : ℕ) → k + 1 < length (drop m ring ++ take m ring) → HasArc g (get_or (drop m ring ++ take m ring) k 0) (get_or (drop m ring ++ take m ring) (k + 1) 0)
   turned_arcs k h =
-    let p = place k (omega (arith, same_length)) in
-    let n = place (k + 1) (rw same_length at h) in
-    rw (p.2, n.2) (let t = turn_next m k p.0 n.0 (length ring) p.1 n.1 p.3 n.3 in next p.0 n.0 p.1 t.0 t.1)
+      let p = place k (omega (arith, same_length)) in
+      let n = place (k + 1) (rw same_length at h) in
+      rw (p.2, n.2) (let t = turn_next m k p.0 n.0 (length ring) p.1 n.1 p.3 n.3 in next p.0 n.0 p.1 t.0 t.1)
 
   turned_closes : HasArc g (get_or (drop m ring ++ take m ring) (length (drop m ring ++ take m ring) - 1) 0) (get_or (drop m ring ++ take m ring) 0 0)
   turned_closes =
-    let p = place (length ring - 1) (omega (arith, in_ring)) in
-    rw (same_length, p.2, first) (let t = turn_back m p.0 (length ring) p.1 in_ring p.3 in next p.0 m p.1 t.0 t.1)
+      let p = place (length ring - 1) (omega (arith, in_ring)) in
+      rw (same_length, p.2, first) (let t = turn_back m p.0 (length ring) p.1 in_ring p.3 in next p.0 m p.1 t.0 t.1)
 
   turned_distinct : (j k : ℕ) → j < k → k < length (drop m ring ++ take m ring) → get_or (drop m ring ++ take m ring) j 0 ≢ get_or (drop m ring ++ take m ring) k 0
   turned_distinct j k h l =
-    let below : k < length ring = rw same_length at l in
-    let p = place j (omega arith) in
-    let q = place k below in
-    rw (p.2, q.2) (apart p.0 q.0 p.1 q.1 (turn_apart m j k p.0 q.0 (length ring) h below p.1 q.1 p.3 q.3))
+      let below : k < length ring = rw same_length at l in
+      let p = place j (omega arith) in
+      let q = place k below in
+      rw (p.2, q.2) (apart p.0 q.0 p.1 q.1 (turn_apart m j k p.0 q.0 (length ring) h below p.1 q.1 p.3 q.3))
 
   turned_least : (k : ℕ) → 0 < k → k < length (drop m ring ++ take m ring) → get_or (drop m ring ++ take m ring) 0 0 < get_or (drop m ring ++ take m ring) k 0
   turned_least k h l =
-    let below : k < length ring = rw same_length at l in
-    let q = place k below in
-    let other : get_or ring m 0 ≢ get_or ring q.0 0 = apart m q.0 in_ring q.1 (turn_apart m 0 k m q.0 (length ring) h below in_ring q.1 (inl (omega arith)) q.3) in
-    let le : get_or ring m 0 ≤ get_or ring q.0 0 = ltb-false (get_or ring q.0 0) (get_or ring m 0) (best.1 q.0 0 q.1) in
-    rw (first, q.2) (omega arith)
+      let below : k < length ring = rw same_length at l in
+      let q = place k below in
+      let other : get_or ring m 0 ≢ get_or ring q.0 0 = apart m q.0 in_ring q.1 (turn_apart m 0 k m q.0 (length ring) h below in_ring q.1 (inl (omega arith)) q.3) in
+      let le : get_or ring m 0 ≤ get_or ring q.0 0 = ltb-false (get_or ring q.0 0) (get_or ring m 0) (best.1 q.0 0 q.1) in
+      rw (first, q.2) (omega arith)
 
   pub turned_circle : IsCircle g (drop m ring ++ take m ring)
   turned_circle = record {

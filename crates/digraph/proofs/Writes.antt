@@ -10,30 +10,30 @@ use Rattle.digraph.specs.Search.{mark_at, is_done, done_count}
 pub after_set : {X : Type 0} (xs : List X) (i : ℕ) (y d : X) → i < length xs → (k : ℕ) → ((k ≡ i) × (get_or (set xs i y) k d ≡ y)) ⊎ ((k ≢ i) × (get_or (set xs i y) k d ≡ get_or xs k d))
 after_set {X} xs i y d h k =
     elim (cases_eq k i) as (λ _. ((k ≡ i) × (get_or (set xs i y) k d ≡ y)) ⊎ ((k ≢ i) × (get_or (set xs i y) k d ≡ get_or xs k d))) [
-      inl same ↦ inl (same, rw same (get_or-set_same xs i y d h))
-    | inr other ↦ inr (other, get_or-set_other xs i k y d other)
+      | inl same ↦ inl (same, rw same (get_or-set_same xs i y d h))
+      | inr other ↦ inr (other, get_or-set_other xs i k y d other)
     ]
 
 pub after_push : (xs : List ℕ) (y k : ℕ) → k < length (xs ++ y ∷ []) → ((k < length xs) × (get_or (xs ++ y ∷ []) k 0 ≡ get_or xs k 0)) ⊎ ((k ≡ length xs) × (get_or (xs ++ y ∷ []) k 0 ≡ y))
 after_push xs y k h =
     elim (cases_lt k (length xs)) as (λ _. ((k < length xs) × (get_or (xs ++ y ∷ []) k 0 ≡ get_or xs k 0)) ⊎ ((k ≡ length xs) × (get_or (xs ++ y ∷ []) k 0 ≡ y))) [
-      inl below ↦ inl (below, get_or_append_left xs (y ∷ []) 0 k below)
-    | inr past ↦ let last : k ≡ length xs = omega (arith, length_push xs y) in inr (last, get_or_push xs y 0 k (sym last))
+      | inl below ↦ inl (below, get_or_append_left xs (y ∷ []) 0 k below)
+      | inr past ↦ let last : k ≡ length xs = omega (arith, length_push xs y) in inr (last, get_or_push xs y 0 k (sym last))
     ]
 
 -- a vertex with a mark other than `New` is in the list
 pub open_within : (marks : List Mark) (v : ℕ) → mark_at marks v ≡ Open → v < length marks
 open_within marks v h =
     elim (cases_lt v (length marks)) as (λ _. v < length marks) [
-      inl below ↦ below
-    | inr past ↦ let e : mark_at marks v ≡ New = get_or_past marks v New past in absurd (cc)
+      | inl below ↦ below
+      | inr past ↦ let e : mark_at marks v ≡ New = get_or_past marks v New past in absurd (cc)
     ]
 
 pub done_within : (marks : List Mark) (v : ℕ) → mark_at marks v ≡ Done → v < length marks
 done_within marks v h =
     elim (cases_lt v (length marks)) as (λ _. v < length marks) [
-      inl below ↦ below
-    | inr past ↦ let e : mark_at marks v ≡ New = get_or_past marks v New past in absurd (cc)
+      | inl below ↦ below
+      | inr past ↦ let e : mark_at marks v ≡ New = get_or_past marks v New past in absurd (cc)
     ]
 
 abbrev weight : Mark → ℕ

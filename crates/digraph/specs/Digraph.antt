@@ -1,7 +1,7 @@
 -- A digraph, as contracts see it: for each vertex, numbered from 0, the targets of the arcs that leave it.
-use Rattle.std.specs.Prelude.{ℕ, ◌<◌, Bool, IsTrue, List, [], nat_eq, length, map, slice_index_or, Vec}
-use Rattle.std.specs.List.{list_any}
+use Rattle.std.specs.Prelude.{ℕ, ◌<◌, Bool, IsTrue, List, [], length, map, slice_index_or, Vec}
 use Rattle.std.specs.declared.alloc.Global.{Global}
+use Rattle.containers.specs.Members.{has}
 
 abbrev pub Digraph : Type 0
 Digraph = List (List ℕ)
@@ -16,7 +16,7 @@ targets_of g v = slice_index_or g v []
 
 -- whether an arc leads from v to w
 abbrev pub has_arc : Digraph → ℕ → ℕ → Bool
-has_arc g v w = list_any (nat_eq w) (targets_of g v)
+has_arc g v w = has (targets_of g v) w
 
 -- an arc leads from v to w
 abbrev pub HasArc : Digraph → ℕ → ℕ → Type 0

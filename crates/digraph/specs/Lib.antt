@@ -4,3 +4,6 @@ pub mod Height
 pub mod Circle
 pub mod Turn
 pub mod Search
+pub mod FoundOrder
+pub use Rattle.containers.specs.Members
+pub use Rattle.containers.specs.Found

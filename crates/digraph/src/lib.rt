@@ -4,11 +4,16 @@
 mod circles;
 mod fault;
 mod heights;
+mod reach;
 mod rows;
 mod walks;
 
 pub use circles::Circle;
 pub use fault::Fault;
 pub use heights::Heights;
+pub use reach::reachable_from;
 pub use rows::Rows;
 pub use walks::longest_walks;
+
+#[cfg(test)]
+mod tests;

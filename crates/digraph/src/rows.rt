@@ -32,6 +32,15 @@ impl Rows {
         Ok(Rows { rows })
     }
 
+    /// The digraph with these rows of targets, where each target is the number of a row.
+    pub fn from_rows(rows: Vec<Vec<u32>>) -> Rows
+        requires below { length rows.items < 2 ^ 32 }
+        requires in_range { InRange (rows_of rows.items) }
+        ensures { result ≡ rows_of rows.items }
+    {
+        Rows { rows }
+    }
+
     /// The number of vertices.
     pub fn len(&self) -> usize
         ensures value { result ≡ length self.now }

@@ -25,8 +25,11 @@ pub fn longest_walks(alloc: Global, rows: &Rows) -> Result<Heights, Fault>
     ensures heights { IfOk result (AreHeights rows.now) }
     ensures no_circle { OnOk result ((vs : List ℕ) → ¬ IsCircle rows.now vs) }
 
-    // Heights fall along each arc, and are 0 just where no arc leaves.
+    // Heights fall along each arc, by one along some arc from each vertex with arcs, and are 0 just where none leaves.
     ensures falls { IfOk result (λ heights. (v w : ℕ) → HasArc rows.now v w → slice_index heights w < slice_index heights v) }
+    ensures steps { IfOk result (λ heights. (v : ℕ) → v < length rows.now → 0 < slice_index heights v
+        → (w : ℕ) × HasArc rows.now v w × (slice_index heights v ≡ slice_index heights w + 1)) }
+    ensures sinks { IfOk result (λ heights. (v : ℕ) → v < length rows.now → (slice_index heights v ≡ 0) ↔ (targets_of rows.now v ≡ [])) }
     ensures below { IfOk result (λ heights. All (λ height. height < length rows.now) heights) }
 
     ensures circle { (vs : List ℕ) → result ≡ Err (Fault.Circle vs) → IsCircle rows.now vs }
@@ -54,7 +57,13 @@ fn sizes(alloc: Global, rows: &Rows) -> Result<Vec<usize>, AllocError>
 }
 
 // Visits each vertex.
-fn walk_all(alloc: Global, rows: &Rows, marks: &mut [Mark], heights: &mut [u32], rest: &mut [usize]) -> Result<(), Fault>
+fn walk_all(
+    alloc: Global,
+    rows: &Rows,
+    marks: &mut [Mark],
+    heights: &mut [u32],
+    rest: &mut [usize],
+) -> Result<(), Fault>
     requires { IsSearch rows.now marks.old heights.old rest.old [] }
     ensures ok { OnOk result (IsSearch rows.now marks.new heights.new rest.new []) }
     ensures all_met { OnOk result ((v : ℕ) → v < length rows.now → mark_at marks.new v ≢ Mark.New) }
@@ -68,7 +77,15 @@ fn walk_all(alloc: Global, rows: &Rows, marks: &mut [Mark], heights: &mut [u32],
 }
 
 // Walks from a vertex, if it is new, till all that walks reach from it is done.
-fn visit(alloc: Global, rows: &Rows, marks: &mut [Mark], heights: &mut [u32], rest: &mut [usize], trail: &mut Vec<u32>, v: u32) -> Result<(), Fault>
+fn visit(
+    alloc: Global,
+    rows: &Rows,
+    marks: &mut [Mark],
+    heights: &mut [u32],
+    rest: &mut [usize],
+    trail: &mut Vec<u32>,
+    v: u32,
+) -> Result<(), Fault>
     requires search { IsSearch rows.now marks.old heights.old rest.old trail.old.items }
     requires empty { trail.old.items ≡ [] }
     requires vertex { v < length rows.now }
@@ -86,7 +103,14 @@ fn visit(alloc: Global, rows: &Rows, marks: &mut [Mark], heights: &mut [u32], re
 }
 
 // Follows the trail till it is empty.
-fn follow(alloc: Global, rows: &Rows, marks: &mut [Mark], heights: &mut [u32], rest: &mut [usize], trail: &mut Vec<u32>) -> Result<(), Fault>
+fn follow(
+    alloc: Global,
+    rows: &Rows,
+    marks: &mut [Mark],
+    heights: &mut [u32],
+    rest: &mut [usize],
+    trail: &mut Vec<u32>,
+) -> Result<(), Fault>
     requires { IsSearch rows.now marks.old heights.old rest.old trail.old.items }
     ensures ok { OnOk result (IsSearch rows.now marks.new heights.new rest.new trail.new.items) }
     ensures empty { OnOk result (trail.new.items ≡ []) }
@@ -100,7 +124,15 @@ fn follow(alloc: Global, rows: &Rows, marks: &mut [Mark], heights: &mut [u32], r
 }
 
 // Looks at one target of the last vertex of the trail, or ends with that vertex where none is left.
-fn step(alloc: Global, rows: &Rows, marks: &mut [Mark], heights: &mut [u32], rest: &mut [usize], trail: &mut Vec<u32>, v: u32) -> Result<(), Fault>
+fn step(
+    alloc: Global,
+    rows: &Rows,
+    marks: &mut [Mark],
+    heights: &mut [u32],
+    rest: &mut [usize],
+    trail: &mut Vec<u32>,
+    v: u32,
+) -> Result<(), Fault>
     requires search { IsSearch rows.now marks.old heights.old rest.old trail.old.items }
     requires not_empty { 0 < length trail.old.items }
     requires last { slice_index trail.old.items (length trail.old.items - 1) ≡ v }
@@ -129,7 +161,13 @@ fn step(alloc: Global, rows: &Rows, marks: &mut [Mark], heights: &mut [u32], res
 }
 
 // Puts a new vertex on the trail.
-fn enter(rows: &Rows, marks: &mut [Mark], rest: &mut [usize], trail: &mut Vec<u32>, w: u32) -> Result<(), AllocError>
+fn enter(
+    rows: &Rows,
+    marks: &mut [Mark],
+    rest: &mut [usize],
+    trail: &mut Vec<u32>,
+    w: u32,
+) -> Result<(), AllocError>
     requires vertex { w < length rows.now }
     requires marks { w < length marks.old }
     requires rest { w < length rest.old }

@@ -4,7 +4,7 @@ use Rattle.digraph.proofs.walks.follow.Given as goal
 abbrev pub invariant-loop-v : goal.invariant-loop-v
 invariant-loop-v l = record {
   search : IsSearch l.rows l.marks l.heights l.rest l.trail.items;
-  stays_met : StaysMet l.initial.marks l.marks
+  stays_met : StaysMet l.initial.marks l.marks;
 }
 
 abbrev pub decreases-loop-v : goal.decreases-loop-v

@@ -3,7 +3,7 @@ use Rattle.std.proofs.lemmas.List.{length-replicate, get_or_default}
 use Rattle.digraph.specs.Digraph.{InRange}
 use Rattle.digraph.specs.Circle.{IsCircle}
 use Rattle.digraph.specs.Height.{IsHeight, AreHeights}
-use Rattle.digraph.proofs.HeightLaws.{heights_fall, no_height, no_heights}
+use Rattle.digraph.proofs.HeightLaws.{heights_fall, heights_step, heights_at_sinks, no_height, no_heights}
 use Rattle.digraph.proofs.Ending.{heights_found, heights_below, written_back}
 use Rattle.digraph.proofs.walks.longest_walks.Goals as goal
 use Rattle.digraph.proofs.walks.longest_walks.Goals.{After-from_vec}
@@ -35,6 +35,12 @@ returns-clause-no_circle c vs circle = no_heights _ vs circle.ring _ (are_height
 
 pub returns-clause-falls : goal.returns-clause-falls
 returns-clause-falls c = heights_fall _ _ c.len-count.ensures.in_range (are_heights (goal.at.returns-clause-falls c).After-from_vec)
+
+pub returns-clause-steps : goal.returns-clause-steps
+returns-clause-steps c = heights_step _ _ c.len-count.ensures.in_range (are_heights (goal.at.returns-clause-steps c).After-from_vec)
+
+pub returns-clause-sinks : goal.returns-clause-sinks
+returns-clause-sinks c = heights_at_sinks _ _ c.len-count.ensures.in_range (are_heights (goal.at.returns-clause-sinks c).After-from_vec)
 
 pub returns-clause-below : goal.returns-clause-below
 returns-clause-below c =

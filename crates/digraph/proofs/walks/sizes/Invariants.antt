@@ -5,5 +5,5 @@ use Rattle.digraph.proofs.walks.sizes.Given as goal
 abbrev pub invariant-loop-v : goal.invariant-loop-v
 invariant-loop-v l = record {
   len : length l.sizes.items ≡ l.v;
-  above : (u : ℕ) → u < l.v → length (targets_of l.rows u) < get_or l.sizes.items u 0
+  above : (u : ℕ) → u < l.v → length (targets_of l.rows u) < get_or l.sizes.items u 0;
 }

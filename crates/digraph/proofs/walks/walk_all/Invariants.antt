@@ -7,5 +7,5 @@ abbrev pub invariant-loop-v : goal.invariant-loop-v
 invariant-loop-v l = record {
   search : IsSearch l.rows l.marks l.heights l.rest l.trail.items;
   empty : l.trail.items ≡ [];
-  met : (u : ℕ) → u < l.v → mark_at l.marks u ≢ New
+  met : (u : ℕ) → u < l.v → mark_at l.marks u ≢ New;
 }
