@@ -9,6 +9,7 @@ use Rattle.csp_tables.specs.Network.Tree.{leaf, parallel}
 use Rattle.csp_tables.specs.Network.Operands.{none, operand}
 use Rattle.csp_tables.specs.Flat.{in_some_component, OneMoves, AllTakePart, FlatStep}
 use Rattle.csp_tables.specs.WellNested.{WellNested, OperandsWellNested}
+use Rattle.net_sound.specs.Flattening.{StepsToLeaves, TreeStepsAreFlat, FlatStepsAreTreeSteps, StepsKeepNesting, StepsKeepAlphabets}
 use Rattle.net_sound.proofs.FlatLists.{alphabets, by_test, match_true, match_false, moves_left, moves_right, all_append, all_stay, all_stayed, moves_split, all_split, flat_alphabets, same_some}
 
 -- an event is in an operand's alphabet exactly where it is in a component's
@@ -60,11 +61,6 @@ mutual
 
 -- ---- from the list to the tree
 
-pub record Back {T : Type 0} (Step : T → Label → T → Type 0) (t : Tree T) (l : Label) (ds : List (Component T)) : Type 0 where
-  pub tree : Tree T
-  pub whole : leaves tree ≡ ds
-  pub step : NetworkStep Step t l tree
-
 record BackSilent {T : Type 0} (Step : T → Label → T → Type 0) (os : Operands T) (ds : List (Component T)) : Type 0 where
   operands : Operands T
   whole : leaves_of_operands operands ≡ ds
@@ -75,7 +71,7 @@ record BackVisible {T : Type 0} (Step : T → Label → T → Type 0) (e : ℕ) 
   whole : leaves_of_operands operands ≡ ds
   step : AllTogether Step e os operands
 
-leaf_back : {T : Type 0} (Step : T → Label → T → Type 0) (c : Component T) (l : Label) (ds : List (Component T)) → FlatStep Step (c ∷ []) l ds → Back Step (leaf c) l ds
+leaf_back : {T : Type 0} (Step : T → Label → T → Type 0) (c : Component T) (l : Label) (ds : List (Component T)) → FlatStep Step (c ∷ []) l ds → StepsToLeaves Step (leaf c) l ds
 leaf_back Step c silent [] h = absurd h
 leaf_back Step c silent (d ∷ ds) (inl h) = record { tree = leaf d; whole = ap (λ ws. d ∷ ws) h.1; step = h.0 }
 leaf_back Step c silent (d ∷ ds) (inr h) = absurd h.1
@@ -87,7 +83,7 @@ leaf_back Step c (visible e) (d ∷ []) h =
       | inr never ↦ absurd (false≢true never) ]
 
 mutual
-  pub back : {T : Type 0} (Step : T → Label → T → Type 0) (t : Tree T) (l : Label) (ds : List (Component T)) → WellNested t → FlatStep Step (leaves t) l ds → Back Step t l ds
+  pub back : {T : Type 0} (Step : T → Label → T → Type 0) (t : Tree T) (l : Label) (ds : List (Component T)) → WellNested t → FlatStep Step (leaves t) l ds → StepsToLeaves Step t l ds
   back Step (leaf c) l ds w h = leaf_back Step c l ds h
   back Step (parallel os) silent ds w h =
       let r = back_silent Step os ds w h in
@@ -154,3 +150,17 @@ mutual
       elim (by_test (has a e) h.1) [
         inl k ↦ (still a b t u h.0 (step_alphabets Step t (visible e) u w.1 k.1) w.0, kept Step t (visible e) u w.1 k.1, kept_visible Step e os qs w.2 h.2)
         | inr k ↦ (still a b t u h.0 (ap (λ v. alphabets (leaves v)) k.1) w.0, subst WellNested k.1 w.1, kept_visible Step e os qs w.2 h.2) ]
+
+-- ---- the laws
+
+pub tree_steps_are_flat : {T : Type 0} (Step : T → Label → T → Type 0) → TreeStepsAreFlat Step
+tree_steps_are_flat Step t u l w h = forth Step t l u w h
+
+pub flat_steps_are_tree_steps : {T : Type 0} (Step : T → Label → T → Type 0) → FlatStepsAreTreeSteps Step
+flat_steps_are_tree_steps Step t l cs w h = back Step t l cs w h
+
+pub steps_keep_nesting : {T : Type 0} (Step : T → Label → T → Type 0) → StepsKeepNesting Step
+steps_keep_nesting Step t u l w h = kept Step t l u w h
+
+pub steps_keep_alphabets : {T : Type 0} (Step : T → Label → T → Type 0) → StepsKeepAlphabets Step
+steps_keep_alphabets Step t u l w h = step_alphabets Step t l u w h

@@ -19,7 +19,7 @@ use Rattle.csp_tables.specs.GoodRanking.{IsGoodRanking}
 use Rattle.net_sound.specs.Projection.{ComesAlong, RunsAreTraces, RunsAreJoint, SilenceIsBounded}
 use Rattle.net_sound.specs.Heart.{IsSound, GoodRankingsMeanLive}
 use Rattle.net_sound.proofs.FlatLists.{alphabets, match_true, match_false, step_alphabet}
-use Rattle.net_sound.proofs.Flattening.{back, Back}
+use Rattle.net_sound.proofs.Flattening.{back}
 use Rattle.net_sound.proofs.Local.{AllAfter, all_after, shares, at_most, run_forth, run_kept}
 use Rattle.net_sound.proofs.Stuck.{none_is_stuck}
 

@@ -8,3 +8,4 @@ pub mod FlatLists
 pub mod Flattening
 pub mod Local
 pub mod Heart
+pub mod Shape
