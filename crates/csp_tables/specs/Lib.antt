@@ -3,12 +3,14 @@ pub mod Falls
 pub mod Flat
 pub mod Form
 pub mod GoodRanking
+pub mod Heights
 pub mod Label
 pub mod Live
 pub mod Network
 pub mod Part
 pub mod Path
 pub mod Ranking
+pub mod RawTable
 pub mod SilentBound
 pub mod Stands
 pub mod Table

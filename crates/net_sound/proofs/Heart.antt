@@ -64,7 +64,7 @@ all_stable : {T : Type 0} (Step : T → Label → T → Type 0) (ds : List (Comp
 all_stable Step [] h = tt
 all_stable Step (d ∷ ds) h = ((λ e k. h (e ∷ ds) (inl (k, refl))), all_stable Step ds (λ es k. h (d ∷ es) (inr (refl, k))))
 
-path_alphabet : {T : Type 0} (Step : T → Label → T → Type 0) (ls : List Label) (c d : Component T) → Path (ComponentStep Step) c ls d → c.alphabet ≡ d.alphabet
+pub path_alphabet : {T : Type 0} (Step : T → Label → T → Type 0) (ls : List Label) (c d : Component T) → Path (ComponentStep Step) c ls d → c.alphabet ≡ d.alphabet
 path_alphabet Step [] c d h = ap (λ (x : Component _). x.alphabet) h
 path_alphabet Step (l ∷ ls) c d h = step_alphabet Step c l h.0 h.1 ∙ path_alphabet Step ls h.0 d h.2
 

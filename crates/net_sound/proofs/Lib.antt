@@ -9,3 +9,5 @@ pub mod Flattening
 pub mod Local
 pub mod Heart
 pub mod Shape
+pub mod Heights
+pub mod Example

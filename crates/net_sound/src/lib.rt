@@ -4,6 +4,8 @@
 ghost use Rattle.csp_tables.specs.Label.{Label};
 ghost use Rattle.net_sound.specs.Flattening.{TreeStepsAreFlat, FlatStepsAreTreeSteps, StepsAreToldByLeaves, StepsKeepNesting, StepsKeepAlphabets};
 ghost use Rattle.net_sound.specs.Heart.{GoodRankingsMeanLive};
+ghost use Rattle.net_sound.specs.Heights.{HeightsAreExact};
+ghost use Rattle.net_sound.specs.Example.{ExampleIsLive, ExampleIsStuck};
 ghost use Rattle.net_sound.specs.NoneStuck.{NoneIsStuck};
 ghost use Rattle.net_sound.specs.Projection.{RunsAreTraces, RunsAreJoint, SilenceIsBounded};
 
@@ -36,6 +38,12 @@ pub fn silence_is_bounded<S: Transitions>()
 {
 }
 
+/// The greatest silent height of a component's numbered table is the component's greatest number of silent steps.
+pub fn heights_are_exact<S: Transitions>()
+    ensures { HeightsAreExact S.step }
+{
+}
+
 /// Over tables alone: ranks that fall along ungranted requests leave no state in which no event is agreed.
 pub fn none_is_stuck()
     ensures { NoneIsStuck }
@@ -45,5 +53,12 @@ pub fn none_is_stuck()
 /// A network with a good ranking is live, with its silent bound.
 pub fn good_rankings_mean_live<S: Transitions>()
     ensures { GoodRankingsMeanLive S.step }
+{
+}
+
+/// A network with a good ranking, and a network that is stuck, for which no ranking is good.
+pub fn examples()
+    ensures live { ExampleIsLive }
+    ensures stuck { ExampleIsStuck }
 {
 }
