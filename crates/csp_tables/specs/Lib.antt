@@ -1,4 +1,7 @@
 pub mod Behaviour
+pub mod Count
+pub mod Cyclic
+pub mod CyclicRanks
 pub mod Falls
 pub mod Flat
 pub mod Form
@@ -11,8 +14,11 @@ pub mod Part
 pub mod Path
 pub mod Ranking
 pub mod RawTable
+pub mod Shape
 pub mod SilentBound
+pub mod Standing
 pub mod Stands
 pub mod Table
 pub mod Trace
+pub mod Walk
 pub mod WellNested

@@ -68,15 +68,15 @@ one_at_most (suc m) s t h = let rest : m ≤ 0 = none_awake m h.0 t (step_awake 
 
 awake_silence : (x : Turn) → IsAwake x → IsGreatestSilence (ComponentStep TurnStep) (one x) 0
 awake_silence x a = record {
-    attained = (one x, one x, ([], refl), refl);
-    most = λ s t m r h. none_awake m s t (path_awake r.0 (one x) s a r.1) h;
-  }
+  attained = (one x, one x, ([], refl), refl);
+  most = λ s t m r h. none_awake m s t (path_awake r.0 (one x) s a r.1) h;
+}
 
 waking_silence : IsGreatestSilence (ComponentStep TurnStep) (one waking) 1
 waking_silence = record {
-    attained = (one waking, one at_zero, ([], refl), (one at_zero, (refl, refl), refl));
-    most = λ s t m r h. one_at_most m s t h;
-  }
+  attained = (one waking, one at_zero, ([], refl), (one at_zero, (refl, refl), refl));
+  most = λ s t m r h. one_at_most m s t h;
+}
 
 -- ---- the networks are sound
 
@@ -93,11 +93,11 @@ two_sharers e = go (has both e)
 
 sound_pair : (x y : Turn) (m : ℕ) → IsGreatestSilence (ComponentStep TurnStep) (one x) m → IsGreatestSilence (ComponentStep TurnStep) (one y) 0 → IsSound TurnStep (pair x y) m
 sound_pair x y m g h = record {
-    some = omega arith;
-    nested = ((λ e. or_false (has both e)), tt, ((λ e. or_false (has both e)), tt, tt));
-    triple = two_sharers;
-    silence = (m, 0, g, (0, 0, h, refl, refl), omega arith);
-  }
+  some = omega arith;
+  nested = ((λ e. or_false (has both e)), tt, ((λ e. or_false (has both e)), tt, tt));
+  triple = two_sharers;
+  silence = (m, 0, g, (0, 0, h, refl, refl), omega arith);
+}
 
 -- ---- the table has the behaviour
 
@@ -158,15 +158,15 @@ not_empty at_one (suc k) M h = absurd (none-some M h)
 
 behaves : (x : Turn) → node_of x ≡ 0 → HasBehaviour TurnStep (one x) turns
 behaves x start = record {
-    alphabet = refl;
-    traces = λ s t. subst (λ n. IsTrue (is_run turns.table n s)) start (leads x s t.0 t.1).0;
-    accepts = λ s d a stable.
-        let e : node_of d.term ≡ end_of turns.table 0 s = sym (subst (λ n. end_of turns.table n s ≡ node_of d.term) start (leads x s d a).1) in
-        subst (λ n. OffersAcceptance TurnStep d (node_at turns.table n).accept) e (at_node d.term d (sym (path_alphabet TurnStep a.0 (one x) d a.1)) refl stable);
-    busy = λ s M k t h.
-        let e : end_of turns.table 0 s ≡ node_of t.0.term = subst (λ n. end_of turns.table n s ≡ node_of t.0.term) start (leads x s t.0 t.1).1 in
-        not_empty t.0.term k M (subst (λ n. slice_get (node_at turns.table n).accept k ≡ Some M) e h);
-  }
+  alphabet = refl;
+  traces = λ s t. subst (λ n. IsTrue (is_run turns.table n s)) start (leads x s t.0 t.1).0;
+  accepts = λ s d a stable.
+      let e : node_of d.term ≡ end_of turns.table 0 s = sym (subst (λ n. end_of turns.table n s ≡ node_of d.term) start (leads x s d a).1) in
+      subst (λ n. OffersAcceptance TurnStep d (node_at turns.table n).accept) e (at_node d.term d (sym (path_alphabet TurnStep a.0 (one x) d a.1)) refl stable);
+  busy = λ s M k t h.
+      let e : end_of turns.table 0 s ≡ node_of t.0.term = subst (λ n. end_of turns.table n s ≡ node_of t.0.term) start (leads x s t.0 t.1).1 in
+      not_empty t.0.term k M (subst (λ n. slice_get (node_at turns.table n).accept k ≡ Some M) e h);
+}
 
 -- ---- the ranking is good
 
@@ -204,18 +204,18 @@ member_both n owned e h = subst (λ k. IsTrue (has both k)) (member n e h) owned
 
 turns_form : HasForm turns
 turns_form = record {
-    least = omega arith;
-    most = omega arith;
-    nodes = ((refl, omega arith, tt, tt), (member_both 0 refl, tt), ((refl, omega arith, tt, tt), (member_both 1 refl, tt), tt));
-  }
+  least = omega arith;
+  most = omega arith;
+  nodes = ((refl, omega arith, tt, tt), (member_both 0 refl, tt), ((refl, omega arith, tt, tt), (member_both 1 refl, tt), tt));
+}
 
 good_pair : IsGoodRanking TurnStep (leaves (pair waking at_zero)) (turns ∷ turns ∷ []) flat_ranking
 good_pair = record {
-    form = (turns_form, (turns_form, tt));
-    behaviours = (behaves waking refl, (behaves at_zero refl, tt));
-    fits = ((tt, (tt, tt)), (tt, (omega arith, tt), (tt, (omega arith, tt), tt)), ((tt, (tt, tt)), (tt, (omega arith, tt), (tt, (omega arith, tt), tt)), tt));
-    falls = pair_falls;
-  }
+  form = (turns_form, (turns_form, tt));
+  behaviours = (behaves waking refl, (behaves at_zero refl, tt));
+  fits = ((tt, (tt, tt)), (tt, (omega arith, tt), (tt, (omega arith, tt), tt)), ((tt, (tt, tt)), (tt, (omega arith, tt), (tt, (omega arith, tt), tt)), tt));
+  falls = pair_falls;
+}
 
 sound_live : IsSound TurnStep (pair waking at_zero) 1
 sound_live = sound_pair waking at_zero 1 waking_silence (awake_silence at_zero tt)
@@ -252,10 +252,10 @@ stuck l t h = stuck_flat l (leaves t) (forth TurnStep (pair at_zero at_one) l t 
 
 pub example_is_stuck : ExampleIsStuck
 example_is_stuck = record {
-    sound = sound_stuck;
-    stuck = stuck;
-    no_ranking = λ parts ranking good.
-        let live = good_rankings_mean_live TurnStep (pair at_zero at_one) 0 parts ranking sound_stuck good in
-        let m = live.moves (pair at_zero at_one) ([], refl) (λ t h. stuck silent t h) in
-        stuck (visible m.0) m.1 m.2;
-  }
+  sound = sound_stuck;
+  stuck = stuck;
+  no_ranking = λ parts ranking good.
+      let live = good_rankings_mean_live TurnStep (pair at_zero at_one) 0 parts ranking sound_stuck good in
+      let m = live.moves (pair at_zero at_one) ([], refl) (λ t h. stuck silent t h) in
+      stuck (visible m.0) m.1 m.2;
+}

@@ -54,8 +54,9 @@ greatest_is : (n : ℕ) (ns : List ℕ) → (i : ℕ) × (i < length (n ∷ ns))
 greatest_is n [] = (0, omega arith, omega arith)
 greatest_is n (m ∷ ns) =
     elim (cases_lt n (greatest (m ∷ ns))) [
-      inl less ↦ let r = greatest_is m ns in (suc r.0, (let h : r.0 < length (m ∷ ns) = r.1 in omega arith), (let e : get_or (m ∷ ns) r.0 0 ≡ greatest (m ∷ ns) = r.2 in omega arith))
-      | inr more ↦ (0, omega arith, omega arith) ]
+      | inl less ↦ let r = greatest_is m ns in (suc r.0, (let h : r.0 < length (m ∷ ns) = r.1 in omega arith), (let e : get_or (m ∷ ns) r.0 0 ≡ greatest (m ∷ ns) = r.2 in omega arith))
+      | inr more ↦ (0, omega arith, omega arith)
+    ]
 
 reaches_greatest : (ns : List ℕ) → 0 < length ns → (i : ℕ) × (i < length ns) × (get_or ns i 0 ≡ greatest ns)
 reaches_greatest [] h = absurd (omega arith)

@@ -45,8 +45,9 @@ mutual
   silent_shape Step (operand a t os) none h = absurd h
   silent_shape Step (operand a t os) (operand b u qs) h =
       elim h.1 [
-        inl k ↦ (h.0, step_shape Step t silent u k.0, subst (SameOperands os) k.1 (operands_themselves os))
-        | inr k ↦ (h.0, subst (SameShape t) k.0 (itself t), silent_shape Step os qs k.1) ]
+        | inl k ↦ (h.0, step_shape Step t silent u k.0, subst (SameOperands os) k.1 (operands_themselves os))
+        | inr k ↦ (h.0, subst (SameShape t) k.0 (itself t), silent_shape Step os qs k.1)
+      ]
 
   visible_shape : {T : Type 0} (Step : T → Label → T → Type 0) (e : ℕ) (os qs : Operands T) → AllTogether Step e os qs → SameOperands os qs
   visible_shape Step e none none h = tt
@@ -54,8 +55,9 @@ mutual
   visible_shape Step e (operand a t os) none h = absurd h
   visible_shape Step e (operand a t os) (operand b u qs) h =
       elim (by_test (has a e) h.1) [
-        inl k ↦ (h.0, step_shape Step t (visible e) u k.1, visible_shape Step e os qs h.2)
-        | inr k ↦ (h.0, subst (SameShape t) k.1 (itself t), visible_shape Step e os qs h.2) ]
+        | inl k ↦ (h.0, step_shape Step t (visible e) u k.1, visible_shape Step e os qs h.2)
+        | inr k ↦ (h.0, subst (SameShape t) k.1 (itself t), visible_shape Step e os qs h.2)
+      ]
 
 mutual
   as_many : {T : Type 0} (t u : Tree T) → SameShape t u → length (leaves t) ≡ length (leaves u)

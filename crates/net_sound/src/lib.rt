@@ -22,43 +22,36 @@ pub fn nesting_does_not_matter<S: Transitions>()
     ensures told { StepsAreToldByLeaves S.step }
     ensures nested { StepsKeepNesting S.step }
     ensures alphabets { StepsKeepAlphabets S.step }
-{
-}
+{}
 
 /// A run of the network is a trace of each component, and a joint run of any two tables with the components' behaviour.
 pub fn runs_are_local<S: Transitions>()
     ensures traces { RunsAreTraces S.step }
     ensures joint { RunsAreJoint S.step }
-{
-}
+{}
 
 /// Silent steps in a row in the network are at most the sum of the components' greatest numbers.
 pub fn silence_is_bounded<S: Transitions>()
     ensures { SilenceIsBounded S.step }
-{
-}
+{}
 
 /// The greatest silent height of a component's numbered table is the component's greatest number of silent steps.
 pub fn heights_are_exact<S: Transitions>()
     ensures { HeightsAreExact S.step }
-{
-}
+{}
 
 /// Over tables alone: ranks that fall along ungranted requests leave no state in which no event is agreed.
 pub fn none_is_stuck()
     ensures { NoneIsStuck }
-{
-}
+{}
 
 /// A network with a good ranking is live, with its silent bound.
 pub fn good_rankings_mean_live<S: Transitions>()
     ensures { GoodRankingsMeanLive S.step }
-{
-}
+{}
 
 /// A network with a good ranking, and a network that is stuck, for which no ranking is good.
 pub fn examples()
     ensures live { ExampleIsLive }
     ensures stuck { ExampleIsStuck }
-{
-}
+{}
