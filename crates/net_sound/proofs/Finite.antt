@@ -12,19 +12,23 @@ pub search_below : (Q R : ℕ → Type 0) → ((i : ℕ) → Q i ⊎ R i) → (n
 search_below Q R decide zero = inr (λ i h. absurd (omega arith))
 search_below Q R decide (suc n) =
     elim (decide n) [
-      inl q ↦ inl (n, omega arith, q)
+      | inl q ↦ inl (n, omega arith, q)
       | inr r ↦ elim (search_below Q R decide n) [
-          inl found ↦ inl (found.0, let h : found.0 < n = found.1 in omega arith, found.2)
-          | inr none ↦ inr (below_suc R n none r) ] ]
+        | inl found ↦ inl (found.0, let h : found.0 < n = found.1 in omega arith, found.2)
+        | inr none ↦ inr (below_suc R n none r)
+      ]
+    ]
 
 pub search_list : (Q R : ℕ → Type 0) → ((e : ℕ) → Q e ⊎ R e) → (xs : List ℕ) → ((e : ℕ) × IsTrue (has xs e) × Q e) ⊎ ((e : ℕ) → IsTrue (has xs e) → R e)
 search_list Q R decide [] = inr (λ e h. absurd (false≢true h))
 search_list Q R decide (x ∷ xs) =
     elim (decide x) [
-      inl q ↦ inl (x, or_left _ _ (eq-eqb x x refl), q)
+      | inl q ↦ inl (x, or_left _ _ (eq-eqb x x refl), q)
       | inr r ↦ elim (search_list Q R decide xs) [
-          inl found ↦ inl (found.0, or_right _ _ found.1, found.2)
-          | inr none ↦ inr (λ e h. elim (or_cases _ _ h) [ inl same ↦ subst R (eqb-true x e same) r | inr rest ↦ none e rest ]) ] ]
+        | inl found ↦ inl (found.0, or_right _ _ found.1, found.2)
+        | inr none ↦ inr (λ e h. elim (or_cases _ _ h) [ inl same ↦ subst R (eqb-true x e same) r | inr rest ↦ none e rest ])
+      ]
+    ]
 
 pub record IsLeast (P : ℕ → ℤ) (n : ℕ) : Type 0 where
   pub place : ℕ
@@ -50,4 +54,3 @@ no_descent P (suc n) h lower =
     let le : P r.place ≤ℤ P d.0 = r.least d.0 d.1 in
     let lt : P d.0 <ℤ P r.place = d.2 in
     omega (arith, ints)
-

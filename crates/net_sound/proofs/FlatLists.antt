@@ -73,8 +73,9 @@ moves_split Step (x ∷ xs) zs [] h = absurd h
 moves_split Step (x ∷ xs) zs (d ∷ ds) (inl h) = inl (record { front = d ∷ xs; whole = ap (λ ws. d ∷ ws) h.1; moves = inl (h.0, refl) })
 moves_split Step (x ∷ xs) zs (d ∷ ds) (inr h) =
     elim (moves_split Step xs zs ds h.1) [
-      inl m ↦ inl (record { front = d ∷ m.front; whole = ap (λ ws. d ∷ ws) m.whole; moves = inr (h.0, m.moves) })
-      | inr m ↦ inr (record { back = m.back; whole = ap₂ (λ w ws. w ∷ ws) h.0 m.whole; moves = m.moves }) ]
+      | inl m ↦ inl (record { front = d ∷ m.front; whole = ap (λ ws. d ∷ ws) m.whole; moves = inr (h.0, m.moves) })
+      | inr m ↦ inr (record { back = m.back; whole = ap₂ (λ w ws. w ∷ ws) h.0 m.whole; moves = m.moves })
+    ]
 
 pub record AllApart {T : Type 0} (Step : T → Label → T → Type 0) (e : ℕ) (xs zs ds : List (Component T)) : Type 0 where
   pub front : List (Component T)
@@ -105,8 +106,9 @@ moves_alphabets Step (c ∷ cs) (d ∷ ds) (inr h) = ap₂ (λ a as'. a ∷ as')
 part_alphabet : {T : Type 0} (Step : T → Label → T → Type 0) (e : ℕ) (c d : Component T) → MatchBool (has c.alphabet e) (ComponentStep Step c (visible e) d) (c ≡ d) → c.alphabet ≡ d.alphabet
 part_alphabet Step e c d h =
     elim (by_test (has c.alphabet e) h) [
-      inl k ↦ step_alphabet Step c (visible e) d k.1
-      | inr k ↦ ap (λ (x : Component _). x.alphabet) k.1 ]
+      | inl k ↦ step_alphabet Step c (visible e) d k.1
+      | inr k ↦ ap (λ (x : Component _). x.alphabet) k.1
+    ]
 
 all_alphabets : {T : Type 0} (Step : T → Label → T → Type 0) (e : ℕ) (cs ds : List (Component T)) → AllTakePart Step e cs ds → alphabets cs ≡ alphabets ds
 all_alphabets Step e [] [] h = refl

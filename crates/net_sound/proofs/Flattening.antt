@@ -9,6 +9,7 @@ use Rattle.csp_tables.specs.Network.Tree.{leaf, parallel}
 use Rattle.csp_tables.specs.Network.Operands.{none, operand}
 use Rattle.csp_tables.specs.Flat.{in_some_component, OneMoves, AllTakePart, FlatStep}
 use Rattle.csp_tables.specs.WellNested.{WellNested, OperandsWellNested}
+use Rattle.net_sound.specs.Flattening.{StepsToLeaves, TreeStepsAreFlat, FlatStepsAreTreeSteps, StepsKeepNesting, StepsKeepAlphabets}
 use Rattle.net_sound.proofs.FlatLists.{alphabets, by_test, match_true, match_false, moves_left, moves_right, all_append, all_stay, all_stayed, moves_split, all_split, flat_alphabets, same_some}
 
 -- an event is in an operand's alphabet exactly where it is in a component's
@@ -44,8 +45,9 @@ mutual
   forth_silent Step (operand a t os) none w h = absurd h
   forth_silent Step (operand a t os) (operand b u qs) w h =
       elim h.1 [
-        inl k ↦ subst (λ zs. OneMoves Step (leaves t ++ leaves_of_operands os) (leaves u ++ zs)) (ap leaves_of_operands k.1) (moves_left Step (leaves t) (leaves u) (leaves_of_operands os) (forth Step t silent u w.1 k.0))
-        | inr k ↦ subst (λ v. OneMoves Step (leaves t ++ leaves_of_operands os) (leaves v ++ leaves_of_operands qs)) k.0 (moves_right Step (leaves t) (leaves_of_operands os) (leaves_of_operands qs) (forth_silent Step os qs w.2 k.1)) ]
+        | inl k ↦ subst (λ zs. OneMoves Step (leaves t ++ leaves_of_operands os) (leaves u ++ zs)) (ap leaves_of_operands k.1) (moves_left Step (leaves t) (leaves u) (leaves_of_operands os) (forth Step t silent u w.1 k.0))
+        | inr k ↦ subst (λ v. OneMoves Step (leaves t ++ leaves_of_operands os) (leaves v ++ leaves_of_operands qs)) k.0 (moves_right Step (leaves t) (leaves_of_operands os) (leaves_of_operands qs) (forth_silent Step os qs w.2 k.1))
+      ]
 
   forth_visible : {T : Type 0} (Step : T → Label → T → Type 0) (e : ℕ) (os qs : Operands T) → OperandsWellNested os → AllTogether Step e os qs → AllTakePart Step e (leaves_of_operands os) (leaves_of_operands qs)
   forth_visible Step e none none w h = tt
@@ -54,16 +56,12 @@ mutual
   forth_visible Step e (operand a t os) (operand b u qs) w h =
       all_append Step e (leaves t) (leaves u) (leaves_of_operands os) (leaves_of_operands qs)
       (elim (by_test (has a e) h.1) [
-        inl k ↦ (forth Step t (visible e) u w.1 k.1).1
-        | inr k ↦ subst (λ v. AllTakePart Step e (leaves t) (leaves v)) k.1 (all_stay Step e (leaves t) (sym (w.0 e) ∙ k.0)) ])
+        | inl k ↦ (forth Step t (visible e) u w.1 k.1).1
+        | inr k ↦ subst (λ v. AllTakePart Step e (leaves t) (leaves v)) k.1 (all_stay Step e (leaves t) (sym (w.0 e) ∙ k.0))
+      ])
       (forth_visible Step e os qs w.2 h.2)
 
 -- ---- from the list to the tree
-
-pub record Back {T : Type 0} (Step : T → Label → T → Type 0) (t : Tree T) (l : Label) (ds : List (Component T)) : Type 0 where
-  pub tree : Tree T
-  pub whole : leaves tree ≡ ds
-  pub step : NetworkStep Step t l tree
 
 record BackSilent {T : Type 0} (Step : T → Label → T → Type 0) (os : Operands T) (ds : List (Component T)) : Type 0 where
   operands : Operands T
@@ -75,7 +73,7 @@ record BackVisible {T : Type 0} (Step : T → Label → T → Type 0) (e : ℕ) 
   whole : leaves_of_operands operands ≡ ds
   step : AllTogether Step e os operands
 
-leaf_back : {T : Type 0} (Step : T → Label → T → Type 0) (c : Component T) (l : Label) (ds : List (Component T)) → FlatStep Step (c ∷ []) l ds → Back Step (leaf c) l ds
+leaf_back : {T : Type 0} (Step : T → Label → T → Type 0) (c : Component T) (l : Label) (ds : List (Component T)) → FlatStep Step (c ∷ []) l ds → StepsToLeaves Step (leaf c) l ds
 leaf_back Step c silent [] h = absurd h
 leaf_back Step c silent (d ∷ ds) (inl h) = record { tree = leaf d; whole = ap (λ ws. d ∷ ws) h.1; step = h.0 }
 leaf_back Step c silent (d ∷ ds) (inr h) = absurd h.1
@@ -83,11 +81,12 @@ leaf_back Step c (visible e) [] h = absurd h.1
 leaf_back Step c (visible e) (d ∷ d' ∷ ds) h = absurd h.1.1
 leaf_back Step c (visible e) (d ∷ []) h =
     elim (or_cases (has c.alphabet e) false h.0) [
-      inl owned ↦ record { tree = leaf d; whole = refl; step = MatchBool-at_true _ _ owned h.1.0 }
-      | inr never ↦ absurd (false≢true never) ]
+      | inl owned ↦ record { tree = leaf d; whole = refl; step = MatchBool-at_true _ _ owned h.1.0 }
+      | inr never ↦ absurd (false≢true never)
+    ]
 
 mutual
-  pub back : {T : Type 0} (Step : T → Label → T → Type 0) (t : Tree T) (l : Label) (ds : List (Component T)) → WellNested t → FlatStep Step (leaves t) l ds → Back Step t l ds
+  pub back : {T : Type 0} (Step : T → Label → T → Type 0) (t : Tree T) (l : Label) (ds : List (Component T)) → WellNested t → FlatStep Step (leaves t) l ds → StepsToLeaves Step t l ds
   back Step (leaf c) l ds w h = leaf_back Step c l ds h
   back Step (parallel os) silent ds w h =
       let r = back_silent Step os ds w h in
@@ -100,12 +99,13 @@ mutual
   back_silent Step none ds w h = absurd h
   back_silent Step (operand a t os) ds w h =
       elim (moves_split Step (leaves t) (leaves_of_operands os) ds h) [
-        inl m ↦
-          let r = back Step t silent m.front w.1 m.moves in
-          record { operands = operand a r.tree os; whole = ap (λ ws. ws ++ leaves_of_operands os) r.whole ∙ m.whole; step = (refl, inl (r.step, refl)) }
+        | inl m ↦
+            let r = back Step t silent m.front w.1 m.moves in
+            record { operands = operand a r.tree os; whole = ap (λ ws. ws ++ leaves_of_operands os) r.whole ∙ m.whole; step = (refl, inl (r.step, refl)) }
         | inr m ↦
-          let r = back_silent Step os m.back w.2 m.moves in
-          record { operands = operand a t r.operands; whole = ap (λ ws. leaves t ++ ws) r.whole ∙ m.whole; step = (refl, inr (refl, r.step)) } ]
+            let r = back_silent Step os m.back w.2 m.moves in
+            record { operands = operand a t r.operands; whole = ap (λ ws. leaves t ++ ws) r.whole ∙ m.whole; step = (refl, inr (refl, r.step)) }
+      ]
 
   back_visible : {T : Type 0} (Step : T → Label → T → Type 0) (e : ℕ) (os : Operands T) (ds : List (Component T)) → OperandsWellNested os → AllTakePart Step e (leaves_of_operands os) ds → BackVisible Step e os ds
   back_visible Step e none [] w h = record { operands = none; whole = refl; step = tt }
@@ -114,11 +114,12 @@ mutual
       let s = all_split Step e (leaves t) (leaves_of_operands os) ds h in
       let r = back_visible Step e os s.back w.2 s.right in
       elim (cases_Bool (has a e)) [
-        inl k ↦
-          let q = back Step t (visible e) s.front w.1 (sym (w.0 e) ∙ k, s.left) in
-          record { operands = operand a q.tree r.operands; whole = ap₂ (λ x y. x ++ y) q.whole r.whole ∙ s.whole; step = (refl, match_true (has a e) _ _ k q.step, r.step) }
+        | inl k ↦
+            let q = back Step t (visible e) s.front w.1 (sym (w.0 e) ∙ k, s.left) in
+            record { operands = operand a q.tree r.operands; whole = ap₂ (λ x y. x ++ y) q.whole r.whole ∙ s.whole; step = (refl, match_true (has a e) _ _ k q.step, r.step) }
         | inr k ↦
-          record { operands = operand a t r.operands; whole = ap₂ (λ x y. x ++ y) (all_stayed Step e (leaves t) s.front (sym (w.0 e) ∙ k) s.left) r.whole ∙ s.whole; step = (refl, match_false (has a e) _ _ k refl, r.step) } ]
+            record { operands = operand a t r.operands; whole = ap₂ (λ x y. x ++ y) (all_stayed Step e (leaves t) s.front (sym (w.0 e) ∙ k) s.left) r.whole ∙ s.whole; step = (refl, match_false (has a e) _ _ k refl, r.step) }
+      ]
 
 -- ---- what a step keeps
 
@@ -143,8 +144,9 @@ mutual
   kept_silent Step (operand a t os) none w h = absurd h
   kept_silent Step (operand a t os) (operand b u qs) w h =
       elim h.1 [
-        inl k ↦ (still a b t u h.0 (step_alphabets Step t silent u w.1 k.0) w.0, kept Step t silent u w.1 k.0, subst OperandsWellNested k.1 w.2)
-        | inr k ↦ (still a b t u h.0 (ap (λ v. alphabets (leaves v)) k.0) w.0, subst WellNested k.0 w.1, kept_silent Step os qs w.2 k.1) ]
+        | inl k ↦ (still a b t u h.0 (step_alphabets Step t silent u w.1 k.0) w.0, kept Step t silent u w.1 k.0, subst OperandsWellNested k.1 w.2)
+        | inr k ↦ (still a b t u h.0 (ap (λ v. alphabets (leaves v)) k.0) w.0, subst WellNested k.0 w.1, kept_silent Step os qs w.2 k.1)
+      ]
 
   kept_visible : {T : Type 0} (Step : T → Label → T → Type 0) (e : ℕ) (os qs : Operands T) → OperandsWellNested os → AllTogether Step e os qs → OperandsWellNested qs
   kept_visible Step e none none w h = tt
@@ -152,5 +154,20 @@ mutual
   kept_visible Step e (operand a t os) none w h = absurd h
   kept_visible Step e (operand a t os) (operand b u qs) w h =
       elim (by_test (has a e) h.1) [
-        inl k ↦ (still a b t u h.0 (step_alphabets Step t (visible e) u w.1 k.1) w.0, kept Step t (visible e) u w.1 k.1, kept_visible Step e os qs w.2 h.2)
-        | inr k ↦ (still a b t u h.0 (ap (λ v. alphabets (leaves v)) k.1) w.0, subst WellNested k.1 w.1, kept_visible Step e os qs w.2 h.2) ]
+        | inl k ↦ (still a b t u h.0 (step_alphabets Step t (visible e) u w.1 k.1) w.0, kept Step t (visible e) u w.1 k.1, kept_visible Step e os qs w.2 h.2)
+        | inr k ↦ (still a b t u h.0 (ap (λ v. alphabets (leaves v)) k.1) w.0, subst WellNested k.1 w.1, kept_visible Step e os qs w.2 h.2)
+      ]
+
+-- ---- the laws
+
+pub tree_steps_are_flat : {T : Type 0} (Step : T → Label → T → Type 0) → TreeStepsAreFlat Step
+tree_steps_are_flat Step t u l w h = forth Step t l u w h
+
+pub flat_steps_are_tree_steps : {T : Type 0} (Step : T → Label → T → Type 0) → FlatStepsAreTreeSteps Step
+flat_steps_are_tree_steps Step t l cs w h = back Step t l cs w h
+
+pub steps_keep_nesting : {T : Type 0} (Step : T → Label → T → Type 0) → StepsKeepNesting Step
+steps_keep_nesting Step t u l w h = kept Step t l u w h
+
+pub steps_keep_alphabets : {T : Type 0} (Step : T → Label → T → Type 0) → StepsKeepAlphabets Step
+steps_keep_alphabets Step t u l w h = step_alphabets Step t l u w h

@@ -19,7 +19,7 @@ use Rattle.csp_tables.specs.GoodRanking.{IsGoodRanking}
 use Rattle.net_sound.specs.Projection.{ComesAlong, RunsAreTraces, RunsAreJoint, SilenceIsBounded}
 use Rattle.net_sound.specs.Heart.{IsSound, GoodRankingsMeanLive}
 use Rattle.net_sound.proofs.FlatLists.{alphabets, match_true, match_false, step_alphabet}
-use Rattle.net_sound.proofs.Flattening.{back, Back}
+use Rattle.net_sound.proofs.Flattening.{back}
 use Rattle.net_sound.proofs.Local.{AllAfter, all_after, shares, at_most, run_forth, run_kept}
 use Rattle.net_sound.proofs.Stuck.{none_is_stuck}
 
@@ -64,7 +64,7 @@ all_stable : {T : Type 0} (Step : T → Label → T → Type 0) (ds : List (Comp
 all_stable Step [] h = tt
 all_stable Step (d ∷ ds) h = ((λ e k. h (e ∷ ds) (inl (k, refl))), all_stable Step ds (λ es k. h (d ∷ es) (inr (refl, k))))
 
-path_alphabet : {T : Type 0} (Step : T → Label → T → Type 0) (ls : List Label) (c d : Component T) → Path (ComponentStep Step) c ls d → c.alphabet ≡ d.alphabet
+pub path_alphabet : {T : Type 0} (Step : T → Label → T → Type 0) (ls : List Label) (c d : Component T) → Path (ComponentStep Step) c ls d → c.alphabet ≡ d.alphabet
 path_alphabet Step [] c d h = ap (λ (x : Component _). x.alphabet) h
 path_alphabet Step (l ∷ ls) c d h = step_alphabet Step c l h.0 h.1 ∙ path_alphabet Step ls h.0 d h.2
 
@@ -122,10 +122,11 @@ stand Step s (d ∷ ds) (p ∷ ps) (k ∷ ks) o (suc i) h = stand Step s ds ps k
 part : {T : Type 0} (Step : T → Label → T → Type 0) (s : List ℕ) (e : ℕ) (d : Component T) (p : Part) (k : ℕ) → OffersAt Step s d p k → (IsTrue (has p.alphabet e) → IsTrue (has (acceptance p s k) e)) → (x : Component T) × MatchBool (has d.alphabet e) (ComponentStep Step d (visible e) x) (d ≡ x)
 part Step s e d p k o agreed =
     elim (cases_Bool (has d.alphabet e)) [
-      inl owned ↦
-        let x = o.offered e (agreed (subst (λ al. IsTrue (has al e)) o.alphabet owned)) in
-        (x.0, match_true (has d.alphabet e) _ _ owned x.1)
-      | inr strange ↦ (d, match_false (has d.alphabet e) _ _ strange refl) ]
+      | inl owned ↦
+          let x = o.offered e (agreed (subst (λ al. IsTrue (has al e)) o.alphabet owned)) in
+          (x.0, match_true (has d.alphabet e) _ _ owned x.1)
+      | inr strange ↦ (d, match_false (has d.alphabet e) _ _ strange refl)
+    ]
 
 take_part : {T : Type 0} (Step : T → Label → T → Type 0) (s : List ℕ) (e : ℕ) (ds : List (Component T)) (ps : List Part) (ks : List ℕ) → AllOffer Step s ds ps ks → ((j : ℕ) → j < length ps → IsTrue (has (part_at ps j).alphabet e) → IsTrue (has (acceptance (part_at ps j) s (place ks j)) e)) → (xs : List (Component T)) × AllTakePart Step e ds xs
 take_part Step s e [] ps ks o agreed = ([], tt)
@@ -169,12 +170,12 @@ flat_moves Step s cs ds ps ranking some triple good a st =
 
 pub good_rankings_mean_live : {T : Type 0} (Step : T → Label → T → Type 0) → GoodRankingsMeanLive Step
 good_rankings_mean_live Step tree bound parts ranking sound good = record {
-    quiet = λ u v n r h. silence_is_bounded Step tree u v n bound sound.nested sound.silence r h;
-    moves = λ u r stable.
-        let w = run_kept Step r.0 tree u sound.nested r.1 in
-        let a = all_after Step r.0 (leaves tree) (leaves u) (run_forth Step r.0 tree u sound.nested r.1) in
-        let st = all_stable Step (leaves u) (λ es k. let x = back Step u silent es w k in stable x.tree x.step) in
-        let m = flat_moves Step (events_of r.0) (leaves tree) (leaves u) parts ranking sound.some sound.triple good a st in
-        let x = back Step u (visible m.0) m.1 w m.2 in
-        (m.0, x.tree, x.step);
-  }
+  quiet = λ u v n r h. silence_is_bounded Step tree u v n bound sound.nested sound.silence r h;
+  moves = λ u r stable.
+      let w = run_kept Step r.0 tree u sound.nested r.1 in
+      let a = all_after Step r.0 (leaves tree) (leaves u) (run_forth Step r.0 tree u sound.nested r.1) in
+      let st = all_stable Step (leaves u) (λ es k. let x = back Step u silent es w k in stable x.tree x.step) in
+      let m = flat_moves Step (events_of r.0) (leaves tree) (leaves u) parts ranking sound.some sound.triple good a st in
+      let x = back Step u (visible m.0) m.1 w m.2 in
+      (m.0, x.tree, x.step);
+}

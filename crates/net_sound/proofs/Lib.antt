@@ -8,3 +8,6 @@ pub mod FlatLists
 pub mod Flattening
 pub mod Local
 pub mod Heart
+pub mod Shape
+pub mod Heights
+pub mod Example

@@ -28,12 +28,13 @@ after_event Step c m d e s h a = (visible e ∷ a.0, (m, h, a.1), ap (λ w. e �
 after_part : {T : Type 0} (Step : T → Label → T → Type 0) (c m d : Component T) (e : ℕ) (s : List ℕ) → MatchBool (has c.alphabet e) (ComponentStep Step c (visible e) m) (c ≡ m) → After Step m (project m.alphabet s) d → After Step c (project c.alphabet (e ∷ s)) d
 after_part Step c m d e s h a =
     elim (by_test (has c.alphabet e) h) [
-      inl k ↦ subst (λ w. After Step c w d)
-        (ap (λ al. e ∷ project al s) (sym (step_alphabet Step c (visible e) m k.1)) ∙ sym (cond-true (has c.alphabet e) (e ∷ project c.alphabet s) (project c.alphabet s) k.0))
-        (after_event Step c m d e (project m.alphabet s) k.1 a)
+      | inl k ↦ subst (λ w. After Step c w d)
+          (ap (λ al. e ∷ project al s) (sym (step_alphabet Step c (visible e) m k.1)) ∙ sym (cond-true (has c.alphabet e) (e ∷ project c.alphabet s) (project c.alphabet s) k.0))
+          (after_event Step c m d e (project m.alphabet s) k.1 a)
       | inr k ↦ subst (λ w. After Step c w d)
-        (sym (cond-false (has c.alphabet e) (e ∷ project c.alphabet s) (project c.alphabet s) k.0))
-        (subst (λ (x : Component _). After Step x (project x.alphabet s) d) (sym k.1) a) ]
+          (sym (cond-false (has c.alphabet e) (e ∷ project c.alphabet s) (project c.alphabet s) k.0))
+          (subst (λ (x : Component _). After Step x (project x.alphabet s) d) (sym k.1) a)
+    ]
 
 -- ---- all components
 
@@ -52,9 +53,10 @@ first_silent : {T : Type 0} (Step : T → Label → T → Type 0) (s : List ℕ)
 first_silent Step s [] ms ds h a = absurd h
 first_silent Step s (c ∷ cs) [] ds h a = absurd h
 first_silent Step s (c ∷ cs) (m ∷ ms) [] h a = absurd a
-first_silent Step s (c ∷ cs) (m ∷ ms) (d ∷ ds) (inl h) a =
-    (subst (λ al. After Step c (project al s) d) (sym h.0.0) (after_silent Step c m d (project m.alphabet s) h.0 a.0),
-     subst (λ xs. AllAfter Step s xs ds) (sym h.1) a.1)
+first_silent Step s (c ∷ cs) (m ∷ ms) (d ∷ ds) (inl h) a = (
+  subst (λ al. After Step c (project al s) d) (sym h.0.0) (after_silent Step c m d (project m.alphabet s) h.0 a.0),
+  subst (λ xs. AllAfter Step s xs ds) (sym h.1) a.1,
+)
 first_silent Step s (c ∷ cs) (m ∷ ms) (d ∷ ds) (inr h) a =
     (subst (λ (x : Component _). After Step x (project x.alphabet s) d) (sym h.0) a.0, first_silent Step s cs ms ds h.1 a.1)
 

@@ -29,26 +29,26 @@ shared parts M i h own another e m =
 
 ungranted : (parts : List Part) (s : List ℕ) (places : ℕ → ℕ) → HaveForm parts → AllStand parts s places → (i j : ℕ) → i < length parts → j < length parts → Waits (alphabet parts) (set parts s places) (length parts) i j → IsUngranted parts s i j (places i) (places j)
 ungranted parts s places form stand i j h l w = record {
-    here = h;
-    there = l;
-    distinct = w.distinct;
-    stands = stand i h;
-    other_stands = stand j l;
-    shared = shared parts (set parts s places i) i h (acceptance_within parts s i (places i) h form) w.shared;
-    other_shared = shared parts (set parts s places j) j l (acceptance_within parts s j (places j) l form) w.other_shared;
-    asks = w.asks;
-    apart = w.apart;
-  }
+  here = h;
+  there = l;
+  distinct = w.distinct;
+  stands = stand i h;
+  other_stands = stand j l;
+  shared = shared parts (set parts s places i) i h (acceptance_within parts s i (places i) h form) w.shared;
+  other_shared = shared parts (set parts s places j) j l (acceptance_within parts s j (places j) l form) w.other_shared;
+  asks = w.asks;
+  apart = w.apart;
+}
 
 sets : (parts : List Part) (s : List ℕ) (places : ℕ → ℕ) → HaveForm parts → TripleDisjoint (alphabets_of parts) → AllStand parts s places → Sets (alphabet parts) (set parts s places) (length parts)
 sets parts s places form triple stand = record {
-    some = λ i h. (stand i h).some;
-    within = λ i h. acceptance_within parts s i (places i) h form;
-    no_three = λ e i j k h l m a b c x y z.
-        let three : 3 ≤ sharers (alphabets_of parts) e = at_three parts e i j k h l m a b c x y z in
-        let two : sharers (alphabets_of parts) e ≤ 2 = triple e in
-        omega arith;
-  }
+  some = λ i h. (stand i h).some;
+  within = λ i h. acceptance_within parts s i (places i) h form;
+  no_three = λ e i j k h l m a b c x y z.
+      let three : 3 ≤ sharers (alphabets_of parts) e = at_three parts e i j k h l m a b c x y z in
+      let two : sharers (alphabets_of parts) e ≤ 2 = triple e in
+      omega arith;
+}
 
 falls_along : (parts : List Part) (ranking : Ranking) (s : List ℕ) (places : ℕ → ℕ) → Falls parts ranking → (i j : ℕ) → IsUngranted parts s i j (places i) (places j) → height parts ranking s places j <ℤ height parts ranking s places i
 falls_along parts ranking s places falls i j u =
@@ -58,5 +58,5 @@ falls_along parts ranking s places falls i j u =
 pub none_is_stuck : NoneIsStuck
 none_is_stuck parts ranking some form triple falls s places stand =
     let m = someone_moves (alphabet parts) (set parts s places) (height parts ranking s places) (length parts) some (sets parts s places form triple stand)
-        (λ i j h l w. falls_along parts ranking s places falls i j (ungranted parts s places form stand i j h l w)) in
+    (λ i j h l w. falls_along parts ranking s places falls i j (ungranted parts s places form stand i j h l w)) in
     (m.event, record { owner = m.place; within = m.within; owned = m.owned; agreed = m.agreed })
