@@ -4,6 +4,7 @@
 pub mod reader;
 pub mod script;
 pub mod token;
+mod words;
 
 pub use reader::read_script;
 pub use script::Script;
