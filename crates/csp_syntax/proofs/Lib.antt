@@ -1,3 +1,4 @@
 pub mod Cutting
+pub mod Lines
 pub mod LongestWord
 pub mod Pieces

@@ -5,7 +5,8 @@ ghost use Rattle.std.specs.List.{position_or_len};
 ghost use Rattle.csp_syntax.specs.declared.script.Script.{Script as ScriptValue};
 ghost use Rattle.csp_syntax.specs.declared.token.Token.{Token as TokenValue};
 ghost use Rattle.csp_syntax.specs.declared.token.Token.TheVariants as token;
-ghost use Rattle.csp_syntax.specs.Parts.{Asserts, Declares, IsScript, begins_assertion};
+ghost use Rattle.csp_syntax.specs.declared.token.Word.TheVariants.{Channel};
+ghost use Rattle.csp_syntax.specs.Parts.{Asserts, Declares, IsScript, begins_assertion, definition};
 ghost use Rattle.csp_syntax.specs.Spells.{Spells, joined_lines};
 
 use crate::lexer::lex;
@@ -56,5 +57,98 @@ fn first_name(tokens: &[Token]) -> Option<(&Name, &[Token])>
     match tokens.split_first() {
         Some((Token::Name(name), rest)) => Some((name, rest)),
         _ => None,
+    }
+}
+
+/// What follows the word at the front, on this line or a later one.
+fn after_next_word(tokens: &[Token], word: Word) -> Option<&[Token]>
+    ensures found { IfSome result (λ rest. joined_lines tokens.now ≡ token.Word word ∷ joined_lines rest.now) }
+    ensures none { IfNone result ((rest : List TokenValue) → joined_lines tokens.now ≢ token.Word word ∷ rest) }
+{
+    after_word(skip_lines(tokens), word)
+}
+
+/// What follows the symbol at the front, on this line or a later one.
+fn after_next_symbol(tokens: &[Token], symbol: Symbol) -> Option<&[Token]>
+    ensures found { IfSome result (λ rest. joined_lines tokens.now ≡ token.Symbol symbol ∷ joined_lines rest.now) }
+    ensures none { IfNone result ((rest : List TokenValue) → joined_lines tokens.now ≢ token.Symbol symbol ∷ rest) }
+{
+    after_symbol(skip_lines(tokens), symbol)
+}
+
+/// The name at the front and what follows it, on this line or a later one.
+fn next_name(tokens: &[Token]) -> Option<(&Name, &[Token])>
+    ensures found { IfSome result (λ x. joined_lines tokens.now ≡ token.Name x.0.now ∷ joined_lines x.1.now) }
+    ensures none { IfNone result ((name : List ℕ) (rest : List TokenValue) → joined_lines tokens.now ≢ token.Name name ∷ rest) }
+{
+    first_name(skip_lines(tokens))
+}
+
+/// Whether the tokens are nothing but ends of lines.
+fn are_lines(tokens: &[Token]) -> bool
+    ensures { IsTrue result ↔ (joined_lines tokens.now ≡ []) }
+{
+    skip_lines(tokens).is_empty()
+}
+
+fn is_same_name(a: &Name, b: &Name) -> bool
+    ensures { IsTrue result ↔ (a.now ≡ b.now) }
+{
+    a.as_slice() == b.as_slice()
+}
+
+/// The channel of `channel c`, and what follows.
+fn channel_declaration(tokens: &[Token]) -> Option<(&Name, &[Token])>
+    ensures found { IfSome result (λ x. joined_lines tokens.now ≡ token.Word Channel ∷ token.Name x.0.now ∷ joined_lines x.1.now) }
+    ensures none { IfNone result ((name : List ℕ) (rest : List TokenValue) → joined_lines tokens.now ≢ token.Word Channel ∷ token.Name name ∷ rest) }
+{
+    let Some(rest) = after_next_word(tokens, Word::Channel) else {
+        return None;
+    };
+    next_name(rest)
+}
+
+/// The names of `d = c -> d` as they stand there, where nothing follows.
+fn process_definition(tokens: &[Token]) -> Option<(&Name, &Name, &Name)>
+    ensures found { IfSome result (λ x. joined_lines tokens.now ≡ definition x.0.now x.1.now x.2.now) }
+    ensures none { IfNone result ((a b c : List ℕ) → joined_lines tokens.now ≢ definition a b c) }
+{
+    let Some((defined, rest)) = next_name(tokens) else {
+        return None;
+    };
+    let Some(rest) = after_next_symbol(rest, Symbol::Defines) else {
+        return None;
+    };
+    let Some((event, rest)) = next_name(rest) else {
+        return None;
+    };
+    let Some(rest) = after_next_symbol(rest, Symbol::Arrow) else {
+        return None;
+    };
+    let Some((called, rest)) = next_name(rest) else {
+        return None;
+    };
+    if are_lines(rest) {
+        Some((defined, event, called))
+    } else {
+        None
+    }
+}
+
+/// The channel and the process of the two declarations.
+fn declarations(tokens: &[Token]) -> Option<(&Name, &Name)>
+    ensures found { IfSome result (λ x. Declares tokens.now (record { channel = x.0.now; process = x.1.now })) }
+    ensures only { (s : ScriptValue) → Declares tokens.now s → IsSomeAnd result (λ x. (x.0.now ≡ s.channel) × (x.1.now ≡ s.process)) }
+{
+    let Some((channel, rest)) = channel_declaration(tokens) else {
+        return None;
+    };
+    let Some((defined, event, called)) = process_definition(rest) else {
+        return None;
+    };
+    if is_same_name(event, channel) && is_same_name(called, defined) && !is_same_name(channel, defined) {
+        Some((channel, defined))
+    } else {
+        None
     }
 }
