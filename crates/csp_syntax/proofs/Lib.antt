@@ -1,3 +1,4 @@
+pub mod Assertions
 pub mod Cutting
 pub mod Lines
 pub mod LongestWord

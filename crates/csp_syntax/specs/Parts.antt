@@ -1,9 +1,9 @@
 -- The parts of a script in its list of tokens.
-use Rattle.std.specs.Prelude.{◌≡◌, ◌≢◌, ℕ, Bool, true, false, List, [], ◌∷◌, ◌++◌}
+use Rattle.std.specs.Prelude.{◌≡◌, ◌≢◌, ℕ, Bool, true, false, List, [], ◌∷◌, ◌++◌, codes}
 use Rattle.csp_syntax.specs.declared.script.Script.{Script}
 use Rattle.csp_syntax.specs.declared.token.Token.{Token}
 use Rattle.csp_syntax.specs.declared.token.Token.TheVariants.{Name, Symbol, Word, LineEnd}
-use Rattle.csp_syntax.specs.declared.token.Symbol.TheVariants.{Arrow, Defines}
+use Rattle.csp_syntax.specs.declared.token.Symbol.TheVariants.{Arrow, Defines, Colon, OpenBracket, CloseBracket}
 use Rattle.csp_syntax.specs.declared.token.Word.TheVariants.{Assert, Channel}
 use Rattle.csp_syntax.specs.Spells.{assertion, declarations, joined_lines}
 
@@ -18,6 +18,11 @@ begins_assertion LineEnd = false
 -- d = c -> e
 abbrev pub definition : List ℕ → List ℕ → List ℕ → List Token
 definition d c e = Name d ∷ Symbol Defines ∷ Name c ∷ Symbol Arrow ∷ Name e ∷ []
+
+-- :[deadlock free]
+abbrev pub deadlock_free : List Token
+deadlock_free =
+    Symbol Colon ∷ Symbol OpenBracket ∷ Name (codes "deadlock") ∷ Name (codes "free") ∷ Symbol CloseBracket ∷ []
 
 -- the tokens are the two declarations of the script, on lines as they come
 pub record Declares (tokens : List Token) (s : Script) : Type 0 where

@@ -1,12 +1,12 @@
 //! A reader for the scripts that are read so far.
 
-ghost use Rattle.std.specs.Prelude.{◌≡◌, ◌≢◌, ◌↔◌, ℕ, List, [], ◌∷◌, IsTrue, IfOk, IfSome, IfNone, IsSomeAnd, Some};
+ghost use Rattle.std.specs.Prelude.{◌≡◌, ◌≢◌, ◌↔◌, ◌≤◌, ℕ, List, [], ◌∷◌, ◌++◌, length, IsTrue, IfOk, IfSome, IfNone, IsSomeAnd, Some};
 ghost use Rattle.std.specs.List.{position_or_len};
 ghost use Rattle.csp_syntax.specs.declared.script.Script.{Script as ScriptValue};
 ghost use Rattle.csp_syntax.specs.declared.token.Token.{Token as TokenValue};
 ghost use Rattle.csp_syntax.specs.declared.token.Token.TheVariants as token;
 ghost use Rattle.csp_syntax.specs.declared.token.Word.TheVariants.{Channel};
-ghost use Rattle.csp_syntax.specs.Parts.{Asserts, Declares, IsScript, begins_assertion, definition};
+ghost use Rattle.csp_syntax.specs.Parts.{Asserts, Declares, IsScript, begins_assertion, deadlock_free, definition};
 ghost use Rattle.csp_syntax.specs.Spells.{Spells, joined_lines};
 
 use crate::lexer::lex;
@@ -151,4 +151,101 @@ fn declarations(tokens: &[Token]) -> Option<(&Name, &Name)>
     } else {
         None
     }
+}
+
+/// What follows the name of a word that stands at the front and isn't reserved.
+fn after_plain_word<'a>(tokens: &'a [Token], word: &[u8]) -> Option<&'a [Token]>
+    ensures found { IfSome result (λ rest. tokens.now ≡ token.Name word.now ∷ rest.now) }
+    ensures none { IfNone result ((rest : List TokenValue) → tokens.now ≢ token.Name word.now ∷ rest) }
+{
+    match first_name(tokens) {
+        Some((name, rest)) if name.as_slice() == word => Some(rest),
+        _ => None,
+    }
+}
+
+/// What follows `:[deadlock free]`, all on one line.
+fn after_deadlock_free(tokens: &[Token]) -> Option<&[Token]>
+    ensures found { IfSome result (λ rest. tokens.now ≡ deadlock_free ++ rest.now) }
+    ensures none { IfNone result ((rest : List TokenValue) → tokens.now ≢ deadlock_free ++ rest) }
+{
+    let Some(rest) = after_symbol(tokens, Symbol::Colon) else {
+        return None;
+    };
+    let Some(rest) = after_symbol(rest, Symbol::OpenBracket) else {
+        return None;
+    };
+    let Some(rest) = after_plain_word(rest, b"deadlock") else {
+        return None;
+    };
+    let Some(rest) = after_plain_word(rest, b"free") else {
+        return None;
+    };
+    after_symbol(rest, Symbol::CloseBracket)
+}
+
+/// The process of the assertion that the tokens are, where nothing follows it.
+fn asserted_process(tokens: &[Token]) -> Option<&Name>
+    ensures found { IfSome result (λ name. (s : ScriptValue) → s.process ≡ name.now → Asserts tokens.now s) }
+    ensures only { (s : ScriptValue) → Asserts tokens.now s → IsSomeAnd result (λ name. name.now ≡ s.process) }
+{
+    let Some(rest) = after_word(tokens, Word::Assert) else {
+        return None;
+    };
+    let Some((name, rest)) = first_name(rest) else {
+        return None;
+    };
+    let Some(rest) = after_deadlock_free(rest) else {
+        return None;
+    };
+    if are_lines(rest) { Some(name) } else { None }
+}
+
+/// Where the first assertion begins, or the number of tokens where none does.
+fn assertion_index(tokens: &[Token]) -> usize
+    ensures value { result ≡ position_or_len begins_assertion tokens.now }
+    ensures within { result ≤ length tokens.now }
+{
+    tokens
+        .iter()
+        .take_while(|token| !matches!(token, Token::Word(Word::Assert)))
+        .count()
+}
+
+/// The channel and the process of the script that the tokens are.
+fn script_names(tokens: &[Token]) -> Option<(&Name, &Name)>
+    ensures found { IfSome result (λ x. IsScript tokens.now (record { channel = x.0.now; process = x.1.now })) }
+    ensures only { (s : ScriptValue) → IsScript tokens.now s → IsSomeAnd result (λ x. (x.0.now ≡ s.channel) × (x.1.now ≡ s.process)) }
+{
+    let (front, rest) = tokens.split_at(assertion_index(tokens));
+    let Some((channel, process)) = declarations(front) else {
+        return None;
+    };
+    let Some(asserted) = asserted_process(rest) else {
+        return None;
+    };
+    if is_same_name(asserted, process) {
+        Some((channel, process))
+    } else {
+        None
+    }
+}
+
+/// The script that the text spells, or `None` where it spells none of the form that is read so far.
+pub fn read_script(alloc: Global, text: &[u8]) -> Result<Option<Script>, NoMemory>
+    // What is found is spelled.
+    ensures found { IfOk result (λ found. IfSome found (Spells text.now)) }
+
+    // Whatever is spelled is found; so a text spells at most one script.
+    ensures only { (s : ScriptValue) → Spells text.now s → IfOk result (λ found. found ≡ Some s) }
+{
+    let Some(tokens) = lex(alloc, text)? else {
+        return Ok(None);
+    };
+    let Some((channel, process)) = script_names(tokens.as_slice()) else {
+        return Ok(None);
+    };
+    let channel = channel.try_clone(alloc)?;
+    let process = process.try_clone(alloc)?;
+    Ok(Some(Script { channel, process }))
 }
