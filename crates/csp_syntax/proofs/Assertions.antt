@@ -40,12 +40,16 @@ parts_are tokens index s index_is_first is = record {
   where
     none : list_any begins_assertion is.front ≡ false
     none = sym (any-joined_lines is.front) ∙ ap (list_any begins_assertion) is.declares.declared
+
     split : tokens ≡ is.front ++ (assertion s ++ is.asserts.back)
     split = is.split ∙ ap (λ l. is.front ++ l) is.asserts.begins
+
     at_front : length is.front ≡ index
     at_front = sym (index_is_first ∙ ap (position_or_len begins_assertion) split ∙ index_is is.front _ none)
+
     front_is : take index tokens ≡ is.front
     front_is = ap (take index) is.split ∙ take_at is.front is.rest index at_front
+
     rest_is : drop index tokens ≡ is.rest
     rest_is = ap (drop index) is.split ∙ drop_at is.front is.rest index at_front
 

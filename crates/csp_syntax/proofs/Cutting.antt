@@ -86,6 +86,7 @@ cut_up_to_token text t rest with_t = record {
   where
     no_blank : begins_blank text ≡ false
     no_blank = begins_no_blank text with_t.piece rest t with_t.longest with_t.is_token
+
     begins : (all : List Token) → Cut text all → (more : List Token) × (all ≡ t ∷ more) × Cut rest more
     begins [] cut = absurd (no_token_in_blanks text t rest with_t cut)
     begins (u ∷ more) cut =

@@ -1,5 +1,5 @@
 -- The longest front of a text that may follow the first letter of a word: name bytes, and then primes.
-use Rattle.std.proofs.Common.{◌≡◌, ℕ, ◌+◌, ◌≤◌, Bool, true, false, cond, List, [], ◌∷◌, ◌++◌, length, take, drop, refl, arith, one-add, ⊎_elim}
+use Rattle.std.proofs.Common.{◌≡◌, ℕ, ◌+◌, ◌≤◌, Bool, true, false, List, [], ◌∷◌, ◌++◌, length, take, drop, refl, arith, one-add, ⊎_elim}
 use Rattle.std.specs.List.{prefix_len, list_all}
 use Rattle.std.proofs.lemmas.Bool.{eqb-true, and_parts, and_from, or_left, or_right, or_cases}
 use Rattle.csp_syntax.specs.Word.{is_name_byte, is_prime, is_word_rest}
@@ -65,11 +65,11 @@ two_parts_longest [] rest h = omega arith
 two_parts_longest (b ∷ word) rest h =
     ⊎_elim
     (λ named.
-        let (name, others) = and_parts _ _ named in
-        let longest = two_parts_longest word rest others in
-        omega (arith, two_parts-pass is_name_byte is_prime b (word ++ rest) name))
+    let (name, others) = and_parts _ _ named in
+    let longest = two_parts_longest word rest others in
+    omega (arith, two_parts-pass is_name_byte is_prime b (word ++ rest) name))
     (λ primes.
-        let (prime, _) = and_parts _ _ primes in
-        let longest = front_longest is_prime (b ∷ word) rest primes in
-        omega (arith, two_parts-fail is_name_byte is_prime b (word ++ rest) (prime_is_no_name_byte b prime)))
+    let (prime, _) = and_parts _ _ primes in
+    let longest = front_longest is_prime (b ∷ word) rest primes in
+    omega (arith, two_parts-fail is_name_byte is_prime b (word ++ rest) (prime_is_no_name_byte b prime)))
     (or_cases _ _ h)

@@ -27,13 +27,13 @@ begins_blank (b ∷ _) = is_blank b
 letter_is_no_blank : (b : ℕ) → is_letter b ≡ true → is_blank b ≡ false
 letter_is_no_blank b letter =
     false_from_ne_true (is_blank b) (λ blank.
-        ⊎_elim
-        (λ two. ⊎_elim
-            (λ (space : eqb b 32 ≡ true). let e : b ≡ 32 = eqb-true b 32 space in both_ways (is_letter 32) refl (subst (λ x. is_letter x ≡ true) e letter))
-            (λ (tab : eqb b 9 ≡ true). let e : b ≡ 9 = eqb-true b 9 tab in both_ways (is_letter 9) refl (subst (λ x. is_letter x ≡ true) e letter))
-            (or_cases _ _ two))
-        (λ (return : eqb b 13 ≡ true). let e : b ≡ 13 = eqb-true b 13 return in both_ways (is_letter 13) refl (subst (λ x. is_letter x ≡ true) e letter))
-        (or_cases _ _ blank))
+    ⊎_elim
+    (λ two. ⊎_elim
+    (λ (space : eqb b 32 ≡ true). let e : b ≡ 32 = eqb-true b 32 space in both_ways (is_letter 32) refl (subst (λ x. is_letter x ≡ true) e letter))
+    (λ (tab : eqb b 9 ≡ true). let e : b ≡ 9 = eqb-true b 9 tab in both_ways (is_letter 9) refl (subst (λ x. is_letter x ≡ true) e letter))
+    (or_cases _ _ two))
+    (λ (return : eqb b 13 ≡ true). let e : b ≡ 13 = eqb-true b 13 return in both_ways (is_letter 13) refl (subst (λ x. is_letter x ≡ true) e letter))
+    (or_cases _ _ blank))
 
 -- how a word begins
 pub word_begins_letter : (word rest : List ℕ) → is_word word ≡ true → begins_letter (word ++ rest) ≡ true
@@ -90,9 +90,9 @@ piece_begins_no_blank piece rest h =
     ⊎_elim
     (λ word. word_begins_no_blank piece rest word)
     (λ mark. ⊎_elim
-        (λ symbol. rw symbol.1 (symbol_begins_no_blank symbol.0 rest))
-        (λ line_end. rw line_end refl)
-        mark)
+    (λ symbol. rw symbol.1 (symbol_begins_no_blank symbol.0 rest))
+    (λ line_end. rw line_end refl)
+    mark)
     h
 
 -- a piece has a byte
@@ -101,9 +101,9 @@ piece_is_not_empty h =
     ⊎_elim
     (λ word. both_ways false refl word)
     (λ mark. ⊎_elim
-        (λ symbol. no_symbol_is_empty symbol.0 symbol.1)
-        (λ line_end. cc)
-        mark)
+    (λ symbol. no_symbol_is_empty symbol.0 symbol.1)
+    (λ line_end. cc)
+    mark)
     h
   where
     no_symbol_is_empty : (symbol : Symbol) → [] ≡ symbol_text symbol → ⊥
@@ -162,14 +162,15 @@ longest_word text len within is_word_there longest = record {
   where
     letter : begins_letter text ≡ true
     letter = ap begins_letter (sym (take-append-drop len text)) ∙ word_begins_letter (take len text) (drop len text) is_word_there
+
     fits : (longer others : List ℕ) → text ≡ longer ++ others → IsPiece longer → length longer ≤ len
     fits longer others split is_piece =
         ⊎_elim
         (λ word. longest longer others split word)
         (λ mark. ⊎_elim
-            (λ symbol. absurd (both_ways (begins_letter text) (ap begins_letter (split ∙ ap (λ l. l ++ others) symbol.1) ∙ symbol_begins_no_letter symbol.0 others) letter))
-            (λ line_end. absurd (both_ways (begins_letter text) (ap begins_letter (split ∙ ap (λ l. l ++ others) line_end)) letter))
-            mark)
+        (λ symbol. absurd (both_ways (begins_letter text) (ap begins_letter (split ∙ ap (λ l. l ++ others) symbol.1) ∙ symbol_begins_no_letter symbol.0 others) letter))
+        (λ line_end. absurd (both_ways (begins_letter text) (ap begins_letter (split ∙ ap (λ l. l ++ others) line_end)) letter))
+        mark)
         is_piece
 
 -- a text begins with one longest piece

@@ -37,7 +37,8 @@ fn short_symbol(b: u8) -> Option<Symbol>
 
 /// The longest symbol that the text begins with.
 fn symbol_at(text: &[u8]) -> Option<Symbol>
-    ensures found { IfSome result (λ symbol. text.now ≡ symbol_text symbol ++ drop (length (symbol_text symbol)) text.now) }
+    ensures found { IfSome result
+        (λ symbol. text.now ≡ symbol_text symbol ++ drop (length (symbol_text symbol)) text.now) }
     ensures longest { (symbol : SymbolValue) (rest : List ℕ) → text.now ≡ symbol_text symbol ++ rest
         → IsSomeAnd result (λ found. length (symbol_text symbol) ≤ length (symbol_text found)) }
 {
@@ -89,7 +90,8 @@ fn mark_at(text: &[u8]) -> Option<(Token, usize)>
     ensures within { IfSome result (λ found. (0 < found.1) × (found.1 ≤ length text.now)) }
 
     // Where there is none, the text begins with no piece but a word.
-    ensures none { IfNone result ((piece rest : List ℕ) → text.now ≡ piece ++ rest → IsPiece piece → IsTrue (is_word piece)) }
+    ensures none { IfNone result
+        ((piece rest : List ℕ) → text.now ≡ piece ++ rest → IsPiece piece → IsTrue (is_word piece)) }
 {
     if text.starts_with(b"\n") {
         return Some((Token::LineEnd, 1));
@@ -104,7 +106,8 @@ fn mark_at(text: &[u8]) -> Option<(Token, usize)>
 fn token_at(alloc: Global, text: &[u8]) -> Result<Option<(Token, usize)>, NoMemory>
     ensures found { IfOk result (λ found. IfSome found (λ x. BeginsWith text.now x.0 (drop x.1 text.now))) }
     ensures within { IfOk result (λ found. IfSome found (λ x. (0 < x.1) × (x.1 ≤ length text.now))) }
-    ensures none { IfOk result (λ found. IfNone found ((token : TokenValue) (rest : List ℕ) → BeginsWith text.now token rest → ⊥)) }
+    ensures none { IfOk result (λ found. IfNone found
+        ((token : TokenValue) (rest : List ℕ) → BeginsWith text.now token rest → ⊥)) }
 {
     let len = word_len(text);
     if len == 0 {
@@ -116,11 +119,17 @@ fn token_at(alloc: Global, text: &[u8]) -> Result<Option<(Token, usize)>, NoMemo
     Ok(Some((token, len)))
 }
 
-/// Passes the blank or the token that the text begins with, and adds the token. The result is what is left of the text.
-fn pass_piece<'a>(alloc: Global, text: &'a [u8], tokens: &mut Vec<Token>) -> Result<Option<&'a [u8]>, NoMemory>
+/// Passes the blank or the token that the text begins with, and adds the token. The result is what
+/// is left of the text, or `None` where it is cut in no way.
+fn pass_piece<'a>(
+    alloc: Global,
+    text: &'a [u8],
+    tokens: &mut Vec<Token>,
+) -> Result<Option<&'a [u8]>, NoMemory>
     requires { 0 < length text.now }
     ensures passed { IfOk result (λ passed. IfSome passed
-        (λ rest. (whole : List ℕ) → IsCutUpTo whole tokens.old.items text.now → IsCutUpTo whole tokens.new.items rest.now)) }
+        (λ rest. (whole : List ℕ) → IsCutUpTo whole tokens.old.items text.now
+        → IsCutUpTo whole tokens.new.items rest.now)) }
     ensures shorter { IfOk result (λ passed. IfSome passed (λ rest. length rest.now < length text.now)) }
     ensures none { IfOk result (λ passed. IfNone passed (HasNoCut text.now)) }
 {

@@ -52,7 +52,8 @@ fn after_symbol(tokens: &[Token], symbol: Symbol) -> Option<&[Token]>
 /// The name at the front, and what follows it.
 fn first_name(tokens: &[Token]) -> Option<(&Name, &[Token])>
     ensures found { IfSome result (λ x. tokens.now ≡ token.Name x.0.now ∷ x.1.now) }
-    ensures none { IfNone result ((name : List ℕ) (rest : List TokenValue) → tokens.now ≢ token.Name name ∷ rest) }
+    ensures none { IfNone result
+        ((name : List ℕ) (rest : List TokenValue) → tokens.now ≢ token.Name name ∷ rest) }
 {
     match tokens.split_first() {
         Some((Token::Name(name), rest)) => Some((name, rest)),
@@ -63,7 +64,8 @@ fn first_name(tokens: &[Token]) -> Option<(&Name, &[Token])>
 /// What follows the word at the front, on this line or a later one.
 fn after_next_word(tokens: &[Token], word: Word) -> Option<&[Token]>
     ensures found { IfSome result (λ rest. joined_lines tokens.now ≡ token.Word word ∷ joined_lines rest.now) }
-    ensures none { IfNone result ((rest : List TokenValue) → joined_lines tokens.now ≢ token.Word word ∷ rest) }
+    ensures none { IfNone result
+        ((rest : List TokenValue) → joined_lines tokens.now ≢ token.Word word ∷ rest) }
 {
     after_word(skip_lines(tokens), word)
 }
@@ -71,15 +73,18 @@ fn after_next_word(tokens: &[Token], word: Word) -> Option<&[Token]>
 /// What follows the symbol at the front, on this line or a later one.
 fn after_next_symbol(tokens: &[Token], symbol: Symbol) -> Option<&[Token]>
     ensures found { IfSome result (λ rest. joined_lines tokens.now ≡ token.Symbol symbol ∷ joined_lines rest.now) }
-    ensures none { IfNone result ((rest : List TokenValue) → joined_lines tokens.now ≢ token.Symbol symbol ∷ rest) }
+    ensures none { IfNone result
+        ((rest : List TokenValue) → joined_lines tokens.now ≢ token.Symbol symbol ∷ rest) }
 {
     after_symbol(skip_lines(tokens), symbol)
 }
 
 /// The name at the front and what follows it, on this line or a later one.
 fn next_name(tokens: &[Token]) -> Option<(&Name, &[Token])>
-    ensures found { IfSome result (λ x. joined_lines tokens.now ≡ token.Name x.0.now ∷ joined_lines x.1.now) }
-    ensures none { IfNone result ((name : List ℕ) (rest : List TokenValue) → joined_lines tokens.now ≢ token.Name name ∷ rest) }
+    ensures found { IfSome result
+        (λ x. joined_lines tokens.now ≡ token.Name x.0.now ∷ joined_lines x.1.now) }
+    ensures none { IfNone result
+        ((name : List ℕ) (rest : List TokenValue) → joined_lines tokens.now ≢ token.Name name ∷ rest) }
 {
     first_name(skip_lines(tokens))
 }
@@ -99,8 +104,11 @@ fn is_same_name(a: &Name, b: &Name) -> bool
 
 /// The channel of `channel c`, and what follows.
 fn channel_declaration(tokens: &[Token]) -> Option<(&Name, &[Token])>
-    ensures found { IfSome result (λ x. joined_lines tokens.now ≡ token.Word Channel ∷ token.Name x.0.now ∷ joined_lines x.1.now) }
-    ensures none { IfNone result ((name : List ℕ) (rest : List TokenValue) → joined_lines tokens.now ≢ token.Word Channel ∷ token.Name name ∷ rest) }
+    ensures found { IfSome result
+        (λ x. joined_lines tokens.now ≡ token.Word Channel ∷ token.Name x.0.now ∷ joined_lines x.1.now) }
+    ensures none { IfNone result
+        ((name : List ℕ) (rest : List TokenValue)
+        → joined_lines tokens.now ≢ token.Word Channel ∷ token.Name name ∷ rest) }
 {
     let Some(rest) = after_next_word(tokens, Word::Channel) else {
         return None;
@@ -137,8 +145,10 @@ fn process_definition(tokens: &[Token]) -> Option<(&Name, &Name, &Name)>
 
 /// The channel and the process of the two declarations.
 fn declarations(tokens: &[Token]) -> Option<(&Name, &Name)>
-    ensures found { IfSome result (λ x. Declares tokens.now (record { channel = x.0.now; process = x.1.now })) }
-    ensures only { (s : ScriptValue) → Declares tokens.now s → IsSomeAnd result (λ x. (x.0.now ≡ s.channel) × (x.1.now ≡ s.process)) }
+    ensures found { IfSome result
+        (λ x. Declares tokens.now (record { channel = x.0.now; process = x.1.now })) }
+    ensures only { (s : ScriptValue) → Declares tokens.now s
+        → IsSomeAnd result (λ x. (x.0.now ≡ s.channel) × (x.1.now ≡ s.process)) }
 {
     let Some((channel, rest)) = channel_declaration(tokens) else {
         return None;
@@ -146,7 +156,10 @@ fn declarations(tokens: &[Token]) -> Option<(&Name, &Name)>
     let Some((defined, event, called)) = process_definition(rest) else {
         return None;
     };
-    if is_same_name(event, channel) && is_same_name(called, defined) && !is_same_name(channel, defined) {
+    if is_same_name(event, channel)
+        && is_same_name(called, defined)
+        && !is_same_name(channel, defined)
+    {
         Some((channel, defined))
     } else {
         None
@@ -186,8 +199,10 @@ fn after_deadlock_free(tokens: &[Token]) -> Option<&[Token]>
 
 /// The process of the assertion that the tokens are, where nothing follows it.
 fn asserted_process(tokens: &[Token]) -> Option<&Name>
-    ensures found { IfSome result (λ name. (s : ScriptValue) → s.process ≡ name.now → Asserts tokens.now s) }
-    ensures only { (s : ScriptValue) → Asserts tokens.now s → IsSomeAnd result (λ name. name.now ≡ s.process) }
+    ensures found { IfSome result
+        (λ name. (s : ScriptValue) → s.process ≡ name.now → Asserts tokens.now s) }
+    ensures only { (s : ScriptValue) → Asserts tokens.now s
+        → IsSomeAnd result (λ name. name.now ≡ s.process) }
 {
     let Some(rest) = after_word(tokens, Word::Assert) else {
         return None;
@@ -214,8 +229,10 @@ fn assertion_index(tokens: &[Token]) -> usize
 
 /// The channel and the process of the script that the tokens are.
 fn script_names(tokens: &[Token]) -> Option<(&Name, &Name)>
-    ensures found { IfSome result (λ x. IsScript tokens.now (record { channel = x.0.now; process = x.1.now })) }
-    ensures only { (s : ScriptValue) → IsScript tokens.now s → IsSomeAnd result (λ x. (x.0.now ≡ s.channel) × (x.1.now ≡ s.process)) }
+    ensures found { IfSome result
+        (λ x. IsScript tokens.now (record { channel = x.0.now; process = x.1.now })) }
+    ensures only { (s : ScriptValue) → IsScript tokens.now s
+        → IsSomeAnd result (λ x. (x.0.now ≡ s.channel) × (x.1.now ≡ s.process)) }
 {
     let (front, rest) = tokens.split_at(assertion_index(tokens));
     let Some((channel, process)) = declarations(front) else {

@@ -36,7 +36,8 @@ fn primes(text: &[u8]) -> usize
 fn word_rest_len(text: &[u8]) -> usize
     ensures within { result ≤ length text.now }
     ensures word { IsTrue (is_word_rest (take result text.now)) }
-    ensures longest { (word rest : List ℕ) → text.now ≡ word ++ rest → IsTrue (is_word_rest word) → length word ≤ result }
+    ensures longest { (word rest : List ℕ) → text.now ≡ word ++ rest → IsTrue (is_word_rest word)
+        → length word ≤ result }
 {
     let names = name_bytes(text);
     names + primes(&text[names..])
@@ -46,11 +47,12 @@ fn word_rest_len(text: &[u8]) -> usize
 pub(crate) fn word_len(text: &[u8]) -> usize
     ensures within { result ≤ length text.now }
     ensures word { 0 < result → IsTrue (is_word (take result text.now)) }
-    ensures longest { (word rest : List ℕ) → text.now ≡ word ++ rest → IsTrue (is_word word) → length word ≤ result }
+    ensures longest { (word rest : List ℕ) → text.now ≡ word ++ rest → IsTrue (is_word word)
+        → length word ≤ result }
 {
     match text.split_first() {
-        Some((first, rest)) => if is_letter(*first) { 1 + word_rest_len(rest) } else { 0 },
-        None => 0,
+        Some((first, rest)) if is_letter(*first) => 1 + word_rest_len(rest),
+        _ => 0,
     }
 }
 

@@ -1,4 +1,4 @@
-use Rattle.std.proofs.Common.{sym, true-eqb}
+use Rattle.std.proofs.Common.{true-eqb}
 use Rattle.csp_syntax.proofs.Cutting.{cut_at_end, cut_is_one}
 use Rattle.csp_syntax.proofs.lexer.lex.Goals as goal
 

@@ -1,6 +1,5 @@
-use Rattle.std.proofs.Common.{◌∷◌, [], ◌++◌, get_or, drop, sym, ◌∙◌, subst, arith, append-nil}
+use Rattle.std.proofs.Common.{sym}
 use Rattle.std.proofs.lemmas.List.{take_rest}
-use Rattle.csp_syntax.specs.Lexing.{HasNoCut, IsCutUpTo}
 use Rattle.csp_syntax.proofs.Cutting.{cut_up_to_blank_at, cut_up_to_more, cut_up_to_token, no_cut_at}
 use Rattle.csp_syntax.proofs.lexer.pass_piece.Goals as goal
 

@@ -9,5 +9,5 @@ use Rattle.csp_syntax.proofs.reader.after_deadlock_free.Goals as goal
 pub returns-in_default-after_plain_word-clause-none : goal.returns-in_default-after_plain_word-clause-none
 returns-in_default-after_plain_word-clause-none c =
     λ rest tokens_are.
-        c.in_default-after_plain_word.ensures.none (Name (codes "free") ∷ Symbol CloseBracket ∷ rest)
-        (past_two _ _ _ _ _ _ c.in-Some.ensures.found c.in-Some-after_symbol.ensures.found tokens_are)
+    c.in_default-after_plain_word.ensures.none (Name (codes "free") ∷ Symbol CloseBracket ∷ rest)
+    (past_two _ _ _ _ _ _ c.in-Some.ensures.found c.in-Some-after_symbol.ensures.found tokens_are)

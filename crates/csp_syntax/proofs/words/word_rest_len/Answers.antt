@@ -1,8 +1,5 @@
-use Rattle.std.proofs.Common.{◌≤◌, length, ap, subst}
-use Rattle.std.specs.List.{prefix_len}
 use Rattle.std.proofs.lemmas.List.{take_rest}
-use Rattle.csp_syntax.specs.Word.{is_name_byte, is_prime}
-use Rattle.csp_syntax.proofs.LongestWord.{two_parts, two_parts_are_word, two_parts_longest}
+use Rattle.csp_syntax.proofs.LongestWord.{two_parts_are_word, two_parts_longest}
 use Rattle.csp_syntax.proofs.words.word_rest_len.Goals as goal
 
 pub returns-clause-word : goal.returns-clause-word
