@@ -1,0 +1,3 @@
+pub mod BlockMembers
+pub mod Rising
+pub mod Words
