@@ -87,3 +87,11 @@ has-events_of n (p ∷ ps) b k r l =
 pub has-events_of_at : (n : ℕ) (ps : List (ℕ × ℕ)) (x : ℕ) → AreBlocksFrom n ps → has (events_of ps) x ≡ has_bit (word_at ps (x / 64)) (x % 64)
 has-events_of_at n ps x r =
     ap (has (events_of ps)) (let e : x ≡ 64 * (x / 64) + x % 64 = omega arith in e) ∙ has-events_of n ps (x / 64) (x % 64) r (omega arith)
+
+-- numbers below 2 ^ 26 leave room for no more blocks
+pub length-blocks : (n : ℕ) (ps : List (ℕ × ℕ)) → AreBlocksFrom n ps → length ps ≤ 2 ^ 26 - n
+length-blocks n [] r = omega arith
+length-blocks n (p ∷ ps) r =
+    let h : n ≤ p.0 = r.0 in
+    let g : p.0 < 2 ^ 26 = r.1 in
+    omega (arith, length-blocks (p.0 + 1) ps r.4)

@@ -1,3 +1,4 @@
 pub mod BlockMembers
+pub mod MergeSteps
 pub mod Rising
 pub mod Words

@@ -1,8 +1,10 @@
 //! Blocks of 64 events: the work of event sets, over slices and vectors of blocks.
 
-ghost use Rattle.std.specs.Prelude.{◌≡◌, ℕ, ◌+◌, ◌*◌, ◌/◌, ◌^◌, ◌<◌, ◌≤◌, List, [], ◌∷◌, ◌++◌, length, take, drop, IfOk, OnOk, OnErr};
+ghost use Rattle.std.specs.Prelude.{◌≡◌, ℕ, ◌+◌, ◌*◌, ◌/◌, ◌^◌, ◌<◌, ◌≤◌, List, [], ◌∷◌, ◌++◌, length, take, drop, true, false, IfOk, OnOk, OnErr};
+ghost use Rattle.std.specs.Bool.{OnTrue, OnFalse};
 ghost use Rattle.csp_base.specs.Blocks.{AreBlocks, AreBlocksFrom, word_at, events_of};
-ghost use Rattle.csp_base.specs.Operations.{combined_of, least_of, first_word, rest_after, with_word, end_from};
+ghost use Rattle.csp_base.specs.Events.{has, is_subset_of, meets_of};
+ghost use Rattle.csp_base.specs.Operations.{combined_of, keeps, least_of, first_word, rest_after, with_word, end_from};
 
 use std::alloc::{AllocError, Global};
 
@@ -70,4 +72,74 @@ fn push_word(blocks: &mut Vec<(u32, u64)>, number: u32, word: u64) -> Result<(),
         blocks.push((number, word))?;
     }
     Ok(())
+}
+
+/// The blocks of the operation on both, in a walk over both.
+pub(crate) fn merged(
+    alloc: Global,
+    operation: Operation,
+    left: &[(u32, u64)],
+    right: &[(u32, u64)],
+) -> Result<Vec<(u32, u64)>, AllocError>
+    requires left_blocks { AreBlocks left.now }
+    requires right_blocks { AreBlocks right.now }
+    ensures blocks { IfOk result (λ made. AreBlocks made.items) }
+    ensures members {
+        IfOk result (λ made. (x : ℕ) → has (events_of made.items) x ≡ keeps operation (has (events_of left.now) x) (has (events_of right.now) x))
+    }
+{
+    let mut made = Vec::new(alloc);
+    let mut first = left;
+    let mut second = right;
+    while first.len() + second.len() > 0 {
+        let number = least_number(first, second);
+        let word = combined(operation, word_at_front(first, number), word_at_front(second, number));
+        push_word(&mut made, number, word)?;
+        first = past_front(first, number);
+        second = past_front(second, number);
+    }
+    Ok(made)
+}
+
+/// Whether the operation on both has a member: a walk over both that ends at the first.
+fn gives_any(operation: Operation, left: &[(u32, u64)], right: &[(u32, u64)]) -> bool
+    requires left_blocks { AreBlocks left.now }
+    requires right_blocks { AreBlocks right.now }
+    ensures found {
+        OnTrue result ((x : ℕ) × (keeps operation (has (events_of left.now) x) (has (events_of right.now) x) ≡ true))
+    }
+    ensures none {
+        OnFalse result ((x : ℕ) → keeps operation (has (events_of left.now) x) (has (events_of right.now) x) ≡ false)
+    }
+{
+    let mut first = left;
+    let mut second = right;
+    while first.len() + second.len() > 0 {
+        let number = least_number(first, second);
+        let word = combined(operation, word_at_front(first, number), word_at_front(second, number));
+        if word != 0 {
+            return true;
+        }
+        first = past_front(first, number);
+        second = past_front(second, number);
+    }
+    false
+}
+
+/// Whether each event of the first is one of the second.
+pub(crate) fn is_subset(left: &[(u32, u64)], right: &[(u32, u64)]) -> bool
+    requires left_blocks { AreBlocks left.now }
+    requires right_blocks { AreBlocks right.now }
+    ensures { result ≡ is_subset_of (events_of left.now) (events_of right.now) }
+{
+    !gives_any(Operation::Diff, left, right)
+}
+
+/// Whether an event of the first is one of the second.
+pub(crate) fn meets(left: &[(u32, u64)], right: &[(u32, u64)]) -> bool
+    requires left_blocks { AreBlocks left.now }
+    requires right_blocks { AreBlocks right.now }
+    ensures { result ≡ meets_of (events_of left.now) (events_of right.now) }
+{
+    gives_any(Operation::Inter, left, right)
 }
