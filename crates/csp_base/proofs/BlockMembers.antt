@@ -30,7 +30,7 @@ word_at_first p ps r = rw (eq-eqb p.0 p.0 refl, word_at_below (p.0 + 1) ps p.0 r
 pub word_at_later : (p : ℕ × ℕ) (ps : List (ℕ × ℕ)) (b : ℕ) → (p.0 ≡ b → ⊥) → word_at (p ∷ ps) b ≡ word_at ps b
 word_at_later p ps b n = rw (ne_eqb p.0 b n) (omega arith)
 
-has_bit-zero : (k : ℕ) → has_bit 0 k ≡ false
+pub has_bit-zero : (k : ℕ) → has_bit 0 k ≡ false
 has_bit-zero k = ap (λ n. n == 1) (bit_at-zero k)
 
 or_false : (a : Bool) → (a || false) ≡ a

@@ -1,4 +1,9 @@
 pub mod BlockMembers
+pub mod Finds
+pub mod Includes
 pub mod MergeSteps
+pub mod OrderLemmas
+pub mod Places
 pub mod Rising
+pub mod Tests
 pub mod Words

@@ -70,11 +70,11 @@ word_at-lt n (p ∷ ps) b r =
     ]
 
 -- the first word is the word at that number, where no number is lower
-first_word-word_at : (n : ℕ) (ps : List (ℕ × ℕ)) → AreBlocksFrom n ps → first_word ps n ≡ word_at ps n
+pub first_word-word_at : (n : ℕ) (ps : List (ℕ × ℕ)) → AreBlocksFrom n ps → first_word ps n ≡ word_at ps n
 first_word-word_at n [] r = refl
 first_word-word_at n (p ∷ ps) r = rw (word_at_below (p.0 + 1) ps n r.4 (let h : n ≤ p.0 = r.0 in omega arith)) (omega arith)
 
-AreBlocksFrom-rest_after : (n : ℕ) (ps : List (ℕ × ℕ)) → AreBlocksFrom n ps → AreBlocksFrom (n + 1) (rest_after ps n)
+pub AreBlocksFrom-rest_after : (n : ℕ) (ps : List (ℕ × ℕ)) → AreBlocksFrom n ps → AreBlocksFrom (n + 1) (rest_after ps n)
 AreBlocksFrom-rest_after n [] r = tt
 AreBlocksFrom-rest_after n (p ∷ ps) r =
     elim (cases_eq p.0 n) [
@@ -82,7 +82,7 @@ AreBlocksFrom-rest_after n (p ∷ ps) r =
       | inr ne ↦ rw (ne_eqb p.0 n ne) ((let h : n ≤ p.0 = r.0 in omega arith), r.1, r.2, r.3, r.4)
     ]
 
-word_at-rest_after : (n : ℕ) (ps : List (ℕ × ℕ)) (b : ℕ) → (n ≡ b → ⊥) → word_at (rest_after ps n) b ≡ word_at ps b
+pub word_at-rest_after : (n : ℕ) (ps : List (ℕ × ℕ)) (b : ℕ) → (n ≡ b → ⊥) → word_at (rest_after ps n) b ≡ word_at ps b
 word_at-rest_after n [] b ne = refl
 word_at-rest_after n (p ∷ ps) b ne =
     elim (cases_eq p.0 n) [

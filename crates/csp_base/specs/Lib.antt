@@ -1,3 +1,4 @@
 pub mod Blocks
 pub mod Events
 pub mod Operations
+pub mod Orders

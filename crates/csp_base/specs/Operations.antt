@@ -1,9 +1,8 @@
 -- Operations on two sets, word by word.
-use Rattle.std.specs.Prelude.{ℕ, ◌+◌, ◌==◌, ◌<◌, nat_lt, bit_and, bit_or, Bool, ◌&&◌, ◌||◌, not, if◌then◌else◌, List, [], ◌∷◌, ◌++◌}
+use Rattle.std.specs.Prelude.{ℕ, ◌+◌, ◌==◌, nat_lt, bit_and, bit_or, Bool, ◌&&◌, ◌||◌, not, if◌then◌else◌, List, [], ◌∷◌, ◌++◌}
 use Rattle.std.specs.Int.{bit_not, w64}
 use Rattle.csp_base.specs.declared.blocks.Operation.{Operation}
 use Rattle.csp_base.specs.declared.blocks.Operation.TheVariants.{Union, Inter, Diff}
-use Rattle.csp_base.specs.Blocks.{word_at, AreBlocksFrom}
 
 -- the word of the result, from the words of both
 abbrev pub combined_of : Operation → ℕ → ℕ → ℕ

@@ -1,7 +1,8 @@
 //! Blocks of 64 events: the work of event sets, over slices and vectors of blocks.
 
-ghost use Rattle.std.specs.Prelude.{◌≡◌, ℕ, ◌+◌, ◌*◌, ◌/◌, ◌^◌, ◌<◌, ◌≤◌, List, [], ◌∷◌, ◌++◌, length, take, drop, true, false, IfOk, OnOk, OnErr};
+ghost use Rattle.std.specs.Prelude.{◌≡◌, ◌==◌, ◌||◌, nat_le, ℕ, ◌+◌, ◌≤◌, List, [], ◌∷◌, ◌++◌, length, take, drop, true, false, IfOk, OnOk, OnErr};
 ghost use Rattle.std.specs.Bool.{OnTrue, OnFalse};
+ghost use Rattle.std.specs.List.{find};
 ghost use Rattle.csp_base.specs.Blocks.{AreBlocks, AreBlocksFrom, word_at, events_of};
 ghost use Rattle.csp_base.specs.Events.{has, is_subset_of, meets_of};
 ghost use Rattle.csp_base.specs.Operations.{combined_of, keeps, least_of, first_word, rest_after, with_word, end_from};
@@ -142,4 +143,102 @@ pub(crate) fn meets(left: &[(u32, u64)], right: &[(u32, u64)]) -> bool
     ensures { result ≡ meets_of (events_of left.now) (events_of right.now) }
 {
     gives_any(Operation::Inter, left, right)
+}
+
+/// The first place whose block has that number or a higher one, by binary search.
+fn place_of(blocks: &[(u32, u64)], number: u32) -> usize
+    requires { AreBlocks blocks.now }
+    ensures within { result ≤ length blocks.now }
+    ensures before { end_from 0 (take result blocks.now) ≤ number }
+    ensures after { AreBlocksFrom number (drop result blocks.now) }
+{
+    let mut low = 0;
+    let mut high = blocks.len();
+    while low < high {
+        let middle = low + (high - low) / 2;
+        if blocks[middle].0 < number {
+            low = middle + 1;
+        } else {
+            high = middle;
+        }
+    }
+    low
+}
+
+/// The blocks from that number on.
+fn blocks_from(blocks: &[(u32, u64)], number: u32) -> &[(u32, u64)]
+    requires { AreBlocks blocks.now }
+    ensures after { AreBlocksFrom number result.now }
+    ensures words { (b : ℕ) → number ≤ b → word_at result.now b ≡ word_at blocks.now b }
+{
+    let place = place_of(blocks, number);
+    &blocks[place..]
+}
+
+/// Whether the event is a member.
+pub(crate) fn contains(blocks: &[(u32, u64)], event: u32) -> bool
+    requires { AreBlocks blocks.now }
+    ensures { result ≡ has (events_of blocks.now) event }
+{
+    let number = event / 64;
+    let word = word_at_front(blocks_from(blocks, number), number);
+    (word >> (event % 64)) & 1 == 1
+}
+
+/// How many events there are.
+pub(crate) fn count(blocks: &[(u32, u64)]) -> usize
+    requires { AreBlocks blocks.now }
+    ensures { result ≡ length (events_of blocks.now) }
+{
+    let mut total = 0;
+    for block in blocks {
+        total += block.1.count_ones() as usize;
+    }
+    total
+}
+
+/// The first event of all.
+fn first_event(blocks: &[(u32, u64)]) -> Option<u32>
+    requires { AreBlocks blocks.now }
+    ensures { result ≡ find (nat_le 0) (events_of blocks.now) }
+{
+    if blocks.is_empty() {
+        return None;
+    }
+    Some(blocks[0].0 * 64 + blocks[0].1.trailing_zeros())
+}
+
+/// The first event that is not below the given one.
+pub(crate) fn first_from(blocks: &[(u32, u64)], event: u32) -> Option<u32>
+    requires { AreBlocks blocks.now }
+    ensures { result ≡ find (nat_le event) (events_of blocks.now) }
+{
+    let number = event / 64;
+    let rest = blocks_from(blocks, number);
+    let word = word_at_front(rest, number) & (u64::MAX << (event % 64));
+    if word != 0 {
+        return Some(number * 64 + word.trailing_zeros());
+    }
+    first_event(past_front(rest, number))
+}
+
+/// Adds an event, where it isn't there yet. An error changes nothing.
+pub(crate) fn include(blocks: &mut Vec<(u32, u64)>, event: u32) -> Result<(), AllocError>
+    requires { AreBlocks blocks.old.items }
+    ensures blocks { AreBlocks blocks.new.items }
+    ensures members {
+        OnOk result ((x : ℕ) → has (events_of blocks.new.items) x ≡ (event == x || has (events_of blocks.old.items) x))
+    }
+    ensures err { OnErr result (blocks.new.items ≡ blocks.old.items) }
+{
+    let number = event / 64;
+    let bit = 1 << (event % 64);
+    let place = place_of(blocks, number);
+    let word = word_at_front(&blocks[place..], number);
+    if word != 0 {
+        blocks[place] = (number, word | bit);
+    } else {
+        blocks.insert(place, (number, bit))?;
+    }
+    Ok(())
 }
