@@ -21,7 +21,7 @@ use Rattle.csp_base.proofs.Words.{length-word_events}
 
 -- ---- how many
 
-half_lt : (n w : ℕ) → w < 2 ^ suc n → w / 2 < 2 ^ n
+pub half_lt : (n w : ℕ) → w < 2 ^ suc n → w / 2 < 2 ^ n
 half_lt n w l = shr_lt n 1 (subst (λ k. w < 2 ^ k) (sym (add-one n)) l)
 
 ones_in-ones : (n w : ℕ) → w < 2 ^ n → ones_in n w ≡ ones w

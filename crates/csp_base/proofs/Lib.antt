@@ -1,9 +1,11 @@
 pub mod BlockMembers
+pub mod BlocksOf
 pub mod Finds
 pub mod Includes
 pub mod MergeSteps
 pub mod OrderLemmas
 pub mod Places
 pub mod Rising
+pub mod Sets
 pub mod Tests
 pub mod Words

@@ -281,7 +281,7 @@ order_nil : (xs : List ℕ) (z : ℕ) → has xs z ≡ true → (slice_cmp nat_c
 order_nil [] z h = absurd (false≢true h)
 order_nil (x ∷ xs) z h = (refl, refl)
 
-some_event : (p : ℕ × ℕ) (ps : List (ℕ × ℕ)) → AreBlocksFrom 0 (p ∷ ps) → (z : ℕ) × (has (events_of (p ∷ ps)) z ≡ true)
+pub some_event : (p : ℕ × ℕ) (ps : List (ℕ × ℕ)) → AreBlocksFrom 0 (p ∷ ps) → (z : ℕ) × (has (events_of (p ∷ ps)) z ≡ true)
 some_event p ps r =
     let positive : 0 < p.1 = r.2 in
     let bit = bit_of_word p.1 (omega arith) r.3 in

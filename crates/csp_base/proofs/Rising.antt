@@ -8,7 +8,7 @@ use Rattle.std.specs.List.{filter, find, list_any}
 use Rattle.std.specs.Prelude.{◌==◌}
 use Rattle.std.proofs.lemmas.List.Folds.{list_any-append}
 use Rattle.std.proofs.lemmas.Map.Views.{any-filter_same}
-use Rattle.csp_base.specs.Events.{has, with_member, union_of, inter_of, diff_of, is_subset_of, meets_of}
+use Rattle.csp_base.specs.Events.{has, with_member, union_of, set_of, inter_of, diff_of, is_subset_of, meets_of}
 
 -- the list rises strictly, from the given number on
 abbrev pub RisesFrom : ℕ → List ℕ → Type 0
@@ -240,3 +240,10 @@ find_from_none (y ∷ ys) e none =
       | inl g ↦ rw (lt-leb e y g) (find_from_none ys e (λ z q. (or_parts (eqb y z) (has ys z) (none z q)).1))
       | inr g ↦ absurd (false≢true (sym (none y g) ∙ has_first y ys))
     ]
+
+pub set_of_from_members : (xs zs : List ℕ) → RisesFrom 0 zs → ((x : ℕ) → has zs x ≡ has xs x) → zs ≡ set_of xs
+set_of_from_members xs zs s h = union_of_from_members xs [] zs tt s (λ x. h x ∙ or_none (has xs x))
+  where
+    or_none : (b : Bool) → b ≡ (b || false)
+    or_none true = refl
+    or_none false = refl

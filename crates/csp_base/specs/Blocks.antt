@@ -32,3 +32,13 @@ AreBlocksFrom least (p ∷ ps) =
 -- what is true of the blocks of each event set
 abbrev pub AreBlocks : List (ℕ × ℕ) → Type 0
 AreBlocks ps = AreBlocksFrom 0 ps
+
+-- the blocks with one more bit in the block of that number, which comes before all others
+abbrev pub with_bit : ℕ → ℕ → List (ℕ × ℕ) → List (ℕ × ℕ)
+with_bit number bit [] = (number, bit) ∷ []
+with_bit number bit (p ∷ ps) = if number == p.0 then (number, bit + p.1) ∷ ps else (number, bit) ∷ p ∷ ps
+
+-- the blocks of a rising list of events
+abbrev pub blocks_of : List ℕ → List (ℕ × ℕ)
+blocks_of [] = []
+blocks_of (x ∷ xs) = with_bit (x / 64) (2 ^ (x % 64)) (blocks_of xs)

@@ -2,3 +2,4 @@ pub mod Blocks
 pub mod Events
 pub mod Operations
 pub mod Orders
+pub mod SetHash

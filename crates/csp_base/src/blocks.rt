@@ -1,12 +1,14 @@
 //! Blocks of 64 events: the work of event sets, over slices and vectors of blocks.
 
-ghost use Rattle.std.specs.Prelude.{◌≡◌, ◌==◌, ◌||◌, nat_le, ℕ, ◌+◌, ◌≤◌, List, [], ◌∷◌, ◌++◌, length, take, drop, true, false, IfOk, OnOk, OnErr};
+ghost use Rattle.std.specs.Prelude.{◌≡◌, ◌==◌, ◌||◌, nat_eq, nat_le, ℕ, ◌+◌, ◌≤◌, List, [], ◌∷◌, ◌++◌, length, take, drop, true, false, IfOk, OnOk, OnErr};
 ghost use Rattle.std.specs.Bool.{OnTrue, OnFalse};
+ghost use Rattle.std.specs.Cmp.Lexicographic.{pointwise};
 ghost use Rattle.std.specs.List.{find};
 ghost use Rattle.csp_base.specs.Blocks.{AreBlocks, AreBlocksFrom, word_at, events_of};
 ghost use Rattle.csp_base.specs.Events.{has, is_subset_of, meets_of};
 ghost use Rattle.csp_base.specs.Operations.{combined_of, keeps, least_of, first_word, rest_after, with_word, end_from};
 
+use crate::event_set::Event;
 use std::alloc::{AllocError, Global};
 
 /// An operation on two sets.
@@ -241,4 +243,25 @@ pub(crate) fn include(blocks: &mut Vec<(u32, u64)>, event: u32) -> Result<(), Al
         blocks.insert(place, (number, bit))?;
     }
     Ok(())
+}
+
+/// Whether both lists have the same events.
+pub(crate) fn same(left: &[(u32, u64)], right: &[(u32, u64)]) -> bool
+    requires left_blocks { AreBlocks left.now }
+    requires right_blocks { AreBlocks right.now }
+    ensures { result ≡ pointwise nat_eq (events_of left.now) (events_of right.now) }
+{
+    left == right
+}
+
+/// The blocks of the given events, in any order.
+pub(crate) fn collected(alloc: Global, events: &[Event]) -> Result<Vec<(u32, u64)>, AllocError>
+    ensures blocks { IfOk result (λ made. AreBlocks made.items) }
+    ensures members { IfOk result (λ made. (x : ℕ) → has (events_of made.items) x ≡ has events.now x) }
+{
+    let mut made = Vec::new(alloc);
+    for event in events {
+        include(&mut made, event.0)?;
+    }
+    Ok(made)
 }
