@@ -2,6 +2,7 @@ pub mod BlockMembers
 pub mod BlocksOf
 pub mod Finds
 pub mod Includes
+pub mod LowestBit
 pub mod MergeSteps
 pub mod OrderLemmas
 pub mod Places

@@ -75,3 +75,8 @@ length-word_events (suc n) from w =
     length_of_word (has_bit w 0) from (word_events n (from + 1) (w / 2))
     ∙ ap (λ d. d + length (word_events n (from + 1) (w / 2))) (bit_count w)
     ∙ ap (λ d. w % 2 + d) (length-word_events n (from + 1) (w / 2))
+
+pub word_events-zero : (n from : ℕ) → word_events n from 0 ≡ []
+unfolding word_events
+word_events-zero zero from = refl
+word_events-zero (suc n) from = word_events-zero n (from + 1)

@@ -16,6 +16,7 @@ ghost use Rattle.csp_base.specs.Events.{has, with_member, union_of, set_of, inte
 use crate::block_order;
 use crate::blocks;
 use crate::blocks::Operation;
+use crate::members::Members;
 use crate::no_memory::NoMemory;
 use std::alloc::Global;
 use std::cmp::Ordering;
@@ -127,6 +128,13 @@ impl EventSet {
             Some(number) => Some(Event(number)),
             None => None,
         }
+    }
+
+    /// The members in rising order.
+    pub fn iter(&self) -> Members<'_>
+        ensures { result ≡ self.now }
+    {
+        Members::new(&self.blocks)
     }
 
     /// The members of either set.

@@ -5,8 +5,14 @@ mod block_order;
 mod blocks;
 pub mod bytes;
 pub mod event_set;
+pub mod members;
 pub mod no_memory;
+pub mod place;
+pub mod trace;
 
 pub use bytes::{Bytes, Name};
 pub use event_set::{Event, EventSet};
+pub use members::Members;
 pub use no_memory::NoMemory;
+pub use place::Place;
+pub use trace::Trace;
