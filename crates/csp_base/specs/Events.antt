@@ -1,11 +1,8 @@
 -- Sets of events as contracts see them: strictly rising lists of numbers.
--- `has` says which numbers are members, and the functions below it give the exact list of an operation.
+-- `has` says which numbers are members (`Members`), and the functions below it give the exact list of an operation.
 use Rattle.std.specs.Prelude.{ℕ, ◌==◌, nat_lt, Bool, not, if◌then◌else◌, List, [], ◌∷◌}
 use Rattle.std.specs.List.{list_any, list_all, filter}
-
--- whether the number is one of the list
-abbrev pub has : List ℕ → ℕ → Bool
-has xs x = list_any (λ y. y == x) xs
+pub use Rattle.csp_base.specs.Members.{has}
 
 -- the rising list with one more member, or the same where it is there already
 abbrev pub with_member : ℕ → List ℕ → List ℕ

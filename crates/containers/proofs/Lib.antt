@@ -1,0 +1,4 @@
+pub mod FoundLemmas
+pub mod MembersLemmas
+pub mod NumberingLemmas
+pub mod SameLemmas

@@ -1,0 +1,160 @@
+ghost use Rattle.std.specs.Prelude.{◌≡◌, ◌<◌, ◌^◌, ◌↔◌, false, [], ◌∷◌, ◌++◌, length, position, slice_get, IsTrue, IfOk, IfSome, is_some, OnOk, OnErr};
+ghost use Rattle.std.specs.List.{IsDistinct, position_or_len};
+ghost use Rattle.std.specs.Option.{option_copied};
+ghost use Rattle.std.specs.Set.{is_member};
+ghost use Rattle.containers.specs.Members.{with_new};
+
+use crate::Exact;
+use indexmap::IndexSet;
+use std::alloc::{AllocError, Global};
+use std::hash::Hash;
+use std::marker::Model;
+
+/// Values numbered from 0 on in the order in which they are first seen, fewer than 2^32 of them.
+///
+/// Contracts see it as the list of its values, in which no value stands twice. A value is found by its hash.
+#[derive(Debug, Drop)]
+pub struct Numbering<T: Eq + Hash> {
+    values: IndexSet<T>,
+}
+
+impl<T: Eq + Hash> Model for Numbering<T> {
+    ghost use Rattle.std.specs.Prelude.{List, ◌<◌, ◌^◌, length};
+    ghost use Rattle.std.specs.Coded.{coded_list};
+
+    ghost Value = { List T };
+
+    ghost coded = { coded_list T.code };
+
+    ghost view = { λ n. n.values.keys };
+
+    ghost invariant = { λ n. length n.values.keys < 2 ^ 32 };
+}
+
+impl<T: Eq + Hash> Numbering<T> {
+    /// No value has a number.
+    pub fn new(alloc: Global) -> Numbering<T>
+        ensures { result ≡ [] }
+    {
+        Numbering {
+            values: IndexSet::new(alloc),
+        }
+    }
+
+    /// How many values have a number.
+    pub fn len(&self) -> usize
+        ensures value { result ≡ length self.now }
+        ensures small { result < 2 ^ 32 }
+    {
+        self.values.len()
+    }
+
+    /// Whether no value has a number.
+    pub fn is_empty(&self) -> bool
+        ensures { IsTrue result ↔ (self.now ≡ []) }
+    {
+        self.as_slice().is_empty()
+    }
+
+    /// The value with the number `place`.
+    pub fn get(&self, place: usize) -> Option<&T>
+        ensures { option_copied result ≡ slice_get self.now place }
+    {
+        self.values.get_index(place)
+    }
+
+    /// The values in the order of their numbers.
+    pub fn as_slice(&self) -> &[T]
+        ensures value { result.now ≡ self.now }
+        ensures distinct { IsDistinct T.eq self.now }
+        ensures small { length self.now < 2 ^ 32 }
+    {
+        self.values.as_slice()
+    }
+}
+
+impl<T: Exact + Hash + Drop> Numbering<T> {
+    /// The number of `x`, if it has one.
+    pub fn find(&self, x: &T) -> Option<u32>
+        ensures first { result ≡ position (T.eq x.now) self.now }
+        ensures found { IfSome result (λ place. slice_get self.now place ≡ Some x.now) }
+        ensures known { is_some result ≡ is_member T.eq self.now x.now }
+    {
+        find_in(&self.values, x)
+    }
+
+    /// The number of `x`, which is the next one where `x` has none yet.
+    pub fn number(&mut self, x: T) -> Result<u32, AllocError>
+        ensures list { OnOk result (self.new ≡ with_new T.eq self.old x) }
+        ensures first { IfOk result (λ place. place ≡ position_or_len (T.eq x) self.old) }
+        ensures place { IfOk result (λ place. slice_get self.new place ≡ Some x) }
+
+        // A known value needs no memory. With 2^32 - 1 values there is none for another.
+        ensures err { OnErr result (self.new ≡ self.old) }
+        ensures err_only_new { OnErr result (is_member T.eq self.old x ≡ false) }
+    {
+        number_in(&mut self.values, x)
+    }
+}
+
+// The place of x among the values.
+fn find_in<T: Exact + Hash>(values: &IndexSet<T>, x: &T) -> Option<u32>
+    requires { length values.now.keys < 2 ^ 32 }
+    ensures first { result ≡ position (T.eq x.now) values.now.keys }
+    ensures found { IfSome result (λ place. slice_get values.now.keys place ≡ Some x.now) }
+    ensures known { is_some result ≡ is_member T.eq values.now.keys x.now }
+{
+    match values.get_full(x) {
+        Some((place, _)) => Some(place as u32),
+        None => None,
+    }
+}
+
+// The place of x among the values, at whose end it goes where it is new.
+fn number_in<T: Exact + Hash + Drop>(values: &mut IndexSet<T>, x: T) -> Result<u32, AllocError>
+    requires { length values.old.keys < 2 ^ 32 }
+    ensures list { OnOk result (values.new.keys ≡ with_new T.eq values.old.keys x) }
+    ensures first { IfOk result (λ place. place ≡ position_or_len (T.eq x) values.old.keys) }
+    ensures place { IfOk result (λ place. slice_get values.new.keys place ≡ Some x) }
+    ensures err { OnErr result (values.new.keys ≡ values.old.keys) }
+    ensures err_only_new { OnErr result (is_member T.eq values.old.keys x ≡ false) }
+    ensures small { length values.new.keys < 2 ^ 32 }
+{
+    if values.len() == u32::MAX as usize {
+        return match find_in(values, &x) {
+            Some(place) => Ok(place),
+            None => Err(AllocError),
+        };
+    }
+    let (place, _) = values.insert_full(x)?;
+    Ok(place as u32)
+}
+
+#[cfg(test)]
+mod tests {
+    use super::Numbering;
+    use crate::Items;
+    use std::test::Fail;
+
+    #[test]
+    fn numbers_lists_as_first_seen(rt: HostRuntime) -> Result<(), Fail> {
+        let alloc = rt.alloc();
+        let lists: [&[u32]; 6] = [&[1, 2], &[], &[1, 2], &[2, 1], &[], &[1]];
+        let mut numbering = Numbering::new(alloc);
+        assert!(rt; numbering.is_empty());
+        for (numbers, place) in lists.iter().zip([0, 1, 0, 2, 1, 3]) {
+            let list = Items::from_slice(alloc, *numbers)?;
+            assert_eq!(rt; numbering.number(list)?, place, "at {numbers:?}");
+        }
+        assert_eq!(rt; numbering.len(), 4);
+        assert_eq!(rt; numbering.as_slice().len(), 4);
+        assert_eq!(rt;
+            numbering.find(&Items::from_slice(alloc, &[2, 1])?),
+            Some(2)
+        );
+        assert_eq!(rt; numbering.find(&Items::from_slice(alloc, &[2])?), None);
+        assert!(rt; numbering.get(3) == Some(&Items::from_slice(alloc, &[1])?));
+        assert!(rt; numbering.get(4).is_none());
+        Ok(())
+    }
+}

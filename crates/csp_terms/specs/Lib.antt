@@ -1,0 +1,4 @@
+pub mod Network
+pub mod Program
+pub mod Step
+pub mod Term

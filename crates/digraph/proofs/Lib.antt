@@ -1,0 +1,12 @@
+pub mod Arcs
+pub mod WalkLaws
+pub mod HeightLaws
+mod RowVectors
+mod Writes
+mod Entering
+mod Raising
+mod Finishing
+mod Looking
+mod Ending
+mod Turning
+mod Reaching

@@ -1,0 +1,24 @@
+use crate::circles::Circle;
+use std::alloc::AllocError;
+
+/// Why a digraph has no heights, or none were found.
+#[derive(Debug, Drop, thiserror::Error)]
+pub enum Fault {
+    /// Memory ran out.
+    #[error("out of memory")]
+    NoMemory,
+    /// Walks can go round a circle, so some have no end.
+    #[error("the arcs go round in a circle")]
+    Circle(Circle),
+}
+
+impl From<AllocError> for Fault {
+    ghost use Rattle.std.specs.Prelude.{◌≡◌};
+    ghost use Rattle.digraph.specs.declared.fault.Fault.TheVariants.{NoMemory};
+
+    ghost from_gives = { λ _ fault. fault ≡ NoMemory };
+
+    fn from(_error: AllocError) -> Fault {
+        Fault::NoMemory
+    }
+}

@@ -1,0 +1,19 @@
+//! Digraphs as rows of targets: the longest walk from each vertex or a circle, and the vertices that walks reach.
+#![tactic(auto)]
+
+mod circles;
+mod fault;
+mod heights;
+mod reach;
+mod rows;
+mod walks;
+
+pub use circles::Circle;
+pub use fault::Fault;
+pub use heights::Heights;
+pub use reach::reachable_from;
+pub use rows::Rows;
+pub use walks::longest_walks;
+
+#[cfg(test)]
+mod tests;

@@ -1,0 +1,9 @@
+pub mod Count
+pub mod Texts
+pub mod Load
+pub mod Write
+pub mod FaultPlan
+pub mod MemoryDevices
+pub mod QuietShelf
+pub mod FileShelf
+pub mod StdSink

@@ -1,0 +1,53 @@
+//! Calls of a device in memory that are planned to fail.
+
+ghost use Rattle.std.specs.Prelude.{◌≡◌, ◌<◌, ◌^◌, []};
+ghost use Rattle.dl_outside.specs.FaultPlan.{FaultPlan, fails_next, after_call};
+
+use crate::count::raised;
+use std::marker::Model;
+
+/// The numbers of the calls that are to fail, and how many calls there were and failed.
+#[derive(Debug, Drop)]
+pub(crate) struct PlannedFaults {
+    failing: Vec<u32>,
+    calls: u32,
+    fault_count: u64,
+}
+
+impl Model for PlannedFaults {
+    ghost use Rattle.std.specs.Prelude.{◌≤◌};
+    ghost use Rattle.dl_outside.specs.FaultPlan.{FaultPlan};
+
+    ghost Value = { FaultPlan };
+
+    ghost view = { λ p. record { failing = p.failing.items; calls = p.calls; faults = p.fault_count } };
+
+    ghost invariant = { λ p. p.fault_count ≤ p.calls };
+}
+
+impl PlannedFaults {
+    /// A plan in which no call was made yet.
+    pub(crate) fn new(failing: Vec<u32>) -> Self
+        ensures { result ≡ record { failing = failing.items; calls = 0; faults = 0 } }
+    {
+        PlannedFaults {
+            failing,
+            calls: 0,
+            fault_count: 0,
+        }
+    }
+
+    /// Counts one more call, and says whether it fails.
+    pub(crate) fn next_call(&mut self) -> bool
+        ensures fails { result ≡ fails_next self.old }
+        ensures after { self.new ≡ after_call self.old }
+        ensures small { self.new.faults < 2 ^ 32 }
+    {
+        self.calls = self.calls.saturating_add(1);
+        let fails = self.calls < u32::MAX && self.failing.contains(&self.calls);
+        if fails {
+            self.fault_count = raised(self.fault_count);
+        }
+        fails
+    }
+}

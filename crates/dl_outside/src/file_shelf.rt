@@ -1,0 +1,147 @@
+//! The shelf of the system's files. That a file holds what its reads give is trusted, and no part of any proof.
+
+ghost use Rattle.std.specs.Prelude.{◌≡◌, ◌≢◌, ◌≤◌, length, None};
+ghost use Rattle.std.specs.Str.{IsUtf8};
+ghost use Rattle.dl_outside.specs.FileShelf.{OpenAnswers, ReadAnswers, FileAnswers};
+
+use crate::count::raised;
+use crate::shelf::{LoadFault, Shelf};
+use csp_base::Bytes;
+use std::alloc::Global;
+use std::fs::File;
+use std::io::{ErrorKind, Read};
+use std::marker::Model;
+use std::rt::Files;
+
+/// The system's files, and the counts of the errors that were met and of the bytes that were read.
+pub struct FileShelf<'a, R> {
+    files: &'a R,
+    fault_count: u64,
+    taken_count: u64,
+}
+
+impl<'a, R> Model for FileShelf<'a, R> {
+    ghost use Rattle.dl_outside.specs.FileShelf.{FileCounts};
+
+    ghost Value = { FileCounts };
+
+    ghost view = { λ s. record { faults = s.fault_count; taken = s.taken_count } };
+}
+
+impl<R> Drop for FileShelf<'_, R> {
+    fn drop(self) {
+        let FileShelf {
+            files: _,
+            fault_count: _,
+            taken_count: _,
+        } = self;
+    }
+}
+
+/// Opens the file of this name. A name that is no text is that of no file.
+fn open_file<R: Files>(files: &R, name: &[u8], faults: &mut u64) -> Result<R::File, LoadFault>
+    ensures answer { OpenAnswers faults.old faults.new result }
+    ensures never_falls { faults.old ≤ faults.new }
+    ensures no_text { ¬ (IsUtf8 name.now) → result ≡ Err LoadFault.Missing }
+{
+    let Ok(path) = str::from_utf8(name) else {
+        *faults = raised(*faults);
+        return Err(LoadFault::Missing);
+    };
+    match File::open(files, path) {
+        Ok(file) => Ok(file),
+        Err(error) => {
+            *faults = raised(*faults);
+            if error.kind() == ErrorKind::NotFound {
+                Err(LoadFault::Missing)
+            } else {
+                Err(LoadFault::Failed)
+            }
+        }
+    }
+}
+
+/// Appends what one read gives, and answers how many bytes that are: none at the end.
+fn read_piece<R: Read>(
+    reader: &mut R,
+    text: &mut Bytes,
+    faults: &mut u64,
+    taken: &mut u64,
+) -> Result<usize, LoadFault>
+    ensures answer { ReadAnswers (length text.old) (length text.new)
+        (record { faults = faults.old; taken = taken.old }) (record { faults = faults.new; taken = taken.new }) result }
+    ensures never_falls { faults.old ≤ faults.new }
+{
+    let mut piece = [0u8; 4096];
+    let Ok(count) = reader.read(&mut piece) else {
+        *faults = raised(*faults);
+        return Err(LoadFault::Failed);
+    };
+    let Some(counted) = taken.checked_add(count as u64) else {
+        *faults = raised(*faults);
+        return Err(LoadFault::Failed);
+    };
+    *taken = counted;
+    text.extend_from_slice(&piece[..count])?;
+    Ok(count)
+}
+
+/// Reads to the end, or until more than `limit` bytes are there.
+pub(crate) fn read_text<R: Read>(
+    alloc: Global,
+    reader: &mut R,
+    limit: u32,
+    faults: &mut u64,
+    taken: &mut u64,
+) -> Result<Bytes, LoadFault>
+    ensures answer { FileAnswers (record { faults = faults.old; taken = taken.old })
+        (record { faults = faults.new; taken = taken.new }) limit result }
+    ensures not_missing { result ≢ Err LoadFault.Missing }
+    ensures faults_never_fall { faults.old ≤ faults.new }
+    ensures taken_never_falls { taken.old ≤ taken.new }
+{
+    let mut text = Bytes::new(alloc);
+    while text.len() <= limit as usize {
+        if read_piece(reader, &mut text, faults, taken)? == 0 {
+            return Ok(text);
+        }
+    }
+    Err(LoadFault::TooLong)
+}
+
+impl<'a, R> FileShelf<'a, R> {
+    /// The shelf of these files. Nothing was loaded from it yet.
+    pub fn new(files: &'a R) -> Self
+        ensures { result ≡ record { faults = 0; taken = 0 } }
+    {
+        FileShelf {
+            files,
+            fault_count: 0,
+            taken_count: 0,
+        }
+    }
+}
+
+impl<R: Files> Shelf for FileShelf<'_, R> {
+    ghost texts = { λ _. None };
+
+    ghost faults = { λ s. s.faults };
+
+    ghost taken = { λ s. s.taken };
+
+    fn load(&mut self, alloc: Global, name: &[u8], limit: u32) -> Result<Bytes, LoadFault>
+        ensures answer { FileAnswers self.old self.new limit result }
+        ensures faults_never_fall { self.old.faults ≤ self.new.faults }
+        ensures taken_never_falls { self.old.taken ≤ self.new.taken }
+        ensures no_text { ¬ (IsUtf8 name.now) → result ≡ Err LoadFault.Missing }
+    {
+        let mut file = open_file(self.files, name, &mut self.fault_count)?;
+        read_text(
+            alloc,
+            &mut file,
+            limit,
+            &mut self.fault_count,
+            &mut self.taken_count,
+        )
+    }
+}

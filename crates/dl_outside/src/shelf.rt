@@ -1,0 +1,53 @@
+//! What the checker asks of the place that scripts are loaded from.
+
+ghost use Rattle.std.specs.Prelude.{◌≡◌, ◌+◌, ◌<◌, ◌≤◌, ℕ, List, Option};
+ghost use Rattle.dl_outside.specs.Count.{HasRisen};
+ghost use Rattle.dl_outside.specs.Load.{LoadAnswers};
+ghost use Rattle.dl_outside.specs.declared.texts.NamedText.{NamedText};
+
+use csp_base::{Bytes, NoMemory};
+use std::alloc::Global;
+
+/// Why a text wasn't loaded.
+#[derive(Clone, Copy, Debug, PartialEq, Eq, Drop, thiserror::Error)]
+pub enum LoadFault {
+    #[error("there is no text of that name")]
+    Missing,
+    #[error("the text is too long")]
+    TooLong,
+    #[error("the text could not be read")]
+    Failed,
+    #[error("out of memory")]
+    NoMemory,
+}
+
+impl From<NoMemory> for LoadFault {
+    ghost use Rattle.std.specs.Prelude.{◌≡◌};
+    ghost use Rattle.dl_outside.specs.declared.shelf.LoadFault.TheVariants.{NoMemory as OutOfMemory};
+
+    ghost from_gives = { λ _ fault. fault ≡ OutOfMemory };
+
+    fn from(_error: NoMemory) -> Self {
+        LoadFault::NoMemory
+    }
+}
+
+/// A place that holds texts under names.
+pub trait Shelf {
+    // The texts that it holds, where it tells them: of one name the first.
+    ghost texts: { Self → Option (List NamedText) };
+
+    // How many faults it has had, up to the last value of a `u64`.
+    ghost faults: { Self → ℕ };
+
+    // How many bytes its loads have taken. A shelf that tells its texts may leave it at 0.
+    ghost taken: { Self → ℕ };
+
+    /// The text of this name, if it has at most `limit` bytes.
+    fn load(&mut self, alloc: Global, name: &[u8], limit: u32) -> Result<Bytes, LoadFault>
+        ensures answer { LoadAnswers (texts self.old) name.now limit
+            (HasRisen (faults self.old) (faults self.new)) (taken self.old + limit < taken self.new) result }
+        ensures texts_stay { texts self.new ≡ texts self.old }
+        ensures faults_never_fall { faults self.old ≤ faults self.new }
+        ensures taken_never_falls { taken self.old ≤ taken self.new };
+}

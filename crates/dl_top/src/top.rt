@@ -1,0 +1,65 @@
+//! The top call, and what it promises.
+
+ghost use Rattle.std.specs.Prelude.{◌≡◌, ◌≢◌, ◌≤◌, IfSome};
+ghost use Rattle.dl_outside.specs.Count.{HasRisen};
+ghost use Rattle.dl_top.specs.Cause.{CallsFor, MayGive, shelf_signs};
+ghost use Rattle.dl_top.specs.Command.{IsNoCommand};
+ghost use Rattle.dl_top.specs.Ending.{Ends, EndsInShelfFault, EndsWhole, sink_signs};
+ghost use Rattle.dl_top.specs.Proved.{IsProved};
+
+use crate::answer::status_of;
+use crate::load::answer_of;
+use crate::report::report_of;
+use crate::send::send;
+use crate::words::Words;
+use dl_outside::{Shelf, Sink, SinkFault};
+use std::alloc::Global;
+
+/// The exit status for want of memory.
+const NO_MEMORY: u8 = 5;
+
+/// The exit status for a fault outside.
+const OUTSIDE_FAULT: u8 = 4;
+
+/// Does what the words ask for, sends the report, and answers the exit status: 0 proved, 2 refused, 3 no command, 4 a
+/// fault of the shelf or the sink, 5 want of memory.
+pub fn dl_main<S: Shelf, O: Sink>(alloc: Global, words: &Words, shelf: &mut S, out: &mut O) -> u8
+    // The theorem: where the answer is 0, the script's text spells exactly one network, which is free of deadlock.
+    ensures proved { result ≡ 0 → IfSome (S.texts shelf.old) (λ texts. IsProved texts words.now (O.sent out.old) (O.sent out.new)) }
+
+    // Each answer has its cause. A front of a report is sent only where the sink has a fault or memory runs out.
+    ensures ends { Ends
+        (MayGive (S.texts shelf.old) words.now (shelf_signs (S.faults shelf.old) (S.faults shelf.new) (S.taken shelf.old) (S.taken shelf.new)))
+        (sink_signs (O.sent out.old) (O.sent out.new) (O.faults out.old) (O.faults out.new))
+        result }
+
+    // Status 4 without a fault of the sink: the whole line of a fault of the shelf.
+    ensures shelf_fault { result ≡ 4 → ¬ HasRisen (O.faults out.old) (O.faults out.new) → EndsInShelfFault
+        (MayGive (S.texts shelf.old) words.now (shelf_signs (S.faults shelf.old) (S.faults shelf.new) (S.taken shelf.old) (S.taken shelf.new)))
+        (sink_signs (O.sent out.old) (O.sent out.new) (O.faults out.old) (O.faults out.new)) }
+
+    // Without a fault, and with memory enough, the answer is the one that the texts call for.
+    ensures settled { result ≢ 5 → ¬ HasRisen (S.faults shelf.old) (S.faults shelf.new) → ¬ HasRisen (O.faults out.old) (O.faults out.new)
+        → IfSome (S.texts shelf.old) (λ texts. EndsWhole (CallsFor texts words.now)
+        (sink_signs (O.sent out.old) (O.sent out.new) (O.faults out.old) (O.faults out.new)) result) }
+
+    // Words that are no command leave the shelf alone.
+    ensures untouched { IsNoCommand words.now → shelf.new ≡ shelf.old }
+
+    ensures texts_stay { S.texts shelf.new ≡ S.texts shelf.old }
+    ensures shelf_faults_never_fall { S.faults shelf.old ≤ S.faults shelf.new }
+    ensures taken_never_falls { S.taken shelf.old ≤ S.taken shelf.new }
+    ensures sink_faults_never_fall { O.faults out.old ≤ O.faults out.new }
+{
+    let Ok(answer) = answer_of(alloc, words, shelf) else {
+        return NO_MEMORY;
+    };
+    let Ok(report) = report_of(alloc, &answer) else {
+        return NO_MEMORY;
+    };
+    match send(out, report.as_slice()) {
+        Ok(()) => status_of(&answer),
+        Err(SinkFault::Failed) => OUTSIDE_FAULT,
+        Err(SinkFault::NoMemory) => NO_MEMORY,
+    }
+}

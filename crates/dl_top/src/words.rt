@@ -1,0 +1,71 @@
+//! The words of a command line, and what they ask for.
+
+ghost use Rattle.std.specs.Prelude.{◌≡◌, List, ℕ, [], ◌∷◌, ◌++◌, IfSome, IfNone, OnOk, OnErr};
+ghost use Rattle.std.specs.Option.{option_copied};
+ghost use Rattle.dl_top.specs.declared.words.Rule.{Rule as RuleValue};
+ghost use Rattle.dl_top.specs.Command.{Asks, IsNoCommand};
+
+use csp_base::{Bytes, NoMemory};
+use std::alloc::Global;
+use std::marker::Model;
+
+const CHECK: &[u8] = b"check";
+
+const CYCLIC: &[u8] = b"cyclic";
+
+/// The design rules that a network can be judged by.
+#[derive(Clone, Copy, Debug, PartialEq, Eq)]
+pub enum Rule {
+    /// Each process offers its links in a fixed circular order.
+    Cyclic,
+}
+
+/// The words of a command line, without the program's own name.
+#[derive(Debug, Drop)]
+pub struct Words {
+    alloc: Global,
+    words: Vec<Bytes>,
+}
+
+impl Model for Words {
+    ghost use Rattle.std.specs.Prelude.{List, ℕ};
+
+    ghost Value = { List (List ℕ) };
+
+    ghost view = { λ w. w.words.items };
+}
+
+impl Words {
+    /// No words.
+    pub fn new(alloc: Global) -> Self
+        ensures { result ≡ [] }
+    {
+        Words {
+            alloc,
+            words: Vec::new(alloc),
+        }
+    }
+
+    /// Adds a last word. An error changes nothing.
+    pub fn push(&mut self, word: &[u8]) -> Result<(), NoMemory>
+        ensures ok { OnOk result (self.new ≡ self.old ++ word.now ∷ []) }
+        ensures err { OnErr result (self.new ≡ self.old) }
+    {
+        let word = Bytes::from_slice(self.alloc, word)?;
+        self.words.push(word)?;
+        Ok(())
+    }
+}
+
+/// What the words ask for: a rule, and the name of a script to judge by it.
+pub fn asked(words: &Words) -> Option<(Rule, &[u8])>
+    ensures asks { IfSome result (λ asked. Asks words.now asked.0 asked.1.now) }
+    ensures none { IfNone result (IsNoCommand words.now) }
+{
+    match words.words.as_slice() {
+        [check, rule, script] if check.as_slice() == CHECK && rule.as_slice() == CYCLIC => {
+            Some((Rule::Cyclic, script.as_slice()))
+        }
+        _ => None,
+    }
+}

@@ -1,0 +1,89 @@
+-- Silent walks of a component and of its numbered table.
+use Rattle.std.proofs.Common.{◌≡◌, ℕ, zero, suc, ◌+◌, ◌<◌, ◌≤◌, max, List, [], ◌∷◌, Some, None, slice_get, get_or, length, replicate, refl, sym, ap, subst, ◌∙◌, arith, inl, inr, ◌⊎◌}
+use Rattle.std.proofs.lemmas.Bool.{cases_lt}
+use Rattle.std.proofs.lemmas.Option.{none-some, same_Some, slice_get_within}
+use Rattle.csp_tables.specs.Label.{Label}
+use Rattle.csp_tables.specs.Label.Label.{silent, visible}
+use Rattle.csp_tables.specs.Path.{Path, Reached, Silently}
+use Rattle.csp_tables.specs.Network.{Component, ComponentStep}
+use Rattle.csp_tables.specs.SilentBound.{IsGreatestSilence}
+use Rattle.csp_tables.specs.RawTable.{RawTable, RawStep, standing_at, IsTableOf, IsStepOf, IsInTable}
+use Rattle.csp_tables.specs.Heights.{IsHeight, AreHeights, greatest}
+use Rattle.net_sound.specs.Heights.{HeightsAreExact}
+use Rattle.net_sound.proofs.FlatLists.{step_alphabet}
+
+-- a component with the alphabet of c is c standing at its term
+stands : {T : Type 0} (c d : Component T) → c.alphabet ≡ d.alphabet → d ≡ standing_at c d.term
+stands c d h = ap (λ al. record { alphabet = al; term = d.term }) (sym h)
+
+walk_up : {T : Type 0} (Step : T → Label → T → Type 0) (c : Component T) (terms : List T) (raw : RawTable) (k m n : ℕ) (x : T) → IsTableOf Step c terms raw → slice_get terms m ≡ Some x → Silently (RawStep raw) k m n → (d : Component T) × Silently (ComponentStep Step) k (standing_at c x) d
+walk_up Step c terms raw zero m n x t h w = (standing_at c x, refl)
+walk_up Step c terms raw (suc k) m n x t h w =
+    let s = t.sound m w.0 silent w.1 in
+    let r = walk_up Step c terms raw k w.0 n s.goal t s.to w.2 in
+    (r.0, (standing_at c s.goal, subst (λ y. ComponentStep Step (standing_at c y) silent (standing_at c s.goal)) (same_Some s.source x (sym s.from ∙ h)) s.step, r.1))
+
+-- the path's first state stands at the term numbered m
+walk_down : {T : Type 0} (Step : T → Label → T → Type 0) (c : Component T) (terms : List T) (raw : RawTable) (k m : ℕ) (x : T) (d : Component T) → IsTableOf Step c terms raw → slice_get terms m ≡ Some x → Silently (ComponentStep Step) k (standing_at c x) d → (n : ℕ) × Silently (RawStep raw) k m n
+walk_down Step c terms raw zero m x d t h w = (m, refl)
+walk_down Step c terms raw (suc k) m x d t h w =
+    let s = t.complete m x silent w.0 h w.1 in
+    let same : w.0 ≡ standing_at c w.0.term = stands c w.0 (step_alphabet Step (standing_at c x) silent w.0 w.1) in
+    let r = walk_down Step c terms raw k s.number w.0.term d t s.listed (subst (λ y. Silently (ComponentStep Step) k y d) same w.2) in
+    (r.0, (s.number, s.step, r.1))
+
+-- a state that the component reaches is in the table
+record IsNumbered {T : Type 0} (c : Component T) (terms : List T) (d : Component T) : Type 0 where
+  number : ℕ
+  listed : slice_get terms number ≡ Some d.term
+  alphabet : c.alphabet ≡ d.alphabet
+
+numbered : {T : Type 0} (Step : T → Label → T → Type 0) (c : Component T) (terms : List T) (raw : RawTable) (ls : List Label) (b d : Component T) → IsTableOf Step c terms raw → IsNumbered c terms b → Path (ComponentStep Step) b ls d → IsNumbered c terms d
+numbered Step c terms raw [] b d t i h = subst (IsNumbered c terms) h i
+numbered Step c terms raw (l ∷ ls) b d t i h =
+    let step = subst (λ y. ComponentStep Step y l h.0) (stands c b i.alphabet) h.1 in
+    let s = t.complete i.number b.term l h.0 i.listed step in
+    numbered Step c terms raw ls h.0 d t (record { number = s.number; listed = s.listed; alphabet = step_alphabet Step (standing_at c b.term) l h.0 step }) h.2
+
+at_most_greatest : (ns : List ℕ) (i : ℕ) → get_or ns i 0 ≤ greatest ns
+at_most_greatest [] i = omega arith
+at_most_greatest (n ∷ ns) zero = omega arith
+at_most_greatest (n ∷ ns) (suc i) = let le : get_or ns i 0 ≤ greatest ns = at_most_greatest ns i in omega arith
+
+greatest_is : (n : ℕ) (ns : List ℕ) → (i : ℕ) × (i < length (n ∷ ns)) × (get_or (n ∷ ns) i 0 ≡ greatest (n ∷ ns))
+greatest_is n [] = (0, omega arith, omega arith)
+greatest_is n (m ∷ ns) =
+    elim (cases_lt n (greatest (m ∷ ns))) [
+      | inl less ↦ let r = greatest_is m ns in (suc r.0, (let h : r.0 < length (m ∷ ns) = r.1 in omega arith), (let e : get_or (m ∷ ns) r.0 0 ≡ greatest (m ∷ ns) = r.2 in omega arith))
+      | inr more ↦ (0, omega arith, omega arith)
+    ]
+
+reaches_greatest : (ns : List ℕ) → 0 < length ns → (i : ℕ) × (i < length ns) × (get_or ns i 0 ≡ greatest ns)
+reaches_greatest [] h = absurd (omega arith)
+reaches_greatest (n ∷ ns) h = greatest_is n ns
+
+listed_at : {T : Type 0} (terms : List T) (n : ℕ) → n < length terms → (x : T) × (slice_get terms n ≡ Some x)
+listed_at [] n h = absurd (omega arith)
+listed_at (x ∷ terms) zero h = (x, refl)
+listed_at (x ∷ terms) (suc n) h = listed_at terms n (omega arith)
+
+pub heights_are_exact : {T : Type 0} (Step : T → Label → T → Type 0) → HeightsAreExact Step
+heights_are_exact Step c terms raw heights t hs =
+    let some : 0 < length terms = slice_get_within terms 0 c.term t.first in
+    let whole : length terms ≡ raw.count = t.count in
+    let many : length heights ≡ raw.count = hs.count in
+    let top = reaches_greatest heights (omega arith) in
+    let within : top.0 < length heights = top.1 in
+    let x = listed_at terms top.0 (omega arith) in
+    let h = hs.each top.0 (omega arith) in
+    let up = walk_up Step c terms raw (get_or heights top.0 0) top.0 h.end x.0 t x.1 h.attained in
+    record {
+      attained = (standing_at c x.0, up.0, t.reached top.0 x.0 x.1, subst (λ k. Silently (ComponentStep Step) k (standing_at c x.0) up.0) top.2 up.1);
+      most = λ d e k r w.
+          let i = numbered Step c terms raw r.0 c d t (record { number = 0; listed = t.first; alphabet = refl }) r.1 in
+          let down = walk_down Step c terms raw k i.number d.term e t i.listed (subst (λ y. Silently (ComponentStep Step) k y e) (stands c d i.alphabet) w) in
+          let inside : i.number < length terms = slice_get_within terms i.number d.term i.listed in
+          let le : k ≤ get_or heights i.number 0 = (hs.each i.number (omega arith)).most down.0 k down.1 in
+          let most : get_or heights i.number 0 ≤ greatest heights = at_most_greatest heights i.number in
+          omega arith;
+    }

@@ -1,0 +1,13 @@
+pub mod Agreement
+pub mod Finite
+pub mod Sharers
+pub mod Within
+pub mod Laps
+pub mod Stuck
+pub mod FlatLists
+pub mod Flattening
+pub mod Local
+pub mod Heart
+pub mod Shape
+pub mod Heights
+pub mod Example
