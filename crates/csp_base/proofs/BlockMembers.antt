@@ -70,17 +70,17 @@ has-events_of n (p ∷ ps) b k r l =
     elim (cases_order p.0 b) [
       | inl e ↦ subst (λ z. has (events_of (p ∷ ps)) (64 * z + k) ≡ has_bit (word_at (p ∷ ps) z) k) e (has_in_first p ps k r.4 l)
       | inr o ↦
-        elim o [
-          | inl h ↦
-            has-append (word_events 64 (64 * p.0) p.1) (events_of ps) (64 * b + k)
-            ∙ ap (λ c. c || has (events_of ps) (64 * b + k)) (word_events_above 64 (64 * p.0) p.1 (64 * b + k) (omega arith))
-            ∙ has-events_of (p.0 + 1) ps b k r.4 l
-            ∙ ap (λ w. has_bit w k) (sym (word_at_later p ps b (omega arith)))
-          | inr h ↦
-            has_below (64 * p.0) (events_of (p ∷ ps)) (64 * b + k) (RisesFrom-events_of p.0 (p ∷ ps) (le_refl p.0, r.1, r.2, r.3, r.4)) (omega arith)
-            ∙ sym (has_bit-zero k)
-            ∙ ap (λ w. has_bit w k) (sym (word_at_below p.0 (p ∷ ps) b (le_refl p.0, r.1, r.2, r.3, r.4) h))
-        ]
+          elim o [
+            | inl h ↦
+                has-append (word_events 64 (64 * p.0) p.1) (events_of ps) (64 * b + k)
+                ∙ ap (λ c. c || has (events_of ps) (64 * b + k)) (word_events_above 64 (64 * p.0) p.1 (64 * b + k) (omega arith))
+                ∙ has-events_of (p.0 + 1) ps b k r.4 l
+                ∙ ap (λ w. has_bit w k) (sym (word_at_later p ps b (omega arith)))
+            | inr h ↦
+                has_below (64 * p.0) (events_of (p ∷ ps)) (64 * b + k) (RisesFrom-events_of p.0 (p ∷ ps) (le_refl p.0, r.1, r.2, r.3, r.4)) (omega arith)
+                ∙ sym (has_bit-zero k)
+                ∙ ap (λ w. has_bit w k) (sym (word_at_below p.0 (p ∷ ps) b (le_refl p.0, r.1, r.2, r.3, r.4) h))
+          ]
     ]
 
 -- the same for any number, by its block and its place in it

@@ -28,13 +28,13 @@ odd_block number word half j qs e r =
     let power : 2 ^ (j + 1) ≡ 2 ^ j * 2 = ap (λ k. 2 ^ k) (add-one j) ∙ pow-suc 2 j in
     elim (cases_eq half 0) [
       | inl z ↦
-        ap (with_bit number (2 ^ j)) (Block-zero number half (j + 1) qs z) ∙ with_bit-ahead number (2 ^ j) qs r
-        ∙ ap (λ w. (number, w) ∷ qs) (let one : word ≡ 1 = omega arith in rw one (omega arith))
-        ∙ sym (Block-some number word j qs (omega arith))
+          ap (with_bit number (2 ^ j)) (Block-zero number half (j + 1) qs z) ∙ with_bit-ahead number (2 ^ j) qs r
+          ∙ ap (λ w. (number, w) ∷ qs) (let one : word ≡ 1 = omega arith in rw one (omega arith))
+          ∙ sym (Block-some number word j qs (omega arith))
       | inr z ↦
-        ap (with_bit number (2 ^ j)) (Block-some number half (j + 1) qs z) ∙ with_bit-same number (2 ^ j) (half * 2 ^ (j + 1)) qs
-        ∙ ap (λ w. (number, w) ∷ qs) (rw (power, e) (omega arith))
-        ∙ sym (Block-some number word j qs (omega arith))
+          ap (with_bit number (2 ^ j)) (Block-some number half (j + 1) qs z) ∙ with_bit-same number (2 ^ j) (half * 2 ^ (j + 1)) qs
+          ∙ ap (λ w. (number, w) ∷ qs) (rw (power, e) (omega arith))
+          ∙ sym (Block-some number word j qs (omega arith))
     ]
 
 even_block : (number word half j : ℕ) (qs : List (ℕ × ℕ)) → word ≡ 2 * half → Block number half (j + 1) qs ≡ Block number word j qs
@@ -43,7 +43,7 @@ even_block number word half j qs e =
     elim (cases_eq half 0) [
       | inl z ↦ Block-zero number half (j + 1) qs z ∙ sym (Block-zero number word j qs (omega arith))
       | inr z ↦
-        Block-some number half (j + 1) qs z ∙ ap (λ w. (number, w) ∷ qs) (rw (power, e) (omega arith)) ∙ sym (Block-some number word j qs (omega arith))
+          Block-some number half (j + 1) qs z ∙ ap (λ w. (number, w) ∷ qs) (rw (power, e) (omega arith)) ∙ sym (Block-some number word j qs (omega arith))
     ]
 
 blocks_of-word : (n number j word : ℕ) (xs : List ℕ) (qs : List (ℕ × ℕ)) → n + j ≡ 64 → word < 2 ^ n → AreBlocksFrom (number + 1) qs → blocks_of xs ≡ qs
@@ -54,11 +54,11 @@ blocks_of-word (suc n) number j word xs qs e l r is =
     let half : ℕ = word / 2 in
     let place : 64 * number + j + 1 ≡ 64 * number + (j + 1) = omega arith in
     let ih : blocks_of (word_events n (64 * number + j + 1) half ++ xs) ≡ Block number half (j + 1) qs =
-      ap (λ from. blocks_of (word_events n from half ++ xs)) place ∙ blocks_of-word n number (j + 1) half xs qs (omega arith) (half_lt n word l) r is in
+    ap (λ from. blocks_of (word_events n from half ++ xs)) place ∙ blocks_of-word n number (j + 1) half xs qs (omega arith) (half_lt n word l) r is in
     by (has_bit word 0) refl ih
   where
     by : (b : Bool) → has_bit word 0 ≡ b → blocks_of (word_events n (64 * number + j + 1) (word / 2) ++ xs) ≡ Block number (word / 2) (j + 1) qs
-      → blocks_of (cond b ((64 * number + j) ∷ word_events n (64 * number + j + 1) (word / 2)) (word_events n (64 * number + j + 1) (word / 2)) ++ xs) ≡ Block number word j qs
+        → blocks_of (cond b ((64 * number + j) ∷ word_events n (64 * number + j + 1) (word / 2)) (word_events n (64 * number + j + 1) (word / 2)) ++ xs) ≡ Block number word j qs
     by true b ih =
         let digit : word % 2 ≡ 1 = sym (bit_at_lowest word) ∙ eqb-true _ 1 b in
         let block : (64 * number + j) / 64 ≡ number = omega arith in

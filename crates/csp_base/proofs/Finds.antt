@@ -71,12 +71,12 @@ pub find_in_word : (ps : List (ℕ × ℕ)) (b k e : ℕ) → AreBlocksFrom 0 ps
 find_in_word ps b k e r l from here before earlier =
     ap Some (let f : b * 64 + k ≡ 64 * b + k = omega arith in f)
     ∙ sym (find_from_member 0 (events_of ps) e (64 * b + k) (RisesFrom-events_of 0 ps r) (has-events_of 0 ps b k r l ∙ here) from
-      (λ z under above. elim (cases_lt z (64 * b)) [
-        | inl h ↦ earlier z h above
-        | inr h ↦
+    (λ z under above. elim (cases_lt z (64 * b)) [
+      | inl h ↦ earlier z h above
+      | inr h ↦
           let place : z ≡ 64 * b + (z - 64 * b) = omega arith in
           ap (has (events_of ps)) place ∙ has-events_of 0 ps b (z - 64 * b) r (omega arith) ∙ before (z - 64 * b) (omega arith) (omega arith)
-      ]))
+    ]))
 
 -- a word that is not 0: its lowest bit
 pub lowest_bit : (w : ℕ) → (w ≡ 0 → ⊥) → w < 2 ^ 64 → (count_trailing_zeros 64 w < 64) × (has_bit w (count_trailing_zeros 64 w) ≡ true) × ((j : ℕ) → j < count_trailing_zeros 64 w → has_bit w j ≡ false)
@@ -168,7 +168,7 @@ find_past_block ps qs e r s same z =
         ap (λ n. has_bit n (x % 64)) word ∙ sym (has_bits_from_above (first_word qs (e / 64)) (e % 64) (x % 64) above (omega arith))
         ∙ ap (λ n. has_bit n (x % 64)) z ∙ has_bit-zero (x % 64)
         ∙ sym (ap (λ n. has_bit n (x % 64)) (ap (word_at (rest_after qs (e / 64))) (sym h)
-          ∙ word_at_below (e / 64 + 1) (rest_after qs (e / 64)) (e / 64) (AreBlocksFrom-rest_after (e / 64) qs s) (omega arith)) ∙ has_bit-zero (x % 64))
+        ∙ word_at_below (e / 64 + 1) (rest_after qs (e / 64)) (e / 64) (AreBlocksFrom-rest_after (e / 64) qs s) (omega arith)) ∙ has_bit-zero (x % 64))
     later x l (inr h) = ap (λ n. has_bit n (x % 64)) (sym (same (x / 64) (omega arith)) ∙ sym (word_at-rest_after (e / 64) qs (x / 64) h))
 
 -- the same for a list that is not empty, by its first block

@@ -40,19 +40,19 @@ includes_set front (q ∷ qs) number bit r e s ne l =
     elim (cases_eq q.0 number) [
       | inr h ↦ absurd (ne (ap (λ b. cond b q.1 0) (ne_eqb q.0 number h)))
       | inl h ↦
-        let word : first_word (q ∷ qs) number ≡ q.1 = ap (λ b. cond b q.1 0) (eq-eqb q.0 number h) in
-        let later : AreBlocksFrom (number + 1) qs = subst (λ n. AreBlocksFrom (n + 1) qs) h s.4 in
-        let new : ℕ = bit_or (first_word (q ∷ qs) number) bit in
-        let fits : new < 2 ^ 64 = or_lt 64 (first_word (q ∷ qs) number) bit (subst (λ n. n < 2 ^ 64) (sym word) s.3) l in
-        let small : number < 2 ^ 26 = (let g : q.0 < 2 ^ 26 = s.1 in omega arith) in
-        let positive : 0 < new = (let g : 0 < q.1 = s.2 in let k = le_or_l (first_word (q ∷ qs) number) bit in omega arith) in
-        record {
-          blocks = AreBlocksFrom-append 0 front ((number, new) ∷ qs) r (e, small, positive, fits, later);
-          at_number =
-            after_front front ((number, new) ∷ qs) number r e ∙ word_at_first (number, new) qs later
-            ∙ ap (λ w. bit_or w bit) (first_word-word_at number (q ∷ qs) s ∙ sym (after_front front (q ∷ qs) number r e));
-          others = λ b n. changed_after front ((number, new) ∷ qs) (q ∷ qs) b (word_at_later (number, new) qs b n ∙ sym (word_at_later q qs b (λ g. n (sym h ∙ g))));
-        }
+          let word : first_word (q ∷ qs) number ≡ q.1 = ap (λ b. cond b q.1 0) (eq-eqb q.0 number h) in
+          let later : AreBlocksFrom (number + 1) qs = subst (λ n. AreBlocksFrom (n + 1) qs) h s.4 in
+          let new : ℕ = bit_or (first_word (q ∷ qs) number) bit in
+          let fits : new < 2 ^ 64 = or_lt 64 (first_word (q ∷ qs) number) bit (subst (λ n. n < 2 ^ 64) (sym word) s.3) l in
+          let small : number < 2 ^ 26 = (let g : q.0 < 2 ^ 26 = s.1 in omega arith) in
+          let positive : 0 < new = (let g : 0 < q.1 = s.2 in let k = le_or_l (first_word (q ∷ qs) number) bit in omega arith) in
+          record {
+            blocks = AreBlocksFrom-append 0 front ((number, new) ∷ qs) r (e, small, positive, fits, later);
+            at_number =
+                after_front front ((number, new) ∷ qs) number r e ∙ word_at_first (number, new) qs later
+                ∙ ap (λ w. bit_or w bit) (first_word-word_at number (q ∷ qs) s ∙ sym (after_front front (q ∷ qs) number r e));
+            others = λ b n. changed_after front ((number, new) ∷ qs) (q ∷ qs) b (word_at_later (number, new) qs b n ∙ sym (word_at_later q qs b (λ g. n (sym h ∙ g))));
+          }
     ]
 
 -- where the number has no block, all blocks come after it
@@ -74,8 +74,8 @@ includes_insert front qs number bit r e small s z p l =
     record {
       blocks = AreBlocksFrom-append 0 front ((number, bit) ∷ qs) r (e, small, p, l, later);
       at_number =
-        after_front front ((number, bit) ∷ qs) number r e ∙ word_at_first (number, bit) qs later ∙ sym (or_zero_l bit)
-        ∙ ap (λ w. bit_or w bit) (sym z ∙ first_word-word_at number qs s ∙ sym (after_front front qs number r e));
+          after_front front ((number, bit) ∷ qs) number r e ∙ word_at_first (number, bit) qs later ∙ sym (or_zero_l bit)
+          ∙ ap (λ w. bit_or w bit) (sym z ∙ first_word-word_at number qs s ∙ sym (after_front front qs number r e));
       others = λ b n. changed_after front ((number, bit) ∷ qs) qs b (word_at_later (number, bit) qs b n);
     }
 
@@ -98,7 +98,7 @@ includes_at_set ps i number bit r e s ne l =
     let rest : drop 1 (drop i ps) ≡ drop (suc i) ps = ap (drop 1) (drop-cons ps i new within) in
     subst (λ qs. Includes ps qs number bit) (ap (λ qs. take i ps ++ new ∷ qs) rest ∙ sym (set_split ps i new within))
     (subst (λ qs. Includes qs (take i ps ++ new ∷ drop 1 (drop i ps)) number bit) (take-append-drop i ps)
-      (includes_set (take i ps) (drop i ps) number bit (AreBlocksFrom-take 0 ps i r) e s ne l))
+    (includes_set (take i ps) (drop i ps) number bit (AreBlocksFrom-take 0 ps i r) e s ne l))
 
 pub includes_at_insert : (ps : List (ℕ × ℕ)) (i number bit : ℕ) → AreBlocksFrom 0 ps → end_from 0 (take i ps) ≤ number → number < 2 ^ 26 → AreBlocksFrom number (drop i ps) → first_word (drop i ps) number ≡ 0 → 0 < bit → bit < 2 ^ 64
     → Includes ps (take i ps ++ (number, bit) ∷ drop i ps) number bit

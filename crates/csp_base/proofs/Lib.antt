@@ -7,6 +7,7 @@ pub mod MergeSteps
 pub mod OrderLemmas
 pub mod Places
 pub mod Rising
+pub mod SetLaws
 pub mod Sets
 pub mod Tests
 pub mod Words

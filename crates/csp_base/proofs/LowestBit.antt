@@ -36,21 +36,21 @@ same_but_lowest w from k z l set =
     elim (cases_lt z from) [
       | inl below ↦ outside from w z (inl below) ∙ sym (or_from _ _ (ne_eqb (from + k) z (omega arith)) (outside from (cleared w k) z (inl below)))
       | inr above ↦
-        elim (cases_lt z (from + 64)) [
-          | inr past ↦ outside from w z (inr past) ∙ sym (or_from _ _ (ne_eqb (from + k) z (omega arith)) (outside from (cleared w k) z (inr past)))
-          | inl before ↦
-            let j : ℕ = z - from in
-            let place : z ≡ from + j = omega arith in
-            let bit : has (word_events 64 from w) z ≡ has_bit w j = ap (has (word_events 64 from w)) place ∙ has-word_events 64 from w j (omega arith) in
-            let bit' : has (word_events 64 from (cleared w k)) z ≡ has_bit (cleared w k) j =
-              ap (has (word_events 64 from (cleared w k))) place ∙ has-word_events 64 from (cleared w k) j (omega arith) in
-            elim (cases_eq j k) [
-              | inl e ↦ bit ∙ ap (has_bit w) e ∙ set ∙ sym (or_left _ _ (eq-eqb (from + k) z (omega arith)))
-              | inr ne ↦
-                bit ∙ sym (cleared_other w k j l (omega arith) ne) ∙ sym bit'
-                ∙ ap (λ b. b || has (word_events 64 from (cleared w k)) z) (sym (ne_eqb (from + k) z (omega arith)))
-            ]
-        ]
+          elim (cases_lt z (from + 64)) [
+            | inr past ↦ outside from w z (inr past) ∙ sym (or_from _ _ (ne_eqb (from + k) z (omega arith)) (outside from (cleared w k) z (inr past)))
+            | inl before ↦
+                let j : ℕ = z - from in
+                let place : z ≡ from + j = omega arith in
+                let bit : has (word_events 64 from w) z ≡ has_bit w j = ap (has (word_events 64 from w)) place ∙ has-word_events 64 from w j (omega arith) in
+                let bit' : has (word_events 64 from (cleared w k)) z ≡ has_bit (cleared w k) j =
+                ap (has (word_events 64 from (cleared w k))) place ∙ has-word_events 64 from (cleared w k) j (omega arith) in
+                elim (cases_eq j k) [
+                  | inl e ↦ bit ∙ ap (has_bit w) e ∙ set ∙ sym (or_left _ _ (eq-eqb (from + k) z (omega arith)))
+                  | inr ne ↦
+                      bit ∙ sym (cleared_other w k j l (omega arith) ne) ∙ sym bit'
+                      ∙ ap (λ b. b || has (word_events 64 from (cleared w k)) z) (sym (ne_eqb (from + k) z (omega arith)))
+                ]
+          ]
     ]
 
 -- what is left is above the lowest bit
@@ -59,18 +59,18 @@ above_lowest w from k z l clear e =
     elim (cases_lt z from) [
       | inl below ↦ absurd (false≢true (sym (outside from (cleared w k) z (inl below)) ∙ e))
       | inr above ↦
-        elim (cases_lt (from + k) z) [
-          | inl h ↦ omega arith
-          | inr h ↦
-            let j : ℕ = z - from in
-            let place : z ≡ from + j = omega arith in
-            let bit : has_bit (cleared w k) j ≡ true =
-              sym (has-word_events 64 from (cleared w k) j (omega arith)) ∙ ap (has (word_events 64 from (cleared w k))) (sym place) ∙ e in
-            elim (cases_eq j k) [
-              | inl same ↦ absurd (false≢true (sym (cleared_same w k l) ∙ ap (has_bit (cleared w k)) (sym same) ∙ bit))
-              | inr ne ↦ absurd (false≢true (sym (clear j (omega arith)) ∙ sym (cleared_other w k j l (omega arith) ne) ∙ bit))
-            ]
-        ]
+          elim (cases_lt (from + k) z) [
+            | inl h ↦ omega arith
+            | inr h ↦
+                let j : ℕ = z - from in
+                let place : z ≡ from + j = omega arith in
+                let bit : has_bit (cleared w k) j ≡ true =
+                sym (has-word_events 64 from (cleared w k) j (omega arith)) ∙ ap (has (word_events 64 from (cleared w k))) (sym place) ∙ e in
+                elim (cases_eq j k) [
+                  | inl same ↦ absurd (false≢true (sym (cleared_same w k l) ∙ ap (has_bit (cleared w k)) (sym same) ∙ bit))
+                  | inr ne ↦ absurd (false≢true (sym (clear j (omega arith)) ∙ sym (cleared_other w k j l (omega arith) ne) ∙ bit))
+                ]
+          ]
     ]
 
 pub word_events-cleared : (w from : ℕ) → (w ≡ 0 → ⊥) → w < 2 ^ 64 → word_events 64 from w ≡ (from + count_trailing_zeros 64 w) ∷ word_events 64 from (cleared w (count_trailing_zeros 64 w))

@@ -170,7 +170,7 @@ step_words op out ps qs n b r s =
     rw (word_at-with_word out n (combined_of op (first_word ps n) (first_word qs n)) b)
     (elim (cases_eq n b) [
       | inl e ↦ subst (λ z. (word_at out z + cond (eqb n z) (combined_of op (first_word ps n) (first_word qs n)) 0) + combined_of op (word_at (rest_after ps n) z) (word_at (rest_after qs n) z) ≡ word_at out z + combined_of op (word_at ps z) (word_at qs z)) e
-        (rw (eq-eqb n n refl, first_word-word_at n ps r, first_word-word_at n qs s, word_at_below (n + 1) (rest_after ps n) n (AreBlocksFrom-rest_after n ps r) (omega arith), word_at_below (n + 1) (rest_after qs n) n (AreBlocksFrom-rest_after n qs s) (omega arith), combined_of-zero op) (omega arith))
+          (rw (eq-eqb n n refl, first_word-word_at n ps r, first_word-word_at n qs s, word_at_below (n + 1) (rest_after ps n) n (AreBlocksFrom-rest_after n ps r) (omega arith), word_at_below (n + 1) (rest_after qs n) n (AreBlocksFrom-rest_after n qs s) (omega arith), combined_of-zero op) (omega arith))
       | inr ne ↦ rw (ne_eqb n b ne, word_at-rest_after n ps b ne, word_at-rest_after n qs b ne) (omega arith)
     ])
 
@@ -219,10 +219,11 @@ bit_of_word w ne l =
 member_of_word : (op : Operation) (ps qs : List (ℕ × ℕ)) (b : ℕ) → AreBlocksFrom 0 ps → AreBlocksFrom 0 qs → (combined_of op (word_at ps b) (word_at qs b) ≡ 0 → ⊥)
     → (x : ℕ) × (keeps op (has (events_of ps) x) (has (events_of qs) x) ≡ true)
 member_of_word op ps qs b r s ne =
-    let bit = bit_of_word (combined_of op (word_at ps b) (word_at qs b)) ne (combined_of-lt op (word_at ps b) (word_at qs b) (word_at-lt 0 ps b r) (word_at-lt 0 qs b s)) in
-    (64 * b + bit.0,
+    let bit = bit_of_word (combined_of op (word_at ps b) (word_at qs b)) ne (combined_of-lt op (word_at ps b) (word_at qs b) (word_at-lt 0 ps b r) (word_at-lt 0 qs b s)) in (
+      64 * b + bit.0,
       rw (has-events_of 0 ps b bit.0 r bit.1, has-events_of 0 qs b bit.0 s bit.1)
-      (sym (has_bit-combined_of op (word_at ps b) (word_at qs b) bit.0 (word_at-lt 0 qs b s) bit.1) ∙ bit.2))
+          (sym (has_bit-combined_of op (word_at ps b) (word_at qs b) bit.0 (word_at-lt 0 qs b s) bit.1) ∙ bit.2),
+    )
 
 -- a word of the operation that is not 0, at the least number, where none was found before
 pub IsMerging-found : (op : Operation) (left right ps qs : List (ℕ × ℕ)) → AreBlocksFrom 0 left → AreBlocksFrom 0 right → IsMerging op left right [] ps qs → 0 < length ps + length qs
@@ -233,7 +234,7 @@ IsMerging-found op left right ps qs r s m l ne =
     let ahead = least_of-ahead 0 ps qs l m.first_ahead m.second_ahead in
     member_of_word op left right n r s
     (λ z. ne (ap (λ w. combined_of op w (first_word qs n)) (first_word-word_at n ps ahead.2) ∙ ap (combined_of op (word_at ps n)) (first_word-word_at n qs ahead.3)
-      ∙ (let h : 0 + combined_of op (word_at ps n) (word_at qs n) ≡ combined_of op (word_at left n) (word_at right n) = m.words n in omega arith)))
+    ∙ (let h : 0 + combined_of op (word_at ps n) (word_at qs n) ≡ combined_of op (word_at left n) (word_at right n) = m.words n in omega arith)))
 
 pub IsMerging-next : (op : Operation) (left right ps qs : List (ℕ × ℕ)) → IsMerging op left right [] ps qs → 0 < length ps + length qs
     → combined_of op (first_word ps (least_of ps qs)) (first_word qs (least_of ps qs)) ≡ 0

@@ -48,10 +48,11 @@ pub differing_bit : (v w : ℕ) → v < 2 ^ 64 → w < 2 ^ 64 → (v ≡ w → �
     × ((j : ℕ) → j < count_trailing_zeros 64 (bit_xor v w) → has_bit v j ≡ has_bit w j)
 differing_bit v w l m ne =
     let differ : bit_xor v w ≡ 0 → ⊥ = λ z. ne (same_from_bits v w (λ i. same (i) (sym (bit_at_xor v w i) ∙ ap (λ n. bit_at n i) z ∙ bit_at-zero i))) in
-    let low = bit_at-trailing_zeros w64 (bit_xor v w) (omega arith) (xor_lt 64 v w l m) in
-    (low.0,
+    let low = bit_at-trailing_zeros w64 (bit_xor v w) (omega arith) (xor_lt 64 v w l m) in (
+      low.0,
       digits_differ _ _ (bit_at-lt v _) (bit_at-lt w _) (sym (bit_at_xor v w _) ∙ low.1),
-      λ j h. ap (λ n. n == 1) (same j (sym (bit_at_xor v w j) ∙ low.2 j h)))
+      λ j h. ap (λ n. n == 1) (same j (sym (bit_at_xor v w j) ∙ low.2 j h)),
+    )
   where
     same : (i : ℕ) → (bit_at v i + bit_at w i) % 2 ≡ 0 → bit_at v i ≡ bit_at w i
     same i e = let h = bit_at-lt v i in let g = bit_at-lt w i in omega arith
@@ -97,9 +98,10 @@ goes_on_first true b ys x l on = refl
 goes_on_first false b ys x l on = absurd (false≢true (sym (on b l) ∙ first_member b ys))
 
 first_less : (r : Bool) (a b : ℕ) (xs ys : List ℕ) → a < b → r ≡ true → (slice_cmp nat_cmp (a ∷ xs) (b ∷ ys) ≡ cond r Less Greater) × (slice_cmp nat_cmp (b ∷ ys) (a ∷ xs) ≡ cond r Greater Less)
-first_less r a b xs ys l e =
-    (ap (λ o. ordering_then o (slice_cmp nat_cmp xs ys)) (nat_cmp_lt a b l) ∙ ap (λ q. cond q Less Greater) (sym e),
-      ap (λ o. ordering_then o (slice_cmp nat_cmp ys xs)) (nat_cmp_gt b a l) ∙ ap (λ q. cond q Greater Less) (sym e))
+first_less r a b xs ys l e = (
+  ap (λ o. ordering_then o (slice_cmp nat_cmp xs ys)) (nat_cmp_lt a b l) ∙ ap (λ q. cond q Less Greater) (sym e),
+  ap (λ o. ordering_then o (slice_cmp nat_cmp ys xs)) (nat_cmp_gt b a l) ∙ ap (λ q. cond q Greater Less) (sym e),
+)
 
 -- two rising lists that agree below x, which the first has and the second has not
 pub order_at_member : (r : Bool) (x : ℕ) (m n : ℕ) (xs ys : List ℕ) → RisesFrom m xs → RisesFrom n ys → has xs x ≡ true → has ys x ≡ false
@@ -112,26 +114,26 @@ order_at_member r x m n (a ∷ xs) (b ∷ ys) rx ry h g same on =
     let low : a ≤ x = at_least a xs x rx.1 h in
     elim (cases_order a b) [
       | inl e ↦
-        let ry' : RisesFrom (a + 1) ys = subst (λ c. RisesFrom (c + 1) ys) (sym e) ry.1 in
-        let same' : (z : ℕ) → z < x → has (a ∷ xs) z ≡ has (a ∷ ys) z = subst (λ c. (z : ℕ) → z < x → has (a ∷ xs) z ≡ has (c ∷ ys) z) (sym e) same in
-        let ne : a ≡ x → ⊥ = λ z. true≢false (sym (subst (λ c. has (b ∷ ys) c ≡ true) (sym e ∙ z) (first_member b ys)) ∙ g) in
-        let rest = order_at_member r x (a + 1) (a + 1) xs ys rx.1 ry' (sym (tail_member a xs x ne) ∙ h) (sym (tail_member b ys x (λ z. ne (e ∙ z))) ∙ g)
+          let ry' : RisesFrom (a + 1) ys = subst (λ c. RisesFrom (c + 1) ys) (sym e) ry.1 in
+          let same' : (z : ℕ) → z < x → has (a ∷ xs) z ≡ has (a ∷ ys) z = subst (λ c. (z : ℕ) → z < x → has (a ∷ xs) z ≡ has (c ∷ ys) z) (sym e) same in
+          let ne : a ≡ x → ⊥ = λ z. true≢false (sym (subst (λ c. has (b ∷ ys) c ≡ true) (sym e ∙ z) (first_member b ys)) ∙ g) in
+          let rest = order_at_member r x (a + 1) (a + 1) xs ys rx.1 ry' (sym (tail_member a xs x ne) ∙ h) (sym (tail_member b ys x (λ z. ne (e ∙ z))) ∙ g)
           (λ z l. tails_agree a xs ys z rx.1 ry' (same' z l)) (goes_on_tail r b ys x (omega arith) on) in
-        (ap (λ o. ordering_then o (slice_cmp nat_cmp xs ys)) (nat_cmp_eq a b e) ∙ rest.0, ap (λ o. ordering_then o (slice_cmp nat_cmp ys xs)) (nat_cmp_eq b a (sym e)) ∙ rest.1)
+          (ap (λ o. ordering_then o (slice_cmp nat_cmp xs ys)) (nat_cmp_eq a b e) ∙ rest.0, ap (λ o. ordering_then o (slice_cmp nat_cmp ys xs)) (nat_cmp_eq b a (sym e)) ∙ rest.1)
       | inr o ↦
-        elim o [
-          | inl l ↦
-            let here : x ≡ a = elim (cases_lt a x) [
-              | inl k ↦ absurd (true≢false (sym (first_member a xs) ∙ same a k ∙ has_below b (b ∷ ys) a (le_refl b, ry.1) l))
-              | inr k ↦ omega arith
-            ] in
-            first_less r a b xs ys l (goes_on_first r b ys x (omega arith) on)
-          | inr l ↦
-            elim (cases_lt b x) [
-              | inl k ↦ absurd (false≢true (sym (has_below a (a ∷ xs) b (le_refl a, rx.1) l) ∙ same b k ∙ first_member b ys))
-              | inr k ↦ absurd (omega arith)
-            ]
-        ]
+          elim o [
+            | inl l ↦
+                let here : x ≡ a = elim (cases_lt a x) [
+                  | inl k ↦ absurd (true≢false (sym (first_member a xs) ∙ same a k ∙ has_below b (b ∷ ys) a (le_refl b, ry.1) l))
+                  | inr k ↦ omega arith
+                ] in
+                first_less r a b xs ys l (goes_on_first r b ys x (omega arith) on)
+            | inr l ↦
+                elim (cases_lt b x) [
+                  | inl k ↦ absurd (false≢true (sym (has_below a (a ∷ xs) b (le_refl a, rx.1) l) ∙ same b k ∙ first_member b ys))
+                  | inr k ↦ absurd (omega arith)
+                ]
+          ]
     ]
 
 -- ---- two words of one block, and the blocks after them
@@ -154,10 +156,12 @@ later_event n w (q ∷ qs) r l =
     let s : AreBlocksFrom (n + 1) (q ∷ qs) = r.4 in
     let above : n + 1 ≤ q.0 = s.0 in
     let positive : 0 < q.1 = s.2 in
-    let bit = bit_of_word q.1 (omega arith) s.3 in
-    (64 * q.0 + bit.0, (omega arith),
+    let bit = bit_of_word q.1 (omega arith) s.3 in (
+      64 * q.0 + bit.0,
+      (omega arith),
       has-events_of 0 ((n, w) ∷ q ∷ qs) q.0 bit.0 r bit.1
-      ∙ ap (λ v. has_bit v bit.0) (word_at_later (n, w) (q ∷ qs) q.0 (omega arith) ∙ word_at_first q qs s.4) ∙ bit.2)
+          ∙ ap (λ v. has_bit v bit.0) (word_at_later (n, w) (q ∷ qs) q.0 (omega arith) ∙ word_at_first q qs s.4) ∙ bit.2,
+    )
 
 -- an event in the same block, above bit k
 same_block_event : (n w k : ℕ) (qs : List (ℕ × ℕ)) → AreBlocksFrom 0 ((n, w) ∷ qs) → has_bit w k ≡ false → (w / 2 ^ k ≡ 0 → ⊥) → (z : ℕ) × (64 * n + k < z) × (has (events_of ((n, w) ∷ qs)) z ≡ true)
@@ -171,22 +175,24 @@ same_block_event n w k qs r clear ne =
     let later : k < k + bit.0 = elim (cases_lt 0 bit.0) [
       | inl l ↦ omega arith
       | inr l ↦ absurd (false≢true (sym clear ∙ ap (has_bit w) (let e : k ≡ k + bit.0 = omega arith in e) ∙ set))
-    ] in
-    (64 * n + (k + bit.0), (omega arith),
-      has-events_of 0 ((n, w) ∷ qs) n (k + bit.0) r inside ∙ ap (λ v. has_bit v (k + bit.0)) (word_at_first (n, w) qs r.4) ∙ set)
+    ] in (
+      64 * n + (k + bit.0),
+      (omega arith),
+      has-events_of 0 ((n, w) ∷ qs) n (k + bit.0) r inside ∙ ap (λ v. has_bit v (k + bit.0)) (word_at_first (n, w) qs r.4) ∙ set,
+    )
 
 -- no event above bit k, where the word has none and no block follows
 no_event : (n w k : ℕ) → AreBlocksFrom 0 ((n, w) ∷ []) → w / 2 ^ k ≡ 0 → (z : ℕ) → 64 * n + k < z → has (events_of ((n, w) ∷ [])) z ≡ false
 no_event n w k r e z l =
     elim (cases_eq n (z / 64)) [
       | inl h ↦
-        let place : z % 64 ≡ k + (z % 64 - k) = omega arith in
-        has-events_of_at 0 ((n, w) ∷ []) z r
-        ∙ ap (λ b. has_bit (word_at ((n, w) ∷ []) b) (z % 64)) (sym h)
-        ∙ ap (λ v. has_bit v (z % 64)) (word_at_first (n, w) [] tt)
-        ∙ ap (has_bit w) place ∙ has_bit-shr w k (z % 64 - k) ∙ ap (λ v. has_bit v (z % 64 - k)) e ∙ has_bit-zero (z % 64 - k)
+          let place : z % 64 ≡ k + (z % 64 - k) = omega arith in
+          has-events_of_at 0 ((n, w) ∷ []) z r
+          ∙ ap (λ b. has_bit (word_at ((n, w) ∷ []) b) (z % 64)) (sym h)
+          ∙ ap (λ v. has_bit v (z % 64)) (word_at_first (n, w) [] tt)
+          ∙ ap (has_bit w) place ∙ has_bit-shr w k (z % 64 - k) ∙ ap (λ v. has_bit v (z % 64 - k)) e ∙ has_bit-zero (z % 64 - k)
       | inr ne ↦
-        has-events_of_at 0 ((n, w) ∷ []) z r ∙ ap (λ v. has_bit v (z % 64)) (word_at_later (n, w) [] (z / 64) ne) ∙ has_bit-zero (z % 64)
+          has-events_of_at 0 ((n, w) ∷ []) z r ∙ ap (λ v. has_bit v (z % 64)) (word_at_later (n, w) [] (z / 64) ne) ∙ has_bit-zero (z % 64)
     ]
 
 goes_on_words : (more : Bool) (ended : Bool) (n w k : ℕ) (qs : List (ℕ × ℕ)) → AreBlocksFrom 0 ((n, w) ∷ qs) → has_bit w k ≡ false → k < 64 → Follows more qs → eqb (w / 2 ^ k) 0 ≡ ended
@@ -211,14 +217,14 @@ order_where_set more n v w k ps qs r s l here clear below f =
     agree : (z : ℕ) → z < 64 * n + k → has (events_of ((n, v) ∷ ps)) z ≡ has (events_of ((n, w) ∷ qs)) z
     agree z m = elim (cases_lt z (64 * n)) [
       | inl h ↦
-        has_below (64 * n) (events_of ((n, v) ∷ ps)) z (RisesFrom-events_of n ((n, v) ∷ ps) (le_refl n, r.1, r.2, r.3, r.4)) h
-        ∙ sym (has_below (64 * n) (events_of ((n, w) ∷ qs)) z (RisesFrom-events_of n ((n, w) ∷ qs) (le_refl n, s.1, s.2, s.3, s.4)) h)
+          has_below (64 * n) (events_of ((n, v) ∷ ps)) z (RisesFrom-events_of n ((n, v) ∷ ps) (le_refl n, r.1, r.2, r.3, r.4)) h
+          ∙ sym (has_below (64 * n) (events_of ((n, w) ∷ qs)) z (RisesFrom-events_of n ((n, w) ∷ qs) (le_refl n, s.1, s.2, s.3, s.4)) h)
       | inr h ↦
-        let j : ℕ = z - 64 * n in
-        let place : z ≡ 64 * n + j = omega arith in
-        ap (has (events_of ((n, v) ∷ ps))) place ∙ has-events_of 0 ((n, v) ∷ ps) n j r (omega arith) ∙ ap (λ u. has_bit u j) (word_at_first (n, v) ps r.4)
-        ∙ below j (omega arith)
-        ∙ sym (ap (has (events_of ((n, w) ∷ qs))) place ∙ has-events_of 0 ((n, w) ∷ qs) n j s (omega arith) ∙ ap (λ u. has_bit u j) (word_at_first (n, w) qs s.4))
+          let j : ℕ = z - 64 * n in
+          let place : z ≡ 64 * n + j = omega arith in
+          ap (has (events_of ((n, v) ∷ ps))) place ∙ has-events_of 0 ((n, v) ∷ ps) n j r (omega arith) ∙ ap (λ u. has_bit u j) (word_at_first (n, v) ps r.4)
+          ∙ below j (omega arith)
+          ∙ sym (ap (has (events_of ((n, w) ∷ qs))) place ∙ has-events_of 0 ((n, w) ∷ qs) n j s (omega arith) ∙ ap (λ u. has_bit u j) (word_at_first (n, w) qs s.4))
     ]
 
 -- the order of two sets whose first blocks have one number and different words
@@ -261,9 +267,9 @@ order_lower p q ps qs r s l =
     before z m small clear = elim (cases_lt z (64 * p.0)) [
       | inl h ↦ has_below (64 * p.0) (events_of (p ∷ ps)) z (RisesFrom-events_of p.0 (p ∷ ps) (le_refl p.0, r.1, r.2, r.3, r.4)) h
       | inr h ↦
-        let j : ℕ = z - 64 * p.0 in
-        let place : z ≡ 64 * p.0 + j = omega arith in
-        ap (has (events_of (p ∷ ps))) place ∙ has-events_of 0 (p ∷ ps) p.0 j r (omega arith) ∙ ap (λ u. has_bit u j) (word_at_first p ps r.4) ∙ clear j (omega arith)
+          let j : ℕ = z - 64 * p.0 in
+          let place : z ≡ 64 * p.0 + j = omega arith in
+          ap (has (events_of (p ∷ ps))) place ∙ has-events_of 0 (p ∷ ps) p.0 j r (omega arith) ∙ ap (λ u. has_bit u j) (word_at_first p ps r.4) ∙ clear j (omega arith)
     ]
 
 pub order_at_numbers : (ps qs : List (ℕ × ℕ)) (d : ℕ × ℕ) → 0 < length ps → 0 < length qs → AreBlocksFrom 0 ps → AreBlocksFrom 0 qs → ((get_or ps 0 d).0 ≡ (get_or qs 0 d).0 → ⊥)

@@ -114,7 +114,7 @@ or_assoc : (a b c : Bool) → (a || (b || c)) ≡ ((a || b) || c)
 or_assoc true b c = refl
 or_assoc false b c = refl
 
-and_comm : (a b : Bool) → (a && b) ≡ (b && a)
+pub and_comm : (a b : Bool) → (a && b) ≡ (b && a)
 and_comm true true = refl
 and_comm true false = refl
 and_comm false true = refl
@@ -224,13 +224,13 @@ find_from_member n (y ∷ ys) e x r h l none =
     elim (cases_lt y e) [
       | inl g ↦ rw (lt-leb e y g) (find_from_member (y + 1) ys e x r.1 (sym (has_rest y ys x (omega arith)) ∙ h) l (λ z p q. sym (has_rest y ys z (omega arith)) ∙ none z p q))
       | inr g ↦
-        elim (cases_order y x) [
-          | inl s ↦ rw (le-leb e y g) (ap Some s)
-          | inr o ↦ elim o [
-            | inl s ↦ absurd (false≢true (sym (none y s g) ∙ has_first y ys))
-            | inr s ↦ absurd (false≢true (sym (has_below y (y ∷ ys) x (le_refl y, r.1) s) ∙ h))
+          elim (cases_order y x) [
+            | inl s ↦ rw (le-leb e y g) (ap Some s)
+            | inr o ↦ elim o [
+              | inl s ↦ absurd (false≢true (sym (none y s g) ∙ has_first y ys))
+              | inr s ↦ absurd (false≢true (sym (has_below y (y ∷ ys) x (le_refl y, r.1) s) ∙ h))
+            ]
           ]
-        ]
     ]
 
 pub find_from_none : (xs : List ℕ) (e : ℕ) → ((z : ℕ) → e ≤ z → has xs z ≡ false) → find (leb e) xs ≡ None

@@ -32,9 +32,10 @@ no_events (p ∷ ps) xs b r is e =
 -- ---- equality
 
 same_pair : (x y : ℕ × ℕ) → Decides (eqb x.0 y.0 && eqb x.1 y.1) (x ≡ y)
-same_pair x y =
-    (λ e. let both = and_parts (eqb x.0 y.0) (eqb x.1 y.1) e in let first = eqb-true x.0 y.0 both.0 in let second = eqb-true x.1 y.1 both.1 in λ i. (first i, second i),
-      λ e. and_from (eqb x.0 y.0) (eqb x.1 y.1) (eq-eqb x.0 y.0 (ap (λ p. p.0) e)) (eq-eqb x.1 y.1 (ap (λ p. p.1) e)))
+same_pair x y = (
+  λ e. let both = and_parts (eqb x.0 y.0) (eqb x.1 y.1) e in let first = eqb-true x.0 y.0 both.0 in let second = eqb-true x.1 y.1 both.1 in λ i. (first i, second i),
+  λ e. and_from (eqb x.0 y.0) (eqb x.1 y.1) (eq-eqb x.0 y.0 (ap (λ p. p.0) e)) (eq-eqb x.1 y.1 (ap (λ p. p.1) e)),
+)
 
 -- the blocks are equal exactly where the events are
 pub same_blocks : (ps qs : List (ℕ × ℕ)) → AreBlocks ps → AreBlocks qs → pointwise (λ (x : ℕ × ℕ) (y : ℕ × ℕ). eqb x.0 y.0 && eqb x.1 y.1) ps qs ≡ pointwise eqb (events_of ps) (events_of qs)

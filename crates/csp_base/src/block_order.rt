@@ -15,10 +15,8 @@ fn agree_at(left: &[(u32, u64)], right: &[(u32, u64)], place: usize) -> bool
     ensures in_left { OnTrue result (place < length left.now) }
     ensures in_right { OnTrue result (place < length right.now) }
     ensures agree { OnTrue result (slice_index_or left.now place (0, 0) ≡ slice_index_or right.now place (0, 0)) }
-    ensures differ {
-        OnFalse result (place < length left.now → place < length right.now
-            → slice_index_or left.now place (0, 0) ≢ slice_index_or right.now place (0, 0))
-    }
+    ensures differ { OnFalse result (place < length left.now → place < length right.now
+        → slice_index_or left.now place (0, 0) ≢ slice_index_or right.now place (0, 0)) }
 {
     if place >= left.len() || place >= right.len() {
         return false;
@@ -31,10 +29,8 @@ fn common_front(left: &[(u32, u64)], right: &[(u32, u64)]) -> usize
     ensures in_left { result ≤ length left.now }
     ensures in_right { result ≤ length right.now }
     ensures same { take result left.now ≡ take result right.now }
-    ensures differ {
-        result < length left.now → result < length right.now
-            → slice_index_or left.now result (0, 0) ≢ slice_index_or right.now result (0, 0)
-    }
+    ensures differ { result < length left.now → result < length right.now
+        → slice_index_or left.now result (0, 0) ≢ slice_index_or right.now result (0, 0) }
 {
     let mut place = 0;
     while agree_at(left, right, place) {
@@ -61,10 +57,8 @@ fn word_order(left: u64, left_more: bool, right: u64, right_more: bool) -> Order
 fn order_at(left: &[(u32, u64)], right: &[(u32, u64)]) -> Ordering
     requires left_blocks { AreBlocks left.now }
     requires right_blocks { AreBlocks right.now }
-    requires differ {
-        0 < length left.now → 0 < length right.now
-            → slice_index_or left.now 0 (0, 0) ≢ slice_index_or right.now 0 (0, 0)
-    }
+    requires differ { 0 < length left.now → 0 < length right.now
+        → slice_index_or left.now 0 (0, 0) ≢ slice_index_or right.now 0 (0, 0) }
     ensures { result ≡ slice_cmp nat_cmp (events_of left.now) (events_of right.now) }
 {
     if left.len().min(right.len()) == 0 {

@@ -87,16 +87,18 @@ pub(crate) fn merged(
     requires left_blocks { AreBlocks left.now }
     requires right_blocks { AreBlocks right.now }
     ensures blocks { IfOk result (λ made. AreBlocks made.items) }
-    ensures members {
-        IfOk result (λ made. (x : ℕ) → has (events_of made.items) x ≡ keeps operation (has (events_of left.now) x) (has (events_of right.now) x))
-    }
+    ensures members { IfOk result (λ made. (x : ℕ) → has (events_of made.items) x ≡ keeps operation (has (events_of left.now) x) (has (events_of right.now) x)) }
 {
     let mut made = Vec::new(alloc);
     let mut first = left;
     let mut second = right;
     while first.len() + second.len() > 0 {
         let number = least_number(first, second);
-        let word = combined(operation, word_at_front(first, number), word_at_front(second, number));
+        let word = combined(
+            operation,
+            word_at_front(first, number),
+            word_at_front(second, number),
+        );
         push_word(&mut made, number, word)?;
         first = past_front(first, number);
         second = past_front(second, number);
@@ -108,18 +110,18 @@ pub(crate) fn merged(
 fn gives_any(operation: Operation, left: &[(u32, u64)], right: &[(u32, u64)]) -> bool
     requires left_blocks { AreBlocks left.now }
     requires right_blocks { AreBlocks right.now }
-    ensures found {
-        OnTrue result ((x : ℕ) × (keeps operation (has (events_of left.now) x) (has (events_of right.now) x) ≡ true))
-    }
-    ensures none {
-        OnFalse result ((x : ℕ) → keeps operation (has (events_of left.now) x) (has (events_of right.now) x) ≡ false)
-    }
+    ensures found { OnTrue result ((x : ℕ) × (keeps operation (has (events_of left.now) x) (has (events_of right.now) x) ≡ true)) }
+    ensures none { OnFalse result ((x : ℕ) → keeps operation (has (events_of left.now) x) (has (events_of right.now) x) ≡ false) }
 {
     let mut first = left;
     let mut second = right;
     while first.len() + second.len() > 0 {
         let number = least_number(first, second);
-        let word = combined(operation, word_at_front(first, number), word_at_front(second, number));
+        let word = combined(
+            operation,
+            word_at_front(first, number),
+            word_at_front(second, number),
+        );
         if word != 0 {
             return true;
         }
@@ -228,9 +230,7 @@ pub(crate) fn first_from(blocks: &[(u32, u64)], event: u32) -> Option<u32>
 pub(crate) fn include(blocks: &mut Vec<(u32, u64)>, event: u32) -> Result<(), AllocError>
     requires { AreBlocks blocks.old.items }
     ensures blocks { AreBlocks blocks.new.items }
-    ensures members {
-        OnOk result ((x : ℕ) → has (events_of blocks.new.items) x ≡ (event == x || has (events_of blocks.old.items) x))
-    }
+    ensures members { OnOk result ((x : ℕ) → has (events_of blocks.new.items) x ≡ (event == x || has (events_of blocks.old.items) x)) }
     ensures err { OnErr result (blocks.new.items ≡ blocks.old.items) }
 {
     let number = event / 64;

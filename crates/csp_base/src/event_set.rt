@@ -13,11 +13,10 @@ ghost use Rattle.csp_base.specs.Blocks.{AreBlocks, events_of, has_bit, word_at};
 ghost use Rattle.csp_base.specs.SetHash.{set_writes};
 ghost use Rattle.csp_base.specs.Events.{has, with_member, union_of, set_of, inter_of, diff_of, is_subset_of, meets_of};
 
-use crate::block_order;
-use crate::blocks;
 use crate::blocks::Operation;
 use crate::members::Members;
 use crate::no_memory::NoMemory;
+use crate::{block_order, blocks};
 use std::alloc::Global;
 use std::cmp::Ordering;
 use std::hash::{Hash, Hasher};
@@ -46,7 +45,7 @@ pub struct EventSet {
 impl Model for EventSet {
     ghost use Rattle.std.specs.Prelude.{List, ℕ};
     ghost use Rattle.std.specs.Ordering.{nat_cmp};
-ghost use Rattle.csp_base.specs.Blocks.{AreBlocks, events_of};
+    ghost use Rattle.csp_base.specs.Blocks.{AreBlocks, events_of};
 
     ghost Value = { List ℕ };
 

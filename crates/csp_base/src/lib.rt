@@ -1,4 +1,5 @@
-//! The plain values that every other crate speaks of: want of memory, byte strings and names.
+//! The plain values that every other crate speaks of: events, sets of events, traces, byte strings, names, places in a text
+//! and want of memory.
 #![tactic(auto)]
 
 mod block_order;
@@ -8,6 +9,8 @@ pub mod event_set;
 pub mod members;
 pub mod no_memory;
 pub mod place;
+#[cfg(test)]
+mod tests;
 pub mod trace;
 
 pub use bytes::{Bytes, Name};

@@ -48,9 +48,7 @@ fn settled(number: u32, word: u64, rest: &[(u32, u64)]) -> (u32, u64, &[(u32, u6
     requires rest { AreBlocksFrom (number + 1) rest.now }
     ensures number { result.0 < 2 ^ 26 }
     ensures rest { AreBlocksFrom (result.0 + 1) result.2.now }
-    ensures events {
-        word_events 64 (64 * result.0) result.1 ++ events_of result.2.now ≡ word_events 64 (64 * number) word ++ events_of rest.now
-    }
+    ensures events { word_events 64 (64 * result.0) result.1 ++ events_of result.2.now ≡ word_events 64 (64 * number) word ++ events_of rest.now }
     ensures none { result.1 ≡ 0 → word_events 64 (64 * number) word ++ events_of rest.now ≡ [] }
 {
     if word != 0 {
@@ -62,9 +60,7 @@ fn settled(number: u32, word: u64, rest: &[(u32, u64)]) -> (u32, u64, &[(u32, u6
 /// The word without its lowest bit.
 fn without_lowest(word: u64) -> u64
     requires { word ≢ 0 }
-    ensures {
-        (from : ℕ) → word_events 64 from word ≡ (from + trailing_zeros w64 word) ∷ word_events 64 from result
-    }
+    ensures { (from : ℕ) → word_events 64 from word ≡ (from + trailing_zeros w64 word) ∷ word_events 64 from result }
 {
     word & !(1 << word.trailing_zeros())
 }

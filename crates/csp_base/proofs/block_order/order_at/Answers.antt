@@ -18,4 +18,4 @@ returns c =
     let some_right : 0 < length c.args.right.now = omega arith in
     c.word_order.ensures
     ∙ order_at_first_words c.args.left.now c.args.right.now (0, 0) some_left some_right c.requires.left_blocks c.requires.right_blocks c.if-left-right.false
-      (λ e. c.requires.differ some_left some_right (λ i. (c.if-left-right.false i, e i)))
+    (λ e. c.requires.differ some_left some_right (λ i. (c.if-left-right.false i, e i)))

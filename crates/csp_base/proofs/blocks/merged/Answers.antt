@@ -17,7 +17,7 @@ loop-first-preserved c =
       c.combined-word.ensures,
       c.word_at_front.ensures,
       c.word_at_front-in-loop-first.ensures,
-      c.least_number-number.ensures
+      c.least_number-number.ensures,
     ) (IsMerging-step _ _ _ _ _ _ c.loop-first.invariant left)
 
 pub returns-clause-members : goal.returns-clause-members
