@@ -1,8 +1,21 @@
-//! The plain values that every other crate speaks of: want of memory, byte strings and names.
+//! The plain values that every other crate speaks of: events, sets of events, traces, byte strings, names, places in a text
+//! and want of memory.
 #![tactic(auto)]
 
+mod block_order;
+mod blocks;
 pub mod bytes;
+pub mod event_set;
+pub mod members;
 pub mod no_memory;
+pub mod place;
+#[cfg(test)]
+mod tests;
+pub mod trace;
 
 pub use bytes::{Bytes, Name};
+pub use event_set::{Event, EventSet};
+pub use members::Members;
 pub use no_memory::NoMemory;
+pub use place::Place;
+pub use trace::Trace;

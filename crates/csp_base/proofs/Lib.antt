@@ -1,0 +1,13 @@
+pub mod BlockMembers
+pub mod BlocksOf
+pub mod Finds
+pub mod Includes
+pub mod LowestBit
+pub mod MergeSteps
+pub mod OrderLemmas
+pub mod Places
+pub mod Rising
+pub mod SetLaws
+pub mod Sets
+pub mod Tests
+pub mod Words
