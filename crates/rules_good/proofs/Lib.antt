@@ -1,0 +1,4 @@
+pub mod Counts
+pub mod Cyclic
+pub mod Runs
+pub mod Shapes

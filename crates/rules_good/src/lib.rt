@@ -1,0 +1,2 @@
+//! The rankings of the three rules are good: each falls along every ungranted request.
+#![tactic(auto)]
