@@ -1,4 +1,6 @@
 pub mod Behaviour
+pub mod ClientServer
+pub mod ClientServerRanks
 pub mod Count
 pub mod Cyclic
 pub mod CyclicRanks
@@ -14,6 +16,9 @@ pub mod Part
 pub mod Path
 pub mod Ranking
 pub mod RawTable
+pub mod Resource
+pub mod ResourceRanks
+pub mod Roles
 pub mod Shape
 pub mod SilentBound
 pub mod Standing

@@ -38,6 +38,11 @@ pub record AreJoined (shape : Shape) (i j : ℕ) : Type 0 where
   pub left : (link_at shape link).left ≡ i
   pub right : (link_at shape link).right ≡ j
 
+-- the link in place l joins i and j, whichever is the left one
+pub record Joins (shape : Shape) (i j l : ℕ) : Type 0 where
+  pub within : l < length shape.links
+  pub ends : ((link_at shape l).left ≡ i) × ((link_at shape l).right ≡ j) ⊎ ((link_at shape l).left ≡ j) × ((link_at shape l).right ≡ i)
+
 -- links rise by the left part and then by the right one
 abbrev pub IsBelow : Link → Link → Type 0
 IsBelow a b = (a.left < b.left) ⊎ ((a.left ≡ b.left) × (a.right < b.right))

@@ -10,7 +10,7 @@ use Rattle.csp_tables.specs.Count.{count_below, count_in, above_all}
 use Rattle.csp_tables.specs.Table.{node_at, is_possible, IsRun, end_of}
 use Rattle.csp_tables.specs.Part.{Part, part_at, project, Meet, IsNonEmpty}
 use Rattle.csp_tables.specs.Trace.{IsWithin}
-use Rattle.csp_tables.specs.Shape.{Shape, link_at, is_end, IsWellFormed, acceptance_at}
+use Rattle.csp_tables.specs.Shape.{Shape, Joins, link_at, is_end, IsWellFormed, acceptance_at}
 use Rattle.csp_tables.specs.Standing.{RunsTo, IsPossible, Accepts, accepted, IsOn}
 use Rattle.csp_tables.specs.Cyclic.{links_of, place_of, IsNext, KeepsOrder, ReachedLinksDiffer, IsFullEnd, HasFullEnds}
 use Rattle.csp_tables.specs.CyclicRanks.{IsVertex, AreCyclicRanks, lap_at, ends_lap}
@@ -20,7 +20,7 @@ use Rattle.net_sound.proofs.Within.{part_form}
 use Rattle.rules_good.specs.Cyclic.{CyclicRanksFall}
 use Rattle.rules_good.proofs.Counts.{count_mono, count_strict, below_all, count_push_more, count_push_same, count_project, lap_over, lap_on}
 use Rattle.rules_good.proofs.Runs.{possible_after, run_induction, laps_push, possible_within}
-use Rattle.rules_good.proofs.Shapes.{Joins, turned, first_end, link_within, link_shared, some_link, own_run, own_end, Side, Request, request}
+use Rattle.rules_good.proofs.Shapes.{turned, first_end, link_within, link_shared, some_link, link_events, own_run, own_end, Side, Request, request}
 
 -- ---- places
 
@@ -201,10 +201,6 @@ laps_are shape number ranking i o r some s run =
     s run.follows
 
 -- ---- a request
-
--- the events of a link in a part's own run are those in the whole list
-link_events : (shape : Shape) (i l : ℕ) (s : List ℕ) → IsWellFormed shape → l < length shape.links → IsTrue (is_end shape i l) → count_in (link_at shape l).shared (own_run shape s i) ≡ count_in (link_at shape l).shared s
-link_events shape i l s w h end = count_project (link_at shape l).shared (part_at shape.parts i).alphabet s (link_within shape i l w h end)
 
 -- where both have the link next, one end has all its events
 clash : (shape : Shape) (number : ℕ → ℕ) (s : List ℕ) (i j k l : ℕ) → HasFullEnds shape number → (r : Request shape s i j k l) → IsNext shape number i (own_run shape s i) r.link → IsNext shape number j (own_run shape s j) r.link → (f : ℕ) → IsTrue (has (accepted shape j (own_run shape s j) l) f) → IsTrue (has (link_at shape r.link).shared f) → ⊥

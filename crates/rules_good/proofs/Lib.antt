@@ -1,4 +1,6 @@
+pub mod ClientServer
 pub mod Counts
 pub mod Cyclic
 pub mod Runs
 pub mod Shapes
+pub mod Walks

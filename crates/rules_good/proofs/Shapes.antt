@@ -2,17 +2,19 @@
 use Rattle.std.proofs.Common.{◌≡◌, ℕ, zero, suc, ◌+◌, ◌<◌, ◌≤◌, ◌⊎◌, inl, inr, List, [], ◌∷◌, length, get_or, Bool, true, false, ◌||◌, cond, IsTrue, nat_eq, refl, sym, ap, subst, ◌∙◌, arith, eq-eqb}
 use Rattle.std.proofs.lemmas.Bool.{cases_Bool, cases_order, cond-true, cond-false, or_cases, or_left, or_right, eqb-true}
 use Rattle.csp_base.specs.Members.{has}
+use Rattle.csp_tables.specs.Count.{count_in}
 use Rattle.csp_tables.specs.Table.{node_at, is_possible, IsRun, end_of, acceptances_after}
 use Rattle.csp_tables.specs.Part.{Part, part_at, alphabets_of, sharers, project, IsShared, Meet, IsNonEmpty, AreApart}
 use Rattle.csp_tables.specs.Trace.{IsWithin}
 use Rattle.csp_tables.specs.Form.{HasForm, HaveForm}
 use Rattle.csp_tables.specs.Stands.{Stands, acceptance}
 use Rattle.csp_tables.specs.Falls.{IsUngranted}
-use Rattle.csp_tables.specs.Shape.{Shape, Link, link_at, is_end, IsWellFormed, JoinsTwo, AreJoined, acceptance_at}
+use Rattle.csp_tables.specs.Shape.{Shape, Link, link_at, is_end, IsWellFormed, Joins, JoinsTwo, AreJoined, acceptance_at}
 use Rattle.csp_tables.specs.Standing.{RunsTo, IsPossible, Accepts, accepted, IsOn}
 use Rattle.csp_tables.specs.CyclicRanks.{IsVertex}
 use Rattle.net_sound.proofs.Sharers.{at_two}
 use Rattle.net_sound.proofs.Within.{acceptance_within, part_form}
+use Rattle.rules_good.proofs.Counts.{count_project}
 use Rattle.rules_good.proofs.Runs.{end_within, possible_within}
 
 -- ---- who shares an event
@@ -56,11 +58,6 @@ another (p ∷ ps) (suc i) e h k m =
         record { place = suc r.place; within = let l : r.place < length ps = r.within in omega arith; distinct = λ same. r.distinct (omega arith); owned = r.owned } ]
 
 -- ---- links
-
--- the link in place l joins i and j, whichever is the left one
-pub record Joins (shape : Shape) (i j l : ℕ) : Type 0 where
-  pub within : l < length shape.links
-  pub ends : ((link_at shape l).left ≡ i) × ((link_at shape l).right ≡ j) ⊎ ((link_at shape l).left ≡ j) × ((link_at shape l).right ≡ i)
 
 pub turned : (shape : Shape) (i j l : ℕ) → Joins shape i j l → Joins shape j i l
 turned shape i j l h = record { within = h.within; ends = elim h.ends [ inl k ↦ inr k | inr k ↦ inl k ] }
@@ -124,6 +121,10 @@ own_run shape s i = project (part_at shape.parts i).alphabet s
 
 abbrev pub own_end : Shape → List ℕ → ℕ → ℕ
 own_end shape s i = end_of (part_at shape.parts i).table 0 (own_run shape s i)
+
+-- the events of a link in a part's own run are those in the whole list
+pub link_events : (shape : Shape) (i l : ℕ) (s : List ℕ) → IsWellFormed shape → l < length shape.links → IsTrue (is_end shape i l) → count_in (link_at shape l).shared (own_run shape s i) ≡ count_in (link_at shape l).shared s
+link_events shape i l s w h end = count_project (link_at shape l).shared (part_at shape.parts i).alphabet s (link_within shape i l w h end)
 
 -- one side of it
 pub record Side (shape : Shape) (s : List ℕ) (i k : ℕ) : Type 0 where

@@ -1,1 +1,2 @@
+pub mod ClientServer
 pub mod Cyclic
