@@ -11,8 +11,8 @@ use Rattle.csp_tables.specs.Roles.{UseSets, use_at, PartShared}
 
 -- the last event of the list that is in the set, where there is one, and else what is given
 abbrev pub last_from : Option ℕ → List ℕ → List ℕ → Option ℕ
-last_from none set [] = none
-last_from none set (e ∷ s) = last_from (if has set e then Some e else none) set s
+last_from before set [] = before
+last_from before set (e ∷ s) = last_from (if has set e then Some e else before) set s
 
 -- The link is the one of the resource's last shared event: where the resource is held, it is held on this link.
 pub record IsHolder (shape : Shape) (i : ℕ) (s : List ℕ) (l : ℕ) : Type 0 where
