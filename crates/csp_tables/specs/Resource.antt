@@ -34,9 +34,22 @@ holds shape l s = is_odd (count_in (link_at shape l).shared s)
 abbrev pub acquires : List UseSets → List ℕ → ℕ → Bool
 acquires uses M j = (use_at uses j).resource && list_any (λ e. has (use_at uses j).acquire e) M
 
+-- A user holds the resource m while it offers to acquire j, so m must be numbered below j.
+pub record IsHeldWhile (shape : Shape) (uses : List UseSets) (m j : ℕ) : Type 0 where
+  pub user : ℕ
+  pub link : ℕ
+  pub run : List ℕ
+  pub place : ℕ
+  pub is_user : (use_at uses user).resource ≡ false
+  pub accepts : Accepts shape user run place
+  pub within : j < length shape.parts
+  pub acquiring : IsTrue (acquires uses (accepted shape user run place) j)
+  pub joins : Joins shape user m link
+  pub holding : IsTrue (holds shape link run)
+
 -- U5: what a user offers to acquire is numbered above all that it holds
 abbrev pub NumbersRise : Shape → List UseSets → (ℕ → ℕ) → Type 0
-NumbersRise shape uses number = (i j m l : ℕ) (s : List ℕ) (k : ℕ) → (use_at uses i).resource ≡ false → Accepts shape i s k → j < length shape.parts → IsTrue (acquires uses (accepted shape i s k) j) → Joins shape i m l → IsTrue (holds shape l s) → number m < number j
+NumbersRise shape uses number = (m j : ℕ) → IsHeldWhile shape uses m j → number m < number j
 
 -- the other four conditions
 pub record AreUses (shape : Shape) (uses : List UseSets) : Type 0 where

@@ -131,19 +131,19 @@ follows (visible e ∷ ls) s t h =
     (and_from _ _ ((and_parts _ _ first.0).0) rest.0, rest.1)
 
 -- the state that a trace leads to, and the node
-leads : (x : Turn) (s : List ℕ) (d : Component Turn) → After TurnStep (one x) s d → Follows (node_of x) s (node_of d.term)
+leads : (x : Turn) (s : List ℕ) (d : Component Turn) → After (ComponentStep TurnStep) (one x) s d → Follows (node_of x) s (node_of d.term)
 leads x s d a = subst (λ w. Follows (node_of x) w (node_of d.term)) a.2 (follows a.0 (one x) d a.1)
 
 member : (n e : ℕ) → IsTrue (has (n ∷ []) e) → n ≡ e
 member n e h = elim (or_cases (nat_eq n e) false h) [ inl same ↦ eqb-true n e same | inr never ↦ absurd (false≢true never) ]
 
 -- a stable state offers the acceptance of its node
-offers : (x y : Turn) (d : Component Turn) → d.alphabet ≡ both → d.term ≡ y → (n : ℕ) → TurnStep y (visible n) x → IsTrue (has both n) → (e : ℕ) → IsTrue (has (n ∷ []) e) → Offers TurnStep d e
+offers : (x y : Turn) (d : Component Turn) → d.alphabet ≡ both → d.term ≡ y → (n : ℕ) → TurnStep y (visible n) x → IsTrue (has both n) → (e : ℕ) → IsTrue (has (n ∷ []) e) → Offers (ComponentStep TurnStep) d e
 offers x y d al is n step owned e h =
-    subst (λ k. Offers TurnStep d k) (member n e h)
+    subst (λ k. Offers (ComponentStep TurnStep) d k) (member n e h)
     (record { alphabet = d.alphabet; term = x }, (refl, subst (λ w. IsTrue (has w n)) (sym al) owned, subst (λ z. TurnStep z (visible n) x) (sym is) step))
 
-at_node : (y : Turn) (d : Component Turn) → d.alphabet ≡ both → d.term ≡ y → Stable (ComponentStep TurnStep) d → OffersAcceptance TurnStep d (node_at turns.table (node_of y)).accept
+at_node : (y : Turn) (d : Component Turn) → d.alphabet ≡ both → d.term ≡ y → Stable (ComponentStep TurnStep) d → OffersAcceptance (ComponentStep TurnStep) d (node_at turns.table (node_of y)).accept
 at_node waking d al is stable = absurd (stable (record { alphabet = d.alphabet; term = at_zero }) (refl, subst (λ z. TurnStep z silent at_zero) (sym is) refl))
 at_node at_zero d al is stable = record { place = 0; acceptance = 0 ∷ []; listed = refl; offered = offers at_one at_zero d al is 0 (refl, refl) refl }
 at_node at_one d al is stable = record { place = 0; acceptance = 1 ∷ []; listed = refl; offered = offers at_zero at_one d al is 1 (refl, refl) refl }
@@ -162,7 +162,7 @@ behaves x start = record {
   traces = λ s t. subst (λ n. IsTrue (is_run turns.table n s)) start (leads x s t.0 t.1).0;
   accepts = λ s d a stable.
       let e : node_of d.term ≡ end_of turns.table 0 s = sym (subst (λ n. end_of turns.table n s ≡ node_of d.term) start (leads x s d a).1) in
-      subst (λ n. OffersAcceptance TurnStep d (node_at turns.table n).accept) e (at_node d.term d (sym (path_alphabet TurnStep a.0 (one x) d a.1)) refl stable);
+      subst (λ n. OffersAcceptance (ComponentStep TurnStep) d (node_at turns.table n).accept) e (at_node d.term d (sym (path_alphabet TurnStep a.0 (one x) d a.1)) refl stable);
   busy = λ s M k t h.
       let e : end_of turns.table 0 s ≡ node_of t.0.term = subst (λ n. end_of turns.table n s ≡ node_of t.0.term) start (leads x s t.0 t.1).1 in
       not_empty t.0.term k M (subst (λ n. slice_get (node_at turns.table n).accept k ≡ Some M) e h);

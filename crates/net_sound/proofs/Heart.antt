@@ -29,7 +29,7 @@ along : {T : Type 0} (Step : T → Label → T → Type 0) (ls : List Label) (cs
 along Step ls [] ds u i k c a h there = absurd (none-some c h)
 along Step ls (x ∷ cs) [] u i k c a h there = absurd a
 along Step ls (x ∷ cs) (d ∷ ds) u zero k c a h there =
-    record { state = d; placed = there d refl; after = subst (λ (y : Component _). After Step y (project y.alphabet (events_of ls)) d) (same_Some x c h) a.0 }
+    record { state = d; placed = there d refl; after = subst (λ (y : Component _). After (ComponentStep Step) y (project y.alphabet (events_of ls)) d) (same_Some x c h) a.0 }
 along Step ls (x ∷ cs) (d ∷ ds) u (suc i) k c a h there = along Step ls cs ds u i k c a.1 h there
 
 pub runs_are_traces : {T : Type 0} (Step : T → Label → T → Type 0) → RunsAreTraces Step
@@ -40,7 +40,7 @@ follows Step s [] ds [] i a b h = absurd (omega arith)
 follows Step s [] ds (p ∷ ps) i a b h = absurd b
 follows Step s (c ∷ cs) [] ps i a b h = absurd a
 follows Step s (c ∷ cs) (d ∷ ds) [] i a b h = absurd b
-follows Step s (c ∷ cs) (d ∷ ds) (p ∷ ps) zero a b h = b.0.traces (project p.alphabet s) (d, subst (λ al. After Step c (project al s) d) b.0.alphabet a.0)
+follows Step s (c ∷ cs) (d ∷ ds) (p ∷ ps) zero a b h = b.0.traces (project p.alphabet s) (d, subst (λ al. After (ComponentStep Step) c (project al s) d) b.0.alphabet a.0)
 follows Step s (c ∷ cs) (d ∷ ds) (p ∷ ps) (suc i) a b h = follows Step s cs ds ps i a.1 b.1 (omega arith)
 
 pub runs_are_joint : {T : Type 0} (Step : T → Label → T → Type 0) → RunsAreJoint Step
@@ -72,9 +72,9 @@ path_alphabet Step (l ∷ ls) c d h = step_alphabet Step c l h.0 h.1 ∙ path_al
 record OffersAt {T : Type 0} (Step : T → Label → T → Type 0) (s : List ℕ) (d : Component T) (p : Part) (k : ℕ) : Type 0 where
   alphabet : d.alphabet ≡ p.alphabet
   stands : Stands p s k
-  offered : (e : ℕ) → IsTrue (has (acceptance p s k) e) → Offers Step d e
+  offered : (e : ℕ) → IsTrue (has (acceptance p s k) e) → Offers (ComponentStep Step) d e
 
-offers_at : {T : Type 0} (Step : T → Label → T → Type 0) (s : List ℕ) (c d : Component T) (p : Part) → HasBehaviour Step c p → After Step c (project p.alphabet s) d → (o : OffersAcceptance Step d (acceptances_of p s)) → OffersAt Step s d p o.place
+offers_at : {T : Type 0} (Step : T → Label → T → Type 0) (s : List ℕ) (c d : Component T) (p : Part) → HasBehaviour Step c p → After (ComponentStep Step) c (project p.alphabet s) d → (o : OffersAcceptance (ComponentStep Step) d (acceptances_of p s)) → OffersAt Step s d p o.place
 offers_at Step s c d p b a o =
     let is : acceptance p s o.place ≡ o.acceptance = get_or_from_slice_get (acceptances_of p s) o.place o.acceptance [] o.listed in
     record {
@@ -101,7 +101,7 @@ choose Step s [] (d ∷ ds) ps a st b = absurd a
 choose Step s (c ∷ cs) [] ps a st b = absurd a
 choose Step s (c ∷ cs) (d ∷ ds) [] a st b = absurd b
 choose Step s (c ∷ cs) (d ∷ ds) (p ∷ ps) a st b =
-    let here = subst (λ al. After Step c (project al s) d) b.0.alphabet a.0 in
+    let here = subst (λ al. After (ComponentStep Step) c (project al s) d) b.0.alphabet a.0 in
     let o = b.0.accepts (project p.alphabet s) d here st.0 in
     let rest = choose Step s cs ds ps a.1 st.1 b.1 in
     (o.place ∷ rest.0, (offers_at Step s c d p b.0 here o, rest.1))

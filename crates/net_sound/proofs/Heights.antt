@@ -13,7 +13,7 @@ use Rattle.net_sound.specs.Heights.{HeightsAreExact}
 use Rattle.net_sound.proofs.FlatLists.{step_alphabet}
 
 -- a component with the alphabet of c is c standing at its term
-stands : {T : Type 0} (c d : Component T) → c.alphabet ≡ d.alphabet → d ≡ standing_at c d.term
+pub stands : {T : Type 0} (c d : Component T) → c.alphabet ≡ d.alphabet → d ≡ standing_at c d.term
 stands c d h = ap (λ al. record { alphabet = al; term = d.term }) (sym h)
 
 walk_up : {T : Type 0} (Step : T → Label → T → Type 0) (c : Component T) (terms : List T) (raw : RawTable) (k m n : ℕ) (x : T) → IsTableOf Step c terms raw → slice_get terms m ≡ Some x → Silently (RawStep raw) k m n → (d : Component T) × Silently (ComponentStep Step) k (standing_at c x) d

@@ -174,7 +174,7 @@ held_falls shape uses number top ranking s i j k l g r resource user held =
       inl q ↦
         let bounds = number_within shape uses number top ranking q.part g q.within (acquired_resource uses (accepted shape j (own_run shape s j) l) q.part q.acquired) in
         let most : number q.part ≤ top = bounds.1 in
-        let above : number i < number q.part = g.rise j q.part i r.link (own_run shape s j) l user r.there.accepts q.within q.acquired (turned shape i j r.link r.joins) odd in
+        let above : number i < number q.part = g.rise i q.part (record { user = j; link = r.link; run = own_run shape s j; place = l; is_user = user; accepts = r.there.accepts; within = q.within; acquiring = q.acquired; joins = turned shape i j r.link r.joins; holding = odd }) in
         by_numbers x y (2 * (top - number i) + 1) (2 * (top - number q.part) + 2) high q.rank_is (omega arith)
       | inr q ↦ by_numbers x y (2 * (top - number i) + 1) 0 high q.rank_is (omega arith) ]
 
