@@ -1,11 +1,11 @@
 -- When a table has the behaviour of a component.
-use Rattle.std.specs.Prelude.{◌≡◌, ◌+◌, ◌<◌, ◌≤◌, ℕ, List, [], ◌∷◌, Some, length, slice_get, IsTrue}
+use Rattle.std.specs.Prelude.{◌≡◌, ℕ, List, [], ◌∷◌, Some, slice_get, IsTrue}
 use Rattle.csp_base.specs.Members.{has}
 use Rattle.csp_tables.specs.Label.{Label}
 use Rattle.csp_tables.specs.Path.{Stable}
 use Rattle.csp_tables.specs.Network.{Component, ComponentStep}
-use Rattle.csp_tables.specs.Trace.{After, IsTrace, Offers, IsWithin}
-use Rattle.csp_tables.specs.Table.{Node, IsRun, acceptances_after}
+use Rattle.csp_tables.specs.Trace.{After, IsTrace, Offers}
+use Rattle.csp_tables.specs.Table.{IsRun, acceptances_after}
 use Rattle.csp_tables.specs.Part.{Part, IsNonEmpty}
 
 -- the state offers every event of an acceptance in the list

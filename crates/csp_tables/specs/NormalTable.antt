@@ -1,10 +1,10 @@
 -- The normal table of a labelled transition system: one node for each class of traces with the same future, with exactly the
 -- acceptances after those traces. (Determinisation, with minimal acceptances, merged by equal future.)
-use Rattle.std.specs.Prelude.{◌≡◌, ◌↔◌, ◌<◌, ℕ, List, [], length, get_or, IsTrue}
+use Rattle.std.specs.Prelude.{◌≡◌, ◌↔◌, ◌<◌, ℕ, List, [], length, get_or}
 use Rattle.csp_base.specs.Members.{has}
 use Rattle.csp_tables.specs.Label.{Label}
 use Rattle.csp_tables.specs.Path.{Stable}
-use Rattle.csp_tables.specs.Trace.{After, IsTrace, IsAcceptance, HaveSameFuture, IsWithin}
+use Rattle.csp_tables.specs.Trace.{After, IsTrace, IsAcceptance, HaveSameFuture}
 use Rattle.csp_tables.specs.Table.{Node, IsRun, end_of, acceptances_after}
 use Rattle.csp_tables.specs.Behaviour.{OffersAcceptance}
 

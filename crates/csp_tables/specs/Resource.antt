@@ -1,6 +1,6 @@
 -- The rule of shared resources: each link joins a user and a resource. A resource that is free can be acquired by any of its
 -- users, and one that is held can be released by the user that holds it. Users acquire in rising order.
-use Rattle.std.specs.Prelude.{◌≡◌, ◌<◌, ◌⊎◌, ℕ, List, [], ◌∷◌, Bool, true, false, not, ◌&&◌, IsTrue, Option, Some, None, length, if◌then◌else◌}
+use Rattle.std.specs.Prelude.{◌≡◌, ◌<◌, ℕ, List, [], ◌∷◌, Bool, true, false, not, ◌&&◌, IsTrue, Option, Some, None, length, if◌then◌else◌}
 use Rattle.std.specs.List.{list_any}
 use Rattle.csp_base.specs.Members.{has}
 use Rattle.csp_tables.specs.Count.{count_in, is_odd}

@@ -1,6 +1,6 @@
 -- The sets that a script tells of a component: the requests and acknowledgements of a client and of a server; what acquires
 -- and what releases a resource. A component of which nothing is told has empty sets.
-use Rattle.std.specs.Prelude.{◌≡◌, ℕ, List, [], ◌∷◌, Bool, false, ◌&&◌, get_or, if◌then◌else◌}
+use Rattle.std.specs.Prelude.{◌≡◌, ℕ, List, [], Bool, false, ◌&&◌, get_or, if◌then◌else◌}
 use Rattle.csp_base.specs.Members.{has}
 use Rattle.csp_tables.specs.Part.{part_at, sharers}
 use Rattle.csp_tables.specs.Shape.{Shape}

@@ -1,6 +1,6 @@
 -- The shape of a network: its parts, the links that join two parts which share events, and the vocabulary, the events that
 -- two parts or more have.
-use Rattle.std.specs.Prelude.{◌≡◌, ◌<◌, ◌≤◌, ◌↔◌, ◌⊎◌, ℕ, List, [], ◌∷◌, Bool, ◌||◌, nat_eq, IsTrue, length, get_or}
+use Rattle.std.specs.Prelude.{◌≡◌, ◌<◌, ◌≤◌, ◌↔◌, ◌⊎◌, ℕ, List, [], Bool, ◌||◌, nat_eq, IsTrue, length, get_or}
 use Rattle.csp_base.specs.Members.{has}
 use Rattle.csp_tables.specs.Table.{Node, node_at, is_possible, IsRun, end_of}
 use Rattle.csp_tables.specs.Part.{Part, part_at, alphabets_of, sharers, Meet, IsNonEmpty}

@@ -1,29 +1,25 @@
 -- The two networks of components that take two events in turn.
-use Rattle.std.proofs.Common.{◌≡◌, ℕ, zero, suc, ◌+◌, ◌<◌, ◌≤◌, ◌⊎◌, inl, inr, ℤ, pos, ◌<ℤ◌, List, [], ◌∷◌, map, get_or, length, Bool, true, false, ◌||◌, ◌&&◌, cond, IsTrue, MatchBool, nat_eq, Some, slice_get, refl, sym, ap, subst, ◌∙◌, arith, eq-eqb}
-use Rattle.std.proofs.lemmas.Bool.{false≢true, or_left, or_right, and_from, and_parts, eqb-true, or_cases}
+use Rattle.std.proofs.Common.{◌≡◌, ℕ, zero, suc, ◌+◌, ◌<◌, ◌≤◌, inl, inr, List, [], ◌∷◌, length, Bool, true, false, ◌||◌, cond, IsTrue, MatchBool, nat_eq, Some, slice_get, refl, sym, ap, subst, ◌∙◌, arith}
+use Rattle.std.proofs.lemmas.Bool.{false≢true, and_from, and_parts, eqb-true, or_cases}
 use Rattle.std.proofs.lemmas.Option.{none-some, same_Some}
 use Rattle.csp_base.specs.Members.{has}
 use Rattle.csp_tables.specs.Label.{Label}
 use Rattle.csp_tables.specs.Label.Label.{silent, visible}
-use Rattle.csp_tables.specs.Path.{Path, Reached, Silently, Stable}
-use Rattle.csp_tables.specs.Live.{Live}
-use Rattle.csp_tables.specs.Network.{Component, ComponentStep, Tree, Operands, NetworkStep, leaves}
-use Rattle.csp_tables.specs.Network.Tree.{leaf, parallel}
-use Rattle.csp_tables.specs.Flat.{OneMoves, AllTakePart, FlatStep}
-use Rattle.csp_tables.specs.SilentBound.{IsGreatestSilence, IsSilentBound}
-use Rattle.csp_tables.specs.Trace.{events_of, After, IsTrace, Offers}
-use Rattle.csp_tables.specs.Table.{Node, node_at, node_after, is_run, IsRun, end_of, acceptances_after}
-use Rattle.csp_tables.specs.Part.{Part, part_at, project, IsNonEmpty, TripleDisjoint, sharers}
+use Rattle.csp_tables.specs.Path.{Path, Silently, Stable}
+use Rattle.csp_tables.specs.Network.{Component, ComponentStep, Tree, NetworkStep, leaves}
+use Rattle.csp_tables.specs.Flat.{FlatStep}
+use Rattle.csp_tables.specs.SilentBound.{IsGreatestSilence}
+use Rattle.csp_tables.specs.Trace.{events_of, After, Offers}
+use Rattle.csp_tables.specs.Table.{node_at, node_after, is_run, end_of}
+use Rattle.csp_tables.specs.Part.{Part, part_at, project, IsNonEmpty, sharers}
 use Rattle.csp_tables.specs.Stands.{Stands, acceptance, acceptances_of}
-use Rattle.csp_tables.specs.Form.{HasForm, HaveForm}
-use Rattle.csp_tables.specs.Behaviour.{OffersAcceptance, HasBehaviour, HaveBehaviours}
-use Rattle.csp_tables.specs.Falls.{Falls, IsUngranted}
-use Rattle.csp_tables.specs.Ranking.{Ranking}
+use Rattle.csp_tables.specs.Form.{HasForm}
+use Rattle.csp_tables.specs.Behaviour.{OffersAcceptance, HasBehaviour}
+use Rattle.csp_tables.specs.Falls.{Falls}
 use Rattle.csp_tables.specs.GoodRanking.{IsGoodRanking}
 use Rattle.net_sound.specs.Heart.{IsSound}
 use Rattle.net_sound.specs.Example.{Turn, TurnStep, both, pair, turns, flat_ranking, ExampleIsLive, ExampleIsStuck}
 use Rattle.net_sound.specs.Example.Turn.{waking, at_zero, at_one}
-use Rattle.net_sound.proofs.FlatLists.{by_test}
 use Rattle.net_sound.proofs.Flattening.{forth}
 use Rattle.net_sound.proofs.Heart.{good_rankings_mean_live, path_alphabet}
 

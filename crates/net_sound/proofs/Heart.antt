@@ -1,23 +1,21 @@
 -- The heart: what each component stands at in a reached stable state, and the step that an agreed event is.
-use Rattle.std.proofs.Common.{◌≡◌, ℕ, zero, suc, ◌+◌, ◌<◌, ◌≤◌, ◌⊎◌, inl, inr, List, [], ◌∷◌, Some, slice_get, get_or, length, map, Bool, true, false, ◌||◌, IsTrue, MatchBool, replicate, refl, sym, ap, ap₂, subst, ◌∙◌, arith}
+use Rattle.std.proofs.Common.{◌≡◌, ℕ, zero, suc, ◌<◌, inl, inr, List, [], ◌∷◌, Some, slice_get, get_or, length, IsTrue, MatchBool, replicate, refl, sym, ap, ap₂, subst, ◌∙◌, arith}
 use Rattle.std.proofs.lemmas.Bool.{cases_Bool, or_left, or_right}
 use Rattle.std.proofs.lemmas.Option.{get_or_from_slice_get, slice_get_within, none-some, same_Some}
 use Rattle.csp_base.specs.Members.{has}
 use Rattle.csp_tables.specs.Label.{Label}
 use Rattle.csp_tables.specs.Label.Label.{silent, visible}
-use Rattle.csp_tables.specs.Path.{Path, Reached, Silently, Stable}
-use Rattle.csp_tables.specs.Live.{Live}
-use Rattle.csp_tables.specs.Network.{Component, ComponentStep, Tree, NetworkStep, leaves}
+use Rattle.csp_tables.specs.Path.{Path, Stable}
+use Rattle.csp_tables.specs.Network.{Component, ComponentStep, Tree, leaves}
 use Rattle.csp_tables.specs.Flat.{in_some_component, OneMoves, AllTakePart, FlatStep}
-use Rattle.csp_tables.specs.WellNested.{WellNested}
 use Rattle.csp_tables.specs.Trace.{events_of, After, Offers}
 use Rattle.csp_tables.specs.Part.{Part, part_at, alphabets_of, project, IsNonEmpty, TripleDisjoint}
-use Rattle.csp_tables.specs.Stands.{Follows, IsJointRun, Stands, AllStand, IsAgreed, acceptance, acceptances_of}
+use Rattle.csp_tables.specs.Stands.{Follows, Stands, AllStand, IsAgreed, acceptance, acceptances_of}
 use Rattle.csp_tables.specs.Behaviour.{OffersAcceptance, HasBehaviour, HaveBehaviours}
 use Rattle.csp_tables.specs.Ranking.{Ranking}
 use Rattle.csp_tables.specs.GoodRanking.{IsGoodRanking}
 use Rattle.net_sound.specs.Projection.{ComesAlong, RunsAreTraces, RunsAreJoint, SilenceIsBounded}
-use Rattle.net_sound.specs.Heart.{IsSound, GoodRankingsMeanLive}
+use Rattle.net_sound.specs.Heart.{GoodRankingsMeanLive}
 use Rattle.net_sound.proofs.FlatLists.{alphabets, match_true, match_false, step_alphabet}
 use Rattle.net_sound.proofs.Flattening.{back}
 use Rattle.net_sound.proofs.Local.{AllAfter, all_after, shares, at_most, run_forth, run_kept}

@@ -1,14 +1,13 @@
 -- Silent walks of a component and of its numbered table.
-use Rattle.std.proofs.Common.{◌≡◌, ℕ, zero, suc, ◌+◌, ◌<◌, ◌≤◌, max, List, [], ◌∷◌, Some, None, slice_get, get_or, length, replicate, refl, sym, ap, subst, ◌∙◌, arith, inl, inr, ◌⊎◌}
+use Rattle.std.proofs.Common.{◌≡◌, ℕ, zero, suc, ◌<◌, ◌≤◌, List, [], ◌∷◌, Some, slice_get, get_or, length, refl, sym, ap, subst, ◌∙◌, arith, inl, inr}
 use Rattle.std.proofs.lemmas.Bool.{cases_lt}
-use Rattle.std.proofs.lemmas.Option.{none-some, same_Some, slice_get_within}
+use Rattle.std.proofs.lemmas.Option.{same_Some, slice_get_within}
 use Rattle.csp_tables.specs.Label.{Label}
-use Rattle.csp_tables.specs.Label.Label.{silent, visible}
-use Rattle.csp_tables.specs.Path.{Path, Reached, Silently}
+use Rattle.csp_tables.specs.Label.Label.{silent}
+use Rattle.csp_tables.specs.Path.{Path, Silently}
 use Rattle.csp_tables.specs.Network.{Component, ComponentStep}
-use Rattle.csp_tables.specs.SilentBound.{IsGreatestSilence}
-use Rattle.csp_tables.specs.RawTable.{RawTable, RawStep, standing_at, IsTableOf, IsStepOf, IsInTable}
-use Rattle.csp_tables.specs.Heights.{IsHeight, AreHeights, greatest}
+use Rattle.csp_tables.specs.RawTable.{RawTable, RawStep, standing_at, IsTableOf}
+use Rattle.csp_tables.specs.Heights.{greatest}
 use Rattle.net_sound.specs.Heights.{HeightsAreExact}
 use Rattle.net_sound.proofs.FlatLists.{step_alphabet}
 

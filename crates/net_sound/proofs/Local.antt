@@ -1,16 +1,15 @@
 -- What a run of the network is for each of its components: steps of that component alone, whose events are the run's
 -- events in the component's alphabet. And how many of the silent steps in a row are the component's.
-use Rattle.std.proofs.Common.{◌≡◌, ℕ, zero, suc, ◌+◌, ◌<◌, ◌≤◌, ◌⊎◌, inl, inr, List, [], ◌∷◌, ◌++◌, Some, None, slice_get, Bool, true, false, cond, IsTrue, MatchBool, replicate, refl, sym, ap, ap₂, subst, ◌∙◌, arith}
-use Rattle.std.proofs.lemmas.Bool.{cond-true, cond-false, false≢true}
-use Rattle.std.proofs.lemmas.Option.{none-some, same_Some}
+use Rattle.std.proofs.Common.{◌≡◌, ℕ, zero, suc, ◌+◌, ◌≤◌, inl, inr, List, [], ◌∷◌, MatchBool, refl, sym, ap, subst, ◌∙◌, arith}
+use Rattle.std.proofs.lemmas.Bool.{cond-true, cond-false}
 use Rattle.csp_base.specs.Members.{has}
 use Rattle.csp_tables.specs.Label.{Label}
 use Rattle.csp_tables.specs.Label.Label.{silent, visible}
-use Rattle.csp_tables.specs.Path.{Path, Reached, Silently, Stable}
+use Rattle.csp_tables.specs.Path.{Path, Reached, Silently}
 use Rattle.csp_tables.specs.Network.{Component, ComponentStep, Tree, NetworkStep, leaves}
-use Rattle.csp_tables.specs.Flat.{in_some_component, OneMoves, AllTakePart, FlatStep}
+use Rattle.csp_tables.specs.Flat.{OneMoves, AllTakePart, FlatStep}
 use Rattle.csp_tables.specs.WellNested.{WellNested}
-use Rattle.csp_tables.specs.SilentBound.{IsGreatestSilence, IsSilentBound}
+use Rattle.csp_tables.specs.SilentBound.{IsSilentBound}
 use Rattle.csp_tables.specs.Trace.{events_of, After}
 use Rattle.csp_tables.specs.Part.{project}
 use Rattle.net_sound.proofs.FlatLists.{by_test, step_alphabet}

@@ -1,5 +1,5 @@
 -- A component and its numbered table do the same, so the normal table of the one has the behaviour of the other.
-use Rattle.std.proofs.Common.{◌≡◌, ℕ, ◌<◌, List, [], ◌∷◌, Some, slice_get, get_or, length, IsTrue, nat_eq, refl, sym, ap, subst, ◌∙◌, eq-eqb, true, false}
+use Rattle.std.proofs.Common.{◌≡◌, ℕ, List, [], ◌∷◌, Some, slice_get, get_or, nat_eq, refl, sym, ap, subst, ◌∙◌, eq-eqb}
 use Rattle.std.proofs.lemmas.Bool.{false≢true, or_left}
 use Rattle.std.proofs.lemmas.Option.{same_Some, slice_get_within, get_or_from_slice_get}
 use Rattle.csp_base.specs.Members.{has}
@@ -7,12 +7,11 @@ use Rattle.csp_tables.specs.Label.{Label}
 use Rattle.csp_tables.specs.Label.Label.{silent, visible}
 use Rattle.csp_tables.specs.Path.{Path, Stable}
 use Rattle.csp_tables.specs.Network.{Component, ComponentStep}
-use Rattle.csp_tables.specs.Trace.{After, IsTrace, Offers, IsStableOffer, IsAcceptance, IsBusy}
+use Rattle.csp_tables.specs.Trace.{IsTrace, IsAcceptance, IsBusy}
 use Rattle.csp_tables.specs.RawTable.{RawTable, RawStep, standing_at, IsTableOf}
-use Rattle.csp_tables.specs.Table.{Node, acceptances_after}
+use Rattle.csp_tables.specs.Table.{acceptances_after}
 use Rattle.csp_tables.specs.Part.{IsNonEmpty}
-use Rattle.csp_tables.specs.Behaviour.{OffersAcceptance, HasBehaviour}
-use Rattle.csp_tables.specs.NormalTable.{IsNormalTable}
+use Rattle.csp_tables.specs.Behaviour.{OffersAcceptance}
 use Rattle.net_sound.specs.Normal.{NormalTablesBehave}
 use Rattle.net_sound.proofs.FlatLists.{step_alphabet}
 use Rattle.net_sound.proofs.Heights.{stands}
@@ -58,14 +57,14 @@ trace_down Step c terms raw s t (d, a) =
 
 offers_up : {T : Type 0} (Step : T → Label → T → Type 0) (c : Component T) (terms : List T) (raw : RawTable) (d : Component T) (n : ℕ) (acceptances : List (List ℕ)) → IsTableOf Step c terms raw → slice_get terms n ≡ Some d.term → c.alphabet ≡ d.alphabet → OffersAcceptance (RawStep raw) n acceptances → OffersAcceptance (ComponentStep Step) d acceptances
 offers_up Step c terms raw d n acceptances t h a o = record {
-    place = o.place;
-    acceptance = o.acceptance;
-    listed = o.listed;
-    offered = λ e m.
-        let r = o.offered e m in
-        let x = step_up Step c terms raw n r.0 (visible e) d.term t h r.1 in
-        (standing_at c x.0, subst (λ y. ComponentStep Step y (visible e) (standing_at c x.0)) (sym (stands c d a)) x.1);
-  }
+  place = o.place;
+  acceptance = o.acceptance;
+  listed = o.listed;
+  offered = λ e m.
+      let r = o.offered e m in
+      let x = step_up Step c terms raw n r.0 (visible e) d.term t h r.1 in
+      (standing_at c x.0, subst (λ y. ComponentStep Step y (visible e) (standing_at c x.0)) (sym (stands c d a)) x.1);
+}
 
 stable_down : {T : Type 0} (Step : T → Label → T → Type 0) (c : Component T) (terms : List T) (raw : RawTable) (d : Component T) (n : ℕ) → IsTableOf Step c terms raw → slice_get terms n ≡ Some d.term → c.alphabet ≡ d.alphabet → Stable (ComponentStep Step) d → Stable (RawStep raw) n
 stable_down Step c terms raw d n t h a stable m step =
@@ -93,13 +92,13 @@ not_empty Step c terms raw s (e ∷ M) t busy a = (e, or_left (nat_eq e e) (has 
 
 pub normal_tables_behave : {T : Type 0} (Step : T → Label → T → Type 0) → NormalTablesBehave Step
 normal_tables_behave Step c terms raw table t busy normal = record {
-    alphabet = refl;
-    traces = λ s h. (normal.traces s).0 (trace_down Step c terms raw s t h);
-    accepts = λ s d a stable.
-        let r = down Step c terms raw a.0 c d 0 t t.first refl a.1 in
-        offers_up Step c terms raw d r.number (acceptances_after table s) t r.listed r.alphabet
-        (normal.covered s r.number (a.0, r.path, a.2) (stable_down Step c terms raw d r.number t r.listed r.alphabet stable));
-    busy = λ s M k h listed.
-        subst IsNonEmpty (get_or_from_slice_get (acceptances_after table s) k M [] listed)
-        (not_empty Step c terms raw s (get_or (acceptances_after table s) k []) t busy (normal.sound s k (trace_down Step c terms raw s t h) (slice_get_within (acceptances_after table s) k M listed)));
-  }
+  alphabet = refl;
+  traces = λ s h. (normal.traces s).0 (trace_down Step c terms raw s t h);
+  accepts = λ s d a stable.
+      let r = down Step c terms raw a.0 c d 0 t t.first refl a.1 in
+      offers_up Step c terms raw d r.number (acceptances_after table s) t r.listed r.alphabet
+      (normal.covered s r.number (a.0, r.path, a.2) (stable_down Step c terms raw d r.number t r.listed r.alphabet stable));
+  busy = λ s M k h listed.
+      subst IsNonEmpty (get_or_from_slice_get (acceptances_after table s) k M [] listed)
+      (not_empty Step c terms raw s (get_or (acceptances_after table s) k []) t busy (normal.sound s k (trace_down Step c terms raw s t h) (slice_get_within (acceptances_after table s) k M listed)));
+}

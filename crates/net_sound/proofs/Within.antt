@@ -1,7 +1,6 @@
 -- In parts that have the form of tables, each acceptance is within the part's alphabet.
-use Rattle.std.proofs.Common.{◌≡◌, ℕ, zero, suc, ◌<◌, List, [], ◌∷◌, length, get_or, IsTrue, arith}
+use Rattle.std.proofs.Common.{ℕ, zero, suc, ◌<◌, List, [], ◌∷◌, length, get_or, arith}
 use Rattle.std.proofs.lemmas.Bool.{false≢true}
-use Rattle.csp_base.specs.Members.{has}
 use Rattle.csp_tables.specs.Trace.{IsWithin}
 use Rattle.csp_tables.specs.Table.{Node, node_at, end_of}
 use Rattle.csp_tables.specs.Form.{HasForm, HaveForm, AreWithin, NodesHaveForm}

@@ -44,8 +44,7 @@ pub fn heights_are_exact<S: Transitions>()
 /// The normal table of a component that is never empty-handed has the component's behaviour.
 pub fn normal_tables_behave<S: Transitions>()
     ensures { NormalTablesBehave S.step }
-{
-}
+{}
 
 /// Over tables alone: ranks that fall along ungranted requests leave no state in which no event is agreed.
 pub fn none_is_stuck()

@@ -1,9 +1,9 @@
 -- Counts: of numbers that pass a test, of events in a set; and whole laps of a count.
-use Rattle.std.proofs.Common.{◌≡◌, ℕ, zero, suc, ◌+◌, ◌*◌, ◌/◌, ◌%◌, ◌<◌, ◌≤◌, ◌⊎◌, inl, inr, max, List, [], ◌∷◌, ◌++◌, Bool, true, false, cond, not, IsTrue, refl, sym, ap, subst, ◌∙◌, arith}
-use Rattle.std.proofs.lemmas.Bool.{cases_Bool, cases_eq, cond-true, cond-false, false≢true, both_ways}
-use Rattle.std.proofs.lemmas.Nat.{div-add-mod', div-mul-add, mod-mul-add, mod_below}
+use Rattle.std.proofs.Common.{◌≡◌, ℕ, zero, suc, ◌+◌, ◌*◌, ◌/◌, ◌%◌, ◌<◌, ◌≤◌, inl, inr, List, [], ◌∷◌, ◌++◌, Bool, true, false, cond, IsTrue, refl, sym, ap, subst, ◌∙◌, arith}
+use Rattle.std.proofs.lemmas.Bool.{cases_Bool, cases_eq, cond-true, cond-false, both_ways}
+use Rattle.std.proofs.lemmas.Nat.{div-add-mod', div-mul-add, mod-mul-add}
 use Rattle.csp_base.specs.Members.{has}
-use Rattle.csp_tables.specs.Count.{count_below, count_in, is_odd, above_all}
+use Rattle.csp_tables.specs.Count.{count_below, count_in, above_all}
 use Rattle.csp_tables.specs.Part.{project}
 use Rattle.csp_tables.specs.Trace.{IsWithin}
 
@@ -24,22 +24,25 @@ count_mono f g zero h = omega arith
 count_mono f g (suc n) h =
     let rest : count_below f n ≤ count_below g n = count_mono f g n (λ m l. h m (omega arith)) in
     elim (cases_Bool (f n)) [
-      inl k ↦ omega (arith, counted f n k, counted g n (h n (omega arith) k))
-      | inr k ↦ elim (cases_Bool (g n)) [ inl j ↦ omega (arith, not_counted f n k, counted g n j) | inr j ↦ omega (arith, not_counted f n k, not_counted g n j) ] ]
+      | inl k ↦ omega (arith, counted f n k, counted g n (h n (omega arith) k))
+      | inr k ↦ elim (cases_Bool (g n)) [ inl j ↦ omega (arith, not_counted f n k, counted g n j) | inr j ↦ omega (arith, not_counted f n k, not_counted g n j) ]
+    ]
 
 -- and one more at least where one passes that test alone
 pub count_strict : (f g : ℕ → Bool) (n x : ℕ) → ((m : ℕ) → m < n → IsTrue (f m) → IsTrue (g m)) → x < n → f x ≡ false → g x ≡ true → count_below f n < count_below g n
 count_strict f g zero x h l a b = absurd (omega arith)
 count_strict f g (suc n) x h l a b =
     elim (cases_eq x n) [
-      inl e ↦
-        let rest : count_below f n ≤ count_below g n = count_mono f g n (λ m i. h m (omega arith)) in
-        omega (arith, not_counted f n (subst (λ y. f y ≡ false) e a), counted g n (subst (λ y. g y ≡ true) e b))
+      | inl e ↦
+          let rest : count_below f n ≤ count_below g n = count_mono f g n (λ m i. h m (omega arith)) in
+          omega (arith, not_counted f n (subst (λ y. f y ≡ false) e a), counted g n (subst (λ y. g y ≡ true) e b))
       | inr ne ↦
-        let rest : count_below f n < count_below g n = count_strict f g n x (λ m i. h m (omega arith)) (omega arith) a b in
-        elim (cases_Bool (f n)) [
-          inl k ↦ omega (arith, counted f n k, counted g n (h n (omega arith) k))
-          | inr k ↦ elim (cases_Bool (g n)) [ inl j ↦ omega (arith, not_counted f n k, counted g n j) | inr j ↦ omega (arith, not_counted f n k, not_counted g n j) ] ] ]
+          let rest : count_below f n < count_below g n = count_strict f g n x (λ m i. h m (omega arith)) (omega arith) a b in
+          elim (cases_Bool (f n)) [
+            | inl k ↦ omega (arith, counted f n k, counted g n (h n (omega arith) k))
+            | inr k ↦ elim (cases_Bool (g n)) [ inl j ↦ omega (arith, not_counted f n k, counted g n j) | inr j ↦ omega (arith, not_counted f n k, not_counted g n j) ]
+          ]
+    ]
 
 pub count_at_most : (test : ℕ → Bool) (n : ℕ) → count_below test n ≤ n
 count_at_most test zero = omega arith
@@ -49,8 +52,9 @@ pub below_all : (f : ℕ → ℕ) (n i : ℕ) → i < n → f i < above_all f n
 below_all f zero i h = absurd (omega arith)
 below_all f (suc n) i h =
     elim (cases_eq i n) [
-      inl e ↦ subst (λ j. f j < above_all f (suc n)) (sym e) (omega arith)
-      | inr ne ↦ let r : f i < above_all f n = below_all f n i (omega arith) in omega arith ]
+      | inl e ↦ subst (λ j. f j < above_all f (suc n)) (sym e) (omega arith)
+      | inr ne ↦ let r : f i < above_all f n = below_all f n i (omega arith) in omega arith
+    ]
 
 -- ---- events in a set
 
@@ -64,25 +68,28 @@ pub count_push_more : (S u : List ℕ) (e : ℕ) → has S e ≡ true → count_
 count_push_more S [] e h = count_more S e [] h
 count_push_more S (x ∷ u) e h =
     elim (cases_Bool (has S x)) [
-      inl k ↦ omega (arith, count_more S x (u ++ e ∷ []) k, count_more S x u k, count_push_more S u e h)
-      | inr k ↦ omega (arith, count_same S x (u ++ e ∷ []) k, count_same S x u k, count_push_more S u e h) ]
+      | inl k ↦ omega (arith, count_more S x (u ++ e ∷ []) k, count_more S x u k, count_push_more S u e h)
+      | inr k ↦ omega (arith, count_same S x (u ++ e ∷ []) k, count_same S x u k, count_push_more S u e h)
+    ]
 
 pub count_push_same : (S u : List ℕ) (e : ℕ) → has S e ≡ false → count_in S (u ++ e ∷ []) ≡ count_in S u
 count_push_same S [] e h = count_same S e [] h
 count_push_same S (x ∷ u) e h =
     elim (cases_Bool (has S x)) [
-      inl k ↦ omega (arith, count_more S x (u ++ e ∷ []) k, count_more S x u k, count_push_same S u e h)
-      | inr k ↦ omega (arith, count_same S x (u ++ e ∷ []) k, count_same S x u k, count_push_same S u e h) ]
+      | inl k ↦ omega (arith, count_more S x (u ++ e ∷ []) k, count_more S x u k, count_push_same S u e h)
+      | inr k ↦ omega (arith, count_same S x (u ++ e ∷ []) k, count_same S x u k, count_push_same S u e h)
+    ]
 
 -- a projection keeps the events of a set that is within the alphabet
 pub count_project : (S A s : List ℕ) → IsWithin S A → count_in S (project A s) ≡ count_in S s
 count_project S A [] w = refl
 count_project S A (e ∷ s) w =
     elim (cases_Bool (has A e)) [
-      inl there ↦ ap (count_in S) (cond-true (has A e) (e ∷ project A s) (project A s) there) ∙ ap (λ n. cond (has S e) (n + 1) n) (count_project S A s w)
+      | inl there ↦ ap (count_in S) (cond-true (has A e) (e ∷ project A s) (project A s) there) ∙ ap (λ n. cond (has S e) (n + 1) n) (count_project S A s w)
       | inr strange ↦
-        ap (count_in S) (cond-false (has A e) (e ∷ project A s) (project A s) strange) ∙ count_project S A s w
-        ∙ sym (count_same S e s (absent strange)) ]
+          ap (count_in S) (cond-false (has A e) (e ∷ project A s) (project A s) strange) ∙ count_project S A s w
+          ∙ sym (count_same S e s (absent strange))
+    ]
   where
     absent : has A e ≡ false → has S e ≡ false
     absent strange = elim (cases_Bool (has S e)) [ inl k ↦ absurd (both_ways (has A e) strange (w e k)) | inr k ↦ k ]

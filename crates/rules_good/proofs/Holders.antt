@@ -1,19 +1,18 @@
 -- A resource is held on exactly the link that has had an odd number of events.
-use Rattle.std.proofs.Common.{◌≡◌, ℕ, zero, suc, ◌+◌, ◌<◌, ◌≤◌, ◌⊎◌, inl, inr, List, [], ◌∷◌, ◌++◌, length, Option, Some, None, Bool, true, false, not, cond, IsTrue, nat_eq, refl, sym, ap, subst, ◌∙◌, arith}
+use Rattle.std.proofs.Common.{◌≡◌, ℕ, suc, ◌+◌, ◌<◌, ◌≤◌, ◌⊎◌, inl, inr, List, [], ◌∷◌, ◌++◌, length, Option, Some, None, true, false, not, cond, IsTrue, nat_eq, refl, sym, ap, subst, ◌∙◌, arith}
 use Rattle.std.proofs.lemmas.Bool.{cases_Bool, cases_eq, cases_order, both_ways, cond-true, cond-false, false≢true, or_cases, eqb-true}
-use Rattle.std.proofs.lemmas.Option.{none-some, same_Some}
 use Rattle.csp_base.specs.Members.{has}
 use Rattle.csp_tables.specs.Count.{count_in, is_odd}
-use Rattle.csp_tables.specs.Table.{node_at, is_possible, IsRun, end_of}
-use Rattle.csp_tables.specs.Part.{Part, part_at, alphabets_of, sharers, TripleDisjoint}
-use Rattle.csp_tables.specs.Shape.{Shape, Joins, IsBelow, is_end, link_at, IsWellFormed}
-use Rattle.csp_tables.specs.Standing.{RunsTo, IsPossible, Accepts, accepted, IsOn}
+use Rattle.csp_tables.specs.Table.{end_of}
+use Rattle.csp_tables.specs.Part.{part_at, alphabets_of, sharers, TripleDisjoint}
+use Rattle.csp_tables.specs.Shape.{Shape, IsBelow, is_end, link_at, IsWellFormed}
+use Rattle.csp_tables.specs.Standing.{RunsTo, IsPossible, IsOn}
 use Rattle.csp_tables.specs.Roles.{UseSets, use_at}
 use Rattle.csp_tables.specs.Resource.{last_from, IsHolder, is_held, holds, AreUses}
 use Rattle.net_sound.proofs.Sharers.{at_three}
 use Rattle.net_sound.proofs.Within.{part_form}
 use Rattle.rules_good.proofs.Counts.{count_push_more, count_push_same}
-use Rattle.rules_good.proofs.Runs.{possible_after, run_induction, possible_within}
+use Rattle.rules_good.proofs.Runs.{run_induction, possible_within}
 use Rattle.rules_good.proofs.Shapes.{some_link, link_within, link_shared}
 
 -- ---- the last event of a set
@@ -54,8 +53,9 @@ other_end shape i l e w on =
     let inside : (link_at shape l).right < length shape.parts = t.within in
     let both = (t.shared e).0 on.event in
     elim (or_cases (nat_eq (link_at shape l).left i) (nat_eq (link_at shape l).right i) on.end) [
-      inl k ↦ let is : (link_at shape l).left ≡ i = eqb-true (link_at shape l).left i k in record { part = (link_at shape l).right; within = inside; distinct = λ same. omega arith; owned = both.1; ends = inl (is, refl) }
-      | inr k ↦ let is : (link_at shape l).right ≡ i = eqb-true (link_at shape l).right i k in record { part = (link_at shape l).left; within = omega arith; distinct = λ same. omega arith; owned = both.0; ends = inr (refl, is) } ]
+      | inl k ↦ let is : (link_at shape l).left ≡ i = eqb-true (link_at shape l).left i k in record { part = (link_at shape l).right; within = inside; distinct = λ same. omega arith; owned = both.1; ends = inl (is, refl) }
+      | inr k ↦ let is : (link_at shape l).right ≡ i = eqb-true (link_at shape l).right i k in record { part = (link_at shape l).left; within = omega arith; distinct = λ same. omega arith; owned = both.0; ends = inr (refl, is) }
+    ]
 
 same_ends : (a b c d i p : ℕ) → a < b → c < d → (a ≡ i) × (b ≡ p) ⊎ (a ≡ p) × (b ≡ i) → (c ≡ i) × (d ≡ p) ⊎ (c ≡ p) × (d ≡ i) → (a ≡ c) × (b ≡ d)
 same_ends a b c d i p h k (inl x) (inl y) = let e : a ≡ i = x.0 in let f : b ≡ p = x.1 in let g : c ≡ i = y.0 in let j : d ≡ p = y.1 in omega arith
@@ -74,14 +74,17 @@ one_link shape i l m e w triple h x y =
     let mine = link_within shape i l w x.within x.end e x.event in
     let two : sharers (alphabets_of shape.parts) e ≤ 2 = triple e in
     let p : a.part ≡ b.part = elim (cases_eq a.part b.part) [
-        inl same ↦ same
-        | inr ne ↦ absurd (let three : 3 ≤ sharers (alphabets_of shape.parts) e = at_three shape.parts e i a.part b.part h a.within b.within a.distinct b.distinct ne mine a.owned b.owned in omega arith) ] in
+      | inl same ↦ same
+      | inr ne ↦ absurd (let three : 3 ≤ sharers (alphabets_of shape.parts) e = at_three shape.parts e i a.part b.part h a.within b.within a.distinct b.distinct ne mine a.owned b.owned in omega arith)
+    ] in
     let s = same_ends (link_at shape l).left (link_at shape l).right (link_at shape m).left (link_at shape m).right i b.part (w.links l x.within).ordered (w.links m y.within).ordered (subst (λ q. ((link_at shape l).left ≡ i) × ((link_at shape l).right ≡ q) ⊎ ((link_at shape l).left ≡ q) × ((link_at shape l).right ≡ i)) p a.ends) b.ends in
     elim (cases_order l m) [
-      inl same ↦ same
+      | inl same ↦ same
       | inr order ↦ elim order [
-          inl less ↦ absurd (not_below shape l m s.0 s.1 (w.links_rise l m less y.within))
-          | inr more ↦ absurd (not_below shape m l (sym s.0) (sym s.1) (w.links_rise m l more x.within)) ] ]
+        | inl less ↦ absurd (not_below shape l m s.0 s.1 (w.links_rise l m less y.within))
+        | inr more ↦ absurd (not_below shape m l (sym s.0) (sym s.1) (w.links_rise m l more x.within))
+      ]
+    ]
 
 -- ---- where a resource is held
 
@@ -115,12 +118,12 @@ no_events shape i = record { free = λ h l a b. refl; held = λ h. absurd (false
 -- an event that is not shared changes nothing
 hidden_step : (shape : Shape) (i : ℕ) (u : List ℕ) (e : ℕ) → IsWellFormed shape → has shape.vocabulary e ≡ false → Turns shape i u → Turns shape i (u ++ e ∷ [])
 hidden_step shape i u e w hidden t = record {
-    free = λ h l a b. same l a ∙ t.free (sym (odd_same shape.vocabulary u e hidden) ∙ h) l a b;
-    held = λ h.
-        let r = t.held (sym (odd_same shape.vocabulary u e hidden) ∙ h) in
-        let x = r.0 in
-        (record { event = x.event; is = last_same shape.vocabulary u e hidden ∙ x.is; link = x.link; on = x.on }, λ l a b. same l a ∙ r.1 l a b);
-  }
+  free = λ h l a b. same l a ∙ t.free (sym (odd_same shape.vocabulary u e hidden) ∙ h) l a b;
+  held = λ h.
+      let r = t.held (sym (odd_same shape.vocabulary u e hidden) ∙ h) in
+      let x = r.0 in
+      (record { event = x.event; is = last_same shape.vocabulary u e hidden ∙ x.is; link = x.link; on = x.on }, λ l a b. same l a ∙ r.1 l a b);
+}
   where
     same : (l : ℕ) → l < length shape.links → holds shape l (u ++ e ∷ []) ≡ holds shape l u
     same l a = odd_same (link_at shape l).shared u e (absent l a)
@@ -130,12 +133,16 @@ hidden_step shape i u e w hidden t = record {
 
 acquired : (shape : Shape) (i : ℕ) (u : List ℕ) (e l : ℕ) → has shape.vocabulary e ≡ true → IsOn shape i l e → is_held shape u ≡ false → Turns shape i u → Turns shape i (u ++ e ∷ [])
 acquired shape i u e l v on free t = record {
-    free = λ h. absurd (both_ways (is_held shape (u ++ e ∷ [])) h (odd_more shape.vocabulary u e v ∙ ap not free));
-    held = λ h. (record { event = e; is = last_more shape.vocabulary u e v; link = l; on = on }, λ m a b.
+  free = λ h. absurd (both_ways (is_held shape (u ++ e ∷ [])) h (odd_more shape.vocabulary u e v ∙ ap not free));
+  held = λ h. (
+    record { event = e; is = last_more shape.vocabulary u e v; link = l; on = on },
+    λ m a b.
         elim (cases_Bool (has (link_at shape m).shared e)) [
-          inl there ↦ odd_more (link_at shape m).shared u e there ∙ ap not (t.free free m a b) ∙ sym there
-          | inr strange ↦ odd_same (link_at shape m).shared u e strange ∙ t.free free m a b ∙ sym strange ]);
-  }
+          | inl there ↦ odd_more (link_at shape m).shared u e there ∙ ap not (t.free free m a b) ∙ sym there
+          | inr strange ↦ odd_same (link_at shape m).shared u e strange ∙ t.free free m a b ∙ sym strange
+        ],
+  );
+}
 
 released : (shape : Shape) (uses : List UseSets) (i : ℕ) (u : List ℕ) (e : ℕ) → Resource shape uses i → IsPossible shape i u e → has shape.vocabulary e ≡ true → is_held shape u ≡ true → Turns shape i u → Turns shape i (u ++ e ∷ [])
 released shape uses i u e r possible v held t =
@@ -150,26 +157,30 @@ released shape uses i u e r possible v held t =
     even : (x : Last shape i u) → IsTrue (has (link_at shape x.link).shared e) → ((l : ℕ) → l < length shape.links → IsTrue (is_end shape i l) → holds shape l u ≡ has (link_at shape l).shared x.event) → (m : ℕ) → m < length shape.links → IsTrue (is_end shape i m) → holds shape m (u ++ e ∷ []) ≡ false
     even x there odd m a b =
         elim (cases_Bool (has (link_at shape m).shared e)) [
-          inl on ↦
-            let same : x.link ≡ m = one_link shape i x.link m e r.form r.triple r.part (record { within = x.on.within; end = x.on.end; event = there }) (record { within = a; end = b; event = on }) in
-            odd_more (link_at shape m).shared u e on ∙ ap not (odd m a b ∙ subst (λ l. IsTrue (has (link_at shape l).shared x.event)) same x.on.event)
+          | inl on ↦
+              let same : x.link ≡ m = one_link shape i x.link m e r.form r.triple r.part (record { within = x.on.within; end = x.on.end; event = there }) (record { within = a; end = b; event = on }) in
+              odd_more (link_at shape m).shared u e on ∙ ap not (odd m a b ∙ subst (λ l. IsTrue (has (link_at shape l).shared x.event)) same x.on.event)
           | inr off ↦ odd_same (link_at shape m).shared u e off ∙ odd m a b ∙
-            elim (cases_Bool (has (link_at shape m).shared x.event)) [
-              inl held_on ↦
-                let same : x.link ≡ m = one_link shape i x.link m x.event r.form r.triple r.part x.on (record { within = a; end = b; event = held_on }) in
-                absurd (both_ways (has (link_at shape m).shared e) off (subst (λ l. IsTrue (has (link_at shape l).shared e)) same there))
-              | inr elsewhere ↦ elsewhere ] ]
+              elim (cases_Bool (has (link_at shape m).shared x.event)) [
+                | inl held_on ↦
+                    let same : x.link ≡ m = one_link shape i x.link m x.event r.form r.triple r.part x.on (record { within = a; end = b; event = held_on }) in
+                    absurd (both_ways (has (link_at shape m).shared e) off (subst (λ l. IsTrue (has (link_at shape l).shared e)) same there))
+                | inr elsewhere ↦ elsewhere
+              ]
+        ]
 
 turns_step : (shape : Shape) (uses : List UseSets) (i : ℕ) (u : List ℕ) (e : ℕ) → Resource shape uses i → IsPossible shape i u e → Turns shape i u → Turns shape i (u ++ e ∷ [])
 turns_step shape uses i u e r possible t =
     elim (cases_Bool (has shape.vocabulary e)) [
-      inl v ↦ elim (cases_Bool (is_held shape u)) [
-        inl held ↦ released shape uses i u e r possible v held t
+      | inl v ↦ elim (cases_Bool (is_held shape u)) [
+        | inl held ↦ released shape uses i u e r possible v held t
         | inr free ↦
-          let owned = possible_within (part_at shape.parts i) (end_of (part_at shape.parts i).table 0 u) e (part_form shape.parts i r.part r.form.form) possible.next in
-          let l = some_link shape i e r.form r.part owned v in
-          acquired shape i u e l.0 v l.1 free t ]
-      | inr hidden ↦ hidden_step shape i u e r.form hidden t ]
+            let owned = possible_within (part_at shape.parts i) (end_of (part_at shape.parts i).table 0 u) e (part_form shape.parts i r.part r.form.form) possible.next in
+            let l = some_link shape i e r.form r.part owned v in
+            acquired shape i u e l.0 v l.1 free t
+      ]
+      | inr hidden ↦ hidden_step shape i u e r.form hidden t
+    ]
 
 pub turns : (shape : Shape) (uses : List UseSets) (i : ℕ) → Resource shape uses i → (s : List ℕ) → RunsTo shape i s → Turns shape i s
 turns shape uses i r s run =

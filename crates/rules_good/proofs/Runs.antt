@@ -1,10 +1,10 @@
 -- Runs of a table, one event after another at their end.
-use Rattle.std.proofs.Common.{◌≡◌, ℕ, zero, suc, ◌+◌, ◌<◌, ◌≤◌, ◌⊎◌, inl, inr, List, [], ◌∷◌, ◌++◌, length, get_or, Bool, true, false, ◌&&◌, IsTrue, nat_eq, cond, refl, sym, ap, subst, ◌∙◌, arith, append_assoc, append-nil}
+use Rattle.std.proofs.Common.{◌≡◌, ℕ, zero, suc, ◌+◌, ◌<◌, ◌≤◌, inl, inr, List, [], ◌∷◌, ◌++◌, length, get_or, Bool, true, false, IsTrue, nat_eq, refl, sym, subst, arith, append_assoc, append-nil}
 use Rattle.std.proofs.lemmas.Bool.{and_from, and_parts, or_cases, eqb-true, false≢true, cases_Bool, cond-true, cond-false, both_ways}
 use Rattle.csp_base.specs.Members.{has}
 use Rattle.csp_tables.specs.Table.{Node, node_at, is_possible, target, node_after, is_run, IsRun, end_of}
-use Rattle.csp_tables.specs.Part.{Part, project}
-use Rattle.csp_tables.specs.Form.{HasForm, NodesHaveForm, StepsHaveForm, BeginsAbove}
+use Rattle.csp_tables.specs.Part.{Part}
+use Rattle.csp_tables.specs.Form.{HasForm, NodesHaveForm, StepsHaveForm}
 use Rattle.csp_tables.specs.Ranking.{laps_from, lap_of}
 
 abbrev pub possible_after : List Node → List ℕ → ℕ → Bool
@@ -41,10 +41,11 @@ step_form : (a : List ℕ) (m : ℕ) (steps : List (ℕ × ℕ)) (e : ℕ) → S
 step_form a m [] e form h = absurd (false≢true h)
 step_form a m (step ∷ steps) e form h =
     elim (cases_Bool (nat_eq step.0 e)) [
-      inl same ↦ (subst (λ x. IsTrue (has a x)) (eqb-true step.0 e same) form.0, subst (λ x. x < m) (sym (cond-true (nat_eq step.0 e) step.1 (target steps e) same)) form.1)
+      | inl same ↦ (subst (λ x. IsTrue (has a x)) (eqb-true step.0 e same) form.0, subst (λ x. x < m) (sym (cond-true (nat_eq step.0 e) step.1 (target steps e) same)) form.1)
       | inr other ↦
-        let r = step_form a m steps e form.3 (later other) in
-        (r.0, subst (λ x. x < m) (sym (cond-false (nat_eq step.0 e) step.1 (target steps e) other)) r.1) ]
+          let r = step_form a m steps e form.3 (later other) in
+          (r.0, subst (λ x. x < m) (sym (cond-false (nat_eq step.0 e) step.1 (target steps e) other)) r.1)
+    ]
   where
     later : nat_eq step.0 e ≡ false → is_possible steps e ≡ true
     later other = elim (or_cases (nat_eq step.0 e) (is_possible steps e) h) [ inl k ↦ absurd (both_ways _ other k) | inr k ↦ k ]

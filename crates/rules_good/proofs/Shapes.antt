@@ -1,21 +1,20 @@
 -- What a well-formed shape gives: the links of shared events, and what an ungranted request is in it.
-use Rattle.std.proofs.Common.{◌≡◌, ℕ, zero, suc, ◌+◌, ◌<◌, ◌≤◌, ◌⊎◌, inl, inr, List, [], ◌∷◌, length, get_or, Bool, true, false, ◌||◌, cond, IsTrue, nat_eq, refl, sym, ap, subst, ◌∙◌, arith, eq-eqb}
+use Rattle.std.proofs.Common.{◌≡◌, ℕ, zero, suc, ◌+◌, ◌<◌, ◌≤◌, inl, inr, List, [], ◌∷◌, length, true, false, IsTrue, nat_eq, sym, subst, arith, eq-eqb}
 use Rattle.std.proofs.lemmas.Bool.{cases_Bool, cases_order, cond-true, cond-false, or_cases, or_left, or_right, eqb-true}
 use Rattle.csp_base.specs.Members.{has}
 use Rattle.csp_tables.specs.Count.{count_in}
-use Rattle.csp_tables.specs.Table.{node_at, is_possible, IsRun, end_of, acceptances_after}
-use Rattle.csp_tables.specs.Part.{Part, part_at, alphabets_of, sharers, project, IsShared, Meet, IsNonEmpty, AreApart}
+use Rattle.csp_tables.specs.Table.{end_of}
+use Rattle.csp_tables.specs.Part.{Part, part_at, alphabets_of, sharers, project, IsShared, AreApart}
 use Rattle.csp_tables.specs.Trace.{IsWithin}
-use Rattle.csp_tables.specs.Form.{HasForm, HaveForm}
 use Rattle.csp_tables.specs.Stands.{Stands, acceptance}
 use Rattle.csp_tables.specs.Falls.{IsUngranted}
-use Rattle.csp_tables.specs.Shape.{Shape, Link, link_at, is_end, IsWellFormed, Joins, JoinsTwo, AreJoined, acceptance_at}
+use Rattle.csp_tables.specs.Shape.{Shape, link_at, is_end, IsWellFormed, Joins, AreJoined}
 use Rattle.csp_tables.specs.Standing.{RunsTo, IsPossible, Accepts, accepted, IsOn}
 use Rattle.csp_tables.specs.CyclicRanks.{IsVertex}
 use Rattle.net_sound.proofs.Sharers.{at_two}
 use Rattle.net_sound.proofs.Within.{acceptance_within, part_form}
 use Rattle.rules_good.proofs.Counts.{count_project}
-use Rattle.rules_good.proofs.Runs.{end_within, possible_within}
+use Rattle.rules_good.proofs.Runs.{end_within}
 
 -- ---- who shares an event
 
@@ -34,10 +33,11 @@ sharer : (ps : List Part) (e : ℕ) → 1 ≤ sharers (alphabets_of ps) e → Sh
 sharer [] e h = absurd (omega arith)
 sharer (p ∷ ps) e h =
     elim (cases_Bool (has p.alphabet e)) [
-      inl k ↦ record { place = 0; within = omega arith; owned = k }
+      | inl k ↦ record { place = 0; within = omega arith; owned = k }
       | inr k ↦
-        let r = sharer ps e (omega (arith, strange p.alphabet (alphabets_of ps) e k)) in
-        record { place = suc r.place; within = let l : r.place < length ps = r.within in omega arith; owned = r.owned } ]
+          let r = sharer ps e (omega (arith, strange p.alphabet (alphabets_of ps) e k)) in
+          record { place = suc r.place; within = let l : r.place < length ps = r.within in omega arith; owned = r.owned }
+    ]
 
 record Another (ps : List Part) (i e : ℕ) : Type 0 where
   place : ℕ
@@ -52,10 +52,11 @@ another (p ∷ ps) zero e h k m =
     record { place = suc r.place; within = let l : r.place < length ps = r.within in omega arith; distinct = λ same. omega arith; owned = r.owned }
 another (p ∷ ps) (suc i) e h k m =
     elim (cases_Bool (has p.alphabet e)) [
-      inl x ↦ record { place = 0; within = omega arith; distinct = λ same. omega arith; owned = x }
+      | inl x ↦ record { place = 0; within = omega arith; distinct = λ same. omega arith; owned = x }
       | inr x ↦
-        let r = another ps i e (omega arith) k (omega (arith, strange p.alphabet (alphabets_of ps) e x)) in
-        record { place = suc r.place; within = let l : r.place < length ps = r.within in omega arith; distinct = λ same. r.distinct (omega arith); owned = r.owned } ]
+          let r = another ps i e (omega arith) k (omega (arith, strange p.alphabet (alphabets_of ps) e x)) in
+          record { place = suc r.place; within = let l : r.place < length ps = r.within in omega arith; distinct = λ same. r.distinct (omega arith); owned = r.owned }
+    ]
 
 -- ---- links
 
@@ -65,8 +66,9 @@ turned shape i j l h = record { within = h.within; ends = elim h.ends [ inl k �
 pub first_end : (shape : Shape) (i j l : ℕ) → Joins shape i j l → IsTrue (is_end shape i l)
 first_end shape i j l h =
     elim h.ends [
-      inl k ↦ or_left (nat_eq (link_at shape l).left i) (nat_eq (link_at shape l).right i) (eq-eqb (link_at shape l).left i k.0)
-      | inr k ↦ or_right (nat_eq (link_at shape l).left i) (nat_eq (link_at shape l).right i) (eq-eqb (link_at shape l).right i k.1) ]
+      | inl k ↦ or_left (nat_eq (link_at shape l).left i) (nat_eq (link_at shape l).right i) (eq-eqb (link_at shape l).left i k.0)
+      | inr k ↦ or_right (nat_eq (link_at shape l).left i) (nat_eq (link_at shape l).right i) (eq-eqb (link_at shape l).right i k.1)
+    ]
 
 joined : (shape : Shape) (i j : ℕ) → AreJoined shape i j → (l : ℕ) × Joins shape i j l
 joined shape i j a = (a.link, record { within = a.within; ends = inl (a.left, a.right) })
@@ -75,29 +77,33 @@ joined shape i j a = (a.link, record { within = a.within; ends = inl (a.left, a.
 pub link_between : (shape : Shape) (i j e : ℕ) → IsWellFormed shape → i < length shape.parts → j < length shape.parts → (i ≡ j → ⊥) → IsTrue (has (part_at shape.parts i).alphabet e) → IsTrue (has (part_at shape.parts j).alphabet e) → (l : ℕ) × Joins shape i j l
 link_between shape i j e w h k ne x y =
     elim (cases_order i j) [
-      inl same ↦ absurd (ne same)
+      | inl same ↦ absurd (ne same)
       | inr order ↦ elim order [
-          inl less ↦ joined shape i j (w.all_links i j less k (record { event = e; first = x; second = y }))
-          | inr more ↦ let r = joined shape j i (w.all_links j i more h (record { event = e; first = y; second = x })) in (r.0, turned shape j i r.0 r.1) ] ]
+        | inl less ↦ joined shape i j (w.all_links i j less k (record { event = e; first = x; second = y }))
+        | inr more ↦ let r = joined shape j i (w.all_links j i more h (record { event = e; first = y; second = x })) in (r.0, turned shape j i r.0 r.1)
+      ]
+    ]
 
 -- a link's events are those that both ends have
 pub on_link : (shape : Shape) (i j l e : ℕ) → IsWellFormed shape → Joins shape i j l → IsTrue (has (part_at shape.parts i).alphabet e) → IsTrue (has (part_at shape.parts j).alphabet e) → IsOn shape i l e
 on_link shape i j l e w h x y = record {
-    within = h.within;
-    end = first_end shape i j l h;
-    event =
+  within = h.within;
+  end = first_end shape i j l h;
+  event =
       let t = w.links l h.within in
       elim h.ends [
-        inl k ↦ (t.shared e).1 (subst (λ a. IsTrue (has (part_at shape.parts a).alphabet e)) (sym k.0) x, subst (λ a. IsTrue (has (part_at shape.parts a).alphabet e)) (sym k.1) y)
-        | inr k ↦ (t.shared e).1 (subst (λ a. IsTrue (has (part_at shape.parts a).alphabet e)) (sym k.0) y, subst (λ a. IsTrue (has (part_at shape.parts a).alphabet e)) (sym k.1) x) ];
-  }
+        | inl k ↦ (t.shared e).1 (subst (λ a. IsTrue (has (part_at shape.parts a).alphabet e)) (sym k.0) x, subst (λ a. IsTrue (has (part_at shape.parts a).alphabet e)) (sym k.1) y)
+        | inr k ↦ (t.shared e).1 (subst (λ a. IsTrue (has (part_at shape.parts a).alphabet e)) (sym k.0) y, subst (λ a. IsTrue (has (part_at shape.parts a).alphabet e)) (sym k.1) x)
+      ];
+}
 
 pub link_within : (shape : Shape) (i l : ℕ) → IsWellFormed shape → l < length shape.links → IsTrue (is_end shape i l) → IsWithin (link_at shape l).shared (part_at shape.parts i).alphabet
 link_within shape i l w h end e x =
     let both = ((w.links l h).shared e).0 x in
     elim (or_cases (nat_eq (link_at shape l).left i) (nat_eq (link_at shape l).right i) end) [
-      inl k ↦ subst (λ a. IsTrue (has (part_at shape.parts a).alphabet e)) (eqb-true (link_at shape l).left i k) both.0
-      | inr k ↦ subst (λ a. IsTrue (has (part_at shape.parts a).alphabet e)) (eqb-true (link_at shape l).right i k) both.1 ]
+      | inl k ↦ subst (λ a. IsTrue (has (part_at shape.parts a).alphabet e)) (eqb-true (link_at shape l).left i k) both.0
+      | inr k ↦ subst (λ a. IsTrue (has (part_at shape.parts a).alphabet e)) (eqb-true (link_at shape l).right i k) both.1
+    ]
 
 pub link_shared : (shape : Shape) (l : ℕ) → IsWellFormed shape → l < length shape.links → IsWithin (link_at shape l).shared shape.vocabulary
 link_shared shape l w h e x =
@@ -167,7 +173,13 @@ request shape s i j k l w u =
     let x = here.owned u.asks.event u.asks.first in
     let link = link_between shape i j u.asks.event w u.here u.there u.distinct x u.asks.second in
     record {
-      here = here; there = there; distinct = u.distinct; event = u.asks.event; asked = u.asks.first; link = link.0; joins = link.1;
+      here = here;
+      there = there;
+      distinct = u.distinct;
+      event = u.asks.event;
+      asked = u.asks.first;
+      link = link.0;
+      joins = link.1;
       on_here = on_link shape i j link.0 u.asks.event w link.1 x u.asks.second;
       on_there = on_link shape j i link.0 u.asks.event w (turned shape i j link.0 link.1) u.asks.second x;
       apart = u.apart;

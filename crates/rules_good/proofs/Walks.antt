@@ -1,5 +1,5 @@
 -- Longest walks among finitely many vertices: the numbers fall along arcs, and each is below the number of vertices.
-use Rattle.std.proofs.Common.{◌≡◌, ℕ, zero, suc, ◌+◌, ◌<◌, ◌≤◌, ◌⊎◌, inl, inr, Bool, true, false, nat_lt, IsTrue, refl, sym, ap, subst, ◌∙◌, arith, lt-ltb, le-ltb, ltb-true}
+use Rattle.std.proofs.Common.{◌≡◌, ℕ, zero, suc, ◌+◌, ◌<◌, ◌≤◌, inl, inr, nat_lt, refl, sym, subst, ◌∙◌, arith, lt-ltb, le-ltb, ltb-true}
 use Rattle.std.proofs.lemmas.Bool.{cases_eq}
 use Rattle.csp_tables.specs.Count.{count_below}
 use Rattle.csp_tables.specs.Walk.{Walk, IsLongestWalk}
@@ -30,8 +30,9 @@ level Arc height n g (suc h) x m l e le =
     let more : h ≤ height walk.0 = (g.longest walk.0 inside).most h w.end walk.2 in
     let less : height walk.0 < height x = falls Arc height n g x walk.0 l walk.1 in
     elim (cases_eq m (suc h)) [
-      inl top ↦ record { vertex = x; within = l; is = e ∙ sym top }
-      | inr lower ↦ level Arc height n g h walk.0 m inside (omega arith) (omega arith) ]
+      | inl top ↦ record { vertex = x; within = l; is = e ∙ sym top }
+      | inr lower ↦ level Arc height n g h walk.0 m inside (omega arith) (omega arith)
+    ]
 
 many : (Arc : ℕ → ℕ → Type 0) (height : ℕ → ℕ) (n : ℕ) → Graph Arc height n → (x : ℕ) → x < n → (m : ℕ) → m ≤ height x + 1 → m ≤ count_below (λ y. nat_lt (height y) m) n
 many Arc height n g x l zero le = omega arith
@@ -40,7 +41,7 @@ many Arc height n g x l (suc m) le =
     let rest : m ≤ count_below (λ y. nat_lt (height y) m) n = many Arc height n g x l m (omega arith) in
     let is : height v.vertex ≡ m = v.is in
     let more : count_below (λ y. nat_lt (height y) m) n < count_below (λ y. nat_lt (height y) (suc m)) n =
-        count_strict (λ y. nat_lt (height y) m) (λ y. nat_lt (height y) (suc m)) n v.vertex (λ y _ k. let lt : height y < m = ltb-true (height y) m k in lt-ltb (height y) (suc m) (omega arith)) v.within (le-ltb (height v.vertex) m (omega arith)) (lt-ltb (height v.vertex) (suc m) (omega arith)) in
+    count_strict (λ y. nat_lt (height y) m) (λ y. nat_lt (height y) (suc m)) n v.vertex (λ y _ k. let lt : height y < m = ltb-true (height y) m k in lt-ltb (height y) (suc m) (omega arith)) v.within (le-ltb (height v.vertex) m (omega arith)) (lt-ltb (height v.vertex) (suc m) (omega arith)) in
     omega arith
 
 pub height_below : (Arc : ℕ → ℕ → Type 0) (height : ℕ → ℕ) (n : ℕ) → Graph Arc height n → (x : ℕ) → x < n → height x < n

@@ -8,17 +8,14 @@ ghost use Rattle.rules_good.specs.Resource.{ResourceRanksFall};
 /// The ranking of a cyclic network falls.
 pub fn cyclic_ranks_fall()
     ensures { CyclicRanksFall }
-{
-}
+{}
 
 /// The ranking of a client-server network falls.
 pub fn client_server_ranks_fall()
     ensures { ClientServerRanksFall }
-{
-}
+{}
 
 /// The ranking of a network of users and resources falls.
 pub fn resource_ranks_fall()
     ensures { ResourceRanksFall }
-{
-}
+{}
