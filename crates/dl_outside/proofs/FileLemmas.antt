@@ -1,5 +1,5 @@
 -- What the shelf of files and the sink of the standard output answer is what a shelf and a sink may answer that tell nothing.
-use Rattle.std.proofs.Common.{◌≡◌, ℕ, ◌+◌, ◌<◌, ◌≤◌, List, length, refl, arith}
+use Rattle.std.proofs.Common.{ℕ, ◌+◌, ◌<◌, List, refl, arith}
 use Rattle.std.specs.Prelude.{Result, Ok, Err, None}
 use Rattle.dl_outside.specs.Count.{HasRisen}
 use Rattle.dl_outside.specs.Load.{AnswersUntold}

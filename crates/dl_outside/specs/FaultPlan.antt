@@ -8,6 +8,10 @@ pub record FaultPlan : Type 0 where
   pub calls : ℕ
   pub faults : ℕ
 
+-- A plan in which no call was made yet.
+abbrev pub new_plan : List ℕ → FaultPlan
+new_plan failing = record { failing = failing; calls = 0; faults = 0 }
+
 -- The number of the next call. Calls count from 1, and the number stays at 4,294,967,295 once it is there.
 abbrev pub next_number : FaultPlan → ℕ
 next_number plan = min (plan.calls + 1) 4294967295

@@ -1,7 +1,7 @@
 //! Calls of a device in memory that are planned to fail.
 
-ghost use Rattle.std.specs.Prelude.{◌≡◌, ◌<◌, ◌^◌, []};
-ghost use Rattle.dl_outside.specs.FaultPlan.{FaultPlan, fails_next, after_call};
+ghost use Rattle.std.specs.Prelude.{◌≡◌, ◌<◌, ◌^◌};
+ghost use Rattle.dl_outside.specs.FaultPlan.{new_plan, fails_next, after_call};
 
 use crate::count::raised;
 use std::marker::Model;
@@ -28,7 +28,7 @@ impl Model for PlannedFaults {
 impl PlannedFaults {
     /// A plan in which no call was made yet.
     pub(crate) fn new(failing: Vec<u32>) -> Self
-        ensures { result ≡ record { failing = failing.items; calls = 0; faults = 0 } }
+        ensures { result ≡ new_plan failing.items }
     {
         PlannedFaults {
             failing,

@@ -1,4 +1,5 @@
-//! The outside as the checker sees it: a shelf that scripts are loaded from, a sink that reports are written to, and their implementations.
+//! The outside as the checker sees it: a shelf that texts are loaded from, a sink that bytes are written to,
+//! and what stands for them: memory, the system's files and the standard output.
 #![tactic(auto)]
 
 mod count;

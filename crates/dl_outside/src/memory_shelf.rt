@@ -3,7 +3,7 @@
 ghost use Rattle.std.specs.Prelude.{◌≡◌, ◌+◌, ◌<◌, ◌≤◌, ◌↔◌, [], Some, OnOk, OnErr, IsTrue};
 ghost use Rattle.std.specs.Option.{option_copied};
 ghost use Rattle.dl_outside.specs.Count.{HasRisen};
-ghost use Rattle.dl_outside.specs.FaultPlan.{fails_next, after_call};
+ghost use Rattle.dl_outside.specs.FaultPlan.{new_plan, fails_next, after_call};
 ghost use Rattle.dl_outside.specs.Load.{LoadAnswers};
 ghost use Rattle.dl_outside.specs.Texts.{text_of, PutsText};
 
@@ -32,7 +32,7 @@ impl Model for MemoryShelf {
 impl MemoryShelf {
     /// An empty shelf. Loads count from 1, and those of these numbers are to fail.
     pub fn new(alloc: Global, failing: Vec<u32>) -> Self
-        ensures { result ≡ record { texts = []; plan = record { failing = failing.items; calls = 0; faults = 0 } } }
+        ensures { result ≡ record { texts = []; plan = new_plan failing.items } }
     {
         MemoryShelf {
             texts: Vec::new(alloc),

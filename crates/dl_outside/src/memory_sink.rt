@@ -2,7 +2,7 @@
 
 ghost use Rattle.std.specs.Prelude.{◌≡◌, ◌≤◌, ◌↔◌, [], length, min, Some, IfOk, IsTrue};
 ghost use Rattle.dl_outside.specs.Count.{HasRisen};
-ghost use Rattle.dl_outside.specs.FaultPlan.{fails_next, after_call};
+ghost use Rattle.dl_outside.specs.FaultPlan.{new_plan, fails_next, after_call};
 ghost use Rattle.dl_outside.specs.Write.{WriteAnswers};
 
 use crate::fault_plan::PlannedFaults;
@@ -32,10 +32,11 @@ impl Model for MemorySink {
 }
 
 impl MemorySink {
-    /// An empty sink that takes at most `most` bytes in one write. Writes count from 1, and those of these numbers are to fail.
+    /// An empty sink that takes at most `most` bytes in one write.
+    /// Writes count from 1, and those of these numbers are to fail.
     pub fn new(alloc: Global, most: u32, failing: Vec<u32>) -> Self
         requires { 1 ≤ most }
-        ensures { result ≡ record { sent = []; most = most; plan = record { failing = failing.items; calls = 0; faults = 0 } } }
+        ensures { result ≡ record { sent = []; most = most; plan = new_plan failing.items } }
     {
         MemorySink {
             sent: Bytes::new(alloc),

@@ -1,8 +1,6 @@
 //! A shelf that hands out given strings, one after the other, and tells nothing of them.
 
-ghost use Rattle.std.specs.Prelude.{◌≡◌, ◌+◌, ◌<◌, ◌≤◌, ◌^◌, ◌∷◌, length, None, IfSome, IfNone, List};
-ghost use Rattle.dl_outside.specs.Count.{HasRisen};
-ghost use Rattle.dl_outside.specs.Load.{LoadAnswers};
+ghost use Rattle.std.specs.Prelude.{◌≡◌, ◌+◌, ◌≤◌, ◌∷◌, length, None, IfSome, IfNone};
 ghost use Rattle.dl_outside.specs.QuietShelf.{HasNoNext, QuietAnswers};
 
 use crate::count::raised;

@@ -1,6 +1,6 @@
 //! A shelf in memory whose loads never fail.
 
-ghost use Rattle.std.specs.Prelude.{◌≡◌, [], None, Some, OnOk, OnErr};
+ghost use Rattle.std.specs.Prelude.{◌≡◌, [], Some, OnOk, OnErr};
 ghost use Rattle.std.specs.Option.{option_copied};
 ghost use Rattle.dl_outside.specs.Load.{AnswersTold};
 ghost use Rattle.dl_outside.specs.Texts.{text_of, PutsText};
