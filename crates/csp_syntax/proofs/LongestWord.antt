@@ -28,9 +28,9 @@ module _ (p : ℕ → Bool) where
   front_longest : (front rest : List ℕ) → list_all p front ≡ true → length front ≤ prefix_len p (front ++ rest)
   front_longest [] rest h = omega arith
   front_longest (x ∷ front) rest h =
-      let (pass, others) = and_parts _ _ h in
-      let longest = front_longest front rest others in
-      omega (arith, prefix_len-pass x (front ++ rest) pass)
+      let parts = and_parts (p x) (list_all p front) h in
+      let others : length front ≤ prefix_len p (front ++ rest) = front_longest front rest parts.1 in
+      omega (arith, prefix_len-pass x (front ++ rest) parts.0)
 
 module _ (p q : ℕ → Bool) where
   two_parts-pass : (x : ℕ) (xs : List ℕ) → p x ≡ true → two_parts p q (x ∷ xs) ≡ 1 + two_parts p q xs
@@ -59,17 +59,22 @@ two_parts_are_word (b ∷ text) = at_test (is_name_byte b) refl (two_parts_are_w
 prime_is_no_name_byte : (b : ℕ) → is_prime b ≡ true → is_name_byte b ≡ false
 prime_is_no_name_byte b h = let is_39 : b ≡ 39 = eqb-true b 39 h in rw is_39 refl
 
--- nothing longer may
+-- one more name byte, where nothing longer may stand after it
+longer_name : (b : ℕ) (word rest : List ℕ) → is_name_byte b ≡ true → length word ≤ two_parts is_name_byte is_prime (word ++ rest) → length (b ∷ word) ≤ two_parts is_name_byte is_prime (b ∷ word ++ rest)
+longer_name b word rest name others = omega (arith, two_parts-pass is_name_byte is_prime b (word ++ rest) name)
+
+-- primes alone
+longest_primes : (b : ℕ) (word rest : List ℕ) → list_all is_prime (b ∷ word) ≡ true → length (b ∷ word) ≤ two_parts is_name_byte is_prime (b ∷ word ++ rest)
+longest_primes b word rest primes =
+    let no_name = prime_is_no_name_byte b (and_parts (is_prime b) (list_all is_prime word) primes).0 in
+    let longest : length (b ∷ word) ≤ prefix_len is_prime (b ∷ word ++ rest) = front_longest is_prime (b ∷ word) rest primes in
+    omega (arith, two_parts-fail is_name_byte is_prime b (word ++ rest) no_name)
+
+-- nothing longer may follow the first letter
 pub two_parts_longest : (word rest : List ℕ) → is_word_rest word ≡ true → length word ≤ two_parts is_name_byte is_prime (word ++ rest)
 two_parts_longest [] rest h = omega arith
 two_parts_longest (b ∷ word) rest h =
     ⊎_elim
-    (λ named.
-    let (name, others) = and_parts _ _ named in
-    let longest = two_parts_longest word rest others in
-    omega (arith, two_parts-pass is_name_byte is_prime b (word ++ rest) name))
-    (λ primes.
-    let (prime, _) = and_parts _ _ primes in
-    let longest = front_longest is_prime (b ∷ word) rest primes in
-    omega (arith, two_parts-fail is_name_byte is_prime b (word ++ rest) (prime_is_no_name_byte b prime)))
+    (λ named. let parts = and_parts _ _ named in longer_name b word rest parts.0 (two_parts_longest word rest parts.1))
+    (λ primes. longest_primes b word rest primes)
     (or_cases _ _ h)
