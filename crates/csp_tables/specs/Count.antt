@@ -1,5 +1,5 @@
 -- Counts: numbers below a bound that pass a test, and events of a list that are in a set. And whether a count is odd.
-use Rattle.std.specs.Prelude.{◌+◌, ℕ, zero, suc, List, [], ◌∷◌, Bool, true, false, not, max, if◌then◌else◌}
+use Rattle.std.specs.Prelude.{◌+◌, ℕ, zero, suc, List, [], ◌∷◌, Bool, false, not, max, if◌then◌else◌}
 use Rattle.csp_base.specs.Members.{has}
 
 -- how many numbers below n pass the test

@@ -1,6 +1,6 @@
 -- The rule of cyclic networks (after Roscoe and Dathi 1987): each component goes through its links in a fixed order, again
 -- and again, and the links of the network can be numbered so that each component's order is the rising one.
-use Rattle.std.specs.Prelude.{◌≡◌, ◌<◌, ◌+◌, ◌%◌, ◌⊎◌, ℕ, List, ◌&&◌, nat_lt, IsTrue, length}
+use Rattle.std.specs.Prelude.{◌≡◌, ◌<◌, ◌%◌, ◌⊎◌, ℕ, List, ◌&&◌, nat_lt, IsTrue, length}
 use Rattle.csp_base.specs.Members.{has}
 use Rattle.csp_tables.specs.Count.{count_below, count_in}
 use Rattle.csp_tables.specs.Shape.{Shape, is_end, link_at}

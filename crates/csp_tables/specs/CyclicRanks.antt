@@ -1,13 +1,13 @@
 -- The ranking of a cyclic network. The rank is the number of the link on which the acceptance lies. A component's lap ends
 -- with the event on its last link. The scale is above all numbers.
-use Rattle.std.specs.Prelude.{◌≡◌, ◌<◌, ◌+◌, ℕ, ℤ, pos, List, [], length, get_or, false, nat_eq, if◌then◌else◌, IsTrue}
+use Rattle.std.specs.Prelude.{◌≡◌, ◌<◌, ◌+◌, ℕ, pos, [], length, get_or, false, nat_eq, if◌then◌else◌, IsTrue}
 use Rattle.csp_base.specs.Members.{has}
 use Rattle.csp_tables.specs.Count.{above_all}
 use Rattle.csp_tables.specs.Table.{node_at, is_possible}
 use Rattle.csp_tables.specs.Part.{part_at, Meet, IsNonEmpty}
 use Rattle.csp_tables.specs.Trace.{IsWithin}
 use Rattle.csp_tables.specs.Shape.{Shape, is_end, link_at, acceptance_at}
-use Rattle.csp_tables.specs.Standing.{IsOn, IsPossible}
+use Rattle.csp_tables.specs.Standing.{IsOn}
 use Rattle.csp_tables.specs.Cyclic.{links_of, place_of}
 use Rattle.csp_tables.specs.Ranking.{Ranking, Fits, part_ranks, rank_at, lap_of}
 

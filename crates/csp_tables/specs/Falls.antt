@@ -1,6 +1,6 @@
 -- When ranks fall along requests that are not granted (Brookes and Roscoe 1991; Roscoe 1997, chapter 13; Martin 1996).
 use Rattle.std.specs.Prelude.{◌≡◌, ◌<◌, ℕ, ℤ, pos, ◌+ℤ◌, ◌-ℤ◌, ◌*ℤ◌, ◌<ℤ◌, List, length}
-use Rattle.csp_tables.specs.Part.{Part, part_at, alphabets_of, project, IsShared, Meet, AreApart}
+use Rattle.csp_tables.specs.Part.{Part, part_at, alphabets_of, IsShared, Meet, AreApart}
 use Rattle.csp_tables.specs.Stands.{Stands, acceptance}
 use Rattle.csp_tables.specs.Ranking.{Ranking, rank_after, laps_along}
 

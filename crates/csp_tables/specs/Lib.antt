@@ -1,6 +1,9 @@
 pub mod Behaviour
+pub mod ClientServer
+pub mod ClientServerRanks
 pub mod Count
 pub mod Cyclic
+pub mod CyclicNumbers
 pub mod CyclicRanks
 pub mod Falls
 pub mod Flat
@@ -10,10 +13,15 @@ pub mod Heights
 pub mod Label
 pub mod Live
 pub mod Network
+pub mod NormalTable
 pub mod Part
 pub mod Path
 pub mod Ranking
 pub mod RawTable
+pub mod Resource
+pub mod ResourceNumbers
+pub mod ResourceRanks
+pub mod Roles
 pub mod Shape
 pub mod SilentBound
 pub mod Standing

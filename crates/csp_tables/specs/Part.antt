@@ -1,5 +1,5 @@
 -- A network as its parts: for each component its alphabet and its table. What links parts, and which events they share.
-use Rattle.std.specs.Prelude.{◌≡◌, ◌<◌, ◌≤◌, ◌+◌, ℕ, List, [], ◌∷◌, map, get_or, IsTrue, if◌then◌else◌}
+use Rattle.std.specs.Prelude.{◌≤◌, ◌+◌, ℕ, List, [], ◌∷◌, map, get_or, IsTrue, if◌then◌else◌}
 use Rattle.csp_base.specs.Members.{has}
 use Rattle.csp_tables.specs.Table.{Node}
 

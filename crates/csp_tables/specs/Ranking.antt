@@ -1,6 +1,6 @@
 -- Ranks and laps over the tables of a network: a rank for each acceptance of each node, a lap of 0 or 1 for each event of
 -- each node, and one scale, by which laps weigh against ranks.
-use Rattle.std.specs.Prelude.{◌≡◌, ◌≤◌, ◌+◌, ℕ, ℤ, pos, List, [], ◌∷◌, nat_eq, if◌then◌else◌, get_or}
+use Rattle.std.specs.Prelude.{◌≤◌, ◌+◌, ℕ, ℤ, pos, List, [], ◌∷◌, nat_eq, if◌then◌else◌, get_or}
 use Rattle.csp_tables.specs.Table.{Node, node_at, node_after, end_of}
 use Rattle.csp_tables.specs.Part.{Part, project}
 

@@ -1,6 +1,6 @@
 -- The shape of a network: its parts, the links that join two parts which share events, and the vocabulary, the events that
 -- two parts or more have.
-use Rattle.std.specs.Prelude.{◌≡◌, ◌<◌, ◌≤◌, ◌↔◌, ◌⊎◌, ℕ, List, [], ◌∷◌, Bool, ◌||◌, nat_eq, IsTrue, length, get_or}
+use Rattle.std.specs.Prelude.{◌≡◌, ◌<◌, ◌≤◌, ◌↔◌, ◌⊎◌, ℕ, List, [], Bool, ◌||◌, nat_eq, IsTrue, length, get_or}
 use Rattle.csp_base.specs.Members.{has}
 use Rattle.csp_tables.specs.Table.{Node, node_at, is_possible, IsRun, end_of}
 use Rattle.csp_tables.specs.Part.{Part, part_at, alphabets_of, sharers, Meet, IsNonEmpty}
@@ -37,6 +37,11 @@ pub record AreJoined (shape : Shape) (i j : ℕ) : Type 0 where
   pub within : link < length shape.links
   pub left : (link_at shape link).left ≡ i
   pub right : (link_at shape link).right ≡ j
+
+-- the link in place l joins i and j, whichever is the left one
+pub record Joins (shape : Shape) (i j l : ℕ) : Type 0 where
+  pub within : l < length shape.links
+  pub ends : ((link_at shape l).left ≡ i) × ((link_at shape l).right ≡ j) ⊎ ((link_at shape l).left ≡ j) × ((link_at shape l).right ≡ i)
 
 -- links rise by the left part and then by the right one
 abbrev pub IsBelow : Link → Link → Type 0

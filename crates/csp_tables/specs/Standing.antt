@@ -2,7 +2,7 @@
 use Rattle.std.specs.Prelude.{◌<◌, ℕ, List, [], length, get_or, IsTrue}
 use Rattle.csp_base.specs.Members.{has}
 use Rattle.csp_tables.specs.Table.{node_at, is_possible, IsRun, end_of, acceptances_after}
-use Rattle.csp_tables.specs.Part.{Part, part_at, IsNonEmpty}
+use Rattle.csp_tables.specs.Part.{part_at, IsNonEmpty}
 use Rattle.csp_tables.specs.Trace.{IsWithin}
 use Rattle.csp_tables.specs.Shape.{Shape, is_end, link_at}
 

@@ -2,7 +2,7 @@
 -- parts can follow so is a joint run of the two.
 use Rattle.std.specs.Prelude.{◌<◌, ℕ, List, [], length, get_or, IsTrue}
 use Rattle.csp_base.specs.Members.{has}
-use Rattle.csp_tables.specs.Table.{IsRun, end_of, acceptances_after}
+use Rattle.csp_tables.specs.Table.{IsRun, acceptances_after}
 use Rattle.csp_tables.specs.Part.{Part, part_at, project, IsNonEmpty}
 
 -- the part can follow its events of the list

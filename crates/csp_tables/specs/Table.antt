@@ -1,7 +1,6 @@
 -- The table of a component: numbered nodes, node 0 first. A node has the events that are possible there, each with the
 -- node to which it leads, and a list of acceptances, which are sets of events.
-use Rattle.std.specs.Prelude.{◌≡◌, ◌<◌, ℕ, List, [], ◌∷◌, Bool, true, false, ◌&&◌, ◌||◌, IsTrue, nat_eq, if◌then◌else◌, get_or, length, All, Some, slice_get}
-use Rattle.csp_base.specs.Members.{has}
+use Rattle.std.specs.Prelude.{ℕ, List, [], ◌∷◌, Bool, true, false, ◌&&◌, ◌||◌, IsTrue, nat_eq, if◌then◌else◌, get_or}
 
 pub record Node : Type 0 where
   pub next : List (ℕ × ℕ)

@@ -1,6 +1,6 @@
 -- Sets of events over finitely many places: if no event is agreed, each place waits for another one.
-use Rattle.std.proofs.Common.{◌≡◌, ℕ, zero, suc, ◌+◌, ◌<◌, ◌≤◌, ◌⊎◌, inl, inr, List, Bool, true, false, IsTrue, ℤ, ◌<ℤ◌, refl, sym, subst, arith}
-use Rattle.std.proofs.lemmas.Bool.{false≢true, cases_Bool, both_ways}
+use Rattle.std.proofs.Common.{◌≡◌, ℕ, ◌<◌, ◌⊎◌, inl, inr, List, true, false, IsTrue, ℤ, ◌<ℤ◌, subst}
+use Rattle.std.proofs.lemmas.Bool.{cases_Bool, both_ways}
 use Rattle.csp_base.specs.Members.{has}
 use Rattle.csp_tables.specs.Trace.{IsWithin}
 use Rattle.csp_tables.specs.Part.{IsNonEmpty, Meet, AreApart}

@@ -1,29 +1,25 @@
 -- The two networks of components that take two events in turn.
-use Rattle.std.proofs.Common.{◌≡◌, ℕ, zero, suc, ◌+◌, ◌<◌, ◌≤◌, ◌⊎◌, inl, inr, ℤ, pos, ◌<ℤ◌, List, [], ◌∷◌, map, get_or, length, Bool, true, false, ◌||◌, ◌&&◌, cond, IsTrue, MatchBool, nat_eq, Some, slice_get, refl, sym, ap, subst, ◌∙◌, arith, eq-eqb}
-use Rattle.std.proofs.lemmas.Bool.{false≢true, or_left, or_right, and_from, and_parts, eqb-true, or_cases}
+use Rattle.std.proofs.Common.{◌≡◌, ℕ, zero, suc, ◌+◌, ◌<◌, ◌≤◌, inl, inr, List, [], ◌∷◌, length, Bool, true, false, ◌||◌, cond, IsTrue, MatchBool, nat_eq, Some, slice_get, refl, sym, ap, subst, ◌∙◌, arith}
+use Rattle.std.proofs.lemmas.Bool.{false≢true, and_from, and_parts, eqb-true, or_cases}
 use Rattle.std.proofs.lemmas.Option.{none-some, same_Some}
 use Rattle.csp_base.specs.Members.{has}
 use Rattle.csp_tables.specs.Label.{Label}
 use Rattle.csp_tables.specs.Label.Label.{silent, visible}
-use Rattle.csp_tables.specs.Path.{Path, Reached, Silently, Stable}
-use Rattle.csp_tables.specs.Live.{Live}
-use Rattle.csp_tables.specs.Network.{Component, ComponentStep, Tree, Operands, NetworkStep, leaves}
-use Rattle.csp_tables.specs.Network.Tree.{leaf, parallel}
-use Rattle.csp_tables.specs.Flat.{OneMoves, AllTakePart, FlatStep}
-use Rattle.csp_tables.specs.SilentBound.{IsGreatestSilence, IsSilentBound}
-use Rattle.csp_tables.specs.Trace.{events_of, After, IsTrace, Offers}
-use Rattle.csp_tables.specs.Table.{Node, node_at, node_after, is_run, IsRun, end_of, acceptances_after}
-use Rattle.csp_tables.specs.Part.{Part, part_at, project, IsNonEmpty, TripleDisjoint, sharers}
+use Rattle.csp_tables.specs.Path.{Path, Silently, Stable}
+use Rattle.csp_tables.specs.Network.{Component, ComponentStep, Tree, NetworkStep, leaves}
+use Rattle.csp_tables.specs.Flat.{FlatStep}
+use Rattle.csp_tables.specs.SilentBound.{IsGreatestSilence}
+use Rattle.csp_tables.specs.Trace.{events_of, After, Offers}
+use Rattle.csp_tables.specs.Table.{node_at, node_after, is_run, end_of}
+use Rattle.csp_tables.specs.Part.{Part, part_at, project, IsNonEmpty, sharers}
 use Rattle.csp_tables.specs.Stands.{Stands, acceptance, acceptances_of}
-use Rattle.csp_tables.specs.Form.{HasForm, HaveForm}
-use Rattle.csp_tables.specs.Behaviour.{OffersAcceptance, HasBehaviour, HaveBehaviours}
-use Rattle.csp_tables.specs.Falls.{Falls, IsUngranted}
-use Rattle.csp_tables.specs.Ranking.{Ranking}
+use Rattle.csp_tables.specs.Form.{HasForm}
+use Rattle.csp_tables.specs.Behaviour.{OffersAcceptance, HasBehaviour}
+use Rattle.csp_tables.specs.Falls.{Falls}
 use Rattle.csp_tables.specs.GoodRanking.{IsGoodRanking}
 use Rattle.net_sound.specs.Heart.{IsSound}
 use Rattle.net_sound.specs.Example.{Turn, TurnStep, both, pair, turns, flat_ranking, ExampleIsLive, ExampleIsStuck}
 use Rattle.net_sound.specs.Example.Turn.{waking, at_zero, at_one}
-use Rattle.net_sound.proofs.FlatLists.{by_test}
 use Rattle.net_sound.proofs.Flattening.{forth}
 use Rattle.net_sound.proofs.Heart.{good_rankings_mean_live, path_alphabet}
 
@@ -131,19 +127,19 @@ follows (visible e ∷ ls) s t h =
     (and_from _ _ ((and_parts _ _ first.0).0) rest.0, rest.1)
 
 -- the state that a trace leads to, and the node
-leads : (x : Turn) (s : List ℕ) (d : Component Turn) → After TurnStep (one x) s d → Follows (node_of x) s (node_of d.term)
+leads : (x : Turn) (s : List ℕ) (d : Component Turn) → After (ComponentStep TurnStep) (one x) s d → Follows (node_of x) s (node_of d.term)
 leads x s d a = subst (λ w. Follows (node_of x) w (node_of d.term)) a.2 (follows a.0 (one x) d a.1)
 
 member : (n e : ℕ) → IsTrue (has (n ∷ []) e) → n ≡ e
 member n e h = elim (or_cases (nat_eq n e) false h) [ inl same ↦ eqb-true n e same | inr never ↦ absurd (false≢true never) ]
 
 -- a stable state offers the acceptance of its node
-offers : (x y : Turn) (d : Component Turn) → d.alphabet ≡ both → d.term ≡ y → (n : ℕ) → TurnStep y (visible n) x → IsTrue (has both n) → (e : ℕ) → IsTrue (has (n ∷ []) e) → Offers TurnStep d e
+offers : (x y : Turn) (d : Component Turn) → d.alphabet ≡ both → d.term ≡ y → (n : ℕ) → TurnStep y (visible n) x → IsTrue (has both n) → (e : ℕ) → IsTrue (has (n ∷ []) e) → Offers (ComponentStep TurnStep) d e
 offers x y d al is n step owned e h =
-    subst (λ k. Offers TurnStep d k) (member n e h)
+    subst (λ k. Offers (ComponentStep TurnStep) d k) (member n e h)
     (record { alphabet = d.alphabet; term = x }, (refl, subst (λ w. IsTrue (has w n)) (sym al) owned, subst (λ z. TurnStep z (visible n) x) (sym is) step))
 
-at_node : (y : Turn) (d : Component Turn) → d.alphabet ≡ both → d.term ≡ y → Stable (ComponentStep TurnStep) d → OffersAcceptance TurnStep d (node_at turns.table (node_of y)).accept
+at_node : (y : Turn) (d : Component Turn) → d.alphabet ≡ both → d.term ≡ y → Stable (ComponentStep TurnStep) d → OffersAcceptance (ComponentStep TurnStep) d (node_at turns.table (node_of y)).accept
 at_node waking d al is stable = absurd (stable (record { alphabet = d.alphabet; term = at_zero }) (refl, subst (λ z. TurnStep z silent at_zero) (sym is) refl))
 at_node at_zero d al is stable = record { place = 0; acceptance = 0 ∷ []; listed = refl; offered = offers at_one at_zero d al is 0 (refl, refl) refl }
 at_node at_one d al is stable = record { place = 0; acceptance = 1 ∷ []; listed = refl; offered = offers at_zero at_one d al is 1 (refl, refl) refl }
@@ -162,7 +158,7 @@ behaves x start = record {
   traces = λ s t. subst (λ n. IsTrue (is_run turns.table n s)) start (leads x s t.0 t.1).0;
   accepts = λ s d a stable.
       let e : node_of d.term ≡ end_of turns.table 0 s = sym (subst (λ n. end_of turns.table n s ≡ node_of d.term) start (leads x s d a).1) in
-      subst (λ n. OffersAcceptance TurnStep d (node_at turns.table n).accept) e (at_node d.term d (sym (path_alphabet TurnStep a.0 (one x) d a.1)) refl stable);
+      subst (λ n. OffersAcceptance (ComponentStep TurnStep) d (node_at turns.table n).accept) e (at_node d.term d (sym (path_alphabet TurnStep a.0 (one x) d a.1)) refl stable);
   busy = λ s M k t h.
       let e : end_of turns.table 0 s ≡ node_of t.0.term = subst (λ n. end_of turns.table n s ≡ node_of t.0.term) start (leads x s t.0 t.1).1 in
       not_empty t.0.term k M (subst (λ n. slice_get (node_at turns.table n).accept k ≡ Some M) e h);

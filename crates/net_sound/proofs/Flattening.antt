@@ -1,6 +1,6 @@
 -- In a well-nested tree the steps of the tree are the flat steps over its leaves, and a step keeps the nesting.
-use Rattle.std.proofs.Common.{◌≡◌, ℕ, ◌⊎◌, inl, inr, List, [], ◌∷◌, ◌++◌, Bool, true, false, ◌||◌, IsTrue, MatchBool, refl, sym, ap, ap₂, subst, ◌∙◌}
-use Rattle.std.proofs.lemmas.Bool.{MatchBool-at_true, MatchBool-at_false, or_parts, or_cases, or_from, or_left, or_right, false≢true, cases_Bool, both_ways}
+use Rattle.std.proofs.Common.{◌≡◌, ℕ, inl, inr, List, [], ◌∷◌, ◌++◌, Bool, true, false, ◌||◌, refl, sym, ap, ap₂, subst, ◌∙◌}
+use Rattle.std.proofs.lemmas.Bool.{MatchBool-at_true, or_cases, or_left, false≢true, cases_Bool}
 use Rattle.csp_base.specs.Members.{has}
 use Rattle.csp_tables.specs.Label.{Label}
 use Rattle.csp_tables.specs.Label.Label.{silent, visible}

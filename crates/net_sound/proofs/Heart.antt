@@ -1,23 +1,21 @@
 -- The heart: what each component stands at in a reached stable state, and the step that an agreed event is.
-use Rattle.std.proofs.Common.{◌≡◌, ℕ, zero, suc, ◌+◌, ◌<◌, ◌≤◌, ◌⊎◌, inl, inr, List, [], ◌∷◌, Some, slice_get, get_or, length, map, Bool, true, false, ◌||◌, IsTrue, MatchBool, replicate, refl, sym, ap, ap₂, subst, ◌∙◌, arith}
+use Rattle.std.proofs.Common.{◌≡◌, ℕ, zero, suc, ◌<◌, inl, inr, List, [], ◌∷◌, Some, slice_get, get_or, length, IsTrue, MatchBool, replicate, refl, sym, ap, ap₂, subst, ◌∙◌, arith}
 use Rattle.std.proofs.lemmas.Bool.{cases_Bool, or_left, or_right}
 use Rattle.std.proofs.lemmas.Option.{get_or_from_slice_get, slice_get_within, none-some, same_Some}
 use Rattle.csp_base.specs.Members.{has}
 use Rattle.csp_tables.specs.Label.{Label}
 use Rattle.csp_tables.specs.Label.Label.{silent, visible}
-use Rattle.csp_tables.specs.Path.{Path, Reached, Silently, Stable}
-use Rattle.csp_tables.specs.Live.{Live}
-use Rattle.csp_tables.specs.Network.{Component, ComponentStep, Tree, NetworkStep, leaves}
+use Rattle.csp_tables.specs.Path.{Path, Stable}
+use Rattle.csp_tables.specs.Network.{Component, ComponentStep, Tree, leaves}
 use Rattle.csp_tables.specs.Flat.{in_some_component, OneMoves, AllTakePart, FlatStep}
-use Rattle.csp_tables.specs.WellNested.{WellNested}
 use Rattle.csp_tables.specs.Trace.{events_of, After, Offers}
 use Rattle.csp_tables.specs.Part.{Part, part_at, alphabets_of, project, IsNonEmpty, TripleDisjoint}
-use Rattle.csp_tables.specs.Stands.{Follows, IsJointRun, Stands, AllStand, IsAgreed, acceptance, acceptances_of}
+use Rattle.csp_tables.specs.Stands.{Follows, Stands, AllStand, IsAgreed, acceptance, acceptances_of}
 use Rattle.csp_tables.specs.Behaviour.{OffersAcceptance, HasBehaviour, HaveBehaviours}
 use Rattle.csp_tables.specs.Ranking.{Ranking}
 use Rattle.csp_tables.specs.GoodRanking.{IsGoodRanking}
 use Rattle.net_sound.specs.Projection.{ComesAlong, RunsAreTraces, RunsAreJoint, SilenceIsBounded}
-use Rattle.net_sound.specs.Heart.{IsSound, GoodRankingsMeanLive}
+use Rattle.net_sound.specs.Heart.{GoodRankingsMeanLive}
 use Rattle.net_sound.proofs.FlatLists.{alphabets, match_true, match_false, step_alphabet}
 use Rattle.net_sound.proofs.Flattening.{back}
 use Rattle.net_sound.proofs.Local.{AllAfter, all_after, shares, at_most, run_forth, run_kept}
@@ -29,7 +27,7 @@ along : {T : Type 0} (Step : T → Label → T → Type 0) (ls : List Label) (cs
 along Step ls [] ds u i k c a h there = absurd (none-some c h)
 along Step ls (x ∷ cs) [] u i k c a h there = absurd a
 along Step ls (x ∷ cs) (d ∷ ds) u zero k c a h there =
-    record { state = d; placed = there d refl; after = subst (λ (y : Component _). After Step y (project y.alphabet (events_of ls)) d) (same_Some x c h) a.0 }
+    record { state = d; placed = there d refl; after = subst (λ (y : Component _). After (ComponentStep Step) y (project y.alphabet (events_of ls)) d) (same_Some x c h) a.0 }
 along Step ls (x ∷ cs) (d ∷ ds) u (suc i) k c a h there = along Step ls cs ds u i k c a.1 h there
 
 pub runs_are_traces : {T : Type 0} (Step : T → Label → T → Type 0) → RunsAreTraces Step
@@ -40,7 +38,7 @@ follows Step s [] ds [] i a b h = absurd (omega arith)
 follows Step s [] ds (p ∷ ps) i a b h = absurd b
 follows Step s (c ∷ cs) [] ps i a b h = absurd a
 follows Step s (c ∷ cs) (d ∷ ds) [] i a b h = absurd b
-follows Step s (c ∷ cs) (d ∷ ds) (p ∷ ps) zero a b h = b.0.traces (project p.alphabet s) (d, subst (λ al. After Step c (project al s) d) b.0.alphabet a.0)
+follows Step s (c ∷ cs) (d ∷ ds) (p ∷ ps) zero a b h = b.0.traces (project p.alphabet s) (d, subst (λ al. After (ComponentStep Step) c (project al s) d) b.0.alphabet a.0)
 follows Step s (c ∷ cs) (d ∷ ds) (p ∷ ps) (suc i) a b h = follows Step s cs ds ps i a.1 b.1 (omega arith)
 
 pub runs_are_joint : {T : Type 0} (Step : T → Label → T → Type 0) → RunsAreJoint Step
@@ -72,9 +70,9 @@ path_alphabet Step (l ∷ ls) c d h = step_alphabet Step c l h.0 h.1 ∙ path_al
 record OffersAt {T : Type 0} (Step : T → Label → T → Type 0) (s : List ℕ) (d : Component T) (p : Part) (k : ℕ) : Type 0 where
   alphabet : d.alphabet ≡ p.alphabet
   stands : Stands p s k
-  offered : (e : ℕ) → IsTrue (has (acceptance p s k) e) → Offers Step d e
+  offered : (e : ℕ) → IsTrue (has (acceptance p s k) e) → Offers (ComponentStep Step) d e
 
-offers_at : {T : Type 0} (Step : T → Label → T → Type 0) (s : List ℕ) (c d : Component T) (p : Part) → HasBehaviour Step c p → After Step c (project p.alphabet s) d → (o : OffersAcceptance Step d (acceptances_of p s)) → OffersAt Step s d p o.place
+offers_at : {T : Type 0} (Step : T → Label → T → Type 0) (s : List ℕ) (c d : Component T) (p : Part) → HasBehaviour Step c p → After (ComponentStep Step) c (project p.alphabet s) d → (o : OffersAcceptance (ComponentStep Step) d (acceptances_of p s)) → OffersAt Step s d p o.place
 offers_at Step s c d p b a o =
     let is : acceptance p s o.place ≡ o.acceptance = get_or_from_slice_get (acceptances_of p s) o.place o.acceptance [] o.listed in
     record {
@@ -101,7 +99,7 @@ choose Step s [] (d ∷ ds) ps a st b = absurd a
 choose Step s (c ∷ cs) [] ps a st b = absurd a
 choose Step s (c ∷ cs) (d ∷ ds) [] a st b = absurd b
 choose Step s (c ∷ cs) (d ∷ ds) (p ∷ ps) a st b =
-    let here = subst (λ al. After Step c (project al s) d) b.0.alphabet a.0 in
+    let here = subst (λ al. After (ComponentStep Step) c (project al s) d) b.0.alphabet a.0 in
     let o = b.0.accepts (project p.alphabet s) d here st.0 in
     let rest = choose Step s cs ds ps a.1 st.1 b.1 in
     (o.place ∷ rest.0, (offers_at Step s c d p b.0 here o, rest.1))

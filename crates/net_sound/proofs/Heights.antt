@@ -1,19 +1,18 @@
 -- Silent walks of a component and of its numbered table.
-use Rattle.std.proofs.Common.{◌≡◌, ℕ, zero, suc, ◌+◌, ◌<◌, ◌≤◌, max, List, [], ◌∷◌, Some, None, slice_get, get_or, length, replicate, refl, sym, ap, subst, ◌∙◌, arith, inl, inr, ◌⊎◌}
+use Rattle.std.proofs.Common.{◌≡◌, ℕ, zero, suc, ◌<◌, ◌≤◌, List, [], ◌∷◌, Some, slice_get, get_or, length, refl, sym, ap, subst, ◌∙◌, arith, inl, inr}
 use Rattle.std.proofs.lemmas.Bool.{cases_lt}
-use Rattle.std.proofs.lemmas.Option.{none-some, same_Some, slice_get_within}
+use Rattle.std.proofs.lemmas.Option.{same_Some, slice_get_within}
 use Rattle.csp_tables.specs.Label.{Label}
-use Rattle.csp_tables.specs.Label.Label.{silent, visible}
-use Rattle.csp_tables.specs.Path.{Path, Reached, Silently}
+use Rattle.csp_tables.specs.Label.Label.{silent}
+use Rattle.csp_tables.specs.Path.{Path, Silently}
 use Rattle.csp_tables.specs.Network.{Component, ComponentStep}
-use Rattle.csp_tables.specs.SilentBound.{IsGreatestSilence}
-use Rattle.csp_tables.specs.RawTable.{RawTable, RawStep, standing_at, IsTableOf, IsStepOf, IsInTable}
-use Rattle.csp_tables.specs.Heights.{IsHeight, AreHeights, greatest}
+use Rattle.csp_tables.specs.RawTable.{RawTable, RawStep, standing_at, IsTableOf}
+use Rattle.csp_tables.specs.Heights.{greatest}
 use Rattle.net_sound.specs.Heights.{HeightsAreExact}
 use Rattle.net_sound.proofs.FlatLists.{step_alphabet}
 
 -- a component with the alphabet of c is c standing at its term
-stands : {T : Type 0} (c d : Component T) → c.alphabet ≡ d.alphabet → d ≡ standing_at c d.term
+pub stands : {T : Type 0} (c d : Component T) → c.alphabet ≡ d.alphabet → d ≡ standing_at c d.term
 stands c d h = ap (λ al. record { alphabet = al; term = d.term }) (sym h)
 
 walk_up : {T : Type 0} (Step : T → Label → T → Type 0) (c : Component T) (terms : List T) (raw : RawTable) (k m n : ℕ) (x : T) → IsTableOf Step c terms raw → slice_get terms m ≡ Some x → Silently (RawStep raw) k m n → (d : Component T) × Silently (ComponentStep Step) k (standing_at c x) d

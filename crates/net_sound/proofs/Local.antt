@@ -1,16 +1,15 @@
 -- What a run of the network is for each of its components: steps of that component alone, whose events are the run's
 -- events in the component's alphabet. And how many of the silent steps in a row are the component's.
-use Rattle.std.proofs.Common.{◌≡◌, ℕ, zero, suc, ◌+◌, ◌<◌, ◌≤◌, ◌⊎◌, inl, inr, List, [], ◌∷◌, ◌++◌, Some, None, slice_get, Bool, true, false, cond, IsTrue, MatchBool, replicate, refl, sym, ap, ap₂, subst, ◌∙◌, arith}
-use Rattle.std.proofs.lemmas.Bool.{cond-true, cond-false, false≢true}
-use Rattle.std.proofs.lemmas.Option.{none-some, same_Some}
+use Rattle.std.proofs.Common.{◌≡◌, ℕ, zero, suc, ◌+◌, ◌≤◌, inl, inr, List, [], ◌∷◌, MatchBool, refl, sym, ap, subst, ◌∙◌, arith}
+use Rattle.std.proofs.lemmas.Bool.{cond-true, cond-false}
 use Rattle.csp_base.specs.Members.{has}
 use Rattle.csp_tables.specs.Label.{Label}
 use Rattle.csp_tables.specs.Label.Label.{silent, visible}
-use Rattle.csp_tables.specs.Path.{Path, Reached, Silently, Stable}
+use Rattle.csp_tables.specs.Path.{Path, Reached, Silently}
 use Rattle.csp_tables.specs.Network.{Component, ComponentStep, Tree, NetworkStep, leaves}
-use Rattle.csp_tables.specs.Flat.{in_some_component, OneMoves, AllTakePart, FlatStep}
+use Rattle.csp_tables.specs.Flat.{OneMoves, AllTakePart, FlatStep}
 use Rattle.csp_tables.specs.WellNested.{WellNested}
-use Rattle.csp_tables.specs.SilentBound.{IsGreatestSilence, IsSilentBound}
+use Rattle.csp_tables.specs.SilentBound.{IsSilentBound}
 use Rattle.csp_tables.specs.Trace.{events_of, After}
 use Rattle.csp_tables.specs.Part.{project}
 use Rattle.net_sound.proofs.FlatLists.{by_test, step_alphabet}
@@ -18,22 +17,22 @@ use Rattle.net_sound.proofs.Flattening.{forth, kept}
 
 -- ---- one component
 
-after_silent : {T : Type 0} (Step : T → Label → T → Type 0) (c m d : Component T) (s : List ℕ) → ComponentStep Step c silent m → After Step m s d → After Step c s d
+after_silent : {T : Type 0} (Step : T → Label → T → Type 0) (c m d : Component T) (s : List ℕ) → ComponentStep Step c silent m → After (ComponentStep Step) m s d → After (ComponentStep Step) c s d
 after_silent Step c m d s h a = (silent ∷ a.0, (m, h, a.1), a.2)
 
-after_event : {T : Type 0} (Step : T → Label → T → Type 0) (c m d : Component T) (e : ℕ) (s : List ℕ) → ComponentStep Step c (visible e) m → After Step m s d → After Step c (e ∷ s) d
+after_event : {T : Type 0} (Step : T → Label → T → Type 0) (c m d : Component T) (e : ℕ) (s : List ℕ) → ComponentStep Step c (visible e) m → After (ComponentStep Step) m s d → After (ComponentStep Step) c (e ∷ s) d
 after_event Step c m d e s h a = (visible e ∷ a.0, (m, h, a.1), ap (λ w. e ∷ w) a.2)
 
 -- the component's part of the network's event e, before a run with the events s
-after_part : {T : Type 0} (Step : T → Label → T → Type 0) (c m d : Component T) (e : ℕ) (s : List ℕ) → MatchBool (has c.alphabet e) (ComponentStep Step c (visible e) m) (c ≡ m) → After Step m (project m.alphabet s) d → After Step c (project c.alphabet (e ∷ s)) d
+after_part : {T : Type 0} (Step : T → Label → T → Type 0) (c m d : Component T) (e : ℕ) (s : List ℕ) → MatchBool (has c.alphabet e) (ComponentStep Step c (visible e) m) (c ≡ m) → After (ComponentStep Step) m (project m.alphabet s) d → After (ComponentStep Step) c (project c.alphabet (e ∷ s)) d
 after_part Step c m d e s h a =
     elim (by_test (has c.alphabet e) h) [
-      | inl k ↦ subst (λ w. After Step c w d)
+      | inl k ↦ subst (λ w. After (ComponentStep Step) c w d)
           (ap (λ al. e ∷ project al s) (sym (step_alphabet Step c (visible e) m k.1)) ∙ sym (cond-true (has c.alphabet e) (e ∷ project c.alphabet s) (project c.alphabet s) k.0))
           (after_event Step c m d e (project m.alphabet s) k.1 a)
-      | inr k ↦ subst (λ w. After Step c w d)
+      | inr k ↦ subst (λ w. After (ComponentStep Step) c w d)
           (sym (cond-false (has c.alphabet e) (e ∷ project c.alphabet s) (project c.alphabet s) k.0))
-          (subst (λ (x : Component _). After Step x (project x.alphabet s) d) (sym k.1) a)
+          (subst (λ (x : Component _). After (ComponentStep Step) x (project x.alphabet s) d) (sym k.1) a)
     ]
 
 -- ---- all components
@@ -43,7 +42,7 @@ abbrev pub AllAfter : {T : Type 0} → (T → Label → T → Type 0) → List �
 AllAfter Step s [] [] = Unit {0}
 AllAfter Step s [] (d ∷ ds) = ⊥
 AllAfter Step s (c ∷ cs) [] = ⊥
-AllAfter Step s (c ∷ cs) (d ∷ ds) = After Step c (project c.alphabet s) d × AllAfter Step s cs ds
+AllAfter Step s (c ∷ cs) (d ∷ ds) = After (ComponentStep Step) c (project c.alphabet s) d × AllAfter Step s cs ds
 
 none_yet : {T : Type 0} (Step : T → Label → T → Type 0) (cs : List (Component T)) → AllAfter Step [] cs cs
 none_yet Step [] = tt
@@ -54,11 +53,11 @@ first_silent Step s [] ms ds h a = absurd h
 first_silent Step s (c ∷ cs) [] ds h a = absurd h
 first_silent Step s (c ∷ cs) (m ∷ ms) [] h a = absurd a
 first_silent Step s (c ∷ cs) (m ∷ ms) (d ∷ ds) (inl h) a = (
-  subst (λ al. After Step c (project al s) d) (sym h.0.0) (after_silent Step c m d (project m.alphabet s) h.0 a.0),
+  subst (λ al. After (ComponentStep Step) c (project al s) d) (sym h.0.0) (after_silent Step c m d (project m.alphabet s) h.0 a.0),
   subst (λ xs. AllAfter Step s xs ds) (sym h.1) a.1,
 )
 first_silent Step s (c ∷ cs) (m ∷ ms) (d ∷ ds) (inr h) a =
-    (subst (λ (x : Component _). After Step x (project x.alphabet s) d) (sym h.0) a.0, first_silent Step s cs ms ds h.1 a.1)
+    (subst (λ (x : Component _). After (ComponentStep Step) x (project x.alphabet s) d) (sym h.0) a.0, first_silent Step s cs ms ds h.1 a.1)
 
 first_event : {T : Type 0} (Step : T → Label → T → Type 0) (e : ℕ) (s : List ℕ) (cs ms ds : List (Component T)) → AllTakePart Step e cs ms → AllAfter Step s ms ds → AllAfter Step (e ∷ s) cs ds
 first_event Step e s [] [] [] h a = tt
@@ -100,7 +99,7 @@ pub shares : {T : Type 0} (Step : T → Label → T → Type 0) (n : ℕ) (cs ds
 shares Step zero cs ds h = subst (Shares Step 0 cs) h (no_shares Step cs)
 shares Step (suc n) cs ds h = one_more Step n cs h.0 ds h.1 (shares Step n h.0 ds h.2)
 
-reached : {T : Type 0} (Step : T → Label → T → Type 0) (c : Component T) (s : List ℕ) (m : Component T) → After Step c s m → Reached (ComponentStep Step) c m
+reached : {T : Type 0} (Step : T → Label → T → Type 0) (c : Component T) (s : List ℕ) (m : Component T) → After (ComponentStep Step) c s m → Reached (ComponentStep Step) c m
 reached Step c s m a = (a.0, a.1)
 
 -- from a reached state at most as many silent steps follow one another as the silent bound says

@@ -1,5 +1,5 @@
 -- How many alphabets have an event: at least as many as there are places told apart that have it.
-use Rattle.std.proofs.Common.{◌≡◌, ℕ, zero, suc, ◌+◌, ◌<◌, ◌≤◌, List, [], ◌∷◌, length, Bool, true, false, cond, IsTrue, refl, sym, ap, subst, arith}
+use Rattle.std.proofs.Common.{◌≡◌, ℕ, zero, suc, ◌+◌, ◌<◌, ◌≤◌, List, [], ◌∷◌, length, Bool, true, false, cond, IsTrue, refl, ap, arith}
 use Rattle.std.proofs.lemmas.Bool.{cond-true}
 use Rattle.csp_base.specs.Members.{has}
 use Rattle.csp_tables.specs.Part.{Part, part_at, alphabets_of, sharers}

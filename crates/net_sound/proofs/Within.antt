@@ -1,7 +1,6 @@
 -- In parts that have the form of tables, each acceptance is within the part's alphabet.
-use Rattle.std.proofs.Common.{◌≡◌, ℕ, zero, suc, ◌<◌, List, [], ◌∷◌, length, get_or, IsTrue, arith}
+use Rattle.std.proofs.Common.{ℕ, zero, suc, ◌<◌, List, [], ◌∷◌, length, get_or, arith}
 use Rattle.std.proofs.lemmas.Bool.{false≢true}
-use Rattle.csp_base.specs.Members.{has}
 use Rattle.csp_tables.specs.Trace.{IsWithin}
 use Rattle.csp_tables.specs.Table.{Node, node_at, end_of}
 use Rattle.csp_tables.specs.Form.{HasForm, HaveForm, AreWithin, NodesHaveForm}
@@ -18,7 +17,7 @@ node_within a m [] n form = tt
 node_within a m (node ∷ ns) zero form = form.1
 node_within a m (node ∷ ns) (suc n) form = node_within a m ns n form.2
 
-part_form : (ps : List Part) (i : ℕ) → i < length ps → HaveForm ps → HasForm (part_at ps i)
+pub part_form : (ps : List Part) (i : ℕ) → i < length ps → HaveForm ps → HasForm (part_at ps i)
 part_form [] i h form = absurd (omega arith)
 part_form (p ∷ ps) zero h form = form.0
 part_form (p ∷ ps) (suc i) h form = part_form ps i (omega arith) form.1

@@ -6,10 +6,9 @@ use Rattle.std.specs.Prelude.{◌≡◌, ℕ, pos, List, [], ◌∷◌}
 use Rattle.csp_tables.specs.Label.{Label}
 use Rattle.csp_tables.specs.Label.Label.{silent, visible}
 use Rattle.csp_tables.specs.Live.{Live}
-use Rattle.csp_tables.specs.Network.{Component, Tree, Operands, NetworkStep, leaves}
+use Rattle.csp_tables.specs.Network.{Tree, NetworkStep, leaves}
 use Rattle.csp_tables.specs.Network.Tree.{leaf, parallel}
 use Rattle.csp_tables.specs.Network.Operands.{none, operand}
-use Rattle.csp_tables.specs.Table.{Node}
 use Rattle.csp_tables.specs.Part.{Part}
 use Rattle.csp_tables.specs.Ranking.{PartRanks, Ranking}
 use Rattle.csp_tables.specs.GoodRanking.{IsGoodRanking}

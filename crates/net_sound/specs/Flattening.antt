@@ -3,7 +3,7 @@
 -- Both are by cases on the label. A silent step is one leaf's in both. For an event, an operand without the event in its
 -- alphabet stays in the tree; by well nesting none of its leaves has the event, so they stay in the list. The converse goes
 -- the same way, and a step leaves every alphabet as it was, so the nesting is kept.
-use Rattle.std.specs.Prelude.{◌≡◌, ◌↔◌, List, map}
+use Rattle.std.specs.Prelude.{◌≡◌, List, map}
 use Rattle.csp_tables.specs.Label.{Label}
 use Rattle.csp_tables.specs.Network.{Component, Tree, NetworkStep, leaves}
 use Rattle.csp_tables.specs.Flat.{FlatStep}

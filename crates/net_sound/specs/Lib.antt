@@ -3,4 +3,5 @@ pub mod Flattening
 pub mod Heart
 pub mod Heights
 pub mod NoneStuck
+pub mod Normal
 pub mod Projection

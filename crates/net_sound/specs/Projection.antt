@@ -5,7 +5,7 @@
 use Rattle.std.specs.Prelude.{◌≡◌, ◌<◌, ◌≤◌, ℕ, List, Some, length, slice_get}
 use Rattle.csp_tables.specs.Label.{Label}
 use Rattle.csp_tables.specs.Path.{Path, Reached, Silently}
-use Rattle.csp_tables.specs.Network.{Component, Tree, NetworkStep, leaves}
+use Rattle.csp_tables.specs.Network.{Component, ComponentStep, Tree, NetworkStep, leaves}
 use Rattle.csp_tables.specs.WellNested.{WellNested}
 use Rattle.csp_tables.specs.SilentBound.{IsSilentBound}
 use Rattle.csp_tables.specs.Trace.{events_of, After}
@@ -17,7 +17,7 @@ use Rattle.csp_tables.specs.Behaviour.{HaveBehaviours}
 pub record ComesAlong {T : Type 0} (Step : T → Label → T → Type 0) (c : Component T) (ls : List Label) (u : Tree T) (i : ℕ) : Type 0 where
   pub state : Component T
   pub placed : slice_get (leaves u) i ≡ Some state
-  pub after : After Step c (project c.alphabet (events_of ls)) state
+  pub after : After (ComponentStep Step) c (project c.alphabet (events_of ls)) state
 
 -- a run of the tree, projected on a component's alphabet, is a trace of that component
 abbrev pub RunsAreTraces : {T : Type 0} → (T → Label → T → Type 0) → Type 0

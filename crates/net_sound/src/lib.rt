@@ -7,6 +7,7 @@ ghost use Rattle.net_sound.specs.Heart.{GoodRankingsMeanLive};
 ghost use Rattle.net_sound.specs.Heights.{HeightsAreExact};
 ghost use Rattle.net_sound.specs.Example.{ExampleIsLive, ExampleIsStuck};
 ghost use Rattle.net_sound.specs.NoneStuck.{NoneIsStuck};
+ghost use Rattle.net_sound.specs.Normal.{NormalTablesBehave};
 ghost use Rattle.net_sound.specs.Projection.{RunsAreTraces, RunsAreJoint, SilenceIsBounded};
 
 /// A labelled transition system: the values of a type are its states.
@@ -38,6 +39,11 @@ pub fn silence_is_bounded<S: Transitions>()
 /// The greatest silent height of a component's numbered table is the component's greatest number of silent steps.
 pub fn heights_are_exact<S: Transitions>()
     ensures { HeightsAreExact S.step }
+{}
+
+/// The normal table of a component that is never empty-handed has the component's behaviour.
+pub fn normal_tables_behave<S: Transitions>()
+    ensures { NormalTablesBehave S.step }
 {}
 
 /// Over tables alone: ranks that fall along ungranted requests leave no state in which no event is agreed.

@@ -1,0 +1,3 @@
+pub mod ClientServer
+pub mod Cyclic
+pub mod Resource

@@ -1,0 +1,21 @@
+//! The rankings of the three rules are good: each falls along every ungranted request.
+#![tactic(auto)]
+
+ghost use Rattle.rules_good.specs.ClientServer.{ClientServerRanksFall};
+ghost use Rattle.rules_good.specs.Cyclic.{CyclicRanksFall};
+ghost use Rattle.rules_good.specs.Resource.{ResourceRanksFall};
+
+/// The ranking of a cyclic network falls.
+pub fn cyclic_ranks_fall()
+    ensures { CyclicRanksFall }
+{}
+
+/// The ranking of a client-server network falls.
+pub fn client_server_ranks_fall()
+    ensures { ClientServerRanksFall }
+{}
+
+/// The ranking of a network of users and resources falls.
+pub fn resource_ranks_fall()
+    ensures { ResourceRanksFall }
+{}
