@@ -157,6 +157,7 @@ fn bytes_names_and_traces(rt: HostRuntime) -> Result<(), Fail> {
     bytes.extend_from_slice(b"cd")?;
     assert_eq!(rt; bytes.try_clone(alloc)?.as_slice(), b"abcd".as_slice());
     let name = Name::from_slice(alloc, b"out")?;
+    assert!(rt; name != Name::from_slice(alloc, b"in")?);
     assert_eq!(rt; name.try_clone(alloc)?.as_slice(), b"out".as_slice());
     let mut trace = Trace::from_slice(alloc, &[Event(4)])?;
     trace.push(Event(2))?;
