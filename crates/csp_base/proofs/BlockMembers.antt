@@ -1,11 +1,10 @@
 -- The events of blocks, by the words of the blocks.
-use Rattle.std.proofs.Common.{◌≡◌, ℕ, zero, suc, ◌+◌, ◌-◌, ◌*◌, ◌/◌, ◌%◌, ◌^◌, ◌<◌, ◌≤◌, Bool, true, false, cond, ◌&&◌, ◌||◌, eqb, List, [], ◌∷◌, ◌++◌, length, refl, sym, ap, ◌⊎◌, inl, inr, le_refl, ◌∙◌, subst, add-one, arith, rules}
-use Rattle.std.proofs.lemmas.Bool.{cases_eq, cases_lt, cases_order, or_right, or_left, or_from, or_cases, eq-eqb, ne_eqb, eqb-true, eqb-false, false≢true, true≢false}
-use Rattle.std.proofs.lemmas.Nat.Bits.{bit_at-zero, bit_at_above}
-use Rattle.std.specs.Int.{bit_at}
+use Rattle.std.proofs.Common.{◌≡◌, ℕ, ◌+◌, ◌-◌, ◌*◌, ◌/◌, ◌%◌, ◌^◌, ◌<◌, ◌≤◌, Bool, true, false, ◌||◌, List, [], ◌∷◌, ◌++◌, length, refl, sym, ap, inl, inr, le_refl, ◌∙◌, subst, arith}
+use Rattle.std.proofs.lemmas.Bool.{cases_lt, cases_order, eq-eqb, ne_eqb, false≢true}
+use Rattle.std.proofs.lemmas.Nat.Bits.{bit_at-zero}
 use Rattle.std.specs.Prelude.{◌==◌}
 use Rattle.csp_base.specs.Events.{has}
-use Rattle.csp_base.specs.Blocks.{has_bit, word_events, events_of, word_at, AreBlocksFrom, AreBlocks}
+use Rattle.csp_base.specs.Blocks.{has_bit, word_events, events_of, word_at, AreBlocksFrom}
 use Rattle.csp_base.proofs.Rising.{RisesFrom, RisesFrom-weaken, RisesFrom-append, has_below, has-append}
 use Rattle.csp_base.proofs.Words.{RisesFrom-word_events, word_events_above, has-word_events}
 

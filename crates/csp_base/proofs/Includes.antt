@@ -1,24 +1,20 @@
 -- One more event in a list of blocks.
-use Rattle.std.proofs.Common.{◌≡◌, ℕ, zero, suc, ◌+◌, ◌-◌, ◌*◌, ◌/◌, ◌%◌, ◌^◌, ◌<◌, ◌≤◌, Bool, true, false, not, cond, ◌&&◌, ◌||◌, eqb, ltb, leb, List, [], ◌∷◌, ◌++◌, length, take, drop, set, get_or, min, max, Some, None, refl, sym, ap, ◌⊎◌, inl, inr, le_refl, ◌∙◌, subst, add-one, arith, rules, length-append}
-use Rattle.std.proofs.lemmas.Bool.{cases_eq, cases_lt, cases_order, eq-eqb, ne_eqb, eqb-true, eqb-false, le-leb, lt-leb, or_left, or_right, or_from, false≢true, true≢false, and_parts, and_right, and_left}
-use Rattle.std.proofs.lemmas.Nat.Bits.{bit_at-zero, bit_at_and, bit_at_or, bit_at_xor, bit_at-lt, bit_at_above, bit_at-trailing_zeros, shr_and_one, ones_shl, bit_at_mask_inside, bit_at_mask_below, bit_at_set_same, bit_at_set_other}
-use Rattle.std.proofs.lemmas.Nat.{or_lt, and_le_l, le_or_l, pow_pos}
+use Rattle.std.proofs.Common.{◌≡◌, ℕ, zero, suc, ◌+◌, ◌*◌, ◌/◌, ◌%◌, ◌^◌, ◌<◌, ◌≤◌, cond, ◌||◌, eqb, List, [], ◌∷◌, ◌++◌, length, take, drop, set, refl, sym, ap, ◌⊎◌, inl, inr, ◌∙◌, subst, arith}
+use Rattle.std.proofs.lemmas.Bool.{cases_eq, eq-eqb, ne_eqb, or_left}
+use Rattle.std.proofs.lemmas.Nat.Bits.{bit_at_set_same, bit_at_set_other}
+use Rattle.std.proofs.lemmas.Nat.{or_lt, le_or_l, pow_pos}
 use Rattle.std.specs.Int.Bits.{or_zero_l}
 use Rattle.std.proofs.Math.Pow.{pow_mono}
-use Rattle.std.proofs.lemmas.List.{take-append-drop, take_more, set_split}
+use Rattle.std.proofs.lemmas.List.{take-append-drop, set_split}
 use Rattle.std.proofs.Math.Seq.{drop-cons}
-use Rattle.std.specs.List.{find, list_any}
-use Rattle.std.specs.Int.{bit_at, bit_not, trailing_zeros, w64}
-use Rattle.std.specs.Int.Count.{ones, ones_in, ones_step}
-use Rattle.std.specs.Prelude.{◌==◌, nat_le, bit_and, bit_or}
+use Rattle.std.specs.Int.{w64}
+use Rattle.std.specs.Prelude.{◌==◌, bit_or}
 use Rattle.csp_base.specs.Events.{has}
-use Rattle.csp_base.specs.Blocks.{has_bit, word_at, word_events, AreBlocksFrom, events_of}
-use Rattle.csp_base.specs.Operations.{first_word, rest_after, end_from}
-use Rattle.csp_base.proofs.Rising.{RisesFrom, RisesFrom-weaken, has_below, find_from_member, find_from_none, has-append}
-use Rattle.csp_base.proofs.BlockMembers.{AreBlocksFrom-weaken, word_at_below, word_at-append, word_at_first, word_at_later, has-events_of_at, has-events_of, RisesFrom-events_of, has_bit-zero, length-blocks}
-use Rattle.csp_base.proofs.MergeSteps.{first_word-word_at, has_bit-and, has_bit-or, word_at-lt, AreBlocksFrom-rest_after, word_at-rest_after, bit_of_word}
-use Rattle.csp_base.proofs.Places.{AreBlocksFrom-append, AreBlocksFrom-take, AreBlocksFrom-drop, word_at_past, word_at-drop, first_word-drop}
-use Rattle.csp_base.proofs.Words.{length-word_events}
+use Rattle.csp_base.specs.Blocks.{has_bit, word_at, AreBlocksFrom, events_of}
+use Rattle.csp_base.specs.Operations.{first_word, end_from}
+use Rattle.csp_base.proofs.BlockMembers.{word_at-append, word_at_first, word_at_later, has-events_of_at}
+use Rattle.csp_base.proofs.MergeSteps.{first_word-word_at}
+use Rattle.csp_base.proofs.Places.{AreBlocksFrom-append, AreBlocksFrom-take, word_at_past}
 
 -- the new blocks, with the bits added at a number
 pub record Includes (old new : List (ℕ × ℕ)) (number bit : ℕ) : Type 0 where

@@ -8,6 +8,6 @@ pub mod OrderLemmas
 pub mod Places
 pub mod Rising
 pub mod SetLaws
+pub mod SetTests
 pub mod Sets
-pub mod Tests
 pub mod Words

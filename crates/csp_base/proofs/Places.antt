@@ -1,11 +1,10 @@
 -- Places in a list of blocks: what stands before one, and from it on.
-use Rattle.std.proofs.Common.{◌≡◌, ℕ, zero, suc, ◌+◌, ◌-◌, ◌*◌, ◌/◌, ◌%◌, ◌^◌, ◌<◌, ◌≤◌, Bool, true, false, not, cond, ◌&&◌, ◌||◌, eqb, ltb, List, [], ◌∷◌, ◌++◌, length, take, drop, get_or, refl, sym, ap, ◌⊎◌, inl, inr, le_refl, ◌∙◌, subst, add-one, arith, rules}
-use Rattle.std.proofs.lemmas.Bool.{cases_eq, cases_lt, cases_order, eq-eqb, ne_eqb}
+use Rattle.std.proofs.Common.{◌≡◌, ℕ, zero, suc, ◌+◌, ◌/◌, ◌%◌, ◌<◌, ◌≤◌, List, [], ◌∷◌, ◌++◌, length, take, drop, get_or, refl, sym, ap, le_refl, ◌∙◌, add-one, arith}
 use Rattle.std.proofs.lemmas.List.{take-append-drop}
 use Rattle.csp_base.specs.Blocks.{has_bit, word_at, AreBlocksFrom, events_of}
 use Rattle.csp_base.specs.Events.{has}
 use Rattle.csp_base.specs.Operations.{first_word, end_from}
-use Rattle.csp_base.proofs.BlockMembers.{AreBlocksFrom-weaken, word_at_below, word_at-append, word_at_first, word_at_later, has-events_of_at, has-events_of}
+use Rattle.csp_base.proofs.BlockMembers.{word_at-append, word_at_later, has-events_of_at}
 use Rattle.csp_base.proofs.MergeSteps.{first_word-word_at}
 
 -- the front of blocks are blocks, and what follows are blocks from its end

@@ -1,10 +1,8 @@
 -- Facts on strictly rising lists of numbers, by their members.
-use Rattle.std.proofs.Common.{◌≡◌, ℕ, zero, suc, ◌+◌, ◌-◌, ◌<◌, ◌≤◌, Bool, true, false, not, cond, ◌&&◌, ◌||◌, eqb, ltb, leb, List, [], ◌∷◌, ◌++◌, length, get_or, refl, sym, ap, ◌⊎◌, inl, inr, le_refl, ◌∙◌, subst, add-one, arith, rules, Some, None}
-use Rattle.std.proofs.lemmas.Bool.{cases_eq, cases_lt, cases_order, or_right, or_left, or_from, or_cases, or_parts, and_from, and_left, and_right, and_parts, ltb-true, ltb-false, eqb-false, cases_Bool, eq-eqb, ne_eqb, lt-ltb, le-ltb, le-leb, lt-leb, eqb-true, false≢true, true≢false}
-use Rattle.std.proofs.lemmas.Bool.Decides.{nat_tests}
-use Rattle.std.proofs.lemmas.Grind.{common_steps}
+use Rattle.std.proofs.Common.{◌≡◌, ℕ, zero, suc, ◌+◌, ◌<◌, ◌≤◌, Bool, true, false, not, cond, ◌&&◌, ◌||◌, eqb, ltb, leb, List, [], ◌∷◌, ◌++◌, refl, sym, ap, inl, inr, le_refl, ◌∙◌, subst, add-one, arith, Some, None}
+use Rattle.std.proofs.lemmas.Bool.{cases_eq, cases_lt, cases_order, or_right, or_left, or_from, or_cases, or_parts, and_from, and_left, and_right, and_parts, ltb-true, ltb-false, eqb-false, eq-eqb, ne_eqb, le-leb, lt-leb, eqb-true, false≢true, true≢false}
 use Rattle.std.specs.List.Sorted.{IsStrictlyIncreasing}
-use Rattle.std.specs.List.{filter, find, list_any}
+use Rattle.std.specs.List.{filter, find}
 use Rattle.std.specs.Prelude.{◌==◌}
 use Rattle.std.proofs.lemmas.List.Folds.{list_any-append}
 use Rattle.std.proofs.lemmas.Map.Views.{any-filter_same}

@@ -1,8 +1,7 @@
 -- The events of one word: its members are its bits, and there are as many as its ones.
-use Rattle.std.proofs.Common.{◌≡◌, ℕ, zero, suc, ◌+◌, ◌-◌, ◌*◌, ◌/◌, ◌%◌, ◌^◌, ◌<◌, ◌≤◌, Bool, true, false, cond, ◌&&◌, ◌||◌, eqb, List, [], ◌∷◌, ◌++◌, length, refl, sym, ap, ◌⊎◌, inl, inr, le_refl, ◌∙◌, subst, add-one, arith, rules}
-use Rattle.std.proofs.lemmas.Bool.{cases_eq, cases_lt, cases_order, or_right, or_left, or_from, or_cases, eq-eqb, ne_eqb, eqb-true, eqb-false, false≢true, true≢false}
-use Rattle.std.proofs.lemmas.Nat.Bits.{bit_at_lowest, bit_at-suc, bit_at-zero, bit_at_above}
-use Rattle.std.specs.Int.{bit_at}
+use Rattle.std.proofs.Common.{◌≡◌, ℕ, zero, suc, ◌+◌, ◌/◌, ◌%◌, ◌<◌, ◌≤◌, Bool, true, false, cond, eqb, List, [], ◌∷◌, length, refl, sym, ap, le_refl, ◌∙◌, subst, arith}
+use Rattle.std.proofs.lemmas.Bool.{eq-eqb, ne_eqb}
+use Rattle.std.proofs.lemmas.Nat.Bits.{bit_at_lowest, bit_at-suc}
 use Rattle.std.specs.Int.Count.{ones_in}
 use Rattle.std.specs.Prelude.{◌==◌}
 use Rattle.csp_base.specs.Events.{has}

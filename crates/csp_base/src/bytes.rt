@@ -1,9 +1,15 @@
 //! Byte strings: `Bytes` for texts and reports, `Name` for the names of a script.
 
-ghost use Rattle.std.specs.Prelude.{◌≡◌, ◌↔◌, List, [], ◌∷◌, ◌++◌, length, IfOk, OnOk, OnErr, IsTrue};
+ghost use Rattle.std.specs.Prelude.{◌≡◌, ◌↔◌, List, [], ◌∷◌, ◌++◌, length, IfOk, OnOk, OnErr, IsTrue, nat_eq};
+ghost use Rattle.std.proofs.Common.{rules};
+ghost use Rattle.std.specs.Cmp.Lexicographic.{pointwise, bytes_decides};
+ghost use Rattle.std.specs.Cmp.Rules.{comparing};
+ghost use Rattle.std.specs.Hash as fed;
+ghost use Rattle.std.specs.Hash.{same_Alike};
 
 use crate::no_memory::NoMemory;
 use std::alloc::Global;
+use std::hash::{Hash, Hasher};
 use std::marker::Model;
 
 /// A list of bytes that owns its memory: a text, a report, the contents of a file.
@@ -120,5 +126,53 @@ impl Name {
         ensures { IfOk result (λ copy. copy ≡ self.now) }
     {
         Name::from_slice(alloc, self.as_slice())
+    }
+}
+
+impl PartialEq for Bytes {
+    ghost eq = { pointwise nat_eq };
+
+    ghost laws = { Prim.search (comparing, rules) };
+
+    fn eq(&self, other: &Bytes) -> bool {
+        self.bytes == other.bytes
+    }
+}
+
+impl Eq for Bytes {
+    ghost laws = { Prim.search (comparing, rules) };
+}
+
+impl Hash for Bytes {
+    ghost hash_input = { fed.slice fed.u8 };
+
+    ghost respects_eq = { (same_Alike (fed.slice fed.u8) bytes_decides).fed };
+
+    fn hash<H: Hasher>(&self, state: &mut H) {
+        self.bytes.hash(state);
+    }
+}
+
+impl PartialEq for Name {
+    ghost eq = { pointwise nat_eq };
+
+    ghost laws = { Prim.search (comparing, rules) };
+
+    fn eq(&self, other: &Name) -> bool {
+        self.bytes == other.bytes
+    }
+}
+
+impl Eq for Name {
+    ghost laws = { Prim.search (comparing, rules) };
+}
+
+impl Hash for Name {
+    ghost hash_input = { fed.slice fed.u8 };
+
+    ghost respects_eq = { (same_Alike (fed.slice fed.u8) bytes_decides).fed };
+
+    fn hash<H: Hasher>(&self, state: &mut H) {
+        self.bytes.hash(state);
     }
 }

@@ -85,7 +85,8 @@ impl EventSet {
 
     /// How many events there are.
     pub fn len(&self) -> usize
-        ensures { result ≡ length self.now }
+        ensures count { result ≡ length self.now }
+        ensures rising { IsStrictlyIncreasing self.now }
     {
         blocks::count(&self.blocks)
     }
@@ -121,7 +122,8 @@ impl EventSet {
 
     /// The least member that is not below the given event.
     pub fn first_from(&self, event: Event) -> Option<Event>
-        ensures { result ≡ find (nat_le event) self.now }
+        ensures least { result ≡ find (nat_le event) self.now }
+        ensures rising { IsStrictlyIncreasing self.now }
     {
         match blocks::first_from(&self.blocks, event.0) {
             Some(number) => Some(Event(number)),
@@ -131,7 +133,8 @@ impl EventSet {
 
     /// The members in rising order.
     pub fn iter(&self) -> Members<'_>
-        ensures { result ≡ self.now }
+        ensures members { result ≡ self.now }
+        ensures rising { IsStrictlyIncreasing self.now }
     {
         Members::new(&self.blocks)
     }
@@ -170,6 +173,7 @@ impl EventSet {
     pub fn insert(&mut self, event: Event) -> Result<(), NoMemory>
         ensures ok { OnOk result (self.new ≡ with_member event self.old) }
         ensures err { OnErr result (self.new ≡ self.old) }
+        ensures rising { IsStrictlyIncreasing self.new }
     {
         blocks::include(&mut self.blocks, event.0)?;
         Ok(())

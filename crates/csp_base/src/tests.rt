@@ -2,18 +2,38 @@ use super::*;
 use std::alloc::Global;
 use std::cmp::Ordering;
 use std::collections::HashMap;
+use std::process::Abort;
 use std::test::Fail;
 
-type Case<'a> = (
-    &'a [u32],
-    &'a [u32],
-    &'a [u32],
-    &'a [u32],
-    &'a [u32],
-    bool,
-    bool,
-    Ordering,
-);
+#[derive(Drop)]
+struct Case<'a> {
+    left: &'a [u32],
+    right: &'a [u32],
+    union: &'a [u32],
+    inter: &'a [u32],
+    diff: &'a [u32],
+    is_subset: bool,
+    meets: bool,
+    order: Ordering,
+}
+
+fn row<'a>(
+    [left, right, union, inter, diff]: [&'a [u32]; 5],
+    is_subset: bool,
+    meets: bool,
+    order: Ordering,
+) -> Case<'a> {
+    Case {
+        left,
+        right,
+        union,
+        inter,
+        diff,
+        is_subset,
+        meets,
+        order,
+    }
+}
 
 fn set(alloc: Global, numbers: &[u32]) -> Result<EventSet, NoMemory> {
     let mut made = EventSet::new(alloc);
@@ -23,108 +43,78 @@ fn set(alloc: Global, numbers: &[u32]) -> Result<EventSet, NoMemory> {
     Ok(made)
 }
 
-fn has_members(set: &EventSet, want: &[u32]) -> bool {
-    set.len() == want.len()
-        && set
-            .iter()
-            .zip(want)
-            .all(|(event, number)| event.0 == *number)
+fn numbers(alloc: Global, set: &EventSet) -> Result<Vec<u32>, NoMemory> {
+    let mut made = Vec::new(alloc);
+    for event in set.iter() {
+        made.push(event.0)?;
+    }
+    Ok(made)
+}
+
+fn check_lists(rt: &impl Abort, alloc: Global, case: &Case<'_>) -> Result<(), NoMemory> {
+    let (left, right) = (set(alloc, case.left)?, set(alloc, case.right)?);
+    let union = left.union(alloc, &right)?;
+    assert_eq!(rt; numbers(alloc, &union)?.as_slice(), case.union);
+    let inter = left.inter(alloc, &right)?;
+    assert_eq!(rt; numbers(alloc, &inter)?.as_slice(), case.inter);
+    let diff = left.diff(alloc, &right)?;
+    assert_eq!(rt; numbers(alloc, &diff)?.as_slice(), case.diff);
+    assert_eq!(rt; union.len(), case.union.len());
+    Ok(())
+}
+
+fn check_answers(rt: &impl Abort, alloc: Global, case: &Case<'_>) -> Result<(), NoMemory> {
+    let (left, right) = (set(alloc, case.left)?, set(alloc, case.right)?);
+    assert_eq!(rt; left.is_subset(&right), case.is_subset);
+    assert_eq!(rt; left.meets(&right), case.meets);
+    assert_eq!(rt; left.cmp(&right), case.order);
+    assert_eq!(rt; left == right, case.order == Ordering::Equal);
+    Ok(())
 }
 
 #[test]
 fn operations_on_small_sets(rt: HostRuntime) -> Result<(), Fail> {
-    let alloc = rt.alloc();
-    // Two sets; their union, intersection and difference; whether the first is in the second, and meets it; their order.
-    let cases: [Case<'_>; 10] = [
-        (&[], &[], &[], &[], &[], true, false, Ordering::Equal),
-        (&[], &[3], &[3], &[], &[], true, false, Ordering::Less),
-        (&[3], &[], &[3], &[], &[3], false, false, Ordering::Greater),
-        (
-            &[1, 2],
-            &[2, 3],
-            &[1, 2, 3],
-            &[2],
-            &[1],
+    let (less, equal, greater) = (Ordering::Less, Ordering::Equal, Ordering::Greater);
+    let cases = [
+        row([&[], &[], &[], &[], &[]], true, false, equal),
+        row([&[], &[3], &[3], &[], &[]], true, false, less),
+        row([&[3], &[], &[3], &[], &[3]], false, false, greater),
+        row(
+            [&[1, 2], &[2, 3], &[1, 2, 3], &[2], &[1]],
             false,
             true,
-            Ordering::Less,
+            less,
         ),
-        (
-            &[5, 70],
-            &[5, 64, 70],
-            &[5, 64, 70],
-            &[5, 70],
-            &[],
+        row(
+            [&[5, 70], &[5, 64, 70], &[5, 64, 70], &[5, 70], &[]],
             true,
             true,
-            Ordering::Greater,
+            greater,
         ),
-        (
-            &[63],
-            &[64],
-            &[63, 64],
-            &[],
-            &[63],
+        row([&[63], &[64], &[63, 64], &[], &[63]], false, false, less),
+        row(
+            [&[0, 200], &[100], &[0, 100, 200], &[], &[0, 200]],
             false,
             false,
-            Ordering::Less,
+            less,
         ),
-        (
-            &[0, 200],
-            &[100],
-            &[0, 100, 200],
-            &[],
-            &[0, 200],
-            false,
-            false,
-            Ordering::Less,
-        ),
-        (
-            &[7, 8, 9],
-            &[7, 8],
-            &[7, 8, 9],
-            &[7, 8],
-            &[9],
+        row(
+            [&[7, 8, 9], &[7, 8], &[7, 8, 9], &[7, 8], &[9]],
             false,
             true,
-            Ordering::Greater,
+            greater,
         ),
-        (
-            &[7],
-            &[7, 300],
-            &[7, 300],
-            &[7],
-            &[],
+        row([&[7], &[7, 300], &[7, 300], &[7], &[]], true, true, less),
+        row(
+            [&[1, 16383], &[1, 16383], &[1, 16383], &[1, 16383], &[]],
             true,
             true,
-            Ordering::Less,
-        ),
-        (
-            &[1, 130, 16383],
-            &[1, 130, 16383],
-            &[1, 130, 16383],
-            &[1, 130, 16383],
-            &[],
-            true,
-            true,
-            Ordering::Equal,
+            equal,
         ),
     ];
-    for (row, (left, right, union, inter, diff, within, meet, order)) in cases.iter().enumerate() {
-        let (left, right) = (set(alloc, left)?, set(alloc, right)?);
-        assert!(rt;
-            has_members(&left.union(alloc, &right)?, union),
-            "union {row}"
-        );
-        assert!(rt;
-            has_members(&left.inter(alloc, &right)?, inter),
-            "inter {row}"
-        );
-        assert!(rt; has_members(&left.diff(alloc, &right)?, diff), "diff {row}");
-        assert_eq!(rt; left.is_subset(&right), *within, "subset {row}");
-        assert_eq!(rt; left.meets(&right), *meet, "meets {row}");
-        assert_eq!(rt; left.cmp(&right), *order, "order {row}");
-        assert_eq!(rt; left == right, *order == Ordering::Equal, "equal {row}");
+    for case in &cases {
+        check_lists(&rt, rt.alloc(), case)?;
+        check_answers(&rt, rt.alloc(), case)?;
     }
     Ok(())
 }
@@ -167,6 +157,7 @@ fn bytes_names_and_traces(rt: HostRuntime) -> Result<(), Fail> {
     bytes.extend_from_slice(b"cd")?;
     assert_eq!(rt; bytes.try_clone(alloc)?.as_slice(), b"abcd".as_slice());
     let name = Name::from_slice(alloc, b"out")?;
+    assert!(rt; name != Name::from_slice(alloc, b"in")?);
     assert_eq!(rt; name.try_clone(alloc)?.as_slice(), b"out".as_slice());
     let mut trace = Trace::from_slice(alloc, &[Event(4)])?;
     trace.push(Event(2))?;

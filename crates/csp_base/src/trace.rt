@@ -1,10 +1,16 @@
 //! Traces: lists of events in the order in which they happened.
 
-ghost use Rattle.std.specs.Prelude.{◌≡◌, ◌↔◌, List, [], ◌∷◌, ◌++◌, length, slice_get, option_copied, IsTrue, IfOk, OnOk, OnErr};
+ghost use Rattle.std.specs.Prelude.{◌≡◌, ◌↔◌, List, [], ◌∷◌, ◌++◌, length, slice_get, IsTrue, IfOk, OnOk, OnErr, nat_eq};
+ghost use Rattle.std.proofs.Common.{rules};
+ghost use Rattle.std.specs.Cmp.Lexicographic.{pointwise, bytes_decides};
+ghost use Rattle.std.specs.Cmp.Rules.{comparing};
+ghost use Rattle.std.specs.Hash as fed;
+ghost use Rattle.std.specs.Hash.{same_Alike};
 
 use crate::event_set::Event;
 use crate::no_memory::NoMemory;
 use std::alloc::Global;
+use std::hash::{Hash, Hasher};
 use std::marker::Model;
 
 /// A list of events in the order in which they happened.
@@ -85,11 +91,6 @@ impl Trace {
 }
 
 impl PartialEq for Trace {
-    ghost use Rattle.std.proofs.Common.{rules};
-    ghost use Rattle.std.specs.Prelude.{nat_eq};
-    ghost use Rattle.std.specs.Cmp.Lexicographic.{pointwise};
-    ghost use Rattle.std.specs.Cmp.Rules.{comparing};
-
     ghost eq = { pointwise nat_eq };
 
     ghost laws = { Prim.search (comparing, rules) };
@@ -100,8 +101,15 @@ impl PartialEq for Trace {
 }
 
 impl Eq for Trace {
-    ghost use Rattle.std.proofs.Common.{rules};
-    ghost use Rattle.std.specs.Cmp.Rules.{comparing};
-
     ghost laws = { Prim.search (comparing, rules) };
+}
+
+impl Hash for Trace {
+    ghost hash_input = { fed.slice fed.u32 };
+
+    ghost respects_eq = { (same_Alike (fed.slice fed.u32) bytes_decides).fed };
+
+    fn hash<H: Hasher>(&self, state: &mut H) {
+        self.events.hash(state);
+    }
 }

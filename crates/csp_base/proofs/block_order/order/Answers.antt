@@ -1,6 +1,6 @@
-use Rattle.std.proofs.Common.{◌≡◌, ◌<◌, length, drop, sym, ◌∙◌, arith}
+use Rattle.std.proofs.Common.{◌∙◌}
 use Rattle.std.proofs.lemmas.List.{take_rest}
-use Rattle.csp_base.proofs.OrderLemmas.{order_past_front, blocks_past_front, first_past_front}
+use Rattle.csp_base.proofs.OrderLemmas.{order_past_front, blocks_past_front}
 use Rattle.csp_base.proofs.block_order.order.Goals as goal
 
 pub order_at-requires-clause-left_blocks : goal.order_at-requires-clause-left_blocks

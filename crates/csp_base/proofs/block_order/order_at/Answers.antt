@@ -1,4 +1,4 @@
-use Rattle.std.proofs.Common.{◌≡◌, ◌<◌, length, ◌∙◌, arith}
+use Rattle.std.proofs.Common.{◌<◌, length, ◌∙◌, arith}
 use Rattle.csp_base.proofs.OrderLemmas.{order_at_end, order_at_numbers, order_at_first_words}
 use Rattle.csp_base.proofs.block_order.order_at.Goals as goal
 

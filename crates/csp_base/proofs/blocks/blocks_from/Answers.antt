@@ -1,6 +1,5 @@
-use Rattle.std.proofs.Common.{sym, ◌∙◌, ap}
+use Rattle.std.proofs.Common.{sym}
 use Rattle.std.proofs.lemmas.List.{take_rest}
-use Rattle.csp_base.specs.Blocks.{word_at}
 use Rattle.csp_base.proofs.Places.{word_at-drop}
 use Rattle.csp_base.proofs.blocks.blocks_from.Goals as goal
 

@@ -1,4 +1,4 @@
-use Rattle.std.proofs.Common.{◌≡◌, ◌%◌, ◌/◌, ap, sym, ◌∙◌}
+use Rattle.std.proofs.Common.{◌%◌, ap, sym, ◌∙◌}
 use Rattle.std.proofs.lemmas.Nat.Bits.{shr_and_one}
 use Rattle.std.specs.Prelude.{◌==◌}
 use Rattle.csp_base.specs.Blocks.{has_bit}

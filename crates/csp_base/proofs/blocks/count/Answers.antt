@@ -1,4 +1,4 @@
-use Rattle.std.proofs.Common.{◌≡◌, ◌+◌, arith}
+use Rattle.std.proofs.Common.{◌+◌, arith}
 use Rattle.csp_base.proofs.Finds.{count_more, count_fits}
 use Rattle.csp_base.proofs.blocks.count.Goals as goal
 

@@ -1,4 +1,4 @@
-use Rattle.csp_base.proofs.Tests.{is_subset_of_from_answer}
+use Rattle.csp_base.proofs.SetTests.{is_subset_of_from_answer}
 use Rattle.csp_base.proofs.blocks.is_subset.Goals as goal
 
 pub returns : goal.returns

@@ -1,4 +1,4 @@
-use Rattle.csp_base.proofs.Tests.{meets_of_from_answer}
+use Rattle.csp_base.proofs.SetTests.{meets_of_from_answer}
 use Rattle.csp_base.proofs.blocks.meets.Goals as goal
 
 pub returns : goal.returns

@@ -1,4 +1,4 @@
-use Rattle.std.proofs.Common.{◌<◌, ◌≤◌, ◌+◌, ◌-◌, ◌/◌, ℕ, length, arith}
+use Rattle.std.proofs.Common.{◌<◌, ◌+◌, ◌-◌, ◌/◌, ℕ, length, arith}
 use Rattle.csp_base.proofs.BlockMembers.{AreBlocksFrom-weaken}
 use Rattle.csp_base.proofs.Places.{end_from-take, AreBlocksFrom-at}
 use Rattle.csp_base.proofs.blocks.place_of.Goals as goal

@@ -1,5 +1,3 @@
-use Rattle.std.proofs.Common.{ap, sym, ◌∙◌}
-use Rattle.csp_base.specs.Events.{has}
 use Rattle.csp_base.proofs.BlockMembers.{has-events_of}
 use Rattle.csp_base.proofs.event_set.EventSet.blocks.Goals as goal
 
