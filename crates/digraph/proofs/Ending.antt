@@ -1,12 +1,12 @@
 -- What the search has found once each vertex is done.
-use Rattle.std.proofs.Common.{◌≡◌, ◌≢◌, ℕ, ◌+◌, ◌<◌, ◌≤◌, List, [], ◌++◌, length, take, drop, get_or, refl, sym, ap, ◌∙◌, inl, inr, ◌⊎◌, arith}
+use Rattle.std.proofs.Common.{◌≡◌, ◌≢◌, ℕ, ◌<◌, List, [], ◌++◌, length, take, drop, refl, inl, inr, ◌⊎◌, arith}
 use Rattle.std.specs.List.{All}
 use Rattle.std.proofs.lemmas.List.{get_or_default, drop_all, take_all, append-nil}
 use Rattle.digraph.specs.declared.walks.Mark.{Mark}
 use Rattle.digraph.specs.declared.walks.Mark.TheVariants.{New, Open, Done}
 use Rattle.digraph.specs.Digraph.{Digraph}
-use Rattle.digraph.specs.Height.{IsHeight, AreHeights}
-use Rattle.digraph.specs.Search.{IsSearch, mark_at, done_count}
+use Rattle.digraph.specs.Height.{AreHeights}
+use Rattle.digraph.specs.Search.{IsSearch, mark_at}
 use Rattle.digraph.proofs.Writes.{done_count-le}
 
 three_marks : (m : Mark) → (m ≡ New) ⊎ ((m ≡ Open) ⊎ (m ≡ Done))

@@ -1,10 +1,10 @@
 -- The search goes on to a new vertex.
-use Rattle.std.proofs.Common.{◌≡◌, ◌≢◌, ℕ, ◌+◌, ◌-◌, ◌<◌, ◌≤◌, List, [], ◌∷◌, ◌++◌, length, set, get_or, refl, sym, ap, ◌∙◌, subst, inl, inr, ◌⊎◌, arith, get_or-set_same}
+use Rattle.std.proofs.Common.{◌≡◌, ◌≢◌, ℕ, ◌+◌, ◌<◌, ◌≤◌, List, [], ◌∷◌, ◌++◌, length, set, get_or, refl, sym, ap, ◌∙◌, inl, inr, ◌⊎◌, arith, get_or-set_same}
 use Rattle.std.proofs.lemmas.List.{length-set, length_push, get_or_append_left, get_or_push}
 use Rattle.digraph.specs.declared.walks.Mark.{Mark}
 use Rattle.digraph.specs.declared.walks.Mark.TheVariants.{New, Open, Done}
-use Rattle.digraph.specs.Digraph.{Digraph, targets_of, HasArc, InRange}
-use Rattle.digraph.specs.Search.{IsSearch, StaysMet, mark_at, done_count, work_left}
+use Rattle.digraph.specs.Digraph.{Digraph, targets_of, HasArc}
+use Rattle.digraph.specs.Search.{IsSearch, StaysMet, mark_at, work_left}
 use Rattle.digraph.proofs.Writes.{after_set, after_push, done_count-open, sum-set}
 
 module _ (g : Digraph) (marks : List Mark) (heights rest trail : List ℕ) (s : IsSearch g marks heights rest trail) (w : ℕ) (vertex : w < length g) (new : mark_at marks w ≡ New) where

@@ -1,10 +1,10 @@
 -- The search takes the last vertex off the trail, once all its targets were looked at.
-use Rattle.std.proofs.Common.{◌≡◌, ◌≢◌, ℕ, ◌+◌, ◌-◌, ◌<◌, ◌≤◌, List, [], ◌∷◌, ◌++◌, length, set, take, get_or, refl, sym, ap, ◌∙◌, subst, inl, inr, ◌⊎◌, arith}
-use Rattle.std.proofs.lemmas.List.{length-set, length-take, length-take-le, get_or-take}
-use Rattle.std.proofs.lemmas.Bool.{cases_lt, cases_eq}
+use Rattle.std.proofs.Common.{◌≡◌, ◌≢◌, ℕ, ◌+◌, ◌-◌, ◌<◌, ◌≤◌, List, [], ◌∷◌, length, set, take, get_or, sym, ap, ◌∙◌, inl, inr, ◌⊎◌, arith}
+use Rattle.std.proofs.lemmas.List.{length-set, length-take-le, get_or-take}
+use Rattle.std.proofs.lemmas.Bool.{cases_lt}
 use Rattle.digraph.specs.declared.walks.Mark.{Mark}
 use Rattle.digraph.specs.declared.walks.Mark.TheVariants.{New, Open, Done}
-use Rattle.digraph.specs.Digraph.{Digraph, targets_of, HasArc, InRange}
+use Rattle.digraph.specs.Digraph.{Digraph}
 use Rattle.digraph.specs.Walk.{IsWalk}
 use Rattle.digraph.specs.Search.{IsSearch, StaysMet, mark_at, done_count, work_left}
 use Rattle.digraph.proofs.Arcs.{place_of_arc}

@@ -1,12 +1,12 @@
 -- Heights fall along arcs, so no circle has heights.
-use Rattle.std.proofs.Common.{◌≡◌, ◌≢◌, ℕ, zero, suc, ◌+◌, ◌-◌, ◌<◌, ◌≤◌, List, [], ◌∷◌, ◌++◌, length, get_or, refl, sym, ap, ◌∙◌, inl, inr, ◌⊎◌, ◌↔◌, IsTrue, true, nat_eq, eq-eqb, arith}
+use Rattle.std.proofs.Common.{◌≡◌, ℕ, zero, suc, ◌+◌, ◌-◌, ◌<◌, List, [], ◌∷◌, length, get_or, refl, ap, inl, inr, ◌↔◌, IsTrue, true, nat_eq, eq-eqb, arith}
 use Rattle.std.proofs.lemmas.Bool.{cases_lt, false≢true}
 use Rattle.std.proofs.lemmas.List.Folds.{list_any_at}
 use Rattle.containers.specs.Members.{has}
 use Rattle.digraph.specs.Digraph.{Digraph, targets_of, HasArc, InRange}
 use Rattle.digraph.specs.Walk.{IsWalk}
 use Rattle.digraph.specs.Height.{IsHeight, AreHeights}
-use Rattle.digraph.specs.Circle.{IsRing, IsCircle}
+use Rattle.digraph.specs.Circle.{IsRing}
 use Rattle.digraph.proofs.Arcs.{HasArc-from}
 
 -- along an arc heights fall

@@ -1,7 +1,7 @@
 -- The search looks at a target of the last vertex of the trail.
-use Rattle.std.proofs.Common.{◌≡◌, ℕ, ◌+◌, ◌-◌, ◌<◌, ◌≤◌, List, length, get_or, refl, sym, ap, ◌∙◌, arith}
+use Rattle.std.proofs.Common.{◌≡◌, ℕ, ◌+◌, ◌-◌, ◌<◌, List, length, get_or, arith}
 use Rattle.digraph.specs.declared.walks.Mark.{Mark}
-use Rattle.digraph.specs.declared.walks.Mark.TheVariants.{New, Open, Done}
+use Rattle.digraph.specs.declared.walks.Mark.TheVariants.{Open}
 use Rattle.digraph.specs.Digraph.{Digraph, targets_of, HasArc}
 use Rattle.digraph.specs.Search.{IsSearch, mark_at}
 use Rattle.digraph.proofs.Arcs.{HasArc-at}

@@ -1,12 +1,12 @@
 -- The search takes the height of a target that is done into account.
-use Rattle.std.proofs.Common.{◌≡◌, ◌≢◌, ℕ, ◌+◌, ◌-◌, ◌<◌, ◌≤◌, List, [], ◌∷◌, ◌++◌, length, set, get_or, max, refl, sym, ap, ◌∙◌, subst, inl, inr, ◌⊎◌, arith}
+use Rattle.std.proofs.Common.{◌≡◌, ◌≢◌, ℕ, ◌+◌, ◌-◌, ◌<◌, ◌≤◌, List, ◌∷◌, length, set, get_or, max, ◌∙◌, inl, inr, ◌⊎◌, arith}
 use Rattle.std.proofs.lemmas.List.{length-set, get_or-set_same}
-use Rattle.std.proofs.lemmas.Bool.{cases_lt, cases_eq}
+use Rattle.std.proofs.lemmas.Bool.{cases_lt}
 use Rattle.digraph.specs.declared.walks.Mark.{Mark}
-use Rattle.digraph.specs.declared.walks.Mark.TheVariants.{New, Open, Done}
-use Rattle.digraph.specs.Digraph.{Digraph, targets_of, HasArc, InRange}
+use Rattle.digraph.specs.declared.walks.Mark.TheVariants.{Open, Done}
+use Rattle.digraph.specs.Digraph.{Digraph, targets_of, HasArc}
 use Rattle.digraph.specs.Walk.{IsWalk}
-use Rattle.digraph.specs.Search.{IsSearch, StaysMet, mark_at, done_count, work_left}
+use Rattle.digraph.specs.Search.{IsSearch, mark_at, done_count, work_left}
 use Rattle.digraph.proofs.Arcs.{HasArc-at}
 use Rattle.digraph.proofs.Writes.{after_set, open_within, sum-set}
 

@@ -1,7 +1,7 @@
 -- What a search finds from a vertex on is what walks reach.
-use Rattle.std.proofs.Common.{◌≡◌, ℕ, ◌+◌, ◌<◌, ◌≤◌, Bool, true, false, cond, ◌||◌, nat_eq, IsTrue, List, [], ◌∷◌, ◌++◌, length, take, get_or, slice_get, Some, fold, refl, sym, ap, ◌∙◌, inl, inr, ◌⊎◌, arith, eq-eqb}
-use Rattle.std.specs.List.{list_any, flat_map, IsDistinct}
-use Rattle.std.proofs.lemmas.List.{append-nil, append_assoc, take-append-le, take_more, take_all}
+use Rattle.std.proofs.Common.{◌≡◌, ℕ, ◌+◌, ◌<◌, Bool, true, false, ◌||◌, nat_eq, IsTrue, List, [], ◌∷◌, ◌++◌, length, take, get_or, slice_get, Some, refl, sym, ap, ◌∙◌, inl, inr, ◌⊎◌, arith, eq-eqb}
+use Rattle.std.specs.List.{flat_map, IsDistinct}
+use Rattle.std.proofs.lemmas.List.{append-nil, append_assoc, take-append-le, take_more}
 use Rattle.std.proofs.lemmas.List.Sums.{fold-append}
 use Rattle.std.proofs.lemmas.List.Folds.{list_any-append, list_any_at}
 use Rattle.std.proofs.lemmas.Grind.{flat_map-append}

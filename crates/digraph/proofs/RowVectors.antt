@@ -1,7 +1,7 @@
 -- A digraph from the vectors of its targets: one target more in a row.
-use Rattle.std.proofs.Common.{◌≡◌, ℕ, ◌<◌, List, [], ◌∷◌, ◌++◌, length, map, set, replicate, get_or, refl, sym, ap, ◌∙◌, arith, Vec, Global, Result, OnOk, OnErr, Ok, Err}
+use Rattle.std.proofs.Common.{◌≡◌, ℕ, ◌<◌, List, [], ◌∷◌, ◌++◌, length, set, get_or, sym, ap, ◌∙◌, Vec, Global, Result, OnOk, OnErr, Ok, Err}
 use Rattle.std.specs.declared.alloc.AllocError.{AllocError}
-use Rattle.std.proofs.lemmas.List.{get_or-map, map-set, set-get_or, get_or_default, length-map}
+use Rattle.std.proofs.lemmas.List.{get_or-map, map-set, set-get_or, length-map}
 use Rattle.digraph.specs.Digraph.{Digraph, rows_of, targets_of, InRange}
 use Rattle.digraph.proofs.Arcs.{InRange-add}
 

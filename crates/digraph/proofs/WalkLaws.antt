@@ -1,5 +1,5 @@
 -- Walks one after another.
-use Rattle.std.proofs.Common.{◌≡◌, ℕ, List, [], ◌∷◌, ◌++◌, refl, sym, ap, ◌∙◌}
+use Rattle.std.proofs.Common.{◌≡◌, ℕ, List, [], ◌∷◌, ◌++◌, refl, ap, ◌∙◌}
 use Rattle.digraph.specs.Digraph.{Digraph, HasArc}
 use Rattle.digraph.specs.Walk.{IsWalk, end_of, Reaches}
 

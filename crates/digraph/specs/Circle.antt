@@ -1,5 +1,5 @@
 -- Circles: walks that come back to where they began and pass no vertex twice.
-use Rattle.std.specs.Prelude.{◌≡◌, ◌≢◌, ℕ, ◌+◌, ◌-◌, ◌<◌, List, length, slice_index}
+use Rattle.std.specs.Prelude.{◌≢◌, ℕ, ◌+◌, ◌-◌, ◌<◌, List, length, slice_index}
 use Rattle.digraph.specs.Digraph.{Digraph, HasArc}
 
 -- distinct vertices, at least one, each with an arc to the next and the last with an arc to the first

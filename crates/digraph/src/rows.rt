@@ -73,6 +73,7 @@ impl Rows {
         ensures row { OnOk result (self.new ≡ slice_set self.old from (targets_of self.old from ++ to ∷ [])) }
         ensures arcs { OnOk result ((v w : ℕ) → has_arc self.new v w ≡ (has_arc self.old v w || (v == from && w == to))) }
         ensures err { OnErr result (self.new ≡ self.old) }
+        ensures len { length self.new ≡ length self.old }
     {
         push_target(&mut self.rows, from as usize, to)
     }

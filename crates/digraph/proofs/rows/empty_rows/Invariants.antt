@@ -1,4 +1,4 @@
-use Rattle.std.proofs.Common.{◌≡◌, List, [], replicate}
+use Rattle.std.proofs.Common.{◌≡◌, [], replicate}
 use Rattle.digraph.specs.Digraph.{rows_of}
 use Rattle.digraph.proofs.rows.empty_rows.Given as goal
 

@@ -1,4 +1,3 @@
-use Rattle.std.proofs.Common.{rules, arith, alloc_error}
 use Rattle.std.proofs.lemmas.Result.{err_from_is_err_and}
 use Rattle.digraph.proofs.RowVectors.{rows_of-set, rows_of-same}
 use Rattle.digraph.proofs.rows.push_target.Goals as goal

@@ -1,8 +1,7 @@
-use Rattle.std.proofs.Common.{◌≡◌, ◌<◌, List, ℕ, length, get_or, replicate, sym, ap, ◌∙◌, arith, rules, Err}
-use Rattle.std.proofs.lemmas.List.{length-replicate, get_or_default}
-use Rattle.digraph.specs.Digraph.{InRange}
+use Rattle.std.proofs.Common.{◌≡◌, length, sym, ◌∙◌, arith, rules}
+use Rattle.std.proofs.lemmas.List.{get_or_default}
 use Rattle.digraph.specs.Circle.{IsCircle}
-use Rattle.digraph.specs.Height.{IsHeight, AreHeights}
+use Rattle.digraph.specs.Height.{AreHeights}
 use Rattle.digraph.proofs.HeightLaws.{heights_fall, heights_step, heights_at_sinks, no_height, no_heights}
 use Rattle.digraph.proofs.Ending.{heights_found, heights_below, written_back}
 use Rattle.digraph.proofs.walks.longest_walks.Goals as goal

@@ -1,11 +1,6 @@
-use Rattle.std.proofs.Common.{◌≡◌, ◌<◌, ◌-◌, ◌+◌, ℕ, List, length, get_or, ap, sym, ◌∙◌, arith, rules, Err}
-use Rattle.digraph.specs.declared.walks.Mark.{Mark}
-use Rattle.digraph.specs.declared.walks.Mark.TheVariants.{New, Open, Done}
-use Rattle.digraph.specs.declared.fault.Fault.TheVariants.{Circle}
-use Rattle.digraph.specs.Digraph.{HasArc, targets_of}
-use Rattle.digraph.specs.Circle.{IsCircle}
+use Rattle.std.proofs.Common.{◌≡◌, ◌-◌, ℕ, get_or, ap, sym, arith, rules}
+use Rattle.digraph.specs.declared.walks.Mark.TheVariants.{New, Done}
 use Rattle.digraph.specs.Search.{mark_at}
-use Rattle.digraph.proofs.Arcs.{HasArc-at}
 use Rattle.digraph.proofs.Writes.{done_count-le}
 use Rattle.digraph.proofs.Entering.{search_entering, less_work_entering}
 use Rattle.digraph.proofs.Raising.{search_raising}

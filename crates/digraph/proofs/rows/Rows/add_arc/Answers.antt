@@ -1,5 +1,4 @@
 use Rattle.std.proofs.Common.{arith, rules}
-use Rattle.std.proofs.lemmas.List.{length-map}
 use Rattle.digraph.proofs.RowVectors.{InRange-either}
 use Rattle.digraph.proofs.rows.Rows.add_arc.Goals as goal
 

@@ -1,5 +1,4 @@
-use Rattle.std.proofs.Common.{◌≡◌, ◌<◌, length, sym, ap, ◌∙◌, arith}
-use Rattle.std.specs.List.{All}
+use Rattle.std.proofs.Common.{◌≡◌, ◌<◌, length, sym, ap, ◌∙◌}
 use Rattle.digraph.specs.Digraph.{targets_of, rows_of}
 use Rattle.digraph.proofs.Arcs.{targets_below}
 use Rattle.digraph.proofs.RowVectors.{row_before, length-rows_of}
