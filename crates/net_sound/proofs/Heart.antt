@@ -148,7 +148,7 @@ agreed_step Step s e ds ps ks o g =
     let r = take_part Step s e ds ps ks o g.agreed in
     (r.0, (owned Step s e ds ps ks g.owner o g.within g.owned, r.1))
 
-same_alphabets : {T : Type 0} (Step : T → Label → T → Type 0) (cs : List (Component T)) (ps : List Part) → HaveBehaviours Step cs ps → alphabets cs ≡ alphabets_of ps
+pub same_alphabets : {T : Type 0} (Step : T → Label → T → Type 0) (cs : List (Component T)) (ps : List Part) → HaveBehaviours Step cs ps → alphabets cs ≡ alphabets_of ps
 same_alphabets Step [] [] b = refl
 same_alphabets Step [] (p ∷ ps) b = absurd b
 same_alphabets Step (c ∷ cs) [] b = absurd b

@@ -2,6 +2,7 @@ pub mod ClientServer
 pub mod Counts
 pub mod Cyclic
 pub mod Holders
+pub mod Live
 pub mod Resource
 pub mod Runs
 pub mod Shapes

@@ -1,3 +1,4 @@
 pub mod ClientServer
 pub mod Cyclic
+pub mod Live
 pub mod Resource

@@ -3,7 +3,10 @@
 
 ghost use Rattle.rules_good.specs.ClientServer.{ClientServerRanksFall};
 ghost use Rattle.rules_good.specs.Cyclic.{CyclicRanksFall};
+ghost use Rattle.rules_good.specs.Live.{CyclicMeansLive, ClientServerMeansLive, ResourceMeansLive};
 ghost use Rattle.rules_good.specs.Resource.{ResourceRanksFall};
+
+use net_sound::Transitions;
 
 /// The ranking of a cyclic network falls.
 pub fn cyclic_ranks_fall()
@@ -18,4 +21,11 @@ pub fn client_server_ranks_fall()
 /// The ranking of a network of users and resources falls.
 pub fn resource_ranks_fall()
     ensures { ResourceRanksFall }
+{}
+
+/// A network whose shape meets one of the three rules is live, with its silent bound.
+pub fn rules_mean_live<S: Transitions>()
+    ensures cyclic { CyclicMeansLive S.step }
+    ensures client_server { ClientServerMeansLive S.step }
+    ensures resource { ResourceMeansLive S.step }
 {}
