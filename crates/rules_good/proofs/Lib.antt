@@ -6,4 +6,5 @@ pub mod Live
 pub mod Resource
 pub mod Runs
 pub mod Shapes
+pub mod Twins
 pub mod Walks

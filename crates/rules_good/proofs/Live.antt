@@ -1,5 +1,5 @@
 -- Each rule's ranking is good, so the network is live.
-use Rattle.std.proofs.Common.{◌≡◌, ℕ, List, subst}
+use Rattle.std.proofs.Common.{ℕ, subst}
 use Rattle.csp_tables.specs.Label.{Label}
 use Rattle.csp_tables.specs.Live.{Live}
 use Rattle.csp_tables.specs.Network.{Tree, NetworkStep, leaves}

@@ -1,4 +1,5 @@
 pub mod ClientServer
 pub mod Cyclic
+pub mod Example
 pub mod Live
 pub mod Resource

@@ -3,6 +3,7 @@
 
 ghost use Rattle.rules_good.specs.ClientServer.{ClientServerRanksFall};
 ghost use Rattle.rules_good.specs.Cyclic.{CyclicRanksFall};
+ghost use Rattle.rules_good.specs.Example.{TwinsAreCyclic, TwinsAreClientServer};
 ghost use Rattle.rules_good.specs.Live.{CyclicMeansLive, ClientServerMeansLive, ResourceMeansLive};
 ghost use Rattle.rules_good.specs.Resource.{ResourceRanksFall};
 
@@ -28,4 +29,10 @@ pub fn rules_mean_live<S: Transitions>()
     ensures cyclic { CyclicMeansLive S.step }
     ensures client_server { ClientServerMeansLive S.step }
     ensures resource { ResourceMeansLive S.step }
+{}
+
+/// Shapes that meet the rules, with their rankings.
+pub fn examples()
+    ensures cyclic { TwinsAreCyclic }
+    ensures client_server { TwinsAreClientServer }
 {}
