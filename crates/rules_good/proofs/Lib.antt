@@ -6,5 +6,6 @@ pub mod Live
 pub mod Resource
 pub mod Runs
 pub mod Shapes
+pub mod Sharing
 pub mod Twins
 pub mod Walks

@@ -3,7 +3,7 @@
 
 ghost use Rattle.rules_good.specs.ClientServer.{ClientServerRanksFall};
 ghost use Rattle.rules_good.specs.Cyclic.{CyclicRanksFall};
-ghost use Rattle.rules_good.specs.Example.{TwinsAreCyclic, TwinsAreClientServer};
+ghost use Rattle.rules_good.specs.Example.{TwinsAreCyclic, TwinsAreClientServer, SharingIsResource};
 ghost use Rattle.rules_good.specs.Live.{CyclicMeansLive, ClientServerMeansLive, ResourceMeansLive};
 ghost use Rattle.rules_good.specs.Resource.{ResourceRanksFall};
 
@@ -35,4 +35,5 @@ pub fn rules_mean_live<S: Transitions>()
 pub fn examples()
     ensures cyclic { TwinsAreCyclic }
     ensures client_server { TwinsAreClientServer }
+    ensures resource { SharingIsResource }
 {}
