@@ -17,11 +17,11 @@ use Rattle.csp_tables.specs.Form.{HasForm}
 use Rattle.csp_tables.specs.Behaviour.{OffersAcceptance, HasBehaviour}
 use Rattle.csp_tables.specs.Falls.{Falls}
 use Rattle.csp_tables.specs.GoodRanking.{IsGoodRanking}
-use Rattle.net_sound.specs.Heart.{IsSound}
+use Rattle.net_sound.specs.Soundness.{IsSound}
 use Rattle.net_sound.specs.Example.{Turn, TurnStep, both, pair, turns, flat_ranking, ExampleIsLive, ExampleIsStuck}
 use Rattle.net_sound.specs.Example.Turn.{waking, at_zero, at_one}
 use Rattle.net_sound.proofs.Flattening.{forth}
-use Rattle.net_sound.proofs.Heart.{good_rankings_mean_live, path_alphabet}
+use Rattle.net_sound.proofs.Soundness.{good_rankings_mean_live, path_alphabet}
 
 abbrev one : Turn → Component Turn
 one x = record { alphabet = both; term = x }

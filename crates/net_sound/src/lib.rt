@@ -3,7 +3,7 @@
 
 ghost use Rattle.csp_tables.specs.Label.{Label};
 ghost use Rattle.net_sound.specs.Flattening.{TreeStepsAreFlat, FlatStepsAreTreeSteps, StepsAreToldByLeaves, StepsKeepNesting, StepsKeepAlphabets};
-ghost use Rattle.net_sound.specs.Heart.{GoodRankingsMeanLive};
+ghost use Rattle.net_sound.specs.Soundness.{GoodRankingsMeanLive};
 ghost use Rattle.net_sound.specs.Heights.{HeightsAreExact, HeightsAddUp};
 ghost use Rattle.net_sound.specs.Example.{ExampleIsLive, ExampleIsStuck};
 ghost use Rattle.net_sound.specs.NoneStuck.{NoneIsStuck};

@@ -7,8 +7,8 @@ use Rattle.csp_tables.specs.Part.{TripleDisjoint}
 use Rattle.csp_tables.specs.Shape.{Shape}
 use Rattle.csp_tables.specs.Ranking.{Ranking, Fits}
 use Rattle.csp_tables.specs.Falls.{Falls}
-use Rattle.net_sound.specs.Heart.{IsSound}
-use Rattle.net_sound.proofs.Heart.{good_rankings_mean_live, same_alphabets}
+use Rattle.net_sound.specs.Soundness.{IsSound}
+use Rattle.net_sound.proofs.Soundness.{good_rankings_mean_live, same_alphabets}
 use Rattle.rules_good.specs.Live.{IsShapeOf, CyclicMeansLive, ClientServerMeansLive, ResourceMeansLive}
 use Rattle.rules_good.proofs.Cyclic.{cyclic_ranks_fall}
 use Rattle.rules_good.proofs.ClientServer.{client_server_ranks_fall}

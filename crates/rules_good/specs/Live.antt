@@ -13,7 +13,7 @@ use Rattle.csp_tables.specs.ClientServer.{IsClientServer}
 use Rattle.csp_tables.specs.ClientServerRanks.{AreClientServerRanks}
 use Rattle.csp_tables.specs.Resource.{AreUses, NumbersRise}
 use Rattle.csp_tables.specs.ResourceRanks.{AreResourceRanks}
-use Rattle.net_sound.specs.Heart.{IsSound}
+use Rattle.net_sound.specs.Soundness.{IsSound}
 
 -- the shape is well formed, and its tables have the behaviour of the network's components
 pub record IsShapeOf {T : Type 0} (Step : T → Label → T → Type 0) (tree : Tree T) (shape : Shape) : Type 0 where
