@@ -2,7 +2,7 @@
 #![tactic(auto)]
 
 ghost use Rattle.rules_good.specs.ClientServer.{ClientServerRanksFall};
-ghost use Rattle.rules_good.specs.Cyclic.{CyclicRanksFall};
+ghost use Rattle.rules_good.specs.Cyclic.{CyclicRanksFall, NumberedRanksFall};
 ghost use Rattle.rules_good.specs.Example.{TwinsAreCyclic, TwinsAreClientServer, SharingIsResource};
 ghost use Rattle.rules_good.specs.Live.{CyclicMeansLive, ClientServerMeansLive, ResourceMeansLive};
 ghost use Rattle.rules_good.specs.Resource.{ResourceRanksFall};
@@ -11,7 +11,8 @@ use net_sound::Transitions;
 
 /// The ranking of a cyclic network falls.
 pub fn cyclic_ranks_fall()
-    ensures { CyclicRanksFall }
+    ensures reached { CyclicRanksFall }
+    ensures numbered { NumberedRanksFall }
 {}
 
 /// The ranking of a client-server network falls.
