@@ -31,11 +31,11 @@ pub record MustPrecede (shape : Shape) (l m : ℕ) : Type 0 where
   pub later : ((c : ℕ) × FirstReaches shape part m c × (place < c)) ⊎ NeverReaches shape part m
 
 -- from a link to one that must come before it
-abbrev pub Follows : Shape → ℕ → ℕ → Type 0
-Follows shape m l = MustPrecede shape l m
+abbrev pub ComesAfter : Shape → ℕ → ℕ → Type 0
+ComesAfter shape m l = MustPrecede shape l m
 
 -- the ranking of a cyclic network, with these numbers
 pub record IsCyclicRanking (shape : Shape) (ranking : Ranking) : Type 0 where
   pub number : ℕ → ℕ
-  pub numbers : (l : ℕ) → l < length shape.links → IsLongestWalk (Follows shape) l (number l)
+  pub numbers : (l : ℕ) → l < length shape.links → IsLongestWalk (ComesAfter shape) l (number l)
   pub ranks : AreCyclicRanks shape number ranking

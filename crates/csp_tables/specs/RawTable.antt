@@ -1,5 +1,5 @@
 -- The numbered table of one component: the terms that it reaches by itself, numbered from 0, and their steps.
-use Rattle.std.specs.Prelude.{◌≡◌, ℕ, List, Some, length, slice_get}
+use Rattle.std.specs.Prelude.{◌≡◌, ◌<◌, ◌≤◌, ℕ, List, Some, length, slice_get}
 use Rattle.csp_tables.specs.Label.{Label}
 use Rattle.csp_tables.specs.Label.Label.{silent, visible}
 use Rattle.csp_tables.specs.Path.{Reached}
@@ -15,6 +15,11 @@ pub record RawTable : Type 0 where
 abbrev pub RawStep : RawTable → ℕ → Label → ℕ → Type 0
 RawStep raw m silent n = (k : ℕ) × (slice_get raw.silent k ≡ Some (m, n))
 RawStep raw m (visible e) n = (k : ℕ) × (slice_get raw.steps k ≡ Some (m, e, n))
+
+-- there is a term, and every number of a step is below the count
+pub record IsInRange (raw : RawTable) : Type 0 where
+  pub some : 1 ≤ raw.count
+  pub steps : (m n : ℕ) (l : Label) → RawStep raw m l n → (m < raw.count) × (n < raw.count)
 
 -- the component with another term in place of its own
 abbrev pub standing_at : {T : Type 0} → Component T → T → Component T

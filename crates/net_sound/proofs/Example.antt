@@ -17,11 +17,11 @@ use Rattle.csp_tables.specs.Form.{HasForm}
 use Rattle.csp_tables.specs.Behaviour.{OffersAcceptance, HasBehaviour}
 use Rattle.csp_tables.specs.Falls.{Falls}
 use Rattle.csp_tables.specs.GoodRanking.{IsGoodRanking}
-use Rattle.net_sound.specs.Heart.{IsSound}
+use Rattle.net_sound.specs.Soundness.{IsSound}
 use Rattle.net_sound.specs.Example.{Turn, TurnStep, both, pair, turns, flat_ranking, ExampleIsLive, ExampleIsStuck}
 use Rattle.net_sound.specs.Example.Turn.{waking, at_zero, at_one}
 use Rattle.net_sound.proofs.Flattening.{forth}
-use Rattle.net_sound.proofs.Heart.{good_rankings_mean_live, path_alphabet}
+use Rattle.net_sound.proofs.Soundness.{good_rankings_mean_live, path_alphabet}
 
 abbrev one : Turn → Component Turn
 one x = record { alphabet = both; term = x }
@@ -80,7 +80,7 @@ or_false : (b : Bool) → b ≡ (b || false)
 or_false true = refl
 or_false false = refl
 
-two_sharers : (e : ℕ) → sharers (both ∷ both ∷ []) e ≤ 2
+pub two_sharers : (e : ℕ) → sharers (both ∷ both ∷ []) e ≤ 2
 two_sharers e = go (has both e)
   where
     go : (b : Bool) → cond b (cond b (0 + 1) 0 + 1) (cond b (0 + 1) 0) ≤ 2
@@ -198,7 +198,7 @@ pair_falls s i j k l u =
 member_both : (n : ℕ) → IsTrue (has both n) → (e : ℕ) → IsTrue (has (n ∷ []) e) → IsTrue (has both e)
 member_both n owned e h = subst (λ k. IsTrue (has both k)) (member n e h) owned
 
-turns_form : HasForm turns
+pub turns_form : HasForm turns
 turns_form = record {
   least = omega arith;
   most = omega arith;

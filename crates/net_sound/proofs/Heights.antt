@@ -8,7 +8,7 @@ use Rattle.csp_tables.specs.Path.{Path, Silently}
 use Rattle.csp_tables.specs.Network.{Component, ComponentStep}
 use Rattle.csp_tables.specs.RawTable.{RawTable, RawStep, standing_at, IsTableOf}
 use Rattle.csp_tables.specs.Heights.{greatest}
-use Rattle.net_sound.specs.Heights.{HeightsAreExact}
+use Rattle.net_sound.specs.Heights.{HeightsAreExact, HeightsAddUp, sum_of_greatest}
 use Rattle.net_sound.proofs.FlatLists.{step_alphabet}
 
 -- a component with the alphabet of c is c standing at its term
@@ -86,3 +86,9 @@ heights_are_exact Step c terms raw heights t hs =
           let most : get_or heights i.number 0 ≤ greatest heights = at_most_greatest heights i.number in
           omega arith;
     }
+
+pub heights_add_up : {T : Type 0} (Step : T → Label → T → Type 0) → HeightsAddUp Step
+heights_add_up Step [] [] h = refl
+heights_add_up Step [] (x ∷ xs) h = absurd h
+heights_add_up Step (c ∷ cs) [] h = absurd h
+heights_add_up Step (c ∷ cs) (x ∷ xs) h = (greatest x, sum_of_greatest xs, heights_are_exact Step c h.0.terms h.0.raw x h.0.table h.0.are_heights, heights_add_up Step cs xs h.1, refl)

@@ -3,12 +3,12 @@ pub mod Example
 pub mod Finite
 pub mod FlatLists
 pub mod Flattening
-pub mod Heart
 pub mod Heights
 pub mod Laps
 pub mod Local
 pub mod Normal
 pub mod Shape
 pub mod Sharers
+pub mod Soundness
 pub mod Stuck
 pub mod Within

@@ -12,7 +12,7 @@ use Rattle.csp_tables.specs.Network.Operands.{none, operand}
 use Rattle.csp_tables.specs.Part.{Part}
 use Rattle.csp_tables.specs.Ranking.{PartRanks, Ranking}
 use Rattle.csp_tables.specs.GoodRanking.{IsGoodRanking}
-use Rattle.net_sound.specs.Heart.{IsSound}
+use Rattle.net_sound.specs.Soundness.{IsSound}
 
 -- the states of a component that takes 0 and 1 in turn: it has a silent step to do; it has 0 to take; it has 1 to take
 pub data Turn : Type 0 where

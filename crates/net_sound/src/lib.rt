@@ -3,8 +3,8 @@
 
 ghost use Rattle.csp_tables.specs.Label.{Label};
 ghost use Rattle.net_sound.specs.Flattening.{TreeStepsAreFlat, FlatStepsAreTreeSteps, StepsAreToldByLeaves, StepsKeepNesting, StepsKeepAlphabets};
-ghost use Rattle.net_sound.specs.Heart.{GoodRankingsMeanLive};
-ghost use Rattle.net_sound.specs.Heights.{HeightsAreExact};
+ghost use Rattle.net_sound.specs.Soundness.{GoodRankingsMeanLive};
+ghost use Rattle.net_sound.specs.Heights.{HeightsAreExact, HeightsAddUp};
 ghost use Rattle.net_sound.specs.Example.{ExampleIsLive, ExampleIsStuck};
 ghost use Rattle.net_sound.specs.NoneStuck.{NoneIsStuck};
 ghost use Rattle.net_sound.specs.Normal.{NormalTablesBehave};
@@ -38,7 +38,8 @@ pub fn silence_is_bounded<S: Transitions>()
 
 /// The greatest silent height of a component's numbered table is the component's greatest number of silent steps.
 pub fn heights_are_exact<S: Transitions>()
-    ensures { HeightsAreExact S.step }
+    ensures each { HeightsAreExact S.step }
+    ensures sum { HeightsAddUp S.step }
 {}
 
 /// The normal table of a component that is never empty-handed has the component's behaviour.

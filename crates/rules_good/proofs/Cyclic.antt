@@ -16,7 +16,7 @@ use Rattle.csp_tables.specs.CyclicRanks.{AreCyclicRanks, ends_lap}
 use Rattle.csp_tables.specs.Ranking.{Ranking, part_ranks, rank_after, laps_from}
 use Rattle.csp_tables.specs.Falls.{lead}
 use Rattle.net_sound.proofs.Within.{part_form}
-use Rattle.rules_good.specs.Cyclic.{CyclicRanksFall}
+use Rattle.rules_good.specs.Cyclic.{CyclicRanksFall, NumberedRanksFall}
 use Rattle.rules_good.proofs.Counts.{count_strict, below_all, count_push_more, count_push_same, lap_over, lap_on}
 use Rattle.rules_good.proofs.Runs.{possible_after, run_induction, laps_push, possible_within}
 use Rattle.rules_good.proofs.Shapes.{turned, first_end, link_shared, some_link, link_events, own_run, own_end, Request, request}
@@ -303,3 +303,7 @@ cyclic_ranks_fall shape number ranking w differ order full ranks s i j k l u =
                 lap_ahead (number l) (number m) (above_all number (length shape.links)) (laps_in shape ranking i (own_run shape s i)) (laps_in shape ranking j (own_run shape s j)) above (omega (arith, n.behind, past))
           ]
         ]
+
+pub numbered_ranks_fall : NumberedRanksFall
+numbered_ranks_fall shape rule ranking w ranks =
+    cyclic_ranks_fall shape rule.number ranking w (λ i l m s e possible on h end ne same. rule.differ i l m on.within h on.end end ne same) rule.order rule.full ranks

@@ -2,7 +2,10 @@ pub mod ClientServer
 pub mod Counts
 pub mod Cyclic
 pub mod Holders
+pub mod Live
 pub mod Resource
 pub mod Runs
 pub mod Shapes
+pub mod Sharing
+pub mod Twins
 pub mod Walks

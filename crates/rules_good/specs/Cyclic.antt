@@ -8,10 +8,14 @@
 -- higher number, j is a lap behind, and the scale is above all ranks.
 use Rattle.std.specs.Prelude.{ℕ}
 use Rattle.csp_tables.specs.Shape.{Shape, IsWellFormed}
-use Rattle.csp_tables.specs.Cyclic.{KeepsOrder, ReachedLinksDiffer, HasFullEnds}
+use Rattle.csp_tables.specs.Cyclic.{KeepsOrder, ReachedLinksDiffer, HasFullEnds, IsCyclic}
 use Rattle.csp_tables.specs.CyclicRanks.{AreCyclicRanks}
 use Rattle.csp_tables.specs.Ranking.{Ranking}
 use Rattle.csp_tables.specs.Falls.{Falls}
 
 abbrev pub CyclicRanksFall : Type 0
 CyclicRanksFall = (shape : Shape) (number : ℕ → ℕ) (ranking : Ranking) → IsWellFormed shape → ReachedLinksDiffer shape number → KeepsOrder shape number → HasFullEnds shape number → AreCyclicRanks shape number ranking → Falls shape.parts ranking
+
+-- the same with a numbering in which any two links of one component differ, as the rule asks for
+abbrev pub NumberedRanksFall : Type 0
+NumberedRanksFall = (shape : Shape) (rule : IsCyclic shape) (ranking : Ranking) → IsWellFormed shape → AreCyclicRanks shape rule.number ranking → Falls shape.parts ranking

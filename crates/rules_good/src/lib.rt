@@ -2,12 +2,17 @@
 #![tactic(auto)]
 
 ghost use Rattle.rules_good.specs.ClientServer.{ClientServerRanksFall};
-ghost use Rattle.rules_good.specs.Cyclic.{CyclicRanksFall};
+ghost use Rattle.rules_good.specs.Cyclic.{CyclicRanksFall, NumberedRanksFall};
+ghost use Rattle.rules_good.specs.Example.{TwinsAreCyclic, TwinsAreClientServer, SharingIsResource};
+ghost use Rattle.rules_good.specs.Live.{CyclicMeansLive, ClientServerMeansLive, ResourceMeansLive};
 ghost use Rattle.rules_good.specs.Resource.{ResourceRanksFall};
+
+use net_sound::Transitions;
 
 /// The ranking of a cyclic network falls.
 pub fn cyclic_ranks_fall()
-    ensures { CyclicRanksFall }
+    ensures reached { CyclicRanksFall }
+    ensures numbered { NumberedRanksFall }
 {}
 
 /// The ranking of a client-server network falls.
@@ -18,4 +23,18 @@ pub fn client_server_ranks_fall()
 /// The ranking of a network of users and resources falls.
 pub fn resource_ranks_fall()
     ensures { ResourceRanksFall }
+{}
+
+/// A network whose shape meets one of the three rules is live, with its silent bound.
+pub fn rules_mean_live<S: Transitions>()
+    ensures cyclic { CyclicMeansLive S.step }
+    ensures client_server { ClientServerMeansLive S.step }
+    ensures resource { ResourceMeansLive S.step }
+{}
+
+/// Shapes that meet the rules, with their rankings.
+pub fn examples()
+    ensures cyclic { TwinsAreCyclic }
+    ensures client_server { TwinsAreClientServer }
+    ensures resource { SharingIsResource }
 {}

@@ -1,4 +1,4 @@
-use Rattle.net_sound.proofs.Heart.{runs_are_traces, runs_are_joint}
+use Rattle.net_sound.proofs.Soundness.{runs_are_traces, runs_are_joint}
 use Rattle.net_sound.proofs.runs_are_local.Goals as goal
 
 pub returns : goal.returns

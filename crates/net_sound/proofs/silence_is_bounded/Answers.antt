@@ -1,4 +1,4 @@
-use Rattle.net_sound.proofs.Heart.{silence_is_bounded}
+use Rattle.net_sound.proofs.Soundness.{silence_is_bounded}
 use Rattle.net_sound.proofs.silence_is_bounded.Goals as goal
 
 pub returns : goal.returns

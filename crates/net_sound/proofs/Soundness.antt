@@ -1,4 +1,4 @@
--- The heart: what each component stands at in a reached stable state, and the step that an agreed event is.
+-- What each component stands at in a reached stable state, and the step that an agreed event is.
 use Rattle.std.proofs.Common.{◌≡◌, ℕ, zero, suc, ◌<◌, inl, inr, List, [], ◌∷◌, Some, slice_get, get_or, length, IsTrue, MatchBool, replicate, refl, sym, ap, ap₂, subst, ◌∙◌, arith}
 use Rattle.std.proofs.lemmas.Bool.{cases_Bool, or_left, or_right}
 use Rattle.std.proofs.lemmas.Option.{get_or_from_slice_get, slice_get_within, none-some, same_Some}
@@ -15,7 +15,7 @@ use Rattle.csp_tables.specs.Behaviour.{OffersAcceptance, HasBehaviour, HaveBehav
 use Rattle.csp_tables.specs.Ranking.{Ranking}
 use Rattle.csp_tables.specs.GoodRanking.{IsGoodRanking}
 use Rattle.net_sound.specs.Projection.{ComesAlong, RunsAreTraces, RunsAreJoint, SilenceIsBounded}
-use Rattle.net_sound.specs.Heart.{GoodRankingsMeanLive}
+use Rattle.net_sound.specs.Soundness.{GoodRankingsMeanLive}
 use Rattle.net_sound.proofs.FlatLists.{alphabets, match_true, match_false, step_alphabet}
 use Rattle.net_sound.proofs.Flattening.{back}
 use Rattle.net_sound.proofs.Local.{AllAfter, all_after, shares, at_most, run_forth, run_kept}
@@ -148,7 +148,7 @@ agreed_step Step s e ds ps ks o g =
     let r = take_part Step s e ds ps ks o g.agreed in
     (r.0, (owned Step s e ds ps ks g.owner o g.within g.owned, r.1))
 
-same_alphabets : {T : Type 0} (Step : T → Label → T → Type 0) (cs : List (Component T)) (ps : List Part) → HaveBehaviours Step cs ps → alphabets cs ≡ alphabets_of ps
+pub same_alphabets : {T : Type 0} (Step : T → Label → T → Type 0) (cs : List (Component T)) (ps : List Part) → HaveBehaviours Step cs ps → alphabets cs ≡ alphabets_of ps
 same_alphabets Step [] [] b = refl
 same_alphabets Step [] (p ∷ ps) b = absurd b
 same_alphabets Step (c ∷ cs) [] b = absurd b
