@@ -1,13 +1,15 @@
 //! What each term of a table offers, and the minimal offers of some terms.
 
-ghost use Rattle.std.specs.Prelude.{◌≡◌, ◌<◌, ℕ, Bool, List, [], ◌∷◌, ◌++◌, true, false, length, replicate, slice_index_or, slice_set, All, IfOk, OnOk, OnErr};
-ghost use Rattle.std.specs.List.{Contains, Any};
+ghost use Rattle.std.specs.Prelude.{◌≡◌, ◌<◌, ℕ, Bool, List, [], ◌∷◌, ◌++◌, true, false, length, replicate, slice_index_or, slice_set, All, IsTrue, IfOk, OnOk, OnErr};
 ghost use Rattle.std.specs.List.Sorted.{IsStrictlyIncreasing, IsStrictlySortedBy};
 ghost use Rattle.std.specs.Cmp.Lexicographic.{slice_cmp};
 ghost use Rattle.std.specs.Ordering.{nat_cmp};
-ghost use Rattle.csp_base.specs.Events.{with_member};
-ghost use Rattle.csp_tables.specs.Trace.{IsWithin};
-ghost use Rattle.csp_tables.specs.Offer.{IsOfferOf, IsMinimalOffer};
+ghost use Rattle.csp_base.specs.Events.{has, with_member};
+ghost use Rattle.csp_tables.specs.RawTable.{RawStep};
+ghost use Rattle.csp_tables.specs.Path.{Stable};
+ghost use Rattle.csp_tables.specs.Offer.{IsMinimalOffer};
+ghost use Rattle.csp_tables.specs.Behaviour.{OffersAcceptance};
+ghost use Rattle.csp_tables.specs.NormalTable.{IsListed};
 ghost use Rattle.acceptances.specs.Offers.{AreMarks, AreOffers, offers_at};
 
 use crate::least::{least_sets, push_unless, sort_sets};
@@ -20,11 +22,11 @@ use std::alloc::{AllocError, Global};
 pub fn minimal(alloc: Global, table: &RawTable, terms: &[u32]) -> Result<Vec<EventSet>, NoMemory>
     requires { All (λ n. n < table.now.count) terms.now }
     ensures sound { IfOk result (λ sets. All (IsMinimalOffer table.now terms.now) sets.items) }
-    ensures complete {
-        IfOk result (λ sets. (M : List ℕ) → IsStrictlyIncreasing M → IsMinimalOffer table.now terms.now M → Contains sets.items M)
-    }
-    ensures each_offer {
-        IfOk result (λ sets. (M : List ℕ) → IsOfferOf table.now terms.now M → Any (λ N. IsWithin N M) sets.items)
+    ensures complete { IfOk result (λ sets. (M : List ℕ) → IsMinimalOffer table.now terms.now M → IsListed sets.items M) }
+
+    // Each stable term among them offers every event of one of the sets.
+    ensures covered {
+        IfOk result (λ sets. (n : ℕ) → IsTrue (has terms.now n) → Stable (RawStep table.now) n → OffersAcceptance (RawStep table.now) n sets.items)
     }
     ensures rising { IfOk result (λ sets. All IsStrictlyIncreasing sets.items) }
     ensures order { IfOk result (λ sets. IsStrictlySortedBy (slice_cmp nat_cmp) sets.items) }
@@ -33,7 +35,8 @@ pub fn minimal(alloc: Global, table: &RawTable, terms: &[u32]) -> Result<Vec<Eve
     let sets = event_sets(alloc, table)?;
     let mut offers = offers_of(alloc, &unstable, &sets, terms)?;
     sort_sets(&mut offers)?;
-    least_sets(alloc, &offers)
+    let kept = least_sets(alloc, &offers)?;
+    Ok(kept)
 }
 
 // A mark at each term that has a silent step.

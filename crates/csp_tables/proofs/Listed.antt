@@ -10,7 +10,7 @@ use Rattle.csp_tables.specs.RawTable.{RawTable, RawStep}
 use Rattle.csp_tables.specs.RawForm.{has_silent, has_step}
 
 -- an element that stands in a list and passes a test
-any_of : {X : Type 0} (test : X → Bool) (xs : List X) (k : ℕ) (y : X) → slice_get xs k ≡ Some y → test y ≡ true → list_any test xs ≡ true
+pub any_of : {X : Type 0} (test : X → Bool) (xs : List X) (k : ℕ) (y : X) → slice_get xs k ≡ Some y → test y ≡ true → list_any test xs ≡ true
 any_of test [] k y at passes = cc
 any_of test (x ∷ xs) zero y at passes = let e : x ≡ y = cc in or_left (test x) (list_any test xs) (rw e passes)
 any_of test (x ∷ xs) (suc k) y at passes = or_right (test x) (list_any test xs) (any_of test xs k y at passes)

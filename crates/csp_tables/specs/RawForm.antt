@@ -1,7 +1,6 @@
 -- The form of a numbered table: there is a first term, and each step leads from one of the terms to one of them.
-use Rattle.std.specs.Prelude.{ℕ, ◌<◌, ◌≤◌, nat_eq, Bool, ◌&&◌, IsTrue, map}
+use Rattle.std.specs.Prelude.{ℕ, ◌<◌, ◌≤◌, nat_eq, Bool, ◌&&◌, IsTrue}
 use Rattle.std.specs.List.{list_any}
-use Rattle.csp_tables.specs.Network.{Component}
 use Rattle.csp_tables.specs.RawTable.{RawTable}
 
 -- whether a silent step from s to t is listed
@@ -16,7 +15,3 @@ pub record HasRawForm (raw : RawTable) : Type 0 where
   pub first : 1 ≤ raw.count
   pub silent_within : (s t : ℕ) → IsTrue (has_silent raw s t) → (s < raw.count) × (t < raw.count)
   pub steps_within : (s e t : ℕ) → IsTrue (has_step raw s e t) → (s < raw.count) × (t < raw.count)
-
--- the table as a component that stands at its first term and takes part in each event of its steps
-abbrev pub component_of : RawTable → Component ℕ
-component_of raw = record { alphabet = map (λ step. step.1) raw.steps; term = 0 }
