@@ -14,9 +14,11 @@ pub mod Label
 pub mod Live
 pub mod Network
 pub mod NormalTable
+pub mod Offer
 pub mod Part
 pub mod Path
 pub mod Ranking
+pub mod RawForm
 pub mod RawTable
 pub mod Resource
 pub mod ResourceNumbers
@@ -24,6 +26,7 @@ pub mod ResourceRanks
 pub mod Roles
 pub mod Shape
 pub mod SilentBound
+pub mod SilentCircle
 pub mod Standing
 pub mod Stands
 pub mod Table

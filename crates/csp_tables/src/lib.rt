@@ -1,2 +1,6 @@
-//! What the tables of components mean: labels, runs, networks of components, and when a network is live.
+//! The tables of components and what they mean: labels, runs, networks of components, and when a network is live.
 #![tactic(auto)]
+
+mod raw_table;
+
+pub use raw_table::RawTable;

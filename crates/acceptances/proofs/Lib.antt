@@ -1,0 +1,4 @@
+pub mod SmallestSets
+pub mod Member
+pub mod Sorting
+pub mod Terms

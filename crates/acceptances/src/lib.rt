@@ -1,0 +1,7 @@
+//! Acceptances: of the sets of events that stable terms offer, those that contain no smaller one.
+#![tactic(auto)]
+
+mod least;
+mod offers;
+
+pub use offers::minimal;

@@ -1,0 +1,95 @@
+//! What each term of a table offers, and the minimal offers of some terms.
+
+ghost use Rattle.std.specs.Prelude.{◌≡◌, ◌<◌, ℕ, Bool, List, [], ◌∷◌, ◌++◌, true, false, length, replicate, slice_index_or, slice_set, All, IsTrue, IfOk, OnOk, OnErr};
+ghost use Rattle.std.specs.List.Sorted.{IsStrictlyIncreasing, IsStrictlySortedBy};
+ghost use Rattle.std.specs.Cmp.Lexicographic.{slice_cmp};
+ghost use Rattle.std.specs.Ordering.{nat_cmp};
+ghost use Rattle.csp_base.specs.Events.{has, with_member};
+ghost use Rattle.csp_tables.specs.RawTable.{RawStep};
+ghost use Rattle.csp_tables.specs.Path.{Stable};
+ghost use Rattle.csp_tables.specs.Offer.{IsMinimalOffer};
+ghost use Rattle.csp_tables.specs.Behaviour.{OffersAcceptance};
+ghost use Rattle.csp_tables.specs.NormalTable.{IsListed};
+ghost use Rattle.acceptances.specs.Offers.{AreMarks, AreOffers, offers_at};
+
+use crate::least::{least_sets, push_unless, sort_sets};
+use csp_base::{Event, EventSet, NoMemory};
+use csp_tables::RawTable;
+use std::alloc::{AllocError, Global};
+
+/// Of the sets of events that the stable ones among the terms offer, those that contain no smaller one, in the order of
+/// lists.
+pub fn minimal(alloc: Global, table: &RawTable, terms: &[u32]) -> Result<Vec<EventSet>, NoMemory>
+    requires { All (λ n. n < table.now.count) terms.now }
+    ensures sound { IfOk result (λ sets. All (IsMinimalOffer table.now terms.now) sets.items) }
+    ensures complete { IfOk result (λ sets. (M : List ℕ) → IsMinimalOffer table.now terms.now M → IsListed sets.items M) }
+
+    // Each stable term among them offers every event of one of the sets.
+    ensures covered {
+        IfOk result (λ sets. (n : ℕ) → IsTrue (has terms.now n) → Stable (RawStep table.now) n → OffersAcceptance (RawStep table.now) n sets.items)
+    }
+    ensures rising { IfOk result (λ sets. All IsStrictlyIncreasing sets.items) }
+    ensures order { IfOk result (λ sets. IsStrictlySortedBy (slice_cmp nat_cmp) sets.items) }
+{
+    let unstable = unstable_marks(alloc, table)?;
+    let sets = event_sets(alloc, table)?;
+    let mut offers = offers_of(alloc, &unstable, &sets, terms)?;
+    sort_sets(&mut offers)?;
+    let kept = least_sets(alloc, &offers)?;
+    Ok(kept)
+}
+
+// A mark at each term that has a silent step.
+fn unstable_marks(alloc: Global, table: &RawTable) -> Result<Vec<bool>, AllocError>
+    ensures { IfOk result (λ marks. AreMarks table.now marks.items) }
+{
+    let mut marks = vec![in alloc; false; table.count() as usize]?;
+    for (from, _) in table.silent() {
+        marks[*from as usize] = true;
+    }
+    Ok(marks)
+}
+
+// For each term the set of the events of its steps.
+fn event_sets(alloc: Global, table: &RawTable) -> Result<Vec<EventSet>, NoMemory>
+    ensures { IfOk result (λ sets. AreOffers table.now sets.items) }
+{
+    let mut sets = empty_sets(alloc, table.count())?;
+    for (from, event, _) in table.steps() {
+        insert_at(&mut sets, *from as usize, *event)?;
+    }
+    Ok(sets)
+}
+
+// As many empty sets as `count` says.
+fn empty_sets(alloc: Global, count: u32) -> Result<Vec<EventSet>, AllocError>
+    ensures { IfOk result (λ sets. sets.items ≡ replicate count []) }
+{
+    let mut sets = Vec::new(alloc);
+    for _ in 0..count {
+        sets.push(EventSet::new(alloc))?;
+    }
+    Ok(sets)
+}
+
+// Adds an event to the set in a place.
+fn insert_at(sets: &mut Vec<EventSet>, place: usize, event: Event) -> Result<(), NoMemory>
+    requires { place < length sets.old.items }
+    ensures ok { OnOk result (sets.new.items ≡ slice_set sets.old.items place (with_member event (slice_index_or sets.old.items place []))) }
+{
+    sets[place].insert(event)?;
+    Ok(())
+}
+
+// The sets of those terms that have no mark.
+fn offers_of(alloc: Global, unstable: &[bool], sets: &[EventSet], terms: &[u32]) -> Result<Vec<EventSet>, NoMemory>
+    requires marks { All (λ n. n < length unstable.now) terms.now }
+    requires sets { All (λ n. n < length sets.now) terms.now }
+    ensures { IfOk result (λ made. made.items ≡ offers_at unstable.now sets.now terms.now) }
+{
+    let mut made = Vec::new(alloc);
+    for n in terms {
+        push_unless(alloc, &mut made, &sets[*n as usize], unstable[*n as usize])?;
+    }
+    Ok(made)
+}

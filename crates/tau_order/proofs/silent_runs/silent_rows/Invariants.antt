@@ -1,0 +1,10 @@
+use Rattle.std.proofs.Common.{◌≡◌, ℕ, nat_eq, ◌&&◌, length, take}
+use Rattle.std.specs.List.{list_any}
+use Rattle.digraph.specs.Digraph.{has_arc}
+use Rattle.tau_order.proofs.silent_runs.silent_rows.Given as goal
+
+abbrev pub invariant-loop-from : goal.invariant-loop-from
+invariant-loop-from l = record {
+  size : length l.rows ≡ l.table.count;
+  arcs : (s t : ℕ) → has_arc l.rows s t ≡ list_any (λ step. nat_eq s step.0 && nat_eq t step.1) (take l.from-index l.from-items);
+}

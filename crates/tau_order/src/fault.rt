@@ -1,0 +1,24 @@
+use digraph::Circle;
+use std::alloc::AllocError;
+
+/// Why a table has no heights, or none were found.
+#[derive(Debug, Drop, thiserror::Error)]
+pub enum HeightFault {
+    /// Memory ran out.
+    #[error("out of memory")]
+    NoMemory,
+    /// Silent steps lead round a circle, so some run of them has no end.
+    #[error("the silent steps go round in a circle")]
+    Diverges { circle: Circle },
+}
+
+impl From<AllocError> for HeightFault {
+    ghost use Rattle.std.specs.Prelude.{◌≡◌};
+    ghost use Rattle.tau_order.specs.declared.fault.HeightFault.TheVariants.{NoMemory};
+
+    ghost from_gives = { λ _ fault. fault ≡ NoMemory };
+
+    fn from(_error: AllocError) -> HeightFault {
+        HeightFault::NoMemory
+    }
+}
