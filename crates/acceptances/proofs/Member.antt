@@ -1,5 +1,5 @@
 -- Members of lists, by recursion.
-use Rattle.std.proofs.Common.{◌≡◌, ℕ, zero, suc, ◌<◌, ◌⊎◌, inl, inr, Bool, true, false, ◌&&◌, ◌||◌, nat_eq, cond, Option, Some, List, [], ◌∷◌, ◌++◌, length, get_or, refl, sym, ap, ◌∙◌, arith}
+use Rattle.std.proofs.Common.{◌≡◌, ℕ, zero, suc, ◌<◌, ◌⊎◌, inl, inr, Bool, true, false, nat_eq, cond, Some, List, [], ◌∷◌, length, get_or, refl, sym, ap, ◌∙◌, arith}
 use Rattle.std.specs.Prelude.{slice_get}
 use Rattle.std.specs.Cmp.{first_so, second_so}
 use Rattle.std.specs.Cmp.Lexicographic.{pointwise}
@@ -66,9 +66,9 @@ member_of_filter p (y ∷ ys) x (inr h) passes = into_cond x y (filter p ys) (p 
 pub member_from_filter : {X : Type 0} (p : X → Bool) (xs : List X) (x : X) → Member x (filter p xs) → Member x xs × (p x ≡ true)
 member_from_filter p [] x h = absurd h
 member_from_filter p (y ∷ ys) x h = elim (out_of_cond x y (filter p ys) (p y) h) as (λ _. Member x (y ∷ ys) × (p x ≡ true)) [
-    inl e ↦ (inl e.0, ap p e.0 ∙ e.1)
+  | inl e ↦ (inl e.0, ap p e.0 ∙ e.1)
   | inr rest ↦ let r = member_from_filter p ys x rest in (inr r.0, r.1)
-  ]
+]
 
 -- a test that a member passes, and a member that passes a test
 pub any_of_member : {X : Type 0} (p : X → Bool) (xs : List X) (x : X) → Member x xs → p x ≡ true → list_any p xs ≡ true
@@ -79,6 +79,6 @@ any_of_member p (y ∷ ys) x (inr h) passes = or_right (p y) (list_any p ys) (an
 pub member_of_any : {X : Type 0} (p : X → Bool) (xs : List X) → list_any p xs ≡ true → (x : X) × Member x xs × (p x ≡ true)
 member_of_any p [] h = absurd (false≢true h)
 member_of_any {X} p (y ∷ ys) h = elim (or_cases (p y) (list_any p ys) h) as (λ _. (x : X) × Member x (y ∷ ys) × (p x ≡ true)) [
-    inl first ↦ (y, inl refl, first)
+  | inl first ↦ (y, inl refl, first)
   | inr rest ↦ let r = member_of_any p ys rest in (r.0, inr r.1, r.2)
-  ]
+]

@@ -1,6 +1,6 @@
 -- Of some sets those that contain no smaller one, and that each set contains one of them.
-use Rattle.std.proofs.Common.{◌≡◌, ◌↔◌, ℕ, ◌<◌, ◌⊎◌, inl, inr, Bool, true, false, not, ◌&&◌, IsTrue, List, [], ◌∷◌, length, get_or, refl, sym, ap, subst, ◌∙◌}
-use Rattle.std.specs.List.{list_any, All, Contains, filter}
+use Rattle.std.proofs.Common.{◌≡◌, ◌↔◌, ℕ, ◌<◌, ◌⊎◌, inl, inr, Bool, true, false, not, ◌&&◌, IsTrue, List, [], ◌∷◌, get_or, refl, sym, ap, subst, ◌∙◌}
+use Rattle.std.specs.List.{All, Contains, filter}
 use Rattle.std.specs.List.Sorted.{IsStrictlyIncreasing, IsStrictlySortedBy}
 use Rattle.std.specs.Cmp.{first_so, second_so}
 use Rattle.std.specs.Cmp.Lexicographic.{slice_cmp}
@@ -15,7 +15,7 @@ use Rattle.csp_tables.specs.RawTable.{RawTable, RawStep}
 use Rattle.csp_tables.specs.Offer.{IsOfferOf, IsMinimalOffer}
 use Rattle.csp_tables.specs.Behaviour.{OffersAcceptance}
 use Rattle.csp_tables.specs.NormalTable.{IsListed}
-use Rattle.acceptances.specs.Offers.{is_unstable, can_do, AreMarks, AreOffers, offers_at, has_smaller}
+use Rattle.acceptances.specs.Offers.{can_do, AreMarks, AreOffers, offers_at, has_smaller}
 use Rattle.acceptances.proofs.Member.{Member, member_from_contains, contains_from_member, stands, all_of_members, member_of_filter, member_from_filter, any_of_member, member_of_any}
 use Rattle.acceptances.proofs.Terms.{same_tests, stable_by_test, test_by_stable, offers_by_test, test_by_offers, Source, source, listed_offer, within_of}
 
@@ -40,22 +40,22 @@ within_by_test M N test e h = member_of_superset M N test e h
 pub least_by_test : (sets : List (List ℕ)) (M N : List ℕ) → is_least sets M ≡ true → Member N sets → IsWithin N M → IsWithin M N
 least_by_test sets M N test listed within =
     elim (cases_Bool (is_subset_of M N)) as (λ _. IsWithin M N) [
-      inl holds ↦ within_by_test M N holds
-    | inr fails ↦
-        let below : is_below M N ≡ true = rw (is_subset_of_from_members N M within, fails) refl in
-        absurd (false≢true (sym (not_false (has_smaller sets M) test) ∙ any_of_member (is_below M) sets N listed below))
+      | inl holds ↦ within_by_test M N holds
+      | inr fails ↦
+          let below : is_below M N ≡ true = rw (is_subset_of_from_members N M within, fails) refl in
+          absurd (false≢true (sym (not_false (has_smaller sets M) test) ∙ any_of_member (is_below M) sets N listed below))
     ]
 
 pub test_by_least : (sets : List (List ℕ)) (M : List ℕ) → ((N : List ℕ) → Member N sets → IsWithin N M → IsWithin M N) → is_least sets M ≡ true
 test_by_least sets M least =
     elim (cases_Bool (has_smaller sets M)) as (λ _. is_least sets M ≡ true) [
-      inl holds ↦
-        let p = member_of_any (is_below M) sets holds in
-        let within : IsWithin p.0 M = within_by_test p.0 M (first_so (is_subset_of p.0 M) (not (is_subset_of M p.0)) p.2) in
-        let back : is_subset_of M p.0 ≡ true = is_subset_of_from_members M p.0 (least p.0 p.1 within) in
-        let fails : is_subset_of M p.0 ≡ false = not_false (is_subset_of M p.0) (second_so (is_subset_of p.0 M) (not (is_subset_of M p.0)) p.2) in
-        absurd (false≢true (sym fails ∙ back))
-    | inr fails ↦ not_true (has_smaller sets M) fails
+      | inl holds ↦
+          let p = member_of_any (is_below M) sets holds in
+          let within : IsWithin p.0 M = within_by_test p.0 M (first_so (is_subset_of p.0 M) (not (is_subset_of M p.0)) p.2) in
+          let back : is_subset_of M p.0 ≡ true = is_subset_of_from_members M p.0 (least p.0 p.1 within) in
+          let fails : is_subset_of M p.0 ≡ false = not_false (is_subset_of M p.0) (second_so (is_subset_of p.0 M) (not (is_subset_of M p.0)) p.2) in
+          absurd (false≢true (sym fails ∙ back))
+      | inr fails ↦ not_true (has_smaller sets M) fails
     ]
 
 -- a set within M, out of M and the others, that contains none of the others but as a whole
@@ -68,7 +68,7 @@ pub record Lowest (sets : List (List ℕ)) (M : List ℕ) : Type 0 where
 pub lowest : (sets : List (List ℕ)) (M : List ℕ) → Lowest sets M
 lowest [] M = record { set = M; within = λ e h. h; listed = inl refl; least = λ N h w. absurd h }
 lowest (X ∷ Xs) M = elim (cases_Bool (is_subset_of X M)) as (λ _. Lowest (X ∷ Xs) M) [
-    inl holds ↦
+  | inl holds ↦
       let r = lowest Xs X in
       let below : IsWithin X M = within_by_test X M holds in
       record {
@@ -85,7 +85,7 @@ lowest (X ∷ Xs) M = elim (cases_Bool (is_subset_of X M)) as (λ _. Lowest (X �
         listed = elim r.listed as (λ _. (r.set ≡ M) ⊎ Member r.set (X ∷ Xs)) [ inl e ↦ inl e | inr h ↦ inr (inr h) ];
         least = λ N h w. lowest_past X Xs M fails r N h w;
       }
-  ]
+]
   where
     lowest_of : (X : List ℕ) (Xs : List (List ℕ)) (r : Lowest Xs X) (N : List ℕ) → Member N (X ∷ Xs) → IsWithin N r.set → IsWithin r.set N
     lowest_of X Xs r N (inl e) w = rw e r.within
@@ -158,10 +158,10 @@ module _ (raw : RawTable) (terms : List ℕ) (unstable : List Bool) (sets offers
       record {
         offer = offer_of M m.0;
         least = λ N o within.
-          let X : List ℕ = get_or sets o.term [] in
-          let below : IsWithin X M = λ e x. within e (sym (same_as_listed N o e) ∙ x) in
-          let back : IsWithin M X = least_by_test offers M X m.1 (listed_set o.term o.listed o.stable) below in
-          λ e x. sym (same_as_listed N o e) ∙ back e x;
+            let X : List ℕ = get_or sets o.term [] in
+            let below : IsWithin X M = λ e x. within e (sym (same_as_listed N o e) ∙ x) in
+            let back : IsWithin M X = least_by_test offers M X m.1 (listed_set o.term o.listed o.stable) below in
+            λ e x. sym (same_as_listed N o e) ∙ back e x;
       }
 
   pub sound : All (IsMinimalOffer raw terms) (filter (is_least offers) offers)

@@ -1,5 +1,5 @@
 -- The sets of the stable terms of a table, and what those terms offer.
-use Rattle.std.proofs.Common.{◌≡◌, ◌↔◌, ℕ, zero, suc, ◌+◌, ◌<◌, ◌⊎◌, inl, inr, Bool, true, false, ◌&&◌, ◌||◌, nat_eq, cond, IsTrue, Some, List, [], ◌∷◌, ◌++◌, length, get_or, set, take, refl, sym, ap, subst, ◌∙◌, arith}
+use Rattle.std.proofs.Common.{◌≡◌, ℕ, suc, ◌+◌, ◌<◌, ◌⊎◌, inl, inr, Bool, true, false, ◌&&◌, ◌||◌, nat_eq, cond, Some, List, [], ◌∷◌, ◌++◌, length, get_or, set, take, refl, sym, ap, subst, ◌∙◌, arith}
 use Rattle.std.specs.List.{list_any, All}
 use Rattle.std.specs.List.Sorted.{IsStrictlyIncreasing}
 use Rattle.std.specs.Cmp.{first_so, second_so}
@@ -8,14 +8,13 @@ use Rattle.std.proofs.lemmas.List.{get_or_default, get_or-set_same, get_or-set_o
 use Rattle.std.proofs.lemmas.List.Folds.{list_any_more}
 use Rattle.csp_base.specs.Events.{has, with_member}
 use Rattle.csp_base.proofs.SetLaws.{has-with_member, increasing-with_member}
-use Rattle.csp_tables.specs.Label.Label.{silent, visible}
+use Rattle.csp_tables.specs.Label.Label.{silent}
 use Rattle.csp_tables.specs.Path.{Stable}
 use Rattle.csp_tables.specs.Trace.{Offers}
 use Rattle.csp_tables.specs.RawTable.{RawTable, RawStep}
 use Rattle.csp_tables.specs.RawForm.{HasRawForm}
-use Rattle.csp_tables.specs.Offer.{IsOfferOf}
 use Rattle.csp_tables.proofs.Listed.{any_of, passing, silent_at, step_at}
-use Rattle.acceptances.specs.Offers.{is_unstable, can_do, AreMarks, AreOffers, offer_at, offers_at}
+use Rattle.acceptances.specs.Offers.{is_unstable, can_do, offers_at}
 use Rattle.acceptances.proofs.Member.{Member, member_of_any}
 
 -- tests that agree when they are true are equal
@@ -36,13 +35,13 @@ stable_by_test raw n test t step = false≢true (sym test ∙ unstable_by_step r
 
 pub test_by_stable : (raw : RawTable) (n : ℕ) → Stable (RawStep raw) n → is_unstable raw n ≡ false
 test_by_stable raw n stable = elim (cases_Bool (is_unstable raw n)) as (λ _. is_unstable raw n ≡ false) [
-    inl holds ↦
+  | inl holds ↦
       let p = passing (λ (p : ℕ × ℕ). nat_eq n p.0) raw.silent holds in
       let e : p.element.0 ≡ n = sym (eqb-true n p.element.0 p.passes) in
       let pair : p.element ≡ (n, p.element.1) = λ i. (e i, p.element.1) in
       absurd (stable p.element.1 (p.place, p.at ∙ ap Some pair))
   | inr fails ↦ fails
-  ]
+]
 
 pub offers_by_test : (raw : RawTable) (n e : ℕ) → can_do raw n e ≡ true → Offers (RawStep raw) n e
 offers_by_test raw n e test =
@@ -73,9 +72,9 @@ first_offer unstable sets n rest M false mark (inr h) = inr h
 pub source : (unstable : List Bool) (sets : List (List ℕ)) (terms M : List ℕ) → Member M (offers_at unstable sets terms) → Source unstable sets terms M
 source unstable sets [] M h = absurd h
 source unstable sets (n ∷ ns) M h = elim (first_offer unstable sets n (offers_at unstable sets ns) M (get_or unstable n false) refl h) as (λ _. Source unstable sets (n ∷ ns) M) [
-    inl p ↦ record { term = n; listed = or_left (nat_eq n n) (has ns n) (same n); unmarked = p.0; is = p.1 }
+  | inl p ↦ record { term = n; listed = or_left (nat_eq n n) (has ns n) (same n); unmarked = p.0; is = p.1 }
   | inr rest ↦ let s = source unstable sets ns M rest in record { term = s.term; listed = or_right (nat_eq n s.term) (has ns s.term) s.listed; unmarked = s.unmarked; is = s.is }
-  ]
+]
 
 into_first : (M : List ℕ) (S : List ℕ) (rest : List (List ℕ)) (b : Bool) → ((b ≡ false) × (M ≡ S)) ⊎ Member M rest → Member M (cond b [] (S ∷ []) ++ rest)
 into_first M S rest true (inl p) = absurd (false≢true (sym p.0))
@@ -86,11 +85,11 @@ into_first M S rest false (inr h) = inr h
 pub listed_offer : (unstable : List Bool) (sets : List (List ℕ)) (terms : List ℕ) (n : ℕ) → has terms n ≡ true → get_or unstable n false ≡ false → Member (get_or sets n []) (offers_at unstable sets terms)
 listed_offer unstable sets [] n listed unmarked = absurd (false≢true listed)
 listed_offer unstable sets (m ∷ ms) n listed unmarked = elim (or_cases (nat_eq m n) (has ms n) listed) as (λ _. Member (get_or sets n []) (offers_at unstable sets (m ∷ ms))) [
-    inl first ↦
+  | inl first ↦
       let e : m ≡ n = eqb-true m n first in
       into_first (get_or sets n []) (get_or sets m []) (offers_at unstable sets ms) (get_or unstable m false) (inl (ap (λ k. get_or unstable k false) e ∙ unmarked, ap (λ k. get_or sets k []) (sym e)))
   | inr rest ↦ into_first (get_or sets n []) (get_or sets m []) (offers_at unstable sets ms) (get_or unstable m false) (inr (listed_offer unstable sets ms n rest unmarked))
-  ]
+]
 
 -- each of the terms is one of the table
 pub within_of : (count : ℕ) (terms : List ℕ) (n : ℕ) → All (λ k. k < count) terms → has terms n ≡ true → n < count
@@ -133,15 +132,15 @@ eq_flip a b = same_tests (nat_eq a b) (nat_eq b a) (λ h. eq-eqb b a (sym (eqb-t
 pub set_more : (sets : List (List ℕ)) (from event n e : ℕ) → from < length sets → has (get_or (set sets from (with_member event (get_or sets from []))) n []) e ≡ (has (get_or sets n []) e || (nat_eq n from && nat_eq e event))
 set_more sets from event n e within =
     elim (cases_eq n from) as (λ _. has (get_or (set sets from (with_member event (get_or sets from []))) n []) e ≡ (has (get_or sets n []) e || (nat_eq n from && nat_eq e event))) [
-      inl there ↦
-        let read : get_or (set sets from (with_member event (get_or sets from []))) from [] ≡ with_member event (get_or sets from []) = get_or-set_same sets from (with_member event (get_or sets from [])) [] within in
-        let members : has (with_member event (get_or sets from [])) e ≡ (nat_eq event e || has (get_or sets from []) e) = has-with_member event (get_or sets from []) e in
-        let test : nat_eq from from ≡ true = same from in
-        rw (there, read, members, test, eq_flip event e) (or_flip (nat_eq e event) (has (get_or sets from []) e))
-    | inr other ↦
-        let read : get_or (set sets from (with_member event (get_or sets from []))) n [] ≡ get_or sets n [] = get_or-set_other sets from n (with_member event (get_or sets from [])) [] other in
-        let test : nat_eq n from ≡ false = differ n from other in
-        rw (read, test) (or_false (has (get_or sets n []) e))
+      | inl there ↦
+          let read : get_or (set sets from (with_member event (get_or sets from []))) from [] ≡ with_member event (get_or sets from []) = get_or-set_same sets from (with_member event (get_or sets from [])) [] within in
+          let members : has (with_member event (get_or sets from [])) e ≡ (nat_eq event e || has (get_or sets from []) e) = has-with_member event (get_or sets from []) e in
+          let test : nat_eq from from ≡ true = same from in
+          rw (there, read, members, test, eq_flip event e) (or_flip (nat_eq e event) (has (get_or sets from []) e))
+      | inr other ↦
+          let read : get_or (set sets from (with_member event (get_or sets from []))) n [] ≡ get_or sets n [] = get_or-set_other sets from n (with_member event (get_or sets from [])) [] other in
+          let test : nat_eq n from ≡ false = differ n from other in
+          rw (read, test) (or_false (has (get_or sets n []) e))
     ]
   where
     differ : (a b : ℕ) → (a ≡ b → ⊥) → nat_eq a b ≡ false
@@ -150,12 +149,12 @@ set_more sets from event n e within =
 pub rising_more : (sets : List (List ℕ)) (from event n : ℕ) → from < length sets → IsStrictlyIncreasing (get_or sets n []) → IsStrictlyIncreasing (get_or sets from []) → IsStrictlyIncreasing (get_or (set sets from (with_member event (get_or sets from []))) n [])
 rising_more sets from event n within before before_from =
     elim (cases_eq n from) as (λ _. IsStrictlyIncreasing (get_or (set sets from (with_member event (get_or sets from []))) n [])) [
-      inl there ↦
-        let read : get_or (set sets from (with_member event (get_or sets from []))) from [] ≡ with_member event (get_or sets from []) = get_or-set_same sets from (with_member event (get_or sets from [])) [] within in
-        subst (λ k. IsStrictlyIncreasing (get_or (set sets from (with_member event (get_or sets from []))) k [])) (sym there) (subst IsStrictlyIncreasing (sym read) (increasing-with_member event (get_or sets from []) before_from))
-    | inr other ↦
-        let read : get_or (set sets from (with_member event (get_or sets from []))) n [] ≡ get_or sets n [] = get_or-set_other sets from n (with_member event (get_or sets from [])) [] other in
-        subst IsStrictlyIncreasing (sym read) before
+      | inl there ↦
+          let read : get_or (set sets from (with_member event (get_or sets from []))) from [] ≡ with_member event (get_or sets from []) = get_or-set_same sets from (with_member event (get_or sets from [])) [] within in
+          subst (λ k. IsStrictlyIncreasing (get_or (set sets from (with_member event (get_or sets from []))) k [])) (sym there) (subst IsStrictlyIncreasing (sym read) (increasing-with_member event (get_or sets from []) before_from))
+      | inr other ↦
+          let read : get_or (set sets from (with_member event (get_or sets from []))) n [] ≡ get_or sets n [] = get_or-set_other sets from n (with_member event (get_or sets from [])) [] other in
+          subst IsStrictlyIncreasing (sym read) before
     ]
 
 -- one more step of the table, as the loop over the steps takes it

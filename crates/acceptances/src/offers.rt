@@ -25,9 +25,7 @@ pub fn minimal(alloc: Global, table: &RawTable, terms: &[u32]) -> Result<Vec<Eve
     ensures complete { IfOk result (λ sets. (M : List ℕ) → IsMinimalOffer table.now terms.now M → IsListed sets.items M) }
 
     // Each stable term among them offers every event of one of the sets.
-    ensures covered {
-        IfOk result (λ sets. (n : ℕ) → IsTrue (has terms.now n) → Stable (RawStep table.now) n → OffersAcceptance (RawStep table.now) n sets.items)
-    }
+    ensures covered { IfOk result (λ sets. (n : ℕ) → IsTrue (has terms.now n) → Stable (RawStep table.now) n → OffersAcceptance (RawStep table.now) n sets.items) }
     ensures rising { IfOk result (λ sets. All IsStrictlyIncreasing sets.items) }
     ensures order { IfOk result (λ sets. IsStrictlySortedBy (slice_cmp nat_cmp) sets.items) }
 {
@@ -82,7 +80,12 @@ fn insert_at(sets: &mut Vec<EventSet>, place: usize, event: Event) -> Result<(),
 }
 
 // The sets of those terms that have no mark.
-fn offers_of(alloc: Global, unstable: &[bool], sets: &[EventSet], terms: &[u32]) -> Result<Vec<EventSet>, NoMemory>
+fn offers_of(
+    alloc: Global,
+    unstable: &[bool],
+    sets: &[EventSet],
+    terms: &[u32],
+) -> Result<Vec<EventSet>, NoMemory>
     requires marks { All (λ n. n < length unstable.now) terms.now }
     requires sets { All (λ n. n < length sets.now) terms.now }
     ensures { IfOk result (λ made. made.items ≡ offers_at unstable.now sets.now terms.now) }
@@ -92,4 +95,88 @@ fn offers_of(alloc: Global, unstable: &[bool], sets: &[EventSet], terms: &[u32])
         push_unless(alloc, &mut made, &sets[*n as usize], unstable[*n as usize])?;
     }
     Ok(made)
+}
+
+#[cfg(test)]
+mod tests {
+    use super::minimal;
+    use csp_base::{Event, EventSet, NoMemory};
+    use csp_tables::RawTable;
+    use std::alloc::Global;
+    use std::test::Fail;
+
+    // Six terms: the first goes to the next two in silence; a is 0 and b is 1.
+    fn add_terms(table: &mut RawTable) {
+        for _ in 0..5 {
+            if table.count() < 9 {
+                table.add_term();
+            }
+        }
+    }
+
+    fn add_steps(table: &mut RawTable, steps: &[(u32, u32)]) -> Result<(), NoMemory> {
+        for (from, event) in steps {
+            if *from < table.count() && 3 < table.count() {
+                table.add_step(*from, Event(*event), 3)?;
+            }
+        }
+        Ok(())
+    }
+
+    fn minimal_within(
+        alloc: Global,
+        table: &RawTable,
+        terms: &[u32],
+    ) -> Result<Vec<EventSet>, NoMemory> {
+        let count = table.count();
+        for n in terms {
+            if *n >= count {
+                return Err(NoMemory);
+            }
+        }
+        minimal(alloc, table, terms)
+    }
+
+    fn sets_of(alloc: Global, sets: &[&[u32]]) -> Result<Vec<EventSet>, NoMemory> {
+        let mut made = Vec::new(alloc);
+        for events in sets {
+            let mut set = EventSet::new(alloc);
+            for event in *events {
+                set.insert(Event(*event))?;
+            }
+            made.push(set)?;
+        }
+        Ok(made)
+    }
+
+    // Whether the terms have these minimal offers.
+    fn gives(
+        alloc: Global,
+        table: &RawTable,
+        terms: &[u32],
+        sets: &[&[u32]],
+    ) -> Result<bool, NoMemory> {
+        let found = minimal_within(alloc, table, terms)?;
+        let wanted = sets_of(alloc, sets)?;
+        Ok(found.as_slice() == wanted.as_slice())
+    }
+
+    #[test]
+    fn keeps_what_contains_no_smaller_one(rt: HostRuntime) -> Result<(), Fail> {
+        let alloc = rt.alloc();
+        let mut table = RawTable::new(alloc);
+        add_terms(&mut table);
+        if 2 < table.count() {
+            table.add_silent(0, 1)?;
+            table.add_silent(0, 2)?;
+        }
+        add_steps(&mut table, &[(0, 0), (1, 0), (2, 1), (2, 0), (4, 1)])?;
+        assert!(rt; gives(alloc, &table, &[1, 2], &[&[0]])?);
+        assert!(rt; gives(alloc, &table, &[4, 2], &[&[1]])?);
+        assert!(rt; gives(alloc, &table, &[4, 2, 1, 4], &[&[0], &[1]])?);
+        assert!(rt; gives(alloc, &table, &[1, 3, 5], &[&[]])?);
+        assert!(rt; gives(alloc, &table, &[0], &[])?);
+        assert!(rt; gives(alloc, &table, &[], &[])?);
+        Ok(())
+    }
 }
