@@ -1,0 +1,4 @@
+pub mod Merge
+pub mod Order
+pub mod Search
+pub mod Sets
