@@ -1,2 +1,4 @@
 pub mod ListLaws
+pub mod MergeLaws
 pub mod OrderLaws
+pub mod SearchLaws

@@ -55,10 +55,9 @@ pub(crate) fn find(atoms: &[Atom], atom: &Atom) -> Option<usize>
 {
     let place = lower_bound(atoms, atom);
     if is_at(atoms, place, atom) {
-        Some(place)
-    } else {
-        None
+        return Some(place);
     }
+    None
 }
 
 /// Whether the atom is a member.
@@ -79,7 +78,8 @@ pub(crate) fn include(atoms: &mut Items<Atom>, atom: &Atom) -> Result<(), AllocE
     if is_at(atoms.as_slice(), place, atom) {
         return Ok(());
     }
-    atoms.insert(place, *atom)
+    atoms.insert(place, *atom)?;
+    Ok(())
 }
 
 /// Whether a list that is empty or of one kind can take the atom.
