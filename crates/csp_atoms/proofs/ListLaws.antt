@@ -75,7 +75,7 @@ IsRising-filter p (x ∷ xs) r =
 
 -- ---- results are of one kind
 
-kind_with_atom : (k : ℕ) (b : Atom) (xs : List Atom) → kind_of b ≡ k → AllOfKind k xs → AllOfKind k (with_atom xs b)
+pub kind_with_atom : (k : ℕ) (b : Atom) (xs : List Atom) → kind_of b ≡ k → AllOfKind k xs → AllOfKind k (with_atom xs b)
 kind_with_atom k b [] h r = (h, tt)
 kind_with_atom k b (x ∷ xs) h r =
     elim (less b x) as (λ t. AllOfKind k (cond t (b ∷ x ∷ xs) (cond (less x b) (x ∷ with_atom xs b) (x ∷ xs)))) [
@@ -87,7 +87,7 @@ kind_with_atom k b (x ∷ xs) h r =
           ]
     ]
 
-kind_union_of : (k : ℕ) (xs ys : List Atom) → AllOfKind k xs → AllOfKind k ys → AllOfKind k (union_of xs ys)
+pub kind_union_of : (k : ℕ) (xs ys : List Atom) → AllOfKind k xs → AllOfKind k ys → AllOfKind k (union_of xs ys)
 kind_union_of k [] ys r s = s
 kind_union_of k (x ∷ xs) ys r s = kind_with_atom k x (union_of xs ys) r.0 (kind_union_of k xs ys r.1 s)
 
@@ -100,11 +100,11 @@ kind_filter k p (x ∷ xs) r =
     ]
 
 -- a list whose atoms are all of one kind is of one kind, and the other way round
-one_kind : (k : ℕ) (xs : List Atom) → AllOfKind k xs → IsOneKind xs
+pub one_kind : (k : ℕ) (xs : List Atom) → AllOfKind k xs → IsOneKind xs
 one_kind k [] r = tt
 one_kind k (x ∷ xs) r = subst (λ l. AllOfKind l xs) (sym r.0) r.1
 
-kind_first : (x : Atom) (xs : List Atom) → IsOneKind (x ∷ xs) → AllOfKind (kind_of x) (x ∷ xs)
+pub kind_first : (x : Atom) (xs : List Atom) → IsOneKind (x ∷ xs) → AllOfKind (kind_of x) (x ∷ xs)
 kind_first x xs r = (refl, r)
 
 pub IsOneKind-filter : (p : Atom → Bool) (xs : List Atom) → IsOneKind xs → IsOneKind (filter p xs)

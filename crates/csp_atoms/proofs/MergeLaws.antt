@@ -1,6 +1,7 @@
 -- One step of a merge of two rising lists of atoms.
 use Rattle.std.proofs.Common.{◌≡◌, ℕ, suc, ◌+◌, ◌<◌, ◌≤◌, Bool, true, false, not, cond, ◌&&◌, ◌||◌, refl, sym, ◌∙◌, ap, subst, inl, inr, ◌⊎◌, List, [], ◌∷◌, ◌++◌, length, Option, Some, None, arith, append_assoc}
 use Rattle.std.specs.List.{filter}
+use Rattle.std.proofs.lemmas.List.{append-nil}
 use Rattle.std.proofs.lemmas.Bool.{false≢true, true≢false}
 use Rattle.csp_atoms.specs.Order.{less, same}
 use Rattle.csp_atoms.specs.Sets.{AllAbove, IsRising, has_atom, with_atom, union_of, inter_of, diff_of}
@@ -152,3 +153,6 @@ pub loop_step : (op : Operation) (a : Atom) (made xs ys whole : List Atom) → I
 loop_step op a made xs ys whole r s e h =
     push_moves made (result_of op (rest_after xs a) (rest_after ys a)) (keeps op (begins_with xs a) (begins_with ys a)) a
     ∙ ap (λ l. made ++ l) (sym (step op a xs ys r s e)) ∙ h
+
+pub loop_end : (op : Operation) (made xs ys whole : List Atom) → least_of xs ys ≡ None → made ++ result_of op xs ys ≡ whole → made ≡ whole
+loop_end op made xs ys whole e h = sym (append-nil made) ∙ ap (λ l. made ++ l) (sym (no_step op xs ys e)) ∙ h

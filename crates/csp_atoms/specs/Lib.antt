@@ -1,3 +1,4 @@
+pub mod Exact
 pub mod Merge
 pub mod Order
 pub mod Search

@@ -1,8 +1,10 @@
 //! Sets of atoms of one kind. Contracts see the list of the members, which rises strictly.
 
-ghost use Rattle.std.specs.Prelude.{◌≡◌, ◌↔◌, [], false, length, slice_get, IfOk, OnOk, OnErr, IsErrOf, IsTrue};
+ghost use Rattle.std.specs.Prelude.{◌≡◌, ◌↔◌, ◌&&◌, ◌||◌, not, [], false, length, slice_get, IfOk, OnOk, OnErr, IsErrOf, IsTrue};
 ghost use Rattle.std.specs.Option.{option_map};
-ghost use Rattle.csp_atoms.specs.Sets.{IsRising, IsOneKind, alike, diff_of, event_atoms, event_numbers, fits, has_atom, inter_of, place_of, union_of, with_atom};
+ghost use Rattle.csp_atoms.specs.Order.{same};
+ghost use Rattle.csp_atoms.specs.declared.atom.Atom.{Atom};
+ghost use Rattle.csp_atoms.specs.Sets.{IsAtomSet, IsRising, IsOneKind, alike, diff_of, event_atoms, event_numbers, fits, has_atom, inter_of, place_of, union_of, with_atom};
 
 use crate::atom::Atom;
 use crate::error::AtomSetError;
@@ -113,6 +115,7 @@ impl AtomSet {
     /// Adds an atom, where it isn't there yet. An error changes nothing.
     pub fn insert(&mut self, atom: Atom) -> Result<(), AtomSetError>
         ensures ok { OnOk result (self.new ≡ with_atom self.old atom) }
+        ensures members { OnOk result ((a : Atom) → has_atom self.new a ≡ (same atom a || has_atom self.old a)) }
         ensures mixed { IsErrOf result AtomSetError.MixedKinds ↔ (fits self.old atom ≡ false) }
         ensures err { OnErr result (self.new ≡ self.old) }
     {
@@ -125,7 +128,9 @@ impl AtomSet {
 
     /// The atoms of either set, if they are of one kind.
     pub fn union(&self, alloc: Global, other: &AtomSet) -> Result<AtomSet, AtomSetError>
-        ensures ok { IfOk result (λ made. made ≡ union_of self.now other.now) }
+        ensures value { IfOk result (λ made. made ≡ union_of self.now other.now) }
+        ensures members { IfOk result (λ made. (a : Atom) → has_atom made a ≡ (has_atom self.now a || has_atom other.now a)) }
+        ensures set { IfOk result IsAtomSet }
         ensures mixed { IsErrOf result AtomSetError.MixedKinds ↔ (alike self.now other.now ≡ false) }
     {
         if !sorted::can_join(self.atoms.as_slice(), other.atoms.as_slice()) {
@@ -144,7 +149,9 @@ impl AtomSet {
 
     /// The atoms of both sets.
     pub fn inter(&self, alloc: Global, other: &AtomSet) -> Result<AtomSet, NoMemory>
-        ensures { IfOk result (λ made. made ≡ inter_of self.now other.now) }
+        ensures value { IfOk result (λ made. made ≡ inter_of self.now other.now) }
+        ensures members { IfOk result (λ made. (a : Atom) → has_atom made a ≡ (has_atom self.now a && has_atom other.now a)) }
+        ensures set { IfOk result IsAtomSet }
     {
         let atoms = sorted::merged(
             alloc,
@@ -159,7 +166,9 @@ impl AtomSet {
 
     /// The atoms of this set that are no members of the other.
     pub fn diff(&self, alloc: Global, other: &AtomSet) -> Result<AtomSet, NoMemory>
-        ensures { IfOk result (λ made. made ≡ diff_of self.now other.now) }
+        ensures value { IfOk result (λ made. made ≡ diff_of self.now other.now) }
+        ensures members { IfOk result (λ made. (a : Atom) → has_atom made a ≡ (has_atom self.now a && not (has_atom other.now a))) }
+        ensures set { IfOk result IsAtomSet }
     {
         let atoms = sorted::merged(
             alloc,

@@ -4,6 +4,7 @@
 pub mod atom;
 pub mod atom_set;
 pub mod error;
+mod exact;
 mod sorted;
 pub mod value;
 

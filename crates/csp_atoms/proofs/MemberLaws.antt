@@ -1,0 +1,60 @@
+-- The members of the results of operations on sets of atoms.
+use Rattle.std.proofs.Common.{◌≡◌, Bool, true, false, not, cond, ◌&&◌, ◌||◌, refl, sym, ◌∙◌, ap, subst, inl, inr, List, [], ◌∷◌}
+use Rattle.std.specs.List.{filter}
+use Rattle.csp_atoms.specs.Order.{less, same}
+use Rattle.csp_atoms.specs.Sets.{AllAbove, IsRising, has_atom, with_atom, union_of, inter_of, diff_of}
+use Rattle.csp_atoms.specs.declared.atom.Atom.{Atom}
+use Rattle.csp_atoms.proofs.OrderLaws.{same_exact, same_itself, less_itself, Before, before_from_less, cases_atoms}
+use Rattle.csp_atoms.proofs.ListLaws.{has_not_before, AllAbove-trans}
+
+or_same : (a b : Bool) → (a || b) ≡ (a || (a || b))
+or_same true b = refl
+or_same false b = refl
+
+or_swap : (a b c : Bool) → (a || (b || c)) ≡ (b || (a || c))
+or_swap true true c = refl
+or_swap true false c = refl
+or_swap false b c = refl
+
+or_assoc : (a b c : Bool) → (a || (b || c)) ≡ ((a || b) || c)
+or_assoc true b c = refl
+or_assoc false b c = refl
+
+and_false : (a : Bool) → (a && false) ≡ false
+and_false true = refl
+and_false false = refl
+
+pub has-with_atom : (xs : List Atom) (a z : Atom) → has_atom (with_atom xs a) z ≡ (same a z || has_atom xs z)
+has-with_atom [] a z = refl
+has-with_atom (x ∷ xs) a z =
+    elim (cases_atoms x a) [
+      | inl h ↦ let b = before_from_less x a h in
+          rw (b.not_back, b.is_before) (ap (λ t. same x z || t) (has-with_atom xs a z) ∙ or_swap (same x z) (same a z) (has_atom xs z))
+      | inr o ↦ elim o [
+        | inl e ↦ subst (λ y. has_atom (with_atom (x ∷ xs) y) z ≡ (same y z || has_atom (x ∷ xs) z)) e (rw (less_itself x) (or_same (same x z) (has_atom xs z)))
+        | inr h ↦ rw h
+      ]
+    ]
+
+pub has-union_of : (xs ys : List Atom) (z : Atom) → has_atom (union_of xs ys) z ≡ (has_atom xs z || has_atom ys z)
+has-union_of [] ys z = refl
+has-union_of (x ∷ xs) ys z =
+    has-with_atom (union_of xs ys) x z ∙ ap (λ t. same x z || t) (has-union_of xs ys z) ∙ or_assoc (same x z) (has_atom xs z) (has_atom ys z)
+
+filter_cases : (p : Atom → Bool) (x z : Atom) (kept whole : List Atom) (t u : Bool) → p x ≡ t → same x z ≡ u → has_atom kept z ≡ (has_atom whole z && p z) → has_atom (cond t (x ∷ kept) kept) z ≡ ((same x z || has_atom whole z) && p z)
+filter_cases p x z kept whole true true e f h = rw f (sym (ap p (sym (same_exact x z f)) ∙ e))
+filter_cases p x z kept whole true false e f h = rw f h
+filter_cases p x z kept whole false true e f h =
+    let none : p z ≡ false = ap p (sym (same_exact x z f)) ∙ e in
+    h ∙ ap (λ t. has_atom whole z && t) none ∙ and_false (has_atom whole z) ∙ rw f (sym none)
+filter_cases p x z kept whole false false e f h = rw f h
+
+pub has-filter : (p : Atom → Bool) (xs : List Atom) (z : Atom) → has_atom (filter p xs) z ≡ (has_atom xs z && p z)
+has-filter p [] z = refl
+has-filter p (x ∷ xs) z = filter_cases p x z (filter p xs) xs (p x) (same x z) refl refl (has-filter p xs z)
+
+pub has-inter_of : (xs ys : List Atom) (z : Atom) → has_atom (inter_of xs ys) z ≡ (has_atom xs z && has_atom ys z)
+has-inter_of xs ys z = has-filter (has_atom ys) xs z
+
+pub has-diff_of : (xs ys : List Atom) (z : Atom) → has_atom (diff_of xs ys) z ≡ (has_atom xs z && not (has_atom ys z))
+has-diff_of xs ys z = has-filter (λ a. not (has_atom ys a)) xs z
