@@ -35,7 +35,6 @@ impl Model for AtomSet {
     ghost inverse = { λ atoms. record { atoms = atoms } };
 }
 
-
 impl AtomSet {
     /// The empty set. It takes no memory yet.
     pub fn new(alloc: Global) -> Self

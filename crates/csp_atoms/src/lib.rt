@@ -6,6 +6,8 @@ pub mod atom_set;
 pub mod error;
 mod exact;
 mod sorted;
+#[cfg(test)]
+mod tests;
 pub mod value;
 
 pub use atom::Atom;

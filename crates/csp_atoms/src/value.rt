@@ -16,7 +16,6 @@ pub enum Value {
     Many(AtomSet),
 }
 
-
 impl Value {
     /// The same value.
     pub fn try_clone(&self, alloc: Global) -> Result<Value, NoMemory>
