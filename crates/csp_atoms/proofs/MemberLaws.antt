@@ -1,0 +1,124 @@
+-- The members of the results of operations on sets of atoms.
+use Rattle.std.proofs.Common.{◌≡◌, ℕ, Bool, true, false, not, cond, ◌&&◌, ◌||◌, refl, sym, ◌∙◌, ap, subst, inl, inr, List, [], ◌∷◌}
+use Rattle.std.specs.List.{filter}
+use Rattle.std.proofs.lemmas.Bool.{false≢true, true≢false, eqb-false}
+use Rattle.csp_atoms.specs.Order.{kind_of, less, same}
+use Rattle.csp_atoms.specs.Sets.{AllAbove, AllOfKind, IsOneKind, IsRising, alike, has_atom, with_atom, union_of, inter_of, diff_of}
+use Rattle.csp_atoms.specs.declared.atom.Atom.{Atom}
+use Rattle.csp_atoms.proofs.OrderLaws.{same_exact, same_itself, less_itself, Before, before_from_less, cases_atoms}
+use Rattle.csp_atoms.proofs.ListLaws.{has_not_before, AllAbove-trans, kind_first}
+
+or_same : (a b : Bool) → (a || b) ≡ (a || (a || b))
+or_same true b = refl
+or_same false b = refl
+
+or_swap : (a b c : Bool) → (a || (b || c)) ≡ (b || (a || c))
+or_swap true true c = refl
+or_swap true false c = refl
+or_swap false b c = refl
+
+or_assoc : (a b c : Bool) → (a || (b || c)) ≡ ((a || b) || c)
+or_assoc true b c = refl
+or_assoc false b c = refl
+
+and_false : (a : Bool) → (a && false) ≡ false
+and_false true = refl
+and_false false = refl
+
+pub has-with_atom : (xs : List Atom) (a z : Atom) → has_atom (with_atom xs a) z ≡ (same a z || has_atom xs z)
+has-with_atom [] a z = refl
+has-with_atom (x ∷ xs) a z =
+    elim (cases_atoms x a) [
+      | inl h ↦ let b = before_from_less x a h in
+          rw (b.not_back, b.is_before) (ap (λ t. same x z || t) (has-with_atom xs a z) ∙ or_swap (same x z) (same a z) (has_atom xs z))
+      | inr o ↦ elim o [
+        | inl e ↦ subst (λ y. has_atom (with_atom (x ∷ xs) y) z ≡ (same y z || has_atom (x ∷ xs) z)) e (rw (less_itself x) (or_same (same x z) (has_atom xs z)))
+        | inr h ↦ rw h
+      ]
+    ]
+
+pub has-union_of : (xs ys : List Atom) (z : Atom) → has_atom (union_of xs ys) z ≡ (has_atom xs z || has_atom ys z)
+has-union_of [] ys z = refl
+has-union_of (x ∷ xs) ys z =
+    has-with_atom (union_of xs ys) x z ∙ ap (λ t. same x z || t) (has-union_of xs ys z) ∙ or_assoc (same x z) (has_atom xs z) (has_atom ys z)
+
+filter_cases : (p : Atom → Bool) (x z : Atom) (kept whole : List Atom) (t u : Bool) → p x ≡ t → same x z ≡ u → has_atom kept z ≡ (has_atom whole z && p z) → has_atom (cond t (x ∷ kept) kept) z ≡ ((same x z || has_atom whole z) && p z)
+filter_cases p x z kept whole true true e f h = rw f (sym (ap p (sym (same_exact x z f)) ∙ e))
+filter_cases p x z kept whole true false e f h = rw f h
+filter_cases p x z kept whole false true e f h =
+    let none : p z ≡ false = ap p (sym (same_exact x z f)) ∙ e in
+    h ∙ ap (λ t. has_atom whole z && t) none ∙ and_false (has_atom whole z) ∙ rw f (sym none)
+filter_cases p x z kept whole false false e f h = rw f h
+
+pub has-filter : (p : Atom → Bool) (xs : List Atom) (z : Atom) → has_atom (filter p xs) z ≡ (has_atom xs z && p z)
+has-filter p [] z = refl
+has-filter p (x ∷ xs) z = filter_cases p x z (filter p xs) xs (p x) (same x z) refl refl (has-filter p xs z)
+
+pub has-inter_of : (xs ys : List Atom) (z : Atom) → has_atom (inter_of xs ys) z ≡ (has_atom xs z && has_atom ys z)
+has-inter_of xs ys z = has-filter (has_atom ys) xs z
+
+pub has-diff_of : (xs ys : List Atom) (z : Atom) → has_atom (diff_of xs ys) z ≡ (has_atom xs z && not (has_atom ys z))
+has-diff_of xs ys z = has-filter (λ a. not (has_atom ys a)) xs z
+
+-- ---- sets of two kinds
+
+other_kind : (t : Bool) (l : ℕ) (x y : Atom) → same y x ≡ t → kind_of y ≡ l → (kind_of x ≡ l → ⊥) → t ≡ false
+other_kind true l x y e k n = absurd (n (ap kind_of (sym (same_exact y x e)) ∙ k))
+other_kind false l x y e k n = refl
+
+pub has_other_kind : (l : ℕ) (x : Atom) (ys : List Atom) → AllOfKind l ys → (kind_of x ≡ l → ⊥) → has_atom ys x ≡ false
+has_other_kind l x [] r n = refl
+has_other_kind l x (y ∷ ys) r n = rw (other_kind (same y x) l x y refl r.0 n) (has_other_kind l x ys r.1 n)
+
+inter_apart : (k l : ℕ) (xs ys : List Atom) → AllOfKind k xs → AllOfKind l ys → (k ≡ l → ⊥) → inter_of xs ys ≡ []
+inter_apart k l [] ys r s n = refl
+inter_apart k l (x ∷ xs) ys r s n = rw (has_other_kind l x ys s (λ h. n (sym r.0 ∙ h))) (inter_apart k l xs ys r.1 s n)
+
+diff_apart : (k l : ℕ) (xs ys : List Atom) → AllOfKind k xs → AllOfKind l ys → (k ≡ l → ⊥) → diff_of xs ys ≡ xs
+diff_apart k l [] ys r s n = refl
+diff_apart k l (x ∷ xs) ys r s n = rw (has_other_kind l x ys s (λ h. n (sym r.0 ∙ h))) (ap (λ l. x ∷ l) (diff_apart k l xs ys r.1 s n))
+
+-- sets of two kinds have nothing in common
+pub inter_of_two_kinds : (xs ys : List Atom) → IsOneKind xs → IsOneKind ys → alike xs ys ≡ false → inter_of xs ys ≡ []
+inter_of_two_kinds [] ys r s h = refl
+inter_of_two_kinds (x ∷ xs) [] r s h = absurd (true≢false h)
+inter_of_two_kinds (x ∷ xs) (y ∷ ys) r s h = inter_apart (kind_of x) (kind_of y) (x ∷ xs) (y ∷ ys) (kind_first x xs r) (kind_first y ys s) (eqb-false (kind_of x) (kind_of y) h)
+
+-- and nothing is taken from the first by the second
+pub diff_of_two_kinds : (xs ys : List Atom) → IsOneKind xs → IsOneKind ys → alike xs ys ≡ false → diff_of xs ys ≡ xs
+diff_of_two_kinds [] ys r s h = refl
+diff_of_two_kinds (x ∷ xs) [] r s h = absurd (true≢false h)
+diff_of_two_kinds (x ∷ xs) (y ∷ ys) r s h = diff_apart (kind_of x) (kind_of y) (x ∷ xs) (y ∷ ys) (kind_first x xs r) (kind_first y ys s) (eqb-false (kind_of x) (kind_of y) h)
+
+-- ---- extensionality
+
+-- rising lists with the same members are equal
+has_first : (x : Atom) (xs : List Atom) → has_atom (x ∷ xs) x ≡ true
+has_first x xs = rw (same_itself x)
+
+first_of_same : (x : Atom) (xs : List Atom) (y : Atom) (ys : List Atom) → AllAbove x xs → AllAbove y ys → ((z : Atom) → has_atom (x ∷ xs) z ≡ has_atom (y ∷ ys) z) → x ≡ y
+first_of_same x xs y ys r s same_members =
+    elim (cases_atoms x y) [
+      | inl h ↦ absurd (true≢false (sym (has_first x xs) ∙ same_members x ∙ has_not_before x (y ∷ ys) (h, AllAbove-trans x y ys h s)))
+      | inr o ↦ elim o [
+        | inl e ↦ e
+        | inr h ↦ absurd (true≢false (sym (has_first y ys) ∙ sym (same_members y) ∙ has_not_before y (x ∷ xs) (h, AllAbove-trans y x xs h r)))
+      ]
+    ]
+
+rest_cases : (t : Bool) (x z : Atom) (xs ys : List Atom) → same x z ≡ t → AllAbove x xs → AllAbove x ys → (t || has_atom xs z) ≡ (t || has_atom ys z) → has_atom xs z ≡ has_atom ys z
+rest_cases true x z xs ys e r s h =
+    let is = same_exact x z e in
+    subst (λ a. has_atom xs a ≡ has_atom ys a) is (has_not_before x xs r ∙ sym (has_not_before x ys s))
+rest_cases false x z xs ys e r s h = h
+
+pub same_set : (xs ys : List Atom) → IsRising xs → IsRising ys → ((z : Atom) → has_atom xs z ≡ has_atom ys z) → xs ≡ ys
+same_set [] [] r s h = refl
+same_set [] (y ∷ ys) r s h = absurd (false≢true (h y ∙ has_first y ys))
+same_set (x ∷ xs) [] r s h = absurd (false≢true (sym (h x) ∙ has_first x xs))
+same_set (x ∷ xs) (y ∷ ys) r s h =
+    let first : x ≡ y = first_of_same x xs y ys r.0 s.0 h in
+    let above : AllAbove x ys = subst (λ z. AllAbove z ys) (sym first) s.0 in
+    let members : (z : Atom) → has_atom (x ∷ xs) z ≡ has_atom (x ∷ ys) z = subst (λ w. (z : Atom) → has_atom (x ∷ xs) z ≡ has_atom (w ∷ ys) z) (sym first) h in
+    let rest = same_set xs ys r.1 s.1 (λ z. rest_cases (same x z) x z xs ys refl r.0 above (members z)) in
+    λ i. first i ∷ rest i

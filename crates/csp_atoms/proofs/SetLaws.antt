@@ -1,0 +1,98 @@
+-- Results of operations on sets of atoms are sets of atoms.
+use Rattle.std.proofs.Common.{◌≡◌, ℕ, ◌+◌, ◌<◌, ◌≤◌, Bool, true, false, eqb, refl, sym, ◌∙◌, ap, subst, List, [], ◌∷◌, Option, Some, None, arith}
+use Rattle.std.specs.Prelude.{ℤ, pos}
+use Rattle.std.proofs.lemmas.Bool.{false≢true, eqb-true}
+use Rattle.std.proofs.lemmas.Cmp.{int_ranked}
+use Rattle.std.proofs.lemmas.Int.{ints}
+use Rattle.std.specs.List.{filter}
+use Rattle.std.specs.List.Sorted.{IsStrictlyIncreasing}
+use Rattle.std.specs.Ordering.{int_cmp, is_lt}
+use Rattle.std.specs.declared.cmp.Ordering.{Ordering}
+use Rattle.std.specs.declared.cmp.Ordering.TheVariants.{Less, Equal, Greater}
+use Rattle.csp_base.specs.Blocks.{AreBlocks, events_of}
+use Rattle.csp_base.proofs.Rising.{RisesFrom, rises_from_increasing, increasing_from_rises}
+use Rattle.csp_base.proofs.Sets.{set_increases}
+use Rattle.csp_atoms.specs.Order.{kind_of, less, same}
+use Rattle.csp_atoms.specs.Sets.{AllAbove, IsRising, AllOfKind, IsOneKind, IsAtomSet, with_atom, union_of, fits, alike, event_atoms, event_number, event_numbers, both_events}
+use Rattle.csp_atoms.specs.declared.atom.Atom.{Atom}
+use Rattle.csp_atoms.specs.declared.atom.Atom.TheVariants as atom
+use Rattle.csp_atoms.proofs.EventLaws.{atoms_of_numbers}
+use Rattle.csp_atoms.proofs.ListLaws.{IsRising-with_atom, IsRising-union_of, IsRising-filter, IsOneKind-filter, kind_with_atom, kind_union_of, kind_first, one_kind}
+
+IsOneKind-with_atom : (xs : List Atom) (a : Atom) → IsOneKind xs → fits xs a ≡ true → IsOneKind (with_atom xs a)
+IsOneKind-with_atom [] a r h = tt
+IsOneKind-with_atom (x ∷ xs) a r h =
+    one_kind (kind_of x) (with_atom (x ∷ xs) a) (kind_with_atom (kind_of x) a (x ∷ xs) (sym (eqb-true (kind_of x) (kind_of a) h)) (kind_first x xs r))
+
+IsOneKind-union_of : (xs ys : List Atom) → IsOneKind xs → IsOneKind ys → alike xs ys ≡ true → IsOneKind (union_of xs ys)
+IsOneKind-union_of [] ys r s h = s
+IsOneKind-union_of (x ∷ xs) [] r s h = one_kind (kind_of x) (union_of (x ∷ xs) []) (kind_union_of (kind_of x) (x ∷ xs) [] (kind_first x xs r) tt)
+IsOneKind-union_of (x ∷ xs) (y ∷ ys) r s h =
+    let same_kinds : kind_of x ≡ kind_of y = eqb-true (kind_of x) (kind_of y) h in
+    one_kind (kind_of x) (union_of (x ∷ xs) (y ∷ ys))
+    (kind_union_of (kind_of x) (x ∷ xs) (y ∷ ys) (kind_first x xs r) (subst (λ k. AllOfKind k (y ∷ ys)) (sym same_kinds) (kind_first y ys s)))
+
+pub IsAtomSet-with_atom : (xs : List Atom) (a : Atom) → IsAtomSet xs → fits xs a ≡ true → IsAtomSet (with_atom xs a)
+IsAtomSet-with_atom xs a r h = (IsRising-with_atom a xs r.0, IsOneKind-with_atom xs a r.1 h)
+
+pub IsAtomSet-union_of : (xs ys : List Atom) → IsAtomSet xs → IsAtomSet ys → alike xs ys ≡ true → IsAtomSet (union_of xs ys)
+IsAtomSet-union_of xs ys r s h = (IsRising-union_of xs ys s.0, IsOneKind-union_of xs ys r.1 s.1 h)
+
+pub IsAtomSet-filter : (p : Atom → Bool) (xs : List Atom) → IsAtomSet xs → IsAtomSet (filter p xs)
+IsAtomSet-filter p xs r = (IsRising-filter p xs r.0, IsOneKind-filter p xs r.1)
+
+-- ---- sets of events
+
+events_less : (o : Ordering) (d e : ℕ) → o ≡ int_cmp (pos d) (pos e) → d < e → is_lt o ≡ true
+events_less Less d e is l = refl
+events_less Equal d e is l = let h : pos d ≡ pos e = int_ranked (pos d) (pos e) Equal is in absurd (omega (arith, ints))
+events_less Greater d e is l = let h = int_ranked (pos d) (pos e) Greater is in absurd (omega (arith, ints, h))
+
+events_rise : (o : Ordering) (d e : ℕ) → o ≡ int_cmp (pos d) (pos e) → is_lt o ≡ true → d < e
+events_rise Less d e is h = let l = int_ranked (pos d) (pos e) Less is in omega (arith, ints, l)
+events_rise Equal d e is h = absurd (false≢true h)
+events_rise Greater d e is h = absurd (false≢true h)
+
+less_event : (d e : ℕ) → d < e → less (atom.Event d) (atom.Event e) ≡ true
+unfolding less
+less_event d e l = events_less (int_cmp (pos d) (pos e)) d e refl l
+
+below_event : (d e : ℕ) → less (atom.Event d) (atom.Event e) ≡ true → d < e
+unfolding less
+below_event d e h = events_rise (int_cmp (pos d) (pos e)) d e refl h
+
+events_above : (d n : ℕ) (es : List ℕ) → d < n → RisesFrom n es → AllAbove (atom.Event d) (event_atoms es)
+events_above d n [] l r = tt
+events_above d n (e ∷ es) l r =
+    let h : n ≤ e = r.0 in
+    (less_event d e (omega arith), events_above d (e + 1) es (omega arith) r.1)
+
+rising_events : (n : ℕ) (es : List ℕ) → RisesFrom n es → IsRising (event_atoms es)
+rising_events n [] r = tt
+rising_events n (e ∷ es) r = (events_above e (e + 1) es (omega arith) r.1, rising_events (e + 1) es r.1)
+
+kind_events : (es : List ℕ) → AllOfKind 3 (event_atoms es)
+kind_events [] = tt
+kind_events (e ∷ es) = (refl, kind_events es)
+
+increase_from : (d : ℕ) (es : List ℕ) → AllAbove (atom.Event d) (event_atoms es) → IsRising (event_atoms es) → RisesFrom (d + 1) es
+increase_from d [] a r = tt
+increase_from d (e ∷ es) a r = (let l : d < e = below_event d e a.0 in omega arith, increase_from e es r.0 r.1)
+
+increasing_atoms : (es : List ℕ) → IsRising (event_atoms es) → IsStrictlyIncreasing es
+increasing_atoms [] r = increasing_from_rises 0 [] tt
+increasing_atoms (e ∷ es) r = increasing_from_rises 0 (e ∷ es) (omega arith, increase_from e es r.0 r.1)
+
+-- the numbers of events that rise as atoms
+pub increasing_numbers : (xs : List Atom) (es : List ℕ) → IsAtomSet xs → Some es ≡ event_numbers xs → IsStrictlyIncreasing es
+increasing_numbers xs es r h = increasing_atoms es (subst IsRising (atoms_of_numbers xs es h) r.0)
+
+pub IsAtomSet-event_atoms : (es : List ℕ) → IsStrictlyIncreasing es → IsAtomSet (event_atoms es)
+IsAtomSet-event_atoms es s = (rising_events 0 es (rises_from_increasing es s), one_kind 3 (event_atoms es) (kind_events es))
+
+pub IsAtomSet-blocks : (ps : List (ℕ × ℕ)) (es : List ℕ) → AreBlocks ps → es ≡ events_of ps → IsAtomSet (event_atoms es)
+IsAtomSet-blocks ps es r is = IsAtomSet-event_atoms es (set_increases ps es r (sym is))
+
+-- the events that a call found, read through a slice of them
+pub increasing_slice : (xs : List Atom) (ds es : List ℕ) (found : Option (List ℕ)) (slice : List Atom) → ds ≡ es → found ≡ Some es → found ≡ event_numbers slice → slice ≡ xs → IsAtomSet xs → IsStrictlyIncreasing ds
+increasing_slice xs ds es found slice d f g h r = subst IsStrictlyIncreasing (sym d) (increasing_numbers xs es r (sym f ∙ g ∙ ap event_numbers h))
