@@ -1,0 +1,14 @@
+//! The typed side of the language: expressions, processes, networks and programs, and what each of them means.
+#![tactic(auto)]
+
+pub mod atoms;
+pub mod expressions;
+pub mod networks;
+pub mod processes;
+pub mod programs;
+
+pub use atoms::{Atom, AtomSet, Event, Value};
+pub use expressions::{BinOp, EventPart, Expr, Gen, SetOp};
+pub use networks::Net;
+pub use processes::{Field, Head, Proc};
+pub use programs::{Body, Channel, Def, EventInfo, Program, ResourceNote, RolesNote};
