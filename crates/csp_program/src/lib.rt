@@ -3,12 +3,14 @@
 
 pub mod atoms;
 pub mod expressions;
+pub mod kinds;
 pub mod networks;
 pub mod processes;
 pub mod programs;
 
 pub use atoms::{Atom, AtomSet, Event, Value};
 pub use expressions::{BinOp, EventPart, Expr, Gen, SetOp};
+pub use kinds::ValueKind;
 pub use networks::Net;
 pub use processes::{Field, Head, Proc};
-pub use programs::{Body, Channel, Def, EventInfo, Program, ResourceNote, RolesNote};
+pub use programs::{Body, Channel, Content, Def, EventInfo, Program, ResourceNote, RolesNote};

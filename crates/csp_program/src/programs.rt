@@ -1,11 +1,15 @@
 //! Programs: what a script says once each of its names has its meaning.
 
+ghost use Rattle.std.specs.Prelude.{◌≡◌};
+ghost use Rattle.csp_program.specs.InOrder.{IsInOrder};
+
 use crate::atoms::{Atom, AtomSet};
 use crate::expressions::Expr;
 use crate::networks::Net;
 use crate::processes::Proc;
 use containers::Items;
 use csp_base::Name;
+use std::marker::Model;
 
 /// An event of the event table.
 #[derive(Debug, Drop)]
@@ -79,9 +83,9 @@ pub struct ResourceNote {
     pub release: u32,
 }
 
-/// A program.
+/// What a program holds.
 #[derive(Debug, Drop)]
-pub struct Program {
+pub struct Content {
     /// The event table.
     pub events: Items<EventInfo>,
     /// The channels.
@@ -96,4 +100,55 @@ pub struct Program {
     pub resources: Items<ResourceNote>,
     /// The asserted network.
     pub root: Net,
+}
+
+/// A program that is in order: what it holds fits together.
+#[derive(Debug, Drop)]
+pub struct Program {
+    content: Content,
+}
+
+impl Model for Program {
+    ghost use Rattle.std.specs.Coded.{codes};
+    ghost use Rattle.csp_program.specs.contracts.expressions.Expr as expression;
+    ghost use Rattle.csp_program.specs.contracts.networks.Net as network;
+    ghost use Rattle.csp_program.specs.contracts.processes.Proc as process;
+    ghost use Rattle.csp_program.specs.declared.programs.Content.{Content};
+
+    ghost Value = { Content };
+
+    ghost coded = { Prim.hlevel (codes, expression.the_row.coded, network.the_row.coded, process.the_row.coded) };
+
+    ghost use Rattle.csp_program.specs.InOrder.{IsInOrder};
+
+    ghost view = { λ p. p.content };
+
+    ghost invariant = { λ p. IsInOrder p.content };
+}
+
+impl Program {
+    /// The program that holds `content`.
+    pub fn new(content: Content) -> Program
+        requires in_order { IsInOrder content }
+        ensures { result ≡ content }
+    {
+        Program { content }
+    }
+
+    /// What the program holds.
+    pub fn content(&self) -> &Content
+        ensures content { result.now ≡ self.now }
+        ensures in_order { IsInOrder result.now }
+    {
+        &self.content
+    }
+
+    /// Takes what the program holds out, to be changed.
+    pub fn into_content(self) -> Content
+        ensures content { result ≡ self }
+        ensures in_order { IsInOrder result }
+    {
+        let Program { content } = self;
+        content
+    }
 }
