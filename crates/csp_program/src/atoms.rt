@@ -1,8 +1,10 @@
 //! Values: events, atoms, sets of atoms.
 
-ghost use Rattle.std.specs.Prelude.{◌≡◌};
+ghost use Rattle.std.specs.Prelude.{◌≡◌, IfOk};
 
 use containers::Items;
+use csp_base::NoMemory;
+use std::alloc::Global;
 use std::marker::Model;
 
 /// The number of an event in the event table of a program.
@@ -47,6 +49,23 @@ impl Model for AtomSet {
     ghost view = { λ s. s.atoms };
 
     ghost inverse = { λ atoms. record { atoms = atoms } };
+}
+
+impl AtomSet {
+    /// The same set.
+    pub fn try_clone(&self, alloc: Global) -> Result<AtomSet, NoMemory>
+        ensures { IfOk result (λ copy. copy ≡ self.now) }
+    {
+        let atoms = Items::from_slice(alloc, self.atoms.as_slice())?;
+        Ok(AtomSet { atoms })
+    }
+
+    /// The atoms, in rising order.
+    pub fn as_slice(&self) -> &[Atom]
+        ensures { result.now ≡ self.now }
+    {
+        self.atoms.as_slice()
+    }
 }
 
 /// The value of an expression.

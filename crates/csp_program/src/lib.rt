@@ -2,6 +2,7 @@
 #![tactic(auto)]
 
 pub mod atoms;
+pub mod copies;
 pub mod expressions;
 pub mod kinds;
 pub mod networks;

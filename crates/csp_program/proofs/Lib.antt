@@ -1,0 +1,2 @@
+pub mod PutFolds
+pub mod PutLaws
