@@ -5,6 +5,7 @@ pub mod EventTable
 pub mod Free
 pub mod InOrder
 pub mod Lists
+pub mod Nesting
 pub mod Outcome
 pub mod Size
 pub mod Substitution

@@ -5,7 +5,9 @@ pub mod atoms;
 pub mod copies;
 pub mod expressions;
 pub mod kinds;
+pub mod net_copies;
 pub mod networks;
+pub mod proc_copies;
 pub mod processes;
 pub mod programs;
 
