@@ -1,0 +1,3 @@
+pub mod PutFolds
+pub mod PutLaws
+pub mod UsesWithin

@@ -1,0 +1,19 @@
+-- The number of an event in the event table, from the places of its fields' values in the channel's field sets.
+use Rattle.std.specs.Prelude.{ℕ, suc, zero, ◌+◌, ◌*◌, Option, Some, None, List, [], ◌∷◌, length}
+use Rattle.csp_program.specs.declared.atoms.Atom.{Atom}
+use Rattle.csp_program.specs.declared.programs.Channel.{Channel}
+
+-- how many lists take one value from each set
+abbrev pub row_count : List (List Atom) → ℕ
+row_count [] = 1
+row_count (set ∷ sets) = length set * row_count sets
+
+abbrev pub event_count : Option (List (List Atom)) → ℕ
+event_count None = 0
+event_count (Some sets) = row_count sets
+
+-- the number of the first event of the channel with the number c
+abbrev pub first_event : List Channel → ℕ → ℕ
+first_event channels zero = 0
+first_event [] (suc c) = 0
+first_event (channel ∷ channels) (suc c) = event_count channel.fields + first_event channels c

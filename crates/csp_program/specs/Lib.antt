@@ -1,0 +1,13 @@
+pub mod Atoms
+pub mod Depth
+pub mod EventNumber
+pub mod EventTable
+pub mod Free
+pub mod InOrder
+pub mod Lists
+pub mod Nesting
+pub mod Outcome
+pub mod Size
+pub mod Substitution
+pub mod Uses
+pub mod Value

@@ -1,0 +1,11 @@
+-- What an evaluation comes to: a value, or the first fault that it meets.
+use Rattle.std.specs.Prelude.{Result, Ok, Err}
+use Rattle.csp_program.specs.declared.kinds.ValueKind.{ValueKind}
+
+abbrev pub Outcome : Type 0 → Type 0
+Outcome A = Result A ValueKind
+
+-- the next step, unless there was a fault
+abbrev pub and_then : {A B : Type 0} → Outcome A → (A → Outcome B) → Outcome B
+and_then (Ok a) next = next a
+and_then (Err kind) next = Err kind

@@ -1,0 +1,302 @@
+-- The value of an expression, or the first fault that evaluation from the left meets.
+--
+-- An operand's kind is looked at as soon as the operand has its value. Names of definitions are worth what their bodies are, with the values of the
+-- arguments; the number of uses that may still be entered goes down by one with each. Bound names have their values in an environment.
+use Rattle.std.specs.Prelude.{ℕ, zero, suc, ◌+◌, ◌-◌, ◌*◌, ◌/◌, ◌%◌, ℤ, pos, negsuc, neg_ℤ, ◌+ℤ◌, ◌-ℤ◌, ◌*ℤ◌, int_lt, int_le, Bool, true, false, not, ◌&&◌, nat_eq, nat_lt, if◌then◌else◌, Option, Some, None, Ok, Err, List, [], ◌∷◌, map, length, drop, slice_get}
+use Rattle.csp_program.specs.Atoms.{added, all_added, alike, diff_of, events_from, inter_of, limited, numbers_from, place_of, same, same_kind, union_of}
+use Rattle.csp_program.specs.EventNumber.{first_event, row_count}
+use Rattle.csp_program.specs.Outcome.{Outcome, and_then}
+use Rattle.csp_program.specs.declared.atoms.Atom.{Atom}
+use Rattle.csp_program.specs.declared.atoms.Atom.TheVariants as atom
+use Rattle.csp_program.specs.declared.atoms.Value.{Value}
+use Rattle.csp_program.specs.declared.atoms.Value.TheVariants.{One, Many}
+use Rattle.csp_program.specs.declared.expressions.BinOp.{BinOp}
+use Rattle.csp_program.specs.declared.expressions.BinOp.TheVariants as op
+use Rattle.csp_program.specs.declared.expressions.Expr.{Expr, fold-Expr}
+use Rattle.csp_program.specs.declared.expressions.Expr.TheFolds.{fold-Gen, fold-EventPart}
+use Rattle.csp_program.specs.declared.expressions.Expr.TheOpen.{Expr-F, Gen-F, EventPart-F}
+use Rattle.csp_program.specs.declared.expressions.EventPart.{EventPart}
+use Rattle.csp_program.specs.declared.expressions.Gen.{Gen}
+use Rattle.csp_program.specs.declared.expressions.SetOp.{SetOp}
+use Rattle.csp_program.specs.declared.expressions.SetOp.TheVariants as set_op
+use Rattle.csp_program.specs.declared.kinds.ValueKind.TheVariants.{Range, Division, OutsideChannel, Kind, SetLimit}
+use Rattle.csp_program.specs.declared.programs.Body.{Body}
+use Rattle.csp_program.specs.declared.programs.Body.TheVariants as body
+use Rattle.csp_program.specs.declared.programs.Channel.{Channel}
+use Rattle.csp_program.specs.declared.programs.Content.{Content}
+use Rattle.csp_program.specs.declared.programs.Def.{Def}
+
+-- the values of the bound names, the last one bound first
+abbrev pub Env : Type 0
+Env = List (ℕ × Value)
+
+abbrev pub bound_value : Env → ℕ → Outcome Value
+bound_value [] x = Err Kind
+bound_value (b ∷ env) x = if nat_eq b.0 x then Ok b.1 else bound_value env x
+
+-- the parameters with the values of the arguments
+abbrev pub bound_to : List ℕ → List Value → Env
+bound_to [] vs = []
+bound_to (x ∷ xs) [] = []
+bound_to (x ∷ xs) (v ∷ vs) = (x, v) ∷ bound_to xs vs
+
+-- an atom is needed
+abbrev pub atom_of : Value → Outcome Atom
+atom_of (One a) = Ok a
+atom_of (Many atoms) = Err Kind
+
+-- a number is needed
+abbrev pub number_of : Value → Outcome ℤ
+number_of (One (atom.Num n)) = Ok n
+number_of (One (atom.Truth b)) = Err Kind
+number_of (One (atom.Const k)) = Err Kind
+number_of (One (atom.Event e)) = Err Kind
+number_of (Many atoms) = Err Kind
+
+-- a truth value is needed
+abbrev pub truth_of : Value → Outcome Bool
+truth_of (One (atom.Num n)) = Err Kind
+truth_of (One (atom.Truth b)) = Ok b
+truth_of (One (atom.Const k)) = Err Kind
+truth_of (One (atom.Event e)) = Err Kind
+truth_of (Many atoms) = Err Kind
+
+-- a set is needed
+abbrev pub set_of : Value → Outcome (List Atom)
+set_of (One a) = Err Kind
+set_of (Many atoms) = Ok atoms
+
+abbrev pub number : ℤ → Value
+number n = One (atom.Num n)
+
+abbrev pub truth : Bool → Value
+truth b = One (atom.Truth b)
+
+abbrev pub many : Outcome (List Atom) → Outcome Value
+many found = and_then found (λ atoms. Ok (Many atoms))
+
+-- a number from -1,000,000 to 1,000,000
+abbrev pub in_range : ℤ → Outcome Value
+in_range n = if int_le (neg_ℤ (pos 1000000)) n && int_le n (pos 1000000) then Ok (number n) else Err Range
+
+-- the quotient rounded towards the lower number, and the remainder, for a divisor of at least 1
+abbrev pub quotient : ℤ → ℕ → ℤ
+quotient (pos m) d = pos (m / d)
+quotient (negsuc m) d = negsuc (m / d)
+
+abbrev pub remainder : ℤ → ℕ → ℤ
+remainder (pos m) d = pos (m % d)
+remainder (negsuc m) d = pos (d - 1 - m % d)
+
+abbrev pub divided : (ℤ → ℕ → ℤ) → ℤ → ℤ → Outcome Value
+divided f m (pos zero) = Err Division
+divided f m (pos (suc d)) = Ok (number (f m (suc d)))
+divided f m (negsuc d) = Err Division
+
+-- an operator on two numbers, the first of which has its value
+abbrev pub on_numbers : (ℤ → ℤ → Outcome Value) → Value → Outcome Value → Outcome Value
+on_numbers f v second = and_then (number_of v) (λ m. and_then second (λ w. and_then (number_of w) (λ n. f m n)))
+
+-- a comparison of two atoms of one kind
+abbrev pub on_atoms : (Atom → Atom → Bool) → Value → Outcome Value → Outcome Value
+on_atoms f v second = and_then (atom_of v) (λ a. and_then second (λ w. and_then (atom_of w) (λ b. if same_kind a b then Ok (truth (f a b)) else Err Kind)))
+
+-- the second operand is looked at only where the first doesn't decide
+abbrev pub on_truths : Bool → Value → Outcome Value → Outcome Value
+on_truths decides v second = and_then (truth_of v) (λ b.
+    if (if decides then b else not b) then Ok (truth b) else and_then second (λ w. and_then (truth_of w) (λ c. Ok (truth c))))
+
+-- an operator whose first operand has the value v
+abbrev pub binary : BinOp → Value → Outcome Value → Outcome Value
+binary op.Or v second = on_truths true v second
+binary op.And v second = on_truths false v second
+binary op.Eq v second = on_atoms same v second
+binary op.Ne v second = on_atoms (λ a b. not (same a b)) v second
+binary op.Lt v second = on_numbers (λ m n. Ok (truth (int_lt m n))) v second
+binary op.Le v second = on_numbers (λ m n. Ok (truth (int_le m n))) v second
+binary op.Gt v second = on_numbers (λ m n. Ok (truth (int_lt n m))) v second
+binary op.Ge v second = on_numbers (λ m n. Ok (truth (int_le n m))) v second
+binary op.Add v second = on_numbers (λ m n. in_range (m +ℤ n)) v second
+binary op.Sub v second = on_numbers (λ m n. in_range (m -ℤ n)) v second
+binary op.Mul v second = on_numbers (λ m n. in_range (m *ℤ n)) v second
+binary op.Div v second = on_numbers (divided quotient) v second
+binary op.Rem v second = on_numbers (divided remainder) v second
+
+abbrev pub set_binary : SetOp → List Atom → List Atom → Outcome (List Atom)
+set_binary set_op.Union xs ys = if alike xs ys then limited (union_of xs ys) else Err Kind
+set_binary set_op.Inter xs ys = limited (inter_of xs ys)
+set_binary set_op.Diff xs ys = limited (diff_of xs ys)
+
+abbrev pub natural : ℤ → ℕ
+natural (pos n) = n
+natural (negsuc n) = 0
+
+-- all numbers from m to n, none if m is above n
+abbrev pub range : ℤ → ℤ → Outcome (List Atom)
+range m n = limited (numbers_from m (natural (n -ℤ m +ℤ pos 1)))
+
+-- an expression with its environment still to come
+abbrev pub Meaning : Type 0
+Meaning = Env → Outcome Value
+
+-- a generator, with the meaning of its expression
+pub data Turn : Type 0 where
+  from : ℕ → Meaning → Turn
+  when : Meaning → Turn
+
+-- the front of an event, with the meanings of its fields
+pub record Front : Type 0 where
+  pub channel : ℕ
+  pub fields : List Meaning
+
+-- what a list of generators has gathered: how many bindings, and which atoms
+pub record Gathered : Type 0 where
+  pub bindings : ℕ
+  pub atoms : List Atom
+
+-- the values of a list of expressions, from the left
+abbrev pub values_of : List Meaning → Env → Outcome (List Value)
+values_of [] env = Ok []
+values_of (e ∷ es) env = and_then (e env) (λ v. and_then (values_of es env) (λ vs. Ok (v ∷ vs)))
+
+-- the set with the values of items in it, from the left
+abbrev pub items_added : List Meaning → Env → List Atom → Outcome (List Atom)
+items_added [] env atoms = Ok atoms
+items_added (e ∷ es) env atoms = and_then (e env) (λ v. and_then (atom_of v) (λ a. and_then (added atoms a) (λ more. items_added es env more)))
+
+abbrev pub found_place : Option ℕ → Outcome ℕ
+found_place None = Err OutsideChannel
+found_place (Some n) = Ok n
+
+-- the place of a value in the values of a field
+abbrev pub field_place : List Atom → Value → Outcome ℕ
+field_place set (One a) = found_place (place_of set a)
+field_place set (Many atoms) = Err OutsideChannel
+
+-- the number of the first fields of an event among all that these fields can be, where the fields before them have the number n
+abbrev pub fields_number : List Meaning → List (List Atom) → Env → ℕ → Outcome ℕ
+fields_number [] sets env n = Ok n
+fields_number (e ∷ es) [] env n = Err OutsideChannel
+fields_number (e ∷ es) (set ∷ sets) env n =
+    and_then (e env) (λ v. and_then (field_place set v) (λ k. fields_number es sets env (n * length set + k)))
+
+-- how many events begin with one choice of the first fields
+abbrev pub events_each : List Meaning → List (List Atom) → ℕ
+events_each fields sets = row_count (drop (length fields) sets)
+
+abbrev pub sets_of : Option Channel → Option (List (List Atom))
+sets_of None = None
+sets_of (Some channel) = channel.fields
+
+-- The number of the first event that begins with these fields, where the channel's first event has the number first. While a channel has no field
+-- sets, nothing of it has a value.
+abbrev pub front_number : ℕ → Option (List (List Atom)) → List Meaning → Env → Outcome ℕ
+front_number first None fields env = Err Kind
+front_number first (Some sets) fields env = and_then (fields_number fields sets env 0) (λ n. Ok (first + n * events_each fields sets))
+
+abbrev pub front_count : Option (List (List Atom)) → List Meaning → ℕ
+front_count None fields = 0
+front_count (Some sets) fields = events_each fields sets
+
+-- the set with all events of the fronts in it
+abbrev pub fronts_added : List Channel → List Front → Env → List Atom → Outcome (List Atom)
+fronts_added channels [] env atoms = Ok atoms
+fronts_added channels (f ∷ fs) env atoms =
+    and_then (front_number (first_event channels f.channel) (sets_of (slice_get channels f.channel)) f.fields env) (λ e.
+    and_then (all_added atoms (events_from e (front_count (sets_of (slice_get channels f.channel)) f.fields))) (λ more.
+    fronts_added channels fs env more))
+
+-- one step for each atom, in rising order
+abbrev pub over : List Atom → (Atom → Gathered → Outcome Gathered) → Gathered → Outcome Gathered
+over [] step state = Ok state
+over (a ∷ rest) step state = and_then (step a state) (λ next. over rest step next)
+
+-- The bindings of a list of generators, walked in nested loops: each set and condition is evaluated under the names before it.
+abbrev pub walked : List Turn → (Env → Gathered → Outcome Gathered) → Env → Gathered → Outcome Gathered
+walked [] gather env state = gather env state
+walked (from x s ∷ turns) gather env state =
+    and_then (s env) (λ v. and_then (set_of v) (λ atoms. over atoms (λ a. walked turns gather ((x, One a) ∷ env)) state))
+walked (when c ∷ turns) gather env state =
+    and_then (c env) (λ v. and_then (truth_of v) (λ b. if b then walked turns gather env state else Ok state))
+
+-- one more binding, and what it adds
+abbrev pub gathered : (Env → List Atom → Outcome (List Atom)) → Env → Gathered → Outcome Gathered
+gathered adds env state =
+    if nat_lt state.bindings 1048576
+    then and_then (adds env state.atoms) (λ atoms. Ok (record { bindings = state.bindings + 1; atoms = atoms }))
+    else Err SetLimit
+
+-- what all bindings add to the empty set
+abbrev pub comprehension : List Turn → (Env → List Atom → Outcome (List Atom)) → Env → Outcome Value
+comprehension turns adds env =
+    and_then (walked turns (gathered adds) env (record { bindings = 0; atoms = [] })) (λ state. Ok (Many state.atoms))
+
+-- what uses of definitions are worth
+abbrev pub Uses : Type 0
+Uses = ℕ → List Value → Outcome Value
+
+module _ (uses : Uses) (channels : List Channel) where
+  abbrev pub meaning_of_layer : Expr-F Meaning Turn Front → Meaning
+  meaning_of_layer (Expr-F.Num n) env = Ok (number n)
+  meaning_of_layer (Expr-F.Truth b) env = Ok (truth b)
+  meaning_of_layer (Expr-F.Const k) env = Ok (One (atom.Const k))
+  meaning_of_layer (Expr-F.Bound x) env = bound_value env x
+  meaning_of_layer (Expr-F.Lit v) env = Ok v
+  meaning_of_layer (Expr-F.Neg a) env = and_then (a env) (λ v. and_then (number_of v) (λ n. in_range (neg_ℤ n)))
+  meaning_of_layer (Expr-F.Not a) env = and_then (a env) (λ v. and_then (truth_of v) (λ b. Ok (truth (not b))))
+  meaning_of_layer (Expr-F.Binary o a b) env = and_then (a env) (λ v. binary o v (b env))
+  meaning_of_layer (Expr-F.If c a b) env = and_then (c env) (λ v. and_then (truth_of v) (λ t. if t then a env else b env))
+  meaning_of_layer (Expr-F.Call d args) env = and_then (values_of args env) (λ vs. uses d vs)
+  meaning_of_layer (Expr-F.SetName d) env = and_then (uses d []) (λ v. many (set_of v))
+  meaning_of_layer (Expr-F.Event c fields) env =
+      and_then (front_number (first_event channels c) (sets_of (slice_get channels c)) fields env) (λ e. Ok (One (atom.Event e)))
+  meaning_of_layer (Expr-F.Display items) env = many (items_added items env [])
+  meaning_of_layer (Expr-F.Range a b) env =
+      and_then (a env) (λ v. and_then (number_of v) (λ m. and_then (b env) (λ w. and_then (number_of w) (λ n. many (range m n)))))
+  meaning_of_layer (Expr-F.Comp items turns) env = comprehension turns (items_added items) env
+  meaning_of_layer (Expr-F.Product fronts turns) env = comprehension turns (fronts_added channels fronts) env
+  meaning_of_layer (Expr-F.SetOp o a b) env =
+      and_then (a env) (λ v. and_then (set_of v) (λ xs. and_then (b env) (λ w. and_then (set_of w) (λ ys. many (set_binary o xs ys)))))
+
+  abbrev pub turn_of_layer : Gen-F Meaning Turn Front → Turn
+  turn_of_layer (Gen-F.From x s) = from x s
+  turn_of_layer (Gen-F.Cond c) = when c
+
+  abbrev pub front_of_layer : EventPart-F Meaning Turn Front → Front
+  front_of_layer part = record { channel = part.channel; fields = part.fields }
+
+  -- what an expression means, over what uses of definitions are worth
+  abbrev pub meaning : Expr → Meaning
+  meaning = fold-Expr Meaning Turn Front meaning_of_layer turn_of_layer front_of_layer
+
+  abbrev pub turn : Gen → Turn
+  turn = fold-Gen Meaning Turn Front meaning_of_layer turn_of_layer front_of_layer
+
+  abbrev pub front : EventPart → Front
+  front = fold-EventPart Meaning Turn Front meaning_of_layer turn_of_layer front_of_layer
+
+-- the worth of a body with the values of its arguments
+abbrev pub body_value : (Expr → Meaning) → List ℕ → Body → List Value → Outcome Value
+body_value value params (body.Datum e) args = value e (bound_to params args)
+body_value value params (body.Nametype e) args = value e []
+body_value value params (body.Datatype ks) args = many (all_added [] (map (λ k. atom.Const k) ks))
+body_value value params (body.Process p) args = Err Kind
+body_value value params (body.Network n) args = Err Kind
+
+abbrev pub def_value : (Expr → Meaning) → Option Def → List Value → Outcome Value
+def_value value None args = Err Kind
+def_value value (Some def) args = body_value value def.params def.body args
+
+-- what uses are worth where n uses may still be entered, one inside another
+abbrev pub uses_within : Content → ℕ → Uses
+uses_within p zero d args = Err Kind
+uses_within p (suc n) d args = def_value (meaning (uses_within p n) p.channels) (slice_get p.defs d) args
+
+-- the value of an expression where n uses may still be entered
+abbrev pub value_within : Content → ℕ → Expr → Env → Outcome Value
+value_within p n e env = meaning (uses_within p n) p.channels e env
+
+-- The value of a closed expression. Since no definition of data reaches itself, no more uses are entered one inside another than there are
+-- definitions.
+abbrev pub value_of : Content → Expr → Outcome Value
+value_of p e = value_within p (length p.defs) e []

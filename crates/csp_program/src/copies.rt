@@ -1,0 +1,225 @@
+//! Copies of trees, in memory of their own.
+
+ghost use Rattle.std.specs.Prelude.{◌≡◌, IfOk};
+
+use crate::atoms::Value;
+use crate::expressions::{EventPart, Expr, Gen};
+use crate::processes::{Field, Head};
+use containers::{Boxed, Items};
+use csp_base::NoMemory;
+use std::alloc::Global;
+
+/// The same value.
+pub fn copy_value(alloc: Global, value: &Value) -> Result<Value, NoMemory>
+    ensures { IfOk result (λ copy. copy ≡ value.now) }
+{
+    match value {
+        Value::One(atom) => Ok(Value::One(*atom)),
+        Value::Many(atoms) => Ok(Value::Many(atoms.try_clone(alloc)?)),
+    }
+}
+
+/// The same expression.
+#[cycle(copy_expr)]
+pub fn copy_expr(alloc: Global, expr: &Expr) -> Result<Expr, NoMemory>
+    ensures { IfOk result (λ copy. copy ≡ expr.now) }
+{
+    match expr {
+        Expr::Num(number) => Ok(Expr::Num(*number)),
+        Expr::Truth(truth) => Ok(Expr::Truth(*truth)),
+        Expr::Const(number) => Ok(Expr::Const(*number)),
+        Expr::Bound(slot) => Ok(Expr::Bound(*slot)),
+        Expr::Lit(value) => Ok(Expr::Lit(copy_value(alloc, value)?)),
+        Expr::Neg(a) => Ok(Expr::Neg(copy_boxed_expr(alloc, a.get())?)),
+        Expr::Not(a) => Ok(Expr::Not(copy_boxed_expr(alloc, a.get())?)),
+        Expr::Binary(op, a, b) => {
+            let a = copy_boxed_expr(alloc, a.get())?;
+            let b = copy_boxed_expr(alloc, b.get())?;
+            Ok(Expr::Binary(*op, a, b))
+        }
+        Expr::If(c, a, b) => {
+            let c = copy_boxed_expr(alloc, c.get())?;
+            let a = copy_boxed_expr(alloc, a.get())?;
+            let b = copy_boxed_expr(alloc, b.get())?;
+            Ok(Expr::If(c, a, b))
+        }
+        Expr::Call(def, args) => Ok(Expr::Call(*def, copy_exprs(alloc, args.as_slice())?)),
+        Expr::SetName(def) => Ok(Expr::SetName(*def)),
+        Expr::Event(channel, fields) => Ok(Expr::Event(
+            *channel,
+            copy_exprs(alloc, fields.as_slice())?,
+        )),
+        Expr::Display(items) => Ok(Expr::Display(copy_exprs(alloc, items.as_slice())?)),
+        Expr::Range(a, b) => {
+            let a = copy_boxed_expr(alloc, a.get())?;
+            let b = copy_boxed_expr(alloc, b.get())?;
+            Ok(Expr::Range(a, b))
+        }
+        Expr::Comp(items, gens) => {
+            let items = copy_exprs(alloc, items.as_slice())?;
+            let gens = copy_gens(alloc, gens.as_slice())?;
+            Ok(Expr::Comp(items, gens))
+        }
+        Expr::Product(parts, gens) => {
+            let parts = copy_parts(alloc, parts.as_slice())?;
+            let gens = copy_gens(alloc, gens.as_slice())?;
+            Ok(Expr::Product(parts, gens))
+        }
+        Expr::SetOp(op, a, b) => {
+            let a = copy_boxed_expr(alloc, a.get())?;
+            let b = copy_boxed_expr(alloc, b.get())?;
+            Ok(Expr::SetOp(*op, a, b))
+        }
+    }
+}
+
+/// The same expression, on the heap.
+#[cycle(copy_expr)]
+pub fn copy_boxed_expr(alloc: Global, expr: &Expr) -> Result<Boxed<Expr>, NoMemory>
+    ensures { IfOk result (λ copy. copy ≡ expr.now) }
+{
+    let copy = copy_expr(alloc, expr)?;
+    Ok(Boxed::new(alloc, copy)?)
+}
+
+/// The same expressions.
+#[cycle(copy_expr)]
+pub fn copy_exprs(alloc: Global, exprs: &[Expr]) -> Result<Items<Expr>, NoMemory>
+    ensures { IfOk result (λ copies. copies ≡ exprs.now) }
+{
+    let mut copies = Items::new(alloc);
+    for expr in exprs {
+        copies.push(copy_expr(alloc, expr)?)?;
+    }
+    Ok(copies)
+}
+
+/// The same generator.
+#[cycle(copy_expr)]
+pub fn copy_gen(alloc: Global, generator: &Gen) -> Result<Gen, NoMemory>
+    ensures { IfOk result (λ copy. copy ≡ generator.now) }
+{
+    match generator {
+        Gen::From(slot, set) => Ok(Gen::From(*slot, copy_expr(alloc, set)?)),
+        Gen::Cond(condition) => Ok(Gen::Cond(copy_expr(alloc, condition)?)),
+    }
+}
+
+/// The same generators.
+#[cycle(copy_expr)]
+pub fn copy_gens(alloc: Global, gens: &[Gen]) -> Result<Items<Gen>, NoMemory>
+    ensures { IfOk result (λ copies. copies ≡ gens.now) }
+{
+    let mut copies = Items::new(alloc);
+    for generator in gens {
+        copies.push(copy_gen(alloc, generator)?)?;
+    }
+    Ok(copies)
+}
+
+/// The same front of an event.
+#[cycle(copy_expr)]
+pub fn copy_part(alloc: Global, part: &EventPart) -> Result<EventPart, NoMemory>
+    ensures { IfOk result (λ copy. copy ≡ part.now) }
+{
+    let fields = copy_exprs(alloc, part.fields.as_slice())?;
+    Ok(EventPart {
+        channel: part.channel,
+        fields,
+    })
+}
+
+/// The same fronts of events.
+#[cycle(copy_expr)]
+pub fn copy_parts(alloc: Global, parts: &[EventPart]) -> Result<Items<EventPart>, NoMemory>
+    ensures { IfOk result (λ copies. copies ≡ parts.now) }
+{
+    let mut copies = Items::new(alloc);
+    for part in parts {
+        copies.push(copy_part(alloc, part)?)?;
+    }
+    Ok(copies)
+}
+
+/// The same head.
+pub fn copy_head(alloc: Global, head: &Head) -> Result<Head, NoMemory>
+    ensures { IfOk result (λ copy. copy ≡ head.now) }
+{
+    match head {
+        Head::Channel(channel) => Ok(Head::Channel(*channel)),
+        Head::Bound(slot) => Ok(Head::Bound(*slot)),
+        Head::Put(value) => Ok(Head::Put(copy_value(alloc, value)?)),
+    }
+}
+
+/// The same field.
+pub fn copy_field(alloc: Global, field: &Field) -> Result<Field, NoMemory>
+    ensures { IfOk result (λ copy. copy ≡ field.now) }
+{
+    match field {
+        Field::Put(expr) => Ok(Field::Put(copy_expr(alloc, expr)?)),
+        Field::Get(slot, None) => Ok(Field::Get(*slot, None)),
+        Field::Get(slot, Some(set)) => Ok(Field::Get(*slot, Some(copy_expr(alloc, set)?))),
+    }
+}
+
+/// The same fields.
+pub fn copy_fields(alloc: Global, fields: &[Field]) -> Result<Items<Field>, NoMemory>
+    ensures { IfOk result (λ copies. copies ≡ fields.now) }
+{
+    let mut copies = Items::new(alloc);
+    for field in fields {
+        copies.push(copy_field(alloc, field)?)?;
+    }
+    Ok(copies)
+}
+
+/// The same pair of a renaming.
+pub fn copy_pair(
+    alloc: Global,
+    pair: &(EventPart, EventPart),
+) -> Result<(EventPart, EventPart), NoMemory>
+    ensures { IfOk result (λ copy. copy ≡ pair.now) }
+{
+    let old = copy_part(alloc, &pair.0)?;
+    let new = copy_part(alloc, &pair.1)?;
+    Ok((old, new))
+}
+
+/// The same pairs of a renaming.
+pub fn copy_pairs(
+    alloc: Global,
+    pairs: &[(EventPart, EventPart)],
+) -> Result<Items<(EventPart, EventPart)>, NoMemory>
+    ensures { IfOk result (λ copies. copies ≡ pairs.now) }
+{
+    let mut copies = Items::new(alloc);
+    for pair in pairs {
+        copies.push(copy_pair(alloc, pair)?)?;
+    }
+    Ok(copies)
+}
+
+#[cfg(test)]
+mod tests {
+    use super::{copy_expr, copy_field};
+    use crate::expressions::{BinOp, Expr};
+    use crate::processes::Field;
+    use containers::{Boxed, Items};
+    use std::test::Fail;
+
+    #[test]
+    fn copies_trees(rt: HostRuntime) -> Result<(), Fail> {
+        let alloc = rt.alloc();
+        let left = Boxed::new(alloc, Expr::Num(-3))?;
+        let right = Boxed::new(alloc, Expr::Display(Items::new(alloc)))?;
+        let expr = Expr::Binary(BinOp::Or, left, right);
+        let copy = copy_expr(alloc, &expr)?;
+        assert!(rt; copy == expr);
+        assert!(rt; copy != Expr::Num(-3));
+        let field = Field::Get(2, Some(Expr::SetName(1)));
+        let copy = copy_field(alloc, &field)?;
+        assert!(rt; copy == field);
+        Ok(())
+    }
+}

@@ -1,0 +1,106 @@
+//! Expressions, which are worth an atom or a set of atoms.
+
+use crate::atoms::Value;
+use containers::{Boxed, Items};
+
+/// The operators on two atoms.
+#[derive(Clone, Copy, Debug, PartialEq, Eq, Hash)]
+pub enum BinOp {
+    /// `or`
+    Or,
+    /// `and`
+    And,
+    /// `==`
+    Eq,
+    /// `!=`
+    Ne,
+    /// `<`
+    Lt,
+    /// `<=`
+    Le,
+    /// `>`
+    Gt,
+    /// `>=`
+    Ge,
+    /// `+`
+    Add,
+    /// `-`
+    Sub,
+    /// `*`
+    Mul,
+    /// `/`
+    Div,
+    /// `%`
+    Rem,
+}
+
+/// The operators on two sets.
+#[derive(Clone, Copy, Debug, PartialEq, Eq, Hash)]
+pub enum SetOp {
+    /// `union`
+    Union,
+    /// `inter`
+    Inter,
+    /// `diff`
+    Diff,
+}
+
+/// An expression. Parts stand in the order of the text.
+#[cycle(expression)]
+#[derive(Debug, PartialEq, Eq, Hash, Drop)]
+pub enum Expr {
+    /// A number as it is written.
+    Num(i64),
+    /// `true` or `false`.
+    Truth(bool),
+    /// The constant of a datatype with this number.
+    Const(u32),
+    /// The bound name with this number.
+    Bound(u32),
+    /// A value that was put in for a bound name.
+    Lit(Value),
+    /// `-a`
+    Neg(Boxed<Expr>),
+    /// `not a`
+    Not(Boxed<Expr>),
+    /// An operator between two operands.
+    Binary(BinOp, Boxed<Expr>, Boxed<Expr>),
+    /// `if a then b else c`
+    If(Boxed<Expr>, Boxed<Expr>, Boxed<Expr>),
+    /// The definition with this number, and its arguments.
+    Call(u32, Items<Expr>),
+    /// The use of the nametype or datatype that the definition with this number is.
+    SetName(u32),
+    /// The event of the channel with this number whose fields have these values.
+    Event(u32, Items<Expr>),
+    /// `{a, b}`
+    Display(Items<Expr>),
+    /// `{a..b}`
+    Range(Boxed<Expr>, Boxed<Expr>),
+    /// `{a, b | gens}`
+    Comp(Items<Expr>, Items<Gen>),
+    /// `{| c.a, d | gens |}`
+    Product(Items<EventPart>, Items<Gen>),
+    /// `union(a, b)` and its kin.
+    SetOp(SetOp, Boxed<Expr>, Boxed<Expr>),
+}
+
+/// The front of an event: a channel and its first fields.
+#[cycle(expression)]
+#[derive(Debug, PartialEq, Eq, Hash, Drop)]
+pub struct EventPart {
+    /// The number of the channel.
+    pub channel: u32,
+    /// The fields that are given, from the first one on.
+    pub fields: Items<Expr>,
+}
+
+/// A part of a list of generators.
+#[cycle(expression)]
+#[derive(Debug, PartialEq, Eq, Hash, Drop)]
+pub enum Gen {
+    /// The bound name with this number takes each element of the set.
+    From(u32, Expr),
+    /// The condition holds.
+    Cond(Expr),
+}

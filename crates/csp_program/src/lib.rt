@@ -1,0 +1,19 @@
+//! The typed side of the language: expressions, processes, networks and programs, and what each of them means.
+#![tactic(auto)]
+
+pub mod atoms;
+pub mod copies;
+pub mod expressions;
+pub mod kinds;
+pub mod net_copies;
+pub mod networks;
+pub mod proc_copies;
+pub mod processes;
+pub mod programs;
+
+pub use atoms::{Atom, AtomSet, Event, Value};
+pub use expressions::{BinOp, EventPart, Expr, Gen, SetOp};
+pub use kinds::ValueKind;
+pub use networks::Net;
+pub use processes::{Field, Head, Proc};
+pub use programs::{Body, Channel, Content, Def, EventInfo, Program, ResourceNote, RolesNote};

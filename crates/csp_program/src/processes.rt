@@ -1,0 +1,58 @@
+//! Processes: what a component does.
+
+use crate::atoms::Value;
+use crate::expressions::{EventPart, Expr, Gen};
+use containers::{Boxed, Items};
+
+/// What the event of a prefix begins with.
+#[derive(Debug, PartialEq, Eq, Hash, Drop)]
+pub enum Head {
+    /// The channel with this number.
+    Channel(u32),
+    /// The bound name with this number, without fields; its value must be an event.
+    Bound(u32),
+    /// The value that was put in for such a name.
+    Put(Value),
+}
+
+/// A field of a prefix.
+#[derive(Debug, PartialEq, Eq, Hash, Drop)]
+pub enum Field {
+    /// A field that has the value of the expression.
+    Put(Expr),
+    /// An input: the bound name with this number takes a value of the channel's field that is also in the set, where one is given.
+    Get(u32, Option<Expr>),
+}
+
+/// A process. Parts stand in the order of the text.
+#[derive(Debug, PartialEq, Eq, Hash, Drop)]
+pub enum Proc {
+    /// `STOP`
+    Stop,
+    /// `c.a?x -> P`
+    Prefix(Head, Items<Field>, Boxed<Proc>),
+    /// `a & P`
+    Guard(Expr, Boxed<Proc>),
+    /// `if a then P else Q`
+    If(Expr, Boxed<Proc>, Boxed<Proc>),
+    /// `P [] Q`
+    External(Items<Proc>),
+    /// `P |~| Q`
+    Internal(Items<Proc>),
+    /// `[] x:S @ P`
+    EachExternal(u32, Expr, Boxed<Proc>),
+    /// `|~| x:S @ P`
+    EachInternal(u32, Expr, Boxed<Proc>),
+    /// `P \ S`
+    Hide(Boxed<Proc>, Expr),
+    /// `P[[a <- b | gens]]`
+    Rename(Boxed<Proc>, Items<(EventPart, EventPart)>, Items<Gen>),
+    /// The definition with this number, and its arguments.
+    Call(u32, Items<Expr>),
+    /// `SKIP`
+    Skip,
+    /// `P ; Q`
+    Seq(Boxed<Proc>, Boxed<Proc>),
+    /// What stands after a tick. No text spells it.
+    Ended,
+}

@@ -1,0 +1,154 @@
+//! Programs: what a script says once each of its names has its meaning.
+
+ghost use Rattle.std.specs.Prelude.{◌≡◌};
+ghost use Rattle.csp_program.specs.InOrder.{IsInOrder};
+
+use crate::atoms::{Atom, AtomSet};
+use crate::expressions::Expr;
+use crate::networks::Net;
+use crate::processes::Proc;
+use containers::Items;
+use csp_base::Name;
+use std::marker::Model;
+
+/// An event of the event table.
+#[derive(Debug, Drop)]
+pub struct EventInfo {
+    /// The number of its channel.
+    pub channel: u32,
+    /// The values of its fields.
+    pub fields: Items<Atom>,
+}
+
+/// A channel.
+#[derive(Debug, Drop)]
+pub struct Channel {
+    /// Its name.
+    pub name: Name,
+    /// The type of each field, as it is written.
+    pub types: Items<Expr>,
+    /// The values of each field, once they are known.
+    pub fields: Option<Items<AtomSet>>,
+}
+
+/// What a definition's name stands for.
+#[derive(Debug, Drop)]
+pub enum Body {
+    /// A value.
+    Datum(Expr),
+    /// A set with a name.
+    Nametype(Expr),
+    /// The constants with these numbers.
+    Datatype(Items<u32>),
+    /// A process.
+    Process(Proc),
+    /// A network.
+    Network(Net),
+}
+
+/// A definition.
+#[derive(Debug, Drop)]
+pub struct Def {
+    /// Its name.
+    pub name: Name,
+    /// The numbers of its parameters.
+    pub params: Items<u32>,
+    /// What the name stands for.
+    pub body: Body,
+}
+
+/// The roles of a process, by the numbers of the definitions that the annotation names.
+#[derive(Clone, Copy, Debug, PartialEq, Eq)]
+pub struct RolesNote {
+    /// The process.
+    pub process: u32,
+    /// The requests that it makes.
+    pub creq: u32,
+    /// The acknowledgements that it waits for.
+    pub cack: u32,
+    /// The requests that it serves.
+    pub sreq: u32,
+    /// The acknowledgements that it gives.
+    pub sack: u32,
+}
+
+/// A process that is a resource, by the numbers of the definitions that the annotation names.
+#[derive(Clone, Copy, Debug, PartialEq, Eq)]
+pub struct ResourceNote {
+    /// The process.
+    pub process: u32,
+    /// The events by which a user acquires it.
+    pub acquire: u32,
+    /// The events by which its user releases it.
+    pub release: u32,
+}
+
+/// What a program holds.
+#[derive(Debug, Drop)]
+pub struct Content {
+    /// The event table.
+    pub events: Items<EventInfo>,
+    /// The channels.
+    pub channels: Items<Channel>,
+    /// The names of the datatypes' constants.
+    pub consts: Items<Name>,
+    /// The definitions.
+    pub defs: Items<Def>,
+    /// The annotations of roles.
+    pub roles: Items<RolesNote>,
+    /// The annotations of resources.
+    pub resources: Items<ResourceNote>,
+    /// The asserted network.
+    pub root: Net,
+}
+
+/// A program that is in order: what it holds fits together.
+#[derive(Debug, Drop)]
+pub struct Program {
+    content: Content,
+}
+
+impl Model for Program {
+    ghost use Rattle.std.specs.Coded.{codes};
+    ghost use Rattle.csp_program.specs.contracts.expressions.Expr as expression;
+    ghost use Rattle.csp_program.specs.contracts.networks.Net as network;
+    ghost use Rattle.csp_program.specs.contracts.processes.Proc as process;
+    ghost use Rattle.csp_program.specs.declared.programs.Content.{Content};
+
+    ghost Value = { Content };
+
+    ghost coded = { Prim.hlevel (codes, expression.the_row.coded, network.the_row.coded, process.the_row.coded) };
+
+    ghost use Rattle.csp_program.specs.InOrder.{IsInOrder};
+
+    ghost view = { λ p. p.content };
+
+    ghost invariant = { λ p. IsInOrder p.content };
+}
+
+impl Program {
+    /// The program that holds `content`.
+    pub fn new(content: Content) -> Program
+        requires in_order { IsInOrder content }
+        ensures { result ≡ content }
+    {
+        Program { content }
+    }
+
+    /// What the program holds.
+    pub fn content(&self) -> &Content
+        ensures content { result.now ≡ self.now }
+        ensures in_order { IsInOrder result.now }
+    {
+        &self.content
+    }
+
+    /// Takes what the program holds out, to be changed.
+    pub fn into_content(self) -> Content
+        ensures content { result ≡ self }
+        ensures in_order { IsInOrder result }
+    {
+        let Program { content } = self;
+        content
+    }
+}
