@@ -1,7 +1,7 @@
 -- What a fold gives of an expression stays the same under a substitution, if it gives the same of the value and of a bound name.
 use Rattle.std.proofs.Common.{◌≡◌, ℕ, Bool, true, false, cond, nat_eq, List, [], ◌∷◌, map, refl, ap, sym, ◌∙◌, subst}
 use Rattle.csp_program.specs.Substitution.{expr_put, gen_put, part_put, expr_put_of_layer, gen_put_of_layer, part_put_of_layer, put, kept, unless_bound, all_unless_bound, any_binds, binds, put_gens, Twice}
-use Rattle.csp_program.specs.declared.atoms.Value.{Value}
+use Rattle.csp_atoms.specs.declared.value.Value.{Value}
 use Rattle.csp_program.specs.declared.expressions.Expr.{Expr}
 use Rattle.csp_program.specs.declared.expressions.Expr.TheVariants as expr
 use Rattle.csp_program.specs.declared.expressions.Expr.TheFolds.{fold-Expr, fold-Gen, fold-EventPart, fold-roll-Expr, fold-roll-Gen, fold-roll-EventPart, para-roll-Expr, para-roll-Gen, para-roll-EventPart, ind-Expr, map-Expr, map-Gen, map-EventPart}

@@ -5,7 +5,7 @@ use Rattle.csp_program.specs.Free.{Names}
 use Rattle.csp_program.specs.InOrder.{value_in_order, expr_in_order, expr_in_order_of_layer, gen_in_order_of_layer, part_in_order_of_layer}
 use Rattle.csp_program.specs.Substitution.{expr_put}
 use Rattle.csp_program.specs.Uses.{expr_uses, expr_uses_of_layer, gen_uses_of_layer, part_uses_of_layer}
-use Rattle.csp_program.specs.declared.atoms.Value.{Value}
+use Rattle.csp_atoms.specs.declared.value.Value.{Value}
 use Rattle.csp_program.specs.declared.expressions.Expr.{Expr}
 use Rattle.csp_program.specs.declared.programs.Content.{Content}
 use Rattle.csp_program.proofs.PutFolds.{put_keeps_fold}

@@ -7,7 +7,7 @@ use Rattle.csp_program.specs.Nesting.{NestsWithin, DefNests, BodyNests}
 use Rattle.csp_program.specs.Uses.{expr_uses, expr_uses_of_layer, gen_uses_of_layer, part_uses_of_layer}
 use Rattle.csp_program.specs.Value.{Uses, Meaning, Turn, Front, meaning, turn, front, meaning_of_layer, turn_of_layer, front_of_layer, body_value, def_value, uses_within, value_within, bound_to, many, set_of, values_of}
 use Rattle.csp_program.specs.Outcome.{Outcome, and_then}
-use Rattle.csp_program.specs.declared.atoms.Value.{Value}
+use Rattle.csp_atoms.specs.declared.value.Value.{Value}
 use Rattle.csp_program.specs.declared.expressions.Expr.{Expr}
 use Rattle.csp_program.specs.declared.expressions.Expr.TheFolds.{fold-Gen, fold-EventPart, fold-roll-Expr, fold-roll-Gen, fold-roll-EventPart, ind-Expr, map-Expr, map-Gen, map-EventPart}
 use Rattle.csp_program.specs.declared.expressions.Expr.TheOpen.{Expr-F, Gen-F, EventPart-F}

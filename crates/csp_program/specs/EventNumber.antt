@@ -1,6 +1,6 @@
 -- The number of an event in the event table, from the places of its fields' values in the channel's field sets.
 use Rattle.std.specs.Prelude.{ℕ, suc, zero, ◌+◌, ◌*◌, Option, Some, None, List, [], ◌∷◌, length}
-use Rattle.csp_program.specs.declared.atoms.Atom.{Atom}
+use Rattle.csp_atoms.specs.declared.atom.Atom.{Atom}
 use Rattle.csp_program.specs.declared.programs.Channel.{Channel}
 
 -- how many lists take one value from each set

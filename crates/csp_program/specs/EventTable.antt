@@ -2,7 +2,7 @@
 -- field slowest. A channel that has no field sets yet has no events.
 use Rattle.std.specs.Prelude.{ℕ, ◌+◌, ◌*◌, Option, Some, None, List, [], ◌∷◌, ◌++◌, map, length}
 use Rattle.csp_program.specs.Lists.{joined}
-use Rattle.csp_program.specs.declared.atoms.Atom.{Atom}
+use Rattle.csp_atoms.specs.declared.atom.Atom.{Atom}
 use Rattle.csp_program.specs.declared.programs.Channel.{Channel}
 use Rattle.csp_program.specs.declared.programs.EventInfo.{EventInfo}
 

@@ -6,10 +6,10 @@ use Rattle.csp_program.specs.EventTable.{event_table}
 use Rattle.csp_program.specs.Free.{Names, IsClosed, expr_free, proc_free, net_free}
 use Rattle.csp_program.specs.Lists.{all_true, has_number}
 use Rattle.csp_program.specs.Uses.{Reaches}
-use Rattle.csp_program.specs.declared.atoms.Atom.{Atom}
-use Rattle.csp_program.specs.declared.atoms.Atom.TheVariants as atom
-use Rattle.csp_program.specs.declared.atoms.Value.{Value}
-use Rattle.csp_program.specs.declared.atoms.Value.TheVariants.{One, Many}
+use Rattle.csp_atoms.specs.declared.atom.Atom.{Atom}
+use Rattle.csp_atoms.specs.declared.atom.Atom.TheVariants as atom
+use Rattle.csp_atoms.specs.declared.value.Value.{Value}
+use Rattle.csp_atoms.specs.declared.value.Value.TheVariants.{One, Many}
 use Rattle.csp_program.specs.declared.expressions.Expr.{Expr, fold-Expr}
 use Rattle.csp_program.specs.declared.expressions.Expr.TheFolds.{fold-Gen, fold-EventPart}
 use Rattle.csp_program.specs.declared.expressions.Expr.TheOpen.{Expr-F, Gen-F, EventPart-F}

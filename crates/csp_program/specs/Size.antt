@@ -2,8 +2,8 @@
 -- that was put in. The front of an event and a head count nothing beside their expressions.
 use Rattle.std.specs.Prelude.{ℕ, ◌+◌, Some, None, List, [], ◌∷◌, map, length}
 use Rattle.csp_program.specs.Lists.{total}
-use Rattle.csp_program.specs.declared.atoms.Value.{Value}
-use Rattle.csp_program.specs.declared.atoms.Value.TheVariants.{One, Many}
+use Rattle.csp_atoms.specs.declared.value.Value.{Value}
+use Rattle.csp_atoms.specs.declared.value.Value.TheVariants.{One, Many}
 use Rattle.csp_program.specs.declared.expressions.Expr.{Expr, fold-Expr}
 use Rattle.csp_program.specs.declared.expressions.Expr.TheFolds.{fold-Gen, fold-EventPart}
 use Rattle.csp_program.specs.declared.expressions.Expr.TheOpen.{Expr-F, Gen-F, EventPart-F}

@@ -1,6 +1,6 @@
 -- Substitution: the value in place of the name wherever the name is free. Below a binding of the same name nothing changes.
 use Rattle.std.specs.Prelude.{ℕ, Bool, true, false, nat_eq, if◌then◌else◌, Some, None, List, [], ◌∷◌, map}
-use Rattle.csp_program.specs.declared.atoms.Value.{Value}
+use Rattle.csp_atoms.specs.declared.value.Value.{Value}
 use Rattle.csp_program.specs.declared.expressions.Expr.{Expr, para-Expr}
 use Rattle.csp_program.specs.declared.expressions.Expr.TheVariants as expr
 use Rattle.csp_program.specs.declared.expressions.Expr.TheFolds.{para-Gen, para-EventPart}

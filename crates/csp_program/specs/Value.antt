@@ -3,13 +3,15 @@
 -- An operand's kind is looked at as soon as the operand has its value. Names of definitions are worth what their bodies are, with the values of the
 -- arguments; the number of uses that may still be entered goes down by one with each. Bound names have their values in an environment.
 use Rattle.std.specs.Prelude.{ℕ, zero, suc, ◌+◌, ◌-◌, ◌*◌, ◌/◌, ◌%◌, ℤ, pos, negsuc, neg_ℤ, ◌+ℤ◌, ◌-ℤ◌, ◌*ℤ◌, int_lt, int_le, Bool, true, false, not, ◌&&◌, nat_eq, nat_lt, if◌then◌else◌, Option, Some, None, Ok, Err, List, [], ◌∷◌, map, length, drop, slice_get}
-use Rattle.csp_program.specs.Atoms.{added, all_added, alike, diff_of, events_from, inter_of, limited, numbers_from, place_of, same, same_kind, union_of}
+use Rattle.csp_atoms.specs.Order.{same, same_kind}
+use Rattle.csp_atoms.specs.Sets.{alike, diff_of, inter_of, place_of, union_of}
+use Rattle.csp_program.specs.Atoms.{added, all_added, events_from, limited, numbers_from}
 use Rattle.csp_program.specs.EventNumber.{first_event, row_count}
 use Rattle.csp_program.specs.Outcome.{Outcome, and_then}
-use Rattle.csp_program.specs.declared.atoms.Atom.{Atom}
-use Rattle.csp_program.specs.declared.atoms.Atom.TheVariants as atom
-use Rattle.csp_program.specs.declared.atoms.Value.{Value}
-use Rattle.csp_program.specs.declared.atoms.Value.TheVariants.{One, Many}
+use Rattle.csp_atoms.specs.declared.atom.Atom.{Atom}
+use Rattle.csp_atoms.specs.declared.atom.Atom.TheVariants as atom
+use Rattle.csp_atoms.specs.declared.value.Value.{Value}
+use Rattle.csp_atoms.specs.declared.value.Value.TheVariants.{One, Many}
 use Rattle.csp_program.specs.declared.expressions.BinOp.{BinOp}
 use Rattle.csp_program.specs.declared.expressions.BinOp.TheVariants as op
 use Rattle.csp_program.specs.declared.expressions.Expr.{Expr, fold-Expr}

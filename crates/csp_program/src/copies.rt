@@ -2,10 +2,10 @@
 
 ghost use Rattle.std.specs.Prelude.{◌≡◌, IfOk};
 
-use crate::atoms::Value;
 use crate::expressions::{EventPart, Expr, Gen};
 use crate::processes::{Field, Head};
 use containers::{Boxed, Items};
+use csp_atoms::Value;
 use csp_base::NoMemory;
 use std::alloc::Global;
 
@@ -13,10 +13,7 @@ use std::alloc::Global;
 pub fn copy_value(alloc: Global, value: &Value) -> Result<Value, NoMemory>
     ensures { IfOk result (λ copy. copy ≡ value.now) }
 {
-    match value {
-        Value::One(atom) => Ok(Value::One(*atom)),
-        Value::Many(atoms) => Ok(Value::Many(atoms.try_clone(alloc)?)),
-    }
+    value.try_clone(alloc)
 }
 
 /// The same expression.

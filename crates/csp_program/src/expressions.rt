@@ -1,7 +1,7 @@
 //! Expressions, which are worth an atom or a set of atoms.
 
-use crate::atoms::Value;
 use containers::{Boxed, Items};
+use csp_atoms::Value;
 
 /// The operators on two atoms.
 #[derive(Clone, Copy, Debug, PartialEq, Eq, Hash)]

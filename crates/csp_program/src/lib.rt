@@ -1,7 +1,6 @@
 //! The typed side of the language: expressions, processes, networks and programs, and what each of them means.
 #![tactic(auto)]
 
-pub mod atoms;
 pub mod copies;
 pub mod expressions;
 pub mod kinds;
@@ -11,7 +10,7 @@ pub mod proc_copies;
 pub mod processes;
 pub mod programs;
 
-pub use atoms::{Atom, AtomSet, Event, Value};
+pub use csp_atoms::{Atom, AtomSet, Value};
 pub use expressions::{BinOp, EventPart, Expr, Gen, SetOp};
 pub use kinds::ValueKind;
 pub use networks::Net;

@@ -1,8 +1,8 @@
 //! Processes: what a component does.
 
-use crate::atoms::Value;
 use crate::expressions::{EventPart, Expr, Gen};
 use containers::{Boxed, Items};
+use csp_atoms::Value;
 
 /// What the event of a prefix begins with.
 #[derive(Debug, PartialEq, Eq, Hash, Drop)]

@@ -3,11 +3,11 @@
 ghost use Rattle.std.specs.Prelude.{◌≡◌};
 ghost use Rattle.csp_program.specs.InOrder.{IsInOrder};
 
-use crate::atoms::{Atom, AtomSet};
 use crate::expressions::Expr;
 use crate::networks::Net;
 use crate::processes::Proc;
 use containers::Items;
+use csp_atoms::{Atom, AtomSet};
 use csp_base::Name;
 use std::marker::Model;
 
