@@ -1,10 +1,7 @@
 -- Laws of sets of events as atoms.
-use Rattle.std.proofs.Common.{◌≡◌, ℕ, zero, suc, ◌+◌, ◌<◌, ◌≤◌, Bool, true, false, refl, sym, ◌∙◌, ap, subst, List, [], ◌∷◌, ◌++◌, length, get_or, take, Option, Some, None, arith, append_assoc, add-one}
-use Rattle.std.proofs.lemmas.Bool.{lt-ltb, ltb-true}
+use Rattle.std.proofs.Common.{◌≡◌, ℕ, zero, suc, ◌+◌, ◌<◌, ◌≤◌, refl, sym, ◌∙◌, ap, List, [], ◌∷◌, ◌++◌, length, get_or, take, Option, Some, None, arith, append_assoc}
 use Rattle.std.proofs.lemmas.List.{take_more, take_all, append-nil}
-use Rattle.std.specs.List.Sorted.{IsStrictlyIncreasing}
-use Rattle.csp_atoms.specs.Order.{kind_of, less}
-use Rattle.csp_atoms.specs.Sets.{AllAbove, IsRising, AllOfKind, IsOneKind, IsAtomSet, event_atoms, event_number, event_numbers, both_events}
+use Rattle.csp_atoms.specs.Sets.{event_atoms, event_number, event_numbers, both_events}
 use Rattle.csp_atoms.specs.declared.atom.Atom.{Atom}
 use Rattle.csp_atoms.specs.declared.atom.Atom.TheVariants as atom
 

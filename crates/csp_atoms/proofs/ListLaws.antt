@@ -1,11 +1,10 @@
 -- Laws of sets of atoms as rising lists.
-use Rattle.std.proofs.Common.{◌≡◌, ℕ, Bool, true, false, not, cond, ◌||◌, refl, sym, ◌∙◌, ap, subst, inl, inr, ◌⊎◌, List, [], ◌∷◌, ◌++◌, Some, None}
-use Rattle.std.proofs.lemmas.Bool.{false≢true, true≢false}
+use Rattle.std.proofs.Common.{◌≡◌, ℕ, Bool, true, false, cond, refl, sym, ap, subst, List, [], ◌∷◌, None}
 use Rattle.std.specs.List.{filter}
-use Rattle.csp_atoms.specs.Order.{kind_of, less, same}
-use Rattle.csp_atoms.specs.Sets.{AllAbove, IsRising, AllOfKind, IsOneKind, IsAtomSet, has_atom, place_of, with_atom, union_of, inter_of, diff_of, fits, alike, one_more}
+use Rattle.csp_atoms.specs.Order.{kind_of, less}
+use Rattle.csp_atoms.specs.Sets.{AllAbove, IsRising, AllOfKind, IsOneKind, has_atom, place_of, with_atom, union_of, one_more}
 use Rattle.csp_atoms.specs.declared.atom.Atom.{Atom}
-use Rattle.csp_atoms.proofs.OrderLaws.{same_exact, same_itself, less-trans, less_itself, Before, before_from_less, cases_atoms}
+use Rattle.csp_atoms.proofs.OrderLaws.{less-trans, before_from_less}
 
 -- ---- atoms that come before a list
 

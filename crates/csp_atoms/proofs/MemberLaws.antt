@@ -2,10 +2,10 @@
 use Rattle.std.proofs.Common.{◌≡◌, ℕ, Bool, true, false, not, cond, ◌&&◌, ◌||◌, refl, sym, ◌∙◌, ap, subst, inl, inr, List, [], ◌∷◌}
 use Rattle.std.specs.List.{filter}
 use Rattle.std.proofs.lemmas.Bool.{false≢true, true≢false, eqb-false}
-use Rattle.csp_atoms.specs.Order.{kind_of, less, same}
+use Rattle.csp_atoms.specs.Order.{kind_of, same}
 use Rattle.csp_atoms.specs.Sets.{AllAbove, AllOfKind, IsOneKind, IsRising, alike, has_atom, with_atom, union_of, inter_of, diff_of}
 use Rattle.csp_atoms.specs.declared.atom.Atom.{Atom}
-use Rattle.csp_atoms.proofs.OrderLaws.{same_exact, same_itself, less_itself, Before, before_from_less, cases_atoms}
+use Rattle.csp_atoms.proofs.OrderLaws.{same_exact, same_itself, less_itself, before_from_less, cases_atoms}
 use Rattle.csp_atoms.proofs.ListLaws.{has_not_before, AllAbove-trans, kind_first}
 
 or_same : (a b : Bool) → (a || b) ≡ (a || (a || b))

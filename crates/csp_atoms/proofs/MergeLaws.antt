@@ -1,16 +1,15 @@
 -- One step of a merge of two rising lists of atoms.
-use Rattle.std.proofs.Common.{◌≡◌, ℕ, suc, ◌+◌, ◌<◌, ◌≤◌, Bool, true, false, not, cond, ◌&&◌, ◌||◌, refl, sym, ◌∙◌, ap, subst, inl, inr, ◌⊎◌, List, [], ◌∷◌, ◌++◌, length, Option, Some, None, arith, append_assoc}
+use Rattle.std.proofs.Common.{◌≡◌, ◌+◌, ◌<◌, ◌≤◌, Bool, true, false, not, cond, refl, sym, ◌∙◌, ap, subst, inl, inr, ◌⊎◌, List, [], ◌∷◌, ◌++◌, length, Some, None, arith, append_assoc}
 use Rattle.std.specs.List.{filter}
 use Rattle.std.proofs.lemmas.List.{append-nil}
-use Rattle.std.proofs.lemmas.Bool.{false≢true, true≢false}
 use Rattle.csp_atoms.specs.Order.{less, same}
-use Rattle.csp_atoms.specs.Sets.{AllAbove, IsRising, has_atom, with_atom, union_of, inter_of, diff_of}
+use Rattle.csp_atoms.specs.Sets.{AllAbove, IsRising, has_atom, with_atom, union_of}
 use Rattle.csp_atoms.specs.Merge.{result_of, keeps, least_of, begins_with, rest_after, with_last}
 use Rattle.csp_atoms.specs.declared.atom.Atom.{Atom}
 use Rattle.csp_atoms.specs.declared.sorted.Operation.{Operation}
 use Rattle.csp_atoms.specs.declared.sorted.Operation.TheVariants.{Union, Inter, Diff}
-use Rattle.csp_atoms.proofs.OrderLaws.{same_exact, same_itself, less-trans, less_itself, Before, before_from_less, cases_atoms}
-use Rattle.csp_atoms.proofs.ListLaws.{AllAbove-trans, has_not_before, with_first, AllAbove-union_of, IsRising-union_of}
+use Rattle.csp_atoms.proofs.OrderLaws.{same_itself, less_itself, before_from_less, cases_atoms}
+use Rattle.csp_atoms.proofs.ListLaws.{AllAbove-trans, has_not_before, with_first, AllAbove-union_of}
 
 -- ---- what a first atom of the second list adds to a union
 

@@ -1,5 +1,5 @@
 -- Laws of binary search in a rising list of atoms.
-use Rattle.std.proofs.Common.{◌≡◌, ℕ, zero, suc, ◌+◌, ◌<◌, ◌≤◌, Bool, true, false, not, cond, ◌&&◌, ◌||◌, refl, sym, ◌∙◌, ap, subst, inl, inr, ◌⊎◌, List, [], ◌∷◌, ◌++◌, length, get_or, take, drop, Option, Some, None, arith, le_refl}
+use Rattle.std.proofs.Common.{◌≡◌, ℕ, zero, suc, ◌<◌, ◌≤◌, Bool, true, false, cond, ◌||◌, refl, sym, ◌∙◌, ap, subst, inl, inr, List, [], ◌∷◌, length, get_or, Option, Some, None, arith}
 use Rattle.std.specs.List.{insert}
 use Rattle.std.specs.Option.{is_some}
 use Rattle.std.proofs.lemmas.Bool.{false≢true, true≢false}
@@ -7,8 +7,8 @@ use Rattle.csp_atoms.specs.Order.{less, same}
 use Rattle.csp_atoms.specs.Search.{count_before, stands_at}
 use Rattle.csp_atoms.specs.Sets.{AllAbove, IsRising, has_atom, place_of, with_atom, one_more}
 use Rattle.csp_atoms.specs.declared.atom.Atom.{Atom}
-use Rattle.csp_atoms.proofs.OrderLaws.{same_exact, same_itself, less-trans, less_itself, Before, before_from_less, cases_atoms}
-use Rattle.csp_atoms.proofs.ListLaws.{AllAbove-trans, has_not_before, place_not_before, with_first}
+use Rattle.csp_atoms.proofs.OrderLaws.{same_itself, less-trans, less_itself, before_from_less, cases_atoms}
+use Rattle.csp_atoms.proofs.ListLaws.{AllAbove-trans, place_not_before}
 
 pub count_le_length : (xs : List Atom) (a : Atom) → count_before xs a ≤ length xs
 count_le_length [] a = omega arith

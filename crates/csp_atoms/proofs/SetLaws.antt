@@ -1,6 +1,6 @@
 -- Results of operations on sets of atoms are sets of atoms.
-use Rattle.std.proofs.Common.{◌≡◌, ℕ, ◌+◌, ◌<◌, ◌≤◌, Bool, true, false, eqb, refl, sym, ◌∙◌, ap, subst, List, [], ◌∷◌, Option, Some, None, arith}
-use Rattle.std.specs.Prelude.{ℤ, pos}
+use Rattle.std.proofs.Common.{◌≡◌, ℕ, ◌+◌, ◌<◌, ◌≤◌, Bool, true, refl, sym, ◌∙◌, ap, subst, List, [], ◌∷◌, Option, Some, arith}
+use Rattle.std.specs.Prelude.{pos}
 use Rattle.std.proofs.lemmas.Bool.{false≢true, eqb-true}
 use Rattle.std.proofs.lemmas.Cmp.{int_ranked}
 use Rattle.std.proofs.lemmas.Int.{ints}
@@ -12,8 +12,8 @@ use Rattle.std.specs.declared.cmp.Ordering.TheVariants.{Less, Equal, Greater}
 use Rattle.csp_base.specs.Blocks.{AreBlocks, events_of}
 use Rattle.csp_base.proofs.Rising.{RisesFrom, rises_from_increasing, increasing_from_rises}
 use Rattle.csp_base.proofs.Sets.{set_increases}
-use Rattle.csp_atoms.specs.Order.{kind_of, less, same}
-use Rattle.csp_atoms.specs.Sets.{AllAbove, IsRising, AllOfKind, IsOneKind, IsAtomSet, with_atom, union_of, fits, alike, event_atoms, event_number, event_numbers, both_events}
+use Rattle.csp_atoms.specs.Order.{kind_of, less}
+use Rattle.csp_atoms.specs.Sets.{AllAbove, IsRising, AllOfKind, IsOneKind, IsAtomSet, with_atom, union_of, fits, alike, event_atoms, event_numbers}
 use Rattle.csp_atoms.specs.declared.atom.Atom.{Atom}
 use Rattle.csp_atoms.specs.declared.atom.Atom.TheVariants as atom
 use Rattle.csp_atoms.proofs.EventLaws.{atoms_of_numbers}

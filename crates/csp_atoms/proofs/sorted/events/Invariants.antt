@@ -1,4 +1,4 @@
-use Rattle.std.proofs.Common.{◌≡◌, ◌++◌}
+use Rattle.std.proofs.Common.{◌≡◌}
 use Rattle.csp_atoms.specs.Sets.{event_atoms}
 use Rattle.csp_atoms.proofs.sorted.events.Given as goal
 use Rattle.std.proofs.Common.{take}
