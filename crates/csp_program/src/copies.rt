@@ -196,27 +196,3 @@ pub fn copy_pairs(
     }
     Ok(copies)
 }
-
-#[cfg(test)]
-mod tests {
-    use super::{copy_expr, copy_field};
-    use crate::expressions::{BinOp, Expr};
-    use crate::processes::Field;
-    use containers::{Boxed, Items};
-    use std::test::Fail;
-
-    #[test]
-    fn copies_trees(rt: HostRuntime) -> Result<(), Fail> {
-        let alloc = rt.alloc();
-        let left = Boxed::new(alloc, Expr::Num(-3))?;
-        let right = Boxed::new(alloc, Expr::Display(Items::new(alloc)))?;
-        let expr = Expr::Binary(BinOp::Or, left, right);
-        let copy = copy_expr(alloc, &expr)?;
-        assert!(rt; copy == expr);
-        assert!(rt; copy != Expr::Num(-3));
-        let field = Field::Get(2, Some(Expr::SetName(1)));
-        let copy = copy_field(alloc, &field)?;
-        assert!(rt; copy == field);
-        Ok(())
-    }
-}

@@ -5,10 +5,9 @@
 use csp_base::NoMemory;
 use dl_outside::{FileShelf, StdSink};
 use dl_top::{Words, dl_main};
-use std::env;
-use std::io;
 use std::process::ExitCode;
 use std::rt::Env;
+use std::{env, io};
 
 /// The exit status where there is no memory for a word.
 const NO_MEMORY: u8 = 5;
