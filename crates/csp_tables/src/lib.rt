@@ -8,6 +8,8 @@ mod raw_table;
 mod role_sets;
 mod rule;
 mod shape;
+#[cfg(test)]
+mod tests;
 mod use_sets;
 
 pub use norm_table::{NormNode, NormTable};
