@@ -16,9 +16,11 @@ fn raw_table_is_read(alloc: Global) -> Result<bool, NoMemory> {
     raw.add_term();
     raw.add_silent(0, 1)?;
     raw.add_step(1, Event(7), 0)?;
-    Ok(raw.count() == 2
-        && raw.silent() == [(0, 1)].as_slice()
-        && raw.steps() == [(1, Event(7), 0)].as_slice())
+    Ok(
+        raw.count() == 2
+            && raw.silent() == [(0, 1)].as_slice()
+            && raw.steps() == [(1, Event(7), 0)].as_slice(),
+    )
 }
 
 fn raw_table_of_steps_is_read(alloc: Global) -> bool {
@@ -92,10 +94,12 @@ fn roles_are_read(alloc: Global) -> Result<bool, NoMemory> {
         one(alloc, 3)?,
         one(alloc, 4)?,
     );
-    Ok(is_one(roles.creq(), 1)
-        && is_one(roles.cack(), 2)
-        && is_one(roles.sreq(), 3)
-        && is_one(roles.sack(), 4))
+    Ok(
+        is_one(roles.creq(), 1)
+            && is_one(roles.cack(), 2)
+            && is_one(roles.sreq(), 3)
+            && is_one(roles.sack(), 4),
+    )
 }
 
 fn uses_are_read(alloc: Global) -> Result<bool, NoMemory> {
