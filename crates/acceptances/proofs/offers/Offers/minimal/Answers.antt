@@ -8,37 +8,37 @@ use Rattle.csp_tables.specs.Offer.{IsMinimalOffer}
 use Rattle.csp_tables.specs.Behaviour.{OffersAcceptance}
 use Rattle.csp_tables.specs.NormalTable.{IsListed}
 use Rattle.acceptances.proofs.SmallestSets.{Found, found, is_least, sound, complete, covered, rising, ordered}
-use Rattle.acceptances.proofs.offers.minimal.Goals as goal
+use Rattle.acceptances.proofs.offers.Offers.minimal.Goals as goal
 
 pub returns-clause-sound : goal.returns-clause-sound
 returns-clause-sound c =
-    let raw = c.args.table.now in
+    let raw = c.args.self.now in
     let sets = c.sort_sets.new.sets.items in
-    let f : Found raw c.args.terms.now c.in_ok-unstable.unstable.items c.in_ok-sets.sets.items sets = found _ _ _ _ _ _ _ _ c.requires c.in_ok-unstable.ensures c.in_ok-sets.ensures c.in_ok-offers.ensures c.deref.ensures.value c.deref-2.ensures.value c.in_ok-sort_sets.ensures.same in
+    let f : Found raw c.args.terms.now c.self.inside.unstable.items c.self.inside.sets.items sets = found _ _ _ _ _ _ _ _ c.requires c.self.invariant.0 c.self.invariant.1 c.in_ok-offers.ensures c.deref.ensures.value c.deref-2.ensures.value c.in_ok-sort_sets.ensures.same in
     let kept : c.in_ok-kept.kept.items ≡ filter (is_least sets) sets = c.in_ok-kept.ensures ∙ ap (λ (D : List (List ℕ)). filter (is_least D) D) c.deref-3.ensures.value in
     subst (All (IsMinimalOffer raw c.args.terms.now)) (sym kept) (sound _ _ _ _ _ f)
 
 pub returns-clause-complete : goal.returns-clause-complete
 returns-clause-complete c M least =
-    let raw = c.args.table.now in
+    let raw = c.args.self.now in
     let sets = c.sort_sets.new.sets.items in
-    let f : Found raw c.args.terms.now c.in_ok-unstable.unstable.items c.in_ok-sets.sets.items sets = found _ _ _ _ _ _ _ _ c.requires c.in_ok-unstable.ensures c.in_ok-sets.ensures c.in_ok-offers.ensures c.deref.ensures.value c.deref-2.ensures.value c.in_ok-sort_sets.ensures.same in
+    let f : Found raw c.args.terms.now c.self.inside.unstable.items c.self.inside.sets.items sets = found _ _ _ _ _ _ _ _ c.requires c.self.invariant.0 c.self.invariant.1 c.in_ok-offers.ensures c.deref.ensures.value c.deref-2.ensures.value c.in_ok-sort_sets.ensures.same in
     let kept : c.in_ok-kept.kept.items ≡ filter (is_least sets) sets = c.in_ok-kept.ensures ∙ ap (λ (D : List (List ℕ)). filter (is_least D) D) c.deref-3.ensures.value in
     subst (λ (Ms : List (List ℕ)). IsListed Ms M) (sym kept) (complete _ _ _ _ _ f M least)
 
 pub returns-clause-covered : goal.returns-clause-covered
 returns-clause-covered c n listed stable =
-    let raw = c.args.table.now in
+    let raw = c.args.self.now in
     let sets = c.sort_sets.new.sets.items in
-    let f : Found raw c.args.terms.now c.in_ok-unstable.unstable.items c.in_ok-sets.sets.items sets = found _ _ _ _ _ _ _ _ c.requires c.in_ok-unstable.ensures c.in_ok-sets.ensures c.in_ok-offers.ensures c.deref.ensures.value c.deref-2.ensures.value c.in_ok-sort_sets.ensures.same in
+    let f : Found raw c.args.terms.now c.self.inside.unstable.items c.self.inside.sets.items sets = found _ _ _ _ _ _ _ _ c.requires c.self.invariant.0 c.self.invariant.1 c.in_ok-offers.ensures c.deref.ensures.value c.deref-2.ensures.value c.in_ok-sort_sets.ensures.same in
     let kept : c.in_ok-kept.kept.items ≡ filter (is_least sets) sets = c.in_ok-kept.ensures ∙ ap (λ (D : List (List ℕ)). filter (is_least D) D) c.deref-3.ensures.value in
     subst (OffersAcceptance (RawStep raw) n) (sym kept) (covered _ _ _ _ _ f n listed stable)
 
 pub returns-clause-rising : goal.returns-clause-rising
 returns-clause-rising c =
-    let raw = c.args.table.now in
+    let raw = c.args.self.now in
     let sets = c.sort_sets.new.sets.items in
-    let f : Found raw c.args.terms.now c.in_ok-unstable.unstable.items c.in_ok-sets.sets.items sets = found _ _ _ _ _ _ _ _ c.requires c.in_ok-unstable.ensures c.in_ok-sets.ensures c.in_ok-offers.ensures c.deref.ensures.value c.deref-2.ensures.value c.in_ok-sort_sets.ensures.same in
+    let f : Found raw c.args.terms.now c.self.inside.unstable.items c.self.inside.sets.items sets = found _ _ _ _ _ _ _ _ c.requires c.self.invariant.0 c.self.invariant.1 c.in_ok-offers.ensures c.deref.ensures.value c.deref-2.ensures.value c.in_ok-sort_sets.ensures.same in
     let kept : c.in_ok-kept.kept.items ≡ filter (is_least sets) sets = c.in_ok-kept.ensures ∙ ap (λ (D : List (List ℕ)). filter (is_least D) D) c.deref-3.ensures.value in
     subst (All IsStrictlyIncreasing) (sym kept) (rising _ _ _ _ _ f)
 
