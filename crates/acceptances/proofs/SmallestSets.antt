@@ -15,7 +15,7 @@ use Rattle.csp_tables.specs.RawTable.{RawTable, RawStep}
 use Rattle.csp_tables.specs.Offer.{IsOfferOf, IsMinimalOffer}
 use Rattle.csp_tables.specs.Behaviour.{OffersAcceptance}
 use Rattle.csp_tables.specs.NormalTable.{IsListed}
-use Rattle.acceptances.specs.Offers.{can_do, AreMarks, AreOffers, offers_at, has_smaller}
+use Rattle.acceptances.specs.OfferTests.{can_do, AreMarks, AreOffers, offers_at, has_smaller}
 use Rattle.acceptances.proofs.Member.{Member, member_from_contains, contains_from_member, stands, all_of_members, member_of_filter, member_from_filter, any_of_member, member_of_any}
 use Rattle.acceptances.proofs.Terms.{same_tests, stable_by_test, test_by_stable, offers_by_test, test_by_offers, Source, source, listed_offer, within_of}
 

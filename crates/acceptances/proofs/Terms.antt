@@ -14,7 +14,7 @@ use Rattle.csp_tables.specs.Trace.{Offers}
 use Rattle.csp_tables.specs.RawTable.{RawTable, RawStep}
 use Rattle.csp_tables.specs.RawForm.{HasRawForm}
 use Rattle.csp_tables.proofs.Listed.{any_of, passing, silent_at, step_at}
-use Rattle.acceptances.specs.Offers.{is_unstable, can_do, offers_at}
+use Rattle.acceptances.specs.OfferTests.{is_unstable, can_do, offers_at}
 use Rattle.acceptances.proofs.Member.{Member, member_of_any}
 
 -- tests that agree when they are true are equal

@@ -4,4 +4,4 @@
 mod least;
 mod offers;
 
-pub use offers::minimal;
+pub use offers::{Offers, minimal};

@@ -10,12 +10,67 @@ ghost use Rattle.csp_tables.specs.Path.{Stable};
 ghost use Rattle.csp_tables.specs.Offer.{IsMinimalOffer};
 ghost use Rattle.csp_tables.specs.Behaviour.{OffersAcceptance};
 ghost use Rattle.csp_tables.specs.NormalTable.{IsListed};
-ghost use Rattle.acceptances.specs.Offers.{AreMarks, AreOffers, offers_at};
+ghost use Rattle.acceptances.specs.OfferTests.{AreMarks, AreOffers, offers_at};
 
 use crate::least::{least_sets, push_unless, sort_sets};
 use csp_base::{Event, EventSet, NoMemory};
 use csp_tables::RawTable;
 use std::alloc::{AllocError, Global};
+use std::marker::Model;
+
+/// What each term of a table offers, prepared once. Contracts see it as the table.
+#[derive(Debug, Drop)]
+pub struct Offers<'a> {
+    table: &'a RawTable,
+    unstable: Vec<bool>,
+    sets: Vec<EventSet>,
+}
+
+impl<'a> Model for Offers<'a> {
+    ghost use Rattle.csp_tables.specs.RawTable.{RawTable as RawSteps};
+    ghost use Rattle.acceptances.specs.OfferTests.{AreMarks, AreOffers};
+
+    ghost Value = { RawSteps };
+
+    ghost view = { λ o. o.table.now };
+
+    ghost invariant = { λ o. AreMarks o.table.now o.unstable.items × AreOffers o.table.now o.sets.items };
+}
+
+impl<'a> Offers<'a> {
+    /// Looks at each step of the table once.
+    pub fn new(alloc: Global, table: &'a RawTable) -> Result<Offers<'a>, NoMemory>
+        ensures { IfOk result (λ offers. offers ≡ table.now) }
+    {
+        let unstable = unstable_marks(alloc, table)?;
+        let sets = event_sets(alloc, table)?;
+        Ok(Offers {
+            table,
+            unstable,
+            sets,
+        })
+    }
+
+    /// Of the sets of events that the stable ones among the terms offer, those that contain no smaller one, in the order
+    /// of lists.
+    ///
+    /// It takes no time for other terms than these.
+    pub fn minimal(&self, alloc: Global, terms: &[u32]) -> Result<Vec<EventSet>, NoMemory>
+        requires { All (λ n. n < self.now.count) terms.now }
+        ensures sound { IfOk result (λ sets. All (IsMinimalOffer self.now terms.now) sets.items) }
+        ensures complete { IfOk result (λ sets. (M : List ℕ) → IsMinimalOffer self.now terms.now M → IsListed sets.items M) }
+
+        // Each stable term among them offers every event of one of the sets.
+        ensures covered { IfOk result (λ sets. (n : ℕ) → IsTrue (has terms.now n) → Stable (RawStep self.now) n → OffersAcceptance (RawStep self.now) n sets.items) }
+        ensures rising { IfOk result (λ sets. All IsStrictlyIncreasing sets.items) }
+        ensures order { IfOk result (λ sets. IsStrictlySortedBy (slice_cmp nat_cmp) sets.items) }
+    {
+        let mut offers = offers_of(alloc, &self.unstable, &self.sets, terms)?;
+        sort_sets(&mut offers)?;
+        let kept = least_sets(alloc, &offers)?;
+        Ok(kept)
+    }
+}
 
 /// Of the sets of events that the stable ones among the terms offer, those that contain no smaller one, in the order of
 /// lists.
@@ -29,12 +84,8 @@ pub fn minimal(alloc: Global, table: &RawTable, terms: &[u32]) -> Result<Vec<Eve
     ensures rising { IfOk result (λ sets. All IsStrictlyIncreasing sets.items) }
     ensures order { IfOk result (λ sets. IsStrictlySortedBy (slice_cmp nat_cmp) sets.items) }
 {
-    let unstable = unstable_marks(alloc, table)?;
-    let sets = event_sets(alloc, table)?;
-    let mut offers = offers_of(alloc, &unstable, &sets, terms)?;
-    sort_sets(&mut offers)?;
-    let kept = least_sets(alloc, &offers)?;
-    Ok(kept)
+    let offers = Offers::new(alloc, table)?;
+    offers.minimal(alloc, terms)
 }
 
 // A mark at each term that has a silent step.

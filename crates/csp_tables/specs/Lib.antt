@@ -1,4 +1,5 @@
 pub mod Behaviour
+pub mod BreadthFirst
 pub mod ClientServer
 pub mod ClientServerRanks
 pub mod Count

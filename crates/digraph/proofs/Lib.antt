@@ -9,4 +9,4 @@ mod Finishing
 mod Looking
 mod Ending
 mod Turning
-mod Reaching
+pub mod Reaching

@@ -3,7 +3,6 @@ use Rattle.std.proofs.Common.{◌≡◌, ℕ, zero, suc, ◌+◌, ◌-◌, ◌<�
 use Rattle.csp_tables.specs.Label.Label.{silent}
 use Rattle.csp_tables.specs.Path.{Silently}
 use Rattle.csp_tables.specs.RawTable.{RawTable, RawStep}
-use Rattle.csp_tables.specs.RawForm.{has_silent}
 use Rattle.csp_tables.specs.SilentCircle.{IsSilentCircle}
 use Rattle.csp_tables.specs.Heights as silence
 use Rattle.csp_tables.proofs.Listed.{silent_listed, listed_silent}
@@ -11,17 +10,13 @@ use Rattle.digraph.specs.Digraph.{Digraph, has_arc, HasArc}
 use Rattle.digraph.specs.Walk.{IsWalk}
 use Rattle.digraph.specs.Height.{IsHeight, AreHeights}
 use Rattle.digraph.specs.Circle.{IsCircle}
-
--- the digraph's arcs are the silent steps
-pub record AreSilentRows (raw : RawTable) (g : Digraph) : Type 0 where
-  pub size : length g ≡ raw.count
-  pub same : (s t : ℕ) → has_arc g s t ≡ has_silent raw s t
+use Rattle.tau_order.specs.SilentRows.{AreSilentRows}
 
 module _ (raw : RawTable) (g : Digraph) (rows : AreSilentRows raw g) where
-  step_of : (s t : ℕ) → HasArc g s t → RawStep raw s silent t
+  pub step_of : (s t : ℕ) → HasArc g s t → RawStep raw s silent t
   step_of s t arc = listed_silent raw s t (subst IsTrue (rows.same s t) arc)
 
-  arc_of : (s t : ℕ) → RawStep raw s silent t → HasArc g s t
+  pub arc_of : (s t : ℕ) → RawStep raw s silent t → HasArc g s t
   arc_of s t step = subst IsTrue (sym (rows.same s t)) (silent_listed raw s t step)
 
   -- a walk as a run

@@ -6,4 +6,4 @@ mod silent_runs;
 
 pub use digraph::{Circle, Heights};
 pub use fault::HeightFault;
-pub use silent_runs::heights;
+pub use silent_runs::{heights, silent_rows};

@@ -1,8 +1,7 @@
 ghost use Rattle.std.specs.Prelude.{◌≡◌, ◌≢◌, ◌+◌, ◌-◌, ◌<◌, ◌≤◌, ◌^◌, ◌||◌, ◌&&◌, ◌==◌, ℕ, List, [], ◌∷◌, length, slice_index, IfOk, OnOk, nat_eq};
-ghost use Rattle.csp_tables.specs.RawForm.{has_silent};
 ghost use Rattle.csp_tables.specs.Heights.{AreHeights};
 ghost use Rattle.csp_tables.specs.SilentCircle.{IsSilentCircle};
-ghost use Rattle.digraph.specs.Digraph.{has_arc};
+ghost use Rattle.tau_order.specs.SilentRows.{AreSilentRows};
 
 use crate::fault::HeightFault;
 use csp_tables::RawTable;
@@ -29,10 +28,9 @@ pub fn heights(alloc: Global, table: &RawTable) -> Result<Heights, HeightFault>
     }
 }
 
-// The digraph of the silent steps.
-fn silent_rows(alloc: Global, table: &RawTable) -> Result<Rows, AllocError>
-    ensures len { IfOk result (λ rows. length rows ≡ table.now.count) }
-    ensures arcs { IfOk result (λ rows. (s t : ℕ) → has_arc rows s t ≡ has_silent table.now s t) }
+/// The silent steps as a digraph, whose vertices are the terms.
+pub fn silent_rows(alloc: Global, table: &RawTable) -> Result<Rows, AllocError>
+    ensures { IfOk result (λ rows. AreSilentRows table.now rows) }
 {
     let mut rows = Rows::new(alloc, table.count())?;
     for (from, to) in table.silent() {
