@@ -1,0 +1,4 @@
+pub mod Closures
+pub mod Traces
+pub mod MoveLists
+pub mod Silence
