@@ -1,0 +1,5 @@
+pub mod Futures
+pub mod Growing
+pub mod Numbered
+pub mod Refining
+pub mod RowLists

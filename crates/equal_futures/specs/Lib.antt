@@ -1,0 +1,3 @@
+pub mod Future
+pub mod Alike
+pub mod Rows

@@ -1,0 +1,6 @@
+//! Nodes of a table with equal future: their classes, by splitters and by plain rounds, and the table merged by classes.
+#![tactic(auto)]
+
+mod rounds;
+
+pub use rounds::{Classes, refine_by_rounds};
