@@ -33,9 +33,9 @@ module _ (raw : RawTable) (g : Digraph) (rows : AreSilentRows raw g) where
 
   pub silently : (starts : List ℕ) (t : ℕ) → IsReachedFrom g starts t ↔ IsSilentlyReached raw starts t
   silently starts t = (
-      λ r. record { start = r.start; listed = r.listed; silently = subst (λ (x : ℕ). After (RawStep raw) r.start [] x) r.reaches.ends (walk_silently r.start r.reaches.passed r.reaches.walk) },
-      λ s. record { start = s.start; listed = s.listed; reaches = silent_walk s.silently.0 s.start t s.silently.1 s.silently.2 },
-    )
+    λ r. record { start = r.start; listed = r.listed; silently = subst (λ (x : ℕ). After (RawStep raw) r.start [] x) r.reaches.ends (walk_silently r.start r.reaches.passed r.reaches.walk) },
+    λ s. record { start = s.start; listed = s.listed; reaches = silent_walk s.silently.0 s.start t s.silently.1 s.silently.2 },
+  )
 
   along : (form : HasRawForm raw) (v : ℕ) (vs : List ℕ) → v < raw.count → IsWalk g v vs → end_of v vs < raw.count
   along form v [] below walk = below

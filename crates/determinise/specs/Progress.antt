@@ -48,6 +48,10 @@ pub record IsSomeNextSet (raw : RawTable) (moves : List (ℕ × ℕ)) (set : Lis
   pub is : IsNextSet raw moves event set
   pub form : IsTermSet raw set
 
+-- the set to which one of the events of these terms leads
+abbrev pub IsReachedFromSet : RawTable → List ℕ → List ℕ → Type 0
+IsReachedFromSet raw terms set = (moves : List (ℕ × ℕ)) × AreMovesOf raw terms moves × IsSomeNextSet raw moves set
+
 -- Sets of a kind were added behind those that were there.
 pub record AreMoreSets (IsOfKind : List ℕ → Type 0) (old new : List (List ℕ)) : Type 0 where
   pub longer : length old ≤ length new

@@ -2,8 +2,14 @@
 #![tactic(auto)]
 
 mod closed;
+mod explore;
 mod fault;
+mod node;
 mod prepared;
 mod rows;
+mod sets;
+mod table;
 
+pub use explore::determinise;
 pub use fault::SetFault;
+pub use table::SetTable;

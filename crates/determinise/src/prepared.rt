@@ -1,10 +1,10 @@
 //! A raw table whose steps are sorted out once, so that each question costs what its answer needs.
 
-ghost use Rattle.std.specs.Prelude.{◌≡◌, ◌<◌, ◌↔◌, ℕ, All, IsTrue, IfOk};
+ghost use Rattle.std.specs.Prelude.{◌≡◌, ◌<◌, ◌↔◌, [], ℕ, All, IsTrue, IfOk};
 ghost use Rattle.std.specs.List.Sorted.{IsNonDecreasingBy};
 ghost use Rattle.csp_base.specs.Members.{has};
 ghost use Rattle.determinise.specs.Moves.{AreMovesOf, IsSilentlyReached};
-ghost use Rattle.determinise.specs.Progress.{AreMinimalOffers, IsTermSet};
+ghost use Rattle.determinise.specs.Progress.{AreMinimalOffers, IsSetAfter, IsTermSet};
 
 use crate::closed::closed_from;
 use crate::rows::{move_rows, moves_of};
@@ -61,6 +61,15 @@ impl<'a> Prepared<'a> {
         ensures form { IfOk result (λ set. IsTermSet self.now set) }
     {
         let terms = closed_from(alloc, &self.silent, starts)?;
+        Ok(Items::from_vec(terms))
+    }
+
+    // The terms to which the empty trace leads.
+    pub(crate) fn first_set(&self, alloc: Global) -> Result<Items<u32>, AllocError>
+        ensures after { IfOk result (λ set. IsSetAfter self.now [] set) }
+        ensures form { IfOk result (λ set. IsTermSet self.now set) }
+    {
+        let terms = closed_from(alloc, &self.silent, &[0])?;
         Ok(Items::from_vec(terms))
     }
 
