@@ -47,18 +47,18 @@ module _ (nodes : List Node) (marks classes : List ℕ) (count : ℕ) (merged : 
   known_targets : (i k : ℕ) → i < length nodes → k ≤ length classes → MeetsUpTo (take i nodes) k → slice_index classes i < seen i → EachTarget (λ t. slice_index classes t < seen k) (node_at nodes i).next
   known_targets i k below most met low =
       each_target (λ (t : ℕ). slice_index classes t < seen k) (length nodes) (node_at nodes i).next (rise i) (λ e h.
-        let f = first_of classes count futures.order i (slice_index classes i) (omega (arith, futures.one_each, below)) low in
-        let inside : f.node < length nodes = omega (arith, f.within, below) in
-        let alike : HaveEqualFuture nodes marks i f.node = (futures.exact i f.node below inside).0 (sym f.class) in
-        let there : is_possible (node_at nodes f.node).next e ≡ true = sym (same_events nodes marks i f.node alike e) ∙ h in
-        let read : node_at (take i nodes) f.node ≡ node_at nodes f.node = get_or-take i nodes f.node (record { next = []; accept = [] }) f.within in
-        let taken : is_possible (node_at (take i nodes) f.node).next e ≡ true = ap (λ (n : Node). is_possible n.next e) read ∙ there in
-        let shorter : length (take i nodes) ≡ i = length-take-le i nodes (omega arith) in
-        let early : target (node_at (take i nodes) f.node).next e < k = target_is (λ t. t < k) (node_at (take i nodes) f.node).next e (nodes_met 1 k (take i nodes) f.node met (omega (arith, shorter, f.within))) taken in
-        let goal : node_after nodes f.node e < k = subst (λ (n : Node). target n.next e < k) read early in
-        let same : slice_index classes (node_after nodes i e) ≡ slice_index classes (node_after nodes f.node e) =
-            (futures.exact (node_after nodes i e) (node_after nodes f.node e) (target_below (length nodes) (node_at nodes i).next e (rise i) h) (target_below (length nodes) (node_at nodes f.node).next e (rise f.node) there)).1 (future_after nodes marks i f.node e alike h) in
-        subst (λ (c : ℕ). c < seen k) (sym same) (class_seen classes count futures.order k (node_after nodes f.node e) goal most))
+      let f = first_of classes count futures.order i (slice_index classes i) (omega (arith, futures.one_each, below)) low in
+      let inside : f.node < length nodes = omega (arith, f.within, below) in
+      let alike : HaveEqualFuture nodes marks i f.node = (futures.exact i f.node below inside).0 (sym f.class) in
+      let there : is_possible (node_at nodes f.node).next e ≡ true = sym (same_events nodes marks i f.node alike e) ∙ h in
+      let read : node_at (take i nodes) f.node ≡ node_at nodes f.node = get_or-take i nodes f.node (record { next = []; accept = [] }) f.within in
+      let taken : is_possible (node_at (take i nodes) f.node).next e ≡ true = ap (λ (n : Node). is_possible n.next e) read ∙ there in
+      let shorter : length (take i nodes) ≡ i = length-take-le i nodes (omega arith) in
+      let early : target (node_at (take i nodes) f.node).next e < k = target_is (λ t. t < k) (node_at (take i nodes) f.node).next e (nodes_met 1 k (take i nodes) f.node met (omega (arith, shorter, f.within))) taken in
+      let goal : node_after nodes f.node e < k = subst (λ (n : Node). target n.next e < k) read early in
+      let same : slice_index classes (node_after nodes i e) ≡ slice_index classes (node_after nodes f.node e) =
+      (futures.exact (node_after nodes i e) (node_after nodes f.node e) (target_below (length nodes) (node_at nodes i).next e (rise i) h) (target_below (length nodes) (node_at nodes f.node).next e (rise f.node) there)).1 (future_after nodes marks i f.node e alike h) in
+      subst (λ (c : ℕ). c < seen k) (sym same) (class_seen classes count futures.order k (node_after nodes f.node e) goal most))
 
   first_class : 0 < length classes → seen 1 ≡ 1
   first_class some = elim (step_at classes count futures.order 0 some) as (λ _. seen 1 ≡ 1) [
@@ -75,7 +75,7 @@ module _ (nodes : List Node) (marks classes : List ℕ) (count : ℕ) (merged : 
       let one : length classes ≡ length nodes = futures.one_each in
       let taken : take (suc i) nodes ≡ take i nodes ++ node_at nodes i ∷ [] = take-suc nodes i (record { next = []; accept = [] }) few in
       let r : MetBetween 1 (targets_of_nodes (take i nodes)) (targets_of_steps (node_at nodes i).next) m =
-          meets_cut 1 m (targets_of_nodes (take i nodes)) (targets_of_steps (node_at nodes i).next) (subst (λ (ts : List ℕ). MeetsInOrder 1 ts m) (ap targets_of_nodes taken ∙ more_targets (take i nodes) (node_at nodes i)) met) in
+      meets_cut 1 m (targets_of_nodes (take i nodes)) (targets_of_steps (node_at nodes i).next) (subst (λ (ts : List ℕ). MeetsInOrder 1 ts m) (ap targets_of_nodes taken ∙ more_targets (take i nodes) (node_at nodes i)) met) in
       let l : r.middle ≤ m = meets_more r.middle m (targets_of_steps (node_at nodes i).next) r.back in
       let before : MeetsUpTo (take (seen i) merged) (seen r.middle) = meets_merged i r.middle (omega arith) (omega (arith, l, most)) r.front in
       elim (step_at classes count futures.order i (omega (arith, one, few))) as (λ _. MeetsUpTo (take (seen (suc i)) merged) (seen m)) [

@@ -46,8 +46,8 @@ module _ (nodes : List Node) (marks classes : List ℕ) (count : ℕ) (merged : 
   standing j below =
       let one : length classes ≡ length nodes = futures.one_each in
       let f : FirstOf classes count futures.order (slice_index classes j) (length classes) =
-          first_of classes count futures.order (length classes) (slice_index classes j) (omega arith)
-          (class_seen classes count futures.order (length classes) j (omega (arith, one, below)) (omega arith)) in
+      first_of classes count futures.order (length classes) (slice_index classes j) (omega arith)
+      (class_seen classes count futures.order (length classes) j (omega (arith, one, below)) (omega arith)) in
       let inside : f.node < length nodes = omega (arith, one, f.within) in
       record {
         node = f.node;

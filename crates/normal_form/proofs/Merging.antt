@@ -35,11 +35,11 @@ module _ (nodes : List Node) (classes : List ℕ) (count : ℕ) (order : SeenInO
           one_each = ap length same ∙ length_push merged (renamed classes node) ∙ ap (λ m. m + 1) s.one_each ∙ add-one (seen_by 0 classes n) ∙ sym h.1 ∙ ap (seen_by 0 classes) (sym (add-one n));
           first = below_more (λ k. IsFirst classes k → node_at new (slice_index classes k) ≡ renamed classes (node_at nodes k)) n
               (λ k early f.
-                let inside : slice_index classes k < length merged = rw s.one_each (class_seen classes count order n k early (omega arith)) in
-                ap (λ (ns : List Node). node_at ns (slice_index classes k)) same ∙ get_or_append_left merged (renamed classes node ∷ []) (record { next = []; accept = [] }) (slice_index classes k) inside ∙ s.first k early f)
+              let inside : slice_index classes k < length merged = rw s.one_each (class_seen classes count order n k early (omega arith)) in
+              ap (λ (ns : List Node). node_at ns (slice_index classes k)) same ∙ get_or_append_left merged (renamed classes node ∷ []) (record { next = []; accept = [] }) (slice_index classes k) inside ∙ s.first k early f)
               (λ f. ap (λ (ns : List Node). node_at ns (slice_index classes n)) same
-                ∙ get_or_push merged (renamed classes node) (record { next = []; accept = [] }) (slice_index classes n) (sym turn ∙ class_is)
-                ∙ ap (renamed classes) node_is);
+              ∙ get_or_push merged (renamed classes node) (record { next = []; accept = [] }) (slice_index classes n) (sym turn ∙ class_is)
+              ∙ ap (renamed classes) node_is);
         }
   ]
 

@@ -16,7 +16,7 @@ use Rattle.csp_tables.specs.NormalTable.{IsListed, IsNormalTable}
 use Rattle.csp_tables.specs.Behaviour.{OffersAcceptance}
 use Rattle.csp_tables.specs.BreadthFirst.{IsBreadthFirst, targets_of_nodes}
 use Rattle.csp_tables.specs.Shape.{IsReached}
-use Rattle.determinise.specs.Determinised.{HasAcceptances, IsInOrder}
+use Rattle.determinise.specs.Determinised.{Determinised, FollowsTraces, HasAcceptances, IsInOrder}
 use Rattle.equal_futures.specs.Future.{HaveEqualFuture, AreFutureClasses, NodesRise, StepsRise}
 use Rattle.equal_futures.proofs.Growing.{few_seen}
 use Rattle.normal_form.specs.Marks.{AreMarksOf}
@@ -137,3 +137,25 @@ module _ (Step : ℕ → Label → ℕ → Type 0) (nodes merged : List Node) (t
 
   pub no_more_nodes : length merged ≤ length nodes
   no_more_nodes = let few : m.count ≤ 0 + length m.classes = few_seen 0 m.classes m.count m.futures.order in let one = m.futures.one_each in let all = m.is.one_each in omega (arith, few, one, all)
+
+-- all that the merged table is, as the code has the nodes
+pub record IsAsPromised (Step : ℕ → Label → ℕ → Type 0) (merged : List Node) : Type 0 where
+  pub normal : IsNormalTable Step 0 merged
+  pub in_order : All IsInOrder merged
+  pub breadth_first : IsBreadthFirst merged
+  pub reached : (n : ℕ) → n < length merged → IsReached merged n
+  pub few : length merged ≤ 2048
+
+pub promised : (Step : ℕ → Label → ℕ → Type 0) (made : Determinised) (nodes merged : List Node) → nodes ≡ made.nodes → FollowsTraces Step 0 made → HasAcceptances Step 0 made.nodes → All IsInOrder made.nodes → IsBreadthFirst made.nodes → length made.nodes ≤ 2048 → IsMergedTable nodes merged → IsAsPromised Step merged
+promised Step made nodes merged same follows accepts order breadth few m =
+    let is : IsMergedTable made.nodes merged = subst (λ (ns : List Node). IsMergedTable ns merged) same m in
+    record {
+      normal = normal Step made.nodes merged follows.traces accepts order breadth is;
+      in_order = in_order Step made.nodes merged follows.traces accepts order breadth is;
+      breadth_first = breadth_first Step made.nodes merged follows.traces accepts order breadth is;
+      reached = all_reached Step made.nodes merged follows.traces accepts order breadth is;
+      few = let l = no_more_nodes Step made.nodes merged follows.traces accepts order breadth is in omega (arith, l, few);
+    }
+
+pub rises : (made : Determinised) (nodes : List Node) → nodes ≡ made.nodes → All IsInOrder made.nodes → IsBreadthFirst made.nodes → NodesRise nodes
+rises made nodes same order breadth = subst NodesRise (sym same) (nodes_rise made.nodes order breadth)

@@ -22,7 +22,7 @@ module _ (nodes : List Node) (rise : NodesRise nodes) (breadth : IsBreadthFirst 
   led_to (suc i) m t few met some below =
       let taken : take (suc i) nodes ≡ take i nodes ++ node_at nodes i ∷ [] = take-suc nodes i (record { next = []; accept = [] }) few in
       let r : MetBetween 1 (targets_of_nodes (take i nodes)) (targets_of_steps (node_at nodes i).next) m =
-          meets_cut 1 m (targets_of_nodes (take i nodes)) (targets_of_steps (node_at nodes i).next) (subst (λ (ts : List ℕ). MeetsInOrder 1 ts m) (ap targets_of_nodes taken ∙ more_targets (take i nodes) (node_at nodes i)) met) in
+      meets_cut 1 m (targets_of_nodes (take i nodes)) (targets_of_steps (node_at nodes i).next) (subst (λ (ts : List ℕ). MeetsInOrder 1 ts m) (ap targets_of_nodes taken ∙ more_targets (take i nodes) (node_at nodes i)) met) in
       elim (cases_lt t r.middle) as (λ _. IsLedTo t) [
         | inl before ↦ led_to i r.middle t (omega arith) r.front some before
         | inr after ↦

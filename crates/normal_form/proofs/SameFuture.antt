@@ -120,13 +120,13 @@ module _ (Step : ℕ → Label → ℕ → Type 0) (start : ℕ) (nodes : List N
         );
         acceptances = λ w M. (
           λ a.
-            let trace : IsTrace Step start (s ++ w) = (a.offer.state, a.offer.reached) in
-            let run : IsRun nodes (s ++ w) = (traces (s ++ w)).0 trace in
-            acceptance_from (s ++ w) (t ++ w) M (lists_alike w run) ((traces (t ++ w)).1 (sym (runs_alike w) ∙ run)) a,
+              let trace : IsTrace Step start (s ++ w) = (a.offer.state, a.offer.reached) in
+              let run : IsRun nodes (s ++ w) = (traces (s ++ w)).0 trace in
+              acceptance_from (s ++ w) (t ++ w) M (lists_alike w run) ((traces (t ++ w)).1 (sym (runs_alike w) ∙ run)) a,
           λ a.
-            let trace : IsTrace Step start (t ++ w) = (a.offer.state, a.offer.reached) in
-            let run : IsRun nodes (s ++ w) = runs_alike w ∙ (traces (t ++ w)).0 trace in
-            acceptance_from (t ++ w) (s ++ w) M (sym (lists_alike w run)) ((traces (s ++ w)).1 run) a,
+              let trace : IsTrace Step start (t ++ w) = (a.offer.state, a.offer.reached) in
+              let run : IsRun nodes (s ++ w) = runs_alike w ∙ (traces (t ++ w)).0 trace in
+              acceptance_from (t ++ w) (s ++ w) M (sym (lists_alike w run)) ((traces (s ++ w)).1 run) a,
         );
       }
 
@@ -143,7 +143,7 @@ module _ (Step : ℕ → Label → ℕ → Type 0) (start : ℕ) (nodes : List N
           let first : end_of nodes (end_of nodes 0 s) w < length nodes = end_within w (end_of nodes 0 s) first_within h in
           let second : end_of nodes (end_of nodes 0 t) w < length nodes = end_within w (end_of nodes 0 t) second_within here in
           (told.exact (end_of nodes (end_of nodes 0 s) w) (end_of nodes (end_of nodes 0 t) w) first second).1
-            (ap (λ (n : ℕ). (node_at nodes n).accept) (sym (end_append nodes s w 0))
-              ∙ lists_equal (s ++ w) (t ++ w) trace other (f.acceptances w)
-              ∙ ap (λ (n : ℕ). (node_at nodes n).accept) (end_append nodes t w 0));
+          (ap (λ (n : ℕ). (node_at nodes n).accept) (sym (end_append nodes s w 0))
+          ∙ lists_equal (s ++ w) (t ++ w) trace other (f.acceptances w)
+          ∙ ap (λ (n : ℕ). (node_at nodes n).accept) (end_append nodes t w 0));
     }

@@ -52,5 +52,5 @@ same_sorted (x ∷ xs) (y ∷ ys) a b into back =
     let second : AllByRecursion (λ z. Order y z ≡ Less) ys = sorted_head Order y ys b in
     let same : x ≡ y = first_same x y xs ys first second (into x (inl refl)) (back y (inl refl)) in
     joined x y xs ys same (same_sorted xs ys (sorted_tail Order x xs a) (sorted_tail Order y ys b)
-      (λ m h. in_rest x y m xs ys first same h (into m (inr h)))
-      (λ m h. in_rest y x m ys xs second (sym same) h (back m (inr h))))
+    (λ m h. in_rest x y m xs ys first same h (into m (inr h)))
+    (λ m h. in_rest y x m ys xs second (sym same) h (back m (inr h))))

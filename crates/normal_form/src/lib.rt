@@ -5,5 +5,9 @@ mod fault;
 mod marks;
 mod merge;
 mod merged;
+mod normal_table;
+#[cfg(test)]
+mod tests;
 
 pub use fault::NormFault;
+pub use normal_table::normalise;

@@ -22,11 +22,7 @@ use tau_order::Heights;
 /// Nodes are numbered breadth first from the one of the empty trace, events in rising order; each is reached by a run. The
 /// acceptances of a node stand in the order of lists. Where traces lead to more than 2,048 sets of terms, the answer is
 /// `SubsetLimit`.
-pub fn normalise_by_rounds(
-    alloc: Global,
-    table: &RawTable,
-    heights: &Heights,
-) -> Result<NormTable, NormFault>
+pub fn normalise(alloc: Global, table: &RawTable, heights: &Heights) -> Result<NormTable, NormFault>
     requires heights { AreHeights table.now heights.now }
     ensures normal { IfOk result (IsNormalTable (RawStep table.now) 0) }
     ensures in_order { IfOk result (All IsInOrder) }
