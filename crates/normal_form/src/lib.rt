@@ -10,4 +10,4 @@ mod normal_table;
 mod tests;
 
 pub use fault::NormFault;
-pub use normal_table::normalise;
+pub use normal_table::{normalise, normalise_by_rounds};

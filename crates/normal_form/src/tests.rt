@@ -1,6 +1,6 @@
 //! Tables worked by hand.
 
-use crate::{NormFault, normalise};
+use crate::{NormFault, normalise, normalise_by_rounds};
 use csp_base::{Event, EventSet, NoMemory};
 use csp_tables::{NormNode, NormTable, RawTable};
 use std::alloc::Global;
@@ -56,6 +56,40 @@ fn normal(alloc: Global, table: &RawTable) -> Result<NormTable, NormFault> {
     }
 }
 
+fn normal_by_rounds(alloc: Global, table: &RawTable) -> Result<NormTable, NormFault> {
+    match heights(alloc, table) {
+        Ok(found) => normalise_by_rounds(alloc, table, &found),
+        Err(_) => Err(NormFault::NoMemory),
+    }
+}
+
+fn is_same_node(left: &NormNode, right: &NormNode) -> bool {
+    left.next() == right.next() && left.accept() == right.accept()
+}
+
+// Whether both ways give one table, which has as many nodes as the number says.
+fn agree(alloc: Global, table: &RawTable, count: usize) -> Result<bool, NormFault> {
+    let left = normal(alloc, table)?;
+    let right = normal_by_rounds(alloc, table)?;
+    let same = left
+        .nodes()
+        .iter()
+        .zip(right.nodes())
+        .all(|(node, other)| is_same_node(node, other));
+    Ok(same && left.len() == count && right.len() == count)
+}
+
+// Terms in a row by the event 0, from the first to the last.
+fn chain(alloc: Global, count: u32) -> Result<RawTable, NoMemory> {
+    let mut table = terms(alloc, count);
+    for from in 0..count {
+        if from < 9000 {
+            add_step(&mut table, from, 0, from + 1)?;
+        }
+    }
+    Ok(table)
+}
+
 fn set_of(alloc: Global, events: &[u32]) -> Result<EventSet, NoMemory> {
     let mut set = EventSet::new(alloc);
     for event in events {
@@ -107,15 +141,9 @@ fn gives(
     Ok(true)
 }
 
-// Whether a chain of terms by one event, as long as the number says, is past the limit, which tells 2,049.
-fn is_past_limit(alloc: Global, count: u32) -> Result<bool, NoMemory> {
-    let mut table = terms(alloc, count);
-    for from in 0..count {
-        if from < 9000 {
-            add_step(&mut table, from, 0, from + 1)?;
-        }
-    }
-    match normal(alloc, &table) {
+// Whether the table is past the limit, which tells 2,049.
+fn is_past_limit(alloc: Global, table: &RawTable) -> Result<bool, NoMemory> {
+    match normal(alloc, table) {
         Ok(_) => Ok(false),
         Err(NormFault::NoMemory) => Err(NoMemory),
         Err(NormFault::SubsetLimit { found }) => Ok(found == 2049),
@@ -211,8 +239,17 @@ fn equal_futures_are_one_node(rt: HostRuntime) -> Result<(), Fail> {
     Ok(())
 }
 
+// No two terms of the chain have equal future.
+#[test]
+fn both_ways_agree(rt: HostRuntime) -> Result<(), Fail> {
+    let table = chain(rt.alloc(), 40)?;
+    assert!(rt; agree(rt.alloc(), &table, 40)?);
+    Ok(())
+}
+
 #[test]
 fn limit_of_sets(rt: HostRuntime) -> Result<(), Fail> {
-    assert!(rt; is_past_limit(rt.alloc(), 2049)?);
+    let table = chain(rt.alloc(), 2049)?;
+    assert!(rt; is_past_limit(rt.alloc(), &table)?);
     Ok(())
 }
