@@ -1,0 +1,3 @@
+pub mod Examples
+pub mod Follow
+pub mod Gives
