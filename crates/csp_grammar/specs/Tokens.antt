@@ -69,12 +69,13 @@ word_place word.Stop = 15
 word_place word.Skip = 16
 
 -- How tightly a symbol binds what stands before it, 0 where it never goes on with that: a call 20, a renaming 18, an operator its level (16 to 11), what
--- goes on with the name of an event 10, a guard 9, `;` 8, a choice or a hiding 7, an alphabet of a parallel 6.
+-- goes on with the name of an event 10, a guard and `<-` 9, `;` 8, a choice or a hiding 7, an alphabet of a parallel 6.
 abbrev pub symbol_binding : Symbol → ℕ
 symbol_binding symbol.Arrow = 10
 symbol_binding symbol.ExternalChoice = 7
 symbol_binding symbol.InternalChoice = 7
 symbol_binding symbol.OpenRename = 18
+symbol_binding symbol.LeftArrow = 9
 symbol_binding symbol.Dot = 10
 symbol_binding symbol.Bang = 10
 symbol_binding symbol.Question = 10
