@@ -1,23 +1,21 @@
 -- What the grammar has, the readers give, in front of every rest that does not go on with the tree.
-use Rattle.std.proofs.Common.{◌≡◌, ℕ, suc, Bool, true, false, nat_eq, nat_lt, nat_le, Option, Some, None, List, [], ◌∷◌, refl, sym, ap, subst, ◌∙◌, arith}
+use Rattle.std.proofs.Common.{◌≡◌, ℕ, Bool, true, nat_lt, nat_le, Option, Some, None, List, [], ◌∷◌, refl, arith}
 use Rattle.csp_text.specs.declared.token.Token.{Token}
 use Rattle.csp_text.specs.declared.token.Token.TheVariants as token
 use Rattle.csp_text.specs.declared.token.Symbol.TheVariants as symbol
 use Rattle.csp_text.specs.declared.tree.Tree.{Tree}
-use Rattle.csp_text.specs.declared.tree.Tree.TheVariants as tree
 use Rattle.csp_text.specs.declared.tree.SetOp.TheVariants as set_op
 use Rattle.csp_text.specs.declared.tree.FieldTree.{FieldTree}
-use Rattle.csp_text.specs.declared.tree.FieldTree.TheVariants as field
 use Rattle.csp_text.specs.declared.tree.GenTree.{GenTree}
 use Rattle.csp_text.specs.declared.tree.PartTree.{PartTree}
 use Rattle.csp_grammar.specs.Grammar.{Choice, TreeText, SideText, ClosedSideText, HidingText, ClosedChoiceText, OpenChoiceText, ClosedSequenceText, OpenSequenceText, ClosedPrefixText, OpenPrefixText, OpenText, FieldsText, DotsText, ExpressionText, PairsText, PartText, PartsText, ConditionsText, GensText, GenText, ItemText, ItemsText, AtomText}
 use Rattle.csp_grammar.specs.Grammar as g
 use Rattle.csp_grammar.specs.Precedence.{Level}
-use Rattle.csp_grammar.specs.Reader.{Readers, read_side, read_item, read_part, read_gen, read_conditions, closed_or_open, with_first}
-use Rattle.csp_grammar.specs.Tokens.{begins, binding, skip}
-use Rattle.csp_grammar.proofs.Gives.{Gives, later, now, bind, there, not_there, granted, first, second}
+use Rattle.csp_grammar.specs.Reader.{read_side, read_item, read_part, read_gen, read_conditions, closed_or_open, with_first}
+use Rattle.csp_grammar.specs.Tokens.{binding, skip}
+use Rattle.csp_grammar.proofs.Gives.{Gives, later, now, bind, not_there, granted, first, second}
 use Rattle.csp_grammar.proofs.Follow.{Stops, more, not_symbol, EndsFields, stops_no_event, stops_ten}
-use Rattle.csp_grammar.proofs.Levels.{Reads, follow, number, next_follow, IsLeft, left, compared, read_at, read_tighter, read_left, read_compare, read_negated, read_negative, read_rename, read_operand}
+use Rattle.csp_grammar.proofs.Levels.{Reads, follow, next_follow, left, compared, read_at, read_tighter, read_left, read_compare, read_negated, read_negative, read_rename, read_operand}
 use Rattle.csp_grammar.proofs.Parts.{Bounded, looser, one_of_two, still_closed, dots_begin, fields_begin, fields_no_colon, dots_more, AreDots, no_dots, more_dots, conditions_begin, into_guard, prefix_alone, sequence_alone, side_alone, tree_alone, choice_stops, last_choice, more_choices, side_of_choices, bound_alone}
 use Rattle.csp_grammar.proofs.Starts.{no_event, no_arrow, plain, atom_operand, items_no_brace}
 
@@ -45,7 +43,7 @@ mutual
       let front = read_at (expression_read a (more 11 16 us refl rest)) 15 refl (more 11 15 us refl rest) in
       let fields = more_dots front (dots_before d (more 6 10 r refl s)) in
       tree_alone s (side_alone (more 6 7 r refl s) (sequence_alone (more 6 8 r refl s)
-        (later (bind _ fields.gives (not_there _ _ (not_symbol symbol.Arrow 6 r refl s) now)))))
+      (later (bind _ fields.gives (not_there _ _ (not_symbol symbol.Arrow 6 r refl s) now)))))
   tree_read (g.tree-side p) s = tree_alone s (side_read p s).gives
   tree_read {r = r} (g.tree-parallel p a b q) s =
       let front = closed_side_read p refl in

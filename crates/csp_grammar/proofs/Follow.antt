@@ -1,10 +1,10 @@
 -- What the first token of a rest tells of the looks at it.
-use Rattle.std.proofs.Common.{◌≡◌, ℕ, zero, suc, ◌≤◌, ◌<◌, Bool, true, false, ◌&&◌, nat_eq, nat_lt, nat_le, if◌then◌else◌, Option, Some, None, List, [], ◌∷◌, refl, sym, ap, ◌∙◌, arith}
+use Rattle.std.proofs.Common.{◌≡◌, ℕ, ◌<◌, true, false, ◌&&◌, nat_eq, nat_lt, nat_le, if◌then◌else◌, Some, None, List, [], ◌∷◌, refl, ap, arith}
 use Rattle.csp_text.specs.declared.token.Token.{Token}
 use Rattle.csp_text.specs.declared.token.Token.TheVariants as token
 use Rattle.csp_text.specs.declared.token.Symbol.{Symbol}
 use Rattle.csp_text.specs.declared.token.Symbol.TheVariants as symbol
-use Rattle.csp_grammar.specs.Tokens.{begins, binding, skip, symbol_binding, symbol_place, is_symbol}
+use Rattle.csp_grammar.specs.Tokens.{begins, skip, symbol_binding, symbol_place}
 
 -- the rest does not begin with a token that binds as tightly as the number, or tighter
 abbrev pub Stops : ℕ → List Token → Type 0

@@ -1,5 +1,5 @@
 -- The levels of expressions as numbers, and how an expression is read whatever level the reading began at.
-use Rattle.std.proofs.Common.{◌≡◌, ℕ, suc, ◌<◌, Bool, true, false, ◌&&◌, nat_eq, nat_lt, nat_le, Option, Some, None, List, [], ◌∷◌, refl, sym, ap, subst, ◌∙◌, arith}
+use Rattle.std.proofs.Common.{◌≡◌, ℕ, suc, true, false, ◌&&◌, nat_lt, nat_le, Some, List, ◌∷◌, refl, sym, subst, arith}
 use Rattle.csp_text.specs.declared.token.Token.{Token}
 use Rattle.csp_text.specs.declared.token.Token.TheVariants as token
 use Rattle.csp_text.specs.declared.token.Word.TheVariants as word
@@ -12,10 +12,10 @@ use Rattle.csp_text.specs.declared.tree.GenTree.{GenTree}
 use Rattle.csp_grammar.specs.Precedence.{Level, IsNext, IsLeftOperator, IsComparison}
 use Rattle.csp_grammar.specs.Precedence as table
 use Rattle.csp_grammar.specs.Precedence.Level.{disjunction, conjunction, negation, comparison, sum, product, minus, renaming}
-use Rattle.csp_grammar.specs.Reader.{Readers, left_needs, read_conditions}
+use Rattle.csp_grammar.specs.Reader.{left_needs, read_conditions}
 use Rattle.csp_grammar.specs.Tokens.{begins, binding, token_operator}
-use Rattle.csp_grammar.proofs.Gives.{Gives, later, now, bind, look, there, not_there, granted, first, second}
-use Rattle.csp_grammar.proofs.Follow.{Stops, more}
+use Rattle.csp_grammar.proofs.Gives.{Gives, later, now, bind, there, not_there, granted, first, second}
+use Rattle.csp_grammar.proofs.Follow.{Stops}
 use Rattle.csp_grammar.proofs.Starts.{IsOperand}
 
 abbrev pub number : Level → ℕ
@@ -132,9 +132,9 @@ read_left {n} {l} {m} {sign} {op} {ts} {a} {us} {b} {r} next is p q s = record {
   tight = le_same (number l);
   reads = λ level x le h.
       p.reads level x le (later (first _ _ (both level (binding sign) (number l) p.k is.bound is.needs le p.tight)
-        (there _ _ is.names
-          (bind _ (read_at q (suc (binding sign)) (le_eq (binding sign) (number l) (number m) is.bound (next_number next)) (stops_eq (binding sign) (number l) (follow l) r is.bound is.follows s))
-            (subst (λ z. Gives (λ R. R.operators n level z (tree.Binary op a b) r) x) (sym is.bound) h)))));
+      (there _ _ is.names
+      (bind _ (read_at q (suc (binding sign)) (le_eq (binding sign) (number l) (number m) is.bound (next_number next)) (stops_eq (binding sign) (number l) (follow l) r is.bound is.follows s))
+      (subst (λ z. Gives (λ R. R.operators n level z (tree.Binary op a b) r) x) (sym is.bound) h)))));
 }
 
 both_compared : (m b k : ℕ) → b ≡ 14 → nat_le m 14 ≡ true → nat_le 15 k ≡ true → (nat_le m b && nat_le (left_needs b) k) ≡ true
@@ -156,9 +156,9 @@ read_compare {n} {sign} {op} {ts} {a} {us} {b} {r} is p q s = record {
   tight = refl;
   reads = λ level x le h.
       p.reads level x (to_fifteen level le) (later (first _ _ (both_compared level (binding sign) p.k is.0 le p.tight)
-        (there _ _ is.1
-          (bind _ (read_at q (suc (binding sign)) (fourteen (binding sign) is.0) (stops_fifteen (binding sign) r is.0 s))
-            (subst (λ z. Gives (λ R. R.operators n level z (tree.Binary op a b) r) x) (sym is.0) h)))));
+      (there _ _ is.1
+      (bind _ (read_at q (suc (binding sign)) (fourteen (binding sign) is.0) (stops_fifteen (binding sign) r is.0 s))
+      (subst (λ z. Gives (λ R. R.operators n level z (tree.Binary op a b) r) x) (sym is.0) h)))));
 }
 
 pub read_negated : {n : ℕ} {ts : List Token} {a : Tree} {r : List Token} → Reads n negation ts a r → Stops 13 r → Reads n negation (token.Word word.Not ∷ ts) (tree.Not a) r

@@ -4,4 +4,7 @@ pub mod Follow
 pub mod Gives
 pub mod Levels
 pub mod Parts
+pub mod Refused
+pub mod Scripts
 pub mod Starts
+pub mod Unique

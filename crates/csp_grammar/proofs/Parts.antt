@@ -1,10 +1,9 @@
 -- Steps of the readers that need no recursion.
-use Rattle.std.proofs.Common.{◌≡◌, ℕ, suc, Bool, true, false, nat_eq, nat_lt, nat_le, if◌then◌else◌, Option, Some, None, List, [], ◌∷◌, refl, sym, ap, subst, ◌∙◌, arith}
+use Rattle.std.proofs.Common.{◌≡◌, ℕ, Bool, true, false, nat_eq, nat_le, if◌then◌else◌, Option, Some, None, List, [], ◌∷◌, refl, sym, subst, arith}
 use Rattle.csp_text.specs.declared.token.Token.{Token}
 use Rattle.csp_text.specs.declared.token.Token.TheVariants as token
 use Rattle.csp_text.specs.declared.token.Symbol.TheVariants as symbol
 use Rattle.csp_text.specs.declared.tree.Tree.{Tree}
-use Rattle.csp_text.specs.declared.tree.Tree.TheVariants as tree
 use Rattle.csp_text.specs.declared.tree.FieldTree.{FieldTree}
 use Rattle.csp_text.specs.declared.tree.FieldTree.TheVariants as field
 use Rattle.csp_text.specs.declared.tree.GenTree.{GenTree}
@@ -12,11 +11,10 @@ use Rattle.csp_grammar.specs.Grammar.{Choice, choice_sign, DotsText, FieldsText,
 use Rattle.csp_grammar.specs.Grammar as g
 use Rattle.csp_grammar.specs.Grammar.Choice.{external, internal}
 use Rattle.csp_grammar.specs.Precedence.{Level}
-use Rattle.csp_grammar.specs.Precedence.Level.{disjunction, renaming}
 use Rattle.csp_grammar.specs.Reader.{Readers, read_side, read_guard, closed_or_open, begins_event, first_choice, choice_symbol, case}
 use Rattle.csp_grammar.specs.Tokens.{begins, skip}
-use Rattle.csp_grammar.proofs.Gives.{Gives, later, now, bind, look, there, not_there, granted, first, second}
-use Rattle.csp_grammar.proofs.Follow.{Stops, more, not_symbol, EndsFields, stops_no_event, stops_ten}
+use Rattle.csp_grammar.proofs.Gives.{Gives, later, now, bind, there, not_there, granted, second}
+use Rattle.csp_grammar.proofs.Follow.{Stops, more, not_symbol}
 use Rattle.csp_grammar.proofs.Levels.{Reads, read_at, number}
 use Rattle.csp_grammar.proofs.Starts.{IsPlain}
 
@@ -111,7 +109,7 @@ neither : (o p : Option (List Token)) → o ≡ None → p ≡ None →
     ◌≡◌ {A = Option (Choice × List Token)} (case o (λ us. Some (external, us)) (λ _. case p (λ us. Some (internal, us)) (λ _. None))) None
 neither o p e f =
     subst (λ o. ◌≡◌ {A = Option (Choice × List Token)} (case o (λ us. Some (external, us)) (λ _. case p (λ us. Some (internal, us)) (λ _. None))) None) (sym e)
-      (subst (λ p. ◌≡◌ {A = Option (Choice × List Token)} (case p (λ us. Some (internal, us)) (λ _. None)) None) (sym f) refl)
+    (subst (λ p. ◌≡◌ {A = Option (Choice × List Token)} (case p (λ us. Some (internal, us)) (λ _. None)) None) (sym f) refl)
 
 no_choice : (r : List Token) → Stops 7 r → first_choice r ≡ None
 no_choice r s = neither (skip symbol.ExternalChoice r) (skip symbol.InternalChoice r) (not_symbol symbol.ExternalChoice 7 r refl s) (not_symbol symbol.InternalChoice 7 r refl s)

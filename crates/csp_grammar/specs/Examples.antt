@@ -1,9 +1,9 @@
 -- Texts worked out by hand, each with its tree.
-use Rattle.std.specs.Prelude.{◌≡◌, ℕ, suc, List, [], ◌∷◌}
+use Rattle.std.specs.Prelude.{ℕ, suc, List, [], ◌∷◌}
 use Rattle.csp_text.specs.declared.token.Token.{Token}
 use Rattle.csp_text.specs.declared.token.Token.TheVariants.{Name, Num, Word, Symbol}
 use Rattle.csp_text.specs.declared.token.Word.TheVariants as word
-use Rattle.csp_text.specs.declared.token.Symbol.TheVariants.{Arrow, ExternalChoice, InternalChoice, Semicolon, Minus, OpenBrace, CloseBrace}
+use Rattle.csp_text.specs.declared.token.Symbol.TheVariants.{Arrow, ExternalChoice, Semicolon, Minus, OpenBrace, CloseBrace}
 use Rattle.csp_text.specs.declared.tree.Tree.{Tree}
 use Rattle.csp_text.specs.declared.tree.Tree.TheVariants as tree
 use Rattle.csp_grammar.specs.Grammar.{TreeText, event_tree}

@@ -5,3 +5,4 @@ pub mod Grammar
 pub mod Precedence
 pub mod Reader
 pub mod Tokens
+pub mod Unique

@@ -3,7 +3,7 @@
 -- process, from 11 on an expression by its level, 19 an atom.
 --
 -- n is the number of brackets that may still be opened. `readers f` may call one another f times in a row.
-use Rattle.std.specs.Prelude.{ℕ, zero, suc, Bool, true, false, ◌&&◌, nat_eq, nat_le, if◌then◌else◌, Option, Some, None, List, [], ◌∷◌}
+use Rattle.std.specs.Prelude.{ℕ, zero, suc, Bool, true, false, ◌&&◌, ◌||◌, nat_eq, nat_le, if◌then◌else◌, Option, Some, None, List, [], ◌∷◌, codes}
 use Rattle.csp_text.specs.declared.token.Token.{Token}
 use Rattle.csp_text.specs.declared.token.Token.TheVariants as token
 use Rattle.csp_text.specs.declared.token.Word.{Word}
@@ -19,9 +19,12 @@ use Rattle.csp_text.specs.declared.tree.FieldTree.{FieldTree}
 use Rattle.csp_text.specs.declared.tree.FieldTree.TheVariants as field
 use Rattle.csp_text.specs.declared.tree.GenTree.{GenTree}
 use Rattle.csp_text.specs.declared.tree.GenTree.TheVariants as generator
+use Rattle.csp_text.specs.declared.script.Decl.{Decl}
+use Rattle.csp_text.specs.declared.script.Decl.TheVariants as decl
+use Rattle.csp_grammar.specs.Depth.{depth}
 use Rattle.csp_grammar.specs.Grammar.{Choice, choice_of, event_tree, part_tree}
 use Rattle.csp_grammar.specs.Grammar.Choice.{external, internal}
-use Rattle.csp_grammar.specs.Tokens.{begins, skip, skip_word, first_name, behind_name, first_operator, behind}
+use Rattle.csp_grammar.specs.Tokens.{begins, skip, skip_word, first_token, first_name, is_text, behind_name, first_operator, behind}
 
 -- what is read from the front of a list, with what is left of it
 abbrev pub Reading : Type 0 → Type 0
@@ -79,6 +82,9 @@ pub record Readers : Type 0 where
   pub gens : ℕ → List Token → Reading (List GenTree)
   pub items : ℕ → List Token → Bound (List Tree)
   pub atom : ℕ → List Token → Reading Tree
+  pub names : Symbol → List Token → Reading (List (List ℕ))
+  pub types : List Token → Reading (List Tree)
+  pub declarations : List Token → Option (List Decl)
 
 -- whether a name stands in front of what goes on with the name of an event: `->`, `.`, `!` or `?`
 abbrev pub begins_event : List Token → Bool
@@ -344,6 +350,91 @@ module _ (R : Readers) where
       (λ us. when (nat_le 2 p.0) λ _. read_parallel n p.1 us)
       (λ _. Some (p.1, p.2))
 
+  -- names with the sign between them
+  abbrev pub read_names : Symbol → List Token → Reading (List (List ℕ))
+  read_names sign ts =
+      and_then (first_name ts) λ x.
+      case (skip sign (behind_name ts))
+      (λ us. and_then (R.names sign us) λ p. Some (x ∷ p.0, p.1))
+      (λ _. Some (x ∷ [], behind_name ts))
+
+  abbrev pub read_types : List Token → Reading (List Tree)
+  read_types ts =
+      and_then (R.atom 400 ts) λ p. when (nat_le (depth p.0) 200) λ _.
+      case (skip symbol.Dot p.1)
+      (λ us. and_then (R.types us) λ q. Some (p.0 ∷ q.0, q.1))
+      (λ _. Some (p.0 ∷ [], p.1))
+
+  abbrev pub read_channel : List Token → Reading Decl
+  read_channel ts =
+      and_then (R.names symbol.Comma ts) λ p.
+      case (skip symbol.Colon p.1)
+      (λ us. and_then (R.types us) λ q. Some (decl.Channel p.0 q.0, q.1))
+      (λ _. Some (decl.Channel p.0 [], p.1))
+
+  abbrev pub read_datatype : List Token → Reading Decl
+  read_datatype ts =
+      and_then (first_name ts) λ d. and_then (skip symbol.Defines (behind_name ts)) λ us.
+      and_then (R.names symbol.Bar us) λ p. Some (decl.Datatype d p.0, p.1)
+
+  abbrev pub read_nametype : List Token → Reading Decl
+  read_nametype ts =
+      and_then (first_name ts) λ x. and_then (skip symbol.Defines (behind_name ts)) λ us.
+      and_then (R.atom 400 us) λ p. when (nat_le (depth p.0) 200) λ _. Some (decl.Nametype x p.0, p.1)
+
+  abbrev pub read_parameters : List Token → Reading (List (List ℕ))
+  read_parameters ts =
+      case (skip symbol.OpenParen ts)
+      (λ us. and_then (R.names symbol.Comma us) λ p. and_then (skip symbol.CloseParen p.1) λ vs. Some (p.0, vs))
+      (λ _. Some ([], ts))
+
+  abbrev pub read_definition : List ℕ → List Token → Reading Decl
+  read_definition f ts =
+      and_then (read_parameters ts) λ p. and_then (skip symbol.Defines p.1) λ us.
+      and_then (R.tree 400 us) λ q. when (nat_le (depth q.0) 200) λ _. Some (decl.Define f p.0 q.0, q.1)
+
+  -- the name or the call of an assertion
+  abbrev pub read_asserted : List Token → Reading Tree
+  read_asserted ts =
+      and_then (first_name ts) λ x.
+      case (skip symbol.OpenParen (behind_name ts)) (λ us. read_call 400 x us) (λ _. Some (tree.Name x, behind_name ts))
+
+  abbrev pub read_model : List Token → Option (List Token)
+  read_model ts =
+      case (skip symbol.OpenBracket ts)
+      (λ us. and_then (first_name us) λ m. when (is_text m (codes "F") || is_text m (codes "FD")) λ _. skip symbol.CloseBracket (behind_name us))
+      (λ _. Some ts)
+
+  abbrev pub read_assertion : List Token → Reading Decl
+  read_assertion ts =
+      and_then (read_asserted ts) λ p. when (nat_le (depth p.0) 200) λ _.
+      and_then (skip symbol.Colon p.1) λ us. and_then (skip symbol.OpenBracket us) λ vs.
+      and_then (first_name vs) λ d. when (is_text d (codes "deadlock")) λ _.
+      and_then (first_name (behind_name vs)) λ f. when (is_text f (codes "free")) λ _.
+      and_then (read_model (behind_name (behind_name vs))) λ ws. and_then (skip symbol.CloseBracket ws) λ zs. Some (decl.Assert p.0, zs)
+
+  abbrev pub read_word_declaration : Word → List Token → Reading Decl
+  read_word_declaration word.Channel ts = read_channel ts
+  read_word_declaration word.Datatype ts = read_datatype ts
+  read_word_declaration word.Nametype ts = read_nametype ts
+  read_word_declaration word.Assert ts = read_assertion ts
+  read_word_declaration _ ts = None
+
+  abbrev pub read_declaration : List Token → Reading Decl
+  read_declaration [] = None
+  read_declaration (token.Name f ∷ ts) = read_definition f ts
+  read_declaration (token.Word w ∷ ts) = read_word_declaration w ts
+  read_declaration (token.Roles names ∷ ts) = Some (decl.Roles names, ts)
+  read_declaration (token.Resource names ∷ ts) = Some (decl.Resource names, ts)
+  read_declaration (token.Num _ ∷ ts) = None
+  read_declaration (token.Symbol _ ∷ ts) = None
+
+  abbrev pub read_declarations : List Token → Option (List Decl)
+  read_declarations ts =
+      case (first_token ts)
+      (λ t. and_then (read_declaration ts) λ p. and_then (R.declarations p.1) λ ds. Some (p.0 ∷ ds))
+      (λ _. Some [])
+
 -- the readers that may call these
 abbrev pub next : Readers → Readers
 next R = record {
@@ -361,6 +452,9 @@ next R = record {
   gens = read_gens R;
   items = read_items R;
   atom = read_atom R;
+  names = read_names R;
+  types = read_types R;
+  declarations = read_declarations R;
 }
 
 -- the readers that read nothing
@@ -380,6 +474,9 @@ nothing = record {
   gens = λ n ts. None;
   items = λ n ts. None;
   atom = λ n ts. None;
+  names = λ sign ts. None;
+  types = λ ts. None;
+  declarations = λ ts. None;
 }
 
 unfoldable pub readers : ℕ → Readers

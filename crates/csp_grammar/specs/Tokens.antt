@@ -1,5 +1,5 @@
 -- How the reader looks at tokens: the places of symbols and words in the lists of them, and how tightly a token binds to what stands before it.
-use Rattle.std.specs.Prelude.{ℕ, suc, Bool, true, false, ◌&&◌, nat_eq, if◌then◌else◌, Option, Some, None, List, [], ◌∷◌}
+use Rattle.std.specs.Prelude.{ℕ, Bool, true, false, ◌&&◌, nat_eq, if◌then◌else◌, Option, Some, None, List, [], ◌∷◌}
 use Rattle.csp_text.specs.declared.token.Token.{Token}
 use Rattle.csp_text.specs.declared.token.Token.TheVariants as token
 use Rattle.csp_text.specs.declared.token.Word.{Word}
@@ -139,6 +139,18 @@ skip_word w (token.Name _ ∷ ts) = None
 skip_word w (token.Num _ ∷ ts) = None
 skip_word w (token.Roles _ ∷ ts) = None
 skip_word w (token.Resource _ ∷ ts) = None
+
+-- the token that the list begins with
+abbrev pub first_token : List Token → Option Token
+first_token [] = None
+first_token (t ∷ ts) = Some t
+
+-- whether two texts are the same
+abbrev pub is_text : List ℕ → List ℕ → Bool
+is_text [] [] = true
+is_text [] (y ∷ ys) = false
+is_text (x ∷ xs) [] = false
+is_text (x ∷ xs) (y ∷ ys) = nat_eq x y && is_text xs ys
 
 -- the name that the list begins with
 abbrev pub first_name : List Token → Option (List ℕ)
