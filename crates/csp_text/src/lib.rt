@@ -1,0 +1,10 @@
+//! The parts of a script's text: its tokens, and the trees that they spell.
+#![tactic(auto)]
+
+pub mod script;
+pub mod token;
+pub mod tree;
+
+pub use script::{Decl, Script};
+pub use token::{ResourceNames, RolesNames, Symbol, Token, Word};
+pub use tree::{BinOp, EventTree, FieldTree, GenTree, PartTree, SetOp, Tree};
