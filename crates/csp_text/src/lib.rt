@@ -4,7 +4,9 @@
 pub mod script;
 pub mod token;
 pub mod tree;
+pub mod written;
 
 pub use script::{Decl, Script};
 pub use token::{ResourceNames, RolesNames, Symbol, Token, Word};
 pub use tree::{BinOp, EventTree, FieldTree, GenTree, PartTree, SetOp, Tree};
+pub use written::{symbol_text, word_text};
