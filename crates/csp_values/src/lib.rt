@@ -1,10 +1,12 @@
-//! The value of an expression of a program, or the first fault that its evaluation meets.
+//! What the value of an expression is put together from: operators on values, sets that grow, bound names and the numbers of events.
 #![tactic(auto)]
 
 pub mod fault;
-mod names;
-mod numbers;
-mod operators;
-mod sets;
+pub mod names;
+pub mod numbers;
+pub mod operators;
+pub mod sets;
+#[cfg(test)]
+mod tests;
 
 pub use fault::EvalFault;

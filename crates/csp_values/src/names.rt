@@ -16,7 +16,7 @@ const KIND: EvalFault = EvalFault::Value {
 
 /// The names that an expression may read.
 #[derive(Drop)]
-pub(crate) struct Names<'a> {
+pub struct Names<'a> {
     /// The parameters of the definition that the expression stands in.
     pub params: &'a [u32],
     /// The values of its arguments.
@@ -45,7 +45,7 @@ fn argument(alloc: Global, params: &[u32], args: &[Value], slot: u32) -> Result<
 }
 
 /// The value of the name with the number `slot`.
-pub(crate) fn named(alloc: Global, names: &Names<'_>, slot: u32) -> Result<Value, EvalFault>
+pub fn named(alloc: Global, names: &Names<'_>, slot: u32) -> Result<Value, EvalFault>
     ensures { Gives result (bound_value (env_in names.now) slot) }
 {
     let mut rest = names.bound;
@@ -59,7 +59,7 @@ pub(crate) fn named(alloc: Global, names: &Names<'_>, slot: u32) -> Result<Value
 }
 
 /// The names of generators with one more.
-pub(crate) fn with_name(
+pub fn with_name(
     alloc: Global,
     bound: &[(u32, Atom)],
     slot: u32,

@@ -83,7 +83,7 @@ fn first_of(channels: &[Channel], channel: u32) -> Result<u64, EvalFault>
 }
 
 /// The place of a value among the values of a field.
-pub(crate) fn place_in(set: &AtomSet, value: &Value) -> Result<u64, EvalFault>
+pub fn place_in(set: &AtomSet, value: &Value) -> Result<u64, EvalFault>
     ensures { Gives result (field_place set.now value.now) }
 {
     match value {
@@ -96,7 +96,7 @@ pub(crate) fn place_in(set: &AtomSet, value: &Value) -> Result<u64, EvalFault>
 }
 
 /// The number of fields with one more, which has `place` in its set, where those before have the number `number`.
-pub(crate) fn with_field(number: u64, set: &AtomSet, place: u64) -> Result<u64, EvalFault>
+pub fn with_field(number: u64, set: &AtomSet, place: u64) -> Result<u64, EvalFault>
     ensures { Gives result (Ok (number * length set.now + place)) }
 {
     let number = with_set(number, set)?;
@@ -104,7 +104,7 @@ pub(crate) fn with_field(number: u64, set: &AtomSet, place: u64) -> Result<u64, 
 }
 
 /// The sets of a channel's fields, where it has them.
-pub(crate) fn field_sets(channels: &[Channel], channel: u32) -> Option<&[AtomSet]>
+pub fn field_sets(channels: &[Channel], channel: u32) -> Option<&[AtomSet]>
     ensures { MatchOption result (sets_of (slice_get channels.now channel) ≡ None) (λ sets. sets_of (slice_get channels.now channel) ≡ Some sets.now) }
 {
     match channels.get(channel as usize) {
@@ -127,7 +127,7 @@ fn count_each(sets: &[AtomSet], given: usize) -> Result<u64, EvalFault>
 }
 
 /// The number of the first event of a channel that begins with the first fields, `given` of them, which have the number `number`.
-pub(crate) fn first_with(
+pub fn first_with(
     channels: &[Channel],
     channel: u32,
     sets: &[AtomSet],
@@ -143,7 +143,7 @@ pub(crate) fn first_with(
 }
 
 /// How many events of a channel begin with one choice of the first fields, `given` of them.
-pub(crate) fn count_with(channels: &[Channel], channel: u32, given: usize) -> Result<u64, EvalFault>
+pub fn count_with(channels: &[Channel], channel: u32, given: usize) -> Result<u64, EvalFault>
     ensures { Gives result (Ok (form.count_with (sets_of (slice_get channels.now channel)) given)) }
 {
     match field_sets(channels, channel) {

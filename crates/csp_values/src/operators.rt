@@ -28,7 +28,7 @@ const DIVISION: EvalFault = EvalFault::Value {
 };
 
 /// The atom that a value is.
-pub(crate) fn to_atom(value: &Value) -> Result<Atom, EvalFault>
+pub fn to_atom(value: &Value) -> Result<Atom, EvalFault>
     ensures { Gives result (atom_of value.now) }
 {
     match value {
@@ -38,7 +38,7 @@ pub(crate) fn to_atom(value: &Value) -> Result<Atom, EvalFault>
 }
 
 /// The number that a value is.
-pub(crate) fn to_number(value: &Value) -> Result<i64, EvalFault>
+pub fn to_number(value: &Value) -> Result<i64, EvalFault>
     ensures { Gives result (number_of value.now) }
 {
     match value {
@@ -48,7 +48,7 @@ pub(crate) fn to_number(value: &Value) -> Result<i64, EvalFault>
 }
 
 /// The truth value that a value is.
-pub(crate) fn to_truth(value: &Value) -> Result<bool, EvalFault>
+pub fn to_truth(value: &Value) -> Result<bool, EvalFault>
     ensures { Gives result (truth_of value.now) }
 {
     match value {
@@ -58,7 +58,7 @@ pub(crate) fn to_truth(value: &Value) -> Result<bool, EvalFault>
 }
 
 /// The set that a value is.
-pub(crate) fn to_set(value: Value) -> Result<AtomSet, EvalFault>
+pub fn to_set(value: Value) -> Result<AtomSet, EvalFault>
     ensures { Gives result (set_of value) }
 {
     match value {
@@ -79,7 +79,7 @@ fn ranged(number: i64) -> Result<Value, EvalFault>
 }
 
 /// The negative of a number.
-pub(crate) fn negated(value: &Value) -> Result<Value, EvalFault>
+pub fn negated(value: &Value) -> Result<Value, EvalFault>
     ensures { Gives result (and_then (number_of value.now) (λ n. in_range (neg_ℤ n))) }
 {
     let number = to_number(value)?;
@@ -90,7 +90,7 @@ pub(crate) fn negated(value: &Value) -> Result<Value, EvalFault>
 }
 
 /// The other truth value.
-pub(crate) fn inverted(value: &Value) -> Result<Value, EvalFault>
+pub fn inverted(value: &Value) -> Result<Value, EvalFault>
     ensures { Gives result (and_then (truth_of value.now) (λ b. Ok (truth (not b)))) }
 {
     let truth = to_truth(value)?;
@@ -125,7 +125,7 @@ fn undecided_number(first: &Value) -> Result<Option<Value>, EvalFault>
 }
 
 /// The value of the whole, where its first operand decides it.
-pub(crate) fn decided(op: BinOp, first: &Value) -> Result<Option<Value>, EvalFault>
+pub fn decided(op: BinOp, first: &Value) -> Result<Option<Value>, EvalFault>
     ensures { Gives result (first_half op first.now) }
 {
     match op {
@@ -277,7 +277,7 @@ fn joined(decides: bool, first: &Value, second: &Value) -> Result<Value, EvalFau
 }
 
 /// What an operator gives of two values.
-pub(crate) fn applied(op: BinOp, first: &Value, second: &Value) -> Result<Value, EvalFault>
+pub fn applied(op: BinOp, first: &Value, second: &Value) -> Result<Value, EvalFault>
     ensures { Gives result (binary op first.now (Ok second.now)) }
 {
     match op {

@@ -48,7 +48,7 @@ fn with_one_more(mut atoms: AtomSet, one: Atom) -> Result<AtomSet, EvalFault>
 }
 
 /// The set with the atom that a value is.
-pub(crate) fn with_item(atoms: AtomSet, item: &Value) -> Result<AtomSet, EvalFault>
+pub fn with_item(atoms: AtomSet, item: &Value) -> Result<AtomSet, EvalFault>
     ensures { Gives result (and_then (atom_of item.now) (λ a. added atoms a)) }
 {
     let one = to_atom(item)?;
@@ -56,7 +56,7 @@ pub(crate) fn with_item(atoms: AtomSet, item: &Value) -> Result<AtomSet, EvalFau
 }
 
 /// The set of constants.
-pub(crate) fn constants(alloc: Global, numbers: &[u32]) -> Result<AtomSet, EvalFault>
+pub fn constants(alloc: Global, numbers: &[u32]) -> Result<AtomSet, EvalFault>
     ensures { Gives result (all_added [] (map (λ k. atom.Const k) numbers.now)) }
 {
     let mut atoms = AtomSet::new(alloc);
@@ -77,7 +77,7 @@ fn event(first: u64, place: u64) -> Result<Atom, EvalFault>
 }
 
 /// The event with this number.
-pub(crate) fn numbered(number: u64) -> Result<Atom, EvalFault>
+pub fn numbered(number: u64) -> Result<Atom, EvalFault>
     ensures { Gives result (Ok (atom.Event number)) }
 {
     match u32::try_from(number) {
@@ -87,7 +87,7 @@ pub(crate) fn numbered(number: u64) -> Result<Atom, EvalFault>
 }
 
 /// The set with the events from `first` on, so many of them.
-pub(crate) fn with_events(atoms: AtomSet, first: u64, count: u64) -> Result<AtomSet, EvalFault>
+pub fn with_events(atoms: AtomSet, first: u64, count: u64) -> Result<AtomSet, EvalFault>
     ensures { Gives result (all_added atoms (events_from first count)) }
 {
     let mut atoms = atoms;
@@ -99,7 +99,7 @@ pub(crate) fn with_events(atoms: AtomSet, first: u64, count: u64) -> Result<Atom
 }
 
 /// What an operator gives of two sets.
-pub(crate) fn combined(
+pub fn combined(
     alloc: Global,
     op: SetOp,
     left: &AtomSet,
@@ -157,7 +157,7 @@ fn distance(first: i64, last: i64) -> Option<u16>
 }
 
 /// The numbers from `first` to `last`.
-pub(crate) fn numbers(alloc: Global, first: i64, last: i64) -> Result<AtomSet, EvalFault>
+pub fn numbers(alloc: Global, first: i64, last: i64) -> Result<AtomSet, EvalFault>
     ensures { Gives result (meant.range first last) }
 {
     if last < first {
