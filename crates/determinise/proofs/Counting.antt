@@ -52,9 +52,9 @@ same_set raw s t X Y a b rises_x rises_y same =
 
 same_terms : (raw : RawTable) (s t X Y : List ℕ) → IsSetAfter raw s X → IsSetAfter raw t Y → X ≡ Y → HaveSameTerms (RawStep raw) 0 s t
 same_terms raw s t X Y a b same x = (
-    λ h. (b.terms x).0 (subst (λ (S : List ℕ). IsTrue (has S x)) same ((a.terms x).1 h)),
-    λ h. (a.terms x).0 (subst (λ (S : List ℕ). IsTrue (has S x)) (sym same) ((b.terms x).1 h)),
-  )
+  λ h. (b.terms x).0 (subst (λ (S : List ℕ). IsTrue (has S x)) same ((a.terms x).1 h)),
+  λ h. (a.terms x).0 (subst (λ (S : List ℕ). IsTrue (has S x)) (sym same) ((b.terms x).1 h)),
+)
 
 -- as many sets as were found
 pub many_sets : (raw : RawTable) (sets : List (List ℕ)) (n : ℕ) → AreReachedSets raw sets → length sets ≡ n → ReachesSets (RawStep raw) 0 n

@@ -56,9 +56,9 @@ module _ (raw : RawTable) (sets : List (List ℕ)) (nodes : List Node) (so_far :
       let steps : AreNodeSteps raw moves sets (node_at nodes n).next = node.steps.2 in
       let longer : (p ++ e ∷ []) ++ w ≡ p ++ e ∷ w = append_assoc p (e ∷ []) w in
       let rest : IsTrue (is_possible (node_at nodes n).next e) → Followed (p ++ e ∷ []) (node_after nodes n e) w = λ possible.
-          let lead = steps.leads e possible in
-          let inside : node_after nodes n e < length nodes = rw all lead.within in
-          follow w (p ++ e ∷ []) (node_after nodes n e) inside (next_after raw p (set_at sets n) moves after node.steps.1 e (set_at sets (node_after nodes n e)) (sym (steps.events e) ∙ possible) lead.is)
+      let lead = steps.leads e possible in
+      let inside : node_after nodes n e < length nodes = rw all lead.within in
+      follow w (p ++ e ∷ []) (node_after nodes n e) inside (next_after raw p (set_at sets n) moves after node.steps.1 e (set_at sets (node_after nodes n e)) (sym (steps.events e) ∙ possible) lead.is)
       in
       record {
         run = λ t.
