@@ -5,8 +5,11 @@ use csp_base::{Event, EventSet, NoMemory};
 use digraph::{Fault, Rows, longest_walks, reachable_from};
 use std::alloc::{AllocError, Global};
 
-/// How many arcs leave a vertex of `layers`.
+/// How many arcs leave a vertex of `layers`, the first and the last ones aside.
 const ARCS: u32 = 64;
+
+/// How many arcs the last vertices of `layers` lack: 64, 63 and so on, down to 1.
+const LACKING: u32 = 2_080;
 
 /// How many unions and subset tests `sets` makes.
 const ROUNDS: u32 = 10_000;
@@ -34,6 +37,16 @@ fn band(alloc: Global, vertices: u32, arcs: u32) -> Result<Rows, AllocError> {
     Ok(rows)
 }
 
+/// This many vertices, each with arcs to the next 64; since the last vertices lack some of theirs, as many of the first
+/// ones have one arc more, so that there are 64 times as many arcs as vertices (from 2,145 vertices on).
+fn wide_band(alloc: Global, vertices: u32) -> Result<Rows, AllocError> {
+    let mut rows = band(alloc, vertices, ARCS)?;
+    for from in 0..LACKING {
+        add_arc(&mut rows, from, from + ARCS + 1)?;
+    }
+    Ok(rows)
+}
+
 /// The height of vertex 0.
 fn first_height(alloc: Global, rows: &Rows) -> Result<u64, Fault> {
     let heights = longest_walks(alloc, rows)?;
@@ -49,15 +62,15 @@ pub fn chain(alloc: Global, vertices: u32) -> Result<u64, Fault> {
     first_height(alloc, &rows)
 }
 
-/// The longest walks of this many vertices, each with 64 arcs to the next ones.
+/// The longest walks of this many vertices with 64 times as many arcs.
 pub fn layers(alloc: Global, vertices: u32) -> Result<u64, Fault> {
-    let rows = band(alloc, vertices, ARCS)?;
+    let rows = wide_band(alloc, vertices)?;
     first_height(alloc, &rows)
 }
 
-/// How many vertices vertex 0 reaches, among this many with 64 arcs each.
+/// How many vertices vertex 0 reaches, among this many with 64 times as many arcs.
 pub fn reached(alloc: Global, vertices: u32) -> Result<u64, AllocError> {
-    let rows = band(alloc, vertices, ARCS)?;
+    let rows = wide_band(alloc, vertices)?;
     if rows.is_empty() {
         return Ok(0);
     }

@@ -1,6 +1,6 @@
 -- The shape of a network: its parts, the links that join two parts which share events, and the vocabulary, the events that
 -- two parts or more have.
-use Rattle.std.specs.Prelude.{◌≡◌, ◌<◌, ◌≤◌, ◌↔◌, ◌⊎◌, ℕ, List, [], Bool, ◌||◌, nat_eq, IsTrue, length, get_or}
+use Rattle.std.specs.Prelude.{◌≡◌, ◌<◌, ◌≤◌, ◌↔◌, ◌⊎◌, ◌^◌, ℕ, List, [], Bool, ◌||◌, nat_eq, IsTrue, length, get_or}
 use Rattle.csp_base.specs.Members.{has}
 use Rattle.csp_tables.specs.Table.{Node, node_at, is_possible, IsRun, end_of}
 use Rattle.csp_tables.specs.Part.{Part, part_at, alphabets_of, sharers, Meet, IsNonEmpty}
@@ -47,6 +47,15 @@ pub record Joins (shape : Shape) (i j l : ℕ) : Type 0 where
 abbrev pub IsBelow : Link → Link → Type 0
 IsBelow a b = (a.left < b.left) ⊎ ((a.left ≡ b.left) × (a.right < b.right))
 
+abbrev pub LinksRise : Shape → Type 0
+LinksRise shape = (l m : ℕ) → l < m → m < length shape.links → IsBelow (link_at shape l) (link_at shape m)
+
+-- The parts and the links are numbered by numbers below 2 ^ 32, and the links rise.
+pub record IsInOrder (shape : Shape) : Type 0 where
+  pub parts_numbered : length shape.parts < 2 ^ 32
+  pub links_numbered : length shape.links < 2 ^ 32
+  pub links_rise : LinksRise shape
+
 -- A node is reached where events lead to it from the first node.
 pub record IsReached (table : List Node) (n : ℕ) : Type 0 where
   pub run : List ℕ
@@ -68,5 +77,5 @@ pub record IsWellFormed (shape : Shape) : Type 0 where
   pub reached : (i n : ℕ) → i < length shape.parts → n < length (part_at shape.parts i).table → IsReached (part_at shape.parts i).table n
   pub links : (l : ℕ) → l < length shape.links → JoinsTwo shape.parts (link_at shape l)
   pub all_links : (i j : ℕ) → i < j → j < length shape.parts → Meet (part_at shape.parts i).alphabet (part_at shape.parts j).alphabet → AreJoined shape i j
-  pub links_rise : (l m : ℕ) → l < m → m < length shape.links → IsBelow (link_at shape l) (link_at shape m)
+  pub links_rise : LinksRise shape
   pub vocabulary : (e : ℕ) → IsTrue (has shape.vocabulary e) ↔ (2 ≤ sharers (alphabets_of shape.parts) e)
