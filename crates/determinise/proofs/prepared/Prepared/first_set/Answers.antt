@@ -1,8 +1,7 @@
-use Rattle.std.proofs.Common.{◌≡◌, ◌↔◌, ◌<◌, ℕ, zero, suc, List, [], ◌∷◌, IsTrue, length, sym, subst, arith}
+use Rattle.std.proofs.Common.{◌↔◌, ◌<◌, ℕ, zero, suc, [], ◌∷◌, IsTrue, length, sym, subst, arith}
 use Rattle.std.specs.List.{All}
 use Rattle.csp_base.specs.Members.{has}
 use Rattle.csp_tables.specs.RawTable.{RawTable}
-use Rattle.determinise.specs.Closed.{IsReachedFrom}
 use Rattle.determinise.specs.Moves.{IsSilentlyReached}
 use Rattle.determinise.specs.Progress.{IsSetAfter, IsTermSet}
 use Rattle.determinise.proofs.Silence.{silently, term_set}
@@ -21,9 +20,9 @@ pub returns-clause-after : goal.returns-clause-after
 returns-clause-after c =
     let raw : RawTable = c.self.inside.offers in
     let members : (t : ℕ) → IsTrue (has c.in_ok-terms.terms.items t) ↔ IsSilentlyReached raw (0 ∷ []) t = λ t.
-        let found = c.in_ok-terms.ensures.members t in
-        let runs = silently raw c.self.inside.silent c.self.invariant.1 (0 ∷ []) t in
-        (λ h. runs.0 (found.0 h), λ s. found.1 (runs.1 s))
+    let found = c.in_ok-terms.ensures.members t in
+    let runs = silently raw c.self.inside.silent c.self.invariant.1 (0 ∷ []) t in
+    (λ h. runs.0 (found.0 h), λ s. found.1 (runs.1 s))
     in
     subst (λ (r : RawTable). IsSetAfter r [] c.from_vec.result) c.self.view_is (subst (IsSetAfter raw []) (sym c.from_vec.ensures) (first_after raw c.in_ok-terms.terms.items members))
 

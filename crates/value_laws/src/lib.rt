@@ -1,0 +1,28 @@
+//! Laws about the value of an expression.
+#![tactic(auto)]
+
+ghost use Rattle.value_laws.specs.Bindings.{ComprehensionsHoldTheirItems, ProductionsHoldWhatBegins};
+ghost use Rattle.value_laws.specs.EnoughUses.{DefinitionsAreEnough, MoreUsesChangeNothing, UsesNestWithinDefinitions, WorthIsUnbounded};
+ghost use Rattle.value_laws.specs.EventNumbers.{BeginnersStandTogether, EventsAreWorthTheirNumbers, NumbersArePlaces, PlacesAreNumbers};
+
+/// The number that is computed for an event is its place in the event table, and the events that begin with given values stand together there.
+pub fn event_numbers_are_places()
+    ensures worth { EventsAreWorthTheirNumbers }
+    ensures numbers { NumbersArePlaces }
+    ensures places { PlacesAreNumbers }
+    ensures beginners { BeginnersStandTogether }
+{}
+
+/// A comprehension holds the values of its items under all bindings, and a production the events that begin with one of its parts.
+pub fn comprehensions_hold_their_items()
+    ensures items { ComprehensionsHoldTheirItems }
+    ensures events { ProductionsHoldWhatBegins }
+{}
+
+/// From the nesting of uses on, how many may be entered doesn't matter. In a program in order the number of definitions is enough.
+pub fn more_uses_change_nothing()
+    ensures nesting { MoreUsesChangeNothing }
+    ensures nest { UsesNestWithinDefinitions }
+    ensures enough { DefinitionsAreEnough }
+    ensures unbounded { WorthIsUnbounded }
+{}
