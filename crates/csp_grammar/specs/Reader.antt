@@ -393,11 +393,15 @@ module _ (R : Readers) where
       and_then (read_parameters ts) λ p. and_then (skip symbol.Defines p.1) λ us.
       and_then (R.tree 400 us) λ q. when (nat_le (depth q.0) 200) λ _. Some (decl.Define f p.0 q.0, q.1)
 
+  -- an asserted call, whose bracket is the first of 400
+  abbrev pub read_asserted_call : List ℕ → List Token → Reading Tree
+  read_asserted_call x ts = and_then (R.items 399 ts) λ p. and_then (skip symbol.CloseParen p.2) λ us. Some (tree.Call x p.1, us)
+
   -- the name or the call of an assertion
   abbrev pub read_asserted : List Token → Reading Tree
   read_asserted ts =
       and_then (first_name ts) λ x.
-      case (skip symbol.OpenParen (behind_name ts)) (λ us. read_call 400 x us) (λ _. Some (tree.Name x, behind_name ts))
+      case (skip symbol.OpenParen (behind_name ts)) (λ us. read_asserted_call x us) (λ _. Some (tree.Name x, behind_name ts))
 
   abbrev pub read_model : List Token → Option (List Token)
   read_model ts =

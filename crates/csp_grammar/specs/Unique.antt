@@ -1,5 +1,5 @@
 -- No text has two trees, and no text is two scripts.
-use Rattle.std.specs.Prelude.{◌≡◌, ℕ, ◌≤◌, Some, List, [], ◌∷◌}
+use Rattle.std.specs.Prelude.{◌≡◌, ℕ, ◌≤◌, ◌<◌, Some, List, [], ◌∷◌}
 use Rattle.csp_text.specs.declared.token.Token.{Token}
 use Rattle.csp_text.specs.declared.token.Token.TheVariants.{Name, Symbol}
 use Rattle.csp_text.specs.declared.token.Symbol.TheVariants.{ExternalChoice, InternalChoice, Question, Dot}
@@ -9,6 +9,7 @@ use Rattle.csp_grammar.specs.Declarations.{ScriptText}
 use Rattle.csp_grammar.specs.Examples.{prefix_tokens}
 use Rattle.csp_grammar.specs.Grammar.{TreeText}
 use Rattle.csp_grammar.specs.Reader.{readers}
+use Rattle.csp_grammar.specs.Tokens.{begins}
 
 -- a list of tokens has at most one tree
 abbrev pub EachTextHasOneTree : Type 0
@@ -32,3 +33,16 @@ NoDotBehindQuestion = (n : ℕ) (a x p : List ℕ) (t : Tree) →
 abbrev pub ReaderIsComplete : Type 0
 ReaderIsComplete = (tokens : List Token) (s : Script) → ScriptText tokens s →
     (enough : ℕ) × ((f : ℕ) → enough ≤ f → (readers f).declarations tokens ≡ Some s.decls)
+
+-- what the reader gives are the declarations of a script with this text
+abbrev pub ReaderIsSound : Type 0
+ReaderIsSound = (tokens : List Token) (s : Script) (f : ℕ) → (readers f).declarations tokens ≡ Some s.decls → ScriptText tokens s
+
+-- the reader gives each tree, in front of every rest that does not begin with a token that goes on with a tree
+abbrev pub ReaderGivesTrees : Type 0
+ReaderGivesTrees = (n : ℕ) (tokens : List Token) (t : Tree) (rest : List Token) → TreeText n tokens t rest → begins rest < 6 →
+    (enough : ℕ) × ((f : ℕ) → enough ≤ f → (readers f).tree n tokens ≡ Some (t, rest))
+
+-- what the reader gives is a tree of the tokens in front of what is left
+abbrev pub ReadTreesAreTrees : Type 0
+ReadTreesAreTrees = (n : ℕ) (tokens : List Token) (t : Tree) (rest : List Token) (f : ℕ) → (readers f).tree n tokens ≡ Some (t, rest) → TreeText n tokens t rest

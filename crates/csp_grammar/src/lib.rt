@@ -5,7 +5,7 @@
 #![tactic(auto)]
 
 ghost use Rattle.csp_grammar.specs.Examples.{PrefixBindsTighterThanChoice, PrefixBindsTighterThanSequence, SetOfOneNegativeNumber};
-ghost use Rattle.csp_grammar.specs.Unique.{EachTextHasOneTree, EachTextIsOneScript, MixedChoiceHasNoTree, NoDotBehindQuestion, ReaderIsComplete};
+ghost use Rattle.csp_grammar.specs.Unique.{EachTextHasOneTree, EachTextIsOneScript, MixedChoiceHasNoTree, NoDotBehindQuestion, ReadTreesAreTrees, ReaderGivesTrees, ReaderIsComplete, ReaderIsSound};
 
 /// No list of tokens is two scripts, and none has two trees.
 pub fn each_text_is_one_script()
@@ -15,7 +15,14 @@ pub fn each_text_is_one_script()
 
 /// The reader gives whatever the grammar has.
 pub fn reader_is_complete()
-    ensures { ReaderIsComplete }
+    ensures scripts { ReaderIsComplete }
+    ensures trees { ReaderGivesTrees }
+{}
+
+/// The reader gives nothing but what the grammar has.
+pub fn reader_is_sound()
+    ensures scripts { ReaderIsSound }
+    ensures trees { ReadTreesAreTrees }
 {}
 
 /// Texts with the trees that they spell.
