@@ -13,7 +13,7 @@ use Rattle.csp_text.specs.declared.script.Decl.{Decl}
 use Rattle.csp_text.specs.declared.script.Decl.TheVariants as decl
 use Rattle.csp_grammar.specs.Declarations.{NamesText, TypesText, ParametersText, AssertedText, ModelText, DeclarationText, DeclarationsText}
 use Rattle.csp_grammar.specs.Declarations as d
-use Rattle.csp_grammar.specs.Depth.{depth}
+use Rattle.csp_text.specs.Depth.{tree_depth}
 use Rattle.csp_grammar.specs.Grammar.{TreeText, ItemsText, AtomText}
 use Rattle.csp_grammar.specs.Reader.{Readers, readers, next, nothing, read_names, read_types, read_channel, read_datatype, read_nametype, read_parameters, read_definition, read_asserted_call, read_asserted, read_model, read_assertion, read_word_declaration, read_declaration, read_declarations}
 use Rattle.csp_grammar.specs.Tokens.{behind_name, is_text}
@@ -39,10 +39,10 @@ module _ (R : Readers) (S : Sound R) where
 
   types : (ts : List Token) → Holds (λ p. TypesText ts p.0 p.1) (read_types R ts)
   types ts =
-      by_then _ (S.atom 400 ts) λ p a. by_when (nat_le (depth p.0) 200) _ λ h.
+      by_then _ (S.atom 400 ts) λ p a. by_when (nat_le (tree_depth p.0) 200) _ λ h.
       by_case _ _ (look.skips symbol.Dot p.1)
-      (λ us e. by_then _ (S.types us) λ q more. some (d.more (subst (λ z. AtomText 400 ts p.0 z) e a) (is_le (depth p.0) 200 h) more))
-      (some (d.one a (is_le (depth p.0) 200 h)))
+      (λ us e. by_then _ (S.types us) λ q more. some (d.more (subst (λ z. AtomText 400 ts p.0 z) e a) (is_le (tree_depth p.0) 200 h) more))
+      (some (d.one a (is_le (tree_depth p.0) 200 h)))
 
   channel : (ts : List Token) → Holds (λ p. DeclarationText (Word word.Channel ∷ ts) p.0 p.1) (read_channel R ts)
   channel ts =
@@ -60,8 +60,8 @@ module _ (R : Readers) (S : Sound R) where
   nametype : (ts : List Token) → Holds (λ p. DeclarationText (Word word.Nametype ∷ ts) p.0 p.1) (read_nametype R ts)
   nametype ts =
       by_then _ (look.names ts) λ x e. by_then _ (look.skips symbol.Defines (behind_name ts)) λ us f.
-      by_then _ (S.atom 400 us) λ p a. by_when (nat_le (depth p.0) 200) _ λ h.
-      some (subst (λ z. DeclarationText (Word word.Nametype ∷ z) (decl.Nametype x p.0) p.1) (sym (e ∙ ap (λ z. Name x ∷ z) f)) (d.nametype a (is_le (depth p.0) 200 h)))
+      by_then _ (S.atom 400 us) λ p a. by_when (nat_le (tree_depth p.0) 200) _ λ h.
+      some (subst (λ z. DeclarationText (Word word.Nametype ∷ z) (decl.Nametype x p.0) p.1) (sym (e ∙ ap (λ z. Name x ∷ z) f)) (d.nametype a (is_le (tree_depth p.0) 200 h)))
 
   parameters : (ts : List Token) → Holds (λ p. ParametersText ts p.0 p.1) (read_parameters R ts)
   parameters ts =
@@ -73,8 +73,8 @@ module _ (R : Readers) (S : Sound R) where
   definition : (f : List ℕ) (ts : List Token) → Holds (λ p. DeclarationText (Name f ∷ ts) p.0 p.1) (read_definition R f ts)
   definition f ts =
       by_then _ (parameters ts) λ p xs. by_then _ (look.skips symbol.Defines p.1) λ us e.
-      by_then _ (S.tree 400 us) λ q t. by_when (nat_le (depth q.0) 200) _ λ h.
-      some (d.define (subst (λ z. ParametersText ts p.0 z) e xs) t (is_le (depth q.0) 200 h))
+      by_then _ (S.tree 400 us) λ q t. by_when (nat_le (tree_depth q.0) 200) _ λ h.
+      some (d.define (subst (λ z. ParametersText ts p.0 z) e xs) t (is_le (tree_depth q.0) 200 h))
 
   asserted_call : (x : List ℕ) (ts : List Token) → Holds (λ p. AssertedText (Name x ∷ token.Symbol symbol.OpenParen ∷ ts) p.0 p.1) (read_asserted_call R x ts)
   asserted_call x ts =
@@ -115,13 +115,13 @@ module _ (R : Readers) (S : Sound R) where
 
   assertion : (ts : List Token) → Holds (λ p. DeclarationText (Word word.Assert ∷ ts) p.0 p.1) (read_assertion R ts)
   assertion ts =
-      by_then _ (asserted ts) λ p a. by_when (nat_le (depth p.0) 200) _ λ h.
+      by_then _ (asserted ts) λ p a. by_when (nat_le (tree_depth p.0) 200) _ λ h.
       by_then _ (look.skips symbol.Colon p.1) λ us e. by_then _ (look.skips symbol.OpenBracket us) λ vs f.
       by_then _ (look.names vs) λ x ex. by_when (is_text x (codes "deadlock")) _ λ hx.
       by_then _ (look.names (behind_name vs)) λ y ey. by_when (is_text y (codes "free")) _ λ hy.
       by_then _ (model (behind_name (behind_name vs))) λ ws m. by_then _ (look.skips symbol.CloseBracket ws) λ zs ez.
       some (d.assertion (subst (λ z. AssertedText ts p.0 z) (middle p.1 us vs x y e f ex (look.texts x (codes "deadlock") hx) ey (look.texts y (codes "free") hy)) a)
-      (is_le (depth p.0) 200 h) (subst (λ z. ModelText (behind_name (behind_name vs)) z) ez m))
+      (is_le (tree_depth p.0) 200 h) (subst (λ z. ModelText (behind_name (behind_name vs)) z) ez m))
 
   word_declaration : (w : words.Word) (ts : List Token) → Holds (λ p. DeclarationText (Word w ∷ ts) p.0 p.1) (read_word_declaration R w ts)
   word_declaration word.Channel ts = channel ts
