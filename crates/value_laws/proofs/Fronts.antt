@@ -2,12 +2,12 @@
 use Rattle.std.proofs.Common.{◌≡◌, ℕ, zero, suc, ◌+◌, ◌<◌, ◌≤◌, ◌⊎◌, IsTrue, Option, Some, None, Ok, List, [], ◌∷◌, refl, sym, ◌∙◌, ap, inl, inr, arith}
 use Rattle.std.specs.Prelude.{◌↔◌, slice_get}
 use Rattle.std.proofs.lemmas.Bool.{false≢true, cases_eq}
-use Rattle.csp_atoms.specs.Sets.{IsAtomSet, has_atom}
+use Rattle.csp_atoms.specs.Sets.{has_atom}
 use Rattle.csp_program.specs.Atoms.{added, all_added, events_from}
 use Rattle.csp_program.specs.EventNumber.{first_event}
 use Rattle.csp_program.specs.Outcome.{and_then}
 use Rattle.csp_program.specs.Value.{Env, Front, Meaning, Turn, comprehension, events_each, front_count, front_number, fronts_added, sets_of}
-use Rattle.value_laws.specs.Bindings.{BeginsWith, BeginsWithOne, IsBinding}
+use Rattle.value_laws.specs.Bindings.{BeginsWith, BeginsWithOne, IsBinding, IsSetValue}
 use Rattle.value_laws.specs.EventNumbers.{FieldSetsRise, computed_number}
 use Rattle.value_laws.proofs.Lists.{came_through, same_outcome}
 use Rattle.value_laws.proofs.RowNumbers.{numbered}
@@ -98,7 +98,7 @@ fronts_grow channels rise (f ∷ fs) env atoms more h =
 
 -- where a production has a value, its set has the events that begin with one of its fronts under some binding
 pub events_held : (channels : List Channel) → FieldSetsRise channels → (fronts : List Front) (turns : List Turn) (env : Env) (v : Value) → comprehension turns (fronts_added channels fronts) env ≡ Ok v
-    → (set : List Atom) × (v ≡ Many set) × IsAtomSet set × ((a : Atom) → IsTrue (has_atom set a) ↔
+    → (set : List Atom) × (v ≡ Many set) × IsSetValue set × ((a : Atom) → IsTrue (has_atom set a) ↔
     ((bound : Env) × (place : ℕ) × IsBinding turns env bound × (a ≡ atom.Event place) × BeginsWithOne channels fronts bound place))
 events_held channels rise fronts turns env v h =
     let c = comprehension_holds (fronts_added channels fronts) (BegunWithOne channels fronts) (fronts_grow channels rise fronts) turns env v h in

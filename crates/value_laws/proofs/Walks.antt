@@ -1,16 +1,16 @@
 -- What the walk over all bindings gathers.
-use Rattle.std.proofs.Common.{◌≡◌, ◌+◌, ◌⊎◌, Bool, true, false, cond, ◌||◌, IsTrue, Ok, Err, List, [], ◌∷◌, refl, sym, ◌∙◌, ap, subst, inl, inr}
-use Rattle.std.specs.Prelude.{◌↔◌, nat_lt}
-use Rattle.std.proofs.lemmas.Bool.{false≢true, or_cases}
+use Rattle.std.proofs.Common.{◌≡◌, ◌+◌, ◌≤◌, ◌⊎◌, Bool, true, false, cond, ◌||◌, IsTrue, Ok, Err, List, [], ◌∷◌, length, refl, sym, ◌∙◌, ap, subst, inl, inr, arith}
+use Rattle.std.specs.Prelude.{◌↔◌, nat_le, nat_lt}
+use Rattle.std.proofs.lemmas.Bool.{false≢true, leb-true, or_cases}
 use Rattle.csp_atoms.specs.Order.{same}
-use Rattle.csp_atoms.specs.Sets.{IsAtomSet, fits, has_atom, with_atom}
+use Rattle.csp_atoms.specs.Sets.{fits, has_atom, with_atom}
 use Rattle.csp_atoms.proofs.MemberLaws.{has-with_atom}
 use Rattle.csp_atoms.proofs.OrderLaws.{same_exact, same_itself}
 use Rattle.csp_atoms.proofs.SetLaws.{IsAtomSet-with_atom}
 use Rattle.csp_program.specs.Atoms.{added, limited}
 use Rattle.csp_program.specs.Outcome.{Outcome, and_then}
 use Rattle.csp_program.specs.Value.{Env, Gathered, Meaning, Turn, atom_of, comprehension, gathered, items_added, over, set_of, truth, truth_of, walked}
-use Rattle.value_laws.specs.Bindings.{IsBinding, IsItem}
+use Rattle.value_laws.specs.Bindings.{IsBinding, IsItem, IsSetValue}
 use Rattle.value_laws.proofs.Lists.{came_through, same_outcome}
 use Rattle.csp_atoms.specs.declared.atom.Atom.{Atom}
 use Rattle.csp_atoms.specs.declared.atom.Atom.TheVariants as atom
@@ -60,7 +60,7 @@ held false o k a h = absurd (cc)
 
 -- a set stays one, and its members are those that were there, and others
 abbrev pub Grows : List Atom → List Atom → (Atom → Type 0) → Type 0
-Grows atoms more New = (IsAtomSet atoms → IsAtomSet more) × ((z : Atom) → IsTrue (has_atom more z) ↔ (IsTrue (has_atom atoms z) ⊎ New z))
+Grows atoms more New = (IsSetValue atoms → IsSetValue more) × ((z : Atom) → IsTrue (has_atom more z) ↔ (IsTrue (has_atom atoms z) ⊎ New z))
 
 pub is_same : (t : Bool) (a z : Atom) → same a z ≡ t → IsTrue t → a ≡ z
 is_same true a z e h = same_exact a z e
@@ -83,13 +83,19 @@ has_after a rest z h = or_second (same a z) (has_atom rest z) h
 pub has_cases : (a : Atom) (rest : List Atom) (z : Atom) → IsTrue (has_atom (a ∷ rest) z) → (a ≡ z) ⊎ IsTrue (has_atom rest z)
 has_cases a rest z h = elim (or_cases (same a z) (has_atom rest z) h) [ inl e ↦ inl (same_exact a z e) | inr r ↦ inr r ]
 
+few_atoms : (atoms more : List Atom) → limited atoms ≡ Ok more → length atoms ≤ 16384
+few_atoms atoms more h = leb-true (length atoms) 16384 (held (nat_le (length atoms) 16384) (Ok atoms) SetLimit more h)
+
+few_added : (atoms : List Atom) (a : Atom) (more : List Atom) → added atoms a ≡ Ok more → length (with_atom atoms a) ≤ 16384
+few_added atoms a more h = few_atoms (with_atom atoms a) more (passed (fits atoms a) (limited (with_atom atoms a)) Kind more h)
+
 grown_back : (atoms : List Atom) (a z : Atom) → IsTrue (has_atom atoms z) ⊎ (a ≡ z) → IsTrue (has_atom (a ∷ atoms) z)
 grown_back atoms a z (inl h) = has_after a atoms z h
 grown_back atoms a z (inr e) = has_here a atoms z e
 
 pub grows_by_one : (atoms : List Atom) (a : Atom) (more : List Atom) → added atoms a ≡ Ok more → Grows atoms more (λ z. a ≡ z)
 grows_by_one atoms a more h = (
-  λ r. subst IsAtomSet (added_back atoms a more h) (IsAtomSet-with_atom atoms a r (held (fits atoms a) (limited (with_atom atoms a)) Kind more h)),
+  λ r. subst IsSetValue (added_back atoms a more h) (IsAtomSet-with_atom atoms a r.0 (held (fits atoms a) (limited (with_atom atoms a)) Kind more h), few_added atoms a more h),
   λ z.
       let is : has_atom more z ≡ has_atom (a ∷ atoms) z = ap (λ (l : List Atom). has_atom l z) (sym (added_back atoms a more h)) ∙ has-with_atom atoms a z in (
         λ g. elim (has_cases a atoms z (sym is ∙ g)) [ inl e ↦ inr e | inr r ↦ inl r ],
@@ -200,14 +206,14 @@ module _ (adds : Env → List Atom → Outcome (List Atom)) (Gives : Env → Ato
       condition turns c env state next second.0 value second.2 (λ e. walk_grows turns env state next e)
 
   -- what all bindings add to the empty set
-  pub comprehension_holds : (turns : List Turn) (env : Env) (v : Value) → comprehension turns adds env ≡ Ok v → (set : List Atom) × (v ≡ Many set) × IsAtomSet set × ((a : Atom) → IsTrue (has_atom set a) ↔ Given turns env a)
+  pub comprehension_holds : (turns : List Turn) (env : Env) (v : Value) → comprehension turns adds env ≡ Ok v → (set : List Atom) × (v ≡ Many set) × IsSetValue set × ((a : Atom) → IsTrue (has_atom set a) ↔ Given turns env a)
   comprehension_holds turns env v h =
       let through = came_through (walked turns (gathered adds) env (record { bindings = 0; atoms = [] })) (λ state. Ok (Many state.atoms)) v h in
       let is : Many through.0.atoms ≡ v = same_outcome through.2 in
       let grown = walk_grows turns env (record { bindings = 0; atoms = [] }) through.0 through.1 in
-      (through.0.atoms, sym is, grown.0 (tt, tt), λ a. (λ g. elim ((grown.1 a).0 g) [ inl n ↦ absurd (false≢true n) | inr f ↦ f ], λ f. (grown.1 a).1 (inr f)))
+      (through.0.atoms, sym is, grown.0 ((tt, tt), omega arith), λ a. (λ g. elim ((grown.1 a).0 g) [ inl n ↦ absurd (false≢true n) | inr f ↦ f ], λ f. (grown.1 a).1 (inr f)))
 
 -- where a comprehension has a value, its set has the items' values under all bindings
 pub items_held : (items : List Meaning) (turns : List Turn) (env : Env) (v : Value) → comprehension turns (items_added items) env ≡ Ok v
-    → (set : List Atom) × (v ≡ Many set) × IsAtomSet set × ((a : Atom) → IsTrue (has_atom set a) ↔ ((bound : Env) × IsBinding turns env bound × IsItem items bound a))
+    → (set : List Atom) × (v ≡ Many set) × IsSetValue set × ((a : Atom) → IsTrue (has_atom set a) ↔ ((bound : Env) × IsBinding turns env bound × IsItem items bound a))
 items_held items turns env v h = comprehension_holds (items_added items) (IsItem items) (items_grow items) turns env v h
