@@ -4,7 +4,7 @@ use Rattle.csp_program.specs.Substitution.{expr_put, gen_put, part_put, expr_put
 use Rattle.csp_atoms.specs.declared.value.Value.{Value}
 use Rattle.csp_program.specs.declared.expressions.Expr.{Expr}
 use Rattle.csp_program.specs.declared.expressions.Expr.TheVariants as expr
-use Rattle.csp_program.specs.declared.expressions.Expr.TheFolds.{fold-Expr, fold-Gen, fold-EventPart, fold-roll-Expr, fold-roll-Gen, fold-roll-EventPart, para-roll-Expr, para-roll-Gen, para-roll-EventPart, ind-Expr, map-Expr, map-Gen, map-EventPart}
+use Rattle.csp_program.specs.declared.expressions.Expr.TheFolds.{fold-Expr, fold-Gen, fold-EventPart, fold-roll-Expr, fold-roll-Gen, fold-roll-EventPart, para-roll-Expr, para-roll-Gen, para-roll-EventPart, ind-Expr, ind-Gen, ind-EventPart, map-Expr, map-Gen, map-EventPart}
 use Rattle.csp_program.specs.declared.expressions.Expr.TheOpen.{Expr-F, Gen-F, EventPart-F}
 use Rattle.csp_program.specs.declared.expressions.Expr.TheViews.{roll-Expr, roll-Gen, roll-EventPart}
 use Rattle.csp_program.specs.declared.expressions.EventPart.{EventPart}
@@ -168,8 +168,22 @@ module _ (x : ℕ) (v : Value) (A A' A'' : Type 0) (of_expr : Expr-F A A' A'' �
       (part_rolls (record { channel = y.channel; fields = put (map twice (map (λ e. e.0) y.fields)) }) ∙
       ((λ i. of_part (record { channel = y.channel; fields = all_kept y.fields i })) ∙ sym (part_rolls (record { channel = y.channel; fields = map (λ e. e.0) y.fields }))))
 
+  expr_step : (z : Expr-F Expr Gen EventPart) (y : Expr-F KnownExpr KnownGen KnownPart) → bare y ≡ z → KeepsExpr (roll-Expr z)
+  expr_step z y is = subst (λ w. KeepsExpr (roll-Expr w)) is (expr_layer y)
+
+  gen_step : (z : Gen-F Expr Gen EventPart) (y : Gen-F KnownExpr KnownGen KnownPart)
+      → map-Gen KnownExpr KnownGen KnownPart Expr Gen EventPart (λ e. e.0) (λ e. e.0) (λ e. e.0) y ≡ z → KeepsGen (roll-Gen z)
+  gen_step z y is = subst (λ w. KeepsGen (roll-Gen w)) is (gen_layer y)
+
+  part_step : (z : EventPart-F Expr Gen EventPart) (y : EventPart-F KnownExpr KnownGen KnownPart)
+      → map-EventPart KnownExpr KnownGen KnownPart Expr Gen EventPart (λ e. e.0) (λ e. e.0) (λ e. e.0) y ≡ z → KeepsPart (roll-EventPart z)
+  part_step z y is = subst (λ w. KeepsPart (roll-EventPart w)) is (part_layer y)
+
   pub put_keeps_fold : (e : Expr) → expr_fold (expr_put x v e) ≡ expr_fold e
-  put_keeps_fold = ind-Expr KeepsExpr KeepsGen KeepsPart
-      (λ z y is. subst (λ w. KeepsExpr (roll-Expr w)) is (expr_layer y))
-      (λ z y is. subst (λ w. KeepsGen (roll-Gen w)) is (gen_layer y))
-      (λ z y is. subst (λ w. KeepsPart (roll-EventPart w)) is (part_layer y))
+  put_keeps_fold = ind-Expr KeepsExpr KeepsGen KeepsPart expr_step gen_step part_step
+
+  pub put_keeps_gen_fold : (g : Gen) → gen_fold (gen_put x v g) ≡ gen_fold g
+  put_keeps_gen_fold = ind-Gen KeepsExpr KeepsGen KeepsPart expr_step gen_step part_step
+
+  pub put_keeps_part_fold : (p : EventPart) → part_fold (part_put x v p) ≡ part_fold p
+  put_keeps_part_fold = ind-EventPart KeepsExpr KeepsGen KeepsPart expr_step gen_step part_step

@@ -2,6 +2,9 @@ pub mod Atoms
 pub mod Depth
 pub mod EventNumber
 pub mod EventTable
+pub mod ExactExpr
+pub mod ExactNet
+pub mod ExactProc
 pub mod Free
 pub mod InOrder
 pub mod Lists

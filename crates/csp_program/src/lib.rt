@@ -2,6 +2,7 @@
 #![tactic(auto)]
 
 pub mod copies;
+mod exact;
 pub mod expressions;
 pub mod kinds;
 pub mod net_copies;

@@ -1,0 +1,10 @@
+pub mod Complete
+pub mod Examples
+pub mod Follow
+pub mod Gives
+pub mod Levels
+pub mod Parts
+pub mod Refused
+pub mod Scripts
+pub mod Starts
+pub mod Unique

@@ -1,0 +1,6 @@
+pub mod AnnotationsLemmas
+pub mod CommentsLemmas
+pub mod CutSoFar
+pub mod FormsLemmas
+pub mod NumbersLemmas
+pub mod SymbolsLemmas

@@ -1,0 +1,11 @@
+use Rattle.std.proofs.Common.{length}
+use Rattle.csp_lexer.specs.Front.{front}
+use Rattle.csp_lexer.specs.Lexed.{lexed}
+use Rattle.csp_lexer.proofs.CutSoFar.{IsCutSoFar}
+use Rattle.csp_lexer.proofs.lexer.lex.Given as goal
+
+abbrev pub invariant-loop-rest : goal.invariant-loop-rest
+invariant-loop-rest l = IsCutSoFar front (lexed l.text) l.found.tokens l.found.places l.at l.rest
+
+abbrev pub decreases-loop-rest : goal.decreases-loop-rest
+decreases-loop-rest l = length l.rest

@@ -1,0 +1,8 @@
+use Rattle.std.proofs.Common.{refl}
+use Rattle.std.proofs.lemmas.List.{take_rest}
+use Rattle.csp_lexer.specs.Words.{word_rest_len}
+use Rattle.csp_lexer.proofs.words.word_rest_len.Goals as goal
+
+pub returns-clause-value : goal.returns-clause-value
+unfolding word_rest_len
+returns-clause-value c = rw (c.primes.ensures.value, c.name_bytes-names.ensures.value, take_rest) refl

@@ -1,0 +1,121 @@
+-- Assertions. The word `assert` takes the rest of its line, up to a line feed, a comment or the end of the text. Where that rest is
+-- blanks and tokens which say that a process is free of deadlock, they are tokens of the script; any other assertion is skipped.
+use Rattle.std.specs.Prelude.{ℕ, zero, suc, ◌+◌, Bool, true, false, ◌&&◌, ◌||◌, nat_eq, if◌then◌else◌, List, [], ◌∷◌, length, take, drop, codes, Option, Some, None, Result, Ok, Err}
+use Rattle.std.specs.List.{starts_with}
+use Rattle.std.specs.Option.{option_map_or}
+use Rattle.std.specs.Str.{bytes_eq}
+use Rattle.csp_base.specs.declared.place.Place.{Place}
+use Rattle.csp_text.specs.declared.token.Symbol.{Symbol}
+use Rattle.csp_text.specs.declared.token.Symbol.TheVariants.{Colon, OpenParen, CloseParen, OpenBracket, CloseBracket}
+use Rattle.csp_text.specs.declared.token.Word.TheVariants.{Assert}
+use Rattle.csp_text.specs.declared.token.Token.{Token}
+use Rattle.csp_text.specs.declared.token.Token.TheVariants as token
+use Rattle.csp_text.specs.Written.{symbol_text}
+use Rattle.csp_lexer.specs.declared.tokens.Tokens.{Tokens}
+use Rattle.csp_lexer.specs.Annotations.{is_space}
+use Rattle.csp_lexer.specs.Cutting.{cut}
+use Rattle.csp_lexer.specs.Pieces.{Piece, nothing, one_at}
+use Rattle.csp_lexer.specs.Places.{behind_all}
+use Rattle.csp_lexer.specs.Tokens.{token_at}
+
+-- the rest of an assertion's line ends here
+abbrev pub ends_line : List ℕ → Bool
+ends_line text = starts_with nat_eq text (10 ∷ []) || starts_with nat_eq text (codes "--") || starts_with nat_eq text (codes "{-")
+
+-- how many bytes the rest of an assertion's line has
+unfoldable pub rest_len : List ℕ → ℕ
+rest_len [] = 0
+rest_len (b ∷ text) = if ends_line (b ∷ text) then 0 else 1 + rest_len text
+
+-- the piece at the front of the rest of an assertion's line
+unfoldable pub line_front : Place → List ℕ → Option Piece
+line_front at [] = None
+line_front at (b ∷ text) = if is_space b then Some (nothing text) else one_at at (b ∷ text) (token_at true (b ∷ text))
+
+-- tests of one token
+abbrev pub is_symbol : Symbol → Token → Bool
+is_symbol symbol (token.Symbol other) = bytes_eq (symbol_text other) (symbol_text symbol)
+is_symbol symbol (token.Name name) = false
+is_symbol symbol (token.Num n) = false
+is_symbol symbol (token.Word word) = false
+is_symbol symbol (token.Roles names) = false
+is_symbol symbol (token.Resource names) = false
+
+abbrev pub is_the_name : List ℕ → Token → Bool
+is_the_name bytes (token.Name name) = bytes_eq name bytes
+is_the_name bytes (token.Symbol symbol) = false
+is_the_name bytes (token.Num n) = false
+is_the_name bytes (token.Word word) = false
+is_the_name bytes (token.Roles names) = false
+is_the_name bytes (token.Resource names) = false
+
+abbrev pub is_some_name : Token → Bool
+is_some_name (token.Name name) = true
+is_some_name (token.Symbol symbol) = false
+is_some_name (token.Num n) = false
+is_some_name (token.Word word) = false
+is_some_name (token.Roles names) = false
+is_some_name (token.Resource names) = false
+
+-- there are as many tokens as tests, and each passes its own
+unfoldable pub fit : List (Token → Bool) → List Token → Bool
+fit [] [] = true
+fit [] (t ∷ tokens) = false
+fit (test ∷ tests) [] = false
+fit (test ∷ tests) (t ∷ tokens) = test t && fit tests tokens
+
+-- `: [ deadlock free ]`, or `: [ deadlock free [ F ] ]` with the model F or FD
+abbrev pub deadlock_free : List (Token → Bool) → List (Token → Bool)
+deadlock_free more =
+    is_symbol Colon ∷ is_symbol OpenBracket ∷ is_the_name (codes "deadlock") ∷ is_the_name (codes "free") ∷ more
+
+abbrev pub closed : List (Token → Bool)
+closed = is_symbol CloseBracket ∷ []
+
+abbrev pub in_model : List ℕ → List (Token → Bool)
+in_model model = is_symbol OpenBracket ∷ is_the_name model ∷ is_symbol CloseBracket ∷ closed
+
+abbrev pub is_deadlock_free : List Token → Bool
+is_deadlock_free tokens =
+    fit (deadlock_free closed) tokens
+    || fit (deadlock_free (in_model (codes "F"))) tokens
+    || fit (deadlock_free (in_model (codes "FD"))) tokens
+
+-- what follows once so many open parentheses are closed
+unfoldable pub after_closing : ℕ → List Token → Option (List Token)
+after_closing zero tokens = Some tokens
+after_closing (suc n) [] = None
+after_closing (suc n) (t ∷ tokens) =
+    if is_symbol OpenParen t then after_closing (suc (suc n)) tokens
+    else if is_symbol CloseParen t then after_closing n tokens
+    else after_closing (suc n) tokens
+
+-- what follows a name, and its arguments where it has some
+unfoldable pub after_arguments : List Token → Option (List Token)
+after_arguments [] = Some []
+after_arguments (t ∷ tokens) = if is_symbol OpenParen t then after_closing 1 tokens else Some (t ∷ tokens)
+
+unfoldable pub after_call : List Token → Option (List Token)
+after_call [] = None
+after_call (t ∷ tokens) = if is_some_name t then after_arguments tokens else None
+
+-- a name, which may have arguments, is asserted to be free of deadlock
+unfoldable pub is_deadlock_assertion : List Token → Bool
+is_deadlock_assertion tokens = option_map_or is_deadlock_free (after_call tokens) false
+
+-- the piece of an assertion of whose line this is the cut
+abbrev pub asserted : Place → List ℕ → Result Tokens Place → Piece
+asserted at rest (Ok line) =
+    if is_deadlock_assertion line.tokens
+    then record { tokens = token.Word Assert ∷ line.tokens; places = at ∷ line.places; rest = rest }
+    else nothing rest
+asserted at rest (Err fault) = nothing rest
+
+-- the cut of the rest of a line
+abbrev pub cut_line : Place → List ℕ → Result Tokens Place
+cut_line at line = cut line_front (length line) at line
+
+-- the assertion whose word stands at this place and is followed by this text
+unfoldable pub assertion : Place → List ℕ → Piece
+assertion at text =
+    asserted at (drop (rest_len text) text) (cut_line (behind_all at (codes "assert")) (take (rest_len text) text))

@@ -1,0 +1,12 @@
+pub mod Annotations
+pub mod Assertions
+pub mod Comments
+pub mod Cutting
+pub mod Front
+pub mod Lexed
+pub mod Passed
+pub mod Pieces
+pub mod Places
+pub mod Symbols
+pub mod Tokens
+pub mod Words

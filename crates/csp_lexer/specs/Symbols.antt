@@ -1,0 +1,28 @@
+-- Symbols of a text: the longest one that fits.
+use Rattle.std.specs.Prelude.{ℕ, Bool, nat_eq, if◌then◌else◌, List, [], ◌∷◌, codes, find, Option, Some}
+use Rattle.std.specs.List.{starts_with}
+use Rattle.csp_text.specs.declared.token.Symbol.{Symbol}
+use Rattle.csp_text.specs.declared.token.Symbol.TheVariants.{Arrow, ExternalChoice, InternalChoice, Parallel, OpenRename, CloseRename, OpenProduct, CloseProduct, LeftArrow, DotDot, Dot, Bang, Question, Colon, At, Defines, Equal, NotEqual, Less, LessEqual, Greater, GreaterEqual, Plus, Minus, Star, Slash, Percent, OpenParen, CloseParen, OpenBrace, CloseBrace, OpenBracket, CloseBracket, Comma, Ampersand, Bar, Backslash, Semicolon}
+use Rattle.csp_text.specs.Written.{symbol_text}
+
+-- all symbols, longer ones first
+abbrev pub symbols : List Symbol
+symbols =
+    InternalChoice ∷ Arrow ∷ ExternalChoice ∷ Parallel ∷ OpenRename ∷ CloseRename ∷ OpenProduct ∷ CloseProduct ∷ LeftArrow
+    ∷ DotDot ∷ Equal ∷ NotEqual ∷ LessEqual ∷ GreaterEqual
+    ∷ Dot ∷ Bang ∷ Question ∷ Colon ∷ At ∷ Defines ∷ Less ∷ Greater ∷ Plus ∷ Minus ∷ Star ∷ Slash ∷ Percent
+    ∷ OpenParen ∷ CloseParen ∷ OpenBrace ∷ CloseBrace ∷ OpenBracket ∷ CloseBracket ∷ Comma ∷ Ampersand ∷ Bar
+    ∷ Backslash ∷ Semicolon ∷ []
+
+-- the longest symbol that the text begins with
+unfoldable pub longest_symbol : List ℕ → Option Symbol
+longest_symbol text = find (λ symbol. starts_with nat_eq text (symbol_text symbol)) symbols
+
+-- the symbol that the text begins with. On the line of an assertion each bracket is a symbol by itself.
+unfoldable pub symbol_at : Bool → List ℕ → Option Symbol
+symbol_at on_line text =
+    if on_line
+    then if starts_with nat_eq text (codes "[") then Some OpenBracket
+    else if starts_with nat_eq text (codes "]") then Some CloseBracket
+    else longest_symbol text
+    else longest_symbol text

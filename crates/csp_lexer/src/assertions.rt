@@ -1,0 +1,65 @@
+//! Assertions.
+
+ghost use Rattle.std.specs.Prelude.{◌≡◌, ◌++◌, ◌≤◌, length, IfOk, IfSome, OnOk, Ok, Some};
+ghost use Rattle.std.specs.Option.{option_copied};
+ghost use Rattle.csp_lexer.specs.Assertions.{asserted, assertion};
+ghost use Rattle.csp_lexer.specs.Passed.{Passed};
+
+use crate::forms::is_deadlock_assertion;
+use crate::line::{cut_line, rest_len};
+use crate::places::behind_all;
+use crate::tokens::Tokens;
+use containers::Items;
+use csp_base::{NoMemory, Place};
+use csp_text::{Token, Word};
+use std::alloc::Global;
+
+/// Puts all items at the end.
+fn append<T: Drop>(items: &mut Items<T>, more: Items<T>) -> Result<(), NoMemory>
+    ensures { OnOk result (items.new ≡ items.old ++ more) }
+{
+    for item in more.into_vec() {
+        items.push(item)?;
+    }
+    Ok(())
+}
+
+/// Adds the tokens of an assertion's line and the word before them, where they assert that a process is free of deadlock.
+fn add_line<'a>(
+    at: Place,
+    rest: &'a [u8],
+    line: Tokens,
+    found: &mut Tokens,
+) -> Result<&'a [u8], NoMemory>
+    ensures passed { IfOk result (λ left. Passed (Some (asserted at rest.now (Ok line))) found.old found.new (Some left.now)) }
+    ensures same { IfOk result (λ left. left.now ≡ rest.now) }
+{
+    if !is_deadlock_assertion(line.tokens.as_slice()) {
+        return Ok(rest);
+    }
+    found.push(Token::Word(Word::Assert), at)?;
+    let Tokens { tokens, places, .. } = line;
+    append(&mut found.tokens, tokens)?;
+    append(&mut found.places, places)?;
+    Ok(rest)
+}
+
+/// Passes what follows the word `assert`, which stands at this place.
+#[tactic(auto, using(std::proofs::lemmas::List::take_rest), unfolding(crate::specs::Assertions::assertion))]
+pub(crate) fn pass_assertion<'a>(
+    alloc: Global,
+    text: &'a [u8],
+    at: Place,
+    found: &mut Tokens,
+) -> Result<&'a [u8], NoMemory>
+    ensures passed { IfOk result (λ left. Passed (Some (assertion at text.now)) found.old found.new (Some left.now)) }
+    ensures within { IfOk result (λ left. length left.now ≤ length text.now) }
+{
+    let len = rest_len(text);
+    let rest = &text[len..];
+    let Some(line) = cut_line(alloc, &text[..len], behind_all(at, b"assert"))? else {
+        return Ok(rest);
+    };
+    let left = add_line(at, rest, line, found)?;
+    Ok(left)
+}

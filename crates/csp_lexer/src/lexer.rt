@@ -1,0 +1,106 @@
+//! The lexer: it cuts a text into its tokens.
+
+ghost use Rattle.std.specs.Prelude.{◌≡◌, ◌<◌, ◌≤◌, true, nat_eq, codes, length, slice_index, IsTrue, IfOk, IfErr, IfSome, Ok, Err};
+ghost use Rattle.std.specs.List.{starts_with};
+ghost use Rattle.std.specs.Option.{option_copied};
+ghost use Rattle.csp_lexer.specs.Front.{begins_assertion, front, is_blank};
+ghost use Rattle.csp_lexer.specs.Annotations.{line_comment};
+ghost use Rattle.csp_lexer.specs.Lexed.{IfNoScript, lexed};
+ghost use Rattle.csp_lexer.specs.Passed.{Passed};
+
+use crate::annotations::{is_space, pass_line};
+use crate::assertions::pass_assertion;
+use crate::comments::{after_comment, line_len};
+use crate::fault::LexFault;
+use crate::line::pass_token;
+use crate::places::{beginning, behind_all};
+use crate::tokens::Tokens;
+use crate::words::word_len;
+use csp_base::{NoMemory, Place};
+use std::alloc::Global;
+
+/// Whether the byte has no meaning between tokens.
+fn is_blank(b: u8) -> bool
+    ensures { result ≡ is_blank b }
+{
+    is_space(b) || b == b'\n'
+}
+
+/// Whether the text's first word is `assert`.
+#[tactic(auto, unfolding(crate::specs::Front::begins_assertion))]
+fn begins_assertion(text: &[u8]) -> bool
+    ensures value { result ≡ begins_assertion text.now }
+    ensures long { IsTrue result → 6 ≤ length text.now }
+{
+    let len = word_len(text);
+    let word = &text[..len];
+    word == b"assert".as_slice()
+}
+
+/// Passes the line comment at the front of the text, which may be an annotation.
+fn pass_line_comment<'a>(
+    alloc: Global,
+    text: &'a [u8],
+    at: Place,
+    found: &mut Tokens,
+) -> Result<Option<&'a [u8]>, NoMemory>
+    requires { starts_with nat_eq text.now (codes "--") ≡ true }
+    ensures passed { IfOk result (λ left. Passed (line_comment at text.now) found.old found.new (option_copied left)) }
+    ensures shorter { IfOk result (λ left. IfSome left (λ left. length left.now < length text.now)) }
+{
+    let len = line_len(text);
+    let left = pass_line(alloc, &text[..len], &text[len..], at, found)?;
+    Ok(left)
+}
+
+/// Passes the piece at the front of the text. The result is what is left of the text, or `None` where no piece stands there.
+#[tactic(auto, using(std::proofs::lemmas::List::take_rest), unfolding(crate::specs::Front::front))]
+fn pass_piece<'a>(
+    alloc: Global,
+    text: &'a [u8],
+    at: Place,
+    found: &mut Tokens,
+) -> Result<Option<&'a [u8]>, NoMemory>
+    requires { 0 < length text.now }
+    ensures passed { IfOk result (λ left. Passed (front at text.now) found.old found.new (option_copied left)) }
+    ensures shorter { IfOk result (λ left. IfSome left (λ left. length left.now < length text.now)) }
+{
+    if is_blank(text[0]) {
+        return Ok(Some(&text[1..]));
+    }
+    if text.starts_with(b"--") {
+        let left = pass_line_comment(alloc, text, at, found)?;
+        return Ok(left);
+    }
+    if text.starts_with(b"{-") {
+        return Ok(after_comment(&text[2..]));
+    }
+    if begins_assertion(text) {
+        let left = pass_assertion(alloc, &text[6..], at, found)?;
+        return Ok(Some(left));
+    }
+    let left = pass_token(alloc, false, text, at, found)?;
+    Ok(left)
+}
+
+/// The tokens of the text with their places, or the place where it is no script.
+pub fn lex(alloc: Global, text: &[u8]) -> Result<Tokens, LexFault>
+    // What is found are the tokens of the text.
+    ensures found { IfOk result (λ found. lexed text.now ≡ Ok found) }
+
+    // The fault, but for want of memory, is that the text has no tokens; the place is the one where its first piece that is none begins.
+    ensures none { IfErr result (λ fault. IfNoScript fault (λ at. lexed text.now ≡ Err at)) }
+{
+    let mut at = beginning();
+    let mut found = Tokens::new(alloc, at);
+    let mut rest = text;
+    while !rest.is_empty() {
+        let Some(left) = pass_piece(alloc, rest, at, &mut found)? else {
+            return Err(LexFault::NoScript { at });
+        };
+        at = behind_all(at, &rest[..rest.len() - left.len()]);
+        rest = left;
+    }
+    found.end = at;
+    Ok(found)
+}

@@ -1,0 +1,21 @@
+//! The lexer: the tokens of a text, with their places.
+#![tactic(auto)]
+
+mod annotations;
+mod assertions;
+mod comments;
+pub mod fault;
+mod forms;
+mod lexer;
+mod line;
+mod places;
+mod scan;
+mod symbols;
+#[cfg(test)]
+mod tests;
+pub mod tokens;
+mod words;
+
+pub use fault::LexFault;
+pub use lexer::lex;
+pub use tokens::Tokens;

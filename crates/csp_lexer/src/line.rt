@@ -1,0 +1,93 @@
+//! The rest of an assertion's line.
+
+ghost use Rattle.std.specs.Prelude.{◌≡◌, ◌<◌, ◌≤◌, length, slice_index, IfOk, IfSome, Ok, Err, MatchOption};
+ghost use Rattle.std.specs.Option.{option_copied};
+ghost use Rattle.csp_lexer.specs.Assertions.{cut_line, ends_line, line_front, rest_len};
+ghost use Rattle.csp_lexer.specs.Passed.{Passed};
+ghost use Rattle.csp_lexer.specs.Pieces.{one_at};
+ghost use Rattle.csp_lexer.specs.Tokens.{token_at};
+ghost use Rattle.csp_base.specs.declared.place.Place.{Place as PlaceValue};
+
+use crate::annotations::is_space;
+use crate::places::behind_all;
+use crate::scan::token_at;
+use crate::tokens::Tokens;
+use csp_base::{NoMemory, Place};
+use std::alloc::Global;
+
+/// Whether the rest of an assertion's line ends here.
+fn ends_line(text: &[u8]) -> bool
+    ensures { result ≡ ends_line text.now }
+{
+    text.starts_with(b"\n") || text.starts_with(b"--") || text.starts_with(b"{-")
+}
+
+/// How many bytes the rest of an assertion's line has.
+pub(crate) fn rest_len(text: &[u8]) -> usize
+    ensures value { result ≡ rest_len text.now }
+    ensures within { result ≤ length text.now }
+{
+    let mut len = 0;
+    while len < text.len() {
+        if ends_line(&text[len..]) {
+            return len;
+        }
+        len += 1;
+    }
+    len
+}
+
+/// Passes the token at the front of the text.
+pub(crate) fn pass_token<'a>(
+    alloc: Global,
+    on_line: bool,
+    text: &'a [u8],
+    at: Place,
+    found: &mut Tokens,
+) -> Result<Option<&'a [u8]>, NoMemory>
+    ensures passed { IfOk result (λ left. Passed (one_at at text.now (token_at on_line text.now)) found.old found.new (option_copied left)) }
+    ensures shorter { IfOk result (λ left. IfSome left (λ left. length left.now < length text.now)) }
+{
+    let Some((token, len)) = token_at(alloc, on_line, text)? else {
+        return Ok(None);
+    };
+    found.push(token, at)?;
+    Ok(Some(&text[len..]))
+}
+
+/// Passes the blank or the token at the front of the rest of an assertion's line.
+#[tactic(auto, using(std::proofs::lemmas::List::take_rest), unfolding(crate::specs::Assertions::line_front))]
+fn pass_on_line<'a>(
+    alloc: Global,
+    text: &'a [u8],
+    at: Place,
+    found: &mut Tokens,
+) -> Result<Option<&'a [u8]>, NoMemory>
+    requires { 0 < length text.now }
+    ensures passed { IfOk result (λ left. Passed (line_front at text.now) found.old found.new (option_copied left)) }
+    ensures shorter { IfOk result (λ left. IfSome left (λ left. length left.now < length text.now)) }
+{
+    if is_space(text[0]) {
+        return Ok(Some(&text[1..]));
+    }
+    pass_token(alloc, true, text, at, found)
+}
+
+/// The tokens of the rest of an assertion's line, or `None` where it is anything but blanks and tokens.
+pub(crate) fn cut_line(alloc: Global, line: &[u8], at: Place) -> Result<Option<Tokens>, NoMemory>
+    ensures { IfOk result (λ found. MatchOption found
+        ((fault : PlaceValue) × (cut_line at line.now ≡ Err fault)) (λ cut. cut_line at line.now ≡ Ok cut)) }
+{
+    let mut found = Tokens::new(alloc, at);
+    let mut at = at;
+    let mut rest = line;
+    while !rest.is_empty() {
+        let Some(left) = pass_on_line(alloc, rest, at, &mut found)? else {
+            return Ok(None);
+        };
+        at = behind_all(at, &rest[..rest.len() - left.len()]);
+        rest = left;
+    }
+    found.end = at;
+    Ok(Some(found))
+}

@@ -1,0 +1,120 @@
+//! Words of a text: how long the one at the front is, and which of them are reserved.
+
+ghost use Rattle.std.specs.Prelude.{◌≡◌, ◌≤◌, length};
+ghost use Rattle.std.specs.List.{prefix_len};
+ghost use Rattle.std.specs.Option.{option_copied};
+ghost use Rattle.csp_lexer.specs.Words.{is_foreign, is_letter, is_name, is_name_byte, is_prime, reserved_word, word_len, word_rest_len};
+
+use csp_text::{Word, word_text};
+
+fn is_letter(b: u8) -> bool
+    ensures { result ≡ is_letter b }
+{
+    matches!(b, b'A'..=b'Z' | b'a'..=b'z')
+}
+
+fn is_name_byte(b: u8) -> bool
+    ensures { result ≡ is_name_byte b }
+{
+    is_letter(b) || matches!(b, b'0'..=b'9') || b == b'_'
+}
+
+/// How many letters, digits and underscores the text begins with.
+fn name_bytes(text: &[u8]) -> usize
+    ensures value { result ≡ prefix_len is_name_byte text.now }
+    ensures within { result ≤ length text.now }
+{
+    text.iter().take_while(|b| is_name_byte(**b)).count()
+}
+
+/// How many primes the text begins with.
+fn primes(text: &[u8]) -> usize
+    ensures value { result ≡ prefix_len is_prime text.now }
+    ensures within { result ≤ length text.now }
+{
+    text.iter().take_while(|b| **b == b'\'').count()
+}
+
+/// How many bytes of the text may follow the first letter of a word.
+fn word_rest_len(text: &[u8]) -> usize
+    ensures value { result ≡ word_rest_len text.now }
+    ensures within { result ≤ length text.now }
+{
+    let names = name_bytes(text);
+    names + primes(&text[names..])
+}
+
+/// How many bytes the longest word at the front of the text has, or 0 where the text begins with none.
+#[tactic(auto, unfolding(crate::specs::Words::word_len))]
+pub(crate) fn word_len(text: &[u8]) -> usize
+    ensures value { result ≡ word_len text.now }
+    ensures within { result ≤ length text.now }
+{
+    match text.split_first() {
+        Some((first, rest)) if is_letter(*first) => 1 + word_rest_len(rest),
+        _ => 0,
+    }
+}
+
+/// The words that the language reserves.
+const WORDS: [Word; 17] = [
+    Word::And,
+    Word::Assert,
+    Word::Channel,
+    Word::Datatype,
+    Word::Diff,
+    Word::Else,
+    Word::False,
+    Word::If,
+    Word::Inter,
+    Word::Nametype,
+    Word::Not,
+    Word::Or,
+    Word::Then,
+    Word::True,
+    Word::Union,
+    Word::Stop,
+    Word::Skip,
+];
+
+/// The reserved word that the bytes are.
+pub(crate) fn reserved_word(bytes: &[u8]) -> Option<Word>
+    ensures { result ≡ reserved_word bytes.now }
+{
+    WORDS
+        .iter()
+        .find(|word| bytes == word_text(**word))
+        .copied()
+}
+
+/// The words that only a larger language reserves.
+const FOREIGN_WORDS: [&[u8]; 10] = [
+    b"external",
+    b"include",
+    b"lambda",
+    b"let",
+    b"module",
+    b"print",
+    b"subtype",
+    b"timed",
+    b"transparent",
+    b"within",
+];
+
+/// Whether only a larger language reserves the word.
+pub(crate) fn is_foreign(word: &[u8]) -> bool
+    ensures { result ≡ is_foreign word.now }
+{
+    FOREIGN_WORDS.iter().any(|foreign| word == *foreign)
+}
+
+/// Whether the bytes are a word that is not reserved.
+#[tactic(auto, unfolding(crate::specs::Words::is_name))]
+pub(crate) fn is_name(bytes: &[u8]) -> bool
+    ensures { result ≡ is_name bytes.now }
+{
+    0 < bytes.len()
+        && word_len(bytes) == bytes.len()
+        && reserved_word(bytes).is_none()
+        && !is_foreign(bytes)
+}

@@ -1,0 +1,16 @@
+//! The parts of a script's text: its tokens, and the trees that they spell.
+#![tactic(auto)]
+
+pub mod depths;
+pub mod script;
+#[cfg(test)]
+mod tests;
+pub mod token;
+pub mod tree;
+pub mod written;
+
+pub use depths::depth;
+pub use script::{Decl, Script};
+pub use token::{ResourceNames, RolesNames, Symbol, Token, Word};
+pub use tree::{BinOp, EventTree, FieldTree, GenTree, PartTree, SetOp, Tree};
+pub use written::{symbol_text, word_text};

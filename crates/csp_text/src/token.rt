@@ -1,0 +1,169 @@
+//! Tokens: the smallest parts of a script that have a meaning.
+
+use containers::Boxed;
+use csp_base::Name;
+
+/// A part of a script. Blanks and comments stand between tokens and have no meaning.
+///
+/// The names of an annotation, which are rare, are on the heap, so that a token is small.
+#[derive(Debug, PartialEq, Eq, Hash, Drop)]
+pub enum Token {
+    /// A name that the script gives.
+    Name(Name),
+    /// A number as it is written, at most 1,000,000.
+    Num(u32),
+    /// A word that the language reserves.
+    Word(Word),
+    /// A symbol of the language.
+    Symbol(Symbol),
+    /// `--@ roles` and five names.
+    Roles(Boxed<RolesNames>),
+    /// `--@ resource` and three names.
+    Resource(Boxed<ResourceNames>),
+}
+
+/// The names of an annotation that gives a process its roles of client and server.
+#[derive(Debug, PartialEq, Eq, Hash, Drop)]
+pub struct RolesNames {
+    /// The process.
+    pub process: Name,
+    /// The definition of its requests as a client.
+    pub creq: Name,
+    /// The definition of the acknowledgements that it takes as a client.
+    pub cack: Name,
+    /// The definition of the requests that it takes as a server.
+    pub sreq: Name,
+    /// The definition of its acknowledgements as a server.
+    pub sack: Name,
+}
+
+/// The names of an annotation that makes a process a resource.
+#[derive(Debug, PartialEq, Eq, Hash, Drop)]
+pub struct ResourceNames {
+    /// The process.
+    pub process: Name,
+    /// The definition of the events by which it is acquired.
+    pub acquire: Name,
+    /// The definition of the events by which it is released.
+    pub release: Name,
+}
+
+/// The reserved words of the language.
+#[derive(Clone, Copy, Debug, PartialEq, Eq, Hash)]
+pub enum Word {
+    /// `and`
+    And,
+    /// `assert`
+    Assert,
+    /// `channel`
+    Channel,
+    /// `datatype`
+    Datatype,
+    /// `diff`
+    Diff,
+    /// `else`
+    Else,
+    /// `false`
+    False,
+    /// `if`
+    If,
+    /// `inter`
+    Inter,
+    /// `nametype`
+    Nametype,
+    /// `not`
+    Not,
+    /// `or`
+    Or,
+    /// `then`
+    Then,
+    /// `true`
+    True,
+    /// `union`
+    Union,
+    /// `STOP`
+    Stop,
+    /// `SKIP`
+    Skip,
+}
+
+/// The symbols of the language.
+#[derive(Clone, Copy, Debug, PartialEq, Eq, Hash)]
+pub enum Symbol {
+    /// `->`
+    Arrow,
+    /// `[]`
+    ExternalChoice,
+    /// `|~|`
+    InternalChoice,
+    /// `||`
+    Parallel,
+    /// `[[`
+    OpenRename,
+    /// `]]`
+    CloseRename,
+    /// `{|`
+    OpenProduct,
+    /// `|}`
+    CloseProduct,
+    /// `<-`
+    LeftArrow,
+    /// `..`
+    DotDot,
+    /// `.`
+    Dot,
+    /// `!`
+    Bang,
+    /// `?`
+    Question,
+    /// `:`
+    Colon,
+    /// `@`
+    At,
+    /// `=`
+    Defines,
+    /// `==`
+    Equal,
+    /// `!=`
+    NotEqual,
+    /// `<`
+    Less,
+    /// `<=`
+    LessEqual,
+    /// `>`
+    Greater,
+    /// `>=`
+    GreaterEqual,
+    /// `+`
+    Plus,
+    /// `-`
+    Minus,
+    /// `*`
+    Star,
+    /// `/`
+    Slash,
+    /// `%`
+    Percent,
+    /// `(`
+    OpenParen,
+    /// `)`
+    CloseParen,
+    /// `{`
+    OpenBrace,
+    /// `}`
+    CloseBrace,
+    /// `[`
+    OpenBracket,
+    /// `]`
+    CloseBracket,
+    /// `,`
+    Comma,
+    /// `&`
+    Ampersand,
+    /// `|`
+    Bar,
+    /// `\`
+    Backslash,
+    /// `;`
+    Semicolon,
+}

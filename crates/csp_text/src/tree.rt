@@ -1,0 +1,150 @@
+//! Trees: what an expression or a process of a script looks like, before names have a meaning.
+
+use containers::{Boxed, Items};
+use csp_base::Name;
+
+/// The operators that stand between two operands.
+#[derive(Clone, Copy, Debug, PartialEq, Eq, Hash)]
+pub enum BinOp {
+    /// `or`
+    Or,
+    /// `and`
+    And,
+    /// `==`
+    Eq,
+    /// `!=`
+    Ne,
+    /// `<`
+    Lt,
+    /// `<=`
+    Le,
+    /// `>`
+    Gt,
+    /// `>=`
+    Ge,
+    /// `+`
+    Add,
+    /// `-`
+    Sub,
+    /// `*`
+    Mul,
+    /// `/`
+    Div,
+    /// `%`
+    Rem,
+}
+
+/// The operators on two sets.
+#[derive(Clone, Copy, Debug, PartialEq, Eq, Hash)]
+pub enum SetOp {
+    /// `union`
+    Union,
+    /// `inter`
+    Inter,
+    /// `diff`
+    Diff,
+}
+
+/// An expression or a process. Parts stand in the order of the text; parentheses leave no trace.
+#[cycle(tree)]
+#[derive(Debug, PartialEq, Eq, Hash, Drop)]
+pub enum Tree {
+    /// `STOP`
+    Stop,
+    /// `SKIP`
+    Skip,
+    /// A number.
+    Num(u32),
+    /// `true`
+    True,
+    /// `false`
+    False,
+    /// A name alone.
+    Name(Name),
+    /// `f(a, b)`
+    Call(Name, Items<Tree>),
+    /// `c.a.b`
+    Dot(Name, Items<Tree>),
+    /// `-a`
+    Neg(Boxed<Tree>),
+    /// `not a`
+    Not(Boxed<Tree>),
+    /// An operator between two operands.
+    Binary(BinOp, Boxed<Tree>, Boxed<Tree>),
+    /// `if a then b else c`
+    If(Boxed<Tree>, Boxed<Tree>, Boxed<Tree>),
+    /// `{a, b}`
+    Display(Items<Tree>),
+    /// `{a..b}`
+    Range(Boxed<Tree>, Boxed<Tree>),
+    /// `{a, b | gens}`
+    Comp(Items<Tree>, Items<GenTree>),
+    /// `{| c.a, d | gens |}`
+    Product(Items<PartTree>, Items<GenTree>),
+    /// `union(a, b)` and its kin.
+    SetOp(SetOp, Boxed<Tree>, Boxed<Tree>),
+    /// `c.a!b?x -> P`
+    Prefix(EventTree, Boxed<Tree>),
+    /// `a & P`
+    Guard(Boxed<Tree>, Boxed<Tree>),
+    /// `P [] Q [] R`
+    External(Items<Tree>),
+    /// `P |~| Q |~| R`
+    Internal(Items<Tree>),
+    /// `[] x:S @ P`
+    EachExternal(Name, Boxed<Tree>, Boxed<Tree>),
+    /// `|~| x:S @ P`
+    EachInternal(Name, Boxed<Tree>, Boxed<Tree>),
+    /// `P [A || B] Q`
+    Parallel(Boxed<Tree>, Boxed<Tree>, Boxed<Tree>, Boxed<Tree>),
+    /// `|| x:S @ [A] P`
+    EachParallel(Name, Boxed<Tree>, Boxed<Tree>, Boxed<Tree>),
+    /// `P ; Q`
+    Seq(Boxed<Tree>, Boxed<Tree>),
+    /// `P \ A`
+    Hide(Boxed<Tree>, Boxed<Tree>),
+    /// `P[[a <- b, c <- d | gens]]`
+    Rename(Boxed<Tree>, Items<(PartTree, PartTree)>, Items<GenTree>),
+}
+
+/// The event of a prefix: a channel and its fields.
+#[cycle(tree)]
+#[derive(Debug, PartialEq, Eq, Hash, Drop)]
+pub struct EventTree {
+    /// The channel.
+    pub name: Name,
+    /// The fields, in order.
+    pub fields: Items<FieldTree>,
+}
+
+/// A field of a prefix.
+#[cycle(tree)]
+#[derive(Debug, PartialEq, Eq, Hash, Drop)]
+pub enum FieldTree {
+    /// `.a`
+    Dot(Tree),
+    /// `!a`
+    Output(Tree),
+    /// `?x`, or `?x:S` with a set.
+    Input(Name, Option<Tree>),
+}
+
+/// The front of an event: a channel and some of its fields.
+#[cycle(tree)]
+#[derive(Debug, PartialEq, Eq, Hash, Drop)]
+pub struct PartTree {
+    /// The channel.
+    pub name: Name,
+    /// The fields that are given, from the first one on.
+    pub fields: Items<Tree>,
+}
+
+/// A part of a list of generators.
+#[cycle(tree)]
+#[derive(Debug, PartialEq, Eq, Hash, Drop)]
+pub enum GenTree {
+    /// `x <- S`
+    From(Name, Tree),
+    /// A condition.
+    Cond(Tree),
+}

@@ -1,0 +1,10 @@
+pub mod Closures
+pub mod Traces
+pub mod MoveLists
+pub mod Silence
+pub mod MoreSets
+pub mod Groups
+pub mod NodeSteps
+pub mod Exploring
+pub mod Runs
+pub mod Counting

@@ -1,0 +1,5 @@
+pub mod Closed
+pub mod Determinised
+pub mod ManySets
+pub mod Moves
+pub mod Progress

@@ -1,0 +1,96 @@
+-- What holds while sets of terms are found and numbered.
+use Rattle.std.specs.Prelude.{◌≡◌, ◌≢◌, ◌↔◌, ◌+◌, ◌<◌, ◌≤◌, ℕ, List, [], ◌∷◌, length, get_or, map, take, IsTrue, All}
+use Rattle.std.specs.List.Sorted.{IsStrictlyIncreasing, IsStrictlySortedBy}
+use Rattle.std.specs.Cmp.Lexicographic.{slice_cmp}
+use Rattle.std.specs.Ordering.{nat_cmp}
+use Rattle.csp_base.specs.Members.{has}
+use Rattle.csp_tables.specs.Path.{Stable}
+use Rattle.csp_tables.specs.Trace.{After, IsTrace}
+use Rattle.csp_tables.specs.RawTable.{RawTable, RawStep}
+use Rattle.csp_tables.specs.RawForm.{has_step}
+use Rattle.csp_tables.specs.Offer.{IsMinimalOffer}
+use Rattle.csp_tables.specs.Behaviour.{OffersAcceptance}
+use Rattle.csp_tables.specs.NormalTable.{IsListed}
+use Rattle.csp_tables.specs.Table.{Node, is_possible, target, node_at}
+use Rattle.csp_tables.specs.BreadthFirst.{targets_of_steps, MeetsInOrder, MeetsUpTo}
+use Rattle.determinise.specs.Moves.{has_event, IsNextSet, AreMovesOf, IsSilentlyReached}
+
+-- of the sets that stable terms among these offer, those that contain no smaller one
+pub record AreMinimalOffers (raw : RawTable) (terms : List ℕ) (sets : List (List ℕ)) : Type 0 where
+  pub sound : All (IsMinimalOffer raw terms) sets
+  pub complete : (M : List ℕ) → IsMinimalOffer raw terms M → IsListed sets M
+  pub covered : (n : ℕ) → IsTrue (has terms n) → Stable (RawStep raw) n → OffersAcceptance (RawStep raw) n sets
+  pub rising : All IsStrictlyIncreasing sets
+  pub order : IsStrictlySortedBy (slice_cmp nat_cmp) sets
+
+-- the set in a place
+abbrev pub set_at : List (List ℕ) → ℕ → List ℕ
+set_at sets n = get_or sets n []
+
+-- no set stands twice
+abbrev pub AreApart : List (List ℕ) → Type 0
+AreApart sets = (m n : ℕ) → m < n → n < length sets → set_at sets m ≢ set_at sets n
+
+-- a set of terms of the table, written as a rising list
+pub record IsTermSet (raw : RawTable) (set : List ℕ) : Type 0 where
+  pub rising : IsStrictlyIncreasing set
+  pub within : All (λ t. t < raw.count) set
+
+-- silent steps from the starts lead to exactly the terms of the set
+pub record IsSilentClosure (raw : RawTable) (starts set : List ℕ) : Type 0 where
+  pub members : (t : ℕ) → IsTrue (has set t) ↔ IsSilentlyReached raw starts t
+  pub form : IsTermSet raw set
+
+-- the set to which one of these events leads over these steps
+pub record IsSomeNextSet (raw : RawTable) (moves : List (ℕ × ℕ)) (set : List ℕ) : Type 0 where
+  pub event : ℕ
+  pub listed : IsTrue (has_event moves event)
+  pub is : IsNextSet raw moves event set
+  pub form : IsTermSet raw set
+
+-- the set to which one of the events of these terms leads
+abbrev pub IsReachedFromSet : RawTable → List ℕ → List ℕ → Type 0
+IsReachedFromSet raw terms set = (moves : List (ℕ × ℕ)) × AreMovesOf raw terms moves × IsSomeNextSet raw moves set
+
+-- Sets of a kind were added behind those that were there.
+pub record AreMoreSets (IsOfKind : List ℕ → Type 0) (old new : List (List ℕ)) : Type 0 where
+  pub longer : length old ≤ length new
+  pub kept : (n : ℕ) → n < length old → set_at new n ≡ set_at old n
+  pub added : (n : ℕ) → length old ≤ n → n < length new → IsOfKind (set_at new n)
+  pub apart : AreApart old → AreApart new
+
+-- the number of the set to which the event leads over these steps
+pub record LeadsToSet (raw : RawTable) (moves : List (ℕ × ℕ)) (sets : List (List ℕ)) (e n : ℕ) : Type 0 where
+  pub within : n < length sets
+  pub is : IsNextSet raw moves e (set_at sets n)
+
+-- The steps of a node: its events are those of these steps, and rise, and each leads to the number of its set.
+pub record AreNodeSteps (raw : RawTable) (moves : List (ℕ × ℕ)) (sets : List (List ℕ)) (next : List (ℕ × ℕ)) : Type 0 where
+  pub events : (e : ℕ) → is_possible next e ≡ has_event moves e
+  pub leads : (e : ℕ) → IsTrue (is_possible next e) → LeadsToSet raw moves sets e (target next e)
+  pub rising : IsStrictlyIncreasing (map (λ step. step.0) next)
+
+-- the node of a set of terms
+pub record IsNodeOf (raw : RawTable) (sets : List (List ℕ)) (terms : List ℕ) (node : Node) : Type 0 where
+  pub steps : (moves : List (ℕ × ℕ)) × AreMovesOf raw terms moves × AreNodeSteps raw moves sets node.next
+  pub accept : AreMinimalOffers raw terms node.accept
+
+-- The trace leads to the terms of the set, and to one at least.
+pub record IsSetAfter (raw : RawTable) (s set : List ℕ) : Type 0 where
+  pub terms : (t : ℕ) → IsTrue (has set t) ↔ After (RawStep raw) 0 s t
+  pub some : IsTrace (RawStep raw) 0 s
+
+-- each set is the one after some trace
+pub record AreReachedSets (raw : RawTable) (sets : List (List ℕ)) : Type 0 where
+  pub first : IsSetAfter raw [] (set_at sets 0)
+  pub not_empty : 0 < length sets
+  pub each : (n : ℕ) → n < length sets → (s : List ℕ) × IsSetAfter raw s (set_at sets n)
+  pub forms : (n : ℕ) → n < length sets → IsTermSet raw (set_at sets n)
+  pub apart : AreApart sets
+
+-- the first nodes, with the sets that are numbered so far
+pub record AreNodesSoFar (raw : RawTable) (sets : List (List ℕ)) (nodes : List Node) : Type 0 where
+  pub fewer : length nodes ≤ length sets
+  pub each : (k : ℕ) → k < length nodes → IsNodeOf raw sets (set_at sets k) (node_at nodes k)
+  pub met : MeetsUpTo nodes (length sets)
+  pub in_turn : (k : ℕ) → k < length nodes → (m : ℕ) × MeetsUpTo (take k nodes) m × (k < m)

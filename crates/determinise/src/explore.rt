@@ -1,0 +1,82 @@
+//! The subset construction.
+
+ghost use Rattle.std.specs.Prelude.{◌≡◌, ◌↔◌, ◌+◌, ◌<◌, ◌≤◌, ◌++◌, ◌∷◌, [], ℕ, List, All, IsTrue, IfOk, OnOk, length};
+ghost use Rattle.csp_tables.specs.RawTable.{RawStep};
+ghost use Rattle.csp_tables.specs.BreadthFirst.{IsBreadthFirst};
+ghost use Rattle.determinise.specs.Determinised.{FollowsTraces, AreDifferentSets, HasAcceptances, IsInOrder};
+ghost use Rattle.determinise.specs.ManySets.{ReachesSets};
+ghost use Rattle.determinise.specs.Progress.{AreNodesSoFar, AreReachedSets};
+
+use crate::fault::SetFault;
+use crate::node::node_of;
+use crate::prepared::Prepared;
+use crate::table::SetTable;
+use containers::{Items, Numbering};
+use csp_tables::{NormNode, RawTable};
+use std::alloc::{AllocError, Global};
+
+/// The determinised table of a raw table: a node for each set of terms to which a trace from term 0 leads, with the minimal
+/// acceptances of the set.
+///
+/// Nodes are numbered breadth first from the one of the empty trace, events in rising order. Where traces lead to more than
+/// 2,048 sets, the answer is `SubsetLimit`.
+pub fn determinise(alloc: Global, table: &RawTable) -> Result<SetTable, SetFault>
+    ensures traces { IfOk result (λ made. FollowsTraces (RawStep table.now) 0 made) }
+    ensures sets { IfOk result AreDifferentSets }
+    ensures acceptances { IfOk result (λ made. HasAcceptances (RawStep table.now) 0 made.nodes) }
+    ensures in_order { IfOk result (λ made. All IsInOrder made.nodes) }
+    ensures breadth_first { IfOk result (λ made. IsBreadthFirst made.nodes) }
+    ensures few { IfOk result (λ made. length made.nodes ≤ 2048) }
+
+    // It succeeds only where no more sets are reached, and the limit is told only where they are.
+    ensures within_limit { OnOk result (ReachesSets (RawStep table.now) 0 2049 → ⊥) }
+    ensures limit { (found : ℕ) → result ≡ Err (SetFault.SubsetLimit found) → (found ≡ 2049) × ReachesSets (RawStep table.now) 0 2049 }
+{
+    let prepared = Prepared::new(alloc, table)?;
+    let mut sets = first_sets(alloc, &prepared)?;
+    match explore(alloc, &prepared, &mut sets) {
+        Ok(nodes) => Ok(SetTable::new(nodes, sets)),
+        Err(fault) => Err(fault),
+    }
+}
+
+// The set of the empty trace alone.
+fn first_sets(alloc: Global, table: &Prepared<'_>) -> Result<Numbering<Items<u32>>, AllocError>
+    ensures reached { IfOk result (λ sets. AreReachedSets table.now sets) }
+    ensures one { IfOk result (λ sets. length sets ≡ 1) }
+{
+    let mut sets = Numbering::new(alloc);
+    let set = table.first_set(alloc)?;
+    sets.number(set)?;
+    Ok(sets)
+}
+
+// A node for each set. The sets to which events lead are numbered as they are met.
+fn explore(
+    alloc: Global,
+    table: &Prepared<'_>,
+    sets: &mut Numbering<Items<u32>>,
+) -> Result<Vec<NormNode>, SetFault>
+    requires reached { AreReachedSets table.now sets.old }
+    requires one { length sets.old ≡ 1 }
+    ensures nodes { IfOk result (λ nodes. AreNodesSoFar table.now sets.new nodes.items) }
+    ensures all { IfOk result (λ nodes. length nodes.items ≡ length sets.new) }
+    ensures few { OnOk result (length sets.new ≤ 2048) }
+    ensures reached { AreReachedSets table.now sets.new }
+    ensures limit { (found : ℕ) → result ≡ Err (SetFault.SubsetLimit found) → (found ≡ 2049) × (length sets.new ≡ 2049) }
+{
+    let mut nodes = Vec::new(alloc);
+    while nodes.len() < sets.len() {
+        let node = node_of(alloc, table, sets, nodes.len())?;
+        push_node(&mut nodes, node)?;
+    }
+    Ok(nodes)
+}
+
+// Adds a node at the end.
+fn push_node(nodes: &mut Vec<NormNode>, node: NormNode) -> Result<(), AllocError>
+    ensures { OnOk result (nodes.new.items ≡ nodes.old.items ++ node ∷ []) }
+{
+    nodes.push(node)?;
+    Ok(())
+}

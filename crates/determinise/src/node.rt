@@ -1,0 +1,35 @@
+//! The node of a set of terms.
+
+ghost use Rattle.std.specs.Prelude.{◌≡◌, ◌<◌, ◌≤◌, ℕ, IfOk, OnOk, length};
+ghost use Rattle.csp_tables.specs.BreadthFirst.{MeetsInOrder, targets_of_steps};
+ghost use Rattle.determinise.specs.Progress.{AreMoreSets, IsNodeOf, IsReachedFromSet, IsTermSet, set_at};
+
+use crate::fault::SetFault;
+use crate::prepared::Prepared;
+use crate::sets::next_steps;
+use containers::{Items, Numbering};
+use csp_tables::NormNode;
+use std::alloc::Global;
+
+// The node of the set in a place. The sets to which its events lead are numbered where they have no number yet.
+pub(crate) fn node_of(
+    alloc: Global,
+    table: &Prepared<'_>,
+    sets: &mut Numbering<Items<u32>>,
+    place: usize,
+) -> Result<NormNode, SetFault>
+    requires place { place < length sets.old }
+    requires form { IsTermSet table.now (set_at sets.old place) }
+    requires few { length sets.old ≤ 2048 }
+    ensures node { IfOk result (λ node. IsNodeOf table.now sets.new (set_at sets.old place) node) }
+    ensures order { IfOk result (λ node. MeetsInOrder (length sets.old) (targets_of_steps node.next) (length sets.new)) }
+    ensures more { AreMoreSets (IsReachedFromSet table.now (set_at sets.old place)) sets.old sets.new }
+    ensures few { OnOk result (length sets.new ≤ 2048) }
+    ensures limit { (found : ℕ) → result ≡ Err (SetFault.SubsetLimit found) → (found ≡ 2049) × (length sets.new ≡ 2049) }
+{
+    let terms = sets.as_slice()[place].as_slice();
+    let moves = table.moves(alloc, terms)?;
+    let accept = table.acceptances(alloc, terms)?;
+    let next = next_steps(alloc, table, &moves, sets)?;
+    Ok(NormNode::new(next, accept))
+}

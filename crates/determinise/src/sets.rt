@@ -1,0 +1,103 @@
+//! The sets of terms to which events lead, numbered as they are met.
+
+ghost use Rattle.std.specs.Prelude.{◌≡◌, ◌+◌, ◌<◌, ◌≤◌, ℕ, [], ◌∷◌, ◌++◌, All, IfOk, OnOk, length, slice_index_or};
+ghost use Rattle.std.specs.List.Sorted.{IsNonDecreasingBy};
+ghost use Rattle.csp_tables.specs.BreadthFirst.{MeetsInOrder, targets_of_steps};
+ghost use Rattle.determinise.specs.Progress.{AreMoreSets, AreNodeSteps, IsSilentClosure, IsSomeNextSet, set_at};
+
+use crate::fault::SetFault;
+use crate::prepared::Prepared;
+use containers::{Items, Numbering};
+use csp_base::Event;
+use std::alloc::{AllocError, Global};
+
+// How many sets there may be.
+const SET_LIMIT: usize = 2048;
+
+// The events of these steps, in rising order, each with the number of the set to which it leads. A set without a number
+// gets the next one.
+pub(crate) fn next_steps(
+    alloc: Global,
+    table: &Prepared<'_>,
+    moves: &[(Event, u32)],
+    sets: &mut Numbering<Items<u32>>,
+) -> Result<Vec<(Event, u32)>, SetFault>
+    requires order { IsNonDecreasingBy (λ step. step.0) moves.now }
+    requires within { All (λ step. step.1 < table.now.count) moves.now }
+    requires few { length sets.old ≤ 2048 }
+    ensures steps { IfOk result (λ next. AreNodeSteps table.now moves.now sets.new next.items) }
+    ensures order { IfOk result (λ next. MeetsInOrder (length sets.old) (targets_of_steps next.items) (length sets.new)) }
+    ensures more { AreMoreSets (IsSomeNextSet table.now moves.now) sets.old sets.new }
+    ensures few { OnOk result (length sets.new ≤ 2048) }
+    ensures limit { (found : ℕ) → result ≡ Err (SetFault.SubsetLimit found) → (found ≡ 2049) × (length sets.new ≡ 2049) }
+{
+    let mut next = Vec::new(alloc);
+    let mut at = 0;
+    while at < moves.len() {
+        let event = moves[at].0;
+        let end = group_end(moves, at);
+        let number = number_of_next(alloc, table, &moves[at..end], sets)?;
+        push(&mut next, event, number)?;
+        at = end;
+    }
+    Ok(next)
+}
+
+// Where the steps by the event at a place end.
+fn group_end(moves: &[(Event, u32)], at: usize) -> usize
+    requires at { at < length moves.now }
+    requires order { IsNonDecreasingBy (λ step. step.0) moves.now }
+    ensures past { at < result }
+    ensures within { result ≤ length moves.now }
+    ensures same { (k : ℕ) → at ≤ k → k < result → (slice_index_or moves.now k (0, 0)).0 ≡ (slice_index_or moves.now at (0, 0)).0 }
+    ensures above { (k : ℕ) → result ≤ k → k < length moves.now → (slice_index_or moves.now at (0, 0)).0 < (slice_index_or moves.now k (0, 0)).0 }
+{
+    for end in at + 1..moves.len() {
+        if moves[end].0 != moves[at].0 {
+            return end;
+        }
+    }
+    moves.len()
+}
+
+// The number of the set to which these steps lead, with silent steps behind them.
+fn number_of_next(
+    alloc: Global,
+    table: &Prepared<'_>,
+    moves: &[(Event, u32)],
+    sets: &mut Numbering<Items<u32>>,
+) -> Result<u32, SetFault>
+    requires within { All (λ step. step.1 < table.now.count) moves.now }
+    requires few { length sets.old ≤ 2048 }
+    ensures number { IfOk result (λ n. n < length sets.new) }
+    ensures set { IfOk result (λ n. IsSilentClosure table.now (targets_of_steps moves.now) (set_at sets.new n)) }
+    ensures order { IfOk result (λ n. MeetsInOrder (length sets.old) (n ∷ []) (length sets.new)) }
+    ensures more { AreMoreSets (IsSilentClosure table.now (targets_of_steps moves.now)) sets.old sets.new }
+    ensures few { OnOk result (length sets.new ≤ 2048) }
+    ensures limit { (found : ℕ) → result ≡ Err (SetFault.SubsetLimit found) → (found ≡ 2049) × (length sets.new ≡ 2049) }
+{
+    let starts = targets(alloc, moves)?;
+    let set = table.closed(alloc, &starts)?;
+    let number = sets.number(set)?;
+    if sets.len() > SET_LIMIT {
+        return Err(SetFault::SubsetLimit {
+            found: sets.len() as u32,
+        });
+    }
+    Ok(number)
+}
+
+// The terms to which the steps lead.
+fn targets(alloc: Global, moves: &[(Event, u32)]) -> Result<Vec<u32>, AllocError>
+    ensures { IfOk result (λ found. found.items ≡ targets_of_steps moves.now) }
+{
+    moves.iter().map(|step| step.1).collect(alloc)
+}
+
+// Adds a step at the end.
+fn push(next: &mut Vec<(Event, u32)>, event: Event, number: u32) -> Result<(), AllocError>
+    ensures { OnOk result (next.new.items ≡ next.old.items ++ (event, number) ∷ []) }
+{
+    next.push((event, number))?;
+    Ok(())
+}

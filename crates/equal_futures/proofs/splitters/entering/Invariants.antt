@@ -1,0 +1,6 @@
+use Rattle.std.proofs.Common.{take}
+use Rattle.equal_futures.specs.Blocks.{AreGathered}
+use Rattle.equal_futures.proofs.splitters.entering.Given as goal
+
+abbrev pub invariant-loop-node : goal.invariant-loop-node
+invariant-loop-node l = AreGathered l.rows (take l.node-index l.members) l.steps.items

@@ -1,0 +1,5 @@
+pub mod Alike
+pub mod BlockSteps
+pub mod Blocks
+pub mod Future
+pub mod Rows

@@ -1,0 +1,9 @@
+//! Nodes of a table with equal future: their classes, by splitters and by plain rounds, and the table merged by classes.
+#![tactic(auto)]
+
+mod partition;
+mod rounds;
+mod splitters;
+
+pub use rounds::{Classes, refine_by_rounds};
+pub use splitters::refine;

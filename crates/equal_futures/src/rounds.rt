@@ -1,0 +1,83 @@
+//! Refinement round by round, until no class is split.
+
+ghost use Rattle.std.specs.Prelude.{◌≡◌, ◌<◌, ◌≤◌, ◌^◌, ◌++◌, [], ◌∷◌, length, slice_index, IfOk, OnOk};
+ghost use Rattle.equal_futures.specs.Future.{AreFutureClasses, NodesRise, StepsRise};
+ghost use Rattle.equal_futures.specs.Alike.{AreTold};
+ghost use Rattle.equal_futures.specs.Rows.{key_of};
+
+use containers::{Items, Numbering};
+use csp_base::{Event, NoMemory};
+use csp_tables::NormNode;
+use std::alloc::{AllocError, Global};
+
+/// A class for each node of a table, numbered from 0 in the order in which they are first seen.
+#[derive(Debug, Drop)]
+pub struct Classes {
+    /// The class of each node.
+    pub numbers: Vec<u32>,
+    /// How many classes there are.
+    pub count: u32,
+}
+
+/// The classes of nodes with equal future, refined round by round: in each round nodes are told apart by the classes to
+/// which their events lead, until no class is split. `marks` has the mark of each node.
+///
+/// A table may need as many rounds as it has nodes, and each round passes over all steps.
+pub fn refine_by_rounds(
+    alloc: Global,
+    nodes: &[NormNode],
+    marks: &[u32],
+) -> Result<Classes, NoMemory>
+    requires rising { NodesRise nodes.now }
+    requires marks { length marks.now ≡ length nodes.now }
+    ensures { IfOk result (λ made. AreFutureClasses nodes.now marks.now made.numbers.items made.count) }
+{
+    let mut classes = round(alloc, nodes, marks)?;
+    loop {
+        let finer = round(alloc, nodes, classes.numbers.as_slice())?;
+        if finer.count == classes.count {
+            return Ok(classes);
+        }
+        classes = finer;
+    }
+}
+
+// Tells the nodes apart by their classes and by those to which their events lead.
+pub(crate) fn round(
+    alloc: Global,
+    nodes: &[NormNode],
+    classes: &[u32],
+) -> Result<Classes, AllocError>
+    requires rising { NodesRise nodes.now }
+    requires one_each { length classes.now ≡ length nodes.now }
+    ensures { IfOk result (λ made. AreTold nodes.now classes.now made.numbers.items made.count) }
+{
+    let mut numbering = Numbering::new(alloc);
+    let mut numbers = Vec::new(alloc);
+    for (place, node) in nodes.iter().enumerate() {
+        let row = key(alloc, node, classes[place], classes)?;
+        let number = numbering.number(row)?;
+        numbers.push(number)?;
+    }
+    let count = numbering.len() as u32;
+    Ok(Classes { numbers, count })
+}
+
+// The class of a node, and each of its events with the class to which it leads.
+fn key(
+    alloc: Global,
+    node: &NormNode,
+    class: u32,
+    classes: &[u32],
+) -> Result<Items<u32>, AllocError>
+    requires { StepsRise (length classes.now) node.now.next }
+    ensures { IfOk result (λ made. made ≡ key_of classes.now class node.now) }
+{
+    let mut made = Items::new(alloc);
+    made.push(class)?;
+    for (event, to) in node.next() {
+        made.push(event.0)?;
+        made.push(classes[*to as usize])?;
+    }
+    Ok(made)
+}

@@ -1,0 +1,201 @@
+//! Refinement by splitters.
+
+ghost use Rattle.std.specs.Prelude.{◌≡◌, ◌≢◌, ◌+◌, ◌<◌, ◌≤◌, ◌^◌, ℕ, [], ◌∷◌, ◌++◌, replicate, length, slice_set, slice_index_or, All, IfOk, OnOk};
+ghost use Rattle.std.specs.List.Sorted.{IsNonDecreasingBy};
+ghost use Rattle.equal_futures.specs.Future.{AreFutureClasses, NodesRise};
+ghost use Rattle.equal_futures.specs.Blocks.{AreAdded, AreFrom, AreGathered, AreIncoming, AreMarkSteps, HasBlocks, IsCalm, IsSplitByEvents, count_of, event_at, state_of};
+
+use crate::partition::{Partition, whole};
+use crate::rounds::{Classes, round};
+use containers::Items;
+use csp_base::NoMemory;
+use csp_tables::NormNode;
+use std::alloc::{AllocError, Global};
+
+/// The classes of nodes with equal future, refined by a list of blocks that wait to be used as splitters. A splitter splits
+/// each block, for each event, into the nodes from which the event leads into the splitter and the others. Both halves of a
+/// block that is split wait then, the smaller one first in turn; so the partition is stable under each block that doesn't
+/// wait.
+pub fn refine(alloc: Global, nodes: &[NormNode], marks: &[u32]) -> Result<Classes, NoMemory>
+    requires rising { NodesRise nodes.now }
+    requires marks { length marks.now ≡ length nodes.now }
+    requires numbered { length nodes.now < 2 ^ 32 }
+    ensures { IfOk result (λ made. AreFutureClasses nodes.now marks.now made.numbers.items made.count) }
+{
+    let rows = incoming(alloc, nodes)?;
+    let mut partition = whole(alloc, nodes.len() as u32)?;
+    let mut marked = with_marks(alloc, marks)?;
+    split_by_events(alloc, &mut partition, &mut marked)?;
+    while let Some(block) = partition.next_waiting() {
+        let mut steps = entering(alloc, rows.as_slice(), partition.members(block))?;
+        split_by_events(alloc, &mut partition, &mut steps)?;
+    }
+    let classes = round(alloc, nodes, partition.blocks.as_slice())?;
+    Ok(classes)
+}
+
+// Each node with its mark, as a step by the mark.
+fn with_marks(alloc: Global, marks: &[u32]) -> Result<Vec<(u32, u32)>, AllocError>
+    requires { length marks.now < 2 ^ 32 }
+    ensures { IfOk result (λ steps. AreMarkSteps marks.now steps.items) }
+{
+    let mut steps = Vec::new(alloc);
+    for (node, mark) in marks.iter().enumerate() {
+        steps.push((*mark, node as u32))?;
+    }
+    Ok(steps)
+}
+
+// For each node the steps that lead to it, each by its event and the node from which it leads.
+fn incoming(alloc: Global, nodes: &[NormNode]) -> Result<Vec<Items<(u32, u32)>>, AllocError>
+    requires rising { NodesRise nodes.now }
+    requires numbered { length nodes.now < 2 ^ 32 }
+    ensures { IfOk result (λ rows. AreIncoming nodes.now rows.items (length nodes.now)) }
+{
+    let mut rows = empty_rows(alloc, nodes.len())?;
+    for (source, node) in nodes.iter().enumerate() {
+        add_steps(&mut rows, source as u32, node)?;
+    }
+    Ok(rows)
+}
+
+fn empty_rows(alloc: Global, count: usize) -> Result<Vec<Items<(u32, u32)>>, AllocError>
+    ensures { IfOk result (λ rows. rows.items ≡ replicate count []) }
+{
+    let mut rows = Vec::new(alloc);
+    for _ in 0..count {
+        rows.push(Items::new(alloc))?;
+    }
+    Ok(rows)
+}
+
+// Adds the steps that lead from a node.
+fn add_steps(
+    rows: &mut Vec<Items<(u32, u32)>>,
+    source: u32,
+    node: &NormNode,
+) -> Result<(), AllocError>
+    requires { All (λ step. step.1 < length rows.old.items) node.now.next }
+    ensures { OnOk result (AreAdded rows.old.items rows.new.items source node.now.next) }
+{
+    for (event, to) in node.next() {
+        push_at(rows, *to as usize, (event.0, source))?;
+    }
+    Ok(())
+}
+
+// Adds a step at the end of a row.
+fn push_at(
+    rows: &mut Vec<Items<(u32, u32)>>,
+    place: usize,
+    step: (u32, u32),
+) -> Result<(), AllocError>
+    requires { place < length rows.old.items }
+    ensures { OnOk result (rows.new.items ≡ slice_set rows.old.items place (slice_index_or rows.old.items place [] ++ step ∷ [])) }
+{
+    rows[place].push(step)?;
+    Ok(())
+}
+
+// The steps that lead into one of the members.
+fn entering(
+    alloc: Global,
+    rows: &[Items<(u32, u32)>],
+    members: &[u32],
+) -> Result<Vec<(u32, u32)>, AllocError>
+    requires { All (λ node. node < length rows.now) members.now }
+    ensures { IfOk result (λ steps. AreGathered rows.now members.now steps.items) }
+{
+    let mut steps = Vec::new(alloc);
+    for node in members {
+        steps.extend_from_slice(rows[*node as usize].as_slice())?;
+    }
+    Ok(steps)
+}
+
+// Splits the blocks by the sources of the steps by each event in turn.
+fn split_by_events(
+    alloc: Global,
+    partition: &mut Partition,
+    steps: &mut Vec<(u32, u32)>,
+) -> Result<(), AllocError>
+    requires blocks { HasBlocks (count_of partition.old) (state_of partition.old) }
+    requires calm { IsCalm (state_of partition.old) }
+    requires sources { AreFrom (count_of partition.old) steps.old.items }
+    ensures { OnOk result (IsSplitByEvents (count_of partition.old) (state_of partition.old) (state_of partition.new) steps.old.items) }
+{
+    steps.sort_unstable_by_key(|step| step.0);
+    split_by_groups(alloc, partition, steps.as_slice())?;
+    Ok(())
+}
+
+// The same for steps that are sorted by event.
+fn split_by_groups(
+    alloc: Global,
+    partition: &mut Partition,
+    steps: &[(u32, u32)],
+) -> Result<(), AllocError>
+    requires blocks { HasBlocks (count_of partition.old) (state_of partition.old) }
+    requires calm { IsCalm (state_of partition.old) }
+    requires sources { AreFrom (count_of partition.old) steps.now }
+    requires sorted { IsNonDecreasingBy (λ step. step.0) steps.now }
+    ensures { OnOk result (IsSplitByEvents (count_of partition.old) (state_of partition.old) (state_of partition.new) steps.now) }
+{
+    let mut from = 0;
+    while from < steps.len() {
+        let to = group_end(steps, from);
+        partition.split(alloc, &steps[from..to])?;
+        from = to;
+    }
+    Ok(())
+}
+
+// Where the steps by the event of the one at `from` end.
+fn group_end(steps: &[(u32, u32)], from: usize) -> usize
+    requires { from < length steps.now }
+    ensures after { from < result }
+    ensures within { result ≤ length steps.now }
+    ensures same { (k : ℕ) → from ≤ k → k < result → event_at steps.now k ≡ event_at steps.now from }
+    ensures stops { result < length steps.now → event_at steps.now result ≢ event_at steps.now from }
+{
+    let mut to = from + 1;
+    while to < steps.len() && steps[to].0 == steps[from].0 {
+        to += 1;
+    }
+    to
+}
+
+#[cfg(test)]
+mod tests {
+    use super::refine;
+    use crate::rounds::refine_by_rounds;
+    use csp_base::{Event, NoMemory};
+    use csp_tables::NormNode;
+    use std::alloc::Global;
+    use std::test::Fail;
+
+    // The nodes of a chain by one event.
+    fn chain(alloc: Global, count: u32) -> Result<Vec<NormNode>, NoMemory> {
+        let mut nodes = Vec::new(alloc);
+        for n in 0..count {
+            let mut next = Vec::new(alloc);
+            if n + 1 < count {
+                next.push((Event(3), n + 1))?;
+            }
+            nodes.push(NormNode::new(next, Vec::new(alloc)))?;
+        }
+        Ok(nodes)
+    }
+
+    #[test]
+    fn tries(rt: HostRuntime) -> Result<(), Fail> {
+        let alloc = rt.alloc();
+        let nodes = chain(alloc, 40)?;
+        let marks = vec![in alloc; 7; 40]?;
+        let a = refine(alloc, nodes.as_slice(), marks.as_slice())?;
+        let b = refine_by_rounds(alloc, nodes.as_slice(), marks.as_slice())?;
+        assert_eq!(rt; a.count, 40);
+        assert!(rt; a.numbers.as_slice() == b.numbers.as_slice());
+        Ok(())
+    }
+}
