@@ -8,8 +8,10 @@ pub mod Gathering
 pub mod Grouping
 pub mod Growing
 pub mod Marking
+pub mod Merging
 pub mod Numbered
 pub mod Refining
+pub mod RiseTests
 pub mod RowLists
 pub mod Settling
 pub mod Sizes

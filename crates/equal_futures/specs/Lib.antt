@@ -2,4 +2,5 @@ pub mod Alike
 pub mod BlockSteps
 pub mod Blocks
 pub mod Future
+pub mod Merged
 pub mod Rows

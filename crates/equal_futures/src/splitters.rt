@@ -164,38 +164,3 @@ fn group_end(steps: &[(u32, u32)], from: usize) -> usize
     }
     to
 }
-
-#[cfg(test)]
-mod tests {
-    use super::refine;
-    use crate::rounds::refine_by_rounds;
-    use csp_base::{Event, NoMemory};
-    use csp_tables::NormNode;
-    use std::alloc::Global;
-    use std::test::Fail;
-
-    // The nodes of a chain by one event.
-    fn chain(alloc: Global, count: u32) -> Result<Vec<NormNode>, NoMemory> {
-        let mut nodes = Vec::new(alloc);
-        for n in 0..count {
-            let mut next = Vec::new(alloc);
-            if n + 1 < count {
-                next.push((Event(3), n + 1))?;
-            }
-            nodes.push(NormNode::new(next, Vec::new(alloc)))?;
-        }
-        Ok(nodes)
-    }
-
-    #[test]
-    fn tries(rt: HostRuntime) -> Result<(), Fail> {
-        let alloc = rt.alloc();
-        let nodes = chain(alloc, 40)?;
-        let marks = vec![in alloc; 7; 40]?;
-        let a = refine(alloc, nodes.as_slice(), marks.as_slice())?;
-        let b = refine_by_rounds(alloc, nodes.as_slice(), marks.as_slice())?;
-        assert_eq!(rt; a.count, 40);
-        assert!(rt; a.numbers.as_slice() == b.numbers.as_slice());
-        Ok(())
-    }
-}
