@@ -9,6 +9,7 @@ pub mod Meaning
 pub mod Parts
 pub mod Refused
 pub mod Scripts
+pub mod Settling
 pub mod SoundExpressions
 pub mod SoundProcesses
 pub mod SoundScripts

@@ -5,6 +5,7 @@
 #![tactic(auto)]
 
 ghost use Rattle.csp_grammar.specs.Examples.{PrefixBindsTighterThanChoice, PrefixBindsTighterThanSequence, SetOfOneNegativeNumber, SequencesNestFromTheRight, HidingsNestFromTheLeft, DifferencesNestFromTheLeft, FieldsAreArithmetic, OpenFormsReachToTheRight, ParenthesesLeaveNoTrace};
+ghost use Rattle.csp_grammar.specs.Settles.{ScriptsSettle, SettledNothingIsNone, SettledScriptIsOne};
 ghost use Rattle.csp_grammar.specs.Unique.{EachTextHasOneTree, EachTextIsOneScript, MixedChoiceHasNoTree, NoDotBehindQuestion, ChainOfParallelsHasNoTree, HidingBesideChoiceHasNoTree, NoBracketBeyondTheLimit, NoEmptySetBeyondTheLimit, ReadTreesAreTrees, ReaderGivesTrees, ReaderIsComplete, ReaderIsSound};
 
 /// No list of tokens is two scripts, and none has two trees.
@@ -23,6 +24,13 @@ pub fn reader_is_complete()
 pub fn reader_is_sound()
     ensures scripts { ReaderIsSound }
     ensures trees { ReadTreesAreTrees }
+{}
+
+/// A text is the script that its reading settles on, and none where that settles on nothing.
+pub fn settled_reading_decides()
+    ensures script { SettledScriptIsOne }
+    ensures nothing { SettledNothingIsNone }
+    ensures settles { ScriptsSettle }
 {}
 
 /// Texts with the trees that they spell.
