@@ -6,7 +6,7 @@ pub record Gives {A : Type 0} (F : Readers → Option A) (x : A) : Type 0 where
   pub enough : ℕ
   pub gives : (f : ℕ) → enough ≤ f → F (readers f) ≡ Some x
 
-readers_next : (f : ℕ) → readers (suc f) ≡ next (readers f)
+pub readers_next : (f : ℕ) → readers (suc f) ≡ next (readers f)
 unfolding readers
 readers_next f = refl
 

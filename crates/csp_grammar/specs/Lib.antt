@@ -1,8 +1,8 @@
 pub mod Declarations
-pub mod Depth
 pub mod Examples
 pub mod Grammar
 pub mod Precedence
 pub mod Reader
+pub mod Settles
 pub mod Tokens
 pub mod Unique

@@ -8,7 +8,6 @@ pub mod Gathering
 pub mod Grouping
 pub mod Growing
 pub mod Marking
-pub mod Merging
 pub mod Numbered
 pub mod Refining
 pub mod RiseTests

@@ -2,5 +2,4 @@ pub mod Alike
 pub mod BlockSteps
 pub mod Blocks
 pub mod Future
-pub mod Merged
 pub mod Rows
