@@ -1,12 +1,12 @@
 -- The merged table while the nodes are gone through, and at the end.
-use Rattle.std.proofs.Common.{◌≡◌, ◌≢◌, ℕ, suc, ◌+◌, ◌<◌, ◌≤◌, ◌⊎◌, inl, inr, cond, nat_eq, List, [], ◌∷◌, ◌++◌, length, get_or, refl, sym, ap, ◌∙◌, subst, arith, below_more, add-one}
+use Rattle.std.proofs.Common.{◌≡◌, ℕ, ◌+◌, ◌<◌, inl, inr, cond, nat_eq, List, [], ◌∷◌, ◌++◌, length, get_or, refl, sym, ap, ◌∙◌, subst, arith, below_more, add-one}
 use Rattle.std.specs.Prelude.{slice_index}
 use Rattle.std.proofs.lemmas.Bool.{cond-true, cond-false, eq-eqb, ne_eqb}
 use Rattle.std.proofs.lemmas.List.{get_or_append_left, get_or_default, get_or_push, length_push}
 use Rattle.csp_tables.specs.Table.{Node, node_at}
 use Rattle.equal_futures.specs.Future.{SeenInOrder}
 use Rattle.normal_form.specs.Merged.{renamed, IsFirst, AreMerged}
-use Rattle.normal_form.proofs.ClassOrder.{seen_by, seen_at, step_at, class_seen, first_turn, seen_most}
+use Rattle.normal_form.proofs.ClassOrder.{seen_by, step_at, class_seen, first_turn, seen_most}
 
 -- the nodes of the classes that the first n nodes have
 pub record AreMergedSoFar (nodes : List Node) (classes : List ℕ) (n : ℕ) (merged : List Node) : Type 0 where

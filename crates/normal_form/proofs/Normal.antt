@@ -1,27 +1,24 @@
 -- The determinised table merged by equal future is the normal table.
-use Rattle.std.proofs.Common.{◌≡◌, ◌↔◌, ℕ, zero, suc, ◌+◌, ◌<◌, ◌≤◌, ◌⊎◌, inl, inr, Bool, true, IsTrue, List, [], ◌∷◌, length, get_or, refl, sym, ap, ◌∙◌, subst, arith}
+use Rattle.std.proofs.Common.{◌≡◌, ◌↔◌, ℕ, ◌+◌, ◌<◌, ◌≤◌, inl, inr, List, [], ◌∷◌, length, get_or, refl, sym, ap, ◌∙◌, subst, arith}
 use Rattle.std.specs.Prelude.{slice_index, map}
 use Rattle.std.specs.List.{All}
 use Rattle.std.specs.List.Sorted.{IsStrictlyIncreasing}
 use Rattle.std.proofs.lemmas.Bool.{cases_lt}
 use Rattle.std.proofs.lemmas.List.Elements.{All-from_get_or}
-use Rattle.std.proofs.lemmas.List.{get_or_default}
 use Rattle.std.proofs.Math.ListN.{get_or-eq_default}
 use Rattle.csp_base.proofs.Rising.{rises_from_increasing}
 use Rattle.csp_tables.specs.Label.{Label}
-use Rattle.csp_tables.specs.Path.{Stable}
-use Rattle.csp_tables.specs.Trace.{After, IsTrace, IsAcceptance, HaveSameFuture}
+use Rattle.csp_tables.specs.Trace.{IsTrace, IsAcceptance, HaveSameFuture}
 use Rattle.csp_tables.specs.Table.{Node, node_at, is_run, end_of, acceptances_after, IsRun}
 use Rattle.csp_tables.specs.NormalTable.{IsListed, IsNormalTable}
 use Rattle.csp_tables.specs.Behaviour.{OffersAcceptance}
 use Rattle.csp_tables.specs.BreadthFirst.{IsBreadthFirst, targets_of_nodes}
 use Rattle.csp_tables.specs.Shape.{IsReached}
 use Rattle.determinise.specs.Determinised.{Determinised, FollowsTraces, HasAcceptances, IsInOrder}
-use Rattle.equal_futures.specs.Future.{HaveEqualFuture, AreFutureClasses, NodesRise, StepsRise}
+use Rattle.equal_futures.specs.Future.{NodesRise, StepsRise}
 use Rattle.equal_futures.proofs.Growing.{few_seen}
-use Rattle.normal_form.specs.Marks.{AreMarksOf}
-use Rattle.normal_form.specs.Merged.{renamed, AreMerged, IsMergedTable}
-use Rattle.normal_form.proofs.ClassOrder.{FirstOf, first_of, is_first, class_seen, seen_most, step_at}
+use Rattle.normal_form.specs.Merged.{renamed, IsMergedTable}
+use Rattle.normal_form.proofs.ClassOrder.{FirstOf, first_of, is_first, seen_most, step_at}
 use Rattle.normal_form.proofs.Meeting.{meets_more, nodes_met, rise_from}
 use Rattle.normal_form.proofs.MergedRuns.{in_classes, runs_merged, ends_merged, accept_merged, end_below}
 use Rattle.normal_form.proofs.MergedOrder.{breadth_merged}

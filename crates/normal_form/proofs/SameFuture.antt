@@ -1,15 +1,12 @@
 -- Nodes of a determinised table have equal future exactly where the traces that lead to them have the same future.
-use Rattle.std.proofs.Common.{◌≡◌, ◌↔◌, ℕ, ◌<◌, ◌≤◌, ◌⊎◌, inl, inr, Bool, true, false, ◌&&◌, IsTrue, List, [], ◌∷◌, ◌++◌, length, get_or, refl, sym, ap, ◌∙◌, subst, arith}
-use Rattle.std.specs.Prelude.{slice_index}
-use Rattle.std.specs.List.{All}
+use Rattle.std.proofs.Common.{◌≡◌, ◌↔◌, ℕ, ◌<◌, Bool, true, false, ◌&&◌, List, [], ◌∷◌, ◌++◌, length, get_or, refl, sym, ap, ◌∙◌, subst}
 use Rattle.std.specs.List.Sorted.{IsStrictlyIncreasing}
-use Rattle.std.proofs.lemmas.Bool.{and_parts, and_from}
+use Rattle.std.proofs.lemmas.Bool.{and_parts}
 use Rattle.csp_base.specs.Members.{has}
 use Rattle.csp_base.proofs.SetLaws.{same_set}
 use Rattle.csp_tables.specs.Label.{Label}
-use Rattle.csp_tables.specs.Trace.{IsTrace, IsAcceptance, IsStableOffer, HaveSameFuture, Offers}
+use Rattle.csp_tables.specs.Trace.{IsTrace, IsAcceptance, HaveSameFuture}
 use Rattle.csp_tables.specs.Table.{Node, node_at, is_possible, node_after, is_run, end_of, acceptances_after, IsRun}
-use Rattle.csp_tables.specs.NormalTable.{IsListed}
 use Rattle.acceptances.proofs.Member.{Member, member_at, stands, Stands}
 use Rattle.determinise.specs.Determinised.{HasAcceptances, IsInOrder}
 use Rattle.equal_futures.specs.Future.{HaveEqualFuture, NodesRise}

@@ -1,5 +1,4 @@
-use Rattle.std.proofs.Common.{◌≡◌, ◌∙◌, ap, sym, length, arith, ℕ, List}
-use Rattle.csp_tables.specs.Table.{Node}
+use Rattle.std.proofs.Common.{◌∙◌, arith}
 use Rattle.normal_form.proofs.Marking.{one_more_marked, all_marked, item_read}
 use Rattle.normal_form.proofs.marks.accept_marks.Goals as goal
 

@@ -1,6 +1,4 @@
-use Rattle.std.proofs.Common.{◌≡◌, ◌∙◌, ap, sym, subst, length, arith, ℕ, List}
-use Rattle.csp_tables.specs.Table.{Node}
-use Rattle.equal_futures.specs.Future.{SeenInOrder}
+use Rattle.std.proofs.Common.{arith}
 use Rattle.normal_form.proofs.Merging.{merged_step, merged_end}
 use Rattle.normal_form.proofs.merge.merge.Goals as goal
 

@@ -1,4 +1,4 @@
-use Rattle.std.proofs.Common.{◌≡◌, sym, subst, ℕ, List}
+use Rattle.std.proofs.Common.{sym, subst, ℕ, List}
 use Rattle.equal_futures.specs.Future.{AreFutureClasses}
 use Rattle.normal_form.specs.Merged.{IsMergedTable}
 use Rattle.normal_form.proofs.merged.merged_by_splitters.Goals as goal
