@@ -1,0 +1,8 @@
+//! Terms: depth, size and equality of processes.
+#![tactic(auto)]
+
+pub mod measure;
+mod measured;
+pub mod terms;
+
+pub use terms::{same, term_depth, term_size};
