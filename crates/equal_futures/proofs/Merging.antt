@@ -1,10 +1,10 @@
 -- A table merged by classes: its runs are those of the table, and they end at the classes of their ends.
-use Rattle.std.proofs.Common.{◌≡◌, ℕ, zero, suc, ◌+◌, ◌-◌, ◌<◌, ◌≤◌, ◌⊎◌, inl, inr, List, [], ◌∷◌, ◌++◌, length, get_or, take, drop, map, Bool, true, false, cond, ◌||◌, ◌&&◌, nat_eq, IsTrue, refl, sym, ap, ◌∙◌, subst, arith}
-use Rattle.std.specs.Prelude.{slice_index, ◌↔◌}
-use Rattle.std.proofs.lemmas.Bool.{cases_eq, cases_Bool, eqb-true, eq-eqb, ne_eqb, and_parts, both_ways, false≢true}
-use Rattle.std.proofs.lemmas.List.{drop_more, drop_all, append_assoc, append-nil, get_or-map, length-map, map-append, length_push}
+use Rattle.std.proofs.Common.{◌≡◌, ℕ, zero, suc, ◌+◌, ◌-◌, ◌<◌, ◌≤◌, inl, inr, List, [], ◌∷◌, ◌++◌, length, get_or, drop, map, Bool, true, false, cond, ◌||◌, ◌&&◌, nat_eq, refl, sym, ap, ◌∙◌, subst, arith}
+use Rattle.std.specs.Prelude.{slice_index}
+use Rattle.std.proofs.lemmas.Bool.{cases_eq, cases_Bool, eq-eqb, ne_eqb, and_parts, both_ways, false≢true}
+use Rattle.std.proofs.lemmas.List.{drop_more, append_assoc, append-nil, length_push}
 use Rattle.csp_tables.specs.Table.{Node, node_at, is_possible, target, node_after, is_run, end_of}
-use Rattle.equal_futures.specs.Future.{SeenInOrder, AreFutureClasses, HaveEqualFuture, NodesRise}
+use Rattle.equal_futures.specs.Future.{SeenInOrder, AreFutureClasses, NodesRise}
 use Rattle.equal_futures.specs.Merged.{merged, renamed, first_nodes}
 use Rattle.equal_futures.proofs.Futures.{same_events, future_after}
 use Rattle.equal_futures.proofs.RowLists.{target_below}
