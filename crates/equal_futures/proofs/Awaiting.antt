@@ -1,10 +1,10 @@
 -- A block waits: what becomes of the partition.
-use Rattle.std.proofs.Common.{◌≡◌, ℕ, ◌+◌, ◌<◌, ◌≤◌, ◌⊎◌, inl, inr, List, [], ◌∷◌, ◌++◌, length, set, get_or, Bool, true, false, cond, nat_lt, refl, sym, ap, ◌∙◌, subst, arith}
+use Rattle.std.proofs.Common.{◌≡◌, ℕ, ◌+◌, ◌<◌, ◌≤◌, inl, inr, List, [], ◌∷◌, ◌++◌, length, Bool, true, false, nat_lt, refl, sym, ap, ◌∙◌, subst, arith}
 use Rattle.std.specs.Prelude.{slice_index, slice_index_or}
-use Rattle.std.proofs.lemmas.Bool.{cases_Bool, cond-true, cond-false, cond_both}
+use Rattle.std.proofs.lemmas.Bool.{cond_both}
 use Rattle.std.proofs.lemmas.List.{length-set, length_push, get_or-set_same}
 use Rattle.csp_base.specs.Members.{has}
-use Rattle.equal_futures.specs.Blocks.{State, HasBlocks, HaveSameBlocks, block_at, is_marked, sizes, waits}
+use Rattle.equal_futures.specs.Blocks.{State, HasBlocks, block_at, is_marked, sizes, waits}
 use Rattle.equal_futures.specs.BlockSteps.{IsAwaited}
 use Rattle.equal_futures.proofs.Marking.{has_push, has_more, has_one_of}
 use Rattle.equal_futures.proofs.Writes.{by_write}

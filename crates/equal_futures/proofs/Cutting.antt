@@ -1,10 +1,10 @@
 -- A block is cut: nodes are together then exactly where they were.
-use Rattle.std.proofs.Common.{◌≡◌, ℕ, ◌+◌, ◌-◌, ◌*◌, ◌<◌, ◌≤◌, ◌⊎◌, inl, inr, List, [], ◌∷◌, ◌++◌, length, set, get_or, Bool, true, false, nat_lt, refl, sym, ap, ◌∙◌, subst, arith}
+use Rattle.std.proofs.Common.{◌≡◌, ℕ, ◌+◌, ◌<◌, ◌≤◌, ◌⊎◌, inl, inr, List, length, Bool, true, false, nat_lt, refl, sym, ap, ◌∙◌, subst, arith}
 use Rattle.std.specs.Prelude.{slice_index, slice_index_or, ◌↔◌}
-use Rattle.std.proofs.lemmas.Bool.{cases_eq, cases_lt, lt-ltb, le-ltb, false≢true, both_ways, false_from_ne_true}
+use Rattle.std.proofs.lemmas.Bool.{cases_eq, lt-ltb, le-ltb, false≢true, both_ways, false_from_ne_true}
 use Rattle.std.proofs.lemmas.List.{length-set}
 use Rattle.csp_base.specs.Members.{has}
-use Rattle.equal_futures.specs.Blocks.{State, HasBlocks, HaveSameBlocks, IsCut, IsOnward, AreTogether, AreBoth, block_at, is_marked, sizes, waits, work}
+use Rattle.equal_futures.specs.Blocks.{State, HasBlocks, IsCut, AreTogether, AreBoth, block_at, is_marked, sizes, waits, work}
 use Rattle.equal_futures.specs.BlockSteps.{IsDivided, IsAwaited, IsCalmed}
 use Rattle.equal_futures.proofs.Writes.{by_write}
 use Rattle.equal_futures.proofs.Sizes.{few_blocks}

@@ -1,16 +1,15 @@
 -- Steps in lists: where they stand, the rows of incoming steps, and steps that are gathered.
-use Rattle.std.proofs.Common.{◌≡◌, ℕ, zero, suc, ◌+◌, ◌-◌, ◌<◌, ◌≤◌, ◌⊎◌, inl, inr, List, [], ◌∷◌, ◌++◌, length, set, get_or, take, drop, replicate, Bool, true, false, ◌||◌, ◌&&◌, nat_eq, nat_lt, refl, sym, ap, ◌∙◌, subst, arith}
-use Rattle.std.specs.Prelude.{slice_index, slice_index_or, ◌↔◌}
+use Rattle.std.proofs.Common.{◌≡◌, ℕ, zero, suc, ◌+◌, ◌<◌, inl, inr, List, [], ◌∷◌, ◌++◌, length, set, get_or, take, replicate, Bool, true, false, ◌||◌, ◌&&◌, nat_eq, nat_lt, refl, sym, ap, ◌∙◌, subst, arith}
+use Rattle.std.specs.Prelude.{slice_index_or, ◌↔◌}
 use Rattle.std.specs.List.{list_any, All, Contains}
 use Rattle.std.specs.List.Sorted.{IsPermutation}
-use Rattle.std.proofs.lemmas.Bool.{cases_eq, cases_lt, cases_order, or_cases, or_left, or_right, and_parts, and_from, eqb-true, eq-eqb, ne_eqb, lt-ltb, le-ltb, ltb-true, false≢true, cases_Bool}
+use Rattle.std.proofs.lemmas.Bool.{cases_eq, cases_order, or_cases, or_left, or_right, and_parts, and_from, eqb-true, eq-eqb, ne_eqb, lt-ltb, le-ltb, false≢true}
 use Rattle.std.proofs.lemmas.List.{take_more, length-replicate, get_or-replicate, length-set, length-take-le, get_or-take}
 use Rattle.std.proofs.lemmas.List.Folds.{list_any-append}
 use Rattle.std.proofs.lemmas.List.Sorted.{Contains-permutation, IsPermutation-sym}
-use Rattle.csp_tables.specs.Form.{BeginsAbove}
 use Rattle.csp_tables.specs.Table.{Node, node_at, is_possible, target, node_after}
 use Rattle.equal_futures.specs.Future.{StepsRise, NodesRise}
-use Rattle.equal_futures.specs.Blocks.{has_step, event_at, AreFrom, AreMarkSteps, AreAdded, AreIncoming, AreGathered}
+use Rattle.equal_futures.specs.Blocks.{has_step, AreFrom, AreMarkSteps, AreAdded, AreIncoming, AreGathered}
 use Rattle.equal_futures.proofs.RowLists.{once}
 use Rattle.equal_futures.proofs.Writes.{by_write}
 

@@ -1,12 +1,11 @@
 -- A node is marked, or was marked before: what is known then.
-use Rattle.std.proofs.Common.{◌≡◌, ℕ, ◌+◌, ◌<◌, ◌≤◌, ◌⊎◌, List, [], ◌∷◌, ◌++◌, length, get_or, ◌^◌, Bool, true, false, ◌||◌, nat_eq, nat_lt, refl, sym, ap, ◌∙◌, subst, arith, inl, inr}
+use Rattle.std.proofs.Common.{◌≡◌, ℕ, ◌+◌, ◌<◌, ◌≤◌, ◌⊎◌, List, [], ◌∷◌, ◌++◌, length, get_or, ◌^◌, Bool, true, false, ◌||◌, nat_eq, refl, sym, ap, ◌∙◌, subst, arith, inl, inr}
 use Rattle.std.specs.Prelude.{slice_index}
-use Rattle.std.specs.List.{list_any}
-use Rattle.std.proofs.lemmas.Bool.{cases_eq, lt-ltb, eq-eqb, eqb-true, or_left, or_right, or_cases, false≢true}
+use Rattle.std.proofs.lemmas.Bool.{lt-ltb, eq-eqb, eqb-true, or_left, or_right, or_cases, false≢true}
 use Rattle.std.proofs.lemmas.List.{get_or_read}
 use Rattle.std.proofs.lemmas.List.Folds.{list_any-append}
 use Rattle.csp_base.specs.Members.{has}
-use Rattle.equal_futures.specs.Blocks.{State, HasBlocks, HaveSameBlocks, IsMarked, AreTouched, block_at, is_marked}
+use Rattle.equal_futures.specs.Blocks.{State, HasBlocks, IsMarked, AreTouched, block_at, is_marked}
 use Rattle.equal_futures.specs.BlockSteps.{IsAdvanced}
 use Rattle.equal_futures.proofs.Advancing.{blocks_advanced, marked_advanced, middles_then}
 

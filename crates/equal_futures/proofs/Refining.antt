@@ -1,15 +1,15 @@
 -- Rounds of refinement: what a round keeps, and what the last one shows.
-use Rattle.std.proofs.Common.{◌≡◌, ℕ, ◌+◌, ◌-◌, ◌<◌, ◌≤◌, List, [], ◌∷◌, length, get_or, refl, sym, ap, ◌∙◌, subst, arith}
-use Rattle.std.specs.Prelude.{slice_index, ◌↔◌}
-use Rattle.csp_tables.specs.Table.{Node, node_at, is_possible, node_after}
-use Rattle.equal_futures.specs.Future.{HaveEqualFuture, SeenInOrder, AreFutureClasses, NodesRise, StepsRise}
+use Rattle.std.proofs.Common.{◌≡◌, ℕ, ◌-◌, ◌<◌, ◌≤◌, List, [], ◌∷◌, length, get_or, sym, ap, ◌∙◌, subst, arith}
+use Rattle.std.specs.Prelude.{slice_index}
+use Rattle.csp_tables.specs.Table.{Node, node_at}
+use Rattle.equal_futures.specs.Future.{HaveEqualFuture, SeenInOrder, AreFutureClasses, NodesRise}
 use Rattle.equal_futures.specs.Alike.{AreAlike, AreTold}
 use Rattle.equal_futures.specs.Rows.{row_of, key_of, key_at}
 use Rattle.std.proofs.lemmas.List.{get_or_read}
 use Rattle.equal_futures.proofs.Futures.{same_marks, alike_futures, AreStable, future_from_stable}
 use Rattle.equal_futures.proofs.Growing.{few_seen, not_fewer, same_classes}
 use Rattle.equal_futures.proofs.Numbered.{IsNumbered, keys_equal, numbers_equal}
-use Rattle.equal_futures.proofs.RowLists.{Match, possible_from, targets_from, rows_from}
+use Rattle.equal_futures.proofs.RowLists.{possible_from, targets_from, rows_from}
 
 -- keys of nodes are equal exactly where the nodes are alike
 module _ (nodes : List Node) (classes : List ℕ) where

@@ -1,5 +1,5 @@
 -- Steps rise where each leads to a node and each event is above the one before.
-use Rattle.std.proofs.Common.{◌≡◌, ℕ, zero, suc, ◌+◌, ◌-◌, ◌<◌, ◌≤◌, inl, inr, List, [], ◌∷◌, length, get_or, subst, sym, arith}
+use Rattle.std.proofs.Common.{ℕ, suc, ◌<◌, inl, inr, List, [], ◌∷◌, length, get_or, subst, sym, arith}
 use Rattle.std.proofs.lemmas.Bool.{cases_lt}
 use Rattle.std.proofs.lemmas.List.{get_or_past}
 use Rattle.csp_tables.specs.Form.{BeginsAbove}

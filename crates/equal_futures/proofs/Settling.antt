@@ -1,16 +1,16 @@
 -- Refinement by splitters: between two splitters the partition is stable under each block that doesn't wait.
-use Rattle.std.proofs.Common.{◌≡◌, ℕ, ◌+◌, ◌<◌, ◌≤◌, ◌⊎◌, inl, inr, List, [], ◌∷◌, length, get_or, Bool, true, false, ◌||◌, ◌&&◌, nat_eq, nat_lt, refl, sym, ap, ◌∙◌, subst, arith}
-use Rattle.std.specs.Prelude.{slice_index, slice_index_or, ◌↔◌, IsTrue}
+use Rattle.std.proofs.Common.{◌≡◌, ℕ, ◌<◌, inl, inr, List, [], ◌∷◌, length, get_or, Bool, true, false, ◌||◌, ◌&&◌, nat_eq, nat_lt, refl, sym, ap, ◌∙◌, subst}
+use Rattle.std.specs.Prelude.{slice_index, slice_index_or, ◌↔◌}
 use Rattle.std.specs.List.{list_any, All}
-use Rattle.std.proofs.lemmas.Bool.{cases_eq, eqb-true, eq-eqb, lt-ltb, ltb-true, and_parts, and_from, both_ways, false≢true, or_cases, or_left, or_right}
+use Rattle.std.proofs.lemmas.Bool.{cases_eq, eqb-true, eq-eqb, lt-ltb, ltb-true, and_parts, both_ways, false≢true, or_cases, or_left, or_right}
 use Rattle.std.proofs.lemmas.List.{get_or_default}
 use Rattle.csp_base.specs.Members.{has}
-use Rattle.csp_tables.specs.Table.{Node, node_at, is_possible, node_after, is_run, end_of}
+use Rattle.csp_tables.specs.Table.{Node, node_at, is_possible, node_after}
 use Rattle.equal_futures.specs.Future.{HaveEqualFuture, AreFutureClasses, NodesRise}
-use Rattle.equal_futures.specs.Alike.{AreAlike, AreTold}
+use Rattle.equal_futures.specs.Alike.{AreTold}
 use Rattle.equal_futures.specs.Blocks.{State, HasBlocks, IsCalm, IsWhole, IsTaken, IsSplitByEvents, AreMarkSteps, AreIncoming, AreGathered, AreFrom, block_at, waits, has_step}
 use Rattle.equal_futures.proofs.RowLists.{target_below}
-use Rattle.equal_futures.proofs.Futures.{same_marks, same_events, future_after, alike_futures, AreStable, future_from_stable}
+use Rattle.equal_futures.proofs.Futures.{same_marks, same_events, future_after, AreStable, future_from_stable}
 use Rattle.equal_futures.proofs.Gathering.{bool_from_iff}
 use Rattle.equal_futures.proofs.Taking.{has_at}
 

@@ -1,5 +1,5 @@
 -- The sizes of the blocks: they stay the same in all when a block is divided, and no block is empty.
-use Rattle.std.proofs.Common.{◌≡◌, ℕ, zero, suc, ◌+◌, ◌-◌, ◌<◌, ◌≤◌, List, [], ◌∷◌, ◌++◌, length, set, get_or, refl, arith}
+use Rattle.std.proofs.Common.{◌≡◌, ℕ, zero, suc, ◌+◌, ◌-◌, ◌<◌, ◌≤◌, List, [], ◌∷◌, ◌++◌, length, set, get_or, arith}
 use Rattle.equal_futures.specs.Blocks.{State, HasBlocks, sizes}
 
 pub sizes_push : (firsts ends : List ℕ) (f e : ℕ) → length firsts ≡ length ends → sizes (firsts ++ f ∷ []) (ends ++ e ∷ []) ≡ sizes firsts ends + (e - f)

@@ -1,12 +1,11 @@
 -- The first partition, the members of a block, and a block that is taken from those that wait.
-use Rattle.std.proofs.Common.{◌≡◌, ℕ, zero, suc, ◌+◌, ◌-◌, ◌<◌, ◌≤◌, ◌⊎◌, inl, inr, List, [], ◌∷◌, ◌++◌, length, set, get_or, take, drop, replicate, ◌^◌, ◌*◌, Bool, true, false, ◌||◌, nat_eq, nat_lt, refl, sym, ap, ◌∙◌, subst, arith}
+use Rattle.std.proofs.Common.{◌≡◌, ℕ, zero, suc, ◌+◌, ◌-◌, ◌<◌, ◌≤◌, ◌⊎◌, inl, inr, List, [], ◌∷◌, ◌++◌, length, set, get_or, take, drop, replicate, ◌^◌, Bool, true, false, nat_eq, refl, sym, ap, ◌∙◌, subst, arith}
 use Rattle.std.specs.Prelude.{slice_index, slice_index_or, ◌↔◌}
 use Rattle.std.proofs.lemmas.Bool.{cases_eq, cases_lt, or_cases, or_left, or_right, eqb-true, eq-eqb, false≢true, false_from_ne_true}
 use Rattle.std.proofs.lemmas.List.{length-set, length_push, length-replicate, get_or-replicate, get_or-set_other, get_or-set_same, get_or-take, get_or-drop, length-take-le, length-drop, get_or_past}
 use Rattle.csp_base.specs.Members.{has}
-use Rattle.equal_futures.specs.Blocks.{State, HasBlocks, IsWhole, IsTaken, IsDone, IsCalm, block_at, is_marked, waits, work, sizes}
+use Rattle.equal_futures.specs.Blocks.{State, HasBlocks, IsWhole, IsTaken, block_at, waits, sizes}
 use Rattle.equal_futures.proofs.Marking.{has_push, has_more, has_one_of}
-use Rattle.equal_futures.proofs.Writes.{by_write}
 
 pub has_at : (xs : List ℕ) (k : ℕ) → k < length xs → has xs (get_or xs k 0) ≡ true
 has_at [] k h = absurd (omega arith)

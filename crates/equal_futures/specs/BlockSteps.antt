@@ -1,5 +1,5 @@
 -- Single steps on a partition, as the code makes them.
-use Rattle.std.specs.Prelude.{◌≡◌, ◌+◌, ◌<◌, ◌≤◌, ℕ, List, [], ◌∷◌, ◌++◌, Bool, true, false, length, slice_index, slice_set, if◌then◌else◌}
+use Rattle.std.specs.Prelude.{◌≡◌, ◌+◌, ◌<◌, ◌≤◌, ℕ, [], ◌∷◌, ◌++◌, true, false, length, slice_index, slice_set, if◌then◌else◌}
 use Rattle.equal_futures.specs.Blocks.{State, HaveSameBlocks, block_at, waits}
 
 -- The first node of its block that isn't marked changes places with the node, which is marked then.

@@ -1,4 +1,4 @@
-use Rattle.std.proofs.Common.{◌<◌, arith}
+use Rattle.std.proofs.Common.{arith}
 use Rattle.equal_futures.proofs.partition.assign.Goals as goal
 
 pub returns-clause-kept : goal.returns-clause-kept

@@ -1,5 +1,5 @@
-use Rattle.std.proofs.Common.{◌≡◌, ℕ, ◌<◌, ◌⊎◌, inl, inr, List, length, replicate, true, refl, sym, ap, ◌∙◌, subst, arith, rules}
-use Rattle.equal_futures.specs.Blocks.{state_of, IsWhole, State}
+use Rattle.std.proofs.Common.{◌≡◌, ◌<◌, ◌⊎◌, inl, inr, replicate, true, sym, subst, arith, rules}
+use Rattle.equal_futures.specs.Blocks.{IsWhole}
 use Rattle.equal_futures.proofs.Taking.{start_whole, start}
 use Rattle.equal_futures.proofs.partition.whole.Goals as goal
 use Rattle.equal_futures.proofs.partition.whole.Goals.{then-count-eq0, else-count-eq0}

@@ -1,4 +1,4 @@
-use Rattle.std.proofs.Common.{◌≡◌, ℕ, List, subst}
+use Rattle.std.proofs.Common.{ℕ, List, subst}
 use Rattle.equal_futures.specs.Alike.{AreTold}
 use Rattle.equal_futures.proofs.Refining.{first_coarse, next_coarse, more_classes, last_round}
 use Rattle.equal_futures.proofs.rounds.refine_by_rounds.Goals as goal

@@ -1,4 +1,4 @@
-use Rattle.std.proofs.Common.{◌≡◌, ℕ, length, sym, ap, ◌∙◌, subst, arith}
+use Rattle.std.proofs.Common.{◌≡◌, length, sym, ◌∙◌, subst, arith}
 use Rattle.equal_futures.specs.Alike.{AreTold}
 use Rattle.equal_futures.proofs.Numbered.{numbered_step, IsNumbered}
 use Rattle.equal_futures.proofs.Refining.{told_from_numbered, key_read}

@@ -1,9 +1,8 @@
-use Rattle.std.proofs.Common.{◌≡◌, ℕ, ◌<◌, List, length, sym, ap, ◌∙◌, subst}
-use Rattle.std.specs.List.{All}
+use Rattle.std.proofs.Common.{◌≡◌, ℕ, List, length, sym, ap, ◌∙◌, subst}
 use Rattle.equal_futures.specs.Alike.{AreTold}
 use Rattle.equal_futures.specs.Blocks.{state_of, count_of, IsSplitByEvents}
 use Rattle.equal_futures.proofs.Splitting.{same_count}
-use Rattle.equal_futures.proofs.Settling.{first_refined, from_marks, sources_read, refined_read, classes_then, all_members}
+use Rattle.equal_futures.proofs.Settling.{first_refined, sources_read, refined_read, classes_then, all_members}
 use Rattle.equal_futures.proofs.splitters.refine.Goals as goal
 
 pub loop-block-init : goal.loop-block-init

@@ -1,8 +1,8 @@
-use Rattle.std.proofs.Common.{◌≡◌, ℕ, ◌<◌, ◌-◌, take, drop, sym, subst, arith}
+use Rattle.std.proofs.Common.{◌<◌, sym, subst, arith}
 use Rattle.std.specs.List.{All}
 use Rattle.equal_futures.specs.Blocks.{state_of, count_of, IsSplit}
 use Rattle.equal_futures.proofs.Splitting.{same_count}
-use Rattle.equal_futures.proofs.Grouping.{none_split, one_more_group, all_groups, sources_part, part}
+use Rattle.equal_futures.proofs.Grouping.{one_more_group, all_groups, sources_part, part}
 use Rattle.equal_futures.proofs.splitters.split_by_groups.Goals as goal
 
 pub split-requires-clause-sources : goal.split-requires-clause-sources

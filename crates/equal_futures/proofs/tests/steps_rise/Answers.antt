@@ -1,4 +1,4 @@
-use Rattle.std.proofs.Common.{◌<◌, suc, length, arith}
+use Rattle.std.proofs.Common.{arith}
 use Rattle.equal_futures.proofs.RiseTests.{rise_from}
 use Rattle.equal_futures.proofs.tests.steps_rise.Goals as goal
 

@@ -1,4 +1,4 @@
-use Rattle.std.proofs.Common.{◌≡◌, ℕ, get_or, refl}
+use Rattle.std.proofs.Common.{get_or, refl}
 use Rattle.equal_futures.specs.Blocks.{state_of, count_of, IsCut}
 use Rattle.equal_futures.proofs.Splitting.{one_more_cut, read_known, same_count}
 use Rattle.equal_futures.proofs.partition.Partition.cut_all.Goals as goal

@@ -1,4 +1,4 @@
-use Rattle.std.proofs.Common.{◌≡◌, ℕ, sym, ap, subst, refl}
+use Rattle.std.proofs.Common.{sym, subst}
 use Rattle.equal_futures.specs.Blocks.{state_of, count_of, HasBlocks, AreBoth}
 use Rattle.equal_futures.proofs.Cutting.{cut_divided}
 use Rattle.equal_futures.proofs.Dividing.{blocks_divided}

@@ -1,6 +1,6 @@
-use Rattle.std.proofs.Common.{◌≡◌, ℕ, List, [], ◌∷◌, ◌++◌, sym, subst, ap, ◌∙◌}
+use Rattle.std.proofs.Common.{ℕ, List, [], ◌∷◌, ◌++◌, sym, subst, ap, ◌∙◌}
 use Rattle.equal_futures.specs.Blocks.{state_of, count_of, AreTouched}
-use Rattle.equal_futures.proofs.Marking.{marked_before, marked_read, unmarked_read, marked_now, touched_again, touched_new, other_read, block_read}
+use Rattle.equal_futures.proofs.Marking.{unmarked_read, marked_now, touched_again, touched_new, other_read, block_read}
 use Rattle.equal_futures.proofs.partition.Partition.mark.Goals as goal
 use Rattle.equal_futures.proofs.partition.Partition.mark.Goals.{then-middle-index+in_ok-push, else-middle-index}
 

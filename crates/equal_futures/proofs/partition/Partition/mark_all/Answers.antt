@@ -1,4 +1,4 @@
-use Rattle.std.proofs.Common.{◌≡◌, ℕ, get_or, refl}
+use Rattle.std.proofs.Common.{get_or, refl}
 use Rattle.equal_futures.specs.Blocks.{state_of, count_of, IsMarked}
 use Rattle.equal_futures.proofs.Splitting.{one_more_marked, same_count}
 use Rattle.equal_futures.proofs.partition.Partition.mark_all.Goals as goal

@@ -1,9 +1,9 @@
-use Rattle.std.proofs.Common.{◌≡◌, ℕ, ◌<◌, List, [], ◌∷◌, ◌++◌, length, set, true, false, refl, sym, ap, ◌∙◌, subst, rules}
-use Rattle.std.specs.Vec.{vec_len, with_item}
+use Rattle.std.proofs.Common.{◌≡◌, ℕ, ◌<◌, List, [], ◌∷◌, ◌++◌, length, set, true, false, refl, sym, ◌∙◌, subst, rules}
+use Rattle.std.specs.Vec.{with_item}
 use Rattle.csp_base.specs.Members.{has}
 use Rattle.equal_futures.specs.Blocks.{state_of, count_of}
 use Rattle.equal_futures.proofs.Marking.{has_push}
-use Rattle.equal_futures.proofs.Taking.{block_taken, none_waits}
+use Rattle.equal_futures.proofs.Taking.{block_taken}
 use Rattle.equal_futures.proofs.partition.Partition.next_waiting.Goals as goal
 use Rattle.equal_futures.proofs.partition.Partition.next_waiting.Goals.{In-Some}
 

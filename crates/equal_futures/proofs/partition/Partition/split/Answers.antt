@@ -1,4 +1,3 @@
-use Rattle.std.proofs.Common.{◌≡◌, ℕ}
 use Rattle.equal_futures.specs.Blocks.{state_of, count_of, AreCut}
 use Rattle.equal_futures.proofs.Splitting.{split_from, same_count}
 use Rattle.equal_futures.proofs.partition.Partition.split.Goals as goal

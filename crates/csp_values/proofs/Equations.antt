@@ -1,0 +1,222 @@
+-- What each form of an expression, of a list and of generators comes to, in terms of its parts.
+use Rattle.std.proofs.Common.{◌≡◌, ℕ, zero, suc, ◌+◌, ◌-◌, ◌<◌, Bool, cond, List, [], ◌∷◌, Some, None, Ok, Err, map, length, drop, refl, ap, sym, ◌∙◌, arith, ◌*◌}
+use Rattle.std.specs.Prelude.{ℤ, slice_get}
+use Rattle.csp_program.specs.Atoms.{added, all_added, events_from}
+use Rattle.csp_program.specs.EventNumber.{first_event, row_count}
+use Rattle.csp_program.specs.Outcome.{Outcome, and_then}
+use Rattle.csp_program.specs.Value.{Env, Meaning, Turn, Front, Gathered, from, when, meaning, turn, front, meaning_of_layer, turn_of_layer, front_of_layer, uses_within, number, truth, bound_value, truth_of, set_of, atom_of, items_added, walked, gathered, sets_of, field_place, def_value, front_count, front_number, fronts_added}
+use Rattle.csp_atoms.specs.declared.atom.Atom.{Atom}
+use Rattle.csp_atoms.specs.declared.atom.Atom.TheVariants as atom
+use Rattle.csp_atoms.specs.declared.value.Value.{Value}
+use Rattle.csp_atoms.specs.declared.value.Value.TheVariants.{One}
+use Rattle.csp_program.specs.declared.expressions.BinOp.{BinOp}
+use Rattle.csp_program.specs.declared.expressions.SetOp.{SetOp}
+use Rattle.csp_program.specs.declared.expressions.Expr.{Expr}
+use Rattle.csp_program.specs.declared.expressions.Expr.TheVariants as expr
+use Rattle.csp_program.specs.declared.expressions.Expr.TheFolds.{fold-roll-Expr, fold-roll-Gen, map-Expr}
+use Rattle.csp_program.specs.declared.expressions.Expr.TheOpen.{Expr-F, Gen-F}
+use Rattle.csp_program.specs.declared.expressions.Expr.TheViews.{roll-Expr}
+use Rattle.csp_program.specs.declared.expressions.EventPart.{EventPart}
+use Rattle.csp_program.specs.declared.expressions.Gen.{Gen}
+use Rattle.csp_program.specs.declared.expressions.Gen.TheVariants as generator
+use Rattle.csp_program.specs.declared.kinds.ValueKind.TheVariants.{Kind, OutsideChannel}
+use Rattle.csp_program.specs.declared.programs.Content.{Content}
+use Rattle.csp_program.specs.declared.programs.Def.{Def}
+use Rattle.csp_values.specs.Forms.{negative, inverse, operation, choice, as_set, an_event, a_set, a_range, set_operation, gathered_set, nothing_yet}
+use Rattle.csp_values.specs.Worth.{worth, worths, use_worth, body_worth, with_items, fields_worth, front_worth, with_front, with_fronts, yielded, one_more_binding, walk_worth, each_worth, meanings}
+
+at : (p : Content) (n : ℕ) (env : Env) (e : Expr) (d : Expr-F Expr Gen EventPart) → roll-Expr d ≡ e
+    → meaning (uses_within p n) p.channels e env ≡ meaning_of_layer (uses_within p n) p.channels (map-Expr Expr Gen EventPart Meaning Turn Front (meaning (uses_within p n) p.channels) (turn (uses_within p n) p.channels) (front (uses_within p n) p.channels) d) env
+at p n env e d is =
+    ap (λ z. meaning (uses_within p n) p.channels z env) (sym is) ∙
+    (λ i. fold-roll-Expr Meaning Turn Front (meaning_of_layer (uses_within p n) p.channels) (turn_of_layer (uses_within p n) p.channels) (front_of_layer (uses_within p n) p.channels) d i env)
+
+and_then_ok : {A : Type 0} (o : Outcome A) → and_then o (λ x. Ok x) ≡ o
+and_then_ok (Ok x) = refl
+and_then_ok (Err k) = refl
+
+pub worth-Num : (p : Content) (n : ℕ) (env : Env) (k : ℤ) → worth p n env (expr.Num k) ≡ Ok (number k)
+unfolding worth worths use_worth front_worth with_items with_fronts walk_worth
+worth-Num p n env k = at p n env (expr.Num k) (Expr-F.Num k) (expr.rolls-Num k)
+
+pub worth-Truth : (p : Content) (n : ℕ) (env : Env) (b : Bool) → worth p n env (expr.Truth b) ≡ Ok (truth b)
+unfolding worth worths use_worth front_worth with_items with_fronts walk_worth
+worth-Truth p n env b = at p n env (expr.Truth b) (Expr-F.Truth b) (expr.rolls-Truth b)
+
+pub worth-Const : (p : Content) (n : ℕ) (env : Env) (k : ℕ) → worth p n env (expr.Const k) ≡ Ok (One (atom.Const k))
+unfolding worth worths use_worth front_worth with_items with_fronts walk_worth
+worth-Const p n env k = at p n env (expr.Const k) (Expr-F.Const k) (expr.rolls-Const k)
+
+pub worth-Bound : (p : Content) (n : ℕ) (env : Env) (x : ℕ) → worth p n env (expr.Bound x) ≡ bound_value env x
+unfolding worth worths use_worth front_worth with_items with_fronts walk_worth
+worth-Bound p n env x = at p n env (expr.Bound x) (Expr-F.Bound x) (expr.rolls-Bound x)
+
+pub worth-Lit : (p : Content) (n : ℕ) (env : Env) (v : Value) → worth p n env (expr.Lit v) ≡ Ok v
+unfolding worth worths use_worth front_worth with_items with_fronts walk_worth
+worth-Lit p n env v = at p n env (expr.Lit v) (Expr-F.Lit v) (expr.rolls-Lit v)
+
+pub worth-Neg : (p : Content) (n : ℕ) (env : Env) (a : Expr) → worth p n env (expr.Neg a) ≡ negative (worth p n env a)
+unfolding worth worths use_worth front_worth with_items with_fronts walk_worth
+worth-Neg p n env a = at p n env (expr.Neg a) (Expr-F.Neg a) (expr.rolls-Neg a)
+
+pub worth-Not : (p : Content) (n : ℕ) (env : Env) (a : Expr) → worth p n env (expr.Not a) ≡ inverse (worth p n env a)
+unfolding worth worths use_worth front_worth with_items with_fronts walk_worth
+worth-Not p n env a = at p n env (expr.Not a) (Expr-F.Not a) (expr.rolls-Not a)
+
+pub worth-Binary : (p : Content) (n : ℕ) (env : Env) (op : BinOp) (a b : Expr) → worth p n env (expr.Binary op a b) ≡ operation op (worth p n env a) (worth p n env b)
+unfolding worth worths use_worth front_worth with_items with_fronts walk_worth
+worth-Binary p n env op a b = at p n env (expr.Binary op a b) (Expr-F.Binary op a b) (expr.rolls-Binary op a b)
+
+pub worth-If : (p : Content) (n : ℕ) (env : Env) (c a b : Expr) → worth p n env (expr.If c a b) ≡ choice (worth p n env c) (worth p n env a) (worth p n env b)
+unfolding worth worths use_worth front_worth with_items with_fronts walk_worth
+worth-If p n env c a b = at p n env (expr.If c a b) (Expr-F.If c a b) (expr.rolls-If c a b)
+
+pub worth-Call : (p : Content) (n : ℕ) (env : Env) (d : ℕ) (args : List Expr) → worth p n env (expr.Call d args) ≡ and_then (worths p n env args) (λ vs. use_worth p n d vs)
+unfolding worth worths use_worth front_worth with_items with_fronts walk_worth
+worth-Call p n env d args = at p n env (expr.Call d args) (Expr-F.Call d args) (expr.rolls-Call d args)
+
+pub worth-SetName : (p : Content) (n : ℕ) (env : Env) (d : ℕ) → worth p n env (expr.SetName d) ≡ as_set (use_worth p n d [])
+unfolding worth worths use_worth front_worth with_items with_fronts walk_worth
+worth-SetName p n env d = at p n env (expr.SetName d) (Expr-F.SetName d) (expr.rolls-SetName d)
+
+pub worth-Event : (p : Content) (n : ℕ) (env : Env) (c : ℕ) (fields : List Expr) → worth p n env (expr.Event c fields) ≡ an_event (front_worth p n env c fields)
+unfolding worth worths use_worth front_worth with_items with_fronts walk_worth
+worth-Event p n env c fields = at p n env (expr.Event c fields) (Expr-F.Event c fields) (expr.rolls-Event c fields)
+
+pub worth-Display : (p : Content) (n : ℕ) (env : Env) (items : List Expr) → worth p n env (expr.Display items) ≡ a_set (with_items p n env items [])
+unfolding worth worths use_worth front_worth with_items with_fronts walk_worth
+worth-Display p n env items = at p n env (expr.Display items) (Expr-F.Display items) (expr.rolls-Display items)
+
+pub worth-Range : (p : Content) (n : ℕ) (env : Env) (a b : Expr) → worth p n env (expr.Range a b) ≡ a_range (worth p n env a) (worth p n env b)
+unfolding worth worths use_worth front_worth with_items with_fronts walk_worth
+worth-Range p n env a b = at p n env (expr.Range a b) (Expr-F.Range a b) (expr.rolls-Range a b)
+
+pub worth-SetOp : (p : Content) (n : ℕ) (env : Env) (op : SetOp) (a b : Expr) → worth p n env (expr.SetOp op a b) ≡ set_operation op (worth p n env a) (worth p n env b)
+unfolding worth worths use_worth front_worth with_items with_fronts walk_worth
+worth-SetOp p n env op a b = at p n env (expr.SetOp op a b) (Expr-F.SetOp op a b) (expr.rolls-SetOp op a b)
+
+pub worth-Product : (p : Content) (n : ℕ) (env : Env) (parts : List EventPart) (gens : List Gen) → worth p n env (expr.Product parts gens) ≡ gathered_set (walk_worth p n gens [] parts env nothing_yet)
+unfolding worth worths use_worth front_worth with_items with_fronts walk_worth
+worth-Product p n env parts gens = at p n env (expr.Product parts gens) (Expr-F.Product parts gens) (expr.rolls-Product parts gens)
+
+pub worth-Comp : (p : Content) (n : ℕ) (env : Env) (items : List Expr) (gens : List Gen) → worth p n env (expr.Comp items gens) ≡ gathered_set (walk_worth p n gens items [] env nothing_yet)
+unfolding worth worths use_worth front_worth with_items with_fronts walk_worth
+worth-Comp p n env items gens =
+    at p n env (expr.Comp items gens) (Expr-F.Comp items gens) (expr.rolls-Comp items gens) ∙
+    (λ i. gathered_set (walked (map (turn (uses_within p n) p.channels) gens) (gathered (λ inner atoms. sym (and_then_ok (items_added (meanings p n items) inner atoms)) i)) env nothing_yet))
+
+pub ruleset worth_forms = (worth-Num, worth-Truth, worth-Const, worth-Bound, worth-Lit, worth-Neg, worth-Not, worth-Binary, worth-If, worth-Call, worth-SetName, worth-Event, worth-Display, worth-Range, worth-SetOp, worth-Product, worth-Comp)
+
+pub worths-nil : (p : Content) (n : ℕ) (env : Env) → worths p n env [] ≡ Ok []
+unfolding worths
+worths-nil p n env = refl
+
+pub worths-cons : (p : Content) (n : ℕ) (env : Env) (e : Expr) (es : List Expr) → worths p n env (e ∷ es) ≡ and_then (worth p n env e) (λ v. and_then (worths p n env es) (λ vs. Ok (v ∷ vs)))
+unfolding worths worth
+worths-cons p n env e es = refl
+
+pub with_items-nil : (p : Content) (n : ℕ) (env : Env) (atoms : List Atom) → with_items p n env [] atoms ≡ Ok atoms
+unfolding with_items
+with_items-nil p n env atoms = refl
+
+pub with_items-cons : (p : Content) (n : ℕ) (env : Env) (e : Expr) (es : List Expr) (atoms : List Atom)
+    → with_items p n env (e ∷ es) atoms ≡ and_then (worth p n env e) (λ v. and_then (atom_of v) (λ a. and_then (added atoms a) (λ more. with_items p n env es more)))
+unfolding with_items worth
+with_items-cons p n env e es atoms = refl
+
+pub fields-nil : (p : Content) (n : ℕ) (env : Env) (sets : List (List Atom)) (k : ℕ) → fields_worth p n env [] sets k ≡ Ok k
+unfolding fields_worth
+fields-nil p n env sets k = refl
+
+pub fields-none : (p : Content) (n : ℕ) (env : Env) (e : Expr) (es : List Expr) (k : ℕ) → fields_worth p n env (e ∷ es) [] k ≡ Err OutsideChannel
+unfolding fields_worth
+fields-none p n env e es k = refl
+
+pub fields-cons : (p : Content) (n : ℕ) (env : Env) (e : Expr) (es : List Expr) (set : List Atom) (sets : List (List Atom)) (k : ℕ)
+    → fields_worth p n env (e ∷ es) (set ∷ sets) k ≡ and_then (worth p n env e) (λ v. and_then (field_place set v) (λ place. fields_worth p n env es sets (k * length set + place)))
+unfolding fields_worth worth
+fields-cons p n env e es set sets k = refl
+
+chained : {A B C : Type 0} (o : Outcome A) (f : A → Outcome B) (g : B → Outcome C) → and_then o (λ a. and_then (f a) g) ≡ and_then (and_then o (λ a. and_then (f a) (λ b. Ok b))) g
+chained (Ok a) f g = ap (λ z. and_then z g) (sym (and_then_ok (f a)))
+chained (Err k) f g = refl
+
+pub fronts-nil : (p : Content) (n : ℕ) (env : Env) (atoms : List Atom) → with_fronts p n env [] atoms ≡ Ok atoms
+unfolding with_fronts
+fronts-nil p n env atoms = refl
+
+pub fronts-cons : (p : Content) (n : ℕ) (env : Env) (part : EventPart) (parts : List EventPart) (atoms : List Atom)
+    → with_fronts p n env (part ∷ parts) atoms ≡ and_then (with_front p n env part atoms) (λ more. with_fronts p n env parts more)
+unfolding with_fronts with_front
+fronts-cons p n env part parts atoms =
+    let f : Front = front (uses_within p n) p.channels part in
+    chained (front_number (first_event p.channels f.channel) (sets_of (slice_get p.channels f.channel)) f.fields env)
+    (λ e. all_added atoms (events_from e (front_count (sets_of (slice_get p.channels f.channel)) f.fields)))
+    (λ more. fronts_added p.channels (map (front (uses_within p n) p.channels) parts) env more)
+
+pub front-none : (p : Content) (n : ℕ) (env : Env) (c : ℕ) (fields : List Expr) → sets_of (slice_get p.channels c) ≡ None → front_worth p n env c fields ≡ Err Kind
+unfolding front_worth
+front-none p n env c fields h = ap (λ s. front_number (first_event p.channels c) s (meanings p n fields) env) h
+
+same_length : (p : Content) (n : ℕ) (es : List Expr) → length (meanings p n es) ≡ length es
+same_length p n [] = refl
+same_length p n (e ∷ es) = ap suc (same_length p n es)
+
+pub front-some : (p : Content) (n : ℕ) (env : Env) (c : ℕ) (fields : List Expr) (sets : List (List Atom)) → sets_of (slice_get p.channels c) ≡ Some sets
+    → front_worth p n env c fields ≡ and_then (fields_worth p n env fields sets 0) (λ k. Ok (first_event p.channels c + k * row_count (drop (length fields) sets)))
+unfolding front_worth fields_worth
+front-some p n env c fields sets h =
+    ap (λ s. front_number (first_event p.channels c) s (meanings p n fields) env) h ∙
+    (λ i. and_then (fields_worth p n env fields sets 0) (λ k. Ok (first_event p.channels c + k * row_count (drop (same_length p n fields i) sets))))
+
+pub use-none_left : (p : Content) (d : ℕ) (args : List Value) → use_worth p 0 d args ≡ Err Kind
+unfolding use_worth
+use-none_left p d args = refl
+
+pub use-unknown : (p : Content) (n d : ℕ) (args : List Value) → slice_get p.defs d ≡ None → use_worth p n d args ≡ Err Kind
+unfolding use_worth
+use-unknown p zero d args h = refl
+use-unknown p (suc n) d args h = ap (λ def. def_value (meaning (uses_within p n) p.channels) def args) h
+
+pub use-known : (p : Content) (n d : ℕ) (args : List Value) (def : Def) → 0 < n → slice_get p.defs d ≡ Some def → use_worth p n d args ≡ body_worth p (n - 1) def args
+unfolding use_worth body_worth
+use-known p zero d args def lt h = absurd (omega arith)
+use-known p (suc n) d args def lt h =
+    let less : suc n - 1 ≡ n = omega arith in
+    ap (λ found. def_value (meaning (uses_within p n) p.channels) found args) h ∙ ap (λ m. def_value (meaning (uses_within p m) p.channels) (Some def) args) (sym less)
+
+pub walk-nil : (p : Content) (n : ℕ) (items : List Expr) (parts : List EventPart) (env : Env) (state : Gathered) → walk_worth p n [] items parts env state ≡ one_more_binding p n items parts env state
+unfolding walk_worth one_more_binding
+walk-nil p n items parts env state = refl
+
+abbrev walk_turn : Content → ℕ → Turn → List Gen → List Expr → List EventPart → Env → Gathered → Outcome Gathered
+walk_turn p n t gens items parts env state = walked (t ∷ map (turn (uses_within p n) p.channels) gens) (gathered (yielded p n items parts)) env state
+
+turn-From : (p : Content) (n x : ℕ) (s : Expr) → turn (uses_within p n) p.channels (generator.From x s) ≡ from x (meaning (uses_within p n) p.channels s)
+turn-From p n x s =
+    ap (turn (uses_within p n) p.channels) (sym (generator.rolls-From x s)) ∙
+    fold-roll-Gen Meaning Turn Front (meaning_of_layer (uses_within p n) p.channels) (turn_of_layer (uses_within p n) p.channels) (front_of_layer (uses_within p n) p.channels) (Gen-F.From x s)
+
+turn-Cond : (p : Content) (n : ℕ) (c : Expr) → turn (uses_within p n) p.channels (generator.Cond c) ≡ when (meaning (uses_within p n) p.channels c)
+turn-Cond p n c =
+    ap (turn (uses_within p n) p.channels) (sym (generator.rolls-Cond c)) ∙
+    fold-roll-Gen Meaning Turn Front (meaning_of_layer (uses_within p n) p.channels) (turn_of_layer (uses_within p n) p.channels) (front_of_layer (uses_within p n) p.channels) (Gen-F.Cond c)
+
+pub walk-From : (p : Content) (n x : ℕ) (s : Expr) (gens : List Gen) (items : List Expr) (parts : List EventPart) (env : Env) (state : Gathered)
+    → walk_worth p n (generator.From x s ∷ gens) items parts env state ≡ and_then (worth p n env s) (λ v. and_then (set_of v) (λ atoms. each_worth p n x atoms gens items parts env state))
+unfolding walk_worth each_worth worth
+walk-From p n x s gens items parts env state = ap (λ t. walk_turn p n t gens items parts env state) (turn-From p n x s)
+
+pub walk-Cond : (p : Content) (n : ℕ) (c : Expr) (gens : List Gen) (items : List Expr) (parts : List EventPart) (env : Env) (state : Gathered)
+    → walk_worth p n (generator.Cond c ∷ gens) items parts env state ≡ and_then (worth p n env c) (λ v. and_then (truth_of v) (λ b. cond b (walk_worth p n gens items parts env state) (Ok state)))
+unfolding walk_worth worth
+walk-Cond p n c gens items parts env state = ap (λ t. walk_turn p n t gens items parts env state) (turn-Cond p n c)
+
+pub each-nil : (p : Content) (n x : ℕ) (gens : List Gen) (items : List Expr) (parts : List EventPart) (env : Env) (state : Gathered) → each_worth p n x [] gens items parts env state ≡ Ok state
+unfolding each_worth
+each-nil p n x gens items parts env state = refl
+
+pub each-cons : (p : Content) (n x : ℕ) (a : Atom) (atoms : List Atom) (gens : List Gen) (items : List Expr) (parts : List EventPart) (env : Env) (state : Gathered)
+    → each_worth p n x (a ∷ atoms) gens items parts env state ≡ and_then (walk_worth p n gens items parts ((x, One a) ∷ env) state) (λ next. each_worth p n x atoms gens items parts env next)
+unfolding each_worth
+each-cons p n x a atoms gens items parts env state = refl

@@ -1,0 +1,69 @@
+-- What the parts of an expression come to where so many uses of definitions may still be entered, under an environment: the definitions of the value
+-- of an expression, applied to trees.
+use Rattle.std.specs.Prelude.{ℕ, Some, List, [], ◌∷◌, map, slice_get}
+use Rattle.csp_program.specs.Outcome.{Outcome, and_then}
+use Rattle.csp_program.specs.EventNumber.{first_event}
+use Rattle.csp_program.specs.Value.{Env, Meaning, Gathered, meaning, turn, front, values_of, items_added, fields_number, front_number, fronts_added, sets_of, over, walked, gathered, uses_within, def_value, value_within}
+use Rattle.csp_atoms.specs.declared.atom.Atom.{Atom}
+use Rattle.csp_atoms.specs.declared.value.Value.{Value}
+use Rattle.csp_atoms.specs.declared.value.Value.TheVariants.{One}
+use Rattle.csp_program.specs.declared.expressions.EventPart.{EventPart}
+use Rattle.csp_program.specs.declared.expressions.Expr.{Expr}
+use Rattle.csp_program.specs.declared.expressions.Gen.{Gen}
+use Rattle.csp_program.specs.declared.programs.Content.{Content}
+use Rattle.csp_program.specs.declared.programs.Def.{Def}
+
+-- an expression
+unfoldable pub worth : Content → ℕ → Env → Expr → Outcome Value
+worth p n env e = value_within p n e env
+
+abbrev pub meanings : Content → ℕ → List Expr → List Meaning
+meanings p n es = map (meaning (uses_within p n) p.channels) es
+
+-- a list of expressions
+unfoldable pub worths : Content → ℕ → Env → List Expr → Outcome (List Value)
+worths p n env es = values_of (meanings p n es) env
+
+-- a use of the definition with the number d
+unfoldable pub use_worth : Content → ℕ → ℕ → List Value → Outcome Value
+use_worth p n d args = uses_within p n d args
+
+-- the body of a definition
+unfoldable pub body_worth : Content → ℕ → Def → List Value → Outcome Value
+body_worth p n def args = def_value (meaning (uses_within p n) p.channels) (Some def) args
+
+-- a set with the values of items in it
+unfoldable pub with_items : Content → ℕ → Env → List Expr → List Atom → Outcome (List Atom)
+with_items p n env es atoms = items_added (meanings p n es) env atoms
+
+-- the number of the fields of an event, after others with the number k
+unfoldable pub fields_worth : Content → ℕ → Env → List Expr → List (List Atom) → ℕ → Outcome ℕ
+fields_worth p n env es sets k = fields_number (meanings p n es) sets env k
+
+-- the number of the first event of the channel c that begins with the fields
+unfoldable pub front_worth : Content → ℕ → Env → ℕ → List Expr → Outcome ℕ
+front_worth p n env c es = front_number (first_event p.channels c) (sets_of (slice_get p.channels c)) (meanings p n es) env
+
+-- a set with the events of a front in it
+unfoldable pub with_front : Content → ℕ → Env → EventPart → List Atom → Outcome (List Atom)
+with_front p n env part atoms = fronts_added p.channels (front (uses_within p n) p.channels part ∷ []) env atoms
+
+-- a set with the events of fronts in it
+unfoldable pub with_fronts : Content → ℕ → Env → List EventPart → List Atom → Outcome (List Atom)
+with_fronts p n env parts atoms = fronts_added p.channels (map (front (uses_within p n) p.channels) parts) env atoms
+
+-- what a binding adds: the values of items, and the events of fronts
+abbrev pub yielded : Content → ℕ → List Expr → List EventPart → Env → List Atom → Outcome (List Atom)
+yielded p n items parts env atoms = and_then (with_items p n env items atoms) (λ more. with_fronts p n env parts more)
+
+-- one more binding
+unfoldable pub one_more_binding : Content → ℕ → List Expr → List EventPart → Env → Gathered → Outcome Gathered
+one_more_binding p n items parts env state = gathered (yielded p n items parts) env state
+
+-- the bindings of generators
+unfoldable pub walk_worth : Content → ℕ → List Gen → List Expr → List EventPart → Env → Gathered → Outcome Gathered
+walk_worth p n gens items parts env state = walked (map (turn (uses_within p n) p.channels) gens) (gathered (yielded p n items parts)) env state
+
+-- the bindings of generators for each atom that the name x takes
+unfoldable pub each_worth : Content → ℕ → ℕ → List Atom → List Gen → List Expr → List EventPart → Env → Gathered → Outcome Gathered
+each_worth p n x atoms gens items parts env state = over atoms (λ a. walk_worth p n gens items parts ((x, One a) ∷ env)) state

@@ -1,0 +1,31 @@
+//! The operations on terms.
+
+ghost use Rattle.std.specs.Prelude.{◌≡◌, ◌↔◌, IsTrue};
+ghost use Rattle.csp_program.specs.Depth.{proc_depth};
+ghost use Rattle.csp_program.specs.Size.{proc_size};
+ghost use Rattle.term_pool.specs.Counting.{capped};
+
+use crate::measured::of_proc;
+use csp_program::Proc;
+
+/// The depth of a term: 1 without parts, else one more than the greatest depth among its processes and expressions. Counting stops at 4,294,967,295.
+pub fn term_depth(term: &Proc) -> u32
+    ensures { result ≡ capped (proc_depth term.now) }
+{
+    of_proc(term).depth
+}
+
+/// The size of a term: 1 for each process, expression, field, pair and generator in it, and 1 more for each element of a set that was put in.
+/// Counting stops at 4,294,967,295.
+pub fn term_size(term: &Proc) -> u32
+    ensures { result ≡ capped (proc_size term.now) }
+{
+    of_proc(term).size
+}
+
+/// Whether both are one term.
+pub fn same(left: &Proc, right: &Proc) -> bool
+    ensures { IsTrue result ↔ (left.now ≡ right.now) }
+{
+    *left == *right
+}
