@@ -2,9 +2,16 @@ pub mod Complete
 pub mod Examples
 pub mod Follow
 pub mod Gives
+pub mod Holds
 pub mod Levels
+pub mod Looks
+pub mod Meaning
 pub mod Parts
 pub mod Refused
 pub mod Scripts
+pub mod SoundExpressions
+pub mod SoundProcesses
+pub mod SoundScripts
 pub mod Starts
+pub mod Tests
 pub mod Unique

@@ -8,7 +8,7 @@ use Rattle.csp_text.specs.declared.tree.Tree.{Tree}
 use Rattle.csp_text.specs.declared.script.Decl.{Decl}
 use Rattle.csp_grammar.specs.Declarations.{NamesText, TypesText, ParametersText, AssertedText, ModelText, DeclarationText, DeclarationsText}
 use Rattle.csp_grammar.specs.Declarations as d
-use Rattle.csp_grammar.specs.Depth.{depth}
+use Rattle.csp_text.specs.Depth.{tree_depth}
 use Rattle.csp_grammar.specs.Reader.{read_parameters, read_asserted, read_model, read_declaration}
 use Rattle.csp_grammar.specs.Tokens.{skip, symbol_binding, symbol_place, first_token}
 use Rattle.csp_grammar.proofs.Gives.{Gives, later, now, bind, there, not_there, granted}
@@ -37,8 +37,8 @@ names_read d.one e = later (not_there _ _ e now)
 names_read {s = s} (d.more {ts = ts} names) e = later (there _ _ (skipped s ts) (bind _ (names_read names e) now))
 
 types_read : {ts : List Token} {types : List Tree} {r : List Token} → TypesText ts types r → IsApart r → Gives (λ R. R.types ts) (types, r)
-types_read {r = r} (d.one {a = a'} a h) e = later (bind _ (atom_read a (more 1 20 r refl e.stops)) (granted _ (within (depth a') h) (not_there _ _ (e.no_symbol symbol.Dot) now)))
-types_read (d.more {a = a'} a h types) e = later (bind _ (atom_read a refl) (granted _ (within (depth a') h) (bind _ (types_read types e) now)))
+types_read {r = r} (d.one {a = a'} a h) e = later (bind _ (atom_read a (more 1 20 r refl e.stops)) (granted _ (within (tree_depth a') h) (not_there _ _ (e.no_symbol symbol.Dot) now)))
+types_read (d.more {a = a'} a h types) e = later (bind _ (atom_read a refl) (granted _ (within (tree_depth a') h) (bind _ (types_read types e) now)))
 
 parameters_read : {ts : List Token} {xs : List (List ℕ)} {r : List Token} → ParametersText ts xs r → skip symbol.OpenParen r ≡ None → Gives (λ R. read_parameters R ts) (xs, r)
 parameters_read d.none e = not_there _ _ e now
@@ -57,11 +57,11 @@ declaration_read : {ts : List Token} {x : Decl} {r : List Token} → Declaration
 declaration_read (d.channel names) e = bind _ (names_read names (e.no_symbol symbol.Comma)) (not_there _ _ (e.no_symbol symbol.Colon) now)
 declaration_read (d.channel-of names types) e = bind _ (names_read names refl) (bind _ (types_read types e) now)
 declaration_read (d.datatype names) e = bind _ (names_read names (e.no_symbol symbol.Bar)) now
-declaration_read {r = r} (d.nametype {s = s} a h) e = bind _ (atom_read a (more 1 20 r refl e.stops)) (granted _ (within (depth s) h) now)
+declaration_read {r = r} (d.nametype {s = s} a h) e = bind _ (atom_read a (more 1 20 r refl e.stops)) (granted _ (within (tree_depth s) h) now)
 declaration_read {r = r} (d.define {t = t} parameters p h) e =
-    bind _ (parameters_read parameters refl) (bind _ (tree_read p (more 1 6 r refl e.stops)) (granted _ (within (depth t) h) now))
+    bind _ (parameters_read parameters refl) (bind _ (tree_read p (more 1 6 r refl e.stops)) (granted _ (within (tree_depth t) h) now))
 declaration_read (d.assertion {t = t} asserted h model) e =
-    bind _ (asserted_read asserted refl) (granted _ (within (depth t) h) (bind _ (model_read model refl) now))
+    bind _ (asserted_read asserted refl) (granted _ (within (tree_depth t) h) (bind _ (model_read model refl) now))
 declaration_read d.roles e = now
 declaration_read d.resource e = now
 

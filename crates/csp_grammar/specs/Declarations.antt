@@ -16,7 +16,7 @@ use Rattle.csp_text.specs.declared.tree.Tree.TheVariants as tree
 use Rattle.csp_text.specs.declared.script.Decl.{Decl}
 use Rattle.csp_text.specs.declared.script.Decl.TheVariants as decl
 use Rattle.csp_text.specs.declared.script.Script.{Script}
-use Rattle.csp_grammar.specs.Depth.{depth}
+use Rattle.csp_text.specs.Depth.{tree_depth}
 use Rattle.csp_grammar.specs.Grammar.{TreeText, AtomText, ItemsText}
 
 -- a, b, c: one name or more, with the sign between them
@@ -26,9 +26,9 @@ pub data NamesText (sign : Symbol) : List Token → List (List ℕ) → List Tok
 
 -- S.T: one type or more
 pub data TypesText : List Token → List Tree → List Token → Type 0 where
-  one : {ts : List Token} {a : Tree} {r : List Token} → AtomText 400 ts a r → depth a ≤ 200 → TypesText ts (a ∷ []) r
+  one : {ts : List Token} {a : Tree} {r : List Token} → AtomText 400 ts a r → tree_depth a ≤ 200 → TypesText ts (a ∷ []) r
   more : {ts : List Token} {a : Tree} {us : List Token} {types : List Tree} {r : List Token} →
-      AtomText 400 ts a (token.Symbol Dot ∷ us) → depth a ≤ 200 → TypesText us types r → TypesText ts (a ∷ types) r
+      AtomText 400 ts a (token.Symbol Dot ∷ us) → tree_depth a ≤ 200 → TypesText us types r → TypesText ts (a ∷ types) r
 
 -- the parameters of a definition: names in parentheses, or nothing
 pub data ParametersText : List Token → List (List ℕ) → List Token → Type 0 where
@@ -54,11 +54,11 @@ pub data DeclarationText : List Token → Decl → List Token → Type 0 where
   datatype : {d : List ℕ} {ts : List Token} {xs : List (List ℕ)} {r : List Token} →
       NamesText Bar ts xs r → DeclarationText (Word Datatype ∷ Name d ∷ token.Symbol Defines ∷ ts) (decl.Datatype d xs) r
   nametype : {x : List ℕ} {ts : List Token} {s : Tree} {r : List Token} →
-      AtomText 400 ts s r → depth s ≤ 200 → DeclarationText (Word Nametype ∷ Name x ∷ token.Symbol Defines ∷ ts) (decl.Nametype x s) r
+      AtomText 400 ts s r → tree_depth s ≤ 200 → DeclarationText (Word Nametype ∷ Name x ∷ token.Symbol Defines ∷ ts) (decl.Nametype x s) r
   define : {f : List ℕ} {ts : List Token} {xs : List (List ℕ)} {us : List Token} {t : Tree} {r : List Token} →
-      ParametersText ts xs (token.Symbol Defines ∷ us) → TreeText 400 us t r → depth t ≤ 200 → DeclarationText (Name f ∷ ts) (decl.Define f xs t) r
+      ParametersText ts xs (token.Symbol Defines ∷ us) → TreeText 400 us t r → tree_depth t ≤ 200 → DeclarationText (Name f ∷ ts) (decl.Define f xs t) r
   assertion : {ts : List Token} {t : Tree} {us : List Token} {r : List Token} →
-      AssertedText ts t (token.Symbol Colon ∷ token.Symbol OpenBracket ∷ Name (codes "deadlock") ∷ Name (codes "free") ∷ us) → depth t ≤ 200 →
+      AssertedText ts t (token.Symbol Colon ∷ token.Symbol OpenBracket ∷ Name (codes "deadlock") ∷ Name (codes "free") ∷ us) → tree_depth t ≤ 200 →
       ModelText us (token.Symbol CloseBracket ∷ r) → DeclarationText (Word Assert ∷ ts) (decl.Assert t) r
   roles : {names : RolesNames} {r : List Token} → DeclarationText (token.Roles names ∷ r) (decl.Roles names) r
   resource : {names : ResourceNames} {r : List Token} → DeclarationText (token.Resource names ∷ r) (decl.Resource names) r

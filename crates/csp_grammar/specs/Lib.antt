@@ -1,5 +1,4 @@
 pub mod Declarations
-pub mod Depth
 pub mod Examples
 pub mod Grammar
 pub mod Precedence

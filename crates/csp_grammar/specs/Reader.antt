@@ -21,7 +21,7 @@ use Rattle.csp_text.specs.declared.tree.GenTree.{GenTree}
 use Rattle.csp_text.specs.declared.tree.GenTree.TheVariants as generator
 use Rattle.csp_text.specs.declared.script.Decl.{Decl}
 use Rattle.csp_text.specs.declared.script.Decl.TheVariants as decl
-use Rattle.csp_grammar.specs.Depth.{depth}
+use Rattle.csp_text.specs.Depth.{tree_depth}
 use Rattle.csp_grammar.specs.Grammar.{Choice, choice_of, event_tree, part_tree}
 use Rattle.csp_grammar.specs.Grammar.Choice.{external, internal}
 use Rattle.csp_grammar.specs.Tokens.{begins, skip, skip_word, first_token, first_name, is_text, behind_name, first_operator, behind}
@@ -360,7 +360,7 @@ module _ (R : Readers) where
 
   abbrev pub read_types : List Token → Reading (List Tree)
   read_types ts =
-      and_then (R.atom 400 ts) λ p. when (nat_le (depth p.0) 200) λ _.
+      and_then (R.atom 400 ts) λ p. when (nat_le (tree_depth p.0) 200) λ _.
       case (skip symbol.Dot p.1)
       (λ us. and_then (R.types us) λ q. Some (p.0 ∷ q.0, q.1))
       (λ _. Some (p.0 ∷ [], p.1))
@@ -380,7 +380,7 @@ module _ (R : Readers) where
   abbrev pub read_nametype : List Token → Reading Decl
   read_nametype ts =
       and_then (first_name ts) λ x. and_then (skip symbol.Defines (behind_name ts)) λ us.
-      and_then (R.atom 400 us) λ p. when (nat_le (depth p.0) 200) λ _. Some (decl.Nametype x p.0, p.1)
+      and_then (R.atom 400 us) λ p. when (nat_le (tree_depth p.0) 200) λ _. Some (decl.Nametype x p.0, p.1)
 
   abbrev pub read_parameters : List Token → Reading (List (List ℕ))
   read_parameters ts =
@@ -391,13 +391,17 @@ module _ (R : Readers) where
   abbrev pub read_definition : List ℕ → List Token → Reading Decl
   read_definition f ts =
       and_then (read_parameters ts) λ p. and_then (skip symbol.Defines p.1) λ us.
-      and_then (R.tree 400 us) λ q. when (nat_le (depth q.0) 200) λ _. Some (decl.Define f p.0 q.0, q.1)
+      and_then (R.tree 400 us) λ q. when (nat_le (tree_depth q.0) 200) λ _. Some (decl.Define f p.0 q.0, q.1)
+
+  -- an asserted call, whose bracket is the first of 400
+  abbrev pub read_asserted_call : List ℕ → List Token → Reading Tree
+  read_asserted_call x ts = and_then (R.items 399 ts) λ p. and_then (skip symbol.CloseParen p.2) λ us. Some (tree.Call x p.1, us)
 
   -- the name or the call of an assertion
   abbrev pub read_asserted : List Token → Reading Tree
   read_asserted ts =
       and_then (first_name ts) λ x.
-      case (skip symbol.OpenParen (behind_name ts)) (λ us. read_call 400 x us) (λ _. Some (tree.Name x, behind_name ts))
+      case (skip symbol.OpenParen (behind_name ts)) (λ us. read_asserted_call x us) (λ _. Some (tree.Name x, behind_name ts))
 
   abbrev pub read_model : List Token → Option (List Token)
   read_model ts =
@@ -407,7 +411,7 @@ module _ (R : Readers) where
 
   abbrev pub read_assertion : List Token → Reading Decl
   read_assertion ts =
-      and_then (read_asserted ts) λ p. when (nat_le (depth p.0) 200) λ _.
+      and_then (read_asserted ts) λ p. when (nat_le (tree_depth p.0) 200) λ _.
       and_then (skip symbol.Colon p.1) λ us. and_then (skip symbol.OpenBracket us) λ vs.
       and_then (first_name vs) λ d. when (is_text d (codes "deadlock")) λ _.
       and_then (first_name (behind_name vs)) λ f. when (is_text f (codes "free")) λ _.

@@ -1,14 +1,19 @@
 -- No text has two trees, and no text is two scripts.
-use Rattle.std.specs.Prelude.{◌≡◌, ℕ, ◌≤◌, Some, List, [], ◌∷◌}
+use Rattle.std.specs.Prelude.{◌≡◌, ℕ, ◌≤◌, ◌<◌, Some, List, [], ◌∷◌}
 use Rattle.csp_text.specs.declared.token.Token.{Token}
 use Rattle.csp_text.specs.declared.token.Token.TheVariants.{Name, Symbol}
-use Rattle.csp_text.specs.declared.token.Symbol.TheVariants.{ExternalChoice, InternalChoice, Question, Dot}
+use Rattle.csp_text.specs.declared.token.Symbol.TheVariants.{ExternalChoice, InternalChoice, Parallel, Question, Dot, Backslash, OpenParen, OpenBrace, CloseBrace, OpenBracket, CloseBracket}
 use Rattle.csp_text.specs.declared.tree.Tree.{Tree}
 use Rattle.csp_text.specs.declared.script.Script.{Script}
 use Rattle.csp_grammar.specs.Declarations.{ScriptText}
 use Rattle.csp_grammar.specs.Examples.{prefix_tokens}
 use Rattle.csp_grammar.specs.Grammar.{TreeText}
 use Rattle.csp_grammar.specs.Reader.{readers}
+use Rattle.csp_grammar.specs.Tokens.{begins}
+
+-- [a || b]
+abbrev pub alphabets_between : List ℕ → List ℕ → List Token → List Token
+alphabets_between a b rest = Symbol OpenBracket ∷ Name a ∷ Symbol Parallel ∷ Name b ∷ Symbol CloseBracket ∷ rest
 
 -- a list of tokens has at most one tree
 abbrev pub EachTextHasOneTree : Type 0
@@ -28,7 +33,37 @@ abbrev pub NoDotBehindQuestion : Type 0
 NoDotBehindQuestion = (n : ℕ) (a x p : List ℕ) (t : Tree) →
     TreeText n (Name a ∷ Symbol Question ∷ Name x ∷ Symbol Dot ∷ prefix_tokens x p []) t [] → ⊥
 
+-- `p [a || b] q [a || b] s` has no tree: two parallels need parentheses
+abbrev pub ChainOfParallelsHasNoTree : Type 0
+ChainOfParallelsHasNoTree = (n : ℕ) (a b p q s : List ℕ) (t : Tree) →
+    TreeText n (Name p ∷ alphabets_between a b (Name q ∷ alphabets_between a b (Name s ∷ []))) t [] → ⊥
+
+-- `p [] q \ a` has no tree: a hiding beside a choice needs parentheses
+abbrev pub HidingBesideChoiceHasNoTree : Type 0
+HidingBesideChoiceHasNoTree = (n : ℕ) (a p q : List ℕ) (t : Tree) →
+    TreeText n (Name p ∷ Symbol ExternalChoice ∷ Name q ∷ Symbol Backslash ∷ Name a ∷ []) t [] → ⊥
+
+-- where no bracket may be opened, a text does not begin with one, and the empty set is none
+abbrev pub NoBracketBeyondTheLimit : Type 0
+NoBracketBeyondTheLimit = (tokens : List Token) (t : Tree) → TreeText 0 (Symbol OpenParen ∷ tokens) t [] → ⊥
+
+abbrev pub NoEmptySetBeyondTheLimit : Type 0
+NoEmptySetBeyondTheLimit = (t : Tree) → TreeText 0 (Symbol OpenBrace ∷ Symbol CloseBrace ∷ []) t [] → ⊥
+
 -- the reader gives the declarations of each script
 abbrev pub ReaderIsComplete : Type 0
 ReaderIsComplete = (tokens : List Token) (s : Script) → ScriptText tokens s →
     (enough : ℕ) × ((f : ℕ) → enough ≤ f → (readers f).declarations tokens ≡ Some s.decls)
+
+-- what the reader gives are the declarations of a script with this text
+abbrev pub ReaderIsSound : Type 0
+ReaderIsSound = (tokens : List Token) (s : Script) (f : ℕ) → (readers f).declarations tokens ≡ Some s.decls → ScriptText tokens s
+
+-- the reader gives each tree, in front of every rest that does not begin with a token that goes on with a tree
+abbrev pub ReaderGivesTrees : Type 0
+ReaderGivesTrees = (n : ℕ) (tokens : List Token) (t : Tree) (rest : List Token) → TreeText n tokens t rest → begins rest < 6 →
+    (enough : ℕ) × ((f : ℕ) → enough ≤ f → (readers f).tree n tokens ≡ Some (t, rest))
+
+-- what the reader gives is a tree of the tokens in front of what is left
+abbrev pub ReadTreesAreTrees : Type 0
+ReadTreesAreTrees = (n : ℕ) (tokens : List Token) (t : Tree) (rest : List Token) (f : ℕ) → (readers f).tree n tokens ≡ Some (t, rest) → TreeText n tokens t rest

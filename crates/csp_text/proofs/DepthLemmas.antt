@@ -1,5 +1,5 @@
 -- The greatest depth of a list, as far as its members were looked at.
-use Rattle.std.proofs.Common.{◌≡◌, ℕ, suc, ◌+◌, ◌-◌, ◌<◌, ◌≤◌, max, min, List, [], ◌∷◌, map, length, drop, get_or, drop-cons, add-one, refl, sym, ap, ◌∙◌, arith}
+use Rattle.std.proofs.Common.{◌≡◌, ℕ, suc, ◌+◌, ◌<◌, ◌≤◌, max, List, ◌∷◌, map, length, drop, get_or, drop-cons, add-one, sym, ap, ◌∙◌, arith}
 use Rattle.std.proofs.Math.ListN.{drop_of_length-le}
 use Rattle.csp_text.specs.Depth.{capped, event_layer_depth, field_layer_depth, gen_depth, gen_layer_depth, greatest, greatest_of_pairs, part_depth, part_layer_depth, tree_depth, tree_layer_depth}
 use Rattle.csp_text.specs.declared.tree.FieldTree.TheFolds.{fold-roll-Tree}

@@ -1,6 +1,6 @@
 -- The depth of a tree: 1 without parts, else one more than the greatest depth among all trees that it holds, those in events, parts and
 -- generators included.
-use Rattle.std.specs.Prelude.{ℕ, ◌+◌, ◌-◌, ◌^◌, max, min, Option, Some, None, List, [], ◌∷◌, map}
+use Rattle.std.specs.Prelude.{ℕ, ◌+◌, ◌-◌, ◌^◌, max, min, Some, None, List, [], ◌∷◌}
 use Rattle.csp_text.specs.declared.tree.FieldTree.TheFolds.{fold-GenTree, fold-Tree, fold-EventTree, fold-PartTree}
 use Rattle.csp_text.specs.declared.tree.FieldTree.TheOpen.{FieldTree-F, GenTree-F, Tree-F, EventTree-F, PartTree-F}
 use Rattle.csp_text.specs.declared.tree.FieldTree.{FieldTree, fold-FieldTree}

@@ -1,7 +1,6 @@
 -- Names in an environment.
-use Rattle.std.proofs.Common.{◌≡◌, ℕ, List, [], ◌∷◌, ◌++◌, Ok, true, false, refl, ap, sym, ◌∙◌, eq-eqb, arith}
+use Rattle.std.proofs.Common.{◌≡◌, ℕ, List, [], ◌∷◌, ◌++◌, Ok, false, refl, ap, ◌∙◌, eq-eqb, arith}
 use Rattle.std.specs.Prelude.{nat_eq, cond}
-use Rattle.csp_program.specs.Outcome.{Outcome}
 use Rattle.csp_program.specs.Value.{Env, bound_value}
 use Rattle.csp_atoms.specs.declared.atom.Atom.{Atom}
 use Rattle.csp_atoms.specs.declared.value.Value.{Value}

@@ -1,5 +1,5 @@
 -- Sets of atoms that grow step by step.
-use Rattle.std.proofs.Common.{◌≡◌, ℕ, zero, suc, ◌+◌, ◌-◌, ◌<◌, ◌≤◌, List, [], ◌∷◌, Ok, Err, true, false, Bool, length, refl, ap, subst, sym, ◌∙◌, arith, cond, drop, get_or, drop-cons, add-one, map}
+use Rattle.std.proofs.Common.{◌≡◌, ℕ, zero, suc, ◌+◌, ◌-◌, ◌<◌, ◌≤◌, List, [], ◌∷◌, Ok, Err, true, false, length, refl, ap, subst, sym, ◌∙◌, arith, cond, drop, get_or, drop-cons, add-one, map}
 use Rattle.std.specs.Prelude.{ℤ, pos, negsuc, ◌+ℤ◌, ◌-ℤ◌, ◌≤ℤ◌, ◌<ℤ◌, nat_le, Result}
 use Rattle.std.specs.Result.{IsErrAnd}
 use Rattle.std.proofs.lemmas.Int.{ints}
@@ -14,7 +14,6 @@ use Rattle.csp_program.specs.declared.kinds.ValueKind.{ValueKind}
 use Rattle.csp_program.specs.declared.kinds.ValueKind.TheVariants.{Kind, SetLimit}
 use Rattle.csp_values.specs.Gives.{Gives}
 use Rattle.csp_values.specs.declared.fault.EvalFault.{EvalFault}
-use Rattle.csp_values.specs.declared.fault.EvalFault.TheVariants as fault
 use Rattle.csp_values.proofs.Faults.{passed}
 
 -- the atoms of a list, the first of which is added

@@ -1,21 +1,19 @@
 -- Traces lead from set to set, and the nodes of the sets come one after another.
-use Rattle.std.proofs.Common.{◌≡◌, ◌↔◌, ℕ, suc, ◌+◌, ◌<◌, ◌≤◌, inl, inr, Bool, true, false, ◌&&◌, nat_eq, IsTrue, List, [], ◌∷◌, ◌++◌, length, get_or, take, refl, sym, ap, subst, ◌∙◌, arith, eq-eqb}
-use Rattle.std.specs.Cmp.{first_so}
-use Rattle.std.specs.List.{list_any, flat_map}
+use Rattle.std.proofs.Common.{◌≡◌, ◌↔◌, ℕ, ◌<◌, inl, inr, true, false, nat_eq, IsTrue, List, [], ◌∷◌, ◌++◌, length, get_or, take, refl, sym, ap, subst, ◌∙◌, arith, eq-eqb}
 use Rattle.std.proofs.lemmas.Bool.{cases_lt, eqb-true, false≢true, or_cases}
 use Rattle.std.proofs.lemmas.Grind.{flat_map-append}
-use Rattle.std.proofs.lemmas.List.{append-nil, append_assoc, get_or_append_left, length-append, take-append-le, take_all}
+use Rattle.std.proofs.lemmas.List.{append-nil, get_or_append_left, length-append, take-append-le, take_all}
 use Rattle.std.proofs.lemmas.List.Folds.{list_any_at}
 use Rattle.std.proofs.Math.Seq.{get_or-append_seam}
 use Rattle.csp_base.specs.Members.{has}
 use Rattle.csp_tables.specs.Label.Label.{visible}
-use Rattle.csp_tables.specs.Trace.{After, IsTrace}
+use Rattle.csp_tables.specs.Trace.{After}
 use Rattle.csp_tables.specs.RawTable.{RawTable, RawStep}
-use Rattle.csp_tables.specs.Table.{Node, is_possible, target, node_at}
+use Rattle.csp_tables.specs.Table.{Node, target, node_at}
 use Rattle.csp_tables.specs.BreadthFirst.{targets_of_steps, targets_of_nodes, MeetsInOrder, MeetsUpTo}
 use Rattle.csp_tables.proofs.Listed.{step_listed, listed_step}
 use Rattle.determinise.specs.Moves.{has_event, has_move, AreMovesOf, IsNextSet, IsSilentlyReached}
-use Rattle.determinise.specs.Progress.{set_at, AreApart, IsTermSet, IsSilentClosure, IsSomeNextSet, IsReachedFromSet, AreMoreSets, LeadsToSet, AreNodeSteps, IsNodeOf, IsSetAfter, AreReachedSets, AreNodesSoFar}
+use Rattle.determinise.specs.Progress.{set_at, IsTermSet, IsReachedFromSet, AreMoreSets, AreNodeSteps, IsNodeOf, IsSetAfter, AreReachedSets, AreNodesSoFar}
 use Rattle.determinise.proofs.Traces.{After-none, After-event, After-append, After-cut, After-first}
 use Rattle.determinise.proofs.MoveLists.{any_place, place_of_move, listed_at}
 use Rattle.determinise.proofs.MoreSets.{meets_then}

@@ -1,18 +1,17 @@
 -- Steps in the order of their events, cut into groups of one event.
-use Rattle.std.proofs.Common.{◌≡◌, ◌↔◌, ℕ, zero, suc, ◌+◌, ◌-◌, ◌<◌, ◌≤◌, ◌⊎◌, inl, inr, Bool, true, false, not, ◌&&◌, ◌||◌, nat_eq, IsTrue, List, [], ◌∷◌, ◌++◌, length, get_or, take, drop, refl, sym, ap, subst, ◌∙◌, arith, eq-eqb}
+use Rattle.std.proofs.Common.{◌≡◌, ℕ, zero, suc, ◌+◌, ◌-◌, ◌<◌, ◌≤◌, inl, inr, true, not, ◌||◌, nat_eq, List, [], ◌∷◌, length, get_or, take, drop, refl, sym, ap, subst, ◌∙◌, arith, eq-eqb}
 use Rattle.std.specs.Prelude.{map}
-use Rattle.std.specs.List.{list_any, All}
+use Rattle.std.specs.List.{All}
 use Rattle.std.specs.List.Sorted.{IsNonDecreasingBy}
 use Rattle.std.proofs.lemmas.Bool.{cases_lt, eqb-true, false≢true, or_left, or_right, or_cases}
 use Rattle.std.proofs.lemmas.List.{get_or-take, get_or-drop, length-take, length-drop, get_or-map, length-map, get_or_default, take_all}
 use Rattle.std.proofs.lemmas.List.Folds.{list_any_at}
 use Rattle.csp_base.specs.Members.{has}
-use Rattle.csp_tables.specs.Trace.{After}
-use Rattle.csp_tables.specs.RawTable.{RawTable, RawStep}
+use Rattle.csp_tables.specs.RawTable.{RawTable}
 use Rattle.csp_tables.specs.BreadthFirst.{targets_of_steps}
-use Rattle.determinise.specs.Moves.{has_event, has_move, IsNextSet, IsSilentlyReached}
+use Rattle.determinise.specs.Moves.{has_event, has_move, IsNextSet}
 use Rattle.determinise.specs.Progress.{IsSilentClosure, IsSomeNextSet}
-use Rattle.determinise.proofs.Closures.{same_tests, same_has}
+use Rattle.determinise.proofs.Closures.{same_tests}
 use Rattle.determinise.proofs.MoveLists.{any_place, place_of_move, listed_at}
 
 -- the event and the target in a place

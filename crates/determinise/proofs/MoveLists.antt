@@ -1,5 +1,5 @@
 -- Lists of steps: one step more in a row, the rows of some terms, and the same steps in another order.
-use Rattle.std.proofs.Common.{◌≡◌, ℕ, suc, ◌+◌, ◌<◌, ◌⊎◌, inl, inr, Bool, true, false, ◌&&◌, ◌||◌, nat_eq, IsTrue, List, [], ◌∷◌, ◌++◌, length, get_or, set, take, refl, sym, ap, subst, ◌∙◌, arith, eq-eqb}
+use Rattle.std.proofs.Common.{◌≡◌, ℕ, suc, ◌+◌, ◌<◌, inl, inr, Bool, true, false, ◌&&◌, ◌||◌, nat_eq, List, [], ◌∷◌, ◌++◌, length, get_or, set, take, refl, sym, ap, subst, ◌∙◌, arith, eq-eqb}
 use Rattle.std.specs.List.{list_any, flat_map, All}
 use Rattle.std.specs.List.Sorted.{IsPermutation}
 use Rattle.std.specs.Cmp.{first_so, second_so}
@@ -8,11 +8,9 @@ use Rattle.std.proofs.lemmas.List.{get_or-set_same, get_or-set_other, get_or_def
 use Rattle.std.proofs.lemmas.List.Folds.{list_any-append, list_any_more, list_any_at}
 use Rattle.std.proofs.lemmas.List.Sorted.{list_any-IsPermutation}
 use Rattle.csp_base.specs.Members.{has}
-use Rattle.csp_tables.specs.Label.Label.{visible}
-use Rattle.csp_tables.specs.RawTable.{RawTable, RawStep}
-use Rattle.csp_tables.specs.RawForm.{has_step, HasRawForm}
-use Rattle.csp_tables.proofs.Listed.{step_listed, listed_step}
-use Rattle.determinise.specs.Moves.{has_event, has_move, AreMoveRows, AreMovesOf}
+use Rattle.csp_tables.specs.RawTable.{RawTable}
+use Rattle.csp_tables.specs.RawForm.{HasRawForm}
+use Rattle.determinise.specs.Moves.{has_move, AreMoveRows, AreMovesOf}
 
 or_false : (b : Bool) → (b || false) ≡ b
 or_false true = refl

@@ -1,21 +1,15 @@
 -- Runs of the table of all sets are the traces of the numbered table, and its acceptances are theirs.
-use Rattle.std.proofs.Common.{◌≡◌, ◌↔◌, ℕ, ◌<◌, Bool, true, false, ◌&&◌, IsTrue, List, [], ◌∷◌, ◌++◌, length, get_or, refl, sym, ap, subst, ◌∙◌, arith}
+use Rattle.std.proofs.Common.{◌≡◌, ℕ, ◌<◌, Bool, true, false, ◌&&◌, IsTrue, List, [], ◌∷◌, ◌++◌, length, get_or, refl, sym, subst, ◌∙◌}
 use Rattle.std.specs.Cmp.{first_so, second_so}
 use Rattle.std.specs.List.{All}
-use Rattle.std.proofs.lemmas.Bool.{false≢true}
 use Rattle.std.proofs.lemmas.List.{append-nil, append_assoc, get_or_default}
-use Rattle.csp_base.specs.Members.{has}
-use Rattle.csp_tables.specs.Path.{Stable}
-use Rattle.csp_tables.specs.Trace.{After, IsTrace, IsStableOffer, IsAcceptance, Offers}
+use Rattle.csp_tables.specs.Trace.{IsTrace, IsStableOffer, IsAcceptance}
 use Rattle.csp_tables.specs.RawTable.{RawTable, RawStep}
 use Rattle.csp_tables.specs.Offer.{IsOfferOf, IsMinimalOffer}
-use Rattle.csp_tables.specs.Behaviour.{OffersAcceptance}
-use Rattle.csp_tables.specs.NormalTable.{IsListed}
-use Rattle.csp_tables.specs.Table.{Node, is_possible, target, node_at, node_after, is_run, end_of, acceptances_after}
+use Rattle.csp_tables.specs.Table.{Node, is_possible, node_at, node_after, is_run, end_of, acceptances_after}
 use Rattle.csp_tables.specs.BreadthFirst.{IsBreadthFirst, MeetsUpTo}
-use Rattle.determinise.specs.Moves.{has_event, has_move, AreMovesOf}
-use Rattle.determinise.specs.Determinised.{Determinised, FollowsTraces, AreDifferentSets, HasAcceptances, IsInOrder}
-use Rattle.determinise.specs.Progress.{set_at, AreNodeSteps, AreMinimalOffers, IsNodeOf, IsSetAfter, AreReachedSets, AreNodesSoFar}
+use Rattle.determinise.specs.Determinised.{FollowsTraces, AreDifferentSets, HasAcceptances, IsInOrder}
+use Rattle.determinise.specs.Progress.{set_at, AreNodeSteps, IsNodeOf, IsSetAfter, AreReachedSets, AreNodesSoFar}
 use Rattle.determinise.proofs.Exploring.{move_after, next_after, event_of_move}
 
 both_true : (a b : Bool) → a ≡ true → b ≡ true → (a && b) ≡ true

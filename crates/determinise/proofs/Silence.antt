@@ -1,5 +1,5 @@
 -- Walks over the digraph of the silent steps are runs of silent steps.
-use Rattle.std.proofs.Common.{◌≡◌, ◌↔◌, ℕ, ◌<◌, true, nat_eq, IsTrue, List, [], ◌∷◌, length, get_or, refl, sym, subst, ◌∙◌, eq-eqb}
+use Rattle.std.proofs.Common.{◌≡◌, ◌↔◌, ℕ, ◌<◌, true, nat_eq, IsTrue, List, [], ◌∷◌, get_or, refl, sym, subst, ◌∙◌, eq-eqb}
 use Rattle.std.specs.List.{All}
 use Rattle.std.specs.List.Sorted.{IsStrictlyIncreasing}
 use Rattle.std.proofs.lemmas.List.Folds.{list_any_at}

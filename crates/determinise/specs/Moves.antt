@@ -1,5 +1,5 @@
 -- Steps as lists of events with their targets, and the sets of terms to which they lead.
-use Rattle.std.specs.Prelude.{◌≡◌, ◌↔◌, ◌<◌, ℕ, nat_eq, Bool, ◌&&◌, List, [], length, get_or, IsTrue}
+use Rattle.std.specs.Prelude.{◌≡◌, ◌↔◌, ℕ, nat_eq, Bool, ◌&&◌, List, [], length, get_or, IsTrue}
 use Rattle.std.specs.List.{list_any}
 use Rattle.csp_base.specs.Members.{has}
 use Rattle.csp_tables.specs.Trace.{After}

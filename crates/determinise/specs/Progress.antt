@@ -1,5 +1,5 @@
 -- What holds while sets of terms are found and numbered.
-use Rattle.std.specs.Prelude.{◌≡◌, ◌≢◌, ◌↔◌, ◌+◌, ◌<◌, ◌≤◌, ℕ, List, [], ◌∷◌, length, get_or, map, take, IsTrue, All}
+use Rattle.std.specs.Prelude.{◌≡◌, ◌≢◌, ◌↔◌, ◌<◌, ◌≤◌, ℕ, List, [], length, get_or, map, take, IsTrue, All}
 use Rattle.std.specs.List.Sorted.{IsStrictlyIncreasing, IsStrictlySortedBy}
 use Rattle.std.specs.Cmp.Lexicographic.{slice_cmp}
 use Rattle.std.specs.Ordering.{nat_cmp}
@@ -7,12 +7,11 @@ use Rattle.csp_base.specs.Members.{has}
 use Rattle.csp_tables.specs.Path.{Stable}
 use Rattle.csp_tables.specs.Trace.{After, IsTrace}
 use Rattle.csp_tables.specs.RawTable.{RawTable, RawStep}
-use Rattle.csp_tables.specs.RawForm.{has_step}
 use Rattle.csp_tables.specs.Offer.{IsMinimalOffer}
 use Rattle.csp_tables.specs.Behaviour.{OffersAcceptance}
 use Rattle.csp_tables.specs.NormalTable.{IsListed}
 use Rattle.csp_tables.specs.Table.{Node, is_possible, target, node_at}
-use Rattle.csp_tables.specs.BreadthFirst.{targets_of_steps, MeetsInOrder, MeetsUpTo}
+use Rattle.csp_tables.specs.BreadthFirst.{MeetsUpTo}
 use Rattle.determinise.specs.Moves.{has_event, IsNextSet, AreMovesOf, IsSilentlyReached}
 
 -- of the sets that stable terms among these offer, those that contain no smaller one

@@ -7,7 +7,7 @@ use Rattle.csp_program.specs.Atoms.{added, all_added, events_from}
 use Rattle.csp_program.specs.EventNumber.{first_event}
 use Rattle.csp_program.specs.Outcome.{and_then}
 use Rattle.csp_program.specs.Value.{Env, Front, Meaning, Turn, comprehension, events_each, front_count, front_number, fronts_added, sets_of}
-use Rattle.value_laws.specs.Bindings.{BeginsWith, BeginsWithOne, IsBinding}
+use Rattle.value_laws.specs.Bindings.{BeginsWith, BeginsWithOne, IsBinding, IsSetValue}
 use Rattle.value_laws.specs.EventNumbers.{FieldSetsRise, computed_number}
 use Rattle.value_laws.proofs.Lists.{came_through, same_outcome}
 use Rattle.value_laws.proofs.RowNumbers.{numbered}
@@ -52,7 +52,7 @@ from_among e (suc n) place z is low high =
       | inr other ↦ has_after (atom.Event e) (events_from (e + 1) n) z (from_among (e + 1) n place z is (omega arith) (omega arith))
     ]
 
-has_sets : (first : ℕ) (o : Option (List (List Atom))) (fields : List Meaning) (env : Env) (e : ℕ) → front_number first o fields env ≡ Ok e → (sets : List (List Atom)) × (o ≡ Some sets)
+pub has_sets : (first : ℕ) (o : Option (List (List Atom))) (fields : List Meaning) (env : Env) (e : ℕ) → front_number first o fields env ≡ Ok e → (sets : List (List Atom)) × (o ≡ Some sets)
 has_sets first None fields env e h = absurd (cc)
 has_sets first (Some sets) fields env e h = (sets, refl)
 
@@ -98,8 +98,8 @@ fronts_grow channels rise (f ∷ fs) env atoms more h =
 
 -- where a production has a value, its set has the events that begin with one of its fronts under some binding
 pub events_held : (channels : List Channel) → FieldSetsRise channels → (fronts : List Front) (turns : List Turn) (env : Env) (v : Value) → comprehension turns (fronts_added channels fronts) env ≡ Ok v
-    → (set : List Atom) × (v ≡ Many set) × ((a : Atom) → IsTrue (has_atom set a) ↔
+    → (set : List Atom) × (v ≡ Many set) × IsSetValue set × ((a : Atom) → IsTrue (has_atom set a) ↔
     ((bound : Env) × (place : ℕ) × IsBinding turns env bound × (a ≡ atom.Event place) × BeginsWithOne channels fronts bound place))
 events_held channels rise fronts turns env v h =
     let c = comprehension_holds (fronts_added channels fronts) (BegunWithOne channels fronts) (fronts_grow channels rise fronts) turns env v h in
-    (c.0, c.1, λ a. (λ g. let f = (c.2 a).0 g in (f.0, f.2.0, f.1, f.2.1, f.2.2), λ f. (c.2 a).1 (f.0, f.2, (f.1, f.3, f.4))))
+    (c.0, c.1, c.2, λ a. (λ g. let f = (c.3 a).0 g in (f.0, f.2.0, f.1, f.2.1, f.2.2), λ f. (c.3 a).1 (f.0, f.2, (f.1, f.3, f.4))))

@@ -2,7 +2,9 @@ pub mod AtExpressions
 pub mod Fronts
 pub mod Lists
 pub mod Nests
+pub mod ProgramEvents
 pub mod RowNumbers
 pub mod TablePlaces
+pub mod Unbounded
 pub mod UsesInRange
 pub mod Walks

@@ -10,7 +10,7 @@ use Rattle.csp_program.specs.Nesting.{BodyNests, DefNests, NestsWithin}
 use Rattle.csp_program.specs.Uses.{Reaches, body_uses, def_uses, expr_uses}
 use Rattle.csp_program.specs.Uses.Reaches.{by_use, by_way}
 use Rattle.csp_program.proofs.UsesWithin.{value_within_same}
-use Rattle.value_laws.specs.EnoughUses.{DefinitionsAreEnough, MoreUsesChangeNothing, UsesNestWithinDefinitions, WorthIsUnbounded}
+use Rattle.value_laws.specs.EnoughUses.{DefinitionsAreEnough, MoreUsesChangeNothing, UsesNestWithinDefinitions}
 use Rattle.value_laws.proofs.UsesInRange.{and_first, and_second, uses_in_range}
 use Rattle.csp_program.specs.declared.expressions.Expr.{Expr}
 use Rattle.csp_program.specs.declared.programs.Body.{Body}
@@ -38,7 +38,7 @@ apart : (d : ℕ) (seen : List ℕ) → (list_any (eqb d) seen ≡ true → ⊥)
 apart d [] h = tt
 apart d (y ∷ seen) h = (no_true (eqb d y) (λ e. h (or_first (eqb d y) (list_any (eqb d) seen) e)), apart d seen (λ e. h (or_second (eqb d y) (list_any (eqb d) seen) e)))
 
-all_at : (order : Def → Bool) (defs : List Def) (d : ℕ) (def : Def) → IsTrue (all_true (map order defs)) → slice_get defs d ≡ Some def → IsTrue (order def)
+pub all_at : (order : Def → Bool) (defs : List Def) (d : ℕ) (def : Def) → IsTrue (all_true (map order defs)) → slice_get defs d ≡ Some def → IsTrue (order def)
 all_at order [] d def all h = absurd (cc)
 all_at order (first ∷ defs) zero def all h = let e : first ≡ def = cc in subst (λ (x : Def). IsTrue (order x)) e (and_first (order first) (all_true (map order defs)) all)
 all_at order (first ∷ defs) (suc d) def all h = all_at order defs d def (and_second (order first) (all_true (map order defs)) all) h
@@ -112,6 +112,3 @@ more_uses_change_nothing p n m le e h env = ap (λ f. f env) (sym (value_within_
 
 pub definitions_are_enough : DefinitionsAreEnough
 definitions_are_enough p ordered e o n le env = more_uses_change_nothing p (length p.defs) n le e (uses_nest_within_definitions p ordered e o) env
-
-pub worth_is_unbounded : WorthIsUnbounded
-worth_is_unbounded p ordered e o env = sym (definitions_are_enough p ordered e o (suc (length p.defs)) (omega arith) env)

@@ -1,15 +1,16 @@
 -- What the walk over all bindings gathers.
-use Rattle.std.proofs.Common.{◌≡◌, ◌+◌, ◌⊎◌, Bool, true, false, cond, ◌||◌, IsTrue, Ok, Err, List, [], ◌∷◌, refl, sym, ◌∙◌, ap, subst, inl, inr}
-use Rattle.std.specs.Prelude.{◌↔◌, nat_lt}
-use Rattle.std.proofs.lemmas.Bool.{false≢true, or_cases}
+use Rattle.std.proofs.Common.{◌≡◌, ◌+◌, ◌≤◌, ◌⊎◌, Bool, true, false, cond, ◌||◌, IsTrue, Ok, Err, List, [], ◌∷◌, length, refl, sym, ◌∙◌, ap, subst, inl, inr, arith}
+use Rattle.std.specs.Prelude.{◌↔◌, nat_le, nat_lt}
+use Rattle.std.proofs.lemmas.Bool.{false≢true, leb-true, or_cases}
 use Rattle.csp_atoms.specs.Order.{same}
 use Rattle.csp_atoms.specs.Sets.{fits, has_atom, with_atom}
 use Rattle.csp_atoms.proofs.MemberLaws.{has-with_atom}
 use Rattle.csp_atoms.proofs.OrderLaws.{same_exact, same_itself}
+use Rattle.csp_atoms.proofs.SetLaws.{IsAtomSet-with_atom}
 use Rattle.csp_program.specs.Atoms.{added, limited}
 use Rattle.csp_program.specs.Outcome.{Outcome, and_then}
 use Rattle.csp_program.specs.Value.{Env, Gathered, Meaning, Turn, atom_of, comprehension, gathered, items_added, over, set_of, truth, truth_of, walked}
-use Rattle.value_laws.specs.Bindings.{IsBinding, IsItem}
+use Rattle.value_laws.specs.Bindings.{IsBinding, IsItem, IsSetValue}
 use Rattle.value_laws.proofs.Lists.{came_through, same_outcome}
 use Rattle.csp_atoms.specs.declared.atom.Atom.{Atom}
 use Rattle.csp_atoms.specs.declared.atom.Atom.TheVariants as atom
@@ -52,9 +53,14 @@ limit_back atoms more h = limited_back _ atoms more SetLimit h
 pub added_back : (atoms : List Atom) (a : Atom) (more : List Atom) → added atoms a ≡ Ok more → with_atom atoms a ≡ more
 added_back atoms a more h = limit_back (with_atom atoms a) more (passed (fits atoms a) (limited (with_atom atoms a)) Kind more h)
 
--- the members are those that were there, and others
+-- a condition that had to hold for a value
+held : {A : Type 0} (t : Bool) (o : Outcome A) (k : ValueKind) (a : A) → cond t o (Err k) ≡ Ok a → t ≡ true
+held true o k a h = refl
+held false o k a h = absurd (cc)
+
+-- a set stays one, and its members are those that were there, and others
 abbrev pub Grows : List Atom → List Atom → (Atom → Type 0) → Type 0
-Grows atoms more New = (z : Atom) → IsTrue (has_atom more z) ↔ (IsTrue (has_atom atoms z) ⊎ New z)
+Grows atoms more New = (IsSetValue atoms → IsSetValue more) × ((z : Atom) → IsTrue (has_atom more z) ↔ (IsTrue (has_atom atoms z) ⊎ New z))
 
 pub is_same : (t : Bool) (a z : Atom) → same a z ≡ t → IsTrue t → a ≡ z
 is_same true a z e h = same_exact a z e
@@ -77,30 +83,45 @@ has_after a rest z h = or_second (same a z) (has_atom rest z) h
 pub has_cases : (a : Atom) (rest : List Atom) (z : Atom) → IsTrue (has_atom (a ∷ rest) z) → (a ≡ z) ⊎ IsTrue (has_atom rest z)
 has_cases a rest z h = elim (or_cases (same a z) (has_atom rest z) h) [ inl e ↦ inl (same_exact a z e) | inr r ↦ inr r ]
 
+few_atoms : (atoms more : List Atom) → limited atoms ≡ Ok more → length atoms ≤ 16384
+few_atoms atoms more h = leb-true (length atoms) 16384 (held (nat_le (length atoms) 16384) (Ok atoms) SetLimit more h)
+
+few_added : (atoms : List Atom) (a : Atom) (more : List Atom) → added atoms a ≡ Ok more → length (with_atom atoms a) ≤ 16384
+few_added atoms a more h = few_atoms (with_atom atoms a) more (passed (fits atoms a) (limited (with_atom atoms a)) Kind more h)
+
 grown_back : (atoms : List Atom) (a z : Atom) → IsTrue (has_atom atoms z) ⊎ (a ≡ z) → IsTrue (has_atom (a ∷ atoms) z)
 grown_back atoms a z (inl h) = has_after a atoms z h
 grown_back atoms a z (inr e) = has_here a atoms z e
 
 pub grows_by_one : (atoms : List Atom) (a : Atom) (more : List Atom) → added atoms a ≡ Ok more → Grows atoms more (λ z. a ≡ z)
-grows_by_one atoms a more h z =
-    let is : has_atom more z ≡ has_atom (a ∷ atoms) z = ap (λ (l : List Atom). has_atom l z) (sym (added_back atoms a more h)) ∙ has-with_atom atoms a z in (
-      λ g. elim (has_cases a atoms z (sym is ∙ g)) [ inl e ↦ inr e | inr r ↦ inl r ],
-      λ g. is ∙ grown_back atoms a z g,
-    )
+grows_by_one atoms a more h = (
+  λ r. subst IsSetValue (added_back atoms a more h) (IsAtomSet-with_atom atoms a r.0 (held (fits atoms a) (limited (with_atom atoms a)) Kind more h), few_added atoms a more h),
+  λ z.
+      let is : has_atom more z ≡ has_atom (a ∷ atoms) z = ap (λ (l : List Atom). has_atom l z) (sym (added_back atoms a more h)) ∙ has-with_atom atoms a z in (
+        λ g. elim (has_cases a atoms z (sym is ∙ g)) [ inl e ↦ inr e | inr r ↦ inl r ],
+        λ g. is ∙ grown_back atoms a z g,
+      ),
+)
 
 pub same_growth : (atoms more : List Atom) (New Other : Atom → Type 0) → ((z : Atom) → New z → Other z) → ((z : Atom) → Other z → New z) → Grows atoms more New → Grows atoms more Other
-same_growth atoms more New Other forth back h z = (
-  λ g. elim ((h z).0 g) [ inl r ↦ inl r | inr n ↦ inr (forth z n) ],
-  λ g. (h z).1 (elim g [ inl r ↦ inl r | inr n ↦ inr (back z n) ]),
+same_growth atoms more New Other forth back h = (
+  h.0,
+  λ z. (
+    λ g. elim ((h.1 z).0 g) [ inl r ↦ inl r | inr n ↦ inr (forth z n) ],
+    λ g. (h.1 z).1 (elim g [ inl r ↦ inl r | inr n ↦ inr (back z n) ]),
+  ),
 )
 
 pub no_growth : (atoms more : List Atom) → atoms ≡ more → (New : Atom → Type 0) → ((z : Atom) → New z → ⊥) → Grows atoms more New
-no_growth atoms more e New none = subst (λ l. Grows atoms l New) e (λ z. (λ g. inl g, λ g. elim g [ inl r ↦ r | inr n ↦ absurd (none z n) ]))
+no_growth atoms more e New none = subst (λ l. Grows atoms l New) e (λ r. r, λ z. (λ g. inl g, λ g. elim g [ inl r ↦ r | inr n ↦ absurd (none z n) ]))
 
 pub two_growths : (atoms middle more : List Atom) (First Second : Atom → Type 0) → Grows atoms middle First → Grows middle more Second → Grows atoms more (λ z. First z ⊎ Second z)
-two_growths atoms middle more First Second h g z = (
-  λ m. elim ((g z).0 m) [ inl r ↦ elim ((h z).0 r) [ inl q ↦ inl q | inr f ↦ inr (inl f) ] | inr s ↦ inr (inr s) ],
-  λ m. elim m [ inl r ↦ (g z).1 (inl ((h z).1 (inl r))) | inr n ↦ elim n [ inl f ↦ (g z).1 (inl ((h z).1 (inr f))) | inr s ↦ (g z).1 (inr s) ] ],
+two_growths atoms middle more First Second h g = (
+  λ r. g.0 (h.0 r),
+  λ z. (
+    λ m. elim ((g.1 z).0 m) [ inl r ↦ elim ((h.1 z).0 r) [ inl q ↦ inl q | inr f ↦ inr (inl f) ] | inr s ↦ inr (inr s) ],
+    λ m. elim m [ inl r ↦ (g.1 z).1 (inl ((h.1 z).1 (inl r))) | inr n ↦ elim n [ inl f ↦ (g.1 z).1 (inl ((h.1 z).1 (inr f))) | inr s ↦ (g.1 z).1 (inr s) ] ],
+  ),
 )
 
 one_set : (o : Outcome Value) (xs ys : List Atom) → o ≡ Ok (Many xs) → o ≡ Ok (Many ys) → xs ≡ ys
@@ -185,14 +206,14 @@ module _ (adds : Env → List Atom → Outcome (List Atom)) (Gives : Env → Ato
       condition turns c env state next second.0 value second.2 (λ e. walk_grows turns env state next e)
 
   -- what all bindings add to the empty set
-  pub comprehension_holds : (turns : List Turn) (env : Env) (v : Value) → comprehension turns adds env ≡ Ok v → (set : List Atom) × (v ≡ Many set) × ((a : Atom) → IsTrue (has_atom set a) ↔ Given turns env a)
+  pub comprehension_holds : (turns : List Turn) (env : Env) (v : Value) → comprehension turns adds env ≡ Ok v → (set : List Atom) × (v ≡ Many set) × IsSetValue set × ((a : Atom) → IsTrue (has_atom set a) ↔ Given turns env a)
   comprehension_holds turns env v h =
       let through = came_through (walked turns (gathered adds) env (record { bindings = 0; atoms = [] })) (λ state. Ok (Many state.atoms)) v h in
       let is : Many through.0.atoms ≡ v = same_outcome through.2 in
       let grown = walk_grows turns env (record { bindings = 0; atoms = [] }) through.0 through.1 in
-      (through.0.atoms, sym is, λ a. (λ g. elim ((grown a).0 g) [ inl n ↦ absurd (false≢true n) | inr f ↦ f ], λ f. (grown a).1 (inr f)))
+      (through.0.atoms, sym is, grown.0 ((tt, tt), omega arith), λ a. (λ g. elim ((grown.1 a).0 g) [ inl n ↦ absurd (false≢true n) | inr f ↦ f ], λ f. (grown.1 a).1 (inr f)))
 
 -- where a comprehension has a value, its set has the items' values under all bindings
 pub items_held : (items : List Meaning) (turns : List Turn) (env : Env) (v : Value) → comprehension turns (items_added items) env ≡ Ok v
-    → (set : List Atom) × (v ≡ Many set) × ((a : Atom) → IsTrue (has_atom set a) ↔ ((bound : Env) × IsBinding turns env bound × IsItem items bound a))
+    → (set : List Atom) × (v ≡ Many set) × IsSetValue set × ((a : Atom) → IsTrue (has_atom set a) ↔ ((bound : Env) × IsBinding turns env bound × IsItem items bound a))
 items_held items turns env v h = comprehension_holds (items_added items) (IsItem items) (items_grow items) turns env v h

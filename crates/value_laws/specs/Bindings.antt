@@ -1,6 +1,6 @@
 -- What a comprehension and a production hold, in the words of bindings: a choice of a value for the name of each generator.
-use Rattle.std.specs.Prelude.{◌≡◌, ◌⊎◌, ◌↔◌, ℕ, true, IsTrue, Ok, List, [], ◌∷◌, ◌++◌, map}
-use Rattle.csp_atoms.specs.Sets.{has_atom}
+use Rattle.std.specs.Prelude.{◌≡◌, ◌⊎◌, ◌↔◌, ℕ, ◌≤◌, true, IsTrue, Ok, List, [], ◌∷◌, ◌++◌, map, length}
+use Rattle.csp_atoms.specs.Sets.{IsAtomSet, has_atom}
 use Rattle.csp_program.specs.Value.{Env, Front, Meaning, Turn, front, truth, turn, uses_within, value_within}
 use Rattle.value_laws.specs.EventNumbers.{FieldSetsRise, HaveValues, StandsAt, meanings_within}
 use Rattle.csp_atoms.specs.declared.atom.Atom.{Atom}
@@ -42,11 +42,15 @@ abbrev pub BeginsWithOne : List Channel → List Front → Env → ℕ → Type 
 BeginsWithOne channels [] env place = ⊥
 BeginsWithOne channels (f ∷ fronts) env place = BeginsWith channels f env place ⊎ BeginsWithOne channels fronts env place
 
+-- a set of at most 16,384 atoms of one kind
+abbrev pub IsSetValue : List Atom → Type 0
+IsSetValue set = IsAtomSet set × (length set ≤ 16384)
+
 -- where a comprehension has a value, it is the set of the atoms that an item has as its value under some binding
 abbrev pub ComprehensionsHoldTheirItems : Type 0
 ComprehensionsHoldTheirItems =
     (p : Content) (n : ℕ) (items : List Expr) (gens : List Gen) (env : Env) (v : Value) → value_within p n (expr.Comp items gens) env ≡ Ok v →
-    (set : List Atom) × (v ≡ Many set) × ((a : Atom) → IsTrue (has_atom set a) ↔
+    (set : List Atom) × (v ≡ Many set) × IsSetValue set × ((a : Atom) → IsTrue (has_atom set a) ↔
     ((bound : Env) × IsBinding (turns_within p n gens) env bound × IsItem (meanings_within p n items) bound a))
 
 -- where a production has a value, it is the set of the events that begin with one of its parts under some binding
@@ -54,5 +58,5 @@ abbrev pub ProductionsHoldWhatBegins : Type 0
 ProductionsHoldWhatBegins =
     (p : Content) → FieldSetsRise p.channels →
     (n : ℕ) (parts : List EventPart) (gens : List Gen) (env : Env) (v : Value) → value_within p n (expr.Product parts gens) env ≡ Ok v →
-    (set : List Atom) × (v ≡ Many set) × ((a : Atom) → IsTrue (has_atom set a) ↔
+    (set : List Atom) × (v ≡ Many set) × IsSetValue set × ((a : Atom) → IsTrue (has_atom set a) ↔
     ((bound : Env) × (place : ℕ) × IsBinding (turns_within p n gens) env bound × (a ≡ atom.Event place) × BeginsWithOne p.channels (fronts_within p n parts) bound place))

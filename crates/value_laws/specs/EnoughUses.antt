@@ -1,6 +1,6 @@
 -- How many uses of definitions may be entered one inside another doesn't matter, once that is as many as the uses nest. In a program in order they
 -- nest no deeper than there are definitions, since no definition of data reaches itself. So the value with that number is what evaluation without
--- a bound gives: uses are worth what their bodies are worth in the same sense.
+-- a bound gives, where uses are worth what their bodies are worth: it is such an evaluation, and the only one.
 use Rattle.std.specs.Prelude.{◌≡◌, ℕ, ◌≤◌, IsTrue, length, slice_get}
 use Rattle.csp_program.specs.InOrder.{IsInOrder, expr_in_order}
 use Rattle.csp_program.specs.Nesting.{NestsWithin}
@@ -24,10 +24,17 @@ worth p e env = value_within p (length p.defs) e env
 abbrev pub DefinitionsAreEnough : Type 0
 DefinitionsAreEnough = (p : Content) → IsInOrder p → (e : Expr) → IsTrue (expr_in_order p e) → (n : ℕ) → length p.defs ≤ n → (env : Env) → value_within p n e env ≡ worth p e env
 
--- what uses are worth, by what their bodies are worth
-abbrev pub uses_by_worth : Content → Uses
-uses_by_worth p d args = def_value (worth p) (slice_get p.defs d) args
+-- what uses are worth by what their bodies are worth
+abbrev pub uses_by : Content → (Expr → Meaning) → Uses
+uses_by p w d args = def_value w (slice_get p.defs d) args
 
--- so what an expression is worth is what it means over uses that are worth what their bodies are
+-- evaluation without a bound: each expression in order is worth what it means over uses that are worth what their bodies are
+abbrev pub IsUnbounded : Content → (Expr → Meaning) → Type 0
+IsUnbounded p w = (e : Expr) → IsTrue (expr_in_order p e) → (env : Env) → w e env ≡ meaning (uses_by p w) p.channels e env
+
 abbrev pub WorthIsUnbounded : Type 0
-WorthIsUnbounded = (p : Content) → IsInOrder p → (e : Expr) → IsTrue (expr_in_order p e) → (env : Env) → worth p e env ≡ meaning (uses_by_worth p) p.channels e env
+WorthIsUnbounded = (p : Content) → IsInOrder p → IsUnbounded p (worth p)
+
+-- and there is no other evaluation without a bound
+abbrev pub UnboundedIsWorth : Type 0
+UnboundedIsWorth = (p : Content) → IsInOrder p → (w : Expr → Meaning) → IsUnbounded p w → (e : Expr) → IsTrue (expr_in_order p e) → (env : Env) → w e env ≡ worth p e env

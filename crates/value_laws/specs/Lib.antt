@@ -1,3 +1,4 @@
 pub mod Bindings
 pub mod EnoughUses
 pub mod EventNumbers
+pub mod ProgramEvents

@@ -1,5 +1,12 @@
-use Rattle.csp_grammar.proofs.Refused.{mixed, dot_behind_question}
+use Rattle.csp_grammar.proofs.Refused.{mixed, dot_behind_question, parallels, hiding, bracket, empty_set}
 use Rattle.csp_grammar.proofs.refused_texts.Goals as goal
 
 pub returns : goal.returns
-returns c = record { mixed_choice = mixed; dot_behind_question = dot_behind_question }
+returns c = record {
+  mixed_choice = mixed;
+  dot_behind_question = dot_behind_question;
+  parallels = parallels;
+  hiding = hiding;
+  bracket = bracket;
+  empty_set = empty_set;
+}

@@ -1,4 +1,4 @@
-use Rattle.csp_values.proofs.EventSteps.{first_next, first_end}
+use Rattle.csp_values.proofs.EventSteps.{first_next}
 use Rattle.csp_values.proofs.numbers.first_of.Goals as goal
 
 pub loop-left-preserved : goal.loop-left-preserved

@@ -1,6 +1,6 @@
 use Rattle.std.proofs.Common.{arith}
 use Rattle.csp_values.proofs.Faults.{passed}
-use Rattle.csp_values.proofs.SetSteps.{constants_left, list_fault, list_next}
+use Rattle.csp_values.proofs.SetSteps.{constants_left, list_fault}
 use Rattle.csp_values.proofs.sets.constants.Goals as goal
 
 pub returns-in_err-atoms : goal.returns-in_err-atoms

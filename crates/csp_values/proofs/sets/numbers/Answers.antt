@@ -1,4 +1,4 @@
-use Rattle.std.proofs.Common.{◌≡◌, arith, to_z, of_z, w64}
+use Rattle.std.proofs.Common.{arith, to_z, of_z, w64}
 use Rattle.std.proofs.lemmas.Int.{ints}
 use Rattle.csp_values.proofs.SetSteps.{range_far, range_near}
 use Rattle.csp_values.proofs.sets.numbers.Goals as goal

@@ -1,7 +1,6 @@
-use Rattle.std.proofs.Common.{◌≡◌, ◌<◌, ℕ, List, Err, length, sym, ap, subst, arith}
+use Rattle.std.proofs.Common.{◌≡◌, ◌<◌, Err, length, sym, ap, subst, arith}
 use Rattle.std.specs.List.{All}
 use Rattle.csp_tables.specs.RawTable.{RawTable, RawStep}
-use Rattle.csp_tables.specs.Table.{Node}
 use Rattle.csp_tables.specs.BreadthFirst.{IsBreadthFirst}
 use Rattle.determinise.specs.declared.fault.SetFault.TheVariants.{SubsetLimit}
 use Rattle.determinise.specs.Determinised.{Determinised, FollowsTraces, AreDifferentSets, HasAcceptances, IsInOrder}

@@ -1,5 +1,4 @@
-use Rattle.std.proofs.Common.{◌≡◌, ◌<◌, ℕ, List, length, sym, subst, arith, rules}
-use Rattle.csp_tables.specs.Table.{Node}
+use Rattle.std.proofs.Common.{◌≡◌, ◌<◌, ℕ, length, sym, subst, rules}
 use Rattle.determinise.specs.Progress.{set_at, IsNodeOf, IsReachedFromSet, AreNodesSoFar}
 use Rattle.determinise.proofs.Exploring.{reached_more, nodes_more}
 use Rattle.determinise.proofs.explore.explore.Goals as goal

@@ -1,4 +1,4 @@
-use Rattle.std.proofs.Common.{◌≡◌, ◌<◌, length, ◌∙◌}
+use Rattle.std.proofs.Common.{◌<◌, length, ◌∙◌}
 use Rattle.acceptances.proofs.Terms.{step_from}
 use Rattle.determinise.proofs.MoveLists.{moves_more, length_more}
 use Rattle.determinise.proofs.rows.move_rows.Goals as goal

@@ -1,6 +1,5 @@
-use Rattle.std.proofs.Common.{◌≡◌, ◌↔◌, ◌<◌, ℕ, List, IsTrue, sym, subst}
+use Rattle.std.proofs.Common.{◌↔◌, ◌<◌, ℕ, List, IsTrue, sym, subst}
 use Rattle.std.specs.List.{All}
-use Rattle.std.specs.List.Sorted.{IsStrictlyIncreasing}
 use Rattle.csp_base.specs.Members.{has}
 use Rattle.csp_tables.specs.RawTable.{RawTable}
 use Rattle.determinise.specs.Closed.{IsReachedFrom}

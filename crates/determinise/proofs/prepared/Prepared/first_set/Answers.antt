@@ -1,8 +1,7 @@
-use Rattle.std.proofs.Common.{◌≡◌, ◌↔◌, ◌<◌, ℕ, zero, suc, List, [], ◌∷◌, IsTrue, length, sym, subst, arith}
+use Rattle.std.proofs.Common.{◌↔◌, ◌<◌, ℕ, zero, suc, [], ◌∷◌, IsTrue, length, sym, subst, arith}
 use Rattle.std.specs.List.{All}
 use Rattle.csp_base.specs.Members.{has}
 use Rattle.csp_tables.specs.RawTable.{RawTable}
-use Rattle.determinise.specs.Closed.{IsReachedFrom}
 use Rattle.determinise.specs.Moves.{IsSilentlyReached}
 use Rattle.determinise.specs.Progress.{IsSetAfter, IsTermSet}
 use Rattle.determinise.proofs.Silence.{silently, term_set}

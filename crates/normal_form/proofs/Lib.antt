@@ -1,0 +1,11 @@
+pub mod SortedSets
+pub mod ClassOrder
+pub mod Meeting
+pub mod MergedRuns
+pub mod MergedOrder
+pub mod Marking
+pub mod Merging
+pub mod Walking
+pub mod SameFuture
+pub mod Reaching
+pub mod Normal

@@ -1,0 +1,13 @@
+//! The normal table of a component: one node for each class of traces with equal future.
+#![tactic(auto)]
+
+mod fault;
+mod marks;
+mod merge;
+mod merged;
+mod normal_table;
+#[cfg(test)]
+mod tests;
+
+pub use fault::NormFault;
+pub use normal_table::{normalise, normalise_by_rounds};
