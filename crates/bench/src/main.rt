@@ -1,12 +1,14 @@
 //! Workloads whose time is to grow with their size alone: `bench WORKLOAD SIZE TIMES` runs one and prints a checksum.
 #![tactic(auto)]
 
+mod tables;
 mod workloads;
 
 use std::alloc::Global;
 use std::env;
 use std::process::ExitCode;
 use std::rt::Env;
+use tables::{blocks, row, row_by_rounds, row_sets, silent_chain, subsets};
 use workloads::{chain, layers, numbering, reached, sets};
 
 /// The words of the command line, without the program's own name: a workload, its size, and how many times it runs.
@@ -36,6 +38,12 @@ fn run_once(alloc: Global, workload: &str, size: u32) -> Option<u64> {
         "reached" => reached(alloc, size).ok(),
         "sets" => sets(alloc, size).ok(),
         "numbering" => numbering(alloc, size).ok(),
+        "silent" => silent_chain(alloc, size).ok(),
+        "subsets" => subsets(alloc).ok(),
+        "row-sets" => row_sets(alloc, size).ok(),
+        "row" => row(alloc, size).ok(),
+        "row-by-rounds" => row_by_rounds(alloc, size).ok(),
+        "blocks" => blocks(alloc, size).ok(),
         _ => None,
     }
 }
@@ -50,7 +58,7 @@ fn run_all(alloc: Global, workload: &str, size: u32, times: u32) -> Option<u64> 
 
 fn main(rt: HostRuntime) -> ExitCode {
     let Some(task) = read_task(&rt) else {
-        let _ = println!(rt; "usage: bench chain|layers|reached|sets|numbering SIZE TIMES");
+        let _ = println!(rt; "usage: bench WORKLOAD SIZE TIMES");
         return ExitCode::from(3);
     };
     let Task {
