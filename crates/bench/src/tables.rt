@@ -13,7 +13,9 @@ const MIXED: u32 = 12;
 
 /// How many terms a block of `blocks` has, how many events, and how many silent steps in all.
 const BLOCK: u32 = 128;
+
 const EVENTS: u32 = 200;
+
 const SILENT: usize = 60_000;
 
 /// What keeps a workload from its end.
