@@ -1,9 +1,10 @@
 use super::*;
-use crate::names::{Names, named};
-use crate::numbers::{place_in, with_field};
+use crate::names::{Names, named, with_name};
+use crate::numbers::{count_with, first_with, place_in, with_field};
 use crate::operators::{applied, decided, inverted, negated};
-use crate::sets::{combined, numbers, with_item};
-use csp_atoms::{Atom, Value};
+use crate::sets::{combined, constants, numbered, numbers, with_events, with_item};
+use csp_atoms::{Atom, AtomSet, Value};
+use csp_base::Event;
 use csp_program::{BinOp, SetOp, ValueKind};
 use std::alloc::Global;
 use std::test::Fail;
@@ -235,5 +236,40 @@ fn names_and_fields(rt: HostRuntime) -> Result<(), Fail> {
     assert!(rt; names_are_found(alloc)?);
     assert!(rt; field_number(alloc, 7)? == 17);
     assert!(rt; field_number(alloc, 4).is_err());
+    Ok(())
+}
+
+fn constants_rise(alloc: Global) -> Result<bool, EvalFault> {
+    let made = constants(alloc, &[4, 1])?;
+    Ok(made.as_slice() == [Atom::Const(1), Atom::Const(4)].as_slice())
+}
+
+fn events_follow(alloc: Global) -> Result<bool, EvalFault> {
+    let made = with_events(AtomSet::new(alloc), 7, 2)?;
+    let first = numbered(7)?;
+    Ok(made.as_slice() == [first, Atom::Event(Event(8))].as_slice())
+}
+
+fn name_stands_last(alloc: Global) -> Result<bool, EvalFault> {
+    let more = with_name(alloc, &[(3, Atom::Num(5))], 2, Atom::Num(6))?;
+    Ok(more.as_slice() == [(3, Atom::Num(5)), (2, Atom::Num(6))].as_slice())
+}
+
+// Before the third choice of the first fields stand two choices, each with the three values of the last field.
+fn first_number(alloc: Global) -> Result<bool, EvalFault> {
+    let mut sets = Vec::new(alloc);
+    sets.push(numbers(alloc, 0, 2)?)?;
+    let first = first_with(&[], 0, &sets, 0, 2)?;
+    Ok(first == 6)
+}
+
+#[test]
+fn sets_and_names_grow(rt: HostRuntime) -> Result<(), Fail> {
+    let alloc = rt.alloc();
+    assert!(rt; constants_rise(alloc)?);
+    assert!(rt; events_follow(alloc)?);
+    assert!(rt; name_stands_last(alloc)?);
+    assert!(rt; first_number(alloc)?);
+    assert_eq!(rt; count_with(&[], 0, 0)?, 0);
     Ok(())
 }
