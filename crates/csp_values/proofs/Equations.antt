@@ -1,10 +1,10 @@
 -- What each form of an expression, of a list and of generators comes to, in terms of its parts.
-use Rattle.std.proofs.Common.{◌≡◌, ℕ, zero, suc, ◌+◌, ◌-◌, ◌<◌, Bool, cond, List, [], ◌∷◌, Some, None, Ok, Err, map, length, drop, refl, ap, sym, ◌∙◌, arith, ◌*◌}
-use Rattle.std.specs.Prelude.{ℤ, slice_get}
+use Rattle.std.proofs.Common.{◌≡◌, ℕ, zero, suc, ◌+◌, ◌-◌, ◌<◌, ◌≤◌, Bool, true, false, cond, List, [], ◌∷◌, Some, None, Ok, Err, map, length, drop, refl, ap, sym, ◌∙◌, arith, ◌*◌}
+use Rattle.std.specs.Prelude.{ℤ, nat_lt, slice_get, Option}
 use Rattle.csp_program.specs.Atoms.{added, all_added, events_from}
 use Rattle.csp_program.specs.EventNumber.{first_event, row_count}
 use Rattle.csp_program.specs.Outcome.{Outcome, and_then}
-use Rattle.csp_program.specs.Value.{Env, Meaning, Turn, Front, Gathered, from, when, meaning, turn, front, meaning_of_layer, turn_of_layer, front_of_layer, uses_within, number, truth, bound_value, truth_of, set_of, atom_of, items_added, walked, gathered, sets_of, field_place, def_value, front_count, front_number, fronts_added}
+use Rattle.csp_program.specs.Value.{Env, Meaning, Turn, Front, Gathered, from, when, meaning, turn, front, meaning_of_layer, turn_of_layer, front_of_layer, uses_within, number, truth, bound_value, truth_of, set_of, atom_of, items_added, walked, gathered, sets_of, field_place, bound_to, many, body_value, def_value, front_count, front_number, fronts_added}
 use Rattle.csp_atoms.specs.declared.atom.Atom.{Atom}
 use Rattle.csp_atoms.specs.declared.atom.Atom.TheVariants as atom
 use Rattle.csp_atoms.specs.declared.value.Value.{Value}
@@ -13,16 +13,19 @@ use Rattle.csp_program.specs.declared.expressions.BinOp.{BinOp}
 use Rattle.csp_program.specs.declared.expressions.SetOp.{SetOp}
 use Rattle.csp_program.specs.declared.expressions.Expr.{Expr}
 use Rattle.csp_program.specs.declared.expressions.Expr.TheVariants as expr
-use Rattle.csp_program.specs.declared.expressions.Expr.TheFolds.{fold-roll-Expr, fold-roll-Gen, map-Expr}
+use Rattle.csp_program.specs.declared.expressions.Expr.TheFolds.{fold-roll-Expr, fold-roll-Gen, fold-roll-EventPart, map-Expr}
 use Rattle.csp_program.specs.declared.expressions.Expr.TheOpen.{Expr-F, Gen-F}
-use Rattle.csp_program.specs.declared.expressions.Expr.TheViews.{roll-Expr}
+use Rattle.csp_program.specs.declared.expressions.Expr.TheViews.{roll-Expr, out-EventPart, roll-out-EventPart}
 use Rattle.csp_program.specs.declared.expressions.EventPart.{EventPart}
 use Rattle.csp_program.specs.declared.expressions.Gen.{Gen}
 use Rattle.csp_program.specs.declared.expressions.Gen.TheVariants as generator
-use Rattle.csp_program.specs.declared.kinds.ValueKind.TheVariants.{Kind, OutsideChannel}
+use Rattle.csp_program.specs.declared.kinds.ValueKind.TheVariants.{Kind, OutsideChannel, SetLimit}
+use Rattle.csp_program.specs.declared.programs.Body.TheVariants as body
 use Rattle.csp_program.specs.declared.programs.Content.{Content}
 use Rattle.csp_program.specs.declared.programs.Def.{Def}
-use Rattle.csp_values.specs.Forms.{negative, inverse, operation, choice, as_set, an_event, a_set, a_range, set_operation, gathered_set, nothing_yet}
+use Rattle.csp_program.specs.declared.networks.Net.{Net}
+use Rattle.csp_program.specs.declared.processes.Proc.{Proc}
+use Rattle.value_operators.specs.Forms.{negative, inverse, operation, choice, as_set, an_event, a_set, a_range, set_operation, gathered_set, nothing_yet, count_with}
 use Rattle.csp_values.specs.Worth.{worth, worths, use_worth, body_worth, with_items, fields_worth, front_worth, with_front, with_fronts, yielded, one_more_binding, walk_worth, each_worth, meanings}
 
 at : (p : Content) (n : ℕ) (env : Env) (e : Expr) (d : Expr-F Expr Gen EventPart) → roll-Expr d ≡ e
@@ -220,3 +223,65 @@ pub each-cons : (p : Content) (n x : ℕ) (a : Atom) (atoms : List Atom) (gens :
     → each_worth p n x (a ∷ atoms) gens items parts env state ≡ and_then (walk_worth p n gens items parts ((x, One a) ∷ env) state) (λ next. each_worth p n x atoms gens items parts env next)
 unfolding each_worth
 each-cons p n x a atoms gens items parts env state = refl
+
+front-is : (p : Content) (n : ℕ) (part : EventPart) → front (uses_within p n) p.channels part ≡ record { channel = (out-EventPart part).channel; fields = meanings p n (out-EventPart part).fields }
+front-is p n part =
+    ap (front (uses_within p n) p.channels) (sym (roll-out-EventPart part)) ∙
+    fold-roll-EventPart Meaning Turn Front (meaning_of_layer (uses_within p n) p.channels) (turn_of_layer (uses_within p n) p.channels) (front_of_layer (uses_within p n) p.channels) (out-EventPart part)
+
+same_count : (o : Option (List (List Atom))) (p : Content) (n : ℕ) (es : List Expr) → front_count o (meanings p n es) ≡ count_with o (length es)
+same_count None p n es = refl
+same_count (Some sets) p n es = ap (λ k. row_count (drop k sets)) (same_length p n es)
+
+last_front : (o : Outcome ℕ) (atoms : List Atom) (c d : ℕ) → c ≡ d → and_then o (λ e. and_then (all_added atoms (events_from e c)) (λ more. Ok more)) ≡ and_then o (λ e. all_added atoms (events_from e d))
+last_front (Ok e) atoms c d h = and_then_ok (all_added atoms (events_from e c)) ∙ ap (λ z. all_added atoms (events_from e z)) h
+last_front (Err k) atoms c d h = refl
+
+pub with_front-is : (p : Content) (n : ℕ) (env : Env) (part : EventPart) (atoms : List Atom)
+    → with_front p n env part atoms ≡ and_then (front_worth p n env (out-EventPart part).channel (out-EventPart part).fields) (λ e. all_added atoms (events_from e (count_with (sets_of (slice_get p.channels (out-EventPart part).channel)) (length (out-EventPart part).fields))))
+unfolding with_front front_worth
+with_front-is p n env part atoms =
+    ap (λ f. fronts_added p.channels (f ∷ []) env atoms) (front-is p n part) ∙
+    last_front (front_number (first_event p.channels (out-EventPart part).channel) (sets_of (slice_get p.channels (out-EventPart part).channel)) (meanings p n (out-EventPart part).fields) env) atoms
+    (front_count (sets_of (slice_get p.channels (out-EventPart part).channel)) (meanings p n (out-EventPart part).fields))
+    (count_with (sets_of (slice_get p.channels (out-EventPart part).channel)) (length (out-EventPart part).fields))
+    (same_count (sets_of (slice_get p.channels (out-EventPart part).channel)) p n (out-EventPart part).fields)
+
+pub body-Datum : (p : Content) (n : ℕ) (def : Def) (args : List Value) (e : Expr) → def.body ≡ body.Datum e → body_worth p n def args ≡ worth p n (bound_to def.params args) e
+unfolding body_worth worth
+body-Datum p n def args e is = ap (λ b. body_value (meaning (uses_within p n) p.channels) def.params b args) is
+
+pub body-Nametype : (p : Content) (n : ℕ) (def : Def) (args : List Value) (e : Expr) → def.body ≡ body.Nametype e → body_worth p n def args ≡ worth p n [] e
+unfolding body_worth worth
+body-Nametype p n def args e is = ap (λ b. body_value (meaning (uses_within p n) p.channels) def.params b args) is
+
+pub body-Datatype : (p : Content) (n : ℕ) (def : Def) (args : List Value) (ks : List ℕ) → def.body ≡ body.Datatype ks → body_worth p n def args ≡ many (all_added [] (map (λ k. atom.Const k) ks))
+unfolding body_worth
+body-Datatype p n def args ks is = ap (λ b. body_value (meaning (uses_within p n) p.channels) def.params b args) is
+
+pub body-Process : (p : Content) (n : ℕ) (def : Def) (args : List Value) (q : Proc) → def.body ≡ body.Process q → body_worth p n def args ≡ Err Kind
+unfolding body_worth
+body-Process p n def args q is = ap (λ b. body_value (meaning (uses_within p n) p.channels) def.params b args) is
+
+pub body-Network : (p : Content) (n : ℕ) (def : Def) (args : List Value) (q : Net) → def.body ≡ body.Network q → body_worth p n def args ≡ Err Kind
+unfolding body_worth
+body-Network p n def args q is = ap (λ b. body_value (meaning (uses_within p n) p.channels) def.params b args) is
+
+-- one more binding
+no_room : (b : ℕ) → 1048576 ≤ b → nat_lt b 1048576 ≡ false
+no_room b h = grind arith
+
+room : (b : ℕ) → b < 1048576 → nat_lt b 1048576 ≡ true
+room b h = grind arith
+
+abbrev counted : ℕ → Outcome (List Atom) → Outcome Gathered
+counted b o = and_then o (λ atoms. Ok (record { bindings = b + 1; atoms = atoms }))
+
+pub binding-full : (p : Content) (n : ℕ) (items : List Expr) (parts : List EventPart) (env : Env) (state : Gathered) → 1048576 ≤ state.bindings → one_more_binding p n items parts env state ≡ Err SetLimit
+unfolding one_more_binding
+binding-full p n items parts env state h = ap (λ b. cond b (counted state.bindings (yielded p n items parts env state.atoms)) (Err SetLimit)) (no_room state.bindings h)
+
+pub binding-room : (p : Content) (n : ℕ) (items : List Expr) (parts : List EventPart) (env : Env) (state : Gathered) → state.bindings < 1048576
+    → one_more_binding p n items parts env state ≡ and_then (and_then (with_items p n env items state.atoms) (λ more. with_fronts p n env parts more)) (λ atoms. Ok (record { bindings = state.bindings + 1; atoms = atoms }))
+unfolding one_more_binding
+binding-room p n items parts env state h = ap (λ b. cond b (counted state.bindings (yielded p n items parts env state.atoms)) (Err SetLimit)) (room state.bindings h)

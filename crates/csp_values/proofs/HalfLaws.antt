@@ -7,7 +7,7 @@ use Rattle.csp_atoms.specs.declared.value.Value.{Value}
 use Rattle.csp_atoms.specs.declared.value.Value.TheVariants.{One, Many}
 use Rattle.csp_program.specs.declared.expressions.BinOp.{BinOp}
 use Rattle.csp_program.specs.declared.expressions.BinOp.TheVariants as op
-use Rattle.csp_values.specs.Operands.{first_half}
+use Rattle.value_operators.specs.Operands.{first_half}
 
 -- the value that is decided, or that of both operands
 abbrev pub finished : BinOp → Value → Outcome Value → Option Value → Outcome Value

@@ -1,6 +1,5 @@
 pub mod Equations
-pub mod EventSteps
-pub mod Faults
+pub mod FieldSteps
 pub mod HalfLaws
-pub mod NameLaws
-pub mod SetSteps
+pub mod Steps
+pub mod Weights

@@ -1,5 +1,1 @@
-pub mod Env
-pub mod Forms
-pub mod Gives
-pub mod Operands
 pub mod Worth

@@ -1,9 +1,9 @@
 -- What the parts of an expression come to where so many uses of definitions may still be entered, under an environment: the definitions of the value
 -- of an expression, applied to trees.
-use Rattle.std.specs.Prelude.{ℕ, Some, List, [], ◌∷◌, map, slice_get}
+use Rattle.std.specs.Prelude.{◌≡◌, ℕ, Result, Ok, Err, Some, List, [], ◌∷◌, map, slice_get}
 use Rattle.csp_program.specs.Outcome.{Outcome, and_then}
 use Rattle.csp_program.specs.EventNumber.{first_event}
-use Rattle.csp_program.specs.Value.{Env, Meaning, Gathered, meaning, turn, front, values_of, items_added, fields_number, front_number, fronts_added, sets_of, over, walked, gathered, uses_within, def_value, value_within}
+use Rattle.csp_program.specs.Value.{Env, Meaning, Turn, Front, Gathered, meaning, turn, front, values_of, items_added, fields_number, front_number, fronts_added, sets_of, over, walked, gathered, uses_within, def_value, value_within}
 use Rattle.csp_atoms.specs.declared.atom.Atom.{Atom}
 use Rattle.csp_atoms.specs.declared.value.Value.{Value}
 use Rattle.csp_atoms.specs.declared.value.Value.TheVariants.{One}
@@ -12,6 +12,9 @@ use Rattle.csp_program.specs.declared.expressions.Expr.{Expr}
 use Rattle.csp_program.specs.declared.expressions.Gen.{Gen}
 use Rattle.csp_program.specs.declared.programs.Content.{Content}
 use Rattle.csp_program.specs.declared.programs.Def.{Def}
+use Rattle.value_operators.specs.declared.fault.EvalFault.{EvalFault}
+use Rattle.value_operators.specs.declared.fault.EvalFault.TheVariants as fault
+use Rattle.csp_values.specs.declared.tally.Tally.{Tally}
 
 -- an expression
 unfoldable pub worth : Content → ℕ → Env → Expr → Outcome Value
@@ -67,3 +70,12 @@ walk_worth p n gens items parts env state = walked (map (turn (uses_within p n) 
 -- the bindings of generators for each atom that the name x takes
 unfoldable pub each_worth : Content → ℕ → ℕ → List Atom → List Gen → List Expr → List EventPart → Env → Gathered → Outcome Gathered
 each_worth p n x atoms gens items parts env state = over atoms (λ a. walk_worth p n gens items parts ((x, One a) ∷ env)) state
+
+abbrev pub gathered_of : Tally → Gathered
+gathered_of tally = record { bindings = tally.bindings; atoms = tally.atoms }
+
+-- what a call that walks generators answers
+abbrev pub GivesTally : Result Tally EvalFault → Outcome Gathered → Type 0
+GivesTally (Ok tally) outcome = outcome ≡ Ok (gathered_of tally)
+GivesTally (Err fault.NoMemory) outcome = Unit {0}
+GivesTally (Err (fault.Value kind)) outcome = outcome ≡ Err kind

@@ -1,12 +1,8 @@
-//! What the value of an expression is put together from: operators on values, sets that grow, bound names and the numbers of events.
+//! The value of an expression of a program, or the first fault that its evaluation meets.
 #![tactic(auto)]
 
-pub mod fault;
-pub mod names;
-pub mod numbers;
-pub mod operators;
-pub mod sets;
-#[cfg(test)]
-mod tests;
+mod evaluation;
+mod tally;
 
-pub use fault::EvalFault;
+pub use evaluation::{eval, eval_set};
+pub use value_operators::EvalFault;

@@ -1,0 +1,138 @@
+-- Lists that are evaluated one element after another: what is left decides together with what has come so far.
+use Rattle.std.proofs.Common.{◌≡◌, ℕ, zero, suc, ◌+◌, ◌*◌, ◌<◌, List, [], ◌∷◌, ◌++◌, Some, None, Ok, Err, Bool, true, false, cond, length, drop, get_or, map, refl, ap, sym, ◌∙◌, arith, add-one, drop-cons, append_assoc, append-nil}
+use Rattle.std.specs.Prelude.{nat_eq, nat_lt, slice_get}
+use Rattle.csp_program.specs.Atoms.{added, all_added, events_from}
+use Rattle.csp_program.specs.EventNumber.{first_event, row_count}
+use Rattle.csp_program.specs.Outcome.{Outcome, and_then}
+use Rattle.csp_program.specs.Value.{Env, Gathered, atom_of, field_place, sets_of, truth_of, set_of}
+use Rattle.csp_atoms.specs.declared.atom.Atom.{Atom}
+use Rattle.csp_atoms.specs.declared.value.Value.{Value}
+use Rattle.csp_atoms.specs.declared.value.Value.TheVariants.{One, Many}
+use Rattle.csp_program.specs.declared.expressions.EventPart.{EventPart}
+use Rattle.csp_program.specs.declared.expressions.Expr.{Expr}
+use Rattle.csp_program.specs.declared.expressions.Gen.{Gen}
+use Rattle.csp_program.specs.declared.kinds.ValueKind.{ValueKind}
+use Rattle.csp_program.specs.declared.kinds.ValueKind.TheVariants.{OutsideChannel, SetLimit}
+use Rattle.csp_program.specs.declared.programs.Content.{Content}
+use Rattle.value_operators.specs.Forms.{each_of, scaled}
+use Rattle.csp_values.specs.Worth.{worth, worths, with_items, fields_worth, with_front, with_fronts, walk_worth, each_worth}
+use Rattle.csp_values.proofs.Equations.{worths-nil, worths-cons, with_items-nil, with_items-cons, fields-nil, fields-none, fields-cons, fronts-nil, fronts-cons, each-nil, each-cons}
+
+-- the list from an element on
+pub left_of : {A : Type 0} (xs : List A) (i : ℕ) (x : A) → i < length xs → x ≡ get_or xs i x → drop i xs ≡ x ∷ drop (i + 1) xs
+left_of xs i x lt is = rw (add-one i) (drop-cons xs i x lt ∙ ap (λ y. y ∷ drop (suc i) xs) (sym is))
+
+-- one step after another is one step
+chain : {A B C : Type 0} (o : Outcome A) (f : A → Outcome B) (g : B → Outcome C) → and_then o (λ a. and_then (f a) g) ≡ and_then (and_then o f) g
+chain (Ok a) f g = refl
+chain (Err k) f g = refl
+
+-- the values of expressions, after others
+unfoldable pub worths_after : Content → ℕ → Env → List Value → List Expr → Outcome (List Value)
+worths_after p n env done es = and_then (worths p n env es) (λ vs. Ok (done ++ vs))
+
+none_before : (o : Outcome (List Value)) → o ≡ and_then o (λ vs. Ok ([] ++ vs))
+none_before (Ok vs) = refl
+none_before (Err k) = refl
+
+pub worths_begin : (p : Content) (n : ℕ) (env : Env) (es : List Expr) → worths p n env es ≡ worths_after p n env [] es
+unfolding worths_after
+worths_begin p n env es = none_before (worths p n env es)
+
+pub worths_end : (p : Content) (n : ℕ) (env : Env) (done : List Value) → worths_after p n env done [] ≡ Ok done
+unfolding worths_after
+worths_end p n env done = ap (λ o. and_then o (λ vs. Ok (done ++ vs))) (worths-nil p n env) ∙ ap (λ vs. Ok vs) (append-nil done)
+
+one_before : (o : Outcome (List Value)) (done : List Value) (v : Value) → and_then (and_then o (λ vs. Ok (v ∷ vs))) (λ vs. Ok (done ++ vs)) ≡ and_then o (λ vs. Ok ((done ++ v ∷ []) ++ vs))
+one_before (Ok vs) done v = ap (λ all. Ok all) (sym (append_assoc done (v ∷ []) vs))
+one_before (Err k) done v = refl
+
+abbrev values_next : Content → ℕ → Env → List Value → List Expr → Outcome Value → Outcome (List Value)
+values_next p n env done es o = and_then (and_then o (λ v. and_then (worths p n env es) (λ vs. Ok (v ∷ vs)))) (λ vs. Ok (done ++ vs))
+
+worths_here : (p : Content) (n : ℕ) (env : Env) (done : List Value) (es : List Expr) (i : ℕ) (e : Expr) → i < length es → e ≡ get_or es i e
+    → worths_after p n env done (drop i es) ≡ values_next p n env done (drop (i + 1) es) (worth p n env e)
+unfolding worths_after
+worths_here p n env done es i e lt is =
+    ap (λ xs. and_then (worths p n env xs) (λ vs. Ok (done ++ vs))) (left_of es i e lt is) ∙
+    ap (λ o. and_then o (λ vs. Ok (done ++ vs))) (worths-cons p n env e (drop (i + 1) es))
+
+pub worths_fault : (whole : Outcome (List Value)) (p : Content) (n : ℕ) (env : Env) (done : List Value) (es : List Expr) (i : ℕ) (e : Expr) (k : ValueKind)
+    → whole ≡ worths_after p n env done (drop i es) → i < length es → e ≡ get_or es i e → worth p n env e ≡ Err k → whole ≡ Err k
+worths_fault whole p n env done es i e k w lt is bad = w ∙ (worths_here p n env done es i e lt is ∙ ap (values_next p n env done (drop (i + 1) es)) bad)
+
+pub worths_next : (whole : Outcome (List Value)) (p : Content) (n : ℕ) (env : Env) (done more : List Value) (es : List Expr) (i : ℕ) (e : Expr) (v : Value)
+    → whole ≡ worths_after p n env done (drop i es) → i < length es → e ≡ get_or es i e → worth p n env e ≡ Ok v → more ≡ done ++ v ∷ [] → whole ≡ worths_after p n env more (drop (i + 1) es)
+unfolding worths_after
+worths_next whole p n env done more es i e v w lt is good grown =
+    w ∙ (worths_here p n env done es i e lt is ∙ (ap (values_next p n env done (drop (i + 1) es)) good ∙
+    (one_before (worths p n env (drop (i + 1) es)) done v ∙ ap (λ d. and_then (worths p n env (drop (i + 1) es)) (λ vs. Ok (d ++ vs))) (sym grown))))
+
+-- items that are added one by one
+abbrev item_of : Value → List Atom → Outcome (List Atom)
+item_of v atoms = and_then (atom_of v) (λ a. added atoms a)
+
+abbrev items_next : Content → ℕ → Env → List Atom → List Expr → Outcome Value → Outcome (List Atom)
+items_next p n env atoms es o = and_then o (λ v. and_then (atom_of v) (λ a. and_then (added atoms a) (λ more. with_items p n env es more)))
+
+items_here : (p : Content) (n : ℕ) (env : Env) (atoms : List Atom) (es : List Expr) (i : ℕ) (e : Expr) → i < length es → e ≡ get_or es i e
+    → with_items p n env (drop i es) atoms ≡ items_next p n env atoms (drop (i + 1) es) (worth p n env e)
+items_here p n env atoms es i e lt is = ap (λ xs. with_items p n env xs atoms) (left_of es i e lt is) ∙ with_items-cons p n env e (drop (i + 1) es) atoms
+
+pub items_fault : (whole : Outcome (List Atom)) (p : Content) (n : ℕ) (env : Env) (atoms : List Atom) (es : List Expr) (i : ℕ) (e : Expr) (k : ValueKind)
+    → whole ≡ with_items p n env (drop i es) atoms → i < length es → e ≡ get_or es i e → worth p n env e ≡ Err k → whole ≡ Err k
+items_fault whole p n env atoms es i e k w lt is bad = w ∙ (items_here p n env atoms es i e lt is ∙ ap (items_next p n env atoms (drop (i + 1) es)) bad)
+
+items_then : (whole : Outcome (List Atom)) (p : Content) (n : ℕ) (env : Env) (atoms : List Atom) (es : List Expr) (i : ℕ) (e : Expr) (v : Value)
+    → whole ≡ with_items p n env (drop i es) atoms → i < length es → e ≡ get_or es i e → worth p n env e ≡ Ok v → whole ≡ and_then (item_of v atoms) (λ more. with_items p n env (drop (i + 1) es) more)
+items_then whole p n env atoms es i e v w lt is good =
+    w ∙ (items_here p n env atoms es i e lt is ∙ (ap (items_next p n env atoms (drop (i + 1) es)) good ∙
+    chain (atom_of v) (λ a. added atoms a) (λ more. with_items p n env (drop (i + 1) es) more)))
+
+pub items_refused : (whole : Outcome (List Atom)) (p : Content) (n : ℕ) (env : Env) (atoms : List Atom) (es : List Expr) (i : ℕ) (e : Expr) (v : Value) (k : ValueKind)
+    → whole ≡ with_items p n env (drop i es) atoms → i < length es → e ≡ get_or es i e → worth p n env e ≡ Ok v → item_of v atoms ≡ Err k → whole ≡ Err k
+items_refused whole p n env atoms es i e v k w lt is good bad =
+    items_then whole p n env atoms es i e v w lt is good ∙ ap (λ o. and_then o (λ more. with_items p n env (drop (i + 1) es) more)) bad
+
+pub items_taken : (whole : Outcome (List Atom)) (p : Content) (n : ℕ) (env : Env) (atoms more : List Atom) (es : List Expr) (i : ℕ) (e : Expr) (v : Value)
+    → whole ≡ with_items p n env (drop i es) atoms → i < length es → e ≡ get_or es i e → worth p n env e ≡ Ok v → item_of v atoms ≡ Ok more → whole ≡ with_items p n env (drop (i + 1) es) more
+items_taken whole p n env atoms more es i e v w lt is good taken =
+    items_then whole p n env atoms es i e v w lt is good ∙ ap (λ o. and_then o (λ all. with_items p n env (drop (i + 1) es) all)) taken
+
+-- fronts that are added one by one
+fronts_here : (p : Content) (n : ℕ) (env : Env) (atoms : List Atom) (ps : List EventPart) (i : ℕ) (part : EventPart) → i < length ps → part ≡ get_or ps i part
+    → with_fronts p n env (drop i ps) atoms ≡ and_then (with_front p n env part atoms) (λ more. with_fronts p n env (drop (i + 1) ps) more)
+fronts_here p n env atoms ps i part lt is = ap (λ xs. with_fronts p n env xs atoms) (left_of ps i part lt is) ∙ fronts-cons p n env part (drop (i + 1) ps) atoms
+
+pub fronts_fault : (whole : Outcome (List Atom)) (p : Content) (n : ℕ) (env : Env) (atoms : List Atom) (ps : List EventPart) (i : ℕ) (part : EventPart) (k : ValueKind)
+    → whole ≡ with_fronts p n env (drop i ps) atoms → i < length ps → part ≡ get_or ps i part → with_front p n env part atoms ≡ Err k → whole ≡ Err k
+fronts_fault whole p n env atoms ps i part k w lt is bad =
+    w ∙ (fronts_here p n env atoms ps i part lt is ∙ ap (λ o. and_then o (λ more. with_fronts p n env (drop (i + 1) ps) more)) bad)
+
+pub fronts_next : (whole : Outcome (List Atom)) (p : Content) (n : ℕ) (env : Env) (atoms more : List Atom) (ps : List EventPart) (i : ℕ) (part : EventPart)
+    → whole ≡ with_fronts p n env (drop i ps) atoms → i < length ps → part ≡ get_or ps i part → with_front p n env part atoms ≡ Ok more → whole ≡ with_fronts p n env (drop (i + 1) ps) more
+fronts_next whole p n env atoms more ps i part w lt is good =
+    w ∙ (fronts_here p n env atoms ps i part lt is ∙ ap (λ o. and_then o (λ all. with_fronts p n env (drop (i + 1) ps) all)) good)
+
+-- what a name takes, one after another
+abbrev each_next : Content → ℕ → ℕ → List Atom → List Gen → List Expr → List EventPart → Env → Outcome Gathered → Outcome Gathered
+each_next p n x atoms gens items parts env o = and_then o (λ next. each_worth p n x atoms gens items parts env next)
+
+each_here : (p : Content) (n x : ℕ) (atoms : List Atom) (gens : List Gen) (items : List Expr) (parts : List EventPart) (env : Env) (state : Gathered) (i : ℕ) (a d : Atom) → i < length atoms → a ≡ get_or atoms i d
+    → each_worth p n x (drop i atoms) gens items parts env state ≡ each_next p n x (drop (i + 1) atoms) gens items parts env (walk_worth p n gens items parts ((x, One a) ∷ env) state)
+each_here p n x atoms gens items parts env state i a d lt is =
+    let left : drop i atoms ≡ a ∷ drop (i + 1) atoms = rw (add-one i) (drop-cons atoms i d lt ∙ ap (λ y. y ∷ drop (suc i) atoms) (sym is)) in
+    ap (λ xs. each_worth p n x xs gens items parts env state) left ∙ each-cons p n x a (drop (i + 1) atoms) gens items parts env state
+
+pub each_fault : (whole : Outcome Gathered) (p : Content) (n x : ℕ) (atoms : List Atom) (gens : List Gen) (items : List Expr) (parts : List EventPart) (env inner : Env) (state : Gathered) (i : ℕ) (a d : Atom) (k : ValueKind)
+    → whole ≡ each_worth p n x (drop i atoms) gens items parts env state → i < length atoms → a ≡ get_or atoms i d → inner ≡ (x, One a) ∷ env → walk_worth p n gens items parts inner state ≡ Err k → whole ≡ Err k
+each_fault whole p n x atoms gens items parts env inner state i a d k w lt is named bad =
+    w ∙ (each_here p n x atoms gens items parts env state i a d lt is ∙
+    ap (each_next p n x (drop (i + 1) atoms) gens items parts env) (ap (λ e. walk_worth p n gens items parts e state) (sym named) ∙ bad))
+
+pub each_step : (whole : Outcome Gathered) (p : Content) (n x : ℕ) (atoms : List Atom) (gens : List Gen) (items : List Expr) (parts : List EventPart) (env inner : Env) (state next : Gathered) (i : ℕ) (a d : Atom)
+    → whole ≡ each_worth p n x (drop i atoms) gens items parts env state → i < length atoms → a ≡ get_or atoms i d → inner ≡ (x, One a) ∷ env → walk_worth p n gens items parts inner state ≡ Ok next
+    → whole ≡ each_worth p n x (drop (i + 1) atoms) gens items parts env next
+each_step whole p n x atoms gens items parts env inner state next i a d w lt is named good =
+    w ∙ (each_here p n x atoms gens items parts env state i a d lt is ∙
+    ap (each_next p n x (drop (i + 1) atoms) gens items parts env) (ap (λ e. walk_worth p n gens items parts e state) (sym named) ∙ good))

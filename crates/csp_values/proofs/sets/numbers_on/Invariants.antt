@@ -1,7 +1,0 @@
-use Rattle.std.proofs.Common.{◌≡◌}
-use Rattle.csp_program.specs.Atoms.{numbers_from}
-use Rattle.csp_values.proofs.sets.numbers_on.Given as goal
-
--- the numbers so far
-abbrev pub invariant-loop-place : goal.invariant-loop-place
-invariant-loop-place l = l.atoms ≡ numbers_from l.first l.place

@@ -1,0 +1,532 @@
+//! Evaluation, from the left.
+
+ghost use Rattle.std.specs.Prelude.{◌≡◌, [], ◌∷◌, Ok};
+ghost use Rattle.csp_program.specs.Outcome.{and_then};
+ghost use Rattle.csp_program.specs.Value.{value_of, set_of};
+ghost use Rattle.csp_program.specs.Value as meant;
+ghost use Rattle.value_operators.specs.Env.{env_in};
+ghost use Rattle.value_operators.specs.Gives.{Gives};
+ghost use Rattle.value_operators.specs.Forms as form;
+ghost use Rattle.csp_values.specs.Worth.{worth, worths, use_worth, body_worth, with_items, fields_worth, front_worth, with_front, with_fronts, one_more_binding, walk_worth, each_worth, gathered_of, GivesTally};
+
+use crate::tally::Tally;
+use containers::Items;
+use csp_atoms::{Atom, AtomSet, Value};
+use csp_program::{BinOp, Body, Content, Def, EventPart, Expr, Gen, Program, SetOp, ValueKind};
+use std::alloc::Global;
+use value_operators::EvalFault;
+use value_operators::names::{Names, named, with_name};
+use value_operators::numbers::{count_with, each_of, event_at, field_sets, place_in, with_field};
+use value_operators::operators::{applied, decided, inverted, negated, to_number, to_set, to_truth};
+use value_operators::sets::{combined, constants, numbered, numbers, with_events, with_item};
+
+/// The greatest number of bindings of a list of generators.
+const MOST_BINDINGS: u32 = 1_048_576;
+
+const KIND: EvalFault = EvalFault::Value {
+    kind: ValueKind::Kind,
+};
+
+const OUTSIDE: EvalFault = EvalFault::Value {
+    kind: ValueKind::OutsideChannel,
+};
+
+const SET_LIMIT: EvalFault = EvalFault::Value {
+    kind: ValueKind::SetLimit,
+};
+
+/// What evaluation goes by.
+#[derive(Drop)]
+struct Scope<'a> {
+    /// Where memory comes from.
+    alloc: Global,
+    /// The program.
+    content: &'a Content,
+    /// How many uses of definitions may still be entered, one inside another.
+    uses: usize,
+}
+
+/// What each binding of a list of generators adds to a set.
+#[derive(Drop)]
+struct Yield<'a> {
+    /// The values of these.
+    items: &'a [Expr],
+    /// The events that begin with these.
+    parts: &'a [EventPart],
+}
+
+/// The value of an expression of a program. A fault of kind `Value` comes exactly where it has none, with the kind of the first fault from the left.
+pub fn eval(alloc: Global, program: &Program, expr: &Expr) -> Result<Value, EvalFault>
+    ensures { Gives result (value_of program.now expr.now) }
+{
+    let content = program.content();
+    let scope = Scope {
+        alloc,
+        content,
+        uses: content.defs.len(),
+    };
+    let names = Names {
+        params: &[],
+        args: &[],
+        bound: &[],
+    };
+    eval_expr(&scope, &names, expr)
+}
+
+/// The set that an expression of a program is worth. Faults are those of `eval`; a value that is no set has the kind `Kind`.
+pub fn eval_set(alloc: Global, program: &Program, expr: &Expr) -> Result<AtomSet, EvalFault>
+    ensures { Gives result (and_then (value_of program.now expr.now) (λ v. set_of v)) }
+{
+    let value = eval(alloc, program, expr)?;
+    to_set(value)
+}
+
+/// The value of an expression.
+#[cycle(eval)]
+fn eval_expr(scope: &Scope<'_>, names: &Names<'_>, expr: &Expr) -> Result<Value, EvalFault>
+    ensures { Gives result (worth scope.now.content.now scope.now.uses (env_in names.now) expr.now) }
+{
+    match expr {
+        Expr::Num(number) => Ok(Value::One(Atom::Num(*number))),
+        Expr::Truth(truth) => Ok(Value::One(Atom::Truth(*truth))),
+        Expr::Const(number) => Ok(Value::One(Atom::Const(*number))),
+        Expr::Bound(slot) => named(scope.alloc, names, *slot),
+        Expr::Lit(value) => Ok(value.try_clone(scope.alloc)?),
+        Expr::Neg(a) => eval_negative(scope, names, a.get()),
+        Expr::Not(a) => eval_not(scope, names, a.get()),
+        Expr::Binary(op, a, b) => eval_binary(scope, names, *op, a.get(), b.get()),
+        Expr::If(c, a, b) => eval_if(scope, names, c.get(), a.get(), b.get()),
+        Expr::Call(def, args) => eval_call(scope, names, *def, args.as_slice()),
+        Expr::SetName(def) => eval_set_name(scope, *def),
+        Expr::Event(channel, fields) => eval_event(scope, names, *channel, fields.as_slice()),
+        Expr::Display(items) => eval_display(scope, names, items.as_slice()),
+        Expr::Range(a, b) => eval_range(scope, names, a.get(), b.get()),
+        Expr::Comp(items, gens) => eval_comprehension(scope, names, items.as_slice(), &[], gens.as_slice()),
+        Expr::Product(parts, gens) => eval_comprehension(scope, names, &[], parts.as_slice(), gens.as_slice()),
+        Expr::SetOp(op, a, b) => eval_set_op(scope, names, *op, a.get(), b.get()),
+    }
+}
+
+/// The value of `-a`.
+#[cycle(eval)]
+fn eval_negative(scope: &Scope<'_>, names: &Names<'_>, a: &Expr) -> Result<Value, EvalFault>
+    ensures { Gives result (form.negative (worth scope.now.content.now scope.now.uses (env_in names.now) a.now)) }
+{
+    let value = eval_expr(scope, names, a)?;
+    negated(&value)
+}
+
+/// The value of `not a`.
+#[cycle(eval)]
+fn eval_not(scope: &Scope<'_>, names: &Names<'_>, a: &Expr) -> Result<Value, EvalFault>
+    ensures { Gives result (form.inverse (worth scope.now.content.now scope.now.uses (env_in names.now) a.now)) }
+{
+    let value = eval_expr(scope, names, a)?;
+    inverted(&value)
+}
+
+/// The value of an operator between two operands.
+#[cycle(eval)]
+fn eval_binary(
+    scope: &Scope<'_>,
+    names: &Names<'_>,
+    op: BinOp,
+    a: &Expr,
+    b: &Expr,
+) -> Result<Value, EvalFault>
+    ensures { Gives result (form.operation op (worth scope.now.content.now scope.now.uses (env_in names.now) a.now) (worth scope.now.content.now scope.now.uses (env_in names.now) b.now)) }
+{
+    let first = eval_expr(scope, names, a)?;
+    if let Some(value) = decided(op, &first)? {
+        return Ok(value);
+    }
+    let second = eval_expr(scope, names, b)?;
+    applied(op, &first, &second)
+}
+
+/// The value of `if c then a else b`.
+#[cycle(eval)]
+fn eval_if(
+    scope: &Scope<'_>,
+    names: &Names<'_>,
+    c: &Expr,
+    a: &Expr,
+    b: &Expr,
+) -> Result<Value, EvalFault>
+    ensures { Gives result (form.choice (worth scope.now.content.now scope.now.uses (env_in names.now) c.now) (worth scope.now.content.now scope.now.uses (env_in names.now) a.now) (worth scope.now.content.now scope.now.uses (env_in names.now) b.now)) }
+{
+    let condition = eval_expr(scope, names, c)?;
+    let holds = to_truth(&condition)?;
+    if holds {
+        eval_expr(scope, names, a)
+    } else {
+        eval_expr(scope, names, b)
+    }
+}
+
+/// The value of a use of the definition with the number `def`, with these arguments.
+#[cycle(eval)]
+fn eval_call(
+    scope: &Scope<'_>,
+    names: &Names<'_>,
+    def: u32,
+    args: &[Expr],
+) -> Result<Value, EvalFault>
+    ensures { Gives result (and_then (worths scope.now.content.now scope.now.uses (env_in names.now) args.now) (λ vs. use_worth scope.now.content.now scope.now.uses def vs)) }
+{
+    let args = eval_all(scope, names, args)?;
+    eval_use(scope, def, args.as_slice())
+}
+
+/// The set that the definition with the number `def` names.
+#[cycle(eval)]
+fn eval_set_name(scope: &Scope<'_>, def: u32) -> Result<Value, EvalFault>
+    ensures { Gives result (form.as_set (use_worth scope.now.content.now scope.now.uses def [])) }
+{
+    let value = eval_use(scope, def, &[])?;
+    let atoms = to_set(value)?;
+    Ok(Value::Many(atoms))
+}
+
+/// An event.
+#[cycle(eval)]
+fn eval_event(
+    scope: &Scope<'_>,
+    names: &Names<'_>,
+    channel: u32,
+    fields: &[Expr],
+) -> Result<Value, EvalFault>
+    ensures { Gives result (form.an_event (front_worth scope.now.content.now scope.now.uses (env_in names.now) channel fields.now)) }
+{
+    let number = eval_front(scope, names, channel, fields)?;
+    let event = numbered(number)?;
+    Ok(Value::One(event))
+}
+
+/// The set of the values of items.
+#[cycle(eval)]
+fn eval_display(
+    scope: &Scope<'_>,
+    names: &Names<'_>,
+    items: &[Expr],
+) -> Result<Value, EvalFault>
+    ensures { Gives result (form.a_set (with_items scope.now.content.now scope.now.uses (env_in names.now) items.now [])) }
+{
+    let atoms = add_items(scope, names, items, AtomSet::new(scope.alloc))?;
+    Ok(Value::Many(atoms))
+}
+
+/// The set of the numbers from `a` to `b`.
+#[cycle(eval)]
+fn eval_range(
+    scope: &Scope<'_>,
+    names: &Names<'_>,
+    a: &Expr,
+    b: &Expr,
+) -> Result<Value, EvalFault>
+    ensures { Gives result (form.a_range (worth scope.now.content.now scope.now.uses (env_in names.now) a.now) (worth scope.now.content.now scope.now.uses (env_in names.now) b.now)) }
+{
+    let first = eval_expr(scope, names, a)?;
+    let first = to_number(&first)?;
+    let last = eval_expr(scope, names, b)?;
+    let last = to_number(&last)?;
+    let atoms = numbers(scope.alloc, first, last)?;
+    Ok(Value::Many(atoms))
+}
+
+/// The value of an operator between two sets.
+#[cycle(eval)]
+fn eval_set_op(
+    scope: &Scope<'_>,
+    names: &Names<'_>,
+    op: SetOp,
+    a: &Expr,
+    b: &Expr,
+) -> Result<Value, EvalFault>
+    ensures { Gives result (form.set_operation op (worth scope.now.content.now scope.now.uses (env_in names.now) a.now) (worth scope.now.content.now scope.now.uses (env_in names.now) b.now)) }
+{
+    let first = eval_expr(scope, names, a)?;
+    let left = to_set(first)?;
+    let second = eval_expr(scope, names, b)?;
+    let right = to_set(second)?;
+    let atoms = combined(scope.alloc, op, &left, &right)?;
+    Ok(Value::Many(atoms))
+}
+
+/// The set of what all bindings add.
+#[cycle(eval)]
+fn eval_comprehension(
+    scope: &Scope<'_>,
+    names: &Names<'_>,
+    items: &[Expr],
+    parts: &[EventPart],
+    gens: &[Gen],
+) -> Result<Value, EvalFault>
+    ensures { Gives result (form.gathered_set (walk_worth scope.now.content.now scope.now.uses gens.now items.now parts.now (env_in names.now) form.nothing_yet)) }
+{
+    let start = Tally {
+        bindings: 0,
+        atoms: AtomSet::new(scope.alloc),
+    };
+    let yields = Yield { items, parts };
+    let Tally { bindings: _, atoms } = walk(scope, names, gens, &yields, start)?;
+    Ok(Value::Many(atoms))
+}
+
+/// The values of expressions, from the left.
+#[cycle(eval)]
+fn eval_all(
+    scope: &Scope<'_>,
+    names: &Names<'_>,
+    exprs: &[Expr],
+) -> Result<Items<Value>, EvalFault>
+    ensures { Gives result (worths scope.now.content.now scope.now.uses (env_in names.now) exprs.now) }
+{
+    let mut values = Items::new(scope.alloc);
+    for expr in exprs {
+        let value = eval_expr(scope, names, expr)?;
+        values.push(value)?;
+    }
+    Ok(values)
+}
+
+/// The value of a use of the definition with the number `def`.
+#[cycle(eval)]
+fn eval_use(scope: &Scope<'_>, def: u32, args: &[Value]) -> Result<Value, EvalFault>
+    ensures { Gives result (use_worth scope.now.content.now scope.now.uses def args.now) }
+{
+    if scope.uses == 0 {
+        return Err(KIND);
+    }
+    let inner = Scope {
+        alloc: scope.alloc,
+        content: scope.content,
+        uses: scope.uses - 1,
+    };
+    match scope.content.defs.get(def as usize) {
+        Some(def) => eval_body(&inner, def, args),
+        None => Err(KIND),
+    }
+}
+
+/// The value of the body of a definition.
+#[cycle(eval)]
+fn eval_body(scope: &Scope<'_>, def: &Def, args: &[Value]) -> Result<Value, EvalFault>
+    ensures { Gives result (body_worth scope.now.content.now scope.now.uses def.now args.now) }
+{
+    match &def.body {
+        Body::Datum(expr) => {
+            let names = Names {
+                params: def.params.as_slice(),
+                args,
+                bound: &[],
+            };
+            eval_expr(scope, &names, expr)
+        }
+        Body::Nametype(expr) => {
+            let names = Names {
+                params: &[],
+                args: &[],
+                bound: &[],
+            };
+            eval_expr(scope, &names, expr)
+        }
+        Body::Datatype(numbers) => {
+            let atoms = constants(scope.alloc, numbers.as_slice())?;
+            Ok(Value::Many(atoms))
+        }
+        Body::Process(_) => Err(KIND),
+        Body::Network(_) => Err(KIND),
+    }
+}
+
+/// A set with the values of items in it.
+#[cycle(eval)]
+fn add_items(
+    scope: &Scope<'_>,
+    names: &Names<'_>,
+    items: &[Expr],
+    atoms: AtomSet,
+) -> Result<AtomSet, EvalFault>
+    ensures { Gives result (with_items scope.now.content.now scope.now.uses (env_in names.now) items.now atoms) }
+{
+    let mut atoms = atoms;
+    for item in items {
+        let value = eval_expr(scope, names, item)?;
+        atoms = with_item(atoms, &value)?;
+    }
+    Ok(atoms)
+}
+
+/// The number of fields among all choices of values of these sets, each counted `each` times.
+#[cycle(eval)]
+fn eval_fields(
+    scope: &Scope<'_>,
+    names: &Names<'_>,
+    fields: &[Expr],
+    sets: &[AtomSet],
+    each: u64,
+) -> Result<u64, EvalFault>
+    ensures { Gives result (form.scaled (fields_worth scope.now.content.now scope.now.uses (env_in names.now) fields.now sets.now 0) each) }
+{
+    let mut number = 0;
+    let mut rest = sets;
+    for field in fields {
+        let Some((set, others)) = rest.split_first() else {
+            return Err(OUTSIDE);
+        };
+        let value = eval_expr(scope, names, field)?;
+        let place = place_in(set, &value)?;
+        number = with_field(number, set, place, each)?;
+        rest = others;
+    }
+    Ok(number)
+}
+
+/// The number of the first event of a channel that begins with these fields.
+#[cycle(eval)]
+fn eval_front(
+    scope: &Scope<'_>,
+    names: &Names<'_>,
+    channel: u32,
+    fields: &[Expr],
+) -> Result<u64, EvalFault>
+    ensures { Gives result (front_worth scope.now.content.now scope.now.uses (env_in names.now) channel fields.now) }
+{
+    let channels = scope.content.channels.as_slice();
+    match field_sets(channels, channel) {
+        Some(sets) => {
+            let each = each_of(sets, fields.len())?;
+            let place = eval_fields(scope, names, fields, sets, each)?;
+            event_at(channels, channel, place)
+        }
+        None => Err(KIND),
+    }
+}
+
+/// A set with the events of fronts in it.
+#[cycle(eval)]
+fn add_fronts(
+    scope: &Scope<'_>,
+    names: &Names<'_>,
+    parts: &[EventPart],
+    atoms: AtomSet,
+) -> Result<AtomSet, EvalFault>
+    ensures { Gives result (with_fronts scope.now.content.now scope.now.uses (env_in names.now) parts.now atoms) }
+{
+    let mut atoms = atoms;
+    for part in parts {
+        atoms = add_front(scope, names, part, atoms)?;
+    }
+    Ok(atoms)
+}
+
+/// A set with the events of a front in it.
+#[cycle(eval)]
+fn add_front(
+    scope: &Scope<'_>,
+    names: &Names<'_>,
+    part: &EventPart,
+    atoms: AtomSet,
+) -> Result<AtomSet, EvalFault>
+    ensures { Gives result (with_front scope.now.content.now scope.now.uses (env_in names.now) part.now atoms) }
+{
+    let first = eval_front(scope, names, part.channel, part.fields.as_slice())?;
+    let count = count_with(scope.content.channels.as_slice(), part.channel, part.fields.len())?;
+    with_events(atoms, first, count)
+}
+
+/// One more binding, and what it adds.
+#[cycle(eval)]
+fn gather(
+    scope: &Scope<'_>,
+    names: &Names<'_>,
+    yields: &Yield<'_>,
+    tally: Tally,
+) -> Result<Tally, EvalFault>
+    ensures { GivesTally result (one_more_binding scope.now.content.now scope.now.uses yields.now.items.now yields.now.parts.now (env_in names.now) (gathered_of tally)) }
+{
+    let Tally { bindings, atoms } = tally;
+    if bindings >= MOST_BINDINGS {
+        return Err(SET_LIMIT);
+    }
+    let atoms = add_items(scope, names, yields.items, atoms)?;
+    let atoms = add_fronts(scope, names, yields.parts, atoms)?;
+    Ok(Tally {
+        bindings: bindings + 1,
+        atoms,
+    })
+}
+
+/// The bindings of generators, walked in nested loops.
+#[cycle(eval)]
+fn walk(
+    scope: &Scope<'_>,
+    names: &Names<'_>,
+    gens: &[Gen],
+    yields: &Yield<'_>,
+    tally: Tally,
+) -> Result<Tally, EvalFault>
+    ensures { GivesTally result (walk_worth scope.now.content.now scope.now.uses gens.now yields.now.items.now yields.now.parts.now (env_in names.now) (gathered_of tally)) }
+{
+    match gens.split_first() {
+        Some((first, rest)) => walk_first(scope, names, first, rest, yields, tally),
+        None => gather(scope, names, yields, tally),
+    }
+}
+
+/// The bindings of a generator, and under each of them those of the others.
+#[cycle(eval)]
+fn walk_first(
+    scope: &Scope<'_>,
+    names: &Names<'_>,
+    first: &Gen,
+    rest: &[Gen],
+    yields: &Yield<'_>,
+    tally: Tally,
+) -> Result<Tally, EvalFault>
+    ensures { GivesTally result (walk_worth scope.now.content.now scope.now.uses (first.now ∷ rest.now) yields.now.items.now yields.now.parts.now (env_in names.now) (gathered_of tally)) }
+{
+    match first {
+        Gen::From(slot, set) => {
+            let value = eval_expr(scope, names, set)?;
+            let atoms = to_set(value)?;
+            walk_each(scope, names, *slot, atoms.as_slice(), rest, yields, tally)
+        }
+        Gen::Cond(condition) => {
+            let value = eval_expr(scope, names, condition)?;
+            let holds = to_truth(&value)?;
+            if holds {
+                walk(scope, names, rest, yields, tally)
+            } else {
+                Ok(tally)
+            }
+        }
+    }
+}
+
+/// The bindings of generators for each atom that a name takes, in rising order.
+#[cycle(eval)]
+fn walk_each(
+    scope: &Scope<'_>,
+    names: &Names<'_>,
+    slot: u32,
+    atoms: &[Atom],
+    rest: &[Gen],
+    yields: &Yield<'_>,
+    tally: Tally,
+) -> Result<Tally, EvalFault>
+    ensures { GivesTally result (each_worth scope.now.content.now scope.now.uses slot atoms.now rest.now yields.now.items.now yields.now.parts.now (env_in names.now) (gathered_of tally)) }
+{
+    let mut tally = tally;
+    for atom in atoms {
+        let bound = with_name(scope.alloc, names.bound, slot, *atom)?;
+        let inner = Names {
+            params: names.params,
+            args: names.args,
+            bound: bound.as_slice(),
+        };
+        tally = walk(scope, &inner, rest, yields, tally)?;
+    }
+    Ok(tally)
+}

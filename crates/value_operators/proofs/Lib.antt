@@ -1,0 +1,4 @@
+pub mod EventSteps
+pub mod Faults
+pub mod NameLaws
+pub mod SetSteps

@@ -1,0 +1,10 @@
+use Rattle.std.proofs.Common.{◌≡◌, length}
+use Rattle.csp_program.specs.Value.{bound_value, bound_to}
+use Rattle.value_operators.proofs.names.argument.Given as goal
+
+-- the name stands for what it stands for among those that are left
+abbrev pub invariant-loop-param : goal.invariant-loop-param
+invariant-loop-param l = bound_value (bound_to l.fn.params l.fn.args) l.slot ≡ bound_value (bound_to l.params l.args) l.slot
+
+abbrev pub decreases-loop-param : goal.decreases-loop-param
+decreases-loop-param l = length l.params

@@ -1,0 +1,7 @@
+use Rattle.std.proofs.Common.{◌≡◌}
+use Rattle.csp_program.specs.Atoms.{numbers_from}
+use Rattle.value_operators.proofs.sets.numbers_on.Given as goal
+
+-- the numbers so far
+abbrev pub invariant-loop-place : goal.invariant-loop-place
+invariant-loop-place l = l.atoms ≡ numbers_from l.first l.place

@@ -1,0 +1,4 @@
+pub mod Env
+pub mod Forms
+pub mod Gives
+pub mod Operands

@@ -1,0 +1,12 @@
+//! What the value of an expression is put together from: operators on values, sets that grow, bound names and the numbers of events.
+#![tactic(auto)]
+
+pub mod fault;
+pub mod names;
+pub mod numbers;
+pub mod operators;
+pub mod sets;
+#[cfg(test)]
+mod tests;
+
+pub use fault::EvalFault;

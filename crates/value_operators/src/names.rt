@@ -1,0 +1,73 @@
+//! The values of bound names.
+
+ghost use Rattle.std.specs.Prelude.{◌≡◌, ◌∷◌, ◌++◌, [], IfOk};
+ghost use Rattle.csp_program.specs.Value.{bound_value, bound_to};
+ghost use Rattle.value_operators.specs.Env.{env_in};
+ghost use Rattle.value_operators.specs.Gives.{Gives};
+
+use crate::fault::EvalFault;
+use csp_atoms::{Atom, Value};
+use csp_program::ValueKind;
+use std::alloc::{AllocError, Global};
+
+const KIND: EvalFault = EvalFault::Value {
+    kind: ValueKind::Kind,
+};
+
+/// The names that an expression may read.
+#[derive(Drop)]
+pub struct Names<'a> {
+    /// The parameters of the definition that the expression stands in.
+    pub params: &'a [u32],
+    /// The values of its arguments.
+    pub args: &'a [Value],
+    /// The names that generators bind, the last one bound at the end.
+    pub bound: &'a [(u32, Atom)],
+}
+
+/// The value of a parameter.
+fn argument(alloc: Global, params: &[u32], args: &[Value], slot: u32) -> Result<Value, EvalFault>
+    ensures { Gives result (bound_value (bound_to params.now args.now) slot) }
+{
+    let mut params = params;
+    let mut args = args;
+    while let Some((param, other_params)) = params.split_first() {
+        let Some((arg, other_args)) = args.split_first() else {
+            return Err(KIND);
+        };
+        if *param == slot {
+            return Ok(arg.try_clone(alloc)?);
+        }
+        params = other_params;
+        args = other_args;
+    }
+    Err(KIND)
+}
+
+/// The value of the name with the number `slot`.
+pub fn named(alloc: Global, names: &Names<'_>, slot: u32) -> Result<Value, EvalFault>
+    ensures { Gives result (bound_value (env_in names.now) slot) }
+{
+    let mut rest = names.bound;
+    while let Some((last, front)) = rest.split_last() {
+        if last.0 == slot {
+            return Ok(Value::One(last.1));
+        }
+        rest = front;
+    }
+    argument(alloc, names.params, names.args, slot)
+}
+
+/// The names of generators with one more.
+pub fn with_name(
+    alloc: Global,
+    bound: &[(u32, Atom)],
+    slot: u32,
+    atom: Atom,
+) -> Result<Vec<(u32, Atom)>, AllocError>
+    ensures { IfOk result (λ more. more.items ≡ bound.now ++ (slot, atom) ∷ []) }
+{
+    let mut more = Vec::from_slice(alloc, bound)?;
+    more.push((slot, atom))?;
+    Ok(more)
+}

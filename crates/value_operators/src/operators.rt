@@ -1,0 +1,298 @@
+//! Operators on values.
+
+ghost use Rattle.std.specs.Prelude.{◌≡◌, Ok, None, not, pos, neg_ℤ, ◌+ℤ◌, ◌-ℤ◌, ◌*ℤ◌};
+ghost use Rattle.csp_atoms.specs.Order.{same};
+ghost use Rattle.csp_program.specs.Outcome.{and_then};
+ghost use Rattle.csp_program.specs.Value.{atom_of, number_of, truth_of, set_of, truth, in_range, binary, divided, quotient, remainder};
+ghost use Rattle.csp_program.specs.Value as meant;
+ghost use Rattle.value_operators.specs.Gives.{Gives};
+ghost use Rattle.value_operators.specs.Operands.{first_half, on_two_numbers, decided_by};
+
+use crate::fault::EvalFault;
+use csp_atoms::{Atom, AtomSet, Value, atom};
+use csp_program::{BinOp, ValueKind};
+
+/// The greatest number that arithmetic may come to; the least is its negative.
+const GREATEST: i64 = 1_000_000;
+
+const KIND: EvalFault = EvalFault::Value {
+    kind: ValueKind::Kind,
+};
+
+const RANGE: EvalFault = EvalFault::Value {
+    kind: ValueKind::Range,
+};
+
+const DIVISION: EvalFault = EvalFault::Value {
+    kind: ValueKind::Division,
+};
+
+/// The atom that a value is.
+pub fn to_atom(value: &Value) -> Result<Atom, EvalFault>
+    ensures { Gives result (atom_of value.now) }
+{
+    match value {
+        Value::One(atom) => Ok(*atom),
+        Value::Many(_) => Err(KIND),
+    }
+}
+
+/// The number that a value is.
+pub fn to_number(value: &Value) -> Result<i64, EvalFault>
+    ensures { Gives result (number_of value.now) }
+{
+    match value {
+        Value::One(Atom::Num(number)) => Ok(*number),
+        _ => Err(KIND),
+    }
+}
+
+/// The truth value that a value is.
+pub fn to_truth(value: &Value) -> Result<bool, EvalFault>
+    ensures { Gives result (truth_of value.now) }
+{
+    match value {
+        Value::One(Atom::Truth(truth)) => Ok(*truth),
+        _ => Err(KIND),
+    }
+}
+
+/// The set that a value is.
+pub fn to_set(value: Value) -> Result<AtomSet, EvalFault>
+    ensures { Gives result (set_of value) }
+{
+    match value {
+        Value::One(_) => Err(KIND),
+        Value::Many(atoms) => Ok(atoms),
+    }
+}
+
+/// The number, unless it is out of range.
+fn ranged(number: i64) -> Result<Value, EvalFault>
+    ensures { Gives result (in_range number) }
+{
+    if -GREATEST <= number && number <= GREATEST {
+        Ok(Value::One(Atom::Num(number)))
+    } else {
+        Err(RANGE)
+    }
+}
+
+/// The negative of a number.
+pub fn negated(value: &Value) -> Result<Value, EvalFault>
+    ensures { Gives result (and_then (number_of value.now) (λ n. in_range (neg_ℤ n))) }
+{
+    let number = to_number(value)?;
+    match number.checked_neg() {
+        Some(negative) => ranged(negative),
+        None => Err(RANGE),
+    }
+}
+
+/// The other truth value.
+pub fn inverted(value: &Value) -> Result<Value, EvalFault>
+    ensures { Gives result (and_then (truth_of value.now) (λ b. Ok (truth (not b)))) }
+{
+    let truth = to_truth(value)?;
+    Ok(Value::One(Atom::Truth(!truth)))
+}
+
+/// The value of the whole, where the truth value that is its first operand decides it.
+fn decided_by_truth(decides: bool, first: &Value) -> Result<Option<Value>, EvalFault>
+    ensures { Gives result (and_then (truth_of first.now) (λ b. Ok (decided_by decides b))) }
+{
+    let truth = to_truth(first)?;
+    if truth == decides {
+        return Ok(Some(Value::One(Atom::Truth(truth))));
+    }
+    Ok(None)
+}
+
+/// A first operand that has to be an atom decides nothing.
+fn undecided_atom(first: &Value) -> Result<Option<Value>, EvalFault>
+    ensures { Gives result (and_then (atom_of first.now) (λ a. Ok None)) }
+{
+    to_atom(first)?;
+    Ok(None)
+}
+
+/// A first operand that has to be a number decides nothing.
+fn undecided_number(first: &Value) -> Result<Option<Value>, EvalFault>
+    ensures { Gives result (and_then (number_of first.now) (λ a. Ok None)) }
+{
+    to_number(first)?;
+    Ok(None)
+}
+
+/// The value of the whole, where its first operand decides it.
+pub fn decided(op: BinOp, first: &Value) -> Result<Option<Value>, EvalFault>
+    ensures { Gives result (first_half op first.now) }
+{
+    match op {
+        BinOp::Or => decided_by_truth(true, first),
+        BinOp::And => decided_by_truth(false, first),
+        BinOp::Eq => undecided_atom(first),
+        BinOp::Ne => undecided_atom(first),
+        BinOp::Lt => undecided_number(first),
+        BinOp::Le => undecided_number(first),
+        BinOp::Gt => undecided_number(first),
+        BinOp::Ge => undecided_number(first),
+        BinOp::Add => undecided_number(first),
+        BinOp::Sub => undecided_number(first),
+        BinOp::Mul => undecided_number(first),
+        BinOp::Div => undecided_number(first),
+        BinOp::Rem => undecided_number(first),
+    }
+}
+
+/// The sum, unless it is out of range.
+fn sum(left: i64, right: i64) -> Result<Value, EvalFault>
+    ensures { Gives result (in_range (left +ℤ right)) }
+{
+    match left.checked_add(right) {
+        Some(number) => ranged(number),
+        None => Err(RANGE),
+    }
+}
+
+/// The difference, unless it is out of range.
+fn difference(left: i64, right: i64) -> Result<Value, EvalFault>
+    ensures { Gives result (in_range (left -ℤ right)) }
+{
+    match left.checked_sub(right) {
+        Some(number) => ranged(number),
+        None => Err(RANGE),
+    }
+}
+
+/// The product, unless it is out of range.
+fn product(left: i64, right: i64) -> Result<Value, EvalFault>
+    ensures { Gives result (in_range (left *ℤ right)) }
+{
+    match left.checked_mul(right) {
+        Some(number) => ranged(number),
+        None => Err(RANGE),
+    }
+}
+
+/// The quotient rounded towards the lower number, for a divisor of at least 1.
+fn quotient_of(left: i64, right: i64) -> Result<Value, EvalFault>
+    ensures { Gives result (divided quotient left right) }
+{
+    if right < 1 {
+        return Err(DIVISION);
+    }
+    Ok(Value::One(Atom::Num(left.div_euclid(right))))
+}
+
+/// The remainder, from 0 on, for a divisor of at least 1.
+fn remainder_of(left: i64, right: i64) -> Result<Value, EvalFault>
+    ensures { Gives result (divided remainder left right) }
+{
+    if right < 1 {
+        return Err(DIVISION);
+    }
+    Ok(Value::One(Atom::Num(left.rem_euclid(right))))
+}
+
+/// A truth value.
+fn truth_value(truth: bool) -> Result<Value, EvalFault>
+    ensures { Gives result (Ok (meant.truth truth)) }
+{
+    Ok(Value::One(Atom::Truth(truth)))
+}
+
+/// What an operator on two numbers gives.
+fn on_numbers(op: BinOp, left: i64, right: i64) -> Result<Value, EvalFault>
+    ensures { Gives result (on_two_numbers op left right) }
+{
+    match op {
+        BinOp::Or => Err(KIND),
+        BinOp::And => Err(KIND),
+        BinOp::Eq => Err(KIND),
+        BinOp::Ne => Err(KIND),
+        BinOp::Lt => truth_value(left < right),
+        BinOp::Le => truth_value(left <= right),
+        BinOp::Gt => truth_value(left > right),
+        BinOp::Ge => truth_value(left >= right),
+        BinOp::Add => sum(left, right),
+        BinOp::Sub => difference(left, right),
+        BinOp::Mul => product(left, right),
+        BinOp::Div => quotient_of(left, right),
+        BinOp::Rem => remainder_of(left, right),
+    }
+}
+
+/// What an operator on two numbers gives of two values.
+fn applied_to_numbers(op: BinOp, first: &Value, second: &Value) -> Result<Value, EvalFault>
+    ensures { Gives result (meant.on_numbers (on_two_numbers op) first.now (Ok second.now)) }
+{
+    let left = to_number(first)?;
+    let right = to_number(second)?;
+    on_numbers(op, left, right)
+}
+
+/// Whether both are one atom.
+#[tactic(auto, unfolding(csp_atoms::specs::Order::same))]
+fn is_one_atom(left: &Atom, right: &Atom) -> bool
+    ensures { result ≡ same left.now right.now }
+{
+    atom::order(left, right).is_eq()
+}
+
+/// What `==` gives of two values.
+fn equal(first: &Value, second: &Value) -> Result<Value, EvalFault>
+    ensures { Gives result (meant.on_atoms same first.now (Ok second.now)) }
+{
+    let left = to_atom(first)?;
+    let right = to_atom(second)?;
+    if !left.is_of_kind(&right) {
+        return Err(KIND);
+    }
+    truth_value(is_one_atom(&left, &right))
+}
+
+/// What `!=` gives of two values.
+fn unequal(first: &Value, second: &Value) -> Result<Value, EvalFault>
+    ensures { Gives result (meant.on_atoms (λ a b. not (same a b)) first.now (Ok second.now)) }
+{
+    let left = to_atom(first)?;
+    let right = to_atom(second)?;
+    if !left.is_of_kind(&right) {
+        return Err(KIND);
+    }
+    truth_value(!is_one_atom(&left, &right))
+}
+
+/// What `or`, for true, and `and`, for false, give of two values.
+fn joined(decides: bool, first: &Value, second: &Value) -> Result<Value, EvalFault>
+    ensures { Gives result (meant.on_truths decides first.now (Ok second.now)) }
+{
+    let left = to_truth(first)?;
+    if left == decides {
+        return truth_value(left);
+    }
+    let right = to_truth(second)?;
+    truth_value(right)
+}
+
+/// What an operator gives of two values.
+pub fn applied(op: BinOp, first: &Value, second: &Value) -> Result<Value, EvalFault>
+    ensures { Gives result (binary op first.now (Ok second.now)) }
+{
+    match op {
+        BinOp::Or => joined(true, first, second),
+        BinOp::And => joined(false, first, second),
+        BinOp::Eq => equal(first, second),
+        BinOp::Ne => unequal(first, second),
+        BinOp::Lt => applied_to_numbers(op, first, second),
+        BinOp::Le => applied_to_numbers(op, first, second),
+        BinOp::Gt => applied_to_numbers(op, first, second),
+        BinOp::Ge => applied_to_numbers(op, first, second),
+        BinOp::Add => applied_to_numbers(op, first, second),
+        BinOp::Sub => applied_to_numbers(op, first, second),
+        BinOp::Mul => applied_to_numbers(op, first, second),
+        BinOp::Div => applied_to_numbers(op, first, second),
+        BinOp::Rem => applied_to_numbers(op, first, second),
+    }
+}

@@ -1,0 +1,170 @@
+//! Sets that grow while an expression is evaluated.
+
+ghost use Rattle.std.specs.Prelude.{◌≡◌, ◌+◌, ◌<◌, ◌≤◌, ◌^◌, Ok, [], map, pos, ◌+ℤ◌, ◌-ℤ◌, ◌≤ℤ◌, ◌<ℤ◌, MatchOption};
+ghost use Rattle.csp_atoms.specs.declared.atom.Atom.TheVariants as atom;
+ghost use Rattle.csp_program.specs.Atoms.{added, all_added, events_from, limited, numbers_from};
+ghost use Rattle.csp_program.specs.Outcome.{and_then};
+ghost use Rattle.csp_program.specs.Value as meant;
+ghost use Rattle.csp_program.specs.Value.{atom_of, set_binary};
+ghost use Rattle.value_operators.specs.Gives.{Gives};
+
+use crate::fault::EvalFault;
+use crate::operators::to_atom;
+use csp_atoms::{Atom, AtomSet, AtomSetError, Value};
+use csp_base::Event;
+use csp_program::{SetOp, ValueKind};
+use std::alloc::Global;
+
+/// The greatest number of elements of a set.
+const MOST_ELEMENTS: usize = 16_384;
+
+const KIND: EvalFault = EvalFault::Value {
+    kind: ValueKind::Kind,
+};
+
+const SET_LIMIT: EvalFault = EvalFault::Value {
+    kind: ValueKind::SetLimit,
+};
+
+/// The set, unless it has too many elements.
+fn within_limit(atoms: AtomSet) -> Result<AtomSet, EvalFault>
+    ensures { Gives result (limited atoms) }
+{
+    if atoms.len() > MOST_ELEMENTS {
+        return Err(SET_LIMIT);
+    }
+    Ok(atoms)
+}
+
+/// The set with one more atom.
+fn with_one_more(mut atoms: AtomSet, one: Atom) -> Result<AtomSet, EvalFault>
+    ensures { Gives result (added atoms one) }
+{
+    match atoms.insert(one) {
+        Ok(()) => within_limit(atoms),
+        Err(AtomSetError::MixedKinds) => Err(KIND),
+        Err(AtomSetError::NoMemory) => Err(EvalFault::NoMemory),
+    }
+}
+
+/// The set with the atom that a value is.
+pub fn with_item(atoms: AtomSet, item: &Value) -> Result<AtomSet, EvalFault>
+    ensures { Gives result (and_then (atom_of item.now) (λ a. added atoms a)) }
+{
+    let one = to_atom(item)?;
+    with_one_more(atoms, one)
+}
+
+/// The set of constants.
+pub fn constants(alloc: Global, numbers: &[u32]) -> Result<AtomSet, EvalFault>
+    ensures { Gives result (all_added [] (map (λ k. atom.Const k) numbers.now)) }
+{
+    let mut atoms = AtomSet::new(alloc);
+    for number in numbers {
+        atoms = with_one_more(atoms, Atom::Const(*number))?;
+    }
+    Ok(atoms)
+}
+
+/// The event with the number `first + place`. Event tables stand in memory, so that their numbers have 32 bits.
+fn event(first: u64, place: u64) -> Result<Atom, EvalFault>
+    ensures { Gives result (Ok (atom.Event (first + place))) }
+{
+    match first.checked_add(place) {
+        Some(number) => numbered(number),
+        None => Err(EvalFault::NoMemory),
+    }
+}
+
+/// The event with this number.
+pub fn numbered(number: u64) -> Result<Atom, EvalFault>
+    ensures { Gives result (Ok (atom.Event number)) }
+{
+    match u32::try_from(number) {
+        Ok(number) => Ok(Atom::Event(Event(number))),
+        Err(_) => Err(EvalFault::NoMemory),
+    }
+}
+
+/// The set with the events from `first` on, so many of them.
+pub fn with_events(atoms: AtomSet, first: u64, count: u64) -> Result<AtomSet, EvalFault>
+    ensures { Gives result (all_added atoms (events_from first count)) }
+{
+    let mut atoms = atoms;
+    for place in 0..count {
+        let one = event(first, place)?;
+        atoms = with_one_more(atoms, one)?;
+    }
+    Ok(atoms)
+}
+
+/// What an operator gives of two sets.
+pub fn combined(
+    alloc: Global,
+    op: SetOp,
+    left: &AtomSet,
+    right: &AtomSet,
+) -> Result<AtomSet, EvalFault>
+    ensures { Gives result (set_binary op left.now right.now) }
+{
+    match op {
+        SetOp::Union => match left.union(alloc, right) {
+            Ok(atoms) => within_limit(atoms),
+            Err(AtomSetError::MixedKinds) => Err(KIND),
+            Err(AtomSetError::NoMemory) => Err(EvalFault::NoMemory),
+        },
+        SetOp::Inter => within_limit(left.inter(alloc, right)?),
+        SetOp::Diff => within_limit(left.diff(alloc, right)?),
+    }
+}
+
+/// The number `first + place`.
+fn number_at(first: i64, place: u16) -> Atom
+    requires fit { (first +ℤ pos place) <ℤ pos (2 ^ 63) }
+    ensures { result ≡ atom.Num (first +ℤ pos place) }
+{
+    Atom::Num(first + i64::from(place))
+}
+
+/// So many numbers from `first` on, few enough for a set.
+fn numbers_on(alloc: Global, first: i64, count: u16) -> Result<AtomSet, EvalFault>
+    requires few { count ≤ 16384 }
+    requires fit { (first +ℤ pos count) ≤ℤ pos (2 ^ 63) }
+    ensures { Gives result (Ok (numbers_from first count)) }
+{
+    let mut atoms = AtomSet::new(alloc);
+    for place in 0..count {
+        let one = number_at(first, place);
+        atoms = with_one_more(atoms, one)?;
+    }
+    Ok(atoms)
+}
+
+/// How far `last` is from `first`, if that is not too far for a set.
+fn distance(first: i64, last: i64) -> Option<u16>
+    requires { first ≤ℤ last }
+    ensures { MatchOption result (pos 16384 ≤ℤ (last -ℤ first)) (λ d. ((first +ℤ pos d) ≡ last) × (d < 16384)) }
+{
+    match last.checked_sub(first) {
+        Some(distance) => {
+            if distance >= 16_384 {
+                return None;
+            }
+            Some(distance as u16)
+        }
+        None => None,
+    }
+}
+
+/// The numbers from `first` to `last`.
+pub fn numbers(alloc: Global, first: i64, last: i64) -> Result<AtomSet, EvalFault>
+    ensures { Gives result (meant.range first last) }
+{
+    if last < first {
+        return Ok(AtomSet::new(alloc));
+    }
+    match distance(first, last) {
+        Some(distance) => numbers_on(alloc, first, distance + 1),
+        None => Err(SET_LIMIT),
+    }
+}
