@@ -4,7 +4,7 @@ use Rattle.std.specs.Prelude.{ℤ, nat_lt, slice_get, Option}
 use Rattle.csp_program.specs.Atoms.{added, all_added, events_from}
 use Rattle.csp_program.specs.EventNumber.{first_event, row_count}
 use Rattle.csp_program.specs.Outcome.{Outcome, and_then}
-use Rattle.csp_program.specs.Value.{Env, Meaning, Turn, Front, Gathered, from, when, meaning, turn, front, meaning_of_layer, turn_of_layer, front_of_layer, uses_within, number, truth, bound_value, truth_of, set_of, atom_of, items_added, walked, gathered, sets_of, field_place, bound_to, many, body_value, def_value, front_count, front_number, fronts_added}
+use Rattle.csp_program.specs.Value.{Env, Meaning, Turn, Front, value_of, value_within, Gathered, from, when, meaning, turn, front, meaning_of_layer, turn_of_layer, front_of_layer, uses_within, number, truth, bound_value, truth_of, set_of, atom_of, items_added, walked, gathered, sets_of, field_place, bound_to, many, body_value, def_value, front_count, front_number, fronts_added}
 use Rattle.csp_atoms.specs.declared.atom.Atom.{Atom}
 use Rattle.csp_atoms.specs.declared.atom.Atom.TheVariants as atom
 use Rattle.csp_atoms.specs.declared.value.Value.{Value}
@@ -285,3 +285,7 @@ pub binding-room : (p : Content) (n : ℕ) (items : List Expr) (parts : List Eve
     → one_more_binding p n items parts env state ≡ and_then (and_then (with_items p n env items state.atoms) (λ more. with_fronts p n env parts more)) (λ atoms. Ok (record { bindings = state.bindings + 1; atoms = atoms }))
 unfolding one_more_binding
 binding-room p n items parts env state h = ap (λ b. cond b (counted state.bindings (yielded p n items parts env state.atoms)) (Err SetLimit)) (room state.bindings h)
+
+pub whole_value : (p : Content) (e : Expr) (n : ℕ) → n ≡ length p.defs → value_of p e ≡ worth p n [] e
+unfolding worth
+whole_value p e n is = ap (λ k. value_within p k e []) (sym is)

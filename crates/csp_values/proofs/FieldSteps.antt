@@ -122,8 +122,7 @@ none_left p n env (e ∷ es) (set ∷ sets) k m h none =
     (other_is_none (length set) (row_count sets) (place_in_some set first.0 second.0 second.1) none)
 
 is_zero : (r : ℕ) → nat_eq r 0 ≡ true → r ≡ 0
-is_zero zero h = refl
-is_zero (suc r) h = absurd (cc)
+is_zero r h = grind arith
 
 each_same : (p : Content) (n : ℕ) (env : Env) (es : List Expr) (sets : List (List Atom)) (o : Outcome ℕ) (given : ℕ) → ((m : ℕ) → o ≡ Ok m → row_count sets ≡ 0 → row_count (drop given sets) ≡ 0) → (b : Bool) → nat_eq (row_count sets) 0 ≡ b
     → scaled o (cond b 0 (row_count (drop given sets))) ≡ and_then o (λ k. Ok (k * row_count (drop given sets)))

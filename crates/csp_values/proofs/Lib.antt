@@ -1,4 +1,6 @@
+pub mod Arms
 pub mod Equations
+pub mod Falls
 pub mod FieldSteps
 pub mod HalfLaws
 pub mod Steps

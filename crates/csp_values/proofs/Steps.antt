@@ -1,5 +1,5 @@
 -- Lists that are evaluated one element after another: what is left decides together with what has come so far.
-use Rattle.std.proofs.Common.{◌≡◌, ℕ, zero, suc, ◌+◌, ◌*◌, ◌<◌, List, [], ◌∷◌, ◌++◌, Some, None, Ok, Err, Bool, true, false, cond, length, drop, get_or, map, refl, ap, sym, ◌∙◌, arith, add-one, drop-cons, append_assoc, append-nil}
+use Rattle.std.proofs.Common.{◌≡◌, ℕ, zero, suc, ◌+◌, ◌*◌, ◌<◌, ◌≤◌, List, [], ◌∷◌, ◌++◌, Some, None, Ok, Err, Bool, true, false, cond, length, length-drop, drop, get_or, map, refl, ap, sym, ◌∙◌, arith, add-one, drop-cons, append_assoc, append-nil}
 use Rattle.std.specs.Prelude.{nat_eq, nat_lt, slice_get}
 use Rattle.csp_program.specs.Atoms.{added, all_added, events_from}
 use Rattle.csp_program.specs.EventNumber.{first_event, row_count}
@@ -21,6 +21,14 @@ use Rattle.csp_values.proofs.Equations.{worths-nil, worths-cons, with_items-nil,
 -- the list from an element on
 pub left_of : {A : Type 0} (xs : List A) (i : ℕ) (x : A) → i < length xs → x ≡ get_or xs i x → drop i xs ≡ x ∷ drop (i + 1) xs
 left_of xs i x lt is = rw (add-one i) (drop-cons xs i x lt ∙ ap (λ y. y ∷ drop (suc i) xs) (sym is))
+
+pub nothing : {A : Type 0} (xs : List A) → length xs ≡ 0 → xs ≡ []
+nothing [] none = refl
+nothing (x ∷ xs) none = absurd (omega arith)
+
+-- the list from its end on
+pub nothing_left : {A : Type 0} (xs : List A) (i : ℕ) → length xs ≤ i → drop i xs ≡ []
+nothing_left xs i past = nothing (drop i xs) (omega (arith, length-drop i xs))
 
 -- one step after another is one step
 chain : {A B C : Type 0} (o : Outcome A) (f : A → Outcome B) (g : B → Outcome C) → and_then o (λ a. and_then (f a) g) ≡ and_then (and_then o f) g

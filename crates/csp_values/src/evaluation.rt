@@ -17,7 +17,9 @@ use std::alloc::Global;
 use value_operators::EvalFault;
 use value_operators::names::{Names, named, with_name};
 use value_operators::numbers::{count_with, each_of, event_at, field_sets, place_in, with_field};
-use value_operators::operators::{applied, decided, inverted, negated, to_number, to_set, to_truth};
+use value_operators::operators::{
+    applied, decided, inverted, negated, to_number, to_set, to_truth,
+};
 use value_operators::sets::{combined, constants, numbered, numbers, with_events, with_item};
 
 /// The greatest number of bindings of a list of generators.
@@ -59,7 +61,13 @@ struct Yield<'a> {
 pub fn eval(alloc: Global, program: &Program, expr: &Expr) -> Result<Value, EvalFault>
     ensures { Gives result (value_of program.now expr.now) }
 {
-    let content = program.content();
+    eval_in(alloc, program.content(), expr)
+}
+
+/// The value of an expression over what a program holds, also while that is still being put together. Faults are those of `eval`.
+pub fn eval_in(alloc: Global, content: &Content, expr: &Expr) -> Result<Value, EvalFault>
+    ensures { Gives result (value_of content.now expr.now) }
+{
     let scope = Scope {
         alloc,
         content,
@@ -101,8 +109,20 @@ fn eval_expr(scope: &Scope<'_>, names: &Names<'_>, expr: &Expr) -> Result<Value,
         Expr::Event(channel, fields) => eval_event(scope, names, *channel, fields.as_slice()),
         Expr::Display(items) => eval_display(scope, names, items.as_slice()),
         Expr::Range(a, b) => eval_range(scope, names, a.get(), b.get()),
-        Expr::Comp(items, gens) => eval_comprehension(scope, names, items.as_slice(), &[], gens.as_slice()),
-        Expr::Product(parts, gens) => eval_comprehension(scope, names, &[], parts.as_slice(), gens.as_slice()),
+        Expr::Comp(items, gens) => eval_comprehension(
+            scope,
+            names,
+            items.as_slice(),
+            &[],
+            gens.as_slice(),
+        ),
+        Expr::Product(parts, gens) => eval_comprehension(
+            scope,
+            names,
+            &[],
+            parts.as_slice(),
+            gens.as_slice(),
+        ),
         Expr::SetOp(op, a, b) => eval_set_op(scope, names, *op, a.get(), b.get()),
     }
 }
@@ -205,11 +225,7 @@ fn eval_event(
 
 /// The set of the values of items.
 #[cycle(eval)]
-fn eval_display(
-    scope: &Scope<'_>,
-    names: &Names<'_>,
-    items: &[Expr],
-) -> Result<Value, EvalFault>
+fn eval_display(scope: &Scope<'_>, names: &Names<'_>, items: &[Expr]) -> Result<Value, EvalFault>
     ensures { Gives result (form.a_set (with_items scope.now.content.now scope.now.uses (env_in names.now) items.now [])) }
 {
     let atoms = add_items(scope, names, items, AtomSet::new(scope.alloc))?;
@@ -218,12 +234,7 @@ fn eval_display(
 
 /// The set of the numbers from `a` to `b`.
 #[cycle(eval)]
-fn eval_range(
-    scope: &Scope<'_>,
-    names: &Names<'_>,
-    a: &Expr,
-    b: &Expr,
-) -> Result<Value, EvalFault>
+fn eval_range(scope: &Scope<'_>, names: &Names<'_>, a: &Expr, b: &Expr) -> Result<Value, EvalFault>
     ensures { Gives result (form.a_range (worth scope.now.content.now scope.now.uses (env_in names.now) a.now) (worth scope.now.content.now scope.now.uses (env_in names.now) b.now)) }
 {
     let first = eval_expr(scope, names, a)?;
@@ -275,11 +286,7 @@ fn eval_comprehension(
 
 /// The values of expressions, from the left.
 #[cycle(eval)]
-fn eval_all(
-    scope: &Scope<'_>,
-    names: &Names<'_>,
-    exprs: &[Expr],
-) -> Result<Items<Value>, EvalFault>
+fn eval_all(scope: &Scope<'_>, names: &Names<'_>, exprs: &[Expr]) -> Result<Items<Value>, EvalFault>
     ensures { Gives result (worths scope.now.content.now scope.now.uses (env_in names.now) exprs.now) }
 {
     let mut values = Items::new(scope.alloc);
@@ -432,7 +439,11 @@ fn add_front(
     ensures { Gives result (with_front scope.now.content.now scope.now.uses (env_in names.now) part.now atoms) }
 {
     let first = eval_front(scope, names, part.channel, part.fields.as_slice())?;
-    let count = count_with(scope.content.channels.as_slice(), part.channel, part.fields.len())?;
+    let count = count_with(
+        scope.content.channels.as_slice(),
+        part.channel,
+        part.fields.len(),
+    )?;
     with_events(atoms, first, count)
 }
 

@@ -1,4 +1,9 @@
 use Rattle.std.proofs.Common.{◌≡◌, ℕ, ◌+◌, [], drop}
+use Rattle.value_operators.specs.Env.{env_in}
+use Rattle.value_operators.specs.Forms.{scaled}
+use Rattle.csp_values.specs.Worth.{worths, with_items, with_fronts, fields_worth, each_worth, gathered_of}
+use Rattle.csp_values.proofs.FieldSteps.{fields_after}
+use Rattle.csp_values.proofs.Steps.{worths_after}
 use Rattle.csp_values.proofs.Weights.{weight, weights, gen_weight, gen_weights, part_weight, part_weights, body_weight, cost}
 use Rattle.csp_values.proofs.evaluation.+eval.Given as goal
 
@@ -73,3 +78,29 @@ decreases-walk_first l = cost l.scope.now.content.now l.scope.now.uses + (weight
 
 abbrev pub decreases-walk_each : goal.decreases-walk_each
 decreases-walk_each l = cost l.scope.now.content.now l.scope.now.uses + (weights l.yields.now.items.now + part_weights l.yields.now.parts.now + gen_weights l.rest.now + 4)
+
+-- the expressions that are left are still to be evaluated
+abbrev pub invariant-eval_all-loop-expr : goal.invariant-eval_all-loop-expr
+invariant-eval_all-loop-expr l =
+    worths l.scope.content.now l.scope.uses (env_in l.names) l.exprs ≡ worths_after l.scope.content.now l.scope.uses (env_in l.names) l.values (drop l.expr-index l.exprs)
+
+-- the items that are left are still to be added
+abbrev pub invariant-add_items-loop-item : goal.invariant-add_items-loop-item
+invariant-add_items-loop-item l =
+    with_items l.scope.content.now l.scope.uses (env_in l.names) l.items l.fn.atoms ≡ with_items l.scope.content.now l.scope.uses (env_in l.names) (drop l.item-index l.items) l.atoms
+
+-- the fields that are left are still to be counted
+abbrev pub invariant-eval_fields-loop-field : goal.invariant-eval_fields-loop-field
+invariant-eval_fields-loop-field l =
+    scaled (fields_worth l.scope.content.now l.scope.uses (env_in l.names) l.fields l.fn.sets 0) l.each ≡ fields_after l.scope.content.now l.scope.uses (env_in l.names) (drop l.field-index l.fields) l.rest l.each l.number
+
+-- the fronts that are left are still to be added
+abbrev pub invariant-add_fronts-loop-part : goal.invariant-add_fronts-loop-part
+invariant-add_fronts-loop-part l =
+    with_fronts l.scope.content.now l.scope.uses (env_in l.names) l.parts l.fn.atoms ≡ with_fronts l.scope.content.now l.scope.uses (env_in l.names) (drop l.part-index l.parts) l.atoms
+
+-- the atoms that are left are still to be walked
+abbrev pub invariant-walk_each-loop-atom : goal.invariant-walk_each-loop-atom
+invariant-walk_each-loop-atom l =
+    each_worth l.scope.content.now l.scope.uses l.slot l.atoms l.rest l.yields.items.now l.yields.parts.now (env_in l.names) (gathered_of l.fn.tally) ≡
+    each_worth l.scope.content.now l.scope.uses l.slot (drop l.atom-index l.atoms) l.rest l.yields.items.now l.yields.parts.now (env_in l.names) (gathered_of l.tally)

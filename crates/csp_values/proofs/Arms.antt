@@ -1,0 +1,194 @@
+-- What a call answers for a form, from what calls answer for its parts.
+use Rattle.std.proofs.Common.{◌≡◌, ℕ, zero, suc, ◌+◌, ◌-◌, ◌<◌, ◌≤◌, Bool, true, false, cond, List, [], ◌∷◌, Some, None, Ok, Err, map, length, drop, refl, ap, sym, subst, ◌∙◌, arith}
+use Rattle.std.specs.Prelude.{ℤ, slice_get, Result, Option}
+use Rattle.std.specs.Result.{IsErrAnd}
+use Rattle.csp_program.specs.Atoms.{all_added, events_from}
+use Rattle.csp_program.specs.EventNumber.{first_event}
+use Rattle.csp_program.specs.Outcome.{Outcome, and_then}
+use Rattle.csp_program.specs.Value.{Env, Gathered, bound_to, bound_value, many, number, set_of, sets_of, truth_of}
+use Rattle.csp_atoms.specs.declared.atom.Atom.{Atom}
+use Rattle.csp_atoms.specs.declared.atom.Atom.TheVariants as atom
+use Rattle.csp_atoms.specs.declared.value.Value.{Value}
+use Rattle.csp_atoms.specs.declared.value.Value.TheVariants.{One, Many}
+use Rattle.csp_program.specs.declared.expressions.BinOp.{BinOp}
+use Rattle.csp_program.specs.declared.expressions.SetOp.{SetOp}
+use Rattle.csp_program.specs.declared.expressions.EventPart.{EventPart}
+use Rattle.csp_program.specs.declared.expressions.Expr.{Expr}
+use Rattle.csp_program.specs.declared.expressions.Expr.TheVariants as expr
+use Rattle.csp_program.specs.declared.expressions.Expr.TheViews.{out-EventPart}
+use Rattle.csp_program.specs.declared.expressions.Gen.{Gen}
+use Rattle.csp_program.specs.declared.expressions.Gen.TheVariants as generator
+use Rattle.csp_program.specs.declared.kinds.ValueKind.{ValueKind}
+use Rattle.csp_program.specs.declared.kinds.ValueKind.TheVariants.{Kind}
+use Rattle.csp_program.specs.declared.programs.Body.TheVariants as body
+use Rattle.csp_program.specs.declared.programs.Channel.{Channel}
+use Rattle.csp_program.specs.declared.programs.Content.{Content}
+use Rattle.csp_program.specs.declared.programs.Def.{Def}
+use Rattle.value_operators.specs.Forms.{negative, inverse, operation, choice, as_set, an_event, a_set, a_range, set_operation, gathered_set, nothing_yet, count_with, each_of, scaled}
+use Rattle.value_operators.specs.Gives.{Gives}
+use Rattle.value_operators.specs.declared.fault.EvalFault.{EvalFault}
+use Rattle.value_operators.specs.declared.fault.EvalFault.TheVariants as fault
+use Rattle.csp_values.specs.Worth.{worth, worths, use_worth, body_worth, with_items, fields_worth, front_worth, with_front, with_fronts, one_more_binding, walk_worth, each_worth, GivesTally, gathered_of}
+use Rattle.csp_values.specs.declared.tally.Tally.{Tally}
+use Rattle.csp_values.proofs.Equations as eq
+use Rattle.csp_values.proofs.FieldSteps.{front_scaled}
+
+pub same : {A : Type 0} (r : Result A EvalFault) (o o' : Outcome A) → o ≡ o' → Gives r o' → Gives r o
+same r o o' is h = subst (Gives r) (sym is) h
+
+pub same_tally : (r : Result Tally EvalFault) (o o' : Outcome Gathered) → o ≡ o' → GivesTally r o' → GivesTally r o
+same_tally r o o' is h = subst (GivesTally r) (sym is) h
+
+-- a fault of a part is a fault of the generators that it stands in
+tally_fault : {A : Type 0} (f : EvalFault) (part : Outcome A) (whole : Outcome Gathered) → Gives {A = A} (Err f) part → ((k : ValueKind) → part ≡ Err k → whole ≡ Err k) → GivesTally (Err f) whole
+tally_fault fault.NoMemory part whole h passes = tt
+tally_fault (fault.Value kind) part whole h passes = passes kind h
+
+pub part_passed : {A : Type 0} (r : Result Tally EvalFault) (f : EvalFault) (part : Outcome A) (whole : Outcome Gathered)
+    → IsErrAnd r (λ y. y ≡ f) → Gives {A = A} (Err f) part → ((k : ValueKind) → part ≡ Err k → whole ≡ Err k) → GivesTally r whole
+part_passed (Ok x) f part whole is h passes = absurd is
+part_passed (Err y) f part whole is h passes = rw is (tally_fault f part whole h passes)
+
+walk_fault : (f : EvalFault) (part whole : Outcome Gathered) → GivesTally (Err f) part → ((k : ValueKind) → part ≡ Err k → whole ≡ Err k) → GivesTally (Err f) whole
+walk_fault fault.NoMemory part whole h passes = tt
+walk_fault (fault.Value kind) part whole h passes = passes kind h
+
+pub walk_passed : (r : Result Tally EvalFault) (f : EvalFault) (part whole : Outcome Gathered)
+    → IsErrAnd r (λ y. y ≡ f) → GivesTally (Err f) part → ((k : ValueKind) → part ≡ Err k → whole ≡ Err k) → GivesTally r whole
+walk_passed (Ok x) f part whole is h passes = absurd is
+walk_passed (Err y) f part whole is h passes = rw is (walk_fault f part whole h passes)
+
+-- forms of expressions
+module _ (p : Content) (n : ℕ) (env : Env) where
+  pub worth_num : (e : Expr) (k m : ℤ) → e ≡ expr.Num k → m ≡ k → worth p n env e ≡ Ok (number m)
+  worth_num e k m is got = ap (worth p n env) is ∙ (eq.worth-Num p n env k ∙ (λ i. Ok (number (sym got i))))
+
+  pub worth_truth : (e : Expr) (b : Bool) → e ≡ expr.Truth b → worth p n env e ≡ Ok (One (atom.Truth b))
+  worth_truth e b is = ap (worth p n env) is ∙ eq.worth-Truth p n env b
+
+  pub worth_const : (e : Expr) (k : ℕ) → e ≡ expr.Const k → worth p n env e ≡ Ok (One (atom.Const k))
+  worth_const e k is = ap (worth p n env) is ∙ eq.worth-Const p n env k
+
+  pub worth_bound : (e : Expr) (x : ℕ) → e ≡ expr.Bound x → worth p n env e ≡ bound_value env x
+  worth_bound e x is = ap (worth p n env) is ∙ eq.worth-Bound p n env x
+
+  pub worth_lit : (e : Expr) (v w : Value) → e ≡ expr.Lit v → w ≡ v → worth p n env e ≡ Ok w
+  worth_lit e v w is got = ap (worth p n env) is ∙ (eq.worth-Lit p n env v ∙ (λ i. Ok (sym got i)))
+
+  pub worth_neg : (e a a' : Expr) → e ≡ expr.Neg a → a' ≡ a → worth p n env e ≡ negative (worth p n env a')
+  worth_neg e a a' is got = ap (worth p n env) is ∙ (eq.worth-Neg p n env a ∙ ap (λ x. negative (worth p n env x)) (sym got))
+
+  pub worth_not : (e a a' : Expr) → e ≡ expr.Not a → a' ≡ a → worth p n env e ≡ inverse (worth p n env a')
+  worth_not e a a' is got = ap (worth p n env) is ∙ (eq.worth-Not p n env a ∙ ap (λ x. inverse (worth p n env x)) (sym got))
+
+  pub worth_binary : (e : Expr) (op : BinOp) (a b a' b' : Expr) → e ≡ expr.Binary op a b → a' ≡ a → b' ≡ b → worth p n env e ≡ operation op (worth p n env a') (worth p n env b')
+  worth_binary e op a b a' b' is got_a got_b = ap (worth p n env) is ∙ (eq.worth-Binary p n env op a b ∙ (λ i. operation op (worth p n env (sym got_a i)) (worth p n env (sym got_b i))))
+
+  pub worth_if : (e c a b c' a' b' : Expr) → e ≡ expr.If c a b → c' ≡ c → a' ≡ a → b' ≡ b → worth p n env e ≡ choice (worth p n env c') (worth p n env a') (worth p n env b')
+  worth_if e c a b c' a' b' is got_c got_a got_b =
+      ap (worth p n env) is ∙ (eq.worth-If p n env c a b ∙ (λ i. choice (worth p n env (sym got_c i)) (worth p n env (sym got_a i)) (worth p n env (sym got_b i))))
+
+  pub worth_call : (e : Expr) (d : ℕ) (args args' : List Expr) → e ≡ expr.Call d args → args' ≡ args → worth p n env e ≡ and_then (worths p n env args') (λ vs. use_worth p n d vs)
+  worth_call e d args args' is got = ap (worth p n env) is ∙ (eq.worth-Call p n env d args ∙ ap (λ x. and_then (worths p n env x) (λ vs. use_worth p n d vs)) (sym got))
+
+  pub worth_set_name : (e : Expr) (d : ℕ) → e ≡ expr.SetName d → worth p n env e ≡ as_set (use_worth p n d [])
+  worth_set_name e d is = ap (worth p n env) is ∙ eq.worth-SetName p n env d
+
+  pub worth_event : (e : Expr) (c : ℕ) (fields fields' : List Expr) → e ≡ expr.Event c fields → fields' ≡ fields → worth p n env e ≡ an_event (front_worth p n env c fields')
+  worth_event e c fields fields' is got = ap (worth p n env) is ∙ (eq.worth-Event p n env c fields ∙ ap (λ x. an_event (front_worth p n env c x)) (sym got))
+
+  pub worth_display : (e : Expr) (items items' : List Expr) → e ≡ expr.Display items → items' ≡ items → worth p n env e ≡ a_set (with_items p n env items' [])
+  worth_display e items items' is got = ap (worth p n env) is ∙ (eq.worth-Display p n env items ∙ ap (λ x. a_set (with_items p n env x [])) (sym got))
+
+  pub worth_range : (e a b a' b' : Expr) → e ≡ expr.Range a b → a' ≡ a → b' ≡ b → worth p n env e ≡ a_range (worth p n env a') (worth p n env b')
+  worth_range e a b a' b' is got_a got_b = ap (worth p n env) is ∙ (eq.worth-Range p n env a b ∙ (λ i. a_range (worth p n env (sym got_a i)) (worth p n env (sym got_b i))))
+
+  pub worth_set_op : (e : Expr) (op : SetOp) (a b a' b' : Expr) → e ≡ expr.SetOp op a b → a' ≡ a → b' ≡ b → worth p n env e ≡ set_operation op (worth p n env a') (worth p n env b')
+  worth_set_op e op a b a' b' is got_a got_b = ap (worth p n env) is ∙ (eq.worth-SetOp p n env op a b ∙ (λ i. set_operation op (worth p n env (sym got_a i)) (worth p n env (sym got_b i))))
+
+  pub worth_comp : (e : Expr) (items items' : List Expr) (gens gens' : List Gen) → e ≡ expr.Comp items gens → items' ≡ items → gens' ≡ gens → worth p n env e ≡ gathered_set (walk_worth p n gens' items' [] env nothing_yet)
+  worth_comp e items items' gens gens' is got_items got_gens =
+      ap (worth p n env) is ∙ (eq.worth-Comp p n env items gens ∙ (λ i. gathered_set (walk_worth p n (sym got_gens i) (sym got_items i) [] env nothing_yet)))
+
+  pub worth_product : (e : Expr) (parts parts' : List EventPart) (gens gens' : List Gen) → e ≡ expr.Product parts gens → parts' ≡ parts → gens' ≡ gens → worth p n env e ≡ gathered_set (walk_worth p n gens' [] parts' env nothing_yet)
+  worth_product e parts parts' gens gens' is got_parts got_gens =
+      ap (worth p n env) is ∙ (eq.worth-Product p n env parts gens ∙ (λ i. gathered_set (walk_worth p n (sym got_gens i) [] (sym got_parts i) env nothing_yet)))
+
+-- bodies of definitions
+pub datum_worth : (p : Content) (n : ℕ) (def : Def) (args : List Value) (params : List ℕ) (e : Expr) → def.body ≡ body.Datum e → params ≡ def.params → body_worth p n def args ≡ worth p n (bound_to params args) e
+datum_worth p n def args params e is got = eq.body-Datum p n def args e is ∙ ap (λ x. worth p n (bound_to x args) e) (sym got)
+
+pub datatype_worth : (p : Content) (n : ℕ) (def : Def) (args : List Value) (ks ks' : List ℕ) (o : Outcome (List Atom)) → def.body ≡ body.Datatype ks → ks' ≡ ks → all_added [] (map (λ k. atom.Const k) ks') ≡ o → body_worth p n def args ≡ many o
+datatype_worth p n def args ks ks' o is got came = eq.body-Datatype p n def args ks is ∙ (ap (λ x. many (all_added [] (map (λ k. atom.Const k) x))) (sym got) ∙ ap many came)
+
+-- numbers of events
+abbrev found : ℕ → Outcome ℕ
+found k = Ok k
+
+same_found : (m k : ℕ) → found m ≡ found k → m ≡ k
+same_found m k h = cc
+
+pub front_of_sets : (p : Content) (n : ℕ) (env : Env) (c : ℕ) (es : List Expr) (channels : List Channel) (sets : List (List Atom)) (each : ℕ) (o : Outcome ℕ) → channels ≡ p.channels → sets_of (slice_get channels c) ≡ Some sets
+    → found (each_of sets (length es)) ≡ found each → scaled (fields_worth p n env es sets 0) each ≡ o → front_worth p n env c es ≡ and_then o (λ place. Ok (first_event channels c + place))
+front_of_sets p n env c es channels sets each o got has is_each came =
+    let has_sets : sets_of (slice_get p.channels c) ≡ Some sets = ap (λ cs. sets_of (slice_get cs c)) (sym got) ∙ has in
+    front_scaled p n env c es sets o has_sets (ap (scaled (fields_worth p n env es sets 0)) (same_found (each_of sets (length es)) each is_each) ∙ came) ∙
+    ap (λ cs. and_then o (λ place. found (first_event cs c + place))) (sym got)
+
+pub front_without_sets : (p : Content) (n : ℕ) (env : Env) (c : ℕ) (es : List Expr) (channels : List Channel) → channels ≡ p.channels → sets_of (slice_get channels c) ≡ None → front_worth p n env c es ≡ Err Kind
+front_without_sets p n env c es channels got has = eq.front-none p n env c es (ap (λ cs. sets_of (slice_get cs c)) (sym got) ∙ has)
+
+pub front_fault : (p : Content) (n : ℕ) (env : Env) (part : EventPart) (atoms : List Atom) (fields : List Expr) (k : ValueKind) → fields ≡ (out-EventPart part).fields
+    → front_worth p n env (out-EventPart part).channel fields ≡ Err k → with_front p n env part atoms ≡ Err k
+front_fault p n env part atoms fields k got bad =
+    eq.with_front-is p n env part atoms ∙
+    ap (λ o. and_then o (λ e. all_added atoms (events_from e (count_with (sets_of (slice_get p.channels (out-EventPart part).channel)) (length (out-EventPart part).fields)))))
+    (ap (front_worth p n env (out-EventPart part).channel) (sym got) ∙ bad)
+
+pub front_added : (p : Content) (n : ℕ) (env : Env) (part : EventPart) (atoms : List Atom) (fields : List Expr) (channels : List Channel) (first given count : ℕ) → fields ≡ (out-EventPart part).fields → channels ≡ p.channels
+    → given ≡ length (out-EventPart part).fields → front_worth p n env (out-EventPart part).channel fields ≡ Ok first → found (count_with (sets_of (slice_get channels (out-EventPart part).channel)) given) ≡ found count
+    → with_front p n env part atoms ≡ all_added atoms (events_from first count)
+front_added p n env part atoms fields channels first given count got_fields got_channels got_given good counted =
+    let here : count_with (sets_of (slice_get channels (out-EventPart part).channel)) given ≡ count = same_found (count_with (sets_of (slice_get channels (out-EventPart part).channel)) given) count counted in
+    let is : count_with (sets_of (slice_get p.channels (out-EventPart part).channel)) (length (out-EventPart part).fields) ≡ count =
+    (λ i. count_with (sets_of (slice_get (sym got_channels i) (out-EventPart part).channel)) (sym got_given i)) ∙ here in
+    eq.with_front-is p n env part atoms ∙
+    (ap (λ o. and_then o (λ e. all_added atoms (events_from e (count_with (sets_of (slice_get p.channels (out-EventPart part).channel)) (length (out-EventPart part).fields)))))
+    (ap (front_worth p n env (out-EventPart part).channel) (sym got_fields) ∙ good) ∙
+    ap (λ z. all_added atoms (events_from first z)) is)
+
+-- one more binding
+module _ (p : Content) (n : ℕ) (items : List Expr) (parts : List EventPart) (env : Env) (state : Gathered) (room : state.bindings < 1048576) where
+  pub binding_item_fault : (k : ValueKind) → with_items p n env items state.atoms ≡ Err k → one_more_binding p n items parts env state ≡ Err k
+  binding_item_fault k bad =
+      eq.binding-room p n items parts env state room ∙
+      ap (λ o. and_then (and_then o (λ more. with_fronts p n env parts more)) (λ atoms. Ok (record { bindings = state.bindings + 1; atoms = atoms }))) bad
+
+  pub binding_with_items : (more : List Atom) (o : Outcome (List Atom)) → with_items p n env items state.atoms ≡ Ok more → with_fronts p n env parts more ≡ o
+      → one_more_binding p n items parts env state ≡ and_then o (λ atoms. Ok (record { bindings = state.bindings + 1; atoms = atoms }))
+  binding_with_items more o good came =
+      eq.binding-room p n items parts env state room ∙
+      (ap (λ z. and_then (and_then z (λ all. with_fronts p n env parts all)) (λ atoms. Ok (record { bindings = state.bindings + 1; atoms = atoms }))) good ∙
+      ap (λ z. and_then z (λ atoms. Ok (record { bindings = state.bindings + 1; atoms = atoms }))) came)
+
+-- generators
+module _ (p : Content) (n : ℕ) (first : Gen) (gens : List Gen) (items : List Expr) (parts : List EventPart) (env : Env) (state : Gathered) where
+  pub walk_from : (x : ℕ) (s : Expr) (o : Outcome Value) → first ≡ generator.From x s → worth p n env s ≡ o
+      → walk_worth p n (first ∷ gens) items parts env state ≡ and_then o (λ v. and_then (set_of v) (λ atoms. each_worth p n x atoms gens items parts env state))
+  walk_from x s o is came =
+      ap (λ g. walk_worth p n (g ∷ gens) items parts env state) is ∙
+      (eq.walk-From p n x s gens items parts env state ∙ ap (λ z. and_then z (λ v. and_then (set_of v) (λ atoms. each_worth p n x atoms gens items parts env state))) came)
+
+  pub walk_from_set : (x : ℕ) (s : Expr) (v : Value) (o : Outcome (List Atom)) → first ≡ generator.From x s → worth p n env s ≡ Ok v → set_of v ≡ o
+      → walk_worth p n (first ∷ gens) items parts env state ≡ and_then o (λ atoms. each_worth p n x atoms gens items parts env state)
+  walk_from_set x s v o is came set = walk_from x s (Ok v) is came ∙ ap (λ z. and_then z (λ atoms. each_worth p n x atoms gens items parts env state)) set
+
+  pub walk_cond : (c : Expr) (o : Outcome Value) → first ≡ generator.Cond c → worth p n env c ≡ o
+      → walk_worth p n (first ∷ gens) items parts env state ≡ and_then o (λ v. and_then (truth_of v) (λ b. cond b (walk_worth p n gens items parts env state) (Ok state)))
+  walk_cond c o is came =
+      ap (λ g. walk_worth p n (g ∷ gens) items parts env state) is ∙
+      (eq.walk-Cond p n c gens items parts env state ∙ ap (λ z. and_then z (λ v. and_then (truth_of v) (λ b. cond b (walk_worth p n gens items parts env state) (Ok state)))) came)
+
+  pub walk_cond_truth : (c : Expr) (v : Value) (o : Outcome Bool) → first ≡ generator.Cond c → worth p n env c ≡ Ok v → truth_of v ≡ o
+      → walk_worth p n (first ∷ gens) items parts env state ≡ and_then o (λ b. cond b (walk_worth p n gens items parts env state) (Ok state))
+  walk_cond_truth c v o is came truth = walk_cond c (Ok v) is came ∙ ap (λ z. and_then z (λ b. cond b (walk_worth p n gens items parts env state) (Ok state))) truth

@@ -1,0 +1,272 @@
+use Rattle.std.proofs.Common.{◌≡◌, ℕ, ◌+◌, true, false, Ok, Err, List, [], ◌∷◌, ap, sym, ◌∙◌, arith, to_z, of_z, w64}
+use Rattle.std.proofs.lemmas.Int.{ints}
+use Rattle.csp_program.specs.Value.{bound_to}
+use Rattle.value_operators.specs.Env.{env_in, with_bound}
+use Rattle.value_operators.proofs.Faults.{passed}
+use Rattle.value_operators.proofs.NameLaws.{with_bound-last}
+use Rattle.csp_values.specs.Worth.{use_worth, with_items, with_fronts, walk_worth, each_worth, gathered_of}
+use Rattle.csp_values.proofs.Arms.{same, same_tally, part_passed, walk_passed, worth_num, worth_truth, worth_const, worth_bound, worth_lit, worth_neg, worth_not, worth_binary, worth_if, worth_call, worth_set_name, worth_event, worth_display, worth_range, worth_set_op, worth_comp, worth_product, datum_worth, datatype_worth, front_of_sets, front_without_sets, front_fault, front_added, binding_item_fault, binding_with_items, walk_from, walk_from_set, walk_cond, walk_cond_truth}
+use Rattle.csp_values.proofs.Equations.{body-Nametype, body-Process, body-Network, use-none_left, use-unknown, use-known, fronts-nil, with_items-nil, binding-full, walk-nil, each-nil}
+use Rattle.csp_values.proofs.Falls.{weight_neg, weight_not, weight_binary, weight_if, weight_call, weight_set_name, weight_event, weight_display, weight_range, weight_set_op, weight_comp, weight_product, weight_from, weight_cond, weight_gens, weight_part, use_falls}
+use Rattle.csp_values.proofs.FieldSteps.{fields_after, fields_begin, fields_end, fields_too_many, field_fault, field_refused, field_taken}
+use Rattle.csp_values.proofs.Steps.{nothing, nothing_left, worths_after, worths_begin, worths_end, worths_fault, worths_next, items_fault, items_refused, items_taken, fronts_fault, fronts_next, each_fault, each_step}
+use Rattle.csp_values.proofs.Weights.{weight, weight_in, part_weight_in}
+use Rattle.csp_values.proofs.evaluation.+eval.Goals as goal
+
+pub add_front-eval_front-requires : goal.add_front-eval_front-requires
+add_front-eval_front-requires t c = (omega (arith, weight_part c.args.part.now c.as_slice.result.now c.as_slice.ensures), tt)
+
+pub add_front-returns-in_err-first : goal.add_front-returns-in_err-first
+add_front-returns-in_err-first t c = passed _ _ _ _ c.from_residual.ensures.1 c.in_err-first.ensures (λ k e. front_fault c.args.scope.now.content.now c.args.scope.now.uses (env_in c.args.names.now) c.args.part.now c.args.atoms c.as_slice.result.now k c.as_slice.ensures e)
+
+pub add_front-returns : goal.add_front-returns
+add_front-returns t c = same _ _ _ (front_added c.args.scope.now.content.now c.args.scope.now.uses (env_in c.args.names.now) c.args.part.now c.args.atoms c.as_slice.result.now c.as_slice-2.result.now c.in_ok-first.first c.len.result c.in_ok-count.count c.as_slice.ensures c.as_slice-2.ensures c.len.ensures c.in_ok-first.ensures c.in_ok-count.ensures) c.with_events.ensures
+
+pub add_fronts-add_front-requires : goal.add_fronts-add_front-requires
+add_fronts-add_front-requires t c = let lighter = part_weight_in c.args.parts.now c.loop-part.part-index c.part-item.result (omega arith) c.part-item.is in (omega (arith, lighter), tt)
+
+pub add_fronts-returns-in_err-atoms : goal.add_fronts-returns-in_err-atoms
+add_fronts-returns-in_err-atoms t c = passed _ _ _ _ c.from_residual.ensures.1 c.in_err-atoms.ensures (λ k e. fronts_fault _ c.args.scope.now.content.now c.args.scope.now.uses (env_in c.args.names.now) c.loop-part.atoms c.args.parts.now c.loop-part.part-index c.part-item.result k c.loop-part.invariant (omega arith) c.part-item.is e)
+
+pub add_fronts-loop-part-preserved : goal.add_fronts-loop-part-preserved
+add_fronts-loop-part-preserved t c = fronts_next _ c.args.scope.now.content.now c.args.scope.now.uses (env_in c.args.names.now) c.loop-part.atoms c.in_ok-atoms.atoms c.args.parts.now c.loop-part.part-index c.part-item.result c.loop-part.invariant (omega arith) c.part-item.is c.in_ok-atoms.ensures
+
+pub add_fronts-returns : goal.add_fronts-returns
+add_fronts-returns t c = c.loop-part.invariant ∙ (ap (λ ps. with_fronts c.args.scope.now.content.now c.args.scope.now.uses (env_in c.args.names.now) ps c.loop-part.atoms) (nothing_left c.args.parts.now c.loop-part.part-index (omega arith)) ∙ fronts-nil c.args.scope.now.content.now c.args.scope.now.uses (env_in c.args.names.now) c.loop-part.atoms)
+
+pub add_items-eval_expr-requires : goal.add_items-eval_expr-requires
+add_items-eval_expr-requires t c = let lighter = weight_in c.args.items.now c.loop-item.item-index c.item-item.result (omega arith) c.item-item.is in (omega (arith, lighter), tt)
+
+pub add_items-returns-in_err-value : goal.add_items-returns-in_err-value
+add_items-returns-in_err-value t c = passed _ _ _ _ c.from_residual.ensures.1 c.in_err-value.ensures (λ k e. items_fault _ c.args.scope.now.content.now c.args.scope.now.uses (env_in c.args.names.now) c.loop-item.atoms c.args.items.now c.loop-item.item-index c.item-item.result k c.loop-item.invariant (omega arith) c.item-item.is e)
+
+pub add_items-returns-in_err-atoms : goal.add_items-returns-in_err-atoms
+add_items-returns-in_err-atoms t c = passed _ _ _ _ c.from_residual-in_err-atoms.ensures.1 c.in_err-atoms.ensures (λ k e. items_refused _ c.args.scope.now.content.now c.args.scope.now.uses (env_in c.args.names.now) c.loop-item.atoms c.args.items.now c.loop-item.item-index c.item-item.result c.in_ok-value.value k c.loop-item.invariant (omega arith) c.item-item.is c.in_ok-value.ensures e)
+
+pub add_items-loop-item-preserved : goal.add_items-loop-item-preserved
+add_items-loop-item-preserved t c = items_taken _ c.args.scope.now.content.now c.args.scope.now.uses (env_in c.args.names.now) c.loop-item.atoms c.in_ok-atoms.atoms c.args.items.now c.loop-item.item-index c.item-item.result c.in_ok-value.value c.loop-item.invariant (omega arith) c.item-item.is c.in_ok-value.ensures c.in_ok-atoms.ensures
+
+pub add_items-returns : goal.add_items-returns
+add_items-returns t c = c.loop-item.invariant ∙ (ap (λ es. with_items c.args.scope.now.content.now c.args.scope.now.uses (env_in c.args.names.now) es c.loop-item.atoms) (nothing_left c.args.items.now c.loop-item.item-index (omega arith)) ∙ with_items-nil c.args.scope.now.content.now c.args.scope.now.uses (env_in c.args.names.now) c.loop-item.atoms)
+
+pub eval_all-loop-expr-init : goal.eval_all-loop-expr-init
+eval_all-loop-expr-init t c = worths_begin c.args.scope.now.content.now c.args.scope.now.uses (env_in c.args.names.now) c.args.exprs.now ∙ ap (λ vs. worths_after c.args.scope.now.content.now c.args.scope.now.uses (env_in c.args.names.now) vs c.args.exprs.now) (sym c.new-values.ensures)
+
+pub eval_all-eval_expr-requires : goal.eval_all-eval_expr-requires
+eval_all-eval_expr-requires t c = let lighter = weight_in c.args.exprs.now c.loop-expr.expr-index c.expr-item.result (omega arith) c.expr-item.is in (omega (arith, lighter), tt)
+
+pub eval_all-returns-in_err-value : goal.eval_all-returns-in_err-value
+eval_all-returns-in_err-value t c = passed _ _ _ _ c.from_residual.ensures.1 c.in_err-value.ensures (λ k e. worths_fault _ c.args.scope.now.content.now c.args.scope.now.uses (env_in c.args.names.now) c.loop-expr.values c.args.exprs.now c.loop-expr.expr-index c.expr-item.result k c.loop-expr.invariant (omega arith) c.expr-item.is e)
+
+pub eval_all-loop-expr-preserved : goal.eval_all-loop-expr-preserved
+eval_all-loop-expr-preserved t c = worths_next _ c.args.scope.now.content.now c.args.scope.now.uses (env_in c.args.names.now) c.loop-expr.values c.push.new.self c.args.exprs.now c.loop-expr.expr-index c.expr-item.result c.in_ok-value.value c.loop-expr.invariant (omega arith) c.expr-item.is c.in_ok-value.ensures c.in_ok-push.ensures.ok
+
+pub eval_all-returns : goal.eval_all-returns
+eval_all-returns t c = c.loop-expr.invariant ∙ (ap (worths_after c.args.scope.now.content.now c.args.scope.now.uses (env_in c.args.names.now) c.loop-expr.values) (nothing_left c.args.exprs.now c.loop-expr.expr-index (omega arith)) ∙ worths_end c.args.scope.now.content.now c.args.scope.now.uses (env_in c.args.names.now) c.loop-expr.values)
+
+pub eval_body-returns-in_err-atoms-in-Datatype : goal.eval_body-returns-in_err-atoms-in-Datatype
+eval_body-returns-in_err-atoms-in-Datatype t c = passed _ _ _ _ c.from_residual.ensures.1 c.in_err-atoms-in-Datatype.ensures (λ k e. datatype_worth c.args.scope.now.content.now c.args.scope.now.uses c.args.def.now c.args.args.now c.in-Datatype.numbers c.as_slice-in-Datatype.result.now (Err k) c.in-Datatype.is c.as_slice-in-Datatype.ensures e)
+
+pub eval_body-returns-in-Datum : goal.eval_body-returns-in-Datum
+eval_body-returns-in-Datum t c = same _ _ _ (datum_worth c.args.scope.now.content.now c.args.scope.now.uses c.args.def.now c.args.args.now c.as_slice.result.now c.in-Datum.expr c.in-Datum.is c.as_slice.ensures) c.eval_expr.ensures
+
+pub eval_body-returns-in-Nametype : goal.eval_body-returns-in-Nametype
+eval_body-returns-in-Nametype t c = same _ _ _ (body-Nametype c.args.scope.now.content.now c.args.scope.now.uses c.args.def.now c.args.args.now c.in-Nametype.expr c.in-Nametype.is) c.eval_expr-in-Nametype.ensures
+
+pub eval_body-returns-in_ok-atoms-in-Datatype : goal.eval_body-returns-in_ok-atoms-in-Datatype
+eval_body-returns-in_ok-atoms-in-Datatype t c = datatype_worth c.args.scope.now.content.now c.args.scope.now.uses c.args.def.now c.args.args.now c.in-Datatype.numbers c.as_slice-in-Datatype.result.now (Ok c.in_ok-atoms-in-Datatype.atoms) c.in-Datatype.is c.as_slice-in-Datatype.ensures c.in_ok-atoms-in-Datatype.ensures
+
+pub eval_body-returns-in-Process : goal.eval_body-returns-in-Process
+eval_body-returns-in-Process t c = body-Process c.args.scope.now.content.now c.args.scope.now.uses c.args.def.now c.args.args.now c.in-Process.field-0 c.in-Process.is
+
+pub eval_body-returns-in-Network : goal.eval_body-returns-in-Network
+eval_body-returns-in-Network t c = body-Network c.args.scope.now.content.now c.args.scope.now.uses c.args.def.now c.args.args.now c.in-Network.field-0 c.in-Network.is
+
+pub eval_expr-eval_negative-requires : goal.eval_expr-eval_negative-requires
+eval_expr-eval_negative-requires t c = (omega (arith, weight_neg c.args.expr.now c.in-Neg.a c.get.result.now c.in-Neg.is c.get.ensures), tt)
+
+pub eval_expr-eval_not-requires : goal.eval_expr-eval_not-requires
+eval_expr-eval_not-requires t c = (omega (arith, weight_not c.args.expr.now c.in-Not.a c.get-in-Not.result.now c.in-Not.is c.get-in-Not.ensures), tt)
+
+pub eval_expr-eval_binary-requires : goal.eval_expr-eval_binary-requires
+eval_expr-eval_binary-requires t c = (omega (arith, weight_binary c.args.expr.now c.in-Binary.op c.in-Binary.a c.in-Binary.b c.get-in-Binary.result.now c.get-in-Binary-2.result.now c.in-Binary.is c.get-in-Binary.ensures c.get-in-Binary-2.ensures), tt)
+
+pub eval_expr-eval_if-requires : goal.eval_expr-eval_if-requires
+eval_expr-eval_if-requires t c = (omega (arith, weight_if c.args.expr.now c.in-If.c c.in-If.a c.in-If.b c.get-in-If.result.now c.get-in-If-2.result.now c.get-in-If-3.result.now c.in-If.is c.get-in-If.ensures c.get-in-If-2.ensures c.get-in-If-3.ensures), tt)
+
+pub eval_expr-eval_call-requires : goal.eval_expr-eval_call-requires
+eval_expr-eval_call-requires t c = (omega (arith, weight_call c.args.expr.now c.in-Call.def c.in-Call.args c.as_slice.result.now c.in-Call.is c.as_slice.ensures), tt)
+
+pub eval_expr-eval_set_name-requires : goal.eval_expr-eval_set_name-requires
+eval_expr-eval_set_name-requires t c = (omega (arith, weight_set_name c.args.expr.now c.in-SetName.def c.in-SetName.is), tt)
+
+pub eval_expr-eval_event-requires : goal.eval_expr-eval_event-requires
+eval_expr-eval_event-requires t c = (omega (arith, weight_event c.args.expr.now c.in-Event.channel c.in-Event.fields c.as_slice-in-Event.result.now c.in-Event.is c.as_slice-in-Event.ensures), tt)
+
+pub eval_expr-eval_display-requires : goal.eval_expr-eval_display-requires
+eval_expr-eval_display-requires t c = (omega (arith, weight_display c.args.expr.now c.in-Display.items c.as_slice-in-Display.result.now c.in-Display.is c.as_slice-in-Display.ensures), tt)
+
+pub eval_expr-eval_range-requires : goal.eval_expr-eval_range-requires
+eval_expr-eval_range-requires t c = (omega (arith, weight_range c.args.expr.now c.in-Range.a c.in-Range.b c.get-in-Range.result.now c.get-in-Range-2.result.now c.in-Range.is c.get-in-Range.ensures c.get-in-Range-2.ensures), tt)
+
+pub eval_expr-eval_comprehension-requires : goal.eval_expr-eval_comprehension-requires
+eval_expr-eval_comprehension-requires t c = (omega (arith, weight_comp c.args.expr.now c.in-Comp.items c.as_slice-in-Comp.result.now c.in-Comp.gens c.as_slice-in-Comp-2.result.now c.in-Comp.is c.as_slice-in-Comp.ensures c.as_slice-in-Comp-2.ensures), tt)
+
+pub eval_expr-eval_comprehension-requires-in-Product : goal.eval_expr-eval_comprehension-requires-in-Product
+eval_expr-eval_comprehension-requires-in-Product t c = (omega (arith, weight_product c.args.expr.now c.in-Product.parts c.as_slice-in-Product.result.now c.in-Product.gens c.as_slice-in-Product-2.result.now c.in-Product.is c.as_slice-in-Product.ensures c.as_slice-in-Product-2.ensures), tt)
+
+pub eval_expr-eval_set_op-requires : goal.eval_expr-eval_set_op-requires
+eval_expr-eval_set_op-requires t c = (omega (arith, weight_set_op c.args.expr.now c.in-SetOp.op c.in-SetOp.a c.in-SetOp.b c.get-in-SetOp.result.now c.get-in-SetOp-2.result.now c.in-SetOp.is c.get-in-SetOp.ensures c.get-in-SetOp-2.ensures), tt)
+
+pub eval_expr-returns-in-Num : goal.eval_expr-returns-in-Num
+eval_expr-returns-in-Num t c = worth_num c.args.scope.now.content.now c.args.scope.now.uses (env_in c.args.names.now) c.args.expr.now c.in-Num.number (to_z w64 (of_z w64 c.in-Num.number)) c.in-Num.is (omega (arith, ints))
+
+pub eval_expr-returns-in-Truth : goal.eval_expr-returns-in-Truth
+eval_expr-returns-in-Truth t c = worth_truth c.args.scope.now.content.now c.args.scope.now.uses (env_in c.args.names.now) c.args.expr.now c.in-Truth.truth c.in-Truth.is
+
+pub eval_expr-returns-in-Const : goal.eval_expr-returns-in-Const
+eval_expr-returns-in-Const t c = worth_const c.args.scope.now.content.now c.args.scope.now.uses (env_in c.args.names.now) c.args.expr.now c.in-Const.number c.in-Const.is
+
+pub eval_expr-returns-in-Bound : goal.eval_expr-returns-in-Bound
+eval_expr-returns-in-Bound t c = same _ _ _ (worth_bound c.args.scope.now.content.now c.args.scope.now.uses (env_in c.args.names.now) c.args.expr.now c.in-Bound.slot c.in-Bound.is) c.named.ensures
+
+pub eval_expr-returns-in_ok-try_clone-in-Lit : goal.eval_expr-returns-in_ok-try_clone-in-Lit
+eval_expr-returns-in_ok-try_clone-in-Lit t c = worth_lit c.args.scope.now.content.now c.args.scope.now.uses (env_in c.args.names.now) c.args.expr.now c.in-Lit.value c.in_ok-try_clone-in-Lit.field-0 c.in-Lit.is c.in_ok-try_clone-in-Lit.ensures
+
+pub eval_expr-returns-in-Neg : goal.eval_expr-returns-in-Neg
+eval_expr-returns-in-Neg t c = same _ _ _ (worth_neg c.args.scope.now.content.now c.args.scope.now.uses (env_in c.args.names.now) c.args.expr.now c.in-Neg.a c.get.result.now c.in-Neg.is c.get.ensures) c.eval_negative.ensures
+
+pub eval_expr-returns-in-Not : goal.eval_expr-returns-in-Not
+eval_expr-returns-in-Not t c = same _ _ _ (worth_not c.args.scope.now.content.now c.args.scope.now.uses (env_in c.args.names.now) c.args.expr.now c.in-Not.a c.get-in-Not.result.now c.in-Not.is c.get-in-Not.ensures) c.eval_not.ensures
+
+pub eval_expr-returns-in-Binary : goal.eval_expr-returns-in-Binary
+eval_expr-returns-in-Binary t c = same _ _ _ (worth_binary c.args.scope.now.content.now c.args.scope.now.uses (env_in c.args.names.now) c.args.expr.now c.in-Binary.op c.in-Binary.a c.in-Binary.b c.get-in-Binary.result.now c.get-in-Binary-2.result.now c.in-Binary.is c.get-in-Binary.ensures c.get-in-Binary-2.ensures) c.eval_binary.ensures
+
+pub eval_expr-returns-in-If : goal.eval_expr-returns-in-If
+eval_expr-returns-in-If t c = same _ _ _ (worth_if c.args.scope.now.content.now c.args.scope.now.uses (env_in c.args.names.now) c.args.expr.now c.in-If.c c.in-If.a c.in-If.b c.get-in-If.result.now c.get-in-If-2.result.now c.get-in-If-3.result.now c.in-If.is c.get-in-If.ensures c.get-in-If-2.ensures c.get-in-If-3.ensures) c.eval_if.ensures
+
+pub eval_expr-returns-in-Call : goal.eval_expr-returns-in-Call
+eval_expr-returns-in-Call t c = same _ _ _ (worth_call c.args.scope.now.content.now c.args.scope.now.uses (env_in c.args.names.now) c.args.expr.now c.in-Call.def c.in-Call.args c.as_slice.result.now c.in-Call.is c.as_slice.ensures) c.eval_call.ensures
+
+pub eval_expr-returns-in-SetName : goal.eval_expr-returns-in-SetName
+eval_expr-returns-in-SetName t c = same _ _ _ (worth_set_name c.args.scope.now.content.now c.args.scope.now.uses (env_in c.args.names.now) c.args.expr.now c.in-SetName.def c.in-SetName.is) c.eval_set_name.ensures
+
+pub eval_expr-returns-in-Event : goal.eval_expr-returns-in-Event
+eval_expr-returns-in-Event t c = same _ _ _ (worth_event c.args.scope.now.content.now c.args.scope.now.uses (env_in c.args.names.now) c.args.expr.now c.in-Event.channel c.in-Event.fields c.as_slice-in-Event.result.now c.in-Event.is c.as_slice-in-Event.ensures) c.eval_event.ensures
+
+pub eval_expr-returns-in-Display : goal.eval_expr-returns-in-Display
+eval_expr-returns-in-Display t c = same _ _ _ (worth_display c.args.scope.now.content.now c.args.scope.now.uses (env_in c.args.names.now) c.args.expr.now c.in-Display.items c.as_slice-in-Display.result.now c.in-Display.is c.as_slice-in-Display.ensures) c.eval_display.ensures
+
+pub eval_expr-returns-in-Range : goal.eval_expr-returns-in-Range
+eval_expr-returns-in-Range t c = same _ _ _ (worth_range c.args.scope.now.content.now c.args.scope.now.uses (env_in c.args.names.now) c.args.expr.now c.in-Range.a c.in-Range.b c.get-in-Range.result.now c.get-in-Range-2.result.now c.in-Range.is c.get-in-Range.ensures c.get-in-Range-2.ensures) c.eval_range.ensures
+
+pub eval_expr-returns-in-Comp : goal.eval_expr-returns-in-Comp
+eval_expr-returns-in-Comp t c = same _ _ _ (worth_comp c.args.scope.now.content.now c.args.scope.now.uses (env_in c.args.names.now) c.args.expr.now c.in-Comp.items c.as_slice-in-Comp.result.now c.in-Comp.gens c.as_slice-in-Comp-2.result.now c.in-Comp.is c.as_slice-in-Comp.ensures c.as_slice-in-Comp-2.ensures) c.eval_comprehension.ensures
+
+pub eval_expr-returns-in-Product : goal.eval_expr-returns-in-Product
+eval_expr-returns-in-Product t c = same _ _ _ (worth_product c.args.scope.now.content.now c.args.scope.now.uses (env_in c.args.names.now) c.args.expr.now c.in-Product.parts c.as_slice-in-Product.result.now c.in-Product.gens c.as_slice-in-Product-2.result.now c.in-Product.is c.as_slice-in-Product.ensures c.as_slice-in-Product-2.ensures) c.eval_comprehension-in-Product.ensures
+
+pub eval_expr-returns-in-SetOp : goal.eval_expr-returns-in-SetOp
+eval_expr-returns-in-SetOp t c = same _ _ _ (worth_set_op c.args.scope.now.content.now c.args.scope.now.uses (env_in c.args.names.now) c.args.expr.now c.in-SetOp.op c.in-SetOp.a c.in-SetOp.b c.get-in-SetOp.result.now c.get-in-SetOp-2.result.now c.in-SetOp.is c.get-in-SetOp.ensures c.get-in-SetOp-2.ensures) c.eval_set_op.ensures
+
+pub eval_fields-loop-field-init : goal.eval_fields-loop-field-init
+eval_fields-loop-field-init t c = fields_begin c.args.scope.now.content.now c.args.scope.now.uses (env_in c.args.names.now) c.args.fields.now c.args.sets.now c.args.each
+
+pub eval_fields-returns-in_default : goal.eval_fields-returns-in_default
+eval_fields-returns-in_default t c = fields_too_many _ c.args.scope.now.content.now c.args.scope.now.uses (env_in c.args.names.now) c.args.fields.now c.loop-field.rest.now c.args.each c.loop-field.number c.loop-field.field-index c.field-item.result c.loop-field.invariant (omega arith) c.field-item.is c.in_default.ensures.cases
+
+pub eval_fields-eval_expr-requires : goal.eval_fields-eval_expr-requires
+eval_fields-eval_expr-requires t c = let lighter = weight_in c.args.fields.now c.loop-field.field-index c.field-item.result (omega arith) c.field-item.is in (omega (arith, lighter), tt)
+
+pub eval_fields-returns-in_err-value : goal.eval_fields-returns-in_err-value
+eval_fields-returns-in_err-value t c = passed _ _ _ _ c.from_residual.ensures.1 c.in_err-value.ensures (λ k e. field_fault _ c.args.scope.now.content.now c.args.scope.now.uses (env_in c.args.names.now) c.args.fields.now c.loop-field.rest.now c.in-Some.set.now c.in-Some.others.now c.args.each c.loop-field.number c.loop-field.field-index c.field-item.result k c.loop-field.invariant (omega arith) c.field-item.is c.in-Some.ensures.cases.0 e)
+
+pub eval_fields-returns-in_err-place : goal.eval_fields-returns-in_err-place
+eval_fields-returns-in_err-place t c = passed _ _ _ _ c.from_residual-in_err-place.ensures.1 c.in_err-place.ensures (λ k e. field_refused _ c.args.scope.now.content.now c.args.scope.now.uses (env_in c.args.names.now) c.args.fields.now c.loop-field.rest.now c.in-Some.set.now c.in-Some.others.now c.args.each c.loop-field.number c.loop-field.field-index c.field-item.result c.in_ok-value.value k c.loop-field.invariant (omega arith) c.field-item.is c.in-Some.ensures.cases.0 c.in_ok-value.ensures e)
+
+pub eval_fields-loop-field-preserved : goal.eval_fields-loop-field-preserved
+eval_fields-loop-field-preserved t c = field_taken _ c.args.scope.now.content.now c.args.scope.now.uses (env_in c.args.names.now) c.args.fields.now c.loop-field.rest.now c.in-Some.set.now c.in-Some.others.now c.args.each c.loop-field.number c.in_ok-number.number c.in_ok-place.place c.loop-field.field-index c.field-item.result c.in_ok-value.value c.loop-field.invariant (omega arith) c.field-item.is c.in-Some.ensures.cases.0 c.in_ok-value.ensures c.in_ok-place.ensures c.in_ok-number.ensures
+
+pub eval_fields-returns : goal.eval_fields-returns
+eval_fields-returns t c = c.loop-field.invariant ∙ (ap (λ es. fields_after c.args.scope.now.content.now c.args.scope.now.uses (env_in c.args.names.now) es c.loop-field.rest.now c.args.each c.loop-field.number) (nothing_left c.args.fields.now c.loop-field.field-index (omega arith)) ∙ fields_end c.args.scope.now.content.now c.args.scope.now.uses (env_in c.args.names.now) c.loop-field.rest.now c.args.each c.loop-field.number)
+
+pub eval_front-returns-in_err-place-in-Some : goal.eval_front-returns-in_err-place-in-Some
+eval_front-returns-in_err-place-in-Some t c = passed _ _ _ _ c.from_residual-in_err-place-in-Some.ensures.1 c.in_err-place-in-Some.ensures (λ k e. front_of_sets c.args.scope.now.content.now c.args.scope.now.uses (env_in c.args.names.now) c.args.channel c.args.fields.now c.as_slice-channels.result.now c.in-Some.sets.now c.in_ok-each-in-Some.each (Err k) c.as_slice-channels.ensures c.in-Some.ensures c.in_ok-each-in-Some.ensures e)
+
+pub eval_front-returns-in_ok-place-in-Some : goal.eval_front-returns-in_ok-place-in-Some
+eval_front-returns-in_ok-place-in-Some t c = same _ _ _ (front_of_sets c.args.scope.now.content.now c.args.scope.now.uses (env_in c.args.names.now) c.args.channel c.args.fields.now c.as_slice-channels.result.now c.in-Some.sets.now c.in_ok-each-in-Some.each (Ok c.in_ok-place-in-Some.place) c.as_slice-channels.ensures c.in-Some.ensures c.in_ok-each-in-Some.ensures c.in_ok-place-in-Some.ensures) c.event_at.ensures
+
+pub eval_front-returns-in-None : goal.eval_front-returns-in-None
+eval_front-returns-in-None t c = front_without_sets c.args.scope.now.content.now c.args.scope.now.uses (env_in c.args.names.now) c.args.channel c.args.fields.now c.as_slice-channels.result.now c.as_slice-channels.ensures c.in-None.ensures
+
+pub eval_use-returns-then-scope-eq0 : goal.eval_use-returns-then-scope-eq0
+eval_use-returns-then-scope-eq0 t c = ap (λ n. use_worth c.args.scope.now.content.now n c.args.def c.args.args.now) c.if-scope-eq0.true ∙ use-none_left c.args.scope.now.content.now c.args.def c.args.args.now
+
+pub eval_use-eval_body-requires : goal.eval_use-eval_body-requires
+eval_use-eval_body-requires t c = (omega (arith, use_falls c.args.scope.now.content.now c.args.scope.now.uses c.args.def c.in-Some.def.now c.if-scope-eq0.false c.in-Some.ensures), tt)
+
+pub eval_use-returns-in-Some : goal.eval_use-returns-in-Some
+eval_use-returns-in-Some t c = same _ _ _ (use-known c.args.scope.now.content.now c.args.scope.now.uses c.args.def c.args.args.now c.in-Some.def.now (omega arith) (sym c.in-Some.ensures)) c.eval_body.ensures
+
+pub eval_use-returns-in-None : goal.eval_use-returns-in-None
+eval_use-returns-in-None t c = use-unknown c.args.scope.now.content.now c.args.scope.now.uses c.args.def c.args.args.now (sym c.in-None.ensures)
+
+pub gather-returns-then-bindings-ge-MOST_BINDINGS : goal.gather-returns-then-bindings-ge-MOST_BINDINGS
+gather-returns-then-bindings-ge-MOST_BINDINGS t c = binding-full c.args.scope.now.content.now c.args.scope.now.uses c.args.yields.now.items.now c.args.yields.now.parts.now (env_in c.args.names.now) (gathered_of c.args.tally) (omega arith)
+
+pub gather-returns-in_err-atoms : goal.gather-returns-in_err-atoms
+gather-returns-in_err-atoms t c = part_passed _ _ _ _ c.from_residual.ensures.1 c.in_err-atoms.ensures (λ k e. binding_item_fault c.args.scope.now.content.now c.args.scope.now.uses c.args.yields.now.items.now c.args.yields.now.parts.now (env_in c.args.names.now) (gathered_of c.args.tally) (omega arith) k e)
+
+pub gather-returns-in_err-atoms-2 : goal.gather-returns-in_err-atoms-2
+gather-returns-in_err-atoms-2 t c = part_passed _ _ _ _ c.from_residual-in_err-atoms-2.ensures.1 c.in_err-atoms-2.ensures (λ k e. binding_with_items c.args.scope.now.content.now c.args.scope.now.uses c.args.yields.now.items.now c.args.yields.now.parts.now (env_in c.args.names.now) (gathered_of c.args.tally) (omega arith) c.in_ok-atoms.atoms (Err k) c.in_ok-atoms.ensures e)
+
+pub gather-returns : goal.gather-returns
+gather-returns t c = binding_with_items c.args.scope.now.content.now c.args.scope.now.uses c.args.yields.now.items.now c.args.yields.now.parts.now (env_in c.args.names.now) (gathered_of c.args.tally) (omega arith) c.in_ok-atoms.atoms (Ok c.in_ok-atoms-2.atoms) c.in_ok-atoms.ensures c.in_ok-atoms-2.ensures
+
+pub walk-walk_first-requires : goal.walk-walk_first-requires
+walk-walk_first-requires t c = (omega (arith, weight_gens c.args.gens.now c.in-Some.first.now c.in-Some.rest.now c.in-Some.ensures.cases.0), tt)
+
+pub walk-returns-in-None : goal.walk-returns-in-None
+walk-returns-in-None t c = same_tally _ _ _ (ap (λ gs. walk_worth c.args.scope.now.content.now c.args.scope.now.uses gs c.args.yields.now.items.now c.args.yields.now.parts.now (env_in c.args.names.now) (gathered_of c.args.tally)) (nothing c.args.gens.now c.in-None.ensures.cases) ∙ walk-nil c.args.scope.now.content.now c.args.scope.now.uses c.args.yields.now.items.now c.args.yields.now.parts.now (env_in c.args.names.now) (gathered_of c.args.tally)) c.gather.ensures
+
+pub walk_each-returns-in_err-tally : goal.walk_each-returns-in_err-tally
+walk_each-returns-in_err-tally t c = walk_passed _ _ _ _ c.from_residual-in_err-tally.ensures.1 c.in_err-tally.ensures (λ k e. each_fault _ c.args.scope.now.content.now c.args.scope.now.uses c.args.slot c.args.atoms.now c.args.rest.now c.args.yields.now.items.now c.args.yields.now.parts.now (env_in c.args.names.now) _ (gathered_of c.loop-atom.tally) c.loop-atom.atom-index c.atom-item.result c.atom-item.result k c.loop-atom.invariant (omega arith) c.atom-item.is (ap (λ bs. with_bound bs (bound_to c.args.names.now.params.now c.args.names.now.args.now)) (c.as_slice.ensures.value ∙ c.in_ok-bound.ensures) ∙ with_bound-last c.args.names.now.bound.now (c.args.slot, c.atom-item.result) (bound_to c.args.names.now.params.now c.args.names.now.args.now)) e)
+
+pub walk_each-loop-atom-preserved : goal.walk_each-loop-atom-preserved
+walk_each-loop-atom-preserved t c = each_step _ c.args.scope.now.content.now c.args.scope.now.uses c.args.slot c.args.atoms.now c.args.rest.now c.args.yields.now.items.now c.args.yields.now.parts.now (env_in c.args.names.now) _ (gathered_of c.loop-atom.tally) (gathered_of c.in_ok-tally.tally) c.loop-atom.atom-index c.atom-item.result c.atom-item.result c.loop-atom.invariant (omega arith) c.atom-item.is (ap (λ bs. with_bound bs (bound_to c.args.names.now.params.now c.args.names.now.args.now)) (c.as_slice.ensures.value ∙ c.in_ok-bound.ensures) ∙ with_bound-last c.args.names.now.bound.now (c.args.slot, c.atom-item.result) (bound_to c.args.names.now.params.now c.args.names.now.args.now)) c.in_ok-tally.ensures
+
+pub walk_each-returns : goal.walk_each-returns
+walk_each-returns t c = c.loop-atom.invariant ∙ (ap (λ xs. each_worth c.args.scope.now.content.now c.args.scope.now.uses c.args.slot xs c.args.rest.now c.args.yields.now.items.now c.args.yields.now.parts.now (env_in c.args.names.now) (gathered_of c.loop-atom.tally)) (nothing_left c.args.atoms.now c.loop-atom.atom-index (omega arith)) ∙ each-nil c.args.scope.now.content.now c.args.scope.now.uses c.args.slot c.args.rest.now c.args.yields.now.items.now c.args.yields.now.parts.now (env_in c.args.names.now) (gathered_of c.loop-atom.tally))
+
+pub walk_first-eval_expr-requires : goal.walk_first-eval_expr-requires
+walk_first-eval_expr-requires t c = (omega (arith, weight_from c.args.first.now c.in-From.slot c.in-From.set c.in-From.is), tt)
+
+pub walk_first-returns-in_err-value-in-From : goal.walk_first-returns-in_err-value-in-From
+walk_first-returns-in_err-value-in-From t c = part_passed _ _ _ _ c.from_residual.ensures.1 c.in_err-value-in-From.ensures (λ k e. walk_from c.args.scope.now.content.now c.args.scope.now.uses c.args.first.now c.args.rest.now c.args.yields.now.items.now c.args.yields.now.parts.now (env_in c.args.names.now) (gathered_of c.args.tally) c.in-From.slot c.in-From.set (Err k) c.in-From.is e)
+
+pub walk_first-returns-in_err-atoms-in-From : goal.walk_first-returns-in_err-atoms-in-From
+walk_first-returns-in_err-atoms-in-From t c = part_passed _ _ _ _ c.from_residual-in_err-atoms-in-From.ensures.1 c.in_err-atoms-in-From.ensures (λ k e. walk_from_set c.args.scope.now.content.now c.args.scope.now.uses c.args.first.now c.args.rest.now c.args.yields.now.items.now c.args.yields.now.parts.now (env_in c.args.names.now) (gathered_of c.args.tally) c.in-From.slot c.in-From.set c.in_ok-value-in-From.value (Err k) c.in-From.is c.in_ok-value-in-From.ensures e)
+
+pub walk_first-walk_each-requires : goal.walk_first-walk_each-requires
+walk_first-walk_each-requires t c = (omega (arith, weight_from c.args.first.now c.in-From.slot c.in-From.set c.in-From.is), tt)
+
+pub walk_first-returns-in-From : goal.walk_first-returns-in-From
+walk_first-returns-in-From t c = same_tally _ _ _ (walk_from_set c.args.scope.now.content.now c.args.scope.now.uses c.args.first.now c.args.rest.now c.args.yields.now.items.now c.args.yields.now.parts.now (env_in c.args.names.now) (gathered_of c.args.tally) c.in-From.slot c.in-From.set c.in_ok-value-in-From.value (Ok c.as_slice.result.now) c.in-From.is c.in_ok-value-in-From.ensures (c.in_ok-atoms-in-From.ensures ∙ ap (λ l. Ok l) (sym c.as_slice.ensures.members))) c.walk_each.ensures
+
+pub walk_first-eval_expr-requires-in-Cond : goal.walk_first-eval_expr-requires-in-Cond
+walk_first-eval_expr-requires-in-Cond t c = (omega (arith, weight_cond c.args.first.now c.in-Cond.condition c.in-Cond.is), tt)
+
+pub walk_first-returns-in_err-value-in-Cond : goal.walk_first-returns-in_err-value-in-Cond
+walk_first-returns-in_err-value-in-Cond t c = part_passed _ _ _ _ c.from_residual-in_err-value-in-Cond.ensures.1 c.in_err-value-in-Cond.ensures (λ k e. walk_cond c.args.scope.now.content.now c.args.scope.now.uses c.args.first.now c.args.rest.now c.args.yields.now.items.now c.args.yields.now.parts.now (env_in c.args.names.now) (gathered_of c.args.tally) c.in-Cond.condition (Err k) c.in-Cond.is e)
+
+pub walk_first-returns-in_err-holds-in-Cond : goal.walk_first-returns-in_err-holds-in-Cond
+walk_first-returns-in_err-holds-in-Cond t c = part_passed _ _ _ _ c.from_residual-in_err-holds-in-Cond.ensures.1 c.in_err-holds-in-Cond.ensures (λ k e. walk_cond_truth c.args.scope.now.content.now c.args.scope.now.uses c.args.first.now c.args.rest.now c.args.yields.now.items.now c.args.yields.now.parts.now (env_in c.args.names.now) (gathered_of c.args.tally) c.in-Cond.condition c.in_ok-value-in-Cond.value (Err k) c.in-Cond.is c.in_ok-value-in-Cond.ensures e)
+
+pub walk_first-walk-requires : goal.walk_first-walk-requires
+walk_first-walk-requires t c = (omega (arith, weight_cond c.args.first.now c.in-Cond.condition c.in-Cond.is), tt)
+
+pub walk_first-returns-then-holds : goal.walk_first-returns-then-holds
+walk_first-returns-then-holds t c = same_tally _ _ _ (walk_cond_truth c.args.scope.now.content.now c.args.scope.now.uses c.args.first.now c.args.rest.now c.args.yields.now.items.now c.args.yields.now.parts.now (env_in c.args.names.now) (gathered_of c.args.tally) c.in-Cond.condition c.in_ok-value-in-Cond.value (Ok true) c.in-Cond.is c.in_ok-value-in-Cond.ensures (c.in_ok-holds-in-Cond.ensures ∙ ap (λ b. Ok b) c.if-holds.true)) c.walk.ensures
+
+pub walk_first-returns : goal.walk_first-returns
+walk_first-returns t c = walk_cond_truth c.args.scope.now.content.now c.args.scope.now.uses c.args.first.now c.args.rest.now c.args.yields.now.items.now c.args.yields.now.parts.now (env_in c.args.names.now) (gathered_of c.args.tally) c.in-Cond.condition c.in_ok-value-in-Cond.value (Ok false) c.in-Cond.is c.in_ok-value-in-Cond.ensures (c.in_ok-holds-in-Cond.ensures ∙ ap (λ b. Ok b) c.if-holds.false)
