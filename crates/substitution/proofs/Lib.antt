@@ -1,0 +1,2 @@
+pub mod ExprEquations
+pub mod ListEquations
