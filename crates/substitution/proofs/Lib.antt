@@ -1,2 +1,3 @@
 pub mod ExprEquations
 pub mod ListEquations
+pub mod ProcEquations

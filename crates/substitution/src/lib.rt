@@ -1,8 +1,14 @@
 //! A value in place of a bound name, in expressions and in processes.
 #![tactic(auto)]
 
+pub mod calls;
 mod expressions;
-pub mod substitute;
+mod fields;
+mod processes;
 
+pub use calls::{
+    substitute, substitute_expr, substitute_exprs, substitute_fields, substitute_gens,
+    substitute_pairs,
+};
 pub use expressions::any_binds_name;
-pub use substitute::{substitute_expr, substitute_exprs, substitute_gens};
+pub use fields::{any_gets_name, substitute_head};
