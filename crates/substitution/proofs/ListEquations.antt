@@ -102,3 +102,15 @@ parts_unless x v gs ps = ap (λ kept_gens. all_unless_bound (any_binds x kept_ge
 pub pairs_unless : (x : ℕ) (v : Value) (gs : List Gen) (ps : List (EventPart × EventPart)) → all_unless_bound (any_binds x gs) (map (pair_twice x v) ps) ≡ pairs_after x v (any_binds x gs) ps
 unfolding expr_after gen_after part_after proc_after
 pairs_unless x v gs ps = all_pairs x v (any_binds x gs) ps
+
+pub exprs_bound : (x : ℕ) (v : Value) (es : List Expr) → exprs_after x v true es ≡ es
+exprs_bound x v [] = refl
+exprs_bound x v (e ∷ es) = λ i. e ∷ exprs_bound x v es i
+
+pub parts_bound : (x : ℕ) (v : Value) (ps : List EventPart) → parts_after x v true ps ≡ ps
+parts_bound x v [] = refl
+parts_bound x v (p ∷ ps) = λ i. p ∷ parts_bound x v ps i
+
+pub pairs_bound : (x : ℕ) (v : Value) (ps : List (EventPart × EventPart)) → pairs_after x v true ps ≡ ps
+pairs_bound x v [] = refl
+pairs_bound x v (p ∷ ps) = λ i. p ∷ pairs_bound x v ps i

@@ -4,6 +4,7 @@
 pub mod calls;
 mod expressions;
 mod fields;
+pub mod laws;
 mod processes;
 
 pub use calls::{
