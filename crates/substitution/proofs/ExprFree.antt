@@ -1,5 +1,5 @@
 -- The free names of an expression lose exactly the name that a value is put in place of.
-use Rattle.std.proofs.Common.{◌≡◌, ℕ, Bool, true, false, cond, nat_eq, List, [], ◌∷◌, map, refl, ap, sym, ◌∙◌, subst}
+use Rattle.std.proofs.Common.{◌≡◌, ℕ, Bool, true, false, cond, nat_eq, List, [], ◌∷◌, map, ap, sym, ◌∙◌, subst}
 use Rattle.std.proofs.lemmas.Bool.{false≢true, eqb-true}
 use Rattle.csp_program.specs.Free.{Names, Binding, nowhere, either, apart_from, any_of, under, expr_free, gen_binding, part_free, expr_free_of_layer, gen_free_of_layer, part_free_of_layer}
 use Rattle.csp_program.specs.Substitution.{any_binds, binds, layer_binds}
@@ -8,7 +8,7 @@ use Rattle.csp_program.specs.declared.expressions.Expr.{Expr}
 use Rattle.csp_program.specs.declared.expressions.Expr.TheVariants as expr
 use Rattle.csp_program.specs.declared.expressions.Expr.TheFolds.{fold-roll-Expr, fold-roll-Gen, fold-roll-EventPart, ind-Expr, ind-Gen, ind-EventPart, map-Expr, map-Gen, map-EventPart}
 use Rattle.csp_program.specs.declared.expressions.Expr.TheOpen.{Expr-F, Gen-F, EventPart-F}
-use Rattle.csp_program.specs.declared.expressions.Expr.TheViews.{roll-Expr, roll-Gen, roll-EventPart, out-Gen, roll-out-Gen, out-EventPart, out-roll-EventPart}
+use Rattle.csp_program.specs.declared.expressions.Expr.TheViews.{roll-Expr, roll-Gen, roll-EventPart, out-Gen, roll-out-Gen, out-roll-EventPart}
 use Rattle.csp_program.specs.declared.expressions.EventPart.{EventPart}
 use Rattle.csp_program.specs.declared.expressions.Gen.{Gen}
 use Rattle.csp_program.specs.declared.expressions.Gen.TheVariants as generator

@@ -1,14 +1,14 @@
 -- An expression in which a name isn't free stays as it is when a value is put in place of that name.
 use Rattle.std.proofs.Common.{◌≡◌, ℕ, Bool, true, false, cond, not, ◌&&◌, ◌||◌, nat_eq, List, [], ◌∷◌, map, refl, ap, sym, ◌∙◌, subst}
 use Rattle.std.proofs.lemmas.Bool.{false≢true}
-use Rattle.csp_program.specs.Free.{Names, Binding, nowhere, either, any_of, under, expr_free, gen_binding, part_free, expr_free_of_layer, gen_free_of_layer, part_free_of_layer}
+use Rattle.csp_program.specs.Free.{Names, Binding, any_of, under, expr_free, gen_binding, part_free, expr_free_of_layer, gen_free_of_layer}
 use Rattle.csp_program.specs.Substitution.{any_binds, binds, layer_binds}
 use Rattle.csp_atoms.specs.declared.value.Value.{Value}
 use Rattle.csp_program.specs.declared.expressions.Expr.{Expr}
 use Rattle.csp_program.specs.declared.expressions.Expr.TheVariants as expr
 use Rattle.csp_program.specs.declared.expressions.Expr.TheFolds.{ind-Expr, ind-Gen, ind-EventPart, map-Expr, map-Gen, map-EventPart}
 use Rattle.csp_program.specs.declared.expressions.Expr.TheOpen.{Expr-F, Gen-F, EventPart-F}
-use Rattle.csp_program.specs.declared.expressions.Expr.TheViews.{roll-Expr, roll-Gen, roll-EventPart, out-Gen, roll-out-Gen, out-EventPart, out-roll-EventPart}
+use Rattle.csp_program.specs.declared.expressions.Expr.TheViews.{roll-Expr, roll-Gen, roll-EventPart, out-Gen, roll-out-Gen, out-roll-EventPart}
 use Rattle.csp_program.specs.declared.expressions.EventPart.{EventPart}
 use Rattle.csp_program.specs.declared.expressions.Gen.{Gen}
 use Rattle.csp_program.specs.declared.expressions.Gen.TheVariants as generator
@@ -92,13 +92,13 @@ module _ (x : ℕ) (v : Value) where
   gens_stay (g ∷ gs) inner h =
       let first = g.1 (first_false ((gen_binding g.0).0 x) (not ((gen_binding g.0).1 x) && under (map gen_binding (gens_of gs)) inner x) h) in
       let behind : (not (binds x g.0) && under (map gen_binding (gens_of gs)) inner x) ≡ false =
-        ap (λ b. not b && under (map gen_binding (gens_of gs)) inner x) (sym (binding_is x g.0)) ∙
-        second_false ((gen_binding g.0).0 x) (not ((gen_binding g.0).1 x) && under (map gen_binding (gens_of gs)) inner x) h in
+      ap (λ b. not b && under (map gen_binding (gens_of gs)) inner x) (sym (binding_is x g.0)) ∙
+      second_false ((gen_binding g.0).0 x) (not ((gen_binding g.0).1 x) && under (map gen_binding (gens_of gs)) inner x) h in
       let rest : GensStay (binds x g.0) (gens_of gs) inner =
-        (elim (binds x g.0) as (λ b. (not b && under (map gen_binding (gens_of gs)) inner x) ≡ false → GensStay b (gens_of gs) inner) [
-          | true ↦ λ k. (gens_bound x v (gens_of gs), λ e. absurd (false≢true (sym e)))
-          | false ↦ λ k. gens_stay gs inner k
-        ]) behind in
+      (elim (binds x g.0) as (λ b. (not b && under (map gen_binding (gens_of gs)) inner x) ≡ false → GensStay b (gens_of gs) inner) [
+        | true ↦ λ k. (gens_bound x v (gens_of gs), λ e. absurd (false≢true (sym e)))
+        | false ↦ λ k. gens_stay gs inner k
+      ]) behind in
       (λ i. first i ∷ rest.0 i, rest.1)
 
   -- an expression e of the layer d becomes e', and that is e again
@@ -142,8 +142,8 @@ module _ (x : ℕ) (v : Value) where
   expr_layer (Expr-F.If c a b) =
       step (expr.If c.0 a.0 b.0) (expr.If (expr_after x v c.0) (expr_after x v a.0) (expr_after x v b.0)) (Expr-F.If c.0 a.0 b.0) (expr.rolls-If c.0 a.0 b.0) (puts.expr_after-If x v c.0 a.0 b.0)
       (λ h i. expr.If (c.1 (first_false (expr_free c.0 x) (expr_free a.0 x || expr_free b.0 x) h) i)
-        (a.1 (first_false (expr_free a.0 x) (expr_free b.0 x) (second_false (expr_free c.0 x) (expr_free a.0 x || expr_free b.0 x) h)) i)
-        (b.1 (second_false (expr_free a.0 x) (expr_free b.0 x) (second_false (expr_free c.0 x) (expr_free a.0 x || expr_free b.0 x) h)) i))
+      (a.1 (first_false (expr_free a.0 x) (expr_free b.0 x) (second_false (expr_free c.0 x) (expr_free a.0 x || expr_free b.0 x) h)) i)
+      (b.1 (second_false (expr_free a.0 x) (expr_free b.0 x) (second_false (expr_free c.0 x) (expr_free a.0 x || expr_free b.0 x) h)) i))
   expr_layer (Expr-F.Call d args) =
       step (expr.Call d (exprs_of args)) (expr.Call d (exprs_after x v false (exprs_of args))) (Expr-F.Call d (exprs_of args)) (expr.rolls-Call d (exprs_of args)) (puts.expr_after-Call x v d (exprs_of args))
       (λ h i. expr.Call d (exprs_stay args h i))

@@ -1,9 +1,9 @@
 -- A substitution keeps the depth of a process, and whether it is in order.
-use Rattle.std.proofs.Common.{◌≡◌, ℕ, ◌+◌, ◌-◌, max, Bool, true, false, cond, ◌&&◌, nat_eq, Some, None, List, map, length, refl, ap, ◌∙◌}
+use Rattle.std.proofs.Common.{◌≡◌, ℕ, ◌+◌, ◌-◌, max, Bool, true, false, cond, ◌&&◌, nat_eq, Some, None, map, length, refl, ap, ◌∙◌}
 use Rattle.std.specs.Prelude.{slice_get}
 use Rattle.csp_program.specs.Lists.{greatest, all_true}
-use Rattle.csp_program.specs.Depth.{expr_depth, gen_depth, part_depth, field_depth, pair_depth, proc_depth, proc_depth_of_layer}
-use Rattle.csp_program.specs.InOrder.{value_in_order, expr_in_order, gen_in_order, part_in_order, head_in_order, field_in_order, pair_in_order, fields_left, field_count, proc_in_order, proc_in_order_of_layer, takes, is_process}
+use Rattle.csp_program.specs.Depth.{expr_depth, gen_depth, field_depth, pair_depth, proc_depth, proc_depth_of_layer}
+use Rattle.csp_program.specs.InOrder.{value_in_order, expr_in_order, gen_in_order, head_in_order, field_in_order, pair_in_order, fields_left, field_count, proc_in_order, proc_in_order_of_layer, takes, is_process}
 use Rattle.csp_program.specs.Substitution.{head_put, any_binds}
 use Rattle.csp_program.proofs.PutLaws.{put_keeps_depth, put_keeps_gen_depth, put_keeps_part_depth, put_keeps_order, put_keeps_gen_order, put_keeps_part_order}
 use Rattle.csp_atoms.specs.declared.value.Value.{Value}
@@ -18,7 +18,7 @@ use Rattle.csp_program.specs.declared.processes.Head.{Head}
 use Rattle.csp_program.specs.declared.processes.Head.TheVariants as head
 use Rattle.csp_program.specs.declared.processes.Proc.{Proc}
 use Rattle.csp_program.specs.declared.programs.Content.{Content}
-use Rattle.substitution.specs.Parts.{expr_after, gen_after, part_after, pair_after, proc_after, exprs_after, fields_after, field_after}
+use Rattle.substitution.specs.Parts.{expr_after, gen_after, part_after, pair_after, proc_after, exprs_after, field_after}
 use Rattle.substitution.proofs.ExprEquations.{part_after-is}
 use Rattle.substitution.proofs.ProcFolds.{proc_fold_keeps}
 use Rattle.substitution.proofs.KeptParts.{exprs_keep, pairs_keep, gens_keep, fields_keep, exprs_length, fields_length}

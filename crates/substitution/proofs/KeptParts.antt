@@ -1,5 +1,5 @@
 -- What is computed of each part of a list stays the same under a substitution, if it does so for one part.
-use Rattle.std.proofs.Common.{◌≡◌, ℕ, Bool, true, false, ◌||◌, Some, None, List, [], ◌∷◌, map, length, suc, if◌then◌else◌, refl, ap, ◌∙◌}
+use Rattle.std.proofs.Common.{◌≡◌, ℕ, Bool, true, false, ◌||◌, List, [], ◌∷◌, map, length, suc, if◌then◌else◌, refl, ap}
 use Rattle.csp_program.specs.Substitution.{binds}
 use Rattle.csp_atoms.specs.declared.value.Value.{Value}
 use Rattle.csp_program.specs.declared.expressions.Expr.{Expr}

@@ -1,6 +1,5 @@
 -- The free names of a process lose exactly the name that a value is put in place of.
-use Rattle.std.proofs.Common.{◌≡◌, ℕ, Bool, true, false, cond, not, ◌&&◌, ◌||◌, nat_eq, Some, None, List, [], ◌∷◌, map, refl, ap, sym, ◌∙◌, subst}
-use Rattle.std.proofs.lemmas.Bool.{false≢true}
+use Rattle.std.proofs.Common.{◌≡◌, ℕ, Bool, true, false, cond, nat_eq, Some, None, List, [], ◌∷◌, map, refl, ap, sym, ◌∙◌, subst}
 use Rattle.csp_program.specs.Free.{Names, nowhere, either, apart_from, any_of, under, before, expr_free, gen_binding, part_free, pair_free, head_free, proc_free, proc_free_of_layer}
 use Rattle.csp_program.specs.Substitution.{head_put, any_binds, any_gets, binds}
 use Rattle.csp_atoms.specs.declared.value.Value.{Value}
@@ -16,7 +15,7 @@ use Rattle.csp_program.specs.declared.processes.Proc.TheVariants as proc
 use Rattle.csp_program.specs.declared.processes.Proc.TheFolds.{fold-roll-Proc, ind-Proc, map-Proc}
 use Rattle.csp_program.specs.declared.processes.Proc.TheOpen.{Proc-F}
 use Rattle.csp_program.specs.declared.processes.Proc.TheViews.{roll-Proc}
-use Rattle.substitution.specs.Parts.{expr_after, gen_after, part_after, pair_after, proc_after, exprs_after, gens_after, pairs_after, fields_after, procs_after, proc_below}
+use Rattle.substitution.specs.Parts.{expr_after, gen_after, pair_after, proc_after, exprs_after, gens_after, pairs_after, fields_after, procs_after, proc_below}
 use Rattle.substitution.proofs.ProcEquations as puts
 use Rattle.substitution.proofs.ExprFree.{expr_loses, gen_loses, part_loses, binds_it}
 use Rattle.substitution.proofs.ListEquations.{fields_bound, gens_bound, pairs_bound}
@@ -67,7 +66,7 @@ module _ (x : ℕ) (v : Value) where
       behind_lost x (binds x g) (gen_binding g) (gen_binding (gen_after x v g)) (binds_it x g) (gen_loses x v g)
       (under (map gen_binding (gens_after x v (binds x g) gs)) after) (under (map gen_binding gs) inner)
       ((elim (binds x g) as (λ b. after ≡ cond (cond b true (any_binds x gs)) inner (apart_from x inner)
-        → under (map gen_binding (gens_after x v b gs)) after ≡ cond b (under (map gen_binding gs) inner) (apart_from x (under (map gen_binding gs) inner))) [
+      → under (map gen_binding (gens_after x v b gs)) after ≡ cond b (under (map gen_binding gs) inner) (apart_from x (under (map gen_binding gs) inner))) [
         | true ↦ λ k. λ i. under (map gen_binding (gens_bound x v gs i)) (k i)
         | false ↦ λ k. gens_lose gs after inner k
       ]) h)

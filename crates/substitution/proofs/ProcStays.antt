@@ -1,7 +1,7 @@
 -- A process in which a name isn't free stays as it is when a value is put in place of that name.
 use Rattle.std.proofs.Common.{◌≡◌, ℕ, Bool, true, false, cond, not, ◌&&◌, ◌||◌, nat_eq, Some, None, List, [], ◌∷◌, map, refl, ap, sym, ◌∙◌, subst}
 use Rattle.std.proofs.lemmas.Bool.{false≢true}
-use Rattle.csp_program.specs.Free.{Names, nowhere, either, apart_from, any_of, under, before, expr_free, gen_binding, part_free, pair_free, head_free, proc_free, proc_free_of_layer}
+use Rattle.csp_program.specs.Free.{Names, any_of, under, before, expr_free, gen_binding, part_free, pair_free, head_free, proc_free, proc_free_of_layer}
 use Rattle.csp_program.specs.Substitution.{head_put, any_binds, any_gets, binds}
 use Rattle.csp_atoms.specs.declared.value.Value.{Value}
 use Rattle.csp_program.specs.declared.expressions.Expr.{Expr}
@@ -13,10 +13,10 @@ use Rattle.csp_program.specs.declared.processes.Head.{Head}
 use Rattle.csp_program.specs.declared.processes.Head.TheVariants as head
 use Rattle.csp_program.specs.declared.processes.Proc.{Proc}
 use Rattle.csp_program.specs.declared.processes.Proc.TheVariants as proc
-use Rattle.csp_program.specs.declared.processes.Proc.TheFolds.{fold-roll-Proc, ind-Proc, map-Proc}
+use Rattle.csp_program.specs.declared.processes.Proc.TheFolds.{ind-Proc, map-Proc}
 use Rattle.csp_program.specs.declared.processes.Proc.TheOpen.{Proc-F}
 use Rattle.csp_program.specs.declared.processes.Proc.TheViews.{roll-Proc}
-use Rattle.substitution.specs.Parts.{expr_after, gen_after, part_after, pair_after, proc_after, exprs_after, gens_after, pairs_after, fields_after, procs_after, proc_below}
+use Rattle.substitution.specs.Parts.{expr_after, pair_after, proc_after, exprs_after, gens_after, pairs_after, fields_after, procs_after, proc_below}
 use Rattle.substitution.proofs.ProcEquations as puts
 use Rattle.substitution.proofs.ExprStays.{expr_stays, gen_stays, part_stays, binding_is, first_false, second_false}
 use Rattle.substitution.proofs.ListEquations.{fields_bound, gens_bound, pairs_bound}
@@ -70,13 +70,13 @@ module _ (x : ℕ) (v : Value) where
   gens_stay (g ∷ gs) inner h =
       let first = gen_stays x v g (first_false ((gen_binding g).0 x) (not ((gen_binding g).1 x) && under (map gen_binding gs) inner x) h) in
       let behind : (not (binds x g) && under (map gen_binding gs) inner x) ≡ false =
-        ap (λ b. not b && under (map gen_binding gs) inner x) (sym (binding_is x g)) ∙
-        second_false ((gen_binding g).0 x) (not ((gen_binding g).1 x) && under (map gen_binding gs) inner x) h in
+      ap (λ b. not b && under (map gen_binding gs) inner x) (sym (binding_is x g)) ∙
+      second_false ((gen_binding g).0 x) (not ((gen_binding g).1 x) && under (map gen_binding gs) inner x) h in
       let rest : GensStay (binds x g) gs inner =
-        (elim (binds x g) as (λ b. (not b && under (map gen_binding gs) inner x) ≡ false → GensStay b gs inner) [
-          | true ↦ λ k. (gens_bound x v gs, λ e. absurd (false≢true (sym e)))
-          | false ↦ λ k. gens_stay gs inner k
-        ]) behind in
+      (elim (binds x g) as (λ b. (not b && under (map gen_binding gs) inner x) ≡ false → GensStay b gs inner) [
+        | true ↦ λ k. (gens_bound x v gs, λ e. absurd (false≢true (sym e)))
+        | false ↦ λ k. gens_stay gs inner k
+      ]) behind in
       (λ i. first i ∷ rest.0 i, rest.1)
 
   -- fields that don't read the name stay, and what stands after them doesn't read it unless they bind it
@@ -92,17 +92,17 @@ module _ (x : ℕ) (v : Value) where
   fields_stay (field.Get y (Some s) ∷ fields) inner h =
       let first = expr_stays x v s (first_false (expr_free s x) (not (nat_eq y x) && before fields inner x) h) in
       let rest : FieldsStay (nat_eq y x) fields inner =
-        (elim (nat_eq y x) as (λ b. (not b && before fields inner x) ≡ false → FieldsStay b fields inner) [
-          | true ↦ λ k. (fields_bound x v fields, λ e. absurd (false≢true (sym e)))
-          | false ↦ λ k. fields_stay fields inner k
-        ]) (second_false (expr_free s x) (not (nat_eq y x) && before fields inner x) h) in
+      (elim (nat_eq y x) as (λ b. (not b && before fields inner x) ≡ false → FieldsStay b fields inner) [
+        | true ↦ λ k. (fields_bound x v fields, λ e. absurd (false≢true (sym e)))
+        | false ↦ λ k. fields_stay fields inner k
+      ]) (second_false (expr_free s x) (not (nat_eq y x) && before fields inner x) h) in
       (λ i. field.Get y (Some (first i)) ∷ rest.0 i, rest.1)
   fields_stay (field.Get y None ∷ fields) inner h =
       let rest : FieldsStay (nat_eq y x) fields inner =
-        (elim (nat_eq y x) as (λ b. (not b && before fields inner x) ≡ false → FieldsStay b fields inner) [
-          | true ↦ λ k. (fields_bound x v fields, λ e. absurd (false≢true (sym e)))
-          | false ↦ λ k. fields_stay fields inner k
-        ]) h in
+      (elim (nat_eq y x) as (λ b. (not b && before fields inner x) ≡ false → FieldsStay b fields inner) [
+        | true ↦ λ k. (fields_bound x v fields, λ e. absurd (false≢true (sym e)))
+        | false ↦ λ k. fields_stay fields inner k
+      ]) h in
       (λ i. field.Get y None ∷ rest.0 i, rest.1)
 
   procs_stay : (ps : List Known) → any_of (map proc_free (procs_of ps)) x ≡ false → procs_after x v (procs_of ps) ≡ procs_of ps
@@ -143,8 +143,8 @@ module _ (x : ℕ) (v : Value) where
       step (proc.If c p.0 q.0) (proc.If (expr_after x v c) (proc_after x v p.0) (proc_after x v q.0)) (Proc-F.If c p.0 q.0)
       (proc.rolls-If c p.0 q.0) (puts.proc_after-If x v c p.0 q.0)
       (λ h i. proc.If (expr_stays x v c (first_false (expr_free c x) (proc_free p.0 x || proc_free q.0 x) h) i)
-        (p.1 (first_false (proc_free p.0 x) (proc_free q.0 x) (second_false (expr_free c x) (proc_free p.0 x || proc_free q.0 x) h)) i)
-        (q.1 (second_false (proc_free p.0 x) (proc_free q.0 x) (second_false (expr_free c x) (proc_free p.0 x || proc_free q.0 x) h)) i))
+      (p.1 (first_false (proc_free p.0 x) (proc_free q.0 x) (second_false (expr_free c x) (proc_free p.0 x || proc_free q.0 x) h)) i)
+      (q.1 (second_false (proc_free p.0 x) (proc_free q.0 x) (second_false (expr_free c x) (proc_free p.0 x || proc_free q.0 x) h)) i))
   layer (Proc-F.External ps) =
       step (proc.External (procs_of ps)) (proc.External (procs_after x v (procs_of ps))) (Proc-F.External (procs_of ps))
       (proc.rolls-External (procs_of ps)) (puts.proc_after-External x v (procs_of ps))
@@ -157,12 +157,12 @@ module _ (x : ℕ) (v : Value) where
       step (proc.EachExternal y s p.0) (proc.EachExternal y (expr_after x v s) (proc_below x v (nat_eq y x) p.0)) (Proc-F.EachExternal y s p.0)
       (proc.rolls-EachExternal y s p.0) (puts.proc_after-EachExternal x v y s p.0)
       (λ h i. proc.EachExternal y (expr_stays x v s (first_false (expr_free s x) (not (nat_eq y x) && proc_free p.0 x) h) i)
-        (below (nat_eq y x) p (not_hidden (nat_eq y x) (proc_free p.0 x) (second_false (expr_free s x) (not (nat_eq y x) && proc_free p.0 x) h)) i))
+      (below (nat_eq y x) p (not_hidden (nat_eq y x) (proc_free p.0 x) (second_false (expr_free s x) (not (nat_eq y x) && proc_free p.0 x) h)) i))
   layer (Proc-F.EachInternal y s p) =
       step (proc.EachInternal y s p.0) (proc.EachInternal y (expr_after x v s) (proc_below x v (nat_eq y x) p.0)) (Proc-F.EachInternal y s p.0)
       (proc.rolls-EachInternal y s p.0) (puts.proc_after-EachInternal x v y s p.0)
       (λ h i. proc.EachInternal y (expr_stays x v s (first_false (expr_free s x) (not (nat_eq y x) && proc_free p.0 x) h) i)
-        (below (nat_eq y x) p (not_hidden (nat_eq y x) (proc_free p.0 x) (second_false (expr_free s x) (not (nat_eq y x) && proc_free p.0 x) h)) i))
+      (below (nat_eq y x) p (not_hidden (nat_eq y x) (proc_free p.0 x) (second_false (expr_free s x) (not (nat_eq y x) && proc_free p.0 x) h)) i))
   layer (Proc-F.Hide p s) =
       step (proc.Hide p.0 s) (proc.Hide (proc_after x v p.0) (expr_after x v s)) (Proc-F.Hide p.0 s)
       (proc.rolls-Hide p.0 s) (puts.proc_after-Hide x v p.0 s)
@@ -171,8 +171,8 @@ module _ (x : ℕ) (v : Value) where
       step (proc.Rename p.0 pairs gens) (proc.Rename (proc_after x v p.0) (pairs_after x v (any_binds x gens) pairs) (gens_after x v false gens)) (Proc-F.Rename p.0 pairs gens)
       (proc.rolls-Rename p.0 pairs gens) (puts.proc_after-Rename x v p.0 pairs gens)
       (λ h i. proc.Rename (p.1 (first_false (proc_free p.0 x) (under (map gen_binding gens) (any_of (map pair_free pairs)) x) h) i)
-        (pairs_under (any_binds x gens) pairs (gens_stay gens (any_of (map pair_free pairs)) (second_false (proc_free p.0 x) (under (map gen_binding gens) (any_of (map pair_free pairs)) x) h)).1 i)
-        ((gens_stay gens (any_of (map pair_free pairs)) (second_false (proc_free p.0 x) (under (map gen_binding gens) (any_of (map pair_free pairs)) x) h)).0 i))
+      (pairs_under (any_binds x gens) pairs (gens_stay gens (any_of (map pair_free pairs)) (second_false (proc_free p.0 x) (under (map gen_binding gens) (any_of (map pair_free pairs)) x) h)).1 i)
+      ((gens_stay gens (any_of (map pair_free pairs)) (second_false (proc_free p.0 x) (under (map gen_binding gens) (any_of (map pair_free pairs)) x) h)).0 i))
   layer (Proc-F.Call d args) =
       step (proc.Call d args) (proc.Call d (exprs_after x v false args)) (Proc-F.Call d args)
       (proc.rolls-Call d args) (puts.proc_after-Call x v d args)

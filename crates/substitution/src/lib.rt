@@ -6,6 +6,8 @@ mod expressions;
 mod fields;
 pub mod laws;
 mod processes;
+#[cfg(test)]
+mod tests;
 
 pub use calls::{
     substitute, substitute_expr, substitute_exprs, substitute_fields, substitute_gens,
