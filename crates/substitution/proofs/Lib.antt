@@ -1,0 +1,11 @@
+pub mod ExprEquations
+pub mod ExprFree
+pub mod ExprStays
+pub mod Keeps
+pub mod KeptParts
+pub mod ListEquations
+pub mod LostNames
+pub mod ProcEquations
+pub mod ProcFolds
+pub mod ProcFree
+pub mod ProcStays

@@ -1,0 +1,19 @@
+use Rattle.csp_program.proofs.PutLaws.{put_keeps_depth, put_keeps_order}
+use Rattle.substitution.specs.Parts.{expr_after}
+use Rattle.substitution.proofs.ExprFree.{expr_loses}
+use Rattle.substitution.proofs.ExprStays.{expr_stays}
+use Rattle.substitution.proofs.laws.expressions_keep.Goals as goal
+
+pub returns-clause-depth : goal.returns-clause-depth
+returns-clause-depth c = put_keeps_depth
+
+pub returns-clause-order : goal.returns-clause-order
+returns-clause-order c = put_keeps_order
+
+pub returns-clause-free : goal.returns-clause-free
+unfolding expr_after
+returns-clause-free c = λ x v e y i. expr_loses x v e i y
+
+pub returns-clause-closed : goal.returns-clause-closed
+unfolding expr_after
+returns-clause-closed c = expr_stays

@@ -1,0 +1,89 @@
+//! A value in place of a bound name, in processes and in all that a process holds.
+
+ghost use Rattle.std.specs.Prelude.{◌≡◌, IfOk, map};
+ghost use Rattle.csp_program.specs.Substitution.{all_unless_bound, any_binds, expr_put, fields_put, gen_twice, pair_twice, proc_put, put_gens};
+
+use crate::expressions::{any_binds_name, put_expr, put_exprs, put_gens};
+use crate::fields::{put_fields, put_pairs};
+use crate::processes::put_proc;
+use containers::Items;
+use csp_base::NoMemory;
+use csp_program::{EventPart, Expr, Field, Gen, Proc, Value};
+use std::alloc::Global;
+
+/// The expression with the value in place of the bound name with this number, wherever that name is free.
+#[tactic(auto, unfolding(crate::specs::Parts::expr_after))]
+pub fn substitute_expr(
+    alloc: Global,
+    expr: &Expr,
+    name: u32,
+    value: &Value,
+) -> Result<Expr, NoMemory>
+    ensures { IfOk result (λ made. made ≡ expr_put name value.now expr.now) }
+{
+    let made = put_expr(alloc, expr, name, value)?;
+    Ok(made)
+}
+
+/// The expressions with the value in place of the name in each of them.
+pub fn substitute_exprs(
+    alloc: Global,
+    exprs: &[Expr],
+    name: u32,
+    value: &Value,
+) -> Result<Items<Expr>, NoMemory>
+    ensures { IfOk result (λ made. made ≡ map (expr_put name value.now) exprs.now) }
+{
+    let made = put_exprs(alloc, false, exprs, name, value)?;
+    Ok(made)
+}
+
+/// The generators with the value in place of the name, up to the one that binds the name. Those after it stay as they are.
+pub fn substitute_gens(
+    alloc: Global,
+    gens: &[Gen],
+    name: u32,
+    value: &Value,
+) -> Result<Items<Gen>, NoMemory>
+    ensures { IfOk result (λ made. made ≡ put_gens name (map (gen_twice name value.now) gens.now)) }
+{
+    let made = put_gens(alloc, gens, name, value)?;
+    Ok(made)
+}
+
+/// The fields of a prefix with the value in place of the name, up to the one that binds the name. Those after it stay as they are.
+pub fn substitute_fields(
+    alloc: Global,
+    fields: &[Field],
+    name: u32,
+    value: &Value,
+) -> Result<Items<Field>, NoMemory>
+    ensures { IfOk result (λ made. made ≡ fields_put name value.now fields.now) }
+{
+    let made = put_fields(alloc, fields, name, value)?;
+    Ok(made)
+}
+
+/// The pairs of a renaming with these generators, with the value in place of the name. They stay as they are where a generator binds the name.
+pub fn substitute_pairs(
+    alloc: Global,
+    pairs: &[(EventPart, EventPart)],
+    gens: &[Gen],
+    name: u32,
+    value: &Value,
+) -> Result<Items<(EventPart, EventPart)>, NoMemory>
+    ensures { IfOk result (λ made. made ≡ all_unless_bound (any_binds name gens.now) (map (pair_twice name value.now) pairs.now)) }
+{
+    let bound = any_binds_name(gens, name);
+    let made = put_pairs(alloc, bound, pairs, name, value)?;
+    Ok(made)
+}
+
+/// The process with the value in place of the bound name with this number, wherever that name is free.
+#[tactic(auto, unfolding(crate::specs::Parts::proc_after))]
+pub fn substitute(alloc: Global, process: &Proc, name: u32, value: &Value) -> Result<Proc, NoMemory>
+    ensures value { IfOk result (λ made. made ≡ proc_put name value.now process.now) }
+{
+    let made = put_proc(alloc, process, name, value)?;
+    Ok(made)
+}

@@ -1,0 +1,159 @@
+//! A value in place of a name in what a prefix and a renaming hold.
+#![tactic(auto)]
+
+ghost use Rattle.std.specs.Prelude.{◌≡◌, ◌||◌, false, nat_eq, if◌then◌else◌, IfOk};
+ghost use Rattle.csp_program.specs.Substitution.{any_gets, head_put};
+ghost use Rattle.substitution.specs.Parts.{field_after, fields_after, gets, pair_after, pairs_after};
+
+use crate::expressions::{put_expr, put_part};
+use containers::Items;
+use csp_base::NoMemory;
+use csp_program::copies::{copy_field, copy_pair, copy_value};
+use csp_program::{EventPart, Field, Head, Value};
+use std::alloc::Global;
+
+/// The head with the value in place of the bound name with this number, if it is that name.
+pub fn substitute_head(
+    alloc: Global,
+    head: &Head,
+    name: u32,
+    value: &Value,
+) -> Result<Head, NoMemory>
+    ensures { IfOk result (λ made. made ≡ head_put name value.now head.now) }
+{
+    match head {
+        Head::Channel(channel) => Ok(Head::Channel(*channel)),
+        Head::Bound(other) => {
+            if *other == name {
+                return Ok(Head::Put(copy_value(alloc, value)?));
+            }
+            Ok(Head::Bound(*other))
+        }
+        Head::Put(kept) => Ok(Head::Put(copy_value(alloc, kept)?)),
+    }
+}
+
+// Whether the field binds the name.
+fn gets_name(field: &Field, name: u32) -> bool
+    ensures { result ≡ gets name field.now }
+{
+    match field {
+        Field::Put(_) => false,
+        Field::Get(other, _) => *other == name,
+    }
+}
+
+// Whether the name is bound once this field has been passed.
+fn still_got(bound: bool, field: &Field, name: u32) -> bool
+    ensures { result ≡ (bound || gets name field.now) }
+{
+    if bound {
+        return true;
+    }
+    gets_name(field, name)
+}
+
+/// Whether one of the fields of a prefix binds the name.
+pub fn any_gets_name(fields: &[Field], name: u32) -> bool
+    ensures { result ≡ any_gets name fields.now }
+{
+    for field in fields {
+        if gets_name(field, name) {
+            return true;
+        }
+    }
+    false
+}
+
+fn put_field(alloc: Global, field: &Field, name: u32, value: &Value) -> Result<Field, NoMemory>
+    ensures { IfOk result (λ made. made ≡ field_after name value.now field.now) }
+{
+    match field {
+        Field::Put(expr) => Ok(Field::Put(put_expr(alloc, expr, name, value)?)),
+        Field::Get(other, None) => Ok(Field::Get(*other, None)),
+        Field::Get(other, Some(set)) => Ok(Field::Get(
+            *other,
+            Some(put_expr(alloc, set, name, value)?),
+        )),
+    }
+}
+
+// A field, kept where the name is bound.
+fn put_field_unless(
+    alloc: Global,
+    bound: bool,
+    field: &Field,
+    name: u32,
+    value: &Value,
+) -> Result<Field, NoMemory>
+    ensures { IfOk result (λ made. made ≡ (if bound then field.now else field_after name value.now field.now)) }
+{
+    if bound {
+        return Ok(copy_field(alloc, field)?);
+    }
+    Ok(put_field(alloc, field, name, value)?)
+}
+
+// Fields. Those after the one that binds the name are kept.
+pub(crate) fn put_fields(
+    alloc: Global,
+    fields: &[Field],
+    name: u32,
+    value: &Value,
+) -> Result<Items<Field>, NoMemory>
+    ensures { IfOk result (λ made. made ≡ fields_after name value.now false fields.now) }
+{
+    let mut made = Items::new(alloc);
+    let mut bound = false;
+    for field in fields {
+        made.push(put_field_unless(alloc, bound, field, name, value)?)?;
+        bound = still_got(bound, field, name);
+    }
+    Ok(made)
+}
+
+fn put_pair(
+    alloc: Global,
+    pair: &(EventPart, EventPart),
+    name: u32,
+    value: &Value,
+) -> Result<(EventPart, EventPart), NoMemory>
+    ensures { IfOk result (λ made. made ≡ pair_after name value.now pair.now) }
+{
+    let old = put_part(alloc, &pair.0, name, value)?;
+    let new = put_part(alloc, &pair.1, name, value)?;
+    Ok((old, new))
+}
+
+// A pair of a renaming, kept where the name is bound.
+fn put_pair_unless(
+    alloc: Global,
+    bound: bool,
+    pair: &(EventPart, EventPart),
+    name: u32,
+    value: &Value,
+) -> Result<(EventPart, EventPart), NoMemory>
+    ensures { IfOk result (λ made. made ≡ (if bound then pair.now else pair_after name value.now pair.now)) }
+{
+    if bound {
+        return Ok(copy_pair(alloc, pair)?);
+    }
+    Ok(put_pair(alloc, pair, name, value)?)
+}
+
+// The pairs of a renaming, kept where the name is bound.
+pub(crate) fn put_pairs(
+    alloc: Global,
+    bound: bool,
+    pairs: &[(EventPart, EventPart)],
+    name: u32,
+    value: &Value,
+) -> Result<Items<(EventPart, EventPart)>, NoMemory>
+    ensures { IfOk result (λ made. made ≡ pairs_after name value.now bound pairs.now) }
+{
+    let mut made = Items::new(alloc);
+    for pair in pairs {
+        made.push(put_pair_unless(alloc, bound, pair, name, value)?)?;
+    }
+    Ok(made)
+}

@@ -1,0 +1,21 @@
+//! Laws of substitution.
+
+ghost use Rattle.substitution.specs.Laws.{ExprsKeepTheirDepth, ExprsKeepTheirOrder, ExprsLoseOneName, ExprsStayWithoutTheName, ProcsKeepTheirDepth, ProcsKeepTheirOrder, ProcsLoseOneName, ProcsStayWithoutTheName};
+
+/// What a substitution keeps of an expression: its depth, whether it is in order, and each free name but the one that gets the value. An expression
+/// in which that name isn't free stays as it is.
+pub fn expressions_keep()
+    ensures depth { ExprsKeepTheirDepth }
+    ensures order { ExprsKeepTheirOrder }
+    ensures free { ExprsLoseOneName }
+    ensures closed { ExprsStayWithoutTheName }
+{}
+
+/// What a substitution keeps of a process: its depth, whether it is in order, and each free name but the one that gets the value. A process in
+/// which that name isn't free stays as it is.
+pub fn processes_keep()
+    ensures depth { ProcsKeepTheirDepth }
+    ensures order { ProcsKeepTheirOrder }
+    ensures free { ProcsLoseOneName }
+    ensures closed { ProcsStayWithoutTheName }
+{}

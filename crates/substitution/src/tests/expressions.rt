@@ -1,0 +1,183 @@
+//! One expression of each form, with a name or with the value that is put in its place.
+
+use containers::{Boxed, Items};
+use csp_base::NoMemory;
+use csp_program::{Atom, BinOp, EventPart, Expr, Gen, SetOp, Value};
+use std::alloc::Global;
+
+// The name that gets the value.
+pub(super) const NAME: u32 = 7;
+
+// A name that stays.
+pub(super) const OTHER: u32 = 9;
+
+#[derive(Clone, Copy, Debug)]
+pub(super) enum ExprForm {
+    Number,
+    Truth,
+    Constant,
+    Name,
+    OtherName,
+    Value,
+    Negative,
+    Inverse,
+    Sum,
+    Choice,
+    Use,
+    SetName,
+    Event,
+    Display,
+    Range,
+    Comprehension,
+    BoundComprehension,
+    Production,
+    BoundProduction,
+    Union,
+}
+
+pub(super) const EXPR_FORMS: [ExprForm; 20] = [
+    ExprForm::Number,
+    ExprForm::Truth,
+    ExprForm::Constant,
+    ExprForm::Name,
+    ExprForm::OtherName,
+    ExprForm::Value,
+    ExprForm::Negative,
+    ExprForm::Inverse,
+    ExprForm::Sum,
+    ExprForm::Choice,
+    ExprForm::Use,
+    ExprForm::SetName,
+    ExprForm::Event,
+    ExprForm::Display,
+    ExprForm::Range,
+    ExprForm::Comprehension,
+    ExprForm::BoundComprehension,
+    ExprForm::Production,
+    ExprForm::BoundProduction,
+    ExprForm::Union,
+];
+
+pub(super) fn value() -> Value {
+    Value::One(Atom::Num(3))
+}
+
+// The name, or the value in its place.
+pub(super) fn leaf(put: bool) -> Expr {
+    if put {
+        return Expr::Lit(value());
+    }
+    Expr::Bound(NAME)
+}
+
+fn boxed(alloc: Global, put: bool) -> Result<Boxed<Expr>, NoMemory> {
+    Ok(Boxed::new(alloc, leaf(put))?)
+}
+
+// `1, x`
+pub(super) fn two(alloc: Global, put: bool) -> Result<Items<Expr>, NoMemory> {
+    let mut exprs = Items::new(alloc);
+    exprs.push(Expr::Num(1))?;
+    exprs.push(leaf(put))?;
+    Ok(exprs)
+}
+
+// `y <- x, x`, where the condition is reached by the value or not.
+pub(super) fn gens(
+    alloc: Global,
+    name: u32,
+    put: bool,
+    put_behind: bool,
+) -> Result<Items<Gen>, NoMemory> {
+    let mut gens = Items::new(alloc);
+    gens.push(Gen::From(name, leaf(put)))?;
+    gens.push(Gen::Cond(leaf(put_behind)))?;
+    Ok(gens)
+}
+
+// `c.1.x`
+pub(super) fn part(alloc: Global, put: bool) -> Result<EventPart, NoMemory> {
+    let fields = two(alloc, put)?;
+    Ok(EventPart { channel: 2, fields })
+}
+
+fn parts(alloc: Global, put: bool) -> Result<Items<EventPart>, NoMemory> {
+    let mut parts = Items::new(alloc);
+    parts.push(part(alloc, put)?)?;
+    Ok(parts)
+}
+
+fn sum(alloc: Global, put: bool) -> Result<Expr, NoMemory> {
+    let left = boxed(alloc, put)?;
+    let right = boxed(alloc, put)?;
+    Ok(Expr::Binary(BinOp::Add, left, right))
+}
+
+fn choice(alloc: Global, put: bool) -> Result<Expr, NoMemory> {
+    let condition = boxed(alloc, put)?;
+    let yes = boxed(alloc, put)?;
+    let no = boxed(alloc, put)?;
+    Ok(Expr::If(condition, yes, no))
+}
+
+fn range(alloc: Global, put: bool) -> Result<Expr, NoMemory> {
+    let first = boxed(alloc, put)?;
+    let last = boxed(alloc, put)?;
+    Ok(Expr::Range(first, last))
+}
+
+fn union(alloc: Global, put: bool) -> Result<Expr, NoMemory> {
+    let left = boxed(alloc, put)?;
+    let right = boxed(alloc, put)?;
+    Ok(Expr::SetOp(SetOp::Union, left, right))
+}
+
+fn comprehension(alloc: Global, put: bool) -> Result<Expr, NoMemory> {
+    let items = two(alloc, put)?;
+    let gens = gens(alloc, OTHER, put, put)?;
+    Ok(Expr::Comp(items, gens))
+}
+
+// Only the set that the name ranges over stands outside of its binding.
+fn bound_comprehension(alloc: Global, put: bool) -> Result<Expr, NoMemory> {
+    let items = two(alloc, false)?;
+    let gens = gens(alloc, NAME, put, false)?;
+    Ok(Expr::Comp(items, gens))
+}
+
+fn production(alloc: Global, put: bool) -> Result<Expr, NoMemory> {
+    let parts = parts(alloc, put)?;
+    let gens = gens(alloc, OTHER, put, put)?;
+    Ok(Expr::Product(parts, gens))
+}
+
+fn bound_production(alloc: Global, put: bool) -> Result<Expr, NoMemory> {
+    let parts = parts(alloc, false)?;
+    let gens = gens(alloc, NAME, put, false)?;
+    Ok(Expr::Product(parts, gens))
+}
+
+pub(super) fn expr_form(alloc: Global, form: &ExprForm, put: bool) -> Result<Expr, NoMemory> {
+    match form {
+        ExprForm::Number => Ok(Expr::Num(NAME as i64)),
+        ExprForm::Truth => Ok(Expr::Truth(true)),
+        ExprForm::Constant => Ok(Expr::Const(NAME)),
+        ExprForm::Name => Ok(leaf(put)),
+        ExprForm::OtherName => Ok(Expr::Bound(OTHER)),
+        ExprForm::Value => Ok(Expr::Lit(Value::One(Atom::Truth(true)))),
+        ExprForm::Negative => Ok(Expr::Neg(boxed(alloc, put)?)),
+        ExprForm::Inverse => Ok(Expr::Not(boxed(alloc, put)?)),
+        ExprForm::Sum => sum(alloc, put),
+        ExprForm::Choice => choice(alloc, put),
+        ExprForm::Use => Ok(Expr::Call(NAME, two(alloc, put)?)),
+        ExprForm::SetName => Ok(Expr::SetName(NAME)),
+        ExprForm::Event => Ok(Expr::Event(NAME, two(alloc, put)?)),
+        ExprForm::Display => Ok(Expr::Display(two(alloc, put)?)),
+        ExprForm::Range => range(alloc, put),
+        ExprForm::Comprehension => comprehension(alloc, put),
+        ExprForm::BoundComprehension => bound_comprehension(alloc, put),
+        ExprForm::Production => production(alloc, put),
+        ExprForm::BoundProduction => bound_production(alloc, put),
+        ExprForm::Union => union(alloc, put),
+    }
+}
