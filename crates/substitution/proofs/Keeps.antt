@@ -52,6 +52,10 @@ and_true true = refl
 and_true false = refl
 
 module _ (p : Content) (x : ℕ) (v : Value) (ordered : value_in_order p v ≡ true) where
+  pub expr_keeps_order : (e : Expr) → expr_in_order p (expr_after x v e) ≡ expr_in_order p e
+  unfolding expr_after
+  expr_keeps_order = put_keeps_order p x v ordered
+
   head_keeps_order : (h : Head) (n : ℕ) → head_in_order p (head_put x v h) n ≡ head_in_order p h n
   head_keeps_order (head.Channel c) n = refl
   head_keeps_order (head.Put w) n = refl

@@ -5,6 +5,10 @@ pub mod Keeps
 pub mod KeptParts
 pub mod ListEquations
 pub mod LostNames
+pub mod NetEquations
+pub mod NetFree
+pub mod NetKeeps
+pub mod NetStays
 pub mod ProcEquations
 pub mod ProcFolds
 pub mod ProcFree

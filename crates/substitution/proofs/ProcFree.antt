@@ -43,7 +43,7 @@ module _ (x : ℕ) (v : Value) where
   head_loses (head.Bound y) = put_free (nat_eq y x) y ∙ name_lost x y
   head_loses (head.Put w) = nowhere_lost x
 
-  exprs_lose : (es : List Expr) → any_of (map expr_free (exprs_after x v false es)) ≡ apart_from x (any_of (map expr_free es))
+  pub exprs_lose : (es : List Expr) → any_of (map expr_free (exprs_after x v false es)) ≡ apart_from x (any_of (map expr_free es))
   exprs_lose [] = nowhere_lost x
   exprs_lose (e ∷ es) = (λ i. either (expr_loses x v e i) (exprs_lose es i)) ∙ either_lost x (expr_free e) (any_of (map expr_free es))
 

@@ -41,7 +41,7 @@ module _ (x : ℕ) (v : Value) where
   head_stays (head.Bound y) h = head_if (nat_eq y x) y h
   head_stays (head.Put w) h = refl
 
-  exprs_stay : (es : List Expr) → any_of (map expr_free es) x ≡ false → exprs_after x v false es ≡ es
+  pub exprs_stay : (es : List Expr) → any_of (map expr_free es) x ≡ false → exprs_after x v false es ≡ es
   exprs_stay [] h = refl
   exprs_stay (e ∷ es) h = λ i.
       expr_stays x v e (first_false (expr_free e x) (any_of (map expr_free es) x) h) i ∷
@@ -116,7 +116,7 @@ module _ (x : ℕ) (v : Value) where
   below false p h = p.1 (h refl)
 
   -- what stands under a binding of the name y doesn't read x unless y is x
-  not_hidden : (b u : Bool) → (not b && u) ≡ false → b ≡ false → u ≡ false
+  pub not_hidden : (b u : Bool) → (not b && u) ≡ false → b ≡ false → u ≡ false
   not_hidden true u h e = absurd (false≢true (sym e))
   not_hidden false u h e = h
 

@@ -1,11 +1,12 @@
--- What a substitution keeps of an expression and of a process.
+-- What a substitution keeps of an expression, a process and a network.
 use Rattle.std.specs.Prelude.{◌≡◌, ℕ, true, false}
 use Rattle.csp_program.specs.Depth.{expr_depth, proc_depth}
-use Rattle.csp_program.specs.Free.{apart_from, expr_free, proc_free}
-use Rattle.csp_program.specs.InOrder.{value_in_order, expr_in_order, proc_in_order}
-use Rattle.csp_program.specs.Substitution.{expr_put, proc_put}
+use Rattle.csp_program.specs.Free.{apart_from, expr_free, net_free, proc_free}
+use Rattle.csp_program.specs.InOrder.{value_in_order, expr_in_order, net_in_order, proc_in_order}
+use Rattle.csp_program.specs.Substitution.{expr_put, net_put, proc_put}
 use Rattle.csp_atoms.specs.declared.value.Value.{Value}
 use Rattle.csp_program.specs.declared.expressions.Expr.{Expr}
+use Rattle.csp_program.specs.declared.networks.Net.{Net}
 use Rattle.csp_program.specs.declared.processes.Proc.{Proc}
 use Rattle.csp_program.specs.declared.programs.Content.{Content}
 
@@ -37,3 +38,13 @@ ProcsLoseOneName = (x : ℕ) (v : Value) (q : Proc) → (y : ℕ) → proc_free 
 
 abbrev pub ProcsStayWithoutTheName : Type 0
 ProcsStayWithoutTheName = (x : ℕ) (v : Value) (q : Proc) → proc_free q x ≡ false → proc_put x v q ≡ q
+
+-- and of a network
+abbrev pub NetsKeepTheirOrder : Type 0
+NetsKeepTheirOrder = (p : Content) (x : ℕ) (v : Value) → value_in_order p v ≡ true → (n : Net) → net_in_order p (net_put x v n) ≡ net_in_order p n
+
+abbrev pub NetsLoseOneName : Type 0
+NetsLoseOneName = (x : ℕ) (v : Value) (n : Net) → (y : ℕ) → net_free (net_put x v n) y ≡ apart_from x (net_free n) y
+
+abbrev pub NetsStayWithoutTheName : Type 0
+NetsStayWithoutTheName = (x : ℕ) (v : Value) (n : Net) → net_free n x ≡ false → net_put x v n ≡ n

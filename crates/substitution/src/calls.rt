@@ -1,14 +1,15 @@
-//! A value in place of a bound name, in processes and in all that a process holds.
+//! A value in place of a bound name, in networks, in processes and in all that a process holds.
 
 ghost use Rattle.std.specs.Prelude.{◌≡◌, IfOk, map};
-ghost use Rattle.csp_program.specs.Substitution.{all_unless_bound, any_binds, expr_put, fields_put, gen_twice, pair_twice, proc_put, put_gens};
+ghost use Rattle.csp_program.specs.Substitution.{all_unless_bound, any_binds, expr_put, fields_put, gen_twice, net_put, pair_twice, proc_put, put_gens};
 
 use crate::expressions::{any_binds_name, put_expr, put_exprs, put_gens};
 use crate::fields::{put_fields, put_pairs};
+use crate::networks::put_net;
 use crate::processes::put_proc;
 use containers::Items;
 use csp_base::NoMemory;
-use csp_program::{EventPart, Expr, Field, Gen, Proc, Value};
+use csp_program::{EventPart, Expr, Field, Gen, Net, Proc, Value};
 use std::alloc::Global;
 
 /// The expression with the value in place of the bound name with this number, wherever that name is free.
@@ -82,8 +83,17 @@ pub fn substitute_pairs(
 /// The process with the value in place of the bound name with this number, wherever that name is free.
 #[tactic(auto, unfolding(crate::specs::Parts::proc_after))]
 pub fn substitute(alloc: Global, process: &Proc, name: u32, value: &Value) -> Result<Proc, NoMemory>
-    ensures value { IfOk result (λ made. made ≡ proc_put name value.now process.now) }
+    ensures { IfOk result (λ made. made ≡ proc_put name value.now process.now) }
 {
     let made = put_proc(alloc, process, name, value)?;
+    Ok(made)
+}
+
+/// The network with the value in place of the bound name with this number, wherever that name is free.
+#[tactic(auto, unfolding(crate::specs::Networks::net_after))]
+pub fn substitute_net(alloc: Global, net: &Net, name: u32, value: &Value) -> Result<Net, NoMemory>
+    ensures { IfOk result (λ made. made ≡ net_put name value.now net.now) }
+{
+    let made = put_net(alloc, net, name, value)?;
     Ok(made)
 }

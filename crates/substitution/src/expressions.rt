@@ -137,7 +137,7 @@ fn put_boxed_expr(
 
 // An expression, kept where the name is bound.
 #[cycle(put_expr)]
-fn put_expr_unless(
+pub(crate) fn put_expr_unless(
     alloc: Global,
     bound: bool,
     expr: &Expr,

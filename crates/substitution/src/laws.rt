@@ -1,6 +1,6 @@
 //! Laws of substitution.
 
-ghost use Rattle.substitution.specs.Laws.{ExprsKeepTheirDepth, ExprsKeepTheirOrder, ExprsLoseOneName, ExprsStayWithoutTheName, ProcsKeepTheirDepth, ProcsKeepTheirOrder, ProcsLoseOneName, ProcsStayWithoutTheName};
+ghost use Rattle.substitution.specs.Laws.{ExprsKeepTheirDepth, ExprsKeepTheirOrder, ExprsLoseOneName, ExprsStayWithoutTheName, NetsKeepTheirOrder, NetsLoseOneName, NetsStayWithoutTheName, ProcsKeepTheirDepth, ProcsKeepTheirOrder, ProcsLoseOneName, ProcsStayWithoutTheName};
 
 /// What a substitution keeps of an expression: its depth, whether it is in order, and each free name but the one that gets the value. An expression
 /// in which that name isn't free stays as it is.
@@ -18,4 +18,12 @@ pub fn processes_keep()
     ensures order { ProcsKeepTheirOrder }
     ensures free { ProcsLoseOneName }
     ensures closed { ProcsStayWithoutTheName }
+{}
+
+/// What a substitution keeps of a network: whether it is in order, and each free name but the one that gets the value. A network in which that
+/// name isn't free stays as it is.
+pub fn networks_keep()
+    ensures order { NetsKeepTheirOrder }
+    ensures free { NetsLoseOneName }
+    ensures closed { NetsStayWithoutTheName }
 {}

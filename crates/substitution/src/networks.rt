@@ -1,0 +1,108 @@
+//! A value in place of a name in networks.
+#![tactic(auto, using(crate::proofs::NetEquations::net_forms))]
+
+ghost use Rattle.std.specs.Prelude.{◌≡◌, if◌then◌else◌, nat_eq, IfOk};
+ghost use Rattle.substitution.specs.Networks.{net_after, net_below};
+ghost use Rattle.substitution.specs.Parts.{expr_after};
+
+use crate::expressions::{put_expr, put_expr_unless, put_exprs};
+use crate::processes::put_proc;
+use containers::Boxed;
+use csp_base::NoMemory;
+use csp_program::net_copies::copy_net;
+use csp_program::{Expr, Net, Value};
+use std::alloc::Global;
+
+// One of the networks `left` and `right`.
+fn choice(
+    alloc: Global,
+    c: &Expr,
+    left: Boxed<Net>,
+    right: Boxed<Net>,
+    name: u32,
+    value: &Value,
+) -> Result<Net, NoMemory>
+    ensures { IfOk result (λ made. made ≡ Net.If (expr_after name value.now c.now) left right) }
+{
+    Ok(Net::If(put_expr(alloc, c, name, value)?, left, right))
+}
+
+// Two networks with their alphabets.
+fn pair(
+    alloc: Global,
+    left: Boxed<Net>,
+    a: &Expr,
+    b: &Expr,
+    right: Boxed<Net>,
+    name: u32,
+    value: &Value,
+) -> Result<Net, NoMemory>
+    ensures { IfOk result (λ made. made ≡ Net.Pair left (expr_after name value.now a.now) (expr_after name value.now b.now) right) }
+{
+    let a = put_expr(alloc, a, name, value)?;
+    let b = put_expr(alloc, b, name, value)?;
+    Ok(Net::Pair(left, a, b, right))
+}
+
+// A network for each value of a set. The alphabet stands under the binding, and the set outside of it.
+fn each(
+    alloc: Global,
+    other: u32,
+    set: &Expr,
+    a: &Expr,
+    net: Boxed<Net>,
+    name: u32,
+    value: &Value,
+) -> Result<Net, NoMemory>
+    ensures { IfOk result (λ made. made ≡ Net.Each other (expr_after name value.now set.now) (if nat_eq other name then a.now else expr_after name value.now a.now) net) }
+{
+    let set = put_expr(alloc, set, name, value)?;
+    let a = put_expr_unless(alloc, other == name, a, name, value)?;
+    Ok(Net::Each(other, set, a, net))
+}
+
+#[cycle(put_net)]
+pub(crate) fn put_net(alloc: Global, net: &Net, name: u32, value: &Value) -> Result<Net, NoMemory>
+    ensures { IfOk result (λ made. made ≡ net_after name value.now net.now) }
+{
+    match net {
+        Net::Leaf(process) => Ok(Net::Leaf(put_proc(alloc, process, name, value)?)),
+        Net::Call(def, args) => {
+            let args = put_exprs(alloc, false, args.as_slice(), name, value)?;
+            Ok(Net::Call(*def, args))
+        }
+        Net::If(c, left, right) => {
+            let left = put_boxed_net(alloc, false, left.get(), name, value)?;
+            let right = put_boxed_net(alloc, false, right.get(), name, value)?;
+            Ok(choice(alloc, c, left, right, name, value)?)
+        }
+        Net::Pair(left, a, b, right) => {
+            let left = put_boxed_net(alloc, false, left.get(), name, value)?;
+            let right = put_boxed_net(alloc, false, right.get(), name, value)?;
+            Ok(pair(alloc, left, a, b, right, name, value)?)
+        }
+        Net::Each(other, set, a, inner) => {
+            let inner = put_boxed_net(alloc, *other == name, inner.get(), name, value)?;
+            Ok(each(alloc, *other, set, a, inner, name, value)?)
+        }
+    }
+}
+
+// A network on the heap, kept where the name is bound.
+#[cycle(put_net)]
+fn put_boxed_net(
+    alloc: Global,
+    bound: bool,
+    net: &Net,
+    name: u32,
+    value: &Value,
+) -> Result<Boxed<Net>, NoMemory>
+    ensures { IfOk result (λ made. made ≡ net_below name value.now bound net.now) }
+{
+    if bound {
+        let copy = copy_net(alloc, net)?;
+        return Ok(Boxed::new(alloc, copy)?);
+    }
+    let made = put_net(alloc, net, name, value)?;
+    Ok(Boxed::new(alloc, made)?)
+}
