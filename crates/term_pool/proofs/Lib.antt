@@ -1,1 +1,6 @@
+pub mod HeldLemmas
 pub mod MeasureLaws
+pub mod NodeLemmas
+pub mod NodeMeasures
+pub mod PutLemmas
+pub mod TreeLemmas

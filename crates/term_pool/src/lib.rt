@@ -1,10 +1,17 @@
-//! Terms: depth, size and equality of processes.
+//! Terms: depth, size and equality of processes, and a pool in which each stands once.
 #![tactic(auto)]
 
 pub mod measure;
 mod measured;
+pub mod node;
+mod node_measures;
+mod nodes;
+pub mod pool;
+mod put;
 pub mod terms;
 #[cfg(test)]
 mod tests;
 
+pub use node::{Node, ProcId};
+pub use pool::Pool;
 pub use terms::{same, term_depth, term_size};

@@ -1,0 +1,154 @@
+-- Texts of printed forms, from those of their parts. The brackets that a printed tree opens are at most two a level: an operand or an item of depth d
+-- is a text where 2 * d brackets may be opened, and a bare tree where one fewer may be.
+use Rattle.std.proofs.Common.{◌≡◌, ℕ, zero, suc, ◌+◌, ◌*◌, ◌≤◌, List, [], ◌∷◌, ◌++◌, ap, sym, refl, ◌∙◌, subst, append_assoc, arith}
+use Rattle.csp_text.specs.Depth.{tree_depth}
+use Rattle.csp_text.specs.declared.token.Token.{Token}
+use Rattle.csp_text.specs.declared.token.Token.TheVariants.{Symbol}
+use Rattle.csp_text.specs.declared.token.Symbol.TheVariants.{OpenParen, CloseParen, Comma}
+use Rattle.csp_text.specs.declared.tree.Tree.{Tree}
+use Rattle.csp_text.specs.declared.tree.Tree.TheVariants as tree
+use Rattle.csp_text.specs.declared.tree.BinOp.{BinOp}
+use Rattle.csp_text.specs.declared.tree.BinOp.TheVariants as op
+use Rattle.csp_text.specs.declared.tree.SetOp.{SetOp}
+use Rattle.csp_text.specs.declared.tree.SetOp.TheVariants as set_op
+use Rattle.csp_grammar.specs.Grammar.{TreeText, ClosedPrefixText, ClosedSequenceText, OpenText, DottedText, ExpressionText, ItemText, AtomText}
+use Rattle.csp_grammar.specs.Grammar as g
+use Rattle.csp_grammar.specs.Precedence.{Level}
+use Rattle.csp_grammar.specs.Precedence as table
+use Rattle.csp_grammar.specs.Precedence.IsNext.{disjunction-conjunction, conjunction-negation, negation-comparison, comparison-sum, sum-product, product-minus, minus-renaming}
+use Rattle.csp_grammar.specs.Precedence.Level.{disjunction, conjunction, negation, comparison, sum, product, minus, renaming}
+use Rattle.script_printer.specs.declared.shape.Shape.TheVariants.{Atom, Dotted, Compound}
+use Rattle.script_printer.specs.PrintedTree.{as_item, as_operand, in_parentheses, item_tokens, operand_tokens, operator_token, printed_tokens, set_op_token, shape_of}
+
+-- from an atom upwards
+
+pub at_level : {n : ℕ} {ts : List Token} {t : Tree} {r : List Token} → (l : Level) → AtomText n ts t r → ExpressionText n l ts t r
+at_level renaming a = g.expression-atom a
+at_level minus a = g.expression-tighter minus-renaming (g.expression-atom a)
+at_level product a = g.expression-tighter product-minus (g.expression-tighter minus-renaming (g.expression-atom a))
+at_level sum a = g.expression-tighter sum-product (g.expression-tighter product-minus (g.expression-tighter minus-renaming (g.expression-atom a)))
+at_level comparison a =
+    g.expression-tighter comparison-sum (g.expression-tighter sum-product (g.expression-tighter product-minus (g.expression-tighter minus-renaming (g.expression-atom a))))
+at_level negation a =
+    g.expression-tighter negation-comparison (g.expression-tighter comparison-sum
+    (g.expression-tighter sum-product (g.expression-tighter product-minus (g.expression-tighter minus-renaming (g.expression-atom a)))))
+at_level conjunction a =
+    g.expression-tighter conjunction-negation (g.expression-tighter negation-comparison (g.expression-tighter comparison-sum
+    (g.expression-tighter sum-product (g.expression-tighter product-minus (g.expression-tighter minus-renaming (g.expression-atom a))))))
+at_level disjunction a =
+    g.expression-tighter disjunction-conjunction (g.expression-tighter conjunction-negation (g.expression-tighter negation-comparison
+    (g.expression-tighter comparison-sum (g.expression-tighter sum-product (g.expression-tighter product-minus (g.expression-tighter minus-renaming (g.expression-atom a)))))))
+
+pub from_level : {n : ℕ} {ts : List Token} {t : Tree} {r : List Token} → (l : Level) → ExpressionText n l ts t r → ExpressionText n disjunction ts t r
+from_level disjunction e = e
+from_level conjunction e = g.expression-tighter disjunction-conjunction e
+from_level negation e = g.expression-tighter disjunction-conjunction (g.expression-tighter conjunction-negation e)
+from_level comparison e = g.expression-tighter disjunction-conjunction (g.expression-tighter conjunction-negation (g.expression-tighter negation-comparison e))
+from_level sum e =
+    g.expression-tighter disjunction-conjunction (g.expression-tighter conjunction-negation (g.expression-tighter negation-comparison (g.expression-tighter comparison-sum e)))
+from_level product e =
+    g.expression-tighter disjunction-conjunction (g.expression-tighter conjunction-negation (g.expression-tighter negation-comparison
+    (g.expression-tighter comparison-sum (g.expression-tighter sum-product e))))
+from_level minus e =
+    g.expression-tighter disjunction-conjunction (g.expression-tighter conjunction-negation (g.expression-tighter negation-comparison
+    (g.expression-tighter comparison-sum (g.expression-tighter sum-product (g.expression-tighter product-minus e)))))
+from_level renaming e =
+    g.expression-tighter disjunction-conjunction (g.expression-tighter conjunction-negation (g.expression-tighter negation-comparison
+    (g.expression-tighter comparison-sum (g.expression-tighter sum-product (g.expression-tighter product-minus (g.expression-tighter minus-renaming e))))))
+
+pub as_prefix : {n : ℕ} {ts : List Token} {t : Tree} {r : List Token} → AtomText n ts t r → ClosedPrefixText n ts t r
+as_prefix a = g.closed-prefix-expression (at_level disjunction a)
+
+pub as_sequence : {n : ℕ} {ts : List Token} {t : Tree} {r : List Token} → AtomText n ts t r → ClosedSequenceText n ts t r
+as_sequence a = g.closed-sequence-one (as_prefix a)
+
+pub prefix_tree : {n : ℕ} {ts : List Token} {t : Tree} {r : List Token} → ClosedPrefixText n ts t r → TreeText n ts t r
+prefix_tree p = g.tree-side (g.side-closed (g.closed-side-sequence (g.closed-sequence-one p)))
+
+pub expression_tree : {n : ℕ} {ts : List Token} {t : Tree} {r : List Token} → ExpressionText n disjunction ts t r → TreeText n ts t r
+expression_tree e = prefix_tree (g.closed-prefix-expression e)
+
+pub open_tree : {n : ℕ} {ts : List Token} {t : Tree} {r : List Token} → OpenText n ts t r → TreeText n ts t r
+open_tree o = g.tree-side (g.side-sequence (g.open-sequence-one (g.open-prefix-open-form o)))
+
+-- two operands with an operator between them
+
+pub operator_text : {n : ℕ} {ts : List Token} {a : Tree} {us : List Token} {b : Tree} {r : List Token} → (o : BinOp) →
+    AtomText n ts a (operator_token o ∷ us) → AtomText n us b r → ExpressionText n disjunction ts (tree.Binary o a b) r
+operator_text op.Or a b = g.expression-left-operator disjunction-conjunction table.or (at_level disjunction a) (at_level conjunction b)
+operator_text op.And a b = from_level conjunction (g.expression-left-operator conjunction-negation table.and (at_level conjunction a) (at_level negation b))
+operator_text op.Eq a b = from_level comparison (g.expression-compare table.equal (at_level sum a) (at_level sum b))
+operator_text op.Ne a b = from_level comparison (g.expression-compare table.not-equal (at_level sum a) (at_level sum b))
+operator_text op.Lt a b = from_level comparison (g.expression-compare table.less (at_level sum a) (at_level sum b))
+operator_text op.Le a b = from_level comparison (g.expression-compare table.less-equal (at_level sum a) (at_level sum b))
+operator_text op.Gt a b = from_level comparison (g.expression-compare table.greater (at_level sum a) (at_level sum b))
+operator_text op.Ge a b = from_level comparison (g.expression-compare table.greater-equal (at_level sum a) (at_level sum b))
+operator_text op.Add a b = from_level sum (g.expression-left-operator sum-product table.plus (at_level sum a) (at_level product b))
+operator_text op.Sub a b = from_level sum (g.expression-left-operator sum-product table.minus-sign (at_level sum a) (at_level product b))
+operator_text op.Mul a b = from_level product (g.expression-left-operator product-minus table.star (at_level product a) (at_level minus b))
+operator_text op.Div a b = from_level product (g.expression-left-operator product-minus table.slash (at_level product a) (at_level minus b))
+operator_text op.Rem a b = from_level product (g.expression-left-operator product-minus table.percent (at_level product a) (at_level minus b))
+
+pub set_operator_text : {n : ℕ} {ts : List Token} {a : Tree} {us : List Token} {b : Tree} {r : List Token} → (o : SetOp) →
+    ItemText n ts a (Symbol Comma ∷ us) → ItemText n us b (Symbol CloseParen ∷ r) → AtomText (suc n) (set_op_token o ∷ Symbol OpenParen ∷ ts) (tree.SetOp o a b) r
+set_operator_text set_op.Union a b = g.atom-set-operator {op = set_op.Union} a b
+set_operator_text set_op.Inter a b = g.atom-set-operator {op = set_op.Inter} a b
+set_operator_text set_op.Diff a b = g.atom-set-operator {op = set_op.Diff} a b
+
+-- a printed tree, in front of every rest
+pub record Texted (t : Tree) : Type 0 where
+  pub bare : (n : ℕ) (r : List Token) → 2 * tree_depth t ≤ n + 1 → TreeText n (printed_tokens t ++ r) t r
+  pub operand : (n : ℕ) (r : List Token) → 2 * tree_depth t ≤ n → AtomText n (operand_tokens t ++ r) t r
+  pub item : (n : ℕ) (r : List Token) → 2 * tree_depth t ≤ n → ItemText n (item_tokens t ++ r) t r
+
+pub operand_is : (t : Tree) → operand_tokens t ≡ as_operand (shape_of t) (printed_tokens t)
+unfolding operand_tokens
+operand_is t = refl
+
+pub item_is : (t : Tree) → item_tokens t ≡ as_item (shape_of t) (printed_tokens t)
+unfolding item_tokens
+item_is t = refl
+
+-- an atom with parts of depth e
+pub from_atom : (t : Tree) (e : ℕ) → tree_depth t ≡ 1 + e → shape_of t ≡ Atom → ((n : ℕ) (r : List Token) → 2 * e + 1 ≤ n → AtomText n (printed_tokens t ++ r) t r) → Texted t
+from_atom t e d s a = record {
+  bare = λ n r h. expression_tree (at_level disjunction (a n r (omega arith)));
+  operand = λ n r h. subst (λ l. AtomText n (l ++ r) t r) (sym (operand_is t ∙ ap (λ x. as_operand x (printed_tokens t)) s)) (a n r (omega arith));
+  item = λ n r h. subst (λ l. ItemText n (l ++ r) t r) (sym (item_is t ∙ ap (λ x. as_item x (printed_tokens t)) s)) (g.item-expression (at_level disjunction (a n r (omega arith))));
+}
+
+-- an atom without parts
+pub from_leaf : (t : Tree) → tree_depth t ≡ 1 → shape_of t ≡ Atom → ((n : ℕ) (r : List Token) → AtomText n (printed_tokens t ++ r) t r) → Texted t
+from_leaf t d s a = from_atom t 0 (omega arith) s (λ n r h. a n r)
+
+parenthesised : (t : Tree) (e n : ℕ) (r : List Token) → 2 * e + 2 ≤ n → ((n : ℕ) (r : List Token) → 2 * e + 1 ≤ n → TreeText n (printed_tokens t ++ r) t r) → AtomText n (in_parentheses (printed_tokens t) ++ r) t r
+parenthesised t e zero r h b = absurd (omega arith)
+parenthesised t e (suc n) r h b =
+    subst (λ l. AtomText (suc n) (Symbol OpenParen ∷ l) t r) (sym (append_assoc (printed_tokens t) (Symbol CloseParen ∷ []) r))
+    (g.atom-parentheses (b n (Symbol CloseParen ∷ r) (omega arith)))
+
+-- a dotted event with fields of depth e
+pub from_dotted : (t : Tree) (e : ℕ) → tree_depth t ≡ 1 + e → shape_of t ≡ Dotted → ((n : ℕ) (r : List Token) → 2 * e + 1 ≤ n → DottedText n (printed_tokens t ++ r) t r) → Texted t
+from_dotted t e d s a = record {
+  bare = λ n r h. g.tree-dotted (a n r (omega arith));
+  operand = λ n r h.
+      subst (λ l. AtomText n (l ++ r) t r) (sym (operand_is t ∙ ap (λ x. as_operand x (printed_tokens t)) s))
+      (parenthesised t e n r (omega arith) (λ m q k. g.tree-dotted (a m q k)));
+  item = λ n r h. subst (λ l. ItemText n (l ++ r) t r) (sym (item_is t ∙ ap (λ x. as_item x (printed_tokens t)) s)) (g.item-dotted (a n r (omega arith)));
+}
+
+-- any other tree with parts of depth e
+pub from_compound : (t : Tree) (e : ℕ) → tree_depth t ≡ 1 + e → shape_of t ≡ Compound → ((n : ℕ) (r : List Token) → 2 * e + 1 ≤ n → TreeText n (printed_tokens t ++ r) t r) → Texted t
+from_compound t e d s b = record {
+  bare = λ n r h. b n r (omega arith);
+  operand = λ n r h.
+      subst (λ l. AtomText n (l ++ r) t r) (sym (operand_is t ∙ ap (λ x. as_operand x (printed_tokens t)) s)) (parenthesised t e n r (omega arith) b);
+  item = λ n r h.
+      subst (λ l. ItemText n (l ++ r) t r) (sym (item_is t ∙ ap (λ x. as_item x (printed_tokens t)) s))
+      (g.item-expression (at_level disjunction (parenthesised t e n r (omega arith) b)));
+}
+
+-- a form that opens a bracket
+pub with_bracket : (Q : ℕ → Type 0) (e n : ℕ) → 2 * e + 1 ≤ n → ((m : ℕ) → 2 * e ≤ m → Q (suc m)) → Q n
+with_bracket Q e zero h f = absurd (omega arith)
+with_bracket Q e (suc n) h f = f n (omega arith)

@@ -1,0 +1,295 @@
+-- The tokens that the lexer finds are well formed, and stand in lines.
+use Rattle.std.proofs.Common.{◌≡◌, ℕ, zero, suc, Bool, true, false, ◌&&◌, ◌||◌, List, [], ◌∷◌, ◌++◌, length, take, drop, codes, refl, sym, ◌∙◌, subst}
+use Rattle.std.proofs.lemmas.Bool.{false≢true}
+use Rattle.std.specs.Prelude.{Option, Some, None, Result, Ok, Err, nat_eq, if◌then◌else◌, slice_index}
+use Rattle.std.specs.List.{starts_with}
+use Rattle.std.specs.Option.{option_map_or}
+use Rattle.std.specs.Str.{bytes_eq}
+use Rattle.csp_base.specs.declared.place.Place.{Place}
+use Rattle.csp_text.specs.declared.token.Token.{Token}
+use Rattle.csp_text.specs.declared.token.Token.TheVariants as token
+use Rattle.csp_text.specs.declared.token.Word.{Word}
+use Rattle.csp_text.specs.declared.token.Word.TheVariants as word
+use Rattle.csp_text.specs.declared.token.Symbol.TheVariants as symbol
+use Rattle.csp_lexer.specs.declared.tokens.Tokens.{Tokens}
+use Rattle.csp_lexer.specs.Annotations.{after_word, first_word, is_space, line_comment, line_piece, marked_piece, resource, roles}
+use Rattle.csp_lexer.specs.Assertions.{after_arguments, after_call, after_closing, asserted, assertion, closed, cut_line, deadlock_free, fit, in_model, is_deadlock_assertion, is_deadlock_free, is_some_name, is_symbol, line_front, rest_len}
+use Rattle.csp_lexer.specs.Comments.{after_comments, line_len}
+use Rattle.csp_lexer.specs.Cutting.{added, before, cut, then_cut}
+use Rattle.csp_lexer.specs.Front.{begins_assertion, front, is_blank}
+use Rattle.csp_lexer.specs.Lexed.{lexed}
+use Rattle.csp_lexer.specs.Pieces.{Piece, nothing, nothing_before, one_at, one_before}
+use Rattle.csp_lexer.specs.Places.{beginning, behind_all}
+use Rattle.csp_lexer.specs.Tokens.{token_at}
+use Rattle.print_laws.specs.Fits.{Every, Fits, FitsLine}
+use Rattle.print_laws.specs.Lines.{Lines, Position, is_assert}
+use Rattle.print_laws.specs.Lines as position
+use Rattle.print_laws.proofs.FoundTokens.{IsQuietToken, IsToken, Of, line_token_fits, of_if, resource_fits, roles_fit, token_fits}
+
+-- what holds of a cut, where there is one
+abbrev pub OfOk : (List Token → Type 0) → Result Tokens Place → Type 0
+OfOk P (Ok found) = P found.tokens
+OfOk P (Err at) = Unit {0}
+
+-- what holds of the tokens of each piece holds of those of a text
+module _ (cutter : Place → List ℕ → Option Piece) (P R : List Token → Type 0) (none : P []) (more : (ts us : List Token) → R ts → P us → P (ts ++ us))
+    (pieces : (at : Place) (text : List ℕ) → Of (λ piece. R piece.tokens) (cutter at text)) where
+  added_holds : (ts : List Token) (places : List Place) (result : Result Tokens Place) → R ts → OfOk P result → OfOk P (added ts places result)
+  added_holds ts places (Ok found) r p = more ts found.tokens r p
+  added_holds ts places (Err at) r p = tt
+
+  then_holds : (o : Option Piece) (at : Place) (go : Piece → Result Tokens Place) → Of (λ piece. R piece.tokens) o → ((piece : Piece) → OfOk P (go piece)) → OfOk P (then_cut o at go)
+  then_holds None at go r p = tt
+  then_holds (Some piece) at go r p = added_holds piece.tokens piece.places (go piece) r (p piece)
+
+  pub cut_holds : (n : ℕ) (at : Place) (text : List ℕ) → OfOk P (cut cutter n at text)
+  unfolding cut
+  cut_holds zero at [] = none
+  cut_holds (suc n) at [] = none
+  cut_holds zero at (b ∷ text) = tt
+  cut_holds (suc n) at (b ∷ text) =
+      then_holds (cutter at (b ∷ text)) at (λ piece. cut cutter n (behind_all at (before (b ∷ text) piece.rest)) piece.rest) (pieces at (b ∷ text))
+      (λ piece. cut_holds n (behind_all at (before (b ∷ text) piece.rest)) piece.rest)
+
+every_more : (P : Token → Type 0) (ts us : List Token) → Every P ts → Every P us → Every P (ts ++ us)
+every_more P [] us p q = q
+every_more P (t ∷ ts) us p q = (p.0, every_more P ts us p.1 q)
+
+-- the line of an assertion
+
+line_one_fits : (at : Place) (text : List ℕ) (o : Option (Token × ℕ)) → Of (λ found. FitsLine found.0) o → Of (λ piece. Every FitsLine piece.tokens) (one_at at text o)
+line_one_fits at text None p = tt
+line_one_fits at text (Some found) p = (p, tt)
+
+line_piece_fits : (at : Place) (text : List ℕ) → Of (λ piece. Every FitsLine piece.tokens) (line_front at text)
+unfolding line_front
+line_piece_fits at [] = tt
+line_piece_fits at (b ∷ text) =
+    of_if (λ piece. Every FitsLine piece.tokens) (is_space b) (Some (nothing text)) (one_at at (b ∷ text) (token_at true (b ∷ text)))
+    (λ h. tt) (λ h. line_one_fits at (b ∷ text) (token_at true (b ∷ text)) (line_token_fits (b ∷ text)))
+
+line_fits : (at : Place) (text : List ℕ) → OfOk (Every FitsLine) (cut_line at text)
+line_fits at text = cut_holds line_front (Every FitsLine) (Every FitsLine) tt (every_more FitsLine) line_piece_fits (length text) at text
+
+-- lines
+
+quiet_step : (t : Token) (ts : List Token) → is_assert t ≡ false → Lines position.outside ts → Lines position.outside (t ∷ ts)
+unfolding Lines
+quiet_step t ts e l = subst (λ b. Lines (if b then position.behind-word else position.outside) ts) (sym e) l
+
+quiet_lines : (ts later : List Token) → Every (λ t. is_assert t ≡ false) ts → Lines position.outside later → Lines position.outside (ts ++ later)
+quiet_lines [] later e l = l
+quiet_lines (t ∷ ts) later e l = quiet_step t (ts ++ later) e.0 (quiet_lines ts later e.1 l)
+
+nothing_left : {X : Type 0} (x : X) → ◌≡◌ {A = Option X} None (Some x) → ⊥
+nothing_left x e = cc
+
+same_left : {X : Type 0} (x y : X) → ◌≡◌ {A = Option X} (Some x) (Some y) → x ≡ y
+same_left x y e = cc
+
+outside_part : (k : ℕ) (l tail later : List Token) → after_closing k l ≡ Some tail → ((k : ℕ) → after_closing (suc k) l ≡ Some tail → Lines (position.within k) (l ++ later)) →
+    Lines position.outside (tail ++ later) → Lines (position.closed k) (l ++ later)
+unfolding after_closing
+outside_part zero l tail later h more out = subst (λ x. Lines position.outside (x ++ later)) (sym (same_left l tail h)) out
+outside_part (suc k) l tail later h more out = more k h
+
+argument_step : (a b : Bool) (k : ℕ) (l tail later : List Token) →
+    (if a then after_closing (suc (suc k)) l else if b then after_closing k l else after_closing (suc k) l) ≡ Some tail →
+    ((k : ℕ) → after_closing (suc k) l ≡ Some tail → Lines (position.within k) (l ++ later)) → Lines position.outside (tail ++ later) →
+    Lines (if a then position.within (suc k) else if b then position.closed k else position.within k) (l ++ later)
+argument_step true b k l tail later h more out = more (suc k) h
+argument_step false true k l tail later h more out = outside_part k l tail later h more out
+argument_step false false k l tail later h more out = more k h
+
+-- up to the parenthesis that closes the arguments
+arguments_lines : (k : ℕ) (l tail later : List Token) → Every FitsLine l → after_closing (suc k) l ≡ Some tail → Lines position.outside (tail ++ later) → Lines (position.within k) (l ++ later)
+unfolding after_closing Lines
+arguments_lines k [] tail later f h out = absurd (nothing_left tail h)
+arguments_lines k (t ∷ l) tail later f h out =
+    (f.0, argument_step (is_symbol symbol.OpenParen t) (is_symbol symbol.CloseParen t) k l tail later h (λ k h. arguments_lines k l tail later f.1 h out) out)
+
+-- the tokens behind the arguments
+
+both_true : (t u : Bool) → (t && u) ≡ true → (t ≡ true) × (u ≡ true)
+both_true true u h = (refl, h)
+both_true false u h = absurd (false≢true h)
+
+one_of : (t u : Bool) → (t || u) ≡ true → (X : Type 0) → (t ≡ true → X) → (u ≡ true → X) → X
+one_of true u h X p q = p refl
+one_of false u h X p q = q h
+
+rejects_assert : (test : Token → Bool) (t : Token) → ((w : Word) → test (token.Word w) ≡ false) → test t ≡ true → is_assert t ≡ false
+rejects_assert test (token.Name x) r h = refl
+rejects_assert test (token.Num n) r h = refl
+rejects_assert test (token.Symbol s) r h = refl
+rejects_assert test (token.Word w) r h = absurd (false≢true (sym (r w) ∙ h))
+rejects_assert test (token.Roles names) r h = refl
+rejects_assert test (token.Resource names) r h = refl
+
+-- tests that no reserved word passes
+abbrev Rejects : List (Token → Bool) → Type 0
+Rejects [] = Unit {0}
+Rejects (test ∷ tests) = ((w : Word) → test (token.Word w) ≡ false) × Rejects tests
+
+fit_no_assert : (tests : List (Token → Bool)) (ts : List Token) → Rejects tests → fit tests ts ≡ true → Every (λ t. is_assert t ≡ false) ts
+unfolding fit
+fit_no_assert [] [] r h = tt
+fit_no_assert [] (t ∷ ts) r h = absurd (false≢true h)
+fit_no_assert (test ∷ tests) [] r h = absurd (false≢true h)
+fit_no_assert (test ∷ tests) (t ∷ ts) r h =
+    let p = both_true (test t) (fit tests ts) h in
+    (rejects_assert test t r.0 p.0, fit_no_assert tests ts r.1 p.1)
+
+rejects_closed : Rejects (deadlock_free closed)
+rejects_closed = ((λ w. refl), ((λ w. refl), ((λ w. refl), ((λ w. refl), ((λ w. refl), tt)))))
+
+rejects_model : (model : List ℕ) → Rejects (deadlock_free (in_model model))
+rejects_model model = ((λ w. refl), ((λ w. refl), ((λ w. refl), ((λ w. refl), ((λ w. refl), ((λ w. refl), ((λ w. refl), ((λ w. refl), tt))))))))
+
+deadlock_no_assert : (ts : List Token) → is_deadlock_free ts ≡ true → Every (λ t. is_assert t ≡ false) ts
+deadlock_no_assert ts h =
+    one_of (fit (deadlock_free closed) ts || fit (deadlock_free (in_model (codes "F"))) ts) (fit (deadlock_free (in_model (codes "FD"))) ts) h _
+    (λ k. one_of (fit (deadlock_free closed) ts) (fit (deadlock_free (in_model (codes "F"))) ts) k _
+    (fit_no_assert (deadlock_free closed) ts rejects_closed) (fit_no_assert (deadlock_free (in_model (codes "F"))) ts (rejects_model (codes "F"))))
+    (fit_no_assert (deadlock_free (in_model (codes "FD"))) ts (rejects_model (codes "FD")))
+
+nothing_is_free : is_deadlock_free [] ≡ true → ⊥
+unfolding fit
+nothing_is_free h = false≢true h
+
+named_by : (b : Bool) (o : Option (List Token)) → option_map_or is_deadlock_free (if b then o else None) false ≡ true → option_map_or is_deadlock_free o false ≡ true
+named_by true o h = h
+named_by false o h = absurd (false≢true h)
+
+name_first : (b : Bool) (o : Option (List Token)) → option_map_or is_deadlock_free (if b then o else None) false ≡ true → b ≡ true
+name_first true o h = refl
+name_first false o h = absurd (false≢true h)
+
+closed_lines : (o : Option (List Token)) (us later : List Token) → Every FitsLine us → after_closing 1 us ≡ o → option_map_or is_deadlock_free o false ≡ true → Lines position.outside later →
+    Lines (position.within 0) (us ++ later)
+closed_lines None us later f e h l = absurd (false≢true h)
+closed_lines (Some tail) us later f e h l = arguments_lines 0 us tail later f e (quiet_lines tail later (deadlock_no_assert tail h) l)
+
+behind_name_lines : (b : Bool) (u : Token) (us later : List Token) → Every FitsLine us → option_map_or is_deadlock_free (if b then after_closing 1 us else Some (u ∷ us)) false ≡ true →
+    Lines position.outside later → Lines (if b then position.within 0 else position.outside) (us ++ later)
+behind_name_lines true u us later f h l = closed_lines (after_closing 1 us) us later f refl h l
+behind_name_lines false u us later f h l = quiet_lines us later (deadlock_no_assert (u ∷ us) h).1 l
+
+name_lines : (ts later : List Token) → Every FitsLine ts → option_map_or is_deadlock_free (after_arguments ts) false ≡ true → Lines position.outside later → Lines position.behind-name (ts ++ later)
+unfolding after_arguments Lines
+name_lines [] later f h l = absurd (nothing_is_free h)
+name_lines (u ∷ us) later f h l = behind_name_lines (is_symbol symbol.OpenParen u) u us later f.1 h l
+
+word_lines : (ts later : List Token) → Every FitsLine ts → is_deadlock_assertion ts ≡ true → Lines position.outside later → Lines position.behind-word (ts ++ later)
+unfolding is_deadlock_assertion after_call Lines
+word_lines [] later f h l = absurd (false≢true h)
+word_lines (t ∷ ts) later f h l = (name_first (is_some_name t) (after_arguments ts) h, name_lines ts later f.1 (named_by (is_some_name t) (after_arguments ts) h) l)
+
+-- pieces
+
+record PieceFits (ts : List Token) : Type 0 where
+  fits : Every Fits ts
+  lines : (later : List Token) → Lines position.outside later → Lines position.outside (ts ++ later)
+
+nothing_fits : PieceFits []
+nothing_fits = record { fits = tt; lines = λ later l. l }
+
+one_fits : (t : Token) → Fits t → is_assert t ≡ false → PieceFits (t ∷ [])
+one_fits t f e = record { fits = (f, tt); lines = λ later l. quiet_step t later e l }
+
+off_line : (t : Token) → FitsLine t → Fits t
+off_line (token.Name x) f = f
+off_line (token.Num n) f = f
+off_line (token.Word w) f = tt
+off_line (token.Symbol s) f = tt
+off_line (token.Roles names) f = absurd f
+off_line (token.Resource names) f = absurd f
+
+all_off_line : (ts : List Token) → Every FitsLine ts → Every Fits ts
+all_off_line [] f = tt
+all_off_line (t ∷ ts) f = (off_line t f.0, all_off_line ts f.1)
+
+assertion_lines : (ts later : List Token) → Every FitsLine ts → is_deadlock_assertion ts ≡ true → Lines position.outside later → Lines position.outside (token.Word word.Assert ∷ ts ++ later)
+unfolding Lines
+assertion_lines ts later f h l = word_lines ts later f h l
+
+taken_fits : (at : Place) (rest : List ℕ) (line : Tokens) → Every FitsLine line.tokens → (b : Bool) → is_deadlock_assertion line.tokens ≡ b →
+    PieceFits (let p : Piece = if b then (record { tokens = token.Word word.Assert ∷ line.tokens; places = at ∷ line.places; rest = rest }) else nothing rest in p.tokens)
+taken_fits at rest line f true h = record { fits = (tt, all_off_line line.tokens f); lines = λ later l. assertion_lines line.tokens later f h l }
+taken_fits at rest line f false h = nothing_fits
+
+asserted_fits : (at : Place) (rest : List ℕ) (result : Result Tokens Place) → OfOk (Every FitsLine) result → PieceFits (let p : Piece = asserted at rest result in p.tokens)
+asserted_fits at rest (Ok line) f = taken_fits at rest line f (is_deadlock_assertion line.tokens) refl
+asserted_fits at rest (Err fault) f = nothing_fits
+
+assertion_fits : (at : Place) (text : List ℕ) → PieceFits (let p : Piece = assertion at text in p.tokens)
+unfolding assertion
+assertion_fits at text =
+    asserted_fits at (drop (rest_len text) text) (cut_line (behind_all at (codes "assert")) (take (rest_len text) text)) (line_fits (behind_all at (codes "assert")) (take (rest_len text) text))
+
+abbrev Fitting : Piece → Type 0
+Fitting piece = PieceFits piece.tokens
+
+one_before_fits : (at : Place) (rest : List ℕ) (o : Option Token) → Of IsQuietToken o → Of Fitting (one_before at rest o)
+one_before_fits at rest None p = tt
+one_before_fits at rest (Some t) p = one_fits t p.0 p.1
+
+nothing_before_fits : (o : Option (List ℕ)) → Of Fitting (nothing_before o)
+nothing_before_fits None = tt
+nothing_before_fits (Some rest) = nothing_fits
+
+not_asserted : (b c : Bool) → (b ≡ true → c ≡ true) → c ≡ false → b ≡ false
+not_asserted true c f h = absurd (false≢true (sym h ∙ f refl))
+not_asserted false c f h = refl
+
+one_at_fits : (at : Place) (text : List ℕ) (o : Option (Token × ℕ)) → begins_assertion text ≡ false → Of (λ found. IsToken text found.0) o → Of Fitting (one_at at text o)
+one_at_fits at text None h p = tt
+one_at_fits at text (Some found) h p = one_fits found.0 p.fits (not_asserted (is_assert found.0) (begins_assertion text) p.asserts h)
+
+marked_fits : (at : Place) (words rest : List ℕ) → Of Fitting (marked_piece at words rest)
+unfolding marked_piece
+marked_fits at words rest =
+    of_if Fitting (bytes_eq (first_word words) (codes "roles")) (one_before at rest (roles (after_word words)))
+    (if bytes_eq (first_word words) (codes "resource") then one_before at rest (resource (after_word words)) else Some (nothing rest))
+    (λ h. one_before_fits at rest (roles (after_word words)) (roles_fit (after_word words)))
+    (λ h. of_if Fitting (bytes_eq (first_word words) (codes "resource")) (one_before at rest (resource (after_word words))) (Some (nothing rest))
+    (λ k. one_before_fits at rest (resource (after_word words)) (resource_fits (after_word words))) (λ k. nothing_fits))
+
+comment_fits : (at : Place) (line rest : List ℕ) → Of Fitting (line_piece at line rest)
+unfolding line_piece
+comment_fits at line rest =
+    of_if Fitting (starts_with nat_eq line (codes "--@")) (marked_piece at (drop 3 line) rest) (Some (nothing rest)) (λ h. marked_fits at (drop 3 line) rest) (λ h. nothing_fits)
+
+abbrev fourth : Place → List ℕ → Option Piece
+fourth at text = if begins_assertion text then Some (assertion at (drop 6 text)) else one_at at text (token_at false text)
+
+abbrev third : Place → List ℕ → Option Piece
+third at text = if starts_with nat_eq text (codes "{-") then nothing_before (after_comments 1 (drop 2 text)) else fourth at text
+
+abbrev second : Place → List ℕ → Option Piece
+second at text = if starts_with nat_eq text (codes "--") then line_comment at text else third at text
+
+front_fits : (at : Place) (text : List ℕ) → Of Fitting (front at text)
+unfolding front
+front_fits at text =
+    of_if Fitting (is_blank (slice_index text 0)) (Some (nothing (drop 1 text))) (second at text) (λ h. nothing_fits)
+    (λ h. of_if Fitting (starts_with nat_eq text (codes "--")) (line_comment at text) (third at text) (λ k. comment_fits at (take (line_len text) text) (drop (line_len text) text))
+    (λ k. of_if Fitting (starts_with nat_eq text (codes "{-")) (nothing_before (after_comments 1 (drop 2 text))) (fourth at text) (λ l. nothing_before_fits (after_comments 1 (drop 2 text)))
+    (λ l. of_if Fitting (begins_assertion text) (Some (assertion at (drop 6 text))) (one_at at text (token_at false text)) (λ e. assertion_fits at (drop 6 text))
+    (λ e. one_at_fits at text (token_at false text) e (token_fits text)))))
+
+abbrev pub WellFormed : List Token → Type 0
+WellFormed ts = Every Fits ts × Lines position.outside ts
+
+no_lines : Lines position.outside []
+unfolding Lines
+no_lines = tt
+
+more_fits : (ts us : List Token) → PieceFits ts → WellFormed us → WellFormed (ts ++ us)
+more_fits ts us p q = (every_more Fits ts us p.fits q.0, p.lines us q.1)
+
+lexed_fits : (text : List ℕ) → OfOk WellFormed (lexed text)
+lexed_fits text = cut_holds front WellFormed PieceFits (tt, no_lines) more_fits front_fits (length text) beginning text
+
+pub found_fits : (text : List ℕ) (found : Tokens) → lexed text ≡ Ok found → WellFormed found.tokens
+found_fits text found e = subst (OfOk WellFormed) e (lexed_fits text)

@@ -1,0 +1,217 @@
+-- The rest of an assertion's line: a token before a space or a line feed is part of it.
+use Rattle.std.proofs.Common.{◌≡◌, ℕ, suc, ◌+◌, ◌≤◌, Bool, true, false, ◌||◌, List, [], ◌∷◌, ◌++◌, length, drop, refl, sym, ap, ◌∙◌, arith}
+use Rattle.std.proofs.lemmas.Bool.{cond-true, cond-false}
+use Rattle.std.specs.Prelude.{decimal, nat_eq, not, cond}
+use Rattle.std.specs.List.{list_all, prefix_len}
+use Rattle.csp_text.specs.declared.token.Token.{Token}
+use Rattle.csp_text.specs.declared.token.Token.TheVariants as token
+use Rattle.csp_text.specs.declared.token.Word.{Word}
+use Rattle.csp_text.specs.declared.token.Word.TheVariants as word
+use Rattle.csp_text.specs.declared.token.Symbol.{Symbol}
+use Rattle.csp_text.specs.declared.token.Symbol.TheVariants as symbol
+use Rattle.csp_text.specs.Written.{symbol_text, word_text}
+use Rattle.csp_lexer.specs.Assertions.{ends_line, rest_len}
+use Rattle.csp_lexer.specs.Words.{is_letter, is_name_byte, is_prime, word_len, word_rest_len}
+use Rattle.csp_lexer.specs.Tokens.{is_digit}
+use Rattle.script_printer.specs.TokenText.{token_text}
+use Rattle.print_laws.specs.Fits.{FitsLine, IsName}
+use Rattle.print_laws.proofs.Names.{begins_with_letter, first_off, name_parts}
+use Rattle.print_laws.proofs.Numbers.{back_is, decimal_digits, front_is}
+
+-- the byte ends no line, whatever follows it
+abbrev pub is_quiet : ℕ → Bool
+is_quiet b = not (nat_eq b 10 || nat_eq b 45 || nat_eq b 123)
+
+-- what follows a token
+pub data Gap : List ℕ → Type 0 where
+  space : {r : List ℕ} → Gap (32 ∷ r)
+  feed : {r : List ℕ} → Gap (10 ∷ r)
+
+pub rest_step : (b : ℕ) (text : List ℕ) → ends_line (b ∷ text) ≡ false → rest_len (b ∷ text) ≡ 1 + rest_len text
+unfolding rest_len
+rest_step b text h = cond-false _ _ _ h
+
+pub rest_ends : (text : List ℕ) → rest_len (10 ∷ text) ≡ 0
+unfolding rest_len
+rest_ends text = refl
+
+no_feed : (b : ℕ) → is_quiet b ≡ true → nat_eq 10 b ≡ false
+no_feed b h = grind (arith)
+
+no_dash : (b : ℕ) → is_quiet b ≡ true → nat_eq 45 b ≡ false
+no_dash b h = grind (arith)
+
+no_brace : (b : ℕ) → is_quiet b ≡ true → nat_eq 123 b ≡ false
+no_brace b h = grind (arith)
+
+none_of_three : (a b c : Bool) → a ≡ false → b ≡ false → c ≡ false → (a || b || c) ≡ false
+none_of_three a b c h k l = rw (h, k, l) refl
+
+pub quiet_goes_on : (b : ℕ) (text : List ℕ) → is_quiet b ≡ true → ends_line (b ∷ text) ≡ false
+quiet_goes_on b text h = none_of_three _ _ _ (first_off _ _ (no_feed b h)) (first_off _ _ (no_dash b h)) (first_off _ _ (no_brace b h))
+
+pub quiet_rest : (x text : List ℕ) → list_all is_quiet x ≡ true → rest_len (x ++ text) ≡ length x + rest_len text
+quiet_rest [] text h = omega arith
+quiet_rest (b ∷ x) text h =
+    let more = quiet_rest x text (back_is (is_quiet b) (list_all is_quiet x) h) in
+    let here : rest_len (b ∷ x ++ text) ≡ 1 + rest_len (x ++ text) = rest_step b (x ++ text) (quiet_goes_on b (x ++ text) (front_is (is_quiet b) (list_all is_quiet x) h)) in
+    omega (arith, here, more)
+
+-- names
+
+pub weaker : (p q : ℕ → Bool) → ((b : ℕ) → p b ≡ true → q b ≡ true) → (x : List ℕ) → list_all p x ≡ true → list_all q x ≡ true
+weaker p q f [] h = refl
+weaker p q f (b ∷ x) h = rw (f b (front_is (p b) (list_all p x) h)) (weaker p q f x (back_is (p b) (list_all p x) h))
+
+-- a byte of a name
+abbrev pub is_word_byte : ℕ → Bool
+is_word_byte b = is_name_byte b || is_prime b
+
+by_name_byte : (b : ℕ) → is_name_byte b ≡ true → is_word_byte b ≡ true
+by_name_byte b h = rw h refl
+
+by_prime : (b : ℕ) → is_prime b ≡ true → is_word_byte b ≡ true
+by_prime b h = grind (arith)
+
+by_letter : (b : ℕ) → is_letter b ≡ true → is_word_byte b ≡ true
+by_letter b h = rw h refl
+
+quiet_word_byte : (b : ℕ) → is_word_byte b ≡ true → is_quiet b ≡ true
+quiet_word_byte b h = grind (arith)
+
+quiet_digit : (b : ℕ) → is_digit b ≡ true → is_quiet b ≡ true
+quiet_digit b h = grind (arith)
+
+pub word_rest_more : (b : ℕ) (y : List ℕ) → is_name_byte b ≡ true → word_rest_len (b ∷ y) ≡ 1 + word_rest_len y
+unfolding word_rest_len
+word_rest_more b y e =
+    let n : ℕ = prefix_len is_name_byte y in
+    let next : 1 + n ≡ suc n = omega arith in
+    let len : prefix_len is_name_byte (b ∷ y) ≡ suc n = cond-true (is_name_byte b) (1 + n) 0 e ∙ next in
+    let last : suc n + prefix_len is_prime (drop n y) ≡ 1 + (n + prefix_len is_prime (drop n y)) = omega arith in
+    ap (λ k. k + prefix_len is_prime (drop k (b ∷ y))) len ∙ last
+
+pub word_rest_primes : (b : ℕ) (y : List ℕ) → is_name_byte b ≡ false → word_rest_len (b ∷ y) ≡ prefix_len is_prime (b ∷ y)
+unfolding word_rest_len
+word_rest_primes b y e =
+    let last : 0 + prefix_len is_prime (b ∷ y) ≡ prefix_len is_prime (b ∷ y) = omega arith in
+    ap (λ k. k + prefix_len is_prime (drop k (b ∷ y))) (cond-false (is_name_byte b) (1 + prefix_len is_name_byte y) 0 e) ∙ last
+
+prime_first : (t : Bool) (n m : ℕ) → cond t (1 + n) 0 ≡ suc m → (t ≡ true) × (n ≡ m)
+prime_first true n m e = (refl, omega arith)
+prime_first false n m e = absurd (omega arith)
+
+primes_pass : (y : List ℕ) → prefix_len is_prime y ≡ length y → list_all is_word_byte y ≡ true
+primes_pass [] h = refl
+primes_pass (b ∷ y) h =
+    let first = prime_first (is_prime b) (prefix_len is_prime y) (length y) (h ∙ omega arith) in
+    rw (by_prime b first.0) (primes_pass y first.1)
+
+tail_passes_at : (b : ℕ) (y : List ℕ) (t : Bool) → is_name_byte b ≡ t → (word_rest_len y ≡ length y → list_all is_word_byte y ≡ true) → word_rest_len (b ∷ y) ≡ length (b ∷ y) →
+    list_all is_word_byte (b ∷ y) ≡ true
+tail_passes_at b y true e more h =
+    let step = word_rest_more b y e in
+    let len : word_rest_len y ≡ length y = omega (arith, h, step) in
+    rw (by_name_byte b e) (more len)
+tail_passes_at b y false e more h = primes_pass (b ∷ y) (sym (word_rest_primes b y e) ∙ h)
+
+tail_passes : (y : List ℕ) → word_rest_len y ≡ length y → list_all is_word_byte y ≡ true
+tail_passes [] h = refl
+tail_passes (b ∷ y) h = tail_passes_at b y (is_name_byte b) refl (tail_passes y) h
+
+pub word_len_is : (c : ℕ) (y : List ℕ) → is_letter c ≡ true → word_len (c ∷ y) ≡ 1 + word_rest_len y
+unfolding word_len
+word_len_is c y h = cond-true _ _ _ h
+
+pub name_bytes : (x : List ℕ) → IsName x → list_all is_word_byte x ≡ true
+name_bytes [] h = refl
+name_bytes (c ∷ y) h =
+    let whole = (name_parts (c ∷ y) h).whole in
+    let letter = begins_with_letter c y whole in
+    let step = word_len_is c y letter in
+    let len : word_rest_len y ≡ length y = omega (arith, whole, step) in
+    rw (by_letter c letter) (tail_passes y len)
+
+quiet_name : (x : List ℕ) → IsName x → list_all is_quiet x ≡ true
+quiet_name x h = weaker is_word_byte is_quiet quiet_word_byte x (name_bytes x h)
+
+quiet_number : (n : ℕ) → n ≤ 1000000 → list_all is_quiet (decimal n) ≡ true
+quiet_number n h = weaker is_digit is_quiet quiet_digit (decimal n) (decimal_digits n h).digits
+
+quiet_word : (w : Word) → list_all is_quiet (word_text w) ≡ true
+quiet_word word.And = refl
+quiet_word word.Assert = refl
+quiet_word word.Channel = refl
+quiet_word word.Datatype = refl
+quiet_word word.Diff = refl
+quiet_word word.Else = refl
+quiet_word word.False = refl
+quiet_word word.If = refl
+quiet_word word.Inter = refl
+quiet_word word.Nametype = refl
+quiet_word word.Not = refl
+quiet_word word.Or = refl
+quiet_word word.Then = refl
+quiet_word word.True = refl
+quiet_word word.Union = refl
+quiet_word word.Stop = refl
+quiet_word word.Skip = refl
+
+quiet_behind : (b : ℕ) (x text : List ℕ) → ends_line (b ∷ x ++ text) ≡ false → list_all is_quiet x ≡ true → rest_len (b ∷ x ++ text) ≡ length (b ∷ x) + rest_len text
+quiet_behind b x text e h =
+    let here = rest_step b (x ++ text) e in
+    let more = quiet_rest x text h in
+    omega (arith, here, more)
+
+symbol_rest : (s : Symbol) {text : List ℕ} → Gap text → rest_len (symbol_text s ++ text) ≡ length (symbol_text s) + rest_len text
+symbol_rest symbol.Arrow (space {r = r}) = quiet_behind 45 (62 ∷ []) (32 ∷ r) refl refl
+symbol_rest symbol.Arrow (feed {r = r}) = quiet_behind 45 (62 ∷ []) (10 ∷ r) refl refl
+symbol_rest symbol.ExternalChoice {text = text} p = quiet_rest (symbol_text symbol.ExternalChoice) text refl
+symbol_rest symbol.InternalChoice {text = text} p = quiet_rest (symbol_text symbol.InternalChoice) text refl
+symbol_rest symbol.Parallel {text = text} p = quiet_rest (symbol_text symbol.Parallel) text refl
+symbol_rest symbol.OpenRename {text = text} p = quiet_rest (symbol_text symbol.OpenRename) text refl
+symbol_rest symbol.CloseRename {text = text} p = quiet_rest (symbol_text symbol.CloseRename) text refl
+symbol_rest symbol.OpenProduct (space {r = r}) = quiet_behind 123 (124 ∷ []) (32 ∷ r) refl refl
+symbol_rest symbol.OpenProduct (feed {r = r}) = quiet_behind 123 (124 ∷ []) (10 ∷ r) refl refl
+symbol_rest symbol.CloseProduct {text = text} p = quiet_rest (symbol_text symbol.CloseProduct) text refl
+symbol_rest symbol.LeftArrow (space {r = r}) = let more = quiet_behind 45 [] (32 ∷ r) refl refl in let here = rest_step 60 (45 ∷ 32 ∷ r) refl in omega (arith, here, more)
+symbol_rest symbol.LeftArrow (feed {r = r}) = let more = quiet_behind 45 [] (10 ∷ r) refl refl in let here = rest_step 60 (45 ∷ 10 ∷ r) refl in omega (arith, here, more)
+symbol_rest symbol.DotDot {text = text} p = quiet_rest (symbol_text symbol.DotDot) text refl
+symbol_rest symbol.Dot {text = text} p = quiet_rest (symbol_text symbol.Dot) text refl
+symbol_rest symbol.Bang {text = text} p = quiet_rest (symbol_text symbol.Bang) text refl
+symbol_rest symbol.Question {text = text} p = quiet_rest (symbol_text symbol.Question) text refl
+symbol_rest symbol.Colon {text = text} p = quiet_rest (symbol_text symbol.Colon) text refl
+symbol_rest symbol.At {text = text} p = quiet_rest (symbol_text symbol.At) text refl
+symbol_rest symbol.Defines {text = text} p = quiet_rest (symbol_text symbol.Defines) text refl
+symbol_rest symbol.Equal {text = text} p = quiet_rest (symbol_text symbol.Equal) text refl
+symbol_rest symbol.NotEqual {text = text} p = quiet_rest (symbol_text symbol.NotEqual) text refl
+symbol_rest symbol.Less {text = text} p = quiet_rest (symbol_text symbol.Less) text refl
+symbol_rest symbol.LessEqual {text = text} p = quiet_rest (symbol_text symbol.LessEqual) text refl
+symbol_rest symbol.Greater {text = text} p = quiet_rest (symbol_text symbol.Greater) text refl
+symbol_rest symbol.GreaterEqual {text = text} p = quiet_rest (symbol_text symbol.GreaterEqual) text refl
+symbol_rest symbol.Plus {text = text} p = quiet_rest (symbol_text symbol.Plus) text refl
+symbol_rest symbol.Minus (space {r = r}) = quiet_behind 45 ([]) (32 ∷ r) refl refl
+symbol_rest symbol.Minus (feed {r = r}) = quiet_behind 45 ([]) (10 ∷ r) refl refl
+symbol_rest symbol.Star {text = text} p = quiet_rest (symbol_text symbol.Star) text refl
+symbol_rest symbol.Slash {text = text} p = quiet_rest (symbol_text symbol.Slash) text refl
+symbol_rest symbol.Percent {text = text} p = quiet_rest (symbol_text symbol.Percent) text refl
+symbol_rest symbol.OpenParen {text = text} p = quiet_rest (symbol_text symbol.OpenParen) text refl
+symbol_rest symbol.CloseParen {text = text} p = quiet_rest (symbol_text symbol.CloseParen) text refl
+symbol_rest symbol.OpenBrace (space {r = r}) = quiet_behind 123 ([]) (32 ∷ r) refl refl
+symbol_rest symbol.OpenBrace (feed {r = r}) = quiet_behind 123 ([]) (10 ∷ r) refl refl
+symbol_rest symbol.CloseBrace {text = text} p = quiet_rest (symbol_text symbol.CloseBrace) text refl
+symbol_rest symbol.OpenBracket {text = text} p = quiet_rest (symbol_text symbol.OpenBracket) text refl
+symbol_rest symbol.CloseBracket {text = text} p = quiet_rest (symbol_text symbol.CloseBracket) text refl
+symbol_rest symbol.Comma {text = text} p = quiet_rest (symbol_text symbol.Comma) text refl
+symbol_rest symbol.Ampersand {text = text} p = quiet_rest (symbol_text symbol.Ampersand) text refl
+symbol_rest symbol.Bar {text = text} p = quiet_rest (symbol_text symbol.Bar) text refl
+symbol_rest symbol.Backslash {text = text} p = quiet_rest (symbol_text symbol.Backslash) text refl
+symbol_rest symbol.Semicolon {text = text} p = quiet_rest (symbol_text symbol.Semicolon) text refl
+
+pub token_rest : (t : Token) {text : List ℕ} → FitsLine t → Gap text → rest_len (token_text t ++ text) ≡ length (token_text t) + rest_len text
+token_rest (token.Name x) {text = text} f p = quiet_rest x text (quiet_name x f)
+token_rest (token.Num n) {text = text} f p = quiet_rest (decimal n) text (quiet_number n f)
+token_rest (token.Word w) {text = text} f p = quiet_rest (word_text w) text (quiet_word w)
+token_rest (token.Symbol s) f p = symbol_rest s p
+token_rest (token.Roles names) f p = absurd f
+token_rest (token.Resource names) f p = absurd f

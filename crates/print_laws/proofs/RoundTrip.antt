@@ -1,0 +1,112 @@
+-- The printed text of a script that a text spells spells it too.
+use Rattle.std.proofs.Common.{◌≡◌, ℕ, zero, suc, Bool, false, List, ◌∷◌, length, refl, sym, subst, arith}
+use Rattle.std.specs.Prelude.{Ok, Result, if◌then◌else◌}
+use Rattle.csp_base.specs.declared.place.Place.{Place}
+use Rattle.csp_text.specs.declared.token.Token.{Token}
+use Rattle.csp_text.specs.declared.token.Token.TheVariants as token
+use Rattle.csp_text.specs.declared.token.Word.TheVariants as word
+use Rattle.csp_text.specs.declared.token.Symbol.TheVariants as symbol
+use Rattle.csp_text.specs.declared.script.Script.{Script}
+use Rattle.csp_text.specs.declared.script.Decl.{Decl}
+use Rattle.csp_lexer.specs.declared.tokens.Tokens.{Tokens}
+use Rattle.csp_lexer.specs.Assertions.{is_symbol}
+use Rattle.csp_lexer.specs.Front.{front}
+use Rattle.csp_lexer.specs.Lexed.{lexed}
+use Rattle.csp_lexer.specs.Places.{beginning}
+use Rattle.csp_grammar.specs.Declarations.{DeclarationsText, ScriptText}
+use Rattle.csp_grammar.proofs.Unique.{one_script}
+use Rattle.script_printer.specs.PrintedScript.{script_text}
+use Rattle.print_laws.specs.Fits.{Every, Fits, FitsLine, IsName}
+use Rattle.print_laws.specs.Laws.{FoundTokensAreWellFormed, PrintedTextSpellsNoOther, PrintedTextSpellsTheScript, script_tokens}
+use Rattle.print_laws.specs.Lines.{Lines, is_assert}
+use Rattle.print_laws.specs.Lines as position
+use Rattle.print_laws.specs.Made.{MadeDecls}
+use Rattle.print_laws.proofs.CutScripts.{cuts_decls}
+use Rattle.print_laws.proofs.Cuts.{Cuts}
+use Rattle.print_laws.proofs.FoundLines.{WellFormed, found_fits}
+use Rattle.print_laws.proofs.Parentheses.{no_parenthesis}
+use Rattle.print_laws.proofs.ScriptTexts.{declarations_text}
+use Rattle.print_laws.proofs.Walk.{is_special}
+use Rattle.print_laws.proofs.WalkScripts.{walk_declarations}
+
+pub well_formed : FoundTokensAreWellFormed
+well_formed text found e = found_fits text found e
+
+-- what is known along the text of a script
+
+abbrev Outside : ℕ → List Token → Type 0
+Outside k ts = Every Fits ts × Lines position.outside ts
+
+abbrev Within : ℕ → List Token → Type 0
+Within k ts = Every Fits ts × Lines (position.within k) ts
+
+no_assertion : (t : Token) → is_special t ≡ false → is_assert t ≡ false
+no_assertion (token.Name x) e = refl
+no_assertion (token.Num n) e = refl
+no_assertion (token.Word w) e = e
+no_assertion (token.Symbol s) e = refl
+no_assertion (token.Roles names) e = refl
+no_assertion (token.Resource names) e = refl
+
+step : (k : ℕ) (t : Token) (ts : List Token) → is_special t ≡ false → Outside k (t ∷ ts) → Fits t × Outside k ts
+unfolding Lines
+step k t ts e s = (s.0.0, (s.0.1, subst (λ b. Lines (if b then position.behind-word else position.outside) ts) (no_assertion t e) s.1))
+
+opens : (k : ℕ) (ts : List Token) → Outside k (token.Symbol symbol.OpenParen ∷ ts) → Outside (suc k) ts
+unfolding Lines
+opens k ts s = (s.0.1, s.1)
+
+closes : (k : ℕ) (ts : List Token) → Outside (suc k) (token.Symbol symbol.CloseParen ∷ ts) → Outside k ts
+unfolding Lines
+closes k ts s = (s.0.1, s.1)
+
+stays : (a b : Bool) (k : ℕ) (ts : List Token) → a ≡ false → b ≡ false → Lines (if a then position.within (suc k) else if b then position.closed k else position.within k) ts → Lines (position.within k) ts
+stays a b k ts e f l = subst (λ b. Lines (if b then position.closed k else position.within k) ts) f (subst (λ a. Lines (if a then position.within (suc k) else if b then position.closed k else position.within k) ts) e l)
+
+line_step : (k : ℕ) (t : Token) (ts : List Token) → is_special t ≡ false → Within k (t ∷ ts) → FitsLine t × Within k ts
+unfolding Lines
+line_step k t ts e s =
+    let n = no_parenthesis t e in
+    (s.1.0, (s.0.1, stays (is_symbol symbol.OpenParen t) (is_symbol symbol.CloseParen t) k ts n.no_open n.no_close s.1.1))
+
+line_opens : (k : ℕ) (ts : List Token) → Within k (token.Symbol symbol.OpenParen ∷ ts) → Within (suc k) ts
+unfolding Lines
+line_opens k ts s = (s.0.1, s.1.1)
+
+line_closes : (k : ℕ) (ts : List Token) → Within (suc k) (token.Symbol symbol.CloseParen ∷ ts) → Within k ts
+unfolding Lines
+line_closes k ts s = (s.0.1, s.1.1)
+
+named : (x : List ℕ) (ts : List Token) → Outside zero (token.Word word.Assert ∷ token.Name x ∷ token.Symbol symbol.Colon ∷ ts) → IsName x × Outside zero ts
+unfolding Lines
+named x ts s = (s.0.1.0, (s.0.1.1.1, s.1.1))
+
+enters : (x : List ℕ) (ts : List Token) → Outside zero (token.Word word.Assert ∷ token.Name x ∷ token.Symbol symbol.OpenParen ∷ ts) → IsName x × Within zero ts
+unfolding Lines
+enters x ts s = (s.0.1.0, (s.0.1.1.1, s.1.1))
+
+leaves : (ts : List Token) → Within zero (token.Symbol symbol.CloseParen ∷ ts) → Outside zero ts
+unfolding Lines
+leaves ts s = (s.0.1, s.1.1)
+
+made : {ts : List Token} {ds : List Decl} → DeclarationsText ts ds → WellFormed ts → MadeDecls Fits FitsLine ds
+made p s = walk_declarations Fits Outside step opens closes FitsLine Within line_step line_opens line_closes named enters leaves p s
+
+printed_cuts : (script : Script) → MadeDecls Fits FitsLine script.decls → Cuts front (script_text script) (script_tokens script)
+unfolding script_text
+printed_cuts script m = cuts_decls m
+
+pub printed_spells : PrintedTextSpellsTheScript
+printed_spells text found script e p =
+    let m = made p (found_fits text found e) in
+    let c = (printed_cuts script m).cuts (length (script_text script)) beginning (omega arith) in
+    (c.found, c.is, subst (λ ts. ScriptText ts script) (sym c.same) (declarations_text m))
+
+same_found : (x y : Tokens) (result : Result Tokens Place) → result ≡ Ok x → result ≡ Ok y → x ≡ y
+same_found x y result e f = cc
+
+pub no_other : PrintedTextSpellsNoOther
+no_other text found script e p again other f q =
+    let printed = printed_spells text found script e p in
+    let same = same_found printed.0 again (lexed (script_text script)) printed.1 f in
+    one_script again.tokens other script q (subst (λ x. ScriptText x.tokens script) same printed.2)

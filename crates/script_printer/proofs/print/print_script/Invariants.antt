@@ -1,0 +1,10 @@
+use Rattle.std.proofs.Common.{◌≡◌, ◌++◌, drop}
+use Rattle.std.specs.Prelude.{flat_map}
+use Rattle.script_printer.specs.TokenText.{line}
+use Rattle.script_printer.specs.PrintedScript.{decl_tokens}
+use Rattle.script_printer.proofs.print.print_script.Given as goal
+
+-- the lines that are written and those that are left are all lines
+abbrev pub invariant-loop-decl : goal.invariant-loop-decl
+invariant-loop-decl l =
+    l.text ++ flat_map (λ d. line (decl_tokens d)) (drop l.decl-index l.decls) ≡ flat_map (λ d. line (decl_tokens d)) l.decls

@@ -1,0 +1,3 @@
+pub mod PrintedScript
+pub mod PrintedTree
+pub mod TokenText

@@ -1,0 +1,133 @@
+//! Lines: one declaration each.
+
+ghost use Rattle.std.specs.Prelude.{◌≡◌, ◌++◌, [], ◌∷◌, OnOk};
+ghost use Rattle.csp_text.specs.declared.token.Token.TheVariants as token;
+ghost use Rattle.csp_text.specs.declared.token.Symbol.TheVariants.{Comma};
+ghost use Rattle.script_printer.specs.TokenText.{line, row, spaced, token_text};
+ghost use Rattle.script_printer.specs.PrintedScript.{deadlock_free_tokens, decl_tokens, names_tokens, parameters_tokens, types_tokens};
+
+use crate::tokens::{put_between, put_name, put_symbol};
+use crate::trees::{put_operand, put_operands, put_tree};
+use csp_base::{Bytes, Name, NoMemory};
+use csp_text::{Decl, ResourceNames, RolesNames, Symbol, Tree, Word, word_text};
+
+const LINE_FEED: u8 = b'\n';
+
+/// Adds names with a sign between them.
+fn put_names(text: &mut Bytes, names: &[Name], sign: Symbol) -> Result<(), NoMemory>
+    ensures { OnOk result (text.new ≡ text.old ++ spaced (names_tokens (token.Symbol sign) names.now)) }
+{
+    for (place, name) in names.iter().enumerate() {
+        put_between(text, place, sign)?;
+        put_name(text, name)?;
+    }
+    Ok(())
+}
+
+/// Adds the types of channels behind a colon, or nothing where there are none.
+fn put_types(text: &mut Bytes, types: &[Tree]) -> Result<(), NoMemory>
+    ensures { OnOk result (text.new ≡ text.old ++ spaced (types_tokens types.now)) }
+{
+    if types.is_empty() {
+        return Ok(());
+    }
+    put_symbol(text, Symbol::Colon)?;
+    put_operands(text, types, Symbol::Dot)
+}
+
+/// Adds parameters in parentheses, or nothing where there are none.
+fn put_parameters(text: &mut Bytes, names: &[Name]) -> Result<(), NoMemory>
+    ensures { OnOk result (text.new ≡ text.old ++ spaced (parameters_tokens names.now)) }
+{
+    if names.is_empty() {
+        return Ok(());
+    }
+    put_symbol(text, Symbol::OpenParen)?;
+    put_names(text, names, Symbol::Comma)?;
+    put_symbol(text, Symbol::CloseParen)
+}
+
+/// Adds the word that a line begins with.
+fn begin(text: &mut Bytes, word: Word) -> Result<(), NoMemory>
+    ensures { OnOk result (text.new ≡ text.old ++ token_text (token.Word word)) }
+{
+    text.extend_from_slice(word_text(word))
+}
+
+/// Adds the end of an assertion.
+#[tactic(auto, unfolding(crate::specs::TokenText::spaced))]
+fn put_deadlock_free(text: &mut Bytes) -> Result<(), NoMemory>
+    ensures { OnOk result (text.new ≡ text.old ++ spaced deadlock_free_tokens) }
+{
+    text.extend_from_slice(b" : [ deadlock free ]")
+}
+
+/// Adds an annotation that gives a process its roles.
+#[tactic(auto, unfolding(crate::specs::TokenText::spaced))]
+fn put_roles(text: &mut Bytes, names: &RolesNames) -> Result<(), NoMemory>
+    ensures { OnOk result (text.new ≡ text.old ++ token_text (token.Roles names.now)) }
+{
+    text.extend_from_slice(b"--@ roles")?;
+    put_name(text, &names.process)?;
+    put_name(text, &names.creq)?;
+    put_name(text, &names.cack)?;
+    put_name(text, &names.sreq)?;
+    put_name(text, &names.sack)
+}
+
+/// Adds an annotation that makes a process a resource.
+#[tactic(auto, unfolding(crate::specs::TokenText::spaced))]
+fn put_resource(text: &mut Bytes, names: &ResourceNames) -> Result<(), NoMemory>
+    ensures { OnOk result (text.new ≡ text.old ++ token_text (token.Resource names.now)) }
+{
+    text.extend_from_slice(b"--@ resource")?;
+    put_name(text, &names.process)?;
+    put_name(text, &names.acquire)?;
+    put_name(text, &names.release)
+}
+
+/// Adds a declaration without the end of its line.
+fn put_decl(text: &mut Bytes, decl: &Decl) -> Result<(), NoMemory>
+    ensures { OnOk result (text.new ≡ text.old ++ row (decl_tokens decl.now)) }
+{
+    match decl {
+        Decl::Channel(names, types) => {
+            begin(text, Word::Channel)?;
+            put_names(text, names.as_slice(), Symbol::Comma)?;
+            put_types(text, types.as_slice())
+        }
+        Decl::Datatype(name, constants) => {
+            begin(text, Word::Datatype)?;
+            put_name(text, name)?;
+            put_symbol(text, Symbol::Defines)?;
+            put_names(text, constants.as_slice(), Symbol::Bar)
+        }
+        Decl::Nametype(name, set) => {
+            begin(text, Word::Nametype)?;
+            put_name(text, name)?;
+            put_symbol(text, Symbol::Defines)?;
+            put_operand(text, set)
+        }
+        Decl::Define(name, parameters, body) => {
+            text.extend_from_slice(name.as_slice())?;
+            put_parameters(text, parameters.as_slice())?;
+            put_symbol(text, Symbol::Defines)?;
+            put_tree(text, body)
+        }
+        Decl::Assert(process) => {
+            begin(text, Word::Assert)?;
+            put_tree(text, process)?;
+            put_deadlock_free(text)
+        }
+        Decl::Roles(names) => put_roles(text, names),
+        Decl::Resource(names) => put_resource(text, names),
+    }
+}
+
+/// Adds a declaration as a line.
+pub(crate) fn put_line(text: &mut Bytes, decl: &Decl) -> Result<(), NoMemory>
+    ensures { OnOk result (text.new ≡ text.old ++ line (decl_tokens decl.now)) }
+{
+    put_decl(text, decl)?;
+    text.push(LINE_FEED)
+}

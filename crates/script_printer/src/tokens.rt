@@ -1,0 +1,95 @@
+//! Tokens, each written behind a space.
+
+ghost use Rattle.std.specs.Prelude.{◌≡◌, ◌++◌, [], ◌∷◌, OnOk};
+ghost use Rattle.csp_text.specs.declared.token.Token.TheVariants as token;
+ghost use Rattle.script_printer.specs.TokenText.{before_place, spaced};
+ghost use Rattle.script_printer.specs.PrintedTree.{operator_token, set_op_token};
+
+use crate::numbers::put_decimal;
+use csp_base::{Bytes, Name, NoMemory};
+use csp_text::{BinOp, SetOp, Symbol, Word, symbol_text, word_text};
+
+const SPACE: u8 = b' ';
+
+// Adds a space and some bytes.
+fn put(text: &mut Bytes, bytes: &[u8]) -> Result<(), NoMemory>
+    ensures { OnOk result (text.new ≡ text.old ++ 32 ∷ bytes.now) }
+{
+    text.push(SPACE)?;
+    text.extend_from_slice(bytes)
+}
+
+/// Adds a symbol.
+#[tactic(auto, unfolding(crate::specs::TokenText::spaced))]
+pub(crate) fn put_symbol(text: &mut Bytes, symbol: Symbol) -> Result<(), NoMemory>
+    ensures { OnOk result (text.new ≡ text.old ++ spaced (token.Symbol symbol ∷ [])) }
+{
+    put(text, symbol_text(symbol))
+}
+
+/// Adds a reserved word.
+#[tactic(auto, unfolding(crate::specs::TokenText::spaced))]
+pub(crate) fn put_word(text: &mut Bytes, word: Word) -> Result<(), NoMemory>
+    ensures { OnOk result (text.new ≡ text.old ++ spaced (token.Word word ∷ [])) }
+{
+    put(text, word_text(word))
+}
+
+/// Adds a name.
+#[tactic(auto, unfolding(crate::specs::TokenText::spaced))]
+pub(crate) fn put_name(text: &mut Bytes, name: &Name) -> Result<(), NoMemory>
+    ensures { OnOk result (text.new ≡ text.old ++ spaced (token.Name name.now ∷ [])) }
+{
+    put(text, name.as_slice())
+}
+
+/// Adds a number.
+#[tactic(auto, unfolding(crate::specs::TokenText::spaced))]
+pub(crate) fn put_number(text: &mut Bytes, number: u32) -> Result<(), NoMemory>
+    ensures { OnOk result (text.new ≡ text.old ++ spaced (token.Num number ∷ [])) }
+{
+    text.push(SPACE)?;
+    put_decimal(text, number)
+}
+
+/// Adds the sign that stands before one of several, from the second one on.
+pub(crate) fn put_between(text: &mut Bytes, place: usize, sign: Symbol) -> Result<(), NoMemory>
+    ensures { OnOk result (text.new ≡ text.old ++ spaced (before_place place (token.Symbol sign))) }
+{
+    if place == 0 {
+        return Ok(());
+    }
+    put_symbol(text, sign)
+}
+
+/// Adds an operator that stands between two operands.
+pub(crate) fn put_operator(text: &mut Bytes, op: BinOp) -> Result<(), NoMemory>
+    ensures { OnOk result (text.new ≡ text.old ++ spaced (operator_token op ∷ [])) }
+{
+    match op {
+        BinOp::Or => put_word(text, Word::Or),
+        BinOp::And => put_word(text, Word::And),
+        BinOp::Eq => put_symbol(text, Symbol::Equal),
+        BinOp::Ne => put_symbol(text, Symbol::NotEqual),
+        BinOp::Lt => put_symbol(text, Symbol::Less),
+        BinOp::Le => put_symbol(text, Symbol::LessEqual),
+        BinOp::Gt => put_symbol(text, Symbol::Greater),
+        BinOp::Ge => put_symbol(text, Symbol::GreaterEqual),
+        BinOp::Add => put_symbol(text, Symbol::Plus),
+        BinOp::Sub => put_symbol(text, Symbol::Minus),
+        BinOp::Mul => put_symbol(text, Symbol::Star),
+        BinOp::Div => put_symbol(text, Symbol::Slash),
+        BinOp::Rem => put_symbol(text, Symbol::Percent),
+    }
+}
+
+/// Adds the name of an operator on sets.
+pub(crate) fn put_set_op(text: &mut Bytes, op: SetOp) -> Result<(), NoMemory>
+    ensures { OnOk result (text.new ≡ text.old ++ spaced (set_op_token op ∷ [])) }
+{
+    match op {
+        SetOp::Union => put_word(text, Word::Union),
+        SetOp::Inter => put_word(text, Word::Inter),
+        SetOp::Diff => put_word(text, Word::Diff),
+    }
+}

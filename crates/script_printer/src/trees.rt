@@ -1,0 +1,342 @@
+//! Trees: each form written token by token, straight into the text.
+#![tactic(auto, using(crate::proofs::PrintedEquations::tree_tokens, crate::proofs::PrintedEquations::part_equations, crate::proofs::Written::written))]
+
+ghost use Rattle.std.specs.Prelude.{◌≡◌, ◌++◌, [], ◌∷◌, OnOk, flat_map};
+ghost use Rattle.csp_text.specs.declared.token.Token.TheVariants as token;
+ghost use Rattle.csp_text.specs.declared.token.Symbol.TheVariants.{At, Comma};
+ghost use Rattle.script_printer.specs.TokenText.{spaced};
+ghost use Rattle.script_printer.specs.PrintedTree.{bound_in, conditions, dotted, event_tokens, field_tokens, gen_tokens, in_parentheses, item_tokens, operand_tokens, part_tokens, printed_tokens, renamed_tokens, separated};
+
+use crate::shape::Shape;
+use crate::shapes::shape_of;
+use crate::tokens::{
+    put_between, put_name, put_number, put_operator, put_set_op, put_symbol, put_word,
+};
+use csp_base::{Bytes, Name, NoMemory};
+use csp_text::{EventTree, FieldTree, GenTree, PartTree, Symbol, Tree, Word};
+
+/// Adds a tree without parentheses.
+#[cycle(trees)]
+pub(crate) fn put_tree(text: &mut Bytes, tree: &Tree) -> Result<(), NoMemory>
+    ensures { OnOk result (text.new ≡ text.old ++ spaced (printed_tokens tree.now)) }
+{
+    match tree {
+        Tree::Stop => put_word(text, Word::Stop),
+        Tree::Skip => put_word(text, Word::Skip),
+        Tree::Num(number) => put_number(text, *number),
+        Tree::True => put_word(text, Word::True),
+        Tree::False => put_word(text, Word::False),
+        Tree::Name(name) => put_name(text, name),
+        Tree::Call(name, items) => {
+            put_name(text, name)?;
+            put_symbol(text, Symbol::OpenParen)?;
+            put_items(text, items.as_slice())?;
+            put_symbol(text, Symbol::CloseParen)
+        }
+        Tree::Dot(name, fields) => {
+            put_name(text, name)?;
+            put_dotted(text, fields.as_slice())
+        }
+        Tree::Neg(a) => put_after(text, Symbol::Minus, a.get()),
+        Tree::Not(a) => {
+            put_word(text, Word::Not)?;
+            put_operand(text, a.get())
+        }
+        Tree::Binary(op, a, b) => {
+            put_operand(text, a.get())?;
+            put_operator(text, *op)?;
+            put_operand(text, b.get())
+        }
+        Tree::If(c, a, b) => {
+            put_word(text, Word::If)?;
+            put_operand(text, c.get())?;
+            put_word(text, Word::Then)?;
+            put_tree(text, a.get())?;
+            put_word(text, Word::Else)?;
+            put_tree(text, b.get())
+        }
+        Tree::Display(items) => {
+            put_symbol(text, Symbol::OpenBrace)?;
+            put_items(text, items.as_slice())?;
+            put_symbol(text, Symbol::CloseBrace)
+        }
+        Tree::Range(a, b) => {
+            put_after(text, Symbol::OpenBrace, a.get())?;
+            put_after(text, Symbol::DotDot, b.get())?;
+            put_symbol(text, Symbol::CloseBrace)
+        }
+        Tree::Comp(items, gens) => {
+            put_symbol(text, Symbol::OpenBrace)?;
+            put_items(text, items.as_slice())?;
+            put_symbol(text, Symbol::Bar)?;
+            put_gens(text, gens.as_slice())?;
+            put_symbol(text, Symbol::CloseBrace)
+        }
+        Tree::Product(parts, gens) => {
+            put_symbol(text, Symbol::OpenProduct)?;
+            put_parts(text, parts.as_slice())?;
+            put_conditions(text, gens.as_slice())?;
+            put_symbol(text, Symbol::CloseProduct)
+        }
+        Tree::SetOp(op, a, b) => {
+            put_set_op(text, *op)?;
+            put_symbol(text, Symbol::OpenParen)?;
+            put_item(text, a.get())?;
+            put_symbol(text, Symbol::Comma)?;
+            put_item(text, b.get())?;
+            put_symbol(text, Symbol::CloseParen)
+        }
+        Tree::Prefix(event, p) => {
+            put_event(text, event)?;
+            put_after(text, Symbol::Arrow, p.get())
+        }
+        Tree::Guard(condition, p) => {
+            put_operand(text, condition.get())?;
+            put_after(text, Symbol::Ampersand, p.get())
+        }
+        Tree::External(ps) => put_operands(text, ps.as_slice(), Symbol::ExternalChoice),
+        Tree::Internal(ps) => put_operands(text, ps.as_slice(), Symbol::InternalChoice),
+        Tree::EachExternal(name, s, p) => {
+            put_replicated(text, Symbol::ExternalChoice, name, s.get())?;
+            put_tree(text, p.get())
+        }
+        Tree::EachInternal(name, s, p) => {
+            put_replicated(text, Symbol::InternalChoice, name, s.get())?;
+            put_tree(text, p.get())
+        }
+        Tree::Parallel(p, a, b, q) => {
+            put_operand(text, p.get())?;
+            put_after(text, Symbol::OpenBracket, a.get())?;
+            put_after(text, Symbol::Parallel, b.get())?;
+            put_after(text, Symbol::CloseBracket, q.get())
+        }
+        Tree::EachParallel(name, s, a, p) => {
+            put_replicated(text, Symbol::Parallel, name, s.get())?;
+            put_after(text, Symbol::OpenBracket, a.get())?;
+            put_symbol(text, Symbol::CloseBracket)?;
+            put_tree(text, p.get())
+        }
+        Tree::Seq(p, q) => {
+            put_operand(text, p.get())?;
+            put_after(text, Symbol::Semicolon, q.get())
+        }
+        Tree::Hide(p, s) => {
+            put_operand(text, p.get())?;
+            put_after(text, Symbol::Backslash, s.get())
+        }
+        Tree::Rename(p, pairs, gens) => {
+            put_operand(text, p.get())?;
+            put_symbol(text, Symbol::OpenRename)?;
+            put_pairs(text, pairs.as_slice())?;
+            put_conditions(text, gens.as_slice())?;
+            put_symbol(text, Symbol::CloseRename)
+        }
+    }
+}
+
+/// Adds a tree in parentheses.
+#[cycle(trees)]
+fn put_in_parentheses(text: &mut Bytes, tree: &Tree) -> Result<(), NoMemory>
+    ensures { OnOk result (text.new ≡ text.old ++ spaced (in_parentheses (printed_tokens tree.now))) }
+{
+    put_symbol(text, Symbol::OpenParen)?;
+    put_tree(text, tree)?;
+    put_symbol(text, Symbol::CloseParen)
+}
+
+/// Adds an operand: what is no atom has parentheses.
+#[cycle(trees)]
+#[tactic(auto, unfolding(crate::specs::PrintedTree::operand_tokens))]
+pub(crate) fn put_operand(text: &mut Bytes, tree: &Tree) -> Result<(), NoMemory>
+    ensures { OnOk result (text.new ≡ text.old ++ spaced (operand_tokens tree.now)) }
+{
+    match shape_of(tree) {
+        Shape::Atom => put_tree(text, tree),
+        Shape::Dotted => put_in_parentheses(text, tree),
+        Shape::Compound => put_in_parentheses(text, tree),
+    }
+}
+
+/// Adds an item: what is neither an atom nor a dotted event has parentheses.
+#[cycle(trees)]
+#[tactic(auto, unfolding(crate::specs::PrintedTree::item_tokens))]
+fn put_item(text: &mut Bytes, tree: &Tree) -> Result<(), NoMemory>
+    ensures { OnOk result (text.new ≡ text.old ++ spaced (item_tokens tree.now)) }
+{
+    match shape_of(tree) {
+        Shape::Atom => put_tree(text, tree),
+        Shape::Dotted => put_tree(text, tree),
+        Shape::Compound => put_in_parentheses(text, tree),
+    }
+}
+
+/// Adds a sign and an operand behind it.
+#[cycle(trees)]
+fn put_after(text: &mut Bytes, sign: Symbol, tree: &Tree) -> Result<(), NoMemory>
+    ensures { OnOk result (text.new ≡ text.old ++ spaced (token.Symbol sign ∷ operand_tokens tree.now)) }
+{
+    put_symbol(text, sign)?;
+    put_operand(text, tree)
+}
+
+/// Adds the front of a replicated form: its sign, its name, and the set that the name is bound in.
+#[cycle(trees)]
+fn put_replicated(text: &mut Bytes, sign: Symbol, name: &Name, set: &Tree) -> Result<(), NoMemory>
+    ensures { OnOk result (text.new ≡ text.old ++ spaced (token.Symbol sign ∷ bound_in name.now (operand_tokens set.now) ++ token.Symbol At ∷ [])) }
+{
+    put_symbol(text, sign)?;
+    put_name(text, name)?;
+    put_after(text, Symbol::Colon, set)?;
+    put_symbol(text, Symbol::At)
+}
+
+/// Adds the event of a prefix.
+#[cycle(trees)]
+fn put_event(text: &mut Bytes, event: &EventTree) -> Result<(), NoMemory>
+    ensures { OnOk result (text.new ≡ text.old ++ spaced (event_tokens event.now)) }
+{
+    put_name(text, &event.name)?;
+    put_fields(text, event.fields.as_slice())
+}
+
+/// Adds a field of a prefix.
+#[cycle(trees)]
+fn put_field(text: &mut Bytes, field: &FieldTree) -> Result<(), NoMemory>
+    ensures { OnOk result (text.new ≡ text.old ++ spaced (field_tokens field.now)) }
+{
+    match field {
+        FieldTree::Dot(tree) => put_after(text, Symbol::Dot, tree),
+        FieldTree::Output(tree) => put_after(text, Symbol::Bang, tree),
+        FieldTree::Input(name, set) => {
+            put_symbol(text, Symbol::Question)?;
+            put_name(text, name)?;
+            match set {
+                Some(set) => put_after(text, Symbol::Colon, set),
+                None => Ok(()),
+            }
+        }
+    }
+}
+
+/// Adds a generator: a name and its set, or a condition.
+#[cycle(trees)]
+fn put_gen(text: &mut Bytes, generator: &GenTree) -> Result<(), NoMemory>
+    ensures { OnOk result (text.new ≡ text.old ++ spaced (gen_tokens generator.now)) }
+{
+    match generator {
+        GenTree::From(name, set) => {
+            put_name(text, name)?;
+            put_after(text, Symbol::LeftArrow, set)
+        }
+        GenTree::Cond(condition) => put_operand(text, condition),
+    }
+}
+
+/// Adds the front of an event.
+#[cycle(trees)]
+fn put_part(text: &mut Bytes, part: &PartTree) -> Result<(), NoMemory>
+    ensures { OnOk result (text.new ≡ text.old ++ spaced (part_tokens part.now)) }
+{
+    put_name(text, &part.name)?;
+    put_dotted(text, part.fields.as_slice())
+}
+
+/// Adds generators behind a bar, or nothing where there are none.
+#[cycle(trees)]
+fn put_conditions(text: &mut Bytes, gens: &[GenTree]) -> Result<(), NoMemory>
+    ensures { OnOk result (text.new ≡ text.old ++ spaced (conditions gen_tokens gens.now)) }
+{
+    if gens.is_empty() {
+        return Ok(());
+    }
+    put_symbol(text, Symbol::Bar)?;
+    put_gens(text, gens)
+}
+
+/// Adds items with commas between them.
+#[cycle(trees)]
+fn put_items(text: &mut Bytes, items: &[Tree]) -> Result<(), NoMemory>
+    ensures { OnOk result (text.new ≡ text.old ++ spaced (separated item_tokens (token.Symbol Comma) items.now)) }
+{
+    for (place, item) in items.iter().enumerate() {
+        put_between(text, place, Symbol::Comma)?;
+        put_item(text, item)?;
+    }
+    Ok(())
+}
+
+/// Adds operands with a sign between them.
+#[cycle(trees)]
+pub(crate) fn put_operands(
+    text: &mut Bytes,
+    operands: &[Tree],
+    sign: Symbol,
+) -> Result<(), NoMemory>
+    ensures { OnOk result (text.new ≡ text.old ++ spaced (separated operand_tokens (token.Symbol sign) operands.now)) }
+{
+    for (place, operand) in operands.iter().enumerate() {
+        put_between(text, place, sign)?;
+        put_operand(text, operand)?;
+    }
+    Ok(())
+}
+
+/// Adds generators with commas between them.
+#[cycle(trees)]
+fn put_gens(text: &mut Bytes, gens: &[GenTree]) -> Result<(), NoMemory>
+    ensures { OnOk result (text.new ≡ text.old ++ spaced (separated gen_tokens (token.Symbol Comma) gens.now)) }
+{
+    for (place, generator) in gens.iter().enumerate() {
+        put_between(text, place, Symbol::Comma)?;
+        put_gen(text, generator)?;
+    }
+    Ok(())
+}
+
+/// Adds fronts of events with commas between them.
+#[cycle(trees)]
+fn put_parts(text: &mut Bytes, parts: &[PartTree]) -> Result<(), NoMemory>
+    ensures { OnOk result (text.new ≡ text.old ++ spaced (separated part_tokens (token.Symbol Comma) parts.now)) }
+{
+    for (place, part) in parts.iter().enumerate() {
+        put_between(text, place, Symbol::Comma)?;
+        put_part(text, part)?;
+    }
+    Ok(())
+}
+
+/// Adds pairs of a renaming with commas between them.
+#[cycle(trees)]
+fn put_pairs(text: &mut Bytes, pairs: &[(PartTree, PartTree)]) -> Result<(), NoMemory>
+    ensures { OnOk result (text.new ≡ text.old ++ spaced (separated renamed_tokens (token.Symbol Comma) pairs.now)) }
+{
+    for (place, pair) in pairs.iter().enumerate() {
+        put_between(text, place, Symbol::Comma)?;
+        put_part(text, &pair.0)?;
+        put_symbol(text, Symbol::LeftArrow)?;
+        put_part(text, &pair.1)?;
+    }
+    Ok(())
+}
+
+/// Adds fields with a dot before each.
+#[cycle(trees)]
+fn put_dotted(text: &mut Bytes, fields: &[Tree]) -> Result<(), NoMemory>
+    ensures { OnOk result (text.new ≡ text.old ++ spaced (dotted operand_tokens fields.now)) }
+{
+    for field in fields {
+        put_after(text, Symbol::Dot, field)?;
+    }
+    Ok(())
+}
+
+/// Adds the fields of a prefix.
+#[cycle(trees)]
+fn put_fields(text: &mut Bytes, fields: &[FieldTree]) -> Result<(), NoMemory>
+    ensures { OnOk result (text.new ≡ text.old ++ spaced (flat_map field_tokens fields.now)) }
+{
+    for field in fields {
+        put_field(text, field)?;
+    }
+    Ok(())
+}

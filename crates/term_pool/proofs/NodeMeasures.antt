@@ -1,0 +1,85 @@
+-- What a node's process measures: its own parts and the processes at its places.
+use Rattle.std.proofs.Common.{◌≡◌, ℕ, zero, suc, ◌+◌, ◌<◌, max, Bool, true, ◌&&◌, nat_lt, List, [], ◌∷◌, map, length, get_or, refl, ap, sym, ◌∙◌, subst, arith}
+use Rattle.std.proofs.lemmas.Bool.{ltb-true}
+use Rattle.std.proofs.lemmas.List.{get_or-map, length-map}
+use Rattle.std.specs.Cmp.{first_so, second_so}
+use Rattle.csp_program.specs.Lists.{greatest, total}
+use Rattle.csp_program.specs.Depth.{expr_depth, gen_depth, pair_depth, field_depth, proc_depth}
+use Rattle.csp_program.specs.Size.{expr_size, gen_size, pair_size, field_size, proc_size}
+use Rattle.csp_program.specs.declared.processes.Proc.{Proc}
+use Rattle.csp_program.specs.declared.processes.Proc.TheVariants as proc
+use Rattle.term_pool.proofs.MeasureLaws as laws
+use Rattle.term_pool.specs.Counting.{capped}
+use Rattle.term_pool.specs.Measured.{measured, own_depth, own_size, depth_at, size_at, deepest_at, total_at, node_depth, node_size}
+use Rattle.term_pool.specs.Trees.{tree_at, tree_of, places, all_below, places_below}
+use Rattle.term_pool.specs.declared.measure.Measure.{Measure}
+use Rattle.term_pool.specs.declared.node.Node.{Node}
+use Rattle.term_pool.specs.declared.node.Node.TheVariants as node
+use Rattle.term_pool.specs.declared.node.ProcId.{ProcId}
+
+pub tree_depth : (ts : List Proc) (n : Node) → proc_depth (tree_of ts n) ≡ 1 + max (own_depth n) (greatest (map proc_depth (map (tree_at ts) (places n))))
+tree_depth ts node.Stop = omega (arith, laws.proc_depth-Stop)
+tree_depth ts (node.Prefix k fields p) = omega (arith, laws.proc_depth-Prefix k fields (tree_at ts p))
+tree_depth ts (node.Guard c p) = omega (arith, laws.proc_depth-Guard c (tree_at ts p))
+tree_depth ts (node.If c p q) = omega (arith, laws.proc_depth-If c (tree_at ts p) (tree_at ts q))
+tree_depth ts (node.External ps) = omega (arith, laws.proc_depth-External (map (tree_at ts) ps))
+tree_depth ts (node.Internal ps) = omega (arith, laws.proc_depth-Internal (map (tree_at ts) ps))
+tree_depth ts (node.EachExternal y s p) = omega (arith, laws.proc_depth-EachExternal y s (tree_at ts p))
+tree_depth ts (node.EachInternal y s p) = omega (arith, laws.proc_depth-EachInternal y s (tree_at ts p))
+tree_depth ts (node.Hide p s) = omega (arith, laws.proc_depth-Hide (tree_at ts p) s)
+tree_depth ts (node.Rename p pairs gens) = omega (arith, laws.proc_depth-Rename (tree_at ts p) pairs gens)
+tree_depth ts (node.Call d args) = omega (arith, laws.proc_depth-Call d args)
+tree_depth ts node.Skip = omega (arith, laws.proc_depth-Skip)
+tree_depth ts (node.Seq p q) = omega (arith, laws.proc_depth-Seq (tree_at ts p) (tree_at ts q))
+tree_depth ts node.Ended = omega (arith, laws.proc_depth-Ended)
+
+pub tree_size : (ts : List Proc) (n : Node) → proc_size (tree_of ts n) ≡ 1 + (own_size n + total (map proc_size (map (tree_at ts) (places n))))
+tree_size ts node.Stop = omega (arith, laws.proc_size-Stop)
+tree_size ts (node.Prefix k fields p) = omega (arith, laws.proc_size-Prefix k fields (tree_at ts p))
+tree_size ts (node.Guard c p) = omega (arith, laws.proc_size-Guard c (tree_at ts p))
+tree_size ts (node.If c p q) = omega (arith, laws.proc_size-If c (tree_at ts p) (tree_at ts q))
+tree_size ts (node.External ps) = omega (arith, laws.proc_size-External (map (tree_at ts) ps))
+tree_size ts (node.Internal ps) = omega (arith, laws.proc_size-Internal (map (tree_at ts) ps))
+tree_size ts (node.EachExternal y s p) = omega (arith, laws.proc_size-EachExternal y s (tree_at ts p))
+tree_size ts (node.EachInternal y s p) = omega (arith, laws.proc_size-EachInternal y s (tree_at ts p))
+tree_size ts (node.Hide p s) = omega (arith, laws.proc_size-Hide (tree_at ts p) s)
+tree_size ts (node.Rename p pairs gens) = omega (arith, laws.proc_size-Rename (tree_at ts p) pairs gens)
+tree_size ts (node.Call d args) = omega (arith, laws.proc_size-Call d args)
+tree_size ts node.Skip = omega (arith, laws.proc_size-Skip)
+tree_size ts (node.Seq p q) = omega (arith, laws.proc_size-Seq (tree_at ts p) (tree_at ts q))
+tree_size ts node.Ended = omega (arith, laws.proc_size-Ended)
+
+module _ (ts : List Proc) where
+  measured_at : (id : ProcId) → nat_lt id.0 (length (map measured ts)) ≡ true → get_or (map measured ts) id.0 (record { depth = 0; size = 0 }) ≡ measured (tree_at ts id)
+  measured_at id h = get_or-map measured ts id.0 proc.Stop (record { depth = 0; size = 0 }) (subst (λ (k : ℕ). id.0 < k) (length-map ts measured) (ltb-true id.0 (length (map measured ts)) h))
+
+  deepest_measured : (ids : List ProcId) → all_below (length (map measured ts)) ids ≡ true
+      → deepest_at (map measured ts) ids ≡ capped (greatest (map proc_depth (map (tree_at ts) ids)))
+  deepest_measured [] h = omega arith
+  deepest_measured (id ∷ ids) h =
+      let first = ap (λ (m : Measure). m.depth) (measured_at id (first_so (nat_lt id.0 (length (map measured ts))) (all_below (length (map measured ts)) ids) h)) in
+      let others = deepest_measured ids (second_so (nat_lt id.0 (length (map measured ts))) (all_below (length (map measured ts)) ids) h) in
+      omega (arith, first, others)
+
+  total_measured : (ids : List ProcId) → all_below (length (map measured ts)) ids ≡ true
+      → capped (total_at (map measured ts) ids) ≡ capped (total (map proc_size (map (tree_at ts) ids)))
+  total_measured [] h = refl
+  total_measured (id ∷ ids) h =
+      let first = ap (λ (m : Measure). m.size) (measured_at id (first_so (nat_lt id.0 (length (map measured ts))) (all_below (length (map measured ts)) ids) h)) in
+      let others = total_measured ids (second_so (nat_lt id.0 (length (map measured ts))) (all_below (length (map measured ts)) ids) h) in
+      omega (arith, first, others)
+
+  depth_measured : (n : Node) → places_below (length (map measured ts)) n ≡ true → node_depth (map measured ts) n ≡ capped (proc_depth (tree_of ts n))
+  depth_measured n h = omega (arith, tree_depth ts n, deepest_measured (places n) h)
+
+  size_measured : (n : Node) → places_below (length (map measured ts)) n ≡ true → node_size (map measured ts) n ≡ capped (proc_size (tree_of ts n))
+  size_measured n h = omega (arith, tree_size ts n, total_measured (places n) h)
+
+-- where the measures are those of the trees, a node's measure is that of its tree
+pub node_measured : (ts : List Proc) (ms : List Measure) (n : Node) (m : Measure) → ms ≡ map measured ts → places_below (length ms) n ≡ true
+    → m.depth ≡ node_depth ms n → m.size ≡ node_size ms n → m ≡ measured (tree_of ts n)
+node_measured ts ms n m e h d s =
+    let below : places_below (length (map measured ts)) n ≡ true = subst (λ (xs : List Measure). places_below (length xs) n ≡ true) e h in
+    let depth : m.depth ≡ capped (proc_depth (tree_of ts n)) = d ∙ (ap (λ (xs : List Measure). node_depth xs n) e ∙ depth_measured ts n below) in
+    let size : m.size ≡ capped (proc_size (tree_of ts n)) = s ∙ (ap (λ (xs : List Measure). node_size xs n) e ∙ size_measured ts n below) in
+    λ i. record { depth = depth i; size = size i }

@@ -1,0 +1,8 @@
+-- The list grows at its end alone, and stays as it is where it has the process.
+use Rattle.term_pool.proofs.pool.Pool.put.Goals as goal
+
+pub returns-clause-front : goal.returns-clause-front
+returns-clause-front c = c.put_tree.ensures.grows.front
+
+pub returns-clause-known : goal.returns-clause-known
+returns-clause-known c = λ has. c.put_tree.ensures.grows.known c.alloc-alloc.ensures.parts (has, tt)

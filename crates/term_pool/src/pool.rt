@@ -1,0 +1,173 @@
+//! A pool of processes: each stands in it once, and its sub-processes stand at smaller places.
+
+ghost use Rattle.std.specs.Prelude.{◌≡◌, ◌<◌, ◌^◌, ◌++◌, [], ◌∷◌, true, false, length, map, slice_get, IfOk, OnOk, OnErr, Some};
+ghost use Rattle.std.specs.List.{IsDistinct};
+ghost use Rattle.std.specs.Set.{is_member};
+ghost use Rattle.containers.specs.Members.{with_new};
+ghost use Rattle.csp_program.specs.Depth.{proc_depth};
+ghost use Rattle.csp_program.specs.Size.{proc_size};
+ghost use Rattle.term_pool.specs.Counting.{capped};
+ghost use Rattle.term_pool.specs.ExactNode.{eq_node};
+ghost use Rattle.term_pool.specs.Held.{IsHeld};
+ghost use Rattle.term_pool.specs.Pooled.{AreDifferent, Has, IsFront, PartsStandBelow};
+ghost use Rattle.term_pool.specs.Trees.{places_below, tree_at, tree_of, trees_of};
+
+use crate::measure::Measure;
+use crate::node::{Node, ProcId};
+use crate::node_measures::of_node;
+use crate::put::put_tree;
+use containers::{Items, Numbering};
+use csp_base::NoMemory;
+use csp_program::Proc;
+use std::alloc::Global;
+use std::marker::Model;
+
+/// A list of processes, fewer than 2^32 of them and all different. It keeps the allocator.
+///
+/// Contracts see the processes, and not the nodes by which they are kept.
+#[derive(Debug, Drop)]
+pub struct Pool {
+    alloc: Global,
+    nodes: Numbering<Node>,
+    measures: Items<Measure>,
+}
+
+impl Model for Pool {
+    ghost use Rattle.std.specs.Prelude.{List};
+    ghost use Rattle.std.specs.Coded.{codes};
+    ghost use Rattle.csp_program.specs.contracts.processes.Proc as process;
+    ghost use Rattle.csp_program.specs.declared.processes.Proc.{Proc};
+    ghost use Rattle.term_pool.specs.Held.{IsHeld};
+    ghost use Rattle.term_pool.specs.Trees.{trees_of};
+
+    ghost Value = { List Proc };
+
+    ghost coded = { Prim.hlevel (codes, process.the_row.coded) };
+
+    ghost view = { λ p. trees_of p.nodes };
+
+    ghost invariant = { λ p. IsHeld p.nodes p.measures };
+}
+
+impl Pool {
+    /// No processes. It takes no memory yet.
+    pub fn new(alloc: Global) -> Pool
+        ensures { result ≡ [] }
+    {
+        Pool {
+            alloc,
+            nodes: Numbering::new(alloc),
+            measures: Items::new(alloc),
+        }
+    }
+
+    /// How many processes there are.
+    pub fn len(&self) -> usize
+        ensures value { result ≡ length self.now }
+        ensures small { result < 2 ^ 32 }
+        ensures different { AreDifferent self.now }
+        ensures parts { PartsStandBelow self.now }
+    {
+        self.nodes.len()
+    }
+
+    /// The node at a place: with the processes at its places, which are smaller, it is the process there.
+    pub fn node(&self, id: ProcId) -> &Node
+        requires { id.0 < length self.now }
+        ensures process { tree_of self.now result.now ≡ tree_at self.now id }
+        ensures places { places_below id.0 result.now ≡ true }
+    {
+        &self.nodes.as_slice()[id.0 as usize]
+    }
+
+    /// The depth of the process at a place, as `term_depth` counts it.
+    pub fn depth(&self, id: ProcId) -> u32
+        requires { id.0 < length self.now }
+        ensures { result ≡ capped (proc_depth (tree_at self.now id)) }
+    {
+        self.measures.as_slice()[id.0 as usize].depth
+    }
+
+    /// The size of the process at a place, as `term_size` counts it.
+    pub fn size(&self, id: ProcId) -> u32
+        requires { id.0 < length self.now }
+        ensures { result ≡ capped (proc_size (tree_at self.now id)) }
+    {
+        self.measures.as_slice()[id.0 as usize].size
+    }
+
+    /// The place of the process that the node is with the processes at its places. A new one goes to the end; for one that is known no memory is needed.
+    pub fn put_node(&mut self, node: Node) -> Result<ProcId, NoMemory>
+        requires { places_below (length self.old) node ≡ true }
+        ensures process { IfOk result (λ id. slice_get self.new id.0 ≡ Some (tree_of self.old node)) }
+        ensures front { IsFront self.old self.new }
+        ensures known { Has self.old (tree_of self.old node) → self.new ≡ self.old }
+        ensures err { OnErr result (self.new ≡ self.old) }
+        ensures err_only_new { OnErr result (Has self.old (tree_of self.old node) → ⊥) }
+    {
+        let place = number_node(&mut self.nodes, &mut self.measures, node)?;
+        Ok(ProcId(place))
+    }
+
+    /// The place of the process, which is put into the pool with its sub-processes, each of them once. Where memory fails some of them are put.
+    pub fn put(&mut self, proc: &Proc) -> Result<ProcId, NoMemory>
+        ensures process { IfOk result (λ id. slice_get self.new id.0 ≡ Some proc.now) }
+        ensures front { IsFront self.old self.new }
+        ensures known { Has self.old proc.now → self.new ≡ self.old }
+    {
+        let alloc = self.alloc();
+        put_tree(self, alloc, proc)
+    }
+
+    // The allocator.
+    fn alloc(&self) -> Global
+        ensures parts { PartsStandBelow self.now }
+    {
+        self.alloc
+    }
+}
+
+// The number of a node, which is the next one where the node is new.
+fn number_node(
+    nodes: &mut Numbering<Node>,
+    measures: &mut Items<Measure>,
+    node: Node,
+) -> Result<u32, NoMemory>
+    requires held { IsHeld nodes.old measures.old }
+    requires below { places_below (length nodes.old) node ≡ true }
+    ensures held { IsHeld nodes.new measures.new }
+    ensures ok { OnOk result (nodes.new ≡ with_new eq_node nodes.old node) }
+    ensures place { IfOk result (λ place. slice_get nodes.new place ≡ Some node) }
+    ensures err { OnErr result (nodes.new ≡ nodes.old) }
+    ensures err_only_new { OnErr result (is_member eq_node nodes.old node ≡ false) }
+{
+    if let Some(place) = nodes.find(&node) {
+        return Ok(place);
+    }
+    add_node(nodes, measures, node)
+}
+
+// The number of a node that is new: the next one.
+fn add_node(
+    nodes: &mut Numbering<Node>,
+    measures: &mut Items<Measure>,
+    node: Node,
+) -> Result<u32, NoMemory>
+    requires held { IsHeld nodes.old measures.old }
+    requires below { places_below (length nodes.old) node ≡ true }
+    requires unknown { is_member eq_node nodes.old node ≡ false }
+    ensures held { IsHeld nodes.new measures.new }
+    ensures ok { OnOk result (nodes.new ≡ nodes.old ++ node ∷ []) }
+    ensures place { IfOk result (λ place. slice_get nodes.new place ≡ Some node) }
+    ensures err { OnErr result (nodes.new ≡ nodes.old) }
+{
+    let measure = of_node(measures.as_slice(), &node);
+    measures.push(measure)?;
+    match nodes.number(node) {
+        Ok(place) => Ok(place),
+        Err(_) => {
+            let _ = measures.pop();
+            Err(NoMemory)
+        }
+    }
+}

@@ -1,0 +1,8 @@
+pub mod Answers
+pub mod Bindings
+pub mod Exact
+pub mod Limited
+pub mod Nesting
+pub mod Reads
+pub mod Settled
+pub mod Starts
