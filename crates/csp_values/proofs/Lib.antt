@@ -1,4 +1,5 @@
 pub mod Arms
+pub mod Bare
 pub mod Equations
 pub mod Falls
 pub mod FieldSteps

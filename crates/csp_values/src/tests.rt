@@ -1,0 +1,5 @@
+mod built;
+mod content;
+mod limits;
+mod rows;
+mod sets;
