@@ -2,6 +2,8 @@
 #![tactic(auto)]
 
 mod tables;
+mod terms;
+mod values;
 mod workloads;
 
 use std::alloc::Global;
@@ -9,6 +11,8 @@ use std::env;
 use std::process::ExitCode;
 use std::rt::Env;
 use tables::{blocks, row, row_by_rounds, row_sets, silent_chain, subsets};
+use terms::substituted;
+use values::{bindings, production};
 use workloads::{chain, layers, numbering, reached, sets};
 
 /// The words of the command line, without the program's own name: a workload, its size, and how many times it runs.
@@ -44,6 +48,9 @@ fn run_once(alloc: Global, workload: &str, size: u32) -> Option<u64> {
         "row" => row(alloc, size).ok(),
         "row-by-rounds" => row_by_rounds(alloc, size).ok(),
         "blocks" => blocks(alloc, size).ok(),
+        "substituted" => substituted(alloc, size).ok(),
+        "bindings" => bindings(alloc, size).ok(),
+        "production" => production(alloc, size).ok(),
         _ => None,
     }
 }
