@@ -4,3 +4,4 @@ pub mod NodeLemmas
 pub mod NodeMeasures
 pub mod PutLemmas
 pub mod TreeLemmas
+pub mod WithinLemmas

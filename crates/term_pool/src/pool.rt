@@ -11,6 +11,7 @@ ghost use Rattle.term_pool.specs.ExactNode.{eq_node};
 ghost use Rattle.term_pool.specs.Held.{IsHeld};
 ghost use Rattle.term_pool.specs.Pooled.{AreDifferent, Has, IsFront, PartsStandBelow};
 ghost use Rattle.term_pool.specs.Trees.{places_below, tree_at, tree_of, trees_of};
+ghost use Rattle.term_pool.specs.Within.{AddsOne, AddsParts};
 
 use crate::measure::Measure;
 use crate::node::{Node, ProcId};
@@ -102,6 +103,7 @@ impl Pool {
         ensures process { IfOk result (λ id. slice_get self.new id.0 ≡ Some (tree_of self.old node)) }
         ensures front { IsFront self.old self.new }
         ensures known { Has self.old (tree_of self.old node) → self.new ≡ self.old }
+        ensures only { AddsOne self.old self.new (tree_of self.old node) }
         ensures err { OnErr result (self.new ≡ self.old) }
         ensures err_only_new { OnErr result (Has self.old (tree_of self.old node) → ⊥) }
     {
@@ -114,6 +116,7 @@ impl Pool {
         ensures process { IfOk result (λ id. slice_get self.new id.0 ≡ Some proc.now) }
         ensures front { IsFront self.old self.new }
         ensures known { Has self.old proc.now → self.new ≡ self.old }
+        ensures only { AddsParts self.old self.new proc.now }
     {
         let alloc = self.alloc();
         put_tree(self, alloc, proc)
