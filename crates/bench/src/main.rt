@@ -7,8 +7,8 @@ mod terms;
 mod values;
 mod workloads;
 
-use std::alloc::Global;
 use pools::{pool, put_in};
+use std::alloc::Global;
 use std::env;
 use std::process::ExitCode;
 use std::rt::Env;

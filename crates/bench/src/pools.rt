@@ -1,8 +1,8 @@
 //! Workloads on pools of processes.
 
 use containers::{Boxed, Items};
-use csp_base::NoMemory;
 use csp_atoms::{Atom, Value};
+use csp_base::NoMemory;
 use csp_program::{Expr, Head, Proc};
 use std::alloc::Global;
 use term_pool::{Pool, ProcId};
