@@ -74,16 +74,37 @@ fn choice_stands_once(alloc: Global) -> Result<bool, NoMemory> {
     Ok(is_held && again == place && pool.len() == 4)
 }
 
+fn put_stop(pool: &mut Pool) -> Result<ProcId, NoMemory> {
+    pool.put_node(Node::Stop)
+}
+
+// The process at a place, twice in a row.
+fn put_sequence(pool: &mut Pool, place: ProcId) -> Result<Option<ProcId>, NoMemory> {
+    if place.0 as usize >= pool.len() {
+        return Ok(None);
+    }
+    Ok(Some(pool.put_node(Node::Seq(place, place))?))
+}
+
+// Whether the node at a place is that of the process at another, twice in a row.
+fn is_sequence(pool: &Pool, place: ProcId, part: ProcId) -> bool {
+    if place.0 as usize >= pool.len() {
+        return false;
+    }
+    match pool.node(place) {
+        Node::Seq(first, second) => *first == part && *second == part,
+        _ => false,
+    }
+}
+
 // Whether `STOP ; STOP`, put node by node, is read again.
 fn nodes_are_read(alloc: Global) -> Result<bool, NoMemory> {
     let mut pool = Pool::new(alloc);
-    let stop = pool.put_node(Node::Stop)?;
-    let both = pool.put_node(Node::Seq(stop, stop))?;
-    if both.0 as usize >= pool.len() {
+    let stop = put_stop(&mut pool)?;
+    let Some(both) = put_sequence(&mut pool, stop)? else {
         return Ok(false);
-    }
-    let is_node = *pool.node(both) == Node::Seq(stop, stop);
-    Ok(is_node && holds(&pool, both, 2, 2, 3))
+    };
+    Ok(is_sequence(&pool, both, stop) && holds(&pool, both, 2, 2, 3))
 }
 
 #[test]
