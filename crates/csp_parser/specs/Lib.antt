@@ -1,0 +1,4 @@
+pub mod Asserted
+pub mod Fault
+pub mod Places
+pub mod Spells

@@ -1,0 +1,25 @@
+//! Why a text is no script.
+
+use csp_base::{NoMemory, Place};
+
+/// Why there is no script, or none was found.
+#[derive(Clone, Copy, Debug, PartialEq, Eq, Drop, thiserror::Error)]
+pub enum ParseFault {
+    /// Memory ran out.
+    #[error("out of memory")]
+    NoMemory,
+    /// The text is no script: this is the place of the last token that was looked at, or that of the text's end.
+    #[error("no script near line {} column {}", at.line, at.column)]
+    NoScript { at: Place },
+}
+
+impl From<NoMemory> for ParseFault {
+    ghost use Rattle.std.specs.Prelude.{◌≡◌};
+    ghost use Rattle.csp_parser.specs.declared.fault.ParseFault.TheVariants.{NoMemory};
+
+    ghost from_gives = { λ _ fault. fault ≡ NoMemory };
+
+    fn from(_error: NoMemory) -> ParseFault {
+        ParseFault::NoMemory
+    }
+}

@@ -1,0 +1,15 @@
+//! The parser of scripts: the script that a list of tokens is, and the script that a text spells.
+#![tactic(auto)]
+
+mod assertion;
+mod declarations;
+mod declared;
+pub mod fault;
+mod names;
+mod parser;
+#[cfg(test)]
+mod tests;
+mod types;
+
+pub use fault::ParseFault;
+pub use parser::{each_text_spells_one_script, parse, read};

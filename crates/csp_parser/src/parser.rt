@@ -1,0 +1,71 @@
+//! Scripts, of tokens and of texts.
+
+ghost use Rattle.std.specs.Prelude.{◌≡◌, ◌≤◌, List, ℕ, length, IfOk, IfErr};
+ghost use Rattle.csp_grammar.specs.Declarations.{ScriptText};
+ghost use Rattle.csp_parser.specs.Fault.{IfNoScript};
+ghost use Rattle.csp_parser.specs.Places.{IsPlaceIn, IsPlaceOf, place_before};
+ghost use Rattle.csp_parser.specs.Spells.{EachTextSpellsOneScript, Spells};
+ghost use Rattle.csp_text.specs.declared.script.Script.{Script};
+
+use crate::declarations::declarations;
+use crate::fault::ParseFault;
+use csp_base::Place;
+use csp_lexer::{LexFault, Tokens, lex};
+use csp_text::Script;
+use std::alloc::Global;
+use tree_parser::ReadFault;
+
+/// The place of the token from which on so many tokens are left, or that of the text's end.
+#[tactic(auto, using(crate::proofs::Scripts::token_there, crate::proofs::Scripts::no_token))]
+fn place_before(tokens: &Tokens, left: usize) -> Place
+    ensures { result ≡ place_before tokens.now left }
+{
+    let first = tokens.tokens.len().saturating_sub(left);
+    match tokens.places.get(first) {
+        Some(place) => *place,
+        None => tokens.end,
+    }
+}
+
+/// The script that the tokens are.
+///
+/// The fault, but for want of memory, is that they are none within the limits of nesting: 400 open brackets, and a depth of 200. It
+/// tells the place of the token at which reading stopped, or that of the text's end.
+pub fn parse(alloc: Global, tokens: &Tokens) -> Result<Script, ParseFault>
+    // What is found is spelled, and nothing else is.
+    ensures found { IfOk result (λ script. ScriptText tokens.now.tokens script) }
+    ensures only { IfOk result (λ script. (other : Script) → ScriptText tokens.now.tokens other → script ≡ other) }
+
+    // The fault is that no script is spelled.
+    ensures none { IfErr result (λ fault. IfNoScript fault (λ at. (script : Script) → ScriptText tokens.now.tokens script → ⊥)) }
+    ensures place { IfErr result (λ fault. IfNoScript fault (λ at. IsPlaceIn tokens.now at)) }
+{
+    match declarations(alloc, tokens.tokens.as_slice()) {
+        Ok(decls) => Ok(Script { decls }),
+        Err(ReadFault::NoMemory) => Err(ParseFault::NoMemory),
+        Err(ReadFault::NoText { left }) => Err(ParseFault::NoScript {
+            at: place_before(tokens, left),
+        }),
+    }
+}
+
+/// The script that the text spells.
+pub fn read(alloc: Global, text: &[u8]) -> Result<Script, ParseFault>
+    ensures found { IfOk result (λ script. Spells text.now script) }
+
+    // The fault, but for want of memory, is that the text spells no script. Its place is the one where the first piece begins that is no token;
+    // where there is none, the place of a token or of the text's end.
+    ensures none { IfErr result (λ fault. IfNoScript fault (λ at. (script : Script) → Spells text.now script → ⊥)) }
+    ensures place { IfErr result (λ fault. IfNoScript fault (λ at. IsPlaceOf text.now at)) }
+{
+    match lex(alloc, text) {
+        Ok(tokens) => parse(alloc, &tokens),
+        Err(LexFault::NoMemory) => Err(ParseFault::NoMemory),
+        Err(LexFault::NoScript { at }) => Err(ParseFault::NoScript { at }),
+    }
+}
+
+/// No text spells two scripts.
+pub fn each_text_spells_one_script()
+    ensures { EachTextSpellsOneScript }
+{}
