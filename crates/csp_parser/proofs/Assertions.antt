@@ -1,22 +1,19 @@
 -- Assertions, step by step.
-use Rattle.std.proofs.Common.{◌≡◌, ◌≤◌, ◌+◌, map, Bool, true, false, nat_le, Option, Some, None, List, [], codes, refl, sym, ap, subst, ◌∙◌, arith}
+use Rattle.std.proofs.Common.{◌≡◌, ◌≤◌, Bool, true, false, nat_le, Option, Some, None, List, [], codes, refl, ap, ◌∙◌}
 use Rattle.std.specs.Prelude.{ℕ, nat_eq, ◌&&◌, ◌∷◌}
 use Rattle.std.specs.Cmp.Lexicographic.{pointwise}
 use Rattle.csp_text.specs.declared.token.Token.{Token}
-use Rattle.csp_text.specs.declared.token.Symbol.TheVariants.{CloseBracket, CloseParen, Colon, OpenBracket, OpenParen}
+use Rattle.csp_text.specs.declared.token.Symbol.TheVariants.{CloseBracket, Colon, OpenBracket}
 use Rattle.csp_text.specs.declared.tree.Tree.{Tree}
-use Rattle.csp_text.specs.declared.tree.Tree.TheVariants as tree
 use Rattle.csp_text.specs.declared.script.Decl.{Decl}
 use Rattle.csp_text.specs.declared.script.Decl.TheVariants as decl
-use Rattle.csp_text.specs.Depth.{event_layer_depth, field_layer_depth, gen_layer_depth, greatest, part_layer_depth, tree_depth, tree_layer_depth}
-use Rattle.csp_text.specs.declared.tree.FieldTree.TheFolds.{fold-roll-Tree}
-use Rattle.csp_text.specs.declared.tree.FieldTree.TheOpen.{Tree-F}
+use Rattle.csp_text.specs.Depth.{tree_depth}
 use Rattle.csp_grammar.specs.Reader.{Readers, and_then, case, when, read_asserted, read_assertion, read_model}
 use Rattle.csp_grammar.specs.Tokens.{behind_name, first_name, is_text, skip}
 use Rattle.csp_parser.specs.Asserted.{deadlock_free, ending, is_model, model, name_that}
 use Rattle.tree_reading.specs.Starts.{named}
-use Rattle.tree_reading.specs.Reads.{Any, IfRead, Reads, Refuses}
-use Rattle.tree_reading.proofs.Reading.{bind, first_refused, granted, granted_refused, look, look_missing, look_refused, next_refused, not_there, now, same_reading, same_refused, there, there_refused}
+use Rattle.tree_reading.specs.Reads.{Any, Reads, Refuses}
+use Rattle.tree_reading.proofs.Reading.{bind, first_refused, granted, granted_refused, look, look_missing, next_refused, now, same_reading, same_refused}
 use Rattle.csp_parser.proofs.Fronts.{behind_is, first_is, no_first}
 use Rattle.csp_parser.proofs.Lists.{only_within, within}
 

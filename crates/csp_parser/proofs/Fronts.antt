@@ -5,7 +5,7 @@ use Rattle.csp_text.specs.declared.token.Token.{Token}
 use Rattle.csp_text.specs.declared.token.Token.TheVariants as token
 use Rattle.csp_text.specs.declared.tree.Tree.{Tree}
 use Rattle.csp_text.specs.Depth.{tree_depth}
-use Rattle.csp_grammar.specs.Reader.{Reading, Readers, next, read_asserted, readers}
+use Rattle.csp_grammar.specs.Reader.{Reading, Readers, next, read_asserted}
 use Rattle.csp_grammar.specs.Tokens.{behind_name, first_name}
 use Rattle.csp_grammar.proofs.Gives.{readers_next}
 use Rattle.tree_reading.specs.Reads.{IfRead, Reads, Refuses}
