@@ -2,32 +2,15 @@
 use Rattle.std.proofs.Common.{◌≡◌, ◌≤◌, Option, Some, None, List, [], sym, ap, subst, ◌∙◌}
 use Rattle.std.specs.Prelude.{ℕ}
 use Rattle.csp_text.specs.declared.token.Token.{Token}
-use Rattle.csp_text.specs.declared.token.Symbol.TheVariants.{Bar, CloseParen, Colon, Comma, Defines, OpenParen}
+use Rattle.csp_text.specs.declared.token.Symbol.TheVariants.{Bar, Colon, Comma, Defines}
 use Rattle.csp_text.specs.declared.tree.Tree.{Tree}
-use Rattle.csp_text.specs.declared.script.Decl.{Decl}
 use Rattle.csp_text.specs.declared.script.Decl.TheVariants as decl
 use Rattle.csp_text.specs.Depth.{tree_depth}
-use Rattle.csp_grammar.specs.Reader.{Readers, read_channel, read_datatype, read_declaration, read_definition, read_nametype, read_parameters}
+use Rattle.csp_grammar.specs.Reader.{read_channel, read_datatype, read_definition, read_nametype, read_parameters}
 use Rattle.csp_grammar.specs.Tokens.{behind_name, first_name, skip}
 use Rattle.tree_reading.specs.Reads.{Any, Reads, Refuses}
-use Rattle.tree_reading.proofs.Reading.{bind, first_missing, first_refused, granted, look, look_missing, look_refused, next_refused, none, not_there, now, same_refused, there, there_refused}
+use Rattle.tree_reading.proofs.Reading.{bind, first_missing, first_refused, granted, look, look_missing, look_refused, next_refused, not_there, now, there, there_refused}
 use Rattle.csp_parser.proofs.Lists.{only_within, within}
-
--- PARAMETERS
-
-pub no_parameters : (ts : List Token) {empty : List (List ℕ)} → empty ≡ [] → skip OpenParen ts ≡ None → Reads (λ R. read_parameters R ts) (empty, ts)
-no_parameters ts {empty} n e = subst (λ z. Reads (λ R. read_parameters R ts) (z, ts)) (sym n) (not_there _ _ e now)
-
-pub parameters_given : (ts : List Token) {us vs ws : List Token} {xs : List (List ℕ)} → skip OpenParen ts ≡ Some us → Reads (λ R. R.names Comma us) (xs, vs) → skip CloseParen vs ≡ Some ws →
-    Reads (λ R. read_parameters R ts) (xs, ws)
-parameters_given ts e r f = there _ _ e (bind _ r (look _ f now))
-
-pub parameters_unnamed : (ts : List Token) {us : List Token} → skip OpenParen ts ≡ Some us → Refuses (λ R. R.names Comma us) Any → Refuses (λ R. read_parameters R ts) Any
-parameters_unnamed ts e r = there_refused _ _ e (first_missing _ r)
-
-pub parameters_unclosed : (ts : List Token) {us vs : List Token} {xs : List (List ℕ)} → skip OpenParen ts ≡ Some us → Reads (λ R. R.names Comma us) (xs, vs) → skip CloseParen vs ≡ None →
-    Refuses (λ R. read_parameters R ts) Any
-parameters_unclosed ts e r f = there_refused _ _ e (next_refused _ r (look_missing _ f))
 
 -- CHANNELS
 
@@ -98,16 +81,3 @@ definition_undefined f ts r e = next_refused _ r (look_missing _ e)
 pub definition_empty : (f : List ℕ) (ts : List Token) {us vs : List Token} {xs : List (List ℕ)} → Reads (λ R. read_parameters R ts) (xs, us) → skip Defines us ≡ Some vs →
     Refuses (λ R. R.tree 400 vs) (λ p. tree_depth p.0 ≤ 200) → Refuses (λ R. read_definition R f ts) Any
 definition_empty f ts r e s = next_refused _ r (look_refused _ e (first_refused _ s (λ R p. only_within Any (tree_depth p.0) _)))
-
--- ANY DECLARATION
-
--- what the tokens are, is read
-pub declared_as : (ts : List Token) {vs : List Token} {p : Decl × List Token} → ts ≡ vs → Reads (λ R. read_declaration R vs) p → Reads (λ R. read_declaration R ts) p
-declared_as ts {vs} {p} e r = subst (λ z. Reads (λ R. read_declaration R z) p) (sym e) r
-
-pub declared_none : (ts : List Token) {vs : List Token} → ts ≡ vs → Refuses (λ R. read_declaration R vs) Any → Refuses (λ R. read_declaration R ts) Any
-declared_none ts {vs} e r = subst (λ z. Refuses (λ R. read_declaration R z) Any) (sym e) r
-
--- no token, or a number or a symbol, begins no declaration
-pub no_declaration : (vs : List Token) → ((R : Readers) → read_declaration R vs ≡ None) → Refuses (λ R. read_declaration R vs) Any
-no_declaration vs h = same_refused h none

@@ -8,7 +8,7 @@ pub enum ParseFault {
     /// Memory ran out.
     #[error("out of memory")]
     NoMemory,
-    /// The text is no script: this is the place of the last token that was looked at, or that of the text's end.
+    /// The text is no script: this is the place at which it turned out to be none.
     #[error("no script near line {} column {}", at.line, at.column)]
     NoScript { at: Place },
 }
