@@ -90,7 +90,7 @@ fn fails_at(alloc: Global, text: &[u8], line: u32, column: u32) -> bool {
 
 #[test]
 fn declarations_of_texts(rt: HostRuntime) -> Result<(), Fail> {
-    let rows: [(&[u8], &[Shape]); 14] = [
+    let rows: [(&[u8], &[Shape]); 15] = [
         (b"", &[]),
         (b"channel a", &[Shape::Channel(b"a", 1, 0)]),
         (b"channel a, b : {0..1}.N", &[Shape::Channel(b"a", 2, 2)]),
@@ -108,6 +108,7 @@ fn declarations_of_texts(rt: HostRuntime) -> Result<(), Fail> {
             &[Shape::Assert(b"P", 1)],
         ),
         (b"assert P :[deadlock free [T]]", &[]),
+        (b"assert {a} :[deadlock free]", &[]),
         (
             b"--@ roles P A B C D\n--@ resource Q E F",
             &[Shape::Roles(b"P", b"D"), Shape::Resource(b"Q", b"F")],
@@ -130,7 +131,7 @@ fn declarations_of_texts(rt: HostRuntime) -> Result<(), Fail> {
 
 #[test]
 fn places_of_faults(rt: HostRuntime) {
-    let rows: [(&[u8], u32, u32); 14] = [
+    let rows: [(&[u8], u32, u32); 13] = [
         (b"P = a ->", 1, 9),
         (b"channel a :\nP = STOP", 2, 3),
         (b"P(x = STOP", 1, 5),
@@ -144,7 +145,6 @@ fn places_of_faults(rt: HostRuntime) {
         (b"P = a -> P [] a -> P |~| a -> P", 1, 22),
         (b"assert P() :[deadlock free]", 1, 10),
         (b"assert P(1 2) :[deadlock free]", 1, 12),
-        (b"assert {a} :[deadlock free]", 1, 8),
     ];
     for (text, line, column) in rows {
         assert!(rt; fails_at(rt.alloc(), text, line, column), "{text:?}");
