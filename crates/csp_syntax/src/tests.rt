@@ -1,11 +1,11 @@
-//! Scripts that are found, and texts that differ from one by a token or a byte.
+//! Texts whose script is that of a single process, and texts that differ from one by a token or a byte.
 
-use crate::read_script;
+use crate::read_single_process;
 use std::test::Fail;
 
 #[test]
-fn finds_scripts(rt: HostRuntime) -> Result<(), Fail> {
-    let scripts: [(&[u8], &[u8], &[u8]); 6] = [
+fn finds_single_processes(rt: HostRuntime) -> Result<(), Fail> {
+    let scripts: [(&[u8], &[u8], &[u8]); 8] = [
         (
             b"channel a\nP = a -> P\nassert P :[deadlock free]\n",
             b"a",
@@ -13,11 +13,6 @@ fn finds_scripts(rt: HostRuntime) -> Result<(), Fail> {
         ),
         (
             b"\tchannel a\r P=a->P\tassert P:[deadlock\tfree]\r",
-            b"a",
-            b"P",
-        ),
-        (
-            b"channel a\nP = a -> P\nassert P :[deadlock free]",
             b"a",
             b"P",
         ),
@@ -36,53 +31,55 @@ fn finds_scripts(rt: HostRuntime) -> Result<(), Fail> {
             b"iff",
             b"ASSERT9",
         ),
+        (
+            b"channel a -- the only one\nP = a -> P\nassert P :[deadlock free] -- holds\n",
+            b"a",
+            b"P",
+        ),
+        (
+            b"channel a\nP = ((a -> (P)))\nassert P :[deadlock free [FD]]\nassert P :[livelock free]\n",
+            b"a",
+            b"P",
+        ),
+        (
+            b"{- one {- and only -} -}channel a\nP = a -> P\nassert P :[deadlock free [F]]",
+            b"a",
+            b"P",
+        ),
     ];
     for (text, channel, process) in scripts {
-        let script = read_script(rt.alloc(), text)?.ok_or("no script")?;
-        assert_eq!(rt; script.channel.as_slice(), channel);
-        assert_eq!(rt; script.process.as_slice(), process);
+        let found = read_single_process(rt.alloc(), text)?.ok_or("no process")?;
+        assert_eq!(rt; found.channel.as_slice(), channel);
+        assert_eq!(rt; found.process.as_slice(), process);
     }
     Ok(())
 }
 
 #[test]
 fn finds_no_other(rt: HostRuntime) -> Result<(), Fail> {
-    let texts: [&[u8]; 32] = [
+    let texts: [&[u8]; 19] = [
         b"",
         b"channel P\nP = P -> P\nassert P :[deadlock free]\n",
         b"channel a\nP = b -> P\nassert P :[deadlock free]\n",
         b"channel a\nP = a -> Q\nassert P :[deadlock free]\n",
         b"channel a\nQ = a -> P\nassert P :[deadlock free]\n",
         b"channel a\nP = a -> P\nassert a :[deadlock free]\n",
-        b"channel a'\nP = a -> P\nassert P :[deadlock free]\n",
-        b"channel union\nP = union -> P\nassert P :[deadlock free]\n",
-        b"channel a\nwithin = a -> within\nassert within :[deadlock free]\n",
-        b"channel 1a\nP = 1a -> P\nassert P :[deadlock free]\n",
-        b"channel _a\nP = _a -> P\nassert P :[deadlock free]\n",
-        b"channel a\nP == a -> P\nassert P :[deadlock free]\n",
-        b"channel a\nP = a - P\nassert P :[deadlock free]\n",
+        b"channel a\nP = a -> P\nassert P(1) :[deadlock free]\n",
+        b"channel a\nP(x) = a -> P\nassert P :[deadlock free]\n",
+        b"channel a\nP = a!1 -> P\nassert P :[deadlock free]\n",
+        b"channel a\nP = a -> SKIP\nassert P :[deadlock free]\n",
+        b"channel a : {0}\nP = a -> P\nassert P :[deadlock free]\n",
+        b"channel a,b\nP = a -> P\nassert P :[deadlock free]\n",
+        b"channel within\nP = within -> P\nassert P :[deadlock free]\n",
         b"channel a\nP = a - > P\nassert P :[deadlock free]\n",
         b"channel a\nP = a -> P\nassert P :\n[deadlock free]\n",
-        b"channel a\nP = a -> P\nassert P :[deadlock free\n",
-        b"channel a\nP = a -> P\nassert P :[deadlock free\n]\n",
-        b"channel a\nP = a -> P\nassert P [deadlock free]\n",
-        b"channel a\nP = a -> P\nassert P :[deadlock]\n",
-        b"channel a\nP = a -> P\nassert P :[livelock free]\n",
         b"channel a\nP = a -> P\nassert P :[deadlock free] P\n",
-        b"channel a\nP = a -> P\nassert P :[deadlock free]\nP\n",
-        b"channel a\nP = a -> P\nassert P :[deadlock free [F]]\n",
         b"channel a\nP = a -> P\n",
-        b"channel a -- the only one\nP = a -> P\nassert P :[deadlock free]\n",
-        b"channel a\nP = a -> P\nassert P :[deadlock free] -- holds\n",
-        b"channel \xc3\xa9\nP = \xc3\xa9 -> P\nassert P :[deadlock free]\n",
-        b"channel a\nP = a -> P\nassert P :[deadlock free]\n\x00",
-        b"channela\nP = a -> P\nassert P :[deadlock free]\n",
-        b"channel a,b\nP = a -> P\nassert P :[deadlock free]\n",
-        b"Channel a\nP = a -> P\nassert P :[deadlock free]\n",
         b"P = a -> P\nchannel a\nassert P :[deadlock free]\n",
+        b"channel a\nP = a -> P\nassert P :[deadlock free]\nassert P :[deadlock free]\n",
     ];
     for text in texts {
-        assert!(rt; read_script(rt.alloc(), text)?.is_none());
+        assert!(rt; read_single_process(rt.alloc(), text)?.is_none());
     }
     Ok(())
 }
