@@ -1,5 +1,5 @@
 -- What follows from how a pool keeps its processes.
-use Rattle.std.proofs.Common.{◌≡◌, ℕ, zero, suc, ◌+◌, ◌<◌, ◌≤◌, Bool, true, false, ◌&&◌, ◌||◌, if◌then◌else◌, nat_lt, Some, None, Option, List, [], ◌∷◌, ◌++◌, map, length, get_or, slice_get, refl, ap, sym, ◌∙◌, subst, arith, length-append}
+use Rattle.std.proofs.Common.{◌≡◌, ◌⊎◌, inl, inr, ℕ, zero, suc, ◌+◌, ◌<◌, ◌≤◌, Bool, true, false, ◌&&◌, ◌||◌, if◌then◌else◌, nat_lt, Some, None, Option, List, [], ◌∷◌, ◌++◌, map, length, get_or, slice_get, refl, ap, sym, ◌∙◌, subst, arith, length-append}
 use Rattle.std.proofs.lemmas.Bool.{ltb-true, lt-ltb, false≢true}
 use Rattle.std.proofs.lemmas.List.{map-append, length-map}
 use Rattle.std.proofs.lemmas.Map.Keys.{IsDistinct-head, IsDistinct-tail, IsDistinct-push}
@@ -15,11 +15,13 @@ use Rattle.csp_program.specs.declared.processes.Proc.TheVariants as proc
 use Rattle.term_pool.proofs.NodeLemmas.{parts_at, same_node}
 use Rattle.term_pool.proofs.NodeMeasures.{node_measured}
 use Rattle.term_pool.proofs.TreeLemmas.{all_below_more, of_front, grown_push, grown_length, grown_at, fall_at, fall_push}
+use Rattle.term_pool.proofs.WithinLemmas.{has_push}
 use Rattle.term_pool.specs.ExactNode.{eq_node}
 use Rattle.term_pool.specs.Held.{IsHeld}
 use Rattle.term_pool.specs.Measured.{measured, node_depth, node_size}
 use Rattle.term_pool.specs.Pooled.{AreDifferent, Has, IsFront, PartsStandBelow, StandBelow, parts}
 use Rattle.term_pool.specs.Trees.{tree_at, tree_of, places, all_below, places_below, grown, trees_of, fall}
+use Rattle.term_pool.specs.Within.{AddsOne}
 use Rattle.term_pool.specs.contracts.node.NodeEq.TheImpl.Laws.{laws-law}
 use Rattle.term_pool.specs.declared.measure.Measure.{Measure}
 use Rattle.term_pool.specs.declared.node.Node.{Node}
@@ -213,6 +215,13 @@ module _ (ns : List Node) (ms : List Measure) (held : IsHeld ns ms) (n : Node) (
       let known : is_member eq_node ns n ≡ true = is_known ns held.smaller held.distinct n below has in
       ap trees_of (e ∙ ap (λ b. if b then ns else (ns ++ n ∷ [])) known)
 
+  only_push : AddsOne (trees_of ns) (trees_of (ns ++ n ∷ [])) (tree_of (trees_of ns) n)
+  only_push u has = has_push (tree_of (trees_of ns) n) u (trees_of ns) (subst (λ (ts : List Proc). Has ts u) (trees_push ns n) has)
+
+  pub only_new : (after : List Node) → after ≡ with_new eq_node ns n → AddsOne (trees_of ns) (trees_of after) (tree_of (trees_of ns) n)
+  only_new after e = subst (λ (xs : List Node). AddsOne (trees_of ns) (trees_of xs) (tree_of (trees_of ns) n)) (sym e)
+      (by_known (λ xs. AddsOne (trees_of ns) (trees_of xs) (tree_of (trees_of ns) n)) (λ _ u has. inl has) (λ _. only_push))
+
 -- the same of the list of processes that a caller sees
 module _ (ns : List Node) (ms : List Measure) (held : IsHeld ns ms) (trees : List Proc) (seen : trees_of ns ≡ trees) (n : Node) (below : places_below (length trees) n ≡ true) where
   pub below_nodes : places_below (length ns) n ≡ true
@@ -233,6 +242,9 @@ module _ (ns : List Node) (ms : List Measure) (held : IsHeld ns ms) (trees : Lis
   seen_known after e has =
       let before : Has (trees_of ns) (tree_of (trees_of ns) n) = subst (λ (ts : List Proc). Has ts (tree_of ts n)) (sym seen) has in
       known_new ns ms held n below_nodes after e before ∙ seen
+
+  pub seen_only : (after : List Node) → after ≡ with_new eq_node ns n → AddsOne trees (trees_of after) (tree_of trees n)
+  seen_only after e = subst (λ (ts : List Proc). AddsOne ts (trees_of after) (tree_of ts n)) seen (only_new ns ms held n below_nodes after e)
 
 pub on_err : {T E : Type 0} (r : Result T E) (P : Type 0) → P → OnErr r P
 on_err (Ok x) P p = tt

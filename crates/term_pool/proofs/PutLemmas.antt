@@ -1,5 +1,5 @@
 -- Lemmas on lists that grow as processes are put into them, and on nodes that stand for processes.
-use Rattle.std.proofs.Common.{◌≡◌, ℕ, zero, suc, ◌+◌, ◌<◌, Bool, true, ◌&&◌, nat_lt, Some, List, [], ◌∷◌, ◌++◌, map, length, get_or, slice_get, take, drop, refl, ap, sym, ◌∙◌, subst, arith}
+use Rattle.std.proofs.Common.{◌≡◌, ◌⊎◌, inl, inr, ℕ, zero, suc, ◌+◌, ◌<◌, Bool, true, ◌&&◌, nat_lt, Some, List, [], ◌∷◌, ◌++◌, map, length, get_or, slice_get, take, drop, refl, ap, sym, ◌∙◌, subst, arith}
 use Rattle.std.proofs.lemmas.Bool.{lt-ltb}
 use Rattle.std.proofs.lemmas.List.{take_more, take-append-drop}
 use Rattle.std.proofs.lemmas.Option.{slice_get_within, get_or_from_slice_get}
@@ -13,9 +13,11 @@ use Rattle.csp_program.specs.declared.processes.Proc.TheVariants as proc
 use Rattle.csp_program.specs.declared.processes.Proc.TheOpen.{Proc-F}
 use Rattle.csp_program.specs.declared.processes.Proc.TheViews.{out-Proc, roll-Proc, out-roll-Proc}
 use Rattle.term_pool.proofs.TreeLemmas.{both_so}
+use Rattle.term_pool.proofs.WithinLemmas.{in_left, in_right, in_whole, is_whole}
 use Rattle.term_pool.specs.Pooled.{Has, IsFront, PartsStandBelow, StandBelow, layer_parts, parts}
 use Rattle.term_pool.specs.Put.{Grows, HasAll, StandAt, StandsFor}
 use Rattle.term_pool.specs.Trees.{tree_at, tree_of, all_below, places_below}
+use Rattle.term_pool.specs.Within.{AddsOne, IsInOne}
 use Rattle.term_pool.specs.declared.node.Node.{Node}
 use Rattle.term_pool.specs.declared.node.Node.TheVariants as node
 use Rattle.term_pool.specs.declared.node.ProcId.{ProcId}
@@ -36,8 +38,24 @@ has_below trees k (p ∷ ps) h = ((h.0.0, h.0.2), has_below trees k ps h.1)
 has_parts : (trees : List Proc) (t : Proc) → PartsStandBelow trees → Has trees t → HasAll trees (parts t)
 has_parts trees t stand has = has_below trees has.0 (parts t) (stand has.0 t has.1)
 
+more_left : (old ps qs : List Proc) (u : Proc) → Has old u ⊎ IsInOne ps u → Has old u ⊎ IsInOne (ps ++ qs) u
+more_left old ps qs u (inl h) = inl h
+more_left old ps qs u (inr h) = inr (in_left ps qs u h)
+
+more_both : (old mid ps qs : List Proc) (u : Proc) → ((w : Proc) → Has mid w → Has old w ⊎ IsInOne ps w) → Has mid u ⊎ IsInOne qs u → Has old u ⊎ IsInOne (ps ++ qs) u
+more_both old mid ps qs u first (inl h) = more_left old ps qs u (first u h)
+more_both old mid ps qs u first (inr h) = inr (in_right ps qs u h)
+
+more_parts : (old : List Proc) (t u : Proc) → Has old u ⊎ IsInOne (parts t) u → Has old u ⊎ IsInOne (t ∷ []) u
+more_parts old t u (inl h) = inl h
+more_parts old t u (inr h) = inr (in_whole t u h)
+
+more_whole : (old mid : List Proc) (t u : Proc) → ((w : Proc) → Has mid w → Has old w ⊎ IsInOne (parts t) w) → Has mid u ⊎ (t ≡ u) → Has old u ⊎ IsInOne (t ∷ []) u
+more_whole old mid t u first (inl h) = more_parts old t u (first u h)
+more_whole old mid t u first (inr e) = inr (is_whole t u e)
+
 pub grows_none : (old ts : List Proc) → Grows old old ts
-grows_none old ts = record { front = λ k t h. h; known = λ stand has. refl }
+grows_none old ts = record { front = λ k t h. h; known = λ stand has. refl; only = λ u h. inl h }
 
 -- first the one processes and then the others
 pub grows_both : (old mid new ps qs : List Proc) → Grows old mid ps → Grows mid new qs → Grows old new (ps ++ qs)
@@ -46,24 +64,26 @@ grows_both old mid new ps qs g h = record {
   known = λ stand has.
       let first : mid ≡ old = g.known stand (has_front old ps qs has) in
       h.known (subst PartsStandBelow (sym first) stand) (subst (λ (ts : List Proc). HasAll ts qs) (sym first) (has_back old ps qs has)) ∙ first;
+  only = λ u has. more_both old mid ps qs u g.only (h.only u has);
 }
 
 -- where not all of the processes were put
 pub grows_less : (old new ps qs : List Proc) → Grows old new ps → Grows old new (ps ++ qs)
-grows_less old new ps qs g = record { front = g.front; known = λ stand has. g.known stand (has_front old ps qs has) }
+grows_less old new ps qs g = record { front = g.front; known = λ stand has. g.known stand (has_front old ps qs has); only = λ u has. more_left old ps qs u (g.only u has) }
 
 -- the sub-processes first, and then the process
-pub grows_whole : (old mid new : List Proc) (t : Proc) → Grows old mid (parts t) → IsFront mid new → (Has mid t → new ≡ mid) → Grows old new (t ∷ [])
-grows_whole old mid new t g front known = record {
+pub grows_whole : (old mid new : List Proc) (t : Proc) → Grows old mid (parts t) → IsFront mid new → (Has mid t → new ≡ mid) → AddsOne mid new t → Grows old new (t ∷ [])
+grows_whole old mid new t g front known only = record {
   front = λ k q s. front k q (g.front k q s);
   known = λ stand has.
       let first : mid ≡ old = g.known stand (has_parts old t stand has.0) in
       known (subst (λ (ts : List Proc). Has ts t) (sym first) has.0) ∙ first;
+  only = λ u has. more_whole old mid t u g.only (only u has);
 }
 
 -- not even all of the sub-processes
 pub grows_some : (old mid : List Proc) (t : Proc) → Grows old mid (parts t) → Grows old mid (t ∷ [])
-grows_some old mid t g = grows_whole old mid mid t g (λ k q s. s) (λ has. refl)
+grows_some old mid t g = grows_whole old mid mid t g (λ k q s. s) (λ has. refl) (λ u has. inl has)
 
 -- a place of the list
 pub within : (trees : List Proc) (p : ProcId) (t : Proc) → slice_get trees p.0 ≡ Some t → nat_lt p.0 (length trees) ≡ true
@@ -219,9 +239,10 @@ pub stored : (trees : List Proc) (k : ℕ) (r p : Proc) → slice_get trees k �
 stored trees k r p h e = h ∙ ap (λ (x : Proc). Some x) e
 
 -- the node's process after its sub-processes
-pub grows_node : (old mid new : List Proc) (t : Proc) (n : Node) → Grows old mid (parts t) → StandsFor mid n t → IsFront mid new → (Has mid (tree_of mid n) → new ≡ mid) → Grows old new (t ∷ [])
-grows_node old mid new t n g stands front known =
-    grows_whole old mid new t g front (subst (λ (q : Proc). Has mid q → new ≡ mid) stands.tree known)
+pub grows_node : (old mid new : List Proc) (t : Proc) (n : Node) → Grows old mid (parts t) → StandsFor mid n t → IsFront mid new → (Has mid (tree_of mid n) → new ≡ mid)
+    → AddsOne mid new (tree_of mid n) → Grows old new (t ∷ [])
+grows_node old mid new t n g stands front known only =
+    grows_whole old mid new t g front (subst (λ (q : Proc). Has mid q → new ≡ mid) stands.tree known) (subst (λ (q : Proc). AddsOne mid new q) stands.tree only)
 
 -- one process more of a list
 pub grows_more : (old mid new ps : List Proc) (i : ℕ) (x : Proc) → i < length ps → x ≡ get_or ps i x → Grows old mid (take i ps) → Grows mid new (x ∷ []) → Grows old new (take (i + 1) ps)

@@ -1,8 +1,9 @@
 -- What it means to put processes into a list that has each process once.
-use Rattle.std.specs.Prelude.{◌≡◌, true, Some, List, [], ◌∷◌, length, slice_get}
+use Rattle.std.specs.Prelude.{◌≡◌, ◌⊎◌, true, Some, List, [], ◌∷◌, length, slice_get}
 use Rattle.csp_program.specs.declared.processes.Proc.{Proc}
 use Rattle.term_pool.specs.Pooled.{Has, IsFront, PartsStandBelow}
 use Rattle.term_pool.specs.Trees.{places_below, tree_of}
+use Rattle.term_pool.specs.Within.{IsInOne}
 use Rattle.term_pool.specs.declared.node.Node.{Node}
 use Rattle.term_pool.specs.declared.node.ProcId.{ProcId}
 
@@ -11,10 +12,11 @@ abbrev pub HasAll : List Proc → List Proc → Type 0
 HasAll trees [] = Unit {0}
 HasAll trees (p ∷ ps) = Has trees p × HasAll trees ps
 
--- the list grows at its end alone, and stays as it is where it has all of the processes
+-- the list grows at its end alone, stays as it is where it has all of the processes, and gets nothing but what stands in one of them
 pub record Grows (old : List Proc) (new : List Proc) (ts : List Proc) : Type 0 where
   pub front : IsFront old new
   pub known : PartsStandBelow old → HasAll old ts → new ≡ old
+  pub only : (u : Proc) → Has new u → Has old u ⊎ IsInOne ts u
 
 -- the processes stand at the places, one after another
 abbrev pub StandAt : List Proc → List ProcId → List Proc → Type 0

@@ -6,8 +6,11 @@ mod measured;
 pub mod node;
 mod node_measures;
 mod nodes;
+mod own;
+mod places;
 pub mod pool;
 mod put;
+mod put_in;
 pub mod terms;
 #[cfg(test)]
 mod tests;

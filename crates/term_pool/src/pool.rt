@@ -6,20 +6,24 @@ ghost use Rattle.std.specs.Set.{is_member};
 ghost use Rattle.containers.specs.Members.{with_new};
 ghost use Rattle.csp_program.specs.Depth.{proc_depth};
 ghost use Rattle.csp_program.specs.Size.{proc_size};
+ghost use Rattle.csp_program.specs.Substitution.{proc_put};
 ghost use Rattle.term_pool.specs.Counting.{capped};
 ghost use Rattle.term_pool.specs.ExactNode.{eq_node};
 ghost use Rattle.term_pool.specs.Held.{IsHeld};
 ghost use Rattle.term_pool.specs.Pooled.{AreDifferent, Has, IsFront, PartsStandBelow};
 ghost use Rattle.term_pool.specs.Trees.{places_below, tree_at, tree_of, trees_of};
+ghost use Rattle.term_pool.specs.Within.{AddsOne, AddsParts};
 
 use crate::measure::Measure;
 use crate::node::{Node, ProcId};
 use crate::node_measures::of_node;
 use crate::put::put_tree;
+use crate::put_in::put_at;
 use containers::{Items, Numbering};
 use csp_base::NoMemory;
-use csp_program::Proc;
+use csp_program::{Proc, Value};
 use std::alloc::Global;
+use std::collections::HashMap;
 use std::marker::Model;
 
 /// A list of processes, fewer than 2^32 of them and all different. It keeps the allocator.
@@ -102,6 +106,7 @@ impl Pool {
         ensures process { IfOk result (λ id. slice_get self.new id.0 ≡ Some (tree_of self.old node)) }
         ensures front { IsFront self.old self.new }
         ensures known { Has self.old (tree_of self.old node) → self.new ≡ self.old }
+        ensures only { AddsOne self.old self.new (tree_of self.old node) }
         ensures err { OnErr result (self.new ≡ self.old) }
         ensures err_only_new { OnErr result (Has self.old (tree_of self.old node) → ⊥) }
     {
@@ -114,9 +119,24 @@ impl Pool {
         ensures process { IfOk result (λ id. slice_get self.new id.0 ≡ Some proc.now) }
         ensures front { IsFront self.old self.new }
         ensures known { Has self.old proc.now → self.new ≡ self.old }
+        ensures only { AddsParts self.old self.new proc.now }
     {
         let alloc = self.alloc();
         put_tree(self, alloc, proc)
+    }
+
+    /// The place of what the process at `id` is with the value in place of the bound name with the number `slot`. What isn't in the pool is put into it,
+    /// with its sub-processes, each of them once. Where memory fails some of them are put.
+    pub fn put_in(&mut self, id: ProcId, slot: u32, value: &Value) -> Result<ProcId, NoMemory>
+        requires { id.0 < length self.old }
+        ensures process { IfOk result (λ made. slice_get self.new made.0 ≡ Some (proc_put slot value.now (tree_at self.old id))) }
+        ensures front { IsFront self.old self.new }
+        ensures known { Has self.old (proc_put slot value.now (tree_at self.old id)) → self.new ≡ self.old }
+        ensures only { AddsParts self.old self.new (proc_put slot value.now (tree_at self.old id)) }
+    {
+        let alloc = self.alloc();
+        let mut visited = HashMap::new(alloc);
+        put_at(self, &mut visited, alloc, &id, slot, value)
     }
 
     // The allocator.

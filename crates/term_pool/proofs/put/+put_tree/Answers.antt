@@ -181,11 +181,11 @@ put_tree-returns-in_err-node-clause-grows t c =
 
 pub put_tree-returns-in_err-id-clause-grows : goal.put_tree-returns-in_err-id-clause-grows
 put_tree-returns-in_err-id-clause-grows t c =
-    lemmas.grows_node c.args.pool.now c.put_parts.new.pool c.put_node.new.self c.args.proc.now c.in_ok-node.node c.in_ok-node.ensures.grows c.in_ok-node.ensures.node c.in_err-id.ensures.front c.in_err-id.ensures.known
+    lemmas.grows_node c.args.pool.now c.put_parts.new.pool c.put_node.new.self c.args.proc.now c.in_ok-node.node c.in_ok-node.ensures.grows c.in_ok-node.ensures.node c.in_err-id.ensures.front c.in_err-id.ensures.known c.in_err-id.ensures.only
 
 pub put_tree-returns-clause-grows : goal.put_tree-returns-clause-grows
 put_tree-returns-clause-grows t c =
-    lemmas.grows_node c.args.pool.now c.put_parts.new.pool c.put_node.new.self c.args.proc.now c.in_ok-node.node c.in_ok-node.ensures.grows c.in_ok-node.ensures.node c.in_ok-id.ensures.front c.in_ok-id.ensures.known
+    lemmas.grows_node c.args.pool.now c.put_parts.new.pool c.put_node.new.self c.args.proc.now c.in_ok-node.node c.in_ok-node.ensures.grows c.in_ok-node.ensures.node c.in_ok-id.ensures.front c.in_ok-id.ensures.known c.in_ok-id.ensures.only
 
 pub put_trees-returns-in_err-id-clause-grows : goal.put_trees-returns-in_err-id-clause-grows
 put_trees-returns-in_err-id-clause-grows t c =

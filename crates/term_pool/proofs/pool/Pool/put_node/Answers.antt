@@ -1,5 +1,5 @@
 -- What the list of nodes says of the processes.
-use Rattle.term_pool.proofs.HeldLemmas.{below_nodes, on_err, seen_front, seen_known, seen_process, seen_unknown}
+use Rattle.term_pool.proofs.HeldLemmas.{below_nodes, on_err, seen_front, seen_known, seen_only, seen_process, seen_unknown}
 use Rattle.term_pool.specs.Pooled.{Has}
 use Rattle.term_pool.specs.Trees.{tree_of}
 use Rattle.term_pool.proofs.pool.Pool.put_node.Goals as goal
@@ -25,4 +25,9 @@ returns-clause-front c =
 pub returns-clause-known : goal.returns-clause-known
 returns-clause-known c =
     seen_known c.self.inside.nodes c.self.inside.measures c.self.invariant c.args.self.now c.self.view_is c.args.node c.requires
+    c.number_node.new.nodes c.in_ok-place.ensures.ok
+
+pub returns-clause-only : goal.returns-clause-only
+returns-clause-only c =
+    seen_only c.self.inside.nodes c.self.inside.measures c.self.invariant c.args.self.now c.self.view_is c.args.node c.requires
     c.number_node.new.nodes c.in_ok-place.ensures.ok

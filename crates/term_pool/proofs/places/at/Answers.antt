@@ -1,0 +1,11 @@
+-- Past the end of the list the place is 0.
+use Rattle.std.proofs.Common.{Option, unwrap_or, sym, ap, ◌∙◌}
+use Rattle.std.proofs.lemmas.Option.{unwrap_or-slice_get}
+use Rattle.std.specs.Option.{option_copied}
+use Rattle.term_pool.specs.declared.node.ProcId.{ProcId}
+use Rattle.term_pool.proofs.places.at.Goals as goal
+
+pub returns-in-None : goal.returns-in-None
+returns-in-None c =
+    ap (λ (found : Option ProcId). unwrap_or found (record { 0 = 0 })) (ap option_copied (sym c.in-None.is) ∙ c.get.ensures) ∙
+    unwrap_or-slice_get c.args.ids.now c.args.index (record { 0 = 0 })

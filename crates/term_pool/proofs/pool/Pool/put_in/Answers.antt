@@ -1,0 +1,18 @@
+-- The list grows at its end alone, by what stands in the process, and stays as it is where it has the process.
+use Rattle.csp_program.specs.Substitution.{proc_put}
+use Rattle.term_pool.proofs.PutInLemmas.{none_made}
+use Rattle.term_pool.proofs.WithinLemmas.{adds_parts}
+use Rattle.term_pool.specs.Trees.{tree_at}
+use Rattle.term_pool.proofs.pool.Pool.put_in.Goals as goal
+
+pub put_at-requires-clause-visited : goal.put_at-requires-clause-visited
+put_at-requires-clause-visited c = none_made c.args.slot c.args.value.now c.args.self.now c.new-visited.result c.new-visited.ensures.empty
+
+pub returns-clause-front : goal.returns-clause-front
+returns-clause-front c = c.put_at.ensures.grows.front
+
+pub returns-clause-known : goal.returns-clause-known
+returns-clause-known c = λ has. c.put_at.ensures.grows.known c.alloc-alloc.ensures.parts (has, tt)
+
+pub returns-clause-only : goal.returns-clause-only
+returns-clause-only c = adds_parts c.args.self.now c.put_at.new.pool (proc_put c.args.slot c.args.value.now (tree_at c.args.self.now c.args.id)) c.put_at.ensures.grows.only

@@ -1,0 +1,15 @@
+pub mod Answering
+pub mod DotFields
+pub mod Exactness
+pub mod Fitting
+pub mod Growing
+pub mod Limiting
+pub mod NodeDepths
+pub mod Reading
+pub mod Settling
+pub mod Signs
+pub mod Within
+pub mod WithinExpressions
+pub mod WithinForms
+pub mod WithinOperators
+pub mod WithinProcesses

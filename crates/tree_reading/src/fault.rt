@@ -1,0 +1,71 @@
+//! Why nothing was read.
+
+ghost use Rattle.std.specs.Prelude.{◌≡◌, length};
+ghost use Rattle.tree_reading.specs.declared.fault.ReadFault.TheVariants as fault;
+ghost use Rattle.tree_reading.specs.Answers.{Answers};
+ghost use Rattle.tree_reading.specs.Nesting.{sure};
+
+use csp_base::NoMemory;
+use csp_text::Token;
+use std::alloc::{AllocError, AllocFailed};
+
+/// Why nothing was read.
+#[derive(Clone, Copy, Debug, PartialEq, Eq, Drop, thiserror::Error)]
+pub enum ReadFault {
+    /// Memory ran out.
+    #[error("out of memory")]
+    NoMemory,
+    /// No text of what was to be read, within the limits, is in front.
+    #[error("no text with {left} tokens left")]
+    NoText {
+        /// How many tokens are left where the reading stopped.
+        left: usize,
+    },
+}
+
+impl From<AllocError> for ReadFault {
+    ghost use Rattle.std.specs.Prelude.{◌≡◌};
+    ghost use Rattle.tree_reading.specs.declared.fault.ReadFault.TheVariants as fault;
+
+    ghost from_gives = { λ _ e. e ≡ fault.NoMemory };
+
+    fn from(_error: AllocError) -> ReadFault {
+        ReadFault::NoMemory
+    }
+}
+
+impl<T: Drop> From<AllocFailed<T>> for ReadFault {
+    ghost use Rattle.std.specs.Prelude.{◌≡◌};
+    ghost use Rattle.tree_reading.specs.declared.fault.ReadFault.TheVariants as fault;
+
+    ghost from_gives = { λ _ e. e ≡ fault.NoMemory };
+
+    fn from(_error: AllocFailed<T>) -> ReadFault {
+        ReadFault::NoMemory
+    }
+}
+
+impl From<NoMemory> for ReadFault {
+    ghost use Rattle.std.specs.Prelude.{◌≡◌};
+    ghost use Rattle.tree_reading.specs.declared.fault.ReadFault.TheVariants as fault;
+
+    ghost from_gives = { λ _ e. e ≡ fault.NoMemory };
+
+    fn from(_error: NoMemory) -> ReadFault {
+        ReadFault::NoMemory
+    }
+}
+
+/// The fault that reading stopped in front of these tokens.
+pub fn stopped(tokens: &[Token]) -> ReadFault
+    ensures { result ≡ fault.NoText (length tokens.now) }
+{
+    ReadFault::NoText { left: tokens.len() }
+}
+
+/// Stops the reading in front of the tokens unless the test holds.
+pub fn expect_true(holds: bool, tokens: &[Token]) -> Result<(), ReadFault>
+    ensures { Answers result (λ _. tt) (λ _. sure holds) }
+{
+    if holds { Ok(()) } else { Err(stopped(tokens)) }
+}

@@ -1,0 +1,73 @@
+//! The limits of what is nested.
+
+ghost use Rattle.std.specs.Prelude.{nat_le, ◌≡◌};
+ghost use Rattle.csp_text.specs.Depth.{tree_depth};
+ghost use Rattle.tree_reading.specs.Answers.{Answers};
+ghost use Rattle.tree_reading.specs.Nesting.{around, bracketed, inside, opened};
+
+use crate::fault::{ReadFault, stopped};
+use csp_text::{Token, Tree, depth};
+
+/// How much may still be nested.
+#[derive(Clone, Copy, Debug, PartialEq, Eq)]
+pub struct Limits {
+    /// How many brackets may still be opened.
+    pub brackets: u16,
+    /// How deep a tree may be.
+    pub depth: u16,
+}
+
+impl Limits {
+    /// The limits below one more bracket, where one stands in front of the tokens.
+    pub fn bracketed(self, tokens: &[Token]) -> Result<Limits, ReadFault>
+        ensures { Answers result (λ inner. inner) (λ _. bracketed self) }
+    {
+        match self.brackets.checked_sub(1) {
+            Some(brackets) => Ok(Limits {
+                brackets,
+                depth: self.depth,
+            }),
+            None => Err(stopped(tokens)),
+        }
+    }
+
+    /// The limits of the parts of a node, in front of the tokens.
+    pub fn inside(self, tokens: &[Token]) -> Result<Limits, ReadFault>
+        ensures { Answers result (λ inner. inner) (λ _. inside self) }
+    {
+        match self.depth.checked_sub(1) {
+            Some(depth) => Ok(Limits {
+                brackets: self.brackets,
+                depth,
+            }),
+            None => Err(stopped(tokens)),
+        }
+    }
+
+    /// The limits of the parts of a node that opens a bracket, in front of the tokens.
+    pub fn opened(self, tokens: &[Token]) -> Result<Limits, ReadFault>
+        ensures { Answers result (λ inner. inner) (λ _. opened self) }
+    {
+        let below = self.bracketed(tokens)?;
+        below.inside(tokens)
+    }
+
+    /// Whether the tree is no deeper than it may be.
+    fn has_room(self, tree: &Tree) -> bool
+        ensures { result ≡ nat_le (tree_depth tree.now) self.depth }
+    {
+        depth(tree) <= u32::from(self.depth)
+    }
+
+    /// The limits of the parts of a node with this tree as its first part, in front of the tokens.
+    pub fn around(self, tree: &Tree, tokens: &[Token]) -> Result<Limits, ReadFault>
+        ensures { Answers result (λ inner. inner) (λ _. around self tree.now) }
+    {
+        let inner = self.inside(tokens)?;
+        if inner.has_room(tree) {
+            Ok(inner)
+        } else {
+            Err(stopped(tokens))
+        }
+    }
+}
