@@ -1,4 +1,5 @@
-//! The worked cases of the top call, over devices in memory.
+//! The top call over devices in memory: shelves and sinks that fail, words that are no command, and a text of each answer. The crate
+//! `worked_scripts` has the texts themselves.
 
 ghost use Rattle.std.specs.Prelude.{◌≤◌};
 
@@ -17,8 +18,11 @@ const USAGE: &[u8] =
 
 const NOT_BUILT: &[u8] = b"refused\n40 not built yet\n";
 
-/// What is printed before the place of a text that is no script.
-const NO_SCRIPT: &[u8] = b"refused\n1 no script near line ";
+const SHOWN: &[u8] = b"channel a\nP = a -> P\nassert P : [ deadlock free ]\n";
+
+const OPEN_COMMENT: &[u8] = b"P = a\nQ = {-1}\n";
+
+const NO_SCRIPT: &[u8] = b"refused\n1 no script near line 2 column 5\n";
 
 const CHECK: [&[u8]; 3] = [b"check", b"cyclic", b"one.csp"];
 
@@ -119,15 +123,6 @@ fn sends(
     Ok(status(alloc, &CHECK, &mut shelf, &mut out)? == wanted && out.sent() == report)
 }
 
-/// The status for the words, and what is sent, where a shelf without faults holds this text as one.csp.
-fn sure_status(alloc: Global, words: &[&[u8]], text: &[u8]) -> Result<(u8, SureSink), NoMemory> {
-    let mut shelf = SureShelf::new(alloc);
-    shelf.put_text(b"one.csp", text)?;
-    let mut out = SureSink::new(alloc, 1000);
-    let words = words_of(alloc, words)?;
-    Ok((sure(alloc, &words, &mut shelf, &mut out), out))
-}
-
 /// Whether this is the status, and this is sent, where a shelf without faults holds this text as one.csp.
 fn text_answers(
     alloc: Global,
@@ -136,8 +131,11 @@ fn text_answers(
     wanted: u8,
     report: &[u8],
 ) -> Result<bool, NoMemory> {
-    let (status, out) = sure_status(alloc, words, text)?;
-    Ok(status == wanted && out.sent() == report)
+    let mut shelf = SureShelf::new(alloc);
+    shelf.put_text(b"one.csp", text)?;
+    let mut out = SureSink::new(alloc, 1000);
+    let words = words_of(alloc, words)?;
+    Ok(sure(alloc, &words, &mut shelf, &mut out) == wanted && out.sent() == report)
 }
 
 /// The same for a text of so many blanks.
@@ -150,35 +148,6 @@ fn blanks_answer(
 ) -> Result<bool, NoMemory> {
     let blanks = vec![in alloc; b' '; len]?;
     text_answers(alloc, words, blanks.as_slice(), wanted, report)
-}
-
-/// Whether the text is refused where it is shown, near whatever place, and is not judged either.
-fn is_no_script(alloc: Global, text: &[u8]) -> Result<bool, NoMemory> {
-    let (status, out) = sure_status(alloc, &SHOW, text)?;
-    Ok(
-        status == 2
-            && out.sent().starts_with(NO_SCRIPT)
-            && text_answers(alloc, &CHECK, text, 2, NOT_BUILT)?,
-    )
-}
-
-/// A definition of P: the text, with as many of the two pieces around it.
-fn nested(
-    alloc: Global,
-    front: &[u8],
-    text: &[u8],
-    back: &[u8],
-    times: u32,
-) -> Result<Bytes, NoMemory> {
-    let mut nest = Bytes::from_slice(alloc, b"P = ")?;
-    for _ in 0..times {
-        nest.extend_from_slice(front)?;
-    }
-    nest.extend_from_slice(text)?;
-    for _ in 0..times {
-        nest.extend_from_slice(back)?;
-    }
-    Ok(nest)
 }
 
 #[test]
@@ -236,102 +205,11 @@ fn words_and_shelves_are_refused_in_their_order(rt: HostRuntime) -> Result<(), F
 }
 
 #[test]
-fn other_scripts_are_not_built_yet(rt: HostRuntime) -> Result<(), Fail> {
+fn texts_are_judged_and_shown(rt: HostRuntime) -> Result<(), Fail> {
     let alloc = rt.alloc();
     assert!(rt; text_answers(alloc, &CHECK, SCRIPT, 0, PROVED)?);
-    let others: [&[u8]; 14] = [
-        b"",
-        b"channels a\nP = a -> P\nassert P :[deadlock free]\n",
-        b"channel P\nP = P -> P\nassert P :[deadlock free]\n",
-        b"channel a\nQ = a -> P\nassert P :[deadlock free]\n",
-        b"channel a\nP = b -> P\nassert P :[deadlock free]\n",
-        b"channel a\nP = a -> Q\nassert P :[deadlock free]\n",
-        b"channel a\nP == a -> P\nassert P :[deadlock free]\n",
-        b"channel a\nP = a - P\nassert P :[deadlock free]\n",
-        b"channel a\nP = a -> STOP\nassert P :[deadlock free]\n",
-        b"channel a\nP = a -> P\nassert Q :[deadlock free]\n",
-        b"channel a\nP = a -> P\nassert P [deadlock free]\n",
-        b"channel a\nP = a -> P\nassert P :[deadlock\nfree]\n",
-        b"channel a\nP = a -> P\nassert P :[livelock free]\n",
-        b"channel a\nP = a -> P\nassert P :[deadlock free] a\n",
-    ];
-    for text in others {
-        assert!(rt; text_answers(alloc, &CHECK, text, 2, NOT_BUILT)?);
-    }
-    Ok(())
-}
-
-#[test]
-fn scripts_are_shown_and_shown_again(rt: HostRuntime) -> Result<(), Fail> {
-    let rows: [(&[u8], &[u8]); 8] = [
-        (
-            b"channel a\nP=a->P[]a->STOP\nassert P:[deadlock free]",
-            b"channel a\nP = ( a -> P ) [] ( a -> STOP )\nassert P : [ deadlock free ]\n",
-        ),
-        (
-            b"channel c:{0..1}\nP = [] x:{0..1} @ c.x -> P\n",
-            b"channel c : { 0 .. 1 }\nP = [] x : { 0 .. 1 } @ c . x -> P\n",
-        ),
-        (
-            b"channel a\nP = a -> SKIP ; P\nassert P :[deadlock free]\n",
-            b"channel a\nP = ( a -> SKIP ) ; P\nassert P : [ deadlock free ]\n",
-        ),
-        (b"P = { -1}", b"P = { ( - 1 ) }\n"),
-        (
-            b"--@roles P a b c d\r\n--@\tresource P a b\n--@ rolex P\n--",
-            b"--@ roles P a b c d\n--@ resource P a b\n",
-        ),
-        (
-            b"P = Q {- a {- b \xff -} c -} assert P(1) :[deadlock free [FD]]\nassert P :[livelock free]\n",
-            b"P = Q\nassert P ( 1 ) : [ deadlock free ]\n",
-        ),
-        (
-            b"P = if true then a?x:{1}!2 -> SKIP else Q \\ {|a|}\n",
-            b"P = if true then a ? x : { 1 } ! 2 -> SKIP else Q \\ {| a |}\n",
-        ),
-        (b" \r\n\t", b""),
-    ];
-    for (text, printed) in rows {
-        assert!(rt; text_answers(rt.alloc(), &SHOW, text, 0, printed)?);
-        assert!(rt; text_answers(rt.alloc(), &SHOW, printed, 0, printed)?);
-    }
-    Ok(())
-}
-
-#[test]
-fn other_texts_are_no_script(rt: HostRuntime) -> Result<(), Fail> {
-    let texts: [&[u8]; 14] = [
-        b"P = a -> P [] a -> P |~| a -> P\n",
-        b"P = {-1}\n",
-        b"channel a\nP = a -> P[[a <-\n",
-        b"P = a?x.x -> P\n",
-        b"P = Q [a || b] R [a || b] S\n",
-        b"P = Q [] R \\ {a}\n",
-        b"P = a < b < c\n",
-        b"P = 1000001\n",
-        b"channel a channel\n",
-        b"--@ roles P a b c\n",
-        b"--@ resource P a b c\n",
-        b"P = lambda\n",
-        b"P = Q\nR = \x80\n",
-        b"assert P(1,) :[deadlock free]\n",
-    ];
-    for text in texts {
-        assert!(rt; is_no_script(rt.alloc(), text)?);
-    }
-    Ok(())
-}
-
-#[test]
-fn nests_are_shown_up_to_the_limits(rt: HostRuntime) -> Result<(), Fail> {
-    let alloc = rt.alloc();
-    let brackets = nested(alloc, b"(", b"a -> Q", b")", 400)?;
-    assert!(rt; text_answers(alloc, &SHOW, brackets.as_slice(), 0, b"P = a -> Q\n")?);
-    let more = nested(alloc, b"(", b"a -> Q", b")", 401)?;
-    assert!(rt; is_no_script(alloc, more.as_slice())?);
-    let guards = nested(alloc, b"true & ", b"Q\n", b"", 199)?;
-    assert_eq!(rt; sure_status(alloc, &SHOW, guards.as_slice())?.0, 0);
-    let deeper = nested(alloc, b"true & ", b"Q\n", b"", 200)?;
-    assert!(rt; is_no_script(alloc, deeper.as_slice())?);
+    assert!(rt; text_answers(alloc, &CHECK, OPEN_COMMENT, 2, NOT_BUILT)?);
+    assert!(rt; text_answers(alloc, &SHOW, SCRIPT, 0, SHOWN)?);
+    assert!(rt; text_answers(alloc, &SHOW, OPEN_COMMENT, 2, NO_SCRIPT)?);
     Ok(())
 }
