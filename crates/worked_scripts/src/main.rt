@@ -73,9 +73,7 @@ fn cut_at<'a>(bytes: &'a [u8], mark: &[u8]) -> Option<(&'a [u8], &'a [u8])> {
     if mark.is_empty() {
         return None;
     }
-    let at = bytes
-        .windows(mark.len())
-        .position(|window| window == mark)?;
+    let at = bytes.windows(mark.len()).position(|window| window == mark)?;
     let front = bytes.get(..at)?;
     let rest = bytes.get(at..)?.get(mark.len()..)?;
     Some((front, rest))
