@@ -1,5 +1,1 @@
-pub mod Assertions
-pub mod Cutting
-pub mod Lines
-pub mod LongestWord
-pub mod Pieces
+pub mod Trees

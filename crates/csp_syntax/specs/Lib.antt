@@ -1,6 +1,5 @@
-pub mod Cut
-pub mod Lexing
-pub mod Parts
-pub mod Piece
-pub mod Spells
-pub mod Word
+pub mod Single
+pub use Rattle.csp_parser.specs.Fault
+pub use Rattle.csp_parser.specs.Places
+pub use Rattle.csp_parser.specs.Spells
+pub use Rattle.script_printer.specs.PrintedScript

@@ -1,15 +1,16 @@
-//! The text of a script: its tokens, what script a text spells, and a reader for the scripts that are read so far.
+//! The text of a script: its tokens, the script that it spells, and its printed text, passed on from the crates below; and the scripts of a single
+//! process.
 #![tactic(auto)]
 
-pub mod lexer;
-pub mod reader;
-pub mod script;
+pub mod single;
 #[cfg(test)]
 mod tests;
-pub mod token;
-mod words;
 
-pub use lexer::lex;
-pub use reader::read_script;
-pub use script::Script;
-pub use token::{Symbol, Token, Word};
+pub use csp_lexer::{LexFault, Tokens, lex};
+pub use csp_parser::{ParseFault, each_text_spells_one_script, parse, read};
+pub use csp_text::{
+    BinOp, Decl, EventTree, FieldTree, GenTree, PartTree, ResourceNames, RolesNames, Script, SetOp,
+    Symbol, Token, Tree, Word, depth,
+};
+pub use script_printer::print_script;
+pub use single::{SingleProcess, read_single_process, single_process};

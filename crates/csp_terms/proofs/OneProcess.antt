@@ -1,7 +1,7 @@
 -- The network of one process `d = c -> d` is live with silent bound 1: it goes from the call to the prefix silently,
 -- and from the prefix to the call by its event.
 use Rattle.std.proofs.Common.{◌≡◌, ◌⊎◌, ℕ, ◌≤◌, suc, zero, List, [], ◌∷◌, Option, None, Some, refl, sym, ◌∙◌, ap, subst, inl, inr, arith, replicate, slice_get}
-use Rattle.csp_syntax.specs.declared.script.Script.{Script}
+use Rattle.csp_syntax.specs.declared.single.SingleProcess.{SingleProcess}
 use Rattle.csp_tables.specs.Label.{Label}
 use Rattle.csp_tables.specs.Label.Label.{silent, visible}
 use Rattle.csp_tables.specs.Path.{Path, Silently, Stable}
@@ -42,12 +42,12 @@ body_found None = call 0
 body_found (Some d) = d.body
 
 -- what the one definition's body is
-found_body : (s : Script) (name : List ℕ) (t : Term) → slice_get (program_of s).definitions 0 ≡ Some (record { name = name; body = t }) → t ≡ body
+found_body : (s : SingleProcess) (name : List ℕ) (t : Term) → slice_get (program_of s).definitions 0 ≡ Some (record { name = name; body = t }) → t ≡ body
 unfolding body_found
 found_body s name t found = sym (ap body_found found)
 
 -- each step of the process leads from one of the two to the other, by its label
-steps : (s : Script) (c d : Component Term) (l : Label) → IsOneOf c → ComponentStep (Step (program_of s)) c l d
+steps : (s : SingleProcess) (c d : Component Term) (l : Label) → IsOneOf c → ComponentStep (Step (program_of s)) c l d
     → IsOneOf d × (((c.term ≡ call 0) × (l ≡ silent) × (d.term ≡ body)) ⊎ ((c.term ≡ body) × (l ≡ visible 0) × (d.term ≡ call 0)))
 steps s c d silent (same, inl is) (kept, step) =
     let P : Term → Type 0 = λ t. Step (program_of s) t silent d.term in
@@ -70,12 +70,12 @@ steps s c d (visible e) (same, inr is) (kept, _, step) =
     ((sym kept ∙ same, inl from.1), inr (is, from.0, from.1))
 
 -- a run keeps to the two
-keeps : (s : Script) (c d : Component Term) (ls : List Label) → IsOneOf c → Path (ComponentStep (Step (program_of s))) c ls d → IsOneOf d
+keeps : (s : SingleProcess) (c d : Component Term) (ls : List Label) → IsOneOf c → Path (ComponentStep (Step (program_of s))) c ls d → IsOneOf d
 keeps s c d [] one path = let P : Component Term → Type 0 = IsOneOf in subst P path one
 keeps s c d (l ∷ ls) one (m, step, path) = keeps s m d ls (steps s c m l one step).0 path
 
 -- no two silent steps follow one another
-once : (s : Script) (c d : Component Term) (n : ℕ) → IsOneOf c → Silently (ComponentStep (Step (program_of s))) n c d → n ≤ 1
+once : (s : SingleProcess) (c d : Component Term) (n : ℕ) → IsOneOf c → Silently (ComponentStep (Step (program_of s))) n c d → n ≤ 1
 once s c d zero one path = omega arith
 once s c d (suc zero) one path = omega arith
 once s c d (suc (suc n)) one (m, first, (k, second, path)) =
@@ -94,10 +94,10 @@ leaf_runs StepOf c x (silent ∷ ls) (parallel os, step, path) = absurd step
 leaf_runs StepOf c x (visible e ∷ ls) (parallel os, step, path) = absurd step
 
 -- the one silent step
-enters : (s : Script) → ComponentStep (Step (program_of s)) calling silent ready
+enters : (s : SingleProcess) → ComponentStep (Step (program_of s)) calling silent ready
 enters s = (refl, call-body 0 s.process body refl)
 
-pub exact : (s : Script) → HasSilentBound (network_of s) 1
+pub exact : (s : SingleProcess) → HasSilentBound (network_of s) 1
 exact s = (
   1,
   0,
@@ -117,13 +117,13 @@ made c a t alphabet_is term_is =
     subst Q term_is (subst P alphabet_is refl)
 
 -- a run of the network ends in a leaf, at one of the two components
-ends : (s : Script) (x : Tree Term) (ls : List Label) → Path (NetworkStep (Step (program_of s))) (leaf calling) ls x → (d : Component Term) × (x ≡ leaf d) × IsOneOf d
+ends : (s : SingleProcess) (x : Tree Term) (ls : List Label) → Path (NetworkStep (Step (program_of s))) (leaf calling) ls x → (d : Component Term) × (x ≡ leaf d) × IsOneOf d
 ends s x ls path =
     let here = leaf_runs (Step (program_of s)) calling x ls path in
     (here.0, here.1, keeps s calling here.0 ls (refl, inl refl) here.2)
 
 -- where the network has no silent step, it stands before its event
-goes_on : (s : Script) (d : Component Term) → IsOneOf d → Stable (NetworkStep (Step (program_of s))) (leaf d) → (e : ℕ) × (y : Tree Term) × NetworkStep (Step (program_of s)) (leaf d) (visible e) y
+goes_on : (s : SingleProcess) (d : Component Term) → IsOneOf d → Stable (NetworkStep (Step (program_of s))) (leaf d) → (e : ℕ) × (y : Tree Term) × NetworkStep (Step (program_of s)) (leaf d) (visible e) y
 goes_on s d (same, inl is) stable =
     let P : Component Term → Type 0 = λ c. Stable (NetworkStep (Step (program_of s))) (leaf c) in
     absurd (subst P (made d _ _ same is) stable (leaf ready) (enters s))
@@ -131,7 +131,7 @@ goes_on s d (same, inr is) stable =
     let P : Component Term → Type 0 = λ c. (e : ℕ) × (y : Tree Term) × NetworkStep (Step (program_of s)) (leaf c) (visible e) y in
     subst P (sym (made d _ _ same is)) (0, leaf calling, (refl, refl, prefix-event 0 (call 0)))
 
-pub live : (s : Script) → IsLive (network_of s) 1
+pub live : (s : SingleProcess) → IsLive (network_of s) 1
 live s = record {
   quiet = λ x y n (ls, path) silence.
       let here = ends s x ls path in

@@ -1,7 +1,7 @@
 -- The network that a text spells, and what is said of it.
 use Rattle.std.specs.Prelude.{◌≡◌, ℕ, List, [], ◌∷◌}
-use Rattle.csp_syntax.specs.declared.script.Script.{Script}
-use Rattle.csp_syntax.specs.Spells.{Spells}
+use Rattle.csp_syntax.specs.declared.single.SingleProcess.{SingleProcess}
+use Rattle.csp_syntax.specs.Single.{SpellsSingle}
 use Rattle.csp_tables.specs.Live.{Live}
 use Rattle.csp_tables.specs.Network.{Tree, NetworkStep, leaves}
 use Rattle.csp_tables.specs.Network.Tree.{leaf}
@@ -17,16 +17,16 @@ pub record Network : Type 0 where
   pub tree : Tree Term
 
 -- The network of a script of one process: the asserted call, with all events of the script as its alphabet.
-abbrev pub network_of : Script → Network
+abbrev pub network_of : SingleProcess → Network
 network_of s = record {
   program = program_of s;
   tree = leaf (record { alphabet = 0 ∷ []; term = call 0 });
 }
 
 pub record SpellsNetwork (text : List ℕ) (network : Network) : Type 0 where
-  pub script : Script
-  pub spelled : Spells text script
-  pub is : network ≡ network_of script
+  pub process : SingleProcess
+  pub spelled : SpellsSingle text process
+  pub is : network ≡ network_of process
 
 -- From every state that some run of the network reaches, under every order of its components' steps, at most `bound`
 -- silent steps follow one another, and a state without a silent step has an event.

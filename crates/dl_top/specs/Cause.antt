@@ -3,7 +3,7 @@ use Rattle.std.specs.Prelude.{◌≡◌, ◌⊎◌, ℕ, ◌+◌, ◌<◌, ◌�
 use Rattle.dl_outside.specs.declared.texts.NamedText.{NamedText}
 use Rattle.dl_outside.specs.Count.{HasRisen}
 use Rattle.dl_outside.specs.Texts.{text_of}
-use Rattle.dl_top.specs.declared.words.Rule.{Rule}
+use Rattle.dl_top.specs.declared.words.Command.{Command}
 use Rattle.dl_top.specs.declared.answer.Answer.{Answer}
 use Rattle.dl_top.specs.declared.answer.Answer.TheVariants.{Usage, ScriptNotFound, ScriptNotRead, ScriptTooLong}
 use Rattle.dl_top.specs.Command.{Asks, IsNoCommand}
@@ -14,21 +14,21 @@ abbrev pub script_limit : ℕ
 script_limit = 1048576
 
 -- A text that was loaded: too long, or within the limit.
-abbrev pub ScriptCallsFor : List ℕ → Rule → Answer → Type 0
-ScriptCallsFor text rule answer =
+abbrev pub ScriptCallsFor : List ℕ → Command → Answer → Type 0
+ScriptCallsFor text command answer =
     ((script_limit < length text) × (answer ≡ ScriptTooLong))
-    ⊎ ((length text ≤ script_limit) × TextCallsFor text rule answer)
+    ⊎ ((length text ≤ script_limit) × TextCallsFor text command answer)
 
 -- Where the shelf holds these texts and neither it nor the sink has a fault, this is the answer.
 abbrev pub CallsFor : List NamedText → List (List ℕ) → Answer → Type 0
 CallsFor texts words answer =
     -- the words are no command
     (IsNoCommand words × (answer ≡ Usage))
-    ⊎ ((rule : Rule) × (name : List ℕ) × Asks words rule name × (
+    ⊎ ((command : Command) × (name : List ℕ) × Asks words command name × (
     -- the script isn't there
     ((text_of texts name ≡ None) × (answer ≡ ScriptNotFound))
     -- it is
-    ⊎ ((text : List ℕ) × (text_of texts name ≡ Some text) × ScriptCallsFor text rule answer)))
+    ⊎ ((text : List ℕ) × (text_of texts name ≡ Some text) × ScriptCallsFor text command answer)))
 
 -- What the shelf did in the call: whether its count of faults rose, and whether it took more bytes than the limit of a script.
 pub record ShelfSigns : Type 1 where
@@ -46,17 +46,17 @@ shelf_signs faults_before faults_after taken_before taken_after = record {
 abbrev pub TextsMayGive : List NamedText → List (List ℕ) → ShelfSigns → Answer → Type 0
 TextsMayGive texts words signs answer =
     CallsFor texts words answer
-    ⊎ (signs.rose × (rule : Rule) × (name : List ℕ) × Asks words rule name × (answer ≡ ScriptNotRead))
+    ⊎ (signs.rose × (command : Command) × (name : List ℕ) × Asks words command name × (answer ≡ ScriptNotRead))
 
 -- Where the shelf tells no texts: a fault shows in its counts, and any other answer is what some text calls for.
 abbrev pub UntoldMayGive : List (List ℕ) → ShelfSigns → Answer → Type 0
 UntoldMayGive words signs answer =
     (IsNoCommand words × (answer ≡ Usage))
-    ⊎ ((rule : Rule) × (name : List ℕ) × Asks words rule name × (
+    ⊎ ((command : Command) × (name : List ℕ) × Asks words command name × (
     (signs.rose × (answer ≡ ScriptNotFound))
     ⊎ (signs.rose × (answer ≡ ScriptNotRead))
     ⊎ (signs.took_more × (answer ≡ ScriptTooLong))
-    ⊎ ((text : List ℕ) × (length text ≤ script_limit) × TextCallsFor text rule answer)))
+    ⊎ ((text : List ℕ) × (length text ≤ script_limit) × TextCallsFor text command answer)))
 
 -- The causes of an answer.
 abbrev pub MayGive : Option (List NamedText) → List (List ℕ) → ShelfSigns → Answer → Type 0
@@ -65,4 +65,4 @@ MayGive None words signs answer = UntoldMayGive words signs answer
 
 -- The texts hold every one that the words name.
 abbrev pub HoldsAllNamed : List NamedText → List (List ℕ) → Type 0
-HoldsAllNamed texts words = (rule : Rule) (name : List ℕ) → Asks words rule name → (text : List ℕ) × (text_of texts name ≡ Some text)
+HoldsAllNamed texts words = (command : Command) (name : List ℕ) → Asks words command name → (text : List ℕ) × (text_of texts name ≡ Some text)

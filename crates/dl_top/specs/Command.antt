@@ -1,5 +1,7 @@
 -- What the words of a command line ask for.
 use Rattle.std.specs.Prelude.{◌≡◌, ℕ, List, [], ◌∷◌, codes}
+use Rattle.dl_top.specs.declared.words.Command.{Command}
+use Rattle.dl_top.specs.declared.words.Command.TheVariants.{Check, Show}
 use Rattle.dl_top.specs.declared.words.Rule.{Rule}
 use Rattle.dl_top.specs.declared.words.Rule.TheVariants.{Cyclic}
 
@@ -7,10 +9,19 @@ use Rattle.dl_top.specs.declared.words.Rule.TheVariants.{Cyclic}
 abbrev pub rule_text : Rule → List ℕ
 rule_text Cyclic = codes "cyclic"
 
--- The words are `check RULE SCRIPT`.
-abbrev pub Asks : List (List ℕ) → Rule → List ℕ → Type 0
-Asks words rule script = words ≡ codes "check" ∷ rule_text rule ∷ script ∷ []
+-- The words are `check RULE SCRIPT`, or `show SCRIPT`.
+abbrev pub Asks : List (List ℕ) → Command → List ℕ → Type 0
+Asks words (Check rule) script = words ≡ codes "check" ∷ rule_text rule ∷ script ∷ []
+Asks words Show script = words ≡ codes "show" ∷ script ∷ []
 
 -- The words are no command.
 abbrev pub IsNoCommand : List (List ℕ) → Type 0
-IsNoCommand words = (rule : Rule) (script : List ℕ) → Asks words rule script → ⊥
+IsNoCommand words = (command : Command) (script : List ℕ) → Asks words command script → ⊥
+
+-- The words ask for the judgement of a script.
+abbrev pub AsksForCheck : List (List ℕ) → Type 0
+AsksForCheck words = (rule : Rule) × (script : List ℕ) × Asks words (Check rule) script
+
+-- The words ask for a script to be shown.
+abbrev pub AsksForShow : List (List ℕ) → Type 0
+AsksForShow words = (script : List ℕ) × Asks words Show script

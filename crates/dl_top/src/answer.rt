@@ -4,9 +4,10 @@ ghost use Rattle.std.specs.Prelude.{◌≡◌};
 ghost use Rattle.dl_top.specs.Report.{status};
 
 use crate::words::Rule;
+use csp_base::{Bytes, Place};
 
 /// The answer to the words of a command line, with the values that its report prints.
-#[derive(Clone, Copy, Debug, PartialEq, Eq)]
+#[derive(Debug, PartialEq, Eq, Drop)]
 pub enum Answer {
     /// The words are no command.
     Usage,
@@ -16,8 +17,18 @@ pub enum Answer {
     ScriptNotRead,
     /// The script has more than 1,048,576 bytes (refusal 36).
     ScriptTooLong,
-    /// The script is none of those that are read so far (refusal 40).
+    /// The text spells no script (refusal 1).
+    NoScript {
+        /// Where its first piece begins that is no token; where there is none, the place of a token or of its end.
+        at: Place,
+    },
+    /// The script is none of those that are judged so far (refusal 40).
     NotBuilt,
+    /// The script is shown.
+    Shown {
+        /// Its printed text.
+        text: Bytes,
+    },
     /// The network is free of deadlock by the rule.
     DeadlockFree {
         rule: Rule,
@@ -28,13 +39,13 @@ pub enum Answer {
     },
 }
 
-/// The exit status of an answer: 0 proved, 2 refused, 3 no command, 4 a fault outside.
+/// The exit status of an answer: 0 proved or shown, 2 refused, 3 no command, 4 a fault outside.
 pub fn status_of(answer: &Answer) -> u8
     ensures { result ≡ status answer.now }
 {
     match answer {
-        Answer::DeadlockFree { .. } => 0,
-        Answer::ScriptTooLong | Answer::NotBuilt => 2,
+        Answer::DeadlockFree { .. } | Answer::Shown { .. } => 0,
+        Answer::ScriptTooLong | Answer::NoScript { .. } | Answer::NotBuilt => 2,
         Answer::Usage => 3,
         Answer::ScriptNotFound | Answer::ScriptNotRead => 4,
     }

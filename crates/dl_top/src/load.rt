@@ -23,11 +23,11 @@ pub fn answer_of<S: Shelf>(alloc: Global, words: &Words, shelf: &mut S) -> Resul
     ensures faults_never_fall { S.faults shelf.old ≤ S.faults shelf.new }
     ensures taken_never_falls { S.taken shelf.old ≤ S.taken shelf.new }
 {
-    let Some((rule, name)) = asked(words) else {
+    let Some((command, name)) = asked(words) else {
         return Ok(Answer::Usage);
     };
     match shelf.load(alloc, name, SCRIPT_LIMIT) {
-        Ok(text) => judge(alloc, rule, text.as_slice()),
+        Ok(text) => judge(alloc, command, text.as_slice()),
         Err(LoadFault::Missing) => Ok(Answer::ScriptNotFound),
         Err(LoadFault::TooLong) => Ok(Answer::ScriptTooLong),
         Err(LoadFault::Failed) => Ok(Answer::ScriptNotRead),

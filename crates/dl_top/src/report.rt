@@ -7,7 +7,7 @@ ghost use Rattle.dl_top.specs.Report.{line, refusal, report_text};
 
 use crate::answer::Answer;
 use crate::words::Rule;
-use csp_base::{Bytes, NoMemory};
+use csp_base::{Bytes, NoMemory, Place};
 use std::alloc::Global;
 
 const LINE_FEED: u8 = b'\n';
@@ -55,6 +55,21 @@ fn refused(alloc: Global, reason: &[u8]) -> Result<Bytes, NoMemory>
     Ok(report)
 }
 
+/// The report of a text that spells no script.
+fn no_script(alloc: Global, at: Place) -> Result<Bytes, NoMemory>
+    ensures { IfOk result (λ report. report
+        ≡ refusal (codes "1 no script near line " ++ decimal at.line ++ codes " column " ++ decimal at.column)) }
+{
+    let (line, column) = (at.line, at.column);
+    let line = format!(in alloc; "{line}")?;
+    let column = format!(in alloc; "{column}")?;
+    let mut reason = Bytes::from_slice(alloc, b"1 no script near line ")?;
+    reason.extend_from_slice(line.as_bytes())?;
+    reason.extend_from_slice(b" column ")?;
+    reason.extend_from_slice(column.as_bytes())?;
+    refused(alloc, reason.as_slice())
+}
+
 /// The name of a rule as it is printed.
 fn rule_name(rule: Rule) -> &'static [u8]
     ensures { result.now ≡ rule_text rule }
@@ -91,7 +106,9 @@ pub fn report_of(alloc: Global, answer: &Answer) -> Result<Bytes, NoMemory>
         Answer::ScriptNotFound => one_line(alloc, b"outside fault: script not found"),
         Answer::ScriptNotRead => one_line(alloc, b"outside fault: script not read"),
         Answer::ScriptTooLong => refused(alloc, b"36 script is too long"),
+        Answer::NoScript { at } => no_script(alloc, *at),
         Answer::NotBuilt => refused(alloc, b"40 not built yet"),
+        Answer::Shown { text } => text.try_clone(alloc),
         Answer::DeadlockFree {
             rule,
             components,

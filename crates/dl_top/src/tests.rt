@@ -1,10 +1,12 @@
-//! The worked cases of the top call, over devices in memory.
+//! The top call over devices in memory: shelves and sinks that fail, words that are no command, and a text of each answer. The crate
+//! `worked_scripts` has the texts themselves.
+
+ghost use Rattle.std.specs.Prelude.{◌≤◌};
 
 use super::*;
 use csp_base::{Bytes, NoMemory};
 use dl_outside::{MemoryShelf, MemorySink, QuietShelf, Shelf, Sink, SureShelf, SureSink};
 use std::alloc::Global;
-use std::process::Abort;
 use std::test::Fail;
 
 const SCRIPT: &[u8] = b"channel a\nP = a -> P\nassert P :[deadlock free]\n";
@@ -16,6 +18,16 @@ const USAGE: &[u8] =
 
 const NOT_BUILT: &[u8] = b"refused\n40 not built yet\n";
 
+const SHOWN: &[u8] = b"channel a\nP = a -> P\nassert P : [ deadlock free ]\n";
+
+const OPEN_COMMENT: &[u8] = b"P = a\nQ = {-1}\n";
+
+const NO_SCRIPT: &[u8] = b"refused\n1 no script near line 2 column 5\n";
+
+const CHECK: [&[u8]; 3] = [b"check", b"cyclic", b"one.csp"];
+
+const SHOW: [&[u8]; 2] = [b"show", b"one.csp"];
+
 fn words_of(alloc: Global, words: &[&[u8]]) -> Result<Words, NoMemory> {
     let mut made = Words::new(alloc);
     for word in words {
@@ -24,145 +36,180 @@ fn words_of(alloc: Global, words: &[&[u8]]) -> Result<Words, NoMemory> {
     Ok(made)
 }
 
-/// The status and what is sent for `check cyclic one.csp`, where the shelf holds this text as one.csp.
-fn judged(
-    rt: &impl Abort,
-    alloc: Global,
-    text: &[u8],
-    status: u8,
-    report: &[u8],
-) -> Result<(), NoMemory> {
-    let mut shelf = SureShelf::new(alloc);
-    let mut out = SureSink::new(alloc, 1000);
-    shelf.put_text(b"one.csp", text)?;
-    let words = words_of(alloc, &[b"check", b"cyclic", b"one.csp"])?;
-    assert_eq!(rt; dl_sure(alloc, &words, &mut shelf, &mut out), status);
-    assert_eq!(rt; out.sent(), report);
-    Ok(())
-}
-
-/// The status and what is sent for these words.
-fn answered<S: Shelf>(
-    rt: &impl Abort,
+/// The status for the words, over any devices.
+fn status<S: Shelf, O: Sink>(
     alloc: Global,
     words: &[&[u8]],
     shelf: &mut S,
-    status: u8,
+    out: &mut O,
+) -> Result<u8, NoMemory> {
+    let words = words_of(alloc, words)?;
+    Ok(dl_main(alloc, &words, shelf, out))
+}
+
+/// The status for the words, over devices that never fail.
+fn sure(alloc: Global, words: &Words, shelf: &mut SureShelf, out: &mut SureSink) -> u8 {
+    dl_sure(alloc, words, shelf, out)
+}
+
+/// Whether this is the status, and this is sent.
+fn answers<S: Shelf>(
+    alloc: Global,
+    words: &[&[u8]],
+    shelf: &mut S,
+    wanted: u8,
     report: &[u8],
-) -> Result<(), NoMemory> {
+) -> Result<bool, NoMemory> {
+    let mut out = SureSink::new(alloc, 1000);
+    Ok(status(alloc, words, shelf, &mut out)? == wanted && out.sent() == report)
+}
+
+/// The same over a shelf that holds nothing.
+fn empty_answers(
+    alloc: Global,
+    words: &[&[u8]],
+    wanted: u8,
+    report: &[u8],
+) -> Result<bool, NoMemory> {
+    let mut shelf = SureShelf::new(alloc);
+    answers(alloc, words, &mut shelf, wanted, report)
+}
+
+/// A shelf that holds the script as one.csp.
+fn shelf(alloc: Global, failing: Vec<u32>) -> Result<MemoryShelf, NoMemory> {
+    let mut shelf = MemoryShelf::new(alloc, failing);
+    shelf.put_text(b"one.csp", SCRIPT)?;
+    Ok(shelf)
+}
+
+/// The same over a shelf that holds the script, and fails at the first call.
+fn failing_answers(
+    alloc: Global,
+    words: &[&[u8]],
+    wanted: u8,
+    report: &[u8],
+) -> Result<bool, NoMemory> {
+    let mut shelf = shelf(alloc, vec![in alloc; 1]?)?;
+    answers(alloc, words, &mut shelf, wanted, report)
+}
+
+/// The same over a shelf that tells no texts.
+fn quiet_answers(
+    alloc: Global,
+    words: &[&[u8]],
+    wanted: u8,
+    report: &[u8],
+) -> Result<bool, NoMemory> {
+    let texts = vec![in alloc; Bytes::from_slice(alloc, SCRIPT)?]?;
+    answers(alloc, words, &mut QuietShelf::new(texts), wanted, report)
+}
+
+/// Whether the script is judged so, and this is sent, over a sink that takes so many bytes at a call and fails at this one.
+fn sends(
+    alloc: Global,
+    most: u32,
+    failing: Option<u32>,
+    wanted: u8,
+    report: &[u8],
+) -> Result<bool, NoMemory>
+    requires { 1 ≤ most }
+{
+    let mut calls = Vec::new(alloc);
+    if let Some(call) = failing {
+        calls.push(call)?;
+    }
+    let mut shelf = shelf(alloc, Vec::new(alloc))?;
+    let mut out = MemorySink::new(alloc, most, calls);
+    Ok(status(alloc, &CHECK, &mut shelf, &mut out)? == wanted && out.sent() == report)
+}
+
+/// Whether this is the status, and this is sent, where a shelf without faults holds this text as one.csp.
+fn text_answers(
+    alloc: Global,
+    words: &[&[u8]],
+    text: &[u8],
+    wanted: u8,
+    report: &[u8],
+) -> Result<bool, NoMemory> {
+    let mut shelf = SureShelf::new(alloc);
+    shelf.put_text(b"one.csp", text)?;
     let mut out = SureSink::new(alloc, 1000);
     let words = words_of(alloc, words)?;
-    assert_eq!(rt; dl_main(alloc, &words, shelf, &mut out), status);
-    assert_eq!(rt; out.sent(), report);
-    Ok(())
+    Ok(sure(alloc, &words, &mut shelf, &mut out) == wanted && out.sent() == report)
+}
+
+/// The same for a text of so many blanks.
+fn blanks_answer(
+    alloc: Global,
+    words: &[&[u8]],
+    len: usize,
+    wanted: u8,
+    report: &[u8],
+) -> Result<bool, NoMemory> {
+    let blanks = vec![in alloc; b' '; len]?;
+    text_answers(alloc, words, blanks.as_slice(), wanted, report)
 }
 
 #[test]
-fn one_process_is_deadlock_free_whatever_the_sink_takes(rt: HostRuntime) -> Result<(), Fail> {
+fn a_sink_has_the_report_or_a_front_of_it(rt: HostRuntime) -> Result<(), Fail> {
     let alloc = rt.alloc();
-    let words = words_of(alloc, &[b"check", b"cyclic", b"one.csp"])?;
     for most in [1, 10, 1000] {
-        let mut shelf = MemoryShelf::new(alloc, vec![in alloc]?);
-        let mut out = MemorySink::new(alloc, most, vec![in alloc]?);
-        shelf.put_text(b"one.csp", SCRIPT)?;
-        assert_eq!(rt; dl_main(alloc, &words, &mut shelf, &mut out), 0);
-        assert_eq!(rt; out.sent(), PROVED);
+        assert!(rt; sends(alloc, most, None, 0, PROVED)?);
     }
-    let quiet = vec![in alloc; Bytes::from_slice(alloc, SCRIPT)?]?;
-    answered(
-        &rt,
-        alloc,
-        &[b"check", b"cyclic", b"one.csp"],
-        &mut QuietShelf::new(quiet),
-        0,
-        PROVED,
-    )?;
-    Ok(())
-}
-
-#[test]
-fn a_sink_that_fails_has_a_front_of_the_report(rt: HostRuntime) -> Result<(), Fail> {
-    let alloc = rt.alloc();
-    let words = words_of(alloc, &[b"check", b"cyclic", b"one.csp"])?;
-    for call in 1..7u32 {
-        let mut shelf = MemoryShelf::new(alloc, vec![in alloc]?);
-        let mut out = MemorySink::new(alloc, 10, vec![in alloc; call]?);
-        shelf.put_text(b"one.csp", SCRIPT)?;
-        assert_eq!(rt; dl_main(alloc, &words, &mut shelf, &mut out), 4);
-        let front = (call as usize - 1) * 10;
-        assert!(rt; front <= PROVED.len());
-        assert_eq!(rt; out.sent(), &PROVED[..front]);
+    let fronts: [(u32, &[u8]); 6] = [
+        (1, b""),
+        (2, b"deadlock-f"),
+        (3, b"deadlock-free\nrule c"),
+        (4, b"deadlock-free\nrule cyclic\ncomp"),
+        (5, b"deadlock-free\nrule cyclic\ncomponents 1\ns"),
+        (6, b"deadlock-free\nrule cyclic\ncomponents 1\nsilent boun"),
+    ];
+    for (call, front) in fronts {
+        assert!(rt; sends(alloc, 10, Some(call), 4, front)?);
     }
     Ok(())
 }
 
 #[test]
-fn words_and_devices_are_refused_in_their_order(rt: HostRuntime) -> Result<(), Fail> {
+fn words_and_shelves_are_refused_in_their_order(rt: HostRuntime) -> Result<(), Fail> {
     let alloc = rt.alloc();
-    let wrong: [&[&[u8]]; 4] = [
+    let wrong: [&[&[u8]]; 6] = [
         &[b"check", b"cyclic", b"one.csp", b"one.csp"],
         &[b"check", b"best", b"one.csp"],
+        &[b"show", b"one.csp", b"one.csp"],
+        &[b"show"],
         &[b"trial", b"mesh", b"23"],
         &[],
     ];
     for words in wrong {
-        let mut shelf = MemoryShelf::new(alloc, vec![in alloc; 1]?);
-        answered(&rt, alloc, words, &mut shelf, 3, USAGE)?;
+        assert!(rt; failing_answers(alloc, words, 3, USAGE)?);
     }
-    let right: [&[u8]; 3] = [b"check", b"cyclic", b"one.csp"];
-    let mut empty = MemoryShelf::new(alloc, vec![in alloc]?);
-    answered(
-        &rt,
-        alloc,
-        &right,
-        &mut empty,
-        4,
-        b"outside fault: script not found\n",
-    )?;
-    let mut failing = MemoryShelf::new(alloc, vec![in alloc; 1]?);
-    failing.put_text(b"one.csp", SCRIPT)?;
-    answered(
-        &rt,
-        alloc,
-        &right,
-        &mut failing,
-        4,
-        b"outside fault: script not read\n",
-    )?;
-    let long = vec![in alloc; b' '; 1_048_577]?;
-    judged(
-        &rt,
-        alloc,
-        long.as_slice(),
-        2,
-        b"refused\n36 script is too long\n",
-    )?;
-    judged(&rt, alloc, &long[1..], 2, NOT_BUILT)?;
+    let right: [&[&[u8]]; 2] = [&CHECK, &SHOW];
+    for words in right {
+        assert!(rt; empty_answers(alloc, words, 4, b"outside fault: script not found\n")?);
+        assert!(rt; failing_answers(alloc, words, 4, b"outside fault: script not read\n")?);
+        assert!(rt;
+            blanks_answer(
+                alloc,
+                words,
+                1_048_577,
+                2,
+                b"refused\n36 script is too long\n"
+            )?
+        );
+    }
+    assert!(rt; blanks_answer(alloc, &CHECK, 1_048_576, 2, NOT_BUILT)?);
+    assert!(rt; blanks_answer(alloc, &SHOW, 1_048_576, 0, b"")?);
+    assert!(rt; quiet_answers(alloc, &CHECK, 0, PROVED)?);
     Ok(())
 }
 
 #[test]
-fn other_scripts_are_not_built_yet(rt: HostRuntime) -> Result<(), Fail> {
+fn texts_are_judged_and_shown(rt: HostRuntime) -> Result<(), Fail> {
     let alloc = rt.alloc();
-    judged(&rt, alloc, SCRIPT, 0, PROVED)?;
-    let others: [&[u8]; 14] = [
-        b"",
-        b"channels a\nP = a -> P\nassert P :[deadlock free]\n",
-        b"channel P\nP = P -> P\nassert P :[deadlock free]\n",
-        b"channel a\nQ = a -> P\nassert P :[deadlock free]\n",
-        b"channel a\nP = b -> P\nassert P :[deadlock free]\n",
-        b"channel a\nP = a -> Q\nassert P :[deadlock free]\n",
-        b"channel a\nP == a -> P\nassert P :[deadlock free]\n",
-        b"channel a\nP = a - P\nassert P :[deadlock free]\n",
-        b"channel a\nP = a -> STOP\nassert P :[deadlock free]\n",
-        b"channel a\nP = a -> P\nassert Q :[deadlock free]\n",
-        b"channel a\nP = a -> P\nassert P [deadlock free]\n",
-        b"channel a\nP = a -> P\nassert P :[deadlock\nfree]\n",
-        b"channel a\nP = a -> P\nassert P :[livelock free]\n",
-        b"channel a\nP = a -> P\nassert P :[deadlock free] a\n",
-    ];
-    for text in others {
-        judged(&rt, alloc, text, 2, NOT_BUILT)?;
-    }
+    assert!(rt; text_answers(alloc, &CHECK, SCRIPT, 0, PROVED)?);
+    assert!(rt; text_answers(alloc, &CHECK, OPEN_COMMENT, 2, NOT_BUILT)?);
+    assert!(rt; text_answers(alloc, &SHOW, SCRIPT, 0, SHOWN)?);
+    assert!(rt; text_answers(alloc, &SHOW, OPEN_COMMENT, 2, NO_SCRIPT)?);
     Ok(())
 }

@@ -3,9 +3,9 @@
 ghost use Rattle.std.specs.Prelude.{◌≡◌, ◌≢◌, ◌≤◌, IfSome};
 ghost use Rattle.dl_outside.specs.Count.{HasRisen};
 ghost use Rattle.dl_top.specs.Cause.{CallsFor, MayGive, shelf_signs};
-ghost use Rattle.dl_top.specs.Command.{IsNoCommand};
+ghost use Rattle.dl_top.specs.Command.{AsksForCheck, AsksForShow, IsNoCommand};
 ghost use Rattle.dl_top.specs.Ending.{Ends, EndsInShelfFault, EndsWhole, sink_signs};
-ghost use Rattle.dl_top.specs.Proved.{IsProved};
+ghost use Rattle.dl_top.specs.Proved.{IsProved, IsShown};
 
 use crate::answer::status_of;
 use crate::load::answer_of;
@@ -13,6 +13,7 @@ use crate::report::report_of;
 use crate::send::send;
 use crate::words::Words;
 use dl_outside::{Shelf, Sink, SinkFault};
+use print_laws::printed_text_spells_the_script;
 use std::alloc::Global;
 
 /// The exit status for want of memory.
@@ -21,11 +22,15 @@ const NO_MEMORY: u8 = 5;
 /// The exit status for a fault outside.
 const OUTSIDE_FAULT: u8 = 4;
 
-/// Does what the words ask for, sends the report, and answers the exit status: 0 proved, 2 refused, 3 no command, 4 a
+/// Does what the words ask for, sends the report, and answers the exit status: 0 proved or shown, 2 refused, 3 no command, 4 a
 /// fault of the shelf or the sink, 5 want of memory.
 pub fn dl_main<S: Shelf, O: Sink>(alloc: Global, words: &Words, shelf: &mut S, out: &mut O) -> u8
-    // The theorem: where the answer is 0, the script's text spells exactly one network, which is free of deadlock.
-    ensures proved { result ≡ 0 → IfSome (S.texts shelf.old) (λ texts. IsProved texts words.now (O.sent out.old) (O.sent out.new)) }
+    // The theorem: where a script is judged with status 0, its text spells exactly one network, which is free of deadlock.
+    ensures proved { AsksForCheck words.now → result ≡ 0 → IfSome (S.texts shelf.old) (λ texts. IsProved texts words.now (O.sent out.old) (O.sent out.new)) }
+
+    // Where a script is shown with status 0, its text spells exactly one script, and what was sent is the printed text of that, which
+    // spells it again and no other.
+    ensures shown { AsksForShow words.now → result ≡ 0 → IfSome (S.texts shelf.old) (λ texts. IsShown texts words.now (O.sent out.old) (O.sent out.new)) }
 
     // Each answer has its cause. A front of a report is sent only where the sink has a fault or memory runs out.
     ensures ends { Ends
@@ -57,6 +62,7 @@ pub fn dl_main<S: Shelf, O: Sink>(alloc: Global, words: &Words, shelf: &mut S, o
     let Ok(report) = report_of(alloc, &answer) else {
         return NO_MEMORY;
     };
+    printed_text_spells_the_script();
     match send(out, report.as_slice()) {
         Ok(()) => status_of(&answer),
         Err(SinkFault::Failed) => OUTSIDE_FAULT,

@@ -3,6 +3,7 @@
 ghost use Rattle.std.specs.Prelude.{◌≡◌, List, ℕ, [], ◌∷◌, ◌++◌, IfSome, IfNone, OnOk, OnErr};
 ghost use Rattle.std.specs.Option.{option_copied};
 ghost use Rattle.dl_top.specs.declared.words.Rule.{Rule as RuleValue};
+ghost use Rattle.dl_top.specs.declared.words.Command.TheVariants.{Check, Show};
 ghost use Rattle.dl_top.specs.Command.{Asks, IsNoCommand};
 
 use csp_base::{Bytes, NoMemory};
@@ -13,11 +14,22 @@ const CHECK: &[u8] = b"check";
 
 const CYCLIC: &[u8] = b"cyclic";
 
+const SHOW: &[u8] = b"show";
+
 /// The design rules that a network can be judged by.
 #[derive(Clone, Copy, Debug, PartialEq, Eq)]
 pub enum Rule {
     /// Each process offers its links in a fixed circular order.
     Cyclic,
+}
+
+/// What is to be done with a script.
+#[derive(Clone, Copy, Debug, PartialEq, Eq)]
+pub enum Command {
+    /// Its network is judged by a rule.
+    Check(Rule),
+    /// It is printed again.
+    Show,
 }
 
 /// The words of a command line, without the program's own name.
@@ -57,15 +69,41 @@ impl Words {
     }
 }
 
-/// What the words ask for: a rule, and the name of a script to judge by it.
-pub fn asked(words: &Words) -> Option<(Rule, &[u8])>
-    ensures asks { IfSome result (λ asked. Asks words.now asked.0 asked.1.now) }
-    ensures none { IfNone result (IsNoCommand words.now) }
+/// The rule and the script's name of the words `check RULE SCRIPT`.
+fn asked_check(words: &[Bytes]) -> Option<(Rule, &[u8])>
+    ensures asks { IfSome result (λ asked. Asks words.now (Check asked.0) asked.1.now) }
+    ensures none { IfNone result ((rule : RuleValue) (script : List ℕ) → Asks words.now (Check rule) script → ⊥) }
 {
-    match words.words.as_slice() {
+    match words {
         [check, rule, script] if check.as_slice() == CHECK && rule.as_slice() == CYCLIC => {
             Some((Rule::Cyclic, script.as_slice()))
         }
         _ => None,
     }
+}
+
+/// The script's name of the words `show SCRIPT`.
+fn asked_show(words: &[Bytes]) -> Option<&[u8]>
+    ensures asks { IfSome result (λ script. Asks words.now Show script.now) }
+    ensures none { IfNone result ((script : List ℕ) → Asks words.now Show script → ⊥) }
+{
+    match words {
+        [show, script] if show.as_slice() == SHOW => Some(script.as_slice()),
+        _ => None,
+    }
+}
+
+/// What the words ask for: a command, and the name of the script that it is for.
+pub fn asked(words: &Words) -> Option<(Command, &[u8])>
+    ensures asks { IfSome result (λ asked. Asks words.now asked.0 asked.1.now) }
+    ensures none { IfNone result (IsNoCommand words.now) }
+{
+    let words = words.words.as_slice();
+    if let Some((rule, script)) = asked_check(words) {
+        return Some((Command::Check(rule), script));
+    }
+    let Some(script) = asked_show(words) else {
+        return None;
+    };
+    Some((Command::Show, script))
 }

@@ -1,0 +1,10 @@
+use Rattle.dl_top.proofs.Judging.{nothing_read, process_read}
+use Rattle.dl_top.proofs.judge.check.Goals as goal
+
+pub returns-in-None : goal.returns-in-None
+returns-in-None c = nothing_read _ _ _ c.in-None.is c.in_ok-read_single_process.ensures.only
+
+pub returns-in-Some : goal.returns-in-Some
+returns-in-Some c =
+    process_read _ _ _ _ _ c.in-Some.is c.in_ok-read_single_process.ensures.found c.in_ok-read_single_process.ensures.only
+    c.silent_bound.ensures.exact c.silent_bound.ensures.live

@@ -1,8 +1,0 @@
-use Rattle.dl_top.proofs.Judging.{nothing_read, script_read}
-use Rattle.dl_top.proofs.judge.judge.Goals as goal
-
-pub returns-in-None : goal.returns-in-None
-returns-in-None c = nothing_read _ _ _ c.in-None.is c.in_ok-read_script.ensures.only
-
-pub returns-in-Some : goal.returns-in-Some
-returns-in-Some c = script_read _ _ _ _ _ c.in-Some.is c.in_ok-read_script.ensures.found c.in_ok-read_script.ensures.only c.silent_bound.ensures.exact c.silent_bound.ensures.live

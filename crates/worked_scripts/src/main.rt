@@ -1,0 +1,163 @@
+//! Runs the commands on texts that stand in files, and prints what they answer: `worked_scripts TEXTS SCRIPT`.
+//!
+//! The file TEXTS holds texts, each below a line that begins with `=== ` and says what the text is an example of. Each is shown, what was shown is
+//! shown again, and each is judged. Of the text in the file SCRIPT, each front is shown.
+#![tactic(auto)]
+
+use csp_base::{Bytes, NoMemory};
+use dl_outside::{FileShelf, Shelf, StdSink, SureShelf, SureSink};
+use dl_top::send::send;
+use dl_top::{Words, dl_sure};
+use std::alloc::Global;
+use std::env;
+use std::process::ExitCode;
+use std::rt::Env;
+
+/// What stands between two texts, before the line that the second stands below.
+const BETWEEN: &[u8] = b"\n=== ";
+
+/// The greatest number of bytes of a file.
+const FILE_LIMIT: u32 = 1_048_576;
+
+const SHOW: [&[u8]; 2] = [b"show", b"text"];
+
+const CHECK: [&[u8]; 3] = [b"check", b"cyclic", b"text"];
+
+/// What is printed before the place of a text that is no script.
+const NO_SCRIPT: &[u8] = b"refused\n1 no script near line ";
+
+/// The status of the command for the text, and what is sent.
+fn answered(alloc: Global, words: &[&[u8]], text: &[u8]) -> Result<(u8, SureSink), NoMemory> {
+    let mut asked = Words::new(alloc);
+    for word in words {
+        asked.push(word)?;
+    }
+    let mut shelf = SureShelf::new(alloc);
+    shelf.put_text(b"text", text)?;
+    let mut out = SureSink::new(alloc, u32::MAX);
+    let status = dl_sure(alloc, &asked, &mut shelf, &mut out);
+    Ok((status, out))
+}
+
+/// Adds a line of a label and a status.
+fn push_status(alloc: Global, lines: &mut Bytes, label: &[u8], status: u8) -> Result<(), NoMemory> {
+    let status = format!(in alloc; "{status}\n")?;
+    lines.extend_from_slice(label)?;
+    lines.extend_from_slice(status.as_bytes())
+}
+
+/// Adds what is answered where the text is shown, and whether what is shown then is shown as the same text.
+fn push_shown(alloc: Global, lines: &mut Bytes, text: &[u8]) -> Result<(), NoMemory> {
+    let (status, out) = answered(alloc, &SHOW, text)?;
+    push_status(alloc, lines, b"show ", status)?;
+    lines.extend_from_slice(out.sent())?;
+    if status == 0 {
+        let (again, twice) = answered(alloc, &SHOW, out.sent())?;
+        push_status(alloc, lines, b"show again ", again)?;
+        if twice.sent() != out.sent() {
+            lines.extend_from_slice(twice.sent())?;
+        }
+    }
+    Ok(())
+}
+
+/// Adds what is answered where the text is judged.
+fn push_judged(alloc: Global, lines: &mut Bytes, text: &[u8]) -> Result<(), NoMemory> {
+    let (status, out) = answered(alloc, &CHECK, text)?;
+    push_status(alloc, lines, b"check ", status)?;
+    lines.extend_from_slice(out.sent())
+}
+
+/// The bytes before the first place where the mark stands, and those behind the mark.
+fn cut_at<'a>(bytes: &'a [u8], mark: &[u8]) -> Option<(&'a [u8], &'a [u8])> {
+    if mark.is_empty() {
+        return None;
+    }
+    let at = bytes.windows(mark.len()).position(|window| window == mark)?;
+    let front = bytes.get(..at)?;
+    let rest = bytes.get(at..)?.get(mark.len()..)?;
+    Some((front, rest))
+}
+
+/// Adds the line that the text stands below, and the answers to the text.
+fn push_answers(alloc: Global, lines: &mut Bytes, titled: &[u8]) -> Result<(), NoMemory> {
+    let (title, text) = cut_at(titled, b"\n").unwrap_or((titled, b""));
+    lines.extend_from_slice(b"=== ")?;
+    lines.extend_from_slice(title)?;
+    lines.push(b'\n')?;
+    push_shown(alloc, lines, text)?;
+    push_judged(alloc, lines, text)
+}
+
+/// Adds the answers to all texts of the file.
+fn push_all_answers(alloc: Global, lines: &mut Bytes, file: &[u8]) -> Result<(), NoMemory> {
+    let Some((_, mut rest)) = cut_at(file, BETWEEN) else {
+        return Ok(());
+    };
+    for _ in 0..file.len() {
+        let Some((titled, after)) = cut_at(rest, BETWEEN) else {
+            break;
+        };
+        push_answers(alloc, lines, titled)?;
+        rest = after;
+    }
+    push_answers(alloc, lines, rest)
+}
+
+/// Whether the text is shown, or refused as one that is no script.
+fn is_shown_or_refused(alloc: Global, text: &[u8]) -> Result<bool, NoMemory> {
+    let (status, out) = answered(alloc, &SHOW, text)?;
+    Ok(status == 0 || (status == 2 && out.sent().starts_with(NO_SCRIPT)))
+}
+
+/// Adds how many fronts the text has, and how many of them are neither shown nor refused.
+fn push_fronts(alloc: Global, lines: &mut Bytes, text: &[u8]) -> Result<(), NoMemory> {
+    let mut fronts = 0u32;
+    let mut others = 0u32;
+    for len in 0..text.len() {
+        fronts = fronts.saturating_add(1);
+        if !is_shown_or_refused(alloc, &text[..len])? {
+            others = others.saturating_add(1);
+        }
+    }
+    let line = format!(in alloc; "fronts {fronts} others {others}\n")?;
+    lines.extend_from_slice(line.as_bytes())
+}
+
+/// The lines for the texts of both files.
+fn answers(alloc: Global, texts: &[u8], script: &[u8]) -> Result<Bytes, NoMemory> {
+    let mut lines = Bytes::new(alloc);
+    push_all_answers(alloc, &mut lines, texts)?;
+    lines.extend_from_slice(b"=== each front of the script\n")?;
+    push_fronts(alloc, &mut lines, script)?;
+    Ok(lines)
+}
+
+/// The names of the two files, from the words of the command line.
+fn file_names<R: Env + AllocGlobal>(rt: &R) -> Option<(String, String)> {
+    let mut words = env::args(rt).ok()?.skip(1);
+    let texts = words.next()?;
+    let script = words.next()?;
+    Some((texts, script))
+}
+
+fn main(rt: HostRuntime) -> ExitCode {
+    let alloc = rt.alloc();
+    let Some((texts, script)) = file_names(&rt) else {
+        return ExitCode::from(3);
+    };
+    let mut shelf = FileShelf::new(&rt);
+    let Ok(texts) = shelf.load(alloc, texts.as_bytes(), FILE_LIMIT) else {
+        return ExitCode::from(4);
+    };
+    let Ok(script) = shelf.load(alloc, script.as_bytes(), FILE_LIMIT) else {
+        return ExitCode::from(4);
+    };
+    let Ok(lines) = answers(alloc, texts.as_slice(), script.as_slice()) else {
+        return ExitCode::from(5);
+    };
+    match send(&mut StdSink::new(&rt), lines.as_slice()) {
+        Ok(()) => ExitCode::from(0),
+        Err(_) => ExitCode::from(4),
+    }
+}
