@@ -164,38 +164,3 @@ fn add_item(marks: &mut Vec<bool>, items: &mut Vec<u32>, x: u32) -> Result<bool,
     marks[x as usize] = true;
     Ok(true)
 }
-
-#[cfg(test)]
-mod tests {
-    use super::FoundList;
-    use std::test::Fail;
-
-    #[test]
-    fn lists_each_number_once(rt: HostRuntime) -> Result<(), Fail> {
-        let mut found = FoundList::new(rt.alloc(), 7)?;
-        assert!(rt; found.is_empty());
-        assert_eq!(rt; found.bound(), 7);
-        for (x, is_new) in [(3, true), (6, true), (3, false), (0, true), (6, false)] {
-            assert!(rt; (x as usize) < found.bound());
-            assert_eq!(rt; found.add(x)?, is_new, "at {x}");
-        }
-        for (x, is_item) in [
-            (0, true),
-            (1, false),
-            (3, true),
-            (6, true),
-            (7, false),
-            (4000000000, false),
-        ] {
-            assert_eq!(rt; found.contains(x), is_item, "at {x}");
-        }
-        for (place, item) in [(0, Some(3)), (1, Some(6)), (2, Some(0)), (3, None)] {
-            assert_eq!(rt; found.get(place), item, "at {place}");
-        }
-        assert_eq!(rt; found.len(), 3);
-        assert_eq!(rt; found.item(1), 6);
-        assert_eq!(rt; found.as_slice(), [3, 6, 0].as_slice());
-        assert_eq!(rt; found.into_vec().as_slice(), [3, 6, 0].as_slice());
-        Ok(())
-    }
-}

@@ -6,8 +6,6 @@ mod exact;
 mod found_list;
 mod items;
 mod numbering;
-#[cfg(test)]
-mod tree;
 
 pub use boxed::Boxed;
 pub use exact::Exact;

@@ -129,32 +129,3 @@ fn number_in<T: Exact + Hash + Drop>(values: &mut IndexSet<T>, x: T) -> Result<u
     let (place, _) = values.insert_full(x)?;
     Ok(place as u32)
 }
-
-#[cfg(test)]
-mod tests {
-    use super::Numbering;
-    use crate::Items;
-    use std::test::Fail;
-
-    #[test]
-    fn numbers_lists_as_first_seen(rt: HostRuntime) -> Result<(), Fail> {
-        let alloc = rt.alloc();
-        let lists: [&[u32]; 6] = [&[1, 2], &[], &[1, 2], &[2, 1], &[], &[1]];
-        let mut numbering = Numbering::new(alloc);
-        assert!(rt; numbering.is_empty());
-        for (numbers, place) in lists.iter().zip([0, 1, 0, 2, 1, 3]) {
-            let list = Items::from_slice(alloc, *numbers)?;
-            assert_eq!(rt; numbering.number(list)?, place, "at {numbers:?}");
-        }
-        assert_eq!(rt; numbering.len(), 4);
-        assert_eq!(rt; numbering.as_slice().len(), 4);
-        assert_eq!(rt;
-            numbering.find(&Items::from_slice(alloc, &[2, 1])?),
-            Some(2)
-        );
-        assert_eq!(rt; numbering.find(&Items::from_slice(alloc, &[2])?), None);
-        assert!(rt; numbering.get(3) == Some(&Items::from_slice(alloc, &[1])?));
-        assert!(rt; numbering.get(4).is_none());
-        Ok(())
-    }
-}

@@ -6,8 +6,6 @@ pub mod atom_set;
 pub mod error;
 mod exact;
 mod sorted;
-#[cfg(test)]
-mod tests;
 pub mod value;
 
 pub use atom::Atom;

@@ -9,8 +9,6 @@ pub mod event_set;
 pub mod members;
 pub mod no_memory;
 pub mod place;
-#[cfg(test)]
-mod tests;
 pub mod trace;
 
 pub use bytes::{Bytes, Name};

@@ -11,8 +11,6 @@ mod line;
 mod places;
 mod scan;
 mod symbols;
-#[cfg(test)]
-mod tests;
 pub mod tokens;
 mod words;
 

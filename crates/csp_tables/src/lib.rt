@@ -8,8 +8,6 @@ mod raw_table;
 mod role_sets;
 mod rule;
 mod shape;
-#[cfg(test)]
-mod tests;
 mod use_sets;
 
 pub use norm_table::{NormNode, NormTable};

@@ -3,8 +3,6 @@
 
 pub mod depths;
 pub mod script;
-#[cfg(test)]
-mod tests;
 pub mod token;
 pub mod tree;
 pub mod written;

@@ -14,6 +14,3 @@ pub use heights::Heights;
 pub use reach::reachable_from;
 pub use rows::Rows;
 pub use walks::longest_walks;
-
-#[cfg(test)]
-mod tests;

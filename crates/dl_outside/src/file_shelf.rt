@@ -87,7 +87,7 @@ fn read_piece<R: Read>(
 }
 
 /// Reads to the end, or until more than `limit` bytes are there.
-pub(crate) fn read_text<R: Read>(
+pub fn read_text<R: Read>(
     alloc: Global,
     reader: &mut R,
     limit: u32,

@@ -26,6 +26,3 @@ pub use std_sink::StdSink;
 pub use sure_shelf::SureShelf;
 pub use sure_sink::SureSink;
 pub use texts::NamedText;
-
-#[cfg(test)]
-mod tests;

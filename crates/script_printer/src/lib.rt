@@ -6,8 +6,6 @@ mod numbers;
 mod print;
 pub mod shape;
 mod shapes;
-#[cfg(test)]
-mod tests;
 mod tokens;
 mod trees;
 

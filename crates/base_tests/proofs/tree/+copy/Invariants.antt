@@ -1,5 +1,5 @@
 use Rattle.std.proofs.Common.{◌≡◌, take}
-use Rattle.containers.proofs.tree.+copy.Given as goal
+use Rattle.base_tests.proofs.tree.+copy.Given as goal
 
 -- the trees so far are copied
 abbrev pub invariant-copy_all-loop-tree : goal.invariant-copy_all-loop-tree

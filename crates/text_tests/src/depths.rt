@@ -1,8 +1,8 @@
 //! Depths of small trees, and how some words and symbols are written.
 
-use crate::{Symbol, Tree, Word, depth, symbol_text, word_text};
 use containers::Boxed;
 use csp_base::NoMemory;
+use csp_text::{Symbol, Tree, Word, depth, symbol_text, word_text};
 use std::alloc::Global;
 use std::test::Fail;
 

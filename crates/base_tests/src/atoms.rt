@@ -1,4 +1,4 @@
-use super::*;
+use csp_atoms::{Atom, AtomSet, AtomSetError, Value, atom};
 use csp_base::{Event, EventSet};
 use std::alloc::Global;
 use std::cmp::Ordering;

@@ -1,9 +1,6 @@
 //! Small digraphs with their heights, circles and reachable vertices, all worked by hand.
 
-use crate::fault::Fault;
-use crate::reach::reachable_from;
-use crate::rows::Rows;
-use crate::walks::longest_walks;
+use digraph::{Fault, Rows, longest_walks, reachable_from};
 use std::alloc::Global;
 use std::process::Abort;
 use std::test::Fail;

@@ -1,5 +1,7 @@
-use super::*;
 use csp_base::{Event, EventSet, NoMemory};
+use csp_tables::{
+    Link, NormNode, NormTable, Part, PartRanks, Ranking, RawTable, RoleSets, Shape, UseSets,
+};
 use std::alloc::Global;
 use std::test::Fail;
 

@@ -1,9 +1,9 @@
 //! Printed texts, compared with what was worked out by hand.
 
-use crate::print_script;
 use containers::{Boxed, Items};
 use csp_base::{Bytes, Name, NoMemory};
 use csp_text::{BinOp, Decl, EventTree, ResourceNames, Script, Tree};
+use script_printer::print_script;
 use std::alloc::Global;
 use std::test::Fail;
 

@@ -1,7 +1,7 @@
 //! A tree that holds itself through `Boxed` and `Items`, and what its derives are worth.
 ghost use Rattle.std.specs.Prelude.{◌≡◌, ◌↔◌, IsTrue, IfOk};
 
-use crate::{Boxed, Items};
+use containers::{Boxed, Items};
 use indexmap::IndexMap;
 use std::alloc::{AllocError, Global};
 use std::test::Fail;

@@ -3,14 +3,14 @@ use Rattle.std.proofs.Common.{◌≡◌, Bool, true, ap, sym, ◌∙◌, subst}
 use Rattle.std.specs.Cmp.{first_so, second_so}
 use Rattle.std.proofs.lemmas.Bool.{eqb-true, false≢true}
 use Rattle.containers.proofs.SameLemmas.{IsSame, Known, same_items, same_rolled}
-use Rattle.containers.specs.contracts.tree.TreePartialEq.TheImpl.{ghosts}
-use Rattle.containers.specs.contracts.tree.TreePartialEq.TheImpl.Laws.{unfolded, is}
-use Rattle.containers.specs.contracts.tree.TreeEq.TheImpl.Laws.{laws-law}
-use Rattle.containers.specs.declared.tree.Tree.{Tree}
-use Rattle.containers.specs.declared.tree.Tree.TheOpen.{Tree-F, Leaf, Node, Many}
-use Rattle.containers.specs.declared.tree.Tree.TheFolds.{ind-Tree, map-Tree}
-use Rattle.containers.specs.declared.tree.Tree.TheViews.{out-Tree, roll-Tree, roll-out-Tree, out-roll-Tree}
-use Rattle.containers.proofs.tree.same.Goals as goal
+use Rattle.base_tests.specs.contracts.tree.TreePartialEq.TheImpl.{ghosts}
+use Rattle.base_tests.specs.contracts.tree.TreePartialEq.TheImpl.Laws.{unfolded, is}
+use Rattle.base_tests.specs.contracts.tree.TreeEq.TheImpl.Laws.{laws-law}
+use Rattle.base_tests.specs.declared.tree.Tree.{Tree}
+use Rattle.base_tests.specs.declared.tree.Tree.TheOpen.{Tree-F, Leaf, Node, Many}
+use Rattle.base_tests.specs.declared.tree.Tree.TheFolds.{ind-Tree, map-Tree}
+use Rattle.base_tests.specs.declared.tree.Tree.TheViews.{out-Tree, roll-Tree, roll-out-Tree, out-roll-Tree}
+use Rattle.base_tests.proofs.tree.same.Goals as goal
 
 abbrev eq : Tree → Tree → Bool
 eq = ghosts.eq

@@ -1,7 +1,7 @@
 //! Texts and their tokens, and texts that are no script with the place where that shows.
 
-use crate::{LexFault, lex};
 use csp_base::Place;
+use csp_lexer::{LexFault, lex};
 use csp_text::{Token, symbol_text, word_text};
 use std::alloc::Global;
 use std::test::Fail;

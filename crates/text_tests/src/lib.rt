@@ -1,0 +1,11 @@
+//! Tests of what works on the text of a script: depths of trees, tokens and printed texts.
+//!
+//! They stand here, and not beside what they test, so that those crates are not proved a second time for their sake.
+#![tactic(auto)]
+
+#[cfg(test)]
+mod depths;
+#[cfg(test)]
+mod printed;
+#[cfg(test)]
+mod tokens;
