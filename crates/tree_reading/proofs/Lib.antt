@@ -1,4 +1,3 @@
-pub mod Answering
 pub mod DotFields
 pub mod Exactness
 pub mod Fitting

@@ -1,6 +1,7 @@
 pub mod Answers
 pub mod Bindings
 pub mod Exact
+pub mod Gives
 pub mod Limited
 pub mod Nesting
 pub mod Reads

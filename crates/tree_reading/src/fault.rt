@@ -2,7 +2,7 @@
 
 ghost use Rattle.std.specs.Prelude.{◌≡◌, length};
 ghost use Rattle.tree_reading.specs.declared.fault.ReadFault.TheVariants as fault;
-ghost use Rattle.tree_reading.specs.Answers.{Answers};
+ghost use Rattle.tree_reading.specs.Gives.{Gives};
 ghost use Rattle.tree_reading.specs.Nesting.{sure};
 
 use csp_base::NoMemory;
@@ -65,7 +65,7 @@ pub fn stopped(tokens: &[Token]) -> ReadFault
 
 /// Stops the reading in front of the tokens unless the test holds.
 pub fn expect_true(holds: bool, tokens: &[Token]) -> Result<(), ReadFault>
-    ensures { Answers result (λ _. tt) (λ _. sure holds) }
+    ensures { Gives result (λ _. tt) (sure holds) }
 {
     if holds { Ok(()) } else { Err(stopped(tokens)) }
 }

@@ -2,7 +2,7 @@
 
 ghost use Rattle.std.specs.Prelude.{nat_le, ◌≡◌};
 ghost use Rattle.csp_text.specs.Depth.{tree_depth};
-ghost use Rattle.tree_reading.specs.Answers.{Answers};
+ghost use Rattle.tree_reading.specs.Gives.{Gives};
 ghost use Rattle.tree_reading.specs.Nesting.{around, bracketed, inside, opened};
 
 use crate::fault::{ReadFault, stopped};
@@ -20,7 +20,7 @@ pub struct Limits {
 impl Limits {
     /// The limits below one more bracket, where one stands in front of the tokens.
     pub fn bracketed(self, tokens: &[Token]) -> Result<Limits, ReadFault>
-        ensures { Answers result (λ inner. inner) (λ _. bracketed self) }
+        ensures { Gives result (λ inner. inner) (bracketed self) }
     {
         match self.brackets.checked_sub(1) {
             Some(brackets) => Ok(Limits {
@@ -33,7 +33,7 @@ impl Limits {
 
     /// The limits of the parts of a node, in front of the tokens.
     pub fn inside(self, tokens: &[Token]) -> Result<Limits, ReadFault>
-        ensures { Answers result (λ inner. inner) (λ _. inside self) }
+        ensures { Gives result (λ inner. inner) (inside self) }
     {
         match self.depth.checked_sub(1) {
             Some(depth) => Ok(Limits {
@@ -46,7 +46,7 @@ impl Limits {
 
     /// The limits of the parts of a node that opens a bracket, in front of the tokens.
     pub fn opened(self, tokens: &[Token]) -> Result<Limits, ReadFault>
-        ensures { Answers result (λ inner. inner) (λ _. opened self) }
+        ensures { Gives result (λ inner. inner) (opened self) }
     {
         let below = self.bracketed(tokens)?;
         below.inside(tokens)
@@ -61,7 +61,7 @@ impl Limits {
 
     /// The limits of the parts of a node with this tree as its first part, in front of the tokens.
     pub fn around(self, tree: &Tree, tokens: &[Token]) -> Result<Limits, ReadFault>
-        ensures { Answers result (λ inner. inner) (λ _. around self tree.now) }
+        ensures { Gives result (λ inner. inner) (around self tree.now) }
     {
         let inner = self.inside(tokens)?;
         if inner.has_room(tree) {

@@ -4,7 +4,7 @@ ghost use Rattle.std.specs.Prelude.{◌≡◌, ◌≤◌, ◌<◌, suc, length, 
 ghost use Rattle.std.specs.Option.{option_copied};
 ghost use Rattle.csp_grammar.specs.Reader.{begins_event};
 ghost use Rattle.csp_grammar.specs.Tokens.{begins, binding, skip, skip_word};
-ghost use Rattle.tree_reading.specs.Answers.{Answers};
+ghost use Rattle.tree_reading.specs.Gives.{Gives};
 ghost use Rattle.tree_reading.specs.Bindings.{left_operand};
 ghost use Rattle.tree_reading.specs.Starts.{atom_start, chain_symbol, first_chain, form_start, is_symbol_token, is_word_token, may_follow, named, other_start, prefix_start, sign_behind, sign_binding, symbol_sign, token_sign, token_start, symbol_start, word_sign, word_start};
 
@@ -108,7 +108,7 @@ pub fn skip_word(tokens: &[Token], word: Word) -> Option<&[Token]>
 
 /// What follows the symbol at the front, which has to stand there.
 pub fn expect(tokens: &[Token], symbol: Symbol) -> Result<&[Token], ReadFault>
-    ensures same { Answers result (λ rest. rest.now) (λ _. skip symbol tokens.now) }
+    ensures same { Gives result (λ rest. rest.now) (skip symbol tokens.now) }
     ensures shorter { IfOk result (λ rest. length rest.now < length tokens.now) }
 {
     match skip(tokens, symbol) {
@@ -119,7 +119,7 @@ pub fn expect(tokens: &[Token], symbol: Symbol) -> Result<&[Token], ReadFault>
 
 /// What follows the word at the front, which has to stand there.
 pub fn expect_word(tokens: &[Token], word: Word) -> Result<&[Token], ReadFault>
-    ensures same { Answers result (λ rest. rest.now) (λ _. skip_word word tokens.now) }
+    ensures same { Gives result (λ rest. rest.now) (skip_word word tokens.now) }
     ensures shorter { IfOk result (λ rest. length rest.now < length tokens.now) }
 {
     match skip_word(tokens, word) {
@@ -141,7 +141,7 @@ pub fn named(tokens: &[Token]) -> Option<(&Name, &[Token])>
 
 /// A copy of the name at the front, which has to stand there, and what follows it.
 pub fn expect_name(alloc: Global, tokens: &[Token]) -> Result<(Name, &[Token]), ReadFault>
-    ensures same { Answers result (λ found. (found.0, found.1.now)) (λ _. named tokens.now) }
+    ensures same { Gives result (λ found. (found.0, found.1.now)) (named tokens.now) }
     ensures shorter { IfOk result (λ found. length found.1.now < length tokens.now) }
 {
     match named(tokens) {
@@ -329,7 +329,7 @@ fn token_start(token: &Token) -> Option<AtomStart>
 
 /// What an atom that begins with no name begins with, and what follows that.
 fn other_start(tokens: &[Token]) -> Result<(AtomStart, &[Token]), ReadFault>
-    ensures same { Answers result (λ found. (found.0, found.1.now)) (λ _. other_start tokens.now) }
+    ensures same { Gives result (λ found. (found.0, found.1.now)) (other_start tokens.now) }
     ensures shorter { IfOk result (λ found. length found.1.now < length tokens.now) }
 {
     let Some((first, rest)) = tokens.split_first() else {
@@ -343,7 +343,7 @@ fn other_start(tokens: &[Token]) -> Result<(AtomStart, &[Token]), ReadFault>
 
 /// What an atom begins with, and what follows that.
 pub fn atom_start(alloc: Global, tokens: &[Token]) -> Result<(AtomStart, &[Token]), ReadFault>
-    ensures same { Answers result (λ found. (found.0, found.1.now)) (λ _. atom_start tokens.now) }
+    ensures same { Gives result (λ found. (found.0, found.1.now)) (atom_start tokens.now) }
     ensures shorter { IfOk result (λ found. length found.1.now < length tokens.now) }
 {
     let Some((name, rest)) = named(tokens) else {

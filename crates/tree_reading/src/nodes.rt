@@ -4,7 +4,7 @@ ghost use Rattle.std.specs.Prelude.{◌≡◌, IfOk};
 ghost use Rattle.csp_text.specs.declared.tree.Tree.TheVariants as tree;
 ghost use Rattle.csp_grammar.specs.Grammar.{choice_of, event_tree};
 ghost use Rattle.csp_grammar.specs.Reader.{dotted_tree, only};
-ghost use Rattle.tree_reading.specs.Answers.{Answers};
+ghost use Rattle.tree_reading.specs.Gives.{Gives};
 ghost use Rattle.tree_reading.specs.Starts.{choice, dot_field, dot_fields, dotted_fields, each_tree};
 
 use crate::fault::{ReadFault, stopped};
@@ -137,7 +137,7 @@ pub fn renamed(
 
 /// The dotted event of a name and its fields, of which there has to be one.
 pub fn expect_fields(name: Name, fields: Items<Tree>, tokens: &[Token]) -> Result<Tree, ReadFault>
-    ensures { Answers result (λ t. t) (λ _. dotted_tree name fields) }
+    ensures { Gives result (λ t. t) (dotted_tree name fields) }
 {
     if fields.is_empty() {
         return Err(stopped(tokens));
@@ -191,7 +191,7 @@ pub fn parallel(alloc: Global, p: Tree, a: Tree, b: Tree, q: Tree) -> Result<Tre
 
 /// The one item of a list, which has to have no other.
 pub fn expect_only(items: Items<Tree>, tokens: &[Token]) -> Result<Tree, ReadFault>
-    ensures { Answers result (λ t. t) (λ _. only items) }
+    ensures { Gives result (λ t. t) (only items) }
 {
     let mut items = items;
     let Some(last) = items.pop() else {
@@ -221,7 +221,7 @@ fn expect_dots(
     fields: Items<FieldTree>,
     tokens: &[Token],
 ) -> Result<Items<Tree>, ReadFault>
-    ensures { Answers result (λ trees. trees) (λ _. dot_fields fields) }
+    ensures { Gives result (λ trees. trees) (dot_fields fields) }
 {
     let mut trees = Items::new(alloc);
     for field in fields.into_vec() {
@@ -240,7 +240,7 @@ pub fn expect_dotted(
     fields: Items<FieldTree>,
     tokens: &[Token],
 ) -> Result<Tree, ReadFault>
-    ensures { Answers result (λ t. t) (λ _. dotted_fields name fields) }
+    ensures { Gives result (λ t. t) (dotted_fields name fields) }
 {
     let trees = expect_dots(alloc, fields, tokens)?;
     expect_fields(name, trees, tokens)

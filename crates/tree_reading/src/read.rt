@@ -1,7 +1,7 @@
 //! What was read from the front of tokens.
 
 ghost use Rattle.std.specs.Prelude.{◌≡◌};
-ghost use Rattle.tree_reading.specs.Answers.{Answers};
+ghost use Rattle.tree_reading.specs.Gives.{Gives};
 ghost use Rattle.tree_reading.specs.Bindings.{at_least, last_item, left_operand, number, of_process, tighter};
 ghost use Rattle.tree_reading.specs.Nesting.{sure};
 
@@ -122,7 +122,7 @@ impl Binding {
 
     /// Stops the reading in front of the tokens unless this is bound as tightly as the other.
     pub fn expect(self, least: Binding, tokens: &[Token]) -> Result<(), ReadFault>
-        ensures { Answers result (λ _. tt) (λ _. sure (at_least least self)) }
+        ensures { Gives result (λ _. tt) (sure (at_least least self)) }
     {
         if self.is_at_least(least) {
             Ok(())
