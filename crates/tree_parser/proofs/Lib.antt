@@ -1,0 +1,8 @@
+pub mod Answering
+pub mod Combining
+pub mod Faults
+pub mod ListSteps
+pub mod ProcessSteps
+pub mod Steps
+pub mod Then
+pub mod Turns

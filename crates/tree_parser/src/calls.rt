@@ -1,0 +1,62 @@
+//! The calls of the parser.
+
+ghost use Rattle.std.specs.Prelude.{◌≤◌, ◌<◌, length, IfOk};
+ghost use Rattle.csp_text.specs.Depth.{tree_depth};
+ghost use Rattle.tree_reading.specs.Answers.{IfNoText};
+ghost use Rattle.tree_reading.specs.Reads.{Reads, Refuses};
+
+use crate::form::Form;
+use crate::reading::read;
+use csp_text::{Token, Tree};
+use std::alloc::Global;
+use tree_reading::fault::ReadFault;
+use tree_reading::limits::Limits;
+use tree_reading::read::Read;
+
+/// The tree at the front of the tokens, within the limits.
+pub fn tree<'t>(
+    alloc: Global,
+    limits: Limits,
+    tokens: &'t [Token],
+) -> Result<Read<'t, Tree>, ReadFault>
+    // What is read is what the grammar's reader gives,
+    ensures read { IfOk result (λ r. Reads (λ R. R.tree limits.brackets tokens.now) (r.part, r.rest.now)) }
+
+    // and within the limit of depth.
+    ensures depth { IfOk result (λ r. tree_depth r.part ≤ limits.depth) }
+
+    // The fault that no text is there comes only where the reader gives nothing within the limit.
+    ensures none { IfNoText result (Refuses (λ R. R.tree limits.brackets tokens.now) (λ p. tree_depth p.0 ≤ limits.depth)) }
+
+    ensures shorter { IfOk result (λ r. length r.rest.now < length tokens.now) }
+{
+    let found = read(alloc, Form::Tree, limits, tokens)?;
+    Ok(Read {
+        part: found.part,
+        rest: found.rest,
+    })
+}
+
+/// The atom at the front of the tokens, within the limits.
+pub fn atom<'t>(
+    alloc: Global,
+    limits: Limits,
+    tokens: &'t [Token],
+) -> Result<Read<'t, Tree>, ReadFault>
+    // What is read is what the grammar's reader gives,
+    ensures read { IfOk result (λ r. Reads (λ R. R.atom limits.brackets tokens.now) (r.part, r.rest.now)) }
+
+    // and within the limit of depth.
+    ensures depth { IfOk result (λ r. tree_depth r.part ≤ limits.depth) }
+
+    // The fault that no text is there comes only where the reader gives nothing within the limit.
+    ensures none { IfNoText result (Refuses (λ R. R.atom limits.brackets tokens.now) (λ p. tree_depth p.0 ≤ limits.depth)) }
+
+    ensures shorter { IfOk result (λ r. length r.rest.now < length tokens.now) }
+{
+    let found = read(alloc, Form::Atom, limits, tokens)?;
+    Ok(Read {
+        part: found.part,
+        rest: found.rest,
+    })
+}
