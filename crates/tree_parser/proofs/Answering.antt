@@ -15,12 +15,12 @@ use Rattle.tree_reading.specs.declared.limits.Limits.{Limits}
 use Rattle.tree_reading.specs.declared.read.Binding.{Binding}
 use Rattle.tree_reading.proofs.Exactness.{read_atoms, read_trees, refused_atoms, refused_trees}
 use Rattle.tree_parser.specs.Meaning.{FormGives, bound}
-use Rattle.tree_parser.specs.Moved.{FoundTree}
+use Rattle.tree_steps.specs.Moved.{FoundTree}
 use Rattle.tree_parser.specs.Stack.{Answered, whole}
 use Rattle.tree_parser.specs.Then.{Then}
 use Rattle.tree_parser.specs.Then.Then.{nothing, something}
-use Rattle.tree_parser.specs.declared.form.Form.{Form}
-use Rattle.tree_parser.specs.declared.form.Form.TheVariants as form
+use Rattle.tree_steps.specs.declared.form.Form.{Form}
+use Rattle.tree_steps.specs.declared.form.Form.TheVariants as form
 
 no_some : {A : Type 0} {a : A} → ◌≡◌ {A = Option A} (Some a) None → ⊥
 no_some e = cc
@@ -36,18 +36,19 @@ unsettled : (F : Limited → Option (Tree × List Token)) (k : Binding) → Then
 unsettled F k (nothing h e) = h
 unsettled F k (something q h e) = absurd (no_some (sym e))
 
-module _ (l : Limits) (ts : List Token) (r : FoundTree) where
-  pub tree_is_read : FormGives form.Tree l ts whole (Some r) → Reads (λ R. R.tree l.brackets ts) (r.1, r.2)
-  tree_is_read h = (read_trees l ts r.1 r.2 (settled (λ L. L.tree l ts) _ r h)).0
+-- t is the tree that was found, out of its box
+module _ (l : Limits) (ts : List Token) (r : FoundTree) (t : Tree) (is : t ≡ r.1) where
+  pub tree_is_read : FormGives form.Tree l ts whole (Some r) → Reads (λ R. R.tree l.brackets ts) (t, r.2)
+  tree_is_read h = subst (λ x. Reads (λ R. R.tree l.brackets ts) (x, r.2)) (sym is) (read_trees l ts r.1 r.2 (settled (λ L. L.tree l ts) _ r h)).0
 
-  pub tree_is_within : FormGives form.Tree l ts whole (Some r) → tree_depth r.1 ≤ l.depth
-  tree_is_within h = (read_trees l ts r.1 r.2 (settled (λ L. L.tree l ts) _ r h)).1
+  pub tree_is_within : FormGives form.Tree l ts whole (Some r) → tree_depth t ≤ l.depth
+  tree_is_within h = subst (λ x. tree_depth x ≤ l.depth) (sym is) (read_trees l ts r.1 r.2 (settled (λ L. L.tree l ts) _ r h)).1
 
-  pub atom_is_read : FormGives form.Atom l ts whole (Some r) → Reads (λ R. R.atom l.brackets ts) (r.1, r.2)
-  atom_is_read h = (read_atoms l ts r.1 r.2 (settled (λ L. L.atom l ts) _ r h)).0
+  pub atom_is_read : FormGives form.Atom l ts whole (Some r) → Reads (λ R. R.atom l.brackets ts) (t, r.2)
+  atom_is_read h = subst (λ x. Reads (λ R. R.atom l.brackets ts) (x, r.2)) (sym is) (read_atoms l ts r.1 r.2 (settled (λ L. L.atom l ts) _ r h)).0
 
-  pub atom_is_within : FormGives form.Atom l ts whole (Some r) → tree_depth r.1 ≤ l.depth
-  atom_is_within h = (read_atoms l ts r.1 r.2 (settled (λ L. L.atom l ts) _ r h)).1
+  pub atom_is_within : FormGives form.Atom l ts whole (Some r) → tree_depth t ≤ l.depth
+  atom_is_within h = subst (λ x. tree_depth x ≤ l.depth) (sym is) (read_atoms l ts r.1 r.2 (settled (λ L. L.atom l ts) _ r h)).1
 
 no_text : {A : Type 0} (B : Type 0) (f : ReadFault) (seen : A → FoundTree) (g : Form) (l : Limits) (ts : List Token) (P : Type 0) → Answered (Err f) seen g l ts →
     (FormGives g l ts whole None → P) → IfNoText {A = B} (Err f) P

@@ -1,6 +1,5 @@
 pub mod Answering
 pub mod Combining
-pub mod Faults
 pub mod ListSteps
 pub mod ProcessSteps
 pub mod Steps

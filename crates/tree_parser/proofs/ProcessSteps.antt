@@ -16,22 +16,22 @@ use Rattle.tree_reading.specs.Starts.{chain_symbol, choice, dotted_fields, first
 use Rattle.tree_reading.specs.declared.limits.Limits.{Limits}
 use Rattle.tree_reading.specs.declared.look.Chain.{Chain}
 use Rattle.tree_reading.specs.declared.read.Binding.TheVariants as binding
-use Rattle.tree_parser.specs.declared.frame.ProcessFrame.{ProcessFrame}
-use Rattle.tree_parser.specs.declared.frame.ProcessFrame.TheVariants as process
-use Rattle.tree_parser.specs.declared.frame.Replication.{Replication}
-use Rattle.tree_parser.specs.declared.frame.Replication.TheVariants as replication
-use Rattle.tree_parser.specs.declared.frame.ReplicatedFrame.{ReplicatedFrame}
-use Rattle.tree_parser.specs.declared.frame.ReplicatedFrame.TheVariants as replicated
-use Rattle.tree_parser.specs.declared.frame.EventFrame.{EventFrame}
-use Rattle.tree_parser.specs.declared.frame.EventFrame.TheVariants as event
-use Rattle.tree_parser.specs.Moved.{FoundTree}
+use Rattle.tree_steps.specs.declared.frame.ProcessFrame.{ProcessFrame}
+use Rattle.tree_steps.specs.declared.frame.ProcessFrame.TheVariants as process
+use Rattle.tree_steps.specs.declared.frame.Replication.{Replication}
+use Rattle.tree_steps.specs.declared.frame.Replication.TheVariants as replication
+use Rattle.tree_steps.specs.declared.frame.ReplicatedFrame.{ReplicatedFrame}
+use Rattle.tree_steps.specs.declared.frame.ReplicatedFrame.TheVariants as replicated
+use Rattle.tree_steps.specs.declared.frame.EventFrame.{EventFrame}
+use Rattle.tree_steps.specs.declared.frame.EventFrame.TheVariants as event
+use Rattle.tree_steps.specs.Moved.{FoundTree}
 use Rattle.tree_parser.proofs.Combining.{by_case, by_found, by_look, split}
 use Rattle.tree_parser.specs.Then.{Outcome, Then}
 use Rattle.tree_parser.proofs.Then.{assoc, change, done, later, put}
-use Rattle.tree_parser.specs.Events.{move_event, move_fields, move_input, resume_event}
-use Rattle.tree_parser.specs.Nesting.{operand_limits}
-use Rattle.tree_parser.specs.Processes.{move_hidden, move_operand, resume_process}
-use Rattle.tree_parser.specs.Replicated.{move_ranged, move_replicated, resume_replicated}
+use Rattle.tree_steps.specs.Events.{move_event, move_fields, move_input, resume_event}
+use Rattle.tree_steps.specs.Nesting.{operand_limits}
+use Rattle.tree_steps.specs.Processes.{move_hidden, move_operand, resume_process}
+use Rattle.tree_steps.specs.Replicated.{move_ranged, move_replicated, resume_replicated}
 use Rattle.tree_parser.proofs.ListSteps.{no_longer, one_longer}
 use Rattle.tree_parser.specs.Meaning.{EventEnd, EventGives, ProcessGives, ReplicatedGives, StepGives, operands_after, ranged}
 

@@ -18,22 +18,22 @@ use Rattle.tree_reading.specs.declared.look.PrefixStart.{PrefixStart}
 use Rattle.tree_reading.specs.declared.look.PrefixStart.TheVariants as opening
 use Rattle.tree_reading.specs.declared.read.Binding.{Binding}
 use Rattle.tree_reading.specs.declared.read.Binding.TheVariants as binding
-use Rattle.tree_parser.specs.declared.form.Form.{Form}
-use Rattle.tree_parser.specs.declared.form.Form.TheVariants as form
-use Rattle.tree_parser.specs.declared.frame.Frame.{Frame}
-use Rattle.tree_parser.specs.declared.frame.Frame.TheVariants as frame
-use Rattle.tree_parser.specs.declared.frame.Replication.TheVariants as replication
-use Rattle.tree_parser.specs.declared.frame.ExpressionFrame.{ExpressionFrame}
-use Rattle.tree_parser.specs.declared.frame.ExpressionFrame.TheVariants as expression
-use Rattle.tree_parser.specs.declared.frame.AtomFrame.{AtomFrame}
-use Rattle.tree_parser.specs.declared.frame.AtomFrame.TheVariants as atom
-use Rattle.tree_parser.specs.Moved.{FoundTree}
+use Rattle.tree_steps.specs.declared.form.Form.{Form}
+use Rattle.tree_steps.specs.declared.form.Form.TheVariants as form
+use Rattle.tree_steps.specs.declared.frame.Frame.{Frame}
+use Rattle.tree_steps.specs.declared.frame.Frame.TheVariants as frame
+use Rattle.tree_steps.specs.declared.frame.Replication.TheVariants as replication
+use Rattle.tree_steps.specs.declared.frame.ExpressionFrame.{ExpressionFrame}
+use Rattle.tree_steps.specs.declared.frame.ExpressionFrame.TheVariants as expression
+use Rattle.tree_steps.specs.declared.frame.AtomFrame.{AtomFrame}
+use Rattle.tree_steps.specs.declared.frame.AtomFrame.TheVariants as atom
+use Rattle.tree_steps.specs.Moved.{FoundTree}
 use Rattle.tree_parser.proofs.Combining.{by_case, by_look, by_opened, by_test}
 use Rattle.tree_parser.specs.Then.{Outcome, Then}
 use Rattle.tree_parser.proofs.Then.{assoc, change, done, later, put}
-use Rattle.tree_parser.specs.Atoms.{move_arguments, move_atom_rest, move_elements, resume_atom}
-use Rattle.tree_parser.specs.Expressions.{move_expression, resume_expression}
-use Rattle.tree_parser.specs.Machine.{begin, begin_item, begin_opened, resume}
+use Rattle.tree_steps.specs.Atoms.{move_arguments, move_atom_rest, move_elements, resume_atom}
+use Rattle.tree_steps.specs.Expressions.{move_expression, resume_expression}
+use Rattle.tree_steps.specs.Machine.{begin, begin_item, begin_opened, resume}
 use Rattle.tree_parser.proofs.ListSteps.{generators_step, list_resumed, one_longer, operators_step, part_step, product_read}
 use Rattle.tree_parser.proofs.ProcessSteps.{event_resumed, fields_step, process_resumed, replicated_resumed, replicated_step}
 use Rattle.tree_parser.specs.Meaning.{AtomGives, CallEnd, ExpressionGives, FormGives, FrameGives, SetEnd, StepGives, bound, items_after}

@@ -9,17 +9,17 @@ use Rattle.tree_reading.specs.declared.fault.ReadFault.TheVariants as fault
 use Rattle.csp_text.specs.declared.tree.Tree.{Tree}
 use Rattle.tree_reading.specs.declared.limits.Limits.{Limits}
 use Rattle.tree_reading.specs.declared.read.BoundRead.{BoundRead}
-use Rattle.tree_parser.specs.Machine.{begin, resume}
+use Rattle.tree_steps.specs.Machine.{begin, resume}
 use Rattle.tree_parser.specs.Meaning.{FormGives, FrameGives, MoveGives, StepGives}
-use Rattle.tree_parser.specs.Moved.{FoundTree, Moved, moved, seen, weight}
-use Rattle.tree_parser.specs.Moved.Moved.{found, inner, next}
+use Rattle.tree_steps.specs.Moved.{FoundTree, Moved, moved, seen, weight}
+use Rattle.tree_steps.specs.Moved.Moved.{found, inner, next}
 use Rattle.tree_parser.specs.Stack.{Answered, Turned, Waiting, reading_weight, stacked, whole}
 use Rattle.tree_parser.specs.Then.{Outcome}
-use Rattle.tree_parser.specs.declared.form.Form.{Form}
-use Rattle.tree_parser.specs.declared.frame.Frame.{Frame}
-use Rattle.tree_parser.specs.declared.step.Step.{Step}
-use Rattle.tree_parser.specs.declared.step.Turn.{Turn}
-use Rattle.tree_parser.specs.declared.step.Turn.TheVariants as turn
+use Rattle.tree_steps.specs.declared.form.Form.{Form}
+use Rattle.tree_steps.specs.declared.frame.Frame.{Frame}
+use Rattle.tree_steps.specs.declared.step.Step.{Step}
+use Rattle.tree_parser.specs.declared.turn.Turn.{Turn}
+use Rattle.tree_parser.specs.declared.turn.Turn.TheVariants as turn
 use Rattle.tree_parser.proofs.Steps.{begun, resumed}
 
 stacked_one : (frames : List Frame) (w : Frame) (K : FoundTree → Outcome → Type 0) (p : FoundTree) (s : Outcome) →

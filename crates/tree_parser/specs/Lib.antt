@@ -1,12 +1,3 @@
-pub mod Atoms
-pub mod Events
-pub mod Expressions
-pub mod Lists
-pub mod Machine
 pub mod Meaning
-pub mod Moved
-pub mod Nesting
-pub mod Processes
-pub mod Replicated
 pub mod Stack
 pub mod Then

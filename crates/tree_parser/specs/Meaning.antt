@@ -20,32 +20,32 @@ use Rattle.tree_reading.specs.declared.limits.Limits.{Limits}
 use Rattle.tree_reading.specs.declared.look.Chain.{Chain}
 use Rattle.tree_reading.specs.declared.read.Binding.{Binding}
 use Rattle.tree_reading.specs.declared.read.Binding.TheVariants as binding
-use Rattle.tree_parser.specs.Events.{field_of, may_dot_after}
-use Rattle.tree_parser.specs.Moved.{Moved, FoundTree}
-use Rattle.tree_parser.specs.Moved.Moved.{found, inner, next}
-use Rattle.tree_parser.specs.declared.form.Form.{Form}
-use Rattle.tree_parser.specs.declared.form.Form.TheVariants as form
-use Rattle.tree_parser.specs.declared.form.GeneratorsOf.{GeneratorsOf}
-use Rattle.tree_parser.specs.declared.form.GeneratorsOf.TheVariants as generators_of
-use Rattle.tree_parser.specs.declared.form.PartOf.{PartOf}
-use Rattle.tree_parser.specs.declared.form.PartOf.TheVariants as part_of
-use Rattle.tree_parser.specs.declared.form.Renaming.{Renaming}
-use Rattle.tree_parser.specs.declared.frame.Frame.{Frame}
-use Rattle.tree_parser.specs.declared.frame.Frame.TheVariants as frame
-use Rattle.tree_parser.specs.declared.frame.ProcessFrame.{ProcessFrame}
-use Rattle.tree_parser.specs.declared.frame.ProcessFrame.TheVariants as process
-use Rattle.tree_parser.specs.declared.frame.Replication.{Replication}
-use Rattle.tree_parser.specs.declared.frame.Replication.TheVariants as replication
-use Rattle.tree_parser.specs.declared.frame.ReplicatedFrame.{ReplicatedFrame}
-use Rattle.tree_parser.specs.declared.frame.ReplicatedFrame.TheVariants as replicated
-use Rattle.tree_parser.specs.declared.frame.EventFrame.{EventFrame}
-use Rattle.tree_parser.specs.declared.frame.EventFrame.TheVariants as event
-use Rattle.tree_parser.specs.declared.frame.ExpressionFrame.{ExpressionFrame}
-use Rattle.tree_parser.specs.declared.frame.ExpressionFrame.TheVariants as expression
-use Rattle.tree_parser.specs.declared.frame.AtomFrame.{AtomFrame}
-use Rattle.tree_parser.specs.declared.frame.AtomFrame.TheVariants as atom
-use Rattle.tree_parser.specs.declared.frame.ListFrame.{ListFrame}
-use Rattle.tree_parser.specs.declared.frame.ListFrame.TheVariants as waiting
+use Rattle.tree_steps.specs.Events.{field_of, may_dot_after}
+use Rattle.tree_steps.specs.Moved.{Moved, FoundTree}
+use Rattle.tree_steps.specs.Moved.Moved.{found, inner, next}
+use Rattle.tree_steps.specs.declared.form.Form.{Form}
+use Rattle.tree_steps.specs.declared.form.Form.TheVariants as form
+use Rattle.tree_steps.specs.declared.form.GeneratorsOf.{GeneratorsOf}
+use Rattle.tree_steps.specs.declared.form.GeneratorsOf.TheVariants as generators_of
+use Rattle.tree_steps.specs.declared.form.PartOf.{PartOf}
+use Rattle.tree_steps.specs.declared.form.PartOf.TheVariants as part_of
+use Rattle.tree_steps.specs.declared.form.Renaming.{Renaming}
+use Rattle.tree_steps.specs.declared.frame.Frame.{Frame}
+use Rattle.tree_steps.specs.declared.frame.Frame.TheVariants as frame
+use Rattle.tree_steps.specs.declared.frame.ProcessFrame.{ProcessFrame}
+use Rattle.tree_steps.specs.declared.frame.ProcessFrame.TheVariants as process
+use Rattle.tree_steps.specs.declared.frame.Replication.{Replication}
+use Rattle.tree_steps.specs.declared.frame.Replication.TheVariants as replication
+use Rattle.tree_steps.specs.declared.frame.ReplicatedFrame.{ReplicatedFrame}
+use Rattle.tree_steps.specs.declared.frame.ReplicatedFrame.TheVariants as replicated
+use Rattle.tree_steps.specs.declared.frame.EventFrame.{EventFrame}
+use Rattle.tree_steps.specs.declared.frame.EventFrame.TheVariants as event
+use Rattle.tree_steps.specs.declared.frame.ExpressionFrame.{ExpressionFrame}
+use Rattle.tree_steps.specs.declared.frame.ExpressionFrame.TheVariants as expression
+use Rattle.tree_steps.specs.declared.frame.AtomFrame.{AtomFrame}
+use Rattle.tree_steps.specs.declared.frame.AtomFrame.TheVariants as atom
+use Rattle.tree_steps.specs.declared.frame.ListFrame.{ListFrame}
+use Rattle.tree_steps.specs.declared.frame.ListFrame.TheVariants as waiting
 use Rattle.tree_parser.specs.Then.{Outcome, Then}
 
 -- what follows a tree that is bound like this

@@ -5,12 +5,12 @@ use Rattle.tree_reading.specs.declared.fault.ReadFault.TheVariants as fault
 use Rattle.tree_reading.specs.declared.limits.Limits.{Limits}
 use Rattle.csp_text.specs.declared.token.Token.{Token}
 use Rattle.tree_parser.specs.Meaning.{FormGives, FrameGives, MoveGives}
-use Rattle.tree_parser.specs.Moved.{FoundTree, Moved, found_weight, moved, seen, weight}
+use Rattle.tree_steps.specs.Moved.{FoundTree, Moved, found_weight, moved, seen, weight}
 use Rattle.tree_parser.specs.Then.{Outcome}
-use Rattle.tree_parser.specs.declared.form.Form.{Form}
-use Rattle.tree_parser.specs.declared.frame.Frame.{Frame}
-use Rattle.tree_parser.specs.declared.step.Turn.{Turn}
-use Rattle.tree_parser.specs.declared.step.Turn.TheVariants as turn
+use Rattle.tree_steps.specs.declared.form.Form.{Form}
+use Rattle.tree_steps.specs.declared.frame.Frame.{Frame}
+use Rattle.tree_parser.specs.declared.turn.Turn.{Turn}
+use Rattle.tree_parser.specs.declared.turn.Turn.TheVariants as turn
 
 -- what follows the whole: it is the outcome
 abbrev pub whole : FoundTree → Outcome → Type 0

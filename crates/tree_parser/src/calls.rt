@@ -5,13 +5,13 @@ ghost use Rattle.csp_text.specs.Depth.{tree_depth};
 ghost use Rattle.tree_reading.specs.Answers.{IfNoText};
 ghost use Rattle.tree_reading.specs.Reads.{Reads, Refuses};
 
-use crate::form::Form;
 use crate::reading::read;
 use csp_text::{Token, Tree};
 use std::alloc::Global;
 use tree_reading::fault::ReadFault;
 use tree_reading::limits::Limits;
 use tree_reading::read::Read;
+use tree_steps::form::Form;
 
 /// The tree at the front of the tokens, within the limits.
 pub fn tree<'t>(
@@ -32,7 +32,7 @@ pub fn tree<'t>(
 {
     let found = read(alloc, Form::Tree, limits, tokens)?;
     Ok(Read {
-        part: found.part,
+        part: found.part.into_inner(),
         rest: found.rest,
     })
 }
@@ -56,7 +56,7 @@ pub fn atom<'t>(
 {
     let found = read(alloc, Form::Atom, limits, tokens)?;
     Ok(Read {
-        part: found.part,
+        part: found.part.into_inner(),
         rest: found.rest,
     })
 }

@@ -2,19 +2,9 @@
 //! own, so that the depth of a tree costs no stack of the program.
 #![tactic(auto)]
 
-mod atoms;
 mod calls;
-mod events;
-mod expressions;
-mod form;
-mod frame;
-mod lists;
-mod machine;
-mod nesting;
-mod processes;
 mod reading;
-mod replicated;
-mod step;
+mod turn;
 
 pub use calls::{atom, tree};
 pub use tree_reading::{Limits, Read, ReadFault};

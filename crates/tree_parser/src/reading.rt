@@ -1,27 +1,28 @@
 //! The reading of a form, step by step.
 
 ghost use Rattle.std.specs.Prelude.{◌≡◌, ◌+◌, ◌*◌, ◌<◌, length, IfOk};
-ghost use Rattle.tree_parser.specs.Moved.{found_weight, moved, pending_weight, seen};
-ghost use Rattle.tree_parser.specs.Moved.Moved.{found, inner, next};
+ghost use Rattle.tree_steps.specs.Moved.{found_weight, moved, pending_weight, seen};
+ghost use Rattle.tree_steps.specs.Moved.Moved.{found, inner, next};
 ghost use Rattle.tree_parser.specs.Stack.{Answered, Falls, Turned};
 
-use crate::form::Form;
-use crate::frame::Frame;
-use crate::machine::{begin, resume};
-use crate::step::{Step, Turn};
-use containers::Items;
+use crate::turn::Turn;
+use containers::{Boxed, Items};
 use csp_text::{Token, Tree};
 use std::alloc::Global;
 use tree_reading::fault::ReadFault;
 use tree_reading::limits::Limits;
 use tree_reading::read::{Binding, BoundRead};
+use tree_steps::form::Form;
+use tree_steps::frame::Frame;
+use tree_steps::machine::{begin, resume};
+use tree_steps::step::Step;
 
 /// The turn in which the last frame has its part, or the form ends where none waits.
 fn turn_back<'t>(
     alloc: Global,
     frames: &mut Items<Frame>,
     binding: Binding,
-    part: Tree,
+    part: Boxed<Tree>,
     rest: &'t [Token],
 ) -> Result<Turn<'t>, ReadFault>
     ensures turned { Turned result frames.new (found (binding, part, rest.now)) frames.old }
@@ -104,7 +105,7 @@ pub(crate) fn read<'t>(
     form: Form,
     limits: Limits,
     tokens: &'t [Token],
-) -> Result<BoundRead<'t, Tree>, ReadFault>
+) -> Result<BoundRead<'t, Boxed<Tree>>, ReadFault>
     ensures answered { Answered result seen form limits tokens.now }
     ensures falls { IfOk result (λ r. found_weight r.rest.now < pending_weight form tokens.now) }
 {

@@ -14,62 +14,93 @@ use csp_base::{Name, NoMemory};
 use csp_text::{BinOp, EventTree, FieldTree, GenTree, PartTree, SetOp, Token, Tree};
 use std::alloc::Global;
 
+/// A tree on the heap.
 fn boxed(alloc: Global, tree: Tree) -> Result<Boxed<Tree>, NoMemory>
-    ensures { IfOk result (λ boxed. boxed ≡ tree) }
+    ensures { IfOk result (λ t. t ≡ tree) }
 {
     let boxed = Boxed::new(alloc, tree)?;
     Ok(boxed)
 }
 
-fn boxed_pair(alloc: Global, a: Tree, b: Tree) -> Result<(Boxed<Tree>, Boxed<Tree>), NoMemory>
-    ensures { IfOk result (λ pair. (pair.0 ≡ a) × (pair.1 ≡ b)) }
-{
-    let a = boxed(alloc, a)?;
-    let b = boxed(alloc, b)?;
-    Ok((a, b))
-}
-
 /// `-a`
-pub fn negative(alloc: Global, a: Tree) -> Result<Tree, NoMemory>
+pub fn negative(alloc: Global, a: Boxed<Tree>) -> Result<Boxed<Tree>, NoMemory>
     ensures { IfOk result (λ t. t ≡ tree.Neg a) }
 {
-    let a = boxed(alloc, a)?;
-    Ok(Tree::Neg(a))
+    boxed(alloc, Tree::Neg(a))
 }
 
 /// `not a`
-pub fn complement(alloc: Global, a: Tree) -> Result<Tree, NoMemory>
+pub fn complement(alloc: Global, a: Boxed<Tree>) -> Result<Boxed<Tree>, NoMemory>
     ensures { IfOk result (λ t. t ≡ tree.Not a) }
 {
-    let a = boxed(alloc, a)?;
-    Ok(Tree::Not(a))
+    boxed(alloc, Tree::Not(a))
 }
 
 /// An operator between two operands.
-pub fn binary(alloc: Global, op: BinOp, a: Tree, b: Tree) -> Result<Tree, NoMemory>
+pub fn binary(
+    alloc: Global,
+    op: BinOp,
+    a: Boxed<Tree>,
+    b: Boxed<Tree>,
+) -> Result<Boxed<Tree>, NoMemory>
     ensures { IfOk result (λ t. t ≡ tree.Binary op a b) }
 {
-    let a = boxed(alloc, a)?;
-    let b = boxed(alloc, b)?;
-    Ok(Tree::Binary(op, a, b))
+    boxed(alloc, Tree::Binary(op, a, b))
 }
 
 /// `{a..b}`
-pub fn range(alloc: Global, a: Tree, b: Tree) -> Result<Tree, NoMemory>
+pub fn range(alloc: Global, a: Boxed<Tree>, b: Boxed<Tree>) -> Result<Boxed<Tree>, NoMemory>
     ensures { IfOk result (λ t. t ≡ tree.Range a b) }
 {
-    let a = boxed(alloc, a)?;
-    let b = boxed(alloc, b)?;
-    Ok(Tree::Range(a, b))
+    boxed(alloc, Tree::Range(a, b))
+}
+
+/// `{items}`
+pub fn display(alloc: Global, items: Items<Tree>) -> Result<Boxed<Tree>, NoMemory>
+    ensures { IfOk result (λ t. t ≡ tree.Display items) }
+{
+    boxed(alloc, Tree::Display(items))
+}
+
+/// `{items | gens}`
+pub fn comprehension(
+    alloc: Global,
+    items: Items<Tree>,
+    gens: Items<GenTree>,
+) -> Result<Boxed<Tree>, NoMemory>
+    ensures { IfOk result (λ t. t ≡ tree.Comp items gens) }
+{
+    boxed(alloc, Tree::Comp(items, gens))
+}
+
+/// `{| parts | gens |}`
+pub fn production(
+    alloc: Global,
+    parts: Items<PartTree>,
+    gens: Items<GenTree>,
+) -> Result<Boxed<Tree>, NoMemory>
+    ensures { IfOk result (λ t. t ≡ tree.Product parts gens) }
+{
+    boxed(alloc, Tree::Product(parts, gens))
+}
+
+/// `name(arguments)`
+pub fn call(alloc: Global, name: Name, arguments: Items<Tree>) -> Result<Boxed<Tree>, NoMemory>
+    ensures { IfOk result (λ t. t ≡ tree.Call name arguments) }
+{
+    boxed(alloc, Tree::Call(name, arguments))
 }
 
 /// `union(a, b)` and its kin.
-pub fn set_operation(alloc: Global, op: SetOp, a: Tree, b: Tree) -> Result<Tree, NoMemory>
+pub fn set_operation(
+    alloc: Global,
+    op: SetOp,
+    a: Boxed<Tree>,
+    b: Boxed<Tree>,
+) -> Result<Boxed<Tree>, NoMemory>
     ensures { IfOk result (λ t. t ≡ tree.SetOp op a b) }
 {
-    let a = boxed(alloc, a)?;
-    let b = boxed(alloc, b)?;
-    Ok(Tree::SetOp(op, a, b))
+    boxed(alloc, Tree::SetOp(op, a, b))
 }
 
 /// A prefix of a channel with fields before a process.
@@ -77,91 +108,97 @@ pub fn prefixed(
     alloc: Global,
     name: Name,
     fields: Items<FieldTree>,
-    p: Tree,
-) -> Result<Tree, NoMemory>
+    p: Boxed<Tree>,
+) -> Result<Boxed<Tree>, NoMemory>
     ensures { IfOk result (λ t. t ≡ tree.Prefix (event_tree name fields) p) }
 {
-    let p = boxed(alloc, p)?;
-    Ok(Tree::Prefix(EventTree { name, fields }, p))
+    boxed(alloc, Tree::Prefix(EventTree { name, fields }, p))
 }
 
 /// `a & p`
-pub fn guarded(alloc: Global, a: Tree, p: Tree) -> Result<Tree, NoMemory>
+pub fn guarded(alloc: Global, a: Boxed<Tree>, p: Boxed<Tree>) -> Result<Boxed<Tree>, NoMemory>
     ensures { IfOk result (λ t. t ≡ tree.Guard a p) }
 {
-    let a = boxed(alloc, a)?;
-    let p = boxed(alloc, p)?;
-    Ok(Tree::Guard(a, p))
+    boxed(alloc, Tree::Guard(a, p))
 }
 
 /// A chain of processes with the sign of a choice between them.
-pub fn chosen(chain: Chain, operands: Items<Tree>) -> Tree
-    ensures { result ≡ choice_of (choice chain) operands }
+pub fn chosen(alloc: Global, chain: Chain, operands: Items<Tree>) -> Result<Boxed<Tree>, NoMemory>
+    ensures { IfOk result (λ t. t ≡ choice_of (choice chain) operands) }
 {
     match chain {
-        Chain::External => Tree::External(operands),
-        Chain::Internal => Tree::Internal(operands),
+        Chain::External => boxed(alloc, Tree::External(operands)),
+        Chain::Internal => boxed(alloc, Tree::Internal(operands)),
     }
 }
 
 /// `p ; q`
-pub fn sequential(alloc: Global, p: Tree, q: Tree) -> Result<Tree, NoMemory>
+pub fn sequential(alloc: Global, p: Boxed<Tree>, q: Boxed<Tree>) -> Result<Boxed<Tree>, NoMemory>
     ensures { IfOk result (λ t. t ≡ tree.Seq p q) }
 {
-    let p = boxed(alloc, p)?;
-    let q = boxed(alloc, q)?;
-    Ok(Tree::Seq(p, q))
+    boxed(alloc, Tree::Seq(p, q))
 }
 
 /// `p \ a`
-pub fn hidden(alloc: Global, p: Tree, a: Tree) -> Result<Tree, NoMemory>
+pub fn hidden(alloc: Global, p: Boxed<Tree>, a: Boxed<Tree>) -> Result<Boxed<Tree>, NoMemory>
     ensures { IfOk result (λ t. t ≡ tree.Hide p a) }
 {
-    let p = boxed(alloc, p)?;
-    let a = boxed(alloc, a)?;
-    Ok(Tree::Hide(p, a))
+    boxed(alloc, Tree::Hide(p, a))
 }
 
 /// `p[[pairs | gens]]`
 pub fn renamed(
     alloc: Global,
-    p: Tree,
+    p: Boxed<Tree>,
     pairs: Items<(PartTree, PartTree)>,
     gens: Items<GenTree>,
-) -> Result<Tree, NoMemory>
+) -> Result<Boxed<Tree>, NoMemory>
     ensures { IfOk result (λ t. t ≡ tree.Rename p pairs gens) }
 {
-    let p = boxed(alloc, p)?;
-    Ok(Tree::Rename(p, pairs, gens))
+    boxed(alloc, Tree::Rename(p, pairs, gens))
 }
 
 /// The dotted event of a name and its fields, of which there has to be one.
-pub fn expect_fields(name: Name, fields: Items<Tree>, tokens: &[Token]) -> Result<Tree, ReadFault>
+pub fn expect_fields(
+    alloc: Global,
+    name: Name,
+    fields: Items<Tree>,
+    tokens: &[Token],
+) -> Result<Boxed<Tree>, ReadFault>
     ensures { Gives result (λ t. t) (dotted_tree name fields) }
 {
     if fields.is_empty() {
         return Err(stopped(tokens));
     }
-    Ok(Tree::Dot(name, fields))
+    let dotted = boxed(alloc, Tree::Dot(name, fields))?;
+    Ok(dotted)
 }
 
 /// `if a then p else q`
-pub fn conditional(alloc: Global, a: Tree, p: Tree, q: Tree) -> Result<Tree, NoMemory>
+pub fn conditional(
+    alloc: Global,
+    a: Boxed<Tree>,
+    p: Boxed<Tree>,
+    q: Boxed<Tree>,
+) -> Result<Boxed<Tree>, NoMemory>
     ensures { IfOk result (λ t. t ≡ tree.If a p q) }
 {
-    let a = boxed(alloc, a)?;
-    let (p, q) = boxed_pair(alloc, p, q)?;
-    Ok(Tree::If(a, p, q))
+    boxed(alloc, Tree::If(a, p, q))
 }
 
 /// A replicated choice.
-pub fn each(alloc: Global, chain: Chain, name: Name, set: Tree, p: Tree) -> Result<Tree, NoMemory>
+pub fn each(
+    alloc: Global,
+    chain: Chain,
+    name: Name,
+    set: Boxed<Tree>,
+    p: Boxed<Tree>,
+) -> Result<Boxed<Tree>, NoMemory>
     ensures { IfOk result (λ t. t ≡ each_tree chain name set p) }
 {
-    let (set, p) = boxed_pair(alloc, set, p)?;
     match chain {
-        Chain::External => Ok(Tree::EachExternal(name, set, p)),
-        Chain::Internal => Ok(Tree::EachInternal(name, set, p)),
+        Chain::External => boxed(alloc, Tree::EachExternal(name, set, p)),
+        Chain::Internal => boxed(alloc, Tree::EachInternal(name, set, p)),
     }
 }
 
@@ -169,34 +206,41 @@ pub fn each(alloc: Global, chain: Chain, name: Name, set: Tree, p: Tree) -> Resu
 pub fn each_parallel(
     alloc: Global,
     name: Name,
-    set: Tree,
-    alphabet: Tree,
-    p: Tree,
-) -> Result<Tree, NoMemory>
+    set: Boxed<Tree>,
+    alphabet: Boxed<Tree>,
+    p: Boxed<Tree>,
+) -> Result<Boxed<Tree>, NoMemory>
     ensures { IfOk result (λ t. t ≡ tree.EachParallel name set alphabet p) }
 {
-    let set = boxed(alloc, set)?;
-    let (alphabet, p) = boxed_pair(alloc, alphabet, p)?;
-    Ok(Tree::EachParallel(name, set, alphabet, p))
+    boxed(alloc, Tree::EachParallel(name, set, alphabet, p))
 }
 
 /// `p [a || b] q`
-pub fn parallel(alloc: Global, p: Tree, a: Tree, b: Tree, q: Tree) -> Result<Tree, NoMemory>
+pub fn parallel(
+    alloc: Global,
+    p: Boxed<Tree>,
+    a: Boxed<Tree>,
+    b: Boxed<Tree>,
+    q: Boxed<Tree>,
+) -> Result<Boxed<Tree>, NoMemory>
     ensures { IfOk result (λ t. t ≡ tree.Parallel p a b q) }
 {
-    let (p, a) = boxed_pair(alloc, p, a)?;
-    let (b, q) = boxed_pair(alloc, b, q)?;
-    Ok(Tree::Parallel(p, a, b, q))
+    boxed(alloc, Tree::Parallel(p, a, b, q))
 }
 
 /// The one item of a list, which has to have no other.
-pub fn expect_only(items: Items<Tree>, tokens: &[Token]) -> Result<Tree, ReadFault>
+pub fn expect_only(
+    alloc: Global,
+    items: Items<Tree>,
+    tokens: &[Token],
+) -> Result<Boxed<Tree>, ReadFault>
     ensures { Gives result (λ t. t) (only items) }
 {
     let mut items = items;
     let Some(last) = items.pop() else {
         return Err(stopped(tokens));
     };
+    let last = boxed(alloc, last)?;
     if items.is_empty() {
         Ok(last)
     } else {
@@ -239,9 +283,9 @@ pub fn expect_dotted(
     name: Name,
     fields: Items<FieldTree>,
     tokens: &[Token],
-) -> Result<Tree, ReadFault>
+) -> Result<Boxed<Tree>, ReadFault>
     ensures { Gives result (λ t. t) (dotted_fields name fields) }
 {
     let trees = expect_dots(alloc, fields, tokens)?;
-    expect_fields(name, trees, tokens)
+    expect_fields(alloc, name, trees, tokens)
 }

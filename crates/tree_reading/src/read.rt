@@ -7,8 +7,7 @@ ghost use Rattle.tree_reading.specs.Nesting.{sure};
 
 use crate::fault::{ReadFault, stopped};
 use containers::Items;
-use csp_base::Name;
-use csp_text::{FieldTree, Token, Tree};
+use csp_text::{Token, Tree};
 
 /// What was read, and what is left of the tokens.
 #[derive(Debug, Drop)]
@@ -26,39 +25,6 @@ pub struct BoundRead<'t, T> {
     pub binding: Binding,
     /// What was read.
     pub part: T,
-    /// The tokens behind it.
-    pub rest: &'t [Token],
-}
-
-/// What stands before the process of a replicated form.
-#[derive(Debug, Drop)]
-pub struct Binder<'t> {
-    /// The name.
-    pub name: Name,
-    /// The set that it ranges over.
-    pub set: Tree,
-    /// The tokens behind it.
-    pub rest: &'t [Token],
-}
-
-/// The alphabets of two processes in parallel.
-#[derive(Debug, Drop)]
-pub struct Alphabets<'t> {
-    /// That of the left process.
-    pub left: Tree,
-    /// That of the right process.
-    pub right: Tree,
-    /// The tokens behind them.
-    pub rest: &'t [Token],
-}
-
-/// A field of a prefix.
-#[derive(Debug, Drop)]
-pub struct Field<'t> {
-    /// The field.
-    pub part: FieldTree,
-    /// Whether a field with a dot may follow it.
-    pub may_dot: bool,
     /// The tokens behind it.
     pub rest: &'t [Token],
 }

@@ -1,0 +1,193 @@
+//! Events and what stands behind their arrows.
+
+ghost use Rattle.std.specs.Prelude.{◌≡◌, ◌+◌, ◌*◌, ◌<◌, length, IfOk};
+ghost use Rattle.csp_text.specs.declared.tree.Tree.TheVariants as tree;
+ghost use Rattle.csp_grammar.specs.Grammar.{event_tree};
+ghost use Rattle.tree_reading.specs.Gives.{Gives};
+ghost use Rattle.tree_steps.specs.Events.{field_of, may_dot_after, move_event, move_fields, move_input, move_named_input, resume_event, resume_field};
+ghost use Rattle.tree_steps.specs.Processes.{end_process};
+ghost use Rattle.tree_steps.specs.Moved.{moved, weight};
+
+use crate::form::Form;
+use crate::frame::{EventFrame, FieldKind, Frame};
+use crate::processes::ending;
+use crate::step::{Step, found, inner, next};
+use containers::{Boxed, Items};
+use csp_base::Name;
+use csp_text::{FieldTree, Symbol, Token, Tree};
+use std::alloc::Global;
+use tree_reading::fault::{ReadFault, expect_true};
+use tree_reading::limits::Limits;
+use tree_reading::look::{expect_name, skip};
+use tree_reading::nodes::{expect_dotted, prefixed};
+use tree_reading::read::Binding;
+
+/// What stands behind the name of an input. No field with a dot may follow it.
+fn named_input<'t>(
+    limits: Limits,
+    name: Name,
+    fields: Items<FieldTree>,
+    input: Name,
+    tokens: &'t [Token],
+) -> Result<Step<'t>, ReadFault>
+    ensures moves { Gives result moved (move_named_input limits name fields input tokens.now) }
+    ensures falls { IfOk result (λ s. weight (moved s) < 32 * length tokens.now + 66) }
+{
+    if let Some(behind) = skip(tokens, Symbol::Colon) {
+        let frame = EventFrame::Field(limits, name, fields, FieldKind::Input(input));
+        return Ok(inner(Frame::Event(frame), Form::Atom, limits, behind));
+    }
+    let mut fields = fields;
+    fields.push(FieldTree::Input(input, None))?;
+    let form = Form::Fields {
+        name,
+        fields,
+        may_dot: false,
+    };
+    Ok(next(form, limits, tokens))
+}
+
+/// What stands behind `?`.
+fn input<'t>(
+    alloc: Global,
+    limits: Limits,
+    name: Name,
+    fields: Items<FieldTree>,
+    tokens: &'t [Token],
+) -> Result<Step<'t>, ReadFault>
+    ensures moves { Gives result moved (move_input limits name fields tokens.now) }
+    ensures falls { IfOk result (λ s. weight (moved s) < 32 * length tokens.now + 34) }
+{
+    let (input, rest) = expect_name(alloc, tokens)?;
+    named_input(limits, name, fields, input, rest)
+}
+
+/// An event behind which no field follows: what stands behind its arrow, or a dotted event.
+fn event<'t>(
+    alloc: Global,
+    limits: Limits,
+    name: Name,
+    fields: Items<FieldTree>,
+    tokens: &'t [Token],
+) -> Result<Step<'t>, ReadFault>
+    ensures moves { Gives result moved (move_event limits name fields tokens.now) }
+    ensures falls { IfOk result (λ s. weight (moved s) < 32 * length tokens.now + 33) }
+{
+    if let Some(behind) = skip(tokens, Symbol::Arrow) {
+        let frame = EventFrame::Prefixed(name, fields);
+        return Ok(inner(Frame::Event(frame), Form::Prefix, limits, behind));
+    }
+    let part = expect_dotted(alloc, name, fields, tokens)?;
+    Ok(found(Binding::Dotted, part, tokens))
+}
+
+/// The rest of an event.
+pub(crate) fn fields<'t>(
+    alloc: Global,
+    limits: Limits,
+    name: Name,
+    fields: Items<FieldTree>,
+    may_dot: bool,
+    tokens: &'t [Token],
+) -> Result<Step<'t>, ReadFault>
+    ensures moves { Gives result moved (move_fields limits name fields may_dot tokens.now) }
+    ensures falls { IfOk result (λ s. weight (moved s) < 32 * length tokens.now + 33) }
+{
+    let value = Form::Expression(Binding::Sum);
+    if let Some(behind) = skip(tokens, Symbol::Dot) {
+        expect_true(may_dot, tokens)?;
+        let frame = EventFrame::Field(limits, name, fields, FieldKind::Dot);
+        return Ok(inner(Frame::Event(frame), value, limits, behind));
+    }
+    if let Some(behind) = skip(tokens, Symbol::Bang) {
+        let frame = EventFrame::Field(limits, name, fields, FieldKind::Output);
+        return Ok(inner(Frame::Event(frame), value, limits, behind));
+    }
+    if let Some(behind) = skip(tokens, Symbol::Question) {
+        return input(alloc, limits, name, fields, behind);
+    }
+    event(alloc, limits, name, fields, tokens)
+}
+
+/// The field of this kind with this tree.
+fn field_of(kind: FieldKind, tree: Tree) -> FieldTree
+    ensures { result ≡ field_of kind tree }
+{
+    match kind {
+        FieldKind::Dot => FieldTree::Dot(tree),
+        FieldKind::Output => FieldTree::Output(tree),
+        FieldKind::Input(name) => FieldTree::Input(name, Some(tree)),
+    }
+}
+
+impl FieldKind {
+    /// Whether a field with a dot may follow.
+    fn may_dot_after(&self) -> bool
+        ensures { result ≡ may_dot_after self.now }
+    {
+        match self {
+            FieldKind::Dot | FieldKind::Output => true,
+            FieldKind::Input(_) => false,
+        }
+    }
+}
+
+/// What stands behind the tree of a field.
+fn behind_field<'t>(
+    limits: Limits,
+    name: Name,
+    before: Items<FieldTree>,
+    kind: FieldKind,
+    part: Boxed<Tree>,
+    rest: &'t [Token],
+) -> Result<Step<'t>, ReadFault>
+    ensures moves { Gives result moved (resume_field limits name before kind part rest.now) }
+    ensures falls { IfOk result (λ s. weight (moved s) < 32 * length rest.now + 34) }
+{
+    let mut fields = before;
+    let may_dot = kind.may_dot_after();
+    fields.push(field_of(kind, part.into_inner()))?;
+    let form = Form::Fields {
+        name,
+        fields,
+        may_dot,
+    };
+    Ok(next(form, limits, rest))
+}
+
+/// A prefix with its process, which is bound like this.
+fn prefix_ended<'t>(
+    alloc: Global,
+    name: Name,
+    fields: Items<FieldTree>,
+    binding: Binding,
+    process: Boxed<Tree>,
+    rest: &'t [Token],
+) -> Result<Step<'t>, ReadFault>
+    ensures moves { Gives result moved (end_process (tree.Prefix (event_tree name fields) process) binding rest.now) }
+    ensures falls { IfOk result (λ s. weight (moved s) < 32 * length rest.now + 34) }
+{
+    let prefix = prefixed(alloc, name, fields, process)?;
+    ending(prefix, binding, rest)
+}
+
+/// An event that waits, with the part that it waits for, which is bound like this.
+pub(crate) fn resume_event<'t>(
+    alloc: Global,
+    frame: EventFrame,
+    binding: Binding,
+    part: Boxed<Tree>,
+    rest: &'t [Token],
+) -> Result<Step<'t>, ReadFault>
+    ensures moves { Gives result moved (resume_event frame (binding, part, rest.now)) }
+    ensures falls { IfOk result (λ s. weight (moved s) < 32 * length rest.now + 34) }
+{
+    match frame {
+        EventFrame::Field(limits, name, before, kind) => {
+            behind_field(limits, name, before, kind, part, rest)
+        }
+        EventFrame::Prefixed(name, fields) => {
+            prefix_ended(alloc, name, fields, binding, part, rest)
+        }
+    }
+}

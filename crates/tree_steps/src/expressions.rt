@@ -1,0 +1,235 @@
+//! Expressions: operators before and behind their operands.
+
+ghost use Rattle.std.specs.Prelude.{◌≡◌, ◌+◌, ◌*◌, ◌<◌, length, IfOk};
+ghost use Rattle.csp_text.specs.declared.tree.Tree.TheVariants as tree;
+ghost use Rattle.tree_reading.specs.Gives.{Gives};
+ghost use Rattle.tree_reading.specs.declared.read.Binding.TheVariants as bindings;
+ghost use Rattle.tree_steps.specs.declared.frame.Frame.TheVariants as frames;
+ghost use Rattle.tree_steps.specs.Expressions.{move_complement, move_expression, move_negative, move_operator, move_operators, move_renaming, move_sign, renaming_of, resume_expression};
+ghost use Rattle.tree_steps.specs.Moved.{moved, weight};
+ghost use Rattle.tree_steps.specs.Moved.Moved.{inner};
+
+use crate::form::{Form, PartOf, Renaming};
+use crate::frame::{ExpressionFrame, Frame};
+use crate::nesting::bracket_limits;
+use crate::step::{Step, found, inner, next};
+use containers::{Boxed, Items};
+use csp_text::{BinOp, Symbol, Token, Tree, Word};
+use std::alloc::Global;
+use tree_reading::fault::ReadFault;
+use tree_reading::limits::Limits;
+use tree_reading::look::{Sign, sign_behind, skip, skip_word};
+use tree_reading::nodes::{binary, complement, negative};
+use tree_reading::read::Binding;
+
+/// A part of an expression is to be read, while this waits.
+fn wait<'t>(frame: ExpressionFrame, form: Form, limits: Limits, tokens: &'t [Token]) -> Step<'t>
+    ensures { moved result ≡ inner (frames.Expression frame) form limits tokens.now }
+{
+    inner(Frame::Expression(frame), form, limits, tokens)
+}
+
+/// What stands behind `not`.
+fn complement_behind<'t>(
+    limits: Limits,
+    level: Binding,
+    tokens: &'t [Token],
+) -> Result<Step<'t>, ReadFault>
+    ensures moves { Gives result moved (move_complement limits level tokens.now) }
+    ensures falls { IfOk result (λ s. weight (moved s) < 32 * length tokens.now + 34) }
+{
+    Binding::Complement.expect(level, tokens)?;
+    let inside = limits.inside(tokens)?;
+    let frame = ExpressionFrame::Complement(limits, level);
+    Ok(wait(frame, Form::Expression(Binding::Complement), inside, tokens))
+}
+
+/// What stands behind `-` before an operand.
+fn negative_behind<'t>(
+    limits: Limits,
+    level: Binding,
+    tokens: &'t [Token],
+) -> Result<Step<'t>, ReadFault>
+    ensures moves { Gives result moved (move_negative limits level tokens.now) }
+    ensures falls { IfOk result (λ s. weight (moved s) < 32 * length tokens.now + 34) }
+{
+    Binding::Negative.expect(level, tokens)?;
+    let inside = limits.inside(tokens)?;
+    let frame = ExpressionFrame::Negative(limits, level);
+    Ok(wait(frame, Form::Expression(Binding::Negative), inside, tokens))
+}
+
+/// An expression whose operators outside brackets bind as tightly as the level, or tighter.
+pub(crate) fn expression<'t>(
+    limits: Limits,
+    level: Binding,
+    tokens: &'t [Token],
+) -> Result<Step<'t>, ReadFault>
+    ensures moves { Gives result moved (move_expression limits level tokens.now) }
+    ensures falls { IfOk result (λ s. weight (moved s) < 32 * length tokens.now + 4) }
+{
+    if let Some(behind) = skip_word(tokens, Word::Not) {
+        return complement_behind(limits, level, behind);
+    }
+    if let Some(behind) = skip(tokens, Symbol::Minus) {
+        return negative_behind(limits, level, behind);
+    }
+    let frame = ExpressionFrame::First(limits, level);
+    Ok(wait(frame, Form::Atom, limits, tokens))
+}
+
+/// What stands behind an operand and an operator.
+fn operator_passed<'t>(
+    limits: Limits,
+    level: Binding,
+    left: Boxed<Tree>,
+    op: BinOp,
+    binding: Binding,
+    tokens: &'t [Token],
+) -> Result<Step<'t>, ReadFault>
+    ensures moves { Gives result moved (move_operator limits level left op binding tokens.now) }
+    ensures falls { IfOk result (λ s. weight (moved s) < 32 * length tokens.now + 34) }
+{
+    let inside = limits.around(left.get(), tokens)?;
+    let frame = ExpressionFrame::Right(limits, level, op, binding, left);
+    let form = Form::Expression(binding.tighter());
+    Ok(wait(frame, form, inside, tokens))
+}
+
+/// What stands behind an operand and the bracket of a renaming.
+fn renaming_begun<'t>(
+    alloc: Global,
+    limits: Limits,
+    level: Binding,
+    left: Boxed<Tree>,
+    tokens: &'t [Token],
+) -> Result<Step<'t>, ReadFault>
+    ensures moves { Gives result moved (move_renaming limits level left tokens.now) }
+    ensures falls { IfOk result (λ s. weight (moved s) < 32 * length tokens.now + 34) }
+{
+    let pairs = bracket_limits(limits, left.get(), tokens)?;
+    let renaming = renaming_of(alloc, limits, level, left);
+    Ok(next(Form::Part(PartOf::Old(renaming)), pairs, tokens))
+}
+
+/// What stands behind an operand and a sign.
+fn sign_passed<'t>(
+    alloc: Global,
+    limits: Limits,
+    level: Binding,
+    left: Boxed<Tree>,
+    sign: Sign,
+    tokens: &'t [Token],
+) -> Result<Step<'t>, ReadFault>
+    ensures moves { Gives result moved (move_sign limits level left sign tokens.now) }
+    ensures falls { IfOk result (λ s. weight (moved s) < 32 * length tokens.now + 34) }
+{
+    match sign {
+        Sign::Operator(op, binding) => operator_passed(limits, level, left, op, binding, tokens),
+        Sign::Renaming => renaming_begun(alloc, limits, level, left, tokens),
+    }
+}
+
+/// A renaming of which no pair is read yet.
+fn renaming_of(alloc: Global, limits: Limits, level: Binding, left: Boxed<Tree>) -> Renaming
+    ensures { result ≡ renaming_of limits level left }
+{
+    Renaming {
+        limits,
+        level,
+        left,
+        pairs: Items::new(alloc),
+    }
+}
+
+/// What stands behind an operand that is bound like this.
+pub(crate) fn operators<'t>(
+    alloc: Global,
+    limits: Limits,
+    level: Binding,
+    binding: Binding,
+    left: Boxed<Tree>,
+    tokens: &'t [Token],
+) -> Result<Step<'t>, ReadFault>
+    ensures moves { Gives result moved (move_operators limits level binding left tokens.now) }
+    ensures falls { IfOk result (λ s. weight (moved s) < 32 * length tokens.now + 34) }
+{
+    match sign_behind(level, binding, tokens) {
+        Some((sign, behind)) => sign_passed(alloc, limits, level, left, sign, behind),
+        None => Ok(found(binding, left, tokens)),
+    }
+}
+
+/// `not` with its operand, and the operators behind it.
+fn complement_ended<'t>(
+    alloc: Global,
+    limits: Limits,
+    level: Binding,
+    part: Boxed<Tree>,
+    rest: &'t [Token],
+) -> Result<Step<'t>, ReadFault>
+    ensures moves { Gives result moved (move_operators limits level bindings.Complement (tree.Not part) rest.now) }
+    ensures falls { IfOk result (λ s. weight (moved s) < 32 * length rest.now + 34) }
+{
+    let whole = complement(alloc, part)?;
+    operators(alloc, limits, level, Binding::Complement, whole, rest)
+}
+
+/// `-` with its operand, and the operators behind it.
+fn negative_ended<'t>(
+    alloc: Global,
+    limits: Limits,
+    level: Binding,
+    part: Boxed<Tree>,
+    rest: &'t [Token],
+) -> Result<Step<'t>, ReadFault>
+    ensures moves { Gives result moved (move_operators limits level bindings.Negative (tree.Neg part) rest.now) }
+    ensures falls { IfOk result (λ s. weight (moved s) < 32 * length rest.now + 34) }
+{
+    let whole = negative(alloc, part)?;
+    operators(alloc, limits, level, Binding::Negative, whole, rest)
+}
+
+/// An operator with its operands, and the operators behind it.
+fn operator_ended<'t>(
+    alloc: Global,
+    whole: (Limits, Binding),
+    op: BinOp,
+    binding: Binding,
+    left: Boxed<Tree>,
+    right: Boxed<Tree>,
+    rest: &'t [Token],
+) -> Result<Step<'t>, ReadFault>
+    ensures moves { Gives result moved (move_operators whole.0 whole.1 binding (tree.Binary op left right) rest.now) }
+    ensures falls { IfOk result (λ s. weight (moved s) < 32 * length rest.now + 34) }
+{
+    let (limits, level) = whole;
+    let part = binary(alloc, op, left, right)?;
+    operators(alloc, limits, level, binding, part, rest)
+}
+
+/// An expression that waits, with the part that it waits for.
+pub(crate) fn resume_expression<'t>(
+    alloc: Global,
+    frame: ExpressionFrame,
+    part: Boxed<Tree>,
+    rest: &'t [Token],
+) -> Result<Step<'t>, ReadFault>
+    ensures moves { Gives result moved (resume_expression frame part rest.now) }
+    ensures falls { IfOk result (λ s. weight (moved s) < 32 * length rest.now + 34) }
+{
+    match frame {
+        ExpressionFrame::Complement(limits, level) => {
+            complement_ended(alloc, limits, level, part, rest)
+        }
+        ExpressionFrame::Negative(limits, level) => {
+            negative_ended(alloc, limits, level, part, rest)
+        }
+        ExpressionFrame::First(limits, level) => {
+            operators(alloc, limits, level, Binding::Atom, part, rest)
+        }
+        ExpressionFrame::Right(limits, level, op, binding, left) => {
+            operator_ended(alloc, (limits, level), op, binding, left, part, rest)
+        }
+    }
+}

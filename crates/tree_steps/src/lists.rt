@@ -1,0 +1,380 @@
+//! Parts, which are names with fields that have a dot, and generators.
+
+ghost use Rattle.std.specs.Prelude.{◌≡◌, ◌+◌, ◌*◌, ◌<◌, length, IfOk, [], ◌∷◌, ◌++◌};
+ghost use Rattle.tree_reading.specs.Gives.{Gives};
+ghost use Rattle.tree_steps.specs.declared.frame.Frame.TheVariants as frames;
+ghost use Rattle.tree_steps.specs.Lists.{close_renaming, end_comprehension, end_generators, end_item, end_old, end_pair, end_part, end_product, end_product_part, end_renaming, move_condition, move_conditions, move_dots, move_generator, move_generators, move_part, resume_list, with_pair};
+ghost use Rattle.tree_steps.specs.Moved.{moved, weight};
+ghost use Rattle.tree_steps.specs.Moved.Moved.{inner};
+
+use crate::expressions::operators;
+use crate::form::{Form, GeneratorsOf, PartOf, Renaming};
+use crate::frame::{Frame, ListFrame};
+use crate::step::{Step, found, inner, next};
+use containers::{Boxed, Items};
+use csp_base::{Name, NoMemory};
+use csp_text::{GenTree, PartTree, Symbol, Token, Tree};
+use std::alloc::Global;
+use tree_reading::fault::ReadFault;
+use tree_reading::limits::Limits;
+use tree_reading::look::{expect, expect_name, named, skip};
+use tree_reading::nodes::{comprehension, expect_fields, production, renamed};
+use tree_reading::read::Binding;
+
+/// A part of a list is to be read, while this waits.
+fn wait<'t>(frame: ListFrame, form: Form, limits: Limits, tokens: &'t [Token]) -> Step<'t>
+    ensures { moved result ≡ inner (frames.List frame) form limits tokens.now }
+{
+    inner(Frame::List(frame), form, limits, tokens)
+}
+
+/// A renaming with all its generators, whose bracket is passed, and the operators behind it.
+fn renaming_ended<'t>(
+    alloc: Global,
+    renaming: Renaming,
+    generators: Items<GenTree>,
+    tokens: &'t [Token],
+) -> Result<Step<'t>, ReadFault>
+    ensures moves { Gives result moved (end_renaming renaming generators tokens.now) }
+    ensures falls { IfOk result (λ s. weight (moved s) < 32 * length tokens.now + 34) }
+{
+    let Renaming {
+        limits,
+        level,
+        left,
+        pairs,
+    } = renaming;
+    let whole = renamed(alloc, left, pairs, generators)?;
+    operators(alloc, limits, level, Binding::Renaming, whole, tokens)
+}
+
+/// A comprehension with all its generators.
+fn comprehension_ended<'t>(
+    alloc: Global,
+    items: Items<Tree>,
+    generators: Items<GenTree>,
+    tokens: &'t [Token],
+) -> Result<Step<'t>, ReadFault>
+    ensures moves { Gives result moved (end_comprehension items generators tokens.now) }
+    ensures falls { IfOk result (λ s. weight (moved s) < 32 * length tokens.now + 33) }
+{
+    let rest = expect(tokens, Symbol::CloseBrace)?;
+    let part = comprehension(alloc, items, generators)?;
+    Ok(found(Binding::Atom, part, rest))
+}
+
+/// A production with all its generators.
+fn product_ended<'t>(
+    alloc: Global,
+    parts: Items<PartTree>,
+    generators: Items<GenTree>,
+    tokens: &'t [Token],
+) -> Result<Step<'t>, ReadFault>
+    ensures moves { Gives result moved (end_product parts generators tokens.now) }
+    ensures falls { IfOk result (λ s. weight (moved s) < 32 * length tokens.now + 33) }
+{
+    let rest = expect(tokens, Symbol::CloseProduct)?;
+    let part = production(alloc, parts, generators)?;
+    Ok(found(Binding::Atom, part, rest))
+}
+
+/// A renaming with all its generators.
+fn renaming_closed<'t>(
+    alloc: Global,
+    renaming: Renaming,
+    generators: Items<GenTree>,
+    tokens: &'t [Token],
+) -> Result<Step<'t>, ReadFault>
+    ensures moves { Gives result moved (close_renaming renaming generators tokens.now) }
+    ensures falls { IfOk result (λ s. weight (moved s) < 32 * length tokens.now + 33) }
+{
+    let rest = expect(tokens, Symbol::CloseRename)?;
+    renaming_ended(alloc, renaming, generators, rest)
+}
+
+/// What generators belong to, with all of them.
+fn generators_ended<'t>(
+    alloc: Global,
+    of: GeneratorsOf,
+    generators: Items<GenTree>,
+    tokens: &'t [Token],
+) -> Result<Step<'t>, ReadFault>
+    ensures moves { Gives result moved (end_generators of generators tokens.now) }
+    ensures falls { IfOk result (λ s. weight (moved s) < 32 * length tokens.now + 33) }
+{
+    match of {
+        GeneratorsOf::Comprehension(items) => comprehension_ended(alloc, items, generators, tokens),
+        GeneratorsOf::Product(parts) => product_ended(alloc, parts, generators, tokens),
+        GeneratorsOf::Renaming(renaming) => renaming_closed(alloc, renaming, generators, tokens),
+    }
+}
+
+/// What stands behind parts or pairs: generators, or none.
+fn conditions<'t>(
+    alloc: Global,
+    limits: Limits,
+    of: GeneratorsOf,
+    tokens: &'t [Token],
+) -> Result<Step<'t>, ReadFault>
+    ensures moves { Gives result moved (move_conditions limits of tokens.now) }
+    ensures falls { IfOk result (λ s. weight (moved s) < 32 * length tokens.now + 33) }
+{
+    let generators = Items::new(alloc);
+    match skip(tokens, Symbol::Bar) {
+        Some(behind) => Ok(next(Form::Generators { of, generators }, limits, behind)),
+        None => generators_ended(alloc, of, generators, tokens),
+    }
+}
+
+/// A generator or a condition, behind these generators.
+pub(crate) fn generators<'t>(
+    alloc: Global,
+    limits: Limits,
+    of: GeneratorsOf,
+    before: Items<GenTree>,
+    tokens: &'t [Token],
+) -> Result<Step<'t>, ReadFault>
+    ensures moves { Gives result moved (move_generators limits of before tokens.now) }
+    ensures falls { IfOk result (λ s. weight (moved s) < 32 * length tokens.now + 7) }
+{
+    let condition = Form::Expression(Binding::Disjunction);
+    let Some((name, arrow)) = named(tokens) else {
+        let frame = ListFrame::Condition(limits, of, before);
+        return Ok(wait(frame, condition, limits, tokens));
+    };
+    let Some(behind) = skip(arrow, Symbol::LeftArrow) else {
+        let frame = ListFrame::Condition(limits, of, before);
+        return Ok(wait(frame, condition, limits, tokens));
+    };
+    let name = name.try_clone(alloc)?;
+    let frame = ListFrame::Source(limits, of, before, name);
+    Ok(wait(frame, Form::Atom, limits, behind))
+}
+
+/// What stands behind these generators.
+fn behind_generator<'t>(
+    alloc: Global,
+    limits: Limits,
+    of: GeneratorsOf,
+    generators: Items<GenTree>,
+    tokens: &'t [Token],
+) -> Result<Step<'t>, ReadFault>
+    ensures moves { Gives result moved (move_generator limits of generators tokens.now) }
+    ensures falls { IfOk result (λ s. weight (moved s) < 32 * length tokens.now + 33) }
+{
+    match skip(tokens, Symbol::Comma) {
+        Some(behind) => Ok(next(Form::Generators { of, generators }, limits, behind)),
+        None => generators_ended(alloc, of, generators, tokens),
+    }
+}
+
+/// The renaming with one more pair.
+fn with_pair(renaming: Renaming, old: PartTree, new: PartTree) -> Result<Renaming, NoMemory>
+    ensures { IfOk result (λ r. r ≡ with_pair renaming old new) }
+{
+    let mut renaming = renaming;
+    renaming.pairs.push((old, new))?;
+    Ok(renaming)
+}
+
+/// What stands behind a part of a production.
+fn behind_product<'t>(
+    alloc: Global,
+    limits: Limits,
+    parts: Items<PartTree>,
+    part: PartTree,
+    tokens: &'t [Token],
+) -> Result<Step<'t>, ReadFault>
+    ensures moves { Gives result moved (end_product_part limits parts part tokens.now) }
+    ensures falls { IfOk result (λ s. weight (moved s) < 32 * length tokens.now + 33) }
+{
+    let mut parts = parts;
+    parts.push(part)?;
+    match skip(tokens, Symbol::Comma) {
+        Some(behind) => Ok(next(Form::Part(PartOf::Product(parts)), limits, behind)),
+        None => conditions(alloc, limits, GeneratorsOf::Product(parts), tokens),
+    }
+}
+
+/// What stands behind a pair of a renaming.
+fn behind_pair<'t>(
+    alloc: Global,
+    limits: Limits,
+    renaming: Renaming,
+    old: PartTree,
+    new: PartTree,
+    tokens: &'t [Token],
+) -> Result<Step<'t>, ReadFault>
+    ensures moves { Gives result moved (end_pair limits renaming old new tokens.now) }
+    ensures falls { IfOk result (λ s. weight (moved s) < 32 * length tokens.now + 33) }
+{
+    let renaming = with_pair(renaming, old, new)?;
+    match skip(tokens, Symbol::Comma) {
+        Some(behind) => Ok(next(Form::Part(PartOf::Old(renaming)), limits, behind)),
+        None => conditions(alloc, limits, GeneratorsOf::Renaming(renaming), tokens),
+    }
+}
+
+/// A dotted event.
+fn item_ended<'t>(
+    alloc: Global,
+    name: Name,
+    fields: Items<Tree>,
+    tokens: &'t [Token],
+) -> Result<Step<'t>, ReadFault>
+    ensures moves { Gives result moved (end_item name fields tokens.now) }
+    ensures falls { IfOk result (λ s. weight (moved s) < 32 * length tokens.now + 33) }
+{
+    let event = expect_fields(alloc, name, fields, tokens)?;
+    Ok(found(Binding::Dotted, event, tokens))
+}
+
+/// What stands behind the left side of a pair.
+fn behind_old<'t>(
+    limits: Limits,
+    renaming: Renaming,
+    old: PartTree,
+    tokens: &'t [Token],
+) -> Result<Step<'t>, ReadFault>
+    ensures moves { Gives result moved (end_old limits renaming old tokens.now) }
+    ensures falls { IfOk result (λ s. weight (moved s) < 32 * length tokens.now + 33) }
+{
+    let behind = expect(tokens, Symbol::LeftArrow)?;
+    Ok(next(Form::Part(PartOf::New(renaming, old)), limits, behind))
+}
+
+/// What a part belongs to, with it.
+fn part_ended<'t>(
+    alloc: Global,
+    limits: Limits,
+    of: PartOf,
+    name: Name,
+    fields: Items<Tree>,
+    tokens: &'t [Token],
+) -> Result<Step<'t>, ReadFault>
+    ensures moves { Gives result moved (end_part limits of name fields tokens.now) }
+    ensures falls { IfOk result (λ s. weight (moved s) < 32 * length tokens.now + 33) }
+{
+    match of {
+        PartOf::Item => item_ended(alloc, name, fields, tokens),
+        PartOf::Product(parts) => {
+            behind_product(alloc, limits, parts, PartTree { name, fields }, tokens)
+        }
+        PartOf::Old(renaming) => behind_old(limits, renaming, PartTree { name, fields }, tokens),
+        PartOf::New(renaming, old) => {
+            behind_pair(
+                alloc,
+                limits,
+                renaming,
+                old,
+                PartTree { name, fields },
+                tokens,
+            )
+        }
+    }
+}
+
+/// What stands behind the name of a part and these fields.
+fn dots<'t>(
+    alloc: Global,
+    limits: Limits,
+    of: PartOf,
+    name: Name,
+    fields: Items<Tree>,
+    tokens: &'t [Token],
+) -> Result<Step<'t>, ReadFault>
+    ensures moves { Gives result moved (move_dots limits of name fields tokens.now) }
+    ensures falls { IfOk result (λ s. weight (moved s) < 32 * length tokens.now + 33) }
+{
+    let Some(behind) = skip(tokens, Symbol::Dot) else {
+        return part_ended(alloc, limits, of, name, fields, tokens);
+    };
+    let frame = ListFrame::Dot(limits, of, name, fields);
+    Ok(wait(frame, Form::Expression(Binding::Sum), limits, behind))
+}
+
+/// A name with fields that have a dot.
+pub(crate) fn part<'t>(
+    alloc: Global,
+    limits: Limits,
+    of: PartOf,
+    tokens: &'t [Token],
+) -> Result<Step<'t>, ReadFault>
+    ensures moves { Gives result moved (move_part limits of tokens.now) }
+    ensures falls { IfOk result (λ s. weight (moved s) < 32 * length tokens.now + 1) }
+{
+    let (name, rest) = expect_name(alloc, tokens)?;
+    dots(alloc, limits, of, name, Items::new(alloc), rest)
+}
+
+/// What stands behind these fields of a part and the next one.
+fn behind_dot<'t>(
+    alloc: Global,
+    limits: Limits,
+    of: PartOf,
+    name: Name,
+    before: Items<Tree>,
+    field: Boxed<Tree>,
+    rest: &'t [Token],
+) -> Result<Step<'t>, ReadFault>
+    ensures moves { Gives result moved (move_dots limits of name (before ++ field ∷ []) rest.now) }
+    ensures falls { IfOk result (λ s. weight (moved s) < 32 * length rest.now + 34) }
+{
+    let mut fields = before;
+    fields.push(field.into_inner())?;
+    dots(alloc, limits, of, name, fields, rest)
+}
+
+/// What stands behind these generators and the next one.
+fn behind_next<'t>(
+    alloc: Global,
+    limits: Limits,
+    of: GeneratorsOf,
+    before: Items<GenTree>,
+    generator: GenTree,
+    rest: &'t [Token],
+) -> Result<Step<'t>, ReadFault>
+    ensures moves { Gives result moved (move_generator limits of (before ++ generator ∷ []) rest.now) }
+    ensures falls { IfOk result (λ s. weight (moved s) < 32 * length rest.now + 34) }
+{
+    let mut generators = before;
+    generators.push(generator)?;
+    behind_generator(alloc, limits, of, generators, rest)
+}
+
+/// A part or a generator that waits, with what it waits for.
+pub(crate) fn resume_list<'t>(
+    alloc: Global,
+    frame: ListFrame,
+    part: Boxed<Tree>,
+    rest: &'t [Token],
+) -> Result<Step<'t>, ReadFault>
+    ensures moves { Gives result moved (resume_list frame part rest.now) }
+    ensures falls { IfOk result (λ s. weight (moved s) < 32 * length rest.now + 34) }
+{
+    match frame {
+        ListFrame::Dot(limits, of, name, before) => {
+            behind_dot(alloc, limits, of, name, before, part, rest)
+        }
+        ListFrame::Source(limits, of, before, name) => {
+            behind_next(
+                alloc,
+                limits,
+                of,
+                before,
+                GenTree::From(name, part.into_inner()),
+                rest,
+            )
+        }
+        ListFrame::Condition(limits, of, before) => {
+            behind_next(
+                alloc,
+                limits,
+                of,
+                before,
+                GenTree::Cond(part.into_inner()),
+                rest,
+            )
+        }
+    }
+}

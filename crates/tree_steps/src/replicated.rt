@@ -1,0 +1,158 @@
+//! Replicated choices and parallels.
+
+ghost use Rattle.std.specs.Prelude.{◌≡◌, ◌+◌, ◌*◌, ◌<◌, length, IfOk};
+ghost use Rattle.tree_reading.specs.Gives.{Gives};
+ghost use Rattle.tree_steps.specs.declared.frame.Frame.TheVariants as frames;
+ghost use Rattle.tree_steps.specs.Replicated.{end_choice, end_parallel, move_ranged, move_replicated, resume_alphabet, resume_range, resume_replicated};
+ghost use Rattle.tree_steps.specs.Moved.{moved, weight};
+ghost use Rattle.tree_steps.specs.Moved.Moved.{inner};
+
+use crate::form::Form;
+use crate::frame::{Frame, ReplicatedFrame, Replication};
+use crate::step::{Step, found, inner};
+use containers::Boxed;
+use csp_base::Name;
+use csp_text::{Symbol, Token, Tree};
+use std::alloc::Global;
+use tree_reading::fault::ReadFault;
+use tree_reading::limits::Limits;
+use tree_reading::look::{Chain, expect, expect_name};
+use tree_reading::nodes::{each, each_parallel};
+use tree_reading::read::Binding;
+
+/// A part of a replicated form is to be read, while this waits.
+fn wait<'t>(frame: ReplicatedFrame, form: Form, limits: Limits, tokens: &'t [Token]) -> Step<'t>
+    ensures { moved result ≡ inner (frames.Replicated frame) form limits tokens.now }
+{
+    inner(Frame::Replicated(frame), form, limits, tokens)
+}
+
+/// What stands behind the sign of a replicated form.
+pub(crate) fn replicated<'t>(
+    alloc: Global,
+    limits: Limits,
+    replication: Replication,
+    tokens: &'t [Token],
+) -> Result<Step<'t>, ReadFault>
+    ensures moves { Gives result moved (move_replicated limits replication tokens.now) }
+    ensures falls { IfOk result (λ s. weight (moved s) < 32 * length tokens.now) }
+{
+    let (name, colon) = expect_name(alloc, tokens)?;
+    let behind = expect(colon, Symbol::Colon)?;
+    let frame = ReplicatedFrame::Range(limits, replication, name);
+    Ok(wait(frame, Form::Atom, limits, behind))
+}
+
+/// What stands behind the set of a replicated form and its `@`.
+fn ranged<'t>(
+    limits: Limits,
+    replication: Replication,
+    name: Name,
+    set: Boxed<Tree>,
+    tokens: &'t [Token],
+) -> Result<Step<'t>, ReadFault>
+    ensures moves { Gives result moved (move_ranged limits replication name set tokens.now) }
+    ensures falls { IfOk result (λ s. weight (moved s) < 32 * length tokens.now + 34) }
+{
+    match replication {
+        Replication::Choice(chain) => {
+            let frame = ReplicatedFrame::Chosen(chain, name, set);
+            Ok(wait(frame, Form::Tree, limits, tokens))
+        }
+        Replication::Parallel => {
+            let behind = expect(tokens, Symbol::OpenBracket)?;
+            let alphabet = limits.bracketed(behind)?;
+            let frame = ReplicatedFrame::Alphabet(limits, name, set);
+            Ok(wait(frame, Form::Atom, alphabet, behind))
+        }
+    }
+}
+
+/// What stands behind the set that the name of a replicated form ranges over.
+fn behind_range<'t>(
+    limits: Limits,
+    replication: Replication,
+    name: Name,
+    set: Boxed<Tree>,
+    tokens: &'t [Token],
+) -> Result<Step<'t>, ReadFault>
+    ensures moves { Gives result moved (resume_range limits replication name set tokens.now) }
+    ensures falls { IfOk result (λ s. weight (moved s) < 32 * length tokens.now + 34) }
+{
+    let behind = expect(tokens, Symbol::At)?;
+    ranged(limits, replication, name, set, behind)
+}
+
+/// A replicated choice with its process.
+fn choice_ended<'t>(
+    alloc: Global,
+    chain: Chain,
+    name: Name,
+    set: Boxed<Tree>,
+    process: Boxed<Tree>,
+    rest: &'t [Token],
+) -> Result<Step<'t>, ReadFault>
+    ensures moves { Gives result moved (end_choice chain name set process rest.now) }
+    ensures falls { IfOk result (λ s. weight (moved s) < 32 * length rest.now + 34) }
+{
+    let process = each(alloc, chain, name, set, process)?;
+    Ok(found(Binding::Open, process, rest))
+}
+
+/// What stands behind the alphabet of a replicated parallel.
+fn behind_alphabet<'t>(
+    limits: Limits,
+    name: Name,
+    set: Boxed<Tree>,
+    alphabet: Boxed<Tree>,
+    tokens: &'t [Token],
+) -> Result<Step<'t>, ReadFault>
+    ensures moves { Gives result moved (resume_alphabet limits name set alphabet tokens.now) }
+    ensures falls { IfOk result (λ s. weight (moved s) < 32 * length tokens.now + 34) }
+{
+    let behind = expect(tokens, Symbol::CloseBracket)?;
+    let frame = ReplicatedFrame::Parallel(name, set, alphabet);
+    Ok(wait(frame, Form::Tree, limits, behind))
+}
+
+/// A replicated parallel with its process.
+fn parallel_ended<'t>(
+    alloc: Global,
+    name: Name,
+    set: Boxed<Tree>,
+    alphabet: Boxed<Tree>,
+    process: Boxed<Tree>,
+    rest: &'t [Token],
+) -> Result<Step<'t>, ReadFault>
+    ensures moves { Gives result moved (end_parallel name set alphabet process rest.now) }
+    ensures falls { IfOk result (λ s. weight (moved s) < 32 * length rest.now + 34) }
+{
+    let process = each_parallel(alloc, name, set, alphabet, process)?;
+    Ok(found(Binding::Open, process, rest))
+}
+
+/// A replicated form that waits, with the part that it waits for.
+pub(crate) fn resume_replicated<'t>(
+    alloc: Global,
+    frame: ReplicatedFrame,
+    part: Boxed<Tree>,
+    rest: &'t [Token],
+) -> Result<Step<'t>, ReadFault>
+    ensures moves { Gives result moved (resume_replicated frame part rest.now) }
+    ensures falls { IfOk result (λ s. weight (moved s) < 32 * length rest.now + 34) }
+{
+    match frame {
+        ReplicatedFrame::Range(limits, replication, name) => {
+            behind_range(limits, replication, name, part, rest)
+        }
+        ReplicatedFrame::Chosen(chain, name, set) => {
+            choice_ended(alloc, chain, name, set, part, rest)
+        }
+        ReplicatedFrame::Alphabet(limits, name, set) => {
+            behind_alphabet(limits, name, set, part, rest)
+        }
+        ReplicatedFrame::Parallel(name, set, alphabet) => {
+            parallel_ended(alloc, name, set, alphabet, part, rest)
+        }
+    }
+}

@@ -1,0 +1,70 @@
+//! One step of the reading.
+
+ghost use Rattle.std.specs.Prelude.{◌≡◌};
+ghost use Rattle.tree_steps.specs.Moved.{moved};
+ghost use Rattle.tree_steps.specs.Moved.Moved.{found, inner, next};
+
+use crate::form::Form;
+use crate::frame::Frame;
+use containers::Boxed;
+use csp_text::{Token, Tree};
+use tree_reading::limits::Limits;
+use tree_reading::read::{Binding, BoundRead};
+
+/// What is to be read next, within limits, from the front of tokens.
+#[derive(Drop)]
+pub struct Pending<'t> {
+    /// What it is.
+    pub form: Form,
+    /// The limits.
+    pub limits: Limits,
+    /// The tokens.
+    pub tokens: &'t [Token],
+}
+
+/// What comes of one step of the reading.
+#[derive(Drop)]
+pub enum Step<'t> {
+    /// The form is read.
+    Found(BoundRead<'t, Boxed<Tree>>),
+    /// A part of it is to be read, while the rest waits.
+    Inner(Frame, Pending<'t>),
+    /// What is left of it is to be read in its place.
+    Next(Pending<'t>),
+}
+
+/// A tree that is read, in front of the tokens that are left.
+pub(crate) fn found<'t>(binding: Binding, part: Boxed<Tree>, rest: &'t [Token]) -> Step<'t>
+    ensures { moved result ≡ found (binding, part, rest.now) }
+{
+    Step::Found(BoundRead {
+        binding,
+        part,
+        rest,
+    })
+}
+
+/// The form is to be read, while this waits.
+pub(crate) fn inner<'t>(frame: Frame, form: Form, limits: Limits, tokens: &'t [Token]) -> Step<'t>
+    ensures { moved result ≡ inner frame form limits tokens.now }
+{
+    Step::Inner(
+        frame,
+        Pending {
+            form,
+            limits,
+            tokens,
+        },
+    )
+}
+
+/// The form is to be read in place of what was begun.
+pub(crate) fn next<'t>(form: Form, limits: Limits, tokens: &'t [Token]) -> Step<'t>
+    ensures { moved result ≡ next form limits tokens.now }
+{
+    Step::Next(Pending {
+        form,
+        limits,
+        tokens,
+    })
+}
