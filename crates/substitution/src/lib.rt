@@ -7,8 +7,6 @@ mod fields;
 pub mod laws;
 mod networks;
 mod processes;
-#[cfg(test)]
-mod tests;
 
 pub use calls::{
     substitute, substitute_expr, substitute_exprs, substitute_fields, substitute_gens,

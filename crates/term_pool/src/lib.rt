@@ -12,8 +12,6 @@ pub mod pool;
 mod put;
 mod put_in;
 pub mod terms;
-#[cfg(test)]
-mod tests;
 
 pub use node::{Node, ProcId};
 pub use pool::Pool;

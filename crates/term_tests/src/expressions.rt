@@ -1,15 +1,11 @@
 //! One expression of each form, with a name or with the value that is put in its place.
 
+use crate::parts::{NAME, OTHER, gens, leaf, part, two};
 use containers::{Boxed, Items};
+use csp_atoms::{Atom, Value};
 use csp_base::NoMemory;
-use csp_program::{Atom, BinOp, EventPart, Expr, Gen, SetOp, Value};
+use csp_program::{BinOp, EventPart, Expr, SetOp};
 use std::alloc::Global;
-
-// The name that gets the value.
-pub(super) const NAME: u32 = 7;
-
-// A name that stays.
-pub(super) const OTHER: u32 = 9;
 
 #[derive(Clone, Copy, Debug)]
 pub(super) enum ExprForm {
@@ -58,47 +54,8 @@ pub(super) const EXPR_FORMS: [ExprForm; 20] = [
     ExprForm::Union,
 ];
 
-pub(super) fn value() -> Value {
-    Value::One(Atom::Num(3))
-}
-
-// The name, or the value in its place.
-pub(super) fn leaf(put: bool) -> Expr {
-    if put {
-        return Expr::Lit(value());
-    }
-    Expr::Bound(NAME)
-}
-
-fn boxed(alloc: Global, put: bool) -> Result<Boxed<Expr>, NoMemory> {
+fn boxed_leaf(alloc: Global, put: bool) -> Result<Boxed<Expr>, NoMemory> {
     Ok(Boxed::new(alloc, leaf(put))?)
-}
-
-// `1, x`
-pub(super) fn two(alloc: Global, put: bool) -> Result<Items<Expr>, NoMemory> {
-    let mut exprs = Items::new(alloc);
-    exprs.push(Expr::Num(1))?;
-    exprs.push(leaf(put))?;
-    Ok(exprs)
-}
-
-// `y <- x, x`, where the condition is reached by the value or not.
-pub(super) fn gens(
-    alloc: Global,
-    name: u32,
-    put: bool,
-    put_behind: bool,
-) -> Result<Items<Gen>, NoMemory> {
-    let mut gens = Items::new(alloc);
-    gens.push(Gen::From(name, leaf(put)))?;
-    gens.push(Gen::Cond(leaf(put_behind)))?;
-    Ok(gens)
-}
-
-// `c.1.x`
-pub(super) fn part(alloc: Global, put: bool) -> Result<EventPart, NoMemory> {
-    let fields = two(alloc, put)?;
-    Ok(EventPart { channel: 2, fields })
 }
 
 fn parts(alloc: Global, put: bool) -> Result<Items<EventPart>, NoMemory> {
@@ -108,27 +65,27 @@ fn parts(alloc: Global, put: bool) -> Result<Items<EventPart>, NoMemory> {
 }
 
 fn sum(alloc: Global, put: bool) -> Result<Expr, NoMemory> {
-    let left = boxed(alloc, put)?;
-    let right = boxed(alloc, put)?;
+    let left = boxed_leaf(alloc, put)?;
+    let right = boxed_leaf(alloc, put)?;
     Ok(Expr::Binary(BinOp::Add, left, right))
 }
 
 fn choice(alloc: Global, put: bool) -> Result<Expr, NoMemory> {
-    let condition = boxed(alloc, put)?;
-    let yes = boxed(alloc, put)?;
-    let no = boxed(alloc, put)?;
+    let condition = boxed_leaf(alloc, put)?;
+    let yes = boxed_leaf(alloc, put)?;
+    let no = boxed_leaf(alloc, put)?;
     Ok(Expr::If(condition, yes, no))
 }
 
 fn range(alloc: Global, put: bool) -> Result<Expr, NoMemory> {
-    let first = boxed(alloc, put)?;
-    let last = boxed(alloc, put)?;
+    let first = boxed_leaf(alloc, put)?;
+    let last = boxed_leaf(alloc, put)?;
     Ok(Expr::Range(first, last))
 }
 
 fn union(alloc: Global, put: bool) -> Result<Expr, NoMemory> {
-    let left = boxed(alloc, put)?;
-    let right = boxed(alloc, put)?;
+    let left = boxed_leaf(alloc, put)?;
+    let right = boxed_leaf(alloc, put)?;
     Ok(Expr::SetOp(SetOp::Union, left, right))
 }
 
@@ -165,8 +122,8 @@ pub(super) fn expr_form(alloc: Global, form: &ExprForm, put: bool) -> Result<Exp
         ExprForm::Name => Ok(leaf(put)),
         ExprForm::OtherName => Ok(Expr::Bound(OTHER)),
         ExprForm::Value => Ok(Expr::Lit(Value::One(Atom::Truth(true)))),
-        ExprForm::Negative => Ok(Expr::Neg(boxed(alloc, put)?)),
-        ExprForm::Inverse => Ok(Expr::Not(boxed(alloc, put)?)),
+        ExprForm::Negative => Ok(Expr::Neg(boxed_leaf(alloc, put)?)),
+        ExprForm::Inverse => Ok(Expr::Not(boxed_leaf(alloc, put)?)),
         ExprForm::Sum => sum(alloc, put),
         ExprForm::Choice => choice(alloc, put),
         ExprForm::Use => Ok(Expr::Call(NAME, two(alloc, put)?)),

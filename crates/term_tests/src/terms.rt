@@ -1,14 +1,13 @@
-use crate::*;
-use containers::{Boxed, Items};
+//! Depth, size and equality of terms, and a pool in which each stands once.
+
+use crate::parts::boxed;
+use containers::Items;
 use csp_atoms::{Atom, Value};
 use csp_base::NoMemory;
 use csp_program::{Expr, Field, Head, Proc};
 use std::alloc::Global;
 use std::test::Fail;
-
-fn boxed(alloc: Global, proc: Proc) -> Result<Boxed<Proc>, NoMemory> {
-    Ok(Boxed::new(alloc, proc)?)
-}
+use term_pool::{Node, Pool, ProcId, same, term_depth, term_size};
 
 // An event of the channel with this number, and then `STOP`.
 fn prefix(alloc: Global, channel: u32) -> Result<Proc, NoMemory> {
@@ -127,11 +126,16 @@ fn condition(is_put: bool) -> Expr {
     Expr::Bound(7)
 }
 
+fn guard(alloc: Global, is_put: bool, proc: Proc) -> Result<Proc, NoMemory> {
+    let proc = boxed(alloc, proc)?;
+    Ok(Proc::Guard(condition(is_put), proc))
+}
+
 // Conditions one inside another, so many of them.
 fn guards(alloc: Global, is_put: bool, count: u32) -> Result<Proc, NoMemory> {
     let mut proc = Proc::Stop;
     for _ in 0..count {
-        proc = Proc::Guard(condition(is_put), boxed(alloc, proc)?);
+        proc = guard(alloc, is_put, proc)?;
     }
     Ok(proc)
 }
