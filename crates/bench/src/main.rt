@@ -1,11 +1,13 @@
 //! Workloads whose time is to grow with their size alone: `bench WORKLOAD SIZE TIMES` runs one and prints a checksum.
 #![tactic(auto)]
 
+mod pools;
 mod tables;
 mod terms;
 mod values;
 mod workloads;
 
+use pools::{pool, put_in};
 use std::alloc::Global;
 use std::env;
 use std::process::ExitCode;
@@ -49,6 +51,8 @@ fn run_once(alloc: Global, workload: &str, size: u32) -> Option<u64> {
         "row-by-rounds" => row_by_rounds(alloc, size).ok(),
         "blocks" => blocks(alloc, size).ok(),
         "substituted" => substituted(alloc, size).ok(),
+        "pool" => pool(alloc, size).ok(),
+        "put-in" => put_in(alloc, size).ok(),
         "bindings" => bindings(alloc, size).ok(),
         "production" => production(alloc, size).ok(),
         _ => None,

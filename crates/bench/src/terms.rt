@@ -8,10 +8,10 @@ use std::alloc::Global;
 use substitution::substitute;
 
 /// The bound name that gets a value.
-const NAME: u32 = 0;
+pub(super) const NAME: u32 = 0;
 
 /// The value that it gets.
-fn value() -> Value {
+pub(super) fn value() -> Value {
     Value::One(Atom::Truth(true))
 }
 
@@ -29,7 +29,7 @@ fn guarded(alloc: Global, put: bool, process: Proc) -> Result<Proc, NoMemory> {
 }
 
 /// `STOP` under so many conditions.
-fn tower(alloc: Global, put: bool, conditions: u32) -> Result<Proc, NoMemory> {
+pub(super) fn tower(alloc: Global, put: bool, conditions: u32) -> Result<Proc, NoMemory> {
     let mut process = Proc::Stop;
     for _ in 0..conditions {
         process = guarded(alloc, put, process)?;
