@@ -1,5 +1,4 @@
 pub mod Arms
-pub mod Bare
 pub mod Equations
 pub mod Falls
 pub mod FieldSteps

@@ -3,8 +3,6 @@
 
 mod evaluation;
 mod tally;
-#[cfg(test)]
-mod tests;
 
 pub use evaluation::{eval, eval_in, eval_set};
 pub use value_operators::EvalFault;

@@ -6,7 +6,5 @@ pub mod names;
 pub mod numbers;
 pub mod operators;
 pub mod sets;
-#[cfg(test)]
-mod tests;
 
 pub use fault::EvalFault;

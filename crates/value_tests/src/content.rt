@@ -5,11 +5,11 @@ ghost use Rattle.csp_program.specs.InOrder.{IsInOrder};
 ghost use Rattle.csp_program.specs.declared.networks.Net.TheVariants as net;
 ghost use Rattle.csp_program.specs.declared.processes.Proc.TheVariants as proc;
 
-use super::built::{Step, built};
-use containers::Items;
+use crate::reading::read;
+use containers::{Boxed, Items};
 use csp_atoms::{Atom, AtomSet, Value};
 use csp_base::Name;
-use csp_program::{BinOp, Body, Channel, Content, Def, Net, Proc};
+use csp_program::{Body, Channel, Content, Def, Expr, Net, Proc, Program};
 use std::alloc::Global;
 use value_operators::EvalFault;
 use value_operators::sets::{constants, numbers, with_item};
@@ -18,13 +18,19 @@ fn name(alloc: Global) -> Result<Name, EvalFault> {
     Ok(Name::from_slice(alloc, b"a")?)
 }
 
-/// Nothing but `STOP` as the network.
-pub fn empty(alloc: Global) -> Content
+// Nothing but `STOP` as the network.
+fn empty(alloc: Global) -> Content
     ensures in_order { IsInOrder result }
 {
     let channels = Items::new(alloc);
     let defs = Items::new(alloc);
     holding(alloc, channels, defs)
+}
+
+/// A program of nothing but `STOP`.
+pub(crate) fn bare(alloc: Global) -> Result<Boxed<Program>, EvalFault> {
+    let program = Program::new(empty(alloc));
+    Ok(Boxed::new(alloc, program)?)
 }
 
 // These channels and definitions, and `STOP` as the network.
@@ -63,33 +69,47 @@ fn add_definition(
     alloc: Global,
     defs: &mut Items<Def>,
     params: &[u32],
-    body: Body,
+    body: Boxed<Body>,
 ) -> Result<(), EvalFault> {
     let name = name(alloc)?;
     let params = Items::from_slice(alloc, params)?;
+    let body = body.into_inner();
     defs.push(Def { name, params, body })?;
     Ok(())
 }
 
-// Adds a definition of data, whose body the steps make.
+// Adds a definition of data, whose body the text writes.
 fn add_datum(
     alloc: Global,
     defs: &mut Items<Def>,
     params: &[u32],
-    steps: &[Step],
+    text: &str,
 ) -> Result<(), EvalFault> {
-    let expr = built(alloc, steps)?;
-    add_definition(alloc, defs, params, Body::Datum(expr))
+    let expr = read(alloc, text)?;
+    let body = Boxed::new(alloc, Body::Datum(expr.into_inner()))?;
+    add_definition(alloc, defs, params, body)
 }
 
-fn add_nametype(alloc: Global, defs: &mut Items<Def>, steps: &[Step]) -> Result<(), EvalFault> {
-    let expr = built(alloc, steps)?;
-    add_definition(alloc, defs, &[], Body::Nametype(expr))
+fn add_nametype(alloc: Global, defs: &mut Items<Def>, text: &str) -> Result<(), EvalFault> {
+    let expr = read(alloc, text)?;
+    let body = Boxed::new(alloc, Body::Nametype(expr.into_inner()))?;
+    add_definition(alloc, defs, &[], body)
 }
 
 fn add_datatype(alloc: Global, defs: &mut Items<Def>, numbers: &[u32]) -> Result<(), EvalFault> {
     let numbers = Items::from_slice(alloc, numbers)?;
-    add_definition(alloc, defs, &[], Body::Datatype(numbers))
+    let body = Boxed::new(alloc, Body::Datatype(numbers))?;
+    add_definition(alloc, defs, &[], body)
+}
+
+fn add_process(alloc: Global, defs: &mut Items<Def>) -> Result<(), EvalFault> {
+    let body = Boxed::new(alloc, Body::Process(Proc::Stop))?;
+    add_definition(alloc, defs, &[], body)
+}
+
+fn add_network(alloc: Global, defs: &mut Items<Def>) -> Result<(), EvalFault> {
+    let body = Boxed::new(alloc, Body::Network(Net::Leaf(Proc::Stop)))?;
+    add_definition(alloc, defs, &[], body)
 }
 
 fn five_and_seven(alloc: Global) -> Result<AtomSet, EvalFault> {
@@ -144,55 +164,61 @@ fn channels(alloc: Global) -> Result<Items<Channel>, EvalFault> {
     Ok(channels)
 }
 
-// `f(x, y) = x - y`, where `x` has the number 1 and `y` the number 2
-const DIFFERENCE: [Step; 3] = [Step::Bound(1), Step::Bound(2), Step::Op(BinOp::Sub)];
-
-// `g(x) = 1 / x`
-const INVERSE: [Step; 3] = [Step::Num(1), Step::Bound(1), Step::Op(BinOp::Div)];
-
-// `S = {1..3}`
-const NUMBERS: [Step; 3] = [Step::Num(1), Step::Num(3), Step::Range];
-
-// 0 is `f`, 1 the nametype `S`, 2 the datatype of `k0` and `k1`, 3 a process, 4 `g`, and 5 a network.
+// 0 is `f(x, y) = x - y`, 1 the nametype `S`, 2 the datatype `K` of `k0` and `k1`, 3 a process, 4 `g(x) = 1 / x`, and 5 a network.
+// The parameter `x` has the number 1, and `y` the number 2.
 fn definitions(alloc: Global) -> Result<Items<Def>, EvalFault> {
     let mut defs = Items::new(alloc);
-    add_datum(alloc, &mut defs, &[1, 2], &DIFFERENCE)?;
-    add_nametype(alloc, &mut defs, &NUMBERS)?;
+    add_datum(alloc, &mut defs, &[1, 2], "x - y")?;
+    add_nametype(alloc, &mut defs, "{ 1 .. 3 }")?;
     add_datatype(alloc, &mut defs, &[0, 1])?;
-    add_definition(alloc, &mut defs, &[], Body::Process(Proc::Stop))?;
-    add_datum(alloc, &mut defs, &[1], &INVERSE)?;
-    add_definition(alloc, &mut defs, &[], Body::Network(Net::Leaf(Proc::Stop)))?;
+    add_process(alloc, &mut defs)?;
+    add_datum(alloc, &mut defs, &[1], "1 / x")?;
+    add_network(alloc, &mut defs)?;
     Ok(defs)
 }
 
+fn boxed(
+    alloc: Global,
+    channels: Items<Channel>,
+    defs: Items<Def>,
+) -> Result<Boxed<Content>, EvalFault> {
+    let content = holding(alloc, channels, defs);
+    Ok(Boxed::new(alloc, content)?)
+}
+
 /// A program with channels and definitions.
-pub fn sample(alloc: Global) -> Result<Content, EvalFault> {
+pub(crate) fn sample(alloc: Global) -> Result<Boxed<Content>, EvalFault> {
     let channels = channels(alloc)?;
     let defs = definitions(alloc)?;
-    Ok(holding(alloc, channels, defs))
+    boxed(alloc, channels, defs)
 }
 
 /// A program whose channel has no field sets yet.
-pub fn unfinished(alloc: Global) -> Result<Content, EvalFault> {
+pub(crate) fn unfinished(alloc: Global) -> Result<Boxed<Content>, EvalFault> {
     let mut channels = Items::new(alloc);
     add_channel(alloc, &mut channels, None)?;
-    Ok(holding(alloc, channels, Items::new(alloc)))
+    boxed(alloc, channels, Items::new(alloc))
 }
 
 // Each definition but the last is worth what the next is.
-fn link(number: u32, last: u32) -> [Step; 1] {
+fn link(alloc: Global, number: u32, last: u32) -> Body {
     if number < last {
-        [Step::Call(number + 1, 0)]
+        Body::Datum(Expr::Call(number + 1, Items::new(alloc)))
     } else {
-        [Step::Num(7)]
+        Body::Datum(Expr::Num(7))
     }
 }
 
+fn add_link(alloc: Global, defs: &mut Items<Def>, number: u32, last: u32) -> Result<(), EvalFault> {
+    let body = Boxed::new(alloc, link(alloc, number, last))?;
+    add_definition(alloc, defs, &[], body)
+}
+
 /// A chain of so many definitions, the last of which is 7.
-pub fn chain(alloc: Global, count: u32) -> Result<Content, EvalFault> {
+pub(crate) fn chain(alloc: Global, count: u32) -> Result<Boxed<Content>, EvalFault> {
     let mut defs = Items::new(alloc);
     for number in 0..count {
-        add_datum(alloc, &mut defs, &[], &link(number, count - 1))?;
+        add_link(alloc, &mut defs, number, count - 1)?;
     }
-    Ok(holding(alloc, Items::new(alloc), defs))
+    boxed(alloc, Items::new(alloc), defs)
 }

@@ -1,6 +1,6 @@
 use Rattle.std.proofs.Common.{◌∙◌}
-use Rattle.csp_values.proofs.Bare.{held, still_in_order}
-use Rattle.csp_values.proofs.tests.content.empty.Goals as goal
+use Rattle.value_tests.proofs.Bare.{held, still_in_order}
+use Rattle.value_tests.proofs.content.empty.Goals as goal
 
 pub returns : goal.returns
 returns c = record {

@@ -1,138 +1,104 @@
-use super::*;
-use crate::names::{Names, named, with_name};
-use crate::numbers::{count_with, each_of, event_at, place_in, with_field};
-use crate::operators::{applied, decided, inverted, negated};
-use crate::sets::{combined, constants, numbered, numbers, with_events, with_item};
+//! What expressions are put together from: operators, sets that grow, names and numbers of events.
+
+use crate::answers::{Row, atom, is_answer};
+use crate::reading::UNREADABLE;
+use crate::words::operator;
 use csp_atoms::{Atom, AtomSet, Value};
 use csp_base::Event;
 use csp_program::{BinOp, SetOp, ValueKind};
 use std::alloc::Global;
 use std::test::Fail;
+use value_operators::EvalFault;
+use value_operators::names::{Names, named, with_name};
+use value_operators::numbers::{count_with, each_of, event_at, place_in, with_field};
+use value_operators::operators::{applied, decided, inverted, negated};
+use value_operators::sets::{combined, constants, numbered, numbers, with_events, with_item};
 
-type Row = (BinOp, Atom, Atom, Atom);
-
-type FaultRow = (BinOp, Atom, Atom, ValueKind);
-
-fn is_worth(row: &Row) -> bool {
-    match applied(row.0, &Value::One(row.1), &Value::One(row.2)) {
-        Ok(value) => value == Value::One(row.3),
-        Err(_) => false,
+// What the operator with this word gives between two atoms.
+fn between(first: &str, word: &str, second: &str) -> Result<Value, EvalFault> {
+    let first = Value::One(atom(first)?);
+    let second = Value::One(atom(second)?);
+    match operator(word) {
+        Some(op) => applied(op, &first, &second),
+        None => Err(UNREADABLE),
     }
 }
 
-fn is_refused(row: &FaultRow) -> bool {
-    match applied(row.0, &Value::One(row.1), &Value::One(row.2)) {
-        Ok(_) => false,
-        Err(fault) => fault == EvalFault::Value { kind: row.3 },
+// Whether an operator between two atoms gives what is wanted.
+fn gives(alloc: Global, text: &str, wanted: &str) -> Result<bool, EvalFault> {
+    let words: Vec<&str> = text.split_whitespace().collect(alloc)?;
+    match words.as_slice() {
+        [first, word, second] => is_answer(alloc, &between(*first, *word, *second), wanted),
+        _ => Err(UNREADABLE),
     }
 }
+
+// The first row whose operator gives something else.
+fn wrong(alloc: Global, rows: &[Row]) -> Result<Option<&'static str>, EvalFault> {
+    for row in rows {
+        if !gives(alloc, row.0, row.1)? {
+            return Ok(Some(row.0));
+        }
+    }
+    Ok(None)
+}
+
+// Operators on numbers.
+const NUMBER_ROWS: &[Row] = &[
+    ("999999 + 1", "1000000"),
+    ("0 - 7", "-7"),
+    ("-1000 * 1000", "-1000000"),
+    ("-7 / 2", "-4"),
+    ("-7 % 2", "1"),
+    ("7 / 2", "3"),
+    ("7 % 2", "1"),
+    ("-6 % 3", "0"),
+    ("2 < 2", "false"),
+    ("2 <= 2", "true"),
+    ("-1 > -2", "true"),
+    ("-2 >= -1", "false"),
+];
 
 #[test]
 fn numbers_and_numbers(rt: HostRuntime) -> Result<(), Fail> {
-    let rows: [Row; 12] = [
-        (
-            BinOp::Add,
-            Atom::Num(999_999),
-            Atom::Num(1),
-            Atom::Num(1_000_000),
-        ),
-        (BinOp::Sub, Atom::Num(0), Atom::Num(7), Atom::Num(-7)),
-        (
-            BinOp::Mul,
-            Atom::Num(-1_000),
-            Atom::Num(1_000),
-            Atom::Num(-1_000_000),
-        ),
-        (BinOp::Div, Atom::Num(-7), Atom::Num(2), Atom::Num(-4)),
-        (BinOp::Rem, Atom::Num(-7), Atom::Num(2), Atom::Num(1)),
-        (BinOp::Div, Atom::Num(7), Atom::Num(2), Atom::Num(3)),
-        (BinOp::Rem, Atom::Num(7), Atom::Num(2), Atom::Num(1)),
-        (BinOp::Rem, Atom::Num(-6), Atom::Num(3), Atom::Num(0)),
-        (BinOp::Lt, Atom::Num(2), Atom::Num(2), Atom::Truth(false)),
-        (BinOp::Le, Atom::Num(2), Atom::Num(2), Atom::Truth(true)),
-        (BinOp::Gt, Atom::Num(-1), Atom::Num(-2), Atom::Truth(true)),
-        (BinOp::Ge, Atom::Num(-2), Atom::Num(-1), Atom::Truth(false)),
-    ];
-    for row in &rows {
-        assert!(rt; is_worth(row));
-    }
+    assert_eq!(rt; wrong(rt.alloc(), NUMBER_ROWS)?, None);
     Ok(())
 }
+
+// Operators on atoms of any kind, and on truth values.
+const TRUTH_ROWS: &[Row] = &[
+    ("k3 == k3", "true"),
+    ("true == false", "false"),
+    ("4 != 5", "true"),
+    ("false or true", "true"),
+    ("true or 1", "true"),
+    ("true and true", "true"),
+    ("false and 1", "false"),
+];
 
 #[test]
 fn atoms_and_truth_values(rt: HostRuntime) -> Result<(), Fail> {
-    let rows: [Row; 7] = [
-        (BinOp::Eq, Atom::Const(3), Atom::Const(3), Atom::Truth(true)),
-        (
-            BinOp::Eq,
-            Atom::Truth(true),
-            Atom::Truth(false),
-            Atom::Truth(false),
-        ),
-        (BinOp::Ne, Atom::Num(4), Atom::Num(5), Atom::Truth(true)),
-        (
-            BinOp::Or,
-            Atom::Truth(false),
-            Atom::Truth(true),
-            Atom::Truth(true),
-        ),
-        (
-            BinOp::Or,
-            Atom::Truth(true),
-            Atom::Num(1),
-            Atom::Truth(true),
-        ),
-        (
-            BinOp::And,
-            Atom::Truth(true),
-            Atom::Truth(true),
-            Atom::Truth(true),
-        ),
-        (
-            BinOp::And,
-            Atom::Truth(false),
-            Atom::Num(1),
-            Atom::Truth(false),
-        ),
-    ];
-    for row in &rows {
-        assert!(rt; is_worth(row));
-    }
+    assert_eq!(rt; wrong(rt.alloc(), TRUTH_ROWS)?, None);
     Ok(())
 }
 
+// Operators that give nothing.
+const FAULT_ROWS: &[Row] = &[
+    ("1000000 + 1", "Range"),
+    ("-1000000 - 1", "Range"),
+    ("1001 * 1000", "Range"),
+    ("1 / 0", "Division"),
+    ("1 % -1", "Division"),
+    ("1 + true", "Kind"),
+    ("k1 < k2", "Kind"),
+    ("0 == false", "Kind"),
+    ("1 or true", "Kind"),
+    ("true and 1", "Kind"),
+];
+
 #[test]
 fn faults_of_operators(rt: HostRuntime) -> Result<(), Fail> {
-    let rows: [FaultRow; 10] = [
-        (
-            BinOp::Add,
-            Atom::Num(1_000_000),
-            Atom::Num(1),
-            ValueKind::Range,
-        ),
-        (
-            BinOp::Sub,
-            Atom::Num(-1_000_000),
-            Atom::Num(1),
-            ValueKind::Range,
-        ),
-        (
-            BinOp::Mul,
-            Atom::Num(1_001),
-            Atom::Num(1_000),
-            ValueKind::Range,
-        ),
-        (BinOp::Div, Atom::Num(1), Atom::Num(0), ValueKind::Division),
-        (BinOp::Rem, Atom::Num(1), Atom::Num(-1), ValueKind::Division),
-        (BinOp::Add, Atom::Num(1), Atom::Truth(true), ValueKind::Kind),
-        (BinOp::Lt, Atom::Const(1), Atom::Const(2), ValueKind::Kind),
-        (BinOp::Eq, Atom::Num(0), Atom::Truth(false), ValueKind::Kind),
-        (BinOp::Or, Atom::Num(1), Atom::Truth(true), ValueKind::Kind),
-        (BinOp::And, Atom::Truth(true), Atom::Num(1), ValueKind::Kind),
-    ];
-    for row in &rows {
-        assert!(rt; is_refused(row));
-    }
+    assert_eq!(rt; wrong(rt.alloc(), FAULT_ROWS)?, None);
     Ok(())
 }
 

@@ -1,5 +1,0 @@
-mod built;
-mod content;
-mod limits;
-mod rows;
-mod sets;
