@@ -65,18 +65,13 @@ pub(super) fn pairs(alloc: Global, put: bool) -> Result<Items<(EventPart, EventP
     Ok(pairs)
 }
 
-pub(super) fn boxed(alloc: Global, proc: Proc) -> Result<Boxed<Proc>, NoMemory> {
-    Ok(Boxed::new(alloc, proc)?)
+// The value on the heap: what owns one and may stop has only a box to let go.
+pub(super) fn boxed<T: Drop>(alloc: Global, value: T) -> Result<Boxed<T>, NoMemory> {
+    Ok(Boxed::new(alloc, value)?)
 }
 
 // `x & SKIP`
-pub(super) fn guarded(alloc: Global, put: bool) -> Result<Proc, NoMemory> {
+pub(super) fn guarded(alloc: Global, put: bool) -> Result<Boxed<Proc>, NoMemory> {
     let skip = boxed(alloc, Proc::Skip)?;
-    Ok(Proc::Guard(leaf(put), skip))
-}
-
-// The same on the heap.
-pub(super) fn body(alloc: Global, put: bool) -> Result<Boxed<Proc>, NoMemory> {
-    let proc = guarded(alloc, put)?;
-    boxed(alloc, proc)
+    boxed(alloc, Proc::Guard(leaf(put), skip))
 }

@@ -9,7 +9,7 @@ use term_pool::{Pool, ProcId};
 
 fn put_process(pool: &mut Pool, alloc: Global, put: bool) -> Result<ProcId, NoMemory> {
     let term = process(alloc, put)?;
-    pool.put(&term)
+    pool.put(term.get())
 }
 
 // The value for the name in the process at a place.

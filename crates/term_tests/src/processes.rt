@@ -1,7 +1,7 @@
 //! A process with every form in it, with a name or with the value that is put in its place.
 
-use crate::parts::{NAME, OTHER, body, gens, guarded, leaf, pairs, two, value};
-use containers::Items;
+use crate::parts::{NAME, OTHER, boxed, gens, guarded, leaf, pairs, two, value};
+use containers::{Boxed, Items};
 use csp_base::NoMemory;
 use csp_program::{EventPart, Field, Gen, Head, Proc};
 use std::alloc::Global;
@@ -15,10 +15,10 @@ fn fields(alloc: Global, put: bool) -> Result<Items<Field>, NoMemory> {
 }
 
 // `c!x?y:x -> (x & SKIP)`
-fn prefix(alloc: Global, put: bool) -> Result<Proc, NoMemory> {
+fn prefix(alloc: Global, put: bool) -> Result<Boxed<Proc>, NoMemory> {
     let fields = fields(alloc, put)?;
-    let body = body(alloc, put)?;
-    Ok(Proc::Prefix(Head::Channel(4), fields, body))
+    let body = guarded(alloc, put)?;
+    boxed(alloc, Proc::Prefix(Head::Channel(4), fields, body))
 }
 
 fn head(put: bool) -> Head {
@@ -29,37 +29,37 @@ fn head(put: bool) -> Head {
 }
 
 // `x -> (x & SKIP)`
-fn event(alloc: Global, put: bool) -> Result<Proc, NoMemory> {
-    let body = body(alloc, put)?;
-    Ok(Proc::Prefix(head(put), Items::new(alloc), body))
+fn event(alloc: Global, put: bool) -> Result<Boxed<Proc>, NoMemory> {
+    let body = guarded(alloc, put)?;
+    boxed(alloc, Proc::Prefix(head(put), Items::new(alloc), body))
 }
 
-fn choice(alloc: Global, put: bool) -> Result<Proc, NoMemory> {
-    let yes = body(alloc, put)?;
-    let no = body(alloc, put)?;
-    Ok(Proc::If(leaf(put), yes, no))
+fn choice(alloc: Global, put: bool) -> Result<Boxed<Proc>, NoMemory> {
+    let yes = guarded(alloc, put)?;
+    let no = guarded(alloc, put)?;
+    boxed(alloc, Proc::If(leaf(put), yes, no))
 }
 
-fn sequence(alloc: Global, put: bool) -> Result<Proc, NoMemory> {
-    let first = body(alloc, put)?;
-    let second = body(alloc, put)?;
-    Ok(Proc::Seq(first, second))
+fn sequence(alloc: Global, put: bool) -> Result<Boxed<Proc>, NoMemory> {
+    let first = guarded(alloc, put)?;
+    let second = guarded(alloc, put)?;
+    boxed(alloc, Proc::Seq(first, second))
 }
 
-fn each(alloc: Global, put: bool) -> Result<Proc, NoMemory> {
-    let body = body(alloc, put)?;
-    Ok(Proc::EachExternal(OTHER, leaf(put), body))
+fn each(alloc: Global, put: bool) -> Result<Boxed<Proc>, NoMemory> {
+    let body = guarded(alloc, put)?;
+    boxed(alloc, Proc::EachExternal(OTHER, leaf(put), body))
 }
 
 // Only the set that the name ranges over stands outside of its binding.
-fn bound_each(alloc: Global, put: bool) -> Result<Proc, NoMemory> {
-    let body = body(alloc, false)?;
-    Ok(Proc::EachInternal(NAME, leaf(put), body))
+fn bound_each(alloc: Global, put: bool) -> Result<Boxed<Proc>, NoMemory> {
+    let body = guarded(alloc, false)?;
+    boxed(alloc, Proc::EachInternal(NAME, leaf(put), body))
 }
 
-fn hiding(alloc: Global, put: bool) -> Result<Proc, NoMemory> {
-    let body = body(alloc, put)?;
-    Ok(Proc::Hide(body, leaf(put)))
+fn hiding(alloc: Global, put: bool) -> Result<Boxed<Proc>, NoMemory> {
+    let body = guarded(alloc, put)?;
+    boxed(alloc, Proc::Hide(body, leaf(put)))
 }
 
 // The guarded process, with its events renamed.
@@ -68,34 +68,34 @@ fn renamed(
     put: bool,
     pairs: Items<(EventPart, EventPart)>,
     gens: Items<Gen>,
-) -> Result<Proc, NoMemory> {
-    let body = body(alloc, put)?;
-    Ok(Proc::Rename(body, pairs, gens))
+) -> Result<Boxed<Proc>, NoMemory> {
+    let body = guarded(alloc, put)?;
+    boxed(alloc, Proc::Rename(body, pairs, gens))
 }
 
-fn renaming(alloc: Global, put: bool) -> Result<Proc, NoMemory> {
+fn renaming(alloc: Global, put: bool) -> Result<Boxed<Proc>, NoMemory> {
     let pairs = pairs(alloc, put)?;
     let gens = gens(alloc, OTHER, put, put)?;
     renamed(alloc, put, pairs, gens)
 }
 
 // Only the process and the set that the name ranges over stand outside of its binding.
-fn bound_renaming(alloc: Global, put: bool) -> Result<Proc, NoMemory> {
+fn bound_renaming(alloc: Global, put: bool) -> Result<Boxed<Proc>, NoMemory> {
     let pairs = pairs(alloc, false)?;
     let gens = gens(alloc, NAME, put, false)?;
     renamed(alloc, put, pairs, gens)
 }
 
-fn called(alloc: Global, put: bool) -> Result<Proc, NoMemory> {
+fn called(alloc: Global, put: bool) -> Result<Boxed<Proc>, NoMemory> {
     let arguments = two(alloc, put)?;
-    Ok(Proc::Call(3, arguments))
+    boxed(alloc, Proc::Call(3, arguments))
 }
 
-fn internal(alloc: Global, put: bool) -> Result<Proc, NoMemory> {
+fn internal(alloc: Global, put: bool) -> Result<Boxed<Proc>, NoMemory> {
     let proc = guarded(alloc, put)?;
     let mut procs = Items::new(alloc);
-    procs.push(proc)?;
-    Ok(Proc::Internal(procs))
+    procs.push(proc.into_inner())?;
+    boxed(alloc, Proc::Internal(procs))
 }
 
 #[derive(Clone, Copy)]
@@ -131,10 +131,10 @@ const FORMS: [Form; 13] = [
     Form::Internal,
 ];
 
-fn of_form(alloc: Global, form: Form, put: bool) -> Result<Proc, NoMemory> {
+fn of_form(alloc: Global, form: Form, put: bool) -> Result<Boxed<Proc>, NoMemory> {
     match form {
-        Form::Stop => Ok(Proc::Stop),
-        Form::Ended => Ok(Proc::Ended),
+        Form::Stop => boxed(alloc, Proc::Stop),
+        Form::Ended => boxed(alloc, Proc::Ended),
         Form::Prefix => prefix(alloc, put),
         Form::Event => event(alloc, put),
         Form::Choice => choice(alloc, put),
@@ -150,10 +150,10 @@ fn of_form(alloc: Global, form: Form, put: bool) -> Result<Proc, NoMemory> {
 }
 
 // An external choice between a process of each other form.
-pub(super) fn process(alloc: Global, put: bool) -> Result<Proc, NoMemory> {
+pub(super) fn process(alloc: Global, put: bool) -> Result<Boxed<Proc>, NoMemory> {
     let mut procs = Items::new(alloc);
     for form in &FORMS {
-        procs.push(of_form(alloc, *form, put)?)?;
+        procs.push(of_form(alloc, *form, put)?.into_inner())?;
     }
-    Ok(Proc::External(procs))
+    boxed(alloc, Proc::External(procs))
 }

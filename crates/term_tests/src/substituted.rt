@@ -1,7 +1,7 @@
 //! A value in place of a name in, and copies of, processes and networks with every form in them.
 
 use crate::networks::network;
-use crate::parts::{NAME, OTHER, gens, pairs, two, value};
+use crate::parts::{NAME, OTHER, boxed, gens, pairs, two, value};
 use crate::processes::process;
 use containers::Items;
 use csp_base::NoMemory;
@@ -37,52 +37,52 @@ fn same_pairs(left: &Items<(EventPart, EventPart)>, right: &Items<(EventPart, Ev
 
 fn is_process_put(alloc: Global, proc: &Proc) -> Result<bool, NoMemory> {
     let wanted = process(alloc, true)?;
-    Ok(same_proc(proc, &wanted))
+    Ok(same_proc(proc, wanted.get()))
 }
 
 fn process_put(alloc: Global, proc: &Proc) -> Result<bool, NoMemory> {
-    let made = substitute(alloc, proc, NAME, &value())?;
-    is_process_put(alloc, &made)
+    let made = boxed(alloc, substitute(alloc, proc, NAME, &value())?)?;
+    is_process_put(alloc, made.get())
 }
 
 fn process_gets_value(alloc: Global) -> Result<bool, NoMemory> {
     let proc = process(alloc, false)?;
-    process_put(alloc, &proc)
+    process_put(alloc, proc.get())
 }
 
 fn process_is_copied(alloc: Global, proc: &Proc) -> Result<bool, NoMemory> {
-    let copy = copy_proc(alloc, proc)?;
-    Ok(same_proc(&copy, proc))
+    let copy = boxed(alloc, copy_proc(alloc, proc)?)?;
+    Ok(same_proc(copy.get(), proc))
 }
 
 fn process_has_copy(alloc: Global) -> Result<bool, NoMemory> {
     let proc = process(alloc, false)?;
-    process_is_copied(alloc, &proc)
+    process_is_copied(alloc, proc.get())
 }
 
 fn is_network_put(alloc: Global, net: &Net) -> Result<bool, NoMemory> {
     let wanted = network(alloc, true)?;
-    Ok(same_net(net, &wanted))
+    Ok(same_net(net, wanted.get()))
 }
 
 fn network_put(alloc: Global, net: &Net) -> Result<bool, NoMemory> {
-    let made = substitute_net(alloc, net, NAME, &value())?;
-    is_network_put(alloc, &made)
+    let made = boxed(alloc, substitute_net(alloc, net, NAME, &value())?)?;
+    is_network_put(alloc, made.get())
 }
 
 fn network_gets_value(alloc: Global) -> Result<bool, NoMemory> {
     let net = network(alloc, false)?;
-    network_put(alloc, &net)
+    network_put(alloc, net.get())
 }
 
 fn network_is_copied(alloc: Global, net: &Net) -> Result<bool, NoMemory> {
-    let copy = copy_net(alloc, net)?;
-    Ok(same_net(&copy, net))
+    let copy = boxed(alloc, copy_net(alloc, net)?)?;
+    Ok(same_net(copy.get(), net))
 }
 
 fn network_has_copy(alloc: Global) -> Result<bool, NoMemory> {
     let net = network(alloc, false)?;
-    network_is_copied(alloc, &net)
+    network_is_copied(alloc, net.get())
 }
 
 #[test]

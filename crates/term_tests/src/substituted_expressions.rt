@@ -2,6 +2,7 @@
 
 use crate::expressions::{EXPR_FORMS, ExprForm, expr_form};
 use crate::parts::{NAME, boxed, leaf, value};
+use containers::Boxed;
 use csp_base::NoMemory;
 use csp_program::copies::copy_expr;
 use csp_program::{Expr, Proc};
@@ -19,28 +20,28 @@ fn same_proc(left: &Proc, right: &Proc) -> bool {
 
 fn is_expr_put(alloc: Global, form: &ExprForm, expr: &Expr) -> Result<bool, NoMemory> {
     let wanted = expr_form(alloc, form, true)?;
-    Ok(same_expr(expr, &wanted))
+    Ok(same_expr(expr, wanted.get()))
 }
 
 fn expr_put(alloc: Global, form: &ExprForm, expr: &Expr) -> Result<bool, NoMemory> {
-    let made = substitute_expr(alloc, expr, NAME, &value())?;
-    is_expr_put(alloc, form, &made)
+    let made = boxed(alloc, substitute_expr(alloc, expr, NAME, &value())?)?;
+    is_expr_put(alloc, form, made.get())
 }
 
 // Whether the expression with the name becomes the one with the value.
 fn expr_gets_value(alloc: Global, form: &ExprForm) -> Result<bool, NoMemory> {
     let expr = expr_form(alloc, form, false)?;
-    expr_put(alloc, form, &expr)
+    expr_put(alloc, form, expr.get())
 }
 
 fn expr_has_copy(alloc: Global, expr: &Expr) -> Result<bool, NoMemory> {
-    let copy = copy_expr(alloc, expr)?;
-    Ok(same_expr(&copy, expr))
+    let copy = boxed(alloc, copy_expr(alloc, expr)?)?;
+    Ok(same_expr(copy.get(), expr))
 }
 
 fn expr_is_copied(alloc: Global, form: &ExprForm) -> Result<bool, NoMemory> {
     let expr = expr_form(alloc, form, false)?;
-    expr_has_copy(alloc, &expr)
+    expr_has_copy(alloc, expr.get())
 }
 
 #[test]
@@ -59,34 +60,28 @@ fn copies_of_expressions(rt: HostRuntime) -> Result<(), Fail> {
     Ok(())
 }
 
-// One more condition on the process.
-fn guarded(alloc: Global, put: bool, proc: Proc) -> Result<Proc, NoMemory> {
-    let proc = boxed(alloc, proc)?;
-    Ok(Proc::Guard(leaf(put), proc))
-}
-
 // A process of the given depth.
-fn tower(alloc: Global, put: bool, depth: u32) -> Result<Proc, NoMemory> {
-    let mut proc = Proc::Stop;
+fn tower(alloc: Global, put: bool, depth: u32) -> Result<Boxed<Proc>, NoMemory> {
+    let mut proc = boxed(alloc, Proc::Stop)?;
     for _ in 1..depth {
-        proc = guarded(alloc, put, proc)?;
+        proc = boxed(alloc, Proc::Guard(leaf(put), proc))?;
     }
     Ok(proc)
 }
 
 fn is_tower_put(alloc: Global, depth: u32, proc: &Proc) -> Result<bool, NoMemory> {
     let wanted = tower(alloc, true, depth)?;
-    Ok(same_proc(proc, &wanted))
+    Ok(same_proc(proc, wanted.get()))
 }
 
 fn tower_put(alloc: Global, depth: u32, proc: &Proc) -> Result<bool, NoMemory> {
-    let made = substitute(alloc, proc, NAME, &value())?;
-    is_tower_put(alloc, depth, &made)
+    let made = boxed(alloc, substitute(alloc, proc, NAME, &value())?)?;
+    is_tower_put(alloc, depth, made.get())
 }
 
 fn tower_gets_value(alloc: Global, depth: u32) -> Result<bool, NoMemory> {
     let proc = tower(alloc, false, depth)?;
-    tower_put(alloc, depth, &proc)
+    tower_put(alloc, depth, proc.get())
 }
 
 #[test]

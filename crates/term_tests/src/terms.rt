@@ -1,7 +1,7 @@
 //! Depth, size and equality of terms, and a pool in which each stands once.
 
 use crate::parts::boxed;
-use containers::Items;
+use containers::{Boxed, Items};
 use csp_atoms::{Atom, Value};
 use csp_base::NoMemory;
 use csp_program::{Expr, Field, Head, Proc};
@@ -10,44 +10,62 @@ use std::test::Fail;
 use term_pool::{Node, Pool, ProcId, same, term_depth, term_size};
 
 // An event of the channel with this number, and then `STOP`.
-fn prefix(alloc: Global, channel: u32) -> Result<Proc, NoMemory> {
+fn prefix(alloc: Global, channel: u32) -> Result<Boxed<Proc>, NoMemory> {
     let stop = boxed(alloc, Proc::Stop)?;
-    Ok(Proc::Prefix(Head::Channel(channel), Items::new(alloc), stop))
+    boxed(
+        alloc,
+        Proc::Prefix(Head::Channel(channel), Items::new(alloc), stop),
+    )
 }
 
 // `a -> STOP [] b -> STOP`
-fn choice(alloc: Global) -> Result<Proc, NoMemory> {
+fn choice(alloc: Global) -> Result<Boxed<Proc>, NoMemory> {
     let mut procs = Items::new(alloc);
-    procs.push(prefix(alloc, 0)?)?;
-    procs.push(prefix(alloc, 1)?)?;
-    Ok(Proc::External(procs))
+    procs.push(prefix(alloc, 0)?.into_inner())?;
+    procs.push(prefix(alloc, 1)?.into_inner())?;
+    boxed(alloc, Proc::External(procs))
 }
 
-// A field with the given expression, and then an input of the name 7.
-fn fields(alloc: Global, expr: Expr) -> Result<Items<Field>, NoMemory> {
+// `!x`, or the value in its place, and then an input of `x`.
+fn fields(alloc: Global, is_put: bool) -> Result<Items<Field>, NoMemory> {
     let mut fields = Items::new(alloc);
-    fields.push(Field::Put(expr))?;
+    fields.push(Field::Put(condition(is_put)))?;
     fields.push(Field::Get(7, None))?;
     Ok(fields)
 }
 
-// `c!x?y -> (condition & STOP)`, where `y` has the number 7.
-fn input(alloc: Global, field: Expr, condition: Expr) -> Result<Proc, NoMemory> {
-    let fields = fields(alloc, field)?;
+// `x & STOP`
+fn guard(alloc: Global, is_put: bool) -> Result<Boxed<Proc>, NoMemory> {
     let stop = boxed(alloc, Proc::Stop)?;
-    let inner = boxed(alloc, Proc::Guard(condition, stop))?;
-    Ok(Proc::Prefix(Head::Channel(0), fields, inner))
+    boxed(alloc, Proc::Guard(condition(is_put), stop))
 }
 
-fn measures(term: Proc, depth: u32, size: u32) -> bool {
-    term_depth(&term) == depth && term_size(&term) == size && same(&term, &term)
+// `c!x?x -> (x & STOP)`, with the name that is free first and bound then.
+fn input(alloc: Global, is_put: bool) -> Result<Boxed<Proc>, NoMemory> {
+    let fields = fields(alloc, is_put)?;
+    let inner = guard(alloc, false)?;
+    boxed(alloc, Proc::Prefix(Head::Channel(0), fields, inner))
+}
+
+fn measures(term: &Proc, depth: u32, size: u32) -> bool {
+    term_depth(term) == depth && term_size(term) == size && same(term, term)
+}
+
+fn measures_choice(alloc: Global) -> Result<bool, NoMemory> {
+    let term = choice(alloc)?;
+    Ok(measures(term.get(), 3, 5))
+}
+
+fn measures_input(alloc: Global) -> Result<bool, NoMemory> {
+    let term = input(alloc, false)?;
+    Ok(measures(term.get(), 3, 7))
 }
 
 #[test]
 fn measures_of_terms(rt: HostRuntime) -> Result<(), Fail> {
     let alloc = rt.alloc();
-    assert!(rt; measures(choice(alloc)?, 3, 5));
-    assert!(rt; measures(input(alloc, Expr::Num(1), Expr::Truth(true))?, 3, 7));
+    assert!(rt; measures_choice(alloc)?);
+    assert!(rt; measures_input(alloc)?);
     Ok(())
 }
 
@@ -61,7 +79,7 @@ fn holds(pool: &Pool, place: ProcId, count: usize, depth: u32, size: u32) -> boo
 
 fn put_choice(pool: &mut Pool, alloc: Global) -> Result<ProcId, NoMemory> {
     let term = choice(alloc)?;
-    pool.put(&term)
+    pool.put(term.get())
 }
 
 // Whether a pool has four processes once the choice is put into it, and no more when it is put again.
@@ -126,29 +144,23 @@ fn condition(is_put: bool) -> Expr {
     Expr::Bound(7)
 }
 
-fn guard(alloc: Global, is_put: bool, proc: Proc) -> Result<Proc, NoMemory> {
-    let proc = boxed(alloc, proc)?;
-    Ok(Proc::Guard(condition(is_put), proc))
-}
-
 // Conditions one inside another, so many of them.
-fn guards(alloc: Global, is_put: bool, count: u32) -> Result<Proc, NoMemory> {
-    let mut proc = Proc::Stop;
+fn guards(alloc: Global, is_put: bool, count: u32) -> Result<Boxed<Proc>, NoMemory> {
+    let mut proc = boxed(alloc, Proc::Stop)?;
     for _ in 0..count {
-        proc = guard(alloc, is_put, proc)?;
+        proc = boxed(alloc, Proc::Guard(condition(is_put), proc))?;
     }
     Ok(proc)
 }
 
 fn put_guards(pool: &mut Pool, alloc: Global, is_put: bool) -> Result<ProcId, NoMemory> {
     let term = guards(alloc, is_put, 800)?;
-    pool.put(&term)
+    pool.put(term.get())
 }
 
-// `c!x?x -> (x & STOP)`, with the name that is free first and bound then.
 fn put_input(pool: &mut Pool, alloc: Global, is_put: bool) -> Result<ProcId, NoMemory> {
-    let term = input(alloc, condition(is_put), condition(false))?;
-    pool.put(&term)
+    let term = input(alloc, is_put)?;
+    pool.put(term.get())
 }
 
 // The value for the name in the process at a place.
