@@ -15,7 +15,7 @@ ghost use Rattle.acceptances.specs.OfferTests.{AreMarks, AreOffers, offers_at};
 use crate::least::{least_sets, push_unless, sort_sets};
 use csp_base::{Event, EventSet, NoMemory};
 use csp_tables::RawTable;
-use std::alloc::{AllocError, Global};
+use std::alloc::Global;
 use std::marker::Model;
 
 /// What each term of a table offers, prepared once. Contracts see it as the table.
@@ -89,7 +89,7 @@ pub fn minimal(alloc: Global, table: &RawTable, terms: &[u32]) -> Result<Vec<Eve
 }
 
 // A mark at each term that has a silent step.
-fn unstable_marks(alloc: Global, table: &RawTable) -> Result<Vec<bool>, AllocError>
+fn unstable_marks(alloc: Global, table: &RawTable) -> Result<Vec<bool>, NoMemory>
     ensures { IfOk result (λ marks. AreMarks table.now marks.items) }
 {
     let mut marks = vec![in alloc; false; table.count() as usize]?;
@@ -111,7 +111,7 @@ fn event_sets(alloc: Global, table: &RawTable) -> Result<Vec<EventSet>, NoMemory
 }
 
 // As many empty sets as `count` says.
-fn empty_sets(alloc: Global, count: u32) -> Result<Vec<EventSet>, AllocError>
+fn empty_sets(alloc: Global, count: u32) -> Result<Vec<EventSet>, NoMemory>
     ensures { IfOk result (λ sets. sets.items ≡ replicate count []) }
 {
     let mut sets = Vec::new(alloc);

@@ -2,8 +2,9 @@
 ghost use Rattle.std.specs.Prelude.{◌≡◌, ◌↔◌, IsTrue, IfOk};
 
 use containers::{Boxed, Items};
+use csp_base::NoMemory;
 use indexmap::IndexMap;
-use std::alloc::{AllocError, Global};
+use std::alloc::Global;
 use std::test::Fail;
 
 #[derive(Debug, Drop, PartialEq, Eq, Hash)]
@@ -22,7 +23,7 @@ fn same(a: &Tree, b: &Tree) -> bool
 
 // The same tree, in memory of its own.
 #[cycle(copy)]
-fn copy(alloc: Global, tree: &Tree) -> Result<Tree, AllocError>
+fn copy(alloc: Global, tree: &Tree) -> Result<Tree, NoMemory>
     ensures { IfOk result (λ copy. copy ≡ tree.now) }
 {
     match tree {
@@ -37,7 +38,7 @@ fn copy(alloc: Global, tree: &Tree) -> Result<Tree, AllocError>
 }
 
 #[cycle(copy)]
-fn copy_all(alloc: Global, trees: &[Tree]) -> Result<Items<Tree>, AllocError>
+fn copy_all(alloc: Global, trees: &[Tree]) -> Result<Items<Tree>, NoMemory>
     ensures { IfOk result (λ copies. copies ≡ trees.now) }
 {
     let mut copies = Items::new(alloc);
@@ -48,7 +49,7 @@ fn copy_all(alloc: Global, trees: &[Tree]) -> Result<Items<Tree>, AllocError>
 }
 
 // A tree of the given depth, all of it to the left.
-fn deep(alloc: Global, depth: u32) -> Result<Tree, AllocError> {
+fn deep(alloc: Global, depth: u32) -> Result<Tree, NoMemory> {
     let mut tree = Tree::Leaf(0);
     for number in 0..depth {
         let mut row = Items::new(alloc);
@@ -61,7 +62,7 @@ fn deep(alloc: Global, depth: u32) -> Result<Tree, AllocError> {
 }
 
 // The row of the given leaves.
-fn row(alloc: Global, numbers: &[u32]) -> Result<Tree, AllocError> {
+fn row(alloc: Global, numbers: &[u32]) -> Result<Tree, NoMemory> {
     let mut leaves = Items::new(alloc);
     for number in numbers {
         leaves.push(Tree::Leaf(*number))?;

@@ -3,7 +3,7 @@
 use containers::{Items, Numbering};
 use csp_base::{Event, EventSet, NoMemory};
 use digraph::{Fault, Rows, longest_walks, reachable_from};
-use std::alloc::{AllocError, Global};
+use std::alloc::Global;
 
 /// How many arcs leave a vertex of `layers`, the first and the last ones aside.
 const ARCS: u32 = 64;
@@ -18,7 +18,7 @@ const ROUNDS: u32 = 10_000;
 const NUMBERS: u32 = 1000;
 
 /// Adds an arc, where both ends are vertices.
-fn add_arc(rows: &mut Rows, from: u32, to: u32) -> Result<(), AllocError> {
+fn add_arc(rows: &mut Rows, from: u32, to: u32) -> Result<(), NoMemory> {
     let count = rows.len();
     if (from as usize) < count && (to as usize) < count {
         rows.add_arc(from, to)?;
@@ -27,7 +27,7 @@ fn add_arc(rows: &mut Rows, from: u32, to: u32) -> Result<(), AllocError> {
 }
 
 /// The vertices from 0 on, each with arcs to the next ones.
-fn band(alloc: Global, vertices: u32, arcs: u32) -> Result<Rows, AllocError> {
+fn band(alloc: Global, vertices: u32, arcs: u32) -> Result<Rows, NoMemory> {
     let mut rows = Rows::new(alloc, vertices)?;
     for from in 0..vertices {
         for step in 0..arcs {
@@ -39,7 +39,7 @@ fn band(alloc: Global, vertices: u32, arcs: u32) -> Result<Rows, AllocError> {
 
 /// This many vertices, each with arcs to the next 64; since the last vertices lack some of theirs, as many of the first
 /// ones have one arc more, so that there are 64 times as many arcs as vertices (from 2,145 vertices on).
-fn wide_band(alloc: Global, vertices: u32) -> Result<Rows, AllocError> {
+fn wide_band(alloc: Global, vertices: u32) -> Result<Rows, NoMemory> {
     let mut rows = band(alloc, vertices, ARCS)?;
     for from in 0..LACKING {
         add_arc(&mut rows, from, from + ARCS + 1)?;
@@ -69,7 +69,7 @@ pub fn layers(alloc: Global, vertices: u32) -> Result<u64, Fault> {
 }
 
 /// How many vertices vertex 0 reaches, among this many with 64 times as many arcs.
-pub fn reached(alloc: Global, vertices: u32) -> Result<u64, AllocError> {
+pub fn reached(alloc: Global, vertices: u32) -> Result<u64, NoMemory> {
     let rows = wide_band(alloc, vertices)?;
     if rows.is_empty() {
         return Ok(0);
@@ -102,14 +102,14 @@ pub fn sets(alloc: Global, events: u32) -> Result<u64, NoMemory> {
 }
 
 /// A list of ten numbers that tells the place from every other.
-fn list_of(alloc: Global, place: u32) -> Result<Items<u32>, AllocError> {
+fn list_of(alloc: Global, place: u32) -> Result<Items<u32>, NoMemory> {
     let high = place / NUMBERS;
     let low = place % NUMBERS;
     Items::from_slice(alloc, &[low, high, 2, 3, 4, 5, 6, 7, 8, 9])
 }
 
 /// Numbers this many different lists of ten numbers, each of them twice.
-pub fn numbering(alloc: Global, lists: u32) -> Result<u64, AllocError> {
+pub fn numbering(alloc: Global, lists: u32) -> Result<u64, NoMemory> {
     let mut numbers = Numbering::new(alloc);
     let mut total = 0u64;
     for _ in 0..2 {

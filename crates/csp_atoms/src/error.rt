@@ -1,7 +1,6 @@
 //! Why a set of atoms could not be made.
 
 use csp_base::NoMemory;
-use std::alloc::{AllocError, AllocFailed};
 
 /// The errors of operations that put atoms together.
 #[derive(Clone, Copy, Debug, PartialEq, Eq, Drop, thiserror::Error)]
@@ -12,28 +11,6 @@ pub enum AtomSetError {
     /// Want of memory.
     #[error("out of memory")]
     NoMemory,
-}
-
-impl From<AllocError> for AtomSetError {
-    ghost use Rattle.std.specs.Prelude.{◌≡◌};
-    ghost use Rattle.csp_atoms.specs.declared.error.AtomSetError.TheVariants as fault;
-
-    ghost from_gives = { λ _ e. e ≡ fault.NoMemory };
-
-    fn from(_error: AllocError) -> AtomSetError {
-        AtomSetError::NoMemory
-    }
-}
-
-impl<T: Drop> From<AllocFailed<T>> for AtomSetError {
-    ghost use Rattle.std.specs.Prelude.{◌≡◌};
-    ghost use Rattle.csp_atoms.specs.declared.error.AtomSetError.TheVariants as fault;
-
-    ghost from_gives = { λ _ e. e ≡ fault.NoMemory };
-
-    fn from(_error: AllocFailed<T>) -> AtomSetError {
-        AtomSetError::NoMemory
-    }
 }
 
 impl From<NoMemory> for AtomSetError {

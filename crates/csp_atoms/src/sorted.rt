@@ -9,8 +9,8 @@ ghost use Rattle.csp_atoms.specs.Search.{count_before, stands_at};
 
 use crate::atom::{Atom, equal, precedes};
 use containers::Items;
-use csp_base::{Event, EventSet};
-use std::alloc::{AllocError, Global};
+use csp_base::{Event, EventSet, NoMemory};
+use std::alloc::Global;
 
 /// An operation on two sets.
 #[derive(Clone, Copy)]
@@ -69,7 +69,7 @@ pub(crate) fn contains(atoms: &[Atom], atom: &Atom) -> bool
 }
 
 /// Adds the atom at its place, where it isn't there yet. An error changes nothing.
-pub(crate) fn include(atoms: &mut Items<Atom>, atom: &Atom) -> Result<(), AllocError>
+pub(crate) fn include(atoms: &mut Items<Atom>, atom: &Atom) -> Result<(), NoMemory>
     requires { IsRising atoms.old }
     ensures ok { OnOk result (atoms.new ≡ with_atom atoms.old atom.now) }
     ensures err { OnErr result (atoms.new ≡ atoms.old) }
@@ -148,7 +148,7 @@ fn is_kept(operation: Operation, left: bool, right: bool) -> bool
 }
 
 /// Adds an atom at the end, where the test says so.
-fn push_if(made: &mut Vec<Atom>, kept: bool, atom: &Atom) -> Result<(), AllocError>
+fn push_if(made: &mut Vec<Atom>, kept: bool, atom: &Atom) -> Result<(), NoMemory>
     ensures ok { OnOk result (made.new.items ≡ with_last made.old.items kept atom.now) }
     ensures err { OnErr result (made.new.items ≡ made.old.items) }
 {
@@ -164,7 +164,7 @@ pub(crate) fn merged(
     operation: Operation,
     left: &[Atom],
     right: &[Atom],
-) -> Result<Vec<Atom>, AllocError>
+) -> Result<Vec<Atom>, NoMemory>
     requires left_rises { IsRising left.now }
     requires right_rises { IsRising right.now }
     ensures { IfOk result (λ made. made.items ≡ result_of operation left.now right.now) }
@@ -196,7 +196,7 @@ fn event_of(atom: &Atom) -> Option<Event>
 }
 
 /// The events of the list, if all its atoms are events.
-pub(crate) fn events(alloc: Global, atoms: &[Atom]) -> Result<Option<Vec<Event>>, AllocError>
+pub(crate) fn events(alloc: Global, atoms: &[Atom]) -> Result<Option<Vec<Event>>, NoMemory>
     ensures { IfOk result (λ found. option_map (λ made. made.items) found ≡ event_numbers atoms.now) }
 {
     let mut made = Vec::new(alloc);
@@ -210,7 +210,7 @@ pub(crate) fn events(alloc: Global, atoms: &[Atom]) -> Result<Option<Vec<Event>>
 }
 
 /// The events of the set as atoms.
-pub(crate) fn atoms_of(alloc: Global, set: &EventSet) -> Result<Vec<Atom>, AllocError>
+pub(crate) fn atoms_of(alloc: Global, set: &EventSet) -> Result<Vec<Atom>, NoMemory>
     ensures { IfOk result (λ made. made.items ≡ event_atoms set.now) }
 {
     let mut made = Vec::new(alloc);

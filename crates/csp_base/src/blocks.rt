@@ -8,8 +8,9 @@ ghost use Rattle.csp_base.specs.Blocks.{AreBlocks, AreBlocksFrom, word_at, event
 ghost use Rattle.csp_base.specs.Events.{has, is_subset_of, meets_of};
 ghost use Rattle.csp_base.specs.Operations.{combined_of, keeps, least_of, first_word, rest_after, with_word, end_from};
 
+use crate::NoMemory;
 use crate::event_set::Event;
-use std::alloc::{AllocError, Global};
+use std::alloc::Global;
 
 /// An operation on two sets.
 #[derive(Clone, Copy)]
@@ -67,7 +68,7 @@ fn past_front(blocks: &[(u32, u64)], number: u32) -> &[(u32, u64)]
 }
 
 /// Adds a block at the end, unless its word is 0.
-fn push_word(blocks: &mut Vec<(u32, u64)>, number: u32, word: u64) -> Result<(), AllocError>
+fn push_word(blocks: &mut Vec<(u32, u64)>, number: u32, word: u64) -> Result<(), NoMemory>
     ensures ok { OnOk result (blocks.new.items ≡ with_word blocks.old.items number word) }
     ensures err { OnErr result (blocks.new.items ≡ blocks.old.items) }
 {
@@ -83,7 +84,7 @@ pub(crate) fn merged(
     operation: Operation,
     left: &[(u32, u64)],
     right: &[(u32, u64)],
-) -> Result<Vec<(u32, u64)>, AllocError>
+) -> Result<Vec<(u32, u64)>, NoMemory>
     requires left_blocks { AreBlocks left.now }
     requires right_blocks { AreBlocks right.now }
     ensures blocks { IfOk result (λ made. AreBlocks made.items) }
@@ -227,7 +228,7 @@ pub(crate) fn first_from(blocks: &[(u32, u64)], event: u32) -> Option<u32>
 }
 
 /// Adds an event, where it isn't there yet. An error changes nothing.
-pub(crate) fn include(blocks: &mut Vec<(u32, u64)>, event: u32) -> Result<(), AllocError>
+pub(crate) fn include(blocks: &mut Vec<(u32, u64)>, event: u32) -> Result<(), NoMemory>
     requires { AreBlocks blocks.old.items }
     ensures blocks { AreBlocks blocks.new.items }
     ensures members { OnOk result ((x : ℕ) → has (events_of blocks.new.items) x ≡ (event == x || has (events_of blocks.old.items) x)) }
@@ -255,7 +256,7 @@ pub(crate) fn same(left: &[(u32, u64)], right: &[(u32, u64)]) -> bool
 }
 
 /// The blocks of the given events, in any order.
-pub(crate) fn collected(alloc: Global, events: &[Event]) -> Result<Vec<(u32, u64)>, AllocError>
+pub(crate) fn collected(alloc: Global, events: &[Event]) -> Result<Vec<(u32, u64)>, NoMemory>
     ensures blocks { IfOk result (λ made. AreBlocks made.items) }
     ensures members { IfOk result (λ made. (x : ℕ) → has (events_of made.items) x ≡ has events.now x) }
 {

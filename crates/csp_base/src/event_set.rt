@@ -15,8 +15,7 @@ ghost use Rattle.csp_base.specs.Events.{has, with_member, union_of, set_of, inte
 
 use crate::blocks::Operation;
 use crate::members::Members;
-use crate::no_memory::NoMemory;
-use crate::{block_order, blocks};
+use crate::{NoMemory, block_order, blocks};
 use std::alloc::Global;
 use std::cmp::Ordering;
 use std::hash::{Hash, Hasher};

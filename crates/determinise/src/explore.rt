@@ -12,8 +12,9 @@ use crate::node::node_of;
 use crate::prepared::Prepared;
 use crate::table::SetTable;
 use containers::{Items, Numbering};
+use csp_base::NoMemory;
 use csp_tables::{NormNode, RawTable};
-use std::alloc::{AllocError, Global};
+use std::alloc::Global;
 
 /// The determinised table of a raw table: a node for each set of terms to which a trace from term 0 leads, with the minimal
 /// acceptances of the set.
@@ -41,7 +42,7 @@ pub fn determinise(alloc: Global, table: &RawTable) -> Result<SetTable, SetFault
 }
 
 // The set of the empty trace alone.
-fn first_sets(alloc: Global, table: &Prepared<'_>) -> Result<Numbering<Items<u32>>, AllocError>
+fn first_sets(alloc: Global, table: &Prepared<'_>) -> Result<Numbering<Items<u32>>, NoMemory>
     ensures reached { IfOk result (λ sets. AreReachedSets table.now sets) }
     ensures one { IfOk result (λ sets. length sets ≡ 1) }
 {
@@ -74,7 +75,7 @@ fn explore(
 }
 
 // Adds a node at the end.
-fn push_node(nodes: &mut Vec<NormNode>, node: NormNode) -> Result<(), AllocError>
+fn push_node(nodes: &mut Vec<NormNode>, node: NormNode) -> Result<(), NoMemory>
     ensures { OnOk result (nodes.new.items ≡ nodes.old.items ++ node ∷ []) }
 {
     nodes.push(node)?;

@@ -1,5 +1,4 @@
 use csp_base::NoMemory;
-use std::alloc::AllocError;
 
 /// Why a table has no determinised table, or none was found.
 #[derive(Debug, Drop, thiserror::Error)]
@@ -10,17 +9,6 @@ pub enum SetFault {
     /// Traces lead to more than 2,048 sets of terms. The number is the first one past the limit.
     #[error("more than 2048 sets of terms are reached")]
     SubsetLimit { found: u32 },
-}
-
-impl From<AllocError> for SetFault {
-    ghost use Rattle.std.specs.Prelude.{◌≡◌};
-    ghost use Rattle.determinise.specs.declared.fault.SetFault.TheVariants.{NoMemory as OutOfMemory};
-
-    ghost from_gives = { λ _ fault. fault ≡ OutOfMemory };
-
-    fn from(_error: AllocError) -> SetFault {
-        SetFault::NoMemory
-    }
 }
 
 impl From<NoMemory> for SetFault {

@@ -13,7 +13,7 @@ use containers::Items;
 use csp_base::{Event, EventSet, NoMemory};
 use csp_tables::RawTable;
 use digraph::Rows;
-use std::alloc::{AllocError, Global};
+use std::alloc::Global;
 use std::marker::Model;
 use tau_order::silent_rows;
 
@@ -55,7 +55,7 @@ impl<'a> Prepared<'a> {
     }
 
     // The terms to which silent steps lead from one of the starts, in rising order.
-    pub(crate) fn closed(&self, alloc: Global, starts: &[u32]) -> Result<Items<u32>, AllocError>
+    pub(crate) fn closed(&self, alloc: Global, starts: &[u32]) -> Result<Items<u32>, NoMemory>
         requires { All (λ t. t < self.now.count) starts.now }
         ensures members { IfOk result (λ set. (t : ℕ) → IsTrue (has set t) ↔ IsSilentlyReached self.now starts.now t) }
         ensures form { IfOk result (λ set. IsTermSet self.now set) }
@@ -65,7 +65,7 @@ impl<'a> Prepared<'a> {
     }
 
     // The terms to which the empty trace leads.
-    pub(crate) fn first_set(&self, alloc: Global) -> Result<Items<u32>, AllocError>
+    pub(crate) fn first_set(&self, alloc: Global) -> Result<Items<u32>, NoMemory>
         ensures after { IfOk result (λ set. IsSetAfter self.now [] set) }
         ensures form { IfOk result (λ set. IsTermSet self.now set) }
     {
@@ -74,11 +74,7 @@ impl<'a> Prepared<'a> {
     }
 
     // The steps by events of these terms, event after event.
-    pub(crate) fn moves(
-        &self,
-        alloc: Global,
-        terms: &[u32],
-    ) -> Result<Vec<(Event, u32)>, AllocError>
+    pub(crate) fn moves(&self, alloc: Global, terms: &[u32]) -> Result<Vec<(Event, u32)>, NoMemory>
         requires { All (λ t. t < self.now.count) terms.now }
         ensures steps { IfOk result (λ moves. AreMovesOf self.now terms.now moves.items) }
         ensures order { IfOk result (λ moves. IsNonDecreasingBy (λ step. step.0) moves.items) }

@@ -5,15 +5,15 @@ ghost use Rattle.std.specs.List.{flat_map};
 ghost use Rattle.determinise.specs.Moves.{AreMoveRows};
 
 use containers::Items;
-use csp_base::Event;
+use csp_base::{Event, NoMemory};
 use csp_tables::RawTable;
-use std::alloc::{AllocError, Global};
+use std::alloc::Global;
 
 // For each term the list of its steps.
 pub(crate) fn move_rows(
     alloc: Global,
     table: &RawTable,
-) -> Result<Vec<Items<(Event, u32)>>, AllocError>
+) -> Result<Vec<Items<(Event, u32)>>, NoMemory>
     ensures { IfOk result (λ rows. AreMoveRows table.now rows.items) }
 {
     let mut rows = empty_rows(alloc, table.count())?;
@@ -24,7 +24,7 @@ pub(crate) fn move_rows(
 }
 
 // As many empty lists as `count` says.
-fn empty_rows(alloc: Global, count: u32) -> Result<Vec<Items<(Event, u32)>>, AllocError>
+fn empty_rows(alloc: Global, count: u32) -> Result<Vec<Items<(Event, u32)>>, NoMemory>
     ensures { IfOk result (λ rows. rows.items ≡ replicate count []) }
 {
     let mut rows = Vec::new(alloc);
@@ -40,7 +40,7 @@ fn push_at(
     place: usize,
     event: Event,
     to: u32,
-) -> Result<(), AllocError>
+) -> Result<(), NoMemory>
     requires { place < length rows.old.items }
     ensures { OnOk result (rows.new.items ≡ slice_set rows.old.items place (slice_index_or rows.old.items place [] ++ (event, to) ∷ [])) }
 {
@@ -53,7 +53,7 @@ pub(crate) fn moves_of(
     alloc: Global,
     rows: &[Items<(Event, u32)>],
     terms: &[u32],
-) -> Result<Vec<(Event, u32)>, AllocError>
+) -> Result<Vec<(Event, u32)>, NoMemory>
     requires { All (λ n. n < length rows.now) terms.now }
     ensures { IfOk result (λ moves. moves.items ≡ flat_map (λ n. slice_index_or rows.now n []) terms.now) }
 {
@@ -65,7 +65,7 @@ pub(crate) fn moves_of(
 }
 
 // Adds the steps at the end.
-fn append(moves: &mut Vec<(Event, u32)>, more: &[(Event, u32)]) -> Result<(), AllocError>
+fn append(moves: &mut Vec<(Event, u32)>, more: &[(Event, u32)]) -> Result<(), NoMemory>
     ensures { OnOk result (moves.new.items ≡ moves.old.items ++ more.now) }
 {
     for step in more {

@@ -8,8 +8,8 @@ ghost use Rattle.determinise.specs.Progress.{AreMoreSets, AreNodeSteps, IsSilent
 use crate::fault::SetFault;
 use crate::prepared::Prepared;
 use containers::{Items, Numbering};
-use csp_base::Event;
-use std::alloc::{AllocError, Global};
+use csp_base::{Event, NoMemory};
+use std::alloc::Global;
 
 // How many sets there may be.
 const SET_LIMIT: usize = 2048;
@@ -88,14 +88,14 @@ fn number_of_next(
 }
 
 // The terms to which the steps lead.
-fn targets(alloc: Global, moves: &[(Event, u32)]) -> Result<Vec<u32>, AllocError>
+fn targets(alloc: Global, moves: &[(Event, u32)]) -> Result<Vec<u32>, NoMemory>
     ensures { IfOk result (λ found. found.items ≡ targets_of_steps moves.now) }
 {
     moves.iter().map(|step| step.1).collect(alloc)
 }
 
 // Adds a step at the end.
-fn push(next: &mut Vec<(Event, u32)>, event: Event, number: u32) -> Result<(), AllocError>
+fn push(next: &mut Vec<(Event, u32)>, event: Event, number: u32) -> Result<(), NoMemory>
     ensures { OnOk result (next.new.items ≡ next.old.items ++ (event, number) ∷ []) }
 {
     next.push((event, number))?;

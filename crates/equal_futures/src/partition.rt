@@ -6,7 +6,8 @@ ghost use Rattle.equal_futures.specs.Blocks.{count_of, state_of, HasBlocks, AreB
 ghost use Rattle.csp_base.specs.Members.{has};
 ghost use Rattle.equal_futures.specs.BlockSteps.{IsAdvanced, IsAwaited, IsCalmed, IsDivided};
 
-use std::alloc::{AllocError, Global};
+use csp_base::NoMemory;
+use std::alloc::Global;
 
 /// Nodes in blocks. The nodes stand in one list, block by block, and in each block those that are marked stand first.
 #[derive(Debug, Drop)]
@@ -26,7 +27,7 @@ pub(crate) struct Partition {
 }
 
 // All nodes in one block, which waits.
-pub(crate) fn whole(alloc: Global, count: u32) -> Result<Partition, AllocError>
+pub(crate) fn whole(alloc: Global, count: u32) -> Result<Partition, NoMemory>
     ensures { IfOk result (λ made. IsWhole count (state_of made)) }
 {
     let blocks = if count == 0 { 0 } else { 1 };
@@ -43,7 +44,7 @@ pub(crate) fn whole(alloc: Global, count: u32) -> Result<Partition, AllocError>
 }
 
 // The numbers below `count`.
-fn counted(alloc: Global, count: u32) -> Result<Vec<u32>, AllocError>
+fn counted(alloc: Global, count: u32) -> Result<Vec<u32>, NoMemory>
     ensures len { IfOk result (λ made. length made.items ≡ count) }
     ensures each { IfOk result (λ made. (i : ℕ) → i < count → slice_index made.items i ≡ i) }
 {
@@ -79,7 +80,7 @@ impl Partition {
     }
 
     // Splits each block into those of its nodes from which steps lead and the others. Both parts wait then.
-    pub(crate) fn split(&mut self, alloc: Global, steps: &[(u32, u32)]) -> Result<(), AllocError>
+    pub(crate) fn split(&mut self, alloc: Global, steps: &[(u32, u32)]) -> Result<(), NoMemory>
         requires blocks { HasBlocks (count_of self.old) (state_of self.old) }
         requires calm { IsCalm (state_of self.old) }
         requires sources { All (λ step. step.1 < count_of self.old) steps.now }
@@ -91,7 +92,7 @@ impl Partition {
     }
 
     // Marks the nodes from which steps lead, and lists the blocks that have marked nodes.
-    fn mark_all(&mut self, alloc: Global, steps: &[(u32, u32)]) -> Result<Vec<u32>, AllocError>
+    fn mark_all(&mut self, alloc: Global, steps: &[(u32, u32)]) -> Result<Vec<u32>, NoMemory>
         requires blocks { HasBlocks (count_of self.old) (state_of self.old) }
         requires calm { IsCalm (state_of self.old) }
         requires sources { All (λ step. step.1 < count_of self.old) steps.now }
@@ -105,7 +106,7 @@ impl Partition {
     }
 
     // Cuts the blocks that have marked nodes.
-    fn cut_all(&mut self, touched: &[u32]) -> Result<(), AllocError>
+    fn cut_all(&mut self, touched: &[u32]) -> Result<(), NoMemory>
         requires blocks { HasBlocks (count_of self.old) (state_of self.old) }
         requires touched { AreTouched (state_of self.old) touched.now }
         ensures { OnOk result (AreCut (count_of self.old) (state_of self.old) (state_of self.new)) }
@@ -117,7 +118,7 @@ impl Partition {
     }
 
     // Marks a node. `touched` lists the blocks with marked nodes.
-    fn mark(&mut self, touched: &mut Vec<u32>, node: u32) -> Result<(), AllocError>
+    fn mark(&mut self, touched: &mut Vec<u32>, node: u32) -> Result<(), NoMemory>
         requires blocks { HasBlocks (count_of self.old) (state_of self.old) }
         requires node { node < count_of self.old }
         requires touched { AreTouched (state_of self.old) touched.old.items }
@@ -155,7 +156,7 @@ impl Partition {
     }
 
     // Makes the marked nodes of a block a block of their own, unless all nodes or none are marked, and takes the marks away.
-    fn cut(&mut self, block: u32) -> Result<(), AllocError>
+    fn cut(&mut self, block: u32) -> Result<(), NoMemory>
         requires blocks { HasBlocks (count_of self.old) (state_of self.old) }
         requires block { block < length self.old.firsts.items }
         ensures { OnOk result (IsCut (count_of self.old) (state_of self.old) (state_of self.new) block) }
@@ -179,7 +180,7 @@ impl Partition {
     }
 
     // Makes the marked nodes of a block a block of their own. Both blocks wait then.
-    fn cut_between(&mut self, block: u32) -> Result<(), AllocError>
+    fn cut_between(&mut self, block: u32) -> Result<(), NoMemory>
         requires blocks { HasBlocks (count_of self.old) (state_of self.old) }
         requires block { block < length self.old.firsts.items }
         requires some { slice_index self.old.firsts.items block < slice_index self.old.middles.items block }
@@ -216,7 +217,7 @@ impl Partition {
     }
 
     // Makes the marked nodes of a block a block of their own, the last one, and answers its number.
-    fn divide(&mut self, block: u32) -> Result<u32, AllocError>
+    fn divide(&mut self, block: u32) -> Result<u32, NoMemory>
         requires blocks { HasBlocks (count_of self.old) (state_of self.old) }
         requires block { block < length self.old.firsts.items }
         ensures divided { OnOk result (IsDivided (state_of self.old) (state_of self.new) block) }
@@ -235,7 +236,7 @@ impl Partition {
     }
 
     // Lets a block wait, if it doesn't yet.
-    fn wait(&mut self, block: u32) -> Result<(), AllocError>
+    fn wait(&mut self, block: u32) -> Result<(), NoMemory>
         requires { block < length self.old.flags.items }
         ensures { OnOk result (IsAwaited (state_of self.old) (state_of self.new) block) }
     {

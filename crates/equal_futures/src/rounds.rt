@@ -8,7 +8,7 @@ ghost use Rattle.equal_futures.specs.Rows.{key_of};
 use containers::{Items, Numbering};
 use csp_base::{Event, NoMemory};
 use csp_tables::NormNode;
-use std::alloc::{AllocError, Global};
+use std::alloc::Global;
 
 /// A class for each node of a table, numbered from 0 in the order in which they are first seen.
 #[derive(Debug, Drop)]
@@ -43,11 +43,7 @@ pub fn refine_by_rounds(
 }
 
 // Tells the nodes apart by their classes and by those to which their events lead.
-pub(crate) fn round(
-    alloc: Global,
-    nodes: &[NormNode],
-    classes: &[u32],
-) -> Result<Classes, AllocError>
+pub(crate) fn round(alloc: Global, nodes: &[NormNode], classes: &[u32]) -> Result<Classes, NoMemory>
     requires rising { NodesRise nodes.now }
     requires one_each { length classes.now ≡ length nodes.now }
     ensures { IfOk result (λ made. AreTold nodes.now classes.now made.numbers.items made.count) }
@@ -64,12 +60,7 @@ pub(crate) fn round(
 }
 
 // The class of a node, and each of its events with the class to which it leads.
-fn key(
-    alloc: Global,
-    node: &NormNode,
-    class: u32,
-    classes: &[u32],
-) -> Result<Items<u32>, AllocError>
+fn key(alloc: Global, node: &NormNode, class: u32, classes: &[u32]) -> Result<Items<u32>, NoMemory>
     requires { StepsRise (length classes.now) node.now.next }
     ensures { IfOk result (λ made. made ≡ key_of classes.now class node.now) }
 {

@@ -10,7 +10,7 @@ use crate::rounds::{Classes, round};
 use containers::Items;
 use csp_base::NoMemory;
 use csp_tables::NormNode;
-use std::alloc::{AllocError, Global};
+use std::alloc::Global;
 
 /// The classes of nodes with equal future, refined by a list of blocks that wait to be used as splitters. A splitter splits
 /// each block, for each event, into the nodes from which the event leads into the splitter and the others. Both halves of a
@@ -35,7 +35,7 @@ pub fn refine(alloc: Global, nodes: &[NormNode], marks: &[u32]) -> Result<Classe
 }
 
 // Each node with its mark, as a step by the mark.
-fn with_marks(alloc: Global, marks: &[u32]) -> Result<Vec<(u32, u32)>, AllocError>
+fn with_marks(alloc: Global, marks: &[u32]) -> Result<Vec<(u32, u32)>, NoMemory>
     requires { length marks.now < 2 ^ 32 }
     ensures { IfOk result (λ steps. AreMarkSteps marks.now steps.items) }
 {
@@ -47,7 +47,7 @@ fn with_marks(alloc: Global, marks: &[u32]) -> Result<Vec<(u32, u32)>, AllocErro
 }
 
 // For each node the steps that lead to it, each by its event and the node from which it leads.
-fn incoming(alloc: Global, nodes: &[NormNode]) -> Result<Vec<Items<(u32, u32)>>, AllocError>
+fn incoming(alloc: Global, nodes: &[NormNode]) -> Result<Vec<Items<(u32, u32)>>, NoMemory>
     requires rising { NodesRise nodes.now }
     requires numbered { length nodes.now < 2 ^ 32 }
     ensures { IfOk result (λ rows. AreIncoming nodes.now rows.items (length nodes.now)) }
@@ -59,7 +59,7 @@ fn incoming(alloc: Global, nodes: &[NormNode]) -> Result<Vec<Items<(u32, u32)>>,
     Ok(rows)
 }
 
-fn empty_rows(alloc: Global, count: usize) -> Result<Vec<Items<(u32, u32)>>, AllocError>
+fn empty_rows(alloc: Global, count: usize) -> Result<Vec<Items<(u32, u32)>>, NoMemory>
     ensures { IfOk result (λ rows. rows.items ≡ replicate count []) }
 {
     let mut rows = Vec::new(alloc);
@@ -74,7 +74,7 @@ fn add_steps(
     rows: &mut Vec<Items<(u32, u32)>>,
     source: u32,
     node: &NormNode,
-) -> Result<(), AllocError>
+) -> Result<(), NoMemory>
     requires { All (λ step. step.1 < length rows.old.items) node.now.next }
     ensures { OnOk result (AreAdded rows.old.items rows.new.items source node.now.next) }
 {
@@ -89,7 +89,7 @@ fn push_at(
     rows: &mut Vec<Items<(u32, u32)>>,
     place: usize,
     step: (u32, u32),
-) -> Result<(), AllocError>
+) -> Result<(), NoMemory>
     requires { place < length rows.old.items }
     ensures { OnOk result (rows.new.items ≡ slice_set rows.old.items place (slice_index_or rows.old.items place [] ++ step ∷ [])) }
 {
@@ -102,7 +102,7 @@ fn entering(
     alloc: Global,
     rows: &[Items<(u32, u32)>],
     members: &[u32],
-) -> Result<Vec<(u32, u32)>, AllocError>
+) -> Result<Vec<(u32, u32)>, NoMemory>
     requires { All (λ node. node < length rows.now) members.now }
     ensures { IfOk result (λ steps. AreGathered rows.now members.now steps.items) }
 {
@@ -118,7 +118,7 @@ fn split_by_events(
     alloc: Global,
     partition: &mut Partition,
     steps: &mut Vec<(u32, u32)>,
-) -> Result<(), AllocError>
+) -> Result<(), NoMemory>
     requires blocks { HasBlocks (count_of partition.old) (state_of partition.old) }
     requires calm { IsCalm (state_of partition.old) }
     requires sources { AreFrom (count_of partition.old) steps.old.items }
@@ -134,7 +134,7 @@ fn split_by_groups(
     alloc: Global,
     partition: &mut Partition,
     steps: &[(u32, u32)],
-) -> Result<(), AllocError>
+) -> Result<(), NoMemory>
     requires blocks { HasBlocks (count_of partition.old) (state_of partition.old) }
     requires calm { IsCalm (state_of partition.old) }
     requires sources { AreFrom (count_of partition.old) steps.now }

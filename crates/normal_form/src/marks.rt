@@ -4,12 +4,12 @@ ghost use Rattle.std.specs.Prelude.{◌≡◌, IfOk, ◌<◌, length, ℕ, ◌�
 ghost use Rattle.normal_form.specs.Marks.{AreMarksOf};
 
 use containers::{Items, Numbering};
-use csp_base::EventSet;
+use csp_base::{EventSet, NoMemory};
 use csp_tables::NormNode;
-use std::alloc::{AllocError, Global};
+use std::alloc::Global;
 
 // A number for each node. Two nodes have one number exactly where they have the same acceptances.
-pub(crate) fn accept_marks(alloc: Global, nodes: &[NormNode]) -> Result<Vec<u32>, AllocError>
+pub(crate) fn accept_marks(alloc: Global, nodes: &[NormNode]) -> Result<Vec<u32>, NoMemory>
     ensures { IfOk result (λ marks. AreMarksOf nodes.now marks.items) }
 {
     let mut numbering = Numbering::new(alloc);
@@ -23,7 +23,7 @@ pub(crate) fn accept_marks(alloc: Global, nodes: &[NormNode]) -> Result<Vec<u32>
 }
 
 // The sets as lists of numbers, which can be numbered.
-fn accept_key(alloc: Global, sets: &[EventSet]) -> Result<Items<Items<u32>>, AllocError>
+fn accept_key(alloc: Global, sets: &[EventSet]) -> Result<Items<Items<u32>>, NoMemory>
     ensures { IfOk result (λ key. key ≡ sets.now) }
 {
     let mut key = Items::new(alloc);
@@ -35,7 +35,7 @@ fn accept_key(alloc: Global, sets: &[EventSet]) -> Result<Items<Items<u32>>, All
 }
 
 // The numbers of the events of a set.
-fn event_numbers(alloc: Global, set: &EventSet) -> Result<Items<u32>, AllocError>
+fn event_numbers(alloc: Global, set: &EventSet) -> Result<Items<u32>, NoMemory>
     ensures { IfOk result (λ numbers. numbers ≡ set.now) }
 {
     let mut numbers = Items::new(alloc);

@@ -7,7 +7,7 @@ ghost use Rattle.normal_form.specs.Merged.{AreMerged, renamed};
 use csp_base::{Event, EventSet, NoMemory};
 use csp_tables::NormNode;
 use equal_futures::Classes;
-use std::alloc::{AllocError, Global};
+use std::alloc::Global;
 
 // One node for each class: the first node that has the class, with classes in place of nodes.
 pub(crate) fn merge(
@@ -47,7 +47,7 @@ fn add_first(
     Ok(())
 }
 
-fn push(merged: &mut Vec<NormNode>, node: NormNode) -> Result<(), AllocError>
+fn push(merged: &mut Vec<NormNode>, node: NormNode) -> Result<(), NoMemory>
     ensures { OnOk result (merged.new.items ≡ merged.old.items ++ node ∷ []) }
 {
     merged.push(node)?;
@@ -68,7 +68,7 @@ fn steps_to_classes(
     alloc: Global,
     steps: &[(Event, u32)],
     classes: &[u32],
-) -> Result<Vec<(Event, u32)>, AllocError>
+) -> Result<Vec<(Event, u32)>, NoMemory>
     requires { StepsRise (length classes.now) steps.now }
     ensures { IfOk result (λ made. made.items ≡ map (λ step. (step.0, slice_index classes.now step.1)) steps.now) }
 {

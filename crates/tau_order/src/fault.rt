@@ -1,5 +1,5 @@
+use csp_base::NoMemory;
 use digraph::Circle;
-use std::alloc::AllocError;
 
 /// Why a table has no heights, or none were found.
 #[derive(Debug, Drop, thiserror::Error)]
@@ -12,13 +12,13 @@ pub enum HeightFault {
     Diverges { circle: Circle },
 }
 
-impl From<AllocError> for HeightFault {
+impl From<NoMemory> for HeightFault {
     ghost use Rattle.std.specs.Prelude.{◌≡◌};
     ghost use Rattle.tau_order.specs.declared.fault.HeightFault.TheVariants.{NoMemory};
 
     ghost from_gives = { λ _ fault. fault ≡ NoMemory };
 
-    fn from(_error: AllocError) -> HeightFault {
+    fn from(_error: NoMemory) -> HeightFault {
         HeightFault::NoMemory
     }
 }

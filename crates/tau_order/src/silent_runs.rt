@@ -4,9 +4,10 @@ ghost use Rattle.csp_tables.specs.SilentCircle.{IsSilentCircle};
 ghost use Rattle.tau_order.specs.SilentRows.{AreSilentRows};
 
 use crate::fault::HeightFault;
+use csp_base::NoMemory;
 use csp_tables::RawTable;
 use digraph::{Fault, Heights, Rows, longest_walks};
-use std::alloc::{AllocError, Global};
+use std::alloc::Global;
 
 /// For each term of the table the greatest number of silent steps that follow one another from it, or a circle of silent
 /// steps, where there is one.
@@ -29,7 +30,7 @@ pub fn heights(alloc: Global, table: &RawTable) -> Result<Heights, HeightFault>
 }
 
 /// The silent steps as a digraph, whose vertices are the terms.
-pub fn silent_rows(alloc: Global, table: &RawTable) -> Result<Rows, AllocError>
+pub fn silent_rows(alloc: Global, table: &RawTable) -> Result<Rows, NoMemory>
     ensures { IfOk result (λ rows. AreSilentRows table.now rows) }
 {
     let mut rows = Rows::new(alloc, table.count())?;

@@ -7,7 +7,6 @@ ghost use Rattle.tree_reading.specs.Nesting.{sure};
 
 use csp_base::NoMemory;
 use csp_text::Token;
-use std::alloc::{AllocError, AllocFailed};
 
 /// Why nothing was read.
 #[derive(Clone, Copy, Debug, PartialEq, Eq, Drop, thiserror::Error)]
@@ -21,28 +20,6 @@ pub enum ReadFault {
         /// How many tokens are left where the reading stopped.
         left: usize,
     },
-}
-
-impl From<AllocError> for ReadFault {
-    ghost use Rattle.std.specs.Prelude.{◌≡◌};
-    ghost use Rattle.tree_reading.specs.declared.fault.ReadFault.TheVariants as fault;
-
-    ghost from_gives = { λ _ e. e ≡ fault.NoMemory };
-
-    fn from(_error: AllocError) -> ReadFault {
-        ReadFault::NoMemory
-    }
-}
-
-impl<T: Drop> From<AllocFailed<T>> for ReadFault {
-    ghost use Rattle.std.specs.Prelude.{◌≡◌};
-    ghost use Rattle.tree_reading.specs.declared.fault.ReadFault.TheVariants as fault;
-
-    ghost from_gives = { λ _ e. e ≡ fault.NoMemory };
-
-    fn from(_error: AllocFailed<T>) -> ReadFault {
-        ReadFault::NoMemory
-    }
 }
 
 impl From<NoMemory> for ReadFault {

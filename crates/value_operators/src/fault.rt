@@ -2,7 +2,6 @@
 
 use csp_base::NoMemory;
 use csp_program::ValueKind;
-use std::alloc::{AllocError, AllocFailed};
 
 /// The errors of evaluation.
 #[derive(Clone, Copy, Debug, PartialEq, Eq, Drop, thiserror::Error)]
@@ -16,28 +15,6 @@ pub enum EvalFault {
         /// The kind of fault.
         kind: ValueKind,
     },
-}
-
-impl From<AllocError> for EvalFault {
-    ghost use Rattle.std.specs.Prelude.{◌≡◌};
-    ghost use Rattle.value_operators.specs.declared.fault.EvalFault.TheVariants as fault;
-
-    ghost from_gives = { λ _ e. e ≡ fault.NoMemory };
-
-    fn from(_error: AllocError) -> EvalFault {
-        EvalFault::NoMemory
-    }
-}
-
-impl<T: Drop> From<AllocFailed<T>> for EvalFault {
-    ghost use Rattle.std.specs.Prelude.{◌≡◌};
-    ghost use Rattle.value_operators.specs.declared.fault.EvalFault.TheVariants as fault;
-
-    ghost from_gives = { λ _ e. e ≡ fault.NoMemory };
-
-    fn from(_error: AllocFailed<T>) -> EvalFault {
-        EvalFault::NoMemory
-    }
 }
 
 impl From<NoMemory> for EvalFault {

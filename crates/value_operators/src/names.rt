@@ -7,8 +7,9 @@ ghost use Rattle.value_operators.specs.Gives.{Gives};
 
 use crate::fault::EvalFault;
 use csp_atoms::{Atom, Value};
+use csp_base::NoMemory;
 use csp_program::ValueKind;
-use std::alloc::{AllocError, Global};
+use std::alloc::Global;
 
 const KIND: EvalFault = EvalFault::Value {
     kind: ValueKind::Kind,
@@ -64,7 +65,7 @@ pub fn with_name(
     bound: &[(u32, Atom)],
     slot: u32,
     atom: Atom,
-) -> Result<Vec<(u32, Atom)>, AllocError>
+) -> Result<Vec<(u32, Atom)>, NoMemory>
     ensures { IfOk result (λ more. more.items ≡ bound.now ++ (slot, atom) ∷ []) }
 {
     let mut more = Vec::from_slice(alloc, bound)?;
