@@ -7,12 +7,14 @@ mod blocks;
 pub mod bytes;
 pub mod event_set;
 pub mod members;
+pub mod operators;
 pub mod place;
 pub mod trace;
 
 pub use bytes::{Bytes, Name};
 pub use event_set::{Event, EventSet};
 pub use members::Members;
+pub use operators::{BinOp, SetOp};
 pub use place::Place;
 pub use std::alloc::AllocError as NoMemory;
 pub use trace::Trace;

@@ -6,7 +6,7 @@ use Rattle.csp_text.specs.declared.token.Word.{Word}
 use Rattle.csp_text.specs.declared.token.Word.TheVariants as word
 use Rattle.csp_text.specs.declared.token.Symbol.{Symbol}
 use Rattle.csp_text.specs.declared.token.Symbol.TheVariants as symbol
-use Rattle.csp_text.specs.declared.tree.BinOp.{BinOp}
+use Rattle.csp_base.specs.declared.operators.BinOp.{BinOp}
 use Rattle.csp_grammar.specs.Grammar.{Choice, choice_sign}
 use Rattle.csp_grammar.specs.Grammar.Choice.{external, internal}
 use Rattle.csp_grammar.specs.Precedence.{Level, IsLeftOperator, IsComparison}

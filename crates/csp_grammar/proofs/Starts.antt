@@ -4,8 +4,8 @@ use Rattle.csp_text.specs.declared.token.Token.{Token}
 use Rattle.csp_text.specs.declared.token.Word.TheVariants as word
 use Rattle.csp_text.specs.declared.token.Symbol.TheVariants as symbol
 use Rattle.csp_text.specs.declared.tree.Tree.{Tree}
-use Rattle.csp_text.specs.declared.tree.BinOp.{BinOp}
-use Rattle.csp_text.specs.declared.tree.SetOp.TheVariants as set_op
+use Rattle.csp_base.specs.declared.operators.BinOp.{BinOp}
+use Rattle.csp_base.specs.declared.operators.SetOp.TheVariants as set_op
 use Rattle.csp_grammar.specs.Grammar.{ExpressionText, AtomText, ItemText, ItemsText}
 use Rattle.csp_grammar.specs.Grammar as g
 use Rattle.csp_grammar.specs.Precedence.{Level, IsLeftOperator, IsComparison}

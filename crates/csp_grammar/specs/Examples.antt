@@ -6,7 +6,7 @@ use Rattle.csp_text.specs.declared.token.Word.TheVariants as word
 use Rattle.csp_text.specs.declared.token.Symbol.TheVariants.{Arrow, ExternalChoice, Bang, Colon, At, Plus, Minus, Percent, OpenParen, CloseParen, OpenBrace, CloseBrace, Backslash, Semicolon}
 use Rattle.csp_text.specs.declared.tree.Tree.{Tree}
 use Rattle.csp_text.specs.declared.tree.Tree.TheVariants as tree
-use Rattle.csp_text.specs.declared.tree.BinOp.TheVariants.{Add, Sub, Rem}
+use Rattle.csp_base.specs.declared.operators.BinOp.TheVariants.{Add, Sub, Rem}
 use Rattle.csp_text.specs.declared.tree.FieldTree.TheVariants as field
 use Rattle.csp_grammar.specs.Grammar.{TreeText, event_tree}
 

@@ -10,18 +10,18 @@ use Rattle.csp_atoms.specs.Exact.{exact_value}
 use Rattle.csp_atoms.specs.contracts.value.ValuePartialEq.TheImpl as values
 use Rattle.csp_atoms.specs.declared.value.Value.{Value}
 use Rattle.std.specs.contracts.prelude.BoolPartialEq.TheImpl as bools
-use Rattle.csp_program.specs.contracts.expressions.BinOpPartialEq.TheImpl as binops
-use Rattle.csp_program.specs.contracts.expressions.SetOpPartialEq.TheImpl as setops
+use Rattle.csp_base.specs.contracts.operators.BinOpPartialEq.TheImpl as binops
+use Rattle.csp_base.specs.contracts.operators.SetOpPartialEq.TheImpl as setops
 use Rattle.csp_program.specs.contracts.expressions.ExprPartialEq.TheImpl as exprs
 use Rattle.csp_program.specs.contracts.expressions.ExprPartialEq.TheImpl.Laws as expr_laws
 use Rattle.csp_program.specs.contracts.expressions.GenPartialEq.TheImpl as gens
 use Rattle.csp_program.specs.contracts.expressions.GenPartialEq.TheImpl.Laws as gen_laws
 use Rattle.csp_program.specs.contracts.expressions.EventPartPartialEq.TheImpl as parts
 use Rattle.csp_program.specs.contracts.expressions.EventPartPartialEq.TheImpl.Laws as part_laws
-use Rattle.csp_program.specs.declared.expressions.BinOp.{BinOp}
-use Rattle.csp_program.specs.declared.expressions.BinOp.TheVariants as binop
-use Rattle.csp_program.specs.declared.expressions.SetOp.{SetOp}
-use Rattle.csp_program.specs.declared.expressions.SetOp.TheVariants as setop
+use Rattle.csp_base.specs.declared.operators.BinOp.{BinOp}
+use Rattle.csp_base.specs.declared.operators.BinOp.TheVariants as binop
+use Rattle.csp_base.specs.declared.operators.SetOp.{SetOp}
+use Rattle.csp_base.specs.declared.operators.SetOp.TheVariants as setop
 use Rattle.csp_program.specs.declared.expressions.Expr.{Expr}
 use Rattle.csp_program.specs.declared.expressions.Expr.TheOpen.{Expr-F, Gen-F, EventPart-F}
 use Rattle.csp_program.specs.declared.expressions.Expr.TheFolds.{ind-Expr, ind-Gen, ind-EventPart, map-Expr, map-Gen, map-EventPart}

@@ -2,48 +2,7 @@
 
 use containers::{Boxed, Items};
 use csp_atoms::Value;
-
-/// The operators on two atoms.
-#[derive(Clone, Copy, Debug, PartialEq, Eq, Hash)]
-pub enum BinOp {
-    /// `or`
-    Or,
-    /// `and`
-    And,
-    /// `==`
-    Eq,
-    /// `!=`
-    Ne,
-    /// `<`
-    Lt,
-    /// `<=`
-    Le,
-    /// `>`
-    Gt,
-    /// `>=`
-    Ge,
-    /// `+`
-    Add,
-    /// `-`
-    Sub,
-    /// `*`
-    Mul,
-    /// `/`
-    Div,
-    /// `%`
-    Rem,
-}
-
-/// The operators on two sets.
-#[derive(Clone, Copy, Debug, PartialEq, Eq, Hash)]
-pub enum SetOp {
-    /// `union`
-    Union,
-    /// `inter`
-    Inter,
-    /// `diff`
-    Diff,
-}
+use csp_base::{BinOp, SetOp};
 
 /// An expression. Parts stand in the order of the text.
 #[cycle(expression)]

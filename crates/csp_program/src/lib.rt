@@ -12,7 +12,7 @@ pub mod processes;
 pub mod programs;
 
 pub use csp_atoms::{Atom, AtomSet, Value};
-pub use expressions::{BinOp, EventPart, Expr, Gen, SetOp};
+pub use expressions::{EventPart, Expr, Gen};
 pub use kinds::ValueKind;
 pub use networks::Net;
 pub use processes::{Field, Head, Proc};

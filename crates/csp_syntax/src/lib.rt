@@ -9,8 +9,8 @@ mod tests;
 pub use csp_lexer::{LexFault, Tokens, lex};
 pub use csp_parser::{ParseFault, each_text_spells_one_script, parse, read};
 pub use csp_text::{
-    BinOp, Decl, EventTree, FieldTree, GenTree, PartTree, ResourceNames, RolesNames, Script, SetOp,
-    Symbol, Token, Tree, Word, depth,
+    Decl, EventTree, FieldTree, GenTree, PartTree, ResourceNames, RolesNames, Script, Symbol,
+    Token, Tree, Word, depth,
 };
 pub use script_printer::print_script;
 pub use single::{SingleProcess, read_single_process, single_process};

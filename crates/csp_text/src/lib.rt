@@ -10,5 +10,5 @@ pub mod written;
 pub use depths::depth;
 pub use script::{Decl, Script};
 pub use token::{ResourceNames, RolesNames, Symbol, Token, Word};
-pub use tree::{BinOp, EventTree, FieldTree, GenTree, PartTree, SetOp, Tree};
+pub use tree::{EventTree, FieldTree, GenTree, PartTree, Tree};
 pub use written::{symbol_text, word_text};

@@ -1,49 +1,7 @@
 //! Trees: what an expression or a process of a script looks like, before names have a meaning.
 
 use containers::{Boxed, Items};
-use csp_base::Name;
-
-/// The operators that stand between two operands.
-#[derive(Clone, Copy, Debug, PartialEq, Eq, Hash)]
-pub enum BinOp {
-    /// `or`
-    Or,
-    /// `and`
-    And,
-    /// `==`
-    Eq,
-    /// `!=`
-    Ne,
-    /// `<`
-    Lt,
-    /// `<=`
-    Le,
-    /// `>`
-    Gt,
-    /// `>=`
-    Ge,
-    /// `+`
-    Add,
-    /// `-`
-    Sub,
-    /// `*`
-    Mul,
-    /// `/`
-    Div,
-    /// `%`
-    Rem,
-}
-
-/// The operators on two sets.
-#[derive(Clone, Copy, Debug, PartialEq, Eq, Hash)]
-pub enum SetOp {
-    /// `union`
-    Union,
-    /// `inter`
-    Inter,
-    /// `diff`
-    Diff,
-}
+use csp_base::{BinOp, Name, SetOp};
 
 /// An expression or a process. Parts stand in the order of the text; parentheses leave no trace.
 #[cycle(tree)]

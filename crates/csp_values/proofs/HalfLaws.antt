@@ -5,8 +5,8 @@ use Rattle.csp_program.specs.Value.{binary}
 use Rattle.csp_atoms.specs.declared.atom.Atom.TheVariants as atom
 use Rattle.csp_atoms.specs.declared.value.Value.{Value}
 use Rattle.csp_atoms.specs.declared.value.Value.TheVariants.{One, Many}
-use Rattle.csp_program.specs.declared.expressions.BinOp.{BinOp}
-use Rattle.csp_program.specs.declared.expressions.BinOp.TheVariants as op
+use Rattle.csp_base.specs.declared.operators.BinOp.{BinOp}
+use Rattle.csp_base.specs.declared.operators.BinOp.TheVariants as op
 use Rattle.value_operators.specs.Operands.{first_half}
 
 -- the value that is decided, or that of both operands

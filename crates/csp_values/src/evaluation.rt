@@ -12,7 +12,8 @@ ghost use Rattle.csp_values.specs.Worth.{worth, worths, use_worth, body_worth, w
 use crate::tally::Tally;
 use containers::Items;
 use csp_atoms::{Atom, AtomSet, Value};
-use csp_program::{BinOp, Body, Content, Def, EventPart, Expr, Gen, Program, SetOp, ValueKind};
+use csp_base::{BinOp, SetOp};
+use csp_program::{Body, Content, Def, EventPart, Expr, Gen, Program, ValueKind};
 use std::alloc::Global;
 use value_operators::EvalFault;
 use value_operators::names::{Names, named, with_name};

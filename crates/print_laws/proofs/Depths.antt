@@ -1,8 +1,8 @@
 -- The depth of each form of tree, in terms of its parts.
 use Rattle.std.proofs.Common.{◌≡◌, ℕ, ◌+◌, max, Some, List, map, ap, sym, ◌∙◌}
 use Rattle.csp_text.specs.Depth.{event_depth, event_layer_depth, field_depth, field_layer_depth, gen_depth, gen_layer_depth, greatest, greatest_of_pairs, part_depth, part_layer_depth, tree_depth, tree_layer_depth}
-use Rattle.csp_text.specs.declared.tree.BinOp.{BinOp}
-use Rattle.csp_text.specs.declared.tree.SetOp.{SetOp}
+use Rattle.csp_base.specs.declared.operators.BinOp.{BinOp}
+use Rattle.csp_base.specs.declared.operators.SetOp.{SetOp}
 use Rattle.csp_text.specs.declared.tree.FieldTree.TheFolds.{fold-roll-GenTree, fold-roll-Tree, fold-roll-EventTree, fold-roll-PartTree, fold-roll-FieldTree}
 use Rattle.csp_text.specs.declared.tree.FieldTree.TheOpen.{FieldTree-F, GenTree-F, Tree-F}
 use Rattle.csp_text.specs.declared.tree.FieldTree.{FieldTree}

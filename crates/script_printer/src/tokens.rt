@@ -6,8 +6,8 @@ ghost use Rattle.script_printer.specs.TokenText.{before_place, spaced};
 ghost use Rattle.script_printer.specs.PrintedTree.{operator_token, set_op_token};
 
 use crate::numbers::put_decimal;
-use csp_base::{Bytes, Name, NoMemory};
-use csp_text::{BinOp, SetOp, Symbol, Word, symbol_text, word_text};
+use csp_base::{BinOp, Bytes, Name, NoMemory, SetOp};
+use csp_text::{Symbol, Word, symbol_text, word_text};
 
 const SPACE: u8 = b' ';
 

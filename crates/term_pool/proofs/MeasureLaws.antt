@@ -4,8 +4,8 @@ use Rattle.csp_program.specs.Lists.{greatest, total}
 use Rattle.csp_program.specs.Depth.{expr_depth, gen_depth, part_depth, pair_depth, field_depth, proc_depth, expr_depth_of_layer, gen_depth_of_layer, part_depth_of_layer, proc_depth_of_layer}
 use Rattle.csp_program.specs.Size.{elements_of, expr_size, gen_size, part_size, pair_size, field_size, proc_size, expr_size_of_layer, gen_size_of_layer, part_size_of_layer, proc_size_of_layer}
 use Rattle.csp_atoms.specs.declared.value.Value.{Value}
-use Rattle.csp_program.specs.declared.expressions.BinOp.{BinOp}
-use Rattle.csp_program.specs.declared.expressions.SetOp.{SetOp}
+use Rattle.csp_base.specs.declared.operators.BinOp.{BinOp}
+use Rattle.csp_base.specs.declared.operators.SetOp.{SetOp}
 use Rattle.csp_program.specs.declared.expressions.Expr.{Expr}
 use Rattle.csp_program.specs.declared.expressions.Expr.TheVariants as expr
 use Rattle.csp_program.specs.declared.expressions.Expr.TheFolds.{fold-roll-Expr, fold-roll-Gen, fold-roll-EventPart}

@@ -3,8 +3,8 @@
 use crate::parts::{NAME, OTHER, boxed, gens, leaf, part, two};
 use containers::{Boxed, Items};
 use csp_atoms::{Atom, Value};
-use csp_base::NoMemory;
-use csp_program::{BinOp, EventPart, Expr, SetOp};
+use csp_base::{BinOp, NoMemory, SetOp};
+use csp_program::{EventPart, Expr};
 use std::alloc::Global;
 
 #[derive(Clone, Copy, Debug)]

@@ -1,8 +1,8 @@
 //! Printed texts, compared with what was worked out by hand.
 
 use containers::{Boxed, Items};
-use csp_base::{Bytes, Name, NoMemory};
-use csp_text::{BinOp, Decl, EventTree, ResourceNames, Script, Tree};
+use csp_base::{BinOp, Bytes, Name, NoMemory};
+use csp_text::{Decl, EventTree, ResourceNames, Script, Tree};
 use script_printer::print_script;
 use std::alloc::Global;
 use std::test::Fail;

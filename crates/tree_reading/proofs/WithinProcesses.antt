@@ -7,14 +7,14 @@ use Rattle.csp_text.specs.declared.token.Symbol.{Symbol}
 use Rattle.csp_text.specs.declared.token.Symbol.TheVariants as symbol
 use Rattle.csp_text.specs.declared.token.Word.{Word}
 use Rattle.csp_text.specs.declared.token.Word.TheVariants as word
-use Rattle.csp_text.specs.declared.tree.SetOp.TheVariants as set_op
-use Rattle.csp_text.specs.declared.tree.BinOp.{BinOp}
+use Rattle.csp_base.specs.declared.operators.SetOp.TheVariants as set_op
+use Rattle.csp_base.specs.declared.operators.BinOp.{BinOp}
 use Rattle.tree_reading.specs.declared.look.AtomStart.{AtomStart}
 use Rattle.tree_reading.specs.declared.look.AtomStart.TheVariants as start
 use Rattle.tree_reading.specs.Starts.{word_start, symbol_start}
 use Rattle.csp_text.specs.declared.tree.Tree.{Tree}
 use Rattle.csp_text.specs.declared.tree.Tree.TheVariants as tree
-use Rattle.csp_text.specs.declared.tree.SetOp.{SetOp}
+use Rattle.csp_base.specs.declared.operators.SetOp.{SetOp}
 use Rattle.csp_text.specs.declared.tree.FieldTree.{FieldTree}
 use Rattle.csp_text.specs.declared.tree.FieldTree.TheVariants as field
 use Rattle.csp_text.specs.declared.tree.PartTree.{PartTree}

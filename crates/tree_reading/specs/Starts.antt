@@ -6,8 +6,8 @@ use Rattle.csp_text.specs.declared.token.Word.{Word}
 use Rattle.csp_text.specs.declared.token.Word.TheVariants as word
 use Rattle.csp_text.specs.declared.token.Symbol.{Symbol}
 use Rattle.csp_text.specs.declared.token.Symbol.TheVariants as symbol
-use Rattle.csp_text.specs.declared.tree.BinOp.TheVariants as operator
-use Rattle.csp_text.specs.declared.tree.SetOp.TheVariants as set_op
+use Rattle.csp_base.specs.declared.operators.BinOp.TheVariants as operator
+use Rattle.csp_base.specs.declared.operators.SetOp.TheVariants as set_op
 use Rattle.csp_text.specs.declared.tree.Tree.{Tree}
 use Rattle.csp_text.specs.declared.tree.Tree.TheVariants as tree
 use Rattle.csp_text.specs.declared.tree.FieldTree.{FieldTree}

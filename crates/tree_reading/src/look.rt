@@ -10,8 +10,8 @@ ghost use Rattle.tree_reading.specs.Starts.{atom_start, chain_symbol, first_chai
 
 use crate::fault::{ReadFault, stopped};
 use crate::read::Binding;
-use csp_base::Name;
-use csp_text::{BinOp, SetOp, Symbol, Token, Tree, Word};
+use csp_base::{BinOp, Name, SetOp};
+use csp_text::{Symbol, Token, Tree, Word};
 use std::alloc::Global;
 
 /// The two choices.

@@ -10,8 +10,8 @@ ghost use Rattle.tree_reading.specs.Starts.{choice, dot_field, dot_fields, dotte
 use crate::fault::{ReadFault, stopped};
 use crate::look::Chain;
 use containers::{Boxed, Items};
-use csp_base::{Name, NoMemory};
-use csp_text::{BinOp, EventTree, FieldTree, GenTree, PartTree, SetOp, Token, Tree};
+use csp_base::{BinOp, Name, NoMemory, SetOp};
+use csp_text::{EventTree, FieldTree, GenTree, PartTree, Token, Tree};
 use std::alloc::Global;
 
 /// A tree on the heap.

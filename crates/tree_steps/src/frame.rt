@@ -2,8 +2,8 @@
 
 use crate::form::{GeneratorsOf, PartOf};
 use containers::{Boxed, Items};
-use csp_base::Name;
-use csp_text::{BinOp, FieldTree, GenTree, SetOp, Tree};
+use csp_base::{BinOp, Name, SetOp};
+use csp_text::{FieldTree, GenTree, Tree};
 use tree_reading::limits::Limits;
 use tree_reading::look::Chain;
 use tree_reading::read::Binding;

@@ -3,8 +3,8 @@ use Rattle.std.specs.Prelude.{ℕ, ◌*◌, nat_eq, neg_ℤ, not, if◌then◌el
 use Rattle.csp_program.specs.EventNumber.{row_count}
 use Rattle.csp_program.specs.Outcome.{Outcome, and_then}
 use Rattle.csp_program.specs.Value.{Gathered, number_of, truth_of, set_of, truth, in_range, binary, many, range, set_binary}
-use Rattle.csp_program.specs.declared.expressions.BinOp.{BinOp}
-use Rattle.csp_program.specs.declared.expressions.SetOp.{SetOp}
+use Rattle.csp_base.specs.declared.operators.BinOp.{BinOp}
+use Rattle.csp_base.specs.declared.operators.SetOp.{SetOp}
 use Rattle.csp_atoms.specs.declared.atom.Atom.{Atom}
 use Rattle.csp_atoms.specs.declared.atom.Atom.TheVariants as atom
 use Rattle.csp_atoms.specs.declared.value.Value.{Value}

@@ -2,8 +2,8 @@
 use Rattle.std.specs.Prelude.{ℤ, Bool, true, false, not, ◌+ℤ◌, ◌-ℤ◌, ◌*ℤ◌, int_lt, int_le, if◌then◌else◌, Option, Some, None, Ok, Err}
 use Rattle.csp_program.specs.Outcome.{Outcome, and_then}
 use Rattle.csp_program.specs.Value.{atom_of, number_of, truth_of, truth, in_range, divided, quotient, remainder}
-use Rattle.csp_program.specs.declared.expressions.BinOp.{BinOp}
-use Rattle.csp_program.specs.declared.expressions.BinOp.TheVariants as op
+use Rattle.csp_base.specs.declared.operators.BinOp.{BinOp}
+use Rattle.csp_base.specs.declared.operators.BinOp.TheVariants as op
 use Rattle.csp_program.specs.declared.kinds.ValueKind.TheVariants.{Kind}
 use Rattle.csp_atoms.specs.declared.value.Value.{Value}
 

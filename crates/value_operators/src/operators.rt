@@ -10,7 +10,8 @@ ghost use Rattle.value_operators.specs.Operands.{first_half, on_two_numbers, dec
 
 use crate::fault::EvalFault;
 use csp_atoms::{Atom, AtomSet, Value, atom};
-use csp_program::{BinOp, ValueKind};
+use csp_base::BinOp;
+use csp_program::ValueKind;
 
 /// The greatest number that arithmetic may come to; the least is its negative.
 const GREATEST: i64 = 1_000_000;

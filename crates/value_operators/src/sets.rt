@@ -11,8 +11,8 @@ ghost use Rattle.value_operators.specs.Gives.{Gives};
 use crate::fault::EvalFault;
 use crate::operators::to_atom;
 use csp_atoms::{Atom, AtomSet, AtomSetError, Value};
-use csp_base::Event;
-use csp_program::{SetOp, ValueKind};
+use csp_base::{Event, SetOp};
+use csp_program::ValueKind;
 use std::alloc::Global;
 
 /// The greatest number of elements of a set.

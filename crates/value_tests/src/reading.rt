@@ -2,7 +2,8 @@
 
 use crate::words::{Step, meant, opens};
 use containers::{Boxed, Items};
-use csp_program::{BinOp, EventPart, Expr, Gen, SetOp, ValueKind};
+use csp_base::{BinOp, SetOp};
+use csp_program::{EventPart, Expr, Gen, ValueKind};
 use std::alloc::Global;
 use value_operators::EvalFault;
 

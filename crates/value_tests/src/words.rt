@@ -4,7 +4,7 @@
 //! What takes parts in round brackets has the bracket in its word, as `f(`, `if(` and the channel `c(`. Of two operators that meet, one stands
 //! in brackets, since none of them binds more tightly than another. A negative number is `neg` of one, and a condition among generators begins with `where`.
 
-use csp_program::{BinOp, SetOp};
+use csp_base::{BinOp, SetOp};
 
 /// What a word asks for.
 #[derive(Clone, Copy)]
