@@ -119,20 +119,3 @@ fn vertices_that_walks_reach(rt: HostRuntime) -> Result<(), Fail> {
     }
     Ok(())
 }
-
-// A walk of 16,383 arcs: neither search needs the stack for it.
-#[test]
-fn a_long_chain(rt: HostRuntime) -> Result<(), Fail> {
-    let mut rows = Rows::new(rt.alloc(), 16_384)?;
-    for v in 1..16_384 {
-        assert!(rt; v < rows.len());
-        rows.add_arc(v as u32 - 1, v as u32)?;
-    }
-    let (_, heights) = answer(rt.alloc(), &rows)?;
-    assert_eq!(rt; heights.first().copied(), Some(16_383));
-    assert_eq!(rt; heights.last().copied(), Some(0));
-    assert!(rt; rows.len() > 0);
-    let found = reachable_from(rt.alloc(), &rows, 0)?;
-    assert_eq!(rt; found.len(), 16_384);
-    Ok(())
-}

@@ -1,5 +1,4 @@
-//! Tests of the crates at the bottom: containers, events and sets of them, atoms, tables, digraphs, and what
-//! stands for the outside.
+//! Tests of the crates at the bottom: containers, events and sets of them, atoms, digraphs, tables, and what stands for the outside.
 //!
 //! They stand here, and not beside what they test, so that those crates are not proved a second time for their sake.
 #![tactic(auto)]
@@ -14,7 +13,3 @@ mod digraphs;
 mod events;
 #[cfg(test)]
 mod outside;
-#[cfg(test)]
-mod tables;
-#[cfg(test)]
-mod tree;

@@ -1,11 +1,8 @@
-//! Shelves and sinks: in memory, of files, and of the standard output.
+//! Shelves of files and the sink of the standard output. (Those in memory are tested with the top call.)
 
-use csp_base::{Bytes, NoMemory};
+use csp_base::Bytes;
 use dl_outside::file_shelf::read_text;
-use dl_outside::{
-    FileShelf, LoadFault, MemoryShelf, MemorySink, QuietShelf, Shelf, Sink, SinkFault, StdSink,
-    SureShelf, SureSink,
-};
+use dl_outside::{FileShelf, LoadFault, Shelf, Sink, SinkFault, StdSink};
 use std::alloc::Global;
 use std::cell::Cell;
 use std::fmt::Display;
@@ -17,6 +14,7 @@ type Load<'a> = (&'a [u8], u32, Result<&'a [u8], LoadFault>);
 
 type Written<'a> = (&'a [u8], Result<usize, SinkFault>);
 
+// Whether a load was answered so.
 fn is_answer(answer: Result<Bytes, LoadFault>, want: Result<&[u8], LoadFault>) -> bool {
     match (answer, want) {
         (Ok(text), Ok(bytes)) => text.as_slice() == bytes,
@@ -43,106 +41,6 @@ fn writes_are<O: Sink>(sink: &mut O, writes: &[Written<'_>]) -> bool {
         }
     }
     true
-}
-
-// What a shelf answers that has "xyz" under a and nothing under b.
-const LOADS: [Load<'static>; 4] = [
-    (b"a", 2, Err(LoadFault::TooLong)),
-    (b"c", 9, Err(LoadFault::Missing)),
-    (b"b", 0, Ok(b"")),
-    (b"", 9, Err(LoadFault::Missing)),
-];
-
-// A shelf whose second load fails.
-fn memory_shelf(alloc: Global) -> Result<MemoryShelf, NoMemory> {
-    let mut shelf = MemoryShelf::new(alloc, vec![in alloc; 2]?);
-    shelf.put_text(b"b", b"old")?;
-    shelf.put_text(b"a", b"xyz")?;
-    shelf.put_text(b"b", b"")?;
-    Ok(shelf)
-}
-
-fn memory_shelf_answers(alloc: Global) -> Result<bool, NoMemory> {
-    let mut shelf = memory_shelf(alloc)?;
-    let first: [Load<'_>; 2] = [(b"a", 3, Ok(b"xyz")), (b"a", 3, Err(LoadFault::Failed))];
-    let are_first = loads_are(alloc, &mut shelf, &first);
-    let are_next = loads_are(alloc, &mut shelf, &LOADS);
-    let has_texts = shelf.text(b"b") == Some(b"".as_slice()) && shelf.text(b"c") == None;
-    Ok(are_first && are_next && has_texts)
-}
-
-fn sure_shelf(alloc: Global) -> Result<SureShelf, NoMemory> {
-    let mut shelf = SureShelf::new(alloc);
-    shelf.put_text(b"b", b"old")?;
-    shelf.put_text(b"a", b"xyz")?;
-    shelf.put_text(b"b", b"")?;
-    Ok(shelf)
-}
-
-fn sure_shelf_answers(alloc: Global) -> Result<bool, NoMemory> {
-    let mut shelf = sure_shelf(alloc)?;
-    let first: Load<'_> = (b"a", 3, Ok(b"xyz"));
-    let are_first = loads_are(alloc, &mut shelf, &[first, first]);
-    let are_next = loads_are(alloc, &mut shelf, &LOADS);
-    Ok(are_first && are_next && shelf.text(b"a") == Some(b"xyz".as_slice()))
-}
-
-#[test]
-fn shelves_in_memory_answer_by_name_and_length(rt: HostRuntime) -> Result<(), Fail> {
-    let alloc = rt.alloc();
-    assert!(rt; memory_shelf_answers(alloc)?);
-    assert!(rt; sure_shelf_answers(alloc)?);
-    Ok(())
-}
-
-// Ten bytes at most, and the second and the fourth write fail.
-fn memory_sink_takes(alloc: Global) -> Result<bool, NoMemory> {
-    let mut sink = MemorySink::new(alloc, 10, vec![in alloc; 2, 4]?);
-    let writes: [Written<'_>; 5] = [
-        (b"hello, world", Ok(10)),
-        (b"ld", Err(SinkFault::Failed)),
-        (b"", Ok(0)),
-        (b"ld", Err(SinkFault::Failed)),
-        (b"ld", Ok(2)),
-    ];
-    Ok(writes_are(&mut sink, &writes) && sink.sent() == b"hello, world".as_slice())
-}
-
-fn sure_sink_takes(alloc: Global) -> bool {
-    let mut sink = SureSink::new(alloc, 1);
-    let writes: [Written<'_>; 2] = [(b"ab", Ok(1)), (b"b", Ok(1))];
-    writes_are(&mut sink, &writes) && sink.sent() == b"ab".as_slice()
-}
-
-#[test]
-fn sinks_in_memory_take_at_most_so_many_bytes(rt: HostRuntime) -> Result<(), Fail> {
-    let alloc = rt.alloc();
-    assert!(rt; memory_sink_takes(alloc)?);
-    assert!(rt; sure_sink_takes(alloc));
-    Ok(())
-}
-
-fn quiet_shelf(alloc: Global) -> Result<QuietShelf, NoMemory> {
-    let one = Bytes::from_slice(alloc, b"one")?;
-    let second = Bytes::from_slice(alloc, b"second")?;
-    Ok(QuietShelf::new(vec![in alloc; one, second]?))
-}
-
-fn quiet_shelf_answers(alloc: Global) -> Result<bool, NoMemory> {
-    let mut shelf = quiet_shelf(alloc)?;
-    let loads: [Load<'_>; 4] = [
-        (b"any", 3, Ok(b"one")),
-        (b"any", 5, Err(LoadFault::TooLong)),
-        (b"any", 9, Err(LoadFault::Failed)),
-        (b"any", 9, Err(LoadFault::Failed)),
-    ];
-    Ok(loads_are(alloc, &mut shelf, &loads))
-}
-
-#[test]
-fn quiet_shelf_hands_out_its_strings_once(rt: HostRuntime) -> Result<(), Fail> {
-    assert!(rt; quiet_shelf_answers(rt.alloc())?);
-    Ok(())
 }
 
 // Whether the file, which holds "abc", and others are answered so.

@@ -10,7 +10,7 @@ use Rattle.csp_syntax.specs.Places.{IsPlaceOf}
 use Rattle.csp_syntax.specs.Spells.{EachTextSpellsOneScript, Spells}
 use Rattle.csp_syntax.specs.PrintedScript.{script_text}
 use Rattle.csp_terms.specs.Network.{network_of, IsLive, HasSilentBound}
-use Rattle.dl_top.specs.declared.words.Rule.{Rule}
+use Rattle.csp_tables.specs.declared.rule.Rule.{Rule}
 use Rattle.dl_top.specs.declared.answer.Answer.{Answer}
 use Rattle.dl_top.specs.declared.answer.Answer.TheVariants.{NotBuilt, Shown, DeadlockFree}
 use Rattle.dl_top.specs.Judgement.{CheckCallsFor, ShowCallsFor, Tells}
@@ -21,7 +21,7 @@ FindsAll text found = (s : SingleProcess) → SpellsSingle text s → found ≡ 
 
 pub nothing_read : (text : List ℕ) (rule : Rule) (found : Option SingleProcess) → found ≡ None → FindsAll text found → CheckCallsFor text rule NotBuilt
 nothing_read text rule found is all =
-    inl ((λ network spelled. let clash : None ≡ Some spelled.process = sym is ∙ all spelled.process spelled.spelled in cc), refl)
+    inr (inl ((λ network spelled. let clash : None ≡ Some spelled.process = sym is ∙ all spelled.process spelled.spelled in cc), refl))
 
 same_process : (s t : SingleProcess) → Some s ≡ Some t → s ≡ t
 same_process s t e = cc
@@ -30,7 +30,7 @@ pub process_read : (text : List ℕ) (rule : Rule) (found : Option SingleProcess
     → FindsAll text found → HasSilentBound (network_of s) bound → IsLive (network_of s) bound → CheckCallsFor text rule (DeadlockFree rule 1 bound)
 process_read text rule found s bound is spells all exact live =
     let P : Option SingleProcess → Type 0 = λ o. IfSome o (SpellsSingle text) in
-    inr (
+    inr (inr (
       network_of s,
       bound,
       record {
@@ -39,7 +39,7 @@ process_read text rule found s bound is spells all exact live =
       },
       record { exact = exact; live = live },
       refl,
-    )
+    ))
 
 pub script_read : (text printed : List ℕ) (s : Script) → Spells text s → EachTextSpellsOneScript → printed ≡ script_text s
     → ShowCallsFor text (Shown printed)

@@ -8,7 +8,7 @@ use Rattle.print_laws.specs.Laws.{PrintedTextSpellsNoOther, PrintedTextSpellsThe
 use Rattle.dl_outside.specs.declared.texts.NamedText.{NamedText}
 use Rattle.dl_outside.specs.Write.{GrowsBy}
 use Rattle.dl_top.specs.declared.words.Command.TheVariants.{Check, Show}
-use Rattle.dl_top.specs.declared.words.Rule.{Rule}
+use Rattle.csp_tables.specs.declared.rule.Rule.{Rule}
 use Rattle.dl_top.specs.declared.answer.Answer.{Answer}
 use Rattle.dl_top.specs.declared.answer.Answer.TheVariants.{Usage, ScriptNotFound, ScriptNotRead, ScriptTooLong, NoScript, NotBuilt, Shown, DeadlockFree}
 use Rattle.dl_top.specs.Cause.{CallsFor, MayGive, ScriptCallsFor, ShelfSigns}
@@ -29,8 +29,9 @@ one_command words rule name other check show = let same = sym check ∙ show in 
 text_free : (text : List ℕ) (rule : Rule) (answer : Answer) → ScriptCallsFor text (Check rule) answer → status answer ≡ 0
     → (network : Network) × (bound : ℕ) × SpellsOnly text network × IsDeadlockFree network bound × (answer ≡ DeadlockFree rule (length (leaves network.tree)) bound)
 text_free text rule answer (inl long) zero = absurd (not_zero answer ScriptTooLong long.1 zero (λ e. cc))
-text_free text rule answer (inr (short, inl nothing)) zero = absurd (not_zero answer NotBuilt nothing.1 zero (λ e. cc))
-text_free text rule answer (inr (short, inr free)) zero = free
+text_free text rule answer (inr (short, inl other)) zero = absurd (not_zero answer NotBuilt other.1 zero (λ e. cc))
+text_free text rule answer (inr (short, inr (inl nothing))) zero = absurd (not_zero answer NotBuilt nothing.1 zero (λ e. cc))
+text_free text rule answer (inr (short, inr (inr free))) zero = free
 
 -- what a text that is shown with status 0 calls for
 text_shown : (text : List ℕ) (answer : Answer) → ScriptCallsFor text Show answer → status answer ≡ 0

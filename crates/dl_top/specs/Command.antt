@@ -2,12 +2,14 @@
 use Rattle.std.specs.Prelude.{◌≡◌, ℕ, List, [], ◌∷◌, codes}
 use Rattle.dl_top.specs.declared.words.Command.{Command}
 use Rattle.dl_top.specs.declared.words.Command.TheVariants.{Check, Show}
-use Rattle.dl_top.specs.declared.words.Rule.{Rule}
-use Rattle.dl_top.specs.declared.words.Rule.TheVariants.{Cyclic}
+use Rattle.csp_tables.specs.declared.rule.Rule.{Rule}
+use Rattle.csp_tables.specs.declared.rule.Rule.TheVariants.{Cyclic, ClientServer, Resource}
 
 -- how a rule is written on a command line and in reports
 abbrev pub rule_text : Rule → List ℕ
 rule_text Cyclic = codes "cyclic"
+rule_text ClientServer = codes "client-server"
+rule_text Resource = codes "resource"
 
 -- The words are `check RULE SCRIPT`, or `show SCRIPT`.
 abbrev pub Asks : List (List ℕ) → Command → List ℕ → Type 0

@@ -1,5 +1,5 @@
 -- The answer that the text of a script calls for, under each command.
-use Rattle.std.specs.Prelude.{◌≡◌, ◌⊎◌, ℕ, List, length}
+use Rattle.std.specs.Prelude.{◌≡◌, ◌≢◌, ◌⊎◌, ℕ, List, length}
 use Rattle.csp_base.specs.declared.place.Place.{Place}
 use Rattle.csp_parser.specs.declared.fault.ParseFault.{ParseFault}
 use Rattle.csp_parser.specs.declared.fault.ParseFault.TheVariants as fault
@@ -11,7 +11,8 @@ use Rattle.csp_tables.specs.Network.{leaves}
 use Rattle.csp_terms.specs.Network.{Network, SpellsNetwork, IsLive, HasSilentBound}
 use Rattle.dl_top.specs.declared.words.Command.{Command}
 use Rattle.dl_top.specs.declared.words.Command.TheVariants.{Check, Show}
-use Rattle.dl_top.specs.declared.words.Rule.{Rule}
+use Rattle.csp_tables.specs.declared.rule.Rule.{Rule}
+use Rattle.csp_tables.specs.declared.rule.Rule.TheVariants.{Cyclic}
 use Rattle.dl_top.specs.declared.answer.Answer.{Answer}
 use Rattle.dl_top.specs.declared.answer.Answer.TheVariants.{NoScript, NotBuilt, Shown, DeadlockFree}
 
@@ -33,8 +34,10 @@ pub record IsDeadlockFree (network : Network) (bound : ℕ) : Type 0 where
 -- The points at which a text is refused where it is judged by a rule, in their order, and then the success.
 abbrev pub CheckCallsFor : List ℕ → Rule → Answer → Type 0
 CheckCallsFor text rule answer =
+    -- the rule is not built yet
+    ((rule ≢ Cyclic) × (answer ≡ NotBuilt))
     -- the text spells no network that is read so far
-    (((network : Network) → SpellsNetwork text network → ⊥) × (answer ≡ NotBuilt))
+    ⊎ (((network : Network) → SpellsNetwork text network → ⊥) × (answer ≡ NotBuilt))
     -- it spells exactly one, which is free of deadlock
     ⊎ ((network : Network) × (bound : ℕ) × SpellsOnly text network × IsDeadlockFree network bound
     × (answer ≡ DeadlockFree rule (length (leaves network.tree)) bound))

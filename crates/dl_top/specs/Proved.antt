@@ -9,7 +9,7 @@ use Rattle.dl_outside.specs.declared.texts.NamedText.{NamedText}
 use Rattle.dl_outside.specs.Texts.{text_of}
 use Rattle.dl_outside.specs.Write.{GrowsBy}
 use Rattle.dl_top.specs.declared.words.Command.TheVariants.{Check, Show}
-use Rattle.dl_top.specs.declared.words.Rule.{Rule}
+use Rattle.csp_tables.specs.declared.rule.Rule.{Rule}
 use Rattle.dl_top.specs.declared.answer.Answer.TheVariants.{DeadlockFree}
 use Rattle.dl_top.specs.Command.{Asks}
 use Rattle.dl_top.specs.Judgement.{SpellsOnlyScript}

@@ -3,8 +3,8 @@
 ghost use Rattle.std.specs.Prelude.{◌≡◌};
 ghost use Rattle.dl_top.specs.Report.{status};
 
-use crate::words::Rule;
 use csp_base::{Bytes, Place};
+use csp_tables::Rule;
 
 /// The answer to the words of a command line, with the values that its report prints.
 #[derive(Debug, PartialEq, Eq, Drop)]

@@ -4,18 +4,22 @@ ghost use Rattle.std.specs.Prelude.{IfOk};
 ghost use Rattle.dl_top.specs.Judgement.{CheckCallsFor, ShowCallsFor, Tells, TextCallsFor};
 
 use crate::answer::Answer;
-use crate::words::{Command, Rule};
+use crate::words::Command;
 use csp_base::NoMemory;
 use csp_syntax::{
     ParseFault, each_text_spells_one_script, print_script, read, read_single_process,
 };
+use csp_tables::Rule;
 use csp_terms::silent_bound;
 use std::alloc::Global;
 
-/// The answer that the text calls for where it is judged by the rule.
+// The answer that the text calls for where it is judged by the rule.
 fn check(alloc: Global, rule: Rule, text: &[u8]) -> Result<Answer, NoMemory>
     ensures { IfOk result (CheckCallsFor text.now rule) }
 {
+    if rule != Rule::Cyclic {
+        return Ok(Answer::NotBuilt);
+    }
     match read_single_process(alloc, text)? {
         None => Ok(Answer::NotBuilt),
         Some(process) => Ok(Answer::DeadlockFree {
@@ -26,7 +30,7 @@ fn check(alloc: Global, rule: Rule, text: &[u8]) -> Result<Answer, NoMemory>
     }
 }
 
-/// The answer that tells the fault of a text.
+// The answer that tells the fault of a text.
 fn fault_answer(fault: ParseFault) -> Result<Answer, NoMemory>
     ensures { IfOk result (Tells fault) }
 {
@@ -36,7 +40,7 @@ fn fault_answer(fault: ParseFault) -> Result<Answer, NoMemory>
     }
 }
 
-/// The answer that the text calls for where it is shown.
+// The answer that the text calls for where it is shown.
 fn show(alloc: Global, text: &[u8]) -> Result<Answer, NoMemory>
     ensures { IfOk result (ShowCallsFor text.now) }
 {

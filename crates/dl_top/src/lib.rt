@@ -14,7 +14,4 @@ pub use answer::{Answer, status_of};
 pub use report::report_of;
 pub use sure::dl_sure;
 pub use top::dl_main;
-pub use words::{Command, Rule, Words};
-
-#[cfg(test)]
-mod tests;
+pub use words::{Command, Words};

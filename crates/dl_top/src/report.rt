@@ -6,13 +6,14 @@ ghost use Rattle.dl_top.specs.Command.{rule_text};
 ghost use Rattle.dl_top.specs.Report.{line, refusal, report_text};
 
 use crate::answer::Answer;
-use crate::words::Rule;
+use crate::words::rule_name;
 use csp_base::{Bytes, NoMemory, Place};
+use csp_tables::Rule;
 use std::alloc::Global;
 
 const LINE_FEED: u8 = b'\n';
 
-/// Adds a line.
+// Adds a line.
 fn push_line(report: &mut Bytes, text: &[u8]) -> Result<(), NoMemory>
     ensures { OnOk result (report.new ≡ report.old ++ line text.now) }
 {
@@ -20,7 +21,7 @@ fn push_line(report: &mut Bytes, text: &[u8]) -> Result<(), NoMemory>
     report.push(LINE_FEED)
 }
 
-/// Adds a line of a label and a text.
+// Adds a line of a label and a text.
 fn push_labelled(report: &mut Bytes, label: &[u8], text: &[u8]) -> Result<(), NoMemory>
     ensures { OnOk result (report.new ≡ report.old ++ line (label.now ++ text.now)) }
 {
@@ -28,7 +29,7 @@ fn push_labelled(report: &mut Bytes, label: &[u8], text: &[u8]) -> Result<(), No
     push_line(report, text)
 }
 
-/// Adds a line of a label and a number.
+// Adds a line of a label and a number.
 fn push_number(alloc: Global, report: &mut Bytes, label: &[u8], number: u32) -> Result<(), NoMemory>
     ensures { OnOk result (report.new ≡ report.old ++ line (label.now ++ decimal number)) }
 {
@@ -36,7 +37,7 @@ fn push_number(alloc: Global, report: &mut Bytes, label: &[u8], number: u32) -> 
     push_labelled(report, label, number.as_bytes())
 }
 
-/// A report of one line.
+// A report of one line.
 fn one_line(alloc: Global, text: &[u8]) -> Result<Bytes, NoMemory>
     ensures { IfOk result (λ report. report ≡ line text.now) }
 {
@@ -45,7 +46,7 @@ fn one_line(alloc: Global, text: &[u8]) -> Result<Bytes, NoMemory>
     Ok(report)
 }
 
-/// The report of a script that is refused.
+// The report of a script that is refused.
 fn refused(alloc: Global, reason: &[u8]) -> Result<Bytes, NoMemory>
     ensures { IfOk result (λ report. report ≡ refusal reason.now) }
 {
@@ -55,7 +56,7 @@ fn refused(alloc: Global, reason: &[u8]) -> Result<Bytes, NoMemory>
     Ok(report)
 }
 
-/// The report of a text that spells no script.
+// The report of a text that spells no script.
 fn no_script(alloc: Global, at: Place) -> Result<Bytes, NoMemory>
     ensures { IfOk result (λ report. report
         ≡ refusal (codes "1 no script near line " ++ decimal at.line ++ codes " column " ++ decimal at.column)) }
@@ -70,16 +71,7 @@ fn no_script(alloc: Global, at: Place) -> Result<Bytes, NoMemory>
     refused(alloc, reason.as_slice())
 }
 
-/// The name of a rule as it is printed.
-fn rule_name(rule: Rule) -> &'static [u8]
-    ensures { result.now ≡ rule_text rule }
-{
-    match rule {
-        Rule::Cyclic => b"cyclic",
-    }
-}
-
-/// The report of a network that is free of deadlock.
+// The report of a network that is free of deadlock.
 fn deadlock_free(alloc: Global, rule: Rule, components: u32, bound: u32) -> Result<Bytes, NoMemory>
     ensures { IfOk result (λ report. report ≡ line (codes "deadlock-free")
         ++ line (codes "rule " ++ rule_text rule)

@@ -2,26 +2,18 @@
 
 ghost use Rattle.std.specs.Prelude.{◌≡◌, List, ℕ, [], ◌∷◌, ◌++◌, IfSome, IfNone, OnOk, OnErr};
 ghost use Rattle.std.specs.Option.{option_copied};
-ghost use Rattle.dl_top.specs.declared.words.Rule.{Rule as RuleValue};
+ghost use Rattle.csp_tables.specs.declared.rule.Rule.{Rule as RuleValue};
 ghost use Rattle.dl_top.specs.declared.words.Command.TheVariants.{Check, Show};
-ghost use Rattle.dl_top.specs.Command.{Asks, IsNoCommand};
+ghost use Rattle.dl_top.specs.Command.{Asks, IsNoCommand, rule_text};
 
 use csp_base::{Bytes, NoMemory};
+use csp_tables::Rule;
 use std::alloc::Global;
 use std::marker::Model;
 
 const CHECK: &[u8] = b"check";
 
-const CYCLIC: &[u8] = b"cyclic";
-
 const SHOW: &[u8] = b"show";
-
-/// The design rules that a network can be judged by.
-#[derive(Clone, Copy, Debug, PartialEq, Eq)]
-pub enum Rule {
-    /// Each process offers its links in a fixed circular order.
-    Cyclic,
-}
 
 /// What is to be done with a script.
 #[derive(Clone, Copy, Debug, PartialEq, Eq)]
@@ -69,20 +61,49 @@ impl Words {
     }
 }
 
-/// The rule and the script's name of the words `check RULE SCRIPT`.
+// The name of a rule, on a command line and in reports.
+pub(crate) fn rule_name(rule: Rule) -> &'static [u8]
+    ensures { result.now ≡ rule_text rule }
+{
+    match rule {
+        Rule::Cyclic => b"cyclic",
+        Rule::ClientServer => b"client-server",
+        Rule::Resource => b"resource",
+    }
+}
+
+// The rule of this name.
+fn rule_named(name: &[u8]) -> Option<Rule>
+    ensures named { IfSome result (λ rule. name.now ≡ rule_text rule) }
+    ensures none { IfNone result ((rule : RuleValue) → name.now ≡ rule_text rule → ⊥) }
+{
+    if name == rule_name(Rule::Cyclic) {
+        return Some(Rule::Cyclic);
+    }
+    if name == rule_name(Rule::ClientServer) {
+        return Some(Rule::ClientServer);
+    }
+    if name == rule_name(Rule::Resource) {
+        return Some(Rule::Resource);
+    }
+    None
+}
+
+// The rule and the script's name of the words `check RULE SCRIPT`.
 fn asked_check(words: &[Bytes]) -> Option<(Rule, &[u8])>
     ensures asks { IfSome result (λ asked. Asks words.now (Check asked.0) asked.1.now) }
     ensures none { IfNone result ((rule : RuleValue) (script : List ℕ) → Asks words.now (Check rule) script → ⊥) }
 {
     match words {
-        [check, rule, script] if check.as_slice() == CHECK && rule.as_slice() == CYCLIC => {
-            Some((Rule::Cyclic, script.as_slice()))
-        }
+        [check, rule, script] if check.as_slice() == CHECK => match rule_named(rule.as_slice()) {
+            Some(rule) => Some((rule, script.as_slice())),
+            None => None,
+        },
         _ => None,
     }
 }
 
-/// The script's name of the words `show SCRIPT`.
+// The script's name of the words `show SCRIPT`.
 fn asked_show(words: &[Bytes]) -> Option<&[u8]>
     ensures asks { IfSome result (λ script. Asks words.now Show script.now) }
     ensures none { IfNone result ((script : List ℕ) → Asks words.now Show script → ⊥) }
