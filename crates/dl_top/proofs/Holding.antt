@@ -1,6 +1,6 @@
 -- Where every text that the words name is held, the texts call for no answer of status 4.
 use Rattle.std.proofs.Common.{◌≡◌, ℕ, List, None, Some, inl, inr, sym, ◌∙◌, ap}
-use Rattle.csp_syntax.specs.PrintedScript.{script_text}
+use Rattle.script_printer.specs.PrintedScript.{script_text}
 use Rattle.dl_outside.specs.declared.texts.NamedText.{NamedText}
 use Rattle.dl_top.specs.declared.words.Command.{Command}
 use Rattle.dl_top.specs.declared.words.Command.TheVariants.{Check, Show}

@@ -5,10 +5,10 @@ use Rattle.csp_parser.specs.declared.fault.ParseFault.TheVariants as fault
 use Rattle.csp_text.specs.declared.script.Script.{Script}
 use Rattle.csp_syntax.specs.declared.single.SingleProcess.{SingleProcess}
 use Rattle.csp_syntax.specs.Single.{SpellsSingle}
-use Rattle.csp_syntax.specs.Fault.{IfNoScript}
-use Rattle.csp_syntax.specs.Places.{IsPlaceOf}
-use Rattle.csp_syntax.specs.Spells.{EachTextSpellsOneScript, Spells}
-use Rattle.csp_syntax.specs.PrintedScript.{script_text}
+use Rattle.csp_parser.specs.Fault.{IfNoScript}
+use Rattle.csp_parser.specs.Places.{IsPlaceOf}
+use Rattle.csp_parser.specs.Spells.{EachTextSpellsOneScript, Spells}
+use Rattle.script_printer.specs.PrintedScript.{script_text}
 use Rattle.csp_terms.specs.Network.{network_of, IsLive, HasSilentBound}
 use Rattle.csp_tables.specs.declared.rule.Rule.{Rule}
 use Rattle.dl_top.specs.declared.answer.Answer.{Answer}

@@ -1,7 +1,7 @@
 -- Status 0 has one cause under each command: the text spells exactly one network, which is free of deadlock; or exactly one script, which is shown.
 use Rattle.std.proofs.Common.{◌≡◌, ℕ, List, length, Option, None, Some, IfSome, inl, inr, sym, ◌∙◌, ap, subst}
 use Rattle.csp_text.specs.declared.script.Script.{Script}
-use Rattle.csp_syntax.specs.PrintedScript.{script_text}
+use Rattle.script_printer.specs.PrintedScript.{script_text}
 use Rattle.csp_tables.specs.Network.{leaves}
 use Rattle.csp_terms.specs.Network.{Network}
 use Rattle.print_laws.specs.Laws.{PrintedTextSpellsNoOther, PrintedTextSpellsTheScript}

@@ -4,9 +4,9 @@ use Rattle.csp_base.specs.declared.place.Place.{Place}
 use Rattle.csp_parser.specs.declared.fault.ParseFault.{ParseFault}
 use Rattle.csp_parser.specs.declared.fault.ParseFault.TheVariants as fault
 use Rattle.csp_text.specs.declared.script.Script.{Script}
-use Rattle.csp_syntax.specs.Places.{IsPlaceOf}
-use Rattle.csp_syntax.specs.Spells.{Spells}
-use Rattle.csp_syntax.specs.PrintedScript.{script_text}
+use Rattle.csp_parser.specs.Places.{IsPlaceOf}
+use Rattle.csp_parser.specs.Spells.{Spells}
+use Rattle.script_printer.specs.PrintedScript.{script_text}
 use Rattle.csp_tables.specs.Network.{leaves}
 use Rattle.csp_terms.specs.Network.{Network, SpellsNetwork, IsLive, HasSilentBound}
 use Rattle.dl_top.specs.declared.words.Command.{Command}

@@ -1,8 +1,8 @@
 -- What status 0 promises.
 use Rattle.std.specs.Prelude.{◌≡◌, ℕ, List, length, Option, Some}
 use Rattle.csp_text.specs.declared.script.Script.{Script}
-use Rattle.csp_syntax.specs.Spells.{Spells}
-use Rattle.csp_syntax.specs.PrintedScript.{script_text}
+use Rattle.csp_parser.specs.Spells.{Spells}
+use Rattle.script_printer.specs.PrintedScript.{script_text}
 use Rattle.csp_tables.specs.Network.{leaves}
 use Rattle.csp_terms.specs.Network.{Network, SpellsNetwork, IsLive, HasSilentBound}
 use Rattle.dl_outside.specs.declared.texts.NamedText.{NamedText}

@@ -6,11 +6,11 @@ ghost use Rattle.dl_top.specs.Judgement.{CheckCallsFor, ShowCallsFor, Tells, Tex
 use crate::answer::Answer;
 use crate::words::Command;
 use csp_base::NoMemory;
-use csp_syntax::{
-    ParseFault, each_text_spells_one_script, print_script, read, read_single_process,
-};
+use csp_parser::{ParseFault, each_text_spells_one_script, read};
+use csp_syntax::read_single_process;
 use csp_tables::Rule;
 use csp_terms::silent_bound;
+use script_printer::print_script;
 use std::alloc::Global;
 
 // The answer that the text calls for where it is judged by the rule.
