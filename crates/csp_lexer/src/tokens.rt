@@ -8,7 +8,7 @@ use csp_text::Token;
 use std::alloc::Global;
 
 /// The tokens of a text in order, the place where each of them begins, and the place of the text's end.
-#[derive(Debug, Drop)]
+#[derive(Drop)]
 pub struct Tokens {
     /// The tokens.
     pub tokens: Items<Token>,

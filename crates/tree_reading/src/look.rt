@@ -33,7 +33,7 @@ pub enum Sign {
 }
 
 /// What an atom begins with.
-#[derive(Debug, Drop)]
+#[derive(Drop)]
 pub enum AtomStart {
     /// The whole of it.
     Leaf(Tree),
