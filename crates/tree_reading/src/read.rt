@@ -30,7 +30,7 @@ pub struct BoundRead<'t, T> {
 }
 
 /// How tightly a tree is bound: what may stand beside it with no parentheses.
-#[derive(Clone, Copy, Debug, PartialEq, Eq)]
+#[derive(Clone, Copy)]
 pub enum Binding {
     /// A dotted event.
     Dotted,
