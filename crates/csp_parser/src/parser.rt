@@ -15,7 +15,7 @@ use csp_text::Script;
 use std::alloc::Global;
 use tree_parser::ReadFault;
 
-/// The place of the token from which on so many tokens are left, or that of the text's end.
+// The place of the token from which on so many tokens are left, or that of the text's end.
 #[tactic(auto, using(crate::proofs::Scripts::token_there, crate::proofs::Scripts::no_token))]
 fn place_before(tokens: &Tokens, left: usize) -> Place
     ensures { result ≡ place_before tokens.now left }
