@@ -24,7 +24,10 @@ fn scripts_of_texts(rt: HostRuntime) -> Result<(), Fail> {
         (b"assert P(1, 2) :[deadlock free [F]]", 1),
         (b"assert P :[deadlock free [FD]]", 1),
         (b"--@ roles P A B C D\n--@ resource Q E F", 2),
-        (b"P = a -> P [] b -> STOP\nchannel a, b\nassert P :[deadlock free]", 3),
+        (
+            b"P = a -> P [] b -> STOP\nchannel a, b\nassert P :[deadlock free]",
+            3,
+        ),
     ];
     for (text, count) in rows {
         assert_eq!(rt; declarations_of(rt.alloc(), text)?, count, "{text:?}");

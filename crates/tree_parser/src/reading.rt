@@ -8,14 +8,14 @@ ghost use Rattle.tree_parser.specs.Stack.{Answered, Falls, Turned};
 use crate::turn::Turn;
 use containers::{Boxed, Items};
 use csp_text::{Token, Tree};
+use expression_steps::form::Form;
+use expression_steps::frame::Frame;
+use expression_steps::step::Step;
 use std::alloc::Global;
 use tree_reading::fault::ReadFault;
 use tree_reading::limits::Limits;
 use tree_reading::read::{Binding, BoundRead};
-use expression_steps::form::Form;
-use expression_steps::frame::Frame;
 use tree_steps::machine::{begin, resume};
-use expression_steps::step::Step;
 
 // The turn in which the last frame has its part, or the form ends where none waits.
 fn turn_back<'t>(
