@@ -3,38 +3,38 @@ use Rattle.std.proofs.Common.{◌≡◌, ℕ, zero, suc, ◌<◌, ◌≤◌, eqb
 use Rattle.std.specs.Prelude.{Option, Some, None, Result, Ok, Err}
 use Rattle.csp_base.specs.declared.place.Place.{Place}
 use Rattle.csp_text.specs.declared.token.Token.{Token}
-use Rattle.csp_lexer.specs.declared.tokens.Tokens.{Tokens}
 use Rattle.csp_lexer.specs.Cutting.{added, before, cut, then_cut}
 use Rattle.csp_lexer.specs.Passed.{Passed}
 use Rattle.csp_lexer.specs.Pieces.{Piece}
+use Rattle.csp_lexer.specs.Placed.{PlacedTokens}
 use Rattle.csp_lexer.specs.Places.{behind_all}
 
 -- the cut of the whole text is these tokens and then the cut of what is left
-pub record IsCutSoFar (front : Place → List ℕ → Option Piece) (whole : Result Tokens Place) (tokens : List Token) (places : List Place) (at : Place) (rest : List ℕ) : Type 0 where
+pub record IsCutSoFar (front : Place → List ℕ → Option Piece) (whole : Result PlacedTokens Place) (placed : List (Token × Place)) (at : Place) (rest : List ℕ) : Type 0 where
   pub pieces : ℕ
   pub enough : length rest ≤ pieces
-  pub same : whole ≡ added tokens places (cut front pieces at rest)
+  pub same : whole ≡ added placed (cut front pieces at rest)
 
-added-nothing : (r : Result Tokens Place) → r ≡ added [] [] r
+added-nothing : (r : Result PlacedTokens Place) → r ≡ added [] r
 added-nothing (Ok cut) = refl
 added-nothing (Err at) = refl
 
-added-added : (ts us : List Token) (ps qs : List Place) (r : Result Tokens Place) → added ts ps (added us qs r) ≡ added (ts ++ us) (ps ++ qs) r
-added-added ts us ps qs (Ok cut) = λ i. Ok (record { tokens = sym (append_assoc ts us cut.tokens) i; places = sym (append_assoc ps qs cut.places) i; end = cut.end })
-added-added ts us ps qs (Err at) = refl
+added-added : (ts us : List (Token × Place)) (r : Result PlacedTokens Place) → added ts (added us r) ≡ added (ts ++ us) r
+added-added ts us (Ok cut) = λ i. Ok (record { placed = sym (append_assoc ts us cut.placed) i; end = cut.end })
+added-added ts us (Err at) = refl
 
 -- before the first piece
-pub at_beginning : (front : Place → List ℕ → Option Piece) (found : Tokens) (at : Place) (text : List ℕ) → found.tokens ≡ [] → found.places ≡ []
-    → IsCutSoFar front (cut front (length text) at text) found.tokens found.places at text
-at_beginning front found at text no_tokens no_places = record {
+pub at_beginning : (front : Place → List ℕ → Option Piece) (found : PlacedTokens) (at : Place) (text : List ℕ) → found.placed ≡ []
+    → IsCutSoFar front (cut front (length text) at text) found.placed at text
+at_beginning front found at text none = record {
   pieces = length text;
   enough = omega arith;
-  same = added-nothing (cut front (length text) at text) ∙ (λ i. added (sym no_tokens i) (sym no_places i) (cut front (length text) at text));
+  same = added-nothing (cut front (length text) at text) ∙ (λ i. added (sym none i) (cut front (length text) at text));
 }
 
 -- the first piece of what is left
 cut-piece : (front : Place → List ℕ → Option Piece) (n : ℕ) (at : Place) (rest : List ℕ) (piece : Piece) → front at rest ≡ Some piece → 0 < length rest
-    → cut front (suc n) at rest ≡ added piece.tokens piece.places (cut front n (behind_all at (before rest piece.rest)) piece.rest)
+    → cut front (suc n) at rest ≡ added piece.placed (cut front n (behind_all at (before rest piece.rest)) piece.rest)
 unfolding cut
 cut-piece front n at [] piece is has_byte = absurd (omega arith)
 cut-piece front n at (b ∷ text) piece is has_byte = ap (λ o. then_cut o at (λ p. cut front n (behind_all at (before (b ∷ text) p.rest)) p.rest)) is
@@ -45,65 +45,59 @@ cut-none front n at [] is has_byte = absurd (omega arith)
 cut-none front zero at (b ∷ text) is has_byte = refl
 cut-none front (suc n) at (b ∷ text) is has_byte = ap (λ o. then_cut o at (λ p. cut front n (behind_all at (before (b ∷ text) p.rest)) p.rest)) is
 
-cut-nil : (front : Place → List ℕ → Option Piece) (n : ℕ) (at : Place) → cut front n at [] ≡ Ok (record { tokens = []; places = []; end = at })
+cut-nil : (front : Place → List ℕ → Option Piece) (n : ℕ) (at : Place) → cut front n at [] ≡ Ok (record { placed = []; end = at })
 unfolding cut
 cut-nil front zero at = refl
 cut-nil front (suc n) at = refl
 
-module _ (front : Place → List ℕ → Option Piece) (whole : Result Tokens Place) where
-  piece_more : (ts : List Token) (ps : List Place) (at : Place) (rest : List ℕ) (piece : Piece) (n : ℕ) → length rest ≤ n → whole ≡ added ts ps (cut front n at rest)
+module _ (front : Place → List ℕ → Option Piece) (whole : Result PlacedTokens Place) where
+  piece_more : (ts : List (Token × Place)) (at : Place) (rest : List ℕ) (piece : Piece) (n : ℕ) → length rest ≤ n → whole ≡ added ts (cut front n at rest)
       → front at rest ≡ Some piece → 0 < length rest → length piece.rest < length rest
-      → IsCutSoFar front whole (ts ++ piece.tokens) (ps ++ piece.places) (behind_all at (before rest piece.rest)) piece.rest
-  piece_more ts ps at rest piece zero enough same is has_byte shorter = absurd (omega arith)
-  piece_more ts ps at rest piece (suc n) enough same is has_byte shorter = record {
+      → IsCutSoFar front whole (ts ++ piece.placed) (behind_all at (before rest piece.rest)) piece.rest
+  piece_more ts at rest piece zero enough same is has_byte shorter = absurd (omega arith)
+  piece_more ts at rest piece (suc n) enough same is has_byte shorter = record {
     pieces = n;
     enough = omega arith;
-    same = same ∙ ap (added ts ps) (cut-piece front n at rest piece is has_byte) ∙ added-added ts piece.tokens ps piece.places _;
+    same = same ∙ ap (added ts) (cut-piece front n at rest piece is has_byte) ∙ added-added ts piece.placed _;
   }
 
   -- a piece is passed
-  passed_at : (old new : Tokens) (at : Place) (rest left : List ℕ) (o : Option Piece) → front at rest ≡ o → Passed o old new (Some left) → IsCutSoFar front whole old.tokens old.places at rest
+  passed_at : (old new : PlacedTokens) (at : Place) (rest left : List ℕ) (o : Option Piece) → front at rest ≡ o → Passed o old new (Some left) → IsCutSoFar front whole old.placed at rest
       → 0 < length rest → length left < length rest
-      → IsCutSoFar front whole new.tokens new.places (behind_all at (before rest left)) left
+      → IsCutSoFar front whole new.placed (behind_all at (before rest left)) left
   passed_at old new at rest left None is passed so_far has_byte shorter = absurd cc
   passed_at old new at rest left (Some piece) is passed so_far has_byte shorter =
       let left_is : left ≡ piece.rest = cc in
       let shorter' : length piece.rest < length rest = subst (λ l. length l < length rest) left_is shorter in
-      let made = piece_more old.tokens old.places at rest piece so_far.pieces so_far.enough so_far.same is has_byte shorter' in
-      subst (λ l. IsCutSoFar front whole new.tokens new.places (behind_all at (before rest l)) l) (sym left_is)
-      (subst (λ ps. IsCutSoFar front whole new.tokens ps (behind_all at (before rest piece.rest)) piece.rest) (sym passed.2)
-      (subst (λ ts. IsCutSoFar front whole ts (old.places ++ piece.places) (behind_all at (before rest piece.rest)) piece.rest) (sym passed.1) made))
-
-  pub piece_passed : (old new : Tokens) (at : Place) (rest left : List ℕ) → Passed (front at rest) old new (Some left) → IsCutSoFar front whole old.tokens old.places at rest
-      → 0 < length rest → length left < length rest
-      → IsCutSoFar front whole new.tokens new.places (behind_all at (before rest left)) left
-  piece_passed old new at rest left = passed_at old new at rest left (front at rest) refl
+      let made = piece_more old.placed at rest piece so_far.pieces so_far.enough so_far.same is has_byte shorter' in
+      subst (λ l. IsCutSoFar front whole new.placed (behind_all at (before rest l)) l) (sym left_is)
+      (subst (λ ts. IsCutSoFar front whole ts (behind_all at (before rest piece.rest)) piece.rest) (sym passed.1) made)
 
   -- no piece stands there
-  none_at : (old new : Tokens) (at : Place) (rest : List ℕ) (o : Option Piece) → front at rest ≡ o → Passed o old new None → IsCutSoFar front whole old.tokens old.places at rest
+  none_at : (old new : PlacedTokens) (at : Place) (rest : List ℕ) (o : Option Piece) → front at rest ≡ o → Passed o old new None → IsCutSoFar front whole old.placed at rest
       → 0 < length rest → whole ≡ Err at
-  none_at old new at rest None is passed so_far has_byte = so_far.same ∙ ap (added old.tokens old.places) (cut-none front so_far.pieces at rest is has_byte)
+  none_at old new at rest None is passed so_far has_byte = so_far.same ∙ ap (added old.placed) (cut-none front so_far.pieces at rest is has_byte)
   none_at old new at rest (Some piece) is passed so_far has_byte = absurd cc
 
-  pub no_piece : (old new : Tokens) (at : Place) (rest : List ℕ) → Passed (front at rest) old new None → IsCutSoFar front whole old.tokens old.places at rest
+  pub no_piece : (old new : PlacedTokens) (at : Place) (rest : List ℕ) → Passed (front at rest) old new None → IsCutSoFar front whole old.placed at rest
       → 0 < length rest → whole ≡ Err at
   no_piece old new at rest = none_at old new at rest (front at rest) refl
 
   -- nothing is left
-  pub at_end : (ts : List Token) (ps : List Place) (at : Place) (rest : List ℕ) → length rest ≡ 0 → IsCutSoFar front whole ts ps at rest
-      → whole ≡ Ok (record { tokens = ts; places = ps; end = at })
-  at_end ts ps at [] is_end so_far =
-      so_far.same ∙ ap (added ts ps) (cut-nil front so_far.pieces at)
-      ∙ (λ i. Ok (record { tokens = append-nil ts i; places = append-nil ps i; end = at }))
-  at_end ts ps at (b ∷ rest) is_end so_far = absurd (omega arith)
+  pub at_end : (found : PlacedTokens) (ts : List (Token × Place)) (at : Place) (rest : List ℕ) → found ≡ record { placed = ts; end = at } → length rest ≡ 0 → IsCutSoFar front whole ts at rest
+      → whole ≡ Ok found
+  at_end found ts at [] found_is is_end so_far =
+      so_far.same ∙ ap (added ts) (cut-nil front so_far.pieces at)
+      ∙ (λ i. Ok (record { placed = append-nil ts i; end = at })) ∙ ap Ok (sym found_is)
+  at_end found ts at (b ∷ rest) found_is is_end so_far = absurd (omega arith)
 
   -- a piece is passed, and the place behind it is taken from its bytes
-  pub piece_passed_to : (old new : Tokens) (at at' : Place) (rest left : List ℕ) → at' ≡ behind_all at (before rest left) → Passed (front at rest) old new (Some left) → IsCutSoFar front whole old.tokens old.places at rest
+  pub piece_passed : (old new : PlacedTokens) (at at' : Place) (rest left : List ℕ) → at' ≡ behind_all at (before rest left) → Passed (front at rest) old new (Some left) → IsCutSoFar front whole old.placed at rest
       → length left < length rest
-      → IsCutSoFar front whole new.tokens new.places at' left
-  piece_passed_to old new at at' rest left at_is passed so_far shorter =
-      subst (λ p. IsCutSoFar front whole new.tokens new.places p left) (sym at_is)
-      (piece_passed old new at rest left passed so_far (omega arith) shorter)
+      → IsCutSoFar front whole new.placed at' left
+  piece_passed old new at at' rest left at_is passed so_far shorter =
+      subst (λ p. IsCutSoFar front whole new.placed p left) (sym at_is)
+      (passed_at old new at rest left (front at rest) refl passed so_far (omega arith) shorter)
 
 -- a text that is not empty has a byte
 pub not_empty : (text : List ℕ) → false ≡ eqb (length text) 0 → 0 < length text

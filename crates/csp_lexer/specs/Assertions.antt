@@ -11,10 +11,10 @@ use Rattle.csp_text.specs.declared.token.Word.TheVariants.{Assert}
 use Rattle.csp_text.specs.declared.token.Token.{Token}
 use Rattle.csp_text.specs.declared.token.Token.TheVariants as token
 use Rattle.csp_text.specs.Written.{symbol_text}
-use Rattle.csp_lexer.specs.declared.tokens.Tokens.{Tokens}
 use Rattle.csp_lexer.specs.Annotations.{is_space}
 use Rattle.csp_lexer.specs.Cutting.{cut}
 use Rattle.csp_lexer.specs.Pieces.{Piece, nothing, one_at}
+use Rattle.csp_lexer.specs.Placed.{PlacedTokens, tokens_of}
 use Rattle.csp_lexer.specs.Places.{behind_all}
 use Rattle.csp_lexer.specs.Tokens.{token_at}
 
@@ -104,15 +104,15 @@ unfoldable pub is_deadlock_assertion : List Token → Bool
 is_deadlock_assertion tokens = option_map_or is_deadlock_free (after_call tokens) false
 
 -- the piece of an assertion of whose line this is the cut
-abbrev pub asserted : Place → List ℕ → Result Tokens Place → Piece
+abbrev pub asserted : Place → List ℕ → Result PlacedTokens Place → Piece
 asserted at rest (Ok line) =
-    if is_deadlock_assertion line.tokens
-    then record { tokens = token.Word Assert ∷ line.tokens; places = at ∷ line.places; rest = rest }
+    if is_deadlock_assertion (tokens_of line.placed)
+    then record { placed = (token.Word Assert, at) ∷ line.placed; rest = rest }
     else nothing rest
 asserted at rest (Err fault) = nothing rest
 
 -- the cut of the rest of a line
-abbrev pub cut_line : Place → List ℕ → Result Tokens Place
+abbrev pub cut_line : Place → List ℕ → Result PlacedTokens Place
 cut_line at line = cut line_front (length line) at line
 
 -- the assertion whose word stands at this place and is followed by this text

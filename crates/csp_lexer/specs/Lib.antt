@@ -6,6 +6,7 @@ pub mod Front
 pub mod Lexed
 pub mod Passed
 pub mod Pieces
+pub mod Placed
 pub mod Places
 pub mod Symbols
 pub mod Tokens

@@ -4,17 +4,16 @@ use Rattle.csp_base.specs.declared.place.Place.{Place}
 use Rattle.csp_text.specs.declared.token.Token.{Token}
 
 pub record Piece : Type 0 where
-  pub tokens : List Token
-  pub places : List Place
+  pub placed : List (Token × Place)
   pub rest : List ℕ
 
 -- a piece without meaning
 abbrev pub nothing : List ℕ → Piece
-nothing rest = record { tokens = []; places = []; rest = rest }
+nothing rest = record { placed = []; rest = rest }
 
 -- a piece that is one token
 abbrev pub one : Token → Place → List ℕ → Piece
-one t at rest = record { tokens = t ∷ []; places = at ∷ []; rest = rest }
+one t at rest = record { placed = (t, at) ∷ []; rest = rest }
 
 -- what is left, if anything is, of a piece without meaning
 abbrev pub nothing_before : Option (List ℕ) → Option Piece

@@ -1,5 +1,5 @@
 -- Symbols of a text: the longest one that fits.
-use Rattle.std.specs.Prelude.{ℕ, Bool, nat_eq, if◌then◌else◌, List, [], ◌∷◌, codes, find, Option, Some}
+use Rattle.std.specs.Prelude.{◌≡◌, ◌≤◌, ℕ, Bool, nat_eq, if◌then◌else◌, List, [], ◌∷◌, ◌++◌, length, codes, find, Option, Some, None}
 use Rattle.std.specs.List.{starts_with}
 use Rattle.csp_text.specs.declared.token.Symbol.{Symbol}
 use Rattle.csp_text.specs.declared.token.Symbol.TheVariants.{Arrow, ExternalChoice, InternalChoice, Parallel, OpenRename, CloseRename, OpenProduct, CloseProduct, LeftArrow, DotDot, Dot, Bang, Question, Colon, At, Defines, Equal, NotEqual, Less, LessEqual, Greater, GreaterEqual, Plus, Minus, Star, Slash, Percent, OpenParen, CloseParen, OpenBrace, CloseBrace, OpenBracket, CloseBracket, Comma, Ampersand, Bar, Backslash, Semicolon}
@@ -17,6 +17,17 @@ symbols =
 -- the longest symbol that the text begins with
 unfoldable pub longest_symbol : List ℕ → Option Symbol
 longest_symbol text = find (λ symbol. starts_with nat_eq text (symbol_text symbol)) symbols
+
+-- the part stands at the front of the text
+abbrev pub IsFront : List ℕ → List ℕ → Type 0
+IsFront part text = (rest : List ℕ) × (text ≡ part ++ rest)
+
+-- What is found is the longest symbol that stands at the front of the text: it does, and no symbol that does is longer. Where nothing is
+-- found, none does.
+abbrev pub IsLongest : List ℕ → Option Symbol → Type 0
+IsLongest text (Some found) =
+    IsFront (symbol_text found) text × ((symbol : Symbol) → IsFront (symbol_text symbol) text → length (symbol_text symbol) ≤ length (symbol_text found))
+IsLongest text None = (symbol : Symbol) → IsFront (symbol_text symbol) text → ⊥
 
 -- the symbol that the text begins with. On the line of an assertion each bracket is a symbol by itself.
 unfoldable pub symbol_at : Bool → List ℕ → Option Symbol

@@ -1,6 +1,6 @@
 //! Assertions.
 
-ghost use Rattle.std.specs.Prelude.{◌≡◌, ◌++◌, ◌≤◌, length, IfOk, IfSome, OnOk, Ok, Some};
+ghost use Rattle.std.specs.Prelude.{◌≡◌, ◌≤◌, length, IfOk, Ok, Some};
 ghost use Rattle.std.specs.Option.{option_copied};
 ghost use Rattle.csp_lexer.specs.Assertions.{asserted, assertion};
 ghost use Rattle.csp_lexer.specs.Passed.{Passed};
@@ -9,23 +9,14 @@ use crate::forms::is_deadlock_assertion;
 use crate::line::{cut_line, rest_len};
 use crate::places::behind_all;
 use crate::tokens::Tokens;
-use containers::Items;
 use csp_base::{NoMemory, Place};
 use csp_text::{Token, Word};
 use std::alloc::Global;
-
-/// Puts all items at the end.
-fn append<T: Drop>(items: &mut Items<T>, more: Items<T>) -> Result<(), NoMemory>
-    ensures { OnOk result (items.new ≡ items.old ++ more) }
-{
-    for item in more.into_vec() {
-        items.push(item)?;
-    }
-    Ok(())
-}
+use std::mem;
 
 /// Adds the tokens of an assertion's line and the word before them, where they assert that a process is free of deadlock.
 fn add_line<'a>(
+    alloc: Global,
     at: Place,
     rest: &'a [u8],
     line: Tokens,
@@ -34,13 +25,12 @@ fn add_line<'a>(
     ensures passed { IfOk result (λ left. Passed (Some (asserted at rest.now (Ok line))) found.old found.new (Some left.now)) }
     ensures same { IfOk result (λ left. left.now ≡ rest.now) }
 {
-    if !is_deadlock_assertion(line.tokens.as_slice()) {
+    if !is_deadlock_assertion(line.as_slice()) {
         return Ok(rest);
     }
     found.push(Token::Word(Word::Assert), at)?;
-    let Tokens { tokens, places, .. } = line;
-    append(&mut found.tokens, tokens)?;
-    append(&mut found.places, places)?;
+    let before = mem::replace(found, Tokens::new(alloc, at));
+    *found = before.joined(line)?;
     Ok(rest)
 }
 
@@ -60,6 +50,6 @@ pub(crate) fn pass_assertion<'a>(
     let Some(line) = cut_line(alloc, &text[..len], behind_all(at, b"assert"))? else {
         return Ok(rest);
     };
-    let left = add_line(at, rest, line, found)?;
+    let left = add_line(alloc, at, rest, line, found)?;
     Ok(left)
 }

@@ -101,6 +101,5 @@ pub fn lex(alloc: Global, text: &[u8]) -> Result<Tokens, LexFault>
         at = behind_all(at, &rest[..rest.len() - left.len()]);
         rest = left;
     }
-    found.end = at;
-    Ok(found)
+    Ok(found.ended(at))
 }

@@ -88,6 +88,5 @@ pub(crate) fn cut_line(alloc: Global, line: &[u8], at: Place) -> Result<Option<T
         at = behind_all(at, &rest[..rest.len() - left.len()]);
         rest = left;
     }
-    found.end = at;
-    Ok(Some(found))
+    Ok(Some(found.ended(at)))
 }

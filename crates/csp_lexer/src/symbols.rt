@@ -1,7 +1,7 @@
 //! Symbols of a text: the longest one that fits.
 
 ghost use Rattle.std.specs.Prelude.{◌≡◌, ◌<◌, ◌≤◌, length, IfSome};
-ghost use Rattle.csp_lexer.specs.Symbols.{longest_symbol, symbol_at};
+ghost use Rattle.csp_lexer.specs.Symbols.{IsLongest, longest_symbol, symbol_at};
 ghost use Rattle.csp_text.specs.Written.{symbol_text};
 
 use csp_text::{Symbol, symbol_text};
@@ -51,6 +51,7 @@ const SYMBOLS: [Symbol; 38] = [
 /// The longest symbol that the text begins with.
 fn longest_symbol(text: &[u8]) -> Option<Symbol>
     ensures value { result ≡ longest_symbol text.now }
+    ensures longest { IsLongest text.now result }
     ensures within { IfSome result (λ symbol. (0 < length (symbol_text symbol)) × (length (symbol_text symbol) ≤ length text.now)) }
 {
     SYMBOLS

@@ -1,28 +1,38 @@
 //! What the lexer makes of a text.
 
-ghost use Rattle.std.specs.Prelude.{◌≡◌, ◌++◌, [], ◌∷◌, OnOk};
+ghost use Rattle.std.specs.Prelude.{◌≡◌, ◌++◌, [], ◌∷◌, length, IfOk, OnOk, OnErr};
+ghost use Rattle.csp_lexer.specs.Placed.{place_at, tokens_of};
 
 use containers::Items;
 use csp_base::{NoMemory, Place};
 use csp_text::Token;
 use std::alloc::Global;
+use std::marker::Model;
 
-/// The tokens of a text in order, the place where each of them begins, and the place of the text's end.
-#[derive(Debug, Drop)]
+/// The tokens of a text in order, each with the place where it begins, and the place of the text's end.
+#[derive(Drop)]
 pub struct Tokens {
-    /// The tokens.
-    pub tokens: Items<Token>,
-    /// The place of each token.
-    pub places: Items<Place>,
-    /// The place behind the text's last byte.
-    pub end: Place,
+    tokens: Items<Token>,
+    places: Items<Place>,
+    end: Place,
+}
+
+impl Model for Tokens {
+    ghost use Rattle.std.specs.Prelude.{◌≡◌, length};
+    ghost use Rattle.std.specs.List.{zip};
+    ghost use Rattle.csp_lexer.specs.Placed.{PlacedTokens};
+
+    ghost Value = { PlacedTokens };
+
+    ghost view = { λ t. record { placed = zip t.tokens t.places; end = t.end } };
+
+    ghost invariant = { λ t. length t.places ≡ length t.tokens };
 }
 
 impl Tokens {
     /// The tokens of the empty text.
     pub(crate) fn new(alloc: Global, at: Place) -> Tokens
-        ensures tokens { result.tokens ≡ [] }
-        ensures places { result.places ≡ [] }
+        ensures placed { result.placed ≡ [] }
         ensures end { result.end ≡ at }
     {
         Tokens {
@@ -34,11 +44,69 @@ impl Tokens {
 
     /// Adds a token that begins at this place.
     pub(crate) fn push(&mut self, token: Token, at: Place) -> Result<(), NoMemory>
-        ensures tokens { OnOk result (self.new.tokens ≡ self.old.tokens ++ token ∷ []) }
-        ensures places { OnOk result (self.new.places ≡ self.old.places ++ at ∷ []) }
+        ensures { OnOk result (self.new.placed ≡ self.old.placed ++ (token, at) ∷ []) }
     {
-        self.tokens.push(token)?;
         self.places.push(at)?;
+        if let Err(fault) = self.tokens.push(token) {
+            self.places.pop();
+            return Err(fault);
+        }
         Ok(())
     }
+
+    /// These tokens and then those of the text behind.
+    pub(crate) fn joined(self, behind: Tokens) -> Result<Tokens, NoMemory>
+        ensures { IfOk result (λ all. all.placed ≡ self.placed ++ behind.placed) }
+    {
+        let Tokens {
+            mut tokens,
+            mut places,
+            ..
+        } = self;
+        append(&mut tokens, behind.tokens)?;
+        append(&mut places, behind.places)?;
+        Ok(Tokens {
+            tokens,
+            places,
+            end: behind.end,
+        })
+    }
+
+    /// The same tokens of a text that ends at this place.
+    pub(crate) fn ended(self, at: Place) -> Tokens
+        ensures { result ≡ record { placed = self.placed; end = at } }
+    {
+        Tokens {
+            tokens: self.tokens,
+            places: self.places,
+            end: at,
+        }
+    }
+
+    /// The tokens.
+    pub fn as_slice(&self) -> &[Token]
+        ensures { result.now ≡ tokens_of self.now.placed }
+    {
+        self.tokens.as_slice()
+    }
+
+    /// The place of the token with this number, counted from 0; that of the text's end where there is no such token.
+    pub fn place(&self, number: usize) -> Place
+        ensures { result ≡ place_at self.now number }
+    {
+        match self.places.get(number) {
+            Some(place) => *place,
+            None => self.end,
+        }
+    }
+}
+
+// Puts all items at the end.
+fn append<T: Drop>(items: &mut Items<T>, more: Items<T>) -> Result<(), NoMemory>
+    ensures { OnOk result (items.new ≡ items.old ++ more) }
+{
+    for item in more.into_vec() {
+        items.push(item)?;
+    }
+    Ok(())
 }

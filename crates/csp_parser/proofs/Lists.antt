@@ -10,8 +10,8 @@ use Rattle.csp_text.specs.declared.script.Decl.{Decl}
 use Rattle.csp_text.specs.Depth.{tree_depth}
 use Rattle.csp_grammar.specs.Reader.{when, read_declaration}
 use Rattle.csp_grammar.specs.Tokens.{behind_name, first_name, skip}
-use Rattle.tree_reading.specs.Reads.{Any, Continues, IfRead, Reads, Refuses}
-use Rattle.tree_reading.proofs.Reading.{at_start, bind, first_missing, first_refused, granted, granted_refused, later, later_refused, list_more, look, look_missing, look_refused, next_refused, not_there, now, one_more, there, there_refused}
+use Rattle.tree_reading.specs.Reads.{Any, IfRead, Reads, Refuses}
+use Rattle.tree_reading.proofs.Reading.{Continues, at_start, bind, first_missing, first_refused, granted, granted_refused, later, later_refused, list_more, look, look_missing, look_refused, next_refused, not_there, now, one_more, there, there_refused}
 
 -- the names of a list so far: the reading of all of them goes on with that of what is left
 pub record NamesSoFar (s : Symbol) (all : List Token) (done : List (List ℕ)) (rest : List Token) : Type 0 where

@@ -1,7 +1,6 @@
 -- What the reading of the declarations says of the script.
-use Rattle.std.proofs.Common.{◌≡◌, ◌-◌, Some, None, List, length, sym, ap, subst, ◌∙◌, arith}
-use Rattle.std.specs.Prelude.{ℕ, Result, Ok, slice_get, get_or, unwrap_or}
-use Rattle.std.proofs.lemmas.Option.{unwrap_or-slice_get}
+use Rattle.std.proofs.Common.{◌≡◌, List, sym, subst, ◌∙◌, arith}
+use Rattle.std.specs.Prelude.{Result, Ok}
 use Rattle.csp_base.specs.declared.place.Place.{Place}
 use Rattle.csp_text.specs.declared.token.Token.{Token}
 use Rattle.csp_text.specs.declared.script.Decl.{Decl}
@@ -9,8 +8,7 @@ use Rattle.csp_text.specs.declared.script.Script.{Script}
 use Rattle.csp_grammar.specs.Declarations.{DeclarationsText, ScriptText}
 use Rattle.csp_grammar.proofs.Settling.{scripts_settle, settled_script}
 use Rattle.csp_grammar.proofs.Unique.{one_script}
-use Rattle.csp_lexer.specs.declared.tokens.Tokens.{Tokens}
-use Rattle.csp_parser.specs.Places.{place_before}
+use Rattle.csp_lexer.specs.Placed.{PlacedTokens, tokens_of}
 use Rattle.csp_parser.specs.Spells.{EachTextSpellsOneScript}
 use Rattle.tree_reading.specs.Reads.{Any, IfRead, Reads, Refuses}
 
@@ -32,19 +30,9 @@ not_read tokens r s p =
 pub is_none : (tokens : List Token) {ts : List Token} → ts ≡ tokens → Refuses (λ R. R.declarations ts) Any → (s : Script) → ScriptText tokens s → ⊥
 is_none tokens {ts} e r s p = not_read ts r s (subst (λ us. ScriptText us s) (sym e) p)
 
-same_tokens : (a b : Tokens) → ◌≡◌ {A = Result Tokens Place} (Ok a) (Ok b) → a ≡ b
+same_tokens : (a b : PlacedTokens) → ◌≡◌ {A = Result PlacedTokens Place} (Ok a) (Ok b) → a ≡ b
 same_tokens a b e = cc
 
 pub one_spelled : EachTextSpellsOneScript
 one_spelled text s t p q =
-    one_script q.found.tokens s t (subst (λ f. ScriptText f.tokens s) (same_tokens p.found q.found (sym p.cut ∙ q.cut)) p.spelled) q.spelled
-
--- the place of a token
-pub token_there : (tokens : Tokens) (at : Place) (left : ℕ) {i n : ℕ} → n ≡ length tokens.tokens → i ≡ n - left → Some at ≡ slice_get tokens.places i → at ≡ place_before tokens left
-token_there tokens at left {i} {n} f g e =
-    ap (λ o. unwrap_or o tokens.end) e ∙ unwrap_or-slice_get tokens.places i tokens.end ∙ ap (λ k. get_or tokens.places k tokens.end) (g ∙ ap (λ k. k - left) f)
-
--- the place of the end
-pub no_token : (tokens : Tokens) (left : ℕ) {i n : ℕ} → n ≡ length tokens.tokens → i ≡ n - left → None ≡ slice_get tokens.places i → tokens.end ≡ place_before tokens left
-no_token tokens left {i} {n} f g e =
-    ap (λ o. unwrap_or o tokens.end) e ∙ unwrap_or-slice_get tokens.places i tokens.end ∙ ap (λ k. get_or tokens.places k tokens.end) (g ∙ ap (λ k. k - left) f)
+    one_script (tokens_of q.found.placed) s t (subst (λ f. ScriptText (tokens_of f.placed) s) (same_tokens p.found q.found (sym p.cut ∙ q.cut)) p.spelled) q.spelled

@@ -17,7 +17,7 @@ use tree_parser::{Read, ReadFault, atom};
 use tree_reading::fault::stopped;
 use tree_reading::look::{named, skip};
 
-/// The name or the call that is asserted: an atom that begins with a name.
+// The name or the call that is asserted: an atom that begins with a name.
 fn asserted<'t>(alloc: Global, tokens: &'t [Token]) -> Result<Read<'t, Tree>, ReadFault>
     ensures read { IfOk result (λ r. Reads (λ R. read_asserted R tokens.now) (r.part, r.rest.now)) }
     ensures depth { IfOk result (λ r. tree_depth r.part ≤ 200) }
@@ -30,7 +30,7 @@ fn asserted<'t>(alloc: Global, tokens: &'t [Token]) -> Result<Read<'t, Tree>, Re
     }
 }
 
-/// Whether the name is written with these bytes.
+// Whether the name is written with these bytes.
 #[tactic(auto, using(crate::proofs::Assertions::same_text))]
 fn is_written(name: &Name, bytes: &[u8]) -> bool
     ensures { result ≡ is_text name.now bytes.now }
@@ -38,14 +38,14 @@ fn is_written(name: &Name, bytes: &[u8]) -> bool
     name.as_slice() == bytes
 }
 
-/// Whether this is the name of a model: failures, or failures and divergences.
+// Whether this is the name of a model: failures, or failures and divergences.
 fn is_model(name: &Name) -> bool
     ensures { result ≡ is_model name.now }
 {
     is_written(name, b"F") || is_written(name, b"FD")
 }
 
-/// What follows the name of a model, which has to stand at the front.
+// What follows the name of a model, which has to stand at the front.
 #[tactic(auto, using(crate::proofs::Assertions::passing, crate::proofs::Assertions::unnamed, crate::proofs::Assertions::not_passing))]
 fn model_name(tokens: &[Token]) -> Result<&[Token], ReadFault>
     ensures found { IfOk result (λ rest. name_that is_model tokens.now ≡ Some rest.now) }
@@ -64,7 +64,7 @@ fn model_name(tokens: &[Token]) -> Result<&[Token], ReadFault>
     }
 }
 
-/// What follows the model of an assertion, or follows nothing where no model is given.
+// What follows the model of an assertion, or follows nothing where no model is given.
 fn model(tokens: &[Token]) -> Result<&[Token], ReadFault>
     ensures found { IfOk result (λ rest. model tokens.now ≡ Some rest.now) }
     ensures shorter { IfOk result (λ rest. length rest.now ≤ length tokens.now) }
@@ -79,7 +79,7 @@ fn model(tokens: &[Token]) -> Result<&[Token], ReadFault>
     }
 }
 
-/// What follows these bytes, which have to stand at the front as a name.
+// What follows these bytes, which have to stand at the front as a name.
 #[tactic(auto, using(crate::proofs::Assertions::passing, crate::proofs::Assertions::unnamed, crate::proofs::Assertions::not_passing))]
 fn expect_name<'t>(tokens: &'t [Token], bytes: &[u8]) -> Result<&'t [Token], ReadFault>
     ensures found { IfOk result (λ rest. name_that (λ x. is_text x bytes.now) tokens.now ≡ Some rest.now) }
@@ -98,7 +98,7 @@ fn expect_name<'t>(tokens: &'t [Token], bytes: &[u8]) -> Result<&'t [Token], Rea
     }
 }
 
-/// What follows `deadlock free`, with what stands before it in an assertion.
+// What follows `deadlock free`, with what stands before it in an assertion.
 fn deadlock_free(tokens: &[Token]) -> Result<&[Token], ReadFault>
     ensures found { IfOk result (λ rest. deadlock_free tokens.now ≡ Some rest.now) }
     ensures shorter { IfOk result (λ rest. length rest.now < length tokens.now) }
@@ -110,7 +110,7 @@ fn deadlock_free(tokens: &[Token]) -> Result<&[Token], ReadFault>
     expect_name(behind, b"free")
 }
 
-/// What follows the rest of an assertion, behind its process.
+// What follows the rest of an assertion, behind its process.
 #[tactic(auto, unfolding(crate::specs::Asserted::ending))]
 fn ending(tokens: &[Token]) -> Result<&[Token], ReadFault>
     ensures found { IfOk result (λ rest. ending tokens.now ≡ Some rest.now) }
@@ -122,16 +122,21 @@ fn ending(tokens: &[Token]) -> Result<&[Token], ReadFault>
     expect(closed, Symbol::CloseBracket)
 }
 
-/// The assertion behind `assert`.
+// The assertion behind `assert`.
 pub(crate) fn assertion<'t>(alloc: Global, tokens: &'t [Token]) -> Result<Read<'t, Decl>, ReadFault>
     ensures read { IfOk result (λ r. Reads (λ R. read_assertion R tokens.now) (r.part, r.rest.now)) }
     ensures shorter { IfOk result (λ r. length r.rest.now < length tokens.now) }
     ensures none { IfNoText result (Refuses (λ R. read_assertion R tokens.now) Any) }
 {
     let process = asserted(alloc, tokens)?;
-    let rest = ending(process.rest)?;
-    Ok(Read {
-        part: Decl::Assert(process.part),
-        rest,
-    })
+    match ending(process.rest) {
+        Ok(rest) => Ok(Read {
+            part: Decl::Assert(process.part),
+            rest,
+        }),
+        Err(fault) => {
+            drop(process.part);
+            Err(fault)
+        }
+    }
 }

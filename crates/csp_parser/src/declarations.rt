@@ -8,21 +8,29 @@ ghost use Rattle.tree_reading.specs.Reads.{Any, Reads, Refuses};
 use crate::assertion::assertion;
 use crate::declared::{channel, datatype, definition, nametype};
 use containers::Items;
-use csp_base::NoMemory;
+use csp_base::{Name, NoMemory};
 use csp_text::{Decl, ResourceNames, RolesNames, Token, Word};
 use std::alloc::Global;
 use tree_parser::{Read, ReadFault};
 use tree_reading::fault::stopped;
 
-/// A copy of the names of roles.
+// Copies of two names.
+fn copy_pair(alloc: Global, a: &Name, b: &Name) -> Result<(Name, Name), NoMemory>
+    ensures first { IfOk result (λ pair. pair.0 ≡ a.now) }
+    ensures second { IfOk result (λ pair. pair.1 ≡ b.now) }
+{
+    let first = a.try_clone(alloc)?;
+    let second = b.try_clone(alloc)?;
+    Ok((first, second))
+}
+
+// A copy of the names of roles.
 fn copy_roles(alloc: Global, names: &RolesNames) -> Result<RolesNames, NoMemory>
     ensures { IfOk result (λ copy. copy ≡ names.now) }
 {
     let process = names.process.try_clone(alloc)?;
-    let creq = names.creq.try_clone(alloc)?;
-    let cack = names.cack.try_clone(alloc)?;
-    let sreq = names.sreq.try_clone(alloc)?;
-    let sack = names.sack.try_clone(alloc)?;
+    let (creq, cack) = copy_pair(alloc, &names.creq, &names.cack)?;
+    let (sreq, sack) = copy_pair(alloc, &names.sreq, &names.sack)?;
     Ok(RolesNames {
         process,
         creq,
@@ -32,7 +40,7 @@ fn copy_roles(alloc: Global, names: &RolesNames) -> Result<RolesNames, NoMemory>
     })
 }
 
-/// A copy of the names of a resource.
+// A copy of the names of a resource.
 fn copy_resource(alloc: Global, names: &ResourceNames) -> Result<ResourceNames, NoMemory>
     ensures { IfOk result (λ copy. copy ≡ names.now) }
 {
@@ -46,7 +54,7 @@ fn copy_resource(alloc: Global, names: &ResourceNames) -> Result<ResourceNames, 
     })
 }
 
-/// The declaration behind this word, which stands at the front of all tokens.
+// The declaration behind this word, which stands at the front of all tokens.
 fn word_declaration<'t>(
     alloc: Global,
     word: Word,
@@ -66,7 +74,7 @@ fn word_declaration<'t>(
     }
 }
 
-/// The declaration at the front.
+// The declaration at the front.
 fn declaration<'t>(alloc: Global, tokens: &'t [Token]) -> Result<Read<'t, Decl>, ReadFault>
     ensures read { IfOk result (λ r. Reads (λ R. read_declaration R tokens.now) (r.part, r.rest.now)) }
     ensures shorter { IfOk result (λ r. length r.rest.now < length tokens.now) }
@@ -91,7 +99,7 @@ fn declaration<'t>(alloc: Global, tokens: &'t [Token]) -> Result<Read<'t, Decl>,
     }
 }
 
-/// The declarations that the tokens are, one after another.
+// The declarations that the tokens are, one after another.
 pub(crate) fn declarations(alloc: Global, tokens: &[Token]) -> Result<Items<Decl>, ReadFault>
     ensures read { IfOk result (λ decls. Reads (λ R. R.declarations tokens.now) decls) }
     ensures none { IfNoText result (Refuses (λ R. R.declarations tokens.now) Any) }

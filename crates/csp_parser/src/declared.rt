@@ -14,7 +14,7 @@ use std::alloc::Global;
 use tree_parser::{Read, ReadFault, atom, tree};
 use tree_reading::look::skip;
 
-/// The channels behind `channel`, with the types of their fields.
+// The channels behind `channel`, with the types of their fields.
 pub(crate) fn channel<'t>(alloc: Global, tokens: &'t [Token]) -> Result<Read<'t, Decl>, ReadFault>
     ensures read { IfOk result (λ r. Reads (λ R. read_channel R tokens.now) (r.part, r.rest.now)) }
     ensures shorter { IfOk result (λ r. length r.rest.now < length tokens.now) }
@@ -36,7 +36,7 @@ pub(crate) fn channel<'t>(alloc: Global, tokens: &'t [Token]) -> Result<Read<'t,
     }
 }
 
-/// The name of a type and its values, behind `datatype`.
+// The name of a type and its values, behind `datatype`.
 pub(crate) fn datatype<'t>(alloc: Global, tokens: &'t [Token]) -> Result<Read<'t, Decl>, ReadFault>
     ensures read { IfOk result (λ r. Reads (λ R. read_datatype R tokens.now) (r.part, r.rest.now)) }
     ensures shorter { IfOk result (λ r. length r.rest.now < length tokens.now) }
@@ -51,7 +51,7 @@ pub(crate) fn datatype<'t>(alloc: Global, tokens: &'t [Token]) -> Result<Read<'t
     })
 }
 
-/// The name of a set and the set, behind `nametype`.
+// The name of a set and the set, behind `nametype`.
 pub(crate) fn nametype<'t>(alloc: Global, tokens: &'t [Token]) -> Result<Read<'t, Decl>, ReadFault>
     ensures read { IfOk result (λ r. Reads (λ R. read_nametype R tokens.now) (r.part, r.rest.now)) }
     ensures shorter { IfOk result (λ r. length r.rest.now < length tokens.now) }
@@ -66,7 +66,7 @@ pub(crate) fn nametype<'t>(alloc: Global, tokens: &'t [Token]) -> Result<Read<'t
     })
 }
 
-/// The definition of this name, behind it.
+// The definition of this name, behind it.
 pub(crate) fn definition<'t>(
     alloc: Global,
     defined: &Name,
@@ -78,8 +78,8 @@ pub(crate) fn definition<'t>(
 {
     let taken = parameters(alloc, tokens)?;
     let behind = expect(taken.rest, Symbol::Defines)?;
-    let body = tree(alloc, WHOLE, behind)?;
     let copied = defined.try_clone(alloc)?;
+    let body = tree(alloc, WHOLE, behind)?;
     Ok(Read {
         part: Decl::Define(copied, taken.part, body.part),
         rest: body.rest,

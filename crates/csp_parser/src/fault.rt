@@ -3,7 +3,7 @@
 use csp_base::{NoMemory, Place};
 
 /// Why there is no script, or none was found.
-#[derive(Clone, Copy, Debug, PartialEq, Eq, Drop, thiserror::Error)]
+#[derive(Debug, Drop, thiserror::Error)]
 pub enum ParseFault {
     /// Memory ran out.
     #[error("out of memory")]

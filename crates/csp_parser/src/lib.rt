@@ -7,8 +7,6 @@ mod declared;
 pub mod fault;
 mod names;
 mod parser;
-#[cfg(test)]
-mod tests;
 mod types;
 
 pub use fault::ParseFault;

@@ -14,7 +14,7 @@ use tree_parser::{Read, ReadFault};
 use tree_reading::fault::stopped;
 use tree_reading::look::{named, skip};
 
-/// What follows the symbol that has to stand at the front.
+// What follows the symbol that has to stand at the front.
 pub(crate) fn expect(tokens: &[Token], symbol: Symbol) -> Result<&[Token], ReadFault>
     ensures found { IfOk result (λ rest. skip symbol tokens.now ≡ Some rest.now) }
     ensures shorter { IfOk result (λ rest. length rest.now < length tokens.now) }
@@ -26,7 +26,7 @@ pub(crate) fn expect(tokens: &[Token], symbol: Symbol) -> Result<&[Token], ReadF
     }
 }
 
-/// The name that has to stand at the front.
+// The name that has to stand at the front.
 #[tactic(auto, using(crate::proofs::Fronts::first_is, crate::proofs::Fronts::behind_is, crate::proofs::Fronts::no_first))]
 pub(crate) fn name<'t>(alloc: Global, tokens: &'t [Token]) -> Result<Read<'t, Name>, ReadFault>
     ensures name { IfOk result (λ r. first_name tokens.now ≡ Some r.part) }
@@ -43,7 +43,7 @@ pub(crate) fn name<'t>(alloc: Global, tokens: &'t [Token]) -> Result<Read<'t, Na
     }
 }
 
-/// One name or more, with the sign between them.
+// One name or more, with the sign between them.
 pub(crate) fn names<'t>(
     alloc: Global,
     sign: Symbol,
@@ -68,7 +68,7 @@ pub(crate) fn names<'t>(
     }
 }
 
-/// The parameters of a definition: names in parentheses, or nothing.
+// The parameters of a definition: names in parentheses, or nothing.
 pub(crate) fn parameters<'t>(
     alloc: Global,
     tokens: &'t [Token],

@@ -2,6 +2,7 @@
 
 ghost use Rattle.std.specs.Prelude.{◌≡◌, ◌≤◌, List, ℕ, length, IfOk, IfErr};
 ghost use Rattle.csp_grammar.specs.Declarations.{ScriptText};
+ghost use Rattle.csp_lexer.specs.Placed.{tokens_of};
 ghost use Rattle.csp_parser.specs.Fault.{IfNoScript};
 ghost use Rattle.csp_parser.specs.Places.{IsPlaceIn, IsPlaceOf, place_before};
 ghost use Rattle.csp_parser.specs.Spells.{EachTextSpellsOneScript, Spells};
@@ -15,16 +16,12 @@ use csp_text::Script;
 use std::alloc::Global;
 use tree_parser::ReadFault;
 
-/// The place of the token from which on so many tokens are left, or that of the text's end.
-#[tactic(auto, using(crate::proofs::Scripts::token_there, crate::proofs::Scripts::no_token))]
+// The place of the token from which on so many tokens are left, or that of the text's end.
 fn place_before(tokens: &Tokens, left: usize) -> Place
     ensures { result ≡ place_before tokens.now left }
 {
-    let first = tokens.tokens.len().saturating_sub(left);
-    match tokens.places.get(first) {
-        Some(place) => *place,
-        None => tokens.end,
-    }
+    let first = tokens.as_slice().len().saturating_sub(left);
+    tokens.place(first)
 }
 
 /// The script that the tokens are.
@@ -33,14 +30,14 @@ fn place_before(tokens: &Tokens, left: usize) -> Place
 /// tells the place of the token at which reading stopped, or that of the text's end.
 pub fn parse(alloc: Global, tokens: &Tokens) -> Result<Script, ParseFault>
     // What is found is spelled, and nothing else is.
-    ensures found { IfOk result (λ script. ScriptText tokens.now.tokens script) }
-    ensures only { IfOk result (λ script. (other : Script) → ScriptText tokens.now.tokens other → script ≡ other) }
+    ensures found { IfOk result (λ script. ScriptText (tokens_of tokens.now.placed) script) }
+    ensures only { IfOk result (λ script. (other : Script) → ScriptText (tokens_of tokens.now.placed) other → script ≡ other) }
 
     // The fault is that no script is spelled.
-    ensures none { IfErr result (λ fault. IfNoScript fault (λ at. (script : Script) → ScriptText tokens.now.tokens script → ⊥)) }
+    ensures none { IfErr result (λ fault. IfNoScript fault (λ at. (script : Script) → ScriptText (tokens_of tokens.now.placed) script → ⊥)) }
     ensures place { IfErr result (λ fault. IfNoScript fault (λ at. IsPlaceIn tokens.now at)) }
 {
-    match declarations(alloc, tokens.tokens.as_slice()) {
+    match declarations(alloc, tokens.as_slice()) {
         Ok(decls) => Ok(Script { decls }),
         Err(ReadFault::NoMemory) => Err(ParseFault::NoMemory),
         Err(ReadFault::NoText { left }) => Err(ParseFault::NoScript {

@@ -16,7 +16,7 @@ pub(crate) const WHOLE: Limits = Limits {
     depth: 200,
 };
 
-/// One type or more, with dots between them.
+// One type or more, with dots between them.
 pub(crate) fn types<'t>(
     alloc: Global,
     tokens: &'t [Token],

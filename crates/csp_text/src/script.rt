@@ -6,7 +6,7 @@ use containers::Items;
 use csp_base::Name;
 
 /// A declaration of a script.
-#[derive(Debug, PartialEq, Eq, Hash, Drop)]
+#[derive(Drop)]
 pub enum Decl {
     /// `channel a, b : S.T`: the channels, and the types of their fields.
     Channel(Items<Name>, Items<Tree>),
@@ -25,7 +25,7 @@ pub enum Decl {
 }
 
 /// A script: its declarations in the order of the text.
-#[derive(Debug, PartialEq, Eq, Hash, Drop)]
+#[derive(Drop)]
 pub struct Script {
     /// The declarations.
     pub decls: Items<Decl>,

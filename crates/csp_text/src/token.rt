@@ -6,7 +6,7 @@ use csp_base::Name;
 /// A part of a script. Blanks and comments stand between tokens and have no meaning.
 ///
 /// The names of an annotation, which are rare, are on the heap, so that a token is small.
-#[derive(Debug, PartialEq, Eq, Hash, Drop)]
+#[derive(Drop)]
 pub enum Token {
     /// A name that the script gives.
     Name(Name),
@@ -23,7 +23,7 @@ pub enum Token {
 }
 
 /// The names of an annotation that gives a process its roles of client and server.
-#[derive(Debug, PartialEq, Eq, Hash, Drop)]
+#[derive(Drop)]
 pub struct RolesNames {
     /// The process.
     pub process: Name,
@@ -38,7 +38,7 @@ pub struct RolesNames {
 }
 
 /// The names of an annotation that makes a process a resource.
-#[derive(Debug, PartialEq, Eq, Hash, Drop)]
+#[derive(Drop)]
 pub struct ResourceNames {
     /// The process.
     pub process: Name,
@@ -49,7 +49,7 @@ pub struct ResourceNames {
 }
 
 /// The reserved words of the language.
-#[derive(Clone, Copy, Debug, PartialEq, Eq, Hash)]
+#[derive(Clone, Copy, PartialEq, Eq)]
 pub enum Word {
     /// `and`
     And,
@@ -88,7 +88,7 @@ pub enum Word {
 }
 
 /// The symbols of the language.
-#[derive(Clone, Copy, Debug, PartialEq, Eq, Hash)]
+#[derive(Clone, Copy, PartialEq, Eq)]
 pub enum Symbol {
     /// `->`
     Arrow,

@@ -5,7 +5,7 @@ use csp_base::{BinOp, Name, SetOp};
 
 /// An expression or a process. Parts stand in the order of the text; parentheses leave no trace.
 #[cycle(tree)]
-#[derive(Debug, PartialEq, Eq, Hash, Drop)]
+#[derive(Drop)]
 pub enum Tree {
     /// `STOP`
     Stop,
@@ -67,7 +67,7 @@ pub enum Tree {
 
 /// The event of a prefix: a channel and its fields.
 #[cycle(tree)]
-#[derive(Debug, PartialEq, Eq, Hash, Drop)]
+#[derive(Drop)]
 pub struct EventTree {
     /// The channel.
     pub name: Name,
@@ -77,7 +77,7 @@ pub struct EventTree {
 
 /// A field of a prefix.
 #[cycle(tree)]
-#[derive(Debug, PartialEq, Eq, Hash, Drop)]
+#[derive(Drop)]
 pub enum FieldTree {
     /// `.a`
     Dot(Tree),
@@ -89,7 +89,7 @@ pub enum FieldTree {
 
 /// The front of an event: a channel and some of its fields.
 #[cycle(tree)]
-#[derive(Debug, PartialEq, Eq, Hash, Drop)]
+#[derive(Drop)]
 pub struct PartTree {
     /// The channel.
     pub name: Name,
@@ -99,7 +99,7 @@ pub struct PartTree {
 
 /// A part of a list of generators.
 #[cycle(tree)]
-#[derive(Debug, PartialEq, Eq, Hash, Drop)]
+#[derive(Drop)]
 pub enum GenTree {
     /// `x <- S`
     From(Name, Tree),

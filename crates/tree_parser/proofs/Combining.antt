@@ -1,13 +1,18 @@
 -- What comes of a step follows from what comes of it in each case.
-use Rattle.std.proofs.Common.{Bool, true, false, if◌then◌else◌, Option, Some, None}
+use Rattle.std.proofs.Common.{◌≡◌, Bool, true, false, if◌then◌else◌, Option, Some, None}
 use Rattle.csp_grammar.specs.Reader.{and_then, case}
 use Rattle.tree_reading.specs.Limited.{Limited}
 use Rattle.tree_reading.specs.Nesting.{inside}
 use Rattle.tree_reading.specs.declared.limits.Limits.{Limits}
-use Rattle.tree_steps.specs.Moved.{Moved, FoundTree}
-use Rattle.tree_parser.specs.Meaning.{StepGives}
+use Rattle.expression_steps.specs.Moved.{Moved, FoundTree}
+use Rattle.tree_parser.specs.Meaning.{MoveGives}
 use Rattle.tree_parser.specs.Then.{Outcome, Then}
 use Rattle.tree_parser.proofs.Then.{stop, done}
+
+-- what comes of a step, if it gives anything, and what follows
+abbrev pub StepGives : Option Moved → (FoundTree → Outcome → Type 0) → Outcome → Type 0
+StepGives None K s = s ≡ None
+StepGives (Some m) K s = MoveGives m K s
 
 module _ {B : Type 0} (K : FoundTree → Outcome → Type 0) {M : B → Outcome → Type 0} {s : Outcome} where
   pub by_look : {A : Type 0} (x : Option A) (g : A → Option Moved) (G : Limited → A → Option B) → StepGives (and_then x g) K s →

@@ -12,54 +12,62 @@ use Rattle.csp_grammar.specs.Tokens.{skip, skip_word}
 use Rattle.tree_reading.specs.Bindings.{at_least}
 use Rattle.tree_reading.specs.Limited.{read_binder, read_field, read_input}
 use Rattle.tree_reading.specs.Nesting.{around, bracketed, sure}
-use Rattle.tree_reading.specs.Starts.{chain_symbol, choice, dotted_fields, first_chain, named}
+use Rattle.tree_reading.specs.Starts.{chain_symbol, choice as choice_sign, dotted_fields, first_chain, named}
 use Rattle.tree_reading.specs.declared.limits.Limits.{Limits}
 use Rattle.tree_reading.specs.declared.look.Chain.{Chain}
 use Rattle.tree_reading.specs.declared.read.Binding.TheVariants as binding
-use Rattle.tree_steps.specs.declared.frame.ProcessFrame.{ProcessFrame}
-use Rattle.tree_steps.specs.declared.frame.ProcessFrame.TheVariants as process
-use Rattle.tree_steps.specs.declared.frame.Replication.{Replication}
-use Rattle.tree_steps.specs.declared.frame.Replication.TheVariants as replication
-use Rattle.tree_steps.specs.declared.frame.ReplicatedFrame.{ReplicatedFrame}
-use Rattle.tree_steps.specs.declared.frame.ReplicatedFrame.TheVariants as replicated
-use Rattle.tree_steps.specs.declared.frame.EventFrame.{EventFrame}
-use Rattle.tree_steps.specs.declared.frame.EventFrame.TheVariants as event
-use Rattle.tree_steps.specs.Moved.{FoundTree}
-use Rattle.tree_parser.proofs.Combining.{by_case, by_found, by_look, split}
+use Rattle.expression_steps.specs.declared.frame.ParallelFrame.{ParallelFrame}
+use Rattle.expression_steps.specs.declared.frame.ParallelFrame.TheVariants as parallel
+use Rattle.expression_steps.specs.declared.frame.ChoiceFrame.{ChoiceFrame}
+use Rattle.expression_steps.specs.declared.frame.ChoiceFrame.TheVariants as choice
+use Rattle.expression_steps.specs.declared.frame.ProcessFrame.{ProcessFrame}
+use Rattle.expression_steps.specs.declared.frame.ProcessFrame.TheVariants as process
+use Rattle.expression_steps.specs.declared.frame.Replication.{Replication}
+use Rattle.expression_steps.specs.declared.frame.Replication.TheVariants as replication
+use Rattle.expression_steps.specs.declared.frame.ReplicatedFrame.{ReplicatedFrame}
+use Rattle.expression_steps.specs.declared.frame.ReplicatedFrame.TheVariants as replicated
+use Rattle.expression_steps.specs.declared.frame.EventFrame.{EventFrame}
+use Rattle.expression_steps.specs.declared.frame.EventFrame.TheVariants as event
+use Rattle.expression_steps.specs.Moved.{FoundTree}
+use Rattle.tree_parser.proofs.Combining.{StepGives, by_case, by_found, by_look, split}
 use Rattle.tree_parser.specs.Then.{Outcome, Then}
 use Rattle.tree_parser.proofs.Then.{assoc, change, done, later, put}
 use Rattle.tree_steps.specs.Events.{move_event, move_fields, move_input, resume_event}
-use Rattle.tree_steps.specs.Nesting.{operand_limits}
-use Rattle.tree_steps.specs.Processes.{move_hidden, move_operand, resume_process}
+use Rattle.expression_steps.specs.Nesting.{operand_limits}
+use Rattle.tree_steps.specs.Processes.{move_hidden, move_operand, resume_choice, resume_parallel, resume_process}
 use Rattle.tree_steps.specs.Replicated.{move_ranged, move_replicated, resume_replicated}
 use Rattle.tree_parser.proofs.ListSteps.{no_longer, one_longer}
-use Rattle.tree_parser.specs.Meaning.{EventEnd, EventGives, ProcessGives, ReplicatedGives, StepGives, operands_after, ranged}
+use Rattle.tree_parser.specs.Meaning.{ChoiceGives, EventEnd, EventGives, ParallelGives, ProcessGives, ReplicatedGives, operands_after, ranged}
 
 hidden_step : (K : FoundTree → Outcome → Type 0) (s : Outcome) (l : Limits) (t : Tree) (ts : List Token) → StepGives (move_hidden l t ts) K s → Then (λ L. L.hidings l t ts) K s
 hidden_step K s l t ts h = later (by_case K (skip symbol.Backslash ts) _ _ _ _ h (λ us h. assoc _ (by_look K (around l t) _ _ h (λ e h. put _ h))) (λ h. done h))
 
 operand_step : (K : FoundTree → Outcome → Type 0) (s : Outcome) (e : Limits) (chain : Chain) (before : List Tree) (p : FoundTree) → StepGives (move_operand e chain before p) K s →
-    Then (λ L. operands_after L e chain p) (λ q. K (q.0, choice_of (choice chain) (before ++ q.1), q.2)) s
+    Then (λ L. operands_after L e chain p) (λ q. K (q.0, choice_of (choice_sign chain) (before ++ q.1), q.2)) s
 operand_step K s e chain before p h =
     by_look K (sure (at_least binding.Open p.0)) _ _ h (λ _ h. by_case K (skip (chain_symbol chain) p.2) _ _ _ _ h
-    (λ us h. by_look K (sure (at_least binding.Closed p.0)) _ _ h (λ _ h. put _ (change (λ q k. one_longer (λ xs. K (q.0, choice_of (choice chain) xs, q.2) s) before p.1 q.1 k) (later (assoc _ h)))))
+    (λ us h. by_look K (sure (at_least binding.Closed p.0)) _ _ h (λ _ h. put _ (change (λ q k. one_longer (λ xs. K (q.0, choice_of (choice_sign chain) xs, q.2) s) before p.1 q.1 k) (later (assoc _ h)))))
     (λ h. done h))
 
-pub process_resumed : (K : FoundTree → Outcome → Type 0) (s : Outcome) (w : ProcessFrame) (p : FoundTree) → StepGives (resume_process w p) K s → ProcessGives w p K s
-process_resumed K s (process.LeftSide l) p h =
+pub parallel_resumed : (K : FoundTree → Outcome → Type 0) (s : Outcome) (w : ParallelFrame) (p : FoundTree) → StepGives (resume_parallel w p) K s → ParallelGives w p K s
+parallel_resumed K s (parallel.LeftSide l) p h =
     by_case K (skip symbol.OpenBracket p.2) _ _ _ _ h
     (λ us h. by_look K (sure (at_least binding.Closed p.0)) _ _ (split K s (sure (at_least binding.Closed p.0)) _ _ (split K s (operand_limits l p.0 p.1) _ _ h)) (λ _ h. by_look K (around l p.1) _ _ h (λ e h.
     by_look K (bracketed e) _ _ (split K s (bracketed e) _ _ h) (λ m h. assoc _ h))))
     (λ h. done h)
-process_resumed K s (process.LeftAlphabet e m t) p h = by_look K (skip symbol.Parallel p.2) _ _ h (λ us h. assoc _ h)
-process_resumed K s (process.RightAlphabet e t a) p h = by_look K (skip symbol.CloseBracket p.2) _ _ h (λ us h. assoc _ h)
-process_resumed K s (process.RightSide t a b) p h = by_look K (sure (at_least binding.Open p.0)) _ _ h (λ _ h. done h)
-process_resumed K s (process.FirstOperand l) p h =
+parallel_resumed K s (parallel.LeftAlphabet e m t) p h = by_look K (skip symbol.Parallel p.2) _ _ h (λ us h. assoc _ h)
+parallel_resumed K s (parallel.RightAlphabet e t a) p h = by_look K (skip symbol.CloseBracket p.2) _ _ h (λ us h. assoc _ h)
+parallel_resumed K s (parallel.RightSide t a b) p h = by_look K (sure (at_least binding.Open p.0)) _ _ h (λ _ h. done h)
+
+pub choice_resumed : (K : FoundTree → Outcome → Type 0) (s : Outcome) (w : ChoiceFrame) (p : FoundTree) → StepGives (resume_choice w p) K s → ChoiceGives w p K s
+choice_resumed K s (choice.FirstOperand l) p h =
     by_case K (first_chain p.2) _ _ _ _ h
     (λ c h. by_look K (sure (at_least binding.Closed p.0)) _ _ (split K s (sure (at_least binding.Closed p.0)) _ _ h) (λ _ h. by_look K (around l p.1) _ _ h (λ e h. put _ (later (assoc _ h)))))
     (λ h. by_case K (skip symbol.Backslash p.2) _ _ _ _ h (λ us h. by_look K (sure (at_least binding.Renaming p.0)) _ _ h (λ _ h. hidden_step K s l p.1 p.2 h)) (λ h. done h))
-process_resumed K s (process.Operand e chain before) p h = operand_step K s e chain before p h
-process_resumed K s (process.Hidden l t) p h = hidden_step K s l (tree.Hide t p.1) p.2 h
+choice_resumed K s (choice.Operand e chain before) p h = operand_step K s e chain before p h
+choice_resumed K s (choice.Hidden l t) p h = hidden_step K s l (tree.Hide t p.1) p.2 h
+
+pub process_resumed : (K : FoundTree → Outcome → Type 0) (s : Outcome) (w : ProcessFrame) (p : FoundTree) → StepGives (resume_process w p) K s → ProcessGives w p K s
 process_resumed K s (process.FirstProcess l) p h =
     by_case K (skip symbol.Semicolon p.2) _ _ _ _ h
     (λ us h. by_look K (sure (at_least binding.Closed p.0)) _ _ (split K s (sure (at_least binding.Closed p.0)) _ _ h) (λ _ h. by_look K (around l p.1) _ _ h (λ e h. assoc _ h)))

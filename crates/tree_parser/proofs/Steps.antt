@@ -18,25 +18,25 @@ use Rattle.tree_reading.specs.declared.look.PrefixStart.{PrefixStart}
 use Rattle.tree_reading.specs.declared.look.PrefixStart.TheVariants as opening
 use Rattle.tree_reading.specs.declared.read.Binding.{Binding}
 use Rattle.tree_reading.specs.declared.read.Binding.TheVariants as binding
-use Rattle.tree_steps.specs.declared.form.Form.{Form}
-use Rattle.tree_steps.specs.declared.form.Form.TheVariants as form
-use Rattle.tree_steps.specs.declared.frame.Frame.{Frame}
-use Rattle.tree_steps.specs.declared.frame.Frame.TheVariants as frame
-use Rattle.tree_steps.specs.declared.frame.Replication.TheVariants as replication
-use Rattle.tree_steps.specs.declared.frame.ExpressionFrame.{ExpressionFrame}
-use Rattle.tree_steps.specs.declared.frame.ExpressionFrame.TheVariants as expression
-use Rattle.tree_steps.specs.declared.frame.AtomFrame.{AtomFrame}
-use Rattle.tree_steps.specs.declared.frame.AtomFrame.TheVariants as atom
-use Rattle.tree_steps.specs.Moved.{FoundTree}
-use Rattle.tree_parser.proofs.Combining.{by_case, by_look, by_opened, by_test}
+use Rattle.expression_steps.specs.declared.form.Form.{Form}
+use Rattle.expression_steps.specs.declared.form.Form.TheVariants as form
+use Rattle.expression_steps.specs.declared.frame.Frame.{Frame}
+use Rattle.expression_steps.specs.declared.frame.Frame.TheVariants as frame
+use Rattle.expression_steps.specs.declared.frame.Replication.TheVariants as replication
+use Rattle.expression_steps.specs.declared.frame.ExpressionFrame.{ExpressionFrame}
+use Rattle.expression_steps.specs.declared.frame.ExpressionFrame.TheVariants as expression
+use Rattle.expression_steps.specs.declared.frame.AtomFrame.{AtomFrame}
+use Rattle.expression_steps.specs.declared.frame.AtomFrame.TheVariants as atom
+use Rattle.expression_steps.specs.Moved.{FoundTree}
+use Rattle.tree_parser.proofs.Combining.{StepGives, by_case, by_look, by_opened, by_test}
 use Rattle.tree_parser.specs.Then.{Outcome, Then}
 use Rattle.tree_parser.proofs.Then.{assoc, change, done, later, put}
-use Rattle.tree_steps.specs.Atoms.{move_arguments, move_atom_rest, move_elements, resume_atom}
-use Rattle.tree_steps.specs.Expressions.{move_expression, resume_expression}
+use Rattle.expression_steps.specs.Atoms.{move_arguments, move_atom_rest, move_elements, resume_atom}
+use Rattle.expression_steps.specs.Expressions.{move_expression, resume_expression}
 use Rattle.tree_steps.specs.Machine.{begin, begin_item, begin_opened, resume}
 use Rattle.tree_parser.proofs.ListSteps.{generators_step, list_resumed, one_longer, operators_step, part_step, product_read}
-use Rattle.tree_parser.proofs.ProcessSteps.{event_resumed, fields_step, process_resumed, replicated_resumed, replicated_step}
-use Rattle.tree_parser.specs.Meaning.{AtomGives, CallEnd, ExpressionGives, FormGives, FrameGives, SetEnd, StepGives, bound, items_after}
+use Rattle.tree_parser.proofs.ProcessSteps.{choice_resumed, event_resumed, fields_step, parallel_resumed, process_resumed, replicated_resumed, replicated_step}
+use Rattle.tree_parser.specs.Meaning.{AtomGives, CallEnd, ExpressionGives, FormGives, FrameGives, SetEnd, bound, items_after}
 
 expression_step : (K : FoundTree → Outcome → Type 0) (s : Outcome) (l : Limits) (level : Binding) (ts : List Token) → StepGives (move_expression l level ts) K s →
     Then (λ L. L.expression l level ts) K s
@@ -118,6 +118,8 @@ begun K s (form.Part of) l ts h = part_step K s l of ts h
 begun K s (form.Generators of gens) l ts h = generators_step K s l of gens ts h
 
 pub resumed : (K : FoundTree → Outcome → Type 0) (s : Outcome) (w : Frame) (p : FoundTree) → StepGives (resume w p) K s → FrameGives w p K s
+resumed K s (frame.Parallel w) p h = parallel_resumed K s w p h
+resumed K s (frame.Choice w) p h = choice_resumed K s w p h
 resumed K s (frame.Process w) p h = process_resumed K s w p h
 resumed K s (frame.Replicated w) p h = replicated_resumed K s w p h
 resumed K s (frame.Event w) p h = event_resumed K s w p h

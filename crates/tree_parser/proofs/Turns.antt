@@ -10,16 +10,17 @@ use Rattle.csp_text.specs.declared.tree.Tree.{Tree}
 use Rattle.tree_reading.specs.declared.limits.Limits.{Limits}
 use Rattle.tree_reading.specs.declared.read.BoundRead.{BoundRead}
 use Rattle.tree_steps.specs.Machine.{begin, resume}
-use Rattle.tree_parser.specs.Meaning.{FormGives, FrameGives, MoveGives, StepGives}
-use Rattle.tree_steps.specs.Moved.{FoundTree, Moved, moved, seen, weight}
-use Rattle.tree_steps.specs.Moved.Moved.{found, inner, next}
+use Rattle.tree_parser.specs.Meaning.{FormGives, FrameGives, MoveGives}
+use Rattle.expression_steps.specs.Moved.{FoundTree, Moved, moved, seen, weight}
+use Rattle.expression_steps.specs.Moved.Moved.{found, inner, next}
 use Rattle.tree_parser.specs.Stack.{Answered, Turned, Waiting, reading_weight, stacked, whole}
 use Rattle.tree_parser.specs.Then.{Outcome}
-use Rattle.tree_steps.specs.declared.form.Form.{Form}
-use Rattle.tree_steps.specs.declared.frame.Frame.{Frame}
-use Rattle.tree_steps.specs.declared.step.Step.{Step}
+use Rattle.expression_steps.specs.declared.form.Form.{Form}
+use Rattle.expression_steps.specs.declared.frame.Frame.{Frame}
+use Rattle.expression_steps.specs.declared.step.Step.{Step}
 use Rattle.tree_parser.specs.declared.turn.Turn.{Turn}
 use Rattle.tree_parser.specs.declared.turn.Turn.TheVariants as turn
+use Rattle.tree_parser.proofs.Combining.{StepGives}
 use Rattle.tree_parser.proofs.Steps.{begun, resumed}
 
 stacked_one : (frames : List Frame) (w : Frame) (K : FoundTree → Outcome → Type 0) (p : FoundTree) (s : Outcome) →
@@ -77,36 +78,12 @@ pub stops_back : (x : Result Turn ReadFault) (r : ReadFault) (before after : Lis
     Gives {A = Step} (Err r) moved (resume w p) → Turned x after (found p) before
 stops_back x r before after w p e is h = turn_stops x r after before (found p) (resume w p) is h (λ g. last_resumed before after w p None e (step_stops (resume w p) (Waiting after) g))
 
--- where no frame waits, the whole is there
-pub none_waits : (before : List Frame) (p : FoundTree) → before ≡ [] → MoveGives (found p) (Waiting before) (Some p)
-none_waits before p e = subst (λ fs. Waiting fs p (Some p)) (sym e) refl
-
 -- the reading of the whole so far
 abbrev pub Leads : Form → Limits → List Token → Moved → List Frame → Type 0
 Leads f l ts m frames = (s : Outcome) → MoveGives m (Waiting frames) s → FormGives f l ts whole s
 
 pub leads_first : (f : Form) (l : Limits) (ts : List Token) (m : Moved) (frames : List Frame) → begin f l ts ≡ Some m → frames ≡ [] → Leads f l ts m frames
 leads_first f l ts m frames e n s h = begun whole s f l ts (step_gives (begin f l ts) m whole s e (subst (λ fs. MoveGives m (Waiting fs) s) n h))
-
--- one turn more
-pub leads_on : (f : Form) (l : Limits) (ts : List Token) (m : Moved) (before after : List Frame) (n : Step) → Leads f l ts m before → Turned (Ok (turn.Goes n)) after m before → Leads f l ts (moved n) after
-leads_on f l ts m before after n lead t s h = lead s (t s h)
-
--- the last turn
-pub leads_back : (f : Form) (l : Limits) (ts : List Token) (m : Moved) (before after : List Frame) (r : BoundRead Tree) → Leads f l ts m before → Turned (Ok (turn.Ends r)) after m before →
-    FormGives f l ts whole (Some (seen r))
-leads_back f l ts m before after r lead t = lead _ t
-
-fault_leads : (r : ReadFault) (f : Form) (l : Limits) (ts : List Token) (m : Moved) (before after : List Frame) → Leads f l ts m before → Turned (Err r) after m before →
-    Answered {A = BoundRead Tree} (Err r) seen f l ts
-fault_leads fault.NoMemory f l ts m before after lead t = tt
-fault_leads (fault.NoText left) f l ts m before after lead t = lead None t
-
--- a turn that stops
-pub leads_nowhere : (x : Result (BoundRead Tree) ReadFault) (r : ReadFault) (f : Form) (l : Limits) (ts : List Token) (m : Moved) (before after : List Frame) → IsErrAnd x (λ y. y ≡ r) →
-    Leads f l ts m before → Turned (Err r) after m before → Answered x seen f l ts
-leads_nowhere (Ok b) r f l ts m before after is lead t = absurd is
-leads_nowhere (Err y) r f l ts m before after is lead t = subst (λ e. Answered {A = BoundRead Tree} (Err e) seen f l ts) (sym is) (fault_leads r f l ts m before after lead t)
 
 fault_first : (r : ReadFault) (f : Form) (l : Limits) (ts : List Token) → Gives {A = Step} (Err r) moved (begin f l ts) → Answered {A = BoundRead Tree} (Err r) seen f l ts
 fault_first fault.NoMemory f l ts h = tt

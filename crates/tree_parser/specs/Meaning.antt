@@ -15,37 +15,41 @@ use Rattle.csp_grammar.specs.Tokens.{skip, skip_word}
 use Rattle.tree_reading.specs.Bindings.{at_least, last_item, of_process}
 use Rattle.tree_reading.specs.Limited.{Limited, read_side, read_item, read_conditions, read_range, read_comprehension, read_prefixed, read_branches, read_guarded, read_followed, read_chain, read_parallel, read_part}
 use Rattle.tree_reading.specs.Nesting.{around, bracketed, sure}
-use Rattle.tree_reading.specs.Starts.{chain_symbol, choice, dotted_fields, each_tree, first_chain, named}
+use Rattle.tree_reading.specs.Starts.{chain_symbol, choice as choice_sign, dotted_fields, each_tree, first_chain, named}
 use Rattle.tree_reading.specs.declared.limits.Limits.{Limits}
 use Rattle.tree_reading.specs.declared.look.Chain.{Chain}
 use Rattle.tree_reading.specs.declared.read.Binding.{Binding}
 use Rattle.tree_reading.specs.declared.read.Binding.TheVariants as binding
 use Rattle.tree_steps.specs.Events.{field_of, may_dot_after}
-use Rattle.tree_steps.specs.Moved.{Moved, FoundTree}
-use Rattle.tree_steps.specs.Moved.Moved.{found, inner, next}
-use Rattle.tree_steps.specs.declared.form.Form.{Form}
-use Rattle.tree_steps.specs.declared.form.Form.TheVariants as form
-use Rattle.tree_steps.specs.declared.form.GeneratorsOf.{GeneratorsOf}
-use Rattle.tree_steps.specs.declared.form.GeneratorsOf.TheVariants as generators_of
-use Rattle.tree_steps.specs.declared.form.PartOf.{PartOf}
-use Rattle.tree_steps.specs.declared.form.PartOf.TheVariants as part_of
-use Rattle.tree_steps.specs.declared.form.Renaming.{Renaming}
-use Rattle.tree_steps.specs.declared.frame.Frame.{Frame}
-use Rattle.tree_steps.specs.declared.frame.Frame.TheVariants as frame
-use Rattle.tree_steps.specs.declared.frame.ProcessFrame.{ProcessFrame}
-use Rattle.tree_steps.specs.declared.frame.ProcessFrame.TheVariants as process
-use Rattle.tree_steps.specs.declared.frame.Replication.{Replication}
-use Rattle.tree_steps.specs.declared.frame.Replication.TheVariants as replication
-use Rattle.tree_steps.specs.declared.frame.ReplicatedFrame.{ReplicatedFrame}
-use Rattle.tree_steps.specs.declared.frame.ReplicatedFrame.TheVariants as replicated
-use Rattle.tree_steps.specs.declared.frame.EventFrame.{EventFrame}
-use Rattle.tree_steps.specs.declared.frame.EventFrame.TheVariants as event
-use Rattle.tree_steps.specs.declared.frame.ExpressionFrame.{ExpressionFrame}
-use Rattle.tree_steps.specs.declared.frame.ExpressionFrame.TheVariants as expression
-use Rattle.tree_steps.specs.declared.frame.AtomFrame.{AtomFrame}
-use Rattle.tree_steps.specs.declared.frame.AtomFrame.TheVariants as atom
-use Rattle.tree_steps.specs.declared.frame.ListFrame.{ListFrame}
-use Rattle.tree_steps.specs.declared.frame.ListFrame.TheVariants as waiting
+use Rattle.expression_steps.specs.Moved.{Moved, FoundTree}
+use Rattle.expression_steps.specs.Moved.Moved.{found, inner, next}
+use Rattle.expression_steps.specs.declared.form.Form.{Form}
+use Rattle.expression_steps.specs.declared.form.Form.TheVariants as form
+use Rattle.expression_steps.specs.declared.form.GeneratorsOf.{GeneratorsOf}
+use Rattle.expression_steps.specs.declared.form.GeneratorsOf.TheVariants as generators_of
+use Rattle.expression_steps.specs.declared.form.PartOf.{PartOf}
+use Rattle.expression_steps.specs.declared.form.PartOf.TheVariants as part_of
+use Rattle.expression_steps.specs.declared.form.Renaming.{Renaming}
+use Rattle.expression_steps.specs.declared.frame.Frame.{Frame}
+use Rattle.expression_steps.specs.declared.frame.Frame.TheVariants as frame
+use Rattle.expression_steps.specs.declared.frame.ParallelFrame.{ParallelFrame}
+use Rattle.expression_steps.specs.declared.frame.ParallelFrame.TheVariants as parallel
+use Rattle.expression_steps.specs.declared.frame.ChoiceFrame.{ChoiceFrame}
+use Rattle.expression_steps.specs.declared.frame.ChoiceFrame.TheVariants as choice
+use Rattle.expression_steps.specs.declared.frame.ProcessFrame.{ProcessFrame}
+use Rattle.expression_steps.specs.declared.frame.ProcessFrame.TheVariants as process
+use Rattle.expression_steps.specs.declared.frame.Replication.{Replication}
+use Rattle.expression_steps.specs.declared.frame.Replication.TheVariants as replication
+use Rattle.expression_steps.specs.declared.frame.ReplicatedFrame.{ReplicatedFrame}
+use Rattle.expression_steps.specs.declared.frame.ReplicatedFrame.TheVariants as replicated
+use Rattle.expression_steps.specs.declared.frame.EventFrame.{EventFrame}
+use Rattle.expression_steps.specs.declared.frame.EventFrame.TheVariants as event
+use Rattle.expression_steps.specs.declared.frame.ExpressionFrame.{ExpressionFrame}
+use Rattle.expression_steps.specs.declared.frame.ExpressionFrame.TheVariants as expression
+use Rattle.expression_steps.specs.declared.frame.AtomFrame.{AtomFrame}
+use Rattle.expression_steps.specs.declared.frame.AtomFrame.TheVariants as atom
+use Rattle.expression_steps.specs.declared.frame.ListFrame.{ListFrame}
+use Rattle.expression_steps.specs.declared.frame.ListFrame.TheVariants as waiting
 use Rattle.tree_parser.specs.Then.{Outcome, Then}
 
 -- what follows a tree that is bound like this
@@ -132,26 +136,30 @@ FormGives (form.Fields c fields dot) l ts K s = Then (λ L. L.fields l dot ts) (
 FormGives (form.Part of) l ts K s = Then (λ L. named ts) (λ c. Then (λ L. L.dots l c.1) (λ q s. PartEnd l of c.0 q.0 q.1 K s)) s
 FormGives (form.Generators of gens) l ts K s = Then (λ L. L.gens l ts) (λ q s. GeneratorsEnd of (gens ++ q.0) q.1 K s) s
 
--- a process that waits, with the part that it waits for, and what follows
-abbrev pub ProcessGives : ProcessFrame → FoundTree → (FoundTree → Outcome → Type 0) → Outcome → Type 0
-ProcessGives (process.LeftSide l) p K s =
+-- what waits, with the part that it waits for, and what follows
+abbrev pub ParallelGives : ParallelFrame → FoundTree → (FoundTree → Outcome → Type 0) → Outcome → Type 0
+ParallelGives (parallel.LeftSide l) p K s =
     Then (λ L. case (skip symbol.OpenBracket p.2)
     (λ us. and_then (sure (at_least binding.Closed p.0)) λ _. and_then (around l p.1) λ e. read_parallel L e p.1 us)
     (λ _. Some (p.1, p.2))) (bound binding.Open K) s
-ProcessGives (process.LeftAlphabet e m t) p K s =
+ParallelGives (parallel.LeftAlphabet e m t) p K s =
     Then (λ L. and_then (skip symbol.Parallel p.2) λ us. and_then (L.atom m us) λ b. and_then (skip symbol.CloseBracket b.1) λ vs. and_then (read_side L e vs) λ q.
     and_then (sure (at_least binding.Open q.0)) λ _. Some (tree.Parallel t p.1 b.0 q.1, q.2)) (bound binding.Open K) s
-ProcessGives (process.RightAlphabet e t a) p K s =
+ParallelGives (parallel.RightAlphabet e t a) p K s =
     Then (λ L. and_then (skip symbol.CloseBracket p.2) λ vs. and_then (read_side L e vs) λ q.
     and_then (sure (at_least binding.Open q.0)) λ _. Some (tree.Parallel t a p.1 q.1, q.2)) (bound binding.Open K) s
-ProcessGives (process.RightSide t a b) p K s = Then (λ L. and_then (sure (at_least binding.Open p.0)) λ _. Some (tree.Parallel t a b p.1, p.2)) (bound binding.Open K) s
-ProcessGives (process.FirstOperand l) p K s =
+ParallelGives (parallel.RightSide t a b) p K s = Then (λ L. and_then (sure (at_least binding.Open p.0)) λ _. Some (tree.Parallel t a b p.1, p.2)) (bound binding.Open K) s
+
+abbrev pub ChoiceGives : ChoiceFrame → FoundTree → (FoundTree → Outcome → Type 0) → Outcome → Type 0
+ChoiceGives (choice.FirstOperand l) p K s =
     Then (λ L. case (first_chain p.2) (λ c. read_chain L l p.0 p.1 c.0 c.1) λ _.
     case (skip symbol.Backslash p.2) (λ us. and_then (sure (at_least binding.Renaming p.0)) λ _. L.hidings l p.1 p.2) λ _.
     Some (p.0, p.1, p.2)) K s
-ProcessGives (process.Operand e chain before) p K s =
-    Then (λ L. operands_after L e chain p) (λ q. K (q.0, choice_of (choice chain) (before ++ q.1), q.2)) s
-ProcessGives (process.Hidden l t) p K s = Then (λ L. L.hidings l (tree.Hide t p.1) p.2) K s
+ChoiceGives (choice.Operand e chain before) p K s =
+    Then (λ L. operands_after L e chain p) (λ q. K (q.0, choice_of (choice_sign chain) (before ++ q.1), q.2)) s
+ChoiceGives (choice.Hidden l t) p K s = Then (λ L. L.hidings l (tree.Hide t p.1) p.2) K s
+
+abbrev pub ProcessGives : ProcessFrame → FoundTree → (FoundTree → Outcome → Type 0) → Outcome → Type 0
 ProcessGives (process.FirstProcess l) p K s =
     Then (λ L. case (skip symbol.Semicolon p.2)
     (λ us. and_then (sure (at_least binding.Closed p.0)) λ _. and_then (around l p.1) λ e. read_followed L e p.1 us)
@@ -207,6 +215,8 @@ ListGives (waiting.Condition m of gens) p K s = Then (λ L. generators_after L m
 
 -- a frame with the part that it waits for, and what follows
 abbrev pub FrameGives : Frame → FoundTree → (FoundTree → Outcome → Type 0) → Outcome → Type 0
+FrameGives (frame.Parallel w) p K s = ParallelGives w p K s
+FrameGives (frame.Choice w) p K s = ChoiceGives w p K s
 FrameGives (frame.Process w) p K s = ProcessGives w p K s
 FrameGives (frame.Replicated w) p K s = ReplicatedGives w p K s
 FrameGives (frame.Event w) p K s = EventGives w p K s
@@ -219,7 +229,3 @@ abbrev pub MoveGives : Moved → (FoundTree → Outcome → Type 0) → Outcome 
 MoveGives (found r) K s = K r s
 MoveGives (inner w f l ts) K s = FormGives f l ts (λ p s. FrameGives w p K s) s
 MoveGives (next f l ts) K s = FormGives f l ts K s
-
-abbrev pub StepGives : Option Moved → (FoundTree → Outcome → Type 0) → Outcome → Type 0
-StepGives None K s = s ≡ None
-StepGives (Some m) K s = MoveGives m K s

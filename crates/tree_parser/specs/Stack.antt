@@ -5,10 +5,10 @@ use Rattle.tree_reading.specs.declared.fault.ReadFault.TheVariants as fault
 use Rattle.tree_reading.specs.declared.limits.Limits.{Limits}
 use Rattle.csp_text.specs.declared.token.Token.{Token}
 use Rattle.tree_parser.specs.Meaning.{FormGives, FrameGives, MoveGives}
-use Rattle.tree_steps.specs.Moved.{FoundTree, Moved, found_weight, moved, seen, weight}
+use Rattle.expression_steps.specs.Moved.{FoundTree, Moved, found_weight, moved, seen, weight}
 use Rattle.tree_parser.specs.Then.{Outcome}
-use Rattle.tree_steps.specs.declared.form.Form.{Form}
-use Rattle.tree_steps.specs.declared.frame.Frame.{Frame}
+use Rattle.expression_steps.specs.declared.form.Form.{Form}
+use Rattle.expression_steps.specs.declared.frame.Frame.{Frame}
 use Rattle.tree_parser.specs.declared.turn.Turn.{Turn}
 use Rattle.tree_parser.specs.declared.turn.Turn.TheVariants as turn
 

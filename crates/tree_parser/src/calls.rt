@@ -7,11 +7,11 @@ ghost use Rattle.tree_reading.specs.Reads.{Reads, Refuses};
 
 use crate::reading::read;
 use csp_text::{Token, Tree};
+use expression_steps::form::Form;
 use std::alloc::Global;
 use tree_reading::fault::ReadFault;
 use tree_reading::limits::Limits;
 use tree_reading::read::Read;
-use tree_steps::form::Form;
 
 /// The tree at the front of the tokens, within the limits.
 pub fn tree<'t>(

@@ -1,23 +1,23 @@
 //! The reading of a form, step by step.
 
 ghost use Rattle.std.specs.Prelude.{◌≡◌, ◌+◌, ◌*◌, ◌<◌, length, IfOk};
-ghost use Rattle.tree_steps.specs.Moved.{found_weight, moved, pending_weight, seen};
-ghost use Rattle.tree_steps.specs.Moved.Moved.{found, inner, next};
+ghost use Rattle.expression_steps.specs.Moved.{found_weight, moved, pending_weight, seen};
+ghost use Rattle.expression_steps.specs.Moved.Moved.{found, inner, next};
 ghost use Rattle.tree_parser.specs.Stack.{Answered, Falls, Turned};
 
 use crate::turn::Turn;
 use containers::{Boxed, Items};
 use csp_text::{Token, Tree};
+use expression_steps::form::Form;
+use expression_steps::frame::Frame;
+use expression_steps::step::Step;
 use std::alloc::Global;
 use tree_reading::fault::ReadFault;
 use tree_reading::limits::Limits;
 use tree_reading::read::{Binding, BoundRead};
-use tree_steps::form::Form;
-use tree_steps::frame::Frame;
 use tree_steps::machine::{begin, resume};
-use tree_steps::step::Step;
 
-/// The turn in which the last frame has its part, or the form ends where none waits.
+// The turn in which the last frame has its part, or the form ends where none waits.
 fn turn_back<'t>(
     alloc: Global,
     frames: &mut Items<Frame>,
@@ -41,7 +41,7 @@ fn turn_back<'t>(
     }
 }
 
-/// The turn in which a form is begun.
+// The turn in which a form is begun.
 fn turn_on<'t>(
     alloc: Global,
     frames: &Items<Frame>,
@@ -56,10 +56,7 @@ fn turn_on<'t>(
     Ok(Turn::Goes(next))
 }
 
-/// Lets a value go.
-fn let_go<T: Drop>(_value: T) {}
-
-/// The turn in which a form is begun, while one frame more waits.
+// The turn in which a form is begun, while one frame more waits.
 fn turn_in<'t>(
     alloc: Global,
     frames: &mut Items<Frame>,
@@ -74,13 +71,13 @@ fn turn_in<'t>(
     match frames.push(frame) {
         Ok(()) => turn_on(alloc, frames, form, limits, tokens),
         Err(_) => {
-            let_go(form);
+            drop(form);
             Err(ReadFault::NoMemory)
         }
     }
 }
 
-/// One turn of the reading.
+// One turn of the reading.
 fn turn<'t>(alloc: Global, frames: &mut Items<Frame>, step: Step<'t>) -> Result<Turn<'t>, ReadFault>
     ensures turned { Turned result frames.new (moved step.entry) frames.old }
     ensures falls { IfOk result (λ t. Falls t frames.new (moved step.entry) frames.old) }
@@ -99,7 +96,7 @@ fn turn<'t>(alloc: Global, frames: &mut Items<Frame>, step: Step<'t>) -> Result<
     }
 }
 
-/// The form at the front of the tokens, within the limits.
+// The form at the front of the tokens, within the limits.
 pub(crate) fn read<'t>(
     alloc: Global,
     form: Form,

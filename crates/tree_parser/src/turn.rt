@@ -2,8 +2,8 @@
 
 use containers::Boxed;
 use csp_text::Tree;
+use expression_steps::step::Step;
 use tree_reading::read::BoundRead;
-use tree_steps::step::Step;
 
 /// What comes of a turn of the reading: the next step, or the whole form where nothing waits.
 #[derive(Drop)]

@@ -7,9 +7,8 @@ use Rattle.csp_grammar.specs.Reader.{Readers, readers}
 use Rattle.tree_reading.specs.Limited.{Limited, limited}
 use Rattle.tree_reading.specs.Settled.{Settles}
 use Rattle.tree_reading.specs.Reads.{IfRead, Reads, Refuses}
-use Rattle.tree_reading.specs.Exact.{ReadTreesAreExact, RefusedTreesAreExact, ReadAtomsAreExact, RefusedAtomsAreExact, ReadItemsAreExact, RefusedItemsAreExact}
 use Rattle.tree_reading.specs.declared.limits.Limits.{Limits}
-use Rattle.tree_reading.proofs.Growing.{Below, none, some, more_calls, more_calls_sum, tree_stays, atom_stays, items_stay}
+use Rattle.tree_reading.proofs.Growing.{Below, none, some, more_calls, more_calls_sum, tree_stays, atom_stays}
 use Rattle.tree_reading.proofs.Limiting.{Agree, neither, both, deep, itself, seen, good_tree, good_bound_list}
 use Rattle.tree_reading.proofs.Within.{all_agree}
 
@@ -90,29 +89,22 @@ kept_tree l ts = record { agree = λ k. (all_agree k).base.tree l.brackets l.dep
 kept_atom : (l : Limits) (ts : List Token) → Kept itself (good_tree l.depth) (λ L. L.atom l ts) (λ R. R.atom l.brackets ts)
 kept_atom l ts = record { agree = λ k. (all_agree k).base.atom l.brackets l.depth ts; stays = λ k j. atom_stays l.brackets ts k j }
 
-kept_items : (l : Limits) (ts : List Token) → Kept seen (good_bound_list l.depth) (λ L. L.items l ts) (λ R. R.items l.brackets ts)
-kept_items l ts = record { agree = λ k. (all_agree k).base.items l.brackets l.depth ts; stays = λ k j. items_stay l.brackets ts k j }
-
 at_most : (a d : ℕ) → nat_le a d ≡ true → a ≤ d
 at_most a d h = grind (arith)
 
 is_within : (a d : ℕ) → a ≤ d → nat_le a d ≡ true
 is_within a d h = grind (arith)
 
-pub read_trees : ReadTreesAreExact
+pub read_trees : (l : Limits) (ts : List Token) (t : Tree) (rest : List Token) → Settles (λ L. L.tree l ts) (Some (t, rest)) →
+    Reads (λ R. R.tree l.brackets ts) (t, rest) × (tree_depth t ≤ l.depth)
 read_trees l ts t rest s = (reads (kept_tree l ts) s, at_most (tree_depth t) l.depth (reads_good (kept_tree l ts) s))
 
-pub refused_trees : RefusedTreesAreExact
+pub refused_trees : (l : Limits) (ts : List Token) → Settles (λ L. L.tree l ts) None → Refuses (λ R. R.tree l.brackets ts) (λ p. tree_depth p.0 ≤ l.depth)
 refused_trees l ts s = refuses (λ p. tree_depth p.0 ≤ l.depth) (λ p h. is_within (tree_depth p.0) l.depth h) (kept_tree l ts) s
 
-pub read_atoms : ReadAtomsAreExact
+pub read_atoms : (l : Limits) (ts : List Token) (t : Tree) (rest : List Token) → Settles (λ L. L.atom l ts) (Some (t, rest)) →
+    Reads (λ R. R.atom l.brackets ts) (t, rest) × (tree_depth t ≤ l.depth)
 read_atoms l ts t rest s = (reads (kept_atom l ts) s, at_most (tree_depth t) l.depth (reads_good (kept_atom l ts) s))
 
-pub refused_atoms : RefusedAtomsAreExact
+pub refused_atoms : (l : Limits) (ts : List Token) → Settles (λ L. L.atom l ts) None → Refuses (λ R. R.atom l.brackets ts) (λ p. tree_depth p.0 ≤ l.depth)
 refused_atoms l ts s = refuses (λ p. tree_depth p.0 ≤ l.depth) (λ p h. is_within (tree_depth p.0) l.depth h) (kept_atom l ts) s
-
-pub read_items : ReadItemsAreExact
-read_items l ts k items rest s = (reads (kept_items l ts) s, at_most (greatest (map tree_depth items)) l.depth (reads_good (kept_items l ts) s))
-
-pub refused_items : RefusedItemsAreExact
-refused_items l ts s = refuses (λ p. greatest (map tree_depth p.1) ≤ l.depth) (λ p h. is_within (greatest (map tree_depth p.1)) l.depth h) (kept_items l ts) s

@@ -21,9 +21,6 @@ deep_node x a e is h = grind (arith)
 pub deep_around : (x a rest d : ℕ) → x ≡ 1 + max a rest → nat_le (suc a) d ≡ false → nat_le x d ≡ false
 deep_around x a rest d is h = grind (arith)
 
-pub no_room : (x a d : ℕ) → x ≡ 1 + a → nat_le (suc a) d ≡ false → nat_le x d ≡ false
-no_room x a d is h = grind (arith)
-
 pub fit_none : (d : ℕ) → nat_le 0 d ≡ true
 fit_none d = grind (arith)
 

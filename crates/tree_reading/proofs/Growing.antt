@@ -319,7 +319,3 @@ tree_stays n ts f (suc k) = trans (tree_stays n ts f k) ((one_grows (more_calls 
 pub atom_stays : (n : ℕ) (ts : List Token) (f k : ℕ) → Below ((readers f).atom n ts) ((readers (more_calls k f)).atom n ts)
 atom_stays n ts f zero = same _
 atom_stays n ts f (suc k) = trans (atom_stays n ts f k) ((one_grows (more_calls k f)).atom n ts)
-
-pub items_stay : (n : ℕ) (ts : List Token) (f k : ℕ) → Below ((readers f).items n ts) ((readers (more_calls k f)).items n ts)
-items_stay n ts f zero = same _
-items_stay n ts f (suc k) = trans (items_stay n ts f k) ((one_grows (more_calls k f)).items n ts)

@@ -140,9 +140,6 @@ good_part d p = nat_le (part_depth p.0) d
 abbrev pub good_parts : ℕ → List PartTree × List Token → Bool
 good_parts d p = nat_le (greatest (map part_depth p.0)) d
 
-abbrev pub good_pair : ℕ → (PartTree × PartTree) × List Token → Bool
-good_pair d p = nat_le (max (part_depth p.0.0) (part_depth p.0.1)) d
-
 abbrev pub good_pairs : ℕ → List (PartTree × PartTree) × List Token → Bool
 good_pairs d p = nat_le (greatest_of_pairs (map (λ pair. (part_depth pair.0, part_depth pair.1)) p.0)) d
 

@@ -3,7 +3,7 @@ use Rattle.std.proofs.Common.{◌≡◌, ℕ, zero, suc, ◌+◌, ◌≤◌, Boo
 use Rattle.csp_text.specs.declared.token.Token.{Token}
 use Rattle.csp_grammar.specs.Reader.{Readers, readers, next, nothing, and_then, case, when, choose, below}
 use Rattle.csp_grammar.proofs.Gives.{readers_next}
-use Rattle.tree_reading.specs.Reads.{IfRead, Reads, Refuses, Any, Continues}
+use Rattle.tree_reading.specs.Reads.{IfRead, Reads, Refuses, Any}
 
 readers_none : readers 0 ≡ nothing
 unfolding readers
@@ -36,10 +36,6 @@ later {A} {F} {a} e r = record { enough = suc r.enough; settles = later_settled 
 pub now : {A : Type 0} {a : A} → Reads (λ R. Some a) a
 now = record { enough = 0; settles = λ f le. refl; only = λ f. refl }
 
--- the same with an answer that is there
-pub found : {A : Type 0} {o : Option A} {a : A} → o ≡ Some a → Reads (λ R. o) a
-found {A} {o} {a} e = record { enough = 0; settles = λ f le. e; only = λ f. subst (IfRead (λ x. x ≡ a)) (sym e) refl }
-
 pub bind : {A B : Type 0} {F : Readers → Option A} {a : A} {b : B} (K : Readers → A → Option B) →
     Reads F a → Reads (λ R. K R a) b → Reads (λ R. and_then (F R) (K R)) b
 bind {A} {B} {F} {a} {b} K r s = record {
@@ -63,37 +59,11 @@ not_there {A} {B} {o} {b} K L e r = subst (λ x. Reads (λ R. case x (K R) (L R)
 pub granted : {B : Type 0} {t : Bool} {b : B} (K : Readers → Unit {0} → Option B) → t ≡ true → Reads (λ R. K R tt) b → Reads (λ R. when t (K R)) b
 granted {B} {t} {b} K e r = subst (λ x. Reads (λ R. when x (K R)) b) (sym e) r
 
-pub first : {B : Type 0} {t : Bool} {b : B} (K L : Readers → Unit {0} → Option B) → t ≡ true → Reads (λ R. K R tt) b → Reads (λ R. choose t (K R) (L R)) b
-first {B} {t} {b} K L e r = subst (λ x. Reads (λ R. choose x (K R) (L R)) b) (sym e) r
-
-pub second : {B : Type 0} {t : Bool} {b : B} (K L : Readers → Unit {0} → Option B) → t ≡ false → Reads (λ R. L R tt) b → Reads (λ R. choose t (K R) (L R)) b
-second {B} {t} {b} K L e r = subst (λ x. Reads (λ R. choose x (K R) (L R)) b) (sym e) r
-
--- below a bracket
-pub opened : {B : Type 0} {n m : ℕ} {b : B} (K : Readers → ℕ → Option B) → n ≡ suc m → Reads (λ R. K R m) b → Reads (λ R. below n (K R)) b
-opened {B} {n} {m} {b} K e r = subst (λ x. Reads (λ R. below x (K R)) b) (sym e) r
-
 -- WHAT IS REFUSED
-
--- nothing at all
-pub none : {A : Type 0} {Good : A → Type 0} → Refuses (λ R. None) Good
-none = record { never = λ f. tt }
-
--- a look at the tokens that shows nothing
-pub missing : {A : Type 0} {o : Option A} {Good : A → Type 0} → o ≡ None → Refuses (λ R. o) Good
-missing {A} {o} {Good} e = record { never = λ f. if_none (λ x. Good x → ⊥) o e }
 
 -- one more call
 pub later_refused : {A : Type 0} {F : Readers → Option A} {Good : A → Type 0} → F nothing ≡ None → Refuses (λ R. F (next R)) Good → Refuses F Good
 later_refused {A} {F} {Good} e r = record { never = if_next F (λ x. Good x → ⊥) e r.never }
-
-bad_at : {A : Type 0} (o : Option A) (a : A) (Good : A → Type 0) → IfRead (λ x. x ≡ a) o → (Good a → ⊥) → IfRead (λ x. Good x → ⊥) o
-bad_at None a Good e h = tt
-bad_at (Some x) a Good e h = λ g. h (subst Good e g)
-
--- what is read is no good
-pub bad : {A : Type 0} {F : Readers → Option A} {a : A} {Good : A → Type 0} → Reads F a → (Good a → ⊥) → Refuses F Good
-bad {A} {F} {a} {Good} r h = record { never = λ f. bad_at (F (readers f)) a Good (r.only f) h }
 
 if_less : {B : Type 0} (P : Type 0) (Good : B → Type 0) (o : Option B) → (P → ⊥) → IfRead (λ b. Good b → P) o → IfRead (λ b. Good b → ⊥) o
 if_less P Good None not_p h = tt
@@ -128,32 +98,15 @@ pub there_refused : {A B : Type 0} {o : Option A} {a : A} {Good : B → Type 0} 
     o ≡ Some a → Refuses (λ R. K R a) Good → Refuses (λ R. case o (K R) (L R)) Good
 there_refused {A} {B} {o} {a} {Good} K L e r = subst (λ x. Refuses (λ R. case x (K R) (L R)) Good) (sym e) r
 
-pub not_there_refused : {A B : Type 0} {o : Option A} {Good : B → Type 0} (K : Readers → A → Option B) (L : Readers → Unit {0} → Option B) →
-    o ≡ None → Refuses (λ R. L R tt) Good → Refuses (λ R. case o (K R) (L R)) Good
-not_there_refused {A} {B} {o} {Good} K L e r = subst (λ x. Refuses (λ R. case x (K R) (L R)) Good) (sym e) r
-
-pub denied : {B : Type 0} {t : Bool} {Good : B → Type 0} (K : Readers → Unit {0} → Option B) → t ≡ false → Refuses (λ R. when t (K R)) Good
-denied {B} {t} {Good} K e = record { never = λ f. if_none (λ b. Good b → ⊥) _ (ap (λ x. when x (K (readers f))) e) }
-
 pub granted_refused : {B : Type 0} {t : Bool} {Good : B → Type 0} (K : Readers → Unit {0} → Option B) → t ≡ true → Refuses (λ R. K R tt) Good → Refuses (λ R. when t (K R)) Good
 granted_refused {B} {t} {Good} K e r = subst (λ x. Refuses (λ R. when x (K R)) Good) (sym e) r
 
-pub first_choice_refused : {B : Type 0} {t : Bool} {Good : B → Type 0} (K L : Readers → Unit {0} → Option B) →
-    t ≡ true → Refuses (λ R. K R tt) Good → Refuses (λ R. choose t (K R) (L R)) Good
-first_choice_refused {B} {t} {Good} K L e r = subst (λ x. Refuses (λ R. choose x (K R) (L R)) Good) (sym e) r
-
-pub second_choice_refused : {B : Type 0} {t : Bool} {Good : B → Type 0} (K L : Readers → Unit {0} → Option B) →
-    t ≡ false → Refuses (λ R. L R tt) Good → Refuses (λ R. choose t (K R) (L R)) Good
-second_choice_refused {B} {t} {Good} K L e r = subst (λ x. Refuses (λ R. choose x (K R) (L R)) Good) (sym e) r
-
--- no bracket may be opened any more
-pub not_opened : {B : Type 0} {n : ℕ} {Good : B → Type 0} (K : Readers → ℕ → Option B) → n ≡ 0 → Refuses (λ R. below n (K R)) Good
-not_opened {B} {n} {Good} K e = record { never = λ f. if_none (λ b. Good b → ⊥) _ (ap (λ x. below x (K (readers f))) e) }
-
-pub opened_refused : {B : Type 0} {n m : ℕ} {Good : B → Type 0} (K : Readers → ℕ → Option B) → n ≡ suc m → Refuses (λ R. K R m) Good → Refuses (λ R. below n (K R)) Good
-opened_refused {B} {n} {m} {Good} K e r = subst (λ x. Refuses (λ R. below x (K R)) Good) (sym e) r
-
 -- LOOPS
+
+-- The reading F of a whole is the reading G of what is left of it, with what is done put in front: so in a loop over the parts of a list.
+pub record Continues {A B : Type 0} (F : Readers → Option A) (Good : A → Type 0) (G : Readers → Option B) (GoodRest : B → Type 0) (put : B → A) : Type 0 where
+  pub read : (b : B) → Reads G b → Reads F (put b)
+  pub refused : Refuses G GoodRest → Refuses F Good
 
 -- before the first part
 pub at_start : {A : Type 0} {F : Readers → Option A} {Good : A → Type 0} → Continues F Good F Good (λ a. a)

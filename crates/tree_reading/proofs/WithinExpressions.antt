@@ -30,8 +30,8 @@ use Rattle.tree_reading.specs.Limited.{Limited}
 use Rattle.tree_reading.specs.Starts.{named}
 use Rattle.tree_reading.specs.declared.read.Binding.{Binding}
 use Rattle.tree_reading.specs.declared.read.Binding.TheVariants as binding
-use Rattle.tree_reading.proofs.Fitting.{fit_max, fit_none, fit_first, deep_only, deep_left, deep_right, fit_node, deep_node, deep_around, no_room}
-use Rattle.tree_reading.proofs.Limiting.{Agree, AllBad, neither, both, deep, nothing, bad, unread, by_then, assoc, look, by_case, by_sure, at, by_bracketed, by_inside, by_around, bad_then, bad_case, bad_when, bad_choose, bad_below, itself, seen, good_tree, good_bound, good_list, good_bound_list, good_part, good_parts, good_pair, good_pairs, good_gen, good_gens, both_tree, both_bound, both_list, both_bound_list, both_part, both_parts, both_pairs, both_gen, both_gens, bad_tree, bad_bound, bad_list, bad_bound_list, bad_part, bad_parts, bad_pairs, bad_gen, bad_gens}
+use Rattle.tree_reading.proofs.Fitting.{fit_max, fit_none, fit_first, deep_only, deep_left, deep_right, fit_node, deep_node, deep_around}
+use Rattle.tree_reading.proofs.Limiting.{Agree, AllBad, neither, both, deep, nothing, bad, unread, by_then, assoc, look, by_case, by_sure, at, by_bracketed, by_inside, by_around, bad_then, bad_case, bad_when, bad_choose, bad_below, itself, seen, good_tree, good_bound, good_list, good_bound_list, good_part, good_parts, good_pairs, good_gen, good_gens, both_tree, both_bound, both_list, both_bound_list, both_part, both_parts, both_pairs, both_gen, both_gens, bad_tree, bad_bound, bad_list, bad_bound_list, bad_part, bad_parts, bad_pairs, bad_gen, bad_gens}
 use Rattle.tree_reading.proofs.NodeDepths as n
 use Rattle.tree_reading.proofs.NodeDepths.{positive, depth-part, depth-From, depth-Cond}
 

@@ -38,7 +38,7 @@ use Rattle.tree_reading.proofs.WithinExpressions.{Limiting, by_named, none_bound
 use Rattle.tree_reading.specs.declared.read.Binding.{Binding}
 use Rattle.tree_reading.specs.declared.read.Binding.TheVariants as binding
 use Rattle.tree_reading.proofs.Fitting.{fit_max, fit_none, fit_first, deep_only, deep_left, deep_right, fit_node, deep_node, deep_around, deep_whole, deep_first, deep_first_whole}
-use Rattle.tree_reading.proofs.Limiting.{Agree, AllBad, neither, both, deep, nothing, bad, unread, both_as, by_then, by_then_knowing, Known, unknown, known, known_then, known_any, known_case, known_when, assoc, look, by_case, by_sure, at, by_bracketed, by_inside, by_around, bad_then, bad_case, bad_when, bad_choose, bad_below, itself, seen, good_tree, good_bound, good_list, good_bound_list, good_part, good_parts, good_pair, good_pairs, good_gen, good_gens, both_tree, both_bound, both_list, both_bound_list, both_part, both_parts, both_pairs, both_gen, both_gens, bad_tree, bad_bound, bad_list, bad_bound_list, bad_part, bad_parts, bad_pairs, bad_gen, bad_gens, good_fields, seen_fields, decided, no_zero, case_some, case_none, to_first, to_second, to_some, to_none, to_then}
+use Rattle.tree_reading.proofs.Limiting.{Agree, AllBad, neither, both, deep, nothing, bad, unread, both_as, by_then, by_then_knowing, Known, unknown, known, known_then, known_any, known_case, known_when, assoc, look, by_case, by_sure, at, by_bracketed, by_inside, by_around, bad_then, bad_case, bad_when, bad_choose, bad_below, itself, seen, good_tree, good_bound, good_list, good_bound_list, good_part, good_parts, good_pairs, good_gen, good_gens, both_tree, both_bound, both_list, both_bound_list, both_part, both_parts, both_pairs, both_gen, both_gens, bad_tree, bad_bound, bad_list, bad_bound_list, bad_part, bad_parts, bad_pairs, bad_gen, bad_gens, good_fields, seen_fields, decided, no_zero, case_some, case_none, to_first, to_second, to_some, to_none, to_then}
 use Rattle.tree_reading.proofs.NodeDepths as n
 use Rattle.tree_reading.proofs.NodeDepths.{positive, depth-part, depth-From, depth-Cond}
 

@@ -1,6 +1,5 @@
 pub mod Answers
 pub mod Bindings
-pub mod Exact
 pub mod Gives
 pub mod Limited
 pub mod Nesting

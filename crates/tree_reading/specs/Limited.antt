@@ -252,11 +252,6 @@ module _ (L : Limited) where
   read_each l chain ts =
       and_then (inside l) λ e. and_then (read_binder e ts) λ b. and_then (L.tree e b.2) λ p. Some (binding.Open, each_tree chain b.0 b.1 p.0, p.1)
 
-  -- an alphabet in brackets
-  abbrev pub read_alphabet : Limits → List Token → Reading Tree
-  read_alphabet e ts =
-      and_then (skip symbol.OpenBracket ts) λ ws. and_then (bracketed e) λ m. and_then (L.atom m ws) λ a. and_then (skip symbol.CloseBracket a.1) λ zs. Some (a.0, zs)
-
   -- what stands behind the sign of a replicated parallel
   abbrev pub read_each_parallel : Limits → List Token → Found Tree
   read_each_parallel l ts =
@@ -315,10 +310,6 @@ module _ (L : Limited) where
       (λ us. and_then (read_hiding l t us) λ p. L.hidings l p.0 p.1)
       (λ _. Some (binding.Closed, t, ts))
 
-  -- the operands of a chain of choices, the first of them passed
-  abbrev pub read_operands : Limits → Chain → Tree → List Token → Found (List Tree)
-  read_operands e chain t ts = and_then (L.choices e chain ts) λ q. Some (q.0, t ∷ q.1, q.2)
-
   -- a process and the choices behind it
   abbrev pub read_chain : Limits → Binding → Tree → Chain → List Token → Found Tree
   read_chain l k t chain ts =
@@ -331,12 +322,6 @@ module _ (L : Limited) where
       case (first_chain p.2) (λ c. read_chain l p.0 p.1 c.0 c.1) λ _.
       case (skip symbol.Backslash p.2) (λ us. and_then (sure (at_least binding.Renaming p.0)) λ _. L.hidings l p.1 p.2) λ _.
       Some (p.0, p.1, p.2)
-
-  -- the two alphabets of a parallel, behind `[`
-  abbrev pub read_alphabets : Limits → List Token → Option (Tree × Tree × List Token)
-  read_alphabets e ts =
-      and_then (bracketed e) λ m. and_then (L.atom m ts) λ a. and_then (skip symbol.Parallel a.1) λ us. and_then (L.atom m us) λ b.
-      and_then (skip symbol.CloseBracket b.1) λ vs. Some (a.0, b.0, vs)
 
   -- the right side of a parallel, behind `[`
   abbrev pub read_parallel : Limits → Tree → List Token → Reading Tree

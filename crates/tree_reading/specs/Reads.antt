@@ -22,8 +22,3 @@ pub record Refuses {A : Type 0} (F : Readers → Option A) (Good : A → Type 0)
 -- whatever is read is good
 abbrev pub Any : {A : Type 0} → A → Type 0
 Any a = Unit {0}
-
--- The reading F of a whole is the reading G of what is left of it, with what is done put in front: so in a loop over the parts of a list.
-pub record Continues {A B : Type 0} (F : Readers → Option A) (Good : A → Type 0) (G : Readers → Option B) (GoodRest : B → Type 0) (put : B → A) : Type 0 where
-  pub read : (b : B) → Reads G b → Reads F (put b)
-  pub refused : Refuses G GoodRest → Refuses F Good

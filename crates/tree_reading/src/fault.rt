@@ -9,7 +9,7 @@ use csp_base::NoMemory;
 use csp_text::Token;
 
 /// Why nothing was read.
-#[derive(Clone, Copy, Debug, PartialEq, Eq, Drop, thiserror::Error)]
+#[derive(Debug, Drop, thiserror::Error)]
 pub enum ReadFault {
     /// Memory ran out.
     #[error("out of memory")]

@@ -9,7 +9,7 @@ use crate::fault::{ReadFault, stopped};
 use csp_text::{Token, Tree, depth};
 
 /// How much may still be nested.
-#[derive(Clone, Copy, Debug, PartialEq, Eq)]
+#[derive(Clone, Copy)]
 pub struct Limits {
     /// How many brackets may still be opened.
     pub brackets: u16,
@@ -52,7 +52,7 @@ impl Limits {
         below.inside(tokens)
     }
 
-    /// Whether the tree is no deeper than it may be.
+    // Whether the tree is no deeper than it may be.
     fn has_room(self, tree: &Tree) -> bool
         ensures { result ≡ nat_le (tree_depth tree.now) self.depth }
     {

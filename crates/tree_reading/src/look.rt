@@ -15,7 +15,7 @@ use csp_text::{Symbol, Token, Tree, Word};
 use std::alloc::Global;
 
 /// The two choices.
-#[derive(Clone, Copy, Debug, PartialEq, Eq)]
+#[derive(Clone, Copy)]
 pub enum Chain {
     /// `[]`
     External,
@@ -24,7 +24,7 @@ pub enum Chain {
 }
 
 /// What goes on with an operand.
-#[derive(Clone, Copy, Debug, PartialEq, Eq)]
+#[derive(Clone, Copy)]
 pub enum Sign {
     /// An operator between two operands, and how tightly it binds.
     Operator(BinOp, Binding),
@@ -33,7 +33,7 @@ pub enum Sign {
 }
 
 /// What an atom begins with.
-#[derive(Debug, Drop)]
+#[derive(Drop)]
 pub enum AtomStart {
     /// The whole of it.
     Leaf(Tree),
@@ -50,7 +50,7 @@ pub enum AtomStart {
 }
 
 /// What a process or an expression begins with.
-#[derive(Clone, Copy, Debug, PartialEq, Eq)]
+#[derive(Clone, Copy)]
 pub enum PrefixStart {
     /// The name of an event, which is not passed yet.
     Event,
@@ -64,7 +64,7 @@ pub enum PrefixStart {
     Expression,
 }
 
-/// Whether the token is this symbol.
+// Whether the token is this symbol.
 fn is_symbol(token: &Token, symbol: Symbol) -> bool
     ensures { result ≡ is_symbol_token symbol token.now }
 {
@@ -85,7 +85,7 @@ pub fn skip(tokens: &[Token], symbol: Symbol) -> Option<&[Token]>
     }
 }
 
-/// Whether the token is this word.
+// Whether the token is this word.
 fn is_word(token: &Token, word: Word) -> bool
     ensures { result ≡ is_word_token word token.now }
 {
@@ -153,7 +153,7 @@ pub fn expect_name(alloc: Global, tokens: &[Token]) -> Result<(Name, &[Token]), 
     }
 }
 
-/// Whether the token goes on with the name of an event.
+// Whether the token goes on with the name of an event.
 fn is_event_sign(token: &Token) -> bool
     ensures { result ≡ nat_eq (binding token.now) 10 }
 {
@@ -165,7 +165,7 @@ fn is_event_sign(token: &Token) -> bool
     }
 }
 
-/// Whether the first token goes on with the name of an event.
+// Whether the first token goes on with the name of an event.
 fn goes_on_with_event(tokens: &[Token]) -> bool
     ensures { result ≡ nat_eq (begins tokens.now) 10 }
 {
@@ -211,7 +211,7 @@ pub fn first_chain(tokens: &[Token]) -> Option<(Chain, &[Token])>
     }
 }
 
-/// The sign that the symbol is.
+// The sign that the symbol is.
 fn symbol_sign(symbol: Symbol) -> Option<Sign>
     ensures { result ≡ symbol_sign symbol }
 {
@@ -232,7 +232,7 @@ fn symbol_sign(symbol: Symbol) -> Option<Sign>
     }
 }
 
-/// The sign that the word is.
+// The sign that the word is.
 fn word_sign(word: Word) -> Option<Sign>
     ensures { result ≡ word_sign word }
 {
@@ -243,7 +243,7 @@ fn word_sign(word: Word) -> Option<Sign>
     }
 }
 
-/// The sign that the token is.
+// The sign that the token is.
 fn token_sign(token: &Token) -> Option<Sign>
     ensures { result ≡ token_sign token.now }
 {
@@ -255,7 +255,7 @@ fn token_sign(token: &Token) -> Option<Sign>
 }
 
 impl Sign {
-    /// How tightly it binds the operand before it.
+    // How tightly it binds the operand before it.
     fn binding(self) -> Binding
         ensures { result ≡ sign_binding self }
     {
@@ -265,7 +265,7 @@ impl Sign {
         }
     }
 
-    /// Whether it may follow an operand that is bound like this, where signs of the level and tighter ones may.
+    // Whether it may follow an operand that is bound like this, where signs of the level and tighter ones may.
     fn may_follow(self, level: Binding, bound: Binding) -> bool
         ensures { result ≡ may_follow level bound self }
     {
@@ -287,7 +287,7 @@ pub fn sign_behind(level: Binding, bound: Binding, tokens: &[Token]) -> Option<(
     }
 }
 
-/// What the word begins as an atom.
+// What the word begins as an atom.
 fn word_start(word: Word) -> Option<AtomStart>
     ensures { result ≡ word_start word }
 {
@@ -303,7 +303,7 @@ fn word_start(word: Word) -> Option<AtomStart>
     }
 }
 
-/// What the symbol begins as an atom.
+// What the symbol begins as an atom.
 fn symbol_start(symbol: Symbol) -> Option<AtomStart>
     ensures { result ≡ symbol_start symbol }
 {
@@ -315,7 +315,7 @@ fn symbol_start(symbol: Symbol) -> Option<AtomStart>
     }
 }
 
-/// What a token that is no name begins as an atom.
+// What a token that is no name begins as an atom.
 fn token_start(token: &Token) -> Option<AtomStart>
     ensures { result ≡ token_start token.now }
 {
@@ -327,7 +327,7 @@ fn token_start(token: &Token) -> Option<AtomStart>
     }
 }
 
-/// What an atom that begins with no name begins with, and what follows that.
+// What an atom that begins with no name begins with, and what follows that.
 fn other_start(tokens: &[Token]) -> Result<(AtomStart, &[Token]), ReadFault>
     ensures same { Gives result (λ found. (found.0, found.1.now)) (other_start tokens.now) }
     ensures shorter { IfOk result (λ found. length found.1.now < length tokens.now) }
@@ -356,7 +356,7 @@ pub fn atom_start(alloc: Global, tokens: &[Token]) -> Result<(AtomStart, &[Token
     }
 }
 
-/// What a process or an expression that is no event begins with, and what is to be read then.
+// What a process or an expression that is no event begins with, and what is to be read then.
 fn form_start(tokens: &[Token]) -> (PrefixStart, &[Token])
     ensures same { form_start tokens.now ≡ Some (result.0, result.1.now) }
     ensures no_longer { length result.1.now ≤ length tokens.now }

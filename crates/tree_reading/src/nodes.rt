@@ -14,7 +14,7 @@ use csp_base::{BinOp, Name, NoMemory, SetOp};
 use csp_text::{EventTree, FieldTree, GenTree, PartTree, Token, Tree};
 use std::alloc::Global;
 
-/// A tree on the heap.
+// A tree on the heap.
 fn boxed(alloc: Global, tree: Tree) -> Result<Boxed<Tree>, NoMemory>
     ensures { IfOk result (λ t. t ≡ tree) }
 {
@@ -237,29 +237,37 @@ pub fn expect_only(
     ensures { Gives result (λ t. t) (only items) }
 {
     let mut items = items;
-    let Some(last) = items.pop() else {
-        return Err(stopped(tokens));
-    };
-    let last = boxed(alloc, last)?;
-    if items.is_empty() {
-        Ok(last)
-    } else {
-        Err(stopped(tokens))
+    match items.pop() {
+        Some(last) => {
+            let last = boxed(alloc, last)?;
+            if items.is_empty() {
+                Ok(last)
+            } else {
+                Err(stopped(tokens))
+            }
+        }
+        None => Err(stopped(tokens)),
     }
 }
 
-/// The tree of a field that has a dot.
+// The tree of a field that has a dot.
 fn to_dot(field: FieldTree) -> Option<Tree>
     ensures { result ≡ dot_field field }
 {
     match field {
         FieldTree::Dot(tree) => Some(tree),
-        FieldTree::Output(_) => None,
-        FieldTree::Input(_, _) => None,
+        FieldTree::Output(tree) => {
+            drop(tree);
+            None
+        }
+        FieldTree::Input(_, set) => {
+            drop(set);
+            None
+        }
     }
 }
 
-/// The trees of fields that all have a dot.
+// The trees of fields that all have a dot.
 fn expect_dots(
     alloc: Global,
     fields: Items<FieldTree>,
@@ -269,10 +277,10 @@ fn expect_dots(
 {
     let mut trees = Items::new(alloc);
     for field in fields.into_vec() {
-        let Some(tree) = to_dot(field) else {
-            return Err(stopped(tokens));
-        };
-        trees.push(tree)?;
+        match to_dot(field) {
+            Some(tree) => trees.push(tree)?,
+            None => return Err(stopped(tokens)),
+        }
     }
     Ok(trees)
 }

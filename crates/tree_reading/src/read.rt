@@ -10,7 +10,7 @@ use containers::Items;
 use csp_text::{Token, Tree};
 
 /// What was read, and what is left of the tokens.
-#[derive(Debug, Drop)]
+#[derive(Drop)]
 pub struct Read<'t, T> {
     /// What was read.
     pub part: T,
@@ -19,7 +19,7 @@ pub struct Read<'t, T> {
 }
 
 /// The same with how tightly it is bound.
-#[derive(Debug, Drop)]
+#[derive(Drop)]
 pub struct BoundRead<'t, T> {
     /// How tightly it is bound.
     pub binding: Binding,
@@ -30,7 +30,7 @@ pub struct BoundRead<'t, T> {
 }
 
 /// How tightly a tree is bound: what may stand beside it with no parentheses.
-#[derive(Clone, Copy, Debug, PartialEq, Eq)]
+#[derive(Clone, Copy)]
 pub enum Binding {
     /// A dotted event.
     Dotted,

@@ -13,22 +13,26 @@ use Rattle.tree_reading.specs.Nesting.{sure}
 use Rattle.tree_reading.specs.Starts.{dotted_fields, named}
 use Rattle.tree_reading.specs.declared.limits.Limits.{Limits}
 use Rattle.tree_reading.specs.declared.read.Binding.TheVariants as binding
-use Rattle.tree_steps.specs.Moved.{Moved, FoundTree}
+use Rattle.expression_steps.specs.Moved.{Moved, FoundTree}
 use Rattle.tree_steps.specs.Processes.{end_process}
-use Rattle.tree_steps.specs.Moved.Moved.{found, inner, next}
-use Rattle.tree_steps.specs.declared.form.Form.TheVariants as form
-use Rattle.tree_steps.specs.declared.frame.Frame.TheVariants as frame
-use Rattle.tree_steps.specs.declared.frame.EventFrame.{EventFrame}
-use Rattle.tree_steps.specs.declared.frame.EventFrame.TheVariants as event
-use Rattle.tree_steps.specs.declared.frame.FieldKind.{FieldKind}
-use Rattle.tree_steps.specs.declared.frame.FieldKind.TheVariants as kind
+use Rattle.expression_steps.specs.Moved.Moved.{found, inner, next}
+use Rattle.expression_steps.specs.declared.form.Form.TheVariants as form
+use Rattle.expression_steps.specs.declared.frame.Frame.TheVariants as frame
+use Rattle.expression_steps.specs.declared.frame.EventFrame.{EventFrame}
+use Rattle.expression_steps.specs.declared.frame.EventFrame.TheVariants as event
+use Rattle.expression_steps.specs.declared.frame.FieldKind.{FieldKind}
+use Rattle.expression_steps.specs.declared.frame.FieldKind.TheVariants as kind
+
+-- the rest of an event with one field more
+abbrev pub longer : Limits → List ℕ → List FieldTree → FieldTree → Bool → List Token → Option Moved
+longer e c before f dot ts = Some (next (form.Fields c (before ++ f ∷ []) dot) e ts)
 
 -- behind the name of an input
 abbrev pub move_named_input : Limits → List ℕ → List FieldTree → List ℕ → List Token → Option Moved
 move_named_input e c fields x ts =
     case (skip symbol.Colon ts)
     (λ us. Some (inner (frame.Event (event.Field e c fields (kind.Input x))) form.Atom e us))
-    (λ _. Some (next (form.Fields c (fields ++ field.Input x None ∷ []) false) e ts))
+    (λ _. longer e c fields (field.Input x None) false ts)
 
 -- behind `?`
 abbrev pub move_input : Limits → List ℕ → List FieldTree → List Token → Option Moved
@@ -41,10 +45,14 @@ move_event e c fields ts =
     (λ us. Some (inner (frame.Event (event.Prefixed c fields)) form.Prefix e us))
     (λ _. and_then (dotted_fields c fields) λ t. Some (found (binding.Dotted, t, ts)))
 
+-- behind a dot, where one may stand
+abbrev pub move_dot : Limits → List ℕ → List FieldTree → Bool → List Token → Option Moved
+move_dot e c fields dot ts = and_then (sure dot) λ _. Some (inner (frame.Event (event.Field e c fields kind.Dot)) (form.Expression binding.Sum) e ts)
+
 -- the rest of an event
 abbrev pub move_fields : Limits → List ℕ → List FieldTree → Bool → List Token → Option Moved
 move_fields e c fields dot ts =
-    case (skip symbol.Dot ts) (λ us. and_then (sure dot) λ _. Some (inner (frame.Event (event.Field e c fields kind.Dot)) (form.Expression binding.Sum) e us)) λ _.
+    case (skip symbol.Dot ts) (λ us. move_dot e c fields dot us) λ _.
     case (skip symbol.Bang ts) (λ us. Some (inner (frame.Event (event.Field e c fields kind.Output)) (form.Expression binding.Sum) e us)) λ _.
     case (skip symbol.Question ts) (λ us. move_input e c fields us) λ _.
     move_event e c fields ts
@@ -62,7 +70,7 @@ may_dot_after (kind.Input x) = false
 
 -- behind the tree of a field
 abbrev pub resume_field : Limits → List ℕ → List FieldTree → FieldKind → Tree → List Token → Option Moved
-resume_field e c fields k t ts = Some (next (form.Fields c (fields ++ field_of k t ∷ []) (may_dot_after k)) e ts)
+resume_field e c fields k t ts = longer e c fields (field_of k t) (may_dot_after k) ts
 
 -- an event that waits, with the part that it waits for
 abbrev pub resume_event : EventFrame → FoundTree → Option Moved

@@ -1,9 +1,4 @@
-pub mod Atoms
 pub mod Events
-pub mod Expressions
-pub mod Lists
 pub mod Machine
-pub mod Moved
-pub mod Nesting
 pub mod Processes
 pub mod Replicated

@@ -8,21 +8,23 @@ use Rattle.tree_reading.specs.declared.limits.Limits.{Limits}
 use Rattle.tree_reading.specs.declared.look.PrefixStart.{PrefixStart}
 use Rattle.tree_reading.specs.declared.look.PrefixStart.TheVariants as opening
 use Rattle.tree_reading.specs.declared.read.Binding.TheVariants as binding
-use Rattle.tree_steps.specs.Atoms.{move_atom, resume_atom}
+use Rattle.expression_steps.specs.Atoms.{move_atom, resume_atom}
 use Rattle.tree_steps.specs.Events.{move_fields, resume_event}
-use Rattle.tree_steps.specs.Expressions.{move_expression, resume_expression}
-use Rattle.tree_steps.specs.Lists.{move_generators, move_part, resume_list}
-use Rattle.tree_steps.specs.Moved.{Moved, FoundTree}
-use Rattle.tree_steps.specs.Moved.Moved.{next}
-use Rattle.tree_steps.specs.Processes.{resume_process, wait_process}
+use Rattle.expression_steps.specs.Expressions.{move_expression, resume_expression}
+use Rattle.expression_steps.specs.Lists.{move_generators, move_part, resume_list}
+use Rattle.expression_steps.specs.Moved.{Moved, FoundTree}
+use Rattle.expression_steps.specs.Moved.Moved.{next}
+use Rattle.tree_steps.specs.Processes.{resume_choice, resume_parallel, resume_process, wait_choice, wait_parallel, wait_process}
 use Rattle.tree_steps.specs.Replicated.{move_replicated, resume_replicated}
-use Rattle.tree_steps.specs.declared.form.Form.{Form}
-use Rattle.tree_steps.specs.declared.form.Form.TheVariants as form
-use Rattle.tree_steps.specs.declared.form.PartOf.TheVariants as part_of
-use Rattle.tree_steps.specs.declared.frame.Frame.{Frame}
-use Rattle.tree_steps.specs.declared.frame.Frame.TheVariants as frame
-use Rattle.tree_steps.specs.declared.frame.ProcessFrame.TheVariants as process
-use Rattle.tree_steps.specs.declared.frame.Replication.TheVariants as replication
+use Rattle.expression_steps.specs.declared.form.Form.{Form}
+use Rattle.expression_steps.specs.declared.form.Form.TheVariants as form
+use Rattle.expression_steps.specs.declared.form.PartOf.TheVariants as part_of
+use Rattle.expression_steps.specs.declared.frame.Frame.{Frame}
+use Rattle.expression_steps.specs.declared.frame.Frame.TheVariants as frame
+use Rattle.expression_steps.specs.declared.frame.ParallelFrame.TheVariants as parallel
+use Rattle.expression_steps.specs.declared.frame.ChoiceFrame.TheVariants as choice
+use Rattle.expression_steps.specs.declared.frame.ProcessFrame.TheVariants as process
+use Rattle.expression_steps.specs.declared.frame.Replication.TheVariants as replication
 
 -- an event, at its name
 abbrev pub begin_event : Limits → List Token → Option Moved
@@ -45,8 +47,8 @@ begin_item l ts =
     if begins_event ts then (and_then (inside l) λ e. Some (next (form.Part part_of.Item) e ts)) else Some (next (form.Expression binding.Disjunction) l ts)
 
 abbrev pub begin : Form → Limits → List Token → Option Moved
-begin form.Tree l ts = wait_process (process.LeftSide l) form.Side l ts
-begin form.Side l ts = wait_process (process.FirstOperand l) form.Sequence l ts
+begin form.Tree l ts = wait_parallel (parallel.LeftSide l) form.Side l ts
+begin form.Side l ts = wait_choice (choice.FirstOperand l) form.Sequence l ts
 begin form.Sequence l ts = wait_process (process.FirstProcess l) form.Prefix l ts
 begin form.Prefix l ts = begin_prefix l ts
 begin (form.Expression level) l ts = move_expression l level ts
@@ -58,6 +60,8 @@ begin (form.Generators of gens) l ts = move_generators l of gens ts
 
 -- what waits, with the part that it waits for
 abbrev pub resume : Frame → FoundTree → Option Moved
+resume (frame.Parallel w) p = resume_parallel w p
+resume (frame.Choice w) p = resume_choice w p
 resume (frame.Process w) p = resume_process w p
 resume (frame.Replicated w) p = resume_replicated w p.1 p.2
 resume (frame.Event w) p = resume_event w p

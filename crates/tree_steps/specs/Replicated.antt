@@ -11,15 +11,15 @@ use Rattle.tree_reading.specs.Starts.{each_tree, named}
 use Rattle.tree_reading.specs.declared.limits.Limits.{Limits}
 use Rattle.tree_reading.specs.declared.look.Chain.{Chain}
 use Rattle.tree_reading.specs.declared.read.Binding.TheVariants as binding
-use Rattle.tree_steps.specs.Moved.{Moved}
-use Rattle.tree_steps.specs.Moved.Moved.{found, inner}
-use Rattle.tree_steps.specs.declared.form.Form.{Form}
-use Rattle.tree_steps.specs.declared.form.Form.TheVariants as form
-use Rattle.tree_steps.specs.declared.frame.Frame.TheVariants as frame
-use Rattle.tree_steps.specs.declared.frame.ReplicatedFrame.{ReplicatedFrame}
-use Rattle.tree_steps.specs.declared.frame.ReplicatedFrame.TheVariants as replicated
-use Rattle.tree_steps.specs.declared.frame.Replication.{Replication}
-use Rattle.tree_steps.specs.declared.frame.Replication.TheVariants as replication
+use Rattle.expression_steps.specs.Moved.{Moved}
+use Rattle.expression_steps.specs.Moved.Moved.{found, inner}
+use Rattle.expression_steps.specs.declared.form.Form.{Form}
+use Rattle.expression_steps.specs.declared.form.Form.TheVariants as form
+use Rattle.expression_steps.specs.declared.frame.Frame.TheVariants as frame
+use Rattle.expression_steps.specs.declared.frame.ReplicatedFrame.{ReplicatedFrame}
+use Rattle.expression_steps.specs.declared.frame.ReplicatedFrame.TheVariants as replicated
+use Rattle.expression_steps.specs.declared.frame.Replication.{Replication}
+use Rattle.expression_steps.specs.declared.frame.Replication.TheVariants as replication
 
 -- a part of a replicated form is read while this waits
 abbrev pub wait_replicated : ReplicatedFrame → Form → Limits → List Token → Option Moved
@@ -29,11 +29,18 @@ wait_replicated w f l ts = Some (inner (frame.Replicated w) f l ts)
 abbrev pub move_replicated : Limits → Replication → List Token → Option Moved
 move_replicated e r ts = and_then (named ts) λ x. and_then (skip symbol.Colon x.1) λ us. wait_replicated (replicated.Range e r x.0) form.Atom e us
 
+-- behind the bracket of the alphabet of a parallel
+abbrev pub move_alphabet : Limits → List ℕ → Tree → List Token → Option Moved
+move_alphabet e x s ts = and_then (bracketed e) λ m. wait_replicated (replicated.Alphabet e x s) form.Atom m ts
+
+-- the bracket of the alphabet of a parallel
+abbrev pub move_bracket : Limits → List ℕ → Tree → List Token → Option Moved
+move_bracket e x s ts = and_then (skip symbol.OpenBracket ts) λ us. move_alphabet e x s us
+
 -- behind the set and its `@`
 abbrev pub move_ranged : Limits → Replication → List ℕ → Tree → List Token → Option Moved
 move_ranged e (replication.Choice chain) x s ts = wait_replicated (replicated.Chosen chain x s) form.Tree e ts
-move_ranged e replication.Parallel x s ts =
-    and_then (skip symbol.OpenBracket ts) λ us. and_then (bracketed e) λ m. wait_replicated (replicated.Alphabet e x s) form.Atom m us
+move_ranged e replication.Parallel x s ts = move_bracket e x s ts
 
 -- behind the set
 abbrev pub resume_range : Limits → Replication → List ℕ → Tree → List Token → Option Moved

@@ -4,17 +4,17 @@ ghost use Rattle.std.specs.Prelude.{◌≡◌, ◌+◌, ◌*◌, ◌<◌, length
 ghost use Rattle.csp_text.specs.declared.tree.Tree.TheVariants as tree;
 ghost use Rattle.csp_grammar.specs.Grammar.{event_tree};
 ghost use Rattle.tree_reading.specs.Gives.{Gives};
-ghost use Rattle.tree_steps.specs.Events.{field_of, may_dot_after, move_event, move_fields, move_input, move_named_input, resume_event, resume_field};
+ghost use Rattle.tree_steps.specs.Events.{field_of, longer, may_dot_after, move_dot, move_event, move_fields, move_input, move_named_input, resume_event, resume_field};
 ghost use Rattle.tree_steps.specs.Processes.{end_process};
-ghost use Rattle.tree_steps.specs.Moved.{moved, weight};
+ghost use Rattle.expression_steps.specs.Moved.{moved, weight};
 
-use crate::form::Form;
-use crate::frame::{EventFrame, FieldKind, Frame};
 use crate::processes::ending;
-use crate::step::{Step, found, inner, next};
 use containers::{Boxed, Items};
 use csp_base::Name;
 use csp_text::{FieldTree, Symbol, Token, Tree};
+use expression_steps::form::Form;
+use expression_steps::frame::{EventFrame, FieldKind, Frame};
+use expression_steps::step::{Step, found, inner, next};
 use std::alloc::Global;
 use tree_reading::fault::{ReadFault, expect_true};
 use tree_reading::limits::Limits;
@@ -22,7 +22,29 @@ use tree_reading::look::{expect_name, skip};
 use tree_reading::nodes::{expect_dotted, prefixed};
 use tree_reading::read::Binding;
 
-/// What stands behind the name of an input. No field with a dot may follow it.
+// The rest of an event with one field more.
+fn longer<'t>(
+    limits: Limits,
+    name: Name,
+    before: Items<FieldTree>,
+    field: FieldTree,
+    may_dot: bool,
+    tokens: &'t [Token],
+) -> Result<Step<'t>, ReadFault>
+    ensures moves { Gives result moved (longer limits name before field may_dot tokens.now) }
+    ensures falls { IfOk result (λ s. weight (moved s) < 32 * length tokens.now + 34) }
+{
+    let mut fields = before;
+    fields.push(field)?;
+    let form = Form::Fields {
+        name,
+        fields,
+        may_dot,
+    };
+    Ok(next(form, limits, tokens))
+}
+
+// What stands behind the name of an input. No field with a dot may follow it.
 fn named_input<'t>(
     limits: Limits,
     name: Name,
@@ -37,17 +59,11 @@ fn named_input<'t>(
         let frame = EventFrame::Field(limits, name, fields, FieldKind::Input(input));
         return Ok(inner(Frame::Event(frame), Form::Atom, limits, behind));
     }
-    let mut fields = fields;
-    fields.push(FieldTree::Input(input, None))?;
-    let form = Form::Fields {
-        name,
-        fields,
-        may_dot: false,
-    };
-    Ok(next(form, limits, tokens))
+    let field = FieldTree::Input(input, None);
+    longer(limits, name, fields, field, false, tokens)
 }
 
-/// What stands behind `?`.
+// What stands behind `?`.
 fn input<'t>(
     alloc: Global,
     limits: Limits,
@@ -62,7 +78,7 @@ fn input<'t>(
     named_input(limits, name, fields, input, rest)
 }
 
-/// An event behind which no field follows: what stands behind its arrow, or a dotted event.
+// An event behind which no field follows: what stands behind its arrow, or a dotted event.
 fn event<'t>(
     alloc: Global,
     limits: Limits,
@@ -81,7 +97,24 @@ fn event<'t>(
     Ok(found(Binding::Dotted, part, tokens))
 }
 
-/// The rest of an event.
+// What stands behind the dot of a field, where one may.
+fn dot<'t>(
+    limits: Limits,
+    name: Name,
+    fields: Items<FieldTree>,
+    may_dot: bool,
+    tokens: &'t [Token],
+) -> Result<Step<'t>, ReadFault>
+    ensures moves { Gives result moved (move_dot limits name fields may_dot tokens.now) }
+    ensures falls { IfOk result (λ s. weight (moved s) < 32 * length tokens.now + 34) }
+{
+    expect_true(may_dot, tokens)?;
+    let frame = EventFrame::Field(limits, name, fields, FieldKind::Dot);
+    let value = Form::Expression(Binding::Sum);
+    Ok(inner(Frame::Event(frame), value, limits, tokens))
+}
+
+// The rest of an event.
 pub(crate) fn fields<'t>(
     alloc: Global,
     limits: Limits,
@@ -93,14 +126,12 @@ pub(crate) fn fields<'t>(
     ensures moves { Gives result moved (move_fields limits name fields may_dot tokens.now) }
     ensures falls { IfOk result (λ s. weight (moved s) < 32 * length tokens.now + 33) }
 {
-    let value = Form::Expression(Binding::Sum);
     if let Some(behind) = skip(tokens, Symbol::Dot) {
-        expect_true(may_dot, tokens)?;
-        let frame = EventFrame::Field(limits, name, fields, FieldKind::Dot);
-        return Ok(inner(Frame::Event(frame), value, limits, behind));
+        return dot(limits, name, fields, may_dot, behind);
     }
     if let Some(behind) = skip(tokens, Symbol::Bang) {
         let frame = EventFrame::Field(limits, name, fields, FieldKind::Output);
+        let value = Form::Expression(Binding::Sum);
         return Ok(inner(Frame::Event(frame), value, limits, behind));
     }
     if let Some(behind) = skip(tokens, Symbol::Question) {
@@ -109,7 +140,7 @@ pub(crate) fn fields<'t>(
     event(alloc, limits, name, fields, tokens)
 }
 
-/// The field of this kind with this tree.
+// The field of this kind with this tree.
 fn field_of(kind: FieldKind, tree: Tree) -> FieldTree
     ensures { result ≡ field_of kind tree }
 {
@@ -120,19 +151,17 @@ fn field_of(kind: FieldKind, tree: Tree) -> FieldTree
     }
 }
 
-impl FieldKind {
-    /// Whether a field with a dot may follow.
-    fn may_dot_after(&self) -> bool
-        ensures { result ≡ may_dot_after self.now }
-    {
-        match self {
-            FieldKind::Dot | FieldKind::Output => true,
-            FieldKind::Input(_) => false,
-        }
+// Whether a field with a dot may follow one of this kind.
+fn may_dot_after(kind: &FieldKind) -> bool
+    ensures { result ≡ may_dot_after kind.now }
+{
+    match kind {
+        FieldKind::Dot | FieldKind::Output => true,
+        FieldKind::Input(_) => false,
     }
 }
 
-/// What stands behind the tree of a field.
+// What stands behind the tree of a field.
 fn behind_field<'t>(
     limits: Limits,
     name: Name,
@@ -144,18 +173,12 @@ fn behind_field<'t>(
     ensures moves { Gives result moved (resume_field limits name before kind part rest.now) }
     ensures falls { IfOk result (λ s. weight (moved s) < 32 * length rest.now + 34) }
 {
-    let mut fields = before;
-    let may_dot = kind.may_dot_after();
-    fields.push(field_of(kind, part.into_inner()))?;
-    let form = Form::Fields {
-        name,
-        fields,
-        may_dot,
-    };
-    Ok(next(form, limits, rest))
+    let may_dot = may_dot_after(&kind);
+    let field = field_of(kind, part.into_inner());
+    longer(limits, name, before, field, may_dot, rest)
 }
 
-/// A prefix with its process, which is bound like this.
+// A prefix with its process, which is bound like this.
 fn prefix_ended<'t>(
     alloc: Global,
     name: Name,
@@ -171,7 +194,7 @@ fn prefix_ended<'t>(
     ending(prefix, binding, rest)
 }
 
-/// An event that waits, with the part that it waits for, which is bound like this.
+// An event that waits, with the part that it waits for, which is bound like this.
 pub(crate) fn resume_event<'t>(
     alloc: Global,
     frame: EventFrame,

@@ -1,14 +1,9 @@
-//! The steps of a reading of trees: what is to be read, what waits while a part of it is read, and the step that begins the one or goes on with the other.
+//! The steps of a reading of trees: the step that begins what is to be read, and the step that goes on with what waits for a part of it.
 #![tactic(auto)]
 
-mod atoms;
+mod choices;
 mod events;
-mod expressions;
-pub mod form;
-pub mod frame;
-mod lists;
 pub mod machine;
-mod nesting;
+mod parallels;
 mod processes;
 mod replicated;
-pub mod step;

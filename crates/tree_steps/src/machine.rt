@@ -1,28 +1,32 @@
 //! The reading step by step.
 
-ghost use Rattle.std.specs.Prelude.{◌≡◌, ◌+◌, ◌*◌, ◌<◌, length, IfOk};
+ghost use Rattle.std.specs.Prelude.{◌≡◌, ◌+◌, ◌*◌, ◌<◌, length, IfOk, Some};
+ghost use Rattle.tree_reading.specs.declared.look.PrefixStart.TheVariants as openings;
+ghost use Rattle.expression_steps.specs.declared.form.Form.TheVariants as forms;
 ghost use Rattle.tree_reading.specs.Gives.{Gives};
 ghost use Rattle.tree_steps.specs.Machine.{begin, begin_event, begin_item, begin_opened, begin_prefix, resume};
-ghost use Rattle.tree_steps.specs.Moved.{moved, pending_weight, weight};
+ghost use Rattle.expression_steps.specs.Moved.{moved, pending_weight, weight};
 
-use crate::atoms::{atom, resume_atom};
+use crate::choices::{self, resume_choice};
 use crate::events::{fields, resume_event};
-use crate::expressions::{expression, resume_expression};
-use crate::form::{Form, PartOf};
-use crate::frame::{Frame, ProcessFrame, Replication};
-use crate::lists::{generators, part, resume_list};
-use crate::processes::{resume_process, wait};
+use crate::parallels::{self, resume_parallel};
+use crate::processes::{self, resume_process};
 use crate::replicated::{replicated, resume_replicated};
-use crate::step::{Step, next};
 use containers::{Boxed, Items};
 use csp_text::{Token, Tree};
+use expression_steps::atoms::{atom, resume_atom};
+use expression_steps::expressions::{expression, resume_expression};
+use expression_steps::form::{Form, PartOf};
+use expression_steps::frame::{ChoiceFrame, Frame, ParallelFrame, ProcessFrame, Replication};
+use expression_steps::lists::{generators, part, resume_list};
+use expression_steps::step::{Step, next};
 use std::alloc::Global;
 use tree_reading::fault::ReadFault;
 use tree_reading::limits::Limits;
 use tree_reading::look::{PrefixStart, begins_event, expect_name, prefix_start};
 use tree_reading::read::Binding;
 
-/// An event, at its name.
+// An event, at its name.
 fn event<'t>(alloc: Global, limits: Limits, tokens: &'t [Token]) -> Result<Step<'t>, ReadFault>
     ensures moves { Gives result moved (begin_event limits tokens.now) }
     ensures falls { IfOk result (λ s. weight (moved s) < 32 * length tokens.now + 3) }
@@ -32,7 +36,17 @@ fn event<'t>(alloc: Global, limits: Limits, tokens: &'t [Token]) -> Result<Step<
     fields(alloc, inside, name, Items::new(alloc), true, rest)
 }
 
-/// What stands behind that with which a process or an expression begins.
+// What stands behind `if`.
+fn condition<'t>(limits: Limits, tokens: &'t [Token]) -> Result<Step<'t>, ReadFault>
+    ensures moves { Gives result moved (begin_opened limits openings.If tokens.now) }
+    ensures falls { IfOk result (λ s. weight (moved s) < 32 * length tokens.now + 7) }
+{
+    let inside = limits.inside(tokens)?;
+    let condition = Form::Expression(Binding::Disjunction);
+    Ok(processes::wait(ProcessFrame::Condition(inside), condition, inside, tokens))
+}
+
+// What stands behind that with which a process or an expression begins.
 fn opened<'t>(
     alloc: Global,
     limits: Limits,
@@ -42,30 +56,20 @@ fn opened<'t>(
     ensures moves { Gives result moved (begin_opened limits start tokens.now) }
     ensures falls { IfOk result (λ s. weight (moved s) < 32 * length tokens.now + 7) }
 {
-    let expression = Form::Expression(Binding::Disjunction);
     match start {
         PrefixStart::Event => event(alloc, limits, tokens),
-        PrefixStart::If => {
-            let inside = limits.inside(tokens)?;
-            let frame = ProcessFrame::Condition(inside);
-            Ok(wait(frame, expression, inside, tokens))
-        }
-        PrefixStart::Each(chain) => {
-            let inside = limits.inside(tokens)?;
-            replicated(alloc, inside, Replication::Choice(chain), tokens)
-        }
-        PrefixStart::EachParallel => {
-            let inside = limits.inside(tokens)?;
-            replicated(alloc, inside, Replication::Parallel, tokens)
-        }
+        PrefixStart::If => condition(limits, tokens),
+        PrefixStart::Each(chain) => replicated(alloc, limits, Replication::Choice(chain), tokens),
+        PrefixStart::EachParallel => replicated(alloc, limits, Replication::Parallel, tokens),
         PrefixStart::Expression => {
             let frame = ProcessFrame::Guard(limits);
-            Ok(wait(frame, expression, limits, tokens))
+            let condition = Form::Expression(Binding::Disjunction);
+            Ok(processes::wait(frame, condition, limits, tokens))
         }
     }
 }
 
-/// A prefix, a form that reaches as far as it can, or an expression.
+// A prefix, a form that reaches as far as it can, or an expression.
 fn prefix<'t>(alloc: Global, limits: Limits, tokens: &'t [Token]) -> Result<Step<'t>, ReadFault>
     ensures moves { Gives result moved (begin_prefix limits tokens.now) }
     ensures falls { IfOk result (λ s. weight (moved s) < 32 * length tokens.now + 7) }
@@ -74,7 +78,7 @@ fn prefix<'t>(alloc: Global, limits: Limits, tokens: &'t [Token]) -> Result<Step
     opened(alloc, limits, start, rest)
 }
 
-/// An item.
+// An item.
 fn item<'t>(limits: Limits, tokens: &'t [Token]) -> Result<Step<'t>, ReadFault>
     ensures moves { Gives result moved (begin_item limits tokens.now) }
     ensures falls { IfOk result (λ s. weight (moved s) < 32 * length tokens.now + 5) }
@@ -85,6 +89,37 @@ fn item<'t>(limits: Limits, tokens: &'t [Token]) -> Result<Step<'t>, ReadFault>
     }
     let form = Form::Expression(Binding::Disjunction);
     Ok(next(form, limits, tokens))
+}
+
+// All of a tree.
+fn tree<'t>(limits: Limits, tokens: &'t [Token]) -> Step<'t>
+    ensures { Some (moved result) ≡ begin forms.Tree limits tokens.now }
+{
+    parallels::wait(ParallelFrame::LeftSide(limits), Form::Side, limits, tokens)
+}
+
+// A side.
+fn side<'t>(limits: Limits, tokens: &'t [Token]) -> Step<'t>
+    ensures { Some (moved result) ≡ begin forms.Side limits tokens.now }
+{
+    choices::wait(
+        ChoiceFrame::FirstOperand(limits),
+        Form::Sequence,
+        limits,
+        tokens,
+    )
+}
+
+// A sequence.
+fn sequence<'t>(limits: Limits, tokens: &'t [Token]) -> Step<'t>
+    ensures { Some (moved result) ≡ begin forms.Sequence limits tokens.now }
+{
+    processes::wait(
+        ProcessFrame::FirstProcess(limits),
+        Form::Prefix,
+        limits,
+        tokens,
+    )
 }
 
 /// The first step of what is to be read.
@@ -98,15 +133,9 @@ pub fn begin<'t>(
     ensures falls { IfOk result (λ s. weight (moved s) < pending_weight form tokens.now) }
 {
     match form {
-        Form::Tree => Ok(wait(ProcessFrame::LeftSide(limits), Form::Side, limits, tokens)),
-        Form::Side => {
-            let frame = ProcessFrame::FirstOperand(limits);
-            Ok(wait(frame, Form::Sequence, limits, tokens))
-        }
-        Form::Sequence => {
-            let frame = ProcessFrame::FirstProcess(limits);
-            Ok(wait(frame, Form::Prefix, limits, tokens))
-        }
+        Form::Tree => Ok(tree(limits, tokens)),
+        Form::Side => Ok(side(limits, tokens)),
+        Form::Sequence => Ok(sequence(limits, tokens)),
         Form::Prefix => prefix(alloc, limits, tokens),
         Form::Expression(level) => expression(limits, level, tokens),
         Form::Atom => atom(alloc, limits, tokens),
@@ -136,6 +165,8 @@ pub fn resume<'t>(
     ensures falls { IfOk result (λ s. weight (moved s) < 32 * length rest.now + 34) }
 {
     match frame {
+        Frame::Parallel(frame) => resume_parallel(alloc, frame, binding, part, rest),
+        Frame::Choice(frame) => resume_choice(alloc, frame, binding, part, rest),
         Frame::Process(frame) => resume_process(alloc, frame, binding, part, rest),
         Frame::Replicated(frame) => resume_replicated(alloc, frame, part, rest),
         Frame::Event(frame) => resume_event(alloc, frame, binding, part, rest),

@@ -1,18 +1,20 @@
 //! Replicated choices and parallels.
 
 ghost use Rattle.std.specs.Prelude.{◌≡◌, ◌+◌, ◌*◌, ◌<◌, length, IfOk};
+ghost use Rattle.csp_grammar.specs.Reader.{and_then};
 ghost use Rattle.tree_reading.specs.Gives.{Gives};
-ghost use Rattle.tree_steps.specs.declared.frame.Frame.TheVariants as frames;
-ghost use Rattle.tree_steps.specs.Replicated.{end_choice, end_parallel, move_ranged, move_replicated, resume_alphabet, resume_range, resume_replicated};
-ghost use Rattle.tree_steps.specs.Moved.{moved, weight};
-ghost use Rattle.tree_steps.specs.Moved.Moved.{inner};
+ghost use Rattle.tree_reading.specs.Nesting.{inside};
+ghost use Rattle.expression_steps.specs.declared.frame.Frame.TheVariants as frames;
+ghost use Rattle.tree_steps.specs.Replicated.{end_choice, end_parallel, move_alphabet, move_bracket, move_ranged, move_replicated, resume_alphabet, resume_range, resume_replicated};
+ghost use Rattle.expression_steps.specs.Moved.{moved, weight};
+ghost use Rattle.expression_steps.specs.Moved.Moved.{inner};
 
-use crate::form::Form;
-use crate::frame::{Frame, ReplicatedFrame, Replication};
-use crate::step::{Step, found, inner};
 use containers::Boxed;
 use csp_base::Name;
 use csp_text::{Symbol, Token, Tree};
+use expression_steps::form::Form;
+use expression_steps::frame::{Frame, ReplicatedFrame, Replication};
+use expression_steps::step::{Step, found, inner, inner_behind};
 use std::alloc::Global;
 use tree_reading::fault::ReadFault;
 use tree_reading::limits::Limits;
@@ -20,30 +22,59 @@ use tree_reading::look::{Chain, expect, expect_name};
 use tree_reading::nodes::{each, each_parallel};
 use tree_reading::read::Binding;
 
-/// A part of a replicated form is to be read, while this waits.
+// A part of a replicated form is to be read, while this waits.
 fn wait<'t>(frame: ReplicatedFrame, form: Form, limits: Limits, tokens: &'t [Token]) -> Step<'t>
     ensures { moved result ≡ inner (frames.Replicated frame) form limits tokens.now }
 {
     inner(Frame::Replicated(frame), form, limits, tokens)
 }
 
-/// What stands behind the sign of a replicated form.
+// What stands behind the sign of a replicated form.
 pub(crate) fn replicated<'t>(
     alloc: Global,
     limits: Limits,
     replication: Replication,
     tokens: &'t [Token],
 ) -> Result<Step<'t>, ReadFault>
-    ensures moves { Gives result moved (move_replicated limits replication tokens.now) }
+    ensures moves { Gives result moved (and_then (inside limits) λ e. move_replicated e replication tokens.now) }
     ensures falls { IfOk result (λ s. weight (moved s) < 32 * length tokens.now) }
 {
+    let inside = limits.inside(tokens)?;
     let (name, colon) = expect_name(alloc, tokens)?;
-    let behind = expect(colon, Symbol::Colon)?;
-    let frame = ReplicatedFrame::Range(limits, replication, name);
-    Ok(wait(frame, Form::Atom, limits, behind))
+    let frame = Frame::Replicated(ReplicatedFrame::Range(inside, replication, name));
+    inner_behind(Symbol::Colon, frame, Form::Atom, inside, colon)
 }
 
-/// What stands behind the set of a replicated form and its `@`.
+// What stands behind the bracket of the alphabet of a replicated parallel.
+fn alphabet_begun<'t>(
+    limits: Limits,
+    name: Name,
+    set: Boxed<Tree>,
+    tokens: &'t [Token],
+) -> Result<Step<'t>, ReadFault>
+    ensures moves { Gives result moved (move_alphabet limits name set tokens.now) }
+    ensures falls { IfOk result (λ s. weight (moved s) < 32 * length tokens.now + 34) }
+{
+    let alphabet = limits.bracketed(tokens)?;
+    let frame = ReplicatedFrame::Alphabet(limits, name, set);
+    Ok(wait(frame, Form::Atom, alphabet, tokens))
+}
+
+// What stands behind the set of a replicated parallel and its `@`.
+fn bracket_behind<'t>(
+    limits: Limits,
+    name: Name,
+    set: Boxed<Tree>,
+    tokens: &'t [Token],
+) -> Result<Step<'t>, ReadFault>
+    ensures moves { Gives result moved (move_bracket limits name set tokens.now) }
+    ensures falls { IfOk result (λ s. weight (moved s) < 32 * length tokens.now + 34) }
+{
+    let behind = expect(tokens, Symbol::OpenBracket)?;
+    alphabet_begun(limits, name, set, behind)
+}
+
+// What stands behind the set of a replicated form and its `@`.
 fn ranged<'t>(
     limits: Limits,
     replication: Replication,
@@ -59,16 +90,11 @@ fn ranged<'t>(
             let frame = ReplicatedFrame::Chosen(chain, name, set);
             Ok(wait(frame, Form::Tree, limits, tokens))
         }
-        Replication::Parallel => {
-            let behind = expect(tokens, Symbol::OpenBracket)?;
-            let alphabet = limits.bracketed(behind)?;
-            let frame = ReplicatedFrame::Alphabet(limits, name, set);
-            Ok(wait(frame, Form::Atom, alphabet, behind))
-        }
+        Replication::Parallel => bracket_behind(limits, name, set, tokens),
     }
 }
 
-/// What stands behind the set that the name of a replicated form ranges over.
+// What stands behind the set that the name of a replicated form ranges over.
 fn behind_range<'t>(
     limits: Limits,
     replication: Replication,
@@ -83,7 +109,7 @@ fn behind_range<'t>(
     ranged(limits, replication, name, set, behind)
 }
 
-/// A replicated choice with its process.
+// A replicated choice with its process.
 fn choice_ended<'t>(
     alloc: Global,
     chain: Chain,
@@ -99,7 +125,7 @@ fn choice_ended<'t>(
     Ok(found(Binding::Open, process, rest))
 }
 
-/// What stands behind the alphabet of a replicated parallel.
+// What stands behind the alphabet of a replicated parallel.
 fn behind_alphabet<'t>(
     limits: Limits,
     name: Name,
@@ -110,12 +136,11 @@ fn behind_alphabet<'t>(
     ensures moves { Gives result moved (resume_alphabet limits name set alphabet tokens.now) }
     ensures falls { IfOk result (λ s. weight (moved s) < 32 * length tokens.now + 34) }
 {
-    let behind = expect(tokens, Symbol::CloseBracket)?;
-    let frame = ReplicatedFrame::Parallel(name, set, alphabet);
-    Ok(wait(frame, Form::Tree, limits, behind))
+    let frame = Frame::Replicated(ReplicatedFrame::Parallel(name, set, alphabet));
+    inner_behind(Symbol::CloseBracket, frame, Form::Tree, limits, tokens)
 }
 
-/// A replicated parallel with its process.
+// A replicated parallel with its process.
 fn parallel_ended<'t>(
     alloc: Global,
     name: Name,
@@ -131,7 +156,7 @@ fn parallel_ended<'t>(
     Ok(found(Binding::Open, process, rest))
 }
 
-/// A replicated form that waits, with the part that it waits for.
+// A replicated form that waits, with the part that it waits for.
 pub(crate) fn resume_replicated<'t>(
     alloc: Global,
     frame: ReplicatedFrame,

@@ -5,7 +5,7 @@ use Rattle.csp_lexer.proofs.CutSoFar.{IsCutSoFar}
 use Rattle.csp_lexer.proofs.lexer.lex.Given as goal
 
 abbrev pub invariant-loop-rest : goal.invariant-loop-rest
-invariant-loop-rest l = IsCutSoFar front (lexed l.text) l.found.tokens l.found.places l.at l.rest
+invariant-loop-rest l = IsCutSoFar front (lexed l.text) l.found.placed l.at l.rest
 
 abbrev pub decreases-loop-rest : goal.decreases-loop-rest
 decreases-loop-rest l = length l.rest

@@ -1,6 +1,6 @@
 use Rattle.std.proofs.Common.{true-eqb}
 use Rattle.csp_lexer.specs.Assertions.{line_front}
-use Rattle.csp_lexer.proofs.CutSoFar.{at_end, no_piece, not_empty, piece_passed_to}
+use Rattle.csp_lexer.proofs.CutSoFar.{at_end, no_piece, not_empty, piece_passed}
 use Rattle.csp_lexer.proofs.line.cut_line.Goals as goal
 
 -- no piece stands there
@@ -14,8 +14,8 @@ pub loop-rest-preserved : goal.loop-rest-preserved
 loop-rest-preserved c =
     let passed = rw c.in-Some.is at c.in_ok-left.ensures.passed in
     let shorter = rw c.in-Some.is at c.in_ok-left.ensures.shorter in
-    piece_passed_to line_front _ _ _ c.loop-rest.at _ c.loop-rest.rest.now _ c.behind_all-at.ensures passed c.loop-rest.invariant shorter
+    piece_passed line_front _ _ _ c.loop-rest.at _ c.loop-rest.rest.now _ c.behind_all-at.ensures passed c.loop-rest.invariant shorter
 
 -- nothing is left
 pub returns : goal.returns
-returns c = at_end line_front _ _ _ _ c.loop-rest.rest.now (true-eqb _ 0 c.loop-rest-test.ensures) c.loop-rest.invariant
+returns c = at_end line_front _ _ _ _ c.loop-rest.rest.now c.ended.ensures (true-eqb _ 0 c.loop-rest-test.ensures) c.loop-rest.invariant

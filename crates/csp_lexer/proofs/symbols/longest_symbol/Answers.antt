@@ -5,7 +5,7 @@ use Rattle.std.proofs.lemmas.Iterator.Search.{find_from_yields_List}
 use Rattle.std.specs.List.{starts_with}
 use Rattle.csp_text.specs.Written.{symbol_text}
 use Rattle.csp_lexer.specs.Symbols.{longest_symbol}
-use Rattle.csp_lexer.proofs.SymbolsLemmas.{found_fits}
+use Rattle.csp_lexer.proofs.SymbolsLemmas.{found_fits, found_longest}
 use Rattle.csp_lexer.proofs.symbols.longest_symbol.Goals as goal
 
 pub returns-clause-value : goal.returns-clause-value
@@ -14,3 +14,6 @@ returns-clause-value c = c.copied.ensures ∙ find_from_yields_List (λ symbol. 
 
 pub returns-clause-within : goal.returns-clause-within
 returns-clause-within c = found_fits c.args.text.now c.copied.result (returns-clause-value c)
+
+pub returns-clause-longest : goal.returns-clause-longest
+returns-clause-longest c = found_longest c.args.text.now c.copied.result (returns-clause-value c)

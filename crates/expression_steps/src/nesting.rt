@@ -3,7 +3,7 @@
 ghost use Rattle.tree_reading.specs.Gives.{Gives};
 ghost use Rattle.tree_reading.specs.Nesting.{around, bracketed};
 ghost use Rattle.csp_grammar.specs.Reader.{and_then};
-ghost use Rattle.tree_steps.specs.Nesting.{bracket_limits, operand_limits, parallel_limits};
+ghost use Rattle.expression_steps.specs.Nesting.{bracket_limits, operand_limits, parallel_limits};
 
 use csp_text::{Token, Tree};
 use tree_reading::fault::ReadFault;
@@ -11,7 +11,7 @@ use tree_reading::limits::Limits;
 use tree_reading::read::Binding;
 
 /// The limits within a node with this first part, which something may follow as it is bound.
-pub(crate) fn operand_limits(
+pub fn operand_limits(
     limits: Limits,
     binding: Binding,
     part: &Tree,
@@ -23,7 +23,7 @@ pub(crate) fn operand_limits(
     limits.around(part, tokens)
 }
 
-/// The limits below a bracket within a node with this first part.
+// The limits below a bracket within a node with this first part.
 pub(crate) fn bracket_limits(
     limits: Limits,
     part: &Tree,
@@ -36,7 +36,7 @@ pub(crate) fn bracket_limits(
 }
 
 /// The limits of the sides of a parallel with this left side, and those of its alphabets.
-pub(crate) fn parallel_limits(
+pub fn parallel_limits(
     limits: Limits,
     binding: Binding,
     left: &Tree,

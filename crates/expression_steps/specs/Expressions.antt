@@ -16,16 +16,16 @@ use Rattle.tree_reading.specs.declared.look.Sign.{Sign}
 use Rattle.tree_reading.specs.declared.look.Sign.TheVariants as sign
 use Rattle.tree_reading.specs.declared.read.Binding.{Binding}
 use Rattle.tree_reading.specs.declared.read.Binding.TheVariants as binding
-use Rattle.tree_steps.specs.Nesting.{bracket_limits}
-use Rattle.tree_steps.specs.Moved.{Moved}
-use Rattle.tree_steps.specs.Moved.Moved.{found, inner, next}
-use Rattle.tree_steps.specs.declared.form.Form.{Form}
-use Rattle.tree_steps.specs.declared.form.Form.TheVariants as form
-use Rattle.tree_steps.specs.declared.form.PartOf.TheVariants as part_of
-use Rattle.tree_steps.specs.declared.form.Renaming.{Renaming}
-use Rattle.tree_steps.specs.declared.frame.Frame.TheVariants as frame
-use Rattle.tree_steps.specs.declared.frame.ExpressionFrame.{ExpressionFrame}
-use Rattle.tree_steps.specs.declared.frame.ExpressionFrame.TheVariants as expression
+use Rattle.expression_steps.specs.Nesting.{bracket_limits}
+use Rattle.expression_steps.specs.Moved.{Moved}
+use Rattle.expression_steps.specs.Moved.Moved.{found, inner, next}
+use Rattle.expression_steps.specs.declared.form.Form.{Form}
+use Rattle.expression_steps.specs.declared.form.Form.TheVariants as form
+use Rattle.expression_steps.specs.declared.form.PartOf.TheVariants as part_of
+use Rattle.expression_steps.specs.declared.form.Renaming.{Renaming}
+use Rattle.expression_steps.specs.declared.frame.Frame.TheVariants as frame
+use Rattle.expression_steps.specs.declared.frame.ExpressionFrame.{ExpressionFrame}
+use Rattle.expression_steps.specs.declared.frame.ExpressionFrame.TheVariants as expression
 
 -- a part of an expression is read while this waits
 abbrev pub wait_expression : ExpressionFrame → Form → Limits → List Token → Option Moved

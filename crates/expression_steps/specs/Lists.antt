@@ -13,19 +13,20 @@ use Rattle.csp_grammar.specs.Tokens.{skip}
 use Rattle.tree_reading.specs.Starts.{named}
 use Rattle.tree_reading.specs.declared.limits.Limits.{Limits}
 use Rattle.tree_reading.specs.declared.read.Binding.TheVariants as binding
-use Rattle.tree_steps.specs.Expressions.{move_operators}
-use Rattle.tree_steps.specs.Moved.{Moved}
-use Rattle.tree_steps.specs.Moved.Moved.{found, inner, next}
-use Rattle.tree_steps.specs.declared.form.Form.{Form}
-use Rattle.tree_steps.specs.declared.form.Form.TheVariants as form
-use Rattle.tree_steps.specs.declared.form.GeneratorsOf.{GeneratorsOf}
-use Rattle.tree_steps.specs.declared.form.GeneratorsOf.TheVariants as generators_of
-use Rattle.tree_steps.specs.declared.form.PartOf.{PartOf}
-use Rattle.tree_steps.specs.declared.form.PartOf.TheVariants as part_of
-use Rattle.tree_steps.specs.declared.form.Renaming.{Renaming}
-use Rattle.tree_steps.specs.declared.frame.Frame.TheVariants as frame
-use Rattle.tree_steps.specs.declared.frame.ListFrame.{ListFrame}
-use Rattle.tree_steps.specs.declared.frame.ListFrame.TheVariants as waiting
+use Rattle.expression_steps.specs.Expressions.{move_operators}
+use Rattle.expression_steps.specs.Atoms.{end_atom}
+use Rattle.expression_steps.specs.Moved.{Moved}
+use Rattle.expression_steps.specs.Moved.Moved.{found, inner, next}
+use Rattle.expression_steps.specs.declared.form.Form.{Form}
+use Rattle.expression_steps.specs.declared.form.Form.TheVariants as form
+use Rattle.expression_steps.specs.declared.form.GeneratorsOf.{GeneratorsOf}
+use Rattle.expression_steps.specs.declared.form.GeneratorsOf.TheVariants as generators_of
+use Rattle.expression_steps.specs.declared.form.PartOf.{PartOf}
+use Rattle.expression_steps.specs.declared.form.PartOf.TheVariants as part_of
+use Rattle.expression_steps.specs.declared.form.Renaming.{Renaming}
+use Rattle.expression_steps.specs.declared.frame.Frame.TheVariants as frame
+use Rattle.expression_steps.specs.declared.frame.ListFrame.{ListFrame}
+use Rattle.expression_steps.specs.declared.frame.ListFrame.TheVariants as waiting
 
 -- a part of a list is read while this waits
 abbrev pub wait_list : ListFrame → Form → Limits → List Token → Option Moved
@@ -37,11 +38,11 @@ end_renaming r gens ts = move_operators r.limits r.level binding.Renaming (tree.
 
 -- a comprehension with all its generators
 abbrev pub end_comprehension : List Tree → List GenTree → List Token → Option Moved
-end_comprehension items gens ts = and_then (skip symbol.CloseBrace ts) λ us. Some (found (binding.Atom, tree.Comp items gens, us))
+end_comprehension items gens ts = end_atom symbol.CloseBrace (tree.Comp items gens) ts
 
 -- a production with all its generators
 abbrev pub end_product : List PartTree → List GenTree → List Token → Option Moved
-end_product parts gens ts = and_then (skip symbol.CloseProduct ts) λ us. Some (found (binding.Atom, tree.Product parts gens, us))
+end_product parts gens ts = end_atom symbol.CloseProduct (tree.Product parts gens) ts
 
 -- a renaming with all its generators
 abbrev pub close_renaming : Renaming → List GenTree → List Token → Option Moved
@@ -61,10 +62,14 @@ move_conditions m of ts = case (skip symbol.Bar ts) (λ us. Some (next (form.Gen
 abbrev pub move_condition : Limits → GeneratorsOf → List GenTree → List Token → Option Moved
 move_condition m of gens ts = wait_list (waiting.Condition m of gens) (form.Expression binding.Disjunction) m ts
 
+-- the set of a generator of this name is read
+abbrev pub move_source : Limits → GeneratorsOf → List GenTree → List ℕ → List Token → Option Moved
+move_source m of gens x ts = wait_list (waiting.Source m of gens x) form.Atom m ts
+
 abbrev pub move_generators : Limits → GeneratorsOf → List GenTree → List Token → Option Moved
 move_generators m of gens ts =
     case (named ts)
-    (λ x. case (skip symbol.LeftArrow x.1) (λ us. wait_list (waiting.Source m of gens x.0) form.Atom m us) (λ _. move_condition m of gens ts))
+    (λ x. case (skip symbol.LeftArrow x.1) (λ us. move_source m of gens x.0 us) (λ _. move_condition m of gens ts))
     (λ _. move_condition m of gens ts)
 
 -- behind these generators

@@ -3,16 +3,17 @@
 ghost use Rattle.std.specs.Prelude.{◌≡◌, ◌+◌, ◌*◌, ◌<◌, length, IfOk, [], ◌∷◌, ◌++◌};
 ghost use Rattle.csp_text.specs.declared.token.Symbol.TheVariants as symbol;
 ghost use Rattle.csp_text.specs.declared.tree.Tree.TheVariants as tree;
+ghost use Rattle.tree_reading.specs.declared.look.AtomStart.TheVariants as starts;
 ghost use Rattle.tree_reading.specs.Bindings.{last_item};
 ghost use Rattle.tree_reading.specs.Gives.{Gives};
-ghost use Rattle.tree_steps.specs.declared.frame.Frame.TheVariants as frames;
-ghost use Rattle.tree_steps.specs.Atoms.{end_atom, move_arguments, move_atom, move_atom_rest, move_elements, move_range, move_set, move_set_operator, resume_atom, resume_first_set};
-ghost use Rattle.tree_steps.specs.Moved.{moved, weight};
-ghost use Rattle.tree_steps.specs.Moved.Moved.{inner};
+ghost use Rattle.expression_steps.specs.declared.frame.Frame.TheVariants as frames;
+ghost use Rattle.expression_steps.specs.Atoms.{end_atom, move_arguments, move_atom, move_atom_rest, move_elements, move_last_element, move_range, move_set, resume_atom, resume_first_set};
+ghost use Rattle.expression_steps.specs.Moved.{moved, weight};
+ghost use Rattle.expression_steps.specs.Moved.Moved.{inner};
 
 use crate::form::{Form, GeneratorsOf, PartOf};
 use crate::frame::{AtomFrame, Frame};
-use crate::step::{Step, found, inner, next};
+use crate::step::{Step, found, inner, inner_behind, next};
 use containers::{Boxed, Items};
 use csp_base::{Name, SetOp};
 use csp_text::{Symbol, Token, Tree};
@@ -23,25 +24,74 @@ use tree_reading::look::{AtomStart, atom_start, expect, skip};
 use tree_reading::nodes::{call, display, expect_only, range, set_operation};
 use tree_reading::read::{Binding, last_item};
 
-/// A part of an atom is to be read, while this waits.
+// A part of an atom is to be read, while this waits.
 fn wait<'t>(frame: AtomFrame, form: Form, limits: Limits, tokens: &'t [Token]) -> Step<'t>
     ensures { moved result ≡ inner (frames.Atom frame) form limits tokens.now }
 {
     inner(Frame::Atom(frame), form, limits, tokens)
 }
 
-/// What stands behind the word of an operator on sets.
-fn set_operator<'t>(limits: Limits, op: SetOp, tokens: &'t [Token]) -> Result<Step<'t>, ReadFault>
-    ensures moves { Gives result moved (move_set_operator limits op tokens.now) }
+// An atom that is a tree with no parts.
+fn leaf<'t>(
+    alloc: Global,
+    limits: Limits,
+    part: Tree,
+    tokens: &'t [Token],
+) -> Result<Step<'t>, ReadFault>
+    ensures moves { Gives result moved (move_atom_rest limits (starts.Leaf part) tokens.now) }
     ensures falls { IfOk result (λ s. weight (moved s) < 32 * length tokens.now + 33) }
 {
-    let behind = expect(tokens, Symbol::OpenParen)?;
-    let frame = AtomFrame::FirstSet(limits, op);
-    Ok(wait(frame, Form::Item, limits, behind))
+    let part = Boxed::new(alloc, part)?;
+    limits.inside(tokens)?;
+    Ok(found(Binding::Atom, part, tokens))
 }
 
-/// What stands behind `{`.
-fn set<'t>(alloc: Global, limits: Limits, tokens: &'t [Token]) -> Result<Step<'t>, ReadFault>
+// What stands behind the name of a call and its parenthesis.
+fn call_behind<'t>(
+    alloc: Global,
+    limits: Limits,
+    name: Name,
+    tokens: &'t [Token],
+) -> Result<Step<'t>, ReadFault>
+    ensures moves { Gives result moved (move_atom_rest limits (starts.Call name) tokens.now) }
+    ensures falls { IfOk result (λ s. weight (moved s) < 32 * length tokens.now + 33) }
+{
+    let inside = limits.opened(tokens)?;
+    let frame = AtomFrame::Argument(inside, name, Items::new(alloc));
+    Ok(wait(frame, Form::Item, inside, tokens))
+}
+
+// What stands behind the word of an operator on sets.
+fn set_operator<'t>(limits: Limits, op: SetOp, tokens: &'t [Token]) -> Result<Step<'t>, ReadFault>
+    ensures moves { Gives result moved (move_atom_rest limits (starts.SetOperator op) tokens.now) }
+    ensures falls { IfOk result (λ s. weight (moved s) < 32 * length tokens.now + 33) }
+{
+    let inside = limits.opened(tokens)?;
+    let frame = Frame::Atom(AtomFrame::FirstSet(inside, op));
+    inner_behind(Symbol::OpenParen, frame, Form::Item, inside, tokens)
+}
+
+// What stands behind `(`.
+fn parentheses<'t>(limits: Limits, tokens: &'t [Token]) -> Result<Step<'t>, ReadFault>
+    ensures moves { Gives result moved (move_atom_rest limits starts.Parentheses tokens.now) }
+    ensures falls { IfOk result (λ s. weight (moved s) < 32 * length tokens.now + 33) }
+{
+    let inside = limits.bracketed(tokens)?;
+    Ok(wait(AtomFrame::Parentheses, Form::Tree, inside, tokens))
+}
+
+// What stands behind `{|`.
+fn product<'t>(alloc: Global, limits: Limits, tokens: &'t [Token]) -> Result<Step<'t>, ReadFault>
+    ensures moves { Gives result moved (move_atom_rest limits starts.Product tokens.now) }
+    ensures falls { IfOk result (λ s. weight (moved s) < 32 * length tokens.now + 33) }
+{
+    let inside = limits.opened(tokens)?;
+    let form = Form::Part(PartOf::Product(Items::new(alloc)));
+    Ok(next(form, inside, tokens))
+}
+
+// What stands behind `{`, within the bracket.
+fn set_behind<'t>(alloc: Global, limits: Limits, tokens: &'t [Token]) -> Result<Step<'t>, ReadFault>
     ensures moves { Gives result moved (move_set limits tokens.now) }
     ensures falls { IfOk result (λ s. weight (moved s) < 32 * length tokens.now + 33) }
 {
@@ -60,7 +110,16 @@ fn set<'t>(alloc: Global, limits: Limits, tokens: &'t [Token]) -> Result<Step<'t
     }
 }
 
-/// What stands behind the first token of an atom, with the parenthesis of a call.
+// What stands behind `{`.
+fn set<'t>(alloc: Global, limits: Limits, tokens: &'t [Token]) -> Result<Step<'t>, ReadFault>
+    ensures moves { Gives result moved (move_atom_rest limits starts.Set tokens.now) }
+    ensures falls { IfOk result (λ s. weight (moved s) < 32 * length tokens.now + 33) }
+{
+    let inside = limits.opened(tokens)?;
+    set_behind(alloc, inside, tokens)
+}
+
+// What stands behind the first token of an atom, with the parenthesis of a call.
 fn atom_rest<'t>(
     alloc: Global,
     limits: Limits,
@@ -71,42 +130,17 @@ fn atom_rest<'t>(
     ensures falls { IfOk result (λ s. weight (moved s) < 32 * length tokens.now + 33) }
 {
     match start {
-        AtomStart::Leaf(part) => {
-            limits.inside(tokens)?;
-            let part = Boxed::new(alloc, part)?;
-            Ok(found(Binding::Atom, part, tokens))
-        }
-        AtomStart::Call(name) => {
-            let inside = limits.opened(tokens)?;
-            let frame = AtomFrame::Argument(inside, name, Items::new(alloc));
-            Ok(wait(frame, Form::Item, inside, tokens))
-        }
-        AtomStart::SetOperator(op) => {
-            let inside = limits.opened(tokens)?;
-            set_operator(inside, op, tokens)
-        }
-        AtomStart::Parentheses => {
-            let inside = limits.bracketed(tokens)?;
-            Ok(wait(AtomFrame::Parentheses, Form::Tree, inside, tokens))
-        }
-        AtomStart::Set => {
-            let inside = limits.opened(tokens)?;
-            set(alloc, inside, tokens)
-        }
-        AtomStart::Product => {
-            let inside = limits.opened(tokens)?;
-            let form = Form::Part(PartOf::Product(Items::new(alloc)));
-            Ok(next(form, inside, tokens))
-        }
+        AtomStart::Leaf(part) => leaf(alloc, limits, part, tokens),
+        AtomStart::Call(name) => call_behind(alloc, limits, name, tokens),
+        AtomStart::SetOperator(op) => set_operator(limits, op, tokens),
+        AtomStart::Parentheses => parentheses(limits, tokens),
+        AtomStart::Set => set(alloc, limits, tokens),
+        AtomStart::Product => product(alloc, limits, tokens),
     }
 }
 
 /// An atom.
-pub(crate) fn atom<'t>(
-    alloc: Global,
-    limits: Limits,
-    tokens: &'t [Token],
-) -> Result<Step<'t>, ReadFault>
+pub fn atom<'t>(alloc: Global, limits: Limits, tokens: &'t [Token]) -> Result<Step<'t>, ReadFault>
     ensures moves { Gives result moved (move_atom limits tokens.now) }
     ensures falls { IfOk result (λ s. weight (moved s) < 32 * length tokens.now + 1) }
 {
@@ -114,16 +148,20 @@ pub(crate) fn atom<'t>(
     atom_rest(alloc, limits, start, rest)
 }
 
-/// An atom with its closing bracket.
-fn closed<'t>(symbol: Symbol, part: Boxed<Tree>, tokens: &'t [Token]) -> Result<Step<'t>, ReadFault>
+// An atom with its closing bracket.
+pub(crate) fn closed<'t>(
+    symbol: Symbol,
+    part: Boxed<Tree>,
+    tokens: &'t [Token],
+) -> Result<Step<'t>, ReadFault>
     ensures moves { Gives result moved (end_atom symbol part tokens.now) }
-    ensures falls { IfOk result (λ s. weight (moved s) < 32 * length tokens.now + 34) }
+    ensures falls { IfOk result (λ s. weight (moved s) < 32 * length tokens.now + 33) }
 {
     let rest = expect(tokens, symbol)?;
     Ok(found(Binding::Atom, part, rest))
 }
 
-/// What stands behind these arguments of a call.
+// What stands behind these arguments of a call.
 fn behind_arguments<'t>(
     alloc: Global,
     limits: Limits,
@@ -142,7 +180,7 @@ fn behind_arguments<'t>(
     Ok(wait(frame, Form::Item, limits, behind))
 }
 
-/// What stands behind the lower bound of a range, which is bound like this, and `..`.
+// What stands behind the lower bound of a range, which is bound like this, and `..`.
 fn range_behind<'t>(
     alloc: Global,
     limits: Limits,
@@ -159,21 +197,30 @@ fn range_behind<'t>(
     Ok(wait(frame, Form::Expression(Binding::Sum), limits, tokens))
 }
 
-/// What stands behind these items of a set, the last of which is bound like this.
-fn behind_elements<'t>(
+// A set of these items.
+fn set_ended<'t>(
+    alloc: Global,
+    items: Items<Tree>,
+    tokens: &'t [Token],
+) -> Result<Step<'t>, ReadFault>
+    ensures moves { Gives result moved (end_atom symbol.CloseBrace (tree.Display items) tokens.now) }
+    ensures falls { IfOk result (λ s. weight (moved s) < 32 * length tokens.now + 34) }
+{
+    let part = display(alloc, items)?;
+    closed(Symbol::CloseBrace, part, tokens)
+}
+
+// What stands behind the last of these items of a set, which is bound like this.
+fn behind_last_element<'t>(
     alloc: Global,
     limits: Limits,
     binding: Binding,
     items: Items<Tree>,
     tokens: &'t [Token],
 ) -> Result<Step<'t>, ReadFault>
-    ensures moves { Gives result moved (move_elements limits binding items tokens.now) }
+    ensures moves { Gives result moved (move_last_element limits binding items tokens.now) }
     ensures falls { IfOk result (λ s. weight (moved s) < 32 * length tokens.now + 34) }
 {
-    if let Some(behind) = skip(tokens, Symbol::Comma) {
-        let frame = AtomFrame::Element(limits, items);
-        return Ok(wait(frame, Form::Item, limits, behind));
-    }
     if let Some(behind) = skip(tokens, Symbol::DotDot) {
         return range_behind(alloc, limits, binding, items, behind);
     }
@@ -184,11 +231,30 @@ fn behind_elements<'t>(
         };
         return Ok(next(form, limits, behind));
     }
-    let part = display(alloc, items)?;
-    closed(Symbol::CloseBrace, part, tokens)
+    set_ended(alloc, items, tokens)
 }
 
-/// What stands behind these arguments of a call and the next one.
+// What stands behind these items of a set, the last of which is bound like this.
+fn behind_elements<'t>(
+    alloc: Global,
+    limits: Limits,
+    binding: Binding,
+    items: Items<Tree>,
+    tokens: &'t [Token],
+) -> Result<Step<'t>, ReadFault>
+    ensures moves { Gives result moved (move_elements limits binding items tokens.now) }
+    ensures falls { IfOk result (λ s. weight (moved s) < 32 * length tokens.now + 34) }
+{
+    match skip(tokens, Symbol::Comma) {
+        Some(behind) => {
+            let frame = AtomFrame::Element(limits, items);
+            Ok(wait(frame, Form::Item, limits, behind))
+        }
+        None => behind_last_element(alloc, limits, binding, items, tokens),
+    }
+}
+
+// What stands behind these arguments of a call and the next one.
 fn behind_argument<'t>(
     alloc: Global,
     limits: Limits,
@@ -205,7 +271,7 @@ fn behind_argument<'t>(
     behind_arguments(alloc, limits, name, arguments, rest)
 }
 
-/// What stands behind the first operand of an operator on sets.
+// What stands behind the first operand of an operator on sets.
 fn behind_first_set<'t>(
     limits: Limits,
     op: SetOp,
@@ -215,12 +281,11 @@ fn behind_first_set<'t>(
     ensures moves { Gives result moved (resume_first_set limits op first rest.now) }
     ensures falls { IfOk result (λ s. weight (moved s) < 32 * length rest.now + 34) }
 {
-    let behind = expect(rest, Symbol::Comma)?;
-    let frame = AtomFrame::SecondSet(op, first);
-    Ok(wait(frame, Form::Item, limits, behind))
+    let frame = Frame::Atom(AtomFrame::SecondSet(op, first));
+    inner_behind(Symbol::Comma, frame, Form::Item, limits, rest)
 }
 
-/// An operator on sets with its operands.
+// An operator on sets with its operands.
 fn set_operation_ended<'t>(
     alloc: Global,
     op: SetOp,
@@ -235,7 +300,7 @@ fn set_operation_ended<'t>(
     closed(Symbol::CloseParen, whole, rest)
 }
 
-/// What stands behind these items of a set and the next one, which is bound like this.
+// What stands behind these items of a set and the next one, which is bound like this.
 fn behind_element<'t>(
     alloc: Global,
     limits: Limits,
@@ -253,7 +318,7 @@ fn behind_element<'t>(
     behind_elements(alloc, limits, binding, items, rest)
 }
 
-/// A range with its bounds.
+// A range with its bounds.
 fn range_ended<'t>(
     alloc: Global,
     lower: Boxed<Tree>,
@@ -268,7 +333,7 @@ fn range_ended<'t>(
 }
 
 /// An atom that waits, with the part that it waits for, which is bound like this.
-pub(crate) fn resume_atom<'t>(
+pub fn resume_atom<'t>(
     alloc: Global,
     frame: AtomFrame,
     binding: Binding,

@@ -16,15 +16,15 @@ use Rattle.tree_reading.specs.declared.look.AtomStart.{AtomStart}
 use Rattle.tree_reading.specs.declared.look.AtomStart.TheVariants as start
 use Rattle.tree_reading.specs.declared.read.Binding.{Binding}
 use Rattle.tree_reading.specs.declared.read.Binding.TheVariants as binding
-use Rattle.tree_steps.specs.Moved.{Moved, FoundTree}
-use Rattle.tree_steps.specs.Moved.Moved.{found, inner, next}
-use Rattle.tree_steps.specs.declared.form.Form.{Form}
-use Rattle.tree_steps.specs.declared.form.Form.TheVariants as form
-use Rattle.tree_steps.specs.declared.form.GeneratorsOf.TheVariants as generators_of
-use Rattle.tree_steps.specs.declared.form.PartOf.TheVariants as part_of
-use Rattle.tree_steps.specs.declared.frame.Frame.TheVariants as frame
-use Rattle.tree_steps.specs.declared.frame.AtomFrame.{AtomFrame}
-use Rattle.tree_steps.specs.declared.frame.AtomFrame.TheVariants as atom
+use Rattle.expression_steps.specs.Moved.{Moved, FoundTree}
+use Rattle.expression_steps.specs.Moved.Moved.{found, inner, next}
+use Rattle.expression_steps.specs.declared.form.Form.{Form}
+use Rattle.expression_steps.specs.declared.form.Form.TheVariants as form
+use Rattle.expression_steps.specs.declared.form.GeneratorsOf.TheVariants as generators_of
+use Rattle.expression_steps.specs.declared.form.PartOf.TheVariants as part_of
+use Rattle.expression_steps.specs.declared.frame.Frame.TheVariants as frame
+use Rattle.expression_steps.specs.declared.frame.AtomFrame.{AtomFrame}
+use Rattle.expression_steps.specs.declared.frame.AtomFrame.TheVariants as atom
 
 -- a part of an atom is read while this waits
 abbrev pub wait_atom : AtomFrame → Form → Limits → List Token → Option Moved
@@ -69,13 +69,16 @@ abbrev pub move_range : Limits → Binding → List Tree → List Token → Opti
 move_range e k items ts =
     and_then (sure (at_least binding.Sum k)) λ _. and_then (only items) λ a. wait_atom (atom.UpperBound a) (form.Expression binding.Sum) e ts
 
--- behind these items of a set, the last of which is bound as k says
-abbrev pub move_elements : Limits → Binding → List Tree → List Token → Option Moved
-move_elements e k items ts =
-    case (skip symbol.Comma ts) (λ us. wait_atom (atom.Element e items) form.Item e us) λ _.
+-- behind the last of these items of a set, which is bound as k says
+abbrev pub move_last_element : Limits → Binding → List Tree → List Token → Option Moved
+move_last_element e k items ts =
     case (skip symbol.DotDot ts) (λ us. move_range e k items us) λ _.
     case (skip symbol.Bar ts) (λ us. Some (next (form.Generators (generators_of.Comprehension items) []) e us)) λ _.
     end_atom symbol.CloseBrace (tree.Display items) ts
+
+-- behind these items of a set, the last of which is bound as k says
+abbrev pub move_elements : Limits → Binding → List Tree → List Token → Option Moved
+move_elements e k items ts = case (skip symbol.Comma ts) (λ us. wait_atom (atom.Element e items) form.Item e us) (λ _. move_last_element e k items ts)
 
 -- behind the first operand of an operator on sets
 abbrev pub resume_first_set : Limits → SetOp → Tree → List Token → Option Moved

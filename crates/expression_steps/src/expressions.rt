@@ -4,10 +4,10 @@ ghost use Rattle.std.specs.Prelude.{◌≡◌, ◌+◌, ◌*◌, ◌<◌, length
 ghost use Rattle.csp_text.specs.declared.tree.Tree.TheVariants as tree;
 ghost use Rattle.tree_reading.specs.Gives.{Gives};
 ghost use Rattle.tree_reading.specs.declared.read.Binding.TheVariants as bindings;
-ghost use Rattle.tree_steps.specs.declared.frame.Frame.TheVariants as frames;
-ghost use Rattle.tree_steps.specs.Expressions.{move_complement, move_expression, move_negative, move_operator, move_operators, move_renaming, move_sign, renaming_of, resume_expression};
-ghost use Rattle.tree_steps.specs.Moved.{moved, weight};
-ghost use Rattle.tree_steps.specs.Moved.Moved.{inner};
+ghost use Rattle.expression_steps.specs.declared.frame.Frame.TheVariants as frames;
+ghost use Rattle.expression_steps.specs.Expressions.{move_complement, move_expression, move_negative, move_operator, move_operators, move_renaming, move_sign, renaming_of, resume_expression};
+ghost use Rattle.expression_steps.specs.Moved.{moved, weight};
+ghost use Rattle.expression_steps.specs.Moved.Moved.{inner};
 
 use crate::form::{Form, PartOf, Renaming};
 use crate::frame::{ExpressionFrame, Frame};
@@ -23,14 +23,14 @@ use tree_reading::look::{Sign, sign_behind, skip, skip_word};
 use tree_reading::nodes::{binary, complement, negative};
 use tree_reading::read::Binding;
 
-/// A part of an expression is to be read, while this waits.
+// A part of an expression is to be read, while this waits.
 fn wait<'t>(frame: ExpressionFrame, form: Form, limits: Limits, tokens: &'t [Token]) -> Step<'t>
     ensures { moved result ≡ inner (frames.Expression frame) form limits tokens.now }
 {
     inner(Frame::Expression(frame), form, limits, tokens)
 }
 
-/// What stands behind `not`.
+// What stands behind `not`.
 fn complement_behind<'t>(
     limits: Limits,
     level: Binding,
@@ -45,7 +45,7 @@ fn complement_behind<'t>(
     Ok(wait(frame, Form::Expression(Binding::Complement), inside, tokens))
 }
 
-/// What stands behind `-` before an operand.
+// What stands behind `-` before an operand.
 fn negative_behind<'t>(
     limits: Limits,
     level: Binding,
@@ -61,7 +61,7 @@ fn negative_behind<'t>(
 }
 
 /// An expression whose operators outside brackets bind as tightly as the level, or tighter.
-pub(crate) fn expression<'t>(
+pub fn expression<'t>(
     limits: Limits,
     level: Binding,
     tokens: &'t [Token],
@@ -79,7 +79,7 @@ pub(crate) fn expression<'t>(
     Ok(wait(frame, Form::Atom, limits, tokens))
 }
 
-/// What stands behind an operand and an operator.
+// What stands behind an operand and an operator.
 fn operator_passed<'t>(
     limits: Limits,
     level: Binding,
@@ -97,7 +97,7 @@ fn operator_passed<'t>(
     Ok(wait(frame, form, inside, tokens))
 }
 
-/// What stands behind an operand and the bracket of a renaming.
+// What stands behind an operand and the bracket of a renaming.
 fn renaming_begun<'t>(
     alloc: Global,
     limits: Limits,
@@ -113,7 +113,7 @@ fn renaming_begun<'t>(
     Ok(next(Form::Part(PartOf::Old(renaming)), pairs, tokens))
 }
 
-/// What stands behind an operand and a sign.
+// What stands behind an operand and a sign.
 fn sign_passed<'t>(
     alloc: Global,
     limits: Limits,
@@ -131,7 +131,7 @@ fn sign_passed<'t>(
     }
 }
 
-/// A renaming of which no pair is read yet.
+// A renaming of which no pair is read yet.
 fn renaming_of(alloc: Global, limits: Limits, level: Binding, left: Boxed<Tree>) -> Renaming
     ensures { result ≡ renaming_of limits level left }
 {
@@ -143,7 +143,7 @@ fn renaming_of(alloc: Global, limits: Limits, level: Binding, left: Boxed<Tree>)
     }
 }
 
-/// What stands behind an operand that is bound like this.
+// What stands behind an operand that is bound like this.
 pub(crate) fn operators<'t>(
     alloc: Global,
     limits: Limits,
@@ -161,7 +161,7 @@ pub(crate) fn operators<'t>(
     }
 }
 
-/// `not` with its operand, and the operators behind it.
+// `not` with its operand, and the operators behind it.
 fn complement_ended<'t>(
     alloc: Global,
     limits: Limits,
@@ -176,7 +176,7 @@ fn complement_ended<'t>(
     operators(alloc, limits, level, Binding::Complement, whole, rest)
 }
 
-/// `-` with its operand, and the operators behind it.
+// `-` with its operand, and the operators behind it.
 fn negative_ended<'t>(
     alloc: Global,
     limits: Limits,
@@ -191,7 +191,7 @@ fn negative_ended<'t>(
     operators(alloc, limits, level, Binding::Negative, whole, rest)
 }
 
-/// An operator with its operands, and the operators behind it.
+// An operator with its operands, and the operators behind it.
 fn operator_ended<'t>(
     alloc: Global,
     whole: (Limits, Binding),
@@ -210,7 +210,7 @@ fn operator_ended<'t>(
 }
 
 /// An expression that waits, with the part that it waits for.
-pub(crate) fn resume_expression<'t>(
+pub fn resume_expression<'t>(
     alloc: Global,
     frame: ExpressionFrame,
     part: Boxed<Tree>,

@@ -11,7 +11,11 @@ use tree_reading::read::Binding;
 /// What waits while a part of it is read.
 #[derive(Drop)]
 pub enum Frame {
-    /// A process.
+    /// A side or an alphabet of a parallel.
+    Parallel(ParallelFrame),
+    /// An operand of a choice or of a hiding.
+    Choice(ChoiceFrame),
+    /// Another process.
     Process(ProcessFrame),
     /// A replicated form.
     Replicated(ReplicatedFrame),
@@ -25,9 +29,9 @@ pub enum Frame {
     List(ListFrame),
 }
 
-/// A process that waits.
+/// A parallel that waits.
 #[derive(Drop)]
-pub enum ProcessFrame {
+pub enum ParallelFrame {
     /// For the left side of a parallel or all of a tree, with the limits of the whole.
     LeftSide(Limits),
     /// For the left alphabet, with the limits of the sides and of the alphabets.
@@ -36,12 +40,22 @@ pub enum ProcessFrame {
     RightAlphabet(Limits, Boxed<Tree>, Boxed<Tree>),
     /// For the right side, behind the left side and the alphabets.
     RightSide(Boxed<Tree>, Boxed<Tree>, Boxed<Tree>),
+}
+
+/// A choice or a hiding that waits.
+#[derive(Drop)]
+pub enum ChoiceFrame {
     /// For the first operand of a choice or a hiding, or all of a side, with the limits of the whole.
     FirstOperand(Limits),
     /// For the next operand of a choice, behind these.
     Operand(Limits, Chain, Items<Tree>),
     /// For the set that is hidden in a process, with the limits of the whole.
     Hidden(Limits, Boxed<Tree>),
+}
+
+/// A sequence, a condition or a guard that waits.
+#[derive(Drop)]
+pub enum ProcessFrame {
     /// For the first process of a sequence or all of it, with the limits of the whole.
     FirstProcess(Limits),
     /// For what follows this process.
@@ -59,7 +73,7 @@ pub enum ProcessFrame {
 }
 
 /// The replicated forms.
-#[derive(Clone, Copy, Debug, PartialEq, Eq)]
+#[derive(Clone, Copy)]
 pub enum Replication {
     /// A choice.
     Choice(Chain),

@@ -1,12 +1,13 @@
 //! Parts, which are names with fields that have a dot, and generators.
 
-ghost use Rattle.std.specs.Prelude.{◌≡◌, ◌+◌, ◌*◌, ◌<◌, length, IfOk, [], ◌∷◌, ◌++◌};
+ghost use Rattle.std.specs.Prelude.{◌≡◌, ◌+◌, ◌*◌, ◌<◌, length, IfOk, Some, [], ◌∷◌, ◌++◌};
 ghost use Rattle.tree_reading.specs.Gives.{Gives};
-ghost use Rattle.tree_steps.specs.declared.frame.Frame.TheVariants as frames;
-ghost use Rattle.tree_steps.specs.Lists.{close_renaming, end_comprehension, end_generators, end_item, end_old, end_pair, end_part, end_product, end_product_part, end_renaming, move_condition, move_conditions, move_dots, move_generator, move_generators, move_part, resume_list, with_pair};
-ghost use Rattle.tree_steps.specs.Moved.{moved, weight};
-ghost use Rattle.tree_steps.specs.Moved.Moved.{inner};
+ghost use Rattle.expression_steps.specs.declared.frame.Frame.TheVariants as frames;
+ghost use Rattle.expression_steps.specs.Lists.{close_renaming, end_comprehension, end_generators, end_item, end_old, end_pair, end_pairs, end_part, end_product, end_product_part, end_product_parts, end_renaming, move_condition, move_conditions, move_dots, move_generator, move_generators, move_part, move_source, resume_list, with_pair};
+ghost use Rattle.expression_steps.specs.Moved.{moved, weight};
+ghost use Rattle.expression_steps.specs.Moved.Moved.{inner};
 
+use crate::atoms::closed;
 use crate::expressions::operators;
 use crate::form::{Form, GeneratorsOf, PartOf, Renaming};
 use crate::frame::{Frame, ListFrame};
@@ -21,14 +22,14 @@ use tree_reading::look::{expect, expect_name, named, skip};
 use tree_reading::nodes::{comprehension, expect_fields, production, renamed};
 use tree_reading::read::Binding;
 
-/// A part of a list is to be read, while this waits.
+// A part of a list is to be read, while this waits.
 fn wait<'t>(frame: ListFrame, form: Form, limits: Limits, tokens: &'t [Token]) -> Step<'t>
     ensures { moved result ≡ inner (frames.List frame) form limits tokens.now }
 {
     inner(Frame::List(frame), form, limits, tokens)
 }
 
-/// A renaming with all its generators, whose bracket is passed, and the operators behind it.
+// A renaming with all its generators, whose bracket is passed, and the operators behind it.
 fn renaming_ended<'t>(
     alloc: Global,
     renaming: Renaming,
@@ -48,7 +49,7 @@ fn renaming_ended<'t>(
     operators(alloc, limits, level, Binding::Renaming, whole, tokens)
 }
 
-/// A comprehension with all its generators.
+// A comprehension with all its generators.
 fn comprehension_ended<'t>(
     alloc: Global,
     items: Items<Tree>,
@@ -58,12 +59,11 @@ fn comprehension_ended<'t>(
     ensures moves { Gives result moved (end_comprehension items generators tokens.now) }
     ensures falls { IfOk result (λ s. weight (moved s) < 32 * length tokens.now + 33) }
 {
-    let rest = expect(tokens, Symbol::CloseBrace)?;
     let part = comprehension(alloc, items, generators)?;
-    Ok(found(Binding::Atom, part, rest))
+    closed(Symbol::CloseBrace, part, tokens)
 }
 
-/// A production with all its generators.
+// A production with all its generators.
 fn product_ended<'t>(
     alloc: Global,
     parts: Items<PartTree>,
@@ -73,12 +73,11 @@ fn product_ended<'t>(
     ensures moves { Gives result moved (end_product parts generators tokens.now) }
     ensures falls { IfOk result (λ s. weight (moved s) < 32 * length tokens.now + 33) }
 {
-    let rest = expect(tokens, Symbol::CloseProduct)?;
     let part = production(alloc, parts, generators)?;
-    Ok(found(Binding::Atom, part, rest))
+    closed(Symbol::CloseProduct, part, tokens)
 }
 
-/// A renaming with all its generators.
+// A renaming with all its generators.
 fn renaming_closed<'t>(
     alloc: Global,
     renaming: Renaming,
@@ -88,11 +87,17 @@ fn renaming_closed<'t>(
     ensures moves { Gives result moved (close_renaming renaming generators tokens.now) }
     ensures falls { IfOk result (λ s. weight (moved s) < 32 * length tokens.now + 33) }
 {
-    let rest = expect(tokens, Symbol::CloseRename)?;
-    renaming_ended(alloc, renaming, generators, rest)
+    match expect(tokens, Symbol::CloseRename) {
+        Ok(rest) => renaming_ended(alloc, renaming, generators, rest),
+        Err(fault) => {
+            drop(renaming);
+            drop(generators);
+            Err(fault)
+        }
+    }
 }
 
-/// What generators belong to, with all of them.
+// What generators belong to, with all of them.
 fn generators_ended<'t>(
     alloc: Global,
     of: GeneratorsOf,
@@ -109,7 +114,7 @@ fn generators_ended<'t>(
     }
 }
 
-/// What stands behind parts or pairs: generators, or none.
+// What stands behind parts or pairs: generators, or none.
 fn conditions<'t>(
     alloc: Global,
     limits: Limits,
@@ -126,8 +131,50 @@ fn conditions<'t>(
     }
 }
 
+// A condition behind these generators is to be read.
+fn condition<'t>(
+    limits: Limits,
+    of: GeneratorsOf,
+    before: Items<GenTree>,
+    tokens: &'t [Token],
+) -> Step<'t>
+    ensures { Some (moved result) ≡ move_condition limits of before tokens.now }
+{
+    let frame = ListFrame::Condition(limits, of, before);
+    wait(
+        frame,
+        Form::Expression(Binding::Disjunction),
+        limits,
+        tokens,
+    )
+}
+
+// A generator of this name, whose arrow is passed, behind these generators.
+fn source<'t>(
+    alloc: Global,
+    limits: Limits,
+    of: GeneratorsOf,
+    before: Items<GenTree>,
+    name: &Name,
+    tokens: &'t [Token],
+) -> Result<Step<'t>, ReadFault>
+    ensures moves { Gives result moved (move_source limits of before name.now tokens.now) }
+    ensures falls { IfOk result (λ s. weight (moved s) < 32 * length tokens.now + 4) }
+{
+    match name.try_clone(alloc) {
+        Ok(name) => {
+            let frame = ListFrame::Source(limits, of, before, name);
+            Ok(wait(frame, Form::Atom, limits, tokens))
+        }
+        Err(_) => {
+            drop(of);
+            Err(ReadFault::NoMemory)
+        }
+    }
+}
+
 /// A generator or a condition, behind these generators.
-pub(crate) fn generators<'t>(
+pub fn generators<'t>(
     alloc: Global,
     limits: Limits,
     of: GeneratorsOf,
@@ -137,21 +184,16 @@ pub(crate) fn generators<'t>(
     ensures moves { Gives result moved (move_generators limits of before tokens.now) }
     ensures falls { IfOk result (λ s. weight (moved s) < 32 * length tokens.now + 7) }
 {
-    let condition = Form::Expression(Binding::Disjunction);
     let Some((name, arrow)) = named(tokens) else {
-        let frame = ListFrame::Condition(limits, of, before);
-        return Ok(wait(frame, condition, limits, tokens));
+        return Ok(condition(limits, of, before, tokens));
     };
     let Some(behind) = skip(arrow, Symbol::LeftArrow) else {
-        let frame = ListFrame::Condition(limits, of, before);
-        return Ok(wait(frame, condition, limits, tokens));
+        return Ok(condition(limits, of, before, tokens));
     };
-    let name = name.try_clone(alloc)?;
-    let frame = ListFrame::Source(limits, of, before, name);
-    Ok(wait(frame, Form::Atom, limits, behind))
+    source(alloc, limits, of, before, name, behind)
 }
 
-/// What stands behind these generators.
+// What stands behind these generators.
 fn behind_generator<'t>(
     alloc: Global,
     limits: Limits,
@@ -168,7 +210,7 @@ fn behind_generator<'t>(
     }
 }
 
-/// The renaming with one more pair.
+// The renaming with one more pair.
 fn with_pair(renaming: Renaming, old: PartTree, new: PartTree) -> Result<Renaming, NoMemory>
     ensures { IfOk result (λ r. r ≡ with_pair renaming old new) }
 {
@@ -177,7 +219,23 @@ fn with_pair(renaming: Renaming, old: PartTree, new: PartTree) -> Result<Renamin
     Ok(renaming)
 }
 
-/// What stands behind a part of a production.
+// What stands behind these parts of a production.
+fn behind_parts<'t>(
+    alloc: Global,
+    limits: Limits,
+    parts: Items<PartTree>,
+    tokens: &'t [Token],
+) -> Result<Step<'t>, ReadFault>
+    ensures moves { Gives result moved (end_product_parts limits parts tokens.now) }
+    ensures falls { IfOk result (λ s. weight (moved s) < 32 * length tokens.now + 33) }
+{
+    match skip(tokens, Symbol::Comma) {
+        Some(behind) => Ok(next(Form::Part(PartOf::Product(parts)), limits, behind)),
+        None => conditions(alloc, limits, GeneratorsOf::Product(parts), tokens),
+    }
+}
+
+// What stands behind a part of a production.
 fn behind_product<'t>(
     alloc: Global,
     limits: Limits,
@@ -190,13 +248,26 @@ fn behind_product<'t>(
 {
     let mut parts = parts;
     parts.push(part)?;
+    behind_parts(alloc, limits, parts, tokens)
+}
+
+// What stands behind the pairs of a renaming.
+fn behind_pairs<'t>(
+    alloc: Global,
+    limits: Limits,
+    renaming: Renaming,
+    tokens: &'t [Token],
+) -> Result<Step<'t>, ReadFault>
+    ensures moves { Gives result moved (end_pairs limits renaming tokens.now) }
+    ensures falls { IfOk result (λ s. weight (moved s) < 32 * length tokens.now + 33) }
+{
     match skip(tokens, Symbol::Comma) {
-        Some(behind) => Ok(next(Form::Part(PartOf::Product(parts)), limits, behind)),
-        None => conditions(alloc, limits, GeneratorsOf::Product(parts), tokens),
+        Some(behind) => Ok(next(Form::Part(PartOf::Old(renaming)), limits, behind)),
+        None => conditions(alloc, limits, GeneratorsOf::Renaming(renaming), tokens),
     }
 }
 
-/// What stands behind a pair of a renaming.
+// What stands behind a pair of a renaming.
 fn behind_pair<'t>(
     alloc: Global,
     limits: Limits,
@@ -209,13 +280,10 @@ fn behind_pair<'t>(
     ensures falls { IfOk result (λ s. weight (moved s) < 32 * length tokens.now + 33) }
 {
     let renaming = with_pair(renaming, old, new)?;
-    match skip(tokens, Symbol::Comma) {
-        Some(behind) => Ok(next(Form::Part(PartOf::Old(renaming)), limits, behind)),
-        None => conditions(alloc, limits, GeneratorsOf::Renaming(renaming), tokens),
-    }
+    behind_pairs(alloc, limits, renaming, tokens)
 }
 
-/// A dotted event.
+// A dotted event.
 fn item_ended<'t>(
     alloc: Global,
     name: Name,
@@ -229,7 +297,7 @@ fn item_ended<'t>(
     Ok(found(Binding::Dotted, event, tokens))
 }
 
-/// What stands behind the left side of a pair.
+// What stands behind the left side of a pair.
 fn behind_old<'t>(
     limits: Limits,
     renaming: Renaming,
@@ -239,11 +307,17 @@ fn behind_old<'t>(
     ensures moves { Gives result moved (end_old limits renaming old tokens.now) }
     ensures falls { IfOk result (λ s. weight (moved s) < 32 * length tokens.now + 33) }
 {
-    let behind = expect(tokens, Symbol::LeftArrow)?;
-    Ok(next(Form::Part(PartOf::New(renaming, old)), limits, behind))
+    let form = Form::Part(PartOf::New(renaming, old));
+    match expect(tokens, Symbol::LeftArrow) {
+        Ok(behind) => Ok(next(form, limits, behind)),
+        Err(fault) => {
+            drop(form);
+            Err(fault)
+        }
+    }
 }
 
-/// What a part belongs to, with it.
+// What a part belongs to, with it.
 fn part_ended<'t>(
     alloc: Global,
     limits: Limits,
@@ -274,7 +348,7 @@ fn part_ended<'t>(
     }
 }
 
-/// What stands behind the name of a part and these fields.
+// What stands behind the name of a part and these fields.
 fn dots<'t>(
     alloc: Global,
     limits: Limits,
@@ -294,7 +368,7 @@ fn dots<'t>(
 }
 
 /// A name with fields that have a dot.
-pub(crate) fn part<'t>(
+pub fn part<'t>(
     alloc: Global,
     limits: Limits,
     of: PartOf,
@@ -303,11 +377,16 @@ pub(crate) fn part<'t>(
     ensures moves { Gives result moved (move_part limits of tokens.now) }
     ensures falls { IfOk result (λ s. weight (moved s) < 32 * length tokens.now + 1) }
 {
-    let (name, rest) = expect_name(alloc, tokens)?;
-    dots(alloc, limits, of, name, Items::new(alloc), rest)
+    match expect_name(alloc, tokens) {
+        Ok((name, rest)) => dots(alloc, limits, of, name, Items::new(alloc), rest),
+        Err(fault) => {
+            drop(of);
+            Err(fault)
+        }
+    }
 }
 
-/// What stands behind these fields of a part and the next one.
+// What stands behind these fields of a part and the next one.
 fn behind_dot<'t>(
     alloc: Global,
     limits: Limits,
@@ -321,11 +400,16 @@ fn behind_dot<'t>(
     ensures falls { IfOk result (λ s. weight (moved s) < 32 * length rest.now + 34) }
 {
     let mut fields = before;
-    fields.push(field.into_inner())?;
-    dots(alloc, limits, of, name, fields, rest)
+    match fields.push(field.into_inner()) {
+        Ok(()) => dots(alloc, limits, of, name, fields, rest),
+        Err(_) => {
+            drop(of);
+            Err(ReadFault::NoMemory)
+        }
+    }
 }
 
-/// What stands behind these generators and the next one.
+// What stands behind these generators and the next one.
 fn behind_next<'t>(
     alloc: Global,
     limits: Limits,
@@ -338,12 +422,17 @@ fn behind_next<'t>(
     ensures falls { IfOk result (λ s. weight (moved s) < 32 * length rest.now + 34) }
 {
     let mut generators = before;
-    generators.push(generator)?;
-    behind_generator(alloc, limits, of, generators, rest)
+    match generators.push(generator) {
+        Ok(()) => behind_generator(alloc, limits, of, generators, rest),
+        Err(_) => {
+            drop(of);
+            Err(ReadFault::NoMemory)
+        }
+    }
 }
 
 /// A part or a generator that waits, with what it waits for.
-pub(crate) fn resume_list<'t>(
+pub fn resume_list<'t>(
     alloc: Global,
     frame: ListFrame,
     part: Boxed<Tree>,

@@ -1,0 +1,5 @@
+pub mod Atoms
+pub mod Expressions
+pub mod Lists
+pub mod Moved
+pub mod Nesting

@@ -1,0 +1,115 @@
+//! One step of the reading.
+
+ghost use Rattle.std.specs.Prelude.{◌≡◌, ◌+◌, ◌≤◌, IfOk};
+ghost use Rattle.tree_reading.specs.Gives.{Gives};
+ghost use Rattle.expression_steps.specs.Moved.{inner_behind, inner_behind_word, moved, pending_weight, weight};
+ghost use Rattle.expression_steps.specs.Moved.Moved.{found, inner, next};
+
+use crate::form::Form;
+use crate::frame::Frame;
+use containers::Boxed;
+use csp_text::{Symbol, Token, Tree, Word};
+use tree_reading::fault::ReadFault;
+use tree_reading::limits::Limits;
+use tree_reading::look::{expect, expect_word};
+use tree_reading::read::{Binding, BoundRead};
+
+/// What is to be read next, within limits, from the front of tokens.
+#[derive(Drop)]
+pub struct Pending<'t> {
+    /// What it is.
+    pub form: Form,
+    /// The limits.
+    pub limits: Limits,
+    /// The tokens.
+    pub tokens: &'t [Token],
+}
+
+/// What comes of one step of the reading.
+#[derive(Drop)]
+pub enum Step<'t> {
+    /// The form is read.
+    Found(BoundRead<'t, Boxed<Tree>>),
+    /// A part of it is to be read, while the rest waits.
+    Inner(Frame, Pending<'t>),
+    /// What is left of it is to be read in its place.
+    Next(Pending<'t>),
+}
+
+/// A tree that is read, in front of the tokens that are left.
+pub fn found<'t>(binding: Binding, part: Boxed<Tree>, rest: &'t [Token]) -> Step<'t>
+    ensures { moved result ≡ found (binding, part, rest.now) }
+{
+    Step::Found(BoundRead {
+        binding,
+        part,
+        rest,
+    })
+}
+
+/// The form is to be read, while this waits.
+pub fn inner<'t>(frame: Frame, form: Form, limits: Limits, tokens: &'t [Token]) -> Step<'t>
+    ensures { moved result ≡ inner frame form limits tokens.now }
+{
+    Step::Inner(
+        frame,
+        Pending {
+            form,
+            limits,
+            tokens,
+        },
+    )
+}
+
+/// Behind the symbol, which has to stand at the front, the form is to be read, while this waits.
+pub fn inner_behind<'t>(
+    symbol: Symbol,
+    frame: Frame,
+    form: Form,
+    limits: Limits,
+    tokens: &'t [Token],
+) -> Result<Step<'t>, ReadFault>
+    ensures moves { Gives result moved (inner_behind symbol frame form limits tokens.now) }
+    ensures falls { IfOk result (λ s. weight (moved s) + 30 ≤ pending_weight form tokens.now) }
+{
+    match expect(tokens, symbol) {
+        Ok(behind) => Ok(inner(frame, form, limits, behind)),
+        Err(fault) => {
+            drop(frame);
+            drop(form);
+            Err(fault)
+        }
+    }
+}
+
+/// Behind the word, which has to stand at the front, the form is to be read, while this waits.
+pub fn inner_behind_word<'t>(
+    word: Word,
+    frame: Frame,
+    form: Form,
+    limits: Limits,
+    tokens: &'t [Token],
+) -> Result<Step<'t>, ReadFault>
+    ensures moves { Gives result moved (inner_behind_word word frame form limits tokens.now) }
+    ensures falls { IfOk result (λ s. weight (moved s) + 30 ≤ pending_weight form tokens.now) }
+{
+    match expect_word(tokens, word) {
+        Ok(behind) => Ok(inner(frame, form, limits, behind)),
+        Err(fault) => {
+            drop(frame);
+            drop(form);
+            Err(fault)
+        }
+    }
+}
+
+/// The form is to be read in place of what was begun.
+pub fn next<'t>(form: Form, limits: Limits, tokens: &'t [Token]) -> Step<'t>
+    ensures { moved result ≡ next form limits tokens.now }
+{
+    Step::Next(Pending {
+        form,
+        limits,
+        tokens,
+    })
+}
