@@ -1,11 +1,5 @@
 pub mod Behaviour
 pub mod BreadthFirst
-pub mod ClientServer
-pub mod ClientServerRanks
-pub mod Count
-pub mod Cyclic
-pub mod CyclicNumbers
-pub mod CyclicRanks
 pub mod Falls
 pub mod Flat
 pub mod Form
@@ -21,9 +15,6 @@ pub mod Path
 pub mod Ranking
 pub mod RawForm
 pub mod RawTable
-pub mod Resource
-pub mod ResourceNumbers
-pub mod ResourceRanks
 pub mod Roles
 pub mod Shape
 pub mod SilentBound

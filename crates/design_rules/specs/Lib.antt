@@ -1,0 +1,14 @@
+pub mod ClientServer
+pub mod ClientServerLaws
+pub mod ClientServerRanks
+pub mod Counts
+pub mod Cyclic
+pub mod CyclicLaws
+pub mod CyclicNumbers
+pub mod CyclicRanks
+pub mod Example
+pub mod Live
+pub mod Resource
+pub mod ResourceLaws
+pub mod ResourceNumbers
+pub mod ResourceRanks

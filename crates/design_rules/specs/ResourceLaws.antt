@@ -1,0 +1,19 @@
+-- The ranking of a network of users and resources is good.
+--
+-- A resource's shared events are, in turn, to be acquired on some link and to be released on the same one. So a link has had an
+-- odd number of events exactly where the resource is held on it. Let i ask j for an event of their link, and let nothing of it
+-- be granted. If i is a user that offers to acquire j, then j is not free, since a free resource accepts each acquisition; its
+-- rank is below that of the user, whose least number is not above j's. If i offers to release j, then j is held by it and
+-- accepts that: a contradiction. If i is a free resource, its rank is above all. If it is held, j holds it, so j offers to
+-- acquire only what is numbered above, and its rank is lower.
+use Rattle.std.specs.Prelude.{ℕ, List}
+use Rattle.csp_tables.specs.Part.{alphabets_of, TripleDisjoint}
+use Rattle.csp_tables.specs.Shape.{Shape, IsWellFormed}
+use Rattle.csp_tables.specs.Roles.{UseSets}
+use Rattle.design_rules.specs.Resource.{AreUses, NumbersRise}
+use Rattle.design_rules.specs.ResourceRanks.{AreResourceRanks}
+use Rattle.csp_tables.specs.Ranking.{Ranking}
+use Rattle.csp_tables.specs.Falls.{Falls}
+
+abbrev pub ResourceRanksFall : Type 0
+ResourceRanksFall = (shape : Shape) (uses : List UseSets) (number : ℕ → ℕ) (top : ℕ) (ranking : Ranking) → IsWellFormed shape → TripleDisjoint (alphabets_of shape.parts) → AreUses shape uses → NumbersRise shape uses number → AreResourceRanks shape uses number top ranking → Falls shape.parts ranking
