@@ -8,34 +8,35 @@ use Rattle.std.proofs.Math.Nat.{div-eq_of_lt, mod-eq_of_lt}
 use Rattle.csp_base.specs.Members.{has}
 use Rattle.design_rules.specs.Counts.{count_in, above_all}
 use Rattle.csp_tables.specs.Table.{IsRun, end_of}
-use Rattle.csp_tables.specs.Part.{part_at}
+use Rattle.csp_tables.specs.Part.{part_at, Meet}
+use Rattle.csp_tables.specs.Trace.{IsWithin}
 use Rattle.csp_tables.specs.Shape.{Shape, Joins, link_at, is_end, IsWellFormed}
-use Rattle.csp_tables.specs.Standing.{RunsTo, IsPossible, accepted, IsOn}
-use Rattle.design_rules.specs.Cyclic.{links_of, place_of, IsNext, KeepsOrder, ReachedLinksDiffer, IsFullEnd, HasFullEnds}
-use Rattle.design_rules.specs.CyclicRanks.{AreCyclicRanks, ends_lap}
+use Rattle.csp_tables.specs.Standing.{RunsTo, IsPossible, Accepts, accepted, IsOn}
+use Rattle.design_rules.specs.Cyclic.{links_of, IsWholeEnd, HasWholeEnd}
+use Rattle.design_rules.specs.CyclicNumbered.{IsNext, KeepsOrder}
+use Rattle.design_rules.specs.CyclicRanking.{place_of, AreCyclicRanks, ends_lap}
 use Rattle.csp_tables.specs.Ranking.{Ranking, part_ranks, rank_after, laps_from}
-use Rattle.csp_tables.specs.Falls.{lead}
+use Rattle.csp_tables.specs.Falls.{lead, Falls}
 use Rattle.net_sound.proofs.Within.{part_form}
-use Rattle.design_rules.specs.CyclicLaws.{CyclicRanksFall, NumberedRanksFall}
 use Rattle.design_rules.proofs.Counts.{count_strict, below_all, count_push_more, count_push_same, lap_over, lap_on}
 use Rattle.design_rules.proofs.Runs.{possible_after, run_induction, laps_push, possible_within}
 use Rattle.design_rules.proofs.Shapes.{turned, first_end, link_shared, some_link, link_events, own_run, own_end, Request, request}
 
 -- ---- places
 
-earlier_place : (shape : Shape) (number : ℕ → ℕ) (i l m : ℕ) → l < length shape.links → IsTrue (is_end shape i l) → number l < number m → place_of shape number i l < place_of shape number i m
+pub earlier_place : (shape : Shape) (number : ℕ → ℕ) (i l m : ℕ) → l < length shape.links → IsTrue (is_end shape i l) → number l < number m → place_of shape number i l < place_of shape number i m
 earlier_place shape number i l m h end less =
     count_strict (λ x. is_end shape i x && nat_lt (number x) (number l)) (λ x. is_end shape i x && nat_lt (number x) (number m)) (length shape.links) l
     (λ x _ k. let p = and_parts (is_end shape i x) (nat_lt (number x) (number l)) k in let lt : number x < number l = ltb-true (number x) (number l) p.1 in and_from _ _ p.0 (lt-ltb (number x) (number m) (omega arith)))
     h (and_right (is_end shape i l) (nat_lt (number l) (number l)) (le-ltb (number l) (number l) (omega arith))) (and_from _ _ end (lt-ltb (number l) (number m) less))
 
-place_below : (shape : Shape) (number : ℕ → ℕ) (i l : ℕ) → l < length shape.links → IsTrue (is_end shape i l) → place_of shape number i l < links_of shape i
+pub place_below : (shape : Shape) (number : ℕ → ℕ) (i l : ℕ) → l < length shape.links → IsTrue (is_end shape i l) → place_of shape number i l < links_of shape i
 place_below shape number i l h end =
     count_strict (λ x. is_end shape i x && nat_lt (number x) (number l)) (λ x. is_end shape i x) (length shape.links) l
     (λ x _ k. (and_parts (is_end shape i x) (nat_lt (number x) (number l)) k).0)
     h (and_right (is_end shape i l) (nat_lt (number l) (number l)) (le-ltb (number l) (number l) (omega arith))) end
 
-places_differ : (shape : Shape) (number : ℕ → ℕ) (i l m : ℕ) → l < length shape.links → m < length shape.links → IsTrue (is_end shape i l) → IsTrue (is_end shape i m) → (number l ≡ number m → ⊥) → place_of shape number i l ≡ place_of shape number i m → ⊥
+pub places_differ : (shape : Shape) (number : ℕ → ℕ) (i l m : ℕ) → l < length shape.links → m < length shape.links → IsTrue (is_end shape i l) → IsTrue (is_end shape i m) → (number l ≡ number m → ⊥) → place_of shape number i l ≡ place_of shape number i m → ⊥
 places_differ shape number i l m h k x y ne same =
     elim (cases_order (number l) (number m)) [
       | inl e ↦ ne e
@@ -114,17 +115,22 @@ balanced_none k p below =
     let none : passed p (0 % k) ≡ 0 = passed_no p (0 % k) (let r : 0 % k ≡ 0 = d.1 in omega arith) in
     omega (arith, q, none)
 
--- what is used of the conditions on links
-record Ordered (shape : Shape) (number : ℕ → ℕ) : Type 0 where
-  form : IsWellFormed shape
-  differ : ReachedLinksDiffer shape number
-  order : KeepsOrder shape number
+-- Of two links of a part that have the same number, it reaches neither.
+abbrev pub ReachedLinksDiffer : Shape → (ℕ → ℕ) → Type 0
+ReachedLinksDiffer shape number = (i l m : ℕ) (s : List ℕ) (e : ℕ) → IsPossible shape i s e → IsOn shape i l e → m < length shape.links → IsTrue (is_end shape i m) → (l ≡ m → ⊥) → number l ≡ number m → ⊥
+
+-- what is used of the rule
+pub record Ordered (shape : Shape) (number : ℕ → ℕ) : Type 0 where
+  pub form : IsWellFormed shape
+  pub differ : ReachedLinksDiffer shape number
+  pub order : KeepsOrder shape number
+  pub whole : (l : ℕ) → l < length shape.links → HasWholeEnd shape l
 
 possible_at : (shape : Shape) (i : ℕ) (u : List ℕ) (e : ℕ) → i < length shape.parts → IsRun (part_at shape.parts i).table u → IsTrue (possible_after (part_at shape.parts i).table u e) → IsPossible shape i u e
 possible_at shape i u e h r possible = record { runs = record { part = h; follows = r }; next = possible }
 
 -- a possible shared event lies on the link that is next
-next_link : (shape : Shape) (number : ℕ → ℕ) (i : ℕ) (u : List ℕ) (e : ℕ) → Ordered shape number → IsPossible shape i u e → IsTrue (has shape.vocabulary e) → (l : ℕ) × IsOn shape i l e × IsNext shape number i u l
+pub next_link : (shape : Shape) (number : ℕ → ℕ) (i : ℕ) (u : List ℕ) (e : ℕ) → Ordered shape number → IsPossible shape i u e → IsTrue (has shape.vocabulary e) → (l : ℕ) × IsOn shape i l e × IsNext shape number i u l
 next_link shape number i u e o possible v =
     let owned = possible_within (part_at shape.parts i) (end_of (part_at shape.parts i).table 0 u) e (part_form shape.parts i possible.runs.part o.form.form) possible.next in
     let l = some_link shape i e o.form possible.runs.part owned v in
@@ -210,25 +216,33 @@ laps_are shape number ranking i o r some s run =
 
 -- ---- a request
 
--- where both have the link next, one end has all its events
-clash : (shape : Shape) (number : ℕ → ℕ) (s : List ℕ) (i j k l : ℕ) → HasFullEnds shape number → (r : Request shape s i j k l) → IsNext shape number i (own_run shape s i) r.link → IsNext shape number j (own_run shape s j) r.link → (f : ℕ) → IsTrue (has (accepted shape j (own_run shape s j) l) f) → IsTrue (has (link_at shape r.link).shared f) → ⊥
-clash shape number s i j k l full r ni nj f standing on =
-    elim (full r.link r.joins.within) [
+-- an acceptance of a whole end that meets the link has all of its events
+pub whole_has : (shape : Shape) (l i : ℕ) (s : List ℕ) (k : ℕ) → IsWholeEnd shape l i → Accepts shape i s k → Meet (accepted shape i s k) (link_at shape l).shared → IsWithin (link_at shape l).shared (accepted shape i s k)
+whole_has shape l i s k whole a meets e on =
+    elim (cases_Bool (has (accepted shape i s k) e)) [
+      | inl there ↦ there
+      | inr lacks ↦ absurd (whole s (record { place = k; accepts = a; meets = meets; missing = e; on = on; lacks = lacks }))
+    ]
+
+-- where both acceptances meet the link, one has all its events
+clash : (shape : Shape) (s : List ℕ) (i j k l : ℕ) (r : Request shape s i j k l) → HasWholeEnd shape r.link → (f : ℕ) → IsTrue (has (accepted shape j (own_run shape s j) l) f) → IsTrue (has (link_at shape r.link).shared f) → ⊥
+clash shape s i j k l r whole f standing on =
+    elim whole [
       | inl left ↦ elim r.joins.ends [
-        | inl e ↦ at_here (subst (IsFullEnd shape number r.link) e.0 left)
-        | inr e ↦ at_there (subst (IsFullEnd shape number r.link) e.0 left)
+        | inl e ↦ at_here (subst (IsWholeEnd shape r.link) e.0 left)
+        | inr e ↦ at_there (subst (IsWholeEnd shape r.link) e.0 left)
       ]
       | inr right ↦ elim r.joins.ends [
-        | inl e ↦ at_there (subst (IsFullEnd shape number r.link) e.1 right)
-        | inr e ↦ at_here (subst (IsFullEnd shape number r.link) e.1 right)
+        | inl e ↦ at_there (subst (IsWholeEnd shape r.link) e.1 right)
+        | inr e ↦ at_here (subst (IsWholeEnd shape r.link) e.1 right)
       ]
     ]
   where
-    at_here : IsFullEnd shape number r.link i → ⊥
-    at_here whole = r.apart f (whole (own_run shape s i) k r.here.accepts ni f on) standing
+    at_here : IsWholeEnd shape r.link i → ⊥
+    at_here end = r.apart f (whole_has shape r.link i (own_run shape s i) k end r.here.accepts (record { event = r.event; first = r.asked; second = r.on_here.event }) f on) standing
 
-    at_there : IsFullEnd shape number r.link j → ⊥
-    at_there whole = r.apart r.event r.asked (whole (own_run shape s j) l r.there.accepts nj r.event r.on_here.event)
+    at_there : IsWholeEnd shape r.link j → ⊥
+    at_there end = r.apart r.event r.asked (whole_has shape r.link j (own_run shape s j) l end r.there.accepts (record { event = f; first = standing; second = on }) r.event r.on_here.event)
 
 no_lead : (a b : ℕ) → a ≡ b → pos a -ℤ pos b ≡ pos 0
 no_lead a b e = ap (λ x. pos x -ℤ pos b) e ∙ +ℤ_invr (pos b)
@@ -268,12 +282,11 @@ numbers shape number ranking s i j l o r joins ri rj next =
     let none : passed (place_of shape number i l) (shared_in shape (own_run shape s i) % links_of shape i) ≡ 0 = passed_no (place_of shape number i l) (shared_in shape (own_run shape s i) % links_of shape i) (omega arith) in
     record { behind = omega (arith, bi, bj, li, lj, none, link_events shape i l s o.form h ei, link_events shape j l s o.form h ej) }
 
-pub cyclic_ranks_fall : CyclicRanksFall
-cyclic_ranks_fall shape number ranking w differ order full ranks s i j k l u =
-    let r = request shape s i j k l w u in
-    let o : Ordered shape number = record { form = w; differ = differ; order = order } in
+pub ordered_ranks_fall : (shape : Shape) (number : ℕ → ℕ) (ranking : Ranking) → Ordered shape number → AreCyclicRanks shape number ranking → Falls shape.parts ranking
+ordered_ranks_fall shape number ranking o ranks s i j k l u =
+    let r = request shape s i j k l o.form u in
     let ej = first_end shape j i r.link (turned shape i j r.link r.joins) in
-    let ni = order i r.link (own_run shape s i) r.event (r.here.possible r.event r.asked) r.on_here in
+    let ni = o.order i r.link (own_run shape s i) r.event (r.here.possible r.event r.asked) r.on_here in
     let f = r.there.vertex.some in
     let possible = r.there.possible f.0 f.1 in
     let x = next_link shape number j (own_run shape s j) f.0 o possible (r.there.accepts.shared f.0 f.1) in
@@ -282,10 +295,10 @@ cyclic_ranks_fall shape number ranking w differ order full ranks s i j k l u =
     let rank_j = ranks.ranks j (own_end shape s j) l x.0 r.there.vertex x.1.within x.1.end (record { event = f.0; first = f.1; second = x.1.event }) in
     let above : number x.0 < above_all number (length shape.links) = below_all number (length shape.links) x.0 x.1.within in
     elim (cases_eq x.0 r.link) [
-      | inl same ↦ absurd (clash shape number s i j k l full r ni (subst (IsNext shape number j (own_run shape s j)) same x.2) f.0 f.1 (subst (λ m. IsTrue (has (link_at shape m).shared f.0)) same x.1.event))
+      | inl same ↦ absurd (clash shape s i j k l r (o.whole r.link r.joins.within) f.0 f.1 (subst (λ m. IsTrue (has (link_at shape m).shared f.0)) same x.1.event))
       | inr other ↦
           with_ranks (rank_after ranking i (part_at shape.parts i) s k) (rank_after ranking j (part_at shape.parts j) s l) ranking.scale (lead shape.parts ranking s i j) (number r.link) (number x.0) (above_all number (length shape.links)) rank_i rank_j ranks.scale
-          (by_order shape number ranking s i j r.link x.0 r.joins.within x.1.within ej x.1.end x.2 (differ j x.0 r.link (own_run shape s j) f.0 possible x.1 r.joins.within ej other) above n)
+          (by_order shape number ranking s i j r.link x.0 r.joins.within x.1.within ej x.1.end x.2 (o.differ j x.0 r.link (own_run shape s j) f.0 possible x.1 r.joins.within ej other) above n)
     ]
   where
     by_order : (shape : Shape) (number : ℕ → ℕ) (ranking : Ranking) (s : List ℕ) (i j l m : ℕ) → l < length shape.links → m < length shape.links → IsTrue (is_end shape j l) → IsTrue (is_end shape j m) → IsNext shape number j (own_run shape s j) m → (number m ≡ number l → ⊥) → number m < above_all number (length shape.links) → Numbers shape number ranking s i j l → pos (number m) <ℤ (pos (number l) +ℤ (pos (above_all number (length shape.links)) *ℤ lead shape.parts ranking s i j))
@@ -303,7 +316,3 @@ cyclic_ranks_fall shape number ranking w differ order full ranks s i j k l u =
                 lap_ahead (number l) (number m) (above_all number (length shape.links)) (laps_in shape ranking i (own_run shape s i)) (laps_in shape ranking j (own_run shape s j)) above (omega (arith, n.behind, past))
           ]
         ]
-
-pub numbered_ranks_fall : NumberedRanksFall
-numbered_ranks_fall shape rule ranking w ranks =
-    cyclic_ranks_fall shape rule.number ranking w (λ i l m s e possible on h end ne same. rule.differ i l m on.within h on.end end ne same) rule.order rule.full ranks

@@ -1,8 +1,10 @@
 pub mod ClientServer
 pub mod Counts
 pub mod Cyclic
+pub mod CyclicRule
 pub mod Holders
 pub mod Live
+pub mod Places
 pub mod Resource
 pub mod Runs
 pub mod Shapes

@@ -10,7 +10,7 @@ use Rattle.csp_tables.specs.Falls.{Falls}
 use Rattle.net_sound.specs.Soundness.{IsSound}
 use Rattle.net_sound.proofs.Soundness.{good_rankings_mean_live, same_alphabets}
 use Rattle.design_rules.specs.Live.{IsShapeOf, CyclicMeansLive, ClientServerMeansLive, ResourceMeansLive}
-use Rattle.design_rules.proofs.Cyclic.{cyclic_ranks_fall}
+use Rattle.design_rules.proofs.CyclicRule.{cyclic_ranks_fall}
 use Rattle.design_rules.proofs.ClientServer.{client_server_ranks_fall}
 use Rattle.design_rules.proofs.Resource.{resource_ranks_fall}
 
@@ -18,7 +18,7 @@ by_ranking : {T : Type 0} (Step : T → Label → T → Type 0) (tree : Tree T) 
 by_ranking Step tree bound shape ranking sound is fits falls = good_rankings_mean_live Step tree bound shape.parts ranking sound (record { form = is.form.form; behaviours = is.behaviours; fits = fits; falls = falls })
 
 pub cyclic_means_live : {T : Type 0} (Step : T → Label → T → Type 0) → CyclicMeansLive Step
-cyclic_means_live Step tree bound shape number ranking sound is differ order full ranks = by_ranking Step tree bound shape ranking sound is ranks.fits (cyclic_ranks_fall shape number ranking is.form differ order full ranks)
+cyclic_means_live Step tree bound shape ranking sound is rule r = by_ranking Step tree bound shape ranking sound is r.ranks.fits (cyclic_ranks_fall shape ranking is.form rule r)
 
 pub client_server_means_live : {T : Type 0} (Step : T → Label → T → Type 0) → ClientServerMeansLive Step
 client_server_means_live Step tree bound shape roles height ranking sound is rule ranks = by_ranking Step tree bound shape ranking sound is ranks.fits (client_server_ranks_fall shape roles height ranking is.form rule ranks)

@@ -10,7 +10,7 @@ use Rattle.csp_tables.specs.Stands.{Stands, acceptance}
 use Rattle.csp_tables.specs.Falls.{IsUngranted}
 use Rattle.csp_tables.specs.Shape.{Shape, link_at, is_end, IsWellFormed, Joins, AreJoined}
 use Rattle.csp_tables.specs.Standing.{RunsTo, IsPossible, Accepts, accepted, IsOn}
-use Rattle.design_rules.specs.CyclicRanks.{IsVertex}
+use Rattle.design_rules.specs.Vertices.{IsVertex}
 use Rattle.net_sound.proofs.Sharers.{at_two}
 use Rattle.net_sound.proofs.Within.{acceptance_within, part_form}
 use Rattle.design_rules.proofs.Counts.{count_project}

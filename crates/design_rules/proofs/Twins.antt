@@ -12,8 +12,11 @@ use Rattle.csp_tables.specs.Form.{HasForm}
 use Rattle.csp_tables.specs.Shape.{JoinsTwo, AreJoined, IsReached, is_end, link_at, IsWellFormed, acceptance_at}
 use Rattle.csp_tables.specs.Standing.{Accepts, accepted, IsOn}
 use Rattle.csp_tables.specs.Ranking.{part_ranks, rank_at, lap_of}
-use Rattle.design_rules.specs.Cyclic.{links_of, place_of, IsFullEnd}
-use Rattle.design_rules.specs.CyclicRanks.{IsVertex, lap_at, ends_lap}
+use Rattle.design_rules.specs.Cyclic.{links_of, Reaches}
+use Rattle.design_rules.specs.CyclicNumbered.{IsFullEnd, IsNumberedCyclic}
+use Rattle.design_rules.proofs.CyclicRule.{complete}
+use Rattle.design_rules.specs.Vertices.{IsVertex, lap_at}
+use Rattle.design_rules.specs.CyclicRanking.{place_of, ComesAfter, ends_lap}
 use Rattle.csp_tables.specs.Roles.{role_at, PartShared}
 use Rattle.design_rules.specs.ClientServer.{IsClientOn, is_open, Serves}
 use Rattle.design_rules.specs.Example.{repeats, twins, ranks_of, cyclic_ranking, TwinsAreCyclic, twin_roles, client_height, client_server_ranking, TwinsAreClientServer}
@@ -141,22 +144,38 @@ ends i l h end = ap (λ m. ends_lap (place_of twins (λ _. 0) i m) (links_of twi
 full_end : (l i : ℕ) → l < length twins.links → IsFullEnd twins (λ _. 0) l i
 full_end l i h s k a next e on = subst (λ M. IsTrue (has M e)) (sym (accepted_is i s k a)) (subst (λ m. IsTrue (has (link_at twins m).shared e)) (link_is l h) on)
 
+twins_numbered : IsNumberedCyclic twins
+twins_numbered = record {
+  number = λ _. 0;
+  differ = λ i l m h k _ _ ne _. ne (omega arith);
+  order = λ i l s e possible on. first_next i l (count_in twins.vocabulary s) on.within on.end;
+  full = λ l h. inl (full_end l (link_at twins l).left h);
+}
+
+-- there is one link, and it need not come before itself
+no_arc : (l : ℕ) (n m : ℕ) → Walk (ComesAfter twins) n l m → n ≤ 0
+no_arc l zero m w = omega arith
+no_arc l (suc n) m w =
+    let a = w.1 in
+    let same : l ≡ w.0 = let x : l < 1 = a.within in let y : w.0 < 1 = a.reaches.on.within in omega arith in
+    let less : count_in twins.vocabulary a.run < count_in twins.vocabulary a.run = a.later a.run a.event (subst (λ x. Reaches twins a.part x a.run a.event) (sym same) a.reaches) in
+    omega arith
+
 pub twins_are_cyclic : TwinsAreCyclic
 twins_are_cyclic = record {
   form = twins_form;
-  rule = record {
+  rule = complete twins twins_form twins_numbered;
+  ranking = record {
     number = λ _. 0;
-    differ = λ i l m h k _ _ ne _. ne (omega arith);
-    order = λ i l s e possible on. first_next i l (count_in twins.vocabulary s) on.within on.end;
-    full = λ l h. inl (full_end l (link_at twins l).left h);
-  };
-  ranks = record {
-    fits = ((tt, tt), (tt, (omega arith, tt), tt), ((tt, tt), (tt, (omega arith, tt), tt), tt));
-    scale = refl;
-    ranks = λ i n k l v h end meet. always_zero i n k v.part;
-    others = λ i n k h _. always_zero i n k h;
-    laps = λ i n e l h possible on. lap_is i n e 1 h (lap_one n e 1 (subst (λ p. IsTrue (is_possible (node_at p.table n).next e)) (part_is i h) possible)) ∙ sym (ends i l on.within on.end);
-    no_laps = λ i n e h hidden. lap_is i n e 0 h (lap_none n e 1 hidden);
+    numbers = λ l h. record { end = l; attained = refl; most = no_arc l };
+    ranks = record {
+      fits = ((tt, tt), (tt, (omega arith, tt), tt), ((tt, tt), (tt, (omega arith, tt), tt), tt));
+      scale = refl;
+      ranks = λ i n k l v h end meet. always_zero i n k v.part;
+      others = λ i n k h _. always_zero i n k h;
+      laps = λ i n e l h possible on. lap_is i n e 1 h (lap_one n e 1 (subst (λ p. IsTrue (is_possible (node_at p.table n).next e)) (part_is i h) possible)) ∙ sym (ends i l on.within on.end);
+      no_laps = λ i n e h hidden. lap_is i n e 0 h (lap_none n e 1 hidden);
+    };
   };
 }
 

@@ -7,7 +7,7 @@ use Rattle.csp_tables.specs.Walk.{IsLongestWalk}
 use Rattle.csp_tables.specs.Shape.{Shape, acceptance_at}
 use Rattle.csp_tables.specs.Roles.{RoleSets, role_at}
 use Rattle.design_rules.specs.ClientServer.{Serves}
-use Rattle.design_rules.specs.CyclicRanks.{IsVertex, OthersRankZero, lap_at}
+use Rattle.design_rules.specs.Vertices.{IsVertex, OthersRankZero, lap_at}
 use Rattle.csp_tables.specs.Ranking.{Ranking, Fits, part_ranks, rank_at}
 
 pub record AreClientServerRanks (shape : Shape) (roles : List RoleSets) (height : ℕ → ℕ) (ranking : Ranking) : Type 0 where

@@ -1,46 +1,95 @@
--- The rule of cyclic networks (after Roscoe and Dathi 1987): each component goes through its links in a fixed order, again
--- and again, and the links of the network can be numbered so that each component's order is the rising one.
-use Rattle.std.specs.Prelude.{◌≡◌, ◌<◌, ◌%◌, ◌⊎◌, ℕ, List, ◌&&◌, nat_lt, IsTrue, length}
+-- The rule of cyclic networks (Roscoe and Dathi 1987; Martin 1996; Roscoe 1997, chapter 13): each component goes through its
+-- links in a fixed order, again and again, these orders agree, and on each link one end at least never offers a part of the
+-- link's events alone.
+--
+-- The order of a component is said by places. The place of an event is the number of shared events that were done before. A
+-- component with k links goes through them in a fixed order where two of its events lie on one link exactly where their
+-- places agree modulo k. The orders agree where the links of the network can be numbered so that they rise along each order.
+use Rattle.std.specs.Prelude.{◌≡◌, ◌<◌, ◌≤◌, ◌%◌, ◌⊎◌, ℕ, List, IsTrue, false, length}
 use Rattle.csp_base.specs.Members.{has}
-use Rattle.design_rules.specs.Counts.{count_below, count_in}
+use Rattle.csp_tables.specs.Part.{Meet}
 use Rattle.csp_tables.specs.Shape.{Shape, is_end, link_at}
 use Rattle.csp_tables.specs.Standing.{IsPossible, Accepts, accepted, IsOn}
+use Rattle.design_rules.specs.Counts.{count_below, count_in}
 
 -- how many links the part in place i has
 abbrev pub links_of : Shape → ℕ → ℕ
 links_of shape i = count_below (λ l. is_end shape i l) (length shape.links)
 
--- the place of the link l among the links of the part i by rising number, from 0
-abbrev pub place_of : Shape → (ℕ → ℕ) → ℕ → ℕ → ℕ
-place_of shape number i l = count_below (λ m. is_end shape i m && nat_lt (number m) (number l)) (length shape.links)
+-- The part i reaches its link l: the event e of the link is possible after the run s.
+pub record Reaches (shape : Shape) (i l : ℕ) (s : List ℕ) (e : ℕ) : Type 0 where
+  pub possible : IsPossible shape i s e
+  pub on : IsOn shape i l e
 
--- the link is next at the part after the run s: as many shared events were done as make whole laps and the links before it
-abbrev pub IsNext : Shape → (ℕ → ℕ) → ℕ → List ℕ → ℕ → Type 0
-IsNext shape number i s l = place_of shape number i l ≡ count_in shape.vocabulary s % links_of shape i
+-- the place of what is possible after the run s
+abbrev pub place_after : Shape → List ℕ → ℕ
+place_after shape s = count_in shape.vocabulary s
 
--- two links of one component have different numbers
-abbrev pub LinksDiffer : Shape → (ℕ → ℕ) → Type 0
-LinksDiffer shape number = (i l m : ℕ) → l < length shape.links → m < length shape.links → IsTrue (is_end shape i l) → IsTrue (is_end shape i m) → (l ≡ m → ⊥) → number l ≡ number m → ⊥
+-- what is possible after s and what is possible after t stand at the same place of the part's lap
+abbrev pub SamePlace : Shape → ℕ → List ℕ → List ℕ → Type 0
+SamePlace shape i s t = place_after shape s % links_of shape i ≡ place_after shape t % links_of shape i
 
--- The same of each link that the component reaches: links that it never reaches may share a number.
-abbrev pub ReachedLinksDiffer : Shape → (ℕ → ℕ) → Type 0
-ReachedLinksDiffer shape number = (i l m : ℕ) (s : List ℕ) (e : ℕ) → IsPossible shape i s e → IsOn shape i l e → m < length shape.links → IsTrue (is_end shape i m) → (l ≡ m → ⊥) → number l ≡ number m → ⊥
+-- An event on the link l after the run s and one on the link m after the run t clash: they lie on different links at the
+-- same place, or on the same link at different places.
+abbrev pub Clash : Shape → ℕ → ℕ → List ℕ → ℕ → List ℕ → Type 0
+Clash shape i l s m t = ((l ≡ m → ⊥) × SamePlace shape i s t) ⊎ ((l ≡ m) × (SamePlace shape i s t → ⊥))
 
--- C1: a shared event that is possible lies on the link that is next
-abbrev pub KeepsOrder : Shape → (ℕ → ℕ) → Type 0
-KeepsOrder shape number = (i l : ℕ) (s : List ℕ) (e : ℕ) → IsPossible shape i s e → IsOn shape i l e → IsNext shape number i s l
+-- C1 is broken by the part i after the run s: the shared event e is possible, and it clashes with one that is possible after
+-- a run that is not longer.
+pub record BreaksOrder (shape : Shape) (i : ℕ) (s : List ℕ) (e : ℕ) : Type 0 where
+  pub link : ℕ
+  pub reaches : Reaches shape i link s e
+  pub other_run : List ℕ
+  pub other_event : ℕ
+  pub other_link : ℕ
+  pub other_reaches : Reaches shape i other_link other_run other_event
+  pub not_longer : length other_run ≤ length s
+  pub clash : Clash shape i link s other_link other_run
 
--- whenever the link is next at the part i, an acceptance in the vocabulary has all of the link's events
-abbrev pub IsFullEnd : Shape → (ℕ → ℕ) → ℕ → ℕ → Type 0
-IsFullEnd shape number l i = (s : List ℕ) (k : ℕ) → Accepts shape i s k → IsNext shape number i s l → (e : ℕ) → IsTrue (has (link_at shape l).shared e) → IsTrue (has (accepted shape i s k) e)
+-- C1: the part goes through its links in a fixed order
+abbrev pub KeepsPlaces : Shape → ℕ → Type 0
+KeepsPlaces shape i = (s : List ℕ) (e : ℕ) → BreaksOrder shape i s e → ⊥
 
--- C2: each link has such an end
-abbrev pub HasFullEnds : Shape → (ℕ → ℕ) → Type 0
-HasFullEnds shape number = (l : ℕ) → l < length shape.links → IsFullEnd shape number l (link_at shape l).left ⊎ IsFullEnd shape number l (link_at shape l).right
+abbrev pub AllKeepPlaces : Shape → Type 0
+AllKeepPlaces shape = (i : ℕ) → i < length shape.parts → KeepsPlaces shape i
 
--- the links can be numbered so
-pub record IsCyclic (shape : Shape) : Type 0 where
+-- The link l must come before the link m: some part that has both reaches l, and reaches m at later places alone, or never.
+-- (So it first reaches l at an earlier place than m, or it reaches l and never m.)
+pub record MustPrecede (shape : Shape) (l m : ℕ) : Type 0 where
+  pub part : ℕ
+  pub run : List ℕ
+  pub event : ℕ
+  pub reaches : Reaches shape part l run event
+  pub within : m < length shape.links
+  pub end : IsTrue (is_end shape part m)
+  pub later : (s : List ℕ) (e : ℕ) → Reaches shape part m s e → place_after shape run < place_after shape s
+
+-- the numbers of the links rise along the order of each part
+abbrev pub NumbersRise : Shape → (ℕ → ℕ) → Type 0
+NumbersRise shape number = (l m : ℕ) → MustPrecede shape l m → number l < number m
+
+pub record CanBeNumbered (shape : Shape) : Type 0 where
   pub number : ℕ → ℕ
-  pub differ : LinksDiffer shape number
-  pub order : KeepsOrder shape number
-  pub full : HasFullEnds shape number
+  pub rise : NumbersRise shape number
+
+-- The part i, an end of the link l, falls short after the run s: an acceptance that lies in the vocabulary has an event of the
+-- link and lacks another.
+pub record FallsShort (shape : Shape) (l i : ℕ) (s : List ℕ) : Type 0 where
+  pub place : ℕ
+  pub accepts : Accepts shape i s place
+  pub meets : Meet (accepted shape i s place) (link_at shape l).shared
+  pub missing : ℕ
+  pub on : IsTrue (has (link_at shape l).shared missing)
+  pub lacks : has (accepted shape i s place) missing ≡ false
+
+abbrev pub IsWholeEnd : Shape → ℕ → ℕ → Type 0
+IsWholeEnd shape l i = (s : List ℕ) → FallsShort shape l i s → ⊥
+
+-- C2: one end of the link at least never falls short
+abbrev pub HasWholeEnd : Shape → ℕ → Type 0
+HasWholeEnd shape l = IsWholeEnd shape l (link_at shape l).left ⊎ IsWholeEnd shape l (link_at shape l).right
+
+pub record IsCyclic (shape : Shape) : Type 0 where
+  pub order : AllKeepPlaces shape
+  pub numbered : CanBeNumbered shape
+  pub whole : (l : ℕ) → l < length shape.links → HasWholeEnd shape l

@@ -8,7 +8,7 @@ use Rattle.design_rules.specs.Cyclic.{IsCyclic}
 use Rattle.design_rules.specs.Resource.{AreUses, NumbersRise}
 use Rattle.design_rules.specs.ResourceRanks.{AreResourceRanks}
 use Rattle.net_sound.specs.Example.{both, turns}
-use Rattle.design_rules.specs.CyclicRanks.{AreCyclicRanks}
+use Rattle.design_rules.specs.CyclicRanking.{IsCyclicRanking}
 use Rattle.design_rules.specs.ClientServer.{IsClientServer}
 use Rattle.design_rules.specs.ClientServerRanks.{AreClientServerRanks}
 
@@ -30,7 +30,7 @@ cyclic_ranking = record { scale = pos 1; parts = ranks_of 0 1 ∷ ranks_of 0 1 �
 pub record TwinsAreCyclic : Type 0 where
   pub form : IsWellFormed twins
   pub rule : IsCyclic twins
-  pub ranks : AreCyclicRanks twins (λ _. 0) cyclic_ranking
+  pub ranking : IsCyclicRanking twins cyclic_ranking
 
 -- the first asks, and the second serves
 abbrev pub twin_roles : List RoleSets

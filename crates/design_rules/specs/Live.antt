@@ -6,8 +6,8 @@ use Rattle.csp_tables.specs.Network.{Tree, NetworkStep, leaves}
 use Rattle.csp_tables.specs.Shape.{Shape, IsWellFormed}
 use Rattle.csp_tables.specs.Behaviour.{HaveBehaviours}
 use Rattle.csp_tables.specs.Ranking.{Ranking}
-use Rattle.design_rules.specs.Cyclic.{KeepsOrder, ReachedLinksDiffer, HasFullEnds}
-use Rattle.design_rules.specs.CyclicRanks.{AreCyclicRanks}
+use Rattle.design_rules.specs.Cyclic.{IsCyclic}
+use Rattle.design_rules.specs.CyclicRanking.{IsCyclicRanking}
 use Rattle.csp_tables.specs.Roles.{RoleSets, UseSets}
 use Rattle.design_rules.specs.ClientServer.{IsClientServer}
 use Rattle.design_rules.specs.ClientServerRanks.{AreClientServerRanks}
@@ -21,7 +21,7 @@ pub record IsShapeOf {T : Type 0} (Step : T → Label → T → Type 0) (tree : 
   pub behaviours : HaveBehaviours Step (leaves tree) shape.parts
 
 abbrev pub CyclicMeansLive : {T : Type 0} → (T → Label → T → Type 0) → Type 0
-CyclicMeansLive {T} Step = (tree : Tree T) (bound : ℕ) (shape : Shape) (number : ℕ → ℕ) (ranking : Ranking) → IsSound Step tree bound → IsShapeOf Step tree shape → ReachedLinksDiffer shape number → KeepsOrder shape number → HasFullEnds shape number → AreCyclicRanks shape number ranking → Live (NetworkStep Step) tree bound
+CyclicMeansLive {T} Step = (tree : Tree T) (bound : ℕ) (shape : Shape) (ranking : Ranking) → IsSound Step tree bound → IsShapeOf Step tree shape → IsCyclic shape → IsCyclicRanking shape ranking → Live (NetworkStep Step) tree bound
 
 abbrev pub ClientServerMeansLive : {T : Type 0} → (T → Label → T → Type 0) → Type 0
 ClientServerMeansLive {T} Step = (tree : Tree T) (bound : ℕ) (shape : Shape) (roles : List RoleSets) (height : ℕ → ℕ) (ranking : Ranking) → IsSound Step tree bound → IsShapeOf Step tree shape → IsClientServer shape roles → AreClientServerRanks shape roles height ranking → Live (NetworkStep Step) tree bound

@@ -7,7 +7,7 @@ use Rattle.csp_tables.specs.Shape.{Shape}
 use Rattle.csp_tables.specs.Standing.{Accepts, accepted}
 use Rattle.csp_tables.specs.Roles.{UseSets, use_at}
 use Rattle.design_rules.specs.Resource.{acquires, is_held}
-use Rattle.design_rules.specs.CyclicRanks.{OthersRankZero, lap_at}
+use Rattle.design_rules.specs.Vertices.{OthersRankZero, lap_at}
 use Rattle.csp_tables.specs.Ranking.{Ranking, Fits, part_ranks, rank_at}
 
 -- the greatest number of a resource among the first n parts, 0 if there is none

@@ -2,17 +2,27 @@
 #![tactic(auto)]
 
 ghost use Rattle.design_rules.specs.ClientServerLaws.{ClientServerRanksFall};
-ghost use Rattle.design_rules.specs.CyclicLaws.{CyclicRanksFall, NumberedRanksFall};
+ghost use Rattle.design_rules.specs.CyclicLaws.{CyclicFaultsRefute, CyclicRanksFall, IsPublishedRule, NumberedRanksFall};
 ghost use Rattle.design_rules.specs.Example.{TwinsAreCyclic, TwinsAreClientServer, SharingIsResource};
 ghost use Rattle.design_rules.specs.Live.{CyclicMeansLive, ClientServerMeansLive, ResourceMeansLive};
 ghost use Rattle.design_rules.specs.ResourceLaws.{ResourceRanksFall};
 
 use net_sound::Transitions;
 
-/// The ranking of a cyclic network falls.
+/// The ranking of a cyclic network falls: the one with the smallest numbers, and any other by the published rule.
 pub fn cyclic_ranks_fall()
-    ensures reached { CyclicRanksFall }
+    ensures chains { CyclicRanksFall }
     ensures numbered { NumberedRanksFall }
+{}
+
+/// Each fault that is told of a network breaks the cyclic rule.
+pub fn cyclic_faults_refute()
+    ensures { CyclicFaultsRefute }
+{}
+
+/// The cyclic rule is the published one.
+pub fn cyclic_rule_is_published()
+    ensures { IsPublishedRule }
 {}
 
 /// The ranking of a client-server network falls.
