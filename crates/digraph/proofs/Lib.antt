@@ -10,3 +10,4 @@ mod Looking
 mod Ending
 mod Turning
 pub mod Reaching
+pub mod Starting

@@ -1,6 +1,5 @@
 pub mod Digraph
 pub mod Walk
-pub mod Height
 pub mod Circle
 pub mod Turn
 pub mod Search
