@@ -4,7 +4,6 @@ pub mod Falls
 pub mod Flat
 pub mod Form
 pub mod GoodRanking
-pub mod Heights
 pub mod Label
 pub mod Live
 pub mod Network
@@ -18,7 +17,6 @@ pub mod RawTable
 pub mod Roles
 pub mod Shape
 pub mod SilentBound
-pub mod SilentCircle
 pub mod Standing
 pub mod Stands
 pub mod Table

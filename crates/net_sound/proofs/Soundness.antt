@@ -6,7 +6,8 @@ use Rattle.csp_base.specs.Members.{has}
 use Rattle.csp_tables.specs.Label.{Label}
 use Rattle.csp_tables.specs.Label.Label.{silent, visible}
 use Rattle.csp_tables.specs.Path.{Path, Stable}
-use Rattle.csp_tables.specs.Network.{Component, ComponentStep, Tree, leaves}
+use Rattle.csp_tables.specs.Network.{Component, ComponentStep, Tree, NetworkStep, leaves}
+use Rattle.csp_tables.proofs.SilentPaths.{silent_path, path_silent}
 use Rattle.csp_tables.specs.Flat.{in_some_component, OneMoves, AllTakePart, FlatStep}
 use Rattle.csp_tables.specs.Trace.{events_of, After, Offers}
 use Rattle.csp_tables.specs.Part.{Part, part_at, alphabets_of, project, IsNonEmpty, TripleDisjoint}
@@ -50,7 +51,7 @@ pub silence_is_bounded : {T : Type 0} (Step : T → Label → T → Type 0) → 
 silence_is_bounded Step t u v n bound w b r h =
     at_most Step (events_of r.0) n (leaves t) (leaves u) (leaves v) bound
     (all_after Step r.0 (leaves t) (leaves u) (run_forth Step r.0 t u w r.1))
-    (shares Step n (leaves u) (leaves v) (run_forth Step (replicate n silent) u v (run_kept Step r.0 t u w r.1) h)) b
+    (shares Step n (leaves u) (leaves v) (path_silent (FlatStep Step) n (leaves u) (leaves v) (run_forth Step (replicate n silent) u v (run_kept Step r.0 t u w r.1) (silent_path (NetworkStep Step) n u v h)))) b
 
 -- ---- stable states
 
