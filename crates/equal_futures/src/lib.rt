@@ -4,8 +4,6 @@
 mod partition;
 mod rounds;
 mod splitters;
-#[cfg(test)]
-mod tests;
 
 pub use rounds::{Classes, refine_by_rounds};
 pub use splitters::refine;

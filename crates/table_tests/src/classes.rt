@@ -3,10 +3,9 @@
 ghost use Rattle.std.specs.Prelude.{◌-◌, ◌<◌, length, slice_index_or, IsTrue};
 ghost use Rattle.equal_futures.specs.Future.{NodesRise, StepsRise};
 
-use crate::rounds::{Classes, refine_by_rounds};
-use crate::splitters::refine;
 use csp_base::{Event, NoMemory};
 use csp_tables::NormNode;
+use equal_futures::{Classes, refine, refine_by_rounds};
 use std::alloc::Global;
 use std::test::Fail;
 

@@ -1,5 +1,5 @@
 use Rattle.std.proofs.Common.{ℕ, suc, ◌<◌, get_or}
-use Rattle.equal_futures.proofs.tests.steps_rise.Given as goal
+use Rattle.table_tests.proofs.classes.steps_rise.Given as goal
 
 abbrev pub invariant-loop-k : goal.invariant-loop-k
 invariant-loop-k l = record {
