@@ -114,7 +114,7 @@ fn vertices_that_walks_reach(rt: HostRuntime) -> Result<(), Fail> {
     for (name, count, arcs, start, want) in cases {
         let rows = digraph(&rt, rt.alloc(), count, arcs)?;
         assert!(rt; (start as usize) < rows.len());
-        let found = reachable_from(rt.alloc(), &rows, start)?;
+        let found = reachable_from(rt.alloc(), &rows, &[start])?;
         assert_eq!(rt; found.as_slice(), want, "{name}");
     }
     Ok(())
@@ -132,7 +132,7 @@ fn a_long_chain(rt: HostRuntime) -> Result<(), Fail> {
     assert_eq!(rt; heights.first().copied(), Some(16_383));
     assert_eq!(rt; heights.last().copied(), Some(0));
     assert!(rt; rows.len() > 0);
-    let found = reachable_from(rt.alloc(), &rows, 0)?;
+    let found = reachable_from(rt.alloc(), &rows, &[0])?;
     assert_eq!(rt; found.len(), 16_384);
     Ok(())
 }

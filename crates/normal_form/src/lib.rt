@@ -8,4 +8,4 @@ mod merged;
 mod normal_table;
 
 pub use fault::NormFault;
-pub use normal_table::{normalise, normalise_by_rounds};
+pub use normal_table::normalise;

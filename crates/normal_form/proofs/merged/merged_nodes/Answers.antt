@@ -1,7 +1,7 @@
 use Rattle.std.proofs.Common.{sym, subst, ℕ, List}
 use Rattle.equal_futures.specs.Future.{AreFutureClasses}
 use Rattle.normal_form.specs.Merged.{IsMergedTable}
-use Rattle.normal_form.proofs.merged.merged_by_splitters.Goals as goal
+use Rattle.normal_form.proofs.merged.merged_nodes.Goals as goal
 
 pub returns : goal.returns
 returns c = subst (IsMergedTable c.args.nodes.now) (sym c.from_nodes.ensures) (record {
