@@ -1,6 +1,6 @@
 -- The ranking of a client-server network falls along ungranted requests.
 use Rattle.std.proofs.Common.{◌≡◌, ℕ, ◌*◌, ◌<◌, ◌⊎◌, inl, inr, ℤ, pos, ◌+ℤ◌, ◌-ℤ◌, ◌*ℤ◌, ◌<ℤ◌, List, length, true, false, ◌&&◌, sym, ap, subst, ◌∙◌, arith}
-use Rattle.std.proofs.lemmas.Bool.{cases_Bool, or_cases, both_ways}
+use Rattle.std.proofs.lemmas.Bool.{cases_Bool, or_cases, both_ways, cond-true, cond-false}
 use Rattle.std.proofs.lemmas.Int.{ints}
 use lib.IntN.{zero-*ℤ}
 use Rattle.csp_base.specs.Members.{has}
@@ -8,13 +8,14 @@ use Rattle.design_rules.specs.Counts.{is_odd}
 use Rattle.csp_tables.specs.Part.{part_at, Meet, AreApart}
 use Rattle.csp_tables.specs.Shape.{Shape, Joins, link_at, IsWellFormed}
 use Rattle.csp_tables.specs.Standing.{accepted}
+use Rattle.csp_tables.specs.Standing.{IsPossible, IsOn}
 use Rattle.csp_tables.specs.Roles.{RoleSets, role_at}
-use Rattle.design_rules.specs.ClientServer.{IsClientOn, has_acknowledgements, is_open, Serves, IsClientServer}
-use Rattle.design_rules.specs.ClientServerRanks.{AreClientServerRanks}
+use Rattle.design_rules.specs.ClientServer.{IsClientOn, has_acknowledgements, is_open, is_request, is_acknowledgement, Serves, KeepRoles}
+use Rattle.design_rules.specs.ClientServerRanking.{IsClientServerRanking}
 use Rattle.csp_tables.specs.Ranking.{Ranking, rank_after}
 use Rattle.csp_tables.specs.Falls.{lead}
 use Rattle.net_sound.proofs.Finite.{search_list}
-use Rattle.design_rules.specs.ClientServerLaws.{ClientServerRanksFall}
+use Rattle.design_rules.specs.ClientServerLaws.{ClientServerRanksFall, ClientServerFaultsRefute}
 use Rattle.design_rules.proofs.Walks.{Graph, falls, height_below}
 use Rattle.design_rules.proofs.Shapes.{turned, first_end, link_events, own_run, own_end, Side, Request, request}
 
@@ -36,8 +37,8 @@ server_within shape roles w i j a =
       | inr e ↦ let f : (link_at shape a.link).left ≡ j = e.0 in omega arith
     ]
 
-graph : (shape : Shape) (roles : List RoleSets) (height : ℕ → ℕ) (ranking : Ranking) → IsWellFormed shape → AreClientServerRanks shape roles height ranking → Graph (Serves shape roles) height (length shape.parts)
-graph shape roles height ranking w r = record { within = server_within shape roles w; longest = r.heights }
+graph : (shape : Shape) (roles : List RoleSets) (ranking : Ranking) → IsWellFormed shape → (r : IsClientServerRanking shape roles ranking) → Graph (Serves shape roles) r.height (length shape.parts)
+graph shape roles ranking w r = record { within = server_within shape roles w; longest = r.heights }
 
 -- the rank of one side: twice the number of parts less the height, or the height
 abbrev high : Shape → (ℕ → ℕ) → ℕ → ℤ
@@ -73,14 +74,21 @@ same_open shape roles s i j l w joins =
     ap (λ c. has_acknowledgements shape roles l && is_odd c)
     (link_events shape i l s w joins.within (first_end shape i j l joins) ∙ sym (link_events shape j l s w joins.within (first_end shape j i l (turned shape i j l joins))))
 
+-- what is possible on a closed link and on an open one
+closed_requests : (shape : Shape) (roles : List RoleSets) (i l : ℕ) (s : List ℕ) (e : ℕ) → KeepRoles shape roles → IsPossible shape i s e → IsOn shape i l e → is_open shape roles l s ≡ false → is_request roles i e ≡ true
+closed_requests shape roles i l s e c possible on closed = sym (cond-false (is_open shape roles l s) (is_acknowledgement roles i e) (is_request roles i e) closed) ∙ c.turns i s l e possible on
+
+open_acknowledges : (shape : Shape) (roles : List RoleSets) (i l : ℕ) (s : List ℕ) (e : ℕ) → KeepRoles shape roles → IsPossible shape i s e → IsOn shape i l e → is_open shape roles l s ≡ true → is_acknowledgement roles i e ≡ true
+open_acknowledges shape roles i l s e c possible on opened = sym (cond-true (is_open shape roles l s) (is_acknowledgement roles i e) (is_request roles i e) opened) ∙ c.turns i s l e possible on
+
 -- a request's server takes no requests
-takes_none : (shape : Shape) (roles : List RoleSets) (s : List ℕ) (i j k l : ℕ) → IsWellFormed shape → IsClientServer shape roles → (r : Request shape s i j k l) → IsClientOn shape roles r.link i j → AreApart (accepted shape j (own_run shape s j) l) (role_at roles j).sreq
+takes_none : (shape : Shape) (roles : List RoleSets) (s : List ℕ) (i j k l : ℕ) → IsWellFormed shape → KeepRoles shape roles → (r : Request shape s i j k l) → IsClientOn shape roles r.link i j → AreApart (accepted shape j (own_run shape s j) l) (role_at roles j).sreq
 takes_none shape roles s i j k l w c r client =
     elim (cases_Bool (is_open shape roles r.link (own_run shape s i))) [
-      | inl opened ↦ c.none_while_open j i r.link (own_run shape s j) l r.there.accepts r.joins client (sym (same_open shape roles s i j r.link w r.joins) ∙ opened)
+      | inl opened ↦ (c.serving j (own_run shape s j)).none_while_open i r.link l r.there.accepts r.joins client (sym (same_open shape roles s i j r.link w r.joins) ∙ opened)
       | inr closed ↦
-          elim (or_cases (has (role_at roles i).creq r.event) (has (role_at roles i).sreq r.event) (c.closed i r.link (own_run shape s i) r.event (r.here.possible r.event r.asked) r.on_here closed)) [
-            | inl asks ↦ elim (c.all_or_none j (own_run shape s j) l r.there.accepts) [
+          elim (or_cases (has (role_at roles i).creq r.event) (has (role_at roles i).sreq r.event) (closed_requests shape roles i r.link (own_run shape s i) r.event c (r.here.possible r.event r.asked) r.on_here closed)) [
+            | inl asks ↦ elim ((c.serving j (own_run shape s j)).all_or_none l r.there.accepts) [
               | inl all ↦ absurd (r.apart r.event r.asked (all r.event (sym (client.requests r.event r.on_here.event) ∙ asks)))
               | inr none ↦ none
             ]
@@ -89,24 +97,24 @@ takes_none shape roles s i j k l w c r client =
     ]
 
 -- a request's server that asks the client offers to take requests
-offers_requests : (shape : Shape) (roles : List RoleSets) (s : List ℕ) (i j k l : ℕ) → IsWellFormed shape → IsClientServer shape roles → (r : Request shape s i j k l) → IsClientOn shape roles r.link j i → Meet (accepted shape i (own_run shape s i) k) (role_at roles i).sreq
+offers_requests : (shape : Shape) (roles : List RoleSets) (s : List ℕ) (i j k l : ℕ) → IsWellFormed shape → KeepRoles shape roles → (r : Request shape s i j k l) → IsClientOn shape roles r.link j i → Meet (accepted shape i (own_run shape s i) k) (role_at roles i).sreq
 offers_requests shape roles s i j k l w c r client =
     elim (cases_Bool (is_open shape roles r.link (own_run shape s i))) [
       | inl opened ↦
-          elim (or_cases (has (role_at roles i).cack r.event) (has (role_at roles i).sack r.event) (c.opened i r.link (own_run shape s i) r.event (r.here.possible r.event r.asked) r.on_here opened)) [
+          elim (or_cases (has (role_at roles i).cack r.event) (has (role_at roles i).sack r.event) (open_acknowledges shape roles i r.link (own_run shape s i) r.event c (r.here.possible r.event r.asked) r.on_here opened)) [
             | inl asks ↦ absurd (both_ways (has (role_at roles i).cack r.event) (client.no_asking r.event r.on_here.event).1 asks)
             | inr answers ↦
-                absurd (r.apart r.event r.asked (c.takes_answers j i r.link (own_run shape s j) l r.there.accepts (turned shape i j r.link r.joins) client (sym (same_open shape roles s i j r.link w r.joins) ∙ opened) r.event r.on_here.event (client.acknowledgements r.event r.on_here.event ∙ answers)))
+                absurd (r.apart r.event r.asked (c.answers j (own_run shape s j) i r.link l r.event r.there.accepts (turned shape i j r.link r.joins) client (sym (same_open shape roles s i j r.link w r.joins) ∙ opened) r.on_here.event (client.acknowledgements r.event r.on_here.event ∙ answers)))
           ]
       | inr closed ↦
-          elim (or_cases (has (role_at roles i).creq r.event) (has (role_at roles i).sreq r.event) (c.closed i r.link (own_run shape s i) r.event (r.here.possible r.event r.asked) r.on_here closed)) [
+          elim (or_cases (has (role_at roles i).creq r.event) (has (role_at roles i).sreq r.event) (closed_requests shape roles i r.link (own_run shape s i) r.event c (r.here.possible r.event r.asked) r.on_here closed)) [
             | inl asks ↦ absurd (both_ways (has (role_at roles i).creq r.event) (client.no_asking r.event r.on_here.event).0 asks)
             | inr serves ↦ record { event = r.event; first = r.asked; second = serves }
           ]
     ]
 
 -- one end is the client
-who : (shape : Shape) (roles : List RoleSets) (i j l : ℕ) → IsClientServer shape roles → Joins shape i j l → IsClientOn shape roles l i j ⊎ IsClientOn shape roles l j i
+who : (shape : Shape) (roles : List RoleSets) (i j l : ℕ) → KeepRoles shape roles → Joins shape i j l → IsClientOn shape roles l i j ⊎ IsClientOn shape roles l j i
 who shape roles i j l c joins =
     elim joins.ends [
       | inl e ↦ subst (λ a. IsClientOn shape roles l a j ⊎ IsClientOn shape roles l j a) e.0 (subst (λ b. IsClientOn shape roles l (link_at shape l).left b ⊎ IsClientOn shape roles l b (link_at shape l).left) e.1 (c.linked l joins.within))
@@ -117,25 +125,41 @@ who shape roles i j l c joins =
     swapped (inl a) = inr a
     swapped (inr b) = inl b
 
-ranked : (shape : Shape) (roles : List RoleSets) (height : ℕ → ℕ) (ranking : Ranking) (s : List ℕ) (i k : ℕ) → AreClientServerRanks shape roles height ranking → Side shape s i k → Ranked shape roles height s i k (rank_after ranking i (part_at shape.parts i) s k)
-ranked shape roles height ranking s i k r side = record { when_meets = λ m. r.serving i (own_end shape s i) k side.vertex m; when_apart = λ a. r.asking i (own_end shape s i) k side.vertex a }
+ranked : (shape : Shape) (roles : List RoleSets) (ranking : Ranking) (s : List ℕ) (i k : ℕ) → (r : IsClientServerRanking shape roles ranking) → Side shape s i k → Ranked shape roles r.height s i k (rank_after ranking i (part_at shape.parts i) s k)
+ranked shape roles ranking s i k r side = record { when_meets = λ m. r.serving i (own_end shape s i) k side.vertex m; when_apart = λ a. r.asking i (own_end shape s i) k side.vertex a }
 
 pub client_server_ranks_fall : ClientServerRanksFall
-client_server_ranks_fall shape roles height ranking w c ranks s i j k l u =
+client_server_ranks_fall shape roles ranking w rule ranks s i j k l u =
+    let c = rule.keep_roles in
     let r = request shape s i j k l w u in
-    let g = graph shape roles height ranking w ranks in
+    let g = graph shape roles ranking w ranks in
     let x = rank_after ranking i (part_at shape.parts i) s k in
     let y = rank_after ranking j (part_at shape.parts j) s l in
-    let ri = ranked shape roles height ranking s i k ranks r.here in
-    let rj = ranked shape roles height ranking s j l ranks r.there in
+    let ri = ranked shape roles ranking s i k ranks r.here in
+    let rj = ranked shape roles ranking s j l ranks r.there in
     no_scale x y ranking.scale (lead shape.parts ranking s i j) ranks.scale
     (elim (who shape roles i j r.link c r.joins) [
       | inl client ↦
-          client_falls shape height i j x y (height_below (Serves shape roles) height (length shape.parts) g i r.here.part)
-          (falls (Serves shape roles) height (length shape.parts) g i j r.here.part (record { link = r.link; joins = r.joins; client = client }))
-          (either_rank shape roles height s i k x ri) (rj.when_apart (takes_none shape roles s i j k l w c r client))
+          client_falls shape ranks.height i j x y (height_below (Serves shape roles) ranks.height (length shape.parts) g i r.here.part)
+          (falls (Serves shape roles) ranks.height (length shape.parts) g i j r.here.part (record { link = r.link; joins = r.joins; client = client }))
+          (either_rank shape roles ranks.height s i k x ri) (rj.when_apart (takes_none shape roles s i j k l w c r client))
       | inr client ↦
-          server_falls shape height i j x y (height_below (Serves shape roles) height (length shape.parts) g j r.there.part)
-          (falls (Serves shape roles) height (length shape.parts) g j i r.there.part (record { link = r.link; joins = turned shape i j r.link r.joins; client = client }))
-          (ri.when_meets (offers_requests shape roles s i j k l w c r client)) (either_rank shape roles height s j l y rj)
+          server_falls shape ranks.height i j x y (height_below (Serves shape roles) ranks.height (length shape.parts) g j r.there.part)
+          (falls (Serves shape roles) ranks.height (length shape.parts) g j i r.there.part (record { link = r.link; joins = turned shape i j r.link r.joins; client = client }))
+          (ri.when_meets (offers_requests shape roles s i j k l w c r client)) (either_rank shape roles ranks.height s j l y rj)
     ])
+
+pub client_server_faults_refute : ClientServerFaultsRefute
+client_server_faults_refute = record {
+  breaks_roles = λ shape roles condition i s rule fault. elim fault [
+    | inl a ↦ a.2.broken (rule.keep_roles.parted i a.2.within)
+    | inr f ↦ elim f [
+      | inl b ↦ b.2.broken (rule.keep_roles.linked b.2.link b.2.within)
+      | inr g ↦ elim g [
+        | inl c ↦ c.1.broken (rule.keep_roles.turns i s)
+        | inr h ↦ elim h [ inl d ↦ d.1.broken (rule.keep_roles.serving i s) | inr e ↦ e.1.broken (rule.keep_roles.answers i s) ]
+      ]
+    ]
+  ];
+  clients_in_circle = λ shape roles clients rule fault. rule.no_circle clients fault.circle.circle;
+}

@@ -21,7 +21,7 @@ pub cyclic_means_live : {T : Type 0} (Step : T → Label → T → Type 0) → C
 cyclic_means_live Step tree bound shape ranking sound is rule r = by_ranking Step tree bound shape ranking sound is r.ranks.fits (cyclic_ranks_fall shape ranking is.form rule r)
 
 pub client_server_means_live : {T : Type 0} (Step : T → Label → T → Type 0) → ClientServerMeansLive Step
-client_server_means_live Step tree bound shape roles height ranking sound is rule ranks = by_ranking Step tree bound shape ranking sound is ranks.fits (client_server_ranks_fall shape roles height ranking is.form rule ranks)
+client_server_means_live Step tree bound shape roles ranking sound is rule ranks = by_ranking Step tree bound shape ranking sound is ranks.fits (client_server_ranks_fall shape roles ranking is.form rule ranks)
 
 pub resource_means_live : {T : Type 0} (Step : T → Label → T → Type 0) → ResourceMeansLive Step
 resource_means_live Step tree bound shape uses number top ranking sound is rule rise ranks =

@@ -9,7 +9,8 @@ use Rattle.csp_tables.specs.Shape.{Joins, JoinsTwo, AreJoined, IsReached, link_a
 use Rattle.csp_tables.specs.Standing.{RunsTo, IsPossible, Accepts, accepted}
 use Rattle.csp_tables.specs.Ranking.{part_ranks, rank_at, lap_of}
 use Rattle.design_rules.specs.Vertices.{IsVertex, lap_at}
-use Rattle.csp_tables.specs.Roles.{use_at, PartShared}
+use Rattle.csp_tables.specs.Roles.{use_at}
+use Rattle.design_rules.specs.Assigned.{PartShared}
 use Rattle.design_rules.specs.Resource.{holds, acquires, AreUses, NumbersRise}
 use Rattle.design_rules.specs.ResourceRanks.{rank_there}
 use Rattle.net_sound.specs.Example.{both, turns}

@@ -1,10 +1,10 @@
 -- Two components that do one event together meet the rule of cyclic networks and that of clients and servers.
 use Rattle.std.proofs.Common.{◌≡◌, ℕ, zero, suc, ◌+◌, ◌*◌, ◌%◌, ◌<◌, ◌≤◌, ◌⊎◌, inl, inr, pos, ◌-ℤ◌, List, [], ◌∷◌, length, get_or, Bool, true, false, cond, ◌&&◌, ◌||◌, IsTrue, nat_eq, refl, sym, ap, subst, ◌∙◌, arith, eqb-true}
-use Rattle.std.proofs.lemmas.Bool.{false≢true, or_cases, both_ways, or_parts}
+use Rattle.std.proofs.lemmas.Bool.{false≢true, or_cases, both_ways, or_parts, cond-false}
 use Rattle.std.proofs.lemmas.Nat.{mod_below}
 use Rattle.csp_base.specs.Members.{has}
 use Rattle.design_rules.specs.Counts.{count_below, count_in}
-use Rattle.csp_tables.specs.Walk.{Walk, IsLongestWalk, HasNoCircle}
+use Rattle.csp_tables.specs.Walk.{Walk, IsLongestWalk}
 use Rattle.csp_tables.specs.Table.{node_at, is_possible, end_of, acceptances_after}
 use Rattle.csp_tables.specs.Part.{part_at, Meet, AreApart}
 use Rattle.csp_tables.specs.Trace.{IsWithin}
@@ -17,9 +17,11 @@ use Rattle.design_rules.specs.CyclicNumbered.{IsFullEnd, IsNumberedCyclic}
 use Rattle.design_rules.proofs.CyclicRule.{complete}
 use Rattle.design_rules.specs.Vertices.{IsVertex, lap_at}
 use Rattle.design_rules.specs.CyclicRanking.{place_of, ComesAfter, ends_lap}
-use Rattle.csp_tables.specs.Roles.{role_at, PartShared}
-use Rattle.design_rules.specs.ClientServer.{IsClientOn, is_open, Serves}
-use Rattle.design_rules.specs.Example.{repeats, twins, ranks_of, cyclic_ranking, TwinsAreCyclic, twin_roles, client_height, client_server_ranking, TwinsAreClientServer}
+use Rattle.csp_tables.specs.Roles.{role_at}
+use Rattle.design_rules.specs.Assigned.{PartShared}
+use Rattle.design_rules.specs.ClientServer.{IsClientOn, is_open, is_request, is_acknowledgement, Serves}
+use Rattle.design_rules.specs.Circle.{HasNoCircle}
+use Rattle.design_rules.specs.Example.{repeats, twins, ranks_of, cyclic_ranking, TwinsAreCyclic, twin_roles, client_server_ranking, TwinsAreClientServer}
 
 -- ---- the parts
 
@@ -181,6 +183,10 @@ twins_are_cyclic = record {
 
 -- ---- clients and servers
 
+abbrev client_height : ℕ → ℕ
+client_height zero = 1
+client_height (suc i) = 0
+
 zero_is : (e : ℕ) → IsTrue (has (0 ∷ []) e) → e ≡ 0
 zero_is e h = elim (or_cases (nat_eq 0 e) false h) [ inl same ↦ sym (eqb-true 0 e same) | inr never ↦ absurd (false≢true never) ]
 
@@ -240,8 +246,10 @@ no_two_arcs : (n i j k l : ℕ) → Serves twins twin_roles i j → Serves twins
 no_two_arcs n i j k l a b same = let x : j ≡ 1 = (arc_is i j a).1 in let y : k ≡ 0 = (arc_is k l b).0 in omega arith
 
 twins_no_circle : HasNoCircle (Serves twins twin_roles)
-twins_no_circle zero x w = let a = arc_is x w.0 w.1 in let p : x ≡ 0 = a.0 in let q : w.0 ≡ 1 = a.1 in let r : w.0 ≡ x = w.2 in omega arith
-twins_no_circle (suc n) x w = no_two_arcs n x w.0 w.0 w.2.0 w.1 w.2.1 refl
+twins_no_circle [] c = c
+twins_no_circle (v ∷ []) c = no_two_arcs 0 v v v v c c refl
+twins_no_circle (v ∷ u ∷ []) c = no_two_arcs 0 v u u v c.0 c.1 refl
+twins_no_circle (v ∷ u ∷ x ∷ us) c = no_two_arcs 0 v u u x c.0 c.1.0 refl
 
 longest_first : (n y : ℕ) → Walk (Serves twins twin_roles) n 0 y → n ≤ 1
 longest_first zero y w = omega arith
@@ -300,16 +308,20 @@ no_laps (suc (suc i)) n e h = absurd (omega arith)
 pub twins_are_client_server : TwinsAreClientServer
 twins_are_client_server = record {
   rule = record {
-    parted = parted;
-    linked = linked;
-    closed = λ i l s e possible on _. request_is i e possible.runs.part (on_is i l e on);
-    opened = λ i l s e possible on opened. absurd (both_ways (is_open twins twin_roles l s) (never_open l s on.within) opened);
-    all_or_none = λ i s k a. requests_taken i (accepted twins i s k) a.runs.part (accepted_is i s k a);
-    none_while_open = λ i j l s k a joins client opened. absurd (both_ways (is_open twins twin_roles l s) (never_open l s joins.within) opened);
-    takes_answers = λ i j l s k a joins client opened. absurd (both_ways (is_open twins twin_roles l s) (never_open l s joins.within) opened);
+    keep_roles = record {
+      parted = parted;
+      linked = linked;
+      turns = λ i s l e possible on. cond-false (is_open twins twin_roles l s) (is_acknowledgement twin_roles i e) (is_request twin_roles i e) (never_open l s on.within) ∙ request_is i e possible.runs.part (on_is i l e on);
+      serving = λ i s. record {
+        all_or_none = λ k a. requests_taken i (accepted twins i s k) a.runs.part (accepted_is i s k a);
+        none_while_open = λ j l k a joins client opened. absurd (both_ways (is_open twins twin_roles l s) (never_open l s joins.within) opened);
+      };
+      answers = λ i s j l k e a joins client opened. absurd (both_ways (is_open twins twin_roles l s) (never_open l s joins.within) opened);
+    };
     no_circle = twins_no_circle;
   };
-  ranks = record {
+  ranking = record {
+    height = client_height;
     heights = twin_heights;
     fits = ((tt, tt), (tt, (omega arith, tt), tt), ((tt, tt), (tt, (omega arith, tt), tt), tt));
     scale = refl;

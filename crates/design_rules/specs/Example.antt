@@ -1,5 +1,5 @@
 -- Shapes that meet the three rules, with their rankings: the theorems speak of networks that there are.
-use Rattle.std.specs.Prelude.{ℕ, zero, suc, pos, List, [], ◌∷◌, true, false}
+use Rattle.std.specs.Prelude.{ℕ, pos, List, [], ◌∷◌, true, false}
 use Rattle.csp_tables.specs.Part.{Part, alphabets_of, TripleDisjoint}
 use Rattle.csp_tables.specs.Shape.{Shape, IsWellFormed}
 use Rattle.csp_tables.specs.Ranking.{PartRanks, Ranking}
@@ -10,7 +10,7 @@ use Rattle.design_rules.specs.ResourceRanks.{AreResourceRanks}
 use Rattle.net_sound.specs.Example.{both, turns}
 use Rattle.design_rules.specs.CyclicRanking.{IsCyclicRanking}
 use Rattle.design_rules.specs.ClientServer.{IsClientServer}
-use Rattle.design_rules.specs.ClientServerRanks.{AreClientServerRanks}
+use Rattle.design_rules.specs.ClientServerRanking.{IsClientServerRanking}
 
 -- it does the event 0 again and again
 abbrev pub repeats : Part
@@ -36,17 +36,13 @@ pub record TwinsAreCyclic : Type 0 where
 abbrev pub twin_roles : List RoleSets
 twin_roles = record { creq = 0 ∷ []; cack = []; sreq = []; sack = [] } ∷ record { creq = []; cack = []; sreq = 0 ∷ []; sack = [] } ∷ []
 
-abbrev pub client_height : ℕ → ℕ
-client_height zero = 1
-client_height (suc i) = 0
-
 -- the client's height is 1; the server takes a request, and stands at 2 * 2 - 0
 abbrev pub client_server_ranking : Ranking
 client_server_ranking = record { scale = pos 0; parts = ranks_of 1 0 ∷ ranks_of 4 0 ∷ [] }
 
 pub record TwinsAreClientServer : Type 0 where
   pub rule : IsClientServer twins twin_roles
-  pub ranks : AreClientServerRanks twins twin_roles client_height client_server_ranking
+  pub ranking : IsClientServerRanking twins twin_roles client_server_ranking
 
 -- A user and a resource: 0 acquires, and 1 releases.
 abbrev pub sharing : Shape

@@ -1,7 +1,9 @@
+pub mod Assigned
 pub mod Circle
 pub mod ClientServer
+pub mod ClientServerFaults
 pub mod ClientServerLaws
-pub mod ClientServerRanks
+pub mod ClientServerRanking
 pub mod Counts
 pub mod Cyclic
 pub mod CyclicFaults

@@ -10,7 +10,7 @@ use Rattle.design_rules.specs.Cyclic.{IsCyclic}
 use Rattle.design_rules.specs.CyclicRanking.{IsCyclicRanking}
 use Rattle.csp_tables.specs.Roles.{RoleSets, UseSets}
 use Rattle.design_rules.specs.ClientServer.{IsClientServer}
-use Rattle.design_rules.specs.ClientServerRanks.{AreClientServerRanks}
+use Rattle.design_rules.specs.ClientServerRanking.{IsClientServerRanking}
 use Rattle.design_rules.specs.Resource.{AreUses, NumbersRise}
 use Rattle.design_rules.specs.ResourceRanks.{AreResourceRanks}
 use Rattle.net_sound.specs.Soundness.{IsSound}
@@ -24,7 +24,7 @@ abbrev pub CyclicMeansLive : {T : Type 0} → (T → Label → T → Type 0) →
 CyclicMeansLive {T} Step = (tree : Tree T) (bound : ℕ) (shape : Shape) (ranking : Ranking) → IsSound Step tree bound → IsShapeOf Step tree shape → IsCyclic shape → IsCyclicRanking shape ranking → Live (NetworkStep Step) tree bound
 
 abbrev pub ClientServerMeansLive : {T : Type 0} → (T → Label → T → Type 0) → Type 0
-ClientServerMeansLive {T} Step = (tree : Tree T) (bound : ℕ) (shape : Shape) (roles : List RoleSets) (height : ℕ → ℕ) (ranking : Ranking) → IsSound Step tree bound → IsShapeOf Step tree shape → IsClientServer shape roles → AreClientServerRanks shape roles height ranking → Live (NetworkStep Step) tree bound
+ClientServerMeansLive {T} Step = (tree : Tree T) (bound : ℕ) (shape : Shape) (roles : List RoleSets) (ranking : Ranking) → IsSound Step tree bound → IsShapeOf Step tree shape → IsClientServer shape roles → IsClientServerRanking shape roles ranking → Live (NetworkStep Step) tree bound
 
 abbrev pub ResourceMeansLive : {T : Type 0} → (T → Label → T → Type 0) → Type 0
 ResourceMeansLive {T} Step = (tree : Tree T) (bound : ℕ) (shape : Shape) (uses : List UseSets) (number : ℕ → ℕ) (top : ℕ) (ranking : Ranking) → IsSound Step tree bound → IsShapeOf Step tree shape → AreUses shape uses → NumbersRise shape uses number → AreResourceRanks shape uses number top ranking → Live (NetworkStep Step) tree bound

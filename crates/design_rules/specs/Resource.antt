@@ -7,7 +7,8 @@ use Rattle.design_rules.specs.Counts.{count_in, is_odd}
 use Rattle.csp_tables.specs.Trace.{IsWithin}
 use Rattle.csp_tables.specs.Shape.{Shape, Joins, is_end, link_at}
 use Rattle.csp_tables.specs.Standing.{IsPossible, Accepts, accepted}
-use Rattle.csp_tables.specs.Roles.{UseSets, use_at, PartShared}
+use Rattle.csp_tables.specs.Roles.{UseSets, use_at}
+use Rattle.design_rules.specs.Assigned.{PartShared}
 
 -- the last event of the list that is in the set, where there is one, and else what is given
 abbrev pub last_from : Option ℕ → List ℕ → List ℕ → Option ℕ

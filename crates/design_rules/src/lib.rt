@@ -1,7 +1,7 @@
 //! The rankings of the three rules are good: each falls along every ungranted request.
 #![tactic(auto)]
 
-ghost use Rattle.design_rules.specs.ClientServerLaws.{ClientServerRanksFall};
+ghost use Rattle.design_rules.specs.ClientServerLaws.{ClientServerFaultsRefute, ClientServerRanksFall};
 ghost use Rattle.design_rules.specs.CyclicLaws.{CyclicFaultsRefute, CyclicRanksFall, IsPublishedRule, NumberedRanksFall};
 ghost use Rattle.design_rules.specs.Example.{TwinsAreCyclic, TwinsAreClientServer, SharingIsResource};
 ghost use Rattle.design_rules.specs.Live.{CyclicMeansLive, ClientServerMeansLive, ResourceMeansLive};
@@ -28,6 +28,11 @@ pub fn cyclic_rule_is_published()
 /// The ranking of a client-server network falls.
 pub fn client_server_ranks_fall()
     ensures { ClientServerRanksFall }
+{}
+
+/// Each fault that is told of a network breaks the rule of clients and servers.
+pub fn client_server_faults_refute()
+    ensures { ClientServerFaultsRefute }
 {}
 
 /// The ranking of a network of users and resources falls.
