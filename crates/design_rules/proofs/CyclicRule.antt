@@ -1,5 +1,5 @@
 -- The laws of the cyclic rule: its ranking falls, each fault breaks it, and it is the rule by numbers.
-use Rattle.std.proofs.Common.{◌≡◌, ℕ, suc, ◌+◌, ◌-◌, ◌*◌, ◌%◌, ◌<◌, ◌≤◌, inl, inr, List, [], ◌∷◌, length, IsTrue, refl, sym, ap, subst, ◌∙◌, arith, eq-eqb, nat_eq}
+use Rattle.std.proofs.Common.{◌≡◌, ℕ, suc, ◌+◌, ◌-◌, ◌*◌, ◌%◌, ◌<◌, ◌≤◌, inl, inr, List, length, IsTrue, refl, sym, ap, subst, ◌∙◌, arith, eq-eqb, nat_eq}
 use Rattle.std.proofs.lemmas.Bool.{cases_eq, cases_order, both_ways, or_left, or_right}
 use Rattle.std.proofs.lemmas.Nat.{mod-mul-add}
 use Rattle.std.proofs.Math.Nat.{mod-eq_of_lt, mod-le}
@@ -9,7 +9,7 @@ use Rattle.csp_tables.specs.Table.{end_of}
 use Rattle.csp_tables.specs.Part.{part_at}
 use Rattle.csp_tables.specs.Shape.{Shape, is_end, link_at, IsWellFormed}
 use Rattle.csp_tables.specs.Standing.{IsPossible, accepted, IsBusyShape}
-use Rattle.design_rules.specs.Circle.{Leads, IsCircle}
+use Rattle.design_rules.proofs.Walks.{no_circle}
 use Rattle.design_rules.specs.Cyclic.{links_of, Reaches, place_after, AllKeepPlaces, MustPrecede, NumbersRise, IsWholeEnd, HasWholeEnd, IsCyclic}
 use Rattle.design_rules.specs.CyclicNumbered.{LinksDiffer, IsFullEnd, IsNumberedCyclic}
 use Rattle.design_rules.specs.CyclicRanking.{place_of, AreChainNumbers, ComesAfter}
@@ -46,21 +46,10 @@ cyclic_ranks_fall shape ranking w rule r = ordered_ranks_fall shape r.number ran
 
 -- ---- faults
 
-rises_along : (shape : Shape) (number : ℕ → ℕ) → NumbersRise shape number → (x y : ℕ) (vs : List ℕ) → Leads (MustPrecede shape) x vs y → number x < number y
-rises_along shape number rise x y [] arc = rise x y arc
-rises_along shape number rise x y (v ∷ vs) arcs =
-    let first : number x < number v = rise x v arcs.0 in
-    let rest : number v < number y = rises_along shape number rise v y vs arcs.1 in
-    omega arith
-
-no_circle : (shape : Shape) (number : ℕ → ℕ) → NumbersRise shape number → (vs : List ℕ) → IsCircle (MustPrecede shape) vs → ⊥
-no_circle shape number rise [] c = c
-no_circle shape number rise (v ∷ vs) c = let less : number v < number v = rises_along shape number rise v v vs c in omega arith
-
 pub cyclic_faults_refute : CyclicFaultsRefute
 cyclic_faults_refute = record {
   no_order = λ shape i s e rule fault. rule.order i fault.breaks.reaches.possible.runs.part s e fault.breaks;
-  orders_disagree = λ shape links rule fault. no_circle shape rule.numbered.number rule.numbered.rise links fault.circle.circle;
+  orders_disagree = λ shape links rule fault. no_circle (MustPrecede shape) rule.numbered.number rule.numbered.rise links fault.circle.circle;
   no_whole_end = λ shape l s t rule fault. elim (rule.whole l fault.within) [ inl left ↦ left s fault.left | inr right ↦ right t fault.right ];
 }
 

@@ -8,7 +8,7 @@ use Rattle.csp_tables.specs.Part.{part_at, alphabets_of, sharers, TripleDisjoint
 use Rattle.csp_tables.specs.Shape.{Shape, IsBelow, is_end, link_at, IsWellFormed}
 use Rattle.csp_tables.specs.Standing.{RunsTo, IsPossible, IsOn}
 use Rattle.csp_tables.specs.Roles.{UseSets, use_at}
-use Rattle.design_rules.specs.Resource.{last_from, IsHolder, is_held, holds, AreUses}
+use Rattle.design_rules.specs.Resource.{last_from, IsHolder, is_held, holds, KeepUses}
 use Rattle.net_sound.proofs.Sharers.{at_three}
 use Rattle.net_sound.proofs.Within.{part_form}
 use Rattle.design_rules.proofs.Counts.{count_push_more, count_push_same}
@@ -104,7 +104,7 @@ pub record Turns (shape : Shape) (i : ℕ) (u : List ℕ) : Type 0 where
 pub record Resource (shape : Shape) (uses : List UseSets) (i : ℕ) : Type 0 where
   pub form : IsWellFormed shape
   pub triple : TripleDisjoint (alphabets_of shape.parts)
-  pub uses_are : AreUses shape uses
+  pub uses_are : KeepUses shape uses
   pub part : i < length shape.parts
   pub resource : (use_at uses i).resource ≡ true
 
@@ -148,7 +148,7 @@ released : (shape : Shape) (uses : List UseSets) (i : ℕ) (u : List ℕ) (e : �
 released shape uses i u e r possible v held t =
     let last = t.held held in
     let x = last.0 in
-    let there = r.uses_are.held_there i x.link u e r.resource possible v held (holder shape i u x) in
+    let there = (r.uses_are.used i u r.resource).by_holder x.link e possible v held (holder shape i u x) in
     record {
       free = λ h m a b. even x there last.1 m a b;
       held = λ h. absurd (both_ways (is_held shape (u ++ e ∷ [])) (odd_more shape.vocabulary u e v ∙ ap not held) h);

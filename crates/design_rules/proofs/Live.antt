@@ -24,6 +24,6 @@ pub client_server_means_live : {T : Type 0} (Step : T → Label → T → Type 0
 client_server_means_live Step tree bound shape roles ranking sound is rule ranks = by_ranking Step tree bound shape ranking sound is ranks.fits (client_server_ranks_fall shape roles ranking is.form rule ranks)
 
 pub resource_means_live : {T : Type 0} (Step : T → Label → T → Type 0) → ResourceMeansLive Step
-resource_means_live Step tree bound shape uses number top ranking sound is rule rise ranks =
-    by_ranking Step tree bound shape ranking sound is ranks.fits
-    (resource_ranks_fall shape uses number top ranking is.form (subst TripleDisjoint (same_alphabets Step (leaves tree) shape.parts is.behaviours) sound.triple) rule rise ranks)
+resource_means_live Step tree bound shape uses ranking sound is rule r =
+    by_ranking Step tree bound shape ranking sound is r.ranks.fits
+    (resource_ranks_fall shape uses ranking is.form (subst TripleDisjoint (same_alphabets Step (leaves tree) shape.parts is.behaviours) sound.triple) rule r)

@@ -1,6 +1,6 @@
 -- The ranking of a network of users and resources falls along ungranted requests.
 use Rattle.std.proofs.Common.{◌≡◌, ℕ, zero, suc, ◌+◌, ◌-◌, ◌*◌, ◌<◌, ◌≤◌, ◌⊎◌, inl, inr, ℤ, pos, ◌<ℤ◌, List, [], ◌∷◌, length, Bool, true, false, not, cond, IsTrue, nat_eq, refl, sym, ap, subst, ◌∙◌, arith, eqb-true}
-use Rattle.std.proofs.lemmas.Bool.{cases_Bool, cases_lt, cases_eq, both_ways, false≢true, and_parts, and_from, or_cases, or_left, or_right, cond-true}
+use Rattle.std.proofs.lemmas.Bool.{cases_Bool, cases_lt, cases_eq, both_ways, false≢true, and_parts, and_from, or_cases, or_left, or_right, cond-true, cond-false}
 use Rattle.std.proofs.lemmas.Int.{ints}
 use Rattle.std.specs.List.{list_any}
 use Rattle.csp_base.specs.Members.{has}
@@ -9,15 +9,16 @@ use Rattle.csp_tables.specs.Part.{part_at, alphabets_of, TripleDisjoint}
 use Rattle.csp_tables.specs.Shape.{Shape, Joins, link_at, IsWellFormed}
 use Rattle.csp_tables.specs.Standing.{accepted}
 use Rattle.csp_tables.specs.Roles.{UseSets, use_at}
-use Rattle.design_rules.specs.Resource.{is_held, holds, acquires, AreUses, NumbersRise}
-use Rattle.design_rules.specs.ResourceRanks.{top_number, rank_there, AcceptsSome, AreResourceRanks}
+use Rattle.design_rules.specs.Resource.{is_held, holds, acquires, KeepUses, IsHeldWhile, ResourcesRise}
+use Rattle.design_rules.specs.ResourceRanking.{AreResourceNumbers, top_number, rank_there, AcceptsSome, AreResourceRanks}
 use Rattle.csp_tables.specs.Ranking.{Ranking, rank_after}
 use Rattle.csp_tables.specs.Falls.{lead}
 use Rattle.net_sound.proofs.Finite.{below_suc}
-use Rattle.design_rules.specs.ResourceLaws.{ResourceRanksFall}
+use Rattle.design_rules.specs.ResourceLaws.{ResourceRanksFall, OrderedRanksFall, ResourceFaultsRefute}
 use Rattle.design_rules.proofs.Shapes.{turned, first_end, link_events, own_run, Side, Request, request}
 use Rattle.design_rules.proofs.Holders.{Resource, turns, one_link}
 use Rattle.design_rules.proofs.ClientServer.{no_scale}
+use Rattle.design_rules.proofs.Walks.{no_circle}
 
 -- ---- what is acquired
 
@@ -91,8 +92,9 @@ record Idle (shape : Shape) (uses : List UseSets) (M : List ℕ) (rank : ℤ) : 
 record Given (shape : Shape) (uses : List UseSets) (number : ℕ → ℕ) (top : ℕ) (ranking : Ranking) : Type 0 where
   form : IsWellFormed shape
   triple : TripleDisjoint (alphabets_of shape.parts)
-  uses_are : AreUses shape uses
-  rise : NumbersRise shape uses number
+  uses_are : KeepUses shape uses
+  rise : ResourcesRise shape uses number
+  positive : (i : ℕ) → i < length shape.parts → (use_at uses i).resource ≡ true → 1 ≤ number i
   ranks : AreResourceRanks shape uses number top ranking
 
 accepts_some : (shape : Shape) (s : List ℕ) (i k : ℕ) → Side shape s i k → AcceptsSome shape i (own_run shape s i) k
@@ -107,7 +109,7 @@ user_rank shape uses number top ranking s i k g side user =
 
 number_within : (shape : Shape) (uses : List UseSets) (number : ℕ → ℕ) (top : ℕ) (ranking : Ranking) (j : ℕ) → Given shape uses number top ranking → j < length shape.parts → (use_at uses j).resource ≡ true → (1 ≤ number j) × (number j ≤ top)
 number_within shape uses number top ranking j g h r =
-    (g.ranks.positive j h r, let le : number j ≤ top_number uses number (length shape.parts) = below_top uses number (length shape.parts) j h r in let e : top ≡ top_number uses number (length shape.parts) = g.ranks.greatest in omega arith)
+    (g.positive j h r, let le : number j ≤ top_number uses number (length shape.parts) = below_top uses number (length shape.parts) j h r in let e : top ≡ top_number uses number (length shape.parts) = g.ranks.greatest in omega arith)
 
 -- ---- the kinds of request
 
@@ -132,7 +134,7 @@ acquire_falls shape uses number top ranking s i j k l g r user resource a =
             | inl q ↦ let least : number q.part ≤ number j = q.least j r.there.part wanted in by_numbers x y (2 * (top - number q.part) + 2) (2 * (top - number j) + 1) q.rank_is (g.ranks.held j (own_run shape s j) l resource (accepts_some shape s j l r.there) held) (omega arith)
             | inr q ↦ absurd (both_ways (acquires uses (accepted shape i (own_run shape s i) k) j) (q.nothing j r.there.part) wanted)
           ]
-      | inr free ↦ absurd (r.apart r.event r.asked (g.uses_are.accepts_all j (own_run shape s j) l resource r.there.accepts free r.event a))
+      | inr free ↦ absurd (r.apart r.event r.asked ((g.uses_are.grants j (own_run shape s j) resource).when_free l r.there.accepts free r.event a))
     ]
 
 -- a user asks to release: the resource grants it
@@ -145,7 +147,7 @@ release_granted shape uses number top ranking s i j k l g r resource odd a =
           let h = t.held held in
           let x = h.0 in
           let on = sym (h.1 r.link r.joins.within end) ∙ odd in
-          r.apart r.event r.asked (g.uses_are.accepts_release j r.link (own_run shape s j) l resource r.there.accepts held (record { within = r.joins.within; end = end; event = x.event; last = x.is; on = on }) r.event a r.on_there.event)
+          r.apart r.event r.asked ((g.uses_are.grants j (own_run shape s j) resource).when_held r.link l r.event r.there.accepts held (record { within = r.joins.within; end = end; event = x.event; last = x.is; on = on }) a r.on_there.event)
       | inr free ↦ both_ways (holds shape r.link (own_run shape s j)) (t.free free r.link r.joins.within end) odd
     ]
 
@@ -171,7 +173,7 @@ held_by shape uses number top ranking s i j k l g r resource held =
     let h = t.held held in
     let x = h.0 in
     let possible = r.here.possible r.event r.asked in
-    let there = g.uses_are.held_there i x.link (own_run shape s i) r.event resource possible (r.here.accepts.shared r.event r.asked) held (record { within = x.on.within; end = x.on.end; event = x.event; last = x.is; on = x.on.event }) in
+    let there = (g.uses_are.used i (own_run shape s i) resource).by_holder x.link r.event possible (r.here.accepts.shared r.event r.asked) held (record { within = x.on.within; end = x.on.end; event = x.event; last = x.is; on = x.on.event }) in
     let same : x.link ≡ r.link = one_link shape i x.link r.link r.event g.form g.triple r.here.part (record { within = x.on.within; end = x.on.end; event = there }) r.on_here in
     h.1 r.link r.joins.within r.on_here.end ∙ subst (λ m. IsTrue (has (link_at shape m).shared x.event)) same x.on.event
 
@@ -191,11 +193,11 @@ held_falls shape uses number top ranking s i j k l g r resource user held =
     ]
 
 -- one end is a user and the other a resource
-other_kind : (shape : Shape) (uses : List UseSets) (i j l : ℕ) → AreUses shape uses → Joins shape i j l → (use_at uses i).resource ≡ not (use_at uses j).resource
+other_kind : (shape : Shape) (uses : List UseSets) (i j l : ℕ) → KeepUses shape uses → Joins shape i j l → (use_at uses i).resource ≡ not (use_at uses j).resource
 other_kind shape uses i j l a joins =
     elim joins.ends [
-      | inl e ↦ ap (λ x. (use_at uses x).resource) (sym e.0) ∙ a.linked l joins.within ∙ ap (λ x. not (use_at uses x).resource) e.1
-      | inr e ↦ twice (use_at uses i).resource ∙ ap not (ap (λ x. not (use_at uses x).resource) (sym e.1) ∙ sym (a.linked l joins.within) ∙ ap (λ x. (use_at uses x).resource) e.0)
+      | inl e ↦ ap (λ x. (use_at uses x).resource) (sym e.0) ∙ a.kinds.linked l joins.within ∙ ap (λ x. not (use_at uses x).resource) e.1
+      | inr e ↦ twice (use_at uses i).resource ∙ ap not (ap (λ x. not (use_at uses x).resource) (sym e.1) ∙ sym (a.kinds.linked l joins.within) ∙ ap (λ x. (use_at uses x).resource) e.0)
     ]
   where
     twice : (b : Bool) → b ≡ not (not b)
@@ -220,12 +222,56 @@ ranks_fall shape uses number top ranking s i j k l g r =
           let resource = kinds ∙ ap not user in
           let possible = r.here.possible r.event r.asked in
           elim (cases_Bool (holds shape r.link (own_run shape s i))) [
-            | inl odd ↦ absurd (release_granted shape uses number top ranking s i j k l g r resource (sym (same_holds shape s i j r.link g.form r.joins) ∙ odd) (g.uses_are.then_releases i j r.link (own_run shape s i) r.event user r.joins possible r.on_here.event odd))
-            | inr even ↦ acquire_falls shape uses number top ranking s i j k l g r user resource (g.uses_are.acquires_first i j r.link (own_run shape s i) r.event user r.joins possible r.on_here.event even)
+            | inl odd ↦ absurd (release_granted shape uses number top ranking s i j k l g r resource (sym (same_holds shape s i j r.link g.form r.joins) ∙ odd) (sym (cond-true (holds shape r.link (own_run shape s i)) (has (use_at uses j).release r.event) (has (use_at uses j).acquire r.event) odd) ∙ g.uses_are.turns i (own_run shape s i) user j r.link r.event r.joins possible r.on_here.event))
+            | inr even ↦ acquire_falls shape uses number top ranking s i j k l g r user resource (sym (cond-false (holds shape r.link (own_run shape s i)) (has (use_at uses j).release r.event) (has (use_at uses j).acquire r.event) even) ∙ g.uses_are.turns i (own_run shape s i) user j r.link r.event r.joins possible r.on_here.event)
           ]
     ]
 
-pub resource_ranks_fall : ResourceRanksFall
-resource_ranks_fall shape uses number top ranking w triple uses_are rise ranks s i j k l u =
+pub ordered_ranks_fall : OrderedRanksFall
+ordered_ranks_fall shape uses number top ranking w triple uses_are rise positive ranks s i j k l u =
     no_scale (rank_after ranking i (part_at shape.parts i) s k) (rank_after ranking j (part_at shape.parts j) s l) ranking.scale (lead shape.parts ranking s i j) ranks.scale
-    (ranks_fall shape uses number top ranking s i j k l (record { form = w; triple = triple; uses_are = uses_are; rise = rise; ranks = ranks }) (request shape s i j k l w u))
+    (ranks_fall shape uses number top ranking s i j k l (record { form = w; triple = triple; uses_are = uses_are; rise = rise; positive = positive; ranks = ranks }) (request shape s i j k l w u))
+
+-- ---- longest chains
+
+-- what is held is a resource among the parts
+held_within : (shape : Shape) (uses : List UseSets) (m j : ℕ) → IsWellFormed shape → KeepUses shape uses → IsHeldWhile shape uses m j → (m < length shape.parts) × ((use_at uses m).resource ≡ true)
+held_within shape uses m j w a h =
+    let t = w.links h.link h.joins.within in
+    let order : (link_at shape h.link).left < (link_at shape h.link).right = t.ordered in
+    let inside : (link_at shape h.link).right < length shape.parts = t.within in
+    let kind = turn_over (use_at uses h.user).resource (use_at uses m).resource (other_kind shape uses h.user m h.link a h.joins) ∙ ap not h.is_user in
+    elim h.joins.ends [
+      | inl e ↦ let f : (link_at shape h.link).right ≡ m = e.1 in (omega arith, kind)
+      | inr e ↦ let f : (link_at shape h.link).left ≡ m = e.0 in (omega arith, kind)
+    ]
+
+chains_rise : (shape : Shape) (uses : List UseSets) (number : ℕ → ℕ) → IsWellFormed shape → KeepUses shape uses → AreResourceNumbers shape uses number → ResourcesRise shape uses number
+chains_rise shape uses number w a numbers m j h =
+    let held = held_within shape uses m j w a h in
+    let low = numbers m held.0 held.1 in
+    let high = numbers j h.within (acquired_resource uses (accepted shape h.user h.run h.place) j h.acquiring) in
+    let more : suc low.below ≤ high.below = high.longest.most (suc low.below) low.longest.end (m, h, low.longest.attained) in
+    let x : number m ≡ low.below + 1 = low.number in
+    let y : number j ≡ high.below + 1 = high.number in
+    omega arith
+
+pub resource_ranks_fall : ResourceRanksFall
+resource_ranks_fall shape uses ranking w triple rule r =
+    ordered_ranks_fall shape uses r.number r.top ranking w triple rule.keep_uses (chains_rise shape uses r.number w rule.keep_uses r.numbers)
+    (λ i h resource. let n = r.numbers i h resource in let x : r.number i ≡ n.below + 1 = n.number in omega arith)
+    r.ranks
+
+-- ---- faults
+
+pub resource_faults_refute : ResourceFaultsRefute
+resource_faults_refute = record {
+  breaks_uses = λ shape uses condition i s rule fault. elim fault [
+    | inl a ↦ a.2.broken (record { linked = λ l h left. rule.keep_uses.kinds.linked l h; parted = rule.keep_uses.kinds.parted i a.2.within })
+    | inr f ↦ elim f [
+      | inl b ↦ b.1.broken (rule.keep_uses.used i s b.1.resource)
+      | inr g ↦ elim g [ inl c ↦ c.1.broken (rule.keep_uses.grants i s c.1.resource) | inr d ↦ d.1.broken (rule.keep_uses.turns i s d.1.user) ]
+    ]
+  ];
+  resources_in_circle = λ shape uses resources rule fault. no_circle (IsHeldWhile shape uses) rule.ordered.number rule.ordered.rise resources fault.circle.circle;
+}

@@ -11,8 +11,9 @@ use Rattle.csp_tables.specs.Ranking.{part_ranks, rank_at, lap_of}
 use Rattle.design_rules.specs.Vertices.{IsVertex, lap_at}
 use Rattle.csp_tables.specs.Roles.{use_at}
 use Rattle.design_rules.specs.Assigned.{PartShared}
-use Rattle.design_rules.specs.Resource.{holds, acquires, AreUses, NumbersRise}
-use Rattle.design_rules.specs.ResourceRanks.{rank_there}
+use Rattle.csp_tables.specs.Walk.{Walk}
+use Rattle.design_rules.specs.Resource.{holds, is_held, acquires, KeepUses, IsHeldWhile}
+use Rattle.design_rules.specs.ResourceRanking.{StandsAbove, rank_there}
 use Rattle.net_sound.specs.Example.{both, turns}
 use Rattle.net_sound.proofs.Example.{turns_form, two_sharers}
 use Rattle.design_rules.specs.Example.{sharing, sharing_uses, sharing_ranking, SharingIsResource}
@@ -173,21 +174,28 @@ acquired i e a b = subst (λ j. IsTrue (has (use_at sharing_uses j).acquire e)) 
 released : (i e : ℕ) → i ≡ 1 → e ≡ 1 → IsTrue (has (use_at sharing_uses i).release e)
 released i e a b = subst (λ j. IsTrue (has (use_at sharing_uses j).release e)) (sym a) (subst (λ x. IsTrue (has (1 ∷ []) x)) (sym b) refl)
 
-sharing_uses_are : AreUses sharing sharing_uses
+by_turn : (held release acquire : Bool) → (held ≡ true → release ≡ true) → (held ≡ false → acquire ≡ true) → cond held release acquire ≡ true
+by_turn true release acquire h k = h refl
+by_turn false release acquire h k = k refl
+
+sharing_uses_are : KeepUses sharing sharing_uses
 sharing_uses_are = record {
-  linked = linked;
-  parted = parted;
-  free = λ i s e r p _ free. acquired i e (resource_is i p.runs.part r) (event_is i s e false free p);
-  held = λ i s e r p _ held. released i e (resource_is i p.runs.part r) (event_is i s e true held p);
-  held_there = λ i l s e _ _ v _ holder. link_event l e holder.within v;
-  accepts_all = λ i s k r a free e m.
-      let one : i ≡ 1 = resource_is i a.runs.part r in
-      subst (λ M. IsTrue (has M e)) (sym (accepts_is i s k false free a).1) (subst (λ j. IsTrue (has (use_at sharing_uses j).acquire e)) one m);
-  accepts_release = λ i l s k r a held _ e m _.
-      let one : i ≡ 1 = resource_is i a.runs.part r in
-      subst (λ M. IsTrue (has M e)) (sym (accepts_is i s k true held a).1) (subst (λ j. IsTrue (has (use_at sharing_uses j).release e)) one m);
-  acquires_first = λ i j l s e u joins p _ even. acquired j e (other_is j l (subst (λ x. Joins sharing x j l) (user_is i p.runs.part u) joins)) (event_is i s e false (sym (link_odd l s joins.within) ∙ even) p);
-  then_releases = λ i j l s e u joins p _ odd_now. released j e (other_is j l (subst (λ x. Joins sharing x j l) (user_is i p.runs.part u) joins)) (event_is i s e true (sym (link_odd l s joins.within) ∙ odd_now) p);
+  kinds = record { linked = linked; parted = parted };
+  used = λ i s r. record {
+    turn = λ e p v. by_turn (is_held sharing s) (has (use_at sharing_uses i).release e) (has (use_at sharing_uses i).acquire e) (λ held. released i e (resource_is i p.runs.part r) (event_is i s e true held p)) (λ free. acquired i e (resource_is i p.runs.part r) (event_is i s e false free p));
+    by_holder = λ l e _ v _ holder. link_event l e holder.within v;
+  };
+  grants = λ i s r. record {
+    when_free = λ k a free e m.
+        let one : i ≡ 1 = resource_is i a.runs.part r in
+        subst (λ M. IsTrue (has M e)) (sym (accepts_is i s k false free a).1) (subst (λ j. IsTrue (has (use_at sharing_uses j).acquire e)) one m);
+    when_held = λ l k e a held _ m _.
+        let one : i ≡ 1 = resource_is i a.runs.part r in
+        subst (λ M. IsTrue (has M e)) (sym (accepts_is i s k true held a).1) (subst (λ j. IsTrue (has (use_at sharing_uses j).release e)) one m);
+  };
+  turns = λ i s u j l e joins p _.
+      let other = other_is j l (subst (λ x. Joins sharing x j l) (user_is i p.runs.part u) joins) in
+      by_turn (holds sharing l s) (has (use_at sharing_uses j).release e) (has (use_at sharing_uses j).acquire e) (λ odd_now. released j e other (event_is i s e true (sym (link_odd l s joins.within) ∙ odd_now) p)) (λ even. acquired j e other (event_is i s e false (sym (link_odd l s joins.within) ∙ even) p));
 }
 
 -- what stands at the second node acquires nothing
@@ -204,8 +212,8 @@ even_where_acquiring i s k j a h =
       | inr free ↦ free
     ]
 
-sharing_rise : NumbersRise sharing sharing_uses (λ _. 1)
-sharing_rise m j h = absurd (both_ways (odd h.run) (even_where_acquiring h.user h.run h.place j h.accepts h.acquiring) (sym (link_odd h.link h.run h.joins.within) ∙ h.holding))
+none_held : (m j : ℕ) → IsHeldWhile sharing sharing_uses m j → ⊥
+none_held m j h = (both_ways (odd h.run) (even_where_acquiring h.user h.run h.place j h.accepts h.acquiring) (sym (link_odd h.link h.run h.joins.within) ∙ h.holding))
 
 -- ---- the ranks
 
@@ -250,22 +258,29 @@ odd_where_idle i s k a nothing =
       | inr free ↦ absurd (both_ways (acquires sharing_uses (accepted sharing i s k) 1) (nothing 1 (omega arith)) (subst (λ M. IsTrue (acquires sharing_uses M 1)) (sym (accepts_is i s k false free a).1) refl))
     ]
 
+no_chain : (j n k : ℕ) → Walk (StandsAbove sharing sharing_uses) n j k → n ≤ 0
+no_chain j zero k w = omega arith
+no_chain j (suc n) k w = absurd (none_held w.0 j w.1)
+
 pub sharing_is_resource : SharingIsResource
 sharing_is_resource = record {
   form = sharing_form;
   triple = two_sharers;
-  uses_are = sharing_uses_are;
-  rise = sharing_rise;
-  ranks = record {
-    positive = λ i h r. omega arith;
-    greatest = refl;
-    fits = ((tt, (tt, tt)), (tt, (omega arith, tt), (tt, (omega arith, tt), tt)), ((tt, (tt, tt)), (tt, (omega arith, tt), (tt, (omega arith, tt), tt)), tt));
-    scale = refl;
-    free = λ i s k r a free. rank_at_node i s k false 1 (resource_is i a.accepts.runs.part r) free a.accepts;
-    held = λ i s k r a held. rank_at_node i s k true 1 (resource_is i a.accepts.runs.part r) held a.accepts;
-    acquiring = λ i s k j u a h acq least. rank_at_node i s k false 0 (user_is i a.accepts.runs.part u) (even_where_acquiring i s k j a.accepts acq) a.accepts;
-    not_acquiring = λ i s k u a nothing. rank_at_node i s k true 0 (user_is i a.accepts.runs.part u) (odd_where_idle i s k a.accepts nothing) a.accepts;
-    others = other_rank;
-    laps = no_laps;
+  rule = record { keep_uses = sharing_uses_are; ordered = record { number = λ _. 1; rise = λ m j h. absurd (none_held m j h) } };
+  ranking = record {
+    number = λ _. 1;
+    numbers = λ j h r. record { below = 0; longest = record { end = j; attained = refl; most = no_chain j }; number = refl };
+    top = 1;
+    ranks = record {
+      greatest = refl;
+      fits = ((tt, (tt, tt)), (tt, (omega arith, tt), (tt, (omega arith, tt), tt)), ((tt, (tt, tt)), (tt, (omega arith, tt), (tt, (omega arith, tt), tt)), tt));
+      scale = refl;
+      free = λ i s k r a free. rank_at_node i s k false 1 (resource_is i a.accepts.runs.part r) free a.accepts;
+      held = λ i s k r a held. rank_at_node i s k true 1 (resource_is i a.accepts.runs.part r) held a.accepts;
+      acquiring = λ i s k j u a h acq least. rank_at_node i s k false 0 (user_is i a.accepts.runs.part u) (even_where_acquiring i s k j a.accepts acq) a.accepts;
+      not_acquiring = λ i s k u a nothing. rank_at_node i s k true 0 (user_is i a.accepts.runs.part u) (odd_where_idle i s k a.accepts nothing) a.accepts;
+      others = other_rank;
+      laps = no_laps;
+    };
   };
 }

@@ -1,8 +1,9 @@
--- Longest walks among finitely many vertices: the numbers fall along arcs, and each is below the number of vertices.
-use Rattle.std.proofs.Common.{◌≡◌, ℕ, zero, suc, ◌+◌, ◌<◌, ◌≤◌, inl, inr, nat_lt, refl, sym, subst, ◌∙◌, arith, lt-ltb, le-ltb, ltb-true}
+-- Numbers that rise along arcs leave no circle. Longest walks among finitely many vertices: the numbers fall along arcs, and each is below the number of vertices.
+use Rattle.std.proofs.Common.{◌≡◌, ℕ, zero, suc, ◌+◌, ◌<◌, ◌≤◌, inl, inr, List, [], ◌∷◌, nat_lt, refl, sym, subst, ◌∙◌, arith, lt-ltb, le-ltb, ltb-true}
 use Rattle.std.proofs.lemmas.Bool.{cases_eq}
 use Rattle.design_rules.specs.Counts.{count_below}
 use Rattle.csp_tables.specs.Walk.{Walk, IsLongestWalk}
+use Rattle.design_rules.specs.Circle.{Leads, IsCircle}
 use Rattle.design_rules.proofs.Counts.{count_strict, count_at_most}
 
 -- n vertices, with the longest walk from each
@@ -48,3 +49,16 @@ pub height_below : (Arc : ℕ → ℕ → Type 0) (height : ℕ → ℕ) (n : �
 height_below Arc height n g x l =
     let all : height x + 1 ≤ count_below (λ y. nat_lt (height y) (height x + 1)) n = many Arc height n g x l (height x + 1) (omega arith) in
     omega (arith, all, count_at_most (λ y. nat_lt (height y) (height x + 1)) n)
+
+-- ---- numbers that rise along arcs
+
+rises_along : (Arc : ℕ → ℕ → Type 0) (number : ℕ → ℕ) → ((x y : ℕ) → Arc x y → number x < number y) → (x y : ℕ) (vs : List ℕ) → Leads Arc x vs y → number x < number y
+rises_along Arc number rise x y [] arc = rise x y arc
+rises_along Arc number rise x y (v ∷ vs) arcs =
+    let first : number x < number v = rise x v arcs.0 in
+    let rest : number v < number y = rises_along Arc number rise v y vs arcs.1 in
+    omega arith
+
+pub no_circle : (Arc : ℕ → ℕ → Type 0) (number : ℕ → ℕ) → ((x y : ℕ) → Arc x y → number x < number y) → (vs : List ℕ) → IsCircle Arc vs → ⊥
+no_circle Arc number rise [] c = c
+no_circle Arc number rise (v ∷ vs) c = let less : number v < number v = rises_along Arc number rise v v vs c in omega arith

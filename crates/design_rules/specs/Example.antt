@@ -5,8 +5,8 @@ use Rattle.csp_tables.specs.Shape.{Shape, IsWellFormed}
 use Rattle.csp_tables.specs.Ranking.{PartRanks, Ranking}
 use Rattle.csp_tables.specs.Roles.{RoleSets, UseSets}
 use Rattle.design_rules.specs.Cyclic.{IsCyclic}
-use Rattle.design_rules.specs.Resource.{AreUses, NumbersRise}
-use Rattle.design_rules.specs.ResourceRanks.{AreResourceRanks}
+use Rattle.design_rules.specs.Resource.{IsResource}
+use Rattle.design_rules.specs.ResourceRanking.{IsResourceRanking}
 use Rattle.net_sound.specs.Example.{both, turns}
 use Rattle.design_rules.specs.CyclicRanking.{IsCyclicRanking}
 use Rattle.design_rules.specs.ClientServer.{IsClientServer}
@@ -61,6 +61,5 @@ sharing_ranking = record {
 pub record SharingIsResource : Type 0 where
   pub form : IsWellFormed sharing
   pub triple : TripleDisjoint (alphabets_of sharing.parts)
-  pub uses_are : AreUses sharing sharing_uses
-  pub rise : NumbersRise sharing sharing_uses (λ _. 1)
-  pub ranks : AreResourceRanks sharing sharing_uses (λ _. 1) 1 sharing_ranking
+  pub rule : IsResource sharing sharing_uses
+  pub ranking : IsResourceRanking sharing sharing_uses sharing_ranking

@@ -13,7 +13,7 @@ pub mod CyclicRanking
 pub mod Example
 pub mod Live
 pub mod Resource
+pub mod ResourceFaults
 pub mod ResourceLaws
-pub mod ResourceNumbers
-pub mod ResourceRanks
+pub mod ResourceRanking
 pub mod Vertices

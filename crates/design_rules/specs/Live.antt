@@ -11,8 +11,8 @@ use Rattle.design_rules.specs.CyclicRanking.{IsCyclicRanking}
 use Rattle.csp_tables.specs.Roles.{RoleSets, UseSets}
 use Rattle.design_rules.specs.ClientServer.{IsClientServer}
 use Rattle.design_rules.specs.ClientServerRanking.{IsClientServerRanking}
-use Rattle.design_rules.specs.Resource.{AreUses, NumbersRise}
-use Rattle.design_rules.specs.ResourceRanks.{AreResourceRanks}
+use Rattle.design_rules.specs.Resource.{IsResource}
+use Rattle.design_rules.specs.ResourceRanking.{IsResourceRanking}
 use Rattle.net_sound.specs.Soundness.{IsSound}
 
 -- the shape is well formed, and its tables have the behaviour of the network's components
@@ -27,4 +27,4 @@ abbrev pub ClientServerMeansLive : {T : Type 0} → (T → Label → T → Type 
 ClientServerMeansLive {T} Step = (tree : Tree T) (bound : ℕ) (shape : Shape) (roles : List RoleSets) (ranking : Ranking) → IsSound Step tree bound → IsShapeOf Step tree shape → IsClientServer shape roles → IsClientServerRanking shape roles ranking → Live (NetworkStep Step) tree bound
 
 abbrev pub ResourceMeansLive : {T : Type 0} → (T → Label → T → Type 0) → Type 0
-ResourceMeansLive {T} Step = (tree : Tree T) (bound : ℕ) (shape : Shape) (uses : List UseSets) (number : ℕ → ℕ) (top : ℕ) (ranking : Ranking) → IsSound Step tree bound → IsShapeOf Step tree shape → AreUses shape uses → NumbersRise shape uses number → AreResourceRanks shape uses number top ranking → Live (NetworkStep Step) tree bound
+ResourceMeansLive {T} Step = (tree : Tree T) (bound : ℕ) (shape : Shape) (uses : List UseSets) (ranking : Ranking) → IsSound Step tree bound → IsShapeOf Step tree shape → IsResource shape uses → IsResourceRanking shape uses ranking → Live (NetworkStep Step) tree bound

@@ -5,7 +5,7 @@ ghost use Rattle.design_rules.specs.ClientServerLaws.{ClientServerFaultsRefute, 
 ghost use Rattle.design_rules.specs.CyclicLaws.{CyclicFaultsRefute, CyclicRanksFall, IsPublishedRule, NumberedRanksFall};
 ghost use Rattle.design_rules.specs.Example.{TwinsAreCyclic, TwinsAreClientServer, SharingIsResource};
 ghost use Rattle.design_rules.specs.Live.{CyclicMeansLive, ClientServerMeansLive, ResourceMeansLive};
-ghost use Rattle.design_rules.specs.ResourceLaws.{ResourceRanksFall};
+ghost use Rattle.design_rules.specs.ResourceLaws.{OrderedRanksFall, ResourceFaultsRefute, ResourceRanksFall};
 
 use net_sound::Transitions;
 
@@ -35,9 +35,15 @@ pub fn client_server_faults_refute()
     ensures { ClientServerFaultsRefute }
 {}
 
-/// The ranking of a network of users and resources falls.
+/// The ranking of a network of users and resources falls: the one with the smallest numbers, and any other that rises.
 pub fn resource_ranks_fall()
-    ensures { ResourceRanksFall }
+    ensures chains { ResourceRanksFall }
+    ensures ordered { OrderedRanksFall }
+{}
+
+/// Each fault that is told of a network breaks the rule of users and resources.
+pub fn resource_faults_refute()
+    ensures { ResourceFaultsRefute }
 {}
 
 /// A network whose shape meets one of the three rules is live, with its silent bound.

@@ -1,14 +1,29 @@
--- The ranking of a network of users and resources, with resources numbered from 1 on, and the greatest number top. A free
--- resource is above all. A held one, and a user that offers to acquire, stand the lower the higher the number is.
+-- The ranking of a network of users and resources. The number of a resource is one more than the greatest number of resources
+-- that must be numbered below it in a chain. A free resource ranks above all. A held one, and a user that offers to acquire,
+-- rank the lower the higher the number is. There are no laps.
 use Rattle.std.specs.Prelude.{◌≡◌, ◌<◌, ◌≤◌, ◌+◌, ◌-◌, ◌*◌, ℕ, zero, suc, ℤ, pos, max, List, true, false, IsTrue, length, if◌then◌else◌}
+use Rattle.csp_tables.specs.Walk.{IsLongestWalk}
 use Rattle.csp_tables.specs.Table.{end_of}
 use Rattle.csp_tables.specs.Part.{part_at, IsNonEmpty}
 use Rattle.csp_tables.specs.Shape.{Shape}
 use Rattle.csp_tables.specs.Standing.{Accepts, accepted}
 use Rattle.csp_tables.specs.Roles.{UseSets, use_at}
-use Rattle.design_rules.specs.Resource.{acquires, is_held}
-use Rattle.design_rules.specs.Vertices.{OthersRankZero, lap_at}
 use Rattle.csp_tables.specs.Ranking.{Ranking, Fits, part_ranks, rank_at}
+use Rattle.design_rules.specs.Vertices.{OthersRankZero, lap_at}
+use Rattle.design_rules.specs.Resource.{IsHeldWhile, acquires, is_held}
+
+-- from a resource to one that a user holds while it offers to acquire the first
+abbrev pub StandsAbove : Shape → List UseSets → ℕ → ℕ → Type 0
+StandsAbove shape uses j m = IsHeldWhile shape uses m j
+
+-- n is one more than the longest chain below j
+pub record IsResourceNumber (shape : Shape) (uses : List UseSets) (j n : ℕ) : Type 0 where
+  pub below : ℕ
+  pub longest : IsLongestWalk (StandsAbove shape uses) j below
+  pub number : n ≡ below + 1
+
+abbrev pub AreResourceNumbers : Shape → List UseSets → (ℕ → ℕ) → Type 0
+AreResourceNumbers shape uses number = (j : ℕ) → j < length shape.parts → (use_at uses j).resource ≡ true → IsResourceNumber shape uses j (number j)
 
 -- the greatest number of a resource among the first n parts, 0 if there is none
 abbrev pub top_number : List UseSets → (ℕ → ℕ) → ℕ → ℕ
@@ -24,8 +39,8 @@ pub record AcceptsSome (shape : Shape) (i : ℕ) (s : List ℕ) (k : ℕ) : Type
   pub accepts : Accepts shape i s k
   pub some : IsNonEmpty (accepted shape i s k)
 
+-- the ranking with these numbers of the resources, of which top is the greatest
 pub record AreResourceRanks (shape : Shape) (uses : List UseSets) (number : ℕ → ℕ) (top : ℕ) (ranking : Ranking) : Type 0 where
-  pub positive : (i : ℕ) → i < length shape.parts → (use_at uses i).resource ≡ true → 1 ≤ number i
   pub greatest : top ≡ top_number uses number (length shape.parts)
   pub fits : Fits shape.parts ranking
   pub scale : ranking.scale ≡ pos 0
@@ -35,3 +50,9 @@ pub record AreResourceRanks (shape : Shape) (uses : List UseSets) (number : ℕ 
   pub not_acquiring : (i : ℕ) (s : List ℕ) (k : ℕ) → (use_at uses i).resource ≡ false → AcceptsSome shape i s k → ((m : ℕ) → m < length shape.parts → acquires uses (accepted shape i s k) m ≡ false) → rank_there shape ranking i s k ≡ pos 0
   pub others : OthersRankZero shape ranking
   pub laps : (i n e : ℕ) → i < length shape.parts → lap_at shape ranking i n e ≡ 0
+
+pub record IsResourceRanking (shape : Shape) (uses : List UseSets) (ranking : Ranking) : Type 0 where
+  pub number : ℕ → ℕ
+  pub numbers : AreResourceNumbers shape uses number
+  pub top : ℕ
+  pub ranks : AreResourceRanks shape uses number top ranking
