@@ -1,6 +1,6 @@
 //! Boxed values, items in a row, found lists and numberings.
 
-use containers::{Boxed, FoundList, Items, Numbering};
+use containers::{Boxed, Items, Numbering};
 use csp_base::NoMemory;
 use std::alloc::Global;
 use std::test::Fail;
@@ -75,59 +75,6 @@ fn value_is_held(alloc: Global) -> Result<bool, NoMemory> {
 #[test]
 fn a_value_is_held(rt: HostRuntime) -> Result<(), Fail> {
     assert!(rt; value_is_held(rt.alloc())?);
-    Ok(())
-}
-
-// Whether the number is new or not, as is said, and stands in the list after.
-fn adds(found: &mut FoundList, x: u32, is_new: bool) -> Result<bool, NoMemory> {
-    if x as usize >= found.bound() {
-        return Ok(false);
-    }
-    let added = found.add(x)?;
-    Ok(added == is_new && found.contains(x))
-}
-
-fn add_numbers(found: &mut FoundList) -> Result<bool, NoMemory> {
-    for (x, is_new) in [(3, true), (6, true), (3, false), (0, true), (6, false)] {
-        if !adds(found, x, is_new)? {
-            return Ok(false);
-        }
-    }
-    Ok(true)
-}
-
-// Whether the list is 3, 6 and 0.
-fn is_found(found: &FoundList) -> bool {
-    found.bound() == 7
-        && found.len() == 3
-        && !found.is_empty()
-        && found.as_slice() == [3, 6, 0].as_slice()
-        && found.item(1) == 6
-}
-
-fn found_places(found: &FoundList) -> bool {
-    found.get(0) == Some(3) && found.get(2) == Some(0) && found.get(3) == None
-}
-
-fn lacks_others(found: &FoundList) -> bool {
-    !found.contains(1) && !found.contains(7) && !found.contains(4_000_000_000)
-}
-
-fn found_list(alloc: Global) -> Result<FoundList, NoMemory> {
-    Ok(FoundList::new(alloc, 7)?)
-}
-
-fn numbers_are_listed_once(alloc: Global) -> Result<bool, NoMemory> {
-    let mut found = found_list(alloc)?;
-    let is_empty = found.is_empty();
-    let are_added = add_numbers(&mut found)?;
-    let is_read = is_found(&found) && found_places(&found) && lacks_others(&found);
-    Ok(is_empty && are_added && is_read && found.into_vec().as_slice() == [3, 6, 0].as_slice())
-}
-
-#[test]
-fn each_number_is_listed_once(rt: HostRuntime) -> Result<(), Fail> {
-    assert!(rt; numbers_are_listed_once(rt.alloc())?);
     Ok(())
 }
 

@@ -2,7 +2,7 @@
 use Rattle.std.proofs.Common.{◌≡◌, ℕ, zero, suc, ◌+◌, ◌<◌, ◌≤◌, List, [], ◌∷◌, length, get_or, refl, inl, inr, ◌↔◌, IsTrue, true, nat_eq, eq-eqb, arith}
 use Rattle.std.proofs.lemmas.Bool.{cases_lt, false≢true}
 use Rattle.std.proofs.lemmas.List.Folds.{list_any_at}
-use Rattle.containers.specs.Members.{has}
+use Rattle.csp_base.specs.Members.{has}
 use Rattle.digraph.specs.Digraph.{Digraph, targets_of, HasArc, InRange}
 use Rattle.digraph.specs.Walk.{Walk, IsLongestWalk, AreHeights}
 use Rattle.digraph.specs.Circle.{IsCircle}
@@ -42,7 +42,7 @@ heights_step g heights kept h v below above =
 -- a row that has nothing is empty
 empty_row : (row : List ℕ) → ((w : ℕ) → IsTrue (has row w) → ⊥) → row ≡ []
 empty_row [] none' = refl
-empty_row (w ∷ ws) none' = absurd (none' w (list_any_at (nat_eq w) (w ∷ ws) 0 0 (omega arith) (eq-eqb w w refl)))
+empty_row (w ∷ ws) none' = absurd (none' w (list_any_at (λ y. nat_eq y w) (w ∷ ws) 0 0 (omega arith) (eq-eqb w w refl)))
 
 -- heights are 0 just at sinks
 pub heights_at_sinks : (g : Digraph) (heights : List ℕ) → InRange g → AreHeights (HasArc g) (length g) heights → (v : ℕ) → v < length g → (get_or heights v 0 ≡ 0) ↔ (targets_of g v ≡ [])

@@ -1,3 +1,4 @@
+pub mod Listing
 pub mod Arcs
 pub mod WalkLaws
 pub mod HeightLaws

@@ -1,25 +1,28 @@
 -- What a search finds from its sources on is what walks reach.
 use Rattle.std.proofs.Common.{◌≡◌, ◌↔◌, ℕ, zero, suc, ◌+◌, ◌<◌, ◌≤◌, Bool, true, false, ◌||◌, nat_eq, IsTrue, List, [], ◌∷◌, ◌++◌, length, take, get_or, refl, sym, ap, subst, ◌∙◌, inl, inr, ◌⊎◌, arith, eq-eqb}
 use Rattle.std.specs.List.{All, flat_map, IsDistinct}
+use Rattle.std.specs.Set.{is_member}
 use Rattle.std.proofs.lemmas.List.{append-nil, append_assoc, get_or_read, length-append, take-append-le, take_all, take_more}
 use Rattle.std.proofs.lemmas.List.Sums.{fold-append}
 use Rattle.std.proofs.lemmas.List.Folds.{list_any-append, list_any_at, Any-from_list_any}
 use Rattle.std.proofs.lemmas.Grind.{flat_map-append}
 use Rattle.std.proofs.lemmas.Bool.{cases_Bool, cond-true, cond-false, or_cases, or_left, or_right, eqb-true}
 use Rattle.std.proofs.lemmas.Cmp.{nat_eq_equiv}
-use Rattle.containers.specs.Members.{has, with_new}
+use Rattle.csp_base.specs.Members.{has}
+use Rattle.containers.specs.Members.{with_new}
 use Rattle.containers.proofs.MembersLemmas.{IsDistinct-with_new}
 use Rattle.digraph.specs.Digraph.{Digraph, targets_of, HasArc}
 use Rattle.digraph.specs.Walk.{Walk, ReachesFrom}
+use Rattle.digraph.proofs.Listing.{same_has}
 use Rattle.digraph.proofs.WalkLaws.{Reaches-arc, Reaches-itself}
 use Rattle.digraph.specs.FoundOrder.{found_after, found_over}
 
 -- one number more
 with_new-cases : (xs : List ℕ) (x : ℕ) → ((has xs x ≡ true) × (with_new nat_eq xs x ≡ xs)) ⊎ ((has xs x ≡ false) × (with_new nat_eq xs x ≡ xs ++ x ∷ []))
 with_new-cases xs x =
-    elim (cases_Bool (has xs x)) as (λ _. ((has xs x ≡ true) × (with_new nat_eq xs x ≡ xs)) ⊎ ((has xs x ≡ false) × (with_new nat_eq xs x ≡ xs ++ x ∷ []))) [
-      | inl known ↦ inl (known, cond-true (has xs x) xs (xs ++ x ∷ []) known)
-      | inr other ↦ inr (other, cond-false (has xs x) xs (xs ++ x ∷ []) other)
+    elim (cases_Bool (is_member nat_eq xs x)) as (λ _. ((has xs x ≡ true) × (with_new nat_eq xs x ≡ xs)) ⊎ ((has xs x ≡ false) × (with_new nat_eq xs x ≡ xs ++ x ∷ []))) [
+      | inl known ↦ inl (same_has xs x ∙ known, cond-true (is_member nat_eq xs x) xs (xs ++ x ∷ []) known)
+      | inr other ↦ inr (same_has xs x ∙ other, cond-false (is_member nat_eq xs x) xs (xs ++ x ∷ []) other)
     ]
 
 or_false : (b : Bool) → (b || false) ≡ b
@@ -35,17 +38,17 @@ or_same true b h = refl
 or_same false true h = h refl
 or_same false false h = refl
 
-has-with_new : (xs : List ℕ) (x v : ℕ) → has (with_new nat_eq xs x) v ≡ (has xs v || nat_eq v x)
+has-with_new : (xs : List ℕ) (x v : ℕ) → has (with_new nat_eq xs x) v ≡ (has xs v || nat_eq x v)
 has-with_new xs x v =
-    elim (with_new-cases xs x) as (λ _. has (with_new nat_eq xs x) v ≡ (has xs v || nat_eq v x)) [
-      | inl p ↦ rw p.1 (or_same (has xs v) (nat_eq v x) (λ e. let same : v ≡ x = eqb-true v x e in rw same p.0))
-      | inr p ↦ rw (p.1, list_any-append (nat_eq v) xs (x ∷ []), or_false (nat_eq v x))
+    elim (with_new-cases xs x) as (λ _. has (with_new nat_eq xs x) v ≡ (has xs v || nat_eq x v)) [
+      | inl p ↦ rw p.1 (or_same (has xs v) (nat_eq x v) (λ e. let same : x ≡ v = eqb-true x v e in rw (← same) p.0))
+      | inr p ↦ rw (p.1, list_any-append (λ y. nat_eq y v) xs (x ∷ []), or_false (nat_eq x v))
     ]
 
 pub has-found_after : (before xs : List ℕ) (v : ℕ) → has (found_after before xs) v ≡ (has before v || has xs v)
 has-found_after before [] v = sym (or_false (has before v))
 has-found_after before (x ∷ xs) v =
-    has-found_after (with_new nat_eq before x) xs v ∙ (ap (λ b. b || has xs v) (has-with_new before x v) ∙ or_assoc (has before v) (nat_eq v x) (has xs v))
+    has-found_after (with_new nat_eq before x) xs v ∙ (ap (λ b. b || has xs v) (has-with_new before x v) ∙ or_assoc (has before v) (nat_eq x v) (has xs v))
 
 -- what was found before stays in front
 pub found_after_grows : (before xs : List ℕ) → (more : List ℕ) × (found_after before xs ≡ before ++ more)
@@ -60,8 +63,8 @@ found_after_grows before (x ∷ xs) =
 has-flat_map : (f : ℕ → List ℕ) (us : List ℕ) (u w : ℕ) → IsTrue (has us u) → IsTrue (has (f u) w) → IsTrue (has (flat_map f us) w)
 has-flat_map f [] u w h k = absurd (cc)
 has-flat_map f (y ∷ ys) u w h k =
-    rw (list_any-append (nat_eq w) (f y) (flat_map f ys)) (elim (or_cases (nat_eq u y) (has ys u) h) as (λ _. (has (f y) w || has (flat_map f ys) w) ≡ true) [
-      | inl same ↦ let e : u ≡ y = eqb-true u y same in or_left (has (f y) w) (has (flat_map f ys) w) (rw e at k)
+    rw (list_any-append (λ z. nat_eq z w) (f y) (flat_map f ys)) (elim (or_cases (nat_eq y u) (has ys u) h) as (λ _. (has (f y) w || has (flat_map f ys) w) ≡ true) [
+      | inl same ↦ let e : u ≡ y = sym (eqb-true y u same) in or_left (has (f y) w) (has (flat_map f ys) w) (rw e at k)
       | inr later ↦ or_right (has (f y) w) (has (flat_map f ys) w) (has-flat_map f ys u w later k)
     ])
 
@@ -78,9 +81,9 @@ order_more g sources place old new h order is =
 
 listed_below : (xs : List ℕ) (n v : ℕ) → All (λ v. v < n) xs → has xs v ≡ true → v < n
 listed_below xs n v all h =
-    let found = Any-from_list_any (nat_eq v) xs h in
+    let found = Any-from_list_any (λ y. nat_eq y v) xs h in
     let here = sym (get_or_read xs found.0 found.1 found.2 (sym found.3) 0) in
-    let same : v ≡ found.1 = eqb-true v found.1 found.4 in
+    let same : v ≡ found.1 = sym (eqb-true found.1 v found.4) in
     rw same (rw here at (all found.0 0 found.2))
 
 -- What holds while the search goes on: the vertices before the place were looked at.
@@ -105,7 +108,7 @@ module _ (g : Digraph) (sources old new : List ℕ) (place : ℕ) (range : All (
   from_either v h = or_cases (has old v) (has (targets_of g (get_or old place 0)) v) (sym (ap (λ (xs : List ℕ). has xs v) is ∙ has-found_after old (targets_of g (get_or old place 0)) v) ∙ h)
 
   place_found : has old (get_or old place 0) ≡ true
-  place_found = list_any_at (nat_eq (get_or old place 0)) old place 0 at (eq-eqb (get_or old place 0) (get_or old place 0) refl)
+  place_found = list_any_at (λ y. nat_eq y (get_or old place 0)) old place 0 at (eq-eqb (get_or old place 0) (get_or old place 0) refl)
 
   pub searched_more : IsSearched g sources new (place + 1)
   searched_more =
@@ -126,7 +129,7 @@ module _ (g : Digraph) (sources found : List ℕ) (place : ℕ) (ends : length f
   whole = s.order ∙ ap (found_over g sources) (take_all place found ends)
 
   both : (v : ℕ) → has found v ≡ (has sources v || has (flat_map (targets_of g) found) v)
-  both v = ap (λ (xs : List ℕ). has xs v) whole ∙ (has-found_after [] (sources ++ flat_map (targets_of g) found) v ∙ list_any-append (nat_eq v) sources (flat_map (targets_of g) found))
+  both v = ap (λ (xs : List ℕ). has xs v) whole ∙ (has-found_after [] (sources ++ flat_map (targets_of g) found) v ∙ list_any-append (λ y. nat_eq y v) sources (flat_map (targets_of g) found))
 
   closed : (u w : ℕ) → has found u ≡ true → HasArc g u w → has found w ≡ true
   closed u w h arc = both w ∙ or_right (has sources w) (has (flat_map (targets_of g) found) w) (has-flat_map (targets_of g) found u w h arc)
@@ -142,7 +145,7 @@ module _ (g : Digraph) (sources found : List ℕ) (place : ℕ) (ends : length f
   )
 
   pub all_below : All (λ v. v < length g) found
-  all_below k d h = s.below (get_or found k d) (list_any_at (nat_eq (get_or found k d)) found k d h (eq-eqb _ _ refl))
+  all_below k d h = s.below (get_or found k d) (list_any_at (λ y. nat_eq y (get_or found k d)) found k d h (eq-eqb _ _ refl))
 
 distinct_found : (before xs : List ℕ) → IsDistinct nat_eq before → IsDistinct nat_eq (found_after before xs)
 distinct_found before [] h = h

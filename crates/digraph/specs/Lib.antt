@@ -5,4 +5,3 @@ pub mod Turn
 pub mod Search
 pub mod FoundOrder
 pub use Rattle.containers.specs.Members
-pub use Rattle.containers.specs.Found

@@ -1,6 +1,6 @@
 -- Walks over any relation of arcs: Arc x y says that an arc leads from x to y. The length of a walk is the number of its arcs.
 use Rattle.std.specs.Prelude.{◌≡◌, ◌≤◌, ◌<◌, ℕ, zero, suc, List, IsTrue, length, slice_index}
-use Rattle.containers.specs.Members.{has}
+use Rattle.csp_base.specs.Members.{has}
 
 -- n arcs in a row lead from x to y
 abbrev pub Walk : {V : Type 0} → (V → V → Type 0) → ℕ → V → V → Type 0

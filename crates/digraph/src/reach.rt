@@ -1,6 +1,6 @@
 ghost use Rattle.std.specs.Prelude.{◌≡◌, ℕ, ◌<◌, ◌↔◌, All, nat_eq, length, IsTrue, IfOk, OnOk};
 ghost use Rattle.std.specs.List.{IsDistinct};
-ghost use Rattle.containers.specs.Members.{has};
+ghost use Rattle.csp_base.specs.Members.{has};
 ghost use Rattle.digraph.specs.Digraph.{HasArc};
 ghost use Rattle.digraph.specs.Walk.{ReachesFrom};
 ghost use Rattle.digraph.specs.FoundOrder.{found_after, found_over};

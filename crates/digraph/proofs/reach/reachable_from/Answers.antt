@@ -3,6 +3,7 @@ use Rattle.std.proofs.lemmas.List.Folds.{list_any_at}
 use Rattle.std.proofs.lemmas.Map.Steps.{length-le_from_distinct_below}
 use Rattle.digraph.specs.Digraph.{targets_of}
 use Rattle.digraph.specs.FoundOrder.{found_after}
+use Rattle.digraph.proofs.Listing.{same_has}
 use Rattle.digraph.proofs.Reaching.{searched_first, searched_more, whole, members_found, all_below, distinct_over}
 use Rattle.digraph.proofs.reach.reachable_from.Goals as goal
 
@@ -13,12 +14,12 @@ pub targets-requires : goal.targets-requires
 targets-requires c =
     let found = c.loop-place.found in
     let below : c.loop-place.place < length found = omega arith in
-    let inside : get_or found c.loop-place.place 0 < length c.args.rows.now = c.loop-place.invariant.below (get_or found c.loop-place.place 0) (list_any_at (nat_eq (get_or found c.loop-place.place 0)) found c.loop-place.place 0 below (eq-eqb _ _ refl)) in
+    let inside : get_or found c.loop-place.place 0 < length c.args.rows.now = c.loop-place.invariant.below (get_or found c.loop-place.place 0) (list_any_at (λ y. nat_eq y (get_or found c.loop-place.place 0)) found c.loop-place.place 0 below (eq-eqb _ _ refl)) in
     subst (λ (xs : List ℕ). get_or xs c.loop-place.place 0 < length c.args.rows.now) (sym c.as_slice.ensures.value) inside
 
 pub loop-place-smaller : goal.loop-place-smaller
 loop-place-smaller c =
-    let few : length c.loop-place.found ≤ length c.args.rows.now = length-le_from_distinct_below c.loop-place.found (length c.args.rows.now) c.as_slice.ensures.distinct c.loop-place.invariant.below in
+    let few : length c.loop-place.found ≤ length c.args.rows.now = length-le_from_distinct_below c.loop-place.found (length c.args.rows.now) c.as_slice.ensures.distinct (λ q h. c.loop-place.invariant.below q (same_has c.loop-place.found q ∙ h)) in
     omega arith
 
 pub loop-place-preserved : goal.loop-place-preserved
