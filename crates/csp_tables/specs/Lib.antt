@@ -16,6 +16,7 @@ pub mod RawForm
 pub mod RawTable
 pub mod Roles
 pub mod Shape
+pub mod ShapeOf
 pub mod SilentBound
 pub mod Standing
 pub mod Stands
