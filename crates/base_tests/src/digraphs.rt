@@ -114,7 +114,7 @@ fn vertices_that_walks_reach(rt: HostRuntime) -> Result<(), Fail> {
     for (name, count, arcs, start, want) in cases {
         let rows = digraph(&rt, rt.alloc(), count, arcs)?;
         assert!(rt; (start as usize) < rows.len());
-        let found = reachable_from(rt.alloc(), &rows, start)?;
+        let found = reachable_from(rt.alloc(), &rows, &[start])?;
         assert_eq!(rt; found.as_slice(), want, "{name}");
     }
     Ok(())

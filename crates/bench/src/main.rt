@@ -12,7 +12,7 @@ use std::alloc::Global;
 use std::env;
 use std::process::ExitCode;
 use std::rt::Env;
-use tables::{blocks, row, row_by_rounds, row_sets, silent_chain, subsets};
+use tables::{blocks, row, row_sets, silent_chain, subsets};
 use terms::substituted;
 use values::{bindings, production};
 use workloads::{chain, layers, numbering, reached, sets};
@@ -48,7 +48,6 @@ fn run_once(alloc: Global, workload: &str, size: u32) -> Option<u64> {
         "subsets" => subsets(alloc).ok(),
         "row-sets" => row_sets(alloc, size).ok(),
         "row" => row(alloc, size).ok(),
-        "row-by-rounds" => row_by_rounds(alloc, size).ok(),
         "blocks" => blocks(alloc, size).ok(),
         "substituted" => substituted(alloc, size).ok(),
         "pool" => pool(alloc, size).ok(),

@@ -4,7 +4,7 @@
 use csp_base::{Event, NoMemory};
 use csp_tables::{NormTable, RawTable};
 use determinise::{SetFault, determinise};
-use normal_form::{NormFault, normalise, normalise_by_rounds};
+use normal_form::{NormFault, normalise};
 use std::alloc::Global;
 use tau_order::{HeightFault, heights};
 
@@ -167,22 +167,16 @@ fn size_of(table: &NormTable) -> u64 {
     (table.len() as u64).wrapping_add(steps)
 }
 
-fn by_splitters(alloc: Global, table: &RawTable) -> Result<u64, TableFault> {
+fn normal_size(alloc: Global, table: &RawTable) -> Result<u64, TableFault> {
     let found = heights(alloc, table)?;
     let normal = normalise(alloc, table, &found)?;
-    Ok(size_of(&normal))
-}
-
-fn by_rounds(alloc: Global, table: &RawTable) -> Result<u64, TableFault> {
-    let found = heights(alloc, table)?;
-    let normal = normalise_by_rounds(alloc, table, &found)?;
     Ok(size_of(&normal))
 }
 
 /// The normal form of twelve terms that reach 2,048 sets.
 pub fn subsets(alloc: Global) -> Result<u64, TableFault> {
     let table = mixed_table(alloc)?;
-    by_splitters(alloc, &table)
+    normal_size(alloc, &table)
 }
 
 /// The sets of terms that traces of terms in a row lead to.
@@ -195,17 +189,11 @@ pub fn row_sets(alloc: Global, count: u32) -> Result<u64, TableFault> {
 /// The normal form of terms in a row, of which no two have the same future.
 pub fn row(alloc: Global, count: u32) -> Result<u64, TableFault> {
     let table = row_table(alloc, count)?;
-    by_splitters(alloc, &table)
-}
-
-/// The same, merged round by round.
-pub fn row_by_rounds(alloc: Global, count: u32) -> Result<u64, TableFault> {
-    let table = row_table(alloc, count)?;
-    by_rounds(alloc, &table)
+    normal_size(alloc, &table)
 }
 
 /// The normal form of terms in blocks with many silent steps.
 pub fn blocks(alloc: Global, count: u32) -> Result<u64, TableFault> {
     let table = block_table(alloc, count)?;
-    by_splitters(alloc, &table)
+    normal_size(alloc, &table)
 }

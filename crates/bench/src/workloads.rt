@@ -74,7 +74,7 @@ pub fn reached(alloc: Global, vertices: u32) -> Result<u64, NoMemory> {
     if rows.is_empty() {
         return Ok(0);
     }
-    let found = reachable_from(alloc, &rows, 0)?;
+    let found = reachable_from(alloc, &rows, &[0])?;
     Ok(found.len() as u64)
 }
 

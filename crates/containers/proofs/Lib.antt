@@ -1,4 +1,3 @@
-pub mod FoundLemmas
 pub mod MembersLemmas
 pub mod NumberingLemmas
 pub mod SameLemmas

@@ -1,5 +1,5 @@
 -- The numbered table of one component: the terms that it reaches by itself, numbered from 0, and their steps.
-use Rattle.std.specs.Prelude.{◌≡◌, ◌<◌, ◌≤◌, ℕ, List, Some, length, slice_get}
+use Rattle.std.specs.Prelude.{◌≡◌, ℕ, List, Some, length, slice_get}
 use Rattle.csp_tables.specs.Label.{Label}
 use Rattle.csp_tables.specs.Label.Label.{silent, visible}
 use Rattle.csp_tables.specs.Path.{Reached}
@@ -16,10 +16,9 @@ abbrev pub RawStep : RawTable → ℕ → Label → ℕ → Type 0
 RawStep raw m silent n = (k : ℕ) × (slice_get raw.silent k ≡ Some (m, n))
 RawStep raw m (visible e) n = (k : ℕ) × (slice_get raw.steps k ≡ Some (m, e, n))
 
--- there is a term, and every number of a step is below the count
-pub record IsInRange (raw : RawTable) : Type 0 where
-  pub some : 1 ≤ raw.count
-  pub steps : (m n : ℕ) (l : Label) → RawStep raw m l n → (m < raw.count) × (n < raw.count)
+-- no value stands twice in the list
+abbrev pub EachOnce : {A : Type 0} → List A → Type 0
+EachOnce {A} xs = (j k : ℕ) (x : A) → slice_get xs j ≡ Some x → slice_get xs k ≡ Some x → j ≡ k
 
 -- the component with another term in place of its own
 abbrev pub standing_at : {T : Type 0} → Component T → T → Component T
@@ -39,10 +38,14 @@ pub record IsInTable {T : Type 0} (terms : List T) (raw : RawTable) (m : ℕ) (l
   pub listed : slice_get terms number ≡ Some d.term
   pub step : RawStep raw m l number
 
--- The table has exactly the terms that the component reaches by itself, its own term first, and exactly their steps.
+-- The table has exactly the terms that the component reaches by itself, its own term first, and exactly their steps: each
+-- term once, and each step once.
 pub record IsTableOf {T : Type 0} (Step : T → Label → T → Type 0) (c : Component T) (terms : List T) (raw : RawTable) : Type 0 where
   pub first : slice_get terms 0 ≡ Some c.term
   pub count : length terms ≡ raw.count
+  pub terms_once : EachOnce terms
+  pub silent_once : EachOnce raw.silent
+  pub steps_once : EachOnce raw.steps
   pub reached : (n : ℕ) (x : T) → slice_get terms n ≡ Some x → Reached (ComponentStep Step) c (standing_at c x)
   pub sound : (m n : ℕ) (l : Label) → RawStep raw m l n → IsStepOf Step c terms m l n
   pub complete : (m : ℕ) (x : T) (l : Label) (d : Component T) → slice_get terms m ≡ Some x → ComponentStep Step (standing_at c x) l d → IsInTable terms raw m l d

@@ -1,9 +1,6 @@
 -- The sets that a script tells of a component: the requests and acknowledgements of a client and of a server; what acquires
 -- and what releases a resource. A component of which nothing is told has empty sets.
-use Rattle.std.specs.Prelude.{◌≡◌, ℕ, List, [], Bool, false, ◌&&◌, get_or, if◌then◌else◌}
-use Rattle.csp_base.specs.Members.{has}
-use Rattle.csp_tables.specs.Part.{part_at, sharers}
-use Rattle.csp_tables.specs.Shape.{Shape}
+use Rattle.std.specs.Prelude.{ℕ, List, [], Bool, false, get_or}
 
 -- requests and acknowledgements as a client, requests and acknowledgements as a server
 pub record RoleSets : Type 0 where
@@ -22,7 +19,3 @@ pub record UseSets : Type 0 where
 
 abbrev pub use_at : List UseSets → ℕ → UseSets
 use_at uses i = get_or uses i (record { resource = false; acquire = []; release = [] })
-
--- Each shared event of the part is in exactly one of the sets, and no other event is in any.
-abbrev pub PartShared : Shape → ℕ → List (List ℕ) → Type 0
-PartShared shape i sets = (e : ℕ) → sharers sets e ≡ (if has (part_at shape.parts i).alphabet e && has shape.vocabulary e then 1 else 0)

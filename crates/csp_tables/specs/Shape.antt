@@ -2,7 +2,8 @@
 -- two parts or more have.
 use Rattle.std.specs.Prelude.{◌≡◌, ◌<◌, ◌≤◌, ◌↔◌, ◌⊎◌, ◌^◌, ℕ, List, [], Bool, ◌||◌, nat_eq, IsTrue, length, get_or}
 use Rattle.csp_base.specs.Members.{has}
-use Rattle.csp_tables.specs.Table.{Node, node_at, is_possible, IsRun, end_of}
+use Rattle.csp_tables.specs.Table.{node_at, is_possible}
+pub use Rattle.csp_tables.specs.Table.{IsReached}
 use Rattle.csp_tables.specs.Part.{Part, part_at, alphabets_of, sharers, Meet, IsNonEmpty}
 use Rattle.csp_tables.specs.Form.{HaveForm}
 
@@ -51,16 +52,10 @@ abbrev pub LinksRise : Shape → Type 0
 LinksRise shape = (l m : ℕ) → l < m → m < length shape.links → IsBelow (link_at shape l) (link_at shape m)
 
 -- The parts and the links are numbered by numbers below 2 ^ 32, and the links rise.
-pub record IsInOrder (shape : Shape) : Type 0 where
+pub record LinksAreOrdered (shape : Shape) : Type 0 where
   pub parts_numbered : length shape.parts < 2 ^ 32
   pub links_numbered : length shape.links < 2 ^ 32
   pub links_rise : LinksRise shape
-
--- A node is reached where events lead to it from the first node.
-pub record IsReached (table : List Node) (n : ℕ) : Type 0 where
-  pub run : List ℕ
-  pub follows : IsRun table run
-  pub leads : end_of table 0 run ≡ n
 
 -- the acceptance in place k of the node n
 abbrev pub acceptance_at : Part → ℕ → ℕ → List ℕ

@@ -1,6 +1,6 @@
 -- The table of a component: numbered nodes, node 0 first. A node has the events that are possible there, each with the
 -- node to which it leads, and a list of acceptances, which are sets of events.
-use Rattle.std.specs.Prelude.{ℕ, List, [], ◌∷◌, Bool, true, false, ◌&&◌, ◌||◌, IsTrue, nat_eq, if◌then◌else◌, get_or}
+use Rattle.std.specs.Prelude.{◌≡◌, ℕ, List, [], ◌∷◌, Bool, true, false, ◌&&◌, ◌||◌, IsTrue, nat_eq, if◌then◌else◌, get_or}
 
 pub record Node : Type 0 where
   pub next : List (ℕ × ℕ)
@@ -40,3 +40,9 @@ acceptances_after table s = (node_at table (end_of table 0 s)).accept
 -- the events are followed from the first node
 abbrev pub IsRun : List Node → List ℕ → Type 0
 IsRun table s = IsTrue (is_run table 0 s)
+
+-- A node is reached where events lead to it from the first node.
+pub record IsReached (table : List Node) (n : ℕ) : Type 0 where
+  pub run : List ℕ
+  pub follows : IsRun table run
+  pub leads : end_of table 0 run ≡ n

@@ -8,14 +8,14 @@ use Rattle.csp_tables.specs.Label.Label.{silent, visible}
 use Rattle.csp_tables.specs.Path.{Path, Stable}
 
 -- the events of a list of labels, in order
-abbrev pub events_of : List Label → List ℕ
-events_of [] = []
-events_of (silent ∷ ls) = events_of ls
-events_of (visible e ∷ ls) = e ∷ events_of ls
+abbrev pub visible_events : List Label → List ℕ
+visible_events [] = []
+visible_events (silent ∷ ls) = visible_events ls
+visible_events (visible e ∷ ls) = e ∷ visible_events ls
 
 -- After Step start s t: silent steps and events lead from start to t, and the events in order are s.
 abbrev pub After : {S : Type 0} → (S → Label → S → Type 0) → S → List ℕ → S → Type 0
-After Step start s t = (ls : List Label) × Path Step start ls t × (events_of ls ≡ s)
+After Step start s t = (ls : List Label) × Path Step start ls t × (visible_events ls ≡ s)
 
 -- these events can be done in this order
 abbrev pub IsTrace : {S : Type 0} → (S → Label → S → Type 0) → S → List ℕ → Type 0

@@ -1,7 +1,7 @@
 //! Shapes of networks: the parts, the links between them, and the events that they share.
 
 ghost use Rattle.std.specs.Prelude.{◌≡◌, ◌<◌};
-ghost use Rattle.csp_tables.specs.Shape.{IsInOrder};
+ghost use Rattle.csp_tables.specs.Shape.{LinksAreOrdered};
 
 use crate::part::Part;
 use csp_base::EventSet;
@@ -73,19 +73,19 @@ pub struct Shape {
 }
 
 impl Model for Shape {
-    ghost use Rattle.csp_tables.specs.Shape.{Shape as ShapeValue, IsInOrder};
+    ghost use Rattle.csp_tables.specs.Shape.{Shape as ShapeValue, LinksAreOrdered};
 
     ghost Value = { ShapeValue };
 
     ghost view = { λ s. record { parts = s.parts.items; links = s.links.items; vocabulary = s.vocabulary } };
 
-    ghost invariant = { λ s. IsInOrder (record { parts = s.parts.items; links = s.links.items; vocabulary = s.vocabulary }) };
+    ghost invariant = { λ s. LinksAreOrdered (record { parts = s.parts.items; links = s.links.items; vocabulary = s.vocabulary }) };
 }
 
 impl Shape {
     /// The shape with these parts, links and shared events.
     pub fn new(parts: Vec<Part>, links: Vec<Link>, vocabulary: EventSet) -> Shape
-        requires { IsInOrder (record { parts = parts.items; links = links.items; vocabulary = vocabulary }) }
+        requires { LinksAreOrdered (record { parts = parts.items; links = links.items; vocabulary = vocabulary }) }
         ensures { result ≡ record { parts = parts.items; links = links.items; vocabulary = vocabulary } }
     {
         Shape {
@@ -98,7 +98,7 @@ impl Shape {
     /// The parts, in the order of their numbers.
     pub fn parts(&self) -> &[Part]
         ensures value { result.now ≡ self.now.parts }
-        ensures order { IsInOrder self.now }
+        ensures order { LinksAreOrdered self.now }
     {
         self.parts.as_slice()
     }
@@ -106,7 +106,7 @@ impl Shape {
     /// The links, in the order of their numbers.
     pub fn links(&self) -> &[Link]
         ensures value { result.now ≡ self.now.links }
-        ensures order { IsInOrder self.now }
+        ensures order { LinksAreOrdered self.now }
     {
         self.links.as_slice()
     }

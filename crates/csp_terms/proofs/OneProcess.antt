@@ -6,6 +6,7 @@ use Rattle.csp_tables.specs.Label.{Label}
 use Rattle.csp_tables.specs.Label.Label.{silent, visible}
 use Rattle.csp_tables.specs.Path.{Path, Silently, Stable}
 use Rattle.csp_tables.specs.Network.{Component, ComponentStep, Tree, NetworkStep}
+use Rattle.csp_tables.proofs.SilentPaths.{silent_path, path_silent}
 use Rattle.csp_tables.specs.Network.Tree.{leaf, parallel}
 use Rattle.csp_terms.specs.Term.{Term}
 use Rattle.csp_terms.specs.Term.Term.{prefix, call}
@@ -136,8 +137,8 @@ live s = record {
   quiet = λ x y n (ls, path) silence.
       let here = ends s x ls path in
       let P : Tree Term → Type 0 = λ z. Silently (NetworkStep (Step (program_of s))) n z y in
-      let on = leaf_runs (Step (program_of s)) here.0 y (replicate n silent) (subst P here.1 silence) in
-      once s here.0 on.0 n here.2 on.2;
+      let on = leaf_runs (Step (program_of s)) here.0 y (replicate n silent) (silent_path (NetworkStep (Step (program_of s))) n (leaf here.0) y (subst P here.1 silence)) in
+      once s here.0 on.0 n here.2 (path_silent (ComponentStep (Step (program_of s))) n here.0 on.0 on.2);
   moves = λ x (ls, path) stable.
       let here = ends s x ls path in
       let P : Tree Term → Type 0 = λ z. Stable (NetworkStep (Step (program_of s))) z in

@@ -12,9 +12,9 @@ use Rattle.csp_base.specs.Members.{has}
 use Rattle.csp_base.proofs.Rising.{rises_from_increasing, same_members}
 use Rattle.csp_tables.specs.RawTable.{RawTable, RawStep}
 use Rattle.csp_tables.specs.Table.{Node, end_of}
-use Rattle.determinise.specs.ManySets.{HaveSameTerms, ReachesSets}
+use Rattle.determinise.specs.ManySets.{HaveSameStates, ReachesSets}
 use Rattle.determinise.specs.Progress.{set_at, IsSetAfter, AreReachedSets, AreNodesSoFar}
-use Rattle.determinise.proofs.Closures.{same_tests}
+use Rattle.determinise.proofs.Groups.{same_tests}
 use Rattle.determinise.proofs.MoveLists.{any_place}
 use Rattle.determinise.proofs.Runs.{ends_at}
 
@@ -45,11 +45,11 @@ traces_to raw sets r (suc n) within =
     }
 
 -- traces with the same terms lead to the same set
-same_set : (raw : RawTable) (s t X Y : List ℕ) → IsSetAfter raw s X → IsSetAfter raw t Y → IsStrictlyIncreasing X → IsStrictlyIncreasing Y → HaveSameTerms (RawStep raw) 0 s t → X ≡ Y
+same_set : (raw : RawTable) (s t X Y : List ℕ) → IsSetAfter raw s X → IsSetAfter raw t Y → IsStrictlyIncreasing X → IsStrictlyIncreasing Y → HaveSameStates (RawStep raw) 0 s t → X ≡ Y
 same_set raw s t X Y a b rises_x rises_y same =
     same_members 0 0 X Y (rises_from_increasing X rises_x) (rises_from_increasing Y rises_y) (λ x. same_tests (has X x) (has Y x) (λ h. (b.terms x).1 ((same x).0 ((a.terms x).0 h))) (λ h. (a.terms x).1 ((same x).1 ((b.terms x).0 h))))
 
-same_terms : (raw : RawTable) (s t X Y : List ℕ) → IsSetAfter raw s X → IsSetAfter raw t Y → X ≡ Y → HaveSameTerms (RawStep raw) 0 s t
+same_terms : (raw : RawTable) (s t X Y : List ℕ) → IsSetAfter raw s X → IsSetAfter raw t Y → X ≡ Y → HaveSameStates (RawStep raw) 0 s t
 same_terms raw s t X Y a b same x = (
   λ h. (b.terms x).0 (subst (λ (S : List ℕ). IsTrue (has S x)) same ((a.terms x).1 h)),
   λ h. (a.terms x).0 (subst (λ (S : List ℕ). IsTrue (has S x)) (sym same) ((b.terms x).1 h)),

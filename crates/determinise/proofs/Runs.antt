@@ -8,7 +8,8 @@ use Rattle.csp_tables.specs.RawTable.{RawTable, RawStep}
 use Rattle.csp_tables.specs.Offer.{IsOfferOf, IsMinimalOffer}
 use Rattle.csp_tables.specs.Table.{Node, is_possible, node_at, node_after, is_run, end_of, acceptances_after}
 use Rattle.csp_tables.specs.BreadthFirst.{IsBreadthFirst, MeetsUpTo}
-use Rattle.determinise.specs.Determinised.{FollowsTraces, AreDifferentSets, HasAcceptances, IsInOrder}
+use Rattle.determinise.specs.Determinised.{FollowsTraces, AreDifferentSets}
+use Rattle.csp_tables.specs.NormalTable.{HasAcceptances, IsRisingNode}
 use Rattle.determinise.specs.Progress.{set_at, AreNodeSteps, IsNodeOf, IsSetAfter, AreReachedSets, AreNodesSoFar}
 use Rattle.determinise.proofs.Exploring.{move_after, next_after, event_of_move}
 
@@ -98,10 +99,10 @@ module _ (raw : RawTable) (sets : List (List ℕ)) (nodes : List Node) (so_far :
           (so_far.each (end_of nodes 0 s) e.0).accept.covered t ((e.1.terms t).1 after) stable;
     }
 
-  pub in_order : All IsInOrder nodes
+  pub in_order : All IsRisingNode nodes
   in_order k d h =
       let node = so_far.each k h in
-      subst IsInOrder (sym (get_or_default nodes k d (record { next = []; accept = [] }) h)) (record { events = node.steps.2.rising; members = node.accept.rising; acceptances = node.accept.order })
+      subst IsRisingNode (sym (get_or_default nodes k d (record { next = []; accept = [] }) h)) (record { events = node.steps.2.rising; members = node.accept.rising; acceptances = node.accept.order })
 
   pub breadth_first : IsBreadthFirst nodes
   breadth_first = record { all_met = subst (MeetsUpTo nodes) (sym all) so_far.met; in_turn = so_far.in_turn }

@@ -3,7 +3,7 @@ use Rattle.std.proofs.Common.{◌≡◌, ℕ, List, [], ◌∷◌, ◌++◌, ref
 use Rattle.csp_tables.specs.Label.{Label}
 use Rattle.csp_tables.specs.Label.Label.{silent, visible}
 use Rattle.csp_tables.specs.Path.{Path}
-use Rattle.csp_tables.specs.Trace.{After, events_of}
+use Rattle.csp_tables.specs.Trace.{After, visible_events}
 
 module _ (Step : ℕ → Label → ℕ → Type 0) where
   path_append : (ls ms : List Label) (s t u : ℕ) → Path Step s ls t → Path Step t ms u → Path Step s (ls ++ ms) u
@@ -13,7 +13,7 @@ module _ (Step : ℕ → Label → ℕ → Type 0) where
   pub After-append : (x y z : ℕ) (s w : List ℕ) → After Step x s y → After Step y w z → After Step x (s ++ w) z
   After-append x y z s w a b = (a.0 ++ b.0, path_append a.0 b.0 x y z a.1 b.1, events_append a.0 b.0 ∙ (λ i. a.2 i ++ b.2 i))
     where
-      events_append : (ls ms : List Label) → events_of (ls ++ ms) ≡ events_of ls ++ events_of ms
+      events_append : (ls ms : List Label) → visible_events (ls ++ ms) ≡ visible_events ls ++ visible_events ms
       events_append [] ms = refl
       events_append (silent ∷ ls) ms = events_append ls ms
       events_append (visible e ∷ ls) ms = ap (λ es. e ∷ es) (events_append ls ms)
@@ -39,13 +39,13 @@ module _ (Step : ℕ → Label → ℕ → Type 0) where
   with_event : (x m z a e : ℕ) (s w : List ℕ) → Step x (visible e) m → e ≡ a → Between m s w z → Between x (a ∷ s) w z
   with_event x m z a e s w step same b = record { middle = b.middle; front = (visible e ∷ b.front.0, (m, step, b.front.1), λ i. same i ∷ b.front.2 i); back = b.back }
 
-  cut : (ls : List Label) (s w : List ℕ) (x z : ℕ) → Path Step x ls z → events_of ls ≡ s ++ w → Between x s w z
+  cut : (ls : List Label) (s w : List ℕ) (x z : ℕ) → Path Step x ls z → visible_events ls ≡ s ++ w → Between x s w z
   cut ls [] w x z p e = record { middle = x; front = After-none x; back = (ls, p, e) }
   cut [] (a ∷ s) w x z p e = absurd (cc)
   cut (silent ∷ ls) (a ∷ s) w x z p e = longer x p.0 z (a ∷ s) w p.1 (cut ls (a ∷ s) w p.0 z p.2 e)
   cut (visible b ∷ ls) (a ∷ s) w x z p e =
       let first : b ≡ a = cc in
-      let rest : events_of ls ≡ s ++ w = cc in
+      let rest : visible_events ls ≡ s ++ w = cc in
       with_event x p.0 z a b s w p.1 first (cut ls s w p.0 z p.2 rest)
 
   pub After-cut : (x z : ℕ) (s w : List ℕ) → After Step x (s ++ w) z → Between x s w z
@@ -62,12 +62,12 @@ module _ (Step : ℕ → Label → ℕ → Type 0) where
   later : (x m z e : ℕ) (w : List ℕ) → Step x silent m → FirstEvent m e w z → FirstEvent x e w z
   later x m z e w step f = record { from = f.from; to = f.to; before = (silent ∷ f.before.0, (m, step, f.before.1), f.before.2); step = f.step; rest = f.rest }
 
-  event_of : (ls : List Label) (x e : ℕ) (w : List ℕ) (z : ℕ) → Path Step x ls z → events_of ls ≡ e ∷ w → FirstEvent x e w z
+  event_of : (ls : List Label) (x e : ℕ) (w : List ℕ) (z : ℕ) → Path Step x ls z → visible_events ls ≡ e ∷ w → FirstEvent x e w z
   event_of [] x e w z p h = absurd (cc)
   event_of (silent ∷ ls) x e w z p h = later x p.0 z e w p.1 (event_of ls p.0 e w z p.2 h)
   event_of (visible b ∷ ls) x e w z p h =
       let same : b ≡ e = cc in
-      let rest : events_of ls ≡ w = cc in
+      let rest : visible_events ls ≡ w = cc in
       record { from = x; to = p.0; before = After-none x; step = rw same at p.1; rest = (ls, p.2, rest) }
 
   pub After-first : (x e : ℕ) (w : List ℕ) (z : ℕ) → After Step x (e ∷ w) z → FirstEvent x e w z

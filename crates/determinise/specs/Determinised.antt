@@ -1,17 +1,12 @@
 -- The determinised table of a labelled transition system of numbered terms (the subset construction: Hopcroft, Motwani and
 -- Ullman, Introduction to Automata Theory, section 2.3; for acceptances Roscoe, The Theory and Practice of Concurrency, 1997,
 -- appendix C): a node for each set of terms that a trace leads to.
-use Rattle.std.specs.Prelude.{◌≡◌, ◌≢◌, ◌↔◌, ◌<◌, ℕ, List, [], length, get_or, map, IsTrue, All}
-use Rattle.std.specs.List.Sorted.{IsStrictlyIncreasing, IsStrictlySortedBy}
-use Rattle.std.specs.Cmp.Lexicographic.{slice_cmp}
-use Rattle.std.specs.Ordering.{nat_cmp}
+use Rattle.std.specs.Prelude.{◌≡◌, ◌≢◌, ◌↔◌, ◌<◌, ℕ, List, [], length, get_or, IsTrue, All}
+use Rattle.std.specs.List.Sorted.{IsStrictlyIncreasing}
 use Rattle.csp_base.specs.Members.{has}
 use Rattle.csp_tables.specs.Label.{Label}
-use Rattle.csp_tables.specs.Path.{Stable}
-use Rattle.csp_tables.specs.Trace.{After, IsTrace, IsAcceptance}
-use Rattle.csp_tables.specs.Table.{Node, IsRun, end_of, acceptances_after}
-use Rattle.csp_tables.specs.Behaviour.{OffersAcceptance}
-use Rattle.csp_tables.specs.NormalTable.{IsListed}
+use Rattle.csp_tables.specs.Trace.{After, IsTrace}
+use Rattle.csp_tables.specs.Table.{Node, IsRun, end_of}
 
 -- the nodes, and for each node its set of terms
 pub record Determinised : Type 0 where
@@ -32,16 +27,3 @@ pub record AreDifferentSets (made : Determinised) : Type 0 where
   pub one_each : length made.sets ≡ length made.nodes
   pub rising : All IsStrictlyIncreasing made.sets
   pub apart : (m n : ℕ) → m < n → n < length made.sets → get_or made.sets m [] ≢ get_or made.sets n []
-
--- After a trace the node has exactly the acceptances.
-pub record HasAcceptances (Step : ℕ → Label → ℕ → Type 0) (start : ℕ) (table : List Node) : Type 0 where
-  pub sound : (s : List ℕ) (k : ℕ) → IsTrace Step start s → k < length (acceptances_after table s) → IsAcceptance Step start s (get_or (acceptances_after table s) k [])
-  pub complete : (s M : List ℕ) → IsAcceptance Step start s M → IsListed (acceptances_after table s) M
-  -- Every stable state offers an acceptance whole. (For finite offers this follows from the two facts above, by a search.)
-  pub covered : (s : List ℕ) (t : ℕ) → After Step start s t → Stable Step t → OffersAcceptance Step t (acceptances_after table s)
-
--- the events of a node rise, each event of an acceptance does, and so do the acceptances, in the order of lists
-pub record IsInOrder (node : Node) : Type 0 where
-  pub events : IsStrictlyIncreasing (map (λ step. step.0) node.next)
-  pub members : All IsStrictlyIncreasing node.accept
-  pub acceptances : IsStrictlySortedBy (slice_cmp nat_cmp) node.accept

@@ -1,4 +1,3 @@
-pub mod Closed
 pub mod Determinised
 pub mod ManySets
 pub mod Moves

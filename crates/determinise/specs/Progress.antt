@@ -27,8 +27,8 @@ abbrev pub set_at : List (List ℕ) → ℕ → List ℕ
 set_at sets n = get_or sets n []
 
 -- no set stands twice
-abbrev pub AreApart : List (List ℕ) → Type 0
-AreApart sets = (m n : ℕ) → m < n → n < length sets → set_at sets m ≢ set_at sets n
+abbrev pub StandOnce : List (List ℕ) → Type 0
+StandOnce sets = (m n : ℕ) → m < n → n < length sets → set_at sets m ≢ set_at sets n
 
 -- a set of terms of the table, written as a rising list
 pub record IsTermSet (raw : RawTable) (set : List ℕ) : Type 0 where
@@ -56,7 +56,7 @@ pub record AreMoreSets (IsOfKind : List ℕ → Type 0) (old new : List (List �
   pub longer : length old ≤ length new
   pub kept : (n : ℕ) → n < length old → set_at new n ≡ set_at old n
   pub added : (n : ℕ) → length old ≤ n → n < length new → IsOfKind (set_at new n)
-  pub apart : AreApart old → AreApart new
+  pub apart : StandOnce old → StandOnce new
 
 -- the number of the set to which the event leads over these steps
 pub record LeadsToSet (raw : RawTable) (moves : List (ℕ × ℕ)) (sets : List (List ℕ)) (e n : ℕ) : Type 0 where
@@ -85,7 +85,7 @@ pub record AreReachedSets (raw : RawTable) (sets : List (List ℕ)) : Type 0 whe
   pub not_empty : 0 < length sets
   pub each : (n : ℕ) → n < length sets → (s : List ℕ) × IsSetAfter raw s (set_at sets n)
   pub forms : (n : ℕ) → n < length sets → IsTermSet raw (set_at sets n)
-  pub apart : AreApart sets
+  pub apart : StandOnce sets
 
 -- the first nodes, with the sets that are numbered so far
 pub record AreNodesSoFar (raw : RawTable) (sets : List (List ℕ)) (nodes : List Node) : Type 0 where

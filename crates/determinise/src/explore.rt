@@ -3,7 +3,8 @@
 ghost use Rattle.std.specs.Prelude.{◌≡◌, ◌↔◌, ◌+◌, ◌<◌, ◌≤◌, ◌++◌, ◌∷◌, [], ℕ, List, All, IsTrue, IfOk, OnOk, length};
 ghost use Rattle.csp_tables.specs.RawTable.{RawStep};
 ghost use Rattle.csp_tables.specs.BreadthFirst.{IsBreadthFirst};
-ghost use Rattle.determinise.specs.Determinised.{FollowsTraces, AreDifferentSets, HasAcceptances, IsInOrder};
+ghost use Rattle.determinise.specs.Determinised.{FollowsTraces, AreDifferentSets};
+ghost use Rattle.csp_tables.specs.NormalTable.{HasAcceptances, IsRisingNode};
 ghost use Rattle.determinise.specs.ManySets.{ReachesSets};
 ghost use Rattle.determinise.specs.Progress.{AreNodesSoFar, AreReachedSets};
 
@@ -25,7 +26,7 @@ pub fn determinise(alloc: Global, table: &RawTable) -> Result<SetTable, SetFault
     ensures traces { IfOk result (λ made. FollowsTraces (RawStep table.now) 0 made) }
     ensures sets { IfOk result AreDifferentSets }
     ensures acceptances { IfOk result (λ made. HasAcceptances (RawStep table.now) 0 made.nodes) }
-    ensures in_order { IfOk result (λ made. All IsInOrder made.nodes) }
+    ensures in_order { IfOk result (λ made. All IsRisingNode made.nodes) }
     ensures breadth_first { IfOk result (λ made. IsBreadthFirst made.nodes) }
     ensures few { IfOk result (λ made. length made.nodes ≤ 2048) }
 

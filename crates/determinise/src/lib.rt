@@ -13,6 +13,3 @@ mod table;
 pub use explore::determinise;
 pub use fault::SetFault;
 pub use table::SetTable;
-
-#[cfg(test)]
-mod tests;

@@ -4,8 +4,8 @@ use Rattle.std.specs.List.{All}
 use Rattle.std.proofs.lemmas.List.{get_or_default, drop_all, take_all, append-nil}
 use Rattle.digraph.specs.declared.walks.Mark.{Mark}
 use Rattle.digraph.specs.declared.walks.Mark.TheVariants.{New, Open, Done}
-use Rattle.digraph.specs.Digraph.{Digraph}
-use Rattle.digraph.specs.Height.{AreHeights}
+use Rattle.digraph.specs.Digraph.{Digraph, HasArc}
+use Rattle.digraph.specs.Walk.{AreHeights}
 use Rattle.digraph.specs.Search.{IsSearch, mark_at}
 use Rattle.digraph.proofs.Writes.{done_count-le}
 
@@ -25,10 +25,10 @@ module _ (g : Digraph) (marks : List Mark) (heights rest : List ℕ) (s : IsSear
         ]
       ]
 
-  pub heights_found : AreHeights g heights
+  pub heights_found : AreHeights (HasArc g) (length g) heights
   heights_found = record {
     one_each = s.heights_len;
-    each = λ v h. record { attained = s.attained v; most = s.most v (all_done v h) };
+    each = λ v h. let a = s.attained v in record { end = a.0; attained = a.1; most = s.most v (all_done v h) };
   }
 
   pub heights_below : All (λ height. height < length g) heights

@@ -1,11 +1,11 @@
 -- The search takes the last vertex off the trail, once all its targets were looked at.
-use Rattle.std.proofs.Common.{◌≡◌, ◌≢◌, ℕ, ◌+◌, ◌-◌, ◌<◌, ◌≤◌, List, [], ◌∷◌, length, set, take, get_or, sym, ap, ◌∙◌, inl, inr, ◌⊎◌, arith}
+use Rattle.std.proofs.Common.{◌≡◌, ◌≢◌, ℕ, zero, suc, ◌+◌, ◌-◌, ◌<◌, ◌≤◌, List, length, set, take, get_or, sym, ap, ◌∙◌, inl, inr, ◌⊎◌, arith}
 use Rattle.std.proofs.lemmas.List.{length-set, length-take-le, get_or-take}
 use Rattle.std.proofs.lemmas.Bool.{cases_lt}
 use Rattle.digraph.specs.declared.walks.Mark.{Mark}
 use Rattle.digraph.specs.declared.walks.Mark.TheVariants.{New, Open, Done}
-use Rattle.digraph.specs.Digraph.{Digraph}
-use Rattle.digraph.specs.Walk.{IsWalk}
+use Rattle.digraph.specs.Digraph.{Digraph, HasArc}
+use Rattle.digraph.specs.Walk.{Walk}
 use Rattle.digraph.specs.Search.{IsSearch, StaysMet, mark_at, done_count, work_left}
 use Rattle.digraph.proofs.Arcs.{place_of_arc}
 use Rattle.digraph.proofs.Writes.{after_set, open_within, done_count-done}
@@ -45,13 +45,14 @@ module _ (g : Digraph) (marks : List Mark) (heights rest trail : List ℕ) (s : 
   less_work_finishing = omega (arith, shorter)
 
   -- no walk from v is longer than its height
-  longest : (vs : List ℕ) → IsWalk g v vs → length vs ≤ get_or heights v 0
-  longest [] walk = omega arith
-  longest (w ∷ ws) walk =
-      let p = place_of_arc g v w walk.0 in
+  longest : (n u : ℕ) → Walk (HasArc g) n v u → n ≤ get_or heights v 0
+  longest zero u walk = omega arith
+  longest (suc n) u walk =
+      let w : ℕ = walk.0 in
+      let p = place_of_arc g v w walk.1 in
       let d = s.looked_at v p.0 opened (omega arith) p.1 in
       let l = s.lower v p.0 opened (omega arith) p.1 in
-      let m = s.most w (rw p.2 at d) ws walk.1 in
+      let m : n ≤ get_or heights w 0 = s.most w (rw p.2 at d) n u walk.2 in
       let e : get_or heights w 0 < get_or heights v 0 = rw p.2 at l in
       omega arith
 
@@ -90,9 +91,9 @@ module _ (g : Digraph) (marks : List Mark) (heights rest trail : List ℕ) (s : 
     looked_at = λ u k h l m. still_done _ (s.looked_at u k (was_open u h).1 l m);
     lower = λ u k h l m. s.lower u k (was_open u h).1 l m;
     attained = s.attained;
-    most = λ u h vs walk. elim (was_done u h) as (λ _. length vs ≤ get_or heights u 0) [
-      | inl same ↦ rw same (longest vs (rw same at walk))
-      | inr before ↦ s.most u before vs walk
+    most = λ u h n w walk. elim (was_done u h) as (λ _. n ≤ get_or heights u 0) [
+      | inl same ↦ rw same (longest n w (rw same at walk))
+      | inr before ↦ s.most u before n w walk
     ];
     counted = λ u. omega (arith, done_count-done marks v in_marks opened, s.counted u);
     counted_done = λ u h. elim (was_done u h) as (λ _. get_or heights u 0 < done_count (set marks v Done)) [

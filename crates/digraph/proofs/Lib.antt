@@ -1,3 +1,4 @@
+pub mod Listing
 pub mod Arcs
 pub mod WalkLaws
 pub mod HeightLaws
@@ -10,3 +11,4 @@ mod Looking
 mod Ending
 mod Turning
 pub mod Reaching
+pub mod Starting

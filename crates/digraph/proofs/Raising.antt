@@ -1,11 +1,11 @@
 -- The search takes the height of a target that is done into account.
-use Rattle.std.proofs.Common.{◌≡◌, ◌≢◌, ℕ, ◌+◌, ◌-◌, ◌<◌, ◌≤◌, List, ◌∷◌, length, set, get_or, max, ◌∙◌, inl, inr, ◌⊎◌, arith}
+use Rattle.std.proofs.Common.{◌≡◌, ◌≢◌, ℕ, suc, ◌+◌, ◌-◌, ◌<◌, ◌≤◌, List, length, set, get_or, max, ◌∙◌, inl, inr, ◌⊎◌, arith}
 use Rattle.std.proofs.lemmas.List.{length-set, get_or-set_same}
 use Rattle.std.proofs.lemmas.Bool.{cases_lt}
 use Rattle.digraph.specs.declared.walks.Mark.{Mark}
 use Rattle.digraph.specs.declared.walks.Mark.TheVariants.{Open, Done}
 use Rattle.digraph.specs.Digraph.{Digraph, targets_of, HasArc}
-use Rattle.digraph.specs.Walk.{IsWalk}
+use Rattle.digraph.specs.Walk.{Walk}
 use Rattle.digraph.specs.Search.{IsSearch, mark_at, done_count, work_left}
 use Rattle.digraph.proofs.Arcs.{HasArc-at}
 use Rattle.digraph.proofs.Writes.{after_set, open_within, sum-set}
@@ -54,12 +54,15 @@ module _ (g : Digraph) (marks : List Mark) (heights rest trail : List ℕ) (s : 
         | inr p ↦ inr (rw p.1 at l)
       ]
 
-  walk_then : (u : ℕ) → (vs : List ℕ) × IsWalk g u vs × (length vs ≡ get_or (set heights v (max (get_or heights v 0) (get_or heights w 0 + 1))) u 0)
+  walk_then : (u : ℕ) → (z : ℕ) × Walk (HasArc g) (get_or (set heights v (max (get_or heights v 0) (get_or heights w 0 + 1))) u 0) u z
   walk_then u =
-      elim (height_then u) as (λ _. (vs : List ℕ) × IsWalk g u vs × (length vs ≡ get_or (set heights v (max (get_or heights v 0) (get_or heights w 0 + 1))) u 0)) [
-        | inl p ↦ rw (p.1, p.0) (elim (cases_lt (get_or heights w 0) (get_or heights v 0)) as (λ _. (vs : List ℕ) × IsWalk g v vs × (length vs ≡ max (get_or heights v 0) (get_or heights w 0 + 1))) [
-          | inl lower ↦ let a = s.attained v in (a.0, a.1, omega (arith, a.2))
-          | inr higher ↦ let a = s.attained w in (w ∷ a.0, (arc, a.1), omega (arith, a.2))
+      elim (height_then u) as (λ _. (z : ℕ) × Walk (HasArc g) (get_or (set heights v (max (get_or heights v 0) (get_or heights w 0 + 1))) u 0) u z) [
+        | inl p ↦ rw (p.1, p.0) (elim (cases_lt (get_or heights w 0) (get_or heights v 0)) as (λ _. (z : ℕ) × Walk (HasArc g) (max (get_or heights v 0) (get_or heights w 0 + 1)) v z) [
+          | inl lower ↦ let e : max (get_or heights v 0) (get_or heights w 0 + 1) ≡ get_or heights v 0 = omega arith in rw e (s.attained v)
+          | inr higher ↦
+              let e : max (get_or heights v 0) (get_or heights w 0 + 1) ≡ suc (get_or heights w 0) = omega arith in
+              let a = s.attained w in
+              rw e (a.0, (w, arc, a.1))
         ])
         | inr p ↦ rw p.1 (s.attained u)
       ]
@@ -95,7 +98,7 @@ module _ (g : Digraph) (marks : List Mark) (heights rest trail : List ℕ) (s : 
       | inr p ↦ rw (height_same (get_or (targets_of g u) k 0) (s.looked_at u k h p m)) (omega (arith, s.lower u k h p m, height_le u))
     ];
     attained = walk_then;
-    most = λ u h vs walk. rw (height_same u h) (s.most u h vs walk);
+    most = λ u h n z walk. rw (height_same u h) (s.most u h n z walk);
     counted = λ u. elim (height_then u) as (λ _. get_or (set heights v (max (get_or heights v 0) (get_or heights w 0 + 1))) u 0 ≤ done_count marks) [
       | inl p ↦ rw p.1 (omega (arith, s.counted v, s.counted_done w done))
       | inr p ↦ rw p.1 (s.counted u)

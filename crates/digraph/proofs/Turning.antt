@@ -1,11 +1,26 @@
 -- A ring of vertices, turned so that the least is the first, is a circle.
-use Rattle.std.proofs.Common.{◌≡◌, ◌≢◌, ℕ, ◌+◌, ◌-◌, ◌<◌, ◌≤◌, List, ◌++◌, length, take, drop, get_or, nat_lt, refl, sym, ◌∙◌, inl, inr, ◌⊎◌, arith}
+use Rattle.std.proofs.Common.{◌≡◌, ◌≢◌, ℕ, ◌+◌, ◌-◌, ◌<◌, ◌≤◌, List, [], ◌∷◌, ◌++◌, length, take, drop, get_or, nat_lt, refl, sym, ◌∙◌, inl, inr, ◌⊎◌, arith}
 use Rattle.std.specs.List.{IsFirstBest}
 use Rattle.std.proofs.lemmas.List.{length-append, length-take-le, length-drop, get_or-take, get_or-drop, get_or_append_left, get_or-append_right}
 use Rattle.std.proofs.lemmas.Bool.{cases_lt, ltb-false}
 use Rattle.digraph.specs.Digraph.{Digraph, HasArc}
-use Rattle.digraph.specs.Circle.{IsRing, IsCircle}
+use Rattle.digraph.specs.Circle.{IsCircle, IsLeastCircle}
 use Rattle.digraph.specs.Turn.{IsTurnedFrom}
+use Rattle.digraph.proofs.WalkLaws.{Leads-from_places}
+
+-- a circle of distinct vertices, place by place
+pub record IsRing (g : Digraph) (vs : List ℕ) : Type 0 where
+  pub not_empty : 0 < length vs
+  pub arcs : (k : ℕ) → k + 1 < length vs → HasArc g (get_or vs k 0) (get_or vs (k + 1) 0)
+  pub closes : HasArc g (get_or vs (length vs - 1) 0) (get_or vs 0 0)
+  pub distinct : (j k : ℕ) → j < k → k < length vs → get_or vs j 0 ≢ get_or vs k 0
+
+circle_of_ring : (g : Digraph) (vs : List ℕ) → IsRing g vs → IsCircle (HasArc g) vs
+circle_of_ring g [] r = absurd (let h = r.not_empty in omega arith)
+circle_of_ring g (v ∷ vs) r =
+    let last : length (v ∷ vs) - 1 ≡ length vs = omega arith in
+    let back = r.closes in
+    Leads-from_places (HasArc g) v vs v r.arcs (rw last at back)
 
 -- the part of a trail from a place on, where the last vertex has an arc back to that place
 pub ring_from : (g : Digraph) (trail : List ℕ) (from : ℕ) → from < length trail → ((k : ℕ) → k + 1 < length trail → HasArc g (get_or trail k 0) (get_or trail (k + 1) 0)) → ((j k : ℕ) → j < k → k < length trail → get_or trail j 0 ≢ get_or trail k 0) → HasArc g (get_or trail (length trail - 1) 0) (get_or trail from 0) → IsRing g (drop from trail)
@@ -112,19 +127,23 @@ module _ (g : Digraph) (ring : List ℕ) (r : IsRing g ring) (m : ℕ) (best : I
       let le : get_or ring m 0 ≤ get_or ring q.0 0 = ltb-false (get_or ring q.0 0) (get_or ring m 0) (best.1 q.0 0 q.1) in
       rw (first, q.2) (omega arith)
 
-  pub turned_circle : IsCircle g (drop m ring ++ take m ring)
+  turned_ring : IsRing g (drop m ring ++ take m ring)
+  turned_ring = record {
+    not_empty = rw same_length r.not_empty;
+    arcs = turned_arcs;
+    closes = turned_closes;
+    distinct = turned_distinct;
+  }
+
+  pub turned_circle : IsLeastCircle (HasArc g) (drop m ring ++ take m ring)
   turned_circle = record {
-    ring = record {
-      not_empty = rw same_length r.not_empty;
-      arcs = turned_arcs;
-      closes = turned_closes;
-      distinct = turned_distinct;
-    };
+    circle = circle_of_ring g (drop m ring ++ take m ring) turned_ring;
+    distinct = turned_distinct;
     least_first = turned_least;
   }
 
 -- a circle that is found on a trail
-pub circle_on_trail : (g : Digraph) (trail : List ℕ) (first : ℕ) (circle : List ℕ) → ((k : ℕ) → k + 1 < length trail → HasArc g (get_or trail k 0) (get_or trail (k + 1) 0)) → ((j k : ℕ) → j < k → k < length trail → get_or trail j 0 ≢ get_or trail k 0) → HasArc g (get_or trail (length trail - 1) 0) first → IsTurnedFrom trail first circle → IsCircle g circle
+pub circle_on_trail : (g : Digraph) (trail : List ℕ) (first : ℕ) (circle : List ℕ) → ((k : ℕ) → k + 1 < length trail → HasArc g (get_or trail k 0) (get_or trail (k + 1) 0)) → ((j k : ℕ) → j < k → k < length trail → get_or trail j 0 ≢ get_or trail k 0) → HasArc g (get_or trail (length trail - 1) 0) first → IsTurnedFrom trail first circle → IsLeastCircle (HasArc g) circle
 circle_on_trail g trail first circle arcs distinct back t =
     let ring = ring_from g trail t.from t.within arcs distinct (rw t.is_first back) in
     rw t.is_turned (turned_circle g (drop t.from trail) ring t.least t.is_least)

@@ -1,7 +1,7 @@
 -- A digraph, as contracts see it: for each vertex, numbered from 0, the targets of the arcs that leave it.
 use Rattle.std.specs.Prelude.{ℕ, ◌<◌, Bool, IsTrue, List, [], length, map, slice_index_or, Vec}
 use Rattle.std.specs.declared.alloc.Global.{Global}
-use Rattle.containers.specs.Members.{has}
+use Rattle.csp_base.specs.Members.{has}
 
 abbrev pub Digraph : Type 0
 Digraph = List (List ℕ)

@@ -5,7 +5,7 @@ use Rattle.std.specs.Prelude.{◌≡◌, ◌≢◌, ℕ, ◌+◌, ◌*◌, ◌^�
 use Rattle.digraph.specs.declared.walks.Mark.{Mark}
 use Rattle.digraph.specs.declared.walks.Mark.TheVariants.{New, Open, Done}
 use Rattle.digraph.specs.Digraph.{Digraph, targets_of, HasArc, InRange}
-use Rattle.digraph.specs.Walk.{IsWalk}
+use Rattle.digraph.specs.Walk.{Walk}
 
 -- the mark of a vertex
 abbrev pub mark_at : List Mark → ℕ → Mark
@@ -45,8 +45,8 @@ pub record IsSearch (g : Digraph) (marks : List Mark) (heights rest trail : List
   pub looked_at : (v k : ℕ) → mark_at marks v ≡ Open → slice_index rest v ≤ k → k < length (targets_of g v) → mark_at marks (slice_index (targets_of g v) k) ≡ Done
   pub lower : (v k : ℕ) → mark_at marks v ≡ Open → slice_index rest v ≤ k → k < length (targets_of g v) → slice_index heights (slice_index (targets_of g v) k) < slice_index heights v
   -- each height is that of some walk, and the greatest at a vertex that is done
-  pub attained : (v : ℕ) → (vs : List ℕ) × IsWalk g v vs × (length vs ≡ slice_index heights v)
-  pub most : (v : ℕ) → mark_at marks v ≡ Done → (vs : List ℕ) → IsWalk g v vs → length vs ≤ slice_index heights v
+  pub attained : (v : ℕ) → (w : ℕ) × Walk (HasArc g) (slice_index heights v) v w
+  pub most : (v : ℕ) → mark_at marks v ≡ Done → (n w : ℕ) → Walk (HasArc g) n v w → n ≤ slice_index heights v
   -- there are fewer arcs on a walk than vertices
   pub counted : (v : ℕ) → slice_index heights v ≤ done_count marks
   pub counted_done : (v : ℕ) → mark_at marks v ≡ Done → slice_index heights v < done_count marks

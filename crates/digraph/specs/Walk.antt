@@ -1,20 +1,29 @@
--- Walks: a vertex, and the vertices that are passed after it, each over an arc from the one before. The length of a walk
--- is the number of its arcs, which is the number of vertices after the first.
-use Rattle.std.specs.Prelude.{◌≡◌, ℕ, List, [], ◌∷◌}
-use Rattle.digraph.specs.Digraph.{Digraph, HasArc}
+-- Walks over any relation of arcs: Arc x y says that an arc leads from x to y. The length of a walk is the number of its arcs.
+use Rattle.std.specs.Prelude.{◌≡◌, ◌≤◌, ◌<◌, ℕ, zero, suc, List, IsTrue, length, slice_index}
+use Rattle.csp_base.specs.Members.{has}
 
--- a walk begins at v and passes the vertices vs
-abbrev pub IsWalk : Digraph → ℕ → List ℕ → Type 0
-IsWalk g v [] = Unit {0}
-IsWalk g v (w ∷ ws) = HasArc g v w × IsWalk g w ws
+-- n arcs in a row lead from x to y
+abbrev pub Walk : {V : Type 0} → (V → V → Type 0) → ℕ → V → V → Type 0
+Walk Arc zero x y = x ≡ y
+Walk {V} Arc (suc n) x y = (z : V) × Arc x z × Walk Arc n z y
 
--- where a walk from v over vs ends
-abbrev pub end_of : ℕ → List ℕ → ℕ
-end_of v [] = v
-end_of v (w ∷ ws) = end_of w ws
+-- some walk leads from x to y
+abbrev pub Reaches : {V : Type 0} → (V → V → Type 0) → V → V → Type 0
+Reaches Arc x y = (n : ℕ) × Walk Arc n x y
 
--- some walk from v ends at w
-pub record Reaches (g : Digraph) (v w : ℕ) : Type 0 where
-  pub passed : List ℕ
-  pub walk : IsWalk g v passed
-  pub ends : end_of v passed ≡ w
+-- some walk from one of the sources leads to y
+pub record ReachesFrom (Arc : ℕ → ℕ → Type 0) (sources : List ℕ) (y : ℕ) : Type 0 where
+  pub source : ℕ
+  pub listed : IsTrue (has sources source)
+  pub reaches : Reaches Arc source y
+
+-- h is the greatest number of arcs of a walk from x: some walk has as many, and none has more
+pub record IsLongestWalk {V : Type 0} (Arc : V → V → Type 0) (x : V) (h : ℕ) : Type 0 where
+  pub end : V
+  pub attained : Walk Arc h x end
+  pub most : (n : ℕ) (y : V) → Walk Arc n x y → n ≤ h
+
+-- one number for each of the vertices below `count`, the length of the longest walks from it
+pub record AreHeights (Arc : ℕ → ℕ → Type 0) (count : ℕ) (heights : List ℕ) : Type 0 where
+  pub one_each : length heights ≡ count
+  pub each : (v : ℕ) → v < count → IsLongestWalk Arc v (slice_index heights v)

@@ -1,7 +1,7 @@
 ghost use Rattle.std.specs.Prelude.{◌≡◌, ◌≢◌, ℕ, ◌+◌, ◌-◌, ◌<◌, ◌≤◌, ◌^◌, ◌↔◌, List, [], ◌∷◌, ◌++◌, length, max, take, slice_index, slice_set, replicate, All, IsTrue, IfOk, OnOk, OnErr};
 ghost use Rattle.digraph.specs.Digraph.{targets_of, HasArc};
-ghost use Rattle.digraph.specs.Height.{IsHeight, AreHeights};
-ghost use Rattle.digraph.specs.Circle.{IsCircle};
+ghost use Rattle.digraph.specs.Walk.{IsLongestWalk, AreHeights};
+ghost use Rattle.digraph.specs.Circle.{HasNoCircle, IsLeastCircle};
 ghost use Rattle.digraph.specs.Search.{IsSearch, StaysMet, mark_at, work_left};
 
 use crate::circles::circle_from;
@@ -22,8 +22,8 @@ enum Mark {
 ///
 /// It takes time linear in the number of vertices and arcs, and no recursion.
 pub fn longest_walks(alloc: Global, rows: &Rows) -> Result<Heights, Fault>
-    ensures heights { IfOk result (AreHeights rows.now) }
-    ensures no_circle { OnOk result ((vs : List ℕ) → ¬ IsCircle rows.now vs) }
+    ensures heights { IfOk result (AreHeights (HasArc rows.now) (length rows.now)) }
+    ensures no_circle { OnOk result (HasNoCircle (HasArc rows.now)) }
 
     // Heights fall along each arc, by one along some arc from each vertex with arcs, and are 0 just where none leaves.
     ensures falls { IfOk result (λ heights. (v w : ℕ) → HasArc rows.now v w → slice_index heights w < slice_index heights v) }
@@ -32,9 +32,9 @@ pub fn longest_walks(alloc: Global, rows: &Rows) -> Result<Heights, Fault>
     ensures sinks { IfOk result (λ heights. (v : ℕ) → v < length rows.now → (slice_index heights v ≡ 0) ↔ (targets_of rows.now v ≡ [])) }
     ensures below { IfOk result (λ heights. All (λ height. height < length rows.now) heights) }
 
-    ensures circle { (vs : List ℕ) → result ≡ Err (Fault.Circle vs) → IsCircle rows.now vs }
-    ensures unbounded { (vs : List ℕ) → result ≡ Err (Fault.Circle vs) → All (λ v. (n : ℕ) → ¬ IsHeight rows.now v n) vs }
-    ensures no_heights { (vs : List ℕ) → result ≡ Err (Fault.Circle vs) → (heights : List ℕ) → ¬ AreHeights rows.now heights }
+    ensures circle { (vs : List ℕ) → result ≡ Err (Fault.Circle vs) → IsLeastCircle (HasArc rows.now) vs }
+    ensures unbounded { (vs : List ℕ) → result ≡ Err (Fault.Circle vs) → All (λ v. (n : ℕ) → ¬ IsLongestWalk (HasArc rows.now) v n) vs }
+    ensures no_heights { (vs : List ℕ) → result ≡ Err (Fault.Circle vs) → (heights : List ℕ) → ¬ AreHeights (HasArc rows.now) (length rows.now) heights }
 {
     let count = rows.len();
     let mut marks = vec![in alloc; Mark::New; count]?;
@@ -67,7 +67,7 @@ fn walk_all(
     requires { IsSearch rows.now marks.old heights.old rest.old [] }
     ensures ok { OnOk result (IsSearch rows.now marks.new heights.new rest.new []) }
     ensures all_met { OnOk result ((v : ℕ) → v < length rows.now → mark_at marks.new v ≢ Mark.New) }
-    ensures circle { (vs : List ℕ) → result ≡ Err (Fault.Circle vs) → IsCircle rows.now vs }
+    ensures circle { (vs : List ℕ) → result ≡ Err (Fault.Circle vs) → IsLeastCircle (HasArc rows.now) vs }
 {
     let mut trail = Vec::new(alloc);
     for v in 0..rows.len() {
@@ -93,7 +93,7 @@ fn visit(
     ensures empty { OnOk result (trail.new.items ≡ []) }
     ensures stays_met { OnOk result (StaysMet marks.old marks.new) }
     ensures met { OnOk result (mark_at marks.new v ≢ Mark.New) }
-    ensures circle { (vs : List ℕ) → result ≡ Err (Fault.Circle vs) → IsCircle rows.now vs }
+    ensures circle { (vs : List ℕ) → result ≡ Err (Fault.Circle vs) → IsLeastCircle (HasArc rows.now) vs }
 {
     if marks[v as usize] == Mark::New {
         enter(rows, marks, rest, trail, v)?;
@@ -115,7 +115,7 @@ fn follow(
     ensures ok { OnOk result (IsSearch rows.now marks.new heights.new rest.new trail.new.items) }
     ensures empty { OnOk result (trail.new.items ≡ []) }
     ensures stays_met { OnOk result (StaysMet marks.old marks.new) }
-    ensures circle { (vs : List ℕ) → result ≡ Err (Fault.Circle vs) → IsCircle rows.now vs }
+    ensures circle { (vs : List ℕ) → result ≡ Err (Fault.Circle vs) → IsLeastCircle (HasArc rows.now) vs }
 {
     while let Some(v) = trail.last().copied() {
         step(alloc, rows, marks, heights, rest, trail, v)?;
@@ -139,7 +139,7 @@ fn step(
     ensures ok { OnOk result (IsSearch rows.now marks.new heights.new rest.new trail.new.items) }
     ensures stays_met { OnOk result (StaysMet marks.old marks.new) }
     ensures less_work { OnOk result (work_left rest.new trail.new.items < work_left rest.old trail.old.items) }
-    ensures circle { (vs : List ℕ) → result ≡ Err (Fault.Circle vs) → IsCircle rows.now vs }
+    ensures circle { (vs : List ℕ) → result ≡ Err (Fault.Circle vs) → IsLeastCircle (HasArc rows.now) vs }
 {
     let left = rest[v as usize];
     if left == 0 {

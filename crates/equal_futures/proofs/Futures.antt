@@ -38,17 +38,6 @@ module _ (nodes : List Node) (marks : List ℕ) where
         ends = λ w r. f.ends (e ∷ w) (and_from (is_possible (node_at nodes i).next e) (is_run nodes (node_after nodes i e) w) h r);
       }
 
-  -- classes that equal future keeps tell alike nodes that have equal future
-  pub alike_futures : (classes : List ℕ) → NodesRise nodes → ((i j : ℕ) → i < length nodes → j < length nodes → HaveEqualFuture nodes marks i j → slice_index classes i ≡ slice_index classes j) → (i j : ℕ) → i < length nodes → j < length nodes → HaveEqualFuture nodes marks i j → AreAlike nodes classes i j
-  alike_futures classes rise kept i j a b f = record {
-    same = kept i j a b f;
-    possible = same_events i j f;
-    targets = λ e h. kept (node_after nodes i e) (node_after nodes j e)
-        (target_below (length nodes) (node_at nodes i).next e (rise i) h)
-        (target_below (length nodes) (node_at nodes j).next e (rise j) (sym (same_events i j f e) ∙ h))
-        (future_after i j e f h);
-  }
-
   -- Stable classes: nodes of one class have equal marks and are alike.
   pub record AreStable (classes : List ℕ) : Type 0 where
     pub told : (i j : ℕ) → i < length nodes → j < length nodes → slice_index classes i ≡ slice_index classes j → slice_index marks i ≡ slice_index marks j

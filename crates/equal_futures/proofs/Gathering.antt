@@ -9,7 +9,7 @@ use Rattle.std.proofs.lemmas.List.Folds.{list_any-append}
 use Rattle.std.proofs.lemmas.List.Sorted.{Contains-permutation, IsPermutation-sym}
 use Rattle.csp_tables.specs.Table.{Node, node_at, is_possible, target, node_after}
 use Rattle.equal_futures.specs.Future.{StepsRise, NodesRise}
-use Rattle.equal_futures.specs.Blocks.{has_step, AreFrom, AreMarkSteps, AreAdded, AreIncoming, AreGathered}
+use Rattle.equal_futures.specs.Blocks.{has_arrow, AreFrom, AreMarkSteps, AreAdded, AreIncoming, AreGathered}
 use Rattle.equal_futures.proofs.RowLists.{once}
 use Rattle.equal_futures.proofs.Writes.{by_write}
 
@@ -20,27 +20,27 @@ bool_from_iff false true f g = g refl
 bool_from_iff false false f g = refl
 
 -- where a step stands
-pub step_place : (steps : List (ℕ × ℕ)) (e i : ℕ) → has_step steps e i ≡ true → (k : ℕ) × (k < length steps) × ((get_or steps k (0, 0)).0 ≡ e) × ((get_or steps k (0, 0)).1 ≡ i)
+pub step_place : (steps : List (ℕ × ℕ)) (e i : ℕ) → has_arrow steps e i ≡ true → (k : ℕ) × (k < length steps) × ((get_or steps k (0, 0)).0 ≡ e) × ((get_or steps k (0, 0)).1 ≡ i)
 step_place [] e i h = absurd (false≢true h)
-step_place (x ∷ xs) e i h = elim (or_cases (nat_eq x.0 e && nat_eq x.1 i) (has_step xs e i) h) as (λ _. (k : ℕ) × (k < suc (length xs)) × ((get_or (x ∷ xs) k (0, 0)).0 ≡ e) × ((get_or (x ∷ xs) k (0, 0)).1 ≡ i)) [
+step_place (x ∷ xs) e i h = elim (or_cases (nat_eq x.0 e && nat_eq x.1 i) (has_arrow xs e i) h) as (λ _. (k : ℕ) × (k < suc (length xs)) × ((get_or (x ∷ xs) k (0, 0)).0 ≡ e) × ((get_or (x ∷ xs) k (0, 0)).1 ≡ i)) [
   | inl here ↦ let p = and_parts (nat_eq x.0 e) (nat_eq x.1 i) here in (0, omega arith, eqb-true x.0 e p.0, eqb-true x.1 i p.1)
   | inr later ↦ let p = step_place xs e i later in let l = p.1 in (suc p.0, omega arith, p.2, p.3)
 ]
 
-pub step_at : (steps : List (ℕ × ℕ)) (k : ℕ) (d : ℕ × ℕ) → k < length steps → has_step steps (get_or steps k d).0 (get_or steps k d).1 ≡ true
+pub step_at : (steps : List (ℕ × ℕ)) (k : ℕ) (d : ℕ × ℕ) → k < length steps → has_arrow steps (get_or steps k d).0 (get_or steps k d).1 ≡ true
 step_at [] k d h = absurd (omega arith)
-step_at (x ∷ xs) zero d h = or_left (nat_eq x.0 x.0 && nat_eq x.1 x.1) (has_step xs x.0 x.1) (and_from (nat_eq x.0 x.0) (nat_eq x.1 x.1) (eq-eqb x.0 x.0 refl) (eq-eqb x.1 x.1 refl))
+step_at (x ∷ xs) zero d h = or_left (nat_eq x.0 x.0 && nat_eq x.1 x.1) (has_arrow xs x.0 x.1) (and_from (nat_eq x.0 x.0) (nat_eq x.1 x.1) (eq-eqb x.0 x.0 refl) (eq-eqb x.1 x.1 refl))
 step_at (x ∷ xs) (suc k) d h =
     let y = get_or xs k d in
-    or_right (nat_eq x.0 y.0 && nat_eq x.1 y.1) (has_step xs y.0 y.1) (step_at xs k d (omega arith))
+    or_right (nat_eq x.0 y.0 && nat_eq x.1 y.1) (has_arrow xs y.0 y.1) (step_at xs k d (omega arith))
 
-pub has_contained : (steps : List (ℕ × ℕ)) (e i : ℕ) → Contains steps (e, i) → has_step steps e i ≡ true
+pub has_contained : (steps : List (ℕ × ℕ)) (e i : ℕ) → Contains steps (e, i) → has_arrow steps e i ≡ true
 has_contained steps e i c =
-    subst (λ (x : ℕ × ℕ). has_step steps x.0 x.1 ≡ true) c.2 (step_at steps c.0 (e, i) c.1)
+    subst (λ (x : ℕ × ℕ). has_arrow steps x.0 x.1 ≡ true) c.2 (step_at steps c.0 (e, i) c.1)
 
-contained : (steps : List (ℕ × ℕ)) (e i : ℕ) → has_step steps e i ≡ true → Contains steps (e, i)
+contained : (steps : List (ℕ × ℕ)) (e i : ℕ) → has_arrow steps e i ≡ true → Contains steps (e, i)
 contained [] e i h = absurd (false≢true h)
-contained (x ∷ xs) e i h = elim (or_cases (nat_eq x.0 e && nat_eq x.1 i) (has_step xs e i) h) as (λ _. Contains (x ∷ xs) (e, i)) [
+contained (x ∷ xs) e i h = elim (or_cases (nat_eq x.0 e && nat_eq x.1 i) (has_arrow xs e i) h) as (λ _. Contains (x ∷ xs) (e, i)) [
   | inl here ↦ let p = and_parts (nat_eq x.0 e) (nat_eq x.1 i) here in (0, omega arith, pair x.0 x.1 e i (eqb-true x.0 e p.0) (eqb-true x.1 i p.1))
   | inr later ↦ let p = contained xs e i later in let l = p.1 in (suc p.0, omega arith, p.2)
 ]
@@ -49,8 +49,8 @@ contained (x ∷ xs) e i h = elim (or_cases (nat_eq x.0 e && nat_eq x.1 i) (has_
     pair a b c d p q = λ j. (p j, q j)
 
 -- another order has the same steps
-pub permuted : (xs ys : List (ℕ × ℕ)) → IsPermutation xs ys → (e i : ℕ) → has_step ys e i ≡ has_step xs e i
-permuted xs ys p e i = bool_from_iff (has_step ys e i) (has_step xs e i)
+pub permuted : (xs ys : List (ℕ × ℕ)) → IsPermutation xs ys → (e i : ℕ) → has_arrow ys e i ≡ has_arrow xs e i
+permuted xs ys p e i = bool_from_iff (has_arrow ys e i) (has_arrow xs e i)
     (λ h. has_contained xs e i (Contains-permutation ys xs (e, i) (IsPermutation-sym xs ys p) (contained ys e i h)))
     (λ h. has_contained ys e i (Contains-permutation xs ys (e, i) p (contained xs e i h)))
 
@@ -58,26 +58,26 @@ pub all_sources : (n : ℕ) (steps : List (ℕ × ℕ)) → AreFrom n steps → 
 all_sources n steps from k d h = from (get_or steps k d).0 (get_or steps k d).1 (step_at steps k d h)
 
 -- a step of a node is listed exactly where its event is possible and leads there
-pub listed_is : (n : ℕ) (steps : List (ℕ × ℕ)) (e t : ℕ) → StepsRise n steps → (has_step steps e t ≡ true) ↔ ((is_possible steps e ≡ true) × (target steps e ≡ t))
+pub listed_is : (n : ℕ) (steps : List (ℕ × ℕ)) (e t : ℕ) → StepsRise n steps → (has_arrow steps e t ≡ true) ↔ ((is_possible steps e ≡ true) × (target steps e ≡ t))
 listed_is n [] e t rise = (λ h. absurd (false≢true h), λ h. absurd (false≢true h.0))
-listed_is n (x ∷ xs) e t rise = elim (cases_eq x.0 e) as (λ _. (has_step (x ∷ xs) e t ≡ true) ↔ ((is_possible (x ∷ xs) e ≡ true) × (target (x ∷ xs) e ≡ t))) [
+listed_is n (x ∷ xs) e t rise = elim (cases_eq x.0 e) as (λ _. (has_arrow (x ∷ xs) e t ≡ true) ↔ ((is_possible (x ∷ xs) e ≡ true) × (target (x ∷ xs) e ≡ t))) [
   | inl same ↦
       let here : nat_eq x.0 e ≡ true = eq-eqb x.0 e same in
       let leads : target (x ∷ xs) e ≡ x.1 = rw here refl in (
         λ h. (
           or_left (nat_eq x.0 e) (is_possible xs e) here,
-          leads ∙ elim (or_cases (nat_eq x.0 e && nat_eq x.1 t) (has_step xs e t) h) as (λ _. x.1 ≡ t) [
+          leads ∙ elim (or_cases (nat_eq x.0 e && nat_eq x.1 t) (has_arrow xs e t) h) as (λ _. x.1 ≡ t) [
             | inl now ↦ eqb-true x.1 t (and_parts (nat_eq x.0 e) (nat_eq x.1 t) now).1
             | inr later ↦ let p = (listed_is n xs e t rise.2).0 later in absurd (false≢true (sym (once n x xs rise) ∙ ap (λ a. is_possible xs a) same ∙ p.0))
           ],
         ),
-        λ h. or_left (nat_eq x.0 e && nat_eq x.1 t) (has_step xs e t) (and_from (nat_eq x.0 e) (nat_eq x.1 t) here (eq-eqb x.1 t (sym leads ∙ h.1))),
+        λ h. or_left (nat_eq x.0 e && nat_eq x.1 t) (has_arrow xs e t) (and_from (nat_eq x.0 e) (nat_eq x.1 t) here (eq-eqb x.1 t (sym leads ∙ h.1))),
       )
   | inr other ↦
       let away : nat_eq x.0 e ≡ false = ne_eqb x.0 e other in
       let leads : target (x ∷ xs) e ≡ target xs e = rw away refl in
       let can : is_possible (x ∷ xs) e ≡ is_possible xs e = rw away refl in
-      let has : has_step (x ∷ xs) e t ≡ has_step xs e t = rw away refl in
+      let has : has_arrow (x ∷ xs) e t ≡ has_arrow xs e t = rw away refl in
       let q = listed_is n xs e t rise.2 in
       (λ h. let p = q.0 (sym has ∙ h) in (can ∙ p.0, leads ∙ p.1), λ h. has ∙ q.1 (sym can ∙ h.0, sym leads ∙ h.1))
 ]
@@ -98,7 +98,7 @@ away false true false true = refl
 away false true false false = refl
 
 pub none_added : (rows : List (List (ℕ × ℕ))) (source : ℕ) → AreAdded rows rows source []
-none_added rows source = record { one_each = refl; steps = λ t e i h. keep (has_step (get_or rows t []) e i) (nat_eq source i) }
+none_added rows source = record { one_each = refl; steps = λ t e i h. keep (has_arrow (get_or rows t []) e i) (nat_eq source i) }
   where
     keep : (a s : Bool) → a ≡ (a || (s && false))
     keep true s = refl
@@ -113,25 +113,25 @@ one_more_added old rows more source next k d inside below a is = record {
       let row = get_or rows step.1 [] ++ (step.0, source) ∷ [] in
       let there : step.1 < length rows = subst (λ m. step.1 < m) (sym a.one_each) below in
       let grown : take (k + 1) next ≡ take k next ++ step ∷ [] = take_more next k d inside in
-      let has_more : has_step (take (k + 1) next) e t ≡ (has_step (take k next) e t || ((nat_eq step.0 e && nat_eq step.1 t) || false)) = ap (λ (xs : List (ℕ × ℕ)). has_step xs e t) grown ∙ list_any-append (λ (x : ℕ × ℕ). nat_eq x.0 e && nat_eq x.1 t) (take k next) (step ∷ []) in
-      subst (λ (xs : List (List (ℕ × ℕ))). has_step (get_or xs t []) e i ≡ (has_step (get_or old t []) e i || (nat_eq source i && has_step (take (k + 1) next) e t))) (sym is)
-      (subst (λ b. has_step (get_or (set rows step.1 row) t []) e i ≡ (has_step (get_or old t []) e i || (nat_eq source i && b))) (sym has_more)
-      (by_write rows step.1 row t [] there (λ r. has_step r e i ≡ (has_step (get_or old t []) e i || (nat_eq source i && (has_step (take k next) e t || ((nat_eq step.0 e && nat_eq step.1 t) || false)))))
+      let has_more : has_arrow (take (k + 1) next) e t ≡ (has_arrow (take k next) e t || ((nat_eq step.0 e && nat_eq step.1 t) || false)) = ap (λ (xs : List (ℕ × ℕ)). has_arrow xs e t) grown ∙ list_any-append (λ (x : ℕ × ℕ). nat_eq x.0 e && nat_eq x.1 t) (take k next) (step ∷ []) in
+      subst (λ (xs : List (List (ℕ × ℕ))). has_arrow (get_or xs t []) e i ≡ (has_arrow (get_or old t []) e i || (nat_eq source i && has_arrow (take (k + 1) next) e t))) (sym is)
+      (subst (λ b. has_arrow (get_or (set rows step.1 row) t []) e i ≡ (has_arrow (get_or old t []) e i || (nat_eq source i && b))) (sym has_more)
+      (by_write rows step.1 row t [] there (λ r. has_arrow r e i ≡ (has_arrow (get_or old t []) e i || (nat_eq source i && (has_arrow (take k next) e t || ((nat_eq step.0 e && nat_eq step.1 t) || false)))))
       (λ same.
       list_any-append (λ (x : ℕ × ℕ). nat_eq x.0 e && nat_eq x.1 i) (get_or rows step.1 []) ((step.0, source) ∷ [])
-      ∙ ap (λ b. b || ((nat_eq step.0 e && nat_eq source i) || false)) (ap (λ r. has_step (get_or rows r []) e i) (sym same) ∙ a.steps t e i h)
-      ∙ here (has_step (get_or old t []) e i) (nat_eq source i) (has_step (take k next) e t) (nat_eq step.0 e)
-      ∙ ap (λ b. has_step (get_or old t []) e i || (nat_eq source i && (has_step (take k next) e t || ((nat_eq step.0 e && b) || false)))) (sym (eq-eqb step.1 t (sym same))))
+      ∙ ap (λ b. b || ((nat_eq step.0 e && nat_eq source i) || false)) (ap (λ r. has_arrow (get_or rows r []) e i) (sym same) ∙ a.steps t e i h)
+      ∙ here (has_arrow (get_or old t []) e i) (nat_eq source i) (has_arrow (take k next) e t) (nat_eq step.0 e)
+      ∙ ap (λ b. has_arrow (get_or old t []) e i || (nat_eq source i && (has_arrow (take k next) e t || ((nat_eq step.0 e && b) || false)))) (sym (eq-eqb step.1 t (sym same))))
       (λ other.
       a.steps t e i h
-      ∙ away (has_step (get_or old t []) e i) (nat_eq source i) (has_step (take k next) e t) (nat_eq step.0 e)
-      ∙ ap (λ b. has_step (get_or old t []) e i || (nat_eq source i && (has_step (take k next) e t || ((nat_eq step.0 e && b) || false)))) (sym (ne_eqb step.1 t (λ q. other (sym q)))))));
+      ∙ away (has_arrow (get_or old t []) e i) (nat_eq source i) (has_arrow (take k next) e t) (nat_eq step.0 e)
+      ∙ ap (λ b. has_arrow (get_or old t []) e i || (nat_eq source i && (has_arrow (take k next) e t || ((nat_eq step.0 e && b) || false)))) (sym (ne_eqb step.1 t (λ q. other (sym q)))))));
 }
 
 pub none_incoming : (nodes : List Node) → AreIncoming nodes (replicate (length nodes) []) 0
 none_incoming nodes = record {
   one_each = length-replicate (length nodes) [];
-  exact = λ t e i h. (λ p. absurd (false≢true (subst (λ (r : List (ℕ × ℕ)). has_step r e i ≡ true) (get_or-replicate (length nodes) t [] [] h) p)), λ p. absurd (omega (arith, p.0)));
+  exact = λ t e i h. (λ p. absurd (false≢true (subst (λ (r : List (ℕ × ℕ)). has_arrow r e i ≡ true) (get_or-replicate (length nodes) t [] [] h) p)), λ p. absurd (omega (arith, p.0)));
 }
 
 pub one_more_incoming : (nodes : List Node) (rows more : List (List (ℕ × ℕ))) (k : ℕ) → NodesRise nodes → AreIncoming nodes rows k → AreAdded rows more k (node_at nodes k).next → AreIncoming nodes more (k + 1)
@@ -141,18 +141,18 @@ one_more_incoming nodes rows more k rise a b = record {
       let there : t < length rows = subst (λ m. t < m) (sym a.one_each) h in
       let is = b.steps t e i there in
       let listed = listed_is (length nodes) (node_at nodes k).next e t (rise k) in (
-        λ p. elim (or_cases (has_step (get_or rows t []) e i) (nat_eq k i && has_step (node_at nodes k).next e t) (sym is ∙ p)) as (λ _. (i < k + 1) × (is_possible (node_at nodes i).next e ≡ true) × (node_after nodes i e ≡ t)) [
+        λ p. elim (or_cases (has_arrow (get_or rows t []) e i) (nat_eq k i && has_arrow (node_at nodes k).next e t) (sym is ∙ p)) as (λ _. (i < k + 1) × (is_possible (node_at nodes i).next e ≡ true) × (node_after nodes i e ≡ t)) [
           | inl old ↦ let q = (a.exact t e i h).0 old in (omega (arith, q.0), q.1, q.2)
           | inr new ↦
-              let q = and_parts (nat_eq k i) (has_step (node_at nodes k).next e t) new in
+              let q = and_parts (nat_eq k i) (has_arrow (node_at nodes k).next e t) new in
               let same : k ≡ i = eqb-true k i q.0 in
               let r = listed.0 q.1 in
               (omega arith, subst (λ x. is_possible (node_at nodes x).next e ≡ true) same r.0, subst (λ x. node_after nodes x e ≡ t) same r.1)
         ],
-        λ r. is ∙ elim (cases_eq k i) as (λ _. (has_step (get_or rows t []) e i || (nat_eq k i && has_step (node_at nodes k).next e t)) ≡ true) [
-          | inl same ↦ or_right (has_step (get_or rows t []) e i) (nat_eq k i && has_step (node_at nodes k).next e t)
-              (and_from (nat_eq k i) (has_step (node_at nodes k).next e t) (eq-eqb k i same) (listed.1 (subst (λ x. is_possible (node_at nodes x).next e ≡ true) (sym same) r.1, subst (λ x. node_after nodes x e ≡ t) (sym same) r.2)))
-          | inr other ↦ or_left (has_step (get_or rows t []) e i) (nat_eq k i && has_step (node_at nodes k).next e t) ((a.exact t e i h).1 (omega (arith, r.0, other), r.1, r.2))
+        λ r. is ∙ elim (cases_eq k i) as (λ _. (has_arrow (get_or rows t []) e i || (nat_eq k i && has_arrow (node_at nodes k).next e t)) ≡ true) [
+          | inl same ↦ or_right (has_arrow (get_or rows t []) e i) (nat_eq k i && has_arrow (node_at nodes k).next e t)
+              (and_from (nat_eq k i) (has_arrow (node_at nodes k).next e t) (eq-eqb k i same) (listed.1 (subst (λ x. is_possible (node_at nodes x).next e ≡ true) (sym same) r.1, subst (λ x. node_after nodes x e ≡ t) (sym same) r.2)))
+          | inr other ↦ or_left (has_arrow (get_or rows t []) e i) (nat_eq k i && has_arrow (node_at nodes k).next e t) ((a.exact t e i h).1 (omega (arith, r.0, other), r.1, r.2))
         ],
       );
 }
@@ -161,11 +161,11 @@ one_more_incoming nodes rows more k rise a b = record {
 pub one_more_gathered : (rows : List (List (ℕ × ℕ))) (members : List ℕ) (k : ℕ) (steps more : List (ℕ × ℕ)) → k < length members → AreGathered rows (take k members) steps → more ≡ steps ++ get_or rows (get_or members k 0) [] → AreGathered rows (take (k + 1) members) more
 one_more_gathered rows members k steps more inside a is e i =
     let t = get_or members k 0 in
-    ap (λ (xs : List (ℕ × ℕ)). has_step xs e i) is ∙ list_any-append (λ (x : ℕ × ℕ). nat_eq x.0 e && nat_eq x.1 i) steps (get_or rows t [])
-    ∙ ap (λ b. b || has_step (get_or rows t []) e i) (a e i)
-    ∙ ap (λ b. list_any (λ t. has_step (slice_index_or rows t []) e i) (take k members) || b) (sym (or_none (has_step (get_or rows t []) e i)))
-    ∙ sym (list_any-append (λ t. has_step (slice_index_or rows t []) e i) (take k members) (t ∷ []))
-    ∙ sym (ap (λ (xs : List ℕ). list_any (λ t. has_step (slice_index_or rows t []) e i) xs) (take_more members k 0 inside))
+    ap (λ (xs : List (ℕ × ℕ)). has_arrow xs e i) is ∙ list_any-append (λ (x : ℕ × ℕ). nat_eq x.0 e && nat_eq x.1 i) steps (get_or rows t [])
+    ∙ ap (λ b. b || has_arrow (get_or rows t []) e i) (a e i)
+    ∙ ap (λ b. list_any (λ t. has_arrow (slice_index_or rows t []) e i) (take k members) || b) (sym (or_none (has_arrow (get_or rows t []) e i)))
+    ∙ sym (list_any-append (λ t. has_arrow (slice_index_or rows t []) e i) (take k members) (t ∷ []))
+    ∙ sym (ap (λ (xs : List ℕ). list_any (λ t. has_arrow (slice_index_or rows t []) e i) xs) (take_more members k 0 inside))
   where
     or_none : (a : Bool) → (a || false) ≡ a
     or_none true = refl

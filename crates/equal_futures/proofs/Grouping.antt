@@ -5,7 +5,7 @@ use Rattle.std.specs.List.{All}
 use Rattle.std.specs.List.Sorted.{IsNonDecreasingBy, IsPermutation}
 use Rattle.std.proofs.lemmas.Bool.{cases_lt, or_cases, or_left, or_right, eqb-true, eq-eqb, false≢true}
 use Rattle.std.proofs.lemmas.List.{length-take-le, length-drop, get_or-take, get_or-drop}
-use Rattle.equal_futures.specs.Blocks.{State, HasBlocks, IsCalm, IsOnward, IsSplit, IsSplitByEvents, AreFrom, block_at, has_step, is_source, event_at}
+use Rattle.equal_futures.specs.Blocks.{State, HasBlocks, IsCalm, IsOnward, IsSplit, IsSplitByEvents, AreFrom, block_at, has_arrow, is_source, event_at}
 use Rattle.equal_futures.proofs.Splitting.{onward_trans, onward_refl}
 use Rattle.equal_futures.proofs.Gathering.{step_place, step_at, bool_from_iff, permuted, all_sources}
 
@@ -14,7 +14,7 @@ pub record AreSplitUpTo (n : ℕ) (s t : State) (steps : List (ℕ × ℕ)) (fro
   pub fit : HasBlocks n t
   pub calm : IsCalm t
   pub onward : IsOnward n s t
-  pub exact : (i j : ℕ) → i < n → j < n → (block_at t i ≡ block_at t j) ↔ ((block_at s i ≡ block_at s j) × ((k : ℕ) → k < from → has_step steps (event_at steps k) i ≡ has_step steps (event_at steps k) j))
+  pub exact : (i j : ℕ) → i < n → j < n → (block_at t i ≡ block_at t j) ↔ ((block_at s i ≡ block_at s j) × ((k : ℕ) → k < from → has_arrow steps (event_at steps k) i ≡ has_arrow steps (event_at steps k) j))
   pub apart : (k l : ℕ) → k < from → from ≤ l → l < length steps → event_at steps k ≡ event_at steps l → ⊥
 
 pub none_split : (n : ℕ) (s : State) (steps : List (ℕ × ℕ)) → HasBlocks n s → IsCalm s → AreSplitUpTo n s s steps 0
@@ -77,15 +77,15 @@ module _ (n : ℕ) (s t u : State) (steps : List (ℕ × ℕ)) (from to : ℕ) (
         ],
       )
 
-  source_same : (i : ℕ) → is_source (part steps from to) i ≡ has_step steps (event_at steps from) i
-  source_same i = bool_from_iff (is_source (part steps from to) i) (has_step steps (event_at steps from) i)
+  source_same : (i : ℕ) → is_source (part steps from to) i ≡ has_arrow steps (event_at steps from) i
+  source_same i = bool_from_iff (is_source (part steps from to) i) (has_arrow steps (event_at steps from) i)
       (λ h.
       let w = g.within in
       let p = source_place (part steps from to) i h in
       let k : p.0 < to - from = subst (λ m. p.0 < m) part_len p.1 in
       let is : (get_or steps (from + p.0) (0, 0)).1 ≡ i = ap (λ (x : ℕ × ℕ). x.1) (sym (part_at p.0 k)) ∙ p.2 in
       let event : event_at steps (from + p.0) ≡ event_at steps from = g.same (from + p.0) (omega arith) (omega arith) in
-      subst (λ e. has_step steps e i ≡ true) event (subst (λ x. has_step steps (event_at steps (from + p.0)) x ≡ true) is (step_at steps (from + p.0) (0, 0) (omega arith))))
+      subst (λ e. has_arrow steps e i ≡ true) event (subst (λ x. has_arrow steps (event_at steps (from + p.0)) x ≡ true) is (step_at steps (from + p.0) (0, 0) (omega arith))))
       (λ h.
       let p = step_place steps (event_at steps from) i h in
       let q = inside p.0 p.1 p.2 in
@@ -105,11 +105,11 @@ module _ (n : ℕ) (s t u : State) (steps : List (ℕ × ℕ)) (from to : ℕ) (
           λ e.
               let r = q.0 e in
               let r' = p.0 r.0 in
-              let group : has_step steps (event_at steps from) i ≡ has_step steps (event_at steps from) j = sym (source_same i) ∙ r.1 ∙ source_same j in (
+              let group : has_arrow steps (event_at steps from) i ≡ has_arrow steps (event_at steps from) j = sym (source_same i) ∙ r.1 ∙ source_same j in (
                 r'.0,
-                λ k m. elim (cases_lt k from) as (λ _. has_step steps (event_at steps k) i ≡ has_step steps (event_at steps k) j) [
+                λ k m. elim (cases_lt k from) as (λ _. has_arrow steps (event_at steps k) i ≡ has_arrow steps (event_at steps k) j) [
                   | inl before ↦ r'.1 k before
-                  | inr now ↦ subst (λ e. has_step steps e i ≡ has_step steps e j) (sym (g.same k now m)) group
+                  | inr now ↦ subst (λ e. has_arrow steps e i ≡ has_arrow steps e j) (sym (g.same k now m)) group
                 ],
               ),
           λ r.
@@ -130,9 +130,9 @@ all_groups n s t steps from over a = record {
       let p = a.exact i j h l in (
         λ e. let r = p.0 e in (
           r.0,
-          λ e. bool_from_iff (has_step steps e i) (has_step steps e j)
-              (λ q. let m = step_place steps e i q in let b = m.1 in subst (λ x. has_step steps x j ≡ true) m.2 (sym (r.1 m.0 (omega arith)) ∙ subst (λ x. has_step steps x i ≡ true) (sym m.2) q))
-              (λ q. let m = step_place steps e j q in let b = m.1 in subst (λ x. has_step steps x i ≡ true) m.2 (r.1 m.0 (omega arith) ∙ subst (λ x. has_step steps x j ≡ true) (sym m.2) q)),
+          λ e. bool_from_iff (has_arrow steps e i) (has_arrow steps e j)
+              (λ q. let m = step_place steps e i q in let b = m.1 in subst (λ x. has_arrow steps x j ≡ true) m.2 (sym (r.1 m.0 (omega arith)) ∙ subst (λ x. has_arrow steps x i ≡ true) (sym m.2) q))
+              (λ q. let m = step_place steps e j q in let b = m.1 in subst (λ x. has_arrow steps x i ≡ true) m.2 (r.1 m.0 (omega arith) ∙ subst (λ x. has_arrow steps x j ≡ true) (sym m.2) q)),
         ),
         λ r. p.1 (r.0, λ k _. r.1 (event_at steps k)),
       );

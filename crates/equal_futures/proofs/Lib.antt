@@ -10,7 +10,6 @@ pub mod Growing
 pub mod Marking
 pub mod Numbered
 pub mod Refining
-pub mod RiseTests
 pub mod RowLists
 pub mod Settling
 pub mod Sizes

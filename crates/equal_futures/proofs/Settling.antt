@@ -8,7 +8,7 @@ use Rattle.csp_base.specs.Members.{has}
 use Rattle.csp_tables.specs.Table.{Node, node_at, is_possible, node_after}
 use Rattle.equal_futures.specs.Future.{HaveEqualFuture, AreFutureClasses, NodesRise}
 use Rattle.equal_futures.specs.Alike.{AreTold}
-use Rattle.equal_futures.specs.Blocks.{State, HasBlocks, IsCalm, IsWhole, IsTaken, IsSplitByEvents, AreMarkSteps, AreIncoming, AreGathered, AreFrom, block_at, waits, has_step}
+use Rattle.equal_futures.specs.Blocks.{State, HasBlocks, IsCalm, IsWhole, IsTaken, IsSplitByEvents, AreMarkSteps, AreIncoming, AreGathered, AreFrom, block_at, waits, has_arrow}
 use Rattle.equal_futures.proofs.RowLists.{target_below}
 use Rattle.equal_futures.proofs.Futures.{same_marks, same_events, future_after, AreStable, future_from_stable}
 use Rattle.equal_futures.proofs.Gathering.{bool_from_iff}
@@ -29,7 +29,7 @@ module _ (nodes : List Node) (marks : List ℕ) (rise : NodesRise nodes) (one_ea
   after_below : (i e : ℕ) → is_possible (node_at nodes i).next e ≡ true → node_after nodes i e < length nodes
   after_below i e h = target_below (length nodes) (node_at nodes i).next e (rise i) h
 
-  mark_step : (steps : List (ℕ × ℕ)) → AreMarkSteps marks steps → (e i : ℕ) → i < length nodes → has_step steps e i ≡ nat_eq (slice_index marks i) e
+  mark_step : (steps : List (ℕ × ℕ)) → AreMarkSteps marks steps → (e i : ℕ) → i < length nodes → has_arrow steps e i ≡ nat_eq (slice_index marks i) e
   mark_step steps are e i h = are e i ∙ ap (λ b. b && nat_eq (slice_index marks i) e) (lt-ltb i (length marks) (subst (λ m. i < m) (sym one_each) h))
 
   pub from_marks : (steps : List (ℕ × ℕ)) → AreMarkSteps marks steps → AreFrom (length nodes) steps
@@ -49,14 +49,14 @@ module _ (nodes : List Node) (marks : List ℕ) (rise : NodesRise nodes) (one_ea
         absurd (both_ways (waits s (block_at s (node_after nodes i e))) (split.onward.kept (node_after nodes i e) t' w).0 (whole.waiting (node_after nodes i e) t'));
   }
 
-  module _ (s r t : State) (b : ℕ) (steps : List (ℕ × ℕ)) (a : IsRefined nodes marks s) (taken : IsTaken (length nodes) s r b) (enters : (e i : ℕ) → (has_step steps e i ≡ true) ↔ ((i < length nodes) × (is_possible (node_at nodes i).next e ≡ true) × (block_at s (node_after nodes i e) ≡ b))) (split : IsSplitByEvents (length nodes) r t steps) where
+  module _ (s r t : State) (b : ℕ) (steps : List (ℕ × ℕ)) (a : IsRefined nodes marks s) (taken : IsTaken (length nodes) s r b) (enters : (e i : ℕ) → (has_arrow steps e i ≡ true) ↔ ((i < length nodes) × (is_possible (node_at nodes i).next e ≡ true) × (block_at s (node_after nodes i e) ≡ b))) (split : IsSplitByEvents (length nodes) r t steps) where
     same_block : (i : ℕ) → block_at r i ≡ block_at s i
     same_block i = ap (λ (xs : List ℕ). slice_index xs i) taken.blocks
 
     before : (i j : ℕ) → i < length nodes → j < length nodes → block_at t i ≡ block_at t j → block_at s i ≡ block_at s j
     before i j h l e = sym (same_block i) ∙ ((split.exact i j h l).0 e).0 ∙ same_block j
 
-    enters_along : (i j e : ℕ) → j < length nodes → HaveEqualFuture nodes marks i j → has_step steps e i ≡ true → has_step steps e j ≡ true
+    enters_along : (i j e : ℕ) → j < length nodes → HaveEqualFuture nodes marks i j → has_arrow steps e i ≡ true → has_arrow steps e j ≡ true
     enters_along i j e l f h =
         let p = (enters e i).0 h in
         let q : is_possible (node_at nodes j).next e ≡ true = sym (same_events nodes marks i j f e) ∙ p.1 in
@@ -69,7 +69,7 @@ module _ (nodes : List Node) (marks : List ℕ) (rise : NodesRise nodes) (one_ea
       told = λ i j h l e. a.told i j h l (before i j h l e);
       kept = λ i j h l f. (split.exact i j h l).1 (
         same_block i ∙ a.kept i j h l f ∙ sym (same_block j),
-        λ e. bool_from_iff (has_step steps e i) (has_step steps e j) (enters_along i j e l f) (enters_along j i e h (future_sym nodes marks i j f)),
+        λ e. bool_from_iff (has_arrow steps e i) (has_arrow steps e j) (enters_along i j e l f) (enters_along j i e h (future_sym nodes marks i j f)),
       );
       settled = λ i j e h l same p w.
           let x = node_after nodes i e in
@@ -99,17 +99,17 @@ module _ (nodes : List Node) (marks : List ℕ) (rise : NodesRise nodes) (one_ea
     | inr later ↦ let r = one_of p ms later in (r.0, or_right (nat_eq m r.0) (has ms r.0) r.1, r.2)
   ]
 
-  pub gathered_enter : (s : State) (b : ℕ) (rows : List (List (ℕ × ℕ))) (members : List ℕ) (steps : List (ℕ × ℕ)) → AreIncoming nodes rows (length nodes) → ((i : ℕ) → (has members i ≡ true) ↔ ((i < length nodes) × (block_at s i ≡ b))) → AreGathered rows members steps → (e i : ℕ) → (has_step steps e i ≡ true) ↔ ((i < length nodes) × (is_possible (node_at nodes i).next e ≡ true) × (block_at s (node_after nodes i e) ≡ b))
+  pub gathered_enter : (s : State) (b : ℕ) (rows : List (List (ℕ × ℕ))) (members : List ℕ) (steps : List (ℕ × ℕ)) → AreIncoming nodes rows (length nodes) → ((i : ℕ) → (has members i ≡ true) ↔ ((i < length nodes) × (block_at s i ≡ b))) → AreGathered rows members steps → (e i : ℕ) → (has_arrow steps e i ≡ true) ↔ ((i < length nodes) × (is_possible (node_at nodes i).next e ≡ true) × (block_at s (node_after nodes i e) ≡ b))
   gathered_enter s b rows members steps incoming are gathered e i = (
     λ h.
-        let r = one_of (λ t. has_step (slice_index_or rows t []) e i) members (sym (gathered e i) ∙ h) in
+        let r = one_of (λ t. has_arrow (slice_index_or rows t []) e i) members (sym (gathered e i) ∙ h) in
         let m = (are r.0).0 r.1 in
         let q = (incoming.exact r.0 e i m.0).0 r.2 in
         (q.0, q.1, ap (λ x. block_at s x) q.2 ∙ m.1),
     λ r.
         let t = node_after nodes i e in
         let below = after_below i e r.1 in
-        gathered e i ∙ any_of (λ t. has_step (slice_index_or rows t []) e i) members t ((are t).1 (below, r.2)) ((incoming.exact t e i below).1 (r.0, r.1, refl)),
+        gathered e i ∙ any_of (λ t. has_arrow (slice_index_or rows t []) e i) members t ((are t).1 (below, r.2)) ((incoming.exact t e i below).1 (r.0, r.1, refl)),
   )
 
   -- where no block waits the partition is stable
@@ -147,7 +147,7 @@ module _ (nodes : List Node) (marks : List ℕ) (rise : NodesRise nodes) (one_ea
         λ p. (are i).1 (subst (λ x. i < x) (sym is_k) p.0, e ∙ p.1),
       )
 
-  enters : (e i : ℕ) → (has_step steps e i ≡ true) ↔ ((i < length nodes) × (is_possible (node_at nodes i).next e ≡ true) × (block_at s (node_after nodes i e) ≡ b))
+  enters : (e i : ℕ) → (has_arrow steps e i ≡ true) ↔ ((i < length nodes) × (is_possible (node_at nodes i).next e ≡ true) × (block_at s (node_after nodes i e) ≡ b))
   enters = gathered_enter nodes marks rise one_each s b rows members steps incoming are_members (subst (λ (xs : List (List (ℕ × ℕ))). AreGathered xs members steps) is_read gathered)
 
   pub sources_read : AreFrom k steps

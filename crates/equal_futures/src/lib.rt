@@ -1,11 +1,9 @@
-//! Nodes of a table with equal future: their classes, by splitters and by plain rounds.
+//! Nodes of a table with equal future: their classes, by splitters.
 #![tactic(auto)]
 
 mod partition;
 mod rounds;
 mod splitters;
-#[cfg(test)]
-mod tests;
 
-pub use rounds::{Classes, refine_by_rounds};
+pub use rounds::Classes;
 pub use splitters::refine;

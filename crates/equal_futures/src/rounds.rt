@@ -1,7 +1,7 @@
-//! Refinement round by round, until no class is split.
+//! One round of refinement, which numbers the classes as they are first seen.
 
 ghost use Rattle.std.specs.Prelude.{◌≡◌, ◌<◌, ◌≤◌, ◌^◌, ◌++◌, [], ◌∷◌, length, slice_index, IfOk, OnOk};
-ghost use Rattle.equal_futures.specs.Future.{AreFutureClasses, NodesRise, StepsRise};
+ghost use Rattle.equal_futures.specs.Future.{NodesRise, StepsRise};
 ghost use Rattle.equal_futures.specs.Alike.{AreTold};
 ghost use Rattle.equal_futures.specs.Rows.{key_of};
 
@@ -17,29 +17,6 @@ pub struct Classes {
     pub numbers: Vec<u32>,
     /// How many classes there are.
     pub count: u32,
-}
-
-/// The classes of nodes with equal future, refined round by round: in each round nodes are told apart by the classes to
-/// which their events lead, until no class is split. `marks` has the mark of each node.
-///
-/// A table may need as many rounds as it has nodes, and each round passes over all steps.
-pub fn refine_by_rounds(
-    alloc: Global,
-    nodes: &[NormNode],
-    marks: &[u32],
-) -> Result<Classes, NoMemory>
-    requires rising { NodesRise nodes.now }
-    requires marks { length marks.now ≡ length nodes.now }
-    ensures { IfOk result (λ made. AreFutureClasses nodes.now marks.now made.numbers.items made.count) }
-{
-    let mut classes = round(alloc, nodes, marks)?;
-    loop {
-        let finer = round(alloc, nodes, classes.numbers.as_slice())?;
-        if finer.count == classes.count {
-            return Ok(classes);
-        }
-        classes = finer;
-    }
 }
 
 // Tells the nodes apart by their classes and by those to which their events lead.

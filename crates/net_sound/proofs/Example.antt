@@ -9,7 +9,7 @@ use Rattle.csp_tables.specs.Path.{Path, Silently, Stable}
 use Rattle.csp_tables.specs.Network.{Component, ComponentStep, Tree, NetworkStep, leaves}
 use Rattle.csp_tables.specs.Flat.{FlatStep}
 use Rattle.csp_tables.specs.SilentBound.{IsGreatestSilence}
-use Rattle.csp_tables.specs.Trace.{events_of, After, Offers}
+use Rattle.csp_tables.specs.Trace.{visible_events, After, Offers}
 use Rattle.csp_tables.specs.Table.{node_at, node_after, is_run, end_of}
 use Rattle.csp_tables.specs.Part.{Part, part_at, project, IsNonEmpty, sharers}
 use Rattle.csp_tables.specs.Stands.{Stands, acceptance, acceptances_of}
@@ -118,12 +118,12 @@ event_node at_one e y h = subst (λ k. Leads 1 k (node_of y)) (sym h.0) (subst (
 abbrev Follows : ℕ → List ℕ → ℕ → Type 0
 Follows n s m = (is_run turns.table n s ≡ true) × (end_of turns.table n s ≡ m)
 
-follows : (ls : List Label) (s t : Component Turn) → Path (ComponentStep TurnStep) s ls t → Follows (node_of s.term) (events_of ls) (node_of t.term)
+follows : (ls : List Label) (s t : Component Turn) → Path (ComponentStep TurnStep) s ls t → Follows (node_of s.term) (visible_events ls) (node_of t.term)
 follows [] s t h = (refl, ap (λ (x : Component Turn). node_of x.term) h)
-follows (silent ∷ ls) s t h = subst (λ n. Follows n (events_of ls) (node_of t.term)) (sym (silent_node s.term h.0.term h.1.1)) (follows ls h.0 t h.2)
+follows (silent ∷ ls) s t h = subst (λ n. Follows n (visible_events ls) (node_of t.term)) (sym (silent_node s.term h.0.term h.1.1)) (follows ls h.0 t h.2)
 follows (visible e ∷ ls) s t h =
     let first = event_node s.term e h.0.term h.1.2 in
-    let rest = subst (λ n. Follows n (events_of ls) (node_of t.term)) (sym first.1) (follows ls h.0 t h.2) in
+    let rest = subst (λ n. Follows n (visible_events ls) (node_of t.term)) (sym first.1) (follows ls h.0 t h.2) in
     (and_from _ _ ((and_parts _ _ first.0).0) rest.0, rest.1)
 
 -- the state that a trace leads to, and the node

@@ -7,8 +7,7 @@ use Rattle.csp_tables.specs.Label.Label.{silent}
 use Rattle.csp_tables.specs.Path.{Path, Silently}
 use Rattle.csp_tables.specs.Network.{Component, ComponentStep}
 use Rattle.csp_tables.specs.RawTable.{RawTable, RawStep, standing_at, IsTableOf}
-use Rattle.csp_tables.specs.Heights.{greatest}
-use Rattle.net_sound.specs.Heights.{HeightsAreExact, HeightsAddUp, sum_of_greatest}
+use Rattle.net_sound.specs.Heights.{HeightsAreExact, HeightsAddUp, greatest, sum_of_greatest}
 use Rattle.net_sound.proofs.FlatLists.{step_alphabet}
 
 -- a component with the alphabet of c is c standing at its term
@@ -70,7 +69,7 @@ pub heights_are_exact : {T : Type 0} (Step : T → Label → T → Type 0) → H
 heights_are_exact Step c terms raw heights t hs =
     let some : 0 < length terms = slice_get_within terms 0 c.term t.first in
     let whole : length terms ≡ raw.count = t.count in
-    let many : length heights ≡ raw.count = hs.count in
+    let many : length heights ≡ raw.count = hs.one_each in
     let top = reaches_greatest heights (omega arith) in
     let within : top.0 < length heights = top.1 in
     let x = listed_at terms top.0 (omega arith) in
@@ -82,7 +81,7 @@ heights_are_exact Step c terms raw heights t hs =
           let i = numbered Step c terms raw r.0 c d t (record { number = 0; listed = t.first; alphabet = refl }) r.1 in
           let down = walk_down Step c terms raw k i.number d.term e t i.listed (subst (λ y. Silently (ComponentStep Step) k y e) (stands c d i.alphabet) w) in
           let inside : i.number < length terms = slice_get_within terms i.number d.term i.listed in
-          let le : k ≤ get_or heights i.number 0 = (hs.each i.number (omega arith)).most down.0 k down.1 in
+          let le : k ≤ get_or heights i.number 0 = (hs.each i.number (omega arith)).most k down.0 down.1 in
           let most : get_or heights i.number 0 ≤ greatest heights = at_most_greatest heights i.number in
           omega arith;
     }

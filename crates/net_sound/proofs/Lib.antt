@@ -8,6 +8,7 @@ pub mod Laps
 pub mod Local
 pub mod Normal
 pub mod Shape
+pub mod ShapeOf
 pub mod Sharers
 pub mod Soundness
 pub mod Stuck

@@ -10,7 +10,7 @@ use Rattle.csp_tables.specs.Network.{Component, ComponentStep, Tree, NetworkStep
 use Rattle.csp_tables.specs.Flat.{OneMoves, AllTakePart, FlatStep}
 use Rattle.csp_tables.specs.WellNested.{WellNested}
 use Rattle.csp_tables.specs.SilentBound.{IsSilentBound}
-use Rattle.csp_tables.specs.Trace.{events_of, After}
+use Rattle.csp_tables.specs.Trace.{visible_events, After}
 use Rattle.csp_tables.specs.Part.{project}
 use Rattle.net_sound.proofs.FlatLists.{by_test, step_alphabet}
 use Rattle.net_sound.proofs.Flattening.{forth, kept}
@@ -68,10 +68,10 @@ first_event Step e s (c ∷ cs) (m ∷ ms) [] h a = absurd a
 first_event Step e s (c ∷ cs) (m ∷ ms) (d ∷ ds) h a = (after_part Step c m d e s h.0 a.0, first_event Step e s cs ms ds h.1 a.1)
 
 -- each component after a run of the network
-pub all_after : {T : Type 0} (Step : T → Label → T → Type 0) (ls : List Label) (cs ds : List (Component T)) → Path (FlatStep Step) cs ls ds → AllAfter Step (events_of ls) cs ds
+pub all_after : {T : Type 0} (Step : T → Label → T → Type 0) (ls : List Label) (cs ds : List (Component T)) → Path (FlatStep Step) cs ls ds → AllAfter Step (visible_events ls) cs ds
 all_after Step [] cs ds h = subst (AllAfter Step [] cs) h (none_yet Step cs)
-all_after Step (silent ∷ ls) cs ds h = first_silent Step (events_of ls) cs h.0 ds h.1 (all_after Step ls h.0 ds h.2)
-all_after Step (visible e ∷ ls) cs ds h = first_event Step e (events_of ls) cs h.0 ds h.1.1 (all_after Step ls h.0 ds h.2)
+all_after Step (silent ∷ ls) cs ds h = first_silent Step (visible_events ls) cs h.0 ds h.1 (all_after Step ls h.0 ds h.2)
+all_after Step (visible e ∷ ls) cs ds h = first_event Step e (visible_events ls) cs h.0 ds h.1.1 (all_after Step ls h.0 ds h.2)
 
 -- ---- silent steps in a row
 

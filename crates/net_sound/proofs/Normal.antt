@@ -1,5 +1,5 @@
--- A component and its numbered table do the same, so the normal table of the one has the behaviour of the other.
-use Rattle.std.proofs.Common.{◌≡◌, ℕ, List, [], ◌∷◌, Some, slice_get, get_or, nat_eq, refl, sym, ap, subst, ◌∙◌, eq-eqb}
+-- A component and its numbered table do the same, so the normal table of the one is that of the other.
+use Rattle.std.proofs.Common.{◌≡◌, ℕ, List, [], ◌∷◌, ◌++◌, Some, slice_get, get_or, nat_eq, refl, sym, ap, subst, ◌∙◌, eq-eqb}
 use Rattle.std.proofs.lemmas.Bool.{false≢true, or_left}
 use Rattle.std.proofs.lemmas.Option.{same_Some, slice_get_within, get_or_from_slice_get}
 use Rattle.csp_base.specs.Members.{has}
@@ -7,12 +7,12 @@ use Rattle.csp_tables.specs.Label.{Label}
 use Rattle.csp_tables.specs.Label.Label.{silent, visible}
 use Rattle.csp_tables.specs.Path.{Path, Stable}
 use Rattle.csp_tables.specs.Network.{Component, ComponentStep}
-use Rattle.csp_tables.specs.Trace.{IsTrace, IsAcceptance, IsBusy}
+use Rattle.csp_tables.specs.Trace.{IsTrace, IsStableOffer, IsAcceptance, HaveSameFuture}
 use Rattle.csp_tables.specs.RawTable.{RawTable, RawStep, standing_at, IsTableOf}
 use Rattle.csp_tables.specs.Table.{acceptances_after}
 use Rattle.csp_tables.specs.Part.{IsNonEmpty}
 use Rattle.csp_tables.specs.Behaviour.{OffersAcceptance}
-use Rattle.net_sound.specs.Normal.{NormalTablesBehave}
+use Rattle.net_sound.specs.Normal.{NormalTablesCarryOver}
 use Rattle.net_sound.proofs.FlatLists.{step_alphabet}
 use Rattle.net_sound.proofs.Heights.{stands}
 
@@ -50,10 +50,15 @@ step_up Step c terms raw m n l x t h step =
     let s = t.sound m n l step in
     (s.goal, subst (λ y. ComponentStep Step (standing_at c y) l (standing_at c s.goal)) (same_Some s.source x (sym s.from ∙ h)) s.step)
 
-trace_down : {T : Type 0} (Step : T → Label → T → Type 0) (c : Component T) (terms : List T) (raw : RawTable) (s : List ℕ) → IsTableOf Step c terms raw → IsTrace (ComponentStep Step) c s → IsTrace (RawStep raw) 0 s
+pub trace_down : {T : Type 0} (Step : T → Label → T → Type 0) (c : Component T) (terms : List T) (raw : RawTable) (s : List ℕ) → IsTableOf Step c terms raw → IsTrace (ComponentStep Step) c s → IsTrace (RawStep raw) 0 s
 trace_down Step c terms raw s t (d, a) =
     let r = down Step c terms raw a.0 c d 0 t t.first refl a.1 in
     (r.number, (a.0, r.path, a.2))
+
+pub trace_up : {T : Type 0} (Step : T → Label → T → Type 0) (c : Component T) (terms : List T) (raw : RawTable) (s : List ℕ) → IsTableOf Step c terms raw → IsTrace (RawStep raw) 0 s → IsTrace (ComponentStep Step) c s
+trace_up Step c terms raw s t (n, a) =
+    let r = up Step c terms raw a.0 0 n c.term t t.first a.1 in
+    (standing_at c r.goal, (a.0, r.path, a.2))
 
 offers_up : {T : Type 0} (Step : T → Label → T → Type 0) (c : Component T) (terms : List T) (raw : RawTable) (d : Component T) (n : ℕ) (acceptances : List (List ℕ)) → IsTableOf Step c terms raw → slice_get terms n ≡ Some d.term → c.alphabet ≡ d.alphabet → OffersAcceptance (RawStep raw) n acceptances → OffersAcceptance (ComponentStep Step) d acceptances
 offers_up Step c terms raw d n acceptances t h a o = record {
@@ -71,34 +76,83 @@ stable_down Step c terms raw d n t h a stable m step =
     let x = step_up Step c terms raw n m silent d.term t h step in
     stable (standing_at c x.0) (subst (λ y. ComponentStep Step y silent (standing_at c x.0)) (sym (stands c d a)) x.1)
 
--- an empty acceptance of the table is one of the component
-empty_up : {T : Type 0} (Step : T → Label → T → Type 0) (c : Component T) (terms : List T) (raw : RawTable) (s : List ℕ) → IsTableOf Step c terms raw → IsAcceptance (RawStep raw) 0 s [] → IsAcceptance (ComponentStep Step) c s []
-empty_up Step c terms raw s t a =
-    let o = a.offer in
+-- what is offered after a trace of the table is offered after the same trace of the component
+offer_up : {T : Type 0} (Step : T → Label → T → Type 0) (c : Component T) (terms : List T) (raw : RawTable) (s M : List ℕ) → IsTableOf Step c terms raw → IsStableOffer (RawStep raw) 0 s M → IsStableOffer (ComponentStep Step) c s M
+offer_up Step c terms raw s M t o =
     let r = up Step c terms raw o.reached.0 0 o.state c.term t t.first o.reached.1 in
     record {
-      offer = record {
-        state = standing_at c r.goal;
-        reached = (o.reached.0, r.path, o.reached.2);
-        stable = λ d step. let q = t.complete o.state r.goal silent d r.listed step in o.stable q.number q.step;
-        offered = λ e. ((λ m. absurd (false≢true m)), (λ offer. let q = t.complete o.state r.goal (visible e) offer.0 r.listed offer.1 in (o.offered e).1 (q.number, q.step)));
-      };
-      least = λ N _ _ e m. absurd (false≢true m);
+      state = standing_at c r.goal;
+      reached = (o.reached.0, r.path, o.reached.2);
+      stable = λ d step. let q = t.complete o.state r.goal silent d r.listed step in o.stable q.number q.step;
+      offered = λ e. (
+        λ m. let offer = (o.offered e).0 m in let x = step_up Step c terms raw o.state offer.0 (visible e) r.goal t r.listed offer.1 in (standing_at c x.0, x.1),
+        λ offer. let q = t.complete o.state r.goal (visible e) offer.0 r.listed offer.1 in (o.offered e).1 (q.number, q.step),
+      );
     }
 
-not_empty : {T : Type 0} (Step : T → Label → T → Type 0) (c : Component T) (terms : List T) (raw : RawTable) (s M : List ℕ) → IsTableOf Step c terms raw → IsBusy (ComponentStep Step) c → IsAcceptance (RawStep raw) 0 s M → IsNonEmpty M
-not_empty Step c terms raw s [] t busy a = absurd (busy s (empty_up Step c terms raw s t a))
-not_empty Step c terms raw s (e ∷ M) t busy a = (e, or_left (nat_eq e e) (has M e) (eq-eqb e e refl))
+offer_down : {T : Type 0} (Step : T → Label → T → Type 0) (c : Component T) (terms : List T) (raw : RawTable) (s M : List ℕ) → IsTableOf Step c terms raw → IsStableOffer (ComponentStep Step) c s M → IsStableOffer (RawStep raw) 0 s M
+offer_down Step c terms raw s M t o =
+    let d = o.state in
+    let r = down Step c terms raw o.reached.0 c d 0 t t.first refl o.reached.1 in
+    record {
+      state = r.number;
+      reached = (o.reached.0, r.path, o.reached.2);
+      stable = stable_down Step c terms raw d r.number t r.listed r.alphabet o.stable;
+      offered = λ e. (
+        λ m. let offer = (o.offered e).0 m in let q = t.complete r.number d.term (visible e) offer.0 r.listed (subst (λ y. ComponentStep Step y (visible e) offer.0) (stands c d r.alphabet) offer.1) in (q.number, q.step),
+        λ offer. let x = step_up Step c terms raw r.number offer.0 (visible e) d.term t r.listed offer.1 in (o.offered e).1 (standing_at c x.0, subst (λ y. ComponentStep Step y (visible e) (standing_at c x.0)) (sym (stands c d r.alphabet)) x.1),
+      );
+    }
 
-pub normal_tables_behave : {T : Type 0} (Step : T → Label → T → Type 0) → NormalTablesBehave Step
-normal_tables_behave Step c terms raw table t busy normal = record {
-  alphabet = refl;
-  traces = λ s h. (normal.traces s).0 (trace_down Step c terms raw s t h);
-  accepts = λ s d a stable.
-      let r = down Step c terms raw a.0 c d 0 t t.first refl a.1 in
-      offers_up Step c terms raw d r.number (acceptances_after table s) t r.listed r.alphabet
-      (normal.covered s r.number (a.0, r.path, a.2) (stable_down Step c terms raw d r.number t r.listed r.alphabet stable));
-  busy = λ s M k h listed.
-      subst IsNonEmpty (get_or_from_slice_get (acceptances_after table s) k M [] listed)
-      (not_empty Step c terms raw s (get_or (acceptances_after table s) k []) t busy (normal.sound s k (trace_down Step c terms raw s t h) (slice_get_within (acceptances_after table s) k M listed)));
+pub acceptance_up : {T : Type 0} (Step : T → Label → T → Type 0) (c : Component T) (terms : List T) (raw : RawTable) (s M : List ℕ) → IsTableOf Step c terms raw → IsAcceptance (RawStep raw) 0 s M → IsAcceptance (ComponentStep Step) c s M
+acceptance_up Step c terms raw s M t a = record { offer = offer_up Step c terms raw s M t a.offer; least = λ N o within. a.least N (offer_down Step c terms raw s N t o) within }
+
+pub acceptance_down : {T : Type 0} (Step : T → Label → T → Type 0) (c : Component T) (terms : List T) (raw : RawTable) (s M : List ℕ) → IsTableOf Step c terms raw → IsAcceptance (ComponentStep Step) c s M → IsAcceptance (RawStep raw) 0 s M
+acceptance_down Step c terms raw s M t a = record { offer = offer_down Step c terms raw s M t a.offer; least = λ N o within. a.least N (offer_up Step c terms raw s N t o) within }
+
+pub future_up : {T : Type 0} (Step : T → Label → T → Type 0) (c : Component T) (terms : List T) (raw : RawTable) (s w : List ℕ) → IsTableOf Step c terms raw → HaveSameFuture (RawStep raw) 0 s w → HaveSameFuture (ComponentStep Step) c s w
+future_up Step c terms raw s w t f = record {
+  traces = λ v. (
+    λ h. trace_up Step c terms raw (w ++ v) t ((f.traces v).0 (trace_down Step c terms raw (s ++ v) t h)),
+    λ h. trace_up Step c terms raw (s ++ v) t ((f.traces v).1 (trace_down Step c terms raw (w ++ v) t h)),
+  );
+  acceptances = λ v M. (
+    λ h. acceptance_up Step c terms raw (w ++ v) M t ((f.acceptances v M).0 (acceptance_down Step c terms raw (s ++ v) M t h)),
+    λ h. acceptance_up Step c terms raw (s ++ v) M t ((f.acceptances v M).1 (acceptance_down Step c terms raw (w ++ v) M t h)),
+  );
+}
+
+pub future_down : {T : Type 0} (Step : T → Label → T → Type 0) (c : Component T) (terms : List T) (raw : RawTable) (s w : List ℕ) → IsTableOf Step c terms raw → HaveSameFuture (ComponentStep Step) c s w → HaveSameFuture (RawStep raw) 0 s w
+future_down Step c terms raw s w t f = record {
+  traces = λ v. (
+    λ h. trace_down Step c terms raw (w ++ v) t ((f.traces v).0 (trace_up Step c terms raw (s ++ v) t h)),
+    λ h. trace_down Step c terms raw (s ++ v) t ((f.traces v).1 (trace_up Step c terms raw (w ++ v) t h)),
+  );
+  acceptances = λ v M. (
+    λ h. acceptance_down Step c terms raw (w ++ v) M t ((f.acceptances v M).0 (acceptance_up Step c terms raw (s ++ v) M t h)),
+    λ h. acceptance_down Step c terms raw (s ++ v) M t ((f.acceptances v M).1 (acceptance_up Step c terms raw (w ++ v) M t h)),
+  );
+}
+
+pub normal_tables_carry_over : {T : Type 0} (Step : T → Label → T → Type 0) → NormalTablesCarryOver Step
+normal_tables_carry_over Step c terms raw most table t normal = record {
+  traces = λ s. (
+    λ h. (normal.traces s).0 (trace_down Step c terms raw s t h),
+    λ run. trace_up Step c terms raw s t ((normal.traces s).1 run),
+  );
+  classes = λ s w h k.
+      let same = normal.classes s w (trace_down Step c terms raw s t h) (trace_down Step c terms raw w t k) in
+      (λ e. future_up Step c terms raw s w t (same.0 e), λ f. same.1 (future_down Step c terms raw s w t f));
+  acceptances = record {
+    sound = λ s k h within. acceptance_up Step c terms raw s (get_or (acceptances_after table s) k []) t (normal.acceptances.sound s k (trace_down Step c terms raw s t h) within);
+    complete = λ s M a. normal.acceptances.complete s M (acceptance_down Step c terms raw s M t a);
+    covered = λ s d a stable.
+        let r = down Step c terms raw a.0 c d 0 t t.first refl a.1 in
+        offers_up Step c terms raw d r.number (acceptances_after table s) t r.listed r.alphabet
+        (normal.acceptances.covered s r.number (a.0, r.path, a.2) (stable_down Step c terms raw d r.number t r.listed r.alphabet stable));
+  };
+  rising = normal.rising;
+  breadth_first = normal.breadth_first;
+  reached = normal.reached;
+  few = normal.few;
 }

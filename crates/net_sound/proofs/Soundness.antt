@@ -6,9 +6,10 @@ use Rattle.csp_base.specs.Members.{has}
 use Rattle.csp_tables.specs.Label.{Label}
 use Rattle.csp_tables.specs.Label.Label.{silent, visible}
 use Rattle.csp_tables.specs.Path.{Path, Stable}
-use Rattle.csp_tables.specs.Network.{Component, ComponentStep, Tree, leaves}
+use Rattle.csp_tables.specs.Network.{Component, ComponentStep, Tree, NetworkStep, leaves}
+use Rattle.csp_tables.proofs.SilentPaths.{silent_path, path_silent}
 use Rattle.csp_tables.specs.Flat.{in_some_component, OneMoves, AllTakePart, FlatStep}
-use Rattle.csp_tables.specs.Trace.{events_of, After, Offers}
+use Rattle.csp_tables.specs.Trace.{visible_events, After, Offers}
 use Rattle.csp_tables.specs.Part.{Part, part_at, alphabets_of, project, IsNonEmpty, TripleDisjoint}
 use Rattle.csp_tables.specs.Stands.{Follows, Stands, AllStand, IsAgreed, acceptance, acceptances_of}
 use Rattle.csp_tables.specs.Behaviour.{OffersAcceptance, HasBehaviour, HaveBehaviours}
@@ -23,11 +24,11 @@ use Rattle.net_sound.proofs.Stuck.{none_is_stuck}
 
 -- ---- runs
 
-along : {T : Type 0} (Step : T → Label → T → Type 0) (ls : List Label) (cs ds : List (Component T)) (u : Tree T) (i k : ℕ) (c : Component T) → AllAfter Step (events_of ls) cs ds → slice_get cs i ≡ Some c → ((d : Component T) → slice_get ds i ≡ Some d → slice_get (leaves u) k ≡ Some d) → ComesAlong Step c ls u k
+along : {T : Type 0} (Step : T → Label → T → Type 0) (ls : List Label) (cs ds : List (Component T)) (u : Tree T) (i k : ℕ) (c : Component T) → AllAfter Step (visible_events ls) cs ds → slice_get cs i ≡ Some c → ((d : Component T) → slice_get ds i ≡ Some d → slice_get (leaves u) k ≡ Some d) → ComesAlong Step c ls u k
 along Step ls [] ds u i k c a h there = absurd (none-some c h)
 along Step ls (x ∷ cs) [] u i k c a h there = absurd a
 along Step ls (x ∷ cs) (d ∷ ds) u zero k c a h there =
-    record { state = d; placed = there d refl; after = subst (λ (y : Component _). After (ComponentStep Step) y (project y.alphabet (events_of ls)) d) (same_Some x c h) a.0 }
+    record { state = d; placed = there d refl; after = subst (λ (y : Component _). After (ComponentStep Step) y (project y.alphabet (visible_events ls)) d) (same_Some x c h) a.0 }
 along Step ls (x ∷ cs) (d ∷ ds) u (suc i) k c a h there = along Step ls cs ds u i k c a.1 h there
 
 pub runs_are_traces : {T : Type 0} (Step : T → Label → T → Type 0) → RunsAreTraces Step
@@ -44,13 +45,13 @@ follows Step s (c ∷ cs) (d ∷ ds) (p ∷ ps) (suc i) a b h = follows Step s c
 pub runs_are_joint : {T : Type 0} (Step : T → Label → T → Type 0) → RunsAreJoint Step
 runs_are_joint Step t u ls parts i j w run b h k =
     let a = all_after Step ls (leaves t) (leaves u) (run_forth Step ls t u w run) in
-    record { left = follows Step (events_of ls) (leaves t) (leaves u) parts i a b h; right = follows Step (events_of ls) (leaves t) (leaves u) parts j a b k }
+    record { left = follows Step (visible_events ls) (leaves t) (leaves u) parts i a b h; right = follows Step (visible_events ls) (leaves t) (leaves u) parts j a b k }
 
 pub silence_is_bounded : {T : Type 0} (Step : T → Label → T → Type 0) → SilenceIsBounded Step
 silence_is_bounded Step t u v n bound w b r h =
-    at_most Step (events_of r.0) n (leaves t) (leaves u) (leaves v) bound
+    at_most Step (visible_events r.0) n (leaves t) (leaves u) (leaves v) bound
     (all_after Step r.0 (leaves t) (leaves u) (run_forth Step r.0 t u w r.1))
-    (shares Step n (leaves u) (leaves v) (run_forth Step (replicate n silent) u v (run_kept Step r.0 t u w r.1) h)) b
+    (shares Step n (leaves u) (leaves v) (path_silent (FlatStep Step) n (leaves u) (leaves v) (run_forth Step (replicate n silent) u v (run_kept Step r.0 t u w r.1) (silent_path (NetworkStep Step) n u v h)))) b
 
 -- ---- stable states
 
@@ -173,7 +174,7 @@ good_rankings_mean_live Step tree bound parts ranking sound good = record {
       let w = run_kept Step r.0 tree u sound.nested r.1 in
       let a = all_after Step r.0 (leaves tree) (leaves u) (run_forth Step r.0 tree u sound.nested r.1) in
       let st = all_stable Step (leaves u) (λ es k. let x = back Step u silent es w k in stable x.tree x.step) in
-      let m = flat_moves Step (events_of r.0) (leaves tree) (leaves u) parts ranking sound.some sound.triple good a st in
+      let m = flat_moves Step (visible_events r.0) (leaves tree) (leaves u) parts ranking sound.some sound.triple good a st in
       let x = back Step u (visible m.0) m.1 w m.2 in
       (m.0, x.tree, x.step);
 }

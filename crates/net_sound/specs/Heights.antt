@@ -1,21 +1,31 @@
 -- The greatest silent height of a component's numbered table is the component's greatest number of silent steps in a row,
 -- exactly: a silent walk in the table is one of the component from a state that it reaches, and the other way round.
-use Rattle.std.specs.Prelude.{◌+◌, ℕ, List, [], ◌∷◌}
+use Rattle.std.specs.Prelude.{◌+◌, ℕ, List, [], ◌∷◌, max}
+use Rattle.digraph.specs.Walk.{AreHeights}
 use Rattle.csp_tables.specs.Label.{Label}
+use Rattle.csp_tables.specs.Path.{SilentStep}
 use Rattle.csp_tables.specs.Network.{Component, ComponentStep}
 use Rattle.csp_tables.specs.SilentBound.{IsGreatestSilence, IsSilentBound}
-use Rattle.csp_tables.specs.RawTable.{RawTable, IsTableOf}
-use Rattle.csp_tables.specs.Heights.{AreHeights, greatest}
+use Rattle.csp_tables.specs.RawTable.{RawTable, RawStep, IsTableOf}
+
+-- one number for each term of the table, the greatest number of silent steps that follow one another from it
+abbrev pub AreSilentHeights : RawTable → List ℕ → Type 0
+AreSilentHeights raw heights = AreHeights (SilentStep (RawStep raw)) raw.count heights
+
+-- the greatest of the numbers, 0 if there is none
+abbrev pub greatest : List ℕ → ℕ
+greatest [] = 0
+greatest (n ∷ ns) = max n (greatest ns)
 
 abbrev pub HeightsAreExact : {T : Type 0} → (T → Label → T → Type 0) → Type 0
-HeightsAreExact {T} Step = (c : Component T) (terms : List T) (raw : RawTable) (heights : List ℕ) → IsTableOf Step c terms raw → AreHeights raw heights → IsGreatestSilence (ComponentStep Step) c (greatest heights)
+HeightsAreExact {T} Step = (c : Component T) (terms : List T) (raw : RawTable) (heights : List ℕ) → IsTableOf Step c terms raw → AreSilentHeights raw heights → IsGreatestSilence (ComponentStep Step) c (greatest heights)
 
 -- a numbered table of the component with these heights
 pub record HasHeights {T : Type 0} (Step : T → Label → T → Type 0) (c : Component T) (heights : List ℕ) : Type 0 where
   pub terms : List T
   pub raw : RawTable
   pub table : IsTableOf Step c terms raw
-  pub are_heights : AreHeights raw heights
+  pub are_heights : AreSilentHeights raw heights
 
 -- one list of heights for each component
 abbrev pub HaveHeights : {T : Type 0} → (T → Label → T → Type 0) → List (Component T) → List (List ℕ) → Type 0

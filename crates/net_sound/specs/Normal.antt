@@ -1,16 +1,28 @@
--- The normal table of a component that is never empty-handed has the component's behaviour.
+-- From the numbered table of a component to the component.
 --
--- The component's numbered table does what the component does: a run of one is a run of the other. So the component's traces
--- are those of the numbered table, which are the runs of its normal table. A stable state of the component is a stable term of
--- the numbered table, and offers an acceptance whole. An acceptance of a node is one after a trace, so it is not empty.
-use Rattle.std.specs.Prelude.{List}
+-- The numbered table does what the component does: a run of one is a run of the other, and a stable term of the one offers
+-- what the stable state of the other does. So the normal table of the one is that of the other. Where the component is never
+-- empty-handed, this table has its behaviour: its traces are the runs, a stable state offers an acceptance whole, and no
+-- acceptance is empty.
+use Rattle.std.specs.Prelude.{ℕ, List}
 use Rattle.csp_tables.specs.Label.{Label}
-use Rattle.csp_tables.specs.Network.{Component, ComponentStep}
+use Rattle.csp_tables.specs.Network.{Component, ComponentStep, Tree, leaves}
 use Rattle.csp_tables.specs.Trace.{IsBusy}
 use Rattle.csp_tables.specs.RawTable.{RawTable, RawStep, IsTableOf}
 use Rattle.csp_tables.specs.Table.{Node}
 use Rattle.csp_tables.specs.NormalTable.{IsNormalTable}
-use Rattle.csp_tables.specs.Behaviour.{HasBehaviour}
+use Rattle.csp_tables.specs.Behaviour.{HasBehaviour, HaveBehaviours}
+use Rattle.csp_tables.specs.Shape.{Shape}
+use Rattle.csp_tables.specs.ShapeOf.{IsShapeOf, AreBusy}
 
+-- the normal table of a component's numbered table is the component's
+abbrev pub NormalTablesCarryOver : {T : Type 0} → (T → Label → T → Type 0) → Type 0
+NormalTablesCarryOver {T} Step = (c : Component T) (terms : List T) (raw : RawTable) (most : ℕ) (table : List Node) → IsTableOf Step c terms raw → IsNormalTable (RawStep raw) 0 most table → IsNormalTable (ComponentStep Step) c most table
+
+-- the normal table of a component that is never empty-handed has its behaviour
 abbrev pub NormalTablesBehave : {T : Type 0} → (T → Label → T → Type 0) → Type 0
-NormalTablesBehave {T} Step = (c : Component T) (terms : List T) (raw : RawTable) (table : List Node) → IsTableOf Step c terms raw → IsBusy (ComponentStep Step) c → IsNormalTable (RawStep raw) 0 table → HasBehaviour Step c (record { alphabet = c.alphabet; table = table })
+NormalTablesBehave {T} Step = (c : Component T) (most : ℕ) (table : List Node) → IsBusy (ComponentStep Step) c → IsNormalTable (ComponentStep Step) c most table → HasBehaviour Step c (record { alphabet = c.alphabet; table = table })
+
+-- so have the parts of the shape of such components
+abbrev pub ShapesBehave : {T : Type 0} → (T → Label → T → Type 0) → Type 0
+ShapesBehave {T} Step = (tree : Tree T) (shape : Shape) → IsShapeOf Step tree shape → AreBusy Step (leaves tree) → HaveBehaviours Step (leaves tree) shape.parts

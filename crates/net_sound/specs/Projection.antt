@@ -8,7 +8,7 @@ use Rattle.csp_tables.specs.Path.{Path, Reached, Silently}
 use Rattle.csp_tables.specs.Network.{Component, ComponentStep, Tree, NetworkStep, leaves}
 use Rattle.csp_tables.specs.WellNested.{WellNested}
 use Rattle.csp_tables.specs.SilentBound.{IsSilentBound}
-use Rattle.csp_tables.specs.Trace.{events_of, After}
+use Rattle.csp_tables.specs.Trace.{visible_events, After}
 use Rattle.csp_tables.specs.Part.{Part, part_at, project}
 use Rattle.csp_tables.specs.Stands.{IsJointRun}
 use Rattle.csp_tables.specs.Behaviour.{HaveBehaviours}
@@ -17,7 +17,7 @@ use Rattle.csp_tables.specs.Behaviour.{HaveBehaviours}
 pub record ComesAlong {T : Type 0} (Step : T → Label → T → Type 0) (c : Component T) (ls : List Label) (u : Tree T) (i : ℕ) : Type 0 where
   pub state : Component T
   pub placed : slice_get (leaves u) i ≡ Some state
-  pub after : After (ComponentStep Step) c (project c.alphabet (events_of ls)) state
+  pub after : After (ComponentStep Step) c (project c.alphabet (visible_events ls)) state
 
 -- a run of the tree, projected on a component's alphabet, is a trace of that component
 abbrev pub RunsAreTraces : {T : Type 0} → (T → Label → T → Type 0) → Type 0
@@ -25,7 +25,7 @@ RunsAreTraces {T} Step = (t u : Tree T) (ls : List Label) (i : ℕ) (c : Compone
 
 -- one run of the tree is a joint run of any two tables with the components' behaviour
 abbrev pub RunsAreJoint : {T : Type 0} → (T → Label → T → Type 0) → Type 0
-RunsAreJoint {T} Step = (t u : Tree T) (ls : List Label) (parts : List Part) (i j : ℕ) → WellNested t → Path (NetworkStep Step) t ls u → HaveBehaviours Step (leaves t) parts → i < length parts → j < length parts → IsJointRun (part_at parts i) (part_at parts j) (events_of ls)
+RunsAreJoint {T} Step = (t u : Tree T) (ls : List Label) (parts : List Part) (i j : ℕ) → WellNested t → Path (NetworkStep Step) t ls u → HaveBehaviours Step (leaves t) parts → i < length parts → j < length parts → IsJointRun (part_at parts i) (part_at parts j) (visible_events ls)
 
 -- From a reached state at most as many silent steps follow one another as the silent bound says: each is a step of one
 -- component, and those of one component follow one another in it too.

@@ -7,7 +7,8 @@ ghost use Rattle.net_sound.specs.Soundness.{GoodRankingsMeanLive};
 ghost use Rattle.net_sound.specs.Heights.{HeightsAreExact, HeightsAddUp};
 ghost use Rattle.net_sound.specs.Example.{ExampleIsLive, ExampleIsStuck};
 ghost use Rattle.net_sound.specs.NoneStuck.{NoneIsStuck};
-ghost use Rattle.net_sound.specs.Normal.{NormalTablesBehave};
+ghost use Rattle.csp_tables.specs.ShapeOf.{ShapesAreBusy};
+ghost use Rattle.net_sound.specs.Normal.{NormalTablesCarryOver, NormalTablesBehave, ShapesBehave};
 ghost use Rattle.net_sound.specs.Projection.{RunsAreTraces, RunsAreJoint, SilenceIsBounded};
 
 /// A labelled transition system: the values of a type are its states.
@@ -42,9 +43,21 @@ pub fn heights_are_exact<S: Transitions>()
     ensures sum { HeightsAddUp S.step }
 {}
 
-/// The normal table of a component that is never empty-handed has the component's behaviour.
+/// The normal table of a component's numbered table is the component's.
+pub fn normal_tables_carry_over<S: Transitions>()
+    ensures { NormalTablesCarryOver S.step }
+{}
+
+/// The normal table of a component that is never empty-handed has the component's behaviour, and so have the parts of a
+/// shape.
 pub fn normal_tables_behave<S: Transitions>()
-    ensures { NormalTablesBehave S.step }
+    ensures each { NormalTablesBehave S.step }
+    ensures all { ShapesBehave S.step }
+{}
+
+/// The shape of a network is busy exactly where its components are.
+pub fn shapes_are_busy<S: Transitions>()
+    ensures { ShapesAreBusy S.step }
 {}
 
 /// Over tables alone: ranks that fall along ungranted requests leave no state in which no event is agreed.

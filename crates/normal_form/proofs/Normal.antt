@@ -10,11 +10,11 @@ use Rattle.csp_base.proofs.Rising.{rises_from_increasing}
 use Rattle.csp_tables.specs.Label.{Label}
 use Rattle.csp_tables.specs.Trace.{IsTrace, IsAcceptance, HaveSameFuture}
 use Rattle.csp_tables.specs.Table.{Node, node_at, is_run, end_of, acceptances_after, IsRun}
-use Rattle.csp_tables.specs.NormalTable.{IsListed, IsNormalTable}
+use Rattle.csp_tables.specs.NormalTable.{IsListed, IsNormalTable, HasAcceptances, IsRisingNode}
 use Rattle.csp_tables.specs.Behaviour.{OffersAcceptance}
 use Rattle.csp_tables.specs.BreadthFirst.{IsBreadthFirst, targets_of_nodes}
 use Rattle.csp_tables.specs.Shape.{IsReached}
-use Rattle.determinise.specs.Determinised.{Determinised, FollowsTraces, HasAcceptances, IsInOrder}
+use Rattle.determinise.specs.Determinised.{Determinised, FollowsTraces}
 use Rattle.equal_futures.specs.Future.{NodesRise, StepsRise}
 use Rattle.equal_futures.proofs.Growing.{few_seen}
 use Rattle.normal_form.specs.Merged.{renamed, IsMergedTable}
@@ -28,11 +28,11 @@ use Rattle.normal_form.proofs.Reaching.{reached}
 abbrev none : Node
 none = record { next = []; accept = [] }
 
-pub in_order_at : (nodes : List Node) → All IsInOrder nodes → (n : ℕ) → n < length nodes → IsInOrder (node_at nodes n)
+pub in_order_at : (nodes : List Node) → All IsRisingNode nodes → (n : ℕ) → n < length nodes → IsRisingNode (node_at nodes n)
 in_order_at nodes order n below = order n none below
 
 -- numbered breadth first, the events lead to nodes
-pub nodes_rise : (nodes : List Node) → All IsInOrder nodes → IsBreadthFirst nodes → NodesRise nodes
+pub nodes_rise : (nodes : List Node) → All IsRisingNode nodes → IsBreadthFirst nodes → NodesRise nodes
 nodes_rise nodes order breadth n = elim (cases_lt n (length nodes)) as (λ _. StepsRise (length nodes) (node_at nodes n).next) [
   | inl below ↦ rise_from (length nodes) 0 (node_at nodes n).next (rises_from_increasing (map (λ step. step.0) (node_at nodes n).next) (in_order_at nodes order n below).events) (nodes_met 1 (length nodes) nodes n breadth.all_met below)
   | inr past ↦ subst (λ (node : Node). StepsRise (length nodes) node.next) (sym (get_or-eq_default nodes none past)) tt
@@ -45,14 +45,14 @@ same_events : (classes : List ℕ) (steps : List (ℕ × ℕ)) → map (λ (step
 same_events classes [] = refl
 same_events classes (step ∷ steps) = ap (λ (es : List ℕ). step.0 ∷ es) (same_events classes steps)
 
-in_order_renamed : (classes : List ℕ) (node : Node) → IsInOrder node → IsInOrder (renamed classes node)
+in_order_renamed : (classes : List ℕ) (node : Node) → IsRisingNode node → IsRisingNode (renamed classes node)
 in_order_renamed classes node o = record {
   events = subst IsStrictlyIncreasing (sym (same_events classes node.next)) o.events;
   members = o.members;
   acceptances = o.acceptances;
 }
 
-module _ (Step : ℕ → Label → ℕ → Type 0) (nodes merged : List Node) (traces : (s : List ℕ) → IsTrace Step 0 s ↔ IsRun nodes s) (accepts : HasAcceptances Step 0 nodes) (order : All IsInOrder nodes) (breadth : IsBreadthFirst nodes) (m : IsMergedTable nodes merged) where
+module _ (Step : ℕ → Label → ℕ → Type 0) (nodes merged : List Node) (traces : (s : List ℕ) → IsTrace Step 0 s ↔ IsRun nodes s) (accepts : HasAcceptances Step 0 nodes) (order : All IsRisingNode nodes) (breadth : IsBreadthFirst nodes) (m : IsMergedTable nodes merged) where
   rise : NodesRise nodes
   rise = nodes_rise nodes order breadth
 
@@ -116,11 +116,11 @@ module _ (Step : ℕ → Label → ℕ → Type 0) (nodes merged : List Node) (t
       let inside : f.node < length nodes = let w = f.within in let one = m.futures.one_each in omega (arith, w, one) in
       ap (node_at merged) (sym f.class) ∙ m.is.first f.node inside (is_first m.classes m.count m.futures.order f.node f.within (f.class ∙ sym f.turn))
 
-  pub in_order : All IsInOrder merged
-  in_order = All-from_get_or IsInOrder merged none (λ k below.
+  pub in_order : All IsRisingNode merged
+  in_order = All-from_get_or IsRisingNode merged none (λ k below.
       let f = first_node k below in
       let inside : f.node < length nodes = let w = f.within in let one = m.futures.one_each in omega (arith, w, one) in
-      subst IsInOrder (sym (node_is k below)) (in_order_renamed m.classes (node_at nodes f.node) (in_order_at nodes order f.node inside)))
+      subst IsRisingNode (sym (node_is k below)) (in_order_renamed m.classes (node_at nodes f.node) (in_order_at nodes order f.node inside)))
 
   pub breadth_first : IsBreadthFirst merged
   breadth_first = breadth_merged nodes m.marks m.classes m.count merged rise m.futures m.is breadth
@@ -138,12 +138,12 @@ module _ (Step : ℕ → Label → ℕ → Type 0) (nodes merged : List Node) (t
 -- all that the merged table is, as the code has the nodes
 pub record IsAsPromised (Step : ℕ → Label → ℕ → Type 0) (merged : List Node) : Type 0 where
   pub normal : IsNormalTable Step 0 merged
-  pub in_order : All IsInOrder merged
+  pub in_order : All IsRisingNode merged
   pub breadth_first : IsBreadthFirst merged
   pub reached : (n : ℕ) → n < length merged → IsReached merged n
   pub few : length merged ≤ 2048
 
-pub promised : (Step : ℕ → Label → ℕ → Type 0) (made : Determinised) (nodes merged : List Node) → nodes ≡ made.nodes → FollowsTraces Step 0 made → HasAcceptances Step 0 made.nodes → All IsInOrder made.nodes → IsBreadthFirst made.nodes → length made.nodes ≤ 2048 → IsMergedTable nodes merged → IsAsPromised Step merged
+pub promised : (Step : ℕ → Label → ℕ → Type 0) (made : Determinised) (nodes merged : List Node) → nodes ≡ made.nodes → FollowsTraces Step 0 made → HasAcceptances Step 0 made.nodes → All IsRisingNode made.nodes → IsBreadthFirst made.nodes → length made.nodes ≤ 2048 → IsMergedTable nodes merged → IsAsPromised Step merged
 promised Step made nodes merged same follows accepts order breadth few m =
     let is : IsMergedTable made.nodes merged = subst (λ (ns : List Node). IsMergedTable ns merged) same m in
     record {
@@ -154,5 +154,5 @@ promised Step made nodes merged same follows accepts order breadth few m =
       few = let l = no_more_nodes Step made.nodes merged follows.traces accepts order breadth is in omega (arith, l, few);
     }
 
-pub rises : (made : Determinised) (nodes : List Node) → nodes ≡ made.nodes → All IsInOrder made.nodes → IsBreadthFirst made.nodes → NodesRise nodes
+pub rises : (made : Determinised) (nodes : List Node) → nodes ≡ made.nodes → All IsRisingNode made.nodes → IsBreadthFirst made.nodes → NodesRise nodes
 rises made nodes same order breadth = subst NodesRise (sym same) (nodes_rise made.nodes order breadth)

@@ -8,7 +8,7 @@ use Rattle.csp_tables.specs.Label.{Label}
 use Rattle.csp_tables.specs.Trace.{IsTrace, IsAcceptance, HaveSameFuture}
 use Rattle.csp_tables.specs.Table.{Node, node_at, is_possible, node_after, is_run, end_of, acceptances_after, IsRun}
 use Rattle.acceptances.proofs.Member.{Member, member_at, stands, Stands}
-use Rattle.determinise.specs.Determinised.{HasAcceptances, IsInOrder}
+use Rattle.csp_tables.specs.NormalTable.{HasAcceptances, IsRisingNode}
 use Rattle.equal_futures.specs.Future.{HaveEqualFuture, NodesRise}
 use Rattle.equal_futures.proofs.RowLists.{target_below}
 use Rattle.normal_form.specs.Marks.{AreMarksOf}
@@ -46,7 +46,7 @@ same_tests true b f g = sym (f refl)
 same_tests false true f g = g refl
 same_tests false false f g = refl
 
-module _ (Step : ℕ → Label → ℕ → Type 0) (start : ℕ) (nodes : List Node) (marks : List ℕ) (some : 0 < length nodes) (rise : NodesRise nodes) (told : AreMarksOf nodes marks) (order : (n : ℕ) → n < length nodes → IsInOrder (node_at nodes n)) (traces : (s : List ℕ) → IsTrace Step start s ↔ IsRun nodes s) (accepts : HasAcceptances Step start nodes) where
+module _ (Step : ℕ → Label → ℕ → Type 0) (start : ℕ) (nodes : List Node) (marks : List ℕ) (some : 0 < length nodes) (rise : NodesRise nodes) (told : AreMarksOf nodes marks) (order : (n : ℕ) → n < length nodes → IsRisingNode (node_at nodes n)) (traces : (s : List ℕ) → IsTrace Step start s ↔ IsRun nodes s) (accepts : HasAcceptances Step start nodes) where
   pub end_within : (w : List ℕ) (j : ℕ) → j < length nodes → is_run nodes j w ≡ true → end_of nodes j w < length nodes
   end_within [] j below h = below
   end_within (e ∷ w) j below h =
@@ -61,7 +61,7 @@ module _ (Step : ℕ → Label → ℕ → Type 0) (start : ℕ) (nodes : List N
       let is : get_or (acceptances_after nodes v) l.place [] ≡ get_or (acceptances_after nodes u) l.place [] = ap (λ (xs : List (List ℕ)). get_or xs l.place []) (sym same) in
       same_acceptance Step start v (get_or (acceptances_after nodes v) l.place []) M (λ e. ap (λ (xs : List ℕ). has xs e) is ∙ l.members e) (accepts.sound v l.place trace within)
 
-  rising_after : (u : List ℕ) → IsRun nodes u → IsInOrder (node_at nodes (end_of nodes 0 u))
+  rising_after : (u : List ℕ) → IsRun nodes u → IsRisingNode (node_at nodes (end_of nodes 0 u))
   rising_after u run = order (end_of nodes 0 u) (end_within u 0 some run)
 
   members_into : (u v : List ℕ) → IsTrace Step start u → IsTrace Step start v → ((M : List ℕ) → IsAcceptance Step start u M → IsAcceptance Step start v M) → (m : List ℕ) → Member m (acceptances_after nodes u) → Member m (acceptances_after nodes v)

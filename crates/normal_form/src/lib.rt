@@ -6,8 +6,6 @@ mod marks;
 mod merge;
 mod merged;
 mod normal_table;
-#[cfg(test)]
-mod tests;
 
 pub use fault::NormFault;
-pub use normal_table::{normalise, normalise_by_rounds};
+pub use normal_table::normalise;

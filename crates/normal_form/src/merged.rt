@@ -8,29 +8,17 @@ use crate::marks::accept_marks;
 use crate::merge::merge;
 use csp_base::NoMemory;
 use csp_tables::{NormNode, NormTable};
-use equal_futures::{refine, refine_by_rounds};
+use equal_futures::refine;
 use std::alloc::Global;
 
-// One node for each class of nodes with equal future. The classes are refined by splitters.
-pub(crate) fn merged_by_splitters(alloc: Global, nodes: &[NormNode]) -> Result<NormTable, NoMemory>
+// One node for each class of nodes with equal future.
+pub(crate) fn merged_nodes(alloc: Global, nodes: &[NormNode]) -> Result<NormTable, NoMemory>
     requires rising { NodesRise nodes.now }
     requires few { length nodes.now ≤ 2048 }
     ensures { IfOk result (λ merged. IsMergedTable nodes.now merged) }
 {
     let marks = accept_marks(alloc, nodes)?;
     let classes = refine(alloc, nodes, &marks)?;
-    let merged = merge(alloc, nodes, &classes)?;
-    Ok(NormTable::from_nodes(merged))
-}
-
-// The same, with classes that are refined round by round.
-pub(crate) fn merged_by_rounds(alloc: Global, nodes: &[NormNode]) -> Result<NormTable, NoMemory>
-    requires rising { NodesRise nodes.now }
-    requires few { length nodes.now ≤ 2048 }
-    ensures { IfOk result (λ merged. IsMergedTable nodes.now merged) }
-{
-    let marks = accept_marks(alloc, nodes)?;
-    let classes = refine_by_rounds(alloc, nodes, &marks)?;
     let merged = merge(alloc, nodes, &classes)?;
     Ok(NormTable::from_nodes(merged))
 }

@@ -3,14 +3,14 @@
 ghost use Rattle.std.specs.Prelude.{◌≡◌, ◌<◌, ◌≤◌, ℕ, All, IfOk, OnOk, length};
 ghost use Rattle.csp_tables.specs.RawTable.{RawStep};
 ghost use Rattle.csp_tables.specs.Heights.{AreHeights};
-ghost use Rattle.csp_tables.specs.NormalTable.{IsNormalTable};
+ghost use Rattle.csp_tables.specs.NormalTable.{IsNormalTable, HasAcceptances, IsRisingNode};
 ghost use Rattle.csp_tables.specs.BreadthFirst.{IsBreadthFirst};
 ghost use Rattle.csp_tables.specs.Shape.{IsReached};
-ghost use Rattle.determinise.specs.Determinised.{FollowsTraces, HasAcceptances, IsInOrder};
+ghost use Rattle.determinise.specs.Determinised.{FollowsTraces};
 ghost use Rattle.determinise.specs.ManySets.{ReachesSets};
 
 use crate::fault::NormFault;
-use crate::merged::{merged_by_rounds, merged_by_splitters};
+use crate::merged::merged_nodes;
 use csp_tables::{NormTable, RawTable};
 use determinise::{SetFault, SetTable, determinise};
 use std::alloc::Global;
@@ -25,7 +25,7 @@ use tau_order::Heights;
 pub fn normalise(alloc: Global, table: &RawTable, heights: &Heights) -> Result<NormTable, NormFault>
     requires heights { AreHeights table.now heights.now }
     ensures normal { IfOk result (IsNormalTable (RawStep table.now) 0) }
-    ensures in_order { IfOk result (All IsInOrder) }
+    ensures in_order { IfOk result (All IsRisingNode) }
     ensures breadth_first { IfOk result IsBreadthFirst }
     ensures reached { IfOk result (λ made. (n : ℕ) → n < length made → IsReached made n) }
     ensures few { IfOk result (λ made. length made ≤ 2048) }
@@ -35,30 +35,7 @@ pub fn normalise(alloc: Global, table: &RawTable, heights: &Heights) -> Result<N
     ensures limit { (found : ℕ) → result ≡ Err (NormFault.SubsetLimit found) → (found ≡ 2049) × ReachesSets (RawStep table.now) 0 2049 }
 {
     let sets = sets_of(alloc, table)?;
-    let made = merged_by_splitters(alloc, sets.nodes())?;
-    Ok(made)
-}
-
-/// The same table, by plain means: classes of nodes with equal future are refined round by round. It may need as many rounds
-/// as there are sets of terms, and each goes over all steps; `normalise` needs about the logarithm of that.
-pub fn normalise_by_rounds(
-    alloc: Global,
-    table: &RawTable,
-    heights: &Heights,
-) -> Result<NormTable, NormFault>
-    requires heights { AreHeights table.now heights.now }
-    ensures normal { IfOk result (IsNormalTable (RawStep table.now) 0) }
-    ensures in_order { IfOk result (All IsInOrder) }
-    ensures breadth_first { IfOk result IsBreadthFirst }
-    ensures reached { IfOk result (λ made. (n : ℕ) → n < length made → IsReached made n) }
-    ensures few { IfOk result (λ made. length made ≤ 2048) }
-
-    // It succeeds only where no more sets are reached, and the limit is told only where they are.
-    ensures within_limit { OnOk result (ReachesSets (RawStep table.now) 0 2049 → ⊥) }
-    ensures limit { (found : ℕ) → result ≡ Err (NormFault.SubsetLimit found) → (found ≡ 2049) × ReachesSets (RawStep table.now) 0 2049 }
-{
-    let sets = sets_of(alloc, table)?;
-    let made = merged_by_rounds(alloc, sets.nodes())?;
+    let made = merged_nodes(alloc, sets.nodes())?;
     Ok(made)
 }
 
@@ -66,7 +43,7 @@ pub fn normalise_by_rounds(
 fn sets_of(alloc: Global, table: &RawTable) -> Result<SetTable, NormFault>
     ensures traces { IfOk result (λ made. FollowsTraces (RawStep table.now) 0 made) }
     ensures acceptances { IfOk result (λ made. HasAcceptances (RawStep table.now) 0 made.nodes) }
-    ensures in_order { IfOk result (λ made. All IsInOrder made.nodes) }
+    ensures in_order { IfOk result (λ made. All IsRisingNode made.nodes) }
     ensures breadth_first { IfOk result (λ made. IsBreadthFirst made.nodes) }
     ensures few { IfOk result (λ made. length made.nodes ≤ 2048) }
     ensures within_limit { OnOk result (ReachesSets (RawStep table.now) 0 2049 → ⊥) }

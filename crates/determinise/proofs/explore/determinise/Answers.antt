@@ -3,7 +3,8 @@ use Rattle.std.specs.List.{All}
 use Rattle.csp_tables.specs.RawTable.{RawTable, RawStep}
 use Rattle.csp_tables.specs.BreadthFirst.{IsBreadthFirst}
 use Rattle.determinise.specs.declared.fault.SetFault.TheVariants.{SubsetLimit}
-use Rattle.determinise.specs.Determinised.{Determinised, FollowsTraces, AreDifferentSets, HasAcceptances, IsInOrder}
+use Rattle.determinise.specs.Determinised.{Determinised, FollowsTraces, AreDifferentSets}
+use Rattle.csp_tables.specs.NormalTable.{HasAcceptances, IsRisingNode}
 use Rattle.determinise.specs.ManySets.{ReachesSets}
 use Rattle.determinise.proofs.Runs.{follows, different, accepts, in_order, breadth_first}
 use Rattle.determinise.proofs.Counting.{many_sets, no_more_sets}
@@ -31,7 +32,7 @@ pub returns-in-Ok-clause-in_order : goal.returns-in-Ok-clause-in_order
 returns-in-Ok-clause-in_order c =
     let raw : RawTable = c.in_ok-prepared.prepared in
     let found = c.in-Ok.ensures in
-    subst (λ (d : Determinised). All IsInOrder d.nodes) (sym c.new-in-Ok.ensures) (in_order raw c.explore.new.sets c.in-Ok.nodes.items found.nodes found.all)
+    subst (λ (d : Determinised). All IsRisingNode d.nodes) (sym c.new-in-Ok.ensures) (in_order raw c.explore.new.sets c.in-Ok.nodes.items found.nodes found.all)
 
 pub returns-in-Ok-clause-breadth_first : goal.returns-in-Ok-clause-breadth_first
 returns-in-Ok-clause-breadth_first c =

@@ -2,8 +2,8 @@ use Rattle.csp_tables.specs.RawTable.{RawStep}
 use Rattle.normal_form.proofs.Normal.{promised, rises}
 use Rattle.normal_form.proofs.normal_table.normalise.Goals as goal
 
-pub merged_by_splitters-requires-clause-rising : goal.merged_by_splitters-requires-clause-rising
-merged_by_splitters-requires-clause-rising c = rises c.in_ok-sets.sets c.nodes.result.now c.nodes.ensures c.in_ok-sets.ensures.in_order c.in_ok-sets.ensures.breadth_first
+pub merged_nodes-requires-clause-rising : goal.merged_nodes-requires-clause-rising
+merged_nodes-requires-clause-rising c = rises c.in_ok-sets.sets c.nodes.result.now c.nodes.ensures c.in_ok-sets.ensures.in_order c.in_ok-sets.ensures.breadth_first
 
 pub returns-clause-normal : goal.returns-clause-normal
 returns-clause-normal c = (promised (RawStep c.args.table.now) c.in_ok-sets.sets c.nodes.result.now c.in_ok-made.made c.nodes.ensures c.in_ok-sets.ensures.traces c.in_ok-sets.ensures.acceptances c.in_ok-sets.ensures.in_order c.in_ok-sets.ensures.breadth_first c.in_ok-sets.ensures.few c.in_ok-made.ensures).normal

@@ -1,22 +1,31 @@
-use Rattle.std.proofs.Common.{◌≡◌, refl, subst}
-use Rattle.csp_tables.specs.SilentCircle.{IsSilentCircle}
+use Rattle.std.proofs.Common.{◌≡◌, List, ℕ, length, get_or, refl, subst}
+use Rattle.csp_tables.specs.Path.{SilentStep}
+use Rattle.csp_tables.specs.RawTable.{RawStep}
+use Rattle.digraph.specs.Digraph.{HasArc}
+use Rattle.digraph.specs.Walk.{AreHeights}
+use Rattle.digraph.specs.Circle.{IsLeastCircle}
+use Rattle.digraph.proofs.WalkLaws.{same_heights, same_least_circle, same_no_circle}
 use Rattle.tau_order.specs.SilentRows.{AreSilentRows}
-use Rattle.tau_order.proofs.SilentWalks.{silent_heights, silent_circle, no_silent_circle}
+use Rattle.tau_order.proofs.SilentWalks.{step_of, arc_of}
 use Rattle.tau_order.proofs.silent_runs.heights.Goals as goal
 
 pub returns-in-Ok-clause-heights : goal.returns-in-Ok-clause-heights
 returns-in-Ok-clause-heights c =
-    let rows : AreSilentRows c.args.table.now c.in_ok-rows.rows = c.in_ok-rows.ensures in
-    silent_heights _ _ rows _ c.in-Ok.ensures.heights
+    let raw = c.args.table.now in
+    let rows : AreSilentRows raw c.in_ok-rows.rows = c.in_ok-rows.ensures in
+    subst (λ (n : ℕ). AreHeights (SilentStep (RawStep raw)) n c.in-Ok.found) rows.size
+    (same_heights (HasArc c.in_ok-rows.rows) (SilentStep (RawStep raw)) (step_of raw c.in_ok-rows.rows rows) (arc_of raw c.in_ok-rows.rows rows) (length c.in_ok-rows.rows) c.in-Ok.found c.in-Ok.ensures.heights)
 
 pub returns-in-Ok-clause-no_circle : goal.returns-in-Ok-clause-no_circle
-returns-in-Ok-clause-no_circle c terms circle =
-    let rows : AreSilentRows c.args.table.now c.in_ok-rows.rows = c.in_ok-rows.ensures in
-    no_silent_circle _ _ rows _ terms c.in-Ok.ensures.falls circle
+returns-in-Ok-clause-no_circle c =
+    let raw = c.args.table.now in
+    let rows : AreSilentRows raw c.in_ok-rows.rows = c.in_ok-rows.ensures in
+    same_no_circle (HasArc c.in_ok-rows.rows) (SilentStep (RawStep raw)) (arc_of raw c.in_ok-rows.rows rows) c.in-Ok.ensures.no_circle
 
 pub returns-clause-circle : goal.returns-clause-circle
 returns-clause-circle c terms is =
-    let rows : AreSilentRows c.args.table.now c.in_ok-rows.rows = c.in_ok-rows.ensures in
-    let found : IsSilentCircle c.args.table.now c.in-Err-Circle.circle = silent_circle _ _ rows _ (c.in-Err-Circle.ensures.circle c.in-Err-Circle.circle (rw c.in-Err-Circle.field-0-is refl)) in
+    let raw = c.args.table.now in
+    let rows : AreSilentRows raw c.in_ok-rows.rows = c.in_ok-rows.ensures in
+    let found : IsLeastCircle (SilentStep (RawStep raw)) c.in-Err-Circle.circle = same_least_circle (HasArc c.in_ok-rows.rows) (SilentStep (RawStep raw)) (step_of raw c.in_ok-rows.rows rows) c.in-Err-Circle.circle (c.in-Err-Circle.ensures.circle c.in-Err-Circle.circle (rw c.in-Err-Circle.field-0-is refl)) in
     let same : c.in-Err-Circle.circle ≡ terms = cc in
-    subst (IsSilentCircle c.args.table.now) same found
+    subst (IsLeastCircle (SilentStep (RawStep raw))) same found

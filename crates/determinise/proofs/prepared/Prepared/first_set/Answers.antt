@@ -4,7 +4,7 @@ use Rattle.csp_base.specs.Members.{has}
 use Rattle.csp_tables.specs.RawTable.{RawTable}
 use Rattle.determinise.specs.Moves.{IsSilentlyReached}
 use Rattle.determinise.specs.Progress.{IsSetAfter, IsTermSet}
-use Rattle.determinise.proofs.Silence.{silently, term_set}
+use Rattle.determinise.proofs.Silence.{silently}
 use Rattle.determinise.proofs.Exploring.{first_after}
 use Rattle.determinise.proofs.prepared.Prepared.first_set.Goals as goal
 
@@ -29,6 +29,6 @@ returns-clause-after c =
 pub returns-clause-form : goal.returns-clause-form
 returns-clause-form c =
     let raw : RawTable = c.self.inside.offers in
-    let below : All (λ t. t < raw.count) (0 ∷ []) = only_zero raw.count (omega (arith, c.self.invariant.0.first)) in
-    let form : IsTermSet raw c.in_ok-terms.terms.items = term_set raw c.self.inside.silent c.self.invariant.1 c.self.invariant.0 (0 ∷ []) c.in_ok-terms.terms.items below c.in_ok-terms.ensures.rising c.in_ok-terms.ensures.members in
+    let below : All (λ t. t < raw.count) c.in_ok-terms.terms.items = rw c.self.invariant.1.size at c.in_ok-terms.ensures.below in
+    let form : IsTermSet raw c.in_ok-terms.terms.items = record { rising = c.in_ok-terms.ensures.rising; within = below } in
     subst (λ (r : RawTable). IsTermSet r c.from_vec.result) c.self.view_is (subst (IsTermSet raw) (sym c.from_vec.ensures) form)

@@ -1,0 +1,318 @@
+-- The ranking of a cyclic network falls along ungranted requests.
+use Rattle.std.proofs.Common.{◌≡◌, ℕ, ◌+◌, ◌*◌, ◌/◌, ◌%◌, ◌<◌, ◌≤◌, inl, inr, ℤ, pos, ◌+ℤ◌, ◌-ℤ◌, ◌*ℤ◌, ◌<ℤ◌, List, [], ◌∷◌, ◌++◌, length, ◌&&◌, cond, nat_lt, IsTrue, sym, ap, subst, ◌∙◌, arith, eq-eqb, ne_eqb, le-ltb, lt-ltb, ltb-true}
+use Rattle.std.proofs.lemmas.Bool.{cases_Bool, cases_eq, cases_lt, cases_order, and_parts, and_from, and_right, both_ways}
+use Rattle.std.proofs.lemmas.Int.{ints}
+use Rattle.std.proofs.lemmas.Nat.{mod_below}
+use lib.IntN.{+ℤ_invr, *ℤ-zero}
+use Rattle.std.proofs.Math.Nat.{div-eq_of_lt, mod-eq_of_lt}
+use Rattle.csp_base.specs.Members.{has}
+use Rattle.design_rules.specs.Counts.{count_in, above_all}
+use Rattle.csp_tables.specs.Table.{IsRun, end_of}
+use Rattle.csp_tables.specs.Part.{part_at, Meet}
+use Rattle.csp_tables.specs.Trace.{IsWithin}
+use Rattle.csp_tables.specs.Shape.{Shape, Joins, link_at, is_end, IsWellFormed}
+use Rattle.csp_tables.specs.Standing.{RunsTo, IsPossible, Accepts, accepted, IsOn}
+use Rattle.design_rules.specs.Cyclic.{links_of, IsWholeEnd, HasWholeEnd}
+use Rattle.design_rules.specs.CyclicNumbered.{IsNext, KeepsOrder}
+use Rattle.design_rules.specs.CyclicRanking.{place_of, AreCyclicRanks, ends_lap}
+use Rattle.csp_tables.specs.Ranking.{Ranking, part_ranks, rank_after, laps_from}
+use Rattle.csp_tables.specs.Falls.{lead, Falls}
+use Rattle.net_sound.proofs.Within.{part_form}
+use Rattle.design_rules.proofs.Counts.{count_strict, below_all, count_push_more, count_push_same, lap_over, lap_on}
+use Rattle.design_rules.proofs.Runs.{possible_after, run_induction, laps_push, possible_within}
+use Rattle.design_rules.proofs.Shapes.{turned, first_end, link_shared, some_link, link_events, own_run, own_end, Request, request}
+
+-- ---- places
+
+pub earlier_place : (shape : Shape) (number : ℕ → ℕ) (i l m : ℕ) → l < length shape.links → IsTrue (is_end shape i l) → number l < number m → place_of shape number i l < place_of shape number i m
+earlier_place shape number i l m h end less =
+    count_strict (λ x. is_end shape i x && nat_lt (number x) (number l)) (λ x. is_end shape i x && nat_lt (number x) (number m)) (length shape.links) l
+    (λ x _ k. let p = and_parts (is_end shape i x) (nat_lt (number x) (number l)) k in let lt : number x < number l = ltb-true (number x) (number l) p.1 in and_from _ _ p.0 (lt-ltb (number x) (number m) (omega arith)))
+    h (and_right (is_end shape i l) (nat_lt (number l) (number l)) (le-ltb (number l) (number l) (omega arith))) (and_from _ _ end (lt-ltb (number l) (number m) less))
+
+pub place_below : (shape : Shape) (number : ℕ → ℕ) (i l : ℕ) → l < length shape.links → IsTrue (is_end shape i l) → place_of shape number i l < links_of shape i
+place_below shape number i l h end =
+    count_strict (λ x. is_end shape i x && nat_lt (number x) (number l)) (λ x. is_end shape i x) (length shape.links) l
+    (λ x _ k. (and_parts (is_end shape i x) (nat_lt (number x) (number l)) k).0)
+    h (and_right (is_end shape i l) (nat_lt (number l) (number l)) (le-ltb (number l) (number l) (omega arith))) end
+
+pub places_differ : (shape : Shape) (number : ℕ → ℕ) (i l m : ℕ) → l < length shape.links → m < length shape.links → IsTrue (is_end shape i l) → IsTrue (is_end shape i m) → (number l ≡ number m → ⊥) → place_of shape number i l ≡ place_of shape number i m → ⊥
+places_differ shape number i l m h k x y ne same =
+    elim (cases_order (number l) (number m)) [
+      | inl e ↦ ne e
+      | inr order ↦ elim order [
+        | inl less ↦ let p : place_of shape number i l < place_of shape number i m = earlier_place shape number i l m h x less in omega arith
+        | inr more ↦ let p : place_of shape number i m < place_of shape number i l = earlier_place shape number i m l k y more in omega arith
+      ]
+    ]
+
+-- ---- events of a link and laps, along runs of a part
+
+abbrev shared_in : Shape → List ℕ → ℕ
+shared_in shape u = count_in shape.vocabulary u
+
+-- one where the place comes before the next one
+abbrev passed : ℕ → ℕ → ℕ
+passed p r = cond (nat_lt p r) 1 0
+
+passed_yes : (p r : ℕ) → p < r → passed p r ≡ 1
+passed_yes p r h = ap (λ b. cond b 1 0) (lt-ltb p r h)
+
+passed_no : (p r : ℕ) → r ≤ p → passed p r ≡ 0
+passed_no p r h = ap (λ b. cond b 1 0) (le-ltb p r h)
+
+-- of t shared events, with k links, this many are on the link with place p
+abbrev IsBalanced : ℕ → ℕ → ℕ → ℕ → Type 0
+IsBalanced c t k p = c ≡ t / k + passed p (t % k)
+
+balanced_on : (c t k p : ℕ) → p < k → p ≡ t % k → IsBalanced c t k p → IsBalanced (c + 1) (t + 1) k p
+balanced_on c t k p below next h =
+    let now : passed p (t % k) ≡ 0 = passed_no p (t % k) (omega arith) in
+    elim (cases_eq (t % k + 1) k) [
+      | inl last ↦
+          let d = lap_over t k last in
+          let q : (t + 1) / k ≡ t / k + 1 = d.0 in
+          let then : passed p ((t + 1) % k) ≡ 0 = passed_no p ((t + 1) % k) (let r : (t + 1) % k ≡ 0 = d.1 in omega arith) in
+          omega (arith, q, then, now, h)
+      | inr inside ↦
+          let d = lap_on t k (omega arith) in
+          let q : (t + 1) / k ≡ t / k = d.0 in
+          let then : passed p ((t + 1) % k) ≡ 1 = passed_yes p ((t + 1) % k) (let r : (t + 1) % k ≡ t % k + 1 = d.1 in omega arith) in
+          omega (arith, q, then, now, h)
+    ]
+
+balanced_off : (c t k p : ℕ) → p < k → t % k < k → (p ≡ t % k → ⊥) → IsBalanced c t k p → IsBalanced c (t + 1) k p
+balanced_off c t k p below within other h =
+    elim (cases_eq (t % k + 1) k) [
+      | inl last ↦
+          let d = lap_over t k last in
+          let q : (t + 1) / k ≡ t / k + 1 = d.0 in
+          let now : passed p (t % k) ≡ 1 = passed_yes p (t % k) (omega arith) in
+          let then : passed p ((t + 1) % k) ≡ 0 = passed_no p ((t + 1) % k) (let r : (t + 1) % k ≡ 0 = d.1 in omega arith) in
+          omega (arith, q, then, now, h)
+      | inr inside ↦
+          let d = lap_on t k (omega arith) in
+          let q : (t + 1) / k ≡ t / k = d.0 in
+          let r : (t + 1) % k ≡ t % k + 1 = d.1 in
+          let same : passed p ((t + 1) % k) ≡ passed p (t % k) = still p (t % k) ((t + 1) % k) r other in
+          omega (arith, q, same, h)
+    ]
+  where
+    still : (p r s : ℕ) → s ≡ r + 1 → (p ≡ r → ⊥) → passed p s ≡ passed p r
+    still p r s e ne =
+        elim (cases_lt p r) [
+          | inl less ↦ passed_yes p s (omega arith) ∙ sym (passed_yes p r less)
+          | inr more ↦ passed_no p s (omega arith) ∙ sym (passed_no p r more)
+        ]
+
+none_done : (k : ℕ) → 0 < k → (0 / k ≡ 0) × (0 % k ≡ 0)
+none_done k h = (div-eq_of_lt h, mod-eq_of_lt h)
+
+balanced_none : (k p : ℕ) → p < k → IsBalanced 0 0 k p
+balanced_none k p below =
+    let d = none_done k (omega arith) in
+    let q : 0 / k ≡ 0 = d.0 in
+    let none : passed p (0 % k) ≡ 0 = passed_no p (0 % k) (let r : 0 % k ≡ 0 = d.1 in omega arith) in
+    omega (arith, q, none)
+
+-- Of two links of a part that have the same number, it reaches neither.
+abbrev pub ReachedLinksDiffer : Shape → (ℕ → ℕ) → Type 0
+ReachedLinksDiffer shape number = (i l m : ℕ) (s : List ℕ) (e : ℕ) → IsPossible shape i s e → IsOn shape i l e → m < length shape.links → IsTrue (is_end shape i m) → (l ≡ m → ⊥) → number l ≡ number m → ⊥
+
+-- what is used of the rule
+pub record Ordered (shape : Shape) (number : ℕ → ℕ) : Type 0 where
+  pub form : IsWellFormed shape
+  pub differ : ReachedLinksDiffer shape number
+  pub order : KeepsOrder shape number
+  pub whole : (l : ℕ) → l < length shape.links → HasWholeEnd shape l
+
+possible_at : (shape : Shape) (i : ℕ) (u : List ℕ) (e : ℕ) → i < length shape.parts → IsRun (part_at shape.parts i).table u → IsTrue (possible_after (part_at shape.parts i).table u e) → IsPossible shape i u e
+possible_at shape i u e h r possible = record { runs = record { part = h; follows = r }; next = possible }
+
+-- a possible shared event lies on the link that is next
+pub next_link : (shape : Shape) (number : ℕ → ℕ) (i : ℕ) (u : List ℕ) (e : ℕ) → Ordered shape number → IsPossible shape i u e → IsTrue (has shape.vocabulary e) → (l : ℕ) × IsOn shape i l e × IsNext shape number i u l
+next_link shape number i u e o possible v =
+    let owned = possible_within (part_at shape.parts i) (end_of (part_at shape.parts i).table 0 u) e (part_form shape.parts i possible.runs.part o.form.form) possible.next in
+    let l = some_link shape i e o.form possible.runs.part owned v in
+    (l.0, l.1, o.order i l.0 u e possible l.1)
+
+abbrev BalancedAt : Shape → (ℕ → ℕ) → ℕ → ℕ → List ℕ → Type 0
+BalancedAt shape number i l u = IsBalanced (count_in (link_at shape l).shared u) (shared_in shape u) (links_of shape i) (place_of shape number i l)
+
+balanced_pushed : (shape : Shape) (number : ℕ → ℕ) (i l : ℕ) (u : List ℕ) (e c t : ℕ) → count_in (link_at shape l).shared (u ++ e ∷ []) ≡ c → shared_in shape (u ++ e ∷ []) ≡ t → IsBalanced c t (links_of shape i) (place_of shape number i l) → BalancedAt shape number i l (u ++ e ∷ [])
+balanced_pushed shape number i l u e c t a b h = a ∙ h ∙ ap (λ x. x / links_of shape i + passed (place_of shape number i l) (x % links_of shape i)) (sym b)
+
+balanced_step : (shape : Shape) (number : ℕ → ℕ) (i l : ℕ) → Ordered shape number → l < length shape.links → IsTrue (is_end shape i l) → (u : List ℕ) (e : ℕ) → IsPossible shape i u e → BalancedAt shape number i l u → BalancedAt shape number i l (u ++ e ∷ [])
+balanced_step shape number i l o h end u e possible b =
+    let S = (link_at shape l).shared in
+    let below = place_below shape number i l h end in
+    elim (cases_Bool (has S e)) [
+      | inl on ↦
+          balanced_pushed shape number i l u e (count_in S u + 1) (shared_in shape u + 1) (count_push_more S u e on) (count_push_more shape.vocabulary u e (link_shared shape l o.form h e on))
+          (balanced_on (count_in S u) (shared_in shape u) (links_of shape i) (place_of shape number i l) below (o.order i l u e possible (record { within = h; end = end; event = on })) b)
+      | inr off ↦ elim (cases_Bool (has shape.vocabulary e)) [
+        | inl v ↦
+            let n = next_link shape number i u e o possible v in
+            let other = λ (same : n.0 ≡ l). both_ways (has S e) off (subst (λ m. IsTrue (has (link_at shape m).shared e)) same n.1.event) in
+            let differs = λ (same : place_of shape number i l ≡ shared_in shape u % links_of shape i). places_differ shape number i n.0 l n.1.within h n.1.end end (o.differ i n.0 l u e possible n.1 h end other) (n.2 ∙ sym same) in
+            balanced_pushed shape number i l u e (count_in S u) (shared_in shape u + 1) (count_push_same S u e off) (count_push_more shape.vocabulary u e v)
+            (balanced_off (count_in S u) (shared_in shape u) (links_of shape i) (place_of shape number i l) below (mod_below (shared_in shape u) (links_of shape i) (omega arith)) differs b)
+        | inr hidden ↦
+            balanced_pushed shape number i l u e (count_in S u) (shared_in shape u) (count_push_same S u e off) (count_push_same shape.vocabulary u e hidden) b
+      ]
+    ]
+
+balanced : (shape : Shape) (number : ℕ → ℕ) (i l : ℕ) → Ordered shape number → l < length shape.links → IsTrue (is_end shape i l) → (s : List ℕ) → RunsTo shape i s → BalancedAt shape number i l s
+balanced shape number i l o h end s run =
+    run_induction (part_at shape.parts i).table (BalancedAt shape number i l)
+    (balanced_none (links_of shape i) (place_of shape number i l) (place_below shape number i l h end))
+    (λ u e r possible b. balanced_step shape number i l o h end u e (possible_at shape i u e run.part r possible) b)
+    s run.follows
+
+-- ---- laps
+
+lap_step : (a t k p : ℕ) → p ≡ t % k → t % k < k → a ≡ t / k → a + ends_lap p k ≡ (t + 1) / k
+lap_step a t k p next within h =
+    elim (cases_eq (p + 1) k) [
+      | inl last ↦
+          let one : ends_lap p k ≡ 1 = ap (λ b. cond b 1 0) (eq-eqb (p + 1) k last) in
+          let q : (t + 1) / k ≡ t / k + 1 = (lap_over t k (omega arith)).0 in
+          omega (arith, one, q, h)
+      | inr inside ↦
+          let none : ends_lap p k ≡ 0 = ap (λ b. cond b 1 0) (ne_eqb (p + 1) k inside) in
+          let q : (t + 1) / k ≡ t / k = (lap_on t k (omega arith)).0 in
+          omega (arith, none, q, h)
+    ]
+
+abbrev laps_in : Shape → Ranking → ℕ → List ℕ → ℕ
+laps_in shape ranking i u = laps_from (part_at shape.parts i).table (part_ranks ranking i).laps 0 u
+
+abbrev LapsAt : Shape → Ranking → ℕ → List ℕ → Type 0
+LapsAt shape ranking i u = laps_in shape ranking i u ≡ shared_in shape u / links_of shape i
+
+laps_step : (shape : Shape) (number : ℕ → ℕ) (ranking : Ranking) (i : ℕ) → Ordered shape number → AreCyclicRanks shape number ranking → 0 < links_of shape i → (u : List ℕ) (e : ℕ) → IsPossible shape i u e → LapsAt shape ranking i u → LapsAt shape ranking i (u ++ e ∷ [])
+laps_step shape number ranking i o r some u e possible b =
+    let n = end_of (part_at shape.parts i).table 0 u in
+    let push = laps_push (part_at shape.parts i).table (part_ranks ranking i).laps 0 u e in
+    elim (cases_Bool (has shape.vocabulary e)) [
+      | inl v ↦
+          let x = next_link shape number i u e o possible v in
+          let lap = r.laps i n e x.0 possible.runs.part possible.next x.1 in
+          push ∙ ap (λ y. laps_in shape ranking i u + y) lap
+          ∙ lap_step (laps_in shape ranking i u) (shared_in shape u) (links_of shape i) (place_of shape number i x.0) x.2 (mod_below (shared_in shape u) (links_of shape i) some) b
+          ∙ ap (λ y. y / links_of shape i) (sym (count_push_more shape.vocabulary u e v))
+      | inr hidden ↦
+          let lap = r.no_laps i n e possible.runs.part hidden in
+          let same : laps_in shape ranking i (u ++ e ∷ []) ≡ laps_in shape ranking i u = omega (arith, push, lap) in
+          same ∙ b ∙ ap (λ y. y / links_of shape i) (sym (count_push_same shape.vocabulary u e hidden))
+    ]
+
+laps_are : (shape : Shape) (number : ℕ → ℕ) (ranking : Ranking) (i : ℕ) → Ordered shape number → AreCyclicRanks shape number ranking → 0 < links_of shape i → (s : List ℕ) → RunsTo shape i s → LapsAt shape ranking i s
+laps_are shape number ranking i o r some s run =
+    run_induction (part_at shape.parts i).table (LapsAt shape ranking i)
+    (sym (none_done (links_of shape i) some).0)
+    (λ u e f possible b. laps_step shape number ranking i o r some u e (possible_at shape i u e run.part f possible) b)
+    s run.follows
+
+-- ---- a request
+
+-- an acceptance of a whole end that meets the link has all of its events
+pub whole_has : (shape : Shape) (l i : ℕ) (s : List ℕ) (k : ℕ) → IsWholeEnd shape l i → Accepts shape i s k → Meet (accepted shape i s k) (link_at shape l).shared → IsWithin (link_at shape l).shared (accepted shape i s k)
+whole_has shape l i s k whole a meets e on =
+    elim (cases_Bool (has (accepted shape i s k) e)) [
+      | inl there ↦ there
+      | inr lacks ↦ absurd (whole s (record { place = k; accepts = a; meets = meets; missing = e; on = on; lacks = lacks }))
+    ]
+
+-- where both acceptances meet the link, one has all its events
+clash : (shape : Shape) (s : List ℕ) (i j k l : ℕ) (r : Request shape s i j k l) → HasWholeEnd shape r.link → (f : ℕ) → IsTrue (has (accepted shape j (own_run shape s j) l) f) → IsTrue (has (link_at shape r.link).shared f) → ⊥
+clash shape s i j k l r whole f standing on =
+    elim whole [
+      | inl left ↦ elim r.joins.ends [
+        | inl e ↦ at_here (subst (IsWholeEnd shape r.link) e.0 left)
+        | inr e ↦ at_there (subst (IsWholeEnd shape r.link) e.0 left)
+      ]
+      | inr right ↦ elim r.joins.ends [
+        | inl e ↦ at_there (subst (IsWholeEnd shape r.link) e.1 right)
+        | inr e ↦ at_here (subst (IsWholeEnd shape r.link) e.1 right)
+      ]
+    ]
+  where
+    at_here : IsWholeEnd shape r.link i → ⊥
+    at_here end = r.apart f (whole_has shape r.link i (own_run shape s i) k end r.here.accepts (record { event = r.event; first = r.asked; second = r.on_here.event }) f on) standing
+
+    at_there : IsWholeEnd shape r.link j → ⊥
+    at_there end = r.apart r.event r.asked (whole_has shape r.link j (own_run shape s j) l end r.there.accepts (record { event = f; first = standing; second = on }) r.event r.on_here.event)
+
+no_lead : (a b : ℕ) → a ≡ b → pos a -ℤ pos b ≡ pos 0
+no_lead a b e = ap (λ x. pos x -ℤ pos b) e ∙ +ℤ_invr (pos b)
+
+same_lap : (m n top a b : ℕ) → n < m → a ≡ b → pos n <ℤ (pos m +ℤ (pos top *ℤ (pos a -ℤ pos b)))
+same_lap m n top a b h e =
+    let zero_lead : (pos top *ℤ (pos a -ℤ pos b)) ≡ pos 0 = ap (λ z. pos top *ℤ z) (no_lead a b e) ∙ *ℤ-zero (pos top) in
+    subst (λ z. pos n <ℤ (pos m +ℤ z)) (sym zero_lead) (omega (arith, ints))
+
+one_lead : (a b : ℕ) → a ≡ b + 1 → pos a -ℤ pos b ≡ pos 1
+one_lead a b e = omega (arith, ints)
+
+lap_ahead : (m n top a b : ℕ) → n < top → a ≡ b + 1 → pos n <ℤ (pos m +ℤ (pos top *ℤ (pos a -ℤ pos b)))
+lap_ahead m n top a b h e =
+    let lead_one : (pos top *ℤ (pos a -ℤ pos b)) ≡ pos (top * 1) = ap (λ z. pos top *ℤ z) (one_lead a b e) in
+    subst (λ z. pos n <ℤ (pos m +ℤ z)) (sym lead_one) (omega (arith, ints))
+
+with_ranks : (x y c d : ℤ) (m n top : ℕ) → x ≡ pos m → y ≡ pos n → c ≡ pos top → pos n <ℤ (pos m +ℤ (pos top *ℤ d)) → y <ℤ (x +ℤ (c *ℤ d))
+with_ranks x y c d m n top a b e h =
+    subst (λ z. z <ℤ (x +ℤ (c *ℤ d))) (sym b) (subst (λ z. pos n <ℤ (z +ℤ (c *ℤ d))) (sym a) (subst (λ z. pos n <ℤ (pos m +ℤ (z *ℤ d))) (sym e) h))
+
+-- the numbers of a request: the laps of both ends, and whether the asked part is past the link in its lap
+record Numbers (shape : Shape) (number : ℕ → ℕ) (ranking : Ranking) (s : List ℕ) (i j l : ℕ) : Type 0 where
+  behind : laps_in shape ranking i (own_run shape s i) ≡ laps_in shape ranking j (own_run shape s j) + passed (place_of shape number j l) (shared_in shape (own_run shape s j) % links_of shape j)
+
+numbers : (shape : Shape) (number : ℕ → ℕ) (ranking : Ranking) (s : List ℕ) (i j l : ℕ) → Ordered shape number → AreCyclicRanks shape number ranking → Joins shape i j l → RunsTo shape i (own_run shape s i) → RunsTo shape j (own_run shape s j) → IsNext shape number i (own_run shape s i) l → Numbers shape number ranking s i j l
+numbers shape number ranking s i j l o r joins ri rj next =
+    let h = joins.within in
+    let ei = first_end shape i j l joins in
+    let ej = first_end shape j i l (turned shape i j l joins) in
+    let pi : place_of shape number i l < links_of shape i = place_below shape number i l h ei in
+    let pj : place_of shape number j l < links_of shape j = place_below shape number j l h ej in
+    let bi : count_in (link_at shape l).shared (own_run shape s i) ≡ shared_in shape (own_run shape s i) / links_of shape i + passed (place_of shape number i l) (shared_in shape (own_run shape s i) % links_of shape i) = balanced shape number i l o h ei (own_run shape s i) ri in
+    let bj : count_in (link_at shape l).shared (own_run shape s j) ≡ shared_in shape (own_run shape s j) / links_of shape j + passed (place_of shape number j l) (shared_in shape (own_run shape s j) % links_of shape j) = balanced shape number j l o h ej (own_run shape s j) rj in
+    let li : laps_in shape ranking i (own_run shape s i) ≡ shared_in shape (own_run shape s i) / links_of shape i = laps_are shape number ranking i o r (omega arith) (own_run shape s i) ri in
+    let lj : laps_in shape ranking j (own_run shape s j) ≡ shared_in shape (own_run shape s j) / links_of shape j = laps_are shape number ranking j o r (omega arith) (own_run shape s j) rj in
+    let none : passed (place_of shape number i l) (shared_in shape (own_run shape s i) % links_of shape i) ≡ 0 = passed_no (place_of shape number i l) (shared_in shape (own_run shape s i) % links_of shape i) (omega arith) in
+    record { behind = omega (arith, bi, bj, li, lj, none, link_events shape i l s o.form h ei, link_events shape j l s o.form h ej) }
+
+pub ordered_ranks_fall : (shape : Shape) (number : ℕ → ℕ) (ranking : Ranking) → Ordered shape number → AreCyclicRanks shape number ranking → Falls shape.parts ranking
+ordered_ranks_fall shape number ranking o ranks s i j k l u =
+    let r = request shape s i j k l o.form u in
+    let ej = first_end shape j i r.link (turned shape i j r.link r.joins) in
+    let ni = o.order i r.link (own_run shape s i) r.event (r.here.possible r.event r.asked) r.on_here in
+    let f = r.there.vertex.some in
+    let possible = r.there.possible f.0 f.1 in
+    let x = next_link shape number j (own_run shape s j) f.0 o possible (r.there.accepts.shared f.0 f.1) in
+    let n = numbers shape number ranking s i j r.link o ranks r.joins r.here.runs r.there.runs ni in
+    let rank_i = ranks.ranks i (own_end shape s i) k r.link r.here.vertex r.joins.within r.on_here.end (record { event = r.event; first = r.asked; second = r.on_here.event }) in
+    let rank_j = ranks.ranks j (own_end shape s j) l x.0 r.there.vertex x.1.within x.1.end (record { event = f.0; first = f.1; second = x.1.event }) in
+    let above : number x.0 < above_all number (length shape.links) = below_all number (length shape.links) x.0 x.1.within in
+    elim (cases_eq x.0 r.link) [
+      | inl same ↦ absurd (clash shape s i j k l r (o.whole r.link r.joins.within) f.0 f.1 (subst (λ m. IsTrue (has (link_at shape m).shared f.0)) same x.1.event))
+      | inr other ↦
+          with_ranks (rank_after ranking i (part_at shape.parts i) s k) (rank_after ranking j (part_at shape.parts j) s l) ranking.scale (lead shape.parts ranking s i j) (number r.link) (number x.0) (above_all number (length shape.links)) rank_i rank_j ranks.scale
+          (by_order shape number ranking s i j r.link x.0 r.joins.within x.1.within ej x.1.end x.2 (o.differ j x.0 r.link (own_run shape s j) f.0 possible x.1 r.joins.within ej other) above n)
+    ]
+  where
+    by_order : (shape : Shape) (number : ℕ → ℕ) (ranking : Ranking) (s : List ℕ) (i j l m : ℕ) → l < length shape.links → m < length shape.links → IsTrue (is_end shape j l) → IsTrue (is_end shape j m) → IsNext shape number j (own_run shape s j) m → (number m ≡ number l → ⊥) → number m < above_all number (length shape.links) → Numbers shape number ranking s i j l → pos (number m) <ℤ (pos (number l) +ℤ (pos (above_all number (length shape.links)) *ℤ lead shape.parts ranking s i j))
+    by_order shape number ranking s i j l m h g x y next ne above n =
+        elim (cases_order (number m) (number l)) [
+          | inl same ↦ absurd (ne same)
+          | inr order ↦ elim order [
+            | inl less ↦
+                let p : place_of shape number j m < place_of shape number j l = earlier_place shape number j m l g y less in
+                let not_yet : passed (place_of shape number j l) (shared_in shape (own_run shape s j) % links_of shape j) ≡ 0 = passed_no (place_of shape number j l) (shared_in shape (own_run shape s j) % links_of shape j) (omega (arith, next, p)) in
+                same_lap (number l) (number m) (above_all number (length shape.links)) (laps_in shape ranking i (own_run shape s i)) (laps_in shape ranking j (own_run shape s j)) less (omega (arith, n.behind, not_yet))
+            | inr more ↦
+                let p : place_of shape number j l < place_of shape number j m = earlier_place shape number j l m h x more in
+                let past : passed (place_of shape number j l) (shared_in shape (own_run shape s j) % links_of shape j) ≡ 1 = passed_yes (place_of shape number j l) (shared_in shape (own_run shape s j) % links_of shape j) (omega (arith, next, p)) in
+                lap_ahead (number l) (number m) (above_all number (length shape.links)) (laps_in shape ranking i (own_run shape s i)) (laps_in shape ranking j (own_run shape s j)) above (omega (arith, n.behind, past))
+          ]
+        ]

@@ -1,0 +1,13 @@
+pub mod ClientServer
+pub mod Counts
+pub mod Cyclic
+pub mod CyclicRule
+pub mod Holders
+pub mod Live
+pub mod Places
+pub mod Resource
+pub mod Runs
+pub mod Shapes
+pub mod Sharing
+pub mod Twins
+pub mod Walks

@@ -1,0 +1,6 @@
+use Rattle.design_rules.proofs.Sharing.{sharing_is_resource}
+use Rattle.design_rules.proofs.Twins.{twins_are_cyclic, twins_are_client_server}
+use Rattle.design_rules.proofs.examples.Goals as goal
+
+pub returns : goal.returns
+returns c = record { cyclic = twins_are_cyclic; client_server = twins_are_client_server; resource = sharing_is_resource }

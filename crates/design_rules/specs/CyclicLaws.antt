@@ -1,0 +1,36 @@
+-- A cyclic network's ranking is good, each fault breaks the rule, and the rule is the published one.
+--
+-- Why the ranking falls: a component comes to each link that it reaches at one place of its lap, which is also how many of its
+-- links have smaller numbers. So let a component have k links, and let it have done t shared events. It has done t / k laps,
+-- and on its link with place p it has done t / k events, or one more where p < t % k. Now let i ask j for an event of their
+-- link L, and let nothing of it be granted. L is next at i, so i's laps are the number of L's events so far. If L is next at j
+-- too, both acceptances meet L, and one of the two has all events of L: a contradiction. If j's next link has a lower number,
+-- j has done with L in this lap and both have as many laps, and the rank falls. If it has a higher number, j is a lap behind,
+-- and the scale is above all ranks.
+use Rattle.std.specs.Prelude.{ℕ, List}
+use Rattle.csp_tables.specs.Shape.{Shape, IsWellFormed}
+use Rattle.csp_tables.specs.Standing.{IsBusyShape}
+use Rattle.csp_tables.specs.Ranking.{Ranking}
+use Rattle.csp_tables.specs.Falls.{Falls}
+use Rattle.design_rules.specs.Cyclic.{IsCyclic}
+use Rattle.design_rules.specs.CyclicFaults.{HasNoOrder, OrdersDisagree, HasNoWholeEnd}
+use Rattle.design_rules.specs.CyclicNumbered.{IsNumberedCyclic}
+use Rattle.design_rules.specs.CyclicRanking.{AreCyclicRanks, IsCyclicRanking}
+
+abbrev pub CyclicRanksFall : Type 0
+CyclicRanksFall = (shape : Shape) (ranking : Ranking) → IsWellFormed shape → IsCyclic shape → IsCyclicRanking shape ranking → Falls shape.parts ranking
+
+-- the same for every numbering of the published rule, whether or not its numbers are the smallest
+abbrev pub NumberedRanksFall : Type 0
+NumberedRanksFall = (shape : Shape) (rule : IsNumberedCyclic shape) (ranking : Ranking) → IsWellFormed shape → AreCyclicRanks shape rule.number ranking → Falls shape.parts ranking
+
+-- each fault breaks the rule
+pub record CyclicFaultsRefute : Type 0 where
+  pub no_order : (shape : Shape) (i : ℕ) (s : List ℕ) (e : ℕ) → IsCyclic shape → HasNoOrder shape i s e → ⊥
+  pub orders_disagree : (shape : Shape) (links : List ℕ) → IsCyclic shape → OrdersDisagree shape links → ⊥
+  pub no_whole_end : (shape : Shape) (l : ℕ) (s t : List ℕ) → IsCyclic shape → HasNoWholeEnd shape l s t → ⊥
+
+-- the rule is the published one
+pub record IsPublishedRule : Type 0 where
+  pub sound : (shape : Shape) → IsWellFormed shape → IsBusyShape shape → IsCyclic shape → IsNumberedCyclic shape
+  pub complete : (shape : Shape) → IsWellFormed shape → IsNumberedCyclic shape → IsCyclic shape

@@ -1,0 +1,65 @@
+-- Shapes that meet the three rules, with their rankings: the theorems speak of networks that there are.
+use Rattle.std.specs.Prelude.{ℕ, pos, List, [], ◌∷◌, true, false}
+use Rattle.csp_tables.specs.Part.{Part, alphabets_of, TripleDisjoint}
+use Rattle.csp_tables.specs.Shape.{Shape, IsWellFormed}
+use Rattle.csp_tables.specs.Ranking.{PartRanks, Ranking}
+use Rattle.csp_tables.specs.Roles.{RoleSets, UseSets}
+use Rattle.design_rules.specs.Cyclic.{IsCyclic}
+use Rattle.design_rules.specs.Resource.{IsResource}
+use Rattle.design_rules.specs.ResourceRanking.{IsResourceRanking}
+use Rattle.net_sound.specs.Example.{both, turns}
+use Rattle.design_rules.specs.CyclicRanking.{IsCyclicRanking}
+use Rattle.design_rules.specs.ClientServer.{IsClientServer}
+use Rattle.design_rules.specs.ClientServerRanking.{IsClientServerRanking}
+
+-- it does the event 0 again and again
+abbrev pub repeats : Part
+repeats = record { alphabet = 0 ∷ []; table = record { next = (0, 0) ∷ []; accept = (0 ∷ []) ∷ [] } ∷ [] }
+
+-- two of them, with their link
+abbrev pub twins : Shape
+twins = record { parts = repeats ∷ repeats ∷ []; links = record { left = 0; right = 1; shared = 0 ∷ [] } ∷ []; vocabulary = 0 ∷ [] }
+
+abbrev pub ranks_of : ℕ → ℕ → PartRanks
+ranks_of rank lap = record { ranks = (pos rank ∷ []) ∷ []; laps = (lap ∷ []) ∷ [] }
+
+-- each event of the one link ends a lap
+abbrev pub cyclic_ranking : Ranking
+cyclic_ranking = record { scale = pos 1; parts = ranks_of 0 1 ∷ ranks_of 0 1 ∷ [] }
+
+pub record TwinsAreCyclic : Type 0 where
+  pub form : IsWellFormed twins
+  pub rule : IsCyclic twins
+  pub ranking : IsCyclicRanking twins cyclic_ranking
+
+-- the first asks, and the second serves
+abbrev pub twin_roles : List RoleSets
+twin_roles = record { creq = 0 ∷ []; cack = []; sreq = []; sack = [] } ∷ record { creq = []; cack = []; sreq = 0 ∷ []; sack = [] } ∷ []
+
+-- the client's height is 1; the server takes a request, and stands at 2 * 2 - 0
+abbrev pub client_server_ranking : Ranking
+client_server_ranking = record { scale = pos 0; parts = ranks_of 1 0 ∷ ranks_of 4 0 ∷ [] }
+
+pub record TwinsAreClientServer : Type 0 where
+  pub rule : IsClientServer twins twin_roles
+  pub ranking : IsClientServerRanking twins twin_roles client_server_ranking
+
+-- A user and a resource: 0 acquires, and 1 releases.
+abbrev pub sharing : Shape
+sharing = record { parts = turns ∷ turns ∷ []; links = record { left = 0; right = 1; shared = both } ∷ []; vocabulary = both }
+
+abbrev pub sharing_uses : List UseSets
+sharing_uses = record { resource = false; acquire = []; release = [] } ∷ record { resource = true; acquire = 0 ∷ []; release = 1 ∷ [] } ∷ []
+
+-- With the number 1 for the resource. Free it stands at 4 and held at 1; the user stands at 2 where it acquires, else at 0.
+abbrev pub sharing_ranking : Ranking
+sharing_ranking = record {
+  scale = pos 0;
+  parts = record { ranks = (pos 2 ∷ []) ∷ (pos 0 ∷ []) ∷ []; laps = (0 ∷ []) ∷ (0 ∷ []) ∷ [] } ∷ record { ranks = (pos 4 ∷ []) ∷ (pos 1 ∷ []) ∷ []; laps = (0 ∷ []) ∷ (0 ∷ []) ∷ [] } ∷ [];
+}
+
+pub record SharingIsResource : Type 0 where
+  pub form : IsWellFormed sharing
+  pub triple : TripleDisjoint (alphabets_of sharing.parts)
+  pub rule : IsResource sharing sharing_uses
+  pub ranking : IsResourceRanking sharing sharing_uses sharing_ranking

@@ -1,0 +1,58 @@
+-- The ranking of a network of users and resources. The number of a resource is one more than the greatest number of resources
+-- that must be numbered below it in a chain. A free resource ranks above all. A held one, and a user that offers to acquire,
+-- rank the lower the higher the number is. There are no laps.
+use Rattle.std.specs.Prelude.{◌≡◌, ◌<◌, ◌≤◌, ◌+◌, ◌-◌, ◌*◌, ℕ, zero, suc, ℤ, pos, max, List, true, false, IsTrue, length, if◌then◌else◌}
+use Rattle.csp_tables.specs.Walk.{IsLongestWalk}
+use Rattle.csp_tables.specs.Table.{end_of}
+use Rattle.csp_tables.specs.Part.{part_at, IsNonEmpty}
+use Rattle.csp_tables.specs.Shape.{Shape}
+use Rattle.csp_tables.specs.Standing.{Accepts, accepted}
+use Rattle.csp_tables.specs.Roles.{UseSets, use_at}
+use Rattle.csp_tables.specs.Ranking.{Ranking, Fits, part_ranks, rank_at}
+use Rattle.design_rules.specs.Vertices.{OthersRankZero, lap_at}
+use Rattle.design_rules.specs.Resource.{IsHeldWhile, acquires, is_held}
+
+-- from a resource to one that a user holds while it offers to acquire the first
+abbrev pub StandsAbove : Shape → List UseSets → ℕ → ℕ → Type 0
+StandsAbove shape uses j m = IsHeldWhile shape uses m j
+
+-- n is one more than the longest chain below j
+pub record IsResourceNumber (shape : Shape) (uses : List UseSets) (j n : ℕ) : Type 0 where
+  pub below : ℕ
+  pub longest : IsLongestWalk (StandsAbove shape uses) j below
+  pub number : n ≡ below + 1
+
+abbrev pub AreResourceNumbers : Shape → List UseSets → (ℕ → ℕ) → Type 0
+AreResourceNumbers shape uses number = (j : ℕ) → j < length shape.parts → (use_at uses j).resource ≡ true → IsResourceNumber shape uses j (number j)
+
+-- the greatest number of a resource among the first n parts, 0 if there is none
+abbrev pub top_number : List UseSets → (ℕ → ℕ) → ℕ → ℕ
+top_number uses number zero = 0
+top_number uses number (suc n) = max (if (use_at uses n).resource then number n else 0) (top_number uses number n)
+
+-- the rank, after a run s, of the acceptance in place k
+abbrev pub rank_there : Shape → Ranking → ℕ → List ℕ → ℕ → ℤ
+rank_there shape ranking i s k = rank_at (part_ranks ranking i).ranks (end_of (part_at shape.parts i).table 0 s) k
+
+-- an acceptance in the vocabulary, not empty
+pub record AcceptsSome (shape : Shape) (i : ℕ) (s : List ℕ) (k : ℕ) : Type 0 where
+  pub accepts : Accepts shape i s k
+  pub some : IsNonEmpty (accepted shape i s k)
+
+-- the ranking with these numbers of the resources, of which top is the greatest
+pub record AreResourceRanks (shape : Shape) (uses : List UseSets) (number : ℕ → ℕ) (top : ℕ) (ranking : Ranking) : Type 0 where
+  pub greatest : top ≡ top_number uses number (length shape.parts)
+  pub fits : Fits shape.parts ranking
+  pub scale : ranking.scale ≡ pos 0
+  pub free : (i : ℕ) (s : List ℕ) (k : ℕ) → (use_at uses i).resource ≡ true → AcceptsSome shape i s k → is_held shape s ≡ false → rank_there shape ranking i s k ≡ pos (2 * top + 2)
+  pub held : (i : ℕ) (s : List ℕ) (k : ℕ) → (use_at uses i).resource ≡ true → AcceptsSome shape i s k → is_held shape s ≡ true → rank_there shape ranking i s k ≡ pos (2 * (top - number i) + 1)
+  pub acquiring : (i : ℕ) (s : List ℕ) (k j : ℕ) → (use_at uses i).resource ≡ false → AcceptsSome shape i s k → j < length shape.parts → IsTrue (acquires uses (accepted shape i s k) j) → ((m : ℕ) → m < length shape.parts → IsTrue (acquires uses (accepted shape i s k) m) → number j ≤ number m) → rank_there shape ranking i s k ≡ pos (2 * (top - number j) + 2)
+  pub not_acquiring : (i : ℕ) (s : List ℕ) (k : ℕ) → (use_at uses i).resource ≡ false → AcceptsSome shape i s k → ((m : ℕ) → m < length shape.parts → acquires uses (accepted shape i s k) m ≡ false) → rank_there shape ranking i s k ≡ pos 0
+  pub others : OthersRankZero shape ranking
+  pub laps : (i n e : ℕ) → i < length shape.parts → lap_at shape ranking i n e ≡ 0
+
+pub record IsResourceRanking (shape : Shape) (uses : List UseSets) (ranking : Ranking) : Type 0 where
+  pub number : ℕ → ℕ
+  pub numbers : AreResourceNumbers shape uses number
+  pub top : ℕ
+  pub ranks : AreResourceRanks shape uses number top ranking

@@ -1,5 +1,0 @@
-use Rattle.rules_good.proofs.ClientServer.{client_server_ranks_fall}
-use Rattle.rules_good.proofs.client_server_ranks_fall.Goals as goal
-
-pub returns : goal.returns
-returns c = client_server_ranks_fall

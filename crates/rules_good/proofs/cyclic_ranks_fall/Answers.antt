@@ -1,5 +1,0 @@
-use Rattle.rules_good.proofs.Cyclic.{cyclic_ranks_fall, numbered_ranks_fall}
-use Rattle.rules_good.proofs.cyclic_ranks_fall.Goals as goal
-
-pub returns : goal.returns
-returns c = record { reached = cyclic_ranks_fall; numbered = numbered_ranks_fall }

@@ -1,6 +1,0 @@
-use Rattle.rules_good.proofs.Sharing.{sharing_is_resource}
-use Rattle.rules_good.proofs.Twins.{twins_are_cyclic, twins_are_client_server}
-use Rattle.rules_good.proofs.examples.Goals as goal
-
-pub returns : goal.returns
-returns c = record { cyclic = twins_are_cyclic; client_server = twins_are_client_server; resource = sharing_is_resource }
