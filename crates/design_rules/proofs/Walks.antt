@@ -2,8 +2,8 @@
 use Rattle.std.proofs.Common.{◌≡◌, ℕ, zero, suc, ◌+◌, ◌<◌, ◌≤◌, inl, inr, List, [], ◌∷◌, nat_lt, refl, sym, subst, ◌∙◌, arith, lt-ltb, le-ltb, ltb-true}
 use Rattle.std.proofs.lemmas.Bool.{cases_eq}
 use Rattle.design_rules.specs.Counts.{count_below}
-use Rattle.csp_tables.specs.Walk.{Walk, IsLongestWalk}
-use Rattle.design_rules.specs.Circle.{Leads, IsCircle}
+use Rattle.digraph.specs.Walk.{Walk, IsLongestWalk}
+use Rattle.digraph.specs.Circle.{Leads, IsCircle}
 use Rattle.design_rules.proofs.Counts.{count_strict, count_at_most}
 
 -- n vertices, with the longest walk from each
@@ -62,3 +62,11 @@ rises_along Arc number rise x y (v ∷ vs) arcs =
 pub no_circle : (Arc : ℕ → ℕ → Type 0) (number : ℕ → ℕ) → ((x y : ℕ) → Arc x y → number x < number y) → (vs : List ℕ) → IsCircle Arc vs → ⊥
 no_circle Arc number rise [] c = c
 no_circle Arc number rise (v ∷ vs) c = let less : number v < number v = rises_along Arc number rise v v vs c in omega arith
+
+-- and bound the walks against the arcs
+pub walk_bound : (Arc : ℕ → ℕ → Type 0) (number : ℕ → ℕ) → ((x y : ℕ) → Arc x y → number y < number x) → (n x y : ℕ) → Walk Arc n x y → n ≤ number x
+walk_bound Arc number fall zero x y w = omega arith
+walk_bound Arc number fall (suc n) x y w =
+    let rest : n ≤ number w.0 = walk_bound Arc number fall n w.0 y w.2 in
+    let less : number w.0 < number x = fall x w.0 w.1 in
+    omega arith
