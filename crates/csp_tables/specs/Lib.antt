@@ -22,5 +22,4 @@ pub mod Standing
 pub mod Stands
 pub mod Table
 pub mod Trace
-pub mod Walk
 pub mod WellNested

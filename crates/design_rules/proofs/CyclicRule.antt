@@ -4,13 +4,13 @@ use Rattle.std.proofs.lemmas.Bool.{cases_eq, cases_order, both_ways, or_left, or
 use Rattle.std.proofs.lemmas.Nat.{mod-mul-add}
 use Rattle.std.proofs.Math.Nat.{mod-eq_of_lt, mod-le}
 use Rattle.csp_base.specs.Members.{has}
-use Rattle.csp_tables.specs.Walk.{Walk}
+use Rattle.digraph.specs.Walk.{Walk}
 use Rattle.csp_tables.specs.Table.{end_of}
 use Rattle.csp_tables.specs.Part.{part_at}
 use Rattle.csp_tables.specs.Shape.{Shape, is_end, link_at, IsWellFormed}
 use Rattle.csp_tables.specs.Standing.{IsPossible, accepted, IsBusyShape}
 use Rattle.design_rules.proofs.Walks.{no_circle}
-use Rattle.design_rules.specs.Cyclic.{links_of, Reaches, place_after, AllKeepPlaces, MustPrecede, NumbersRise, IsWholeEnd, HasWholeEnd, IsCyclic}
+use Rattle.design_rules.specs.Cyclic.{links_of, ReachesLink, place_after, AllKeepPlaces, MustPrecede, NumbersRise, IsWholeEnd, HasWholeEnd, IsCyclic}
 use Rattle.design_rules.specs.CyclicNumbered.{LinksDiffer, IsFullEnd, IsNumberedCyclic}
 use Rattle.design_rules.specs.CyclicRanking.{place_of, AreChainNumbers, ComesAfter}
 use Rattle.design_rules.specs.CyclicLaws.{CyclicRanksFall, NumberedRanksFall, CyclicFaultsRefute, IsPublishedRule}
@@ -126,7 +126,7 @@ numbered_rise shape w rule l m before =
     ]
   where
     distinct : l ≡ m → ⊥
-    distinct same = let later : place_after shape before.run < place_after shape before.run = before.later before.run before.event (subst (λ x. Reaches shape before.part x before.run before.event) same before.reaches) in omega arith
+    distinct same = let later : place_after shape before.run < place_after shape before.run = before.later before.run before.event (subst (λ x. ReachesLink shape before.part x before.run before.event) same before.reaches) in omega arith
 
     too_low : rule.number m < rule.number l → ⊥
     too_low less =
@@ -138,7 +138,7 @@ numbered_rise shape w rule l m before =
         let is : place_of shape rule.number before.part x.0 ≡ place_of shape rule.number before.part m = rule.order before.part x.0 x.1.run x.1.event x.1.reaches.possible x.1.reaches.on ∙ ap (λ c. c % links_of shape before.part) x.1.place ∙ mod-eq_of_lt below in
         elim (cases_eq x.0 m) [
           | inl same ↦
-              let later : place_after shape before.run < place_after shape x.1.run = before.later x.1.run x.1.event (subst (λ y. Reaches shape before.part y x.1.run x.1.event) same x.1.reaches) in
+              let later : place_after shape before.run < place_after shape x.1.run = before.later x.1.run x.1.event (subst (λ y. ReachesLink shape before.part y x.1.run x.1.event) same x.1.reaches) in
               let place : place_after shape x.1.run ≡ place_of shape rule.number before.part m = x.1.place in
               omega arith
           | inr other ↦ places_differ shape rule.number before.part x.0 m x.1.reaches.on.within before.within x.1.reaches.on.end before.end (rule.differ before.part x.0 m x.1.reaches.on.within before.within x.1.reaches.on.end before.end other) is

@@ -11,7 +11,7 @@ use Rattle.csp_tables.specs.Shape.{Shape, is_end, IsWellFormed}
 use Rattle.csp_tables.specs.Standing.{RunsTo}
 use Rattle.net_sound.proofs.Within.{part_form}
 use Rattle.design_rules.specs.Counts.{count_below}
-use Rattle.design_rules.specs.Cyclic.{links_of, Reaches, place_after, SamePlace, Clash, KeepsPlaces, MustPrecede, NumbersRise}
+use Rattle.design_rules.specs.Cyclic.{links_of, ReachesLink, place_after, SamePlace, Clash, KeepsPlaces, MustPrecede, NumbersRise}
 use Rattle.design_rules.specs.CyclicRanking.{place_of}
 use Rattle.design_rules.proofs.Counts.{count_placed, count_strict, count_push_more, count_push_same}
 use Rattle.design_rules.proofs.Runs.{possible_after, run_induction, possible_within}
@@ -28,7 +28,7 @@ flipped : (shape : Shape) (i l m : ℕ) (s t : List ℕ) → Clash shape i l s m
 flipped shape i l m s t (inl c) = inl ((λ same. c.0 (sym same)), sym c.1)
 flipped shape i l m s t (inr c) = inr (sym c.0, (λ same. c.1 (sym same)))
 
-no_clash : (shape : Shape) (i l m : ℕ) (s t : List ℕ) (e f : ℕ) → KeepsPlaces shape i → Reaches shape i l s e → Reaches shape i m t f → Clash shape i l s m t → ⊥
+no_clash : (shape : Shape) (i l m : ℕ) (s t : List ℕ) (e f : ℕ) → KeepsPlaces shape i → ReachesLink shape i l s e → ReachesLink shape i m t f → Clash shape i l s m t → ⊥
 no_clash shape i l m s t e f keeps a b clash =
     elim (cases_lt (length s) (length t)) [
       | inl less ↦ keeps t f (record { link = m; reaches = b; other_run = s; other_event = e; other_link = l; other_reaches = a; not_longer = omega arith; clash = flipped shape i l m s t clash })
@@ -36,12 +36,12 @@ no_clash shape i l m s t e f keeps a b clash =
     ]
 
 -- the same place has one link
-pub one_link_at : (shape : Shape) (i l m : ℕ) (s t : List ℕ) (e f : ℕ) → KeepsPlaces shape i → Reaches shape i l s e → Reaches shape i m t f → SamePlace shape i s t → l ≡ m
+pub one_link_at : (shape : Shape) (i l m : ℕ) (s t : List ℕ) (e f : ℕ) → KeepsPlaces shape i → ReachesLink shape i l s e → ReachesLink shape i m t f → SamePlace shape i s t → l ≡ m
 one_link_at shape i l m s t e f keeps a b place =
     elim (cases_eq l m) [ inl same ↦ same | inr other ↦ absurd (no_clash shape i l m s t e f keeps a b (inl (other, place))) ]
 
 -- the same link has one place
-pub one_place_of : (shape : Shape) (i l : ℕ) (s t : List ℕ) (e f : ℕ) → KeepsPlaces shape i → Reaches shape i l s e → Reaches shape i l t f → SamePlace shape i s t
+pub one_place_of : (shape : Shape) (i l : ℕ) (s t : List ℕ) (e f : ℕ) → KeepsPlaces shape i → ReachesLink shape i l s e → ReachesLink shape i l t f → SamePlace shape i s t
 one_place_of shape i l s t e f keeps a b =
     elim (cases_eq (place_after shape s % links_of shape i) (place_after shape t % links_of shape i)) [
       | inl same ↦ same
@@ -54,10 +54,10 @@ one_place_of shape i l s t e f keeps a b =
 pub record IsAt (shape : Shape) (i q l : ℕ) : Type 0 where
   pub run : List ℕ
   pub event : ℕ
-  pub reaches : Reaches shape i l run event
+  pub reaches : ReachesLink shape i l run event
   pub place : place_after shape run ≡ q
 
-pub reached_at : (shape : Shape) (i l : ℕ) (s : List ℕ) (e : ℕ) → Reaches shape i l s e → IsAt shape i (place_after shape s) l
+pub reached_at : (shape : Shape) (i l : ℕ) (s : List ℕ) (e : ℕ) → ReachesLink shape i l s e → IsAt shape i (place_after shape s) l
 reached_at shape i l s e a = record { run = s; event = e; reaches = a; place = refl }
 
 -- at each earlier place the part reached some link
@@ -89,7 +89,7 @@ some_links shape i l h end =
     omega arith
 
 -- a link that is reached is reached in the first lap, at its own place
-pub first_lap : (shape : Shape) (i l : ℕ) (s : List ℕ) (e : ℕ) → Keeping shape i → Reaches shape i l s e → IsAt shape i (place_after shape s % links_of shape i) l
+pub first_lap : (shape : Shape) (i l : ℕ) (s : List ℕ) (e : ℕ) → Keeping shape i → ReachesLink shape i l s e → IsAt shape i (place_after shape s % links_of shape i) l
 first_lap shape i l s e g a =
     let k = links_of shape i in
     let c = place_after shape s in
@@ -109,7 +109,7 @@ first_lap shape i l s e g a =
     lap_zero c k h b = omega arith
 
 -- a link that is reached at a place of the first lap is reached at no earlier place
-pub no_earlier : (shape : Shape) (i l q : ℕ) (t : List ℕ) (f : ℕ) → Keeping shape i → q < links_of shape i → IsAt shape i q l → Reaches shape i l t f → (place_after shape t % links_of shape i ≡ q) × (q ≤ place_after shape t)
+pub no_earlier : (shape : Shape) (i l q : ℕ) (t : List ℕ) (f : ℕ) → Keeping shape i → q < links_of shape i → IsAt shape i q l → ReachesLink shape i l t f → (place_after shape t % links_of shape i ≡ q) × (q ≤ place_after shape t)
 no_earlier shape i l q t f g below x a =
     let same : SamePlace shape i t x.run = one_place_of shape i l t x.run f x.event g.keeps a x.reaches in
     let is : place_after shape t % links_of shape i ≡ q = same ∙ ap (λ n. n % links_of shape i) x.place ∙ mod-eq_of_lt below in
@@ -144,7 +144,7 @@ precedes_rest shape i p l m g below x within end other none = record {
   later = λ t f a. let place : place_after shape x.run ≡ p = x.place in let after : p < place_after shape t = later t f a in omega arith;
 }
   where
-    later : (t : List ℕ) (f : ℕ) → Reaches shape i m t f → p < place_after shape t
+    later : (t : List ℕ) (f : ℕ) → ReachesLink shape i m t f → p < place_after shape t
     later t f a =
         let y = first_lap shape i m t f g a in
         let r : place_after shape t % links_of shape i ≤ place_after shape t = mod-le (place_after shape t) (links_of shape i) in
@@ -154,7 +154,7 @@ precedes_rest shape i p l m g below x within end other none = record {
         ]
 
 -- the place of a reached link by the numbers is the place where it is reached
-pub place_is : (shape : Shape) (number : ℕ → ℕ) (i l : ℕ) (s : List ℕ) (e : ℕ) → Keeping shape i → NumbersRise shape number → Reaches shape i l s e → place_of shape number i l ≡ place_after shape s % links_of shape i
+pub place_is : (shape : Shape) (number : ℕ → ℕ) (i l : ℕ) (s : List ℕ) (e : ℕ) → Keeping shape i → NumbersRise shape number → ReachesLink shape i l s e → place_of shape number i l ≡ place_after shape s % links_of shape i
 place_is shape number i l s e g rise a =
     let p = place_after shape s % links_of shape i in
     let below : place_after shape s % links_of shape i < links_of shape i = mod_below (place_after shape s) (links_of shape i) (some_links shape i l a.on.within a.on.end) in
@@ -177,7 +177,7 @@ place_is shape number i l s e g rise a =
         omega arith
 
 -- links of a part share a number only where it reaches none of them
-pub reached_differ : (shape : Shape) (number : ℕ → ℕ) (i l m : ℕ) (s : List ℕ) (e : ℕ) → Keeping shape i → NumbersRise shape number → Reaches shape i l s e → m < length shape.links → IsTrue (is_end shape i m) → (l ≡ m → ⊥) → number l ≡ number m → ⊥
+pub reached_differ : (shape : Shape) (number : ℕ → ℕ) (i l m : ℕ) (s : List ℕ) (e : ℕ) → Keeping shape i → NumbersRise shape number → ReachesLink shape i l s e → m < length shape.links → IsTrue (is_end shape i m) → (l ≡ m → ⊥) → number l ≡ number m → ⊥
 reached_differ shape number i l m s e g rise a h end other same =
     let below : place_after shape s % links_of shape i < links_of shape i = mod_below (place_after shape s) (links_of shape i) (some_links shape i l a.on.within a.on.end) in
     let own = first_lap shape i l s e g a in

@@ -11,7 +11,7 @@ use Rattle.csp_tables.specs.Ranking.{part_ranks, rank_at, lap_of}
 use Rattle.design_rules.specs.Vertices.{IsVertex, lap_at}
 use Rattle.csp_tables.specs.Roles.{use_at}
 use Rattle.design_rules.specs.Assigned.{PartShared}
-use Rattle.csp_tables.specs.Walk.{Walk}
+use Rattle.digraph.specs.Walk.{Walk}
 use Rattle.design_rules.specs.Resource.{holds, is_held, acquires, KeepUses, IsHeldWhile}
 use Rattle.design_rules.specs.ResourceRanking.{StandsAbove, rank_there}
 use Rattle.net_sound.specs.Example.{both, turns}

@@ -4,7 +4,7 @@ use Rattle.std.proofs.lemmas.Bool.{false≢true, or_cases, both_ways, or_parts, 
 use Rattle.std.proofs.lemmas.Nat.{mod_below}
 use Rattle.csp_base.specs.Members.{has}
 use Rattle.design_rules.specs.Counts.{count_below, count_in}
-use Rattle.csp_tables.specs.Walk.{Walk, IsLongestWalk}
+use Rattle.digraph.specs.Walk.{Walk, IsLongestWalk}
 use Rattle.csp_tables.specs.Table.{node_at, is_possible, end_of, acceptances_after}
 use Rattle.csp_tables.specs.Part.{part_at, Meet, AreApart}
 use Rattle.csp_tables.specs.Trace.{IsWithin}
@@ -12,7 +12,7 @@ use Rattle.csp_tables.specs.Form.{HasForm}
 use Rattle.csp_tables.specs.Shape.{JoinsTwo, AreJoined, IsReached, is_end, link_at, IsWellFormed, acceptance_at}
 use Rattle.csp_tables.specs.Standing.{Accepts, accepted, IsOn}
 use Rattle.csp_tables.specs.Ranking.{part_ranks, rank_at, lap_of}
-use Rattle.design_rules.specs.Cyclic.{links_of, Reaches}
+use Rattle.design_rules.specs.Cyclic.{links_of, ReachesLink}
 use Rattle.design_rules.specs.CyclicNumbered.{IsFullEnd, IsNumberedCyclic}
 use Rattle.design_rules.proofs.CyclicRule.{complete}
 use Rattle.design_rules.specs.Vertices.{IsVertex, lap_at}
@@ -20,7 +20,7 @@ use Rattle.design_rules.specs.CyclicRanking.{place_of, ComesAfter, ends_lap}
 use Rattle.csp_tables.specs.Roles.{role_at}
 use Rattle.design_rules.specs.Assigned.{PartShared}
 use Rattle.design_rules.specs.ClientServer.{IsClientOn, is_open, is_request, is_acknowledgement, Serves}
-use Rattle.design_rules.specs.Circle.{HasNoCircle}
+use Rattle.digraph.specs.Circle.{HasNoCircle}
 use Rattle.design_rules.specs.Example.{repeats, twins, ranks_of, cyclic_ranking, TwinsAreCyclic, twin_roles, client_server_ranking, TwinsAreClientServer}
 
 -- ---- the parts
@@ -160,7 +160,7 @@ no_arc l zero m w = omega arith
 no_arc l (suc n) m w =
     let a = w.1 in
     let same : l ≡ w.0 = let x : l < 1 = a.within in let y : w.0 < 1 = a.reaches.on.within in omega arith in
-    let less : count_in twins.vocabulary a.run < count_in twins.vocabulary a.run = a.later a.run a.event (subst (λ x. Reaches twins a.part x a.run a.event) (sym same) a.reaches) in
+    let less : count_in twins.vocabulary a.run < count_in twins.vocabulary a.run = a.later a.run a.event (subst (λ x. ReachesLink twins a.part x a.run a.event) (sym same) a.reaches) in
     omega arith
 
 pub twins_are_cyclic : TwinsAreCyclic

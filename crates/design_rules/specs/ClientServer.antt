@@ -11,7 +11,7 @@ use Rattle.csp_tables.specs.Shape.{Shape, Joins, link_at}
 use Rattle.csp_tables.specs.Standing.{IsPossible, Accepts, accepted, IsOn}
 use Rattle.csp_tables.specs.Roles.{RoleSets, role_at}
 use Rattle.design_rules.specs.Counts.{count_in, is_odd}
-use Rattle.design_rules.specs.Circle.{HasNoCircle}
+use Rattle.digraph.specs.Circle.{HasNoCircle}
 use Rattle.design_rules.specs.Assigned.{PartShared}
 
 -- S1: the part's four sets part the events that it shares

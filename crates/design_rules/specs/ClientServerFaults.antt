@@ -4,7 +4,7 @@ use Rattle.std.specs.Prelude.{◌≡◌, ◌<◌, ◌⊎◌, ℕ, List, [], leng
 use Rattle.csp_tables.specs.Shape.{Shape, link_at}
 use Rattle.csp_tables.specs.Standing.{RunsTo}
 use Rattle.csp_tables.specs.Roles.{RoleSets}
-use Rattle.design_rules.specs.Circle.{IsLeastCircle}
+use Rattle.digraph.specs.Circle.{IsLeastCircle}
 use Rattle.design_rules.specs.ClientServer.{HasRoles, HasClient, TakesTurns, ServesAll, TakesAnswers, Serves, KeepRoles}
 
 -- S1 is broken

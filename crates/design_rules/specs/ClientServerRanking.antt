@@ -2,7 +2,7 @@
 -- Where the acceptance has requests to the component as a server, its rank is twice the number of components less the height;
 -- elsewhere the rank is the height. There are no laps.
 use Rattle.std.specs.Prelude.{◌≡◌, ◌<◌, ◌*◌, ℕ, pos, ◌-ℤ◌, List, length}
-use Rattle.csp_tables.specs.Walk.{IsLongestWalk}
+use Rattle.digraph.specs.Walk.{IsLongestWalk}
 use Rattle.csp_tables.specs.Part.{part_at, Meet, AreApart}
 use Rattle.csp_tables.specs.Shape.{Shape, acceptance_at}
 use Rattle.csp_tables.specs.Roles.{RoleSets, role_at}

@@ -17,7 +17,7 @@ abbrev pub links_of : Shape → ℕ → ℕ
 links_of shape i = count_below (λ l. is_end shape i l) (length shape.links)
 
 -- The part i reaches its link l: the event e of the link is possible after the run s.
-pub record Reaches (shape : Shape) (i l : ℕ) (s : List ℕ) (e : ℕ) : Type 0 where
+pub record ReachesLink (shape : Shape) (i l : ℕ) (s : List ℕ) (e : ℕ) : Type 0 where
   pub possible : IsPossible shape i s e
   pub on : IsOn shape i l e
 
@@ -38,11 +38,11 @@ Clash shape i l s m t = ((l ≡ m → ⊥) × SamePlace shape i s t) ⊎ ((l ≡
 -- a run that is not longer.
 pub record BreaksOrder (shape : Shape) (i : ℕ) (s : List ℕ) (e : ℕ) : Type 0 where
   pub link : ℕ
-  pub reaches : Reaches shape i link s e
+  pub reaches : ReachesLink shape i link s e
   pub other_run : List ℕ
   pub other_event : ℕ
   pub other_link : ℕ
-  pub other_reaches : Reaches shape i other_link other_run other_event
+  pub other_reaches : ReachesLink shape i other_link other_run other_event
   pub not_longer : length other_run ≤ length s
   pub clash : Clash shape i link s other_link other_run
 
@@ -59,10 +59,10 @@ pub record MustPrecede (shape : Shape) (l m : ℕ) : Type 0 where
   pub part : ℕ
   pub run : List ℕ
   pub event : ℕ
-  pub reaches : Reaches shape part l run event
+  pub reaches : ReachesLink shape part l run event
   pub within : m < length shape.links
   pub end : IsTrue (is_end shape part m)
-  pub later : (s : List ℕ) (e : ℕ) → Reaches shape part m s e → place_after shape run < place_after shape s
+  pub later : (s : List ℕ) (e : ℕ) → ReachesLink shape part m s e → place_after shape run < place_after shape s
 
 -- the numbers of the links rise along the order of each part
 abbrev pub NumbersRise : Shape → (ℕ → ℕ) → Type 0

@@ -1,7 +1,7 @@
 -- What is told where a network is not cyclic. One of the three stands exactly where the rule is broken.
 use Rattle.std.specs.Prelude.{◌<◌, ℕ, List, length}
 use Rattle.csp_tables.specs.Shape.{Shape, link_at}
-use Rattle.design_rules.specs.Circle.{IsLeastCircle}
+use Rattle.digraph.specs.Circle.{IsLeastCircle}
 use Rattle.design_rules.specs.Cyclic.{BreaksOrder, KeepsPlaces, AllKeepPlaces, MustPrecede, CanBeNumbered, FallsShort, HasWholeEnd}
 
 -- The part i is the first that goes through its links in no fixed order: the event e after the run s shows it.

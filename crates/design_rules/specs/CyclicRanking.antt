@@ -3,7 +3,7 @@
 -- lies. A component's lap ends with the event on its last link. The scale is above all numbers.
 use Rattle.std.specs.Prelude.{◌≡◌, ◌<◌, ◌+◌, ℕ, pos, length, ◌&&◌, nat_lt, nat_eq, if◌then◌else◌, false, IsTrue}
 use Rattle.csp_base.specs.Members.{has}
-use Rattle.csp_tables.specs.Walk.{IsLongestWalk}
+use Rattle.digraph.specs.Walk.{IsLongestWalk}
 use Rattle.csp_tables.specs.Table.{node_at, is_possible}
 use Rattle.csp_tables.specs.Part.{part_at, Meet}
 use Rattle.csp_tables.specs.Shape.{Shape, is_end, link_at, acceptance_at}

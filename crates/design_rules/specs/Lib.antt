@@ -1,5 +1,4 @@
 pub mod Assigned
-pub mod Circle
 pub mod ClientServer
 pub mod ClientServerFaults
 pub mod ClientServerLaws

@@ -4,7 +4,7 @@ use Rattle.std.specs.Prelude.{◌≡◌, ◌<◌, ◌⊎◌, ℕ, List, [], true
 use Rattle.csp_tables.specs.Shape.{Shape, link_at}
 use Rattle.csp_tables.specs.Standing.{RunsTo}
 use Rattle.csp_tables.specs.Roles.{UseSets, use_at}
-use Rattle.design_rules.specs.Circle.{IsLeastCircle}
+use Rattle.digraph.specs.Circle.{IsLeastCircle}
 use Rattle.design_rules.specs.Resource.{JoinsKinds, HasUses, HaveKinds, IsUsedInTurn, GrantsAll, UsesInTurn, KeepUses, IsHeldWhile}
 
 -- What U1 asks of one part: a link counts as its left end, and a resource's sets as the resource.

@@ -2,7 +2,7 @@
 -- that must be numbered below it in a chain. A free resource ranks above all. A held one, and a user that offers to acquire,
 -- rank the lower the higher the number is. There are no laps.
 use Rattle.std.specs.Prelude.{◌≡◌, ◌<◌, ◌≤◌, ◌+◌, ◌-◌, ◌*◌, ℕ, zero, suc, ℤ, pos, max, List, true, false, IsTrue, length, if◌then◌else◌}
-use Rattle.csp_tables.specs.Walk.{IsLongestWalk}
+use Rattle.digraph.specs.Walk.{IsLongestWalk}
 use Rattle.csp_tables.specs.Table.{end_of}
 use Rattle.csp_tables.specs.Part.{part_at, IsNonEmpty}
 use Rattle.csp_tables.specs.Shape.{Shape}
