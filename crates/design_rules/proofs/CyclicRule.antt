@@ -118,7 +118,7 @@ numbered_keep shape rule i h s e b =
     ]
 
 -- a link of the part that would stand before one that is reached was reached
-numbered_rise : (shape : Shape) → IsWellFormed shape → (rule : IsNumberedCyclic shape) → NumbersRise shape rule.number
+pub numbered_rise : (shape : Shape) → IsWellFormed shape → (rule : IsNumberedCyclic shape) → NumbersRise shape rule.number
 numbered_rise shape w rule l m before =
     elim (cases_order (rule.number l) (rule.number m)) [
       | inl same ↦ absurd (rule.differ before.part l m before.reaches.on.within before.within before.reaches.on.end before.end distinct same)

@@ -1,11 +1,16 @@
+pub mod Checks
 pub mod ClientServer
 pub mod Counts
 pub mod Cyclic
+pub mod CyclicCheck
 pub mod CyclicRule
+pub mod FormCheck
 pub mod Holders
 pub mod Live
 pub mod Places
+pub mod RankCheck
 pub mod Resource
+pub mod RowOfThree
 pub mod Runs
 pub mod Shapes
 pub mod Sharing

@@ -24,12 +24,12 @@ own a others e h = cond-true (has a e) (sharers others e + 1) (sharers others e)
 strange : (a : List ℕ) (others : List (List ℕ)) (e : ℕ) → has a e ≡ false → sharers (a ∷ others) e ≡ sharers others e
 strange a others e h = cond-false (has a e) (sharers others e + 1) (sharers others e) h
 
-record Sharer (ps : List Part) (e : ℕ) : Type 0 where
-  place : ℕ
-  within : place < length ps
-  owned : IsTrue (has (part_at ps place).alphabet e)
+pub record Sharer (ps : List Part) (e : ℕ) : Type 0 where
+  pub place : ℕ
+  pub within : place < length ps
+  pub owned : IsTrue (has (part_at ps place).alphabet e)
 
-sharer : (ps : List Part) (e : ℕ) → 1 ≤ sharers (alphabets_of ps) e → Sharer ps e
+pub sharer : (ps : List Part) (e : ℕ) → 1 ≤ sharers (alphabets_of ps) e → Sharer ps e
 sharer [] e h = absurd (omega arith)
 sharer (p ∷ ps) e h =
     elim (cases_Bool (has p.alphabet e)) [

@@ -21,11 +21,11 @@ use Rattle.csp_tables.specs.Roles.{role_at}
 use Rattle.design_rules.specs.Assigned.{PartShared}
 use Rattle.design_rules.specs.ClientServer.{IsClientOn, is_open, is_request, is_acknowledgement, Serves}
 use Rattle.digraph.specs.Circle.{HasNoCircle}
-use Rattle.design_rules.specs.Example.{repeats, twins, ranks_of, cyclic_ranking, TwinsAreCyclic, twin_roles, client_server_ranking, TwinsAreClientServer}
+use Rattle.design_rules.specs.Example.{repeats_zero, twins, ranks_of, cyclic_ranking, TwinsAreCyclic, twin_roles, client_server_ranking, TwinsAreClientServer}
 
 -- ---- the parts
 
-part_is : (i : ℕ) → i < length twins.parts → part_at twins.parts i ≡ repeats
+part_is : (i : ℕ) → i < length twins.parts → part_at twins.parts i ≡ repeats_zero
 part_is zero h = refl
 part_is (suc zero) h = refl
 part_is (suc (suc i)) h = absurd (omega arith)
@@ -33,24 +33,24 @@ part_is (suc (suc i)) h = absurd (omega arith)
 link_is : (l : ℕ) → l < length twins.links → l ≡ 0
 link_is l h = omega arith
 
-accept_is : (n k : ℕ) → k < length (node_at repeats.table n).accept → get_or (node_at repeats.table n).accept k [] ≡ 0 ∷ []
+accept_is : (n k : ℕ) → k < length (node_at repeats_zero.table n).accept → get_or (node_at repeats_zero.table n).accept k [] ≡ 0 ∷ []
 accept_is zero zero h = refl
 accept_is zero (suc k) h = absurd (omega arith)
 accept_is (suc n) k h = absurd (omega arith)
 
-accepted_possible : (n k e : ℕ) → IsTrue (has (get_or (node_at repeats.table n).accept k []) e) → IsTrue (is_possible (node_at repeats.table n).next e)
+accepted_possible : (n k e : ℕ) → IsTrue (has (get_or (node_at repeats_zero.table n).accept k []) e) → IsTrue (is_possible (node_at repeats_zero.table n).next e)
 accepted_possible zero zero e h = h
 accepted_possible zero (suc k) e h = absurd (false≢true h)
 accepted_possible (suc n) k e h = absurd (false≢true h)
 
-few_acceptances : (n : ℕ) → length (node_at repeats.table n).accept ≤ 16384
+few_acceptances : (n : ℕ) → length (node_at repeats_zero.table n).accept ≤ 16384
 few_acceptances zero = omega arith
 few_acceptances (suc n) = omega arith
 
-repeats_form : HasForm repeats
+repeats_form : HasForm repeats_zero
 repeats_form = record { least = omega arith; most = omega arith; nodes = ((refl, omega arith, tt, tt), ((λ e h. h), tt), tt) }
 
-is_reached : (n : ℕ) → n < length repeats.table → IsReached repeats.table n
+is_reached : (n : ℕ) → n < length repeats_zero.table → IsReached repeats_zero.table n
 is_reached n h = record { run = []; follows = refl; leads = omega arith }
 
 -- ---- the shape
@@ -84,7 +84,7 @@ vertex_is : (i n k : ℕ) → IsVertex twins i n k → acceptance_at (part_at tw
 vertex_is i n k v = ap (λ p. acceptance_at p n k) (part_is i v.part) ∙ accept_is n k (subst (λ p. k < length (node_at p.table n).accept) (part_is i v.part) v.listed)
 
 accepted_is : (i : ℕ) (s : List ℕ) (k : ℕ) → Accepts twins i s k → accepted twins i s k ≡ 0 ∷ []
-accepted_is i s k a = ap (λ p. get_or (acceptances_after p.table s) k []) (part_is i a.runs.part) ∙ accept_is (end_of repeats.table 0 s) k (subst (λ p. k < length (acceptances_after p.table s)) (part_is i a.runs.part) a.listed)
+accepted_is i s k a = ap (λ p. get_or (acceptances_after p.table s) k []) (part_is i a.runs.part) ∙ accept_is (end_of repeats_zero.table 0 s) k (subst (λ p. k < length (acceptances_after p.table s)) (part_is i a.runs.part) a.listed)
 
 on_is : (i l e : ℕ) → IsOn twins i l e → IsTrue (has (0 ∷ []) e)
 on_is i l e on = subst (λ m. IsTrue (has (link_at twins m).shared e)) (link_is l on.within) on.event
@@ -125,7 +125,7 @@ always_zero : (i n k : ℕ) → i < length twins.parts → rank_at (part_ranks c
 always_zero i n k h = ap (λ r. rank_at r.ranks n k) (cyclic_part i h) ∙ rank_zero n k
 
 -- the lap of an event at a node, by whether it is possible
-lap_one : (n e lap : ℕ) → IsTrue (is_possible (node_at repeats.table n).next e) → lap_of (node_at repeats.table n).next (get_or (ranks_of 0 lap).laps n []) e ≡ lap
+lap_one : (n e lap : ℕ) → IsTrue (is_possible (node_at repeats_zero.table n).next e) → lap_of (node_at repeats_zero.table n).next (get_or (ranks_of 0 lap).laps n []) e ≡ lap
 lap_one zero e lap h = go (nat_eq 0 e) h
   where
     go : (b : Bool) → (b || false) ≡ true → cond b lap 0 ≡ lap
@@ -133,11 +133,11 @@ lap_one zero e lap h = go (nat_eq 0 e) h
     go false h = absurd (false≢true h)
 lap_one (suc n) e lap h = absurd (false≢true h)
 
-lap_none : (n e lap : ℕ) → has (0 ∷ []) e ≡ false → lap_of (node_at repeats.table n).next (get_or (ranks_of 0 lap).laps n []) e ≡ 0
+lap_none : (n e lap : ℕ) → has (0 ∷ []) e ≡ false → lap_of (node_at repeats_zero.table n).next (get_or (ranks_of 0 lap).laps n []) e ≡ 0
 lap_none zero e lap h = ap (λ b. cond b lap 0) (or_parts (nat_eq 0 e) false h).0
 lap_none (suc n) e lap h = refl
 
-lap_is : (i n e lap : ℕ) → i < length twins.parts → lap_of (node_at repeats.table n).next (get_or (ranks_of 0 1).laps n []) e ≡ lap → lap_at twins cyclic_ranking i n e ≡ lap
+lap_is : (i n e lap : ℕ) → i < length twins.parts → lap_of (node_at repeats_zero.table n).next (get_or (ranks_of 0 1).laps n []) e ≡ lap → lap_at twins cyclic_ranking i n e ≡ lap
 lap_is i n e lap h is = ap (λ r. lap_of (node_at (part_at twins.parts i).table n).next (get_or r.laps n []) e) (cyclic_part i h) ∙ ap (λ p. lap_of (node_at p.table n).next (get_or (ranks_of 0 1).laps n []) e) (part_is i h) ∙ is
 
 ends : (i l : ℕ) → l < length twins.links → IsTrue (is_end twins i l) → ends_lap (place_of twins (λ _. 0) i l) (links_of twins i) ≡ 1
@@ -265,21 +265,21 @@ twin_heights zero h = record { end = 1; attained = (1, record { link = 0; joins 
 twin_heights (suc zero) h = record { end = 1; attained = refl; most = longest_second }
 twin_heights (suc (suc i)) h = absurd (omega arith)
 
-serving_rank : (i n k : ℕ) → i < length twins.parts → acceptance_at (part_at twins.parts i) n k ≡ 0 ∷ [] → k < length (node_at repeats.table n).accept → Meet (0 ∷ []) (role_at twin_roles i).sreq → rank_at (part_ranks client_server_ranking i).ranks n k ≡ pos (2 * length twins.parts) -ℤ pos (client_height i)
+serving_rank : (i n k : ℕ) → i < length twins.parts → acceptance_at (part_at twins.parts i) n k ≡ 0 ∷ [] → k < length (node_at repeats_zero.table n).accept → Meet (0 ∷ []) (role_at twin_roles i).sreq → rank_at (part_ranks client_server_ranking i).ranks n k ≡ pos (2 * length twins.parts) -ℤ pos (client_height i)
 serving_rank zero n k h is listed m = absurd (false≢true m.second)
 serving_rank (suc zero) zero zero h is listed m = refl
 serving_rank (suc zero) zero (suc k) h is listed m = absurd (omega arith)
 serving_rank (suc zero) (suc n) k h is listed m = absurd (omega arith)
 serving_rank (suc (suc i)) n k h is listed m = absurd (omega arith)
 
-asking_rank : (i n k : ℕ) → i < length twins.parts → k < length (node_at repeats.table n).accept → AreApart (0 ∷ []) (role_at twin_roles i).sreq → rank_at (part_ranks client_server_ranking i).ranks n k ≡ pos (client_height i)
+asking_rank : (i n k : ℕ) → i < length twins.parts → k < length (node_at repeats_zero.table n).accept → AreApart (0 ∷ []) (role_at twin_roles i).sreq → rank_at (part_ranks client_server_ranking i).ranks n k ≡ pos (client_height i)
 asking_rank zero zero zero h listed m = refl
 asking_rank zero zero (suc k) h listed m = absurd (omega arith)
 asking_rank zero (suc n) k h listed m = absurd (omega arith)
 asking_rank (suc zero) n k h listed m = absurd (m 0 refl refl)
 asking_rank (suc (suc i)) n k h listed m = absurd (omega arith)
 
-listed_there : (i n k : ℕ) → IsVertex twins i n k → k < length (node_at repeats.table n).accept
+listed_there : (i n k : ℕ) → IsVertex twins i n k → k < length (node_at repeats_zero.table n).accept
 listed_there i n k v = subst (λ p. k < length (node_at p.table n).accept) (part_is i v.part) v.listed
 
 -- an acceptance that is no vertex is past the end
@@ -292,7 +292,7 @@ past_rank (suc zero) zero (suc k) h no_vertex = refl
 past_rank (suc zero) (suc n) k h no_vertex = refl
 past_rank (suc (suc i)) n k h no_vertex = absurd (omega arith)
 
-no_lap : (e n : ℕ) → lap_of (node_at repeats.table n).next (get_or ((0 ∷ []) ∷ []) n []) e ≡ 0
+no_lap : (e n : ℕ) → lap_of (node_at repeats_zero.table n).next (get_or ((0 ∷ []) ∷ []) n []) e ≡ 0
 no_lap e zero = go (nat_eq 0 e)
   where
     go : (b : Bool) → ◌≡◌ {A = ℕ} (cond b 0 0) 0

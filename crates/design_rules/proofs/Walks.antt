@@ -62,3 +62,11 @@ rises_along Arc number rise x y (v ∷ vs) arcs =
 pub no_circle : (Arc : ℕ → ℕ → Type 0) (number : ℕ → ℕ) → ((x y : ℕ) → Arc x y → number x < number y) → (vs : List ℕ) → IsCircle Arc vs → ⊥
 no_circle Arc number rise [] c = c
 no_circle Arc number rise (v ∷ vs) c = let less : number v < number v = rises_along Arc number rise v v vs c in omega arith
+
+-- and bound the walks against the arcs
+pub walk_bound : (Arc : ℕ → ℕ → Type 0) (number : ℕ → ℕ) → ((x y : ℕ) → Arc x y → number y < number x) → (n x y : ℕ) → Walk Arc n x y → n ≤ number x
+walk_bound Arc number fall zero x y w = omega arith
+walk_bound Arc number fall (suc n) x y w =
+    let rest : n ≤ number w.0 = walk_bound Arc number fall n w.0 y w.2 in
+    let less : number w.0 < number x = fall x w.0 w.1 in
+    omega arith

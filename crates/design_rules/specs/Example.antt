@@ -1,7 +1,7 @@
 -- Shapes that meet the three rules, with their rankings: the theorems speak of networks that there are.
 use Rattle.std.specs.Prelude.{ℕ, pos, List, [], ◌∷◌, true, false}
 use Rattle.csp_tables.specs.Part.{Part, alphabets_of, TripleDisjoint}
-use Rattle.csp_tables.specs.Shape.{Shape, IsWellFormed}
+use Rattle.csp_tables.specs.Shape.{Link, Shape, IsWellFormed}
 use Rattle.csp_tables.specs.Ranking.{PartRanks, Ranking}
 use Rattle.csp_tables.specs.Roles.{RoleSets, UseSets}
 use Rattle.design_rules.specs.Cyclic.{IsCyclic}
@@ -12,13 +12,42 @@ use Rattle.design_rules.specs.CyclicRanking.{IsCyclicRanking}
 use Rattle.design_rules.specs.ClientServer.{IsClientServer}
 use Rattle.design_rules.specs.ClientServerRanking.{IsClientServerRanking}
 
+-- Four components in a row, three links: the events 0, 1 and 2 are those of the first, the second and the third link. The
+-- outer components do their one event again and again, and each of the inner ones its two in turn.
+abbrev pub repeats : ℕ → Part
+repeats a = record { alphabet = a ∷ []; table = record { next = (a, 0) ∷ []; accept = (a ∷ []) ∷ [] } ∷ [] }
+
+abbrev pub alternates : ℕ → ℕ → Part
+alternates a b = record { alphabet = a ∷ b ∷ []; table = record { next = (a, 1) ∷ []; accept = (a ∷ []) ∷ [] } ∷ record { next = (b, 0) ∷ []; accept = (b ∷ []) ∷ [] } ∷ [] }
+
+abbrev pub one_event : ℕ → ℕ → ℕ → Link
+one_event i j e = record { left = i; right = j; shared = e ∷ [] }
+
+abbrev pub row_of_three : Shape
+row_of_three = record { parts = repeats 0 ∷ alternates 0 1 ∷ alternates 1 2 ∷ repeats 2 ∷ []; links = one_event 0 1 0 ∷ one_event 1 2 1 ∷ one_event 2 3 2 ∷ []; vocabulary = 0 ∷ 1 ∷ 2 ∷ [] }
+
+abbrev pub one_rank : ℕ → ℕ → PartRanks
+one_rank rank lap = record { ranks = (pos rank ∷ []) ∷ []; laps = (lap ∷ []) ∷ [] }
+
+abbrev pub two_ranks : ℕ → ℕ → ℕ → ℕ → PartRanks
+two_ranks first lap second other_lap = record { ranks = (pos first ∷ []) ∷ (pos second ∷ []) ∷ []; laps = (lap ∷ []) ∷ (other_lap ∷ []) ∷ [] }
+
+-- the links have the numbers 0, 1 and 2; the event on a component's last link ends its lap
+abbrev pub row_ranking : Ranking
+row_ranking = record { scale = pos 3; parts = one_rank 0 1 ∷ two_ranks 0 0 1 1 ∷ two_ranks 1 0 2 1 ∷ one_rank 2 1 ∷ [] }
+
+pub record RowIsCyclic : Type 0 where
+  pub form : IsWellFormed row_of_three
+  pub rule : IsCyclic row_of_three
+  pub ranking : IsCyclicRanking row_of_three row_ranking
+
 -- it does the event 0 again and again
-abbrev pub repeats : Part
-repeats = record { alphabet = 0 ∷ []; table = record { next = (0, 0) ∷ []; accept = (0 ∷ []) ∷ [] } ∷ [] }
+abbrev pub repeats_zero : Part
+repeats_zero = record { alphabet = 0 ∷ []; table = record { next = (0, 0) ∷ []; accept = (0 ∷ []) ∷ [] } ∷ [] }
 
 -- two of them, with their link
 abbrev pub twins : Shape
-twins = record { parts = repeats ∷ repeats ∷ []; links = record { left = 0; right = 1; shared = 0 ∷ [] } ∷ []; vocabulary = 0 ∷ [] }
+twins = record { parts = repeats_zero ∷ repeats_zero ∷ []; links = record { left = 0; right = 1; shared = 0 ∷ [] } ∷ []; vocabulary = 0 ∷ [] }
 
 abbrev pub ranks_of : ℕ → ℕ → PartRanks
 ranks_of rank lap = record { ranks = (pos rank ∷ []) ∷ []; laps = (lap ∷ []) ∷ [] }

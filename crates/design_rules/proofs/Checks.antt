@@ -1,0 +1,110 @@
+-- Tests of written-out lists that compute: what passes a test throughout has the property everywhere. For examples.
+use Rattle.std.proofs.Common.{◌≡◌, ℕ, zero, suc, ◌<◌, ◌≤◌, inl, inr, List, [], ◌∷◌, ◌++◌, length, get_or, Bool, true, false, ◌&&◌, cond, nat_eq, refl, sym, ap, subst, ◌∙◌, arith, eqb-true}
+use Rattle.std.proofs.lemmas.Bool.{cases_Bool, cases_eq, cases_lt, and_parts, or_cases, both_ways, false≢true, cond-true, cond-false}
+use Rattle.csp_base.specs.Members.{has}
+use Rattle.csp_tables.specs.Table.{Node, node_at, is_possible, target, node_after, IsRun, end_of}
+use Rattle.design_rules.proofs.Runs.{run_induction, end_push}
+
+-- where the first holds, the second does
+abbrev pub implies : Bool → Bool → Bool
+implies a b = cond a b true
+
+pub implied : (a b : Bool) → implies a b ≡ true → a ≡ true → b ≡ true
+implied a b h k = sym (cond-true a b true k) ∙ h
+
+-- ---- numbers, members and sets
+
+abbrev pub all_below : (ℕ → Bool) → ℕ → Bool
+all_below test zero = true
+all_below test (suc n) = test n && all_below test n
+
+pub below_passes : (test : ℕ → Bool) (n m : ℕ) → all_below test n ≡ true → m < n → test m ≡ true
+below_passes test zero m h l = absurd (omega arith)
+below_passes test (suc n) m h l =
+    let p = and_parts (test n) (all_below test n) h in
+    elim (cases_eq m n) [ inl same ↦ subst (λ x. test x ≡ true) (sym same) p.0 | inr other ↦ below_passes test n m p.1 (omega arith) ]
+
+abbrev pub all_in : (ℕ → Bool) → List ℕ → Bool
+all_in test [] = true
+all_in test (x ∷ M) = test x && all_in test M
+
+pub member_passes : (test : ℕ → Bool) (M : List ℕ) (e : ℕ) → all_in test M ≡ true → has M e ≡ true → test e ≡ true
+member_passes test [] e h k = absurd (false≢true k)
+member_passes test (x ∷ M) e h k =
+    let p = and_parts (test x) (all_in test M) h in
+    elim (or_cases (nat_eq x e) (has M e) k) [ inl same ↦ subst (λ y. test y ≡ true) (eqb-true x e same) p.0 | inr rest ↦ member_passes test M e p.1 rest ]
+
+abbrev pub all_sets : (List ℕ → Bool) → List (List ℕ) → Bool
+all_sets test [] = true
+all_sets test (M ∷ Ms) = test M && all_sets test Ms
+
+pub set_passes : (test : List ℕ → Bool) (Ms : List (List ℕ)) (k : ℕ) → all_sets test Ms ≡ true → k < length Ms → test (get_or Ms k []) ≡ true
+set_passes test [] k h l = absurd (omega arith)
+set_passes test (M ∷ Ms) zero h l = (and_parts (test M) (all_sets test Ms) h).0
+set_passes test (M ∷ Ms) (suc k) h l = set_passes test Ms k (and_parts (test M) (all_sets test Ms) h).1 (omega arith)
+
+-- ---- nodes and steps
+
+abbrev all_of_steps : (ℕ → ℕ → Bool) → List (ℕ × ℕ) → Bool
+all_of_steps test [] = true
+all_of_steps test (step ∷ steps) = test step.0 step.1 && all_of_steps test steps
+
+step_of : (test : ℕ → ℕ → Bool) (steps : List (ℕ × ℕ)) (e : ℕ) → all_of_steps test steps ≡ true → is_possible steps e ≡ true → test e (target steps e) ≡ true
+step_of test [] e h k = absurd (false≢true k)
+step_of test (step ∷ steps) e h k =
+    let p = and_parts (test step.0 step.1) (all_of_steps test steps) h in
+    elim (cases_Bool (nat_eq step.0 e)) [
+      | inl same ↦ subst (λ t. test e t ≡ true) (sym (cond-true (nat_eq step.0 e) step.1 (target steps e) same)) (subst (λ x. test x step.1 ≡ true) (eqb-true step.0 e same) p.0)
+      | inr other ↦ subst (λ t. test e t ≡ true) (sym (cond-false (nat_eq step.0 e) step.1 (target steps e) other)) (step_of test steps e p.1 (later other))
+    ]
+  where
+    later : nat_eq step.0 e ≡ false → is_possible steps e ≡ true
+    later other = elim (or_cases (nat_eq step.0 e) (is_possible steps e) k) [ inl x ↦ absurd (both_ways _ other x) | inr x ↦ x ]
+
+-- every step of the table, with the node that it leaves and the one to which it leads
+abbrev pub all_steps : (ℕ → ℕ → ℕ → Bool) → List Node → Bool
+all_steps test table = all_below (λ n. all_of_steps (test n) (node_at table n).next) (length table)
+
+pub past_end : (table : List Node) (n : ℕ) → length table ≤ n → node_at table n ≡ record { next = []; accept = [] }
+past_end [] n h = refl
+past_end (node ∷ nodes) zero h = absurd (omega arith)
+past_end (node ∷ nodes) (suc n) h = past_end nodes n (omega arith)
+
+pub step_passes : (test : ℕ → ℕ → ℕ → Bool) (table : List Node) (n e : ℕ) → all_steps test table ≡ true → is_possible (node_at table n).next e ≡ true → test n e (node_after table n e) ≡ true
+step_passes test table n e h k =
+    elim (cases_lt n (length table)) [
+      | inl less ↦ step_of (test n) (node_at table n).next e (below_passes (λ m. all_of_steps (test m) (node_at table m).next) (length table) n h less) k
+      | inr more ↦ absurd (false≢true (subst (λ x. is_possible x.next e ≡ true) (past_end table n more) k))
+    ]
+
+-- every acceptance of the table, with its node
+abbrev pub all_accepted : (ℕ → List ℕ → Bool) → List Node → Bool
+all_accepted test table = all_below (λ n. all_sets (test n) (node_at table n).accept) (length table)
+
+pub accepted_passes : (test : ℕ → List ℕ → Bool) (table : List Node) (n k : ℕ) → all_accepted test table ≡ true → k < length (node_at table n).accept → test n (get_or (node_at table n).accept k []) ≡ true
+accepted_passes test table n k h l =
+    elim (cases_lt n (length table)) [
+      | inl less ↦ set_passes (test n) (node_at table n).accept k (below_passes (λ m. all_sets (test m) (node_at table m).accept) (length table) n h less) l
+      | inr more ↦ absurd (none (subst (λ x. k < length x.accept) (past_end table n more) l))
+    ]
+  where
+    none : k < length {A = List ℕ} [] → ⊥
+    none h = omega arith
+
+-- ---- what is observed along runs
+
+-- An observation goes on by itself with each event, and each node tells it.
+pub record Observed {A : Type 0} (table : List Node) (same : A → A → Bool) (observe : List ℕ → A) (next : A → ℕ → A) (told : ℕ → A) : Type 0 where
+  pub exact : (x y : A) → same x y ≡ true → x ≡ y
+  pub start : observe [] ≡ told 0
+  pub goes_on : (u : List ℕ) (e : ℕ) → observe (u ++ e ∷ []) ≡ next (observe u) e
+  pub steps : all_steps (λ n e t. same (next (told n) e) (told t)) table ≡ true
+
+pub observed : {A : Type 0} (table : List Node) (same : A → A → Bool) (observe : List ℕ → A) (next : A → ℕ → A) (told : ℕ → A) → Observed table same observe next told → (s : List ℕ) → IsRun table s → observe s ≡ told (end_of table 0 s)
+observed table same observe next told o s h =
+    run_induction table (λ u. observe u ≡ told (end_of table 0 u)) o.start
+    (λ u e r possible is.
+        o.goes_on u e ∙ ap (λ x. next x e) is
+        ∙ o.exact (next (told (end_of table 0 u)) e) (told (node_after table (end_of table 0 u) e)) (step_passes (λ n x t. same (next (told n) x) (told t)) table (end_of table 0 u) e o.steps possible)
+        ∙ ap told (sym (end_push table 0 u e)))
+    s h

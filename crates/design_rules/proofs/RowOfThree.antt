@@ -1,0 +1,77 @@
+-- Four components in a row are cyclic, and the ranking by the places of their three links is the one by longest chains.
+use Rattle.std.proofs.Common.{◌≡◌, ℕ, zero, suc, ◌%◌, ◌<◌, List, [], ◌∷◌, refl, arith}
+use Rattle.csp_tables.specs.Shape.{IsWellFormed}
+use Rattle.digraph.specs.Walk.{Walk}
+use Rattle.design_rules.specs.Cyclic.{place_after, MustPrecede, NumbersRise, IsCyclic}
+use Rattle.design_rules.specs.CyclicRanking.{ComesAfter, AreChainNumbers}
+use Rattle.design_rules.specs.Example.{row_of_three, row_ranking, RowIsCyclic}
+use Rattle.design_rules.proofs.Walks.{walk_bound}
+use Rattle.design_rules.proofs.FormCheck.{well_formed}
+use Rattle.design_rules.proofs.CyclicCheck.{IsTestedCyclic, keeps_order, numbered_cyclic, cyclic_ranks}
+use Rattle.design_rules.proofs.CyclicRule.{complete, numbered_rise}
+
+-- each event leads to the link in its place, and a component's second node is reached by its first event
+abbrev runs : ℕ → ℕ → List ℕ
+runs (suc zero) (suc n) = 0 ∷ []
+runs (suc (suc i)) (suc n) = 1 ∷ []
+runs i n = []
+
+abbrev link_of : ℕ → ℕ → ℕ
+link_of i j = i
+
+-- every node is the one of its place
+abbrev told : ℕ → ℕ → ℕ
+told i n = n
+
+row_form : IsWellFormed row_of_three
+row_form = well_formed row_of_three runs link_of
+    (record { least = refl; most = refl; form = refl; few = refl; possible = refl; reached = refl; links = refl; all_links = refl; links_rise = refl; shared = refl; vocabulary = refl })
+
+row_tested : IsTestedCyclic row_of_three (λ l. l) told
+row_tested = record { apart = λ l m same. same; start = refl; steps = refl; order = refl; full = refl }
+
+row_rule : IsCyclic row_of_three
+row_rule = complete row_of_three row_form (numbered_cyclic row_of_three (λ l. l) told row_tested)
+
+-- the second link of a component is never the first one that it comes to
+not_first : (c : ℕ) → 1 ≡ c % 2 → 0 < c
+not_first c h = omega arith
+
+-- the component between two links comes to the first one first
+before : (l : ℕ) → l < 2 → MustPrecede row_of_three l (suc l)
+before zero h = record {
+  part = 1;
+  run = [];
+  event = 0;
+  reaches = record { possible = record { runs = record { part = omega arith; follows = refl }; next = refl }; on = record { within = omega arith; end = refl; event = refl } };
+  within = omega arith;
+  end = refl;
+  later = λ s e r. not_first (place_after row_of_three s) (keeps_order row_of_three (λ x. x) told row_tested 1 1 s e r.possible r.on);
+}
+before (suc zero) h = record {
+  part = 2;
+  run = [];
+  event = 1;
+  reaches = record { possible = record { runs = record { part = omega arith; follows = refl }; next = refl }; on = record { within = omega arith; end = refl; event = refl } };
+  within = omega arith;
+  end = refl;
+  later = λ s e r. not_first (place_after row_of_three s) (keeps_order row_of_three (λ x. x) told row_tested 2 2 s e r.possible r.on);
+}
+before (suc (suc l)) h = absurd (omega arith)
+
+chain : (l : ℕ) → l < 3 → Walk (ComesAfter row_of_three) l l 0
+chain zero h = refl
+chain (suc l) h = (l, before l (omega arith), chain l (omega arith))
+
+number_rise : NumbersRise row_of_three (λ l. l)
+number_rise = numbered_rise row_of_three row_form (numbered_cyclic row_of_three (λ l. l) told row_tested)
+
+row_numbers : AreChainNumbers row_of_three (λ l. l)
+row_numbers l h = record { end = 0; attained = chain l h; most = λ n y w. walk_bound (ComesAfter row_of_three) (λ x. x) (λ x y a. number_rise y x a) n l y w }
+
+pub row_is_cyclic : RowIsCyclic
+row_is_cyclic = record {
+  form = row_form;
+  rule = row_rule;
+  ranking = record { number = λ l. l; numbers = row_numbers; ranks = cyclic_ranks row_of_three (λ l. l) row_ranking (record { fits = refl; scale = refl; ranks = refl; others = refl; laps = refl; no_hidden = refl }) };
+}
