@@ -1,8 +1,13 @@
 -- Tests of written-out lists that compute: what passes a test throughout has the property everywhere. For examples.
-use Rattle.std.proofs.Common.{◌≡◌, ℕ, zero, suc, ◌<◌, ◌≤◌, inl, inr, List, [], ◌∷◌, ◌++◌, length, get_or, Bool, true, false, ◌&&◌, cond, nat_eq, refl, sym, ap, subst, ◌∙◌, arith, eqb-true}
-use Rattle.std.proofs.lemmas.Bool.{cases_Bool, cases_eq, cases_lt, and_parts, or_cases, both_ways, false≢true, cond-true, cond-false}
+use Rattle.std.proofs.Common.{◌≡◌, ℕ, zero, suc, ◌+◌, ◌<◌, ◌≤◌, ◌⊎◌, inl, inr, List, [], ◌∷◌, ◌++◌, length, get_or, Bool, true, false, not, ◌&&◌, cond, nat_eq, refl, sym, ap, subst, ◌∙◌, arith, eqb-true, eq-eqb}
+use Rattle.std.proofs.lemmas.Bool.{cases_Bool, cases_eq, cases_lt, and_parts, and_from, or_cases, or_left, or_right, both_ways, false≢true, cond-true, cond-false}
 use Rattle.csp_base.specs.Members.{has}
 use Rattle.csp_tables.specs.Table.{Node, node_at, is_possible, target, node_after, IsRun, end_of}
+use Rattle.csp_tables.specs.Part.{part_at, sharers}
+use Rattle.csp_tables.specs.Shape.{Shape}
+use Rattle.design_rules.specs.Counts.{count_in, is_odd}
+use Rattle.design_rules.specs.Assigned.{PartShared}
+use Rattle.design_rules.proofs.Holders.{odd_more, odd_same}
 use Rattle.design_rules.proofs.Runs.{run_induction, end_push}
 
 -- where the first holds, the second does
@@ -104,7 +109,79 @@ pub observed : {A : Type 0} (table : List Node) (same : A → A → Bool) (obser
 observed table same observe next told o s h =
     run_induction table (λ u. observe u ≡ told (end_of table 0 u)) o.start
     (λ u e r possible is.
-        o.goes_on u e ∙ ap (λ x. next x e) is
-        ∙ o.exact (next (told (end_of table 0 u)) e) (told (node_after table (end_of table 0 u) e)) (step_passes (λ n x t. same (next (told n) x) (told t)) table (end_of table 0 u) e o.steps possible)
-        ∙ ap told (sym (end_push table 0 u e)))
+    o.goes_on u e ∙ ap (λ x. next x e) is
+    ∙ o.exact (next (told (end_of table 0 u)) e) (told (node_after table (end_of table 0 u) e)) (step_passes (λ n x t. same (next (told n) x) (told t)) table (end_of table 0 u) e o.steps possible)
+    ∙ ap told (sym (end_push table 0 u e)))
     s h
+
+-- ---- what holds throughout passes
+
+pub passes_below : (test : ℕ → Bool) (n : ℕ) → ((m : ℕ) → m < n → test m ≡ true) → all_below test n ≡ true
+passes_below test zero h = refl
+passes_below test (suc n) h = and_from _ _ (h n (omega arith)) (passes_below test n (λ m l. h m (omega arith)))
+
+pub passes_in : (test : ℕ → Bool) (M : List ℕ) → ((e : ℕ) → has M e ≡ true → test e ≡ true) → all_in test M ≡ true
+passes_in test [] h = refl
+passes_in test (x ∷ M) h = and_from _ _ (h x (or_left _ _ (eq-eqb x x refl))) (passes_in test M (λ e k. h e (or_right _ _ k)))
+
+-- ---- truth values
+
+abbrev pub same_truth : Bool → Bool → Bool
+same_truth true b = b
+same_truth false b = not b
+
+pub same_truth_is : (a b : Bool) → same_truth a b ≡ true → a ≡ b
+same_truth_is true true h = refl
+same_truth_is true false h = absurd (false≢true h)
+same_truth_is false true h = absurd (false≢true h)
+same_truth_is false false h = refl
+
+pub not_true : (b : Bool) → not b ≡ true → b ≡ false
+not_true true h = absurd (false≢true h)
+not_true false h = refl
+
+pub false_not : (b : Bool) → b ≡ false → not b ≡ true
+false_not true h = sym h
+false_not false h = refl
+
+-- ---- parities, and sets that part what is shared
+
+abbrev pub next_parity : List ℕ → Bool → ℕ → Bool
+next_parity S b e = cond (has S e) (not b) b
+
+-- the parity of the events of a set, told node by node
+pub parity_told : (table : List Node) (S : List ℕ) (told : ℕ → Bool) → false ≡ told 0 → all_steps (λ n e t. same_truth (next_parity S (told n) e) (told t)) table ≡ true → (s : List ℕ) → IsRun table s → is_odd (count_in S s) ≡ told (end_of table 0 s)
+parity_told table S told start steps s h = observed table same_truth (λ u. is_odd (count_in S u)) (next_parity S) told (record { exact = same_truth_is; start = start; goes_on = goes_on; steps = steps }) s h
+  where
+    goes_on : (u : List ℕ) (e : ℕ) → is_odd (count_in S (u ++ e ∷ [])) ≡ next_parity S (is_odd (count_in S u)) e
+    goes_on u e =
+        elim (cases_Bool (has S e)) [
+          | inl there ↦ odd_more S u e there ∙ sym (cond-true (has S e) (not (is_odd (count_in S u))) (is_odd (count_in S u)) there)
+          | inr strange ↦ odd_same S u e strange ∙ sym (cond-false (has S e) (not (is_odd (count_in S u))) (is_odd (count_in S u)) strange)
+        ]
+
+abbrev part_test : Shape → ℕ → List (List ℕ) → ℕ → Bool
+part_test shape i sets e = nat_eq (sharers sets e) (cond (has (part_at shape.parts i).alphabet e && has shape.vocabulary e) 1 0)
+
+abbrev pub parts_shared : Shape → ℕ → List (List ℕ) → Bool
+parts_shared shape i sets = all_sets (all_in (part_test shape i sets)) ((part_at shape.parts i).alphabet ∷ sets)
+
+pub parts_shared_is : (shape : Shape) (i : ℕ) (sets : List (List ℕ)) → parts_shared shape i sets ≡ true → PartShared shape i sets
+parts_shared_is shape i sets h e =
+    let p = and_parts _ _ h in
+    elim (cases_Bool (has (part_at shape.parts i).alphabet e)) [
+      | inl own ↦ eqb-true _ _ (member_passes (part_test shape i sets) (part_at shape.parts i).alphabet e p.0 own)
+      | inr strange ↦ elim (somewhere sets p.1) [
+        | inl passes ↦ eqb-true _ _ passes
+        | inr none ↦ none ∙ sym (ap (λ b. cond (b && has shape.vocabulary e) 1 0) strange)
+      ]
+    ]
+  where
+    somewhere : (others : List (List ℕ)) → all_sets (all_in (part_test shape i sets)) others ≡ true → (part_test shape i sets e ≡ true) ⊎ (sharers others e ≡ 0)
+    somewhere [] h = inr refl
+    somewhere (M ∷ Ms) h =
+        let p = and_parts (all_in (part_test shape i sets) M) (all_sets (all_in (part_test shape i sets)) Ms) h in
+        elim (cases_Bool (has M e)) [
+          | inl there ↦ inl (member_passes (part_test shape i sets) M e p.0 there)
+          | inr absent ↦ elim (somewhere Ms p.1) [ inl passes ↦ inl passes | inr none ↦ inr (cond-false (has M e) (sharers Ms e + 1) (sharers Ms e) absent ∙ none) ]
+        ]

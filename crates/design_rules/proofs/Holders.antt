@@ -27,13 +27,13 @@ last_more S u e h = last_push None S u e ∙ cond-true (has S e) (Some e) (last_
 last_same : (S u : List ℕ) (e : ℕ) → has S e ≡ false → last_from None S (u ++ e ∷ []) ≡ last_from None S u
 last_same S u e h = last_push None S u e ∙ cond-false (has S e) (Some e) (last_from None S u) h
 
-odd_more : (S u : List ℕ) (e : ℕ) → has S e ≡ true → is_odd (count_in S (u ++ e ∷ [])) ≡ not (is_odd (count_in S u))
+pub odd_more : (S u : List ℕ) (e : ℕ) → has S e ≡ true → is_odd (count_in S (u ++ e ∷ [])) ≡ not (is_odd (count_in S u))
 odd_more S u e h = ap is_odd (count_push_more S u e h ∙ plus_one (count_in S u))
   where
     plus_one : (n : ℕ) → n + 1 ≡ suc n
     plus_one n = omega arith
 
-odd_same : (S u : List ℕ) (e : ℕ) → has S e ≡ false → is_odd (count_in S (u ++ e ∷ [])) ≡ is_odd (count_in S u)
+pub odd_same : (S u : List ℕ) (e : ℕ) → has S e ≡ false → is_odd (count_in S (u ++ e ∷ [])) ≡ is_odd (count_in S u)
 odd_same S u e h = ap is_odd (count_push_same S u e h)
 
 -- ---- an event is on one link of a part

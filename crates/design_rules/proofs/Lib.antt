@@ -1,5 +1,7 @@
+pub mod Acknowledging
 pub mod Checks
 pub mod ClientServer
+pub mod ClientServerCheck
 pub mod Counts
 pub mod Cyclic
 pub mod CyclicCheck
@@ -14,5 +16,4 @@ pub mod RowOfThree
 pub mod Runs
 pub mod Shapes
 pub mod Sharing
-pub mod Twins
 pub mod Walks

@@ -41,37 +41,22 @@ pub record RowIsCyclic : Type 0 where
   pub rule : IsCyclic row_of_three
   pub ranking : IsCyclicRanking row_of_three row_ranking
 
--- it does the event 0 again and again
-abbrev pub repeats_zero : Part
-repeats_zero = record { alphabet = 0 ∷ []; table = record { next = (0, 0) ∷ []; accept = (0 ∷ []) ∷ [] } ∷ [] }
+-- A client and a server. On their link the event 0 is the request, and the event 1 the acknowledgement: the link opens with each
+-- request and closes with each acknowledgement.
+abbrev pub pair : Shape
+pair = record { parts = alternates 0 1 ∷ alternates 0 1 ∷ []; links = record { left = 0; right = 1; shared = 0 ∷ 1 ∷ [] } ∷ []; vocabulary = 0 ∷ 1 ∷ [] }
 
--- two of them, with their link
-abbrev pub twins : Shape
-twins = record { parts = repeats_zero ∷ repeats_zero ∷ []; links = record { left = 0; right = 1; shared = 0 ∷ [] } ∷ []; vocabulary = 0 ∷ [] }
+abbrev pub pair_roles : List RoleSets
+pair_roles = record { creq = 0 ∷ []; cack = 1 ∷ []; sreq = []; sack = [] } ∷ record { creq = []; cack = []; sreq = 0 ∷ []; sack = 1 ∷ [] } ∷ []
 
-abbrev pub ranks_of : ℕ → ℕ → PartRanks
-ranks_of rank lap = record { ranks = (pos rank ∷ []) ∷ []; laps = (lap ∷ []) ∷ [] }
+-- the client's height is 1; where the server takes a request it ranks 2 * 2 - 0, and where it acknowledges it ranks 0
+abbrev pub pair_ranking : Ranking
+pair_ranking = record { scale = pos 0; parts = two_ranks 1 0 1 0 ∷ two_ranks 4 0 0 0 ∷ [] }
 
--- each event of the one link ends a lap
-abbrev pub cyclic_ranking : Ranking
-cyclic_ranking = record { scale = pos 1; parts = ranks_of 0 1 ∷ ranks_of 0 1 ∷ [] }
-
-pub record TwinsAreCyclic : Type 0 where
-  pub form : IsWellFormed twins
-  pub rule : IsCyclic twins
-  pub ranking : IsCyclicRanking twins cyclic_ranking
-
--- the first asks, and the second serves
-abbrev pub twin_roles : List RoleSets
-twin_roles = record { creq = 0 ∷ []; cack = []; sreq = []; sack = [] } ∷ record { creq = []; cack = []; sreq = 0 ∷ []; sack = [] } ∷ []
-
--- the client's height is 1; the server takes a request, and stands at 2 * 2 - 0
-abbrev pub client_server_ranking : Ranking
-client_server_ranking = record { scale = pos 0; parts = ranks_of 1 0 ∷ ranks_of 4 0 ∷ [] }
-
-pub record TwinsAreClientServer : Type 0 where
-  pub rule : IsClientServer twins twin_roles
-  pub ranking : IsClientServerRanking twins twin_roles client_server_ranking
+pub record PairIsClientServer : Type 0 where
+  pub form : IsWellFormed pair
+  pub rule : IsClientServer pair pair_roles
+  pub ranking : IsClientServerRanking pair pair_roles pair_ranking
 
 -- A user and a resource: 0 acquires, and 1 releases.
 abbrev pub sharing : Shape

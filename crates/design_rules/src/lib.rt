@@ -3,7 +3,7 @@
 
 ghost use Rattle.design_rules.specs.ClientServerLaws.{ClientServerFaultsRefute, ClientServerRanksFall};
 ghost use Rattle.design_rules.specs.CyclicLaws.{CyclicFaultsRefute, CyclicRanksFall, IsPublishedRule, NumberedRanksFall};
-ghost use Rattle.design_rules.specs.Example.{RowIsCyclic, TwinsAreCyclic, TwinsAreClientServer, SharingIsResource};
+ghost use Rattle.design_rules.specs.Example.{PairIsClientServer, RowIsCyclic, SharingIsResource};
 ghost use Rattle.design_rules.specs.Live.{CyclicMeansLive, ClientServerMeansLive, ResourceMeansLive};
 ghost use Rattle.design_rules.specs.ResourceLaws.{OrderedRanksFall, ResourceFaultsRefute, ResourceRanksFall};
 
@@ -55,8 +55,7 @@ pub fn rules_mean_live<S: Transitions>()
 
 /// Shapes that meet the rules, with their rankings.
 pub fn examples()
-    ensures row { RowIsCyclic }
-    ensures cyclic { TwinsAreCyclic }
-    ensures client_server { TwinsAreClientServer }
+    ensures cyclic { RowIsCyclic }
+    ensures client_server { PairIsClientServer }
     ensures resource { SharingIsResource }
 {}
