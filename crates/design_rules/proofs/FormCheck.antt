@@ -3,7 +3,7 @@ use Rattle.std.proofs.Common.{◌≡◌, ℕ, zero, suc, ◌<◌, ◌≤◌, inl
 use Rattle.std.proofs.lemmas.Bool.{cases_lt, and_parts, or_cases, false≢true}
 use Rattle.csp_base.specs.Members.{has}
 use Rattle.csp_tables.specs.Table.{Node, node_at, is_possible, is_run, end_of}
-use Rattle.csp_tables.specs.Part.{Part, part_at, alphabets_of, sharers}
+use Rattle.csp_tables.specs.Part.{Part, part_at, alphabets_of, sharers, TripleDisjoint}
 use Rattle.csp_tables.specs.Form.{BeginsAbove, StepsHaveForm, AreWithin, NodesHaveForm, HaveForm}
 use Rattle.csp_tables.specs.Shape.{Shape, link_at, JoinsTwo, IsBelow, IsWellFormed, acceptance_at}
 use Rattle.design_rules.proofs.Checks.{implies, implied, all_below, below_passes, all_in, member_passes, all_sets, set_passes, past_end}
@@ -66,7 +66,7 @@ have_form (p ∷ ps) h =
 
 -- ---- links and vocabulary
 
-abbrev alphabet_at : Shape → ℕ → List ℕ
+abbrev pub alphabet_at : Shape → ℕ → List ℕ
 alphabet_at shape i = (part_at shape.parts i).alphabet
 
 abbrev link_test : Shape → ℕ → Bool
@@ -165,3 +165,15 @@ well_formed shape runs link_of f = record {
           | inl less ↦ member_passes _ (acceptance_at (part_at shape.parts i) n k) e (set_passes _ (node_at (part_at shape.parts i).table n).accept k all less) x
           | inr more ↦ absurd (false≢true (subst (λ M. has M e ≡ true) (beyond (node_at (part_at shape.parts i).table n).accept k more) x))
         ]
+
+-- ---- no event is in three alphabets
+
+pub triple_disjoint : (shape : Shape) → all_below (λ i. all_in (λ e. nat_lt (sharers (alphabets_of shape.parts) e) 3) (alphabet_at shape i)) (length shape.parts) ≡ true → TripleDisjoint (alphabets_of shape.parts)
+triple_disjoint shape h e =
+    elim (cases_lt (sharers (alphabets_of shape.parts) e) 1) [
+      | inl none ↦ omega arith
+      | inr some ↦
+          let s = sharer shape.parts e (omega arith) in
+          let few : sharers (alphabets_of shape.parts) e < 3 = ltb-true (sharers (alphabets_of shape.parts) e) 3 (member_passes _ (alphabet_at shape s.place) e (below_passes _ (length shape.parts) s.place h s.within) s.owned) in
+          omega arith
+    ]

@@ -21,10 +21,10 @@ last_push : (before : Option ℕ) (S u : List ℕ) (e : ℕ) → last_from befor
 last_push before S [] e = refl
 last_push before S (x ∷ u) e = last_push (cond (has S x) (Some x) before) S u e
 
-last_more : (S u : List ℕ) (e : ℕ) → has S e ≡ true → last_from None S (u ++ e ∷ []) ≡ Some e
+pub last_more : (S u : List ℕ) (e : ℕ) → has S e ≡ true → last_from None S (u ++ e ∷ []) ≡ Some e
 last_more S u e h = last_push None S u e ∙ cond-true (has S e) (Some e) (last_from None S u) h
 
-last_same : (S u : List ℕ) (e : ℕ) → has S e ≡ false → last_from None S (u ++ e ∷ []) ≡ last_from None S u
+pub last_same : (S u : List ℕ) (e : ℕ) → has S e ≡ false → last_from None S (u ++ e ∷ []) ≡ last_from None S u
 last_same S u e h = last_push None S u e ∙ cond-false (has S e) (Some e) (last_from None S u) h
 
 pub odd_more : (S u : List ℕ) (e : ℕ) → has S e ≡ true → is_odd (count_in S (u ++ e ∷ [])) ≡ not (is_odd (count_in S u))

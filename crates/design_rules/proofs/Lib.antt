@@ -12,8 +12,9 @@ pub mod Live
 pub mod Places
 pub mod RankCheck
 pub mod Resource
+pub mod ResourceCheck
 pub mod RowOfThree
 pub mod Runs
 pub mod Shapes
-pub mod Sharing
+pub mod TwoUsers
 pub mod Walks

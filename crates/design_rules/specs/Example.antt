@@ -7,7 +7,6 @@ use Rattle.csp_tables.specs.Roles.{RoleSets, UseSets}
 use Rattle.design_rules.specs.Cyclic.{IsCyclic}
 use Rattle.design_rules.specs.Resource.{IsResource}
 use Rattle.design_rules.specs.ResourceRanking.{IsResourceRanking}
-use Rattle.net_sound.specs.Example.{both, turns}
 use Rattle.design_rules.specs.CyclicRanking.{IsCyclicRanking}
 use Rattle.design_rules.specs.ClientServer.{IsClientServer}
 use Rattle.design_rules.specs.ClientServerRanking.{IsClientServerRanking}
@@ -58,22 +57,50 @@ pub record PairIsClientServer : Type 0 where
   pub rule : IsClientServer pair pair_roles
   pub ranking : IsClientServerRanking pair pair_roles pair_ranking
 
--- A user and a resource: 0 acquires, and 1 releases.
-abbrev pub sharing : Shape
-sharing = record { parts = turns ∷ turns ∷ []; links = record { left = 0; right = 1; shared = both } ∷ []; vocabulary = both }
-
-abbrev pub sharing_uses : List UseSets
-sharing_uses = record { resource = false; acquire = []; release = [] } ∷ record { resource = true; acquire = 0 ∷ []; release = 1 ∷ [] } ∷ []
-
--- With the number 1 for the resource. Free it stands at 4 and held at 1; the user stands at 2 where it acquires, else at 0.
-abbrev pub sharing_ranking : Ranking
-sharing_ranking = record {
-  scale = pos 0;
-  parts = record { ranks = (pos 2 ∷ []) ∷ (pos 0 ∷ []) ∷ []; laps = (0 ∷ []) ∷ (0 ∷ []) ∷ [] } ∷ record { ranks = (pos 4 ∷ []) ∷ (pos 1 ∷ []) ∷ []; laps = (0 ∷ []) ∷ (0 ∷ []) ∷ [] } ∷ [];
+-- Two users, 0 and 1, and two resources, 2 and 3. The user u acquires the resource 2 by the event u, then the resource 3 by
+-- 4 + u; it releases 3 by 6 + u, and then 2 by 2 + u.
+abbrev pub user : ℕ → ℕ → ℕ → ℕ → Part
+user a c b d = record {
+  alphabet = a ∷ c ∷ b ∷ d ∷ [];
+  table = record { next = (a, 1) ∷ []; accept = (a ∷ []) ∷ [] } ∷ record { next = (b, 2) ∷ []; accept = (b ∷ []) ∷ [] } ∷ record { next = (d, 3) ∷ []; accept = (d ∷ []) ∷ [] } ∷ record { next = (c, 0) ∷ []; accept = (c ∷ []) ∷ [] } ∷ [];
 }
 
-pub record SharingIsResource : Type 0 where
-  pub form : IsWellFormed sharing
-  pub triple : TripleDisjoint (alphabets_of sharing.parts)
-  pub rule : IsResource sharing sharing_uses
-  pub ranking : IsResourceRanking sharing sharing_uses sharing_ranking
+-- the first user acquires it by a and releases it by c, the second one by b and d
+abbrev pub shared_resource : ℕ → ℕ → ℕ → ℕ → Part
+shared_resource a b c d = record {
+  alphabet = a ∷ b ∷ c ∷ d ∷ [];
+  table = record { next = (a, 1) ∷ (b, 2) ∷ []; accept = (a ∷ b ∷ []) ∷ [] } ∷ record { next = (c, 0) ∷ []; accept = (c ∷ []) ∷ [] } ∷ record { next = (d, 0) ∷ []; accept = (d ∷ []) ∷ [] } ∷ [];
+}
+
+abbrev pub two_events : ℕ → ℕ → ℕ → ℕ → Link
+two_events i j a c = record { left = i; right = j; shared = a ∷ c ∷ [] }
+
+abbrev pub two_users : Shape
+two_users = record {
+  parts = user 0 2 4 6 ∷ user 1 3 5 7 ∷ shared_resource 0 1 2 3 ∷ shared_resource 4 5 6 7 ∷ [];
+  links = two_events 0 2 0 2 ∷ two_events 0 3 4 6 ∷ two_events 1 2 1 3 ∷ two_events 1 3 5 7 ∷ [];
+  vocabulary = 0 ∷ 1 ∷ 2 ∷ 3 ∷ 4 ∷ 5 ∷ 6 ∷ 7 ∷ [];
+}
+
+abbrev pub no_resource : UseSets
+no_resource = record { resource = false; acquire = []; release = [] }
+
+abbrev pub two_users_uses : List UseSets
+two_users_uses = no_resource ∷ no_resource ∷ record { resource = true; acquire = 0 ∷ 1 ∷ []; release = 2 ∷ 3 ∷ [] } ∷ record { resource = true; acquire = 4 ∷ 5 ∷ []; release = 6 ∷ 7 ∷ [] } ∷ []
+
+abbrev pub user_ranks : PartRanks
+user_ranks = record { ranks = (pos 4 ∷ []) ∷ (pos 2 ∷ []) ∷ (pos 0 ∷ []) ∷ (pos 0 ∷ []) ∷ []; laps = (0 ∷ []) ∷ (0 ∷ []) ∷ (0 ∷ []) ∷ (0 ∷ []) ∷ [] }
+
+abbrev pub resource_ranks : ℕ → PartRanks
+resource_ranks held = record { ranks = (pos 6 ∷ []) ∷ (pos held ∷ []) ∷ (pos held ∷ []) ∷ []; laps = (0 ∷ 0 ∷ []) ∷ (0 ∷ []) ∷ (0 ∷ []) ∷ [] }
+
+-- With the numbers 1 and 2 for the resources. Free they rank 6, and held 3 and 1; a user ranks 4 where it acquires the first,
+-- 2 where it acquires the second, and else 0.
+abbrev pub two_users_ranking : Ranking
+two_users_ranking = record { scale = pos 0; parts = user_ranks ∷ user_ranks ∷ resource_ranks 3 ∷ resource_ranks 1 ∷ [] }
+
+pub record TwoUsersAreResource : Type 0 where
+  pub form : IsWellFormed two_users
+  pub triple : TripleDisjoint (alphabets_of two_users.parts)
+  pub rule : IsResource two_users two_users_uses
+  pub ranking : IsResourceRanking two_users two_users_uses two_users_ranking

@@ -3,7 +3,7 @@
 
 ghost use Rattle.design_rules.specs.ClientServerLaws.{ClientServerFaultsRefute, ClientServerRanksFall};
 ghost use Rattle.design_rules.specs.CyclicLaws.{CyclicFaultsRefute, CyclicRanksFall, IsPublishedRule, NumberedRanksFall};
-ghost use Rattle.design_rules.specs.Example.{PairIsClientServer, RowIsCyclic, SharingIsResource};
+ghost use Rattle.design_rules.specs.Example.{PairIsClientServer, RowIsCyclic, TwoUsersAreResource};
 ghost use Rattle.design_rules.specs.Live.{CyclicMeansLive, ClientServerMeansLive, ResourceMeansLive};
 ghost use Rattle.design_rules.specs.ResourceLaws.{OrderedRanksFall, ResourceFaultsRefute, ResourceRanksFall};
 
@@ -57,5 +57,5 @@ pub fn rules_mean_live<S: Transitions>()
 pub fn examples()
     ensures cyclic { RowIsCyclic }
     ensures client_server { PairIsClientServer }
-    ensures resource { SharingIsResource }
+    ensures resource { TwoUsersAreResource }
 {}
