@@ -1,4 +1,5 @@
--- A network whose shape meets one of the three rules is live, with its silent bound: the rule's ranking is good.
+-- A network is live, with its silent bound, where a well-formed shape whose tables have the behaviour of its components meets
+-- one of the three rules: the rule's ranking is good.
 use Rattle.std.specs.Prelude.{ℕ, List}
 use Rattle.csp_tables.specs.Label.{Label}
 use Rattle.csp_tables.specs.Live.{Live}
@@ -15,16 +16,11 @@ use Rattle.design_rules.specs.Resource.{IsResource}
 use Rattle.design_rules.specs.ResourceRanking.{IsResourceRanking}
 use Rattle.net_sound.specs.Soundness.{IsSound}
 
--- the shape is well formed, and its tables have the behaviour of the network's components
-pub record IsShapeOf {T : Type 0} (Step : T → Label → T → Type 0) (tree : Tree T) (shape : Shape) : Type 0 where
-  pub form : IsWellFormed shape
-  pub behaviours : HaveBehaviours Step (leaves tree) shape.parts
-
 abbrev pub CyclicMeansLive : {T : Type 0} → (T → Label → T → Type 0) → Type 0
-CyclicMeansLive {T} Step = (tree : Tree T) (bound : ℕ) (shape : Shape) (ranking : Ranking) → IsSound Step tree bound → IsShapeOf Step tree shape → IsCyclic shape → IsCyclicRanking shape ranking → Live (NetworkStep Step) tree bound
+CyclicMeansLive {T} Step = (tree : Tree T) (bound : ℕ) (shape : Shape) (ranking : Ranking) → IsSound Step tree bound → IsWellFormed shape → HaveBehaviours Step (leaves tree) shape.parts → IsCyclic shape → IsCyclicRanking shape ranking → Live (NetworkStep Step) tree bound
 
 abbrev pub ClientServerMeansLive : {T : Type 0} → (T → Label → T → Type 0) → Type 0
-ClientServerMeansLive {T} Step = (tree : Tree T) (bound : ℕ) (shape : Shape) (roles : List RoleSets) (ranking : Ranking) → IsSound Step tree bound → IsShapeOf Step tree shape → IsClientServer shape roles → IsClientServerRanking shape roles ranking → Live (NetworkStep Step) tree bound
+ClientServerMeansLive {T} Step = (tree : Tree T) (bound : ℕ) (shape : Shape) (roles : List RoleSets) (ranking : Ranking) → IsSound Step tree bound → IsWellFormed shape → HaveBehaviours Step (leaves tree) shape.parts → IsClientServer shape roles → IsClientServerRanking shape roles ranking → Live (NetworkStep Step) tree bound
 
 abbrev pub ResourceMeansLive : {T : Type 0} → (T → Label → T → Type 0) → Type 0
-ResourceMeansLive {T} Step = (tree : Tree T) (bound : ℕ) (shape : Shape) (uses : List UseSets) (ranking : Ranking) → IsSound Step tree bound → IsShapeOf Step tree shape → IsResource shape uses → IsResourceRanking shape uses ranking → Live (NetworkStep Step) tree bound
+ResourceMeansLive {T} Step = (tree : Tree T) (bound : ℕ) (shape : Shape) (uses : List UseSets) (ranking : Ranking) → IsSound Step tree bound → IsWellFormed shape → HaveBehaviours Step (leaves tree) shape.parts → IsResource shape uses → IsResourceRanking shape uses ranking → Live (NetworkStep Step) tree bound
