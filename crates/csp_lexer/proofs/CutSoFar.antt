@@ -84,12 +84,11 @@ module _ (front : Place → List ℕ → Option Piece) (whole : Result PlacedTok
   no_piece old new at rest = none_at old new at rest (front at rest) refl
 
   -- nothing is left
-  pub at_end : (found : PlacedTokens) (ts : List (Token × Place)) (at : Place) (rest : List ℕ) → found ≡ record { placed = ts; end = at } → length rest ≡ 0 → IsCutSoFar front whole ts at rest
-      → whole ≡ Ok found
-  at_end found ts at [] found_is is_end so_far =
-      so_far.same ∙ ap (added ts) (cut-nil front so_far.pieces at)
-      ∙ (λ i. Ok (record { placed = append-nil ts i; end = at })) ∙ ap Ok (sym found_is)
-  at_end found ts at (b ∷ rest) found_is is_end so_far = absurd (omega arith)
+  pub at_end : (ts : List (Token × Place)) (at : Place) (rest : List ℕ) → length rest ≡ 0 → IsCutSoFar front whole ts at rest
+      → whole ≡ Ok (record { placed = ts; end = at })
+  at_end ts at [] is_end so_far =
+      so_far.same ∙ ap (added ts) (cut-nil front so_far.pieces at) ∙ (λ i. Ok (record { placed = append-nil ts i; end = at }))
+  at_end ts at (b ∷ rest) is_end so_far = absurd (omega arith)
 
   -- a piece is passed, and the place behind it is taken from its bytes
   pub piece_passed : (old new : PlacedTokens) (at at' : Place) (rest left : List ℕ) → at' ≡ behind_all at (before rest left) → Passed (front at rest) old new (Some left) → IsCutSoFar front whole old.placed at rest
