@@ -3,7 +3,7 @@
 ghost use Rattle.std.specs.Prelude.{◌≡◌, ◌<◌, ◌≤◌, true, nat_eq, codes, [], length, slice_index, IsTrue, IfOk, IfErr, IfSome, Ok, Err};
 ghost use Rattle.std.specs.List.{starts_with};
 ghost use Rattle.std.specs.Option.{option_copied};
-ghost use Rattle.csp_lexer.specs.Front.{begins_assertion, front, is_blank, words};
+ghost use Rattle.csp_lexer.specs.Front.{begins_assertion, front, is_blank, assertion_or_token};
 ghost use Rattle.csp_lexer.specs.Annotations.{line_comment};
 ghost use Rattle.csp_lexer.specs.Lexed.{IfNoScript, lexed};
 ghost use Rattle.csp_lexer.specs.Passed.{Passed};
@@ -55,13 +55,13 @@ fn pass_line_comment<'a>(
 
 // Passes the assertion or the token at the front of the text.
 #[tactic(auto, using(std::proofs::lemmas::List::take_rest))]
-fn pass_words<'a>(
+fn pass_assertion_or_token<'a>(
     alloc: Global,
     text: &'a [u8],
     at: Place,
     found: &mut Tokens,
 ) -> Result<Option<&'a [u8]>, NoMemory>
-    ensures passed { IfOk result (λ left. Passed (words at text.now) found.old found.new (option_copied left)) }
+    ensures passed { IfOk result (λ left. Passed (assertion_or_token at text.now) found.old found.new (option_copied left)) }
     ensures shorter { IfOk result (λ left. IfSome left (λ left. length left.now < length text.now)) }
 {
     if begins_assertion(text) {
@@ -92,7 +92,7 @@ fn pass_piece<'a>(
     if text.starts_with(b"{-") {
         return Ok(after_comment(&text[2..]));
     }
-    pass_words(alloc, text, at, found)
+    pass_assertion_or_token(alloc, text, at, found)
 }
 
 // Passes the whole text. The result is the place of its end.
