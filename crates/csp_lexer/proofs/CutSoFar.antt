@@ -15,22 +15,9 @@ pub record IsCutSoFar (front : Place → List ℕ → Option Piece) (whole : Res
   pub enough : length rest ≤ pieces
   pub same : whole ≡ added placed (cut front pieces at rest)
 
-added-nothing : (r : Result PlacedTokens Place) → r ≡ added [] r
-added-nothing (Ok cut) = refl
-added-nothing (Err at) = refl
-
 added-added : (ts us : List (Token × Place)) (r : Result PlacedTokens Place) → added ts (added us r) ≡ added (ts ++ us) r
 added-added ts us (Ok cut) = λ i. Ok (record { placed = sym (append_assoc ts us cut.placed) i; end = cut.end })
 added-added ts us (Err at) = refl
-
--- before the first piece
-pub at_beginning : (front : Place → List ℕ → Option Piece) (found : PlacedTokens) (at : Place) (text : List ℕ) → found.placed ≡ []
-    → IsCutSoFar front (cut front (length text) at text) found.placed at text
-at_beginning front found at text none = record {
-  pieces = length text;
-  enough = omega arith;
-  same = added-nothing (cut front (length text) at text) ∙ (λ i. added (sym none i) (cut front (length text) at text));
-}
 
 -- the first piece of what is left
 cut-piece : (front : Place → List ℕ → Option Piece) (n : ℕ) (at : Place) (rest : List ℕ) (piece : Piece) → front at rest ≡ Some piece → 0 < length rest
@@ -102,3 +89,4 @@ module _ (front : Place → List ℕ → Option Piece) (whole : Result PlacedTok
 pub not_empty : (text : List ℕ) → false ≡ eqb (length text) 0 → 0 < length text
 not_empty [] is = absurd cc
 not_empty (b ∷ text) is = omega arith
+
