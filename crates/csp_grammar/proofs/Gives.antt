@@ -28,14 +28,6 @@ bind {A} {B} {F} {a} {x} K g h = record {
   gives = λ f le. ap (λ o. and_then o (K (readers f))) (g.gives f (omega arith)) ∙ h.gives f (omega arith);
 }
 
--- what is there in a look at the tokens
-pub look : {A B : Type 0} {o : Option A} {a : A} {x : B} (K : Readers → A → Option B) →
-    o ≡ Some a → Gives (λ R. K R a) x → Gives (λ R. and_then o (K R)) x
-look {A} {B} {o} {a} {x} K e h = record {
-  enough = h.enough;
-  gives = λ f le. ap (λ p. and_then p (K (readers f))) e ∙ h.gives f le;
-}
-
 pub there : {A B : Type 0} {o : Option A} {a : A} {x : B} (K : Readers → A → Option B) (L : Readers → Unit {0} → Option B) →
     o ≡ Some a → Gives (λ R. K R a) x → Gives (λ R. case o (K R) (L R)) x
 there {A} {B} {o} {a} {x} K L e h = record {

@@ -20,9 +20,6 @@ pub record IsApart (r : List Token) : Type 0 where
   pub stops : Stops 1 r
   pub no_symbol : (s : Symbol) → skip s r ≡ None
 
-eq_same : (a : ℕ) → nat_eq a a ≡ true
-eq_same a = grind (arith)
-
 both_same : (a b : ℕ) → (nat_eq a a && nat_eq b b) ≡ true
 both_same a b = grind (arith)
 

@@ -11,11 +11,6 @@ first_half b c h = grind (arith)
 pub last_half : (b c : Bool) → (b && c) ≡ true → c ≡ true
 last_half b c h = grind (arith)
 
--- 2 or 1, as a test says
-abbrev two_or_one : Bool → ℕ
-two_or_one true = 2
-two_or_one false = 1
-
 bool_of : (b : Bool) → (b ≡ true) ⊎ (b ≡ false)
 bool_of true = inl refl
 bool_of false = inr refl

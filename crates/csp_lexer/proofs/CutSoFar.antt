@@ -15,22 +15,9 @@ pub record IsCutSoFar (front : Place → List ℕ → Option Piece) (whole : Res
   pub enough : length rest ≤ pieces
   pub same : whole ≡ added placed (cut front pieces at rest)
 
-added-nothing : (r : Result PlacedTokens Place) → r ≡ added [] r
-added-nothing (Ok cut) = refl
-added-nothing (Err at) = refl
-
 added-added : (ts us : List (Token × Place)) (r : Result PlacedTokens Place) → added ts (added us r) ≡ added (ts ++ us) r
 added-added ts us (Ok cut) = λ i. Ok (record { placed = sym (append_assoc ts us cut.placed) i; end = cut.end })
 added-added ts us (Err at) = refl
-
--- before the first piece
-pub at_beginning : (front : Place → List ℕ → Option Piece) (found : PlacedTokens) (at : Place) (text : List ℕ) → found.placed ≡ []
-    → IsCutSoFar front (cut front (length text) at text) found.placed at text
-at_beginning front found at text none = record {
-  pieces = length text;
-  enough = omega arith;
-  same = added-nothing (cut front (length text) at text) ∙ (λ i. added (sym none i) (cut front (length text) at text));
-}
 
 -- the first piece of what is left
 cut-piece : (front : Place → List ℕ → Option Piece) (n : ℕ) (at : Place) (rest : List ℕ) (piece : Piece) → front at rest ≡ Some piece → 0 < length rest
@@ -84,12 +71,11 @@ module _ (front : Place → List ℕ → Option Piece) (whole : Result PlacedTok
   no_piece old new at rest = none_at old new at rest (front at rest) refl
 
   -- nothing is left
-  pub at_end : (found : PlacedTokens) (ts : List (Token × Place)) (at : Place) (rest : List ℕ) → found ≡ record { placed = ts; end = at } → length rest ≡ 0 → IsCutSoFar front whole ts at rest
-      → whole ≡ Ok found
-  at_end found ts at [] found_is is_end so_far =
-      so_far.same ∙ ap (added ts) (cut-nil front so_far.pieces at)
-      ∙ (λ i. Ok (record { placed = append-nil ts i; end = at })) ∙ ap Ok (sym found_is)
-  at_end found ts at (b ∷ rest) found_is is_end so_far = absurd (omega arith)
+  pub at_end : (ts : List (Token × Place)) (at : Place) (rest : List ℕ) → length rest ≡ 0 → IsCutSoFar front whole ts at rest
+      → whole ≡ Ok (record { placed = ts; end = at })
+  at_end ts at [] is_end so_far =
+      so_far.same ∙ ap (added ts) (cut-nil front so_far.pieces at) ∙ (λ i. Ok (record { placed = append-nil ts i; end = at }))
+  at_end ts at (b ∷ rest) is_end so_far = absurd (omega arith)
 
   -- a piece is passed, and the place behind it is taken from its bytes
   pub piece_passed : (old new : PlacedTokens) (at at' : Place) (rest left : List ℕ) → at' ≡ behind_all at (before rest left) → Passed (front at rest) old new (Some left) → IsCutSoFar front whole old.placed at rest
@@ -103,3 +89,4 @@ module _ (front : Place → List ℕ → Option Piece) (whole : Result PlacedTok
 pub not_empty : (text : List ℕ) → false ≡ eqb (length text) 0 → 0 < length text
 not_empty [] is = absurd cc
 not_empty (b ∷ text) is = omega arith
+

@@ -18,10 +18,13 @@ is_blank b = is_space b || nat_eq b 10
 unfoldable pub begins_assertion : List ℕ → Bool
 begins_assertion text = bytes_eq (take (word_len text) text) (codes "assert")
 
+-- an assertion or a token
+abbrev pub assertion_or_token : Place → List ℕ → Option Piece
+assertion_or_token at text = if begins_assertion text then Some (assertion at (drop 6 text)) else one_at at text (token_at false text)
+
 unfoldable pub front : Place → List ℕ → Option Piece
 front at text =
     if is_blank (slice_index text 0) then Some (nothing (drop 1 text))
     else if starts_with nat_eq text (codes "--") then line_comment at text
     else if starts_with nat_eq text (codes "{-") then nothing_before (after_comments 1 (drop 2 text))
-    else if begins_assertion text then Some (assertion at (drop 6 text))
-    else one_at at text (token_at false text)
+    else assertion_or_token at text

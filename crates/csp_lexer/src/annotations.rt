@@ -15,14 +15,14 @@ use csp_base::{Name, NoMemory, Place};
 use csp_text::{ResourceNames, RolesNames, Token};
 use std::alloc::Global;
 
-/// Whether the byte divides the words of a line.
+// Whether the byte divides the words of a line.
 pub(crate) fn is_space(b: u8) -> bool
     ensures { result ≡ is_space b }
 {
     b == b' ' || b == b'\t' || b == b'\r'
 }
 
-/// How many spaces the bytes begin with.
+// How many spaces the bytes begin with.
 fn spaces(bytes: &[u8]) -> usize
     ensures value { result ≡ prefix_len is_space bytes.now }
     ensures within { result ≤ length bytes.now }
@@ -30,7 +30,7 @@ fn spaces(bytes: &[u8]) -> usize
     bytes.iter().take_while(|b| is_space(**b)).count()
 }
 
-/// How many bytes stand before the first space.
+// How many bytes stand before the first space.
 fn word_bytes(bytes: &[u8]) -> usize
     ensures value { result ≡ prefix_len (λ b. not (is_space b)) bytes.now }
     ensures within { result ≤ length bytes.now }
@@ -38,7 +38,7 @@ fn word_bytes(bytes: &[u8]) -> usize
     bytes.iter().take_while(|b| !is_space(**b)).count()
 }
 
-/// The bytes without the spaces at the front.
+// The bytes without the spaces at the front.
 fn after_spaces(bytes: &[u8]) -> &[u8]
     ensures { result.now ≡ after_spaces bytes.now }
 {
@@ -46,7 +46,7 @@ fn after_spaces(bytes: &[u8]) -> &[u8]
     &bytes[len..]
 }
 
-/// The first word, which is empty where there is none, and what follows it.
+// The first word, which is empty where there is none, and what follows it.
 fn split_word(bytes: &[u8]) -> (&[u8], &[u8])
     ensures word { result.0.now ≡ first_word bytes.now }
     ensures rest { result.1.now ≡ after_word bytes.now }
@@ -56,7 +56,7 @@ fn split_word(bytes: &[u8]) -> (&[u8], &[u8])
     (&words[..len], &words[len..])
 }
 
-/// The first word, if it is a name, and what follows it.
+// The first word, if it is a name, and what follows it.
 #[tactic(auto, unfolding(crate::specs::Annotations::next_name))]
 fn next_name(bytes: &[u8]) -> Option<(&[u8], &[u8])>
     ensures { MatchOption result (next_name bytes.now ≡ None)
@@ -70,108 +70,191 @@ fn next_name(bytes: &[u8]) -> Option<(&[u8], &[u8])>
     }
 }
 
-/// Whether nothing but spaces is left.
+// Whether nothing but spaces is left.
 fn is_end(bytes: &[u8]) -> bool
     ensures { result ≡ list_all is_space bytes.now }
 {
     bytes.iter().all(|b| is_space(*b))
 }
 
-/// The annotation of these five names.
-fn roles_token(
-    alloc: Global,
-    process: &[u8],
-    creq: &[u8],
-    cack: &[u8],
-    sreq: &[u8],
-    sack: &[u8],
-) -> Result<Token, NoMemory>
-    ensures { IfOk result (λ made. made ≡ token.Roles (record { process = process.now; creq = creq.now; cack = cack.now; sreq = sreq.now; sack = sack.now })) }
+// Two names, which are made and ended together.
+#[derive(Drop)]
+struct TwoNames {
+    first: Name,
+    second: Name,
+}
+
+impl TwoNames {
+    // The names that these bytes spell.
+    fn new(alloc: Global, first: &[u8], second: &[u8]) -> Result<TwoNames, NoMemory>
+        ensures { IfOk result (λ names. names ≡ record { first = first.now; second = second.now }) }
+    {
+        let first = Name::from_slice(alloc, first)?;
+        let second = Name::from_slice(alloc, second)?;
+        Ok(TwoNames { first, second })
+    }
+}
+
+// The words of an annotation that gives a process its roles.
+#[derive(Clone, Copy)]
+struct RolesWords<'a> {
+    process: &'a [u8],
+    creq: &'a [u8],
+    cack: &'a [u8],
+    sreq: &'a [u8],
+    sack: &'a [u8],
+}
+
+// The words of an annotation that makes a process a resource.
+#[derive(Clone, Copy)]
+struct ResourceWords<'a> {
+    process: &'a [u8],
+    acquire: &'a [u8],
+    release: &'a [u8],
+}
+
+// The five names that the bytes are.
+#[tactic(auto, unfolding(crate::specs::Annotations::roles))]
+fn roles_words(bytes: &[u8]) -> Option<RolesWords<'_>>
+    ensures { MatchOption result (roles bytes.now ≡ None)
+        (λ w. roles bytes.now ≡ Some (token.Roles (record { process = w.process.now; creq = w.creq.now; cack = w.cack.now; sreq = w.sreq.now; sack = w.sack.now }))) }
 {
-    let process = Name::from_slice(alloc, process)?;
-    let creq = Name::from_slice(alloc, creq)?;
-    let cack = Name::from_slice(alloc, cack)?;
-    let sreq = Name::from_slice(alloc, sreq)?;
-    let sack = Name::from_slice(alloc, sack)?;
-    let names = RolesNames {
+    let Some((process, rest)) = next_name(bytes) else {
+        return None;
+    };
+    let Some((creq, rest)) = next_name(rest) else {
+        return None;
+    };
+    let Some((cack, rest)) = next_name(rest) else {
+        return None;
+    };
+    let Some((sreq, rest)) = next_name(rest) else {
+        return None;
+    };
+    let Some((sack, rest)) = next_name(rest) else {
+        return None;
+    };
+    if !is_end(rest) {
+        return None;
+    }
+    Some(RolesWords {
         process,
         creq,
         cack,
         sreq,
         sack,
-    };
-    Ok(Token::Roles(Boxed::new(alloc, names)?))
+    })
 }
 
-/// The annotation of these three names.
-fn resource_token(
-    alloc: Global,
-    process: &[u8],
-    acquire: &[u8],
-    release: &[u8],
-) -> Result<Token, NoMemory>
-    ensures { IfOk result (λ made. made ≡ token.Resource (record { process = process.now; acquire = acquire.now; release = release.now })) }
+// The three names that the bytes are.
+#[tactic(auto, unfolding(crate::specs::Annotations::resource))]
+fn resource_words(bytes: &[u8]) -> Option<ResourceWords<'_>>
+    ensures { MatchOption result (resource bytes.now ≡ None)
+        (λ w. resource bytes.now ≡ Some (token.Resource (record { process = w.process.now; acquire = w.acquire.now; release = w.release.now }))) }
 {
-    let process = Name::from_slice(alloc, process)?;
-    let acquire = Name::from_slice(alloc, acquire)?;
-    let release = Name::from_slice(alloc, release)?;
-    let names = ResourceNames {
+    let Some((process, rest)) = next_name(bytes) else {
+        return None;
+    };
+    let Some((acquire, rest)) = next_name(rest) else {
+        return None;
+    };
+    let Some((release, rest)) = next_name(rest) else {
+        return None;
+    };
+    if !is_end(rest) {
+        return None;
+    }
+    Some(ResourceWords {
         process,
         acquire,
         release,
-    };
+    })
+}
+
+// The names of the two sides of a process: its requests and acknowledgements as a client, and as a server.
+#[derive(Drop)]
+struct Sides {
+    client: TwoNames,
+    server: TwoNames,
+}
+
+// The names of the sides that these words spell.
+fn sides_named(alloc: Global, words: &RolesWords<'_>) -> Result<Sides, NoMemory>
+    ensures client { IfOk result (λ made. made.client ≡ record { first = words.now.creq.now; second = words.now.cack.now }) }
+    ensures server { IfOk result (λ made. made.server ≡ record { first = words.now.sreq.now; second = words.now.sack.now }) }
+{
+    let client = TwoNames::new(alloc, words.creq, words.cack)?;
+    let server = TwoNames::new(alloc, words.sreq, words.sack)?;
+    Ok(Sides { client, server })
+}
+
+// The names that these words spell.
+fn roles_names(alloc: Global, words: &RolesWords<'_>) -> Result<RolesNames, NoMemory>
+    ensures { IfOk result (λ made. made ≡ record { process = words.now.process.now; creq = words.now.creq.now; cack = words.now.cack.now; sreq = words.now.sreq.now; sack = words.now.sack.now }) }
+{
+    let process = Name::from_slice(alloc, words.process)?;
+    let Sides { client, server } = sides_named(alloc, words)?;
+    Ok(RolesNames {
+        process,
+        creq: client.first,
+        cack: client.second,
+        sreq: server.first,
+        sack: server.second,
+    })
+}
+
+// The names that these words spell.
+fn resource_names(alloc: Global, words: &ResourceWords<'_>) -> Result<ResourceNames, NoMemory>
+    ensures { IfOk result (λ made. made ≡ record { process = words.now.process.now; acquire = words.now.acquire.now; release = words.now.release.now }) }
+{
+    let process = Name::from_slice(alloc, words.process)?;
+    let events = TwoNames::new(alloc, words.acquire, words.release)?;
+    Ok(ResourceNames {
+        process,
+        acquire: events.first,
+        release: events.second,
+    })
+}
+
+// The annotation of these names on the heap.
+fn roles_token(alloc: Global, names: RolesNames) -> Result<Token, NoMemory>
+    ensures { IfOk result (λ made. made ≡ token.Roles names) }
+{
+    Ok(Token::Roles(Boxed::new(alloc, names)?))
+}
+
+// The annotation of these names on the heap.
+fn resource_token(alloc: Global, names: ResourceNames) -> Result<Token, NoMemory>
+    ensures { IfOk result (λ made. made ≡ token.Resource names) }
+{
     Ok(Token::Resource(Boxed::new(alloc, names)?))
 }
 
-/// The annotation of the five names that the bytes are, or `None` where they are anything else.
-#[tactic(auto, unfolding(crate::specs::Annotations::roles))]
+// The annotation of the five names that the bytes are, or `None` where they are anything else.
 fn roles(alloc: Global, bytes: &[u8]) -> Result<Option<Token>, NoMemory>
     ensures { IfOk result (λ found. found ≡ roles bytes.now) }
 {
-    let Some((process, rest)) = next_name(bytes) else {
+    let Some(words) = roles_words(bytes) else {
         return Ok(None);
     };
-    let Some((creq, rest)) = next_name(rest) else {
-        return Ok(None);
-    };
-    let Some((cack, rest)) = next_name(rest) else {
-        return Ok(None);
-    };
-    let Some((sreq, rest)) = next_name(rest) else {
-        return Ok(None);
-    };
-    let Some((sack, rest)) = next_name(rest) else {
-        return Ok(None);
-    };
-    if !is_end(rest) {
-        return Ok(None);
-    }
-    let token = roles_token(alloc, process, creq, cack, sreq, sack)?;
+    let names = roles_names(alloc, &words)?;
+    let token = roles_token(alloc, names)?;
     Ok(Some(token))
 }
 
-/// The annotation of the three names that the bytes are, or `None` where they are anything else.
-#[tactic(auto, unfolding(crate::specs::Annotations::resource))]
+// The annotation of the three names that the bytes are, or `None` where they are anything else.
 fn resource(alloc: Global, bytes: &[u8]) -> Result<Option<Token>, NoMemory>
     ensures { IfOk result (λ found. found ≡ resource bytes.now) }
 {
-    let Some((process, rest)) = next_name(bytes) else {
+    let Some(words) = resource_words(bytes) else {
         return Ok(None);
     };
-    let Some((acquire, rest)) = next_name(rest) else {
-        return Ok(None);
-    };
-    let Some((release, rest)) = next_name(rest) else {
-        return Ok(None);
-    };
-    if !is_end(rest) {
-        return Ok(None);
-    }
-    let token = resource_token(alloc, process, acquire, release)?;
+    let names = resource_names(alloc, &words)?;
+    let token = resource_token(alloc, names)?;
     Ok(Some(token))
 }
 
-/// Adds the token, if there is one, and leaves the rest.
+// Adds the token, if there is one, and leaves the rest.
 fn pass_one<'a>(
     token: Option<Token>,
     at: Place,
@@ -188,7 +271,37 @@ fn pass_one<'a>(
     Ok(Some(rest))
 }
 
-/// Passes a line comment that begins with `--@` and these words, which may be an annotation.
+// Passes the annotation that gives the names of roles.
+fn pass_roles<'a>(
+    alloc: Global,
+    names: &[u8],
+    rest: &'a [u8],
+    at: Place,
+    found: &mut Tokens,
+) -> Result<Option<&'a [u8]>, NoMemory>
+    ensures passed { IfOk result (λ left. Passed (one_before at rest.now (roles names.now)) found.old found.new (option_copied left)) }
+    ensures same { IfOk result (λ left. IfSome left (λ left. left.now ≡ rest.now)) }
+{
+    let token = roles(alloc, names)?;
+    pass_one(token, at, rest, found)
+}
+
+// Passes the annotation that gives the names of a resource.
+fn pass_resource<'a>(
+    alloc: Global,
+    names: &[u8],
+    rest: &'a [u8],
+    at: Place,
+    found: &mut Tokens,
+) -> Result<Option<&'a [u8]>, NoMemory>
+    ensures passed { IfOk result (λ left. Passed (one_before at rest.now (resource names.now)) found.old found.new (option_copied left)) }
+    ensures same { IfOk result (λ left. IfSome left (λ left. left.now ≡ rest.now)) }
+{
+    let token = resource(alloc, names)?;
+    pass_one(token, at, rest, found)
+}
+
+// Passes a line comment that begins with `--@` and these words, which may be an annotation.
 #[tactic(auto, unfolding(crate::specs::Annotations::marked_piece))]
 fn pass_marked<'a>(
     alloc: Global,
@@ -202,17 +315,15 @@ fn pass_marked<'a>(
 {
     let (word, names) = split_word(words);
     if word == b"roles".as_slice() {
-        let token = roles(alloc, names)?;
-        return pass_one(token, at, rest, found);
+        return pass_roles(alloc, names, rest, at, found);
     }
     if word == b"resource".as_slice() {
-        let token = resource(alloc, names)?;
-        return pass_one(token, at, rest, found);
+        return pass_resource(alloc, names, rest, at, found);
     }
     Ok(Some(rest))
 }
 
-/// Passes a line comment, which may be an annotation.
+// Passes a line comment, which may be an annotation.
 #[tactic(auto, using(std::proofs::lemmas::List::take_rest), unfolding(crate::specs::Annotations::line_piece))]
 pub(crate) fn pass_line<'a>(
     alloc: Global,

@@ -1,9 +1,11 @@
 //! Assertions.
 
-ghost use Rattle.std.specs.Prelude.{◌≡◌, ◌≤◌, length, IfOk, Ok, Some};
+ghost use Rattle.std.specs.Prelude.{◌≡◌, ◌++◌, ◌∷◌, ◌≤◌, length, IfOk, OnOk, Ok, Some};
 ghost use Rattle.std.specs.Option.{option_copied};
 ghost use Rattle.csp_lexer.specs.Assertions.{asserted, assertion};
 ghost use Rattle.csp_lexer.specs.Passed.{Passed};
+ghost use Rattle.csp_text.specs.declared.token.Token.TheVariants as token;
+ghost use Rattle.csp_text.specs.declared.token.Word.TheVariants.{Assert};
 
 use crate::forms::is_deadlock_assertion;
 use crate::line::{cut_line, rest_len};
@@ -12,9 +14,16 @@ use crate::tokens::Tokens;
 use csp_base::{NoMemory, Place};
 use csp_text::{Token, Word};
 use std::alloc::Global;
-use std::mem;
 
-/// Adds the tokens of an assertion's line and the word before them, where they assert that a process is free of deadlock.
+// Adds the word at this place and the tokens of its line.
+fn add_assertion(alloc: Global, at: Place, line: Tokens, found: &mut Tokens) -> Result<(), NoMemory>
+    ensures { OnOk result (found.new.placed ≡ found.old.placed ++ (token.Word Assert, at) ∷ line.placed) }
+{
+    found.push(Token::Word(Word::Assert), at)?;
+    found.append(alloc, line)
+}
+
+// Adds the tokens of an assertion's line and the word before them, where they assert that a process is free of deadlock.
 fn add_line<'a>(
     alloc: Global,
     at: Place,
@@ -28,13 +37,11 @@ fn add_line<'a>(
     if !is_deadlock_assertion(line.as_slice()) {
         return Ok(rest);
     }
-    found.push(Token::Word(Word::Assert), at)?;
-    let before = mem::replace(found, Tokens::new(alloc, at));
-    *found = before.joined(line)?;
+    add_assertion(alloc, at, line, found)?;
     Ok(rest)
 }
 
-/// Passes what follows the word `assert`, which stands at this place.
+// Passes what follows the word `assert`, which stands at this place.
 #[tactic(auto, using(std::proofs::lemmas::List::take_rest), unfolding(crate::specs::Assertions::assertion))]
 pub(crate) fn pass_assertion<'a>(
     alloc: Global,
@@ -50,6 +57,5 @@ pub(crate) fn pass_assertion<'a>(
     let Some(line) = cut_line(alloc, &text[..len], behind_all(at, b"assert"))? else {
         return Ok(rest);
     };
-    let left = add_line(alloc, at, rest, line, found)?;
-    Ok(left)
+    add_line(alloc, at, rest, line, found)
 }

@@ -4,7 +4,7 @@ ghost use Rattle.std.specs.Prelude.{◌≡◌, ◌+◌, ◌<◌, ◌≤◌, ◌^
 ghost use Rattle.std.specs.Option.{option_copied};
 ghost use Rattle.csp_lexer.specs.Comments.{after_comments, line_len};
 
-/// How many bytes the text has up to its first line feed.
+// How many bytes the text has up to its first line feed.
 #[tactic(auto, unfolding(crate::specs::Comments::line_len))]
 pub(crate) fn line_len(text: &[u8]) -> usize
     ensures value { result ≡ line_len text.now }
@@ -13,7 +13,7 @@ pub(crate) fn line_len(text: &[u8]) -> usize
     text.iter().take_while(|b| **b != b'\n').count()
 }
 
-/// How many comments are open behind the first mark or byte of the text, and what is left of it.
+// How many comments are open behind the first mark or byte of the text, and what is left of it.
 fn pass_mark(nested: usize, text: &[u8]) -> (usize, &[u8])
     requires positive { 0 < nested }
     requires long { 2 ≤ length text.now }
@@ -31,7 +31,7 @@ fn pass_mark(nested: usize, text: &[u8]) -> (usize, &[u8])
     (nested, &text[1..])
 }
 
-/// What is left of the text once the comment is closed that is open at its front, or `None` where it is not closed.
+// What is left of the text once the comment is closed that is open at its front, or `None` where it is not closed.
 pub(crate) fn after_comment(text: &[u8]) -> Option<&[u8]>
     ensures value { option_copied result ≡ after_comments 1 text.now }
     ensures within { IfSome result (λ rest. length rest.now ≤ length text.now) }

@@ -7,7 +7,7 @@ ghost use Rattle.csp_lexer.specs.Assertions.{after_arguments, after_call, after_
 
 use csp_text::{Symbol, Token, symbol_text};
 
-/// Whether the token is this symbol.
+// Whether the token is this symbol.
 fn is_symbol(token: &Token, symbol: Symbol) -> bool
     ensures { result ≡ is_symbol symbol token.now }
 {
@@ -17,7 +17,7 @@ fn is_symbol(token: &Token, symbol: Symbol) -> bool
     }
 }
 
-/// Whether the token is this name.
+// Whether the token is this name.
 fn is_the_name(token: &Token, bytes: &[u8]) -> bool
     ensures { result ≡ is_the_name bytes.now token.now }
 {
@@ -27,7 +27,7 @@ fn is_the_name(token: &Token, bytes: &[u8]) -> bool
     }
 }
 
-/// Whether the token is a name.
+// Whether the token is a name.
 fn is_some_name(token: &Token) -> bool
     ensures { result ≡ is_some_name token.now }
 {
@@ -37,7 +37,7 @@ fn is_some_name(token: &Token) -> bool
     }
 }
 
-/// What follows the symbol at the front.
+// What follows the symbol at the front.
 #[tactic(auto, unfolding(crate::specs::Assertions::fit))]
 fn after_symbol(tokens: &[Token], symbol: Symbol) -> Option<&[Token]>
     ensures { (tests : List (TokenValue → Bool))
@@ -49,7 +49,7 @@ fn after_symbol(tokens: &[Token], symbol: Symbol) -> Option<&[Token]>
     }
 }
 
-/// What follows the name at the front.
+// What follows the name at the front.
 #[tactic(auto, unfolding(crate::specs::Assertions::fit))]
 fn after_name<'a>(tokens: &'a [Token], bytes: &[u8]) -> Option<&'a [Token]>
     ensures { (tests : List (TokenValue → Bool))
@@ -61,7 +61,7 @@ fn after_name<'a>(tokens: &'a [Token], bytes: &[u8]) -> Option<&'a [Token]>
     }
 }
 
-/// Whether the tokens are one closing bracket.
+// Whether the tokens are one closing bracket.
 #[tactic(auto, unfolding(crate::specs::Assertions::fit))]
 fn is_closed(tokens: &[Token]) -> bool
     ensures { result ≡ fit closed tokens.now }
@@ -72,7 +72,7 @@ fn is_closed(tokens: &[Token]) -> bool
     }
 }
 
-/// Whether the tokens are the model in brackets, and one closing bracket.
+// Whether the tokens are the model in brackets, and one closing bracket.
 fn is_in_model(tokens: &[Token], model: &[u8]) -> bool
     ensures { result ≡ fit (in_model model.now) tokens.now }
 {
@@ -88,7 +88,7 @@ fn is_in_model(tokens: &[Token], model: &[u8]) -> bool
     is_closed(rest)
 }
 
-/// What follows `: [ deadlock free` at the front.
+// What follows `: [ deadlock free` at the front.
 fn after_deadlock_free(tokens: &[Token]) -> Option<&[Token]>
     ensures { (tests : List (TokenValue → Bool))
         → fit (deadlock_free tests) tokens.now ≡ option_map_or (fit tests) (option_copied result) false }
@@ -108,14 +108,14 @@ fn after_deadlock_free(tokens: &[Token]) -> Option<&[Token]>
     Some(rest)
 }
 
-/// Whether the tokens close the bracket of `[ deadlock free`, with a model or without.
+// Whether the tokens close the bracket of `[ deadlock free`, with a model or without.
 fn is_closed_in_some_model(tokens: &[Token]) -> bool
     ensures { result ≡ (fit closed tokens.now || fit (in_model (codes "F")) tokens.now || fit (in_model (codes "FD")) tokens.now) }
 {
     is_closed(tokens) || is_in_model(tokens, b"F") || is_in_model(tokens, b"FD")
 }
 
-/// Whether the tokens say that what stands before them is free of deadlock.
+// Whether the tokens say that what stands before them is free of deadlock.
 fn is_deadlock_free(tokens: &[Token]) -> bool
     ensures { result ≡ is_deadlock_free tokens.now }
 {
@@ -125,7 +125,7 @@ fn is_deadlock_free(tokens: &[Token]) -> bool
     }
 }
 
-/// How many parentheses are open behind the token.
+// How many parentheses are open behind the token.
 fn open_behind(nested: usize, token: &Token) -> usize
     requires positive { 0 < nested }
     requires bounded { nested + 1 < 2 ^ 64 }
@@ -141,7 +141,7 @@ fn open_behind(nested: usize, token: &Token) -> usize
     nested
 }
 
-/// What follows once the parenthesis is closed that is open before the tokens.
+// What follows once the parenthesis is closed that is open before the tokens.
 fn after_closing(tokens: &[Token]) -> Option<&[Token]>
     ensures { option_copied result ≡ after_closing 1 tokens.now }
 {
@@ -157,7 +157,7 @@ fn after_closing(tokens: &[Token]) -> Option<&[Token]>
     Some(rest)
 }
 
-/// What follows a name, and its arguments where it has some.
+// What follows a name, and its arguments where it has some.
 #[tactic(auto, unfolding(crate::specs::Assertions::after_arguments))]
 fn after_arguments(tokens: &[Token]) -> Option<&[Token]>
     ensures { option_copied result ≡ after_arguments tokens.now }
@@ -168,7 +168,7 @@ fn after_arguments(tokens: &[Token]) -> Option<&[Token]>
     }
 }
 
-/// What follows the name at the front and its arguments.
+// What follows the name at the front and its arguments.
 #[tactic(auto, unfolding(crate::specs::Assertions::after_call))]
 fn after_call(tokens: &[Token]) -> Option<&[Token]>
     ensures { option_copied result ≡ after_call tokens.now }
@@ -179,7 +179,7 @@ fn after_call(tokens: &[Token]) -> Option<&[Token]>
     }
 }
 
-/// Whether the tokens assert that a process is free of deadlock.
+// Whether the tokens assert that a process is free of deadlock.
 pub(crate) fn is_deadlock_assertion(tokens: &[Token]) -> bool
     ensures { result ≡ is_deadlock_assertion tokens.now }
 {

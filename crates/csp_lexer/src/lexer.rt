@@ -1,9 +1,9 @@
 //! The lexer: it cuts a text into its tokens.
 
-ghost use Rattle.std.specs.Prelude.{◌≡◌, ◌<◌, ◌≤◌, true, nat_eq, codes, length, slice_index, IsTrue, IfOk, IfErr, IfSome, Ok, Err};
+ghost use Rattle.std.specs.Prelude.{◌≡◌, ◌<◌, ◌≤◌, true, nat_eq, codes, [], length, slice_index, IsTrue, IfOk, IfErr, IfSome, Ok, Err};
 ghost use Rattle.std.specs.List.{starts_with};
 ghost use Rattle.std.specs.Option.{option_copied};
-ghost use Rattle.csp_lexer.specs.Front.{begins_assertion, front, is_blank};
+ghost use Rattle.csp_lexer.specs.Front.{begins_assertion, front, is_blank, assertion_or_token};
 ghost use Rattle.csp_lexer.specs.Annotations.{line_comment};
 ghost use Rattle.csp_lexer.specs.Lexed.{IfNoScript, lexed};
 ghost use Rattle.csp_lexer.specs.Passed.{Passed};
@@ -19,14 +19,14 @@ use crate::words::word_len;
 use csp_base::{NoMemory, Place};
 use std::alloc::Global;
 
-/// Whether the byte has no meaning between tokens.
+// Whether the byte has no meaning between tokens.
 fn is_blank(b: u8) -> bool
     ensures { result ≡ is_blank b }
 {
     is_space(b) || b == b'\n'
 }
 
-/// Whether the text's first word is `assert`.
+// Whether the text's first word is `assert`.
 #[tactic(auto, unfolding(crate::specs::Front::begins_assertion))]
 fn begins_assertion(text: &[u8]) -> bool
     ensures value { result ≡ begins_assertion text.now }
@@ -37,7 +37,7 @@ fn begins_assertion(text: &[u8]) -> bool
     word == b"assert".as_slice()
 }
 
-/// Passes the line comment at the front of the text, which may be an annotation.
+// Passes the line comment at the front of the text, which may be an annotation.
 fn pass_line_comment<'a>(
     alloc: Global,
     text: &'a [u8],
@@ -53,7 +53,25 @@ fn pass_line_comment<'a>(
     Ok(left)
 }
 
-/// Passes the piece at the front of the text. The result is what is left of the text, or `None` where no piece stands there.
+// Passes the assertion or the token at the front of the text.
+#[tactic(auto, using(std::proofs::lemmas::List::take_rest))]
+fn pass_assertion_or_token<'a>(
+    alloc: Global,
+    text: &'a [u8],
+    at: Place,
+    found: &mut Tokens,
+) -> Result<Option<&'a [u8]>, NoMemory>
+    ensures passed { IfOk result (λ left. Passed (assertion_or_token at text.now) found.old found.new (option_copied left)) }
+    ensures shorter { IfOk result (λ left. IfSome left (λ left. length left.now < length text.now)) }
+{
+    if begins_assertion(text) {
+        let left = pass_assertion(alloc, &text[6..], at, found)?;
+        return Ok(Some(left));
+    }
+    pass_token(alloc, false, text, at, found)
+}
+
+// Passes the piece at the front of the text. The result is what is left of the text, or `None` where no piece stands there.
 #[tactic(auto, using(std::proofs::lemmas::List::take_rest), unfolding(crate::specs::Front::front))]
 fn pass_piece<'a>(
     alloc: Global,
@@ -69,18 +87,30 @@ fn pass_piece<'a>(
         return Ok(Some(&text[1..]));
     }
     if text.starts_with(b"--") {
-        let left = pass_line_comment(alloc, text, at, found)?;
-        return Ok(left);
+        return pass_line_comment(alloc, text, at, found);
     }
     if text.starts_with(b"{-") {
         return Ok(after_comment(&text[2..]));
     }
-    if begins_assertion(text) {
-        let left = pass_assertion(alloc, &text[6..], at, found)?;
-        return Ok(Some(left));
+    pass_assertion_or_token(alloc, text, at, found)
+}
+
+// Passes the whole text. The result is the place of its end.
+fn pass_all(alloc: Global, text: &[u8], found: &mut Tokens) -> Result<Place, LexFault>
+    requires { found.old.placed ≡ [] }
+    ensures found { IfOk result (λ end. lexed text.now ≡ Ok (record { placed = found.new.placed; end = end })) }
+    ensures none { IfErr result (λ fault. IfNoScript fault (λ at. lexed text.now ≡ Err at)) }
+{
+    let mut at = beginning();
+    let mut rest = text;
+    while !rest.is_empty() {
+        let Some(left) = pass_piece(alloc, rest, at, found)? else {
+            return Err(LexFault::NoScript { at });
+        };
+        at = behind_all(at, &rest[..rest.len() - left.len()]);
+        rest = left;
     }
-    let left = pass_token(alloc, false, text, at, found)?;
-    Ok(left)
+    Ok(at)
 }
 
 /// The tokens of the text with their places, or the place where it is no script.
@@ -91,15 +121,7 @@ pub fn lex(alloc: Global, text: &[u8]) -> Result<Tokens, LexFault>
     // The fault, but for want of memory, is that the text has no tokens; the place is the one where its first piece that is none begins.
     ensures none { IfErr result (λ fault. IfNoScript fault (λ at. lexed text.now ≡ Err at)) }
 {
-    let mut at = beginning();
-    let mut found = Tokens::new(alloc, at);
-    let mut rest = text;
-    while !rest.is_empty() {
-        let Some(left) = pass_piece(alloc, rest, at, &mut found)? else {
-            return Err(LexFault::NoScript { at });
-        };
-        at = behind_all(at, &rest[..rest.len() - left.len()]);
-        rest = left;
-    }
-    Ok(found.ended(at))
+    let mut found = Tokens::new(alloc, beginning());
+    let end = pass_all(alloc, text, &mut found)?;
+    Ok(found.ended(end))
 }

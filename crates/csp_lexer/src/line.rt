@@ -1,6 +1,6 @@
 //! The rest of an assertion's line.
 
-ghost use Rattle.std.specs.Prelude.{◌≡◌, ◌<◌, ◌≤◌, length, slice_index, IfOk, IfSome, Ok, Err, MatchOption};
+ghost use Rattle.std.specs.Prelude.{◌≡◌, ◌<◌, ◌≤◌, [], length, slice_index, IfOk, IfSome, Ok, Err, MatchOption};
 ghost use Rattle.std.specs.Option.{option_copied};
 ghost use Rattle.csp_lexer.specs.Assertions.{cut_line, ends_line, line_front, rest_len};
 ghost use Rattle.csp_lexer.specs.Passed.{Passed};
@@ -15,14 +15,14 @@ use crate::tokens::Tokens;
 use csp_base::{NoMemory, Place};
 use std::alloc::Global;
 
-/// Whether the rest of an assertion's line ends here.
+// Whether the rest of an assertion's line ends here.
 fn ends_line(text: &[u8]) -> bool
     ensures { result ≡ ends_line text.now }
 {
     text.starts_with(b"\n") || text.starts_with(b"--") || text.starts_with(b"{-")
 }
 
-/// How many bytes the rest of an assertion's line has.
+// How many bytes the rest of an assertion's line has.
 pub(crate) fn rest_len(text: &[u8]) -> usize
     ensures value { result ≡ rest_len text.now }
     ensures within { result ≤ length text.now }
@@ -37,7 +37,7 @@ pub(crate) fn rest_len(text: &[u8]) -> usize
     len
 }
 
-/// Passes the token at the front of the text.
+// Passes the token at the front of the text.
 pub(crate) fn pass_token<'a>(
     alloc: Global,
     on_line: bool,
@@ -55,7 +55,7 @@ pub(crate) fn pass_token<'a>(
     Ok(Some(&text[len..]))
 }
 
-/// Passes the blank or the token at the front of the rest of an assertion's line.
+// Passes the blank or the token at the front of the rest of an assertion's line.
 #[tactic(auto, using(std::proofs::lemmas::List::take_rest), unfolding(crate::specs::Assertions::line_front))]
 fn pass_on_line<'a>(
     alloc: Global,
@@ -73,20 +73,37 @@ fn pass_on_line<'a>(
     pass_token(alloc, true, text, at, found)
 }
 
-/// The tokens of the rest of an assertion's line, or `None` where it is anything but blanks and tokens.
-pub(crate) fn cut_line(alloc: Global, line: &[u8], at: Place) -> Result<Option<Tokens>, NoMemory>
-    ensures { IfOk result (λ found. MatchOption found
-        ((fault : PlaceValue) × (cut_line at line.now ≡ Err fault)) (λ cut. cut_line at line.now ≡ Ok cut)) }
+// Passes the whole rest of an assertion's line. The result is the place of its end, or `None` where it is anything but blanks and tokens.
+fn pass_all_on_line(
+    alloc: Global,
+    line: &[u8],
+    at: Place,
+    found: &mut Tokens,
+) -> Result<Option<Place>, NoMemory>
+    requires { found.old.placed ≡ [] }
+    ensures { IfOk result (λ end. MatchOption end
+        ((fault : PlaceValue) × (cut_line at line.now ≡ Err fault)) (λ end. cut_line at line.now ≡ Ok (record { placed = found.new.placed; end = end }))) }
 {
-    let mut found = Tokens::new(alloc, at);
     let mut at = at;
     let mut rest = line;
     while !rest.is_empty() {
-        let Some(left) = pass_on_line(alloc, rest, at, &mut found)? else {
+        let Some(left) = pass_on_line(alloc, rest, at, found)? else {
             return Ok(None);
         };
         at = behind_all(at, &rest[..rest.len() - left.len()]);
         rest = left;
     }
-    Ok(Some(found.ended(at)))
+    Ok(Some(at))
+}
+
+// The tokens of the rest of an assertion's line, or `None` where it is anything but blanks and tokens.
+pub(crate) fn cut_line(alloc: Global, line: &[u8], at: Place) -> Result<Option<Tokens>, NoMemory>
+    ensures { IfOk result (λ found. MatchOption found
+        ((fault : PlaceValue) × (cut_line at line.now ≡ Err fault)) (λ cut. cut_line at line.now ≡ Ok cut)) }
+{
+    let mut found = Tokens::new(alloc, at);
+    match pass_all_on_line(alloc, line, at, &mut found)? {
+        Some(end) => Ok(Some(found.ended(end))),
+        None => Ok(None),
+    }
 }

@@ -5,14 +5,14 @@ ghost use Rattle.csp_lexer.specs.Places.{beginning, behind, behind_all};
 
 use csp_base::Place;
 
-/// Where a text begins.
+// Where a text begins.
 pub(crate) fn beginning() -> Place
     ensures { result ≡ beginning }
 {
     Place { line: 1, column: 1 }
 }
 
-/// The place behind a byte.
+// The place behind a byte.
 fn behind(at: Place, byte: u8) -> Place
     ensures { result ≡ behind at byte }
 {
@@ -29,7 +29,7 @@ fn behind(at: Place, byte: u8) -> Place
     }
 }
 
-/// The place behind some bytes.
+// The place behind some bytes.
 pub(crate) fn behind_all(at: Place, bytes: &[u8]) -> Place
     ensures { result ≡ behind_all at bytes.now }
 {

@@ -10,10 +10,10 @@ use csp_base::{Name, NoMemory};
 use csp_text::{Token, symbol_text};
 use std::alloc::Global;
 
-/// The greatest number that a script may have.
+// The greatest number that a script may have.
 const GREATEST_NUMBER: u32 = 1_000_000;
 
-/// How many digits the text begins with.
+// How many digits the text begins with.
 #[tactic(auto, unfolding(crate::specs::Tokens::digits_len))]
 fn digits_len(text: &[u8]) -> usize
     ensures value { result ≡ digits_len text.now }
@@ -24,7 +24,7 @@ fn digits_len(text: &[u8]) -> usize
         .count()
 }
 
-/// The number that the digits are, or `None` where it is too great.
+// The number that the digits are, or `None` where it is too great.
 fn number_token(digits: &[u8]) -> Option<Token>
     ensures { result ≡ number_token digits.now }
 {
@@ -38,7 +38,7 @@ fn number_token(digits: &[u8]) -> Option<Token>
     Some(Token::Num(number))
 }
 
-/// The token that the word is, or `None` where only a larger language has it.
+// The token that the word is, or `None` where only a larger language has it.
 fn word_token(alloc: Global, word: &[u8]) -> Result<Option<Token>, NoMemory>
     ensures { IfOk result (λ found. found ≡ word_token word.now) }
 {
@@ -52,7 +52,7 @@ fn word_token(alloc: Global, word: &[u8]) -> Result<Option<Token>, NoMemory>
     Ok(Some(Token::Name(name)))
 }
 
-/// The token that the text begins with, and how many bytes it takes; on the line of an assertion or elsewhere.
+// The token that the text begins with, and how many bytes it takes; on the line of an assertion or elsewhere.
 #[tactic(auto, unfolding(crate::specs::Tokens::token_at))]
 pub(crate) fn token_at(
     alloc: Global,
@@ -80,7 +80,7 @@ pub(crate) fn token_at(
     }
 }
 
-/// A token with its length.
+// A token with its length.
 fn with_len(len: usize, found: Option<Token>) -> Option<(Token, usize)>
     ensures { result ≡ with_len len found }
 {

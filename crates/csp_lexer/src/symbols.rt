@@ -6,7 +6,7 @@ ghost use Rattle.csp_text.specs.Written.{symbol_text};
 
 use csp_text::{Symbol, symbol_text};
 
-/// All symbols, longer ones first.
+// All symbols, longer ones first.
 const SYMBOLS: [Symbol; 38] = [
     Symbol::InternalChoice,
     Symbol::Arrow,
@@ -48,7 +48,7 @@ const SYMBOLS: [Symbol; 38] = [
     Symbol::Semicolon,
 ];
 
-/// The longest symbol that the text begins with.
+// The longest symbol that the text begins with.
 fn longest_symbol(text: &[u8]) -> Option<Symbol>
     ensures value { result ≡ longest_symbol text.now }
     ensures longest { IsLongest text.now result }
@@ -60,7 +60,7 @@ fn longest_symbol(text: &[u8]) -> Option<Symbol>
         .copied()
 }
 
-/// The symbol that the text begins with. On the line of an assertion each bracket is a symbol by itself.
+// The symbol that the text begins with. On the line of an assertion each bracket is a symbol by itself.
 #[tactic(auto, unfolding(crate::specs::Symbols::symbol_at))]
 pub(crate) fn symbol_at(on_line: bool, text: &[u8]) -> Option<Symbol>
     ensures value { result ≡ symbol_at on_line text.now }

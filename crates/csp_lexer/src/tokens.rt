@@ -8,6 +8,7 @@ use csp_base::{NoMemory, Place};
 use csp_text::Token;
 use std::alloc::Global;
 use std::marker::Model;
+use std::mem;
 
 /// The tokens of a text in order, each with the place where it begins, and the place of the text's end.
 #[derive(Drop)]
@@ -30,7 +31,7 @@ impl Model for Tokens {
 }
 
 impl Tokens {
-    /// The tokens of the empty text.
+    // The tokens of the empty text.
     pub(crate) fn new(alloc: Global, at: Place) -> Tokens
         ensures placed { result.placed ≡ [] }
         ensures end { result.end ≡ at }
@@ -42,29 +43,33 @@ impl Tokens {
         }
     }
 
-    /// Adds a token that begins at this place.
+    // Adds a token that begins at this place.
     pub(crate) fn push(&mut self, token: Token, at: Place) -> Result<(), NoMemory>
         ensures { OnOk result (self.new.placed ≡ self.old.placed ++ (token, at) ∷ []) }
     {
-        self.places.push(at)?;
-        if let Err(fault) = self.tokens.push(token) {
-            self.places.pop();
+        self.tokens.push(token)?;
+        if let Err(fault) = self.places.push(at) {
+            let_go(self.tokens.pop());
             return Err(fault);
         }
         Ok(())
     }
 
-    /// These tokens and then those of the text behind.
-    pub(crate) fn joined(self, behind: Tokens) -> Result<Tokens, NoMemory>
+    // Adds the tokens of the text behind.
+    pub(crate) fn append(&mut self, alloc: Global, behind: Tokens) -> Result<(), NoMemory>
+        ensures { OnOk result (self.new.placed ≡ self.old.placed ++ behind.placed) }
+    {
+        let before = mem::replace(self, Tokens::new(alloc, behind.end));
+        *self = before.joined(behind)?;
+        Ok(())
+    }
+
+    // These tokens and then those of the text behind.
+    fn joined(self, behind: Tokens) -> Result<Tokens, NoMemory>
         ensures { IfOk result (λ all. all.placed ≡ self.placed ++ behind.placed) }
     {
-        let Tokens {
-            mut tokens,
-            mut places,
-            ..
-        } = self;
-        append(&mut tokens, behind.tokens)?;
-        append(&mut places, behind.places)?;
+        let tokens = joined_items(self.tokens, behind.tokens)?;
+        let places = joined_items(self.places, behind.places)?;
         Ok(Tokens {
             tokens,
             places,
@@ -72,7 +77,7 @@ impl Tokens {
         })
     }
 
-    /// The same tokens of a text that ends at this place.
+    // The same tokens of a text that ends at this place.
     pub(crate) fn ended(self, at: Place) -> Tokens
         ensures { result ≡ record { placed = self.placed; end = at } }
     {
@@ -101,12 +106,15 @@ impl Tokens {
     }
 }
 
-// Puts all items at the end.
-fn append<T: Drop>(items: &mut Items<T>, more: Items<T>) -> Result<(), NoMemory>
-    ensures { OnOk result (items.new ≡ items.old ++ more) }
+// Ends the value here, and not where it would be ended among other things.
+fn let_go<T: Drop>(_value: T) {}
+
+// The items and then more of them.
+fn joined_items<T: Drop>(items: Items<T>, more: Items<T>) -> Result<Items<T>, NoMemory>
+    ensures { IfOk result (λ all. all ≡ items ++ more) }
 {
-    for item in more.into_vec() {
-        items.push(item)?;
-    }
-    Ok(())
+    let mut all = items.into_vec();
+    let mut more = more.into_vec();
+    all.append(&mut more)?;
+    Ok(Items::from_vec(all))
 }

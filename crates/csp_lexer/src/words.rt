@@ -19,7 +19,7 @@ fn is_name_byte(b: u8) -> bool
     is_letter(b) || matches!(b, b'0'..=b'9') || b == b'_'
 }
 
-/// How many letters, digits and underscores the text begins with.
+// How many letters, digits and underscores the text begins with.
 fn name_bytes(text: &[u8]) -> usize
     ensures value { result ≡ prefix_len is_name_byte text.now }
     ensures within { result ≤ length text.now }
@@ -27,7 +27,7 @@ fn name_bytes(text: &[u8]) -> usize
     text.iter().take_while(|b| is_name_byte(**b)).count()
 }
 
-/// How many primes the text begins with.
+// How many primes the text begins with.
 fn primes(text: &[u8]) -> usize
     ensures value { result ≡ prefix_len is_prime text.now }
     ensures within { result ≤ length text.now }
@@ -35,7 +35,7 @@ fn primes(text: &[u8]) -> usize
     text.iter().take_while(|b| **b == b'\'').count()
 }
 
-/// How many bytes of the text may follow the first letter of a word.
+// How many bytes of the text may follow the first letter of a word.
 fn word_rest_len(text: &[u8]) -> usize
     ensures value { result ≡ word_rest_len text.now }
     ensures within { result ≤ length text.now }
@@ -44,7 +44,7 @@ fn word_rest_len(text: &[u8]) -> usize
     names + primes(&text[names..])
 }
 
-/// How many bytes the longest word at the front of the text has, or 0 where the text begins with none.
+// How many bytes the longest word at the front of the text has, or 0 where the text begins with none.
 #[tactic(auto, unfolding(crate::specs::Words::word_len))]
 pub(crate) fn word_len(text: &[u8]) -> usize
     ensures value { result ≡ word_len text.now }
@@ -56,7 +56,7 @@ pub(crate) fn word_len(text: &[u8]) -> usize
     }
 }
 
-/// The words that the language reserves.
+// The words that the language reserves.
 const WORDS: [Word; 17] = [
     Word::And,
     Word::Assert,
@@ -77,7 +77,7 @@ const WORDS: [Word; 17] = [
     Word::Skip,
 ];
 
-/// The reserved word that the bytes are.
+// The reserved word that the bytes are.
 pub(crate) fn reserved_word(bytes: &[u8]) -> Option<Word>
     ensures { result ≡ reserved_word bytes.now }
 {
@@ -87,7 +87,7 @@ pub(crate) fn reserved_word(bytes: &[u8]) -> Option<Word>
         .copied()
 }
 
-/// The words that only a larger language reserves.
+// The words that only a larger language reserves.
 const FOREIGN_WORDS: [&[u8]; 10] = [
     b"external",
     b"include",
@@ -101,14 +101,14 @@ const FOREIGN_WORDS: [&[u8]; 10] = [
     b"within",
 ];
 
-/// Whether only a larger language reserves the word.
+// Whether only a larger language reserves the word.
 pub(crate) fn is_foreign(word: &[u8]) -> bool
     ensures { result ≡ is_foreign word.now }
 {
     FOREIGN_WORDS.iter().any(|foreign| word == *foreign)
 }
 
-/// Whether the bytes are a word that is not reserved.
+// Whether the bytes are a word that is not reserved.
 #[tactic(auto, unfolding(crate::specs::Words::is_name))]
 pub(crate) fn is_name(bytes: &[u8]) -> bool
     ensures { result ≡ is_name bytes.now }

@@ -6,7 +6,8 @@ use Rattle.tree_reading.specs.Answers.{IfNoText}
 use Rattle.tree_reading.specs.declared.fault.ReadFault.{ReadFault}
 use Rattle.tree_reading.specs.declared.fault.ReadFault.TheVariants as fault
 
-same_fault : (B : Type 0) (f : ReadFault) (P Q : Type 0) → IfNoText {A = Unit {0}} (Err f) P → (P → Q) → IfNoText {A = B} (Err f) Q
+-- a fault of a part, where it is handed on as it is
+pub same_fault : (B : Type 0) (f : ReadFault) (P Q : Type 0) → IfNoText {A = Unit {0}} (Err f) P → (P → Q) → IfNoText {A = B} (Err f) Q
 same_fault B fault.NoMemory P Q h k = tt
 same_fault B (fault.NoText left) P Q h k = k h
 

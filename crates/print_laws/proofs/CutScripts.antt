@@ -13,10 +13,10 @@ use Rattle.csp_text.specs.declared.tree.Tree.{Tree}
 use Rattle.csp_text.specs.declared.tree.Tree.TheVariants as tree
 use Rattle.csp_text.specs.declared.script.Decl.{Decl}
 use Rattle.csp_text.specs.declared.script.Decl.TheVariants as decl
-use Rattle.csp_lexer.specs.declared.tokens.Tokens.{Tokens}
 use Rattle.csp_lexer.specs.Assertions.{after_arguments, after_call, after_closing, asserted, assertion, cut_line, fit, is_deadlock_assertion, line_front, rest_len}
 use Rattle.csp_lexer.specs.Front.{begins_assertion, front}
 use Rattle.csp_lexer.specs.Pieces.{Piece}
+use Rattle.csp_lexer.specs.Placed.{PlacedTokens}
 use Rattle.csp_lexer.specs.Places.{behind_all}
 use Rattle.csp_lexer.specs.Words.{is_foreign, is_name, reserved_word, word_len, word_rest_len}
 use Rattle.script_printer.specs.PrintedTree.{item_tokens, operand_tokens, printed_tokens, separated}
@@ -137,14 +137,14 @@ on_line_is at x w rest e h =
     ∙ ap (λ l. asserted at (drop (length x) l) (cut_line (behind_all at (codes "assert")) (take (length x) l))) e
     ∙ (λ i. asserted at (drop-append_seam x (10 ∷ rest) i) (cut_line (behind_all at (codes "assert")) (take-append_seam x (10 ∷ rest) i)))
 
-taken : (at : Place) (rest : List ℕ) (result : Result Tokens Place) (ts : List Token) → is_deadlock_assertion ts ≡ true → (c : IsCut result ts) →
-    asserted at rest result ≡ record { tokens = Word word.Assert ∷ c.found.tokens; places = at ∷ c.found.places; rest = rest }
+taken : (at : Place) (rest : List ℕ) (result : Result PlacedTokens Place) (ts : List Token) → is_deadlock_assertion ts ≡ true → (c : IsCut result ts) →
+    asserted at rest result ≡ record { placed = (Word word.Assert, at) ∷ c.found.placed; rest = rest }
 taken at rest result ts h c = ap (asserted at rest) c.is ∙ cond-true _ _ _ (ap is_deadlock_assertion c.same ∙ h)
 
-piece_of : (at : Place) (w rest : List ℕ) (ts : List Token) (result : Result Tokens Place) → is_deadlock_assertion ts ≡ true → IsCut result ts → assertion at w ≡ asserted at rest result →
+piece_of : (at : Place) (w rest : List ℕ) (ts : List Token) (result : Result PlacedTokens Place) → is_deadlock_assertion ts ≡ true → IsCut result ts → assertion at w ≡ asserted at rest result →
     {found : Option Piece} → found ≡ Some (assertion at w) → IsPiece found (Word word.Assert ∷ ts) rest
 piece_of at w rest ts result h c e f = record {
-  piece = record { tokens = Word word.Assert ∷ c.found.tokens; places = at ∷ c.found.places; rest = rest };
+  piece = record { placed = (Word word.Assert, at) ∷ c.found.placed; rest = rest };
   is = f ∙ ap Some (e ∙ taken at rest result ts h c);
   tokens_are = ap (λ l. Word word.Assert ∷ l) c.same;
   rest_is = refl;

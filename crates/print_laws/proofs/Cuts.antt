@@ -1,18 +1,19 @@
 -- Texts that are cut into these tokens, wherever they begin.
 use Rattle.std.proofs.Common.{◌≡◌, ℕ, zero, suc, ◌≤◌, ◌<◌, List, [], ◌∷◌, ◌++◌, length, refl, ap, ◌∙◌, arith}
+use Rattle.std.proofs.lemmas.List.{map-append}
 use Rattle.std.specs.Prelude.{Option, Some, Result, Ok}
 use Rattle.csp_base.specs.declared.place.Place.{Place}
 use Rattle.csp_text.specs.declared.token.Token.{Token}
-use Rattle.csp_lexer.specs.declared.tokens.Tokens.{Tokens}
 use Rattle.csp_lexer.specs.Cutting.{added, before, cut, then_cut}
 use Rattle.csp_lexer.specs.Pieces.{Piece}
+use Rattle.csp_lexer.specs.Placed.{PlacedTokens, tokens_of}
 use Rattle.csp_lexer.specs.Places.{behind_all}
 
 -- the cut gives these tokens
-pub record IsCut (result : Result Tokens Place) (tokens : List Token) : Type 0 where
-  pub found : Tokens
+pub record IsCut (result : Result PlacedTokens Place) (tokens : List Token) : Type 0 where
+  pub found : PlacedTokens
   pub is : result ≡ Ok found
-  pub same : found.tokens ≡ tokens
+  pub same : tokens_of found.placed ≡ tokens
 
 -- the text is cut into these tokens
 pub record Cuts (front : Place → List ℕ → Option Piece) (text : List ℕ) (tokens : List Token) : Type 0 where
@@ -22,7 +23,7 @@ pub record Cuts (front : Place → List ℕ → Option Piece) (text : List ℕ) 
 pub record IsPiece (result : Option Piece) (tokens : List Token) (rest : List ℕ) : Type 0 where
   pub piece : Piece
   pub is : result ≡ Some piece
-  pub tokens_are : piece.tokens ≡ tokens
+  pub tokens_are : tokens_of piece.placed ≡ tokens
   pub rest_is : piece.rest ≡ rest
 
 -- a piece of these tokens stands at the front of the text
@@ -30,11 +31,11 @@ pub record Stands (front : Place → List ℕ → Option Piece) (text : List ℕ
   pub stands : (at : Place) → IsPiece (front at text) tokens rest
   pub shorter : length rest < length text
 
-added_is : (ts us : List Token) (piece : Piece) (result : Result Tokens Place) → piece.tokens ≡ ts → IsCut result us → IsCut (added piece.tokens piece.places result) (ts ++ us)
+added_is : (ts us : List Token) (piece : Piece) (result : Result PlacedTokens Place) → tokens_of piece.placed ≡ ts → IsCut result us → IsCut (added piece.placed result) (ts ++ us)
 added_is ts us piece result e c = record {
-  found = record { tokens = piece.tokens ++ c.found.tokens; places = piece.places ++ c.found.places; end = c.found.end };
-  is = ap (added piece.tokens piece.places) c.is;
-  same = λ i. e i ++ c.same i;
+  found = record { placed = piece.placed ++ c.found.placed; end = c.found.end };
+  is = ap (added piece.placed) c.is;
+  same = map-append (λ p. p.0) piece.placed c.found.placed ∙ (λ i. e i ++ c.same i);
 }
 
 cut_step : (front : Place → List ℕ → Option Piece) (text rest : List ℕ) (ts us : List Token) → Stands front text ts rest → Cuts front rest us →
@@ -52,7 +53,7 @@ cut_step front (b ∷ text) rest ts us s c (suc n) at h =
       found = made.found;
       is =
           ap (λ o. then_cut o at (λ piece. cut front n (behind_all at (before (b ∷ text) piece.rest)) piece.rest)) p.is
-          ∙ ap (λ r. added p.piece.tokens p.piece.places (cut front n at' r)) p.rest_is ∙ made.is;
+          ∙ ap (λ r. added p.piece.placed (cut front n at' r)) p.rest_is ∙ made.is;
       same = made.same;
     }
 
@@ -62,8 +63,8 @@ cuts_more {front} {text} {rest} {ts} {us} s c = record { cuts = cut_step front t
 
 nothing_cut : (front : Place → List ℕ → Option Piece) (n : ℕ) (at : Place) → IsCut (cut front n at []) []
 unfolding cut
-nothing_cut front zero at = record { found = record { tokens = []; places = []; end = at }; is = refl; same = refl }
-nothing_cut front (suc n) at = record { found = record { tokens = []; places = []; end = at }; is = refl; same = refl }
+nothing_cut front zero at = record { found = record { placed = []; end = at }; is = refl; same = refl }
+nothing_cut front (suc n) at = record { found = record { placed = []; end = at }; is = refl; same = refl }
 
 pub cuts_nothing : (front : Place → List ℕ → Option Piece) → Cuts front [] []
 cuts_nothing front = record { cuts = λ n at h. nothing_cut front n at }

@@ -1,6 +1,7 @@
 -- The tokens that the lexer finds are well formed, and stand in lines.
 use Rattle.std.proofs.Common.{◌≡◌, ℕ, zero, suc, Bool, true, false, ◌&&◌, ◌||◌, List, [], ◌∷◌, ◌++◌, length, take, drop, codes, refl, sym, ◌∙◌, subst}
 use Rattle.std.proofs.lemmas.Bool.{false≢true}
+use Rattle.std.proofs.lemmas.List.{map-append}
 use Rattle.std.specs.Prelude.{Option, Some, None, Result, Ok, Err, nat_eq, if◌then◌else◌, slice_index}
 use Rattle.std.specs.List.{starts_with}
 use Rattle.std.specs.Option.{option_map_or}
@@ -11,14 +12,14 @@ use Rattle.csp_text.specs.declared.token.Token.TheVariants as token
 use Rattle.csp_text.specs.declared.token.Word.{Word}
 use Rattle.csp_text.specs.declared.token.Word.TheVariants as word
 use Rattle.csp_text.specs.declared.token.Symbol.TheVariants as symbol
-use Rattle.csp_lexer.specs.declared.tokens.Tokens.{Tokens}
 use Rattle.csp_lexer.specs.Annotations.{after_word, first_word, is_space, line_comment, line_piece, marked_piece, resource, roles}
 use Rattle.csp_lexer.specs.Assertions.{after_arguments, after_call, after_closing, asserted, assertion, closed, cut_line, deadlock_free, fit, in_model, is_deadlock_assertion, is_deadlock_free, is_some_name, is_symbol, line_front, rest_len}
 use Rattle.csp_lexer.specs.Comments.{after_comments, line_len}
 use Rattle.csp_lexer.specs.Cutting.{added, before, cut, then_cut}
-use Rattle.csp_lexer.specs.Front.{begins_assertion, front, is_blank}
+use Rattle.csp_lexer.specs.Front.{begins_assertion, front, is_blank, assertion_or_token}
 use Rattle.csp_lexer.specs.Lexed.{lexed}
 use Rattle.csp_lexer.specs.Pieces.{Piece, nothing, nothing_before, one_at, one_before}
+use Rattle.csp_lexer.specs.Placed.{PlacedTokens, tokens_of}
 use Rattle.csp_lexer.specs.Places.{beginning, behind_all}
 use Rattle.csp_lexer.specs.Tokens.{token_at}
 use Rattle.print_laws.specs.Fits.{Every, Fits, FitsLine}
@@ -27,20 +28,20 @@ use Rattle.print_laws.specs.Lines as position
 use Rattle.print_laws.proofs.FoundTokens.{IsQuietToken, IsToken, Of, line_token_fits, of_if, resource_fits, roles_fit, token_fits}
 
 -- what holds of a cut, where there is one
-abbrev pub OfOk : (List Token → Type 0) → Result Tokens Place → Type 0
-OfOk P (Ok found) = P found.tokens
+abbrev pub OfOk : (List Token → Type 0) → Result PlacedTokens Place → Type 0
+OfOk P (Ok found) = P (tokens_of found.placed)
 OfOk P (Err at) = Unit {0}
 
 -- what holds of the tokens of each piece holds of those of a text
 module _ (cutter : Place → List ℕ → Option Piece) (P R : List Token → Type 0) (none : P []) (more : (ts us : List Token) → R ts → P us → P (ts ++ us))
-    (pieces : (at : Place) (text : List ℕ) → Of (λ piece. R piece.tokens) (cutter at text)) where
-  added_holds : (ts : List Token) (places : List Place) (result : Result Tokens Place) → R ts → OfOk P result → OfOk P (added ts places result)
-  added_holds ts places (Ok found) r p = more ts found.tokens r p
-  added_holds ts places (Err at) r p = tt
+    (pieces : (at : Place) (text : List ℕ) → Of (λ piece. R (tokens_of piece.placed)) (cutter at text)) where
+  added_holds : (placed : List (Token × Place)) (result : Result PlacedTokens Place) → R (tokens_of placed) → OfOk P result → OfOk P (added placed result)
+  added_holds placed (Ok found) r p = subst P (sym (map-append (λ p. p.0) placed found.placed)) (more (tokens_of placed) (tokens_of found.placed) r p)
+  added_holds placed (Err at) r p = tt
 
-  then_holds : (o : Option Piece) (at : Place) (go : Piece → Result Tokens Place) → Of (λ piece. R piece.tokens) o → ((piece : Piece) → OfOk P (go piece)) → OfOk P (then_cut o at go)
+  then_holds : (o : Option Piece) (at : Place) (go : Piece → Result PlacedTokens Place) → Of (λ piece. R (tokens_of piece.placed)) o → ((piece : Piece) → OfOk P (go piece)) → OfOk P (then_cut o at go)
   then_holds None at go r p = tt
-  then_holds (Some piece) at go r p = added_holds piece.tokens piece.places (go piece) r (p piece)
+  then_holds (Some piece) at go r p = added_holds piece.placed (go piece) r (p piece)
 
   pub cut_holds : (n : ℕ) (at : Place) (text : List ℕ) → OfOk P (cut cutter n at text)
   unfolding cut
@@ -57,15 +58,15 @@ every_more P (t ∷ ts) us p q = (p.0, every_more P ts us p.1 q)
 
 -- the line of an assertion
 
-line_one_fits : (at : Place) (text : List ℕ) (o : Option (Token × ℕ)) → Of (λ found. FitsLine found.0) o → Of (λ piece. Every FitsLine piece.tokens) (one_at at text o)
+line_one_fits : (at : Place) (text : List ℕ) (o : Option (Token × ℕ)) → Of (λ found. FitsLine found.0) o → Of (λ piece. Every FitsLine (tokens_of piece.placed)) (one_at at text o)
 line_one_fits at text None p = tt
 line_one_fits at text (Some found) p = (p, tt)
 
-line_piece_fits : (at : Place) (text : List ℕ) → Of (λ piece. Every FitsLine piece.tokens) (line_front at text)
+line_piece_fits : (at : Place) (text : List ℕ) → Of (λ piece. Every FitsLine (tokens_of piece.placed)) (line_front at text)
 unfolding line_front
 line_piece_fits at [] = tt
 line_piece_fits at (b ∷ text) =
-    of_if (λ piece. Every FitsLine piece.tokens) (is_space b) (Some (nothing text)) (one_at at (b ∷ text) (token_at true (b ∷ text)))
+    of_if (λ piece. Every FitsLine (tokens_of piece.placed)) (is_space b) (Some (nothing text)) (one_at at (b ∷ text) (token_at true (b ∷ text)))
     (λ h. tt) (λ h. line_one_fits at (b ∷ text) (token_at true (b ∷ text)) (line_token_fits (b ∷ text)))
 
 line_fits : (at : Place) (text : List ℕ) → OfOk (Every FitsLine) (cut_line at text)
@@ -213,22 +214,22 @@ assertion_lines : (ts later : List Token) → Every FitsLine ts → is_deadlock_
 unfolding Lines
 assertion_lines ts later f h l = word_lines ts later f h l
 
-taken_fits : (at : Place) (rest : List ℕ) (line : Tokens) → Every FitsLine line.tokens → (b : Bool) → is_deadlock_assertion line.tokens ≡ b →
-    PieceFits (let p : Piece = if b then (record { tokens = token.Word word.Assert ∷ line.tokens; places = at ∷ line.places; rest = rest }) else nothing rest in p.tokens)
-taken_fits at rest line f true h = record { fits = (tt, all_off_line line.tokens f); lines = λ later l. assertion_lines line.tokens later f h l }
+taken_fits : (at : Place) (rest : List ℕ) (line : PlacedTokens) → Every FitsLine (tokens_of line.placed) → (b : Bool) → is_deadlock_assertion (tokens_of line.placed) ≡ b →
+    PieceFits (let p : Piece = if b then (record { placed = (token.Word word.Assert, at) ∷ line.placed; rest = rest }) else nothing rest in tokens_of p.placed)
+taken_fits at rest line f true h = record { fits = (tt, all_off_line (tokens_of line.placed) f); lines = λ later l. assertion_lines (tokens_of line.placed) later f h l }
 taken_fits at rest line f false h = nothing_fits
 
-asserted_fits : (at : Place) (rest : List ℕ) (result : Result Tokens Place) → OfOk (Every FitsLine) result → PieceFits (let p : Piece = asserted at rest result in p.tokens)
-asserted_fits at rest (Ok line) f = taken_fits at rest line f (is_deadlock_assertion line.tokens) refl
+asserted_fits : (at : Place) (rest : List ℕ) (result : Result PlacedTokens Place) → OfOk (Every FitsLine) result → PieceFits (let p : Piece = asserted at rest result in tokens_of p.placed)
+asserted_fits at rest (Ok line) f = taken_fits at rest line f (is_deadlock_assertion (tokens_of line.placed)) refl
 asserted_fits at rest (Err fault) f = nothing_fits
 
-assertion_fits : (at : Place) (text : List ℕ) → PieceFits (let p : Piece = assertion at text in p.tokens)
+assertion_fits : (at : Place) (text : List ℕ) → PieceFits (let p : Piece = assertion at text in tokens_of p.placed)
 unfolding assertion
 assertion_fits at text =
     asserted_fits at (drop (rest_len text) text) (cut_line (behind_all at (codes "assert")) (take (rest_len text) text)) (line_fits (behind_all at (codes "assert")) (take (rest_len text) text))
 
 abbrev Fitting : Piece → Type 0
-Fitting piece = PieceFits piece.tokens
+Fitting piece = PieceFits (tokens_of piece.placed)
 
 one_before_fits : (at : Place) (rest : List ℕ) (o : Option Token) → Of IsQuietToken o → Of Fitting (one_before at rest o)
 one_before_fits at rest None p = tt
@@ -260,11 +261,8 @@ unfolding line_piece
 comment_fits at line rest =
     of_if Fitting (starts_with nat_eq line (codes "--@")) (marked_piece at (drop 3 line) rest) (Some (nothing rest)) (λ h. marked_fits at (drop 3 line) rest) (λ h. nothing_fits)
 
-abbrev fourth : Place → List ℕ → Option Piece
-fourth at text = if begins_assertion text then Some (assertion at (drop 6 text)) else one_at at text (token_at false text)
-
 abbrev third : Place → List ℕ → Option Piece
-third at text = if starts_with nat_eq text (codes "{-") then nothing_before (after_comments 1 (drop 2 text)) else fourth at text
+third at text = if starts_with nat_eq text (codes "{-") then nothing_before (after_comments 1 (drop 2 text)) else assertion_or_token at text
 
 abbrev second : Place → List ℕ → Option Piece
 second at text = if starts_with nat_eq text (codes "--") then line_comment at text else third at text
@@ -274,7 +272,7 @@ unfolding front
 front_fits at text =
     of_if Fitting (is_blank (slice_index text 0)) (Some (nothing (drop 1 text))) (second at text) (λ h. nothing_fits)
     (λ h. of_if Fitting (starts_with nat_eq text (codes "--")) (line_comment at text) (third at text) (λ k. comment_fits at (take (line_len text) text) (drop (line_len text) text))
-    (λ k. of_if Fitting (starts_with nat_eq text (codes "{-")) (nothing_before (after_comments 1 (drop 2 text))) (fourth at text) (λ l. nothing_before_fits (after_comments 1 (drop 2 text)))
+    (λ k. of_if Fitting (starts_with nat_eq text (codes "{-")) (nothing_before (after_comments 1 (drop 2 text))) (assertion_or_token at text) (λ l. nothing_before_fits (after_comments 1 (drop 2 text)))
     (λ l. of_if Fitting (begins_assertion text) (Some (assertion at (drop 6 text))) (one_at at text (token_at false text)) (λ e. assertion_fits at (drop 6 text))
     (λ e. one_at_fits at text (token_at false text) e (token_fits text)))))
 
@@ -291,5 +289,5 @@ more_fits ts us p q = (every_more Fits ts us p.fits q.0, p.lines us q.1)
 lexed_fits : (text : List ℕ) → OfOk WellFormed (lexed text)
 lexed_fits text = cut_holds front WellFormed PieceFits (tt, no_lines) more_fits front_fits (length text) beginning text
 
-pub found_fits : (text : List ℕ) (found : Tokens) → lexed text ≡ Ok found → WellFormed found.tokens
+pub found_fits : (text : List ℕ) (found : PlacedTokens) → lexed text ≡ Ok found → WellFormed (tokens_of found.placed)
 found_fits text found e = subst (OfOk WellFormed) e (lexed_fits text)

@@ -8,10 +8,10 @@ use Rattle.csp_text.specs.declared.token.Word.TheVariants as word
 use Rattle.csp_text.specs.declared.token.Symbol.TheVariants as symbol
 use Rattle.csp_text.specs.declared.script.Script.{Script}
 use Rattle.csp_text.specs.declared.script.Decl.{Decl}
-use Rattle.csp_lexer.specs.declared.tokens.Tokens.{Tokens}
 use Rattle.csp_lexer.specs.Assertions.{is_symbol}
 use Rattle.csp_lexer.specs.Front.{front}
 use Rattle.csp_lexer.specs.Lexed.{lexed}
+use Rattle.csp_lexer.specs.Placed.{PlacedTokens, tokens_of}
 use Rattle.csp_lexer.specs.Places.{beginning}
 use Rattle.csp_grammar.specs.Declarations.{DeclarationsText, ScriptText}
 use Rattle.csp_grammar.proofs.Unique.{one_script}
@@ -102,11 +102,11 @@ printed_spells text found script e p =
     let c = (printed_cuts script m).cuts (length (script_text script)) beginning (omega arith) in
     (c.found, c.is, subst (λ ts. ScriptText ts script) (sym c.same) (declarations_text m))
 
-same_found : (x y : Tokens) (result : Result Tokens Place) → result ≡ Ok x → result ≡ Ok y → x ≡ y
+same_found : (x y : PlacedTokens) (result : Result PlacedTokens Place) → result ≡ Ok x → result ≡ Ok y → x ≡ y
 same_found x y result e f = cc
 
 pub no_other : PrintedTextSpellsNoOther
 no_other text found script e p again other f q =
     let printed = printed_spells text found script e p in
     let same = same_found printed.0 again (lexed (script_text script)) printed.1 f in
-    one_script again.tokens other script q (subst (λ x. ScriptText x.tokens script) same printed.2)
+    one_script (tokens_of again.placed) other script q (subst (λ x. ScriptText (tokens_of x.placed) script) same printed.2)

@@ -27,19 +27,17 @@ fn is_written(token: &Token, written: &[u8]) -> bool {
     }
 }
 
-// Whether the tokens are written so, in this order.
-fn are_written(tokens: &[Token], written: &[&[u8]]) -> bool {
-    tokens.len() == written.len()
-        && tokens
-            .iter()
-            .zip(written)
-            .all(|(token, bytes)| is_written(token, *bytes))
-}
-
-// Whether the text has these tokens.
+// Whether the text has these tokens, in this order.
 fn has_tokens(alloc: Global, text: &[u8], written: &[&[u8]]) -> Result<bool, LexFault> {
     let found = lex(alloc, text)?;
-    Ok(are_written(found.tokens.as_slice(), written))
+    let tokens = found.as_slice();
+    Ok(
+        tokens.len() == written.len()
+            && tokens
+                .iter()
+                .zip(written)
+                .all(|(token, bytes)| is_written(token, *bytes)),
+    )
 }
 
 // Whether the text is no script, and that shows here.
@@ -50,21 +48,16 @@ fn fails_at(alloc: Global, text: &[u8], line: u32, column: u32) -> bool {
     }
 }
 
-// Whether the last token of the text begins at this place.
-fn ends_with_token_at(
+// Whether the token with this number begins at this place; behind the last one, whether the text ends there.
+fn begins_at(
     alloc: Global,
     text: &[u8],
+    number: usize,
     line: u32,
     column: u32,
 ) -> Result<bool, LexFault> {
     let found = lex(alloc, text)?;
-    Ok(found.places.as_slice().last() == Some(&Place { line, column }))
-}
-
-// Whether the text ends at this place.
-fn ends_at(alloc: Global, text: &[u8], line: u32, column: u32) -> Result<bool, LexFault> {
-    let found = lex(alloc, text)?;
-    Ok(found.end == Place { line, column })
+    Ok(found.place(number) == Place { line, column })
 }
 
 #[test]
@@ -200,10 +193,18 @@ fn texts_that_are_no_script(rt: HostRuntime) {
 
 #[test]
 fn places_of_tokens(rt: HostRuntime) -> Result<(), Fail> {
-    assert!(rt; ends_with_token_at(rt.alloc(), b"a\n  bc", 2, 3)?);
-    assert!(rt; ends_with_token_at(rt.alloc(), b"\n{-\n-} a", 3, 4)?);
-    assert!(rt; ends_with_token_at(rt.alloc(), b"x assert P:[deadlock free]", 1, 26)?);
-    assert!(rt; ends_at(rt.alloc(), b"a\n  bc", 2, 5)?);
-    assert!(rt; ends_at(rt.alloc(), b"a\n", 2, 1)?);
+    let rows: [(&[u8], usize, u32, u32); 5] = [
+        (b"a\n  bc", 1, 2, 3),
+        (b"\n{-\n-} a", 0, 3, 4),
+        (b"x assert P:[deadlock free]", 7, 1, 26),
+        (b"a\n  bc", 2, 2, 5),
+        (b"a\n", 1, 2, 1),
+    ];
+    for (text, number, line, column) in rows {
+        assert!(rt;
+            begins_at(rt.alloc(), text, number, line, column)?,
+            "{text:?}"
+        );
+    }
     Ok(())
 }

@@ -5,4 +5,4 @@ use Rattle.csp_lexer.proofs.tokens.Tokens.joined.Goals as goal
 pub returns : goal.returns
 returns c =
     all_joined c.self.inside.tokens c.behind.inside.tokens c.self.inside.places c.behind.inside.places _ _ c.self.invariant
-    (ap (λ t. t.placed) c.self.view_is) (ap (λ t. t.placed) c.behind.view_is) c.in_ok-append.ensures c.in_ok-append-2.ensures
+    (ap (λ t. t.placed) c.self.view_is) (ap (λ t. t.placed) c.behind.view_is) c.in_ok-tokens.ensures c.in_ok-places.ensures

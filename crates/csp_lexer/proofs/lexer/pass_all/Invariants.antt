@@ -1,10 +1,11 @@
 use Rattle.std.proofs.Common.{length}
-use Rattle.csp_lexer.specs.Assertions.{cut_line, line_front}
+use Rattle.csp_lexer.specs.Front.{front}
+use Rattle.csp_lexer.specs.Lexed.{lexed}
 use Rattle.csp_lexer.proofs.CutSoFar.{IsCutSoFar}
-use Rattle.csp_lexer.proofs.line.cut_line.Given as goal
+use Rattle.csp_lexer.proofs.lexer.pass_all.Given as goal
 
 abbrev pub invariant-loop-rest : goal.invariant-loop-rest
-invariant-loop-rest l = IsCutSoFar line_front (cut_line l.fn.at l.line) l.found.placed l.at l.rest
+invariant-loop-rest l = IsCutSoFar front (lexed l.text) l.found.placed l.at l.rest
 
 abbrev pub decreases-loop-rest : goal.decreases-loop-rest
 decreases-loop-rest l = length l.rest

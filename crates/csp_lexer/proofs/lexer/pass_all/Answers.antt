@@ -1,7 +1,7 @@
 use Rattle.std.proofs.Common.{true-eqb}
 use Rattle.csp_lexer.specs.Front.{front}
 use Rattle.csp_lexer.proofs.CutSoFar.{at_end, no_piece, not_empty, piece_passed}
-use Rattle.csp_lexer.proofs.lexer.lex.Goals as goal
+use Rattle.csp_lexer.proofs.lexer.pass_all.Goals as goal
 
 -- no piece stands there
 pub returns-in_default-clause-none : goal.returns-in_default-clause-none
@@ -18,4 +18,4 @@ loop-rest-preserved c =
 
 -- nothing is left
 pub returns-clause-found : goal.returns-clause-found
-returns-clause-found c = at_end front _ _ _ _ c.loop-rest.rest.now c.ended.ensures (true-eqb _ 0 c.loop-rest-test.ensures) c.loop-rest.invariant
+returns-clause-found c = at_end front _ _ _ c.loop-rest.rest.now (true-eqb _ 0 c.loop-rest-test.ensures) c.loop-rest.invariant

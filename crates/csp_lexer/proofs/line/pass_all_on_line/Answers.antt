@@ -1,7 +1,7 @@
 use Rattle.std.proofs.Common.{true-eqb}
 use Rattle.csp_lexer.specs.Assertions.{line_front}
 use Rattle.csp_lexer.proofs.CutSoFar.{at_end, no_piece, not_empty, piece_passed}
-use Rattle.csp_lexer.proofs.line.cut_line.Goals as goal
+use Rattle.csp_lexer.proofs.line.pass_all_on_line.Goals as goal
 
 -- no piece stands there
 pub returns-in_default : goal.returns-in_default
@@ -18,4 +18,4 @@ loop-rest-preserved c =
 
 -- nothing is left
 pub returns : goal.returns
-returns c = at_end line_front _ _ _ _ c.loop-rest.rest.now c.ended.ensures (true-eqb _ 0 c.loop-rest-test.ensures) c.loop-rest.invariant
+returns c = at_end line_front _ _ _ c.loop-rest.rest.now (true-eqb _ 0 c.loop-rest-test.ensures) c.loop-rest.invariant
