@@ -10,8 +10,8 @@ use Rattle.csp_tables.specs.Part.{part_at}
 use Rattle.csp_tables.specs.Shape.{Shape, is_end, link_at, IsWellFormed}
 use Rattle.csp_tables.specs.Standing.{IsPossible, accepted, IsBusyShape}
 use Rattle.design_rules.proofs.Walks.{no_circle}
-use Rattle.design_rules.specs.Cyclic.{links_of, ReachesLink, place_after, AllKeepPlaces, MustPrecede, NumbersRise, IsWholeEnd, HasWholeEnd, IsCyclic}
-use Rattle.design_rules.specs.CyclicNumbered.{LinksDiffer, IsFullEnd, IsNumberedCyclic}
+use Rattle.design_rules.specs.Cyclic.{KeepsPlaces, links_of, ReachesLink, place_after, AllKeepPlaces, MustPrecede, NumbersRise, IsWholeEnd, HasWholeEnd, IsCyclic}
+use Rattle.design_rules.specs.CyclicNumbered.{LinksDiffer, IsFullEnd, HasOrder, IsNumberedCyclic}
 use Rattle.design_rules.specs.CyclicRanking.{place_of, AreChainNumbers, ComesAfter}
 use Rattle.design_rules.specs.CyclicLaws.{CyclicRanksFall, NumberedRanksFall, CyclicFaultsRefute, IsPublishedRule}
 use Rattle.design_rules.proofs.Cyclic.{place_below, places_differ, earlier_place, Ordered, next_link, whole_has, ordered_ranks_fall}
@@ -26,8 +26,8 @@ keeping shape i l s e w order possible = record { form = w; keeps = order i poss
 ordered : (shape : Shape) (number : ℕ → ℕ) → IsWellFormed shape → AllKeepPlaces shape → NumbersRise shape number → ((l : ℕ) → l < length shape.links → HasWholeEnd shape l) → Ordered shape number
 ordered shape number w order rise whole = record {
   form = w;
-  differ = λ i l m s e possible on. reached_differ shape number i l m s e (keeping shape i l s e w order possible) rise (record { possible = possible; on = on });
-  order = λ i l s e possible on. place_is shape number i l s e (keeping shape i l s e w order possible) rise (record { possible = possible; on = on });
+  differ = λ i l m s e possible on. reached_differ shape number i l m s e (keeping shape i l s e w order possible) (λ x y before _. rise x y before) (record { possible = possible; on = on });
+  order = λ i l s e possible on. place_is shape number i l s e (keeping shape i l s e w order possible) (λ x y before _. rise x y before) (record { possible = possible; on = on });
   whole = whole;
 }
 
@@ -63,7 +63,7 @@ apart_differ : (shape : Shape) (number : ℕ → ℕ) → LinksDiffer shape (apa
 apart_differ shape number i l m h k x y ne same =
     ne (sym (mod-mul-add (number l) (length shape.links) l h) ∙ ap (λ n. n % length shape.links) same ∙ mod-mul-add (number m) (length shape.links) m k)
 
-less_by : (a b n l m : ℕ) → a < b → l < n → a * n + l < b * n + m
+pub less_by : (a b n l m : ℕ) → a < b → l < n → a * n + l < b * n + m
 less_by a b n l m less below =
     let d = b - (a + 1) in
     let is : b ≡ a + 1 + (b - (a + 1)) = omega arith in
@@ -108,14 +108,18 @@ sound shape w busy rule =
 
 -- ---- from numbers to the rule
 
-numbered_keep : (shape : Shape) (rule : IsNumberedCyclic shape) → AllKeepPlaces shape
-numbered_keep shape rule i h s e b =
-    let here = rule.order i b.link s e b.reaches.possible b.reaches.on in
-    let there = rule.order i b.other_link b.other_run b.other_event b.other_reaches.possible b.other_reaches.on in
+-- a part that keeps an order keeps places
+pub order_keeps : (shape : Shape) (i : ℕ) → HasOrder shape i → KeepsPlaces shape i
+order_keeps shape i rule s e b =
+    let here = rule.order b.link s e b.reaches.possible b.reaches.on in
+    let there = rule.order b.other_link b.other_run b.other_event b.other_reaches.possible b.other_reaches.on in
     elim b.clash [
-      | inl c ↦ places_differ shape rule.number i b.link b.other_link b.reaches.on.within b.other_reaches.on.within b.reaches.on.end b.other_reaches.on.end (rule.differ i b.link b.other_link b.reaches.on.within b.other_reaches.on.within b.reaches.on.end b.other_reaches.on.end c.0) (here ∙ c.1 ∙ sym there)
+      | inl c ↦ places_differ shape rule.number i b.link b.other_link b.reaches.on.within b.other_reaches.on.within b.reaches.on.end b.other_reaches.on.end (rule.differ b.link b.other_link b.reaches.on.within b.other_reaches.on.within b.reaches.on.end b.other_reaches.on.end c.0) (here ∙ c.1 ∙ sym there)
       | inr c ↦ c.1 (sym here ∙ ap (place_of shape rule.number i) c.0 ∙ there)
     ]
+
+numbered_keep : (shape : Shape) (rule : IsNumberedCyclic shape) → AllKeepPlaces shape
+numbered_keep shape rule i h = order_keeps shape i (record { number = rule.number; differ = rule.differ i; order = rule.order i })
 
 -- a link of the part that would stand before one that is reached was reached
 pub numbered_rise : (shape : Shape) → IsWellFormed shape → (rule : IsNumberedCyclic shape) → NumbersRise shape rule.number

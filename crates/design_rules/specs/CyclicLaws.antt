@@ -12,9 +12,9 @@ use Rattle.csp_tables.specs.Shape.{Shape, IsWellFormed}
 use Rattle.csp_tables.specs.Standing.{IsBusyShape}
 use Rattle.csp_tables.specs.Ranking.{Ranking}
 use Rattle.csp_tables.specs.Falls.{Falls}
-use Rattle.design_rules.specs.Cyclic.{IsCyclic}
+use Rattle.design_rules.specs.Cyclic.{KeepsPlaces, IsCyclic}
 use Rattle.design_rules.specs.CyclicFaults.{HasNoOrder, OrdersDisagree, HasNoWholeEnd}
-use Rattle.design_rules.specs.CyclicNumbered.{IsNumberedCyclic}
+use Rattle.design_rules.specs.CyclicNumbered.{HasOrder, IsNumberedCyclic}
 use Rattle.design_rules.specs.CyclicRanking.{AreCyclicRanks, IsCyclicRanking}
 
 abbrev pub CyclicRanksFall : Type 0
@@ -29,6 +29,12 @@ pub record CyclicFaultsRefute : Type 0 where
   pub no_order : (shape : Shape) (i : ℕ) (s : List ℕ) (e : ℕ) → IsCyclic shape → HasNoOrder shape i s e → ⊥
   pub orders_disagree : (shape : Shape) (links : List ℕ) → IsCyclic shape → OrdersDisagree shape links → ⊥
   pub no_whole_end : (shape : Shape) (l : ℕ) (s t : List ℕ) → IsCyclic shape → HasNoWholeEnd shape l s t → ⊥
+
+-- A component keeps places exactly where its links have an order that it keeps. (To find the order one has to search for the
+-- links that it never reaches; that there is none is refuted without.)
+pub record PlacesAreOrders : Type 0 where
+  pub sound : (shape : Shape) (i : ℕ) → IsWellFormed shape → KeepsPlaces shape i → (HasOrder shape i → ⊥) → ⊥
+  pub complete : (shape : Shape) (i : ℕ) → HasOrder shape i → KeepsPlaces shape i
 
 -- the rule is the published one
 pub record IsPublishedRule : Type 0 where

@@ -33,3 +33,9 @@ pub record IsNumberedCyclic (shape : Shape) : Type 0 where
   pub differ : LinksDiffer shape number
   pub order : KeepsOrder shape number
   pub full : HasFullEnds shape number
+
+-- C1 of the part i alone: its links have an order that it keeps
+pub record HasOrder (shape : Shape) (i : ℕ) : Type 0 where
+  pub number : ℕ → ℕ
+  pub differ : (l m : ℕ) → l < length shape.links → m < length shape.links → IsTrue (is_end shape i l) → IsTrue (is_end shape i m) → (l ≡ m → ⊥) → number l ≡ number m → ⊥
+  pub order : (l : ℕ) (s : List ℕ) (e : ℕ) → IsPossible shape i s e → IsOn shape i l e → IsNext shape number i s l

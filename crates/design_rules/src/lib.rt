@@ -2,7 +2,7 @@
 #![tactic(auto)]
 
 ghost use Rattle.design_rules.specs.ClientServerLaws.{ClientServerFaultsRefute, ClientServerRanksFall};
-ghost use Rattle.design_rules.specs.CyclicLaws.{CyclicFaultsRefute, CyclicRanksFall, IsPublishedRule, NumberedRanksFall};
+ghost use Rattle.design_rules.specs.CyclicLaws.{CyclicFaultsRefute, CyclicRanksFall, IsPublishedRule, NumberedRanksFall, PlacesAreOrders};
 ghost use Rattle.design_rules.specs.Example.{PairIsClientServer, RowIsCyclic, TwoUsersAreResource};
 ghost use Rattle.design_rules.specs.Live.{CyclicMeansLive, ClientServerMeansLive, ResourceMeansLive};
 ghost use Rattle.design_rules.specs.ResourceLaws.{OrderedRanksFall, ResourceFaultsRefute, ResourceRanksFall};
@@ -20,9 +20,10 @@ pub fn cyclic_faults_refute()
     ensures { CyclicFaultsRefute }
 {}
 
-/// The cyclic rule is the published one.
+/// The cyclic rule is the published one, for one component and for a network.
 pub fn cyclic_rule_is_published()
-    ensures { IsPublishedRule }
+    ensures component { PlacesAreOrders }
+    ensures network { IsPublishedRule }
 {}
 
 /// The ranking of a client-server network falls.
