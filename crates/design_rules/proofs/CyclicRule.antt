@@ -13,7 +13,7 @@ use Rattle.design_rules.proofs.Walks.{no_circle}
 use Rattle.design_rules.specs.Cyclic.{KeepsPlaces, links_of, ReachesLink, place_after, AllKeepPlaces, MustPrecede, NumbersRise, IsWholeEnd, HasWholeEnd, IsCyclic}
 use Rattle.design_rules.specs.CyclicNumbered.{LinksDiffer, IsFullEnd, HasOrder, IsNumberedCyclic}
 use Rattle.design_rules.specs.CyclicRanking.{place_of, AreChainNumbers, ComesAfter}
-use Rattle.design_rules.specs.CyclicLaws.{CyclicRanksFall, NumberedRanksFall, CyclicFaultsRefute, IsPublishedRule}
+use Rattle.design_rules.specs.CyclicLaws.{CyclicRanksFall, NumberedRanksFall, CyclicFaultsRefute, IsRuleByNumbers}
 use Rattle.design_rules.proofs.Cyclic.{place_below, places_differ, earlier_place, Ordered, next_link, whole_has, ordered_ranks_fall}
 use Rattle.design_rules.proofs.Places.{Keeping, earlier, place_is, reached_differ}
 
@@ -32,7 +32,7 @@ ordered shape number w order rise whole = record {
 }
 
 -- longest chains rise
-chains_rise : (shape : Shape) (number : ℕ → ℕ) → AreChainNumbers shape number → NumbersRise shape number
+pub chains_rise : (shape : Shape) (number : ℕ → ℕ) → AreChainNumbers shape number → NumbersRise shape number
 chains_rise shape number chains l m before =
     let w = chains l before.reaches.on.within in
     let less : number l + 1 ≤ number m = (chains m before.within).most (number l + 1) w.end (walk_on w.attained) in
@@ -165,8 +165,8 @@ complete shape w rule = record {
   ];
 }
 
-pub is_published_rule : IsPublishedRule
-is_published_rule = record { sound = sound; complete = complete }
+pub is_rule_by_numbers : IsRuleByNumbers
+is_rule_by_numbers = record { sound = sound; complete = complete }
 
 pub numbered_ranks_fall : NumberedRanksFall
 numbered_ranks_fall shape rule ranking w ranks =

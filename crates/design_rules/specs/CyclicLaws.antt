@@ -1,4 +1,4 @@
--- A cyclic network's ranking is good, each fault breaks the rule, and the rule is the published one.
+-- A cyclic network's ranking is good, each fault breaks the rule, and the rule can be said by numbers.
 --
 -- Why the ranking falls: a component comes to each link that it reaches at one place of its lap, which is also how many of its
 -- links have smaller numbers. So let a component have k links, and let it have done t shared events. It has done t / k laps,
@@ -20,7 +20,7 @@ use Rattle.design_rules.specs.CyclicRanking.{AreCyclicRanks, IsCyclicRanking}
 abbrev pub CyclicRanksFall : Type 0
 CyclicRanksFall = (shape : Shape) (ranking : Ranking) → IsWellFormed shape → IsCyclic shape → IsCyclicRanking shape ranking → Falls shape.parts ranking
 
--- the same for every numbering of the published rule, whether or not its numbers are the smallest
+-- the same for every numbering by which the rule can be said, whether or not its numbers are the smallest
 abbrev pub NumberedRanksFall : Type 0
 NumberedRanksFall = (shape : Shape) (rule : IsNumberedCyclic shape) (ranking : Ranking) → IsWellFormed shape → AreCyclicRanks shape rule.number ranking → Falls shape.parts ranking
 
@@ -36,7 +36,7 @@ pub record PlacesAreOrders : Type 0 where
   pub sound : (shape : Shape) (i : ℕ) → IsWellFormed shape → KeepsPlaces shape i → (HasOrder shape i → ⊥) → ⊥
   pub complete : (shape : Shape) (i : ℕ) → HasOrder shape i → KeepsPlaces shape i
 
--- the rule is the published one
-pub record IsPublishedRule : Type 0 where
+-- the rule by numbers is the same
+pub record IsRuleByNumbers : Type 0 where
   pub sound : (shape : Shape) → IsWellFormed shape → IsBusyShape shape → IsCyclic shape → IsNumberedCyclic shape
   pub complete : (shape : Shape) → IsWellFormed shape → IsNumberedCyclic shape → IsCyclic shape

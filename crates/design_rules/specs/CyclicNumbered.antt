@@ -1,6 +1,6 @@
--- The rule of cyclic networks as it is published, by numbers: the links are numbered so that two links of one component
--- differ, and after c shared events a component with k links, in rising order, is at its link number c modulo k. Over a
--- network where no component is ever empty-handed it is the same rule.
+-- The rule of cyclic networks by numbers: the links are numbered so that two links of one component differ, and after c shared
+-- events a component with k links, in rising order, is at its link number c modulo k. Over a network where no component is
+-- ever empty-handed it is the same rule.
 use Rattle.std.specs.Prelude.{◌≡◌, ◌<◌, ◌%◌, ◌⊎◌, ℕ, List, IsTrue, length}
 use Rattle.csp_base.specs.Members.{has}
 use Rattle.csp_tables.specs.Shape.{Shape, is_end, link_at}

@@ -1,6 +1,0 @@
-use Rattle.design_rules.proofs.CyclicRule.{is_published_rule}
-use Rattle.design_rules.proofs.OneOrder.{places_are_orders}
-use Rattle.design_rules.proofs.cyclic_rule_is_published.Goals as goal
-
-pub returns : goal.returns
-returns c = record { component = places_are_orders; network = is_published_rule }
