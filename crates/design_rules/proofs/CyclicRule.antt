@@ -11,9 +11,9 @@ use Rattle.csp_tables.specs.Shape.{Shape, is_end, link_at, IsWellFormed}
 use Rattle.csp_tables.specs.Standing.{IsPossible, accepted, IsBusyShape}
 use Rattle.design_rules.proofs.Walks.{no_circle}
 use Rattle.design_rules.specs.Cyclic.{KeepsPlaces, links_of, ReachesLink, place_after, AllKeepPlaces, MustPrecede, NumbersRise, IsWholeEnd, HasWholeEnd, IsCyclic}
-use Rattle.design_rules.specs.CyclicNumbered.{LinksDiffer, IsFullEnd, HasOrder, IsNumberedCyclic}
+use Rattle.design_rules.specs.CyclicNumbered.{LinksDiffer, KeepsOrder, IsFullEnd, HasFullEnds, HasOrder, IsNumberedCyclic}
 use Rattle.design_rules.specs.CyclicRanking.{place_of, AreChainNumbers, ComesAfter}
-use Rattle.design_rules.specs.CyclicLaws.{CyclicRanksFall, NumberedRanksFall, CyclicFaultsRefute, IsRuleByNumbers}
+use Rattle.design_rules.specs.CyclicLaws.{CyclicRanksFall, NumberedRanksFall, ReachedRanksFall, CyclicFaultsRefute, IsRuleByNumbers}
 use Rattle.design_rules.proofs.Cyclic.{place_below, places_differ, earlier_place, Ordered, next_link, whole_has, ordered_ranks_fall}
 use Rattle.design_rules.proofs.Places.{Keeping, earlier, place_is, reached_differ}
 
@@ -149,27 +149,27 @@ numbered_rise shape w rule l m before =
         ]
 
 -- a full end is whole: an acceptance that meets the link has an event of it that is possible, so the link is next
-numbered_whole : (shape : Shape) (l i : ℕ) → IsWellFormed shape → (rule : IsNumberedCyclic shape) → l < length shape.links → IsTrue (is_end shape i l) → IsFullEnd shape rule.number l i → IsWholeEnd shape l i
-numbered_whole shape l i w rule h end full s short =
+numbered_whole : (shape : Shape) (number : ℕ → ℕ) (l i : ℕ) → IsWellFormed shape → KeepsOrder shape number → l < length shape.links → IsTrue (is_end shape i l) → IsFullEnd shape number l i → IsWholeEnd shape l i
+numbered_whole shape number l i w order h end full s short =
     let possible : IsPossible shape i s short.meets.event = record { runs = short.accepts.runs; next = w.possible i (end_of (part_at shape.parts i).table 0 s) short.place short.meets.event short.accepts.runs.part short.meets.first } in
-    let next = rule.order i l s short.meets.event possible (record { within = h; end = end; event = short.meets.second }) in
+    let next = order i l s short.meets.event possible (record { within = h; end = end; event = short.meets.second }) in
     both_ways (has (accepted shape i s short.place) short.missing) short.lacks (full s short.place short.accepts next short.missing short.on)
 
+numbered_wholes : (shape : Shape) (number : ℕ → ℕ) → IsWellFormed shape → KeepsOrder shape number → HasFullEnds shape number → (l : ℕ) → l < length shape.links → HasWholeEnd shape l
+numbered_wholes shape number w order full l h =
+    elim (full l h) [
+      | inl left ↦ inl (numbered_whole shape number l (link_at shape l).left w order h (left_end shape l) left)
+      | inr right ↦ inr (numbered_whole shape number l (link_at shape l).right w order h (right_end shape l) right)
+    ]
+
 pub complete : (shape : Shape) → IsWellFormed shape → IsNumberedCyclic shape → IsCyclic shape
-complete shape w rule = record {
-  order = numbered_keep shape rule;
-  numbered = record { number = rule.number; rise = numbered_rise shape w rule };
-  whole = λ l h. elim (rule.full l h) [
-    | inl left ↦ inl (numbered_whole shape l (link_at shape l).left w rule h (left_end shape l) left)
-    | inr right ↦ inr (numbered_whole shape l (link_at shape l).right w rule h (right_end shape l) right)
-  ];
-}
+complete shape w rule = record { order = numbered_keep shape rule; numbered = record { number = rule.number; rise = numbered_rise shape w rule }; whole = numbered_wholes shape rule.number w rule.order rule.full }
 
 pub is_rule_by_numbers : IsRuleByNumbers
 is_rule_by_numbers = record { sound = sound; complete = complete }
 
+pub reached_ranks_fall : ReachedRanksFall
+reached_ranks_fall shape number ranking w differ order full ranks = ordered_ranks_fall shape number ranking (record { form = w; differ = differ; order = order; whole = numbered_wholes shape number w order full }) ranks
+
 pub numbered_ranks_fall : NumberedRanksFall
-numbered_ranks_fall shape rule ranking w ranks =
-    ordered_ranks_fall shape rule.number ranking
-    (record { form = w; differ = λ i l m s e possible on h end ne. rule.differ i l m on.within h on.end end ne; order = rule.order; whole = (complete shape w rule).whole })
-    ranks
+numbered_ranks_fall shape rule ranking w ranks = reached_ranks_fall shape rule.number ranking w (λ i l m s e possible on h end ne. rule.differ i l m on.within h on.end end ne) rule.order rule.full ranks

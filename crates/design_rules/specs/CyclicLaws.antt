@@ -14,7 +14,7 @@ use Rattle.csp_tables.specs.Ranking.{Ranking}
 use Rattle.csp_tables.specs.Falls.{Falls}
 use Rattle.design_rules.specs.Cyclic.{KeepsPlaces, IsCyclic}
 use Rattle.design_rules.specs.CyclicFaults.{HasNoOrder, OrdersDisagree, HasNoWholeEnd}
-use Rattle.design_rules.specs.CyclicNumbered.{HasOrder, IsNumberedCyclic}
+use Rattle.design_rules.specs.CyclicNumbered.{ReachedLinksDiffer, KeepsOrder, HasFullEnds, HasOrder, IsNumberedCyclic}
 use Rattle.design_rules.specs.CyclicRanking.{AreCyclicRanks, IsCyclicRanking}
 
 abbrev pub CyclicRanksFall : Type 0
@@ -23,6 +23,10 @@ CyclicRanksFall = (shape : Shape) (ranking : Ranking) → IsWellFormed shape →
 -- the same for every numbering by which the rule can be said, whether or not its numbers are the smallest
 abbrev pub NumberedRanksFall : Type 0
 NumberedRanksFall = (shape : Shape) (rule : IsNumberedCyclic shape) (ranking : Ranking) → IsWellFormed shape → AreCyclicRanks shape rule.number ranking → Falls shape.parts ranking
+
+-- and where links that a component never reaches share a number
+abbrev pub ReachedRanksFall : Type 0
+ReachedRanksFall = (shape : Shape) (number : ℕ → ℕ) (ranking : Ranking) → IsWellFormed shape → ReachedLinksDiffer shape number → KeepsOrder shape number → HasFullEnds shape number → AreCyclicRanks shape number ranking → Falls shape.parts ranking
 
 -- each fault breaks the rule
 pub record CyclicFaultsRefute : Type 0 where

@@ -16,6 +16,10 @@ IsNext shape number i s l = place_of shape number i l ≡ place_after shape s % 
 abbrev pub LinksDiffer : Shape → (ℕ → ℕ) → Type 0
 LinksDiffer shape number = (i l m : ℕ) → l < length shape.links → m < length shape.links → IsTrue (is_end shape i l) → IsTrue (is_end shape i m) → (l ≡ m → ⊥) → number l ≡ number m → ⊥
 
+-- The same of each link that the component reaches: links that it never reaches may share a number.
+abbrev pub ReachedLinksDiffer : Shape → (ℕ → ℕ) → Type 0
+ReachedLinksDiffer shape number = (i l m : ℕ) (s : List ℕ) (e : ℕ) → IsPossible shape i s e → IsOn shape i l e → m < length shape.links → IsTrue (is_end shape i m) → (l ≡ m → ⊥) → number l ≡ number m → ⊥
+
 -- C1: a shared event that is possible lies on the link that is next
 abbrev pub KeepsOrder : Shape → (ℕ → ℕ) → Type 0
 KeepsOrder shape number = (i l : ℕ) (s : List ℕ) (e : ℕ) → IsPossible shape i s e → IsOn shape i l e → IsNext shape number i s l

@@ -2,7 +2,7 @@
 #![tactic(auto)]
 
 ghost use Rattle.design_rules.specs.ClientServerLaws.{ClientServerFaultsRefute, ClientServerRanksFall};
-ghost use Rattle.design_rules.specs.CyclicLaws.{CyclicFaultsRefute, CyclicRanksFall, IsRuleByNumbers, NumberedRanksFall, PlacesAreOrders};
+ghost use Rattle.design_rules.specs.CyclicLaws.{CyclicFaultsRefute, CyclicRanksFall, IsRuleByNumbers, NumberedRanksFall, PlacesAreOrders, ReachedRanksFall};
 ghost use Rattle.design_rules.specs.Example.{PairIsClientServer, RowIsCyclic, TwoUsersAreResource};
 ghost use Rattle.design_rules.specs.Live.{CyclicMeansLive, ClientServerMeansLive, ResourceMeansLive};
 ghost use Rattle.design_rules.specs.ResourceLaws.{OrderedRanksFall, ResourceFaultsRefute, ResourceRanksFall};
@@ -13,6 +13,7 @@ use net_sound::Transitions;
 pub fn cyclic_ranks_fall()
     ensures chains { CyclicRanksFall }
     ensures numbered { NumberedRanksFall }
+    ensures reached { ReachedRanksFall }
 {}
 
 /// Each fault that is told of a network breaks the cyclic rule.
