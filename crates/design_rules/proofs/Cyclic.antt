@@ -13,7 +13,7 @@ use Rattle.csp_tables.specs.Trace.{IsWithin}
 use Rattle.csp_tables.specs.Shape.{Shape, Joins, link_at, is_end, IsWellFormed}
 use Rattle.csp_tables.specs.Standing.{RunsTo, IsPossible, Accepts, accepted, IsOn}
 use Rattle.design_rules.specs.Cyclic.{links_of, IsWholeEnd, HasWholeEnd}
-use Rattle.design_rules.specs.CyclicNumbered.{IsNext, KeepsOrder}
+use Rattle.design_rules.specs.CyclicNumbered.{IsNext, KeepsOrder, ReachedLinksDiffer}
 use Rattle.design_rules.specs.CyclicRanking.{place_of, AreCyclicRanks, ends_lap}
 use Rattle.csp_tables.specs.Ranking.{Ranking, part_ranks, rank_after, laps_from}
 use Rattle.csp_tables.specs.Falls.{lead, Falls}
@@ -114,10 +114,6 @@ balanced_none k p below =
     let q : 0 / k ≡ 0 = d.0 in
     let none : passed p (0 % k) ≡ 0 = passed_no p (0 % k) (let r : 0 % k ≡ 0 = d.1 in omega arith) in
     omega (arith, q, none)
-
--- Of two links of a part that have the same number, it reaches neither.
-abbrev pub ReachedLinksDiffer : Shape → (ℕ → ℕ) → Type 0
-ReachedLinksDiffer shape number = (i l m : ℕ) (s : List ℕ) (e : ℕ) → IsPossible shape i s e → IsOn shape i l e → m < length shape.links → IsTrue (is_end shape i m) → (l ≡ m → ⊥) → number l ≡ number m → ⊥
 
 -- what is used of the rule
 pub record Ordered (shape : Shape) (number : ℕ → ℕ) : Type 0 where

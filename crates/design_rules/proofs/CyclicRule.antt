@@ -10,10 +10,10 @@ use Rattle.csp_tables.specs.Part.{part_at}
 use Rattle.csp_tables.specs.Shape.{Shape, is_end, link_at, IsWellFormed}
 use Rattle.csp_tables.specs.Standing.{IsPossible, accepted, IsBusyShape}
 use Rattle.design_rules.proofs.Walks.{no_circle}
-use Rattle.design_rules.specs.Cyclic.{links_of, ReachesLink, place_after, AllKeepPlaces, MustPrecede, NumbersRise, IsWholeEnd, HasWholeEnd, IsCyclic}
-use Rattle.design_rules.specs.CyclicNumbered.{LinksDiffer, IsFullEnd, IsNumberedCyclic}
+use Rattle.design_rules.specs.Cyclic.{KeepsPlaces, links_of, ReachesLink, place_after, AllKeepPlaces, MustPrecede, NumbersRise, IsWholeEnd, HasWholeEnd, IsCyclic}
+use Rattle.design_rules.specs.CyclicNumbered.{LinksDiffer, KeepsOrder, IsFullEnd, HasFullEnds, HasOrder, IsNumberedCyclic}
 use Rattle.design_rules.specs.CyclicRanking.{place_of, AreChainNumbers, ComesAfter}
-use Rattle.design_rules.specs.CyclicLaws.{CyclicRanksFall, NumberedRanksFall, CyclicFaultsRefute, IsPublishedRule}
+use Rattle.design_rules.specs.CyclicLaws.{CyclicRanksFall, NumberedRanksFall, ReachedRanksFall, CyclicFaultsRefute, IsRuleByNumbers}
 use Rattle.design_rules.proofs.Cyclic.{place_below, places_differ, earlier_place, Ordered, next_link, whole_has, ordered_ranks_fall}
 use Rattle.design_rules.proofs.Places.{Keeping, earlier, place_is, reached_differ}
 
@@ -26,13 +26,13 @@ keeping shape i l s e w order possible = record { form = w; keeps = order i poss
 ordered : (shape : Shape) (number : ℕ → ℕ) → IsWellFormed shape → AllKeepPlaces shape → NumbersRise shape number → ((l : ℕ) → l < length shape.links → HasWholeEnd shape l) → Ordered shape number
 ordered shape number w order rise whole = record {
   form = w;
-  differ = λ i l m s e possible on. reached_differ shape number i l m s e (keeping shape i l s e w order possible) rise (record { possible = possible; on = on });
-  order = λ i l s e possible on. place_is shape number i l s e (keeping shape i l s e w order possible) rise (record { possible = possible; on = on });
+  differ = λ i l m s e possible on. reached_differ shape number i l m s e (keeping shape i l s e w order possible) (λ x y before _. rise x y before) (record { possible = possible; on = on });
+  order = λ i l s e possible on. place_is shape number i l s e (keeping shape i l s e w order possible) (λ x y before _. rise x y before) (record { possible = possible; on = on });
   whole = whole;
 }
 
 -- longest chains rise
-chains_rise : (shape : Shape) (number : ℕ → ℕ) → AreChainNumbers shape number → NumbersRise shape number
+pub chains_rise : (shape : Shape) (number : ℕ → ℕ) → AreChainNumbers shape number → NumbersRise shape number
 chains_rise shape number chains l m before =
     let w = chains l before.reaches.on.within in
     let less : number l + 1 ≤ number m = (chains m before.within).most (number l + 1) w.end (walk_on w.attained) in
@@ -63,7 +63,7 @@ apart_differ : (shape : Shape) (number : ℕ → ℕ) → LinksDiffer shape (apa
 apart_differ shape number i l m h k x y ne same =
     ne (sym (mod-mul-add (number l) (length shape.links) l h) ∙ ap (λ n. n % length shape.links) same ∙ mod-mul-add (number m) (length shape.links) m k)
 
-less_by : (a b n l m : ℕ) → a < b → l < n → a * n + l < b * n + m
+pub less_by : (a b n l m : ℕ) → a < b → l < n → a * n + l < b * n + m
 less_by a b n l m less below =
     let d = b - (a + 1) in
     let is : b ≡ a + 1 + (b - (a + 1)) = omega arith in
@@ -108,14 +108,18 @@ sound shape w busy rule =
 
 -- ---- from numbers to the rule
 
-numbered_keep : (shape : Shape) (rule : IsNumberedCyclic shape) → AllKeepPlaces shape
-numbered_keep shape rule i h s e b =
-    let here = rule.order i b.link s e b.reaches.possible b.reaches.on in
-    let there = rule.order i b.other_link b.other_run b.other_event b.other_reaches.possible b.other_reaches.on in
+-- a part that keeps an order keeps places
+pub order_keeps : (shape : Shape) (i : ℕ) → HasOrder shape i → KeepsPlaces shape i
+order_keeps shape i rule s e b =
+    let here = rule.order b.link s e b.reaches.possible b.reaches.on in
+    let there = rule.order b.other_link b.other_run b.other_event b.other_reaches.possible b.other_reaches.on in
     elim b.clash [
-      | inl c ↦ places_differ shape rule.number i b.link b.other_link b.reaches.on.within b.other_reaches.on.within b.reaches.on.end b.other_reaches.on.end (rule.differ i b.link b.other_link b.reaches.on.within b.other_reaches.on.within b.reaches.on.end b.other_reaches.on.end c.0) (here ∙ c.1 ∙ sym there)
+      | inl c ↦ places_differ shape rule.number i b.link b.other_link b.reaches.on.within b.other_reaches.on.within b.reaches.on.end b.other_reaches.on.end (rule.differ b.link b.other_link b.reaches.on.within b.other_reaches.on.within b.reaches.on.end b.other_reaches.on.end c.0) (here ∙ c.1 ∙ sym there)
       | inr c ↦ c.1 (sym here ∙ ap (place_of shape rule.number i) c.0 ∙ there)
     ]
+
+numbered_keep : (shape : Shape) (rule : IsNumberedCyclic shape) → AllKeepPlaces shape
+numbered_keep shape rule i h = order_keeps shape i (record { number = rule.number; differ = rule.differ i; order = rule.order i })
 
 -- a link of the part that would stand before one that is reached was reached
 pub numbered_rise : (shape : Shape) → IsWellFormed shape → (rule : IsNumberedCyclic shape) → NumbersRise shape rule.number
@@ -145,27 +149,27 @@ numbered_rise shape w rule l m before =
         ]
 
 -- a full end is whole: an acceptance that meets the link has an event of it that is possible, so the link is next
-numbered_whole : (shape : Shape) (l i : ℕ) → IsWellFormed shape → (rule : IsNumberedCyclic shape) → l < length shape.links → IsTrue (is_end shape i l) → IsFullEnd shape rule.number l i → IsWholeEnd shape l i
-numbered_whole shape l i w rule h end full s short =
+numbered_whole : (shape : Shape) (number : ℕ → ℕ) (l i : ℕ) → IsWellFormed shape → KeepsOrder shape number → l < length shape.links → IsTrue (is_end shape i l) → IsFullEnd shape number l i → IsWholeEnd shape l i
+numbered_whole shape number l i w order h end full s short =
     let possible : IsPossible shape i s short.meets.event = record { runs = short.accepts.runs; next = w.possible i (end_of (part_at shape.parts i).table 0 s) short.place short.meets.event short.accepts.runs.part short.meets.first } in
-    let next = rule.order i l s short.meets.event possible (record { within = h; end = end; event = short.meets.second }) in
+    let next = order i l s short.meets.event possible (record { within = h; end = end; event = short.meets.second }) in
     both_ways (has (accepted shape i s short.place) short.missing) short.lacks (full s short.place short.accepts next short.missing short.on)
 
-pub complete : (shape : Shape) → IsWellFormed shape → IsNumberedCyclic shape → IsCyclic shape
-complete shape w rule = record {
-  order = numbered_keep shape rule;
-  numbered = record { number = rule.number; rise = numbered_rise shape w rule };
-  whole = λ l h. elim (rule.full l h) [
-    | inl left ↦ inl (numbered_whole shape l (link_at shape l).left w rule h (left_end shape l) left)
-    | inr right ↦ inr (numbered_whole shape l (link_at shape l).right w rule h (right_end shape l) right)
-  ];
-}
+numbered_wholes : (shape : Shape) (number : ℕ → ℕ) → IsWellFormed shape → KeepsOrder shape number → HasFullEnds shape number → (l : ℕ) → l < length shape.links → HasWholeEnd shape l
+numbered_wholes shape number w order full l h =
+    elim (full l h) [
+      | inl left ↦ inl (numbered_whole shape number l (link_at shape l).left w order h (left_end shape l) left)
+      | inr right ↦ inr (numbered_whole shape number l (link_at shape l).right w order h (right_end shape l) right)
+    ]
 
-pub is_published_rule : IsPublishedRule
-is_published_rule = record { sound = sound; complete = complete }
+pub complete : (shape : Shape) → IsWellFormed shape → IsNumberedCyclic shape → IsCyclic shape
+complete shape w rule = record { order = numbered_keep shape rule; numbered = record { number = rule.number; rise = numbered_rise shape w rule }; whole = numbered_wholes shape rule.number w rule.order rule.full }
+
+pub is_rule_by_numbers : IsRuleByNumbers
+is_rule_by_numbers = record { sound = sound; complete = complete }
+
+pub reached_ranks_fall : ReachedRanksFall
+reached_ranks_fall shape number ranking w differ order full ranks = ordered_ranks_fall shape number ranking (record { form = w; differ = differ; order = order; whole = numbered_wholes shape number w order full }) ranks
 
 pub numbered_ranks_fall : NumberedRanksFall
-numbered_ranks_fall shape rule ranking w ranks =
-    ordered_ranks_fall shape rule.number ranking
-    (record { form = w; differ = λ i l m s e possible on h end ne. rule.differ i l m on.within h on.end end ne; order = rule.order; whole = (complete shape w rule).whole })
-    ranks
+numbered_ranks_fall shape rule ranking w ranks = reached_ranks_fall shape rule.number ranking w (λ i l m s e possible on h end ne. rule.differ i l m on.within h on.end end ne) rule.order rule.full ranks

@@ -9,6 +9,7 @@ pub mod CyclicRule
 pub mod FormCheck
 pub mod Holders
 pub mod Live
+pub mod OneOrder
 pub mod Places
 pub mod RankCheck
 pub mod Resource

@@ -11,7 +11,7 @@ use Rattle.csp_tables.specs.Shape.{Shape, is_end, IsWellFormed}
 use Rattle.csp_tables.specs.Standing.{RunsTo}
 use Rattle.net_sound.proofs.Within.{part_form}
 use Rattle.design_rules.specs.Counts.{count_below}
-use Rattle.design_rules.specs.Cyclic.{links_of, ReachesLink, place_after, SamePlace, Clash, KeepsPlaces, MustPrecede, NumbersRise}
+use Rattle.design_rules.specs.Cyclic.{links_of, ReachesLink, place_after, SamePlace, Clash, KeepsPlaces, MustPrecede}
 use Rattle.design_rules.specs.CyclicRanking.{place_of}
 use Rattle.design_rules.proofs.Counts.{count_placed, count_strict, count_push_more, count_push_same}
 use Rattle.design_rules.proofs.Runs.{possible_after, run_induction, possible_within}
@@ -120,6 +120,10 @@ no_earlier shape i l q t f g below x a =
 
 -- ---- numbers that rise
 
+-- the numbers rise along the order of the part
+abbrev pub RiseAt : Shape → ℕ → (ℕ → ℕ) → Type 0
+RiseAt shape i number = (l m : ℕ) → (before : MustPrecede shape l m) → before.part ≡ i → number l < number m
+
 -- of two links that are reached in the first lap, the one at the earlier place must come before the other
 pub precedes : (shape : Shape) (i q r l m : ℕ) → Keeping shape i → q < r → r < links_of shape i → IsAt shape i q l → IsAt shape i r m → MustPrecede shape l m
 precedes shape i q r l m g less below x y = record {
@@ -154,7 +158,8 @@ precedes_rest shape i p l m g below x within end other none = record {
         ]
 
 -- the place of a reached link by the numbers is the place where it is reached
-pub place_is : (shape : Shape) (number : ℕ → ℕ) (i l : ℕ) (s : List ℕ) (e : ℕ) → Keeping shape i → NumbersRise shape number → ReachesLink shape i l s e → place_of shape number i l ≡ place_after shape s % links_of shape i
+pub place_is : (shape : Shape) (number : ℕ → ℕ) (i l : ℕ) (s : List ℕ) (e : ℕ) → Keeping shape i → RiseAt shape i number → ReachesLink shape i l s e → place_of shape number i l ≡ place_after shape s % links_of shape i
+unfolding precedes precedes_rest
 place_is shape number i l s e g rise a =
     let p = place_after shape s % links_of shape i in
     let below : place_after shape s % links_of shape i < links_of shape i = mod_below (place_after shape s) (links_of shape i) (some_links shape i l a.on.within a.on.end) in
@@ -164,7 +169,7 @@ place_is shape number i l s e g rise a =
       some = λ q h. earlier shape i g.form own.run own.reaches.possible.runs q (let place : place_after shape own.run ≡ place_after shape s % links_of shape i = own.place in omega arith);
       one = λ q m n h x y. one_link_at shape i m n x.run y.run x.event y.event g.keeps x.reaches y.reaches (ap (λ c. c % links_of shape i) (x.place ∙ sym y.place));
       apart = λ q r m h k x y. sym (mod-eq_of_lt (below_lap q h below)) ∙ sym (ap (λ c. c % links_of shape i) x.place) ∙ one_place_of shape i m x.run y.run x.event y.event g.keeps x.reaches y.reaches ∙ ap (λ c. c % links_of shape i) y.place ∙ mod-eq_of_lt (below_lap r k below);
-      passes = λ q m h x. (x.reaches.on.within, and_from _ _ x.reaches.on.end (lt-ltb (number m) (number l) (rise m l (precedes shape i q p m l g h below x own))));
+      passes = λ q m h x. (x.reaches.on.within, and_from _ _ x.reaches.on.end (lt-ltb (number m) (number l) (rise m l (precedes shape i q p m l g h below x own) refl)));
       only = λ m h test none. let parts = and_parts (is_end shape i m) (nat_lt (number m) (number l)) test in not_above m h parts.0 (ltb-true (number m) (number l) parts.1) below own none;
     })
   where
@@ -173,16 +178,17 @@ place_is shape number i l s e g rise a =
 
     not_above : (m : ℕ) → m < length shape.links → IsTrue (is_end shape i m) → number m < number l → place_after shape s % links_of shape i < links_of shape i → IsAt shape i (place_after shape s % links_of shape i) l → ((q : ℕ) → q < place_after shape s % links_of shape i → IsAt shape i q m → ⊥) → ⊥
     not_above m h end less below own none =
-        let more : number l < number m = rise l m (precedes_rest shape i (place_after shape s % links_of shape i) l m g below own h end (λ same. let e : number l ≡ number m = ap number same in omega arith) none) in
+        let more : number l < number m = rise l m (precedes_rest shape i (place_after shape s % links_of shape i) l m g below own h end (λ same. let e : number l ≡ number m = ap number same in omega arith) none) refl in
         omega arith
 
 -- links of a part share a number only where it reaches none of them
-pub reached_differ : (shape : Shape) (number : ℕ → ℕ) (i l m : ℕ) (s : List ℕ) (e : ℕ) → Keeping shape i → NumbersRise shape number → ReachesLink shape i l s e → m < length shape.links → IsTrue (is_end shape i m) → (l ≡ m → ⊥) → number l ≡ number m → ⊥
+pub reached_differ : (shape : Shape) (number : ℕ → ℕ) (i l m : ℕ) (s : List ℕ) (e : ℕ) → Keeping shape i → RiseAt shape i number → ReachesLink shape i l s e → m < length shape.links → IsTrue (is_end shape i m) → (l ≡ m → ⊥) → number l ≡ number m → ⊥
+unfolding precedes precedes_rest
 reached_differ shape number i l m s e g rise a h end other same =
     let below : place_after shape s % links_of shape i < links_of shape i = mod_below (place_after shape s) (links_of shape i) (some_links shape i l a.on.within a.on.end) in
     let own = first_lap shape i l s e g a in
-    let none = λ (q : ℕ) (less : q < place_after shape s % links_of shape i) (x : IsAt shape i q m). let before : number m < number l = rise m l (precedes shape i q (place_after shape s % links_of shape i) m l g less below x own) in lower before in
-    let after : number l < number m = rise l m (precedes_rest shape i (place_after shape s % links_of shape i) l m g below own h end other none) in
+    let none = λ (q : ℕ) (less : q < place_after shape s % links_of shape i) (x : IsAt shape i q m). let before : number m < number l = rise m l (precedes shape i q (place_after shape s % links_of shape i) m l g less below x own) refl in lower before in
+    let after : number l < number m = rise l m (precedes_rest shape i (place_after shape s % links_of shape i) l m g below own h end other none) refl in
     omega arith
   where
     lower : number m < number l → ⊥

@@ -246,7 +246,7 @@ held_within shape uses m j w a h =
       | inr e ↦ let f : (link_at shape h.link).left ≡ m = e.0 in (omega arith, kind)
     ]
 
-chains_rise : (shape : Shape) (uses : List UseSets) (number : ℕ → ℕ) → IsWellFormed shape → KeepUses shape uses → AreResourceNumbers shape uses number → ResourcesRise shape uses number
+pub chains_rise : (shape : Shape) (uses : List UseSets) (number : ℕ → ℕ) → IsWellFormed shape → KeepUses shape uses → AreResourceNumbers shape uses number → ResourcesRise shape uses number
 chains_rise shape uses number w a numbers m j h =
     let held = held_within shape uses m j w a h in
     let low = numbers m held.0 held.1 in

@@ -1,7 +1,8 @@
--- The rule of clients and servers (Martin 1996; Martin and Jassim 1997; Roscoe 1997, chapter 13). On each link one end is the
--- client and the other the server. The client requests; where the link has acknowledgements, the server acknowledges before
--- the next request. A server that takes requests takes all of them, and it takes none while it owes an acknowledgement; a
--- client that awaits an acknowledgement takes each. No component is its own client, by however many others.
+-- The rule of clients and servers (after Martin 1996, Martin and Jassim 1997 and chapter 13 of Roscoe 1997; this exact form is
+-- the project's own). On each link one end is the client and the other the server. The client requests; where the link has
+-- acknowledgements, the server acknowledges before the next request. A server that takes requests takes all of them, and it
+-- takes none while it owes an acknowledgement; a client that awaits an acknowledgement takes each. No component is its own
+-- client, by however many others.
 use Rattle.std.specs.Prelude.{◌≡◌, ◌<◌, ◌⊎◌, ℕ, List, [], ◌∷◌, Bool, true, false, ◌||◌, ◌&&◌, IsTrue, length, if◌then◌else◌}
 use Rattle.std.specs.List.{list_any}
 use Rattle.csp_base.specs.Members.{has}

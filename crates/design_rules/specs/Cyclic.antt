@@ -1,6 +1,6 @@
--- The rule of cyclic networks (Roscoe and Dathi 1987; Martin 1996; Roscoe 1997, chapter 13): each component goes through its
--- links in a fixed order, again and again, these orders agree, and on each link one end at least never offers a part of the
--- link's events alone.
+-- The rule of cyclic networks (after Roscoe and Dathi 1987, Martin 1996 and chapter 13 of Roscoe 1997; this exact form is the
+-- project's own): each component goes through its links in a fixed order, again and again, these orders agree, and on each
+-- link one end at least never offers some of the link's events without the others.
 --
 -- The order of a component is said by places. The place of an event is the number of shared events that were done before. A
 -- component with k links goes through them in a fixed order where two of its events lie on one link exactly where their

@@ -1,4 +1,5 @@
--- What is told where a network is not cyclic. One of the three stands exactly where the rule is broken.
+-- What is told where a network is not cyclic: a component without an order, orders that disagree, or a link without a whole
+-- end. Of these the first that stands is told.
 use Rattle.std.specs.Prelude.{◌<◌, ℕ, List, length}
 use Rattle.csp_tables.specs.Shape.{Shape, link_at}
 use Rattle.digraph.specs.Circle.{IsLeastCircle}

@@ -1,4 +1,4 @@
--- A cyclic network's ranking is good, each fault breaks the rule, and the rule is the published one.
+-- A cyclic network's ranking is good, each fault breaks the rule, and the rule can be said by numbers.
 --
 -- Why the ranking falls: a component comes to each link that it reaches at one place of its lap, which is also how many of its
 -- links have smaller numbers. So let a component have k links, and let it have done t shared events. It has done t / k laps,
@@ -12,17 +12,21 @@ use Rattle.csp_tables.specs.Shape.{Shape, IsWellFormed}
 use Rattle.csp_tables.specs.Standing.{IsBusyShape}
 use Rattle.csp_tables.specs.Ranking.{Ranking}
 use Rattle.csp_tables.specs.Falls.{Falls}
-use Rattle.design_rules.specs.Cyclic.{IsCyclic}
+use Rattle.design_rules.specs.Cyclic.{KeepsPlaces, IsCyclic}
 use Rattle.design_rules.specs.CyclicFaults.{HasNoOrder, OrdersDisagree, HasNoWholeEnd}
-use Rattle.design_rules.specs.CyclicNumbered.{IsNumberedCyclic}
+use Rattle.design_rules.specs.CyclicNumbered.{ReachedLinksDiffer, KeepsOrder, HasFullEnds, HasOrder, IsNumberedCyclic}
 use Rattle.design_rules.specs.CyclicRanking.{AreCyclicRanks, IsCyclicRanking}
 
 abbrev pub CyclicRanksFall : Type 0
 CyclicRanksFall = (shape : Shape) (ranking : Ranking) → IsWellFormed shape → IsCyclic shape → IsCyclicRanking shape ranking → Falls shape.parts ranking
 
--- the same for every numbering of the published rule, whether or not its numbers are the smallest
+-- the same for every numbering by which the rule can be said, whether or not its numbers are the smallest
 abbrev pub NumberedRanksFall : Type 0
 NumberedRanksFall = (shape : Shape) (rule : IsNumberedCyclic shape) (ranking : Ranking) → IsWellFormed shape → AreCyclicRanks shape rule.number ranking → Falls shape.parts ranking
+
+-- and where links that a component never reaches share a number
+abbrev pub ReachedRanksFall : Type 0
+ReachedRanksFall = (shape : Shape) (number : ℕ → ℕ) (ranking : Ranking) → IsWellFormed shape → ReachedLinksDiffer shape number → KeepsOrder shape number → HasFullEnds shape number → AreCyclicRanks shape number ranking → Falls shape.parts ranking
 
 -- each fault breaks the rule
 pub record CyclicFaultsRefute : Type 0 where
@@ -30,7 +34,13 @@ pub record CyclicFaultsRefute : Type 0 where
   pub orders_disagree : (shape : Shape) (links : List ℕ) → IsCyclic shape → OrdersDisagree shape links → ⊥
   pub no_whole_end : (shape : Shape) (l : ℕ) (s t : List ℕ) → IsCyclic shape → HasNoWholeEnd shape l s t → ⊥
 
--- the rule is the published one
-pub record IsPublishedRule : Type 0 where
+-- A component keeps places exactly where its links have an order that it keeps. (To find the order one has to search for the
+-- links that it never reaches; that there is none is refuted without.)
+pub record PlacesAreOrders : Type 0 where
+  pub sound : (shape : Shape) (i : ℕ) → IsWellFormed shape → KeepsPlaces shape i → (HasOrder shape i → ⊥) → ⊥
+  pub complete : (shape : Shape) (i : ℕ) → HasOrder shape i → KeepsPlaces shape i
+
+-- the rule by numbers is the same
+pub record IsRuleByNumbers : Type 0 where
   pub sound : (shape : Shape) → IsWellFormed shape → IsBusyShape shape → IsCyclic shape → IsNumberedCyclic shape
   pub complete : (shape : Shape) → IsWellFormed shape → IsNumberedCyclic shape → IsCyclic shape

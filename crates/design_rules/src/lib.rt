@@ -2,17 +2,18 @@
 #![tactic(auto)]
 
 ghost use Rattle.design_rules.specs.ClientServerLaws.{ClientServerFaultsRefute, ClientServerRanksFall};
-ghost use Rattle.design_rules.specs.CyclicLaws.{CyclicFaultsRefute, CyclicRanksFall, IsPublishedRule, NumberedRanksFall};
+ghost use Rattle.design_rules.specs.CyclicLaws.{CyclicFaultsRefute, CyclicRanksFall, IsRuleByNumbers, NumberedRanksFall, PlacesAreOrders, ReachedRanksFall};
 ghost use Rattle.design_rules.specs.Example.{PairIsClientServer, RowIsCyclic, TwoUsersAreResource};
 ghost use Rattle.design_rules.specs.Live.{CyclicMeansLive, ClientServerMeansLive, ResourceMeansLive};
 ghost use Rattle.design_rules.specs.ResourceLaws.{OrderedRanksFall, ResourceFaultsRefute, ResourceRanksFall};
 
 use net_sound::Transitions;
 
-/// The ranking of a cyclic network falls: the one with the smallest numbers, and any other by the published rule.
+/// The ranking of a cyclic network falls: the one with the smallest numbers, and any other by which the rule can be said.
 pub fn cyclic_ranks_fall()
     ensures chains { CyclicRanksFall }
     ensures numbered { NumberedRanksFall }
+    ensures reached { ReachedRanksFall }
 {}
 
 /// Each fault that is told of a network breaks the cyclic rule.
@@ -20,9 +21,10 @@ pub fn cyclic_faults_refute()
     ensures { CyclicFaultsRefute }
 {}
 
-/// The cyclic rule is the published one.
-pub fn cyclic_rule_is_published()
-    ensures { IsPublishedRule }
+/// The cyclic rule can be said by numbers of the links, for one component and for a network.
+pub fn cyclic_rule_by_numbers()
+    ensures component { PlacesAreOrders }
+    ensures network { IsRuleByNumbers }
 {}
 
 /// The ranking of a client-server network falls.
