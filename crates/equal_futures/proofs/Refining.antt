@@ -1,5 +1,5 @@
 -- A round of refinement tells nodes apart by whether they are alike.
-use Rattle.std.proofs.Common.{◌≡◌, ℕ, ◌-◌, ◌<◌, ◌≤◌, List, [], ◌∷◌, length, get_or, sym, ap, ◌∙◌, subst, arith}
+use Rattle.std.proofs.Common.{◌≡◌, ℕ, ◌<◌, List, [], ◌∷◌, length, get_or, ap}
 use Rattle.std.specs.Prelude.{slice_index}
 use Rattle.csp_tables.specs.Table.{Node, node_at}
 use Rattle.equal_futures.specs.Future.{NodesRise}

@@ -8,4 +8,5 @@ pub mod Merging
 pub mod Walking
 pub mod SameFuture
 pub mod Reaching
+pub mod Few
 pub mod Normal

@@ -9,11 +9,12 @@ use Rattle.std.proofs.Math.ListN.{get_or-eq_default}
 use Rattle.csp_base.proofs.Rising.{rises_from_increasing}
 use Rattle.csp_tables.specs.Label.{Label}
 use Rattle.csp_tables.specs.Trace.{IsTrace, IsAcceptance, HaveSameFuture}
-use Rattle.csp_tables.specs.Table.{Node, node_at, is_run, end_of, acceptances_after, IsRun}
+use Rattle.csp_tables.specs.Table.{Node, node_at, is_run, end_of, acceptances_after, IsRun, IsReached}
 use Rattle.csp_tables.specs.NormalTable.{IsListed, IsNormalTable, HasAcceptances, IsRisingNode}
 use Rattle.csp_tables.specs.Behaviour.{OffersAcceptance}
 use Rattle.csp_tables.specs.BreadthFirst.{IsBreadthFirst, targets_of_nodes}
-use Rattle.csp_tables.specs.Shape.{IsReached}
+use Rattle.csp_tables.specs.RawTable.{RawTable, RawStep}
+use Rattle.csp_tables.specs.RawForm.{HasRawForm}
 use Rattle.determinise.specs.Determinised.{Determinised, FollowsTraces}
 use Rattle.equal_futures.specs.Future.{NodesRise, StepsRise}
 use Rattle.equal_futures.proofs.Growing.{few_seen}
@@ -24,6 +25,7 @@ use Rattle.normal_form.proofs.MergedRuns.{in_classes, runs_merged, ends_merged, 
 use Rattle.normal_form.proofs.MergedOrder.{breadth_merged}
 use Rattle.normal_form.proofs.SameFuture.{same_from_equal, equal_from_same}
 use Rattle.normal_form.proofs.Reaching.{reached}
+use Rattle.normal_form.proofs.Few.{few_acceptances}
 
 abbrev none : Node
 none = record { next = []; accept = [] }
@@ -91,10 +93,11 @@ module _ (Step : ℕ → Label → ℕ → Type 0) (nodes merged : List Node) (t
         λ f. ends s left ∙ exact.1 (equal_from_same Step 0 nodes m.marks some rise m.told (in_order_at nodes order) traces accepts s t left right f) ∙ sym (ends t right),
       )
 
-  pub normal : IsNormalTable Step 0 merged
-  normal = record {
-    traces = λ s. (λ h. runs s ∙ (traces s).0 h, λ r. (traces s).1 (sym (runs s) ∙ r));
-    classes = told_apart;
+  pub merged_traces : (s : List ℕ) → IsTrace Step 0 s ↔ IsRun merged s
+  merged_traces s = (λ h. runs s ∙ (traces s).0 h, λ r. (traces s).1 (sym (runs s) ∙ r))
+
+  pub merged_acceptances : HasAcceptances Step 0 merged
+  merged_acceptances = record {
     sound = λ s k trace below.
         let same : acceptances_after merged s ≡ acceptances_after nodes s = accepted s trace in
         subst (λ (xs : List (List ℕ)). IsAcceptance Step 0 s (get_or xs k [])) (sym same) (accepts.sound s k trace (subst (λ (xs : List (List ℕ)). k < length xs) same below));
@@ -116,14 +119,11 @@ module _ (Step : ℕ → Label → ℕ → Type 0) (nodes merged : List Node) (t
       let inside : f.node < length nodes = let w = f.within in let one = m.futures.one_each in omega (arith, w, one) in
       ap (node_at merged) (sym f.class) ∙ m.is.first f.node inside (is_first m.classes m.count m.futures.order f.node f.within (f.class ∙ sym f.turn))
 
-  pub in_order : All IsRisingNode merged
-  in_order = All-from_get_or IsRisingNode merged none (λ k below.
+  pub merged_rising : All IsRisingNode merged
+  merged_rising = All-from_get_or IsRisingNode merged none (λ k below.
       let f = first_node k below in
       let inside : f.node < length nodes = let w = f.within in let one = m.futures.one_each in omega (arith, w, one) in
       subst IsRisingNode (sym (node_is k below)) (in_order_renamed m.classes (node_at nodes f.node) (in_order_at nodes order f.node inside)))
-
-  pub breadth_first : IsBreadthFirst merged
-  breadth_first = breadth_merged nodes m.marks m.classes m.count merged rise m.futures m.is breadth
 
   pub all_reached : (k : ℕ) → k < length merged → IsReached merged k
   all_reached k below =
@@ -135,24 +135,29 @@ module _ (Step : ℕ → Label → ℕ → Type 0) (nodes merged : List Node) (t
   pub no_more_nodes : length merged ≤ length nodes
   no_more_nodes = let few : m.count ≤ 0 + length m.classes = few_seen 0 m.classes m.count m.futures.order in let one = m.futures.one_each in let all = m.is.one_each in omega (arith, few, one, all)
 
--- all that the merged table is, as the code has the nodes
-pub record IsAsPromised (Step : ℕ → Label → ℕ → Type 0) (merged : List Node) : Type 0 where
-  pub normal : IsNormalTable Step 0 merged
-  pub in_order : All IsRisingNode merged
-  pub breadth_first : IsBreadthFirst merged
-  pub reached : (n : ℕ) → n < length merged → IsReached merged n
-  pub few : length merged ≤ 2048
+  pub normal : (most : ℕ) → ((n : ℕ) → length (node_at merged n).accept ≤ most) → IsNormalTable Step 0 most merged
+  normal most few = record {
+    traces = merged_traces;
+    classes = told_apart;
+    acceptances = merged_acceptances;
+    rising = merged_rising;
+    breadth_first = breadth_merged nodes m.marks m.classes m.count merged rise m.futures m.is breadth;
+    reached = all_reached;
+    few = few;
+  }
 
-pub promised : (Step : ℕ → Label → ℕ → Type 0) (made : Determinised) (nodes merged : List Node) → nodes ≡ made.nodes → FollowsTraces Step 0 made → HasAcceptances Step 0 made.nodes → All IsRisingNode made.nodes → IsBreadthFirst made.nodes → length made.nodes ≤ 2048 → IsMergedTable nodes merged → IsAsPromised Step merged
-promised Step made nodes merged same follows accepts order breadth few m =
+pub normal_of_raw : (raw : RawTable) (made : Determinised) (nodes merged : List Node) → HasRawForm raw → nodes ≡ made.nodes → FollowsTraces (RawStep raw) 0 made → HasAcceptances (RawStep raw) 0 made.nodes → All IsRisingNode made.nodes → IsBreadthFirst made.nodes → IsMergedTable nodes merged → IsNormalTable (RawStep raw) 0 raw.count merged
+normal_of_raw raw made nodes merged form same follows accepts order breadth m =
     let is : IsMergedTable made.nodes merged = subst (λ (ns : List Node). IsMergedTable ns merged) same m in
-    record {
-      normal = normal Step made.nodes merged follows.traces accepts order breadth is;
-      in_order = in_order Step made.nodes merged follows.traces accepts order breadth is;
-      breadth_first = breadth_first Step made.nodes merged follows.traces accepts order breadth is;
-      reached = all_reached Step made.nodes merged follows.traces accepts order breadth is;
-      few = let l = no_more_nodes Step made.nodes merged follows.traces accepts order breadth is in omega (arith, l, few);
-    }
+    normal (RawStep raw) made.nodes merged follows.traces accepts order breadth is raw.count
+    (few_acceptances raw merged form (merged_traces (RawStep raw) made.nodes merged follows.traces accepts order breadth is) (merged_acceptances (RawStep raw) made.nodes merged follows.traces accepts order breadth is)
+    (merged_rising (RawStep raw) made.nodes merged follows.traces accepts order breadth is) (all_reached (RawStep raw) made.nodes merged follows.traces accepts order breadth is))
+
+pub few_nodes : (raw : RawTable) (made : Determinised) (nodes merged : List Node) → nodes ≡ made.nodes → FollowsTraces (RawStep raw) 0 made → HasAcceptances (RawStep raw) 0 made.nodes → All IsRisingNode made.nodes → IsBreadthFirst made.nodes → length made.nodes ≤ 2048 → IsMergedTable nodes merged → length merged ≤ 2048
+few_nodes raw made nodes merged same follows accepts order breadth few m =
+    let is : IsMergedTable made.nodes merged = subst (λ (ns : List Node). IsMergedTable ns merged) same m in
+    let l = no_more_nodes (RawStep raw) made.nodes merged follows.traces accepts order breadth is in
+    omega (arith, l, few)
 
 pub rises : (made : Determinised) (nodes : List Node) → nodes ≡ made.nodes → All IsRisingNode made.nodes → IsBreadthFirst made.nodes → NodesRise nodes
 rises made nodes same order breadth = subst NodesRise (sym same) (nodes_rise made.nodes order breadth)

@@ -19,7 +19,7 @@ not_both : (r s : Ordering) → r ≡ ordering_reverse s → r ≡ Less → s �
 not_both r s turned a b = false≢true (sym (ap is_lt (turned ∙ ap ordering_reverse b)) ∙ ap is_lt a)
 
 -- neither of two lists is below the other both ways
-not_below_both : (x y : List ℕ) → Order x y ≡ Less → Order y x ≡ Less → ⊥
+pub not_below_both : (x y : List ℕ) → Order x y ≡ Less → Order y x ≡ Less → ⊥
 not_below_both x y a b = not_both (Order x y) (Order y x) (nat_list_cmp_total.antisymm x y) a b
 
 below_each : (x y : List ℕ) (ys : List (List ℕ)) → AllByRecursion (λ z. Order x z ≡ Less) ys → Member y ys → Order x y ≡ Less

@@ -2,10 +2,10 @@
 
 ghost use Rattle.std.specs.Prelude.{◌≡◌, ◌<◌, ◌≤◌, ℕ, All, IfOk, OnOk, length};
 ghost use Rattle.csp_tables.specs.RawTable.{RawStep};
-ghost use Rattle.csp_tables.specs.Heights.{AreHeights};
+ghost use Rattle.csp_tables.specs.Path.{SilentStep};
+ghost use Rattle.digraph.specs.Walk.{AreHeights};
 ghost use Rattle.csp_tables.specs.NormalTable.{IsNormalTable, HasAcceptances, IsRisingNode};
 ghost use Rattle.csp_tables.specs.BreadthFirst.{IsBreadthFirst};
-ghost use Rattle.csp_tables.specs.Shape.{IsReached};
 ghost use Rattle.determinise.specs.Determinised.{FollowsTraces};
 ghost use Rattle.determinise.specs.ManySets.{ReachesSets};
 
@@ -23,17 +23,15 @@ use tau_order::Heights;
 /// acceptances of a node stand in the order of lists. Where traces lead to more than 2,048 sets of terms, the answer is
 /// `SubsetLimit`.
 pub fn normalise(alloc: Global, table: &RawTable, heights: &Heights) -> Result<NormTable, NormFault>
-    requires heights { AreHeights table.now heights.now }
-    ensures normal { IfOk result (IsNormalTable (RawStep table.now) 0) }
-    ensures in_order { IfOk result (All IsRisingNode) }
-    ensures breadth_first { IfOk result IsBreadthFirst }
-    ensures reached { IfOk result (λ made. (n : ℕ) → n < length made → IsReached made n) }
+    requires heights { AreHeights (SilentStep (RawStep table.now)) table.now.count heights.now }
+    ensures normal { IfOk result (IsNormalTable (RawStep table.now) 0 table.now.count) }
     ensures few { IfOk result (λ made. length made ≤ 2048) }
 
     // It succeeds only where no more sets are reached, and the limit is told only where they are.
     ensures within_limit { OnOk result (ReachesSets (RawStep table.now) 0 2049 → ⊥) }
     ensures limit { (found : ℕ) → result ≡ Err (NormFault.SubsetLimit found) → (found ≡ 2049) × ReachesSets (RawStep table.now) 0 2049 }
 {
+    let _count = table.count();
     let sets = sets_of(alloc, table)?;
     let made = merged_nodes(alloc, sets.nodes())?;
     Ok(made)
