@@ -1,6 +1,6 @@
 -- What a reading within the limits settles on is what the reader of the grammar reads, or refuses, within the limit of depth.
-use Rattle.std.proofs.Common.{◌≡◌, ℕ, zero, suc, ◌+◌, ◌≤◌, Bool, true, false, nat_le, Option, Some, None, List, map, refl, sym, ap, subst, ◌∙◌, arith}
-use Rattle.csp_text.specs.Depth.{greatest, tree_depth}
+use Rattle.std.proofs.Common.{◌≡◌, ℕ, ◌≤◌, Bool, true, false, nat_le, Option, Some, None, List, refl, sym, ap, ◌∙◌, arith}
+use Rattle.csp_text.specs.Depth.{tree_depth}
 use Rattle.csp_text.specs.declared.token.Token.{Token}
 use Rattle.csp_text.specs.declared.tree.Tree.{Tree}
 use Rattle.csp_grammar.specs.Reader.{Readers, readers}
@@ -9,7 +9,7 @@ use Rattle.tree_reading.specs.Settled.{Settles}
 use Rattle.tree_reading.specs.Reads.{IfRead, Reads, Refuses}
 use Rattle.tree_reading.specs.declared.limits.Limits.{Limits}
 use Rattle.tree_reading.proofs.Growing.{Below, none, some, more_calls, more_calls_sum, tree_stays, atom_stays}
-use Rattle.tree_reading.proofs.Limiting.{Agree, neither, both, deep, itself, seen, good_tree, good_bound_list}
+use Rattle.tree_reading.proofs.Limiting.{Agree, neither, both, deep, itself, good_tree}
 use Rattle.tree_reading.proofs.Within.{all_agree}
 
 -- a reading that keeps what it gives, and agrees with one within the limit

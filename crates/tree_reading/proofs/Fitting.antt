@@ -1,5 +1,5 @@
 -- Depths within a limit.
-use Rattle.std.proofs.Common.{◌≡◌, ℕ, zero, suc, ◌+◌, max, true, false, nat_le, arith}
+use Rattle.std.proofs.Common.{◌≡◌, ℕ, suc, ◌+◌, max, true, false, nat_le, arith}
 
 pub fit_max : (a b d : ℕ) → nat_le a d ≡ true → nat_le b d ≡ true → nat_le (max a b) d ≡ true
 fit_max a b d h k = grind (arith)

@@ -1,5 +1,5 @@
 -- A reader that may call the others more often gives whatever it gave before.
-use Rattle.std.proofs.Common.{◌≡◌, ℕ, zero, suc, ◌+◌, ◌≤◌, Bool, true, false, ◌&&◌, ◌||◌, nat_eq, nat_le, Option, Some, None, List, [], ◌∷◌, codes, refl, sym, ap, subst, ◌∙◌, arith}
+use Rattle.std.proofs.Common.{◌≡◌, ℕ, zero, suc, ◌+◌, Bool, true, false, ◌&&◌, nat_le, Option, Some, None, List, [], ◌∷◌, refl, sym, subst, arith}
 use Rattle.csp_text.specs.declared.token.Token.{Token}
 use Rattle.csp_text.specs.declared.token.Token.TheVariants as token
 use Rattle.csp_text.specs.declared.token.Word.{Word}
@@ -9,7 +9,7 @@ use Rattle.csp_text.specs.declared.token.Symbol.TheVariants as symbol
 use Rattle.csp_text.specs.declared.tree.Tree.{Tree}
 use Rattle.csp_base.specs.declared.operators.SetOp.{SetOp}
 use Rattle.csp_grammar.specs.Grammar.{Choice}
-use Rattle.csp_grammar.specs.Reader.{Readers, readers, next, nothing, and_then, case, when, choose, below, read_item, read_items, read_dots, read_part, read_parts, read_pairs, read_gen, read_gens, read_conditions, read_call, read_set_operator, read_range, read_comprehension, read_set, read_product, read_parentheses, read_word_atom, read_symbol_atom, read_atom, read_expression, read_renaming, read_operators, read_fields, read_event, read_if, read_each, read_each_parallel, read_guard, read_prefix, read_sequence, read_choices, read_hidings, read_side, read_parallel, read_tree, read_names, read_types, read_channel, read_datatype, read_nametype, read_parameters, read_definition, read_asserted_call, read_asserted, read_model, read_assertion, read_word_declaration, read_declaration, read_declarations, begins_event, only, left_needs, choice_symbol, first_choice}
+use Rattle.csp_grammar.specs.Reader.{Readers, readers, next, nothing, and_then, case, when, choose, below, read_item, read_items, read_dots, read_part, read_parts, read_pairs, read_gen, read_gens, read_conditions, read_call, read_set_operator, read_range, read_comprehension, read_set, read_product, read_parentheses, read_word_atom, read_symbol_atom, read_atom, read_expression, read_renaming, read_operators, read_fields, read_event, read_if, read_each, read_each_parallel, read_guard, read_prefix, read_sequence, read_choices, read_hidings, read_side, read_parallel, read_tree, begins_event, only, left_needs, choice_symbol, first_choice}
 use Rattle.csp_grammar.specs.Tokens.{begins, skip, skip_word, first_name, behind_name, first_operator}
 use Rattle.csp_grammar.proofs.Gives.{readers_next}
 

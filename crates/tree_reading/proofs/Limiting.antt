@@ -1,12 +1,12 @@
 -- What is read within a limit of depth is what the reader of the grammar reads, if that is no deeper than the limit.
-use Rattle.std.proofs.Common.{◌≡◌, ℕ, zero, suc, ◌+◌, ◌≤◌, max, Bool, true, false, ◌&&◌, nat_eq, nat_le, if◌then◌else◌, Option, Some, None, List, [], ◌∷◌, map, refl, sym, ap, subst, ◌∙◌, arith}
+use Rattle.std.proofs.Common.{◌≡◌, ℕ, zero, suc, Bool, true, false, nat_le, Option, Some, None, List, map, refl, sym, subst, arith}
 use Rattle.csp_text.specs.Depth.{gen_depth, greatest, greatest_of_pairs, field_depth, part_depth, tree_depth}
 use Rattle.csp_text.specs.declared.token.Token.{Token}
 use Rattle.csp_text.specs.declared.tree.Tree.{Tree}
 use Rattle.csp_text.specs.declared.tree.PartTree.{PartTree}
 use Rattle.csp_text.specs.declared.tree.FieldTree.{FieldTree}
 use Rattle.csp_text.specs.declared.tree.GenTree.{GenTree}
-use Rattle.csp_grammar.specs.Reader.{Readers, and_then, case, when, choose, below}
+use Rattle.csp_grammar.specs.Reader.{and_then, case, when, choose, below}
 use Rattle.tree_reading.specs.Bindings.{number}
 use Rattle.tree_reading.specs.Nesting.{sure, inside, bracketed, around}
 use Rattle.tree_reading.specs.Starts.{dot_fields}

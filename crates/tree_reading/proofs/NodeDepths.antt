@@ -1,5 +1,5 @@
 -- The depth of each form by those of its parts.
-use Rattle.std.proofs.Common.{◌≡◌, ℕ, ◌+◌, max, true, false, nat_le, Some, None, List, map, refl, sym, ap, ◌∙◌, arith}
+use Rattle.std.proofs.Common.{◌≡◌, ℕ, ◌+◌, max, false, nat_le, Some, None, List, map, sym, ap, ◌∙◌, arith}
 use Rattle.csp_text.specs.Depth.{event_depth, event_layer_depth, field_depth, field_layer_depth, gen_depth, gen_layer_depth, greatest, greatest_of_pairs, part_depth, part_layer_depth, tree_depth, tree_layer_depth}
 use Rattle.csp_text.specs.declared.tree.FieldTree.TheFolds.{fold-roll-Tree, fold-roll-FieldTree, fold-roll-GenTree, fold-roll-EventTree, fold-roll-PartTree, fold_out-Tree}
 use Rattle.csp_text.specs.declared.tree.FieldTree.TheOpen.{Tree-F, FieldTree-F, GenTree-F}

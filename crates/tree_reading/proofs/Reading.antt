@@ -1,7 +1,7 @@
 -- Readings step by step: how what a reading gives, and that it gives nothing, follows from its parts.
-use Rattle.std.proofs.Common.{◌≡◌, ℕ, zero, suc, ◌+◌, ◌≤◌, Bool, true, false, Option, Some, None, List, [], ◌∷◌, ◌++◌, append_assoc, refl, sym, ap, subst, ◌∙◌, arith}
+use Rattle.std.proofs.Common.{◌≡◌, ℕ, zero, suc, ◌+◌, ◌≤◌, Bool, true, Option, Some, None, List, [], ◌∷◌, ◌++◌, append_assoc, refl, sym, ap, subst, ◌∙◌, arith}
 use Rattle.csp_text.specs.declared.token.Token.{Token}
-use Rattle.csp_grammar.specs.Reader.{Readers, readers, next, nothing, and_then, case, when, choose, below}
+use Rattle.csp_grammar.specs.Reader.{Readers, readers, next, nothing, and_then, case, when}
 use Rattle.csp_grammar.proofs.Gives.{readers_next}
 use Rattle.tree_reading.specs.Reads.{IfRead, Reads, Refuses, Any}
 

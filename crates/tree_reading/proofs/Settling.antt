@@ -1,6 +1,6 @@
 -- How readings within a limit of depth settle, one step of the readers after another.
-use Rattle.std.proofs.Common.{◌≡◌, ℕ, zero, suc, ◌+◌, ◌≤◌, Bool, true, false, Option, Some, None, refl, sym, ap, ◌∙◌, arith}
-use Rattle.csp_grammar.specs.Reader.{and_then, case, when, choose, below}
+use Rattle.std.proofs.Common.{◌≡◌, ℕ, zero, suc, ◌+◌, ◌≤◌, Option, Some, None, refl, ap, ◌∙◌, arith}
+use Rattle.csp_grammar.specs.Reader.{and_then}
 use Rattle.tree_reading.specs.Limited.{Limited, limited, next_limited}
 use Rattle.tree_reading.specs.Settled.{Settles}
 

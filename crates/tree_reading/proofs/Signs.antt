@@ -1,5 +1,5 @@
 -- The sign that goes on with an operand, as the reader of the grammar looks for it.
-use Rattle.std.proofs.Common.{◌≡◌, ℕ, suc, Bool, true, false, ◌&&◌, nat_eq, nat_le, if◌then◌else◌, Option, Some, None, List, [], ◌∷◌, refl, sym, ap, ◌∙◌, arith}
+use Rattle.std.proofs.Common.{◌≡◌, ℕ, suc, Bool, true, false, ◌&&◌, nat_le, if◌then◌else◌, Some, None, List, [], ◌∷◌, refl, sym, arith}
 use Rattle.csp_text.specs.declared.token.Token.{Token}
 use Rattle.csp_text.specs.declared.token.Token.TheVariants as token
 use Rattle.csp_text.specs.declared.token.Word.{Word}
@@ -10,9 +10,8 @@ use Rattle.csp_base.specs.declared.operators.BinOp.{BinOp}
 use Rattle.csp_base.specs.declared.operators.BinOp.TheVariants as operator
 use Rattle.csp_grammar.specs.Reader.{left_needs}
 use Rattle.csp_grammar.specs.Tokens.{begins, behind, first_operator, skip}
-use Rattle.tree_reading.specs.Bindings.{number, tighter, left_operand}
+use Rattle.tree_reading.specs.Bindings.{number, tighter}
 use Rattle.tree_reading.specs.Starts.{sign_behind}
-use Rattle.tree_reading.specs.declared.look.Sign.{Sign}
 use Rattle.tree_reading.specs.declared.look.Sign.TheVariants as sign
 use Rattle.tree_reading.specs.declared.read.Binding.{Binding}
 use Rattle.tree_reading.specs.declared.read.Binding.TheVariants as binding

@@ -1,6 +1,5 @@
 -- The reader within a limit of depth reads what the reader of the grammar reads, if that is no deeper than the limit.
-use Rattle.std.proofs.Common.{◌≡◌, ℕ, zero, suc, ◌+◌, ◌≤◌, Bool, true, false, nat_le, Option, Some, None, List, refl, sym, ap, subst, ◌∙◌, arith}
-use Rattle.csp_text.specs.declared.token.Token.{Token}
+use Rattle.std.proofs.Common.{◌≡◌, ℕ, zero, suc, refl, sym, subst}
 use Rattle.csp_grammar.specs.Reader.{Readers, readers, next, nothing}
 use Rattle.csp_grammar.proofs.Gives.{readers_next}
 use Rattle.tree_reading.specs.Limited.{Limited, limited, next_limited, nothing_limited}

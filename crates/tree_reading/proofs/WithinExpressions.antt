@@ -1,6 +1,6 @@
 -- Expressions, lists and atoms within a limit of depth, where the readers that they call agree.
-use Rattle.std.proofs.Common.{◌≡◌, ℕ, zero, suc, ◌+◌, max, Bool, true, false, nat_le, if◌then◌else◌, Option, Some, None, List, [], ◌∷◌, map, refl, sym, ap, ◌∙◌, arith}
-use Rattle.csp_text.specs.Depth.{gen_depth, greatest, greatest_of_pairs, field_depth, part_depth, tree_depth}
+use Rattle.std.proofs.Common.{◌≡◌, ℕ, zero, suc, max, Bool, true, false, nat_le, if◌then◌else◌, Option, Some, None, List, [], ◌∷◌, map, refl, ap, ◌∙◌}
+use Rattle.csp_text.specs.Depth.{gen_depth, greatest, greatest_of_pairs, part_depth, tree_depth}
 use Rattle.csp_text.specs.declared.token.Token.{Token}
 use Rattle.csp_text.specs.declared.token.Token.TheVariants as token
 use Rattle.csp_text.specs.declared.token.Symbol.{Symbol}
@@ -8,7 +8,6 @@ use Rattle.csp_text.specs.declared.token.Symbol.TheVariants as symbol
 use Rattle.csp_text.specs.declared.token.Word.{Word}
 use Rattle.csp_text.specs.declared.token.Word.TheVariants as word
 use Rattle.csp_base.specs.declared.operators.SetOp.TheVariants as set_op
-use Rattle.csp_base.specs.declared.operators.BinOp.{BinOp}
 use Rattle.tree_reading.specs.declared.look.AtomStart.{AtomStart}
 use Rattle.tree_reading.specs.declared.look.AtomStart.TheVariants as start
 use Rattle.tree_reading.specs.Starts.{word_start, symbol_start}
@@ -16,22 +15,21 @@ use Rattle.csp_text.specs.declared.tree.Tree.{Tree}
 use Rattle.csp_text.specs.declared.tree.Tree.TheVariants as tree
 use Rattle.csp_base.specs.declared.operators.SetOp.{SetOp}
 use Rattle.csp_text.specs.declared.tree.PartTree.{PartTree}
-use Rattle.csp_text.specs.declared.tree.GenTree.{GenTree}
 use Rattle.csp_text.specs.declared.tree.GenTree.TheVariants as generator
 use Rattle.csp_grammar.specs.Grammar.{part_tree}
 use Rattle.csp_grammar.specs.Reader as r
 use Rattle.csp_grammar.specs.Reader.{Readers, Reading, and_then, case, choose, below, dotted_tree, only, begins_event}
 use Rattle.csp_grammar.specs.Tokens.{skip, skip_word, first_name, behind_name}
-use Rattle.tree_reading.specs.Bindings.{number, tighter}
-use Rattle.tree_reading.specs.Nesting.{around, bracketed, inside}
+use Rattle.tree_reading.specs.Bindings.{number}
+use Rattle.tree_reading.specs.Nesting.{bracketed, inside}
 use Rattle.tree_reading.specs.declared.limits.Limits.{Limits}
 use Rattle.tree_reading.specs.Limited as l
 use Rattle.tree_reading.specs.Limited.{Limited}
 use Rattle.tree_reading.specs.Starts.{named}
 use Rattle.tree_reading.specs.declared.read.Binding.{Binding}
 use Rattle.tree_reading.specs.declared.read.Binding.TheVariants as binding
-use Rattle.tree_reading.proofs.Fitting.{fit_max, fit_none, fit_first, deep_only, deep_left, deep_right, fit_node, deep_node, deep_around}
-use Rattle.tree_reading.proofs.Limiting.{Agree, AllBad, neither, both, deep, nothing, bad, unread, by_then, assoc, look, by_case, by_sure, at, by_bracketed, by_inside, by_around, bad_then, bad_case, bad_when, bad_choose, bad_below, itself, seen, good_tree, good_bound, good_list, good_bound_list, good_part, good_parts, good_pairs, good_gen, good_gens, both_tree, both_bound, both_list, both_bound_list, both_part, both_parts, both_pairs, both_gen, both_gens, bad_tree, bad_bound, bad_list, bad_bound_list, bad_part, bad_parts, bad_pairs, bad_gen, bad_gens}
+use Rattle.tree_reading.proofs.Fitting.{fit_max, fit_none, fit_first, deep_only, deep_left, deep_right, fit_node, deep_node}
+use Rattle.tree_reading.proofs.Limiting.{Agree, AllBad, neither, nothing, bad, unread, by_then, assoc, look, by_case, by_sure, at, by_bracketed, by_inside, bad_then, bad_case, bad_when, itself, seen, good_tree, good_bound, good_list, good_bound_list, good_part, good_parts, good_pairs, good_gen, good_gens, both_tree, both_bound, both_list, both_bound_list, both_part, both_parts, both_pairs, both_gen, both_gens, bad_tree, bad_bound, bad_list, bad_bound_list, bad_part, bad_parts, bad_pairs, bad_gen, bad_gens}
 use Rattle.tree_reading.proofs.NodeDepths as n
 use Rattle.tree_reading.proofs.NodeDepths.{positive, depth-part, depth-From, depth-Cond}
 

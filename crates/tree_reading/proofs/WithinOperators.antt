@@ -1,46 +1,25 @@
 -- Operators, fields and processes within a limit of depth, where the readers that they call agree.
-use Rattle.std.proofs.Common.{◌≡◌, ℕ, zero, suc, ◌+◌, max, Bool, true, false, nat_le, if◌then◌else◌, Option, Some, None, List, [], ◌∷◌, map, refl, sym, ap, subst, ◌&&◌, ◌∙◌, arith}
-use Rattle.csp_text.specs.Depth.{gen_depth, greatest, greatest_of_pairs, field_depth, part_depth, tree_depth}
+use Rattle.std.proofs.Common.{◌≡◌, ℕ, zero, suc, max, Bool, true, false, nat_le, Some, None, List, map, refl, sym, subst, ◌&&◌}
+use Rattle.csp_text.specs.Depth.{gen_depth, greatest, greatest_of_pairs, part_depth, tree_depth}
 use Rattle.csp_text.specs.declared.token.Token.{Token}
-use Rattle.csp_text.specs.declared.token.Token.TheVariants as token
-use Rattle.csp_text.specs.declared.token.Symbol.{Symbol}
 use Rattle.csp_text.specs.declared.token.Symbol.TheVariants as symbol
-use Rattle.csp_text.specs.declared.token.Word.{Word}
-use Rattle.csp_text.specs.declared.token.Word.TheVariants as word
-use Rattle.csp_base.specs.declared.operators.SetOp.TheVariants as set_op
 use Rattle.csp_base.specs.declared.operators.BinOp.{BinOp}
-use Rattle.tree_reading.specs.declared.look.AtomStart.{AtomStart}
-use Rattle.tree_reading.specs.declared.look.AtomStart.TheVariants as start
-use Rattle.tree_reading.specs.Starts.{word_start, symbol_start}
 use Rattle.csp_text.specs.declared.tree.Tree.{Tree}
 use Rattle.csp_text.specs.declared.tree.Tree.TheVariants as tree
-use Rattle.csp_base.specs.declared.operators.SetOp.{SetOp}
-use Rattle.csp_text.specs.declared.tree.FieldTree.{FieldTree}
-use Rattle.csp_text.specs.declared.tree.FieldTree.TheVariants as field
-use Rattle.csp_text.specs.declared.tree.PartTree.{PartTree}
-use Rattle.csp_text.specs.declared.tree.GenTree.{GenTree}
-use Rattle.csp_text.specs.declared.tree.GenTree.TheVariants as generator
-use Rattle.csp_grammar.specs.Grammar.{Choice, choice_of, event_tree}
-use Rattle.csp_grammar.specs.Grammar.Choice.{external, internal}
 use Rattle.csp_grammar.specs.Reader as r
 use Rattle.csp_grammar.specs.Reader.{Readers, Reading, and_then, case, choose, below, when, dotted_tree, with_first, begins_event, left_needs, choice_symbol, first_choice, closed_or_open}
-use Rattle.csp_grammar.specs.Tokens.{begins, behind, first_operator, skip, skip_word, first_name, behind_name}
-use Rattle.tree_reading.specs.Bindings.{number, of_process, tighter}
-use Rattle.tree_reading.specs.Nesting.{around, bracketed, inside, sure}
-use Rattle.tree_reading.specs.declared.limits.Limits.{Limits}
+use Rattle.csp_grammar.specs.Tokens.{begins, behind, first_operator, skip}
+use Rattle.tree_reading.specs.Bindings.{number, tighter}
+use Rattle.tree_reading.specs.Nesting.{around, sure}
 use Rattle.tree_reading.specs.Limited as l
 use Rattle.tree_reading.specs.Limited.{Limited}
-use Rattle.tree_reading.specs.Starts.{named, choice, chain_symbol, dot_fields, dotted_fields, each_tree, first_chain, prefix_start, form_start, sign_behind}
-use Rattle.tree_reading.specs.declared.look.Chain.{Chain}
-use Rattle.tree_reading.specs.declared.look.Chain.TheVariants as chain
-use Rattle.tree_reading.specs.declared.look.PrefixStart.TheVariants as opening
 use Rattle.tree_reading.specs.declared.look.Sign.TheVariants as sign
-use Rattle.tree_reading.proofs.Signs.{SignView, stops, is_operator, is_renaming, goes_on, sign_view}
-use Rattle.tree_reading.proofs.WithinExpressions.{Limiting, by_named, none_bound, none_tree, conditions_within}
+use Rattle.tree_reading.proofs.Signs.{SignView, stops, is_operator, is_renaming, sign_view}
+use Rattle.tree_reading.proofs.WithinExpressions.{Limiting, conditions_within}
 use Rattle.tree_reading.specs.declared.read.Binding.{Binding}
 use Rattle.tree_reading.specs.declared.read.Binding.TheVariants as binding
-use Rattle.tree_reading.proofs.Fitting.{fit_max, fit_none, fit_first, deep_only, deep_left, deep_right, fit_node, deep_node, deep_around, deep_whole}
-use Rattle.tree_reading.proofs.Limiting.{Agree, AllBad, neither, both, deep, nothing, bad, unread, by_then, assoc, look, by_case, by_sure, at, by_bracketed, by_inside, by_around, bad_then, bad_case, bad_when, bad_choose, bad_below, itself, seen, good_tree, good_bound, good_list, good_bound_list, good_part, good_parts, good_pairs, good_gen, good_gens, both_tree, both_bound, both_list, both_bound_list, both_part, both_parts, both_pairs, both_gen, both_gens, bad_tree, bad_bound, bad_list, bad_bound_list, bad_part, bad_parts, bad_pairs, bad_gen, bad_gens, good_fields, seen_fields, decided, no_zero, case_some, case_none, to_first, to_second, to_some, to_none, to_then}
+use Rattle.tree_reading.proofs.Fitting.{fit_max, deep_left, deep_right, fit_node, deep_node, deep_around, deep_whole}
+use Rattle.tree_reading.proofs.Limiting.{Agree, AllBad, neither, unread, by_then, assoc, look, at, bad_then, bad_case, bad_choose, bad_below, seen, good_bound, both_bound, bad_bound, decided, no_zero, case_some, case_none, to_first, to_second, to_some, to_none, to_then}
 use Rattle.tree_reading.proofs.NodeDepths as n
 use Rattle.tree_reading.proofs.NodeDepths.{positive, depth-part, depth-From, depth-Cond}
 

@@ -1,9 +1,9 @@
 //! Trees from their parts.
 
-ghost use Rattle.std.specs.Prelude.{◌≡◌, IfOk};
+ghost use Rattle.std.specs.Prelude.{◌≡◌, [], ◌∷◌, ◌++◌, IfOk, Some};
 ghost use Rattle.csp_text.specs.declared.tree.Tree.TheVariants as tree;
 ghost use Rattle.csp_grammar.specs.Grammar.{choice_of, event_tree};
-ghost use Rattle.csp_grammar.specs.Reader.{dotted_tree, only};
+ghost use Rattle.csp_grammar.specs.Reader.{and_then, dotted_tree, only};
 ghost use Rattle.tree_reading.specs.Gives.{Gives};
 ghost use Rattle.tree_reading.specs.Starts.{choice, dot_field, dot_fields, dotted_fields, each_tree};
 
@@ -228,6 +228,14 @@ pub fn parallel(
     boxed(alloc, Tree::Parallel(p, a, b, q))
 }
 
+// The one item that there is.
+fn alone(alloc: Global, item: Tree) -> Result<Boxed<Tree>, ReadFault>
+    ensures { Gives result (λ t. t) (Some item) }
+{
+    let item = boxed(alloc, item)?;
+    Ok(item)
+}
+
 /// The one item of a list, which has to have no other.
 pub fn expect_only(
     alloc: Global,
@@ -238,13 +246,10 @@ pub fn expect_only(
 {
     let mut items = items;
     match items.pop() {
+        Some(last) if items.is_empty() => alone(alloc, last),
         Some(last) => {
-            let last = boxed(alloc, last)?;
-            if items.is_empty() {
-                Ok(last)
-            } else {
-                Err(stopped(tokens))
-            }
+            drop(last);
+            Err(stopped(tokens))
         }
         None => Err(stopped(tokens)),
     }
@@ -267,6 +272,19 @@ fn to_dot(field: FieldTree) -> Option<Tree>
     }
 }
 
+// Adds the tree of a field, which has to have a dot.
+fn push_dot(trees: &mut Items<Tree>, field: FieldTree, tokens: &[Token]) -> Result<(), ReadFault>
+    ensures { Gives result (λ _. trees.new) (and_then (dot_field field) λ a. Some (trees.old ++ a ∷ [])) }
+{
+    match to_dot(field) {
+        Some(tree) => {
+            trees.push(tree)?;
+            Ok(())
+        }
+        None => Err(stopped(tokens)),
+    }
+}
+
 // The trees of fields that all have a dot.
 fn expect_dots(
     alloc: Global,
@@ -277,10 +295,7 @@ fn expect_dots(
 {
     let mut trees = Items::new(alloc);
     for field in fields.into_vec() {
-        match to_dot(field) {
-            Some(tree) => trees.push(tree)?,
-            None => return Err(stopped(tokens)),
-        }
+        push_dot(&mut trees, field, tokens)?;
     }
     Ok(trees)
 }
