@@ -89,4 +89,3 @@ module _ (front : Place → List ℕ → Option Piece) (whole : Result PlacedTok
 pub not_empty : (text : List ℕ) → false ≡ eqb (length text) 0 → 0 < length text
 not_empty [] is = absurd cc
 not_empty (b ∷ text) is = omega arith
-

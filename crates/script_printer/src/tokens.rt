@@ -9,6 +9,7 @@ use crate::numbers::put_decimal;
 use csp_base::{BinOp, Bytes, Name, NoMemory, SetOp};
 use csp_text::{Symbol, Word, symbol_text, word_text};
 
+// What stands between two tokens.
 const SPACE: u8 = b' ';
 
 // Adds a space and some bytes.
@@ -19,7 +20,7 @@ fn put(text: &mut Bytes, bytes: &[u8]) -> Result<(), NoMemory>
     text.extend_from_slice(bytes)
 }
 
-/// Adds a symbol.
+// Adds a symbol.
 #[tactic(auto, unfolding(crate::specs::TokenText::spaced))]
 pub(crate) fn put_symbol(text: &mut Bytes, symbol: Symbol) -> Result<(), NoMemory>
     ensures { OnOk result (text.new ≡ text.old ++ spaced (token.Symbol symbol ∷ [])) }
@@ -27,7 +28,7 @@ pub(crate) fn put_symbol(text: &mut Bytes, symbol: Symbol) -> Result<(), NoMemor
     put(text, symbol_text(symbol))
 }
 
-/// Adds a reserved word.
+// Adds a reserved word.
 #[tactic(auto, unfolding(crate::specs::TokenText::spaced))]
 pub(crate) fn put_word(text: &mut Bytes, word: Word) -> Result<(), NoMemory>
     ensures { OnOk result (text.new ≡ text.old ++ spaced (token.Word word ∷ [])) }
@@ -35,7 +36,7 @@ pub(crate) fn put_word(text: &mut Bytes, word: Word) -> Result<(), NoMemory>
     put(text, word_text(word))
 }
 
-/// Adds a name.
+// Adds a name.
 #[tactic(auto, unfolding(crate::specs::TokenText::spaced))]
 pub(crate) fn put_name(text: &mut Bytes, name: &Name) -> Result<(), NoMemory>
     ensures { OnOk result (text.new ≡ text.old ++ spaced (token.Name name.now ∷ [])) }
@@ -43,7 +44,7 @@ pub(crate) fn put_name(text: &mut Bytes, name: &Name) -> Result<(), NoMemory>
     put(text, name.as_slice())
 }
 
-/// Adds a number.
+// Adds a number.
 #[tactic(auto, unfolding(crate::specs::TokenText::spaced))]
 pub(crate) fn put_number(text: &mut Bytes, number: u32) -> Result<(), NoMemory>
     ensures { OnOk result (text.new ≡ text.old ++ spaced (token.Num number ∷ [])) }
@@ -52,7 +53,7 @@ pub(crate) fn put_number(text: &mut Bytes, number: u32) -> Result<(), NoMemory>
     put_decimal(text, number)
 }
 
-/// Adds the sign that stands before one of several, from the second one on.
+// Adds the sign that stands before one of several, from the second one on.
 pub(crate) fn put_between(text: &mut Bytes, place: usize, sign: Symbol) -> Result<(), NoMemory>
     ensures { OnOk result (text.new ≡ text.old ++ spaced (before_place place (token.Symbol sign))) }
 {
@@ -62,7 +63,7 @@ pub(crate) fn put_between(text: &mut Bytes, place: usize, sign: Symbol) -> Resul
     put_symbol(text, sign)
 }
 
-/// Adds an operator that stands between two operands.
+// Adds an operator that stands between two operands.
 pub(crate) fn put_operator(text: &mut Bytes, op: BinOp) -> Result<(), NoMemory>
     ensures { OnOk result (text.new ≡ text.old ++ spaced (operator_token op ∷ [])) }
 {
@@ -83,7 +84,7 @@ pub(crate) fn put_operator(text: &mut Bytes, op: BinOp) -> Result<(), NoMemory>
     }
 }
 
-/// Adds the name of an operator on sets.
+// Adds the name of an operator on sets.
 pub(crate) fn put_set_op(text: &mut Bytes, op: SetOp) -> Result<(), NoMemory>
     ensures { OnOk result (text.new ≡ text.old ++ spaced (set_op_token op ∷ [])) }
 {
