@@ -65,6 +65,17 @@ fn put_deadlock_free(text: &mut Bytes) -> Result<(), NoMemory>
     text.extend_from_slice(b" : [ deadlock free ]")
 }
 
+// Adds the names of a process's requests and acknowledgements, as a client and as a server.
+fn put_sides(text: &mut Bytes, names: &RolesNames) -> Result<(), NoMemory>
+    ensures { OnOk result (text.new ≡ text.old
+        ++ spaced (token.Name names.now.creq ∷ token.Name names.now.cack ∷ token.Name names.now.sreq ∷ token.Name names.now.sack ∷ [])) }
+{
+    put_name(text, &names.creq)?;
+    put_name(text, &names.cack)?;
+    put_name(text, &names.sreq)?;
+    put_name(text, &names.sack)
+}
+
 // Adds an annotation that gives a process its roles.
 #[tactic(auto, unfolding(crate::specs::TokenText::spaced))]
 fn put_roles(text: &mut Bytes, names: &RolesNames) -> Result<(), NoMemory>
@@ -72,10 +83,7 @@ fn put_roles(text: &mut Bytes, names: &RolesNames) -> Result<(), NoMemory>
 {
     text.extend_from_slice(b"--@ roles")?;
     put_name(text, &names.process)?;
-    put_name(text, &names.creq)?;
-    put_name(text, &names.cack)?;
-    put_name(text, &names.sreq)?;
-    put_name(text, &names.sack)
+    put_sides(text, names)
 }
 
 // Adds an annotation that makes a process a resource.

@@ -2,7 +2,7 @@
 
 ghost use Rattle.std.specs.Prelude.{◌≡◌, ◌++◌, [], ◌∷◌, OnOk};
 ghost use Rattle.csp_text.specs.declared.token.Token.TheVariants as token;
-ghost use Rattle.script_printer.specs.TokenText.{before_place, spaced};
+ghost use Rattle.script_printer.specs.TokenText.{before_place, spaced, token_text};
 ghost use Rattle.script_printer.specs.PrintedTree.{operator_token, set_op_token};
 
 use crate::numbers::put_decimal;
@@ -63,25 +63,33 @@ pub(crate) fn put_between(text: &mut Bytes, place: usize, sign: Symbol) -> Resul
     put_symbol(text, sign)
 }
 
+// The bytes of an operator that stands between two operands.
+fn operator_text(op: BinOp) -> &'static [u8]
+    ensures { result.now ≡ token_text (operator_token op) }
+{
+    match op {
+        BinOp::Or => word_text(Word::Or),
+        BinOp::And => word_text(Word::And),
+        BinOp::Eq => symbol_text(Symbol::Equal),
+        BinOp::Ne => symbol_text(Symbol::NotEqual),
+        BinOp::Lt => symbol_text(Symbol::Less),
+        BinOp::Le => symbol_text(Symbol::LessEqual),
+        BinOp::Gt => symbol_text(Symbol::Greater),
+        BinOp::Ge => symbol_text(Symbol::GreaterEqual),
+        BinOp::Add => symbol_text(Symbol::Plus),
+        BinOp::Sub => symbol_text(Symbol::Minus),
+        BinOp::Mul => symbol_text(Symbol::Star),
+        BinOp::Div => symbol_text(Symbol::Slash),
+        BinOp::Rem => symbol_text(Symbol::Percent),
+    }
+}
+
 // Adds an operator that stands between two operands.
+#[tactic(auto, unfolding(crate::specs::TokenText::spaced))]
 pub(crate) fn put_operator(text: &mut Bytes, op: BinOp) -> Result<(), NoMemory>
     ensures { OnOk result (text.new ≡ text.old ++ spaced (operator_token op ∷ [])) }
 {
-    match op {
-        BinOp::Or => put_word(text, Word::Or),
-        BinOp::And => put_word(text, Word::And),
-        BinOp::Eq => put_symbol(text, Symbol::Equal),
-        BinOp::Ne => put_symbol(text, Symbol::NotEqual),
-        BinOp::Lt => put_symbol(text, Symbol::Less),
-        BinOp::Le => put_symbol(text, Symbol::LessEqual),
-        BinOp::Gt => put_symbol(text, Symbol::Greater),
-        BinOp::Ge => put_symbol(text, Symbol::GreaterEqual),
-        BinOp::Add => put_symbol(text, Symbol::Plus),
-        BinOp::Sub => put_symbol(text, Symbol::Minus),
-        BinOp::Mul => put_symbol(text, Symbol::Star),
-        BinOp::Div => put_symbol(text, Symbol::Slash),
-        BinOp::Rem => put_symbol(text, Symbol::Percent),
-    }
+    put(text, operator_text(op))
 }
 
 // Adds the name of an operator on sets.
