@@ -7,12 +7,14 @@ ghost use Rattle.csp_lexer.specs.Words.{is_foreign, is_letter, is_name, is_name_
 
 use csp_text::{Word, word_text};
 
+// Whether the byte is a letter.
 fn is_letter(b: u8) -> bool
     ensures { result ≡ is_letter b }
 {
     matches!(b, b'A'..=b'Z' | b'a'..=b'z')
 }
 
+// Whether the byte is a letter, a digit or an underscore.
 fn is_name_byte(b: u8) -> bool
     ensures { result ≡ is_name_byte b }
 {

@@ -24,14 +24,14 @@ pub struct SingleProcess {
     pub process: Name,
 }
 
-/// Whether the names are the same.
+// Whether the names are the same.
 fn is_same_name(a: &Name, b: &Name) -> bool
     ensures { IsTrue result ↔ (a.now ≡ b.now) }
 {
     a.as_slice() == b.as_slice()
 }
 
-/// The name, where there is no other.
+// The name, where there is no other.
 fn only_name(names: &[Name]) -> Option<&Name>
     ensures found { IfSome result (λ name. names.now ≡ name.now ∷ []) }
     ensures none { IfNone result ((name : List ℕ) → names.now ≢ name ∷ []) }
@@ -42,7 +42,7 @@ fn only_name(names: &[Name]) -> Option<&Name>
     }
 }
 
-/// The channel of `channel c`.
+// The channel of `channel c`.
 fn declared_channel(declaration: &Decl) -> Option<&Name>
     ensures found { IfSome result (λ name. declaration.now ≡ decl.Channel (name.now ∷ []) []) }
     ensures none { IfNone result ((name : List ℕ) → declaration.now ≢ decl.Channel (name ∷ []) []) }
@@ -53,7 +53,7 @@ fn declared_channel(declaration: &Decl) -> Option<&Name>
     }
 }
 
-/// The name and the body of a definition without parameters.
+// The name and the body of a definition without parameters.
 fn plain_definition(declaration: &Decl) -> Option<(&Name, &Tree)>
     ensures found { IfSome result (λ x. declaration.now ≡ decl.Define x.0.now [] x.1.now) }
     ensures none { IfNone result ((name : List ℕ) (body : TreeValue) → declaration.now ≢ decl.Define name [] body) }
@@ -64,7 +64,7 @@ fn plain_definition(declaration: &Decl) -> Option<(&Name, &Tree)>
     }
 }
 
-/// The tree that is asserted.
+// The tree that is asserted.
 fn asserted_tree(declaration: &Decl) -> Option<&Tree>
     ensures found { IfSome result (λ asserted. declaration.now ≡ decl.Assert asserted.now) }
     ensures none { IfNone result ((asserted : TreeValue) → declaration.now ≢ decl.Assert asserted) }
@@ -75,7 +75,7 @@ fn asserted_tree(declaration: &Decl) -> Option<&Tree>
     }
 }
 
-/// The name that the tree is.
+// The name that the tree is.
 fn tree_name(body: &Tree) -> Option<&Name>
     ensures found { IfSome result (λ name. body.now ≡ tree.Name name.now) }
     ensures none { IfNone result ((name : List ℕ) → body.now ≢ tree.Name name) }
@@ -86,7 +86,7 @@ fn tree_name(body: &Tree) -> Option<&Name>
     }
 }
 
-/// The channel of an event without fields.
+// The channel of an event without fields.
 fn plain_event(event: &EventTree) -> Option<&Name>
     ensures found { IfSome result (λ name. event.now ≡ event_tree name.now []) }
     ensures none { IfNone result ((name : List ℕ) → event.now ≢ event_tree name []) }
@@ -98,7 +98,7 @@ fn plain_event(event: &EventTree) -> Option<&Name>
     }
 }
 
-/// The event of a prefix, and what follows it.
+// The event of a prefix, and what follows it.
 fn prefix_parts(body: &Tree) -> Option<(&EventTree, &Tree)>
     ensures found { IfSome result (λ x. body.now ≡ tree.Prefix x.0.now x.1.now) }
     ensures none { IfNone result ((event : EventValue) (after : TreeValue) → body.now ≢ tree.Prefix event after) }
@@ -109,7 +109,7 @@ fn prefix_parts(body: &Tree) -> Option<(&EventTree, &Tree)>
     }
 }
 
-/// The names of `c -> d`.
+// The names of `c -> d`.
 fn prefix_names(body: &Tree) -> Option<(&Name, &Name)>
     ensures found { IfSome result (λ x. body.now ≡ plain_prefix x.0.now x.1.now) }
     ensures none { IfNone result ((c d : List ℕ) → body.now ≢ plain_prefix c d) }
@@ -126,7 +126,7 @@ fn prefix_names(body: &Tree) -> Option<(&Name, &Name)>
     Some((channel, process))
 }
 
-/// The names of `d = c -> e`, as they stand there.
+// The names of `d = c -> e`, as they stand there.
 fn definition_names(declaration: &Decl) -> Option<(&Name, &Name, &Name)>
     ensures found { IfSome result (λ x. declaration.now ≡ decl.Define x.0.now [] (plain_prefix x.1.now x.2.now)) }
     ensures none { IfNone result ((d c e : List ℕ) → declaration.now ≢ decl.Define d [] (plain_prefix c e)) }
@@ -140,7 +140,7 @@ fn definition_names(declaration: &Decl) -> Option<(&Name, &Name, &Name)>
     Some((defined, event, called))
 }
 
-/// The name that is asserted.
+// The name that is asserted.
 fn asserted_name(declaration: &Decl) -> Option<&Name>
     ensures found { IfSome result (λ name. declaration.now ≡ decl.Assert (tree.Name name.now)) }
     ensures none { IfNone result ((name : List ℕ) → declaration.now ≢ decl.Assert (tree.Name name)) }
@@ -151,14 +151,14 @@ fn asserted_name(declaration: &Decl) -> Option<&Name>
     tree_name(asserted)
 }
 
-/// Whether the process `defined = event -> called` goes round by this channel.
+// Whether the process `defined = event -> called` goes round by this channel.
 fn is_loop(channel: &Name, defined: &Name, event: &Name, called: &Name) -> bool
     ensures { IsTrue result ↔ ((event.now ≡ channel.now) × (called.now ≡ defined.now) × (channel.now ≢ defined.now)) }
 {
     is_same_name(event, channel) && is_same_name(called, defined) && !is_same_name(channel, defined)
 }
 
-/// The channel and the process, where the two declarations are `channel c` and `d = c -> d` for different names.
+// The channel and the process, where the two declarations are `channel c` and `d = c -> d` for different names.
 fn declared_names<'a>(first: &'a Decl, second: &'a Decl) -> Option<(&'a Name, &'a Name)>
     ensures found { IfSome result (λ x. Declares first.now second.now (record { channel = x.0.now; process = x.1.now })) }
     ensures only { (s : SingleValue) → Declares first.now second.now s
@@ -177,7 +177,7 @@ fn declared_names<'a>(first: &'a Decl, second: &'a Decl) -> Option<(&'a Name, &'
     }
 }
 
-/// The declarations, where there are three.
+// The declarations, where there are three.
 fn three_declarations(declarations: &[Decl]) -> Option<(&Decl, &Decl, &Decl)>
     ensures found { IfSome result (λ x. declarations.now ≡ x.0.now ∷ x.1.now ∷ x.2.now ∷ []) }
     ensures none { IfNone result ((a b c : DeclValue) → declarations.now ≢ a ∷ b ∷ c ∷ []) }
@@ -198,7 +198,7 @@ fn three_declarations(declarations: &[Decl]) -> Option<(&Decl, &Decl, &Decl)>
     }
 }
 
-/// The channel and the process of a script of a single process.
+// The channel and the process of a script of a single process.
 fn single_names(script: &Script) -> Option<(&Name, &Name)>
     ensures found { IfSome result (λ x. IsSingle script.now (record { channel = x.0.now; process = x.1.now })) }
     ensures only { (s : SingleValue) → IsSingle script.now s

@@ -5,12 +5,14 @@ ghost use Rattle.csp_text.specs.Depth.{capped, event_depth, field_depth, gen_dep
 
 use crate::tree::{EventTree, FieldTree, GenTree, PartTree, Tree};
 
+// The greater of two depths.
 fn greater(a: u32, b: u32) -> u32
     ensures { result ≡ max a b }
 {
     if a < b { b } else { a }
 }
 
+// One more than a depth, as far as its type goes.
 fn one_more(depth: u32) -> u32
     ensures { result ≡ capped (depth + 1) }
 {
@@ -67,7 +69,7 @@ pub fn depth(tree: &Tree) -> u32
     }
 }
 
-/// The greatest depth of some trees, 0 for none.
+// The greatest depth of some trees, 0 for none.
 #[cycle(depth)]
 #[tactic(auto, using(crate::proofs::DepthLemmas::deepest_step, crate::proofs::DepthLemmas::deepest_end))]
 fn items_depth(items: &[Tree]) -> u32
@@ -80,7 +82,7 @@ fn items_depth(items: &[Tree]) -> u32
     deepest
 }
 
-/// The greatest depth of some fields, 0 for none.
+// The greatest depth of some fields, 0 for none.
 #[cycle(depth)]
 #[tactic(auto, using(crate::proofs::DepthLemmas::deepest_step, crate::proofs::DepthLemmas::deepest_end))]
 fn fields_depth(fields: &[FieldTree]) -> u32
@@ -93,7 +95,7 @@ fn fields_depth(fields: &[FieldTree]) -> u32
     deepest
 }
 
-/// The depth of a field.
+// The depth of a field.
 #[cycle(depth)]
 fn field_depth(field: &FieldTree) -> u32
     ensures { result ≡ capped (field_depth field.now) }
@@ -106,7 +108,7 @@ fn field_depth(field: &FieldTree) -> u32
     }
 }
 
-/// The greatest depth of some generators, 0 for none.
+// The greatest depth of some generators, 0 for none.
 #[cycle(depth)]
 #[tactic(auto, using(crate::proofs::DepthLemmas::deepest_step, crate::proofs::DepthLemmas::deepest_end))]
 fn gens_depth(gens: &[GenTree]) -> u32
@@ -119,7 +121,7 @@ fn gens_depth(gens: &[GenTree]) -> u32
     deepest
 }
 
-/// The depth of a generator.
+// The depth of a generator.
 #[cycle(depth)]
 fn gen_depth(generator: &GenTree) -> u32
     ensures { result ≡ capped (gen_depth generator.now) }
@@ -130,7 +132,7 @@ fn gen_depth(generator: &GenTree) -> u32
     }
 }
 
-/// The greatest depth of some parts, 0 for none.
+// The greatest depth of some parts, 0 for none.
 #[cycle(depth)]
 #[tactic(auto, using(crate::proofs::DepthLemmas::deepest_step, crate::proofs::DepthLemmas::deepest_end))]
 fn parts_depth(parts: &[PartTree]) -> u32
@@ -143,7 +145,7 @@ fn parts_depth(parts: &[PartTree]) -> u32
     deepest
 }
 
-/// The greatest depth of some pairs of parts, 0 for none.
+// The greatest depth of some pairs of parts, 0 for none.
 #[cycle(depth)]
 #[tactic(auto, using(crate::proofs::DepthLemmas::deepest_pair_step, crate::proofs::DepthLemmas::deepest_pair_end))]
 fn pairs_depth(pairs: &[(PartTree, PartTree)]) -> u32

@@ -1,6 +1,7 @@
 //! Lines: one declaration each.
 
 ghost use Rattle.std.specs.Prelude.{◌≡◌, ◌++◌, [], ◌∷◌, OnOk};
+ghost use Rattle.csp_text.specs.declared.script.Decl.TheVariants as decl;
 ghost use Rattle.csp_text.specs.declared.token.Token.TheVariants as token;
 ghost use Rattle.csp_text.specs.declared.token.Symbol.TheVariants.{Comma};
 ghost use Rattle.script_printer.specs.TokenText.{line, row, spaced, token_text};
@@ -8,12 +9,14 @@ ghost use Rattle.script_printer.specs.PrintedScript.{deadlock_free_tokens, decl_
 
 use crate::tokens::{put_between, put_name, put_symbol};
 use crate::trees::{put_operand, put_operands, put_tree};
+use containers::Items;
 use csp_base::{Bytes, Name, NoMemory};
 use csp_text::{Decl, ResourceNames, RolesNames, Symbol, Tree, Word, word_text};
 
+// What ends a line.
 const LINE_FEED: u8 = b'\n';
 
-/// Adds names with a sign between them.
+// Adds names with a sign between them.
 fn put_names(text: &mut Bytes, names: &[Name], sign: Symbol) -> Result<(), NoMemory>
     ensures { OnOk result (text.new ≡ text.old ++ spaced (names_tokens (token.Symbol sign) names.now)) }
 {
@@ -24,7 +27,7 @@ fn put_names(text: &mut Bytes, names: &[Name], sign: Symbol) -> Result<(), NoMem
     Ok(())
 }
 
-/// Adds the types of channels behind a colon, or nothing where there are none.
+// Adds the types of channels behind a colon, or nothing where there are none.
 fn put_types(text: &mut Bytes, types: &[Tree]) -> Result<(), NoMemory>
     ensures { OnOk result (text.new ≡ text.old ++ spaced (types_tokens types.now)) }
 {
@@ -35,7 +38,7 @@ fn put_types(text: &mut Bytes, types: &[Tree]) -> Result<(), NoMemory>
     put_operands(text, types, Symbol::Dot)
 }
 
-/// Adds parameters in parentheses, or nothing where there are none.
+// Adds parameters in parentheses, or nothing where there are none.
 fn put_parameters(text: &mut Bytes, names: &[Name]) -> Result<(), NoMemory>
     ensures { OnOk result (text.new ≡ text.old ++ spaced (parameters_tokens names.now)) }
 {
@@ -47,14 +50,14 @@ fn put_parameters(text: &mut Bytes, names: &[Name]) -> Result<(), NoMemory>
     put_symbol(text, Symbol::CloseParen)
 }
 
-/// Adds the word that a line begins with.
+// Adds the word that a line begins with.
 fn begin(text: &mut Bytes, word: Word) -> Result<(), NoMemory>
     ensures { OnOk result (text.new ≡ text.old ++ token_text (token.Word word)) }
 {
     text.extend_from_slice(word_text(word))
 }
 
-/// Adds the end of an assertion.
+// Adds the end of an assertion.
 #[tactic(auto, unfolding(crate::specs::TokenText::spaced))]
 fn put_deadlock_free(text: &mut Bytes) -> Result<(), NoMemory>
     ensures { OnOk result (text.new ≡ text.old ++ spaced deadlock_free_tokens) }
@@ -62,20 +65,28 @@ fn put_deadlock_free(text: &mut Bytes) -> Result<(), NoMemory>
     text.extend_from_slice(b" : [ deadlock free ]")
 }
 
-/// Adds an annotation that gives a process its roles.
-#[tactic(auto, unfolding(crate::specs::TokenText::spaced))]
-fn put_roles(text: &mut Bytes, names: &RolesNames) -> Result<(), NoMemory>
-    ensures { OnOk result (text.new ≡ text.old ++ token_text (token.Roles names.now)) }
+// Adds the names of a process's requests and acknowledgements, as a client and as a server.
+fn put_sides(text: &mut Bytes, names: &RolesNames) -> Result<(), NoMemory>
+    ensures { OnOk result (text.new ≡ text.old
+        ++ spaced (token.Name names.now.creq ∷ token.Name names.now.cack ∷ token.Name names.now.sreq ∷ token.Name names.now.sack ∷ [])) }
 {
-    text.extend_from_slice(b"--@ roles")?;
-    put_name(text, &names.process)?;
     put_name(text, &names.creq)?;
     put_name(text, &names.cack)?;
     put_name(text, &names.sreq)?;
     put_name(text, &names.sack)
 }
 
-/// Adds an annotation that makes a process a resource.
+// Adds an annotation that gives a process its roles.
+#[tactic(auto, unfolding(crate::specs::TokenText::spaced))]
+fn put_roles(text: &mut Bytes, names: &RolesNames) -> Result<(), NoMemory>
+    ensures { OnOk result (text.new ≡ text.old ++ token_text (token.Roles names.now)) }
+{
+    text.extend_from_slice(b"--@ roles")?;
+    put_name(text, &names.process)?;
+    put_sides(text, names)
+}
+
+// Adds an annotation that makes a process a resource.
 #[tactic(auto, unfolding(crate::specs::TokenText::spaced))]
 fn put_resource(text: &mut Bytes, names: &ResourceNames) -> Result<(), NoMemory>
     ensures { OnOk result (text.new ≡ text.old ++ token_text (token.Resource names.now)) }
@@ -86,45 +97,75 @@ fn put_resource(text: &mut Bytes, names: &ResourceNames) -> Result<(), NoMemory>
     put_name(text, &names.release)
 }
 
-/// Adds a declaration without the end of its line.
+// Adds the names of channels and their types.
+fn put_channel(text: &mut Bytes, names: &Items<Name>, types: &Items<Tree>) -> Result<(), NoMemory>
+    ensures { OnOk result (text.new ≡ text.old ++ row (decl_tokens (decl.Channel names.now types.now))) }
+{
+    begin(text, Word::Channel)?;
+    put_names(text, names.as_slice(), Symbol::Comma)?;
+    put_types(text, types.as_slice())
+}
+
+// Adds a data type and its constants.
+fn put_datatype(text: &mut Bytes, name: &Name, constants: &Items<Name>) -> Result<(), NoMemory>
+    ensures { OnOk result (text.new ≡ text.old ++ row (decl_tokens (decl.Datatype name.now constants.now))) }
+{
+    begin(text, Word::Datatype)?;
+    put_name(text, name)?;
+    put_symbol(text, Symbol::Defines)?;
+    put_names(text, constants.as_slice(), Symbol::Bar)
+}
+
+// Adds a name of a set.
+fn put_nametype(text: &mut Bytes, name: &Name, set: &Tree) -> Result<(), NoMemory>
+    ensures { OnOk result (text.new ≡ text.old ++ row (decl_tokens (decl.Nametype name.now set.now))) }
+{
+    begin(text, Word::Nametype)?;
+    put_name(text, name)?;
+    put_symbol(text, Symbol::Defines)?;
+    put_operand(text, set)
+}
+
+// Adds a definition.
+fn put_definition(
+    text: &mut Bytes,
+    name: &Name,
+    parameters: &Items<Name>,
+    body: &Tree,
+) -> Result<(), NoMemory>
+    ensures { OnOk result (text.new ≡ text.old ++ row (decl_tokens (decl.Define name.now parameters.now body.now))) }
+{
+    text.extend_from_slice(name.as_slice())?;
+    put_parameters(text, parameters.as_slice())?;
+    put_symbol(text, Symbol::Defines)?;
+    put_tree(text, body)
+}
+
+// Adds an assertion.
+fn put_assertion(text: &mut Bytes, process: &Tree) -> Result<(), NoMemory>
+    ensures { OnOk result (text.new ≡ text.old ++ row (decl_tokens (decl.Assert process.now))) }
+{
+    begin(text, Word::Assert)?;
+    put_tree(text, process)?;
+    put_deadlock_free(text)
+}
+
+// Adds a declaration without the end of its line.
 fn put_decl(text: &mut Bytes, decl: &Decl) -> Result<(), NoMemory>
     ensures { OnOk result (text.new ≡ text.old ++ row (decl_tokens decl.now)) }
 {
     match decl {
-        Decl::Channel(names, types) => {
-            begin(text, Word::Channel)?;
-            put_names(text, names.as_slice(), Symbol::Comma)?;
-            put_types(text, types.as_slice())
-        }
-        Decl::Datatype(name, constants) => {
-            begin(text, Word::Datatype)?;
-            put_name(text, name)?;
-            put_symbol(text, Symbol::Defines)?;
-            put_names(text, constants.as_slice(), Symbol::Bar)
-        }
-        Decl::Nametype(name, set) => {
-            begin(text, Word::Nametype)?;
-            put_name(text, name)?;
-            put_symbol(text, Symbol::Defines)?;
-            put_operand(text, set)
-        }
-        Decl::Define(name, parameters, body) => {
-            text.extend_from_slice(name.as_slice())?;
-            put_parameters(text, parameters.as_slice())?;
-            put_symbol(text, Symbol::Defines)?;
-            put_tree(text, body)
-        }
-        Decl::Assert(process) => {
-            begin(text, Word::Assert)?;
-            put_tree(text, process)?;
-            put_deadlock_free(text)
-        }
+        Decl::Channel(names, types) => put_channel(text, names, types),
+        Decl::Datatype(name, constants) => put_datatype(text, name, constants),
+        Decl::Nametype(name, set) => put_nametype(text, name, set),
+        Decl::Define(name, parameters, body) => put_definition(text, name, parameters, body),
+        Decl::Assert(process) => put_assertion(text, process),
         Decl::Roles(names) => put_roles(text, names),
         Decl::Resource(names) => put_resource(text, names),
     }
 }
 
-/// Adds a declaration as a line.
+// Adds a declaration as a line.
 pub(crate) fn put_line(text: &mut Bytes, decl: &Decl) -> Result<(), NoMemory>
     ensures { OnOk result (text.new ≡ text.old ++ line (decl_tokens decl.now)) }
 {

@@ -12,7 +12,7 @@ fn put_digit(text: &mut Bytes, digit: u8) -> Result<(), NoMemory>
     text.push(b'0' + digit)
 }
 
-/// Adds the number in decimal.
+// Adds the number in decimal.
 #[tactic(auto, using(std::proofs::lemmas::Fmt::decimal_digit, std::proofs::lemmas::Fmt::decimal_step))]
 pub(crate) fn put_decimal(text: &mut Bytes, number: u32) -> Result<(), NoMemory>
     ensures { OnOk result (text.new ≡ text.old ++ decimal number) }

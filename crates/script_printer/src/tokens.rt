@@ -2,13 +2,14 @@
 
 ghost use Rattle.std.specs.Prelude.{◌≡◌, ◌++◌, [], ◌∷◌, OnOk};
 ghost use Rattle.csp_text.specs.declared.token.Token.TheVariants as token;
-ghost use Rattle.script_printer.specs.TokenText.{before_place, spaced};
+ghost use Rattle.script_printer.specs.TokenText.{before_place, spaced, token_text};
 ghost use Rattle.script_printer.specs.PrintedTree.{operator_token, set_op_token};
 
 use crate::numbers::put_decimal;
 use csp_base::{BinOp, Bytes, Name, NoMemory, SetOp};
 use csp_text::{Symbol, Word, symbol_text, word_text};
 
+// What stands between two tokens.
 const SPACE: u8 = b' ';
 
 // Adds a space and some bytes.
@@ -19,7 +20,7 @@ fn put(text: &mut Bytes, bytes: &[u8]) -> Result<(), NoMemory>
     text.extend_from_slice(bytes)
 }
 
-/// Adds a symbol.
+// Adds a symbol.
 #[tactic(auto, unfolding(crate::specs::TokenText::spaced))]
 pub(crate) fn put_symbol(text: &mut Bytes, symbol: Symbol) -> Result<(), NoMemory>
     ensures { OnOk result (text.new ≡ text.old ++ spaced (token.Symbol symbol ∷ [])) }
@@ -27,7 +28,7 @@ pub(crate) fn put_symbol(text: &mut Bytes, symbol: Symbol) -> Result<(), NoMemor
     put(text, symbol_text(symbol))
 }
 
-/// Adds a reserved word.
+// Adds a reserved word.
 #[tactic(auto, unfolding(crate::specs::TokenText::spaced))]
 pub(crate) fn put_word(text: &mut Bytes, word: Word) -> Result<(), NoMemory>
     ensures { OnOk result (text.new ≡ text.old ++ spaced (token.Word word ∷ [])) }
@@ -35,7 +36,7 @@ pub(crate) fn put_word(text: &mut Bytes, word: Word) -> Result<(), NoMemory>
     put(text, word_text(word))
 }
 
-/// Adds a name.
+// Adds a name.
 #[tactic(auto, unfolding(crate::specs::TokenText::spaced))]
 pub(crate) fn put_name(text: &mut Bytes, name: &Name) -> Result<(), NoMemory>
     ensures { OnOk result (text.new ≡ text.old ++ spaced (token.Name name.now ∷ [])) }
@@ -43,7 +44,7 @@ pub(crate) fn put_name(text: &mut Bytes, name: &Name) -> Result<(), NoMemory>
     put(text, name.as_slice())
 }
 
-/// Adds a number.
+// Adds a number.
 #[tactic(auto, unfolding(crate::specs::TokenText::spaced))]
 pub(crate) fn put_number(text: &mut Bytes, number: u32) -> Result<(), NoMemory>
     ensures { OnOk result (text.new ≡ text.old ++ spaced (token.Num number ∷ [])) }
@@ -52,7 +53,7 @@ pub(crate) fn put_number(text: &mut Bytes, number: u32) -> Result<(), NoMemory>
     put_decimal(text, number)
 }
 
-/// Adds the sign that stands before one of several, from the second one on.
+// Adds the sign that stands before one of several, from the second one on.
 pub(crate) fn put_between(text: &mut Bytes, place: usize, sign: Symbol) -> Result<(), NoMemory>
     ensures { OnOk result (text.new ≡ text.old ++ spaced (before_place place (token.Symbol sign))) }
 {
@@ -62,28 +63,36 @@ pub(crate) fn put_between(text: &mut Bytes, place: usize, sign: Symbol) -> Resul
     put_symbol(text, sign)
 }
 
-/// Adds an operator that stands between two operands.
-pub(crate) fn put_operator(text: &mut Bytes, op: BinOp) -> Result<(), NoMemory>
-    ensures { OnOk result (text.new ≡ text.old ++ spaced (operator_token op ∷ [])) }
+// The bytes of an operator that stands between two operands.
+fn operator_text(op: BinOp) -> &'static [u8]
+    ensures { result.now ≡ token_text (operator_token op) }
 {
     match op {
-        BinOp::Or => put_word(text, Word::Or),
-        BinOp::And => put_word(text, Word::And),
-        BinOp::Eq => put_symbol(text, Symbol::Equal),
-        BinOp::Ne => put_symbol(text, Symbol::NotEqual),
-        BinOp::Lt => put_symbol(text, Symbol::Less),
-        BinOp::Le => put_symbol(text, Symbol::LessEqual),
-        BinOp::Gt => put_symbol(text, Symbol::Greater),
-        BinOp::Ge => put_symbol(text, Symbol::GreaterEqual),
-        BinOp::Add => put_symbol(text, Symbol::Plus),
-        BinOp::Sub => put_symbol(text, Symbol::Minus),
-        BinOp::Mul => put_symbol(text, Symbol::Star),
-        BinOp::Div => put_symbol(text, Symbol::Slash),
-        BinOp::Rem => put_symbol(text, Symbol::Percent),
+        BinOp::Or => word_text(Word::Or),
+        BinOp::And => word_text(Word::And),
+        BinOp::Eq => symbol_text(Symbol::Equal),
+        BinOp::Ne => symbol_text(Symbol::NotEqual),
+        BinOp::Lt => symbol_text(Symbol::Less),
+        BinOp::Le => symbol_text(Symbol::LessEqual),
+        BinOp::Gt => symbol_text(Symbol::Greater),
+        BinOp::Ge => symbol_text(Symbol::GreaterEqual),
+        BinOp::Add => symbol_text(Symbol::Plus),
+        BinOp::Sub => symbol_text(Symbol::Minus),
+        BinOp::Mul => symbol_text(Symbol::Star),
+        BinOp::Div => symbol_text(Symbol::Slash),
+        BinOp::Rem => symbol_text(Symbol::Percent),
     }
 }
 
-/// Adds the name of an operator on sets.
+// Adds an operator that stands between two operands.
+#[tactic(auto, unfolding(crate::specs::TokenText::spaced))]
+pub(crate) fn put_operator(text: &mut Bytes, op: BinOp) -> Result<(), NoMemory>
+    ensures { OnOk result (text.new ≡ text.old ++ spaced (operator_token op ∷ [])) }
+{
+    put(text, operator_text(op))
+}
+
+// Adds the name of an operator on sets.
 pub(crate) fn put_set_op(text: &mut Bytes, op: SetOp) -> Result<(), NoMemory>
     ensures { OnOk result (text.new ≡ text.old ++ spaced (set_op_token op ∷ [])) }
 {

@@ -15,7 +15,7 @@ use crate::tokens::{
 use csp_base::{Bytes, Name, NoMemory};
 use csp_text::{EventTree, FieldTree, GenTree, PartTree, Symbol, Tree, Word};
 
-/// Adds a tree without parentheses.
+// Adds a tree without parentheses.
 #[cycle(trees)]
 pub(crate) fn put_tree(text: &mut Bytes, tree: &Tree) -> Result<(), NoMemory>
     ensures { OnOk result (text.new ≡ text.old ++ spaced (printed_tokens tree.now)) }
@@ -134,7 +134,7 @@ pub(crate) fn put_tree(text: &mut Bytes, tree: &Tree) -> Result<(), NoMemory>
     }
 }
 
-/// Adds a tree in parentheses.
+// Adds a tree in parentheses.
 #[cycle(trees)]
 fn put_in_parentheses(text: &mut Bytes, tree: &Tree) -> Result<(), NoMemory>
     ensures { OnOk result (text.new ≡ text.old ++ spaced (in_parentheses (printed_tokens tree.now))) }
@@ -144,7 +144,7 @@ fn put_in_parentheses(text: &mut Bytes, tree: &Tree) -> Result<(), NoMemory>
     put_symbol(text, Symbol::CloseParen)
 }
 
-/// Adds an operand: what is no atom has parentheses.
+// Adds an operand: what is no atom has parentheses.
 #[cycle(trees)]
 #[tactic(auto, unfolding(crate::specs::PrintedTree::operand_tokens))]
 pub(crate) fn put_operand(text: &mut Bytes, tree: &Tree) -> Result<(), NoMemory>
@@ -157,7 +157,7 @@ pub(crate) fn put_operand(text: &mut Bytes, tree: &Tree) -> Result<(), NoMemory>
     }
 }
 
-/// Adds an item: what is neither an atom nor a dotted event has parentheses.
+// Adds an item: what is neither an atom nor a dotted event has parentheses.
 #[cycle(trees)]
 #[tactic(auto, unfolding(crate::specs::PrintedTree::item_tokens))]
 fn put_item(text: &mut Bytes, tree: &Tree) -> Result<(), NoMemory>
@@ -170,7 +170,7 @@ fn put_item(text: &mut Bytes, tree: &Tree) -> Result<(), NoMemory>
     }
 }
 
-/// Adds a sign and an operand behind it.
+// Adds a sign and an operand behind it.
 #[cycle(trees)]
 fn put_after(text: &mut Bytes, sign: Symbol, tree: &Tree) -> Result<(), NoMemory>
     ensures { OnOk result (text.new ≡ text.old ++ spaced (token.Symbol sign ∷ operand_tokens tree.now)) }
@@ -179,7 +179,7 @@ fn put_after(text: &mut Bytes, sign: Symbol, tree: &Tree) -> Result<(), NoMemory
     put_operand(text, tree)
 }
 
-/// Adds the front of a replicated form: its sign, its name, and the set that the name is bound in.
+// Adds the front of a replicated form: its sign, its name, and the set that the name is bound in.
 #[cycle(trees)]
 fn put_replicated(text: &mut Bytes, sign: Symbol, name: &Name, set: &Tree) -> Result<(), NoMemory>
     ensures { OnOk result (text.new ≡ text.old ++ spaced (token.Symbol sign ∷ bound_in name.now (operand_tokens set.now) ++ token.Symbol At ∷ [])) }
@@ -190,7 +190,7 @@ fn put_replicated(text: &mut Bytes, sign: Symbol, name: &Name, set: &Tree) -> Re
     put_symbol(text, Symbol::At)
 }
 
-/// Adds the event of a prefix.
+// Adds the event of a prefix.
 #[cycle(trees)]
 fn put_event(text: &mut Bytes, event: &EventTree) -> Result<(), NoMemory>
     ensures { OnOk result (text.new ≡ text.old ++ spaced (event_tokens event.now)) }
@@ -199,7 +199,7 @@ fn put_event(text: &mut Bytes, event: &EventTree) -> Result<(), NoMemory>
     put_fields(text, event.fields.as_slice())
 }
 
-/// Adds a field of a prefix.
+// Adds a field of a prefix.
 #[cycle(trees)]
 fn put_field(text: &mut Bytes, field: &FieldTree) -> Result<(), NoMemory>
     ensures { OnOk result (text.new ≡ text.old ++ spaced (field_tokens field.now)) }
@@ -218,7 +218,7 @@ fn put_field(text: &mut Bytes, field: &FieldTree) -> Result<(), NoMemory>
     }
 }
 
-/// Adds a generator: a name and its set, or a condition.
+// Adds a generator: a name and its set, or a condition.
 #[cycle(trees)]
 fn put_gen(text: &mut Bytes, generator: &GenTree) -> Result<(), NoMemory>
     ensures { OnOk result (text.new ≡ text.old ++ spaced (gen_tokens generator.now)) }
@@ -232,7 +232,7 @@ fn put_gen(text: &mut Bytes, generator: &GenTree) -> Result<(), NoMemory>
     }
 }
 
-/// Adds the front of an event.
+// Adds the front of an event.
 #[cycle(trees)]
 fn put_part(text: &mut Bytes, part: &PartTree) -> Result<(), NoMemory>
     ensures { OnOk result (text.new ≡ text.old ++ spaced (part_tokens part.now)) }
@@ -241,7 +241,7 @@ fn put_part(text: &mut Bytes, part: &PartTree) -> Result<(), NoMemory>
     put_dotted(text, part.fields.as_slice())
 }
 
-/// Adds generators behind a bar, or nothing where there are none.
+// Adds generators behind a bar, or nothing where there are none.
 #[cycle(trees)]
 fn put_conditions(text: &mut Bytes, gens: &[GenTree]) -> Result<(), NoMemory>
     ensures { OnOk result (text.new ≡ text.old ++ spaced (conditions gen_tokens gens.now)) }
@@ -253,7 +253,7 @@ fn put_conditions(text: &mut Bytes, gens: &[GenTree]) -> Result<(), NoMemory>
     put_gens(text, gens)
 }
 
-/// Adds items with commas between them.
+// Adds items with commas between them.
 #[cycle(trees)]
 fn put_items(text: &mut Bytes, items: &[Tree]) -> Result<(), NoMemory>
     ensures { OnOk result (text.new ≡ text.old ++ spaced (separated item_tokens (token.Symbol Comma) items.now)) }
@@ -265,7 +265,7 @@ fn put_items(text: &mut Bytes, items: &[Tree]) -> Result<(), NoMemory>
     Ok(())
 }
 
-/// Adds operands with a sign between them.
+// Adds operands with a sign between them.
 #[cycle(trees)]
 pub(crate) fn put_operands(
     text: &mut Bytes,
@@ -281,7 +281,7 @@ pub(crate) fn put_operands(
     Ok(())
 }
 
-/// Adds generators with commas between them.
+// Adds generators with commas between them.
 #[cycle(trees)]
 fn put_gens(text: &mut Bytes, gens: &[GenTree]) -> Result<(), NoMemory>
     ensures { OnOk result (text.new ≡ text.old ++ spaced (separated gen_tokens (token.Symbol Comma) gens.now)) }
@@ -293,7 +293,7 @@ fn put_gens(text: &mut Bytes, gens: &[GenTree]) -> Result<(), NoMemory>
     Ok(())
 }
 
-/// Adds fronts of events with commas between them.
+// Adds fronts of events with commas between them.
 #[cycle(trees)]
 fn put_parts(text: &mut Bytes, parts: &[PartTree]) -> Result<(), NoMemory>
     ensures { OnOk result (text.new ≡ text.old ++ spaced (separated part_tokens (token.Symbol Comma) parts.now)) }
@@ -305,7 +305,7 @@ fn put_parts(text: &mut Bytes, parts: &[PartTree]) -> Result<(), NoMemory>
     Ok(())
 }
 
-/// Adds pairs of a renaming with commas between them.
+// Adds pairs of a renaming with commas between them.
 #[cycle(trees)]
 fn put_pairs(text: &mut Bytes, pairs: &[(PartTree, PartTree)]) -> Result<(), NoMemory>
     ensures { OnOk result (text.new ≡ text.old ++ spaced (separated renamed_tokens (token.Symbol Comma) pairs.now)) }
@@ -319,7 +319,7 @@ fn put_pairs(text: &mut Bytes, pairs: &[(PartTree, PartTree)]) -> Result<(), NoM
     Ok(())
 }
 
-/// Adds fields with a dot before each.
+// Adds fields with a dot before each.
 #[cycle(trees)]
 fn put_dotted(text: &mut Bytes, fields: &[Tree]) -> Result<(), NoMemory>
     ensures { OnOk result (text.new ≡ text.old ++ spaced (dotted operand_tokens fields.now)) }
@@ -330,7 +330,7 @@ fn put_dotted(text: &mut Bytes, fields: &[Tree]) -> Result<(), NoMemory>
     Ok(())
 }
 
-/// Adds the fields of a prefix.
+// Adds the fields of a prefix.
 #[cycle(trees)]
 fn put_fields(text: &mut Bytes, fields: &[FieldTree]) -> Result<(), NoMemory>
     ensures { OnOk result (text.new ≡ text.old ++ spaced (flat_map field_tokens fields.now)) }
