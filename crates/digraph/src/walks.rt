@@ -205,6 +205,7 @@ fn raise(heights: &mut [u32], rest: &mut [usize], v: u32, w: u32)
     rest[v as usize] -= 1;
 }
 
+// The larger of two numbers.
 fn larger(a: u32, b: u32) -> u32
     ensures { result ≡ max a b }
 {

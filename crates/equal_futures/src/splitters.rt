@@ -59,6 +59,7 @@ fn incoming(alloc: Global, nodes: &[NormNode]) -> Result<Vec<Items<(u32, u32)>>,
     Ok(rows)
 }
 
+// As many empty lists as `count` says.
 fn empty_rows(alloc: Global, count: usize) -> Result<Vec<Items<(u32, u32)>>, NoMemory>
     ensures { IfOk result (λ rows. rows.items ≡ replicate count []) }
 {

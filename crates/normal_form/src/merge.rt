@@ -47,6 +47,7 @@ fn add_first(
     Ok(())
 }
 
+// Adds a node at the end.
 fn push(merged: &mut Vec<NormNode>, node: NormNode) -> Result<(), NoMemory>
     ensures { OnOk result (merged.new.items ≡ merged.old.items ++ node ∷ []) }
 {
@@ -64,6 +65,7 @@ fn rename(alloc: Global, node: &NormNode, classes: &[u32]) -> Result<NormNode, N
     Ok(NormNode::new(next, accept))
 }
 
+// The steps with classes in place of the nodes to which they lead.
 fn steps_to_classes(
     alloc: Global,
     steps: &[(Event, u32)],
@@ -79,6 +81,7 @@ fn steps_to_classes(
     Ok(made)
 }
 
+// Copies of the sets, in the same order.
 fn copies(alloc: Global, sets: &[EventSet]) -> Result<Vec<EventSet>, NoMemory>
     ensures { IfOk result (λ made. made.items ≡ sets.now) }
 {

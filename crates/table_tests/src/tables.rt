@@ -45,6 +45,7 @@ fn row(alloc: Global, count: u32) -> Result<RawTable, NoMemory> {
     Ok(table)
 }
 
+// The set of these events.
 fn set_of(alloc: Global, events: &[u32]) -> Result<EventSet, NoMemory> {
     let mut set = EventSet::new(alloc);
     for event in events {
