@@ -45,15 +45,19 @@ move_event e c fields ts =
     (λ us. Some (inner (frame.Event (event.Prefixed c fields)) form.Prefix e us))
     (λ _. and_then (dotted_fields c fields) λ t. Some (found (binding.Dotted, t, ts)))
 
+-- the value of a field of this kind is read
+abbrev pub read_value : Limits → List ℕ → List FieldTree → FieldKind → List Token → Moved
+read_value e c fields k ts = inner (frame.Event (event.Field e c fields k)) (form.Expression binding.Sum) e ts
+
 -- behind a dot, where one may stand
 abbrev pub move_dot : Limits → List ℕ → List FieldTree → Bool → List Token → Option Moved
-move_dot e c fields dot ts = and_then (sure dot) λ _. Some (inner (frame.Event (event.Field e c fields kind.Dot)) (form.Expression binding.Sum) e ts)
+move_dot e c fields dot ts = and_then (sure dot) λ _. Some (read_value e c fields kind.Dot ts)
 
 -- the rest of an event
 abbrev pub move_fields : Limits → List ℕ → List FieldTree → Bool → List Token → Option Moved
 move_fields e c fields dot ts =
     case (skip symbol.Dot ts) (λ us. move_dot e c fields dot us) λ _.
-    case (skip symbol.Bang ts) (λ us. Some (inner (frame.Event (event.Field e c fields kind.Output)) (form.Expression binding.Sum) e us)) λ _.
+    case (skip symbol.Bang ts) (λ us. Some (read_value e c fields kind.Output us)) λ _.
     case (skip symbol.Question ts) (λ us. move_input e c fields us) λ _.
     move_event e c fields ts
 

@@ -4,7 +4,7 @@ ghost use Rattle.std.specs.Prelude.{◌≡◌, ◌+◌, ◌*◌, ◌<◌, length
 ghost use Rattle.csp_text.specs.declared.tree.Tree.TheVariants as tree;
 ghost use Rattle.csp_grammar.specs.Grammar.{event_tree};
 ghost use Rattle.tree_reading.specs.Gives.{Gives};
-ghost use Rattle.tree_steps.specs.Events.{field_of, longer, may_dot_after, move_dot, move_event, move_fields, move_input, move_named_input, resume_event, resume_field};
+ghost use Rattle.tree_steps.specs.Events.{field_of, longer, may_dot_after, move_dot, move_event, move_fields, move_input, move_named_input, read_value, resume_event, resume_field};
 ghost use Rattle.tree_steps.specs.Processes.{end_process};
 ghost use Rattle.expression_steps.specs.Moved.{moved, weight};
 
@@ -97,6 +97,21 @@ fn event<'t>(
     Ok(found(Binding::Dotted, part, tokens))
 }
 
+// The value of a field is to be read.
+fn value<'t>(
+    limits: Limits,
+    name: Name,
+    fields: Items<FieldTree>,
+    kind: FieldKind,
+    tokens: &'t [Token],
+) -> Step<'t>
+    ensures { moved result ≡ read_value limits name fields kind tokens.now }
+{
+    let frame = EventFrame::Field(limits, name, fields, kind);
+    let form = Form::Expression(Binding::Sum);
+    inner(Frame::Event(frame), form, limits, tokens)
+}
+
 // What stands behind the dot of a field, where one may.
 fn dot<'t>(
     limits: Limits,
@@ -109,9 +124,7 @@ fn dot<'t>(
     ensures falls { IfOk result (λ s. weight (moved s) < 32 * length tokens.now + 34) }
 {
     expect_true(may_dot, tokens)?;
-    let frame = EventFrame::Field(limits, name, fields, FieldKind::Dot);
-    let value = Form::Expression(Binding::Sum);
-    Ok(inner(Frame::Event(frame), value, limits, tokens))
+    Ok(value(limits, name, fields, FieldKind::Dot, tokens))
 }
 
 // The rest of an event.
@@ -130,9 +143,7 @@ pub(crate) fn fields<'t>(
         return dot(limits, name, fields, may_dot, behind);
     }
     if let Some(behind) = skip(tokens, Symbol::Bang) {
-        let frame = EventFrame::Field(limits, name, fields, FieldKind::Output);
-        let value = Form::Expression(Binding::Sum);
-        return Ok(inner(Frame::Event(frame), value, limits, behind));
+        return Ok(value(limits, name, fields, FieldKind::Output, behind));
     }
     if let Some(behind) = skip(tokens, Symbol::Question) {
         return input(alloc, limits, name, fields, behind);

@@ -1,6 +1,6 @@
 //! The reading step by step.
 
-ghost use Rattle.std.specs.Prelude.{◌≡◌, ◌+◌, ◌*◌, ◌<◌, length, IfOk, Some};
+ghost use Rattle.std.specs.Prelude.{◌≡◌, ◌+◌, ◌*◌, ◌<◌, length, IfOk};
 ghost use Rattle.tree_reading.specs.declared.look.PrefixStart.TheVariants as openings;
 ghost use Rattle.expression_steps.specs.declared.form.Form.TheVariants as forms;
 ghost use Rattle.tree_reading.specs.Gives.{Gives};
@@ -92,34 +92,37 @@ fn item<'t>(limits: Limits, tokens: &'t [Token]) -> Result<Step<'t>, ReadFault>
 }
 
 // All of a tree.
-fn tree<'t>(limits: Limits, tokens: &'t [Token]) -> Step<'t>
-    ensures { Some (moved result) ≡ begin forms.Tree limits tokens.now }
+fn tree<'t>(limits: Limits, tokens: &'t [Token]) -> Result<Step<'t>, ReadFault>
+    ensures moves { Gives result moved (begin forms.Tree limits tokens.now) }
+    ensures falls { IfOk result (λ s. weight (moved s) < pending_weight forms.Tree tokens.now) }
 {
-    parallels::wait(ParallelFrame::LeftSide(limits), Form::Side, limits, tokens)
+    Ok(parallels::wait(ParallelFrame::LeftSide(limits), Form::Side, limits, tokens))
 }
 
 // A side.
-fn side<'t>(limits: Limits, tokens: &'t [Token]) -> Step<'t>
-    ensures { Some (moved result) ≡ begin forms.Side limits tokens.now }
+fn side<'t>(limits: Limits, tokens: &'t [Token]) -> Result<Step<'t>, ReadFault>
+    ensures moves { Gives result moved (begin forms.Side limits tokens.now) }
+    ensures falls { IfOk result (λ s. weight (moved s) < pending_weight forms.Side tokens.now) }
 {
-    choices::wait(
+    Ok(choices::wait(
         ChoiceFrame::FirstOperand(limits),
         Form::Sequence,
         limits,
         tokens,
-    )
+    ))
 }
 
 // A sequence.
-fn sequence<'t>(limits: Limits, tokens: &'t [Token]) -> Step<'t>
-    ensures { Some (moved result) ≡ begin forms.Sequence limits tokens.now }
+fn sequence<'t>(limits: Limits, tokens: &'t [Token]) -> Result<Step<'t>, ReadFault>
+    ensures moves { Gives result moved (begin forms.Sequence limits tokens.now) }
+    ensures falls { IfOk result (λ s. weight (moved s) < pending_weight forms.Sequence tokens.now) }
 {
-    processes::wait(
+    Ok(processes::wait(
         ProcessFrame::FirstProcess(limits),
         Form::Prefix,
         limits,
         tokens,
-    )
+    ))
 }
 
 /// The first step of what is to be read.
@@ -133,9 +136,9 @@ pub fn begin<'t>(
     ensures falls { IfOk result (λ s. weight (moved s) < pending_weight form tokens.now) }
 {
     match form {
-        Form::Tree => Ok(tree(limits, tokens)),
-        Form::Side => Ok(side(limits, tokens)),
-        Form::Sequence => Ok(sequence(limits, tokens)),
+        Form::Tree => tree(limits, tokens),
+        Form::Side => side(limits, tokens),
+        Form::Sequence => sequence(limits, tokens),
         Form::Prefix => prefix(alloc, limits, tokens),
         Form::Expression(level) => expression(limits, level, tokens),
         Form::Atom => atom(alloc, limits, tokens),
