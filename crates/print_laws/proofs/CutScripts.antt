@@ -22,9 +22,10 @@ use Rattle.csp_lexer.specs.Words.{is_foreign, is_name, reserved_word, word_len, 
 use Rattle.script_printer.specs.PrintedTree.{item_tokens, operand_tokens, printed_tokens, separated}
 use Rattle.script_printer.specs.PrintedScript.{deadlock_free_tokens, decl_tokens, names_tokens, parameters_tokens, types_tokens}
 use Rattle.script_printer.specs.TokenText.{line, spaced, token_text}
-use Rattle.print_laws.specs.Fits.{Every, Fits, FitsLine, IsName, Plain}
+use Rattle.print_laws.specs.Fits.{Every, Fits, FitsLine, IsName}
 use Rattle.print_laws.specs.Made.{MadeTree, MadeTrees, MadeNames, MadeTypes, MadeParameters, MadeDecl, MadeDecls}
 use Rattle.print_laws.specs.Made as m
+use Rattle.print_laws.proofs.Plain.{Plain}
 use Rattle.print_laws.proofs.AnnotationLines.{resource_stands, roles_stands}
 use Rattle.print_laws.proofs.Cuts.{Cuts, IsCut, IsPiece, Stands, cuts_more, cuts_nothing}
 use Rattle.print_laws.proofs.Held.{Held, held_items, held_tree, is_other, is_own}

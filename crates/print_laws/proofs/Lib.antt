@@ -10,6 +10,7 @@ pub mod Names
 pub mod Numbers
 pub mod Onto
 pub mod Parentheses
+pub mod Plain
 pub mod Quiet
 pub mod RoundTrip
 pub mod ScriptTexts

@@ -6,7 +6,8 @@ use Rattle.csp_text.specs.declared.token.Token.{Token}
 use Rattle.csp_text.specs.declared.token.Token.TheVariants as token
 use Rattle.csp_text.specs.declared.token.Symbol.TheVariants as symbol
 use Rattle.csp_lexer.specs.Assertions.{after_closing, is_symbol}
-use Rattle.print_laws.specs.Fits.{Fits, FitsLine, Plain}
+use Rattle.print_laws.specs.Fits.{Fits, FitsLine}
+use Rattle.print_laws.proofs.Plain.{Plain}
 use Rattle.print_laws.proofs.Held.{is_other, is_own}
 use Rattle.print_laws.proofs.Walk.{is_special}
 

@@ -16,7 +16,8 @@ use Rattle.csp_lexer.specs.Symbols.{longest_symbol, symbol_at}
 use Rattle.csp_lexer.specs.Tokens.{digits_len, token_at}
 use Rattle.csp_lexer.specs.Words.{word_len}
 use Rattle.script_printer.specs.TokenText.{line, row, spaced, token_text}
-use Rattle.print_laws.specs.Fits.{Every, FitsLine, Plain}
+use Rattle.print_laws.specs.Fits.{Every, FitsLine}
+use Rattle.print_laws.proofs.Plain.{Plain}
 use Rattle.print_laws.proofs.Cuts.{Cuts, IsPiece, Stands, cuts_more, cuts_nothing}
 use Rattle.print_laws.proofs.Names.{name_front, name_line_front, name_parts}
 use Rattle.print_laws.proofs.Numbers.{decimal_digits, number_front, number_line_front}

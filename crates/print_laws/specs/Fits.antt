@@ -60,12 +60,3 @@ FitsLine (token.Resource names) = ⊥
 abbrev pub is_common : Word → Bool
 is_common Assert = false
 is_common _ = true
-
--- a token of a line that is no assertion and no annotation
-abbrev pub Plain : Token → Type 0
-Plain (token.Name x) = IsName x
-Plain (token.Num n) = n ≤ 1000000
-Plain (token.Word w) = is_common w ≡ true
-Plain (token.Symbol s) = Unit {0}
-Plain (token.Roles names) = ⊥
-Plain (token.Resource names) = ⊥
