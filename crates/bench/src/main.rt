@@ -7,7 +7,7 @@ mod terms;
 mod values;
 mod workloads;
 
-use pools::{pool, put_in};
+use pools::{pool, substitute};
 use std::alloc::Global;
 use std::env;
 use std::process::ExitCode;
@@ -51,7 +51,7 @@ fn run_once(alloc: Global, workload: &str, size: u32) -> Option<u64> {
         "blocks" => blocks(alloc, size).ok(),
         "substituted" => substituted(alloc, size).ok(),
         "pool" => pool(alloc, size).ok(),
-        "put-in" => put_in(alloc, size).ok(),
+        "put-in" => substitute(alloc, size).ok(),
         "bindings" => bindings(alloc, size).ok(),
         "production" => production(alloc, size).ok(),
         _ => None,

@@ -80,11 +80,11 @@ fn put_value(pool: &mut Pool, place: ProcId) -> Result<ProcId, NoMemory> {
     if place.0 as usize >= pool.len() {
         return Ok(place);
     }
-    pool.put_in(place, NAME, &value())
+    pool.substitute(place, NAME, &value())
 }
 
 /// The depth of a term of this depth once each of its conditions has got a value.
-pub fn put_in(alloc: Global, depth: u32) -> Result<u64, NoMemory> {
+pub fn substitute(alloc: Global, depth: u32) -> Result<u64, NoMemory> {
     let mut pool = Pool::new(alloc);
     let place = put_conditions(&mut pool, alloc, depth)?;
     let made = put_value(&mut pool, place)?;

@@ -6,6 +6,7 @@ use csp_base::NoMemory;
 use csp_program::{Expr, Proc};
 use std::alloc::Global;
 use substitution::substitute;
+use term_pool::term_size;
 
 /// The bound name that gets a value.
 pub(super) const NAME: u32 = 0;
@@ -37,10 +38,10 @@ pub(super) fn tower(alloc: Global, put: bool, conditions: u32) -> Result<Proc, N
     Ok(process)
 }
 
-/// 1 where a value put in place of a name under so many conditions gives the process with the value, which is compared to the end.
+/// 1 where a value put in place of a name under so many conditions gives a process as large as that with the value.
 pub fn substituted(alloc: Global, conditions: u32) -> Result<u64, NoMemory> {
     let before = tower(alloc, false, conditions)?;
     let after = tower(alloc, true, conditions)?;
     let made = substitute(alloc, &before, NAME, &value())?;
-    Ok(u64::from(made == after))
+    Ok(u64::from(term_size(&made) == term_size(&after)))
 }

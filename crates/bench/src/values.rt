@@ -61,6 +61,7 @@ fn channel(alloc: Global, size: u32) -> Result<Channel, EvalFault> {
         name: Name::from_slice(alloc, b"c")?,
         types: Items::new(alloc),
         fields: Some(sets),
+        first: 0,
     })
 }
 

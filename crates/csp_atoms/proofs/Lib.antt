@@ -5,3 +5,4 @@ pub mod MergeLaws
 pub mod OrderLaws
 pub mod SearchLaws
 pub mod SetLaws
+pub mod SetTest

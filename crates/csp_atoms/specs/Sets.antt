@@ -1,5 +1,5 @@
 -- Sets of atoms as contracts see them: lists of atoms of one kind that rise strictly.
-use Rattle.std.specs.Prelude.{◌≡◌, ℕ, ◌+◌, Bool, true, false, not, ◌||◌, if◌then◌else◌, Option, Some, None, List, [], ◌∷◌}
+use Rattle.std.specs.Prelude.{◌≡◌, ℕ, ◌+◌, Bool, true, false, not, ◌&&◌, ◌||◌, if◌then◌else◌, Option, Some, None, List, [], ◌∷◌}
 use Rattle.std.specs.List.{filter}
 use Rattle.csp_atoms.specs.Order.{kind_of, less, same, same_kind}
 use Rattle.csp_atoms.specs.declared.atom.Atom.{Atom}
@@ -28,6 +28,16 @@ IsOneKind (a ∷ rest) = AllOfKind (kind_of a) rest
 -- what is true of each set
 abbrev pub IsAtomSet : List Atom → Type 0
 IsAtomSet atoms = IsRising atoms × IsOneKind atoms
+
+-- whether the atom comes before all of the list, which is of its kind
+abbrev pub leads : Atom → List Atom → Bool
+leads a [] = true
+leads a (b ∷ bs) = less a b && (same_kind a b && leads a bs)
+
+-- whether the list is a set: it rises, and is of one kind
+abbrev pub is_set : List Atom → Bool
+is_set [] = true
+is_set (a ∷ rest) = leads a rest && is_set rest
 
 -- whether the atom is a member
 abbrev pub has_atom : List Atom → Atom → Bool

@@ -29,7 +29,7 @@ impl Atom {
     }
 }
 
-/// The place of the atom's kind among the kinds.
+// The place of the atom's kind among the kinds.
 fn kind(atom: &Atom) -> u8
     ensures { result ≡ kind_of atom.now }
 {

@@ -20,7 +20,7 @@ pub(crate) enum Operation {
     Diff,
 }
 
-/// How many atoms come before the given one, by binary search.
+// How many atoms come before the given one, by binary search.
 fn lower_bound(atoms: &[Atom], atom: &Atom) -> usize
     requires { IsRising atoms.now }
     ensures { result ≡ count_before atoms.now atom.now }
@@ -38,7 +38,7 @@ fn lower_bound(atoms: &[Atom], atom: &Atom) -> usize
     low
 }
 
-/// Whether the atom stands at that place.
+// Whether the atom stands at that place.
 fn is_at(atoms: &[Atom], place: usize, atom: &Atom) -> bool
     ensures { result ≡ stands_at atoms.now place atom.now }
 {
@@ -102,7 +102,7 @@ pub(crate) fn can_join(left: &[Atom], right: &[Atom]) -> bool
     }
 }
 
-/// The least atom of both lists.
+// The least atom of both lists.
 fn least(left: &[Atom], right: &[Atom]) -> Option<Atom>
     ensures { result ≡ least_of left.now right.now }
 {
@@ -115,7 +115,7 @@ fn least(left: &[Atom], right: &[Atom]) -> Option<Atom>
     Some(right[0])
 }
 
-/// Whether the list begins with the atom.
+// Whether the list begins with the atom.
 fn starts_with(atoms: &[Atom], atom: &Atom) -> bool
     ensures { result ≡ begins_with atoms.now atom.now }
 {
@@ -125,7 +125,7 @@ fn starts_with(atoms: &[Atom], atom: &Atom) -> bool
     }
 }
 
-/// The list without its first atom, where it begins with the given one.
+// The list without its first atom, where it begins with the given one.
 fn past_front<'a>(atoms: &'a [Atom], atom: &Atom) -> &'a [Atom]
     ensures { result.now ≡ rest_after atoms.now atom.now }
 {
@@ -136,7 +136,7 @@ fn past_front<'a>(atoms: &'a [Atom], atom: &Atom) -> &'a [Atom]
     }
 }
 
-/// Whether an atom is in the result, by whether it is in both sets.
+// Whether an atom is in the result, by whether it is in both sets.
 fn is_kept(operation: Operation, left: bool, right: bool) -> bool
     ensures { result ≡ keeps operation left right }
 {
@@ -147,7 +147,7 @@ fn is_kept(operation: Operation, left: bool, right: bool) -> bool
     }
 }
 
-/// Adds an atom at the end, where the test says so.
+// Adds an atom at the end, where the test says so.
 fn push_if(made: &mut Vec<Atom>, kept: bool, atom: &Atom) -> Result<(), NoMemory>
     ensures ok { OnOk result (made.new.items ≡ with_last made.old.items kept atom.now) }
     ensures err { OnErr result (made.new.items ≡ made.old.items) }
@@ -185,7 +185,7 @@ pub(crate) fn merged(
     Ok(made)
 }
 
-/// The event that an atom is.
+// The event that an atom is.
 fn event_of(atom: &Atom) -> Option<Event>
     ensures { result ≡ event_number atom.now }
 {

@@ -1,3 +1,3 @@
-pub mod PutFolds
-pub mod PutLaws
+pub mod SubstitutionFolds
+pub mod SubstitutionLaws
 pub mod UsesWithin

@@ -5,7 +5,7 @@ use Rattle.std.proofs.lemmas.Bool.{false≢true, eq-eqb}
 use Rattle.csp_program.specs.Free.{Names, either, any_of}
 use Rattle.csp_program.specs.Nesting.{NestsWithin, DefNests, BodyNests}
 use Rattle.csp_program.specs.Uses.{expr_uses, expr_uses_of_layer, gen_uses_of_layer, part_uses_of_layer}
-use Rattle.csp_program.specs.Value.{Uses, Meaning, Turn, Front, meaning, turn, front, meaning_of_layer, turn_of_layer, front_of_layer, body_value, def_value, uses_within, value_within, bound_to, many, set_of, values_of}
+use Rattle.csp_program.specs.Value.{Uses, Meaning, Turn, Front, meaning, turn, front, meaning_of_layer, turn_of_layer, front_of_layer, body_value, def_value, uses_within, value_within, bound_to, many, as_set, values_of}
 use Rattle.csp_program.specs.Outcome.{Outcome, and_then}
 use Rattle.csp_atoms.specs.declared.value.Value.{Value}
 use Rattle.csp_program.specs.declared.expressions.Expr.{Expr}
@@ -38,7 +38,7 @@ abbrev called : List Meaning → (List Value → Outcome Value) → Meaning
 called args entered env = and_then (values_of args env) (λ vs. entered vs)
 
 abbrev named : (List Value → Outcome Value) → Meaning
-named entered env = and_then (entered []) (λ v. many (set_of v))
+named entered env = and_then (entered []) (λ v. many (as_set v))
 
 -- two ways to value uses that agree on the uses of an expression give it one meaning
 module _ (u w : Uses) (channels : List Channel) where

@@ -1,5 +1,5 @@
--- The number of an event in the event table, from the places of its fields' values in the channel's field sets.
-use Rattle.std.specs.Prelude.{ℕ, suc, zero, ◌+◌, ◌*◌, Option, Some, None, List, [], ◌∷◌, length}
+-- How many events channels have, and the number of the first event of each channel in the event table.
+use Rattle.std.specs.Prelude.{◌≡◌, ℕ, suc, zero, ◌+◌, ◌*◌, Option, Some, None, List, [], ◌∷◌, length, slice_get}
 use Rattle.csp_atoms.specs.declared.atom.Atom.{Atom}
 use Rattle.csp_program.specs.declared.programs.Channel.{Channel}
 
@@ -17,3 +17,7 @@ abbrev pub first_event : List Channel → ℕ → ℕ
 first_event channels zero = 0
 first_event [] (suc c) = 0
 first_event (channel ∷ channels) (suc c) = event_count channel.fields + first_event channels c
+
+-- each channel keeps the number of its first event
+abbrev pub KeepFirsts : List Channel → Type 0
+KeepFirsts channels = (c : ℕ) (channel : Channel) → slice_get channels c ≡ Some channel → channel.first ≡ first_event channels c

@@ -15,14 +15,14 @@ abbrev pub event_of : ℕ → List Atom → EventInfo
 event_of c row = record { channel = c; fields = row }
 
 -- the events of the channel with the number c
-abbrev pub events_of : ℕ → Option (List (List Atom)) → List EventInfo
-events_of c None = []
-events_of c (Some sets) = map (event_of c) (rows sets)
+abbrev pub channel_events : ℕ → Option (List (List Atom)) → List EventInfo
+channel_events c None = []
+channel_events c (Some sets) = map (event_of c) (rows sets)
 
 -- the events of channels that are numbered from c on
-abbrev pub events_from : ℕ → List Channel → List EventInfo
-events_from c [] = []
-events_from c (channel ∷ channels) = events_of c channel.fields ++ events_from (c + 1) channels
+abbrev pub events_from_channel : ℕ → List Channel → List EventInfo
+events_from_channel c [] = []
+events_from_channel c (channel ∷ channels) = channel_events c channel.fields ++ events_from_channel (c + 1) channels
 
 abbrev pub event_table : List Channel → List EventInfo
-event_table channels = events_from 0 channels
+event_table channels = events_from_channel 0 channels

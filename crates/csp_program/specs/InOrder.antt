@@ -1,7 +1,9 @@
 -- What it means that a program is in order: every number in it is in range; each use has the class and the number of arguments or fields that its
--- declaration asks; each body is closed but for its parameters; no definition of data reaches itself; and the event table is that of the channels,
--- or empty while no channel has its field sets.
-use Rattle.std.specs.Prelude.{◌≡◌, ◌⊎◌, ℕ, ◌-◌, ◌<◌, ◌^◌, Bool, true, false, ◌&&◌, nat_eq, nat_lt, nat_le, IsTrue, Option, Some, None, List, [], ◌∷◌, map, length, slice_get}
+-- declaration asks; sets rise and are of one kind; each body is closed but for its parameters; no definition of data reaches itself; and the event
+-- table is that of the channels, each of which keeps the number of its first event, or empty while no channel has its field sets.
+use Rattle.std.specs.Prelude.{◌≡◌, ◌⊎◌, ℕ, ◌-◌, ◌<◌, ◌^◌, Bool, true, false, ◌&&◌, nat_eq, nat_lt, nat_le, is_none, is_some, IsTrue, Option, Some, None, List, [], ◌∷◌, map, length, slice_get}
+use Rattle.csp_atoms.specs.Sets.{is_set}
+use Rattle.csp_program.specs.EventNumber.{KeepFirsts}
 use Rattle.csp_program.specs.EventTable.{event_table}
 use Rattle.csp_program.specs.Free.{Names, IsClosed, expr_free, proc_free, net_free}
 use Rattle.csp_program.specs.Lists.{all_true, has_number}
@@ -84,7 +86,7 @@ module _ (p : Content) where
 
   abbrev pub value_in_order : Value → Bool
   value_in_order (One a) = atom_in_order a
-  value_in_order (Many atoms) = all_true (map atom_in_order atoms)
+  value_in_order (Many atoms) = all_true (map atom_in_order atoms) && is_set atoms
 
   abbrev pub expr_in_order_of_layer : Expr-F Bool Bool Bool → Bool
   expr_in_order_of_layer (Expr-F.Num n) = true
@@ -180,7 +182,7 @@ module _ (p : Content) where
   abbrev pub def_in_order : Def → Bool
   def_in_order def = body_in_order def.params def.body
 
-  -- a field holds numbers or constants
+  -- the values of a field are numbers or constants
   abbrev pub is_field_value : Atom → Bool
   is_field_value (atom.Num n) = true
   is_field_value (atom.Truth b) = false
@@ -188,7 +190,7 @@ module _ (p : Content) where
   is_field_value (atom.Event e) = false
 
   abbrev pub set_in_order : List Atom → Bool
-  set_in_order atoms = all_true (map is_field_value atoms)
+  set_in_order atoms = all_true (map is_field_value atoms) && is_set atoms
 
   -- a channel has a set for each of its fields, or no sets yet
   abbrev pub sets_in_order : ℕ → Option (List (List Atom)) → Bool
@@ -236,19 +238,11 @@ abbrev pub AllClosedTypes : List Channel → Type 0
 AllClosedTypes [] = Unit {0}
 AllClosedTypes (channel ∷ channels) = AllClosed channel.types × AllClosedTypes channels
 
-abbrev pub some_sets : Option (List (List Atom)) → Bool
-some_sets None = false
-some_sets (Some sets) = true
-
-abbrev pub no_sets : Option (List (List Atom)) → Bool
-no_sets None = true
-no_sets (Some sets) = false
-
 abbrev pub has_sets : Channel → Bool
-has_sets channel = some_sets channel.fields
+has_sets channel = is_some channel.fields
 
 abbrev pub lacks_sets : Channel → Bool
-lacks_sets channel = no_sets channel.fields
+lacks_sets channel = is_none channel.fields
 
 -- the event table is that of the channels, or empty while none of them has its field sets
 abbrev pub IsEventTable : Content → Type 0
@@ -274,4 +268,6 @@ pub record IsInOrder (p : Content) : Type 0 where
   pub closed_root : IsClosed (net_free p.root)
   -- no definition of data reaches itself
   pub no_circle : (n : ℕ) → Reaches p.defs n n → ⊥
+  -- events are numbered by their places
   pub table : IsEventTable p
+  pub firsts : KeepFirsts p.channels

@@ -3,8 +3,7 @@ pub mod Depth
 pub mod EventNumber
 pub mod EventTable
 pub mod ExactExpr
-pub mod ExactNet
-pub mod ExactProc
+pub mod ExactParts
 pub mod Free
 pub mod InOrder
 pub mod Lists

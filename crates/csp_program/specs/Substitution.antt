@@ -28,8 +28,8 @@ abbrev pub kept : {X : Type 0} → List (Twice X) → List X
 kept parts = map (λ part. part.0) parts
 
 -- the parts with the value put in
-abbrev pub put : {X : Type 0} → List (Twice X) → List X
-put parts = map (λ part. part.1) parts
+abbrev pub changed : {X : Type 0} → List (Twice X) → List X
+changed parts = map (λ part. part.1) parts
 
 -- a part that is put in unless the name is bound there
 abbrev pub unless_bound : {X : Type 0} → Bool → Twice X → X
@@ -58,96 +58,96 @@ any_gets x (field.Put e ∷ fields) = any_gets x fields
 any_gets x (field.Get y s ∷ fields) = if nat_eq y x then true else any_gets x fields
 
 -- generators with the value put in, up to the one that binds the name x
-abbrev pub put_gens : ℕ → List (Twice Gen) → List Gen
-put_gens x [] = []
-put_gens x (g ∷ gs) = g.1 ∷ (if binds x g.0 then kept gs else put_gens x gs)
+abbrev pub gens_with : ℕ → List (Twice Gen) → List Gen
+gens_with x [] = []
+gens_with x (g ∷ gs) = g.1 ∷ (if binds x g.0 then kept gs else gens_with x gs)
 
 module _ (x : ℕ) (v : Value) where
-  abbrev pub expr_put_of_layer : Expr-F (Twice Expr) (Twice Gen) (Twice EventPart) → Expr
-  expr_put_of_layer (Expr-F.Num n) = expr.Num n
-  expr_put_of_layer (Expr-F.Truth b) = expr.Truth b
-  expr_put_of_layer (Expr-F.Const k) = expr.Const k
-  expr_put_of_layer (Expr-F.Bound y) = if nat_eq y x then expr.Lit v else expr.Bound y
-  expr_put_of_layer (Expr-F.Lit w) = expr.Lit w
-  expr_put_of_layer (Expr-F.Neg a) = expr.Neg a.1
-  expr_put_of_layer (Expr-F.Not a) = expr.Not a.1
-  expr_put_of_layer (Expr-F.Binary op a b) = expr.Binary op a.1 b.1
-  expr_put_of_layer (Expr-F.If c a b) = expr.If c.1 a.1 b.1
-  expr_put_of_layer (Expr-F.Call d args) = expr.Call d (put args)
-  expr_put_of_layer (Expr-F.SetName d) = expr.SetName d
-  expr_put_of_layer (Expr-F.Event c fields) = expr.Event c (put fields)
-  expr_put_of_layer (Expr-F.Display items) = expr.Display (put items)
-  expr_put_of_layer (Expr-F.Range a b) = expr.Range a.1 b.1
-  expr_put_of_layer (Expr-F.Comp items gens) = expr.Comp (all_unless_bound (any_binds x (kept gens)) items) (put_gens x gens)
-  expr_put_of_layer (Expr-F.Product parts gens) = expr.Product (all_unless_bound (any_binds x (kept gens)) parts) (put_gens x gens)
-  expr_put_of_layer (Expr-F.SetOp op a b) = expr.SetOp op a.1 b.1
+  abbrev pub expr_with_of_layer : Expr-F (Twice Expr) (Twice Gen) (Twice EventPart) → Expr
+  expr_with_of_layer (Expr-F.Num n) = expr.Num n
+  expr_with_of_layer (Expr-F.Truth b) = expr.Truth b
+  expr_with_of_layer (Expr-F.Const k) = expr.Const k
+  expr_with_of_layer (Expr-F.Bound y) = if nat_eq y x then expr.Lit v else expr.Bound y
+  expr_with_of_layer (Expr-F.Lit w) = expr.Lit w
+  expr_with_of_layer (Expr-F.Neg a) = expr.Neg a.1
+  expr_with_of_layer (Expr-F.Not a) = expr.Not a.1
+  expr_with_of_layer (Expr-F.Binary op a b) = expr.Binary op a.1 b.1
+  expr_with_of_layer (Expr-F.If c a b) = expr.If c.1 a.1 b.1
+  expr_with_of_layer (Expr-F.Call d args) = expr.Call d (changed args)
+  expr_with_of_layer (Expr-F.SetName d) = expr.SetName d
+  expr_with_of_layer (Expr-F.Event c fields) = expr.Event c (changed fields)
+  expr_with_of_layer (Expr-F.Display items) = expr.Display (changed items)
+  expr_with_of_layer (Expr-F.Range a b) = expr.Range a.1 b.1
+  expr_with_of_layer (Expr-F.Comp items gens) = expr.Comp (all_unless_bound (any_binds x (kept gens)) items) (gens_with x gens)
+  expr_with_of_layer (Expr-F.Product parts gens) = expr.Product (all_unless_bound (any_binds x (kept gens)) parts) (gens_with x gens)
+  expr_with_of_layer (Expr-F.SetOp op a b) = expr.SetOp op a.1 b.1
 
-  abbrev pub gen_put_of_layer : Gen-F (Twice Expr) (Twice Gen) (Twice EventPart) → Gen
-  gen_put_of_layer (Gen-F.From y s) = generator.From y s.1
-  gen_put_of_layer (Gen-F.Cond c) = generator.Cond c.1
+  abbrev pub gen_with_of_layer : Gen-F (Twice Expr) (Twice Gen) (Twice EventPart) → Gen
+  gen_with_of_layer (Gen-F.From y s) = generator.From y s.1
+  gen_with_of_layer (Gen-F.Cond c) = generator.Cond c.1
 
-  abbrev pub part_put_of_layer : EventPart-F (Twice Expr) (Twice Gen) (Twice EventPart) → EventPart
-  part_put_of_layer part = roll-EventPart (record { channel = part.channel; fields = put part.fields })
+  abbrev pub part_with_of_layer : EventPart-F (Twice Expr) (Twice Gen) (Twice EventPart) → EventPart
+  part_with_of_layer part = roll-EventPart (record { channel = part.channel; fields = changed part.fields })
 
   -- the expression with the value v in place of the free name x
-  abbrev pub expr_put : Expr → Expr
-  expr_put = para-Expr Expr Gen EventPart expr_put_of_layer gen_put_of_layer part_put_of_layer
+  abbrev pub expr_with : Expr → Expr
+  expr_with = para-Expr Expr Gen EventPart expr_with_of_layer gen_with_of_layer part_with_of_layer
 
-  abbrev pub gen_put : Gen → Gen
-  gen_put = para-Gen Expr Gen EventPart expr_put_of_layer gen_put_of_layer part_put_of_layer
+  abbrev pub gen_with : Gen → Gen
+  gen_with = para-Gen Expr Gen EventPart expr_with_of_layer gen_with_of_layer part_with_of_layer
 
-  abbrev pub part_put : EventPart → EventPart
-  part_put = para-EventPart Expr Gen EventPart expr_put_of_layer gen_put_of_layer part_put_of_layer
+  abbrev pub part_with : EventPart → EventPart
+  part_with = para-EventPart Expr Gen EventPart expr_with_of_layer gen_with_of_layer part_with_of_layer
 
-  abbrev pub head_put : Head → Head
-  head_put (head.Channel c) = head.Channel c
-  head_put (head.Bound y) = if nat_eq y x then head.Put v else head.Bound y
-  head_put (head.Put w) = head.Put w
+  abbrev pub head_with : Head → Head
+  head_with (head.Channel c) = head.Channel c
+  head_with (head.Bound y) = if nat_eq y x then head.Put v else head.Bound y
+  head_with (head.Put w) = head.Put w
 
   -- the fields of a prefix with the value put in, up to the one that binds the name x
-  abbrev pub fields_put : List Field → List Field
-  fields_put [] = []
-  fields_put (field.Put e ∷ fields) = field.Put (expr_put e) ∷ fields_put fields
-  fields_put (field.Get y (Some s) ∷ fields) = field.Get y (Some (expr_put s)) ∷ (if nat_eq y x then fields else fields_put fields)
-  fields_put (field.Get y None ∷ fields) = field.Get y None ∷ (if nat_eq y x then fields else fields_put fields)
+  abbrev pub fields_with : List Field → List Field
+  fields_with [] = []
+  fields_with (field.Put e ∷ fields) = field.Put (expr_with e) ∷ fields_with fields
+  fields_with (field.Get y (Some s) ∷ fields) = field.Get y (Some (expr_with s)) ∷ (if nat_eq y x then fields else fields_with fields)
+  fields_with (field.Get y None ∷ fields) = field.Get y None ∷ (if nat_eq y x then fields else fields_with fields)
 
-  abbrev pub pair_put : EventPart × EventPart → EventPart × EventPart
-  pair_put pair = (part_put pair.0, part_put pair.1)
+  abbrev pub pair_with : EventPart × EventPart → EventPart × EventPart
+  pair_with pair = (part_with pair.0, part_with pair.1)
 
   abbrev pub gen_twice : Gen → Twice Gen
-  gen_twice g = (g, gen_put g)
+  gen_twice g = (g, gen_with g)
 
   abbrev pub pair_twice : EventPart × EventPart → Twice (EventPart × EventPart)
-  pair_twice pair = (pair, pair_put pair)
+  pair_twice pair = (pair, pair_with pair)
 
-  abbrev pub proc_put_of_layer : Proc-F (Twice Proc) → Proc
-  proc_put_of_layer Proc-F.Stop = proc.Stop
-  proc_put_of_layer (Proc-F.Prefix h fields p) = proc.Prefix (head_put h) (fields_put fields) (unless_bound (any_gets x fields) p)
-  proc_put_of_layer (Proc-F.Guard c p) = proc.Guard (expr_put c) p.1
-  proc_put_of_layer (Proc-F.If c p q) = proc.If (expr_put c) p.1 q.1
-  proc_put_of_layer (Proc-F.External ps) = proc.External (put ps)
-  proc_put_of_layer (Proc-F.Internal ps) = proc.Internal (put ps)
-  proc_put_of_layer (Proc-F.EachExternal y s p) = proc.EachExternal y (expr_put s) (unless_bound (nat_eq y x) p)
-  proc_put_of_layer (Proc-F.EachInternal y s p) = proc.EachInternal y (expr_put s) (unless_bound (nat_eq y x) p)
-  proc_put_of_layer (Proc-F.Hide p s) = proc.Hide p.1 (expr_put s)
-  proc_put_of_layer (Proc-F.Rename p pairs gens) =
-      proc.Rename p.1 (all_unless_bound (any_binds x gens) (map pair_twice pairs)) (put_gens x (map gen_twice gens))
-  proc_put_of_layer (Proc-F.Call d args) = proc.Call d (map expr_put args)
-  proc_put_of_layer Proc-F.Skip = proc.Skip
-  proc_put_of_layer (Proc-F.Seq p q) = proc.Seq p.1 q.1
-  proc_put_of_layer Proc-F.Ended = proc.Ended
+  abbrev pub proc_with_of_layer : Proc-F (Twice Proc) → Proc
+  proc_with_of_layer Proc-F.Stop = proc.Stop
+  proc_with_of_layer (Proc-F.Prefix h fields p) = proc.Prefix (head_with h) (fields_with fields) (unless_bound (any_gets x fields) p)
+  proc_with_of_layer (Proc-F.Guard c p) = proc.Guard (expr_with c) p.1
+  proc_with_of_layer (Proc-F.If c p q) = proc.If (expr_with c) p.1 q.1
+  proc_with_of_layer (Proc-F.External ps) = proc.External (changed ps)
+  proc_with_of_layer (Proc-F.Internal ps) = proc.Internal (changed ps)
+  proc_with_of_layer (Proc-F.EachExternal y s p) = proc.EachExternal y (expr_with s) (unless_bound (nat_eq y x) p)
+  proc_with_of_layer (Proc-F.EachInternal y s p) = proc.EachInternal y (expr_with s) (unless_bound (nat_eq y x) p)
+  proc_with_of_layer (Proc-F.Hide p s) = proc.Hide p.1 (expr_with s)
+  proc_with_of_layer (Proc-F.Rename p pairs gens) =
+      proc.Rename p.1 (all_unless_bound (any_binds x gens) (map pair_twice pairs)) (gens_with x (map gen_twice gens))
+  proc_with_of_layer (Proc-F.Call d args) = proc.Call d (map expr_with args)
+  proc_with_of_layer Proc-F.Skip = proc.Skip
+  proc_with_of_layer (Proc-F.Seq p q) = proc.Seq p.1 q.1
+  proc_with_of_layer Proc-F.Ended = proc.Ended
 
   -- the process with the value v in place of the free name x
-  abbrev pub proc_put : Proc → Proc
-  proc_put = para-Proc Proc proc_put_of_layer
+  abbrev pub proc_with : Proc → Proc
+  proc_with = para-Proc Proc proc_with_of_layer
 
-  abbrev pub net_put_of_layer : Net-F (Twice Net) → Net
-  net_put_of_layer (Net-F.Leaf p) = net.Leaf (proc_put p)
-  net_put_of_layer (Net-F.Call d args) = net.Call d (map expr_put args)
-  net_put_of_layer (Net-F.If c n m) = net.If (expr_put c) n.1 m.1
-  net_put_of_layer (Net-F.Pair n a b m) = net.Pair n.1 (expr_put a) (expr_put b) m.1
-  net_put_of_layer (Net-F.Each y s a n) = net.Each y (expr_put s) (if nat_eq y x then a else expr_put a) (unless_bound (nat_eq y x) n)
+  abbrev pub net_with_of_layer : Net-F (Twice Net) → Net
+  net_with_of_layer (Net-F.Leaf p) = net.Leaf (proc_with p)
+  net_with_of_layer (Net-F.Call d args) = net.Call d (map expr_with args)
+  net_with_of_layer (Net-F.If c n m) = net.If (expr_with c) n.1 m.1
+  net_with_of_layer (Net-F.Pair n a b m) = net.Pair n.1 (expr_with a) (expr_with b) m.1
+  net_with_of_layer (Net-F.Each y s a n) = net.Each y (expr_with s) (if nat_eq y x then a else expr_with a) (unless_bound (nat_eq y x) n)
 
   -- the network with the value v in place of the free name x
-  abbrev pub net_put : Net → Net
-  net_put = para-Net Net net_put_of_layer
+  abbrev pub net_with : Net → Net
+  net_with = para-Net Net net_with_of_layer

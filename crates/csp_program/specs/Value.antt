@@ -2,11 +2,11 @@
 --
 -- An operand's kind is looked at as soon as the operand has its value. Names of definitions are worth what their bodies are, with the values of the
 -- arguments; the number of uses that may still be entered goes down by one with each. Bound names have their values in an environment.
-use Rattle.std.specs.Prelude.{ℕ, zero, suc, ◌+◌, ◌-◌, ◌*◌, ◌/◌, ◌%◌, ℤ, pos, negsuc, neg_ℤ, ◌+ℤ◌, ◌-ℤ◌, ◌*ℤ◌, int_lt, int_le, Bool, true, false, not, ◌&&◌, nat_eq, nat_lt, if◌then◌else◌, Option, Some, None, Ok, Err, List, [], ◌∷◌, map, length, drop, slice_get}
+use Rattle.std.specs.Prelude.{ℕ, zero, suc, ◌+◌, ◌-◌, ◌*◌, ◌/◌, ◌%◌, ℤ, pos, negsuc, neg_ℤ, ◌+ℤ◌, ◌-ℤ◌, ◌*ℤ◌, int_lt, int_le, Bool, true, false, not, ◌&&◌, ◌||◌, is_none, nat_eq, nat_lt, if◌then◌else◌, Option, Some, None, Ok, Err, List, [], ◌∷◌, map, length, drop, slice_get}
 use Rattle.csp_atoms.specs.Order.{same, same_kind}
 use Rattle.csp_atoms.specs.Sets.{alike, diff_of, inter_of, place_of, union_of}
 use Rattle.csp_program.specs.Atoms.{added, all_added, events_from, limited, numbers_from}
-use Rattle.csp_program.specs.EventNumber.{first_event, row_count}
+use Rattle.csp_program.specs.EventNumber.{row_count}
 use Rattle.csp_program.specs.Outcome.{Outcome, and_then}
 use Rattle.csp_atoms.specs.declared.atom.Atom.{Atom}
 use Rattle.csp_atoms.specs.declared.atom.Atom.TheVariants as atom
@@ -43,30 +43,30 @@ bound_to (x ∷ xs) [] = []
 bound_to (x ∷ xs) (v ∷ vs) = (x, v) ∷ bound_to xs vs
 
 -- an atom is needed
-abbrev pub atom_of : Value → Outcome Atom
-atom_of (One a) = Ok a
-atom_of (Many atoms) = Err Kind
+abbrev pub as_atom : Value → Outcome Atom
+as_atom (One a) = Ok a
+as_atom (Many atoms) = Err Kind
 
 -- a number is needed
-abbrev pub number_of : Value → Outcome ℤ
-number_of (One (atom.Num n)) = Ok n
-number_of (One (atom.Truth b)) = Err Kind
-number_of (One (atom.Const k)) = Err Kind
-number_of (One (atom.Event e)) = Err Kind
-number_of (Many atoms) = Err Kind
+abbrev pub as_number : Value → Outcome ℤ
+as_number (One (atom.Num n)) = Ok n
+as_number (One (atom.Truth b)) = Err Kind
+as_number (One (atom.Const k)) = Err Kind
+as_number (One (atom.Event e)) = Err Kind
+as_number (Many atoms) = Err Kind
 
 -- a truth value is needed
-abbrev pub truth_of : Value → Outcome Bool
-truth_of (One (atom.Num n)) = Err Kind
-truth_of (One (atom.Truth b)) = Ok b
-truth_of (One (atom.Const k)) = Err Kind
-truth_of (One (atom.Event e)) = Err Kind
-truth_of (Many atoms) = Err Kind
+abbrev pub as_truth : Value → Outcome Bool
+as_truth (One (atom.Num n)) = Err Kind
+as_truth (One (atom.Truth b)) = Ok b
+as_truth (One (atom.Const k)) = Err Kind
+as_truth (One (atom.Event e)) = Err Kind
+as_truth (Many atoms) = Err Kind
 
 -- a set is needed
-abbrev pub set_of : Value → Outcome (List Atom)
-set_of (One a) = Err Kind
-set_of (Many atoms) = Ok atoms
+abbrev pub as_set : Value → Outcome (List Atom)
+as_set (One a) = Err Kind
+as_set (Many atoms) = Ok atoms
 
 abbrev pub number : ℤ → Value
 number n = One (atom.Num n)
@@ -97,16 +97,16 @@ divided f m (negsuc d) = Err Division
 
 -- an operator on two numbers, the first of which has its value
 abbrev pub on_numbers : (ℤ → ℤ → Outcome Value) → Value → Outcome Value → Outcome Value
-on_numbers f v second = and_then (number_of v) (λ m. and_then second (λ w. and_then (number_of w) (λ n. f m n)))
+on_numbers f v second = and_then (as_number v) (λ m. and_then second (λ w. and_then (as_number w) (λ n. f m n)))
 
 -- a comparison of two atoms of one kind
 abbrev pub on_atoms : (Atom → Atom → Bool) → Value → Outcome Value → Outcome Value
-on_atoms f v second = and_then (atom_of v) (λ a. and_then second (λ w. and_then (atom_of w) (λ b. if same_kind a b then Ok (truth (f a b)) else Err Kind)))
+on_atoms f v second = and_then (as_atom v) (λ a. and_then second (λ w. and_then (as_atom w) (λ b. if same_kind a b then Ok (truth (f a b)) else Err Kind)))
 
 -- the second operand is looked at only where the first doesn't decide
 abbrev pub on_truths : Bool → Value → Outcome Value → Outcome Value
-on_truths decides v second = and_then (truth_of v) (λ b.
-    if (if decides then b else not b) then Ok (truth b) else and_then second (λ w. and_then (truth_of w) (λ c. Ok (truth c))))
+on_truths decides v second = and_then (as_truth v) (λ b.
+    if (if decides then b else not b) then Ok (truth b) else and_then second (λ w. and_then (as_truth w) (λ c. Ok (truth c))))
 
 -- an operator whose first operand has the value v
 abbrev pub binary : BinOp → Value → Outcome Value → Outcome Value
@@ -151,11 +151,6 @@ pub record Front : Type 0 where
   pub channel : ℕ
   pub fields : List Meaning
 
--- what a list of generators has gathered: how many bindings, and which atoms
-pub record Gathered : Type 0 where
-  pub bindings : ℕ
-  pub atoms : List Atom
-
 -- the values of a list of expressions, from the left
 abbrev pub values_of : List Meaning → Env → Outcome (List Value)
 values_of [] env = Ok []
@@ -164,7 +159,7 @@ values_of (e ∷ es) env = and_then (e env) (λ v. and_then (values_of es env) (
 -- the set with the values of items in it, from the left
 abbrev pub items_added : List Meaning → Env → List Atom → Outcome (List Atom)
 items_added [] env atoms = Ok atoms
-items_added (e ∷ es) env atoms = and_then (e env) (λ v. and_then (atom_of v) (λ a. and_then (added atoms a) (λ more. items_added es env more)))
+items_added (e ∷ es) env atoms = and_then (e env) (λ v. and_then (as_atom v) (λ a. and_then (added atoms a) (λ more. items_added es env more)))
 
 abbrev pub found_place : Option ℕ → Outcome ℕ
 found_place None = Err OutsideChannel
@@ -190,8 +185,13 @@ abbrev pub sets_of : Option Channel → Option (List (List Atom))
 sets_of None = None
 sets_of (Some channel) = channel.fields
 
+-- the number of the first event of a channel
+abbrev pub first_of : Option Channel → ℕ
+first_of None = 0
+first_of (Some channel) = channel.first
+
 -- The number of the first event that begins with these fields, where the channel's first event has the number first. While a channel has no field
--- sets, nothing of it has a value.
+-- sets, nothing of it has a value: of a production over it no generator is walked.
 abbrev pub front_number : ℕ → Option (List (List Atom)) → List Meaning → Env → Outcome ℕ
 front_number first None fields env = Err Kind
 front_number first (Some sets) fields env = and_then (fields_number fields sets env 0) (λ n. Ok (first + n * events_each fields sets))
@@ -204,22 +204,32 @@ front_count (Some sets) fields = events_each fields sets
 abbrev pub fronts_added : List Channel → List Front → Env → List Atom → Outcome (List Atom)
 fronts_added channels [] env atoms = Ok atoms
 fronts_added channels (f ∷ fs) env atoms =
-    and_then (front_number (first_event channels f.channel) (sets_of (slice_get channels f.channel)) f.fields env) (λ e.
+    and_then (front_number (first_of (slice_get channels f.channel)) (sets_of (slice_get channels f.channel)) f.fields env) (λ e.
     and_then (all_added atoms (events_from e (front_count (sets_of (slice_get channels f.channel)) f.fields))) (λ more.
     fronts_added channels fs env more))
 
+-- whether one of the fronts is of a channel that has no field sets
+abbrev pub lack_sets : List Channel → List Front → Bool
+lack_sets channels [] = false
+lack_sets channels (f ∷ fs) = is_none (sets_of (slice_get channels f.channel)) || lack_sets channels fs
+
 -- one step for each atom, in rising order
-abbrev pub over : List Atom → (Atom → Gathered → Outcome Gathered) → Gathered → Outcome Gathered
+abbrev pub over : {S : Type 0} → List Atom → (Atom → S → Outcome S) → S → Outcome S
 over [] step state = Ok state
 over (a ∷ rest) step state = and_then (step a state) (λ next. over rest step next)
 
--- The bindings of a list of generators, walked in nested loops: each set and condition is evaluated under the names before it.
-abbrev pub walked : List Turn → (Env → Gathered → Outcome Gathered) → Env → Gathered → Outcome Gathered
+-- The bindings of a list of generators, walked in nested loops with a state: each set and condition is evaluated under the names before it.
+abbrev pub walked : {S : Type 0} → List Turn → (Env → S → Outcome S) → Env → S → Outcome S
 walked [] gather env state = gather env state
 walked (from x s ∷ turns) gather env state =
-    and_then (s env) (λ v. and_then (set_of v) (λ atoms. over atoms (λ a. walked turns gather ((x, One a) ∷ env)) state))
+    and_then (s env) (λ v. and_then (as_set v) (λ atoms. over atoms (λ a. walked turns gather ((x, One a) ∷ env)) state))
 walked (when c ∷ turns) gather env state =
-    and_then (c env) (λ v. and_then (truth_of v) (λ b. if b then walked turns gather env state else Ok state))
+    and_then (c env) (λ v. and_then (as_truth v) (λ b. if b then walked turns gather env state else Ok state))
+
+-- what a list of generators has gathered: how many bindings, and which atoms
+pub record Gathered : Type 0 where
+  pub bindings : ℕ
+  pub atoms : List Atom
 
 -- one more binding, and what it adds
 abbrev pub gathered : (Env → List Atom → Outcome (List Atom)) → Env → Gathered → Outcome Gathered
@@ -244,21 +254,21 @@ module _ (uses : Uses) (channels : List Channel) where
   meaning_of_layer (Expr-F.Const k) env = Ok (One (atom.Const k))
   meaning_of_layer (Expr-F.Bound x) env = bound_value env x
   meaning_of_layer (Expr-F.Lit v) env = Ok v
-  meaning_of_layer (Expr-F.Neg a) env = and_then (a env) (λ v. and_then (number_of v) (λ n. in_range (neg_ℤ n)))
-  meaning_of_layer (Expr-F.Not a) env = and_then (a env) (λ v. and_then (truth_of v) (λ b. Ok (truth (not b))))
+  meaning_of_layer (Expr-F.Neg a) env = and_then (a env) (λ v. and_then (as_number v) (λ n. in_range (neg_ℤ n)))
+  meaning_of_layer (Expr-F.Not a) env = and_then (a env) (λ v. and_then (as_truth v) (λ b. Ok (truth (not b))))
   meaning_of_layer (Expr-F.Binary o a b) env = and_then (a env) (λ v. binary o v (b env))
-  meaning_of_layer (Expr-F.If c a b) env = and_then (c env) (λ v. and_then (truth_of v) (λ t. if t then a env else b env))
+  meaning_of_layer (Expr-F.If c a b) env = and_then (c env) (λ v. and_then (as_truth v) (λ t. if t then a env else b env))
   meaning_of_layer (Expr-F.Call d args) env = and_then (values_of args env) (λ vs. uses d vs)
-  meaning_of_layer (Expr-F.SetName d) env = and_then (uses d []) (λ v. many (set_of v))
+  meaning_of_layer (Expr-F.SetName d) env = and_then (uses d []) (λ v. many (as_set v))
   meaning_of_layer (Expr-F.Event c fields) env =
-      and_then (front_number (first_event channels c) (sets_of (slice_get channels c)) fields env) (λ e. Ok (One (atom.Event e)))
+      and_then (front_number (first_of (slice_get channels c)) (sets_of (slice_get channels c)) fields env) (λ e. Ok (One (atom.Event e)))
   meaning_of_layer (Expr-F.Display items) env = many (items_added items env [])
   meaning_of_layer (Expr-F.Range a b) env =
-      and_then (a env) (λ v. and_then (number_of v) (λ m. and_then (b env) (λ w. and_then (number_of w) (λ n. many (range m n)))))
+      and_then (a env) (λ v. and_then (as_number v) (λ m. and_then (b env) (λ w. and_then (as_number w) (λ n. many (range m n)))))
   meaning_of_layer (Expr-F.Comp items turns) env = comprehension turns (items_added items) env
-  meaning_of_layer (Expr-F.Product fronts turns) env = comprehension turns (fronts_added channels fronts) env
+  meaning_of_layer (Expr-F.Product fronts turns) env = if lack_sets channels fronts then Err Kind else comprehension turns (fronts_added channels fronts) env
   meaning_of_layer (Expr-F.SetOp o a b) env =
-      and_then (a env) (λ v. and_then (set_of v) (λ xs. and_then (b env) (λ w. and_then (set_of w) (λ ys. many (set_binary o xs ys)))))
+      and_then (a env) (λ v. and_then (as_set v) (λ xs. and_then (b env) (λ w. and_then (as_set w) (λ ys. many (set_binary o xs ys)))))
 
   abbrev pub turn_of_layer : Gen-F Meaning Turn Front → Turn
   turn_of_layer (Gen-F.From x s) = from x s

@@ -1,12 +1,10 @@
-//! `==` on expressions, processes and networks is equality.
+//! `==` on expressions and on the parts of a prefix is equality.
 
 ghost use Rattle.csp_program.specs.ExactExpr.{exact_expr, exact_gen, exact_part};
-ghost use Rattle.csp_program.specs.ExactNet.{exact_net};
-ghost use Rattle.csp_program.specs.ExactProc.{exact_field, exact_head, exact_proc};
+ghost use Rattle.csp_program.specs.ExactParts.{exact_field, exact_head};
 
 use crate::expressions::{EventPart, Expr, Gen};
-use crate::networks::Net;
-use crate::processes::{Field, Head, Proc};
+use crate::processes::{Field, Head};
 use containers::Exact;
 
 impl Exact for Expr {
@@ -27,12 +25,4 @@ impl Exact for Head {
 
 impl Exact for Field {
     ghost exact = { exact_field };
-}
-
-impl Exact for Proc {
-    ghost exact = { exact_proc };
-}
-
-impl Exact for Net {
-    ghost exact = { exact_net };
 }

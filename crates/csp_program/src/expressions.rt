@@ -6,7 +6,7 @@ use csp_base::{BinOp, SetOp};
 
 /// An expression. Parts stand in the order of the text.
 #[cycle(expression)]
-#[derive(Debug, PartialEq, Eq, Hash, Drop)]
+#[derive(PartialEq, Eq, Hash, Drop)]
 pub enum Expr {
     /// A number as it is written.
     Num(i64),
@@ -46,7 +46,7 @@ pub enum Expr {
 
 /// The front of an event: a channel and its first fields.
 #[cycle(expression)]
-#[derive(Debug, PartialEq, Eq, Hash, Drop)]
+#[derive(PartialEq, Eq, Hash, Drop)]
 pub struct EventPart {
     /// The number of the channel.
     pub channel: u32,
@@ -56,7 +56,7 @@ pub struct EventPart {
 
 /// A part of a list of generators.
 #[cycle(expression)]
-#[derive(Debug, PartialEq, Eq, Hash, Drop)]
+#[derive(PartialEq, Eq, Hash, Drop)]
 pub enum Gen {
     /// The bound name with this number takes each element of the set.
     From(u32, Expr),

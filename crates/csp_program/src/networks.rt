@@ -5,7 +5,7 @@ use crate::processes::Proc;
 use containers::{Boxed, Items};
 
 /// A network. Parts stand in the order of the text.
-#[derive(Debug, PartialEq, Eq, Hash, Drop)]
+#[derive(Drop)]
 pub enum Net {
     /// A component.
     Leaf(Proc),

@@ -5,7 +5,7 @@ use containers::{Boxed, Items};
 use csp_atoms::Value;
 
 /// What the event of a prefix begins with.
-#[derive(Debug, PartialEq, Eq, Hash, Drop)]
+#[derive(PartialEq, Eq, Hash, Drop)]
 pub enum Head {
     /// The channel with this number.
     Channel(u32),
@@ -16,7 +16,7 @@ pub enum Head {
 }
 
 /// A field of a prefix.
-#[derive(Debug, PartialEq, Eq, Hash, Drop)]
+#[derive(PartialEq, Eq, Hash, Drop)]
 pub enum Field {
     /// A field that has the value of the expression.
     Put(Expr),
@@ -25,7 +25,7 @@ pub enum Field {
 }
 
 /// A process. Parts stand in the order of the text.
-#[derive(Debug, PartialEq, Eq, Hash, Drop)]
+#[derive(Drop)]
 pub enum Proc {
     /// `STOP`
     Stop,

@@ -12,7 +12,7 @@ use csp_base::Name;
 use std::marker::Model;
 
 /// An event of the event table.
-#[derive(Debug, Drop)]
+#[derive(Drop)]
 pub struct EventInfo {
     /// The number of its channel.
     pub channel: u32,
@@ -21,7 +21,7 @@ pub struct EventInfo {
 }
 
 /// A channel.
-#[derive(Debug, Drop)]
+#[derive(Drop)]
 pub struct Channel {
     /// Its name.
     pub name: Name,
@@ -29,10 +29,12 @@ pub struct Channel {
     pub types: Items<Expr>,
     /// The values of each field, once they are known.
     pub fields: Option<Items<AtomSet>>,
+    /// The number of its first event: how many events the channels before it have.
+    pub first: u32,
 }
 
 /// What a definition's name stands for.
-#[derive(Debug, Drop)]
+#[derive(Drop)]
 pub enum Body {
     /// A value.
     Datum(Expr),
@@ -47,7 +49,7 @@ pub enum Body {
 }
 
 /// A definition.
-#[derive(Debug, Drop)]
+#[derive(Drop)]
 pub struct Def {
     /// Its name.
     pub name: Name,
@@ -58,7 +60,7 @@ pub struct Def {
 }
 
 /// The roles of a process, by the numbers of the definitions that the annotation names.
-#[derive(Clone, Copy, Debug, PartialEq, Eq)]
+#[derive(Clone, Copy)]
 pub struct RolesNote {
     /// The process.
     pub process: u32,
@@ -73,7 +75,7 @@ pub struct RolesNote {
 }
 
 /// A process that is a resource, by the numbers of the definitions that the annotation names.
-#[derive(Clone, Copy, Debug, PartialEq, Eq)]
+#[derive(Clone, Copy)]
 pub struct ResourceNote {
     /// The process.
     pub process: u32,
@@ -84,7 +86,7 @@ pub struct ResourceNote {
 }
 
 /// What a program holds.
-#[derive(Debug, Drop)]
+#[derive(Drop)]
 pub struct Content {
     /// The event table.
     pub events: Items<EventInfo>,
@@ -103,7 +105,7 @@ pub struct Content {
 }
 
 /// A program that is in order: what it holds fits together.
-#[derive(Debug, Drop)]
+#[derive(Drop)]
 pub struct Program {
     content: Content,
 }

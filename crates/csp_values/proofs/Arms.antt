@@ -3,9 +3,8 @@ use Rattle.std.proofs.Common.{◌≡◌, ℕ, zero, suc, ◌+◌, ◌-◌, ◌<�
 use Rattle.std.specs.Prelude.{ℤ, slice_get, Result, Option}
 use Rattle.std.specs.Result.{IsErrAnd}
 use Rattle.csp_program.specs.Atoms.{all_added, events_from}
-use Rattle.csp_program.specs.EventNumber.{first_event}
 use Rattle.csp_program.specs.Outcome.{Outcome, and_then}
-use Rattle.csp_program.specs.Value.{Env, Gathered, bound_to, bound_value, many, number, set_of, sets_of, truth_of}
+use Rattle.csp_program.specs.Value.{first_of, Env, Gathered, bound_to, bound_value, many, number, as_set, sets_of, as_truth}
 use Rattle.csp_atoms.specs.declared.atom.Atom.{Atom}
 use Rattle.csp_atoms.specs.declared.atom.Atom.TheVariants as atom
 use Rattle.csp_atoms.specs.declared.value.Value.{Value}
@@ -24,7 +23,8 @@ use Rattle.csp_program.specs.declared.programs.Body.TheVariants as body
 use Rattle.csp_program.specs.declared.programs.Channel.{Channel}
 use Rattle.csp_program.specs.declared.programs.Content.{Content}
 use Rattle.csp_program.specs.declared.programs.Def.{Def}
-use Rattle.value_operators.specs.Forms.{negative, inverse, operation, choice, as_set, an_event, a_set, a_range, set_operation, gathered_set, nothing_yet, count_with, each_of, scaled}
+use Rattle.value_operators.specs.Forms as form
+use Rattle.value_operators.specs.Forms.{negative, inverse, operation, choice, named_set, an_event, a_set, a_range, set_operation, gathered_set, produced, nothing_yet, count_with, each_of, scaled}
 use Rattle.value_operators.specs.Gives.{Gives}
 use Rattle.value_operators.specs.declared.fault.EvalFault.{EvalFault}
 use Rattle.value_operators.specs.declared.fault.EvalFault.TheVariants as fault
@@ -91,7 +91,7 @@ module _ (p : Content) (n : ℕ) (env : Env) where
   pub worth_call : (e : Expr) (d : ℕ) (args args' : List Expr) → e ≡ expr.Call d args → args' ≡ args → worth p n env e ≡ and_then (worths p n env args') (λ vs. use_worth p n d vs)
   worth_call e d args args' is got = ap (worth p n env) is ∙ (eq.worth-Call p n env d args ∙ ap (λ x. and_then (worths p n env x) (λ vs. use_worth p n d vs)) (sym got))
 
-  pub worth_set_name : (e : Expr) (d : ℕ) → e ≡ expr.SetName d → worth p n env e ≡ as_set (use_worth p n d [])
+  pub worth_set_name : (e : Expr) (d : ℕ) → e ≡ expr.SetName d → worth p n env e ≡ named_set (use_worth p n d [])
   worth_set_name e d is = ap (worth p n env) is ∙ eq.worth-SetName p n env d
 
   pub worth_event : (e : Expr) (c : ℕ) (fields fields' : List Expr) → e ≡ expr.Event c fields → fields' ≡ fields → worth p n env e ≡ an_event (front_worth p n env c fields')
@@ -110,9 +110,19 @@ module _ (p : Content) (n : ℕ) (env : Env) where
   worth_comp e items items' gens gens' is got_items got_gens =
       ap (worth p n env) is ∙ (eq.worth-Comp p n env items gens ∙ (λ i. gathered_set (walk_worth p n (sym got_gens i) (sym got_items i) [] env nothing_yet)))
 
-  pub worth_product : (e : Expr) (parts parts' : List EventPart) (gens gens' : List Gen) → e ≡ expr.Product parts gens → parts' ≡ parts → gens' ≡ gens → worth p n env e ≡ gathered_set (walk_worth p n gens' [] parts' env nothing_yet)
+  pub worth_product : (e : Expr) (parts parts' : List EventPart) (gens gens' : List Gen) → e ≡ expr.Product parts gens → parts' ≡ parts → gens' ≡ gens
+      → worth p n env e ≡ produced (form.lack_sets p.channels parts') (walk_worth p n gens' [] parts' env nothing_yet)
   worth_product e parts parts' gens gens' is got_parts got_gens =
-      ap (worth p n env) is ∙ (eq.worth-Product p n env parts gens ∙ (λ i. gathered_set (walk_worth p n (sym got_gens i) [] (sym got_parts i) env nothing_yet)))
+      ap (worth p n env) is ∙ (eq.worth-Product p n env parts gens ∙ (λ i. produced (form.lack_sets p.channels (sym got_parts i)) (walk_worth p n (sym got_gens i) [] (sym got_parts i) env nothing_yet)))
+
+-- a production whose channels were looked at
+pub lacking : (p : Content) (channels : List Channel) (parts : List EventPart) (t : Bool) (o : Outcome Gathered) → channels ≡ p.channels → t ≡ form.lack_sets channels parts → t ≡ true
+    → produced (form.lack_sets p.channels parts) o ≡ Err Kind
+lacking p channels parts t o got is lacks = ap (λ (b : Bool). produced b o) (ap (λ (cs : List Channel). form.lack_sets cs parts) (sym got) ∙ sym is ∙ lacks)
+
+pub not_lacking : (p : Content) (channels : List Channel) (parts : List EventPart) (t : Bool) (o : Outcome Gathered) → channels ≡ p.channels → t ≡ form.lack_sets channels parts → t ≡ false
+    → produced (form.lack_sets p.channels parts) o ≡ gathered_set o
+not_lacking p channels parts t o got is has = ap (λ (b : Bool). produced b o) (ap (λ (cs : List Channel). form.lack_sets cs parts) (sym got) ∙ sym is ∙ has)
 
 -- bodies of definitions
 pub datum_worth : (p : Content) (n : ℕ) (def : Def) (args : List Value) (params : List ℕ) (e : Expr) → def.body ≡ body.Datum e → params ≡ def.params → body_worth p n def args ≡ worth p n (bound_to params args) e
@@ -129,11 +139,11 @@ same_found : (m k : ℕ) → found m ≡ found k → m ≡ k
 same_found m k h = cc
 
 pub front_of_sets : (p : Content) (n : ℕ) (env : Env) (c : ℕ) (es : List Expr) (channels : List Channel) (sets : List (List Atom)) (each : ℕ) (o : Outcome ℕ) → channels ≡ p.channels → sets_of (slice_get channels c) ≡ Some sets
-    → found (each_of sets (length es)) ≡ found each → scaled (fields_worth p n env es sets 0) each ≡ o → front_worth p n env c es ≡ and_then o (λ place. Ok (first_event channels c + place))
+    → found (each_of sets (length es)) ≡ found each → scaled (fields_worth p n env es sets 0) each ≡ o → front_worth p n env c es ≡ and_then o (λ place. Ok (first_of (slice_get channels c) + place))
 front_of_sets p n env c es channels sets each o got has is_each came =
     let has_sets : sets_of (slice_get p.channels c) ≡ Some sets = ap (λ cs. sets_of (slice_get cs c)) (sym got) ∙ has in
     front_scaled p n env c es sets o has_sets (ap (scaled (fields_worth p n env es sets 0)) (same_found (each_of sets (length es)) each is_each) ∙ came) ∙
-    ap (λ cs. and_then o (λ place. found (first_event cs c + place))) (sym got)
+    ap (λ cs. and_then o (λ place. found (first_of (slice_get cs c) + place))) (sym got)
 
 pub front_without_sets : (p : Content) (n : ℕ) (env : Env) (c : ℕ) (es : List Expr) (channels : List Channel) → channels ≡ p.channels → sets_of (slice_get channels c) ≡ None → front_worth p n env c es ≡ Err Kind
 front_without_sets p n env c es channels got has = eq.front-none p n env c es (ap (λ cs. sets_of (slice_get cs c)) (sym got) ∙ has)
@@ -174,21 +184,21 @@ module _ (p : Content) (n : ℕ) (items : List Expr) (parts : List EventPart) (e
 -- generators
 module _ (p : Content) (n : ℕ) (first : Gen) (gens : List Gen) (items : List Expr) (parts : List EventPart) (env : Env) (state : Gathered) where
   pub walk_from : (x : ℕ) (s : Expr) (o : Outcome Value) → first ≡ generator.From x s → worth p n env s ≡ o
-      → walk_worth p n (first ∷ gens) items parts env state ≡ and_then o (λ v. and_then (set_of v) (λ atoms. each_worth p n x atoms gens items parts env state))
+      → walk_worth p n (first ∷ gens) items parts env state ≡ and_then o (λ v. and_then (as_set v) (λ atoms. each_worth p n x atoms gens items parts env state))
   walk_from x s o is came =
       ap (λ g. walk_worth p n (g ∷ gens) items parts env state) is ∙
-      (eq.walk-From p n x s gens items parts env state ∙ ap (λ z. and_then z (λ v. and_then (set_of v) (λ atoms. each_worth p n x atoms gens items parts env state))) came)
+      (eq.walk-From p n x s gens items parts env state ∙ ap (λ z. and_then z (λ v. and_then (as_set v) (λ atoms. each_worth p n x atoms gens items parts env state))) came)
 
-  pub walk_from_set : (x : ℕ) (s : Expr) (v : Value) (o : Outcome (List Atom)) → first ≡ generator.From x s → worth p n env s ≡ Ok v → set_of v ≡ o
+  pub walk_from_set : (x : ℕ) (s : Expr) (v : Value) (o : Outcome (List Atom)) → first ≡ generator.From x s → worth p n env s ≡ Ok v → as_set v ≡ o
       → walk_worth p n (first ∷ gens) items parts env state ≡ and_then o (λ atoms. each_worth p n x atoms gens items parts env state)
   walk_from_set x s v o is came set = walk_from x s (Ok v) is came ∙ ap (λ z. and_then z (λ atoms. each_worth p n x atoms gens items parts env state)) set
 
   pub walk_cond : (c : Expr) (o : Outcome Value) → first ≡ generator.Cond c → worth p n env c ≡ o
-      → walk_worth p n (first ∷ gens) items parts env state ≡ and_then o (λ v. and_then (truth_of v) (λ b. cond b (walk_worth p n gens items parts env state) (Ok state)))
+      → walk_worth p n (first ∷ gens) items parts env state ≡ and_then o (λ v. and_then (as_truth v) (λ b. cond b (walk_worth p n gens items parts env state) (Ok state)))
   walk_cond c o is came =
       ap (λ g. walk_worth p n (g ∷ gens) items parts env state) is ∙
-      (eq.walk-Cond p n c gens items parts env state ∙ ap (λ z. and_then z (λ v. and_then (truth_of v) (λ b. cond b (walk_worth p n gens items parts env state) (Ok state)))) came)
+      (eq.walk-Cond p n c gens items parts env state ∙ ap (λ z. and_then z (λ v. and_then (as_truth v) (λ b. cond b (walk_worth p n gens items parts env state) (Ok state)))) came)
 
-  pub walk_cond_truth : (c : Expr) (v : Value) (o : Outcome Bool) → first ≡ generator.Cond c → worth p n env c ≡ Ok v → truth_of v ≡ o
+  pub walk_cond_truth : (c : Expr) (v : Value) (o : Outcome Bool) → first ≡ generator.Cond c → worth p n env c ≡ Ok v → as_truth v ≡ o
       → walk_worth p n (first ∷ gens) items parts env state ≡ and_then o (λ b. cond b (walk_worth p n gens items parts env state) (Ok state))
   walk_cond_truth c v o is came truth = walk_cond c (Ok v) is came ∙ ap (λ z. and_then z (λ b. cond b (walk_worth p n gens items parts env state) (Ok state))) truth

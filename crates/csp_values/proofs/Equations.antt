@@ -1,10 +1,10 @@
 -- What each form of an expression, of a list and of generators comes to, in terms of its parts.
 use Rattle.std.proofs.Common.{◌≡◌, ℕ, zero, suc, ◌+◌, ◌-◌, ◌<◌, ◌≤◌, Bool, true, false, cond, List, [], ◌∷◌, Some, None, Ok, Err, map, length, drop, refl, ap, sym, ◌∙◌, arith, ◌*◌}
-use Rattle.std.specs.Prelude.{ℤ, nat_lt, slice_get, Option}
+use Rattle.std.specs.Prelude.{ℤ, ◌||◌, is_none, nat_lt, slice_get, Option}
 use Rattle.csp_program.specs.Atoms.{added, all_added, events_from}
-use Rattle.csp_program.specs.EventNumber.{first_event, row_count}
+use Rattle.csp_program.specs.EventNumber.{row_count}
 use Rattle.csp_program.specs.Outcome.{Outcome, and_then}
-use Rattle.csp_program.specs.Value.{Env, Meaning, Turn, Front, value_of, value_within, Gathered, from, when, meaning, turn, front, meaning_of_layer, turn_of_layer, front_of_layer, uses_within, number, truth, bound_value, truth_of, set_of, atom_of, items_added, walked, gathered, sets_of, field_place, bound_to, many, body_value, def_value, front_count, front_number, fronts_added}
+use Rattle.csp_program.specs.Value.{lack_sets, first_of, Env, Meaning, Turn, Front, value_of, value_within, Gathered, from, when, meaning, turn, front, meaning_of_layer, turn_of_layer, front_of_layer, uses_within, number, truth, bound_value, as_truth, as_set, as_atom, items_added, walked, gathered, sets_of, field_place, bound_to, many, body_value, def_value, front_count, front_number, fronts_added}
 use Rattle.csp_atoms.specs.declared.atom.Atom.{Atom}
 use Rattle.csp_atoms.specs.declared.atom.Atom.TheVariants as atom
 use Rattle.csp_atoms.specs.declared.value.Value.{Value}
@@ -25,7 +25,8 @@ use Rattle.csp_program.specs.declared.programs.Content.{Content}
 use Rattle.csp_program.specs.declared.programs.Def.{Def}
 use Rattle.csp_program.specs.declared.networks.Net.{Net}
 use Rattle.csp_program.specs.declared.processes.Proc.{Proc}
-use Rattle.value_operators.specs.Forms.{negative, inverse, operation, choice, as_set, an_event, a_set, a_range, set_operation, gathered_set, nothing_yet, count_with}
+use Rattle.value_operators.specs.Forms.{negative, inverse, operation, choice, named_set, an_event, a_set, a_range, set_operation, gathered_set, nothing_yet, count_with, produced}
+use Rattle.value_operators.specs.Forms as form
 use Rattle.csp_values.specs.Worth.{worth, worths, use_worth, body_worth, with_items, fields_worth, front_worth, with_front, with_fronts, yielded, one_more_binding, walk_worth, each_worth, meanings}
 
 at : (p : Content) (n : ℕ) (env : Env) (e : Expr) (d : Expr-F Expr Gen EventPart) → roll-Expr d ≡ e
@@ -78,7 +79,7 @@ pub worth-Call : (p : Content) (n : ℕ) (env : Env) (d : ℕ) (args : List Expr
 unfolding worth worths use_worth front_worth with_items with_fronts walk_worth
 worth-Call p n env d args = at p n env (expr.Call d args) (Expr-F.Call d args) (expr.rolls-Call d args)
 
-pub worth-SetName : (p : Content) (n : ℕ) (env : Env) (d : ℕ) → worth p n env (expr.SetName d) ≡ as_set (use_worth p n d [])
+pub worth-SetName : (p : Content) (n : ℕ) (env : Env) (d : ℕ) → worth p n env (expr.SetName d) ≡ named_set (use_worth p n d [])
 unfolding worth worths use_worth front_worth with_items with_fronts walk_worth
 worth-SetName p n env d = at p n env (expr.SetName d) (Expr-F.SetName d) (expr.rolls-SetName d)
 
@@ -98,9 +99,21 @@ pub worth-SetOp : (p : Content) (n : ℕ) (env : Env) (op : SetOp) (a b : Expr) 
 unfolding worth worths use_worth front_worth with_items with_fronts walk_worth
 worth-SetOp p n env op a b = at p n env (expr.SetOp op a b) (Expr-F.SetOp op a b) (expr.rolls-SetOp op a b)
 
-pub worth-Product : (p : Content) (n : ℕ) (env : Env) (parts : List EventPart) (gens : List Gen) → worth p n env (expr.Product parts gens) ≡ gathered_set (walk_worth p n gens [] parts env nothing_yet)
+front-is : (p : Content) (n : ℕ) (part : EventPart) → front (uses_within p n) p.channels part ≡ record { channel = (out-EventPart part).channel; fields = meanings p n (out-EventPart part).fields }
+front-is p n part =
+    ap (front (uses_within p n) p.channels) (sym (roll-out-EventPart part)) ∙
+    fold-roll-EventPart Meaning Turn Front (meaning_of_layer (uses_within p n) p.channels) (turn_of_layer (uses_within p n) p.channels) (front_of_layer (uses_within p n) p.channels) (out-EventPart part)
+
+fronts_lack : (p : Content) (n : ℕ) (parts : List EventPart) → lack_sets p.channels (map (front (uses_within p n) p.channels) parts) ≡ form.lack_sets p.channels parts
+fronts_lack p n [] = refl
+fronts_lack p n (part ∷ parts) = λ i. is_none (sets_of (slice_get p.channels (front-is p n part i).channel)) || fronts_lack p n parts i
+
+pub worth-Product : (p : Content) (n : ℕ) (env : Env) (parts : List EventPart) (gens : List Gen)
+    → worth p n env (expr.Product parts gens) ≡ produced (form.lack_sets p.channels parts) (walk_worth p n gens [] parts env nothing_yet)
 unfolding worth worths use_worth front_worth with_items with_fronts walk_worth
-worth-Product p n env parts gens = at p n env (expr.Product parts gens) (Expr-F.Product parts gens) (expr.rolls-Product parts gens)
+worth-Product p n env parts gens =
+    at p n env (expr.Product parts gens) (Expr-F.Product parts gens) (expr.rolls-Product parts gens) ∙
+    ap (λ (t : Bool). produced t (walk_worth p n gens [] parts env nothing_yet)) (fronts_lack p n parts)
 
 pub worth-Comp : (p : Content) (n : ℕ) (env : Env) (items : List Expr) (gens : List Gen) → worth p n env (expr.Comp items gens) ≡ gathered_set (walk_worth p n gens items [] env nothing_yet)
 unfolding worth worths use_worth front_worth with_items with_fronts walk_worth
@@ -123,7 +136,7 @@ unfolding with_items
 with_items-nil p n env atoms = refl
 
 pub with_items-cons : (p : Content) (n : ℕ) (env : Env) (e : Expr) (es : List Expr) (atoms : List Atom)
-    → with_items p n env (e ∷ es) atoms ≡ and_then (worth p n env e) (λ v. and_then (atom_of v) (λ a. and_then (added atoms a) (λ more. with_items p n env es more)))
+    → with_items p n env (e ∷ es) atoms ≡ and_then (worth p n env e) (λ v. and_then (as_atom v) (λ a. and_then (added atoms a) (λ more. with_items p n env es more)))
 unfolding with_items worth
 with_items-cons p n env e es atoms = refl
 
@@ -153,24 +166,24 @@ pub fronts-cons : (p : Content) (n : ℕ) (env : Env) (part : EventPart) (parts 
 unfolding with_fronts with_front
 fronts-cons p n env part parts atoms =
     let f : Front = front (uses_within p n) p.channels part in
-    chained (front_number (first_event p.channels f.channel) (sets_of (slice_get p.channels f.channel)) f.fields env)
+    chained (front_number (first_of (slice_get p.channels f.channel)) (sets_of (slice_get p.channels f.channel)) f.fields env)
     (λ e. all_added atoms (events_from e (front_count (sets_of (slice_get p.channels f.channel)) f.fields)))
     (λ more. fronts_added p.channels (map (front (uses_within p n) p.channels) parts) env more)
 
 pub front-none : (p : Content) (n : ℕ) (env : Env) (c : ℕ) (fields : List Expr) → sets_of (slice_get p.channels c) ≡ None → front_worth p n env c fields ≡ Err Kind
 unfolding front_worth
-front-none p n env c fields h = ap (λ s. front_number (first_event p.channels c) s (meanings p n fields) env) h
+front-none p n env c fields h = ap (λ s. front_number (first_of (slice_get p.channels c)) s (meanings p n fields) env) h
 
 same_length : (p : Content) (n : ℕ) (es : List Expr) → length (meanings p n es) ≡ length es
 same_length p n [] = refl
 same_length p n (e ∷ es) = ap suc (same_length p n es)
 
 pub front-some : (p : Content) (n : ℕ) (env : Env) (c : ℕ) (fields : List Expr) (sets : List (List Atom)) → sets_of (slice_get p.channels c) ≡ Some sets
-    → front_worth p n env c fields ≡ and_then (fields_worth p n env fields sets 0) (λ k. Ok (first_event p.channels c + k * row_count (drop (length fields) sets)))
+    → front_worth p n env c fields ≡ and_then (fields_worth p n env fields sets 0) (λ k. Ok (first_of (slice_get p.channels c) + k * row_count (drop (length fields) sets)))
 unfolding front_worth fields_worth
 front-some p n env c fields sets h =
-    ap (λ s. front_number (first_event p.channels c) s (meanings p n fields) env) h ∙
-    (λ i. and_then (fields_worth p n env fields sets 0) (λ k. Ok (first_event p.channels c + k * row_count (drop (same_length p n fields i) sets))))
+    ap (λ s. front_number (first_of (slice_get p.channels c)) s (meanings p n fields) env) h ∙
+    (λ i. and_then (fields_worth p n env fields sets 0) (λ k. Ok (first_of (slice_get p.channels c) + k * row_count (drop (same_length p n fields i) sets))))
 
 pub use-none_left : (p : Content) (d : ℕ) (args : List Value) → use_worth p 0 d args ≡ Err Kind
 unfolding use_worth
@@ -206,12 +219,12 @@ turn-Cond p n c =
     fold-roll-Gen Meaning Turn Front (meaning_of_layer (uses_within p n) p.channels) (turn_of_layer (uses_within p n) p.channels) (front_of_layer (uses_within p n) p.channels) (Gen-F.Cond c)
 
 pub walk-From : (p : Content) (n x : ℕ) (s : Expr) (gens : List Gen) (items : List Expr) (parts : List EventPart) (env : Env) (state : Gathered)
-    → walk_worth p n (generator.From x s ∷ gens) items parts env state ≡ and_then (worth p n env s) (λ v. and_then (set_of v) (λ atoms. each_worth p n x atoms gens items parts env state))
+    → walk_worth p n (generator.From x s ∷ gens) items parts env state ≡ and_then (worth p n env s) (λ v. and_then (as_set v) (λ atoms. each_worth p n x atoms gens items parts env state))
 unfolding walk_worth each_worth worth
 walk-From p n x s gens items parts env state = ap (λ t. walk_turn p n t gens items parts env state) (turn-From p n x s)
 
 pub walk-Cond : (p : Content) (n : ℕ) (c : Expr) (gens : List Gen) (items : List Expr) (parts : List EventPart) (env : Env) (state : Gathered)
-    → walk_worth p n (generator.Cond c ∷ gens) items parts env state ≡ and_then (worth p n env c) (λ v. and_then (truth_of v) (λ b. cond b (walk_worth p n gens items parts env state) (Ok state)))
+    → walk_worth p n (generator.Cond c ∷ gens) items parts env state ≡ and_then (worth p n env c) (λ v. and_then (as_truth v) (λ b. cond b (walk_worth p n gens items parts env state) (Ok state)))
 unfolding walk_worth worth
 walk-Cond p n c gens items parts env state = ap (λ t. walk_turn p n t gens items parts env state) (turn-Cond p n c)
 
@@ -223,11 +236,6 @@ pub each-cons : (p : Content) (n x : ℕ) (a : Atom) (atoms : List Atom) (gens :
     → each_worth p n x (a ∷ atoms) gens items parts env state ≡ and_then (walk_worth p n gens items parts ((x, One a) ∷ env) state) (λ next. each_worth p n x atoms gens items parts env next)
 unfolding each_worth
 each-cons p n x a atoms gens items parts env state = refl
-
-front-is : (p : Content) (n : ℕ) (part : EventPart) → front (uses_within p n) p.channels part ≡ record { channel = (out-EventPart part).channel; fields = meanings p n (out-EventPart part).fields }
-front-is p n part =
-    ap (front (uses_within p n) p.channels) (sym (roll-out-EventPart part)) ∙
-    fold-roll-EventPart Meaning Turn Front (meaning_of_layer (uses_within p n) p.channels) (turn_of_layer (uses_within p n) p.channels) (front_of_layer (uses_within p n) p.channels) (out-EventPart part)
 
 same_count : (o : Option (List (List Atom))) (p : Content) (n : ℕ) (es : List Expr) → front_count o (meanings p n es) ≡ count_with o (length es)
 same_count None p n es = refl
@@ -242,7 +250,7 @@ pub with_front-is : (p : Content) (n : ℕ) (env : Env) (part : EventPart) (atom
 unfolding with_front front_worth
 with_front-is p n env part atoms =
     ap (λ f. fronts_added p.channels (f ∷ []) env atoms) (front-is p n part) ∙
-    last_front (front_number (first_event p.channels (out-EventPart part).channel) (sets_of (slice_get p.channels (out-EventPart part).channel)) (meanings p n (out-EventPart part).fields) env) atoms
+    last_front (front_number (first_of (slice_get p.channels (out-EventPart part).channel)) (sets_of (slice_get p.channels (out-EventPart part).channel)) (meanings p n (out-EventPart part).fields) env) atoms
     (front_count (sets_of (slice_get p.channels (out-EventPart part).channel)) (meanings p n (out-EventPart part).fields))
     (count_with (sets_of (slice_get p.channels (out-EventPart part).channel)) (length (out-EventPart part).fields))
     (same_count (sets_of (slice_get p.channels (out-EventPart part).channel)) p n (out-EventPart part).fields)

@@ -52,10 +52,10 @@ weight_comp e items items' gens gens' is got_items got_gens =
     let whole : weight e ≡ weights items' + gen_weights gens' + 5 = ap weight is ∙ (w.weight-Comp items gens ∙ (λ i. weights (sym got_items i) + gen_weights (sym got_gens i) + 5)) in
     omega arith
 
-pub weight_product : (e : Expr) (parts parts' : List EventPart) (gens gens' : List Gen) → e ≡ expr.Product parts gens → parts' ≡ parts → gens' ≡ gens → weight e ≡ weights [] + part_weights parts' + gen_weights gens' + 5
+pub weight_product : (e : Expr) (parts parts' : List EventPart) (gens gens' : List Gen) → e ≡ expr.Product parts gens → parts' ≡ parts → gens' ≡ gens → weight e ≡ weights [] + part_weights parts' + gen_weights gens' + 6
 weight_product e parts parts' gens gens' is got_parts got_gens =
     let none : weights [] ≡ 0 = w.weights-nil in
-    let whole : weight e ≡ part_weights parts' + gen_weights gens' + 5 = ap weight is ∙ (w.weight-Product parts gens ∙ (λ i. part_weights (sym got_parts i) + gen_weights (sym got_gens i) + 5)) in
+    let whole : weight e ≡ part_weights parts' + gen_weights gens' + 6 = ap weight is ∙ (w.weight-Product parts gens ∙ (λ i. part_weights (sym got_parts i) + gen_weights (sym got_gens i) + 6)) in
     omega arith
 
 pub weight_from : (g : Gen) (x : ℕ) (s : Expr) → g ≡ generator.From x s → gen_weight g ≡ weight s + 3

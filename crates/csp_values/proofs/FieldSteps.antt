@@ -1,9 +1,9 @@
 -- The fields of an event, one after another, in numbers that count so many for one.
 use Rattle.std.proofs.Common.{◌≡◌, ℕ, zero, suc, ◌+◌, ◌*◌, ◌<◌, List, [], ◌∷◌, Some, None, Ok, Err, Bool, true, false, cond, length, drop, get_or, refl, ap, sym, ◌∙◌, arith}
 use Rattle.std.specs.Prelude.{nat_eq, slice_get}
-use Rattle.csp_program.specs.EventNumber.{first_event, row_count}
+use Rattle.csp_program.specs.EventNumber.{row_count}
 use Rattle.csp_program.specs.Outcome.{Outcome, and_then}
-use Rattle.csp_program.specs.Value.{Env, field_place, sets_of}
+use Rattle.csp_program.specs.Value.{first_of, Env, field_place, sets_of}
 use Rattle.csp_atoms.specs.declared.atom.Atom.{Atom}
 use Rattle.csp_atoms.specs.declared.value.Value.{Value}
 use Rattle.csp_atoms.specs.declared.value.Value.TheVariants.{One, Many}
@@ -135,7 +135,7 @@ front_some_then (Ok k) o first each whole w is = w ∙ ap (λ z. and_then z (λ 
 front_some_then (Err k) o first each whole w is = w ∙ ap (λ z. and_then z (λ place. found (first + place))) (sym is)
 
 pub front_scaled : (p : Content) (n : ℕ) (env : Env) (c : ℕ) (es : List Expr) (sets : List (List Atom)) (o : Outcome ℕ) → sets_of (slice_get p.channels c) ≡ Some sets → scaled (fields_worth p n env es sets 0) (each_of sets (length es)) ≡ o
-    → front_worth p n env c es ≡ and_then o (λ place. Ok (first_event p.channels c + place))
+    → front_worth p n env c es ≡ and_then o (λ place. Ok (first_of (slice_get p.channels c) + place))
 front_scaled p n env c es sets o has is =
-    front_some_then (fields_worth p n env es sets 0) o (first_event p.channels c) (row_count (drop (length es) sets)) (front_worth p n env c es) (front-some p n env c es sets has)
+    front_some_then (fields_worth p n env es sets 0) o (first_of (slice_get p.channels c)) (row_count (drop (length es) sets)) (front_worth p n env c es) (front-some p n env c es sets has)
     (sym is ∙ each_same p n env es sets (fields_worth p n env es sets 0) (length es) (λ m h none. none_left p n env es sets 0 m h none) (nat_eq (row_count sets) 0) refl)

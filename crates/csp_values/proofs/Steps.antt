@@ -2,9 +2,9 @@
 use Rattle.std.proofs.Common.{◌≡◌, ℕ, zero, suc, ◌+◌, ◌*◌, ◌<◌, ◌≤◌, List, [], ◌∷◌, ◌++◌, Some, None, Ok, Err, Bool, true, false, cond, length, length-drop, drop, get_or, map, refl, ap, sym, ◌∙◌, arith, add-one, drop-cons, append_assoc, append-nil}
 use Rattle.std.specs.Prelude.{nat_eq, nat_lt, slice_get}
 use Rattle.csp_program.specs.Atoms.{added, all_added, events_from}
-use Rattle.csp_program.specs.EventNumber.{first_event, row_count}
+use Rattle.csp_program.specs.EventNumber.{row_count}
 use Rattle.csp_program.specs.Outcome.{Outcome, and_then}
-use Rattle.csp_program.specs.Value.{Env, Gathered, atom_of, field_place, sets_of, truth_of, set_of}
+use Rattle.csp_program.specs.Value.{first_of, Env, Gathered, as_atom, field_place, sets_of, as_truth, as_set}
 use Rattle.csp_atoms.specs.declared.atom.Atom.{Atom}
 use Rattle.csp_atoms.specs.declared.value.Value.{Value}
 use Rattle.csp_atoms.specs.declared.value.Value.TheVariants.{One, Many}
@@ -78,10 +78,10 @@ worths_next whole p n env done more es i e v w lt is good grown =
 
 -- items that are added one by one
 abbrev item_of : Value → List Atom → Outcome (List Atom)
-item_of v atoms = and_then (atom_of v) (λ a. added atoms a)
+item_of v atoms = and_then (as_atom v) (λ a. added atoms a)
 
 abbrev items_next : Content → ℕ → Env → List Atom → List Expr → Outcome Value → Outcome (List Atom)
-items_next p n env atoms es o = and_then o (λ v. and_then (atom_of v) (λ a. and_then (added atoms a) (λ more. with_items p n env es more)))
+items_next p n env atoms es o = and_then o (λ v. and_then (as_atom v) (λ a. and_then (added atoms a) (λ more. with_items p n env es more)))
 
 items_here : (p : Content) (n : ℕ) (env : Env) (atoms : List Atom) (es : List Expr) (i : ℕ) (e : Expr) → i < length es → e ≡ get_or es i e
     → with_items p n env (drop i es) atoms ≡ items_next p n env atoms (drop (i + 1) es) (worth p n env e)
@@ -95,7 +95,7 @@ items_then : (whole : Outcome (List Atom)) (p : Content) (n : ℕ) (env : Env) (
     → whole ≡ with_items p n env (drop i es) atoms → i < length es → e ≡ get_or es i e → worth p n env e ≡ Ok v → whole ≡ and_then (item_of v atoms) (λ more. with_items p n env (drop (i + 1) es) more)
 items_then whole p n env atoms es i e v w lt is good =
     w ∙ (items_here p n env atoms es i e lt is ∙ (ap (items_next p n env atoms (drop (i + 1) es)) good ∙
-    chain (atom_of v) (λ a. added atoms a) (λ more. with_items p n env (drop (i + 1) es) more)))
+    chain (as_atom v) (λ a. added atoms a) (λ more. with_items p n env (drop (i + 1) es) more)))
 
 pub items_refused : (whole : Outcome (List Atom)) (p : Content) (n : ℕ) (env : Env) (atoms : List Atom) (es : List Expr) (i : ℕ) (e : Expr) (v : Value) (k : ValueKind)
     → whole ≡ with_items p n env (drop i es) atoms → i < length es → e ≡ get_or es i e → worth p n env e ≡ Ok v → item_of v atoms ≡ Err k → whole ≡ Err k

@@ -33,7 +33,7 @@ of_expr (Expr-F.Event c fields) = total fields + 4
 of_expr (Expr-F.Display items) = total items + 3
 of_expr (Expr-F.Range a b) = a + b + 2
 of_expr (Expr-F.Comp items gens) = total items + total gens + 5
-of_expr (Expr-F.Product parts gens) = total parts + total gens + 5
+of_expr (Expr-F.Product parts gens) = total parts + total gens + 6
 of_expr (Expr-F.SetOp op a b) = a + b + 2
 
 abbrev of_gen : Gen-F ℕ ℕ ℕ → ℕ
@@ -101,7 +101,7 @@ pub weight-Comp : (items : List Expr) (gens : List Gen) → weight (expr.Comp it
 unfolding weight weights gen_weight gen_weights part_weight part_weights
 weight-Comp items gens = ap (fold-Expr ℕ ℕ ℕ of_expr of_gen of_part) (sym (expr.rolls-Comp items gens)) ∙ fold-roll-Expr ℕ ℕ ℕ of_expr of_gen of_part (Expr-F.Comp items gens)
 
-pub weight-Product : (parts : List EventPart) (gens : List Gen) → weight (expr.Product parts gens) ≡ part_weights parts + gen_weights gens + 5
+pub weight-Product : (parts : List EventPart) (gens : List Gen) → weight (expr.Product parts gens) ≡ part_weights parts + gen_weights gens + 6
 unfolding weight weights gen_weight gen_weights part_weight part_weights
 weight-Product parts gens = ap (fold-Expr ℕ ℕ ℕ of_expr of_gen of_part) (sym (expr.rolls-Product parts gens)) ∙ fold-roll-Expr ℕ ℕ ℕ of_expr of_gen of_part (Expr-F.Product parts gens)
 

@@ -2,8 +2,7 @@
 -- of an expression, applied to trees.
 use Rattle.std.specs.Prelude.{◌≡◌, ℕ, Result, Ok, Err, Some, List, [], ◌∷◌, map, slice_get}
 use Rattle.csp_program.specs.Outcome.{Outcome, and_then}
-use Rattle.csp_program.specs.EventNumber.{first_event}
-use Rattle.csp_program.specs.Value.{Env, Meaning, Turn, Front, Gathered, meaning, turn, front, values_of, items_added, fields_number, front_number, fronts_added, sets_of, over, walked, gathered, uses_within, def_value, value_within}
+use Rattle.csp_program.specs.Value.{first_of, Env, Meaning, Turn, Front, Gathered, meaning, turn, front, values_of, items_added, fields_number, front_number, fronts_added, sets_of, over, walked, gathered, uses_within, def_value, value_within}
 use Rattle.csp_atoms.specs.declared.atom.Atom.{Atom}
 use Rattle.csp_atoms.specs.declared.value.Value.{Value}
 use Rattle.csp_atoms.specs.declared.value.Value.TheVariants.{One}
@@ -45,7 +44,7 @@ fields_worth p n env es sets k = fields_number (meanings p n es) sets env k
 
 -- the number of the first event of the channel c that begins with the fields
 unfoldable pub front_worth : Content → ℕ → Env → ℕ → List Expr → Outcome ℕ
-front_worth p n env c es = front_number (first_event p.channels c) (sets_of (slice_get p.channels c)) (meanings p n es) env
+front_worth p n env c es = front_number (first_of (slice_get p.channels c)) (sets_of (slice_get p.channels c)) (meanings p n es) env
 
 -- a set with the events of a front in it
 unfoldable pub with_front : Content → ℕ → Env → EventPart → List Atom → Outcome (List Atom)

@@ -2,7 +2,7 @@
 
 ghost use Rattle.std.specs.Prelude.{◌≡◌, [], ◌∷◌, Ok};
 ghost use Rattle.csp_program.specs.Outcome.{and_then};
-ghost use Rattle.csp_program.specs.Value.{value_of, set_of};
+ghost use Rattle.csp_program.specs.Value.{value_of, as_set};
 ghost use Rattle.csp_program.specs.Value as meant;
 ghost use Rattle.value_operators.specs.Env.{env_in};
 ghost use Rattle.value_operators.specs.Gives.{Gives};
@@ -17,13 +17,15 @@ use csp_program::{Body, Content, Def, EventPart, Expr, Gen, Program, ValueKind};
 use std::alloc::Global;
 use value_operators::EvalFault;
 use value_operators::names::{Names, named, with_name};
-use value_operators::numbers::{count_with, each_of, event_at, field_sets, place_in, with_field};
+use value_operators::numbers::{
+    count_with, each_of, event_at, field_sets, lack_sets, place_in, with_field,
+};
 use value_operators::operators::{
     applied, decided, inverted, negated, to_number, to_set, to_truth,
 };
 use value_operators::sets::{combined, constants, numbered, numbers, with_events, with_item};
 
-/// The greatest number of bindings of a list of generators.
+// The greatest number of bindings of a list of generators.
 const MOST_BINDINGS: u32 = 1_048_576;
 
 const KIND: EvalFault = EvalFault::Value {
@@ -38,7 +40,7 @@ const SET_LIMIT: EvalFault = EvalFault::Value {
     kind: ValueKind::SetLimit,
 };
 
-/// What evaluation goes by.
+// What evaluation goes by.
 #[derive(Drop)]
 struct Scope<'a> {
     /// Where memory comes from.
@@ -49,7 +51,7 @@ struct Scope<'a> {
     uses: usize,
 }
 
-/// What each binding of a list of generators adds to a set.
+// What each binding of a list of generators adds to a set.
 #[derive(Drop)]
 struct Yield<'a> {
     /// The values of these.
@@ -84,13 +86,13 @@ pub fn eval_in(alloc: Global, content: &Content, expr: &Expr) -> Result<Value, E
 
 /// The set that an expression of a program is worth. Faults are those of `eval`; a value that is no set has the kind `Kind`.
 pub fn eval_set(alloc: Global, program: &Program, expr: &Expr) -> Result<AtomSet, EvalFault>
-    ensures { Gives result (and_then (value_of program.now expr.now) (λ v. set_of v)) }
+    ensures { Gives result (and_then (value_of program.now expr.now) (λ v. as_set v)) }
 {
     let value = eval(alloc, program, expr)?;
     to_set(value)
 }
 
-/// The value of an expression.
+// The value of an expression.
 #[cycle(eval)]
 fn eval_expr(scope: &Scope<'_>, names: &Names<'_>, expr: &Expr) -> Result<Value, EvalFault>
     ensures { Gives result (worth scope.now.content.now scope.now.uses (env_in names.now) expr.now) }
@@ -117,18 +119,14 @@ fn eval_expr(scope: &Scope<'_>, names: &Names<'_>, expr: &Expr) -> Result<Value,
             &[],
             gens.as_slice(),
         ),
-        Expr::Product(parts, gens) => eval_comprehension(
-            scope,
-            names,
-            &[],
-            parts.as_slice(),
-            gens.as_slice(),
-        ),
+        Expr::Product(parts, gens) => {
+            eval_product(scope, names, parts.as_slice(), gens.as_slice())
+        }
         Expr::SetOp(op, a, b) => eval_set_op(scope, names, *op, a.get(), b.get()),
     }
 }
 
-/// The value of `-a`.
+// The value of `-a`.
 #[cycle(eval)]
 fn eval_negative(scope: &Scope<'_>, names: &Names<'_>, a: &Expr) -> Result<Value, EvalFault>
     ensures { Gives result (form.negative (worth scope.now.content.now scope.now.uses (env_in names.now) a.now)) }
@@ -137,7 +135,7 @@ fn eval_negative(scope: &Scope<'_>, names: &Names<'_>, a: &Expr) -> Result<Value
     negated(&value)
 }
 
-/// The value of `not a`.
+// The value of `not a`.
 #[cycle(eval)]
 fn eval_not(scope: &Scope<'_>, names: &Names<'_>, a: &Expr) -> Result<Value, EvalFault>
     ensures { Gives result (form.inverse (worth scope.now.content.now scope.now.uses (env_in names.now) a.now)) }
@@ -146,7 +144,7 @@ fn eval_not(scope: &Scope<'_>, names: &Names<'_>, a: &Expr) -> Result<Value, Eva
     inverted(&value)
 }
 
-/// The value of an operator between two operands.
+// The value of an operator between two operands.
 #[cycle(eval)]
 fn eval_binary(
     scope: &Scope<'_>,
@@ -165,7 +163,7 @@ fn eval_binary(
     applied(op, &first, &second)
 }
 
-/// The value of `if c then a else b`.
+// The value of `if c then a else b`.
 #[cycle(eval)]
 fn eval_if(
     scope: &Scope<'_>,
@@ -185,7 +183,7 @@ fn eval_if(
     }
 }
 
-/// The value of a use of the definition with the number `def`, with these arguments.
+// The value of a use of the definition with the number `def`, with these arguments.
 #[cycle(eval)]
 fn eval_call(
     scope: &Scope<'_>,
@@ -199,17 +197,17 @@ fn eval_call(
     eval_use(scope, def, args.as_slice())
 }
 
-/// The set that the definition with the number `def` names.
+// The set that the definition with the number `def` names.
 #[cycle(eval)]
 fn eval_set_name(scope: &Scope<'_>, def: u32) -> Result<Value, EvalFault>
-    ensures { Gives result (form.as_set (use_worth scope.now.content.now scope.now.uses def [])) }
+    ensures { Gives result (form.named_set (use_worth scope.now.content.now scope.now.uses def [])) }
 {
     let value = eval_use(scope, def, &[])?;
     let atoms = to_set(value)?;
     Ok(Value::Many(atoms))
 }
 
-/// An event.
+// An event.
 #[cycle(eval)]
 fn eval_event(
     scope: &Scope<'_>,
@@ -224,7 +222,7 @@ fn eval_event(
     Ok(Value::One(event))
 }
 
-/// The set of the values of items.
+// The set of the values of items.
 #[cycle(eval)]
 fn eval_display(scope: &Scope<'_>, names: &Names<'_>, items: &[Expr]) -> Result<Value, EvalFault>
     ensures { Gives result (form.a_set (with_items scope.now.content.now scope.now.uses (env_in names.now) items.now [])) }
@@ -233,7 +231,7 @@ fn eval_display(scope: &Scope<'_>, names: &Names<'_>, items: &[Expr]) -> Result<
     Ok(Value::Many(atoms))
 }
 
-/// The set of the numbers from `a` to `b`.
+// The set of the numbers from `a` to `b`.
 #[cycle(eval)]
 fn eval_range(scope: &Scope<'_>, names: &Names<'_>, a: &Expr, b: &Expr) -> Result<Value, EvalFault>
     ensures { Gives result (form.a_range (worth scope.now.content.now scope.now.uses (env_in names.now) a.now) (worth scope.now.content.now scope.now.uses (env_in names.now) b.now)) }
@@ -246,7 +244,7 @@ fn eval_range(scope: &Scope<'_>, names: &Names<'_>, a: &Expr, b: &Expr) -> Resul
     Ok(Value::Many(atoms))
 }
 
-/// The value of an operator between two sets.
+// The value of an operator between two sets.
 #[cycle(eval)]
 fn eval_set_op(
     scope: &Scope<'_>,
@@ -265,7 +263,23 @@ fn eval_set_op(
     Ok(Value::Many(atoms))
 }
 
-/// The set of what all bindings add.
+// The value of `{| parts | gens |}`. Where a channel has no field sets, no generator is walked.
+#[cycle(eval)]
+fn eval_product(
+    scope: &Scope<'_>,
+    names: &Names<'_>,
+    parts: &[EventPart],
+    gens: &[Gen],
+) -> Result<Value, EvalFault>
+    ensures { Gives result (form.produced (form.lack_sets scope.now.content.now.channels parts.now) (walk_worth scope.now.content.now scope.now.uses gens.now [] parts.now (env_in names.now) form.nothing_yet)) }
+{
+    if lack_sets(scope.content.channels.as_slice(), parts) {
+        return Err(KIND);
+    }
+    eval_comprehension(scope, names, &[], parts, gens)
+}
+
+// The set of what all bindings add.
 #[cycle(eval)]
 fn eval_comprehension(
     scope: &Scope<'_>,
@@ -285,7 +299,7 @@ fn eval_comprehension(
     Ok(Value::Many(atoms))
 }
 
-/// The values of expressions, from the left.
+// The values of expressions, from the left.
 #[cycle(eval)]
 fn eval_all(scope: &Scope<'_>, names: &Names<'_>, exprs: &[Expr]) -> Result<Items<Value>, EvalFault>
     ensures { Gives result (worths scope.now.content.now scope.now.uses (env_in names.now) exprs.now) }
@@ -298,7 +312,7 @@ fn eval_all(scope: &Scope<'_>, names: &Names<'_>, exprs: &[Expr]) -> Result<Item
     Ok(values)
 }
 
-/// The value of a use of the definition with the number `def`.
+// The value of a use of the definition with the number `def`.
 #[cycle(eval)]
 fn eval_use(scope: &Scope<'_>, def: u32, args: &[Value]) -> Result<Value, EvalFault>
     ensures { Gives result (use_worth scope.now.content.now scope.now.uses def args.now) }
@@ -317,7 +331,7 @@ fn eval_use(scope: &Scope<'_>, def: u32, args: &[Value]) -> Result<Value, EvalFa
     }
 }
 
-/// The value of the body of a definition.
+// The value of the body of a definition.
 #[cycle(eval)]
 fn eval_body(scope: &Scope<'_>, def: &Def, args: &[Value]) -> Result<Value, EvalFault>
     ensures { Gives result (body_worth scope.now.content.now scope.now.uses def.now args.now) }
@@ -348,7 +362,7 @@ fn eval_body(scope: &Scope<'_>, def: &Def, args: &[Value]) -> Result<Value, Eval
     }
 }
 
-/// A set with the values of items in it.
+// A set with the values of items in it.
 #[cycle(eval)]
 fn add_items(
     scope: &Scope<'_>,
@@ -366,7 +380,7 @@ fn add_items(
     Ok(atoms)
 }
 
-/// The number of fields among all choices of values of these sets, each counted `each` times.
+// The number of fields among all choices of values of these sets, each counted `each` times.
 #[cycle(eval)]
 fn eval_fields(
     scope: &Scope<'_>,
@@ -391,7 +405,7 @@ fn eval_fields(
     Ok(number)
 }
 
-/// The number of the first event of a channel that begins with these fields.
+// The number of the first event of a channel that begins with these fields.
 #[cycle(eval)]
 fn eval_front(
     scope: &Scope<'_>,
@@ -412,7 +426,7 @@ fn eval_front(
     }
 }
 
-/// A set with the events of fronts in it.
+// A set with the events of fronts in it.
 #[cycle(eval)]
 fn add_fronts(
     scope: &Scope<'_>,
@@ -429,7 +443,7 @@ fn add_fronts(
     Ok(atoms)
 }
 
-/// A set with the events of a front in it.
+// A set with the events of a front in it.
 #[cycle(eval)]
 fn add_front(
     scope: &Scope<'_>,
@@ -448,7 +462,7 @@ fn add_front(
     with_events(atoms, first, count)
 }
 
-/// One more binding, and what it adds.
+// One more binding, and what it adds.
 #[cycle(eval)]
 fn gather(
     scope: &Scope<'_>,
@@ -470,7 +484,7 @@ fn gather(
     })
 }
 
-/// The bindings of generators, walked in nested loops.
+// The bindings of generators, walked in nested loops.
 #[cycle(eval)]
 fn walk(
     scope: &Scope<'_>,
@@ -487,7 +501,7 @@ fn walk(
     }
 }
 
-/// The bindings of a generator, and under each of them those of the others.
+// The bindings of a generator, and under each of them those of the others.
 #[cycle(eval)]
 fn walk_first(
     scope: &Scope<'_>,
@@ -517,7 +531,7 @@ fn walk_first(
     }
 }
 
-/// The bindings of generators for each atom that a name takes, in rising order.
+// The bindings of generators for each atom that a name takes, in rising order.
 #[cycle(eval)]
 fn walk_each(
     scope: &Scope<'_>,

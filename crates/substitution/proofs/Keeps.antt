@@ -4,8 +4,8 @@ use Rattle.std.specs.Prelude.{slice_get}
 use Rattle.csp_program.specs.Lists.{greatest, all_true}
 use Rattle.csp_program.specs.Depth.{expr_depth, gen_depth, field_depth, pair_depth, proc_depth, proc_depth_of_layer}
 use Rattle.csp_program.specs.InOrder.{value_in_order, expr_in_order, gen_in_order, head_in_order, field_in_order, pair_in_order, fields_left, field_count, proc_in_order, proc_in_order_of_layer, takes, is_process}
-use Rattle.csp_program.specs.Substitution.{head_put, any_binds}
-use Rattle.csp_program.proofs.PutLaws.{put_keeps_depth, put_keeps_gen_depth, put_keeps_part_depth, put_keeps_order, put_keeps_gen_order, put_keeps_part_order}
+use Rattle.csp_program.specs.Substitution.{head_with, any_binds}
+use Rattle.csp_program.proofs.SubstitutionLaws.{substitution_keeps_depth, substitution_keeps_gen_depth, substitution_keeps_part_depth, substitution_keeps_order, substitution_keeps_gen_order, substitution_keeps_part_order}
 use Rattle.csp_atoms.specs.declared.value.Value.{Value}
 use Rattle.csp_program.specs.declared.expressions.Expr.{Expr}
 use Rattle.csp_program.specs.declared.expressions.Expr.TheOpen.{EventPart-F}
@@ -26,26 +26,26 @@ use Rattle.substitution.proofs.KeptParts.{exprs_keep, pairs_keep, gens_keep, fie
 module _ (x : ℕ) (v : Value) where
   field_keeps_depth : (f : Field) → field_depth (field_after x v f) ≡ field_depth f
   unfolding expr_after gen_after part_after
-  field_keeps_depth (field.Put e) = put_keeps_depth x v e
-  field_keeps_depth (field.Get y (Some s)) = put_keeps_depth x v s
+  field_keeps_depth (field.Put e) = substitution_keeps_depth x v e
+  field_keeps_depth (field.Get y (Some s)) = substitution_keeps_depth x v s
   field_keeps_depth (field.Get y None) = refl
 
   pair_keeps_depth : (p : EventPart × EventPart) → pair_depth (pair_after x v p) ≡ pair_depth p
   unfolding expr_after gen_after part_after
-  pair_keeps_depth p = λ i. max (put_keeps_part_depth x v p.0 i) (put_keeps_part_depth x v p.1 i)
+  pair_keeps_depth p = λ i. max (substitution_keeps_part_depth x v p.0 i) (substitution_keeps_part_depth x v p.1 i)
 
   pub proc_keeps_depth : (p : Proc) → proc_depth (proc_after x v p) ≡ proc_depth p
   unfolding expr_after gen_after part_after
   proc_keeps_depth = proc_fold_keeps x v ℕ proc_depth_of_layer
       (λ k fields a i. 1 + max (greatest (fields_keep x v field_depth field_keeps_depth false fields i)) a)
-      (λ c a i. 1 + max (put_keeps_depth x v c i) a)
-      (λ c a b i. 1 + max (put_keeps_depth x v c i) (max a b))
-      (λ y s a i. 1 + max (put_keeps_depth x v s i) a)
-      (λ y s a i. 1 + max (put_keeps_depth x v s i) a)
-      (λ a s i. 1 + max a (put_keeps_depth x v s i))
+      (λ c a i. 1 + max (substitution_keeps_depth x v c i) a)
+      (λ c a b i. 1 + max (substitution_keeps_depth x v c i) (max a b))
+      (λ y s a i. 1 + max (substitution_keeps_depth x v s i) a)
+      (λ y s a i. 1 + max (substitution_keeps_depth x v s i) a)
+      (λ a s i. 1 + max a (substitution_keeps_depth x v s i))
       (λ a pairs gens i. 1 + max a (max (greatest (pairs_keep x v pair_depth pair_keeps_depth (any_binds x gens) pairs i))
-      (greatest (gens_keep x v gen_depth (put_keeps_gen_depth x v) false gens i))))
-      (λ d args i. 1 + greatest (exprs_keep x v expr_depth (put_keeps_depth x v) false args i))
+      (greatest (gens_keep x v gen_depth (substitution_keeps_gen_depth x v) false gens i))))
+      (λ d args i. 1 + greatest (exprs_keep x v expr_depth (substitution_keeps_depth x v) false args i))
 
 and_true : (b : Bool) → (b && true) ≡ b
 and_true true = refl
@@ -54,9 +54,9 @@ and_true false = refl
 module _ (p : Content) (x : ℕ) (v : Value) (ordered : value_in_order p v ≡ true) where
   pub expr_keeps_order : (e : Expr) → expr_in_order p (expr_after x v e) ≡ expr_in_order p e
   unfolding expr_after
-  expr_keeps_order = put_keeps_order p x v ordered
+  expr_keeps_order = substitution_keeps_order p x v ordered
 
-  head_keeps_order : (h : Head) (n : ℕ) → head_in_order p (head_put x v h) n ≡ head_in_order p h n
+  head_keeps_order : (h : Head) (n : ℕ) → head_in_order p (head_with x v h) n ≡ head_in_order p h n
   head_keeps_order (head.Channel c) n = refl
   head_keeps_order (head.Put w) n = refl
   head_keeps_order (head.Bound y) n =
@@ -67,8 +67,8 @@ module _ (p : Content) (x : ℕ) (v : Value) (ordered : value_in_order p v ≡ t
 
   field_keeps_order : (f : Field) → field_in_order p (field_after x v f) ≡ field_in_order p f
   unfolding expr_after gen_after part_after
-  field_keeps_order (field.Put e) = put_keeps_order p x v ordered e
-  field_keeps_order (field.Get y (Some s)) = put_keeps_order p x v ordered s
+  field_keeps_order (field.Put e) = substitution_keeps_order p x v ordered e
+  field_keeps_order (field.Get y (Some s)) = substitution_keeps_order p x v ordered s
   field_keeps_order (field.Get y None) = refl
 
   keeps_left : (part : EventPart) → fields_left p (part_after x v part) ≡ fields_left p part
@@ -80,21 +80,21 @@ module _ (p : Content) (x : ℕ) (v : Value) (ordered : value_in_order p v ≡ t
 
   pair_keeps_order : (q : EventPart × EventPart) → pair_in_order p (pair_after x v q) ≡ pair_in_order p q
   unfolding expr_after gen_after part_after
-  pair_keeps_order q = λ i. put_keeps_part_order p x v ordered q.0 i && (put_keeps_part_order p x v ordered q.1 i && nat_eq (keeps_left q.0 i) (keeps_left q.1 i))
+  pair_keeps_order q = λ i. substitution_keeps_part_order p x v ordered q.0 i && (substitution_keeps_part_order p x v ordered q.1 i && nat_eq (keeps_left q.0 i) (keeps_left q.1 i))
 
   pub proc_keeps_order : (q : Proc) → proc_in_order p (proc_after x v q) ≡ proc_in_order p q
   unfolding expr_after gen_after part_after
   proc_keeps_order = proc_fold_keeps x v Bool (proc_in_order_of_layer p)
       (λ k fields a.
-      (λ i. head_in_order p (head_put x v k) (fields_length x v false fields i) &&
+      (λ i. head_in_order p (head_with x v k) (fields_length x v false fields i) &&
       (all_true (fields_keep x v (field_in_order p) field_keeps_order false fields i) && a)) ∙
       (λ i. head_keeps_order k (length fields) i && (all_true (map (field_in_order p) fields) && a)))
-      (λ c a i. put_keeps_order p x v ordered c i && a)
-      (λ c a b i. put_keeps_order p x v ordered c i && (a && b))
-      (λ y s a i. put_keeps_order p x v ordered s i && a)
-      (λ y s a i. put_keeps_order p x v ordered s i && a)
-      (λ a s i. a && put_keeps_order p x v ordered s i)
+      (λ c a i. substitution_keeps_order p x v ordered c i && a)
+      (λ c a b i. substitution_keeps_order p x v ordered c i && (a && b))
+      (λ y s a i. substitution_keeps_order p x v ordered s i && a)
+      (λ y s a i. substitution_keeps_order p x v ordered s i && a)
+      (λ a s i. a && substitution_keeps_order p x v ordered s i)
       (λ a pairs gens i. a && (all_true (pairs_keep x v (pair_in_order p) pair_keeps_order (any_binds x gens) pairs i) &&
-      all_true (gens_keep x v (gen_in_order p) (put_keeps_gen_order p x v ordered) false gens i)))
+      all_true (gens_keep x v (gen_in_order p) (substitution_keeps_gen_order p x v ordered) false gens i)))
       (λ d args i. takes is_process (exprs_length x v false args i) (slice_get p.defs d) &&
-      all_true (exprs_keep x v (expr_in_order p) (put_keeps_order p x v ordered) false args i))
+      all_true (exprs_keep x v (expr_in_order p) (substitution_keeps_order p x v ordered) false args i))

@@ -1,3 +1,4 @@
+pub mod BoundWorth
 pub mod ExprEquations
 pub mod ExprFree
 pub mod ExprStays

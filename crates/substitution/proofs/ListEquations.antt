@@ -1,7 +1,7 @@
 -- Lists of parts with a value put in, in the two ways that they are written.
 use Rattle.std.proofs.Common.{◌≡◌, ℕ, Bool, true, false, cond, nat_eq, if◌then◌else◌, Some, None, List, [], ◌∷◌, map, ap, sym, ◌∙◌, refl}
 use Rattle.substitution.specs.Parts.{expr_after, gen_after, part_after, proc_after, exprs_after, gens_after, parts_after, pairs_after, fields_after, procs_after}
-use Rattle.csp_program.specs.Substitution.{expr_put, gen_put, part_put, pair_put, fields_put, proc_put, put, kept, Twice, all_unless_bound, any_binds, binds, put_gens, gen_twice, pair_twice}
+use Rattle.csp_program.specs.Substitution.{expr_with, gen_with, part_with, pair_with, fields_with, proc_with, changed, kept, Twice, all_unless_bound, any_binds, binds, gens_with, gen_twice, pair_twice}
 use Rattle.csp_atoms.specs.declared.value.Value.{Value}
 use Rattle.csp_program.specs.declared.expressions.Expr.{Expr}
 use Rattle.csp_program.specs.declared.expressions.EventPart.{EventPart}
@@ -11,43 +11,43 @@ use Rattle.csp_program.specs.declared.processes.Field.TheVariants as field
 use Rattle.csp_program.specs.declared.processes.Proc.{Proc}
 
 abbrev pub twice : ℕ → Value → Expr → Twice Expr
-twice x v e = (e, expr_put x v e)
+twice x v e = (e, expr_with x v e)
 
 abbrev pub part_twice : ℕ → Value → EventPart → Twice EventPart
-part_twice x v p = (p, part_put x v p)
+part_twice x v p = (p, part_with x v p)
 
 abbrev pub proc_twice : ℕ → Value → Proc → Twice Proc
-proc_twice x v p = (p, proc_put x v p)
+proc_twice x v p = (p, proc_with x v p)
 
-pub exprs_put : (x : ℕ) (v : Value) (es : List Expr) → put (map (twice x v) es) ≡ exprs_after x v false es
+pub exprs_changed : (x : ℕ) (v : Value) (es : List Expr) → changed (map (twice x v) es) ≡ exprs_after x v false es
 unfolding expr_after gen_after part_after proc_after
-exprs_put x v [] = refl
-exprs_put x v (e ∷ es) = λ i. expr_put x v e ∷ exprs_put x v es i
+exprs_changed x v [] = refl
+exprs_changed x v (e ∷ es) = λ i. expr_with x v e ∷ exprs_changed x v es i
 
-pub args_put : (x : ℕ) (v : Value) (es : List Expr) → map (expr_put x v) es ≡ exprs_after x v false es
+pub args_changed : (x : ℕ) (v : Value) (es : List Expr) → map (expr_with x v) es ≡ exprs_after x v false es
 unfolding expr_after gen_after part_after proc_after
-args_put x v [] = refl
-args_put x v (e ∷ es) = λ i. expr_put x v e ∷ args_put x v es i
+args_changed x v [] = refl
+args_changed x v (e ∷ es) = λ i. expr_with x v e ∷ args_changed x v es i
 
-pub procs_put : (x : ℕ) (v : Value) (ps : List Proc) → put (map (proc_twice x v) ps) ≡ procs_after x v ps
+pub procs_changed : (x : ℕ) (v : Value) (ps : List Proc) → changed (map (proc_twice x v) ps) ≡ procs_after x v ps
 unfolding expr_after gen_after part_after proc_after
-procs_put x v [] = refl
-procs_put x v (p ∷ ps) = λ i. proc_put x v p ∷ procs_put x v ps i
+procs_changed x v [] = refl
+procs_changed x v (p ∷ ps) = λ i. proc_with x v p ∷ procs_changed x v ps i
 
 pub all_exprs : (x : ℕ) (v : Value) (b : Bool) (es : List Expr) → all_unless_bound b (map (twice x v) es) ≡ exprs_after x v b es
 unfolding expr_after gen_after part_after proc_after
 all_exprs x v b [] = refl
-all_exprs x v b (e ∷ es) = λ i. (if b then e else expr_put x v e) ∷ all_exprs x v b es i
+all_exprs x v b (e ∷ es) = λ i. (if b then e else expr_with x v e) ∷ all_exprs x v b es i
 
 pub all_parts : (x : ℕ) (v : Value) (b : Bool) (ps : List EventPart) → all_unless_bound b (map (part_twice x v) ps) ≡ parts_after x v b ps
 unfolding expr_after gen_after part_after proc_after
 all_parts x v b [] = refl
-all_parts x v b (p ∷ ps) = λ i. (if b then p else part_put x v p) ∷ all_parts x v b ps i
+all_parts x v b (p ∷ ps) = λ i. (if b then p else part_with x v p) ∷ all_parts x v b ps i
 
 pub all_pairs : (x : ℕ) (v : Value) (b : Bool) (ps : List (EventPart × EventPart)) → all_unless_bound b (map (pair_twice x v) ps) ≡ pairs_after x v b ps
 unfolding expr_after gen_after part_after proc_after
 all_pairs x v b [] = refl
-all_pairs x v b (p ∷ ps) = λ i. (if b then p else pair_put x v p) ∷ all_pairs x v b ps i
+all_pairs x v b (p ∷ ps) = λ i. (if b then p else pair_with x v p) ∷ all_pairs x v b ps i
 
 pub gens_kept : (x : ℕ) (v : Value) (gs : List Gen) → kept (map (gen_twice x v) gs) ≡ gs
 unfolding expr_after gen_after part_after proc_after
@@ -59,14 +59,14 @@ unfolding expr_after gen_after part_after proc_after
 gens_bound x v [] = refl
 gens_bound x v (g ∷ gs) = λ i. g ∷ gens_bound x v gs i
 
-pub gens_put : (x : ℕ) (v : Value) (gs : List Gen) → put_gens x (map (gen_twice x v) gs) ≡ gens_after x v false gs
+pub gens_changed : (x : ℕ) (v : Value) (gs : List Gen) → gens_with x (map (gen_twice x v) gs) ≡ gens_after x v false gs
 unfolding expr_after gen_after part_after proc_after
-gens_put x v [] = refl
-gens_put x v (g ∷ gs) =
-    ap (λ rest. gen_put x v g ∷ rest)
-    (elim (binds x g) as (λ b. cond b (kept (map (gen_twice x v) gs)) (put_gens x (map (gen_twice x v) gs)) ≡ gens_after x v b gs) [
+gens_changed x v [] = refl
+gens_changed x v (g ∷ gs) =
+    ap (λ rest. gen_with x v g ∷ rest)
+    (elim (binds x g) as (λ b. cond b (kept (map (gen_twice x v) gs)) (gens_with x (map (gen_twice x v) gs)) ≡ gens_after x v b gs) [
       | true ↦ gens_kept x v gs ∙ sym (gens_bound x v gs)
-      | false ↦ gens_put x v gs
+      | false ↦ gens_changed x v gs
     ])
 
 pub fields_bound : (x : ℕ) (v : Value) (fs : List Field) → fields_after x v true fs ≡ fs
@@ -74,21 +74,21 @@ unfolding expr_after gen_after part_after proc_after
 fields_bound x v [] = refl
 fields_bound x v (f ∷ fs) = λ i. f ∷ fields_bound x v fs i
 
-pub fields_put_from : (x : ℕ) (v : Value) (fs : List Field) → fields_put x v fs ≡ fields_after x v false fs
+pub fields_with_from : (x : ℕ) (v : Value) (fs : List Field) → fields_with x v fs ≡ fields_after x v false fs
 unfolding expr_after gen_after part_after proc_after
-fields_put_from x v [] = refl
-fields_put_from x v (field.Put e ∷ fs) = ap (λ rest. field.Put (expr_put x v e) ∷ rest) (fields_put_from x v fs)
-fields_put_from x v (field.Get y (Some s) ∷ fs) =
-    ap (λ rest. field.Get y (Some (expr_put x v s)) ∷ rest)
-    (elim (nat_eq y x) as (λ b. cond b fs (fields_put x v fs) ≡ fields_after x v b fs) [
+fields_with_from x v [] = refl
+fields_with_from x v (field.Put e ∷ fs) = ap (λ rest. field.Put (expr_with x v e) ∷ rest) (fields_with_from x v fs)
+fields_with_from x v (field.Get y (Some s) ∷ fs) =
+    ap (λ rest. field.Get y (Some (expr_with x v s)) ∷ rest)
+    (elim (nat_eq y x) as (λ b. cond b fs (fields_with x v fs) ≡ fields_after x v b fs) [
       | true ↦ sym (fields_bound x v fs)
-      | false ↦ fields_put_from x v fs
+      | false ↦ fields_with_from x v fs
     ])
-fields_put_from x v (field.Get y None ∷ fs) =
+fields_with_from x v (field.Get y None ∷ fs) =
     ap (λ rest. field.Get y None ∷ rest)
-    (elim (nat_eq y x) as (λ b. cond b fs (fields_put x v fs) ≡ fields_after x v b fs) [
+    (elim (nat_eq y x) as (λ b. cond b fs (fields_with x v fs) ≡ fields_after x v b fs) [
       | true ↦ sym (fields_bound x v fs)
-      | false ↦ fields_put_from x v fs
+      | false ↦ fields_with_from x v fs
     ])
 
 pub exprs_unless : (x : ℕ) (v : Value) (gs : List Gen) (es : List Expr) → all_unless_bound (any_binds x (kept (map (gen_twice x v) gs))) (map (twice x v) es) ≡ exprs_after x v (any_binds x gs) es

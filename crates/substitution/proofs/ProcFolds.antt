@@ -1,6 +1,6 @@
 -- What a fold gives of a process stays the same under a substitution, if it gives the same of what stands beside its processes.
 use Rattle.std.proofs.Common.{◌≡◌, ℕ, Bool, true, false, nat_eq, List, [], ◌∷◌, map, refl, ap, sym, ◌∙◌, subst}
-use Rattle.csp_program.specs.Substitution.{head_put, any_binds, any_gets}
+use Rattle.csp_program.specs.Substitution.{head_with, any_binds, any_gets}
 use Rattle.csp_atoms.specs.declared.value.Value.{Value}
 use Rattle.csp_program.specs.declared.expressions.Expr.{Expr}
 use Rattle.csp_program.specs.declared.expressions.EventPart.{EventPart}
@@ -16,7 +16,7 @@ use Rattle.substitution.specs.Parts.{expr_after, proc_after, exprs_after, gens_a
 use Rattle.substitution.proofs.ProcEquations.{proc_after-Stop, proc_after-Prefix, proc_after-Guard, proc_after-If, proc_after-External, proc_after-Internal, proc_after-EachExternal, proc_after-EachInternal, proc_after-Hide, proc_after-Rename, proc_after-Call, proc_after-Skip, proc_after-Seq, proc_after-Ended}
 
 module _ (x : ℕ) (v : Value) (A : Type 0) (of_proc : Proc-F A → A)
-    (on_prefix : (k : Head) (fields : List Field) (a : A) → of_proc (Proc-F.Prefix (head_put x v k) (fields_after x v false fields) a) ≡ of_proc (Proc-F.Prefix k fields a))
+    (on_prefix : (k : Head) (fields : List Field) (a : A) → of_proc (Proc-F.Prefix (head_with x v k) (fields_after x v false fields) a) ≡ of_proc (Proc-F.Prefix k fields a))
     (on_guard : (c : Expr) (a : A) → of_proc (Proc-F.Guard (expr_after x v c) a) ≡ of_proc (Proc-F.Guard c a))
     (on_if : (c : Expr) (a b : A) → of_proc (Proc-F.If (expr_after x v c) a b) ≡ of_proc (Proc-F.If c a b))
     (on_external : (y : ℕ) (s : Expr) (a : A) → of_proc (Proc-F.EachExternal y (expr_after x v s) a) ≡ of_proc (Proc-F.EachExternal y s a))
@@ -54,7 +54,7 @@ module _ (x : ℕ) (v : Value) (A : Type 0) (of_proc : Proc-F A → A)
   step-Prefix : (k : Head) (fields : List Field) (p : Known) → Keeps (proc.Prefix k fields p.0)
   step-Prefix k fields p =
       ap proc_fold (proc_after-Prefix x v k fields p.0) ∙
-      is-Prefix (head_put x v k) (fields_after x v false fields) (proc_below x v (any_gets x fields) p.0) ∙
+      is-Prefix (head_with x v k) (fields_after x v false fields) (proc_below x v (any_gets x fields) p.0) ∙
       on_prefix k fields (proc_fold (proc_below x v (any_gets x fields) p.0)) ∙
       (λ i. of_proc (Proc-F.Prefix k fields (kept_from (any_gets x fields) p i))) ∙
       sym (is-Prefix k fields p.0)

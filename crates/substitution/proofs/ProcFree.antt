@@ -1,7 +1,7 @@
 -- The free names of a process lose exactly the name that a value is put in place of.
 use Rattle.std.proofs.Common.{◌≡◌, ℕ, Bool, true, false, cond, nat_eq, Some, None, List, [], ◌∷◌, map, refl, ap, sym, ◌∙◌, subst}
 use Rattle.csp_program.specs.Free.{Names, nowhere, either, apart_from, any_of, under, before, expr_free, gen_binding, part_free, pair_free, head_free, proc_free, proc_free_of_layer}
-use Rattle.csp_program.specs.Substitution.{head_put, any_binds, any_gets, binds}
+use Rattle.csp_program.specs.Substitution.{head_with, any_binds, any_gets, binds}
 use Rattle.csp_atoms.specs.declared.value.Value.{Value}
 use Rattle.csp_program.specs.declared.expressions.Expr.{Expr}
 use Rattle.csp_program.specs.declared.expressions.EventPart.{EventPart}
@@ -34,13 +34,13 @@ module _ (x : ℕ) (v : Value) where
   abbrev procs_of : List Known → List Proc
   procs_of ps = map (λ p. p.0) ps
 
-  put_free : (b : Bool) (y : ℕ) → head_free (cond b (head.Put v) (head.Bound y)) ≡ cond b nowhere (λ z. nat_eq y z)
-  put_free true y = refl
-  put_free false y = refl
+  replace_free : (b : Bool) (y : ℕ) → head_free (cond b (head.Put v) (head.Bound y)) ≡ cond b nowhere (λ z. nat_eq y z)
+  replace_free true y = refl
+  replace_free false y = refl
 
-  head_loses : (h : Head) → head_free (head_put x v h) ≡ apart_from x (head_free h)
+  head_loses : (h : Head) → head_free (head_with x v h) ≡ apart_from x (head_free h)
   head_loses (head.Channel c) = nowhere_lost x
-  head_loses (head.Bound y) = put_free (nat_eq y x) y ∙ name_lost x y
+  head_loses (head.Bound y) = replace_free (nat_eq y x) y ∙ name_lost x y
   head_loses (head.Put w) = nowhere_lost x
 
   pub exprs_lose : (es : List Expr) → any_of (map expr_free (exprs_after x v false es)) ≡ apart_from x (any_of (map expr_free es))
@@ -114,8 +114,8 @@ module _ (x : ℕ) (v : Value) where
       proc.rolls-Stop proc.rolls-Stop (puts.proc_after-Stop x v)
       (nowhere_lost x)
   layer (Proc-F.Prefix h fields p) =
-      step (proc.Prefix h fields p.0) (proc.Prefix (head_put x v h) (fields_after x v false fields) (proc_below x v (any_gets x fields) p.0)) (Proc-F.Prefix h fields p.0) (Proc-F.Prefix (head_put x v h) (fields_after x v false fields) (proc_below x v (any_gets x fields) p.0))
-      (proc.rolls-Prefix h fields p.0) (proc.rolls-Prefix (head_put x v h) (fields_after x v false fields) (proc_below x v (any_gets x fields) p.0)) (puts.proc_after-Prefix x v h fields p.0)
+      step (proc.Prefix h fields p.0) (proc.Prefix (head_with x v h) (fields_after x v false fields) (proc_below x v (any_gets x fields) p.0)) (Proc-F.Prefix h fields p.0) (Proc-F.Prefix (head_with x v h) (fields_after x v false fields) (proc_below x v (any_gets x fields) p.0))
+      (proc.rolls-Prefix h fields p.0) (proc.rolls-Prefix (head_with x v h) (fields_after x v false fields) (proc_below x v (any_gets x fields) p.0)) (puts.proc_after-Prefix x v h fields p.0)
       ((λ i. either (head_loses h i) (fields_lose fields (proc_free (proc_below x v (any_gets x fields) p.0)) (proc_free p.0) (below (any_gets x fields) p) i)) ∙
       either_lost x (head_free h) (before fields (proc_free p.0)))
   layer (Proc-F.Guard c p) =

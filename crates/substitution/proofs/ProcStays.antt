@@ -2,7 +2,7 @@
 use Rattle.std.proofs.Common.{◌≡◌, ℕ, Bool, true, false, cond, not, ◌&&◌, ◌||◌, nat_eq, Some, None, List, [], ◌∷◌, map, refl, ap, sym, ◌∙◌, subst}
 use Rattle.std.proofs.lemmas.Bool.{false≢true}
 use Rattle.csp_program.specs.Free.{Names, any_of, under, before, expr_free, gen_binding, part_free, pair_free, head_free, proc_free, proc_free_of_layer}
-use Rattle.csp_program.specs.Substitution.{head_put, any_binds, any_gets, binds}
+use Rattle.csp_program.specs.Substitution.{head_with, any_binds, any_gets, binds}
 use Rattle.csp_atoms.specs.declared.value.Value.{Value}
 use Rattle.csp_program.specs.declared.expressions.Expr.{Expr}
 use Rattle.csp_program.specs.declared.expressions.EventPart.{EventPart}
@@ -36,7 +36,7 @@ module _ (x : ℕ) (v : Value) where
   head_if true y h = absurd (false≢true (sym h))
   head_if false y h = refl
 
-  head_stays : (k : Head) → head_free k x ≡ false → head_put x v k ≡ k
+  head_stays : (k : Head) → head_free k x ≡ false → head_with x v k ≡ k
   head_stays (head.Channel c) h = refl
   head_stays (head.Bound y) h = head_if (nat_eq y x) y h
   head_stays (head.Put w) h = refl
@@ -132,7 +132,7 @@ module _ (x : ℕ) (v : Value) where
       proc.rolls-Stop (puts.proc_after-Stop x v)
       (λ h. refl)
   layer (Proc-F.Prefix h fields p) =
-      step (proc.Prefix h fields p.0) (proc.Prefix (head_put x v h) (fields_after x v false fields) (proc_below x v (any_gets x fields) p.0)) (Proc-F.Prefix h fields p.0)
+      step (proc.Prefix h fields p.0) (proc.Prefix (head_with x v h) (fields_after x v false fields) (proc_below x v (any_gets x fields) p.0)) (Proc-F.Prefix h fields p.0)
       (proc.rolls-Prefix h fields p.0) (puts.proc_after-Prefix x v h fields p.0)
       (λ k i. proc.Prefix (head_stays h (first_false (head_free h x) (before fields (proc_free p.0) x) k) i) ((fields_stay fields (proc_free p.0) (second_false (head_free h x) (before fields (proc_free p.0) x) k)).0 i) (below (any_gets x fields) p (fields_stay fields (proc_free p.0) (second_false (head_free h x) (before fields (proc_free p.0) x) k)).1 i))
   layer (Proc-F.Guard c p) =

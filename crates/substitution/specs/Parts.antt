@@ -1,7 +1,7 @@
 -- A substitution in lists of parts, from the left. What stands below a binding of the same name is kept: the parts of a list once its generators
 -- bind the name, and the generators and fields that follow the one which binds it.
 use Rattle.std.specs.Prelude.{ℕ, Bool, false, ◌||◌, nat_eq, if◌then◌else◌, Some, None, List, [], ◌∷◌}
-use Rattle.csp_program.specs.Substitution.{expr_put, gen_put, part_put, proc_put, binds}
+use Rattle.csp_program.specs.Substitution.{expr_with, gen_with, part_with, proc_with, binds}
 use Rattle.csp_atoms.specs.declared.value.Value.{Value}
 use Rattle.csp_program.specs.declared.expressions.Expr.{Expr}
 use Rattle.csp_program.specs.declared.expressions.EventPart.{EventPart}
@@ -18,19 +18,19 @@ gets x (field.Get y s) = nat_eq y x
 module _ (x : ℕ) (v : Value) where
   -- an expression with the value v in place of the free name x
   unfoldable pub expr_after : Expr → Expr
-  expr_after e = expr_put x v e
+  expr_after e = expr_with x v e
 
   unfoldable pub gen_after : Gen → Gen
-  gen_after g = gen_put x v g
+  gen_after g = gen_with x v g
 
   unfoldable pub part_after : EventPart → EventPart
-  part_after p = part_put x v p
+  part_after p = part_with x v p
 
   abbrev pub pair_after : EventPart × EventPart → EventPart × EventPart
   pair_after pair = (part_after pair.0, part_after pair.1)
 
   unfoldable pub proc_after : Proc → Proc
-  proc_after p = proc_put x v p
+  proc_after p = proc_with x v p
 
   -- expressions, kept where the name is bound
   abbrev pub exprs_after : Bool → List Expr → List Expr

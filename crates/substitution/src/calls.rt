@@ -1,12 +1,12 @@
 //! A value in place of a bound name, in networks, in processes and in all that a process holds.
 
 ghost use Rattle.std.specs.Prelude.{◌≡◌, IfOk, map};
-ghost use Rattle.csp_program.specs.Substitution.{all_unless_bound, any_binds, expr_put, fields_put, gen_twice, net_put, pair_twice, proc_put, put_gens};
+ghost use Rattle.csp_program.specs.Substitution.{all_unless_bound, any_binds, expr_with, fields_with, gen_twice, net_with, pair_twice, proc_with, gens_with};
 
-use crate::expressions::{any_binds_name, put_expr, put_exprs, put_gens};
-use crate::fields::{put_fields, put_pairs};
-use crate::networks::put_net;
-use crate::processes::put_proc;
+use crate::expressions::{any_binds_name, replace_expr, replace_exprs, replace_gens};
+use crate::fields::{replace_fields, replace_pairs};
+use crate::networks::replace_net;
+use crate::processes::replace_proc;
 use containers::Items;
 use csp_base::NoMemory;
 use csp_program::{EventPart, Expr, Field, Gen, Net, Proc, Value};
@@ -20,9 +20,9 @@ pub fn substitute_expr(
     name: u32,
     value: &Value,
 ) -> Result<Expr, NoMemory>
-    ensures { IfOk result (λ made. made ≡ expr_put name value.now expr.now) }
+    ensures { IfOk result (λ made. made ≡ expr_with name value.now expr.now) }
 {
-    let made = put_expr(alloc, expr, name, value)?;
+    let made = replace_expr(alloc, expr, name, value)?;
     Ok(made)
 }
 
@@ -33,9 +33,9 @@ pub fn substitute_exprs(
     name: u32,
     value: &Value,
 ) -> Result<Items<Expr>, NoMemory>
-    ensures { IfOk result (λ made. made ≡ map (expr_put name value.now) exprs.now) }
+    ensures { IfOk result (λ made. made ≡ map (expr_with name value.now) exprs.now) }
 {
-    let made = put_exprs(alloc, false, exprs, name, value)?;
+    let made = replace_exprs(alloc, false, exprs, name, value)?;
     Ok(made)
 }
 
@@ -46,9 +46,9 @@ pub fn substitute_gens(
     name: u32,
     value: &Value,
 ) -> Result<Items<Gen>, NoMemory>
-    ensures { IfOk result (λ made. made ≡ put_gens name (map (gen_twice name value.now) gens.now)) }
+    ensures { IfOk result (λ made. made ≡ gens_with name (map (gen_twice name value.now) gens.now)) }
 {
-    let made = put_gens(alloc, gens, name, value)?;
+    let made = replace_gens(alloc, gens, name, value)?;
     Ok(made)
 }
 
@@ -59,9 +59,9 @@ pub fn substitute_fields(
     name: u32,
     value: &Value,
 ) -> Result<Items<Field>, NoMemory>
-    ensures { IfOk result (λ made. made ≡ fields_put name value.now fields.now) }
+    ensures { IfOk result (λ made. made ≡ fields_with name value.now fields.now) }
 {
-    let made = put_fields(alloc, fields, name, value)?;
+    let made = replace_fields(alloc, fields, name, value)?;
     Ok(made)
 }
 
@@ -76,24 +76,24 @@ pub fn substitute_pairs(
     ensures { IfOk result (λ made. made ≡ all_unless_bound (any_binds name gens.now) (map (pair_twice name value.now) pairs.now)) }
 {
     let bound = any_binds_name(gens, name);
-    let made = put_pairs(alloc, bound, pairs, name, value)?;
+    let made = replace_pairs(alloc, bound, pairs, name, value)?;
     Ok(made)
 }
 
 /// The process with the value in place of the bound name with this number, wherever that name is free.
 #[tactic(auto, unfolding(crate::specs::Parts::proc_after))]
 pub fn substitute(alloc: Global, process: &Proc, name: u32, value: &Value) -> Result<Proc, NoMemory>
-    ensures { IfOk result (λ made. made ≡ proc_put name value.now process.now) }
+    ensures { IfOk result (λ made. made ≡ proc_with name value.now process.now) }
 {
-    let made = put_proc(alloc, process, name, value)?;
+    let made = replace_proc(alloc, process, name, value)?;
     Ok(made)
 }
 
 /// The network with the value in place of the bound name with this number, wherever that name is free.
 #[tactic(auto, unfolding(crate::specs::Networks::net_after))]
 pub fn substitute_net(alloc: Global, net: &Net, name: u32, value: &Value) -> Result<Net, NoMemory>
-    ensures { IfOk result (λ made. made ≡ net_put name value.now net.now) }
+    ensures { IfOk result (λ made. made ≡ net_with name value.now net.now) }
 {
-    let made = put_net(alloc, net, name, value)?;
+    let made = replace_net(alloc, net, name, value)?;
     Ok(made)
 }

@@ -12,7 +12,7 @@ use csp_program::{EventPart, Expr, Gen, Value};
 use std::alloc::Global;
 
 // The use of a bound name.
-fn put_name(alloc: Global, other: u32, name: u32, value: &Value) -> Result<Expr, NoMemory>
+fn replace_name(alloc: Global, other: u32, name: u32, value: &Value) -> Result<Expr, NoMemory>
     ensures { IfOk result (λ made. made ≡ (if nat_eq other name then Expr.Lit value.now else Expr.Bound other)) }
 {
     if other == name {
@@ -53,8 +53,8 @@ pub fn any_binds_name(gens: &[Gen], name: u32) -> bool
     false
 }
 
-#[cycle(put_expr)]
-pub(crate) fn put_expr(
+#[cycle(replace_expr)]
+pub(crate) fn replace_expr(
     alloc: Global,
     expr: &Expr,
     name: u32,
@@ -67,63 +67,63 @@ pub(crate) fn put_expr(
         Expr::Truth(truth) => Ok(Expr::Truth(*truth)),
         Expr::Const(number) => Ok(Expr::Const(*number)),
         Expr::Bound(other) => {
-            let made = put_name(alloc, *other, name, value)?;
+            let made = replace_name(alloc, *other, name, value)?;
             Ok(made)
         }
         Expr::Lit(kept) => Ok(Expr::Lit(copy_value(alloc, kept)?)),
-        Expr::Neg(a) => Ok(Expr::Neg(put_boxed_expr(alloc, a.get(), name, value)?)),
-        Expr::Not(a) => Ok(Expr::Not(put_boxed_expr(alloc, a.get(), name, value)?)),
+        Expr::Neg(a) => Ok(Expr::Neg(replace_boxed_expr(alloc, a.get(), name, value)?)),
+        Expr::Not(a) => Ok(Expr::Not(replace_boxed_expr(alloc, a.get(), name, value)?)),
         Expr::Binary(op, a, b) => {
-            let a = put_boxed_expr(alloc, a.get(), name, value)?;
-            let b = put_boxed_expr(alloc, b.get(), name, value)?;
+            let a = replace_boxed_expr(alloc, a.get(), name, value)?;
+            let b = replace_boxed_expr(alloc, b.get(), name, value)?;
             Ok(Expr::Binary(*op, a, b))
         }
         Expr::If(c, a, b) => {
-            let c = put_boxed_expr(alloc, c.get(), name, value)?;
-            let a = put_boxed_expr(alloc, a.get(), name, value)?;
-            let b = put_boxed_expr(alloc, b.get(), name, value)?;
+            let c = replace_boxed_expr(alloc, c.get(), name, value)?;
+            let a = replace_boxed_expr(alloc, a.get(), name, value)?;
+            let b = replace_boxed_expr(alloc, b.get(), name, value)?;
             Ok(Expr::If(c, a, b))
         }
         Expr::Call(def, args) => {
-            let args = put_exprs(alloc, false, args.as_slice(), name, value)?;
+            let args = replace_exprs(alloc, false, args.as_slice(), name, value)?;
             Ok(Expr::Call(*def, args))
         }
         Expr::SetName(def) => Ok(Expr::SetName(*def)),
         Expr::Event(channel, fields) => {
-            let fields = put_exprs(alloc, false, fields.as_slice(), name, value)?;
+            let fields = replace_exprs(alloc, false, fields.as_slice(), name, value)?;
             Ok(Expr::Event(*channel, fields))
         }
         Expr::Display(items) => {
-            let items = put_exprs(alloc, false, items.as_slice(), name, value)?;
+            let items = replace_exprs(alloc, false, items.as_slice(), name, value)?;
             Ok(Expr::Display(items))
         }
         Expr::Range(a, b) => {
-            let a = put_boxed_expr(alloc, a.get(), name, value)?;
-            let b = put_boxed_expr(alloc, b.get(), name, value)?;
+            let a = replace_boxed_expr(alloc, a.get(), name, value)?;
+            let b = replace_boxed_expr(alloc, b.get(), name, value)?;
             Ok(Expr::Range(a, b))
         }
         Expr::Comp(items, gens) => {
             let bound = any_binds_name(gens.as_slice(), name);
-            let items = put_exprs(alloc, bound, items.as_slice(), name, value)?;
-            let gens = put_gens(alloc, gens.as_slice(), name, value)?;
+            let items = replace_exprs(alloc, bound, items.as_slice(), name, value)?;
+            let gens = replace_gens(alloc, gens.as_slice(), name, value)?;
             Ok(Expr::Comp(items, gens))
         }
         Expr::Product(parts, gens) => {
             let bound = any_binds_name(gens.as_slice(), name);
-            let parts = put_parts(alloc, bound, parts.as_slice(), name, value)?;
-            let gens = put_gens(alloc, gens.as_slice(), name, value)?;
+            let parts = replace_parts(alloc, bound, parts.as_slice(), name, value)?;
+            let gens = replace_gens(alloc, gens.as_slice(), name, value)?;
             Ok(Expr::Product(parts, gens))
         }
         Expr::SetOp(op, a, b) => {
-            let a = put_boxed_expr(alloc, a.get(), name, value)?;
-            let b = put_boxed_expr(alloc, b.get(), name, value)?;
+            let a = replace_boxed_expr(alloc, a.get(), name, value)?;
+            let b = replace_boxed_expr(alloc, b.get(), name, value)?;
             Ok(Expr::SetOp(*op, a, b))
         }
     }
 }
 
-#[cycle(put_expr)]
-fn put_boxed_expr(
+#[cycle(replace_expr)]
+fn replace_boxed_expr(
     alloc: Global,
     expr: &Expr,
     name: u32,
@@ -131,13 +131,13 @@ fn put_boxed_expr(
 ) -> Result<Boxed<Expr>, NoMemory>
     ensures { IfOk result (λ made. made ≡ expr_after name value.now expr.now) }
 {
-    let made = put_expr(alloc, expr, name, value)?;
+    let made = replace_expr(alloc, expr, name, value)?;
     Ok(Boxed::new(alloc, made)?)
 }
 
-// An expression, kept where the name is bound.
-#[cycle(put_expr)]
-pub(crate) fn put_expr_unless(
+/// An expression, kept where the name is bound.
+#[cycle(replace_expr)]
+pub(crate) fn replace_expr_unless(
     alloc: Global,
     bound: bool,
     expr: &Expr,
@@ -149,12 +149,12 @@ pub(crate) fn put_expr_unless(
     if bound {
         return Ok(copy_expr(alloc, expr)?);
     }
-    Ok(put_expr(alloc, expr, name, value)?)
+    Ok(replace_expr(alloc, expr, name, value)?)
 }
 
-// Expressions, kept where the name is bound.
-#[cycle(put_expr)]
-pub(crate) fn put_exprs(
+/// Expressions, kept where the name is bound.
+#[cycle(replace_expr)]
+pub(crate) fn replace_exprs(
     alloc: Global,
     bound: bool,
     exprs: &[Expr],
@@ -165,24 +165,24 @@ pub(crate) fn put_exprs(
 {
     let mut made = Items::new(alloc);
     for expr in exprs {
-        made.push(put_expr_unless(alloc, bound, expr, name, value)?)?;
+        made.push(replace_expr_unless(alloc, bound, expr, name, value)?)?;
     }
     Ok(made)
 }
 
-#[cycle(put_expr)]
-fn put_gen(alloc: Global, generator: &Gen, name: u32, value: &Value) -> Result<Gen, NoMemory>
+#[cycle(replace_expr)]
+fn replace_gen(alloc: Global, generator: &Gen, name: u32, value: &Value) -> Result<Gen, NoMemory>
     ensures { IfOk result (λ made. made ≡ gen_after name value.now generator.now) }
 {
     match generator {
-        Gen::From(other, set) => Ok(Gen::From(*other, put_expr(alloc, set, name, value)?)),
-        Gen::Cond(condition) => Ok(Gen::Cond(put_expr(alloc, condition, name, value)?)),
+        Gen::From(other, set) => Ok(Gen::From(*other, replace_expr(alloc, set, name, value)?)),
+        Gen::Cond(condition) => Ok(Gen::Cond(replace_expr(alloc, condition, name, value)?)),
     }
 }
 
 // A generator, kept where the name is bound.
-#[cycle(put_expr)]
-fn put_gen_unless(
+#[cycle(replace_expr)]
+fn replace_gen_unless(
     alloc: Global,
     bound: bool,
     generator: &Gen,
@@ -194,12 +194,12 @@ fn put_gen_unless(
     if bound {
         return Ok(copy_gen(alloc, generator)?);
     }
-    Ok(put_gen(alloc, generator, name, value)?)
+    Ok(replace_gen(alloc, generator, name, value)?)
 }
 
-// Generators. Those after the one that binds the name are kept.
-#[cycle(put_expr)]
-pub(crate) fn put_gens(
+/// Generators. Those after the one that binds the name are kept.
+#[cycle(replace_expr)]
+pub(crate) fn replace_gens(
     alloc: Global,
     gens: &[Gen],
     name: u32,
@@ -210,14 +210,14 @@ pub(crate) fn put_gens(
     let mut made = Items::new(alloc);
     let mut bound = false;
     for generator in gens {
-        made.push(put_gen_unless(alloc, bound, generator, name, value)?)?;
+        made.push(replace_gen_unless(alloc, bound, generator, name, value)?)?;
         bound = still_bound(bound, generator, name);
     }
     Ok(made)
 }
 
-#[cycle(put_expr)]
-pub(crate) fn put_part(
+#[cycle(replace_expr)]
+pub(crate) fn replace_part(
     alloc: Global,
     part: &EventPart,
     name: u32,
@@ -225,7 +225,7 @@ pub(crate) fn put_part(
 ) -> Result<EventPart, NoMemory>
     ensures { IfOk result (λ made. made ≡ part_after name value.now part.now) }
 {
-    let fields = put_exprs(alloc, false, part.fields.as_slice(), name, value)?;
+    let fields = replace_exprs(alloc, false, part.fields.as_slice(), name, value)?;
     Ok(EventPart {
         channel: part.channel,
         fields,
@@ -233,8 +233,8 @@ pub(crate) fn put_part(
 }
 
 // The front of an event, kept where the name is bound.
-#[cycle(put_expr)]
-fn put_part_unless(
+#[cycle(replace_expr)]
+fn replace_part_unless(
     alloc: Global,
     bound: bool,
     part: &EventPart,
@@ -246,12 +246,12 @@ fn put_part_unless(
     if bound {
         return Ok(copy_part(alloc, part)?);
     }
-    Ok(put_part(alloc, part, name, value)?)
+    Ok(replace_part(alloc, part, name, value)?)
 }
 
 // The fronts of events, kept where the name is bound.
-#[cycle(put_expr)]
-fn put_parts(
+#[cycle(replace_expr)]
+fn replace_parts(
     alloc: Global,
     bound: bool,
     parts: &[EventPart],
@@ -262,7 +262,7 @@ fn put_parts(
 {
     let mut made = Items::new(alloc);
     for part in parts {
-        made.push(put_part_unless(alloc, bound, part, name, value)?)?;
+        made.push(replace_part_unless(alloc, bound, part, name, value)?)?;
     }
     Ok(made)
 }

@@ -2,10 +2,10 @@
 #![tactic(auto)]
 
 ghost use Rattle.std.specs.Prelude.{◌≡◌, ◌||◌, false, nat_eq, if◌then◌else◌, IfOk};
-ghost use Rattle.csp_program.specs.Substitution.{any_gets, head_put};
+ghost use Rattle.csp_program.specs.Substitution.{any_gets, head_with};
 ghost use Rattle.substitution.specs.Parts.{field_after, fields_after, gets, pair_after, pairs_after};
 
-use crate::expressions::{put_expr, put_part};
+use crate::expressions::{replace_expr, replace_part};
 use containers::Items;
 use csp_base::NoMemory;
 use csp_program::copies::{copy_field, copy_pair, copy_value};
@@ -19,7 +19,7 @@ pub fn substitute_head(
     name: u32,
     value: &Value,
 ) -> Result<Head, NoMemory>
-    ensures { IfOk result (λ made. made ≡ head_put name value.now head.now) }
+    ensures { IfOk result (λ made. made ≡ head_with name value.now head.now) }
 {
     match head {
         Head::Channel(channel) => Ok(Head::Channel(*channel)),
@@ -65,21 +65,21 @@ pub fn any_gets_name(fields: &[Field], name: u32) -> bool
     false
 }
 
-fn put_field(alloc: Global, field: &Field, name: u32, value: &Value) -> Result<Field, NoMemory>
+fn replace_field(alloc: Global, field: &Field, name: u32, value: &Value) -> Result<Field, NoMemory>
     ensures { IfOk result (λ made. made ≡ field_after name value.now field.now) }
 {
     match field {
-        Field::Put(expr) => Ok(Field::Put(put_expr(alloc, expr, name, value)?)),
+        Field::Put(expr) => Ok(Field::Put(replace_expr(alloc, expr, name, value)?)),
         Field::Get(other, None) => Ok(Field::Get(*other, None)),
         Field::Get(other, Some(set)) => Ok(Field::Get(
             *other,
-            Some(put_expr(alloc, set, name, value)?),
+            Some(replace_expr(alloc, set, name, value)?),
         )),
     }
 }
 
 // A field, kept where the name is bound.
-fn put_field_unless(
+fn replace_field_unless(
     alloc: Global,
     bound: bool,
     field: &Field,
@@ -91,11 +91,11 @@ fn put_field_unless(
     if bound {
         return Ok(copy_field(alloc, field)?);
     }
-    Ok(put_field(alloc, field, name, value)?)
+    Ok(replace_field(alloc, field, name, value)?)
 }
 
-// Fields. Those after the one that binds the name are kept.
-pub(crate) fn put_fields(
+/// Fields. Those after the one that binds the name are kept.
+pub(crate) fn replace_fields(
     alloc: Global,
     fields: &[Field],
     name: u32,
@@ -106,13 +106,13 @@ pub(crate) fn put_fields(
     let mut made = Items::new(alloc);
     let mut bound = false;
     for field in fields {
-        made.push(put_field_unless(alloc, bound, field, name, value)?)?;
+        made.push(replace_field_unless(alloc, bound, field, name, value)?)?;
         bound = still_got(bound, field, name);
     }
     Ok(made)
 }
 
-fn put_pair(
+fn replace_pair(
     alloc: Global,
     pair: &(EventPart, EventPart),
     name: u32,
@@ -120,13 +120,13 @@ fn put_pair(
 ) -> Result<(EventPart, EventPart), NoMemory>
     ensures { IfOk result (λ made. made ≡ pair_after name value.now pair.now) }
 {
-    let old = put_part(alloc, &pair.0, name, value)?;
-    let new = put_part(alloc, &pair.1, name, value)?;
+    let old = replace_part(alloc, &pair.0, name, value)?;
+    let new = replace_part(alloc, &pair.1, name, value)?;
     Ok((old, new))
 }
 
 // A pair of a renaming, kept where the name is bound.
-fn put_pair_unless(
+fn replace_pair_unless(
     alloc: Global,
     bound: bool,
     pair: &(EventPart, EventPart),
@@ -138,11 +138,11 @@ fn put_pair_unless(
     if bound {
         return Ok(copy_pair(alloc, pair)?);
     }
-    Ok(put_pair(alloc, pair, name, value)?)
+    Ok(replace_pair(alloc, pair, name, value)?)
 }
 
-// The pairs of a renaming, kept where the name is bound.
-pub(crate) fn put_pairs(
+/// The pairs of a renaming, kept where the name is bound.
+pub(crate) fn replace_pairs(
     alloc: Global,
     bound: bool,
     pairs: &[(EventPart, EventPart)],
@@ -153,7 +153,7 @@ pub(crate) fn put_pairs(
 {
     let mut made = Items::new(alloc);
     for pair in pairs {
-        made.push(put_pair_unless(alloc, bound, pair, name, value)?)?;
+        made.push(replace_pair_unless(alloc, bound, pair, name, value)?)?;
     }
     Ok(made)
 }

@@ -5,8 +5,8 @@ ghost use Rattle.std.specs.Prelude.{◌≡◌, if◌then◌else◌, nat_eq, IfOk
 ghost use Rattle.substitution.specs.Networks.{net_after, net_below};
 ghost use Rattle.substitution.specs.Parts.{expr_after};
 
-use crate::expressions::{put_expr, put_expr_unless, put_exprs};
-use crate::processes::put_proc;
+use crate::expressions::{replace_expr, replace_expr_unless, replace_exprs};
+use crate::processes::replace_proc;
 use containers::Boxed;
 use csp_base::NoMemory;
 use csp_program::net_copies::copy_net;
@@ -24,7 +24,7 @@ fn choice(
 ) -> Result<Net, NoMemory>
     ensures { IfOk result (λ made. made ≡ Net.If (expr_after name value.now c.now) left right) }
 {
-    Ok(Net::If(put_expr(alloc, c, name, value)?, left, right))
+    Ok(Net::If(replace_expr(alloc, c, name, value)?, left, right))
 }
 
 // Two networks with their alphabets.
@@ -39,8 +39,8 @@ fn pair(
 ) -> Result<Net, NoMemory>
     ensures { IfOk result (λ made. made ≡ Net.Pair left (expr_after name value.now a.now) (expr_after name value.now b.now) right) }
 {
-    let a = put_expr(alloc, a, name, value)?;
-    let b = put_expr(alloc, b, name, value)?;
+    let a = replace_expr(alloc, a, name, value)?;
+    let b = replace_expr(alloc, b, name, value)?;
     Ok(Net::Pair(left, a, b, right))
 }
 
@@ -56,41 +56,41 @@ fn each(
 ) -> Result<Net, NoMemory>
     ensures { IfOk result (λ made. made ≡ Net.Each other (expr_after name value.now set.now) (if nat_eq other name then a.now else expr_after name value.now a.now) net) }
 {
-    let set = put_expr(alloc, set, name, value)?;
-    let a = put_expr_unless(alloc, other == name, a, name, value)?;
+    let set = replace_expr(alloc, set, name, value)?;
+    let a = replace_expr_unless(alloc, other == name, a, name, value)?;
     Ok(Net::Each(other, set, a, net))
 }
 
-#[cycle(put_net)]
-pub(crate) fn put_net(alloc: Global, net: &Net, name: u32, value: &Value) -> Result<Net, NoMemory>
+#[cycle(replace_net)]
+pub(crate) fn replace_net(alloc: Global, net: &Net, name: u32, value: &Value) -> Result<Net, NoMemory>
     ensures { IfOk result (λ made. made ≡ net_after name value.now net.now) }
 {
     match net {
-        Net::Leaf(process) => Ok(Net::Leaf(put_proc(alloc, process, name, value)?)),
+        Net::Leaf(process) => Ok(Net::Leaf(replace_proc(alloc, process, name, value)?)),
         Net::Call(def, args) => {
-            let args = put_exprs(alloc, false, args.as_slice(), name, value)?;
+            let args = replace_exprs(alloc, false, args.as_slice(), name, value)?;
             Ok(Net::Call(*def, args))
         }
         Net::If(c, left, right) => {
-            let left = put_boxed_net(alloc, false, left.get(), name, value)?;
-            let right = put_boxed_net(alloc, false, right.get(), name, value)?;
+            let left = replace_boxed_net(alloc, false, left.get(), name, value)?;
+            let right = replace_boxed_net(alloc, false, right.get(), name, value)?;
             Ok(choice(alloc, c, left, right, name, value)?)
         }
         Net::Pair(left, a, b, right) => {
-            let left = put_boxed_net(alloc, false, left.get(), name, value)?;
-            let right = put_boxed_net(alloc, false, right.get(), name, value)?;
+            let left = replace_boxed_net(alloc, false, left.get(), name, value)?;
+            let right = replace_boxed_net(alloc, false, right.get(), name, value)?;
             Ok(pair(alloc, left, a, b, right, name, value)?)
         }
         Net::Each(other, set, a, inner) => {
-            let inner = put_boxed_net(alloc, *other == name, inner.get(), name, value)?;
+            let inner = replace_boxed_net(alloc, *other == name, inner.get(), name, value)?;
             Ok(each(alloc, *other, set, a, inner, name, value)?)
         }
     }
 }
 
 // A network on the heap, kept where the name is bound.
-#[cycle(put_net)]
-fn put_boxed_net(
+#[cycle(replace_net)]
+fn replace_boxed_net(
     alloc: Global,
     bound: bool,
     net: &Net,
@@ -103,6 +103,6 @@ fn put_boxed_net(
         let copy = copy_net(alloc, net)?;
         return Ok(Boxed::new(alloc, copy)?);
     }
-    let made = put_net(alloc, net, name, value)?;
+    let made = replace_net(alloc, net, name, value)?;
     Ok(Boxed::new(alloc, made)?)
 }

@@ -2,11 +2,11 @@
 #![tactic(auto, using(crate::proofs::ProcEquations::proc_forms))]
 
 ghost use Rattle.std.specs.Prelude.{◌≡◌, false, IfOk};
-ghost use Rattle.csp_program.specs.Substitution.{any_binds, head_put};
+ghost use Rattle.csp_program.specs.Substitution.{any_binds, head_with};
 ghost use Rattle.substitution.specs.Parts.{expr_after, fields_after, gens_after, pairs_after, proc_after, proc_below, procs_after};
 
-use crate::expressions::{any_binds_name, put_expr, put_exprs, put_gens};
-use crate::fields::{any_gets_name, put_fields, put_pairs, substitute_head};
+use crate::expressions::{any_binds_name, replace_expr, replace_exprs, replace_gens};
+use crate::fields::{any_gets_name, replace_fields, replace_pairs, substitute_head};
 use containers::{Boxed, Items};
 use csp_base::NoMemory;
 use csp_program::proc_copies::copy_proc;
@@ -22,10 +22,10 @@ fn prefix(
     name: u32,
     value: &Value,
 ) -> Result<Proc, NoMemory>
-    ensures { IfOk result (λ made. made ≡ Proc.Prefix (head_put name value.now head.now) (fields_after name value.now false fields.now) p) }
+    ensures { IfOk result (λ made. made ≡ Proc.Prefix (head_with name value.now head.now) (fields_after name value.now false fields.now) p) }
 {
     let head = substitute_head(alloc, head, name, value)?;
-    let fields = put_fields(alloc, fields, name, value)?;
+    let fields = replace_fields(alloc, fields, name, value)?;
     Ok(Proc::Prefix(head, fields, p))
 }
 
@@ -39,7 +39,7 @@ fn guard(
 ) -> Result<Proc, NoMemory>
     ensures { IfOk result (λ made. made ≡ Proc.Guard (expr_after name value.now c.now) p) }
 {
-    Ok(Proc::Guard(put_expr(alloc, c, name, value)?, p))
+    Ok(Proc::Guard(replace_expr(alloc, c, name, value)?, p))
 }
 
 // One of the processes `p` and `q`.
@@ -53,7 +53,7 @@ fn choice(
 ) -> Result<Proc, NoMemory>
     ensures { IfOk result (λ made. made ≡ Proc.If (expr_after name value.now c.now) p q) }
 {
-    Ok(Proc::If(put_expr(alloc, c, name, value)?, p, q))
+    Ok(Proc::If(replace_expr(alloc, c, name, value)?, p, q))
 }
 
 // An external choice over the values of a set.
@@ -67,7 +67,7 @@ fn each_external(
 ) -> Result<Proc, NoMemory>
     ensures { IfOk result (λ made. made ≡ Proc.EachExternal other (expr_after name value.now set.now) p) }
 {
-    Ok(Proc::EachExternal(other, put_expr(alloc, set, name, value)?, p))
+    Ok(Proc::EachExternal(other, replace_expr(alloc, set, name, value)?, p))
 }
 
 // An internal choice over the values of a set.
@@ -81,7 +81,7 @@ fn each_internal(
 ) -> Result<Proc, NoMemory>
     ensures { IfOk result (λ made. made ≡ Proc.EachInternal other (expr_after name value.now set.now) p) }
 {
-    Ok(Proc::EachInternal(other, put_expr(alloc, set, name, value)?, p))
+    Ok(Proc::EachInternal(other, replace_expr(alloc, set, name, value)?, p))
 }
 
 // The process `p` with a set hidden.
@@ -94,7 +94,7 @@ fn hiding(
 ) -> Result<Proc, NoMemory>
     ensures { IfOk result (λ made. made ≡ Proc.Hide p (expr_after name value.now set.now)) }
 {
-    Ok(Proc::Hide(p, put_expr(alloc, set, name, value)?))
+    Ok(Proc::Hide(p, replace_expr(alloc, set, name, value)?))
 }
 
 // The process `p` renamed.
@@ -109,13 +109,13 @@ fn renaming(
     ensures { IfOk result (λ made. made ≡ Proc.Rename p (pairs_after name value.now (any_binds name gens.now) pairs.now) (gens_after name value.now false gens.now)) }
 {
     let bound = any_binds_name(gens, name);
-    let pairs = put_pairs(alloc, bound, pairs, name, value)?;
-    let gens = put_gens(alloc, gens, name, value)?;
+    let pairs = replace_pairs(alloc, bound, pairs, name, value)?;
+    let gens = replace_gens(alloc, gens, name, value)?;
     Ok(Proc::Rename(p, pairs, gens))
 }
 
-#[cycle(put_proc)]
-pub(crate) fn put_proc(
+#[cycle(replace_proc)]
+pub(crate) fn replace_proc(
     alloc: Global,
     proc: &Proc,
     name: u32,
@@ -127,50 +127,50 @@ pub(crate) fn put_proc(
         Proc::Stop => Ok(Proc::Stop),
         Proc::Prefix(head, fields, p) => {
             let bound = any_gets_name(fields.as_slice(), name);
-            let p = put_boxed_proc(alloc, bound, p.get(), name, value)?;
+            let p = replace_boxed_proc(alloc, bound, p.get(), name, value)?;
             Ok(prefix(alloc, head, fields.as_slice(), p, name, value)?)
         }
         Proc::Guard(c, p) => {
-            let p = put_boxed_proc(alloc, false, p.get(), name, value)?;
+            let p = replace_boxed_proc(alloc, false, p.get(), name, value)?;
             Ok(guard(alloc, c, p, name, value)?)
         }
         Proc::If(c, p, q) => {
-            let p = put_boxed_proc(alloc, false, p.get(), name, value)?;
-            let q = put_boxed_proc(alloc, false, q.get(), name, value)?;
+            let p = replace_boxed_proc(alloc, false, p.get(), name, value)?;
+            let q = replace_boxed_proc(alloc, false, q.get(), name, value)?;
             Ok(choice(alloc, c, p, q, name, value)?)
         }
         Proc::External(procs) => {
-            let procs = put_procs(alloc, procs.as_slice(), name, value)?;
+            let procs = replace_procs(alloc, procs.as_slice(), name, value)?;
             Ok(Proc::External(procs))
         }
         Proc::Internal(procs) => {
-            let procs = put_procs(alloc, procs.as_slice(), name, value)?;
+            let procs = replace_procs(alloc, procs.as_slice(), name, value)?;
             Ok(Proc::Internal(procs))
         }
         Proc::EachExternal(other, set, p) => {
-            let p = put_boxed_proc(alloc, *other == name, p.get(), name, value)?;
+            let p = replace_boxed_proc(alloc, *other == name, p.get(), name, value)?;
             Ok(each_external(alloc, *other, set, p, name, value)?)
         }
         Proc::EachInternal(other, set, p) => {
-            let p = put_boxed_proc(alloc, *other == name, p.get(), name, value)?;
+            let p = replace_boxed_proc(alloc, *other == name, p.get(), name, value)?;
             Ok(each_internal(alloc, *other, set, p, name, value)?)
         }
         Proc::Hide(p, set) => {
-            let p = put_boxed_proc(alloc, false, p.get(), name, value)?;
+            let p = replace_boxed_proc(alloc, false, p.get(), name, value)?;
             Ok(hiding(alloc, p, set, name, value)?)
         }
         Proc::Rename(p, pairs, gens) => {
-            let p = put_boxed_proc(alloc, false, p.get(), name, value)?;
+            let p = replace_boxed_proc(alloc, false, p.get(), name, value)?;
             Ok(renaming(alloc, p, pairs.as_slice(), gens.as_slice(), name, value)?)
         }
         Proc::Call(def, args) => {
-            let args = put_exprs(alloc, false, args.as_slice(), name, value)?;
+            let args = replace_exprs(alloc, false, args.as_slice(), name, value)?;
             Ok(Proc::Call(*def, args))
         }
         Proc::Skip => Ok(Proc::Skip),
         Proc::Seq(p, q) => {
-            let p = put_boxed_proc(alloc, false, p.get(), name, value)?;
-            let q = put_boxed_proc(alloc, false, q.get(), name, value)?;
+            let p = replace_boxed_proc(alloc, false, p.get(), name, value)?;
+            let q = replace_boxed_proc(alloc, false, q.get(), name, value)?;
             Ok(Proc::Seq(p, q))
         }
         Proc::Ended => Ok(Proc::Ended),
@@ -178,8 +178,8 @@ pub(crate) fn put_proc(
 }
 
 // A process on the heap, kept where the name is bound.
-#[cycle(put_proc)]
-fn put_boxed_proc(
+#[cycle(replace_proc)]
+fn replace_boxed_proc(
     alloc: Global,
     bound: bool,
     proc: &Proc,
@@ -192,12 +192,12 @@ fn put_boxed_proc(
         let copy = copy_proc(alloc, proc)?;
         return Ok(Boxed::new(alloc, copy)?);
     }
-    let made = put_proc(alloc, proc, name, value)?;
+    let made = replace_proc(alloc, proc, name, value)?;
     Ok(Boxed::new(alloc, made)?)
 }
 
-#[cycle(put_proc)]
-fn put_procs(
+#[cycle(replace_proc)]
+fn replace_procs(
     alloc: Global,
     procs: &[Proc],
     name: u32,
@@ -207,7 +207,7 @@ fn put_procs(
 {
     let mut made = Items::new(alloc);
     for proc in procs {
-        made.push(put_proc(alloc, proc, name, value)?)?;
+        made.push(replace_proc(alloc, proc, name, value)?)?;
     }
     Ok(made)
 }

@@ -6,7 +6,7 @@ use Rattle.std.specs.Cmp.{first_so, second_so}
 use Rattle.std.specs.Cmp.Lexicographic.{pointwise}
 use Rattle.containers.specs.Exact.{IsExact-pointwise}
 use Rattle.csp_program.specs.ExactExpr.{eq_expr, eq_gen, exact_expr, exact_gen}
-use Rattle.csp_program.specs.ExactProc.{eq_field, eq_head, eq_pair, exact_field, exact_head, exact_pair}
+use Rattle.csp_program.specs.ExactParts.{eq_field, eq_head, eq_pair, exact_field, exact_head, exact_pair}
 use Rattle.term_pool.specs.contracts.node.NodePartialEq.TheImpl as nodes
 use Rattle.term_pool.specs.contracts.node.ProcIdPartialEq.TheImpl as ids
 use Rattle.term_pool.specs.declared.node.Node.{Node}

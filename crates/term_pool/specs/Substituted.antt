@@ -2,7 +2,7 @@
 use Rattle.std.specs.Prelude.{◌≡◌, ℕ, Bool, true, false, nat_eq, Some, List, map, slice_get}
 use Rattle.std.specs.HashMap.{HashMap, get}
 use Rattle.csp_atoms.specs.declared.value.Value.{Value}
-use Rattle.csp_program.specs.Substitution.{all_unless_bound, any_binds, any_gets, expr_put, fields_put, gen_twice, head_put, pair_twice, proc_put, put_gens}
+use Rattle.csp_program.specs.Substitution.{all_unless_bound, any_binds, any_gets, expr_with, fields_with, gen_twice, head_with, pair_twice, proc_with, gens_with}
 use Rattle.csp_program.specs.declared.processes.Proc.{Proc}
 use Rattle.term_pool.specs.Trees.{places, places_below, tree_at, tree_of}
 use Rattle.term_pool.specs.declared.node.Node.{Node}
@@ -19,31 +19,31 @@ binds_below x other = false
 
 module _ (x : ℕ) (v : Value) where
   -- the node with the value v in place of the free name x in its own parts
-  abbrev pub own_put : Node → Node
-  own_put node.Stop = node.Stop
-  own_put (node.Prefix head fields p) = node.Prefix (head_put x v head) (fields_put x v fields) p
-  own_put (node.Guard c p) = node.Guard (expr_put x v c) p
-  own_put (node.If c p q) = node.If (expr_put x v c) p q
-  own_put (node.External ps) = node.External ps
-  own_put (node.Internal ps) = node.Internal ps
-  own_put (node.EachExternal y s p) = node.EachExternal y (expr_put x v s) p
-  own_put (node.EachInternal y s p) = node.EachInternal y (expr_put x v s) p
-  own_put (node.Hide p s) = node.Hide p (expr_put x v s)
-  own_put (node.Rename p pairs gens) = node.Rename p (all_unless_bound (any_binds x gens) (map (pair_twice x v) pairs)) (put_gens x (map (gen_twice x v) gens))
-  own_put (node.Call d args) = node.Call d (map (expr_put x v) args)
-  own_put node.Skip = node.Skip
-  own_put (node.Seq p q) = node.Seq p q
-  own_put node.Ended = node.Ended
+  abbrev pub own_with : Node → Node
+  own_with node.Stop = node.Stop
+  own_with (node.Prefix head fields p) = node.Prefix (head_with x v head) (fields_with x v fields) p
+  own_with (node.Guard c p) = node.Guard (expr_with x v c) p
+  own_with (node.If c p q) = node.If (expr_with x v c) p q
+  own_with (node.External ps) = node.External ps
+  own_with (node.Internal ps) = node.Internal ps
+  own_with (node.EachExternal y s p) = node.EachExternal y (expr_with x v s) p
+  own_with (node.EachInternal y s p) = node.EachInternal y (expr_with x v s) p
+  own_with (node.Hide p s) = node.Hide p (expr_with x v s)
+  own_with (node.Rename p pairs gens) = node.Rename p (all_unless_bound (any_binds x gens) (map (pair_twice x v) pairs)) (gens_with x (map (gen_twice x v) gens))
+  own_with (node.Call d args) = node.Call d (map (expr_with x v) args)
+  own_with node.Skip = node.Skip
+  own_with (node.Seq p q) = node.Seq p q
+  own_with node.Ended = node.Ended
 
   -- the processes, each with the value put in
-  abbrev pub all_put : List Proc → List Proc
-  all_put trees = map (proc_put x v) trees
+  abbrev pub all_with : List Proc → List Proc
+  all_with trees = map (proc_with x v) trees
 
   -- at the place `made` stands what the process at the place q is with the value put in
   pub record IsMade (trees : List Proc) (q : ℕ) (made : ProcId) : Type 0 where
     pub process : Proc
     pub before : slice_get trees q ≡ Some process
-    pub after : slice_get trees made.0 ≡ Some (proc_put x v process)
+    pub after : slice_get trees made.0 ≡ Some (proc_with x v process)
 
   -- the same of each place that has been visited
   abbrev pub AreMade : {S : Type 0} → List Proc → HashMap ℕ ProcId S → Type 0

@@ -10,9 +10,9 @@ mod own;
 mod places;
 pub mod pool;
 mod put;
-mod put_in;
+mod substitute;
 pub mod terms;
 
 pub use node::{Node, ProcId};
 pub use pool::Pool;
-pub use terms::{same, term_depth, term_size};
+pub use terms::{term_depth, term_size};

@@ -10,7 +10,7 @@ use csp_program::{EventPart, Expr, Field, Gen, Head};
 pub struct ProcId(pub u32);
 
 /// One layer of a process: its expressions, and the place of each of its sub-processes.
-#[derive(Debug, PartialEq, Eq, Hash, Drop)]
+#[derive(PartialEq, Eq, Hash, Drop)]
 pub enum Node {
     /// `STOP`
     Stop,

@@ -1,8 +1,8 @@
 //! A value in place of a name in a node's own parts.
 
 ghost use Rattle.std.specs.Prelude.{◌≡◌, ◌<◌, length, IfOk};
-ghost use Rattle.csp_program.specs.Substitution.{fields_put, head_put};
-ghost use Rattle.term_pool.specs.Substituted.{binds_below, own_put, IsLayer};
+ghost use Rattle.csp_program.specs.Substitution.{fields_with, head_with};
+ghost use Rattle.term_pool.specs.Substituted.{binds_below, own_with, IsLayer};
 
 use crate::node::{Node, ProcId};
 use crate::places::places_of;
@@ -17,7 +17,7 @@ use substitution::{
 };
 
 /// What stands below a node.
-#[derive(Debug, Drop)]
+#[derive(Drop)]
 pub(crate) struct Layer {
     /// The places of the sub-processes.
     pub ids: Items<ProcId>,
@@ -55,7 +55,7 @@ fn put_prefix(
     name: u32,
     value: &Value,
 ) -> Result<Node, NoMemory>
-    ensures { IfOk result (λ made. made ≡ Node.Prefix (head_put name value.now head.now) (fields_put name value.now fields.now) p) }
+    ensures { IfOk result (λ made. made ≡ Node.Prefix (head_with name value.now head.now) (fields_with name value.now fields.now) p) }
 {
     let head = substitute_head(alloc, head, name, value)?;
     let fields = substitute_fields(alloc, fields, name, value)?;
@@ -70,7 +70,7 @@ fn put_rename(
     name: u32,
     value: &Value,
 ) -> Result<Node, NoMemory>
-    ensures { IfOk result (λ made. made ≡ own_put name value.now (Node.Rename p pairs.now gens.now)) }
+    ensures { IfOk result (λ made. made ≡ own_with name value.now (Node.Rename p pairs.now gens.now)) }
 {
     let pairs = substitute_pairs(alloc, pairs, gens, name, value)?;
     let gens = substitute_gens(alloc, gens, name, value)?;
@@ -84,7 +84,7 @@ pub(crate) fn put_own(
     name: u32,
     value: &Value,
 ) -> Result<Node, NoMemory>
-    ensures { IfOk result (λ made. made ≡ own_put name value.now node.now) }
+    ensures { IfOk result (λ made. made ≡ own_with name value.now node.now) }
 {
     match node {
         Node::Stop => Ok(Node::Stop),

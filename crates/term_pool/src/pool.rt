@@ -1,12 +1,12 @@
 //! A pool of processes: each stands in it once, and its sub-processes stand at smaller places.
 
-ghost use Rattle.std.specs.Prelude.{◌≡◌, ◌<◌, ◌^◌, ◌++◌, [], ◌∷◌, true, false, length, map, slice_get, IfOk, OnOk, OnErr, Some};
+ghost use Rattle.std.specs.Prelude.{◌≡◌, ◌↔◌, IsTrue, ◌<◌, ◌^◌, ◌++◌, [], ◌∷◌, true, false, length, map, slice_get, IfOk, OnOk, OnErr, Some};
 ghost use Rattle.std.specs.List.{IsDistinct};
 ghost use Rattle.std.specs.Set.{is_member};
 ghost use Rattle.containers.specs.Members.{with_new};
 ghost use Rattle.csp_program.specs.Depth.{proc_depth};
 ghost use Rattle.csp_program.specs.Size.{proc_size};
-ghost use Rattle.csp_program.specs.Substitution.{proc_put};
+ghost use Rattle.csp_program.specs.Substitution.{proc_with};
 ghost use Rattle.term_pool.specs.Counting.{capped};
 ghost use Rattle.term_pool.specs.ExactNode.{eq_node};
 ghost use Rattle.term_pool.specs.Held.{IsHeld};
@@ -18,7 +18,7 @@ use crate::measure::Measure;
 use crate::node::{Node, ProcId};
 use crate::node_measures::of_node;
 use crate::put::put_tree;
-use crate::put_in::put_at;
+use crate::substitute::substitute_at;
 use containers::{Items, Numbering};
 use csp_base::NoMemory;
 use csp_program::{Proc, Value};
@@ -29,7 +29,7 @@ use std::marker::Model;
 /// A list of processes, fewer than 2^32 of them and all different. It keeps the allocator.
 ///
 /// Contracts see the processes, and not the nodes by which they are kept.
-#[derive(Debug, Drop)]
+#[derive(Drop)]
 pub struct Pool {
     alloc: Global,
     nodes: Numbering<Node>,
@@ -100,6 +100,17 @@ impl Pool {
         self.measures.as_slice()[id.0 as usize].size
     }
 
+    /// Whether the processes at two places are one process.
+    pub fn same(&self, left: ProcId, right: ProcId) -> bool
+        requires left { left.0 < length self.now }
+        requires right { right.0 < length self.now }
+        ensures { IsTrue result ↔ (tree_at self.now left ≡ tree_at self.now right) }
+    {
+        // Its contract says that no process stands at two places.
+        let _ = self.len();
+        left.0 == right.0
+    }
+
     /// The place of the process that the node is with the processes at its places. A new one goes to the end; for one that is known no memory is needed.
     pub fn put_node(&mut self, node: Node) -> Result<ProcId, NoMemory>
         requires { places_below (length self.old) node ≡ true }
@@ -127,16 +138,16 @@ impl Pool {
 
     /// The place of what the process at `id` is with the value in place of the bound name with the number `slot`. What isn't in the pool is put into it,
     /// with its sub-processes, each of them once. Where memory fails some of them are put.
-    pub fn put_in(&mut self, id: ProcId, slot: u32, value: &Value) -> Result<ProcId, NoMemory>
+    pub fn substitute(&mut self, id: ProcId, slot: u32, value: &Value) -> Result<ProcId, NoMemory>
         requires { id.0 < length self.old }
-        ensures process { IfOk result (λ made. slice_get self.new made.0 ≡ Some (proc_put slot value.now (tree_at self.old id))) }
+        ensures process { IfOk result (λ made. slice_get self.new made.0 ≡ Some (proc_with slot value.now (tree_at self.old id))) }
         ensures front { IsFront self.old self.new }
-        ensures known { Has self.old (proc_put slot value.now (tree_at self.old id)) → self.new ≡ self.old }
-        ensures only { AddsParts self.old self.new (proc_put slot value.now (tree_at self.old id)) }
+        ensures known { Has self.old (proc_with slot value.now (tree_at self.old id)) → self.new ≡ self.old }
+        ensures only { AddsParts self.old self.new (proc_with slot value.now (tree_at self.old id)) }
     {
         let alloc = self.alloc();
         let mut visited = HashMap::new(alloc);
-        put_at(self, &mut visited, alloc, &id, slot, value)
+        substitute_at(self, &mut visited, alloc, &id, slot, value)
     }
 
     // The allocator.

@@ -1,6 +1,6 @@
 //! The operations on terms.
 
-ghost use Rattle.std.specs.Prelude.{◌≡◌, ◌↔◌, IsTrue};
+ghost use Rattle.std.specs.Prelude.{◌≡◌};
 ghost use Rattle.csp_program.specs.Depth.{proc_depth};
 ghost use Rattle.csp_program.specs.Size.{proc_size};
 ghost use Rattle.term_pool.specs.Counting.{capped};
@@ -21,11 +21,4 @@ pub fn term_size(term: &Proc) -> u32
     ensures { result ≡ capped (proc_size term.now) }
 {
     of_proc(term).size
-}
-
-/// Whether both are one term.
-pub fn same(left: &Proc, right: &Proc) -> bool
-    ensures { IsTrue result ↔ (left.now ≡ right.now) }
-{
-    *left == *right
 }

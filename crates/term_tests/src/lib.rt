@@ -1,22 +1,11 @@
-//! Tests of terms: copies of expressions, processes and networks; a value in place of a name in each of them, in lists of parts and in a pool; depth,
-//! size and equality of terms; and a pool in which each stands once.
+//! Tests of terms: a value in place of a name in each kind of tree, and a pool in which each process stands once.
 //!
 //! They stand here, and not beside what they test, so that those crates are not proved a second time for their sake.
 #![tactic(auto)]
 
 #[cfg(test)]
-mod expressions;
-#[cfg(test)]
-mod networks;
-#[cfg(test)]
-mod parts;
-#[cfg(test)]
 mod pools;
 #[cfg(test)]
-mod processes;
+mod samples;
 #[cfg(test)]
-mod substituted;
-#[cfg(test)]
-mod substituted_expressions;
-#[cfg(test)]
-mod terms;
+mod trees;

@@ -1,36 +1,57 @@
-//! A value in place of a name in a process of a pool.
+//! A pool in which each process stands once.
 
-use crate::parts::{NAME, value};
-use crate::processes::process;
+use crate::samples::{NAME, process, value};
+use containers::Boxed;
 use csp_base::NoMemory;
+use csp_program::proc_copies::copy_proc;
 use std::alloc::Global;
 use std::test::Fail;
-use term_pool::{Pool, ProcId};
+use substitution::substitute;
+use term_pool::{Node, Pool, ProcId, term_depth};
 
-fn put_process(pool: &mut Pool, alloc: Global, put: bool) -> Result<ProcId, NoMemory> {
-    let term = process(alloc, put)?;
+// The place of the process with the value put in, or of that with the name.
+fn put(pool: &mut Pool, alloc: Global, is_put: bool) -> Result<ProcId, NoMemory> {
+    let term = process(alloc, is_put)?;
     pool.put(term.get())
 }
 
-// The value for the name in the process at a place.
-fn fill(pool: &mut Pool, place: ProcId) -> Result<Option<ProcId>, NoMemory> {
-    if place.0 as usize >= pool.len() {
-        return Ok(None);
-    }
-    Ok(Some(pool.put_in(place, NAME, &value())?))
+// The place of what the substitution makes of a copy of the process.
+fn put_made(pool: &mut Pool, alloc: Global) -> Result<ProcId, NoMemory> {
+    let term = process(alloc, false)?;
+    let copy = Boxed::new(alloc, copy_proc(alloc, term.get())?)?;
+    let made = Boxed::new(alloc, substitute(alloc, copy.get(), NAME, &value())?)?;
+    pool.put(made.get())
 }
 
-// Whether the process with the name becomes the one with the value.
-fn forms_get_the_value(alloc: Global) -> Result<bool, NoMemory> {
+// Three places: made in a tree, made in the pool, and as it is to be; and one more process, which is known by its node.
+fn places_agree(alloc: Global) -> Result<bool, NoMemory> {
     let mut pool = Pool::new(alloc);
-    let place = put_process(&mut pool, alloc, false)?;
-    let made = fill(&mut pool, place)?;
-    let wanted = put_process(&mut pool, alloc, true)?;
-    Ok(made == Some(wanted) && place != wanted)
+    let before = put(&mut pool, alloc, false)?;
+    if before.0 as usize >= pool.len() || pool.depth(before) != 3 || pool.size(before) != 11 {
+        return Ok(false);
+    }
+    let inside = pool.substitute(before, NAME, &value())?;
+    let made = put_made(&mut pool, alloc)?;
+    let wanted = put(&mut pool, alloc, true)?;
+    let stop = pool.put_node(Node::Stop)?;
+    Ok(inside == wanted && made == wanted && before != wanted && stop.0 == 0 && pool.len() == 5)
+}
+
+fn is_one(alloc: Global) -> Result<bool, NoMemory> {
+    let mut pool = Pool::new(alloc);
+    let first = put(&mut pool, alloc, false)?;
+    let second = put(&mut pool, alloc, true)?;
+    if first.0 as usize >= pool.len() || second.0 as usize >= pool.len() {
+        return Ok(false);
+    }
+    Ok(pool.same(first, first) && !pool.same(first, second))
 }
 
 #[test]
-fn a_value_goes_into_every_form(rt: HostRuntime) -> Result<(), Fail> {
-    assert!(rt; forms_get_the_value(rt.alloc())?);
+fn each_process_stands_once(rt: HostRuntime) -> Result<(), Fail> {
+    let term = process(rt.alloc(), true)?;
+    assert_eq!(rt; term_depth(term.get()), 3);
+    assert!(rt; places_agree(rt.alloc())?);
+    assert!(rt; is_one(rt.alloc())?);
     Ok(())
 }

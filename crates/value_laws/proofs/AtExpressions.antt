@@ -1,10 +1,13 @@
 -- The laws of events, comprehensions and productions, at expressions.
-use Rattle.std.proofs.Common.{◌≡◌, ℕ, List, sym, ◌∙◌, ap}
-use Rattle.csp_program.specs.Value.{Front, Meaning, Turn, front_of_layer, meaning, meaning_of_layer, turn_of_layer, uses_within}
+use Rattle.std.proofs.Common.{◌≡◌, ℕ, Bool, true, false, cond, Ok, Err, List, sym, ◌∙◌, ap}
+use Rattle.csp_program.specs.Outcome.{Outcome}
+use Rattle.csp_program.specs.Value.{Front, Meaning, lack_sets, Turn, front_of_layer, meaning, meaning_of_layer, turn_of_layer, uses_within}
 use Rattle.value_laws.specs.Bindings.{ComprehensionsHoldTheirItems, ProductionsHoldWhatBegins, fronts_within, turns_within}
 use Rattle.value_laws.specs.EventNumbers.{EventsAreWorthTheirNumbers, meanings_within}
 use Rattle.value_laws.proofs.Fronts.{events_held}
 use Rattle.value_laws.proofs.Walks.{items_held}
+use Rattle.csp_atoms.specs.declared.value.Value.{Value}
+use Rattle.csp_program.specs.declared.kinds.ValueKind.TheVariants.{Kind}
 use Rattle.csp_program.specs.declared.expressions.EventPart.{EventPart}
 use Rattle.csp_program.specs.declared.expressions.Expr.{Expr}
 use Rattle.csp_program.specs.declared.expressions.Expr.TheFolds.{fold-roll-Expr}
@@ -37,6 +40,12 @@ pub comprehensions_hold_their_items : ComprehensionsHoldTheirItems
 comprehensions_hold_their_items p n items gens env v h =
     items_held (meanings_within p n items) (turns_within p n gens) env v (ap (λ (m : Meaning). m env) (sym (comp_meaning p n items gens)) ∙ h)
 
+-- a production that has a value is one over channels that have their sets
+pub with_sets : (t : Bool) (o : Outcome Value) (v : Value) → cond t (Err Kind) o ≡ Ok v → o ≡ Ok v
+with_sets true o v h = absurd (cc)
+with_sets false o v h = h
+
 pub productions_hold_what_begins : ProductionsHoldWhatBegins
-productions_hold_what_begins p rise n parts gens env v h =
-    events_held p.channels rise (fronts_within p n parts) (turns_within p n gens) env v (ap (λ (m : Meaning). m env) (sym (product_meaning p n parts gens)) ∙ h)
+productions_hold_what_begins p ordered n parts gens env v h =
+    events_held p ordered (fronts_within p n parts) (turns_within p n gens) env v
+    (with_sets (lack_sets p.channels (fronts_within p n parts)) _ v (ap (λ (m : Meaning). m env) (sym (product_meaning p n parts gens)) ∙ h))

@@ -4,23 +4,24 @@ use Rattle.std.specs.Prelude.{◌↔◌, slice_get}
 use Rattle.std.proofs.lemmas.Bool.{false≢true, cases_eq}
 use Rattle.csp_atoms.specs.Sets.{has_atom}
 use Rattle.csp_program.specs.Atoms.{added, all_added, events_from}
-use Rattle.csp_program.specs.EventNumber.{first_event}
+use Rattle.csp_program.specs.InOrder.{IsInOrder}
 use Rattle.csp_program.specs.Outcome.{and_then}
-use Rattle.csp_program.specs.Value.{Env, Front, Meaning, Turn, comprehension, events_each, front_count, front_number, fronts_added, sets_of}
+use Rattle.csp_program.specs.Value.{Env, Front, Meaning, Turn, comprehension, events_each, first_of, front_count, front_number, fronts_added, sets_of}
 use Rattle.value_laws.specs.Bindings.{BeginsWith, BeginsWithOne, IsBinding, IsSetValue}
-use Rattle.value_laws.specs.EventNumbers.{FieldSetsRise, computed_number}
+use Rattle.value_laws.specs.EventNumbers.{computed_number}
 use Rattle.value_laws.proofs.Lists.{came_through, same_outcome}
 use Rattle.value_laws.proofs.RowNumbers.{numbered}
-use Rattle.value_laws.proofs.TablePlaces.{computed, beginners_stand_together}
+use Rattle.value_laws.proofs.TablePlaces.{as_summed, computed, beginners_stand_together}
 use Rattle.value_laws.proofs.Walks.{Grows, grows_by_one, has_here, has_after, has_cases, same_growth, no_growth, two_growths, comprehension_holds}
 use Rattle.csp_atoms.specs.declared.atom.Atom.{Atom}
 use Rattle.csp_atoms.specs.declared.atom.Atom.TheVariants as atom
 use Rattle.csp_atoms.specs.declared.value.Value.{Value}
 use Rattle.csp_atoms.specs.declared.value.Value.TheVariants.{Many}
 use Rattle.csp_program.specs.declared.programs.Channel.{Channel}
+use Rattle.csp_program.specs.declared.programs.Content.{Content}
 
 -- a list of atoms that are added one by one
-all_grow : (atoms new more : List Atom) → all_added atoms new ≡ Ok more → Grows atoms more (λ z. IsTrue (has_atom new z))
+pub all_grow : (atoms new more : List Atom) → all_added atoms new ≡ Ok more → Grows atoms more (λ z. IsTrue (has_atom new z))
 all_grow atoms [] more h = no_growth atoms more (same_outcome h) (λ z. IsTrue (has_atom [] z)) (λ z n. false≢true n)
 all_grow atoms (a ∷ rest) more h =
     let first = came_through (added atoms a) (λ l. all_added l rest) more h in
@@ -60,22 +61,22 @@ has_sets first (Some sets) fields env e h = (sets, refl)
 abbrev Begun : List Channel → Front → Env → Atom → Type 0
 Begun channels f env z = (place : ℕ) × (z ≡ atom.Event place) × BeginsWith channels f env place
 
-front_grows : (channels : List Channel) → FieldSetsRise channels → (f : Front) (env : Env) (e : ℕ) (atoms more : List Atom)
-    → computed_number channels f.channel f.fields env ≡ Ok e → all_added atoms (events_from e (front_count (sets_of (slice_get channels f.channel)) f.fields)) ≡ Ok more
-    → Grows atoms more (Begun channels f env)
-front_grows channels rise f env e atoms more number h =
-    let s = has_sets (first_event channels f.channel) (sets_of (slice_get channels f.channel)) f.fields env e number in
-    let k = computed channels f.channel s.0 f.fields env e s.1 number in
+front_grows : (p : Content) → IsInOrder p → (f : Front) (env : Env) (e : ℕ) (atoms more : List Atom)
+    → computed_number p.channels f.channel f.fields env ≡ Ok e → all_added atoms (events_from e (front_count (sets_of (slice_get p.channels f.channel)) f.fields)) ≡ Ok more
+    → Grows atoms more (Begun p.channels f env)
+front_grows p ordered f env e atoms more number h =
+    let s = has_sets (first_of (slice_get p.channels f.channel)) (sets_of (slice_get p.channels f.channel)) f.fields env e number in
+    let k = computed p.channels f.channel s.0 f.fields env e s.1 (sym (as_summed p.channels ordered.firsts f.channel s.0 f.fields env s.1) ∙ number) in
     let r = numbered f.fields s.0 env 0 k.own k.found in
     let all : all_added atoms (events_from e (events_each f.fields s.0)) ≡ Ok more =
     ap (λ (o : Option (List (List Atom))). all_added atoms (events_from e (front_count o f.fields))) (sym s.1) ∙ h in
-    same_growth atoms more (λ z. IsTrue (has_atom (events_from e (events_each f.fields s.0)) z)) (Begun channels f env)
+    same_growth atoms more (λ z. IsTrue (has_atom (events_from e (events_each f.fields s.0)) z)) (Begun p.channels f env)
     (λ z n.
     let a = among e (events_each f.fields s.0) z n in
-    let found = (beginners_stand_together channels rise f.channel s.0 f.fields env r.row e s.1 r.values number a.0).0 (a.2, a.3) in
+    let found = (beginners_stand_together p ordered f.channel s.0 f.fields env r.row e s.1 r.values number a.0).0 (a.2, a.3) in
     (a.0, a.1, (r.row, found.0, r.values, found.1)))
     (λ z n.
-    let bounds = (beginners_stand_together channels rise f.channel s.0 f.fields env n.2.0 e s.1 n.2.2 number n.0).1 (n.2.1, n.2.3) in
+    let bounds = (beginners_stand_together p ordered f.channel s.0 f.fields env n.2.0 e s.1 n.2.2 number n.0).1 (n.2.1, n.2.3) in
     from_among e (events_each f.fields s.0) n.0 z n.1 bounds.0 bounds.1)
     (all_grow atoms (events_from e (events_each f.fields s.0)) more all)
 
@@ -83,23 +84,23 @@ front_grows channels rise f env e atoms more number h =
 abbrev BegunWithOne : List Channel → List Front → Env → Atom → Type 0
 BegunWithOne channels fronts env z = (place : ℕ) × (z ≡ atom.Event place) × BeginsWithOne channels fronts env place
 
-fronts_grow : (channels : List Channel) → FieldSetsRise channels → (fronts : List Front) (env : Env) (atoms more : List Atom) → fronts_added channels fronts env atoms ≡ Ok more → Grows atoms more (BegunWithOne channels fronts env)
-fronts_grow channels rise [] env atoms more h = no_growth atoms more (same_outcome h) (BegunWithOne channels [] env) (λ z n. n.2)
-fronts_grow channels rise (f ∷ fs) env atoms more h =
-    let sets = sets_of (slice_get channels f.channel) in
-    let first = came_through (front_number (first_event channels f.channel) sets f.fields env)
-    (λ e. and_then (all_added atoms (events_from e (front_count sets f.fields))) (λ l. fronts_added channels fs env l)) more h in
-    let second = came_through (all_added atoms (events_from first.0 (front_count sets f.fields))) (λ l. fronts_added channels fs env l) more first.2 in
-    same_growth atoms more (λ z. Begun channels f env z ⊎ BegunWithOne channels fs env z) (BegunWithOne channels (f ∷ fs) env)
+fronts_grow : (p : Content) → IsInOrder p → (fronts : List Front) (env : Env) (atoms more : List Atom) → fronts_added p.channels fronts env atoms ≡ Ok more → Grows atoms more (BegunWithOne p.channels fronts env)
+fronts_grow p ordered [] env atoms more h = no_growth atoms more (same_outcome h) (BegunWithOne p.channels [] env) (λ z n. n.2)
+fronts_grow p ordered (f ∷ fs) env atoms more h =
+    let sets = sets_of (slice_get p.channels f.channel) in
+    let first = came_through (front_number (first_of (slice_get p.channels f.channel)) sets f.fields env)
+    (λ e. and_then (all_added atoms (events_from e (front_count sets f.fields))) (λ l. fronts_added p.channels fs env l)) more h in
+    let second = came_through (all_added atoms (events_from first.0 (front_count sets f.fields))) (λ l. fronts_added p.channels fs env l) more first.2 in
+    same_growth atoms more (λ z. Begun p.channels f env z ⊎ BegunWithOne p.channels fs env z) (BegunWithOne p.channels (f ∷ fs) env)
     (λ z n. elim n [ inl b ↦ (b.0, b.1, inl b.2) | inr r ↦ (r.0, r.1, inr r.2) ])
     (λ z n. elim n.2 [ inl b ↦ inl (n.0, n.1, b) | inr r ↦ inr (n.0, n.1, r) ])
-    (two_growths atoms second.0 more (Begun channels f env) (BegunWithOne channels fs env)
-    (front_grows channels rise f env first.0 atoms second.0 first.1 second.1) (fronts_grow channels rise fs env second.0 more second.2))
+    (two_growths atoms second.0 more (Begun p.channels f env) (BegunWithOne p.channels fs env)
+    (front_grows p ordered f env first.0 atoms second.0 first.1 second.1) (fronts_grow p ordered fs env second.0 more second.2))
 
 -- where a production has a value, its set has the events that begin with one of its fronts under some binding
-pub events_held : (channels : List Channel) → FieldSetsRise channels → (fronts : List Front) (turns : List Turn) (env : Env) (v : Value) → comprehension turns (fronts_added channels fronts) env ≡ Ok v
+pub events_held : (p : Content) → IsInOrder p → (fronts : List Front) (turns : List Turn) (env : Env) (v : Value) → comprehension turns (fronts_added p.channels fronts) env ≡ Ok v
     → (set : List Atom) × (v ≡ Many set) × IsSetValue set × ((a : Atom) → IsTrue (has_atom set a) ↔
-    ((bound : Env) × (place : ℕ) × IsBinding turns env bound × (a ≡ atom.Event place) × BeginsWithOne channels fronts bound place))
-events_held channels rise fronts turns env v h =
-    let c = comprehension_holds (fronts_added channels fronts) (BegunWithOne channels fronts) (fronts_grow channels rise fronts) turns env v h in
+    ((bound : Env) × (place : ℕ) × IsBinding turns env bound × (a ≡ atom.Event place) × BeginsWithOne p.channels fronts bound place))
+events_held p ordered fronts turns env v h =
+    let c = comprehension_holds (fronts_added p.channels fronts) (BegunWithOne p.channels fronts) (fronts_grow p ordered fronts) turns env v h in
     (c.0, c.1, c.2, λ a. (λ g. let f = (c.3 a).0 g in (f.0, f.2.0, f.1, f.2.1, f.2.2), λ f. (c.3 a).1 (f.0, f.2, (f.1, f.3, f.4))))

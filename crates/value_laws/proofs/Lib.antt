@@ -3,8 +3,10 @@ pub mod Fronts
 pub mod Lists
 pub mod Nests
 pub mod ProgramEvents
+pub mod Rises
 pub mod RowNumbers
 pub mod TablePlaces
 pub mod Unbounded
 pub mod UsesInRange
+pub mod ValuesInOrder
 pub mod Walks

@@ -1,14 +1,13 @@
 -- The values of events in a program in order.
 use Rattle.std.proofs.Common.{◌≡◌, ℕ, zero, suc, Bool, nat_eq, IsTrue, Option, Some, Ok, List, [], ◌∷◌, map, length, refl, sym, ◌∙◌, ap, subst, inl, inr}
-use Rattle.std.specs.Prelude.{slice_get}
+use Rattle.std.specs.Prelude.{is_none, slice_get}
 use Rattle.std.proofs.lemmas.Bool.{false≢true, eqb-true}
 use Rattle.std.proofs.lemmas.List.{length-map}
-use Rattle.csp_program.specs.EventNumber.{first_event}
 use Rattle.csp_program.specs.EventTable.{event_table}
-use Rattle.csp_program.specs.InOrder.{IsEventTable, channel_in_order, expr_in_order, expr_in_order_of_layer, gen_in_order_of_layer, part_in_order_of_layer, lacks_sets, no_sets, set_in_order, sets_in_order, with_fields}
+use Rattle.csp_program.specs.InOrder.{IsEventTable, channel_in_order, expr_in_order, expr_in_order_of_layer, gen_in_order_of_layer, part_in_order_of_layer, lacks_sets, set_in_order, sets_in_order, with_fields}
 use Rattle.csp_program.specs.Lists.{all_true}
 use Rattle.csp_program.specs.Outcome.{and_then}
-use Rattle.csp_program.specs.Value.{Env, Front, Meaning, Turn, front_of_layer, meaning, meaning_of_layer, sets_of, turn_of_layer, uses_within, value_within}
+use Rattle.csp_program.specs.Value.{Env, Front, Meaning, Turn, first_of, front_of_layer, meaning, meaning_of_layer, sets_of, turn_of_layer, uses_within, value_within}
 use Rattle.value_laws.specs.EventNumbers.{HasSets, HaveValues, StandsAt, computed_number, meanings_within}
 use Rattle.value_laws.specs.ProgramEvents.{IsEventAt, PlacesAreValues, ValuesArePlaces}
 use Rattle.value_laws.proofs.AtExpressions.{events_are_worth_their_numbers}
@@ -31,11 +30,11 @@ use Rattle.csp_program.specs.declared.programs.EventInfo.{EventInfo}
 none_lacks : (channels : List Channel) (c : ℕ) (sets : List (List Atom)) → IsTrue (all_true (map lacks_sets channels)) → HasSets channels c sets → ⊥
 none_lacks [] c sets all h = absurd (cc)
 none_lacks (channel ∷ channels) zero sets all h =
-    false≢true (ap no_sets (sym h) ∙ and_first (lacks_sets channel) (all_true (map lacks_sets channels)) all)
+    false≢true (ap is_none (sym h) ∙ and_first (lacks_sets channel) (all_true (map lacks_sets channels)) all)
 none_lacks (channel ∷ channels) (suc c) sets all h = none_lacks channels c sets (and_second (lacks_sets channel) (all_true (map lacks_sets channels)) all) h
 
 -- the table of a program is that of its channels, where one of them has its sets
-table_from_sets : (p : Content) → IsEventTable p → (c : ℕ) (sets : List (List Atom)) → HasSets p.channels c sets → p.events ≡ event_table p.channels
+pub table_from_sets : (p : Content) → IsEventTable p → (c : ℕ) (sets : List (List Atom)) → HasSets p.channels c sets → p.events ≡ event_table p.channels
 table_from_sets p (inl t) c sets h = t.1
 table_from_sets p (inr t) c sets h = absurd (none_lacks p.channels c sets t.0 h)
 
@@ -46,12 +45,12 @@ table_from_event p (inr t) place x h =
     let none : slice_get [] place ≡ Some x = subst (λ (l : List EventInfo). slice_get l place ≡ Some x) t.1 h in
     absurd (cc)
 
-stands_in : (p : Content) (c place : ℕ) (row : List Atom) → p.events ≡ event_table p.channels → StandsAt p.channels place c row → IsEventAt p place c row
+pub stands_in : (p : Content) (c place : ℕ) (row : List Atom) → p.events ≡ event_table p.channels → StandsAt p.channels place c row → IsEventAt p place c row
 stands_in p c place row table h = ap (λ (l : List EventInfo). slice_get l place) table ∙ h
 
 -- a channel in order has as many sets as it has fields
 module _ (p : Content) where
-  as_many : (channels : List Channel) (c : ℕ) (sets : List (List Atom)) (count : ℕ) → IsTrue (all_true (map (channel_in_order p) channels)) → HasSets channels c sets
+  pub as_many : (channels : List Channel) (c : ℕ) (sets : List (List Atom)) (count : ℕ) → IsTrue (all_true (map (channel_in_order p) channels)) → HasSets channels c sets
       → IsTrue (with_fields (λ n. nat_eq n count) (slice_get channels c)) → count ≡ length sets
   as_many [] c sets count all h asked = absurd (cc)
   as_many (channel ∷ channels) zero sets count all h asked =
@@ -86,16 +85,16 @@ pub values_are_places : ValuesArePlaces
 values_are_places p ordered n c fields env v o h =
     let ms = meanings_within p n fields in
     let through = came_through (computed_number p.channels c ms env) (λ number. Ok (One (atom.Event number))) v (sym (events_are_worth_their_numbers p n c fields env) ∙ h) in
-    let s = has_sets (first_event p.channels c) (sets_of (slice_get p.channels c)) ms env through.0 through.1 in
+    let s = has_sets (first_of (slice_get p.channels c)) (sets_of (slice_get p.channels c)) ms env through.0 through.1 in
     let same_length : length ms ≡ length (map (expr_in_order p) fields) = length-map fields (meaning (uses_within p n) p.channels) ∙ sym (length-map fields (expr_in_order p)) in
-    let found = numbers_are_places p.channels c s.0 ms env through.0 s.1
+    let found = numbers_are_places p ordered c s.0 ms env through.0 s.1
     (same_length ∙ as_many p p.channels c s.0 (length (map (expr_in_order p) fields)) ordered.channels_used s.1 (asks p c fields o)) through.1 in
     (through.0, found.0, sym (same_outcome through.2), found.1, stands_in p c through.0 found.0 (table_from_sets p ordered.table c s.0 s.1) found.2)
 
 pub places_are_values : PlacesAreValues
-places_are_values p ordered rise n place c row env h =
+places_are_values p ordered n place c row env h =
     let table = table_from_event p ordered.table place _ h in
     let stands = ap (λ (l : List EventInfo). slice_get l place) (sym table) ∙ h in
     events_are_worth_their_numbers p n c (map (λ a. expr.Lit (One a)) row) env ∙
     ap (λ o. and_then o (λ number. Ok (One (atom.Event number))))
-    (places_are_numbers p.channels rise c place row stands (meanings_within p n (map (λ a. expr.Lit (One a)) row)) env (put_values p n row env))
+    (places_are_numbers p ordered c place row stands (meanings_within p n (map (λ a. expr.Lit (One a)) row)) env (put_values p n row env))

@@ -11,7 +11,8 @@ use Rattle.csp_program.specs.EventNumber.{row_count}
 use Rattle.csp_program.specs.EventTable.{rows}
 use Rattle.csp_program.specs.Outcome.{and_then}
 use Rattle.csp_program.specs.Value.{Env, Meaning, events_each, field_place, fields_number, found_place, values_of}
-use Rattle.value_laws.specs.EventNumbers.{AllRise, HaveValues}
+use Rattle.value_laws.specs.EventNumbers.{HaveValues}
+use Rattle.value_laws.proofs.Rises.{AllRise}
 use Rattle.value_laws.proofs.Lists.{came_through, same_outcome, length-joined, get_joined, from_joined}
 use Rattle.csp_atoms.specs.declared.atom.Atom.{Atom}
 use Rattle.csp_atoms.specs.declared.value.Value.{Value}

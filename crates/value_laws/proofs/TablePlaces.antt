@@ -6,41 +6,62 @@ use Rattle.std.proofs.lemmas.Bool.{cases_lt}
 use Rattle.std.proofs.lemmas.List.{append-nil, length-map}
 use Rattle.std.proofs.lemmas.Option.{slice_get-map, slice_get_within}
 use Rattle.std.proofs.Math.Seq.{drop-length}
-use Rattle.csp_program.specs.EventNumber.{event_count, first_event, row_count}
-use Rattle.csp_program.specs.EventTable.{event_of, events_from, events_of, rows}
-use Rattle.csp_program.specs.Outcome.{and_then}
-use Rattle.csp_program.specs.Value.{Env, Meaning, events_each, fields_number, front_number}
-use Rattle.value_laws.specs.EventNumbers.{AllRise, FieldsRise, FieldSetsRise, HasSets, HaveValues, StandsAt, computed_number, NumbersArePlaces, PlacesAreNumbers, BeginnersStandTogether}
+use Rattle.csp_program.specs.EventNumber.{KeepFirsts, event_count, first_event, row_count}
+use Rattle.csp_program.specs.EventTable.{event_of, events_from_channel, channel_events, rows}
+use Rattle.csp_program.specs.InOrder.{IsInOrder}
+use Rattle.csp_program.specs.Outcome.{Outcome, and_then}
+use Rattle.csp_program.specs.Value.{Env, Meaning, events_each, fields_number, first_of, front_number, sets_of}
+use Rattle.value_laws.specs.EventNumbers.{HasSets, HaveValues, StandsAt, computed_number, NumbersArePlaces, PlacesAreNumbers, BeginnersStandTogether}
 use Rattle.value_laws.proofs.Lists.{came_through, get_left, get_right, same_outcome}
+use Rattle.value_laws.proofs.Rises.{AllRise, FieldsRise, FieldSetsRise, field_sets_rise}
 use Rattle.value_laws.proofs.RowNumbers.{length-rows, no_fields, numbered, placed}
 use Rattle.csp_atoms.specs.declared.atom.Atom.{Atom}
 use Rattle.csp_atoms.specs.declared.value.Value.TheVariants.{One}
 use Rattle.csp_program.specs.declared.programs.Channel.{Channel}
+use Rattle.csp_program.specs.declared.programs.Content.{Content}
 use Rattle.csp_program.specs.declared.programs.EventInfo.{EventInfo}
 
-length-events_of : (b : ℕ) (o : Option (List (List Atom))) → length (events_of b o) ≡ event_count o
-length-events_of b None = refl
-length-events_of b (Some sets) = length-map (rows sets) (event_of b) ∙ length-rows sets
+-- the number that is computed where the channels before are counted
+abbrev pub summed_number : List Channel → ℕ → List Meaning → Env → Outcome ℕ
+summed_number channels c fields env = front_number (first_event channels c) (sets_of (slice_get channels c)) fields env
+
+channel_there : (o : Option Channel) (sets : List (List Atom)) → sets_of o ≡ Some sets → (channel : Channel) × (o ≡ Some channel)
+channel_there None sets h = absurd (cc)
+channel_there (Some channel) sets h = (channel, refl)
+
+-- the number that a channel keeps is the sum
+pub first_is : (channels : List Channel) → KeepFirsts channels → (c : ℕ) (sets : List (List Atom)) → HasSets channels c sets → first_of (slice_get channels c) ≡ first_event channels c
+first_is channels keep c sets h =
+    let found = channel_there (slice_get channels c) sets h in
+    ap first_of found.1 ∙ keep c found.0 found.1
+
+pub as_summed : (channels : List Channel) → KeepFirsts channels → (c : ℕ) (sets : List (List Atom)) (fields : List Meaning) (env : Env) → HasSets channels c sets
+    → computed_number channels c fields env ≡ summed_number channels c fields env
+as_summed channels keep c sets fields env h = ap (λ (n : ℕ). front_number n (sets_of (slice_get channels c)) fields env) (first_is channels keep c sets h)
+
+length-channel_events : (b : ℕ) (o : Option (List (List Atom))) → length (channel_events b o) ≡ event_count o
+length-channel_events b None = refl
+length-channel_events b (Some sets) = length-map (rows sets) (event_of b) ∙ length-rows sets
 
 -- a row of a channel among the channel's events
-in_events : (b : ℕ) (o : Option (List (List Atom))) (sets : List (List Atom)) (i : ℕ) (row : List Atom) → o ≡ Some sets → slice_get (rows sets) i ≡ Some row → slice_get (events_of b o) i ≡ Some (event_of b row)
+in_events : (b : ℕ) (o : Option (List (List Atom))) (sets : List (List Atom)) (i : ℕ) (row : List Atom) → o ≡ Some sets → slice_get (rows sets) i ≡ Some row → slice_get (channel_events b o) i ≡ Some (event_of b row)
 in_events b o sets i row e h =
-    ap (λ (p : Option (List (List Atom))). slice_get (events_of b p) i) e ∙ slice_get-map (event_of b) (rows sets) i ∙ ap (option_map (event_of b)) h
+    ap (λ (p : Option (List (List Atom))). slice_get (channel_events b p) i) e ∙ slice_get-map (event_of b) (rows sets) i ∙ ap (option_map (event_of b)) h
 
 pub in_table : (channels : List Channel) (b c : ℕ) (sets : List (List Atom)) (i : ℕ) (row : List Atom) → HasSets channels c sets → slice_get (rows sets) i ≡ Some row
-    → (place : ℕ) → place ≡ first_event channels c + i → slice_get (events_from b channels) place ≡ Some (event_of (b + c) row)
+    → (place : ℕ) → place ≡ first_event channels c + i → slice_get (events_from_channel b channels) place ≡ Some (event_of (b + c) row)
 in_table [] b c sets i row h g place e = absurd (cc)
 in_table (channel ∷ channels) b zero sets i row h g place e =
-    let at : slice_get (events_of b channel.fields) i ≡ Some (event_of b row) = in_events b channel.fields sets i row h g in
+    let at : slice_get (channel_events b channel.fields) i ≡ Some (event_of b row) = in_events b channel.fields sets i row h g in
     let same_place : place ≡ i = omega arith in
     let same_channel : b ≡ b + 0 = omega arith in
-    let at_place : slice_get (events_of b channel.fields) place ≡ Some (event_of b row) = ap (slice_get (events_of b channel.fields)) same_place ∙ at in
-    get_left (events_of b channel.fields) (events_from (b + 1) channels) place (slice_get_within (events_of b channel.fields) place (event_of b row) at_place) ∙
+    let at_place : slice_get (channel_events b channel.fields) place ≡ Some (event_of b row) = ap (slice_get (channel_events b channel.fields)) same_place ∙ at in
+    get_left (channel_events b channel.fields) (events_from_channel (b + 1) channels) place (slice_get_within (channel_events b channel.fields) place (event_of b row) at_place) ∙
     at_place ∙ ap (λ n. Some (event_of n row)) same_channel
 in_table (channel ∷ channels) b (suc c) sets i row h g place e =
-    let long : length (events_of b channel.fields) ≡ event_count channel.fields = length-events_of b channel.fields in
+    let long : length (channel_events b channel.fields) ≡ event_count channel.fields = length-channel_events b channel.fields in
     let same_channel : b + 1 + c ≡ b + suc c = omega arith in
-    get_right (events_of b channel.fields) (events_from (b + 1) channels) (first_event channels c + i) place (omega arith) ∙
+    get_right (channel_events b channel.fields) (events_from_channel (b + 1) channels) (first_event channels c + i) place (omega arith) ∙
     in_table channels (b + 1) c sets i row h g (first_event channels c + i) refl ∙
     ap (λ n. Some (event_of n row)) same_channel
 
@@ -56,25 +77,25 @@ pub record AmongEvents (b : ℕ) (o : Option (List (List Atom))) (i : ℕ) (x : 
   pub at : slice_get (rows sets) i ≡ Some row
   pub is : event_of b row ≡ x
 
-among_events : (b : ℕ) (o : Option (List (List Atom))) (i : ℕ) (x : EventInfo) → slice_get (events_of b o) i ≡ Some x → AmongEvents b o i x
+among_events : (b : ℕ) (o : Option (List (List Atom))) (i : ℕ) (x : EventInfo) → slice_get (channel_events b o) i ≡ Some x → AmongEvents b o i x
 among_events b None i x h = absurd (cc)
 among_events b (Some sets) i x h =
     let m = mapped_back b (slice_get (rows sets) i) x (sym (slice_get-map (event_of b) (rows sets) i) ∙ h) in
     record { sets = sets; has = refl; row = m.0; at = m.1; is = m.2 }
 
 -- the channels of later events have no lower numbers
-no_lower : (channels : List Channel) (b i : ℕ) (x : EventInfo) → slice_get (events_from b channels) i ≡ Some x → b ≤ x.channel
+no_lower : (channels : List Channel) (b i : ℕ) (x : EventInfo) → slice_get (events_from_channel b channels) i ≡ Some x → b ≤ x.channel
 no_lower [] b i x h = absurd (cc)
 no_lower (channel ∷ channels) b i x h =
-    elim (cases_lt i (length (events_of b channel.fields))) [
+    elim (cases_lt i (length (channel_events b channel.fields))) [
       | inl l ↦
-          let r = among_events b channel.fields i x (sym (get_left (events_of b channel.fields) (events_from (b + 1) channels) i l) ∙ h) in
+          let r = among_events b channel.fields i x (sym (get_left (channel_events b channel.fields) (events_from_channel (b + 1) channels) i l) ∙ h) in
           let same_channel : b ≡ x.channel = ap (λ (y : EventInfo). y.channel) r.is in
           omega arith
       | inr l ↦
-          let n : ℕ = i - length (events_of b channel.fields) in
-          let e : i ≡ length (events_of b channel.fields) + n = omega arith in
-          let least = no_lower channels (b + 1) n x (sym (get_right (events_of b channel.fields) (events_from (b + 1) channels) n i e) ∙ h) in
+          let n : ℕ = i - length (channel_events b channel.fields) in
+          let e : i ≡ length (channel_events b channel.fields) + n = omega arith in
+          let least = no_lower channels (b + 1) n x (sym (get_right (channel_events b channel.fields) (events_from_channel (b + 1) channels) n i e) ∙ h) in
           omega arith
     ]
 
@@ -94,7 +115,7 @@ first_channel channel channels b (suc c) place row r =
     let same_channel : b ≡ b + suc c = ap (λ (y : EventInfo). y.channel) r.is in
     absurd (omega arith)
 
-later_channel : (channel : Channel) (channels : List Channel) (b c place n : ℕ) (row : List Atom) → place ≡ event_count channel.fields + n → slice_get (events_from (b + 1) channels) n ≡ Some (event_of (b + c) row)
+later_channel : (channel : Channel) (channels : List Channel) (b c place n : ℕ) (row : List Atom) → place ≡ event_count channel.fields + n → slice_get (events_from_channel (b + 1) channels) n ≡ Some (event_of (b + c) row)
     → ((d : ℕ) → c ≡ suc d → OfRow channels d n row) → OfRow (channel ∷ channels) c place row
 later_channel channel channels b zero place n row e h rest = let least : b + 1 ≤ b + 0 = no_lower channels (b + 1) n (event_of (b + 0) row) h in absurd (omega arith)
 later_channel channel channels b (suc c) place n row e h rest =
@@ -102,22 +123,22 @@ later_channel channel channels b (suc c) place n row e h rest =
     let is : n ≡ first_event channels c + r.i = r.is in
     record { sets = r.sets; has = r.has; i = r.i; is = omega arith; at = r.at }
 
-pub of_row : (channels : List Channel) (b c place : ℕ) (row : List Atom) → slice_get (events_from b channels) place ≡ Some (event_of (b + c) row) → OfRow channels c place row
+pub of_row : (channels : List Channel) (b c place : ℕ) (row : List Atom) → slice_get (events_from_channel b channels) place ≡ Some (event_of (b + c) row) → OfRow channels c place row
 of_row [] b c place row h = absurd (cc)
 of_row (channel ∷ channels) b c place row h =
-    elim (cases_lt place (length (events_of b channel.fields))) [
+    elim (cases_lt place (length (channel_events b channel.fields))) [
       | inl l ↦ first_channel channel channels b c place row
-          (among_events b channel.fields place (event_of (b + c) row) (sym (get_left (events_of b channel.fields) (events_from (b + 1) channels) place l) ∙ h))
+          (among_events b channel.fields place (event_of (b + c) row) (sym (get_left (channel_events b channel.fields) (events_from_channel (b + 1) channels) place l) ∙ h))
       | inr l ↦
-          let n : ℕ = place - length (events_of b channel.fields) in
-          let e : place ≡ length (events_of b channel.fields) + n = omega arith in
-          let g : slice_get (events_from (b + 1) channels) n ≡ Some (event_of (b + c) row) = sym (get_right (events_of b channel.fields) (events_from (b + 1) channels) n place e) ∙ h in
-          later_channel channel channels b c place n row (e ∙ ap (λ m. m + n) (length-events_of b channel.fields)) g
+          let n : ℕ = place - length (channel_events b channel.fields) in
+          let e : place ≡ length (channel_events b channel.fields) + n = omega arith in
+          let g : slice_get (events_from_channel (b + 1) channels) n ≡ Some (event_of (b + c) row) = sym (get_right (channel_events b channel.fields) (events_from_channel (b + 1) channels) n place e) ∙ h in
+          later_channel channel channels b c place n row (e ∙ ap (λ m. m + n) (length-channel_events b channel.fields)) g
           (λ d is. let same_channel : b + c ≡ b + 1 + d = omega arith in
           of_row channels (b + 1) d n row (g ∙ ap (λ m. Some (event_of m row)) same_channel))
     ]
 
-of_table : (channels : List Channel) (c place : ℕ) (row : List Atom) → StandsAt channels place c row → OfRow channels c place row
+pub of_table : (channels : List Channel) (c place : ℕ) (row : List Atom) → StandsAt channels place c row → OfRow channels c place row
 of_table channels c place row h = let e : c ≡ 0 + c = omega arith in of_row channels 0 c place row (h ∙ ap (λ m. Some (event_of m row)) e)
 
 to_table : (channels : List Channel) (c : ℕ) (sets : List (List Atom)) (i : ℕ) (row : List Atom) → HasSets channels c sets → slice_get (rows sets) i ≡ Some row
@@ -135,7 +156,7 @@ pub record Computed (channels : List Channel) (c : ℕ) (sets : List (List Atom)
   pub found : fields_number fields sets env 0 ≡ Ok own
   pub is : first_event channels c + own * events_each fields sets ≡ number
 
-pub computed : (channels : List Channel) (c : ℕ) (sets : List (List Atom)) (fields : List Meaning) (env : Env) (number : ℕ) → HasSets channels c sets → computed_number channels c fields env ≡ Ok number → Computed channels c sets fields env number
+pub computed : (channels : List Channel) (c : ℕ) (sets : List (List Atom)) (fields : List Meaning) (env : Env) (number : ℕ) → HasSets channels c sets → summed_number channels c fields env ≡ Ok number → Computed channels c sets fields env number
 computed channels c sets fields env number h g =
     let through = came_through (fields_number fields sets env 0) (λ n. Ok (first_event channels c + n * events_each fields sets)) number
     (ap (λ (o : Option (List (List Atom))). front_number (first_event channels c) o fields env) (sym h) ∙ g) in
@@ -143,7 +164,7 @@ computed channels c sets fields env number h g =
 
 -- and back
 to_computed : (channels : List Channel) (c : ℕ) (sets : List (List Atom)) (fields : List Meaning) (env : Env) (own number : ℕ) → HasSets channels c sets → fields_number fields sets env 0 ≡ Ok own
-    → first_event channels c + own * events_each fields sets ≡ number → computed_number channels c fields env ≡ Ok number
+    → first_event channels c + own * events_each fields sets ≡ number → summed_number channels c fields env ≡ Ok number
 to_computed channels c sets fields env own number h f is =
     ap (λ (o : Option (List (List Atom))). front_number (first_event channels c) o fields env) h ∙
     ap (λ o. and_then o (λ n. Ok (first_event channels c + n * events_each fields sets))) f ∙
@@ -152,8 +173,10 @@ to_computed channels c sets fields env own number h f is =
 all_fields : (fields : List Meaning) (sets : List (List Atom)) → length fields ≡ length sets → drop (length fields) sets ≡ []
 all_fields fields sets h = ap (λ n. drop n sets) h ∙ drop-length sets
 
-pub numbers_are_places : NumbersArePlaces
-numbers_are_places channels c sets fields env number h long g =
+summed_are_places : (channels : List Channel) (c : ℕ) (sets : List (List Atom)) (fields : List Meaning) (env : Env) (number : ℕ)
+    → HasSets channels c sets → length fields ≡ length sets → summed_number channels c fields env ≡ Ok number
+    → (row : List Atom) × HaveValues fields env row × StandsAt channels number c row
+summed_are_places channels c sets fields env number h long g =
     let k = computed channels c sets fields env number h g in
     let r = numbered fields sets env 0 k.own k.found in
     let none : drop (length fields) sets ≡ [] = all_fields fields sets long in
@@ -168,8 +191,9 @@ numbers_are_places channels c sets fields env number h long g =
           (sym sum ∙ ap (λ m. first_event channels c + m * events_each fields sets) same_own ∙ (omega arith)),
     )
 
-pub places_are_numbers : PlacesAreNumbers
-places_are_numbers channels rise c place row h fields env values =
+places_are_summed : (channels : List Channel) → FieldSetsRise channels → (c place : ℕ) (row : List Atom) → StandsAt channels place c row
+    → (fields : List Meaning) (env : Env) → HaveValues fields env row → (sets : List (List Atom)) × HasSets channels c sets × (summed_number channels c fields env ≡ Ok place)
+places_are_summed channels rise c place row h fields env values =
     let t = of_table channels c place row h in
     let whole : row ≡ row ++ [] = sym (append-nil row) in
     let r = placed fields t.sets env (rise_at channels c t.sets rise t.has) row [] values t.i (t.at ∙ ap (λ (l : List Atom). Some l) whole) 0 in
@@ -180,7 +204,7 @@ places_are_numbers channels rise c place row h fields env values =
     let place_is : t.i ≡ r.own * events_each fields t.sets + r.beyond = r.place in
     let is : place ≡ first_event channels c + t.i = t.is in
     let number : 0 * row_count (take (length fields) t.sets) + r.own ≡ r.own = omega arith in
-    to_computed channels c t.sets fields env r.own place t.has (r.number ∙ ap (λ (m : ℕ). Ok m) number) (omega arith)
+    (t.sets, t.has, to_computed channels c t.sets fields env r.own place t.has (r.number ∙ ap (λ (m : ℕ). Ok m) number) (omega arith))
 
 row_there : (xs : List (List Atom)) (j : ℕ) → j < length xs → (row : List Atom) × (slice_get xs j ≡ Some row)
 row_there [] j l = absurd (omega arith)
@@ -202,7 +226,7 @@ same_values (x ∷ xs) (y ∷ ys) h =
     λ i. e i ∷ f i
 
 beginners_forth : (channels : List Channel) (c : ℕ) (sets : List (List Atom)) (fields : List Meaning) (env : Env) (row : List Atom) (first : ℕ)
-    → HasSets channels c sets → HaveValues fields env row → computed_number channels c fields env ≡ Ok first
+    → HasSets channels c sets → HaveValues fields env row → summed_number channels c fields env ≡ Ok first
     → (place : ℕ) → first ≤ place → place < first + events_each fields sets → (rest : List Atom) × StandsAt channels place c (row ++ rest)
 beginners_forth channels c sets fields env row first h values g place from_first below =
     let k = computed channels c sets fields env first h g in
@@ -223,7 +247,7 @@ beginners_forth channels c sets fields env row first h values g place from_first
     )
 
 beginners_back : (channels : List Channel) → FieldSetsRise channels → (c : ℕ) (sets : List (List Atom)) (fields : List Meaning) (env : Env) (row : List Atom) (first : ℕ)
-    → HasSets channels c sets → HaveValues fields env row → computed_number channels c fields env ≡ Ok first
+    → HasSets channels c sets → HaveValues fields env row → summed_number channels c fields env ≡ Ok first
     → (place : ℕ) (rest : List Atom) → StandsAt channels place c (row ++ rest) → (first ≤ place) × (place < first + events_each fields sets)
 beginners_back channels rise c sets fields env row first h values g place rest stands =
     let k = computed channels c sets fields env first h g in
@@ -241,8 +265,19 @@ beginners_back channels rise c sets fields env row first h values g place rest s
     let is : place ≡ first_event channels c + t.i = t.is in
     (omega arith, omega arith)
 
+pub numbers_are_places : NumbersArePlaces
+numbers_are_places p ordered c sets fields env number h long g =
+    summed_are_places p.channels c sets fields env number h long (sym (as_summed p.channels ordered.firsts c sets fields env h) ∙ g)
+
+pub places_are_numbers : PlacesAreNumbers
+places_are_numbers p ordered c place row h fields env values =
+    let found = places_are_summed p.channels (field_sets_rise p p.channels ordered.channels_used) c place row h fields env values in
+    as_summed p.channels ordered.firsts c found.0 fields env found.1 ∙ found.2
+
 pub beginners_stand_together : BeginnersStandTogether
-beginners_stand_together channels rise c sets fields env row first h values g place = (
-  λ within. beginners_forth channels c sets fields env row first h values g place within.0 within.1,
-  λ found. beginners_back channels rise c sets fields env row first h values g place found.0 found.1,
-)
+beginners_stand_together p ordered c sets fields env row first h values g place =
+    let rise = field_sets_rise p p.channels ordered.channels_used in
+    let summed = sym (as_summed p.channels ordered.firsts c sets fields env h) ∙ g in (
+      λ within. beginners_forth p.channels c sets fields env row first h values summed place within.0 within.1,
+      λ found. beginners_back p.channels rise c sets fields env row first h values summed place found.0 found.1,
+    )

@@ -9,7 +9,7 @@ use Rattle.csp_atoms.proofs.OrderLaws.{same_exact, same_itself}
 use Rattle.csp_atoms.proofs.SetLaws.{IsAtomSet-with_atom}
 use Rattle.csp_program.specs.Atoms.{added, limited}
 use Rattle.csp_program.specs.Outcome.{Outcome, and_then}
-use Rattle.csp_program.specs.Value.{Env, Gathered, Meaning, Turn, atom_of, comprehension, gathered, items_added, over, set_of, truth, truth_of, walked}
+use Rattle.csp_program.specs.Value.{Env, Gathered, Meaning, Turn, as_atom, comprehension, gathered, items_added, over, as_set, truth, as_truth, walked}
 use Rattle.value_laws.specs.Bindings.{IsBinding, IsItem, IsSetValue}
 use Rattle.value_laws.proofs.Lists.{came_through, same_outcome}
 use Rattle.csp_atoms.specs.declared.atom.Atom.{Atom}
@@ -21,15 +21,15 @@ use Rattle.csp_program.specs.declared.kinds.ValueKind.TheVariants.{Kind, SetLimi
 
 -- ---- kinds that were found
 
-pub set_back : (v : Value) (set : List Atom) → set_of v ≡ Ok set → v ≡ Many set
+pub set_back : (v : Value) (set : List Atom) → as_set v ≡ Ok set → v ≡ Many set
 set_back (One a) set h = absurd (cc)
 set_back (Many atoms) set h = cc
 
-pub atom_back : (v : Value) (a : Atom) → atom_of v ≡ Ok a → v ≡ One a
+pub atom_back : (v : Value) (a : Atom) → as_atom v ≡ Ok a → v ≡ One a
 atom_back (One b) a h = cc
 atom_back (Many atoms) a h = absurd (cc)
 
-pub truth_back : (v : Value) (b : Bool) → truth_of v ≡ Ok b → v ≡ truth b
+pub truth_back : (v : Value) (b : Bool) → as_truth v ≡ Ok b → v ≡ truth b
 truth_back (One (atom.Num n)) b h = absurd (cc)
 truth_back (One (atom.Truth t)) b h = cc
 truth_back (One (atom.Const k)) b h = absurd (cc)
@@ -47,14 +47,14 @@ limited_back : (t : Bool) (atoms more : List Atom) (k : ValueKind) → cond t (O
 limited_back true atoms more k h = cc
 limited_back false atoms more k h = absurd (cc)
 
-limit_back : (atoms more : List Atom) → limited atoms ≡ Ok more → atoms ≡ more
+pub limit_back : (atoms more : List Atom) → limited atoms ≡ Ok more → atoms ≡ more
 limit_back atoms more h = limited_back _ atoms more SetLimit h
 
 pub added_back : (atoms : List Atom) (a : Atom) (more : List Atom) → added atoms a ≡ Ok more → with_atom atoms a ≡ more
 added_back atoms a more h = limit_back (with_atom atoms a) more (passed (fits atoms a) (limited (with_atom atoms a)) Kind more h)
 
 -- a condition that had to hold for a value
-held : {A : Type 0} (t : Bool) (o : Outcome A) (k : ValueKind) (a : A) → cond t o (Err k) ≡ Ok a → t ≡ true
+pub held : {A : Type 0} (t : Bool) (o : Outcome A) (k : ValueKind) (a : A) → cond t o (Err k) ≡ Ok a → t ≡ true
 held true o k a h = refl
 held false o k a h = absurd (cc)
 
@@ -138,8 +138,8 @@ one_truth o b c h g = cc
 pub items_grow : (items : List Meaning) (env : Env) (atoms more : List Atom) → items_added items env atoms ≡ Ok more → Grows atoms more (IsItem items env)
 items_grow [] env atoms more h = let e : atoms ≡ more = same_outcome h in no_growth atoms more e (IsItem [] env) (λ z n. n)
 items_grow (item ∷ items) env atoms more h =
-    let first = came_through (item env) (λ v. and_then (atom_of v) (λ a. and_then (added atoms a) (λ l. items_added items env l))) more h in
-    let second = came_through (atom_of first.0) (λ a. and_then (added atoms a) (λ l. items_added items env l)) more first.2 in
+    let first = came_through (item env) (λ v. and_then (as_atom v) (λ a. and_then (added atoms a) (λ l. items_added items env l))) more h in
+    let second = came_through (as_atom first.0) (λ a. and_then (added atoms a) (λ l. items_added items env l)) more first.2 in
     let third = came_through (added atoms second.0) (λ l. items_added items env l) more second.2 in
     let value : item env ≡ Ok (One second.0) = first.1 ∙ ap (λ (v : Value). Ok v) (atom_back first.0 second.0 second.1) in
     same_growth atoms more (λ z. (second.0 ≡ z) ⊎ IsItem items env z) (IsItem (item ∷ items) env)
@@ -191,8 +191,8 @@ module _ (adds : Env → List Atom → Outcome (List Atom)) (Gives : Env → Ato
       (λ z n. (env, refl, n)) (λ z n. subst (λ e. Gives e z) (sym n.1) n.2)
       (one_binding env state next h)
   walk_grows (Turn.from x s ∷ turns) env state next h =
-      let first = came_through (s env) (λ v. and_then (set_of v) (λ atoms. over atoms (λ a. walked turns (gathered adds) ((x, One a) ∷ env)) state)) next h in
-      let second = came_through (set_of first.0) (λ atoms. over atoms (λ a. walked turns (gathered adds) ((x, One a) ∷ env)) state) next first.2 in
+      let first = came_through (s env) (λ v. and_then (as_set v) (λ atoms. over atoms (λ a. walked turns (gathered adds) ((x, One a) ∷ env)) state)) next h in
+      let second = came_through (as_set first.0) (λ atoms. over atoms (λ a. walked turns (gathered adds) ((x, One a) ∷ env)) state) next first.2 in
       let value : s env ≡ Ok (Many second.0) = first.1 ∙ ap (λ (v : Value). Ok v) (set_back first.0 second.0 second.1) in
       same_growth state.atoms next.atoms (λ z. (a : Atom) × IsTrue (has_atom second.0 a) × Given turns ((x, One a) ∷ env) z) (Given (Turn.from x s ∷ turns) env)
       (λ z n. (n.2.0, (second.0, n.0, value, n.1, n.2.1), n.2.2))
@@ -200,8 +200,8 @@ module _ (adds : Env → List Atom → Outcome (List Atom)) (Gives : Env → Ato
       (over_grows (λ a. Given turns ((x, One a) ∷ env)) (λ a. walked turns (gathered adds) ((x, One a) ∷ env))
       (λ a from to e. walk_grows turns ((x, One a) ∷ env) from to e) second.0 state next second.2)
   walk_grows (Turn.when c ∷ turns) env state next h =
-      let first = came_through (c env) (λ v. and_then (truth_of v) (λ b. cond b (walked turns (gathered adds) env state) (Ok state))) next h in
-      let second = came_through (truth_of first.0) (λ b. cond b (walked turns (gathered adds) env state) (Ok state)) next first.2 in
+      let first = came_through (c env) (λ v. and_then (as_truth v) (λ b. cond b (walked turns (gathered adds) env state) (Ok state))) next h in
+      let second = came_through (as_truth first.0) (λ b. cond b (walked turns (gathered adds) env state) (Ok state)) next first.2 in
       let value : c env ≡ Ok (truth second.0) = first.1 ∙ ap (λ (v : Value). Ok v) (truth_back first.0 second.0 second.1) in
       condition turns c env state next second.0 value second.2 (λ e. walk_grows turns env state next e)
 

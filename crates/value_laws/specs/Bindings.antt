@@ -1,8 +1,9 @@
 -- What a comprehension and a production hold, in the words of bindings: a choice of a value for the name of each generator.
 use Rattle.std.specs.Prelude.{◌≡◌, ◌⊎◌, ◌↔◌, ℕ, ◌≤◌, true, IsTrue, Ok, List, [], ◌∷◌, ◌++◌, map, length}
 use Rattle.csp_atoms.specs.Sets.{IsAtomSet, has_atom}
+use Rattle.csp_program.specs.InOrder.{IsInOrder}
 use Rattle.csp_program.specs.Value.{Env, Front, Meaning, Turn, front, truth, turn, uses_within, value_within}
-use Rattle.value_laws.specs.EventNumbers.{FieldSetsRise, HaveValues, StandsAt, meanings_within}
+use Rattle.value_laws.specs.EventNumbers.{HaveValues, StandsAt, meanings_within}
 use Rattle.csp_atoms.specs.declared.atom.Atom.{Atom}
 use Rattle.csp_atoms.specs.declared.atom.Atom.TheVariants as atom
 use Rattle.csp_atoms.specs.declared.value.Value.{Value}
@@ -56,7 +57,6 @@ ComprehensionsHoldTheirItems =
 -- where a production has a value, it is the set of the events that begin with one of its parts under some binding
 abbrev pub ProductionsHoldWhatBegins : Type 0
 ProductionsHoldWhatBegins =
-    (p : Content) → FieldSetsRise p.channels →
-    (n : ℕ) (parts : List EventPart) (gens : List Gen) (env : Env) (v : Value) → value_within p n (expr.Product parts gens) env ≡ Ok v →
+    (p : Content) → IsInOrder p → (n : ℕ) (parts : List EventPart) (gens : List Gen) (env : Env) (v : Value) → value_within p n (expr.Product parts gens) env ≡ Ok v →
     (set : List Atom) × (v ≡ Many set) × IsSetValue set × ((a : Atom) → IsTrue (has_atom set a) ↔
     ((bound : Env) × (place : ℕ) × IsBinding (turns_within p n gens) env bound × (a ≡ atom.Event place) × BeginsWithOne p.channels (fronts_within p n parts) bound place))

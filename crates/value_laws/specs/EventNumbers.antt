@@ -1,11 +1,10 @@
--- The number that is computed for an event from the values of its fields is the place of the event in the event table. The events that begin with
--- given values stand there one after another.
-use Rattle.std.specs.Prelude.{◌≡◌, ◌↔◌, ℕ, ◌+◌, ◌<◌, ◌≤◌, Option, Some, None, Ok, List, [], ◌∷◌, ◌++◌, map, length, slice_get}
-use Rattle.csp_atoms.specs.Sets.{IsRising}
-use Rattle.csp_program.specs.EventNumber.{first_event}
+-- In a program in order, the number that is computed for an event from the values of its fields is the place of the event in the event table of the
+-- program's channels. The events that begin with given values stand there one after another.
+use Rattle.std.specs.Prelude.{◌≡◌, ◌↔◌, ℕ, ◌+◌, ◌<◌, ◌≤◌, Some, Ok, List, [], ◌∷◌, ◌++◌, map, length, slice_get}
 use Rattle.csp_program.specs.EventTable.{event_of, event_table}
+use Rattle.csp_program.specs.InOrder.{IsInOrder}
 use Rattle.csp_program.specs.Outcome.{Outcome, and_then}
-use Rattle.csp_program.specs.Value.{Env, Meaning, events_each, front_number, meaning, sets_of, uses_within, value_within, values_of}
+use Rattle.csp_program.specs.Value.{Env, Meaning, events_each, first_of, front_number, meaning, sets_of, uses_within, value_within, values_of}
 use Rattle.csp_atoms.specs.declared.atom.Atom.{Atom}
 use Rattle.csp_atoms.specs.declared.atom.Atom.TheVariants as atom
 use Rattle.csp_atoms.specs.declared.value.Value.TheVariants.{One}
@@ -13,20 +12,6 @@ use Rattle.csp_program.specs.declared.expressions.Expr.{Expr}
 use Rattle.csp_program.specs.declared.expressions.Expr.TheVariants as expr
 use Rattle.csp_program.specs.declared.programs.Channel.{Channel}
 use Rattle.csp_program.specs.declared.programs.Content.{Content}
-
--- each list of values rises
-abbrev pub AllRise : List (List Atom) → Type 0
-AllRise [] = Unit {0}
-AllRise (set ∷ sets) = IsRising set × AllRise sets
-
--- the values of each field rise, where a channel has them
-abbrev pub FieldsRise : Option (List (List Atom)) → Type 0
-FieldsRise None = Unit {0}
-FieldsRise (Some sets) = AllRise sets
-
-abbrev pub FieldSetsRise : List Channel → Type 0
-FieldSetsRise [] = Unit {0}
-FieldSetsRise (channel ∷ channels) = FieldsRise channel.fields × FieldSetsRise channels
 
 -- the channel with the number c has these field sets
 abbrev pub HasSets : List Channel → ℕ → List (List Atom) → Type 0
@@ -38,7 +23,7 @@ HaveValues fields env row = values_of fields env ≡ Ok (map (λ a. One a) row)
 
 -- the number that is computed for the first event of the channel with the number c that begins with these fields
 abbrev pub computed_number : List Channel → ℕ → List Meaning → Env → Outcome ℕ
-computed_number channels c fields env = front_number (first_event channels c) (sets_of (slice_get channels c)) fields env
+computed_number channels c fields env = front_number (first_of (slice_get channels c)) (sets_of (slice_get channels c)) fields env
 
 -- at that place of the event table stands the event of the channel with the number c that has these values
 abbrev pub StandsAt : List Channel → ℕ → ℕ → List Atom → Type 0
@@ -57,19 +42,19 @@ EventsAreWorthTheirNumbers =
 -- where a number is computed for an event with all of its fields, the fields have values, and the event stands at that place
 abbrev pub NumbersArePlaces : Type 0
 NumbersArePlaces =
-    (channels : List Channel) (c : ℕ) (sets : List (List Atom)) (fields : List Meaning) (env : Env) (number : ℕ) →
-    HasSets channels c sets → length fields ≡ length sets → computed_number channels c fields env ≡ Ok number →
-    (row : List Atom) × HaveValues fields env row × StandsAt channels number c row
+    (p : Content) → IsInOrder p → (c : ℕ) (sets : List (List Atom)) (fields : List Meaning) (env : Env) (number : ℕ) →
+    HasSets p.channels c sets → length fields ≡ length sets → computed_number p.channels c fields env ≡ Ok number →
+    (row : List Atom) × HaveValues fields env row × StandsAt p.channels number c row
 
 -- for each event of the table its place is computed
 abbrev pub PlacesAreNumbers : Type 0
 PlacesAreNumbers =
-    (channels : List Channel) → FieldSetsRise channels → (c place : ℕ) (row : List Atom) → StandsAt channels place c row →
-    (fields : List Meaning) (env : Env) → HaveValues fields env row → computed_number channels c fields env ≡ Ok place
+    (p : Content) → IsInOrder p → (c place : ℕ) (row : List Atom) → StandsAt p.channels place c row →
+    (fields : List Meaning) (env : Env) → HaveValues fields env row → computed_number p.channels c fields env ≡ Ok place
 
 -- the events that begin with given values are those from the computed number on, as many as there are choices of the other fields
 abbrev pub BeginnersStandTogether : Type 0
 BeginnersStandTogether =
-    (channels : List Channel) → FieldSetsRise channels → (c : ℕ) (sets : List (List Atom)) (fields : List Meaning) (env : Env) (row : List Atom) (first : ℕ) →
-    HasSets channels c sets → HaveValues fields env row → computed_number channels c fields env ≡ Ok first →
-    (place : ℕ) → ((first ≤ place) × (place < first + events_each fields sets)) ↔ ((rest : List Atom) × StandsAt channels place c (row ++ rest))
+    (p : Content) → IsInOrder p → (c : ℕ) (sets : List (List Atom)) (fields : List Meaning) (env : Env) (row : List Atom) (first : ℕ) →
+    HasSets p.channels c sets → HaveValues fields env row → computed_number p.channels c fields env ≡ Ok first →
+    (place : ℕ) → ((first ≤ place) × (place < first + events_each fields sets)) ↔ ((rest : List Atom) × StandsAt p.channels place c (row ++ rest))

@@ -2,3 +2,4 @@ pub mod Bindings
 pub mod EnoughUses
 pub mod EventNumbers
 pub mod ProgramEvents
+pub mod ValuesInOrder

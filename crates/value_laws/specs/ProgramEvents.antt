@@ -4,7 +4,7 @@ use Rattle.std.specs.Prelude.{◌≡◌, ℕ, IsTrue, Some, Ok, List, map, slice
 use Rattle.csp_program.specs.EventTable.{event_of}
 use Rattle.csp_program.specs.InOrder.{IsInOrder, expr_in_order}
 use Rattle.csp_program.specs.Value.{Env, value_within}
-use Rattle.value_laws.specs.EventNumbers.{FieldSetsRise, HaveValues, meanings_within}
+use Rattle.value_laws.specs.EventNumbers.{HaveValues, meanings_within}
 use Rattle.csp_atoms.specs.declared.atom.Atom.{Atom}
 use Rattle.csp_atoms.specs.declared.atom.Atom.TheVariants as atom
 use Rattle.csp_atoms.specs.declared.value.Value.{Value}
@@ -31,5 +31,5 @@ event_expression c row = expr.Event c (map (λ a. expr.Lit (One a)) row)
 -- each event of the table has its place as the value of its expression
 abbrev pub PlacesAreValues : Type 0
 PlacesAreValues =
-    (p : Content) → IsInOrder p → FieldSetsRise p.channels → (n place c : ℕ) (row : List Atom) (env : Env) → IsEventAt p place c row →
+    (p : Content) → IsInOrder p → (n place c : ℕ) (row : List Atom) (env : Env) → IsEventAt p place c row →
     value_within p n (event_expression c row) env ≡ Ok (One (atom.Event place))

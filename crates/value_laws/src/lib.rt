@@ -5,6 +5,7 @@ ghost use Rattle.value_laws.specs.Bindings.{ComprehensionsHoldTheirItems, Produc
 ghost use Rattle.value_laws.specs.EnoughUses.{DefinitionsAreEnough, MoreUsesChangeNothing, UnboundedIsWorth, UsesNestWithinDefinitions, WorthIsUnbounded};
 ghost use Rattle.value_laws.specs.EventNumbers.{BeginnersStandTogether, EventsAreWorthTheirNumbers, NumbersArePlaces, PlacesAreNumbers};
 ghost use Rattle.value_laws.specs.ProgramEvents.{PlacesAreValues, ValuesArePlaces};
+ghost use Rattle.value_laws.specs.ValuesInOrder.{ValuesAreInOrder};
 
 /// The number that is computed for an event is its place in the event table, and the events that begin with given values stand together there.
 pub fn event_numbers_are_places()
@@ -35,4 +36,9 @@ pub fn more_uses_change_nothing()
     ensures enough { DefinitionsAreEnough }
     ensures unbounded { WorthIsUnbounded }
     ensures unique { UnboundedIsWorth }
+{}
+
+/// The value of an expression in order, in a program in order, is in order.
+pub fn values_are_in_order()
+    ensures { ValuesAreInOrder }
 {}

@@ -1,7 +1,7 @@
 -- An operator's two halves: what the first operand alone comes to, and an operator on two numbers.
 use Rattle.std.specs.Prelude.{ℤ, Bool, true, false, not, ◌+ℤ◌, ◌-ℤ◌, ◌*ℤ◌, int_lt, int_le, if◌then◌else◌, Option, Some, None, Ok, Err}
 use Rattle.csp_program.specs.Outcome.{Outcome, and_then}
-use Rattle.csp_program.specs.Value.{atom_of, number_of, truth_of, truth, in_range, divided, quotient, remainder}
+use Rattle.csp_program.specs.Value.{as_atom, as_number, as_truth, truth, in_range, divided, quotient, remainder}
 use Rattle.csp_base.specs.declared.operators.BinOp.{BinOp}
 use Rattle.csp_base.specs.declared.operators.BinOp.TheVariants as op
 use Rattle.csp_program.specs.declared.kinds.ValueKind.TheVariants.{Kind}
@@ -13,19 +13,19 @@ decided_by decides b = if (if decides then b else not b) then Some (truth b) els
 
 -- the value of the whole, where the first operand decides it; a fault, where it is of a wrong kind
 abbrev pub first_half : BinOp → Value → Outcome (Option Value)
-first_half op.Or v = and_then (truth_of v) (λ b. Ok (decided_by true b))
-first_half op.And v = and_then (truth_of v) (λ b. Ok (decided_by false b))
-first_half op.Eq v = and_then (atom_of v) (λ a. Ok None)
-first_half op.Ne v = and_then (atom_of v) (λ a. Ok None)
-first_half op.Lt v = and_then (number_of v) (λ a. Ok None)
-first_half op.Le v = and_then (number_of v) (λ a. Ok None)
-first_half op.Gt v = and_then (number_of v) (λ a. Ok None)
-first_half op.Ge v = and_then (number_of v) (λ a. Ok None)
-first_half op.Add v = and_then (number_of v) (λ a. Ok None)
-first_half op.Sub v = and_then (number_of v) (λ a. Ok None)
-first_half op.Mul v = and_then (number_of v) (λ a. Ok None)
-first_half op.Div v = and_then (number_of v) (λ a. Ok None)
-first_half op.Rem v = and_then (number_of v) (λ a. Ok None)
+first_half op.Or v = and_then (as_truth v) (λ b. Ok (decided_by true b))
+first_half op.And v = and_then (as_truth v) (λ b. Ok (decided_by false b))
+first_half op.Eq v = and_then (as_atom v) (λ a. Ok None)
+first_half op.Ne v = and_then (as_atom v) (λ a. Ok None)
+first_half op.Lt v = and_then (as_number v) (λ a. Ok None)
+first_half op.Le v = and_then (as_number v) (λ a. Ok None)
+first_half op.Gt v = and_then (as_number v) (λ a. Ok None)
+first_half op.Ge v = and_then (as_number v) (λ a. Ok None)
+first_half op.Add v = and_then (as_number v) (λ a. Ok None)
+first_half op.Sub v = and_then (as_number v) (λ a. Ok None)
+first_half op.Mul v = and_then (as_number v) (λ a. Ok None)
+first_half op.Div v = and_then (as_number v) (λ a. Ok None)
+first_half op.Rem v = and_then (as_number v) (λ a. Ok None)
 
 -- an operator on two numbers; the others take none
 abbrev pub on_two_numbers : BinOp → ℤ → ℤ → Outcome Value

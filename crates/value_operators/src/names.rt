@@ -26,7 +26,7 @@ pub struct Names<'a> {
     pub bound: &'a [(u32, Atom)],
 }
 
-/// The value of a parameter.
+// The value of a parameter.
 fn argument(alloc: Global, params: &[u32], args: &[Value], slot: u32) -> Result<Value, EvalFault>
     ensures { Gives result (bound_value (bound_to params.now args.now) slot) }
 {

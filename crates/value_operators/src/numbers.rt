@@ -2,20 +2,21 @@
 //! doesn't fit into memory.
 
 ghost use Rattle.std.specs.Prelude.{◌≡◌, ◌+◌, ◌*◌, nat_eq, Ok, None, Some, drop, length, slice_get, MatchOption};
-ghost use Rattle.csp_program.specs.EventNumber.{row_count, event_count, first_event};
+ghost use Rattle.csp_program.specs.EventNumber.{row_count};
+ghost use Rattle.csp_program.specs.Value as meant;
 ghost use Rattle.csp_program.specs.Value.{field_place, sets_of};
 ghost use Rattle.value_operators.specs.Forms as form;
 ghost use Rattle.value_operators.specs.Gives.{Gives};
 
 use crate::fault::EvalFault;
 use csp_atoms::{AtomSet, Value};
-use csp_program::{Channel, ValueKind};
+use csp_program::{Channel, EventPart, ValueKind};
 
 const OUTSIDE: EvalFault = EvalFault::Value {
     kind: ValueKind::OutsideChannel,
 };
 
-/// The sum of two numbers.
+// The sum of two numbers.
 fn plus(left: u64, right: u64) -> Result<u64, EvalFault>
     ensures { Gives result (Ok (left + right)) }
 {
@@ -25,7 +26,7 @@ fn plus(left: u64, right: u64) -> Result<u64, EvalFault>
     }
 }
 
-/// The product of two numbers.
+// The product of two numbers.
 fn times(left: u64, right: u64) -> Result<u64, EvalFault>
     ensures { Gives result (Ok (left * right)) }
 {
@@ -35,14 +36,14 @@ fn times(left: u64, right: u64) -> Result<u64, EvalFault>
     }
 }
 
-/// The product of a number and the size of a set.
+// The product of a number and the size of a set.
 fn with_set(number: u64, set: &AtomSet) -> Result<u64, EvalFault>
     ensures { Gives result (Ok (number * length set.now)) }
 {
     times(number, set.len() as u64)
 }
 
-/// Whether no list takes one value from each set, since one of them is empty.
+// Whether no list takes one value from each set, since one of them is empty.
 fn has_empty(sets: &[AtomSet]) -> bool
     ensures { result ≡ nat_eq (row_count sets.now) 0 }
 {
@@ -54,7 +55,7 @@ fn has_empty(sets: &[AtomSet]) -> bool
     false
 }
 
-/// How many lists take one value from each set. Where there are none, no product of the sizes of the others is looked at, which may be very large.
+// How many lists take one value from each set. Where there are none, no product of the sizes of the others is looked at, which may be very large.
 fn rows(sets: &[AtomSet]) -> Result<u64, EvalFault>
     ensures { Gives result (Ok (row_count sets.now)) }
 {
@@ -68,33 +69,14 @@ fn rows(sets: &[AtomSet]) -> Result<u64, EvalFault>
     Ok(count)
 }
 
-/// How many events a channel has.
-fn events_of(channel: &Channel) -> Result<u64, EvalFault>
-    ensures { Gives result (Ok (event_count channel.now.fields)) }
+// The number of the first event of a channel.
+fn first_of(channels: &[Channel], channel: u32) -> u64
+    ensures { result ≡ meant.first_of (slice_get channels.now channel) }
 {
-    match &channel.fields {
-        Some(sets) => rows(sets.as_slice()),
-        None => Ok(0),
+    match channels.get(channel as usize) {
+        Some(channel) => u64::from(channel.first),
+        None => 0,
     }
-}
-
-/// The number of the first event of a channel.
-fn first_of(channels: &[Channel], channel: u32) -> Result<u64, EvalFault>
-    ensures { Gives result (Ok (first_event channels.now channel)) }
-{
-    let mut first = 0;
-    let mut rest = channels;
-    let mut left = channel;
-    while left > 0 {
-        let Some((next, others)) = rest.split_first() else {
-            return Ok(first);
-        };
-        let count = events_of(next)?;
-        first = plus(first, count)?;
-        rest = others;
-        left -= 1;
-    }
-    Ok(first)
 }
 
 /// The place of a value among the values of a field.
@@ -132,7 +114,7 @@ pub fn field_sets(channels: &[Channel], channel: u32) -> Option<&[AtomSet]>
     }
 }
 
-/// How many events begin with one choice of the first fields, `given` of them.
+// How many events begin with one choice of the first fields, `given` of them.
 fn count_each(sets: &[AtomSet], given: usize) -> Result<u64, EvalFault>
     ensures { Gives result (Ok (row_count (drop given sets.now))) }
 {
@@ -154,10 +136,9 @@ pub fn each_of(sets: &[AtomSet], given: usize) -> Result<u64, EvalFault>
 
 /// The number of the event that stands at `place` among those of a channel.
 pub fn event_at(channels: &[Channel], channel: u32, place: u64) -> Result<u64, EvalFault>
-    ensures { Gives result (Ok (first_event channels.now channel + place)) }
+    ensures { Gives result (Ok (meant.first_of (slice_get channels.now channel) + place)) }
 {
-    let first = first_of(channels, channel)?;
-    plus(first, place)
+    plus(first_of(channels, channel), place)
 }
 
 /// How many events of a channel begin with one choice of the first fields, `given` of them.
@@ -168,4 +149,16 @@ pub fn count_with(channels: &[Channel], channel: u32, given: usize) -> Result<u6
         Some(sets) => count_each(sets, given),
         None => Ok(0),
     }
+}
+
+/// Whether one of the parts is of a channel that has no field sets.
+pub fn lack_sets(channels: &[Channel], parts: &[EventPart]) -> bool
+    ensures { result ≡ form.lack_sets channels.now parts.now }
+{
+    for part in parts {
+        if field_sets(channels, part.channel).is_none() {
+            return true;
+        }
+    }
+    false
 }

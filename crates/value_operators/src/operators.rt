@@ -3,7 +3,7 @@
 ghost use Rattle.std.specs.Prelude.{◌≡◌, Ok, None, not, pos, neg_ℤ, ◌+ℤ◌, ◌-ℤ◌, ◌*ℤ◌};
 ghost use Rattle.csp_atoms.specs.Order.{same};
 ghost use Rattle.csp_program.specs.Outcome.{and_then};
-ghost use Rattle.csp_program.specs.Value.{atom_of, number_of, truth_of, set_of, truth, in_range, binary, divided, quotient, remainder};
+ghost use Rattle.csp_program.specs.Value.{as_atom, as_number, as_truth, as_set, truth, in_range, binary, divided, quotient, remainder};
 ghost use Rattle.csp_program.specs.Value as meant;
 ghost use Rattle.value_operators.specs.Gives.{Gives};
 ghost use Rattle.value_operators.specs.Operands.{first_half, on_two_numbers, decided_by};
@@ -13,7 +13,7 @@ use csp_atoms::{Atom, AtomSet, Value, atom};
 use csp_base::BinOp;
 use csp_program::ValueKind;
 
-/// The greatest number that arithmetic may come to; the least is its negative.
+// The greatest number that arithmetic may come to; the least is its negative.
 const GREATEST: i64 = 1_000_000;
 
 const KIND: EvalFault = EvalFault::Value {
@@ -30,7 +30,7 @@ const DIVISION: EvalFault = EvalFault::Value {
 
 /// The atom that a value is.
 pub fn to_atom(value: &Value) -> Result<Atom, EvalFault>
-    ensures { Gives result (atom_of value.now) }
+    ensures { Gives result (as_atom value.now) }
 {
     match value {
         Value::One(atom) => Ok(*atom),
@@ -40,7 +40,7 @@ pub fn to_atom(value: &Value) -> Result<Atom, EvalFault>
 
 /// The number that a value is.
 pub fn to_number(value: &Value) -> Result<i64, EvalFault>
-    ensures { Gives result (number_of value.now) }
+    ensures { Gives result (as_number value.now) }
 {
     match value {
         Value::One(Atom::Num(number)) => Ok(*number),
@@ -50,7 +50,7 @@ pub fn to_number(value: &Value) -> Result<i64, EvalFault>
 
 /// The truth value that a value is.
 pub fn to_truth(value: &Value) -> Result<bool, EvalFault>
-    ensures { Gives result (truth_of value.now) }
+    ensures { Gives result (as_truth value.now) }
 {
     match value {
         Value::One(Atom::Truth(truth)) => Ok(*truth),
@@ -60,7 +60,7 @@ pub fn to_truth(value: &Value) -> Result<bool, EvalFault>
 
 /// The set that a value is.
 pub fn to_set(value: Value) -> Result<AtomSet, EvalFault>
-    ensures { Gives result (set_of value) }
+    ensures { Gives result (as_set value) }
 {
     match value {
         Value::One(_) => Err(KIND),
@@ -68,7 +68,7 @@ pub fn to_set(value: Value) -> Result<AtomSet, EvalFault>
     }
 }
 
-/// The number, unless it is out of range.
+// The number, unless it is out of range.
 fn ranged(number: i64) -> Result<Value, EvalFault>
     ensures { Gives result (in_range number) }
 {
@@ -81,7 +81,7 @@ fn ranged(number: i64) -> Result<Value, EvalFault>
 
 /// The negative of a number.
 pub fn negated(value: &Value) -> Result<Value, EvalFault>
-    ensures { Gives result (and_then (number_of value.now) (λ n. in_range (neg_ℤ n))) }
+    ensures { Gives result (and_then (as_number value.now) (λ n. in_range (neg_ℤ n))) }
 {
     let number = to_number(value)?;
     match number.checked_neg() {
@@ -92,15 +92,15 @@ pub fn negated(value: &Value) -> Result<Value, EvalFault>
 
 /// The other truth value.
 pub fn inverted(value: &Value) -> Result<Value, EvalFault>
-    ensures { Gives result (and_then (truth_of value.now) (λ b. Ok (truth (not b)))) }
+    ensures { Gives result (and_then (as_truth value.now) (λ b. Ok (truth (not b)))) }
 {
     let truth = to_truth(value)?;
     Ok(Value::One(Atom::Truth(!truth)))
 }
 
-/// The value of the whole, where the truth value that is its first operand decides it.
+// The value of the whole, where the truth value that is its first operand decides it.
 fn decided_by_truth(decides: bool, first: &Value) -> Result<Option<Value>, EvalFault>
-    ensures { Gives result (and_then (truth_of first.now) (λ b. Ok (decided_by decides b))) }
+    ensures { Gives result (and_then (as_truth first.now) (λ b. Ok (decided_by decides b))) }
 {
     let truth = to_truth(first)?;
     if truth == decides {
@@ -109,17 +109,17 @@ fn decided_by_truth(decides: bool, first: &Value) -> Result<Option<Value>, EvalF
     Ok(None)
 }
 
-/// A first operand that has to be an atom decides nothing.
+// A first operand that has to be an atom decides nothing.
 fn undecided_atom(first: &Value) -> Result<Option<Value>, EvalFault>
-    ensures { Gives result (and_then (atom_of first.now) (λ a. Ok None)) }
+    ensures { Gives result (and_then (as_atom first.now) (λ a. Ok None)) }
 {
     to_atom(first)?;
     Ok(None)
 }
 
-/// A first operand that has to be a number decides nothing.
+// A first operand that has to be a number decides nothing.
 fn undecided_number(first: &Value) -> Result<Option<Value>, EvalFault>
-    ensures { Gives result (and_then (number_of first.now) (λ a. Ok None)) }
+    ensures { Gives result (and_then (as_number first.now) (λ a. Ok None)) }
 {
     to_number(first)?;
     Ok(None)
@@ -146,7 +146,7 @@ pub fn decided(op: BinOp, first: &Value) -> Result<Option<Value>, EvalFault>
     }
 }
 
-/// The sum, unless it is out of range.
+// The sum, unless it is out of range.
 fn sum(left: i64, right: i64) -> Result<Value, EvalFault>
     ensures { Gives result (in_range (left +ℤ right)) }
 {
@@ -156,7 +156,7 @@ fn sum(left: i64, right: i64) -> Result<Value, EvalFault>
     }
 }
 
-/// The difference, unless it is out of range.
+// The difference, unless it is out of range.
 fn difference(left: i64, right: i64) -> Result<Value, EvalFault>
     ensures { Gives result (in_range (left -ℤ right)) }
 {
@@ -166,7 +166,7 @@ fn difference(left: i64, right: i64) -> Result<Value, EvalFault>
     }
 }
 
-/// The product, unless it is out of range.
+// The product, unless it is out of range.
 fn product(left: i64, right: i64) -> Result<Value, EvalFault>
     ensures { Gives result (in_range (left *ℤ right)) }
 {
@@ -176,7 +176,7 @@ fn product(left: i64, right: i64) -> Result<Value, EvalFault>
     }
 }
 
-/// The quotient rounded towards the lower number, for a divisor of at least 1.
+// The quotient rounded towards the lower number, for a divisor of at least 1.
 fn quotient_of(left: i64, right: i64) -> Result<Value, EvalFault>
     ensures { Gives result (divided quotient left right) }
 {
@@ -186,7 +186,7 @@ fn quotient_of(left: i64, right: i64) -> Result<Value, EvalFault>
     Ok(Value::One(Atom::Num(left.div_euclid(right))))
 }
 
-/// The remainder, from 0 on, for a divisor of at least 1.
+// The remainder, from 0 on, for a divisor of at least 1.
 fn remainder_of(left: i64, right: i64) -> Result<Value, EvalFault>
     ensures { Gives result (divided remainder left right) }
 {
@@ -196,14 +196,14 @@ fn remainder_of(left: i64, right: i64) -> Result<Value, EvalFault>
     Ok(Value::One(Atom::Num(left.rem_euclid(right))))
 }
 
-/// A truth value.
+// A truth value.
 fn truth_value(truth: bool) -> Result<Value, EvalFault>
     ensures { Gives result (Ok (meant.truth truth)) }
 {
     Ok(Value::One(Atom::Truth(truth)))
 }
 
-/// What an operator on two numbers gives.
+// What an operator on two numbers gives.
 fn on_numbers(op: BinOp, left: i64, right: i64) -> Result<Value, EvalFault>
     ensures { Gives result (on_two_numbers op left right) }
 {
@@ -224,7 +224,7 @@ fn on_numbers(op: BinOp, left: i64, right: i64) -> Result<Value, EvalFault>
     }
 }
 
-/// What an operator on two numbers gives of two values.
+// What an operator on two numbers gives of two values.
 fn applied_to_numbers(op: BinOp, first: &Value, second: &Value) -> Result<Value, EvalFault>
     ensures { Gives result (meant.on_numbers (on_two_numbers op) first.now (Ok second.now)) }
 {
@@ -233,7 +233,7 @@ fn applied_to_numbers(op: BinOp, first: &Value, second: &Value) -> Result<Value,
     on_numbers(op, left, right)
 }
 
-/// Whether both are one atom.
+// Whether both are one atom.
 #[tactic(auto, unfolding(csp_atoms::specs::Order::same))]
 fn is_one_atom(left: &Atom, right: &Atom) -> bool
     ensures { result ≡ same left.now right.now }
@@ -241,7 +241,7 @@ fn is_one_atom(left: &Atom, right: &Atom) -> bool
     atom::order(left, right).is_eq()
 }
 
-/// What `==` gives of two values.
+// What `==` gives of two values.
 fn equal(first: &Value, second: &Value) -> Result<Value, EvalFault>
     ensures { Gives result (meant.on_atoms same first.now (Ok second.now)) }
 {
@@ -253,7 +253,7 @@ fn equal(first: &Value, second: &Value) -> Result<Value, EvalFault>
     truth_value(is_one_atom(&left, &right))
 }
 
-/// What `!=` gives of two values.
+// What `!=` gives of two values.
 fn unequal(first: &Value, second: &Value) -> Result<Value, EvalFault>
     ensures { Gives result (meant.on_atoms (λ a b. not (same a b)) first.now (Ok second.now)) }
 {
@@ -265,7 +265,7 @@ fn unequal(first: &Value, second: &Value) -> Result<Value, EvalFault>
     truth_value(!is_one_atom(&left, &right))
 }
 
-/// What `or`, for true, and `and`, for false, give of two values.
+// What `or`, for true, and `and`, for false, give of two values.
 fn joined(decides: bool, first: &Value, second: &Value) -> Result<Value, EvalFault>
     ensures { Gives result (meant.on_truths decides first.now (Ok second.now)) }
 {

@@ -5,7 +5,7 @@ ghost use Rattle.csp_atoms.specs.declared.atom.Atom.TheVariants as atom;
 ghost use Rattle.csp_program.specs.Atoms.{added, all_added, events_from, limited, numbers_from};
 ghost use Rattle.csp_program.specs.Outcome.{and_then};
 ghost use Rattle.csp_program.specs.Value as meant;
-ghost use Rattle.csp_program.specs.Value.{atom_of, set_binary};
+ghost use Rattle.csp_program.specs.Value.{as_atom, set_binary};
 ghost use Rattle.value_operators.specs.Gives.{Gives};
 
 use crate::fault::EvalFault;
@@ -15,7 +15,7 @@ use csp_base::{Event, SetOp};
 use csp_program::ValueKind;
 use std::alloc::Global;
 
-/// The greatest number of elements of a set.
+// The greatest number of elements of a set.
 const MOST_ELEMENTS: usize = 16_384;
 
 const KIND: EvalFault = EvalFault::Value {
@@ -26,7 +26,7 @@ const SET_LIMIT: EvalFault = EvalFault::Value {
     kind: ValueKind::SetLimit,
 };
 
-/// The set, unless it has too many elements.
+// The set, unless it has too many elements.
 fn within_limit(atoms: AtomSet) -> Result<AtomSet, EvalFault>
     ensures { Gives result (limited atoms) }
 {
@@ -36,7 +36,7 @@ fn within_limit(atoms: AtomSet) -> Result<AtomSet, EvalFault>
     Ok(atoms)
 }
 
-/// The set with one more atom.
+// The set with one more atom.
 fn with_one_more(mut atoms: AtomSet, one: Atom) -> Result<AtomSet, EvalFault>
     ensures { Gives result (added atoms one) }
 {
@@ -49,7 +49,7 @@ fn with_one_more(mut atoms: AtomSet, one: Atom) -> Result<AtomSet, EvalFault>
 
 /// The set with the atom that a value is.
 pub fn with_item(atoms: AtomSet, item: &Value) -> Result<AtomSet, EvalFault>
-    ensures { Gives result (and_then (atom_of item.now) (λ a. added atoms a)) }
+    ensures { Gives result (and_then (as_atom item.now) (λ a. added atoms a)) }
 {
     let one = to_atom(item)?;
     with_one_more(atoms, one)
@@ -66,7 +66,7 @@ pub fn constants(alloc: Global, numbers: &[u32]) -> Result<AtomSet, EvalFault>
     Ok(atoms)
 }
 
-/// The event with the number `first + place`. Event tables stand in memory, so that their numbers have 32 bits.
+// The event with the number `first + place`. Event tables stand in memory, so that their numbers have 32 bits.
 fn event(first: u64, place: u64) -> Result<Atom, EvalFault>
     ensures { Gives result (Ok (atom.Event (first + place))) }
 {
@@ -118,7 +118,7 @@ pub fn combined(
     }
 }
 
-/// The number `first + place`.
+// The number `first + place`.
 fn number_at(first: i64, place: u16) -> Atom
     requires fit { (first +ℤ pos place) <ℤ pos (2 ^ 63) }
     ensures { result ≡ atom.Num (first +ℤ pos place) }
@@ -126,7 +126,7 @@ fn number_at(first: i64, place: u16) -> Atom
     Atom::Num(first + i64::from(place))
 }
 
-/// So many numbers from `first` on, few enough for a set.
+// So many numbers from `first` on, few enough for a set.
 fn numbers_on(alloc: Global, first: i64, count: u16) -> Result<AtomSet, EvalFault>
     requires few { count ≤ 16384 }
     requires fit { (first +ℤ pos count) ≤ℤ pos (2 ^ 63) }
@@ -140,7 +140,7 @@ fn numbers_on(alloc: Global, first: i64, count: u16) -> Result<AtomSet, EvalFaul
     Ok(atoms)
 }
 
-/// How far `last` is from `first`, if that is not too far for a set.
+// How far `last` is from `first`, if that is not too far for a set.
 fn distance(first: i64, last: i64) -> Option<u16>
     requires { first ≤ℤ last }
     ensures { MatchOption result (pos 16384 ≤ℤ (last -ℤ first)) (λ d. ((first +ℤ pos d) ≡ last) × (d < 16384)) }

@@ -53,6 +53,7 @@ bare_in_order = record {
   closed_root = leaf_free;
   no_circle = λ n r. no_definition r;
   table = inl (refl, refl);
+  firsts = λ c channel h. absurd (cc);
 }
 
 pub still_in_order : (content : Content) → content ≡ bare → IsInOrder content

@@ -1,7 +1,6 @@
 //! What expressions come to, compared with what is written beside them.
 
-use crate::content::{sample, unfinished};
-use crate::reading::{UNREADABLE, read};
+use crate::reading::{UNREADABLE, add, read};
 use csp_atoms::{Atom, Value};
 use csp_base::Event;
 use csp_program::{Content, ValueKind};
@@ -25,125 +24,70 @@ fn kind(word: &str) -> Option<ValueKind> {
     }
 }
 
-fn number(word: &str) -> Result<i64, EvalFault> {
-    match word.parse::<i64>() {
-        Ok(number) => Ok(number),
-        Err(_) => Err(UNREADABLE),
+// The atom that the word stands for.
+fn atom(word: &str) -> Result<Atom, EvalFault> {
+    if word == "true" || word == "false" {
+        return Ok(Atom::Truth(word == "true"));
     }
-}
-
-fn place(digits: &str) -> Result<u32, EvalFault> {
-    match digits.parse::<u32>() {
-        Ok(number) => Ok(number),
-        Err(_) => Err(UNREADABLE),
+    let digits = word.trim_start_matches('#').trim_start_matches('k');
+    if word == digits {
+        let number = word.parse::<i64>().or(Err(UNREADABLE))?;
+        return Ok(Atom::Num(number));
     }
-}
-
-fn constant_or_number(word: &str) -> Result<Atom, EvalFault> {
-    match word.strip_prefix('k') {
-        Some(digits) => Ok(Atom::Const(place(digits)?)),
-        None => Ok(Atom::Num(number(word)?)),
+    let number = digits.parse::<u32>().or(Err(UNREADABLE))?;
+    if word.starts_with('k') {
+        Ok(Atom::Const(number))
+    } else {
+        Ok(Atom::Event(Event(number)))
     }
-}
-
-fn other_than_truth(word: &str) -> Result<Atom, EvalFault> {
-    match word.strip_prefix('#') {
-        Some(digits) => Ok(Atom::Event(Event(place(digits)?))),
-        None => constant_or_number(word),
-    }
-}
-
-/// The atom that the word stands for.
-pub(crate) fn atom(word: &str) -> Result<Atom, EvalFault> {
-    match word {
-        "true" => Ok(Atom::Truth(true)),
-        "false" => Ok(Atom::Truth(false)),
-        _ => other_than_truth(word),
-    }
-}
-
-fn is_brace(word: &str) -> bool {
-    word == "{" || word == "}"
 }
 
 // The atoms that the words stand for, in braces or not.
 fn atoms(alloc: Global, text: &str) -> Result<Vec<Atom>, EvalFault> {
     let mut made = Vec::new(alloc);
     for word in text.split_whitespace() {
-        if !is_brace(word) {
-            made.push(atom(word.trim_end_matches(','))?)?;
+        if word != "{" && word != "}" {
+            add(&mut made, atom(word.trim_end_matches(','))?)?;
         }
     }
     Ok(made)
 }
 
-// Whether the value is the one that is written so.
-fn is_value(alloc: Global, value: &Value, wanted: &str) -> Result<bool, EvalFault> {
-    let atoms = atoms(alloc, wanted)?;
-    let is_set = wanted.starts_with('{');
-    match value {
-        Value::One(atom) => Ok(!is_set && atoms.as_slice() == [*atom].as_slice()),
-        Value::Many(set) => Ok(is_set && atoms.as_slice() == set.as_slice()),
-    }
-}
-
-// Whether there is no value, for a reason of this kind.
-fn has_fault(answer: &Result<Value, EvalFault>, kind: ValueKind) -> bool {
-    match answer {
-        Ok(_) => false,
-        Err(fault) => *fault == EvalFault::Value { kind },
-    }
-}
-
-/// Whether the answer is the one that is written so.
-pub(crate) fn is_answer(
+// Whether the answer is the one that is written so.
+fn is_answer(
     alloc: Global,
     answer: &Result<Value, EvalFault>,
     wanted: &str,
 ) -> Result<bool, EvalFault> {
-    match (kind(wanted), answer) {
-        (Some(kind), _) => Ok(has_fault(answer, kind)),
-        (None, Ok(value)) => is_value(alloc, value, wanted),
-        (None, Err(_)) => Ok(false),
+    if let Some(kind) = kind(wanted) {
+        return Ok(matches!(answer, Err(fault) if *fault == EvalFault::Value { kind }));
+    }
+    let atoms = atoms(alloc, wanted)?;
+    let is_set = wanted.starts_with('{');
+    match answer {
+        Ok(Value::One(atom)) => Ok(!is_set && atoms.as_slice() == [*atom].as_slice()),
+        Ok(Value::Many(set)) => Ok(is_set && atoms.as_slice() == set.as_slice()),
+        Err(_) => Ok(false),
     }
 }
 
-/// Whether the expression comes to what is wanted, over what a program holds.
-pub(crate) fn comes_to(
-    alloc: Global,
-    content: &Content,
-    text: &str,
-    wanted: &str,
-) -> Result<bool, EvalFault> {
-    let expr = read(alloc, text)?;
+// Whether the expression comes to what is beside it, over what a program holds.
+fn comes_to(alloc: Global, content: &Content, row: &Row) -> Result<bool, EvalFault> {
+    let expr = read(alloc, row.0)?;
     let answer = eval_in(alloc, content, expr.get());
-    is_answer(alloc, &answer, wanted)
+    is_answer(alloc, &answer, row.1)
 }
 
-fn first_wrong(
+/// The first of the expressions that does not come to what is beside it.
+pub(crate) fn wrong(
     alloc: Global,
     content: &Content,
     rows: &[Row],
 ) -> Result<Option<&'static str>, EvalFault> {
     for row in rows {
-        if !comes_to(alloc, content, row.0, row.1)? {
+        if !comes_to(alloc, content, row)? {
             return Ok(Some(row.0));
         }
     }
     Ok(None)
-}
-
-/// The first of the expressions that does not come to what is beside it, over the sample.
-pub(crate) fn wrong(alloc: Global, rows: &[Row]) -> Result<Option<&'static str>, EvalFault> {
-    let content = sample(alloc)?;
-    first_wrong(alloc, content.get(), rows)
-}
-
-/// The same over a program whose channel has no field sets yet.
-pub(crate) fn wrong_in_unfinished(
-    alloc: Global,
-    rows: &[Row],
-) -> Result<Option<&'static str>, EvalFault> {
-    let content = unfinished(alloc)?;
-    first_wrong(alloc, content.get(), rows)
 }

@@ -1,4 +1,4 @@
-//! Tests of the values of expressions, and of what they are put together from.
+//! Tests of the values of expressions.
 //!
 //! They stand here, and not beside what they test, so that those crates are not proved a second time for their sake.
 #![tactic(auto)]
@@ -6,18 +6,10 @@
 #[cfg(test)]
 mod answers;
 #[cfg(test)]
-mod atoms;
-#[cfg(test)]
 mod content;
 #[cfg(test)]
-mod faults;
-#[cfg(test)]
-mod limits;
-#[cfg(test)]
-mod operators;
+mod programs;
 #[cfg(test)]
 mod reading;
 #[cfg(test)]
-mod sets;
-#[cfg(test)]
-mod words;
+mod rows;

@@ -1,6 +1,8 @@
-//! Expressions read from their words.
+//! Expressions read from their words, each operator after its operands.
+//!
+//! What takes lists of parts says after a colon how many parts and how many generators it takes: `9 4 f:20` is `f(9, 4)`, and
+//! `x S x<- comp:11` is `{x | x <- S}`. The front of an event is written `@c:10`, and a condition among generators ends with `where`.
 
-use crate::words::{Step, meant, opens};
 use containers::{Boxed, Items};
 use csp_base::{BinOp, SetOp};
 use csp_program::{EventPart, Expr, Gen, ValueKind};
@@ -12,14 +14,23 @@ pub(crate) const UNREADABLE: EvalFault = EvalFault::Value {
     kind: ValueKind::EmptyChoice,
 };
 
-// A step that waits for parts, and how many parts stood before it.
-#[derive(Clone, Copy)]
-struct Waiting {
-    asked: Step,
-    exprs: usize,
-    gens: usize,
-    fronts: usize,
-}
+// A word, and the number that it stands for.
+type Entry = (&'static str, u32);
+
+// `z` is bound nowhere.
+const NAMES: &[Entry] = &[("x", 1), ("y", 2), ("z", 9)];
+
+const CONSTANTS: &[Entry] = &[("k0", 0), ("k1", 1)];
+
+// `P` is a process, and `Q` no definition.
+const SETS: &[Entry] = &[("S", 1), ("K", 2), ("P", 3), ("Q", 9)];
+
+const DEFINITIONS: &[Entry] = &[("f", 0), ("process", 3), ("g", 4), ("network", 5)];
+
+// `n` is no channel.
+const CHANNELS: &[Entry] = &[("c", 0), ("d", 1), ("k", 2), ("e", 3), ("n", 9)];
+
+const FRONTS: &[Entry] = &[("@c", 0), ("@d", 1), ("@k", 2), ("@e", 3), ("@n", 9)];
 
 // What the words so far have left.
 #[derive(Drop)]
@@ -27,7 +38,16 @@ struct Left {
     exprs: Vec<Expr>,
     gens: Vec<Gen>,
     fronts: Vec<EventPart>,
-    waiting: Vec<Waiting>,
+}
+
+// The number of the word in a table.
+fn place(table: &[Entry], word: &str) -> Option<u32> {
+    for row in table {
+        if row.0 == word {
+            return Some(row.1);
+        }
+    }
+    None
 }
 
 // The expression that came last.
@@ -38,34 +58,60 @@ fn last(alloc: Global, exprs: &mut Vec<Expr>) -> Result<Boxed<Expr>, EvalFault> 
     }
 }
 
-// The parts that came after so many.
-fn since<T: Drop>(parts: &mut Vec<T>, count: usize) -> Result<Items<T>, EvalFault> {
+// The last parts, so many of them.
+fn lasts<T: Drop>(parts: &mut Vec<T>, count: usize) -> Result<Items<T>, EvalFault> {
     if parts.len() < count {
         return Err(UNREADABLE);
     }
-    let rest = parts.split_off(count)?;
+    let rest = parts.split_off(parts.len() - count)?;
     Ok(Items::from_vec(rest))
 }
 
-fn add(exprs: &mut Vec<Expr>, expr: Expr) -> Result<(), EvalFault> {
-    exprs.push(expr)?;
-    Ok(())
+/// Adds a part at the end.
+pub(crate) fn add<T: Drop>(parts: &mut Vec<T>, part: T) -> Result<(), EvalFault> {
+    match parts.push(part) {
+        Ok(()) => Ok(()),
+        Err(_) => Err(EvalFault::NoMemory),
+    }
 }
 
-fn negative(alloc: Global, exprs: &mut Vec<Expr>) -> Result<(), EvalFault> {
-    let a = last(alloc, exprs)?;
-    add(exprs, Expr::Neg(a))
+// A word that takes no part.
+fn leaf(exprs: &mut Vec<Expr>, word: &str) -> Result<(), EvalFault> {
+    if word == "true" || word == "false" {
+        return add(exprs, Expr::Truth(word == "true"));
+    }
+    if let Some(slot) = place(NAMES, word) {
+        return add(exprs, Expr::Bound(slot));
+    }
+    if let Some(number) = place(CONSTANTS, word) {
+        return add(exprs, Expr::Const(number));
+    }
+    if let Some(def) = place(SETS, word) {
+        return add(exprs, Expr::SetName(def));
+    }
+    match word.parse::<i64>() {
+        Ok(number) => add(exprs, Expr::Num(number)),
+        Err(_) => Err(UNREADABLE),
+    }
 }
 
-fn inverse(alloc: Global, exprs: &mut Vec<Expr>) -> Result<(), EvalFault> {
-    let a = last(alloc, exprs)?;
-    add(exprs, Expr::Not(a))
-}
-
-fn binary(alloc: Global, exprs: &mut Vec<Expr>, op: BinOp) -> Result<(), EvalFault> {
-    let b = last(alloc, exprs)?;
-    let a = last(alloc, exprs)?;
-    add(exprs, Expr::Binary(op, a, b))
+fn operator(word: &str) -> Option<BinOp> {
+    match word {
+        "or" => Some(BinOp::Or),
+        "and" => Some(BinOp::And),
+        "==" => Some(BinOp::Eq),
+        "!=" => Some(BinOp::Ne),
+        "<" => Some(BinOp::Lt),
+        "<=" => Some(BinOp::Le),
+        ">" => Some(BinOp::Gt),
+        ">=" => Some(BinOp::Ge),
+        "+" => Some(BinOp::Add),
+        "-" => Some(BinOp::Sub),
+        "*" => Some(BinOp::Mul),
+        "/" => Some(BinOp::Div),
+        "%" => Some(BinOp::Rem),
+        _ => None,
+    }
 }
 
 fn between_sets(alloc: Global, exprs: &mut Vec<Expr>, op: SetOp) -> Result<(), EvalFault> {
@@ -74,226 +120,96 @@ fn between_sets(alloc: Global, exprs: &mut Vec<Expr>, op: SetOp) -> Result<(), E
     add(exprs, Expr::SetOp(op, a, b))
 }
 
-fn range(alloc: Global, exprs: &mut Vec<Expr>) -> Result<(), EvalFault> {
-    let b = last(alloc, exprs)?;
-    let a = last(alloc, exprs)?;
-    add(exprs, Expr::Range(a, b))
-}
-
-fn choice(alloc: Global, exprs: &mut Vec<Expr>) -> Result<(), EvalFault> {
-    let b = last(alloc, exprs)?;
-    let a = last(alloc, exprs)?;
-    let c = last(alloc, exprs)?;
-    add(exprs, Expr::If(c, a, b))
-}
-
-fn call(exprs: &mut Vec<Expr>, def: u32, count: usize) -> Result<(), EvalFault> {
-    let args = since(exprs, count)?;
-    add(exprs, Expr::Call(def, args))
-}
-
-fn event(exprs: &mut Vec<Expr>, channel: u32, count: usize) -> Result<(), EvalFault> {
-    let fields = since(exprs, count)?;
-    add(exprs, Expr::Event(channel, fields))
-}
-
-fn front(left: &mut Left, channel: u32, count: usize) -> Result<(), EvalFault> {
-    let fields = since(&mut left.exprs, count)?;
-    left.fronts.push(EventPart { channel, fields })?;
-    Ok(())
-}
-
-fn display(exprs: &mut Vec<Expr>, count: usize) -> Result<(), EvalFault> {
-    let items = since(exprs, count)?;
-    add(exprs, Expr::Display(items))
-}
-
-fn comprehension(left: &mut Left, begun: Waiting) -> Result<(), EvalFault> {
-    let gens = since(&mut left.gens, begun.gens)?;
-    let items = since(&mut left.exprs, begun.exprs)?;
-    add(&mut left.exprs, Expr::Comp(items, gens))
-}
-
-fn set(left: &mut Left, begun: Waiting) -> Result<(), EvalFault> {
-    if left.gens.len() == begun.gens {
-        display(&mut left.exprs, begun.exprs)
-    } else {
-        comprehension(left, begun)
-    }
-}
-
-fn production(left: &mut Left, begun: Waiting) -> Result<(), EvalFault> {
-    let gens = since(&mut left.gens, begun.gens)?;
-    let fronts = since(&mut left.fronts, begun.fronts)?;
-    add(&mut left.exprs, Expr::Product(fronts, gens))
-}
-
-fn slot(name: &Expr) -> Result<u32, EvalFault> {
-    match name {
-        Expr::Bound(slot) => Ok(*slot),
-        _ => Err(UNREADABLE),
-    }
-}
-
-fn generator(alloc: Global, left: &mut Left) -> Result<(), EvalFault> {
-    let set = last(alloc, &mut left.exprs)?;
-    let name = last(alloc, &mut left.exprs)?;
-    let slot = slot(name.get())?;
-    left.gens.push(Gen::From(slot, set.into_inner()))?;
-    Ok(())
-}
-
-fn condition(alloc: Global, left: &mut Left) -> Result<(), EvalFault> {
-    let condition = last(alloc, &mut left.exprs)?;
-    left.gens.push(Gen::Cond(condition.into_inner()))?;
-    Ok(())
-}
-
-// An operator has its operands.
-fn apply(alloc: Global, left: &mut Left, asked: Step) -> Result<(), EvalFault> {
-    match asked {
-        Step::Neg => negative(alloc, &mut left.exprs),
-        Step::Not => inverse(alloc, &mut left.exprs),
-        Step::Op(op) => binary(alloc, &mut left.exprs, op),
-        Step::From => generator(alloc, left),
-        Step::Where => condition(alloc, left),
-        _ => Err(UNREADABLE),
-    }
-}
-
-// A bracket ends.
-fn enclose(alloc: Global, left: &mut Left, begun: Waiting) -> Result<(), EvalFault> {
-    match begun.asked {
-        Step::Group => Ok(()),
-        Step::If => choice(alloc, &mut left.exprs),
-        Step::Range => range(alloc, &mut left.exprs),
-        Step::Sets(op) => between_sets(alloc, &mut left.exprs, op),
-        Step::Call(def) => call(&mut left.exprs, def, begun.exprs),
-        Step::Event(channel) => event(&mut left.exprs, channel, begun.exprs),
-        Step::Front(channel) => front(left, channel, begun.exprs),
-        Step::Set => set(left, begun),
-        Step::Product => production(left, begun),
-        _ => Err(UNREADABLE),
-    }
-}
-
-// The operator that waits within the innermost bracket that is open, the last first.
-fn last_operator(waiting: &mut Vec<Waiting>) -> Option<Step> {
-    match waiting.last() {
-        Some(begun) if !opens(begun.asked) => {}
-        _ => return None,
-    }
-    match waiting.pop() {
-        Some(begun) => Some(begun.asked),
-        None => None,
-    }
-}
-
-// What stands within the innermost bracket that is open is whole so far.
-fn finish(alloc: Global, left: &mut Left) -> Result<(), EvalFault> {
-    for _ in 0..left.waiting.len() {
-        match last_operator(&mut left.waiting) {
-            Some(asked) => apply(alloc, left, asked)?,
-            None => break,
-        }
-    }
-    Ok(())
-}
-
-// The innermost bracket ends.
-fn close(alloc: Global, left: &mut Left) -> Result<(), EvalFault> {
-    finish(alloc, left)?;
-    match left.waiting.pop() {
-        Some(begun) => enclose(alloc, left, begun),
-        None => Err(UNREADABLE),
-    }
-}
-
-// The set that is open is a range.
-fn divide(alloc: Global, left: &mut Left) -> Result<(), EvalFault> {
-    finish(alloc, left)?;
-    match left.waiting.pop() {
-        Some(
-            Waiting {
-                asked: Step::Set,
-                ..
-            },
-        ) => await_parts(left, Step::Range),
-        _ => Err(UNREADABLE),
-    }
-}
-
-// A channel among fronts asks for one.
-fn in_place(around: Option<Step>, asked: Step) -> Step {
-    match (around, asked) {
-        (Some(Step::Product), Step::Event(channel)) => Step::Front(channel),
-        _ => asked,
-    }
-}
-
-// Whether the one operator takes what came last away from the other.
-fn meet(before: Option<Step>, asked: Step) -> bool {
-    matches!(before, Some(Step::Op(_) | Step::Neg | Step::Not)) && matches!(asked, Step::Op(_))
-}
-
-fn await_parts(left: &mut Left, asked: Step) -> Result<(), EvalFault> {
-    let begun = Waiting {
-        asked,
-        exprs: left.exprs.len(),
-        gens: left.gens.len(),
-        fronts: left.fronts.len(),
+// A word that takes two expressions, or none.
+fn take_two(alloc: Global, exprs: &mut Vec<Expr>, word: &str) -> Result<(), EvalFault> {
+    let Some(op) = operator(word) else {
+        return leaf(exprs, word);
     };
-    left.waiting.push(begun)?;
-    Ok(())
+    let b = last(alloc, exprs)?;
+    let a = last(alloc, exprs)?;
+    add(exprs, Expr::Binary(op, a, b))
 }
 
-fn begin(left: &mut Left, asked: Step) -> Result<(), EvalFault> {
-    let before = left.waiting.last().map(|begun| begun.asked);
-    if meet(before, asked) {
-        return Err(UNREADABLE);
+// A word that takes expressions alone.
+fn take_few(alloc: Global, exprs: &mut Vec<Expr>, word: &str) -> Result<(), EvalFault> {
+    match word {
+        "neg" => {
+            let a = last(alloc, exprs)?;
+            add(exprs, Expr::Neg(a))
+        }
+        "not" => {
+            let a = last(alloc, exprs)?;
+            add(exprs, Expr::Not(a))
+        }
+        "if" => {
+            let b = last(alloc, exprs)?;
+            let a = last(alloc, exprs)?;
+            let c = last(alloc, exprs)?;
+            add(exprs, Expr::If(c, a, b))
+        }
+        ".." => {
+            let b = last(alloc, exprs)?;
+            let a = last(alloc, exprs)?;
+            add(exprs, Expr::Range(a, b))
+        }
+        "union" => between_sets(alloc, exprs, SetOp::Union),
+        "inter" => between_sets(alloc, exprs, SetOp::Inter),
+        "diff" => between_sets(alloc, exprs, SetOp::Diff),
+        _ => take_two(alloc, exprs, word),
     }
-    await_parts(left, in_place(before, asked))
 }
 
-fn take(alloc: Global, left: &mut Left, asked: Step) -> Result<(), EvalFault> {
-    match asked {
-        Step::Num(number) => add(&mut left.exprs, Expr::Num(number)),
-        Step::Truth(truth) => add(&mut left.exprs, Expr::Truth(truth)),
-        Step::Const(number) => add(&mut left.exprs, Expr::Const(number)),
-        Step::Bound(slot) => add(&mut left.exprs, Expr::Bound(slot)),
-        Step::SetName(def) => add(&mut left.exprs, Expr::SetName(def)),
-        Step::Next => finish(alloc, left),
-        Step::To => divide(alloc, left),
-        Step::Close => close(alloc, left),
-        _ => begin(left, asked),
+// A generator, or what takes expressions alone.
+fn take(alloc: Global, left: &mut Left, word: &str) -> Result<(), EvalFault> {
+    if word == "where" {
+        let condition = last(alloc, &mut left.exprs)?;
+        return add(&mut left.gens, Gen::Cond(condition.into_inner()));
     }
+    let Some(slot) = word.strip_suffix("<-").and_then(|name| place(NAMES, name)) else {
+        return take_few(alloc, &mut left.exprs, word);
+    };
+    let set = last(alloc, &mut left.exprs)?;
+    add(&mut left.gens, Gen::From(slot, set.into_inner()))
+}
+
+// What takes expressions, so many of them, and generators.
+fn take_items(left: &mut Left, word: &str, items: usize, gens: usize) -> Result<(), EvalFault> {
+    let parts = lasts(&mut left.exprs, items)?;
+    if let Some(def) = place(DEFINITIONS, word) {
+        return add(&mut left.exprs, Expr::Call(def, parts));
+    }
+    if let Some(channel) = place(CHANNELS, word) {
+        return add(&mut left.exprs, Expr::Event(channel, parts));
+    }
+    if let Some(channel) = place(FRONTS, word) {
+        let front = EventPart {
+            channel,
+            fields: parts,
+        };
+        return add(&mut left.fronts, front);
+    }
+    if word == "set" {
+        return add(&mut left.exprs, Expr::Display(parts));
+    }
+    let gens = lasts(&mut left.gens, gens)?;
+    add(&mut left.exprs, Expr::Comp(parts, gens))
 }
 
 fn take_word(alloc: Global, left: &mut Left, word: &str) -> Result<(), EvalFault> {
-    match meant(word) {
-        Some(asked) => take(alloc, left, asked),
-        None => Err(UNREADABLE),
-    }
-}
-
-// Takes a word and the comma after it, if one is there.
-fn take_item(alloc: Global, left: &mut Left, word: &str) -> Result<(), EvalFault> {
-    match word.strip_suffix(',') {
-        Some(front) => {
-            take_word(alloc, left, front)?;
-            finish(alloc, left)
-        }
-        None => take_word(alloc, left, word),
-    }
-}
-
-// The one expression that is left, where nothing waits.
-fn only(alloc: Global, left: &mut Left) -> Result<Boxed<Expr>, EvalFault> {
-    let is_over = left.waiting.is_empty() && left.gens.is_empty() && left.fronts.is_empty();
-    if !is_over || left.exprs.len() != 1 {
+    let Some((name, counts)) = word.split_once(':') else {
+        return take(alloc, left, word);
+    };
+    let Ok(counts) = counts.parse::<u8>() else {
         return Err(UNREADABLE);
+    };
+    let items = (counts / 10) as usize;
+    let gens = (counts % 10) as usize;
+    if name != "prod" {
+        return take_items(left, name, items, gens);
     }
-    last(alloc, &mut left.exprs)
+    let gens = lasts(&mut left.gens, gens)?;
+    let parts = lasts(&mut left.fronts, items)?;
+    add(&mut left.exprs, Expr::Product(parts, gens))
 }
 
 /// The expression that the text writes.
@@ -302,11 +218,12 @@ pub(crate) fn read(alloc: Global, text: &str) -> Result<Boxed<Expr>, EvalFault> 
         exprs: Vec::new(alloc),
         gens: Vec::new(alloc),
         fronts: Vec::new(alloc),
-        waiting: Vec::new(alloc),
     };
     for word in text.split_whitespace() {
-        take_item(alloc, &mut left, word)?;
+        take_word(alloc, &mut left, word)?;
     }
-    finish(alloc, &mut left)?;
-    only(alloc, &mut left)
+    if left.exprs.len() != 1 || !left.gens.is_empty() || !left.fronts.is_empty() {
+        return Err(UNREADABLE);
+    }
+    last(alloc, &mut left.exprs)
 }

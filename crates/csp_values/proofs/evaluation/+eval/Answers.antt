@@ -5,12 +5,12 @@ use Rattle.value_operators.specs.Env.{env_in, with_bound}
 use Rattle.value_operators.proofs.Faults.{passed}
 use Rattle.value_operators.proofs.NameLaws.{with_bound-last}
 use Rattle.csp_values.specs.Worth.{use_worth, with_items, with_fronts, walk_worth, each_worth, gathered_of}
-use Rattle.csp_values.proofs.Arms.{same, same_tally, part_passed, walk_passed, worth_num, worth_truth, worth_const, worth_bound, worth_lit, worth_neg, worth_not, worth_binary, worth_if, worth_call, worth_set_name, worth_event, worth_display, worth_range, worth_set_op, worth_comp, worth_product, datum_worth, datatype_worth, front_of_sets, front_without_sets, front_fault, front_added, binding_item_fault, binding_with_items, walk_from, walk_from_set, walk_cond, walk_cond_truth}
+use Rattle.csp_values.proofs.Arms.{lacking, not_lacking, same, same_tally, part_passed, walk_passed, worth_num, worth_truth, worth_const, worth_bound, worth_lit, worth_neg, worth_not, worth_binary, worth_if, worth_call, worth_set_name, worth_event, worth_display, worth_range, worth_set_op, worth_comp, worth_product, datum_worth, datatype_worth, front_of_sets, front_without_sets, front_fault, front_added, binding_item_fault, binding_with_items, walk_from, walk_from_set, walk_cond, walk_cond_truth}
 use Rattle.csp_values.proofs.Equations.{body-Nametype, body-Process, body-Network, use-none_left, use-unknown, use-known, fronts-nil, with_items-nil, binding-full, walk-nil, each-nil}
 use Rattle.csp_values.proofs.Falls.{weight_neg, weight_not, weight_binary, weight_if, weight_call, weight_set_name, weight_event, weight_display, weight_range, weight_set_op, weight_comp, weight_product, weight_from, weight_cond, weight_gens, weight_part, use_falls}
 use Rattle.csp_values.proofs.FieldSteps.{fields_after, fields_begin, fields_end, fields_too_many, field_fault, field_refused, field_taken}
 use Rattle.csp_values.proofs.Steps.{nothing, nothing_left, worths_after, worths_begin, worths_end, worths_fault, worths_next, items_fault, items_refused, items_taken, fronts_fault, fronts_next, each_fault, each_step}
-use Rattle.csp_values.proofs.Weights.{weight, weight_in, part_weight_in}
+use Rattle.csp_values.proofs.Weights.{weights-nil, weight, weight_in, part_weight_in}
 use Rattle.csp_values.proofs.evaluation.+eval.Goals as goal
 
 pub add_front-eval_front-requires : goal.add_front-eval_front-requires
@@ -112,8 +112,8 @@ eval_expr-eval_range-requires t c = (omega (arith, weight_range c.args.expr.now 
 pub eval_expr-eval_comprehension-requires : goal.eval_expr-eval_comprehension-requires
 eval_expr-eval_comprehension-requires t c = (omega (arith, weight_comp c.args.expr.now c.in-Comp.items c.as_slice-in-Comp.result.now c.in-Comp.gens c.as_slice-in-Comp-2.result.now c.in-Comp.is c.as_slice-in-Comp.ensures c.as_slice-in-Comp-2.ensures), tt)
 
-pub eval_expr-eval_comprehension-requires-in-Product : goal.eval_expr-eval_comprehension-requires-in-Product
-eval_expr-eval_comprehension-requires-in-Product t c = (omega (arith, weight_product c.args.expr.now c.in-Product.parts c.as_slice-in-Product.result.now c.in-Product.gens c.as_slice-in-Product-2.result.now c.in-Product.is c.as_slice-in-Product.ensures c.as_slice-in-Product-2.ensures), tt)
+pub eval_expr-eval_product-requires : goal.eval_expr-eval_product-requires
+eval_expr-eval_product-requires t c = (omega (arith, weight_product c.args.expr.now c.in-Product.parts c.as_slice-in-Product.result.now c.in-Product.gens c.as_slice-in-Product-2.result.now c.in-Product.is c.as_slice-in-Product.ensures c.as_slice-in-Product-2.ensures), tt)
 
 pub eval_expr-eval_set_op-requires : goal.eval_expr-eval_set_op-requires
 eval_expr-eval_set_op-requires t c = (omega (arith, weight_set_op c.args.expr.now c.in-SetOp.op c.in-SetOp.a c.in-SetOp.b c.get-in-SetOp.result.now c.get-in-SetOp-2.result.now c.in-SetOp.is c.get-in-SetOp.ensures c.get-in-SetOp-2.ensures), tt)
@@ -164,7 +164,7 @@ pub eval_expr-returns-in-Comp : goal.eval_expr-returns-in-Comp
 eval_expr-returns-in-Comp t c = same _ _ _ (worth_comp c.args.scope.now.content.now c.args.scope.now.uses (env_in c.args.names.now) c.args.expr.now c.in-Comp.items c.as_slice-in-Comp.result.now c.in-Comp.gens c.as_slice-in-Comp-2.result.now c.in-Comp.is c.as_slice-in-Comp.ensures c.as_slice-in-Comp-2.ensures) c.eval_comprehension.ensures
 
 pub eval_expr-returns-in-Product : goal.eval_expr-returns-in-Product
-eval_expr-returns-in-Product t c = same _ _ _ (worth_product c.args.scope.now.content.now c.args.scope.now.uses (env_in c.args.names.now) c.args.expr.now c.in-Product.parts c.as_slice-in-Product.result.now c.in-Product.gens c.as_slice-in-Product-2.result.now c.in-Product.is c.as_slice-in-Product.ensures c.as_slice-in-Product-2.ensures) c.eval_comprehension-in-Product.ensures
+eval_expr-returns-in-Product t c = same _ _ _ (worth_product c.args.scope.now.content.now c.args.scope.now.uses (env_in c.args.names.now) c.args.expr.now c.in-Product.parts c.as_slice-in-Product.result.now c.in-Product.gens c.as_slice-in-Product-2.result.now c.in-Product.is c.as_slice-in-Product.ensures c.as_slice-in-Product-2.ensures) c.eval_product.ensures
 
 pub eval_expr-returns-in-SetOp : goal.eval_expr-returns-in-SetOp
 eval_expr-returns-in-SetOp t c = same _ _ _ (worth_set_op c.args.scope.now.content.now c.args.scope.now.uses (env_in c.args.names.now) c.args.expr.now c.in-SetOp.op c.in-SetOp.a c.in-SetOp.b c.get-in-SetOp.result.now c.get-in-SetOp-2.result.now c.in-SetOp.is c.get-in-SetOp.ensures c.get-in-SetOp-2.ensures) c.eval_set_op.ensures
@@ -270,3 +270,13 @@ walk_first-returns-then-holds t c = same_tally _ _ _ (walk_cond_truth c.args.sco
 
 pub walk_first-returns : goal.walk_first-returns
 walk_first-returns t c = walk_cond_truth c.args.scope.now.content.now c.args.scope.now.uses c.args.first.now c.args.rest.now c.args.yields.now.items.now c.args.yields.now.parts.now (env_in c.args.names.now) (gathered_of c.args.tally) c.in-Cond.condition c.in_ok-value-in-Cond.value (Ok false) c.in-Cond.is c.in_ok-value-in-Cond.ensures (c.in_ok-holds-in-Cond.ensures ∙ ap (λ b. Ok b) c.if-holds.false)
+
+pub eval_product-eval_comprehension-requires : goal.eval_product-eval_comprehension-requires
+eval_product-eval_comprehension-requires t c = (omega (arith, weights-nil), tt)
+
+pub eval_product-returns-then-lack_sets : goal.eval_product-returns-then-lack_sets
+eval_product-returns-then-lack_sets t c = lacking c.args.scope.now.content.now c.as_slice.result.now c.args.parts.now c.lack_sets.result _ c.as_slice.ensures c.lack_sets.ensures c.if-lack_sets.true
+
+pub eval_product-returns : goal.eval_product-returns
+eval_product-returns t c =
+    same _ _ _ (not_lacking c.args.scope.now.content.now c.as_slice.result.now c.args.parts.now c.lack_sets.result _ c.as_slice.ensures c.lack_sets.ensures c.if-lack_sets.false) c.eval_comprehension.ensures

@@ -40,6 +40,9 @@ decreases-eval_range l = cost l.scope.now.content.now l.scope.now.uses + (weight
 abbrev pub decreases-eval_set_op : goal.decreases-eval_set_op
 decreases-eval_set_op l = cost l.scope.now.content.now l.scope.now.uses + (weight l.a.now + weight l.b.now + 1)
 
+abbrev pub decreases-eval_product : goal.decreases-eval_product
+decreases-eval_product l = cost l.scope.now.content.now l.scope.now.uses + (part_weights l.parts.now + gen_weights l.gens.now + 5)
+
 abbrev pub decreases-eval_comprehension : goal.decreases-eval_comprehension
 decreases-eval_comprehension l = cost l.scope.now.content.now l.scope.now.uses + (weights l.items.now + part_weights l.parts.now + gen_weights l.gens.now + 4)
 

@@ -1,14 +1,16 @@
-use Rattle.csp_program.proofs.PutLaws.{put_keeps_depth, put_keeps_order}
+use Rattle.csp_program.proofs.SubstitutionLaws.{substitution_keeps_depth, substitution_keeps_order}
 use Rattle.substitution.specs.Parts.{expr_after}
+use Rattle.substitution.proofs.BoundWorth.{worth_bound}
+use Rattle.csp_program.specs.Value.{uses_within}
 use Rattle.substitution.proofs.ExprFree.{expr_loses}
 use Rattle.substitution.proofs.ExprStays.{expr_stays}
 use Rattle.substitution.proofs.laws.expressions_keep.Goals as goal
 
 pub returns-clause-depth : goal.returns-clause-depth
-returns-clause-depth c = put_keeps_depth
+returns-clause-depth c = substitution_keeps_depth
 
 pub returns-clause-order : goal.returns-clause-order
-returns-clause-order c = put_keeps_order
+returns-clause-order c = substitution_keeps_order
 
 pub returns-clause-free : goal.returns-clause-free
 unfolding expr_after
@@ -17,3 +19,7 @@ returns-clause-free c = λ x v e y i. expr_loses x v e i y
 pub returns-clause-closed : goal.returns-clause-closed
 unfolding expr_after
 returns-clause-closed c = expr_stays
+
+pub returns-clause-worth : goal.returns-clause-worth
+unfolding expr_after
+returns-clause-worth c = λ p n x v e env. worth_bound (uses_within p n) p.channels x v e env

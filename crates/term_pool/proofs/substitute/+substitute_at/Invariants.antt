@@ -1,0 +1,26 @@
+use Rattle.std.proofs.Common.{◌+◌, ◌*◌, map, take}
+use Rattle.term_pool.specs.Put.{Grows, StandAt}
+use Rattle.term_pool.specs.Substituted.{all_with, AreMade}
+use Rattle.term_pool.specs.Trees.{tree_at}
+use Rattle.term_pool.proofs.substitute.+substitute_at.Given as goal
+
+-- each call goes to a smaller place, or to a later function at the same one
+abbrev pub decreases-substitute_at : goal.decreases-substitute_at
+decreases-substitute_at l = l.id.now.0 * 4 + 3
+
+abbrev pub decreases-put_layer : goal.decreases-put_layer
+decreases-put_layer l = l.id.0 * 4 + 2
+
+abbrev pub decreases-put_below : goal.decreases-put_below
+decreases-put_below l = l.id.0 * 4 + 1
+
+abbrev pub decreases-put_all : goal.decreases-put_all
+decreases-put_all l = l.id.0 * 4
+
+-- the places so far are made
+abbrev pub invariant-put_all-loop-p : goal.invariant-put_all-loop-p
+invariant-put_all-loop-p l = record {
+  places : StandAt l.pool l.made (map (tree_at (all_with l.name l.value l.initial.pool)) (take l.p-index l.ids));
+  grows : Grows l.initial.pool l.pool (map (tree_at (all_with l.name l.value l.initial.pool)) (take l.p-index l.ids));
+  visited : AreMade l.name l.value l.pool l.visited;
+}
