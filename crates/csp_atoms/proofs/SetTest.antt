@@ -31,9 +31,10 @@ is_set-when (a ∷ rest) s =
 
 above_led : (a : Atom) (xs : List Atom) → IsTrue (leads a xs) → AllAbove a xs
 above_led a [] t = tt
-above_led a (b ∷ bs) t =
-    (first (less a b) (same_kind a b && leads a bs) t,
-    above_led a bs (second (same_kind a b) (leads a bs) (second (less a b) (same_kind a b && leads a bs) t)))
+above_led a (b ∷ bs) t = (
+  first (less a b) (same_kind a b && leads a bs) t,
+  above_led a bs (second (same_kind a b) (leads a bs) (second (less a b) (same_kind a b && leads a bs) t)),
+)
 
 kind_led : (a : Atom) (xs : List Atom) → IsTrue (leads a xs) → AllOfKind (kind_of a) xs
 kind_led a [] t = tt

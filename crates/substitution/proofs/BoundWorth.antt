@@ -373,6 +373,6 @@ module _ (u : Uses) (channels : List Channel) (x : ℕ) (v : Value) where
         λ y f. sym (ap (λ (t : Bool). cond t (Ok v) (bound_value env y)) (apart y (nat_eq x y) f refl)),
       )
     where
-    apart : (y : ℕ) (t : Bool) → nat_eq y x ≡ false → nat_eq x y ≡ t → nat_eq x y ≡ false
-    apart y true f h = absurd (false≢true (sym f ∙ eq-eqb y x (sym (eqb-true x y h))))
-    apart y false f h = h
+      apart : (y : ℕ) (t : Bool) → nat_eq y x ≡ false → nat_eq x y ≡ t → nat_eq x y ≡ false
+      apart y true f h = absurd (false≢true (sym f ∙ eq-eqb y x (sym (eqb-true x y h))))
+      apart y false f h = h

@@ -62,7 +62,12 @@ fn each(
 }
 
 #[cycle(replace_net)]
-pub(crate) fn replace_net(alloc: Global, net: &Net, name: u32, value: &Value) -> Result<Net, NoMemory>
+pub(crate) fn replace_net(
+    alloc: Global,
+    net: &Net,
+    name: u32,
+    value: &Value,
+) -> Result<Net, NoMemory>
     ensures { IfOk result (λ made. made ≡ net_after name value.now net.now) }
 {
     match net {

@@ -26,9 +26,10 @@ FieldSetsRise (channel ∷ channels) = FieldsRise channel.fields × FieldSetsRis
 module _ (p : Content) where
   all_rise : (sets : List (List Atom)) → IsTrue (all_true (map (set_in_order p) sets)) → AllRise sets
   all_rise [] o = tt
-  all_rise (set ∷ sets) o =
-      ((IsAtomSet-from set (and_second (all_true (map (is_field_value p) set)) (is_set set) (and_first (set_in_order p set) (all_true (map (set_in_order p) sets)) o))).0,
-      all_rise sets (and_second (set_in_order p set) (all_true (map (set_in_order p) sets)) o))
+  all_rise (set ∷ sets) o = (
+    (IsAtomSet-from set (and_second (all_true (map (is_field_value p) set)) (is_set set) (and_first (set_in_order p set) (all_true (map (set_in_order p) sets)) o))).0,
+    all_rise sets (and_second (set_in_order p set) (all_true (map (set_in_order p) sets)) o),
+  )
 
   fields_rise : (count : ℕ) (o : Option (List (List Atom))) → IsTrue (sets_in_order p count o) → FieldsRise o
   fields_rise count None o = tt
@@ -36,8 +37,9 @@ module _ (p : Content) where
 
   pub field_sets_rise : (channels : List Channel) → IsTrue (all_true (map (channel_in_order p) channels)) → FieldSetsRise channels
   field_sets_rise [] o = tt
-  field_sets_rise (channel ∷ channels) o =
-      (fields_rise (length channel.types) channel.fields
-      (and_second (all_true (map (expr_in_order p) channel.types)) (sets_in_order p (length channel.types) channel.fields)
-      (and_first (channel_in_order p channel) (all_true (map (channel_in_order p) channels)) o)),
-      field_sets_rise channels (and_second (channel_in_order p channel) (all_true (map (channel_in_order p) channels)) o))
+  field_sets_rise (channel ∷ channels) o = (
+    fields_rise (length channel.types) channel.fields
+        (and_second (all_true (map (expr_in_order p) channel.types)) (sets_in_order p (length channel.types) channel.fields)
+        (and_first (channel_in_order p channel) (all_true (map (channel_in_order p) channels)) o)),
+    field_sets_rise channels (and_second (channel_in_order p channel) (all_true (map (channel_in_order p) channels)) o),
+  )

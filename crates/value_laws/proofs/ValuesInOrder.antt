@@ -178,9 +178,10 @@ module _ (p : Content) where
 
   fine_set_binary : (o : SetOp) (xs ys : List Atom) → SetFine xs → SetFine ys → FineSet (set_binary o xs ys)
   fine_set_binary set_op.Union xs ys s r set h =
-      fine_limited (union_of xs ys)
-      (λ z m. elim (or_cases (has_atom xs z) (has_atom ys z) (sym (has-union_of xs ys z) ∙ m)) [ inl a ↦ s.0 z a | inr b ↦ r.0 z b ],
-      IsAtomSet-union_of xs ys s.1 r.1 (held (alike xs ys) (limited (union_of xs ys)) Kind set h))
+      fine_limited (union_of xs ys) (
+        λ z m. elim (or_cases (has_atom xs z) (has_atom ys z) (sym (has-union_of xs ys z) ∙ m)) [ inl a ↦ s.0 z a | inr b ↦ r.0 z b ],
+        IsAtomSet-union_of xs ys s.1 r.1 (held (alike xs ys) (limited (union_of xs ys)) Kind set h),
+      )
       set (passed (alike xs ys) (limited (union_of xs ys)) Kind set h)
   fine_set_binary set_op.Inter xs ys s r set h =
       fine_limited (inter_of xs ys)
@@ -298,9 +299,10 @@ module _ (p : Content) where
       values_fine (e ∷ es) o env r vs h =
           let first = came_through (M e.0 env) (λ w. and_then (values_of (map M (exprs_of es)) env) (λ ws. Ok (w ∷ ws))) vs h in
           let second = came_through (values_of (map M (exprs_of es)) env) (λ ws. Ok (first.0 ∷ ws)) vs first.2 in
-          let all : AllOrdered (first.0 ∷ second.0) =
-          (e.1 (and_first (expr_in_order p e.0) (all_exprs es) o) env r first.0 first.1,
-          values_fine es (and_second (expr_in_order p e.0) (all_exprs es) o) env r second.0 second.1) in
+          let all : AllOrdered (first.0 ∷ second.0) = (
+            e.1 (and_first (expr_in_order p e.0) (all_exprs es) o) env r first.0 first.1,
+            values_fine es (and_second (expr_in_order p e.0) (all_exprs es) o) env r second.0 second.1,
+          ) in
           subst AllOrdered (same_outcome second.2) all
 
       item_fine : (es : List KnownExpr) → IsTrue (all_exprs es) → (env : Env) → EnvIsInOrder p env → (a : Atom) → IsItem (map M (exprs_of es)) env a → IsTrue (atom_in_order p a)
@@ -350,19 +352,23 @@ module _ (p : Content) where
       comp_fine items gens o env r v h =
           let c = items_held (map M (exprs_of items)) (map T (gens_of gens)) env v h in
           subst (λ (z : Value). IsTrue (value_in_order p z)) (sym c.1)
-          (set_value c.0 (λ z m.
-          let f = (c.3 z).0 m in
-          item_fine items (and_first (all_exprs items) (all_gens gens) o) f.0 (binding_fine gens (and_second (all_exprs items) (all_gens gens) o) env f.0 r f.1) z f.2,
-          c.2.0))
+          (set_value c.0 (
+            λ z m.
+                let f = (c.3 z).0 m in
+                item_fine items (and_first (all_exprs items) (all_gens gens) o) f.0 (binding_fine gens (and_second (all_exprs items) (all_gens gens) o) env f.0 r f.1) z f.2,
+            c.2.0,
+          ))
 
       product_fine : (parts : List KnownPart) (gens : List KnownGen) → FineMeaning (layer_of (Expr-F.Product (parts_of parts) (gens_of gens)))
       product_fine parts gens env r v h =
           let c = events_held p ordered (map F (parts_of parts)) (map T (gens_of gens)) env v (with_sets (lack_sets p.channels (map F (parts_of parts))) _ v h) in
           subst (λ (z : Value). IsTrue (value_in_order p z)) (sym c.1)
-          (set_value c.0 (λ z m.
-          let f = (c.3 z).0 m in
-          subst (λ (y : Atom). IsTrue (atom_in_order p y)) (sym f.3) (begun_there (map F (parts_of parts)) f.0 f.1 f.4),
-          c.2.0))
+          (set_value c.0 (
+            λ z m.
+                let f = (c.3 z).0 m in
+                subst (λ (y : Atom). IsTrue (atom_in_order p y)) (sym f.3) (begun_there (map F (parts_of parts)) f.0 f.1 f.4),
+            c.2.0,
+          ))
 
       display_fine : (items : List KnownExpr) → IsTrue (all_exprs items) → FineMeaning (layer_of (Expr-F.Display (exprs_of items)))
       display_fine items o env r =
