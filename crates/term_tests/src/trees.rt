@@ -13,12 +13,14 @@ use substitution::{
 };
 use term_pool::term_size;
 
-fn exprs_get_the_value(alloc: Global) -> Result<bool, NoMemory> {
+fn exprs_and_fields_get_the_value(alloc: Global) -> Result<bool, NoMemory> {
     let before = exprs(alloc, false)?;
     let made = substitute_exprs(alloc, before.as_slice(), NAME, &value())?;
     let one = substitute_expr(alloc, &Expr::Display(before), NAME, &value())?;
     let after = exprs(alloc, true)?;
-    Ok(made == after && one == Expr::Display(after))
+    let put = fields(alloc, false)?;
+    let filled = substitute_fields(alloc, put.as_slice(), NAME, &value())?;
+    Ok(made == after && one == Expr::Display(after) && filled == fields(alloc, true)?)
 }
 
 fn gens_get_the_value(alloc: Global) -> Result<bool, NoMemory> {
@@ -28,12 +30,6 @@ fn gens_get_the_value(alloc: Global) -> Result<bool, NoMemory> {
     let bound = substitute_pairs(alloc, old.as_slice(), before.as_slice(), NAME, &value())?;
     let free = substitute_pairs(alloc, old.as_slice(), &[], NAME, &value())?;
     Ok(made == gens(alloc, true)? && bound == old && free == pairs(alloc, true)?)
-}
-
-fn fields_get_the_value(alloc: Global) -> Result<bool, NoMemory> {
-    let before = fields(alloc, false)?;
-    let made = substitute_fields(alloc, before.as_slice(), NAME, &value())?;
-    Ok(made == fields(alloc, true)?)
 }
 
 // A component is as large with the value as with the name.
@@ -50,9 +46,8 @@ fn network_gets_the_value(alloc: Global) -> Result<bool, NoMemory> {
 
 #[test]
 fn a_value_goes_where_the_name_is_free(rt: HostRuntime) -> Result<(), Fail> {
-    assert!(rt; exprs_get_the_value(rt.alloc())?);
+    assert!(rt; exprs_and_fields_get_the_value(rt.alloc())?);
     assert!(rt; gens_get_the_value(rt.alloc())?);
-    assert!(rt; fields_get_the_value(rt.alloc())?);
     assert!(rt; network_gets_the_value(rt.alloc())?);
     Ok(())
 }
