@@ -3,4 +3,4 @@
 
 pub mod single;
 
-pub use single::{SingleProcess, read_single_process};
+pub use single::{SingleProcess, single_process};

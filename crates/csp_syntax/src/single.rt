@@ -8,10 +8,9 @@ ghost use Rattle.csp_text.specs.declared.tree.Tree.{Tree as TreeValue};
 ghost use Rattle.csp_text.specs.declared.tree.Tree.TheVariants as tree;
 ghost use Rattle.csp_grammar.specs.Grammar.{event_tree};
 ghost use Rattle.csp_syntax.specs.declared.single.SingleProcess.{SingleProcess as SingleValue};
-ghost use Rattle.csp_syntax.specs.Single.{Declares, IsSingle, SpellsSingle, plain_prefix};
+ghost use Rattle.csp_syntax.specs.Single.{Declares, IsSingle, plain_prefix};
 
 use csp_base::{Name, NoMemory};
-use csp_parser::{ParseFault, each_text_spells_one_script, read};
 use csp_text::{Decl, EventTree, Script, Tree};
 use std::alloc::Global;
 
@@ -234,21 +233,4 @@ pub fn single_process(alloc: Global, script: &Script) -> Result<Option<SinglePro
     let channel = channel.try_clone(alloc)?;
     let process = process.try_clone(alloc)?;
     Ok(Some(SingleProcess { channel, process }))
-}
-
-/// The process whose script the text spells, or `None` where it spells no script of a single process.
-pub fn read_single_process(alloc: Global, text: &[u8]) -> Result<Option<SingleProcess>, NoMemory>
-    // What is found is spelled.
-    ensures found { IfOk result (λ found. IfSome found (SpellsSingle text.now)) }
-
-    // Whatever is spelled is found; so a text spells the script of at most one process.
-    ensures only { (s : SingleValue) → SpellsSingle text.now s → IfOk result (λ found. found ≡ Some s) }
-{
-    let script = match read(alloc, text) {
-        Ok(script) => script,
-        Err(ParseFault::NoScript { .. }) => return Ok(None),
-        Err(ParseFault::NoMemory) => return Err(NoMemory),
-    };
-    each_text_spells_one_script();
-    single_process(alloc, &script)
 }

@@ -15,8 +15,10 @@ not_four : (answer x : Answer) → answer ≡ x → status answer ≡ 4 → (sta
 not_four answer x is four never = never (sym (ap status is) ∙ four)
 
 text_not_four : (text : List ℕ) (command : Command) (answer : Answer) → TextCallsFor text command answer → status answer ≡ 4 → ⊥
-text_not_four text (Check rule) answer (inl nothing) four = not_four answer NotBuilt nothing.1 four (λ e. cc)
-text_not_four text (Check rule) answer (inr free) four = not_four answer (DeadlockFree rule _ free.1) free.4 four (λ e. cc)
+text_not_four text (Check rule) answer (inl none) four = not_four answer (NoScript none.0) none.3 four (λ e. cc)
+text_not_four text (Check rule) answer (inr (script, only, inl other)) four = not_four answer NotBuilt other.1 four (λ e. cc)
+text_not_four text (Check rule) answer (inr (script, only, inr (inl nothing))) four = not_four answer NotBuilt nothing.1 four (λ e. cc)
+text_not_four text (Check rule) answer (inr (script, only, inr (inr free))) four = not_four answer (DeadlockFree rule _ free.1) free.4 four (λ e. cc)
 text_not_four text Show answer (inl nothing) four = not_four answer (NoScript nothing.0) nothing.3 four (λ e. cc)
 text_not_four text Show answer (inr shown) four = not_four answer (Shown (script_text shown.0)) shown.2 four (λ e. cc)
 

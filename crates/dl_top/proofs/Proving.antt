@@ -29,9 +29,10 @@ one_command words rule name other check show = let same = sym check ∙ show in 
 text_free : (text : List ℕ) (rule : Rule) (answer : Answer) → ScriptCallsFor text (Check rule) answer → status answer ≡ 0
     → (network : Network) × (bound : ℕ) × SpellsOnly text network × IsDeadlockFree network bound × (answer ≡ DeadlockFree rule (length (leaves network.tree)) bound)
 text_free text rule answer (inl long) zero = absurd (not_zero answer ScriptTooLong long.1 zero (λ e. cc))
-text_free text rule answer (inr (short, inl other)) zero = absurd (not_zero answer NotBuilt other.1 zero (λ e. cc))
-text_free text rule answer (inr (short, inr (inl nothing))) zero = absurd (not_zero answer NotBuilt nothing.1 zero (λ e. cc))
-text_free text rule answer (inr (short, inr (inr free))) zero = free
+text_free text rule answer (inr (short, inl none)) zero = absurd (not_zero answer (NoScript none.0) none.3 zero (λ e. cc))
+text_free text rule answer (inr (short, inr (script, only, inl other))) zero = absurd (not_zero answer NotBuilt other.1 zero (λ e. cc))
+text_free text rule answer (inr (short, inr (script, only, inr (inl nothing)))) zero = absurd (not_zero answer NotBuilt nothing.1 zero (λ e. cc))
+text_free text rule answer (inr (short, inr (script, only, inr (inr free)))) zero = free
 
 -- what a text that is shown with status 0 calls for
 text_shown : (text : List ℕ) (answer : Answer) → ScriptCallsFor text Show answer → status answer ≡ 0

@@ -31,30 +31,30 @@ pub record IsDeadlockFree (network : Network) (bound : ℕ) : Type 0 where
   pub exact : HasSilentBound network bound
   pub live : IsLive network bound
 
--- The points at which a text is refused where it is judged by a rule, in their order, and then the success.
-abbrev pub CheckCallsFor : List ℕ → Rule → Answer → Type 0
-CheckCallsFor text rule answer =
-    -- the rule is not built yet
-    ((rule ≢ Cyclic) × (answer ≡ NotBuilt))
-    -- the text spells no network that is read so far
-    ⊎ (((network : Network) → SpellsNetwork text network → ⊥) × (answer ≡ NotBuilt))
-    -- it spells exactly one, which is free of deadlock
-    ⊎ ((network : Network) × (bound : ℕ) × SpellsOnly text network × IsDeadlockFree network bound
-    × (answer ≡ DeadlockFree rule (length (leaves network.tree)) bound))
-
 -- The answer tells the place of a fault of the text. No answer tells want of memory.
 abbrev pub Tells : ParseFault → Answer → Type 0
 Tells fault.NoMemory answer = ⊥
 Tells (fault.NoScript at) answer = answer ≡ NoScript at
 
--- The point at which a text is refused where it is shown, and then the success.
-abbrev pub ShowCallsFor : List ℕ → Answer → Type 0
-ShowCallsFor text answer =
+-- A text is refused where it spells no script, and else its script decides.
+abbrev pub IsReadFirst : List ℕ → (Script → Answer → Type 0) → Answer → Type 0
+IsReadFirst text Decides answer =
     -- the text spells no script; told is the place of its first piece that is no token, or that of a token or its end
     ((at : Place) × ((script : Script) → Spells text script → ⊥) × IsPlaceOf text at × (answer ≡ NoScript at))
-    -- it spells exactly one, which is printed
-    ⊎ ((script : Script) × SpellsOnlyScript text script × (answer ≡ Shown (script_text script)))
+    -- it spells exactly one
+    ⊎ ((script : Script) × SpellsOnlyScript text script × Decides script answer)
+
+-- The points at which a text that spells a script is refused where it is judged by a rule, in their order, and then the success.
+abbrev pub IsJudged : List ℕ → Rule → Answer → Type 0
+IsJudged text rule answer =
+    -- the rule is not built yet
+    ((rule ≢ Cyclic) × (answer ≡ NotBuilt))
+    -- the text spells no network that is judged so far
+    ⊎ (((network : Network) → SpellsNetwork text network → ⊥) × (answer ≡ NotBuilt))
+    -- it spells exactly one, which is free of deadlock
+    ⊎ ((network : Network) × (bound : ℕ) × SpellsOnly text network × IsDeadlockFree network bound
+    × (answer ≡ DeadlockFree rule (length (leaves network.tree)) bound))
 
 abbrev pub TextCallsFor : List ℕ → Command → Answer → Type 0
-TextCallsFor text (Check rule) answer = CheckCallsFor text rule answer
-TextCallsFor text Show answer = ShowCallsFor text answer
+TextCallsFor text (Check rule) answer = IsReadFirst text (λ script. IsJudged text rule) answer
+TextCallsFor text Show answer = IsReadFirst text (λ script answer. answer ≡ Shown (script_text script)) answer
