@@ -1,0 +1,4 @@
+pub mod Exploration
+pub mod Observed
+pub mod Observers
+pub mod Progress

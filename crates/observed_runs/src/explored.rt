@@ -1,0 +1,81 @@
+//! What an exploration found.
+
+ghost use Rattle.std.specs.Prelude.{◌≡◌, ◌+◌, ◌<◌, ◌≤◌, ℕ, List, IfOk, length};
+ghost use Rattle.csp_tables.specs.Table.{Node};
+ghost use Rattle.observed_runs.specs.Exploration.{AreFound, HaveOrigins};
+ghost use Rattle.observed_runs.specs.Observed.{LeadsTo, pair_at};
+
+use containers::Numbering;
+use csp_base::{Event, NoMemory, Trace};
+use std::alloc::Global;
+use std::marker::Model;
+
+/// The pairs of a node and a state of an observer to which runs of a table lead, in the order in which they were found.
+#[derive(Debug, Drop)]
+pub struct Explored {
+    pairs: Numbering<(u32, u32)>,
+    origins: Vec<(u32, Event)>,
+}
+
+impl Model for Explored {
+    ghost use Rattle.observed_runs.specs.Exploration.{Found, HaveOrigins};
+
+    ghost Value = { Found };
+
+    ghost view = { λ e. record { pairs = e.pairs; origins = e.origins.items } };
+
+    ghost invariant = { λ e. HaveOrigins (record { pairs = e.pairs; origins = e.origins.items }) };
+}
+
+impl Explored {
+    // What was found so far, with the place and the event from which each pair but the first was found.
+    pub(crate) fn new(pairs: Numbering<(u32, u32)>, origins: Vec<(u32, Event)>) -> Explored
+        requires { HaveOrigins (record { pairs = pairs; origins = origins.items }) }
+        ensures { result ≡ record { pairs = pairs; origins = origins.items } }
+    {
+        Explored { pairs, origins }
+    }
+
+    /// How many pairs there are.
+    pub fn len(&self) -> usize
+        ensures count { result ≡ length self.now.pairs }
+        ensures some { 0 < length self.now.pairs }
+    {
+        self.pairs.len()
+    }
+
+    /// The pairs of a node and a state.
+    pub fn pairs(&self) -> &[(u32, u32)]
+        ensures { result.now ≡ self.now.pairs }
+    {
+        self.pairs.as_slice()
+    }
+
+    /// A run that leads to the pair in this place.
+    pub fn run_to(&self, alloc: Global, place: usize) -> Result<Trace, NoMemory>
+        requires { place < length self.now.pairs }
+        ensures { (table : List Node) (step : ℕ → ℕ → ℕ) (start : ℕ) → AreFound table step start self.now
+            → IfOk result (λ run. LeadsTo table step start run (pair_at self.now.pairs place)) }
+    {
+        let run = events_to(alloc, self.origins.as_slice(), place)?;
+        Trace::from_slice(alloc, run.as_slice())
+    }
+}
+
+// The events along the way to the pair in this place.
+fn events_to(alloc: Global, origins: &[(u32, Event)], place: usize) -> Result<Vec<Event>, NoMemory>
+    requires within { place < length origins.now + 1 }
+    requires earlier { (k : ℕ) → k < length origins.now → (pair_at origins.now k).0 ≤ k }
+    ensures { (table : List Node) (step : ℕ → ℕ → ℕ) (start : ℕ) (pairs : List (ℕ × ℕ)) → AreFound table step start (record { pairs = pairs; origins = origins.now })
+        → IfOk result (λ run. LeadsTo table step start run.items (pair_at pairs place)) }
+{
+    let mut events = Vec::new(alloc);
+    let mut at = place;
+    while at > 0 {
+        let (earlier, event) = origins[at - 1];
+        events.push(event)?;
+        at = earlier as usize;
+    }
+    events.reverse();
+    Ok(events)
+}

@@ -1,0 +1,74 @@
+//! The exploration of a table with an observer.
+
+ghost use Rattle.std.specs.Prelude.{◌≡◌, ◌<◌, ◌^◌, ◌⊎◌, ◌++◌, ◌∷◌, [], ℕ, List, IfOk, OnOk, length};
+ghost use Rattle.csp_tables.specs.Form.{HasForm};
+ghost use Rattle.observed_runs.specs.Exploration.{AreFound, HaveOrigins, IsExploration};
+ghost use Rattle.observed_runs.specs.Observed.{pair_at};
+ghost use Rattle.observed_runs.specs.Progress.{AreFollowed, AreMore, IsAdded, IsListed};
+
+use crate::explored::Explored;
+use crate::observer::Observer;
+use containers::Numbering;
+use csp_base::{Event, NoMemory};
+use csp_tables::Part;
+use std::alloc::Global;
+
+/// The pairs of a node and a state to which runs of the part's table lead, from its first node and the observer's first state.
+///
+/// It takes time in proportion to the pairs and the events that are possible at them.
+pub fn explore<O: Observer>(alloc: Global, part: &Part, observer: &O) -> Result<Explored, NoMemory>
+    requires { HasForm part.now }
+    ensures pairs { IfOk result (λ made. IsExploration part.now.table (O.step observer.now) (O.start_state observer.now) made.pairs) }
+    ensures found { IfOk result (λ made. AreFound part.now.table (O.step observer.now) (O.start_state observer.now) made) }
+{
+    let mut pairs = Numbering::new(alloc);
+    let mut origins = Vec::new(alloc);
+    let start = observer.start();
+    pairs.number((0, start))?;
+    let mut place = 0;
+    while place < pairs.as_slice().len() {
+        follow(part, observer, &mut pairs, &mut origins, place as u32)?;
+        place += 1;
+    }
+    Ok(Explored::new(pairs, origins))
+}
+
+// Lists the pairs to which events lead from the pair in a place.
+fn follow<O: Observer>(
+    part: &Part,
+    observer: &O,
+    pairs: &mut Numbering<(u32, u32)>,
+    origins: &mut Vec<(u32, Event)>,
+    place: u32,
+) -> Result<(), NoMemory>
+    requires form { HasForm part.now }
+    requires place { place < length pairs.old }
+    requires node { (pair_at pairs.old place).0 < length part.now.table }
+    ensures more { OnOk result (AreMore part.now (O.step observer.now) pairs.old origins.old.items place pairs.new origins.new.items) }
+    ensures followed { OnOk result (AreFollowed part.now.table (O.step observer.now) pairs.new place) }
+{
+    let (node, state) = pairs.as_slice()[place as usize];
+    for (event, target) in part.table().nodes()[node as usize].next() {
+        let next = observer.next(state, *event);
+        add(pairs, origins, (*target, next), (place, *event))?;
+    }
+    Ok(())
+}
+
+// Lists the pair, with its origin, if it is new.
+fn add(
+    pairs: &mut Numbering<(u32, u32)>,
+    origins: &mut Vec<(u32, Event)>,
+    pair: (u32, u32),
+    origin: (u32, Event),
+) -> Result<(), NoMemory>
+    ensures added { OnOk result (IsAdded pairs.old origins.old.items pair origin pairs.new origins.new.items) }
+    ensures listed { OnOk result (IsListed pairs.new pair) }
+{
+    let known = pairs.len();
+    pairs.number(pair)?;
+    if known < pairs.len() {
+        origins.push(origin)?;
+    }
+    Ok(())
+}

@@ -1,0 +1,13 @@
+//! What is possible, and what is accepted, after runs of a component's table with something counted along them: the one
+//! exploration of a table together with a small observer of its events.
+#![tactic(auto)]
+
+mod explored;
+mod exploring;
+mod observer;
+mod observers;
+
+pub use explored::Explored;
+pub use exploring::explore;
+pub use observer::Observer;
+pub use observers::{Lap, Parity, Unwatched};

@@ -1,0 +1,101 @@
+//! Observers: of the place in a lap of events, of whether a number of events is odd, and of nothing.
+
+ghost use Rattle.std.specs.Prelude.{◌≡◌, ◌-◌, ◌<◌};
+ghost use Rattle.observed_runs.specs.Observers.{lap_step, parity_step};
+
+use crate::observer::Observer;
+use csp_base::{Event, EventSet};
+
+/// The place in a lap: how many events of a set were done, modulo the length of the lap.
+#[derive(Drop)]
+pub struct Lap<'a> {
+    events: &'a EventSet,
+    last: u32,
+}
+
+impl<'a> Lap<'a> {
+    /// The lap of `length` places along these events.
+    pub fn new(events: &'a EventSet, length: u32) -> Lap<'a>
+        requires { 0 < length }
+        ensures events { result.events.now ≡ events.now }
+        ensures last { result.last ≡ length - 1 }
+    {
+        Lap {
+            events,
+            last: length - 1,
+        }
+    }
+}
+
+impl<'a> Observer for Lap<'a> {
+    ghost start_state = { λ _. 0 };
+
+    ghost step = { λ lap state event. lap_step lap.events.now lap.last state event };
+
+    fn start(&self) -> u32 {
+        0
+    }
+
+    fn next(&self, state: u32, event: Event) -> u32 {
+        if !self.events.contains(event) {
+            return state;
+        }
+        if state < self.last {
+            return state + 1;
+        }
+        0
+    }
+}
+
+/// Whether a number of events of a set is odd: 1 where it is, else 0.
+#[derive(Drop)]
+pub struct Parity<'a> {
+    events: &'a EventSet,
+}
+
+impl<'a> Parity<'a> {
+    /// The parity of the number of these events.
+    pub fn new(events: &'a EventSet) -> Parity<'a>
+        ensures { result.events.now ≡ events.now }
+    {
+        Parity { events }
+    }
+}
+
+impl<'a> Observer for Parity<'a> {
+    ghost start_state = { λ _. 0 };
+
+    ghost step = { λ parity state event. parity_step parity.events.now state event };
+
+    fn start(&self) -> u32 {
+        0
+    }
+
+    fn next(&self, state: u32, event: Event) -> u32 {
+        if !self.events.contains(event) {
+            return state;
+        }
+        if state == 0 {
+            return 1;
+        }
+        0
+    }
+}
+
+/// Nothing is counted: there is one state, so that an exploration finds the nodes alone.
+#[derive(Drop)]
+pub struct Unwatched;
+
+impl Observer for Unwatched {
+    ghost start_state = { λ _. 0 };
+
+    ghost step = { λ _ state _. state };
+
+    fn start(&self) -> u32 {
+        0
+    }
+
+    fn next(&self, state: u32, _event: Event) -> u32 {
+        state
+    }
+}

@@ -1,0 +1,6 @@
+pub mod Complete
+pub mod Depths
+pub mod Equations
+pub mod Fillings
+pub mod Members
+pub mod Sound

@@ -1,0 +1,83 @@
+-- What a renaming makes of an event. Each pair of it names, under each binding of its generators, all events that begin with the old side; such an
+-- event becomes the one that begins with the new side and has the same fields after it. One event may become several, and several one. An event
+-- that no pair names stays itself.
+use Rattle.std.specs.Prelude.{ℕ, ◌+◌, ◌*◌, nat_eq, nat_lt, if◌then◌else◌, Option, Some, None, Ok, Err, List, [], ◌∷◌, ◌++◌, map, length, drop, take, slice_get}
+use Rattle.std.specs.List.{filter}
+use Rattle.csp_program.specs.Outcome.{Outcome, and_then}
+use Rattle.csp_program.specs.Value.{Env, Meaning, field_place, first_of, front_count, front_number, meaning, sets_of, turn, uses_within, values_of, walked}
+use Rattle.process_steps.specs.Needed.{each_joined}
+use Rattle.csp_atoms.specs.declared.atom.Atom.{Atom}
+use Rattle.csp_atoms.specs.declared.value.Value.{Value}
+use Rattle.csp_atoms.specs.declared.value.Value.TheVariants.{One}
+use Rattle.csp_program.specs.declared.expressions.EventPart.{EventPart, out-EventPart}
+use Rattle.csp_program.specs.declared.expressions.Expr.{Expr}
+use Rattle.csp_program.specs.declared.expressions.Gen.{Gen}
+use Rattle.csp_program.specs.declared.kinds.ValueKind.TheVariants.{Kind, OutsideChannel, SetLimit}
+use Rattle.csp_program.specs.declared.programs.Content.{Content}
+use Rattle.csp_program.specs.declared.programs.EventInfo.{EventInfo}
+
+-- an old event with a new one
+abbrev pub Renamed : Type 0
+Renamed = ℕ × ℕ
+
+-- the number of the event that has these values as its fields, after others with the number n
+abbrev pub number_with : List Value → List (List Atom) → ℕ → Outcome ℕ
+number_with [] [] n = Ok n
+number_with [] (set ∷ sets) n = Err OutsideChannel
+number_with (v ∷ vs) [] n = Err OutsideChannel
+number_with (v ∷ vs) (set ∷ sets) n = and_then (field_place set v) (λ k. number_with vs sets (n * length set + k))
+
+-- the event of a channel that has these values as its fields, where the channel's first event has the number first
+abbrev pub event_with : ℕ → Option (List (List Atom)) → List Value → Outcome ℕ
+event_with first None vs = Err Kind
+event_with first (Some sets) vs = and_then (number_with vs sets 0) (λ n. Ok (first + n))
+
+-- an event with its new one, which comes from the values of its fields but for the first ones, so many as are given
+abbrev pub renamed_as : (List Atom → Outcome ℕ) → ℕ → ℕ → EventInfo → Outcome (List Renamed)
+renamed_as new given e info = and_then (new (drop given info.fields)) (λ d. Ok ((e, d) ∷ []))
+
+-- the values of a renaming's bindings, and what it has renamed so far
+pub record Gathering : Type 0 where
+  pub bindings : ℕ
+  pub renamed : List Renamed
+
+-- what expressions mean under names
+abbrev pub meanings : Content → List Expr → List Meaning
+meanings p es = map (meaning (uses_within p (length p.defs)) p.channels) es
+
+module _ (p : Content) where
+  -- the events of the old side under a binding, each with its new one: the old side first, then the values of the new side, then each new event
+  abbrev pub pair_renamed : Env → EventPart × EventPart → Outcome (List Renamed)
+  pair_renamed env pair =
+      let old = out-EventPart pair.0 in
+      let new = out-EventPart pair.1 in
+      and_then (front_number (first_of (slice_get p.channels old.channel)) (sets_of (slice_get p.channels old.channel)) (meanings p old.fields) env) (λ e.
+      and_then (values_of (meanings p new.fields) env) (λ vs.
+      each_joined (renamed_as (λ rest. event_with (first_of (slice_get p.channels new.channel)) (sets_of (slice_get p.channels new.channel)) (vs ++ map (λ a. One a) rest)) (length old.fields))
+      e (take (front_count (sets_of (slice_get p.channels old.channel)) (meanings p old.fields)) (drop e p.events))))
+
+  -- the pairs from the left
+  abbrev pub pairs_renamed : Env → List (EventPart × EventPart) → Outcome (List Renamed)
+  pairs_renamed env pairs = each_joined (λ k pair. pair_renamed env pair) 0 pairs
+
+  -- one more binding, of at most 1,048,576
+  abbrev pub binding_renamed : List (EventPart × EventPart) → Env → Gathering → Outcome Gathering
+  binding_renamed pairs env state =
+      if nat_lt state.bindings 1048576
+      then and_then (pairs_renamed env pairs) (λ more. Ok (record { bindings = state.bindings + 1; renamed = state.renamed ++ more }))
+      else Err SetLimit
+
+  -- a whole renaming, or the first fault
+  abbrev pub renaming_in : List (EventPart × EventPart) → List Gen → Outcome (List Renamed)
+  renaming_in pairs gens =
+      and_then (walked (map (turn (uses_within p (length p.defs)) p.channels) gens) (binding_renamed pairs) [] (record { bindings = 0; renamed = [] })) (λ state.
+      Ok state.renamed)
+
+-- the event itself, unless there are others in its place
+abbrev pub or_itself : ℕ → List ℕ → List ℕ
+or_itself e [] = e ∷ []
+or_itself e (d ∷ ds) = d ∷ ds
+
+-- what an event becomes
+abbrev pub images : List Renamed → ℕ → List ℕ
+images renamed e = or_itself e (map (λ r. r.1) (filter (λ r. nat_eq r.0 e) renamed))

@@ -1,0 +1,14 @@
+//! The steps of a process over a program, as a relation and as a list, and the law that joins the two.
+#![tactic(auto)]
+
+ghost use Rattle.process_steps.specs.Laws.{ListsAreOfLayers, ListsAreSteps};
+
+pub mod label;
+
+pub use label::Label;
+
+/// Where a process has a list of steps, it is exactly its steps. The list is that of the process's layer over the lists of the processes below.
+pub fn lists_are_steps()
+    ensures steps { ListsAreSteps }
+    ensures layers { ListsAreOfLayers }
+{}
