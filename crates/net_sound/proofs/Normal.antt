@@ -1,8 +1,6 @@
 -- A component and its numbered table do the same, so the normal table of the one is that of the other.
-use Rattle.std.proofs.Common.{◌≡◌, ℕ, List, [], ◌∷◌, ◌++◌, Some, slice_get, get_or, nat_eq, refl, sym, ap, subst, ◌∙◌, eq-eqb}
-use Rattle.std.proofs.lemmas.Bool.{false≢true, or_left}
-use Rattle.std.proofs.lemmas.Option.{same_Some, slice_get_within, get_or_from_slice_get}
-use Rattle.csp_base.specs.Members.{has}
+use Rattle.std.proofs.Common.{◌≡◌, ℕ, List, [], ◌∷◌, ◌++◌, Some, slice_get, get_or, refl, sym, ap, subst, ◌∙◌}
+use Rattle.std.proofs.lemmas.Option.{same_Some}
 use Rattle.csp_tables.specs.Label.{Label}
 use Rattle.csp_tables.specs.Label.Label.{silent, visible}
 use Rattle.csp_tables.specs.Path.{Path, Stable}
@@ -10,7 +8,6 @@ use Rattle.csp_tables.specs.Network.{Component, ComponentStep}
 use Rattle.csp_tables.specs.Trace.{IsTrace, IsStableOffer, IsAcceptance, HaveSameFuture}
 use Rattle.csp_tables.specs.RawTable.{RawTable, RawStep, standing_at, IsTableOf}
 use Rattle.csp_tables.specs.Table.{acceptances_after}
-use Rattle.csp_tables.specs.Part.{IsNonEmpty}
 use Rattle.csp_tables.specs.Behaviour.{OffersAcceptance}
 use Rattle.net_sound.specs.Normal.{NormalTablesCarryOver}
 use Rattle.net_sound.proofs.FlatLists.{step_alphabet}

@@ -1,16 +1,14 @@
 -- The shape of a network that is never empty-handed has its components' behaviour.
-use Rattle.std.proofs.Common.{◌≡◌, ◌↔◌, ℕ, zero, suc, ◌<◌, true, false, IsTrue, List, [], ◌∷◌, Some, slice_get, get_or, length, nat_eq, refl, sym, subst, ◌∙◌, eq-eqb, arith}
+use Rattle.std.proofs.Common.{◌≡◌, ℕ, zero, suc, ◌<◌, List, [], ◌∷◌, Some, slice_get, get_or, length, nat_eq, refl, sym, subst, ◌∙◌, eq-eqb, arith}
 use Rattle.std.proofs.lemmas.Bool.{false≢true, or_left}
 use Rattle.std.proofs.lemmas.Option.{none-some, same_Some, slice_get_within, get_or_from_slice_get}
 use Rattle.csp_base.specs.Members.{has}
 use Rattle.csp_tables.specs.Label.{Label}
 use Rattle.csp_tables.specs.Network.{Component, ComponentStep, leaves}
-use Rattle.csp_tables.specs.Trace.{IsTrace, IsAcceptance, IsBusy}
+use Rattle.csp_tables.specs.Trace.{IsAcceptance, IsBusy}
 use Rattle.csp_tables.specs.Table.{acceptances_after}
 use Rattle.csp_tables.specs.Part.{Part, part_at, IsNonEmpty}
 use Rattle.csp_tables.specs.Behaviour.{HasBehaviour, HaveBehaviours}
-use Rattle.csp_tables.specs.NormalTable.{IsNormalTable, HasAcceptances}
-use Rattle.csp_tables.specs.Shape.{Shape}
 use Rattle.csp_tables.specs.ShapeOf.{IsPartOf, ArePartsOf, AreBusy, ShapesAreBusy}
 use Rattle.net_sound.specs.Normal.{NormalTablesBehave, ShapesBehave}
 

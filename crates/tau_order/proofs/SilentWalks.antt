@@ -1,5 +1,5 @@
 -- The arcs of the digraph of a table's silent steps are these steps.
-use Rattle.std.proofs.Common.{◌≡◌, ℕ, IsTrue, sym, subst}
+use Rattle.std.proofs.Common.{ℕ, IsTrue, sym, subst}
 use Rattle.csp_tables.specs.Label.Label.{silent}
 use Rattle.csp_tables.specs.RawTable.{RawTable, RawStep}
 use Rattle.csp_tables.proofs.Listed.{silent_listed, listed_silent}

@@ -1,4 +1,4 @@
-use Rattle.std.proofs.Common.{◌≡◌, List, ℕ, length, get_or, refl, subst}
+use Rattle.std.proofs.Common.{◌≡◌, ℕ, length, refl, subst}
 use Rattle.csp_tables.specs.Path.{SilentStep}
 use Rattle.csp_tables.specs.RawTable.{RawStep}
 use Rattle.digraph.specs.Digraph.{HasArc}
