@@ -1,0 +1,3 @@
+pub mod NameLemmas
+pub mod ScopeLemmas
+pub mod DeclaredLemmas

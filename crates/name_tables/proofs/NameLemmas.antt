@@ -1,0 +1,87 @@
+-- Names and lists of them.
+use Rattle.std.proofs.Common.{◌≡◌, Bool, true, false, cond, ◌||◌, nat_eq, List, [], ◌∷◌, ◌++◌, Option, Some, None, is_some, refl, sym, ◌∙◌, ap}
+use Rattle.std.proofs.lemmas.Bool.{eqb-true, eq-eqb, and_from}
+use Rattle.std.specs.Cmp.Lexicographic.{pointwise}
+use Rattle.containers.specs.Exact.{IsExact-pointwise}
+use Rattle.script_names.specs.Names.{Name, Entities, first_of, is_among, same_name}
+use Rattle.script_names.specs.declared.kinds.Entity.{Entity}
+use Rattle.name_tables.specs.Firsts.{SameFirsts, SameNames}
+
+pub same_itself : (x : Name) → same_name x x ≡ true
+same_itself [] = refl
+same_itself (k ∷ x) = and_from (nat_eq k k) (pointwise nat_eq x x) (eq-eqb k k refl) (same_itself x)
+
+pub same_exact : (x y : Name) → same_name x y ≡ true → x ≡ y
+same_exact = IsExact-pointwise nat_eq eqb-true
+
+-- the first of two
+abbrev pub first : Option Entity → Option Entity → Option Entity
+first (Some e) other = Some e
+first None other = other
+
+first_step : (b : Bool) (e : Entity) (o p : Option Entity) → cond b (Some e) (first o p) ≡ first (cond b (Some e) o) p
+first_step true e o p = refl
+first_step false e o p = refl
+
+pub first_of-append : (es fs : Entities) (y : Name) → first_of (es ++ fs) y ≡ first (first_of es y) (first_of fs y)
+first_of-append [] fs y = refl
+first_of-append (e ∷ es) fs y =
+    ap (λ o. cond (same_name y e.0) (Some e.1) o) (first_of-append es fs y)
+    ∙ first_step (same_name y e.0) e.1 (first_of es y) (first_of fs y)
+
+pub same_firsts-append : (es fs gs : Entities) → SameFirsts es fs → SameFirsts (es ++ gs) (fs ++ gs)
+same_firsts-append es fs gs same y =
+    first_of-append es gs y ∙ ap (λ o. first o (first_of gs y)) (same y) ∙ sym (first_of-append fs gs y)
+
+first-known : (o p : Option Entity) → is_some o ≡ true → o ≡ first o p
+first-known (Some e) p h = refl
+first-known None p h = cc
+
+first-none : (o : Option Entity) → o ≡ first o None
+first-none (Some e) = refl
+first-none None = refl
+
+-- a name that is declared already stands for what it did
+pub same_firsts_known : (es : Entities) (x : Name) (e : Entity) → is_some (first_of es x) ≡ true → SameFirsts es (es ++ (x, e) ∷ [])
+same_firsts_known es x e known y = by (same_name y x) refl ∙ sym (first_of-append es ((x, e) ∷ []) y)
+  where
+    by : (b : Bool) → same_name y x ≡ b → first_of es y ≡ first (first_of es y) (cond b (Some e) None)
+    by true h = first-known (first_of es y) (Some e) (ap (λ z. is_some (first_of es z)) (same_exact y x h) ∙ known)
+    by false h = first-none (first_of es y)
+
+among_step : (b c d : Bool) → (b || (c || d)) ≡ ((b || c) || d)
+among_step true c d = refl
+among_step false c d = refl
+
+pub is_among-append : (xs ys : List Name) (y : Name) → is_among (xs ++ ys) y ≡ (is_among xs y || is_among ys y)
+is_among-append [] ys y = refl
+is_among-append (x ∷ xs) ys y =
+    ap (λ b. same_name y x || b) (is_among-append xs ys y) ∙ among_step (same_name y x) (is_among xs y) (is_among ys y)
+
+known_or : (b c : Bool) → b ≡ true → b ≡ (b || c)
+known_or true c h = refl
+known_or false c h = cc
+
+or_false : (b : Bool) → b ≡ (b || (false || false))
+or_false true = refl
+or_false false = refl
+
+pub same_names_known : (xs : List Name) (x : Name) → is_among xs x ≡ true → SameNames xs (xs ++ x ∷ [])
+same_names_known xs x known y = by (same_name y x) refl ∙ sym (is_among-append xs (x ∷ []) y)
+  where
+    by : (b : Bool) → same_name y x ≡ b → is_among xs y ≡ (is_among xs y || (b || false))
+    by true h = known_or (is_among xs y) (true || false) (ap (is_among xs) (same_exact y x h) ∙ known)
+    by false h = or_false (is_among xs y)
+
+pub same_names-append : (xs ys zs : List Name) → SameNames xs ys → SameNames (xs ++ zs) (ys ++ zs)
+same_names-append xs ys zs same y = is_among-append xs zs y ∙ ap (λ b. b || is_among zs y) (same y) ∙ sym (is_among-append ys zs y)
+
+pub same_firsts_longer : (es fs : Entities) → es ≡ fs → SameFirsts es fs
+same_firsts_longer es fs e y = ap (λ gs. first_of gs y) e
+
+pub same_names_longer : (xs ys : List Name) → xs ≡ ys → SameNames xs ys
+same_names_longer xs ys e y = ap (λ zs. is_among zs y) e
+
+pub none_there : (o : Option Entity) → is_some o ≡ false → o ≡ None
+none_there (Some e) h = cc
+none_there None h = refl

@@ -1,0 +1,10 @@
+use Rattle.std.proofs.Common.{◌≡◌, ◌+◌, ◌++◌, drop}
+use Rattle.script_names.specs.Names.{channels_from}
+use Rattle.name_tables.specs.Firsts.{SameFirsts}
+use Rattle.name_tables.proofs.declared.declare_channels.Given as goal
+
+abbrev pub invariant-loop-x : goal.invariant-loop-x
+invariant-loop-x l = record {
+  names : SameFirsts (l.names ++ channels_from l.numbers.channels l.fields (drop l.x-index l.xs)) (l.initial.names ++ channels_from l.initial.numbers.channels l.fields l.xs);
+  numbers : l.numbers ≡ record l.initial.numbers { channels = l.initial.numbers.channels + l.x-index };
+}

@@ -1,0 +1,10 @@
+use Rattle.std.proofs.Common.{◌≡◌, ◌+◌, ◌++◌, drop}
+use Rattle.script_names.specs.Names.{constants_from}
+use Rattle.name_tables.specs.Firsts.{SameFirsts}
+use Rattle.name_tables.proofs.declared.declare_constants.Given as goal
+
+abbrev pub invariant-loop-x : goal.invariant-loop-x
+invariant-loop-x l = record {
+  names : SameFirsts (l.names ++ constants_from l.numbers.constants (drop l.x-index l.xs)) (l.initial.names ++ constants_from l.initial.numbers.constants l.xs);
+  numbers : l.numbers ≡ record l.initial.numbers { constants = l.initial.numbers.constants + l.x-index };
+}

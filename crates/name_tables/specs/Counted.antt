@@ -1,0 +1,6 @@
+-- The numbers that are counted while declarations are read.
+use Rattle.script_names.specs.Names.{Counts}
+use Rattle.name_tables.specs.declared.declared.Numbers.{Numbers}
+
+abbrev pub counts : Numbers → Counts
+counts n = record { channels = n.channels; constants = n.constants; definitions = n.definitions }

@@ -1,0 +1,23 @@
+-- What a scope keeps of the names that it has bound.
+use Rattle.std.specs.Prelude.{◌≡◌, ℕ, if◌then◌else◌, Option, List, [], ◌∷◌, ◌++◌}
+use Rattle.indexmap.specs.IndexMap.{IndexMap, get}
+use Rattle.script_names.specs.Names.{Name, same_name}
+use Rattle.script_names.specs.Typed.{Scope, number_of}
+use Rattle.name_tables.specs.declared.scope.Binding.{Binding}
+
+-- a bound name with its number
+abbrev pub shown : Binding → Name × ℕ
+shown b = (b.name, b.number)
+
+-- each of these bindings, which come after others, keeps the number of the name that it hides
+abbrev pub KeepHidden : Scope → List Binding → Type 0
+KeepHidden front [] = Unit {0}
+KeepHidden front (b ∷ bs) = (b.hidden ≡ number_of front b.name) × KeepHidden (front ++ shown b ∷ []) bs
+
+-- the map has the number of each bound name
+abbrev pub HasNumbers : {S : Type 0} → IndexMap Name ℕ S → Scope → Type 0
+HasNumbers last scope = (x : Name) → get same_name last x ≡ number_of scope x
+
+-- the map has this number for the name x, and for all others what it had
+abbrev pub Writes : {S : Type 0} → IndexMap Name ℕ S → IndexMap Name ℕ S → Name → Option ℕ → Type 0
+Writes old new x number = (y : Name) → get same_name new y ≡ (if same_name y x then number else get same_name old y)

@@ -1,0 +1,4 @@
+pub mod Firsts
+pub mod Hidden
+pub mod Counted
+pub mod Ends

@@ -1,0 +1,13 @@
+#![tactic(auto)]
+
+pub mod declared;
+pub mod dictionary;
+pub mod ends;
+pub mod name_set;
+mod numbers;
+pub mod scope;
+
+pub use declared::dictionary_of;
+pub use dictionary::Dictionary;
+pub use name_set::NameSet;
+pub use scope::Scope;

@@ -1,0 +1,156 @@
+//! Bound names with their numbers.
+
+ghost use Rattle.std.specs.Prelude.{◌≡◌, ◌<◌, ◌≤◌, ◌-◌, true, [], ◌∷◌, ◌++◌, is_some, length, map, take, OnOk};
+ghost use Rattle.indexmap.specs.IndexMap.{get};
+ghost use Rattle.script_names.specs.Names.{same_name};
+ghost use Rattle.name_tables.specs.Hidden.{shown, KeepHidden, HasNumbers, Writes};
+ghost use Rattle.script_names.specs.Typed.{number_of};
+
+use crate::numbers::{forget, rewrite, write};
+use csp_base::{Name, NoMemory};
+use indexmap::IndexMap;
+use std::alloc::Global;
+use std::marker::Model;
+
+/// A bound name, and what it hides.
+#[derive(Drop)]
+pub struct Binding {
+    name: Name,
+    number: u32,
+    /// The number of the bound name of the same spelling that it hides.
+    hidden: Option<u32>,
+}
+
+/// The bound names at a place with their numbers, in the order in which they were bound. The last one of a spelling is found by its hash.
+#[derive(Drop)]
+pub struct Scope {
+    alloc: Global,
+    bindings: Vec<Binding>,
+    last: IndexMap<Name, u32>,
+}
+
+impl Model for Scope {
+    ghost use Rattle.std.specs.Prelude.{[], map};
+    ghost use Rattle.script_names.specs.Typed.{Scope as Bound};
+    ghost use Rattle.name_tables.specs.Hidden.{shown, KeepHidden, HasNumbers};
+
+    ghost Value = { Bound };
+
+    ghost view = { λ s. map shown s.bindings.items };
+
+    ghost invariant = { λ s. KeepHidden [] s.bindings.items × HasNumbers s.last (map shown s.bindings.items) };
+}
+
+impl Scope {
+    /// No name is bound.
+    pub fn new(alloc: Global) -> Scope
+        ensures { result ≡ [] }
+    {
+        Scope {
+            alloc,
+            bindings: Vec::new(alloc),
+            last: IndexMap::new(alloc),
+        }
+    }
+
+    /// How many names are bound.
+    pub fn len(&self) -> usize
+        ensures { result ≡ length self.now }
+    {
+        self.bindings.len()
+    }
+
+    /// The number of a bound name: that of the last one of its spelling.
+    pub fn find(&self, name: &Name) -> Option<u32>
+        ensures { result ≡ number_of self.now name.now }
+    {
+        self.last.get(name).copied()
+    }
+
+    /// Binds one more name.
+    pub fn bind(&mut self, name: &Name, number: u32) -> Result<(), NoMemory>
+        ensures { OnOk result (self.new ≡ self.old ++ (name.now, number) ∷ []) }
+    {
+        let key = name.try_clone(self.alloc)?;
+        let name = name.try_clone(self.alloc)?;
+        bind_in(&mut self.bindings, &mut self.last, name, key, number)
+    }
+
+    /// Leaves the first names alone, so many of them.
+    pub fn leave(&mut self, count: usize)
+        requires { count ≤ length self.old }
+        ensures { self.new ≡ take count self.old }
+    {
+        leave_in(&mut self.bindings, &mut self.last, count);
+    }
+}
+
+// Binds one more name.
+fn bind_in(
+    bindings: &mut Vec<Binding>,
+    last: &mut IndexMap<Name, u32>,
+    name: Name,
+    key: Name,
+    number: u32,
+) -> Result<(), NoMemory>
+    requires kept { KeepHidden [] bindings.old.items }
+    requires numbers { HasNumbers last.old (map shown bindings.old.items) }
+    requires same { key ≡ name }
+    ensures ok { OnOk result (map shown bindings.new.items ≡ map shown bindings.old.items ++ (name, number) ∷ []) }
+    ensures kept { KeepHidden [] bindings.new.items }
+    ensures numbers { HasNumbers last.new (map shown bindings.new.items) }
+{
+    let hidden = last.get(&name).copied();
+    let binding = Binding {
+        name,
+        number,
+        hidden,
+    };
+    bindings.push(binding)?;
+    match write(last, key, number) {
+        Ok(_) => Ok(()),
+        Err(error) => {
+            bindings.pop();
+            Err(error)
+        }
+    }
+}
+
+// Gives a name back the number that was hidden.
+fn restore(last: &mut IndexMap<Name, u32>, name: &Name, hidden: Option<u32>)
+    requires { is_some (get same_name last.old name.now) ≡ true }
+    ensures { Writes last.old last.new name.now hidden }
+{
+    match hidden {
+        Some(number) => rewrite(last, name, number),
+        None => forget(last, name),
+    }
+}
+
+// Takes the last name out.
+fn unbind_in(bindings: &mut Vec<Binding>, last: &mut IndexMap<Name, u32>)
+    requires some { 0 < length bindings.old.items }
+    requires kept { KeepHidden [] bindings.old.items }
+    requires numbers { HasNumbers last.old (map shown bindings.old.items) }
+    ensures items { bindings.new.items ≡ take (length bindings.old.items - 1) bindings.old.items }
+    ensures kept { KeepHidden [] bindings.new.items }
+    ensures numbers { HasNumbers last.new (map shown bindings.new.items) }
+{
+    if let Some(binding) = bindings.pop() {
+        restore(last, &binding.name, binding.hidden);
+    }
+}
+
+// Leaves the first names alone, so many of them.
+fn leave_in(bindings: &mut Vec<Binding>, last: &mut IndexMap<Name, u32>, count: usize)
+    requires count { count ≤ length bindings.old.items }
+    requires kept { KeepHidden [] bindings.old.items }
+    requires numbers { HasNumbers last.old (map shown bindings.old.items) }
+    ensures items { map shown bindings.new.items ≡ take count (map shown bindings.old.items) }
+    ensures kept { KeepHidden [] bindings.new.items }
+    ensures numbers { HasNumbers last.new (map shown bindings.new.items) }
+{
+    while bindings.len() > count {
+        unbind_in(bindings, last);
+    }
+}

@@ -1,0 +1,133 @@
+-- The faults of a declaration, from what it says: one line for each case.
+use Rattle.script_names.specs.declared.kinds.Sense.TheVariants as sense
+use Rattle.script_names.specs.declared.kinds.Sense.{Sense}
+use Rattle.script_names.specs.declared.kinds.Need.TheVariants as need
+use Rattle.script_names.specs.declared.kinds.Need.{Need}
+use Rattle.script_names.specs.declared.kinds.Use.TheVariants as how
+use Rattle.std.specs.Prelude.{ℕ, zero, suc, ◌-◌, Bool, true, false, not, ◌&&◌, ◌||◌, nat_eq, nat_lt, if◌then◌else◌, Option, Some, None, List, slice_get}
+use Rattle.script_names.specs.declared.kinds.Class.{Class}
+use Rattle.script_names.specs.declared.kinds.Class.TheVariants as class
+use Rattle.script_names.specs.declared.kinds.Entity.{Entity}
+use Rattle.script_names.specs.declared.kinds.Entity.TheVariants as entity
+use Rattle.script_names.specs.declared.kinds.Kind.{Kind}
+use Rattle.script_names.specs.Names.{Name, Meanings}
+use Rattle.script_names.specs.Occurrence.{Occurrence, declares, binds, notes, uses, form, parallel}
+
+abbrev pub is_bound : Sense → Bool
+is_bound sense.Bound = true
+is_bound _ = false
+
+abbrev pub is_channel : Sense → Bool
+is_channel (sense.Declared (entity.Channel c n)) = true
+is_channel _ = false
+
+abbrev pub is_constant : Option Entity → Bool
+is_constant (Some (entity.Constant k)) = true
+is_constant _ = false
+
+-- a definition, other than a nametype or a datatype
+abbrev pub is_definition : Sense → Bool
+is_definition (sense.Declared (entity.Definition d n)) = true
+is_definition _ = false
+
+-- A name is neither bound nor declared.
+abbrev pub unknown_name : Occurrence → Option Name
+unknown_name (uses x sense.Unknown how) = Some x
+unknown_name _ = None
+
+abbrev pub when : Bool → Name → Option Name
+when b x = if b then Some x else None
+
+module _ (meanings : Meanings) where
+  -- A name was declared before, a parameter repeats, a bound name is a constant, or a process was annotated before by an annotation of the kind.
+  abbrev pub repeated_name : Occurrence → Option Name
+  repeated_name (declares x before) = when before x
+  repeated_name (binds x repeats) = when (repeats || is_constant (meanings x)) x
+  repeated_name (notes x before) = when before x
+  repeated_name _ = None
+
+-- the class of a definition, and whether it is a network definition
+abbrev pub kind_class : Option Kind → Class
+kind_class None = class.Unknown
+kind_class (Some kind) = kind.class
+
+abbrev pub kind_network : Option Kind → Bool
+kind_network None = false
+kind_network (Some kind) = kind.network
+
+module _ (kinds : List Kind) where
+  -- the class of what a name stands for
+  abbrev pub class_of : Sense → Class
+  class_of sense.Bound = class.Data
+  class_of (sense.Declared (entity.Channel c n)) = class.Data
+  class_of (sense.Declared (entity.Constant k)) = class.Data
+  class_of (sense.Declared (entity.Set d)) = class.Data
+  class_of (sense.Declared (entity.Definition d n)) = kind_class (slice_get kinds d)
+  class_of sense.Unknown = class.Unknown
+
+  abbrev pub is_network : Sense → Bool
+  is_network (sense.Declared (entity.Definition d n)) = kind_network (slice_get kinds d)
+  is_network _ = false
+
+  -- a process stands where data is needed, or the reverse
+  abbrev pub clashes : Class → Need → Bool
+  clashes class.Process need.Data = true
+  clashes class.Data need.Process = true
+  clashes _ _ = false
+
+  -- What stands at a place is not of the kind that is needed there.
+  abbrev pub is_wrong_kind : Occurrence → Bool
+  is_wrong_kind (form c place) = clashes c place.need
+  is_wrong_kind (parallel place) = clashes class.Process place.need
+  is_wrong_kind (uses x s (how.Alone place)) = clashes (class_of s) place.need
+  is_wrong_kind (uses x s (how.Called n place)) = not (is_definition s) || clashes (class_of s) place.need
+  is_wrong_kind (uses x s (how.Dotted n)) = not (is_channel s)
+  is_wrong_kind (uses x s (how.Heads zero)) = not (is_channel s || is_bound s)
+  is_wrong_kind (uses x s (how.Heads (suc n))) = not (is_channel s)
+  is_wrong_kind (uses x s (how.Begins n)) = not (is_channel s)
+  is_wrong_kind (uses x s (how.Renamed n new m)) = false
+  is_wrong_kind (uses x s how.Annotated) = not (is_definition s) || clashes (class_of s) need.Process
+  is_wrong_kind (uses x s (how.Annotates process)) = not (is_definition s) || clashes (class_of s) need.Data
+  is_wrong_kind _ = false
+
+  -- A parallel or the use of a network definition stands outside the network positions.
+  abbrev pub is_inside : Occurrence → Bool
+  is_inside (parallel place) = not place.network
+  is_inside (uses x s (how.Alone place)) = is_network s && not place.network
+  is_inside (uses x s (how.Called n place)) = is_network s && not place.network
+  is_inside _ = false
+
+-- the number of parameters of a definition, and of fields of a channel
+abbrev pub takes_other : Sense → ℕ → Bool
+takes_other (sense.Declared (entity.Definition d n)) m = not (nat_eq n m)
+takes_other _ m = false
+
+abbrev pub has_other : Sense → ℕ → Bool
+has_other (sense.Declared (entity.Channel c n)) m = not (nat_eq n m)
+has_other _ m = false
+
+abbrev pub has_fewer : Sense → ℕ → Bool
+has_fewer (sense.Declared (entity.Channel c n)) m = nat_lt n m
+has_fewer _ m = false
+
+-- the two sides of a renaming don't leave the same number of fields, or one side has too many
+abbrev pub leave_other : Sense → ℕ → Sense → ℕ → Bool
+leave_other (sense.Declared (entity.Channel c n)) given (sense.Declared (entity.Channel c' n')) given' =
+    nat_lt n given || (nat_lt n' given' || not (nat_eq (n - given) (n' - given')))
+leave_other _ given _ given' = false
+
+-- the two definitions differ in their number of parameters
+abbrev pub take_other : Sense → Sense → Bool
+take_other (sense.Declared (entity.Definition d n)) s = takes_other s n
+take_other _ s = false
+
+-- A call, an event, a renaming pair or an annotated set has the wrong number of arguments, fields or parameters.
+abbrev pub wrong_count : Occurrence → Option Name
+wrong_count (uses x s (how.Alone place)) = when (takes_other s 0 || has_other s 0) x
+wrong_count (uses x s (how.Called n place)) = when (takes_other s n) x
+wrong_count (uses x s (how.Dotted n)) = when (has_other s n) x
+wrong_count (uses x s (how.Heads n)) = when (has_other s n) x
+wrong_count (uses x s (how.Begins n)) = when (has_fewer s n) x
+wrong_count (uses x s (how.Renamed n new m)) = when (leave_other s n new m) x
+wrong_count (uses x s (how.Annotates process)) = when (take_other process s) x
+wrong_count _ = None

@@ -1,0 +1,10 @@
+pub mod Names
+pub mod Kinds
+pub mod Occurrence
+pub mod Says
+pub mod Faults
+pub mod Depth
+pub mod Told
+pub mod Typed
+pub mod Contents
+pub mod Resolved

@@ -1,0 +1,92 @@
+-- What the names of a script stand for: a name that is bound hides a declared one, and a declared name is what its first declaration makes it.
+-- Channels, constants and definitions are numbered from 0 in the order of their declarations; nametypes and datatypes are definitions too.
+use Rattle.script_names.specs.declared.kinds.Sense.TheVariants as sense
+use Rattle.script_names.specs.declared.kinds.Sense.{Sense}
+use Rattle.std.specs.Prelude.{ℕ, ◌+◌, Bool, nat_eq, if◌then◌else◌, Option, Some, None, List, [], ◌∷◌, ◌++◌, length}
+use Rattle.std.specs.Cmp.Lexicographic.{pointwise}
+use Rattle.std.specs.Map.{lookup}
+use Rattle.std.specs.Set.{is_member}
+use Rattle.csp_text.specs.declared.script.Decl.{Decl}
+use Rattle.csp_text.specs.declared.script.Decl.TheVariants as decl
+use Rattle.script_names.specs.declared.kinds.Entity.{Entity}
+use Rattle.script_names.specs.declared.kinds.Entity.TheVariants as entity
+
+-- a name is the list of its bytes
+abbrev pub Name : Type 0
+Name = List ℕ
+
+abbrev pub same_name : Name → Name → Bool
+same_name x y = pointwise nat_eq x y
+
+-- whether the name is among these
+abbrev pub is_among : List Name → Name → Bool
+is_among xs x = is_member same_name xs x
+
+-- how many channels, constants and definitions were declared
+pub record Counts : Type 0 where
+  pub channels : ℕ
+  pub constants : ℕ
+  pub definitions : ℕ
+
+-- with those of one more declaration
+abbrev pub counted : Counts → Decl → Counts
+counted n (decl.Channel xs types) = record n { channels = n.channels + length xs }
+counted n (decl.Datatype x ks) = record n { constants = n.constants + length ks; definitions = n.definitions + 1 }
+counted n (decl.Nametype x t) = record n { definitions = n.definitions + 1 }
+counted n (decl.Define x params t) = record n { definitions = n.definitions + 1 }
+counted n (decl.Assert t) = n
+counted n (decl.Roles names) = n
+counted n (decl.Resource names) = n
+
+-- names with what they stand for, in the order of the text
+abbrev pub Entities : Type 0
+Entities = List (Name × Entity)
+
+abbrev pub channels_from : ℕ → ℕ → List Name → Entities
+channels_from n fields [] = []
+channels_from n fields (x ∷ xs) = (x, entity.Channel n fields) ∷ channels_from (n + 1) fields xs
+
+abbrev pub constants_from : ℕ → List Name → Entities
+constants_from n [] = []
+constants_from n (x ∷ xs) = (x, entity.Constant n) ∷ constants_from (n + 1) xs
+
+-- what a declaration declares, after so many of each kind
+abbrev pub declares : Counts → Decl → Entities
+declares n (decl.Channel xs types) = channels_from n.channels (length types) xs
+declares n (decl.Datatype x ks) = (x, entity.Set n.definitions) ∷ constants_from n.constants ks
+declares n (decl.Nametype x t) = (x, entity.Set n.definitions) ∷ []
+declares n (decl.Define x params t) = (x, entity.Definition n.definitions (length params)) ∷ []
+declares n (decl.Assert t) = []
+declares n (decl.Roles names) = []
+declares n (decl.Resource names) = []
+
+abbrev pub declared_from : Counts → List Decl → Entities
+declared_from n [] = []
+declared_from n (decl ∷ decls) = declares n decl ++ declared_from (counted n decl) decls
+
+abbrev pub none_yet : Counts
+none_yet = record { channels = 0; constants = 0; definitions = 0 }
+
+-- the declared names of a script
+abbrev pub declared : List Decl → Entities
+declared decls = declared_from none_yet decls
+
+-- what the first declaration of a name makes it
+abbrev pub first_of : Entities → Name → Option Entity
+first_of entities x = lookup (λ y. same_name x y) entities
+
+-- what each declared name stands for
+abbrev pub Meanings : Type 0
+Meanings = Name → Option Entity
+
+-- what the declared names of a script stand for
+abbrev pub meanings_of : List Decl → Meanings
+meanings_of decls x = first_of (declared decls) x
+
+abbrev pub sense_of : Option Entity → Sense
+sense_of None = sense.Unknown
+sense_of (Some e) = sense.Declared e
+
+-- what a name stands for under these bound names
+abbrev pub sense_in : Meanings → List Name → Name → Sense
+sense_in meanings names x = if is_among names x then sense.Bound else sense_of (meanings x)

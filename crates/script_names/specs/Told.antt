@@ -1,0 +1,160 @@
+-- The name fault of a script: that of the first declaration which has one, there the one with the least number, there at the first name.
+use Rattle.script_names.specs.declared.kinds.Need.TheVariants as need
+use Rattle.script_names.specs.declared.kinds.Need.{Need}
+use Rattle.script_names.specs.declared.kinds.Use.TheVariants as how
+use Rattle.script_names.specs.declared.kinds.Place.{Place}
+use Rattle.std.specs.Prelude.{ℕ, ◌+◌, Bool, true, false, ◌&&◌, nat_lt, if◌then◌else◌, Option, Some, None, List, [], ◌∷◌, ◌++◌, length, map, slice_get}
+use Rattle.std.specs.List.{flat_map, list_any}
+use Rattle.std.specs.Option.{option_map}
+use Rattle.csp_text.specs.declared.script.Decl.{Decl}
+use Rattle.csp_text.specs.declared.script.Decl.TheVariants as decl
+use Rattle.csp_text.specs.declared.tree.Tree.{Tree}
+use Rattle.script_names.specs.declared.fault.ResolveFault.{ResolveFault}
+use Rattle.script_names.specs.declared.fault.ResolveFault.TheVariants as fault
+use Rattle.script_names.specs.declared.kinds.Class.{Class}
+use Rattle.script_names.specs.declared.kinds.Class.TheVariants as class
+use Rattle.script_names.specs.declared.kinds.Kind.{Kind}
+use Rattle.script_names.specs.Depth.{depth_within}
+use Rattle.script_names.specs.Faults.{unknown_name, repeated_name, is_wrong_kind, wrong_count, is_inside, kind_class, kind_network}
+use Rattle.script_names.specs.Names.{Name, Meanings, Counts, counted, none_yet, declared, sense_in, is_among, meanings_of}
+use Rattle.script_names.specs.Occurrence.{Occurrence, declares, binds, notes, uses}
+use Rattle.script_names.specs.Says.{tree_says}
+
+-- the names are declared after these
+abbrev pub declared_after : List Name → List Name → List Occurrence
+declared_after before [] = []
+declared_after before (x ∷ xs) = declares x (is_among before x) ∷ declared_after (before ++ x ∷ []) xs
+
+-- the parameters are bound after these
+abbrev pub parameters_after : List Name → List Name → List Occurrence
+parameters_after before [] = []
+parameters_after before (x ∷ xs) = binds x (is_among before x) ∷ parameters_after (before ++ x ∷ []) xs
+
+-- a body must be of the class of its definition, if it has one
+abbrev pub need_of : Class → Need
+need_of class.Data = need.Data
+need_of class.Process = need.Process
+need_of class.Unknown = need.Either
+
+-- the body of a definition
+abbrev pub body_place : Option Kind → Place
+body_place kind = record { need = need_of (kind_class kind); network = kind_network kind; level = 1 }
+
+-- a type of a channel, the body of a nametype
+abbrev pub data_place : Place
+data_place = record { need = need.Data; network = false; level = 1 }
+
+-- the asserted call
+abbrev pub root_place : Place
+root_place = record { need = need.Process; network = true; level = 1 }
+
+abbrev pub names_declared : List Decl → List Name
+names_declared decls = map (λ e. e.0) (declared decls)
+
+abbrev pub counts_of : Counts → List Decl → Counts
+counts_of n [] = n
+counts_of n (decl ∷ decls) = counts_of (counted n decl) decls
+
+-- the number of the next definition after these declarations
+abbrev pub next_definition : List Decl → ℕ
+next_definition decls = (counts_of none_yet decls).definitions
+
+-- the processes with an annotation of roles, and those with one of a resource
+abbrev pub with_roles : Decl → List Name
+with_roles (decl.Roles names) = names.process ∷ []
+with_roles _ = []
+
+abbrev pub with_uses : Decl → List Name
+with_uses (decl.Resource names) = names.process ∷ []
+with_uses _ = []
+
+module _ (meanings : Meanings) (kinds : List Kind) where
+  abbrev pub types_say : List Tree → List Occurrence
+  types_say types = flat_map (λ t. tree_says meanings t data_place []) types
+
+  -- an annotation of a process by these sets
+  abbrev pub annotation_says : Bool → Name → List Name → List Occurrence
+  annotation_says before process sets =
+      notes process before ∷ uses process (sense_in meanings [] process) how.Annotated
+      ∷ map (λ set. uses set (sense_in meanings [] set) (how.Annotates (sense_in meanings [] process))) sets
+
+  -- what a declaration says that stands after these others
+  abbrev pub decl_says : List Decl → Decl → List Occurrence
+  decl_says earlier (decl.Channel xs types) = declared_after (names_declared earlier) xs ++ types_say types
+  decl_says earlier (decl.Datatype x ks) = declared_after (names_declared earlier) (x ∷ ks)
+  decl_says earlier (decl.Nametype x t) = declared_after (names_declared earlier) (x ∷ []) ++ tree_says meanings t data_place []
+  decl_says earlier (decl.Define x params t) =
+      declared_after (names_declared earlier) (x ∷ []) ++ (parameters_after [] params
+      ++ tree_says meanings t (body_place (slice_get kinds (next_definition earlier))) params)
+  decl_says earlier (decl.Assert t) = tree_says meanings t root_place []
+  decl_says earlier (decl.Roles names) =
+      annotation_says (is_among (flat_map with_roles earlier) names.process) names.process (names.creq ∷ names.cack ∷ names.sreq ∷ names.sack ∷ [])
+  decl_says earlier (decl.Resource names) =
+      annotation_says (is_among (flat_map with_uses earlier) names.process) names.process (names.acquire ∷ names.release ∷ [])
+
+  -- what the bodies of definitions say that are expanded where they are used: those of data, and those without a class
+  abbrev pub expanded_body : Class → List Occurrence → List Occurrence
+  expanded_body class.Process os = []
+  expanded_body _ os = os
+
+  abbrev pub bodies_from : ℕ → List Decl → List (List Occurrence)
+  bodies_from d [] = []
+  bodies_from d (decl.Define x params t ∷ decls) =
+      expanded_body (kind_class (slice_get kinds d)) (tree_says meanings t (body_place (slice_get kinds d)) params) ∷ bodies_from (d + 1) decls
+  bodies_from d (decl.Nametype x t ∷ decls) = tree_says meanings t data_place [] ∷ bodies_from (d + 1) decls
+  bodies_from d (decl.Datatype x ks ∷ decls) = [] ∷ bodies_from (d + 1) decls
+  bodies_from d (_ ∷ decls) = bodies_from d decls
+
+-- the first that is there
+abbrev pub first_there : {A : Type 0} → List (Option A) → Option A
+first_there [] = None
+first_there (Some a ∷ rest) = Some a
+first_there (None ∷ rest) = first_there rest
+
+-- the first name that a test of occurrences finds
+abbrev pub first_name : (Occurrence → Option Name) → List Occurrence → Option Name
+first_name test os = first_there (map test os)
+
+abbrev pub when_any : Bool → ResolveFault → Option ResolveFault
+when_any b f = if b then Some f else None
+
+-- a definition of data is over 800 deep with all of its uses expanded, or without an end: with 801 uses entered one inside another it is over 800
+-- in either case
+abbrev pub is_deep : List Kind → List (List Occurrence) → ℕ → Bool
+is_deep kinds bodies d = nat_lt 800 (depth_within 801 bodies d)
+
+abbrev pub is_data : Class → Bool
+is_data class.Data = true
+is_data _ = false
+
+-- whether a declaration is the definition of data with the number d, and too deep
+abbrev pub too_deep : List Kind → List (List Occurrence) → ℕ → Decl → Bool
+too_deep kinds bodies d (decl.Define x params t) = is_data (kind_class (slice_get kinds d)) && is_deep kinds bodies d
+too_deep kinds bodies d (decl.Nametype x t) = is_deep kinds bodies d
+too_deep kinds bodies d _ = false
+
+module _ (script : List Decl) (kinds : List Kind) where
+  -- the fault of the declaration with the number i that says this
+  abbrev pub fault_of : ℕ → List Occurrence → Bool → Option ResolveFault
+  fault_of i os deep = first_there (
+      option_map (λ x. fault.Unknown i x) (first_name unknown_name os)
+      ∷ option_map (λ x. fault.Twice i x) (first_name (repeated_name (meanings_of script)) os)
+      ∷ when_any (list_any (is_wrong_kind kinds) os) (fault.WrongKind i)
+      ∷ option_map (λ x. fault.WrongCount i x) (first_name wrong_count os)
+      ∷ when_any (list_any (is_inside kinds) os) (fault.ParallelInside i)
+      ∷ when_any deep (fault.DataDepth i)
+      ∷ [])
+
+  -- the fault of a declaration that stands after these others
+  abbrev pub fault_in : List Decl → Decl → Option ResolveFault
+  fault_in earlier d =
+      fault_of (length earlier) (decl_says (meanings_of script) kinds earlier d)
+      (too_deep kinds (bodies_from (meanings_of script) kinds 0 script) (next_definition earlier) d)
+
+  -- the first fault of declarations that stand after these others
+  abbrev pub first_fault : List Decl → List Decl → Option ResolveFault
+  first_fault earlier [] = None
+  first_fault earlier (d ∷ rest) = first_there (fault_in earlier d ∷ first_fault (earlier ++ d ∷ []) rest ∷ [])
+
+  abbrev pub name_fault : Option ResolveFault
+  name_fault = first_fault [] script

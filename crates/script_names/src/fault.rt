@@ -1,0 +1,72 @@
+//! Why a script has no program.
+
+use csp_base::{Name, NoMemory};
+use csp_program::ValueKind;
+
+/// Why a script has no program. Declarations are numbered from 0 in the order of the text.
+#[derive(Drop)]
+pub enum ResolveFault {
+    /// No deadlock assertion is in the script.
+    NoAssert,
+    /// A name is neither bound nor declared.
+    Unknown {
+        /// The declaration.
+        inside: u32,
+        /// The name.
+        name: Name,
+    },
+    /// A name is declared, bound or annotated that may not be again.
+    Twice {
+        /// The declaration.
+        inside: u32,
+        /// The name.
+        name: Name,
+    },
+    /// What stands at a place is not what the place needs.
+    WrongKind {
+        /// The declaration.
+        inside: u32,
+    },
+    /// A name has the wrong number of arguments, fields or parameters.
+    WrongCount {
+        /// The declaration.
+        inside: u32,
+        /// The name.
+        name: Name,
+    },
+    /// A parallel or the use of a network definition stands inside a component.
+    ParallelInside {
+        /// The declaration.
+        inside: u32,
+    },
+    /// There are more than 16,384 events.
+    EventLimit {
+        /// Their number, or the greatest of its type where there are more.
+        count: u64,
+    },
+    /// A definition of data is more than 800 deep with all of its uses expanded, or without an end.
+    DataDepth {
+        /// The declaration.
+        inside: u32,
+    },
+    /// The type of a channel's field has no value that fits.
+    Value {
+        /// The declaration.
+        inside: u32,
+        /// Why.
+        kind: ValueKind,
+    },
+    /// There was no memory for the program.
+    NoMemory,
+}
+
+impl From<NoMemory> for ResolveFault {
+    ghost use Rattle.std.specs.Prelude.{◌≡◌};
+    ghost use Rattle.script_names.specs.declared.fault.ResolveFault.TheVariants as fault;
+
+    ghost from_gives = { λ _ e. e ≡ fault.NoMemory };
+
+    fn from(_error: NoMemory) -> ResolveFault {
+        ResolveFault::NoMemory
+    }
+}
