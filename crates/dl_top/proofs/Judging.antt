@@ -12,10 +12,10 @@ use Rattle.script_printer.specs.PrintedScript.{script_text}
 use Rattle.csp_terms.specs.Network.{network_of, IsLive, HasSilentBound}
 use Rattle.csp_tables.specs.declared.rule.Rule.{Rule}
 use Rattle.dl_top.specs.declared.words.Command.{Command}
-use Rattle.dl_top.specs.declared.words.Command.TheVariants.{Check, Show}
+use Rattle.dl_top.specs.declared.words.Command.TheVariants.{Check}
 use Rattle.dl_top.specs.declared.answer.Answer.{Answer}
 use Rattle.dl_top.specs.declared.answer.Answer.TheVariants.{NotBuilt, Shown, DeadlockFree}
-use Rattle.dl_top.specs.Judgement.{IsJudged, SpellsOnlyScript, Tells, TextCallsFor}
+use Rattle.dl_top.specs.Judgement.{IsJudged, ScriptDecides, SpellsOnlyScript, Tells, TextCallsFor}
 
 -- Whatever process the script is that of is what was found.
 abbrev pub FindsAll : Script → Option SingleProcess → Type 0
@@ -58,16 +58,23 @@ process_judged script rule found s bound is single all exact live text only =
 pub only_script : (text : List ℕ) (s : Script) → Spells text s → EachTextSpellsOneScript → SpellsOnlyScript text s
 only_script text s spelled only = record { spelled = spelled; only = λ t other. only text t s other spelled }
 
--- what a script calls for, the text that it was read of calls for
+-- what a script decides under `check` is its judgement
+pub checked : {E : Type 0} (script : Script) (command : Command) (rule : Rule) (result : Result Answer E) → command ≡ Check rule
+    → IfOk result (λ answer. (text : List ℕ) → SpellsOnlyScript text script → IsJudged text rule answer)
+    → IfOk result (λ answer. (text : List ℕ) → SpellsOnlyScript text script → ScriptDecides text command script answer)
+checked script command rule result is judged =
+    let P : Command → Type 0 = λ k. IfOk result (λ answer. (text : List ℕ) → SpellsOnlyScript text script → ScriptDecides text k script answer) in
+    subst P (sym is) judged
+
+-- what a script decides, the text that it was read of calls for
 pub script_read : {E : Type 0} (text : List ℕ) (command : Command) (s : Script) (result : Result Answer E) → Spells text s → EachTextSpellsOneScript
-    → IfOk result (λ answer. (text : List ℕ) → SpellsOnlyScript text s → TextCallsFor text command answer) → IfOk result (TextCallsFor text command)
-script_read text command s (Ok answer) spelled only calls = calls text (only_script text s spelled only)
-script_read text command s (Err e) spelled only calls = tt
+    → IfOk result (λ answer. (text : List ℕ) → SpellsOnlyScript text s → ScriptDecides text command s answer) → IfOk result (TextCallsFor text command)
+script_read text command s (Ok answer) spelled only decides = let one = only_script text s spelled only in inr (s, one, decides text one)
+script_read text command s (Err e) spelled only decides = tt
 
 pub no_script_read : {E : Type 0} (text : List ℕ) (command : Command) (told : ParseFault) (result : Result Answer E)
     → IfNoScript told (λ at. (s : Script) → Spells text s → ⊥) → IfNoScript told (λ at. IsPlaceOf text at) → IfOk result (Tells told)
     → IfOk result (TextCallsFor text command)
 no_script_read text command told (Err e) none place tells = tt
 no_script_read text command fault.NoMemory (Ok answer) none place tells = absurd tells
-no_script_read text (Check rule) (fault.NoScript at) (Ok answer) none place tells = inl (at, none, place, tells)
-no_script_read text Show (fault.NoScript at) (Ok answer) none place tells = inl (at, none, place, tells)
+no_script_read text command (fault.NoScript at) (Ok answer) none place tells = inl (at, none, place, tells)

@@ -55,6 +55,10 @@ IsJudged text rule answer =
     ⊎ ((network : Network) × (bound : ℕ) × SpellsOnly text network × IsDeadlockFree network bound
     × (answer ≡ DeadlockFree rule (length (leaves network.tree)) bound))
 
+-- what a script decides of a text that spells it and no other
+abbrev pub ScriptDecides : List ℕ → Command → Script → Answer → Type 0
+ScriptDecides text (Check rule) script answer = IsJudged text rule answer
+ScriptDecides text Show script answer = answer ≡ Shown (script_text script)
+
 abbrev pub TextCallsFor : List ℕ → Command → Answer → Type 0
-TextCallsFor text (Check rule) answer = IsReadFirst text (λ script. IsJudged text rule) answer
-TextCallsFor text Show answer = IsReadFirst text (λ script answer. answer ≡ Shown (script_text script)) answer
+TextCallsFor text command answer = IsReadFirst text (ScriptDecides text command) answer

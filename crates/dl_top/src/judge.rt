@@ -1,7 +1,7 @@
 //! The judgement of a script.
 
 ghost use Rattle.std.specs.Prelude.{ℕ, List, IfOk};
-ghost use Rattle.dl_top.specs.Judgement.{IsJudged, SpellsOnlyScript, Tells, TextCallsFor};
+ghost use Rattle.dl_top.specs.Judgement.{IsJudged, ScriptDecides, SpellsOnlyScript, Tells, TextCallsFor};
 
 use crate::answer::Answer;
 use crate::words::Command;
@@ -33,7 +33,7 @@ fn judged(alloc: Global, rule: Rule, script: &Script) -> Result<Answer, NoMemory
 
 // The answer that a script calls for under the command, whatever text spells it.
 fn answered(alloc: Global, command: Command, script: &Script) -> Result<Answer, NoMemory>
-    ensures { IfOk result (λ answer. (text : List ℕ) → SpellsOnlyScript text script.now → TextCallsFor text command answer) }
+    ensures { IfOk result (λ answer. (text : List ℕ) → SpellsOnlyScript text script.now → ScriptDecides text command script.now answer) }
 {
     match command {
         Command::Check(rule) => judged(alloc, rule, script),

@@ -17,9 +17,9 @@ wanted : (words : List (List ℕ)) (x y z p q r a b : List ℕ) → 3 ≤ length
 wanted words x y z p q r a b low high hx hy hz px qy rz pa qb =
     let three : words ≡ x ∷ y ∷ z ∷ [] = of_three words x y z low high hx hy hz in cc
 
-pub returns-in-len3-clause-asks : goal.returns-in-len3-clause-asks
-returns-in-len3-clause-asks c = wanted _ _ _ _ _ _ _ _ _
+pub returns-in-Some-clause-asks : goal.returns-in-Some-clause-asks
+returns-in-Some-clause-asks c = wanted _ _ _ _ _ _ _ _ _
     c.in-len3.len_at_least c.in-len3.len_below c.check-item.is c.rule-item.is c.script-item.is
-    c.as_slice.ensures c.as_slice-then-eq.ensures c.as_slice-in-len3.ensures
+    c.as_slice.ensures c.as_slice-in-len3.ensures c.as_slice-in-Some.ensures
     ((bytes_eq-Decides _ _).0 (sym c.eq.ensures ∙ c.if-eq.true))
-    ((bytes_eq-Decides _ _).0 (sym c.eq-then-eq.ensures ∙ c.if-eq-2.true))
+    c.in-Some.ensures.named
