@@ -1,0 +1,282 @@
+-- Numbers that rise from each link to the next one of a part rise along all orders; and circles, passed the other way round.
+use Rattle.std.proofs.Common.{◌≡◌, ℕ, zero, suc, ◌+◌, ◌-◌, ◌%◌, ◌<◌, ◌≤◌, inl, inr, ◌⊎◌, List, [], ◌∷◌, ◌++◌, length, get_or, take, drop, true, false, Some, IsTrue, nat_eq, refl, sym, ap, subst, ◌∙◌, arith, eq-eqb}
+use Rattle.std.specs.Prelude.{slice_get, reverse}
+use Rattle.std.proofs.lemmas.Bool.{cases_Bool, cases_eq, cond-true, cond-false, or_cases, or_left, or_right, eqb-true, both_ways, false≢true}
+use Rattle.std.proofs.lemmas.List.{get_or-reverse, get_or_read, length-reverse, reverse-append}
+use Rattle.std.proofs.lemmas.List.Folds.{list_any-append, list_any_at}
+use Rattle.std.proofs.lemmas.Option.{slice_get_within, get_or_from_slice_get}
+use Rattle.std.proofs.Math.Seq.{drop-append_seam, take-append_seam}
+use Rattle.std.proofs.lemmas.Nat.{mod_below}
+use Rattle.std.proofs.Math.Nat.{mod-le}
+use Rattle.csp_base.specs.Members.{has}
+use Rattle.csp_tables.specs.Shape.{Shape, is_end, IsWellFormed}
+use Rattle.digraph.specs.Walk.{IsLongestWalk}
+use Rattle.digraph.specs.Circle.{Leads, IsLeastCircle}
+use Rattle.digraph.proofs.WalkLaws.{same_walk}
+use Rattle.design_rules.specs.Cyclic.{links_of, place_after, AllKeepPlaces, MustPrecede, NumbersRise}
+use Rattle.design_rules.specs.CyclicRanking.{ComesAfter, AreChainNumbers}
+use Rattle.design_rules.proofs.Places.{Keeping, IsAt, some_links, first_lap, precedes, precedes_rest}
+use Rattle.design_rules.proofs.Walks.{walk_bound}
+use Rattle.cyclic_rule.specs.Links.{ends_below, ends_of}
+use Rattle.cyclic_rule.specs.Orders.{IsOrder, order_at, AreOrders}
+use Rattle.cyclic_rule.specs.Chains.{IsNextIn, IsRestAfter, ComesNext, IsNextAt, turned_circle}
+
+-- ---- the links of a part
+
+has-push : (xs : List ℕ) (x y : ℕ) → has (xs ++ x ∷ []) y ≡ true → (has xs y ≡ true) ⊎ (x ≡ y)
+has-push xs x y h = elim (or_cases (has xs y) (has (x ∷ []) y) (sym (list_any-append (λ z. nat_eq z y) xs (x ∷ [])) ∙ h)) [
+  | inl old ↦ inl old
+  | inr new ↦ elim (or_cases (nat_eq x y) false new) [ inl same ↦ inr (eqb-true x y same) | inr never ↦ absurd (false≢true never) ]
+]
+
+pub ends_sound : (shape : Shape) (i n m : ℕ) → has (ends_below shape i n) m ≡ true → (m < n) × IsTrue (is_end shape i m)
+ends_sound shape i zero m h = absurd (false≢true h)
+ends_sound shape i (suc n) m h =
+    elim (cases_Bool (is_end shape i n)) [
+      | inl end ↦ elim (has-push (ends_below shape i n) n m (subst (λ xs. has xs m ≡ true) (cond-true (is_end shape i n) (ends_below shape i n ++ n ∷ []) (ends_below shape i n) end) h)) [
+        | inl old ↦ let r = ends_sound shape i n m old in let less : m < n = r.0 in (omega arith, r.1)
+        | inr new ↦ subst (λ k. (k < suc n) × IsTrue (is_end shape i k)) new (omega arith, end)
+      ]
+      | inr off ↦ let r = ends_sound shape i n m (subst (λ xs. has xs m ≡ true) (cond-false (is_end shape i n) (ends_below shape i n ++ n ∷ []) (ends_below shape i n) off) h) in let less : m < n = r.0 in (omega arith, r.1)
+    ]
+
+pub ends_complete : (shape : Shape) (i n m : ℕ) → m < n → is_end shape i m ≡ true → has (ends_below shape i n) m ≡ true
+ends_complete shape i zero m less end = absurd (omega arith)
+ends_complete shape i (suc n) m less end =
+    elim (cases_eq m n) [
+      | inl same ↦
+          let here : is_end shape i n ≡ true = subst (λ k. is_end shape i k ≡ true) same end in
+          subst (λ xs. has xs m ≡ true) (sym (cond-true (is_end shape i n) (ends_below shape i n ++ n ∷ []) (ends_below shape i n) here))
+          (list_any-append (λ z. nat_eq z m) (ends_below shape i n) (n ∷ []) ∙ or_right (has (ends_below shape i n) m) (has (n ∷ []) m) (or_left (nat_eq n m) false (eq-eqb n m (sym same))))
+      | inr other ↦
+          let old = ends_complete shape i n m (omega arith) end in
+          elim (cases_Bool (is_end shape i n)) [
+            | inl h ↦ subst (λ xs. has xs m ≡ true) (sym (cond-true (is_end shape i n) (ends_below shape i n ++ n ∷ []) (ends_below shape i n) h)) (list_any-append (λ z. nat_eq z m) (ends_below shape i n) (n ∷ []) ∙ or_left (has (ends_below shape i n) m) (has (n ∷ []) m) old)
+            | inr h ↦ subst (λ xs. has xs m ≡ true) (sym (cond-false (is_end shape i n) (ends_below shape i n ++ n ∷ []) (ends_below shape i n) h)) old
+          ]
+    ]
+
+-- a number of a list stands at a place
+pub place_in : (xs : List ℕ) (x : ℕ) → has xs x ≡ true → (k : ℕ) × (slice_get xs k ≡ Some x)
+place_in [] x h = absurd (false≢true h)
+place_in (y ∷ ys) x h = elim (or_cases (nat_eq y x) (has ys x) h) [
+  | inl same ↦ (0, ap Some (eqb-true y x same))
+  | inr later ↦ let r = place_in ys x later in (suc r.0, r.1)
+]
+
+pub has_place : (xs : List ℕ) (k x : ℕ) → slice_get xs k ≡ Some x → has xs x ≡ true
+has_place [] k x h = absurd (let below : k < length {A = ℕ} [] = slice_get_within [] k x h in omega arith)
+has_place (y ∷ ys) zero x h = let same : y ≡ x = cc in or_left (nat_eq y x) (has ys x) (eq-eqb y x same)
+has_place (y ∷ ys) (suc k) x h = or_right (nat_eq y x) (has ys x) (has_place ys k x h)
+
+pub some_at : (xs : List ℕ) (k : ℕ) → k < length xs → (x : ℕ) × (slice_get xs k ≡ Some x)
+some_at [] k h = absurd (omega arith)
+some_at (x ∷ xs) zero h = (x, refl)
+some_at (x ∷ xs) (suc k) h = some_at xs k (omega arith)
+
+-- ---- orders and numbers
+
+module _ (shape : Shape) (orders : List (List ℕ)) (w : IsWellFormed shape) (keep : AllKeepPlaces shape) (a : AreOrders shape orders) where
+  keeping : (i : ℕ) → i < length shape.parts → Keeping shape i
+  keeping i h = record { form = w; keeps = keep i h }
+
+  at_order : (i q l : ℕ) → i < length shape.parts → slice_get (order_at orders i) q ≡ Some l → (q < links_of shape i) × IsAt shape i q l
+  at_order i q l h at = let r = (a.each i h).listed q l at in (r.0, record { run = r.1.run; event = r.1.event; reaches = r.1.reaches; place = r.1.place })
+
+  order_is : (i q l : ℕ) → i < length shape.parts → q < links_of shape i → IsAt shape i q l → slice_get (order_at orders i) q ≡ Some l
+  order_is i q l h below at = (a.each i h).all q l below (record { run = at.run; event = at.event; reaches = at.reaches; place = at.place })
+
+  -- a link must come before the one that comes next after it
+  pub next_precedes : (l m : ℕ) → IsNextAt shape orders (length shape.parts) l m → MustPrecede shape l m
+  next_precedes l m x = go x.next
+    where
+      go : ComesNext (order_at orders x.part) (ends_of shape x.part) l m → MustPrecede shape l m
+      go (inl n) =
+          let first = at_order x.part n.place l x.within n.first in
+          let second = at_order x.part (n.place + 1) m x.within n.second in
+          precedes shape x.part n.place (n.place + 1) l m (keeping x.part x.within) (omega arith) second.0 first.1 second.1
+      go (inr n) =
+          let last = at_order x.part n.place l x.within n.last in
+          let end = ends_sound shape x.part (length shape.links) m n.link in
+          precedes_rest shape x.part n.place l m (keeping x.part x.within) last.0 last.1 end.0 end.1
+          (λ same. both_ways (has (order_at orders x.part) m) n.absent (subst (λ k. has (order_at orders x.part) k ≡ true) same (has_place (order_at orders x.part) n.place l n.last)))
+          (λ q less at. both_ways (has (order_at orders x.part) m) n.absent (has_place (order_at orders x.part) q m (order_is x.part q m x.within (let below : n.place < links_of shape x.part = last.0 in omega arith) at)))
+
+  -- numbers that rise from each link to the next one
+  module _ (number : ℕ → ℕ) (next : (l m : ℕ) → IsNextAt shape orders (length shape.parts) l m → number l < number m) where
+    up : (i : ℕ) → i < length shape.parts → (q d l m : ℕ) → slice_get (order_at orders i) q ≡ Some l → slice_get (order_at orders i) (q + d + 1) ≡ Some m → number l < number m
+    up i h q zero l m first second = next l m (record { part = i; within = h; next = inl (record { place = q; first = first; second = subst (λ k. slice_get (order_at orders i) k ≡ Some m) (let e : q + 0 + 1 ≡ q + 1 = omega arith in e) second }) })
+    up i h q (suc d) l m first second =
+        let within = slice_get_within (order_at orders i) (q + suc d + 1) m second in
+        let mid = some_at (order_at orders i) (q + d + 1) (omega arith) in
+        let low : number l < number mid.0 = up i h q d l mid.0 first mid.1 in
+        let high : number mid.0 < number m = next mid.0 m (record { part = i; within = h; next = inl (record { place = q + d + 1; first = mid.1; second = subst (λ k. slice_get (order_at orders i) k ≡ Some m) (let e : q + suc d + 1 ≡ q + d + 1 + 1 = omega arith in e) second }) }) in
+        omega arith
+
+    rises : (i q r l m : ℕ) → i < length shape.parts → slice_get (order_at orders i) q ≡ Some l → slice_get (order_at orders i) r ≡ Some m → q < r → number l < number m
+    rises i q r l m h first second less = up i h q (r - (q + 1)) l m first (subst (λ k. slice_get (order_at orders i) k ≡ Some m) (let e : r ≡ q + (r - (q + 1)) + 1 = omega arith in e) second)
+
+    pub all_rise : NumbersRise shape number
+    all_rise l m b =
+        let i = b.part in
+        let h : b.part < length shape.parts = b.reaches.possible.runs.part in
+        let k : 0 < links_of shape b.part = some_links shape b.part l b.reaches.on.within b.reaches.on.end in
+        let q = place_after shape b.run % links_of shape b.part in
+        let below : place_after shape b.run % links_of shape b.part < links_of shape b.part = mod_below (place_after shape b.run) (links_of shape b.part) k in
+        let small : place_after shape b.run % links_of shape b.part ≤ place_after shape b.run = mod-le (place_after shape b.run) (links_of shape b.part) in
+        let at = order_is b.part (place_after shape b.run % links_of shape b.part) l h below (first_lap shape b.part l b.run b.event (keeping b.part h) b.reaches) in
+        elim (cases_Bool (has (order_at orders b.part) m)) [
+          | inl there ↦
+              let r = place_in (order_at orders b.part) m there in
+              let x = at_order b.part r.0 m h r.1 in
+              let later : place_after shape b.run < place_after shape x.1.run = b.later x.1.run x.1.event x.1.reaches in
+              let place : place_after shape x.1.run ≡ r.0 = x.1.place in
+              rises b.part (place_after shape b.run % links_of shape b.part) r.0 l m h at r.1 (omega arith)
+          | inr absent ↦
+              let within = slice_get_within (order_at orders b.part) (place_after shape b.run % links_of shape b.part) l at in
+              let z = length (order_at orders b.part) - 1 in
+              let last = some_at (order_at orders b.part) (length (order_at orders b.part) - 1) (omega arith) in
+              let high : number last.0 < number m = next last.0 m (record { part = b.part; within = h; next = inr (record { place = length (order_at orders b.part) - 1; last = last.1; end = omega arith; link = ends_complete shape b.part (length shape.links) m b.within b.end; absent = absent }) }) in
+              elim (cases_eq (place_after shape b.run % links_of shape b.part) (length (order_at orders b.part) - 1)) [
+                | inl same ↦
+                    let is : last.0 ≡ l = some_same last.0 l (sym last.1 ∙ subst (λ j. slice_get (order_at orders b.part) j ≡ Some l) same at) in
+                    subst (λ j. number j < number m) is high
+                | inr other ↦
+                    let low : number l < number last.0 = rises b.part (place_after shape b.run % links_of shape b.part) (length (order_at orders b.part) - 1) l last.0 h at last.1 (omega arith) in
+                    omega arith
+              ]
+        ]
+      where
+        some_same : (x y : ℕ) → Some x ≡ Some y → x ≡ y
+        some_same x y e = cc
+
+  -- longest walks over the arcs are longest chains
+  pub chain_numbers : (Arc : ℕ → ℕ → Type 0) (number : ℕ → ℕ) → ((m l : ℕ) → Arc m l → IsNextAt shape orders (length shape.parts) l m) → ((l : ℕ) → l < length shape.links → IsLongestWalk Arc l (number l)) → NumbersRise shape number → AreChainNumbers shape number
+  chain_numbers Arc number sound longest rise l h =
+      let x = longest l h in
+      record {
+        end = x.end;
+        attained = same_walk Arc (ComesAfter shape) (λ m k arc. next_precedes k m (sound m k arc)) (number l) l x.end x.attained;
+        most = λ n y walk. walk_bound (ComesAfter shape) number (λ m k before. rise k m before) n l y walk;
+      }
+
+-- ---- circles the other way round
+
+module _ (A B : ℕ → ℕ → Type 0) (flip : (x y : ℕ) → A x y → B y x) where
+  leads_more : (x : ℕ) (vs : List ℕ) (y z : ℕ) → Leads B x vs y → B y z → Leads B x (vs ++ y ∷ []) z
+  leads_more x [] y z arc last = (arc, last)
+  leads_more x (v ∷ vs) y z l last = (l.0, leads_more v vs y z l.1 last)
+
+  back_leads : (x : ℕ) (vs : List ℕ) (y : ℕ) → Leads A x vs y → Leads B y (reverse vs) x
+  back_leads x [] y arc = flip x y arc
+  back_leads x (v ∷ vs) y l = subst (λ us. Leads B y us x) (sym (reverse-cons v vs)) (leads_more y (reverse vs) v x (back_leads v vs y l.1) (flip x v l.0))
+    where
+      reverse-cons : (u : ℕ) (us : List ℕ) → reverse (u ∷ us) ≡ reverse us ++ u ∷ []
+      reverse-cons u us = reverse-append (u ∷ []) us
+
+  at_turned : (v : ℕ) (vs : List ℕ) (k : ℕ) → 0 < k → k < length (v ∷ vs) → get_or (v ∷ reverse vs) k 0 ≡ get_or (v ∷ vs) (length (v ∷ vs) - k) 0
+  at_turned v vs zero some h = absurd (omega arith)
+  at_turned v vs (suc k) some h =
+      get_or-reverse vs k 0 (omega arith) ∙ ap (λ j. get_or (v ∷ vs) j 0) (let e : suc (length vs - 1 - k) ≡ length (v ∷ vs) - suc k = omega arith in e)
+
+  pub turned_least : (vs : List ℕ) → IsLeastCircle A vs → IsLeastCircle B (turned_circle vs)
+  turned_least [] c = absurd c.circle
+  turned_least (v ∷ vs) c = record {
+    circle = back_leads v vs v c.circle;
+    distinct = λ j k less h same.
+        let within : k < length (v ∷ vs) = omega (arith, length-reverse vs) in
+        elim (cases_eq j 0) [
+          | inl none ↦ c.distinct 0 (length (v ∷ vs) - k) (omega arith) (omega arith) (subst (λ i. get_or (v ∷ reverse vs) i 0 ≡ get_or (v ∷ reverse vs) k 0) none same ∙ at_turned v vs k (omega arith) within)
+          | inr some ↦ c.distinct (length (v ∷ vs) - k) (length (v ∷ vs) - j) (omega arith) (omega arith) (sym (at_turned v vs k (omega arith) within) ∙ sym same ∙ at_turned v vs j (omega arith) (omega arith))
+        ];
+    least_first = λ k some h.
+        let within : k < length (v ∷ vs) = omega (arith, length-reverse vs) in
+        subst (λ x. v < x) (sym (at_turned v vs k some within)) (c.least_first (length (v ∷ vs) - k) (omega arith) (omega arith));
+  }
+
+pub circle_some : (A : ℕ → ℕ → Type 0) (vs : List ℕ) → IsLeastCircle A vs → 0 < length vs
+circle_some A [] c = absurd c.circle
+circle_some A (v ∷ vs) c = omega arith
+
+pub turned_by : (xs : List ℕ) (n : ℕ) → 0 < length xs → n ≡ length xs - 1 → drop n (reverse xs) ++ take n (reverse xs) ≡ turned_circle xs
+turned_by [] n some is = absurd (omega arith)
+turned_by (v ∷ vs) n some is =
+    let whole : reverse (v ∷ vs) ≡ reverse vs ++ v ∷ [] = reverse-append (v ∷ []) vs in
+    let count : n ≡ length (reverse vs) = omega (arith, length-reverse vs) in
+    let back : drop (length (reverse vs)) (reverse vs ++ v ∷ []) ≡ v ∷ [] = drop-append_seam (reverse vs) (v ∷ []) in
+    let front : take (length (reverse vs)) (reverse vs ++ v ∷ []) ≡ reverse vs = take-append_seam (reverse vs) (v ∷ []) in
+    rw (whole, count, back, front) refl
+
+-- ---- what the rows are made of
+
+pub order_within : (shape : Shape) (i : ℕ) (order : List ℕ) → IsOrder shape i order → (k d : ℕ) → k < length order → get_or order k d < length shape.links
+order_within shape i order o k d h =
+    let x = some_at order k h in
+    subst (λ l. l < length shape.links) (sym (get_or_from_slice_get order k x.0 d x.1)) (o.listed k x.0 x.1).1.reaches.on.within
+
+pub ends_within : (shape : Shape) (i : ℕ) (k d : ℕ) → k < length (ends_of shape i) → get_or (ends_of shape i) k d < length shape.links
+ends_within shape i k d h =
+    let x = some_at (ends_of shape i) k h in
+    subst (λ l. l < length shape.links) (sym (get_or_from_slice_get (ends_of shape i) k x.0 d x.1)) (ends_sound shape i (length shape.links) x.0 (has_place (ends_of shape i) k x.0 x.1)).0
+
+pub order_read : (shape : Shape) (orders : List (List ℕ)) (i : ℕ) (slice row : List ℕ) → AreOrders shape orders → i < length orders → slice ≡ row → row ≡ get_or orders i row → (slice ≡ order_at orders i) × (i < length shape.parts)
+order_read shape orders i slice row a h same is = (same ∙ get_or_read orders i row h is [], omega (arith, a.count))
+
+pub order_all : (shape : Shape) (orders : List (List ℕ)) (i n : ℕ) (slice row : List ℕ) → AreOrders shape orders → i < length orders → slice ≡ row → row ≡ get_or orders i row → n ≡ length shape.links → (k d : ℕ) → k < length slice → get_or slice k d < n
+order_all shape orders i n slice row a h same is count k d below =
+    let r = order_read shape orders i slice row a h same is in
+    subst (λ m. get_or slice k d < m) (sym count) (subst (λ (xs : List ℕ). k < length xs → get_or xs k d < length shape.links) (sym r.0) (order_within shape i (order_at orders i) (a.each i r.1) k d) below)
+
+pub ends_all : (shape : Shape) (i n : ℕ) (slice : List ℕ) → slice ≡ ends_of shape i → n ≡ length shape.links → (k d : ℕ) → k < length slice → get_or slice k d < n
+ends_all shape i n slice is count k d below = subst (λ m. get_or slice k d < m) (sym count) (subst (λ (xs : List ℕ). k < length xs → get_or xs k d < length shape.links) (sym is) (ends_within shape i k d) below)
+
+pub has_at : (xs : List ℕ) (k : ℕ) → k < length xs → has xs (get_or xs k 0) ≡ true
+has_at xs k h = list_any_at (λ z. nat_eq z (get_or xs k 0)) xs k 0 h (eq-eqb (get_or xs k 0) (get_or xs k 0) refl)
+
+some_is : (x y : ℕ) → Some x ≡ Some y → x ≡ y
+some_is x y h = cc
+
+-- an arc from a link that is not in the order
+pub rest_is : (order ends : List ℕ) (j last m k : ℕ) → Some last ≡ slice_get order (length order - 1) → j < length ends → (m ≡ get_or ends j 0) × (k ≡ last) × (has order (get_or ends j 0) ≡ false) → IsRestAfter order ends k m
+rest_is order ends j last m k at below is =
+    let within = slice_get_within order (length order - 1) last (sym at) in
+    record {
+      place = length order - 1;
+      last = sym at ∙ ap Some (sym is.1);
+      end = omega arith;
+      link = subst (λ x. has ends x ≡ true) (sym is.0) (has_at ends j below);
+      absent = subst (λ x. has order x ≡ false) (sym is.0) is.2;
+    }
+
+pub rest_last : (order ends : List ℕ) (last l m : ℕ) → Some last ≡ slice_get order (length order - 1) → IsRestAfter order ends l m → last ≡ l
+rest_last order ends last l m at r =
+    let end : length order ≡ r.place + 1 = r.end in
+    let same : length order - 1 ≡ r.place = omega arith in
+    some_is last l (at ∙ ap (slice_get order) same ∙ r.last)
+
+-- the arcs of one part more
+pub chains_more : (shape : Shape) (orders : List (List ℕ)) (n : ℕ) (first second ends : List ℕ) (A B D : ℕ → ℕ → Type 0) → first ≡ order_at orders n → second ≡ order_at orders n → ends ≡ ends_of shape n
+    → ((m k : ℕ) → A m k → IsNextAt shape orders n k m) → ((m k : ℕ) → IsNextAt shape orders n k m → A m k)
+    → ((m k : ℕ) → B m k → A m k ⊎ IsNextIn first k m) → ((m k : ℕ) → A m k → B m k) → ((m k : ℕ) → IsNextIn first k m → B m k)
+    → ((m k : ℕ) → D m k → B m k ⊎ IsRestAfter second ends k m) → ((m k : ℕ) → B m k → D m k) → ((m k : ℕ) → IsRestAfter second ends k m → D m k)
+    → ((m k : ℕ) → D m k → IsNextAt shape orders (n + 1) k m) × ((m k : ℕ) → IsNextAt shape orders (n + 1) k m → D m k)
+chains_more shape orders n first second ends A B D f s e a_sound a_all b_sound b_kept b_all d_sound d_kept d_all = (sound, complete)
+  where
+    sound : (m k : ℕ) → D m k → IsNextAt shape orders (n + 1) k m
+    sound m k arc = elim (d_sound m k arc) [
+      | inl old ↦ elim (b_sound m k old) [
+        | inl older ↦ let x = a_sound m k older in record { part = x.part; within = let h : x.part < n = x.within in omega arith; next = x.next }
+        | inr next ↦ record { part = n; within = omega arith; next = inl (subst (λ o. IsNextIn o k m) f next) }
+      ]
+      | inr rest ↦ record { part = n; within = omega arith; next = inr (subst (λ o. IsRestAfter o (ends_of shape n) k m) s (subst (λ es. IsRestAfter second es k m) e rest)) }
+    ]
+
+    now : (m k : ℕ) → ComesNext (order_at orders n) (ends_of shape n) k m → D m k
+    now m k (inl next) = d_kept m k (b_all m k (subst (λ o. IsNextIn o k m) (sym f) next))
+    now m k (inr rest) = d_all m k (subst (λ es. IsRestAfter second es k m) (sym e) (subst (λ o. IsRestAfter o (ends_of shape n) k m) (sym s) rest))
+
+    complete : (m k : ℕ) → IsNextAt shape orders (n + 1) k m → D m k
+    complete m k x = elim (cases_eq x.part n) [
+      | inl here ↦ now m k (subst (λ i. ComesNext (order_at orders i) (ends_of shape i) k m) here x.next)
+      | inr before ↦ d_kept m k (b_kept m k (a_all m k (record { part = x.part; within = let h : x.part < n + 1 = x.within in omega arith; next = x.next })))
+    ]

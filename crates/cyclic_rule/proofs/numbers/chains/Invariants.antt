@@ -1,0 +1,11 @@
+use Rattle.std.proofs.Common.{◌≡◌, ℕ, length}
+use Rattle.digraph.specs.Digraph.{HasArc}
+use Rattle.cyclic_rule.specs.Chains.{IsNextAt}
+use Rattle.cyclic_rule.proofs.numbers.chains.Given as goal
+
+abbrev pub invariant-loop-part : goal.invariant-loop-part
+invariant-loop-part l = record {
+  count : length l.rows ≡ length l.prepared.links;
+  sound : (m k : ℕ) → HasArc l.rows m k → IsNextAt l.prepared l.orders l.part k m;
+  complete : (m k : ℕ) → IsNextAt l.prepared l.orders l.part k m → HasArc l.rows m k;
+}

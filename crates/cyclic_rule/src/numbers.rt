@@ -1,0 +1,116 @@
+//! The numbers of the links: how many must come before each, in a chain.
+
+ghost use Rattle.std.specs.Prelude.{◌≡◌, ◌<◌, ◌+◌, ◌⊎◌, ℕ, All, false, IfErr, IfOk, OnOk, length, slice_get, slice_index};
+ghost use Rattle.csp_base.specs.Members.{has};
+ghost use Rattle.digraph.specs.Digraph.{HasArc};
+ghost use Rattle.design_rules.specs.Cyclic.{AllKeepPlaces, NumbersRise};
+ghost use Rattle.design_rules.specs.CyclicRanking.{AreChainNumbers};
+ghost use Rattle.cyclic_rule.specs.Chains.{ComesNext, IsNextAt, IsNextIn, IsRestAfter};
+ghost use Rattle.cyclic_rule.specs.Links.{ends_of};
+ghost use Rattle.cyclic_rule.specs.Orders.{AreOrders};
+ghost use Rattle.cyclic_rule.specs.Told.{Tells};
+
+use crate::circle::turned;
+use crate::fault::CyclicFault;
+use crate::prepared::Prepared;
+use containers::Items;
+use csp_base::NoMemory;
+use digraph::{Fault, Heights, Rows, longest_walks};
+use std::alloc::Global;
+
+// For each link the greatest number of links that must come before it in a chain.
+pub(crate) fn numbers(
+    alloc: Global,
+    prepared: &Prepared<'_>,
+    orders: &[Items<u32>],
+) -> Result<Heights, CyclicFault>
+    requires keep { AllKeepPlaces prepared.now }
+    requires orders { AreOrders prepared.now orders.now }
+    ensures count { IfOk result (λ numbers. length numbers ≡ length prepared.now.links) }
+    ensures chains { IfOk result (λ numbers. AreChainNumbers prepared.now (slice_index numbers)) }
+    ensures rise { IfOk result (λ numbers. NumbersRise prepared.now (slice_index numbers)) }
+    ensures fault { IfErr result (λ fault. Tells prepared.now fault) }
+{
+    let _form = prepared.shape();
+    let rows = chains(alloc, prepared, orders)?;
+    match longest_walks(alloc, &rows) {
+        Ok(heights) => Ok(heights),
+        Err(Fault::Circle(circle)) => {
+            let links = turned(alloc, circle.members())?;
+            Err(CyclicFault::Circle { links })
+        }
+        Err(Fault::NoMemory) => Err(CyclicFault::NoMemory),
+    }
+}
+
+// From each link an arc to the one that comes before it in the order of a part.
+fn chains(alloc: Global, prepared: &Prepared<'_>, orders: &[Items<u32>]) -> Result<Rows, NoMemory>
+    requires { AreOrders prepared.now orders.now }
+    ensures count { IfOk result (λ rows. length rows ≡ length prepared.now.links) }
+    ensures sound { IfOk result (λ rows. (m l : ℕ) → HasArc rows m l → IsNextAt prepared.now orders.now (length prepared.now.parts) l m) }
+    ensures complete { IfOk result (λ rows. (m l : ℕ) → IsNextAt prepared.now orders.now (length prepared.now.parts) l m → HasArc rows m l) }
+{
+    let count = prepared.shape().links().len();
+    let mut rows = Rows::new(alloc, count as u32)?;
+    for part in 0..orders.len() {
+        let ends = prepared.links(part as u32);
+        chain(&mut rows, orders[part].as_slice())?;
+        chain_rest(&mut rows, orders[part].as_slice(), ends)?;
+    }
+    Ok(rows)
+}
+
+// An arc from each link of the order to the one before it.
+fn chain(rows: &mut Rows, order: &[u32]) -> Result<(), NoMemory>
+    requires { All (λ l. l < length rows.old) order.now }
+    ensures count { length rows.new ≡ length rows.old }
+    ensures sound { OnOk result ((m l : ℕ) → HasArc rows.new m l → HasArc rows.old m l ⊎ IsNextIn order.now l m) }
+    ensures kept { OnOk result ((m l : ℕ) → HasArc rows.old m l → HasArc rows.new m l) }
+    ensures complete { OnOk result ((m l : ℕ) → IsNextIn order.now l m → HasArc rows.new m l) }
+{
+    for place in 1..order.len() {
+        rows.add_arc(order[place], order[place - 1])?;
+    }
+    Ok(())
+}
+
+// An arc to the last link of the order from each link that is not in it.
+fn chain_rest(rows: &mut Rows, order: &[u32], ends: &[u32]) -> Result<(), NoMemory>
+    requires order { All (λ l. l < length rows.old) order.now }
+    requires ends { All (λ l. l < length rows.old) ends.now }
+    ensures count { length rows.new ≡ length rows.old }
+    ensures sound { OnOk result ((m l : ℕ) → HasArc rows.new m l → HasArc rows.old m l ⊎ IsRestAfter order.now ends.now l m) }
+    ensures kept { OnOk result ((m l : ℕ) → HasArc rows.old m l → HasArc rows.new m l) }
+    ensures complete { OnOk result ((m l : ℕ) → IsRestAfter order.now ends.now l m → HasArc rows.new m l) }
+{
+    let Some(last) = order.last() else {
+        return Ok(());
+    };
+    for link in ends {
+        rest_arc(rows, order, *link, *last)?;
+    }
+    Ok(())
+}
+
+// An arc from the link to the last one of the order, if the link is not in it.
+fn rest_arc(rows: &mut Rows, order: &[u32], link: u32, last: u32) -> Result<(), NoMemory>
+    requires link { link < length rows.old }
+    requires last { last < length rows.old }
+    ensures count { length rows.new ≡ length rows.old }
+    ensures sound { OnOk result ((m l : ℕ) → HasArc rows.new m l → HasArc rows.old m l ⊎ ((m ≡ link) × (l ≡ last) × (has order.now link ≡ false))) }
+    ensures kept { OnOk result ((m l : ℕ) → HasArc rows.old m l → HasArc rows.new m l) }
+    ensures complete { OnOk result (has order.now link ≡ false → HasArc rows.new link last) }
+{
+    if contains(order, link) {
+        return Ok(());
+    }
+    rows.add_arc(link, last)?;
+    Ok(())
+}
+
+// Whether the number is in the list.
+fn contains(numbers: &[u32], wanted: u32) -> bool
+    ensures { result ≡ has numbers.now wanted }
+{
+    numbers.iter().any(|number| *number == wanted)
+}
