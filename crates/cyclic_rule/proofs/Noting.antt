@@ -1,9 +1,7 @@
 -- Facts that are kept by the places of a lap.
-use Rattle.std.proofs.Common.{◌≡◌, ℕ, ◌<◌, inl, inr, ◌⊎◌, List, [], length, get_or, set, true, false, Option, Some, None, Result, Err, IsTrue, nat_eq, refl, sym, ap, subst, ◌∙◌, arith, eq-eqb}
-use Rattle.std.proofs.lemmas.Bool.{cases_eq, cases_lt, eqb-true, both_ways}
-use Rattle.std.proofs.lemmas.List.{get_or-set_same, get_or-set_other, get_or-replicate, get_or_past, get_or_read}
-use Rattle.std.specs.Prelude.{replicate}
-use Rattle.std.proofs.lemmas.List.{length-replicate}
+use Rattle.std.proofs.Common.{◌≡◌, ℕ, ◌<◌, inl, inr, ◌⊎◌, List, [], length, get_or, set, Option, Some, None, Result, Err, IsTrue, sym, ap, subst, ◌∙◌}
+use Rattle.std.proofs.lemmas.Bool.{cases_eq, cases_lt}
+use Rattle.std.proofs.lemmas.List.{get_or-set_same, get_or-set_other, get_or_past, get_or_read}
 use Rattle.csp_tables.specs.Table.{Node, node_at, is_possible}
 use Rattle.csp_tables.specs.Part.{Part, part_at}
 use Rattle.csp_tables.specs.Shape.{Shape, IsWellFormed}
@@ -11,7 +9,7 @@ use Rattle.net_sound.proofs.Within.{part_form}
 use Rattle.observed_runs.specs.Observed.{pair_at}
 use Rattle.observed_runs.proofs.Leading.{listed_step, step_listed, node_form}
 use Rattle.cyclic_rule.specs.Links.{IsOwner}
-use Rattle.cyclic_rule.specs.Facts.{IsFact, first_at, HasFirst, AreFirsts, IsNoted, AreApart, AreClashing, KeepsFirsts, is_of_link}
+use Rattle.cyclic_rule.specs.Facts.{IsFact, first_at, HasFirst, AreFirsts, IsNoted, AreApart, AreClashing, KeepsFirsts}
 use Rattle.cyclic_rule.specs.declared.facts.Fact.{Fact}
 use Rattle.cyclic_rule.specs.declared.facts.FactFault.{FactFault}
 use Rattle.cyclic_rule.specs.declared.facts.FactFault.TheVariants.{Clash}
@@ -22,24 +20,9 @@ same_fact f g h = cc
 no_fact : (f : Fact) → None ≡ Some f → ⊥
 no_fact f h = cc
 
--- the fact that a test for its link finds
-pub of_link : (l : ℕ) (first : Option Fact) → is_of_link l first ≡ true → (f : Fact) × (first ≡ Some f) × (f.link ≡ l)
-of_link l None h = absurd (cc)
-of_link l (Some f) h = (f, refl, eqb-true f.link l h)
-
-pub not_of_link : (l : ℕ) (first : Option Fact) (f : Fact) → is_of_link l first ≡ false → first ≡ Some f → f.link ≡ l → ⊥
-not_of_link l None f h is e = no_fact f is
-not_of_link l (Some g) f h is e = let same : g ≡ f = same_fact g f is in both_ways (nat_eq g.link l) h (eq-eqb g.link l (ap (λ (x : Fact). x.link) same ∙ e))
-
-pub no_first : (firsts : List (Option Fact)) (r l : ℕ) → is_of_link l (first_at firsts r) ≡ false → HasFirst firsts r l → ⊥
-no_first firsts r l h x = not_of_link l (first_at firsts r) x.fact h x.kept x.link
-
 -- a kept fact stands within the list
 pub first_within : (firsts : List (Option Fact)) (r l : ℕ) → HasFirst firsts r l → r < length firsts
 first_within firsts r l x = elim (cases_lt r (length firsts)) [ inl h ↦ h | inr h ↦ absurd (no_fact x.fact (sym (get_or_past firsts r None h) ∙ x.kept)) ]
-
-pub has_first : (firsts : List (Option Fact)) (q : ℕ) (f : Fact) → first_at firsts q ≡ Some f → HasFirst firsts q f.link
-has_first firsts q f h = record { fact = f; kept = h; link = refl }
 
 -- ---- one more
 
@@ -49,16 +32,6 @@ module _ (firsts : List (Option Fact)) (place : ℕ) (fact : Fact) (within : pla
 
   elsewhere : (q : ℕ) → (q ≡ place → ⊥) → first_at (set firsts place (Some fact)) q ≡ first_at firsts q
   elsewhere q ne = get_or-set_other firsts place q (Some fact) None ne
-
-  pub set_noted : HasFirst (set firsts place (Some fact)) place fact.link
-  set_noted = record { fact = fact; kept = at_place; link = refl }
-
-  pub set_keeps : first_at firsts place ≡ None → KeepsFirsts firsts (set firsts place (Some fact))
-  set_keeps none q l x = record {
-    fact = x.fact;
-    kept = elsewhere q (λ same. no_fact x.fact (sym none ∙ subst (λ p. first_at firsts p ≡ Some x.fact) same x.kept)) ∙ x.kept;
-    link = x.link;
-  }
 
   pub set_sound : (q : ℕ) (f : Fact) → first_at (set firsts place (Some fact)) q ≡ Some f → (first_at firsts q ≡ Some f) ⊎ ((q ≡ place) × (f ≡ fact))
   set_sound q f h = elim (cases_eq q place) [
@@ -104,21 +77,6 @@ clashing shape i pairs firsts place fact f g a is k = record {
   second = a.sound k.1 g k.2;
   apart = subst (λ x. AreApart place x k.1 g) (sym k.0) k.3;
 }
-
-abbrev no_fact_yet : Option Fact
-no_fact_yet = None
-
-pub no_firsts : (shape : Shape) (i : ℕ) (pairs : List (ℕ × ℕ)) (n : ℕ) → AreFirsts shape i pairs (replicate n None)
-no_firsts shape i pairs n = record {
-  sound = λ q f h. absurd (no_fact f (sym (none q) ∙ h));
-  apart = λ q r l x y. absurd (no_fact x.fact (sym (none q) ∙ x.kept));
-}
-  where
-    none : (q : ℕ) → first_at (replicate n None) q ≡ None
-    none q = elim (cases_lt q n) [ inl h ↦ get_or-replicate n q None None h | inr h ↦ get_or_past (replicate n (no_fact_yet)) q None (omega (arith, length-replicate n no_fact_yet)) ]
-
-pub keeps_both : (a b d : List (Option Fact)) → KeepsFirsts a b → KeepsFirsts b d → KeepsFirsts a d
-keeps_both a b d h k q l x = k q l (h q l x)
 
 pub noted_still : (shape : Shape) (i : ℕ) (pairs : List (ℕ × ℕ)) (old new : List (Option Fact)) (p : ℕ) → KeepsFirsts old new → IsNoted shape i pairs old p → IsNoted shape i pairs new p
 noted_still shape i pairs old new p keeps noted e l possible o = keeps (pair_at pairs p).1 l (noted e l possible o)

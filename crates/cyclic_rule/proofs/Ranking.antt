@@ -25,16 +25,10 @@ use Rattle.cyclic_rule.proofs.Shortness.{on_one}
 
 -- ---- lists, one member for each
 
-pub each_none : {A B : Type 0} (a : A) (b : B) (P : A → B → Type 0) → (ys : List B) → ys ≡ [] → (length ys ≡ 0) × ((k : ℕ) → k < 0 → P a b)
-each_none a b P ys is = (ap length is, (λ k h. absurd (omega arith)))
-
 -- what is known of the first members
 pub record AreEachBelow {A B : Type 0} (a : A) (b : B) (P : A → B → Type 0) (n : ℕ) (xs : List A) (ys : List B) : Type 0 where
   pub count : length ys ≡ n
   pub each : (k : ℕ) → k < n → P (get_or xs k a) (get_or ys k b)
-
-pub below_none : {A B : Type 0} (a : A) (b : B) (P : A → B → Type 0) (xs : List A) (ys : List B) → ys ≡ [] → AreEachBelow a b P 0 xs ys
-below_none a b P xs ys is = record { count = ap length is; each = λ k h. absurd (omega arith) }
 
 pub below_more : {A B : Type 0} (a : A) (b : B) (P : A → B → Type 0) (n : ℕ) (xs : List A) (ys more : List B) (x : A) (y : B) → AreEachBelow a b P n xs ys → n < length xs → x ≡ get_or xs n x → P x y → more ≡ ys ++ y ∷ [] → AreEachBelow a b P (n + 1) xs more
 below_more a b P n xs ys more x y e h at new is = record {
@@ -48,18 +42,12 @@ below_more a b P n xs ys more x y e h at new is = record {
   ];
 }
 
-pub all_each : {A B : Type 0} (a : A) (b : B) (P : A → B → Type 0) (n : ℕ) (xs : List A) (ys : List B) → AreEachBelow a b P n xs ys → n ≡ length xs → AreEach a b P xs ys
-all_each a b P n xs ys e is = record { as_many = sym is ∙ sym e.count; each = λ k h. e.each k (omega arith) }
-
 -- ---- the greatest number
 
 pub record IsGreatestBelow (number : ℕ → ℕ) (links : List ℕ) (n top : ℕ) : Type 0 where
   pub above : (k : ℕ) → k < n → number (get_or links k 0) ≤ top
   pub none : n ≡ 0 → top ≡ 0
   pub attained : 0 < n → (k : ℕ) × (k < n) × (number (get_or links k 0) ≡ top)
-
-pub greatest_none : (number : ℕ → ℕ) (links : List ℕ) → IsGreatestBelow number links 0 0
-greatest_none number links = record { above = λ k h. absurd (omega arith); none = λ _. refl; attained = λ h. absurd (omega arith) }
 
 pub greatest_more : (number : ℕ → ℕ) (links : List ℕ) (n top new : ℕ) → IsGreatestBelow number links n top → new ≡ max (number (get_or links n 0)) top → IsGreatestBelow number links (n + 1) new
 greatest_more number links n top new g is = record {
@@ -266,9 +254,6 @@ cyclic_ranks shape number ranking w triple keep rise count each scale = record {
 }
 
 -- ---- the scale
-
-pub above_more : (f : ℕ → ℕ) (n above new : ℕ) → above ≡ above_all f n → new ≡ max (f n + 1) above → new ≡ above_all f (n + 1)
-above_more f n above new is step = step ∙ (let e : max (f n + 1) above ≡ max (suc (f n)) (above_all f n) = omega arith in e) ∙ ap (above_all f) (let e : suc n ≡ n + 1 = omega arith in e)
 
 -- the ranks of one part more
 pub parts_more : (P : ℕ → PartRanks → Type 0) (n : ℕ) (rs : List PartRanks) (r : PartRanks) (more : List PartRanks) → length rs ≡ n → ((i : ℕ) → i < n → P i (get_or rs i no_ranks)) → P n r → more ≡ rs ++ r ∷ [] → (length more ≡ n + 1) × ((i : ℕ) → i < n + 1 → P i (get_or more i no_ranks))

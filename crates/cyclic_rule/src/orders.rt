@@ -80,8 +80,9 @@ fn explored_part(
     ensures found { IfOk result (λ explored. AreFound (part_at prepared.now.parts part).table (lap_step prepared.now.vocabulary (links_of prepared.now part - 1)) 0 explored) }
 {
     let shape = prepared.shape();
+    let component = &shape.parts()[part as usize];
     let lap = Lap::new(shape.vocabulary(), count);
-    let explored = explore(alloc, &shape.parts()[part as usize], &lap)?;
+    let explored = explore(alloc, component, &lap)?;
     Ok(explored)
 }
 

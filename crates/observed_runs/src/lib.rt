@@ -10,4 +10,4 @@ mod observers;
 pub use explored::Explored;
 pub use exploring::explore;
 pub use observer::Observer;
-pub use observers::{Lap, Parity, Unwatched};
+pub use observers::{Holder, Lap, Parity, Unwatched};

@@ -1,7 +1,7 @@
-//! Observers: of the place in a lap of events, of whether a number of events is odd, and of nothing.
+//! Observers: of the place in a lap of events, of whether a number of events is odd, of a holder, and of nothing.
 
 ghost use Rattle.std.specs.Prelude.{◌≡◌, ◌-◌, ◌<◌};
-ghost use Rattle.observed_runs.specs.Observers.{lap_step, parity_step};
+ghost use Rattle.observed_runs.specs.Observers.{holder_step, lap_step, parity_step};
 
 use crate::observer::Observer;
 use csp_base::{Event, EventSet};
@@ -77,6 +77,44 @@ impl<'a> Observer for Parity<'a> {
         }
         if state == 0 {
             return 1;
+        }
+        0
+    }
+}
+
+/// Who holds what is taken and given back in turn: 0 where no one does.
+#[derive(Drop)]
+pub struct Holder<'a> {
+    holders: &'a [u32],
+}
+
+impl<'a> Holder<'a> {
+    /// For each event, by its number, the one whose event it is; 0, or past the end, where it is no one's.
+    pub fn new(holders: &'a [u32]) -> Holder<'a>
+        ensures { result.holders.now ≡ holders.now }
+    {
+        Holder { holders }
+    }
+}
+
+impl<'a> Observer for Holder<'a> {
+    ghost start_state = { λ _. 0 };
+
+    ghost step = { λ holder state event. holder_step holder.holders.now state event };
+
+    fn start(&self) -> u32 {
+        0
+    }
+
+    fn next(&self, state: u32, event: Event) -> u32 {
+        let Some(holder) = self.holders.get(event.0 as usize) else {
+            return state;
+        };
+        if *holder == 0 {
+            return state;
+        }
+        if state == 0 {
+            return *holder;
         }
         0
     }

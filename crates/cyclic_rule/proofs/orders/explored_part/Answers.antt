@@ -1,4 +1,4 @@
-use Rattle.std.proofs.Common.{◌-◌, ◌∙◌, ℕ, List, ap, sym, subst}
+use Rattle.std.proofs.Common.{◌≡◌, ◌-◌, ◌∙◌, ℕ, List, ap, sym, subst}
 use Rattle.csp_tables.specs.Form.{HasForm}
 use Rattle.csp_tables.specs.Part.{Part, part_at}
 use Rattle.csp_tables.specs.Shape.{Shape}
@@ -18,7 +18,8 @@ pub returns-clause-pairs : goal.returns-clause-pairs
 returns-clause-pairs c =
     let shape = c.args.prepared.now in
     let p = part_read shape c.parts.result.now c.args.part c.index-parts-part.result (c.parts.ensures.value ∙ ap (λ (s : Shape). s.parts) c.shape-shape.ensures.value) c.requires.part c.index-parts-part.is in
-    let events = c.new-lap.ensures.events ∙ c.vocabulary.ensures ∙ ap (λ (s : Shape). s.vocabulary) c.shape-shape.ensures.value in
+    let shared = ap (λ (s : Shape). s.vocabulary) c.shape-shape.ensures.value in
+    let events : c.new-lap.result.events.now ≡ c.args.prepared.now.vocabulary = cc in
     let pairs = c.in_ok-explored.explored.pairs in
     let table = (part_at shape.parts c.args.part).table in
     subst (λ (k : ℕ). IsExploration table (lap_step shape.vocabulary (k - 1)) 0 pairs) c.requires.links
