@@ -1,3 +1,4 @@
+//! What the names of a script stand for, found by their hashes: declared names, bound names, and where the bodies of definitions end.
 #![tactic(auto)]
 
 pub mod declared;
