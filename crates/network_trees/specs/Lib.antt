@@ -1,0 +1,3 @@
+pub mod Joint
+pub mod Laws
+pub mod NetworkOf
