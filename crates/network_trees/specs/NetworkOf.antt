@@ -44,7 +44,7 @@ goes_on (Err f) next = Err f
 -- the next step with a value that it needs
 abbrev pub with_value : {A B : Type 0} → Outcome A → (A → Walked B) → Walked B
 with_value (Ok a) next = next a
-with_value (Err kind) next = Err (fault.Value kind)
+with_value (Err why) next = Err (fault.Value why)
 
 -- a component, which so many others come before: there are at most 512
 abbrev pub component : ℕ → List ℕ → Proc → Walked (Tree Proc)

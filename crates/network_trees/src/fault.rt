@@ -2,6 +2,7 @@
 
 use csp_base::{Event, NoMemory};
 use csp_program::ValueKind;
+use value_operators::EvalFault;
 
 /// The first fault that the walk of a network meets, or want of memory.
 #[derive(Clone, Copy, Debug, PartialEq, Eq, Drop, thiserror::Error)]
@@ -50,5 +51,19 @@ impl From<NoMemory> for LayoutFault {
 
     fn from(_error: NoMemory) -> LayoutFault {
         LayoutFault::NoMemory
+    }
+}
+
+impl From<EvalFault> for LayoutFault {
+    ghost use Rattle.std.specs.Prelude.{◌≡◌};
+    ghost use Rattle.network_trees.specs.Faults.{layout_fault};
+
+    ghost from_gives = { λ e f. f ≡ layout_fault e };
+
+    fn from(fault: EvalFault) -> LayoutFault {
+        match fault {
+            EvalFault::NoMemory => LayoutFault::NoMemory,
+            EvalFault::Value { kind } => LayoutFault::Value { kind },
+        }
     }
 }
