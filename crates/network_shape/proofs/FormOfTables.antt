@@ -1,20 +1,15 @@
 -- The normal table of a numbered table has the form that a well-formed shape asks for.
-use Rattle.std.proofs.Common.{◌≡◌, ℕ, zero, suc, ◌+◌, ◌<◌, ◌≤◌, List, [], ◌∷◌, ◌++◌, length, get_or, map, true, false, IsTrue, nat_eq, refl, sym, ap, subst, arith, inl, inr, eq-eqb}
-use Rattle.std.specs.Prelude.{All}
+use Rattle.std.proofs.Common.{◌≡◌, ℕ, suc, ◌+◌, ◌<◌, ◌≤◌, List, [], ◌∷◌, ◌++◌, length, get_or, map, true, IsTrue, nat_eq, refl, sym, subst, arith, inl, inr, eq-eqb}
 use Rattle.std.proofs.lemmas.Bool.{and_from, and_parts, or_left, or_right, false≢true, cases_lt}
 use Rattle.std.proofs.Math.ListN.{get_or-eq_default}
 use Rattle.csp_base.specs.Members.{has}
 use Rattle.csp_base.proofs.Rising.{RisesFrom, rises_from_increasing}
-use Rattle.csp_tables.specs.Label.{Label}
-use Rattle.csp_tables.specs.Label.Label.{visible}
 use Rattle.csp_tables.specs.RawTable.{RawTable, RawStep}
-use Rattle.csp_tables.specs.Table.{Node, node_at, is_possible, node_after, is_run, end_of, acceptances_after, IsReached}
-use Rattle.csp_tables.specs.Part.{Part}
+use Rattle.csp_tables.specs.Table.{Node, node_at, is_possible, node_after, is_run, end_of, IsReached}
 use Rattle.csp_tables.specs.Trace.{IsTrace, IsAcceptance, IsWithin}
 use Rattle.csp_tables.specs.Form.{BeginsAbove, StepsHaveForm, AreWithin, NodesHaveForm}
 use Rattle.csp_tables.specs.BreadthFirst.{MeetsInOrder, targets_of_steps, targets_of_nodes}
 use Rattle.csp_tables.specs.NormalTable.{IsNormalTable, IsRisingNode}
-use Rattle.csp_tables.specs.Shape.{acceptance_at}
 use Rattle.determinise.proofs.Traces.{After-append, After-event, After-cut, After-first}
 use Rattle.network_shape.specs.Parts.{HasEventsWithin, IsWellFormedPart}
 
@@ -73,8 +68,7 @@ nodes_have_form : (a : List ℕ) (m : ℕ) (nodes : List Node)
 nodes_have_form a m [] events accepts rising below = tt
 nodes_have_form a m (node ∷ nodes) events accepts rising below =
     let b = below_append m (targets_of_steps node.next) (targets_of_nodes nodes) below in
-    let first : 0 < length (node ∷ nodes) = omega arith in
-    (
+    let first : 0 < length (node ∷ nodes) = omega arith in (
       steps_have_form a m 0 node.next (λ e h. events 0 e first h) b.front (rises_from_increasing (map (λ step. step.0) node.next) (rising 0 first).events),
       are_within a node.accept (λ k h. accepts 0 k first h),
       nodes_have_form a m nodes (λ n e less h. events (suc n) e (omega arith) h) (λ n k less h. accepts (suc n) k (omega arith) h) (λ n less. rising (suc n) (omega arith)) b.back,

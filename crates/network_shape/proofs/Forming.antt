@@ -1,12 +1,12 @@
 -- The shape that is made is well formed.
-use Rattle.std.proofs.Common.{◌≡◌, ℕ, zero, suc, ◌^◌, ◌<◌, ◌≤◌, inl, inr, List, [], ◌∷◌, length, get_or, Bool, true, IsTrue, nat_eq, refl, sym, ap, subst, ◌∙◌, arith}
+use Rattle.std.proofs.Common.{◌≡◌, ℕ, suc, ◌<◌, ◌≤◌, inl, inr, List, [], ◌∷◌, length, true, IsTrue, sym, subst, ◌∙◌, arith}
 use Rattle.std.specs.Prelude.{All}
-use Rattle.std.proofs.lemmas.Bool.{or_cases, or_left, or_right, false≢true}
+use Rattle.std.proofs.lemmas.Bool.{or_cases, false≢true}
 use Rattle.std.proofs.lemmas.List.Folds.{list_any_at}
 use Rattle.csp_base.specs.Members.{has}
 use Rattle.csp_tables.specs.Part.{Part, part_at, alphabets_of, sharers}
 use Rattle.csp_tables.specs.Form.{HaveForm}
-use Rattle.csp_tables.specs.Shape.{Link, Shape, IsWellFormed, LinksAreOrdered}
+use Rattle.csp_tables.specs.Shape.{Link, IsWellFormed, LinksAreOrdered}
 use Rattle.net_sound.proofs.Sharers.{at_two}
 use Rattle.network_shape.specs.Parts.{IsWellFormedPart}
 use Rattle.network_shape.specs.Rows.{pair_at, row_at, AreRows, has_event, any_has_event, AreLinksBefore}
@@ -31,8 +31,8 @@ record HasRowOf (rows : List (List (ℕ × ℕ))) (e : ℕ) : Type 0 where
 row_of : (rows : List (List (ℕ × ℕ))) (e : ℕ) → any_has_event rows e ≡ true → HasRowOf rows e
 row_of [] e h = absurd (false≢true h)
 row_of (row ∷ rows) e h = elim (or_cases (has_event row e) (any_has_event rows e) h) [
-    | inl here ↦ record { place = 0; within = omega arith; event = here }
-    | inr later ↦ let r = row_of rows e later in record { place = suc r.place; within = let l : r.place < length rows = r.within in omega arith; event = r.event }
+  | inl here ↦ record { place = 0; within = omega arith; event = here }
+  | inr later ↦ let r = row_of rows e later in record { place = suc r.place; within = let l : r.place < length rows = r.within in omega arith; event = r.event }
 ]
 
 module _ (parts : List Part) (rows : List (List (ℕ × ℕ))) (are : AreRows parts (length parts) rows) where

@@ -1,7 +1,7 @@
 -- Owners of events, and rows of shared events, while the parts are gone over.
-use Rattle.std.proofs.Common.{◌≡◌, ℕ, zero, suc, ◌+◌, ◌-◌, ◌<◌, ◌≤◌, inl, inr, List, [], ◌∷◌, ◌++◌, length, get_or, set, replicate, cond, Bool, true, false, Option, Some, None, IsTrue, nat_eq, refl, sym, ap, subst, ◌∙◌, arith, eq-eqb}
+use Rattle.std.proofs.Common.{◌≡◌, ℕ, zero, suc, ◌+◌, ◌-◌, ◌<◌, ◌≤◌, inl, inr, List, [], ◌∷◌, ◌++◌, length, set, replicate, cond, true, false, Option, Some, None, IsTrue, nat_eq, refl, sym, ap, subst, ◌∙◌, arith, eq-eqb}
 use Rattle.std.proofs.lemmas.Bool.{cases_Bool, cases_eq, cases_lt, cond-true, cond-false, or_cases, or_left, or_right, both_ways, false≢true, eqb-true, ne_eqb}
-use Rattle.std.proofs.lemmas.List.{append-nil, append_assoc, length-append, length-replicate, get_or-replicate, get_or_append_left, get_or-append-add, get_or-set_same, get_or-set_other}
+use Rattle.std.proofs.lemmas.List.{append-nil, length-append, length-replicate, get_or-replicate, get_or_append_left, get_or-append-add, get_or-set_same, get_or-set_other}
 use Rattle.std.proofs.lemmas.Option.{none-some, same_Some}
 use Rattle.std.proofs.Math.Seq.{get_or-append_right}
 use Rattle.csp_base.specs.Members.{has}
@@ -67,13 +67,13 @@ no_joint owners part i e h = cond-false (is_part (owner_of owners e) i) ((part, 
 pub joint_added : (owners : List (Option ℕ)) (rows : List (List (ℕ × ℕ))) (part left e : ℕ) → owner_of owners e ≡ Some left → left < length rows → (i : ℕ)
     → row_at (set rows left (row_at rows left ++ (part, e) ∷ [])) i ≡ row_at rows i ++ joint owners part i e
 joint_added owners rows part left e own h i = elim (cases_eq i left) [
-    | inl same ↦
-        subst (λ k. row_at (set rows left (row_at rows left ++ (part, e) ∷ [])) k ≡ row_at rows k ++ joint owners part k e) (sym same)
-        (get_or-set_same rows left (row_at rows left ++ (part, e) ∷ []) [] h ∙ ap (λ r. row_at rows left ++ r) (sym (one_joint owners part left e (some_is (owner_of owners e) left own))))
-    | inr other ↦
-        get_or-set_other rows left i (row_at rows left ++ (part, e) ∷ []) [] other
-        ∙ sym (append-nil (row_at rows i))
-        ∙ ap (λ r. row_at rows i ++ r) (sym (no_joint owners part i e (ap (λ o. is_part o i) own ∙ ne_eqb left i (λ same. other (sym same)))))
+  | inl same ↦
+      subst (λ k. row_at (set rows left (row_at rows left ++ (part, e) ∷ [])) k ≡ row_at rows k ++ joint owners part k e) (sym same)
+      (get_or-set_same rows left (row_at rows left ++ (part, e) ∷ []) [] h ∙ ap (λ r. row_at rows left ++ r) (sym (one_joint owners part left e (some_is (owner_of owners e) left own))))
+  | inr other ↦
+      get_or-set_other rows left i (row_at rows left ++ (part, e) ∷ []) [] other
+      ∙ sym (append-nil (row_at rows i))
+      ∙ ap (λ r. row_at rows i ++ r) (sym (no_joint owners part i e (ap (λ o. is_part o i) own ∙ ne_eqb left i (λ same. other (sym same)))))
 ]
 
 pub no_joint_added : (owners : List (Option ℕ)) (rows : List (List (ℕ × ℕ))) (part e : ℕ) → owner_of owners e ≡ None → (i : ℕ) → row_at rows i ≡ row_at rows i ++ joint owners part i e
@@ -105,8 +105,8 @@ first_joint owners part i e events js own all (suc k) h = later_joint owners par
 joints_sound : (owners : List (Option ℕ)) (part i : ℕ) (events : List ℕ) → AreJoints owners part i events (joints owners part i events)
 joints_sound owners part i [] k h = absurd (omega arith)
 joints_sound owners part i (e ∷ events) k h = elim (cases_Bool (is_part (owner_of owners e) i)) [
-    | inl on ↦ subst (AreJoints owners part i (e ∷ events)) (sym (joints_on owners part i e events on)) (first_joint owners part i e events (joints owners part i events) (part_is (owner_of owners e) i on) (joints_sound owners part i events)) k h
-    | inr off ↦ subst (AreJoints owners part i (e ∷ events)) (sym (joints_off owners part i e events off)) (λ m less. later_joint owners part i e events (pair_at (joints owners part i events) m) (joints_sound owners part i events m less)) k h
+  | inl on ↦ subst (AreJoints owners part i (e ∷ events)) (sym (joints_on owners part i e events on)) (first_joint owners part i e events (joints owners part i events) (part_is (owner_of owners e) i on) (joints_sound owners part i events)) k h
+  | inr off ↦ subst (AreJoints owners part i (e ∷ events)) (sym (joints_off owners part i e events off)) (λ m less. later_joint owners part i e events (pair_at (joints owners part i events) m) (joints_sound owners part i events m less)) k h
 ]
 
 in_longer : (pair : ℕ × ℕ) (row : List (ℕ × ℕ)) (j e : ℕ) → IsInRow row j e → IsInRow (pair ∷ row) j e
@@ -115,16 +115,16 @@ in_longer pair row j e r = record { place = suc r.place; within = let l : r.plac
 joints_complete : (owners : List (Option ℕ)) (part i : ℕ) (events : List ℕ) (e : ℕ) → has events e ≡ true → owner_of owners e ≡ Some i → IsInRow (joints owners part i events) part e
 joints_complete owners part i [] e h own = absurd (false≢true h)
 joints_complete owners part i (x ∷ events) e h own = elim (or_cases (nat_eq x e) (has events e) h) [
-    | inl same ↦
-        let is : x ≡ e = eqb-true x e same in
-        let on = some_is (owner_of owners x) i (ap (owner_of owners) is ∙ own) in
-        subst (λ js. IsInRow js part e) (sym (joints_on owners part i x events on)) (record { place = 0; within = omega arith; part = refl; event = is })
-    | inr later ↦
-        let rest = joints_complete owners part i events e later own in
-        elim (cases_Bool (is_part (owner_of owners x) i)) [
-          | inl on ↦ subst (λ js. IsInRow js part e) (sym (joints_on owners part i x events on)) (in_longer (part, x) (joints owners part i events) part e rest)
-          | inr off ↦ subst (λ js. IsInRow js part e) (sym (joints_off owners part i x events off)) rest
-        ]
+  | inl same ↦
+      let is : x ≡ e = eqb-true x e same in
+      let on = some_is (owner_of owners x) i (ap (owner_of owners) is ∙ own) in
+      subst (λ js. IsInRow js part e) (sym (joints_on owners part i x events on)) (record { place = 0; within = omega arith; part = refl; event = is })
+  | inr later ↦
+      let rest = joints_complete owners part i events e later own in
+      elim (cases_Bool (is_part (owner_of owners x) i)) [
+        | inl on ↦ subst (λ js. IsInRow js part e) (sym (joints_on owners part i x events on)) (in_longer (part, x) (joints owners part i events) part e rest)
+        | inr off ↦ subst (λ js. IsInRow js part e) (sym (joints_off owners part i x events off)) rest
+      ]
 ]
 
 -- ---- rows

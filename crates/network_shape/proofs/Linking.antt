@@ -1,5 +1,5 @@
 -- Links from the rows of shared events: those of one part after those of the parts before it.
-use Rattle.std.proofs.Common.{◌≡◌, ◌≢◌, ℕ, zero, suc, ◌+◌, ◌-◌, ◌<◌, ◌≤◌, inl, inr, List, [], ◌∷◌, ◌++◌, length, get_or, take, drop, Bool, true, false, IsTrue, nat_eq, refl, sym, ap, subst, ◌∙◌, arith, eq-eqb}
+use Rattle.std.proofs.Common.{◌≡◌, ◌≢◌, ℕ, suc, ◌+◌, ◌-◌, ◌<◌, ◌≤◌, inl, inr, List, [], ◌∷◌, ◌++◌, length, get_or, take, drop, true, nat_eq, refl, sym, ap, subst, ◌∙◌, arith, eq-eqb}
 use Rattle.std.proofs.lemmas.Bool.{cases_eq, cases_lt, or_cases, false≢true, eqb-true}
 use Rattle.std.proofs.lemmas.List.{length-append, length-take-le, length-drop, get_or-take, get_or-drop, get_or_append_left, get_or_default}
 use Rattle.std.proofs.lemmas.List.Folds.{list_any_at}
@@ -20,8 +20,8 @@ pub record HasPairOf (row : List (ℕ × ℕ)) (e : ℕ) : Type 0 where
 pub pair_of : (row : List (ℕ × ℕ)) (e : ℕ) → has_event row e ≡ true → HasPairOf row e
 pair_of [] e h = absurd (false≢true h)
 pair_of (p ∷ row) e h = elim (or_cases (nat_eq p.1 e) (has_event row e) h) [
-    | inl same ↦ record { place = 0; within = omega arith; event = eqb-true p.1 e same }
-    | inr later ↦ let r = pair_of row e later in record { place = suc r.place; within = let l : r.place < length row = r.within in omega arith; event = r.event }
+  | inl same ↦ record { place = 0; within = omega arith; event = eqb-true p.1 e same }
+  | inr later ↦ let r = pair_of row e later in record { place = suc r.place; within = let l : r.place < length row = r.within in omega arith; event = r.event }
 ]
 
 pub of_pair : (row : List (ℕ × ℕ)) (e k : ℕ) → k < length row → (pair_at row k).1 ≡ e → has_event row e ≡ true
@@ -96,11 +96,11 @@ link_added parts i j links link a joins left right = record {
     | inl above ↦ in_longer links link l r (a.all l r order within (inl above) meet)
     | inr row ↦ elim (cases_eq r j) [
       | inl same ↦ record {
-          place = length links;
-          within = omega (arith, length-append links (link ∷ []));
-          left = ap (λ (x : Link). x.left) (new_at (length links) refl) ∙ left ∙ sym row.0;
-          right = ap (λ (x : Link). x.right) (new_at (length links) refl) ∙ right ∙ sym same;
-        }
+        place = length links;
+        within = omega (arith, length-append links (link ∷ []));
+        left = ap (λ (x : Link). x.left) (new_at (length links) refl) ∙ left ∙ sym row.0;
+        right = ap (λ (x : Link). x.right) (new_at (length links) refl) ∙ right ∙ sym same;
+      }
       | inr other ↦ let less : r < j + 1 = row.1 in in_longer links link l r (a.all l r order within (inr (row.0, omega arith)) meet)
     ]
   ];
@@ -130,8 +130,8 @@ link_added parts i j links link a joins left right = record {
 
     below_new : (k : ℕ) → k < length links → IsBelow (link_in links k) link
     below_new k less = elim (a.before k less) [
-        | inl above ↦ let h : (link_in links k).left < i = above in inl (omega arith)
-        | inr row ↦ let h : (link_in links k).right < j = row.1 in let same : (link_in links k).left ≡ i = row.0 in inr (omega arith, omega arith)
+      | inl above ↦ let h : (link_in links k).left < i = above in inl (omega arith)
+      | inr row ↦ let h : (link_in links k).right < j = row.1 in let same : (link_in links k).left ≡ i = row.0 in inr (omega arith, omega arith)
     ]
 
 -- where no event is shared with the parts from j on, up to m, these add no link

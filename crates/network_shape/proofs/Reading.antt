@@ -1,13 +1,13 @@
 -- What loops over parts, rows and pairs read.
-use Rattle.std.proofs.Common.{◌≡◌, ℕ, ◌+◌, ◌<◌, ◌≤◌, List, [], ◌++◌, length, get_or, take, Bool, true, false, ◌||◌, Option, nat_eq, refl, sym, ap, subst, ◌∙◌}
+use Rattle.std.proofs.Common.{◌≡◌, ℕ, ◌+◌, ◌<◌, List, [], ◌++◌, length, get_or, take, Bool, true, false, ◌||◌, Option, nat_eq, refl, sym, ap, subst, ◌∙◌}
 use Rattle.std.proofs.lemmas.List.{get_or_read}
 use Rattle.std.proofs.lemmas.List.Folds.{list_any_more}
 use Rattle.csp_base.specs.Members.{has}
 use Rattle.csp_base.specs.Events.{with_member}
 use Rattle.csp_base.proofs.Rising.{has-with_member}
 use Rattle.csp_tables.specs.Part.{Part, part_at}
-use Rattle.network_shape.specs.Rows.{pair_at, row_at, joints, AreOwners, AreRows, has_event, any_has_event}
-use Rattle.network_shape.proofs.Joining.{rows_more, owner_rows}
+use Rattle.network_shape.specs.Rows.{pair_at, row_at, joints, AreOwners, AreRows, has_event}
+use Rattle.network_shape.proofs.Joining.{rows_more}
 
 -- the part of a place, as it is read from a list
 pub part_read : (parts items : List Part) (k : ℕ) (part : Part) → items ≡ parts → k < length items → part ≡ get_or items k part → part_at parts k ≡ part

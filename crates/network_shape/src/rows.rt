@@ -11,7 +11,10 @@ use csp_tables::Part;
 use std::alloc::Global;
 
 // For each part the events that it shares with later parts, each with the later part. Goes over each alphabet twice.
-pub(crate) fn shared_rows(alloc: Global, parts: &[Part]) -> Result<Vec<Items<(u32, Event)>>, NoMemory>
+pub(crate) fn shared_rows(
+    alloc: Global,
+    parts: &[Part],
+) -> Result<Vec<Items<(u32, Event)>>, NoMemory>
     requires most { length parts.now ≤ 512 }
     requires apart { TripleDisjoint (alphabets_of parts.now) }
     ensures { IfOk result (λ rows. AreRows parts.now (length parts.now) rows.items) }

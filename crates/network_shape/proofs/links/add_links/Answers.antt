@@ -2,7 +2,7 @@ use Rattle.std.proofs.Common.{◌≡◌, ◌∙◌, ℕ, ◌++◌, ◌∷◌, []
 use Rattle.std.proofs.lemmas.List.{get_or_default}
 use Rattle.csp_tables.specs.Shape.{Link}
 use Rattle.network_shape.specs.Rows.{pair_at}
-use Rattle.network_shape.proofs.Linking.{AreLinksTo, IsGroup, first_links, last_links, group_added}
+use Rattle.network_shape.proofs.Linking.{AreLinksTo, IsGroup, last_links, group_added}
 use Rattle.network_shape.proofs.links.add_links.Goals as goal
 
 pub loop-start-preserved : goal.loop-start-preserved

@@ -13,7 +13,7 @@ use std::alloc::Global;
 
 /// The shape of these parts: its links join the parts that share events, and its vocabulary is the shared events.
 ///
-/// It takes time in proportion to the sizes of the alphabets.
+/// It takes time in proportion to the sizes of the alphabets and the number of the greatest event.
 pub fn shape(alloc: Global, parts: Vec<Part>) -> Result<Shape, NoMemory>
     requires least { 1 ≤ length parts.items }
     requires most { length parts.items ≤ 512 }

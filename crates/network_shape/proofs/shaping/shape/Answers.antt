@@ -3,7 +3,7 @@ use Rattle.csp_tables.specs.Part.{Part}
 use Rattle.csp_tables.specs.Shape.{IsWellFormed}
 use Rattle.network_shape.specs.Rows.{AreRows, AreLinksBefore, any_has_event}
 use Rattle.network_shape.proofs.Forming.{ordered, well_formed}
-use Rattle.network_shape.proofs.whole.shape.Goals as goal
+use Rattle.network_shape.proofs.shaping.shape.Goals as goal
 
 pub new-requires : goal.new-requires
 new-requires c =
