@@ -1,8 +1,8 @@
 -- The events that parts share, sorted out by the left one of the parts. (No public contract cites this.)
-use Rattle.std.specs.Prelude.{◌≡◌, ◌<◌, ◌≤◌, ◌⊎◌, ℕ, List, [], ◌∷◌, Bool, false, Option, Some, None, IsTrue, nat_eq, length, get_or, slice_index_or, if◌then◌else◌}
+use Rattle.std.specs.Prelude.{◌≡◌, ◌<◌, ◌≤◌, ◌↔◌, ◌⊎◌, ℕ, List, [], ◌∷◌, Bool, false, Option, Some, None, IsTrue, nat_eq, length, get_or, slice_index_or, if◌then◌else◌}
 use Rattle.std.specs.List.{flat_map, list_any}
 use Rattle.csp_base.specs.Members.{has}
-use Rattle.csp_tables.specs.Part.{Part, part_at, Meet}
+use Rattle.csp_tables.specs.Part.{Part, part_at, alphabets_of, sharers, Meet}
 use Rattle.csp_tables.specs.Shape.{Link, JoinsTwo, IsBelow}
 
 -- ---- for each event a part that has it
@@ -89,3 +89,7 @@ pub record AreLinksBefore (parts : List Part) (i j : ℕ) (links : List Link) : 
   pub before : (k : ℕ) → k < length links → Precedes (link_in links k).left (link_in links k).right i j
   pub all : (l r : ℕ) → l < r → r < length parts → Precedes l r i j → Meet (part_at parts l).alphabet (part_at parts r).alphabet → IsLinked links l r
   pub rise : (k m : ℕ) → k < m → m < length links → IsBelow (link_in links k) (link_in links m)
+
+-- the events that two parts or more have
+abbrev pub IsVocabulary : List Part → List ℕ → Type 0
+IsVocabulary parts events = (e : ℕ) → IsTrue (has events e) ↔ (2 ≤ sharers (alphabets_of parts) e)

@@ -1,6 +1,6 @@
 //! The links between parts, from the events that the parts share.
 
-ghost use Rattle.std.specs.Prelude.{◌≡◌, ◌≢◌, ◌<◌, ◌≤◌, ◌+◌, ◌||◌, ℕ, All, List, IfOk, OnOk, length};
+ghost use Rattle.std.specs.Prelude.{◌≡◌, ◌≢◌, ◌<◌, ◌≤◌, ◌+◌, ◌||◌, ◌++◌, ◌∷◌, [], ℕ, List, IfOk, OnOk, length};
 ghost use Rattle.csp_base.specs.Members.{has};
 ghost use Rattle.csp_tables.specs.Part.{Part};
 ghost use Rattle.network_shape.specs.Rows.{AreLinksBefore, AreRows, IsRow, any_has_event, has_event, pair_at};
@@ -37,9 +37,17 @@ fn add_links(
     while start < row.len() {
         let end = group_end(row, start);
         let shared = events_of(alloc, &row[start..end])?;
-        links.push(Link::new(left, row[start].0, shared))?;
+        push(links, Link::new(left, row[start].0, shared))?;
         start = end;
     }
+    Ok(())
+}
+
+// Adds a link at the end.
+fn push(links: &mut Vec<Link>, link: Link) -> Result<(), NoMemory>
+    ensures { OnOk result (links.new.items ≡ links.old.items ++ link ∷ []) }
+{
+    links.push(link)?;
     Ok(())
 }
 

@@ -4,7 +4,7 @@ use Rattle.csp_tables.specs.Part.{Part}
 use Rattle.network_shape.specs.Rows.{owner_of}
 use Rattle.network_shape.proofs.Joining.{owner_rows, owners_more}
 use Rattle.network_shape.proofs.Reading.{part_read, rows_read}
-use Rattle.network_shape.proofs.rows.shared_rows.Goals as goal
+use Rattle.network_shape.proofs.rows.join_parts.Goals as goal
 
 pub join_all-requires : goal.join_all-requires
 join_all-requires c e i own =
