@@ -3,15 +3,30 @@
 ghost use Rattle.std.specs.Prelude.{◌≡◌, ◌≢◌, ◌<◌, ◌≤◌, ◌+◌, ◌||◌, ◌++◌, ◌∷◌, [], ℕ, List, IfOk, OnOk, length};
 ghost use Rattle.csp_base.specs.Members.{has};
 ghost use Rattle.csp_tables.specs.Part.{Part};
-ghost use Rattle.network_shape.specs.Rows.{AreLinksBefore, AreRows, IsRow, any_has_event, has_event, pair_at};
+ghost use Rattle.network_shape.specs.Rows.{AreLinksBefore, AreRows, IsRow, IsVocabulary, any_has_event, has_event, pair_at};
 
 use containers::Items;
 use csp_base::{Event, EventSet, NoMemory};
 use csp_tables::Link;
 use std::alloc::Global;
 
+// The links of the parts whose rows these are, and the parts' vocabulary.
+pub(crate) fn linked(
+    alloc: Global,
+    rows: &[Items<(u32, Event)>],
+) -> Result<(Vec<Link>, EventSet), NoMemory>
+    requires few { length rows.now ≤ 512 }
+    requires rows { (parts : List Part) × AreRows parts (length parts) rows.now }
+    ensures links { (parts : List Part) → AreRows parts (length parts) rows.now → IfOk result (λ made. AreLinksBefore parts (length parts) 0 made.0.items) }
+    ensures vocabulary { (parts : List Part) → AreRows parts (length parts) rows.now → IfOk result (λ made. IsVocabulary parts made.1) }
+{
+    let vocabulary = vocabulary(alloc, rows)?;
+    let links = links_of(alloc, rows)?;
+    Ok((links, vocabulary))
+}
+
 // The links of the parts whose rows these are.
-pub(crate) fn links_of(alloc: Global, rows: &[Items<(u32, Event)>]) -> Result<Vec<Link>, NoMemory>
+fn links_of(alloc: Global, rows: &[Items<(u32, Event)>]) -> Result<Vec<Link>, NoMemory>
     requires few { length rows.now ≤ 512 }
     requires rows { (parts : List Part) × AreRows parts (length parts) rows.now }
     ensures { (parts : List Part) → AreRows parts (length parts) rows.now → IfOk result (λ made. AreLinksBefore parts (length parts) 0 made.items) }

@@ -6,7 +6,7 @@ ghost use Rattle.csp_tables.specs.Shape.{IsWellFormed};
 ghost use Rattle.network_shape.specs.Parts.{IsWellFormedPart};
 ghost use Rattle.network_shape.specs.Rows.{AreLinksBefore, IsVocabulary};
 
-use crate::links::{links_of, vocabulary};
+use crate::links::linked;
 use crate::rows::shared_rows;
 use csp_base::{EventSet, NoMemory};
 use csp_tables::{Link, Part, Shape};
@@ -35,7 +35,5 @@ fn joined(alloc: Global, parts: &[Part]) -> Result<(Vec<Link>, EventSet), NoMemo
     ensures vocabulary { IfOk result (λ made. IsVocabulary parts.now made.1) }
 {
     let rows = shared_rows(alloc, parts)?;
-    let vocabulary = vocabulary(alloc, &rows)?;
-    let links = links_of(alloc, &rows)?;
-    Ok((links, vocabulary))
+    linked(alloc, &rows)
 }
