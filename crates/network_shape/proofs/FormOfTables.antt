@@ -44,7 +44,8 @@ begins_above : (e : ℕ) (steps : List (ℕ × ℕ)) → RisesFrom (e + 1) (map 
 begins_above e [] h = tt
 begins_above e (step ∷ steps) h = let more : e + 1 ≤ step.0 = h.0 in omega arith
 
-steps_have_form : (a : List ℕ) (m n : ℕ) (steps : List (ℕ × ℕ)) → ((e : ℕ) → is_possible steps e ≡ true → IsTrue (has a e)) → AllBelow m (targets_of_steps steps) → RisesFrom n (map (λ step. step.0) steps) → StepsHaveForm a m steps
+steps_have_form : (a : List ℕ) (m n : ℕ) (steps : List (ℕ × ℕ)) → ((e : ℕ) → is_possible steps e ≡ true → IsTrue (has a e))
+    → AllBelow m (targets_of_steps steps) → RisesFrom n (map (λ step. step.0) steps) → StepsHaveForm a m steps
 steps_have_form a m n [] events below rises = tt
 steps_have_form a m n (step ∷ steps) events below rises = (
   events step.0 (or_left (nat_eq step.0 step.0) (is_possible steps step.0) (eq-eqb step.0 step.0 refl)),
@@ -76,7 +77,8 @@ nodes_have_form a m (node ∷ nodes) events accepts rising below =
 
 -- ---- runs with one more event
 
-run_more : (table : List Node) (n : ℕ) (s : List ℕ) (e : ℕ) → is_run table n s ≡ true → is_possible (node_at table (end_of table n s)).next e ≡ true → is_run table n (s ++ e ∷ []) ≡ true
+run_more : (table : List Node) (n : ℕ) (s : List ℕ) (e : ℕ) → is_run table n s ≡ true → is_possible (node_at table (end_of table n s)).next e ≡ true
+    → is_run table n (s ++ e ∷ []) ≡ true
 run_more table n [] e h k = and_from _ _ k refl
 run_more table n (x ∷ s) e h k =
     let p = and_parts (is_possible (node_at table n).next x) (is_run table (node_after table n x) s) h in
@@ -116,7 +118,8 @@ module _ (raw : RawTable) (a : List ℕ) (within : HasEventsWithin raw a) (most 
       let o = (m.offer.offered e).0 x in
       within m.offer.state e o.0 o.1
 
-  offered_possible : (n k e : ℕ) → n < length table → k < length (node_at table n).accept → IsTrue (has (get_or (node_at table n).accept k []) e) → IsTrue (is_possible (node_at table n).next e)
+  offered_possible : (n k e : ℕ) → n < length table → k < length (node_at table n).accept → IsTrue (has (get_or (node_at table n).accept k []) e)
+      → IsTrue (is_possible (node_at table n).next e)
   offered_possible n k e less h x =
       let r = normal.reached n less in
       let m = accepted n k r h in

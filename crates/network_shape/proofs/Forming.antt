@@ -64,7 +64,8 @@ module _ (parts : List Part) (rows : List (List (ℕ × ℕ))) (are : AreRows pa
 
 -- ---- the whole
 
-pub ordered : (parts : List Part) (links : List Link) (vocabulary : List ℕ) → length parts ≤ 512 → AreLinksBefore parts (length parts) 0 links → LinksAreOrdered (record { parts = parts; links = links; vocabulary = vocabulary })
+pub ordered : (parts : List Part) (links : List Link) (vocabulary : List ℕ) → length parts ≤ 512 → AreLinksBefore parts (length parts) 0 links
+    → LinksAreOrdered (record { parts = parts; links = links; vocabulary = vocabulary })
 ordered parts links vocabulary few a = record {
   parts_numbered = omega arith;
   links_numbered = let h : length links ≤ 262144 = few_links parts few (length parts) 0 links a in omega arith;

@@ -76,7 +76,8 @@ joint_added owners rows part left e own h i = elim (cases_eq i left) [
       ∙ ap (λ r. row_at rows i ++ r) (sym (no_joint owners part i e (ap (λ o. is_part o i) own ∙ ne_eqb left i (λ same. other (sym same)))))
 ]
 
-pub no_joint_added : (owners : List (Option ℕ)) (rows : List (List (ℕ × ℕ))) (part e : ℕ) → owner_of owners e ≡ None → (i : ℕ) → row_at rows i ≡ row_at rows i ++ joint owners part i e
+pub no_joint_added : (owners : List (Option ℕ)) (rows : List (List (ℕ × ℕ))) (part e : ℕ) → owner_of owners e ≡ None → (i : ℕ)
+    → row_at rows i ≡ row_at rows i ++ joint owners part i e
 no_joint_added owners rows part e none i = sym (append-nil (row_at rows i)) ∙ ap (λ r. row_at rows i ++ r) (sym (no_joint owners part i e (ap (λ o. is_part o i) none)))
 
 -- ---- the pairs of one part
@@ -86,19 +87,23 @@ record IsJoint (owners : List (Option ℕ)) (part i : ℕ) (events : List ℕ) (
   owner : owner_of owners pair.1 ≡ Some i
   event : IsTrue (has events pair.1)
 
-joints_on : (owners : List (Option ℕ)) (part i e : ℕ) (events : List ℕ) → is_part (owner_of owners e) i ≡ true → joints owners part i (e ∷ events) ≡ (part, e) ∷ joints owners part i events
+joints_on : (owners : List (Option ℕ)) (part i e : ℕ) (events : List ℕ) → is_part (owner_of owners e) i ≡ true
+    → joints owners part i (e ∷ events) ≡ (part, e) ∷ joints owners part i events
 joints_on owners part i e events h = ap (λ js. js ++ joints owners part i events) (one_joint owners part i e h)
 
-joints_off : (owners : List (Option ℕ)) (part i e : ℕ) (events : List ℕ) → is_part (owner_of owners e) i ≡ false → joints owners part i (e ∷ events) ≡ joints owners part i events
+joints_off : (owners : List (Option ℕ)) (part i e : ℕ) (events : List ℕ) → is_part (owner_of owners e) i ≡ false
+    → joints owners part i (e ∷ events) ≡ joints owners part i events
 joints_off owners part i e events h = ap (λ js. js ++ joints owners part i events) (no_joint owners part i e h)
 
-later_joint : (owners : List (Option ℕ)) (part i e : ℕ) (events : List ℕ) (pair : ℕ × ℕ) → IsJoint owners part i events pair → IsJoint owners part i (e ∷ events) pair
+later_joint : (owners : List (Option ℕ)) (part i e : ℕ) (events : List ℕ) (pair : ℕ × ℕ) → IsJoint owners part i events pair
+    → IsJoint owners part i (e ∷ events) pair
 later_joint owners part i e events pair j = record { part_is = j.part_is; owner = j.owner; event = or_right (nat_eq e pair.1) (has events pair.1) j.event }
 
 abbrev AreJoints : List (Option ℕ) → ℕ → ℕ → List ℕ → List (ℕ × ℕ) → Type 0
 AreJoints owners part i events js = (k : ℕ) → k < length js → IsJoint owners part i events (pair_at js k)
 
-first_joint : (owners : List (Option ℕ)) (part i e : ℕ) (events : List ℕ) (js : List (ℕ × ℕ)) → owner_of owners e ≡ Some i → AreJoints owners part i events js → AreJoints owners part i (e ∷ events) ((part, e) ∷ js)
+first_joint : (owners : List (Option ℕ)) (part i e : ℕ) (events : List ℕ) (js : List (ℕ × ℕ)) → owner_of owners e ≡ Some i
+    → AreJoints owners part i events js → AreJoints owners part i (e ∷ events) ((part, e) ∷ js)
 first_joint owners part i e events js own all zero h = record { part_is = refl; owner = own; event = or_left (nat_eq e e) (has events e) (eq-eqb e e refl) }
 first_joint owners part i e events js own all (suc k) h = later_joint owners part i e events (pair_at js k) (all k (omega arith))
 
@@ -112,7 +117,8 @@ joints_sound owners part i (e ∷ events) k h = elim (cases_Bool (is_part (owner
 in_longer : (pair : ℕ × ℕ) (row : List (ℕ × ℕ)) (j e : ℕ) → IsInRow row j e → IsInRow (pair ∷ row) j e
 in_longer pair row j e r = record { place = suc r.place; within = let l : r.place < length row = r.within in omega arith; part = r.part; event = r.event }
 
-joints_complete : (owners : List (Option ℕ)) (part i : ℕ) (events : List ℕ) (e : ℕ) → has events e ≡ true → owner_of owners e ≡ Some i → IsInRow (joints owners part i events) part e
+joints_complete : (owners : List (Option ℕ)) (part i : ℕ) (events : List ℕ) (e : ℕ) → has events e ≡ true → owner_of owners e ≡ Some i
+    → IsInRow (joints owners part i events) part e
 joints_complete owners part i [] e h own = absurd (false≢true h)
 joints_complete owners part i (x ∷ events) e h own = elim (or_cases (nat_eq x e) (has events e) h) [
   | inl same ↦
@@ -201,7 +207,8 @@ module _ (parts : List Part) (n i : ℕ) (owners : List (Option ℕ)) (row : Lis
     ];
   }
 
-pub rows_more : (parts : List Part) (n : ℕ) (owners : List (Option ℕ)) (rows more : List (List (ℕ × ℕ))) → AreOwners parts n owners → n < length parts → AreRows parts n rows → length more ≡ length rows
+pub rows_more : (parts : List Part) (n : ℕ) (owners : List (Option ℕ)) (rows more : List (List (ℕ × ℕ))) → AreOwners parts n owners
+    → n < length parts → AreRows parts n rows → length more ≡ length rows
     → ((i : ℕ) → row_at more i ≡ row_at rows i ++ joints owners n i (part_at parts n).alphabet) → AreRows parts (n + 1) more
 rows_more parts n owners rows more a h r same is = record {
   one_each = same ∙ r.one_each;
@@ -222,7 +229,8 @@ empty_rows parts rows is = record {
 }
 
 -- the owners are among the first parts, so there is a row for each
-pub owner_rows : (parts : List Part) (n : ℕ) (owners : List (Option ℕ)) (rows : List (List (ℕ × ℕ))) → AreOwners parts n owners → n < length parts → AreRows parts n rows → (e i : ℕ) → owner_of owners e ≡ Some i → i < length rows
+pub owner_rows : (parts : List Part) (n : ℕ) (owners : List (Option ℕ)) (rows : List (List (ℕ × ℕ))) → AreOwners parts n owners → n < length parts
+    → AreRows parts n rows → (e i : ℕ) → owner_of owners e ≡ Some i → i < length rows
 owner_rows parts n owners rows a h r e i own =
     let less : i < n = (a.sound e i own).0 in
     let same : length rows ≡ length parts = r.one_each in

@@ -58,7 +58,8 @@ group_pair row start end e order within h =
     let below : p.place < end - start = omega (arith, group_length row start end order within) in
     record { place = start + p.place; above = omega arith; below = omega arith; event = ap (λ (q : ℕ × ℕ). q.1) (sym (group_at row start end p.place below)) ∙ p.event }
 
-pair_group : (row : List (ℕ × ℕ)) (start end e k : ℕ) → start ≤ end → end ≤ length row → start ≤ k → k < end → (pair_at row k).1 ≡ e → has_event (group row start end) e ≡ true
+pair_group : (row : List (ℕ × ℕ)) (start end e k : ℕ) → start ≤ end → end ≤ length row → start ≤ k → k < end → (pair_at row k).1 ≡ e
+    → has_event (group row start end) e ≡ true
 pair_group row start end e k order within above below is =
     let less : k - start < end - start = omega arith in
     let place : start + (k - start) ≡ k = omega arith in
@@ -82,7 +83,8 @@ in_longer links link l r h =
     record { place = h.place; within = omega (arith, length-append links (link ∷ [])); left = ap (λ (k : Link). k.left) at ∙ h.left; right = ap (λ (k : Link). k.right) at ∙ h.right }
 
 -- one more link, of the pair of parts that comes next
-pub link_added : (parts : List Part) (i j : ℕ) (links : List Link) (link : Link) → AreLinksBefore parts i j links → JoinsTwo parts link → link.left ≡ i → link.right ≡ j → AreLinksBefore parts i (j + 1) (links ++ link ∷ [])
+pub link_added : (parts : List Part) (i j : ℕ) (links : List Link) (link : Link) → AreLinksBefore parts i j links → JoinsTwo parts link
+    → link.left ≡ i → link.right ≡ j → AreLinksBefore parts i (j + 1) (links ++ link ∷ [])
 link_added parts i j links link a joins left right = record {
   joins = λ k less. elim (cases_eq k (length links)) [
     | inl same ↦ subst (JoinsTwo parts) (sym (new_at k same)) joins

@@ -24,15 +24,18 @@ made_parts_are_parts Step c p made = record {
 made_none : {T : Type 0} (Step : T → Label → T → Type 0) → AreMadeFor Step [] []
 made_none Step = record { one_each = refl; each = λ i c at. absurd (none-some c at) }
 
-made_rest : {T : Type 0} (Step : T → Label → T → Type 0) (c : Component T) (cs : List (Component T)) (p : Part) (ps : List Part) → AreMadeFor Step (c ∷ cs) (p ∷ ps) → AreMadeFor Step cs ps
+made_rest : {T : Type 0} (Step : T → Label → T → Type 0) (c : Component T) (cs : List (Component T)) (p : Part) (ps : List Part)
+    → AreMadeFor Step (c ∷ cs) (p ∷ ps) → AreMadeFor Step cs ps
 made_rest Step c cs p ps made = record { one_each = let same : length (c ∷ cs) ≡ length (p ∷ ps) = made.one_each in omega arith; each = λ i d at. made.each (suc i) d at }
 
-cons_each : {T : Type 0} (Step : T → Label → T → Type 0) (c : Component T) (cs : List (Component T)) (p : Part) (ps : List Part) → ((i : ℕ) (d : Component T) → slice_get cs i ≡ Some d → IsMadeFor Step d (part_at ps i)) → IsMadeFor Step c p
+cons_each : {T : Type 0} (Step : T → Label → T → Type 0) (c : Component T) (cs : List (Component T)) (p : Part) (ps : List Part)
+    → ((i : ℕ) (d : Component T) → slice_get cs i ≡ Some d → IsMadeFor Step d (part_at ps i)) → IsMadeFor Step c p
     → (i : ℕ) (d : Component T) → slice_get (c ∷ cs) i ≡ Some d → IsMadeFor Step d (part_at (p ∷ ps) i)
 cons_each Step c cs p ps all one zero d at = subst (λ (x : Component _). IsMadeFor Step x p) (same_Some c d at) one
 cons_each Step c cs p ps all one (suc i) d at = all i d at
 
-made_cons : {T : Type 0} (Step : T → Label → T → Type 0) (c : Component T) (cs : List (Component T)) (p : Part) (ps : List Part) → IsMadeFor Step c p → AreMadeFor Step cs ps → AreMadeFor Step (c ∷ cs) (p ∷ ps)
+made_cons : {T : Type 0} (Step : T → Label → T → Type 0) (c : Component T) (cs : List (Component T)) (p : Part) (ps : List Part)
+    → IsMadeFor Step c p → AreMadeFor Step cs ps → AreMadeFor Step (c ∷ cs) (p ∷ ps)
 made_cons Step c cs p ps one made = record { one_each = let same : length cs ≡ length ps = made.one_each in omega arith; each = cons_each Step c cs p ps made.each one }
 
 no_part : {T : Type 0} (Step : T → Label → T → Type 0) (c : Component T) (cs : List (Component T)) → AreMadeFor Step (c ∷ cs) [] → ⊥
@@ -51,7 +54,8 @@ pub made_parts_make_shapes : {T : Type 0} (Step : T → Label → T → Type 0) 
 made_parts_make_shapes Step tree shape form made = record { form = form; parts = are_parts Step (leaves tree) shape.parts made }
 
 -- one more component, and one more part that is made for it
-one_more_made : {T : Type 0} (Step : T → Label → T → Type 0) (cs : List (Component T)) (ps : List Part) (c : Component T) (p : Part) → AreMadeFor Step cs ps → IsMadeFor Step c p → AreMadeFor Step (cs ++ c ∷ []) (ps ++ p ∷ [])
+one_more_made : {T : Type 0} (Step : T → Label → T → Type 0) (cs : List (Component T)) (ps : List Part) (c : Component T) (p : Part)
+    → AreMadeFor Step cs ps → IsMadeFor Step c p → AreMadeFor Step (cs ++ c ∷ []) (ps ++ p ∷ [])
 one_more_made Step [] [] c p made one = made_cons Step c [] p [] one made
 one_more_made Step [] (q ∷ ps) c p made one = absurd (no_component Step q ps made)
 one_more_made Step (d ∷ cs) [] c p made one = absurd (no_part Step d cs made)

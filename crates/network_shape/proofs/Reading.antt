@@ -20,7 +20,8 @@ pub pair_read : (row : List (ℕ × ℕ)) (k : ℕ) (pair : ℕ × ℕ) → k < 
 pair_read row k pair h at = sym (get_or_read row k pair h at (0, 0))
 
 -- the rows with what one more part shares
-pub rows_read : (parts : List Part) (n : ℕ) (owners kept : List (Option ℕ)) (rows more : List (List (ℕ × ℕ))) (part : Part) (events : List ℕ) → kept ≡ owners → n < length parts → part ≡ get_or parts n part → events ≡ part.alphabet
+pub rows_read : (parts : List Part) (n : ℕ) (owners kept : List (Option ℕ)) (rows more : List (List (ℕ × ℕ))) (part : Part) (events : List ℕ)
+    → kept ≡ owners → n < length parts → part ≡ get_or parts n part → events ≡ part.alphabet
     → AreOwners parts n owners → AreRows parts n rows → length more ≡ length rows → ((i : ℕ) → row_at more i ≡ row_at rows i ++ joints kept n i events) → AreRows parts (n + 1) more
 rows_read parts n owners kept rows more part events same h at is a r count added =
     let here : events ≡ (part_at parts n).alphabet = is ∙ ap (λ (p : Part). p.alphabet) (sym (part_read parts parts n part refl h at)) in

@@ -36,7 +36,8 @@ stops_refute shape i s stop busy =
     false≢true (subst (λ (M : List ℕ). has M some.0 ≡ true) stop.stops.empty some.1)
 
 -- one more node
-pub nodes_more : (table nodes : List Node) (n : ℕ) (node : Node) (acceptances : List (List ℕ)) → nodes ≡ table → n < length nodes → node ≡ get_or nodes n node → acceptances ≡ node.accept → (HasEmpty acceptances → ⊥)
+pub nodes_more : (table nodes : List Node) (n : ℕ) (node : Node) (acceptances : List (List ℕ)) → nodes ≡ table → n < length nodes
+    → node ≡ get_or nodes n node → acceptances ≡ node.accept → (HasEmpty acceptances → ⊥)
     → ((m : ℕ) → m < n → AreNonEmpty (node_at table m).accept) → (m : ℕ) → m < n + 1 → AreNonEmpty (node_at table m).accept
 nodes_more table nodes n node acceptances is h at same none before m less = elim (cases_eq m n) [
   | inl here ↦
@@ -53,7 +54,8 @@ past_nodes table all n = elim (cases_lt n (length table)) [
 ]
 
 -- one more part
-pub parts_more : (parts : List Part) (n : ℕ) (part : Part) → part_at parts n ≡ part → ((m k : ℕ) → k < length (node_at part.table m).accept → IsNonEmpty (get_or (node_at part.table m).accept k []))
+pub parts_more : (parts : List Part) (n : ℕ) (part : Part) → part_at parts n ≡ part
+    → ((m k : ℕ) → k < length (node_at part.table m).accept → IsNonEmpty (get_or (node_at part.table m).accept k []))
     → ((j : ℕ) → j < n → IsBusyPart (part_at parts j)) → (j : ℕ) → j < n + 1 → IsBusyPart (part_at parts j)
 parts_more parts n part read all before j less = elim (cases_eq j n) [
   | inl here ↦ subst (λ x. IsBusyPart (part_at parts x)) (sym here) (subst IsBusyPart (sym read) (busy_part part all))

@@ -29,7 +29,8 @@ TablesStayWithin {T} Step = (c : Component T) (terms : List T) (raw : RawTable) 
 -- parts are made for one component after another
 pub record MadePartsGrow {T : Type 0} (Step : T → Label → T → Type 0) : Type 0 where
   pub none : AreMadeFor Step [] []
-  pub more : (cs : List (Component T)) (ps : List Part) (c : Component T) (p : Part) → AreMadeFor Step cs ps → IsMadeFor Step c p → AreMadeFor Step (cs ++ c ∷ []) (ps ++ p ∷ [])
+  pub more : (cs : List (Component T)) (ps : List Part) (c : Component T) (p : Part) → AreMadeFor Step cs ps → IsMadeFor Step c p
+      → AreMadeFor Step (cs ++ c ∷ []) (ps ++ p ∷ [])
 
 -- parts have the alphabets of the components for which they are made
 abbrev pub MadePartsHaveAlphabets : {T : Type 0} → (T → Label → T → Type 0) → Type 0

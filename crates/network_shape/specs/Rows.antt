@@ -13,7 +13,8 @@ owner_of owners e = get_or owners e None
 -- The part that is kept for an event is one of the first n that has it. Where a later part has it too, it is the only one.
 pub record AreOwners (parts : List Part) (n : ℕ) (owners : List (Option ℕ)) : Type 0 where
   pub sound : (e i : ℕ) → owner_of owners e ≡ Some i → (i < n) × IsTrue (has (part_at parts i).alphabet e)
-  pub complete : (e i j : ℕ) → i < n → n ≤ j → j < length parts → IsTrue (has (part_at parts i).alphabet e) → IsTrue (has (part_at parts j).alphabet e) → owner_of owners e ≡ Some i
+  pub complete : (e i j : ℕ) → i < n → n ≤ j → j < length parts
+      → IsTrue (has (part_at parts i).alphabet e) → IsTrue (has (part_at parts j).alphabet e) → owner_of owners e ≡ Some i
 
 -- ---- rows of pairs: a later part, and an event that it shares
 

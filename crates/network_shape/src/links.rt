@@ -17,7 +17,8 @@ pub(crate) fn linked(
 ) -> Result<(Vec<Link>, EventSet), NoMemory>
     requires few { length rows.now ≤ 512 }
     requires rows { (parts : List Part) × AreRows parts (length parts) rows.now }
-    ensures links { (parts : List Part) → AreRows parts (length parts) rows.now → IfOk result (λ made. AreLinksBefore parts (length parts) 0 made.0.items) }
+    ensures links { (parts : List Part) → AreRows parts (length parts) rows.now
+        → IfOk result (λ made. AreLinksBefore parts (length parts) 0 made.0.items) }
     ensures vocabulary { (parts : List Part) → AreRows parts (length parts) rows.now → IfOk result (λ made. IsVocabulary parts made.1) }
 {
     let vocabulary = vocabulary(alloc, rows)?;
@@ -29,7 +30,8 @@ pub(crate) fn linked(
 fn links_of(alloc: Global, rows: &[Items<(u32, Event)>]) -> Result<Vec<Link>, NoMemory>
     requires few { length rows.now ≤ 512 }
     requires rows { (parts : List Part) × AreRows parts (length parts) rows.now }
-    ensures { (parts : List Part) → AreRows parts (length parts) rows.now → IfOk result (λ made. AreLinksBefore parts (length parts) 0 made.items) }
+    ensures { (parts : List Part) → AreRows parts (length parts) rows.now
+        → IfOk result (λ made. AreLinksBefore parts (length parts) 0 made.items) }
 {
     let mut made = Vec::new(alloc);
     for (left, row) in rows.iter().enumerate() {
@@ -46,7 +48,8 @@ fn add_links(
     row: &[(u32, Event)],
 ) -> Result<(), NoMemory>
     requires { (k : ℕ) → k < length row.now → left < (pair_at row.now k).0 }
-    ensures { (parts : List Part) → IsRow parts (length parts) left row.now → AreLinksBefore parts left 0 links.old.items → OnOk result (AreLinksBefore parts (left + 1) 0 links.new.items) }
+    ensures { (parts : List Part) → IsRow parts (length parts) left row.now → AreLinksBefore parts left 0 links.old.items
+        → OnOk result (AreLinksBefore parts (left + 1) 0 links.new.items) }
 {
     let mut start = 0;
     while start < row.len() {
@@ -101,7 +104,7 @@ fn include_all(events: &mut EventSet, pairs: &[(u32, Event)]) -> Result<(), NoMe
 }
 
 // The events of all rows.
-pub(crate) fn vocabulary(alloc: Global, rows: &[Items<(u32, Event)>]) -> Result<EventSet, NoMemory>
+fn vocabulary(alloc: Global, rows: &[Items<(u32, Event)>]) -> Result<EventSet, NoMemory>
     ensures { IfOk result (λ made. (e : ℕ) → has made e ≡ any_has_event rows.now e) }
 {
     let mut events = EventSet::new(alloc);
