@@ -1,5 +1,5 @@
 -- Links that rise among few parts are few.
-use Rattle.std.proofs.Common.{◌≡◌, ℕ, zero, suc, ◌+◌, ◌*◌, ◌^◌, ◌<◌, ◌≤◌, inl, inr, List, length, arith}
+use Rattle.std.proofs.Common.{◌≡◌, ℕ, zero, suc, ◌+◌, ◌*◌, ◌<◌, ◌≤◌, inl, inr, List, length, arith}
 use Rattle.csp_tables.specs.Part.{Part}
 use Rattle.csp_tables.specs.Shape.{Link, IsBelow}
 use Rattle.network_shape.specs.Rows.{link_in, AreLinksBefore}
@@ -9,8 +9,8 @@ number link = link.left * 512 + link.right
 
 below_number : (a b : Link) → a.right < 512 → IsBelow a b → number a < number b
 below_number a b small below = elim below [
-    | inl less ↦ let h : a.left < b.left = less in omega arith
-    | inr same ↦ let e : a.left ≡ b.left = same.0 in let h : a.right < b.right = same.1 in omega arith
+  | inl less ↦ let h : a.left < b.left = less in omega arith
+  | inr same ↦ let e : a.left ≡ b.left = same.0 in let h : a.right < b.right = same.1 in omega arith
 ]
 
 module _ (parts : List Part) (few : length parts ≤ 512) (i j : ℕ) (links : List Link) (a : AreLinksBefore parts i j links) where

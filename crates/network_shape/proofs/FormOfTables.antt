@@ -1,20 +1,15 @@
 -- The normal table of a numbered table has the form that a well-formed shape asks for.
-use Rattle.std.proofs.Common.{◌≡◌, ℕ, zero, suc, ◌+◌, ◌<◌, ◌≤◌, List, [], ◌∷◌, ◌++◌, length, get_or, map, true, false, IsTrue, nat_eq, refl, sym, ap, subst, arith, inl, inr, eq-eqb}
-use Rattle.std.specs.Prelude.{All}
+use Rattle.std.proofs.Common.{◌≡◌, ℕ, suc, ◌+◌, ◌<◌, ◌≤◌, List, [], ◌∷◌, ◌++◌, length, get_or, map, true, IsTrue, nat_eq, refl, sym, subst, arith, inl, inr, eq-eqb}
 use Rattle.std.proofs.lemmas.Bool.{and_from, and_parts, or_left, or_right, false≢true, cases_lt}
 use Rattle.std.proofs.Math.ListN.{get_or-eq_default}
 use Rattle.csp_base.specs.Members.{has}
 use Rattle.csp_base.proofs.Rising.{RisesFrom, rises_from_increasing}
-use Rattle.csp_tables.specs.Label.{Label}
-use Rattle.csp_tables.specs.Label.Label.{visible}
 use Rattle.csp_tables.specs.RawTable.{RawTable, RawStep}
-use Rattle.csp_tables.specs.Table.{Node, node_at, is_possible, node_after, is_run, end_of, acceptances_after, IsReached}
-use Rattle.csp_tables.specs.Part.{Part}
+use Rattle.csp_tables.specs.Table.{Node, node_at, is_possible, node_after, is_run, end_of, IsReached}
 use Rattle.csp_tables.specs.Trace.{IsTrace, IsAcceptance, IsWithin}
 use Rattle.csp_tables.specs.Form.{BeginsAbove, StepsHaveForm, AreWithin, NodesHaveForm}
 use Rattle.csp_tables.specs.BreadthFirst.{MeetsInOrder, targets_of_steps, targets_of_nodes}
 use Rattle.csp_tables.specs.NormalTable.{IsNormalTable, IsRisingNode}
-use Rattle.csp_tables.specs.Shape.{acceptance_at}
 use Rattle.determinise.proofs.Traces.{After-append, After-event, After-cut, After-first}
 use Rattle.network_shape.specs.Parts.{HasEventsWithin, IsWellFormedPart}
 
@@ -49,7 +44,8 @@ begins_above : (e : ℕ) (steps : List (ℕ × ℕ)) → RisesFrom (e + 1) (map 
 begins_above e [] h = tt
 begins_above e (step ∷ steps) h = let more : e + 1 ≤ step.0 = h.0 in omega arith
 
-steps_have_form : (a : List ℕ) (m n : ℕ) (steps : List (ℕ × ℕ)) → ((e : ℕ) → is_possible steps e ≡ true → IsTrue (has a e)) → AllBelow m (targets_of_steps steps) → RisesFrom n (map (λ step. step.0) steps) → StepsHaveForm a m steps
+steps_have_form : (a : List ℕ) (m n : ℕ) (steps : List (ℕ × ℕ)) → ((e : ℕ) → is_possible steps e ≡ true → IsTrue (has a e))
+    → AllBelow m (targets_of_steps steps) → RisesFrom n (map (λ step. step.0) steps) → StepsHaveForm a m steps
 steps_have_form a m n [] events below rises = tt
 steps_have_form a m n (step ∷ steps) events below rises = (
   events step.0 (or_left (nat_eq step.0 step.0) (is_possible steps step.0) (eq-eqb step.0 step.0 refl)),
@@ -73,8 +69,7 @@ nodes_have_form : (a : List ℕ) (m : ℕ) (nodes : List Node)
 nodes_have_form a m [] events accepts rising below = tt
 nodes_have_form a m (node ∷ nodes) events accepts rising below =
     let b = below_append m (targets_of_steps node.next) (targets_of_nodes nodes) below in
-    let first : 0 < length (node ∷ nodes) = omega arith in
-    (
+    let first : 0 < length (node ∷ nodes) = omega arith in (
       steps_have_form a m 0 node.next (λ e h. events 0 e first h) b.front (rises_from_increasing (map (λ step. step.0) node.next) (rising 0 first).events),
       are_within a node.accept (λ k h. accepts 0 k first h),
       nodes_have_form a m nodes (λ n e less h. events (suc n) e (omega arith) h) (λ n k less h. accepts (suc n) k (omega arith) h) (λ n less. rising (suc n) (omega arith)) b.back,
@@ -82,7 +77,8 @@ nodes_have_form a m (node ∷ nodes) events accepts rising below =
 
 -- ---- runs with one more event
 
-run_more : (table : List Node) (n : ℕ) (s : List ℕ) (e : ℕ) → is_run table n s ≡ true → is_possible (node_at table (end_of table n s)).next e ≡ true → is_run table n (s ++ e ∷ []) ≡ true
+run_more : (table : List Node) (n : ℕ) (s : List ℕ) (e : ℕ) → is_run table n s ≡ true → is_possible (node_at table (end_of table n s)).next e ≡ true
+    → is_run table n (s ++ e ∷ []) ≡ true
 run_more table n [] e h k = and_from _ _ k refl
 run_more table n (x ∷ s) e h k =
     let p = and_parts (is_possible (node_at table n).next x) (is_run table (node_after table n x) s) h in
@@ -122,7 +118,8 @@ module _ (raw : RawTable) (a : List ℕ) (within : HasEventsWithin raw a) (most 
       let o = (m.offer.offered e).0 x in
       within m.offer.state e o.0 o.1
 
-  offered_possible : (n k e : ℕ) → n < length table → k < length (node_at table n).accept → IsTrue (has (get_or (node_at table n).accept k []) e) → IsTrue (is_possible (node_at table n).next e)
+  offered_possible : (n k e : ℕ) → n < length table → k < length (node_at table n).accept → IsTrue (has (get_or (node_at table n).accept k []) e)
+      → IsTrue (is_possible (node_at table n).next e)
   offered_possible n k e less h x =
       let r = normal.reached n less in
       let m = accepted n k r h in

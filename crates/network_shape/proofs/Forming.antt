@@ -1,15 +1,15 @@
 -- The shape that is made is well formed.
-use Rattle.std.proofs.Common.{◌≡◌, ℕ, zero, suc, ◌^◌, ◌<◌, ◌≤◌, inl, inr, List, [], ◌∷◌, length, get_or, Bool, true, IsTrue, nat_eq, refl, sym, ap, subst, ◌∙◌, arith}
+use Rattle.std.proofs.Common.{◌≡◌, ℕ, suc, ◌<◌, ◌≤◌, inl, inr, List, [], ◌∷◌, length, true, IsTrue, sym, subst, ◌∙◌, arith}
 use Rattle.std.specs.Prelude.{All}
-use Rattle.std.proofs.lemmas.Bool.{or_cases, or_left, or_right, false≢true}
+use Rattle.std.proofs.lemmas.Bool.{or_cases, false≢true}
 use Rattle.std.proofs.lemmas.List.Folds.{list_any_at}
 use Rattle.csp_base.specs.Members.{has}
 use Rattle.csp_tables.specs.Part.{Part, part_at, alphabets_of, sharers}
 use Rattle.csp_tables.specs.Form.{HaveForm}
-use Rattle.csp_tables.specs.Shape.{Link, Shape, IsWellFormed, LinksAreOrdered}
+use Rattle.csp_tables.specs.Shape.{Link, IsWellFormed, LinksAreOrdered}
 use Rattle.net_sound.proofs.Sharers.{at_two}
 use Rattle.network_shape.specs.Parts.{IsWellFormedPart}
-use Rattle.network_shape.specs.Rows.{pair_at, row_at, AreRows, has_event, any_has_event, AreLinksBefore}
+use Rattle.network_shape.specs.Rows.{pair_at, row_at, AreRows, has_event, any_has_event, AreLinksBefore, IsVocabulary}
 use Rattle.network_shape.proofs.Sharing.{two_owners}
 use Rattle.network_shape.proofs.Linking.{pair_of, of_pair}
 use Rattle.network_shape.proofs.Counting.{few_links}
@@ -31,8 +31,8 @@ record HasRowOf (rows : List (List (ℕ × ℕ))) (e : ℕ) : Type 0 where
 row_of : (rows : List (List (ℕ × ℕ))) (e : ℕ) → any_has_event rows e ≡ true → HasRowOf rows e
 row_of [] e h = absurd (false≢true h)
 row_of (row ∷ rows) e h = elim (or_cases (has_event row e) (any_has_event rows e) h) [
-    | inl here ↦ record { place = 0; within = omega arith; event = here }
-    | inr later ↦ let r = row_of rows e later in record { place = suc r.place; within = let l : r.place < length rows = r.within in omega arith; event = r.event }
+  | inl here ↦ record { place = 0; within = omega arith; event = here }
+  | inr later ↦ let r = row_of rows e later in record { place = suc r.place; within = let l : r.place < length rows = r.within in omega arith; event = r.event }
 ]
 
 module _ (parts : List Part) (rows : List (List (ℕ × ℕ))) (are : AreRows parts (length parts) rows) where
@@ -59,19 +59,23 @@ module _ (parts : List Part) (rows : List (List (ℕ × ℕ))) (are : AreRows pa
       let p = (are.each o.left here).complete o.right e (record { later = o.ordered; within = o.within; left = o.left_owns; right = o.right_owns }) in
       list_any_at (λ row. has_event row e) rows o.left [] (omega arith) (of_pair (row_at rows o.left) e p.place p.within p.event)
 
+  pub is_vocabulary : (events : List ℕ) → ((e : ℕ) → has events e ≡ any_has_event rows e) → IsVocabulary parts events
+  is_vocabulary events is e = ((λ h. shared e (sym (is e) ∙ h)), (λ h. is e ∙ in_some_row e h))
+
 -- ---- the whole
 
-pub ordered : (parts : List Part) (links : List Link) (vocabulary : List ℕ) → length parts ≤ 512 → AreLinksBefore parts (length parts) 0 links → LinksAreOrdered (record { parts = parts; links = links; vocabulary = vocabulary })
+pub ordered : (parts : List Part) (links : List Link) (vocabulary : List ℕ) → length parts ≤ 512 → AreLinksBefore parts (length parts) 0 links
+    → LinksAreOrdered (record { parts = parts; links = links; vocabulary = vocabulary })
 ordered parts links vocabulary few a = record {
   parts_numbered = omega arith;
   links_numbered = let h : length links ≤ 262144 = few_links parts few (length parts) 0 links a in omega arith;
   links_rise = a.rise;
 }
 
-pub well_formed : (parts : List Part) (rows : List (List (ℕ × ℕ))) (links : List Link) (vocabulary : List ℕ) → 1 ≤ length parts → length parts ≤ 512 → All IsWellFormedPart parts
-    → AreRows parts (length parts) rows → AreLinksBefore parts (length parts) 0 links → ((e : ℕ) → has vocabulary e ≡ any_has_event rows e)
+pub well_formed : (parts : List Part) (links : List Link) (vocabulary : List ℕ) → 1 ≤ length parts → length parts ≤ 512 → All IsWellFormedPart parts
+    → AreLinksBefore parts (length parts) 0 links → IsVocabulary parts vocabulary
     → IsWellFormed (record { parts = parts; links = links; vocabulary = vocabulary })
-well_formed parts rows links vocabulary least most form are a is = record {
+well_formed parts links vocabulary least most form a is = record {
   least = least;
   most = most;
   form = have_form parts form;
@@ -83,5 +87,5 @@ well_formed parts rows links vocabulary least most form are a is = record {
       let l = a.all i j order within (inl (omega arith)) meet in
       record { link = l.place; within = l.within; left = l.left; right = l.right };
   links_rise = a.rise;
-  vocabulary = λ e. ((λ h. shared parts rows are e (sym (is e) ∙ h)), (λ h. is e ∙ in_some_row parts rows are e h));
+  vocabulary = is;
 }

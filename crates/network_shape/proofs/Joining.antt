@@ -1,7 +1,7 @@
 -- Owners of events, and rows of shared events, while the parts are gone over.
-use Rattle.std.proofs.Common.{◌≡◌, ℕ, zero, suc, ◌+◌, ◌-◌, ◌<◌, ◌≤◌, inl, inr, List, [], ◌∷◌, ◌++◌, length, get_or, set, replicate, cond, Bool, true, false, Option, Some, None, IsTrue, nat_eq, refl, sym, ap, subst, ◌∙◌, arith, eq-eqb}
+use Rattle.std.proofs.Common.{◌≡◌, ℕ, zero, suc, ◌+◌, ◌-◌, ◌<◌, ◌≤◌, inl, inr, List, [], ◌∷◌, ◌++◌, length, set, replicate, cond, true, false, Option, Some, None, IsTrue, nat_eq, refl, sym, ap, subst, ◌∙◌, arith, eq-eqb}
 use Rattle.std.proofs.lemmas.Bool.{cases_Bool, cases_eq, cases_lt, cond-true, cond-false, or_cases, or_left, or_right, both_ways, false≢true, eqb-true, ne_eqb}
-use Rattle.std.proofs.lemmas.List.{append-nil, append_assoc, length-append, length-replicate, get_or-replicate, get_or_append_left, get_or-append-add, get_or-set_same, get_or-set_other}
+use Rattle.std.proofs.lemmas.List.{append-nil, length-append, length-replicate, get_or-replicate, get_or_append_left, get_or-append-add, get_or-set_same, get_or-set_other}
 use Rattle.std.proofs.lemmas.Option.{none-some, same_Some}
 use Rattle.std.proofs.Math.Seq.{get_or-append_right}
 use Rattle.csp_base.specs.Members.{has}
@@ -67,16 +67,17 @@ no_joint owners part i e h = cond-false (is_part (owner_of owners e) i) ((part, 
 pub joint_added : (owners : List (Option ℕ)) (rows : List (List (ℕ × ℕ))) (part left e : ℕ) → owner_of owners e ≡ Some left → left < length rows → (i : ℕ)
     → row_at (set rows left (row_at rows left ++ (part, e) ∷ [])) i ≡ row_at rows i ++ joint owners part i e
 joint_added owners rows part left e own h i = elim (cases_eq i left) [
-    | inl same ↦
-        subst (λ k. row_at (set rows left (row_at rows left ++ (part, e) ∷ [])) k ≡ row_at rows k ++ joint owners part k e) (sym same)
-        (get_or-set_same rows left (row_at rows left ++ (part, e) ∷ []) [] h ∙ ap (λ r. row_at rows left ++ r) (sym (one_joint owners part left e (some_is (owner_of owners e) left own))))
-    | inr other ↦
-        get_or-set_other rows left i (row_at rows left ++ (part, e) ∷ []) [] other
-        ∙ sym (append-nil (row_at rows i))
-        ∙ ap (λ r. row_at rows i ++ r) (sym (no_joint owners part i e (ap (λ o. is_part o i) own ∙ ne_eqb left i (λ same. other (sym same)))))
+  | inl same ↦
+      subst (λ k. row_at (set rows left (row_at rows left ++ (part, e) ∷ [])) k ≡ row_at rows k ++ joint owners part k e) (sym same)
+      (get_or-set_same rows left (row_at rows left ++ (part, e) ∷ []) [] h ∙ ap (λ r. row_at rows left ++ r) (sym (one_joint owners part left e (some_is (owner_of owners e) left own))))
+  | inr other ↦
+      get_or-set_other rows left i (row_at rows left ++ (part, e) ∷ []) [] other
+      ∙ sym (append-nil (row_at rows i))
+      ∙ ap (λ r. row_at rows i ++ r) (sym (no_joint owners part i e (ap (λ o. is_part o i) own ∙ ne_eqb left i (λ same. other (sym same)))))
 ]
 
-pub no_joint_added : (owners : List (Option ℕ)) (rows : List (List (ℕ × ℕ))) (part e : ℕ) → owner_of owners e ≡ None → (i : ℕ) → row_at rows i ≡ row_at rows i ++ joint owners part i e
+pub no_joint_added : (owners : List (Option ℕ)) (rows : List (List (ℕ × ℕ))) (part e : ℕ) → owner_of owners e ≡ None → (i : ℕ)
+    → row_at rows i ≡ row_at rows i ++ joint owners part i e
 no_joint_added owners rows part e none i = sym (append-nil (row_at rows i)) ∙ ap (λ r. row_at rows i ++ r) (sym (no_joint owners part i e (ap (λ o. is_part o i) none)))
 
 -- ---- the pairs of one part
@@ -86,45 +87,50 @@ record IsJoint (owners : List (Option ℕ)) (part i : ℕ) (events : List ℕ) (
   owner : owner_of owners pair.1 ≡ Some i
   event : IsTrue (has events pair.1)
 
-joints_on : (owners : List (Option ℕ)) (part i e : ℕ) (events : List ℕ) → is_part (owner_of owners e) i ≡ true → joints owners part i (e ∷ events) ≡ (part, e) ∷ joints owners part i events
+joints_on : (owners : List (Option ℕ)) (part i e : ℕ) (events : List ℕ) → is_part (owner_of owners e) i ≡ true
+    → joints owners part i (e ∷ events) ≡ (part, e) ∷ joints owners part i events
 joints_on owners part i e events h = ap (λ js. js ++ joints owners part i events) (one_joint owners part i e h)
 
-joints_off : (owners : List (Option ℕ)) (part i e : ℕ) (events : List ℕ) → is_part (owner_of owners e) i ≡ false → joints owners part i (e ∷ events) ≡ joints owners part i events
+joints_off : (owners : List (Option ℕ)) (part i e : ℕ) (events : List ℕ) → is_part (owner_of owners e) i ≡ false
+    → joints owners part i (e ∷ events) ≡ joints owners part i events
 joints_off owners part i e events h = ap (λ js. js ++ joints owners part i events) (no_joint owners part i e h)
 
-later_joint : (owners : List (Option ℕ)) (part i e : ℕ) (events : List ℕ) (pair : ℕ × ℕ) → IsJoint owners part i events pair → IsJoint owners part i (e ∷ events) pair
+later_joint : (owners : List (Option ℕ)) (part i e : ℕ) (events : List ℕ) (pair : ℕ × ℕ) → IsJoint owners part i events pair
+    → IsJoint owners part i (e ∷ events) pair
 later_joint owners part i e events pair j = record { part_is = j.part_is; owner = j.owner; event = or_right (nat_eq e pair.1) (has events pair.1) j.event }
 
 abbrev AreJoints : List (Option ℕ) → ℕ → ℕ → List ℕ → List (ℕ × ℕ) → Type 0
 AreJoints owners part i events js = (k : ℕ) → k < length js → IsJoint owners part i events (pair_at js k)
 
-first_joint : (owners : List (Option ℕ)) (part i e : ℕ) (events : List ℕ) (js : List (ℕ × ℕ)) → owner_of owners e ≡ Some i → AreJoints owners part i events js → AreJoints owners part i (e ∷ events) ((part, e) ∷ js)
+first_joint : (owners : List (Option ℕ)) (part i e : ℕ) (events : List ℕ) (js : List (ℕ × ℕ)) → owner_of owners e ≡ Some i
+    → AreJoints owners part i events js → AreJoints owners part i (e ∷ events) ((part, e) ∷ js)
 first_joint owners part i e events js own all zero h = record { part_is = refl; owner = own; event = or_left (nat_eq e e) (has events e) (eq-eqb e e refl) }
 first_joint owners part i e events js own all (suc k) h = later_joint owners part i e events (pair_at js k) (all k (omega arith))
 
 joints_sound : (owners : List (Option ℕ)) (part i : ℕ) (events : List ℕ) → AreJoints owners part i events (joints owners part i events)
 joints_sound owners part i [] k h = absurd (omega arith)
 joints_sound owners part i (e ∷ events) k h = elim (cases_Bool (is_part (owner_of owners e) i)) [
-    | inl on ↦ subst (AreJoints owners part i (e ∷ events)) (sym (joints_on owners part i e events on)) (first_joint owners part i e events (joints owners part i events) (part_is (owner_of owners e) i on) (joints_sound owners part i events)) k h
-    | inr off ↦ subst (AreJoints owners part i (e ∷ events)) (sym (joints_off owners part i e events off)) (λ m less. later_joint owners part i e events (pair_at (joints owners part i events) m) (joints_sound owners part i events m less)) k h
+  | inl on ↦ subst (AreJoints owners part i (e ∷ events)) (sym (joints_on owners part i e events on)) (first_joint owners part i e events (joints owners part i events) (part_is (owner_of owners e) i on) (joints_sound owners part i events)) k h
+  | inr off ↦ subst (AreJoints owners part i (e ∷ events)) (sym (joints_off owners part i e events off)) (λ m less. later_joint owners part i e events (pair_at (joints owners part i events) m) (joints_sound owners part i events m less)) k h
 ]
 
 in_longer : (pair : ℕ × ℕ) (row : List (ℕ × ℕ)) (j e : ℕ) → IsInRow row j e → IsInRow (pair ∷ row) j e
 in_longer pair row j e r = record { place = suc r.place; within = let l : r.place < length row = r.within in omega arith; part = r.part; event = r.event }
 
-joints_complete : (owners : List (Option ℕ)) (part i : ℕ) (events : List ℕ) (e : ℕ) → has events e ≡ true → owner_of owners e ≡ Some i → IsInRow (joints owners part i events) part e
+joints_complete : (owners : List (Option ℕ)) (part i : ℕ) (events : List ℕ) (e : ℕ) → has events e ≡ true → owner_of owners e ≡ Some i
+    → IsInRow (joints owners part i events) part e
 joints_complete owners part i [] e h own = absurd (false≢true h)
 joints_complete owners part i (x ∷ events) e h own = elim (or_cases (nat_eq x e) (has events e) h) [
-    | inl same ↦
-        let is : x ≡ e = eqb-true x e same in
-        let on = some_is (owner_of owners x) i (ap (owner_of owners) is ∙ own) in
-        subst (λ js. IsInRow js part e) (sym (joints_on owners part i x events on)) (record { place = 0; within = omega arith; part = refl; event = is })
-    | inr later ↦
-        let rest = joints_complete owners part i events e later own in
-        elim (cases_Bool (is_part (owner_of owners x) i)) [
-          | inl on ↦ subst (λ js. IsInRow js part e) (sym (joints_on owners part i x events on)) (in_longer (part, x) (joints owners part i events) part e rest)
-          | inr off ↦ subst (λ js. IsInRow js part e) (sym (joints_off owners part i x events off)) rest
-        ]
+  | inl same ↦
+      let is : x ≡ e = eqb-true x e same in
+      let on = some_is (owner_of owners x) i (ap (owner_of owners) is ∙ own) in
+      subst (λ js. IsInRow js part e) (sym (joints_on owners part i x events on)) (record { place = 0; within = omega arith; part = refl; event = is })
+  | inr later ↦
+      let rest = joints_complete owners part i events e later own in
+      elim (cases_Bool (is_part (owner_of owners x) i)) [
+        | inl on ↦ subst (λ js. IsInRow js part e) (sym (joints_on owners part i x events on)) (in_longer (part, x) (joints owners part i events) part e rest)
+        | inr off ↦ subst (λ js. IsInRow js part e) (sym (joints_off owners part i x events off)) rest
+      ]
 ]
 
 -- ---- rows
@@ -201,7 +207,8 @@ module _ (parts : List Part) (n i : ℕ) (owners : List (Option ℕ)) (row : Lis
     ];
   }
 
-pub rows_more : (parts : List Part) (n : ℕ) (owners : List (Option ℕ)) (rows more : List (List (ℕ × ℕ))) → AreOwners parts n owners → n < length parts → AreRows parts n rows → length more ≡ length rows
+pub rows_more : (parts : List Part) (n : ℕ) (owners : List (Option ℕ)) (rows more : List (List (ℕ × ℕ))) → AreOwners parts n owners
+    → n < length parts → AreRows parts n rows → length more ≡ length rows
     → ((i : ℕ) → row_at more i ≡ row_at rows i ++ joints owners n i (part_at parts n).alphabet) → AreRows parts (n + 1) more
 rows_more parts n owners rows more a h r same is = record {
   one_each = same ∙ r.one_each;
@@ -222,7 +229,8 @@ empty_rows parts rows is = record {
 }
 
 -- the owners are among the first parts, so there is a row for each
-pub owner_rows : (parts : List Part) (n : ℕ) (owners : List (Option ℕ)) (rows : List (List (ℕ × ℕ))) → AreOwners parts n owners → n < length parts → AreRows parts n rows → (e i : ℕ) → owner_of owners e ≡ Some i → i < length rows
+pub owner_rows : (parts : List Part) (n : ℕ) (owners : List (Option ℕ)) (rows : List (List (ℕ × ℕ))) → AreOwners parts n owners → n < length parts
+    → AreRows parts n rows → (e i : ℕ) → owner_of owners e ≡ Some i → i < length rows
 owner_rows parts n owners rows a h r e i own =
     let less : i < n = (a.sound e i own).0 in
     let same : length rows ≡ length parts = r.one_each in

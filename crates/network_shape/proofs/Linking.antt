@@ -1,5 +1,5 @@
 -- Links from the rows of shared events: those of one part after those of the parts before it.
-use Rattle.std.proofs.Common.{◌≡◌, ◌≢◌, ℕ, zero, suc, ◌+◌, ◌-◌, ◌<◌, ◌≤◌, inl, inr, List, [], ◌∷◌, ◌++◌, length, get_or, take, drop, Bool, true, false, IsTrue, nat_eq, refl, sym, ap, subst, ◌∙◌, arith, eq-eqb}
+use Rattle.std.proofs.Common.{◌≡◌, ◌≢◌, ℕ, suc, ◌+◌, ◌-◌, ◌<◌, ◌≤◌, inl, inr, List, [], ◌∷◌, ◌++◌, length, get_or, take, drop, true, nat_eq, refl, sym, ap, subst, ◌∙◌, arith, eq-eqb}
 use Rattle.std.proofs.lemmas.Bool.{cases_eq, cases_lt, or_cases, false≢true, eqb-true}
 use Rattle.std.proofs.lemmas.List.{length-append, length-take-le, length-drop, get_or-take, get_or-drop, get_or_append_left, get_or_default}
 use Rattle.std.proofs.lemmas.List.Folds.{list_any_at}
@@ -20,8 +20,8 @@ pub record HasPairOf (row : List (ℕ × ℕ)) (e : ℕ) : Type 0 where
 pub pair_of : (row : List (ℕ × ℕ)) (e : ℕ) → has_event row e ≡ true → HasPairOf row e
 pair_of [] e h = absurd (false≢true h)
 pair_of (p ∷ row) e h = elim (or_cases (nat_eq p.1 e) (has_event row e) h) [
-    | inl same ↦ record { place = 0; within = omega arith; event = eqb-true p.1 e same }
-    | inr later ↦ let r = pair_of row e later in record { place = suc r.place; within = let l : r.place < length row = r.within in omega arith; event = r.event }
+  | inl same ↦ record { place = 0; within = omega arith; event = eqb-true p.1 e same }
+  | inr later ↦ let r = pair_of row e later in record { place = suc r.place; within = let l : r.place < length row = r.within in omega arith; event = r.event }
 ]
 
 pub of_pair : (row : List (ℕ × ℕ)) (e k : ℕ) → k < length row → (pair_at row k).1 ≡ e → has_event row e ≡ true
@@ -58,7 +58,8 @@ group_pair row start end e order within h =
     let below : p.place < end - start = omega (arith, group_length row start end order within) in
     record { place = start + p.place; above = omega arith; below = omega arith; event = ap (λ (q : ℕ × ℕ). q.1) (sym (group_at row start end p.place below)) ∙ p.event }
 
-pair_group : (row : List (ℕ × ℕ)) (start end e k : ℕ) → start ≤ end → end ≤ length row → start ≤ k → k < end → (pair_at row k).1 ≡ e → has_event (group row start end) e ≡ true
+pair_group : (row : List (ℕ × ℕ)) (start end e k : ℕ) → start ≤ end → end ≤ length row → start ≤ k → k < end → (pair_at row k).1 ≡ e
+    → has_event (group row start end) e ≡ true
 pair_group row start end e k order within above below is =
     let less : k - start < end - start = omega arith in
     let place : start + (k - start) ≡ k = omega arith in
@@ -82,7 +83,8 @@ in_longer links link l r h =
     record { place = h.place; within = omega (arith, length-append links (link ∷ [])); left = ap (λ (k : Link). k.left) at ∙ h.left; right = ap (λ (k : Link). k.right) at ∙ h.right }
 
 -- one more link, of the pair of parts that comes next
-pub link_added : (parts : List Part) (i j : ℕ) (links : List Link) (link : Link) → AreLinksBefore parts i j links → JoinsTwo parts link → link.left ≡ i → link.right ≡ j → AreLinksBefore parts i (j + 1) (links ++ link ∷ [])
+pub link_added : (parts : List Part) (i j : ℕ) (links : List Link) (link : Link) → AreLinksBefore parts i j links → JoinsTwo parts link
+    → link.left ≡ i → link.right ≡ j → AreLinksBefore parts i (j + 1) (links ++ link ∷ [])
 link_added parts i j links link a joins left right = record {
   joins = λ k less. elim (cases_eq k (length links)) [
     | inl same ↦ subst (JoinsTwo parts) (sym (new_at k same)) joins
@@ -96,11 +98,11 @@ link_added parts i j links link a joins left right = record {
     | inl above ↦ in_longer links link l r (a.all l r order within (inl above) meet)
     | inr row ↦ elim (cases_eq r j) [
       | inl same ↦ record {
-          place = length links;
-          within = omega (arith, length-append links (link ∷ []));
-          left = ap (λ (x : Link). x.left) (new_at (length links) refl) ∙ left ∙ sym row.0;
-          right = ap (λ (x : Link). x.right) (new_at (length links) refl) ∙ right ∙ sym same;
-        }
+        place = length links;
+        within = omega (arith, length-append links (link ∷ []));
+        left = ap (λ (x : Link). x.left) (new_at (length links) refl) ∙ left ∙ sym row.0;
+        right = ap (λ (x : Link). x.right) (new_at (length links) refl) ∙ right ∙ sym same;
+      }
       | inr other ↦ let less : r < j + 1 = row.1 in in_longer links link l r (a.all l r order within (inr (row.0, omega arith)) meet)
     ]
   ];
@@ -130,8 +132,8 @@ link_added parts i j links link a joins left right = record {
 
     below_new : (k : ℕ) → k < length links → IsBelow (link_in links k) link
     below_new k less = elim (a.before k less) [
-        | inl above ↦ let h : (link_in links k).left < i = above in inl (omega arith)
-        | inr row ↦ let h : (link_in links k).right < j = row.1 in let same : (link_in links k).left ≡ i = row.0 in inr (omega arith, omega arith)
+      | inl above ↦ let h : (link_in links k).left < i = above in inl (omega arith)
+      | inr row ↦ let h : (link_in links k).right < j = row.1 in let same : (link_in links k).left ≡ i = row.0 in inr (omega arith, omega arith)
     ]
 
 -- where no event is shared with the parts from j on, up to m, these add no link

@@ -1,13 +1,13 @@
 -- What loops over parts, rows and pairs read.
-use Rattle.std.proofs.Common.{◌≡◌, ℕ, ◌+◌, ◌<◌, ◌≤◌, List, [], ◌++◌, length, get_or, take, Bool, true, false, ◌||◌, Option, nat_eq, refl, sym, ap, subst, ◌∙◌}
+use Rattle.std.proofs.Common.{◌≡◌, ℕ, ◌+◌, ◌<◌, List, [], ◌++◌, length, get_or, take, Bool, true, false, ◌||◌, Option, nat_eq, refl, sym, ap, subst, ◌∙◌}
 use Rattle.std.proofs.lemmas.List.{get_or_read}
 use Rattle.std.proofs.lemmas.List.Folds.{list_any_more}
 use Rattle.csp_base.specs.Members.{has}
 use Rattle.csp_base.specs.Events.{with_member}
 use Rattle.csp_base.proofs.Rising.{has-with_member}
 use Rattle.csp_tables.specs.Part.{Part, part_at}
-use Rattle.network_shape.specs.Rows.{pair_at, row_at, joints, AreOwners, AreRows, has_event, any_has_event}
-use Rattle.network_shape.proofs.Joining.{rows_more, owner_rows}
+use Rattle.network_shape.specs.Rows.{pair_at, row_at, joints, AreOwners, AreRows, has_event}
+use Rattle.network_shape.proofs.Joining.{rows_more}
 
 -- the part of a place, as it is read from a list
 pub part_read : (parts items : List Part) (k : ℕ) (part : Part) → items ≡ parts → k < length items → part ≡ get_or items k part → part_at parts k ≡ part
@@ -20,7 +20,8 @@ pub pair_read : (row : List (ℕ × ℕ)) (k : ℕ) (pair : ℕ × ℕ) → k < 
 pair_read row k pair h at = sym (get_or_read row k pair h at (0, 0))
 
 -- the rows with what one more part shares
-pub rows_read : (parts : List Part) (n : ℕ) (owners kept : List (Option ℕ)) (rows more : List (List (ℕ × ℕ))) (part : Part) (events : List ℕ) → kept ≡ owners → n < length parts → part ≡ get_or parts n part → events ≡ part.alphabet
+pub rows_read : (parts : List Part) (n : ℕ) (owners kept : List (Option ℕ)) (rows more : List (List (ℕ × ℕ))) (part : Part) (events : List ℕ)
+    → kept ≡ owners → n < length parts → part ≡ get_or parts n part → events ≡ part.alphabet
     → AreOwners parts n owners → AreRows parts n rows → length more ≡ length rows → ((i : ℕ) → row_at more i ≡ row_at rows i ++ joints kept n i events) → AreRows parts (n + 1) more
 rows_read parts n owners kept rows more part events same h at is a r count added =
     let here : events ≡ (part_at parts n).alphabet = is ∙ ap (λ (p : Part). p.alphabet) (sym (part_read parts parts n part refl h at)) in

@@ -1,8 +1,8 @@
 -- The events that parts share, sorted out by the left one of the parts. (No public contract cites this.)
-use Rattle.std.specs.Prelude.{◌≡◌, ◌<◌, ◌≤◌, ◌⊎◌, ℕ, List, [], ◌∷◌, Bool, false, Option, Some, None, IsTrue, nat_eq, length, get_or, slice_index_or, if◌then◌else◌}
+use Rattle.std.specs.Prelude.{◌≡◌, ◌<◌, ◌≤◌, ◌↔◌, ◌⊎◌, ℕ, List, [], ◌∷◌, Bool, false, Option, Some, None, IsTrue, nat_eq, length, get_or, slice_index_or, if◌then◌else◌}
 use Rattle.std.specs.List.{flat_map, list_any}
 use Rattle.csp_base.specs.Members.{has}
-use Rattle.csp_tables.specs.Part.{Part, part_at, Meet}
+use Rattle.csp_tables.specs.Part.{Part, part_at, alphabets_of, sharers, Meet}
 use Rattle.csp_tables.specs.Shape.{Link, JoinsTwo, IsBelow}
 
 -- ---- for each event a part that has it
@@ -13,7 +13,8 @@ owner_of owners e = get_or owners e None
 -- The part that is kept for an event is one of the first n that has it. Where a later part has it too, it is the only one.
 pub record AreOwners (parts : List Part) (n : ℕ) (owners : List (Option ℕ)) : Type 0 where
   pub sound : (e i : ℕ) → owner_of owners e ≡ Some i → (i < n) × IsTrue (has (part_at parts i).alphabet e)
-  pub complete : (e i j : ℕ) → i < n → n ≤ j → j < length parts → IsTrue (has (part_at parts i).alphabet e) → IsTrue (has (part_at parts j).alphabet e) → owner_of owners e ≡ Some i
+  pub complete : (e i j : ℕ) → i < n → n ≤ j → j < length parts
+      → IsTrue (has (part_at parts i).alphabet e) → IsTrue (has (part_at parts j).alphabet e) → owner_of owners e ≡ Some i
 
 -- ---- rows of pairs: a later part, and an event that it shares
 
@@ -89,3 +90,7 @@ pub record AreLinksBefore (parts : List Part) (i j : ℕ) (links : List Link) : 
   pub before : (k : ℕ) → k < length links → Precedes (link_in links k).left (link_in links k).right i j
   pub all : (l r : ℕ) → l < r → r < length parts → Precedes l r i j → Meet (part_at parts l).alphabet (part_at parts r).alphabet → IsLinked links l r
   pub rise : (k m : ℕ) → k < m → m < length links → IsBelow (link_in links k) (link_in links m)
+
+-- the events that two parts or more have
+abbrev pub IsVocabulary : List Part → List ℕ → Type 0
+IsVocabulary parts events = (e : ℕ) → IsTrue (has events e) ↔ (2 ≤ sharers (alphabets_of parts) e)

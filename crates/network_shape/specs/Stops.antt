@@ -3,7 +3,7 @@ use Rattle.std.specs.Prelude.{◌≡◌, ◌<◌, ℕ, List, [], length, get_or}
 use Rattle.csp_tables.specs.Table.{IsRun, acceptances_after}
 use Rattle.csp_tables.specs.Part.{Part, part_at, IsNonEmpty}
 use Rattle.csp_tables.specs.Shape.{Shape}
-use Rattle.csp_tables.specs.Standing.{RunsTo}
+use Rattle.csp_tables.specs.Standing.{RunsTo, IsBusyShape}
 
 -- no acceptance of the part after a run is empty
 abbrev pub IsBusyPart : Part → Type 0
@@ -20,3 +20,7 @@ pub record StopsFirst (shape : Shape) (i : ℕ) (s : List ℕ) : Type 0 where
   pub runs : RunsTo shape i s
   pub stops : HasEmpty (acceptances_after (part_at shape.parts i).table s)
   pub first : (j : ℕ) → j < i → IsBusyPart (part_at shape.parts j)
+
+-- a shape with a part that stops is not busy
+abbrev pub StopsRefute : Type 0
+StopsRefute = (shape : Shape) (i : ℕ) (s : List ℕ) → StopsFirst shape i s → IsBusyShape shape → ⊥

@@ -1,15 +1,20 @@
-//! The shape that is made of parts is the shape of the network whose components the parts are made for.
+//! What parts and their faults say of the network whose components the parts are made for.
 
-ghost use Rattle.network_shape.specs.Made.{MadePartsAreParts, MadePartsMakeShapes};
+ghost use Rattle.network_shape.specs.Made.{MadePartsAreParts, MadePartsGrow, MadePartsHaveAlphabets, MadePartsMakeShapes, TablesStayWithin};
+ghost use Rattle.network_shape.specs.Stops.{StopsRefute};
 
 use net_sound::Transitions;
 
-/// A part that is made for a component is the component's.
-pub fn made_parts_are_parts<S: Transitions>()
-    ensures { MadePartsAreParts S.step }
+/// Parts that are made for the components of a network, one after another, make the network's shape.
+pub fn made_parts_make_shapes<S: Transitions>()
+    ensures events { TablesStayWithin S.step }
+    ensures more { MadePartsGrow S.step }
+    ensures alphabets { MadePartsHaveAlphabets S.step }
+    ensures parts { MadePartsAreParts S.step }
+    ensures shapes { MadePartsMakeShapes S.step }
 {}
 
-/// A well-formed shape of parts that are made for the components of a network is the network's.
-pub fn made_parts_make_shapes<S: Transitions>()
-    ensures { MadePartsMakeShapes S.step }
+/// A shape with a part that stops is not busy.
+pub fn stops_refute()
+    ensures { StopsRefute }
 {}

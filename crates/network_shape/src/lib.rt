@@ -6,11 +6,11 @@ mod laws;
 mod links;
 mod parts;
 mod rows;
+mod shaping;
 mod stops;
-mod whole;
 
 pub use fault::{BusyFault, PartFault};
-pub use laws::{made_parts_are_parts, made_parts_make_shapes};
+pub use laws::{made_parts_make_shapes, stops_refute};
 pub use parts::part;
+pub use shaping::shape;
 pub use stops::busy;
-pub use whole::shape;

@@ -1,20 +1,37 @@
 //! The links between parts, from the events that the parts share.
 
-ghost use Rattle.std.specs.Prelude.{◌≡◌, ◌≢◌, ◌<◌, ◌≤◌, ◌+◌, ◌||◌, ℕ, All, List, IfOk, OnOk, length};
+ghost use Rattle.std.specs.Prelude.{◌≡◌, ◌≢◌, ◌<◌, ◌≤◌, ◌+◌, ◌||◌, ◌++◌, ◌∷◌, [], ℕ, List, IfOk, OnOk, length};
 ghost use Rattle.csp_base.specs.Members.{has};
 ghost use Rattle.csp_tables.specs.Part.{Part};
-ghost use Rattle.network_shape.specs.Rows.{AreLinksBefore, AreRows, IsRow, any_has_event, has_event, pair_at};
+ghost use Rattle.network_shape.specs.Rows.{AreLinksBefore, AreRows, IsRow, IsVocabulary, any_has_event, has_event, pair_at};
 
 use containers::Items;
 use csp_base::{Event, EventSet, NoMemory};
 use csp_tables::Link;
 use std::alloc::Global;
 
-// The links of the parts whose rows these are.
-pub(crate) fn links_of(alloc: Global, rows: &[Items<(u32, Event)>]) -> Result<Vec<Link>, NoMemory>
+// The links of the parts whose rows these are, and the parts' vocabulary.
+pub(crate) fn linked(
+    alloc: Global,
+    rows: &[Items<(u32, Event)>],
+) -> Result<(Vec<Link>, EventSet), NoMemory>
     requires few { length rows.now ≤ 512 }
     requires rows { (parts : List Part) × AreRows parts (length parts) rows.now }
-    ensures { (parts : List Part) → AreRows parts (length parts) rows.now → IfOk result (λ made. AreLinksBefore parts (length parts) 0 made.items) }
+    ensures links { (parts : List Part) → AreRows parts (length parts) rows.now
+        → IfOk result (λ made. AreLinksBefore parts (length parts) 0 made.0.items) }
+    ensures vocabulary { (parts : List Part) → AreRows parts (length parts) rows.now → IfOk result (λ made. IsVocabulary parts made.1) }
+{
+    let vocabulary = vocabulary(alloc, rows)?;
+    let links = links_of(alloc, rows)?;
+    Ok((links, vocabulary))
+}
+
+// The links of the parts whose rows these are.
+fn links_of(alloc: Global, rows: &[Items<(u32, Event)>]) -> Result<Vec<Link>, NoMemory>
+    requires few { length rows.now ≤ 512 }
+    requires rows { (parts : List Part) × AreRows parts (length parts) rows.now }
+    ensures { (parts : List Part) → AreRows parts (length parts) rows.now
+        → IfOk result (λ made. AreLinksBefore parts (length parts) 0 made.items) }
 {
     let mut made = Vec::new(alloc);
     for (left, row) in rows.iter().enumerate() {
@@ -31,15 +48,24 @@ fn add_links(
     row: &[(u32, Event)],
 ) -> Result<(), NoMemory>
     requires { (k : ℕ) → k < length row.now → left < (pair_at row.now k).0 }
-    ensures { (parts : List Part) → IsRow parts (length parts) left row.now → AreLinksBefore parts left 0 links.old.items → OnOk result (AreLinksBefore parts (left + 1) 0 links.new.items) }
+    ensures { (parts : List Part) → IsRow parts (length parts) left row.now → AreLinksBefore parts left 0 links.old.items
+        → OnOk result (AreLinksBefore parts (left + 1) 0 links.new.items) }
 {
     let mut start = 0;
     while start < row.len() {
         let end = group_end(row, start);
         let shared = events_of(alloc, &row[start..end])?;
-        links.push(Link::new(left, row[start].0, shared))?;
+        push(links, Link::new(left, row[start].0, shared))?;
         start = end;
     }
+    Ok(())
+}
+
+// Adds a link at the end.
+fn push(links: &mut Vec<Link>, link: Link) -> Result<(), NoMemory>
+    ensures { OnOk result (links.new.items ≡ links.old.items ++ link ∷ []) }
+{
+    links.push(link)?;
     Ok(())
 }
 
@@ -78,7 +104,7 @@ fn include_all(events: &mut EventSet, pairs: &[(u32, Event)]) -> Result<(), NoMe
 }
 
 // The events of all rows.
-pub(crate) fn vocabulary(alloc: Global, rows: &[Items<(u32, Event)>]) -> Result<EventSet, NoMemory>
+fn vocabulary(alloc: Global, rows: &[Items<(u32, Event)>]) -> Result<EventSet, NoMemory>
     ensures { IfOk result (λ made. (e : ℕ) → has made e ≡ any_has_event rows.now e) }
 {
     let mut events = EventSet::new(alloc);

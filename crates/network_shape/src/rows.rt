@@ -3,7 +3,7 @@
 ghost use Rattle.std.specs.Prelude.{◌≡◌, ◌<◌, ◌≤◌, ◌==◌, ◌++◌, ◌∷◌, [], ℕ, Some, IfOk, OnOk, length, replicate, slice_set, if◌then◌else◌};
 ghost use Rattle.csp_base.specs.Members.{has};
 ghost use Rattle.csp_tables.specs.Part.{TripleDisjoint, alphabets_of};
-ghost use Rattle.network_shape.specs.Rows.{AreRows, joint, joints, owner_of, row_at};
+ghost use Rattle.network_shape.specs.Rows.{AreOwners, AreRows, joint, joints, owner_of, row_at};
 
 use containers::Items;
 use csp_base::{Event, EventSet, NoMemory};
@@ -11,18 +11,37 @@ use csp_tables::Part;
 use std::alloc::Global;
 
 // For each part the events that it shares with later parts, each with the later part. Goes over each alphabet twice.
-pub(crate) fn shared_rows(alloc: Global, parts: &[Part]) -> Result<Vec<Items<(u32, Event)>>, NoMemory>
+pub(crate) fn shared_rows(
+    alloc: Global,
+    parts: &[Part],
+) -> Result<Vec<Items<(u32, Event)>>, NoMemory>
     requires most { length parts.now ≤ 512 }
     requires apart { TripleDisjoint (alphabets_of parts.now) }
     ensures { IfOk result (λ rows. AreRows parts.now (length parts.now) rows.items) }
 {
     let mut rows = empty_rows(alloc, parts.len())?;
     let mut owners = Vec::new(alloc);
-    for (place, part) in parts.iter().enumerate() {
-        join_all(&owners, &mut rows, place as u32, part.alphabet())?;
-        own_all(&mut owners, part.alphabet(), place as u32)?;
-    }
+    join_parts(&mut owners, &mut rows, parts)?;
     Ok(rows)
+}
+
+// Notes for each part the events that it shares with later ones.
+fn join_parts(
+    owners: &mut Vec<Option<u32>>,
+    rows: &mut Vec<Items<(u32, Event)>>,
+    parts: &[Part],
+) -> Result<(), NoMemory>
+    requires most { length parts.now ≤ 512 }
+    requires apart { TripleDisjoint (alphabets_of parts.now) }
+    requires owners { AreOwners parts.now 0 owners.old.items }
+    requires rows { AreRows parts.now 0 rows.old.items }
+    ensures { OnOk result (AreRows parts.now (length parts.now) rows.new.items) }
+{
+    for (place, part) in parts.iter().enumerate() {
+        join_all(owners, rows, place as u32, part.alphabet())?;
+        own_all(owners, part.alphabet(), place as u32)?;
+    }
+    Ok(())
 }
 
 // As many empty rows as `count` says.

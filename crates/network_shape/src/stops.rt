@@ -69,9 +69,13 @@ fn run_to_node(alloc: Global, part: &Part, node: u32) -> Result<Trace, NoMemory>
 {
     let explored = explore(alloc, part, &Unwatched)?;
     let place = node_place(explored.pairs(), node);
-    let run = explored.run_to(alloc, place)?;
-    Ok(run)
+    let run = explored.run_to(alloc, place);
+    let_go(explored);
+    run
 }
+
+// Ends a value here.
+fn let_go<T: Drop>(_value: T) {}
 
 // The place of a pair with the node.
 fn node_place(pairs: &[(u32, u32)], node: u32) -> usize

@@ -1,5 +1,4 @@
-use Rattle.std.proofs.Common.{◌≡◌, ◌<◌, List, length, subst, arith}
-use Rattle.csp_tables.specs.Part.{Part}
+use Rattle.std.proofs.Common.{◌≡◌, ◌<◌, length, subst, arith}
 use Rattle.network_shape.specs.Rows.{IsRow}
 use Rattle.network_shape.proofs.Reading.{row_read}
 use Rattle.network_shape.proofs.links.links_of.Goals as goal

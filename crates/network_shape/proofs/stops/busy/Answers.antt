@@ -1,6 +1,6 @@
-use Rattle.std.proofs.Common.{◌≡◌, ◌<◌, ℕ, List, length, sym, subst}
+use Rattle.std.proofs.Common.{◌<◌, List, length, subst}
 use Rattle.csp_tables.specs.Form.{HasForm}
-use Rattle.csp_tables.specs.Part.{Part, part_at}
+use Rattle.csp_tables.specs.Part.{Part}
 use Rattle.csp_tables.specs.Table.{IsReached}
 use Rattle.net_sound.proofs.Within.{part_form}
 use Rattle.network_shape.proofs.Reading.{part_read}
