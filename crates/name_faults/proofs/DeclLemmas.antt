@@ -1,0 +1,47 @@
+-- What each form of declaration says, step by step.
+use Rattle.std.proofs.Common.{◌≡◌, List, [], ◌∷◌, ◌++◌, slice_get, sym, ap, ◌∙◌}
+use Rattle.csp_text.specs.declared.script.Decl.{Decl}
+use Rattle.csp_text.specs.declared.script.Decl.TheVariants as decl
+use Rattle.csp_text.specs.declared.tree.Tree.{Tree}
+use Rattle.script_names.specs.declared.kinds.Kind.{Kind}
+use Rattle.script_names.specs.declared.kinds.Place.{Place}
+use Rattle.script_names.specs.Names.{Name, Meanings, is_among}
+use Rattle.script_names.specs.Says.{tree_says}
+use Rattle.script_names.specs.Told.{body_place, declared_after, parameters_after, types_say}
+use Rattle.name_tables.specs.Firsts.{SameNames}
+use Rattle.name_notes.specs.declared.notes.Notes.{Notes}
+use Rattle.name_notes.specs.Heard.{again_heard, heard_all}
+use Rattle.name_notes.proofs.ToldEquations.{heard_all-append}
+use Rattle.name_faults.specs.declared.known.Known.{Known}
+use Rattle.name_faults.specs.Known.{declared_heard, parameters_heard, says_after}
+use Rattle.name_faults.proofs.KnownLemmas.{declared_is, heard_same, parameters_are}
+
+module _ (m : Meanings) (kinds : List Kind) (k : Known) (d : Decl) (n : Notes) where
+  pub channel_told : (xs : List Name) (types : List Tree) (n1 n2 : Notes) → d ≡ decl.Channel xs types
+      → n1 ≡ declared_heard k.declared n xs → n2 ≡ heard_all m kinds n1 (types_say m kinds types) → n2 ≡ heard_all m kinds n (says_after m kinds k d)
+  channel_told xs types n1 n2 is first rest =
+      rest
+      ∙ ap (λ p. heard_all m kinds p (types_say m kinds types)) (first ∙ declared_is m kinds k.declared n xs)
+      ∙ sym (heard_all-append m kinds n (declared_after k.declared xs) (types_say m kinds types))
+      ∙ ap (λ e. heard_all m kinds n (says_after m kinds k e)) (sym is)
+
+  pub datatype_told : (x : Name) (ks before : List Name) (n1 n2 : Notes) → d ≡ decl.Datatype x ks
+      → n1 ≡ again_heard n x (is_among k.declared x) → SameNames before (k.declared ++ x ∷ []) → n2 ≡ declared_heard before n1 ks → n2 ≡ heard_all m kinds n (says_after m kinds k d)
+  datatype_told x ks before n1 n2 is first same rest =
+      rest
+      ∙ heard_same before (k.declared ++ x ∷ []) ks n1 same
+      ∙ ap (λ p. declared_heard (k.declared ++ x ∷ []) p ks) first
+      ∙ declared_is m kinds k.declared n (x ∷ ks)
+      ∙ ap (λ e. heard_all m kinds n (says_after m kinds k e)) (sym is)
+
+  pub define_told : (x : Name) (params : List Name) (t : Tree) (place : Place) (n1 n2 : Notes) → d ≡ decl.Define x params t → place ≡ body_place (slice_get kinds k.definitions)
+      → n1 ≡ again_heard n x (is_among k.declared x) → n2 ≡ heard_all m kinds (parameters_heard m [] n1 params) (tree_says m t place params)
+      → n2 ≡ heard_all m kinds n (says_after m kinds k d)
+  define_told x params t place n1 n2 is place_is first rest =
+      let body = tree_says m t (body_place (slice_get kinds k.definitions)) params in
+      let named = again_heard n x (is_among k.declared x) in
+      rest
+      ∙ (λ i. heard_all m kinds (parameters_heard m [] (first i) params) (tree_says m t (place_is i) params))
+      ∙ ap (λ p. heard_all m kinds p body) (parameters_are m kinds [] named params)
+      ∙ sym (heard_all-append m kinds named (parameters_after [] params) body)
+      ∙ ap (λ e. heard_all m kinds n (says_after m kinds k e)) (sym is)
