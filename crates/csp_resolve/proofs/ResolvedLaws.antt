@@ -1,0 +1,31 @@
+-- The answer for a script, from its parts.
+use Rattle.std.proofs.Common.{◌≡◌, ℕ, List, refl, sym, ap, ◌∙◌}
+use Rattle.std.specs.Prelude.{Some, None, Ok, Err}
+use Rattle.std.proofs.Math.Path.{fun_ext}
+use Rattle.csp_program.specs.declared.programs.Content.{Content}
+use Rattle.csp_text.specs.declared.script.Decl.{Decl}
+use Rattle.csp_text.specs.declared.tree.Tree.{Tree}
+use Rattle.csp_resolve.specs.Answers.{types_read}
+use Rattle.name_tables.specs.Firsts.{SameFirsts}
+use Rattle.script_names.specs.declared.fault.ResolveFault.{ResolveFault}
+use Rattle.script_names.specs.declared.fault.ResolveFault.TheVariants as fault
+use Rattle.script_names.specs.declared.kinds.Kind.{Kind}
+use Rattle.script_names.specs.Contents.{first_assertion, plain_content}
+use Rattle.script_names.specs.Names.{Entities, declared, first_of, meanings_of}
+use Rattle.script_names.specs.Resolved.{and_next, channel_sets, resolved, with_names, with_root, with_table}
+use Rattle.script_names.specs.Told.{name_fault}
+
+module _ (decls : List Decl) (kinds : List Kind) where
+  pub no_assert : first_assertion decls ≡ None → resolved decls kinds ≡ Err fault.NoAssert
+  no_assert none = ap (with_root decls kinds) none
+
+  pub at_fault : (root : Tree) (f : ResolveFault) → first_assertion decls ≡ Some root → name_fault decls kinds ≡ Some f → resolved decls kinds ≡ Err f
+  at_fault root f asserted told = ap (with_root decls kinds) asserted ∙ ap (with_names decls kinds) told
+
+  pub faultless : (root : Tree) (names : Entities) (content : Content) → SameFirsts names (declared decls) → first_assertion decls ≡ Some root → name_fault decls kinds ≡ None
+      → content ≡ plain_content decls kinds
+      → resolved decls kinds ≡ and_next (channel_sets content (types_read (first_of names) kinds) 0 decls) (λ all. with_table content all)
+  faultless root names content same asserted told is =
+      let means : first_of names ≡ meanings_of decls = fun_ext same in
+      ap (with_root decls kinds) asserted ∙ ap (with_names decls kinds) told
+      ∙ (λ i. and_next (channel_sets (sym is i) (types_read (sym means i) kinds) 0 decls) (λ all. with_table (sym is i) all))

@@ -1,0 +1,20 @@
+use Rattle.std.proofs.Common.{◌≡◌, List, ap, refl, sym, ◌∙◌, subst}
+use Rattle.csp_program.specs.declared.expressions.Expr.{Expr}
+use Rattle.csp_text.specs.declared.script.Decl.{Decl}
+use Rattle.csp_resolve.specs.Answers.{GrowsBy, sets_of, types_read}
+use Rattle.csp_resolve.proofs.SetsLaws.{grows_by_channels}
+use Rattle.script_names.specs.Names.{first_of}
+use Rattle.script_names.specs.Resolved as meant
+use Rattle.csp_resolve.proofs.events.add_sets.Goals as goal
+
+pub returns-in_ok-push_shared-in-Channel : goal.returns-in_ok-push_shared-in-Channel
+returns-in_ok-push_shared-in-Channel c =
+    let p = c.args.content.now in
+    let types_of = types_read (first_of c.args.names.now) c.args.kinds.now in
+    let read : c.as_slice-in-Channel.result.now ≡ types_of c.in-Channel.types =
+    c.as_slice-in-Channel.ensures ∙ c.in_ok-types-in-Channel.ensures ∙ ap types_of c.as_slice.ensures in
+    subst (λ (d : Decl). GrowsBy c.args.shared.now.items c.push_shared.new.shared.items (sets_of p types_of c.args.i d)) (sym c.in-Channel.is)
+    (grows_by_channels p types_of c.args.i c.in-Channel.xs c.in-Channel.types c.in_ok-sets-in-Channel.sets
+    (record { channels = c.in_ok-channels-in-Channel.channels; sets = c.in_ok-sets-in-Channel.sets }) c.args.shared.now.items c.push_shared.new.shared.items
+    (ap (λ (es : List Expr). meant.told_in c.args.i (meant.field_sets p es)) (sym read) ∙ c.in_ok-sets-in-Channel.ensures)
+    (c.in_ok-channels-in-Channel.ensures ∙ c.len.ensures) refl c.in_ok-push_shared-in-Channel.ensures)

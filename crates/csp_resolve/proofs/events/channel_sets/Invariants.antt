@@ -1,0 +1,12 @@
+use Rattle.std.proofs.Common.{◌≡◌, drop}
+use Rattle.csp_resolve.specs.Answers.{types_read}
+use Rattle.csp_resolve.proofs.SetsLaws.{sets_with}
+use Rattle.event_tables.specs.Spread.{spread}
+use Rattle.script_names.specs.Names.{first_of}
+use Rattle.script_names.specs.Resolved as meant
+use Rattle.csp_resolve.proofs.events.channel_sets.Given as goal
+
+abbrev pub invariant-loop-decl : goal.invariant-loop-decl
+invariant-loop-decl l =
+    meant.channel_sets l.content (types_read (first_of l.names) l.kinds) 0 l.decls
+    ≡ sets_with (spread l.shared.items) (meant.channel_sets l.content (types_read (first_of l.names) l.kinds) l.i (drop l.decl-index l.decls))

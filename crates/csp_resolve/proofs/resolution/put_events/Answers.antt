@@ -1,0 +1,20 @@
+use Rattle.std.proofs.Common.{List, ap, ◌∙◌}
+use Rattle.std.specs.Prelude.{Vec}
+use Rattle.std.specs.declared.alloc.Global.{Global}
+use Rattle.csp_program.specs.declared.programs.Content.{Content}
+use Rattle.csp_resolve.specs.Answers.{Answers, types_read}
+use Rattle.csp_resolve.proofs.AnswerLaws.{passed}
+use Rattle.csp_resolve.proofs.SetsLaws.{Sets}
+use Rattle.event_tables.specs.declared.sets.SharedSets.{SharedSets}
+use Rattle.event_tables.specs.Spread.{spread}
+use Rattle.script_names.specs.Names.{first_of}
+use Rattle.script_names.specs.Resolved as meant
+use Rattle.script_names.specs.Resolved.{Answer, and_next}
+use Rattle.csp_resolve.proofs.resolution.put_events.Goals as goal
+
+pub returns-in_err-shared-clause-answer : goal.returns-in_err-shared-clause-answer
+returns-in_err-shared-clause-answer c =
+    let sets = meant.channel_sets c.args.content.now (types_read (first_of c.args.names.now) c.args.kinds.now) 0 c.args.decls.now in
+    passed c.from_residual-in_err-shared.result c.in_err-shared.field-0.0 (λ (shared : Vec SharedSets Global). spread shared.items) (λ (done : Unit {0}). c.args.content.now)
+    sets (and_next sets (λ all. meant.with_table c.args.content.now all)) c.from_residual-in_err-shared.ensures.1 c.in_err-shared.ensures
+    (λ g none. ap (λ (o : Answer Sets). and_next o (λ all. meant.with_table c.args.content.now all)) none)

@@ -1,0 +1,14 @@
+use Rattle.std.proofs.Common.{sym, ◌∙◌, subst}
+use Rattle.csp_program.specs.declared.programs.Content.{Content}
+use Rattle.script_names.specs.declared.fault.ResolveFault.{ResolveFault}
+use Rattle.script_names.specs.Resolved.{Answer}
+use Rattle.csp_resolve.specs.Answers.{Answers}
+use Rattle.csp_resolve.proofs.ResolvedLaws.{faultless}
+use Rattle.csp_resolve.proofs.resolution.resolved.Goals as goal
+
+pub returns-in_ok-content-in-None-clause-answer : goal.returns-in_ok-content-in-None-clause-answer
+returns-in_ok-content-in-None-clause-answer c =
+    subst (λ (whole : Answer Content). Answers (λ (p : Content). p) c.with_events.result whole)
+    (sym (faultless c.args.decls.now c.args.kinds.now c.in-Some.root.now c.args.names.now c.in_ok-content-in-None.content c.requires.names (sym c.in-Some.ensures) (sym c.in_ok-fault.ensures ∙ c.in-None.is)
+    c.in_ok-content-in-None.ensures))
+    c.with_events.ensures.answer

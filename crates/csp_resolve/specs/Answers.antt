@@ -1,0 +1,41 @@
+-- What the calls within this crate answer. Only its private contracts cite it.
+use Rattle.std.specs.Prelude.{◌≡◌, ℕ, Result, Ok, Err, List, [], ◌∷◌, ◌++◌, length, map, replicate}
+use Rattle.csp_atoms.specs.declared.atom.Atom.{Atom}
+use Rattle.csp_program.specs.declared.expressions.Expr.{Expr}
+use Rattle.csp_program.specs.declared.programs.Content.{Content}
+use Rattle.csp_text.specs.declared.script.Decl.{Decl}
+use Rattle.csp_text.specs.declared.script.Decl.TheVariants as decl
+use Rattle.csp_text.specs.declared.tree.Tree.{Tree}
+use Rattle.event_tables.specs.declared.sets.SharedSets.{SharedSets}
+use Rattle.event_tables.specs.Spread.{spread}
+use Rattle.script_names.specs.declared.fault.ResolveFault.{ResolveFault}
+use Rattle.script_names.specs.declared.fault.ResolveFault.TheVariants as fault
+use Rattle.script_names.specs.declared.kinds.Kind.{Kind}
+use Rattle.script_names.specs.Names.{Meanings}
+use Rattle.script_names.specs.Resolved.{Answer, and_next, field_sets, told_in}
+use Rattle.script_names.specs.Typed.{exprs, reading}
+
+-- the value exactly where there is one, the fault exactly where there is that one; want of memory is free
+abbrev pub Answers : {A B : Type 0} → (A → B) → Result A ResolveFault → Answer B → Type 0
+Answers shown (Ok a) answer = answer ≡ Ok (shown a)
+Answers shown (Err fault.NoMemory) answer = Unit {0}
+Answers shown (Err f) answer = answer ≡ Err f
+
+-- the types of channels, where names mean this
+abbrev pub types_read : Meanings → List Kind → List Tree → List Expr
+types_read meanings kinds types = exprs (map (reading meanings kinds) types) [] 0
+
+-- the field sets of the channels of the declaration with the number i
+abbrev pub sets_of : Content → (List Tree → List Expr) → ℕ → Decl → Answer (List (List (List Atom)))
+sets_of p types_of i (decl.Channel xs types) =
+    and_next (told_in i (field_sets p (types_of types))) (λ sets. Ok (replicate (length xs) sets))
+sets_of p types_of i _ = Ok []
+
+abbrev pub GrowsBy : List SharedSets → List SharedSets → Answer (List (List (List Atom))) → Type 0
+GrowsBy old new answer = (more : List (List (List Atom))) × (answer ≡ Ok more) × (spread new ≡ spread old ++ more)
+
+-- the list has grown by the field sets of a declaration
+abbrev pub Grows : Result (Unit {0}) ResolveFault → List SharedSets → List SharedSets → Answer (List (List (List Atom))) → Type 0
+Grows (Ok done) old new answer = GrowsBy old new answer
+Grows (Err fault.NoMemory) old new answer = Unit {0}
+Grows (Err f) old new answer = answer ≡ Err f

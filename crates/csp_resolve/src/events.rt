@@ -1,0 +1,112 @@
+//! The field sets of a script's channels, and its event table.
+
+ghost use Rattle.std.specs.Prelude.{◌≡◌, List, [], ◌∷◌, ◌++◌, OnOk};
+ghost use Rattle.csp_resolve.specs.Answers.{Answers, Grows, sets_of, types_read};
+ghost use Rattle.event_tables.specs.Spread.{spread};
+ghost use Rattle.script_names.specs.Names.{first_of};
+ghost use Rattle.script_names.specs.Resolved as meant;
+ghost use Rattle.csp_atoms.specs.declared.atom.Atom.{Atom};
+
+use containers::Items;
+use csp_atoms::AtomSet;
+use csp_base::NoMemory;
+use csp_program::{Content, Expr};
+use csp_text::Decl;
+use csp_values::EvalFault;
+use event_tables::{SharedSets, event_count, field_sets, fill_events};
+use name_tables::Dictionary;
+use name_tables::declared::{next, short};
+use script_contents::types_of;
+use script_names::{Kind, ResolveFault};
+use std::alloc::Global;
+
+// The greatest number of events.
+const MOST_EVENTS: u64 = 16_384;
+
+/// The field sets of the channels of declarations. A type that has no value that fits is told in its declaration.
+pub fn channel_sets(
+    alloc: Global,
+    content: &Content,
+    names: &Dictionary,
+    kinds: &[Kind],
+    decls: &[Decl],
+) -> Result<Vec<SharedSets>, ResolveFault>
+    ensures { Answers (λ shared. spread shared.items) result (meant.channel_sets content.now (types_read (first_of names.now) kinds.now) 0 decls.now) }
+{
+    let mut shared = Vec::new(alloc);
+    let mut i: u32 = 0;
+    for decl in decls {
+        add_sets(alloc, content, names, kinds, &mut shared, i, decl)?;
+        i = next(i)?;
+    }
+    Ok(shared)
+}
+
+// Adds the field sets of the channels of the declaration with the number `i`.
+fn add_sets(
+    alloc: Global,
+    content: &Content,
+    names: &Dictionary,
+    kinds: &[Kind],
+    shared: &mut Vec<SharedSets>,
+    i: u32,
+    decl: &Decl,
+) -> Result<(), ResolveFault>
+    ensures { Grows result shared.old.items shared.new.items (sets_of content.now (types_read (first_of names.now) kinds.now) i decl.now) }
+{
+    match decl {
+        Decl::Channel(xs, types) => {
+            let channels = short(xs.len())?;
+            let types = types_of(alloc, names, kinds, types.as_slice())?;
+            let sets = sets_in(alloc, content, i, types.as_slice())?;
+            push_shared(shared, SharedSets { channels, sets })?;
+            Ok(())
+        }
+        Decl::Datatype(_, _)
+        | Decl::Nametype(_, _)
+        | Decl::Define(_, _, _)
+        | Decl::Assert(_)
+        | Decl::Roles(_)
+        | Decl::Resource(_) => Ok(()),
+    }
+}
+
+// Puts the field sets of one declaration at the end.
+fn push_shared(shared: &mut Vec<SharedSets>, one: SharedSets) -> Result<(), NoMemory>
+    ensures { OnOk result (shared.new.items ≡ shared.old.items ++ one ∷ []) }
+{
+    shared.push(one)?;
+    Ok(())
+}
+
+// The field sets of these types in the declaration with the number `i`.
+fn sets_in(
+    alloc: Global,
+    content: &Content,
+    i: u32,
+    types: &[Expr],
+) -> Result<Items<AtomSet>, ResolveFault>
+    ensures { Answers (λ (sets : List (List Atom)). sets) result (meant.told_in i (meant.field_sets content.now types.now)) }
+{
+    match field_sets(alloc, content, types) {
+        Ok(sets) => Ok(sets),
+        Err(EvalFault::Value { kind }) => Err(ResolveFault::Value { inside: i, kind }),
+        Err(EvalFault::NoMemory) => Err(ResolveFault::NoMemory),
+    }
+}
+
+/// Gives the channels these field sets, and makes the event table, unless there are too many events.
+pub fn fill_table(
+    alloc: Global,
+    content: &mut Content,
+    shared: &[SharedSets],
+) -> Result<(), ResolveFault>
+    ensures { Answers (λ (done : Unit {0}). content.new) result (meant.with_table content.old (spread shared.now)) }
+{
+    let count = event_count(shared);
+    if count > MOST_EVENTS {
+        return Err(ResolveFault::EventLimit { count });
+    }
+    fill_events(alloc, content, shared)?;
+    Ok(())
+}

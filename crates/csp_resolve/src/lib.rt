@@ -1,0 +1,8 @@
+//! The program of a script, or the reason why it has none.
+#![tactic(auto)]
+
+mod events;
+mod resolution;
+
+pub use resolution::resolve;
+pub use script_names::ResolveFault;

@@ -1,0 +1,126 @@
+//! The program of a script.
+
+ghost use Rattle.std.specs.Prelude.{◌≡◌, Some, List, OnOk};
+ghost use Rattle.std.specs.Option.{option_copied};
+ghost use Rattle.csp_program.specs.declared.programs.Content.{Content};
+ghost use Rattle.csp_resolve.specs.Answers.{Answers, types_read};
+ghost use Rattle.name_tables.specs.Firsts.{SameFirsts};
+ghost use Rattle.resolved_laws.specs.Laws.{HasFew};
+ghost use Rattle.script_names.specs.Contents as contents;
+ghost use Rattle.script_names.specs.Kinds.{AreKinds};
+ghost use Rattle.script_names.specs.Names.{declared, first_of};
+ghost use Rattle.script_names.specs.Resolved as meant;
+ghost use Rattle.script_names.specs.Resolved.{and_next};
+
+use crate::events::{channel_sets, fill_table};
+use csp_base::NoMemory;
+use csp_program::{Content, Program};
+use csp_text::{Decl, Script, Tree};
+use definition_kinds::kinds_of;
+use name_faults::name_fault;
+use name_tables::declared::short;
+use name_tables::{Dictionary, dictionary_of};
+use resolved_laws::programs_are_in_order;
+use script_contents::plain_content;
+use script_names::{Kind, ResolveFault};
+use std::alloc::Global;
+
+/// The program of a script. A fault is told exactly where the script has no program, and it is the first in this order: no deadlock assertion, a name
+/// fault, a type of a channel without a value that fits, too many events.
+pub fn resolve(alloc: Global, script: &Script) -> Result<Program, ResolveFault>
+    ensures { meant.Resolves script.now result }
+{
+    programs_are_in_order();
+    let decls = script.decls.as_slice();
+    let names = dictionary_of(alloc, decls)?;
+    let kinds = kinds_of(alloc, decls, &names)?;
+    let content = resolved(alloc, decls, &names, kinds.as_slice())?;
+    Ok(Program::new(content))
+}
+
+// What the program of declarations holds whose definitions are of these kinds.
+fn resolved(
+    alloc: Global,
+    decls: &[Decl],
+    names: &Dictionary,
+    kinds: &[Kind],
+) -> Result<Content, ResolveFault>
+    requires names { SameFirsts names.now (declared decls.now) }
+    ensures answer { Answers (λ (p : Content). p) result (meant.resolved decls.now kinds.now) }
+    ensures few { OnOk result (HasFew (contents.plain_content decls.now kinds.now)) }
+{
+    let Some(root) = first_assertion(decls) else {
+        return Err(ResolveFault::NoAssert);
+    };
+    match name_fault(alloc, decls, names, kinds)? {
+        Some(fault) => Err(fault),
+        None => {
+            let content = plain_content(alloc, decls, names, kinds, root)?;
+            with_events(alloc, decls, names, kinds, content)
+        }
+    }
+}
+
+// The first name that is asserted.
+fn first_assertion(decls: &[Decl]) -> Option<&Tree>
+    ensures { option_copied result ≡ contents.first_assertion decls.now }
+{
+    for decl in decls {
+        if let Decl::Assert(tree) = decl {
+            return Some(tree);
+        }
+    }
+    None
+}
+
+// What a program holds, with the field sets of its channels and its event table.
+fn with_events(
+    alloc: Global,
+    decls: &[Decl],
+    names: &Dictionary,
+    kinds: &[Kind],
+    mut content: Content,
+) -> Result<Content, ResolveFault>
+    ensures answer { Answers (λ (p : Content). p) result
+        (and_next (meant.channel_sets content (types_read (first_of names.now) kinds.now) 0 decls.now) (λ all. meant.with_table content all)) }
+    ensures few { OnOk result (HasFew content) }
+{
+    match put_events(alloc, decls, names, kinds, &mut content) {
+        Ok(()) => Ok(content),
+        Err(fault) => {
+            let_go(content);
+            Err(fault)
+        }
+    }
+}
+
+// Gives the channels of a program their field sets, and makes its event table.
+fn put_events(
+    alloc: Global,
+    decls: &[Decl],
+    names: &Dictionary,
+    kinds: &[Kind],
+    content: &mut Content,
+) -> Result<(), ResolveFault>
+    ensures answer { Answers (λ (done : Unit {0}). content.new) result
+        (and_next (meant.channel_sets content.old (types_read (first_of names.now) kinds.now) 0 decls.now) (λ all. meant.with_table content.old all)) }
+    ensures few { OnOk result (HasFew content.old) }
+{
+    expect_few(content)?;
+    let shared = channel_sets(alloc, content, names, kinds, decls)?;
+    fill_table(alloc, content, shared.as_slice())?;
+    Ok(())
+}
+
+// More channels, constants or definitions than numbers of 32 bits are refused like want of memory.
+fn expect_few(content: &Content) -> Result<(), NoMemory>
+    ensures { OnOk result (HasFew content.now) }
+{
+    short(content.channels.len())?;
+    short(content.consts.len())?;
+    short(content.defs.len())?;
+    Ok(())
+}
+
+// Ends a value.
+fn let_go<T: Drop>(_value: T) {}

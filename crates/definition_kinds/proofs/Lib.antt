@@ -1,0 +1,4 @@
+pub mod LeadingLaws
+pub mod SourceLaws
+pub mod ArcLaws
+pub mod FoundLaws

@@ -1,0 +1,10 @@
+use Rattle.std.proofs.Common.{◌≡◌, ℕ, ◌&&◌, ◌||◌, nat_eq, length, take}
+use Rattle.digraph.specs.Digraph.{has_arc}
+use Rattle.definition_kinds.specs.Sources.{some_from}
+use Rattle.definition_kinds.proofs.arcs.add_ends.Given as goal
+
+abbrev pub invariant-loop-end : goal.invariant-loop-end
+invariant-loop-end l = record {
+  len : length l.rows ≡ length l.initial.rows;
+  arcs : (v w : ℕ) → has_arc l.rows v w ≡ (has_arc l.initial.rows v w || (some_from l.count l.target v (take l.end-index l.ends) && nat_eq w l.d));
+}

@@ -1,0 +1,7 @@
+use Rattle.std.proofs.Common.{◌≡◌, take}
+use Rattle.name_tables.specs.Ends.{rows}
+use Rattle.script_names.specs.Kinds as meant
+use Rattle.definition_kinds.proofs.leading.first_ends.Given as goal
+
+abbrev pub invariant-loop-ends : goal.invariant-loop-ends
+invariant-loop-ends l = rows l.firsts.items ≡ meant.first_ends (rows (take l.ends-index l.all))

@@ -1,0 +1,90 @@
+//! Where bodies end as a digraph, in which arcs are turned round: an arc leads to a definition from each definition that it ends at a use of, and from
+//! one vertex more where it has the end that is looked for.
+
+ghost use Rattle.std.specs.Prelude.{◌≡◌, ℕ, ◌+◌, ◌<◌, ◌&&◌, ◌||◌, nat_eq, length, slice_get, IfOk, OnOk};
+ghost use Rattle.definition_kinds.specs.Sources as meant;
+ghost use Rattle.digraph.specs.Digraph.{has_arc};
+ghost use Rattle.name_tables.specs.Ends.{rows};
+ghost use Rattle.script_names.specs.Kinds.{ends_at};
+
+use csp_base::NoMemory;
+use digraph::Rows;
+use name_tables::declared::next;
+use script_names::End;
+use std::alloc::Global;
+
+// Whether an end is the one that is looked for, and no use.
+fn is_last(target: End, end: End) -> bool
+    ensures { result ≡ meant.is_last target end }
+{
+    match (target, end) {
+        (End::Data, End::Data) | (End::Nothing, End::Nothing) | (End::Parallel, End::Parallel) =>
+            true,
+        _ => false,
+    }
+}
+
+// The vertex that an end comes from, if it has one.
+fn source_of(count: u32, target: End, end: End) -> Option<u32>
+    ensures { result ≡ meant.source_of count target end }
+{
+    match end {
+        End::Use(d) => { if d < count { Some(d) } else { None } }
+        End::Data | End::Process | End::Parallel | End::Nothing => {
+            if is_last(target, end) {
+                Some(count)
+            } else {
+                None
+            }
+        }
+    }
+}
+
+// Adds the arc to the definition `d` that one of its ends makes.
+fn add_end(rows: &mut Rows, count: u32, target: End, d: u32, end: End) -> Result<(), NoMemory>
+    requires count { length rows.old ≡ count + 1 }
+    requires in_range { d < count }
+    ensures len { length rows.new ≡ length rows.old }
+    ensures arcs { OnOk result ((v w : ℕ) → has_arc rows.new v w ≡ (has_arc rows.old v w || (meant.comes_from count target v end && nat_eq w d))) }
+{
+    match source_of(count, target, end) {
+        Some(v) => {
+            rows.add_arc(v, d)?;
+            Ok(())
+        }
+        None => Ok(()),
+    }
+}
+
+// Adds the arcs to the definition `d` that its ends make.
+fn add_ends(rows: &mut Rows, count: u32, target: End, d: u32, ends: &[End]) -> Result<(), NoMemory>
+    requires count { length rows.old ≡ count + 1 }
+    requires in_range { d < count }
+    ensures len { length rows.new ≡ length rows.old }
+    ensures arcs { OnOk result ((v w : ℕ) → has_arc rows.new v w ≡ (has_arc rows.old v w || (meant.some_from count target v ends.now && nat_eq w d))) }
+{
+    for end in ends {
+        add_end(rows, count, target, d, *end)?;
+    }
+    Ok(())
+}
+
+/// The digraph of these definitions. The vertex `count`, which is their number, stands for the end that is looked for.
+pub fn turned_round(
+    alloc: Global,
+    all: &[Vec<End>],
+    count: u32,
+    target: End,
+) -> Result<Rows, NoMemory>
+    requires { length all.now ≡ count }
+    ensures len { IfOk result (λ made. length made ≡ count + 1) }
+    ensures arcs { IfOk result (λ made. (v w : ℕ) → has_arc made v w ≡ meant.some_from count target v (ends_at (slice_get (rows all.now) w))) }
+{
+    let mut rows = Rows::new(alloc, next(count)?)?;
+    let mut d: u32 = 0;
+    for ends in all {
+        add_ends(&mut rows, count, target, d, ends.as_slice())?;
+        d += 1;
+    }
+    Ok(rows)
+}

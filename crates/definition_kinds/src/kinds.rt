@@ -1,0 +1,90 @@
+//! What the definitions of a script are.
+
+ghost use Rattle.std.specs.Prelude.{◌≡◌, IfOk};
+ghost use Rattle.definition_kinds.specs.Found.{AreFound, IsFound};
+ghost use Rattle.definition_kinds.specs.Found as meant;
+ghost use Rattle.name_tables.specs.Ends.{rows};
+ghost use Rattle.name_tables.specs.Firsts.{SameFirsts};
+ghost use Rattle.script_names.specs.Kinds.{AreKinds};
+ghost use Rattle.script_names.specs.Names.{declared};
+
+use crate::leading::{first_ends, is_marked, leading};
+use csp_base::NoMemory;
+use csp_text::Decl;
+use name_tables::Dictionary;
+use name_tables::declared::short;
+use name_tables::ends::ends_of_all;
+use script_names::{Class, End, Kind};
+use std::alloc::Global;
+
+// What was found of each definition.
+#[derive(Drop)]
+struct Found {
+    /// Whether it is data.
+    data: Vec<bool>,
+    /// Whether it ends at a name without a meaning.
+    nothing: Vec<bool>,
+    /// Whether it is a network definition.
+    networks: Vec<bool>,
+}
+
+/// What each definition of a script is, where `names` are its declared names.
+pub fn kinds_of(alloc: Global, decls: &[Decl], names: &Dictionary) -> Result<Vec<Kind>, NoMemory>
+    requires { SameFirsts names.now (declared decls.now) }
+    ensures { IfOk result (λ kinds. AreKinds decls.now kinds.items) }
+{
+    let all = ends_of_all(alloc, names, decls)?;
+    let count = short(all.len())?;
+    let found = found_among(alloc, all.as_slice())?;
+    let kinds = kinds_found(alloc, &found, count)?;
+    Ok(kinds)
+}
+
+// What is found of definitions with these ends.
+fn found_among(alloc: Global, all: &[Vec<End>]) -> Result<Found, NoMemory>
+    ensures { IfOk result (IsFound (rows all.now)) }
+{
+    let firsts = first_ends(alloc, all)?;
+    let data = leading(alloc, firsts.as_slice(), End::Data)?;
+    let nothing = leading(alloc, firsts.as_slice(), End::Nothing)?;
+    let networks = leading(alloc, all, End::Parallel)?;
+    Ok(Found {
+        data,
+        nothing,
+        networks,
+    })
+}
+
+// What so many definitions are.
+fn kinds_found(alloc: Global, found: &Found, count: u32) -> Result<Vec<Kind>, NoMemory>
+    ensures { IfOk result (λ kinds. AreFound found.now count kinds.items) }
+{
+    let mut kinds = Vec::new(alloc);
+    for d in 0..count {
+        kinds.push(kind_found(found, d))?;
+    }
+    Ok(kinds)
+}
+
+// What the definition with the number `d` is.
+fn kind_found(found: &Found, d: u32) -> Kind
+    ensures { result ≡ meant.kind_found found.now d }
+{
+    Kind {
+        class: class_found(found, d),
+        network: is_marked(found.networks.as_slice(), d),
+    }
+}
+
+// The class of the definition with the number `d`.
+fn class_found(found: &Found, d: u32) -> Class
+    ensures { result ≡ meant.class_found found.now d }
+{
+    if is_marked(found.data.as_slice(), d) {
+        return Class::Data;
+    }
+    if is_marked(found.nothing.as_slice(), d) {
+        return Class::Unknown;
+    }
+    Class::Process
+}

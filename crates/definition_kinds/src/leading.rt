@@ -1,0 +1,95 @@
+//! The definitions from which following ends leads to an end that is looked for.
+
+ghost use Rattle.std.specs.Prelude.{◌≡◌, ◌<◌, ℕ, true, length, take, IfOk};
+ghost use Rattle.csp_base.specs.Members.{has};
+ghost use Rattle.definition_kinds.specs.Sources as sources;
+ghost use Rattle.definition_kinds.specs.Sources.{AreLeading, AreReached, is_last};
+ghost use Rattle.name_tables.specs.Ends.{rows};
+ghost use Rattle.script_names.specs.Kinds as meant;
+
+use crate::arcs::turned_round;
+use containers::Numbering;
+use csp_base::NoMemory;
+use digraph::reachable_from;
+use name_tables::declared::short;
+use script_names::End;
+use std::alloc::Global;
+
+/// For each definition whether it leads to `target`, which is the class of a form or no meaning.
+pub fn leading(alloc: Global, all: &[Vec<End>], target: End) -> Result<Vec<bool>, NoMemory>
+    requires { is_last target target ≡ true }
+    ensures { IfOk result (λ marks. AreLeading target (rows all.now) marks.items) }
+{
+    let count = short(all.len())?;
+    let found = reached(alloc, all, count, target)?;
+    let marks = marks_of(alloc, &found, count)?;
+    Ok(marks)
+}
+
+// The vertices that are reached from the one that stands for the target.
+fn reached(
+    alloc: Global,
+    all: &[Vec<End>],
+    count: u32,
+    target: End,
+) -> Result<Numbering<u32>, NoMemory>
+    requires count { length all.now ≡ count }
+    requires last { is_last target target ≡ true }
+    ensures { IfOk result (AreReached target (rows all.now)) }
+{
+    let rows = turned_round(alloc, all, count, target)?;
+    let found = reachable_from(alloc, &rows, &[count])?;
+    Ok(found)
+}
+
+// For each number below `count` whether it is found.
+fn marks_of(alloc: Global, found: &Numbering<u32>, count: u32) -> Result<Vec<bool>, NoMemory>
+    ensures { IfOk result (λ marks. (d : ℕ) → d < count → sources.marked marks.items d ≡ has found.now d) }
+{
+    let mut marks = Vec::new(alloc);
+    for d in 0..count {
+        marks.push(is_found(found, d))?;
+    }
+    Ok(marks)
+}
+
+// Whether the number is found.
+fn is_found(found: &Numbering<u32>, d: u32) -> bool
+    ensures { result ≡ has found.now d }
+{
+    found.find(&d).is_some()
+}
+
+/// Whether the definition with the number `d` is marked.
+pub fn is_marked(marks: &[bool], d: u32) -> bool
+    ensures { result ≡ sources.marked marks.now d }
+{
+    let place = d as usize;
+    if place < marks.len() {
+        marks[place]
+    } else {
+        false
+    }
+}
+
+/// The first end of each definition.
+pub fn first_ends(alloc: Global, all: &[Vec<End>]) -> Result<Vec<Vec<End>>, NoMemory>
+    ensures { IfOk result (λ firsts. rows firsts.items ≡ meant.first_ends (rows all.now)) }
+{
+    let mut firsts = Vec::new(alloc);
+    for ends in all {
+        firsts.push(first_end(alloc, ends.as_slice())?)?;
+    }
+    Ok(firsts)
+}
+
+// The first end of a definition.
+fn first_end(alloc: Global, ends: &[End]) -> Result<Vec<End>, NoMemory>
+    ensures { IfOk result (λ first. first.items ≡ take 1 ends.now) }
+{
+    let mut first = Vec::new(alloc);
+    if let Some(end) = ends.first() {
+        first.push(*end)?;
+    }
+    Ok(first)
+}

@@ -1,0 +1,140 @@
+-- Field sets, one after another.
+use Rattle.std.proofs.Common.{◌≡◌, ℕ, zero, suc, ◌+◌, ◌<◌, ◌≤◌, List, [], ◌∷◌, ◌++◌, length, drop, get_or, replicate, refl, sym, ap, ◌∙◌, append_assoc, add-one}
+use Rattle.std.specs.Prelude.{Some, None, Result, Ok, Err, slice_get}
+use Rattle.std.specs.Result.{IsErrAnd}
+use Rattle.std.proofs.Math.ListN.{drop_of_length-le}
+use Rattle.std.proofs.lemmas.List.{append-nil, length-append}
+use Rattle.csp_atoms.specs.declared.atom.Atom.{Atom}
+use Rattle.csp_program.specs.EventNumber.{row_count}
+use Rattle.csp_program.specs.EventTable.{channel_events, events_from_channel}
+use Rattle.csp_program.specs.Outcome.{Outcome, and_then}
+use Rattle.csp_program.specs.Value.{value_of}
+use Rattle.csp_program.specs.declared.expressions.Expr.{Expr}
+use Rattle.csp_program.specs.declared.kinds.ValueKind.{ValueKind}
+use Rattle.csp_program.specs.declared.programs.Channel.{Channel}
+use Rattle.csp_program.specs.declared.programs.Content.{Content}
+use Rattle.csp_program.specs.declared.programs.EventInfo.{EventInfo}
+use Rattle.event_tables.specs.declared.sets.SharedSets.{SharedSets}
+use Rattle.event_tables.specs.Spread.{GivesOneMore, spread}
+use Rattle.value_operators.specs.Gives.{Gives}
+use Rattle.value_operators.specs.declared.fault.EvalFault.{EvalFault}
+use Rattle.value_operators.specs.declared.fault.EvalFault.TheVariants as fault
+use Rattle.name_tables.proofs.DeclaredLemmas.{split_at}
+use Rattle.script_names.specs.Resolved.{field_set, field_sets, with_sets}
+
+-- these sets, and those of the types that are left
+abbrev pub sets_with : List (List Atom) → Outcome (List (List Atom)) → Outcome (List (List Atom))
+sets_with sets rest = and_then rest (λ more. Ok (sets ++ more))
+
+abbrev set_at : Content → Expr → Outcome (List Atom)
+set_at p t = and_then (value_of p t) (λ v. field_set v)
+
+abbrev with_first : Outcome (List Atom) → Outcome (List (List Atom)) → Outcome (List (List Atom))
+with_first one rest = and_then one (λ set. and_then rest (λ sets. Ok (set ∷ sets)))
+
+first_then : (p : Content) (t : Expr) (types : List Expr) → field_sets p (t ∷ types) ≡ with_first (set_at p t) (field_sets p types)
+first_then p t types = elim (value_of p t) as (λ o. and_then o (λ v. and_then (field_set v) (λ set. and_then (field_sets p types) (λ sets. Ok (set ∷ sets)))) ≡ with_first (and_then o (λ v. field_set v)) (field_sets p types)) [ Ok v ↦ refl | Err k ↦ refl ]
+
+moved : (sets : List (List Atom)) (set : List Atom) (rest : Outcome (List (List Atom))) → sets_with sets (with_first (Ok set) rest) ≡ sets_with (sets ++ set ∷ []) rest
+moved sets set (Ok more) = ap Ok (sym (append_assoc sets (set ∷ []) more))
+moved sets set (Err k) = refl
+
+module _ (p : Content) (types : List Expr) (i : ℕ) (t : Expr) (within : i < length types) (is : t ≡ get_or types i t) (sets : List (List Atom))
+    (so_far : field_sets p types ≡ sets_with sets (field_sets p (drop i types))) where
+  at_first : field_sets p types ≡ sets_with sets (with_first (set_at p t) (field_sets p (drop (i + 1) types)))
+  at_first = so_far ∙ ap (λ rest. sets_with sets (field_sets p rest)) (split_at types i t within is) ∙ ap (sets_with sets) (first_then p t (drop (i + 1) types))
+
+  pub sets_step : (set : List Atom) (new : List (List Atom)) → set_at p t ≡ Ok set → new ≡ sets ++ set ∷ [] → field_sets p types ≡ sets_with new (field_sets p (drop (i + 1) types))
+  sets_step set new found grown =
+      at_first ∙ ap (λ o. sets_with sets (with_first o (field_sets p (drop (i + 1) types)))) found
+      ∙ moved sets set (field_sets p (drop (i + 1) types))
+      ∙ ap (λ s. sets_with s (field_sets p (drop (i + 1) types))) (sym grown)
+
+  pub sets_stop : (why : ValueKind) → set_at p t ≡ Err why → field_sets p types ≡ Err why
+  sets_stop why none = at_first ∙ ap (λ o. sets_with sets (with_first o (field_sets p (drop (i + 1) types)))) none
+
+pub sets_begin : (p : Content) (types : List Expr) → field_sets p types ≡ sets_with [] (field_sets p types)
+sets_begin p types = elim (field_sets p types) as (λ o. o ≡ sets_with [] o) [ Ok sets ↦ refl | Err k ↦ refl ]
+
+pub sets_end : (p : Content) (types : List Expr) (i : ℕ) (sets : List (List Atom)) → length types ≤ i → field_sets p types ≡ sets_with sets (field_sets p (drop i types)) → field_sets p types ≡ Ok sets
+sets_end p types i sets at_end so_far =
+    so_far ∙ ap (λ rest. sets_with sets (field_sets p rest)) (drop_of_length-le types at_end) ∙ ap Ok (append-nil sets)
+
+-- the field sets of one more declaration's channels
+pub spread_step : (new all whole : List (List (List Atom))) (i : ℕ) (shared : List SharedSets) (one : SharedSets) → i < length shared → one ≡ get_or shared i one
+    → new ≡ all ++ replicate one.channels one.sets → all ++ spread (drop i shared) ≡ whole → new ++ spread (drop (i + 1) shared) ≡ whole
+spread_step new all whole i shared one within is new_is so_far =
+    ap (λ sets. sets ++ spread (drop (i + 1) shared)) new_is
+    ∙ append_assoc all (replicate one.channels one.sets) (spread (drop (i + 1) shared))
+    ∙ ap (λ rest. all ++ spread rest) (sym (split_at shared i one within is))
+    ∙ so_far
+
+pub spread_end : (all whole : List (List (List Atom))) (i : ℕ) (shared : List SharedSets) → length shared ≤ i → all ++ spread (drop i shared) ≡ whole → all ≡ whole
+spread_end all whole i shared at_end so_far =
+    sym (append-nil all) ∙ ap (λ rest. all ++ spread rest) (sym (drop_of_length-le shared at_end)) ∙ so_far
+
+replicate-snoc : {X : Type 0} (n : ℕ) (x : X) → replicate (suc n) x ≡ replicate n x ++ x ∷ []
+replicate-snoc zero x = refl
+replicate-snoc (suc n) x = ap (λ xs. x ∷ xs) (replicate-snoc n x)
+
+pub copies_step : (new all first : List (List (List Atom))) (n : ℕ) (sets : List (List Atom)) → new ≡ all ++ sets ∷ [] → all ≡ first ++ replicate n sets → new ≡ first ++ replicate (n + 1) sets
+copies_step new all first n sets new_is so_far =
+    new_is ∙ ap (λ xs. xs ++ sets ∷ []) so_far ∙ append_assoc first (replicate n sets) (sets ∷ []) ∙ ap (λ xs. first ++ xs) (sym (replicate-snoc n sets) ∙ ap (λ k. replicate k sets) (sym (add-one n)))
+
+-- the events of one more channel
+pub table_step : (new events whole : List EventInfo) (c next i : ℕ) (channels : List Channel) (channel : Channel) → i < length channels → channel ≡ get_or channels i channel
+    → next ≡ c + 1 → new ≡ events ++ channel_events c channel.fields → events ++ events_from_channel c (drop i channels) ≡ whole
+    → new ++ events_from_channel next (drop (i + 1) channels) ≡ whole
+table_step new events whole c next i channels channel within is next_is new_is so_far =
+    (λ j. new_is j ++ events_from_channel (next_is j) (drop (i + 1) channels))
+    ∙ append_assoc events (channel_events c channel.fields) (events_from_channel (c + 1) (drop (i + 1) channels))
+    ∙ ap (λ rest. events ++ events_from_channel c rest) (sym (split_at channels i channel within is))
+    ∙ so_far
+
+pub table_end : (events whole : List EventInfo) (c i : ℕ) (channels : List Channel) → length channels ≤ i → events ++ events_from_channel c (drop i channels) ≡ whole → events ≡ whole
+table_end events whole c i channels at_end so_far =
+    sym (append-nil events) ∙ ap (λ rest. events ++ events_from_channel c rest) (sym (drop_of_length-le channels at_end)) ∙ so_far
+
+-- the sets at a place, and those after it
+drop_some : {X : Type 0} (xs : List X) (n : ℕ) (x : X) → slice_get xs n ≡ Some x → drop n xs ≡ x ∷ drop (suc n) xs
+drop_some [] n x at = absurd (cc)
+drop_some (y ∷ ys) zero x at = let same : y ≡ x = cc in ap (λ z. z ∷ ys) same
+drop_some (y ∷ ys) (suc n) x at = drop_some ys n x at
+
+drop_none : {X : Type 0} (xs : List X) (n : ℕ) → slice_get xs n ≡ None → drop n xs ≡ []
+drop_none [] zero at = refl
+drop_none [] (suc n) at = refl
+drop_none (y ∷ ys) zero at = absurd (cc)
+drop_none (y ∷ ys) (suc n) at = drop_none ys n at
+
+pub fill_some : (made new channels : List Channel) (channel filled : Channel) (first next : ℕ) (sets : List (List Atom)) (all : List (List (List Atom)))
+    → slice_get all (length made) ≡ Some sets → next ≡ first + row_count sets → filled ≡ record channel { fields = Some sets; first = first } → new ≡ made ++ filled ∷ []
+    → new ++ with_sets next channels (drop (length new) all) ≡ made ++ with_sets first (channel ∷ channels) (drop (length made) all)
+fill_some made new channels channel filled first next sets all at next_is filled_is new_is =
+    let longer : length new ≡ suc (length made) = ap length new_is ∙ length-append made (filled ∷ []) ∙ add-one (length made) in
+    (λ i. new_is i ++ with_sets (next_is i) channels (drop (longer i) all))
+    ∙ append_assoc made (filled ∷ []) (with_sets (first + row_count sets) channels (drop (suc (length made)) all))
+    ∙ ap (λ (one : Channel). made ++ one ∷ with_sets (first + row_count sets) channels (drop (suc (length made)) all)) filled_is
+    ∙ ap (λ rest. made ++ with_sets first (channel ∷ channels) rest) (sym (drop_some all (length made) sets at))
+
+none_left : (first : ℕ) (channels : List Channel) → with_sets first channels [] ≡ []
+none_left first [] = refl
+none_left first (channel ∷ channels) = refl
+
+pub fill_none : (made channels : List Channel) (channel : Channel) (first : ℕ) (all : List (List (List Atom))) → slice_get all (length made) ≡ None
+    → made ++ with_sets first channels (drop (length made) all) ≡ made ++ with_sets first (channel ∷ channels) (drop (length made) all)
+fill_none made channels channel first all at =
+    let rest = drop_none all (length made) at in
+    ap (λ sets. made ++ with_sets first channels sets) rest ∙ ap (λ xs. made ++ xs) (none_left first channels)
+    ∙ ap (λ sets. made ++ with_sets first (channel ∷ channels) sets) (sym rest)
+
+-- an error of one type is the error of all
+stop_fault : (e : EvalFault) (old new : List (List Atom)) (outcome : Outcome (List Atom)) (whole : Outcome (List (List Atom)))
+    → ((why : ValueKind) → outcome ≡ Err why → whole ≡ Err why) → GivesOneMore (Err e) old new outcome → Gives (Err e) whole
+stop_fault fault.NoMemory old new outcome whole along owed = tt
+stop_fault (fault.Value why) old new outcome whole along owed = along why owed
+
+pub stop_err : (r : Result (List (List Atom)) EvalFault) (e : EvalFault) (old new : List (List Atom)) (outcome : Outcome (List Atom)) (whole : Outcome (List (List Atom)))
+    → IsErrAnd r (λ y. y ≡ e) → ((why : ValueKind) → outcome ≡ Err why → whole ≡ Err why) → GivesOneMore (Err e) old new outcome → Gives r whole
+stop_err (Ok x) e old new outcome whole is along owed = absurd is
+stop_err (Err y) e old new outcome whole is along owed = rw is (stop_fault e old new outcome whole along owed)

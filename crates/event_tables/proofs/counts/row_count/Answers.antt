@@ -1,0 +1,12 @@
+use Rattle.std.proofs.Common.{◌*◌, ap, ◌∙◌, min, arith}
+use Rattle.csp_program.specs.EventNumber.{row_count}
+use Rattle.event_tables.proofs.CountLaws.{count_step}
+use Rattle.event_tables.proofs.counts.row_count.Goals as goal
+
+pub loop-set-preserved : goal.loop-set-preserved
+loop-set-preserved c = record {
+  within = omega (arith, c.saturating_mul-count.ensures);
+  so_far =
+      count_step c.loop-set.count c.saturating_mul-count.result 18446744073709551615 c.loop-set.set-index c.args.sets.now c.set-item.result (row_count c.args.sets.now)
+      c.loop-set-test.true c.set-item.is (c.saturating_mul-count.ensures ∙ ap (λ n. min (c.loop-set.count * n) 18446744073709551615) c.len.ensures) c.loop-set.invariant.so_far;
+}

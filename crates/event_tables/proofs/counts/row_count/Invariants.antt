@@ -1,0 +1,9 @@
+use Rattle.std.proofs.Common.{◌≡◌, ◌≤◌, ◌*◌, ◌-◌, ◌^◌, min, drop}
+use Rattle.csp_program.specs.EventNumber.{row_count}
+use Rattle.event_tables.proofs.counts.row_count.Given as goal
+
+abbrev pub invariant-loop-set : goal.invariant-loop-set
+invariant-loop-set l = record {
+  within : l.count ≤ 2 ^ 64 - 1;
+  so_far : min (l.count * row_count (drop l.set-index l.sets)) (2 ^ 64 - 1) ≡ min (row_count l.sets) (2 ^ 64 - 1);
+}

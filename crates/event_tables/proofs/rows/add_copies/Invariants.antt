@@ -1,0 +1,6 @@
+use Rattle.std.proofs.Common.{◌≡◌, ◌++◌, ◌∷◌, [], map, take}
+use Rattle.csp_atoms.specs.declared.atom.Atom.{Atom}
+use Rattle.event_tables.proofs.rows.add_copies.Given as goal
+
+abbrev pub invariant-loop-atom : goal.invariant-loop-atom
+invariant-loop-atom l = l.made.items ≡ l.initial.made.items ++ map (λ (a : Atom). l.row ++ a ∷ []) (take l.atom-index l.set)

@@ -1,0 +1,10 @@
+use Rattle.std.proofs.Common.{◌≡◌, ◌++◌, length, map}
+use Rattle.std.specs.Vec.Iter.{into_iter_items, into_iter_len}
+use Rattle.csp_program.specs.EventTable.{event_of}
+use Rattle.event_tables.proofs.table.add_rows.Given as goal
+
+abbrev pub invariant-loop-fields : goal.invariant-loop-fields
+invariant-loop-fields l = record {
+  so_far : l.events ++ map (event_of l.c) (into_iter_items l.fields-iterator) ≡ l.initial.events ++ map (event_of l.c) l.fn.rows.items;
+  len : into_iter_len l.fields-iterator ≡ length (into_iter_items l.fields-iterator);
+}

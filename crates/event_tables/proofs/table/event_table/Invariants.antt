@@ -1,0 +1,6 @@
+use Rattle.std.proofs.Common.{◌≡◌, ◌++◌, drop}
+use Rattle.csp_program.specs.EventTable.{event_table, events_from_channel}
+use Rattle.event_tables.proofs.table.event_table.Given as goal
+
+abbrev pub invariant-loop-channel : goal.invariant-loop-channel
+invariant-loop-channel l = l.events ++ events_from_channel l.c (drop l.channel-index l.channels) ≡ event_table l.channels

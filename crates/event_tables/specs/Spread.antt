@@ -1,0 +1,28 @@
+-- The field sets of channels while a program is put together: those of a declaration are kept once for all of its channels. Contracts of the crate
+-- that resolves scripts cite it.
+use Rattle.std.specs.Prelude.{◌≡◌, Result, Ok, Err, List, [], ◌∷◌, ◌++◌, map, replicate}
+use Rattle.csp_atoms.specs.declared.atom.Atom.{Atom}
+use Rattle.csp_program.specs.Lists.{joined}
+use Rattle.csp_program.specs.Outcome.{Outcome}
+use Rattle.value_operators.specs.declared.fault.EvalFault.{EvalFault}
+use Rattle.value_operators.specs.declared.fault.EvalFault.TheVariants as fault
+use Rattle.event_tables.specs.declared.sets.SharedSets.{SharedSets}
+
+-- the field sets of each channel, one after another
+abbrev pub spread : List SharedSets → List (List (List Atom))
+spread [] = []
+spread (one ∷ shared) = replicate one.channels one.sets ++ spread shared
+
+-- each list with each value of the set at its end
+abbrev pub extended : List (List Atom) → List Atom → List (List Atom)
+extended rows set = joined (map (λ row. map (λ a. row ++ a ∷ []) set) rows)
+
+-- the list has grown by this set
+abbrev pub GivesSet : List (List Atom) → List (List Atom) → Outcome (List Atom) → Type 0
+GivesSet old new outcome = (set : List Atom) × (outcome ≡ Ok set) × (new ≡ old ++ set ∷ [])
+
+-- what a call answers that puts one more set at the end
+abbrev pub GivesOneMore : Result (Unit {0}) EvalFault → List (List Atom) → List (List Atom) → Outcome (List Atom) → Type 0
+GivesOneMore (Ok _) old new outcome = GivesSet old new outcome
+GivesOneMore (Err fault.NoMemory) old new outcome = Unit {0}
+GivesOneMore (Err (fault.Value kind)) old new outcome = outcome ≡ Err kind

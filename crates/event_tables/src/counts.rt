@@ -1,0 +1,52 @@
+//! How many events channels have.
+
+ghost use Rattle.std.specs.Prelude.{◌≡◌, ◌+◌, ◌-◌, ◌*◌, ◌^◌, min, IfOk};
+ghost use Rattle.csp_program.specs.EventNumber as meant;
+ghost use Rattle.event_tables.specs.Spread.{spread};
+ghost use Rattle.script_names.specs.Resolved.{all_events};
+
+use crate::sets::SharedSets;
+use csp_atoms::AtomSet;
+use csp_base::NoMemory;
+
+/// How many events a channel with these field sets has. Counting stops at the end of 64 bits.
+pub fn row_count(sets: &[AtomSet]) -> u64
+    ensures { result ≡ min (meant.row_count sets.now) (2 ^ 64 - 1) }
+{
+    let mut count: u64 = 1;
+    for set in sets {
+        count = count.saturating_mul(set.len() as u64);
+    }
+    count
+}
+
+/// How many events the channels with these field sets have. Counting stops at the end of 64 bits.
+pub fn event_count(shared: &[SharedSets]) -> u64
+    ensures { result ≡ min (all_events (spread shared.now)) (2 ^ 64 - 1) }
+{
+    let mut count: u64 = 0;
+    for one in shared {
+        count = count.saturating_add(shared_count(one));
+    }
+    count
+}
+
+// How many events the channels of a declaration have.
+fn shared_count(one: &SharedSets) -> u64
+    ensures { result ≡ min (one.now.channels * meant.row_count one.now.sets) (2 ^ 64 - 1) }
+{
+    u64::from(one.channels).saturating_mul(row_count(one.sets.as_slice()))
+}
+
+/// The number of the first event after those of a channel with these field sets, which begin with `first`.
+pub fn after(first: u32, sets: &[AtomSet]) -> Result<u32, NoMemory>
+    ensures { IfOk result (λ next. next ≡ first + meant.row_count sets.now) }
+{
+    let Ok(count) = u32::try_from(row_count(sets)) else {
+        return Err(NoMemory);
+    };
+    match first.checked_add(count) {
+        Some(next) => Ok(next),
+        None => Err(NoMemory),
+    }
+}

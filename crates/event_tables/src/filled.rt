@@ -1,0 +1,106 @@
+//! Channels with their field sets, and what a program holds with its event table.
+
+ghost use Rattle.std.specs.Prelude.{◌≡◌, ◌+◌, [], ◌∷◌, ◌++◌, Some, List, drop, length, IfOk, OnOk};
+ghost use Rattle.csp_program.specs.EventNumber.{row_count};
+ghost use Rattle.csp_program.specs.declared.programs.Channel.{Channel};
+ghost use Rattle.event_tables.specs.Spread.{spread};
+ghost use Rattle.script_names.specs.Resolved as meant;
+
+use crate::counts::after;
+use crate::sets::{SharedSets, copy_sets, spread_sets};
+use crate::table::event_table;
+use containers::Items;
+use csp_atoms::AtomSet;
+use csp_base::NoMemory;
+use csp_program::{Channel, Content};
+use std::alloc::Global;
+use std::mem::replace;
+
+/// Gives the channels these field sets, and makes the event table.
+pub fn fill_events(
+    alloc: Global,
+    content: &mut Content,
+    shared: &[SharedSets],
+) -> Result<(), NoMemory>
+    ensures { OnOk result (content.new ≡ meant.with_events content.old (meant.with_sets 0 content.old.channels (spread shared.now))) }
+{
+    let all = spread_sets(alloc, shared)?;
+    let channels = replace(&mut content.channels, Items::new(alloc));
+    content.channels = with_sets(alloc, channels, all.as_slice())?;
+    content.events = event_table(alloc, content.channels.as_slice())?;
+    Ok(())
+}
+
+// The channels with these field sets.
+fn with_sets(
+    alloc: Global,
+    channels: Items<Channel>,
+    all: &[Items<AtomSet>],
+) -> Result<Items<Channel>, NoMemory>
+    ensures { IfOk result (λ made. made ≡ meant.with_sets 0 channels all.now) }
+{
+    let mut made = Items::new(alloc);
+    let mut first: u32 = 0;
+    for channel in channels.into_vec() {
+        first = add_channel(alloc, &mut made, first, channel, all)?;
+    }
+    Ok(made)
+}
+
+// Adds a channel with its field sets, if there are any left, and answers the number of the first event after its own.
+fn add_channel(
+    alloc: Global,
+    made: &mut Items<Channel>,
+    first: u32,
+    channel: Channel,
+    all: &[Items<AtomSet>],
+) -> Result<u32, NoMemory>
+    ensures { IfOk result (λ next. (channels : List Channel) →
+        made.new ++ meant.with_sets next channels (drop (length made.new) all.now)
+        ≡ made.old ++ meant.with_sets first (channel ∷ channels) (drop (length made.old) all.now)) }
+{
+    match all.get(made.len()) {
+        Some(sets) => match filling(alloc, first, sets.as_slice()) {
+            Ok((fields, next)) => {
+                push_filled(made, first, channel, fields)?;
+                Ok(next)
+            }
+            Err(error) => {
+                let_go(channel);
+                Err(error)
+            }
+        },
+        None => {
+            let_go(channel);
+            Ok(first)
+        }
+    }
+}
+
+// The same sets, and the number of the first event after those of a channel that has them.
+fn filling(alloc: Global, first: u32, sets: &[AtomSet]) -> Result<(Items<AtomSet>, u32), NoMemory>
+    ensures sets { IfOk result (λ made. made.0 ≡ sets.now) }
+    ensures next { IfOk result (λ made. made.1 ≡ first + row_count sets.now) }
+{
+    let next = after(first, sets)?;
+    let fields = copy_sets(alloc, sets)?;
+    Ok((fields, next))
+}
+
+// Puts a channel with these field sets at the end.
+fn push_filled(
+    made: &mut Items<Channel>,
+    first: u32,
+    mut channel: Channel,
+    fields: Items<AtomSet>,
+) -> Result<(), NoMemory>
+    ensures { OnOk result (made.new ≡ made.old ++ record channel { fields = Some fields; first = first } ∷ []) }
+{
+    channel.fields = Some(fields);
+    channel.first = first;
+    made.push(channel)?;
+    Ok(())
+}
+
+// Ends a value.
+fn let_go<T: Drop>(_value: T) {}

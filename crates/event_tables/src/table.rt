@@ -1,0 +1,53 @@
+//! The event table of channels.
+
+ghost use Rattle.std.specs.Prelude.{◌≡◌, ◌++◌, map, IfOk, OnOk};
+ghost use Rattle.csp_program.specs.EventTable as meant;
+
+use crate::rows::rows;
+use containers::Items;
+use csp_atoms::{Atom, AtomSet};
+use csp_base::NoMemory;
+use csp_program::{Channel, EventInfo};
+use name_tables::declared::next;
+use std::alloc::Global;
+
+/// The event table of channels: in their order, and for each the values of its fields in rising order, the first field slowest.
+pub fn event_table(alloc: Global, channels: &[Channel]) -> Result<Items<EventInfo>, NoMemory>
+    ensures { IfOk result (λ events. events ≡ meant.event_table channels.now) }
+{
+    let mut events = Items::new(alloc);
+    let mut c: u32 = 0;
+    for channel in channels {
+        add_channel(alloc, &mut events, c, channel)?;
+        c = next(c)?;
+    }
+    Ok(events)
+}
+
+// Adds the events of the channel with the number `c`.
+fn add_channel(
+    alloc: Global,
+    events: &mut Items<EventInfo>,
+    c: u32,
+    channel: &Channel,
+) -> Result<(), NoMemory>
+    ensures { OnOk result (events.new ≡ events.old ++ meant.channel_events c channel.now.fields) }
+{
+    match &channel.fields {
+        Some(sets) => {
+            let fields = rows(alloc, sets.as_slice())?;
+            add_rows(events, c, fields)
+        }
+        None => Ok(()),
+    }
+}
+
+// Adds the events of the channel with the number `c` whose fields have these values.
+fn add_rows(events: &mut Items<EventInfo>, c: u32, rows: Vec<Items<Atom>>) -> Result<(), NoMemory>
+    ensures { OnOk result (events.new ≡ events.old ++ map (meant.event_of c) rows.items) }
+{
+    for fields in rows {
+        events.push(EventInfo { channel: c, fields })?;
+    }
+    Ok(())
+}

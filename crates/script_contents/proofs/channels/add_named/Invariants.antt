@@ -1,0 +1,7 @@
+use Rattle.std.proofs.Common.{◌≡◌, ◌++◌, map, take}
+use Rattle.script_names.specs.Names.{Name}
+use Rattle.script_contents.specs.Plain.{plain_channel}
+use Rattle.script_contents.proofs.channels.add_named.Given as goal
+
+abbrev pub invariant-loop-x : goal.invariant-loop-x
+invariant-loop-x l = l.made ≡ l.initial.made ++ map (λ (x : Name). plain_channel x l.types) (take l.x-index l.xs)

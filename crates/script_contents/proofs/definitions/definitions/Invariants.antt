@@ -1,0 +1,9 @@
+use Rattle.std.proofs.Common.{◌≡◌, ◌++◌, drop}
+use Rattle.name_tables.specs.Counted.{counts}
+use Rattle.script_names.specs.Contents.{definitions_from}
+use Rattle.script_names.specs.Names.{first_of, none_yet}
+use Rattle.script_contents.proofs.definitions.definitions.Given as goal
+
+abbrev pub invariant-loop-decl : goal.invariant-loop-decl
+invariant-loop-decl l =
+    l.made ++ definitions_from (first_of l.names) l.kinds (counts l.numbers) (drop l.decl-index l.decls) ≡ definitions_from (first_of l.names) l.kinds none_yet l.decls

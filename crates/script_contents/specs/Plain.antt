@@ -1,0 +1,52 @@
+-- Parts of what a script's declarations put into its program. Only the private contracts of this crate cite them.
+use Rattle.std.specs.Prelude.{ℕ, Bool, if◌then◌else◌, None, List, [], ◌∷◌, length, slice_get}
+use Rattle.csp_text.specs.declared.script.Decl.{Decl}
+use Rattle.csp_text.specs.declared.tree.Tree.{Tree}
+use Rattle.csp_program.specs.declared.expressions.Expr.{Expr}
+use Rattle.csp_program.specs.declared.programs.Body.{Body}
+use Rattle.csp_program.specs.declared.programs.Body.TheVariants as body
+use Rattle.csp_program.specs.declared.programs.Channel.{Channel}
+use Rattle.csp_program.specs.declared.programs.Def.{Def}
+use Rattle.csp_program.specs.declared.programs.ResourceNote.{ResourceNote}
+use Rattle.csp_program.specs.declared.programs.RolesNote.{RolesNote}
+use Rattle.script_names.specs.declared.kinds.Kind.{Kind}
+use Rattle.script_names.specs.Contents.{body_of, constants_of, numbers_from, parameters, resources_of, roles_of}
+use Rattle.script_names.specs.Faults.{kind_class, kind_network}
+use Rattle.script_names.specs.Names.{Name, Meanings}
+use Rattle.script_names.specs.Typed.{Reading, Scope, reading}
+
+-- a channel that has no field sets yet
+abbrev pub plain_channel : Name → List Expr → Channel
+plain_channel x types = record { name = x; types = types; fields = None; first = 0 }
+
+-- the constants that a declaration declares, whatever names mean
+abbrev pub constants_in : Decl → List Name
+constants_in d = constants_of (λ x. None) [] d
+
+-- the body of the definition with the number d, under a scope
+abbrev pub body_at : Meanings → List Kind → ℕ → Tree → ℕ → Scope → Body
+body_at meanings kinds d t n scope = body_of meanings kinds (kind_class (slice_get kinds d)) (kind_network (slice_get kinds d)) (reading meanings kinds t) n scope
+
+-- the definition with the number d
+abbrev pub definition_at : Meanings → List Kind → ℕ → Name → List Name → Tree → Def
+definition_at meanings kinds d x params t =
+    record { name = x; params = numbers_from 0 (length params); body = body_at meanings kinds d t (length params) (parameters 0 params) }
+
+-- the body of a process or of a network definition
+abbrev pub process_body : Bool → Reading → ℕ → Scope → Body
+process_body network r n scope = if network then body.Network (r.net scope n) else body.Process (r.proc scope n)
+
+-- a nametype
+abbrev pub nametype_of : Meanings → List Kind → Name → Tree → Def
+nametype_of meanings kinds x t = record { name = x; params = []; body = body.Nametype ((reading meanings kinds t).expr [] 0) }
+
+-- a datatype of so many constants
+abbrev pub datatype_of : Name → ℕ → ℕ → Def
+datatype_of x first count = record { name = x; params = []; body = body.Datatype (numbers_from first count) }
+
+-- the annotations of a declaration, whatever definitions are
+abbrev pub roles_in : Meanings → Decl → List RolesNote
+roles_in meanings d = roles_of meanings [] d
+
+abbrev pub resources_in : Meanings → Decl → List ResourceNote
+resources_in meanings d = resources_of meanings [] d

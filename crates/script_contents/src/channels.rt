@@ -1,0 +1,138 @@
+//! The channels and the constants of a script.
+
+ghost use Rattle.std.specs.Prelude.{◌≡◌, [], None, ◌++◌, map, IfOk, OnOk};
+ghost use Rattle.std.specs.List.{flat_map};
+ghost use Rattle.script_names.specs.Contents as meant;
+ghost use Rattle.script_names.specs.Names.{Name, first_of};
+ghost use Rattle.script_names.specs.Typed.{exprs, reading};
+ghost use Rattle.script_contents.specs.Plain.{constants_in, plain_channel};
+
+use containers::Items;
+use csp_base::{Name, NoMemory};
+use csp_program::copies::copy_exprs;
+use csp_program::{Channel, Expr};
+use csp_text::{Decl, Tree};
+use name_tables::{Dictionary, Scope};
+use script_names::Kind;
+use std::alloc::Global;
+use typed_trees::typed_exprs;
+
+/// The types of a channel's fields.
+pub fn types_of(
+    alloc: Global,
+    names: &Dictionary,
+    kinds: &[Kind],
+    types: &[Tree],
+) -> Result<Items<Expr>, NoMemory>
+    ensures { IfOk result (λ typed. typed ≡ exprs (map (reading (first_of names.now) kinds.now) types.now) [] 0) }
+{
+    let mut scope = Scope::new(alloc);
+    let mut next: u32 = 0;
+    let typed = typed_exprs(alloc, names, kinds, &mut scope, &mut next, types)?;
+    Ok(typed)
+}
+
+/// The channels of a script.
+pub fn channels(
+    alloc: Global,
+    names: &Dictionary,
+    kinds: &[Kind],
+    decls: &[Decl],
+) -> Result<Items<Channel>, NoMemory>
+    ensures { IfOk result (λ made. made ≡ flat_map (meant.channels_of (first_of names.now) kinds.now) decls.now) }
+{
+    let mut made = Items::new(alloc);
+    for decl in decls {
+        add_channels(alloc, names, kinds, &mut made, decl)?;
+    }
+    Ok(made)
+}
+
+// Adds the channels that a declaration declares.
+fn add_channels(
+    alloc: Global,
+    names: &Dictionary,
+    kinds: &[Kind],
+    made: &mut Items<Channel>,
+    decl: &Decl,
+) -> Result<(), NoMemory>
+    ensures { OnOk result (made.new ≡ made.old ++ meant.channels_of (first_of names.now) kinds.now decl.now) }
+{
+    match decl {
+        Decl::Channel(xs, types) => {
+            let types = types_of(alloc, names, kinds, types.as_slice())?;
+            add_named(alloc, made, xs.as_slice(), types.as_slice())
+        }
+        Decl::Datatype(_, _)
+        | Decl::Nametype(_, _)
+        | Decl::Define(_, _, _)
+        | Decl::Assert(_)
+        | Decl::Roles(_)
+        | Decl::Resource(_) => Ok(()),
+    }
+}
+
+// Adds channels of these names and types.
+fn add_named(
+    alloc: Global,
+    made: &mut Items<Channel>,
+    xs: &[Name],
+    types: &[Expr],
+) -> Result<(), NoMemory>
+    ensures { OnOk result (made.new ≡ made.old ++ map (λ (x : Name). plain_channel x types.now) xs.now) }
+{
+    for x in xs {
+        made.push(channel(alloc, x, types)?)?;
+    }
+    Ok(())
+}
+
+// A channel that has no field sets yet.
+fn channel(alloc: Global, x: &Name, types: &[Expr]) -> Result<Channel, NoMemory>
+    ensures { IfOk result (λ made. made ≡ plain_channel x.now types.now) }
+{
+    let name = x.try_clone(alloc)?;
+    let types = copy_exprs(alloc, types)?;
+    Ok(Channel {
+        name,
+        types,
+        fields: None,
+        first: 0,
+    })
+}
+
+/// The names of the constants of a script.
+pub fn constants(alloc: Global, decls: &[Decl]) -> Result<Items<Name>, NoMemory>
+    ensures { IfOk result (λ made. made ≡ flat_map constants_in decls.now) }
+{
+    let mut made = Items::new(alloc);
+    for decl in decls {
+        add_constants(alloc, &mut made, decl)?;
+    }
+    Ok(made)
+}
+
+// Adds the constants that a declaration declares.
+fn add_constants(alloc: Global, made: &mut Items<Name>, decl: &Decl) -> Result<(), NoMemory>
+    ensures { OnOk result (made.new ≡ made.old ++ constants_in decl.now) }
+{
+    match decl {
+        Decl::Datatype(_, ks) => add_names(alloc, made, ks.as_slice()),
+        Decl::Channel(_, _)
+        | Decl::Nametype(_, _)
+        | Decl::Define(_, _, _)
+        | Decl::Assert(_)
+        | Decl::Roles(_)
+        | Decl::Resource(_) => Ok(()),
+    }
+}
+
+// Adds copies of names.
+fn add_names(alloc: Global, made: &mut Items<Name>, xs: &[Name]) -> Result<(), NoMemory>
+    ensures { OnOk result (made.new ≡ made.old ++ xs.now) }
+{
+    for x in xs {
+        made.push(x.try_clone(alloc)?)?;
+    }
+    Ok(())
+}

@@ -1,0 +1,266 @@
+//! The definitions of a script.
+
+ghost use Rattle.std.specs.Prelude.{◌≡◌, ◌+◌, [], ◌∷◌, ◌++◌, length, slice_get, IfOk, OnOk};
+ghost use Rattle.name_tables.specs.Counted.{counts};
+ghost use Rattle.script_contents.specs.Plain.{body_at, datatype_of, definition_at, nametype_of, process_body};
+ghost use Rattle.script_names.specs.Contents as meant;
+ghost use Rattle.script_names.specs.Faults.{kind_class, kind_network};
+ghost use Rattle.script_names.specs.Names.{counted, first_of, none_yet};
+ghost use Rattle.script_names.specs.Typed.{reading};
+ghost use Rattle.script_names.specs.declared.kinds.Kind.{Kind};
+
+use containers::Items;
+use csp_base::{Name, NoMemory};
+use csp_program::{Body, Def};
+use csp_text::{Decl, Tree};
+use name_tables::declared::{Numbers, next, short};
+use name_tables::ends::bind_all;
+use name_tables::{Dictionary, Scope};
+use script_names::{Class, Kind};
+use std::alloc::Global;
+use typed_trees::{typed_expr, typed_net, typed_proc};
+
+/// The definitions of a script.
+pub fn definitions(
+    alloc: Global,
+    names: &Dictionary,
+    kinds: &[Kind],
+    decls: &[Decl],
+) -> Result<Items<Def>, NoMemory>
+    ensures { IfOk result (λ made. made ≡ meant.definitions_from (first_of names.now) kinds.now none_yet decls.now) }
+{
+    let mut made = Items::new(alloc);
+    let mut numbers = Numbers {
+        channels: 0,
+        constants: 0,
+        definitions: 0,
+    };
+    for decl in decls {
+        add_definition(alloc, names, kinds, &mut made, numbers, decl)?;
+        numbers = count(numbers, decl)?;
+    }
+    Ok(made)
+}
+
+// The numbers after a declaration.
+fn count(numbers: Numbers, decl: &Decl) -> Result<Numbers, NoMemory>
+    ensures { IfOk result (λ after. counts after ≡ counted (counts numbers) decl.now) }
+{
+    match decl {
+        Decl::Channel(xs, _) => Ok(Numbers {
+            channels: sum(numbers.channels, short(xs.len())?)?,
+            constants: numbers.constants,
+            definitions: numbers.definitions,
+        }),
+        Decl::Datatype(_, ks) => Ok(Numbers {
+            channels: numbers.channels,
+            constants: sum(numbers.constants, short(ks.len())?)?,
+            definitions: next(numbers.definitions)?,
+        }),
+        Decl::Nametype(_, _) | Decl::Define(_, _, _) => Ok(Numbers {
+            channels: numbers.channels,
+            constants: numbers.constants,
+            definitions: next(numbers.definitions)?,
+        }),
+        Decl::Assert(_) | Decl::Roles(_) | Decl::Resource(_) => Ok(numbers),
+    }
+}
+
+// The sum, which is refused like want of memory where its type has none.
+fn sum(n: u32, m: u32) -> Result<u32, NoMemory>
+    ensures { IfOk result (λ sum. sum ≡ n + m) }
+{
+    match n.checked_add(m) {
+        Some(sum) => Ok(sum),
+        None => Err(NoMemory),
+    }
+}
+
+// Adds what a declaration defines, after so many of each kind.
+fn add_definition(
+    alloc: Global,
+    names: &Dictionary,
+    kinds: &[Kind],
+    made: &mut Items<Def>,
+    numbers: Numbers,
+    decl: &Decl,
+) -> Result<(), NoMemory>
+    ensures { OnOk result (made.new ≡ made.old ++ meant.defined (first_of names.now) kinds.now (counts numbers) decl.now) }
+{
+    match decl {
+        Decl::Define(x, params, tree) => {
+            let def = define(
+                alloc,
+                names,
+                kinds,
+                numbers.definitions,
+                x,
+                params.as_slice(),
+                tree,
+            )?;
+            push_def(made, def)
+        }
+        Decl::Nametype(x, tree) => {
+            let def = nametype(alloc, names, kinds, x, tree)?;
+            push_def(made, def)
+        }
+        Decl::Datatype(x, ks) => {
+            let count = short(ks.len())?;
+            let def = datatype(alloc, x, numbers.constants, count)?;
+            push_def(made, def)
+        }
+        Decl::Channel(_, _) | Decl::Assert(_) | Decl::Roles(_) | Decl::Resource(_) => Ok(()),
+    }
+}
+
+// Puts a definition at the end.
+fn push_def(made: &mut Items<Def>, def: Def) -> Result<(), NoMemory>
+    ensures { OnOk result (made.new ≡ made.old ++ def ∷ []) }
+{
+    made.push(def)?;
+    Ok(())
+}
+
+// The definition with the number `d`.
+fn define(
+    alloc: Global,
+    names: &Dictionary,
+    kinds: &[Kind],
+    d: u32,
+    x: &Name,
+    params: &[Name],
+    tree: &Tree,
+) -> Result<Def, NoMemory>
+    ensures { IfOk result (λ def. def ≡ definition_at (first_of names.now) kinds.now d x.now params.now tree.now) }
+{
+    let name = x.try_clone(alloc)?;
+    let count = short(params.len())?;
+    let numbers = numbers_from(alloc, 0, count)?;
+    let body = body_of(alloc, names, kinds, d, params, count, tree)?;
+    Ok(Def {
+        name,
+        params: numbers,
+        body,
+    })
+}
+
+// The body of the definition with the number `d`, which has these parameters.
+fn body_of(
+    alloc: Global,
+    names: &Dictionary,
+    kinds: &[Kind],
+    d: u32,
+    params: &[Name],
+    n: u32,
+    tree: &Tree,
+) -> Result<Body, NoMemory>
+    ensures { IfOk result (λ body. body ≡ body_at (first_of names.now) kinds.now d tree.now n (meant.parameters 0 params.now)) }
+{
+    let mut scope = Scope::new(alloc);
+    bind_all(&mut scope, params)?;
+    let body = body_under(alloc, names, kinds, d, &mut scope, n, tree)?;
+    Ok(body)
+}
+
+// The body of the definition with the number `d`, whose first binding token has the number `n`.
+fn body_under(
+    alloc: Global,
+    names: &Dictionary,
+    kinds: &[Kind],
+    d: u32,
+    scope: &mut Scope,
+    n: u32,
+    tree: &Tree,
+) -> Result<Body, NoMemory>
+    ensures { IfOk result (λ body. body ≡ body_at (first_of names.now) kinds.now d tree.now n scope.old) }
+{
+    let mut next = n;
+    let kind = kind_at(kinds, d);
+    match kind.class {
+        Class::Data => Ok(Body::Datum(typed_expr(alloc, names, kinds, scope, &mut next, tree)?)),
+        Class::Process | Class::Unknown => {
+            process_under(alloc, names, kinds, kind.network, scope, n, tree)
+        }
+    }
+}
+
+// The body of a process or of a network definition.
+fn process_under(
+    alloc: Global,
+    names: &Dictionary,
+    kinds: &[Kind],
+    network: bool,
+    scope: &mut Scope,
+    n: u32,
+    tree: &Tree,
+) -> Result<Body, NoMemory>
+    ensures { IfOk result (λ body. body ≡ process_body network (reading (first_of names.now) kinds.now tree.now) n scope.old) }
+{
+    let mut next = n;
+    if network {
+        Ok(Body::Network(typed_net(alloc, names, kinds, scope, &mut next, tree)?))
+    } else {
+        Ok(Body::Process(typed_proc(alloc, names, kinds, scope, &mut next, tree)?))
+    }
+}
+
+// What the definition with the number `d` is.
+fn kind_at(kinds: &[Kind], d: u32) -> Kind
+    ensures class { result.class ≡ kind_class (slice_get kinds.now d) }
+    ensures network { result.network ≡ kind_network (slice_get kinds.now d) }
+{
+    match kinds.get(d as usize) {
+        Some(kind) => *kind,
+        None => Kind {
+            class: Class::Unknown,
+            network: false,
+        },
+    }
+}
+
+// A nametype.
+fn nametype(
+    alloc: Global,
+    names: &Dictionary,
+    kinds: &[Kind],
+    x: &Name,
+    tree: &Tree,
+) -> Result<Def, NoMemory>
+    ensures { IfOk result (λ def. def ≡ nametype_of (first_of names.now) kinds.now x.now tree.now) }
+{
+    let name = x.try_clone(alloc)?;
+    let mut scope = Scope::new(alloc);
+    let mut next: u32 = 0;
+    let expr = typed_expr(alloc, names, kinds, &mut scope, &mut next, tree)?;
+    Ok(Def {
+        name,
+        params: Items::new(alloc),
+        body: Body::Nametype(expr),
+    })
+}
+
+// A datatype of so many constants, the first of which has the number `first`.
+fn datatype(alloc: Global, x: &Name, first: u32, count: u32) -> Result<Def, NoMemory>
+    ensures { IfOk result (λ def. def ≡ datatype_of x.now first count) }
+{
+    let name = x.try_clone(alloc)?;
+    let constants = numbers_from(alloc, first, count)?;
+    Ok(Def {
+        name,
+        params: Items::new(alloc),
+        body: Body::Datatype(constants),
+    })
+}
+
+// The numbers from `first` on, so many of them.
+fn numbers_from(alloc: Global, first: u32, count: u32) -> Result<Items<u32>, NoMemory>
+    ensures { IfOk result (λ made. made ≡ meant.numbers_from first count) }
+{
+    let mut made = Items::new(alloc);
+    let mut number = first;
+    for _place in 0..count {
+        made.push(number)?;
+        number = next(number)?;
+    }
+    Ok(made)
+}

@@ -1,0 +1,106 @@
+//! The annotations of a script.
+
+ghost use Rattle.std.specs.Prelude.{◌≡◌, ◌++◌, IfOk, OnOk};
+ghost use Rattle.std.specs.List.{flat_map};
+ghost use Rattle.script_names.specs.Contents as meant;
+ghost use Rattle.script_names.specs.Names.{first_of};
+ghost use Rattle.script_contents.specs.Plain.{resources_in, roles_in};
+ghost use Rattle.script_names.specs.Typed.{definition_number};
+
+use containers::Items;
+use csp_base::{Name, NoMemory};
+use csp_program::{ResourceNote, RolesNote};
+use csp_text::Decl;
+use name_tables::Dictionary;
+use script_names::Entity;
+use std::alloc::Global;
+
+// The number of the definition of this name.
+fn defined_by(names: &Dictionary, x: &Name) -> u32
+    ensures { result ≡ definition_number (first_of names.now x.now) }
+{
+    match names.find(x) {
+        Some(Entity::Definition(d, _)) => d,
+        Some(Entity::Channel(_, _)) | Some(Entity::Constant(_)) | Some(Entity::Set(_)) | None => 0,
+    }
+}
+
+/// The annotations of roles.
+pub fn roles(
+    alloc: Global,
+    names: &Dictionary,
+    decls: &[Decl],
+) -> Result<Items<RolesNote>, NoMemory>
+    ensures { IfOk result (λ made. made ≡ flat_map (roles_in (first_of names.now)) decls.now) }
+{
+    let mut made = Items::new(alloc);
+    for decl in decls {
+        add_roles(names, &mut made, decl)?;
+    }
+    Ok(made)
+}
+
+// Adds the roles that a declaration gives.
+fn add_roles(names: &Dictionary, made: &mut Items<RolesNote>, decl: &Decl) -> Result<(), NoMemory>
+    ensures { OnOk result (made.new ≡ made.old ++ roles_in (first_of names.now) decl.now) }
+{
+    match decl {
+        Decl::Roles(roles) => {
+            made.push(RolesNote {
+                process: defined_by(names, &roles.process),
+                creq: defined_by(names, &roles.creq),
+                cack: defined_by(names, &roles.cack),
+                sreq: defined_by(names, &roles.sreq),
+                sack: defined_by(names, &roles.sack),
+            })?;
+            Ok(())
+        }
+        Decl::Channel(_, _)
+        | Decl::Datatype(_, _)
+        | Decl::Nametype(_, _)
+        | Decl::Define(_, _, _)
+        | Decl::Assert(_)
+        | Decl::Resource(_) => Ok(()),
+    }
+}
+
+/// The annotations of resources.
+pub fn resources(
+    alloc: Global,
+    names: &Dictionary,
+    decls: &[Decl],
+) -> Result<Items<ResourceNote>, NoMemory>
+    ensures { IfOk result (λ made. made ≡ flat_map (resources_in (first_of names.now)) decls.now) }
+{
+    let mut made = Items::new(alloc);
+    for decl in decls {
+        add_resources(names, &mut made, decl)?;
+    }
+    Ok(made)
+}
+
+// Adds the resource that a declaration names.
+fn add_resources(
+    names: &Dictionary,
+    made: &mut Items<ResourceNote>,
+    decl: &Decl,
+) -> Result<(), NoMemory>
+    ensures { OnOk result (made.new ≡ made.old ++ resources_in (first_of names.now) decl.now) }
+{
+    match decl {
+        Decl::Resource(resource) => {
+            made.push(ResourceNote {
+                process: defined_by(names, &resource.process),
+                acquire: defined_by(names, &resource.acquire),
+                release: defined_by(names, &resource.release),
+            })?;
+            Ok(())
+        }
+        Decl::Channel(_, _)
+        | Decl::Datatype(_, _)
+        | Decl::Nametype(_, _)
+        | Decl::Define(_, _, _)
+        | Decl::Assert(_)
+        | Decl::Roles(_) => Ok(()),
+    }
+}

@@ -1,0 +1,7 @@
+pub mod TokenForms
+pub mod Rolls
+pub mod SameTokens
+pub mod Scopes
+pub mod ExprForms
+pub mod ProcForms
+pub mod NetForms

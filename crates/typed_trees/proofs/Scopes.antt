@@ -1,0 +1,27 @@
+-- Scopes that begin with a scope.
+use Rattle.std.proofs.Common.{◌≡◌, ℕ, ◌≤◌, min, ◌++◌, length, take, sym, ap, ◌∙◌, arith}
+use Rattle.std.proofs.Math.Seq.{take-append_seam, take-length}
+use Rattle.std.proofs.lemmas.List.{length-take, take-take, take_all}
+use Rattle.script_names.specs.Typed.{Scope}
+use Rattle.typed_trees.specs.Scopes.{Keeps}
+
+pub kept_within : (old new : Scope) → Keeps old new → length old ≤ length new
+kept_within old new kept =
+    let cut : min (length old) (length new) ≡ length old = sym (length-take (length old) new) ∙ ap length kept in
+    omega arith
+
+pub keeps_itself : (s : Scope) → Keeps s s
+keeps_itself s = take-length s
+
+pub keeps_longer : (s t : Scope) → Keeps s (s ++ t)
+keeps_longer s t = take-append_seam s t
+
+pub keeps_on : (a b c : Scope) → Keeps a b → Keeps b c → Keeps a c
+keeps_on a b c first second =
+    sym (take-take (length a) (length b) c (kept_within a b first)) ∙ ap (take (length a)) second ∙ first
+
+-- nothing is left out
+pub take_whole : (n : ℕ) (s : Scope) → length s ≤ n → take n s ≡ s
+take_whole n s short = take_all n s short
+
+pub ruleset scope_laws = (keeps_itself, keeps_longer, keeps_on, take_whole)

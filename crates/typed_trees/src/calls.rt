@@ -1,0 +1,99 @@
+//! Trees as what they stand for, once each of their names has its meaning.
+
+ghost use Rattle.std.specs.Prelude.{◌≡◌, ◌+◌, List, map, IfOk, OnOk};
+ghost use Rattle.script_names.specs.declared.kinds.Kind.{Kind};
+ghost use Rattle.script_names.specs.Names.{Entities, first_of};
+ghost use Rattle.script_names.specs.Typed.{all_bind, exprs, reading};
+
+use crate::counts::count_tree;
+use crate::expressions::{expression, expressions};
+use crate::networks::network;
+use crate::processes::process;
+use containers::Items;
+use csp_base::NoMemory;
+use csp_program::{Expr, Net, Proc};
+use csp_text::Tree;
+use name_tables::{Dictionary, Scope};
+use script_names::Kind;
+use std::alloc::Global;
+
+/// How many binding tokens a tree has. Its names may mean anything.
+pub fn binds(tree: &Tree) -> Result<u32, NoMemory>
+    ensures { IfOk result (λ n. (names : Entities) (kinds : List Kind) → n ≡ (reading (first_of names) kinds tree.now).binds) }
+{
+    let mut count = 0;
+    count_tree(&mut count, tree)?;
+    Ok(count)
+}
+
+/// A tree as an expression, under the bound names `scope`. Its binding tokens have the numbers from `next` on.
+#[tactic(auto, unfolding(crate::specs::Words::expr_of))]
+pub fn typed_expr(
+    alloc: Global,
+    names: &Dictionary,
+    kinds: &[Kind],
+    scope: &mut Scope,
+    next: &mut u32,
+    tree: &Tree,
+) -> Result<Expr, NoMemory>
+    ensures made { IfOk result (λ made. made ≡ (reading (first_of names.now) kinds.now tree.now).expr scope.old next.old) }
+    ensures next { OnOk result (next.new ≡ next.old + (reading (first_of names.now) kinds.now tree.now).binds) }
+    ensures scope { OnOk result (scope.new ≡ scope.old) }
+{
+    let made = expression(alloc, names, kinds, scope, next, tree)?;
+    Ok(made)
+}
+
+/// Trees as expressions, numbered one after another.
+pub fn typed_exprs(
+    alloc: Global,
+    names: &Dictionary,
+    kinds: &[Kind],
+    scope: &mut Scope,
+    next: &mut u32,
+    trees: &[Tree],
+) -> Result<Items<Expr>, NoMemory>
+    ensures made { IfOk result (λ made. made ≡ exprs (map (reading (first_of names.now) kinds.now) trees.now) scope.old next.old) }
+    ensures next { OnOk result (next.new ≡ next.old + all_bind (map (reading (first_of names.now) kinds.now) trees.now)) }
+    ensures scope { OnOk result (scope.new ≡ scope.old) }
+{
+    let made = expressions(alloc, names, kinds, scope, next, trees)?;
+    Ok(made)
+}
+
+/// A tree as a process, under the bound names `scope`. Its binding tokens have the numbers from `next` on.
+#[tactic(auto, unfolding(crate::specs::Words::proc_of))]
+pub fn typed_proc(
+    alloc: Global,
+    names: &Dictionary,
+    kinds: &[Kind],
+    scope: &mut Scope,
+    next: &mut u32,
+    tree: &Tree,
+) -> Result<Proc, NoMemory>
+    ensures made { IfOk result (λ made. made ≡ (reading (first_of names.now) kinds.now tree.now).proc scope.old next.old) }
+    ensures next { OnOk result (next.new ≡ next.old + (reading (first_of names.now) kinds.now tree.now).binds) }
+    ensures scope { OnOk result (scope.new ≡ scope.old) }
+{
+    let made = process(alloc, names, kinds, scope, next, tree)?;
+    Ok(made)
+}
+
+/// A tree as a network, under the bound names `scope`. Its binding tokens have the numbers from `next` on. One that holds no parallel and no use of
+/// a network definition is a component.
+#[tactic(auto, unfolding(crate::specs::Words::net_of))]
+pub fn typed_net(
+    alloc: Global,
+    names: &Dictionary,
+    kinds: &[Kind],
+    scope: &mut Scope,
+    next: &mut u32,
+    tree: &Tree,
+) -> Result<Net, NoMemory>
+    ensures made { IfOk result (λ made. made ≡ (reading (first_of names.now) kinds.now tree.now).net scope.old next.old) }
+    ensures next { OnOk result (next.new ≡ next.old + (reading (first_of names.now) kinds.now tree.now).binds) }
+    ensures scope { OnOk result (scope.new ≡ scope.old) }
+{
+    let made = network(alloc, names, kinds, scope, next, tree)?;
+    Ok(made)
+}
