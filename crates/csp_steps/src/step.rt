@@ -1,0 +1,13 @@
+//! Steps of the processes of a pool.
+
+use process_steps::Label;
+use term_pool::ProcId;
+
+/// A step of a process of a pool.
+#[derive(Clone, Copy, PartialEq, Eq, Hash)]
+pub struct StepTo {
+    /// What is seen of it.
+    pub label: Label,
+    /// The place of the process after it.
+    pub to: ProcId,
+}
