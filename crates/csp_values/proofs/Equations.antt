@@ -237,7 +237,7 @@ pub each-cons : (p : Content) (n x : ℕ) (a : Atom) (atoms : List Atom) (gens :
 unfolding each_worth
 each-cons p n x a atoms gens items parts env state = refl
 
-same_count : (o : Option (List (List Atom))) (p : Content) (n : ℕ) (es : List Expr) → front_count o (meanings p n es) ≡ count_with o (length es)
+pub same_count : (o : Option (List (List Atom))) (p : Content) (n : ℕ) (es : List Expr) → front_count o (meanings p n es) ≡ count_with o (length es)
 same_count None p n es = refl
 same_count (Some sets) p n es = ap (λ k. row_count (drop k sets)) (same_length p n es)
 
