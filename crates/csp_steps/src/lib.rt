@@ -1,6 +1,12 @@
 //! The steps of the processes of a pool, computed.
 #![tactic(auto)]
 
+mod around;
+mod choice;
+mod entered;
+mod look;
+mod once;
+mod prefix;
 mod step;
 mod steps;
 

@@ -1,5 +1,8 @@
 //! Steps of the processes of a pool.
 
+ghost use Rattle.csp_steps.specs.ExactStep.{exact_step};
+
+use containers::Exact;
 use process_steps::Label;
 use term_pool::ProcId;
 
@@ -10,4 +13,8 @@ pub struct StepTo {
     pub label: Label,
     /// The place of the process after it.
     pub to: ProcId,
+}
+
+impl Exact for StepTo {
+    ghost exact = { exact_step };
 }
