@@ -208,12 +208,12 @@ walk-nil p n items parts env state = refl
 abbrev walk_turn : Content → ℕ → Turn → List Gen → List Expr → List EventPart → Env → Gathered → Outcome Gathered
 walk_turn p n t gens items parts env state = walked (t ∷ map (turn (uses_within p n) p.channels) gens) (gathered (yielded p n items parts)) env state
 
-turn-From : (p : Content) (n x : ℕ) (s : Expr) → turn (uses_within p n) p.channels (generator.From x s) ≡ from x (meaning (uses_within p n) p.channels s)
+pub turn-From : (p : Content) (n x : ℕ) (s : Expr) → turn (uses_within p n) p.channels (generator.From x s) ≡ from x (meaning (uses_within p n) p.channels s)
 turn-From p n x s =
     ap (turn (uses_within p n) p.channels) (sym (generator.rolls-From x s)) ∙
     fold-roll-Gen Meaning Turn Front (meaning_of_layer (uses_within p n) p.channels) (turn_of_layer (uses_within p n) p.channels) (front_of_layer (uses_within p n) p.channels) (Gen-F.From x s)
 
-turn-Cond : (p : Content) (n : ℕ) (c : Expr) → turn (uses_within p n) p.channels (generator.Cond c) ≡ when (meaning (uses_within p n) p.channels c)
+pub turn-Cond : (p : Content) (n : ℕ) (c : Expr) → turn (uses_within p n) p.channels (generator.Cond c) ≡ when (meaning (uses_within p n) p.channels c)
 turn-Cond p n c =
     ap (turn (uses_within p n) p.channels) (sym (generator.rolls-Cond c)) ∙
     fold-roll-Gen Meaning Turn Front (meaning_of_layer (uses_within p n) p.channels) (turn_of_layer (uses_within p n) p.channels) (front_of_layer (uses_within p n) p.channels) (Gen-F.Cond c)
@@ -237,7 +237,7 @@ pub each-cons : (p : Content) (n x : ℕ) (a : Atom) (atoms : List Atom) (gens :
 unfolding each_worth
 each-cons p n x a atoms gens items parts env state = refl
 
-same_count : (o : Option (List (List Atom))) (p : Content) (n : ℕ) (es : List Expr) → front_count o (meanings p n es) ≡ count_with o (length es)
+pub same_count : (o : Option (List (List Atom))) (p : Content) (n : ℕ) (es : List Expr) → front_count o (meanings p n es) ≡ count_with o (length es)
 same_count None p n es = refl
 same_count (Some sets) p n es = ap (λ k. row_count (drop k sets)) (same_length p n es)
 

@@ -1,10 +1,10 @@
 //! Evaluation, from the left.
 
-ghost use Rattle.std.specs.Prelude.{◌≡◌, [], ◌∷◌, Ok};
+ghost use Rattle.std.specs.Prelude.{◌≡◌, [], ◌∷◌, length, Ok};
 ghost use Rattle.csp_program.specs.Outcome.{and_then};
 ghost use Rattle.csp_program.specs.Value.{value_of, as_set};
 ghost use Rattle.csp_program.specs.Value as meant;
-ghost use Rattle.value_operators.specs.Env.{env_in};
+ghost use Rattle.value_operators.specs.Env.{env_in, with_bound};
 ghost use Rattle.value_operators.specs.Gives.{Gives};
 ghost use Rattle.value_operators.specs.Forms as form;
 ghost use Rattle.csp_values.specs.Worth.{worth, worths, use_worth, body_worth, with_items, fields_worth, front_worth, with_front, with_fronts, one_more_binding, walk_worth, each_worth, gathered_of, GivesTally};
@@ -90,6 +90,76 @@ pub fn eval_set(alloc: Global, program: &Program, expr: &Expr) -> Result<AtomSet
 {
     let value = eval(alloc, program, expr)?;
     to_set(value)
+}
+
+/// The value of an expression of a program under names that generators bind, the last one bound at the end. Faults are those of `eval`.
+pub fn eval_under(
+    alloc: Global,
+    program: &Program,
+    bound: &[(u32, Atom)],
+    expr: &Expr,
+) -> Result<Value, EvalFault>
+    ensures { Gives result (worth program.now (length program.now.defs) (with_bound bound.now []) expr.now) }
+{
+    let content = program.content();
+    let scope = Scope {
+        alloc,
+        content,
+        uses: content.defs.len(),
+    };
+    let names = Names {
+        params: &[],
+        args: &[],
+        bound,
+    };
+    eval_expr(&scope, &names, expr)
+}
+
+/// The values of expressions of a program under names that generators bind, from the left.
+pub fn eval_all_under(
+    alloc: Global,
+    program: &Program,
+    bound: &[(u32, Atom)],
+    exprs: &[Expr],
+) -> Result<Items<Value>, EvalFault>
+    ensures { Gives result (worths program.now (length program.now.defs) (with_bound bound.now []) exprs.now) }
+{
+    let content = program.content();
+    let scope = Scope {
+        alloc,
+        content,
+        uses: content.defs.len(),
+    };
+    let names = Names {
+        params: &[],
+        args: &[],
+        bound,
+    };
+    eval_all(&scope, &names, exprs)
+}
+
+/// The number of the first event of a channel that begins with these fields, under names that generators bind.
+pub fn front_under(
+    alloc: Global,
+    program: &Program,
+    bound: &[(u32, Atom)],
+    channel: u32,
+    fields: &[Expr],
+) -> Result<u64, EvalFault>
+    ensures { Gives result (front_worth program.now (length program.now.defs) (with_bound bound.now []) channel fields.now) }
+{
+    let content = program.content();
+    let scope = Scope {
+        alloc,
+        content,
+        uses: content.defs.len(),
+    };
+    let names = Names {
+        params: &[],
+        args: &[],
+        bound,
+    };
+    eval_front(&scope, &names, channel, fields)
 }
 
 // The value of an expression.

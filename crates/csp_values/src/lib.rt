@@ -4,5 +4,5 @@
 mod evaluation;
 mod tally;
 
-pub use evaluation::{eval, eval_in, eval_set};
+pub use evaluation::{eval, eval_all_under, eval_in, eval_set, eval_under, front_under};
 pub use value_operators::EvalFault;

@@ -1,0 +1,129 @@
+-- What a call answers for a whole, from what calls answer for its parts.
+use Rattle.std.proofs.Common.{◌≡◌, ℕ, ◌+◌, ◌<◌, ◌≤◌, Ok, Err, List, [], ◌∷◌, ◌++◌, map, take, length, get_or, refl, ap, sym, ◌∙◌, subst, arith, append_assoc}
+use Rattle.std.specs.Prelude.{Result}
+use Rattle.std.specs.Result.{IsErrAnd}
+use Rattle.csp_program.specs.Lists.{joined}
+use Rattle.csp_program.specs.Outcome.{Outcome, and_then}
+use Rattle.csp_program.specs.declared.kinds.ValueKind.{ValueKind}
+use Rattle.csp_program.specs.declared.processes.Proc.{Proc}
+use Rattle.csp_program.specs.declared.programs.Content.{Content}
+use Rattle.process_steps.specs.StepList.{Move, steps_of}
+use Rattle.term_pool.specs.Pooled.{IsFront}
+use Rattle.value_operators.specs.Gives.{Gives}
+use Rattle.value_operators.specs.declared.fault.EvalFault.{EvalFault}
+use Rattle.value_operators.specs.declared.fault.EvalFault.TheVariants as fault
+use Rattle.csp_steps.specs.Computed.{AreMoves, GivesLook, GivesMoves, GivesPlace, IsListing, IsMove}
+use Rattle.csp_steps.specs.Listed.{FaultIs, seen}
+use Rattle.csp_steps.specs.declared.look.Look.{Look}
+use Rattle.csp_steps.specs.declared.step.StepTo.{StepTo}
+use Rattle.term_pool.specs.declared.node.ProcId.{ProcId}
+use Rattle.step_values.proofs.Lists.{joined_push, map_push, taken, taken_whole}
+use Rattle.csp_steps.proofs.Places.{moves_stay, one_move}
+
+-- steps that are these moves, where the outcome is the moves
+pub listing : (trees : List Proc) (steps : List StepTo) (moves : List Move) (o : Outcome (List Move)) → o ≡ Ok moves → AreMoves trees steps moves → IsListing trees steps o
+listing trees steps moves o e h = record { same = e ∙ ap (λ ms. Ok ms) (sym h.same); within = h.within }
+
+pub same_moves : (trees : List Proc) (r : Result (List StepTo) EvalFault) (o o' : Outcome (List Move)) → o ≡ o' → GivesMoves trees r o' → GivesMoves trees r o
+same_moves trees r o o' e h = subst (GivesMoves trees r) (sym e) h
+
+-- A fault of a part is a fault of the whole.
+moves_fault : {A : Type 0} (trees : List Proc) (f : EvalFault) (part : Outcome A) (whole : Outcome (List Move)) → Gives {A = A} (Err f) part
+    → ((k : ValueKind) → part ≡ Err k → whole ≡ Err k) → GivesMoves trees (Err f) whole
+moves_fault trees fault.NoMemory part whole h passes = tt
+moves_fault trees (fault.Value kind) part whole h passes = passes kind h
+
+pub passed_moves : {A : Type 0} (trees : List Proc) (r : Result (List StepTo) EvalFault) (f : EvalFault) (part : Outcome A) (whole : Outcome (List Move))
+    → IsErrAnd r (λ y. y ≡ f) → Gives {A = A} (Err f) part → ((k : ValueKind) → part ≡ Err k → whole ≡ Err k) → GivesMoves trees r whole
+passed_moves trees (Ok x) f part whole is h passes = absurd is
+passed_moves trees (Err y) f part whole is h passes = rw is (moves_fault trees f part whole h passes)
+
+moves_gone : (trees mid : List Proc) (f : EvalFault) (part whole : Outcome (List Move)) → GivesMoves mid (Err f) part
+    → ((k : ValueKind) → part ≡ Err k → whole ≡ Err k) → GivesMoves trees (Err f) whole
+moves_gone trees mid fault.NoMemory part whole h passes = tt
+moves_gone trees mid (fault.Value kind) part whole h passes = passes kind h
+
+pub moves_passed : (trees mid : List Proc) (r : Result (List StepTo) EvalFault) (f : EvalFault) (part whole : Outcome (List Move))
+    → IsErrAnd r (λ y. y ≡ f) → GivesMoves mid (Err f) part → ((k : ValueKind) → part ≡ Err k → whole ≡ Err k) → GivesMoves trees r whole
+moves_passed trees mid (Ok x) f part whole is h passes = absurd is
+moves_passed trees mid (Err y) f part whole is h passes = rw is (moves_gone trees mid f part whole h passes)
+
+look_gone : {A : Type 0} (p : Content) (trees : List Proc) (t : Proc) (f : EvalFault) (part : Outcome A) → Gives {A = A} (Err f) part
+    → ((k : ValueKind) → part ≡ Err k → steps_of p t ≡ Err k) → GivesLook p trees (Err f) t
+look_gone p trees t fault.NoMemory part h passes = tt
+look_gone p trees t (fault.Value kind) part h passes = passes kind h
+
+pub look_passed : {A : Type 0} (p : Content) (trees : List Proc) (t : Proc) (r : Result Look EvalFault) (f : EvalFault) (part : Outcome A)
+    → IsErrAnd r (λ y. y ≡ f) → Gives {A = A} (Err f) part → ((k : ValueKind) → part ≡ Err k → steps_of p t ≡ Err k) → GivesLook p trees r t
+look_passed p trees t (Ok x) f part is h passes = absurd is
+look_passed p trees t (Err y) f part is h passes = rw is (look_gone p trees t f part h passes)
+
+steps_gone : (p : Content) (trees mid : List Proc) (t : Proc) (f : EvalFault) (part : Outcome (List Move)) → GivesMoves mid (Err f) part
+    → ((k : ValueKind) → part ≡ Err k → steps_of p t ≡ Err k) → GivesLook p trees (Err f) t
+steps_gone p trees mid t fault.NoMemory part h passes = tt
+steps_gone p trees mid t (fault.Value kind) part h passes = passes kind h
+
+pub steps_passed : (p : Content) (trees mid : List Proc) (t : Proc) (r : Result Look EvalFault) (f : EvalFault) (part : Outcome (List Move))
+    → IsErrAnd r (λ y. y ≡ f) → GivesMoves mid (Err f) part → ((k : ValueKind) → part ≡ Err k → steps_of p t ≡ Err k) → GivesLook p trees r t
+steps_passed p trees mid t (Ok x) f part is h passes = absurd is
+steps_passed p trees mid t (Err y) f part is h passes = rw is (steps_gone p trees mid t f part h passes)
+
+place_gone : (p : Content) (trees mid : List Proc) (t : Proc) (f : EvalFault) (part : Outcome Proc) → GivesPlace mid (Err f) part
+    → ((k : ValueKind) → part ≡ Err k → steps_of p t ≡ Err k) → GivesLook p trees (Err f) t
+place_gone p trees mid t fault.NoMemory part h passes = tt
+place_gone p trees mid t (fault.Value kind) part h passes = passes kind h
+
+pub place_passed : (p : Content) (trees mid : List Proc) (t : Proc) (r : Result Look EvalFault) (f : EvalFault) (part : Outcome Proc)
+    → IsErrAnd r (λ y. y ≡ f) → GivesPlace mid (Err f) part → ((k : ValueKind) → part ≡ Err k → steps_of p t ≡ Err k) → GivesLook p trees r t
+place_passed p trees mid t (Ok x) f part is h passes = absurd is
+place_passed p trees mid t (Err y) f part is h passes = rw is (place_gone p trees mid t f part h passes)
+
+-- a look that has failed says the same of a process that has the steps of the first one, whatever the list
+looks_gone : (p : Content) (trees mid : List Proc) (t u : Proc) (f : EvalFault) → GivesLook p mid (Err f) u → steps_of p t ≡ steps_of p u → GivesMoves trees (Err f) (steps_of p t)
+looks_gone p trees mid t u fault.NoMemory h e = tt
+looks_gone p trees mid t u (fault.Value kind) h e = e ∙ h
+
+pub looks_passed : (p : Content) (trees mid : List Proc) (t : Proc) (r : Result (List StepTo) EvalFault) (f : EvalFault)
+    → IsErrAnd r (λ y. y ≡ f) → GivesLook p mid (Err f) t → GivesMoves trees r (steps_of p t)
+looks_passed p trees mid t (Ok x) f is h = absurd is
+looks_passed p trees mid t (Err y) f is h = rw is (looks_gone p trees mid t t f h refl)
+
+fault_gone : (A : Type 0) (mid : List Proc) (f : EvalFault) (o : Outcome (List Move)) → GivesMoves mid (Err f) o → FaultIs {A = A} (Err f) o
+fault_gone A mid fault.NoMemory o h = tt
+fault_gone A mid (fault.Value kind) o h = h
+
+pub fault_passed : {A : Type 0} (mid : List Proc) (r : Result A EvalFault) (f : EvalFault) (o : Outcome (List Move)) → IsErrAnd r (λ y. y ≡ f) → GivesMoves mid (Err f) o → FaultIs r o
+fault_passed {A = A} mid (Ok x) f o is h = absurd is
+fault_passed {A = A} mid (Err y) f o is h = rw is (fault_gone A mid f o h)
+
+-- the next of some steps, in a list that has grown
+module _ (old mid new : List Proc) (front : IsFront mid new) (below : List StepTo) (i : ℕ) (s : StepTo) (lt : i < length below) (is : s ≡ get_or below i s) where
+  more_seen : (f : Move → Move) → map f (map (seen old) (take (i + 1) below)) ≡ map f (map (seen old) (take i below)) ++ f (seen old s) ∷ []
+  more_seen f =
+      ap (λ xs. map f (map (seen old) xs)) (taken below i s lt is) ∙
+      (ap (map f) (map_push (seen old) (take i below) s) ∙ map_push f (map (seen old) (take i below)) (seen old s))
+
+  pub next_move : (f : Move → Move) (before : List Move) (steps : List StepTo) (made : StepTo) → AreMoves mid steps (before ++ map f (map (seen old) (take i below))) → IsMove new made (f (seen old s))
+      → AreMoves new (steps ++ made ∷ []) (before ++ map f (map (seen old) (take (i + 1) below)))
+  next_move f before steps made h g =
+      subst (λ ms. AreMoves new (steps ++ made ∷ []) ms) (append_assoc before (map f (map (seen old) (take i below))) (f (seen old s) ∷ []) ∙ ap (λ ms. before ++ ms) (sym (more_seen f)))
+      (one_move new steps (before ++ map f (map (seen old) (take i below))) made (f (seen old s)) (moves_stay mid new front steps (before ++ map f (map (seen old) (take i below))) h) g)
+
+  more_joined : (f : Move → List Move) → joined (map f (map (seen old) (take (i + 1) below))) ≡ joined (map f (map (seen old) (take i below))) ++ f (seen old s)
+  more_joined f =
+      ap (λ xs. joined (map f (map (seen old) xs))) (taken below i s lt is) ∙
+      (ap (λ ms. joined (map f ms)) (map_push (seen old) (take i below) s) ∙
+      (ap joined (map_push f (map (seen old) (take i below)) (seen old s)) ∙ joined_push (map f (map (seen old) (take i below))) (f (seen old s))))
+
+  pub next_moves : (f : Move → List Move) (steps made : List StepTo) → map (seen mid) steps ≡ joined (map f (map (seen old) (take i below))) → AreMoves new made (map (seen mid) steps ++ f (seen old s))
+      → AreMoves new made (joined (map f (map (seen old) (take (i + 1) below))))
+  next_moves f steps made e h = subst (λ ms. AreMoves new made ms) (ap (λ ms. ms ++ f (seen old s)) e ∙ sym (more_joined f)) h
+
+-- all of the steps
+pub whole_moves : (old new : List Proc) (f : Move → Move) (before : List Move) (below steps : List StepTo) (i : ℕ) → length below ≤ i
+    → AreMoves new steps (before ++ map f (map (seen old) (take i below))) → AreMoves new steps (before ++ map f (map (seen old) below))
+whole_moves old new f before below steps i past h = subst (λ xs. AreMoves new steps (before ++ map f (map (seen old) xs))) (taken_whole below i past) h
+
+pub whole_joined : (old new : List Proc) (f : Move → List Move) (below steps : List StepTo) (i : ℕ) → length below ≤ i
+    → AreMoves new steps (joined (map f (map (seen old) (take i below)))) → AreMoves new steps (joined (map f (map (seen old) below)))
+whole_joined old new f below steps i past h = subst (λ xs. AreMoves new steps (joined (map f (map (seen old) xs)))) (taken_whole below i past) h

@@ -1,0 +1,270 @@
+-- The steps of each form of a process, as a look at it finds them, and how deep the processes below it are.
+use Rattle.std.proofs.Common.{◌≡◌, ℕ, suc, ◌+◌, ◌<◌, ◌≤◌, Bool, true, false, if◌then◌else◌, Ok, Err, Some, List, [], ◌∷◌, ◌++◌, map, length, slice_get, refl, ap, sym, ◌∙◌, subst, arith}
+use Rattle.std.proofs.lemmas.Bool.{ltb-true, lt-ltb}
+use Rattle.std.specs.Cmp.{first_so, second_so}
+use Rattle.std.specs.Prelude.{Result, nat_lt}
+use Rattle.csp_program.specs.Depth.{proc_depth}
+use Rattle.csp_program.specs.Lists.{greatest}
+use Rattle.csp_program.specs.Outcome.{Outcome, and_then}
+use Rattle.csp_program.specs.Substitution.{proc_with}
+use Rattle.csp_atoms.specs.declared.atom.Atom.{Atom}
+use Rattle.csp_atoms.specs.declared.value.Value.{Value}
+use Rattle.csp_atoms.specs.declared.value.Value.TheVariants.{One}
+use Rattle.csp_program.specs.declared.expressions.EventPart.{EventPart}
+use Rattle.csp_program.specs.declared.expressions.Expr.{Expr}
+use Rattle.csp_program.specs.declared.expressions.Gen.{Gen}
+use Rattle.csp_program.specs.declared.kinds.ValueKind.{ValueKind}
+use Rattle.csp_program.specs.declared.kinds.ValueKind.TheVariants.{EmptyChoice}
+use Rattle.csp_program.specs.declared.processes.Field.{Field}
+use Rattle.csp_program.specs.declared.processes.Head.{Head}
+use Rattle.csp_program.specs.declared.processes.Proc.{Proc}
+use Rattle.csp_program.specs.declared.processes.Proc.TheOpen.{Proc-F}
+use Rattle.csp_program.specs.declared.processes.Proc.TheVariants as proc
+use Rattle.csp_program.specs.declared.processes.Proc.TheViews.{out-Proc}
+use Rattle.csp_program.specs.declared.programs.Content.{Content}
+use Rattle.process_steps.proofs.Depths.{depth_of_out, layer_depth, put_depth}
+use Rattle.process_steps.proofs.Equations as forms
+use Rattle.process_steps.specs.Needed.{arguments_in, called, each_joined, set_in, truth_in}
+use Rattle.process_steps.specs.Prefix.{Choice, Way, of_head, ways_to_fill}
+use Rattle.process_steps.specs.Step.{each_put}
+use Rattle.process_steps.specs.StepList.{Move, in_choice, silent_to, some_silent_to, steps_of, steps_of_choice}
+use Rattle.process_steps.specs.declared.label.Label.{Label}
+use Rattle.process_steps.specs.declared.label.Label.TheVariants.{Silent, Visible, Tick}
+use Rattle.term_pool.specs.Trees.{all_below, places, places_below, tree_at, tree_of}
+use Rattle.term_pool.specs.declared.node.Node.{Node}
+use Rattle.term_pool.specs.declared.node.ProcId.{ProcId}
+use Rattle.value_operators.specs.declared.fault.EvalFault.{EvalFault}
+use Rattle.csp_steps.specs.Computed.{all_within, around, around_layer, AreAround, AreAt, AreMoves, AreOfChoice, AreThoseAt, event_move, filled, GivesLook, IsListing, IsPlaceOf}
+use Rattle.csp_steps.specs.Listed.{seen}
+use Rattle.csp_steps.specs.declared.look.Look.{Look}
+use Rattle.csp_steps.specs.declared.step.StepTo.{StepTo}
+use Rattle.term_pool.proofs.TreeLemmas.{all_below_more, both_so}
+
+depth_of : (t : Proc) (d : Proc-F Proc) → out-Proc t ≡ d → proc_depth t ≡ layer_depth d
+depth_of t d e = depth_of_out t ∙ ap layer_depth e
+
+less-Guard : (c : Expr) (q : Proc) → proc_depth q < proc_depth (proc.Guard c q)
+unfolding layer_depth
+less-Guard c q = let e = depth_of (proc.Guard c q) (Proc-F.Guard c q) (forms.layer-Guard c q) in omega (arith, e)
+
+less-If : (c : Expr) (q r : Proc) → proc_depth q < proc_depth (proc.If c q r)
+unfolding layer_depth
+less-If c q r = let e = depth_of (proc.If c q r) (Proc-F.If c q r) (forms.layer-If c q r) in omega (arith, e)
+
+less-If-second : (c : Expr) (q r : Proc) → proc_depth r < proc_depth (proc.If c q r)
+unfolding layer_depth
+less-If-second c q r = let e = depth_of (proc.If c q r) (Proc-F.If c q r) (forms.layer-If c q r) in omega (arith, e)
+
+less-External : (qs : List Proc) → greatest (map proc_depth qs) < proc_depth (proc.External qs)
+unfolding layer_depth
+less-External qs = let e = depth_of (proc.External qs) (Proc-F.External qs) (forms.layer-External qs) in omega (arith, e)
+
+less-EachExternal : (x : ℕ) (s : Expr) (q : Proc) → proc_depth q < proc_depth (proc.EachExternal x s q)
+unfolding layer_depth
+less-EachExternal x s q = let e = depth_of (proc.EachExternal x s q) (Proc-F.EachExternal x s q) (forms.layer-EachExternal x s q) in omega (arith, e)
+
+less-Hide : (q : Proc) (s : Expr) → proc_depth q < proc_depth (proc.Hide q s)
+unfolding layer_depth
+less-Hide q s = let e = depth_of (proc.Hide q s) (Proc-F.Hide q s) (forms.layer-Hide q s) in omega (arith, e)
+
+less-Rename : (q : Proc) (pairs : List (EventPart × EventPart)) (gens : List Gen) → proc_depth q < proc_depth (proc.Rename q pairs gens)
+unfolding layer_depth
+less-Rename q pairs gens = let e = depth_of (proc.Rename q pairs gens) (Proc-F.Rename q pairs gens) (forms.layer-Rename q pairs gens) in omega (arith, e)
+
+less-Seq : (q r : Proc) → proc_depth q < proc_depth (proc.Seq q r)
+unfolding layer_depth
+less-Seq q r = let e = depth_of (proc.Seq q r) (Proc-F.Seq q r) (forms.layer-Seq q r) in omega (arith, e)
+
+-- no process with a value put in is deeper than it was
+put_depths : (x : ℕ) (q : Proc) (atoms : List Atom) → greatest (map proc_depth (each_put x atoms q)) ≤ proc_depth q
+put_depths x q [] = omega arith
+put_depths x q (a ∷ atoms) = let e = put_depth x a q in let rest = put_depths x q atoms in omega (arith, e, rest)
+
+module _ (p : Content) where
+  -- a guard
+  pub guard_true : (trees : List Proc) (c : Expr) (id : ProcId) → id.0 < length trees → truth_in p c ≡ Ok true → AreThoseAt p trees id (proc.Guard c (tree_at trees id))
+  guard_true trees c id within h = record {
+    same = forms.steps-Guard p c (tree_at trees id) ∙ ap (λ o. and_then o (λ b. if b then steps_of p (tree_at trees id) else Ok [])) h;
+    within = within;
+    less = less-Guard c (tree_at trees id);
+  }
+
+  pub guard_false : (trees : List Proc) (c : Expr) (q : Proc) → truth_in p c ≡ Ok false → IsListing trees [] (steps_of p (proc.Guard c q))
+  guard_false trees c q h = record { same = forms.steps-Guard p c q ∙ ap (λ o. and_then o (λ b. if b then steps_of p q else Ok [])) h; within = refl }
+
+  pub guard_fault : (c : Expr) (q : Proc) (k : ValueKind) → truth_in p c ≡ Err k → steps_of p (proc.Guard c q) ≡ Err k
+  guard_fault c q k h = forms.steps-Guard p c q ∙ ap (λ o. and_then o (λ b. if b then steps_of p q else Ok [])) h
+
+  -- one of two processes
+  pub if_true : (trees : List Proc) (c : Expr) (id other : ProcId) → id.0 < length trees → truth_in p c ≡ Ok true → AreThoseAt p trees id (proc.If c (tree_at trees id) (tree_at trees other))
+  if_true trees c id other within h = record {
+    same = forms.steps-If p c (tree_at trees id) (tree_at trees other) ∙ ap (λ o. and_then o (λ b. if b then steps_of p (tree_at trees id) else steps_of p (tree_at trees other))) h;
+    within = within;
+    less = less-If c (tree_at trees id) (tree_at trees other);
+  }
+
+  pub if_false : (trees : List Proc) (c : Expr) (other id : ProcId) → id.0 < length trees → truth_in p c ≡ Ok false → AreThoseAt p trees id (proc.If c (tree_at trees other) (tree_at trees id))
+  if_false trees c other id within h = record {
+    same = forms.steps-If p c (tree_at trees other) (tree_at trees id) ∙ ap (λ o. and_then o (λ b. if b then steps_of p (tree_at trees other) else steps_of p (tree_at trees id))) h;
+    within = within;
+    less = less-If-second c (tree_at trees other) (tree_at trees id);
+  }
+
+  pub if_fault : (c : Expr) (q r : Proc) (k : ValueKind) → truth_in p c ≡ Err k → steps_of p (proc.If c q r) ≡ Err k
+  if_fault c q r k h = forms.steps-If p c q r ∙ ap (λ o. and_then o (λ b. if b then steps_of p q else steps_of p r)) h
+
+  -- choices
+  pub external : (trees : List Proc) (ids : List ProcId) → all_below (length trees) ids ≡ true → AreOfChoice p trees ids (proc.External (map (tree_at trees) ids))
+  external trees ids below = record { same = forms.steps-External p (map (tree_at trees) ids); within = below; less = less-External (map (tree_at trees) ids) }
+
+  pub each_external : (trees : List Proc) (ids : List ProcId) (x : ℕ) (s : Expr) (q : Proc) (atoms : List Atom) → set_in p s ≡ Ok atoms → AreAt trees ids (each_put x atoms q)
+      → AreOfChoice p trees ids (proc.EachExternal x s q)
+  each_external trees ids x s q atoms h at = record {
+    same = forms.steps-EachExternal p x s q ∙ (ap (λ o. and_then o (λ found. steps_of_choice p (steps_of p) (each_put x found q))) h ∙ ap (steps_of_choice p (steps_of p)) (sym at.same));
+    within = at.within;
+    less = let e = ap (λ ts. greatest (map proc_depth ts)) at.same in let f = less-EachExternal x s q in let g = put_depths x q atoms in omega (arith, e, f, g);
+  }
+
+  pub each_external_fault : (x : ℕ) (s : Expr) (q : Proc) (k : ValueKind) → set_in p s ≡ Err k → steps_of p (proc.EachExternal x s q) ≡ Err k
+  each_external_fault x s q k h = forms.steps-EachExternal p x s q ∙ ap (λ o. and_then o (λ found. steps_of_choice p (steps_of p) (each_put x found q))) h
+
+  -- silent steps to places
+  to_each_seen : (trees : List Proc) (ids : List ProcId) → map (seen trees) (map (λ id. record { label = Silent; to = id }) ids) ≡ silent_to (map (tree_at trees) ids)
+  to_each_seen trees [] = refl
+  to_each_seen trees (id ∷ ids) = ap (λ ms. (Silent, tree_at trees id) ∷ ms) (to_each_seen trees ids)
+
+  to_each_within : (count : ℕ) (ids : List ProcId) → all_below count ids ≡ true → all_within count (map (λ id. record { label = Silent; to = id }) ids) ≡ true
+  to_each_within count [] h = refl
+  to_each_within count (id ∷ ids) h =
+      both_so (nat_lt id.0 count) (all_within count (map (λ id. record { label = Silent; to = id }) ids)) (first_so (nat_lt id.0 count) (all_below count ids) h)
+      (to_each_within count ids (second_so (nat_lt id.0 count) (all_below count ids) h))
+
+  pub internal : (trees : List Proc) (ids : List ProcId) (steps : List StepTo) → steps ≡ map (λ id. record { label = Silent; to = id }) ids → all_below (length trees) ids ≡ true
+      → IsListing trees steps (steps_of p (proc.Internal (map (tree_at trees) ids)))
+  internal trees ids steps e below = record {
+    same = forms.steps-Internal p (map (tree_at trees) ids) ∙ ap (λ ms. Ok ms) (sym (ap (map (seen trees)) e ∙ to_each_seen trees ids));
+    within = ap (all_within (length trees)) e ∙ to_each_within (length trees) ids below;
+  }
+
+  some_of : (qs : List Proc) → 0 < length qs → some_silent_to qs ≡ Ok (silent_to qs)
+  some_of [] more = absurd (omega (arith, more))
+  some_of (q ∷ qs) more = refl
+
+  length_put : (x : ℕ) (atoms : List Atom) (q : Proc) → length (each_put x atoms q) ≡ length atoms
+  length_put x [] q = refl
+  length_put x (a ∷ atoms) q = ap suc (length_put x atoms q)
+
+  pub each_internal : (trees : List Proc) (ids : List ProcId) (steps : List StepTo) (x : ℕ) (s : Expr) (q : Proc) (atoms : List Atom) → set_in p s ≡ Ok atoms → 0 < length atoms
+      → AreAt trees ids (each_put x atoms q) → steps ≡ map (λ id. record { label = Silent; to = id }) ids → IsListing trees steps (steps_of p (proc.EachInternal x s q))
+  each_internal trees ids steps x s q atoms h more at e = record {
+    same = forms.steps-EachInternal p x s q ∙ (ap (λ o. and_then o (λ found. some_silent_to (each_put x found q))) h ∙
+        (some_of (each_put x atoms q) (let l = length_put x atoms q in omega (arith, l, more)) ∙
+        ap (λ ms. Ok ms) (ap silent_to (sym at.same) ∙ sym (ap (map (seen trees)) e ∙ to_each_seen trees ids))));
+    within = ap (all_within (length trees)) e ∙ to_each_within (length trees) ids at.within;
+  }
+
+  pub each_internal_none : (x : ℕ) (s : Expr) (q : Proc) (atoms : List Atom) → set_in p s ≡ Ok atoms → atoms ≡ [] → steps_of p (proc.EachInternal x s q) ≡ Err EmptyChoice
+  each_internal_none x s q atoms h e =
+      forms.steps-EachInternal p x s q ∙ (ap (λ o. and_then o (λ found. some_silent_to (each_put x found q))) h ∙ ap (λ found. some_silent_to (each_put x found q)) e)
+
+  pub each_internal_fault : (x : ℕ) (s : Expr) (q : Proc) (k : ValueKind) → set_in p s ≡ Err k → steps_of p (proc.EachInternal x s q) ≡ Err k
+  each_internal_fault x s q k h = forms.steps-EachInternal p x s q ∙ ap (λ o. and_then o (λ found. some_silent_to (each_put x found q))) h
+
+  -- a call
+  call_steps : (d : ℕ) (args : List Expr) (vs : List Value) → arguments_in p args ≡ Ok vs
+      → steps_of p (proc.Call d args) ≡ and_then (called (slice_get p.defs d) vs) (λ q. Ok ((Silent, q) ∷ []))
+  call_steps d args vs h =
+      forms.steps-Call p d args ∙ ap (λ o. and_then o (λ ws. and_then (called (slice_get p.defs d) ws) (λ q. Ok ((Silent, q) ∷ [])))) h
+
+  one_within : (trees : List Proc) (l : Label) (id : ProcId) → id.0 < length trees → all_within (length trees) (record { label = l; to = id } ∷ []) ≡ true
+  one_within trees l id within = both_so (nat_lt id.0 (length trees)) true (lt-ltb id.0 (length trees) within) refl
+
+  pub call : (trees : List Proc) (d : ℕ) (args : List Expr) (vs : List Value) (id : ProcId) → arguments_in p args ≡ Ok vs → IsPlaceOf trees id (called (slice_get p.defs d) vs)
+      → IsListing trees (record { label = Silent; to = id } ∷ []) (steps_of p (proc.Call d args))
+  call trees d args vs id h at = record {
+    same = call_steps d args vs h ∙ ap (λ o. and_then o (λ q. Ok ((Silent, q) ∷ []))) at.same;
+    within = one_within trees Silent id at.within;
+  }
+
+  pub call_fault : (d : ℕ) (args : List Expr) (vs : List Value) (k : ValueKind) → arguments_in p args ≡ Ok vs → called (slice_get p.defs d) vs ≡ Err k → steps_of p (proc.Call d args) ≡ Err k
+  call_fault d args vs k h e = call_steps d args vs h ∙ ap (λ o. and_then o (λ q. Ok ((Silent, q) ∷ []))) e
+
+  pub arguments_fault : (d : ℕ) (args : List Expr) (k : ValueKind) → arguments_in p args ≡ Err k → steps_of p (proc.Call d args) ≡ Err k
+  arguments_fault d args k h =
+      forms.steps-Call p d args ∙ ap (λ o. and_then o (λ ws. and_then (called (slice_get p.defs d) ws) (λ q. Ok ((Silent, q) ∷ [])))) h
+
+  -- a process that ends
+  pub skip : (trees : List Proc) (id : ProcId) → IsPlaceOf trees id (Ok proc.Ended) → IsListing trees (record { label = Tick; to = id } ∷ []) (steps_of p proc.Skip)
+  skip trees id at = record {
+    same = forms.steps-Skip p ∙ ap (λ o. and_then o (λ q. Ok ((Tick, q) ∷ []))) at.same;
+    within = one_within trees Tick id at.within;
+  }
+
+  pub stop : (trees : List Proc) → IsListing trees [] (steps_of p proc.Stop)
+  stop trees = record { same = forms.steps-Stop p; within = refl }
+
+  pub ended : (trees : List Proc) → IsListing trees [] (steps_of p proc.Ended)
+  ended trees = record { same = forms.steps-Ended p; within = refl }
+
+  -- a prefix
+  prefix_steps : (h : Head) (fields : List Field) (q : Proc) (choice : Choice) → of_head p h ≡ Ok choice
+      → steps_of p (proc.Prefix h fields q) ≡ filled [] choice.first (ways_to_fill p choice.sets fields q 0)
+  prefix_steps h fields q choice e =
+      forms.steps-Prefix p h fields q ∙
+      ap (λ o. and_then o (λ found. and_then (ways_to_fill p found.sets fields q 0) (λ ways. Ok (map (λ w. (Visible (found.first + w.0), w.1)) ways)))) e
+
+  pub prefix : (trees : List Proc) (steps : List StepTo) (h : Head) (fields : List Field) (q : Proc) (choice : Choice) → of_head p h ≡ Ok choice
+      → IsListing trees steps (filled [] choice.first (ways_to_fill p choice.sets fields q 0)) → IsListing trees steps (steps_of p (proc.Prefix h fields q))
+  prefix trees steps h fields q choice e is = record { same = prefix_steps h fields q choice e ∙ is.same; within = is.within }
+
+  pub prefix_fault : (h : Head) (fields : List Field) (q : Proc) (choice : Choice) (k : ValueKind) → of_head p h ≡ Ok choice
+      → filled [] choice.first (ways_to_fill p choice.sets fields q 0) ≡ Err k → steps_of p (proc.Prefix h fields q) ≡ Err k
+  prefix_fault h fields q choice k e is = prefix_steps h fields q choice e ∙ is
+
+  pub head_fault : (h : Head) (fields : List Field) (q : Proc) (k : ValueKind) → of_head p h ≡ Err k → steps_of p (proc.Prefix h fields q) ≡ Err k
+  head_fault h fields q k e =
+      forms.steps-Prefix p h fields q ∙
+      ap (λ o. and_then o (λ found. and_then (ways_to_fill p found.sets fields q 0) (λ ways. Ok (map (λ w. (Visible (found.first + w.0), w.1)) ways)))) e
+
+  -- operators round one process
+  pub hide : (trees : List Proc) (id : ProcId) (s : Expr) → id.0 < length trees → AreAround p trees id (proc.Hide (tree_at trees id) s)
+  hide trees id s within = record {
+    same = forms.steps-Hide p (tree_at trees id) s ∙ ap (λ d. and_then (steps_of p (tree_at trees id)) (around_layer p d)) (sym (forms.layer-Hide (tree_at trees id) s));
+    within = within;
+    less = less-Hide (tree_at trees id) s;
+  }
+
+  pub rename : (trees : List Proc) (id : ProcId) (pairs : List (EventPart × EventPart)) (gens : List Gen) → id.0 < length trees → AreAround p trees id (proc.Rename (tree_at trees id) pairs gens)
+  rename trees id pairs gens within = record {
+    same = forms.steps-Rename p (tree_at trees id) pairs gens ∙ ap (λ d. and_then (steps_of p (tree_at trees id)) (around_layer p d)) (sym (forms.layer-Rename (tree_at trees id) pairs gens));
+    within = within;
+    less = less-Rename (tree_at trees id) pairs gens;
+  }
+
+  pub sequence : (trees : List Proc) (id : ProcId) (r : Proc) → id.0 < length trees → AreAround p trees id (proc.Seq (tree_at trees id) r)
+  sequence trees id r within = record {
+    same = forms.steps-Seq p (tree_at trees id) r ∙ ap (λ d. and_then (steps_of p (tree_at trees id)) (around_layer p d)) (sym (forms.layer-Seq (tree_at trees id) r));
+    within = within;
+    less = less-Seq (tree_at trees id) r;
+  }
+
+  -- a look at a node is one at the process there
+  pub look_at : (trees new : List Proc) (r : Result Look EvalFault) (n m : Node) (t : Proc) → tree_of trees n ≡ t → n ≡ m → GivesLook p new r (tree_of trees m) → GivesLook p new r t
+  look_at trees new r n m t e is h = subst (GivesLook p new r) (ap (tree_of trees) (sym is) ∙ e) h
+
+-- the places of a node
+pub first_place : (count size : ℕ) (n m : Node) (q : ProcId) (rest : List ProcId) → places_below count n ≡ true → count < size → n ≡ m → places m ≡ q ∷ rest → q.0 < size
+first_place count size n m q rest h lt is e =
+    let below : all_below count (q ∷ rest) ≡ true = ap (all_below count) (sym e) ∙ (ap (places_below count) (sym is) ∙ h) in
+    let less : q.0 < count = ltb-true q.0 count (first_so (nat_lt q.0 count) (all_below count rest) below) in
+    omega (arith, less, lt)
+
+pub second_place : (count size : ℕ) (n m : Node) (q r : ProcId) → places_below count n ≡ true → count < size → n ≡ m → places m ≡ q ∷ r ∷ [] → r.0 < size
+second_place count size n m q r h lt is e =
+    let below : all_below count (q ∷ r ∷ []) ≡ true = ap (all_below count) (sym e) ∙ (ap (places_below count) (sym is) ∙ h) in
+    let rest : all_below count (r ∷ []) ≡ true = second_so (nat_lt q.0 count) (all_below count (r ∷ [])) below in
+    let less : r.0 < count = ltb-true r.0 count (first_so (nat_lt r.0 count) (all_below count []) rest) in
+    omega (arith, less, lt)
+
+pub every_place : (count size : ℕ) (n m : Node) (qs : List ProcId) → places_below count n ≡ true → count < size → n ≡ m → places m ≡ qs → all_below size qs ≡ true
+every_place count size n m qs h lt is e = all_below_more count size (omega (arith, lt)) qs (ap (all_below count) (sym e) ∙ (ap (places_below count) (sym is) ∙ h))

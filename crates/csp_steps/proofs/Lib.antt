@@ -1,0 +1,9 @@
+pub mod Choosing
+pub mod Computing
+pub mod Doubles
+pub mod Entering
+pub mod Filling
+pub mod Forms
+pub mod Looking
+pub mod Places
+pub mod Rounds

@@ -1,0 +1,13 @@
+use Rattle.std.proofs.Common.{map, take}
+use Rattle.process_steps.specs.StepList.{in_sequence}
+use Rattle.term_pool.specs.Pooled.{IsFront}
+use Rattle.term_pool.specs.Trees.{tree_at}
+use Rattle.csp_steps.specs.Computed.{AreMoves}
+use Rattle.csp_steps.specs.Listed.{seen}
+use Rattle.csp_steps.proofs.around.sequence.Given as goal
+
+abbrev pub invariant-loop-step : goal.invariant-loop-step
+invariant-loop-step l = record {
+  front : IsFront l.initial.pool l.pool;
+  moves : AreMoves l.pool l.steps (map (λ m. in_sequence (tree_at l.initial.pool l.second) m.0 m.1) (map (seen l.initial.pool) (take l.step-index l.below)));
+}

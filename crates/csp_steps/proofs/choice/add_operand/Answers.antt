@@ -1,0 +1,34 @@
+use Rattle.std.proofs.Common.{◌≡◌, ◌++◌, List, [], map, refl, sym, ◌∙◌, subst, arith, append-nil}
+use Rattle.process_steps.specs.StepList.{in_choice}
+use Rattle.term_pool.specs.Trees.{tree_at}
+use Rattle.csp_steps.specs.Listed.{seen}
+use Rattle.csp_steps.proofs.Computing.{whole_moves}
+use Rattle.csp_steps.proofs.Places.{all_below_stay, front_both, front_same}
+use Rattle.csp_steps.proofs.Rounds.{choice_next, step_in}
+use Rattle.csp_steps.proofs.choice.add_operand.Goals as goal
+
+pub loop-step-init : goal.loop-step-init
+loop-step-init c = record {
+  front = front_same c.args.pool.now;
+  moves = record { same = sym (append-nil (map (seen c.args.pool.now) c.args.steps)); within = c.requires.steps };
+}
+
+pub in_choice-requires : goal.in_choice-requires
+in_choice-requires c = record {
+  operands = all_below_stay c.args.pool.now c.loop-step.pool c.loop-step.invariant.front c.args.ids.now c.requires.operands;
+  index = c.requires.index;
+  within = step_in c.args.pool.now c.loop-step.pool c.loop-step.pool c.loop-step.invariant.front (front_same c.loop-step.pool) c.args.below.now c.requires.below c.loop-step.step-index c.step-item.result (omega arith) c.step-item.is;
+}
+
+pub loop-step-preserved : goal.loop-step-preserved
+loop-step-preserved c = record {
+  front = front_both c.args.pool.now c.loop-step.pool c.in_choice.new.pool c.loop-step.invariant.front c.in_ok-made.ensures.front;
+  moves = choice_next c.args.pool.now c.loop-step.pool c.in_choice.new.pool c.loop-step.invariant.front c.in_ok-made.ensures.front c.args.below.now c.requires.below
+      c.loop-step.step-index c.step-item.result (omega arith) c.step-item.is c.args.ids.now c.requires.operands c.args.index (map (seen c.args.pool.now) c.args.steps) c.loop-step.steps c.push.new.self c.in_ok-made.made
+      c.loop-step.invariant.moves c.in_ok-made.ensures.move_ c.in_ok-push.ensures.ok;
+}
+
+pub returns-clause-steps : goal.returns-clause-steps
+returns-clause-steps c =
+    whole_moves c.args.pool.now c.loop-step.pool (λ m. in_choice (map (tree_at c.args.pool.now) c.args.ids.now) c.args.index m.0 m.1) (map (seen c.args.pool.now) c.args.steps) c.args.below.now c.loop-step.steps c.loop-step.step-index (omega arith)
+    c.loop-step.invariant.moves

@@ -1,0 +1,27 @@
+use Rattle.std.proofs.Common.{◌≡◌, List, [], refl, sym, subst, arith}
+use Rattle.term_pool.specs.Trees.{tree_at}
+use Rattle.term_pool.specs.declared.node.ProcId.{ProcId}
+use Rattle.csp_steps.specs.Computed.{AreAt}
+use Rattle.csp_steps.proofs.Choosing.{all_put, next_put}
+use Rattle.csp_steps.proofs.Places.{front_both, front_same, still_within}
+use Rattle.csp_steps.proofs.choice.each_put.Goals as goal
+
+pub loop-atom-init : goal.loop-atom-init
+loop-atom-init c = record {
+  front = front_same c.args.pool.now;
+  places = subst (λ (qs : List ProcId). AreAt c.args.pool.now qs []) (sym c.new-ids.ensures) (record { same = refl; within = refl });
+}
+
+pub substitute-requires : goal.substitute-requires
+substitute-requires c = still_within c.args.pool.now c.loop-atom.pool c.loop-atom.invariant.front c.args.id c.requires.within
+
+pub loop-atom-preserved : goal.loop-atom-preserved
+loop-atom-preserved c = record {
+  front = front_both c.args.pool.now c.loop-atom.pool c.substitute.new.self c.loop-atom.invariant.front c.in_ok-made.ensures.front;
+  places = next_put c.args.pool.now c.loop-atom.pool c.substitute.new.self c.loop-atom.invariant.front c.in_ok-made.ensures.front c.args.id c.requires.within c.args.name c.args.atoms.now
+      c.loop-atom.atom-index c.atom-item.result (omega arith) c.atom-item.is c.loop-atom.ids c.push.new.self c.in_ok-made.made c.loop-atom.invariant.places c.in_ok-made.ensures.process c.in_ok-push.ensures.ok;
+}
+
+pub returns-clause-places : goal.returns-clause-places
+returns-clause-places c =
+    all_put c.loop-atom.pool c.args.name c.args.atoms.now (tree_at c.args.pool.now c.args.id) c.loop-atom.ids c.loop-atom.atom-index (omega arith) c.loop-atom.invariant.places

@@ -1,0 +1,6 @@
+use Rattle.std.proofs.Common.{◌≡◌, map, take}
+use Rattle.process_steps.specs.declared.label.Label.TheVariants.{Silent}
+use Rattle.csp_steps.proofs.choice.silent_to.Given as goal
+
+abbrev pub invariant-loop-id : goal.invariant-loop-id
+invariant-loop-id l = l.steps ≡ map (λ id. record { label = Silent; to = id }) (take l.id-index l.ids)

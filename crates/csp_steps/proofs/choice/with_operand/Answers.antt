@@ -1,0 +1,15 @@
+use Rattle.std.proofs.Common.{Some, List, length, map, ap, ◌∙◌}
+use Rattle.csp_program.specs.declared.processes.Proc.{Proc}
+use Rattle.csp_program.specs.declared.processes.Proc.TheVariants as proc
+use Rattle.term_pool.specs.Trees.{all_below, tree_at}
+use Rattle.csp_steps.proofs.Choosing.{below_other, with_other}
+use Rattle.csp_steps.proofs.choice.with_operand.Goals as goal
+
+pub put_node-requires : goal.put_node-requires
+put_node-requires c =
+    ap (all_below (length c.args.pool.now)) c.in_ok-operands.ensures ∙ below_other (length c.args.pool.now) c.args.ids.now c.args.index c.args.id c.requires.operands c.requires.within
+
+pub returns-clause-process : goal.returns-clause-process
+returns-clause-process c =
+    c.in_ok-made.ensures.process ∙
+    ap (λ (ts : List Proc). Some (proc.External ts)) (ap (map (tree_at c.args.pool.now)) c.in_ok-operands.ensures ∙ with_other c.args.pool.now c.args.ids.now c.args.index c.args.id)

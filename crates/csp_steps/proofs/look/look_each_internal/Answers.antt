@@ -1,0 +1,28 @@
+use Rattle.std.proofs.Common.{◌≡◌, ℕ, ◌<◌, Bool, false, List, [], ◌∷◌, length, map, ap, sym, ◌∙◌, arith}
+use Rattle.std.proofs.lemmas.Bool.{eqb-true}
+use Rattle.std.specs.Prelude.{nat_eq}
+use Rattle.csp_atoms.specs.declared.atom.Atom.{Atom}
+use Rattle.csp_values.proofs.Steps.{nothing}
+use Rattle.process_steps.specs.declared.label.Label.TheVariants.{Silent}
+use Rattle.term_pool.specs.Trees.{tree_at}
+use Rattle.term_pool.specs.declared.node.ProcId.{ProcId}
+use Rattle.csp_steps.proofs.Forms.{each_internal, each_internal_none}
+use Rattle.csp_steps.specs.declared.step.StepTo.{StepTo}
+use Rattle.csp_steps.proofs.look.look_each_internal.Goals as goal
+
+some_there : (atoms : List Atom) (b : Bool) → b ≡ nat_eq (length atoms) 0 → b ≡ false → 0 < length atoms
+some_there [] b h e = cc
+some_there (a ∷ atoms) b h e = omega arith
+
+to_id : ProcId → StepTo
+to_id id = record { label = Silent; to = id }
+
+pub returns-then-is_empty-clause-look : goal.returns-then-is_empty-clause-look
+returns-then-is_empty-clause-look c =
+    λ p s e. each_internal_none p c.args.name s (tree_at c.args.pool.now c.args.id) c.args.atoms.now e (nothing c.args.atoms.now (eqb-true (length c.args.atoms.now) 0 (sym c.is_empty.ensures ∙ c.if-is_empty.true)))
+
+pub returns-clause-look : goal.returns-clause-look
+unfolding to_id
+returns-clause-look c =
+    λ p s e. each_internal p c.each_put.new.pool c.in_ok-ids.ids c.in_ok-steps.steps c.args.name s (tree_at c.args.pool.now c.args.id) c.args.atoms.now e
+    (some_there c.args.atoms.now c.is_empty.result c.is_empty.ensures c.if-is_empty.false) c.in_ok-ids.ensures.places (c.in_ok-steps.ensures ∙ ap (map to_id) c.as_slice.ensures)

@@ -1,0 +1,13 @@
+use Rattle.std.proofs.Common.{List, sym, subst}
+use Rattle.csp_program.specs.declared.processes.Proc.TheVariants as proc
+use Rattle.process_steps.specs.StepList.{steps_of}
+use Rattle.csp_steps.specs.Computed.{IsListing}
+use Rattle.csp_steps.specs.declared.step.StepTo.{StepTo}
+use Rattle.csp_steps.proofs.Forms.{skip}
+use Rattle.csp_steps.proofs.Places.{found}
+use Rattle.csp_steps.proofs.look.look_skip.Goals as goal
+
+pub returns-clause-look : goal.returns-clause-look
+returns-clause-look c =
+    λ p. subst (λ (ss : List StepTo). IsListing c.put_ended.new.pool ss (steps_of p proc.Skip)) (sym c.in_ok-steps.ensures)
+    (skip p c.put_ended.new.pool c.in_ok-to.to (found c.put_ended.new.pool c.in_ok-to.to proc.Ended c.in_ok-to.ensures.process))

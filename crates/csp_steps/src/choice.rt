@@ -1,0 +1,137 @@
+//! Choices between processes at places of a pool.
+
+ghost use Rattle.std.specs.Prelude.{◌≡◌, ◌<◌, ◌++◌, true, length, map, slice_get, slice_set, IfOk, Some};
+ghost use Rattle.csp_program.specs.declared.processes.Proc.TheVariants as proc;
+ghost use Rattle.process_steps.specs.Step as meant;
+ghost use Rattle.process_steps.specs.StepList as lists;
+ghost use Rattle.term_pool.specs.Pooled.{IsFront};
+ghost use Rattle.term_pool.specs.Trees.{all_below, tree_at};
+ghost use Rattle.csp_steps.specs.Computed.{all_within, AreAt, AreMoves, IsMove};
+ghost use Rattle.csp_steps.specs.Listed.{seen};
+
+use crate::step::StepTo;
+use containers::Items;
+use csp_atoms::{Atom, Value};
+use csp_base::NoMemory;
+use process_steps::Label;
+use std::alloc::Global;
+use term_pool::{Node, Pool, ProcId};
+
+/// The places of what the process at `id` is with each of the atoms in place of the name.
+pub(crate) fn each_put(
+    alloc: Global,
+    pool: &mut Pool,
+    name: u32,
+    atoms: &[Atom],
+    id: ProcId,
+) -> Result<Items<ProcId>, NoMemory>
+    requires within { id.0 < length pool.old }
+    ensures places { IfOk result (λ ids. AreAt pool.new ids (meant.each_put name atoms.now (tree_at pool.old id))) }
+    ensures front { IsFront pool.old pool.new }
+{
+    let mut ids = Items::new(alloc);
+    for atom in atoms {
+        let made = pool.substitute(id, name, &Value::One(*atom))?;
+        ids.push(made)?;
+    }
+    Ok(ids)
+}
+
+// The places with another one at an index.
+fn with_place(
+    alloc: Global,
+    ids: &[ProcId],
+    index: usize,
+    id: ProcId,
+) -> Result<Items<ProcId>, NoMemory>
+    requires within { index < length ids.now }
+    ensures { IfOk result (λ made. made ≡ slice_set ids.now index id) }
+{
+    let mut made = Vec::from_slice(alloc, ids)?;
+    made[index] = id;
+    Ok(Items::from_vec(made))
+}
+
+// The place of the choice in which another process is the operand at an index.
+fn with_operand(
+    alloc: Global,
+    pool: &mut Pool,
+    ids: &[ProcId],
+    index: usize,
+    id: ProcId,
+) -> Result<ProcId, NoMemory>
+    requires operands { all_below (length pool.old) ids.now ≡ true }
+    requires index { index < length ids.now }
+    requires within { id.0 < length pool.old }
+    ensures process { IfOk result (λ made. slice_get pool.new made.0 ≡ Some (proc.External (slice_set (map (tree_at pool.old) ids.now) index (tree_at pool.old id)))) }
+    ensures front { IsFront pool.old pool.new }
+{
+    let operands = with_place(alloc, ids, index, id)?;
+    let made = pool.put_node(Node::External(operands))?;
+    Ok(made)
+}
+
+// What a step of an operand makes of the choice.
+fn in_choice(
+    alloc: Global,
+    pool: &mut Pool,
+    ids: &[ProcId],
+    index: usize,
+    step: StepTo,
+) -> Result<StepTo, NoMemory>
+    requires operands { all_below (length pool.old) ids.now ≡ true }
+    requires index { index < length ids.now }
+    requires within { step.to.0 < length pool.old }
+    ensures move_ { IfOk result (λ made. IsMove pool.new made (lists.in_choice (map (tree_at pool.old) ids.now) index step.label (tree_at pool.old step.to))) }
+    ensures front { IsFront pool.old pool.new }
+{
+    match step.label {
+        Label::Silent => {
+            let to = with_operand(alloc, pool, ids, index, step.to)?;
+            Ok(StepTo {
+                label: Label::Silent,
+                to,
+            })
+        }
+        Label::Visible(_) => Ok(step),
+        Label::Tick => Ok(step),
+    }
+}
+
+/// Steps, and after them what those of the operand at an index make of the choice.
+pub(crate) fn add_operand(
+    alloc: Global,
+    pool: &mut Pool,
+    ids: &[ProcId],
+    index: usize,
+    below: &[StepTo],
+    steps: Items<StepTo>,
+) -> Result<Items<StepTo>, NoMemory>
+    requires operands { all_below (length pool.old) ids.now ≡ true }
+    requires index { index < length ids.now }
+    requires below { all_within (length pool.old) below.now ≡ true }
+    requires steps { all_within (length pool.old) steps ≡ true }
+    ensures steps { IfOk result (λ made. AreMoves pool.new made (map (seen pool.old) steps ++ map (λ m. lists.in_choice (map (tree_at pool.old) ids.now) index m.0 m.1) (map (seen pool.old) below.now))) }
+    ensures front { IsFront pool.old pool.new }
+{
+    let mut steps = steps;
+    for step in below {
+        let made = in_choice(alloc, pool, ids, index, *step)?;
+        steps.push(made)?;
+    }
+    Ok(steps)
+}
+
+/// A silent step to each of the places.
+pub(crate) fn silent_to(alloc: Global, ids: &[ProcId]) -> Result<Items<StepTo>, NoMemory>
+    ensures { IfOk result (λ steps. steps ≡ map (λ id. record { label = Label.Silent; to = id }) ids.now) }
+{
+    let mut steps = Items::new(alloc);
+    for id in ids {
+        steps.push(StepTo {
+            label: Label::Silent,
+            to: *id,
+        })?;
+    }
+    Ok(steps)
+}

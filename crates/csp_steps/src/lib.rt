@@ -1,0 +1,14 @@
+//! The steps of the processes of a pool, computed.
+#![tactic(auto)]
+
+mod around;
+mod choice;
+mod entered;
+mod look;
+mod once;
+mod prefix;
+mod step;
+mod steps;
+
+pub use step::StepTo;
+pub use steps::steps_in;

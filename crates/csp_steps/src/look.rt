@@ -1,0 +1,229 @@
+//! What the steps of a process come from.
+
+ghost use Rattle.std.specs.Prelude.{◌≡◌, ◌<◌, ◌∷◌, [], true, length, map, List, Ok, IfOk};
+ghost use Rattle.csp_program.specs.declared.expressions.Expr.{Expr as Expression};
+ghost use Rattle.csp_program.specs.declared.processes.Head.{Head as LogicHead};
+ghost use Rattle.csp_program.specs.declared.processes.Proc.{Proc as Process};
+ghost use Rattle.csp_program.specs.declared.processes.Proc.TheVariants as proc;
+ghost use Rattle.csp_program.specs.declared.programs.Content.{Content};
+ghost use Rattle.process_steps.specs.Needed as need;
+ghost use Rattle.process_steps.specs.Prefix as meant;
+ghost use Rattle.term_pool.specs.Pooled.{IsFront};
+ghost use Rattle.term_pool.specs.Trees.{all_below, tree_at};
+ghost use Rattle.csp_steps.specs.Computed.{GivesLook};
+ghost use Rattle.step_values.specs.Starts.{choice_in};
+
+use crate::around::put_ended;
+use crate::choice::{each_put, silent_to};
+use crate::entered::enter;
+use crate::prefix::prefix_steps;
+use crate::step::StepTo;
+use containers::Items;
+use csp_atoms::{Atom, Value};
+use csp_base::NoMemory;
+use csp_program::copies::copy_fields;
+use csp_program::{Expr, Field, Program, ValueKind};
+use csp_values::EvalFault;
+use process_steps::Label;
+use std::alloc::Global;
+use step_values::{Start, arguments_in, of_head, set_in, truth_in};
+use term_pool::{Node, Pool, ProcId};
+
+const EMPTY_CHOICE: EvalFault = EvalFault::Value {
+    kind: ValueKind::EmptyChoice,
+};
+
+/// What the steps of a process come from.
+#[derive(Drop)]
+pub(crate) enum Look {
+    /// They are these.
+    Steps(Items<StepTo>),
+    /// They are those of the process at the place.
+    Same(ProcId),
+    /// They are those of the choice between the processes at the places.
+    Choice(Items<ProcId>),
+    /// They are made of those of the process at the place.
+    Around(ProcId),
+}
+
+// One step.
+fn one_step(alloc: Global, label: Label, to: ProcId) -> Result<Items<StepTo>, NoMemory>
+    ensures { IfOk result (λ made. made ≡ record { label = label; to = to } ∷ []) }
+{
+    let mut steps = Items::new(alloc);
+    steps.push(StepTo { label, to })?;
+    Ok(steps)
+}
+
+// A guard.
+fn look_guard(alloc: Global, program: &Program, c: &Expr, id: ProcId) -> Result<Look, EvalFault>
+    ensures { (trees : List Process) → id.0 < length trees → GivesLook program.now trees result (proc.Guard c.now (tree_at trees id)) }
+{
+    let holds = truth_in(alloc, program, c)?;
+    if holds {
+        return Ok(Look::Same(id));
+    }
+    let none = Items::new(alloc);
+    Ok(Look::Steps(none))
+}
+
+// One of two processes.
+fn look_if(
+    alloc: Global,
+    program: &Program,
+    c: &Expr,
+    first: ProcId,
+    second: ProcId,
+) -> Result<Look, EvalFault>
+    ensures { (trees : List Process) → first.0 < length trees → second.0 < length trees → GivesLook program.now trees result (proc.If c.now (tree_at trees first) (tree_at trees second)) }
+{
+    let holds = truth_in(alloc, program, c)?;
+    if holds {
+        return Ok(Look::Same(first));
+    }
+    Ok(Look::Same(second))
+}
+
+// A choice that the process makes by itself.
+fn look_internal(alloc: Global, ids: &[ProcId]) -> Result<Look, EvalFault>
+    ensures { (trees : List Process) → (p : Content) → all_below (length trees) ids.now ≡ true → GivesLook p trees result (proc.Internal (map (tree_at trees) ids.now)) }
+{
+    let steps = silent_to(alloc, ids)?;
+    Ok(Look::Steps(steps))
+}
+
+// A process that ends.
+fn look_skip(alloc: Global, pool: &mut Pool) -> Result<Look, EvalFault>
+    ensures look { (p : Content) → GivesLook p pool.new result proc.Skip }
+    ensures front { IsFront pool.old pool.new }
+{
+    let to = put_ended(pool)?;
+    let steps = one_step(alloc, Label::Tick, to)?;
+    Ok(Look::Steps(steps))
+}
+
+// A prefix whose head stands for the events from `start` on.
+fn look_prefix(
+    alloc: Global,
+    program: &Program,
+    pool: &mut Pool,
+    start: &Start<'_>,
+    fields: &[Field],
+    id: ProcId,
+) -> Result<Look, EvalFault>
+    requires within { id.0 < length pool.old }
+    ensures look { (head : LogicHead) → meant.of_head program.now head ≡ Ok (choice_in start.now) → GivesLook program.now pool.new result (proc.Prefix head fields.now (tree_at pool.old id)) }
+    ensures front { IsFront pool.old pool.new }
+{
+    let steps = prefix_steps(alloc, program, pool, start, fields, id)?;
+    Ok(Look::Steps(steps))
+}
+
+// A choice between what a process is with each value of a set.
+fn look_each_external(
+    alloc: Global,
+    pool: &mut Pool,
+    name: u32,
+    atoms: &[Atom],
+    id: ProcId,
+) -> Result<Look, EvalFault>
+    requires within { id.0 < length pool.old }
+    ensures look { (p : Content) → (s : Expression) → need.set_in p s ≡ Ok atoms.now → GivesLook p pool.new result (proc.EachExternal name s (tree_at pool.old id)) }
+    ensures front { IsFront pool.old pool.new }
+{
+    let ids = each_put(alloc, pool, name, atoms, id)?;
+    Ok(Look::Choice(ids))
+}
+
+// The same of a choice that the process makes by itself, which isn't there over the empty set.
+fn look_each_internal(
+    alloc: Global,
+    pool: &mut Pool,
+    name: u32,
+    atoms: &[Atom],
+    id: ProcId,
+) -> Result<Look, EvalFault>
+    requires within { id.0 < length pool.old }
+    ensures look { (p : Content) → (s : Expression) → need.set_in p s ≡ Ok atoms.now → GivesLook p pool.new result (proc.EachInternal name s (tree_at pool.old id)) }
+    ensures front { IsFront pool.old pool.new }
+{
+    if atoms.is_empty() {
+        return Err(EMPTY_CHOICE);
+    }
+    let ids = each_put(alloc, pool, name, atoms, id)?;
+    let steps = silent_to(alloc, ids.as_slice())?;
+    Ok(Look::Steps(steps))
+}
+
+// A call.
+fn look_call(
+    alloc: Global,
+    program: &Program,
+    pool: &mut Pool,
+    def: u32,
+    values: &[Value],
+) -> Result<Look, EvalFault>
+    ensures look { (args : List Expression) → need.arguments_in program.now args ≡ Ok values.now → GivesLook program.now pool.new result (proc.Call def args) }
+    ensures front { IsFront pool.old pool.new }
+{
+    let to = enter(program, pool, def, values)?;
+    let steps = one_step(alloc, Label::Silent, to)?;
+    Ok(Look::Steps(steps))
+}
+
+/// What the steps of the process at a place come from. What they lead to is put into the pool.
+pub(crate) fn look_at(
+    alloc: Global,
+    program: &Program,
+    pool: &mut Pool,
+    id: ProcId,
+) -> Result<Look, EvalFault>
+    requires within { id.0 < length pool.old }
+    ensures look { GivesLook program.now pool.new result (tree_at pool.old id) }
+    ensures front { IsFront pool.old pool.new }
+{
+    match pool.node(id) {
+        Node::Stop => {
+            let none = Items::new(alloc);
+            Ok(Look::Steps(none))
+        }
+        Node::Ended => {
+            let none = Items::new(alloc);
+            Ok(Look::Steps(none))
+        }
+        Node::Skip => look_skip(alloc, pool),
+        Node::Guard(c, below) => look_guard(alloc, program, c, *below),
+        Node::If(c, first, second) => look_if(alloc, program, c, *first, *second),
+        Node::Internal(ids) => look_internal(alloc, ids.as_slice()),
+        Node::External(ids) => {
+            let ids = Items::from_slice(alloc, ids.as_slice())?;
+            Ok(Look::Choice(ids))
+        }
+        Node::Hide(below, _) => Ok(Look::Around(*below)),
+        Node::Rename(below, _, _) => Ok(Look::Around(*below)),
+        Node::Seq(first, _) => Ok(Look::Around(*first)),
+        Node::Prefix(head, fields, to) => {
+            let to = *to;
+            let start = of_head(program, head)?;
+            let fields = copy_fields(alloc, fields.as_slice())?;
+            look_prefix(alloc, program, pool, &start, fields.as_slice(), to)
+        }
+        Node::EachExternal(name, set, below) => {
+            let name = *name;
+            let below = *below;
+            let atoms = set_in(alloc, program, set)?;
+            look_each_external(alloc, pool, name, atoms.as_slice(), below)
+        }
+        Node::EachInternal(name, set, below) => {
+            let name = *name;
+            let below = *below;
+            let atoms = set_in(alloc, program, set)?;
+            look_each_internal(alloc, pool, name, atoms.as_slice(), below)
+        }
+        Node::Call(def, args) => {
+            let def = *def;
+            let values = arguments_in(alloc, program, args.as_slice())?;
+            look_call(alloc, program, pool, def, values.as_slice())
+        }
+    }
+}

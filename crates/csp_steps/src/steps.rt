@@ -1,0 +1,81 @@
+//! The steps of a process of a pool.
+
+ghost use Rattle.std.specs.Prelude.{◌≡◌, ◌<◌, true, length, map, IfOk};
+ghost use Rattle.process_steps.specs.StepList.{steps_of, steps_of_choice};
+ghost use Rattle.term_pool.specs.Pooled.{IsFront};
+ghost use Rattle.term_pool.specs.Trees.{all_below, tree_at};
+ghost use Rattle.csp_steps.specs.Computed.{GivesMoves};
+ghost use Rattle.csp_steps.specs.Listed.{AreStepsOf, FaultIs};
+
+use crate::around::around;
+use crate::choice::add_operand;
+use crate::look::{Look, look_at};
+use crate::once::once;
+use crate::step::StepTo;
+use containers::Items;
+use csp_program::Program;
+use csp_values::EvalFault;
+use std::alloc::Global;
+use term_pool::{Pool, ProcId};
+
+// The steps of the process at a place, with doubles.
+#[cycle(steps_at)]
+fn steps_at(
+    alloc: Global,
+    program: &Program,
+    pool: &mut Pool,
+    id: ProcId,
+) -> Result<Items<StepTo>, EvalFault>
+    requires within { id.0 < length pool.old }
+    ensures steps { GivesMoves pool.new result (steps_of program.now (tree_at pool.old id)) }
+    ensures front { IsFront pool.old pool.new }
+{
+    let found = look_at(alloc, program, pool, id)?;
+    match found {
+        Look::Steps(steps) => Ok(steps),
+        Look::Same(same) => steps_at(alloc, program, pool, same),
+        Look::Choice(ids) => steps_of_operands(alloc, program, pool, ids.as_slice()),
+        Look::Around(below) => {
+            let below = steps_at(alloc, program, pool, below)?;
+            around(alloc, program, pool, id, below.as_slice())
+        }
+    }
+}
+
+// The steps of the choice between the processes at the places.
+#[cycle(steps_at)]
+fn steps_of_operands(
+    alloc: Global,
+    program: &Program,
+    pool: &mut Pool,
+    ids: &[ProcId],
+) -> Result<Items<StepTo>, EvalFault>
+    requires within { all_below (length pool.old) ids.now ≡ true }
+    ensures steps { GivesMoves pool.new result (steps_of_choice program.now (steps_of program.now) (map (tree_at pool.old) ids.now)) }
+    ensures front { IsFront pool.old pool.new }
+{
+    let mut steps = Items::new(alloc);
+    for (index, id) in ids.iter().enumerate() {
+        let below = steps_at(alloc, program, pool, *id)?;
+        steps = add_operand(alloc, pool, ids, index, below.as_slice(), steps)?;
+    }
+    Ok(steps)
+}
+
+/// The steps of the process at a place of the pool, each once. The processes after them are put into the pool. A fault of kind `Value` comes only where
+/// the process has no list of steps for want of a value, with the kind of the first value that there isn't.
+pub fn steps_in(
+    alloc: Global,
+    program: &Program,
+    pool: &mut Pool,
+    id: ProcId,
+) -> Result<Vec<StepTo>, EvalFault>
+    requires within { id.0 < length pool.old }
+    ensures steps { IfOk result (λ steps. AreStepsOf program.now pool.new (tree_at pool.old id) steps.items) }
+    ensures front { IsFront pool.old pool.new }
+    ensures fault { FaultIs result (steps_of program.now (tree_at pool.old id)) }
+{
+    let listed = steps_at(alloc, program, pool, id)?;
+    let steps = once(alloc, listed.as_slice())?;
+    Ok(steps)
+}

@@ -1,0 +1,4 @@
+pub mod Lists
+pub mod Naming
+pub mod Pairs
+pub mod Walking

@@ -1,0 +1,120 @@
+-- Lists that are made one element after another, and chains of outcomes.
+use Rattle.std.proofs.Common.{◌≡◌, ℕ, zero, suc, ◌+◌, ◌<◌, ◌≤◌, Ok, Err, Some, List, [], ◌∷◌, ◌++◌, map, length, get_or, take, drop, refl, ap, sym, ◌∙◌, subst, arith, append_assoc, append-nil}
+use Rattle.std.proofs.lemmas.List.{take_more}
+use Rattle.csp_program.specs.Lists.{joined}
+use Rattle.csp_program.specs.Outcome.{Outcome, and_then}
+use Rattle.csp_program.specs.declared.kinds.ValueKind.{ValueKind}
+use Rattle.csp_values.proofs.Steps.{left_of, nothing_left}
+use Rattle.process_steps.specs.Needed.{all_outcomes, each_joined}
+
+-- the first elements of a list
+pub taken : {A : Type 0} (xs : List A) (i : ℕ) (x : A) → i < length xs → x ≡ get_or xs i x → take (i + 1) xs ≡ take i xs ++ x ∷ []
+taken xs i x lt is = take_more xs i x lt ∙ ap (λ y. take i xs ++ y ∷ []) (sym is)
+
+pub taken_whole : {A : Type 0} (xs : List A) (i : ℕ) → length xs ≤ i → take i xs ≡ xs
+taken_whole [] zero past = refl
+taken_whole [] (suc i) past = refl
+taken_whole (x ∷ xs) zero past = absurd (omega (arith, past))
+taken_whole (x ∷ xs) (suc i) past = ap (λ ys. x ∷ ys) (taken_whole xs i (omega (arith, past)))
+
+pub map_push : {A B : Type 0} (f : A → B) (xs : List A) (x : A) → map f (xs ++ x ∷ []) ≡ map f xs ++ f x ∷ []
+map_push f [] x = refl
+map_push f (y ∷ ys) x = ap (λ zs. f y ∷ zs) (map_push f ys x)
+
+pub map_join : {A B : Type 0} (f : A → B) (xs ys : List A) → map f (xs ++ ys) ≡ map f xs ++ map f ys
+map_join f [] ys = refl
+map_join f (x ∷ xs) ys = ap (λ zs. f x ∷ zs) (map_join f xs ys)
+
+pub joined_push : {A : Type 0} (xss : List (List A)) (xs : List A) → joined (xss ++ xs ∷ []) ≡ joined xss ++ xs
+joined_push [] xs = append-nil xs
+joined_push (ys ∷ xss) xs = ap (λ zs. ys ++ zs) (joined_push xss xs) ∙ sym (append_assoc ys (joined xss) xs)
+
+-- what the members of a list come to, after others
+unfoldable pub all_after : {A B : Type 0} → (A → Outcome B) → List B → List A → Outcome (List B)
+all_after f done xs = and_then (all_outcomes f xs) (λ ys. Ok (done ++ ys))
+
+module _ {A B : Type 0} (f : A → Outcome B) where
+  none_before : (o : Outcome (List B)) → o ≡ and_then o (λ ys. Ok ([] ++ ys))
+  none_before (Ok ys) = refl
+  none_before (Err k) = refl
+
+  pub all_begin : (xs : List A) → all_outcomes f xs ≡ all_after f [] xs
+  unfolding all_after
+  all_begin xs = none_before (all_outcomes f xs)
+
+  pub all_end : (done : List B) (xs : List A) (i : ℕ) → length xs ≤ i → all_after f done (drop i xs) ≡ Ok done
+  unfolding all_after
+  all_end done xs i past = ap (λ rest. and_then (all_outcomes f rest) (λ ys. Ok (done ++ ys))) (nothing_left xs i past) ∙ ap (λ ys. Ok ys) (append-nil done)
+
+  one_before : (o : Outcome (List B)) (done : List B) (y : B) → and_then (and_then o (λ ys. Ok (y ∷ ys))) (λ ys. Ok (done ++ ys)) ≡ and_then o (λ ys. Ok ((done ++ y ∷ []) ++ ys))
+  one_before (Ok ys) done y = ap (λ all. Ok all) (sym (append_assoc done (y ∷ []) ys))
+  one_before (Err k) done y = refl
+
+  pub all_next : (done : List B) (xs : List A) (i : ℕ) (x : A) (y : B) → i < length xs → x ≡ get_or xs i x → f x ≡ Ok y
+      → all_after f done (drop i xs) ≡ all_after f (done ++ y ∷ []) (drop (i + 1) xs)
+  unfolding all_after
+  all_next done xs i x y lt is e =
+      ap (λ rest. and_then (all_outcomes f rest) (λ ys. Ok (done ++ ys))) (left_of xs i x lt is) ∙
+      (ap (λ o. and_then (and_then o (λ z. and_then (all_outcomes f (drop (i + 1) xs)) (λ ys. Ok (z ∷ ys)))) (λ ys. Ok (done ++ ys))) e ∙
+      one_before (all_outcomes f (drop (i + 1) xs)) done y)
+
+  pub all_fault : (done : List B) (xs : List A) (i : ℕ) (x : A) (k : ValueKind) → i < length xs → x ≡ get_or xs i x → f x ≡ Err k → all_after f done (drop i xs) ≡ Err k
+  unfolding all_after
+  all_fault done xs i x k lt is e =
+      ap (λ rest. and_then (all_outcomes f rest) (λ ys. Ok (done ++ ys))) (left_of xs i x lt is) ∙
+      ap (λ o. and_then (and_then o (λ z. and_then (all_outcomes f (drop (i + 1) xs)) (λ ys. Ok (z ∷ ys)))) (λ ys. Ok (done ++ ys))) e
+
+-- The lists of what is left of a list, one after another and each changed by h, after others.
+unfoldable pub left : {A B C : Type 0} → (ℕ → A → Outcome (List B)) → (List B → List C) → List C → ℕ → List A → Outcome (List C)
+left f h done k xs = and_then (each_joined f k xs) (λ ys. Ok (done ++ h ys))
+
+pub left_begin : {A B C : Type 0} (f : ℕ → A → Outcome (List B)) (h : List B → List C) (done : List C) (k : ℕ) (xs : List A) → and_then (each_joined f k xs) (λ ys. Ok (done ++ h ys)) ≡ left f h done k xs
+unfolding left
+left_begin f h done k xs = refl
+
+none_at_first : {B : Type 0} (o : Outcome (List B)) → o ≡ and_then o (λ ys. Ok ([] ++ ys))
+none_at_first (Ok ys) = refl
+none_at_first (Err k) = refl
+
+pub left_all : {A B : Type 0} (f : ℕ → A → Outcome (List B)) (k : ℕ) (xs : List A) → each_joined f k xs ≡ left f (λ ys. ys) [] k xs
+unfolding left
+left_all f k xs = none_at_first (each_joined f k xs)
+
+-- h keeps how lists are joined
+module _ {A B C : Type 0} (f : ℕ → A → Outcome (List B)) (h : List B → List C) (empty : h [] ≡ []) (joins : (xs ys : List B) → h (xs ++ ys) ≡ h xs ++ h ys) where
+  pub left_end : (done : List C) (xs : List A) (k i : ℕ) → length xs ≤ i → left f h done k (drop i xs) ≡ Ok done
+  unfolding left
+  left_end done xs k i past =
+      ap (λ rest. and_then (each_joined f k rest) (λ ys. Ok (done ++ h ys))) (nothing_left xs i past) ∙
+      (ap (λ ys. Ok (done ++ ys)) empty ∙ ap (λ ys. Ok ys) (append-nil done))
+
+  ahead : (o : Outcome (List B)) (done : List C) (ys : List B)
+      → and_then (and_then o (λ more. Ok (ys ++ more))) (λ zs. Ok (done ++ h zs)) ≡ and_then o (λ zs. Ok ((done ++ h ys) ++ h zs))
+  ahead (Ok more) done ys = ap (λ zs. Ok (done ++ zs)) (joins ys more) ∙ ap (λ zs. Ok zs) (sym (append_assoc done (h ys) (h more)))
+  ahead (Err k) done ys = refl
+
+  after_one : (o rest : Outcome (List B)) (done all : List C) → and_then o (λ ys. Ok (done ++ h ys)) ≡ Ok all
+      → and_then (and_then o (λ ys. and_then rest (λ more. Ok (ys ++ more)))) (λ zs. Ok (done ++ h zs)) ≡ and_then rest (λ zs. Ok (all ++ h zs))
+  after_one (Ok ys) rest done all e =
+      let same : done ++ h ys ≡ all = cc in
+      ahead rest done ys ∙ ap (λ zs. and_then rest (λ us. Ok (zs ++ h us))) same
+  after_one (Err k) rest done all e = cc
+
+  fault_of_one : (o rest : Outcome (List B)) (done : List C) (k : ValueKind) → and_then o (λ ys. Ok (done ++ h ys)) ≡ Err k
+      → and_then (and_then o (λ ys. and_then rest (λ more. Ok (ys ++ more)))) (λ zs. Ok (done ++ h zs)) ≡ Err k
+  fault_of_one (Ok ys) rest done k e = cc
+  fault_of_one (Err j) rest done k e = e
+
+  pub left_next : (done all : List C) (xs : List A) (k i : ℕ) (x : A) → i < length xs → x ≡ get_or xs i x → and_then (f k x) (λ ys. Ok (done ++ h ys)) ≡ Ok all
+      → left f h done k (drop i xs) ≡ left f h all (k + 1) (drop (i + 1) xs)
+  unfolding left
+  left_next done all xs k i x lt is e =
+      ap (λ rest. and_then (each_joined f k rest) (λ ys. Ok (done ++ h ys))) (left_of xs i x lt is) ∙
+      after_one (f k x) (each_joined f (k + 1) (drop (i + 1) xs)) done all e
+
+  pub left_fault : (done : List C) (xs : List A) (k i : ℕ) (x : A) (kind : ValueKind) → i < length xs → x ≡ get_or xs i x → and_then (f k x) (λ ys. Ok (done ++ h ys)) ≡ Err kind
+      → left f h done k (drop i xs) ≡ Err kind
+  unfolding left
+  left_fault done xs k i x kind lt is e =
+      ap (λ rest. and_then (each_joined f k rest) (λ ys. Ok (done ++ h ys))) (left_of xs i x lt is) ∙
+      fault_of_one (f k x) (each_joined f (k + 1) (drop (i + 1) xs)) done kind e

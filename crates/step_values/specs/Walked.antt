@@ -1,0 +1,35 @@
+-- What a renaming comes to as it is evaluated, for the contracts of the functions that do so.
+use Rattle.std.specs.Prelude.{◌≡◌, ◌∷◌, ◌++◌, ℕ, Result, Ok, Err, List, map, length, slice_get}
+use Rattle.csp_program.specs.Outcome.{Outcome}
+use Rattle.csp_program.specs.Value.{Env, first_of, over, sets_of, turn, uses_within, walked}
+use Rattle.process_steps.specs.Renaming.{Gathering, binding_renamed, event_with}
+use Rattle.csp_atoms.specs.declared.atom.Atom.{Atom}
+use Rattle.csp_atoms.specs.declared.value.Value.{Value}
+use Rattle.csp_atoms.specs.declared.value.Value.TheVariants.{One}
+use Rattle.csp_program.specs.declared.expressions.EventPart.{EventPart}
+use Rattle.csp_program.specs.declared.expressions.Gen.{Gen}
+use Rattle.csp_program.specs.declared.programs.Content.{Content}
+use Rattle.step_values.specs.declared.renaming.Tally.{Tally}
+use Rattle.value_operators.specs.declared.fault.EvalFault.{EvalFault}
+use Rattle.value_operators.specs.declared.fault.EvalFault.TheVariants as fault
+
+abbrev pub gathering_of : Tally → Gathering
+gathering_of tally = record { bindings = tally.bindings; renamed = tally.renamed }
+
+-- what a call that walks generators answers
+abbrev pub GivesTally : Result Tally EvalFault → Outcome Gathering → Type 0
+GivesTally (Ok tally) outcome = outcome ≡ Ok (gathering_of tally)
+GivesTally (Err fault.NoMemory) outcome = Unit {0}
+GivesTally (Err (fault.Value kind)) outcome = outcome ≡ Err kind
+
+-- the bindings of generators
+unfoldable pub renamed_walk : Content → List (EventPart × EventPart) → List Gen → Env → Gathering → Outcome Gathering
+renamed_walk p pairs gens env state = walked (map (turn (uses_within p (length p.defs)) p.channels) gens) (binding_renamed p pairs) env state
+
+-- the bindings of generators for each atom that the name x takes
+unfoldable pub renamed_each : Content → List (EventPart × EventPart) → ℕ → List Atom → List Gen → Env → Gathering → Outcome Gathering
+renamed_each p pairs x atoms gens env state = over atoms (λ a. renamed_walk p pairs gens ((x, One a) ∷ env)) state
+
+-- the event of a channel that has these values as its first fields and these atoms after them
+abbrev pub new_event : Content → ℕ → List Value → List Atom → Outcome ℕ
+new_event p c vs atoms = event_with (first_of (slice_get p.channels c)) (sets_of (slice_get p.channels c)) (vs ++ map (λ a. One a) atoms)

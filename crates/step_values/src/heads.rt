@@ -1,0 +1,61 @@
+//! The events that the head of a prefix stands for.
+
+ghost use Rattle.process_steps.specs.Prefix as meant;
+ghost use Rattle.step_values.specs.Starts.{GivesStart};
+
+use csp_atoms::{Atom, AtomSet, Value};
+use csp_program::{Head, Program, ValueKind};
+use csp_values::EvalFault;
+
+const KIND: EvalFault = EvalFault::Value {
+    kind: ValueKind::Kind,
+};
+
+/// What the event of a prefix is among.
+#[derive(Clone, Copy)]
+pub struct Start<'a> {
+    /// The number of the first event.
+    pub first: u64,
+    /// The values of each field.
+    pub sets: &'a [AtomSet],
+}
+
+// The events of a channel.
+fn of_channel(program: &Program, channel: u32) -> Result<Start<'_>, EvalFault>
+    ensures { GivesStart result (meant.of_head program.now (Head.Channel channel)) }
+{
+    match program.content().channels.get(channel as usize) {
+        Some(channel) => match &channel.fields {
+            Some(sets) => Ok(Start {
+                first: u64::from(channel.first),
+                sets: sets.as_slice(),
+            }),
+            None => Err(KIND),
+        },
+        None => Err(KIND),
+    }
+}
+
+// The event that a value is.
+fn of_value<'a>(value: &Value) -> Result<Start<'a>, EvalFault>
+    ensures { GivesStart result (meant.of_value value.now) }
+{
+    match value {
+        Value::One(Atom::Event(event)) => Ok(Start {
+            first: u64::from(event.0),
+            sets: &[],
+        }),
+        _ => Err(KIND),
+    }
+}
+
+/// The events that a head stands for.
+pub fn of_head<'a>(program: &'a Program, head: &Head) -> Result<Start<'a>, EvalFault>
+    ensures { GivesStart result (meant.of_head program.now head.now) }
+{
+    match head {
+        Head::Channel(channel) => of_channel(program, *channel),
+        Head::Bound(_) => Err(KIND),
+        Head::Put(value) => of_value(value),
+    }
+}

@@ -1,0 +1,58 @@
+//! The values that steps need.
+
+ghost use Rattle.process_steps.specs.Needed as meant;
+ghost use Rattle.value_operators.specs.Gives.{Gives};
+
+use containers::Items;
+use csp_atoms::{AtomSet, Value};
+use csp_base::EventSet;
+use csp_program::{Expr, Program, ValueKind};
+use csp_values::{EvalFault, eval, eval_set};
+use std::alloc::Global;
+use value_operators::operators::to_truth;
+
+const KIND: EvalFault = EvalFault::Value {
+    kind: ValueKind::Kind,
+};
+
+/// Whether a condition is true.
+pub fn truth_in(alloc: Global, program: &Program, c: &Expr) -> Result<bool, EvalFault>
+    ensures { Gives result (meant.truth_in program.now c.now) }
+{
+    let value = eval(alloc, program, c)?;
+    to_truth(&value)
+}
+
+/// A set of values.
+pub fn set_in(alloc: Global, program: &Program, s: &Expr) -> Result<AtomSet, EvalFault>
+    ensures { Gives result (meant.set_in program.now s.now) }
+{
+    eval_set(alloc, program, s)
+}
+
+/// A set that holds nothing but events.
+pub fn events_in(alloc: Global, program: &Program, s: &Expr) -> Result<EventSet, EvalFault>
+    ensures { Gives result (meant.events_in program.now s.now) }
+{
+    let atoms = set_in(alloc, program, s)?;
+    match atoms.to_event_set(alloc)? {
+        Some(events) => Ok(events),
+        None => Err(KIND),
+    }
+}
+
+/// The values of arguments, from the left.
+pub fn arguments_in(
+    alloc: Global,
+    program: &Program,
+    args: &[Expr],
+) -> Result<Items<Value>, EvalFault>
+    ensures { Gives result (meant.arguments_in program.now args.now) }
+{
+    let mut values = Items::new(alloc);
+    for arg in args {
+        let value = eval(alloc, program, arg)?;
+        values.push(value)?;
+    }
+    Ok(values)
+}
