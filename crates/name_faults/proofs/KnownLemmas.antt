@@ -1,0 +1,351 @@
+-- What is known of declarations, and what one says after them.
+use Rattle.std.proofs.Common.{◌≡◌, ℕ, zero, suc, ◌+◌, ◌<◌, ◌≤◌, Bool, true, false, ◌&&◌, ◌||◌, Option, Some, None, List, [], ◌∷◌, ◌++◌, length, map, take, drop, get_or, slice_get, slice_index, nat_lt, refl, sym, ap, ◌∙◌, append_assoc, drop-cons, add-one, add-zero, subst, arith}
+use Rattle.std.proofs.Math.ListN.{drop_of_length-le}
+use Rattle.std.proofs.Math.Seq.{take-suc}
+use Rattle.std.proofs.lemmas.List.{append-nil}
+use Rattle.std.specs.List.{flat_map}
+use Rattle.csp_text.specs.declared.script.Decl.{Decl}
+use Rattle.csp_text.specs.declared.script.Decl.TheVariants as decl
+use Rattle.csp_text.specs.declared.tree.Tree.{Tree}
+use Rattle.script_names.specs.declared.fault.ResolveFault.{ResolveFault}
+use Rattle.script_names.specs.declared.kinds.Class.{Class}
+use Rattle.script_names.specs.declared.kinds.Class.TheVariants as class
+use Rattle.script_names.specs.declared.kinds.Kind.{Kind}
+use Rattle.script_names.specs.Faults.{is_constant, kind_class}
+use Rattle.script_names.specs.Names.{Name, Meanings, Entities, Counts, channels_from, constants_from, counted, declared, declared_from, declares as declares_of, first_of, is_among, meanings_of, none_yet}
+use Rattle.script_names.specs.Occurrence.{Occurrence, declares}
+use Rattle.script_names.specs.Says.{tree_says}
+use Rattle.script_names.specs.Told.{annotation_says, bodies_from, body_place, counts_of, data_place, decl_says, declared_after, expanded_body, fault_in, fault_of, first_fault, first_there, is_data, is_deep, name_fault, names_declared, next_definition, parameters_after, root_place, too_deep, types_say, with_roles, with_uses}
+use Rattle.name_tables.specs.Firsts.{SameFirsts, SameNames}
+use Rattle.name_tables.proofs.NameLemmas.{is_among-append, same_names-append}
+use Rattle.name_notes.specs.declared.notes.Notes.{Notes}
+use Rattle.name_notes.specs.declared.notes.Body.{Body}
+use Rattle.name_notes.specs.declared.notes.Findings.{Findings}
+use Rattle.name_notes.specs.Found.{body_of, findings_of}
+use Rattle.name_notes.specs.Heard.{again_heard, heard_all, nothing_heard}
+use Rattle.name_notes.proofs.HeardLemmas.{body_heard, findings_heard}
+use Rattle.name_notes.proofs.ToldEquations.{heard_all-append}
+use Rattle.name_faults.specs.declared.known.Known.{Known}
+use Rattle.name_faults.specs.Depths.{AreDepths}
+use Rattle.name_faults.proofs.DepthLemmas.{over_depth}
+use Rattle.name_faults.specs.Known.{IsKnown, IsNext, declared_heard, deep_at, defines, fault_after, fault_from, names_in, nothing_known, parameters_heard, says_after, told}
+
+pub split_at : {X : Type 0} (xs : List X) (i : ℕ) (x : X) → i < length xs → x ≡ get_or xs i x → drop i xs ≡ x ∷ drop (i + 1) xs
+split_at xs i x within is = rw (add-one, drop-cons xs i x) (ap (λ y. y ∷ drop (suc i) xs) (sym is))
+
+-- names that are declared after the same ones
+declared_same : (xs ys zs : List Name) → SameNames xs ys → declared_after xs zs ≡ declared_after ys zs
+declared_same xs ys [] same = refl
+declared_same xs ys (z ∷ zs) same = λ i. declares z (same z i) ∷ declared_same (xs ++ z ∷ []) (ys ++ z ∷ []) zs (same_names-append xs ys (z ∷ []) same) i
+
+module _ (m : Meanings) (kinds : List Kind) where
+  pub declared_is : (before : List Name) (n : Notes) (xs : List Name) → declared_heard before n xs ≡ heard_all m kinds n (declared_after before xs)
+  declared_is before n [] = refl
+  declared_is before n (x ∷ xs) = declared_is (before ++ x ∷ []) (again_heard n x (is_among before x)) xs
+
+  pub parameters_are : (before : List Name) (n : Notes) (xs : List Name) → parameters_heard m before n xs ≡ heard_all m kinds n (parameters_after before xs)
+  parameters_are before n [] = refl
+  parameters_are before n (x ∷ xs) = parameters_are (before ++ x ∷ []) (again_heard n x (is_among before x || is_constant (m x))) xs
+
+  says_is : (earlier : List Decl) (k : Known) (d : Decl) → IsKnown earlier k → says_after m kinds k d ≡ decl_says m kinds earlier d
+  says_is earlier k (decl.Channel xs types) known = ap (λ os. os ++ types_say m kinds types) (declared_same k.declared (names_declared earlier) xs known.declared)
+  says_is earlier k (decl.Datatype x ks) known = declared_same k.declared (names_declared earlier) (x ∷ ks) known.declared
+  says_is earlier k (decl.Nametype x t) known =
+      ap (λ os. os ++ tree_says m t data_place []) (declared_same k.declared (names_declared earlier) (x ∷ []) known.declared)
+  says_is earlier k (decl.Define x params t) known =
+      ap (λ os. os ++ (parameters_after [] params ++ tree_says m t (body_place (slice_get kinds k.definitions)) params)) (declared_same k.declared (names_declared earlier) (x ∷ []) known.declared)
+      ∙ ap (λ n. declared_after (names_declared earlier) (x ∷ []) ++ (parameters_after [] params ++ tree_says m t (body_place (slice_get kinds n)) params)) known.definitions
+  says_is earlier k (decl.Assert t) known = refl
+  says_is earlier k (decl.Roles names) known =
+      ap (λ b. annotation_says m kinds b names.process (names.creq ∷ names.cack ∷ names.sreq ∷ names.sack ∷ [])) (known.roles names.process)
+  says_is earlier k (decl.Resource names) known =
+      ap (λ b. annotation_says m kinds b names.process (names.acquire ∷ names.release ∷ [])) (known.uses names.process)
+
+-- one more declaration
+names_of-append : (es fs : Entities) → map (λ e. e.0) (es ++ fs) ≡ map (λ e. e.0) es ++ map (λ e. e.0) fs
+names_of-append [] fs = refl
+names_of-append (e ∷ es) fs = ap (λ xs. e.0 ∷ xs) (names_of-append es fs)
+
+channel_names : (n fields : ℕ) (xs : List Name) → map (λ e. e.0) (channels_from n fields xs) ≡ xs
+channel_names n fields [] = refl
+channel_names n fields (x ∷ xs) = ap (λ ys. x ∷ ys) (channel_names (n + 1) fields xs)
+
+constant_names : (n : ℕ) (xs : List Name) → map (λ e. e.0) (constants_from n xs) ≡ xs
+constant_names n [] = refl
+constant_names n (x ∷ xs) = ap (λ ys. x ∷ ys) (constant_names (n + 1) xs)
+
+names_in_are : (n : Counts) (d : Decl) → map (λ e. e.0) (declares_of n d) ≡ names_in d
+names_in_are n (decl.Channel xs types) = channel_names n.channels (length types) xs
+names_in_are n (decl.Datatype x ks) = ap (λ ys. x ∷ ys) (constant_names n.constants ks)
+names_in_are n (decl.Nametype x t) = refl
+names_in_are n (decl.Define x params t) = refl
+names_in_are n (decl.Assert t) = refl
+names_in_are n (decl.Roles names) = refl
+names_in_are n (decl.Resource names) = refl
+
+names_after : (n : Counts) (earlier : List Decl) (d : Decl) → map (λ e. e.0) (declared_from n (earlier ++ d ∷ [])) ≡ map (λ e. e.0) (declared_from n earlier) ++ names_in d
+names_after n [] d = names_of-append (declares_of n d) [] ∙ append-nil (map (λ e. e.0) (declares_of n d)) ∙ names_in_are n d
+names_after n (e ∷ earlier) d =
+    names_of-append (declares_of n e) (declared_from (counted n e) (earlier ++ d ∷ []))
+    ∙ ap (λ xs. map (λ e. e.0) (declares_of n e) ++ xs) (names_after (counted n e) earlier d)
+    ∙ sym (append_assoc (map (λ e. e.0) (declares_of n e)) (map (λ e. e.0) (declared_from (counted n e) earlier)) (names_in d))
+    ∙ ap (λ xs. xs ++ names_in d) (sym (names_of-append (declares_of n e) (declared_from (counted n e) earlier)))
+
+defines_is : (n : Counts) (d : Decl) → (counted n d).definitions ≡ n.definitions + defines d
+defines_is n (decl.Channel xs types) = omega arith
+defines_is n (decl.Datatype x ks) = refl
+defines_is n (decl.Nametype x t) = refl
+defines_is n (decl.Define x params t) = refl
+defines_is n (decl.Assert t) = omega arith
+defines_is n (decl.Roles names) = omega arith
+defines_is n (decl.Resource names) = omega arith
+
+defined_after : (n : Counts) (earlier : List Decl) (d : Decl) → (counts_of n (earlier ++ d ∷ [])).definitions ≡ (counts_of n earlier).definitions + defines d
+defined_after n [] d = defines_is n d
+defined_after n (e ∷ earlier) d = defined_after (counted n e) earlier d
+
+length-push : {X : Type 0} (xs : List X) (x : X) → length (xs ++ x ∷ []) ≡ length xs + 1
+length-push [] x = refl
+length-push (y ∷ xs) x = let h : length (xs ++ x ∷ []) ≡ length xs + 1 = length-push xs x in omega arith
+
+flat-push : {X Y : Type 0} (f : X → List Y) (xs : List X) (x : X) → flat_map f (xs ++ x ∷ []) ≡ flat_map f xs ++ f x
+flat-push f [] x = append-nil (f x)
+flat-push f (y ∷ xs) x = ap (λ zs. f y ++ zs) (flat-push f xs x) ∙ sym (append_assoc (f y) (flat_map f xs) (f x))
+
+-- the same names, with more
+more_names : (new old all here whole : List Name) → SameNames new (old ++ here) → SameNames old all → whole ≡ all ++ here → SameNames new whole
+more_names new old all here whole now before is x =
+    now x ∙ same_names-append old all here before x ∙ ap (λ xs. is_among xs x) (sym is)
+
+pub next_known : (earlier : List Decl) (k new : Known) (d : Decl) (after : Known) → IsKnown earlier k → IsNext k d new
+    → after ≡ record new { declarations = new.declarations + 1; definitions = new.definitions + defines d } → IsKnown (earlier ++ d ∷ []) after
+next_known earlier k new d after known next is = record {
+  declarations = ap (λ (a : Known). a.declarations) is ∙ ap (λ n. n + 1) (next.declarations ∙ known.declarations) ∙ sym (length-push earlier d);
+  definitions = ap (λ (a : Known). a.definitions) is ∙ ap (λ n. n + defines d) (next.definitions ∙ known.definitions) ∙ sym (defined_after none_yet earlier d);
+  declared = more_names after.declared k.declared (names_declared earlier) (names_in d) (names_declared (earlier ++ d ∷ []))
+      (λ x. ap (λ (a : Known). is_among a.declared x) is ∙ next.declared x) known.declared (names_after none_yet earlier d);
+  roles = more_names after.roles k.roles (flat_map with_roles earlier) (with_roles d) (flat_map with_roles (earlier ++ d ∷ []))
+      (λ x. ap (λ (a : Known). is_among a.roles x) is ∙ next.roles x) known.roles (flat-push with_roles earlier d);
+  uses = more_names after.uses k.uses (flat_map with_uses earlier) (with_uses d) (flat_map with_uses (earlier ++ d ∷ []))
+      (λ x. ap (λ (a : Known). is_among a.uses x) is ∙ next.uses x) known.uses (flat-push with_uses earlier d);
+}
+
+pub nothing_is_known : (k : Known) → k ≡ nothing_known → IsKnown [] k
+nothing_is_known k is = record {
+  declarations = ap (λ (a : Known). a.declarations) is;
+  definitions = ap (λ (a : Known). a.definitions) is;
+  declared = λ x. ap (λ (a : Known). is_among a.declared x) is;
+  roles = λ x. ap (λ (a : Known). is_among a.roles x) is;
+  uses = λ x. ap (λ (a : Known). is_among a.uses x) is;
+}
+
+-- the fault of a declaration
+module _ (kinds : List Kind) (bodies : List (List Occurrence)) (depths : List ℕ) (same : (n : ℕ) → is_deep kinds bodies n ≡ nat_lt 800 (slice_index depths n)) where
+  deep_is : (n : ℕ) (d : Decl) → too_deep kinds bodies n d ≡ deep_at kinds depths n d
+  deep_is n (decl.Channel xs types) = refl
+  deep_is n (decl.Datatype x ks) = refl
+  deep_is n (decl.Nametype x t) = same n
+  deep_is n (decl.Define x params t) = ap (λ b. is_data (kind_class (slice_get kinds n)) && b) (same n)
+  deep_is n (decl.Assert t) = refl
+  deep_is n (decl.Roles names) = refl
+  deep_is n (decl.Resource names) = refl
+
+found_first : (f : ResolveFault) (p q : Option ResolveFault) → Some f ≡ p → Some f ≡ first_there (p ∷ q ∷ [])
+found_first f p q h = ap (λ o. first_there (o ∷ q ∷ [])) h
+
+only_one : (q : Option ResolveFault) → first_there (q ∷ []) ≡ q
+only_one None = refl
+only_one (Some f) = refl
+
+none_first : (p q : Option ResolveFault) → None ≡ p → first_there (p ∷ q ∷ []) ≡ q
+none_first p q h = ap (λ o. first_there (o ∷ q ∷ [])) (sym h) ∙ only_one q
+
+pub take_more : {X : Type 0} (xs : List X) (i : ℕ) (x : X) → i < length xs → x ≡ get_or xs i x → take (i + 1) xs ≡ take i xs ++ x ∷ []
+take_more xs i x within is = rw (add-one, take-suc xs i x within) (ap (λ y. take i xs ++ y ∷ []) (sym is))
+
+module _ (script : List Decl) (kinds : List Kind) (m : Meanings) (same : m ≡ meanings_of script) (depths : List ℕ)
+    (deep : (n : ℕ) → is_deep kinds (bodies_from (meanings_of script) kinds 0 script) n ≡ nat_lt 800 (slice_index depths n)) where
+  fault_is : (earlier : List Decl) (k : Known) (d : Decl) → IsKnown earlier k → fault_after m kinds depths k d ≡ fault_in script kinds earlier d
+  fault_is earlier k d known =
+      let found : List Occurrence → Findings = λ os. findings_of (meanings_of script) kinds os in
+      let says : List Occurrence = decl_says (meanings_of script) kinds earlier d in
+      ap (λ (n : Meanings). fault_after n kinds depths k d) same
+      ∙ ap (λ os. told k.declarations (found os) (deep_at kinds depths k.definitions d)) (says_is (meanings_of script) kinds earlier k d known)
+      ∙ ap (λ i. told i (found says) (deep_at kinds depths k.definitions d)) known.declarations
+      ∙ ap (λ n. told (length earlier) (found says) (deep_at kinds depths n d)) known.definitions
+      ∙ ap (λ b. told (length earlier) (found says) b) (sym (deep_is kinds (bodies_from (meanings_of script) kinds 0 script) depths deep (next_definition earlier) d))
+
+  -- the declaration has a fault, and none before has
+  pub told_here : (i : ℕ) (k : Known) (d : Decl) (o : Option ResolveFault) (f : ResolveFault) (whole : Option ResolveFault) → i < length script → d ≡ get_or script i d → IsKnown (take i script) k
+      → fault_from script kinds (take i script) (drop i script) ≡ whole
+      → o ≡ Some f → o ≡ fault_after m kinds depths k d → Some f ≡ whole
+  unfolding fault_from
+  told_here i k d o f whole within is known so_far some found =
+      found_first f (fault_in script kinds (take i script) d) (first_fault script kinds (take i script ++ d ∷ []) (drop (i + 1) script))
+      (sym some ∙ found ∙ fault_is (take i script) k d known)
+      ∙ ap (λ ds. first_fault script kinds (take i script) ds) (sym (split_at script i d within is))
+      ∙ so_far
+
+  -- it has none
+  pub passed : (i : ℕ) (k : Known) (d : Decl) (o whole : Option ResolveFault) → i < length script → d ≡ get_or script i d → IsKnown (take i script) k
+      → fault_from script kinds (take i script) (drop i script) ≡ whole
+      → o ≡ None → o ≡ fault_after m kinds depths k d → fault_from script kinds (take (i + 1) script) (drop (i + 1) script) ≡ whole
+  unfolding fault_from
+  passed i k d o whole within is known so_far none found =
+      ap (λ ds. first_fault script kinds ds (drop (i + 1) script)) (take_more script i d within is)
+      ∙ sym (none_first (fault_in script kinds (take i script) d) (first_fault script kinds (take i script ++ d ∷ []) (drop (i + 1) script)) (sym none ∙ found ∙ fault_is (take i script) k d known))
+      ∙ ap (λ ds. first_fault script kinds (take i script) ds) (sym (split_at script i d within is))
+      ∙ so_far
+
+-- no declaration is left
+pub none_told : (script : List Decl) (kinds : List Kind) (i : ℕ) (whole : Option ResolveFault) → length script ≤ i → fault_from script kinds (take i script) (drop i script) ≡ whole → None ≡ whole
+unfolding fault_from
+none_told script kinds i whole at_end so_far = ap (λ ds. first_fault script kinds (take i script) ds) (sym (drop_of_length-le script at_end)) ∙ so_far
+
+pub whole_fault : (script : List Decl) (kinds : List Kind) → fault_from script kinds [] script ≡ name_fault script kinds
+unfolding fault_from
+whole_fault script kinds = refl
+
+-- depths are over 800 where those of the definition are
+pub deep_so : (script : List Decl) (kinds : List Kind) (m : Meanings) (same : m ≡ meanings_of script) (depths : List ℕ) → AreDepths 801 (map body_of (bodies_from m kinds 0 script)) depths
+    → (n : ℕ) → is_deep kinds (bodies_from (meanings_of script) kinds 0 script) n ≡ nat_lt 800 (slice_index depths n)
+deep_so script kinds m same depths are n =
+    over_depth 801 (bodies_from (meanings_of script) kinds 0 script) depths n
+    (subst (λ (k : Meanings). AreDepths 801 (map body_of (bodies_from k kinds 0 script)) depths) same are)
+
+-- names that stand for what the script declares
+pub same_meanings : (script : List Decl) (es : Entities) → SameFirsts es (declared script) → first_of es ≡ meanings_of script
+same_meanings script es same = λ i x. same x i
+
+-- the bodies of one more declaration
+pub bodies_split : (m : Meanings) (kinds : List Kind) (n : ℕ) (d : Decl) (rest : List Decl) →
+    bodies_from m kinds n (d ∷ rest) ≡ bodies_from m kinds n (d ∷ []) ++ bodies_from m kinds (n + defines d) rest
+bodies_split m kinds n (decl.Channel xs types) rest = ap (λ k. bodies_from m kinds k rest) (sym (add-zero n))
+bodies_split m kinds n (decl.Datatype x ks) rest = refl
+bodies_split m kinds n (decl.Nametype x t) rest = refl
+bodies_split m kinds n (decl.Define x params t) rest = refl
+bodies_split m kinds n (decl.Assert t) rest = ap (λ k. bodies_from m kinds k rest) (sym (add-zero n))
+bodies_split m kinds n (decl.Roles names) rest = ap (λ k. bodies_from m kinds k rest) (sym (add-zero n))
+bodies_split m kinds n (decl.Resource names) rest = ap (λ k. bodies_from m kinds k rest) (sym (add-zero n))
+
+bodies_count : (m : Meanings) (kinds : List Kind) (n : ℕ) (d : Decl) → length (map body_of (bodies_from m kinds n (d ∷ []))) ≡ defines d
+bodies_count m kinds n (decl.Channel xs types) = refl
+bodies_count m kinds n (decl.Datatype x ks) = refl
+bodies_count m kinds n (decl.Nametype x t) = refl
+bodies_count m kinds n (decl.Define x params t) = refl
+bodies_count m kinds n (decl.Assert t) = refl
+bodies_count m kinds n (decl.Roles names) = refl
+bodies_count m kinds n (decl.Resource names) = refl
+
+map-append : {X Y : Type 0} (f : X → Y) (xs ys : List X) → map f (xs ++ ys) ≡ map f xs ++ map f ys
+map-append f [] ys = refl
+map-append f (x ∷ xs) ys = ap (λ zs. f x ∷ zs) (map-append f xs ys)
+
+length-both : {X : Type 0} (xs ys : List X) → length (xs ++ ys) ≡ length xs + length ys
+length-both [] ys = omega arith
+length-both (x ∷ xs) ys = let h : length (xs ++ ys) ≡ length xs + length ys = length-both xs ys in omega arith
+
+pub bodies_step : (m : Meanings) (kinds : List Kind) (decls : List Decl) (i : ℕ) (d : Decl) (old new whole : List Body) → i < length decls → d ≡ get_or decls i d
+    → new ≡ old ++ map body_of (bodies_from m kinds (length old) (d ∷ []))
+    → old ++ map body_of (bodies_from m kinds (length old) (drop i decls)) ≡ whole → new ++ map body_of (bodies_from m kinds (length new) (drop (i + 1) decls)) ≡ whole
+bodies_step m kinds decls i d old new whole within is now so_far =
+    let here = bodies_from m kinds (length old) (d ∷ []) in
+    let rest = drop (i + 1) decls in
+    let count : length new ≡ length old + defines d =
+    ap length now ∙ length-both old (map body_of here) ∙ ap (λ n. length old + n) (bodies_count m kinds (length old) d) in
+    (λ j. now j ++ map body_of (bodies_from m kinds (count j) rest))
+    ∙ append_assoc old (map body_of here) (map body_of (bodies_from m kinds (length old + defines d) rest))
+    ∙ ap (λ bs. old ++ bs) (sym (map-append body_of here (bodies_from m kinds (length old + defines d) rest)))
+    ∙ ap (λ bs. old ++ map body_of bs) (sym (bodies_split m kinds (length old) d rest))
+    ∙ ap (λ ds. old ++ map body_of (bodies_from m kinds (length old) ds)) (sym (split_at decls i d within is))
+    ∙ so_far
+
+pub bodies_end : (m : Meanings) (kinds : List Kind) (decls : List Decl) (i : ℕ) (old whole : List Body) → length decls ≤ i
+    → old ++ map body_of (bodies_from m kinds (length old) (drop i decls)) ≡ whole → old ≡ whole
+bodies_end m kinds decls i old whole at_end so_far =
+    sym (append-nil old) ∙ ap (λ ds. old ++ map body_of (bodies_from m kinds (length old) ds)) (sym (drop_of_length-le decls at_end)) ∙ so_far
+
+-- loops over names: one more, and no more
+pub heard_same : (xs ys zs : List Name) (n : Notes) → SameNames xs ys → declared_heard xs n zs ≡ declared_heard ys n zs
+heard_same xs ys [] n same = refl
+heard_same xs ys (z ∷ zs) n same =
+    ap (λ b. declared_heard (xs ++ z ∷ []) (again_heard n z b) zs) (same z)
+    ∙ heard_same (xs ++ z ∷ []) (ys ++ z ∷ []) zs (again_heard n z (is_among ys z)) (same_names-append xs ys (z ∷ []) same)
+
+pub declared_step : (before after : List Name) (n new whole : Notes) (i : ℕ) (xs : List Name) (x : Name) → i < length xs → x ≡ get_or xs i x
+    → SameNames after (before ++ x ∷ []) → new ≡ again_heard n x (is_among before x)
+    → declared_heard before n (drop i xs) ≡ whole → declared_heard after new (drop (i + 1) xs) ≡ whole
+declared_step before after n new whole i xs x within is same now so_far =
+    heard_same after (before ++ x ∷ []) (drop (i + 1) xs) new same
+    ∙ ap (λ k. declared_heard (before ++ x ∷ []) k (drop (i + 1) xs)) now
+    ∙ ap (λ ys. declared_heard before n ys) (sym (split_at xs i x within is))
+    ∙ so_far
+
+pub declared_end : (before : List Name) (n whole : Notes) (i : ℕ) (xs : List Name) → length xs ≤ i → declared_heard before n (drop i xs) ≡ whole → n ≡ whole
+declared_end before n whole i xs at_end so_far = ap (λ ys. declared_heard before n ys) (sym (drop_of_length-le xs at_end)) ∙ so_far
+
+pub names_step : (new old whole : List Name) (i : ℕ) (xs : List Name) (x : Name) → i < length xs → x ≡ get_or xs i x → SameNames new (old ++ x ∷ [])
+    → SameNames (old ++ drop i xs) whole → SameNames (new ++ drop (i + 1) xs) whole
+names_step new old whole i xs x within is now so_far y =
+    same_names-append new (old ++ x ∷ []) (drop (i + 1) xs) now y
+    ∙ ap (λ ys. is_among ys y) (append_assoc old (x ∷ []) (drop (i + 1) xs) ∙ ap (λ ys. old ++ ys) (sym (split_at xs i x within is)))
+    ∙ so_far y
+
+pub names_end : (old whole : List Name) (i : ℕ) (xs : List Name) → length xs ≤ i → SameNames (old ++ drop i xs) whole → SameNames old whole
+names_end old whole i xs at_end so_far y = ap (λ ys. is_among ys y) (sym (append-nil old) ∙ ap (λ ys. old ++ ys) (sym (drop_of_length-le xs at_end))) ∙ so_far y
+
+module _ (m : Meanings) where
+  parameters_same : (xs ys zs : List Name) (n : Notes) → SameNames xs ys → parameters_heard m xs n zs ≡ parameters_heard m ys n zs
+  parameters_same xs ys [] n same = refl
+  parameters_same xs ys (z ∷ zs) n same =
+      ap (λ b. parameters_heard m (xs ++ z ∷ []) (again_heard n z (b || is_constant (m z))) zs) (same z)
+      ∙ parameters_same (xs ++ z ∷ []) (ys ++ z ∷ []) zs (again_heard n z (is_among ys z || is_constant (m z))) (same_names-append xs ys (z ∷ []) same)
+
+  pub parameters_step : (before after : List Name) (n new whole : Notes) (i : ℕ) (xs : List Name) (x : Name) → i < length xs → x ≡ get_or xs i x
+      → SameNames after (before ++ x ∷ []) → new ≡ again_heard n x (is_among before x || is_constant (m x))
+      → parameters_heard m before n (drop i xs) ≡ whole → parameters_heard m after new (drop (i + 1) xs) ≡ whole
+  parameters_step before after n new whole i xs x within is same now so_far =
+      parameters_same after (before ++ x ∷ []) (drop (i + 1) xs) new same
+      ∙ ap (λ k. parameters_heard m (before ++ x ∷ []) k (drop (i + 1) xs)) now
+      ∙ ap (λ ys. parameters_heard m before n ys) (sym (split_at xs i x within is))
+      ∙ so_far
+
+  pub parameters_end : (before : List Name) (n whole : Notes) (i : ℕ) (xs : List Name) → length xs ≤ i → parameters_heard m before n (drop i xs) ≡ whole → n ≡ whole
+  parameters_end before n whole i xs at_end so_far = ap (λ ys. parameters_heard m before n ys) (sym (drop_of_length-le xs at_end)) ∙ so_far
+
+  pub types_step : (kinds : List Kind) (n new whole : Notes) (i : ℕ) (ts : List Tree) (t : Tree) → i < length ts → t ≡ get_or ts i t
+      → new ≡ heard_all m kinds n (tree_says m t data_place [])
+      → heard_all m kinds n (types_say m kinds (drop i ts)) ≡ whole → heard_all m kinds new (types_say m kinds (drop (i + 1) ts)) ≡ whole
+  types_step kinds n new whole i ts t within is now so_far =
+      ap (λ k. heard_all m kinds k (types_say m kinds (drop (i + 1) ts))) now
+      ∙ sym (heard_all-append m kinds n (tree_says m t data_place []) (types_say m kinds (drop (i + 1) ts)))
+      ∙ ap (λ us. heard_all m kinds n (types_say m kinds us)) (sym (split_at ts i t within is))
+      ∙ so_far
+
+  pub types_end : (kinds : List Kind) (n whole : Notes) (i : ℕ) (ts : List Tree) → length ts ≤ i → heard_all m kinds n (types_say m kinds (drop i ts)) ≡ whole → n ≡ whole
+  types_end kinds n whole i ts at_end so_far = ap (λ us. heard_all m kinds n (types_say m kinds us)) (sym (drop_of_length-le ts at_end)) ∙ so_far
+
+-- the body of a process is not expanded
+pub process_body : (m : Meanings) (kinds : List Kind) (c : Class) (os : List Occurrence) (b : Body) (n : Notes) → class.Process ≡ c → n ≡ nothing_heard → b ≡ n.body
+    → b ≡ body_of (expanded_body m kinds c os)
+process_body m kinds c os b n is none now =
+    now ∙ ap (λ (k : Notes). k.body) none ∙ body_heard m kinds [] ∙ ap (λ e. body_of (expanded_body m kinds e os)) is
+
+pub fault_now : (m : Meanings) (kinds : List Kind) (depths : List ℕ) (k new : Known) (d : Decl) (n n1 : Notes) (found : Findings) (deep : Bool) (f : Option ResolveFault)
+    → n ≡ nothing_heard → n1 ≡ heard_all m kinds n (says_after m kinds k d) → new.declarations ≡ k.declarations → new.definitions ≡ k.definitions
+    → deep ≡ deep_at kinds depths new.definitions d → found ≡ n1.findings → f ≡ told new.declarations found deep → f ≡ fault_after m kinds depths k d
+fault_now m kinds depths k new d n n1 found deep f none heard declarations definitions deep_is found_is told_is =
+    let says = says_after m kinds k d in
+    let all : found ≡ findings_of m kinds says =
+    found_is ∙ ap (λ (p : Notes). p.findings) (heard ∙ ap (λ (p : Notes). heard_all m kinds p says) none) ∙ findings_heard m kinds says in
+    told_is
+    ∙ (λ i. told (declarations i) (all i) (deep_is i))
+    ∙ ap (λ n. told k.declarations (findings_of m kinds says) (deep_at kinds depths n d)) definitions
+
+-- a datatype is a node without parts
+pub datatype_body : (m : Meanings) (kinds : List Kind) (d : Decl) (x : Name) (ks : List Name) (old new : List Body) (b : Body) (n : Notes) → d ≡ decl.Datatype x ks → n ≡ nothing_heard → b ≡ n.body → new ≡ old ++ b ∷ []
+    → new ≡ old ++ map body_of (bodies_from m kinds (length old) (d ∷ []))
+datatype_body m kinds d x ks old new b n is none now pushed =
+    pushed
+    ∙ ap (λ c. old ++ c ∷ []) (now ∙ ap (λ (p : Notes). p.body) none ∙ body_heard m kinds [])
+    ∙ ap (λ e. old ++ map body_of (bodies_from m kinds (length old) (e ∷ []))) (sym is)

@@ -1,0 +1,32 @@
+use Rattle.std.proofs.Common.{◌∙◌, [], ap}
+use Rattle.script_names.specs.Names.{first_of}
+use Rattle.script_names.specs.Says.{tree_says}
+use Rattle.script_names.specs.Told.{types_say}
+use Rattle.name_notes.specs.Heard.{heard_all}
+use Rattle.name_faults.specs.Known.{declared_heard, parameters_heard}
+use Rattle.name_faults.proofs.DeclLemmas.{channel_told, datatype_told, define_told}
+use Rattle.name_faults.proofs.declarations.note_decl.Goals as goal
+
+pub returns-in_ok-note_types-in-Channel-clause-notes : goal.returns-in_ok-note_types-in-Channel-clause-notes
+returns-in_ok-note_types-in-Channel-clause-notes c =
+    let m = first_of c.args.names.now in
+    let kinds = c.args.kinds.now in
+    channel_told m kinds c.args.known.now c.args.decl.now c.args.notes.now c.in-Channel.xs c.in-Channel.types c.note_declared.new.notes c.note_types.new.notes c.in-Channel.is
+    (c.in_ok-note_declared-in-Channel.ensures.notes ∙ ap (declared_heard c.args.known.now.declared c.args.notes.now) c.as_slice.ensures)
+    (c.in_ok-note_types-in-Channel.ensures ∙ ap (λ ts. heard_all m kinds c.note_declared.new.notes (types_say m kinds ts)) c.as_slice-in-Channel.ensures)
+
+pub returns-in_ok-note_declared-in-Datatype-clause-notes : goal.returns-in_ok-note_declared-in-Datatype-clause-notes
+returns-in_ok-note_declared-in-Datatype-clause-notes c =
+    datatype_told (first_of c.args.names.now) c.args.kinds.now c.args.known.now c.args.decl.now c.args.notes.now c.in-Datatype.x c.in-Datatype.ks c.note_name.new.declared
+    c.note_name.new.notes c.note_declared-in-Datatype.new.notes c.in-Datatype.is c.in_ok-note_name-in-Datatype.ensures.notes c.in_ok-note_name-in-Datatype.ensures.declared
+    (c.in_ok-note_declared-in-Datatype.ensures.notes ∙ ap (declared_heard c.note_name.new.declared c.note_name.new.notes) c.as_slice-in-Datatype.ensures)
+
+pub returns-in_ok-note_tree-in-Define-clause-notes : goal.returns-in_ok-note_tree-in-Define-clause-notes
+returns-in_ok-note_tree-in-Define-clause-notes c =
+    let m = first_of c.args.names.now in
+    let kinds = c.args.kinds.now in
+    define_told m kinds c.args.known.now c.args.decl.now c.args.notes.now c.in-Define.x c.in-Define.params c.in-Define.tree c.note_name-in-Define.new.notes c.note_parameters.new.notes
+    c.note_tree-in-Define.new.notes c.in-Define.is c.in_ok-note_name-in-Define.ensures.notes
+    (c.in_ok-note_parameters-in-Define.ensures ∙ ap (λ ps. parameters_heard m [] c.note_name-in-Define.new.notes ps) c.as_slice-in-Define.ensures)
+    (c.in_ok-note_tree-in-Define.ensures
+    ∙ (λ i. heard_all m kinds c.note_parameters.new.notes (tree_says m c.in-Define.tree (c.body_place-place.ensures i) (c.as_slice-in-Define-2.ensures i))))

@@ -1,0 +1,10 @@
+use Rattle.std.proofs.Common.{◌≡◌, drop}
+use Rattle.script_names.specs.Names.{first_of}
+use Rattle.script_names.specs.Told.{types_say}
+use Rattle.name_notes.specs.Heard.{heard_all}
+use Rattle.name_faults.proofs.declarations.note_types.Given as goal
+
+abbrev pub invariant-loop-tree : goal.invariant-loop-tree
+invariant-loop-tree l =
+    heard_all (first_of l.names) l.kinds l.notes (types_say (first_of l.names) l.kinds (drop l.tree-index l.types))
+    ≡ heard_all (first_of l.names) l.kinds l.initial.notes (types_say (first_of l.names) l.kinds l.types)

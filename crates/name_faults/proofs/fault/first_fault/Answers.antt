@@ -1,0 +1,38 @@
+use Rattle.std.proofs.Common.{◌≡◌, ◌+◌, ◌++◌, [], ◌∷◌, ◌∙◌, List, take, refl, sym, subst, arith}
+use Rattle.csp_text.specs.declared.script.Decl.{Decl}
+use Rattle.script_names.specs.Names.{first_of, meanings_of}
+use Rattle.name_faults.specs.Known.{IsKnown, fault_from}
+use Rattle.name_faults.proofs.KnownLemmas.{deep_so, next_known, none_told, nothing_is_known, passed, same_meanings, take_more, told_here}
+use Rattle.name_faults.proofs.fault.first_fault.Goals as goal
+
+pub loop-decl-init : goal.loop-decl-init
+loop-decl-init c = record { known = nothing_is_known c.new-known.result c.new-known.ensures; so_far = refl }
+
+pub returns-in-Some : goal.returns-in-Some
+returns-in-Some c =
+    let decls = c.args.decls.now in
+    let kinds = c.args.kinds.now in
+    let m = first_of c.args.names.now in
+    let same : m ≡ meanings_of decls = same_meanings decls c.args.names.now c.requires.names in
+    told_here decls kinds m same c.args.depths.now (deep_so decls kinds m same c.args.depths.now c.requires.depths)
+    c.loop-decl.decl-index c.loop-decl.known c.decl-item.result c.in_ok-fault.field-0 c.in-Some.fault (fault_from decls kinds [] decls)
+    c.loop-decl-test.true c.decl-item.is c.loop-decl.invariant.known c.loop-decl.invariant.so_far c.in-Some.is c.in_ok-fault.ensures.told
+
+pub loop-decl-preserved : goal.loop-decl-preserved
+loop-decl-preserved c =
+    let decls = c.args.decls.now in
+    let kinds = c.args.kinds.now in
+    let m = first_of c.args.names.now in
+    let same : m ≡ meanings_of decls = same_meanings decls c.args.names.now c.requires.names in
+    record {
+      known = subst (λ (ds : List Decl). IsKnown ds c.count.new.self) (sym (take_more decls c.loop-decl.decl-index c.decl-item.result c.loop-decl-test.true c.decl-item.is))
+          (next_known (take c.loop-decl.decl-index decls) c.loop-decl.known c.fault_in.new.known c.decl-item.result c.count.new.self c.loop-decl.invariant.known
+          c.in_ok-fault.ensures.known c.in_ok-count-in-None.ensures);
+      so_far = passed decls kinds m same c.args.depths.now (deep_so decls kinds m same c.args.depths.now c.requires.depths)
+          c.loop-decl.decl-index c.loop-decl.known c.decl-item.result c.in_ok-fault.field-0 (fault_from decls kinds [] decls)
+          c.loop-decl-test.true c.decl-item.is c.loop-decl.invariant.known c.loop-decl.invariant.so_far c.in-None.is c.in_ok-fault.ensures.told;
+    }
+
+pub returns : goal.returns
+returns c =
+    none_told c.args.decls.now c.args.kinds.now c.loop-decl.decl-index (fault_from c.args.decls.now c.args.kinds.now [] c.args.decls.now) (omega arith) c.loop-decl.invariant.so_far

@@ -1,0 +1,9 @@
+use Rattle.std.proofs.Common.{◌≡◌, [], drop, take}
+use Rattle.name_faults.specs.Known.{IsKnown, fault_from}
+use Rattle.name_faults.proofs.fault.first_fault.Given as goal
+
+abbrev pub invariant-loop-decl : goal.invariant-loop-decl
+invariant-loop-decl l = record {
+  known : IsKnown (take l.decl-index l.decls) l.known;
+  so_far : fault_from l.decls l.kinds (take l.decl-index l.decls) (drop l.decl-index l.decls) ≡ fault_from l.decls l.kinds [] l.decls;
+}

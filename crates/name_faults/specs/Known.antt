@@ -1,0 +1,105 @@
+-- What is known of the declarations that were passed, and what a declaration says after them. It serves the contracts of this crate.
+use Rattle.std.specs.Prelude.{◌≡◌, ℕ, ◌+◌, Bool, false, ◌&&◌, ◌||◌, nat_lt, Option, List, [], ◌∷◌, ◌++◌, length, slice_get, slice_index}
+use Rattle.std.specs.List.{flat_map}
+use Rattle.std.specs.Option.{option_map}
+use Rattle.csp_text.specs.declared.script.Decl.{Decl}
+use Rattle.csp_text.specs.declared.script.Decl.TheVariants as decl
+use Rattle.script_names.specs.declared.fault.ResolveFault.{ResolveFault}
+use Rattle.script_names.specs.declared.fault.ResolveFault.TheVariants as fault
+use Rattle.script_names.specs.declared.kinds.Kind.{Kind}
+use Rattle.script_names.specs.Faults.{is_constant, kind_class}
+use Rattle.script_names.specs.Names.{Name, Meanings, is_among}
+use Rattle.script_names.specs.Occurrence.{Occurrence}
+use Rattle.script_names.specs.Says.{tree_says}
+use Rattle.script_names.specs.Told.{annotation_says, body_place, data_place, declared_after, first_there, is_data, names_declared, first_fault, next_definition, parameters_after, root_place, types_say, when_any, with_roles, with_uses}
+use Rattle.name_tables.specs.Firsts.{SameNames}
+use Rattle.name_notes.specs.declared.notes.Findings.{Findings}
+use Rattle.name_notes.specs.declared.notes.Notes.{Notes}
+use Rattle.name_notes.specs.Found.{findings_of}
+use Rattle.name_notes.specs.Heard.{again_heard}
+use Rattle.name_faults.specs.declared.known.Known.{Known}
+
+abbrev pub nothing_known : Known
+nothing_known = record { declarations = 0; definitions = 0; declared = []; roles = []; uses = [] }
+
+-- how many definitions a declaration makes
+abbrev pub defines : Decl → ℕ
+defines (decl.Define x params t) = 1
+defines (decl.Nametype x t) = 1
+defines (decl.Datatype x ks) = 1
+defines _ = 0
+
+-- the names that it declares
+abbrev pub names_in : Decl → List Name
+names_in (decl.Channel xs types) = xs
+names_in (decl.Datatype x ks) = x ∷ ks
+names_in (decl.Nametype x t) = x ∷ []
+names_in (decl.Define x params t) = x ∷ []
+names_in _ = []
+
+-- this is known of these declarations
+pub record IsKnown (earlier : List Decl) (k : Known) : Type 0 where
+  pub declarations : k.declarations ≡ length earlier
+  pub definitions : k.definitions ≡ next_definition earlier
+  pub declared : SameNames k.declared (names_declared earlier)
+  pub roles : SameNames k.roles (flat_map with_roles earlier)
+  pub uses : SameNames k.uses (flat_map with_uses earlier)
+
+-- the names of a declaration are known besides
+pub record IsNext (k : Known) (d : Decl) (new : Known) : Type 0 where
+  pub declarations : new.declarations ≡ k.declarations
+  pub definitions : new.definitions ≡ k.definitions
+  pub declared : SameNames new.declared (k.declared ++ names_in d)
+  pub roles : SameNames new.roles (k.roles ++ with_roles d)
+  pub uses : SameNames new.uses (k.uses ++ with_uses d)
+
+-- what is noted after names that are declared after others
+abbrev pub declared_heard : List Name → Notes → List Name → Notes
+declared_heard before n [] = n
+declared_heard before n (x ∷ xs) = declared_heard (before ++ x ∷ []) (again_heard n x (is_among before x)) xs
+
+-- and after parameters
+abbrev pub parameters_heard : Meanings → List Name → Notes → List Name → Notes
+parameters_heard meanings before n [] = n
+parameters_heard meanings before n (x ∷ xs) =
+    parameters_heard meanings (before ++ x ∷ []) (again_heard n x (is_among before x || is_constant (meanings x))) xs
+
+module _ (meanings : Meanings) (kinds : List Kind) where
+  -- what a declaration says after those that are known
+  abbrev pub says_after : Known → Decl → List Occurrence
+  says_after k (decl.Channel xs types) = declared_after k.declared xs ++ types_say meanings kinds types
+  says_after k (decl.Datatype x ks) = declared_after k.declared (x ∷ ks)
+  says_after k (decl.Nametype x t) = declared_after k.declared (x ∷ []) ++ tree_says meanings t data_place []
+  says_after k (decl.Define x params t) =
+      declared_after k.declared (x ∷ []) ++ (parameters_after [] params ++ tree_says meanings t (body_place (slice_get kinds k.definitions)) params)
+  says_after k (decl.Assert t) = tree_says meanings t root_place []
+  says_after k (decl.Roles names) =
+      annotation_says meanings kinds (is_among k.roles names.process) names.process (names.creq ∷ names.cack ∷ names.sreq ∷ names.sack ∷ [])
+  says_after k (decl.Resource names) =
+      annotation_says meanings kinds (is_among k.uses names.process) names.process (names.acquire ∷ names.release ∷ [])
+
+-- whether a declaration is a definition of data with the number n that is over 800 deep
+abbrev pub deep_at : List Kind → List ℕ → ℕ → Decl → Bool
+deep_at kinds depths n (decl.Define x params t) = is_data (kind_class (slice_get kinds n)) && nat_lt 800 (slice_index depths n)
+deep_at kinds depths n (decl.Nametype x t) = nat_lt 800 (slice_index depths n)
+deep_at kinds depths n _ = false
+
+-- the fault of the declaration with the number i in which this was found
+abbrev pub told : ℕ → Findings → Bool → Option ResolveFault
+told i found deep = first_there (
+    option_map (λ x. fault.Unknown i x) found.unknown
+    ∷ option_map (λ x. fault.Twice i x) found.twice
+    ∷ when_any found.wrong_kind (fault.WrongKind i)
+    ∷ option_map (λ x. fault.WrongCount i x) found.wrong_count
+    ∷ when_any found.inside (fault.ParallelInside i)
+    ∷ when_any deep (fault.DataDepth i)
+    ∷ [])
+
+-- the fault of a declaration after those that are known
+abbrev pub fault_after : Meanings → List Kind → List ℕ → Known → Decl → Option ResolveFault
+fault_after meanings kinds depths k d =
+    told k.declarations (findings_of meanings kinds (says_after meanings kinds k d)) (deep_at kinds depths k.definitions d)
+
+-- the first fault of the declarations of a script from some on
+unfoldable pub fault_from : List Decl → List Kind → List Decl → List Decl → Option ResolveFault
+fault_from script kinds earlier rest = first_fault script kinds earlier rest

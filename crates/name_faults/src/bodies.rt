@@ -1,0 +1,104 @@
+//! How deep the bodies of definitions reach.
+
+ghost use Rattle.std.specs.Prelude.{◌≡◌, [], ◌∷◌, ◌++◌, map, length, slice_get, IfOk, OnOk};
+ghost use Rattle.script_names.specs.Faults.{kind_class};
+ghost use Rattle.script_names.specs.Names.{first_of};
+ghost use Rattle.script_names.specs.Says.{tree_says};
+ghost use Rattle.script_names.specs.Told.{bodies_from, body_place, expanded_body};
+ghost use Rattle.name_notes.specs.Found as found;
+
+use crate::places;
+use csp_base::{Name, NoMemory};
+use csp_text::{Decl, Tree};
+use name_notes::{Body, Notes, note_tree};
+use name_tables::Dictionary;
+use script_names::{Class, Kind, Place};
+use std::alloc::Global;
+
+/// How deep the body of each definition reaches, as far as it is expanded where the definition is used.
+pub(crate) fn bodies_of(
+    alloc: Global,
+    names: &Dictionary,
+    kinds: &[Kind],
+    decls: &[Decl],
+) -> Result<Vec<Body>, NoMemory>
+    ensures { IfOk result (λ bodies. bodies.items ≡ map found.body_of (bodies_from (first_of names.now) kinds.now 0 decls.now)) }
+{
+    let mut bodies = Vec::new(alloc);
+    for decl in decls {
+        add_body(alloc, names, kinds, &mut bodies, decl)?;
+    }
+    Ok(bodies)
+}
+
+// Adds how deep the body of a definition reaches.
+fn add_body(
+    alloc: Global,
+    names: &Dictionary,
+    kinds: &[Kind],
+    bodies: &mut Vec<Body>,
+    decl: &Decl,
+) -> Result<(), NoMemory>
+    ensures { OnOk result (bodies.new.items ≡ bodies.old.items ++ map found.body_of (bodies_from (first_of names.now) kinds.now (length bodies.old.items) (decl.now ∷ []))) }
+{
+    match decl {
+        Decl::Define(_, params, tree) => {
+            let d = bodies.len();
+            let body = expanded_body(alloc, names, kinds, d, params.as_slice(), tree)?;
+            bodies.push(body)?;
+            Ok(())
+        }
+        Decl::Nametype(_, tree) => {
+            let body = body_at(alloc, names, kinds, &[], places::data_place(), tree)?;
+            bodies.push(body)?;
+            Ok(())
+        }
+        Decl::Datatype(_, _) => {
+            bodies.push(Notes::new(alloc).into_body())?;
+            Ok(())
+        }
+        Decl::Channel(_, _) | Decl::Assert(_) | Decl::Roles(_) | Decl::Resource(_) => Ok(()),
+    }
+}
+
+// How deep the body of a definition reaches. That of a process is not expanded.
+fn expanded_body(
+    alloc: Global,
+    names: &Dictionary,
+    kinds: &[Kind],
+    d: usize,
+    params: &[Name],
+    tree: &Tree,
+) -> Result<Body, NoMemory>
+    ensures { IfOk result (λ body. body ≡ found.body_of (expanded_body (first_of names.now) kinds.now (kind_class (slice_get kinds.now d)) (tree_says (first_of names.now) tree.now (body_place (slice_get kinds.now d)) params.now))) }
+{
+    match places::class_at(kinds, d) {
+        Class::Process => Ok(Notes::new(alloc).into_body()),
+        Class::Data | Class::Unknown => {
+            body_at(
+                alloc,
+                names,
+                kinds,
+                params,
+                places::body_place(kinds, d),
+                tree,
+            )
+        }
+    }
+}
+
+// How deep a tree reaches.
+fn body_at(
+    alloc: Global,
+    names: &Dictionary,
+    kinds: &[Kind],
+    params: &[Name],
+    place: Place,
+    tree: &Tree,
+) -> Result<Body, NoMemory>
+    ensures { IfOk result (λ body. body ≡ found.body_of (tree_says (first_of names.now) tree.now place params.now)) }
+{
+    let mut notes = Notes::new(alloc);
+    note_tree(alloc, names, kinds, &mut notes, params, place, tree)?;
+    Ok(notes.into_body())
+}

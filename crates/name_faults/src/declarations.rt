@@ -1,0 +1,191 @@
+//! What is noted of a declaration.
+
+ghost use Rattle.std.specs.Prelude.{◌≡◌, [], ◌∷◌, ◌++◌, slice_get, OnOk, IfOk};
+ghost use Rattle.std.specs.List.{flat_map};
+ghost use Rattle.script_names.specs.declared.kinds.Use.TheVariants as how;
+ghost use Rattle.script_names.specs.Names.{first_of, is_among, sense_in};
+ghost use Rattle.script_names.specs.Says.{tree_says};
+ghost use Rattle.script_names.specs.Told.{data_place, types_say, with_roles, with_uses};
+ghost use Rattle.name_notes.specs.Heard.{again_heard, heard_all, use_heard};
+ghost use Rattle.name_tables.specs.Firsts.{SameNames};
+ghost use Rattle.name_faults.specs.Known.{declared_heard, names_in, parameters_heard, says_after};
+
+use crate::known::Known;
+use crate::places;
+use csp_base::{Name, NoMemory};
+use csp_text::{Decl, Tree};
+use name_notes::walk::note_bound;
+use name_notes::{Notes, note_tree};
+use name_tables::{Dictionary, NameSet};
+use script_names::{Kind, Sense, Use};
+use std::alloc::Global;
+
+/// Notes what a declaration says that comes after those that are known.
+pub(crate) fn note_decl(
+    alloc: Global,
+    names: &Dictionary,
+    kinds: &[Kind],
+    known: &mut Known,
+    notes: &mut Notes,
+    decl: &Decl,
+) -> Result<(), NoMemory>
+    ensures notes { OnOk result (notes.new ≡ heard_all (first_of names.now) kinds.now notes.old (says_after (first_of names.now) kinds.now known.old decl.now)) }
+    ensures declared { OnOk result (SameNames known.new.declared (known.old.declared ++ names_in decl.now)) }
+    ensures roles { OnOk result (SameNames known.new.roles (known.old.roles ++ with_roles decl.now)) }
+    ensures uses { OnOk result (SameNames known.new.uses (known.old.uses ++ with_uses decl.now)) }
+    ensures declarations { OnOk result (known.new.declarations ≡ known.old.declarations) }
+    ensures definitions { OnOk result (known.new.definitions ≡ known.old.definitions) }
+{
+    match decl {
+        Decl::Channel(xs, types) => {
+            note_declared(alloc, notes, &mut known.declared, xs.as_slice())?;
+            note_types(alloc, names, kinds, notes, types.as_slice())?;
+            Ok(())
+        }
+        Decl::Datatype(x, ks) => {
+            note_name(alloc, notes, &mut known.declared, x)?;
+            note_declared(alloc, notes, &mut known.declared, ks.as_slice())?;
+            Ok(())
+        }
+        Decl::Nametype(x, tree) => {
+            note_name(alloc, notes, &mut known.declared, x)?;
+            note_tree(alloc, names, kinds, notes, &[], places::data_place(), tree)?;
+            Ok(())
+        }
+        Decl::Define(x, params, tree) => {
+            note_name(alloc, notes, &mut known.declared, x)?;
+            note_parameters(alloc, names, notes, params.as_slice())?;
+            let place = places::body_place(kinds, known.definitions as usize);
+            note_tree(alloc, names, kinds, notes, params.as_slice(), place, tree)?;
+            Ok(())
+        }
+        Decl::Assert(tree) => {
+            note_tree(alloc, names, kinds, notes, &[], places::root_place(), tree)?;
+            Ok(())
+        }
+        Decl::Roles(roles) => {
+            let process = &roles.process;
+            let sense = note_annotated(alloc, names, kinds, notes, &mut known.roles, process)?;
+            note_set(alloc, names, kinds, notes, sense, &roles.creq)?;
+            note_set(alloc, names, kinds, notes, sense, &roles.cack)?;
+            note_set(alloc, names, kinds, notes, sense, &roles.sreq)?;
+            note_set(alloc, names, kinds, notes, sense, &roles.sack)?;
+            Ok(())
+        }
+        Decl::Resource(resource) => {
+            let process = &resource.process;
+            let sense = note_annotated(alloc, names, kinds, notes, &mut known.uses, process)?;
+            note_set(alloc, names, kinds, notes, sense, &resource.acquire)?;
+            note_set(alloc, names, kinds, notes, sense, &resource.release)?;
+            Ok(())
+        }
+    }
+}
+
+// Notes a name that is declared.
+fn note_name(
+    alloc: Global,
+    notes: &mut Notes,
+    declared: &mut NameSet,
+    x: &Name,
+) -> Result<(), NoMemory>
+    ensures notes { OnOk result (notes.new ≡ again_heard notes.old x.now (is_among declared.old x.now)) }
+    ensures declared { OnOk result (SameNames declared.new (declared.old ++ x.now ∷ [])) }
+{
+    let before = declared.add(alloc, x)?;
+    notes.note_again(alloc, x, before)?;
+    Ok(())
+}
+
+// Notes names that are declared.
+fn note_declared(
+    alloc: Global,
+    notes: &mut Notes,
+    declared: &mut NameSet,
+    xs: &[Name],
+) -> Result<(), NoMemory>
+    ensures notes { OnOk result (notes.new ≡ declared_heard declared.old notes.old xs.now) }
+    ensures declared { OnOk result (SameNames declared.new (declared.old ++ xs.now)) }
+{
+    for x in xs {
+        note_name(alloc, notes, declared, x)?;
+    }
+    Ok(())
+}
+
+// Notes the parameters of a definition.
+fn note_parameters(
+    alloc: Global,
+    names: &Dictionary,
+    notes: &mut Notes,
+    xs: &[Name],
+) -> Result<(), NoMemory>
+    ensures { OnOk result (notes.new ≡ parameters_heard (first_of names.now) [] notes.old xs.now) }
+{
+    let mut before = NameSet::new(alloc);
+    for x in xs {
+        let repeats = before.add(alloc, x)?;
+        note_bound(alloc, names, notes, x, repeats)?;
+    }
+    Ok(())
+}
+
+// Notes the types of a channel.
+fn note_types(
+    alloc: Global,
+    names: &Dictionary,
+    kinds: &[Kind],
+    notes: &mut Notes,
+    types: &[Tree],
+) -> Result<(), NoMemory>
+    ensures { OnOk result (notes.new ≡ heard_all (first_of names.now) kinds.now notes.old (types_say (first_of names.now) kinds.now types.now)) }
+{
+    for tree in types {
+        note_tree(alloc, names, kinds, notes, &[], places::data_place(), tree)?;
+    }
+    Ok(())
+}
+
+// What a name stands for where none is bound.
+fn sense_of(names: &Dictionary, x: &Name) -> Sense
+    ensures { result ≡ sense_in (first_of names.now) [] x.now }
+{
+    match names.find(x) {
+        Some(entity) => Sense::Declared(entity),
+        None => Sense::Unknown,
+    }
+}
+
+// Notes the process of an annotation, and tells what it stands for.
+fn note_annotated(
+    alloc: Global,
+    names: &Dictionary,
+    kinds: &[Kind],
+    notes: &mut Notes,
+    annotated: &mut NameSet,
+    x: &Name,
+) -> Result<Sense, NoMemory>
+    ensures sense { IfOk result (λ sense. sense ≡ sense_in (first_of names.now) [] x.now) }
+    ensures notes { OnOk result (notes.new ≡ use_heard kinds.now (again_heard notes.old x.now (is_among annotated.old x.now)) x.now (sense_in (first_of names.now) [] x.now) how.Annotated) }
+    ensures annotated { OnOk result (SameNames annotated.new (annotated.old ++ x.now ∷ [])) }
+{
+    note_name(alloc, notes, annotated, x)?;
+    let sense = sense_of(names, x);
+    notes.note_use(alloc, kinds, x, sense, Use::Annotated)?;
+    Ok(sense)
+}
+
+// Notes a set of the annotation of a process that stands for this.
+fn note_set(
+    alloc: Global,
+    names: &Dictionary,
+    kinds: &[Kind],
+    notes: &mut Notes,
+    process: Sense,
+    x: &Name,
+) -> Result<(), NoMemory>
+    ensures { OnOk result (notes.new ≡ use_heard kinds.now notes.old x.now (sense_in (first_of names.now) [] x.now) (how.Annotates process)) }
+{
+    let sense = sense_of(names, x);
+    notes.note_use(alloc, kinds, x, sense, Use::Annotates(process))
+}

@@ -1,0 +1,79 @@
+//! The depths of definitions with all of their uses expanded, as far as 801: round by round, each use one level further.
+
+ghost use Rattle.std.specs.Prelude.{◌≡◌, ◌+◌, ◌↔◌, min, max, map, slice_index, IsTrue, IfOk};
+ghost use Rattle.name_faults.specs.Depths.{AreDepths, deepest_of};
+
+use csp_base::NoMemory;
+use name_notes::Body;
+use std::alloc::Global;
+
+// How many uses may be entered one inside another, and where counting stops.
+const ROUNDS: u32 = 801;
+
+/// The depth of each definition, as far as 801.
+pub(crate) fn depths_of(alloc: Global, bodies: &[Body]) -> Result<Vec<u32>, NoMemory>
+    ensures { IfOk result (λ depths. AreDepths 801 bodies.now depths.items) }
+{
+    let mut depths = Vec::new(alloc);
+    for _round in 0..ROUNDS {
+        let next = next_round(alloc, bodies, depths.as_slice())?;
+        if same(next.as_slice(), depths.as_slice()) {
+            return Ok(depths);
+        }
+        depths = next;
+    }
+    Ok(depths)
+}
+
+// Whether two lists of depths are the same.
+fn same(a: &[u32], b: &[u32]) -> bool
+    ensures { IsTrue result ↔ (a.now ≡ b.now) }
+{
+    a == b
+}
+
+// The depths with one use more that may be entered.
+fn next_round(alloc: Global, bodies: &[Body], depths: &[u32]) -> Result<Vec<u32>, NoMemory>
+    ensures { IfOk result (λ next. next.items ≡ map (λ body. min (deepest_of (λ d. slice_index depths.now d) body) 801) bodies.now) }
+{
+    let mut next = Vec::new(alloc);
+    for body in bodies {
+        next.push(depth_of(body, depths))?;
+    }
+    Ok(next)
+}
+
+// The depth of a body where what it uses has these depths.
+fn depth_of(body: &Body, depths: &[u32]) -> u32
+    ensures { result ≡ min (deepest_of (λ d. slice_index depths.now d) body.now) 801 }
+{
+    let mut deepest = capped(body.level);
+    for (d, level) in body.uses.as_slice() {
+        deepest = greater(deepest, below(depths, *d, *level));
+    }
+    deepest
+}
+
+// How deep the use of a definition reaches.
+fn below(depths: &[u32], d: u32, level: u32) -> u32
+    ensures { result ≡ min (level + slice_index depths.now d) 801 }
+{
+    match depths.get(d as usize) {
+        Some(depth) => capped(level.saturating_add(*depth)),
+        None => capped(level),
+    }
+}
+
+// The greater of two depths.
+fn greater(a: u32, b: u32) -> u32
+    ensures { result ≡ max a b }
+{
+    if a < b { b } else { a }
+}
+
+// A depth as far as it is counted.
+fn capped(depth: u32) -> u32
+    ensures { result ≡ min depth 801 }
+{
+    if depth < ROUNDS { depth } else { ROUNDS }
+}

@@ -1,0 +1,4 @@
+pub mod Binders
+pub mod ToldEquations
+pub mod WalkSteps
+pub mod HeardLemmas

@@ -1,0 +1,131 @@
+-- Loops over the parts of trees: one more, and no more.
+use Rattle.std.proofs.Common.{◌≡◌, ℕ, ◌+◌, ◌<◌, ◌≤◌, ◌||◌, false, Option, Some, None, List, [], ◌∷◌, ◌++◌, length, drop, get_or, refl, ap, sym, ◌∙◌}
+use Rattle.std.proofs.Math.ListN.{drop_of_length-le}
+use Rattle.std.specs.List.{flat_map}
+use Rattle.csp_text.specs.declared.tree.FieldTree.{FieldTree}
+use Rattle.csp_text.specs.declared.tree.FieldTree.TheVariants as field
+use Rattle.csp_text.specs.declared.tree.FieldTree.TheViews.{out-PartTree}
+use Rattle.csp_text.specs.declared.tree.GenTree.{GenTree}
+use Rattle.csp_text.specs.declared.tree.PartTree.{PartTree}
+use Rattle.csp_text.specs.declared.tree.Tree.{Tree}
+use Rattle.csp_text.specs.declared.tree.Tree.TheVariants as tree
+use Rattle.script_names.specs.declared.kinds.Class.TheVariants as class
+use Rattle.script_names.specs.declared.kinds.Sense.{Sense}
+use Rattle.script_names.specs.declared.kinds.Use.TheVariants as how
+use Rattle.script_names.specs.declared.kinds.Kind.{Kind}
+use Rattle.script_names.specs.declared.kinds.Place.{Place}
+use Rattle.script_names.specs.Faults.{is_constant}
+use Rattle.script_names.specs.Names.{Name, Meanings, sense_in}
+use Rattle.script_names.specs.Says.{data_in, process_in}
+use Rattle.name_notes.specs.declared.notes.Notes.{Notes}
+use Rattle.name_notes.specs.Heard.{again_heard, form_heard, use_heard}
+use Rattle.name_notes.specs.Told.{field_names, field_told, fields_told, gen_names, gen_told, gens_told, pair_told, pairs_told, part_told, parts_told, tree_told, trees_told}
+use Rattle.name_notes.proofs.Binders.{split_at}
+use Rattle.name_notes.proofs.ToldEquations.{fields_told-first, gens_told-first, pairs_told-first, parts_told-first, told-Comp, told-Product, told-Rename, told-field-Input, told-field-Input-from, told-pair, trees_told-first}
+
+module _ (m : Meanings) (kinds : List Kind) where
+  pub trees_told-step : (xs : List (Tree)) (i : ℕ) (x : Tree) (place : Place) (names after : List Name) (n new whole : Notes) → i < length xs → x ≡ get_or xs i x
+      → new ≡ tree_told m kinds x place names n → after ≡ names
+      → trees_told m kinds (drop i xs) place names n ≡ whole → trees_told m kinds (drop (i + 1) xs) place after new ≡ whole
+  trees_told-step xs i x place names after n new whole within is now bound so_far =
+      (λ j. trees_told m kinds (drop (i + 1) xs) place (bound j) (now j))
+      ∙ sym (trees_told-first m kinds x (drop (i + 1) xs) place names n)
+      ∙ ap (λ ys. trees_told m kinds ys place names n) (sym (split_at xs i x within is))
+      ∙ so_far
+
+  pub trees_told-end : (xs : List (Tree)) (i : ℕ) (place : Place) (names : List Name) (n whole : Notes) → length xs ≤ i → trees_told m kinds (drop i xs) place names n ≡ whole → n ≡ whole
+  unfolding trees_told
+  trees_told-end xs i place names n whole at_end so_far = ap (λ ys. trees_told m kinds ys place names n) (sym (drop_of_length-le xs at_end)) ∙ so_far
+
+  pub parts_told-step : (xs : List (PartTree)) (i : ℕ) (x : PartTree) (place : Place) (names after : List Name) (n new whole : Notes) → i < length xs → x ≡ get_or xs i x
+      → new ≡ part_told m kinds x place names n → after ≡ names
+      → parts_told m kinds (drop i xs) place names n ≡ whole → parts_told m kinds (drop (i + 1) xs) place after new ≡ whole
+  parts_told-step xs i x place names after n new whole within is now bound so_far =
+      (λ j. parts_told m kinds (drop (i + 1) xs) place (bound j) (now j))
+      ∙ sym (parts_told-first m kinds x (drop (i + 1) xs) place names n)
+      ∙ ap (λ ys. parts_told m kinds ys place names n) (sym (split_at xs i x within is))
+      ∙ so_far
+
+  pub parts_told-end : (xs : List (PartTree)) (i : ℕ) (place : Place) (names : List Name) (n whole : Notes) → length xs ≤ i → parts_told m kinds (drop i xs) place names n ≡ whole → n ≡ whole
+  unfolding parts_told
+  parts_told-end xs i place names n whole at_end so_far = ap (λ ys. parts_told m kinds ys place names n) (sym (drop_of_length-le xs at_end)) ∙ so_far
+
+  pub pairs_told-step : (xs : List (PartTree × PartTree)) (i : ℕ) (x : PartTree × PartTree) (place : Place) (names after : List Name) (n new whole : Notes) → i < length xs → x ≡ get_or xs i x
+      → new ≡ pair_told m kinds x place names n → after ≡ names
+      → pairs_told m kinds (drop i xs) place names n ≡ whole → pairs_told m kinds (drop (i + 1) xs) place after new ≡ whole
+  pairs_told-step xs i x place names after n new whole within is now bound so_far =
+      (λ j. pairs_told m kinds (drop (i + 1) xs) place (bound j) (now j))
+      ∙ sym (pairs_told-first m kinds x (drop (i + 1) xs) place names n)
+      ∙ ap (λ ys. pairs_told m kinds ys place names n) (sym (split_at xs i x within is))
+      ∙ so_far
+
+  pub pairs_told-end : (xs : List (PartTree × PartTree)) (i : ℕ) (place : Place) (names : List Name) (n whole : Notes) → length xs ≤ i → pairs_told m kinds (drop i xs) place names n ≡ whole → n ≡ whole
+  unfolding pairs_told
+  pairs_told-end xs i place names n whole at_end so_far = ap (λ ys. pairs_told m kinds ys place names n) (sym (drop_of_length-le xs at_end)) ∙ so_far
+
+  pub fields_told-step : (xs : List (FieldTree)) (i : ℕ) (x : FieldTree) (place : Place) (names after : List Name) (n new whole : Notes) → i < length xs → x ≡ get_or xs i x
+      → new ≡ field_told m kinds x place names n → after ≡ names ++ field_names x
+      → fields_told m kinds (drop i xs) place names n ≡ whole → fields_told m kinds (drop (i + 1) xs) place after new ≡ whole
+  fields_told-step xs i x place names after n new whole within is now bound so_far =
+      (λ j. fields_told m kinds (drop (i + 1) xs) place (bound j) (now j))
+      ∙ sym (fields_told-first m kinds x (drop (i + 1) xs) place names n)
+      ∙ ap (λ ys. fields_told m kinds ys place names n) (sym (split_at xs i x within is))
+      ∙ so_far
+
+  pub fields_told-end : (xs : List (FieldTree)) (i : ℕ) (place : Place) (names : List Name) (n whole : Notes) → length xs ≤ i → fields_told m kinds (drop i xs) place names n ≡ whole → n ≡ whole
+  unfolding fields_told
+  fields_told-end xs i place names n whole at_end so_far = ap (λ ys. fields_told m kinds ys place names n) (sym (drop_of_length-le xs at_end)) ∙ so_far
+
+  pub gens_told-step : (xs : List (GenTree)) (i : ℕ) (x : GenTree) (place : Place) (names after : List Name) (n new whole : Notes) → i < length xs → x ≡ get_or xs i x
+      → new ≡ gen_told m kinds x place names n → after ≡ names ++ gen_names x
+      → gens_told m kinds (drop i xs) place names n ≡ whole → gens_told m kinds (drop (i + 1) xs) place after new ≡ whole
+  gens_told-step xs i x place names after n new whole within is now bound so_far =
+      (λ j. gens_told m kinds (drop (i + 1) xs) place (bound j) (now j))
+      ∙ sym (gens_told-first m kinds x (drop (i + 1) xs) place names n)
+      ∙ ap (λ ys. gens_told m kinds ys place names n) (sym (split_at xs i x within is))
+      ∙ so_far
+
+  pub gens_told-end : (xs : List (GenTree)) (i : ℕ) (place : Place) (names : List Name) (n whole : Notes) → length xs ≤ i → gens_told m kinds (drop i xs) place names n ≡ whole → n ≡ whole
+  unfolding gens_told
+  gens_told-end xs i place names n whole at_end so_far = ap (λ ys. gens_told m kinds ys place names n) (sym (drop_of_length-le xs at_end)) ∙ so_far
+
+  pub pair_now : (pair : PartTree × PartTree) (place : Place) (names names1 : List Name) (n n1 n2 n3 : Notes) (left right : ℕ) (s : Sense)
+      → left ≡ length (out-PartTree pair.0).fields → s ≡ sense_in m names (out-PartTree pair.1).name → right ≡ length (out-PartTree pair.1).fields
+      → n1 ≡ use_heard kinds n (out-PartTree pair.0).name (sense_in m names (out-PartTree pair.0).name) (how.Renamed left s right)
+      → n2 ≡ part_told m kinds pair.0 place names n1 → names1 ≡ names → n3 ≡ part_told m kinds pair.1 place names1 n2
+      → n3 ≡ pair_told m kinds pair place names n
+  pair_now pair place names names1 n n1 n2 n3 left right s left_is s_is right_is used first same rest =
+      let told = told-pair m kinds pair place names n in cc
+
+  pub comp_now : (t : Tree) (items items1 : List Tree) (gens gens1 gens2 : List GenTree) (place inner : Place) (names b1 b2 : List Name) (n n1 n2 n3 : Notes)
+      → t ≡ tree.Comp items gens → items1 ≡ items → gens1 ≡ gens → gens2 ≡ gens → inner ≡ data_in place → n1 ≡ form_heard n class.Data place
+      → b1 ≡ names ++ flat_map gen_names gens1 → n2 ≡ trees_told m kinds items1 inner b1 n1 → b2 ≡ names → n3 ≡ gens_told m kinds gens2 place b2 n2
+      → n3 ≡ tree_told m kinds t place names n
+  comp_now t items items1 gens gens1 gens2 place inner names b1 b2 n n1 n2 n3 is i1 g1 g2 d f b w r rest =
+      let told = told-Comp m kinds items gens place names n in cc
+
+  pub product_now : (t : Tree) (parts parts1 : List PartTree) (gens gens1 gens2 : List GenTree) (place : Place) (names b1 b2 : List Name) (n n1 n2 n3 : Notes)
+      → t ≡ tree.Product parts gens → parts1 ≡ parts → gens1 ≡ gens → gens2 ≡ gens → n1 ≡ form_heard n class.Data place
+      → b1 ≡ names ++ flat_map gen_names gens1 → n2 ≡ parts_told m kinds parts1 place b1 n1 → b2 ≡ names → n3 ≡ gens_told m kinds gens2 place b2 n2
+      → n3 ≡ tree_told m kinds t place names n
+  product_now t parts parts1 gens gens1 gens2 place names b1 b2 n n1 n2 n3 is i1 g1 g2 f b w r rest =
+      let told = told-Product m kinds parts gens place names n in cc
+
+  pub rename_now : (t p p1 : Tree) (pairs pairs1 : List (PartTree × PartTree)) (gens gens1 gens2 : List GenTree) (place process : Place) (names b0 b1 b2 : List Name) (n n0 n1 n2 n3 : Notes)
+      → t ≡ tree.Rename p pairs gens → p1 ≡ p → pairs1 ≡ pairs → gens1 ≡ gens → gens2 ≡ gens → process ≡ process_in place → n0 ≡ form_heard n class.Process place
+      → n1 ≡ tree_told m kinds p1 process names n0 → b0 ≡ names
+      → b1 ≡ b0 ++ flat_map gen_names gens1 → n2 ≡ pairs_told m kinds pairs1 place b1 n1 → b2 ≡ names → n3 ≡ gens_told m kinds gens2 place b2 n2
+      → n3 ≡ tree_told m kinds t place names n
+  rename_now t p p1 pairs pairs1 gens gens1 gens2 place process names b0 b1 b2 n n0 n1 n2 n3 is q i1 g1 g2 d f w0 z b w r rest =
+      let told = told-Rename m kinds p pairs gens place names n in cc
+
+  pub input_now : (f : FieldTree) (x : List ℕ) (s : Option Tree) (place : Place) (names : List Name) (n n1 : Notes) → f ≡ field.Input x s → s ≡ None
+      → n1 ≡ again_heard n x (false || is_constant (m x)) → n1 ≡ field_told m kinds f place names n
+  input_now f x s place names n n1 is none now =
+      now ∙ sym (told-field-Input m kinds x place names n) ∙ ap (λ g. field_told m kinds g place names n) (sym (is ∙ ap (λ o. field.Input x o) none))
+
+  pub input_from_now : (f : FieldTree) (x : List ℕ) (s : Option Tree) (t : Tree) (place inner : Place) (names : List Name) (n n1 n2 : Notes) → f ≡ field.Input x s → s ≡ Some t
+      → inner ≡ data_in place → n1 ≡ again_heard n x (false || is_constant (m x)) → n2 ≡ tree_told m kinds t inner names n1 → n2 ≡ field_told m kinds f place names n
+  input_from_now f x s t place inner names n n1 n2 is some d now rest =
+      rest ∙ (λ i. tree_told m kinds t (d i) names (now i))
+      ∙ sym (told-field-Input-from m kinds x t place names n) ∙ ap (λ g. field_told m kinds g place names n) (sym (is ∙ ap (λ o. field.Input x o) some))

@@ -1,0 +1,136 @@
+use Rattle.std.proofs.Common.{◌++◌, [], take, ap, refl, sym, ◌∙◌, arith}
+use Rattle.std.specs.List.{flat_map}
+use Rattle.script_names.specs.Names.{first_of}
+use Rattle.name_notes.specs.Told.{field_names, fields_told, gen_names, gens_told, pairs_told, parts_told, trees_told}
+use Rattle.name_notes.proofs.Binders.{field_names-Dot, field_names-Output, gen_names-Cond, none_bound, restored}
+use Rattle.name_notes.proofs.WalkSteps.{fields_told-end, fields_told-step, gens_told-end, gens_told-step, input_from_now, input_now, pair_now, comp_now, product_now, rename_now, pairs_told-end, pairs_told-step, parts_told-end, parts_told-step, trees_told-end, trees_told-step}
+use Rattle.name_tables.proofs.DeclaredLemmas.{flat_end, flat_step}
+use Rattle.name_notes.proofs.walk.+walk.Goals as goal
+
+pub walk_all-loop-tree-preserved : goal.walk_all-loop-tree-preserved
+walk_all-loop-tree-preserved t c = record {
+  notes = trees_told-step (first_of c.args.names.now) c.args.kinds.now c.args.trees.now c.loop-tree.tree-index c.tree-item.result c.args.place c.loop-tree.bound c.walk.new.bound c.loop-tree.notes c.walk.new.notes
+      (trees_told (first_of c.args.names.now) c.args.kinds.now c.args.trees.now c.args.place c.args.bound.now c.args.notes.now)
+      c.loop-tree-test.true c.tree-item.is c.in_ok-walk.ensures.notes c.in_ok-walk.ensures.bound c.loop-tree.invariant.notes;
+  bound = c.in_ok-walk.ensures.bound ∙ c.loop-tree.invariant.bound;
+}
+
+pub walk_all-returns-clause-notes : goal.walk_all-returns-clause-notes
+walk_all-returns-clause-notes t c =
+    trees_told-end (first_of c.args.names.now) c.args.kinds.now c.args.trees.now c.loop-tree.tree-index c.args.place c.loop-tree.bound c.loop-tree.notes
+    (trees_told (first_of c.args.names.now) c.args.kinds.now c.args.trees.now c.args.place c.args.bound.now c.args.notes.now) (omega arith) c.loop-tree.invariant.notes
+
+pub walk_parts-loop-part-preserved : goal.walk_parts-loop-part-preserved
+walk_parts-loop-part-preserved t c = record {
+  notes = parts_told-step (first_of c.args.names.now) c.args.kinds.now c.args.parts.now c.loop-part.part-index c.part-item.result c.args.place c.loop-part.bound c.walk_part.new.bound c.loop-part.notes c.walk_part.new.notes
+      (parts_told (first_of c.args.names.now) c.args.kinds.now c.args.parts.now c.args.place c.args.bound.now c.args.notes.now)
+      c.loop-part-test.true c.part-item.is c.in_ok-walk_part.ensures.notes c.in_ok-walk_part.ensures.bound c.loop-part.invariant.notes;
+  bound = c.in_ok-walk_part.ensures.bound ∙ c.loop-part.invariant.bound;
+}
+
+pub walk_parts-returns-clause-notes : goal.walk_parts-returns-clause-notes
+walk_parts-returns-clause-notes t c =
+    parts_told-end (first_of c.args.names.now) c.args.kinds.now c.args.parts.now c.loop-part.part-index c.args.place c.loop-part.bound c.loop-part.notes
+    (parts_told (first_of c.args.names.now) c.args.kinds.now c.args.parts.now c.args.place c.args.bound.now c.args.notes.now) (omega arith) c.loop-part.invariant.notes
+
+pub walk_fields-loop-field-preserved : goal.walk_fields-loop-field-preserved
+walk_fields-loop-field-preserved t c = record {
+  notes = fields_told-step (first_of c.args.names.now) c.args.kinds.now c.args.fields.now c.loop-field.field-index c.field-item.result c.args.place c.loop-field.bound c.walk_field.new.bound c.loop-field.notes c.walk_field.new.notes
+      (fields_told (first_of c.args.names.now) c.args.kinds.now c.args.fields.now c.args.place c.args.bound.now c.args.notes.now)
+      c.loop-field-test.true c.field-item.is c.in_ok-walk_field.ensures.notes c.in_ok-walk_field.ensures.bound c.loop-field.invariant.notes;
+  bound = flat_step field_names c.walk_field.new.bound c.loop-field.bound (c.args.bound.now ++ flat_map field_names c.args.fields.now) c.loop-field.field-index c.args.fields.now c.field-item.result c.loop-field-test.true c.field-item.is c.in_ok-walk_field.ensures.bound c.loop-field.invariant.bound;
+}
+
+pub walk_fields-returns-clause-notes : goal.walk_fields-returns-clause-notes
+walk_fields-returns-clause-notes t c =
+    fields_told-end (first_of c.args.names.now) c.args.kinds.now c.args.fields.now c.loop-field.field-index c.args.place c.loop-field.bound c.loop-field.notes
+    (fields_told (first_of c.args.names.now) c.args.kinds.now c.args.fields.now c.args.place c.args.bound.now c.args.notes.now) (omega arith) c.loop-field.invariant.notes
+
+pub walk_fields-returns-clause-bound : goal.walk_fields-returns-clause-bound
+walk_fields-returns-clause-bound t c =
+    flat_end field_names c.loop-field.bound (c.args.bound.now ++ flat_map field_names c.args.fields.now) c.loop-field.field-index c.args.fields.now (omega arith) c.loop-field.invariant.bound
+
+pub walk_gens-loop-generator-preserved : goal.walk_gens-loop-generator-preserved
+walk_gens-loop-generator-preserved t c = record {
+  notes = gens_told-step (first_of c.args.names.now) c.args.kinds.now c.args.gens.now c.loop-generator.generator-index c.generator-item.result c.args.place c.loop-generator.bound c.walk_gen.new.bound c.loop-generator.notes c.walk_gen.new.notes
+      (gens_told (first_of c.args.names.now) c.args.kinds.now c.args.gens.now c.args.place c.args.bound.now c.args.notes.now)
+      c.loop-generator-test.true c.generator-item.is c.in_ok-walk_gen.ensures.notes c.in_ok-walk_gen.ensures.bound c.loop-generator.invariant.notes;
+  bound = flat_step gen_names c.walk_gen.new.bound c.loop-generator.bound (c.args.bound.now ++ flat_map gen_names c.args.gens.now) c.loop-generator.generator-index c.args.gens.now c.generator-item.result c.loop-generator-test.true c.generator-item.is c.in_ok-walk_gen.ensures.bound c.loop-generator.invariant.bound;
+}
+
+pub walk_gens-returns-clause-notes : goal.walk_gens-returns-clause-notes
+walk_gens-returns-clause-notes t c =
+    gens_told-end (first_of c.args.names.now) c.args.kinds.now c.args.gens.now c.loop-generator.generator-index c.args.place c.loop-generator.bound c.loop-generator.notes
+    (gens_told (first_of c.args.names.now) c.args.kinds.now c.args.gens.now c.args.place c.args.bound.now c.args.notes.now) (omega arith) c.loop-generator.invariant.notes
+
+pub walk_gens-returns-clause-bound : goal.walk_gens-returns-clause-bound
+walk_gens-returns-clause-bound t c =
+    let all = c.args.bound.now ++ flat_map gen_names c.args.gens.now in
+    restored c.leave.new.self all c.loop-generator.bound c.args.bound.now (flat_map gen_names c.args.gens.now) c.len-mark.result c.len-mark.ensures refl
+    (flat_end gen_names c.loop-generator.bound all c.loop-generator.generator-index c.args.gens.now (omega arith) c.loop-generator.invariant.bound)
+    c.leave.ensures
+
+pub walk_pairs-loop-pair-preserved : goal.walk_pairs-loop-pair-preserved
+walk_pairs-loop-pair-preserved t c =
+    let m = first_of c.args.names.now in
+    let kinds = c.args.kinds.now in
+    let bound = c.in_ok-walk_part-2.ensures.bound ∙ c.in_ok-walk_part.ensures.bound in
+    record {
+      notes = pairs_told-step m kinds c.args.pairs.now c.loop-pair.pair-index c.pair-item.result c.args.place c.loop-pair.bound c.walk_part-in-loop-pair.new.bound
+          c.loop-pair.notes c.walk_part-in-loop-pair.new.notes
+          (pairs_told m kinds c.args.pairs.now c.args.place c.args.bound.now c.args.notes.now) c.loop-pair-test.true c.pair-item.is
+          (pair_now m kinds c.pair-item.result c.args.place c.loop-pair.bound c.walk_part.new.bound c.loop-pair.notes c.note_name.new.notes c.walk_part.new.notes
+          c.walk_part-in-loop-pair.new.notes c.len.result c.len-in-loop-pair.result c.sense_of-new.result c.len.ensures c.sense_of-new.ensures c.len-in-loop-pair.ensures
+          c.in_ok-note_name.ensures c.in_ok-walk_part.ensures.notes c.in_ok-walk_part.ensures.bound c.in_ok-walk_part-2.ensures.notes)
+          bound c.loop-pair.invariant.notes;
+      bound = bound ∙ c.loop-pair.invariant.bound;
+    }
+
+pub walk_pairs-returns-clause-notes : goal.walk_pairs-returns-clause-notes
+walk_pairs-returns-clause-notes t c =
+    pairs_told-end (first_of c.args.names.now) c.args.kinds.now c.args.pairs.now c.loop-pair.pair-index c.args.place c.loop-pair.bound c.loop-pair.notes
+    (pairs_told (first_of c.args.names.now) c.args.kinds.now c.args.pairs.now c.args.place c.args.bound.now c.args.notes.now) (omega arith) c.loop-pair.invariant.notes
+
+pub walk_field-returns-in_ok-walk-in-Dot-clause-bound : goal.walk_field-returns-in_ok-walk-in-Dot-clause-bound
+walk_field-returns-in_ok-walk-in-Dot-clause-bound t c =
+    c.in_ok-walk-in-Dot.ensures.bound ∙ none_bound c.args.bound.now (field_names c.args.field.now) (ap field_names c.in-Dot.is ∙ field_names-Dot c.in-Dot.tree)
+
+pub walk_field-returns-in_ok-walk-in-Output-clause-bound : goal.walk_field-returns-in_ok-walk-in-Output-clause-bound
+walk_field-returns-in_ok-walk-in-Output-clause-bound t c =
+    c.in_ok-walk-in-Output.ensures.bound ∙ none_bound c.args.bound.now (field_names c.args.field.now) (ap field_names c.in-Output.is ∙ field_names-Output c.in-Output.tree)
+
+pub walk_gen-returns-in_ok-walk-in-Cond-clause-bound : goal.walk_gen-returns-in_ok-walk-in-Cond-clause-bound
+walk_gen-returns-in_ok-walk-in-Cond-clause-bound t c =
+    c.in_ok-walk-in-Cond.ensures.bound ∙ none_bound c.args.bound.now (gen_names c.args.generator.now) (ap gen_names c.in-Cond.is ∙ gen_names-Cond c.in-Cond.condition)
+
+pub walk-returns-in_ok-walk_gens-in-Comp-clause-notes : goal.walk-returns-in_ok-walk_gens-in-Comp-clause-notes
+walk-returns-in_ok-walk_gens-in-Comp-clause-notes t c =
+    comp_now (first_of c.args.names.now) c.args.kinds.now c.args.tree.now c.in-Comp.items c.as_slice-in-Comp-2.result.now c.in-Comp.gens c.as_slice-in-Comp.result.now c.as_slice-in-Comp-3.result.now
+    c.args.place c.in_ok-inner.inner.data c.args.bound.now c.bind_gens.new.bound c.leave.new.self c.args.notes.now c.note_form-in-Comp.new.self c.walk_all-in-Comp.new.notes c.walk_gens.new.notes
+    c.in-Comp.is c.as_slice-in-Comp-2.ensures c.as_slice-in-Comp.ensures c.as_slice-in-Comp-3.ensures c.in_ok-inner.ensures.data c.note_form-in-Comp.ensures
+    c.in_ok-bind_gens-in-Comp.ensures c.in_ok-walk_all-in-Comp.ensures.notes
+    (restored c.leave.new.self c.bind_gens.new.bound c.walk_all-in-Comp.new.bound c.args.bound.now (flat_map gen_names c.as_slice-in-Comp.result.now) c.len-mark.result c.len-mark.ensures
+    c.in_ok-bind_gens-in-Comp.ensures c.in_ok-walk_all-in-Comp.ensures.bound c.leave.ensures)
+    c.in_ok-walk_gens-in-Comp.ensures.notes
+
+pub walk-returns-in_ok-walk_gens-in-Product-clause-notes : goal.walk-returns-in_ok-walk_gens-in-Product-clause-notes
+walk-returns-in_ok-walk_gens-in-Product-clause-notes t c =
+    product_now (first_of c.args.names.now) c.args.kinds.now c.args.tree.now c.in-Product.parts c.as_slice-in-Product-2.result.now c.in-Product.gens c.as_slice-in-Product.result.now c.as_slice-in-Product-3.result.now
+    c.args.place c.args.bound.now c.bind_gens-in-Product.new.bound c.leave-in-Product.new.self c.args.notes.now c.note_form-in-Product.new.self c.walk_parts.new.notes c.walk_gens-in-Product.new.notes
+    c.in-Product.is c.as_slice-in-Product-2.ensures c.as_slice-in-Product.ensures c.as_slice-in-Product-3.ensures c.note_form-in-Product.ensures
+    c.in_ok-bind_gens-in-Product.ensures c.in_ok-walk_parts-in-Product.ensures.notes
+    (restored c.leave-in-Product.new.self c.bind_gens-in-Product.new.bound c.walk_parts.new.bound c.args.bound.now (flat_map gen_names c.as_slice-in-Product.result.now) c.len-mark-in-Product.result c.len-mark-in-Product.ensures
+    c.in_ok-bind_gens-in-Product.ensures c.in_ok-walk_parts-in-Product.ensures.bound c.leave-in-Product.ensures)
+    c.in_ok-walk_gens-in-Product.ensures.notes
+
+pub walk-returns-in_ok-walk_gens-in-Rename-clause-notes : goal.walk-returns-in_ok-walk_gens-in-Rename-clause-notes
+walk-returns-in_ok-walk_gens-in-Rename-clause-notes t c =
+    rename_now (first_of c.args.names.now) c.args.kinds.now c.args.tree.now c.in-Rename.p c.get-in-Rename.result.now c.in-Rename.pairs c.as_slice-in-Rename-2.result.now c.in-Rename.gens c.as_slice-in-Rename.result.now c.as_slice-in-Rename-3.result.now
+    c.args.place c.in_ok-inner.inner.process c.args.bound.now c.walk-in-Rename.new.bound c.bind_gens-in-Rename.new.bound c.leave-in-Rename.new.self
+    c.args.notes.now c.note_form-in-Rename.new.self c.walk-in-Rename.new.notes c.walk_pairs.new.notes c.walk_gens-in-Rename.new.notes
+    c.in-Rename.is c.get-in-Rename.ensures c.as_slice-in-Rename-2.ensures c.as_slice-in-Rename.ensures c.as_slice-in-Rename-3.ensures c.in_ok-inner.ensures.process c.note_form-in-Rename.ensures
+    c.in_ok-walk-in-Rename.ensures.notes c.in_ok-walk-in-Rename.ensures.bound
+    c.in_ok-bind_gens-in-Rename.ensures c.in_ok-walk_pairs-in-Rename.ensures.notes
+    (restored c.leave-in-Rename.new.self c.bind_gens-in-Rename.new.bound c.walk_pairs.new.bound c.walk-in-Rename.new.bound (flat_map gen_names c.as_slice-in-Rename.result.now) c.len-mark-in-Rename.result c.len-mark-in-Rename.ensures
+    c.in_ok-bind_gens-in-Rename.ensures c.in_ok-walk_pairs-in-Rename.ensures.bound c.leave-in-Rename.ensures ∙ c.in_ok-walk-in-Rename.ensures.bound)
+    c.in_ok-walk_gens-in-Rename.ensures.notes

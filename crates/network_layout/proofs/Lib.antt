@@ -1,0 +1,11 @@
+pub mod ArgumentSteps
+pub mod EachSteps
+pub mod Equations
+pub mod FirstEvents
+pub mod Laid
+pub mod ListSteps
+pub mod Passed
+pub mod Together
+pub mod ToldSteps
+pub mod TripleFound
+pub mod TripleLemmas

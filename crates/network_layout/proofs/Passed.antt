@@ -1,0 +1,63 @@
+-- A fault of a part is a fault of the whole.
+use Rattle.std.proofs.Common.{◌≡◌, ℕ, Ok, Err, List, subst, sym}
+use Rattle.std.specs.Prelude.{Result}
+use Rattle.std.specs.Result.{IsErrAnd}
+use Rattle.csp_program.specs.Outcome.{Outcome}
+use Rattle.csp_program.specs.declared.kinds.ValueKind.{ValueKind}
+use Rattle.csp_program.specs.declared.processes.Proc.{Proc}
+use Rattle.csp_tables.specs.Network.{Component, Tree}
+use Rattle.network_trees.specs.NetworkOf.{Walked}
+use Rattle.network_trees.specs.Faults.{layout_fault}
+use Rattle.network_layout.specs.Lays.{Fails, Finds, IsLaid, Lacks, Lays}
+use Rattle.value_operators.specs.Gives.{Gives}
+use Rattle.value_operators.specs.declared.fault.EvalFault.{EvalFault}
+use Rattle.value_operators.specs.declared.fault.EvalFault.TheVariants as eval
+use Rattle.network_trees.specs.declared.fault.LayoutFault.{LayoutFault}
+use Rattle.network_trees.specs.declared.fault.LayoutFault.TheVariants as fault
+
+pub fails_on : {A B : Type 0} (f : LayoutFault) (part : Walked A) (whole : Walked B) → Fails f part → ((g : LayoutFault) → part ≡ Err g → whole ≡ Err g) → Fails f whole
+fails_on fault.NoMemory part whole h passes = tt
+fails_on (fault.Value why) part whole h passes = passes (fault.Value why) h
+fails_on (fault.BadNesting first count e) part whole h passes = passes (fault.BadNesting first count e) h
+fails_on fault.EmptyNetwork part whole h passes = passes fault.EmptyNetwork h
+fails_on (fault.ComponentLimit found) part whole h passes = passes (fault.ComponentLimit found) h
+fails_on (fault.NetworkDepth found) part whole h passes = passes (fault.NetworkDepth found) h
+
+lacks_on : {A B : Type 0} (f : LayoutFault) (part : Outcome A) (whole : Walked B) → Lacks f part → ((k : ValueKind) → part ≡ Err k → whole ≡ Err (fault.Value k)) → Fails f whole
+lacks_on fault.NoMemory part whole h passes = tt
+lacks_on (fault.Value why) part whole h passes = passes why h
+lacks_on (fault.BadNesting first count e) part whole h passes = absurd h
+lacks_on fault.EmptyNetwork part whole h passes = absurd h
+lacks_on (fault.ComponentLimit found) part whole h passes = absurd h
+lacks_on (fault.NetworkDepth found) part whole h passes = absurd h
+
+pub lays_fault : (r : Result (List ℕ) LayoutFault) (f : LayoutFault) (whole : Walked (Tree Proc)) (old new : List (Component Proc))
+    → IsErrAnd r (λ y. y ≡ f) → Fails f whole → Lays r whole old new
+lays_fault (Ok x) f whole old new is h = absurd is
+lays_fault (Err y) f whole old new is h = subst (λ g. Fails g whole) (sym is) h
+
+-- the fault of a value that is needed
+pub value_passed : {A : Type 0} (r : Result (List ℕ) LayoutFault) (f : LayoutFault) (part : Outcome A) (whole : Walked (Tree Proc)) (old new : List (Component Proc))
+    → IsErrAnd r (λ y. y ≡ f) → Lacks f part → ((k : ValueKind) → part ≡ Err k → whole ≡ Err (fault.Value k)) → Lays r whole old new
+value_passed r f part whole old new is h passes = lays_fault r f whole old new is (lacks_on f part whole h passes)
+
+-- the fault of a walk below
+pub walk_passed : (r : Result (List ℕ) LayoutFault) (f : LayoutFault) (part whole : Walked (Tree Proc)) (old new : List (Component Proc))
+    → IsErrAnd r (λ y. y ≡ f) → Fails f part → ((g : LayoutFault) → part ≡ Err g → whole ≡ Err g) → Lays r whole old new
+walk_passed r f part whole old new is h passes = lays_fault r f whole old new is (fails_on f part whole h passes)
+
+pub same : (r : Result (List ℕ) LayoutFault) (whole part : Walked (Tree Proc)) (old new : List (Component Proc)) → whole ≡ part → Lays r part old new → Lays r whole old new
+same r whole part old new is h = subst (λ o. Lays r o old new) (sym is) h
+
+pub laid_same : (whole part : Walked (Tree Proc)) (old new : List (Component Proc)) (events : List ℕ) → whole ≡ part → IsLaid part old new events → IsLaid whole old new events
+laid_same whole part old new events is h = subst (λ o. IsLaid o old new events) (sym is) h
+
+finds_fault : {A B : Type 0} (f : EvalFault) (part : Outcome A) (whole : Outcome B) → Gives {A = A} (Err f) part → ((k : ValueKind) → part ≡ Err k → whole ≡ Err k) → Lacks (layout_fault f) whole
+finds_fault eval.NoMemory part whole h passes = tt
+finds_fault (eval.Value why) part whole h passes = passes why h
+
+-- the fault of an evaluation
+pub eval_passed : {A B : Type 0} (r : Result B LayoutFault) (f : EvalFault) (part : Outcome A) (whole : Outcome B)
+    → IsErrAnd r (λ y. y ≡ layout_fault f) → Gives {A = A} (Err f) part → ((k : ValueKind) → part ≡ Err k → whole ≡ Err k) → Finds r whole
+eval_passed (Ok x) f part whole is h passes = absurd is
+eval_passed (Err y) f part whole is h passes = subst (λ g. Lacks g whole) (sym is) (finds_fault f part whole h passes)

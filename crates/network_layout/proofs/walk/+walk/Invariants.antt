@@ -1,0 +1,33 @@
+use Rattle.std.proofs.Common.{◌≡◌, ℕ, ◌+◌, ◌*◌, drop, length}
+use Rattle.network_layout.proofs.EachSteps.{EachSoFar, each}
+use Rattle.network_layout.proofs.walk.+walk.Given as goal
+
+abbrev pub decreases-walk : goal.decreases-walk
+decreases-walk l = 8 * l.levels
+
+abbrev pub decreases-walk_call : goal.decreases-walk_call
+decreases-walk_call l = 8 * l.levels + 1
+
+abbrev pub decreases-walk_if : goal.decreases-walk_if
+decreases-walk_if l = 8 * l.levels + 1
+
+abbrev pub decreases-operand : goal.decreases-operand
+decreases-operand l = 8 * l.levels + 1
+
+abbrev pub decreases-walk_pair : goal.decreases-walk_pair
+decreases-walk_pair l = 8 * l.levels + 2
+
+abbrev pub decreases-walk_one : goal.decreases-walk_one
+decreases-walk_one l = 8 * l.levels + 2
+
+abbrev pub decreases-walk_each : goal.decreases-walk_each
+decreases-walk_each l = 8 * l.levels + 3
+
+abbrev pub decreases-walk_set : goal.decreases-walk_set
+decreases-walk_set l = 8 * l.levels + 4
+
+-- the operands so far are those of the values that were passed
+abbrev pub invariant-walk_each-loop-atom : goal.invariant-walk_each-loop-atom
+invariant-walk_each-loop-atom l =
+    EachSoFar (each l.scope.content.now l.levels l.name l.alphabet l.net l.atoms (length l.fn.seats)) (each l.scope.content.now l.levels l.name l.alphabet l.net (drop l.atom-index l.atoms))
+    l.fn.seats l.seats l.joint

@@ -1,0 +1,88 @@
+-- What the calls of the walk of a network answer. A fault is that of the definition, and want of memory is free.
+use Rattle.std.specs.Prelude.{◌≡◌, ℕ, ◌+◌, Option, Some, None, Result, Ok, Err, List, ◌++◌}
+use Rattle.csp_program.specs.Outcome.{Outcome}
+use Rattle.csp_program.specs.Substitution.{expr_with, net_with}
+use Rattle.csp_tables.specs.Network.{Component, Tree, leaves}
+use Rattle.process_steps.specs.Needed.{events_in}
+use Rattle.network_trees.specs.Joint.{joint}
+use Rattle.network_trees.specs.NetworkOf.{Walked, each_operand, goes_on, nested, side_by_side, walked, walked_node, with_value}
+use Rattle.csp_atoms.specs.declared.atom.Atom.{Atom}
+use Rattle.csp_atoms.specs.declared.value.Value.TheVariants.{One}
+use Rattle.csp_program.specs.declared.expressions.Expr.{Expr}
+use Rattle.csp_program.specs.declared.networks.Net.{Net}
+use Rattle.csp_program.specs.declared.networks.Net.TheOpen.{Net-F}
+use Rattle.csp_program.specs.declared.processes.Proc.{Proc}
+use Rattle.csp_program.specs.declared.programs.Content.{Content}
+use Rattle.network_trees.specs.declared.fault.LayoutFault.{LayoutFault}
+use Rattle.network_trees.specs.declared.fault.LayoutFault.TheVariants as fault
+
+-- the fault is the one that the walk meets
+abbrev pub Fails : {A : Type 0} → LayoutFault → Walked A → Type 0
+Fails fault.NoMemory outcome = Unit {0}
+Fails (fault.Value why) outcome = outcome ≡ Err (fault.Value why)
+Fails (fault.BadNesting first count e) outcome = outcome ≡ Err (fault.BadNesting first count e)
+Fails fault.EmptyNetwork outcome = outcome ≡ Err fault.EmptyNetwork
+Fails (fault.ComponentLimit found) outcome = outcome ≡ Err (fault.ComponentLimit found)
+Fails (fault.NetworkDepth found) outcome = outcome ≡ Err (fault.NetworkDepth found)
+
+-- a value that the walk needs, or why there is none
+abbrev pub Lacks : {A : Type 0} → LayoutFault → Outcome A → Type 0
+Lacks fault.NoMemory outcome = Unit {0}
+Lacks (fault.Value why) outcome = outcome ≡ Err why
+Lacks (fault.BadNesting first count e) outcome = ⊥
+Lacks fault.EmptyNetwork outcome = ⊥
+Lacks (fault.ComponentLimit found) outcome = ⊥
+Lacks (fault.NetworkDepth found) outcome = ⊥
+
+abbrev pub Finds : {A : Type 0} → Result A LayoutFault → Outcome A → Type 0
+Finds (Ok a) outcome = outcome ≡ Ok a
+Finds (Err f) outcome = Lacks f outcome
+
+-- the walk makes a tree, and these are its components
+pub record AreSeats (outcome : Walked (Tree Proc)) (seats : List (Component Proc)) : Type 0 where
+  pub tree : Tree Proc
+  pub spelled : outcome ≡ Ok tree
+  pub whole : seats ≡ leaves tree
+
+-- The walk makes a tree; the seats grew by its components, and these are the events that they have together.
+pub record IsLaid (outcome : Walked (Tree Proc)) (old new : List (Component Proc)) (events : List ℕ) : Type 0 where
+  pub tree : Tree Proc
+  pub made : outcome ≡ Ok tree
+  pub seats : new ≡ old ++ leaves tree
+  pub together : events ≡ joint (leaves tree)
+
+abbrev pub Lays : Result (List ℕ) LayoutFault → Walked (Tree Proc) → List (Component Proc) → List (Component Proc) → Type 0
+Lays (Ok events) outcome old new = IsLaid outcome old new events
+Lays (Err f) outcome old new = Fails f outcome
+
+-- whether an operand agrees with its alphabet, where this event is the least that only one of the two has
+abbrev pub Differs : LayoutFault → ℕ → ℕ → Option ℕ → Type 0
+Differs fault.NoMemory first count odd = Unit {0}
+Differs (fault.Value why) first count odd = ⊥
+Differs (fault.BadNesting k n e) first count odd = (k ≡ first) × (n ≡ count) × (odd ≡ Some e)
+Differs fault.EmptyNetwork first count odd = ⊥
+Differs (fault.ComponentLimit found) first count odd = ⊥
+Differs (fault.NetworkDepth found) first count odd = ⊥
+
+abbrev pub Agrees : {A : Type 0} → Result A LayoutFault → ℕ → ℕ → Option ℕ → Type 0
+Agrees (Ok a) first count odd = odd ≡ None
+Agrees (Err f) first count odd = Differs f first count odd
+
+-- The parts of the walk, where so many nodes may be entered below. The number of components before is k.
+
+-- a node
+unfoldable pub node : Content → ℕ → ℕ → List ℕ → Net-F Net → Walked (Tree Proc)
+node p levels k alphabet n = walked_node p (walked p levels) k alphabet n
+
+-- an operand
+unfoldable pub operand_walked : Content → ℕ → ℕ → List ℕ → Net → Walked (Tree Proc)
+operand_walked p levels k alphabet n = goes_on (walked p levels k alphabet n) (nested k alphabet)
+
+-- the operand for one value of the name x
+unfoldable pub one_operand : Content → ℕ → ℕ → ℕ → Expr → Net → Atom → Walked (Tree Proc)
+one_operand p levels k x a n v =
+    with_value (events_in p (expr_with x (One v) a)) (λ alphabet. operand_walked p levels k alphabet (net_with x (One v) n))
+
+-- the operands for values of the name x
+unfoldable pub operands_each : Content → ℕ → ℕ → ℕ → Expr → Net → List Atom → Walked (Tree Proc)
+operands_each p levels k x a n vs = side_by_side p (walked p levels) (each_operand p (walked p levels) x a n vs k)

@@ -1,0 +1,3 @@
+pub mod Lays
+pub mod Told
+pub mod Triple

@@ -1,0 +1,47 @@
+//! The layout of a program's network.
+
+ghost use Rattle.std.specs.Prelude.{◌≡◌, IfErr, IfOk};
+ghost use Rattle.std.specs.List.{range_with_len};
+ghost use Rattle.network_trees.specs.NetworkOf.{network_of};
+ghost use Rattle.network_layout.specs.Lays.{AreSeats, Fails};
+
+use crate::nesting::short;
+use crate::seat::Layout;
+use crate::values::Scope;
+use crate::walk::walk;
+use containers::Items;
+use csp_base::{Event, EventSet, NoMemory};
+use csp_program::Program;
+use network_trees::LayoutFault;
+use std::alloc::Global;
+
+// The greatest number of nodes that stand one inside another.
+const MOST_LEVELS: u32 = 800;
+
+// The first `count` events.
+fn first_events(alloc: Global, count: u32) -> Result<EventSet, NoMemory>
+    ensures { IfOk result (λ made. made ≡ range_with_len 0 count) }
+{
+    let mut events = EventSet::new(alloc);
+    for number in 0..count {
+        events.insert(Event(number))?;
+    }
+    Ok(events)
+}
+
+/// The components of the network that a program spells, from left to right. A fault is the first that the walk of the network meets.
+pub fn layout(alloc: Global, program: &Program) -> Result<Layout, LayoutFault>
+    ensures seats { IfOk result (AreSeats (network_of program.now)) }
+    ensures fault { IfErr result (λ fault. Fails fault (network_of program.now)) }
+{
+    let content = program.content();
+    let scope = Scope { alloc, content };
+    let events = first_events(alloc, short(content.events.len())?)?;
+    let mut seats = Items::new(alloc);
+    walk(&scope, MOST_LEVELS, &content.root, &events, &mut seats)?;
+    if seats.is_empty() {
+        return Err(LayoutFault::EmptyNetwork);
+    }
+    let layout = Layout::new(alloc, seats)?;
+    Ok(layout)
+}

@@ -1,0 +1,120 @@
+//! Seats: a component of a network with its alphabet.
+
+ghost use Rattle.std.specs.Prelude.{◌≡◌, ◌≤◌, IfOk, length};
+ghost use Rattle.network_layout.specs.Triple.{AreCrowded, alphabets};
+
+use containers::Items;
+use csp_base::{EventSet, NoMemory};
+use csp_program::Proc;
+use std::alloc::Global;
+use std::marker::Model;
+
+/// A component of a network: the process where it begins, and the events that it takes part in.
+#[derive(Drop)]
+pub struct Seat {
+    term: Proc,
+    alphabet: EventSet,
+}
+
+impl Model for Seat {
+    ghost use Rattle.std.specs.Coded.{codes};
+    ghost use Rattle.csp_program.specs.contracts.processes.Proc as process;
+    ghost use Rattle.csp_program.specs.declared.processes.Proc.{Proc};
+    ghost use Rattle.csp_tables.specs.Network.{Component};
+
+    ghost Value = { Component Proc };
+
+    ghost coded = { Prim.hlevel (codes, process.the_row.coded) };
+
+    ghost view = { λ s. record { alphabet = s.alphabet; term = s.term } };
+}
+
+impl Seat {
+    /// The component that begins with this process and has this alphabet.
+    pub fn new(term: Proc, alphabet: EventSet) -> Seat
+        ensures { result ≡ record { alphabet = alphabet; term = term } }
+    {
+        Seat { term, alphabet }
+    }
+
+    /// The process where the component begins.
+    pub fn term(&self) -> &Proc
+        ensures { result.now ≡ self.now.term }
+    {
+        &self.term
+    }
+
+    /// The events that the component takes part in.
+    pub fn alphabet(&self) -> &EventSet
+        ensures { result.now ≡ self.now.alphabet }
+    {
+        &self.alphabet
+    }
+}
+
+/// The components of a network, from left to right, at most 512.
+#[derive(Drop)]
+pub struct Layout {
+    seats: Items<Seat>,
+    crowded: EventSet,
+}
+
+impl Model for Layout {
+    ghost use Rattle.std.specs.Coded.{codes};
+    ghost use Rattle.std.specs.Prelude.{◌≤◌, List, length};
+    ghost use Rattle.csp_program.specs.contracts.processes.Proc as process;
+    ghost use Rattle.csp_program.specs.declared.processes.Proc.{Proc};
+    ghost use Rattle.csp_tables.specs.Network.{Component};
+    ghost use Rattle.network_layout.specs.Triple.{AreCrowded, alphabets};
+
+    ghost Value = { List (Component Proc) };
+
+    ghost coded = { Prim.hlevel (codes, process.the_row.coded) };
+
+    ghost view = { λ l. l.seats };
+
+    ghost invariant = { λ l. (length l.seats ≤ 512) × AreCrowded (alphabets l.seats) l.crowded };
+}
+
+impl Layout {
+    /// The components of the list, which are at most 512.
+    pub fn new(alloc: Global, seats: Items<Seat>) -> Result<Layout, NoMemory>
+        requires few { length seats ≤ 512 }
+        ensures { IfOk result (λ made. made ≡ seats) }
+    {
+        let crowded = crowded(alloc, seats.as_slice())?;
+        Ok(Layout { seats, crowded })
+    }
+
+    /// The components.
+    pub fn seats(&self) -> &[Seat]
+        ensures seats { result.now ≡ self.now }
+        ensures few { length self.now ≤ 512 }
+    {
+        self.seats.as_slice()
+    }
+
+    // The events of three components or more.
+    pub(crate) fn crowded(&self) -> &EventSet
+        ensures { AreCrowded (alphabets self.now) result.now }
+    {
+        &self.crowded
+    }
+}
+
+// The events of three components or more.
+fn crowded(alloc: Global, seats: &[Seat]) -> Result<EventSet, NoMemory>
+    ensures { IfOk result (AreCrowded (alphabets seats.now)) }
+{
+    let mut once = EventSet::new(alloc);
+    let mut twice = EventSet::new(alloc);
+    let mut thrice = EventSet::new(alloc);
+    for seat in seats {
+        let third = twice.inter(alloc, seat.alphabet())?;
+        thrice = thrice.union(alloc, &third)?;
+        let second = once.inter(alloc, seat.alphabet())?;
+        twice = twice.union(alloc, &second)?;
+        once = once.union(alloc, seat.alphabet())?;
+    }
+    Ok(thrice)
+}

@@ -1,0 +1,217 @@
+//! The walk of a network, depth first from the left. It seats each component that it meets, and gives back their alphabets together.
+
+ghost use Rattle.std.specs.Prelude.{◌≡◌, [], length};
+ghost use Rattle.csp_program.specs.declared.networks.Net.TheOpen.{Net-F};
+ghost use Rattle.network_trees.specs.NetworkOf.{component, walked};
+ghost use Rattle.network_layout.specs.Lays.{Lays, node, one_operand, operand_walked, operands_each};
+
+use crate::calls::{body_at, called};
+use crate::nesting::agree;
+use crate::seat::Seat;
+use crate::values::{Scope, arguments, events, events_at, set, truth};
+use containers::Items;
+use csp_atoms::Atom;
+use csp_base::EventSet;
+use csp_program::proc_copies::copy_proc;
+use csp_program::{Expr, Net, Proc};
+use network_trees::LayoutFault;
+
+// The greatest number of components.
+const MOST_COMPONENTS: usize = 512;
+
+const TOO_DEEP: LayoutFault = LayoutFault::NetworkDepth { found: 801 };
+
+// Seats a component.
+fn sit(
+    scope: &Scope<'_>,
+    process: &Proc,
+    alphabet: &EventSet,
+    seats: &mut Items<Seat>,
+) -> Result<EventSet, LayoutFault>
+    ensures { Lays result (component (length seats.old) alphabet.now process.now) seats.old seats.new }
+{
+    if seats.len() >= MOST_COMPONENTS {
+        return Err(LayoutFault::ComponentLimit { found: 513 });
+    }
+    let kept = alphabet.try_clone(scope.alloc)?;
+    let joint = alphabet.union(scope.alloc, &EventSet::new(scope.alloc))?;
+    let term = copy_proc(scope.alloc, process)?;
+    seats.push(Seat::new(term, kept))?;
+    Ok(joint)
+}
+
+// A network in which no node may be entered.
+fn walk_leaf(
+    scope: &Scope<'_>,
+    net: &Net,
+    alphabet: &EventSet,
+    seats: &mut Items<Seat>,
+) -> Result<EventSet, LayoutFault>
+    ensures { Lays result (walked scope.now.content.now 0 (length seats.old) alphabet.now net.now) seats.old seats.new }
+{
+    match net {
+        Net::Leaf(process) => sit(scope, process, alphabet, seats),
+        Net::Call(_, _) => Err(TOO_DEEP),
+        Net::If(_, _, _) => Err(TOO_DEEP),
+        Net::Pair(_, _, _, _) => Err(TOO_DEEP),
+        Net::Each(_, _, _, _) => Err(TOO_DEEP),
+    }
+}
+
+// A network, in which `levels` nodes may still be entered, one inside another.
+#[cycle(walk)]
+pub(crate) fn walk(
+    scope: &Scope<'_>,
+    levels: u32,
+    net: &Net,
+    alphabet: &EventSet,
+    seats: &mut Items<Seat>,
+) -> Result<EventSet, LayoutFault>
+    ensures { Lays result (walked scope.now.content.now levels (length seats.old) alphabet.now net.now) seats.old seats.new }
+{
+    if levels == 0 {
+        return walk_leaf(scope, net, alphabet, seats);
+    }
+    let below = levels - 1;
+    match net {
+        Net::Leaf(process) => sit(scope, process, alphabet, seats),
+        Net::Call(def, args) => walk_call(scope, below, *def, args.as_slice(), alphabet, seats),
+        Net::If(c, n, m) => walk_if(scope, below, c, n.get(), m.get(), alphabet, seats),
+        Net::Pair(n, a, b, m) => walk_pair(scope, below, n.get(), a, b, m.get(), seats),
+        Net::Each(x, s, a, n) => walk_set(scope, below, *x, s, a, n.get(), seats),
+    }
+}
+
+// A call, which stands for the body of its definition.
+#[cycle(walk)]
+fn walk_call(
+    scope: &Scope<'_>,
+    levels: u32,
+    def: u32,
+    args: &[Expr],
+    alphabet: &EventSet,
+    seats: &mut Items<Seat>,
+) -> Result<EventSet, LayoutFault>
+    ensures { Lays result (node scope.now.content.now levels (length seats.old) alphabet.now (Net-F.Call def args.now)) seats.old seats.new }
+{
+    let values = arguments(scope, args)?;
+    let net = called(scope, def, values.as_slice())?;
+    let joint = walk(scope, levels, net.get(), alphabet, seats)?;
+    Ok(joint)
+}
+
+// A choice, which stands for one of its parts.
+#[cycle(walk)]
+fn walk_if(
+    scope: &Scope<'_>,
+    levels: u32,
+    condition: &Expr,
+    left: &Net,
+    right: &Net,
+    alphabet: &EventSet,
+    seats: &mut Items<Seat>,
+) -> Result<EventSet, LayoutFault>
+    ensures { Lays result (node scope.now.content.now levels (length seats.old) alphabet.now (Net-F.If condition.now left.now right.now)) seats.old seats.new }
+{
+    let holds = truth(scope, condition)?;
+    if holds {
+        return walk(scope, levels, left, alphabet, seats);
+    }
+    walk(scope, levels, right, alphabet, seats)
+}
+
+// An operand, which has to agree with its alphabet.
+#[cycle(walk)]
+fn operand(
+    scope: &Scope<'_>,
+    levels: u32,
+    net: &Net,
+    alphabet: &EventSet,
+    seats: &mut Items<Seat>,
+) -> Result<EventSet, LayoutFault>
+    ensures { Lays result (operand_walked scope.now.content.now levels (length seats.old) alphabet.now net.now) seats.old seats.new }
+{
+    let first = seats.len();
+    let joint = walk(scope, levels, net, alphabet, seats)?;
+    agree(scope.alloc, first, seats.len(), alphabet, &joint)?;
+    Ok(joint)
+}
+
+// Two operands, each with its alphabet.
+#[cycle(walk)]
+fn walk_pair(
+    scope: &Scope<'_>,
+    levels: u32,
+    left: &Net,
+    left_alphabet: &Expr,
+    right_alphabet: &Expr,
+    right: &Net,
+    seats: &mut Items<Seat>,
+) -> Result<EventSet, LayoutFault>
+    ensures { Lays result (node scope.now.content.now levels (length seats.old) [] (Net-F.Pair left.now left_alphabet.now right_alphabet.now right.now)) seats.old seats.new }
+{
+    let left_events = events(scope, left_alphabet)?;
+    let right_events = events(scope, right_alphabet)?;
+    let first = operand(scope, levels, left, &left_events, seats)?;
+    let second = operand(scope, levels, right, &right_events, seats)?;
+    let joint = first.union(scope.alloc, &second)?;
+    Ok(joint)
+}
+
+// An operand for each value of a set.
+#[cycle(walk)]
+fn walk_set(
+    scope: &Scope<'_>,
+    levels: u32,
+    name: u32,
+    values: &Expr,
+    alphabet: &Expr,
+    net: &Net,
+    seats: &mut Items<Seat>,
+) -> Result<EventSet, LayoutFault>
+    ensures { Lays result (node scope.now.content.now levels (length seats.old) [] (Net-F.Each name values.now alphabet.now net.now)) seats.old seats.new }
+{
+    let atoms = set(scope, values)?;
+    let joint = walk_each(scope, levels, name, atoms.as_slice(), alphabet, net, seats)?;
+    Ok(joint)
+}
+
+// An operand for each of these values.
+#[cycle(walk)]
+fn walk_each(
+    scope: &Scope<'_>,
+    levels: u32,
+    name: u32,
+    atoms: &[Atom],
+    alphabet: &Expr,
+    net: &Net,
+    seats: &mut Items<Seat>,
+) -> Result<EventSet, LayoutFault>
+    ensures { Lays result (operands_each scope.now.content.now levels (length seats.old) name alphabet.now net.now atoms.now) seats.old seats.new }
+{
+    let mut joint = EventSet::new(scope.alloc);
+    for atom in atoms {
+        let next = walk_one(scope, levels, name, atom, alphabet, net, seats)?;
+        joint = joint.union(scope.alloc, &next)?;
+    }
+    Ok(joint)
+}
+
+// The operand for one value.
+#[cycle(walk)]
+fn walk_one(
+    scope: &Scope<'_>,
+    levels: u32,
+    name: u32,
+    atom: &Atom,
+    alphabet: &Expr,
+    net: &Net,
+    seats: &mut Items<Seat>,
+) -> Result<EventSet, LayoutFault>
+    ensures { Lays result (one_operand scope.now.content.now levels (length seats.old) name alphabet.now net.now atom.now) seats.old seats.new }
+{
+    let events = events_at(scope, alphabet, name, atom)?;
+    let body = body_at(scope.alloc, net, name, atom)?;
+    let joint = operand(scope, levels, body.get(), &events, seats)?;
+    Ok(joint)
+}

@@ -1,0 +1,9 @@
+pub mod FormOfTables
+pub mod Sharing
+pub mod Joining
+pub mod Linking
+pub mod Reading
+pub mod Counting
+pub mod Forming
+pub mod Stopping
+pub mod MadeShapes

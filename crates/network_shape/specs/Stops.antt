@@ -1,0 +1,26 @@
+-- Where a part of a shape stops: after a run it can come to accept nothing.
+use Rattle.std.specs.Prelude.{◌≡◌, ◌<◌, ℕ, List, [], length, get_or}
+use Rattle.csp_tables.specs.Table.{IsRun, acceptances_after}
+use Rattle.csp_tables.specs.Part.{Part, part_at, IsNonEmpty}
+use Rattle.csp_tables.specs.Shape.{Shape}
+use Rattle.csp_tables.specs.Standing.{RunsTo, IsBusyShape}
+
+-- no acceptance of the part after a run is empty
+abbrev pub IsBusyPart : Part → Type 0
+IsBusyPart p = (s : List ℕ) (k : ℕ) → IsRun p.table s → k < length (acceptances_after p.table s) → IsNonEmpty (get_or (acceptances_after p.table s) k [])
+
+-- one of the acceptances is empty
+pub record HasEmpty (acceptances : List (List ℕ)) : Type 0 where
+  pub place : ℕ
+  pub within : place < length acceptances
+  pub empty : get_or acceptances place [] ≡ []
+
+-- After the run s the part in place i has an empty acceptance, and no part before it ever has one.
+pub record StopsFirst (shape : Shape) (i : ℕ) (s : List ℕ) : Type 0 where
+  pub runs : RunsTo shape i s
+  pub stops : HasEmpty (acceptances_after (part_at shape.parts i).table s)
+  pub first : (j : ℕ) → j < i → IsBusyPart (part_at shape.parts j)
+
+-- a shape with a part that stops is not busy
+abbrev pub StopsRefute : Type 0
+StopsRefute = (shape : Shape) (i : ℕ) (s : List ℕ) → StopsFirst shape i s → IsBusyShape shape → ⊥

@@ -1,0 +1,92 @@
+//! Whether a network is busy: whether no component ever comes to accept nothing.
+
+ghost use Rattle.std.specs.Prelude.{◌≡◌, ◌<◌, ◌↔◌, ℕ, List, [], IsTrue, IfNone, IfOk, IfSome, OnOk, length, get_or};
+ghost use Rattle.csp_tables.specs.Form.{HasForm};
+ghost use Rattle.csp_tables.specs.Part.{IsNonEmpty};
+ghost use Rattle.csp_tables.specs.Shape.{IsWellFormed};
+ghost use Rattle.csp_tables.specs.Standing.{IsBusyShape};
+ghost use Rattle.csp_tables.specs.Table.{IsReached, IsRun, end_of, node_at};
+ghost use Rattle.observed_runs.specs.Observed.{pair_at};
+ghost use Rattle.network_shape.specs.Stops.{HasEmpty, StopsFirst};
+
+use crate::fault::BusyFault;
+use csp_base::{EventSet, NoMemory, Trace};
+use csp_tables::{Part, Shape};
+use observed_runs::{Unwatched, explore};
+use std::alloc::Global;
+
+/// Whether no part of the shape has an empty acceptance after a run. Where one has, the first such part is told, with such a
+/// run.
+pub fn busy(alloc: Global, shape: &Shape) -> Result<(), BusyFault>
+    requires { IsWellFormed shape.now }
+    ensures busy { OnOk result (IsBusyShape shape.now) }
+    ensures stops { (part : ℕ) (trace : List ℕ) → result ≡ Err (BusyFault.Stops part trace) → StopsFirst shape.now part trace }
+{
+    for (place, part) in shape.parts().iter().enumerate() {
+        if let Some(node) = empty_node(part) {
+            let trace = run_to_node(alloc, part, node)?;
+            return Err(BusyFault::Stops {
+                part: place as u32,
+                trace,
+            });
+        }
+    }
+    Ok(())
+}
+
+// The first node of the part with an empty acceptance.
+fn empty_node(part: &Part) -> Option<u32>
+    ensures none { IfNone result ((n k : ℕ) → k < length (node_at part.now.table n).accept → IsNonEmpty (get_or (node_at part.now.table n).accept k [])) }
+    ensures within { IfSome result (λ n. n < length part.now.table) }
+    ensures empty { IfSome result (λ n. HasEmpty (node_at part.now.table n).accept) }
+{
+    for (number, node) in part.table().nodes().iter().enumerate() {
+        if has_empty(node.accept()) {
+            return Some(number as u32);
+        }
+    }
+    None
+}
+
+// Whether one of the sets is empty.
+fn has_empty(sets: &[EventSet]) -> bool
+    ensures { IsTrue result ↔ HasEmpty sets.now }
+{
+    for set in sets {
+        if set.is_empty() {
+            return true;
+        }
+    }
+    false
+}
+
+// A run of the part's table that leads to the node.
+fn run_to_node(alloc: Global, part: &Part, node: u32) -> Result<Trace, NoMemory>
+    requires form { HasForm part.now }
+    requires reached { IsReached part.now.table node }
+    ensures follows { IfOk result (λ run. IsRun part.now.table run) }
+    ensures leads { IfOk result (λ run. end_of part.now.table 0 run ≡ node) }
+{
+    let explored = explore(alloc, part, &Unwatched)?;
+    let place = node_place(explored.pairs(), node);
+    let run = explored.run_to(alloc, place);
+    let_go(explored);
+    run
+}
+
+// Ends a value here.
+fn let_go<T: Drop>(_value: T) {}
+
+// The place of a pair with the node.
+fn node_place(pairs: &[(u32, u32)], node: u32) -> usize
+    requires { (k : ℕ) × (k < length pairs.now) × ((pair_at pairs.now k).0 ≡ node) }
+    ensures within { result < length pairs.now }
+    ensures found { (pair_at pairs.now result).0 ≡ node }
+{
+    for (place, (other, _)) in pairs.iter().enumerate() {
+        if *other == node {
+            return place;
+        }
+    }
+    unreachable!()
+}

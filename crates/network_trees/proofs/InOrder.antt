@@ -1,0 +1,139 @@
+-- What a walk makes is well nested, and there are at most 512 components.
+use Rattle.std.proofs.Common.{◌≡◌, ℕ, zero, suc, ◌+◌, ◌<◌, ◌≤◌, if◌then◌else◌, Some, None, Ok, List, [], ◌∷◌, ◌++◌, length, refl, subst, ◌∙◌, arith}
+use Rattle.std.specs.Prelude.{Option, nat_lt, slice_get}
+use Rattle.std.proofs.lemmas.Bool.{ltb-true}
+use Rattle.std.proofs.lemmas.List.{length-append}
+use Rattle.csp_program.specs.Substitution.{expr_with, net_with}
+use Rattle.csp_tables.specs.Network.{Component, Tree, Operands, leaves, leaves_of_operands}
+use Rattle.csp_tables.specs.Network.Tree.{leaf, parallel}
+use Rattle.csp_tables.specs.Network.Operands.{none, operand}
+use Rattle.csp_tables.specs.WellNested.{WellNested, OperandsWellNested}
+use Rattle.process_steps.specs.Needed.{arguments_in, events_in, set_in, truth_in}
+use Rattle.network_trees.specs.Joint.{joint, odd_event}
+use Rattle.network_trees.specs.NetworkOf.{Walked, agreed, all_events, component, each_operand, goes_on, nested, network_called, network_of, operand_first, side_by_side, some_components, two_operands, walked, walked_leaf, walked_node, with_value}
+use Rattle.network_trees.proofs.JointLemmas.{has-joint, same_members}
+use Rattle.network_trees.proofs.Steps.{chosen, had, went}
+use Rattle.csp_atoms.specs.declared.atom.Atom.{Atom}
+use Rattle.csp_atoms.specs.declared.value.Value.TheVariants.{One}
+use Rattle.csp_program.specs.declared.expressions.Expr.{Expr}
+use Rattle.csp_program.specs.declared.networks.Net.{Net}
+use Rattle.csp_program.specs.declared.networks.Net.TheOpen.{Net-F}
+use Rattle.csp_program.specs.declared.networks.Net.TheViews.{out-Net}
+use Rattle.csp_program.specs.declared.processes.Proc.{Proc}
+use Rattle.csp_program.specs.declared.programs.Content.{Content}
+use Rattle.network_trees.specs.declared.fault.LayoutFault.TheVariants as fault
+
+-- what is true of a tree, and of operands, that k components come before
+pub record IsTree (k : ℕ) (tree : Tree Proc) : Type 0 where
+  pub nesting : WellNested tree
+  pub few : k + length (leaves tree) ≤ 512
+
+pub record AreOperands (k : ℕ) (os : Operands Proc) : Type 0 where
+  pub nesting : OperandsWellNested os
+  pub few : k + length (leaves_of_operands os) ≤ 512
+
+abbrev pub MakesTree : (ℕ → Walked (Tree Proc)) → Type 0
+MakesTree walk = (k : ℕ) (tree : Tree Proc) → k ≤ 512 → walk k ≡ Ok tree → IsTree k tree
+
+abbrev pub MakesOperands : (ℕ → Walked (Operands Proc)) → Type 0
+MakesOperands walk = (k : ℕ) (os : Operands Proc) → k ≤ 512 → walk k ≡ Ok os → AreOperands k os
+
+one_leaf : (k : ℕ) (alphabet : List ℕ) (q : Proc) → k < 512 → IsTree k (leaf (record { alphabet = alphabet; term = q }))
+one_leaf k alphabet q lt = record { nesting = tt; few = omega arith }
+
+makes_component : (alphabet : List ℕ) (q : Proc) → MakesTree (λ k. component k alphabet q)
+makes_component alphabet q k tree fits h =
+    let made = chosen (nat_lt k 512) (leaf (record { alphabet = alphabet; term = q })) tree (fault.ComponentLimit 513) h in
+    subst (IsTree k) made.1 (one_leaf k alphabet q (ltb-true k 512 made.0))
+
+-- the operand was found to agree with its alphabet
+agrees : (k : ℕ) (tree made : Tree Proc) (odd : Option ℕ) → agreed k tree odd ≡ Ok made → (odd ≡ None) × (tree ≡ made)
+agrees k tree made None h = (refl, cc)
+agrees k tree made (Some e) h = absurd cc
+
+-- operands of which the first agrees with its alphabet
+with_first : (k : ℕ) (alphabet : List ℕ) (tree : Tree Proc) (others : Operands Proc) → odd_event alphabet (joint (leaves tree)) ≡ None
+    → IsTree k tree → AreOperands (k + length (leaves tree)) others → AreOperands k (operand alphabet tree others)
+with_first k alphabet tree others agree first rest =
+    let added : length (leaves tree ++ leaves_of_operands others) ≡ length (leaves tree) + length (leaves_of_operands others) = length-append (leaves tree) (leaves_of_operands others) in
+    let few : k + length (leaves tree) + length (leaves_of_operands others) ≤ 512 = rest.few in
+    record {
+      nesting = ((λ e. same_members alphabet (joint (leaves tree)) agree e ∙ has-joint (leaves tree) e), first.nesting, rest.nesting);
+      few = omega arith;
+    }
+
+makes_none : (k : ℕ) (os : Operands Proc) → k ≤ 512 → ◌≡◌ {A = Walked (Operands Proc)} (Ok none) (Ok os) → AreOperands k os
+makes_none k os fits h =
+    let is : none ≡ os = cc in
+    subst (AreOperands k) is (record { nesting = tt; few = omega arith })
+
+module _ (p : Content) (below : ℕ → List ℕ → Net → Walked (Tree Proc)) (sound : (alphabet : List ℕ) (n : Net) → MakesTree (λ k. below k alphabet n)) where
+  makes_first : (alphabet : List ℕ) (n : Net) (others : ℕ → Walked (Operands Proc)) → MakesOperands others → MakesOperands (λ k. operand_first p below k alphabet n others)
+  makes_first alphabet n others rest k os fits h =
+      let first = went (goes_on (below k alphabet n) (nested k alphabet)) (λ tree. goes_on (others (k + length (leaves tree))) (λ operands. Ok (operand alphabet tree operands))) os h in
+      let below_first = went (below k alphabet n) (nested k alphabet) first.value first.is in
+      let found = agrees k below_first.value first.value (odd_event alphabet (joint (leaves below_first.value))) below_first.rest in
+      let tree = sound alphabet n k below_first.value fits below_first.is in
+      let tree' : IsTree k first.value = subst (IsTree k) found.1 tree in
+      let agree : odd_event alphabet (joint (leaves first.value)) ≡ None = subst (λ t. odd_event alphabet (joint (leaves t)) ≡ None) found.1 found.0 in
+      let after = went (others (k + length (leaves first.value))) (λ operands. Ok (operand alphabet first.value operands)) os first.rest in
+      let is : operand alphabet first.value after.value ≡ os = cc in
+      let more = rest (k + length (leaves first.value)) after.value tree'.few after.is in
+      subst (AreOperands k) is (with_first k alphabet first.value after.value agree tree' more)
+
+  makes_two : (left : List ℕ) (n : Net) (right : List ℕ) (m : Net) → MakesOperands (λ k. two_operands p below k left n right m)
+  makes_two left n right m = makes_first left n (λ j. operand_first p below j right m (λ _. Ok none)) (makes_first right m (λ _. Ok none) makes_none)
+
+  makes_each : (x : ℕ) (a : Expr) (n : Net) (atoms : List Atom) → MakesOperands (each_operand p below x a n atoms)
+  makes_each x a n [] k os fits h = makes_none k os fits h
+  makes_each x a n (v ∷ vs) k os fits h =
+      let found = had (events_in p (expr_with x (One v) a)) (λ alphabet. operand_first p below k alphabet (net_with x (One v) n) (each_operand p below x a n vs)) os h in
+      makes_first found.value (net_with x (One v) n) (each_operand p below x a n vs) (makes_each x a n vs) k os fits found.rest
+
+  makes_parallel : (walk : ℕ → Walked (Operands Proc)) → MakesOperands walk → MakesTree (λ k. side_by_side p below (walk k))
+  makes_parallel walk operands k tree fits h =
+      let made = went (walk k) (λ os. Ok (parallel os)) tree h in
+      let is : parallel made.value ≡ tree = cc in
+      let good = operands k made.value fits made.is in
+      subst (IsTree k) is (record { nesting = good.nesting; few = good.few })
+
+  makes_node : (alphabet : List ℕ) (n : Net-F Net) → MakesTree (λ k. walked_node p below k alphabet n)
+  makes_node alphabet (Net-F.Leaf q) k tree fits h = makes_component alphabet q k tree fits h
+  makes_node alphabet (Net-F.Call d args) k tree fits h =
+      let vs = had (arguments_in p args) (λ vs. with_value (network_called (slice_get p.defs d) vs) (λ n. below k alphabet n)) tree h in
+      let n = had (network_called (slice_get p.defs d) vs.value) (λ n. below k alphabet n) tree vs.rest in
+      sound alphabet n.value k tree fits n.rest
+  makes_node alphabet (Net-F.If c n m) k tree fits h =
+      let b = had (truth_in p c) (λ b. below k alphabet (if b then n else m)) tree h in
+      sound alphabet (if b.value then n else m) k tree fits b.rest
+  makes_node alphabet (Net-F.Pair n a b m) k tree fits h =
+      let left = had (events_in p a) (λ left. with_value (events_in p b) (λ right. side_by_side p below (two_operands p below k left n right m))) tree h in
+      let right = had (events_in p b) (λ right. side_by_side p below (two_operands p below k left.value n right m)) tree left.rest in
+      makes_parallel (λ j. two_operands p below j left.value n right.value m) (makes_two left.value n right.value m) k tree fits right.rest
+  makes_node alphabet (Net-F.Each x s a n) k tree fits h =
+      let atoms = had (set_in p s) (λ atoms. side_by_side p below (each_operand p below x a n atoms k)) tree h in
+      makes_parallel (each_operand p below x a n atoms.value) (makes_each x a n atoms.value) k tree fits atoms.rest
+
+makes_leaf : (alphabet : List ℕ) (n : Net-F Net) → MakesTree (λ k. walked_leaf k alphabet n)
+makes_leaf alphabet (Net-F.Leaf q) k tree fits h = makes_component alphabet q k tree fits h
+makes_leaf alphabet (Net-F.Call d args) k tree fits h = absurd cc
+makes_leaf alphabet (Net-F.If c n m) k tree fits h = absurd cc
+makes_leaf alphabet (Net-F.Pair n a b m) k tree fits h = absurd cc
+makes_leaf alphabet (Net-F.Each x s a n) k tree fits h = absurd cc
+
+pub makes_tree : (p : Content) (levels : ℕ) (alphabet : List ℕ) (n : Net) → MakesTree (λ k. walked p levels k alphabet n)
+unfolding walked
+makes_tree p zero alphabet n k tree fits h = makes_leaf alphabet (out-Net n) k tree fits h
+makes_tree p (suc levels) alphabet n k tree fits h = makes_node p (walked p levels) (makes_tree p levels) alphabet (out-Net n) k tree fits h
+
+-- a network has a component
+has_some : (tree made : Tree Proc) (cs : List (Component Proc)) → some_components tree cs ≡ Ok made → (tree ≡ made) × (1 ≤ length cs)
+has_some tree made [] h = absurd cc
+has_some tree made (c ∷ cs) h = (cc, omega arith)
+
+pub network_is_tree : (p : Content) (tree : Tree Proc) → network_of p ≡ Ok tree → IsTree 0 tree × (1 ≤ length (leaves tree))
+network_is_tree p tree h =
+    let walk = went (walked p 800 0 (all_events p) p.root) (λ t. some_components t (leaves t)) tree h in
+    let some = has_some walk.value tree (leaves walk.value) walk.rest in
+    let made = makes_tree p 800 (all_events p) p.root 0 walk.value (omega arith) walk.is in
+    (subst (IsTree 0) some.0 made, subst (λ t. 1 ≤ length (leaves t)) some.0 some.1)

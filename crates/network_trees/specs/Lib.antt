@@ -1,0 +1,5 @@
+pub mod Annotations
+pub mod Faults
+pub mod Joint
+pub mod Laws
+pub mod NetworkOf

@@ -1,0 +1,132 @@
+-- The network that a program spells, or the first fault of the walk through it. The walk goes depth first from the left. A call of a network's
+-- definition and an `if` leave no trace in the tree: a name stands for its network, without a step.
+--
+-- What decides the doubtful cases:
+-- The asserted network is no operand. All events of the program are its alphabet if it is a leaf, and nothing is compared with them.
+-- Each body of a replicated parallel is an operand, with the alphabet that it has at its value.
+-- An operand may be a call or an `if`: what it stands for is what counts. One that comes to a leaf has the alphabet of that leaf, since both are the
+-- one that was given; so every operand can be looked at alike. One without components must have no events.
+-- A leaf is no nested node, however deep it stands. A node that stands too deep is told before anything in it is evaluated.
+use Rattle.std.specs.Prelude.{ℕ, zero, suc, ◌+◌, nat_lt, if◌then◌else◌, Option, Some, None, Result, Ok, Err, List, [], ◌∷◌, length, slice_get}
+use Rattle.std.specs.List.{range_with_len}
+use Rattle.csp_program.specs.Outcome.{Outcome}
+use Rattle.csp_program.specs.Substitution.{expr_with, net_with}
+use Rattle.csp_tables.specs.Network.{Component, Tree, Operands, leaves}
+use Rattle.csp_tables.specs.Network.Tree.{leaf, parallel}
+use Rattle.csp_tables.specs.Network.Operands.{none, operand}
+use Rattle.process_steps.specs.Needed.{arguments_in, events_in, set_in, truth_in}
+use Rattle.network_trees.specs.Joint.{joint, odd_event}
+use Rattle.csp_atoms.specs.declared.atom.Atom.{Atom}
+use Rattle.csp_atoms.specs.declared.value.Value.{Value}
+use Rattle.csp_atoms.specs.declared.value.Value.TheVariants.{One}
+use Rattle.csp_program.specs.declared.expressions.Expr.{Expr}
+use Rattle.csp_program.specs.declared.kinds.ValueKind.TheVariants.{Kind}
+use Rattle.csp_program.specs.declared.networks.Net.{Net}
+use Rattle.csp_program.specs.declared.networks.Net.TheOpen.{Net-F}
+use Rattle.csp_program.specs.declared.networks.Net.TheViews.{out-Net}
+use Rattle.csp_program.specs.declared.processes.Proc.{Proc}
+use Rattle.csp_program.specs.declared.programs.Body.{Body}
+use Rattle.csp_program.specs.declared.programs.Body.TheVariants as body
+use Rattle.csp_program.specs.declared.programs.Content.{Content}
+use Rattle.csp_program.specs.declared.programs.Def.{Def}
+use Rattle.network_trees.specs.declared.fault.LayoutFault.{LayoutFault}
+use Rattle.network_trees.specs.declared.fault.LayoutFault.TheVariants as fault
+
+-- what a walk comes to: what it made, or the first fault that it met
+abbrev pub Walked : Type 0 → Type 0
+Walked A = Result A LayoutFault
+
+-- the next step, unless there was a fault
+abbrev pub goes_on : {A B : Type 0} → Walked A → (A → Walked B) → Walked B
+goes_on (Ok a) next = next a
+goes_on (Err f) next = Err f
+
+-- the next step with a value that it needs
+abbrev pub with_value : {A B : Type 0} → Outcome A → (A → Walked B) → Walked B
+with_value (Ok a) next = next a
+with_value (Err why) next = Err (fault.Value why)
+
+-- a component, which so many others come before: there are at most 512
+abbrev pub component : ℕ → List ℕ → Proc → Walked (Tree Proc)
+component k alphabet q = if nat_lt k 512 then Ok (leaf (record { alphabet = alphabet; term = q })) else Err (fault.ComponentLimit 513)
+
+-- the tree of an operand, the first component of which has the number k, unless an event is in its alphabet or in those of its components alone
+abbrev pub agreed : ℕ → Tree Proc → Option ℕ → Walked (Tree Proc)
+agreed k tree None = Ok tree
+agreed k tree (Some e) = Err (fault.BadNesting k (length (leaves tree)) e)
+
+abbrev pub nested : ℕ → List ℕ → Tree Proc → Walked (Tree Proc)
+nested k alphabet tree = agreed k tree (odd_event alphabet (joint (leaves tree)))
+
+-- a network with values in place of names, one after another
+abbrev pub network_with : List ℕ → List Value → Net → Net
+network_with [] vs n = n
+network_with (x ∷ xs) [] n = n
+network_with (x ∷ xs) (v ∷ vs) n = network_with xs vs (net_with x v n)
+
+-- the body of a definition of a network, with the values of the arguments in place of the parameters
+abbrev pub network_in : List ℕ → Body → List Value → Outcome Net
+network_in params (body.Datum e) vs = Err Kind
+network_in params (body.Nametype e) vs = Err Kind
+network_in params (body.Datatype ks) vs = Err Kind
+network_in params (body.Process q) vs = Err Kind
+network_in params (body.Network n) vs = Ok (network_with params vs n)
+
+abbrev pub network_called : Option Def → List Value → Outcome Net
+network_called None vs = Err Kind
+network_called (Some def) vs = network_in def.params def.body vs
+
+-- The walk of one node: below walks a network that stands in it, with the number of components before it and with its alphabet.
+module _ (p : Content) (below : ℕ → List ℕ → Net → Walked (Tree Proc)) where
+  -- an operand, and after it the others
+  abbrev pub operand_first : ℕ → List ℕ → Net → (ℕ → Walked (Operands Proc)) → Walked (Operands Proc)
+  operand_first k alphabet n others =
+      goes_on (goes_on (below k alphabet n) (nested k alphabet)) (λ tree.
+      goes_on (others (k + length (leaves tree))) (λ operands. Ok (operand alphabet tree operands)))
+
+  -- an operand for each value of the name x
+  abbrev pub each_operand : ℕ → Expr → Net → List Atom → ℕ → Walked (Operands Proc)
+  each_operand x a n [] k = Ok none
+  each_operand x a n (v ∷ vs) k =
+      with_value (events_in p (expr_with x (One v) a)) (λ alphabet. operand_first k alphabet (net_with x (One v) n) (each_operand x a n vs))
+
+  abbrev pub two_operands : ℕ → List ℕ → Net → List ℕ → Net → Walked (Operands Proc)
+  two_operands k left n right m = operand_first k left n (λ j. operand_first j right m (λ _. Ok none))
+
+  abbrev pub side_by_side : Walked (Operands Proc) → Walked (Tree Proc)
+  side_by_side operands = goes_on operands (λ os. Ok (parallel os))
+
+  abbrev pub walked_node : ℕ → List ℕ → Net-F Net → Walked (Tree Proc)
+  walked_node k alphabet (Net-F.Leaf q) = component k alphabet q
+  walked_node k alphabet (Net-F.Call d args) =
+      with_value (arguments_in p args) (λ vs. with_value (network_called (slice_get p.defs d) vs) (λ n. below k alphabet n))
+  walked_node k alphabet (Net-F.If c n m) = with_value (truth_in p c) (λ b. below k alphabet (if b then n else m))
+  walked_node k alphabet (Net-F.Pair n a b m) =
+      with_value (events_in p a) (λ left. with_value (events_in p b) (λ right. side_by_side (two_operands k left n right m)))
+  walked_node k alphabet (Net-F.Each x s a n) = with_value (set_in p s) (λ atoms. side_by_side (each_operand x a n atoms k))
+
+-- where no more nodes may be entered, one inside another
+abbrev pub walked_leaf : ℕ → List ℕ → Net-F Net → Walked (Tree Proc)
+walked_leaf k alphabet (Net-F.Leaf q) = component k alphabet q
+walked_leaf k alphabet (Net-F.Call d args) = Err (fault.NetworkDepth 801)
+walked_leaf k alphabet (Net-F.If c n m) = Err (fault.NetworkDepth 801)
+walked_leaf k alphabet (Net-F.Pair n a b m) = Err (fault.NetworkDepth 801)
+walked_leaf k alphabet (Net-F.Each x s a n) = Err (fault.NetworkDepth 801)
+
+-- the walk of a network, where so many nodes may still be entered, one inside another
+unfoldable pub walked : Content → ℕ → ℕ → List ℕ → Net → Walked (Tree Proc)
+walked p zero k alphabet n = walked_leaf k alphabet (out-Net n)
+walked p (suc levels) k alphabet n = walked_node p (walked p levels) k alphabet (out-Net n)
+
+-- the numbers of the events of the program
+abbrev pub all_events : Content → List ℕ
+all_events p = range_with_len 0 (length p.events)
+
+-- a network has a component
+abbrev pub some_components : Tree Proc → List (Component Proc) → Walked (Tree Proc)
+some_components tree [] = Err fault.EmptyNetwork
+some_components tree (c ∷ cs) = Ok tree
+
+-- The network of a program. At most 800 nodes stand one inside another.
+abbrev pub network_of : Content → Walked (Tree Proc)
+network_of p = goes_on (walked p 800 0 (all_events p) p.root) (λ tree. some_components tree (leaves tree))

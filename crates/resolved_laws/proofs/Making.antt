@@ -1,0 +1,255 @@
+-- Each tree is made of the forms.
+use Rattle.std.proofs.Common.{Some, None, List, [], ◌∷◌, map, sym, subst}
+use Rattle.csp_text.specs.declared.tree.FieldTree.TheFolds.{fold-FieldTree, fold-GenTree, fold-EventTree, fold-PartTree, fold-roll-FieldTree, fold-roll-GenTree, fold-roll-Tree, fold-roll-EventTree, fold-roll-PartTree, ind-Tree, map-FieldTree, map-GenTree, map-Tree, map-EventTree, map-PartTree}
+use Rattle.csp_text.specs.declared.tree.FieldTree.TheOpen.{FieldTree-F, GenTree-F, Tree-F, EventTree-F, PartTree-F}
+use Rattle.csp_text.specs.declared.tree.FieldTree.TheViews.{roll-FieldTree, roll-GenTree, roll-Tree, roll-EventTree, roll-PartTree}
+use Rattle.csp_text.specs.declared.tree.FieldTree.{FieldTree}
+use Rattle.csp_text.specs.declared.tree.GenTree.{GenTree}
+use Rattle.csp_text.specs.declared.tree.Tree.{Tree}
+use Rattle.csp_text.specs.declared.tree.EventTree.{EventTree}
+use Rattle.csp_text.specs.declared.tree.PartTree.{PartTree}
+use Rattle.csp_program.specs.declared.expressions.Gen.{Gen}
+use Rattle.csp_program.specs.declared.processes.Field.{Field}
+use Rattle.script_names.specs.declared.kinds.End.{End}
+use Rattle.script_names.specs.declared.kinds.Kind.{Kind}
+use Rattle.script_names.specs.Kinds.{ends, ends_of_layer}
+use Rattle.script_names.specs.Names.{Meanings}
+use Rattle.script_names.specs.Says.{Binder, Fields, Said, event_says_of_layer, field_says_of_layer, gen_says_of_layer, part_says_of_layer, tree_says, tree_says_of_layer}
+use Rattle.script_names.specs.Typed.{Binding, Front, Reading, event_of_layer, field_of_layer, gen_of_layer, part_of_layer, reading, reading_of_layer}
+use Rattle.resolved_laws.proofs.Formed.{Ends, Reads, AllRead, FieldRead, FieldsRead, EventRead, GenRead, GensRead, PartRead, PartsRead, PairsRead}
+use Rattle.resolved_laws.proofs.Formed.Reads.{num, truth, falsehood, name, call, dotted, negative, negated, binary, either_part, display, span, comprehension, production, set_operator, stop, skip, prefix, guard, external, internal, each_external, each_internal, pair, each_parallel, sequence, hiding, renaming}
+use Rattle.resolved_laws.proofs.Formed.AllRead.{no_trees, more_trees}
+use Rattle.resolved_laws.proofs.Formed.FieldRead.{dot, output, input, input_from}
+use Rattle.resolved_laws.proofs.Formed.FieldsRead.{no_fields, more_fields}
+use Rattle.resolved_laws.proofs.Formed.EventRead.{head_with}
+use Rattle.resolved_laws.proofs.Formed.GenRead.{from, condition}
+use Rattle.resolved_laws.proofs.Formed.GensRead.{no_gens, more_gens}
+use Rattle.resolved_laws.proofs.Formed.PartRead.{front_with}
+use Rattle.resolved_laws.proofs.Formed.PartsRead.{no_parts, more_parts}
+use Rattle.resolved_laws.proofs.Formed.PairsRead.{no_pairs, more_pairs}
+
+module _ (m : Meanings) (ks : List Kind) where
+  abbrev field_says : FieldTree → Binder
+  field_says = fold-FieldTree Binder Binder Said (Fields Binder) (Fields Said)
+      (field_says_of_layer m) (gen_says_of_layer m) (tree_says_of_layer m) (event_says_of_layer m) (part_says_of_layer m)
+
+  abbrev gen_says : GenTree → Binder
+  gen_says = fold-GenTree Binder Binder Said (Fields Binder) (Fields Said)
+      (field_says_of_layer m) (gen_says_of_layer m) (tree_says_of_layer m) (event_says_of_layer m) (part_says_of_layer m)
+
+  abbrev event_says : EventTree → Fields Binder
+  event_says = fold-EventTree Binder Binder Said (Fields Binder) (Fields Said)
+      (field_says_of_layer m) (gen_says_of_layer m) (tree_says_of_layer m) (event_says_of_layer m) (part_says_of_layer m)
+
+  abbrev part_tree_says : PartTree → Fields Said
+  part_tree_says = fold-PartTree Binder Binder Said (Fields Binder) (Fields Said)
+      (field_says_of_layer m) (gen_says_of_layer m) (tree_says_of_layer m) (event_says_of_layer m) (part_says_of_layer m)
+
+  abbrev field_reading : FieldTree → Binding Field
+  field_reading = fold-FieldTree (Binding Field) (Binding Gen) Reading (Front (Binding Field)) (Front Reading)
+      (field_of_layer m ks) (gen_of_layer m ks) (reading_of_layer m ks) (event_of_layer m ks) (part_of_layer m ks)
+
+  abbrev gen_reading : GenTree → Binding Gen
+  gen_reading = fold-GenTree (Binding Field) (Binding Gen) Reading (Front (Binding Field)) (Front Reading)
+      (field_of_layer m ks) (gen_of_layer m ks) (reading_of_layer m ks) (event_of_layer m ks) (part_of_layer m ks)
+
+  abbrev event_reading : EventTree → Front (Binding Field)
+  event_reading = fold-EventTree (Binding Field) (Binding Gen) Reading (Front (Binding Field)) (Front Reading)
+      (field_of_layer m ks) (gen_of_layer m ks) (reading_of_layer m ks) (event_of_layer m ks) (part_of_layer m ks)
+
+  abbrev part_reading : PartTree → Front Reading
+  part_reading = fold-PartTree (Binding Field) (Binding Gen) Reading (Front (Binding Field)) (Front Reading)
+      (field_of_layer m ks) (gen_of_layer m ks) (reading_of_layer m ks) (event_of_layer m ks) (part_of_layer m ks)
+
+  abbrev ReadField : FieldTree → Type 0
+  ReadField t = FieldRead m ks (field_says t) (field_reading t)
+
+  abbrev ReadGen : GenTree → Type 0
+  ReadGen t = GenRead m ks (gen_says t) (gen_reading t)
+
+  abbrev ReadTree : Tree → Type 0
+  ReadTree t = Reads m ks (tree_says m t) (reading m ks t) (λ names. ends m names t)
+
+  abbrev ReadEvent : EventTree → Type 0
+  ReadEvent t = EventRead m ks (event_says t) (event_reading t)
+
+  abbrev ReadPart : PartTree → Type 0
+  ReadPart t = PartRead m ks (part_tree_says t) (part_reading t)
+
+  abbrev KnownField : Type 0
+  KnownField = (t : FieldTree) × ReadField t
+
+  abbrev KnownGen : Type 0
+  KnownGen = (t : GenTree) × ReadGen t
+
+  abbrev KnownTree : Type 0
+  KnownTree = (t : Tree) × ReadTree t
+
+  abbrev KnownEvent : Type 0
+  KnownEvent = (t : EventTree) × ReadEvent t
+
+  abbrev KnownPart : Type 0
+  KnownPart = (t : PartTree) × ReadPart t
+
+  trees_read : (es : List KnownTree) → AllRead m ks (map (tree_says m) (map (λ e. e.0) es)) (map (reading m ks) (map (λ e. e.0) es))
+  trees_read [] = no_trees
+  trees_read (e ∷ es) = more_trees e.1 (trees_read es)
+
+  gens_read : (es : List KnownGen) → GensRead m ks (map gen_says (map (λ e. e.0) es)) (map gen_reading (map (λ e. e.0) es))
+  gens_read [] = no_gens
+  gens_read (e ∷ es) = more_gens e.1 (gens_read es)
+
+  fields_read : (es : List KnownField) → FieldsRead m ks (map field_says (map (λ e. e.0) es)) (map field_reading (map (λ e. e.0) es))
+  fields_read [] = no_fields
+  fields_read (e ∷ es) = more_fields e.1 (fields_read es)
+
+  parts_read : (es : List KnownPart) → PartsRead m ks (map part_tree_says (map (λ e. e.0) es)) (map part_reading (map (λ e. e.0) es))
+  parts_read [] = no_parts
+  parts_read (e ∷ es) = more_parts e.1 (parts_read es)
+
+  abbrev both_of : {A B : Type 0} → (A → B) → A × A → B × B
+  both_of f p = (f p.0, f p.1)
+
+  pairs_read : (es : List (KnownPart × KnownPart)) → PairsRead m ks (map (both_of part_tree_says) (map (both_of (λ e. e.0)) es))
+      (map (both_of part_reading) (map (both_of (λ e. e.0)) es))
+  pairs_read [] = no_pairs
+  pairs_read (e ∷ es) = more_pairs e.0.1 e.1.1 (pairs_read es)
+
+  abbrev says_layer : Tree-F FieldTree GenTree Tree EventTree PartTree → Said
+  says_layer d = tree_says_of_layer m (map-Tree FieldTree GenTree Tree EventTree PartTree Binder Binder Said (Fields Binder) (Fields Said)
+      field_says gen_says (tree_says m) event_says part_tree_says d)
+
+  abbrev reading_layer : Tree-F FieldTree GenTree Tree EventTree PartTree → Reading
+  reading_layer d = reading_of_layer m ks
+      (map-Tree FieldTree GenTree Tree EventTree PartTree (Binding Field) (Binding Gen) Reading (Front (Binding Field)) (Front Reading)
+      field_reading gen_reading (reading m ks) event_reading part_reading d)
+
+  abbrev ends_layer : Tree-F FieldTree GenTree Tree EventTree PartTree → Ends
+  ends_layer d names = ends_of_layer m names (map-Tree FieldTree GenTree Tree EventTree PartTree (Unit {0}) (Unit {0}) (List End) (Unit {0}) (Unit {0})
+      (λ t. tt) (λ t. tt) (ends m names) (λ t. tt) (λ t. tt) d)
+
+  layer : (d : Tree-F FieldTree GenTree Tree EventTree PartTree) → Reads m ks (says_layer d) (reading_layer d) (ends_layer d) → ReadTree (roll-Tree d)
+  layer d h =
+      subst (λ z. Reads m ks z (reading m ks (roll-Tree d)) (λ names. ends m names (roll-Tree d)))
+      (sym (fold-roll-Tree Binder Binder Said (Fields Binder) (Fields Said) (field_says_of_layer m) (gen_says_of_layer m) (tree_says_of_layer m)
+      (event_says_of_layer m) (part_says_of_layer m) d))
+      (subst (λ z. Reads m ks (says_layer d) z (λ names. ends m names (roll-Tree d)))
+      (sym (fold-roll-Tree (Binding Field) (Binding Gen) Reading (Front (Binding Field)) (Front Reading) (field_of_layer m ks) (gen_of_layer m ks)
+      (reading_of_layer m ks) (event_of_layer m ks) (part_of_layer m ks) d))
+      (subst (λ z. Reads m ks (says_layer d) (reading_layer d) z)
+      (λ i names. sym (fold-roll-Tree (Unit {0}) (Unit {0}) (List End) (Unit {0}) (Unit {0}) (λ field. tt) (λ gen. tt) (ends_of_layer m names) (λ event. tt)
+      (λ part. tt) d) i) h))
+
+  rolled_field : (d : FieldTree-F FieldTree GenTree Tree EventTree PartTree)
+      → FieldRead m ks (field_says_of_layer m (map-FieldTree FieldTree GenTree Tree EventTree PartTree Binder Binder Said (Fields Binder) (Fields Said)
+      field_says gen_says (tree_says m) event_says part_tree_says d))
+      (field_of_layer m ks (map-FieldTree FieldTree GenTree Tree EventTree PartTree (Binding Field) (Binding Gen) Reading (Front (Binding Field))
+      (Front Reading) field_reading gen_reading (reading m ks) event_reading part_reading d))
+      → ReadField (roll-FieldTree d)
+  rolled_field d h =
+      subst (λ z. FieldRead m ks z (field_reading (roll-FieldTree d)))
+      (sym (fold-roll-FieldTree Binder Binder Said (Fields Binder) (Fields Said) (field_says_of_layer m) (gen_says_of_layer m) (tree_says_of_layer m)
+      (event_says_of_layer m) (part_says_of_layer m) d))
+      (subst (FieldRead m ks (field_says_of_layer m (map-FieldTree FieldTree GenTree Tree EventTree PartTree Binder Binder Said (Fields Binder) (Fields Said)
+      field_says gen_says (tree_says m) event_says part_tree_says d)))
+      (sym (fold-roll-FieldTree (Binding Field) (Binding Gen) Reading (Front (Binding Field)) (Front Reading) (field_of_layer m ks) (gen_of_layer m ks)
+      (reading_of_layer m ks) (event_of_layer m ks) (part_of_layer m ks) d)) h)
+
+  field_layer : (y : FieldTree-F KnownField KnownGen KnownTree KnownEvent KnownPart) → ReadField
+      (roll-FieldTree (map-FieldTree KnownField KnownGen KnownTree KnownEvent KnownPart FieldTree GenTree Tree EventTree PartTree
+      (λ e. e.0) (λ e. e.0) (λ e. e.0) (λ e. e.0) (λ e. e.0) y))
+  field_layer (FieldTree-F.«FieldTree::Dot» a) = rolled_field (FieldTree-F.«FieldTree::Dot» a.0) (dot a.1)
+  field_layer (FieldTree-F.Output a) = rolled_field (FieldTree-F.Output a.0) (output a.1)
+  field_layer (FieldTree-F.Input x None) = rolled_field (FieldTree-F.Input x None) (input x)
+  field_layer (FieldTree-F.Input x (Some a)) = rolled_field (FieldTree-F.Input x (Some a.0)) (input_from x a.1)
+
+  rolled_gen : (d : GenTree-F FieldTree GenTree Tree EventTree PartTree)
+      → GenRead m ks (gen_says_of_layer m (map-GenTree FieldTree GenTree Tree EventTree PartTree Binder Binder Said (Fields Binder) (Fields Said) field_says
+      gen_says (tree_says m) event_says part_tree_says d))
+      (gen_of_layer m ks (map-GenTree FieldTree GenTree Tree EventTree PartTree (Binding Field) (Binding Gen) Reading (Front (Binding Field)) (Front Reading)
+      field_reading gen_reading (reading m ks) event_reading part_reading d))
+      → ReadGen (roll-GenTree d)
+  rolled_gen d h =
+      subst (λ z. GenRead m ks z (gen_reading (roll-GenTree d)))
+      (sym (fold-roll-GenTree Binder Binder Said (Fields Binder) (Fields Said) (field_says_of_layer m) (gen_says_of_layer m) (tree_says_of_layer m)
+      (event_says_of_layer m) (part_says_of_layer m) d))
+      (subst (GenRead m ks (gen_says_of_layer m (map-GenTree FieldTree GenTree Tree EventTree PartTree Binder Binder Said (Fields Binder) (Fields Said)
+      field_says gen_says (tree_says m) event_says part_tree_says d)))
+      (sym (fold-roll-GenTree (Binding Field) (Binding Gen) Reading (Front (Binding Field)) (Front Reading) (field_of_layer m ks) (gen_of_layer m ks)
+      (reading_of_layer m ks) (event_of_layer m ks) (part_of_layer m ks) d)) h)
+
+  gen_layer : (y : GenTree-F KnownField KnownGen KnownTree KnownEvent KnownPart) → ReadGen
+      (roll-GenTree (map-GenTree KnownField KnownGen KnownTree KnownEvent KnownPart FieldTree GenTree Tree EventTree PartTree
+      (λ e. e.0) (λ e. e.0) (λ e. e.0) (λ e. e.0) (λ e. e.0) y))
+  gen_layer (GenTree-F.From x a) = rolled_gen (GenTree-F.From x a.0) (from x a.1)
+  gen_layer (GenTree-F.Cond a) = rolled_gen (GenTree-F.Cond a.0) (condition a.1)
+
+  event_layer : (y : EventTree-F KnownField KnownGen KnownTree KnownEvent KnownPart) → ReadEvent
+      (roll-EventTree (map-EventTree KnownField KnownGen KnownTree KnownEvent KnownPart FieldTree GenTree Tree EventTree PartTree
+      (λ e. e.0) (λ e. e.0) (λ e. e.0) (λ e. e.0) (λ e. e.0) y))
+  event_layer y =
+      subst (λ z. EventRead m ks z (event_reading (roll-EventTree (record { name = y.name; fields = map (λ e. e.0) y.fields }))))
+      (sym (fold-roll-EventTree Binder Binder Said (Fields Binder) (Fields Said) (field_says_of_layer m) (gen_says_of_layer m) (tree_says_of_layer m)
+      (event_says_of_layer m) (part_says_of_layer m)
+      (record { name = y.name; fields = map (λ e. e.0) y.fields })))
+      (subst (EventRead m ks (record { name = y.name; fields = map field_says (map (λ e. e.0) y.fields) }))
+      (sym (fold-roll-EventTree (Binding Field) (Binding Gen) Reading (Front (Binding Field)) (Front Reading) (field_of_layer m ks) (gen_of_layer m ks)
+      (reading_of_layer m ks) (event_of_layer m ks) (part_of_layer m ks)
+      (record { name = y.name; fields = map (λ e. e.0) y.fields })))
+      (head_with y.name (fields_read y.fields)))
+
+  part_layer : (y : PartTree-F KnownField KnownGen KnownTree KnownEvent KnownPart) → ReadPart
+      (roll-PartTree (map-PartTree KnownField KnownGen KnownTree KnownEvent KnownPart FieldTree GenTree Tree EventTree PartTree
+      (λ e. e.0) (λ e. e.0) (λ e. e.0) (λ e. e.0) (λ e. e.0) y))
+  part_layer y =
+      subst (λ z. PartRead m ks z (part_reading (roll-PartTree (record { name = y.name; fields = map (λ e. e.0) y.fields }))))
+      (sym (fold-roll-PartTree Binder Binder Said (Fields Binder) (Fields Said) (field_says_of_layer m) (gen_says_of_layer m) (tree_says_of_layer m)
+      (event_says_of_layer m) (part_says_of_layer m)
+      (record { name = y.name; fields = map (λ e. e.0) y.fields })))
+      (subst (PartRead m ks (record { name = y.name; fields = map (tree_says m) (map (λ e. e.0) y.fields) }))
+      (sym (fold-roll-PartTree (Binding Field) (Binding Gen) Reading (Front (Binding Field)) (Front Reading) (field_of_layer m ks) (gen_of_layer m ks)
+      (reading_of_layer m ks) (event_of_layer m ks) (part_of_layer m ks)
+      (record { name = y.name; fields = map (λ e. e.0) y.fields })))
+      (front_with y.name (trees_read y.fields)))
+
+  tree_layer : (y : Tree-F KnownField KnownGen KnownTree KnownEvent KnownPart) → ReadTree
+      (roll-Tree (map-Tree KnownField KnownGen KnownTree KnownEvent KnownPart FieldTree GenTree Tree EventTree PartTree
+      (λ e. e.0) (λ e. e.0) (λ e. e.0) (λ e. e.0) (λ e. e.0) y))
+  tree_layer (Tree-F.Num k) = layer (Tree-F.Num k) (num k)
+  tree_layer Tree-F.True = layer Tree-F.True truth
+  tree_layer Tree-F.False = layer Tree-F.False falsehood
+  tree_layer (Tree-F.Name x) = layer (Tree-F.Name x) (name x)
+  tree_layer (Tree-F.Call f args) = layer (Tree-F.Call f (map (λ e. e.0) args)) (call f (trees_read args))
+  tree_layer (Tree-F.«Tree::Dot» c fields) = layer (Tree-F.«Tree::Dot» c (map (λ e. e.0) fields)) (dotted c (trees_read fields))
+  tree_layer (Tree-F.Neg a) = layer (Tree-F.Neg a.0) (negative a.1)
+  tree_layer (Tree-F.Not a) = layer (Tree-F.Not a.0) (negated a.1)
+  tree_layer (Tree-F.Binary op a b) = layer (Tree-F.Binary op a.0 b.0) (binary op a.1 b.1)
+  tree_layer (Tree-F.If c p q) = layer (Tree-F.If c.0 p.0 q.0) (either_part c.1 p.1 q.1)
+  tree_layer (Tree-F.Display items) = layer (Tree-F.Display (map (λ e. e.0) items)) (display (trees_read items))
+  tree_layer (Tree-F.Range a b) = layer (Tree-F.Range a.0 b.0) (span a.1 b.1)
+  tree_layer (Tree-F.Comp items gens) = layer (Tree-F.Comp (map (λ e. e.0) items) (map (λ e. e.0) gens)) (comprehension (trees_read items) (gens_read gens))
+  tree_layer (Tree-F.Product parts gens) = layer (Tree-F.Product (map (λ e. e.0) parts) (map (λ e. e.0) gens)) (production (parts_read parts) (gens_read gens))
+  tree_layer (Tree-F.SetOp op a b) = layer (Tree-F.SetOp op a.0 b.0) (set_operator op a.1 b.1)
+  tree_layer Tree-F.Stop = layer Tree-F.Stop stop
+  tree_layer Tree-F.Skip = layer Tree-F.Skip skip
+  tree_layer (Tree-F.Prefix event p) = layer (Tree-F.Prefix event.0 p.0) (prefix event.1 p.1)
+  tree_layer (Tree-F.Guard c p) = layer (Tree-F.Guard c.0 p.0) (guard c.1 p.1)
+  tree_layer (Tree-F.External ps) = layer (Tree-F.External (map (λ e. e.0) ps)) (external (trees_read ps))
+  tree_layer (Tree-F.Internal ps) = layer (Tree-F.Internal (map (λ e. e.0) ps)) (internal (trees_read ps))
+  tree_layer (Tree-F.EachExternal x s p) = layer (Tree-F.EachExternal x s.0 p.0) (each_external x s.1 p.1)
+  tree_layer (Tree-F.EachInternal x s p) = layer (Tree-F.EachInternal x s.0 p.0) (each_internal x s.1 p.1)
+  tree_layer (Tree-F.Parallel p a b q) = layer (Tree-F.Parallel p.0 a.0 b.0 q.0) (pair p.1 a.1 b.1 q.1)
+  tree_layer (Tree-F.EachParallel x s a p) = layer (Tree-F.EachParallel x s.0 a.0 p.0) (each_parallel x s.1 a.1 p.1)
+  tree_layer (Tree-F.Seq p q) = layer (Tree-F.Seq p.0 q.0) (sequence p.1 q.1)
+  tree_layer (Tree-F.Hide p s) = layer (Tree-F.Hide p.0 s.0) (hiding p.1 s.1)
+  tree_layer (Tree-F.Rename p pairs gens) = layer (Tree-F.Rename p.0 (map (λ e. (e.0.0, e.1.0)) pairs) (map (λ e. e.0) gens))
+      (renaming p.1 (pairs_read pairs) (gens_read gens))
+
+  -- each tree is made of the forms
+  pub made : (t : Tree) → ReadTree t
+  made = ind-Tree ReadField ReadGen ReadTree ReadEvent ReadPart
+      (λ z y is. subst (λ t. ReadField (roll-FieldTree t)) is (field_layer y))
+      (λ z y is. subst (λ t. ReadGen (roll-GenTree t)) is (gen_layer y))
+      (λ z y is. subst (λ t. ReadTree (roll-Tree t)) is (tree_layer y))
+      (λ z y is. subst (λ t. ReadEvent (roll-EventTree t)) is (event_layer y))
+      (λ z y is. subst (λ t. ReadPart (roll-PartTree t)) is (part_layer y))

@@ -1,0 +1,203 @@
+-- The field sets that the types of channels have are in order, there is one for each field, and the event table of the channels with them is numbered
+-- by its places.
+use Rattle.std.proofs.Common.{◌≡◌, ℕ, zero, suc, ◌+◌, Bool, true, false, ◌&&◌, nat_eq, IsTrue, Some, Ok, Err, List, [], ◌∷◌, ◌++◌, length, map, replicate, refl, sym, ◌∙◌, ap, subst, arith, length-append}
+use Rattle.std.specs.Prelude.{Result, if◌then◌else◌, slice_get}
+use Rattle.std.specs.List.{flat_map}
+use Rattle.std.proofs.lemmas.Bool.{false≢true, eq-eqb}
+use Rattle.std.proofs.lemmas.List.{length-map}
+use Rattle.std.proofs.lemmas.List.Sums.{sum-map, sum_by-cons}
+use Rattle.csp_atoms.specs.Sets.{is_set}
+use Rattle.csp_atoms.specs.declared.atom.Atom.{Atom}
+use Rattle.csp_atoms.specs.declared.atom.Atom.TheVariants as atom
+use Rattle.csp_atoms.specs.declared.value.Value.{Value}
+use Rattle.csp_atoms.specs.declared.value.Value.TheVariants.{One, Many}
+use Rattle.csp_program.specs.EventNumber.{first_event, row_count}
+use Rattle.csp_program.specs.EventTable.{event_of, events_from_channel, rows}
+use Rattle.csp_program.specs.InOrder.{IsInOrder, atom_in_order, channel_in_order, expr_in_order, has_sets, is_field_value, set_in_order, sets_in_order, value_in_order}
+use Rattle.csp_program.specs.Lists.{all_true}
+use Rattle.csp_program.specs.Outcome.{Outcome, and_then}
+use Rattle.csp_program.specs.Value.{value_of}
+use Rattle.csp_program.specs.declared.expressions.Expr.{Expr}
+use Rattle.csp_program.specs.declared.kinds.ValueKind.{ValueKind}
+use Rattle.csp_program.specs.declared.kinds.ValueKind.TheVariants.{Kind}
+use Rattle.csp_program.specs.declared.programs.Channel.{Channel}
+use Rattle.csp_program.specs.declared.programs.Content.{Content}
+use Rattle.csp_text.specs.declared.script.Decl.{Decl}
+use Rattle.csp_text.specs.declared.script.Decl.TheVariants as decl
+use Rattle.csp_text.specs.declared.tree.Tree.{Tree}
+use Rattle.script_names.specs.declared.kinds.Kind.{Kind as DefinitionKind}
+use Rattle.script_names.specs.Contents.{channels_of}
+use Rattle.script_names.specs.Names.{Meanings, Name}
+use Rattle.script_names.specs.Resolved.{Answer, all_events, and_next, channel_sets, field_set, field_sets, may_be_field, told_in, with_sets}
+use Rattle.script_names.specs.Typed.{exprs, reading}
+use Rattle.resolved_laws.proofs.Whole.{SameTypes}
+use Rattle.value_laws.proofs.RowNumbers.{length-rows}
+use Rattle.value_laws.proofs.ValuesInOrder.{values_are_in_order}
+use Rattle.resolved_laws.proofs.Booleans.{both, two}
+
+-- ---- outcomes and answers
+
+pub record IsNext {A B E : Type 0} (a : Result A E) (next : A → Result B E) (b : B) : Type 0 where
+  pub first : A
+  pub is : a ≡ Ok first
+  pub after : next first ≡ Ok b
+
+pub next_ok : {A B : Type 0} (a : Answer A) (next : A → Answer B) (b : B) → and_next a next ≡ Ok b → IsNext a next b
+next_ok (Ok x) next b h = record { first = x; is = refl; after = h }
+next_ok (Err f) next b h = absurd (cc)
+
+then_ok : {A B : Type 0} (o : Outcome A) (next : A → Outcome B) (b : B) → and_then o next ≡ Ok b → IsNext o next b
+then_ok (Ok x) next b h = record { first = x; is = refl; after = h }
+then_ok (Err f) next b h = absurd (cc)
+
+pub ok_same : {A E : Type 0} {a b : A} → ◌≡◌ {A = Result A E} (Ok a) (Ok b) → a ≡ b
+ok_same h = cc
+
+told_ok : {A : Type 0} (i : ℕ) (o : Outcome A) (a : A) → told_in i o ≡ Ok a → o ≡ Ok a
+told_ok i (Ok x) a h = let e : x ≡ a = cc in ap (λ z. Ok z) e
+told_ok i (Err k) a h = absurd (cc)
+
+if_ok : {A : Type 0} (b : Bool) (x y : A) (k : ValueKind) → (if b then Ok x else Err k) ≡ Ok y → IsTrue b × (x ≡ y)
+if_ok true x y k h = (refl, cc)
+if_ok false x y k h = absurd (cc)
+
+-- ---- the values of a field
+
+module _ (p : Content) where
+  value_ordered : (a : Atom) → IsTrue (may_be_field a) → IsTrue (atom_in_order p a) → IsTrue (is_field_value p a)
+  value_ordered (atom.Num n) h g = refl
+  value_ordered (atom.Truth b) h g = absurd (false≢true h)
+  value_ordered (atom.Const k) h g = g
+  value_ordered (atom.Event e) h g = absurd (false≢true h)
+
+  values_ordered : (atoms : List Atom) → IsTrue (all_true (map may_be_field atoms)) → IsTrue (all_true (map (atom_in_order p) atoms))
+      → IsTrue (all_true (map (is_field_value p) atoms))
+  values_ordered [] h g = refl
+  values_ordered (a ∷ atoms) h g =
+      let h' = two (may_be_field a) (all_true (map may_be_field atoms)) h in
+      let g' = two (atom_in_order p a) (all_true (map (atom_in_order p) atoms)) g in
+      both (is_field_value p a) (all_true (map (is_field_value p) atoms)) (value_ordered a h'.0 g'.0) (values_ordered atoms h'.1 g'.1)
+
+  set_ordered : (v : Value) (set : List Atom) → field_set v ≡ Ok set → IsTrue (value_in_order p v) → IsTrue (set_in_order p set)
+  set_ordered (One a) set h g = absurd (cc)
+  set_ordered (Many atoms) set h g =
+      let w = if_ok (all_true (map may_be_field atoms)) atoms set Kind h in
+      let g' = two (all_true (map (atom_in_order p) atoms)) (is_set atoms) g in
+      subst (λ z. IsTrue (set_in_order p z)) w.1 (both (all_true (map (is_field_value p) atoms)) (is_set atoms) (values_ordered atoms w.0 g'.0) g'.1)
+
+  pub record AreSets (n : ℕ) (sets : List (List Atom)) : Type 0 where
+    pub count : length sets ≡ n
+    pub ordered : IsTrue (all_true (map (set_in_order p) sets))
+
+  module _ (whole : IsInOrder p) where
+    sets_ordered : (es : List Expr) (sets : List (List Atom)) → IsTrue (all_true (map (expr_in_order p) es)) → field_sets p es ≡ Ok sets
+        → AreSets (length es) sets
+    sets_ordered [] sets o h = let e : [] ≡ sets = ok_same h in subst (AreSets 0) e (record { count = refl; ordered = refl })
+    sets_ordered (t ∷ es) sets o h =
+        let o' = two (expr_in_order p t) (all_true (map (expr_in_order p) es)) o in
+        let a = then_ok (value_of p t) (λ v. and_then (field_set v) (λ set. and_then (field_sets p es) (λ rest. Ok (set ∷ rest)))) sets h in
+        let b = then_ok (field_set a.first) (λ set. and_then (field_sets p es) (λ rest. Ok (set ∷ rest))) sets a.after in
+        let c = then_ok (field_sets p es) (λ rest. Ok (b.first ∷ rest)) sets b.after in
+        let r = sets_ordered es c.first o'.1 c.is in
+        subst (AreSets (suc (length es))) (ok_same c.after) (record {
+          count = ap (λ k. suc k) r.count;
+          ordered = both (set_in_order p b.first) (all_true (map (set_in_order p) c.first))
+              (set_ordered a.first b.first b.is (values_are_in_order p whole (length p.defs) t o'.0 [] tt a.first a.is)) r.ordered;
+        })
+
+-- each channel has a set for each of its fields
+abbrev pub HaveSets : Content → List Channel → List (List (List Atom)) → Type 0
+HaveSets p [] [] = Unit {0}
+HaveSets p (c ∷ cs) (sets ∷ all) = AreSets p (length c.types) sets × HaveSets p cs all
+HaveSets p [] (sets ∷ all) = ⊥
+HaveSets p (c ∷ cs) [] = ⊥
+
+module _ (p : Content) (whole : IsInOrder p) (m : Meanings) (ks : List DefinitionKind) where
+  abbrev types_read : List Tree → List Expr
+  types_read types = exprs (map (reading m ks) types) [] 0
+
+  sets_here : (xs : List Name) (types : List Tree) (sets : List (List Atom)) (rest : List Channel) (all : List (List (List Atom)))
+      → IsTrue (all_true (map (channel_in_order p) (channels_of m ks (decl.Channel xs types) ++ rest))) → field_sets p (types_read types) ≡ Ok sets
+      → (IsTrue (all_true (map (channel_in_order p) rest)) → HaveSets p rest all) → HaveSets p (channels_of m ks (decl.Channel xs types) ++ rest)
+      (replicate (length xs) sets ++ all)
+  sets_here [] types sets rest all o h k = k o
+  sets_here (x ∷ xs) types sets rest all o h k =
+      let o' = two (all_true (map (expr_in_order p) (types_read types)) && true)
+      (all_true (map (channel_in_order p) (channels_of m ks (decl.Channel xs types) ++ rest))) o in (
+        sets_ordered p whole (types_read types) sets ((two (all_true (map (expr_in_order p) (types_read types))) true o'.0).0) h,
+        sets_here xs types sets rest
+            all o'.1 h k,
+      )
+
+  pub have_sets : (i : ℕ) (decls : List Decl) (all : List (List (List Atom))) → IsTrue (all_true (map (channel_in_order p) (flat_map (channels_of m ks) decls)))
+      → channel_sets p types_read i decls ≡ Ok all → HaveSets p (flat_map (channels_of m ks) decls) all
+  have_sets i [] all o h = let e : [] ≡ all = ok_same h in subst (HaveSets p []) e tt
+  have_sets i (decl.Channel xs types ∷ decls) all o h =
+      let a = next_ok (told_in i (field_sets p (types_read types)))
+      (λ sets. and_next (channel_sets p types_read (i + 1) decls) (λ rest. Ok (replicate (length xs) sets ++ rest))) all h in
+      let b = next_ok (channel_sets p types_read (i + 1) decls) (λ rest. Ok (replicate (length xs) a.first ++ rest)) all a.after in
+      subst (HaveSets p (channels_of m ks (decl.Channel xs types) ++ flat_map (channels_of m ks) decls)) (ok_same b.after)
+      (sets_here xs types a.first (flat_map (channels_of m ks) decls) b.first o (told_ok i (field_sets p (types_read types)) a.first a.is)
+      (λ z. have_sets (i + 1) decls b.first z b.is))
+  have_sets i (decl.Define x params t ∷ decls) all o h = have_sets (i + 1) decls all o h
+  have_sets i (decl.Nametype x t ∷ decls) all o h = have_sets (i + 1) decls all o h
+  have_sets i (decl.Datatype x cs ∷ decls) all o h = have_sets (i + 1) decls all o h
+  have_sets i (decl.Assert t ∷ decls) all o h = have_sets (i + 1) decls all o h
+  have_sets i (decl.Roles names ∷ decls) all o h = have_sets (i + 1) decls all o h
+  have_sets i (decl.Resource names ∷ decls) all o h = have_sets (i + 1) decls all o h
+
+-- ---- the channels with these sets
+
+one_more_set : (sets : List (List Atom)) (all : List (List (List Atom))) → row_count sets + all_events all ≡ all_events (sets ∷ all)
+one_more_set sets all =
+    sym (sum-map row_count (sets ∷ all) ∙ (sum_by-cons row_count sets all ∙ ap (λ z. row_count sets + z) (sym (sum-map row_count all))))
+
+plus : (a b c : ℕ) → a + b + c ≡ a + (b + c)
+plus a b c = omega arith
+
+module _ (p : Content) where
+  pub sets_same : (first : ℕ) (cs : List Channel) (all : List (List (List Atom))) → HaveSets p cs all → SameTypes (with_sets first cs all) cs
+  sets_same first [] [] h = tt
+  sets_same first (c ∷ cs) (sets ∷ all) h = (refl, sets_same (first + row_count sets) cs all h.1)
+  sets_same first [] (sets ∷ all) h = absurd h
+  sets_same first (c ∷ cs) [] h = absurd h
+
+  pub sets_in_place : (first : ℕ) (cs : List Channel) (all : List (List (List Atom))) → HaveSets p cs all
+      → IsTrue (all_true (map (λ c. sets_in_order p (length c.types) c.fields) (with_sets first cs all)))
+  sets_in_place first [] [] h = refl
+  sets_in_place first (c ∷ cs) (sets ∷ all) h =
+      both (sets_in_order p (length c.types) (Some sets))
+      (all_true (map (λ c. sets_in_order p (length c.types) c.fields) (with_sets (first + row_count sets) cs all)))
+      (both (nat_eq (length sets) (length c.types)) (all_true (map (set_in_order p) sets)) (eq-eqb (length sets) (length c.types) h.0.count) h.0.ordered)
+      (sets_in_place (first + row_count sets) cs all h.1)
+  sets_in_place first [] (sets ∷ all) h = absurd h
+  sets_in_place first (c ∷ cs) [] h = absurd h
+
+  pub have_all : (first : ℕ) (cs : List Channel) (all : List (List (List Atom))) → HaveSets p cs all → IsTrue (all_true (map has_sets (with_sets first cs all)))
+  have_all first [] [] h = refl
+  have_all first (c ∷ cs) (sets ∷ all) h = have_all (first + row_count sets) cs all h.1
+  have_all first [] (sets ∷ all) h = absurd h
+  have_all first (c ∷ cs) [] h = absurd h
+
+  pub firsts_kept : (first : ℕ) (cs : List Channel) (all : List (List (List Atom))) → HaveSets p cs all → (i : ℕ) (c : Channel)
+      → slice_get (with_sets first cs all) i ≡ Some c
+      → c.first ≡ first + first_event (with_sets first cs all) i
+  firsts_kept first [] [] h i c g = absurd (cc)
+  firsts_kept first (d ∷ cs) (sets ∷ all) h zero c g =
+      let e : record d { fields = Some sets; first = first } ≡ c = cc in
+      let n : first ≡ first + 0 = omega arith in
+      ap (λ (z : Channel). z.first) (sym e) ∙ n
+  firsts_kept first (d ∷ cs) (sets ∷ all) h (suc i) c g =
+      firsts_kept (first + row_count sets) cs all h.1 i c g ∙ plus first (row_count sets) (first_event (with_sets (first + row_count sets) cs all) i)
+  firsts_kept first [] (sets ∷ all) h i c g = absurd h
+  firsts_kept first (d ∷ cs) [] h i c g = absurd h
+
+  pub count_events : (k first : ℕ) (cs : List Channel) (all : List (List (List Atom))) → HaveSets p cs all
+      → length (events_from_channel k (with_sets first cs all)) ≡ all_events all
+  count_events k first [] [] h = refl
+  count_events k first (c ∷ cs) (sets ∷ all) h =
+      length-append (map (event_of k) (rows sets)) (events_from_channel (k + 1) (with_sets (first + row_count sets) cs all)) ∙
+      (ap (λ z. z + length (events_from_channel (k + 1) (with_sets (first + row_count sets) cs all))) (length-map (rows sets) (event_of k) ∙ length-rows sets) ∙
+      (ap (λ z. row_count sets + z) (count_events (k + 1) (first + row_count sets) cs all h.1) ∙ one_more_set sets all))
+  count_events k first [] (sets ∷ all) h = absurd h
+  count_events k first (c ∷ cs) [] h = absurd h
