@@ -5,4 +5,5 @@ pub mod Growing
 pub mod Taking
 pub mod Walking
 pub mod Ending
-pub mod Silent
+pub mod Injecting
+pub mod Excluding

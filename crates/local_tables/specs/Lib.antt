@@ -1,6 +1,6 @@
 pub mod Component
 pub mod Faults
+pub mod Laws
 pub mod LocalTable
 pub mod Progress
-pub mod Silence
 pub mod Stops

@@ -18,6 +18,7 @@ use csp_steps::{StepTo, steps_in};
 use csp_tables::RawTable;
 use process_steps::Label;
 use std::alloc::Global;
+use std::mem;
 use term_pool::ProcId;
 
 /// The table of the component with this term and this alphabet: exactly the terms that it reaches by itself, its own one first, and exactly their steps
@@ -52,27 +53,41 @@ fn table_of(alloc: Global, task: &Task<'_>) -> Result<LocalTable, LocalFault>
     ensures fault { IfErr result (Tells task.now.program.now (component task.now.alphabet.now task.now.start.now) task.now.room) }
 {
     let mut found = Found::new(alloc);
-    match fill(alloc, task, &mut found) {
-        Ok(()) => Ok(finished(found)),
-        Err(stop) => Err(told(alloc, task, &found, stop)),
+    explored(alloc, task, &mut found)
+}
+
+// The same, from where nothing is found yet.
+fn explored(alloc: Global, task: &Task<'_>, found: &mut Found) -> Result<LocalTable, LocalFault>
+    requires room { CanBePassed task.now.room }
+    requires pool { found.old.pool ≡ [] }
+    requires terms { found.old.terms ≡ [] }
+    requires origins { found.old.origins.items ≡ [] }
+    requires table { found.old.table ≡ record { silent = []; steps = []; count = 1 } }
+    ensures table { IfOk result (IsLocalTable task.now.program.now (component task.now.alphabet.now task.now.start.now) task.now.room) }
+    ensures fault { IfErr result (Tells task.now.program.now (component task.now.alphabet.now task.now.start.now) task.now.room) }
+{
+    match fill(alloc, task, found) {
+        Ok(()) => Ok(finished(alloc, found)),
+        Err(stop) => Err(told(alloc, task, found, stop)),
     }
 }
 
 // The table, once all terms are followed.
-fn finished(found: Found) -> LocalTable
-    requires nodes { found.nodes < 2 ^ 32 }
-    requires steps { step_count found.table < 2 ^ 32 }
-    ensures table { result.table ≡ found.table }
-    ensures nodes { result.used.nodes ≡ found.nodes }
-    ensures steps { result.used.steps ≡ step_count found.table }
+fn finished(alloc: Global, found: &mut Found) -> LocalTable
+    requires nodes { found.old.nodes < 2 ^ 32 }
+    requires steps { step_count found.old.table < 2 ^ 32 }
+    ensures table { result.table ≡ found.old.table }
+    ensures nodes { result.used.nodes ≡ found.old.nodes }
+    ensures steps { result.used.steps ≡ step_count found.old.table }
 {
     let steps = found.table.silent().len() + found.table.steps().len();
+    let table = mem::replace(&mut found.table, RawTable::new(alloc));
     LocalTable {
+        table,
         used: Room {
             nodes: found.nodes as u32,
             steps: steps as u32,
         },
-        table: found.table,
     }
 }
 

@@ -1,7 +1,7 @@
 use Rattle.std.proofs.Common.{◌≤◌, arith}
 use Rattle.local_tables.specs.Component.{component, step_count}
 use Rattle.local_tables.proofs.Ending.{local_table}
-use Rattle.local_tables.proofs.exploring.table_of.Goals as goal
+use Rattle.local_tables.proofs.exploring.explored.Goals as goal
 
 pub finished-requires-clause-nodes : goal.finished-requires-clause-nodes
 finished-requires-clause-nodes c =
