@@ -1,0 +1,101 @@
+-- Elements of lists at their places, and the terms at places of a pool that grows.
+use Rattle.std.proofs.Common.{◌≡◌, ℕ, zero, suc, ◌+◌, ◌<◌, ◌⊎◌, List, [], ◌∷◌, ◌++◌, length, refl, sym, ap, ◌∙◌, arith, inl, inr}
+use Rattle.std.specs.Prelude.{map, slice_get, Some}
+use Rattle.std.proofs.lemmas.Option.{get_or_from_slice_get, slice_get-get_or, slice_get_within}
+use Rattle.csp_program.specs.Lists.{total}
+use Rattle.csp_program.specs.declared.processes.Proc.{Proc}
+use Rattle.csp_program.specs.declared.processes.Proc.TheVariants as proc
+use Rattle.csp_tables.specs.RawTable.{EachOnce}
+use Rattle.term_pool.specs.Pooled.{IsFront}
+use Rattle.term_pool.specs.Trees.{tree_at}
+use Rattle.term_pool.specs.declared.node.ProcId.{ProcId}
+use Rattle.local_tables.specs.Progress.{terms_at}
+
+pub map_at : {X Y : Type 0} (f : X → Y) (xs : List X) (k : ℕ) (x : X) → slice_get xs k ≡ Some x → slice_get (map f xs) k ≡ Some (f x)
+map_at f [] k x h = cc
+map_at f (y ∷ ys) zero x h = let e : y ≡ x = cc in ap (λ z. Some (f z)) e
+map_at f (y ∷ ys) (suc k) x h = map_at f ys k x h
+
+-- what stands under an element of a mapped list
+pub record Under {X Y : Type 0} (f : X → Y) (xs : List X) (k : ℕ) (y : Y) : Type 0 where
+  pub element : X
+  pub at : slice_get xs k ≡ Some element
+  pub is : f element ≡ y
+
+pub under_map : {X Y : Type 0} (f : X → Y) (xs : List X) (k : ℕ) (y : Y) → slice_get (map f xs) k ≡ Some y → Under f xs k y
+under_map f [] k y h = cc
+under_map f (x ∷ xs) zero y h = record { element = x; at = refl; is = cc }
+under_map f (x ∷ xs) (suc k) y h = let r = under_map f xs k y h in record { element = r.element; at = r.at; is = r.is }
+
+pub length_map : {X Y : Type 0} (f : X → Y) (xs : List X) → length (map f xs) ≡ length xs
+length_map f [] = refl
+length_map f (x ∷ xs) = let e : length (map f xs) ≡ length xs = length_map f xs in omega arith
+
+pub nothing_at : {X : Type 0} (xs : List X) (k : ℕ) (x : X) → xs ≡ [] → slice_get xs k ≡ Some x → ⊥
+nothing_at [] k x e h = cc
+nothing_at (y ∷ ys) k x e h = cc
+
+pub map_push : {X Y : Type 0} (f : X → Y) (xs : List X) (x : X) → map f (xs ++ x ∷ []) ≡ map f xs ++ f x ∷ []
+map_push f [] x = refl
+map_push f (y ∷ xs) x = ap (λ zs. f y ∷ zs) (map_push f xs x)
+
+pub map_join : {X Y : Type 0} (f : X → Y) (xs ys : List X) → map f (xs ++ ys) ≡ map f xs ++ map f ys
+map_join f [] ys = refl
+map_join f (x ∷ xs) ys = ap (λ zs. f x ∷ zs) (map_join f xs ys)
+
+pub total_push : (ns : List ℕ) (n : ℕ) → total (ns ++ n ∷ []) ≡ total ns + n
+total_push [] n = omega arith
+total_push (m ∷ ns) n = let e : total (ns ++ n ∷ []) ≡ total ns + n = total_push ns n in omega arith
+
+-- an element of a list with one more at its end
+pub push_cases : {X : Type 0} (xs : List X) (x : X) (k : ℕ) (y : X) → slice_get (xs ++ x ∷ []) k ≡ Some y → (slice_get xs k ≡ Some y) ⊎ ((k ≡ length xs) × (x ≡ y))
+push_cases [] x zero y h = inr (refl, cc)
+push_cases [] x (suc k) y h = cc
+push_cases (z ∷ xs) x zero y h = inl h
+push_cases (z ∷ xs) x (suc k) y h = elim (push_cases xs x k y h) [ inl old ↦ inl old | inr last ↦ inr (let e : k ≡ length xs = last.0 in omega arith, last.1) ]
+
+pub at_end : {X : Type 0} (xs : List X) (x : X) → slice_get (xs ++ x ∷ []) (length xs) ≡ Some x
+at_end [] x = refl
+at_end (z ∷ xs) x = at_end xs x
+
+pub kept_left : {X : Type 0} (xs ys : List X) (k : ℕ) (y : X) → slice_get xs k ≡ Some y → slice_get (xs ++ ys) k ≡ Some y
+kept_left [] ys k y h = cc
+kept_left (x ∷ xs) ys zero y h = h
+kept_left (x ∷ xs) ys (suc k) y h = kept_left xs ys k y h
+
+pub one_at : {X : Type 0} (xs : List X) (k : ℕ) (x y : X) → slice_get xs k ≡ Some x → slice_get xs k ≡ Some y → x ≡ y
+one_at xs k x y h g = cc
+
+pub some_at : {X : Type 0} (xs : List X) (k : ℕ) → k < length xs → (x : X) × (slice_get xs k ≡ Some x)
+some_at [] k h = absurd (omega arith)
+some_at (x ∷ xs) zero h = (x, refl)
+some_at (x ∷ xs) (suc k) h = some_at xs k (omega arith)
+
+pub once_push : {X : Type 0} (xs : List X) (x : X) → EachOnce xs → ((k : ℕ) → slice_get xs k ≡ Some x → ⊥) → EachOnce (xs ++ x ∷ [])
+once_push {X} xs x once new j k y h g =
+    elim (push_cases xs x j y h) as (λ _. j ≡ k) [
+      | inl old ↦ elim (push_cases xs x k y g) as (λ _. j ≡ k) [
+        | inl older ↦ once j k y old older
+        | inr last ↦ absurd (new j (old ∙ ap Some (sym last.1)))
+      ]
+      | inr here ↦ elim (push_cases xs x k y g) as (λ _. j ≡ k) [
+        | inl older ↦ absurd (new k (older ∙ ap Some (sym here.1)))
+        | inr last ↦ here.0 ∙ sym last.0
+      ]
+    ]
+
+-- ---- the terms of a pool
+
+pub tree_kept : (old new : List Proc) (id : ProcId) → IsFront old new → id.0 < length old → tree_at new id ≡ tree_at old id
+tree_kept old new id front inside = get_or_from_slice_get new id.0 (tree_at old id) proc.Stop (front id.0 (tree_at old id) (slice_get-get_or old id.0 proc.Stop inside))
+
+pub inside_still : (old new : List Proc) (id : ProcId) → IsFront old new → id.0 < length old → id.0 < length new
+inside_still old new id front inside = slice_get_within new id.0 (tree_at old id) (front id.0 (tree_at old id) (slice_get-get_or old id.0 proc.Stop inside))
+
+pub terms_kept : (old new : List Proc) (ids : List ProcId) → IsFront old new → ((k : ℕ) (id : ProcId) → slice_get ids k ≡ Some id → id.0 < length old) → terms_at new ids ≡ terms_at old ids
+terms_kept old new [] front places = refl
+terms_kept old new (id ∷ ids) front places = λ i. tree_kept old new id front (places 0 id refl) i ∷ terms_kept old new ids front (λ k x h. places (suc k) x h) i
+
+-- a place stands in one place where its term does
+pub ids_once : (trees : List Proc) (ids : List ProcId) → EachOnce (terms_at trees ids) → (j k : ℕ) (id : ProcId) → slice_get ids j ≡ Some id → slice_get ids k ≡ Some id → j ≡ k
+ids_once trees ids once j k id h g = once j k (tree_at trees id) (map_at (tree_at trees) ids j id h) (map_at (tree_at trees) ids k id g)

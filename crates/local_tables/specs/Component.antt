@@ -1,0 +1,31 @@
+-- A component of a program, and what stands for it: terms that it reaches by itself, and steps of these.
+use Rattle.std.specs.Prelude.{◌≡◌, ℕ, ◌+◌, Ok, Some, List, length, slice_get}
+use Rattle.csp_program.specs.declared.processes.Proc.{Proc}
+use Rattle.csp_program.specs.declared.programs.Content.{Content}
+use Rattle.csp_tables.specs.Label.{Label}
+use Rattle.csp_tables.specs.Path.{Reached}
+use Rattle.csp_tables.specs.Network.{Component, ComponentStep}
+use Rattle.csp_tables.specs.RawTable.{EachOnce, IsStepOf, RawStep, RawTable, standing_at}
+use Rattle.process_steps.specs.StepList.{Move, steps_of}
+
+abbrev pub component : List ℕ → Proc → Component Proc
+component alphabet term = record { alphabet = alphabet; term = term }
+
+-- the term has a list of steps
+abbrev pub HasList : Content → Proc → Type 0
+HasList p x = (moves : List Move) × (steps_of p x ≡ Ok moves)
+
+-- The component reaches each of these terms, and none stands twice.
+pub record AreTerms {T : Type 0} (Step : T → Label → T → Type 0) (c : Component T) (terms : List T) : Type 0 where
+  pub once : EachOnce terms
+  pub reached : (n : ℕ) (x : T) → slice_get terms n ≡ Some x → Reached (ComponentStep Step) c (standing_at c x)
+
+-- Each step of the table is a step of the component between two of the terms, and none stands twice.
+pub record AreSteps {T : Type 0} (Step : T → Label → T → Type 0) (c : Component T) (terms : List T) (raw : RawTable) : Type 0 where
+  pub silent_once : EachOnce raw.silent
+  pub steps_once : EachOnce raw.steps
+  pub sound : (m n : ℕ) (l : Label) → RawStep raw m l n → IsStepOf Step c terms m l n
+
+-- how many steps the table has
+abbrev pub step_count : RawTable → ℕ
+step_count raw = length raw.silent + length raw.steps

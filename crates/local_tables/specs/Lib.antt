@@ -1,0 +1,6 @@
+pub mod Component
+pub mod Faults
+pub mod Laws
+pub mod LocalTable
+pub mod Progress
+pub mod Stops

@@ -1,0 +1,31 @@
+-- The table of a component of a program, within the limits.
+use Rattle.std.specs.Prelude.{◌≡◌, ℕ, ◌≤◌, Some, List, length, map, slice_get}
+use Rattle.csp_program.specs.Depth.{proc_depth}
+use Rattle.csp_program.specs.Lists.{total}
+use Rattle.csp_program.specs.Size.{proc_size}
+use Rattle.csp_program.specs.declared.processes.Proc.{Proc}
+use Rattle.csp_program.specs.declared.programs.Content.{Content}
+use Rattle.csp_tables.specs.Network.{Component}
+use Rattle.csp_tables.specs.RawTable.{IsTableOf}
+use Rattle.process_steps.specs.ComponentStep.{ProcessStep, Ticks}
+use Rattle.local_tables.specs.Component.{HasList, step_count}
+use Rattle.local_tables.specs.declared.local_table.LocalTable.{LocalTable}
+use Rattle.local_tables.specs.declared.local_table.Room.{Room}
+
+-- The steps of the term are there, it cannot end, and it is not too deep.
+pub record IsFit (p : Content) (x : Proc) : Type 0 where
+  pub list : HasList p x
+  pub goes_on : Ticks p x → ⊥
+  pub shallow : proc_depth x ≤ 800
+
+-- The terms and steps are exactly those of the component, and each term is fit. They are within the limits and the room, and the room that they
+-- take is told.
+pub record IsLocalTable (p : Content) (c : Component Proc) (room : Room) (made : LocalTable) : Type 0 where
+  pub terms : List Proc
+  pub table : IsTableOf (ProcessStep p) c terms made.table
+  pub fit : (n : ℕ) (x : Proc) → slice_get terms n ≡ Some x → IsFit p x
+  pub few : length terms ≤ 16384
+  pub nodes : total (map proc_size terms) ≡ made.used.nodes
+  pub steps : step_count made.table ≡ made.used.steps
+  pub room_for_nodes : made.used.nodes ≤ room.nodes
+  pub room_for_steps : made.used.steps ≤ room.steps

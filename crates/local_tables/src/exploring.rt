@@ -1,0 +1,233 @@
+//! The exploration of a component.
+
+ghost use Rattle.std.specs.Prelude.{[], ◌≡◌, ◌+◌, ◌<◌, ◌≤◌, ◌^◌, ℕ, Some, length, slice_get, IfOk, IfErr, OnOk};
+ghost use Rattle.csp_tables.specs.RawTable.{RawStep};
+ghost use Rattle.local_tables.specs.Component.{component, step_count};
+ghost use Rattle.local_tables.specs.Faults.{Tells};
+ghost use Rattle.local_tables.specs.LocalTable.{IsLocalTable};
+ghost use Rattle.local_tables.specs.Progress.{CanBePassed, HasMore, HasStepMore, IsAt, IsSoFar, IsUpTo, IsWithin, Steps, label_of};
+ghost use Rattle.local_tables.specs.Stops.{PassesSteps, StopsAt};
+
+use crate::fault::{LocalFault, Stop};
+use crate::found::{Found, Task, begin, number_of};
+use crate::local_table::{LocalTable, Room};
+use crate::origins::trace_to;
+use csp_base::{Event, EventSet, NoMemory};
+use csp_program::{Proc, Program};
+use csp_steps::{StepTo, steps_in};
+use csp_tables::RawTable;
+use process_steps::Label;
+use std::alloc::Global;
+use std::mem;
+use term_pool::ProcId;
+
+/// The table of the component with this term and this alphabet: exactly the terms that it reaches by itself, its own one first, and exactly their steps
+/// within the alphabet.
+///
+/// It takes time in proportion to the terms and their steps.
+pub fn explore(
+    alloc: Global,
+    program: &Program,
+    start: &Proc,
+    alphabet: &EventSet,
+    room: Room,
+) -> Result<LocalTable, LocalFault>
+    requires nodes { room.nodes < 4294967295 }
+    requires steps { room.steps < 4294967295 }
+    ensures table { IfOk result (IsLocalTable program.now (component alphabet.now start.now) room) }
+    ensures fault { IfErr result (Tells program.now (component alphabet.now start.now) room) }
+{
+    let task = Task {
+        program,
+        start,
+        alphabet,
+        room,
+    };
+    table_of(alloc, &task)
+}
+
+// The table of the task's component.
+fn table_of(alloc: Global, task: &Task<'_>) -> Result<LocalTable, LocalFault>
+    requires room { CanBePassed task.now.room }
+    ensures table { IfOk result (IsLocalTable task.now.program.now (component task.now.alphabet.now task.now.start.now) task.now.room) }
+    ensures fault { IfErr result (Tells task.now.program.now (component task.now.alphabet.now task.now.start.now) task.now.room) }
+{
+    let mut found = Found::new(alloc);
+    explored(alloc, task, &mut found)
+}
+
+// The same, from where nothing is found yet.
+fn explored(alloc: Global, task: &Task<'_>, found: &mut Found) -> Result<LocalTable, LocalFault>
+    requires room { CanBePassed task.now.room }
+    requires pool { found.old.pool ≡ [] }
+    requires terms { found.old.terms ≡ [] }
+    requires origins { found.old.origins.items ≡ [] }
+    requires table { found.old.table ≡ record { silent = []; steps = []; count = 1 } }
+    ensures table { IfOk result (IsLocalTable task.now.program.now (component task.now.alphabet.now task.now.start.now) task.now.room) }
+    ensures fault { IfErr result (Tells task.now.program.now (component task.now.alphabet.now task.now.start.now) task.now.room) }
+{
+    match fill(alloc, task, found) {
+        Ok(()) => Ok(finished(alloc, found)),
+        Err(stop) => Err(told(alloc, task, found, stop)),
+    }
+}
+
+// The table, once all terms are followed.
+fn finished(alloc: Global, found: &mut Found) -> LocalTable
+    requires nodes { found.old.nodes < 2 ^ 32 }
+    requires steps { step_count found.old.table < 2 ^ 32 }
+    ensures table { result.table ≡ found.old.table }
+    ensures nodes { result.used.nodes ≡ found.old.nodes }
+    ensures steps { result.used.steps ≡ step_count found.old.table }
+{
+    let steps = found.table.silent().len() + found.table.steps().len();
+    let table = mem::replace(&mut found.table, RawTable::new(alloc));
+    LocalTable {
+        table,
+        used: Room {
+            nodes: found.nodes as u32,
+            steps: steps as u32,
+        },
+    }
+}
+
+// The fault for which the exploration stopped.
+fn told(alloc: Global, task: &Task<'_>, found: &Found, stop: Stop) -> LocalFault
+    requires { StopsAt task.now.program.now (component task.now.alphabet.now task.now.start.now) task.now.room found.now stop }
+    ensures { Tells task.now.program.now (component task.now.alphabet.now task.now.start.now) task.now.room result }
+{
+    match stop {
+        Stop::NoMemory => LocalFault::NoMemory,
+        Stop::Value { kind } => LocalFault::Value { kind },
+        Stop::TermCount { found } => LocalFault::TermCount { found },
+        Stop::TermDepth { found } => LocalFault::TermDepth { found },
+        Stop::TermTotal { found } => LocalFault::TermTotal { found },
+        Stop::StepCount { found } => LocalFault::StepCount { found },
+        Stop::Ends { number } => match trace_to(alloc, found.origins.as_slice(), number) {
+            Ok(trace) => LocalFault::Terminates { trace },
+            Err(_) => LocalFault::NoMemory,
+        },
+    }
+}
+
+// Follows the first term, and each that is found.
+fn fill(alloc: Global, task: &Task<'_>, found: &mut Found) -> Result<(), Stop>
+    requires room { CanBePassed task.now.room }
+    requires pool { found.old.pool ≡ [] }
+    requires terms { found.old.terms ≡ [] }
+    requires origins { found.old.origins.items ≡ [] }
+    requires table { found.old.table ≡ record { silent = []; steps = []; count = 1 } }
+    ensures up_to { OnOk result (IsUpTo task.now.program.now (component task.now.alphabet.now task.now.start.now) task.now.room found.new found.new.table.count) }
+    ensures stop { IfErr result (StopsAt task.now.program.now (component task.now.alphabet.now task.now.start.now) task.now.room found.new) }
+{
+    begin(task, found)?;
+    let mut at = 0;
+    while at < found.table.count() {
+        follow(alloc, task, found, at)?;
+        at += 1;
+    }
+    Ok(())
+}
+
+// Follows the term with the number `at`: its steps come into the table.
+fn follow(alloc: Global, task: &Task<'_>, found: &mut Found, at: u32) -> Result<(), Stop>
+    requires room { CanBePassed task.now.room }
+    requires here { at < length found.old.terms }
+    requires up_to { IsUpTo task.now.program.now (component task.now.alphabet.now task.now.start.now) task.now.room found.old at }
+    ensures up_to { OnOk result (IsUpTo task.now.program.now (component task.now.alphabet.now task.now.start.now) task.now.room found.new (at + 1)) }
+    ensures stop { IfErr result (StopsAt task.now.program.now (component task.now.alphabet.now task.now.start.now) task.now.room found.new) }
+{
+    let id = found.terms.as_slice()[at as usize];
+    let steps = steps_in(alloc, task.program, &mut found.pool, id)?;
+    take_all(task, found, at, &steps)
+}
+
+// Takes the steps of the term with the number `at` into the table.
+fn take_all(task: &Task<'_>, found: &mut Found, at: u32, steps: &[StepTo]) -> Result<(), Stop>
+    requires room { CanBePassed task.now.room }
+    requires at { IsAt task.now.program.now (component task.now.alphabet.now task.now.start.now) task.now.room found.old at steps.now 0 }
+    ensures up_to { OnOk result (IsUpTo task.now.program.now (component task.now.alphabet.now task.now.start.now) task.now.room found.new (at + 1)) }
+    ensures stop { IfErr result (StopsAt task.now.program.now (component task.now.alphabet.now task.now.start.now) task.now.room found.new) }
+{
+    for place in 0..steps.len() {
+        take(task, found, at, steps, place)?;
+    }
+    Ok(())
+}
+
+// Takes one of the steps of the term with the number `at` into the table, if its event is in the alphabet.
+fn take(
+    task: &Task<'_>,
+    found: &mut Found,
+    at: u32,
+    steps: &[StepTo],
+    place: usize,
+) -> Result<(), Stop>
+    requires room { CanBePassed task.now.room }
+    requires inside { place < length steps.now }
+    requires at { IsAt task.now.program.now (component task.now.alphabet.now task.now.start.now) task.now.room found.old at steps.now place }
+    ensures at { OnOk result (IsAt task.now.program.now (component task.now.alphabet.now task.now.start.now) task.now.room found.new at steps.now (place + 1)) }
+    ensures stop { IfErr result (StopsAt task.now.program.now (component task.now.alphabet.now task.now.start.now) task.now.room found.new) }
+{
+    let StepTo { label, to } = steps[place];
+    match label {
+        Label::Silent => lead(task, found, at, None, to),
+        Label::Visible(event) => {
+            if !task.alphabet.contains(event) {
+                return Ok(());
+            }
+            lead(task, found, at, Some(event), to)
+        }
+        Label::Tick => Err(Stop::Ends { number: at }),
+    }
+}
+
+// Takes a step from the term with the number `from` into the table, with the term after it.
+fn lead(
+    task: &Task<'_>,
+    found: &mut Found,
+    from: u32,
+    event: Option<Event>,
+    to: ProcId,
+) -> Result<(), Stop>
+    requires room { CanBePassed task.now.room }
+    requires so_far { IsSoFar task.now.program.now (component task.now.alphabet.now task.now.start.now) found.old }
+    requires within { IsWithin task.now.room found.old }
+    requires step { Steps task.now.program.now (component task.now.alphabet.now task.now.start.now) found.old from (label_of event) to }
+    requires new { (n : ℕ) → slice_get found.old.terms n ≡ Some to → RawStep found.old.table from (label_of event) n → ⊥ }
+    ensures more { OnOk result (HasMore found.old found.new from (label_of event) to) }
+    ensures so_far { OnOk result (IsSoFar task.now.program.now (component task.now.alphabet.now task.now.start.now) found.new) }
+    ensures within { OnOk result (IsWithin task.now.room found.new) }
+    ensures stop { IfErr result (StopsAt task.now.program.now (component task.now.alphabet.now task.now.start.now) task.now.room found.new) }
+{
+    let number = number_of(task, found, from, &event, to)?;
+    add_step(&mut found.table, from, event, number)?;
+    check_steps(&task.room, &found.table)
+}
+
+// Whether the steps are within the room.
+fn check_steps(room: &Room, table: &RawTable) -> Result<(), Stop>
+    requires few { step_count table.now < 2 ^ 32 }
+    ensures within { OnOk result (step_count table.now ≤ room.now.steps) }
+    ensures stop { IfErr result (λ stop. PassesSteps room.now table.now stop) }
+{
+    let count = table.silent().len() + table.steps().len();
+    if count > room.steps as usize {
+        return Err(Stop::StepCount {
+            found: count as u32,
+        });
+    }
+    Ok(())
+}
+
+// Adds a silent step, or one by the event.
+fn add_step(table: &mut RawTable, from: u32, event: Option<Event>, to: u32) -> Result<(), NoMemory>
+    requires from { from < table.old.count }
+    requires to { to < table.old.count }
+    ensures { OnOk result (HasStepMore table.old table.new from (label_of event) to) }
+{
+    match event {
+        None => table.add_silent(from, to),
+        Some(event) => table.add_step(from, event, to),
+    }
+}

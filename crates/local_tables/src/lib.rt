@@ -1,0 +1,19 @@
+//! The table of a component: the terms that it reaches by itself, numbered as they are first seen, and their steps.
+#![tactic(auto)]
+
+ghost use Rattle.local_tables.specs.Laws.{FaultsExcludeTables};
+
+mod exploring;
+mod fault;
+mod found;
+mod local_table;
+mod origins;
+
+pub use exploring::explore;
+pub use fault::LocalFault;
+pub use local_table::{LocalTable, Room};
+
+/// Where a component has a table within the room, no fault but want of memory is true of it.
+pub fn faults_exclude_tables()
+    ensures { FaultsExcludeTables }
+{}

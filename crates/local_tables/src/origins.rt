@@ -1,0 +1,58 @@
+//! The way to a term, over the steps by which terms were found.
+
+ghost use Rattle.std.specs.Prelude.{◌≡◌, ◌+◌, ◌<◌, ◌≤◌, ◌++◌, ℕ, Some, List, length, slice_get, IfOk, OnOk};
+ghost use Rattle.csp_program.specs.declared.processes.Proc.{Proc};
+ghost use Rattle.csp_program.specs.declared.programs.Content.{Content};
+ghost use Rattle.csp_tables.specs.Network.{Component};
+ghost use Rattle.local_tables.specs.Progress.{AreLed, LeadsToTerm, Origin, events_of};
+
+use csp_base::{Event, NoMemory, Trace};
+use std::alloc::Global;
+
+// The trace along the way to the term with this number.
+pub(crate) fn trace_to(
+    alloc: Global,
+    origins: &[(u32, Option<Event>)],
+    number: u32,
+) -> Result<Trace, NoMemory>
+    requires within { number < length origins.now + 1 }
+    requires earlier { (k : ℕ) (o : Origin) → slice_get origins.now k ≡ Some o → o.0 ≤ k }
+    ensures { (p : Content) (c : Component Proc) (terms : List Proc) → AreLed p c terms origins.now
+        → IfOk result (λ trace. LeadsToTerm p c terms trace number) }
+{
+    let events = events_to(alloc, origins, number)?;
+    Trace::from_slice(alloc, events.as_slice())
+}
+
+// The events along the way.
+fn events_to(
+    alloc: Global,
+    origins: &[(u32, Option<Event>)],
+    number: u32,
+) -> Result<Vec<Event>, NoMemory>
+    requires within { number < length origins.now + 1 }
+    requires earlier { (k : ℕ) (o : Origin) → slice_get origins.now k ≡ Some o → o.0 ≤ k }
+    ensures { (p : Content) (c : Component Proc) (terms : List Proc) → AreLed p c terms origins.now
+        → IfOk result (λ events. LeadsToTerm p c terms events.items number) }
+{
+    let mut events = Vec::new(alloc);
+    let mut at = number as usize;
+    while at > 0 {
+        let (earlier, event) = origins[at - 1];
+        push_event(&mut events, event)?;
+        at = earlier as usize;
+    }
+    events.reverse();
+    Ok(events)
+}
+
+// The event of a step, if it has one, at the end.
+fn push_event(events: &mut Vec<Event>, event: Option<Event>) -> Result<(), NoMemory>
+    ensures { OnOk result (events.new.items ≡ events.old.items ++ events_of event) }
+{
+    let Some(event) = event else {
+        return Ok(());
+    };
+    events.push(event)?;
+    Ok(())
+}
