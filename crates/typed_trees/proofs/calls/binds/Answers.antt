@@ -1,4 +1,4 @@
-use Rattle.std.proofs.Common.{◌≡◌, ◌∙◌, sym, zero-add}
+use Rattle.std.proofs.Common.{◌∙◌, sym, zero-add}
 use Rattle.typed_trees.specs.Tokens.{tokens}
 use Rattle.typed_trees.proofs.SameTokens.{same_tree}
 use Rattle.typed_trees.proofs.calls.binds.Goals as goal

@@ -1,4 +1,4 @@
-use Rattle.std.proofs.Common.{◌≡◌, ℕ, ◌+◌, ◌∙◌, ap, sym}
+use Rattle.std.proofs.Common.{ℕ, ◌+◌, ◌∙◌, ap, sym}
 use Rattle.typed_trees.proofs.ExprForms.{exprs_are, trees_bind}
 use Rattle.typed_trees.proofs.calls.typed_exprs.Goals as goal
 

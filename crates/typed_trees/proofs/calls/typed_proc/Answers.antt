@@ -1,4 +1,4 @@
-use Rattle.std.proofs.Common.{◌≡◌, ℕ, ◌+◌, ◌∙◌, ap, sym}
+use Rattle.std.proofs.Common.{ℕ, ◌+◌, ◌∙◌, ap, sym}
 use Rattle.typed_trees.proofs.SameTokens.{same_tree}
 use Rattle.typed_trees.proofs.calls.typed_proc.Goals as goal
 
