@@ -1,5 +1,5 @@
 -- Depths by rounds: they are those of the definition, and once a round changes nothing no later one does.
-use Rattle.std.proofs.Common.{◌≡◌, ℕ, zero, suc, ◌+◌, ◌-◌, ◌≤◌, ◌<◌, max, min, Bool, true, false, IsTrue, ◌↔◌, Option, Some, None, List, [], ◌∷◌, ◌++◌, map, slice_get, slice_index, nat_lt, length, drop, get_or, drop-cons, add-one, append_assoc, refl, sym, ap, ◌∙◌, subst, arith}
+use Rattle.std.proofs.Common.{◌≡◌, ℕ, zero, suc, ◌+◌, ◌-◌, ◌≤◌, ◌<◌, max, min, Bool, true, IsTrue, ◌↔◌, Option, Some, None, List, [], ◌∷◌, ◌++◌, map, slice_get, slice_index, nat_lt, length, drop, get_or, drop-cons, add-one, append_assoc, refl, sym, ap, ◌∙◌, subst, arith}
 use Rattle.std.proofs.Math.ListN.{drop_of_length-le}
 use Rattle.std.proofs.lemmas.List.{append-nil}
 use Rattle.std.proofs.lemmas.Bool.{lt-ltb, ltb-true, ltb_from_iff}
@@ -159,11 +159,6 @@ unfolding AreDepths
 over_depth n bodies depths d are =
     over_is (depth_within n bodies d) ∙ ap (λ x. nat_lt 800 x) (ap (λ x. min x 801) (sym (depth_is n bodies d)) ∙ sym (are d))
 
--- one more of the uses of a body
-pub use_step : (f : ℕ → ℕ) (us : List (ℕ × ℕ)) (u : ℕ × ℕ) (deepest here whole : ℕ) → here ≡ min (u.1 + f u.0) 801
-    → max deepest (min (deepest_use f (u ∷ us)) 801) ≡ whole → max (max deepest here) (min (deepest_use f us) 801) ≡ whole
-use_step f us u deepest here whole is so_far = omega arith
-
 -- loops: one more, and no more
 pub split_at : {X : Type 0} (xs : List X) (i : ℕ) (x : X) → i < length xs → x ≡ get_or xs i x → drop i xs ≡ x ∷ drop (i + 1) xs
 split_at xs i x within is = rw (add-one, drop-cons xs i x) (ap (λ y. y ∷ drop (suc i) xs) (sym is))
@@ -179,16 +174,6 @@ map_step f new old whole y i xs x within is made now so_far =
 
 pub map_end : {X Y : Type 0} (f : X → Y) (old whole : List Y) (i : ℕ) (xs : List X) → length xs ≤ i → old ++ map f (drop i xs) ≡ whole → old ≡ whole
 map_end f old whole i xs at_end so_far = sym (append-nil old) ∙ ap (λ ys. old ++ map f ys) (sym (drop_of_length-le xs at_end)) ∙ so_far
-
-pub uses_step : (f : ℕ → ℕ) (us : List (ℕ × ℕ)) (i : ℕ) (u : ℕ × ℕ) (deepest here whole : ℕ) → i < length us → u ≡ get_or us i u → here ≡ min (u.1 + f u.0) 801
-    → max deepest (min (deepest_use f (drop i us)) 801) ≡ whole → max (max deepest here) (min (deepest_use f (drop (i + 1) us)) 801) ≡ whole
-uses_step f us i u deepest here whole within is reaches so_far =
-    use_step f (drop (i + 1) us) u deepest here whole reaches (ap (λ vs. max deepest (min (deepest_use f vs) 801)) (sym (split_at us i u within is)) ∙ so_far)
-
-pub uses_end : (f : ℕ → ℕ) (us : List (ℕ × ℕ)) (i deepest whole : ℕ) → length us ≤ i → max deepest (min (deepest_use f (drop i us)) 801) ≡ whole → deepest ≡ whole
-uses_end f us i deepest whole at_end so_far =
-    let none : deepest_use f (drop i us) ≡ 0 = ap (deepest_use f) (drop_of_length-le us at_end) in
-    omega arith
 
 pub more_depths : (n : ℕ) (bodies : List Body) (depths next slice : List ℕ) → AreDepths n bodies depths → slice ≡ depths
     → next ≡ map (λ b. min (deepest_of (λ d. slice_index slice d) b) 801) bodies → AreDepths (n + 1) bodies next

@@ -1,5 +1,5 @@
 -- What is known of declarations, and what one says after them.
-use Rattle.std.proofs.Common.{◌≡◌, ℕ, zero, suc, ◌+◌, ◌<◌, ◌≤◌, Bool, true, false, ◌&&◌, ◌||◌, Option, Some, None, List, [], ◌∷◌, ◌++◌, length, map, take, drop, get_or, slice_get, slice_index, nat_lt, refl, sym, ap, ◌∙◌, append_assoc, drop-cons, add-one, add-zero, subst, arith}
+use Rattle.std.proofs.Common.{◌≡◌, ℕ, suc, ◌+◌, ◌<◌, ◌≤◌, Bool, ◌&&◌, ◌||◌, Option, Some, None, List, [], ◌∷◌, ◌++◌, length, map, take, drop, get_or, slice_get, slice_index, nat_lt, refl, sym, ap, ◌∙◌, append_assoc, drop-cons, add-one, add-zero, subst, arith}
 use Rattle.std.proofs.Math.ListN.{drop_of_length-le}
 use Rattle.std.proofs.Math.Seq.{take-suc}
 use Rattle.std.proofs.lemmas.List.{append-nil}
@@ -15,9 +15,9 @@ use Rattle.script_names.specs.Faults.{is_constant, kind_class}
 use Rattle.script_names.specs.Names.{Name, Meanings, Entities, Counts, channels_from, constants_from, counted, declared, declared_from, declares as declares_of, first_of, is_among, meanings_of, none_yet}
 use Rattle.script_names.specs.Occurrence.{Occurrence, declares}
 use Rattle.script_names.specs.Says.{tree_says}
-use Rattle.script_names.specs.Told.{annotation_says, bodies_from, body_place, counts_of, data_place, decl_says, declared_after, expanded_body, fault_in, fault_of, first_fault, first_there, is_data, is_deep, name_fault, names_declared, next_definition, parameters_after, root_place, too_deep, types_say, with_roles, with_uses}
+use Rattle.script_names.specs.Told.{annotation_says, bodies_from, body_place, counts_of, data_place, decl_says, declared_after, expanded_body, fault_in, first_fault, first_there, is_data, is_deep, name_fault, names_declared, next_definition, parameters_after, too_deep, types_say, with_roles, with_uses}
 use Rattle.name_tables.specs.Firsts.{SameFirsts, SameNames}
-use Rattle.name_tables.proofs.NameLemmas.{is_among-append, same_names-append}
+use Rattle.name_tables.proofs.NameLemmas.{same_names-append}
 use Rattle.name_notes.specs.declared.notes.Notes.{Notes}
 use Rattle.name_notes.specs.declared.notes.Body.{Body}
 use Rattle.name_notes.specs.declared.notes.Findings.{Findings}

@@ -1,9 +1,11 @@
 -- What is known of the declarations that were passed, and what a declaration says after them. It serves the contracts of this crate.
-use Rattle.std.specs.Prelude.{◌≡◌, ℕ, ◌+◌, Bool, false, ◌&&◌, ◌||◌, nat_lt, Option, List, [], ◌∷◌, ◌++◌, length, slice_get, slice_index}
+use Rattle.std.specs.Prelude.{◌≡◌, ℕ, Bool, false, ◌&&◌, ◌||◌, nat_lt, Option, List, [], ◌∷◌, ◌++◌, length, slice_get, slice_index}
 use Rattle.std.specs.List.{flat_map}
 use Rattle.std.specs.Option.{option_map}
 use Rattle.csp_text.specs.declared.script.Decl.{Decl}
 use Rattle.csp_text.specs.declared.script.Decl.TheVariants as decl
+use Rattle.csp_text.specs.declared.token.ResourceNames.{ResourceNames}
+use Rattle.csp_text.specs.declared.token.RolesNames.{RolesNames}
 use Rattle.script_names.specs.declared.fault.ResolveFault.{ResolveFault}
 use Rattle.script_names.specs.declared.fault.ResolveFault.TheVariants as fault
 use Rattle.script_names.specs.declared.kinds.Kind.{Kind}
@@ -65,6 +67,15 @@ parameters_heard meanings before n (x ∷ xs) =
     parameters_heard meanings (before ++ x ∷ []) (again_heard n x (is_among before x || is_constant (meanings x))) xs
 
 module _ (meanings : Meanings) (kinds : List Kind) where
+  -- what an annotation of roles says, after those of these processes
+  abbrev pub roles_said : List Name → RolesNames → List Occurrence
+  roles_said before names =
+      annotation_says meanings kinds (is_among before names.process) names.process (names.creq ∷ names.cack ∷ names.sreq ∷ names.sack ∷ [])
+
+  -- and one of a resource
+  abbrev pub resource_said : List Name → ResourceNames → List Occurrence
+  resource_said before names = annotation_says meanings kinds (is_among before names.process) names.process (names.acquire ∷ names.release ∷ [])
+
   -- what a declaration says after those that are known
   abbrev pub says_after : Known → Decl → List Occurrence
   says_after k (decl.Channel xs types) = declared_after k.declared xs ++ types_say meanings kinds types
@@ -73,10 +84,8 @@ module _ (meanings : Meanings) (kinds : List Kind) where
   says_after k (decl.Define x params t) =
       declared_after k.declared (x ∷ []) ++ (parameters_after [] params ++ tree_says meanings t (body_place (slice_get kinds k.definitions)) params)
   says_after k (decl.Assert t) = tree_says meanings t root_place []
-  says_after k (decl.Roles names) =
-      annotation_says meanings kinds (is_among k.roles names.process) names.process (names.creq ∷ names.cack ∷ names.sreq ∷ names.sack ∷ [])
-  says_after k (decl.Resource names) =
-      annotation_says meanings kinds (is_among k.uses names.process) names.process (names.acquire ∷ names.release ∷ [])
+  says_after k (decl.Roles names) = roles_said k.roles names
+  says_after k (decl.Resource names) = resource_said k.uses names
 
 -- whether a declaration is a definition of data with the number n that is over 800 deep
 abbrev pub deep_at : List Kind → List ℕ → ℕ → Decl → Bool

@@ -8,16 +8,16 @@ ghost use Rattle.script_names.specs.Says.{tree_says};
 ghost use Rattle.script_names.specs.Told.{data_place, types_say, with_roles, with_uses};
 ghost use Rattle.name_notes.specs.Heard.{again_heard, heard_all, use_heard};
 ghost use Rattle.name_tables.specs.Firsts.{SameNames};
-ghost use Rattle.name_faults.specs.Known.{declared_heard, names_in, parameters_heard, says_after};
+ghost use Rattle.name_faults.specs.Known.{declared_heard, names_in, parameters_heard, resource_said, roles_said, says_after};
 
 use crate::known::Known;
 use crate::places;
 use csp_base::{Name, NoMemory};
-use csp_text::{Decl, Tree};
+use csp_text::{Decl, ResourceNames, RolesNames, Tree};
 use name_notes::walk::note_bound;
 use name_notes::{Notes, note_tree};
 use name_tables::{Dictionary, NameSet};
-use script_names::{Kind, Sense, Use};
+use script_names::{Kind, Place, Sense, Use};
 use std::alloc::Global;
 
 /// Notes what a declaration says that comes after those that are known.
@@ -53,10 +53,9 @@ pub(crate) fn note_decl(
             Ok(())
         }
         Decl::Define(x, params, tree) => {
-            note_name(alloc, notes, &mut known.declared, x)?;
-            note_parameters(alloc, names, notes, params.as_slice())?;
             let place = places::body_place(kinds, known.definitions as usize);
-            note_tree(alloc, names, kinds, notes, params.as_slice(), place, tree)?;
+            note_name(alloc, notes, &mut known.declared, x)?;
+            note_definition(alloc, names, kinds, notes, place, params.as_slice(), tree)?;
             Ok(())
         }
         Decl::Assert(tree) => {
@@ -64,22 +63,69 @@ pub(crate) fn note_decl(
             Ok(())
         }
         Decl::Roles(roles) => {
-            let process = &roles.process;
-            let sense = note_annotated(alloc, names, kinds, notes, &mut known.roles, process)?;
-            note_set(alloc, names, kinds, notes, sense, &roles.creq)?;
-            note_set(alloc, names, kinds, notes, sense, &roles.cack)?;
-            note_set(alloc, names, kinds, notes, sense, &roles.sreq)?;
-            note_set(alloc, names, kinds, notes, sense, &roles.sack)?;
+            note_roles(alloc, names, kinds, notes, &mut known.roles, roles)?;
             Ok(())
         }
         Decl::Resource(resource) => {
-            let process = &resource.process;
-            let sense = note_annotated(alloc, names, kinds, notes, &mut known.uses, process)?;
-            note_set(alloc, names, kinds, notes, sense, &resource.acquire)?;
-            note_set(alloc, names, kinds, notes, sense, &resource.release)?;
+            note_resource(alloc, names, kinds, notes, &mut known.uses, resource)?;
             Ok(())
         }
     }
+}
+
+// Notes the parameters and the body of a definition.
+fn note_definition(
+    alloc: Global,
+    names: &Dictionary,
+    kinds: &[Kind],
+    notes: &mut Notes,
+    place: Place,
+    params: &[Name],
+    tree: &Tree,
+) -> Result<(), NoMemory>
+    ensures { OnOk result (notes.new ≡ heard_all (first_of names.now) kinds.now (parameters_heard (first_of names.now) [] notes.old params.now) (tree_says (first_of names.now) tree.now place params.now)) }
+{
+    note_parameters(alloc, names, notes, params)?;
+    note_tree(alloc, names, kinds, notes, params, place, tree)?;
+    Ok(())
+}
+
+// Notes an annotation of roles.
+fn note_roles(
+    alloc: Global,
+    names: &Dictionary,
+    kinds: &[Kind],
+    notes: &mut Notes,
+    annotated: &mut NameSet,
+    roles: &RolesNames,
+) -> Result<(), NoMemory>
+    ensures notes { OnOk result (notes.new ≡ heard_all (first_of names.now) kinds.now notes.old (roles_said (first_of names.now) kinds.now annotated.old roles.now)) }
+    ensures annotated { OnOk result (SameNames annotated.new (annotated.old ++ roles.now.process ∷ [])) }
+{
+    let sense = note_annotated(alloc, names, kinds, notes, annotated, &roles.process)?;
+    note_set(alloc, names, kinds, notes, sense, &roles.creq)?;
+    note_set(alloc, names, kinds, notes, sense, &roles.cack)?;
+    note_set(alloc, names, kinds, notes, sense, &roles.sreq)?;
+    note_set(alloc, names, kinds, notes, sense, &roles.sack)?;
+    Ok(())
+}
+
+// Notes an annotation of a resource.
+fn note_resource(
+    alloc: Global,
+    names: &Dictionary,
+    kinds: &[Kind],
+    notes: &mut Notes,
+    annotated: &mut NameSet,
+    resource: &ResourceNames,
+) -> Result<(), NoMemory>
+    ensures notes { OnOk result (notes.new ≡ heard_all (first_of names.now) kinds.now notes.old (resource_said (first_of names.now) kinds.now annotated.old resource.now)) }
+    ensures annotated { OnOk result (SameNames annotated.new (annotated.old ++ resource.now.process ∷ [])) }
+{
+    let sense = note_annotated(alloc, names, kinds, notes, annotated, &resource.process)?;
+    note_set(alloc, names, kinds, notes, sense, &resource.acquire)?;
+    note_set(alloc, names, kinds, notes, sense, &resource.release)?;
+    Ok(())
 }
 
 // Notes a name that is declared.

@@ -6,7 +6,7 @@ ghost use Rattle.script_names.specs.Told as meant;
 ghost use Rattle.name_tables.specs.Firsts.{SameFirsts, SameNames};
 ghost use Rattle.name_notes.specs.Found.{body_of};
 ghost use Rattle.name_faults.specs.Depths.{AreDepths};
-ghost use Rattle.name_faults.specs.Known.{IsNext, deep_at, fault_after, fault_from, told};
+ghost use Rattle.name_faults.specs.Known.{IsNext, deep_at, fault_after, fault_from, nothing_known, told};
 
 use crate::bodies::bodies_of;
 use crate::declarations::note_decl;
@@ -50,8 +50,26 @@ fn first_fault(
     ensures { IfOk result (λ fault. fault ≡ fault_from decls.now kinds.now [] decls.now) }
 {
     let mut known = Known::new(alloc);
+    let fault = first_after(alloc, decls, names, kinds, depths, &mut known)?;
+    Ok(fault)
+}
+
+// The first fault of the declarations, of which none is known yet.
+fn first_after(
+    alloc: Global,
+    decls: &[Decl],
+    names: &Dictionary,
+    kinds: &[Kind],
+    depths: &[u32],
+    known: &mut Known,
+) -> Result<Option<ResolveFault>, NoMemory>
+    requires known { known.old ≡ nothing_known }
+    requires names { SameFirsts names.now (declared decls.now) }
+    requires depths { AreDepths 801 (map body_of (meant.bodies_from (first_of names.now) kinds.now 0 decls.now)) depths.now }
+    ensures { IfOk result (λ fault. fault ≡ fault_from decls.now kinds.now [] decls.now) }
+{
     for decl in decls {
-        match fault_in(alloc, names, kinds, depths, &mut known, decl)? {
+        match fault_in(alloc, names, kinds, depths, known, decl)? {
             Some(fault) => return Ok(Some(fault)),
             None => known.count(decl)?,
         }

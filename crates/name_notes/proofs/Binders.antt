@@ -2,7 +2,7 @@
 use Rattle.std.proofs.Common.{◌≡◌, ℕ, zero, suc, Option, Some, None, List, [], ◌∷◌, ◌++◌, length, map, take, drop, get_or, ◌+◌, ◌<◌, ◌≤◌, drop-cons, add-one, append_assoc, refl, ap, sym, ◌∙◌}
 use Rattle.std.proofs.Math.ListN.{drop_of_length-le}
 use Rattle.std.proofs.lemmas.List.{append-nil}
-use Rattle.csp_text.specs.declared.tree.FieldTree.{FieldTree, fold-FieldTree}
+use Rattle.csp_text.specs.declared.tree.FieldTree.{FieldTree}
 use Rattle.csp_text.specs.declared.tree.FieldTree.TheFolds.{fold-roll-FieldTree, fold-roll-GenTree}
 use Rattle.csp_text.specs.declared.tree.FieldTree.TheOpen.{FieldTree-F, GenTree-F}
 use Rattle.csp_text.specs.declared.tree.FieldTree.TheVariants as field

@@ -15,8 +15,6 @@ use Rattle.script_names.specs.Faults.{class_of, clashes, is_definition, is_insid
 use Rattle.script_names.specs.Names.{Name, Meanings}
 use Rattle.script_names.specs.Occurrence.{Occurrence, declares, binds, notes, uses, form, parallel}
 use Rattle.script_names.specs.Told.{first_name, first_there}
-use Rattle.name_notes.specs.declared.notes.Body.{Body}
-use Rattle.name_notes.specs.declared.notes.Findings.{Findings}
 use Rattle.name_notes.specs.declared.notes.Notes.{Notes}
 use Rattle.name_notes.specs.Found.{body_of, findings_of, greatest_level, level_of, use_of}
 use Rattle.name_notes.specs.Heard.{again_heard, clash, first_found, form_heard, heard, heard_all, is_unknown, is_use_inside, is_wrong_count, is_wrong_use, nothing_heard, parallel_heard, use_heard}

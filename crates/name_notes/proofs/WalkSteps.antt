@@ -1,9 +1,8 @@
 -- Loops over the parts of trees: one more, and no more.
-use Rattle.std.proofs.Common.{◌≡◌, ℕ, ◌+◌, ◌<◌, ◌≤◌, ◌||◌, false, Option, Some, None, List, [], ◌∷◌, ◌++◌, length, drop, get_or, refl, ap, sym, ◌∙◌}
+use Rattle.std.proofs.Common.{◌≡◌, ℕ, ◌+◌, ◌<◌, ◌≤◌, List, ◌++◌, length, drop, get_or, ap, sym, ◌∙◌}
 use Rattle.std.proofs.Math.ListN.{drop_of_length-le}
 use Rattle.std.specs.List.{flat_map}
 use Rattle.csp_text.specs.declared.tree.FieldTree.{FieldTree}
-use Rattle.csp_text.specs.declared.tree.FieldTree.TheVariants as field
 use Rattle.csp_text.specs.declared.tree.FieldTree.TheViews.{out-PartTree}
 use Rattle.csp_text.specs.declared.tree.GenTree.{GenTree}
 use Rattle.csp_text.specs.declared.tree.PartTree.{PartTree}
@@ -14,14 +13,13 @@ use Rattle.script_names.specs.declared.kinds.Sense.{Sense}
 use Rattle.script_names.specs.declared.kinds.Use.TheVariants as how
 use Rattle.script_names.specs.declared.kinds.Kind.{Kind}
 use Rattle.script_names.specs.declared.kinds.Place.{Place}
-use Rattle.script_names.specs.Faults.{is_constant}
 use Rattle.script_names.specs.Names.{Name, Meanings, sense_in}
 use Rattle.script_names.specs.Says.{data_in, process_in}
 use Rattle.name_notes.specs.declared.notes.Notes.{Notes}
-use Rattle.name_notes.specs.Heard.{again_heard, form_heard, use_heard}
+use Rattle.name_notes.specs.Heard.{form_heard, use_heard}
 use Rattle.name_notes.specs.Told.{field_names, field_told, fields_told, gen_names, gen_told, gens_told, pair_told, pairs_told, part_told, parts_told, tree_told, trees_told}
 use Rattle.name_notes.proofs.Binders.{split_at}
-use Rattle.name_notes.proofs.ToldEquations.{fields_told-first, gens_told-first, pairs_told-first, parts_told-first, told-Comp, told-Product, told-Rename, told-field-Input, told-field-Input-from, told-pair, trees_told-first}
+use Rattle.name_notes.proofs.ToldEquations.{fields_told-first, gens_told-first, pairs_told-first, parts_told-first, told-Comp, told-Product, told-Rename, told-pair, trees_told-first}
 
 module _ (m : Meanings) (kinds : List Kind) where
   pub trees_told-step : (xs : List (Tree)) (i : ℕ) (x : Tree) (place : Place) (names after : List Name) (n new whole : Notes) → i < length xs → x ≡ get_or xs i x
@@ -118,14 +116,3 @@ module _ (m : Meanings) (kinds : List Kind) where
       → n3 ≡ tree_told m kinds t place names n
   rename_now t p p1 pairs pairs1 gens gens1 gens2 place process names b0 b1 b2 n n0 n1 n2 n3 is q i1 g1 g2 d f w0 z b w r rest =
       let told = told-Rename m kinds p pairs gens place names n in cc
-
-  pub input_now : (f : FieldTree) (x : List ℕ) (s : Option Tree) (place : Place) (names : List Name) (n n1 : Notes) → f ≡ field.Input x s → s ≡ None
-      → n1 ≡ again_heard n x (false || is_constant (m x)) → n1 ≡ field_told m kinds f place names n
-  input_now f x s place names n n1 is none now =
-      now ∙ sym (told-field-Input m kinds x place names n) ∙ ap (λ g. field_told m kinds g place names n) (sym (is ∙ ap (λ o. field.Input x o) none))
-
-  pub input_from_now : (f : FieldTree) (x : List ℕ) (s : Option Tree) (t : Tree) (place inner : Place) (names : List Name) (n n1 n2 : Notes) → f ≡ field.Input x s → s ≡ Some t
-      → inner ≡ data_in place → n1 ≡ again_heard n x (false || is_constant (m x)) → n2 ≡ tree_told m kinds t inner names n1 → n2 ≡ field_told m kinds f place names n
-  input_from_now f x s t place inner names n n1 n2 is some d now rest =
-      rest ∙ (λ i. tree_told m kinds t (d i) names (now i))
-      ∙ sym (told-field-Input-from m kinds x t place names n) ∙ ap (λ g. field_told m kinds g place names n) (sym (is ∙ ap (λ o. field.Input x o) some))

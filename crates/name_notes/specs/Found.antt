@@ -1,5 +1,5 @@
 -- What the notes come to, in the words of the name faults: what each test finds first among what is said, and how deep it reaches.
-use Rattle.std.specs.Prelude.{ℕ, max, List, [], ◌∷◌, ◌++◌}
+use Rattle.std.specs.Prelude.{ℕ, max, List, [], ◌∷◌}
 use Rattle.std.specs.List.{flat_map, list_any}
 use Rattle.script_names.specs.declared.kinds.Kind.{Kind}
 use Rattle.script_names.specs.declared.kinds.Use.TheVariants as how
@@ -9,7 +9,6 @@ use Rattle.script_names.specs.Occurrence.{Occurrence, uses, form, parallel}
 use Rattle.script_names.specs.Told.{first_name}
 use Rattle.name_notes.specs.declared.notes.Body.{Body}
 use Rattle.name_notes.specs.declared.notes.Findings.{Findings}
-use Rattle.name_notes.specs.declared.notes.Notes.{Notes}
 use Rattle.name_notes.specs.Heard.{used}
 
 -- what the tests find in what is said

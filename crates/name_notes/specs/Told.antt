@@ -1,5 +1,5 @@
 -- What is noted after what the parts of trees say. It serves the contracts of the walk.
-use Rattle.std.specs.Prelude.{Option, Some, None, List, [], ◌∷◌, ◌++◌, map}
+use Rattle.std.specs.Prelude.{List, [], ◌∷◌, map}
 use Rattle.csp_text.specs.declared.tree.FieldTree.TheFolds.{fold-GenTree, fold-EventTree, fold-PartTree}
 use Rattle.csp_text.specs.declared.tree.FieldTree.TheOpen.{FieldTree-F, GenTree-F}
 use Rattle.csp_text.specs.declared.tree.FieldTree.{FieldTree, fold-FieldTree, out-FieldTree}

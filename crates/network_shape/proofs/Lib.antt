@@ -6,4 +6,5 @@ pub mod Reading
 pub mod Counting
 pub mod Forming
 pub mod Stopping
+pub mod TrueStops
 pub mod MadeShapes

@@ -1,9 +1,13 @@
 -- Where a part of a shape stops: after a run it can come to accept nothing.
-use Rattle.std.specs.Prelude.{◌≡◌, ◌<◌, ℕ, List, [], length, get_or}
+use Rattle.std.specs.Prelude.{◌≡◌, ◌<◌, ℕ, List, [], Some, length, get_or, slice_get}
+use Rattle.csp_tables.specs.Label.{Label}
+use Rattle.csp_tables.specs.Network.{Component, ComponentStep, Tree, leaves}
+use Rattle.csp_tables.specs.Trace.{IsAcceptance, IsBusy}
 use Rattle.csp_tables.specs.Table.{IsRun, acceptances_after}
 use Rattle.csp_tables.specs.Part.{Part, part_at, IsNonEmpty}
 use Rattle.csp_tables.specs.Shape.{Shape}
 use Rattle.csp_tables.specs.Standing.{RunsTo, IsBusyShape}
+use Rattle.csp_tables.specs.ShapeOf.{IsShapeOf}
 
 -- no acceptance of the part after a run is empty
 abbrev pub IsBusyPart : Part → Type 0
@@ -24,3 +28,14 @@ pub record StopsFirst (shape : Shape) (i : ℕ) (s : List ℕ) : Type 0 where
 -- a shape with a part that stops is not busy
 abbrev pub StopsRefute : Type 0
 StopsRefute = (shape : Shape) (i : ℕ) (s : List ℕ) → StopsFirst shape i s → IsBusyShape shape → ⊥
+
+-- After the trace s the component in place i can come to accept nothing, and no component before it ever can.
+pub record StopsFirstIn {T : Type 0} (Step : T → Label → T → Type 0) (cs : List (Component T)) (i : ℕ) (s : List ℕ) : Type 0 where
+  pub component : Component T
+  pub listed : slice_get cs i ≡ Some component
+  pub stops : IsAcceptance (ComponentStep Step) component s []
+  pub first : (j : ℕ) (d : Component T) → j < i → slice_get cs j ≡ Some d → IsBusy (ComponentStep Step) d
+
+-- what is told of a network's shape is true of its components
+abbrev pub StopsAreTrue : {T : Type 0} → (T → Label → T → Type 0) → Type 0
+StopsAreTrue {T} Step = (tree : Tree T) (shape : Shape) (i : ℕ) (s : List ℕ) → IsShapeOf Step tree shape → StopsFirst shape i s → StopsFirstIn Step (leaves tree) i s

@@ -1,7 +1,7 @@
 //! What parts and their faults say of the network whose components the parts are made for.
 
 ghost use Rattle.network_shape.specs.Made.{MadePartsAreParts, MadePartsGrow, MadePartsHaveAlphabets, MadePartsMakeShapes, TablesStayWithin};
-ghost use Rattle.network_shape.specs.Stops.{StopsRefute};
+ghost use Rattle.network_shape.specs.Stops.{StopsAreTrue, StopsRefute};
 
 use net_sound::Transitions;
 
@@ -17,4 +17,9 @@ pub fn made_parts_make_shapes<S: Transitions>()
 /// A shape with a part that stops is not busy.
 pub fn stops_refute()
     ensures { StopsRefute }
+{}
+
+/// The first part of a network's shape that stops is the first component of the network that does.
+pub fn stops_are_true<S: Transitions>()
+    ensures { StopsAreTrue S.step }
 {}

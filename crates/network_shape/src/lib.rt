@@ -10,7 +10,7 @@ mod shaping;
 mod stops;
 
 pub use fault::{BusyFault, PartFault};
-pub use laws::{made_parts_make_shapes, stops_refute};
+pub use laws::{made_parts_make_shapes, stops_are_true, stops_refute};
 pub use parts::part;
 pub use shaping::shape;
 pub use stops::busy;

@@ -21,12 +21,11 @@ returns-in_ok-note_declared-in-Datatype-clause-notes c =
     c.note_name.new.notes c.note_declared-in-Datatype.new.notes c.in-Datatype.is c.in_ok-note_name-in-Datatype.ensures.notes c.in_ok-note_name-in-Datatype.ensures.declared
     (c.in_ok-note_declared-in-Datatype.ensures.notes ∙ ap (declared_heard c.note_name.new.declared c.note_name.new.notes) c.as_slice-in-Datatype.ensures)
 
-pub returns-in_ok-note_tree-in-Define-clause-notes : goal.returns-in_ok-note_tree-in-Define-clause-notes
-returns-in_ok-note_tree-in-Define-clause-notes c =
+pub returns-in_ok-note_definition-in-Define-clause-notes : goal.returns-in_ok-note_definition-in-Define-clause-notes
+returns-in_ok-note_definition-in-Define-clause-notes c =
     let m = first_of c.args.names.now in
     let kinds = c.args.kinds.now in
-    define_told m kinds c.args.known.now c.args.decl.now c.args.notes.now c.in-Define.x c.in-Define.params c.in-Define.tree c.note_name-in-Define.new.notes c.note_parameters.new.notes
-    c.note_tree-in-Define.new.notes c.in-Define.is c.in_ok-note_name-in-Define.ensures.notes
-    (c.in_ok-note_parameters-in-Define.ensures ∙ ap (λ ps. parameters_heard m [] c.note_name-in-Define.new.notes ps) c.as_slice-in-Define.ensures)
-    (c.in_ok-note_tree-in-Define.ensures
-    ∙ (λ i. heard_all m kinds c.note_parameters.new.notes (tree_says m c.in-Define.tree (c.body_place-place.ensures i) (c.as_slice-in-Define-2.ensures i))))
+    define_told m kinds c.args.known.now c.args.decl.now c.args.notes.now c.in-Define.x c.in-Define.params c.in-Define.tree c.body_place-place.result c.note_name-in-Define.new.notes
+    c.note_definition.new.notes c.in-Define.is c.body_place-place.ensures c.in_ok-note_name-in-Define.ensures.notes
+    (c.in_ok-note_definition-in-Define.ensures
+    ∙ ap (λ ps. heard_all m kinds (parameters_heard m [] c.note_name-in-Define.new.notes ps) (tree_says m c.in-Define.tree c.body_place-place.result ps)) c.as_slice-in-Define.ensures)

@@ -1,9 +1,9 @@
-use Rattle.std.proofs.Common.{◌++◌, [], take, ap, refl, sym, ◌∙◌, arith}
+use Rattle.std.proofs.Common.{◌++◌, ap, refl, ◌∙◌, arith}
 use Rattle.std.specs.List.{flat_map}
 use Rattle.script_names.specs.Names.{first_of}
 use Rattle.name_notes.specs.Told.{field_names, fields_told, gen_names, gens_told, pairs_told, parts_told, trees_told}
 use Rattle.name_notes.proofs.Binders.{field_names-Dot, field_names-Output, gen_names-Cond, none_bound, restored}
-use Rattle.name_notes.proofs.WalkSteps.{fields_told-end, fields_told-step, gens_told-end, gens_told-step, input_from_now, input_now, pair_now, comp_now, product_now, rename_now, pairs_told-end, pairs_told-step, parts_told-end, parts_told-step, trees_told-end, trees_told-step}
+use Rattle.name_notes.proofs.WalkSteps.{fields_told-end, fields_told-step, gens_told-end, gens_told-step, pair_now, comp_now, product_now, rename_now, pairs_told-end, pairs_told-step, parts_told-end, parts_told-step, trees_told-end, trees_told-step}
 use Rattle.name_tables.proofs.DeclaredLemmas.{flat_end, flat_step}
 use Rattle.name_notes.proofs.walk.+walk.Goals as goal
 

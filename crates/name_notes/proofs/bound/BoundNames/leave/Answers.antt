@@ -1,4 +1,4 @@
-use Rattle.std.proofs.Common.{take, ap, sym, ◌∙◌}
+use Rattle.std.proofs.Common.{take, ap, ◌∙◌}
 use Rattle.script_names.specs.Typed.{Scope, names_of}
 use Rattle.name_notes.proofs.Binders.{map-take}
 use Rattle.name_notes.proofs.bound.BoundNames.leave.Goals as goal

@@ -1,12 +1,12 @@
-use Rattle.std.proofs.Common.{◌≡◌, ◌+◌, ◌++◌, [], ◌∷◌, ◌∙◌, List, take, refl, sym, subst, arith}
+use Rattle.std.proofs.Common.{◌≡◌, [], List, take, refl, sym, subst, arith}
 use Rattle.csp_text.specs.declared.script.Decl.{Decl}
 use Rattle.script_names.specs.Names.{first_of, meanings_of}
 use Rattle.name_faults.specs.Known.{IsKnown, fault_from}
 use Rattle.name_faults.proofs.KnownLemmas.{deep_so, next_known, none_told, nothing_is_known, passed, same_meanings, take_more, told_here}
-use Rattle.name_faults.proofs.fault.first_fault.Goals as goal
+use Rattle.name_faults.proofs.fault.first_after.Goals as goal
 
 pub loop-decl-init : goal.loop-decl-init
-loop-decl-init c = record { known = nothing_is_known c.new-known.result c.new-known.ensures; so_far = refl }
+loop-decl-init c = record { known = nothing_is_known c.args.known.now c.requires.known; so_far = refl }
 
 pub returns-in-Some : goal.returns-in-Some
 returns-in-Some c =

@@ -1,0 +1,59 @@
+-- The first part of a network's shape that stops is the first component that does.
+use Rattle.std.proofs.Common.{◌≡◌, ◌∙◌, ℕ, zero, suc, ◌<◌, List, [], ◌∷◌, Some, slice_get, length, refl, sym, subst, arith}
+use Rattle.std.proofs.lemmas.Bool.{false≢true}
+use Rattle.std.proofs.lemmas.Option.{none-some, same_Some}
+use Rattle.csp_tables.specs.Label.{Label}
+use Rattle.csp_tables.specs.Network.{Component, ComponentStep, leaves}
+use Rattle.csp_tables.specs.Trace.{IsAcceptance, IsBusy}
+use Rattle.csp_tables.specs.Table.{IsRun, acceptances_after}
+use Rattle.csp_tables.specs.Part.{Part, part_at}
+use Rattle.csp_tables.specs.ShapeOf.{IsPartOf, ArePartsOf}
+use Rattle.network_shape.specs.Stops.{IsBusyPart, HasEmpty, StopsAreTrue}
+
+-- the component of a part
+record ComponentOf {T : Type 0} (Step : T → Label → T → Type 0) (cs : List (Component T)) (ps : List Part) (i : ℕ) : Type 0 where
+  component : Component T
+  listed : slice_get cs i ≡ Some component
+  part : IsPartOf Step component (part_at ps i)
+
+component_of : {T : Type 0} (Step : T → Label → T → Type 0) (cs : List (Component T)) (ps : List Part) → ArePartsOf Step cs ps
+    → (i : ℕ) → i < length ps → ComponentOf Step cs ps i
+component_of Step [] [] parts i below = absurd (omega arith)
+component_of Step [] (p ∷ ps) parts i below = absurd parts
+component_of Step (c ∷ cs) [] parts i below = absurd parts
+component_of Step (c ∷ cs) (p ∷ ps) parts zero below = record { component = c; listed = refl; part = parts.0 }
+component_of Step (c ∷ cs) (p ∷ ps) parts (suc i) below =
+    let r = component_of Step cs ps parts.1 i (omega arith) in
+    record { component = r.component; listed = r.listed; part = r.part }
+
+-- the part of a component
+part_of : {T : Type 0} (Step : T → Label → T → Type 0) (cs : List (Component T)) (ps : List Part) → ArePartsOf Step cs ps
+    → (i : ℕ) (c : Component T) → slice_get cs i ≡ Some c → IsPartOf Step c (part_at ps i)
+part_of Step [] [] parts i c at = absurd (none-some c at)
+part_of Step [] (p ∷ ps) parts i c at = absurd parts
+part_of Step (d ∷ cs) [] parts i c at = absurd parts
+part_of Step (d ∷ cs) (p ∷ ps) parts zero c at = subst (λ (x : Component _). IsPartOf Step x p) (same_Some d c at) parts.0
+part_of Step (d ∷ cs) (p ∷ ps) parts (suc i) c at = part_of Step cs ps parts.1 i c at
+
+-- an empty acceptance of a part after a run is one of its component after this trace
+stops : {T : Type 0} (Step : T → Label → T → Type 0) (c : Component T) (p : Part) (s : List ℕ) → IsPartOf Step c p → IsRun p.table s → HasEmpty (acceptances_after p.table s) → IsAcceptance (ComponentStep Step) c s []
+stops Step c p s is run empty =
+    subst (IsAcceptance (ComponentStep Step) c s) empty.empty (is.table.acceptances.sound s empty.place ((is.table.traces s).1 run) empty.within)
+
+-- a component whose part is busy is busy
+busy_component : {T : Type 0} (Step : T → Label → T → Type 0) (c : Component T) (p : Part) → IsPartOf Step c p → IsBusyPart p → IsBusy (ComponentStep Step) c
+busy_component Step c p is busy s a =
+    let found = is.table.acceptances.complete s [] a in
+    let run = (is.table.traces s).0 (a.offer.state, a.offer.reached) in
+    let some = busy s found.place run found.within in
+    false≢true (sym (found.members some.0) ∙ some.1)
+
+pub stops_are_true : {T : Type 0} (Step : T → Label → T → Type 0) → StopsAreTrue Step
+stops_are_true Step tree shape i s is stop =
+    let c = component_of Step (leaves tree) shape.parts is.parts i stop.runs.part in
+    record {
+      component = c.component;
+      listed = c.listed;
+      stops = stops Step c.component (part_at shape.parts i) s c.part stop.runs.follows stop.stops;
+      first = λ j d before at. busy_component Step d (part_at shape.parts j) (part_of Step (leaves tree) shape.parts is.parts j d at) (stop.first j before);
+    }
