@@ -1,5 +1,5 @@
 -- What an answer owes, from what the calls below it owe.
-use Rattle.std.proofs.Common.{◌≡◌, ℕ, List, refl, sym, ap, ◌∙◌, subst}
+use Rattle.std.proofs.Common.{◌≡◌, List, sym, ap, ◌∙◌, subst}
 use Rattle.std.specs.Prelude.{Result, Ok, Err}
 use Rattle.std.specs.Result.{IsErrAnd}
 use Rattle.csp_atoms.specs.declared.atom.Atom.{Atom}
@@ -12,7 +12,7 @@ use Rattle.script_names.specs.declared.fault.ResolveFault.{ResolveFault}
 use Rattle.script_names.specs.declared.fault.ResolveFault.TheVariants as fault
 use Rattle.script_names.specs.declared.kinds.Kind.{Kind}
 use Rattle.script_names.specs.Kinds.{AreKinds}
-use Rattle.script_names.specs.Resolved.{Answer, IsProgram, IsRefused, Resolves, resolved}
+use Rattle.script_names.specs.Resolved.{Answer, IsProgram, Resolves, resolved}
 
 -- an error is owed where the whole has each fault of the part
 pub err_from : {A B C D : Type 0} (shown : A → B) (also : C → D) (f : ResolveFault) (part : Answer B) (whole : Answer D)

@@ -1,6 +1,6 @@
 -- The answer for a script, from its parts.
-use Rattle.std.proofs.Common.{◌≡◌, ℕ, List, refl, sym, ap, ◌∙◌}
-use Rattle.std.specs.Prelude.{Some, None, Ok, Err}
+use Rattle.std.proofs.Common.{◌≡◌, List, sym, ap, ◌∙◌}
+use Rattle.std.specs.Prelude.{Some, None, Err}
 use Rattle.std.proofs.Math.Path.{fun_ext}
 use Rattle.csp_program.specs.declared.programs.Content.{Content}
 use Rattle.csp_text.specs.declared.script.Decl.{Decl}

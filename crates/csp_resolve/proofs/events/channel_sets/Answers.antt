@@ -1,4 +1,4 @@
-use Rattle.std.proofs.Common.{◌≡◌, ◌+◌, List, ap, refl, sym, ◌∙◌}
+use Rattle.std.proofs.Common.{◌+◌, List, ap, refl, sym, ◌∙◌}
 use Rattle.std.specs.Prelude.{Vec}
 use Rattle.std.specs.declared.alloc.Global.{Global}
 use Rattle.csp_resolve.specs.Answers.{sets_of, types_read}

@@ -1,8 +1,7 @@
-use Rattle.std.proofs.Common.{List, ap, ◌∙◌}
+use Rattle.std.proofs.Common.{ap}
 use Rattle.std.specs.Prelude.{Vec}
 use Rattle.std.specs.declared.alloc.Global.{Global}
-use Rattle.csp_program.specs.declared.programs.Content.{Content}
-use Rattle.csp_resolve.specs.Answers.{Answers, types_read}
+use Rattle.csp_resolve.specs.Answers.{types_read}
 use Rattle.csp_resolve.proofs.AnswerLaws.{passed}
 use Rattle.csp_resolve.proofs.SetsLaws.{Sets}
 use Rattle.event_tables.specs.declared.sets.SharedSets.{SharedSets}

@@ -1,6 +1,5 @@
 use Rattle.std.proofs.Common.{sym, ◌∙◌, subst}
 use Rattle.csp_program.specs.declared.programs.Content.{Content}
-use Rattle.script_names.specs.declared.fault.ResolveFault.{ResolveFault}
 use Rattle.script_names.specs.Resolved.{Answer}
 use Rattle.csp_resolve.specs.Answers.{Answers}
 use Rattle.csp_resolve.proofs.ResolvedLaws.{faultless}
