@@ -1,0 +1,3 @@
+pub mod HeightSums
+pub mod MadeParts
+pub mod Rows

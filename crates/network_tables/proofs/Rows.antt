@@ -1,0 +1,105 @@
+-- Tables of components, one after another.
+use Rattle.std.proofs.Common.{◌≡◌, ℕ, zero, suc, ◌+◌, ◌<◌, ◌≤◌, ◌-◌, List, [], ◌∷◌, ◌++◌, length, take, get_or, slice_get, Some, refl, sym, ap, subst, ◌∙◌, add-one, arith}
+use Rattle.std.proofs.Math.Seq.{take-suc}
+use Rattle.std.proofs.lemmas.Option.{none-some, same_Some, slice_get-get_or}
+use Rattle.csp_program.specs.declared.processes.Proc.{Proc}
+use Rattle.csp_program.specs.declared.programs.Content.{Content}
+use Rattle.csp_tables.specs.Network.{Component}
+use Rattle.local_tables.specs.declared.local_table.Room.{Room}
+use Rattle.local_tables.specs.Faults.{Tells}
+use Rattle.network_tables.specs.Faults.{GoesRound, TellsHere, TellsTable}
+use Rattle.network_tables.specs.Tables.{AreTablesOf, AreTablesWithin, HasTable, IsTableWithin, room_after, room_left, whole_room}
+use Rattle.network_tables.specs.declared.fault.TableFault.{TableFault}
+use Rattle.network_tables.specs.declared.fault.TableFault.TheVariants as fault
+use Rattle.network_tables.specs.declared.component_tables.ComponentTable.{ComponentTable}
+
+module _ (p : Content) where
+  one_more : (room : Room) (cs : List (Component Proc)) (ts : List ComponentTable) (c : Component Proc) (t : ComponentTable) → AreTablesWithin p room cs ts
+      → IsTableWithin p (room_left room ts) c t → AreTablesWithin p room (cs ++ c ∷ []) (ts ++ t ∷ [])
+  one_more room [] [] c t are one = (one, tt)
+  one_more room [] (u ∷ ts) c t are one = absurd are
+  one_more room (d ∷ cs) [] c t are one = absurd are
+  one_more room (d ∷ cs) (u ∷ ts) c t are one = (are.0, one_more (room_after room u.local.used) cs ts c t are.1 one)
+
+  pub as_many : (room : Room) (cs : List (Component Proc)) (ts : List ComponentTable) → AreTablesWithin p room cs ts → length cs ≡ length ts
+  as_many room [] [] are = refl
+  as_many room [] (u ∷ ts) are = absurd are
+  as_many room (d ∷ cs) [] are = absurd are
+  as_many room (d ∷ cs) (u ∷ ts) are = let rest = as_many (room_after room u.local.used) cs ts are.1 in omega (arith, rest)
+
+  pub table_at : (room : Room) (cs : List (Component Proc)) (ts : List ComponentTable) → AreTablesWithin p room cs ts → (i : ℕ) (c : Component Proc) (t : ComponentTable)
+      → slice_get cs i ≡ Some c → slice_get ts i ≡ Some t → HasTable p c t
+  table_at room [] [] are i c t at at' = absurd (none-some c at)
+  table_at room [] (u ∷ ts) are i c t at at' = absurd are
+  table_at room (d ∷ cs) [] are i c t at at' = absurd are
+  table_at room (d ∷ cs) (u ∷ ts) are zero c t at at' =
+      let one : IsTableWithin p room c u = subst (λ x. IsTableWithin p room x u) (same_Some d c at) are.0 in
+      (room, subst (λ x. IsTableWithin p room c x) (same_Some u t at') one)
+  table_at room (d ∷ cs) (u ∷ ts) are (suc i) c t at at' = table_at (room_after room u.local.used) cs ts are.1 i c t at at'
+
+  -- one more of the seats has its table
+  pub next_table : (seats : List (Component Proc)) (made : List ComponentTable) (i : ℕ) (c : Component Proc) (t : ComponentTable) (room : Room) → i < length seats
+      → c ≡ get_or seats i c → AreTablesOf p (take i seats) made → room ≡ room_left whole_room made → IsTableWithin p room c t → AreTablesOf p (take (i + 1) seats) (made ++ t ∷ [])
+  next_table seats made i c t room within is so_far left one =
+      let grown : take i seats ++ c ∷ [] ≡ take (i + 1) seats = rw (add-one) (ap (λ x. take i seats ++ x ∷ []) is ∙ sym (take-suc seats i c within)) in
+      subst (λ cs. AreTablesOf p cs (made ++ t ∷ [])) grown (one_more whole_room (take i seats) made c t so_far (subst (λ r. IsTableWithin p r c t) left one))
+
+  -- a fault is that of the first component that has one
+  pub first_fault : (seats : List (Component Proc)) (made : List ComponentTable) (i n : ℕ) (c : Component Proc) (room : Room) (f : TableFault) → i < length seats
+      → c ≡ get_or seats i c → AreTablesOf p (take i seats) made → room ≡ room_left whole_room made → length made ≡ i → n ≡ length made → TellsHere p n room c f → TellsTable p seats f
+  first_fault seats made i n c room fault.NoMemory within is so_far left count number tells = tt
+  first_fault seats made i n c room (fault.Local j local) within is so_far left count number tells =
+      let at : slice_get seats i ≡ Some c = slice_get-get_or seats i c within ∙ ap Some (sym is) in
+      let place : i ≡ j = sym (number ∙ count) ∙ sym tells.0 in
+      subst (λ k. TellsTable p seats (fault.Local k local)) place (record { tables = made; earlier = so_far; component = c; at = at; has = subst (λ r. Tells p c r local) left tells.1 })
+  first_fault seats made i n c room (fault.Diverges j circle) within is so_far left count number tells =
+      let at : slice_get seats i ≡ Some c = slice_get-get_or seats i c within ∙ ap Some (sym is) in
+      let place : i ≡ j = sym (number ∙ count) ∙ sym tells.0 in
+      subst (λ k. TellsTable p seats (fault.Diverges k circle)) place (record { tables = made; earlier = so_far; component = c; at = at; has = subst (λ r. GoesRound p circle r c) left tells.1 })
+
+pub left_after : (room : Room) (ts : List ComponentTable) (t : ComponentTable) → room_left room (ts ++ t ∷ []) ≡ room_after (room_left room ts) t.local.used
+left_after room [] t = refl
+left_after room (u ∷ ts) t = left_after (room_after room u.local.used) ts t
+
+-- what stands while tables are made: the first seats have theirs, and the room is what these leave
+pub record AreMade (p : Content) (seats : List (Component Proc)) (made : List ComponentTable) (i : ℕ) (room : Room) : Type 0 where
+  pub so_far : AreTablesOf p (take i seats) made
+  pub count : length made ≡ i
+  pub left : room ≡ room_left whole_room made
+  pub nodes : room.nodes ≤ 8388608
+  pub steps : room.steps ≤ 1048576
+
+longer : {A : Type 0} (xs : List A) (x : A) → length (xs ++ x ∷ []) ≡ length xs + 1
+longer [] x = omega arith
+longer (y ∷ xs) x = let rest = longer xs x in omega (arith, rest)
+
+less : (a b m : ℕ) → a ≤ m → a - b ≤ m
+less a b m low = omega arith
+
+pub take_past : {A : Type 0} (xs : List A) (i : ℕ) → length xs ≤ i → take i xs ≡ xs
+take_past [] zero past = refl
+take_past [] (suc i) past = refl
+take_past (x ∷ xs) zero past = absurd (let z : ⊥ = omega arith in z)
+take_past (x ∷ xs) (suc i) past = ap (λ ys. x ∷ ys) (take_past xs i (omega arith))
+
+module _ (p : Content) (seats : List (Component Proc)) where
+  pub none_made : AreMade p seats [] 0 whole_room
+  none_made = record { so_far = tt; count = refl; left = refl; nodes = omega arith; steps = omega arith }
+
+  pub one_made : (made new : List ComponentTable) (i : ℕ) (c : Component Proc) (t : ComponentTable) (room rest : Room) → AreMade p seats made i room → i < length seats
+      → c ≡ get_or seats i c → IsTableWithin p room c t → new ≡ made ++ t ∷ [] → rest ≡ room_after room t.local.used → AreMade p seats new (i + 1) rest
+  one_made made new i c t room rest are within is one grew after =
+      let all = next_table p seats made i c t room within is are.so_far are.left one in
+      let count = longer made t in
+      let same = are.count in
+      record {
+        so_far = subst (λ ts. AreTablesOf p (take (i + 1) seats) ts) (sym grew) all;
+        count = ap length grew ∙ count ∙ ap (λ n. n + 1) same;
+        left = after ∙ ap (λ r. room_after r t.local.used) are.left ∙ sym (left_after whole_room made t) ∙ ap (room_left whole_room) (sym grew);
+        nodes = subst (λ n. n ≤ 8388608) (sym (ap (λ (r : Room). r.nodes) after)) (less room.nodes t.local.used.nodes 8388608 are.nodes);
+        steps = subst (λ n. n ≤ 1048576) (sym (ap (λ (r : Room). r.steps) after)) (less room.steps t.local.used.steps 1048576 are.steps);
+      }
+
+  -- all seats have their tables
+  pub all_made : (made : List ComponentTable) (i : ℕ) (room : Room) → AreMade p seats made i room → length seats ≤ i → AreTablesOf p seats made
+  all_made made i room are at_end = subst (λ cs. AreTablesOf p cs made) (take_past seats i at_end) are.so_far

@@ -1,0 +1,27 @@
+use Rattle.network_tables.proofs.MadeParts.{all_made, first_many, none_made, one_made, placed, still_within}
+use Rattle.network_tables.proofs.component_parts.parts.Goals as goal
+
+pub bounds-tables-place : goal.bounds-tables-place
+bounds-tables-place c = still_within c.args.program.now c.args.seats.now c.args.tables.now c.requires.tables _ c.loop-place-test.true
+
+pub part_of-requires : goal.part_of-requires
+part_of-requires c = record {
+  table = placed c.args.program.now c.args.seats.now c.args.tables.now c.requires.tables _ _ _ c.loop-place-test.true c.index-seats-place.is c.index-tables-place.is;
+}
+
+pub loop-place-preserved : goal.loop-place-preserved
+loop-place-preserved c =
+    one_made c.args.program.now c.args.seats.now c.args.tables.now _ _ _ _ _ _ c.loop-place.invariant c.loop-place-test.true
+    (still_within c.args.program.now c.args.seats.now c.args.tables.now c.requires.tables _ c.loop-place-test.true)
+    c.index-seats-place.is c.index-tables-place.is c.in-Ok.ensures.made c.in-Ok.ensures.form c.in-Ok.ensures.few c.in_ok-add-in-Ok.ensures
+
+pub returns-in-Err-clause-fault : goal.returns-in-Err-clause-fault
+returns-in-Err-clause-fault c =
+    first_many c.args.tables.now _ _ (still_within c.args.program.now c.args.seats.now c.args.tables.now c.requires.tables _ c.loop-place-test.true)
+    c.index-tables-place.is _ c.loop-place.invariant.few c.in-Err.ensures.fault
+
+pub returns-clause-few : goal.returns-clause-few
+returns-clause-few c = (all_made c.args.program.now c.args.seats.now c.args.tables.now c.requires.tables _ _ c.loop-place.invariant c.loop-place-test.false).1
+
+pub returns-clause-parts : goal.returns-clause-parts
+returns-clause-parts c = (all_made c.args.program.now c.args.seats.now c.args.tables.now c.requires.tables _ _ c.loop-place.invariant c.loop-place-test.false).0

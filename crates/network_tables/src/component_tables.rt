@@ -1,0 +1,123 @@
+//! The tables of the components, one after another.
+
+ghost use Rattle.std.specs.Prelude.{◌≡◌, ◌≤◌, ◌<◌, ◌++◌, ◌∷◌, [], IfErr, IfOk, OnOk, length};
+ghost use Rattle.local_tables.specs.Component.{component};
+ghost use Rattle.local_tables.specs.declared.local_table.Room.{Room as RoomValue};
+ghost use Rattle.net_sound.specs.Heights.{AreSilentHeights};
+ghost use Rattle.network_tables.specs.Faults.{TellsHere, TellsRound, TellsTable};
+ghost use Rattle.network_tables.specs.Tables.{AreTablesOf, IsTableWithin, room_after, whole_room};
+
+use crate::fault::TableFault;
+use csp_base::NoMemory;
+use csp_program::Program;
+use digraph::Heights;
+use local_tables::{LocalTable, Room, explore};
+use network_layout::Seat;
+use std::alloc::Global;
+use tau_order::{HeightFault, heights};
+
+/// The table of a component with its silent heights.
+#[derive(Drop)]
+pub struct ComponentTable {
+    /// The table, and the room that it takes.
+    pub local: LocalTable,
+    /// For each of its terms the greatest number of silent steps that follow one another from it.
+    pub heights: Heights,
+}
+
+// The room of all components together.
+fn whole() -> Room
+    ensures { result ≡ whole_room }
+{
+    Room {
+        nodes: 8_388_608,
+        steps: 1_048_576,
+    }
+}
+
+// The room that is left after some is used.
+fn after(room: Room, used: Room) -> Room
+    requires nodes { used.nodes ≤ room.nodes }
+    requires steps { used.steps ≤ room.steps }
+    ensures { result ≡ room_after room used }
+{
+    Room {
+        nodes: room.nodes - used.nodes,
+        steps: room.steps - used.steps,
+    }
+}
+
+// The number of the next table.
+fn number(made: &[ComponentTable]) -> Result<u32, NoMemory>
+    ensures { IfOk result (λ n. n ≡ length made.now) }
+{
+    match u32::try_from(made.len()) {
+        Ok(number) => Ok(number),
+        Err(_) => Err(NoMemory),
+    }
+}
+
+// A table with its silent heights.
+fn with_heights(alloc: Global, part: u32, local: LocalTable) -> Result<ComponentTable, TableFault>
+    ensures local { IfOk result (λ made. made.local ≡ local) }
+    ensures heights { IfOk result (λ made. AreSilentHeights local.table made.heights) }
+    ensures fault { IfErr result (TellsRound part local) }
+{
+    match heights(alloc, &local.table) {
+        Ok(heights) => Ok(ComponentTable { local, heights }),
+        Err(HeightFault::NoMemory) => Err(TableFault::NoMemory),
+        Err(HeightFault::Diverges { circle }) => Err(TableFault::Diverges { part, circle }),
+    }
+}
+
+// The table of the component with the number `part`, within a room.
+fn table_within(
+    alloc: Global,
+    program: &Program,
+    part: u32,
+    seat: &Seat,
+    room: Room,
+) -> Result<ComponentTable, TableFault>
+    requires nodes { room.nodes < 4294967295 }
+    requires steps { room.steps < 4294967295 }
+    ensures table { IfOk result (IsTableWithin program.now room seat.now) }
+    ensures fault { IfErr result (TellsHere program.now part room seat.now) }
+{
+    match explore(alloc, program, seat.term(), seat.alphabet(), room) {
+        Ok(local) => with_heights(alloc, part, local),
+        Err(fault) => Err(TableFault::Local { part, fault }),
+    }
+}
+
+// Adds a table.
+fn add(made: &mut Vec<ComponentTable>, table: ComponentTable) -> Result<(), NoMemory>
+    ensures { OnOk result (made.new.items ≡ made.old.items ++ table ∷ []) }
+{
+    made.push(table)?;
+    Ok(())
+}
+
+/// The table of each component of the program's network. The room of a component is 8,388,608 for the sizes of its terms and 1,048,576 for its steps,
+/// less what those before it take. The first component that has no table, or goes round in silent steps, is told.
+pub fn tables(
+    alloc: Global,
+    program: &Program,
+    seats: &[Seat],
+) -> Result<Vec<ComponentTable>, TableFault>
+    ensures tables { IfOk result (λ tables. AreTablesOf program.now seats.now tables.items) }
+    ensures fault { IfErr result (TellsTable program.now seats.now) }
+{
+    let mut made = Vec::new(alloc);
+    let mut room = whole();
+    for seat in seats {
+        let part = number(made.as_slice())?;
+        match table_within(alloc, program, part, seat, room) {
+            Ok(table) => {
+                room = after(room, table.local.used);
+                add(&mut made, table)?;
+            }
+            Err(fault) => return Err(fault),
+        }
+    }
+    Ok(made)
+}

@@ -1,0 +1,5 @@
+pub mod Lines
+pub mod EventText
+pub mod Refusals
+pub mod Shortfalls
+pub mod Report

@@ -1,0 +1,73 @@
+-- The line of each refusal of a script.
+use Rattle.std.specs.Prelude.{ℕ, zero, suc, ◌+◌, List, [], ◌∷◌, ◌++◌, codes}
+use Rattle.std.specs.Fmt.{decimal}
+use Rattle.csp_program.specs.declared.kinds.ValueKind.{ValueKind}
+use Rattle.csp_program.specs.declared.kinds.ValueKind.TheVariants as kind
+use Rattle.report.specs.Lines.{trace_text}
+use Rattle.report.specs.declared.answer.NameFault.{NameFault}
+use Rattle.report.specs.declared.answer.NameFault.TheVariants as name
+use Rattle.report.specs.declared.answer.NetworkFault.{NetworkFault}
+use Rattle.report.specs.declared.answer.NetworkFault.TheVariants as network
+use Rattle.report.specs.declared.answer.TableFault.{TableFault}
+use Rattle.report.specs.declared.answer.TableFault.TheVariants as table
+use Rattle.report.specs.declared.answer.Refusal.{Refusal}
+use Rattle.report.specs.declared.answer.Refusal.TheVariants as refusal
+use Rattle.report.specs.declared.answer.Site.{Site}
+use Rattle.report.specs.declared.answer.Site.TheVariants as site
+
+abbrev pub kind_text : ValueKind → List ℕ
+kind_text kind.Range = codes "Range"
+kind_text kind.Division = codes "Division"
+kind_text kind.OutsideChannel = codes "OutsideChannel"
+kind_text kind.Kind = codes "Kind"
+kind_text kind.EmptyChoice = codes "EmptyChoice"
+kind_text kind.SetLimit = codes "SetLimit"
+
+abbrev pub site_text : Site → List ℕ
+site_text (site.Declaration d) = codes " in declaration " ++ decimal d
+site_text site.Network = codes " in the network"
+site_text (site.Component i) = codes " in component " ++ decimal i
+site_text (site.Annotation i) = codes " in the annotation of component " ++ decimal i
+
+-- where an operand, whose first component has this number and which has so many, differs from its alphabet
+abbrev pub nesting_text : ℕ → ℕ → List ℕ → List ℕ
+nesting_text first zero event = codes "14 an empty operand has " ++ event ++ codes " in its alphabet"
+nesting_text first (suc more) event =
+    codes "14 components " ++ decimal first ++ codes " to " ++ decimal (first + more) ++ codes " differ from their alphabet at " ++ event
+
+-- what is wrong in the declaration with the number d
+abbrev pub declaration_text : ℕ → NameFault → List ℕ
+declaration_text d (name.Unknown x) = codes "4 unknown name " ++ x ++ codes " in declaration " ++ decimal d
+declaration_text d (name.Twice x) = codes "5 name " ++ x ++ codes " is declared twice in declaration " ++ decimal d
+declaration_text d name.WrongKind = codes "6 wrong kind in declaration " ++ decimal d
+declaration_text d (name.WrongCount x) = codes "7 wrong count for " ++ x ++ codes " in declaration " ++ decimal d
+declaration_text d name.ParallelInside = codes "8 parallel inside a component in declaration " ++ decimal d
+declaration_text d name.DataDepth = codes "33 data too deep in declaration " ++ decimal d
+
+-- why the component with the number i has no normal table
+abbrev pub component_text : ℕ → TableFault → List ℕ
+component_text i table.TermCount = codes "10 component " ++ decimal i ++ codes " has more than 16384 terms"
+component_text i table.TermDepth = codes "10 component " ++ decimal i ++ codes " has a term of depth over 800"
+component_text i table.TermTotal = codes "10 component " ++ decimal i ++ codes " has terms that are too large"
+component_text i table.StepCount = codes "11 component " ++ decimal i ++ codes " has too many steps"
+component_text i table.Diverges = codes "12 component " ++ decimal i ++ codes " diverges"
+component_text i table.SubsetLimit = codes "13 component " ++ decimal i ++ codes " has more than 2048 sets of terms"
+component_text i (table.Terminates trace) = codes "19 component " ++ decimal i ++ codes " can terminate after " ++ trace_text trace
+
+abbrev pub network_text : NetworkFault → List ℕ
+network_text (network.BadNesting first count event) = nesting_text first count event
+network_text network.EmptyNetwork = codes "15 the network has no components"
+network_text network.ComponentLimit = codes "16 more than 512 components"
+network_text network.NetworkDepth = codes "34 the network is nested deeper than 800"
+
+abbrev pub refusal_text : Refusal → List ℕ
+refusal_text (refusal.NoScript at) = codes "1 no script near line " ++ decimal at.line ++ codes " column " ++ decimal at.column
+refusal_text (refusal.Value k s) = codes "2 value fault " ++ kind_text k ++ site_text s
+refusal_text refusal.NoAssert = codes "3 no deadlock assertion"
+refusal_text (refusal.Declaration d fault) = declaration_text d fault
+refusal_text (refusal.EventLimit n) = codes "9 there are " ++ decimal n ++ codes " events"
+refusal_text (refusal.Network fault) = network_text fault
+refusal_text (refusal.Component i fault) = component_text i fault
+refusal_text (refusal.NoComponent n) = codes "35 there are " ++ decimal n ++ codes " components"
+refusal_text refusal.ScriptTooLong = codes "36 script is too long"
+refusal_text refusal.NotBuilt = codes "40 not built yet"

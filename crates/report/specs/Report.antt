@@ -1,0 +1,64 @@
+-- The printed report of each answer, and the exit status.
+use Rattle.std.specs.Prelude.{ℕ, ◌+◌, List, [], ◌∷◌, ◌++◌, codes, length}
+use Rattle.std.specs.List.{flat_map}
+use Rattle.std.specs.Fmt.{decimal, signed_decimal}
+use Rattle.csp_tables.specs.declared.rule.Rule.{Rule}
+use Rattle.csp_tables.specs.declared.rule.Rule.TheVariants.{Cyclic, ClientServer, Resource}
+use Rattle.report.specs.Lines.{line, set_text}
+use Rattle.report.specs.Refusals.{refusal_text}
+use Rattle.report.specs.Shortfalls.{shortfall_text}
+use Rattle.report.specs.declared.answer.Answer.{Answer}
+use Rattle.report.specs.declared.answer.Answer.TheVariants as answer
+use Rattle.report.specs.declared.answer.PrintedNode.{PrintedNode}
+
+-- how a rule is written on a command line and in reports
+abbrev pub rule_text : Rule → List ℕ
+rule_text Cyclic = codes "cyclic"
+rule_text ClientServer = codes "client-server"
+rule_text Resource = codes "resource"
+
+-- a node of a table: its events with the nodes to which they lead, and its acceptances
+abbrev pub next_text : ℕ → List ℕ × ℕ → List ℕ
+next_text n step = line (decimal n ++ codes " " ++ step.0 ++ codes " -> " ++ decimal step.1)
+
+abbrev pub accept_text : ℕ → List (List ℕ) → List ℕ
+accept_text n events = line (decimal n ++ codes " accepts " ++ set_text events)
+
+abbrev pub node_text : ℕ → PrintedNode → List ℕ
+node_text n node = flat_map (next_text n) node.next ++ flat_map (accept_text n) node.accept
+
+-- nodes, numbered from n on
+abbrev pub nodes_text : ℕ → List PrintedNode → List ℕ
+nodes_text n [] = []
+nodes_text n (node ∷ nodes) = node_text n node ++ nodes_text (n + 1) nodes
+
+abbrev pub table_text : ℕ → ℕ → List PrintedNode → List ℕ
+table_text i count nodes =
+    line (codes "component " ++ decimal i ++ codes " of " ++ decimal count) ++ line (codes "nodes " ++ decimal (length nodes)) ++ nodes_text 0 nodes
+
+abbrev pub report_text : Answer → List ℕ
+report_text answer.Usage = line (codes "usage: dlcheck check RULE SCRIPT | show SCRIPT | table SCRIPT INDEX | trial FAMILY N")
+report_text answer.ScriptNotFound = line (codes "outside fault: script not found")
+report_text answer.ScriptNotRead = line (codes "outside fault: script not read")
+report_text (answer.Refused refusal) = line (codes "refused") ++ line (refusal_text refusal)
+report_text (answer.NotProved shortfall) = line (codes "not proved") ++ shortfall_text shortfall
+report_text (answer.Shown text) = text
+report_text (answer.Table i count nodes) = table_text i count nodes
+report_text (answer.DeadlockFree rule components nodes bound rank) =
+    line (codes "deadlock-free")
+    ++ line (codes "rule " ++ rule_text rule)
+    ++ line (codes "components " ++ decimal components)
+    ++ line (codes "nodes " ++ decimal nodes)
+    ++ line (codes "silent bound " ++ decimal bound)
+    ++ line (codes "greatest rank " ++ signed_decimal rank)
+
+-- 0 proved or shown, 1 not proved, 2 refused, 3 no command, 4 a fault outside
+abbrev pub status : Answer → ℕ
+status answer.Usage = 3
+status answer.ScriptNotFound = 4
+status answer.ScriptNotRead = 4
+status (answer.Refused refusal) = 2
+status (answer.NotProved shortfall) = 1
+status (answer.Shown text) = 0
+status (answer.Table i count nodes) = 0
+status (answer.DeadlockFree rule components nodes bound rank) = 0

@@ -1,0 +1,32 @@
+-- The lines of each reason why a network is not proved.
+use Rattle.std.specs.Prelude.{ℕ, List, [], ◌∷◌, ◌++◌, codes}
+use Rattle.std.specs.List.{flat_map}
+use Rattle.std.specs.Fmt.{decimal}
+use Rattle.report.specs.Lines.{line, trace_text, numbers_text}
+use Rattle.report.specs.declared.answer.Shortfall.{Shortfall}
+use Rattle.report.specs.declared.answer.Shortfall.TheVariants as shortfall
+
+abbrev pub after_text : ℕ → List (List ℕ) → List ℕ
+after_text i trace = codes "component " ++ decimal i ++ codes " after " ++ trace_text trace
+
+abbrev pub link_text : ℕ × ℕ → List ℕ
+link_text link = codes "link " ++ decimal link.0 ++ codes " " ++ decimal link.1
+
+-- a condition of a rule, with the component that breaks it
+abbrev pub condition_text : List ℕ → ℕ → List ℕ → ℕ → List (List ℕ) → List ℕ
+condition_text number i letter k trace =
+    number ++ codes " component " ++ decimal i ++ codes " breaks " ++ letter ++ decimal k ++ codes " after " ++ trace_text trace
+
+abbrev pub shortfall_text : Shortfall → List ℕ
+shortfall_text (shortfall.NotTripleDisjoint event components) = line (codes "20 event " ++ event ++ codes " is in alphabets" ++ numbers_text components)
+shortfall_text (shortfall.Stops i trace) = line (codes "21 component " ++ decimal i ++ codes " can stop after " ++ trace_text trace)
+shortfall_text (shortfall.BreaksOrder i trace event) =
+    line (codes "23 component " ++ decimal i ++ codes " breaks C1 after " ++ trace_text trace ++ codes " by " ++ event)
+shortfall_text (shortfall.LinksCircle links) = line (codes "24 links in a circle") ++ flat_map (λ link. line (link_text link)) links
+shortfall_text (shortfall.NoFullEnd left right left_trace right_trace) =
+    line (codes "25 link " ++ decimal left ++ codes " " ++ decimal right ++ codes " has no full end")
+    ++ line (after_text left left_trace) ++ line (after_text right right_trace)
+shortfall_text (shortfall.BreaksRole k i trace) = line (condition_text (codes "26") i (codes "S") k trace)
+shortfall_text (shortfall.ClientsCircle components) = line (codes "27 clients in a circle" ++ numbers_text components)
+shortfall_text (shortfall.BreaksUse k i trace) = line (condition_text (codes "28") i (codes "U") k trace)
+shortfall_text (shortfall.ResourcesCircle components) = line (codes "29 resources in a circle" ++ numbers_text components)

@@ -1,0 +1,259 @@
+//! What a command is answered, with the values that its report prints. Components, declarations and nodes are numbered from 0.
+
+use containers::Items;
+use csp_base::{Bytes, Name, Place};
+use csp_program::ValueKind;
+use csp_tables::Rule;
+
+/// Where a value is needed.
+#[derive(Clone, Copy)]
+pub enum Site {
+    /// In the declaration with this number.
+    Declaration(u32),
+    /// In the walk of the network.
+    Network,
+    /// In the component with this number.
+    Component(u32),
+    /// In the annotation of the component with this number.
+    Annotation(u32),
+}
+
+/// What is wrong in a declaration.
+#[derive(Drop)]
+pub enum NameFault {
+    /// A name is neither bound nor declared (4).
+    Unknown {
+        /// The name.
+        name: Name,
+    },
+    /// A name is declared, bound or annotated that may not be again (5).
+    Twice {
+        /// The name.
+        name: Name,
+    },
+    /// What stands at a place is not what the place needs (6).
+    WrongKind,
+    /// A name has the wrong number of arguments, fields or parameters (7).
+    WrongCount {
+        /// The name.
+        name: Name,
+    },
+    /// A parallel or the use of a network definition stands inside a component (8).
+    ParallelInside,
+    /// A definition of data is more than 800 deep, or without an end (33).
+    DataDepth,
+}
+
+/// Why a component has no normal table.
+#[derive(Drop)]
+pub enum TableFault {
+    /// It has more than 16,384 terms (10).
+    TermCount,
+    /// It has a term of a depth over 800 (10).
+    TermDepth,
+    /// Its terms and those of the components before it are too large together (10).
+    TermTotal,
+    /// It and the components before it have too many steps together (11).
+    StepCount,
+    /// It can do silent steps without an end (12).
+    Diverges,
+    /// More than 2,048 sets of its terms are reached by traces (13).
+    SubsetLimit,
+    /// It can end (19).
+    Terminates {
+        /// Events after which it can.
+        trace: Items<Bytes>,
+    },
+}
+
+/// Why a program spells no network.
+#[derive(Drop)]
+pub enum NetworkFault {
+    /// The alphabet of an operand is not the union of those of its components (14).
+    BadNesting {
+        /// The first component of the operand.
+        first: u32,
+        /// How many components it has.
+        count: u32,
+        /// An event that is in one of the two alone.
+        event: Bytes,
+    },
+    /// It has no components (15).
+    EmptyNetwork,
+    /// It has more than 512 components (16).
+    ComponentLimit,
+    /// It is nested deeper than 800 (34).
+    NetworkDepth,
+}
+
+/// Why a script is refused.
+#[derive(Drop)]
+pub enum Refusal {
+    /// The script has more than 1,048,576 bytes (36).
+    ScriptTooLong,
+    /// The text spells no script (1).
+    NoScript {
+        /// Where its first piece begins that is no token; where there is none, the place of a token or of its end.
+        at: Place,
+    },
+    /// A value is needed that there isn't (2).
+    Value {
+        /// Why there is none.
+        kind: ValueKind,
+        /// Where it is needed.
+        site: Site,
+    },
+    /// The script has no deadlock assertion (3).
+    NoAssert,
+    /// A declaration is at fault.
+    Declaration {
+        /// The declaration.
+        inside: u32,
+        /// What is wrong in it.
+        fault: NameFault,
+    },
+    /// There are more than 16,384 events (9).
+    EventLimit {
+        /// Their number.
+        count: u64,
+    },
+    /// The program spells no network.
+    Network(NetworkFault),
+    /// A component has no normal table.
+    Component {
+        /// The component.
+        component: u32,
+        /// Why it has none.
+        fault: TableFault,
+    },
+    /// No component has the number that was asked for (35).
+    NoComponent {
+        /// How many components there are.
+        count: u32,
+    },
+    /// The script or the rule is none of those that are judged so far (40).
+    NotBuilt,
+}
+
+/// Why a network is not proved.
+#[derive(Drop)]
+pub enum Shortfall {
+    /// An event is in three alphabets (20).
+    NotTripleDisjoint {
+        /// The event.
+        event: Bytes,
+        /// The components.
+        components: Items<u32>,
+    },
+    /// A component can stop (21).
+    Stops {
+        /// The component.
+        component: u32,
+        /// Events after which it can.
+        trace: Items<Bytes>,
+    },
+    /// A component does not go round its links (23).
+    BreaksOrder {
+        /// The component.
+        component: u32,
+        /// Events after which it breaks the order.
+        trace: Items<Bytes>,
+        /// The event by which it does.
+        event: Bytes,
+    },
+    /// Links of which each must come before the next, and the last one before the first (24).
+    LinksCircle {
+        /// The two components of each link.
+        links: Items<(u32, u32)>,
+    },
+    /// No end of a link takes it whole whenever it is next (25).
+    NoFullEnd {
+        /// The left component.
+        left: u32,
+        /// The right component.
+        right: u32,
+        /// Events after which the left one doesn't.
+        left_trace: Items<Bytes>,
+        /// Events after which the right one doesn't.
+        right_trace: Items<Bytes>,
+    },
+    /// A condition of the client-server rule is broken (26).
+    BreaksRole {
+        /// The condition, from 1 to 5.
+        condition: u32,
+        /// The component that breaks it.
+        component: u32,
+        /// Events after which it does.
+        trace: Items<Bytes>,
+    },
+    /// Components of which each is a client of the next, and the last one of the first (27).
+    ClientsCircle {
+        /// The components.
+        components: Items<u32>,
+    },
+    /// A condition of the resource rule is broken (28).
+    BreaksUse {
+        /// The condition, from 1 to 4.
+        condition: u32,
+        /// The component that breaks it.
+        component: u32,
+        /// Events after which it does.
+        trace: Items<Bytes>,
+    },
+    /// Resources of which each is held somewhere while the next is wanted, and the last one while the first is (29).
+    ResourcesCircle {
+        /// The resources.
+        components: Items<u32>,
+    },
+}
+
+/// A node of a normal table, with its events as texts.
+#[derive(Drop)]
+pub struct PrintedNode {
+    /// Each event that is possible, with the node to which it leads.
+    pub next: Items<(Bytes, u32)>,
+    /// The acceptances.
+    pub accept: Items<Items<Bytes>>,
+}
+
+/// The answer to the words of a command line, with the values that its report prints.
+#[derive(Drop)]
+pub enum Answer {
+    /// The words are no command.
+    Usage,
+    /// The shelf holds no script of the name.
+    ScriptNotFound,
+    /// The script could not be read.
+    ScriptNotRead,
+    /// The script is refused.
+    Refused(Refusal),
+    /// The network is not proved.
+    NotProved(Shortfall),
+    /// The script is shown.
+    Shown {
+        /// Its printed text.
+        text: Bytes,
+    },
+    /// The normal table of a component.
+    Table {
+        /// The component.
+        component: u32,
+        /// How many components there are.
+        count: u32,
+        /// Its nodes.
+        nodes: Items<PrintedNode>,
+    },
+    /// The network is free of deadlock by the rule.
+    DeadlockFree {
+        /// The rule.
+        rule: Rule,
+        /// How many components the network has.
+        components: u32,
+        /// How many nodes their normal tables have together.
+        nodes: u32,
+        /// The greatest number of silent steps in a row.
+        bound: u32,
+        /// The greatest rank, 0 where there is none.
+        greatest_rank: i64,
+    },
+}

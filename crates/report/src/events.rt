@@ -1,0 +1,77 @@
+//! The printed text of an event.
+
+ghost use Rattle.std.specs.Prelude.{◌≡◌, ◌++◌, OnOk, IfOk, slice_get};
+ghost use Rattle.std.specs.List.{flat_map};
+ghost use Rattle.std.specs.Fmt.{signed_decimal};
+ghost use Rattle.report.specs.EventText.{channel_name, event_text, field_text};
+
+use csp_atoms::Atom;
+use csp_base::{Bytes, Event, NoMemory};
+use csp_program::{Content, Program};
+use std::alloc::Global;
+
+// Adds a number, with its sign where it is below 0.
+pub(crate) fn push_signed(alloc: Global, text: &mut Bytes, number: i64) -> Result<(), NoMemory>
+    ensures { OnOk result (text.new ≡ text.old ++ signed_decimal number) }
+{
+    let number = format!(in alloc; "{number}")?;
+    text.extend_from_slice(number.as_bytes())
+}
+
+// Adds a field.
+fn push_field(
+    alloc: Global,
+    content: &Content,
+    text: &mut Bytes,
+    field: &Atom,
+) -> Result<(), NoMemory>
+    ensures { OnOk result (text.new ≡ text.old ++ field_text content.now field.now) }
+{
+    text.push(b'.')?;
+    match field {
+        Atom::Num(number) => push_signed(alloc, text, *number),
+        Atom::Const(constant) => match content.consts.get(*constant as usize) {
+            Some(name) => text.extend_from_slice(name.as_slice()),
+            None => Ok(()),
+        },
+        Atom::Truth(_) | Atom::Event(_) => Ok(()),
+    }
+}
+
+// Adds fields.
+fn push_fields(
+    alloc: Global,
+    content: &Content,
+    text: &mut Bytes,
+    fields: &[Atom],
+) -> Result<(), NoMemory>
+    ensures { OnOk result (text.new ≡ text.old ++ flat_map (field_text content.now) fields.now) }
+{
+    for field in fields {
+        push_field(alloc, content, text, field)?;
+    }
+    Ok(())
+}
+
+// The name of a channel; nothing past the end.
+fn named(alloc: Global, content: &Content, channel: u32) -> Result<Bytes, NoMemory>
+    ensures { IfOk result (λ name. name ≡ channel_name (slice_get content.now.channels channel)) }
+{
+    match content.channels.get(channel as usize) {
+        Some(channel) => Bytes::from_slice(alloc, channel.name.as_slice()),
+        None => Ok(Bytes::new(alloc)),
+    }
+}
+
+/// The event as reports print it: the name of its channel, and each field after a dot.
+pub fn event_text(alloc: Global, program: &Program, event: Event) -> Result<Bytes, NoMemory>
+    ensures { IfOk result (λ text. text ≡ event_text program.now event) }
+{
+    let content = program.content();
+    let Some(info) = content.events.get(event.0 as usize) else {
+        return Ok(Bytes::new(alloc));
+    };
+    let mut text = named(alloc, content, info.channel)?;
+    push_fields(alloc, content, &mut text, info.fields.as_slice())?;
+    Ok(text)
+}

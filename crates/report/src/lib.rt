@@ -1,0 +1,17 @@
+//! What a command is answered, and the printed report of each answer.
+#![tactic(auto)]
+
+pub mod answer;
+pub mod events;
+mod lines;
+mod printed;
+mod refusals;
+pub mod reports;
+mod shortfalls;
+
+pub use answer::{
+    Answer, NameFault, NetworkFault, PrintedNode, Refusal, Shortfall, Site, TableFault,
+};
+pub use events::event_text;
+pub use printed::rule_name;
+pub use reports::{report_of, status_of};

@@ -1,0 +1,49 @@
+//! How rules, kinds of fault and sites are written.
+
+ghost use Rattle.std.specs.Prelude.{◌≡◌, IfOk};
+ghost use Rattle.report.specs.Refusals.{kind_text, site_text};
+ghost use Rattle.report.specs.Report.{rule_text};
+
+use crate::answer::Site;
+use crate::lines::numbered;
+use csp_base::{Bytes, NoMemory};
+use csp_program::ValueKind;
+use csp_tables::Rule;
+use std::alloc::Global;
+
+/// The name of a rule, on a command line and in reports.
+pub fn rule_name(rule: Rule) -> &'static [u8]
+    ensures { result.now ≡ rule_text rule }
+{
+    match rule {
+        Rule::Cyclic => b"cyclic",
+        Rule::ClientServer => b"client-server",
+        Rule::Resource => b"resource",
+    }
+}
+
+// The name of a kind of fault.
+pub(crate) fn kind_name(kind: ValueKind) -> &'static [u8]
+    ensures { result.now ≡ kind_text kind }
+{
+    match kind {
+        ValueKind::Range => b"Range",
+        ValueKind::Division => b"Division",
+        ValueKind::OutsideChannel => b"OutsideChannel",
+        ValueKind::Kind => b"Kind",
+        ValueKind::EmptyChoice => b"EmptyChoice",
+        ValueKind::SetLimit => b"SetLimit",
+    }
+}
+
+// Where a value is needed.
+pub(crate) fn site(alloc: Global, site: Site) -> Result<Bytes, NoMemory>
+    ensures { IfOk result (λ made. made ≡ site_text site) }
+{
+    match site {
+        Site::Declaration(d) => numbered(alloc, b" in declaration ", u64::from(d)),
+        Site::Network => Bytes::from_slice(alloc, b" in the network"),
+        Site::Component(i) => numbered(alloc, b" in component ", u64::from(i)),
+        Site::Annotation(i) => numbered(alloc, b" in the annotation of component ", u64::from(i)),
+    }
+}

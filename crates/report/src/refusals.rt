@@ -1,0 +1,198 @@
+//! The lines of refusals.
+
+ghost use Rattle.std.specs.Prelude.{◌≡◌, ◌+◌, ◌++◌, IfOk, codes};
+ghost use Rattle.std.specs.Fmt.{decimal};
+ghost use Rattle.report.specs.Refusals.{component_text, declaration_text, kind_text, nesting_text, network_text, refusal_text, site_text};
+
+use crate::answer::{NameFault, NetworkFault, Refusal, Site, TableFault};
+use crate::lines::{between, both, joined, named, numbered, traced};
+use crate::printed::{kind_name, site};
+use csp_base::{Bytes, NoMemory};
+use csp_program::ValueKind;
+use std::alloc::Global;
+
+// A value that there isn't.
+fn value(alloc: Global, kind: ValueKind, at: Site) -> Result<Bytes, NoMemory>
+    ensures { IfOk result (λ made. made ≡ codes "2 value fault " ++ kind_text kind ++ site_text at) }
+{
+    let place = site(alloc, at)?;
+    joined(alloc, b"2 value fault ", kind_name(kind), place.as_slice())
+}
+
+// Two numbers, each after a text, and two texts.
+fn range(
+    alloc: Global,
+    before: &[u8],
+    first: u64,
+    between: &[u8],
+    last: u64,
+    after: &[u8],
+    event: &[u8],
+) -> Result<Bytes, NoMemory>
+    ensures { IfOk result (λ made. made ≡ before.now ++ decimal first ++ between.now ++ decimal last ++ after.now ++ event.now) }
+{
+    let mut made = both(alloc, before, first, between, last)?;
+    made.extend_from_slice(after)?;
+    made.extend_from_slice(event)?;
+    Ok(made)
+}
+
+// An operand that differs from its alphabet; after the first component it has `more`.
+fn differs(alloc: Global, first: u32, more: u32, event: &[u8]) -> Result<Bytes, NoMemory>
+    ensures { IfOk result (λ made. made ≡ nesting_text first (1 + more) event.now) }
+{
+    let last = u64::from(first) + u64::from(more);
+    range(
+        alloc,
+        b"14 components ",
+        u64::from(first),
+        b" to ",
+        last,
+        b" differ from their alphabet at ",
+        event,
+    )
+}
+
+// An operand that differs from its alphabet.
+fn nesting(alloc: Global, first: u32, count: u32, event: &[u8]) -> Result<Bytes, NoMemory>
+    ensures { IfOk result (λ made. made ≡ nesting_text first count event.now) }
+{
+    if count == 0 {
+        return joined(
+            alloc,
+            b"14 an empty operand has ",
+            event,
+            b" in its alphabet",
+        );
+    }
+    differs(alloc, first, count - 1, event)
+}
+
+// What is wrong in a declaration.
+fn declared(alloc: Global, inside: u32, fault: &NameFault) -> Result<Bytes, NoMemory>
+    ensures { IfOk result (λ made. made ≡ declaration_text inside fault.now) }
+{
+    let inside = u64::from(inside);
+    match fault {
+        NameFault::Unknown { name } => {
+            named(
+                alloc,
+                b"4 unknown name ",
+                name.as_slice(),
+                b" in declaration ",
+                inside,
+            )
+        }
+        NameFault::Twice { name } => named(
+            alloc,
+            b"5 name ",
+            name.as_slice(),
+            b" is declared twice in declaration ",
+            inside,
+        ),
+        NameFault::WrongKind => numbered(alloc, b"6 wrong kind in declaration ", inside),
+        NameFault::WrongCount { name } => {
+            named(
+                alloc,
+                b"7 wrong count for ",
+                name.as_slice(),
+                b" in declaration ",
+                inside,
+            )
+        }
+        NameFault::ParallelInside => {
+            numbered(
+                alloc,
+                b"8 parallel inside a component in declaration ",
+                inside,
+            )
+        }
+        NameFault::DataDepth => numbered(alloc, b"33 data too deep in declaration ", inside),
+    }
+}
+
+// Why a component has no normal table.
+fn component(alloc: Global, component: u32, fault: &TableFault) -> Result<Bytes, NoMemory>
+    ensures { IfOk result (λ made. made ≡ component_text component fault.now) }
+{
+    let i = u64::from(component);
+    match fault {
+        TableFault::TermCount => between(alloc, b"10 component ", i, b" has more than 16384 terms"),
+        TableFault::TermDepth => between(
+            alloc,
+            b"10 component ",
+            i,
+            b" has a term of depth over 800",
+        ),
+        TableFault::TermTotal => between(
+            alloc,
+            b"10 component ",
+            i,
+            b" has terms that are too large",
+        ),
+        TableFault::StepCount => between(alloc, b"11 component ", i, b" has too many steps"),
+        TableFault::Diverges => between(alloc, b"12 component ", i, b" diverges"),
+        TableFault::SubsetLimit => between(
+            alloc,
+            b"13 component ",
+            i,
+            b" has more than 2048 sets of terms",
+        ),
+        TableFault::Terminates { trace } => {
+            traced(
+                alloc,
+                b"19 component ",
+                i,
+                b" can terminate after ",
+                trace.as_slice(),
+            )
+        }
+    }
+}
+
+// Why a program spells no network.
+fn network(alloc: Global, fault: &NetworkFault) -> Result<Bytes, NoMemory>
+    ensures { IfOk result (λ made. made ≡ network_text fault.now) }
+{
+    match fault {
+        NetworkFault::BadNesting {
+            first,
+            count,
+            event,
+        } => nesting(alloc, *first, *count, event.as_slice()),
+        NetworkFault::EmptyNetwork => Bytes::from_slice(alloc, b"15 the network has no components"),
+        NetworkFault::ComponentLimit => Bytes::from_slice(alloc, b"16 more than 512 components"),
+        NetworkFault::NetworkDepth => {
+            Bytes::from_slice(alloc, b"34 the network is nested deeper than 800")
+        }
+    }
+}
+
+// The line of a refusal, without its end.
+pub(crate) fn refusal_line(alloc: Global, refusal: &Refusal) -> Result<Bytes, NoMemory>
+    ensures { IfOk result (λ made. made ≡ refusal_text refusal.now) }
+{
+    match refusal {
+        Refusal::NoScript { at } => both(
+            alloc,
+            b"1 no script near line ",
+            u64::from(at.line),
+            b" column ",
+            u64::from(at.column),
+        ),
+        Refusal::Value { kind, site } => value(alloc, *kind, *site),
+        Refusal::NoAssert => Bytes::from_slice(alloc, b"3 no deadlock assertion"),
+        Refusal::Declaration { inside, fault } => declared(alloc, *inside, fault),
+        Refusal::EventLimit { count } => between(alloc, b"9 there are ", *count, b" events"),
+        Refusal::Network(fault) => network(alloc, fault),
+        Refusal::Component {
+            component: number,
+            fault,
+        } => component(alloc, *number, fault),
+        Refusal::NoComponent { count } => {
+            between(alloc, b"35 there are ", u64::from(*count), b" components")
+        }
+        Refusal::ScriptTooLong => Bytes::from_slice(alloc, b"36 script is too long"),
+        Refusal::NotBuilt => Bytes::from_slice(alloc, b"40 not built yet"),
+    }
+}

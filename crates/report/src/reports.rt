@@ -1,0 +1,303 @@
+//! The printed reports.
+
+ghost use Rattle.std.specs.Prelude.{◌≡◌, ◌+◌, ◌++◌, IfOk, OnOk, codes};
+ghost use Rattle.std.specs.List.{flat_map};
+ghost use Rattle.std.specs.Fmt.{decimal, signed_decimal};
+ghost use Rattle.report.specs.Lines.{line};
+ghost use Rattle.report.specs.Report.{accept_text, next_text, node_text, nodes_text, report_text, rule_text, status, table_text};
+
+use crate::answer::{Answer, PrintedNode};
+use crate::events::push_signed;
+use crate::lines::{both, ended, joined, named, numbered, push_line, push_number, set};
+use crate::printed::rule_name;
+use crate::refusals::refusal_line;
+use crate::shortfalls::shortfall_lines;
+use containers::Items;
+use csp_base::{Bytes, NoMemory};
+use csp_tables::Rule;
+use std::alloc::Global;
+
+/// The exit status of an answer: 0 proved or shown, 1 not proved, 2 refused, 3 no command, 4 a fault outside.
+pub fn status_of(answer: &Answer) -> u8
+    ensures { result ≡ status answer.now }
+{
+    match answer {
+        Answer::DeadlockFree { .. } | Answer::Shown { .. } | Answer::Table { .. } => 0,
+        Answer::NotProved(_) => 1,
+        Answer::Refused(_) => 2,
+        Answer::Usage => 3,
+        Answer::ScriptNotFound | Answer::ScriptNotRead => 4,
+    }
+}
+
+// A line of one text.
+fn one_line(alloc: Global, text: &[u8]) -> Result<Bytes, NoMemory>
+    ensures { IfOk result (λ made. made ≡ line text.now) }
+{
+    let made = Bytes::from_slice(alloc, text)?;
+    ended(made)
+}
+
+// A line of a text and a number.
+fn count_line(alloc: Global, text: &[u8], number: u64) -> Result<Bytes, NoMemory>
+    ensures { IfOk result (λ made. made ≡ line (text.now ++ decimal number)) }
+{
+    let made = numbered(alloc, text, number)?;
+    ended(made)
+}
+
+// The line of the greatest rank.
+fn rank_line(alloc: Global, rank: i64) -> Result<Bytes, NoMemory>
+    ensures { IfOk result (λ made. made ≡ line (codes "greatest rank " ++ signed_decimal rank)) }
+{
+    let mut made = Bytes::from_slice(alloc, b"greatest rank ")?;
+    push_signed(alloc, &mut made, rank)?;
+    ended(made)
+}
+
+// Adds the line of an event of a node.
+fn push_step(
+    alloc: Global,
+    report: &mut Bytes,
+    node: u32,
+    step: &(Bytes, u32),
+) -> Result<(), NoMemory>
+    ensures { OnOk result (report.new ≡ report.old ++ next_text node step.now) }
+{
+    push_number(alloc, report, u64::from(node))?;
+    let text = named(alloc, b" ", step.0.as_slice(), b" -> ", u64::from(step.1))?;
+    push_line(report, text.as_slice())
+}
+
+// Adds the line of an acceptance of a node.
+fn push_offer(
+    alloc: Global,
+    report: &mut Bytes,
+    node: u32,
+    events: &Items<Bytes>,
+) -> Result<(), NoMemory>
+    ensures { OnOk result (report.new ≡ report.old ++ accept_text node events.now) }
+{
+    let events = set(alloc, events.as_slice())?;
+    push_number(alloc, report, u64::from(node))?;
+    let text = joined(alloc, b" accepts ", events.as_slice(), b"\n")?;
+    report.extend_from_slice(text.as_slice())
+}
+
+// Adds a line for each event of a node.
+fn push_next(
+    alloc: Global,
+    report: &mut Bytes,
+    node: u32,
+    steps: &[(Bytes, u32)],
+) -> Result<(), NoMemory>
+    ensures { OnOk result (report.new ≡ report.old ++ flat_map (next_text node) steps.now) }
+{
+    for step in steps {
+        push_step(alloc, report, node, step)?;
+    }
+    Ok(())
+}
+
+// Adds a line for each acceptance of a node.
+fn push_accept(
+    alloc: Global,
+    report: &mut Bytes,
+    node: u32,
+    sets: &[Items<Bytes>],
+) -> Result<(), NoMemory>
+    ensures { OnOk result (report.new ≡ report.old ++ flat_map (accept_text node) sets.now) }
+{
+    for set in sets {
+        push_offer(alloc, report, node, set)?;
+    }
+    Ok(())
+}
+
+// Adds the lines of a node.
+fn push_node(
+    alloc: Global,
+    report: &mut Bytes,
+    number: u32,
+    node: &PrintedNode,
+) -> Result<(), NoMemory>
+    ensures { OnOk result (report.new ≡ report.old ++ node_text number node.now) }
+{
+    push_next(alloc, report, number, node.next.as_slice())?;
+    push_accept(alloc, report, number, node.accept.as_slice())
+}
+
+// The number after this one, which is refused like want of memory where its type has none.
+fn next_number(number: u32) -> Result<u32, NoMemory>
+    ensures { IfOk result (λ next. next ≡ number + 1) }
+{
+    match number.checked_add(1) {
+        Some(next) => Ok(next),
+        None => Err(NoMemory),
+    }
+}
+
+// Adds the lines of nodes.
+fn push_nodes(alloc: Global, report: &mut Bytes, nodes: &[PrintedNode]) -> Result<(), NoMemory>
+    ensures { OnOk result (report.new ≡ report.old ++ nodes_text 0 nodes.now) }
+{
+    let mut number: u32 = 0;
+    for node in nodes {
+        push_node(alloc, report, number, node)?;
+        number = next_number(number)?;
+    }
+    Ok(())
+}
+
+// The first lines of the report of a table.
+fn table_head(alloc: Global, component: u32, count: u32, nodes: usize) -> Result<Bytes, NoMemory>
+    ensures { IfOk result (λ made. made
+        ≡ line (codes "component " ++ decimal component ++ codes " of " ++ decimal count) ++ line (codes "nodes " ++ decimal nodes)) }
+{
+    let first = both(
+        alloc,
+        b"component ",
+        u64::from(component),
+        b" of ",
+        u64::from(count),
+    )?;
+    let second = count_line(alloc, b"nodes ", nodes as u64)?;
+    joined(alloc, first.as_slice(), b"\n", second.as_slice())
+}
+
+// The report of a table.
+fn table(
+    alloc: Global,
+    component: u32,
+    count: u32,
+    nodes: &[PrintedNode],
+) -> Result<Bytes, NoMemory>
+    ensures { IfOk result (λ made. made ≡ table_text component count nodes.now) }
+{
+    let mut made = table_head(alloc, component, count, nodes.len())?;
+    push_nodes(alloc, &mut made, nodes)?;
+    Ok(made)
+}
+
+// The line of a rule.
+fn rule_line(alloc: Global, rule: Rule) -> Result<Bytes, NoMemory>
+    ensures { IfOk result (λ made. made ≡ line (codes "rule " ++ rule_text rule)) }
+{
+    joined(alloc, b"rule ", rule_name(rule), b"\n")
+}
+
+// Four texts, one after another.
+fn four(
+    alloc: Global,
+    first: &[u8],
+    second: &[u8],
+    third: &[u8],
+    fourth: &[u8],
+) -> Result<Bytes, NoMemory>
+    ensures { IfOk result (λ made. made ≡ first.now ++ second.now ++ third.now ++ fourth.now) }
+{
+    let mut made = joined(alloc, first, second, third)?;
+    made.extend_from_slice(fourth)?;
+    Ok(made)
+}
+
+// What is counted of a network that is free of deadlock.
+fn counts(
+    alloc: Global,
+    components: u32,
+    nodes: u32,
+    bound: u32,
+    greatest_rank: i64,
+) -> Result<Bytes, NoMemory>
+    ensures { IfOk result (λ made. made ≡ line (codes "components " ++ decimal components)
+        ++ line (codes "nodes " ++ decimal nodes)
+        ++ line (codes "silent bound " ++ decimal bound)
+        ++ line (codes "greatest rank " ++ signed_decimal greatest_rank)) }
+{
+    let components = count_line(alloc, b"components ", u64::from(components))?;
+    let nodes = count_line(alloc, b"nodes ", u64::from(nodes))?;
+    let bound = count_line(alloc, b"silent bound ", u64::from(bound))?;
+    let rank = rank_line(alloc, greatest_rank)?;
+    four(
+        alloc,
+        components.as_slice(),
+        nodes.as_slice(),
+        bound.as_slice(),
+        rank.as_slice(),
+    )
+}
+
+// The report of a network that is free of deadlock.
+fn deadlock_free(
+    alloc: Global,
+    rule: Rule,
+    components: u32,
+    nodes: u32,
+    bound: u32,
+    greatest_rank: i64,
+) -> Result<Bytes, NoMemory>
+    ensures { IfOk result (λ made. made ≡ line (codes "deadlock-free")
+        ++ line (codes "rule " ++ rule_text rule)
+        ++ line (codes "components " ++ decimal components)
+        ++ line (codes "nodes " ++ decimal nodes)
+        ++ line (codes "silent bound " ++ decimal bound)
+        ++ line (codes "greatest rank " ++ signed_decimal greatest_rank)) }
+{
+    let counts = counts(alloc, components, nodes, bound, greatest_rank)?;
+    let head = rule_line(alloc, rule)?;
+    joined(
+        alloc,
+        b"deadlock-free\n",
+        head.as_slice(),
+        counts.as_slice(),
+    )
+}
+
+// The report of a script that is refused.
+fn refused(alloc: Global, reason: &[u8]) -> Result<Bytes, NoMemory>
+    ensures { IfOk result (λ made. made ≡ line (codes "refused") ++ line reason.now) }
+{
+    joined(alloc, b"refused\n", reason, b"\n")
+}
+
+// The report of a network that is not proved.
+fn not_proved(alloc: Global, reason: &[u8]) -> Result<Bytes, NoMemory>
+    ensures { IfOk result (λ made. made ≡ line (codes "not proved") ++ reason.now) }
+{
+    joined(alloc, b"not proved\n", reason, b"")
+}
+
+/// The report of an answer, each line with a line feed at its end.
+pub fn report_of(alloc: Global, answer: &Answer) -> Result<Bytes, NoMemory>
+    ensures { IfOk result (λ report. report ≡ report_text answer.now) }
+{
+    match answer {
+        Answer::Usage => one_line(
+            alloc,
+            b"usage: dlcheck check RULE SCRIPT | show SCRIPT | table SCRIPT INDEX | trial FAMILY N",
+        ),
+        Answer::ScriptNotFound => one_line(alloc, b"outside fault: script not found"),
+        Answer::ScriptNotRead => one_line(alloc, b"outside fault: script not read"),
+        Answer::Refused(refusal) => {
+            let text = refusal_line(alloc, refusal)?;
+            refused(alloc, text.as_slice())
+        }
+        Answer::NotProved(shortfall) => {
+            let text = shortfall_lines(alloc, shortfall)?;
+            not_proved(alloc, text.as_slice())
+        }
+        Answer::Shown { text } => text.try_clone(alloc),
+        Answer::Table {
+            component,
+            count,
+            nodes,
+        } => table(alloc, *component, *count, nodes.as_slice()),
+        Answer::DeadlockFree {
+            rule,
+            components,
+            nodes,
+            bound,
+            greatest_rank,
+        } => deadlock_free(alloc, *rule, *components, *nodes, *bound, *greatest_rank),
+    }
+}
