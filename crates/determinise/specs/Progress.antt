@@ -69,9 +69,13 @@ pub record AreNodeSteps (raw : RawTable) (moves : List (ℕ × ℕ)) (sets : Lis
   pub leads : (e : ℕ) → IsTrue (is_possible next e) → LeadsToSet raw moves sets e (target next e)
   pub rising : IsStrictlyIncreasing (map (λ step. step.0) next)
 
+-- the steps of the node of a set of terms
+abbrev pub AreStepsOf : RawTable → List (List ℕ) → List ℕ → List (ℕ × ℕ) → Type 0
+AreStepsOf raw sets terms next = (moves : List (ℕ × ℕ)) × AreMovesOf raw terms moves × AreNodeSteps raw moves sets next
+
 -- the node of a set of terms
 pub record IsNodeOf (raw : RawTable) (sets : List (List ℕ)) (terms : List ℕ) (node : Node) : Type 0 where
-  pub steps : (moves : List (ℕ × ℕ)) × AreMovesOf raw terms moves × AreNodeSteps raw moves sets node.next
+  pub steps : AreStepsOf raw sets terms node.next
   pub accept : AreMinimalOffers raw terms node.accept
 
 -- The trace leads to the terms of the set, and to one at least.

@@ -35,8 +35,22 @@ pub fn determinise(alloc: Global, table: &RawTable) -> Result<SetTable, SetFault
     ensures limit { (found : ℕ) → result ≡ Err (SetFault.SubsetLimit found) → (found ≡ 2049) × ReachesSets (RawStep table.now) 0 2049 }
 {
     let prepared = Prepared::new(alloc, table)?;
-    let mut sets = first_sets(alloc, &prepared)?;
-    match explore(alloc, &prepared, &mut sets) {
+    set_table(alloc, &prepared)
+}
+
+// The determinised table of a table that is prepared.
+fn set_table(alloc: Global, table: &Prepared<'_>) -> Result<SetTable, SetFault>
+    ensures traces { IfOk result (λ made. FollowsTraces (RawStep table.now) 0 made) }
+    ensures sets { IfOk result AreDifferentSets }
+    ensures acceptances { IfOk result (λ made. HasAcceptances (RawStep table.now) 0 made.nodes) }
+    ensures in_order { IfOk result (λ made. All IsRisingNode made.nodes) }
+    ensures breadth_first { IfOk result (λ made. IsBreadthFirst made.nodes) }
+    ensures few { IfOk result (λ made. length made.nodes ≤ 2048) }
+    ensures within_limit { OnOk result (ReachesSets (RawStep table.now) 0 2049 → ⊥) }
+    ensures limit { (found : ℕ) → result ≡ Err (SetFault.SubsetLimit found) → (found ≡ 2049) × ReachesSets (RawStep table.now) 0 2049 }
+{
+    let mut sets = first_sets(alloc, table)?;
+    match explore(alloc, table, &mut sets) {
         Ok(nodes) => Ok(SetTable::new(nodes, sets)),
         Err(fault) => Err(fault),
     }
@@ -47,8 +61,8 @@ fn first_sets(alloc: Global, table: &Prepared<'_>) -> Result<Numbering<Items<u32
     ensures reached { IfOk result (λ sets. AreReachedSets table.now sets) }
     ensures one { IfOk result (λ sets. length sets ≡ 1) }
 {
-    let mut sets = Numbering::new(alloc);
     let set = table.first_set(alloc)?;
+    let mut sets = Numbering::new(alloc);
     sets.number(set)?;
     Ok(sets)
 }
@@ -68,11 +82,33 @@ fn explore(
     ensures limit { (found : ℕ) → result ≡ Err (SetFault.SubsetLimit found) → (found ≡ 2049) × (length sets.new ≡ 2049) }
 {
     let mut nodes = Vec::new(alloc);
+    match add_nodes(alloc, table, sets, &mut nodes) {
+        Ok(()) => Ok(nodes),
+        Err(fault) => Err(fault),
+    }
+}
+
+// Adds the same nodes to none.
+fn add_nodes(
+    alloc: Global,
+    table: &Prepared<'_>,
+    sets: &mut Numbering<Items<u32>>,
+    nodes: &mut Vec<NormNode>,
+) -> Result<(), SetFault>
+    requires reached { AreReachedSets table.now sets.old }
+    requires one { length sets.old ≡ 1 }
+    requires none { nodes.old.items ≡ [] }
+    ensures nodes { OnOk result (AreNodesSoFar table.now sets.new nodes.new.items) }
+    ensures all { OnOk result (length nodes.new.items ≡ length sets.new) }
+    ensures few { OnOk result (length sets.new ≤ 2048) }
+    ensures reached { AreReachedSets table.now sets.new }
+    ensures limit { (found : ℕ) → result ≡ Err (SetFault.SubsetLimit found) → (found ≡ 2049) × (length sets.new ≡ 2049) }
+{
     while nodes.len() < sets.len() {
         let node = node_of(alloc, table, sets, nodes.len())?;
-        push_node(&mut nodes, node)?;
+        push_node(nodes, node)?;
     }
-    Ok(nodes)
+    Ok(())
 }
 
 // Adds a node at the end.

@@ -2,12 +2,13 @@
 
 ghost use Rattle.std.specs.Prelude.{◌≡◌, ◌<◌, ◌≤◌, ℕ, IfOk, OnOk, length};
 ghost use Rattle.csp_tables.specs.BreadthFirst.{MeetsInOrder, targets_of_steps};
-ghost use Rattle.determinise.specs.Progress.{AreMoreSets, IsNodeOf, IsReachedFromSet, IsTermSet, set_at};
+ghost use Rattle.determinise.specs.Progress.{AreMinimalOffers, AreMoreSets, AreStepsOf, IsNodeOf, IsReachedFromSet, IsTermSet, set_at};
 
 use crate::fault::SetFault;
 use crate::prepared::Prepared;
 use crate::sets::next_steps;
 use containers::{Items, Numbering};
+use csp_base::{Event, EventSet, NoMemory};
 use csp_tables::NormNode;
 use std::alloc::Global;
 
@@ -27,9 +28,45 @@ pub(crate) fn node_of(
     ensures few { OnOk result (length sets.new ≤ 2048) }
     ensures limit { (found : ℕ) → result ≡ Err (SetFault.SubsetLimit found) → (found ≡ 2049) × (length sets.new ≡ 2049) }
 {
+    let accept = accept_at(alloc, table, sets, place)?;
+    let next = next_at(alloc, table, sets, place)?;
+    Ok(NormNode::new(next, accept))
+}
+
+// The minimal acceptances of the set in a place.
+fn accept_at(
+    alloc: Global,
+    table: &Prepared<'_>,
+    sets: &Numbering<Items<u32>>,
+    place: usize,
+) -> Result<Vec<EventSet>, NoMemory>
+    requires place { place < length sets.now }
+    requires form { IsTermSet table.now (set_at sets.now place) }
+    ensures { IfOk result (λ accept. AreMinimalOffers table.now (set_at sets.now place) accept.items) }
+{
+    let terms = sets.as_slice()[place].as_slice();
+    let accept = table.acceptances(alloc, terms)?;
+    Ok(accept)
+}
+
+// The steps of the node of the set in a place. The sets to which they lead are numbered where they have no number yet.
+fn next_at(
+    alloc: Global,
+    table: &Prepared<'_>,
+    sets: &mut Numbering<Items<u32>>,
+    place: usize,
+) -> Result<Vec<(Event, u32)>, SetFault>
+    requires place { place < length sets.old }
+    requires form { IsTermSet table.now (set_at sets.old place) }
+    requires few { length sets.old ≤ 2048 }
+    ensures steps { IfOk result (λ next. AreStepsOf table.now sets.new (set_at sets.old place) next.items) }
+    ensures order { IfOk result (λ next. MeetsInOrder (length sets.old) (targets_of_steps next.items) (length sets.new)) }
+    ensures more { AreMoreSets (IsReachedFromSet table.now (set_at sets.old place)) sets.old sets.new }
+    ensures few { OnOk result (length sets.new ≤ 2048) }
+    ensures limit { (found : ℕ) → result ≡ Err (SetFault.SubsetLimit found) → (found ≡ 2049) × (length sets.new ≡ 2049) }
+{
     let terms = sets.as_slice()[place].as_slice();
     let moves = table.moves(alloc, terms)?;
-    let accept = table.acceptances(alloc, terms)?;
     let next = next_steps(alloc, table, &moves, sets)?;
-    Ok(NormNode::new(next, accept))
+    Ok(next)
 }

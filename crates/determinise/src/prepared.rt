@@ -3,7 +3,8 @@
 ghost use Rattle.std.specs.Prelude.{◌≡◌, ◌<◌, ◌↔◌, [], ℕ, All, IsTrue, IfOk};
 ghost use Rattle.std.specs.List.Sorted.{IsNonDecreasingBy};
 ghost use Rattle.csp_base.specs.Members.{has};
-ghost use Rattle.determinise.specs.Moves.{AreMovesOf, IsSilentlyReached};
+ghost use Rattle.tau_order.specs.SilentRows.{AreSilentRows};
+ghost use Rattle.determinise.specs.Moves.{AreMoveRows, AreMovesOf, IsSilentlyReached};
 ghost use Rattle.determinise.specs.Progress.{AreMinimalOffers, IsSetAfter, IsTermSet};
 
 use crate::closed::closed_from;
@@ -44,9 +45,8 @@ impl<'a> Prepared<'a> {
         ensures { IfOk result (λ prepared. prepared ≡ table.now) }
     {
         let _count = table.count();
+        let (silent, moves) = step_rows(alloc, table)?;
         let offers = Offers::new(alloc, table)?;
-        let silent = silent_rows(alloc, table)?;
-        let moves = move_rows(alloc, table)?;
         Ok(Prepared {
             offers,
             silent,
@@ -97,4 +97,14 @@ impl<'a> Prepared<'a> {
         let sets = self.offers.minimal(alloc, terms)?;
         Ok(sets)
     }
+}
+
+// The silent steps and the steps by events, term by term.
+fn step_rows(alloc: Global, table: &RawTable) -> Result<(Rows, Vec<Items<(Event, u32)>>), NoMemory>
+    ensures silent { IfOk result (λ rows. AreSilentRows table.now rows.0) }
+    ensures moves { IfOk result (λ rows. AreMoveRows table.now rows.1.items) }
+{
+    let silent = silent_rows(alloc, table)?;
+    let moves = move_rows(alloc, table)?;
+    Ok((silent, moves))
 }

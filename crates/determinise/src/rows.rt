@@ -17,10 +17,19 @@ pub(crate) fn move_rows(
     ensures { IfOk result (λ rows. AreMoveRows table.now rows.items) }
 {
     let mut rows = empty_rows(alloc, table.count())?;
-    for (from, event, to) in table.steps() {
-        push_at(&mut rows, *from as usize, *event, *to)?;
-    }
+    add_steps(&mut rows, table)?;
     Ok(rows)
+}
+
+// Adds each step of the table to the list of the term from which it leads. The lists are empty before.
+fn add_steps(rows: &mut Vec<Items<(Event, u32)>>, table: &RawTable) -> Result<(), NoMemory>
+    requires { rows.old.items ≡ replicate table.now.count [] }
+    ensures { OnOk result (AreMoveRows table.now rows.new.items) }
+{
+    for (from, event, to) in table.steps() {
+        push_at(rows, *from as usize, *event, *to)?;
+    }
+    Ok(())
 }
 
 // As many empty lists as `count` says.

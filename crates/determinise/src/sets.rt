@@ -32,15 +32,37 @@ pub(crate) fn next_steps(
     ensures limit { (found : ℕ) → result ≡ Err (SetFault.SubsetLimit found) → (found ≡ 2049) × (length sets.new ≡ 2049) }
 {
     let mut next = Vec::new(alloc);
+    add_steps(alloc, table, moves, sets, &mut next)?;
+    Ok(next)
+}
+
+// Adds the same steps to none.
+fn add_steps(
+    alloc: Global,
+    table: &Prepared<'_>,
+    moves: &[(Event, u32)],
+    sets: &mut Numbering<Items<u32>>,
+    next: &mut Vec<(Event, u32)>,
+) -> Result<(), SetFault>
+    requires order { IsNonDecreasingBy (λ step. step.0) moves.now }
+    requires within { All (λ step. step.1 < table.now.count) moves.now }
+    requires few { length sets.old ≤ 2048 }
+    requires none { next.old.items ≡ [] }
+    ensures steps { OnOk result (AreNodeSteps table.now moves.now sets.new next.new.items) }
+    ensures order { OnOk result (MeetsInOrder (length sets.old) (targets_of_steps next.new.items) (length sets.new)) }
+    ensures more { AreMoreSets (IsSomeNextSet table.now moves.now) sets.old sets.new }
+    ensures few { OnOk result (length sets.new ≤ 2048) }
+    ensures limit { (found : ℕ) → result ≡ Err (SetFault.SubsetLimit found) → (found ≡ 2049) × (length sets.new ≡ 2049) }
+{
     let mut at = 0;
     while at < moves.len() {
         let event = moves[at].0;
         let end = group_end(moves, at);
         let number = number_of_next(alloc, table, &moves[at..end], sets)?;
-        push(&mut next, event, number)?;
+        push(next, event, number)?;
         at = end;
     }
-    Ok(next)
+    Ok(())
 }
 
 // Where the steps by the event at a place end.
@@ -76,8 +98,7 @@ fn number_of_next(
     ensures few { OnOk result (length sets.new ≤ 2048) }
     ensures limit { (found : ℕ) → result ≡ Err (SetFault.SubsetLimit found) → (found ≡ 2049) × (length sets.new ≡ 2049) }
 {
-    let starts = targets(alloc, moves)?;
-    let set = table.closed(alloc, &starts)?;
+    let set = next_set(alloc, table, moves)?;
     let number = sets.number(set)?;
     if sets.len() > SET_LIMIT {
         return Err(SetFault::SubsetLimit {
@@ -85,6 +106,20 @@ fn number_of_next(
         });
     }
     Ok(number)
+}
+
+// The set to which these steps lead, with silent steps behind them.
+fn next_set(
+    alloc: Global,
+    table: &Prepared<'_>,
+    moves: &[(Event, u32)],
+) -> Result<Items<u32>, NoMemory>
+    requires { All (λ step. step.1 < table.now.count) moves.now }
+    ensures { IfOk result (IsSilentClosure table.now (targets_of_steps moves.now)) }
+{
+    let starts = targets(alloc, moves)?;
+    let set = table.closed(alloc, &starts)?;
+    Ok(set)
 }
 
 // The terms to which the steps lead.

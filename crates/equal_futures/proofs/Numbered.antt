@@ -10,10 +10,7 @@ use Rattle.std.proofs.lemmas.List.Folds.{position_or_len_push}
 use Rattle.containers.specs.Members.{with_new}
 use Rattle.containers.specs.Exact.{IsExact, IsExact-pointwise}
 use Rattle.equal_futures.specs.Future.{SeenInOrder}
-
--- equality of lists of numbers, as a test
-abbrev pub same_key : List ℕ → List ℕ → Bool
-same_key a b = pointwise nat_eq a b
+use Rattle.equal_futures.specs.Rows.{same_key}
 
 same_key-refl : (a : List ℕ) → same_key a a ≡ true
 same_key-refl [] = refl

@@ -6,6 +6,7 @@ use Rattle.std.proofs.lemmas.Bool.{cases_eq, eqb-true, eq-eqb, lt-ltb, ltb-true,
 use Rattle.std.proofs.lemmas.List.{get_or_default}
 use Rattle.csp_base.specs.Members.{has}
 use Rattle.csp_tables.specs.Table.{Node, node_at, is_possible, node_after}
+use Rattle.equal_futures.specs.Splits.{AreAllFrom, IsSplitByBlock, IsSplitByMarks}
 use Rattle.equal_futures.specs.Future.{HaveEqualFuture, AreFutureClasses, NodesRise}
 use Rattle.equal_futures.specs.Alike.{AreTold}
 use Rattle.equal_futures.specs.Blocks.{State, HasBlocks, IsCalm, IsWhole, IsTaken, IsSplitByEvents, AreMarkSteps, AreIncoming, AreGathered, AreFrom, block_at, waits, has_arrow}
@@ -17,6 +18,7 @@ use Rattle.equal_futures.proofs.Taking.{has_at}
 pub future_sym : (nodes : List Node) (marks : List ℕ) (i j : ℕ) → HaveEqualFuture nodes marks i j → HaveEqualFuture nodes marks j i
 future_sym nodes marks i j f = record { runs = λ w. sym (f.runs w); ends = λ w r. sym (f.ends w (f.runs w ∙ r)) }
 
+-- The nodes of a block have equal marks, nodes with equal future are in one block, and the partition is stable under each block that doesn't wait.
 pub record IsRefined (nodes : List Node) (marks : List ℕ) (s : State) : Type 0 where
   pub fit : HasBlocks (length nodes) s
   pub calm : IsCalm s
@@ -25,15 +27,35 @@ pub record IsRefined (nodes : List Node) (marks : List ℕ) (s : State) : Type 0
   pub settled : (i j e : ℕ) → i < length nodes → j < length nodes → block_at s i ≡ block_at s j → is_possible (node_at nodes i).next e ≡ true → waits s (block_at s (node_after nodes i e)) ≡ false
       → (is_possible (node_at nodes j).next e ≡ true) × (block_at s (node_after nodes i e) ≡ block_at s (node_after nodes j e))
 
+any_of : (p : ℕ → Bool) (ms : List ℕ) (t : ℕ) → has ms t ≡ true → p t ≡ true → list_any p ms ≡ true
+any_of p [] t h q = absurd (false≢true h)
+any_of p (m ∷ ms) t h q = elim (or_cases (nat_eq m t) (has ms t) h) as (λ _. (p m || list_any p ms) ≡ true) [
+  | inl here ↦ or_left (p m) (list_any p ms) (ap p (eqb-true m t here) ∙ q)
+  | inr later ↦ or_right (p m) (list_any p ms) (any_of p ms t later q)
+]
+
+one_of : (p : ℕ → Bool) (ms : List ℕ) → list_any p ms ≡ true → (t : ℕ) × (has ms t ≡ true) × (p t ≡ true)
+one_of p [] h = absurd (false≢true h)
+one_of p (m ∷ ms) h = elim (or_cases (p m) (list_any p ms) h) as (λ _. (t : ℕ) × ((nat_eq m t || has ms t) ≡ true) × (p t ≡ true)) [
+  | inl here ↦ (m, or_left (nat_eq m m) (has ms m) (eq-eqb m m refl), here)
+  | inr later ↦ let r = one_of p ms later in (r.0, or_right (nat_eq m r.0) (has ms r.0) r.1, r.2)
+]
+
+pub marks_from : (n : ℕ) (marks : List ℕ) (steps : List (ℕ × ℕ)) → length marks ≡ n → AreMarkSteps marks steps → AreFrom n steps
+marks_from n marks steps one_each are e i h = subst (λ m. i < m) one_each (ltb-true i (length marks) (and_parts (nat_lt i (length marks)) (nat_eq (slice_index marks i) e) (sym (are e i) ∙ h)).0)
+
+pub gathered_from : (n k b : ℕ) (s : State) (rows : List (List (ℕ × ℕ))) (members : List ℕ) (steps : List (ℕ × ℕ)) → length rows ≡ n → k ≡ n → AreAllFrom n rows →
+    ((i : ℕ) → (has members i ≡ true) ↔ ((i < n) × (block_at s i ≡ b))) → AreGathered rows members steps → AreFrom k steps
+gathered_from n k b s rows members steps count is_k sources are gathered e i h =
+    let r = one_of (λ t. has_arrow (slice_index_or rows t []) e i) members (sym (gathered e i) ∙ h) in
+    subst (λ x. i < x) (sym is_k) (sources r.0 e i (subst (λ x. r.0 < x) (sym count) ((are r.0).0 r.1).0) r.2)
+
 module _ (nodes : List Node) (marks : List ℕ) (rise : NodesRise nodes) (one_each : length marks ≡ length nodes) where
   after_below : (i e : ℕ) → is_possible (node_at nodes i).next e ≡ true → node_after nodes i e < length nodes
   after_below i e h = target_below (length nodes) (node_at nodes i).next e (rise i) h
 
   mark_step : (steps : List (ℕ × ℕ)) → AreMarkSteps marks steps → (e i : ℕ) → i < length nodes → has_arrow steps e i ≡ nat_eq (slice_index marks i) e
   mark_step steps are e i h = are e i ∙ ap (λ b. b && nat_eq (slice_index marks i) e) (lt-ltb i (length marks) (subst (λ m. i < m) (sym one_each) h))
-
-  pub from_marks : (steps : List (ℕ × ℕ)) → AreMarkSteps marks steps → AreFrom (length nodes) steps
-  from_marks steps are e i h = subst (λ m. i < m) one_each (ltb-true i (length marks) (and_parts (nat_lt i (length marks)) (nat_eq (slice_index marks i) e) (sym (are e i) ∙ h)).0)
 
   pub first_refined : (s t : State) (steps : List (ℕ × ℕ)) → IsWhole (length nodes) s → AreMarkSteps marks steps → IsSplitByEvents (length nodes) s t steps → IsRefined nodes marks t
   first_refined s t steps whole are split = record {
@@ -84,20 +106,6 @@ module _ (nodes : List Node) (marks : List ℕ) (rise : NodesRise nodes) (one_ea
                 (q.0, sym (k.1 (node_after nodes j e) (after_below j e q.0) (same_block (node_after nodes j e) ∙ sym q.1 ∙ sym (same_block x))))
           ];
     }
-
-  any_of : (p : ℕ → Bool) (ms : List ℕ) (t : ℕ) → has ms t ≡ true → p t ≡ true → list_any p ms ≡ true
-  any_of p [] t h q = absurd (false≢true h)
-  any_of p (m ∷ ms) t h q = elim (or_cases (nat_eq m t) (has ms t) h) as (λ _. (p m || list_any p ms) ≡ true) [
-    | inl here ↦ or_left (p m) (list_any p ms) (ap p (eqb-true m t here) ∙ q)
-    | inr later ↦ or_right (p m) (list_any p ms) (any_of p ms t later q)
-  ]
-
-  one_of : (p : ℕ → Bool) (ms : List ℕ) → list_any p ms ≡ true → (t : ℕ) × (has ms t ≡ true) × (p t ≡ true)
-  one_of p [] h = absurd (false≢true h)
-  one_of p (m ∷ ms) h = elim (or_cases (p m) (list_any p ms) h) as (λ _. (t : ℕ) × ((nat_eq m t || has ms t) ≡ true) × (p t ≡ true)) [
-    | inl here ↦ (m, or_left (nat_eq m m) (has ms m) (eq-eqb m m refl), here)
-    | inr later ↦ let r = one_of p ms later in (r.0, or_right (nat_eq m r.0) (has ms r.0) r.1, r.2)
-  ]
 
   pub gathered_enter : (s : State) (b : ℕ) (rows : List (List (ℕ × ℕ))) (members : List ℕ) (steps : List (ℕ × ℕ)) → AreIncoming nodes rows (length nodes) → ((i : ℕ) → (has members i ≡ true) ↔ ((i < length nodes) × (block_at s i ≡ b))) → AreGathered rows members steps → (e i : ℕ) → (has_arrow steps e i ≡ true) ↔ ((i < length nodes) × (is_possible (node_at nodes i).next e ≡ true) × (block_at s (node_after nodes i e) ≡ b))
   gathered_enter s b rows members steps incoming are gathered e i = (
@@ -161,3 +169,22 @@ pub all_members : (n m b : ℕ) (s : State) (members : List ℕ) → m ≡ n →
 all_members n m b s members same are k d h =
     let below : get_or members k 0 < n = ((are (get_or members k 0)).0 (has_at members k h)).0 in
     subst (λ x. get_or members k d < x) (sym same) (subst (λ x. x < n) (get_or_default members k 0 d h) below)
+
+-- between the first splitter and the last one
+pub marks_refined : (nodes : List Node) (marks : List ℕ) → NodesRise nodes → length marks ≡ length nodes → (n : ℕ) (s t : State) → n ≡ length nodes → IsWhole (length nodes) s → IsSplitByMarks n s t marks → IsRefined nodes marks t
+marks_refined nodes marks rise one_each n s t is_n whole e = first_refined nodes marks rise one_each s t e.steps whole e.exact (subst (λ x. IsSplitByEvents x s t e.steps) is_n e.split)
+
+pub block_refined : (nodes : List Node) (marks : List ℕ) → NodesRise nodes → length marks ≡ length nodes → (s r t : State) (b m k : ℕ) (rows read : List (List (ℕ × ℕ))) → IsRefined nodes marks s → m ≡ length nodes → k ≡ length nodes → IsTaken m s r b →
+    AreIncoming nodes rows (length nodes) → read ≡ rows → IsSplitByBlock k r t read b → IsRefined nodes marks t
+block_refined nodes marks rise one_each s r t b m k rows read a is_m is_k taken incoming is_read e =
+    refined_read nodes marks rise one_each s r t b m k rows read e.members e.steps a is_m is_k taken incoming is_read e.exact e.gathered e.split
+
+pub rows_read : (nodes : List Node) (rows read : List (List (ℕ × ℕ))) (k : ℕ) → k ≡ length nodes → AreIncoming nodes rows (length nodes) → read ≡ rows → AreAllFrom k read
+rows_read nodes rows read k is_k incoming is_read t e i h a =
+    subst (λ x. i < x) (sym is_k) ((incoming.exact t e i (subst (λ x. t < x) incoming.one_each (subst (λ (xs : List (List (ℕ × ℕ))). t < length xs) is_read h))).0 (subst (λ (xs : List (List (ℕ × ℕ))). has_arrow (slice_index_or xs t []) e i ≡ true) is_read a)).0
+
+-- classes told by the blocks of a partition of which none waits
+pub classes_told : (nodes : List Node) (marks : List ℕ) → NodesRise nodes → length marks ≡ length nodes → (s : State) (read classes : List ℕ) (count : ℕ) → read ≡ s.blocks → IsRefined nodes marks s → ((b : ℕ) → waits s b ≡ false) →
+    AreTold nodes read classes count → AreFutureClasses nodes marks classes count
+classes_told nodes marks rise one_each s read classes count is_read a none t =
+    classes_then nodes marks rise one_each s classes count a none (subst (λ (xs : List ℕ). AreTold nodes xs classes count) is_read t)

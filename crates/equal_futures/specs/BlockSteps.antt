@@ -1,6 +1,33 @@
 -- Single steps on a partition, as the code makes them.
-use Rattle.std.specs.Prelude.{◌≡◌, ◌+◌, ◌<◌, ◌≤◌, ℕ, [], ◌∷◌, ◌++◌, true, false, length, slice_index, slice_set, if◌then◌else◌}
+use Rattle.std.specs.Prelude.{◌≡◌, ◌+◌, ◌<◌, ◌≤◌, ℕ, List, [], ◌∷◌, ◌++◌, true, false, length, slice_index, slice_set, if◌then◌else◌}
 use Rattle.equal_futures.specs.Blocks.{State, HaveSameBlocks, block_at, waits}
+
+-- the numbers below n, in order
+pub record AreCounted (n : ℕ) (xs : List ℕ) : Type 0 where
+  pub len : length xs ≡ n
+  pub each : (i : ℕ) → i < n → slice_index xs i ≡ i
+
+-- A block without marks that begins and ends there is added to the lists of where blocks have their nodes, and nothing else changes.
+pub record HasLongerSpans (old new : State) (first end : ℕ) : Type 0 where
+  pub order : new.order ≡ old.order
+  pub places : new.places ≡ old.places
+  pub blocks : new.blocks ≡ old.blocks
+  pub firsts : new.firsts ≡ old.firsts ++ first ∷ []
+  pub middles : new.middles ≡ old.middles ++ first ∷ []
+  pub ends : new.ends ≡ old.ends ++ end ∷ []
+  pub waiting : new.waiting ≡ old.waiting
+  pub flags : new.flags ≡ old.flags
+
+-- A block between two places is added, without marks, that doesn't wait, and nothing else changes.
+pub record IsLonger (old new : State) (first end : ℕ) : Type 0 where
+  pub order : new.order ≡ old.order
+  pub places : new.places ≡ old.places
+  pub blocks : new.blocks ≡ old.blocks
+  pub firsts : new.firsts ≡ old.firsts ++ first ∷ []
+  pub middles : new.middles ≡ old.middles ++ first ∷ []
+  pub ends : new.ends ≡ old.ends ++ end ∷ []
+  pub waiting : new.waiting ≡ old.waiting
+  pub flags : new.flags ≡ old.flags ++ false ∷ []
 
 -- The first node of its block that isn't marked changes places with the node, which is marked then.
 pub record IsAdvanced (old new : State) (node : ℕ) : Type 0 where

@@ -3,3 +3,4 @@ pub mod BlockSteps
 pub mod Blocks
 pub mod Future
 pub mod Rows
+pub mod Splits

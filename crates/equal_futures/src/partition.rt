@@ -1,10 +1,10 @@
 //! A partition of the nodes into blocks that can be split, at the cost of the nodes that move. Blocks that were split wait
 //! until they are used as splitters.
 
-ghost use Rattle.std.specs.Prelude.{◌≡◌, ◌↔◌, ◌||◌, ◌+◌, ◌<◌, ◌≤◌, ◌≢◌, ◌^◌, ℕ, [], ◌∷◌, ◌++◌, false, true, nat_eq, length, All, slice_index, slice_index_or, slice_set, IsTrue, IfOk, OnOk, MatchOption};
+ghost use Rattle.std.specs.Prelude.{◌≡◌, ◌↔◌, ◌||◌, ◌+◌, ◌<◌, ◌≤◌, ◌≢◌, ◌^◌, ℕ, [], ◌∷◌, ◌++◌, false, true, nat_eq, replicate, length, All, slice_index, slice_index_or, slice_set, IsTrue, IfOk, OnOk, MatchOption};
 ghost use Rattle.equal_futures.specs.Blocks.{count_of, state_of, HasBlocks, AreBoth, AreCut, AreMarked, AreTouched, IsCalm, IsCut, IsDone, IsMarked, IsSplit, IsTaken, IsWhole};
 ghost use Rattle.csp_base.specs.Members.{has};
-ghost use Rattle.equal_futures.specs.BlockSteps.{IsAdvanced, IsAwaited, IsCalmed, IsDivided};
+ghost use Rattle.equal_futures.specs.BlockSteps.{AreCounted, HasLongerSpans, IsAdvanced, IsAwaited, IsCalmed, IsDivided, IsLonger};
 
 use csp_base::NoMemory;
 use std::alloc::Global;
@@ -30,17 +30,82 @@ pub(crate) struct Partition {
 pub(crate) fn whole(alloc: Global, count: u32) -> Result<Partition, NoMemory>
     ensures { IfOk result (λ made. IsWhole count (state_of made)) }
 {
-    let blocks = if count == 0 { 0 } else { 1 };
+    let number = if count == 0 { 0 } else { 1 };
+    let (order, places, blocks) = in_order(alloc, count)?;
+    let ((firsts, middles, ends), (waiting, flags)) = first_blocks(alloc, number, count)?;
     Ok(Partition {
-        order: counted(alloc, count)?,
-        places: counted(alloc, count)?,
-        blocks: vec![in alloc; 0; count as usize]?,
-        firsts: vec![in alloc; 0; blocks]?,
-        middles: vec![in alloc; 0; blocks]?,
-        ends: vec![in alloc; count; blocks]?,
-        waiting: vec![in alloc; 0; blocks]?,
-        flags: vec![in alloc; true; blocks]?,
+        order,
+        places,
+        blocks,
+        firsts,
+        middles,
+        ends,
+        waiting,
+        flags,
     })
+}
+
+// The nodes in the order of their numbers, where each stands, and its block, the first one.
+fn in_order(alloc: Global, count: u32) -> Result<(Vec<u32>, Vec<u32>, Vec<u32>), NoMemory>
+    ensures order { IfOk result (λ made. AreCounted count made.0.items) }
+    ensures places { IfOk result (λ made. AreCounted count made.1.items) }
+    ensures blocks { IfOk result (λ made. made.2.items ≡ replicate count 0) }
+{
+    let order = counted(alloc, count)?;
+    let places = counted(alloc, count)?;
+    let blocks = filled(alloc, 0, count as usize)?;
+    Ok((order, places, blocks))
+}
+
+// The lists of so many blocks: where each has its nodes, and that it waits.
+fn first_blocks(
+    alloc: Global,
+    number: usize,
+    count: u32,
+) -> Result<((Vec<u32>, Vec<u32>, Vec<u32>), (Vec<u32>, Vec<bool>)), NoMemory>
+    ensures firsts { IfOk result (λ made. made.0.0.items ≡ replicate number 0) }
+    ensures middles { IfOk result (λ made. made.0.1.items ≡ replicate number 0) }
+    ensures ends { IfOk result (λ made. made.0.2.items ≡ replicate number count) }
+    ensures waiting { IfOk result (λ made. made.1.0.items ≡ replicate number 0) }
+    ensures flags { IfOk result (λ made. made.1.1.items ≡ replicate number true) }
+{
+    let spans = spans(alloc, number, count)?;
+    let waiting = all_waiting(alloc, number)?;
+    Ok((spans, waiting))
+}
+
+// Where each of so many blocks begins, where its marked nodes end, and where it ends: each has all nodes, and none is marked.
+fn spans(
+    alloc: Global,
+    number: usize,
+    count: u32,
+) -> Result<(Vec<u32>, Vec<u32>, Vec<u32>), NoMemory>
+    ensures firsts { IfOk result (λ made. made.0.items ≡ replicate number 0) }
+    ensures middles { IfOk result (λ made. made.1.items ≡ replicate number 0) }
+    ensures ends { IfOk result (λ made. made.2.items ≡ replicate number count) }
+{
+    let firsts = filled(alloc, 0, number)?;
+    let middles = filled(alloc, 0, number)?;
+    let ends = filled(alloc, count, number)?;
+    Ok((firsts, middles, ends))
+}
+
+// The blocks that wait, where all do, and for each that it does. There is one at most.
+fn all_waiting(alloc: Global, number: usize) -> Result<(Vec<u32>, Vec<bool>), NoMemory>
+    ensures waiting { IfOk result (λ made. made.0.items ≡ replicate number 0) }
+    ensures flags { IfOk result (λ made. made.1.items ≡ replicate number true) }
+{
+    let waiting = filled(alloc, 0, number)?;
+    let flags = vec![in alloc; true; number]?;
+    Ok((waiting, flags))
+}
+
+// As many times the value as `number` says.
+fn filled(alloc: Global, value: u32, number: usize) -> Result<Vec<u32>, NoMemory>
+    ensures { IfOk result (λ made. made.items ≡ replicate number value) }
+{
+    let made = vec![in alloc; value; number]?;
+    Ok(made)
 }
 
 // The numbers below `count`.
@@ -131,7 +196,7 @@ impl Partition {
             return Ok(());
         }
         if middle == self.firsts[block as usize] {
-            touched.push(block)?;
+            push(touched, block)?;
         }
         self.advance(node);
         Ok(())
@@ -223,16 +288,34 @@ impl Partition {
         ensures divided { OnOk result (IsDivided (state_of self.old) (state_of self.new) block) }
         ensures new { IfOk result (λ new. new ≡ length self.old.firsts.items) }
     {
-        let new = self.firsts.len() as u32;
         let first = self.firsts[block as usize];
         let middle = self.middles[block as usize];
         self.firsts[block as usize] = middle;
-        self.firsts.push(first)?;
-        self.middles.push(first)?;
-        self.ends.push(middle)?;
-        self.flags.push(false)?;
+        let new = self.add_block(first, middle)?;
         assign(&self.order, &mut self.blocks, first, middle, new);
         Ok(new)
+    }
+
+    // Adds a block between two places, and answers its number. It has no marks, and doesn't wait.
+    fn add_block(&mut self, first: u32, end: u32) -> Result<u32, NoMemory>
+        requires { length self.old.firsts.items < 2 ^ 32 }
+        ensures longer { OnOk result (IsLonger (state_of self.old) (state_of self.new) first end) }
+        ensures new { IfOk result (λ new. new ≡ length self.old.firsts.items) }
+    {
+        let new = self.firsts.len() as u32;
+        self.add_span(first, end)?;
+        self.flags.push(false)?;
+        Ok(new)
+    }
+
+    // Adds where a block without marks begins and ends.
+    fn add_span(&mut self, first: u32, end: u32) -> Result<(), NoMemory>
+        ensures { OnOk result (HasLongerSpans (state_of self.old) (state_of self.new) first end) }
+    {
+        push(&mut self.firsts, first)?;
+        push(&mut self.middles, first)?;
+        push(&mut self.ends, end)?;
+        Ok(())
     }
 
     // Lets a block wait, if it doesn't yet.
@@ -246,6 +329,14 @@ impl Partition {
         }
         Ok(())
     }
+}
+
+// Adds a number at the end.
+fn push(numbers: &mut Vec<u32>, number: u32) -> Result<(), NoMemory>
+    ensures { OnOk result (numbers.new.items ≡ numbers.old.items ++ number ∷ []) }
+{
+    numbers.push(number)?;
+    Ok(())
 }
 
 // Writes the block of the nodes that stand from `first` on below `middle`.

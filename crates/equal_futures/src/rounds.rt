@@ -3,7 +3,9 @@
 ghost use Rattle.std.specs.Prelude.{◌≡◌, ◌<◌, ◌≤◌, ◌^◌, ◌++◌, [], ◌∷◌, length, slice_index, IfOk, OnOk};
 ghost use Rattle.equal_futures.specs.Future.{NodesRise, StepsRise};
 ghost use Rattle.equal_futures.specs.Alike.{AreTold};
-ghost use Rattle.equal_futures.specs.Rows.{key_of};
+ghost use Rattle.equal_futures.specs.Rows.{key_of, row_of, same_key};
+ghost use Rattle.std.specs.List.{position_or_len};
+ghost use Rattle.containers.specs.Members.{with_new};
 
 use containers::{Items, Numbering};
 use csp_base::{Event, NoMemory};
@@ -26,14 +28,64 @@ pub(crate) fn round(alloc: Global, nodes: &[NormNode], classes: &[u32]) -> Resul
     ensures { IfOk result (λ made. AreTold nodes.now classes.now made.numbers.items made.count) }
 {
     let mut numbering = Numbering::new(alloc);
+    numbered(alloc, nodes, classes, &mut numbering)
+}
+
+// The same, with the keys of the nodes numbered in an empty numbering.
+fn numbered(
+    alloc: Global,
+    nodes: &[NormNode],
+    classes: &[u32],
+    numbering: &mut Numbering<Items<u32>>,
+) -> Result<Classes, NoMemory>
+    requires rising { NodesRise nodes.now }
+    requires one_each { length classes.now ≡ length nodes.now }
+    requires empty { numbering.old ≡ [] }
+    ensures { IfOk result (λ made. AreTold nodes.now classes.now made.numbers.items made.count) }
+{
     let mut numbers = Vec::new(alloc);
-    for (place, node) in nodes.iter().enumerate() {
-        let row = key(alloc, node, classes[place], classes)?;
-        let number = numbering.number(row)?;
-        numbers.push(number)?;
-    }
+    add_numbers(alloc, nodes, classes, numbering, &mut numbers)?;
     let count = numbering.len() as u32;
     Ok(Classes { numbers, count })
+}
+
+// Adds the number of each node's key to none, where no key is numbered yet.
+fn add_numbers(
+    alloc: Global,
+    nodes: &[NormNode],
+    classes: &[u32],
+    numbering: &mut Numbering<Items<u32>>,
+    numbers: &mut Vec<u32>,
+) -> Result<(), NoMemory>
+    requires rising { NodesRise nodes.now }
+    requires one_each { length classes.now ≡ length nodes.now }
+    requires empty { numbering.old ≡ [] }
+    requires none { numbers.old.items ≡ [] }
+    ensures { OnOk result (AreTold nodes.now classes.now numbers.new.items (length numbering.new)) }
+{
+    for (place, node) in nodes.iter().enumerate() {
+        add_number(alloc, node, classes[place], classes, numbering, numbers)?;
+    }
+    Ok(())
+}
+
+// Adds the number of a node's key, which is the next one where the key has none yet.
+fn add_number(
+    alloc: Global,
+    node: &NormNode,
+    class: u32,
+    classes: &[u32],
+    numbering: &mut Numbering<Items<u32>>,
+    numbers: &mut Vec<u32>,
+) -> Result<(), NoMemory>
+    requires { StepsRise (length classes.now) node.now.next }
+    ensures list { OnOk result (numbering.new ≡ with_new same_key numbering.old (key_of classes.now class node.now)) }
+    ensures numbers { OnOk result (numbers.new.items ≡ numbers.old.items ++ position_or_len (same_key (key_of classes.now class node.now)) numbering.old ∷ []) }
+{
+    let row = key(alloc, node, class, classes)?;
+    let number = numbering.number(row)?;
+    numbers.push(number)?;
+    Ok(())
 }
 
 // The class of a node, and each of its events with the class to which it leads.
@@ -43,9 +95,26 @@ fn key(alloc: Global, node: &NormNode, class: u32, classes: &[u32]) -> Result<It
 {
     let mut made = Items::new(alloc);
     made.push(class)?;
-    for (event, to) in node.next() {
-        made.push(event.0)?;
-        made.push(classes[*to as usize])?;
-    }
+    add_row(&mut made, node, classes)?;
     Ok(made)
+}
+
+// Adds each event of a node, with the class to which it leads.
+fn add_row(made: &mut Items<u32>, node: &NormNode, classes: &[u32]) -> Result<(), NoMemory>
+    requires { StepsRise (length classes.now) node.now.next }
+    ensures { OnOk result (made.new ≡ made.old ++ row_of classes.now node.now.next) }
+{
+    for (event, to) in node.next() {
+        push_step(made, event.0, classes[*to as usize])?;
+    }
+    Ok(())
+}
+
+// Adds an event and the class to which it leads.
+fn push_step(made: &mut Items<u32>, event: u32, class: u32) -> Result<(), NoMemory>
+    ensures { OnOk result (made.new ≡ made.old ++ event ∷ class ∷ []) }
+{
+    made.push(event)?;
+    made.push(class)?;
+    Ok(())
 }

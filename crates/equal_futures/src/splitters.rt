@@ -3,7 +3,8 @@
 ghost use Rattle.std.specs.Prelude.{◌≡◌, ◌≢◌, ◌+◌, ◌<◌, ◌≤◌, ◌^◌, ℕ, [], ◌∷◌, ◌++◌, replicate, length, slice_set, slice_index_or, All, IfOk, OnOk};
 ghost use Rattle.std.specs.List.Sorted.{IsNonDecreasingBy};
 ghost use Rattle.equal_futures.specs.Future.{AreFutureClasses, NodesRise};
-ghost use Rattle.equal_futures.specs.Blocks.{AreAdded, AreFrom, AreGathered, AreIncoming, AreMarkSteps, HasBlocks, IsCalm, IsSplitByEvents, count_of, event_at, state_of};
+ghost use Rattle.equal_futures.specs.Blocks.{AreAdded, AreFrom, AreGathered, AreIncoming, AreMarkSteps, HasBlocks, IsCalm, IsSplitByEvents, IsWhole, count_of, event_at, state_of};
+ghost use Rattle.equal_futures.specs.Splits.{AreAllFrom, IsSplitByBlock, IsSplitByMarks};
 
 use crate::partition::{Partition, whole};
 use crate::rounds::{Classes, round};
@@ -22,16 +23,75 @@ pub fn refine(alloc: Global, nodes: &[NormNode], marks: &[u32]) -> Result<Classe
     requires numbered { length nodes.now < 2 ^ 32 }
     ensures { IfOk result (λ made. AreFutureClasses nodes.now marks.now made.numbers.items made.count) }
 {
-    let rows = incoming(alloc, nodes)?;
     let mut partition = whole(alloc, nodes.len() as u32)?;
-    let mut marked = with_marks(alloc, marks)?;
-    split_by_events(alloc, &mut partition, &mut marked)?;
+    refined_classes(alloc, nodes, marks, &mut partition)
+}
+
+// The classes that the partition has once it is refined. All nodes are in one block before.
+fn refined_classes(
+    alloc: Global,
+    nodes: &[NormNode],
+    marks: &[u32],
+    partition: &mut Partition,
+) -> Result<Classes, NoMemory>
+    requires rising { NodesRise nodes.now }
+    requires marks { length marks.now ≡ length nodes.now }
+    requires whole { IsWhole (length nodes.now) (state_of partition.old) }
+    ensures { IfOk result (λ made. AreFutureClasses nodes.now marks.now made.numbers.items made.count) }
+{
+    let rows = incoming(alloc, nodes)?;
+    classes_by_rows(alloc, nodes, marks, rows.as_slice(), partition)
+}
+
+// The same, where the rows list, for each node, the steps that lead to it.
+fn classes_by_rows(
+    alloc: Global,
+    nodes: &[NormNode],
+    marks: &[u32],
+    rows: &[Items<(u32, u32)>],
+    partition: &mut Partition,
+) -> Result<Classes, NoMemory>
+    requires rising { NodesRise nodes.now }
+    requires marks { length marks.now ≡ length nodes.now }
+    requires incoming { AreIncoming nodes.now rows.now (length nodes.now) }
+    requires whole { IsWhole (length nodes.now) (state_of partition.old) }
+    ensures { IfOk result (λ made. AreFutureClasses nodes.now marks.now made.numbers.items made.count) }
+{
+    split_by_marks(alloc, marks, partition)?;
     while let Some(block) = partition.next_waiting() {
-        let mut steps = entering(alloc, rows.as_slice(), partition.members(block))?;
-        split_by_events(alloc, &mut partition, &mut steps)?;
+        split_by_block(alloc, rows, partition, block)?;
     }
-    let classes = round(alloc, nodes, partition.blocks.as_slice())?;
-    Ok(classes)
+    round(alloc, nodes, partition.blocks.as_slice())
+}
+
+// Splits each block into nodes of equal marks.
+fn split_by_marks(alloc: Global, marks: &[u32], partition: &mut Partition) -> Result<(), NoMemory>
+    requires blocks { HasBlocks (count_of partition.old) (state_of partition.old) }
+    requires calm { IsCalm (state_of partition.old) }
+    requires marks { length marks.now ≡ count_of partition.old }
+    ensures { OnOk result (IsSplitByMarks (count_of partition.old) (state_of partition.old) (state_of partition.new) marks.now) }
+{
+    let mut steps = with_marks(alloc, marks)?;
+    split_by_events(alloc, partition, &mut steps)
+}
+
+// Splits each block, for each event, into the nodes from which it leads into this block and the others. The rows list, for
+// each node, the steps that lead to it.
+fn split_by_block(
+    alloc: Global,
+    rows: &[Items<(u32, u32)>],
+    partition: &mut Partition,
+    block: u32,
+) -> Result<(), NoMemory>
+    requires blocks { HasBlocks (count_of partition.old) (state_of partition.old) }
+    requires calm { IsCalm (state_of partition.old) }
+    requires block { block < length partition.old.firsts.items }
+    requires rows { length rows.now ≡ count_of partition.old }
+    requires sources { AreAllFrom (count_of partition.old) rows.now }
+    ensures { OnOk result (IsSplitByBlock (count_of partition.old) (state_of partition.old) (state_of partition.new) rows.now block) }
+{
+    let mut steps = entering(alloc, rows, partition.members(block))?;
+    split_by_events(alloc, partition, &mut steps)
 }
 
 // Each node with its mark, as a step by the mark.

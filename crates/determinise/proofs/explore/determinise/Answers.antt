@@ -1,55 +1,19 @@
-use Rattle.std.proofs.Common.{◌≡◌, ◌<◌, Err, length, sym, ap, subst, arith}
-use Rattle.std.specs.List.{All}
+use Rattle.std.proofs.Common.{◌≡◌, subst}
+use Rattle.std.specs.Prelude.{IfOk, OnOk}
 use Rattle.csp_tables.specs.RawTable.{RawTable, RawStep}
-use Rattle.csp_tables.specs.BreadthFirst.{IsBreadthFirst}
-use Rattle.determinise.specs.declared.fault.SetFault.TheVariants.{SubsetLimit}
-use Rattle.determinise.specs.Determinised.{Determinised, FollowsTraces, AreDifferentSets}
-use Rattle.csp_tables.specs.NormalTable.{HasAcceptances, IsRisingNode}
+use Rattle.csp_tables.specs.NormalTable.{HasAcceptances}
+use Rattle.determinise.specs.Determinised.{FollowsTraces}
 use Rattle.determinise.specs.ManySets.{ReachesSets}
-use Rattle.determinise.proofs.Runs.{follows, different, accepts, in_order, breadth_first}
-use Rattle.determinise.proofs.Counting.{many_sets, no_more_sets}
 use Rattle.determinise.proofs.explore.determinise.Goals as goal
 
-pub returns-in-Ok-clause-traces : goal.returns-in-Ok-clause-traces
-returns-in-Ok-clause-traces c =
-    let raw : RawTable = c.in_ok-prepared.prepared in
-    let found = c.in-Ok.ensures in
-    subst (λ (r : RawTable). FollowsTraces (RawStep r) 0 c.new-in-Ok.result) c.in_ok-prepared.ensures (subst (FollowsTraces (RawStep raw) 0) (sym c.new-in-Ok.ensures) (follows raw c.explore.new.sets c.in-Ok.nodes.items found.nodes found.all found.reached))
+pub returns-clause-traces : goal.returns-clause-traces
+returns-clause-traces c = subst (λ (r : RawTable). IfOk c.set_table.result (λ made. FollowsTraces (RawStep r) 0 made)) c.in_ok-prepared.ensures c.set_table.ensures.traces
 
-pub returns-in-Ok-clause-sets : goal.returns-in-Ok-clause-sets
-returns-in-Ok-clause-sets c =
-    let raw : RawTable = c.in_ok-prepared.prepared in
-    let found = c.in-Ok.ensures in
-    subst AreDifferentSets (sym c.new-in-Ok.ensures) (different raw c.explore.new.sets c.in-Ok.nodes.items found.nodes found.all found.reached)
+pub returns-clause-acceptances : goal.returns-clause-acceptances
+returns-clause-acceptances c = subst (λ (r : RawTable). IfOk c.set_table.result (λ made. HasAcceptances (RawStep r) 0 made.nodes)) c.in_ok-prepared.ensures c.set_table.ensures.acceptances
 
-pub returns-in-Ok-clause-acceptances : goal.returns-in-Ok-clause-acceptances
-returns-in-Ok-clause-acceptances c =
-    let raw : RawTable = c.in_ok-prepared.prepared in
-    let found = c.in-Ok.ensures in
-    subst (λ (r : RawTable). HasAcceptances (RawStep r) 0 c.new-in-Ok.result.nodes) c.in_ok-prepared.ensures (subst (λ (d : Determinised). HasAcceptances (RawStep raw) 0 d.nodes) (sym c.new-in-Ok.ensures) (accepts raw c.explore.new.sets c.in-Ok.nodes.items found.nodes found.all found.reached))
-
-pub returns-in-Ok-clause-in_order : goal.returns-in-Ok-clause-in_order
-returns-in-Ok-clause-in_order c =
-    let raw : RawTable = c.in_ok-prepared.prepared in
-    let found = c.in-Ok.ensures in
-    subst (λ (d : Determinised). All IsRisingNode d.nodes) (sym c.new-in-Ok.ensures) (in_order raw c.explore.new.sets c.in-Ok.nodes.items found.nodes found.all)
-
-pub returns-in-Ok-clause-breadth_first : goal.returns-in-Ok-clause-breadth_first
-returns-in-Ok-clause-breadth_first c =
-    let raw : RawTable = c.in_ok-prepared.prepared in
-    let found = c.in-Ok.ensures in
-    subst (λ (d : Determinised). IsBreadthFirst d.nodes) (sym c.new-in-Ok.ensures) (breadth_first raw c.explore.new.sets c.in-Ok.nodes.items found.nodes found.all)
-
-pub returns-in-Ok-clause-within_limit : goal.returns-in-Ok-clause-within_limit
-returns-in-Ok-clause-within_limit c many =
-    let raw : RawTable = c.in_ok-prepared.prepared in
-    let found = c.in-Ok.ensures in
-    let few : length c.in-Ok.nodes.items < 2049 = omega (arith, found.all, found.few) in
-    no_more_sets raw c.explore.new.sets c.in-Ok.nodes.items 2049 found.nodes found.all found.reached few (subst (λ (r : RawTable). ReachesSets (RawStep r) 0 2049) (sym c.in_ok-prepared.ensures) many)
+pub returns-clause-within_limit : goal.returns-clause-within_limit
+returns-clause-within_limit c = subst (λ (r : RawTable). OnOk c.set_table.result (ReachesSets (RawStep r) 0 2049 → ⊥)) c.in_ok-prepared.ensures c.set_table.ensures.within_limit
 
 pub returns-clause-limit : goal.returns-clause-limit
-returns-clause-limit c number is =
-    let raw : RawTable = c.in_ok-prepared.prepared in
-    let same : c.in-Err.fault ≡ SubsetLimit number = cc in
-    let limit = c.in-Err.ensures.limit number (ap Err same) in
-    (limit.0, subst (λ (r : RawTable). ReachesSets (RawStep r) 0 2049) c.in_ok-prepared.ensures (many_sets raw c.explore.new.sets 2049 c.in-Err.ensures.reached limit.1))
+returns-clause-limit c number is = subst (λ (r : RawTable). (number ≡ 2049) × ReachesSets (RawStep r) 0 2049) c.in_ok-prepared.ensures (c.set_table.ensures.limit number is)

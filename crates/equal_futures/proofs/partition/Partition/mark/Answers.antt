@@ -18,7 +18,7 @@ returns-clause-touched c =
     elim c.if-middle-index.branch as (λ _. AreTouched (state_of c.advance.new.self) c.if-middle-index.touched.items) [
       | then-middle-index+in_ok-push w ↦
           subst (λ (xs : List ℕ). AreTouched (state_of c.advance.new.self) xs)
-          (ap (λ b. c.args.touched.now.items ++ b ∷ []) (sym block) ∙ sym w.in_ok-push.ensures.items ∙ sym (ap (λ v. v.items) w.touched-is))
+          (ap (λ b. c.args.touched.now.items ++ b ∷ []) (sym block) ∙ sym w.in_ok-push.ensures ∙ sym (ap (λ v. v.items) w.touched-is))
           (touched_new n s (state_of c.advance.new.self) c.args.node c.requires.blocks c.requires.node unmarked c.advance.ensures c.args.touched.now.items c.requires.touched)
       | else-middle-index w ↦
           subst (λ (xs : List ℕ). AreTouched (state_of c.advance.new.self) xs) (sym (ap (λ v. v.items) w.touched-is))

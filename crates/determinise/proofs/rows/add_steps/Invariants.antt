@@ -1,7 +1,7 @@
 use Rattle.std.proofs.Common.{◌≡◌, ℕ, [], ◌&&◌, nat_eq, length, take, get_or}
 use Rattle.std.specs.List.{list_any}
 use Rattle.determinise.specs.Moves.{has_move}
-use Rattle.determinise.proofs.rows.move_rows.Given as goal
+use Rattle.determinise.proofs.rows.add_steps.Given as goal
 
 abbrev pub invariant-loop-from : goal.invariant-loop-from
 invariant-loop-from l = record {

@@ -1,7 +1,7 @@
 use Rattle.std.proofs.Common.{◌<◌, length, ◌∙◌}
 use Rattle.acceptances.proofs.Terms.{step_from}
 use Rattle.determinise.proofs.MoveLists.{moves_more, length_more}
-use Rattle.determinise.proofs.rows.move_rows.Goals as goal
+use Rattle.determinise.proofs.rows.add_steps.Goals as goal
 
 pub push_at-requires : goal.push_at-requires
 push_at-requires c = rw c.loop-from.invariant.size (step_from c.args.table.now c.steps-from-items.ensures.form c.steps-from-items.result.now c.steps-from-items.ensures.value c.loop-from.from-index c.loop-from-item.result c.loop-from-test.true c.loop-from-item.is)

@@ -2,7 +2,7 @@ use Rattle.std.proofs.Common.{◌≡◌, ◌<◌, ℕ, [], ◌∷◌, ◌++◌, 
 use Rattle.std.proofs.lemmas.List.{get_or_default}
 use Rattle.determinise.proofs.Groups.{IsGroup, event_at}
 use Rattle.determinise.proofs.NodeSteps.{AreStepsSoFar, all_more, steps_more}
-use Rattle.determinise.proofs.sets.next_steps.Goals as goal
+use Rattle.determinise.proofs.sets.add_steps.Goals as goal
 
 pub returns-in_err-number-clause-more : goal.returns-in_err-number-clause-more
 returns-in_err-number-clause-more c =

@@ -1,0 +1,32 @@
+use Rattle.std.proofs.Common.{◌≡◌, length, refl, sym, ap, ◌∙◌}
+use Rattle.std.proofs.lemmas.Result.{IfOk-weaker}
+use Rattle.equal_futures.specs.Alike.{AreTold}
+use Rattle.equal_futures.specs.Blocks.{state_of, count_of}
+use Rattle.equal_futures.specs.declared.rounds.Classes.{Classes}
+use Rattle.equal_futures.proofs.Settling.{block_refined, classes_told, marks_refined, rows_read}
+use Rattle.equal_futures.proofs.splitters.classes_by_rows.Goals as goal
+
+pub loop-block-init : goal.loop-block-init
+loop-block-init c =
+    marks_refined c.args.nodes.now c.args.marks.now c.requires.rising c.requires.marks (count_of c.args.partition.now) (state_of c.args.partition.now) (state_of c.split_by_marks.new.partition) c.requires.whole.fit.blocks_len c.requires.whole c.in_ok-split_by_marks.ensures
+
+pub split_by_block-requires-clause-rows : goal.split_by_block-requires-clause-rows
+split_by_block-requires-clause-rows c =
+    let count : count_of c.next_waiting.new.self ≡ length c.args.nodes.now = c.in-Some.ensures.fit.blocks_len ∙ c.loop-block.invariant.fit.blocks_len in
+    c.requires.incoming.one_each ∙ sym count
+
+pub split_by_block-requires-clause-sources : goal.split_by_block-requires-clause-sources
+split_by_block-requires-clause-sources c =
+    rows_read c.args.nodes.now c.args.rows.now c.args.rows.now (count_of c.next_waiting.new.self) (c.in-Some.ensures.fit.blocks_len ∙ c.loop-block.invariant.fit.blocks_len) c.requires.incoming refl
+
+pub loop-block-preserved : goal.loop-block-preserved
+loop-block-preserved c =
+    block_refined c.args.nodes.now c.args.marks.now c.requires.rising c.requires.marks (state_of c.loop-block.partition) (state_of c.next_waiting.new.self) (state_of c.split_by_block.new.partition) c.in-Some.block
+    (count_of c.loop-block.partition) (count_of c.next_waiting.new.self) c.args.rows.now c.args.rows.now c.loop-block.invariant c.loop-block.invariant.fit.blocks_len (c.in-Some.ensures.fit.blocks_len ∙ c.loop-block.invariant.fit.blocks_len)
+    c.in-Some.ensures c.requires.incoming refl c.in_ok-split_by_block.ensures
+
+pub returns : goal.returns
+returns c =
+    let blocks : c.as_slice.result.now ≡ (state_of c.loop-block.partition).blocks = c.as_slice.ensures.value ∙ ap (λ s. s.blocks) c.in_default.ensures.same in
+    IfOk-weaker _ _ _ (λ (made : Classes) (h : AreTold c.args.nodes.now c.as_slice.result.now made.numbers.items made.count).
+    classes_told c.args.nodes.now c.args.marks.now c.requires.rising c.requires.marks (state_of c.loop-block.partition) c.as_slice.result.now made.numbers.items made.count blocks c.loop-block.invariant c.in_default.ensures.none h) c.round.ensures
