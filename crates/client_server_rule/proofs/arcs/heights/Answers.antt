@@ -1,0 +1,25 @@
+use Rattle.std.proofs.Common.{◌∙◌, ℕ, length, ap, sym, subst, Err}
+use Rattle.digraph.specs.Digraph.{HasArc}
+use Rattle.digraph.specs.Circle.{IsLeastCircle}
+use Rattle.digraph.specs.Walk.{AreHeights}
+use Rattle.digraph.proofs.WalkLaws.{same_heights, same_no_circle, same_least_circle}
+use Rattle.design_rules.specs.ClientServer.{Serves}
+use Rattle.client_server_rule.proofs.arcs.heights.Goals as goal
+
+pub returns-in-Ok-clause-heights : goal.returns-in-Ok-clause-heights
+returns-in-Ok-clause-heights c =
+    let arcs = Serves c.args.network.now.shape c.args.network.now.roles in
+    subst (λ (n : ℕ). AreHeights arcs n c.in-Ok.heights) c.in_ok-rows.ensures.count
+    (same_heights (HasArc c.in_ok-rows.rows) arcs c.in_ok-rows.ensures.sound c.in_ok-rows.ensures.complete (length c.in_ok-rows.rows) c.in-Ok.heights c.in-Ok.ensures.heights)
+
+pub returns-in-Ok-clause-no_circle : goal.returns-in-Ok-clause-no_circle
+returns-in-Ok-clause-no_circle c = same_no_circle (HasArc c.in_ok-rows.rows) (Serves c.args.network.now.shape c.args.network.now.roles) c.in_ok-rows.ensures.complete c.in-Ok.ensures.no_circle
+
+pub returns-in-Err-Circle-clause-fault : goal.returns-in-Err-Circle-clause-fault
+returns-in-Err-Circle-clause-fault c =
+    let it = c.in-Err-Circle.ensures.circle c.in-Err-Circle.circle (ap Err c.in-Err-Circle.field-0-is) in
+    record {
+      keep_roles = c.requires;
+      circle = subst (IsLeastCircle (Serves c.args.network.now.shape c.args.network.now.roles)) (sym (c.in_ok-clients-in-Err-Circle.ensures ∙ c.members.ensures))
+          (same_least_circle (HasArc c.in_ok-rows.rows) (Serves c.args.network.now.shape c.args.network.now.roles) c.in_ok-rows.ensures.sound c.in-Err-Circle.circle it);
+    }

@@ -1,0 +1,68 @@
+//! The longest walks from clients to servers, or a circle of clients.
+
+ghost use Rattle.std.specs.Prelude.{◌≡◌, ◌<◌, ◌⊎◌, ℕ, All, IfErr, IfOk, OnOk, length};
+ghost use Rattle.design_rules.specs.ClientServer.{KeepRoles, Serves};
+ghost use Rattle.digraph.specs.Circle.{HasNoCircle};
+ghost use Rattle.digraph.specs.Digraph.{HasArc};
+ghost use Rattle.digraph.specs.Walk.{AreHeights};
+ghost use Rattle.client_server_rule.specs.Network.{ServesBelow, ServesOn};
+ghost use Rattle.client_server_rule.specs.Told.{Tells};
+
+use crate::fault::RoleFault;
+use crate::network::{Network, link_of};
+use containers::Items;
+use csp_base::NoMemory;
+use digraph::{Fault, Heights, Rows, longest_walks};
+use std::alloc::Global;
+
+// For each part the greatest number of arcs in a walk from it to servers.
+pub(crate) fn heights(alloc: Global, network: &Network<'_>) -> Result<Heights, RoleFault>
+    requires { KeepRoles network.now.shape network.now.roles }
+    ensures heights { IfOk result (λ heights. AreHeights (Serves network.now.shape network.now.roles) (length network.now.shape.parts) heights) }
+    ensures below { IfOk result (λ heights. All (λ height. height < length network.now.shape.parts) heights) }
+    ensures no_circle { OnOk result (HasNoCircle (Serves network.now.shape network.now.roles)) }
+    ensures fault { IfErr result (λ fault. Tells network.now.shape network.now.roles fault) }
+{
+    let rows = arcs(alloc, network)?;
+    match longest_walks(alloc, &rows) {
+        Ok(heights) => Ok(heights),
+        Err(Fault::Circle(circle)) => {
+            let clients = Items::from_slice(alloc, circle.members())?;
+            Err(RoleFault::ClientsCircle { clients })
+        }
+        Err(Fault::NoMemory) => Err(RoleFault::NoMemory),
+    }
+}
+
+// An arc from each client to each of its servers.
+fn arcs(alloc: Global, network: &Network<'_>) -> Result<Rows, NoMemory>
+    ensures count { IfOk result (λ rows. length rows ≡ length network.now.shape.parts) }
+    ensures sound { IfOk result (λ rows. (i j : ℕ) → HasArc rows i j → Serves network.now.shape network.now.roles i j) }
+    ensures complete { IfOk result (λ rows. (i j : ℕ) → Serves network.now.shape network.now.roles i j → HasArc rows i j) }
+{
+    let shape = network.shape();
+    let mut rows = Rows::new(alloc, shape.parts().len() as u32)?;
+    for link in 0..shape.links().len() {
+        arc(&mut rows, network, link as u32)?;
+    }
+    Ok(rows)
+}
+
+// An arc from the client on the link to the server.
+fn arc(rows: &mut Rows, network: &Network<'_>, link: u32) -> Result<(), NoMemory>
+    requires link { link < length network.now.shape.links }
+    requires count { length rows.old ≡ length network.now.shape.parts }
+    ensures count { length rows.new ≡ length rows.old }
+    ensures sound { OnOk result ((i j : ℕ) → HasArc rows.new i j → HasArc rows.old i j ⊎ ServesOn network.now link i j) }
+    ensures kept { OnOk result ((i j : ℕ) → HasArc rows.old i j → HasArc rows.new i j) }
+    ensures complete { OnOk result ((i j : ℕ) → ServesOn network.now link i j → HasArc rows.new i j) }
+{
+    let ends = link_of(network.shape(), link);
+    let (left, right) = (ends.left(), ends.right());
+    if network.asks(left, link) {
+        rows.add_arc(left, right)?;
+        return Ok(());
+    }
+    rows.add_arc(right, left)?;
+    Ok(())
+}

@@ -1,0 +1,44 @@
+//! The rule as a whole.
+
+ghost use Rattle.std.specs.Prelude.{◌≡◌, IfErr, IfOk, OnOk, length};
+ghost use Rattle.csp_tables.specs.Shape.{IsWellFormed};
+ghost use Rattle.design_rules.specs.ClientServer.{IsClientServer, KeepRoles};
+ghost use Rattle.design_rules.specs.ClientServerRanking.{IsClientServerRanking};
+ghost use Rattle.client_server_rule.specs.Told.{Tells};
+
+use crate::arcs::heights;
+use crate::conditions::Condition;
+use crate::fault::RoleFault;
+use crate::network::Network;
+use crate::ranks::ranking;
+use crate::runs::check;
+use csp_tables::{Ranking, RoleSets, Shape};
+use std::alloc::Global;
+
+/// The ranking of a network of clients and servers, or what breaks the rule: the least condition of S1 to S5, or S6.
+pub fn client_server(alloc: Global, shape: &Shape, roles: &[RoleSets]) -> Result<Ranking, RoleFault>
+    requires form { IsWellFormed shape.now }
+    requires roles { length roles.now ≡ length shape.now.parts }
+    ensures client_server { OnOk result (IsClientServer shape.now roles.now) }
+    ensures ranking { IfOk result (λ ranking. IsClientServerRanking shape.now roles.now ranking) }
+    // Each fault breaks the rule (design_rules).
+    ensures fault { IfErr result (λ fault. Tells shape.now roles.now fault) }
+{
+    let network = Network::new(alloc, shape, roles)?;
+    check_runs(alloc, &network)?;
+    let heights = heights(alloc, &network)?;
+    let ranking = ranking(alloc, &network, &heights)?;
+    Ok(ranking)
+}
+
+// Succeeds where S3, S4 and S5 hold, and else tells the least that does not.
+fn check_runs(alloc: Global, network: &Network<'_>) -> Result<(), RoleFault>
+    ensures keep { OnOk result (KeepRoles network.now.shape network.now.roles) }
+    ensures fault { IfErr result (λ fault. Tells network.now.shape network.now.roles fault) }
+{
+    let _linked = network.shape();
+    check(alloc, network, Condition::Turns)?;
+    check(alloc, network, Condition::Service)?;
+    check(alloc, network, Condition::Answers)?;
+    Ok(())
+}

@@ -1,0 +1,9 @@
+pub mod Acquiring
+pub mod Circles
+pub mod Holding
+pub mod Joining
+pub mod Links
+pub mod Offering
+pub mod Ranking
+pub mod Sets
+pub mod Using

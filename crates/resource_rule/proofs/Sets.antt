@@ -1,0 +1,159 @@
+-- Sets of events, and tests of all members of a list.
+use Rattle.std.proofs.Common.{◌≡◌, ℕ, zero, suc, ◌<◌, inl, inr, List, [], ◌∷◌, length, get_or, Bool, true, false, not, ◌&&◌, ◌||◌, Some, None, nat_eq, nat_le, refl, sym, subst, ◌∙◌, arith, eq-eqb}
+use Rattle.std.specs.List.{find, list_all, list_any, filter}
+use Rattle.std.proofs.lemmas.Bool.{cases_Bool, cond-true, cond-false, and_parts, and_from, or_cases, or_left, or_right, eqb-true, false≢true}
+use Rattle.std.proofs.lemmas.List.{get_or_read}
+use Rattle.std.proofs.lemmas.List.Folds.{list_all_at}
+use Rattle.std.proofs.lemmas.Bool.Decides.{nat_tests}
+use Rattle.csp_base.specs.Members.{has}
+use Rattle.csp_base.specs.Events.{is_subset_of, inter_of}
+use Rattle.csp_tables.specs.Table.{is_possible}
+use Rattle.csp_tables.specs.Trace.{IsWithin}
+
+-- ---- members
+
+has_first : (z : ℕ) (zs : List ℕ) → has (z ∷ zs) z ≡ true
+has_first z zs = rw (eq-eqb z z refl) refl
+
+has_later : (z : ℕ) (zs : List ℕ) (e : ℕ) → has zs e ≡ true → has (z ∷ zs) e ≡ true
+has_later z zs e x = elim (cases_Bool (nat_eq z e)) [ inl k ↦ rw k refl | inr k ↦ rw k x ]
+
+pub subset_within : (M N : List ℕ) → is_subset_of M N ≡ true → IsWithin M N
+subset_within [] N h e x = absurd (false≢true x)
+subset_within (y ∷ ys) N h e x =
+    let p = and_parts (has N y) (is_subset_of ys N) h in
+    elim (or_cases (nat_eq y e) (has ys e) x) [
+      | inl same ↦ subst (λ z. has N z ≡ true) (eqb-true y e same) p.0
+      | inr later ↦ subset_within ys N p.1 e later
+    ]
+
+pub within_subset : (M N : List ℕ) → IsWithin M N → is_subset_of M N ≡ true
+within_subset [] N w = refl
+within_subset (y ∷ ys) N w = and_from (has N y) (is_subset_of ys N) (w y (has_first y ys)) (within_subset ys N (λ e x. w e (has_later y ys e x)))
+
+-- a member of both
+pub any_member : (test : ℕ → Bool) (M : List ℕ) → list_any test M ≡ true → (e : ℕ) × (has M e ≡ true) × (test e ≡ true)
+any_member test [] h = absurd (false≢true h)
+any_member test (y ∷ ys) h = elim (or_cases (test y) (list_any test ys) h) [
+  | inl here ↦ (y, has_first y ys, here)
+  | inr later ↦ let r = any_member test ys later in (r.0, has_later y ys r.0 r.1, r.2)
+]
+
+pub any_of : (test : ℕ → Bool) (M : List ℕ) (e : ℕ) → has M e ≡ true → test e ≡ true → list_any test M ≡ true
+any_of test [] e h t = absurd (false≢true h)
+any_of test (x ∷ M) e h t =
+    elim (or_cases (nat_eq x e) (has M e) h) [
+      | inl same ↦ or_left (test x) (list_any test M) (subst (λ y. test y ≡ true) (sym (eqb-true x e same)) t)
+      | inr rest ↦ or_right (test x) (list_any test M) (any_of test M e rest t)
+    ]
+
+-- the members of both
+pub in_both : (M N : List ℕ) (e : ℕ) → has M e ≡ true → has N e ≡ true → has (inter_of M N) e ≡ true
+in_both [] N e x y = absurd (false≢true x)
+in_both (z ∷ zs) N e x y = elim (or_cases (nat_eq z e) (has zs e) x) [
+  | inl same ↦
+      let there : has N z ≡ true = subst (λ w. has N w ≡ true) (sym (eqb-true z e same)) y in
+      subst (λ ws. has ws e ≡ true) (sym (cond-true (has N z) (z ∷ filter (has N) zs) (filter (has N) zs) there)) (or_left (nat_eq z e) (has (filter (has N) zs) e) same)
+  | inr later ↦ elim (cases_Bool (has N z)) [
+    | inl there ↦ subst (λ ws. has ws e ≡ true) (sym (cond-true (has N z) (z ∷ filter (has N) zs) (filter (has N) zs) there)) (or_right (nat_eq z e) (has (filter (has N) zs) e) (in_both zs N e later y))
+    | inr lacks ↦ subst (λ ws. has ws e ≡ true) (sym (cond-false (has N z) (z ∷ filter (has N) zs) (filter (has N) zs) lacks)) (in_both zs N e later y)
+  ]
+]
+
+pub of_both : (M N : List ℕ) (e : ℕ) → has (inter_of M N) e ≡ true → (has M e ≡ true) × (has N e ≡ true)
+of_both [] N e x = absurd (false≢true x)
+of_both (z ∷ zs) N e x = elim (cases_Bool (has N z)) [
+  | inl there ↦ elim (or_cases (nat_eq z e) (has (filter (has N) zs) e) (subst (λ ws. has ws e ≡ true) (cond-true (has N z) (z ∷ filter (has N) zs) (filter (has N) zs) there) x)) [
+    | inl same ↦ (or_left (nat_eq z e) (has zs e) same, subst (λ w. has N w ≡ true) (eqb-true z e same) there)
+    | inr later ↦ let r = of_both zs N e later in (or_right (nat_eq z e) (has zs e) r.0, r.1)
+  ]
+  | inr lacks ↦ let r = of_both zs N e (subst (λ ws. has ws e ≡ true) (cond-false (has N z) (z ∷ filter (has N) zs) (filter (has N) zs) lacks) x) in (or_right (nat_eq z e) (has zs e) r.0, r.1)
+]
+
+pub inter_none : (M : List ℕ) → inter_of M [] ≡ []
+inter_none [] = refl
+inter_none (x ∷ M) = inter_none M
+
+-- ---- the first member
+
+find_has : (test : ℕ → Bool) (M : List ℕ) (e : ℕ) → find test M ≡ Some e → has M e ≡ true
+find_has test [] e h = absurd (cc)
+find_has test (x ∷ xs) e h = elim (cases_Bool (test x)) [
+  | inl passes ↦ let same : x ≡ e = some_is x e (sym (cond-true (test x) (Some x) (find test xs) passes) ∙ h) in rw (eq-eqb x e same) refl
+  | inr fails ↦ has_later x xs e (find_has test xs e (sym (cond-false (test x) (Some x) (find test xs) fails) ∙ h))
+]
+  where
+    some_is : (a b : ℕ) → Some a ≡ Some b → a ≡ b
+    some_is a b k = cc
+
+zero_least : (x : ℕ) → nat_le 0 x ≡ true
+zero_least x = grind (arith, nat_tests)
+
+pub first_found : (M : List ℕ) (e : ℕ) → find (nat_le 0) M ≡ Some e → has M e ≡ true
+first_found M e h = find_has (nat_le 0) M e h
+
+pub none_found : (M : List ℕ) (e : ℕ) → find (nat_le 0) M ≡ None → has M e ≡ true → ⊥
+none_found [] e h x = false≢true x
+none_found (x ∷ xs) e h k = never x (sym (cond-true (nat_le 0 x) (Some x) (find (nat_le 0) xs) (zero_least x)) ∙ h)
+  where
+    never : (a : ℕ) → Some a ≡ None → ⊥
+    never a b = cc
+
+-- ---- tests of all
+
+-- of each event that is possible
+pub all_possible : (test : ℕ → Bool) (next : List (ℕ × ℕ)) (e : ℕ) → list_all (λ (step : ℕ × ℕ). test step.0) next ≡ true → is_possible next e ≡ true → test e ≡ true
+all_possible test [] e all h = absurd (false≢true h)
+all_possible test (step ∷ steps) e all h =
+    let p = and_parts (test step.0) (list_all (λ (s : ℕ × ℕ). test s.0) steps) all in
+    elim (or_cases (nat_eq step.0 e) (is_possible steps e) h) [
+      | inl same ↦ subst (λ x. test x ≡ true) (eqb-true step.0 e same) p.0
+      | inr later ↦ all_possible test steps e p.1 later
+    ]
+
+pub rest : (a b : Bool) → a ≡ true → (a && b) ≡ false → b ≡ false
+rest true b t f = f
+rest false b t f = absurd (false≢true t)
+
+pub some_possible : (test : ℕ → Bool) (next : List (ℕ × ℕ)) → list_all (λ (step : ℕ × ℕ). test step.0) next ≡ false → (e : ℕ) × (is_possible next e ≡ true) × (test e ≡ false)
+some_possible test [] none = absurd (false≢true (sym none))
+some_possible test (step ∷ steps) none = elim (cases_Bool (test step.0)) [
+  | inl passes ↦
+      let r = some_possible test steps (rest (test step.0) (list_all (λ (s : ℕ × ℕ). test s.0) steps) passes none) in
+      (r.0, or_right (nat_eq step.0 r.0) (is_possible steps r.0) r.1, r.2)
+  | inr fails ↦ (step.0, or_left (nat_eq step.0 step.0) (is_possible steps step.0) (eq-eqb step.0 step.0 refl), fails)
+]
+
+-- of each acceptance
+pub all_at : (test : List ℕ → Bool) (Ms : List (List ℕ)) (k : ℕ) → k < length Ms → list_all test Ms ≡ true → test (get_or Ms k []) ≡ true
+all_at test [] k h all = absurd (omega arith)
+all_at test (M ∷ Ms) zero h all = (and_parts (test M) (list_all test Ms) all).0
+all_at test (M ∷ Ms) (suc k) h all = all_at test Ms k (omega arith) (and_parts (test M) (list_all test Ms) all).1
+
+pub some_at : (test : List ℕ → Bool) (Ms : List (List ℕ)) → list_all test Ms ≡ false → (k : ℕ) × (k < length Ms) × (test (get_or Ms k []) ≡ false)
+some_at test [] none = absurd (false≢true (sym none))
+some_at test (M ∷ Ms) none = elim (cases_Bool (test M)) [
+  | inl passes ↦ let r = some_at test Ms (rest (test M) (list_all test Ms) passes none) in (suc r.0, (let h : r.0 < length Ms = r.1 in omega arith), r.2)
+  | inr fails ↦ (0, omega arith, fails)
+]
+
+pub any_at : (test : List ℕ → Bool) (Ms : List (List ℕ)) → list_any test Ms ≡ true → (k : ℕ) × (k < length Ms) × (test (get_or Ms k []) ≡ true)
+any_at test [] some = absurd (false≢true some)
+any_at test (M ∷ Ms) some = elim (or_cases (test M) (list_any test Ms) some) [
+  | inl here ↦ (0, omega arith, here)
+  | inr later ↦ let r = any_at test Ms later in (suc r.0, (let h : r.0 < length Ms = r.1 in omega arith), r.2)
+]
+
+-- ---- implications
+
+pub either_of : (a b : Bool) → (not a || b) ≡ true → a ≡ true → b ≡ true
+either_of true b h k = h
+either_of false b h k = absurd (false≢true k)
+
+pub neither_of : (a b : Bool) → (not a || b) ≡ false → (a ≡ true) × (b ≡ false)
+neither_of true b h = (refl, h)
+neither_of false b h = absurd (false≢true (sym h))
+
+-- a step that fails
+pub fails_here : (test : ℕ → Bool) (xs : List (ℕ × ℕ)) (i : ℕ) (x : ℕ × ℕ) → i < length xs → x ≡ get_or xs i x → test x.0 ≡ false → list_all (λ (step : ℕ × ℕ). test step.0) xs ≡ false
+fails_here test xs i x h at fails = list_all_at (λ (step : ℕ × ℕ). test step.0) xs i (0, 0) h (subst (λ (y : ℕ × ℕ). test y.0 ≡ false) (get_or_read xs i x h at (0, 0)) fails)

@@ -1,0 +1,94 @@
+-- What the parity of a link tells, and the condition on a user by tests of its explorations.
+use Rattle.std.proofs.Common.{◌≡◌, ℕ, suc, ◌+◌, ◌<◌, inl, inr, List, [], ◌∷◌, length, Bool, true, false, not, cond, nat_eq, refl, sym, ap, ◌∙◌, arith}
+use Rattle.std.proofs.lemmas.Bool.{cases_Bool, cond-true, cond-false, both_ways}
+use Rattle.csp_base.specs.Members.{has}
+use Rattle.csp_tables.specs.Table.{IsRun, end_of}
+use Rattle.csp_tables.specs.Part.{part_at}
+use Rattle.csp_tables.specs.Shape.{link_at}
+use Rattle.csp_tables.specs.Roles.{use_at}
+use Rattle.design_rules.specs.Counts.{count_in, is_odd}
+use Rattle.design_rules.specs.Resource.{holds}
+use Rattle.observed_runs.specs.Observed.{observed}
+use Rattle.observed_runs.specs.Observers.{parity_step}
+use Rattle.resource_rule.specs.Setting.{Setting, node_of}
+use Rattle.resource_rule.specs.Tests.{is_use, are_uses}
+use Rattle.resource_rule.specs.Finding.{UsesLink}
+use Rattle.resource_rule.proofs.Sets.{all_possible, some_possible}
+
+-- ---- parities
+
+-- a state after another parity
+abbrev odd_after : Bool → Bool → Bool
+odd_after true b = not b
+odd_after false b = b
+
+abbrev as_number : Bool → ℕ
+as_number true = 1
+as_number false = 0
+
+as_is : (b : Bool) → as_number b ≡ cond b 1 0
+as_is true = refl
+as_is false = refl
+
+turns_over : (a b : Bool) → odd_after (not a) b ≡ odd_after a (not b)
+turns_over true true = refl
+turns_over true false = refl
+turns_over false true = refl
+turns_over false false = refl
+
+step_on : (S : List ℕ) (a : Bool) (e : ℕ) → has S e ≡ true → parity_step S (as_number a) e ≡ as_number (not a)
+step_on S true e on = cond-true (has S e) (cond (nat_eq 1 0) 1 0) 1 on
+step_on S false e on = cond-true (has S e) (cond (nat_eq 0 0) 1 0) 0 on
+
+parity_from : (S : List ℕ) (a : Bool) (s : List ℕ) → observed (parity_step S) (as_number a) s ≡ as_number (odd_after a (is_odd (count_in S s)))
+parity_from S true [] = refl
+parity_from S false [] = refl
+parity_from S a (e ∷ s) =
+    elim (cases_Bool (has S e)) [
+      | inl on ↦
+          ap (λ n. observed (parity_step S) n s) (step_on S a e on) ∙ parity_from S (not a) s
+          ∙ ap as_number (turns_over a (is_odd (count_in S s)))
+          ∙ ap (λ b. as_number (odd_after a b)) (sym (ap is_odd (cond-true (has S e) (count_in S s + 1) (count_in S s) on ∙ next (count_in S s))))
+      | inr off ↦
+          ap (λ n. observed (parity_step S) n s) (cond-false (has S e) (cond (nat_eq (as_number a) 0) 1 0) (as_number a) off) ∙ parity_from S a s
+          ∙ ap (λ b. as_number (odd_after a b)) (sym (ap is_odd (cond-false (has S e) (count_in S s + 1) (count_in S s) off)))
+    ]
+  where
+    next : (n : ℕ) → n + 1 ≡ suc n
+    next n = omega arith
+
+-- the state is 1 where the user holds the resource, else 0
+pub parity_is : (g : Setting) (l : ℕ) (s : List ℕ) → observed (parity_step (link_at g.shape l).shared) 0 s ≡ cond (holds g.shape l s) 1 0
+parity_is g l s = parity_from (link_at g.shape l).shared false s ∙ as_is (holds g.shape l s)
+
+-- ---- U4
+
+module _ (g : Setting) (i l j : ℕ) (h : i < length g.shape.parts) where
+  abbrev parity_of : List ℕ → ℕ
+  parity_of s = observed (parity_step (link_at g.shape l).shared) 0 s
+
+  use_is : (s : List ℕ) (e : ℕ) → has (link_at g.shape l).shared e ≡ true → is_use g l j (parity_of s) e ≡ cond (holds g.shape l s) (has (use_at g.uses j).release e) (has (use_at g.uses j).acquire e)
+  use_is s e on =
+      cond-true (has (link_at g.shape l).shared e) (cond (nat_eq (parity_of s) 0) (has (use_at g.uses j).acquire e) (has (use_at g.uses j).release e)) true on
+      ∙ ap (λ n. cond (nat_eq n 0) (has (use_at g.uses j).acquire e) (has (use_at g.uses j).release e)) (parity_is g l s)
+      ∙ by_parity (holds g.shape l s) (has (use_at g.uses j).acquire e) (has (use_at g.uses j).release e)
+    where
+      by_parity : (b x y : Bool) → cond (nat_eq (cond b 1 0) 0) x y ≡ cond b y x
+      by_parity true x y = refl
+      by_parity false x y = refl
+
+  is_on_link : (state e : ℕ) → is_use g l j state e ≡ false → has (link_at g.shape l).shared e ≡ true
+  is_on_link state e broken = elim (cases_Bool (has (link_at g.shape l).shared e)) [
+    | inl on ↦ on
+    | inr off ↦ absurd (both_ways (is_use g l j state e) broken (cond-false (has (link_at g.shape l).shared e) (cond (nat_eq state 0) (has (use_at g.uses j).acquire e) (has (use_at g.uses j).release e)) true off))
+  ]
+
+  pub uses_link : ((s : List ℕ) → IsRun (part_at g.shape.parts i).table s → are_uses g i l j (end_of (part_at g.shape.parts i).table 0 s, observed (parity_step (link_at g.shape l).shared) 0 s) ≡ true) → (s : List ℕ) → UsesLink g i l j s
+  uses_link all s e possible on =
+      sym (use_is s e on) ∙ all_possible (is_use g l j (parity_of s)) (node_of g i (end_of (part_at g.shape.parts i).table 0 s)).next e (all s possible.runs.follows) possible.next
+
+  pub not_in_use : (s : List ℕ) → IsRun (part_at g.shape.parts i).table s → are_uses g i l j (end_of (part_at g.shape.parts i).table 0 s, observed (parity_step (link_at g.shape l).shared) 0 s) ≡ false → UsesLink g i l j s → ⊥
+  not_in_use s run broken used =
+      let x = some_possible (is_use g l j (parity_of s)) (node_of g i (end_of (part_at g.shape.parts i).table 0 s)).next broken in
+      let on = is_on_link (parity_of s) x.0 x.2 in
+      both_ways (is_use g l j (parity_of s) x.0) x.2 (use_is s x.0 on ∙ used x.0 (record { runs = record { part = h; follows = run }; next = x.1 }) on)

@@ -1,0 +1,13 @@
+use Rattle.std.proofs.Common.{◌≡◌, ◌<◌, ℕ, List, length}
+use Rattle.digraph.specs.Digraph.{HasArc}
+use Rattle.design_rules.specs.Resource.{IsHeldWhile, UsesInTurn}
+use Rattle.resource_rule.specs.Setting.{IsUser}
+use Rattle.resource_rule.proofs.users.holdings.Given as goal
+
+abbrev pub invariant-loop-part : goal.invariant-loop-part
+invariant-loop-part l = record {
+  count : length l.rows ≡ length l.prepared.shape.parts;
+  users : (j : ℕ) (t : List ℕ) → j < l.part → IsUser l.prepared j → UsesInTurn l.prepared.shape l.prepared.uses j t;
+  sound : (j m : ℕ) → HasArc l.rows j m → IsHeldWhile l.prepared.shape l.prepared.uses m j;
+  complete : (j m : ℕ) (h : IsHeldWhile l.prepared.shape l.prepared.uses m j) → h.user < l.part → HasArc l.rows j m;
+}

@@ -1,0 +1,14 @@
+use Rattle.std.proofs.Common.{◌≡◌, ◌∙◌, ℕ, List, false, ap, sym, subst}
+use Rattle.std.specs.List.{list_all}
+use Rattle.csp_tables.specs.Table.{Node}
+use Rattle.resource_rule.specs.Tests.{is_use}
+use Rattle.resource_rule.proofs.Sets.{fails_here}
+use Rattle.resource_rule.proofs.users.uses_at.Goals as goal
+
+pub returns-then-not-use_in_turn : goal.returns-then-not-use_in_turn
+returns-then-not-use_in_turn c =
+    let test = is_use c.args.prepared.now c.args.link c.args.other c.args.pair.1 in
+    let items = c.next-event-items.result.now in
+    let steps = c.next-event-items.ensures ∙ ap (λ (n : Node). n.next) c.node.ensures in
+    sym (subst (λ (xs : List (ℕ × ℕ)). list_all (λ (step : ℕ × ℕ). is_use c.args.prepared.now c.args.link c.args.other c.args.pair.1 step.0) xs ≡ false) steps
+    (fails_here test items c.loop-event.event-index c.loop-event-item.result c.loop-event-test.true c.loop-event-item.is (sym c.use_in_turn.ensures ∙ c.if-not-use_in_turn.true)))

@@ -1,0 +1,41 @@
+//! The numbers of the resources: how many must be acquired before each, in a chain.
+
+ghost use Rattle.std.specs.Prelude.{◌≡◌, ◌<◌, ℕ, All, IfErr, IfOk, length};
+ghost use Rattle.design_rules.specs.Resource.{IsHeldWhile, KeepUses, ResourcesRise};
+ghost use Rattle.design_rules.specs.ResourceRanking.{AreResourceNumbers};
+ghost use Rattle.digraph.specs.Digraph.{HasArc};
+ghost use Rattle.resource_rule.specs.Ranks.{number_by};
+ghost use Rattle.resource_rule.specs.Setting.{TellsOf};
+
+use crate::circle::turned;
+use crate::fault::ResourceFault;
+use crate::prepared::Prepared;
+use digraph::{Fault, Heights, Rows, longest_walks};
+use std::alloc::Global;
+
+// For each resource the greatest number of resources that must be numbered below it in a chain.
+pub(crate) fn numbers(
+    alloc: Global,
+    prepared: &Prepared<'_>,
+    rows: &Rows,
+) -> Result<Heights, ResourceFault>
+    requires keep { KeepUses prepared.now.shape prepared.now.uses }
+    requires count { length rows.now ≡ length prepared.now.shape.parts }
+    requires sound { (j m : ℕ) → HasArc rows.now j m → IsHeldWhile prepared.now.shape prepared.now.uses m j }
+    requires complete { (j m : ℕ) → IsHeldWhile prepared.now.shape prepared.now.uses m j → HasArc rows.now j m }
+    ensures count { IfOk result (λ heights. length heights ≡ length prepared.now.shape.parts) }
+    ensures below { IfOk result (λ heights. All (λ height. height < length prepared.now.shape.parts) heights) }
+    ensures numbers { IfOk result (λ heights. AreResourceNumbers prepared.now.shape prepared.now.uses (number_by heights)) }
+    ensures rise { IfOk result (λ heights. ResourcesRise prepared.now.shape prepared.now.uses (number_by heights)) }
+    ensures fault { IfErr result (λ fault. TellsOf prepared.now fault) }
+{
+    let _form = prepared.shape();
+    match longest_walks(alloc, rows) {
+        Ok(heights) => Ok(heights),
+        Err(Fault::Circle(circle)) => {
+            let resources = turned(alloc, circle.members())?;
+            Err(ResourceFault::ResourcesCircle { resources })
+        }
+        Err(Fault::NoMemory) => Err(ResourceFault::NoMemory),
+    }
+}

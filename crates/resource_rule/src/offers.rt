@@ -1,0 +1,158 @@
+//! What a user offers while it holds a resource, and which resources that acquires.
+
+ghost use Rattle.std.specs.Prelude.{◌≡◌, ◌<◌, ◌&&◌, ◌||◌, ℕ, Some, true, IfOk, OnOk, length, nat_eq};
+ghost use Rattle.csp_base.specs.Members.{has};
+ghost use Rattle.csp_base.specs.Events.{is_subset_of};
+ghost use Rattle.csp_tables.specs.Part.{part_at};
+ghost use Rattle.design_rules.specs.Resource.{acquires};
+ghost use Rattle.digraph.specs.Digraph.{has_arc};
+ghost use Rattle.resource_rule.specs.Finding.{HaveNodes};
+ghost use Rattle.resource_rule.specs.Links.{is_acquired_by};
+ghost use Rattle.resource_rule.specs.Setting.{KeepKinds, node_of};
+ghost use Rattle.resource_rule.specs.Tests.{is_offered, is_offered_at};
+
+use crate::prepared::Prepared;
+use csp_base::{Event, EventSet, NoMemory};
+use digraph::Rows;
+use std::alloc::Global;
+
+// The events of the acceptances in the vocabulary at the pairs with the state 1.
+pub(crate) fn offered(
+    alloc: Global,
+    prepared: &Prepared<'_>,
+    part: u32,
+    pairs: &[(u32, u32)],
+) -> Result<EventSet, NoMemory>
+    requires part { part < length prepared.now.shape.parts }
+    requires nodes { HaveNodes prepared.now part pairs.now }
+    ensures { IfOk result (λ events. (e : ℕ) → has events e ≡ is_offered_at prepared.now part pairs.now e) }
+{
+    let mut events = EventSet::new(alloc);
+    for place in 0..pairs.len() {
+        events = with_pair(alloc, prepared, part, pairs[place], events)?;
+    }
+    Ok(events)
+}
+
+// The events, and what is offered at the pair if its state is 1.
+fn with_pair(
+    alloc: Global,
+    prepared: &Prepared<'_>,
+    part: u32,
+    pair: (u32, u32),
+    events: EventSet,
+) -> Result<EventSet, NoMemory>
+    requires part { part < length prepared.now.shape.parts }
+    requires node { pair.0 < length (part_at prepared.now.shape.parts part).table }
+    ensures { IfOk result (λ made. (e : ℕ) → has made e ≡ (has events e || (nat_eq pair.1 1 && is_offered prepared.now.shape.vocabulary (node_of prepared.now part pair.0).accept e))) }
+{
+    let (node, state) = pair;
+    if state != 1 {
+        return Ok(events);
+    }
+    let accept = prepared.node(part, node).accept();
+    with_offers(alloc, prepared.shape().vocabulary(), accept, events)
+}
+
+// The events, and those of the acceptances that lie in the vocabulary.
+fn with_offers(
+    alloc: Global,
+    vocabulary: &EventSet,
+    accept: &[EventSet],
+    events: EventSet,
+) -> Result<EventSet, NoMemory>
+    ensures { IfOk result (λ made. (e : ℕ) → has made e ≡ (has events e || is_offered vocabulary.now accept.now e)) }
+{
+    let mut made = events;
+    for set in accept {
+        made = with_set(alloc, vocabulary, set, made)?;
+    }
+    Ok(made)
+}
+
+// The events, and those of the set if it lies in the vocabulary.
+fn with_set(
+    alloc: Global,
+    vocabulary: &EventSet,
+    set: &EventSet,
+    events: EventSet,
+) -> Result<EventSet, NoMemory>
+    ensures { IfOk result (λ made. (e : ℕ) → has made e ≡ (has events e || (is_subset_of set.now vocabulary.now && has set.now e))) }
+{
+    if !set.is_subset(vocabulary) {
+        return Ok(events);
+    }
+    if set.is_subset(&events) {
+        return Ok(events);
+    }
+    events.union(alloc, set)
+}
+
+// An arc from each resource that the events acquire to the one that is held.
+pub(crate) fn add_arcs(
+    prepared: &Prepared<'_>,
+    rows: &mut Rows,
+    held: u32,
+    events: &EventSet,
+) -> Result<(), NoMemory>
+    requires kinds { KeepKinds prepared.now }
+    requires count { length rows.old ≡ length prepared.now.shape.parts }
+    requires held { held < length rows.old }
+    ensures count { length rows.new ≡ length rows.old }
+    ensures arcs { OnOk result ((j m : ℕ) → has_arc rows.new j m ≡ (has_arc rows.old j m || (acquires prepared.now.uses events.now j && nat_eq held m))) }
+{
+    for event in events.iter() {
+        add_arc(prepared, rows, held, event)?;
+    }
+    Ok(())
+}
+
+// An arc from the resource that the event acquires to the one that is held.
+fn add_arc(
+    prepared: &Prepared<'_>,
+    rows: &mut Rows,
+    held: u32,
+    event: Event,
+) -> Result<(), NoMemory>
+    requires kinds { KeepKinds prepared.now }
+    requires count { length rows.old ≡ length prepared.now.shape.parts }
+    requires held { held < length rows.old }
+    ensures count { length rows.new ≡ length rows.old }
+    ensures arcs { OnOk result ((j m : ℕ) → has_arc rows.new j m ≡ (has_arc rows.old j m || (is_acquired_by prepared.now j event && nat_eq held m))) }
+{
+    let Some(resource) = acquired(prepared, event) else {
+        return Ok(());
+    };
+    rows.add_arc(resource, held)?;
+    Ok(())
+}
+
+// The resource that the event acquires.
+pub(crate) fn acquired(prepared: &Prepared<'_>, event: Event) -> Option<u32>
+    requires { KeepKinds prepared.now }
+    ensures within { (j : ℕ) → result ≡ Some j → j < length prepared.now.shape.parts }
+    ensures found { (j : ℕ) → result ≡ Some j → is_acquired_by prepared.now j event ≡ true }
+    ensures owned { (j : ℕ) → is_acquired_by prepared.now j event ≡ true → result ≡ Some j }
+{
+    let _form = prepared.shape();
+    let link = prepared.owner(event)?;
+    let ends = prepared.link(link);
+    let left = ends.left();
+    let right = ends.right();
+    if is_acquired(prepared, left, event) {
+        return Some(left);
+    }
+    if is_acquired(prepared, right, event) {
+        return Some(right);
+    }
+    None
+}
+
+// Whether the part is a resource that the event acquires.
+fn is_acquired(prepared: &Prepared<'_>, part: u32, event: Event) -> bool
+    requires { part < length prepared.now.shape.parts }
+    ensures { result ≡ is_acquired_by prepared.now part event }
+{
+    let uses = prepared.uses(part);
+    uses.is_resource() && uses.acquire().contains(event)
+}
