@@ -1,6 +1,6 @@
 //! The program of a script.
 
-ghost use Rattle.std.specs.Prelude.{◌≡◌, Some, List, OnOk};
+ghost use Rattle.std.specs.Prelude.{◌≡◌, Some, List, IfOk, OnOk};
 ghost use Rattle.std.specs.Option.{option_copied};
 ghost use Rattle.csp_program.specs.declared.programs.Content.{Content};
 ghost use Rattle.csp_resolve.specs.Answers.{Answers, types_read};
@@ -13,6 +13,7 @@ ghost use Rattle.script_names.specs.Resolved as meant;
 ghost use Rattle.script_names.specs.Resolved.{and_next};
 
 use crate::events::{channel_sets, fill_table};
+use containers::Boxed;
 use csp_base::NoMemory;
 use csp_program::{Content, Program};
 use csp_text::{Decl, Script, Tree};
@@ -25,9 +26,16 @@ use script_contents::plain_content;
 use script_names::{Kind, ResolveFault};
 use std::alloc::Global;
 
+// The program on the heap, where it ends in a function of its own.
+fn boxed(alloc: Global, program: Program) -> Result<Boxed<Program>, NoMemory>
+    ensures { IfOk result (λ made. made ≡ program) }
+{
+    Ok(Boxed::new(alloc, program)?)
+}
+
 /// The program of a script. A fault is told exactly where the script has no program, and it is the first in this order: no deadlock assertion, a name
 /// fault, a type of a channel without a value that fits, too many events.
-pub fn resolve(alloc: Global, script: &Script) -> Result<Program, ResolveFault>
+pub fn resolve(alloc: Global, script: &Script) -> Result<Boxed<Program>, ResolveFault>
     ensures { meant.Resolves script.now result }
 {
     programs_are_in_order();
@@ -35,7 +43,8 @@ pub fn resolve(alloc: Global, script: &Script) -> Result<Program, ResolveFault>
     let names = dictionary_of(alloc, decls)?;
     let kinds = kinds_of(alloc, decls, &names)?;
     let content = resolved(alloc, decls, &names, kinds.as_slice())?;
-    Ok(Program::new(content))
+    let program = boxed(alloc, Program::new(content))?;
+    Ok(program)
 }
 
 // What the program of declarations holds whose definitions are of these kinds.

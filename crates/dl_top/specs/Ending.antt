@@ -2,9 +2,9 @@
 use Rattle.std.specs.Prelude.{◌≡◌, ◌⊎◌, ℕ, List, ◌++◌, Option}
 use Rattle.dl_outside.specs.Count.{HasRisen}
 use Rattle.dl_outside.specs.Write.{GrowsBy}
-use Rattle.dl_top.specs.declared.answer.Answer.{Answer}
-use Rattle.dl_top.specs.declared.answer.Answer.TheVariants.{ScriptNotFound, ScriptNotRead}
-use Rattle.dl_top.specs.Report.{report_text, status}
+use Rattle.report.specs.declared.answer.Answer.TheVariants.{ScriptNotFound, ScriptNotRead}
+use Rattle.dl_top.specs.Reply.{plain, reply_status, reply_text}
+use Rattle.dl_top.specs.declared.reply.Reply.{Reply}
 
 -- What was sent, where it is told, has grown by a front of the report: perhaps nothing, perhaps all of it.
 abbrev pub GrowsByFront : Option (List ℕ) → Option (List ℕ) → List ℕ → Type 0
@@ -23,22 +23,22 @@ sink_signs sent_before sent_after faults_before faults_after = record {
   rose = HasRisen faults_before faults_after;
 }
 
--- The whole report of an answer, with its status.
-abbrev pub EndsWhole : (Answer → Type 0) → SinkSigns → ℕ → Type 0
-EndsWhole Cause sink result = (answer : Answer) × Cause answer × GrowsBy sink.old sink.new (report_text answer) × (result ≡ status answer)
+-- The whole text of a reply, with its status.
+abbrev pub EndsWhole : (Reply → Type 0) → SinkSigns → ℕ → Type 0
+EndsWhole Cause sink result = (reply : Reply) × Cause reply × GrowsBy sink.old sink.new (reply_text reply) × (result ≡ reply_status reply)
 
 -- A fault of the sink: a front of the report.
-abbrev pub EndsBroken : (Answer → Type 0) → SinkSigns → ℕ → Type 0
-EndsBroken Cause sink result = (answer : Answer) × Cause answer × sink.rose × GrowsByFront sink.old sink.new (report_text answer) × (result ≡ 4)
+abbrev pub EndsBroken : (Reply → Type 0) → SinkSigns → ℕ → Type 0
+EndsBroken Cause sink result = (reply : Reply) × Cause reply × sink.rose × GrowsByFront sink.old sink.new (reply_text reply) × (result ≡ 4)
 
 -- Want of memory: nothing, or a front of a report.
-abbrev pub EndsShort : (Answer → Type 0) → SinkSigns → ℕ → Type 0
-EndsShort Cause sink result = ((sink.new ≡ sink.old) ⊎ ((answer : Answer) × Cause answer × GrowsByFront sink.old sink.new (report_text answer))) × (result ≡ 5)
+abbrev pub EndsShort : (Reply → Type 0) → SinkSigns → ℕ → Type 0
+EndsShort Cause sink result = ((sink.new ≡ sink.old) ⊎ ((reply : Reply) × Cause reply × GrowsByFront sink.old sink.new (reply_text reply))) × (result ≡ 5)
 
-abbrev pub Ends : (Answer → Type 0) → SinkSigns → ℕ → Type 0
+abbrev pub Ends : (Reply → Type 0) → SinkSigns → ℕ → Type 0
 Ends Cause sink result = EndsWhole Cause sink result ⊎ EndsBroken Cause sink result ⊎ EndsShort Cause sink result
 
 -- The whole line of a fault of the shelf.
-abbrev pub EndsInShelfFault : (Answer → Type 0) → SinkSigns → Type 0
+abbrev pub EndsInShelfFault : (Reply → Type 0) → SinkSigns → Type 0
 EndsInShelfFault Cause sink =
-    (answer : Answer) × ((answer ≡ ScriptNotFound) ⊎ (answer ≡ ScriptNotRead)) × Cause answer × GrowsBy sink.old sink.new (report_text answer)
+    (reply : Reply) × ((reply ≡ plain ScriptNotFound) ⊎ (reply ≡ plain ScriptNotRead)) × Cause reply × GrowsBy sink.old sink.new (reply_text reply)

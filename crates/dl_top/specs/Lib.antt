@@ -1,6 +1,6 @@
 pub mod Cause
-pub mod Command
 pub mod Ending
 pub mod Judgement
+pub mod Printing
 pub mod Proved
-pub mod Report
+pub mod Reply

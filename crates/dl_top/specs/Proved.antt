@@ -1,36 +1,64 @@
 -- What status 0 promises.
-use Rattle.std.specs.Prelude.{◌≡◌, ℕ, List, length, Option, Some}
-use Rattle.csp_text.specs.declared.script.Script.{Script}
+use Rattle.std.specs.Prelude.{◌≡◌, ℕ, ℤ, List, length, map, Option, Some, slice_get}
+use Rattle.command_words.specs.Command.{Asks, AsksForTrial}
+use Rattle.command_words.specs.declared.command.Command.TheVariants.{Check, Show, Table}
+use Rattle.command_words.specs.declared.command.Trial.{Trial}
 use Rattle.csp_parser.specs.Spells.{Spells}
-use Rattle.script_printer.specs.PrintedScript.{script_text}
-use Rattle.csp_tables.specs.Network.{leaves}
-use Rattle.csp_terms.specs.Network.{Network, SpellsNetwork, IsLive, HasSilentBound}
+use Rattle.csp_program.specs.declared.processes.Proc.{Proc}
+use Rattle.csp_tables.specs.Network.{Component, leaves}
+use Rattle.csp_tables.specs.Part.{Part}
+use Rattle.csp_tables.specs.ShapeOf.{IsPartOf}
+use Rattle.csp_tables.specs.declared.rule.Rule.{Rule}
+use Rattle.csp_text.specs.declared.script.Script.{Script}
 use Rattle.dl_outside.specs.declared.texts.NamedText.{NamedText}
 use Rattle.dl_outside.specs.Texts.{text_of}
 use Rattle.dl_outside.specs.Write.{GrowsBy}
-use Rattle.dl_top.specs.declared.words.Command.TheVariants.{Check, Show}
-use Rattle.csp_tables.specs.declared.rule.Rule.{Rule}
-use Rattle.dl_top.specs.declared.answer.Answer.TheVariants.{DeadlockFree}
-use Rattle.dl_top.specs.Command.{Asks}
-use Rattle.dl_top.specs.Judgement.{SpellsOnlyScript}
-use Rattle.dl_top.specs.Report.{report_text}
+use Rattle.judgement.specs.Networks.{HasSilentBound, IsLive, Network}
+use Rattle.process_steps.specs.ComponentStep.{ProcessStep}
+use Rattle.report.specs.Report.{report_text}
+use Rattle.report.specs.declared.answer.Answer.{Answer}
+use Rattle.report.specs.declared.answer.Answer.TheVariants as answer
+use Rattle.script_printer.specs.PrintedScript.{script_text}
+use Rattle.tabulation.specs.Printed.{printed_node}
+use Rattle.dl_top.specs.Judgement.{SpellsNetwork, SpellsOnlyScript}
+use Rattle.dl_top.specs.Reply.{reply_text, rule_of, trial_text}
 
--- The words ask for the judgement of a script. Its text spells this network and no other. From every state that some run of the network
--- reaches, at most `bound` silent steps follow one another, and a state without a silent step has an event; and `bound`
--- is exactly the network's silent bound. The sink, where it tells, grew by exactly the report that prints it.
+-- The text spells this network and no other.
+pub record SpellsOnlyNetwork (text : List ℕ) (network : Network) : Type 0 where
+  pub spelled : SpellsNetwork text network
+  pub only : (other : Network) → SpellsNetwork text other → other ≡ network
+
+-- The text spells exactly one network. From every state that some run of the network reaches, at most `bound` silent steps follow one another, and
+-- a state without a silent step has an event; and `bound` is exactly the network's silent bound. The answer prints it, beside what was counted on
+-- the way.
+pub record SpellsDeadlockFree (text : List ℕ) (rule : Rule) (told : Answer) : Type 0 where
+  pub network : Network
+  pub spells : SpellsOnlyNetwork text network
+  pub bound : ℕ
+  pub live : IsLive network bound
+  pub exact : HasSilentBound network bound
+  pub nodes : ℕ
+  pub greatest_rank : ℤ
+  pub is : told ≡ answer.DeadlockFree rule (length (leaves network.tree)) nodes bound greatest_rank
+
+-- The words ask for the judgement of a script, whose text spells a network free of deadlock. The sink, where it tells, grew by exactly the report.
 pub record IsProved (texts : List NamedText) (words : List (List ℕ)) (old new : Option (List ℕ)) : Type 0 where
   pub rule : Rule
   pub name : List ℕ
   pub asked : Asks words (Check rule) name
   pub text : List ℕ
   pub held : text_of texts name ≡ Some text
-  pub network : Network
-  pub spelled : SpellsNetwork text network
-  pub only : (other : Network) → SpellsNetwork text other → other ≡ network
-  pub bound : ℕ
-  pub live : IsLive network bound
-  pub exact : HasSilentBound network bound
-  pub printed : GrowsBy old new (report_text (DeadlockFree rule (length (leaves network.tree)) bound))
+  pub told : Answer
+  pub free : SpellsDeadlockFree text rule told
+  pub printed : GrowsBy old new (report_text told)
+
+-- The words ask for a trial, and the text of its family spells a network free of deadlock. The sink, where it tells, grew by exactly the report.
+pub record IsTried (words : List (List ℕ)) (old new : Option (List ℕ)) : Type 0 where
+  pub trial : Trial
+  pub asked : AsksForTrial words trial
+  pub told : Answer
+  pub free : SpellsDeadlockFree (trial_text trial) (rule_of trial.family) told
+  pub printed : GrowsBy old new (reply_text (record { trial = Some trial; answer = told }))
 
 -- The words ask for a script to be shown. Its text spells this script and no other. The sink, where it tells, grew by exactly the printed text of
 -- the script, and this text spells the same script again, and no other.
@@ -44,3 +72,19 @@ pub record IsShown (texts : List NamedText) (words : List (List ℕ)) (old new :
   pub only : (other : Script) → Spells text other → other ≡ script
   pub printed : GrowsBy old new (script_text script)
   pub again : SpellsOnlyScript (script_text script) script
+
+-- The words ask for the table of a component. The text spells exactly one network, of which this is the component in the place i. The sink, where it
+-- tells, grew by exactly the component's normal table, printed.
+pub record IsTold (texts : List NamedText) (words : List (List ℕ)) (old new : Option (List ℕ)) : Type 0 where
+  pub i : ℕ
+  pub name : List ℕ
+  pub asked : Asks words (Table i) name
+  pub text : List ℕ
+  pub held : text_of texts name ≡ Some text
+  pub network : Network
+  pub spells : SpellsOnlyNetwork text network
+  pub component : Component Proc
+  pub there : slice_get (leaves network.tree) i ≡ Some component
+  pub part : Part
+  pub normal : IsPartOf (ProcessStep network.program) component part
+  pub printed : GrowsBy old new (report_text (answer.Table i (length (leaves network.tree)) (map (printed_node network.program) part.table)))

@@ -1,42 +1,25 @@
-//! The judgement of a script.
+//! The answer to the text of a script.
 
-ghost use Rattle.std.specs.Prelude.{ℕ, List, IfOk};
-ghost use Rattle.dl_top.specs.Judgement.{IsJudged, ScriptDecides, SpellsOnlyScript, Tells, TextCallsFor};
+ghost use Rattle.std.specs.Prelude.{IfOk};
+ghost use Rattle.dl_top.specs.Judgement.{ScriptDecides, Tells, TextCallsFor};
 
-use crate::answer::Answer;
-use crate::words::Command;
+use command_words::Command;
 use csp_base::NoMemory;
 use csp_parser::{ParseFault, each_text_spells_one_script, read};
-use csp_syntax::single_process;
-use csp_tables::Rule;
-use csp_terms::silent_bound;
 use csp_text::Script;
+use judgement::judged;
+use report::{Answer, Refusal};
 use script_printer::print_script;
 use std::alloc::Global;
+use tabulation::tabulated;
 
-// The answer that a script calls for where it is judged by the rule, whatever text spells it.
-fn judged(alloc: Global, rule: Rule, script: &Script) -> Result<Answer, NoMemory>
-    ensures { IfOk result (λ answer. (text : List ℕ) → SpellsOnlyScript text script.now → IsJudged text rule answer) }
-{
-    if rule != Rule::Cyclic {
-        return Ok(Answer::NotBuilt);
-    }
-    match single_process(alloc, script)? {
-        None => Ok(Answer::NotBuilt),
-        Some(process) => Ok(Answer::DeadlockFree {
-            rule,
-            components: 1,
-            bound: silent_bound(&process),
-        }),
-    }
-}
-
-// The answer that a script calls for under the command, whatever text spells it.
+// The answer that a script calls for under the command.
 fn answered(alloc: Global, command: Command, script: &Script) -> Result<Answer, NoMemory>
-    ensures { IfOk result (λ answer. (text : List ℕ) → SpellsOnlyScript text script.now → ScriptDecides text command script.now answer) }
+    ensures { IfOk result (ScriptDecides command script.now) }
 {
     match command {
         Command::Check(rule) => judged(alloc, rule, script),
+        Command::Table(index) => tabulated(alloc, script, index),
         Command::Show => {
             let text = print_script(alloc, script)?;
             Ok(Answer::Shown { text })
@@ -49,7 +32,7 @@ fn fault_answer(fault: ParseFault) -> Result<Answer, NoMemory>
     ensures { IfOk result (Tells fault) }
 {
     match fault {
-        ParseFault::NoScript { at } => Ok(Answer::NoScript { at }),
+        ParseFault::NoScript { at } => Ok(Answer::Refused(Refusal::NoScript { at })),
         ParseFault::NoMemory => Err(NoMemory),
     }
 }

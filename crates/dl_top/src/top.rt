@@ -3,15 +3,13 @@
 ghost use Rattle.std.specs.Prelude.{◌≡◌, ◌≢◌, ◌≤◌, IfSome};
 ghost use Rattle.dl_outside.specs.Count.{HasRisen};
 ghost use Rattle.dl_top.specs.Cause.{CallsFor, MayGive, shelf_signs};
-ghost use Rattle.dl_top.specs.Command.{AsksForCheck, AsksForShow, IsNoCommand};
+ghost use Rattle.command_words.specs.Command.{AsksForCheck, AsksForShow, AsksForSomeTrial, AsksForTable, NamesNoScript};
 ghost use Rattle.dl_top.specs.Ending.{Ends, EndsInShelfFault, EndsWhole, sink_signs};
-ghost use Rattle.dl_top.specs.Proved.{IsProved, IsShown};
+ghost use Rattle.dl_top.specs.Proved.{IsProved, IsShown, IsTold, IsTried};
 
-use crate::answer::status_of;
-use crate::load::answer_of;
-use crate::report::report_of;
+use crate::load::printed_reply;
 use crate::send::send;
-use crate::words::Words;
+use command_words::Words;
 use dl_outside::{Shelf, Sink, SinkFault};
 use print_laws::printed_text_spells_the_script;
 use std::alloc::Global;
@@ -22,17 +20,23 @@ const NO_MEMORY: u8 = 5;
 /// The exit status for a fault outside.
 const OUTSIDE_FAULT: u8 = 4;
 
-/// Does what the words ask for, sends the report, and answers the exit status: 0 proved or shown, 2 refused, 3 no command, 4 a
+/// Does what the words ask for, sends the report, and answers the exit status: 0 proved or shown, 1 not proved, 2 refused, 3 no command, 4 a
 /// fault of the shelf or the sink, 5 want of memory.
 pub fn dl_main<S: Shelf, O: Sink>(alloc: Global, words: &Words, shelf: &mut S, out: &mut O) -> u8
     // The theorem: where a script is judged with status 0, its text spells exactly one network, which is free of deadlock.
     ensures proved { AsksForCheck words.now → result ≡ 0 → IfSome (S.texts shelf.old) (λ texts. IsProved texts words.now (O.sent out.old) (O.sent out.new)) }
 
+    // The same of the script of a family, where a trial ends with status 0.
+    ensures tried { AsksForSomeTrial words.now → result ≡ 0 → IsTried words.now (O.sent out.old) (O.sent out.new) }
+
     // Where a script is shown with status 0, its text spells exactly one script, and what was sent is the printed text of that, which
     // spells it again and no other.
     ensures shown { AsksForShow words.now → result ≡ 0 → IfSome (S.texts shelf.old) (λ texts. IsShown texts words.now (O.sent out.old) (O.sent out.new)) }
 
-    // Each answer has its cause. A front of a report is sent only where the sink has a fault or memory runs out.
+    // Where the table of a component is printed with status 0, it is exactly the component's normal table.
+    ensures told { AsksForTable words.now → result ≡ 0 → IfSome (S.texts shelf.old) (λ texts. IsTold texts words.now (O.sent out.old) (O.sent out.new)) }
+
+    // Each reply has its cause. A front of a report is sent only where the sink has a fault or memory runs out.
     ensures ends { Ends
         (MayGive (S.texts shelf.old) words.now (shelf_signs (S.faults shelf.old) (S.faults shelf.new) (S.taken shelf.old) (S.taken shelf.new)))
         (sink_signs (O.sent out.old) (O.sent out.new) (O.faults out.old) (O.faults out.new))
@@ -48,23 +52,20 @@ pub fn dl_main<S: Shelf, O: Sink>(alloc: Global, words: &Words, shelf: &mut S, o
         → IfSome (S.texts shelf.old) (λ texts. EndsWhole (CallsFor texts words.now)
         (sink_signs (O.sent out.old) (O.sent out.new) (O.faults out.old) (O.faults out.new)) result) }
 
-    // Words that are no command leave the shelf alone.
-    ensures untouched { IsNoCommand words.now → shelf.new ≡ shelf.old }
+    // Words that name no script leave the shelf alone.
+    ensures untouched { NamesNoScript words.now → shelf.new ≡ shelf.old }
 
     ensures texts_stay { S.texts shelf.new ≡ S.texts shelf.old }
     ensures shelf_faults_never_fall { S.faults shelf.old ≤ S.faults shelf.new }
     ensures taken_never_falls { S.taken shelf.old ≤ S.taken shelf.new }
     ensures sink_faults_never_fall { O.faults out.old ≤ O.faults out.new }
 {
-    let Ok(answer) = answer_of(alloc, words, shelf) else {
-        return NO_MEMORY;
-    };
-    let Ok(report) = report_of(alloc, &answer) else {
+    let Ok(printed) = printed_reply(alloc, words, shelf) else {
         return NO_MEMORY;
     };
     printed_text_spells_the_script();
-    match send(out, report.as_slice()) {
-        Ok(()) => status_of(&answer),
+    match send(out, printed.text.as_slice()) {
+        Ok(()) => printed.status,
         Err(SinkFault::Failed) => OUTSIDE_FAULT,
         Err(SinkFault::NoMemory) => NO_MEMORY,
     }

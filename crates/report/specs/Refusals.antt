@@ -70,4 +70,3 @@ refusal_text (refusal.Network fault) = network_text fault
 refusal_text (refusal.Component i fault) = component_text i fault
 refusal_text (refusal.NoComponent n) = codes "35 there are " ++ decimal n ++ codes " components"
 refusal_text refusal.ScriptTooLong = codes "36 script is too long"
-refusal_text refusal.NotBuilt = codes "40 not built yet"

@@ -131,8 +131,6 @@ pub enum Refusal {
         /// How many components there are.
         count: u32,
     },
-    /// The script or the rule is none of those that are judged so far (40).
-    NotBuilt,
 }
 
 /// Why a network is not proved.

@@ -193,6 +193,5 @@ pub(crate) fn refusal_line(alloc: Global, refusal: &Refusal) -> Result<Bytes, No
             between(alloc, b"35 there are ", u64::from(*count), b" components")
         }
         Refusal::ScriptTooLong => Bytes::from_slice(alloc, b"36 script is too long"),
-        Refusal::NotBuilt => Bytes::from_slice(alloc, b"40 not built yet"),
     }
 }

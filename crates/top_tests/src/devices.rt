@@ -10,7 +10,8 @@ use std::test::Fail;
 
 const SCRIPT: &[u8] = b"channel a\nP = a -> P\nassert P :[deadlock free]\n";
 
-const PROVED: &[u8] = b"deadlock-free\nrule cyclic\ncomponents 1\nsilent bound 1\n";
+const PROVED: &[u8] =
+    b"deadlock-free\nrule cyclic\ncomponents 1\nnodes 1\nsilent bound 1\ngreatest rank 0\n";
 
 const CHECK: [&[u8]; 3] = [b"check", b"cyclic", b"one.csp"];
 

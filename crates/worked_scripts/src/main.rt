@@ -1,7 +1,9 @@
-//! Runs the commands on texts that stand in files, and prints what they answer: `worked_scripts TEXTS SCRIPT`.
+//! Runs the commands on texts that stand in files, and prints what they answer: `worked_scripts TEXTS SCRIPT ROWS`.
 //!
 //! The file TEXTS holds texts, each below a line that begins with `=== ` and says what the text is an example of. Each is shown, what was shown is
-//! shown again, and each is judged. Of the text in the file SCRIPT, each front is shown.
+//! shown again, and each is judged. Of the text in the file SCRIPT, each front is shown, and judged by the rule of users and resources. The file ROWS
+//! holds texts too, each below a line that begins with `=== ` and has the words of a command, with SCRIPT for the text, then a colon, and what the text
+//! is an example of.
 #![tactic(auto)]
 
 use csp_base::{Bytes, NoMemory};
@@ -23,6 +25,8 @@ const SHOW: [&[u8]; 2] = [b"show", b"text"];
 
 const CHECK: [&[u8]; 3] = [b"check", b"cyclic", b"text"];
 
+const CHECK_RESOURCE: [&[u8]; 3] = [b"check", b"resource", b"text"];
+
 /// What is printed before the place of a text that is no script.
 const NO_SCRIPT: &[u8] = b"refused\n1 no script near line ";
 
@@ -32,10 +36,15 @@ fn answered(alloc: Global, words: &[&[u8]], text: &[u8]) -> Result<(u8, SureSink
     for word in words {
         asked.push(word)?;
     }
+    answered_words(alloc, &asked, text)
+}
+
+/// The same of the words of a command line.
+fn answered_words(alloc: Global, asked: &Words, text: &[u8]) -> Result<(u8, SureSink), NoMemory> {
     let mut shelf = SureShelf::new(alloc);
     shelf.put_text(b"text", text)?;
     let mut out = SureSink::new(alloc, u32::MAX);
-    let status = dl_sure(alloc, &asked, &mut shelf, &mut out);
+    let status = dl_sure(alloc, asked, &mut shelf, &mut out);
     Ok((status, out))
 }
 
@@ -104,46 +113,116 @@ fn push_all_answers(alloc: Global, lines: &mut Bytes, file: &[u8]) -> Result<(),
     push_answers(alloc, lines, rest)
 }
 
+/// The word, with the name of the text in place of SCRIPT.
+fn word_or_text(word: &[u8]) -> &[u8] {
+    if word == b"SCRIPT".as_slice() {
+        b"text"
+    } else {
+        word
+    }
+}
+
+/// The words of a command, which blanks separate.
+fn words_of(alloc: Global, line: &[u8]) -> Result<Words, NoMemory> {
+    let mut asked = Words::new(alloc);
+    let mut rest = line;
+    for _ in 0..line.len() {
+        let Some((word, after)) = cut_at(rest, b" ") else {
+            break;
+        };
+        asked.push(word_or_text(word))?;
+        rest = after;
+    }
+    asked.push(word_or_text(rest))?;
+    Ok(asked)
+}
+
+/// Adds the line that a row stands below, and what the command of the row answers.
+fn push_row(alloc: Global, lines: &mut Bytes, titled: &[u8]) -> Result<(), NoMemory> {
+    let (title, text) = cut_at(titled, b"\n").unwrap_or((titled, b""));
+    lines.extend_from_slice(b"=== ")?;
+    lines.extend_from_slice(title)?;
+    lines.push(b'\n')?;
+    let (command, _) = cut_at(title, b" : ").unwrap_or((title, b""));
+    let asked = words_of(alloc, command)?;
+    let (status, out) = answered_words(alloc, &asked, text)?;
+    push_status(alloc, lines, b"status ", status)?;
+    lines.extend_from_slice(out.sent())
+}
+
+/// Adds what all rows of the file answer.
+fn push_rows(alloc: Global, lines: &mut Bytes, file: &[u8]) -> Result<(), NoMemory> {
+    let Some((_, mut rest)) = cut_at(file, BETWEEN) else {
+        return Ok(());
+    };
+    for _ in 0..file.len() {
+        let Some((titled, after)) = cut_at(rest, BETWEEN) else {
+            break;
+        };
+        push_row(alloc, lines, titled)?;
+        rest = after;
+    }
+    push_row(alloc, lines, rest)
+}
+
 /// Whether the text is shown, or refused as one that is no script.
 fn is_shown_or_refused(alloc: Global, text: &[u8]) -> Result<bool, NoMemory> {
     let (status, out) = answered(alloc, &SHOW, text)?;
     Ok(status == 0 || (status == 2 && out.sent().starts_with(NO_SCRIPT)))
 }
 
-/// Adds how many fronts the text has, and how many of them are neither shown nor refused.
+/// The status of the judgement of the text by the rule of users and resources.
+fn judged_status(alloc: Global, text: &[u8]) -> Result<u8, NoMemory> {
+    let (status, _) = answered(alloc, &CHECK_RESOURCE, text)?;
+    Ok(status)
+}
+
+/// Adds how many fronts the text has, how many of them are neither shown nor refused, and how many the rule of users and resources refuses and proves.
 fn push_fronts(alloc: Global, lines: &mut Bytes, text: &[u8]) -> Result<(), NoMemory> {
     let mut fronts = 0u32;
     let mut others = 0u32;
+    let mut refused = 0u32;
+    let mut proved = 0u32;
     for len in 0..text.len() {
+        let front = &text[..len];
         fronts = fronts.saturating_add(1);
-        if !is_shown_or_refused(alloc, &text[..len])? {
+        if !is_shown_or_refused(alloc, front)? {
             others = others.saturating_add(1);
         }
+        match judged_status(alloc, front)? {
+            0 => proved = proved.saturating_add(1),
+            2 => refused = refused.saturating_add(1),
+            _ => {}
+        }
     }
-    let line = format!(in alloc; "fronts {fronts} others {others}\n")?;
+    let line = format!(in alloc;
+        "fronts {fronts} others {others} refused {refused} proved {proved}\n"
+    )?;
     lines.extend_from_slice(line.as_bytes())
 }
 
-/// The lines for the texts of both files.
-fn answers(alloc: Global, texts: &[u8], script: &[u8]) -> Result<Bytes, NoMemory> {
+/// The lines for the texts of the files.
+fn answers(alloc: Global, texts: &[u8], script: &[u8], rows: &[u8]) -> Result<Bytes, NoMemory> {
     let mut lines = Bytes::new(alloc);
     push_all_answers(alloc, &mut lines, texts)?;
     lines.extend_from_slice(b"=== each front of the script\n")?;
     push_fronts(alloc, &mut lines, script)?;
+    push_rows(alloc, &mut lines, rows)?;
     Ok(lines)
 }
 
-/// The names of the two files, from the words of the command line.
-fn file_names<R: Env + AllocGlobal>(rt: &R) -> Option<(String, String)> {
+/// The names of the three files, from the words of the command line.
+fn file_names<R: Env + AllocGlobal>(rt: &R) -> Option<(String, String, String)> {
     let mut words = env::args(rt).ok()?.skip(1);
     let texts = words.next()?;
     let script = words.next()?;
-    Some((texts, script))
+    let rows = words.next()?;
+    Some((texts, script, rows))
 }
 
 fn main(rt: HostRuntime) -> ExitCode {
     let alloc = rt.alloc();
-    let Some((texts, script)) = file_names(&rt) else {
+    let Some((texts, script, rows)) = file_names(&rt) else {
         return ExitCode::from(3);
     };
     let mut shelf = FileShelf::new(&rt);
@@ -153,7 +232,10 @@ fn main(rt: HostRuntime) -> ExitCode {
     let Ok(script) = shelf.load(alloc, script.as_bytes(), FILE_LIMIT) else {
         return ExitCode::from(4);
     };
-    let Ok(lines) = answers(alloc, texts.as_slice(), script.as_slice()) else {
+    let Ok(rows) = shelf.load(alloc, rows.as_bytes(), FILE_LIMIT) else {
+        return ExitCode::from(4);
+    };
+    let Ok(lines) = answers(alloc, texts.as_slice(), script.as_slice(), rows.as_slice()) else {
         return ExitCode::from(5);
     };
     match send(&mut StdSink::new(&rt), lines.as_slice()) {

@@ -1,4 +1,4 @@
-use Rattle.std.proofs.Common.{List, sym, subst}
+use Rattle.std.proofs.Common.{List, sym, subst, ◌∙◌}
 use Rattle.script_names.specs.declared.kinds.Kind.{Kind}
 use Rattle.script_names.specs.Kinds.{AreKinds}
 use Rattle.csp_resolve.proofs.AnswerLaws.{program_is, refused_at}
@@ -13,8 +13,9 @@ new-requires c = record {
 
 pub returns : goal.returns
 returns c =
-    program_is c.args.script.now c.as_slice-decls.result.now c.as_slice.result.now c.in_ok-content.content c.new.result c.as_slice-decls.ensures
-    (subst (λ (ks : List Kind). AreKinds c.as_slice-decls.result.now ks) (sym c.as_slice.ensures.value) c.in_ok-kinds.ensures) c.in_ok-content.ensures.answer c.new.ensures
+    program_is c.args.script.now c.as_slice-decls.result.now c.as_slice.result.now c.in_ok-content.content c.in_ok-program.program c.as_slice-decls.ensures
+    (subst (λ (ks : List Kind). AreKinds c.as_slice-decls.result.now ks) (sym c.as_slice.ensures.value) c.in_ok-kinds.ensures) c.in_ok-content.ensures.answer
+    (c.in_ok-program.ensures ∙ c.new.ensures)
 
 pub returns-in_err-content : goal.returns-in_err-content
 returns-in_err-content c =

@@ -1,0 +1,6 @@
+use Rattle.std.proofs.Common.{◌≡◌, drop}
+use Rattle.command_words.specs.Numerals.{continued}
+use Rattle.command_words.proofs.numbers.value_of.Given as goal
+
+abbrev pub invariant-loop-digit : goal.invariant-loop-digit
+invariant-loop-digit l = continued l.number (drop l.digit-index l.digits) ≡ continued 0 l.digits

@@ -1,4 +1,0 @@
-pub mod Network
-pub mod Program
-pub mod Step
-pub mod Term

@@ -1,0 +1,6 @@
+pub mod Counting
+pub mod Free
+pub mod KindsUnique
+pub mod OneNetwork
+pub mod Points
+pub mod Status

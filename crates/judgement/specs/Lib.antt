@@ -1,0 +1,6 @@
+pub mod Counts
+pub mod Judged
+pub mod Laws
+pub mod Networks
+pub mod Tells
+pub mod Told

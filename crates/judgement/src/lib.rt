@@ -1,0 +1,13 @@
+//! The judgement of a script: from the script to the answer, through its program, its network, the tables of its components and its shape.
+#![tactic(auto)]
+
+mod annotated;
+mod counts;
+mod ends;
+mod judging;
+mod laws;
+mod rules;
+mod telling;
+
+pub use judging::judged;
+pub use laws::each_script_has_one_network;
