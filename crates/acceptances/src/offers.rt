@@ -19,7 +19,7 @@ use std::alloc::Global;
 use std::marker::Model;
 
 /// What each term of a table offers, prepared once. Contracts see it as the table.
-#[derive(Debug, Drop)]
+#[derive(Drop)]
 pub struct Offers<'a> {
     table: &'a RawTable,
     unstable: Vec<bool>,

@@ -13,7 +13,7 @@ use std::marker::Model;
 /// Values numbered from 0 on in the order in which they are first seen, fewer than 2^32 of them.
 ///
 /// Contracts see it as the list of its values, in which no value stands twice. A value is found by its hash.
-#[derive(Debug, Drop)]
+#[derive(Drop)]
 pub struct Numbering<T: Eq + Hash> {
     values: IndexSet<T>,
 }

@@ -8,7 +8,7 @@ use std::cmp::Ordering;
 
 /// What an expression can be worth, apart from a set. Atoms are ordered by kind, in the order of the variants, and atoms of one kind by number, `false`
 /// before `true`.
-#[derive(Clone, Copy, Debug, PartialEq, Eq, PartialOrd, Ord, Hash)]
+#[derive(Clone, Copy, PartialEq, Eq, PartialOrd, Ord, Hash)]
 pub enum Atom {
     /// A whole number.
     Num(i64),

@@ -16,7 +16,7 @@ use std::alloc::Global;
 use std::marker::Model;
 
 /// A set of atoms of one kind. Contracts see the list of its members, which rises strictly.
-#[derive(Debug, PartialEq, Eq, Hash, Drop)]
+#[derive(PartialEq, Eq, Hash, Drop)]
 pub struct AtomSet {
     atoms: Items<Atom>,
 }

@@ -8,7 +8,7 @@ use csp_base::NoMemory;
 use std::alloc::Global;
 
 /// The value of an expression.
-#[derive(Debug, PartialEq, Eq, Hash, Drop)]
+#[derive(PartialEq, Eq, Hash, Drop)]
 pub enum Value {
     /// An atom.
     One(Atom),

@@ -13,7 +13,7 @@ use std::hash::{Hash, Hasher};
 use std::marker::Model;
 
 /// A list of bytes that owns its memory: a text, a report, the contents of a file.
-#[derive(Debug, Drop)]
+#[derive(Drop)]
 pub struct Bytes {
     bytes: Vec<u8>,
 }
@@ -92,7 +92,7 @@ impl Bytes {
 }
 
 /// A name of a script: its bytes as they stand in the text.
-#[derive(Debug, Drop)]
+#[derive(Drop)]
 pub struct Name {
     bytes: Bytes,
 }

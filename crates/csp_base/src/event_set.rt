@@ -36,7 +36,7 @@ impl Model for Event {
 }
 
 /// A set of events. Contracts see the list of its members, which rises strictly.
-#[derive(Debug, Drop)]
+#[derive(Drop)]
 pub struct EventSet {
     blocks: Vec<(u32, u64)>,
 }

@@ -9,7 +9,7 @@ use crate::event_set::Event;
 use std::marker::Model;
 
 /// An iterator over the members of a set in rising order. Contracts see the list of those that are left.
-#[derive(Debug, Drop)]
+#[derive(Drop)]
 pub struct Members<'a> {
     number: u32,
     word: u64,

@@ -1,7 +1,7 @@
 //! The operators of expressions, in texts and in programs.
 
 /// The operators that stand between two operands.
-#[derive(Clone, Copy, Debug, PartialEq, Eq, Hash)]
+#[derive(Clone, Copy, PartialEq, Eq, Hash)]
 pub enum BinOp {
     /// `or`
     Or,
@@ -32,7 +32,7 @@ pub enum BinOp {
 }
 
 /// The operators on two sets.
-#[derive(Clone, Copy, Debug, PartialEq, Eq, Hash)]
+#[derive(Clone, Copy, PartialEq, Eq, Hash)]
 pub enum SetOp {
     /// `union`
     Union,

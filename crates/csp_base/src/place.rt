@@ -1,7 +1,7 @@
 //! Places in a text.
 
 /// A place in a text: its line and the byte in it, both counted from 1. A line feed ends a line.
-#[derive(Clone, Copy, Debug, PartialEq, Eq, PartialOrd, Ord, Hash)]
+#[derive(Clone, Copy, Debug, PartialEq, Eq)]
 pub struct Place {
     /// The line.
     pub line: u32,

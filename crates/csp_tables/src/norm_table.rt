@@ -8,7 +8,7 @@ use std::marker::Model;
 
 /// A node of a table: the events that are possible there, each with the node to which it leads, and the acceptances.
 /// The type asks for no order.
-#[derive(Debug, Drop)]
+#[derive(Drop)]
 pub struct NormNode {
     next: Vec<(Event, u32)>,
     accept: Vec<EventSet>,
@@ -46,7 +46,7 @@ impl NormNode {
 }
 
 /// The table of a component. Its nodes are numbered from 0, by numbers below 2 ^ 32, and node 0 is the first.
-#[derive(Debug, Drop)]
+#[derive(Drop)]
 pub struct NormTable {
     nodes: Vec<NormNode>,
 }

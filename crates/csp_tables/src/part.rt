@@ -7,7 +7,7 @@ use csp_base::EventSet;
 use std::marker::Model;
 
 /// A component of a network: the events that it takes part in, and its table.
-#[derive(Debug, Drop)]
+#[derive(Drop)]
 pub struct Part {
     alphabet: EventSet,
     table: NormTable,

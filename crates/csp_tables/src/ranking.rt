@@ -6,7 +6,7 @@ use std::marker::Model;
 
 /// The ranks and the laps of one component: for each node a rank for each acceptance, and a lap for each possible event.
 /// The type asks for no number of them.
-#[derive(Debug, Drop)]
+#[derive(Drop)]
 pub struct PartRanks {
     ranks: Vec<Vec<i64>>,
     laps: Vec<Vec<u8>>,
@@ -45,7 +45,7 @@ impl PartRanks {
 }
 
 /// Ranks and laps for each component of a network, and the scale by which a difference of laps weighs against ranks.
-#[derive(Debug, Drop)]
+#[derive(Drop)]
 pub struct Ranking {
     scale: i64,
     parts: Vec<PartRanks>,

@@ -8,7 +8,7 @@ use std::alloc::Global;
 use std::marker::Model;
 
 /// The silent steps and the steps by events of one component, over the numbers of its terms. The first term is 0.
-#[derive(Debug, Drop)]
+#[derive(Drop)]
 pub struct RawTable {
     silent: Vec<(u32, u32)>,
     steps: Vec<(u32, Event, u32)>,

@@ -6,7 +6,7 @@ use csp_base::EventSet;
 use std::marker::Model;
 
 /// The requests and the acknowledgements of a component as a client, and those as a server.
-#[derive(Debug, Drop)]
+#[derive(Drop)]
 pub struct RoleSets {
     creq: EventSet,
     cack: EventSet,

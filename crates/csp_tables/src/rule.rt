@@ -1,7 +1,7 @@
 //! The design rules.
 
 /// The rules by which a network is designed so that it cannot deadlock.
-#[derive(Clone, Copy, Debug, PartialEq, Eq)]
+#[derive(Clone, Copy, PartialEq, Eq)]
 pub enum Rule {
     /// Each component offers its links in a fixed circular order.
     Cyclic,

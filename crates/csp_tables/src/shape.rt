@@ -8,7 +8,7 @@ use csp_base::EventSet;
 use std::marker::Model;
 
 /// A link joins two parts of a network, by their numbers. The left number is below the right one.
-#[derive(Debug, Drop)]
+#[derive(Drop)]
 pub struct Link {
     left: u32,
     right: u32,
@@ -65,7 +65,7 @@ impl Link {
 
 /// The shape of a network. Its parts and its links are numbered from 0, by numbers below 2 ^ 32. The links rise by their
 /// left part, and then by their right one.
-#[derive(Debug, Drop)]
+#[derive(Drop)]
 pub struct Shape {
     parts: Vec<Part>,
     links: Vec<Link>,

@@ -6,7 +6,7 @@ use csp_base::EventSet;
 use std::marker::Model;
 
 /// Whether a component is a resource, and the events that acquire and that release it.
-#[derive(Debug, Drop)]
+#[derive(Drop)]
 pub struct UseSets {
     resource: bool,
     acquire: EventSet,

@@ -19,7 +19,7 @@ use std::marker::Model;
 use tau_order::silent_rows;
 
 /// The silent steps, the steps by events and the offers of a table, term by term. Contracts see it as the table.
-#[derive(Debug, Drop)]
+#[derive(Drop)]
 pub(crate) struct Prepared<'a> {
     offers: Offers<'a>,
     silent: Rows,

@@ -8,7 +8,7 @@ use std::marker::Model;
 
 /// A determinised table: its nodes, and for each node the set of terms to which the runs to it lead. Contracts see the two
 /// lists.
-#[derive(Debug, Drop)]
+#[derive(Drop)]
 pub struct SetTable {
     nodes: Vec<NormNode>,
     sets: Numbering<Items<u32>>,

@@ -3,7 +3,7 @@ ghost use Rattle.std.specs.Prelude.{◌≡◌, ◌==◌, ◌<◌, ℕ, length, s
 use std::marker::Model;
 
 /// A number for each vertex of a digraph, as `longest_walks` finds them.
-#[derive(Debug, Drop)]
+#[derive(Drop)]
 pub struct Heights {
     numbers: Vec<u32>,
 }

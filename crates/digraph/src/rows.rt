@@ -7,7 +7,7 @@ use std::marker::Model;
 /// A digraph: for each vertex the row of the targets of its arcs.
 ///
 /// The vertices are the numbers below `len`, and each target is one of them.
-#[derive(Debug, Drop)]
+#[derive(Drop)]
 pub struct Rows {
     rows: Vec<Vec<u32>>,
 }

@@ -7,7 +7,7 @@ use crate::count::raised;
 use std::marker::Model;
 
 /// The numbers of the calls that are to fail, and how many calls there were and failed.
-#[derive(Debug, Drop)]
+#[derive(Drop)]
 pub(crate) struct PlannedFaults {
     failing: Vec<u32>,
     calls: u32,

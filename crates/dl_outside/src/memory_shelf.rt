@@ -15,7 +15,7 @@ use std::alloc::Global;
 use std::marker::Model;
 
 /// Texts in memory, and the numbers of the loads that are to fail.
-#[derive(Debug, Drop)]
+#[derive(Drop)]
 pub struct MemoryShelf {
     texts: Vec<NamedText>,
     plan: PlannedFaults,

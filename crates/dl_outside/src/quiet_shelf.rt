@@ -10,7 +10,7 @@ use std::alloc::Global;
 use std::marker::Model;
 
 /// The strings that are left, and what was counted.
-#[derive(Debug, Drop)]
+#[derive(Drop)]
 pub struct QuietShelf {
     answers: Vec<Bytes>,
     fault_count: u64,

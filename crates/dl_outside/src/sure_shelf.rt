@@ -12,7 +12,7 @@ use std::alloc::Global;
 use std::marker::Model;
 
 /// Texts in memory.
-#[derive(Debug, Drop)]
+#[derive(Drop)]
 pub struct SureShelf {
     texts: Vec<NamedText>,
 }

@@ -10,7 +10,7 @@ use std::alloc::Global;
 use std::marker::Model;
 
 /// The bytes that were sent.
-#[derive(Debug, Drop)]
+#[derive(Drop)]
 pub struct SureSink {
     sent: Bytes,
     most: u32,

@@ -11,7 +11,7 @@ use csp_base::{Bytes, NoMemory};
 use std::alloc::Global;
 
 /// A text and the name that it is held under.
-#[derive(Debug, Drop)]
+#[derive(Drop)]
 pub struct NamedText {
     pub name: Bytes,
     pub text: Bytes,

@@ -57,7 +57,7 @@ only_network text script network only is = record {
       one_network script other network (subst (λ (s : Script). IsNetworkOf s other) (only.only spells.script spells.spelled) spells.is) is;
 }
 
-text_free : (text : List ℕ) (rule : Rule) (answer : Answer) → TextCallsFor text (Check rule) answer → status answer ≡ 0 → SpellsDeadlockFree text rule answer
+text_free : (text : List ℕ) (rule : Rule) (answer : Answer) → TextCallsFor text (Check rule) answer → status answer ≡ 0 → SpellsDeadlockFree text rule (report_text answer)
 text_free text rule answer (inl none) zero = absurd (not_zero answer (Refused (NoScript none.0)) none.3 zero (λ e. cc))
 text_free text rule answer (inr (script, only, judged)) zero =
     let free = judged_free script rule answer judged zero in
@@ -69,10 +69,10 @@ text_free text rule answer (inr (script, only, judged)) zero =
       exact = free.exact;
       nodes = free.nodes;
       greatest_rank = free.rank;
-      is = free.is;
+      is = ap report_text free.is;
     }
 
-script_free : (text : List ℕ) (rule : Rule) (answer : Answer) → ScriptCallsFor text (Check rule) answer → status answer ≡ 0 → SpellsDeadlockFree text rule answer
+script_free : (text : List ℕ) (rule : Rule) (answer : Answer) → ScriptCallsFor text (Check rule) answer → status answer ≡ 0 → SpellsDeadlockFree text rule (report_text answer)
 script_free text rule answer (inl long) zero = absurd (not_zero answer (Refused ScriptTooLong) long.1 zero (λ e. cc))
 script_free text rule answer (inr (short, calls)) zero = text_free text rule answer calls zero
 
@@ -108,7 +108,7 @@ module _ (texts : List NamedText) (words : List (List ℕ)) (old new : Option (L
     asked = asks;
     text = text;
     held = held;
-    told = answer;
+    report = report_text answer;
     free = script_free text rule answer calls zero;
     printed = grew;
   }
@@ -184,7 +184,7 @@ trial_tried : (words : List (List ℕ)) (old new : Option (List ℕ)) (reply : R
 trial_tried words old new reply calls zero grew = record {
   trial = calls.trial;
   asked = calls.asked;
-  told = reply.answer;
+  report = report_text reply.answer;
   free = text_free (trial_text calls.trial) (rule_of calls.trial.family) reply.answer calls.calls zero;
   printed = subst (λ (trial : Option Trial). GrowsBy old new (heading_text trial ++ report_text reply.answer)) calls.is grew;
 }

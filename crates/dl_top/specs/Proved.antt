@@ -1,5 +1,5 @@
 -- What status 0 promises.
-use Rattle.std.specs.Prelude.{◌≡◌, ℕ, ℤ, List, length, map, Option, Some, slice_get}
+use Rattle.std.specs.Prelude.{◌≡◌, ℕ, ℤ, List, ◌++◌, length, map, Option, Some, slice_get}
 use Rattle.command_words.specs.Command.{Asks, AsksForTrial}
 use Rattle.command_words.specs.declared.command.Command.TheVariants.{Check, Show, Table}
 use Rattle.command_words.specs.declared.command.Trial.{Trial}
@@ -15,13 +15,11 @@ use Rattle.dl_outside.specs.Texts.{text_of}
 use Rattle.dl_outside.specs.Write.{GrowsBy}
 use Rattle.judgement.specs.Networks.{HasSilentBound, IsLive, Network}
 use Rattle.process_steps.specs.ComponentStep.{ProcessStep}
-use Rattle.report.specs.Report.{report_text}
-use Rattle.report.specs.declared.answer.Answer.{Answer}
-use Rattle.report.specs.declared.answer.Answer.TheVariants as answer
+use Rattle.report.specs.Report.{deadlock_free_text, table_text}
 use Rattle.script_printer.specs.PrintedScript.{script_text}
 use Rattle.tabulation.specs.Printed.{printed_node}
 use Rattle.dl_top.specs.Judgement.{SpellsNetwork, SpellsOnlyScript}
-use Rattle.dl_top.specs.Reply.{reply_text, rule_of, trial_text}
+use Rattle.dl_top.specs.Reply.{heading_text, rule_of, trial_text}
 
 -- The text spells this network and no other.
 pub record SpellsOnlyNetwork (text : List ℕ) (network : Network) : Type 0 where
@@ -29,9 +27,9 @@ pub record SpellsOnlyNetwork (text : List ℕ) (network : Network) : Type 0 wher
   pub only : (other : Network) → SpellsNetwork text other → other ≡ network
 
 -- The text spells exactly one network. From every state that some run of the network reaches, at most `bound` silent steps follow one another, and
--- a state without a silent step has an event; and `bound` is exactly the network's silent bound. The answer prints it, beside what was counted on
+-- a state without a silent step has an event; and `bound` is exactly the network's silent bound. The report prints it, beside what was counted on
 -- the way.
-pub record SpellsDeadlockFree (text : List ℕ) (rule : Rule) (told : Answer) : Type 0 where
+pub record SpellsDeadlockFree (text : List ℕ) (rule : Rule) (report : List ℕ) : Type 0 where
   pub network : Network
   pub spells : SpellsOnlyNetwork text network
   pub bound : ℕ
@@ -39,7 +37,7 @@ pub record SpellsDeadlockFree (text : List ℕ) (rule : Rule) (told : Answer) : 
   pub exact : HasSilentBound network bound
   pub nodes : ℕ
   pub greatest_rank : ℤ
-  pub is : told ≡ answer.DeadlockFree rule (length (leaves network.tree)) nodes bound greatest_rank
+  pub is : report ≡ deadlock_free_text rule (length (leaves network.tree)) nodes bound greatest_rank
 
 -- The words ask for the judgement of a script, whose text spells a network free of deadlock. The sink, where it tells, grew by exactly the report.
 pub record IsProved (texts : List NamedText) (words : List (List ℕ)) (old new : Option (List ℕ)) : Type 0 where
@@ -48,17 +46,17 @@ pub record IsProved (texts : List NamedText) (words : List (List ℕ)) (old new 
   pub asked : Asks words (Check rule) name
   pub text : List ℕ
   pub held : text_of texts name ≡ Some text
-  pub told : Answer
-  pub free : SpellsDeadlockFree text rule told
-  pub printed : GrowsBy old new (report_text told)
+  pub report : List ℕ
+  pub free : SpellsDeadlockFree text rule report
+  pub printed : GrowsBy old new report
 
 -- The words ask for a trial, and the text of its family spells a network free of deadlock. The sink, where it tells, grew by exactly the report.
 pub record IsTried (words : List (List ℕ)) (old new : Option (List ℕ)) : Type 0 where
   pub trial : Trial
   pub asked : AsksForTrial words trial
-  pub told : Answer
-  pub free : SpellsDeadlockFree (trial_text trial) (rule_of trial.family) told
-  pub printed : GrowsBy old new (reply_text (record { trial = Some trial; answer = told }))
+  pub report : List ℕ
+  pub free : SpellsDeadlockFree (trial_text trial) (rule_of trial.family) report
+  pub printed : GrowsBy old new (heading_text (Some trial) ++ report)
 
 -- The words ask for a script to be shown. Its text spells this script and no other. The sink, where it tells, grew by exactly the printed text of
 -- the script, and this text spells the same script again, and no other.
@@ -87,4 +85,4 @@ pub record IsTold (texts : List NamedText) (words : List (List ℕ)) (old new : 
   pub there : slice_get (leaves network.tree) i ≡ Some component
   pub part : Part
   pub normal : IsPartOf (ProcessStep network.program) component part
-  pub printed : GrowsBy old new (report_text (answer.Table i (length (leaves network.tree)) (map (printed_node network.program) part.table)))
+  pub printed : GrowsBy old new (table_text i (length (leaves network.tree)) (map (printed_node network.program) part.table))

@@ -10,7 +10,7 @@ use csp_base::NoMemory;
 use std::alloc::Global;
 
 /// Nodes in blocks. The nodes stand in one list, block by block, and in each block those that are marked stand first.
-#[derive(Debug, Drop)]
+#[derive(Drop)]
 pub(crate) struct Partition {
     // The nodes, and where each node stands among them.
     pub order: Vec<u32>,

@@ -13,7 +13,7 @@ use csp_tables::NormNode;
 use std::alloc::Global;
 
 /// A class for each node of a table, numbered from 0 in the order in which they are first seen.
-#[derive(Debug, Drop)]
+#[derive(Drop)]
 pub struct Classes {
     /// The class of each node.
     pub numbers: Vec<u32>,

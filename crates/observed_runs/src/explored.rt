@@ -11,7 +11,7 @@ use std::alloc::Global;
 use std::marker::Model;
 
 /// The pairs of a node and a state of an observer to which runs of a table lead, in the order in which they were found.
-#[derive(Debug, Drop)]
+#[derive(Drop)]
 pub struct Explored {
     pairs: Numbering<(u32, u32)>,
     origins: Vec<(u32, Event)>,

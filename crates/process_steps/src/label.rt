@@ -3,7 +3,7 @@
 use csp_base::Event;
 
 /// What is seen of a step of a process.
-#[derive(Clone, Copy, Debug, PartialEq, Eq, Hash)]
+#[derive(Clone, Copy, PartialEq, Eq, Hash)]
 pub enum Label {
     /// Nothing.
     Silent,

@@ -1,5 +1,5 @@
 -- The printed report of each answer, and the exit status.
-use Rattle.std.specs.Prelude.{ℕ, ◌+◌, List, [], ◌∷◌, ◌++◌, codes, length}
+use Rattle.std.specs.Prelude.{ℕ, ℤ, ◌+◌, List, [], ◌∷◌, ◌++◌, codes, length}
 use Rattle.std.specs.List.{flat_map}
 use Rattle.std.specs.Fmt.{decimal, signed_decimal}
 use Rattle.csp_tables.specs.declared.rule.Rule.{Rule}
@@ -36,6 +36,16 @@ abbrev pub table_text : ℕ → ℕ → List PrintedNode → List ℕ
 table_text i count nodes =
     line (codes "component " ++ decimal i ++ codes " of " ++ decimal count) ++ line (codes "nodes " ++ decimal (length nodes)) ++ nodes_text 0 nodes
 
+-- the report of a network that is proved free of deadlock
+abbrev pub deadlock_free_text : (rule : Rule) (components nodes bound : ℕ) (greatest_rank : ℤ) → List ℕ
+deadlock_free_text rule components nodes bound greatest_rank =
+    line (codes "deadlock-free")
+    ++ line (codes "rule " ++ rule_text rule)
+    ++ line (codes "components " ++ decimal components)
+    ++ line (codes "nodes " ++ decimal nodes)
+    ++ line (codes "silent bound " ++ decimal bound)
+    ++ line (codes "greatest rank " ++ signed_decimal greatest_rank)
+
 abbrev pub report_text : Answer → List ℕ
 report_text answer.Usage = line (codes "usage: dlcheck check RULE SCRIPT | show SCRIPT | table SCRIPT INDEX | trial FAMILY N")
 report_text answer.ScriptNotFound = line (codes "outside fault: script not found")
@@ -44,13 +54,7 @@ report_text (answer.Refused refusal) = line (codes "refused") ++ line (refusal_t
 report_text (answer.NotProved shortfall) = line (codes "not proved") ++ shortfall_text shortfall
 report_text (answer.Shown text) = text
 report_text (answer.Table i count nodes) = table_text i count nodes
-report_text (answer.DeadlockFree rule components nodes bound rank) =
-    line (codes "deadlock-free")
-    ++ line (codes "rule " ++ rule_text rule)
-    ++ line (codes "components " ++ decimal components)
-    ++ line (codes "nodes " ++ decimal nodes)
-    ++ line (codes "silent bound " ++ decimal bound)
-    ++ line (codes "greatest rank " ++ signed_decimal rank)
+report_text (answer.DeadlockFree rule components nodes bound rank) = deadlock_free_text rule components nodes bound rank
 
 -- 0 proved or shown, 1 not proved, 2 refused, 3 no command, 4 a fault outside
 abbrev pub status : Answer → ℕ

@@ -4,7 +4,7 @@ ghost use Rattle.std.specs.Prelude.{◌≡◌, ◌+◌, ◌++◌, IfOk, OnOk, co
 ghost use Rattle.std.specs.List.{flat_map};
 ghost use Rattle.std.specs.Fmt.{decimal, signed_decimal};
 ghost use Rattle.report.specs.Lines.{line};
-ghost use Rattle.report.specs.Report.{accept_text, next_text, node_text, nodes_text, report_text, rule_text, status, table_text};
+ghost use Rattle.report.specs.Report.{accept_text, deadlock_free_text, next_text, node_text, nodes_text, report_text, rule_text, status, table_text};
 
 use crate::answer::{Answer, PrintedNode};
 use crate::events::push_signed;
@@ -236,12 +236,7 @@ fn deadlock_free(
     bound: u32,
     greatest_rank: i64,
 ) -> Result<Bytes, NoMemory>
-    ensures { IfOk result (λ made. made ≡ line (codes "deadlock-free")
-        ++ line (codes "rule " ++ rule_text rule)
-        ++ line (codes "components " ++ decimal components)
-        ++ line (codes "nodes " ++ decimal nodes)
-        ++ line (codes "silent bound " ++ decimal bound)
-        ++ line (codes "greatest rank " ++ signed_decimal greatest_rank)) }
+    ensures { IfOk result (λ made. made ≡ deadlock_free_text rule components nodes bound greatest_rank) }
 {
     let counts = counts(alloc, components, nodes, bound, greatest_rank)?;
     let head = rule_line(alloc, rule)?;

@@ -1,7 +1,7 @@
 //! Which printed trees need parentheses.
 
 /// What a printed tree looks like from outside.
-#[derive(Clone, Copy, Debug, PartialEq, Eq)]
+#[derive(Clone, Copy, PartialEq, Eq)]
 pub enum Shape {
     /// A word, a number, a name, a call or a set: it needs no parentheses anywhere.
     Atom,

@@ -1,4 +1,4 @@
-//! Shelves of files and the sink of the standard output. (Those in memory are tested with the top call.)
+//! The shelf of files and the sink of the standard output.
 
 use csp_base::Bytes;
 use dl_outside::file_shelf::read_text;
