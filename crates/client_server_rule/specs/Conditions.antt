@@ -15,10 +15,10 @@ use Rattle.client_server_rule.specs.declared.fault.RoleFault.{RoleFault}
 use Rattle.client_server_rule.specs.declared.fault.RoleFault.TheVariants.{NoMemory, BreaksRole, ClientsCircle}
 
 -- which of the conditions it is
-abbrev pub number_of : Condition → ℕ
-number_of Turns = 3
-number_of Service = 4
-number_of Answers = 5
+abbrev pub condition_number : Condition → ℕ
+condition_number Turns = 3
+condition_number Service = 4
+condition_number Answers = 5
 
 -- the part keeps the condition after the run
 abbrev pub Keeps : Network → Condition → ℕ → List ℕ → Type 0
@@ -91,5 +91,5 @@ pub record IsFirstBroken (network : Network) (condition : Condition) (i : ℕ) (
 -- the fault tells it
 abbrev pub TellsBroken : Network → Condition → RoleFault → Type 0
 TellsBroken network condition NoMemory = Unit {0}
-TellsBroken network condition (BreaksRole number part trace) = (number ≡ number_of condition) × IsFirstBroken network condition part trace
+TellsBroken network condition (BreaksRole number part trace) = (number ≡ condition_number condition) × IsFirstBroken network condition part trace
 TellsBroken network condition (ClientsCircle clients) = ⊥

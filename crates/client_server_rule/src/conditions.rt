@@ -3,7 +3,7 @@
 ghost use Rattle.std.specs.Prelude.{◌≡◌, ◌<◌, ℕ, None, true, false, IfSome, length};
 ghost use Rattle.csp_tables.specs.Part.{part_at};
 ghost use Rattle.observed_runs.specs.Observed.{pair_at};
-ghost use Rattle.client_server_rule.specs.Conditions.{AreAcknowledgements, IsOnSide, KeepsAt, is_asked_of, is_open_at, number_of};
+ghost use Rattle.client_server_rule.specs.Conditions.{AreAcknowledgements, IsOnSide, KeepsAt, is_asked_of, is_open_at, condition_number};
 
 use crate::network::{Network, link_of, node_of};
 use crate::nodes::{some_out_of_turn, some_refuses, some_takes};
@@ -23,7 +23,7 @@ pub(crate) enum Condition {
 impl Condition {
     // Which of the conditions it is.
     pub(crate) fn number(self) -> u32
-        ensures { result ≡ number_of self }
+        ensures { result ≡ condition_number self }
     {
         match self {
             Condition::Turns => 3,

@@ -7,12 +7,12 @@ use Rattle.std.proofs.lemmas.Cmp.{nat_cmp_total, int_cmp_total, on_total, then_t
 use Rattle.std.specs.declared.cmp.Ordering.{Ordering}
 use Rattle.std.specs.declared.cmp.Ordering.TheVariants.{Less, Equal, Greater}
 use Rattle.std.specs.Ordering.{int_cmp, is_lt, is_eq, ordering_reverse}
-use Rattle.csp_atoms.specs.Order.{kind_of, number_of, order_of, less, same}
+use Rattle.csp_atoms.specs.Order.{kind_of, atom_number, order_of, less, same}
 use Rattle.csp_atoms.specs.declared.atom.Atom.{Atom}
 use Rattle.csp_atoms.specs.declared.atom.Atom.TheVariants as atom
 
 pub order_total : IsTotalOrder order_of
-order_total = then_total (on_total kind_of nat_cmp_total) (on_total number_of int_cmp_total)
+order_total = then_total (on_total kind_of nat_cmp_total) (on_total atom_number int_cmp_total)
 
 is_less : (o : Ordering) → is_lt o ≡ true → o ≡ Less
 is_less Less h = refl

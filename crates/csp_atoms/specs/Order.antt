@@ -13,15 +13,15 @@ kind_of (atom.Const k) = 2
 kind_of (atom.Event e) = 3
 
 -- an atom's number within its kind
-abbrev pub number_of : Atom → ℤ
-number_of (atom.Num n) = n
-number_of (atom.Truth b) = pos (if b then 1 else 0)
-number_of (atom.Const k) = pos k
-number_of (atom.Event e) = pos e
+abbrev pub atom_number : Atom → ℤ
+atom_number (atom.Num n) = n
+atom_number (atom.Truth b) = pos (if b then 1 else 0)
+atom_number (atom.Const k) = pos k
+atom_number (atom.Event e) = pos e
 
 -- how two atoms compare
 abbrev pub order_of : Atom → Atom → Ordering
-order_of a b = ordering_then (nat_cmp (kind_of a) (kind_of b)) (int_cmp (number_of a) (number_of b))
+order_of a b = ordering_then (nat_cmp (kind_of a) (kind_of b)) (int_cmp (atom_number a) (atom_number b))
 
 -- whether the first comes before the second
 unfoldable pub less : Atom → Atom → Bool

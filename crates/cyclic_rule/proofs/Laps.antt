@@ -23,7 +23,7 @@ use Rattle.observed_runs.specs.Observed.{observed, LeadsTo, pair_at}
 use Rattle.observed_runs.specs.Exploration.{IsExploration}
 use Rattle.observed_runs.specs.Observers.{lap_step}
 use Rattle.cyclic_rule.specs.Links.{IsOwner, ends_below, ends_of}
-use Rattle.cyclic_rule.specs.Facts.{IsFact, HasFirst, AreFirsts, AreNoted, AreApart, AreClashing, links_in_order}
+use Rattle.cyclic_rule.specs.Facts.{IsFact, HasFirst, AreFirsts, AreNoted, Disagree, AreClashing, links_in_order}
 use Rattle.cyclic_rule.specs.Orders.{IsOrder, order_at}
 use Rattle.cyclic_rule.specs.declared.facts.Fact.{Fact}
 use Rattle.cyclic_rule.proofs.Links.{owner_end}
@@ -86,11 +86,11 @@ pub fact_reach : (shape : Shape) (i : ℕ) (pairs : List (ℕ × ℕ)) (q : ℕ)
 fact_reach shape i pairs q f s w triple h some is leads = (reach shape i f.link s f.event (pair_at pairs f.pair) w triple h leads is.possible is.owner, place_is shape i s (pair_at pairs f.pair) some leads ∙ is.place)
 
 -- two facts clash
-flipped : (q r : ℕ) (f g : Fact) → AreApart q f r g → AreApart r g q f
+flipped : (q r : ℕ) (f g : Fact) → Disagree q f r g → Disagree r g q f
 flipped q r f g (inl x) = inl (sym x.0, (λ same. x.1 (sym same)))
 flipped q r f g (inr x) = inr (sym x.0, (λ same. x.1 (sym same)))
 
-pub breaks : (shape : Shape) (i : ℕ) (q r : ℕ) (f g : Fact) (s t : List ℕ) → AreApart q f r g → length t ≤ length s → ReachesLink shape i f.link s f.event × (place_after shape s % links_of shape i ≡ q) → ReachesLink shape i g.link t g.event × (place_after shape t % links_of shape i ≡ r) → BreaksOrder shape i s f.event
+pub breaks : (shape : Shape) (i : ℕ) (q r : ℕ) (f g : Fact) (s t : List ℕ) → Disagree q f r g → length t ≤ length s → ReachesLink shape i f.link s f.event × (place_after shape s % links_of shape i ≡ q) → ReachesLink shape i g.link t g.event × (place_after shape t % links_of shape i ≡ r) → BreaksOrder shape i s f.event
 breaks shape i q r f g s t apart short a b = record {
   link = f.link;
   reaches = a.0;
@@ -102,7 +102,7 @@ breaks shape i q r f g s t apart short a b = record {
   clash = clash_of apart;
 }
   where
-    clash_of : AreApart q f r g → Clash shape i f.link s g.link t
+    clash_of : Disagree q f r g → Clash shape i f.link s g.link t
     clash_of (inl x) = inl (x.1, a.1 ∙ x.0 ∙ sym b.1)
     clash_of (inr x) = inr (x.0, (λ same. x.1 (sym a.1 ∙ same ∙ b.1)))
 

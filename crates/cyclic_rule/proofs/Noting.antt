@@ -9,7 +9,7 @@ use Rattle.net_sound.proofs.Within.{part_form}
 use Rattle.observed_runs.specs.Observed.{pair_at}
 use Rattle.observed_runs.proofs.Leading.{listed_step, step_listed, node_form}
 use Rattle.cyclic_rule.specs.Links.{IsOwner}
-use Rattle.cyclic_rule.specs.Facts.{IsFact, first_at, HasFirst, AreFirsts, IsNoted, AreApart, AreClashing, KeepsFirsts}
+use Rattle.cyclic_rule.specs.Facts.{IsFact, first_at, HasFirst, AreFirsts, IsNoted, Disagree, AreClashing, KeepsFirsts}
 use Rattle.cyclic_rule.specs.declared.facts.Fact.{Fact}
 use Rattle.cyclic_rule.specs.declared.facts.FactFault.{FactFault}
 use Rattle.cyclic_rule.specs.declared.facts.FactFault.TheVariants.{Clash}
@@ -69,13 +69,13 @@ firsts_more shape i pairs old new place fact a is sound apart = record {
   apart = apart a.apart;
 }
 
-pub clashing : (shape : Shape) (i : ℕ) (pairs : List (ℕ × ℕ)) (firsts : List (Option Fact)) (place : ℕ) (fact f g : Fact) → AreFirsts shape i pairs firsts → IsFact shape i pairs place fact → (f ≡ fact) × (r : ℕ) × (first_at firsts r ≡ Some g) × AreApart place fact r g → AreClashing shape i pairs f g
+pub clashing : (shape : Shape) (i : ℕ) (pairs : List (ℕ × ℕ)) (firsts : List (Option Fact)) (place : ℕ) (fact f g : Fact) → AreFirsts shape i pairs firsts → IsFact shape i pairs place fact → (f ≡ fact) × (r : ℕ) × (first_at firsts r ≡ Some g) × Disagree place fact r g → AreClashing shape i pairs f g
 clashing shape i pairs firsts place fact f g a is k = record {
   first_place = place;
   second_place = k.1;
   first = subst (IsFact shape i pairs place) (sym k.0) is;
   second = a.sound k.1 g k.2;
-  apart = subst (λ x. AreApart place x k.1 g) (sym k.0) k.3;
+  apart = subst (λ x. Disagree place x k.1 g) (sym k.0) k.3;
 }
 
 pub noted_still : (shape : Shape) (i : ℕ) (pairs : List (ℕ × ℕ)) (old new : List (Option Fact)) (p : ℕ) → KeepsFirsts old new → IsNoted shape i pairs old p → IsNoted shape i pairs new p

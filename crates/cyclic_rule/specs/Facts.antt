@@ -37,15 +37,15 @@ abbrev pub AreNoted : Shape → ℕ → List (ℕ × ℕ) → List (Option Fact)
 AreNoted shape i pairs firsts = (p : ℕ) → p < length pairs → IsNoted shape i pairs firsts p
 
 -- one place has two links, or one link two places
-abbrev pub AreApart : ℕ → Fact → ℕ → Fact → Type 0
-AreApart q f r g = ((q ≡ r) × (f.link ≡ g.link → ⊥)) ⊎ ((f.link ≡ g.link) × (q ≡ r → ⊥))
+abbrev pub Disagree : ℕ → Fact → ℕ → Fact → Type 0
+Disagree q f r g = ((q ≡ r) × (f.link ≡ g.link → ⊥)) ⊎ ((f.link ≡ g.link) × (q ≡ r → ⊥))
 
 pub record AreClashing (shape : Shape) (i : ℕ) (pairs : List (ℕ × ℕ)) (f g : Fact) : Type 0 where
   pub first_place : ℕ
   pub second_place : ℕ
   pub first : IsFact shape i pairs first_place f
   pub second : IsFact shape i pairs second_place g
-  pub apart : AreApart first_place f second_place g
+  pub apart : Disagree first_place f second_place g
 
 -- what is kept grows
 abbrev pub KeepsFirsts : List (Option Fact) → List (Option Fact) → Type 0

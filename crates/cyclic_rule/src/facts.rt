@@ -4,7 +4,7 @@ ghost use Rattle.std.specs.Prelude.{◌≡◌, ◌<◌, ◌⊎◌, ◌++◌, ℕ
 ghost use Rattle.csp_tables.specs.Part.{part_at};
 ghost use Rattle.csp_tables.specs.Table.{is_possible, node_at};
 ghost use Rattle.observed_runs.specs.Observed.{pair_at};
-ghost use Rattle.cyclic_rule.specs.Facts.{AreApart, AreClashing, AreFirsts, AreNoted, HasFirst, IsFact, IsNoted, KeepsFirsts, first_at, is_of_link, links_in_order};
+ghost use Rattle.cyclic_rule.specs.Facts.{Disagree, AreClashing, AreFirsts, AreNoted, HasFirst, IsFact, IsNoted, KeepsFirsts, first_at, is_of_link, links_in_order};
 ghost use Rattle.cyclic_rule.specs.Links.{IsOwner};
 
 use crate::prepared::Prepared;
@@ -143,7 +143,7 @@ fn note(firsts: &mut [Option<Fact>], place: usize, fact: Fact) -> Result<(), Fac
     ensures keeps { OnOk result (KeepsFirsts firsts.old firsts.new) }
     ensures sound { OnOk result ((q : ℕ) (f : Fact) → first_at firsts.new q ≡ Some f → (first_at firsts.old q ≡ Some f) ⊎ ((q ≡ place) × (f ≡ fact))) }
     ensures apart { OnOk result (((q r l : ℕ) → HasFirst firsts.old q l → HasFirst firsts.old r l → q ≡ r) → (q r l : ℕ) → HasFirst firsts.new q l → HasFirst firsts.new r l → q ≡ r) }
-    ensures clash { (f g : Fact) → result ≡ Err (FactFault.Clash f g) → (f ≡ fact) × (r : ℕ) × (first_at firsts.old r ≡ Some g) × AreApart place fact r g }
+    ensures clash { (f g : Fact) → result ≡ Err (FactFault.Clash f g) → (f ≡ fact) × (r : ℕ) × (first_at firsts.old r ≡ Some g) × Disagree place fact r g }
 {
     if let Some(first) = firsts[place] {
         if first.link == fact.link {
