@@ -1,3 +1,4 @@
+pub mod FirstLemmas
 pub mod HeldLemmas
 pub mod MeasureLaws
 pub mod NodeLemmas

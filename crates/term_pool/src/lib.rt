@@ -1,6 +1,7 @@
 //! Terms: depth, size and equality of processes, and a pool in which each stands once.
 #![tactic(auto)]
 
+mod first;
 pub mod measure;
 mod measured;
 pub mod node;

@@ -9,11 +9,13 @@ ghost use Rattle.csp_program.specs.Size.{proc_size};
 ghost use Rattle.csp_program.specs.Substitution.{proc_with};
 ghost use Rattle.term_pool.specs.Counting.{capped};
 ghost use Rattle.term_pool.specs.ExactNode.{eq_node};
+ghost use Rattle.term_pool.specs.First.{with_first};
 ghost use Rattle.term_pool.specs.Held.{IsHeld};
 ghost use Rattle.term_pool.specs.Pooled.{AreDifferent, Has, IsFront, PartsStandBelow};
 ghost use Rattle.term_pool.specs.Trees.{places_below, tree_at, tree_of, trees_of};
 ghost use Rattle.term_pool.specs.Within.{AddsOne, AddsParts};
 
+use crate::first::copy_with_first;
 use crate::measure::Measure;
 use crate::node::{Node, ProcId};
 use crate::node_measures::of_node;
@@ -123,6 +125,23 @@ impl Pool {
     {
         let place = number_node(&mut self.nodes, &mut self.measures, node)?;
         Ok(ProcId(place))
+    }
+
+    /// The place of the process at `id` with the process at `below` in place of its first sub-process; where it has none, of the process itself.
+    /// A new one goes to the end.
+    pub fn put_with_first(&mut self, id: ProcId, below: ProcId) -> Result<ProcId, NoMemory>
+        requires id { id.0 < length self.old }
+        requires below { below.0 < length self.old }
+        ensures process { IfOk result (λ made. slice_get self.new made.0 ≡ Some (with_first (tree_at self.old id) (tree_at self.old below))) }
+        ensures front { IsFront self.old self.new }
+        ensures known { Has self.old (with_first (tree_at self.old id) (tree_at self.old below)) → self.new ≡ self.old }
+        ensures only { AddsOne self.old self.new (with_first (tree_at self.old id) (tree_at self.old below)) }
+        ensures err { OnErr result (self.new ≡ self.old) }
+    {
+        let alloc = self.alloc();
+        let node = copy_with_first(alloc, self.node(id), below)?;
+        let made = self.put_node(node)?;
+        Ok(made)
     }
 
     /// The place of the process, which is put into the pool with its sub-processes, each of them once. Where memory fails some of them are put.

@@ -1,0 +1,134 @@
+-- What a process becomes where another one takes the place of its first sub-process.
+use Rattle.std.proofs.Common.{◌≡◌, ℕ, ◌<◌, Bool, true, ◌&&◌, nat_lt, List, [], ◌∷◌, map, length, get_or, refl, ap, sym, ◌∙◌, subst, arith}
+use Rattle.std.proofs.lemmas.Bool.{lt-ltb}
+use Rattle.std.specs.Cmp.{second_so}
+use Rattle.csp_program.specs.declared.expressions.EventPart.{EventPart}
+use Rattle.csp_program.specs.declared.expressions.Expr.{Expr}
+use Rattle.csp_program.specs.declared.expressions.Gen.{Gen}
+use Rattle.csp_program.specs.declared.processes.Field.{Field}
+use Rattle.csp_program.specs.declared.processes.Head.{Head}
+use Rattle.csp_program.specs.declared.processes.Proc.{Proc}
+use Rattle.csp_program.specs.declared.processes.Proc.TheOpen.{Proc-F}
+use Rattle.csp_program.specs.declared.processes.Proc.TheVariants as proc
+use Rattle.csp_program.specs.declared.processes.Proc.TheViews.{out-Proc, out-roll-Proc}
+use Rattle.term_pool.proofs.NodeLemmas.{layer_of, layer_out}
+use Rattle.term_pool.proofs.TreeLemmas.{all_below_more, both_so}
+use Rattle.term_pool.specs.First.{layer_with_first, node_with_first, other_first, with_first}
+use Rattle.term_pool.specs.Trees.{tree_at, tree_of, places, all_below, places_below}
+use Rattle.term_pool.specs.declared.node.Node.{Node}
+use Rattle.term_pool.specs.declared.node.Node.TheVariants as node
+use Rattle.term_pool.specs.declared.node.ProcId.{ProcId}
+
+-- what each form becomes
+pub first_Stop : (q : Proc) → with_first proc.Stop q ≡ proc.Stop
+unfolding with_first
+first_Stop q = ap (λ (l : Proc-F Proc). layer_with_first l q) (ap out-Proc (sym proc.rolls-Stop) ∙ out-roll-Proc Proc-F.Stop)
+
+pub first_Prefix : (head : Head) (fields : List Field) (p : Proc) (q : Proc) → with_first (proc.Prefix head fields p) q ≡ proc.Prefix head fields q
+unfolding with_first
+first_Prefix head fields p q = ap (λ (l : Proc-F Proc). layer_with_first l q) (ap out-Proc (sym (proc.rolls-Prefix head fields p)) ∙ out-roll-Proc (Proc-F.Prefix head fields p))
+
+pub first_Guard : (c : Expr) (p : Proc) (q : Proc) → with_first (proc.Guard c p) q ≡ proc.Guard c q
+unfolding with_first
+first_Guard c p q = ap (λ (l : Proc-F Proc). layer_with_first l q) (ap out-Proc (sym (proc.rolls-Guard c p)) ∙ out-roll-Proc (Proc-F.Guard c p))
+
+pub first_If : (c : Expr) (p : Proc) (r : Proc) (q : Proc) → with_first (proc.If c p r) q ≡ proc.If c q r
+unfolding with_first
+first_If c p r q = ap (λ (l : Proc-F Proc). layer_with_first l q) (ap out-Proc (sym (proc.rolls-If c p r)) ∙ out-roll-Proc (Proc-F.If c p r))
+
+pub first_External : (ps : List Proc) (q : Proc) → with_first (proc.External ps) q ≡ proc.External (other_first ps q)
+unfolding with_first
+first_External ps q = ap (λ (l : Proc-F Proc). layer_with_first l q) (ap out-Proc (sym (proc.rolls-External ps)) ∙ out-roll-Proc (Proc-F.External ps))
+
+pub first_Internal : (ps : List Proc) (q : Proc) → with_first (proc.Internal ps) q ≡ proc.Internal (other_first ps q)
+unfolding with_first
+first_Internal ps q = ap (λ (l : Proc-F Proc). layer_with_first l q) (ap out-Proc (sym (proc.rolls-Internal ps)) ∙ out-roll-Proc (Proc-F.Internal ps))
+
+pub first_EachExternal : (x : ℕ) (s : Expr) (p : Proc) (q : Proc) → with_first (proc.EachExternal x s p) q ≡ proc.EachExternal x s q
+unfolding with_first
+first_EachExternal x s p q = ap (λ (l : Proc-F Proc). layer_with_first l q) (ap out-Proc (sym (proc.rolls-EachExternal x s p)) ∙ out-roll-Proc (Proc-F.EachExternal x s p))
+
+pub first_EachInternal : (x : ℕ) (s : Expr) (p : Proc) (q : Proc) → with_first (proc.EachInternal x s p) q ≡ proc.EachInternal x s q
+unfolding with_first
+first_EachInternal x s p q = ap (λ (l : Proc-F Proc). layer_with_first l q) (ap out-Proc (sym (proc.rolls-EachInternal x s p)) ∙ out-roll-Proc (Proc-F.EachInternal x s p))
+
+pub first_Hide : (p : Proc) (s : Expr) (q : Proc) → with_first (proc.Hide p s) q ≡ proc.Hide q s
+unfolding with_first
+first_Hide p s q = ap (λ (l : Proc-F Proc). layer_with_first l q) (ap out-Proc (sym (proc.rolls-Hide p s)) ∙ out-roll-Proc (Proc-F.Hide p s))
+
+pub first_Rename : (p : Proc) (pairs : List (EventPart × EventPart)) (gens : List Gen) (q : Proc) → with_first (proc.Rename p pairs gens) q ≡ proc.Rename q pairs gens
+unfolding with_first
+first_Rename p pairs gens q = ap (λ (l : Proc-F Proc). layer_with_first l q) (ap out-Proc (sym (proc.rolls-Rename p pairs gens)) ∙ out-roll-Proc (Proc-F.Rename p pairs gens))
+
+pub first_Call : (d : ℕ) (args : List Expr) (q : Proc) → with_first (proc.Call d args) q ≡ proc.Call d args
+unfolding with_first
+first_Call d args q = ap (λ (l : Proc-F Proc). layer_with_first l q) (ap out-Proc (sym (proc.rolls-Call d args)) ∙ out-roll-Proc (Proc-F.Call d args))
+
+pub first_Skip : (q : Proc) → with_first proc.Skip q ≡ proc.Skip
+unfolding with_first
+first_Skip q = ap (λ (l : Proc-F Proc). layer_with_first l q) (ap out-Proc (sym proc.rolls-Skip) ∙ out-roll-Proc Proc-F.Skip)
+
+pub first_Seq : (p : Proc) (r : Proc) (q : Proc) → with_first (proc.Seq p r) q ≡ proc.Seq q r
+unfolding with_first
+first_Seq p r q = ap (λ (l : Proc-F Proc). layer_with_first l q) (ap out-Proc (sym (proc.rolls-Seq p r)) ∙ out-roll-Proc (Proc-F.Seq p r))
+
+pub first_Ended : (q : Proc) → with_first proc.Ended q ≡ proc.Ended
+unfolding with_first
+first_Ended q = ap (λ (l : Proc-F Proc). layer_with_first l q) (ap out-Proc (sym proc.rolls-Ended) ∙ out-roll-Proc Proc-F.Ended)
+
+others_at : (ts : List Proc) (ps : List ProcId) (q : ProcId) → other_first (map (tree_at ts) ps) (tree_at ts q) ≡ map (tree_at ts) (other_first ps q)
+others_at ts [] q = refl
+others_at ts (p ∷ ps) q = refl
+
+layer_first : (ts : List Proc) (n : Node) (q : ProcId) → layer_with_first (layer_of ts n) (tree_at ts q) ≡ tree_of ts (node_with_first n q)
+layer_first ts node.Stop q = refl
+layer_first ts (node.Prefix head fields p) q = refl
+layer_first ts (node.Guard c p) q = refl
+layer_first ts (node.If c p r) q = refl
+layer_first ts (node.External ps) q = ap (λ (us : List Proc). proc.External us) (others_at ts ps q)
+layer_first ts (node.Internal ps) q = ap (λ (us : List Proc). proc.Internal us) (others_at ts ps q)
+layer_first ts (node.EachExternal x s p) q = refl
+layer_first ts (node.EachInternal x s p) q = refl
+layer_first ts (node.Hide p s) q = refl
+layer_first ts (node.Rename p pairs gens) q = refl
+layer_first ts (node.Call d args) q = refl
+layer_first ts node.Skip q = refl
+layer_first ts (node.Seq p r) q = refl
+layer_first ts node.Ended q = refl
+
+-- a node with another first place is its process with what stands there
+pub first_at : (ts : List Proc) (n : Node) (q : ProcId) → with_first (tree_of ts n) (tree_at ts q) ≡ tree_of ts (node_with_first n q)
+unfolding with_first
+first_at ts n q = ap (λ (l : Proc-F Proc). layer_with_first l (tree_at ts q)) (layer_out ts n) ∙ layer_first ts n q
+
+others_below : (b : ℕ) (ps : List ProcId) (q : ProcId) → all_below b ps ≡ true → nat_lt q.0 b ≡ true → all_below b (other_first ps q) ≡ true
+others_below b [] q h g = refl
+others_below b (p ∷ ps) q h g = both_so (nat_lt q.0 b) (all_below b ps) g (second_so (nat_lt p.0 b) (all_below b ps) h)
+
+first_places : (n : Node) (q : ProcId) → places (node_with_first n q) ≡ other_first (places n) q
+first_places node.Stop q = refl
+first_places (node.Prefix head fields p) q = refl
+first_places (node.Guard c p) q = refl
+first_places (node.If c p r) q = refl
+first_places (node.External ps) q = refl
+first_places (node.Internal ps) q = refl
+first_places (node.EachExternal x s p) q = refl
+first_places (node.EachInternal x s p) q = refl
+first_places (node.Hide p s) q = refl
+first_places (node.Rename p pairs gens) q = refl
+first_places (node.Call d args) q = refl
+first_places node.Skip q = refl
+first_places (node.Seq p r) q = refl
+first_places node.Ended q = refl
+
+pub first_below : (b : ℕ) (n : Node) (q : ProcId) → places_below b n ≡ true → q.0 < b → places_below b (node_with_first n q) ≡ true
+first_below b n q h g = ap (all_below b) (first_places n q) ∙ others_below b (places n) q h (lt-ltb q.0 b g)
+
+module _ (ts : List Proc) (id : ProcId) (q : ProcId) (within : id.0 < length ts) (below : q.0 < length ts) (n : Node) (tree : tree_of ts n ≡ tree_at ts id) (smaller : places_below id.0 n ≡ true)
+    (m : Node) (is : m ≡ node_with_first n q) where
+  -- the node that is made stands for the process that is wanted, and looks at places of the list alone
+  pub made_below : places_below (length ts) m ≡ true
+  made_below = subst (λ (k : Node). places_below (length ts) k ≡ true) (sym is) (first_below (length ts) n q (all_below_more id.0 (length ts) (omega (arith, within)) (places n) smaller) below)
+
+  pub made_tree : tree_of ts m ≡ with_first (tree_at ts id) (tree_at ts q)
+  made_tree = ap (λ (k : Node). tree_of ts k) is ∙ (sym (first_at ts n q) ∙ ap (λ (t : Proc). with_first t (tree_at ts q)) tree)
