@@ -1,9 +1,8 @@
 -- The new events that a renaming names for an old one, pair by pair.
 use Rattle.std.proofs.Common.{◌≡◌, ℕ, ◌+◌, ◌<◌, Bool, true, false, cond, Ok, Err, List, [], ◌∷◌, ◌++◌, map, length, get_or, take, refl, ap, sym, ◌∙◌}
 use Rattle.std.proofs.lemmas.List.Elements.{filter_more}
-use Rattle.std.proofs.lemmas.Bool.{false≢true}
 use Rattle.std.specs.List.{filter}
-use Rattle.std.specs.Prelude.{◌↔◌, nat_eq, IfOk, IsTrue, Result}
+use Rattle.std.specs.Prelude.{nat_eq, IfOk, Result}
 use Rattle.process_steps.specs.Renaming.{Renamed, or_itself}
 use Rattle.step_values.proofs.Lists.{map_join}
 
@@ -26,14 +25,6 @@ or_some e (x ∷ xs) ys same some = same
 pub or_none : (e : ℕ) (xs ys zs : List ℕ) → ys ≡ xs → ys ≡ [] → zs ≡ e ∷ [] → zs ≡ or_itself e xs
 or_none e [] ys zs same none is = is
 or_none e (x ∷ xs) ys zs same none is = let h : [] ≡ x ∷ xs = sym none ∙ same in cc
-
-pub empty_is : (xs : List ℕ) (b : Bool) → (IsTrue b ↔ (xs ≡ [])) → b ≡ true → xs ≡ []
-empty_is xs true h e = h.0 refl
-empty_is xs false h e = cc
-
-pub more_is : (xs : List ℕ) (b : Bool) → (IsTrue b ↔ (xs ≡ [])) → b ≡ false → xs ≡ [] → ⊥
-more_is xs true h e none = cc
-more_is xs false h e none = false≢true (h.1 none)
 
 pub none_of : {E : Type 0} (e : ℕ) (xs ys : List ℕ) (r : Result (List ℕ) E) → ys ≡ xs → ys ≡ [] → IfOk r (λ made. made ≡ e ∷ []) → IfOk r (λ made. made ≡ or_itself e xs)
 none_of e xs ys (Ok zs) same none is = or_none e xs ys zs same none is

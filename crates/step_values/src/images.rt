@@ -1,12 +1,59 @@
 //! The events that an event becomes.
 
-ghost use Rattle.std.specs.Prelude.{◌≡◌, ◌∷◌, ◌++◌, [], if◌then◌else◌, map, nat_eq, IfOk};
-ghost use Rattle.std.specs.List.{filter};
-ghost use Rattle.process_steps.specs.Renaming as meant;
+ghost use Rattle.std.specs.Prelude.{◌≡◌, ◌∷◌, ◌++◌, [], if◌then◌else◌, ℕ, nat_eq, IfOk, OnOk};
+ghost use Rattle.step_values.specs.Images.{becomes, kept_for, Keeps};
 
 use containers::Items;
 use csp_base::{Event, NoMemory};
 use std::alloc::Global;
+use std::collections::HashMap;
+
+/// What events become by a renaming: for each event that it names the new ones, in the order in which it names them.
+#[derive(Drop)]
+pub struct Images {
+    by_event: HashMap<u32, Items<Event>>,
+}
+
+// The events that are kept for an event, which are taken out.
+fn take_out(alloc: Global, by_event: &mut HashMap<u32, Items<Event>>, event: Event) -> Items<Event>
+    ensures events { result ≡ kept_for by_event.old event }
+    ensures others { (e : ℕ) → kept_for by_event.new e ≡ (if nat_eq event e then [] else kept_for by_event.old e) }
+{
+    match by_event.remove(&event.0) {
+        Some(events) => events,
+        None => Items::new(alloc),
+    }
+}
+
+// Keeps the new event of a pair, after those that are kept for the old one.
+fn add_new(
+    alloc: Global,
+    by_event: &mut HashMap<u32, Items<Event>>,
+    old: Event,
+    new: Event,
+) -> Result<(), NoMemory>
+    ensures { OnOk result ((e : ℕ) → kept_for by_event.new e ≡ kept_for by_event.old e ++ (if nat_eq old e then new ∷ [] else [])) }
+{
+    let mut events = take_out(alloc, by_event, old);
+    events.push(new)?;
+    match by_event.insert(old.0, events) {
+        Ok(_) => Ok(()),
+        Err(_) => Err(NoMemory),
+    }
+}
+
+/// What events become by the renaming that makes these pairs of an old event and a new one.
+pub fn images_by_event(alloc: Global, renamed: &[(Event, Event)]) -> Result<Images, NoMemory>
+    ensures { IfOk result (λ made. Keeps made renamed.now) }
+{
+    let mut images = Images {
+        by_event: HashMap::new(alloc),
+    };
+    for pair in renamed {
+        add_new(alloc, &mut images.by_event, pair.0, pair.1)?;
+    }
+    Ok(images)
+}
 
 // One event.
 fn only(alloc: Global, event: Event) -> Result<Items<Event>, NoMemory>
@@ -17,45 +64,24 @@ fn only(alloc: Global, event: Event) -> Result<Items<Event>, NoMemory>
     Ok(events)
 }
 
-// The events, and after them the new event of a pair whose old one is the event.
-fn add_new(
-    old: Event,
-    new: Event,
-    event: Event,
-    events: Items<Event>,
-) -> Result<Items<Event>, NoMemory>
-    ensures { IfOk result (λ made. made ≡ events ++ (if nat_eq old event then new ∷ [] else [])) }
+// The events that are kept for an event.
+fn events_for(images: &Images, event: Event) -> &[Event]
+    ensures { result.now ≡ kept_for images.now.by_event event }
 {
-    if old.0 != event.0 {
-        return Ok(events);
+    match images.by_event.get(&event.0) {
+        Some(events) => events.as_slice(),
+        None => &[],
     }
-    let mut events = events;
-    events.push(new)?;
-    Ok(events)
-}
-
-// The new events of an old one, in the order in which the renaming names them.
-fn named(alloc: Global, renamed: &[(Event, Event)], event: Event) -> Result<Items<Event>, NoMemory>
-    ensures { IfOk result (λ made. made ≡ map (λ r. r.1) (filter (λ r. nat_eq r.0 event) renamed.now)) }
-{
-    let mut events = Items::new(alloc);
-    for pair in renamed {
-        events = add_new(pair.0, pair.1, event, events)?;
-    }
-    Ok(events)
 }
 
 /// What an event becomes.
-pub fn images_of(
-    alloc: Global,
-    renamed: &[(Event, Event)],
-    event: Event,
-) -> Result<Items<Event>, NoMemory>
-    ensures { IfOk result (λ made. made ≡ meant.images renamed.now event) }
+pub fn images_of(alloc: Global, images: &Images, event: Event) -> Result<Items<Event>, NoMemory>
+    ensures { IfOk result (λ made. made ≡ becomes images.now event) }
 {
-    let events = named(alloc, renamed, event)?;
+    let events = events_for(images, event);
     if events.is_empty() {
         return only(alloc, event);
     }
-    Ok(events)
+    let made = Items::from_slice(alloc, events)?;
+    Ok(made)
 }

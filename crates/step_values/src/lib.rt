@@ -8,6 +8,6 @@ mod renamed;
 pub mod renaming;
 
 pub use heads::{Start, of_head};
-pub use images::images_of;
+pub use images::{Images, images_by_event, images_of};
 pub use needed::{arguments_in, events_in, set_in, truth_in};
 pub use renaming::renaming_in;

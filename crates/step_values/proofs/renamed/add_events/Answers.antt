@@ -1,4 +1,4 @@
-use Rattle.std.proofs.Common.{◌≡◌, ◌+◌, ◌++◌, ◌∷◌, [], Ok, Err, drop, refl, ap, sym, ◌∙◌, arith}
+use Rattle.std.proofs.Common.{◌+◌, ◌++◌, ◌∷◌, [], Ok, drop, refl, ap, sym, ◌∙◌, arith}
 use Rattle.csp_program.specs.Outcome.{and_then}
 use Rattle.process_steps.specs.Renaming.{renamed_as}
 use Rattle.value_operators.proofs.Faults.{passed}

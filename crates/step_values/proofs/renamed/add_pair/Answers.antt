@@ -1,4 +1,4 @@
-use Rattle.std.proofs.Common.{◌≡◌, [], Ok, Err, ap, sym, ◌∙◌}
+use Rattle.std.proofs.Common.{[], ap, ◌∙◌}
 use Rattle.csp_program.specs.declared.programs.Content.{Content}
 use Rattle.value_operators.proofs.Faults.{passed}
 use Rattle.value_operators.specs.Env.{with_bound}

@@ -1,4 +1,4 @@
-use Rattle.std.proofs.Common.{◌∷◌, [], true, false, Ok, Err, ap, sym, ◌∙◌, arith}
+use Rattle.std.proofs.Common.{[], true, false, Ok, Err, ap, sym, ◌∙◌, arith}
 use Rattle.csp_values.proofs.Steps.{nothing}
 use Rattle.value_operators.specs.Env.{with_bound}
 use Rattle.value_operators.proofs.NameLaws.{with_bound-last}

@@ -1,4 +1,4 @@
-use Rattle.std.proofs.Common.{◌≡◌, ◌++◌, [], Ok, Err, refl, ap, sym, ◌∙◌, arith}
+use Rattle.std.proofs.Common.{[], refl, ◌∙◌, arith}
 use Rattle.process_steps.specs.Renaming.{pair_renamed}
 use Rattle.value_operators.proofs.Faults.{passed}
 use Rattle.value_operators.specs.Env.{with_bound}
