@@ -3,6 +3,7 @@ pub mod HeldLemmas
 pub mod MeasureLaws
 pub mod NodeLemmas
 pub mod NodeMeasures
+pub mod StoreLemmas
 pub mod SubstituteLemmas
 pub mod PutLemmas
 pub mod TreeLemmas

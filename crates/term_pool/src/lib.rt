@@ -11,6 +11,7 @@ mod own;
 mod places;
 pub mod pool;
 mod put;
+mod store;
 mod substitute;
 pub mod terms;
 
