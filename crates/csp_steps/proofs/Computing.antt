@@ -1,9 +1,9 @@
 -- What a call answers for a whole, from what calls answer for its parts.
-use Rattle.std.proofs.Common.{◌≡◌, ℕ, ◌+◌, ◌<◌, ◌≤◌, Ok, Err, List, [], ◌∷◌, ◌++◌, map, take, length, get_or, refl, ap, sym, ◌∙◌, subst, arith, append_assoc}
+use Rattle.std.proofs.Common.{◌≡◌, ℕ, ◌+◌, ◌<◌, ◌≤◌, Ok, Err, List, [], ◌∷◌, ◌++◌, map, take, length, get_or, refl, ap, sym, ◌∙◌, subst, append_assoc}
 use Rattle.std.specs.Prelude.{Result}
 use Rattle.std.specs.Result.{IsErrAnd}
 use Rattle.csp_program.specs.Lists.{joined}
-use Rattle.csp_program.specs.Outcome.{Outcome, and_then}
+use Rattle.csp_program.specs.Outcome.{Outcome}
 use Rattle.csp_program.specs.declared.kinds.ValueKind.{ValueKind}
 use Rattle.csp_program.specs.declared.processes.Proc.{Proc}
 use Rattle.csp_program.specs.declared.programs.Content.{Content}
@@ -16,7 +16,6 @@ use Rattle.csp_steps.specs.Computed.{AreMoves, GivesLook, GivesMoves, GivesPlace
 use Rattle.csp_steps.specs.Listed.{FaultIs, seen}
 use Rattle.csp_steps.specs.declared.look.Look.{Look}
 use Rattle.csp_steps.specs.declared.step.StepTo.{StepTo}
-use Rattle.term_pool.specs.declared.node.ProcId.{ProcId}
 use Rattle.step_values.proofs.Lists.{joined_push, map_push, taken, taken_whole}
 use Rattle.csp_steps.proofs.Places.{moves_stay, one_move}
 

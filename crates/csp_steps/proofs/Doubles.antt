@@ -10,8 +10,7 @@ use Rattle.csp_program.specs.declared.processes.Proc.{Proc}
 use Rattle.csp_program.specs.declared.programs.Content.{Content}
 use Rattle.process_steps.specs.StepList.{IsListed, Move, steps_of}
 use Rattle.process_steps.specs.declared.label.Label.{Label}
-use Rattle.term_pool.specs.Trees.{tree_at}
-use Rattle.csp_steps.specs.Computed.{all_within, IsListing}
+use Rattle.csp_steps.specs.Computed.{IsListing}
 use Rattle.csp_steps.specs.ExactStep.{eq_step}
 use Rattle.csp_steps.specs.Listed.{AreStepsOf, seen}
 use Rattle.csp_steps.specs.Once.{IsOnce, Stands}

@@ -1,15 +1,13 @@
 -- The steps of each form of a process, as a look at it finds them, and how deep the processes below it are.
-use Rattle.std.proofs.Common.{◌≡◌, ℕ, suc, ◌+◌, ◌<◌, ◌≤◌, Bool, true, false, if◌then◌else◌, Ok, Err, Some, List, [], ◌∷◌, ◌++◌, map, length, slice_get, refl, ap, sym, ◌∙◌, subst, arith}
+use Rattle.std.proofs.Common.{◌≡◌, ℕ, suc, ◌+◌, ◌<◌, ◌≤◌, true, false, if◌then◌else◌, Ok, Err, List, [], ◌∷◌, map, length, slice_get, refl, ap, sym, ◌∙◌, subst, arith}
 use Rattle.std.proofs.lemmas.Bool.{ltb-true, lt-ltb}
 use Rattle.std.specs.Cmp.{first_so, second_so}
 use Rattle.std.specs.Prelude.{Result, nat_lt}
 use Rattle.csp_program.specs.Depth.{proc_depth}
 use Rattle.csp_program.specs.Lists.{greatest}
-use Rattle.csp_program.specs.Outcome.{Outcome, and_then}
-use Rattle.csp_program.specs.Substitution.{proc_with}
+use Rattle.csp_program.specs.Outcome.{and_then}
 use Rattle.csp_atoms.specs.declared.atom.Atom.{Atom}
 use Rattle.csp_atoms.specs.declared.value.Value.{Value}
-use Rattle.csp_atoms.specs.declared.value.Value.TheVariants.{One}
 use Rattle.csp_program.specs.declared.expressions.EventPart.{EventPart}
 use Rattle.csp_program.specs.declared.expressions.Expr.{Expr}
 use Rattle.csp_program.specs.declared.expressions.Gen.{Gen}
@@ -24,17 +22,17 @@ use Rattle.csp_program.specs.declared.processes.Proc.TheViews.{out-Proc}
 use Rattle.csp_program.specs.declared.programs.Content.{Content}
 use Rattle.process_steps.proofs.Depths.{depth_of_out, layer_depth, put_depth}
 use Rattle.process_steps.proofs.Equations as forms
-use Rattle.process_steps.specs.Needed.{arguments_in, called, each_joined, set_in, truth_in}
-use Rattle.process_steps.specs.Prefix.{Choice, Way, of_head, ways_to_fill}
+use Rattle.process_steps.specs.Needed.{arguments_in, called, set_in, truth_in}
+use Rattle.process_steps.specs.Prefix.{Choice, of_head, ways_to_fill}
 use Rattle.process_steps.specs.Step.{each_put}
-use Rattle.process_steps.specs.StepList.{Move, in_choice, silent_to, some_silent_to, steps_of, steps_of_choice}
+use Rattle.process_steps.specs.StepList.{silent_to, some_silent_to, steps_of, steps_of_choice}
 use Rattle.process_steps.specs.declared.label.Label.{Label}
 use Rattle.process_steps.specs.declared.label.Label.TheVariants.{Silent, Visible, Tick}
 use Rattle.term_pool.specs.Trees.{all_below, places, places_below, tree_at, tree_of}
 use Rattle.term_pool.specs.declared.node.Node.{Node}
 use Rattle.term_pool.specs.declared.node.ProcId.{ProcId}
 use Rattle.value_operators.specs.declared.fault.EvalFault.{EvalFault}
-use Rattle.csp_steps.specs.Computed.{all_within, around, around_layer, AreAround, AreAt, AreMoves, AreOfChoice, AreThoseAt, event_move, filled, GivesLook, IsListing, IsPlaceOf}
+use Rattle.csp_steps.specs.Computed.{all_within, around_layer, AreAround, AreAt, AreOfChoice, AreThoseAt, filled, GivesLook, IsListing, IsPlaceOf}
 use Rattle.csp_steps.specs.Listed.{seen}
 use Rattle.csp_steps.specs.declared.look.Look.{Look}
 use Rattle.csp_steps.specs.declared.step.StepTo.{StepTo}

@@ -5,5 +5,7 @@ pub mod Entering
 pub mod Filling
 pub mod Forms
 pub mod Looking
+pub mod Noting
+pub mod Own
 pub mod Places
 pub mod Rounds

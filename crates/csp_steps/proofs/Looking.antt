@@ -1,17 +1,12 @@
 -- The steps of a process, from what a look at it has found.
-use Rattle.std.proofs.Common.{◌≡◌, ℕ, ◌+◌, ◌*◌, ◌<◌, Ok, Err, true, List, [], ◌∷◌, map, length, refl, ap, sym, ◌∙◌, subst, arith}
+use Rattle.std.proofs.Common.{◌≡◌, ◌+◌, ◌*◌, ◌<◌, Ok, Err, true, List, [], map, length, refl, ap, sym, ◌∙◌, subst, arith}
 use Rattle.csp_program.specs.Depth.{proc_depth}
 use Rattle.csp_program.specs.Outcome.{Outcome, and_then}
 use Rattle.csp_program.specs.declared.kinds.ValueKind.{ValueKind}
 use Rattle.csp_program.specs.declared.processes.Proc.{Proc}
 use Rattle.csp_program.specs.declared.programs.Content.{Content}
-use Rattle.csp_program.specs.Lists.{greatest, joined}
-use Rattle.csp_program.specs.declared.expressions.EventPart.{EventPart}
-use Rattle.csp_program.specs.declared.expressions.Expr.{Expr}
-use Rattle.csp_program.specs.declared.expressions.Gen.{Gen}
-use Rattle.process_steps.specs.Needed.{events_in}
-use Rattle.process_steps.specs.Renaming.{renaming_in}
-use Rattle.process_steps.specs.StepList.{Move, in_hiding, in_renaming, steps_of, steps_of_choice}
+use Rattle.csp_program.specs.Lists.{greatest}
+use Rattle.process_steps.specs.StepList.{Move, steps_of, steps_of_choice}
 use Rattle.term_pool.specs.Trees.{all_below, tree_at, tree_of}
 use Rattle.term_pool.specs.declared.node.ProcId.{ProcId}
 use Rattle.csp_program.specs.declared.processes.Proc.TheOpen.{Proc-F}
@@ -78,18 +73,6 @@ around_node p trees new r n m t moves e is h =
 -- no steps
 pub none_listed : (trees : List Proc) (steps : List StepTo) (o : Outcome (List Move)) → steps ≡ [] → o ≡ Ok [] → IsListing trees steps o
 none_listed trees steps o e h = subst (λ (ss : List StepTo). IsListing trees ss o) (sym e) (record { same = h; within = refl })
-
--- the same renaming, from pairs and generators that are the same
-pub same_rename : (p : Content) (new : List Proc) (r : Result (List StepTo) EvalFault) (moves : List Move) (ps qs : List (EventPart × EventPart)) (gs hs : List Gen) → ps ≡ qs → gs ≡ hs
-    → GivesMoves new r (and_then (renaming_in p ps gs) (λ renamed. Ok (joined (map (λ m. in_renaming ps gs renamed m.0 m.1) moves))))
-    → GivesMoves new r (and_then (renaming_in p qs hs) (λ renamed. Ok (joined (map (λ m. in_renaming qs hs renamed m.0 m.1) moves))))
-same_rename p new r moves ps qs gs hs e f h =
-    subst (λ (o : Outcome (List Move)). GivesMoves new r o) (λ i. and_then (renaming_in p (e i) (f i)) (λ renamed. Ok (joined (map (λ m. in_renaming (e i) (f i) renamed m.0 m.1) moves)))) h
-
-pub same_hide : (p : Content) (new : List Proc) (r : Result (List StepTo) EvalFault) (moves : List Move) (s u : Expr) → s ≡ u
-    → GivesMoves new r (and_then (events_in p s) (λ hidden. Ok (map (λ m. in_hiding s hidden m.0 m.1) moves))) → GivesMoves new r (and_then (events_in p u) (λ hidden. Ok (map (λ m. in_hiding u hidden m.0 m.1) moves)))
-same_hide p new r moves s u e h =
-    subst (λ (o : Outcome (List Move)). GivesMoves new r o) (λ i. and_then (events_in p (e i)) (λ hidden. Ok (map (λ m. in_hiding (e i) hidden m.0 m.1) moves))) h
 
 -- a head that stands for nothing
 start_gone : (p : Content) (trees : List Proc) (t : Proc) (f : EvalFault) (part : Outcome Choice) → GivesStart (Err f) part → ((k : ValueKind) → part ≡ Err k → steps_of p t ≡ Err k) → GivesLook p trees (Err f) t

@@ -1,17 +1,12 @@
 -- Loops that make of the steps of a process those of an operator round it: the next step.
-use Rattle.std.proofs.Common.{◌≡◌, ℕ, ◌+◌, ◌<◌, ◌≤◌, true, Some, Ok, Err, List, [], ◌∷◌, ◌++◌, map, take, length, get_or, slice_get, refl, ap, sym, ◌∙◌, subst}
+use Rattle.std.proofs.Common.{◌≡◌, ℕ, ◌+◌, ◌<◌, true, Some, Ok, Err, List, [], ◌∷◌, ◌++◌, map, take, length, get_or, slice_get, refl, sym, ◌∙◌, subst}
 use Rattle.std.proofs.lemmas.Bool.{lt-ltb}
 use Rattle.std.proofs.lemmas.Option.{slice_get_within}
 use Rattle.std.specs.Cmp.{first_so, second_so}
 use Rattle.std.specs.Prelude.{IfOk, Result, nat_lt}
 use Rattle.csp_program.specs.Lists.{joined}
-use Rattle.csp_program.specs.declared.expressions.EventPart.{EventPart}
-use Rattle.csp_program.specs.declared.expressions.Expr.{Expr}
-use Rattle.csp_program.specs.declared.expressions.Gen.{Gen}
 use Rattle.csp_program.specs.declared.processes.Proc.{Proc}
-use Rattle.process_steps.specs.Renaming.{Renamed}
-use Rattle.process_steps.specs.StepList.{Move, in_choice, in_hiding, in_renaming, in_sequence}
-use Rattle.process_steps.specs.declared.label.Label.{Label}
+use Rattle.process_steps.specs.StepList.{Move, in_choice, in_sequence}
 use Rattle.process_steps.specs.declared.label.Label.TheVariants.{Visible}
 use Rattle.step_values.proofs.Lists.{map_join}
 use Rattle.term_pool.proofs.PutLemmas.{at}
@@ -19,7 +14,7 @@ use Rattle.term_pool.proofs.TreeLemmas.{both_so}
 use Rattle.term_pool.specs.Pooled.{IsFront}
 use Rattle.term_pool.specs.Trees.{all_below, tree_at}
 use Rattle.term_pool.specs.declared.node.ProcId.{ProcId}
-use Rattle.csp_steps.specs.Computed.{all_within, AreMoves, IsMove}
+use Rattle.csp_steps.specs.Computed.{all_within, hidden_move, renamed_moves, AreMoves, IsMove}
 use Rattle.csp_steps.specs.Listed.{seen}
 use Rattle.csp_steps.specs.declared.step.StepTo.{StepTo}
 use Rattle.csp_steps.proofs.Computing.{next_move, next_moves}
@@ -45,14 +40,14 @@ module _ (old mid new : List Proc) (f : IsFront old mid) (g : IsFront mid new) (
       (next_move old mid new g below i s lt is (λ m. in_sequence (tree_at old second) m.0 m.1) [] steps made h
       (subst (λ (m : Move). IsMove new made m) (λ j. in_sequence (tree_stays old mid f second here j) s.label (same_to j)) move))
 
-  pub hiding_next : (set : Expr) (hidden : List ℕ) (steps more : List StepTo) (made : StepTo)
-      → AreMoves mid steps (map (λ m. in_hiding set hidden m.0 m.1) (map (seen old) (take i below)))
-      → IsMove new made (in_hiding set hidden s.label (tree_at mid s.to)) → more ≡ steps ++ made ∷ []
-      → AreMoves new more (map (λ m. in_hiding set hidden m.0 m.1) (map (seen old) (take (i + 1) below)))
-  hiding_next set hidden steps more made h move grown =
-      subst (λ (all : List StepTo). AreMoves new all (map (λ m. in_hiding set hidden m.0 m.1) (map (seen old) (take (i + 1) below)))) (sym grown)
-      (next_move old mid new g below i s lt is (λ m. in_hiding set hidden m.0 m.1) [] steps made h
-      (subst (λ (m : Move). IsMove new made m) (λ j. in_hiding set hidden s.label (same_to j)) move))
+  pub hiding_next : (id : ProcId) → id.0 < length old → (hidden : List ℕ) (steps more : List StepTo) (made : StepTo)
+      → AreMoves mid steps (map (λ m. hidden_move hidden (tree_at old id) m.0 m.1) (map (seen old) (take i below)))
+      → IsMove new made (hidden_move hidden (tree_at mid id) s.label (tree_at mid s.to)) → more ≡ steps ++ made ∷ []
+      → AreMoves new more (map (λ m. hidden_move hidden (tree_at old id) m.0 m.1) (map (seen old) (take (i + 1) below)))
+  hiding_next id here hidden steps more made h move grown =
+      subst (λ (all : List StepTo). AreMoves new all (map (λ m. hidden_move hidden (tree_at old id) m.0 m.1) (map (seen old) (take (i + 1) below)))) (sym grown)
+      (next_move old mid new g below i s lt is (λ m. hidden_move hidden (tree_at old id) m.0 m.1) [] steps made h
+      (subst (λ (m : Move). IsMove new made m) (λ j. hidden_move hidden (tree_stays old mid f id here j) s.label (same_to j)) move))
 
   pub choice_next : (ids : List ProcId) → all_below (length old) ids ≡ true → (k : ℕ) (before : List Move) (steps more : List StepTo) (made : StepTo)
       → AreMoves mid steps (before ++ map (λ m. in_choice (map (tree_at old) ids) k m.0 m.1) (map (seen old) (take i below)))
@@ -63,13 +58,13 @@ module _ (old mid new : List Proc) (f : IsFront old mid) (g : IsFront mid new) (
       (next_move old mid new g below i s lt is (λ m. in_choice (map (tree_at old) ids) k m.0 m.1) before steps made h
       (subst (λ (m : Move). IsMove new made m) (λ j. in_choice (trees_stay old mid f ids all j) k s.label (same_to j)) move))
 
-  pub renaming_next : (pairs : List (EventPart × EventPart)) (gens : List Gen) (renamed : List Renamed) (steps made : List StepTo)
-      → AreMoves mid steps (joined (map (λ m. in_renaming pairs gens renamed m.0 m.1) (map (seen old) (take i below))))
-      → AreMoves new made (map (seen mid) steps ++ in_renaming pairs gens renamed s.label (tree_at mid s.to))
-      → AreMoves new made (joined (map (λ m. in_renaming pairs gens renamed m.0 m.1) (map (seen old) (take (i + 1) below))))
-  renaming_next pairs gens renamed steps made h move =
-      next_moves old mid new g below i s lt is (λ m. in_renaming pairs gens renamed m.0 m.1) steps made h.same
-      (subst (λ (ms : List Move). AreMoves new made (map (seen mid) steps ++ ms)) (λ j. in_renaming pairs gens renamed s.label (same_to j)) move)
+  pub renaming_next : (id : ProcId) → id.0 < length old → (becomes : ℕ → List ℕ) (steps made : List StepTo)
+      → AreMoves mid steps (joined (map (λ m. renamed_moves becomes (tree_at old id) m.0 m.1) (map (seen old) (take i below))))
+      → AreMoves new made (map (seen mid) steps ++ renamed_moves becomes (tree_at mid id) s.label (tree_at mid s.to))
+      → AreMoves new made (joined (map (λ m. renamed_moves becomes (tree_at old id) m.0 m.1) (map (seen old) (take (i + 1) below))))
+  renaming_next id here becomes steps made h move =
+      next_moves old mid new g below i s lt is (λ m. renamed_moves becomes (tree_at old id) m.0 m.1) steps made h.same
+      (subst (λ (ms : List Move). AreMoves new made (map (seen mid) steps ++ ms)) (λ j. renamed_moves becomes (tree_stays old mid f id here j) s.label (same_to j)) move)
 
 -- steps with one more, or with more to one place, after those that were there
 all_within_join : (count : ℕ) (xs ys : List StepTo) → all_within count xs ≡ true → all_within count ys ≡ true → all_within count (xs ++ ys) ≡ true

@@ -1,17 +1,18 @@
 -- What the functions of this crate answer on their way, for their own contracts alone.
-use Rattle.std.specs.Prelude.{◌≡◌, ◌<◌, ◌+◌, ℕ, Bool, true, false, ◌&&◌, nat_lt, Result, Ok, Err, List, [], ◌∷◌, ◌++◌, map, length}
+use Rattle.std.specs.Prelude.{◌≡◌, ◌<◌, ◌+◌, ℕ, Bool, true, false, ◌&&◌, if◌then◌else◌, nat_lt, Result, Ok, Err, List, [], ◌∷◌, ◌++◌, map, length}
 use Rattle.csp_base.specs.Members.{has}
 use Rattle.process_steps.specs.Needed.{events_in}
 use Rattle.process_steps.specs.Prefix.{Way}
-use Rattle.process_steps.specs.Renaming.{Renamed, images, renaming_in}
+use Rattle.process_steps.specs.Renaming.{renaming_in}
 use Rattle.process_steps.specs.StepList.{Move, in_hiding, in_renaming, in_sequence, steps_of, steps_of_choice}
+use Rattle.term_pool.specs.First.{with_first}
 use Rattle.term_pool.specs.Trees.{all_below, tree_at}
 use Rattle.csp_program.specs.Depth.{proc_depth}
 use Rattle.csp_program.specs.Lists.{greatest, joined}
 use Rattle.csp_program.specs.Outcome.{Outcome, and_then}
-use Rattle.csp_atoms.specs.declared.atom.Atom.{Atom}
 use Rattle.csp_program.specs.declared.processes.Proc.{Proc}
 use Rattle.csp_program.specs.declared.processes.Proc.TheOpen.{Proc-F}
+use Rattle.csp_program.specs.declared.processes.Proc.TheVariants as proc
 use Rattle.csp_program.specs.declared.processes.Proc.TheViews.{out-Proc}
 use Rattle.csp_program.specs.declared.programs.Content.{Content}
 use Rattle.csp_steps.specs.declared.look.Look.{Look}
@@ -121,7 +122,19 @@ hides hidden (Visible e) = has hidden e
 hides hidden Tick = false
 
 -- what the event of a label becomes
-abbrev pub images_in : List Renamed → Label → List ℕ
-images_in renamed Silent = []
-images_in renamed (Visible e) = images renamed e
-images_in renamed Tick = []
+abbrev pub images_in : (ℕ → List ℕ) → Label → List ℕ
+images_in become Silent = []
+images_in become (Visible e) = become e
+images_in become Tick = []
+
+-- what a step of the process below makes of the hiding t, where these events are hidden
+abbrev pub hidden_move : List ℕ → Proc → Label → Proc → Move
+hidden_move hidden t Silent r = (Silent, with_first t r)
+hidden_move hidden t (Visible e) r = (if has hidden e then Silent else Visible e, with_first t r)
+hidden_move hidden t Tick r = (Tick, proc.Ended)
+
+-- what it makes of the renaming t, where events become these
+abbrev pub renamed_moves : (ℕ → List ℕ) → Proc → Label → Proc → List Move
+renamed_moves become t Silent r = (Silent, with_first t r) ∷ []
+renamed_moves become t (Visible e) r = map (λ d. (Visible d, with_first t r)) (become e)
+renamed_moves become t Tick r = (Tick, proc.Ended) ∷ []

@@ -1,5 +1,5 @@
 -- `==` on steps is equality.
-use Rattle.std.specs.Prelude.{◌≡◌, Bool, true, ◌&&◌, refl}
+use Rattle.std.specs.Prelude.{◌≡◌, Bool, true, refl}
 use Rattle.std.proofs.lemmas.Bool.{eqb-true, false≢true}
 use Rattle.std.specs.Cmp.{first_so, second_so}
 use Rattle.csp_steps.specs.contracts.step.StepToPartialEq.TheImpl as steps

@@ -1,4 +1,5 @@
 pub mod Computed
+pub mod Evaluated
 pub mod ExactStep
 pub mod Inputs
 pub mod Listed

@@ -1,5 +1,5 @@
 -- A list without its doubles.
-use Rattle.std.specs.Prelude.{◌≡◌, ◌↔◌, ℕ, Some, List, slice_get}
+use Rattle.std.specs.Prelude.{◌≡◌, ℕ, Some, List, slice_get}
 
 -- x stands in the list
 abbrev pub Stands : {X : Type 0} → List X → X → Type 0

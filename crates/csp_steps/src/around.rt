@@ -1,26 +1,28 @@
 //! Operators round the steps of a process.
 
-ghost use Rattle.std.specs.Prelude.{◌≡◌, ◌<◌, ◌++◌, ◌∷◌, [], if◌then◌else◌, true, length, map, slice_get, IfOk, Ok, Some};
+ghost use Rattle.std.specs.Prelude.{◌≡◌, ◌<◌, ◌++◌, ◌∷◌, [], if◌then◌else◌, true, ℕ, List, length, map, slice_get, IfOk, OnOk, Some};
 ghost use Rattle.csp_program.specs.Lists.{joined};
-ghost use Rattle.csp_program.specs.Outcome.{and_then};
 ghost use Rattle.csp_program.specs.declared.processes.Proc.TheVariants as proc;
-ghost use Rattle.process_steps.specs.Needed as meant;
-ghost use Rattle.process_steps.specs.Renaming as renaming;
+ghost use Rattle.csp_program.specs.declared.processes.Proc.TheViews.{out-Proc};
+ghost use Rattle.csp_program.specs.declared.programs.Content.{Content};
 ghost use Rattle.process_steps.specs.StepList as lists;
+ghost use Rattle.step_values.specs.Images.{becomes};
+ghost use Rattle.step_values.specs.declared.images.Images.{Images as Kept};
 ghost use Rattle.term_pool.specs.Pooled.{IsFront};
 ghost use Rattle.term_pool.specs.Trees.{tree_at};
-ghost use Rattle.csp_steps.specs.Computed.{all_within, around as made_around, hides, images_in, AreMoves, GivesMoves, IsMove};
+ghost use Rattle.csp_steps.specs.Computed.{all_within, around as made_around, hidden_move, hides, images_in, renamed_moves, AreMoves, GivesMoves, IsMove};
+ghost use Rattle.csp_steps.specs.Evaluated.{Fits, Hides, Renames};
 ghost use Rattle.csp_steps.specs.Listed.{seen};
 
+use crate::evaluated::{Evaluated, hidden_number, note_steps, renamed_number};
 use crate::step::StepTo;
 use containers::Items;
 use csp_base::{Event, EventSet, NoMemory};
-use csp_program::copies::{copy_boxed_expr, copy_expr, copy_gens, copy_pairs};
-use csp_program::{EventPart, Expr, Gen, Program};
+use csp_program::Program;
 use csp_values::EvalFault;
 use process_steps::Label;
 use std::alloc::Global;
-use step_values::{events_in, images_of, renaming_in};
+use step_values::{Images, images_of};
 use term_pool::{Node, Pool, ProcId};
 
 // What a step of the first part makes of a sequence.
@@ -72,17 +74,6 @@ fn sequence(
     Ok(steps)
 }
 
-// The place of a hiding.
-fn put_hiding(alloc: Global, pool: &mut Pool, set: &Expr, id: ProcId) -> Result<ProcId, NoMemory>
-    requires within { id.0 < length pool.old }
-    ensures process { IfOk result (λ made. slice_get pool.new made.0 ≡ Some (proc.Hide (tree_at pool.old id) set.now)) }
-    ensures front { IsFront pool.old pool.new }
-{
-    let set = copy_expr(alloc, set)?;
-    let made = pool.put_node(Node::Hide(id, set))?;
-    Ok(made)
-}
-
 // The place of a process that has ended.
 pub(crate) fn put_ended(pool: &mut Pool) -> Result<ProcId, NoMemory>
     ensures process { IfOk result (λ made. slice_get pool.new made.0 ≡ Some proc.Ended) }
@@ -115,14 +106,14 @@ fn label_of(hidden: &EventSet, label: Label) -> Label
 
 // What a step of the process below makes of a hiding.
 fn in_hiding(
-    alloc: Global,
     pool: &mut Pool,
-    set: &Expr,
+    id: ProcId,
     hidden: &EventSet,
     step: StepTo,
 ) -> Result<StepTo, NoMemory>
+    requires id { id.0 < length pool.old }
     requires within { step.to.0 < length pool.old }
-    ensures move_ { IfOk result (λ made. IsMove pool.new made (lists.in_hiding set.now hidden.now step.label (tree_at pool.old step.to))) }
+    ensures move_ { IfOk result (λ made. IsMove pool.new made (hidden_move hidden.now (tree_at pool.old id) step.label (tree_at pool.old step.to))) }
     ensures front { IsFront pool.old pool.new }
 {
     match step.label {
@@ -134,7 +125,7 @@ fn in_hiding(
             })
         }
         Label::Silent => {
-            let to = put_hiding(alloc, pool, set, step.to)?;
+            let to = pool.put_with_first(id, step.to)?;
             Ok(StepTo {
                 label: Label::Silent,
                 to,
@@ -142,7 +133,7 @@ fn in_hiding(
         }
         Label::Visible(_) => {
             let label = label_of(hidden, step.label);
-            let to = put_hiding(alloc, pool, set, step.to)?;
+            let to = pool.put_with_first(id, step.to)?;
             Ok(StepTo { label, to })
         }
     }
@@ -152,55 +143,43 @@ fn in_hiding(
 fn hiding(
     alloc: Global,
     pool: &mut Pool,
-    set: &Expr,
+    id: ProcId,
     hidden: &EventSet,
     below: &[StepTo],
 ) -> Result<Items<StepTo>, NoMemory>
+    requires id { id.0 < length pool.old }
     requires below { all_within (length pool.old) below.now ≡ true }
-    ensures steps { IfOk result (λ made. AreMoves pool.new made (map (λ m. lists.in_hiding set.now hidden.now m.0 m.1) (map (seen pool.old) below.now))) }
+    ensures steps { IfOk result (λ made. AreMoves pool.new made (map (λ m. hidden_move hidden.now (tree_at pool.old id) m.0 m.1) (map (seen pool.old) below.now))) }
     ensures front { IsFront pool.old pool.new }
 {
     let mut steps = Items::new(alloc);
     for step in below {
-        let made = in_hiding(alloc, pool, set, hidden, *step)?;
+        let made = in_hiding(pool, id, hidden, *step)?;
         steps.push(made)?;
     }
     Ok(steps)
 }
 
-// The steps of a hiding, from those of the process below. The set is evaluated once.
+// The steps of a hiding whose set has a number, from those of the process below. The hidings that they lead to have the same set.
 fn hide(
     alloc: Global,
-    program: &Program,
     pool: &mut Pool,
-    set: &Expr,
-    below: &[StepTo],
-) -> Result<Items<StepTo>, EvalFault>
-    requires below { all_within (length pool.old) below.now ≡ true }
-    ensures steps { GivesMoves pool.new result (and_then (meant.events_in program.now set.now) (λ hidden. Ok (map (λ m. lists.in_hiding set.now hidden m.0 m.1) (map (seen pool.old) below.now)))) }
-    ensures front { IsFront pool.old pool.new }
-{
-    let hidden = events_in(alloc, program, set)?;
-    let steps = hiding(alloc, pool, set, &hidden, below)?;
-    Ok(steps)
-}
-
-// The place of a renaming.
-fn put_renaming(
-    alloc: Global,
-    pool: &mut Pool,
-    pairs: &[(EventPart, EventPart)],
-    gens: &[Gen],
+    evaluated: &mut Evaluated,
     id: ProcId,
-) -> Result<ProcId, NoMemory>
-    requires within { id.0 < length pool.old }
-    ensures process { IfOk result (λ made. slice_get pool.new made.0 ≡ Some (proc.Rename (tree_at pool.old id) pairs.now gens.now)) }
+    number: u32,
+    below: &[StepTo],
+) -> Result<Items<StepTo>, NoMemory>
+    requires id { id.0 < length pool.old }
+    requires number { number < length evaluated.old.sets }
+    requires below { all_within (length pool.old) below.now ≡ true }
+    ensures steps { (hidden : List ℕ) → slice_get evaluated.old.sets number ≡ Some hidden → IfOk result (λ made. AreMoves pool.new made (map (λ m. hidden_move hidden (tree_at pool.old id) m.0 m.1) (map (seen pool.old) below.now))) }
     ensures front { IsFront pool.old pool.new }
+    ensures fits { (p : Content) → (hidden : List ℕ) → slice_get evaluated.old.sets number ≡ Some hidden → Hides p (out-Proc (tree_at pool.old id)) hidden → Fits p pool.old evaluated.old → OnOk result (Fits p pool.new evaluated.new) }
 {
-    let pairs = copy_pairs(alloc, pairs)?;
-    let gens = copy_gens(alloc, gens)?;
-    let made = pool.put_node(Node::Rename(id, pairs, gens))?;
-    Ok(made)
+    let hidden = &evaluated.sets.as_slice()[number as usize];
+    let steps = hiding(alloc, pool, id, hidden, below)?;
+    note_steps(&mut evaluated.hidings, number, steps.as_slice())?;
+    Ok(steps)
 }
 
 // Steps, and after them one by each of the events to a place.
@@ -227,15 +206,11 @@ fn add_step(label: Label, to: ProcId, steps: Items<StepTo>) -> Result<Items<Step
 }
 
 // What the event of a label becomes.
-fn label_images(
-    alloc: Global,
-    renamed: &[(Event, Event)],
-    label: &Label,
-) -> Result<Items<Event>, NoMemory>
-    ensures { IfOk result (λ made. made ≡ images_in renamed.now label.now) }
+fn label_images(alloc: Global, images: &Images, label: &Label) -> Result<Items<Event>, NoMemory>
+    ensures { IfOk result (λ made. made ≡ images_in (becomes images.now) label.now) }
 {
     match label {
-        Label::Visible(event) => images_of(alloc, renamed, *event),
+        Label::Visible(event) => images_of(alloc, images, *event),
         Label::Silent => Ok(Items::new(alloc)),
         Label::Tick => Ok(Items::new(alloc)),
     }
@@ -245,15 +220,15 @@ fn label_images(
 fn add_renamed(
     alloc: Global,
     pool: &mut Pool,
-    pairs: &[(EventPart, EventPart)],
-    gens: &[Gen],
-    renamed: &[(Event, Event)],
+    id: ProcId,
+    images: &Images,
     step: StepTo,
     steps: Items<StepTo>,
 ) -> Result<Items<StepTo>, NoMemory>
+    requires id { id.0 < length pool.old }
     requires within { step.to.0 < length pool.old }
     requires steps { all_within (length pool.old) steps ≡ true }
-    ensures steps { IfOk result (λ made. AreMoves pool.new made (map (seen pool.old) steps ++ lists.in_renaming pairs.now gens.now renamed.now step.label (tree_at pool.old step.to))) }
+    ensures steps { IfOk result (λ made. AreMoves pool.new made (map (seen pool.old) steps ++ renamed_moves (becomes images.now) (tree_at pool.old id) step.label (tree_at pool.old step.to))) }
     ensures front { IsFront pool.old pool.new }
 {
     match step.label {
@@ -262,12 +237,12 @@ fn add_renamed(
             add_step(Label::Tick, to, steps)
         }
         Label::Silent => {
-            let to = put_renaming(alloc, pool, pairs, gens, step.to)?;
+            let to = pool.put_with_first(id, step.to)?;
             add_step(Label::Silent, to, steps)
         }
         Label::Visible(_) => {
-            let events = label_images(alloc, renamed, &step.label)?;
-            let to = put_renaming(alloc, pool, pairs, gens, step.to)?;
+            let events = label_images(alloc, images, &step.label)?;
+            let to = pool.put_with_first(id, step.to)?;
             add_events(events.as_slice(), to, steps)
         }
     }
@@ -277,37 +252,41 @@ fn add_renamed(
 fn renaming(
     alloc: Global,
     pool: &mut Pool,
-    pairs: &[(EventPart, EventPart)],
-    gens: &[Gen],
-    renamed: &[(Event, Event)],
+    id: ProcId,
+    images: &Images,
     below: &[StepTo],
 ) -> Result<Items<StepTo>, NoMemory>
+    requires id { id.0 < length pool.old }
     requires below { all_within (length pool.old) below.now ≡ true }
-    ensures steps { IfOk result (λ made. AreMoves pool.new made (joined (map (λ m. lists.in_renaming pairs.now gens.now renamed.now m.0 m.1) (map (seen pool.old) below.now)))) }
+    ensures steps { IfOk result (λ made. AreMoves pool.new made (joined (map (λ m. renamed_moves (becomes images.now) (tree_at pool.old id) m.0 m.1) (map (seen pool.old) below.now)))) }
     ensures front { IsFront pool.old pool.new }
 {
     let mut steps = Items::new(alloc);
     for step in below {
-        steps = add_renamed(alloc, pool, pairs, gens, renamed, *step, steps)?;
+        steps = add_renamed(alloc, pool, id, images, *step, steps)?;
     }
     Ok(steps)
 }
 
-// The steps of a renaming, from those of the process below. The renaming is evaluated once.
+// The steps of a renaming that has a number, from those of the process below. The renamings that they lead to rename the same.
 fn rename(
     alloc: Global,
-    program: &Program,
     pool: &mut Pool,
-    pairs: &[(EventPart, EventPart)],
-    gens: &[Gen],
+    evaluated: &mut Evaluated,
+    id: ProcId,
+    number: u32,
     below: &[StepTo],
-) -> Result<Items<StepTo>, EvalFault>
+) -> Result<Items<StepTo>, NoMemory>
+    requires id { id.0 < length pool.old }
+    requires number { number < length evaluated.old.images }
     requires below { all_within (length pool.old) below.now ≡ true }
-    ensures steps { GivesMoves pool.new result (and_then (renaming.renaming_in program.now pairs.now gens.now) (λ renamed. Ok (joined (map (λ m. lists.in_renaming pairs.now gens.now renamed m.0 m.1) (map (seen pool.old) below.now))))) }
+    ensures steps { (images : Kept) → slice_get evaluated.old.images number ≡ Some images → IfOk result (λ made. AreMoves pool.new made (joined (map (λ m. renamed_moves (becomes images) (tree_at pool.old id) m.0 m.1) (map (seen pool.old) below.now)))) }
     ensures front { IsFront pool.old pool.new }
+    ensures fits { (p : Content) → (images : Kept) → slice_get evaluated.old.images number ≡ Some images → Renames p (out-Proc (tree_at pool.old id)) images → Fits p pool.old evaluated.old → OnOk result (Fits p pool.new evaluated.new) }
 {
-    let renamed = renaming_in(alloc, program, pairs, gens)?;
-    let steps = renaming(alloc, pool, pairs, gens, renamed.as_slice(), below)?;
+    let images = &evaluated.images.as_slice()[number as usize];
+    let steps = renaming(alloc, pool, id, images, below)?;
+    note_steps(&mut evaluated.renamings, number, steps.as_slice())?;
     Ok(steps)
 }
 
@@ -316,30 +295,34 @@ pub(crate) fn around(
     alloc: Global,
     program: &Program,
     pool: &mut Pool,
+    evaluated: &mut Evaluated,
     id: ProcId,
     below: &[StepTo],
 ) -> Result<Items<StepTo>, EvalFault>
     requires within { id.0 < length pool.old }
     requires below { all_within (length pool.old) below.now ≡ true }
+    requires fits { Fits program.now pool.old evaluated.old }
     ensures steps { GivesMoves pool.new result (made_around program.now (tree_at pool.old id) (map (seen pool.old) below.now)) }
     ensures front { IsFront pool.old pool.new }
+    ensures fits { OnOk result (Fits program.now pool.new evaluated.new) }
 {
     match pool.node(id) {
         Node::Hide(_, set) => {
-            let set = copy_boxed_expr(alloc, set)?;
-            hide(alloc, program, pool, set.get(), below)
+            let number = hidden_number(alloc, program, evaluated, id, set)?;
+            let steps = hide(alloc, pool, evaluated, id, number, below)?;
+            Ok(steps)
         }
         Node::Rename(_, pairs, gens) => {
-            let pairs = copy_pairs(alloc, pairs.as_slice())?;
-            let gens = copy_gens(alloc, gens.as_slice())?;
-            rename(
+            let number = renamed_number(
                 alloc,
                 program,
-                pool,
+                evaluated,
+                id,
                 pairs.as_slice(),
                 gens.as_slice(),
-                below,
-            )
+            )?;
+            let steps = rename(alloc, pool, evaluated, id, number, below)?;
+            Ok(steps)
         }
         Node::Seq(_, second) => {
             let second = *second;

@@ -1,14 +1,16 @@
 //! The body of a definition, with values in place of its parameters.
 
-ghost use Rattle.std.specs.Prelude.{◌≡◌, ◌<◌, length, slice_get, IfOk, Some};
+ghost use Rattle.std.specs.Prelude.{◌≡◌, ◌<◌, length, slice_get, IfOk, OnOk, Some};
 ghost use Rattle.process_steps.specs.Needed as meant;
 ghost use Rattle.term_pool.specs.Pooled.{IsFront};
 ghost use Rattle.term_pool.specs.Trees.{tree_at};
 ghost use Rattle.csp_steps.specs.Computed.{GivesPlace};
+ghost use Rattle.csp_steps.specs.Evaluated.{Fits};
 
+use crate::evaluated::{Evaluated, body_place};
 use csp_atoms::Value;
 use csp_base::NoMemory;
-use csp_program::{Body, Def, Program, ValueKind};
+use csp_program::{Body, Program, ValueKind};
 use csp_values::EvalFault;
 use term_pool::{Pool, ProcId};
 
@@ -38,36 +40,31 @@ fn with_values(
     Ok(made)
 }
 
-// The place of the body of a definition.
-fn enter_def(pool: &mut Pool, def: &Def, values: &[Value]) -> Result<ProcId, EvalFault>
-    ensures process { GivesPlace pool.new result (meant.process_of def.now.params def.now.body values.now) }
+/// The place of the body of the definition with the number `def`, which is put into the pool with the values in place of the parameters.
+pub(crate) fn enter(
+    program: &Program,
+    pool: &mut Pool,
+    evaluated: &mut Evaluated,
+    def: u32,
+    values: &[Value],
+) -> Result<ProcId, EvalFault>
+    requires fits { Fits program.now pool.old evaluated.old }
+    ensures process { GivesPlace pool.new result (meant.called (slice_get program.now.defs def) values.now) }
     ensures front { IsFront pool.old pool.new }
+    ensures fits { OnOk result (Fits program.now pool.new evaluated.new) }
 {
-    match &def.body {
+    let Some(found) = program.content().defs.get(def as usize) else {
+        return Err(KIND);
+    };
+    match &found.body {
         Body::Process(body) => {
-            let id = pool.put(body)?;
-            let made = with_values(pool, def.params.as_slice(), values, id)?;
+            let id = body_place(pool, &mut evaluated.bodies, def, body)?;
+            let made = with_values(pool, found.params.as_slice(), values, id)?;
             Ok(made)
         }
         Body::Datum(_) => Err(KIND),
         Body::Nametype(_) => Err(KIND),
         Body::Datatype(_) => Err(KIND),
         Body::Network(_) => Err(KIND),
-    }
-}
-
-/// The place of the body of the definition with the number `def`, which is put into the pool with the values in place of the parameters.
-pub(crate) fn enter(
-    program: &Program,
-    pool: &mut Pool,
-    def: u32,
-    values: &[Value],
-) -> Result<ProcId, EvalFault>
-    ensures process { GivesPlace pool.new result (meant.called (slice_get program.now.defs def) values.now) }
-    ensures front { IsFront pool.old pool.new }
-{
-    match program.content().defs.get(def as usize) {
-        Some(def) => enter_def(pool, def, values),
-        None => Err(KIND),
     }
 }

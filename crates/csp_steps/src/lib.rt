@@ -4,11 +4,13 @@
 mod around;
 mod choice;
 mod entered;
+mod evaluated;
 mod look;
 mod once;
 mod prefix;
 mod step;
 mod steps;
 
+pub use evaluated::Evaluated;
 pub use step::StepTo;
 pub use steps::steps_in;

@@ -1,6 +1,6 @@
 //! What the steps of a process come from.
 
-ghost use Rattle.std.specs.Prelude.{◌≡◌, ◌<◌, ◌∷◌, [], true, length, map, List, Ok, IfOk};
+ghost use Rattle.std.specs.Prelude.{◌≡◌, ◌<◌, ◌∷◌, [], true, length, map, List, Ok, IfOk, OnOk};
 ghost use Rattle.csp_program.specs.declared.expressions.Expr.{Expr as Expression};
 ghost use Rattle.csp_program.specs.declared.processes.Head.{Head as LogicHead};
 ghost use Rattle.csp_program.specs.declared.processes.Proc.{Proc as Process};
@@ -11,11 +11,13 @@ ghost use Rattle.process_steps.specs.Prefix as meant;
 ghost use Rattle.term_pool.specs.Pooled.{IsFront};
 ghost use Rattle.term_pool.specs.Trees.{all_below, tree_at};
 ghost use Rattle.csp_steps.specs.Computed.{GivesLook};
+ghost use Rattle.csp_steps.specs.Evaluated.{Fits};
 ghost use Rattle.step_values.specs.Starts.{choice_in};
 
 use crate::around::put_ended;
 use crate::choice::{each_put, silent_to};
 use crate::entered::enter;
+use crate::evaluated::Evaluated;
 use crate::prefix::prefix_steps;
 use crate::step::StepTo;
 use containers::Items;
@@ -160,13 +162,16 @@ fn look_call(
     alloc: Global,
     program: &Program,
     pool: &mut Pool,
+    evaluated: &mut Evaluated,
     def: u32,
     values: &[Value],
 ) -> Result<Look, EvalFault>
+    requires fits { Fits program.now pool.old evaluated.old }
     ensures look { (args : List Expression) → need.arguments_in program.now args ≡ Ok values.now → GivesLook program.now pool.new result (proc.Call def args) }
     ensures front { IsFront pool.old pool.new }
+    ensures fits { OnOk result (Fits program.now pool.new evaluated.new) }
 {
-    let to = enter(program, pool, def, values)?;
+    let to = enter(program, pool, evaluated, def, values)?;
     let steps = one_step(alloc, Label::Silent, to)?;
     Ok(Look::Steps(steps))
 }
@@ -176,11 +181,14 @@ pub(crate) fn look_at(
     alloc: Global,
     program: &Program,
     pool: &mut Pool,
+    evaluated: &mut Evaluated,
     id: ProcId,
 ) -> Result<Look, EvalFault>
     requires within { id.0 < length pool.old }
+    requires fits { Fits program.now pool.old evaluated.old }
     ensures look { GivesLook program.now pool.new result (tree_at pool.old id) }
     ensures front { IsFront pool.old pool.new }
+    ensures fits { OnOk result (Fits program.now pool.new evaluated.new) }
 {
     match pool.node(id) {
         Node::Stop => {
@@ -223,7 +231,7 @@ pub(crate) fn look_at(
         Node::Call(def, args) => {
             let def = *def;
             let values = arguments_in(alloc, program, args.as_slice())?;
-            look_call(alloc, program, pool, def, values.as_slice())
+            look_call(alloc, program, pool, evaluated, def, values.as_slice())
         }
     }
 }

@@ -1,14 +1,16 @@
 //! The steps of a process of a pool.
 
-ghost use Rattle.std.specs.Prelude.{◌≡◌, ◌<◌, true, length, map, IfOk};
+ghost use Rattle.std.specs.Prelude.{◌≡◌, ◌<◌, true, length, map, IfOk, OnOk};
 ghost use Rattle.process_steps.specs.StepList.{steps_of, steps_of_choice};
 ghost use Rattle.term_pool.specs.Pooled.{IsFront};
 ghost use Rattle.term_pool.specs.Trees.{all_below, tree_at};
 ghost use Rattle.csp_steps.specs.Computed.{GivesMoves};
+ghost use Rattle.csp_steps.specs.Evaluated.{Fits};
 ghost use Rattle.csp_steps.specs.Listed.{AreStepsOf, FaultIs};
 
 use crate::around::around;
 use crate::choice::add_operand;
+use crate::evaluated::Evaluated;
 use crate::look::{Look, look_at};
 use crate::once::once;
 use crate::step::StepTo;
@@ -24,20 +26,23 @@ fn steps_at(
     alloc: Global,
     program: &Program,
     pool: &mut Pool,
+    evaluated: &mut Evaluated,
     id: ProcId,
 ) -> Result<Items<StepTo>, EvalFault>
     requires within { id.0 < length pool.old }
+    requires fits { Fits program.now pool.old evaluated.old }
     ensures steps { GivesMoves pool.new result (steps_of program.now (tree_at pool.old id)) }
     ensures front { IsFront pool.old pool.new }
+    ensures fits { OnOk result (Fits program.now pool.new evaluated.new) }
 {
-    let found = look_at(alloc, program, pool, id)?;
+    let found = look_at(alloc, program, pool, evaluated, id)?;
     match found {
         Look::Steps(steps) => Ok(steps),
-        Look::Same(same) => steps_at(alloc, program, pool, same),
-        Look::Choice(ids) => steps_of_operands(alloc, program, pool, ids.as_slice()),
+        Look::Same(same) => steps_at(alloc, program, pool, evaluated, same),
+        Look::Choice(ids) => { steps_of_operands(alloc, program, pool, evaluated, ids.as_slice()) },
         Look::Around(below) => {
-            let below = steps_at(alloc, program, pool, below)?;
-            around(alloc, program, pool, id, below.as_slice())
+            let below = steps_at(alloc, program, pool, evaluated, below)?;
+            around(alloc, program, pool, evaluated, id, below.as_slice())
         }
     }
 }
@@ -48,34 +53,41 @@ fn steps_of_operands(
     alloc: Global,
     program: &Program,
     pool: &mut Pool,
+    evaluated: &mut Evaluated,
     ids: &[ProcId],
 ) -> Result<Items<StepTo>, EvalFault>
     requires within { all_below (length pool.old) ids.now ≡ true }
+    requires fits { Fits program.now pool.old evaluated.old }
     ensures steps { GivesMoves pool.new result (steps_of_choice program.now (steps_of program.now) (map (tree_at pool.old) ids.now)) }
     ensures front { IsFront pool.old pool.new }
+    ensures fits { OnOk result (Fits program.now pool.new evaluated.new) }
 {
     let mut steps = Items::new(alloc);
     for (index, id) in ids.iter().enumerate() {
-        let below = steps_at(alloc, program, pool, *id)?;
+        let below = steps_at(alloc, program, pool, evaluated, *id)?;
         steps = add_operand(alloc, pool, ids, index, below.as_slice(), steps)?;
     }
     Ok(steps)
 }
 
-/// The steps of the process at a place of the pool, each once. The processes after them are put into the pool. A fault of kind `Value` comes only where
+/// The steps of the process at a place of the pool, each once. The processes after them are put into the pool. What is evaluated on the way is kept, if it
+/// can come again: what `evaluated` has kept of the pool and the program isn't evaluated anew. A fault of kind `Value` comes only where
 /// the process has no list of steps for want of a value, with the kind of the first value that there isn't.
 pub fn steps_in(
     alloc: Global,
     program: &Program,
     pool: &mut Pool,
+    evaluated: &mut Evaluated,
     id: ProcId,
 ) -> Result<Vec<StepTo>, EvalFault>
     requires within { id.0 < length pool.old }
+    requires fits { Fits program.now pool.old evaluated.old }
     ensures steps { IfOk result (λ steps. AreStepsOf program.now pool.new (tree_at pool.old id) steps.items) }
     ensures front { IsFront pool.old pool.new }
+    ensures fits { OnOk result (Fits program.now pool.new evaluated.new) }
     ensures fault { FaultIs result (steps_of program.now (tree_at pool.old id)) }
 {
-    let listed = steps_at(alloc, program, pool, id)?;
+    let listed = steps_at(alloc, program, pool, evaluated, id)?;
     let steps = once(alloc, listed.as_slice())?;
     Ok(steps)
 }

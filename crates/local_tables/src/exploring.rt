@@ -1,6 +1,7 @@
 //! The exploration of a component.
 
 ghost use Rattle.std.specs.Prelude.{[], ◌≡◌, ◌+◌, ◌<◌, ◌≤◌, ◌^◌, ℕ, Some, length, slice_get, IfOk, IfErr, OnOk};
+ghost use Rattle.csp_steps.specs.Evaluated.{Fits};
 ghost use Rattle.csp_tables.specs.RawTable.{RawStep};
 ghost use Rattle.local_tables.specs.Component.{component, step_count};
 ghost use Rattle.local_tables.specs.Faults.{Tells};
@@ -14,7 +15,7 @@ use crate::local_table::{LocalTable, Room};
 use crate::origins::trace_to;
 use csp_base::{Event, EventSet, NoMemory};
 use csp_program::{Proc, Program};
-use csp_steps::{StepTo, steps_in};
+use csp_steps::{Evaluated, StepTo, steps_in};
 use csp_tables::RawTable;
 use process_steps::Label;
 use std::alloc::Global;
@@ -121,24 +122,49 @@ fn fill(alloc: Global, task: &Task<'_>, found: &mut Found) -> Result<(), Stop>
     ensures stop { IfErr result (StopsAt task.now.program.now (component task.now.alphabet.now task.now.start.now) task.now.room found.new) }
 {
     begin(task, found)?;
+    let mut evaluated = Evaluated::new(alloc);
+    follow_all(alloc, task, found, &mut evaluated)
+}
+
+// Follows the first term, which is found, and each that is found then.
+fn follow_all(
+    alloc: Global,
+    task: &Task<'_>,
+    found: &mut Found,
+    evaluated: &mut Evaluated,
+) -> Result<(), Stop>
+    requires room { CanBePassed task.now.room }
+    requires fits { Fits task.now.program.now found.old.pool evaluated.old }
+    requires up_to { IsUpTo task.now.program.now (component task.now.alphabet.now task.now.start.now) task.now.room found.old 0 }
+    ensures up_to { OnOk result (IsUpTo task.now.program.now (component task.now.alphabet.now task.now.start.now) task.now.room found.new found.new.table.count) }
+    ensures stop { IfErr result (StopsAt task.now.program.now (component task.now.alphabet.now task.now.start.now) task.now.room found.new) }
+{
     let mut at = 0;
     while at < found.table.count() {
-        follow(alloc, task, found, at)?;
+        follow(alloc, task, found, evaluated, at)?;
         at += 1;
     }
     Ok(())
 }
 
 // Follows the term with the number `at`: its steps come into the table.
-fn follow(alloc: Global, task: &Task<'_>, found: &mut Found, at: u32) -> Result<(), Stop>
+fn follow(
+    alloc: Global,
+    task: &Task<'_>,
+    found: &mut Found,
+    evaluated: &mut Evaluated,
+    at: u32,
+) -> Result<(), Stop>
     requires room { CanBePassed task.now.room }
     requires here { at < length found.old.terms }
+    requires fits { Fits task.now.program.now found.old.pool evaluated.old }
     requires up_to { IsUpTo task.now.program.now (component task.now.alphabet.now task.now.start.now) task.now.room found.old at }
+    ensures fits { OnOk result (Fits task.now.program.now found.new.pool evaluated.new) }
     ensures up_to { OnOk result (IsUpTo task.now.program.now (component task.now.alphabet.now task.now.start.now) task.now.room found.new (at + 1)) }
     ensures stop { IfErr result (StopsAt task.now.program.now (component task.now.alphabet.now task.now.start.now) task.now.room found.new) }
 {
     let id = found.terms.as_slice()[at as usize];
-    let steps = steps_in(alloc, task.program, &mut found.pool, id)?;
+    let steps = steps_in(alloc, task.program, &mut found.pool, evaluated, id)?;
     take_all(task, found, at, &steps)
 }
 
@@ -146,6 +172,7 @@ fn follow(alloc: Global, task: &Task<'_>, found: &mut Found, at: u32) -> Result<
 fn take_all(task: &Task<'_>, found: &mut Found, at: u32, steps: &[StepTo]) -> Result<(), Stop>
     requires room { CanBePassed task.now.room }
     requires at { IsAt task.now.program.now (component task.now.alphabet.now task.now.start.now) task.now.room found.old at steps.now 0 }
+    ensures pool { OnOk result (found.new.pool ≡ found.old.pool) }
     ensures up_to { OnOk result (IsUpTo task.now.program.now (component task.now.alphabet.now task.now.start.now) task.now.room found.new (at + 1)) }
     ensures stop { IfErr result (StopsAt task.now.program.now (component task.now.alphabet.now task.now.start.now) task.now.room found.new) }
 {
@@ -166,6 +193,7 @@ fn take(
     requires room { CanBePassed task.now.room }
     requires inside { place < length steps.now }
     requires at { IsAt task.now.program.now (component task.now.alphabet.now task.now.start.now) task.now.room found.old at steps.now place }
+    ensures pool { OnOk result (found.new.pool ≡ found.old.pool) }
     ensures at { OnOk result (IsAt task.now.program.now (component task.now.alphabet.now task.now.start.now) task.now.room found.new at steps.now (place + 1)) }
     ensures stop { IfErr result (StopsAt task.now.program.now (component task.now.alphabet.now task.now.start.now) task.now.room found.new) }
 {

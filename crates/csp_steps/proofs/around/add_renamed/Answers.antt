@@ -1,10 +1,11 @@
-use Rattle.std.proofs.Common.{◌≡◌, List, [], ◌∷◌, map, refl, ap, sym, ◌∙◌}
+use Rattle.std.proofs.Common.{map, refl, ap, sym, ◌∙◌}
 use Rattle.csp_program.specs.declared.processes.Proc.TheVariants as proc
-use Rattle.process_steps.specs.StepList.{in_renaming}
+use Rattle.step_values.specs.Images.{becomes}
 use Rattle.process_steps.specs.declared.label.Label.{Label}
 use Rattle.process_steps.specs.declared.label.Label.TheVariants.{Silent, Visible, Tick}
+use Rattle.term_pool.specs.First.{with_first}
 use Rattle.term_pool.specs.Trees.{tree_at}
-use Rattle.csp_steps.specs.Computed.{images_in}
+use Rattle.csp_steps.specs.Computed.{images_in, renamed_moves}
 use Rattle.csp_steps.proofs.Choosing.{as_move}
 use Rattle.csp_steps.proofs.Rounds.{add_many, add_one}
 use Rattle.csp_steps.proofs.around.add_renamed.Goals as goal
@@ -12,22 +13,22 @@ use Rattle.csp_steps.proofs.around.add_renamed.Goals as goal
 pub returns-in_ok-to-in-Tick-clause-steps : goal.returns-in_ok-to-in-Tick-clause-steps
 returns-in_ok-to-in-Tick-clause-steps c =
     add_one c.args.pool.now c.put_ended.new.pool c.in_ok-to-in-Tick.ensures.front c.args.steps c.requires.steps (record { label = Tick; to = c.in_ok-to-in-Tick.to }) (Tick, proc.Ended) _ c.add_step.result
-    (ap (λ (l : Label). in_renaming c.args.pairs.now c.args.gens.now c.args.renamed.now l (tree_at c.args.pool.now c.args.step.to)) c.in-Tick.is)
+    (ap (λ (l : Label). renamed_moves (becomes c.args.images.now) (tree_at c.args.pool.now c.args.id) l (tree_at c.args.pool.now c.args.step.to)) c.in-Tick.is)
     (as_move c.put_ended.new.pool (record { label = Tick; to = c.in_ok-to-in-Tick.to }) (Tick, proc.Ended) refl c.in_ok-to-in-Tick.ensures.process) c.add_step.ensures
 
 pub returns-in_ok-to-in-Silent-clause-steps : goal.returns-in_ok-to-in-Silent-clause-steps
 returns-in_ok-to-in-Silent-clause-steps c =
-    add_one c.args.pool.now c.put_renaming.new.pool c.in_ok-to-in-Silent.ensures.front c.args.steps c.requires.steps (record { label = Silent; to = c.in_ok-to-in-Silent.to })
-    (Silent, proc.Rename (tree_at c.args.pool.now c.args.step.to) c.args.pairs.now c.args.gens.now) _ c.add_step-in-Silent.result
-    (ap (λ (l : Label). in_renaming c.args.pairs.now c.args.gens.now c.args.renamed.now l (tree_at c.args.pool.now c.args.step.to)) c.in-Silent.is)
-    (as_move c.put_renaming.new.pool (record { label = Silent; to = c.in_ok-to-in-Silent.to }) (Silent, proc.Rename (tree_at c.args.pool.now c.args.step.to) c.args.pairs.now c.args.gens.now) refl
+    add_one c.args.pool.now c.put_with_first.new.self c.in_ok-to-in-Silent.ensures.front c.args.steps c.requires.steps (record { label = Silent; to = c.in_ok-to-in-Silent.to })
+    (Silent, with_first (tree_at c.args.pool.now c.args.id) (tree_at c.args.pool.now c.args.step.to)) _ c.add_step-in-Silent.result
+    (ap (λ (l : Label). renamed_moves (becomes c.args.images.now) (tree_at c.args.pool.now c.args.id) l (tree_at c.args.pool.now c.args.step.to)) c.in-Silent.is)
+    (as_move c.put_with_first.new.self (record { label = Silent; to = c.in_ok-to-in-Silent.to }) (Silent, with_first (tree_at c.args.pool.now c.args.id) (tree_at c.args.pool.now c.args.step.to)) refl
     c.in_ok-to-in-Silent.ensures.process) c.add_step-in-Silent.ensures
 
 pub returns-in_ok-to-in-Visible-clause-steps : goal.returns-in_ok-to-in-Visible-clause-steps
 returns-in_ok-to-in-Visible-clause-steps c =
-    add_many c.args.pool.now c.put_renaming-in-Visible.new.pool c.in_ok-to-in-Visible.ensures.front c.args.steps c.requires.steps c.in_ok-to-in-Visible.to
-    (proc.Rename (tree_at c.args.pool.now c.args.step.to) c.args.pairs.now c.args.gens.now) c.as_slice.result.now _ c.add_events.result
-    (ap (λ (l : Label). in_renaming c.args.pairs.now c.args.gens.now c.args.renamed.now l (tree_at c.args.pool.now c.args.step.to)) c.in-Visible.is ∙
-    sym (ap (map (λ d. (Visible d, proc.Rename (tree_at c.args.pool.now c.args.step.to) c.args.pairs.now c.args.gens.now)))
-    (c.as_slice.ensures ∙ (c.in_ok-events-in-Visible.ensures ∙ ap (images_in c.args.renamed.now) c.in-Visible.is))))
+    add_many c.args.pool.now c.put_with_first-in-Visible.new.self c.in_ok-to-in-Visible.ensures.front c.args.steps c.requires.steps c.in_ok-to-in-Visible.to
+    (with_first (tree_at c.args.pool.now c.args.id) (tree_at c.args.pool.now c.args.step.to)) c.as_slice.result.now _ c.add_events.result
+    (ap (λ (l : Label). renamed_moves (becomes c.args.images.now) (tree_at c.args.pool.now c.args.id) l (tree_at c.args.pool.now c.args.step.to)) c.in-Visible.is ∙
+    sym (ap (map (λ d. (Visible d, with_first (tree_at c.args.pool.now c.args.id) (tree_at c.args.pool.now c.args.step.to))))
+    (c.as_slice.ensures ∙ (c.in_ok-events-in-Visible.ensures ∙ ap (images_in (becomes c.args.images.now)) c.in-Visible.is))))
     c.in_ok-to-in-Visible.ensures.process c.add_events.ensures

@@ -1,9 +1,9 @@
-use Rattle.std.proofs.Common.{◌≡◌, List, [], refl, sym, subst, arith}
-use Rattle.process_steps.specs.StepList.{in_hiding}
-use Rattle.csp_steps.specs.Computed.{AreMoves}
+use Rattle.std.proofs.Common.{List, [], refl, sym, subst, arith}
+use Rattle.term_pool.specs.Trees.{tree_at}
+use Rattle.csp_steps.specs.Computed.{hidden_move, AreMoves}
 use Rattle.csp_steps.specs.declared.step.StepTo.{StepTo}
 use Rattle.csp_steps.proofs.Computing.{whole_moves}
-use Rattle.csp_steps.proofs.Places.{front_both, front_same}
+use Rattle.csp_steps.proofs.Places.{front_both, front_same, still_within}
 use Rattle.csp_steps.proofs.Rounds.{hiding_next, step_in}
 use Rattle.csp_steps.proofs.around.hiding.Goals as goal
 
@@ -15,16 +15,19 @@ loop-step-init c = record {
 
 pub in_hiding-requires : goal.in_hiding-requires
 in_hiding-requires c =
-    record { within = step_in c.args.pool.now c.loop-step.pool c.loop-step.pool c.loop-step.invariant.front (front_same c.loop-step.pool) c.args.below.now c.requires.below c.loop-step.step-index c.step-item.result (omega arith) c.step-item.is }
+    record {
+      id = still_within c.args.pool.now c.loop-step.pool c.loop-step.invariant.front c.args.id c.requires.id;
+      within = step_in c.args.pool.now c.loop-step.pool c.loop-step.pool c.loop-step.invariant.front (front_same c.loop-step.pool) c.args.below.now c.requires.below c.loop-step.step-index c.step-item.result (omega arith) c.step-item.is;
+    }
 
 pub loop-step-preserved : goal.loop-step-preserved
 loop-step-preserved c = record {
   front = front_both c.args.pool.now c.loop-step.pool c.in_hiding.new.pool c.loop-step.invariant.front c.in_ok-made.ensures.front;
   moves = hiding_next c.args.pool.now c.loop-step.pool c.in_hiding.new.pool c.loop-step.invariant.front c.in_ok-made.ensures.front c.args.below.now c.requires.below
-      c.loop-step.step-index c.step-item.result (omega arith) c.step-item.is c.args.set.now c.args.hidden.now c.loop-step.steps c.push.new.self c.in_ok-made.made
+      c.loop-step.step-index c.step-item.result (omega arith) c.step-item.is c.args.id c.requires.id c.args.hidden.now c.loop-step.steps c.push.new.self c.in_ok-made.made
       c.loop-step.invariant.moves c.in_ok-made.ensures.move_ c.in_ok-push.ensures.ok;
 }
 
 pub returns-clause-steps : goal.returns-clause-steps
 returns-clause-steps c =
-    whole_moves c.args.pool.now c.loop-step.pool (λ m. in_hiding c.args.set.now c.args.hidden.now m.0 m.1) [] c.args.below.now c.loop-step.steps c.loop-step.step-index (omega arith) c.loop-step.invariant.moves
+    whole_moves c.args.pool.now c.loop-step.pool (λ m. hidden_move c.args.hidden.now (tree_at c.args.pool.now c.args.id) m.0 m.1) [] c.args.below.now c.loop-step.steps c.loop-step.step-index (omega arith) c.loop-step.invariant.moves

@@ -1,12 +1,12 @@
 use Rattle.std.proofs.Common.{map, take}
-use Rattle.process_steps.specs.StepList.{in_hiding}
 use Rattle.term_pool.specs.Pooled.{IsFront}
-use Rattle.csp_steps.specs.Computed.{AreMoves}
+use Rattle.term_pool.specs.Trees.{tree_at}
+use Rattle.csp_steps.specs.Computed.{hidden_move, AreMoves}
 use Rattle.csp_steps.specs.Listed.{seen}
 use Rattle.csp_steps.proofs.around.hiding.Given as goal
 
 abbrev pub invariant-loop-step : goal.invariant-loop-step
 invariant-loop-step l = record {
   front : IsFront l.initial.pool l.pool;
-  moves : AreMoves l.pool l.steps (map (λ m. in_hiding l.set l.hidden m.0 m.1) (map (seen l.initial.pool) (take l.step-index l.below)));
+  moves : AreMoves l.pool l.steps (map (λ m. hidden_move l.hidden (tree_at l.initial.pool l.id) m.0 m.1) (map (seen l.initial.pool) (take l.step-index l.below)));
 }

@@ -1,9 +1,10 @@
-use Rattle.std.proofs.Common.{◌≡◌, List, [], refl, sym, subst, arith}
-use Rattle.process_steps.specs.StepList.{in_renaming}
-use Rattle.csp_steps.specs.Computed.{AreMoves}
+use Rattle.std.proofs.Common.{List, [], refl, sym, subst, arith}
+use Rattle.step_values.specs.Images.{becomes}
+use Rattle.term_pool.specs.Trees.{tree_at}
+use Rattle.csp_steps.specs.Computed.{renamed_moves, AreMoves}
 use Rattle.csp_steps.specs.declared.step.StepTo.{StepTo}
 use Rattle.csp_steps.proofs.Computing.{whole_joined}
-use Rattle.csp_steps.proofs.Places.{front_both, front_same}
+use Rattle.csp_steps.proofs.Places.{front_both, front_same, still_within}
 use Rattle.csp_steps.proofs.Rounds.{renaming_next, step_in}
 use Rattle.csp_steps.proofs.around.renaming.Goals as goal
 
@@ -15,6 +16,7 @@ loop-step-init c = record {
 
 pub add_renamed-requires : goal.add_renamed-requires
 add_renamed-requires c = record {
+  id = still_within c.args.pool.now c.loop-step.pool c.loop-step.invariant.front c.args.id c.requires.id;
   within = step_in c.args.pool.now c.loop-step.pool c.loop-step.pool c.loop-step.invariant.front (front_same c.loop-step.pool) c.args.below.now c.requires.below c.loop-step.step-index c.step-item.result (omega arith) c.step-item.is;
   steps = c.loop-step.invariant.moves.within;
 }
@@ -23,10 +25,10 @@ pub loop-step-preserved : goal.loop-step-preserved
 loop-step-preserved c = record {
   front = front_both c.args.pool.now c.loop-step.pool c.add_renamed.new.pool c.loop-step.invariant.front c.in_ok-steps.ensures.front;
   moves = renaming_next c.args.pool.now c.loop-step.pool c.add_renamed.new.pool c.loop-step.invariant.front c.in_ok-steps.ensures.front c.args.below.now c.requires.below
-      c.loop-step.step-index c.step-item.result (omega arith) c.step-item.is c.args.pairs.now c.args.gens.now c.args.renamed.now c.loop-step.steps c.in_ok-steps.steps
+      c.loop-step.step-index c.step-item.result (omega arith) c.step-item.is c.args.id c.requires.id (becomes c.args.images.now) c.loop-step.steps c.in_ok-steps.steps
       c.loop-step.invariant.moves c.in_ok-steps.ensures.steps;
 }
 
 pub returns-clause-steps : goal.returns-clause-steps
 returns-clause-steps c =
-    whole_joined c.args.pool.now c.loop-step.pool (λ m. in_renaming c.args.pairs.now c.args.gens.now c.args.renamed.now m.0 m.1) c.args.below.now c.loop-step.steps c.loop-step.step-index (omega arith) c.loop-step.invariant.moves
+    whole_joined c.args.pool.now c.loop-step.pool (λ m. renamed_moves (becomes c.args.images.now) (tree_at c.args.pool.now c.args.id) m.0 m.1) c.args.below.now c.loop-step.steps c.loop-step.step-index (omega arith) c.loop-step.invariant.moves

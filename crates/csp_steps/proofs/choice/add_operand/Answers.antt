@@ -1,4 +1,4 @@
-use Rattle.std.proofs.Common.{◌≡◌, ◌++◌, List, [], map, refl, sym, ◌∙◌, subst, arith, append-nil}
+use Rattle.std.proofs.Common.{map, sym, arith, append-nil}
 use Rattle.process_steps.specs.StepList.{in_choice}
 use Rattle.term_pool.specs.Trees.{tree_at}
 use Rattle.csp_steps.specs.Listed.{seen}

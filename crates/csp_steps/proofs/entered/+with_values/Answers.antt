@@ -1,9 +1,5 @@
-use Rattle.std.proofs.Common.{◌≡◌, ℕ, Some, List, length, ap, sym, ◌∙◌, arith}
+use Rattle.std.proofs.Common.{ℕ, List, length, ap, arith}
 use Rattle.std.proofs.lemmas.Option.{slice_get_within}
-use Rattle.csp_atoms.specs.declared.value.Value.{Value}
-use Rattle.csp_program.specs.Substitution.{proc_with}
-use Rattle.process_steps.specs.Needed.{with_values}
-use Rattle.term_pool.specs.Trees.{tree_at}
 use Rattle.csp_steps.proofs.Entering.{next_values, no_params, no_values}
 use Rattle.csp_steps.proofs.entered.+with_values.Goals as goal
 

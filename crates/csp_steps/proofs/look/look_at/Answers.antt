@@ -1,4 +1,4 @@
-use Rattle.std.proofs.Common.{◌≡◌, Ok, List, [], ◌∷◌, length, map, refl, ap, sym, ◌∙◌, subst}
+use Rattle.std.proofs.Common.{Ok, List, length, map, refl, ap, sym, ◌∙◌, subst}
 use Rattle.csp_program.specs.declared.processes.Field.{Field}
 use Rattle.csp_program.specs.declared.processes.Proc.TheVariants as proc
 use Rattle.process_steps.specs.Needed.{arguments_in}
@@ -9,6 +9,7 @@ use Rattle.csp_steps.specs.Computed.{AreOfChoice, GivesLook}
 use Rattle.csp_steps.proofs.Computing.{look_passed}
 use Rattle.csp_steps.proofs.Forms.{arguments_fault, each_external_fault, each_internal_fault, ended, every_place, external, first_place, head_fault, hide, look_at, rename, second_place, sequence, stop}
 use Rattle.csp_steps.proofs.Looking.{none_listed, start_passed}
+use Rattle.csp_steps.proofs.Noting.{fits_then}
 use Rattle.csp_steps.proofs.look.look_at.Goals as goal
 
 pub returns-in-Stop-clause-look : goal.returns-in-Stop-clause-look
@@ -108,3 +109,17 @@ pub returns-in_ok-values-in-Call-clause-look : goal.returns-in_ok-values-in-Call
 returns-in_ok-values-in-Call-clause-look c =
     look_at c.args.program.now c.args.pool.now c.look_call.new.pool c.look_call.result c.node.result.now _ (tree_at c.args.pool.now c.args.id) c.node.ensures.process c.in-Call.is
     (c.look_call.ensures.look c.in-Call.args (ap (arguments_in c.args.program.now) (sym c.as_slice-in-Call.ensures) ∙ (c.in_ok-values-in-Call.ensures ∙ ap (λ vs. Ok vs) (sym c.as_slice-in-Call-2.ensures))))
+
+pub returns-in-Skip-clause-fits : goal.returns-in-Skip-clause-fits
+returns-in-Skip-clause-fits c = fits_then c.args.program.now c.args.pool.now c.look_skip.new.pool c.args.evaluated.now c.look_skip.result c.look_skip.ensures.front c.requires.fits
+
+pub returns-in_ok-fields-in-Prefix-clause-fits : goal.returns-in_ok-fields-in-Prefix-clause-fits
+returns-in_ok-fields-in-Prefix-clause-fits c = fits_then c.args.program.now c.args.pool.now c.look_prefix.new.pool c.args.evaluated.now c.look_prefix.result c.look_prefix.ensures.front c.requires.fits
+
+pub returns-in_ok-atoms-in-EachExternal-clause-fits : goal.returns-in_ok-atoms-in-EachExternal-clause-fits
+returns-in_ok-atoms-in-EachExternal-clause-fits c =
+    fits_then c.args.program.now c.args.pool.now c.look_each_external.new.pool c.args.evaluated.now c.look_each_external.result c.look_each_external.ensures.front c.requires.fits
+
+pub returns-in_ok-atoms-in-EachInternal-clause-fits : goal.returns-in_ok-atoms-in-EachInternal-clause-fits
+returns-in_ok-atoms-in-EachInternal-clause-fits c =
+    fits_then c.args.program.now c.args.pool.now c.look_each_internal.new.pool c.args.evaluated.now c.look_each_internal.result c.look_each_internal.ensures.front c.requires.fits

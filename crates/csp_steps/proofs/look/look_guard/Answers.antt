@@ -1,4 +1,4 @@
-use Rattle.std.proofs.Common.{◌≡◌, Ok, List, ap, sym, ◌∙◌, subst}
+use Rattle.std.proofs.Common.{Ok, List, ap, sym, ◌∙◌, subst}
 use Rattle.csp_program.specs.declared.processes.Proc.TheVariants as proc
 use Rattle.process_steps.specs.StepList.{steps_of}
 use Rattle.term_pool.specs.Trees.{tree_at}

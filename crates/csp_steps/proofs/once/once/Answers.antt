@@ -1,4 +1,4 @@
-use Rattle.std.proofs.Common.{arith, sym, ◌∙◌}
+use Rattle.std.proofs.Common.{arith, ◌∙◌}
 use Rattle.csp_steps.proofs.Doubles.{kept_next, made_once, only_next}
 use Rattle.csp_steps.proofs.once.once.Goals as goal
 

@@ -1,15 +1,12 @@
-use Rattle.std.proofs.Common.{◌≡◌, ◌+◌, ◌*◌, ◌<◌, true, Ok, Err, List, [], ◌∷◌, map, length, get_or, refl, ap, sym, ◌∙◌, subst, arith}
+use Rattle.std.proofs.Common.{Ok, List, map, length, get_or, ap, sym, ◌∙◌, arith}
 use Rattle.csp_atoms.specs.declared.atom.Atom.{Atom}
-use Rattle.process_steps.specs.Prefix.{ways_to_fill}
 use Rattle.csp_program.specs.declared.processes.Field.TheVariants as field
 use Rattle.term_pool.specs.Trees.{tree_at}
-use Rattle.value_operators.proofs.Faults.{passed}
-use Rattle.csp_steps.specs.Computed.{all_within, filled}
 use Rattle.csp_steps.specs.Listed.{seen}
 use Rattle.csp_steps.proofs.Computing.{moves_passed, passed_moves, same_moves}
 use Rattle.csp_steps.proofs.Filling.{given_fault, given_next, input_begin, input_end, input_fault, input_next, no_fields, no_sets, not_given, one_field, output_fault, output_next, place_fault, no_fault, taken_next}
 use Rattle.step_values.proofs.Pairs.{count_is}
-use Rattle.csp_steps.proofs.Places.{all_within_stay, front_both, front_same, still_within}
+use Rattle.csp_steps.proofs.Places.{all_within_stay, front_both, front_same}
 use Rattle.csp_steps.proofs.prefix.+fill.Goals as goal
 
 pub fill_output-returns-in_err-value-clause-steps : goal.fill_output-returns-in_err-value-clause-steps

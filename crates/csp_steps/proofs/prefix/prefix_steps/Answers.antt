@@ -1,4 +1,4 @@
-use Rattle.std.proofs.Common.{◌≡◌, Ok, List, [], length, map, ap, sym, ◌∙◌}
+use Rattle.std.proofs.Common.{Ok, List, length, map, ap, sym, ◌∙◌}
 use Rattle.process_steps.specs.Prefix.{ways_to_fill}
 use Rattle.term_pool.specs.Trees.{tree_at}
 use Rattle.csp_steps.specs.Computed.{all_within, filled}

@@ -1,11 +1,11 @@
-use Rattle.std.proofs.Common.{◌≡◌, ◌+◌, ◌*◌, true, Ok, drop, length, map}
+use Rattle.std.proofs.Common.{◌≡◌, ◌+◌, ◌*◌, true, drop, length, map}
 use Rattle.csp_program.specs.Depth.{proc_depth}
 use Rattle.csp_program.specs.Lists.{greatest}
-use Rattle.csp_program.specs.Outcome.{and_then}
-use Rattle.process_steps.specs.StepList.{in_choice, steps_of, steps_of_choice}
+use Rattle.process_steps.specs.StepList.{steps_of, steps_of_choice}
 use Rattle.term_pool.specs.Pooled.{IsFront}
 use Rattle.term_pool.specs.Trees.{tree_at}
 use Rattle.csp_steps.specs.Computed.{all_within}
+use Rattle.csp_steps.specs.Evaluated.{Fits}
 use Rattle.csp_steps.specs.Listed.{seen}
 use Rattle.csp_steps.proofs.Choosing.{of_operand}
 use Rattle.step_values.proofs.Lists.{left}
@@ -22,6 +22,7 @@ decreases-steps_of_operands l = 2 * greatest (map proc_depth (map (tree_at l.poo
 abbrev pub invariant-steps_of_operands-loop-index : goal.invariant-steps_of_operands-loop-index
 invariant-steps_of_operands-loop-index l = record {
   front : IsFront l.initial.pool l.pool;
+  fits : Fits l.program l.pool l.evaluated;
   within : all_within (length l.pool) l.steps ≡ true;
   rest :
       steps_of_choice l.program (steps_of l.program) (map (tree_at l.initial.pool) l.ids) ≡

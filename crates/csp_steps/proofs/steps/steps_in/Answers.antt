@@ -1,4 +1,4 @@
-use Rattle.std.proofs.Common.{List, ◌∙◌, subst}
+use Rattle.std.proofs.Common.{List, subst}
 use Rattle.term_pool.specs.Trees.{tree_at}
 use Rattle.csp_steps.specs.Once.{IsOnce}
 use Rattle.csp_steps.specs.declared.step.StepTo.{StepTo}

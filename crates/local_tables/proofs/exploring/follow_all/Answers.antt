@@ -4,20 +4,16 @@ use Rattle.local_tables.specs.Component.{component}
 use Rattle.local_tables.specs.Progress.{terms_at}
 use Rattle.local_tables.proofs.Ending.{up_to_all}
 use Rattle.local_tables.proofs.Lists.{length_map}
-use Rattle.local_tables.proofs.Taking.{up_to_none}
-use Rattle.local_tables.proofs.exploring.fill.Goals as goal
-
-pub loop-at-init : goal.loop-at-init
-loop-at-init c = up_to_none c.args.task.now.program.now (component c.args.task.now.alphabet.now c.args.task.now.start.now) c.args.task.now.room c.begin.new.found c.in_ok-begin.ensures.so_far c.in_ok-begin.ensures.within c.in_ok-begin.ensures.silent c.in_ok-begin.ensures.steps
+use Rattle.local_tables.proofs.exploring.follow_all.Goals as goal
 
 pub follow-requires-clause-here : goal.follow-requires-clause-here
 follow-requires-clause-here c =
     let found = c.loop-at.found in
     let terms : length (terms_at c.loop-at.found.pool c.loop-at.found.terms) ≡ length c.loop-at.found.terms = length_map (tree_at found.pool) found.terms in
-    let count : length (terms_at c.loop-at.found.pool c.loop-at.found.terms) ≡ c.loop-at.found.table.count = c.loop-at.invariant.so_far.part.count in
+    let count : length (terms_at c.loop-at.found.pool c.loop-at.found.terms) ≡ c.loop-at.found.table.count = c.loop-at.invariant.up_to.so_far.part.count in
     omega (arith, terms, count, c.count.ensures.value, c.loop-at-test.true)
 
 pub returns-clause-up_to : goal.returns-clause-up_to
 returns-clause-up_to c =
     let all : c.loop-at.found.table.count ≤ c.loop-at.at = omega (arith, c.count.ensures.value, c.loop-at-test.false) in
-    up_to_all c.args.task.now.program.now (component c.args.task.now.alphabet.now c.args.task.now.start.now) c.args.task.now.room c.loop-at.found c.loop-at.at c.loop-at.invariant all
+    up_to_all c.args.task.now.program.now (component c.args.task.now.alphabet.now c.args.task.now.start.now) c.args.task.now.room c.loop-at.found c.loop-at.at c.loop-at.invariant.up_to all

@@ -1,0 +1,20 @@
+use Rattle.std.proofs.Common.{List, map, ap, ◌∙◌, subst, slice_get}
+use Rattle.std.proofs.lemmas.Option.{get_or_from_slice_get}
+use Rattle.csp_program.specs.Lists.{joined}
+use Rattle.step_values.specs.Images.{becomes}
+use Rattle.step_values.specs.declared.images.Images.{Images}
+use Rattle.term_pool.specs.Trees.{tree_at}
+use Rattle.csp_steps.specs.Computed.{renamed_moves, AreMoves}
+use Rattle.csp_steps.specs.Evaluated.{HasMoreNumbers}
+use Rattle.csp_steps.specs.Listed.{seen}
+use Rattle.csp_steps.specs.declared.step.StepTo.{StepTo}
+use Rattle.csp_steps.proofs.Own.{rename_fits}
+use Rattle.csp_steps.proofs.around.rename.Goals as goal
+
+pub returns-clause-fits : goal.returns-clause-fits
+returns-clause-fits c =
+    λ p images there is h. rename_fits p c.args.pool.now c.renaming.new.pool c.in_ok-steps.ensures.front c.args.evaluated.now h (tree_at c.args.pool.now c.args.id) c.args.number c.in_ok-steps.steps (map (seen c.args.pool.now) c.args.below.now)
+    images c.note_steps.new.numbers there is
+    (subst (λ (x : Images). AreMoves c.renaming.new.pool c.in_ok-steps.steps (joined (map (λ m. renamed_moves (becomes x) (tree_at c.args.pool.now c.args.id) m.0 m.1) (map (seen c.args.pool.now) c.args.below.now))))
+    (c.index-as_slice-number.is ∙ get_or_from_slice_get c.as_slice.result.now c.args.number images c.index-as_slice-number.result (ap (λ (xs : List (Images)). slice_get xs c.args.number) c.as_slice.ensures ∙ there)) c.in_ok-steps.ensures.steps)
+    (subst (λ (ss : List StepTo). HasMoreNumbers c.args.evaluated.now.renamings c.note_steps.new.numbers c.args.number ss) c.as_slice-2.ensures c.in_ok-note_steps.ensures)

@@ -1,0 +1,11 @@
+use Rattle.std.proofs.Common.{sym, ◌∙◌}
+use Rattle.csp_steps.proofs.Noting.{renamed_known, renamed_new}
+use Rattle.csp_steps.proofs.evaluated.renamed_number.Goals as goal
+
+pub returns-in-Some : goal.returns-in-Some
+returns-in-Some c = λ trees within same h. renamed_known c.args.program.now trees c.args.evaluated.now h c.args.id c.in-Some.number _ same (sym c.known.ensures ∙ c.in-Some.is)
+
+pub returns : goal.returns
+returns c =
+    λ trees within same h. renamed_new c.args.program.now trees c.args.evaluated.now h c.args.id c.in_ok-number.number within _ c.in_ok-images.images c.push.new.self c.keep.new.numbers same c.in_ok-images.ensures
+    (c.in_ok-number.ensures ∙ c.len.ensures) c.in_ok-push.ensures.ok c.in_ok-keep.ensures.ok

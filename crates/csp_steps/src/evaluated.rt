@@ -1,0 +1,182 @@
+//! What was evaluated for the processes of a pool, so that it is evaluated once.
+
+ghost use Rattle.std.specs.Prelude.{◌≡◌, ◌<◌, ℕ, [], ◌∷◌, length, List, nat_eq, slice_get, IfOk, OnOk, OnErr, Ok, Some};
+ghost use Rattle.std.specs.HashMap.{get, IsUnchanged, Updates};
+ghost use Rattle.csp_program.specs.declared.processes.Proc.{Proc as Process};
+ghost use Rattle.csp_program.specs.declared.processes.Proc.TheViews.{out-Proc};
+ghost use Rattle.csp_program.specs.declared.programs.Content.{Content};
+ghost use Rattle.process_steps.specs.Needed as meant;
+ghost use Rattle.process_steps.specs.Renaming as renaming;
+ghost use Rattle.term_pool.specs.Pooled.{IsFront};
+ghost use Rattle.term_pool.specs.Trees.{tree_at};
+ghost use Rattle.csp_steps.specs.Evaluated.{body_of, hidden_by, renamed_by, AreBodies, Fits, GivesImages, GivesNumber, HasMoreNumbers};
+ghost use Rattle.step_values.specs.Images.{KeepsOutcome};
+
+use crate::step::StepTo;
+use containers::Items;
+use csp_base::{EventSet, NoMemory};
+use csp_program::{EventPart, Expr, Gen, Proc, Program};
+use csp_values::EvalFault;
+use process_steps::Label;
+use std::alloc::Global;
+use std::collections::HashMap;
+use step_values::{Images, events_in, images_by_event, renaming_in};
+use term_pool::{Pool, ProcId};
+
+/// What was evaluated for the processes of a pool: the events that hidings hide, what events become by renamings, and the places of the bodies of
+/// definitions.
+#[derive(Drop)]
+pub struct Evaluated {
+    /// Sets of hidden events.
+    pub(crate) sets: Items<EventSet>,
+    /// The number of its set, for the place of a hiding.
+    pub(crate) hidings: HashMap<u32, u32>,
+    /// What events become by renamings.
+    pub(crate) images: Items<Images>,
+    /// The number of what events become by it, for the place of a renaming.
+    pub(crate) renamings: HashMap<u32, u32>,
+    /// The place of its body, for the number of a definition.
+    pub(crate) bodies: HashMap<u32, u32>,
+}
+
+impl Evaluated {
+    /// Nothing yet.
+    pub fn new(alloc: Global) -> Evaluated
+        ensures { (p : Content) → (trees : List Process) → Fits p trees result }
+    {
+        Evaluated {
+            sets: Items::new(alloc),
+            hidings: HashMap::new(alloc),
+            images: Items::new(alloc),
+            renamings: HashMap::new(alloc),
+            bodies: HashMap::new(alloc),
+        }
+    }
+}
+
+// The number that is kept for the key.
+fn known(numbers: &HashMap<u32, u32>, key: u32) -> Option<u32>
+    ensures { result ≡ get nat_eq numbers.now key }
+{
+    numbers.get(&key).copied()
+}
+
+// Keeps a number for the key.
+fn keep(numbers: &mut HashMap<u32, u32>, key: u32, number: u32) -> Result<(), NoMemory>
+    ensures ok { OnOk result (Updates nat_eq numbers.old numbers.new key (Some number)) }
+    ensures err { OnErr result (IsUnchanged numbers.old numbers.new) }
+{
+    match numbers.insert(key, number) {
+        Ok(_) => Ok(()),
+        Err(_) => Err(NoMemory),
+    }
+}
+
+// The number of the next value.
+fn next_number(count: usize) -> Result<u32, NoMemory>
+    ensures { IfOk result (λ number. number ≡ count) }
+{
+    match u32::try_from(count) {
+        Ok(number) => Ok(number),
+        Err(_) => Err(NoMemory),
+    }
+}
+
+/// The number of the set of the hiding at a place, which is evaluated if it isn't yet.
+pub(crate) fn hidden_number(
+    alloc: Global,
+    program: &Program,
+    evaluated: &mut Evaluated,
+    id: ProcId,
+    set: &Expr,
+) -> Result<u32, EvalFault>
+    ensures { (trees : List Process) → id.0 < length trees → hidden_by program.now (out-Proc (tree_at trees id)) ≡ meant.events_in program.now set.now → Fits program.now trees evaluated.old → GivesNumber program.now trees evaluated.new evaluated.new.sets result (λ hidden. meant.events_in program.now set.now ≡ Ok hidden) (meant.events_in program.now set.now) }
+{
+    if let Some(number) = known(&evaluated.hidings, id.0) {
+        return Ok(number);
+    }
+    let hidden = events_in(alloc, program, set)?;
+    let number = next_number(evaluated.sets.len())?;
+    evaluated.sets.push(hidden)?;
+    keep(&mut evaluated.hidings, id.0, number)?;
+    Ok(number)
+}
+
+// What events become by a renaming.
+fn images_in(
+    alloc: Global,
+    program: &Program,
+    pairs: &[(EventPart, EventPart)],
+    gens: &[Gen],
+) -> Result<Images, EvalFault>
+    ensures { GivesImages result (renaming.renaming_in program.now pairs.now gens.now) }
+{
+    let renamed = renaming_in(alloc, program, pairs, gens)?;
+    let images = images_by_event(alloc, renamed.as_slice())?;
+    Ok(images)
+}
+
+/// The number of what events become by the renaming at a place, which is evaluated if it isn't yet.
+pub(crate) fn renamed_number(
+    alloc: Global,
+    program: &Program,
+    evaluated: &mut Evaluated,
+    id: ProcId,
+    pairs: &[(EventPart, EventPart)],
+    gens: &[Gen],
+) -> Result<u32, EvalFault>
+    ensures { (trees : List Process) → id.0 < length trees → renamed_by program.now (out-Proc (tree_at trees id)) ≡ renaming.renaming_in program.now pairs.now gens.now → Fits program.now trees evaluated.old → GivesNumber program.now trees evaluated.new evaluated.new.images result (λ images. KeepsOutcome images (renaming.renaming_in program.now pairs.now gens.now)) (renaming.renaming_in program.now pairs.now gens.now) }
+{
+    if let Some(number) = known(&evaluated.renamings, id.0) {
+        return Ok(number);
+    }
+    let images = images_in(alloc, program, pairs, gens)?;
+    let number = next_number(evaluated.images.len())?;
+    evaluated.images.push(images)?;
+    keep(&mut evaluated.renamings, id.0, number)?;
+    Ok(number)
+}
+
+// Keeps the number for the place that the step leads to, unless it is a tick.
+fn note_step(numbers: &mut HashMap<u32, u32>, number: u32, step: StepTo) -> Result<(), NoMemory>
+    ensures { OnOk result (HasMoreNumbers numbers.old numbers.new number (step ∷ [])) }
+{
+    match step.label {
+        Label::Tick => Ok(()),
+        Label::Silent => keep(numbers, step.to.0, number),
+        Label::Visible(_) => keep(numbers, step.to.0, number),
+    }
+}
+
+/// Keeps the number for each of the places that the steps lead to, but for those of ticks.
+pub(crate) fn note_steps(
+    numbers: &mut HashMap<u32, u32>,
+    number: u32,
+    steps: &[StepTo],
+) -> Result<(), NoMemory>
+    ensures { OnOk result (HasMoreNumbers numbers.old numbers.new number steps.now) }
+{
+    for step in steps {
+        note_step(numbers, number, *step)?;
+    }
+    Ok(())
+}
+
+/// The place of the body of the definition with this number, which is put into the pool if it isn't there yet.
+pub(crate) fn body_place(
+    pool: &mut Pool,
+    bodies: &mut HashMap<u32, u32>,
+    number: u32,
+    body: &Proc,
+) -> Result<ProcId, NoMemory>
+    ensures process { (p : Content) → AreBodies p pool.old bodies.old → body_of (slice_get p.defs number) ≡ Some body.now → IfOk result (λ id. slice_get pool.new id.0 ≡ Some body.now) }
+    ensures front { IsFront pool.old pool.new }
+    ensures bodies { (p : Content) → AreBodies p pool.old bodies.old → body_of (slice_get p.defs number) ≡ Some body.now → OnOk result (AreBodies p pool.new bodies.new) }
+{
+    if let Some(place) = known(bodies, number) {
+        return Ok(ProcId(place));
+    }
+    let id = pool.put(body)?;
+    keep(bodies, number, id.0)?;
+    Ok(id)
+}
