@@ -14,9 +14,8 @@ use Rattle.csp_program.specs.declared.processes.Proc.TheViews.{out-Proc, out-rol
 use Rattle.term_pool.proofs.NodeLemmas.{layer_of, layer_out}
 use Rattle.term_pool.proofs.TreeLemmas.{all_below_more, both_so}
 use Rattle.term_pool.specs.First.{layer_with_first, node_with_first, other_first, with_first}
-use Rattle.term_pool.specs.Trees.{tree_at, tree_of, places, all_below, places_below}
-use Rattle.term_pool.specs.declared.node.Node.{Node}
-use Rattle.term_pool.specs.declared.node.Node.TheVariants as node
+use Rattle.term_pool.specs.Trees.{tree_at, layer_tree, layer_ids, all_below, layer_below}
+use Rattle.term_pool.specs.Layers.{Layer}
 use Rattle.term_pool.specs.declared.node.ProcId.{ProcId}
 
 -- what each form becomes
@@ -80,24 +79,24 @@ others_at : (ts : List Proc) (ps : List ProcId) (q : ProcId) → other_first (ma
 others_at ts [] q = refl
 others_at ts (p ∷ ps) q = refl
 
-layer_first : (ts : List Proc) (n : Node) (q : ProcId) → layer_with_first (layer_of ts n) (tree_at ts q) ≡ tree_of ts (node_with_first n q)
-layer_first ts node.Stop q = refl
-layer_first ts (node.Prefix head fields p) q = refl
-layer_first ts (node.Guard c p) q = refl
-layer_first ts (node.If c p r) q = refl
-layer_first ts (node.External ps) q = ap (λ (us : List Proc). proc.External us) (others_at ts ps q)
-layer_first ts (node.Internal ps) q = ap (λ (us : List Proc). proc.Internal us) (others_at ts ps q)
-layer_first ts (node.EachExternal x s p) q = refl
-layer_first ts (node.EachInternal x s p) q = refl
-layer_first ts (node.Hide p s) q = refl
-layer_first ts (node.Rename p pairs gens) q = refl
-layer_first ts (node.Call d args) q = refl
-layer_first ts node.Skip q = refl
-layer_first ts (node.Seq p r) q = refl
-layer_first ts node.Ended q = refl
+layer_first : (ts : List Proc) (n : Layer) (q : ProcId) → layer_with_first (layer_of ts n) (tree_at ts q) ≡ layer_tree ts (node_with_first n q)
+layer_first ts Layer.Stop q = refl
+layer_first ts (Layer.Prefix head fields p) q = refl
+layer_first ts (Layer.Guard c p) q = refl
+layer_first ts (Layer.If c p r) q = refl
+layer_first ts (Layer.External ps) q = ap (λ (us : List Proc). proc.External us) (others_at ts ps q)
+layer_first ts (Layer.Internal ps) q = ap (λ (us : List Proc). proc.Internal us) (others_at ts ps q)
+layer_first ts (Layer.EachExternal x s p) q = refl
+layer_first ts (Layer.EachInternal x s p) q = refl
+layer_first ts (Layer.Hide p s) q = refl
+layer_first ts (Layer.Rename p pairs gens) q = refl
+layer_first ts (Layer.Call d args) q = refl
+layer_first ts Layer.Skip q = refl
+layer_first ts (Layer.Seq p r) q = refl
+layer_first ts Layer.Ended q = refl
 
 -- a node with another first place is its process with what stands there
-pub first_at : (ts : List Proc) (n : Node) (q : ProcId) → with_first (tree_of ts n) (tree_at ts q) ≡ tree_of ts (node_with_first n q)
+pub first_at : (ts : List Proc) (n : Layer) (q : ProcId) → with_first (layer_tree ts n) (tree_at ts q) ≡ layer_tree ts (node_with_first n q)
 unfolding with_first
 first_at ts n q = ap (λ (l : Proc-F Proc). layer_with_first l (tree_at ts q)) (layer_out ts n) ∙ layer_first ts n q
 
@@ -105,30 +104,30 @@ others_below : (b : ℕ) (ps : List ProcId) (q : ProcId) → all_below b ps ≡ 
 others_below b [] q h g = refl
 others_below b (p ∷ ps) q h g = both_so (nat_lt q.0 b) (all_below b ps) g (second_so (nat_lt p.0 b) (all_below b ps) h)
 
-first_places : (n : Node) (q : ProcId) → places (node_with_first n q) ≡ other_first (places n) q
-first_places node.Stop q = refl
-first_places (node.Prefix head fields p) q = refl
-first_places (node.Guard c p) q = refl
-first_places (node.If c p r) q = refl
-first_places (node.External ps) q = refl
-first_places (node.Internal ps) q = refl
-first_places (node.EachExternal x s p) q = refl
-first_places (node.EachInternal x s p) q = refl
-first_places (node.Hide p s) q = refl
-first_places (node.Rename p pairs gens) q = refl
-first_places (node.Call d args) q = refl
-first_places node.Skip q = refl
-first_places (node.Seq p r) q = refl
-first_places node.Ended q = refl
+first_places : (n : Layer) (q : ProcId) → layer_ids (node_with_first n q) ≡ other_first (layer_ids n) q
+first_places Layer.Stop q = refl
+first_places (Layer.Prefix head fields p) q = refl
+first_places (Layer.Guard c p) q = refl
+first_places (Layer.If c p r) q = refl
+first_places (Layer.External ps) q = refl
+first_places (Layer.Internal ps) q = refl
+first_places (Layer.EachExternal x s p) q = refl
+first_places (Layer.EachInternal x s p) q = refl
+first_places (Layer.Hide p s) q = refl
+first_places (Layer.Rename p pairs gens) q = refl
+first_places (Layer.Call d args) q = refl
+first_places Layer.Skip q = refl
+first_places (Layer.Seq p r) q = refl
+first_places Layer.Ended q = refl
 
-pub first_below : (b : ℕ) (n : Node) (q : ProcId) → places_below b n ≡ true → q.0 < b → places_below b (node_with_first n q) ≡ true
-first_below b n q h g = ap (all_below b) (first_places n q) ∙ others_below b (places n) q h (lt-ltb q.0 b g)
+pub first_below : (b : ℕ) (n : Layer) (q : ProcId) → layer_below b n ≡ true → q.0 < b → layer_below b (node_with_first n q) ≡ true
+first_below b n q h g = ap (all_below b) (first_places n q) ∙ others_below b (layer_ids n) q h (lt-ltb q.0 b g)
 
-module _ (ts : List Proc) (id : ProcId) (q : ProcId) (within : id.0 < length ts) (below : q.0 < length ts) (n : Node) (tree : tree_of ts n ≡ tree_at ts id) (smaller : places_below id.0 n ≡ true)
-    (m : Node) (is : m ≡ node_with_first n q) where
+module _ (ts : List Proc) (id : ProcId) (q : ProcId) (within : id.0 < length ts) (below : q.0 < length ts) (n : Layer) (tree : layer_tree ts n ≡ tree_at ts id) (smaller : layer_below id.0 n ≡ true)
+    (m : Layer) (is : m ≡ node_with_first n q) where
   -- the node that is made stands for the process that is wanted, and looks at places of the list alone
-  pub made_below : places_below (length ts) m ≡ true
-  made_below = subst (λ (k : Node). places_below (length ts) k ≡ true) (sym is) (first_below (length ts) n q (all_below_more id.0 (length ts) (omega (arith, within)) (places n) smaller) below)
+  pub made_below : layer_below (length ts) m ≡ true
+  made_below = subst (λ (k : Layer). layer_below (length ts) k ≡ true) (sym is) (first_below (length ts) n q (all_below_more id.0 (length ts) (omega (arith, within)) (layer_ids n) smaller) below)
 
-  pub made_tree : tree_of ts m ≡ with_first (tree_at ts id) (tree_at ts q)
-  made_tree = ap (λ (k : Node). tree_of ts k) is ∙ (sym (first_at ts n q) ∙ ap (λ (t : Proc). with_first t (tree_at ts q)) tree)
+  pub made_tree : layer_tree ts m ≡ with_first (tree_at ts id) (tree_at ts q)
+  made_tree = ap (λ (k : Layer). layer_tree ts k) is ∙ (sym (first_at ts n q) ∙ ap (λ (t : Proc). with_first t (tree_at ts q)) tree)

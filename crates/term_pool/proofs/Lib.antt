@@ -1,5 +1,7 @@
+pub mod EntryLemmas
 pub mod FirstLemmas
 pub mod HeldLemmas
+pub mod KeptLemmas
 pub mod MeasureLaws
 pub mod NodeLemmas
 pub mod NodeMeasures

@@ -7,65 +7,64 @@ use Rattle.csp_program.specs.declared.processes.Proc.TheVariants as proc
 use Rattle.csp_program.specs.declared.processes.Proc.TheOpen.{Proc-F}
 use Rattle.csp_program.specs.declared.processes.Proc.TheViews.{out-Proc, roll-Proc, out-roll-Proc}
 use Rattle.term_pool.specs.Pooled.{layer_parts, parts}
-use Rattle.term_pool.specs.Trees.{tree_at, tree_of, places, all_below, places_below}
-use Rattle.term_pool.specs.declared.node.Node.{Node}
-use Rattle.term_pool.specs.declared.node.Node.TheVariants as node
+use Rattle.term_pool.specs.Trees.{tree_at, layer_tree, layer_ids, all_below, layer_below}
+use Rattle.term_pool.specs.Layers.{Layer}
 use Rattle.term_pool.specs.declared.node.ProcId.{ProcId}
 
 -- the node with the trees of its places, as a layer
-abbrev pub layer_of : List Proc → Node → Proc-F Proc
-layer_of ts node.Stop = Proc-F.Stop
-layer_of ts (node.Prefix k fields p) = Proc-F.Prefix k fields (tree_at ts p)
-layer_of ts (node.Guard c p) = Proc-F.Guard c (tree_at ts p)
-layer_of ts (node.If c p q) = Proc-F.If c (tree_at ts p) (tree_at ts q)
-layer_of ts (node.External ps) = Proc-F.External (map (tree_at ts) ps)
-layer_of ts (node.Internal ps) = Proc-F.Internal (map (tree_at ts) ps)
-layer_of ts (node.EachExternal y s p) = Proc-F.EachExternal y s (tree_at ts p)
-layer_of ts (node.EachInternal y s p) = Proc-F.EachInternal y s (tree_at ts p)
-layer_of ts (node.Hide p s) = Proc-F.Hide (tree_at ts p) s
-layer_of ts (node.Rename p pairs gens) = Proc-F.Rename (tree_at ts p) pairs gens
-layer_of ts (node.Call d args) = Proc-F.Call d args
-layer_of ts node.Skip = Proc-F.Skip
-layer_of ts (node.Seq p q) = Proc-F.Seq (tree_at ts p) (tree_at ts q)
-layer_of ts node.Ended = Proc-F.Ended
+abbrev pub layer_of : List Proc → Layer → Proc-F Proc
+layer_of ts Layer.Stop = Proc-F.Stop
+layer_of ts (Layer.Prefix k fields p) = Proc-F.Prefix k fields (tree_at ts p)
+layer_of ts (Layer.Guard c p) = Proc-F.Guard c (tree_at ts p)
+layer_of ts (Layer.If c p q) = Proc-F.If c (tree_at ts p) (tree_at ts q)
+layer_of ts (Layer.External ps) = Proc-F.External (map (tree_at ts) ps)
+layer_of ts (Layer.Internal ps) = Proc-F.Internal (map (tree_at ts) ps)
+layer_of ts (Layer.EachExternal y s p) = Proc-F.EachExternal y s (tree_at ts p)
+layer_of ts (Layer.EachInternal y s p) = Proc-F.EachInternal y s (tree_at ts p)
+layer_of ts (Layer.Hide p s) = Proc-F.Hide (tree_at ts p) s
+layer_of ts (Layer.Rename p pairs gens) = Proc-F.Rename (tree_at ts p) pairs gens
+layer_of ts (Layer.Call d args) = Proc-F.Call d args
+layer_of ts Layer.Skip = Proc-F.Skip
+layer_of ts (Layer.Seq p q) = Proc-F.Seq (tree_at ts p) (tree_at ts q)
+layer_of ts Layer.Ended = Proc-F.Ended
 
-pub rolls : (ts : List Proc) (n : Node) → tree_of ts n ≡ roll-Proc (layer_of ts n)
-rolls ts node.Stop = sym proc.rolls-Stop
-rolls ts (node.Prefix k fields p) = sym (proc.rolls-Prefix k fields (tree_at ts p))
-rolls ts (node.Guard c p) = sym (proc.rolls-Guard c (tree_at ts p))
-rolls ts (node.If c p q) = sym (proc.rolls-If c (tree_at ts p) (tree_at ts q))
-rolls ts (node.External ps) = sym (proc.rolls-External (map (tree_at ts) ps))
-rolls ts (node.Internal ps) = sym (proc.rolls-Internal (map (tree_at ts) ps))
-rolls ts (node.EachExternal y s p) = sym (proc.rolls-EachExternal y s (tree_at ts p))
-rolls ts (node.EachInternal y s p) = sym (proc.rolls-EachInternal y s (tree_at ts p))
-rolls ts (node.Hide p s) = sym (proc.rolls-Hide (tree_at ts p) s)
-rolls ts (node.Rename p pairs gens) = sym (proc.rolls-Rename (tree_at ts p) pairs gens)
-rolls ts (node.Call d args) = sym (proc.rolls-Call d args)
-rolls ts node.Skip = sym proc.rolls-Skip
-rolls ts (node.Seq p q) = sym (proc.rolls-Seq (tree_at ts p) (tree_at ts q))
-rolls ts node.Ended = sym proc.rolls-Ended
+pub rolls : (ts : List Proc) (n : Layer) → layer_tree ts n ≡ roll-Proc (layer_of ts n)
+rolls ts Layer.Stop = sym proc.rolls-Stop
+rolls ts (Layer.Prefix k fields p) = sym (proc.rolls-Prefix k fields (tree_at ts p))
+rolls ts (Layer.Guard c p) = sym (proc.rolls-Guard c (tree_at ts p))
+rolls ts (Layer.If c p q) = sym (proc.rolls-If c (tree_at ts p) (tree_at ts q))
+rolls ts (Layer.External ps) = sym (proc.rolls-External (map (tree_at ts) ps))
+rolls ts (Layer.Internal ps) = sym (proc.rolls-Internal (map (tree_at ts) ps))
+rolls ts (Layer.EachExternal y s p) = sym (proc.rolls-EachExternal y s (tree_at ts p))
+rolls ts (Layer.EachInternal y s p) = sym (proc.rolls-EachInternal y s (tree_at ts p))
+rolls ts (Layer.Hide p s) = sym (proc.rolls-Hide (tree_at ts p) s)
+rolls ts (Layer.Rename p pairs gens) = sym (proc.rolls-Rename (tree_at ts p) pairs gens)
+rolls ts (Layer.Call d args) = sym (proc.rolls-Call d args)
+rolls ts Layer.Skip = sym proc.rolls-Skip
+rolls ts (Layer.Seq p q) = sym (proc.rolls-Seq (tree_at ts p) (tree_at ts q))
+rolls ts Layer.Ended = sym proc.rolls-Ended
 
-pub layer_out : (ts : List Proc) (n : Node) → out-Proc (tree_of ts n) ≡ layer_of ts n
+pub layer_out : (ts : List Proc) (n : Layer) → out-Proc (layer_tree ts n) ≡ layer_of ts n
 layer_out ts n = ap out-Proc (rolls ts n) ∙ out-roll-Proc (layer_of ts n)
 
-layer_places : (ts : List Proc) (n : Node) → layer_parts (layer_of ts n) ≡ map (tree_at ts) (places n)
-layer_places ts node.Stop = refl
-layer_places ts (node.Prefix k fields p) = refl
-layer_places ts (node.Guard c p) = refl
-layer_places ts (node.If c p q) = refl
-layer_places ts (node.External ps) = refl
-layer_places ts (node.Internal ps) = refl
-layer_places ts (node.EachExternal y s p) = refl
-layer_places ts (node.EachInternal y s p) = refl
-layer_places ts (node.Hide p s) = refl
-layer_places ts (node.Rename p pairs gens) = refl
-layer_places ts (node.Call d args) = refl
-layer_places ts node.Skip = refl
-layer_places ts (node.Seq p q) = refl
-layer_places ts node.Ended = refl
+layer_places : (ts : List Proc) (n : Layer) → layer_parts (layer_of ts n) ≡ map (tree_at ts) (layer_ids n)
+layer_places ts Layer.Stop = refl
+layer_places ts (Layer.Prefix k fields p) = refl
+layer_places ts (Layer.Guard c p) = refl
+layer_places ts (Layer.If c p q) = refl
+layer_places ts (Layer.External ps) = refl
+layer_places ts (Layer.Internal ps) = refl
+layer_places ts (Layer.EachExternal y s p) = refl
+layer_places ts (Layer.EachInternal y s p) = refl
+layer_places ts (Layer.Hide p s) = refl
+layer_places ts (Layer.Rename p pairs gens) = refl
+layer_places ts (Layer.Call d args) = refl
+layer_places ts Layer.Skip = refl
+layer_places ts (Layer.Seq p q) = refl
+layer_places ts Layer.Ended = refl
 
 -- the sub-processes of a node's tree are the trees at its places
-pub parts_at : (ts : List Proc) (n : Node) → parts (tree_of ts n) ≡ map (tree_at ts) (places n)
+pub parts_at : (ts : List Proc) (n : Layer) → parts (layer_tree ts n) ≡ map (tree_at ts) (layer_ids n)
 unfolding parts
 parts_at ts n = ap layer_parts (layer_out ts n) ∙ layer_places ts n
 
@@ -84,60 +83,60 @@ module _ (ts : List Proc) (b : ℕ) (different : (i j : ℕ) → i < b → j < b
       λ i. same_id p q (first_so (nat_lt p.0 b) (all_below b ps) h) (first_so (nat_lt q.0 b) (all_below b qs) g) first i ∷
       same_ids ps qs (second_so (nat_lt p.0 b) (all_below b ps) h) (second_so (nat_lt q.0 b) (all_below b qs) g) others i
 
-  same_layer : (n m : Node) → places_below b n ≡ true → places_below b m ≡ true → layer_of ts n ≡ layer_of ts m → n ≡ m
-  same_layer node.Stop node.Stop h g e = refl
-  same_layer (node.Prefix k fields p) (node.Prefix k' fields' p') h g e =
+  same_layer : (n m : Layer) → layer_below b n ≡ true → layer_below b m ≡ true → layer_of ts n ≡ layer_of ts m → n ≡ m
+  same_layer Layer.Stop Layer.Stop h g e = refl
+  same_layer (Layer.Prefix k fields p) (Layer.Prefix k' fields' p') h g e =
       let e_k : k ≡ k' = cc in
       let e_fields : fields ≡ fields' = cc in
       let e_p : tree_at ts p ≡ tree_at ts p' = cc in
-      λ i. node.Prefix (e_k i) (e_fields i) (same_id p p' (first_so (nat_lt p.0 b) (all_below b []) h) (first_so (nat_lt p'.0 b) (all_below b []) g) e_p i)
-  same_layer (node.Guard c p) (node.Guard c' p') h g e =
+      λ i. Layer.Prefix (e_k i) (e_fields i) (same_id p p' (first_so (nat_lt p.0 b) (all_below b []) h) (first_so (nat_lt p'.0 b) (all_below b []) g) e_p i)
+  same_layer (Layer.Guard c p) (Layer.Guard c' p') h g e =
       let e_c : c ≡ c' = cc in
       let e_p : tree_at ts p ≡ tree_at ts p' = cc in
-      λ i. node.Guard (e_c i) (same_id p p' (first_so (nat_lt p.0 b) (all_below b []) h) (first_so (nat_lt p'.0 b) (all_below b []) g) e_p i)
-  same_layer (node.If c p q) (node.If c' p' q') h g e =
+      λ i. Layer.Guard (e_c i) (same_id p p' (first_so (nat_lt p.0 b) (all_below b []) h) (first_so (nat_lt p'.0 b) (all_below b []) g) e_p i)
+  same_layer (Layer.If c p q) (Layer.If c' p' q') h g e =
       let e_c : c ≡ c' = cc in
       let e_p : tree_at ts p ≡ tree_at ts p' = cc in
       let e_q : tree_at ts q ≡ tree_at ts q' = cc in
-      λ i. node.If (e_c i) (same_id p p' (first_so (nat_lt p.0 b) (all_below b (q ∷ [])) h) (first_so (nat_lt p'.0 b) (all_below b (q' ∷ [])) g) e_p i) (same_id q q' (first_so (nat_lt q.0 b) (all_below b []) (second_so (nat_lt p.0 b) (all_below b (q ∷ [])) h)) (first_so (nat_lt q'.0 b) (all_below b []) (second_so (nat_lt p'.0 b) (all_below b (q' ∷ [])) g)) e_q i)
-  same_layer (node.External ps) (node.External ps') h g e =
+      λ i. Layer.If (e_c i) (same_id p p' (first_so (nat_lt p.0 b) (all_below b (q ∷ [])) h) (first_so (nat_lt p'.0 b) (all_below b (q' ∷ [])) g) e_p i) (same_id q q' (first_so (nat_lt q.0 b) (all_below b []) (second_so (nat_lt p.0 b) (all_below b (q ∷ [])) h)) (first_so (nat_lt q'.0 b) (all_below b []) (second_so (nat_lt p'.0 b) (all_below b (q' ∷ [])) g)) e_q i)
+  same_layer (Layer.External ps) (Layer.External ps') h g e =
       let e_ps : map (tree_at ts) ps ≡ map (tree_at ts) ps' = cc in
-      λ i. node.External (same_ids ps ps' h g e_ps i)
-  same_layer (node.Internal ps) (node.Internal ps') h g e =
+      λ i. Layer.External (same_ids ps ps' h g e_ps i)
+  same_layer (Layer.Internal ps) (Layer.Internal ps') h g e =
       let e_ps : map (tree_at ts) ps ≡ map (tree_at ts) ps' = cc in
-      λ i. node.Internal (same_ids ps ps' h g e_ps i)
-  same_layer (node.EachExternal y s p) (node.EachExternal y' s' p') h g e =
+      λ i. Layer.Internal (same_ids ps ps' h g e_ps i)
+  same_layer (Layer.EachExternal y s p) (Layer.EachExternal y' s' p') h g e =
       let e_y : y ≡ y' = cc in
       let e_s : s ≡ s' = cc in
       let e_p : tree_at ts p ≡ tree_at ts p' = cc in
-      λ i. node.EachExternal (e_y i) (e_s i) (same_id p p' (first_so (nat_lt p.0 b) (all_below b []) h) (first_so (nat_lt p'.0 b) (all_below b []) g) e_p i)
-  same_layer (node.EachInternal y s p) (node.EachInternal y' s' p') h g e =
+      λ i. Layer.EachExternal (e_y i) (e_s i) (same_id p p' (first_so (nat_lt p.0 b) (all_below b []) h) (first_so (nat_lt p'.0 b) (all_below b []) g) e_p i)
+  same_layer (Layer.EachInternal y s p) (Layer.EachInternal y' s' p') h g e =
       let e_y : y ≡ y' = cc in
       let e_s : s ≡ s' = cc in
       let e_p : tree_at ts p ≡ tree_at ts p' = cc in
-      λ i. node.EachInternal (e_y i) (e_s i) (same_id p p' (first_so (nat_lt p.0 b) (all_below b []) h) (first_so (nat_lt p'.0 b) (all_below b []) g) e_p i)
-  same_layer (node.Hide p s) (node.Hide p' s') h g e =
+      λ i. Layer.EachInternal (e_y i) (e_s i) (same_id p p' (first_so (nat_lt p.0 b) (all_below b []) h) (first_so (nat_lt p'.0 b) (all_below b []) g) e_p i)
+  same_layer (Layer.Hide p s) (Layer.Hide p' s') h g e =
       let e_p : tree_at ts p ≡ tree_at ts p' = cc in
       let e_s : s ≡ s' = cc in
-      λ i. node.Hide (same_id p p' (first_so (nat_lt p.0 b) (all_below b []) h) (first_so (nat_lt p'.0 b) (all_below b []) g) e_p i) (e_s i)
-  same_layer (node.Rename p pairs gens) (node.Rename p' pairs' gens') h g e =
+      λ i. Layer.Hide (same_id p p' (first_so (nat_lt p.0 b) (all_below b []) h) (first_so (nat_lt p'.0 b) (all_below b []) g) e_p i) (e_s i)
+  same_layer (Layer.Rename p pairs gens) (Layer.Rename p' pairs' gens') h g e =
       let e_p : tree_at ts p ≡ tree_at ts p' = cc in
       let e_pairs : pairs ≡ pairs' = cc in
       let e_gens : gens ≡ gens' = cc in
-      λ i. node.Rename (same_id p p' (first_so (nat_lt p.0 b) (all_below b []) h) (first_so (nat_lt p'.0 b) (all_below b []) g) e_p i) (e_pairs i) (e_gens i)
-  same_layer (node.Call d args) (node.Call d' args') h g e =
+      λ i. Layer.Rename (same_id p p' (first_so (nat_lt p.0 b) (all_below b []) h) (first_so (nat_lt p'.0 b) (all_below b []) g) e_p i) (e_pairs i) (e_gens i)
+  same_layer (Layer.Call d args) (Layer.Call d' args') h g e =
       let e_d : d ≡ d' = cc in
       let e_args : args ≡ args' = cc in
-      λ i. node.Call (e_d i) (e_args i)
-  same_layer node.Skip node.Skip h g e = refl
-  same_layer (node.Seq p q) (node.Seq p' q') h g e =
+      λ i. Layer.Call (e_d i) (e_args i)
+  same_layer Layer.Skip Layer.Skip h g e = refl
+  same_layer (Layer.Seq p q) (Layer.Seq p' q') h g e =
       let e_p : tree_at ts p ≡ tree_at ts p' = cc in
       let e_q : tree_at ts q ≡ tree_at ts q' = cc in
-      λ i. node.Seq (same_id p p' (first_so (nat_lt p.0 b) (all_below b (q ∷ [])) h) (first_so (nat_lt p'.0 b) (all_below b (q' ∷ [])) g) e_p i) (same_id q q' (first_so (nat_lt q.0 b) (all_below b []) (second_so (nat_lt p.0 b) (all_below b (q ∷ [])) h)) (first_so (nat_lt q'.0 b) (all_below b []) (second_so (nat_lt p'.0 b) (all_below b (q' ∷ [])) g)) e_q i)
-  same_layer node.Ended node.Ended h g e = refl
+      λ i. Layer.Seq (same_id p p' (first_so (nat_lt p.0 b) (all_below b (q ∷ [])) h) (first_so (nat_lt p'.0 b) (all_below b (q' ∷ [])) g) e_p i) (same_id q q' (first_so (nat_lt q.0 b) (all_below b []) (second_so (nat_lt p.0 b) (all_below b (q ∷ [])) h)) (first_so (nat_lt q'.0 b) (all_below b []) (second_so (nat_lt p'.0 b) (all_below b (q' ∷ [])) g)) e_q i)
+  same_layer Layer.Ended Layer.Ended h g e = refl
   same_layer n m h g e = cc
 
-  pub same_node : (n m : Node) → places_below b n ≡ true → places_below b m ≡ true → tree_of ts n ≡ tree_of ts m → n ≡ m
+  pub same_node : (n m : Layer) → layer_below b n ≡ true → layer_below b m ≡ true → layer_tree ts n ≡ layer_tree ts m → n ≡ m
   same_node n m h g e = same_layer n m h g (sym (layer_out ts n) ∙ (ap out-Proc e ∙ layer_out ts m))
 
 -- trees that agree at the first b places give a node that looks at no other places one tree
@@ -146,18 +145,18 @@ module _ (ts us : List Proc) (b : ℕ) (agree : (id : ProcId) → nat_lt id.0 b 
   agree_all [] h = refl
   agree_all (id ∷ ids) h = λ i. agree id (first_so (nat_lt id.0 b) (all_below b ids) h) i ∷ agree_all ids (second_so (nat_lt id.0 b) (all_below b ids) h) i
 
-  pub agree_node : (n : Node) → places_below b n ≡ true → tree_of ts n ≡ tree_of us n
-  agree_node node.Stop h = refl
-  agree_node (node.Prefix k fields p) h = λ i. proc.Prefix k fields (agree p (first_so (nat_lt p.0 b) (all_below b ([])) h) i)
-  agree_node (node.Guard c p) h = λ i. proc.Guard c (agree p (first_so (nat_lt p.0 b) (all_below b ([])) h) i)
-  agree_node (node.If c p q) h = λ i. proc.If c (agree p (first_so (nat_lt p.0 b) (all_below b (q ∷ [])) h) i) (agree q (first_so (nat_lt q.0 b) (all_below b ([])) (second_so (nat_lt p.0 b) (all_below b (q ∷ [])) h)) i)
-  agree_node (node.External ps) h = λ i. proc.External (agree_all ps h i)
-  agree_node (node.Internal ps) h = λ i. proc.Internal (agree_all ps h i)
-  agree_node (node.EachExternal y s p) h = λ i. proc.EachExternal y s (agree p (first_so (nat_lt p.0 b) (all_below b ([])) h) i)
-  agree_node (node.EachInternal y s p) h = λ i. proc.EachInternal y s (agree p (first_so (nat_lt p.0 b) (all_below b ([])) h) i)
-  agree_node (node.Hide p s) h = λ i. proc.Hide (agree p (first_so (nat_lt p.0 b) (all_below b ([])) h) i) s
-  agree_node (node.Rename p pairs gens) h = λ i. proc.Rename (agree p (first_so (nat_lt p.0 b) (all_below b ([])) h) i) pairs gens
-  agree_node (node.Call d args) h = refl
-  agree_node node.Skip h = refl
-  agree_node (node.Seq p q) h = λ i. proc.Seq (agree p (first_so (nat_lt p.0 b) (all_below b (q ∷ [])) h) i) (agree q (first_so (nat_lt q.0 b) (all_below b ([])) (second_so (nat_lt p.0 b) (all_below b (q ∷ [])) h)) i)
-  agree_node node.Ended h = refl
+  pub agree_node : (n : Layer) → layer_below b n ≡ true → layer_tree ts n ≡ layer_tree us n
+  agree_node Layer.Stop h = refl
+  agree_node (Layer.Prefix k fields p) h = λ i. proc.Prefix k fields (agree p (first_so (nat_lt p.0 b) (all_below b ([])) h) i)
+  agree_node (Layer.Guard c p) h = λ i. proc.Guard c (agree p (first_so (nat_lt p.0 b) (all_below b ([])) h) i)
+  agree_node (Layer.If c p q) h = λ i. proc.If c (agree p (first_so (nat_lt p.0 b) (all_below b (q ∷ [])) h) i) (agree q (first_so (nat_lt q.0 b) (all_below b ([])) (second_so (nat_lt p.0 b) (all_below b (q ∷ [])) h)) i)
+  agree_node (Layer.External ps) h = λ i. proc.External (agree_all ps h i)
+  agree_node (Layer.Internal ps) h = λ i. proc.Internal (agree_all ps h i)
+  agree_node (Layer.EachExternal y s p) h = λ i. proc.EachExternal y s (agree p (first_so (nat_lt p.0 b) (all_below b ([])) h) i)
+  agree_node (Layer.EachInternal y s p) h = λ i. proc.EachInternal y s (agree p (first_so (nat_lt p.0 b) (all_below b ([])) h) i)
+  agree_node (Layer.Hide p s) h = λ i. proc.Hide (agree p (first_so (nat_lt p.0 b) (all_below b ([])) h) i) s
+  agree_node (Layer.Rename p pairs gens) h = λ i. proc.Rename (agree p (first_so (nat_lt p.0 b) (all_below b ([])) h) i) pairs gens
+  agree_node (Layer.Call d args) h = refl
+  agree_node Layer.Skip h = refl
+  agree_node (Layer.Seq p q) h = λ i. proc.Seq (agree p (first_so (nat_lt p.0 b) (all_below b (q ∷ [])) h) i) (agree q (first_so (nat_lt q.0 b) (all_below b ([])) (second_so (nat_lt p.0 b) (all_below b (q ∷ [])) h)) i)
+  agree_node Layer.Ended h = refl

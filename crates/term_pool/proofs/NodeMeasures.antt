@@ -11,43 +11,42 @@ use Rattle.csp_program.specs.declared.processes.Proc.TheVariants as proc
 use Rattle.term_pool.proofs.MeasureLaws as laws
 use Rattle.term_pool.specs.Counting.{capped}
 use Rattle.term_pool.specs.Measured.{measured, own_depth, own_size, depth_at, size_at, deepest_at, total_at, node_depth, node_size}
-use Rattle.term_pool.specs.Trees.{tree_at, tree_of, places, all_below, places_below}
+use Rattle.term_pool.specs.Trees.{tree_at, layer_tree, layer_ids, all_below, layer_below}
 use Rattle.term_pool.specs.declared.measure.Measure.{Measure}
-use Rattle.term_pool.specs.declared.node.Node.{Node}
-use Rattle.term_pool.specs.declared.node.Node.TheVariants as node
+use Rattle.term_pool.specs.Layers.{Layer}
 use Rattle.term_pool.specs.declared.node.ProcId.{ProcId}
 
-pub tree_depth : (ts : List Proc) (n : Node) → proc_depth (tree_of ts n) ≡ 1 + max (own_depth n) (greatest (map proc_depth (map (tree_at ts) (places n))))
-tree_depth ts node.Stop = omega (arith, laws.proc_depth-Stop)
-tree_depth ts (node.Prefix k fields p) = omega (arith, laws.proc_depth-Prefix k fields (tree_at ts p))
-tree_depth ts (node.Guard c p) = omega (arith, laws.proc_depth-Guard c (tree_at ts p))
-tree_depth ts (node.If c p q) = omega (arith, laws.proc_depth-If c (tree_at ts p) (tree_at ts q))
-tree_depth ts (node.External ps) = omega (arith, laws.proc_depth-External (map (tree_at ts) ps))
-tree_depth ts (node.Internal ps) = omega (arith, laws.proc_depth-Internal (map (tree_at ts) ps))
-tree_depth ts (node.EachExternal y s p) = omega (arith, laws.proc_depth-EachExternal y s (tree_at ts p))
-tree_depth ts (node.EachInternal y s p) = omega (arith, laws.proc_depth-EachInternal y s (tree_at ts p))
-tree_depth ts (node.Hide p s) = omega (arith, laws.proc_depth-Hide (tree_at ts p) s)
-tree_depth ts (node.Rename p pairs gens) = omega (arith, laws.proc_depth-Rename (tree_at ts p) pairs gens)
-tree_depth ts (node.Call d args) = omega (arith, laws.proc_depth-Call d args)
-tree_depth ts node.Skip = omega (arith, laws.proc_depth-Skip)
-tree_depth ts (node.Seq p q) = omega (arith, laws.proc_depth-Seq (tree_at ts p) (tree_at ts q))
-tree_depth ts node.Ended = omega (arith, laws.proc_depth-Ended)
+pub tree_depth : (ts : List Proc) (n : Layer) → proc_depth (layer_tree ts n) ≡ 1 + max (own_depth n) (greatest (map proc_depth (map (tree_at ts) (layer_ids n))))
+tree_depth ts Layer.Stop = omega (arith, laws.proc_depth-Stop)
+tree_depth ts (Layer.Prefix k fields p) = omega (arith, laws.proc_depth-Prefix k fields (tree_at ts p))
+tree_depth ts (Layer.Guard c p) = omega (arith, laws.proc_depth-Guard c (tree_at ts p))
+tree_depth ts (Layer.If c p q) = omega (arith, laws.proc_depth-If c (tree_at ts p) (tree_at ts q))
+tree_depth ts (Layer.External ps) = omega (arith, laws.proc_depth-External (map (tree_at ts) ps))
+tree_depth ts (Layer.Internal ps) = omega (arith, laws.proc_depth-Internal (map (tree_at ts) ps))
+tree_depth ts (Layer.EachExternal y s p) = omega (arith, laws.proc_depth-EachExternal y s (tree_at ts p))
+tree_depth ts (Layer.EachInternal y s p) = omega (arith, laws.proc_depth-EachInternal y s (tree_at ts p))
+tree_depth ts (Layer.Hide p s) = omega (arith, laws.proc_depth-Hide (tree_at ts p) s)
+tree_depth ts (Layer.Rename p pairs gens) = omega (arith, laws.proc_depth-Rename (tree_at ts p) pairs gens)
+tree_depth ts (Layer.Call d args) = omega (arith, laws.proc_depth-Call d args)
+tree_depth ts Layer.Skip = omega (arith, laws.proc_depth-Skip)
+tree_depth ts (Layer.Seq p q) = omega (arith, laws.proc_depth-Seq (tree_at ts p) (tree_at ts q))
+tree_depth ts Layer.Ended = omega (arith, laws.proc_depth-Ended)
 
-pub tree_size : (ts : List Proc) (n : Node) → proc_size (tree_of ts n) ≡ 1 + (own_size n + total (map proc_size (map (tree_at ts) (places n))))
-tree_size ts node.Stop = omega (arith, laws.proc_size-Stop)
-tree_size ts (node.Prefix k fields p) = omega (arith, laws.proc_size-Prefix k fields (tree_at ts p))
-tree_size ts (node.Guard c p) = omega (arith, laws.proc_size-Guard c (tree_at ts p))
-tree_size ts (node.If c p q) = omega (arith, laws.proc_size-If c (tree_at ts p) (tree_at ts q))
-tree_size ts (node.External ps) = omega (arith, laws.proc_size-External (map (tree_at ts) ps))
-tree_size ts (node.Internal ps) = omega (arith, laws.proc_size-Internal (map (tree_at ts) ps))
-tree_size ts (node.EachExternal y s p) = omega (arith, laws.proc_size-EachExternal y s (tree_at ts p))
-tree_size ts (node.EachInternal y s p) = omega (arith, laws.proc_size-EachInternal y s (tree_at ts p))
-tree_size ts (node.Hide p s) = omega (arith, laws.proc_size-Hide (tree_at ts p) s)
-tree_size ts (node.Rename p pairs gens) = omega (arith, laws.proc_size-Rename (tree_at ts p) pairs gens)
-tree_size ts (node.Call d args) = omega (arith, laws.proc_size-Call d args)
-tree_size ts node.Skip = omega (arith, laws.proc_size-Skip)
-tree_size ts (node.Seq p q) = omega (arith, laws.proc_size-Seq (tree_at ts p) (tree_at ts q))
-tree_size ts node.Ended = omega (arith, laws.proc_size-Ended)
+pub tree_size : (ts : List Proc) (n : Layer) → proc_size (layer_tree ts n) ≡ 1 + (own_size n + total (map proc_size (map (tree_at ts) (layer_ids n))))
+tree_size ts Layer.Stop = omega (arith, laws.proc_size-Stop)
+tree_size ts (Layer.Prefix k fields p) = omega (arith, laws.proc_size-Prefix k fields (tree_at ts p))
+tree_size ts (Layer.Guard c p) = omega (arith, laws.proc_size-Guard c (tree_at ts p))
+tree_size ts (Layer.If c p q) = omega (arith, laws.proc_size-If c (tree_at ts p) (tree_at ts q))
+tree_size ts (Layer.External ps) = omega (arith, laws.proc_size-External (map (tree_at ts) ps))
+tree_size ts (Layer.Internal ps) = omega (arith, laws.proc_size-Internal (map (tree_at ts) ps))
+tree_size ts (Layer.EachExternal y s p) = omega (arith, laws.proc_size-EachExternal y s (tree_at ts p))
+tree_size ts (Layer.EachInternal y s p) = omega (arith, laws.proc_size-EachInternal y s (tree_at ts p))
+tree_size ts (Layer.Hide p s) = omega (arith, laws.proc_size-Hide (tree_at ts p) s)
+tree_size ts (Layer.Rename p pairs gens) = omega (arith, laws.proc_size-Rename (tree_at ts p) pairs gens)
+tree_size ts (Layer.Call d args) = omega (arith, laws.proc_size-Call d args)
+tree_size ts Layer.Skip = omega (arith, laws.proc_size-Skip)
+tree_size ts (Layer.Seq p q) = omega (arith, laws.proc_size-Seq (tree_at ts p) (tree_at ts q))
+tree_size ts Layer.Ended = omega (arith, laws.proc_size-Ended)
 
 module _ (ts : List Proc) where
   measured_at : (id : ProcId) → nat_lt id.0 (length (map measured ts)) ≡ true → get_or (map measured ts) id.0 (record { depth = 0; size = 0 }) ≡ measured (tree_at ts id)
@@ -69,17 +68,17 @@ module _ (ts : List Proc) where
       let others = total_measured ids (second_so (nat_lt id.0 (length (map measured ts))) (all_below (length (map measured ts)) ids) h) in
       omega (arith, first, others)
 
-  depth_measured : (n : Node) → places_below (length (map measured ts)) n ≡ true → node_depth (map measured ts) n ≡ capped (proc_depth (tree_of ts n))
-  depth_measured n h = omega (arith, tree_depth ts n, deepest_measured (places n) h)
+  depth_measured : (n : Layer) → layer_below (length (map measured ts)) n ≡ true → node_depth (map measured ts) n ≡ capped (proc_depth (layer_tree ts n))
+  depth_measured n h = omega (arith, tree_depth ts n, deepest_measured (layer_ids n) h)
 
-  size_measured : (n : Node) → places_below (length (map measured ts)) n ≡ true → node_size (map measured ts) n ≡ capped (proc_size (tree_of ts n))
-  size_measured n h = omega (arith, tree_size ts n, total_measured (places n) h)
+  size_measured : (n : Layer) → layer_below (length (map measured ts)) n ≡ true → node_size (map measured ts) n ≡ capped (proc_size (layer_tree ts n))
+  size_measured n h = omega (arith, tree_size ts n, total_measured (layer_ids n) h)
 
 -- where the measures are those of the trees, a node's measure is that of its tree
-pub node_measured : (ts : List Proc) (ms : List Measure) (n : Node) (m : Measure) → ms ≡ map measured ts → places_below (length ms) n ≡ true
-    → m.depth ≡ node_depth ms n → m.size ≡ node_size ms n → m ≡ measured (tree_of ts n)
+pub node_measured : (ts : List Proc) (ms : List Measure) (n : Layer) (m : Measure) → ms ≡ map measured ts → layer_below (length ms) n ≡ true
+    → m.depth ≡ node_depth ms n → m.size ≡ node_size ms n → m ≡ measured (layer_tree ts n)
 node_measured ts ms n m e h d s =
-    let below : places_below (length (map measured ts)) n ≡ true = subst (λ (xs : List Measure). places_below (length xs) n ≡ true) e h in
-    let depth : m.depth ≡ capped (proc_depth (tree_of ts n)) = d ∙ (ap (λ (xs : List Measure). node_depth xs n) e ∙ depth_measured ts n below) in
-    let size : m.size ≡ capped (proc_size (tree_of ts n)) = s ∙ (ap (λ (xs : List Measure). node_size xs n) e ∙ size_measured ts n below) in
+    let below : layer_below (length (map measured ts)) n ≡ true = subst (λ (xs : List Measure). layer_below (length xs) n ≡ true) e h in
+    let depth : m.depth ≡ capped (proc_depth (layer_tree ts n)) = d ∙ (ap (λ (xs : List Measure). node_depth xs n) e ∙ depth_measured ts n below) in
+    let size : m.size ≡ capped (proc_size (layer_tree ts n)) = s ∙ (ap (λ (xs : List Measure). node_size xs n) e ∙ size_measured ts n below) in
     λ i. record { depth = depth i; size = size i }

@@ -18,13 +18,12 @@ use Rattle.term_pool.proofs.TreeLemmas.{all_below_more}
 use Rattle.term_pool.specs.Moved.{id_or, moved}
 use Rattle.term_pool.specs.Pooled.{Has, IsFront, parts}
 use Rattle.term_pool.specs.Put.{Grows, StandAt, StandsFor}
-use Rattle.term_pool.specs.Substituted.{all_with, own_with, binds_below, AreMade, IsLayer, IsMade}
-use Rattle.term_pool.specs.Trees.{all_below, places, tree_at, tree_of}
+use Rattle.term_pool.specs.Substituted.{all_with, own_with, binds_below, AreMade, IsMade, IsUnder}
+use Rattle.term_pool.specs.Trees.{all_below, layer_ids, tree_at, layer_tree}
 use Rattle.term_pool.specs.Within.{AddsOne}
-use Rattle.term_pool.specs.declared.node.Node.{Node}
-use Rattle.term_pool.specs.declared.node.Node.TheVariants as node
+use Rattle.term_pool.specs.Layers.{Layer}
 use Rattle.term_pool.specs.declared.node.ProcId.{ProcId}
-use Rattle.term_pool.specs.declared.own.Layer.{Layer}
+use Rattle.term_pool.specs.declared.under.Under.{Under}
 
 -- the first and the second place of a list at which processes stand
 one_at : (trees : List Proc) (ids : List ProcId) (t : Proc) (ts : List Proc) → StandAt trees ids (t ∷ ts) → slice_get trees (id_or ids 0).0 ≡ Some t
@@ -36,23 +35,23 @@ two_at trees [] t u ts h = absurd h
 two_at trees (id ∷ ids) t u ts h = one_at trees ids u ts h.1
 
 -- a node that has moved to places where the processes of its own stand is the same process
-pub stands_moved : (trees us : List Proc) (n : Node) (ids : List ProcId) → StandAt trees ids (map (tree_at us) (places n)) → StandsFor trees (moved n ids) (tree_of us n)
-stands_moved trees us node.Stop ids h = lemmas.stands_Stop trees
-stands_moved trees us (node.Prefix k fields p) ids h = lemmas.stands_Prefix trees k fields (id_or ids 0) (tree_at us p) (one_at trees ids (tree_at us p) [] h)
-stands_moved trees us (node.Guard c p) ids h = lemmas.stands_Guard trees c (id_or ids 0) (tree_at us p) (one_at trees ids (tree_at us p) [] h)
-stands_moved trees us (node.If c p q) ids h =
+pub stands_moved : (trees us : List Proc) (n : Layer) (ids : List ProcId) → StandAt trees ids (map (tree_at us) (layer_ids n)) → StandsFor trees (moved n ids) (layer_tree us n)
+stands_moved trees us Layer.Stop ids h = lemmas.stands_Stop trees
+stands_moved trees us (Layer.Prefix k fields p) ids h = lemmas.stands_Prefix trees k fields (id_or ids 0) (tree_at us p) (one_at trees ids (tree_at us p) [] h)
+stands_moved trees us (Layer.Guard c p) ids h = lemmas.stands_Guard trees c (id_or ids 0) (tree_at us p) (one_at trees ids (tree_at us p) [] h)
+stands_moved trees us (Layer.If c p q) ids h =
     lemmas.stands_If trees c (id_or ids 0) (tree_at us p) (id_or ids 1) (tree_at us q) (one_at trees ids (tree_at us p) (tree_at us q ∷ []) h) (two_at trees ids (tree_at us p) (tree_at us q) [] h)
-stands_moved trees us (node.External ps) ids h = lemmas.stands_External trees ids (map (tree_at us) ps) h
-stands_moved trees us (node.Internal ps) ids h = lemmas.stands_Internal trees ids (map (tree_at us) ps) h
-stands_moved trees us (node.EachExternal y s p) ids h = lemmas.stands_EachExternal trees y s (id_or ids 0) (tree_at us p) (one_at trees ids (tree_at us p) [] h)
-stands_moved trees us (node.EachInternal y s p) ids h = lemmas.stands_EachInternal trees y s (id_or ids 0) (tree_at us p) (one_at trees ids (tree_at us p) [] h)
-stands_moved trees us (node.Hide p s) ids h = lemmas.stands_Hide trees s (id_or ids 0) (tree_at us p) (one_at trees ids (tree_at us p) [] h)
-stands_moved trees us (node.Rename p pairs gens) ids h = lemmas.stands_Rename trees pairs gens (id_or ids 0) (tree_at us p) (one_at trees ids (tree_at us p) [] h)
-stands_moved trees us (node.Call d args) ids h = lemmas.stands_Call trees d args
-stands_moved trees us node.Skip ids h = lemmas.stands_Skip trees
-stands_moved trees us (node.Seq p q) ids h =
+stands_moved trees us (Layer.External ps) ids h = lemmas.stands_External trees ids (map (tree_at us) ps) h
+stands_moved trees us (Layer.Internal ps) ids h = lemmas.stands_Internal trees ids (map (tree_at us) ps) h
+stands_moved trees us (Layer.EachExternal y s p) ids h = lemmas.stands_EachExternal trees y s (id_or ids 0) (tree_at us p) (one_at trees ids (tree_at us p) [] h)
+stands_moved trees us (Layer.EachInternal y s p) ids h = lemmas.stands_EachInternal trees y s (id_or ids 0) (tree_at us p) (one_at trees ids (tree_at us p) [] h)
+stands_moved trees us (Layer.Hide p s) ids h = lemmas.stands_Hide trees s (id_or ids 0) (tree_at us p) (one_at trees ids (tree_at us p) [] h)
+stands_moved trees us (Layer.Rename p pairs gens) ids h = lemmas.stands_Rename trees pairs gens (id_or ids 0) (tree_at us p) (one_at trees ids (tree_at us p) [] h)
+stands_moved trees us (Layer.Call d args) ids h = lemmas.stands_Call trees d args
+stands_moved trees us Layer.Skip ids h = lemmas.stands_Skip trees
+stands_moved trees us (Layer.Seq p q) ids h =
     lemmas.stands_Seq trees (id_or ids 0) (tree_at us p) (id_or ids 1) (tree_at us q) (one_at trees ids (tree_at us p) (tree_at us q ∷ []) h) (two_at trees ids (tree_at us p) (tree_at us q) [] h)
-stands_moved trees us node.Ended ids h = lemmas.stands_Ended trees
+stands_moved trees us Layer.Ended ids h = lemmas.stands_Ended trees
 
 -- each of some places that are all smaller than b is
 item_below : (b : ℕ) (ids : List ProcId) (i : ℕ) → i < length ids → all_below b ids ≡ true → (id_or ids i).0 < b
@@ -61,21 +60,21 @@ item_below b (id ∷ ids) zero more h = ltb-true id.0 b (first_so (nat_lt id.0 b
 item_below b (id ∷ ids) (suc i) more h = item_below b ids i (omega (arith, more)) (second_so (nat_lt id.0 b) (all_below b ids) h)
 
 module _ (x : ℕ) (v : Value) where
-  places_own : (n : Node) → places (own_with x v n) ≡ places n
-  places_own node.Stop = refl
-  places_own (node.Prefix k fields p) = refl
-  places_own (node.Guard c p) = refl
-  places_own (node.If c p q) = refl
-  places_own (node.External ps) = refl
-  places_own (node.Internal ps) = refl
-  places_own (node.EachExternal y s p) = refl
-  places_own (node.EachInternal y s p) = refl
-  places_own (node.Hide p s) = refl
-  places_own (node.Rename p pairs gens) = refl
-  places_own (node.Call d args) = refl
-  places_own node.Skip = refl
-  places_own (node.Seq p q) = refl
-  places_own node.Ended = refl
+  places_own : (n : Layer) → layer_ids (own_with x v n) ≡ layer_ids n
+  places_own Layer.Stop = refl
+  places_own (Layer.Prefix k fields p) = refl
+  places_own (Layer.Guard c p) = refl
+  places_own (Layer.If c p q) = refl
+  places_own (Layer.External ps) = refl
+  places_own (Layer.Internal ps) = refl
+  places_own (Layer.EachExternal y s p) = refl
+  places_own (Layer.EachInternal y s p) = refl
+  places_own (Layer.Hide p s) = refl
+  places_own (Layer.Rename p pairs gens) = refl
+  places_own (Layer.Call d args) = refl
+  places_own Layer.Skip = refl
+  places_own (Layer.Seq p q) = refl
+  places_own Layer.Ended = refl
 
   put_stop : proc_with x v proc.Stop ≡ proc.Stop
   put_stop = ap (proc_with x v) (sym proc.rolls-Stop) ∙ para-roll-Proc Proc (proc_with_of_layer x v) Proc-F.Stop
@@ -94,46 +93,46 @@ module _ (x : ℕ) (v : Value) where
   put_all trees (id ∷ ids) = λ i. substitute_at trees id i ∷ put_all trees ids i
 
   -- below a node that doesn't bind the name the value goes in
-  put_open : (trees : List Proc) (n : Node) → binds_below x n ≡ false → proc_with x v (tree_of trees n) ≡ tree_of (all_with x v trees) (own_with x v n)
-  put_open trees node.Stop h = (ap (proc_with x v) (rolls trees node.Stop) ∙ para-roll-Proc Proc (proc_with_of_layer x v) (layer_of trees node.Stop))
-  put_open trees (node.Prefix k fields p) h =
-      (ap (proc_with x v) (rolls trees (node.Prefix k fields p)) ∙ para-roll-Proc Proc (proc_with_of_layer x v) (layer_of trees (node.Prefix k fields p))) ∙ ((λ i. proc.Prefix (head_with x v k) (fields_with x v fields) (unless_bound (h i) (tree_at trees p, proc_with x v (tree_at trees p)))) ∙ (λ i. proc.Prefix (head_with x v k) (fields_with x v fields) (substitute_at trees p i)))
-  put_open trees (node.Guard c p) h = (ap (proc_with x v) (rolls trees (node.Guard c p)) ∙ para-roll-Proc Proc (proc_with_of_layer x v) (layer_of trees (node.Guard c p))) ∙ (λ i. proc.Guard (expr_with x v c) (substitute_at trees p i))
-  put_open trees (node.If c p q) h = (ap (proc_with x v) (rolls trees (node.If c p q)) ∙ para-roll-Proc Proc (proc_with_of_layer x v) (layer_of trees (node.If c p q))) ∙ (λ i. proc.If (expr_with x v c) (substitute_at trees p i) (substitute_at trees q i))
-  put_open trees (node.External ps) h = (ap (proc_with x v) (rolls trees (node.External ps)) ∙ para-roll-Proc Proc (proc_with_of_layer x v) (layer_of trees (node.External ps))) ∙ (λ i. proc.External (put_all trees ps i))
-  put_open trees (node.Internal ps) h = (ap (proc_with x v) (rolls trees (node.Internal ps)) ∙ para-roll-Proc Proc (proc_with_of_layer x v) (layer_of trees (node.Internal ps))) ∙ (λ i. proc.Internal (put_all trees ps i))
-  put_open trees (node.EachExternal y s p) h =
-      (ap (proc_with x v) (rolls trees (node.EachExternal y s p)) ∙ para-roll-Proc Proc (proc_with_of_layer x v) (layer_of trees (node.EachExternal y s p))) ∙ ((λ i. proc.EachExternal y (expr_with x v s) (unless_bound (h i) (tree_at trees p, proc_with x v (tree_at trees p)))) ∙ (λ i. proc.EachExternal y (expr_with x v s) (substitute_at trees p i)))
-  put_open trees (node.EachInternal y s p) h =
-      (ap (proc_with x v) (rolls trees (node.EachInternal y s p)) ∙ para-roll-Proc Proc (proc_with_of_layer x v) (layer_of trees (node.EachInternal y s p))) ∙ ((λ i. proc.EachInternal y (expr_with x v s) (unless_bound (h i) (tree_at trees p, proc_with x v (tree_at trees p)))) ∙ (λ i. proc.EachInternal y (expr_with x v s) (substitute_at trees p i)))
-  put_open trees (node.Hide p s) h = (ap (proc_with x v) (rolls trees (node.Hide p s)) ∙ para-roll-Proc Proc (proc_with_of_layer x v) (layer_of trees (node.Hide p s))) ∙ (λ i. proc.Hide (substitute_at trees p i) (expr_with x v s))
-  put_open trees (node.Rename p pairs gens) h =
-      (ap (proc_with x v) (rolls trees (node.Rename p pairs gens)) ∙ para-roll-Proc Proc (proc_with_of_layer x v) (layer_of trees (node.Rename p pairs gens))) ∙ (λ i. proc.Rename (substitute_at trees p i) (all_unless_bound (any_binds x gens) (map (pair_twice x v) pairs)) (gens_with x (map (gen_twice x v) gens)))
-  put_open trees (node.Call d args) h = (ap (proc_with x v) (rolls trees (node.Call d args)) ∙ para-roll-Proc Proc (proc_with_of_layer x v) (layer_of trees (node.Call d args)))
-  put_open trees node.Skip h = (ap (proc_with x v) (rolls trees node.Skip) ∙ para-roll-Proc Proc (proc_with_of_layer x v) (layer_of trees node.Skip))
-  put_open trees (node.Seq p q) h = (ap (proc_with x v) (rolls trees (node.Seq p q)) ∙ para-roll-Proc Proc (proc_with_of_layer x v) (layer_of trees (node.Seq p q))) ∙ (λ i. proc.Seq (substitute_at trees p i) (substitute_at trees q i))
-  put_open trees node.Ended h = (ap (proc_with x v) (rolls trees node.Ended) ∙ para-roll-Proc Proc (proc_with_of_layer x v) (layer_of trees node.Ended))
+  put_open : (trees : List Proc) (n : Layer) → binds_below x n ≡ false → proc_with x v (layer_tree trees n) ≡ layer_tree (all_with x v trees) (own_with x v n)
+  put_open trees Layer.Stop h = (ap (proc_with x v) (rolls trees Layer.Stop) ∙ para-roll-Proc Proc (proc_with_of_layer x v) (layer_of trees Layer.Stop))
+  put_open trees (Layer.Prefix k fields p) h =
+      (ap (proc_with x v) (rolls trees (Layer.Prefix k fields p)) ∙ para-roll-Proc Proc (proc_with_of_layer x v) (layer_of trees (Layer.Prefix k fields p))) ∙ ((λ i. proc.Prefix (head_with x v k) (fields_with x v fields) (unless_bound (h i) (tree_at trees p, proc_with x v (tree_at trees p)))) ∙ (λ i. proc.Prefix (head_with x v k) (fields_with x v fields) (substitute_at trees p i)))
+  put_open trees (Layer.Guard c p) h = (ap (proc_with x v) (rolls trees (Layer.Guard c p)) ∙ para-roll-Proc Proc (proc_with_of_layer x v) (layer_of trees (Layer.Guard c p))) ∙ (λ i. proc.Guard (expr_with x v c) (substitute_at trees p i))
+  put_open trees (Layer.If c p q) h = (ap (proc_with x v) (rolls trees (Layer.If c p q)) ∙ para-roll-Proc Proc (proc_with_of_layer x v) (layer_of trees (Layer.If c p q))) ∙ (λ i. proc.If (expr_with x v c) (substitute_at trees p i) (substitute_at trees q i))
+  put_open trees (Layer.External ps) h = (ap (proc_with x v) (rolls trees (Layer.External ps)) ∙ para-roll-Proc Proc (proc_with_of_layer x v) (layer_of trees (Layer.External ps))) ∙ (λ i. proc.External (put_all trees ps i))
+  put_open trees (Layer.Internal ps) h = (ap (proc_with x v) (rolls trees (Layer.Internal ps)) ∙ para-roll-Proc Proc (proc_with_of_layer x v) (layer_of trees (Layer.Internal ps))) ∙ (λ i. proc.Internal (put_all trees ps i))
+  put_open trees (Layer.EachExternal y s p) h =
+      (ap (proc_with x v) (rolls trees (Layer.EachExternal y s p)) ∙ para-roll-Proc Proc (proc_with_of_layer x v) (layer_of trees (Layer.EachExternal y s p))) ∙ ((λ i. proc.EachExternal y (expr_with x v s) (unless_bound (h i) (tree_at trees p, proc_with x v (tree_at trees p)))) ∙ (λ i. proc.EachExternal y (expr_with x v s) (substitute_at trees p i)))
+  put_open trees (Layer.EachInternal y s p) h =
+      (ap (proc_with x v) (rolls trees (Layer.EachInternal y s p)) ∙ para-roll-Proc Proc (proc_with_of_layer x v) (layer_of trees (Layer.EachInternal y s p))) ∙ ((λ i. proc.EachInternal y (expr_with x v s) (unless_bound (h i) (tree_at trees p, proc_with x v (tree_at trees p)))) ∙ (λ i. proc.EachInternal y (expr_with x v s) (substitute_at trees p i)))
+  put_open trees (Layer.Hide p s) h = (ap (proc_with x v) (rolls trees (Layer.Hide p s)) ∙ para-roll-Proc Proc (proc_with_of_layer x v) (layer_of trees (Layer.Hide p s))) ∙ (λ i. proc.Hide (substitute_at trees p i) (expr_with x v s))
+  put_open trees (Layer.Rename p pairs gens) h =
+      (ap (proc_with x v) (rolls trees (Layer.Rename p pairs gens)) ∙ para-roll-Proc Proc (proc_with_of_layer x v) (layer_of trees (Layer.Rename p pairs gens))) ∙ (λ i. proc.Rename (substitute_at trees p i) (all_unless_bound (any_binds x gens) (map (pair_twice x v) pairs)) (gens_with x (map (gen_twice x v) gens)))
+  put_open trees (Layer.Call d args) h = (ap (proc_with x v) (rolls trees (Layer.Call d args)) ∙ para-roll-Proc Proc (proc_with_of_layer x v) (layer_of trees (Layer.Call d args)))
+  put_open trees Layer.Skip h = (ap (proc_with x v) (rolls trees Layer.Skip) ∙ para-roll-Proc Proc (proc_with_of_layer x v) (layer_of trees Layer.Skip))
+  put_open trees (Layer.Seq p q) h = (ap (proc_with x v) (rolls trees (Layer.Seq p q)) ∙ para-roll-Proc Proc (proc_with_of_layer x v) (layer_of trees (Layer.Seq p q))) ∙ (λ i. proc.Seq (substitute_at trees p i) (substitute_at trees q i))
+  put_open trees Layer.Ended h = (ap (proc_with x v) (rolls trees Layer.Ended) ∙ para-roll-Proc Proc (proc_with_of_layer x v) (layer_of trees Layer.Ended))
 
   -- below a node that binds it nothing changes
-  put_bound : (trees : List Proc) (n : Node) → binds_below x n ≡ true → proc_with x v (tree_of trees n) ≡ tree_of trees (own_with x v n)
-  put_bound trees (node.Prefix k fields p) h =
-      (ap (proc_with x v) (rolls trees (node.Prefix k fields p)) ∙ para-roll-Proc Proc (proc_with_of_layer x v) (layer_of trees (node.Prefix k fields p))) ∙ (λ i. proc.Prefix (head_with x v k) (fields_with x v fields) (unless_bound (h i) (tree_at trees p, proc_with x v (tree_at trees p))))
-  put_bound trees (node.EachExternal y s p) h =
-      (ap (proc_with x v) (rolls trees (node.EachExternal y s p)) ∙ para-roll-Proc Proc (proc_with_of_layer x v) (layer_of trees (node.EachExternal y s p))) ∙ (λ i. proc.EachExternal y (expr_with x v s) (unless_bound (h i) (tree_at trees p, proc_with x v (tree_at trees p))))
-  put_bound trees (node.EachInternal y s p) h =
-      (ap (proc_with x v) (rolls trees (node.EachInternal y s p)) ∙ para-roll-Proc Proc (proc_with_of_layer x v) (layer_of trees (node.EachInternal y s p))) ∙ (λ i. proc.EachInternal y (expr_with x v s) (unless_bound (h i) (tree_at trees p, proc_with x v (tree_at trees p))))
+  put_bound : (trees : List Proc) (n : Layer) → binds_below x n ≡ true → proc_with x v (layer_tree trees n) ≡ layer_tree trees (own_with x v n)
+  put_bound trees (Layer.Prefix k fields p) h =
+      (ap (proc_with x v) (rolls trees (Layer.Prefix k fields p)) ∙ para-roll-Proc Proc (proc_with_of_layer x v) (layer_of trees (Layer.Prefix k fields p))) ∙ (λ i. proc.Prefix (head_with x v k) (fields_with x v fields) (unless_bound (h i) (tree_at trees p, proc_with x v (tree_at trees p))))
+  put_bound trees (Layer.EachExternal y s p) h =
+      (ap (proc_with x v) (rolls trees (Layer.EachExternal y s p)) ∙ para-roll-Proc Proc (proc_with_of_layer x v) (layer_of trees (Layer.EachExternal y s p))) ∙ (λ i. proc.EachExternal y (expr_with x v s) (unless_bound (h i) (tree_at trees p, proc_with x v (tree_at trees p))))
+  put_bound trees (Layer.EachInternal y s p) h =
+      (ap (proc_with x v) (rolls trees (Layer.EachInternal y s p)) ∙ para-roll-Proc Proc (proc_with_of_layer x v) (layer_of trees (Layer.EachInternal y s p))) ∙ (λ i. proc.EachInternal y (expr_with x v s) (unless_bound (h i) (tree_at trees p, proc_with x v (tree_at trees p))))
   put_bound trees other h = absurd (false≢true h)
 
   -- the sub-processes of what a node's process becomes
-  parts_bound : (trees : List Proc) (n : Node) → binds_below x n ≡ true → parts (proc_with x v (tree_of trees n)) ≡ map (tree_at trees) (places n)
+  parts_bound : (trees : List Proc) (n : Layer) → binds_below x n ≡ true → parts (proc_with x v (layer_tree trees n)) ≡ map (tree_at trees) (layer_ids n)
   parts_bound trees n h = ap parts (put_bound trees n h) ∙ (parts_at trees (own_with x v n) ∙ ap (λ (ids : List ProcId). map (tree_at trees) ids) (places_own n))
 
-  parts_open : (trees : List Proc) (n : Node) → binds_below x n ≡ false → parts (proc_with x v (tree_of trees n)) ≡ map (tree_at (all_with x v trees)) (places n)
+  parts_open : (trees : List Proc) (n : Layer) → binds_below x n ≡ false → parts (proc_with x v (layer_tree trees n)) ≡ map (tree_at (all_with x v trees)) (layer_ids n)
   parts_open trees n h = ap parts (put_open trees n h) ∙ (parts_at (all_with x v trees) (own_with x v n) ∙ ap (λ (ids : List ProcId). map (tree_at (all_with x v trees)) ids) (places_own n))
 
   -- a node with the value in its own parts, at places where its sub-processes stand with the value put in
-  stands_by : (trees : List Proc) (n : Node) (ids : List ProcId) → StandAt trees ids (parts (proc_with x v (tree_of trees n))) → (b : Bool) → binds_below x n ≡ b
-      → StandsFor trees (moved (own_with x v n) ids) (proc_with x v (tree_of trees n))
+  stands_by : (trees : List Proc) (n : Layer) (ids : List ProcId) → StandAt trees ids (parts (proc_with x v (layer_tree trees n))) → (b : Bool) → binds_below x n ≡ b
+      → StandsFor trees (moved (own_with x v n) ids) (proc_with x v (layer_tree trees n))
   stands_by trees n ids h true e =
       subst (λ (t : Proc). StandsFor trees (moved (own_with x v n) ids) t) (sym (put_bound trees n e))
       (stands_moved trees trees (own_with x v n) ids (subst (λ (ts : List Proc). StandAt trees ids ts) (ap parts (put_bound trees n e) ∙ parts_at trees (own_with x v n)) h))
@@ -141,13 +140,12 @@ module _ (x : ℕ) (v : Value) where
       subst (λ (t : Proc). StandsFor trees (moved (own_with x v n) ids) t) (sym (put_open trees n e))
       (stands_moved trees (all_with x v trees) (own_with x v n) ids (subst (λ (ts : List Proc). StandAt trees ids ts) (ap parts (put_open trees n e) ∙ parts_at (all_with x v trees) (own_with x v n)) h))
 
-  pub stands_made : (trees : List Proc) (id : ProcId) (n : Node) → tree_of trees n ≡ tree_at trees id → (ids : List ProcId) → StandAt trees ids (parts (proc_with x v (tree_at trees id)))
-      → (m : Node) → m ≡ own_with x v n → (k : Node) → k ≡ moved m ids → StandsFor trees k (proc_with x v (tree_at trees id))
-  stands_made trees id n tree ids h m own k is =
-      let stands : StandsFor trees (moved (own_with x v n) ids) (proc_with x v (tree_of trees n)) =
+  pub stands_made : (trees : List Proc) (id : ProcId) (n : Layer) → layer_tree trees n ≡ tree_at trees id → (ids : List ProcId) → StandAt trees ids (parts (proc_with x v (tree_at trees id)))
+      → StandsFor trees (moved (own_with x v n) ids) (proc_with x v (tree_at trees id))
+  stands_made trees id n tree ids h =
+      let stands : StandsFor trees (moved (own_with x v n) ids) (proc_with x v (layer_tree trees n)) =
       stands_by trees n ids (subst (λ (t : Proc). StandAt trees ids (parts (proc_with x v t))) (sym tree) h) (binds_below x n) refl in
-      subst (λ (q : Node). StandsFor trees q (proc_with x v (tree_at trees id))) (sym (is ∙ ap (λ (q : Node). moved q ids) own))
-      (subst (λ (t : Proc). StandsFor trees (moved (own_with x v n) ids) (proc_with x v t)) tree stands)
+      subst (λ (t : Proc). StandsFor trees (moved (own_with x v n) ids) (proc_with x v t)) tree stands
 
   stand_own : (trees : List Proc) (ids : List ProcId) → all_below (length trees) ids ≡ true → StandAt trees ids (map (tree_at trees) ids)
   stand_own trees [] h = tt
@@ -156,20 +154,20 @@ module _ (x : ℕ) (v : Value) where
     stand_own trees ids (second_so (nat_lt id.0 (length trees)) (all_below (length trees) ids) h),
   )
 
-  -- what the layer at a place says of what its process becomes
-  module _ (trees : List Proc) (id : ProcId) (within : id.0 < length trees) (layer : Layer) (is : IsLayer x trees id layer) where
-    pub layer_below : (ids : List ProcId) → ids ≡ layer.ids → all_below id.0 ids ≡ true
-    layer_below ids e = ap (all_below id.0) (e ∙ is.listed) ∙ is.below
+  -- what stands below a place says of what its process becomes
+  module _ (trees : List Proc) (id : ProcId) (within : id.0 < length trees) (under : Under) (is : IsUnder x trees id under) where
+    pub under_below : (ids : List ProcId) → ids ≡ under.ids → all_below id.0 ids ≡ true
+    under_below ids e = ap (all_below id.0) (e ∙ is.listed) ∙ is.below
 
-    pub layer_kept : layer.bound ≡ true → StandAt trees layer.ids (parts (proc_with x v (tree_at trees id)))
-    layer_kept h =
-        let stand : StandAt trees layer.ids (map (tree_at trees) layer.ids) = stand_own trees layer.ids (all_below_more id.0 (length trees) (omega (arith, within)) layer.ids (layer_below layer.ids refl)) in
-        let all : parts (proc_with x v (tree_at trees id)) ≡ map (tree_at trees) layer.ids =
+    pub under_kept : under.bound ≡ true → StandAt trees under.ids (parts (proc_with x v (tree_at trees id)))
+    under_kept h =
+        let stand : StandAt trees under.ids (map (tree_at trees) under.ids) = stand_own trees under.ids (all_below_more id.0 (length trees) (omega (arith, within)) under.ids (under_below under.ids refl)) in
+        let all : parts (proc_with x v (tree_at trees id)) ≡ map (tree_at trees) under.ids =
         ap (λ (t : Proc). parts (proc_with x v t)) (sym is.tree) ∙ (parts_bound trees is.node (sym is.bound ∙ h) ∙ ap (λ (ids : List ProcId). map (tree_at trees) ids) (sym is.listed)) in
-        subst (λ (ts : List Proc). StandAt trees layer.ids ts) (sym all) stand
+        subst (λ (ts : List Proc). StandAt trees under.ids ts) (sym all) stand
 
-    pub layer_open : layer.bound ≡ false → (ids : List ProcId) → ids ≡ layer.ids → map (tree_at (all_with x v trees)) ids ≡ parts (proc_with x v (tree_at trees id))
-    layer_open h ids e =
+    pub under_open : under.bound ≡ false → (ids : List ProcId) → ids ≡ under.ids → map (tree_at (all_with x v trees)) ids ≡ parts (proc_with x v (tree_at trees id))
+    under_open h ids e =
         sym (ap (λ (t : Proc). parts (proc_with x v t)) (sym is.tree) ∙
         (parts_open trees is.node (sym is.bound ∙ h) ∙ ap (λ (ids : List ProcId). map (tree_at (all_with x v trees)) ids) (sym (e ∙ is.listed))))
 

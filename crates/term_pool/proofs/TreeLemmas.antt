@@ -8,8 +8,8 @@ use Rattle.std.specs.Cmp.{first_so, second_so}
 use Rattle.csp_program.specs.declared.processes.Proc.{Proc}
 use Rattle.csp_program.specs.declared.processes.Proc.TheVariants as proc
 use Rattle.term_pool.proofs.NodeLemmas.{agree_node}
-use Rattle.term_pool.specs.Trees.{tree_at, tree_of, places, all_below, places_below, grown, trees_of, fall}
-use Rattle.term_pool.specs.declared.node.Node.{Node}
+use Rattle.term_pool.specs.Trees.{tree_at, layer_tree, layer_ids, all_below, layer_below, grown, trees_of, fall}
+use Rattle.term_pool.specs.Layers.{Layer}
 use Rattle.term_pool.specs.declared.node.ProcId.{ProcId}
 
 pub both_so : (a b : Bool) → a ≡ true → b ≡ true → (a && b) ≡ true
@@ -23,73 +23,73 @@ all_below_more b c le (id ∷ ids) h =
     both_so (nat_lt id.0 c) (all_below c ids) (lt-ltb id.0 c (omega arith)) (all_below_more b c le ids (second_so (nat_lt id.0 b) (all_below b ids) h))
 
 -- a node's tree stays the same when the list grows at its end
-pub of_front : (ts more : List Proc) (n : Node) → places_below (length ts) n ≡ true → tree_of (ts ++ more) n ≡ tree_of ts n
+pub of_front : (ts more : List Proc) (n : Layer) → layer_below (length ts) n ≡ true → layer_tree (ts ++ more) n ≡ layer_tree ts n
 of_front ts more n h = agree_node (ts ++ more) ts (length ts) (λ id g. get_or_append_left ts more proc.Stop id.0 (ltb-true id.0 (length ts) g)) n h
 
-pub grown_push : (ts : List Proc) (ns : List Node) (n : Node) → grown ts (ns ++ n ∷ []) ≡ grown ts ns ++ tree_of (grown ts ns) n ∷ []
+pub grown_push : (ts : List Proc) (ns : List Layer) (n : Layer) → grown ts (ns ++ n ∷ []) ≡ grown ts ns ++ layer_tree (grown ts ns) n ∷ []
 grown_push ts [] n = refl
-grown_push ts (m ∷ ns) n = grown_push (ts ++ tree_of ts m ∷ []) ns n
+grown_push ts (m ∷ ns) n = grown_push (ts ++ layer_tree ts m ∷ []) ns n
 
-pub grown_length : (ts : List Proc) (ns : List Node) → length (grown ts ns) ≡ length ts + length ns
+pub grown_length : (ts : List Proc) (ns : List Layer) → length (grown ts ns) ≡ length ts + length ns
 grown_length ts [] = omega arith
-grown_length ts (m ∷ ns) = let h = grown_length (ts ++ tree_of ts m ∷ []) ns in omega (arith, h, length-append ts (tree_of ts m ∷ []))
+grown_length ts (m ∷ ns) = let h = grown_length (ts ++ layer_tree ts m ∷ []) ns in omega (arith, h, length-append ts (layer_tree ts m ∷ []))
 
 -- the trees that were there are the front of those that there are
-unfoldable rest_of : List Proc → List Node → List Proc
+unfoldable rest_of : List Proc → List Layer → List Proc
 rest_of ts [] = []
-rest_of ts (m ∷ ns) = tree_of ts m ∷ rest_of (ts ++ tree_of ts m ∷ []) ns
+rest_of ts (m ∷ ns) = layer_tree ts m ∷ rest_of (ts ++ layer_tree ts m ∷ []) ns
 
-grown_rest : (ts : List Proc) (ns : List Node) → grown ts ns ≡ ts ++ rest_of ts ns
+grown_rest : (ts : List Proc) (ns : List Layer) → grown ts ns ≡ ts ++ rest_of ts ns
 unfolding rest_of
 grown_rest ts [] = sym (append-nil ts)
-grown_rest ts (m ∷ ns) = grown_rest (ts ++ tree_of ts m ∷ []) ns ∙ append_assoc ts (tree_of ts m ∷ []) (rest_of (ts ++ tree_of ts m ∷ []) ns)
+grown_rest ts (m ∷ ns) = grown_rest (ts ++ layer_tree ts m ∷ []) ns ∙ append_assoc ts (layer_tree ts m ∷ []) (rest_of (ts ++ layer_tree ts m ∷ []) ns)
 
 one_more : (ts : List Proc) (t : Proc) → length ts + 1 ≡ length (ts ++ t ∷ [])
 one_more ts t = sym (length-append ts (t ∷ []))
 
 -- the tree at a node's place, where the node is the first after the trees ts
-first_at : (ts : List Proc) (m : Node) (ns : List Node) → places_below (length ts) m ≡ true
-    → get_or (grown ts (m ∷ ns)) (length ts) proc.Stop ≡ tree_of (grown ts (m ∷ ns)) m
+first_at : (ts : List Proc) (m : Layer) (ns : List Layer) → layer_below (length ts) m ≡ true
+    → get_or (grown ts (m ∷ ns)) (length ts) proc.Stop ≡ layer_tree (grown ts (m ∷ ns)) m
 first_at ts m ns h =
-    let t = tree_of ts m in
+    let t = layer_tree ts m in
     let more = rest_of (ts ++ t ∷ []) ns in
     let whole : grown ts (m ∷ ns) ≡ ts ++ (t ∷ more) = grown_rest (ts ++ t ∷ []) ns ∙ append_assoc ts (t ∷ []) more in
-    subst (λ (w : List Proc). get_or w (length ts) proc.Stop ≡ tree_of w m) (sym whole)
+    subst (λ (w : List Proc). get_or w (length ts) proc.Stop ≡ layer_tree w m) (sym whole)
     (get_or-append_seam ts t more proc.Stop ∙ sym (of_front ts (t ∷ more) m h))
 
-later : (ts : List Proc) (m : Node) (ns : List Node) → fall (length ts) (m ∷ ns) ≡ true → fall (length (ts ++ tree_of ts m ∷ [])) ns ≡ true
-later ts m ns h = subst (λ (c : ℕ). fall c ns ≡ true) (one_more ts (tree_of ts m)) (second_so (places_below (length ts) m) (fall (length ts + 1) ns) h)
+later : (ts : List Proc) (m : Layer) (ns : List Layer) → fall (length ts) (m ∷ ns) ≡ true → fall (length (ts ++ layer_tree ts m ∷ [])) ns ≡ true
+later ts m ns h = subst (λ (c : ℕ). fall c ns ≡ true) (one_more ts (layer_tree ts m)) (second_so (layer_below (length ts) m) (fall (length ts + 1) ns) h)
 
-pub grown_at : (ts : List Proc) (ns : List Node) → fall (length ts) ns ≡ true → (k : ℕ) (n : Node) → slice_get ns k ≡ Some n
-    → get_or (grown ts ns) (length ts + k) proc.Stop ≡ tree_of (grown ts ns) n
+pub grown_at : (ts : List Proc) (ns : List Layer) → fall (length ts) ns ≡ true → (k : ℕ) (n : Layer) → slice_get ns k ≡ Some n
+    → get_or (grown ts ns) (length ts + k) proc.Stop ≡ layer_tree (grown ts ns) n
 grown_at ts [] h k n g = cc
 grown_at ts (m ∷ ns) h zero n g =
     let e : m ≡ n = cc in
     let z : length ts + 0 ≡ length ts = omega arith in
     ap (λ k. get_or (grown ts (m ∷ ns)) k proc.Stop) z ∙
-    (first_at ts m ns (first_so (places_below (length ts) m) (fall (length ts + 1) ns) h) ∙ ap (λ q. tree_of (grown ts (m ∷ ns)) q) e)
+    (first_at ts m ns (first_so (layer_below (length ts) m) (fall (length ts + 1) ns) h) ∙ ap (λ q. layer_tree (grown ts (m ∷ ns)) q) e)
 grown_at ts (m ∷ ns) h (suc k) n g =
-    let t = tree_of ts m in
+    let t = layer_tree ts m in
     let z : length ts + suc k ≡ length (ts ++ t ∷ []) + k = omega (arith, one_more ts t) in
     ap (λ k. get_or (grown ts (m ∷ ns)) k proc.Stop) z ∙
     grown_at (ts ++ t ∷ []) ns (later ts m ns h) k n g
 
-pub fall_at : (b : ℕ) (ns : List Node) → fall b ns ≡ true → (k : ℕ) (n : Node) → slice_get ns k ≡ Some n → places_below (b + k) n ≡ true
+pub fall_at : (b : ℕ) (ns : List Layer) → fall b ns ≡ true → (k : ℕ) (n : Layer) → slice_get ns k ≡ Some n → layer_below (b + k) n ≡ true
 fall_at b [] h k n g = cc
 fall_at b (m ∷ ns) h zero n g =
     let e : m ≡ n = cc in
     let z : b ≡ b + 0 = omega arith in
-    subst (λ (q : Node). places_below (b + 0) q ≡ true) e (subst (λ (c : ℕ). places_below c m ≡ true) z (first_so (places_below b m) (fall (b + 1) ns) h))
+    subst (λ (q : Layer). layer_below (b + 0) q ≡ true) e (subst (λ (c : ℕ). layer_below c m ≡ true) z (first_so (layer_below b m) (fall (b + 1) ns) h))
 fall_at b (m ∷ ns) h (suc k) n g =
     let z : b + 1 + k ≡ b + suc k = omega arith in
-    subst (λ (c : ℕ). places_below c n ≡ true) z (fall_at (b + 1) ns (second_so (places_below b m) (fall (b + 1) ns) h) k n g)
+    subst (λ (c : ℕ). layer_below c n ≡ true) z (fall_at (b + 1) ns (second_so (layer_below b m) (fall (b + 1) ns) h) k n g)
 
-pub fall_push : (b : ℕ) (ns : List Node) (n : Node) → fall b ns ≡ true → places_below (b + length ns) n ≡ true → fall b (ns ++ n ∷ []) ≡ true
+pub fall_push : (b : ℕ) (ns : List Layer) (n : Layer) → fall b ns ≡ true → layer_below (b + length ns) n ≡ true → fall b (ns ++ n ∷ []) ≡ true
 fall_push b [] n h g =
     let z : b + 0 ≡ b = omega arith in
-    both_so (places_below b n) true (subst (λ (c : ℕ). places_below c n ≡ true) z g) refl
+    both_so (layer_below b n) true (subst (λ (c : ℕ). layer_below c n ≡ true) z g) refl
 fall_push b (m ∷ ns) n h g =
     let z : b + suc (length ns) ≡ b + 1 + length ns = omega arith in
-    both_so (places_below b m) (fall (b + 1) (ns ++ n ∷ []))
-    (first_so (places_below b m) (fall (b + 1) ns) h)
-    (fall_push (b + 1) ns n (second_so (places_below b m) (fall (b + 1) ns) h) (subst (λ (c : ℕ). places_below c n ≡ true) z g))
+    both_so (layer_below b m) (fall (b + 1) (ns ++ n ∷ []))
+    (first_so (layer_below b m) (fall (b + 1) ns) h)
+    (fall_push (b + 1) ns n (second_so (layer_below b m) (fall (b + 1) ns) h) (subst (λ (c : ℕ). layer_below c n ≡ true) z g))

@@ -4,8 +4,7 @@ use Rattle.csp_program.specs.declared.processes.Proc.{Proc}
 use Rattle.csp_program.specs.declared.processes.Proc.TheOpen.{Proc-F}
 use Rattle.csp_program.specs.declared.processes.Proc.TheVariants as proc
 use Rattle.csp_program.specs.declared.processes.Proc.TheViews.{out-Proc}
-use Rattle.term_pool.specs.declared.node.Node.{Node}
-use Rattle.term_pool.specs.declared.node.Node.TheVariants as node
+use Rattle.term_pool.specs.Layers.{Layer}
 use Rattle.term_pool.specs.declared.node.ProcId.{ProcId}
 
 -- the list with another first element, if it has any
@@ -35,18 +34,18 @@ unfoldable pub with_first : Proc → Proc → Proc
 with_first t q = layer_with_first (out-Proc t) q
 
 -- the node with the place q in place of its first
-abbrev pub node_with_first : Node → ProcId → Node
-node_with_first node.Stop q = node.Stop
-node_with_first (node.Prefix head fields p) q = node.Prefix head fields q
-node_with_first (node.Guard c p) q = node.Guard c q
-node_with_first (node.If c p r) q = node.If c q r
-node_with_first (node.External ps) q = node.External (other_first ps q)
-node_with_first (node.Internal ps) q = node.Internal (other_first ps q)
-node_with_first (node.EachExternal x s p) q = node.EachExternal x s q
-node_with_first (node.EachInternal x s p) q = node.EachInternal x s q
-node_with_first (node.Hide p s) q = node.Hide q s
-node_with_first (node.Rename p pairs gens) q = node.Rename q pairs gens
-node_with_first (node.Call d args) q = node.Call d args
-node_with_first node.Skip q = node.Skip
-node_with_first (node.Seq p r) q = node.Seq q r
-node_with_first node.Ended q = node.Ended
+abbrev pub node_with_first : Layer → ProcId → Layer
+node_with_first Layer.Stop q = Layer.Stop
+node_with_first (Layer.Prefix head fields p) q = Layer.Prefix head fields q
+node_with_first (Layer.Guard c p) q = Layer.Guard c q
+node_with_first (Layer.If c p r) q = Layer.If c q r
+node_with_first (Layer.External ps) q = Layer.External (other_first ps q)
+node_with_first (Layer.Internal ps) q = Layer.Internal (other_first ps q)
+node_with_first (Layer.EachExternal x s p) q = Layer.EachExternal x s q
+node_with_first (Layer.EachInternal x s p) q = Layer.EachInternal x s q
+node_with_first (Layer.Hide p s) q = Layer.Hide q s
+node_with_first (Layer.Rename p pairs gens) q = Layer.Rename q pairs gens
+node_with_first (Layer.Call d args) q = Layer.Call d args
+node_with_first Layer.Skip q = Layer.Skip
+node_with_first (Layer.Seq p r) q = Layer.Seq q r
+node_with_first Layer.Ended q = Layer.Ended

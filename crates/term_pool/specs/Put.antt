@@ -2,9 +2,9 @@
 use Rattle.std.specs.Prelude.{◌≡◌, ◌⊎◌, true, Some, List, [], ◌∷◌, length, slice_get}
 use Rattle.csp_program.specs.declared.processes.Proc.{Proc}
 use Rattle.term_pool.specs.Pooled.{Has, IsFront, PartsStandBelow}
-use Rattle.term_pool.specs.Trees.{places_below, tree_of}
+use Rattle.term_pool.specs.Trees.{layer_below, layer_tree}
 use Rattle.term_pool.specs.Within.{IsInOne}
-use Rattle.term_pool.specs.declared.node.Node.{Node}
+use Rattle.term_pool.specs.Layers.{Layer}
 use Rattle.term_pool.specs.declared.node.ProcId.{ProcId}
 
 -- each of the processes stands in the list
@@ -25,6 +25,6 @@ StandAt trees (id ∷ ids) (t ∷ ts) = (slice_get trees id.0 ≡ Some t) × Sta
 StandAt trees ids ts = ⊥
 
 -- the node looks at places of the list alone, and is the process with what stands there
-pub record StandsFor (trees : List Proc) (n : Node) (t : Proc) : Type 0 where
-  pub below : places_below (length trees) n ≡ true
-  pub tree : tree_of trees n ≡ t
+pub record StandsFor (trees : List Proc) (n : Layer) (t : Proc) : Type 0 where
+  pub below : layer_below (length trees) n ≡ true
+  pub tree : layer_tree trees n ≡ t

@@ -4,36 +4,35 @@ use Rattle.std.specs.HashMap.{HashMap, get}
 use Rattle.csp_atoms.specs.declared.value.Value.{Value}
 use Rattle.csp_program.specs.Substitution.{all_unless_bound, any_binds, any_gets, expr_with, fields_with, gen_twice, head_with, pair_twice, proc_with, gens_with}
 use Rattle.csp_program.specs.declared.processes.Proc.{Proc}
-use Rattle.term_pool.specs.Trees.{places, places_below, tree_at, tree_of}
-use Rattle.term_pool.specs.declared.node.Node.{Node}
-use Rattle.term_pool.specs.declared.node.Node.TheVariants as node
+use Rattle.term_pool.specs.Trees.{layer_ids, layer_below, tree_at, layer_tree}
+use Rattle.term_pool.specs.Layers.{Layer}
 use Rattle.term_pool.specs.declared.node.ProcId.{ProcId}
-use Rattle.term_pool.specs.declared.own.Layer.{Layer}
+use Rattle.term_pool.specs.declared.under.Under.{Under}
 
 -- whether the node binds the name x in its sub-processes
-abbrev pub binds_below : ℕ → Node → Bool
-binds_below x (node.Prefix head fields p) = any_gets x fields
-binds_below x (node.EachExternal y s p) = nat_eq y x
-binds_below x (node.EachInternal y s p) = nat_eq y x
+abbrev pub binds_below : ℕ → Layer → Bool
+binds_below x (Layer.Prefix head fields p) = any_gets x fields
+binds_below x (Layer.EachExternal y s p) = nat_eq y x
+binds_below x (Layer.EachInternal y s p) = nat_eq y x
 binds_below x other = false
 
 module _ (x : ℕ) (v : Value) where
   -- the node with the value v in place of the free name x in its own parts
-  abbrev pub own_with : Node → Node
-  own_with node.Stop = node.Stop
-  own_with (node.Prefix head fields p) = node.Prefix (head_with x v head) (fields_with x v fields) p
-  own_with (node.Guard c p) = node.Guard (expr_with x v c) p
-  own_with (node.If c p q) = node.If (expr_with x v c) p q
-  own_with (node.External ps) = node.External ps
-  own_with (node.Internal ps) = node.Internal ps
-  own_with (node.EachExternal y s p) = node.EachExternal y (expr_with x v s) p
-  own_with (node.EachInternal y s p) = node.EachInternal y (expr_with x v s) p
-  own_with (node.Hide p s) = node.Hide p (expr_with x v s)
-  own_with (node.Rename p pairs gens) = node.Rename p (all_unless_bound (any_binds x gens) (map (pair_twice x v) pairs)) (gens_with x (map (gen_twice x v) gens))
-  own_with (node.Call d args) = node.Call d (map (expr_with x v) args)
-  own_with node.Skip = node.Skip
-  own_with (node.Seq p q) = node.Seq p q
-  own_with node.Ended = node.Ended
+  abbrev pub own_with : Layer → Layer
+  own_with Layer.Stop = Layer.Stop
+  own_with (Layer.Prefix head fields p) = Layer.Prefix (head_with x v head) (fields_with x v fields) p
+  own_with (Layer.Guard c p) = Layer.Guard (expr_with x v c) p
+  own_with (Layer.If c p q) = Layer.If (expr_with x v c) p q
+  own_with (Layer.External ps) = Layer.External ps
+  own_with (Layer.Internal ps) = Layer.Internal ps
+  own_with (Layer.EachExternal y s p) = Layer.EachExternal y (expr_with x v s) p
+  own_with (Layer.EachInternal y s p) = Layer.EachInternal y (expr_with x v s) p
+  own_with (Layer.Hide p s) = Layer.Hide p (expr_with x v s)
+  own_with (Layer.Rename p pairs gens) = Layer.Rename p (all_unless_bound (any_binds x gens) (map (pair_twice x v) pairs)) (gens_with x (map (gen_twice x v) gens))
+  own_with (Layer.Call d args) = Layer.Call d (map (expr_with x v) args)
+  own_with Layer.Skip = Layer.Skip
+  own_with (Layer.Seq p q) = Layer.Seq p q
+  own_with Layer.Ended = Layer.Ended
 
   -- the processes, each with the value put in
   abbrev pub all_with : List Proc → List Proc
@@ -50,9 +49,9 @@ module _ (x : ℕ) (v : Value) where
   AreMade trees visited = (q : ℕ) (made : ProcId) → get nat_eq visited q ≡ Some made → IsMade trees q made
 
 -- the places below the node at a place, and whether it binds the name x there
-pub record IsLayer (x : ℕ) (trees : List Proc) (id : ProcId) (layer : Layer) : Type 0 where
-  pub node : Node
-  pub below : places_below id.0 node ≡ true
-  pub tree : tree_of trees node ≡ tree_at trees id
-  pub listed : layer.ids ≡ places node
-  pub bound : layer.bound ≡ binds_below x node
+pub record IsUnder (x : ℕ) (trees : List Proc) (id : ProcId) (under : Under) : Type 0 where
+  pub node : Layer
+  pub below : layer_below id.0 node ≡ true
+  pub tree : layer_tree trees node ≡ tree_at trees id
+  pub listed : under.ids ≡ layer_ids node
+  pub bound : under.bound ≡ binds_below x node

@@ -1,18 +1,21 @@
 //! Terms: depth, size and equality of processes, and a pool in which each stands once.
 #![tactic(auto)]
 
-mod first;
+mod below;
+mod changed;
+mod entry;
+mod kept;
 pub mod measure;
 mod measured;
 pub mod node;
 mod node_measures;
-mod nodes;
-mod own;
-mod places;
+mod own_parts;
+mod parts;
 pub mod pool;
 mod put;
 mod store;
 mod substitute;
+mod under;
 pub mod terms;
 
 pub use node::{Node, ProcId};

@@ -1,6 +1,6 @@
 //! Processes whose sub-processes are places in a pool.
 
-ghost use Rattle.term_pool.specs.ExactNode.{exact_id, exact_node};
+ghost use Rattle.term_pool.specs.ExactId.{exact_id};
 
 use containers::{Exact, Items};
 use csp_program::{EventPart, Expr, Field, Gen, Head};
@@ -10,30 +10,30 @@ use csp_program::{EventPart, Expr, Field, Gen, Head};
 pub struct ProcId(pub u32);
 
 /// One layer of a process: its expressions, and the place of each of its sub-processes.
-#[derive(PartialEq, Eq, Hash, Drop)]
-pub enum Node {
+#[derive(Clone, Copy)]
+pub enum Node<'p> {
     /// `STOP`
     Stop,
     /// `c.a?x -> P`
-    Prefix(Head, Items<Field>, ProcId),
+    Prefix(&'p Head, &'p Items<Field>, ProcId),
     /// `a & P`
-    Guard(Expr, ProcId),
+    Guard(&'p Expr, ProcId),
     /// `if a then P else Q`
-    If(Expr, ProcId, ProcId),
+    If(&'p Expr, ProcId, ProcId),
     /// `P [] Q`
-    External(Items<ProcId>),
+    External(&'p Items<ProcId>),
     /// `P |~| Q`
-    Internal(Items<ProcId>),
+    Internal(&'p Items<ProcId>),
     /// `[] x:S @ P`
-    EachExternal(u32, Expr, ProcId),
+    EachExternal(u32, &'p Expr, ProcId),
     /// `|~| x:S @ P`
-    EachInternal(u32, Expr, ProcId),
+    EachInternal(u32, &'p Expr, ProcId),
     /// `P \ S`
-    Hide(ProcId, Expr),
+    Hide(ProcId, &'p Expr),
     /// `P[[a <- b | gens]]`
-    Rename(ProcId, Items<(EventPart, EventPart)>, Items<Gen>),
+    Rename(ProcId, &'p Items<(EventPart, EventPart)>, &'p Items<Gen>),
     /// The definition with this number, and its arguments.
-    Call(u32, Items<Expr>),
+    Call(u32, &'p Items<Expr>),
     /// `SKIP`
     Skip,
     /// `P ; Q`
@@ -44,8 +44,4 @@ pub enum Node {
 
 impl Exact for ProcId {
     ghost exact = { exact_id };
-}
-
-impl Exact for Node {
-    ghost exact = { exact_node };
 }

@@ -1,24 +1,21 @@
 //! A pool of processes: each stands in it once, and its sub-processes stand at smaller places.
 
 ghost use Rattle.std.specs.Prelude.{◌≡◌, ◌↔◌, IsTrue, ◌<◌, ◌^◌, ◌++◌, [], ◌∷◌, true, false, length, map, slice_get, IfOk, OnOk, OnErr, Some};
-ghost use Rattle.std.specs.List.{IsDistinct};
-ghost use Rattle.std.specs.Set.{is_member};
-ghost use Rattle.containers.specs.Members.{with_new};
 ghost use Rattle.csp_program.specs.Depth.{proc_depth};
 ghost use Rattle.csp_program.specs.Size.{proc_size};
 ghost use Rattle.csp_program.specs.Substitution.{proc_with};
 ghost use Rattle.term_pool.specs.Counting.{capped};
-ghost use Rattle.term_pool.specs.ExactNode.{eq_node};
 ghost use Rattle.term_pool.specs.First.{with_first};
-ghost use Rattle.term_pool.specs.Held.{IsHeld};
-ghost use Rattle.term_pool.specs.Pooled.{AreDifferent, Has, IsFront, PartsStandBelow};
-ghost use Rattle.term_pool.specs.Trees.{places_below, tree_at, tree_of, trees_of};
+ghost use Rattle.term_pool.specs.Pooled.{parts, AreDifferent, Has, IsFront, PartsStandBelow};
+ghost use Rattle.term_pool.specs.Put.{StandAt};
+ghost use Rattle.term_pool.specs.Trees.{places_below, tree_at, tree_of};
 ghost use Rattle.term_pool.specs.Within.{AddsOne, AddsParts};
 
-use crate::first::copy_with_first;
+use crate::entry::Entry;
+use crate::kept::{node_in, put_first_in, put_in, put_made_in};
 use crate::measure::Measure;
 use crate::node::{Node, ProcId};
-use crate::node_measures::of_node;
+use crate::own_parts::{OwnParts, no_parts};
 use crate::put::put_tree;
 use crate::substitute::substitute_at;
 use containers::{Items, Numbering};
@@ -34,7 +31,8 @@ use std::marker::Model;
 #[derive(Drop)]
 pub struct Pool {
     alloc: Global,
-    nodes: Numbering<Node>,
+    parts: OwnParts,
+    entries: Numbering<Entry>,
     measures: Items<Measure>,
 }
 
@@ -43,16 +41,15 @@ impl Model for Pool {
     ghost use Rattle.std.specs.Coded.{codes};
     ghost use Rattle.csp_program.specs.contracts.processes.Proc as process;
     ghost use Rattle.csp_program.specs.declared.processes.Proc.{Proc};
-    ghost use Rattle.term_pool.specs.Held.{IsHeld};
-    ghost use Rattle.term_pool.specs.Trees.{trees_of};
+    ghost use Rattle.term_pool.specs.Held.{processes, IsKept};
 
     ghost Value = { List Proc };
 
     ghost coded = { Prim.hlevel (codes, process.the_row.coded) };
 
-    ghost view = { λ p. trees_of p.nodes };
+    ghost view = { λ p. processes p.parts p.entries };
 
-    ghost invariant = { λ p. IsHeld p.nodes p.measures };
+    ghost invariant = { λ p. IsKept p.parts p.entries p.measures };
 }
 
 impl Pool {
@@ -62,7 +59,8 @@ impl Pool {
     {
         Pool {
             alloc,
-            nodes: Numbering::new(alloc),
+            parts: no_parts(alloc),
+            entries: Numbering::new(alloc),
             measures: Items::new(alloc),
         }
     }
@@ -74,16 +72,16 @@ impl Pool {
         ensures different { AreDifferent self.now }
         ensures parts { PartsStandBelow self.now }
     {
-        self.nodes.len()
+        self.entries.len()
     }
 
     /// The node at a place: with the processes at its places, which are smaller, it is the process there.
-    pub fn node(&self, id: ProcId) -> &Node
+    pub fn node(&self, id: ProcId) -> Node<'_>
         requires { id.0 < length self.now }
-        ensures process { tree_of self.now result.now ≡ tree_at self.now id }
-        ensures places { places_below id.0 result.now ≡ true }
+        ensures process { tree_of self.now result ≡ tree_at self.now id }
+        ensures places { places_below id.0 result ≡ true }
     {
-        &self.nodes.as_slice()[id.0 as usize]
+        node_in(&self.parts, &self.entries, &self.measures, id)
     }
 
     /// The depth of the process at a place, as `term_depth` counts it.
@@ -114,21 +112,20 @@ impl Pool {
     }
 
     /// The place of the process that the node is with the processes at its places. A new one goes to the end; for one that is known no memory is needed.
-    pub fn put_node(&mut self, node: Node) -> Result<ProcId, NoMemory>
+    pub fn put_node(&mut self, node: Node<'_>) -> Result<ProcId, NoMemory>
         requires { places_below (length self.old) node ≡ true }
-        ensures process { IfOk result (λ id. slice_get self.new id.0 ≡ Some (tree_of self.old node)) }
+        ensures process { IfOk result (λ id. slice_get self.new id.0 ≡ Some (tree_of self.old node.entry)) }
         ensures front { IsFront self.old self.new }
-        ensures known { Has self.old (tree_of self.old node) → self.new ≡ self.old }
-        ensures only { AddsOne self.old self.new (tree_of self.old node) }
+        ensures known { Has self.old (tree_of self.old node.entry) → self.new ≡ self.old }
+        ensures only { AddsOne self.old self.new (tree_of self.old node.entry) }
         ensures err { OnErr result (self.new ≡ self.old) }
-        ensures err_only_new { OnErr result (Has self.old (tree_of self.old node) → ⊥) }
+        ensures err_only_new { OnErr result (Has self.old (tree_of self.old node.entry) → ⊥) }
     {
-        let place = number_node(&mut self.nodes, &mut self.measures, node)?;
-        Ok(ProcId(place))
+        put_in(&mut self.parts, &mut self.entries, &mut self.measures, self.alloc, node)
     }
 
     /// The place of the process at `id` with the process at `below` in place of its first sub-process; where it has none, of the process itself.
-    /// A new one goes to the end.
+    /// A new one goes to the end. Its own parts are shared.
     pub fn put_with_first(&mut self, id: ProcId, below: ProcId) -> Result<ProcId, NoMemory>
         requires id { id.0 < length self.old }
         requires below { below.0 < length self.old }
@@ -138,10 +135,25 @@ impl Pool {
         ensures only { AddsOne self.old self.new (with_first (tree_at self.old id) (tree_at self.old below)) }
         ensures err { OnErr result (self.new ≡ self.old) }
     {
-        let alloc = self.alloc();
-        let node = copy_with_first(alloc, self.node(id), below)?;
-        let made = self.put_node(node)?;
-        Ok(made)
+        put_first_in(&mut self.parts, &mut self.entries, &mut self.measures, self.alloc, id, below)
+    }
+
+    /// The place of what the process at `id` becomes with the value in place of the name, where `ids` are the places of what its sub-processes become.
+    pub(crate) fn put_made(
+        &mut self,
+        id: ProcId,
+        ids: &Items<ProcId>,
+        name: u32,
+        value: &Value,
+    ) -> Result<ProcId, NoMemory>
+        requires within { id.0 < length self.old }
+        requires made { StandAt self.old ids.now (parts (proc_with name value.now (tree_at self.old id))) }
+        ensures process { IfOk result (λ made. slice_get self.new made.0 ≡ Some (proc_with name value.now (tree_at self.old id))) }
+        ensures front { IsFront self.old self.new }
+        ensures known { Has self.old (proc_with name value.now (tree_at self.old id)) → self.new ≡ self.old }
+        ensures only { AddsOne self.old self.new (proc_with name value.now (tree_at self.old id)) }
+    {
+        put_made_in(&mut self.parts, &mut self.entries, &mut self.measures, self.alloc, id, ids, name, value)
     }
 
     /// The place of the process, which is put into the pool with its sub-processes, each of them once. Where memory fails some of them are put.
@@ -177,47 +189,3 @@ impl Pool {
     }
 }
 
-// The number of a node, which is the next one where the node is new.
-fn number_node(
-    nodes: &mut Numbering<Node>,
-    measures: &mut Items<Measure>,
-    node: Node,
-) -> Result<u32, NoMemory>
-    requires held { IsHeld nodes.old measures.old }
-    requires below { places_below (length nodes.old) node ≡ true }
-    ensures held { IsHeld nodes.new measures.new }
-    ensures ok { OnOk result (nodes.new ≡ with_new eq_node nodes.old node) }
-    ensures place { IfOk result (λ place. slice_get nodes.new place ≡ Some node) }
-    ensures err { OnErr result (nodes.new ≡ nodes.old) }
-    ensures err_only_new { OnErr result (is_member eq_node nodes.old node ≡ false) }
-{
-    if let Some(place) = nodes.find(&node) {
-        return Ok(place);
-    }
-    add_node(nodes, measures, node)
-}
-
-// The number of a node that is new: the next one.
-fn add_node(
-    nodes: &mut Numbering<Node>,
-    measures: &mut Items<Measure>,
-    node: Node,
-) -> Result<u32, NoMemory>
-    requires held { IsHeld nodes.old measures.old }
-    requires below { places_below (length nodes.old) node ≡ true }
-    requires unknown { is_member eq_node nodes.old node ≡ false }
-    ensures held { IsHeld nodes.new measures.new }
-    ensures ok { OnOk result (nodes.new ≡ nodes.old ++ node ∷ []) }
-    ensures place { IfOk result (λ place. slice_get nodes.new place ≡ Some node) }
-    ensures err { OnErr result (nodes.new ≡ nodes.old) }
-{
-    let measure = of_node(measures.as_slice(), &node);
-    measures.push(measure)?;
-    match nodes.number(node) {
-        Ok(place) => Ok(place),
-        Err(_) => {
-            let _ = measures.pop();
-            Err(NoMemory)
-        }
-    }
-}

@@ -1,11 +1,12 @@
 //! Putting whole processes into a pool.
 
 ghost use Rattle.std.specs.Prelude.{◌≡◌, ◌∷◌, [], Some, slice_get, IfOk};
+ghost use Rattle.term_pool.specs.Over.{layer_over};
 ghost use Rattle.term_pool.specs.Pooled.{parts};
 ghost use Rattle.term_pool.specs.Put.{Grows, StandAt, StandsFor};
 
-use crate::node::{Node, ProcId};
-use crate::nodes::{call, choice, each_external, each_internal, guard, hiding, prefix, renaming};
+use crate::below::{Below, all, few, node_over};
+use crate::node::ProcId;
 use crate::pool::Pool;
 use containers::Items;
 use csp_base::NoMemory;
@@ -18,74 +19,64 @@ pub(crate) fn put_tree(pool: &mut Pool, alloc: Global, proc: &Proc) -> Result<Pr
     ensures process { IfOk result (λ id. slice_get pool.new id.0 ≡ Some proc.now) }
     ensures grows { Grows pool.old pool.new (proc.now ∷ []) }
 {
-    let node = put_parts(pool, alloc, proc)?;
-    let id = pool.put_node(node)?;
+    let below = put_below(pool, alloc, proc)?;
+    let id = pool.put_node(node_over(proc, &below))?;
     Ok(id)
 }
 
-// The node of the process, whose sub-processes are put into the pool.
+// The places of the sub-processes of the process, which are put into the pool.
 #[cycle(put_tree)]
-fn put_parts(pool: &mut Pool, alloc: Global, proc: &Proc) -> Result<Node, NoMemory>
-    ensures node { IfOk result (λ node. StandsFor pool.new node proc.now) }
+fn put_below(pool: &mut Pool, alloc: Global, proc: &Proc) -> Result<Below, NoMemory>
+    ensures node { IfOk result (λ below. StandsFor pool.new (layer_over proc.now below) proc.now) }
     ensures grows { Grows pool.old pool.new (parts proc.now) }
 {
     match proc {
-        Proc::Stop => Ok(Node::Stop),
-        Proc::Prefix(head, fields, p) => {
+        Proc::Stop => Ok(few(alloc, ProcId(0), ProcId(0))),
+        Proc::Prefix(_, _, p) => {
             let p = put_tree(pool, alloc, p.get())?;
-            let node = prefix(alloc, head, fields.as_slice(), p)?;
-            Ok(node)
+            Ok(few(alloc, p, p))
         }
-        Proc::Guard(c, p) => {
+        Proc::Guard(_, p) => {
             let p = put_tree(pool, alloc, p.get())?;
-            let node = guard(alloc, c, p)?;
-            Ok(node)
+            Ok(few(alloc, p, p))
         }
-        Proc::If(c, p, q) => {
+        Proc::If(_, p, q) => {
             let p = put_tree(pool, alloc, p.get())?;
             let q = put_tree(pool, alloc, q.get())?;
-            let node = choice(alloc, c, p, q)?;
-            Ok(node)
+            Ok(few(alloc, p, q))
         }
         Proc::External(procs) => {
             let ids = put_trees(pool, alloc, procs.as_slice())?;
-            Ok(Node::External(ids))
+            Ok(all(ids))
         }
         Proc::Internal(procs) => {
             let ids = put_trees(pool, alloc, procs.as_slice())?;
-            Ok(Node::Internal(ids))
+            Ok(all(ids))
         }
-        Proc::EachExternal(slot, set, p) => {
+        Proc::EachExternal(_, _, p) => {
             let p = put_tree(pool, alloc, p.get())?;
-            let node = each_external(alloc, *slot, set, p)?;
-            Ok(node)
+            Ok(few(alloc, p, p))
         }
-        Proc::EachInternal(slot, set, p) => {
+        Proc::EachInternal(_, _, p) => {
             let p = put_tree(pool, alloc, p.get())?;
-            let node = each_internal(alloc, *slot, set, p)?;
-            Ok(node)
+            Ok(few(alloc, p, p))
         }
-        Proc::Hide(p, set) => {
+        Proc::Hide(p, _) => {
             let p = put_tree(pool, alloc, p.get())?;
-            let node = hiding(alloc, p, set)?;
-            Ok(node)
+            Ok(few(alloc, p, p))
         }
-        Proc::Rename(p, pairs, gens) => {
+        Proc::Rename(p, _, _) => {
             let p = put_tree(pool, alloc, p.get())?;
-            let node = renaming(alloc, p, pairs.as_slice(), gens.as_slice())?;
-            Ok(node)
+            Ok(few(alloc, p, p))
         }
-        Proc::Call(definition, args) => {
-            let node = call(alloc, *definition, args.as_slice())?;
-            Ok(node)
-        }
-        Proc::Skip => Ok(Node::Skip),
+        Proc::Call(_, _) => Ok(few(alloc, ProcId(0), ProcId(0))),
+        Proc::Skip => Ok(few(alloc, ProcId(0), ProcId(0))),
         Proc::Seq(p, q) => {
             let p = put_tree(pool, alloc, p.get())?;
             let q = put_tree(pool, alloc, q.get())?;
-            Ok(Node::Seq(p, q))
+            Ok(few(alloc, p, q))
         }
-        Proc::Ended => Ok(Node::Ended),
+        Proc::Ended => Ok(few(alloc, ProcId(0), ProcId(0))),
     }
 }
 

@@ -1,6 +1,6 @@
 //! Values that a pool keeps once each, with what they measure.
 
-ghost use Rattle.std.specs.Prelude.{◌≡◌, ℕ, ◌<◌, ◌^◌, ◌++◌, ◌∷◌, [], false, length, slice_get, IfOk, MatchOption, OnOk, OnErr, Some};
+ghost use Rattle.std.specs.Prelude.{◌≡◌, ℕ, ◌<◌, ◌^◌, ◌++◌, ◌∷◌, [], false, length, slice_get, slice_index_or, IfOk, MatchOption, OnOk, OnErr, Some};
 ghost use Rattle.std.specs.Set.{is_member};
 ghost use Rattle.term_pool.specs.Counting.{capped};
 ghost use Rattle.term_pool.specs.Stored.{measures_by, AreOnce, IsAbsent, IsStart};
@@ -72,7 +72,7 @@ impl<T: Part> Store<T> {
     /// The part with the number `place`.
     pub(crate) fn get(&self, place: u32) -> &T
         requires { place < length self.now }
-        ensures { slice_get self.now place ≡ Some result.now }
+        ensures { (other : T) → result.now ≡ slice_index_or self.now place other }
     {
         &self.as_slice()[place as usize]
     }
@@ -80,8 +80,8 @@ impl<T: Part> Store<T> {
     /// What the part with the number `place` measures.
     pub(crate) fn measure(&self, place: u32) -> Measure
         requires { place < length self.now }
-        ensures depth { (x : T) → slice_get self.now place ≡ Some x → result.depth ≡ capped (T.depth x) }
-        ensures size { (x : T) → slice_get self.now place ≡ Some x → result.size ≡ capped (T.size x) }
+        ensures depth { (other : T) → result.depth ≡ capped (T.depth (slice_index_or self.now place other)) }
+        ensures size { (other : T) → result.size ≡ capped (T.size (slice_index_or self.now place other)) }
     {
         self.measures.as_slice()[place as usize]
     }

@@ -3,16 +3,14 @@
 ghost use Rattle.std.specs.Prelude.{◌≡◌, ◌<◌, [], ◌∷◌, true, length, map, nat_eq, slice_get, IfOk, OnOk, OnErr, Some};
 ghost use Rattle.std.specs.HashMap.{get, IsUnchanged, Updates};
 ghost use Rattle.csp_program.specs.Substitution.{proc_with};
-ghost use Rattle.term_pool.specs.Pooled.{Has, IsFront, parts};
+ghost use Rattle.term_pool.specs.Pooled.{parts};
 ghost use Rattle.term_pool.specs.Put.{Grows, StandAt};
 ghost use Rattle.term_pool.specs.Substituted.{all_with, AreMade};
 ghost use Rattle.term_pool.specs.Trees.{all_below, tree_at};
-ghost use Rattle.term_pool.specs.Within.{AddsOne};
 
 use crate::node::ProcId;
-use crate::own::{Layer, layer_at, put_own};
-use crate::places::with_places;
 use crate::pool::Pool;
+use crate::under::{Under, under_node};
 use containers::Items;
 use csp_base::NoMemory;
 use csp_program::Value;
@@ -35,29 +33,6 @@ fn remember(visited: &mut HashMap<u32, ProcId>, id: ProcId, made: ProcId) -> Res
         Ok(_) => Ok(()),
         Err(_) => Err(NoMemory),
     }
-}
-
-// The place of what the process at `id` becomes, where `ids` are the places of what its sub-processes become.
-fn put_made(
-    pool: &mut Pool,
-    alloc: Global,
-    id: ProcId,
-    ids: Items<ProcId>,
-    name: u32,
-    value: &Value,
-) -> Result<ProcId, NoMemory>
-    requires within { id.0 < length pool.old }
-    requires made { StandAt pool.old ids (parts (proc_with name value.now (tree_at pool.old id))) }
-    ensures process { IfOk result (λ made. slice_get pool.new made.0 ≡ Some (proc_with name value.now (tree_at pool.old id))) }
-    ensures front { IsFront pool.old pool.new }
-    ensures known { Has pool.old (proc_with name value.now (tree_at pool.old id)) → pool.new ≡ pool.old }
-    ensures only { AddsOne pool.old pool.new (proc_with name value.now (tree_at pool.old id)) }
-{
-    let node = pool.node(id);
-    let node = put_own(alloc, node, name, value)?;
-    let moved = with_places(node, ids);
-    let made = pool.put_node(moved)?;
-    Ok(made)
 }
 
 /// The place of what the process at `id` is with the value in place of the name. `visited` says what became of the places seen so far.
@@ -101,7 +76,7 @@ fn put_layer(
     ensures visited { AreMade name value.now pool.new visited.new }
 {
     let ids = put_below(pool, visited, alloc, id, name, value)?;
-    let made = put_made(pool, alloc, id, ids, name, value)?;
+    let made = pool.put_made(id, &ids, name, value)?;
     Ok(made)
 }
 
@@ -121,8 +96,8 @@ fn put_below(
     ensures grows { Grows pool.old pool.new (parts (proc_with name value.now (tree_at pool.old id))) }
     ensures visited { AreMade name value.now pool.new visited.new }
 {
-    let layer = layer_at(pool, alloc, id, name)?;
-    let Layer { ids, bound } = layer;
+    let below = under_node(pool, alloc, id, name)?;
+    let Under { ids, bound } = below;
     if bound {
         return Ok(ids);
     }

@@ -84,19 +84,19 @@ put_layer-returns-clause-visited t c =
 
 pub put_below-returns-then-bound-clause-places : goal.put_below-returns-then-bound-clause-places
 put_below-returns-then-bound-clause-places t c =
-    made.layer_kept c.args.name c.args.value.now c.args.pool.now c.args.id c.requires.within c.in_ok-layer.layer c.in_ok-layer.ensures c.if-bound.true
+    made.under_kept c.args.name c.args.value.now c.args.pool.now c.args.id c.requires.within c.in_ok-below.below c.in_ok-below.ensures c.if-bound.true
 
 pub put_below-returns-in_err-made-clause-grows : goal.put_below-returns-in_err-made-clause-grows
 put_below-returns-in_err-made-clause-grows t c =
     subst (λ (ts : List Proc). Grows c.args.pool.now c.put_all.new.pool ts)
-    (made.layer_open c.args.name c.args.value.now c.args.pool.now c.args.id c.requires.within c.in_ok-layer.layer c.in_ok-layer.ensures c.if-bound.false c.as_slice.result.now c.as_slice.ensures) c.in_err-made.ensures.grows
+    (made.under_open c.args.name c.args.value.now c.args.pool.now c.args.id c.requires.within c.in_ok-below.below c.in_ok-below.ensures c.if-bound.false c.as_slice.result.now c.as_slice.ensures) c.in_err-made.ensures.grows
 
 pub put_below-returns-clause-places : goal.put_below-returns-clause-places
 put_below-returns-clause-places t c =
     subst (λ (ts : List Proc). StandAt c.put_all.new.pool c.in_ok-made.made ts)
-    (made.layer_open c.args.name c.args.value.now c.args.pool.now c.args.id c.requires.within c.in_ok-layer.layer c.in_ok-layer.ensures c.if-bound.false c.as_slice.result.now c.as_slice.ensures) c.in_ok-made.ensures.places
+    (made.under_open c.args.name c.args.value.now c.args.pool.now c.args.id c.requires.within c.in_ok-below.below c.in_ok-below.ensures c.if-bound.false c.as_slice.result.now c.as_slice.ensures) c.in_ok-made.ensures.places
 
 pub put_below-returns-clause-grows : goal.put_below-returns-clause-grows
 put_below-returns-clause-grows t c =
     subst (λ (ts : List Proc). Grows c.args.pool.now c.put_all.new.pool ts)
-    (made.layer_open c.args.name c.args.value.now c.args.pool.now c.args.id c.requires.within c.in_ok-layer.layer c.in_ok-layer.ensures c.if-bound.false c.as_slice.result.now c.as_slice.ensures) c.in_ok-made.ensures.grows
+    (made.under_open c.args.name c.args.value.now c.args.pool.now c.args.id c.requires.within c.in_ok-below.below c.in_ok-below.ensures c.if-bound.false c.as_slice.result.now c.as_slice.ensures) c.in_ok-made.ensures.grows

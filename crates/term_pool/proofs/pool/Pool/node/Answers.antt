@@ -1,16 +1,11 @@
 -- The node at a place stands for the process there.
-use Rattle.term_pool.proofs.HeldLemmas.{within_nodes, node_process, node_places}
+use Rattle.std.proofs.Common.{◌≡◌, ◌<◌, List, length, sym, subst}
+use Rattle.csp_program.specs.declared.processes.Proc.{Proc}
+use Rattle.term_pool.specs.Trees.{tree_at, tree_of}
 use Rattle.term_pool.proofs.pool.Pool.node.Goals as goal
 
-pub bounds-as_slice-id : goal.bounds-as_slice-id
-bounds-as_slice-id c = within_nodes c.self.inside.nodes c.args.self.now c.self.view_is c.args.id.0 c.requires c.as_slice.result.now c.as_slice.ensures.value
+pub node_in-requires-clause-within : goal.node_in-requires-clause-within
+node_in-requires-clause-within c = subst (λ (ts : List Proc). c.args.id.0 < length ts) (sym c.self.view_is) c.requires
 
 pub returns-clause-process : goal.returns-clause-process
-returns-clause-process c =
-    node_process c.self.inside.nodes c.self.invariant.smaller c.args.self.now c.self.view_is c.args.id.0 c.requires c.as_slice.result.now c.as_slice.ensures.value
-    c.index-as_slice-id.result c.index-as_slice-id.is
-
-pub returns-clause-places : goal.returns-clause-places
-returns-clause-places c =
-    node_places c.self.inside.nodes c.self.invariant.smaller c.args.self.now c.self.view_is c.args.id.0 c.requires c.as_slice.result.now c.as_slice.ensures.value
-    c.index-as_slice-id.result c.index-as_slice-id.is
+returns-clause-process c = subst (λ (ts : List Proc). tree_of ts c.node_in.result ≡ tree_at ts c.args.id) c.self.view_is c.node_in.ensures.process

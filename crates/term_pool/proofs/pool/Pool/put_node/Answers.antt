@@ -1,33 +1,40 @@
--- What the list of nodes says of the processes.
-use Rattle.term_pool.proofs.HeldLemmas.{below_nodes, on_err, seen_front, seen_known, seen_only, seen_process, seen_unknown}
+-- What is put into the entries, as the list of processes says it.
+use Rattle.std.proofs.Common.{◌≡◌, ◌<◌, true, List, length, ap, sym, subst}
+use Rattle.std.specs.Prelude.{OnErr}
+use Rattle.csp_program.specs.declared.processes.Proc.{Proc}
+use Rattle.term_pool.proofs.KeptLemmas.{puts_seen}
+use Rattle.term_pool.specs.Held.{processes}
 use Rattle.term_pool.specs.Pooled.{Has}
-use Rattle.term_pool.specs.Trees.{tree_of}
+use Rattle.term_pool.specs.Trees.{places_below, tree_of}
 use Rattle.term_pool.proofs.pool.Pool.put_node.Goals as goal
 
-pub number_node-requires-clause-below : goal.number_node-requires-clause-below
-number_node-requires-clause-below c = below_nodes c.self.inside.nodes c.self.inside.measures c.self.invariant c.args.self.now c.self.view_is c.args.node c.requires
-
-pub returns-in_err-place-clause-err_only_new : goal.returns-in_err-place-clause-err_only_new
-returns-in_err-place-clause-err_only_new c =
-    on_err c.from_residual.result (Has c.args.self.now (tree_of c.args.self.now c.args.node) → ⊥)
-    (seen_unknown c.self.inside.nodes c.self.inside.measures c.self.invariant c.args.self.now c.self.view_is c.args.node c.requires c.in_err-place.ensures.err_only_new)
+pub put_in-requires-clause-below : goal.put_in-requires-clause-below
+put_in-requires-clause-below c = subst (λ (ts : List Proc). places_below (length ts) c.args.node ≡ true) (sym c.self.view_is) c.requires
 
 pub returns-clause-process : goal.returns-clause-process
 returns-clause-process c =
-    seen_process c.self.inside.nodes c.self.inside.measures c.self.invariant c.args.self.now c.self.view_is c.args.node c.requires
-    c.number_node.new.nodes c.in_ok-place.ensures.ok c.in_ok-place.place c.in_ok-place.ensures.place
+    (puts_seen (processes c.self.inside.parts c.self.inside.entries) c.args.self.now (processes c.put_in.new.parts c.put_in.new.entries) c.put_in.result
+    (tree_of (processes c.self.inside.parts c.self.inside.entries) c.args.node) (tree_of c.args.self.now c.args.node) c.self.view_is (ap (λ (ts : List Proc). tree_of ts c.args.node) c.self.view_is) c.put_in.ensures.puts).process
 
 pub returns-clause-front : goal.returns-clause-front
 returns-clause-front c =
-    seen_front c.self.inside.nodes c.self.inside.measures c.self.invariant c.args.self.now c.self.view_is c.args.node c.requires
-    c.number_node.new.nodes c.in_ok-place.ensures.ok
+    (puts_seen (processes c.self.inside.parts c.self.inside.entries) c.args.self.now (processes c.put_in.new.parts c.put_in.new.entries) c.put_in.result
+    (tree_of (processes c.self.inside.parts c.self.inside.entries) c.args.node) (tree_of c.args.self.now c.args.node) c.self.view_is (ap (λ (ts : List Proc). tree_of ts c.args.node) c.self.view_is) c.put_in.ensures.puts).front
 
 pub returns-clause-known : goal.returns-clause-known
 returns-clause-known c =
-    seen_known c.self.inside.nodes c.self.inside.measures c.self.invariant c.args.self.now c.self.view_is c.args.node c.requires
-    c.number_node.new.nodes c.in_ok-place.ensures.ok
+    (puts_seen (processes c.self.inside.parts c.self.inside.entries) c.args.self.now (processes c.put_in.new.parts c.put_in.new.entries) c.put_in.result
+    (tree_of (processes c.self.inside.parts c.self.inside.entries) c.args.node) (tree_of c.args.self.now c.args.node) c.self.view_is (ap (λ (ts : List Proc). tree_of ts c.args.node) c.self.view_is) c.put_in.ensures.puts).known
 
 pub returns-clause-only : goal.returns-clause-only
 returns-clause-only c =
-    seen_only c.self.inside.nodes c.self.inside.measures c.self.invariant c.args.self.now c.self.view_is c.args.node c.requires
-    c.number_node.new.nodes c.in_ok-place.ensures.ok
+    (puts_seen (processes c.self.inside.parts c.self.inside.entries) c.args.self.now (processes c.put_in.new.parts c.put_in.new.entries) c.put_in.result
+    (tree_of (processes c.self.inside.parts c.self.inside.entries) c.args.node) (tree_of c.args.self.now c.args.node) c.self.view_is (ap (λ (ts : List Proc). tree_of ts c.args.node) c.self.view_is) c.put_in.ensures.puts).only
+
+pub returns-clause-err : goal.returns-clause-err
+returns-clause-err c =
+    (puts_seen (processes c.self.inside.parts c.self.inside.entries) c.args.self.now (processes c.put_in.new.parts c.put_in.new.entries) c.put_in.result
+    (tree_of (processes c.self.inside.parts c.self.inside.entries) c.args.node) (tree_of c.args.self.now c.args.node) c.self.view_is (ap (λ (ts : List Proc). tree_of ts c.args.node) c.self.view_is) c.put_in.ensures.puts).err
+
+pub returns-clause-err_only_new : goal.returns-clause-err_only_new
+returns-clause-err_only_new c = subst (λ (ts : List Proc). OnErr c.put_in.result (Has ts (tree_of ts c.args.node) → ⊥)) c.self.view_is c.put_in.ensures.err_only_new

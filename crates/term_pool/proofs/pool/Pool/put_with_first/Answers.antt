@@ -1,28 +1,39 @@
--- The node with another first place stands for the process that is wanted.
-use Rattle.std.proofs.Common.{◌≡◌, Some, ap, ◌∙◌, subst}
+-- What is put into the entries, as the list of processes says it.
+use Rattle.std.proofs.Common.{◌≡◌, ◌<◌, true, List, length, ap, sym, subst}
 use Rattle.csp_program.specs.declared.processes.Proc.{Proc}
-use Rattle.term_pool.proofs.FirstLemmas.{made_below, made_tree}
-use Rattle.term_pool.specs.Pooled.{Has}
-use Rattle.term_pool.specs.Within.{AddsOne}
+use Rattle.term_pool.proofs.KeptLemmas.{puts_seen}
+use Rattle.term_pool.specs.First.{with_first}
+use Rattle.term_pool.specs.Held.{processes}
+use Rattle.term_pool.specs.Trees.{tree_at}
 use Rattle.term_pool.proofs.pool.Pool.put_with_first.Goals as goal
 
-pub put_node-requires : goal.put_node-requires
-put_node-requires c =
-    made_below c.args.self.now c.args.id c.args.below c.requires.id c.requires.below c.node.result.now c.node.ensures.process c.node.ensures.places c.in_ok-node.node c.in_ok-node.ensures
+pub put_first_in-requires-clause-id : goal.put_first_in-requires-clause-id
+put_first_in-requires-clause-id c = subst (λ (ts : List Proc). c.args.id.0 < length ts) (sym c.self.view_is) c.requires.id
+
+pub put_first_in-requires-clause-below : goal.put_first_in-requires-clause-below
+put_first_in-requires-clause-below c = subst (λ (ts : List Proc). c.args.below.0 < length ts) (sym c.self.view_is) c.requires.below
 
 pub returns-clause-process : goal.returns-clause-process
 returns-clause-process c =
-    c.in_ok-made.ensures.process ∙ ap (λ (t : Proc). Some t)
-    (made_tree c.args.self.now c.args.id c.args.below c.requires.id c.requires.below c.node.result.now c.node.ensures.process c.node.ensures.places c.in_ok-node.node c.in_ok-node.ensures)
+    (puts_seen (processes c.self.inside.parts c.self.inside.entries) c.args.self.now (processes c.put_first_in.new.parts c.put_first_in.new.entries) c.put_first_in.result
+    (with_first (tree_at (processes c.self.inside.parts c.self.inside.entries) c.args.id) (tree_at (processes c.self.inside.parts c.self.inside.entries) c.args.below)) (with_first (tree_at c.args.self.now c.args.id) (tree_at c.args.self.now c.args.below)) c.self.view_is (ap (λ (ts : List Proc). with_first (tree_at ts c.args.id) (tree_at ts c.args.below)) c.self.view_is) c.put_first_in.ensures.puts).process
+
+pub returns-clause-front : goal.returns-clause-front
+returns-clause-front c =
+    (puts_seen (processes c.self.inside.parts c.self.inside.entries) c.args.self.now (processes c.put_first_in.new.parts c.put_first_in.new.entries) c.put_first_in.result
+    (with_first (tree_at (processes c.self.inside.parts c.self.inside.entries) c.args.id) (tree_at (processes c.self.inside.parts c.self.inside.entries) c.args.below)) (with_first (tree_at c.args.self.now c.args.id) (tree_at c.args.self.now c.args.below)) c.self.view_is (ap (λ (ts : List Proc). with_first (tree_at ts c.args.id) (tree_at ts c.args.below)) c.self.view_is) c.put_first_in.ensures.puts).front
 
 pub returns-clause-known : goal.returns-clause-known
 returns-clause-known c =
-    subst (λ (t : Proc). Has c.args.self.now t → c.put_node.new.self ≡ c.args.self.now)
-    (made_tree c.args.self.now c.args.id c.args.below c.requires.id c.requires.below c.node.result.now c.node.ensures.process c.node.ensures.places c.in_ok-node.node c.in_ok-node.ensures)
-    c.in_ok-made.ensures.known
+    (puts_seen (processes c.self.inside.parts c.self.inside.entries) c.args.self.now (processes c.put_first_in.new.parts c.put_first_in.new.entries) c.put_first_in.result
+    (with_first (tree_at (processes c.self.inside.parts c.self.inside.entries) c.args.id) (tree_at (processes c.self.inside.parts c.self.inside.entries) c.args.below)) (with_first (tree_at c.args.self.now c.args.id) (tree_at c.args.self.now c.args.below)) c.self.view_is (ap (λ (ts : List Proc). with_first (tree_at ts c.args.id) (tree_at ts c.args.below)) c.self.view_is) c.put_first_in.ensures.puts).known
 
 pub returns-clause-only : goal.returns-clause-only
 returns-clause-only c =
-    subst (λ (t : Proc). AddsOne c.args.self.now c.put_node.new.self t)
-    (made_tree c.args.self.now c.args.id c.args.below c.requires.id c.requires.below c.node.result.now c.node.ensures.process c.node.ensures.places c.in_ok-node.node c.in_ok-node.ensures)
-    c.in_ok-made.ensures.only
+    (puts_seen (processes c.self.inside.parts c.self.inside.entries) c.args.self.now (processes c.put_first_in.new.parts c.put_first_in.new.entries) c.put_first_in.result
+    (with_first (tree_at (processes c.self.inside.parts c.self.inside.entries) c.args.id) (tree_at (processes c.self.inside.parts c.self.inside.entries) c.args.below)) (with_first (tree_at c.args.self.now c.args.id) (tree_at c.args.self.now c.args.below)) c.self.view_is (ap (λ (ts : List Proc). with_first (tree_at ts c.args.id) (tree_at ts c.args.below)) c.self.view_is) c.put_first_in.ensures.puts).only
+
+pub returns-clause-err : goal.returns-clause-err
+returns-clause-err c =
+    (puts_seen (processes c.self.inside.parts c.self.inside.entries) c.args.self.now (processes c.put_first_in.new.parts c.put_first_in.new.entries) c.put_first_in.result
+    (with_first (tree_at (processes c.self.inside.parts c.self.inside.entries) c.args.id) (tree_at (processes c.self.inside.parts c.self.inside.entries) c.args.below)) (with_first (tree_at c.args.self.now c.args.id) (tree_at c.args.self.now c.args.below)) c.self.view_is (ap (λ (ts : List Proc). with_first (tree_at ts c.args.id) (tree_at ts c.args.below)) c.self.view_is) c.put_first_in.ensures.puts).err

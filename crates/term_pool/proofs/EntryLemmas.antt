@@ -1,0 +1,157 @@
+-- What entries stand for: it stays where the own parts grow, and different entries stand for different layers.
+use Rattle.std.proofs.Common.{◌≡◌, ℕ, ◌<◌, Some, List, [], length, get_or, slice_get, refl, ap, sym, ◌∙◌, subst}
+use Rattle.std.proofs.lemmas.Option.{slice_get_within, slice_get-get_or, get_or_from_slice_get}
+use Rattle.csp_program.specs.declared.expressions.EventPart.{EventPart}
+use Rattle.csp_program.specs.declared.expressions.Expr.{Expr}
+use Rattle.csp_program.specs.declared.expressions.Expr.TheVariants as expr
+use Rattle.csp_program.specs.declared.expressions.Gen.{Gen}
+use Rattle.csp_program.specs.declared.processes.Field.{Field}
+use Rattle.csp_program.specs.declared.processes.Head.{Head}
+use Rattle.csp_program.specs.declared.processes.Head.TheVariants as head
+use Rattle.term_pool.specs.Entries.{head_at, fields_at, expr_at, arguments_at, pairs_at, gens_at, choice_at, entry_layer, ArePartsOnce, Fits, HasParts, Holds, PartsStart, StandsAs}
+use Rattle.term_pool.specs.Layers.{Layer}
+use Rattle.term_pool.specs.Stored.{AreOnce, IsStart}
+use Rattle.term_pool.specs.declared.entry.Entry.{Entry}
+use Rattle.term_pool.specs.declared.entry.Entry.TheVariants as entry
+use Rattle.term_pool.specs.declared.node.ProcId.{ProcId}
+use Rattle.term_pool.specs.declared.own_parts.OwnParts.{OwnParts}
+
+-- a number of the old list is one of the new one, with the same part
+there : {T : Type 0} (old new : List T) → IsStart old new → (k : ℕ) (other : T) → k < length old → slice_get new k ≡ Some (get_or old k other)
+there old new start k other h = start k (get_or old k other) (slice_get-get_or old k other h)
+
+within_more : {T : Type 0} (old new : List T) → IsStart old new → (k : ℕ) (other : T) → k < length old → k < length new
+within_more old new start k other h = slice_get_within new k (get_or old k other) (there old new start k other h)
+
+stays : {T : Type 0} (old new : List T) → IsStart old new → (k : ℕ) (other : T) → k < length old → get_or new k other ≡ get_or old k other
+stays old new start k other h = get_or_from_slice_get new k (get_or old k other) other (there old new start k other h)
+
+-- one part has one number
+one_number : {T : Type 0} (xs : List T) → AreOnce xs → (j k : ℕ) (other : T) → j < length xs → k < length xs → get_or xs j other ≡ get_or xs k other → j ≡ k
+one_number xs once j k other h g e = once j k (get_or xs j other) (slice_get-get_or xs j other h) (slice_get-get_or xs k other g ∙ ap (λ x. Some x) (sym e))
+
+pub starts_same : (parts : OwnParts) → PartsStart parts parts
+starts_same parts = record { heads = λ k x h. h; fields = λ k x h. h; exprs = λ k x h. h; arguments = λ k x h. h; pairs = λ k x h. h; gens = λ k x h. h; choices = λ k x h. h }
+
+pub starts_both : (old mid new : OwnParts) → PartsStart old mid → PartsStart mid new → PartsStart old new
+starts_both old mid new a b = record {
+  heads = λ k x h. b.heads k x (a.heads k x h);
+  fields = λ k x h. b.fields k x (a.fields k x h);
+  exprs = λ k x h. b.exprs k x (a.exprs k x h);
+  arguments = λ k x h. b.arguments k x (a.arguments k x h);
+  pairs = λ k x h. b.pairs k x (a.pairs k x h);
+  gens = λ k x h. b.gens k x (a.gens k x h);
+  choices = λ k x h. b.choices k x (a.choices k x h);
+}
+
+module _ (old new : OwnParts) (start : PartsStart old new) where
+  pub fits_more : (e : Entry) → Fits old e → Fits new e
+  fits_more entry.Stop h = tt
+  fits_more (entry.Prefix b f p) h = (within_more old.heads new.heads start.heads b (head.Channel 0) h.0, within_more old.fields new.fields start.fields f [] h.1)
+  fits_more (entry.Guard c p) h = within_more old.exprs new.exprs start.exprs c (expr.Const 0) h
+  fits_more (entry.If c p q) h = within_more old.exprs new.exprs start.exprs c (expr.Const 0) h
+  fits_more (entry.External ps) h = within_more old.choices new.choices start.choices ps [] h
+  fits_more (entry.Internal ps) h = within_more old.choices new.choices start.choices ps [] h
+  fits_more (entry.EachExternal x s p) h = within_more old.exprs new.exprs start.exprs s (expr.Const 0) h
+  fits_more (entry.EachInternal x s p) h = within_more old.exprs new.exprs start.exprs s (expr.Const 0) h
+  fits_more (entry.Hide p s) h = within_more old.exprs new.exprs start.exprs s (expr.Const 0) h
+  fits_more (entry.Rename p a w) h = (within_more old.pairs new.pairs start.pairs a [] h.0, within_more old.gens new.gens start.gens w [] h.1)
+  fits_more (entry.Call d args) h = within_more old.arguments new.arguments start.arguments args [] h
+  fits_more entry.Skip h = tt
+  fits_more (entry.Seq p q) h = tt
+  fits_more entry.Ended h = tt
+
+  pub layer_stays : (e : Entry) → Fits old e → entry_layer new e ≡ entry_layer old e
+  layer_stays entry.Stop h = refl
+  layer_stays (entry.Prefix b f p) h = λ i. Layer.Prefix (stays old.heads new.heads start.heads b (head.Channel 0) h.0 i) (stays old.fields new.fields start.fields f [] h.1 i) p
+  layer_stays (entry.Guard c p) h = λ i. Layer.Guard (stays old.exprs new.exprs start.exprs c (expr.Const 0) h i) p
+  layer_stays (entry.If c p q) h = λ i. Layer.If (stays old.exprs new.exprs start.exprs c (expr.Const 0) h i) p q
+  layer_stays (entry.External ps) h = λ i. Layer.External (stays old.choices new.choices start.choices ps [] h i)
+  layer_stays (entry.Internal ps) h = λ i. Layer.Internal (stays old.choices new.choices start.choices ps [] h i)
+  layer_stays (entry.EachExternal x s p) h = λ i. Layer.EachExternal x (stays old.exprs new.exprs start.exprs s (expr.Const 0) h i) p
+  layer_stays (entry.EachInternal x s p) h = λ i. Layer.EachInternal x (stays old.exprs new.exprs start.exprs s (expr.Const 0) h i) p
+  layer_stays (entry.Hide p s) h = λ i. Layer.Hide p (stays old.exprs new.exprs start.exprs s (expr.Const 0) h i)
+  layer_stays (entry.Rename p a w) h = λ i. Layer.Rename p (stays old.pairs new.pairs start.pairs a [] h.0 i) (stays old.gens new.gens start.gens w [] h.1 i)
+  layer_stays (entry.Call d args) h = λ i. Layer.Call d (stays old.arguments new.arguments start.arguments args [] h i)
+  layer_stays entry.Skip h = refl
+  layer_stays (entry.Seq p q) h = refl
+  layer_stays entry.Ended h = refl
+
+  -- what stands for a layer still does
+  pub stands_more : (e : Entry) (n : Layer) → StandsAs old e n → StandsAs new e n
+  stands_more e n h = record { fits = fits_more e h.fits; is = layer_stays e h.fits ∙ h.is }
+
+module _ (parts : OwnParts) where
+  -- different entries stand for different layers
+  pub same_entry : ArePartsOnce parts → (e d : Entry) → Fits parts e → Fits parts d → entry_layer parts e ≡ entry_layer parts d → e ≡ d
+  same_entry once entry.Stop entry.Stop h g is = refl
+  same_entry once (entry.Prefix b f p) (entry.Prefix b' f' p') h g is =
+      let e_b : head_at parts b ≡ head_at parts b' = cc in
+      let e_f : fields_at parts f ≡ fields_at parts f' = cc in
+      let e_p : p ≡ p' = cc in
+      λ i. entry.Prefix (one_number parts.heads once.heads b b' (head.Channel 0) h.0 g.0 e_b i) (one_number parts.fields once.fields f f' [] h.1 g.1 e_f i) (e_p i)
+  same_entry once (entry.Guard c p) (entry.Guard c' p') h g is =
+      let e_c : expr_at parts c ≡ expr_at parts c' = cc in
+      let e_p : p ≡ p' = cc in
+      λ i. entry.Guard (one_number parts.exprs once.exprs c c' (expr.Const 0) h g e_c i) (e_p i)
+  same_entry once (entry.If c p q) (entry.If c' p' q') h g is =
+      let e_c : expr_at parts c ≡ expr_at parts c' = cc in
+      let e_p : p ≡ p' = cc in
+      let e_q : q ≡ q' = cc in
+      λ i. entry.If (one_number parts.exprs once.exprs c c' (expr.Const 0) h g e_c i) (e_p i) (e_q i)
+  same_entry once (entry.External ps) (entry.External ps') h g is =
+      let e_ps : choice_at parts ps ≡ choice_at parts ps' = cc in
+      λ i. entry.External (one_number parts.choices once.choices ps ps' [] h g e_ps i)
+  same_entry once (entry.Internal ps) (entry.Internal ps') h g is =
+      let e_ps : choice_at parts ps ≡ choice_at parts ps' = cc in
+      λ i. entry.Internal (one_number parts.choices once.choices ps ps' [] h g e_ps i)
+  same_entry once (entry.EachExternal x s p) (entry.EachExternal x' s' p') h g is =
+      let e_x : x ≡ x' = cc in
+      let e_s : expr_at parts s ≡ expr_at parts s' = cc in
+      let e_p : p ≡ p' = cc in
+      λ i. entry.EachExternal (e_x i) (one_number parts.exprs once.exprs s s' (expr.Const 0) h g e_s i) (e_p i)
+  same_entry once (entry.EachInternal x s p) (entry.EachInternal x' s' p') h g is =
+      let e_x : x ≡ x' = cc in
+      let e_s : expr_at parts s ≡ expr_at parts s' = cc in
+      let e_p : p ≡ p' = cc in
+      λ i. entry.EachInternal (e_x i) (one_number parts.exprs once.exprs s s' (expr.Const 0) h g e_s i) (e_p i)
+  same_entry once (entry.Hide p s) (entry.Hide p' s') h g is =
+      let e_p : p ≡ p' = cc in
+      let e_s : expr_at parts s ≡ expr_at parts s' = cc in
+      λ i. entry.Hide (e_p i) (one_number parts.exprs once.exprs s s' (expr.Const 0) h g e_s i)
+  same_entry once (entry.Rename p a w) (entry.Rename p' a' w') h g is =
+      let e_p : p ≡ p' = cc in
+      let e_a : pairs_at parts a ≡ pairs_at parts a' = cc in
+      let e_w : gens_at parts w ≡ gens_at parts w' = cc in
+      λ i. entry.Rename (e_p i) (one_number parts.pairs once.pairs a a' [] h.0 g.0 e_a i) (one_number parts.gens once.gens w w' [] h.1 g.1 e_w i)
+  same_entry once (entry.Call d args) (entry.Call d' args') h g is =
+      let e_d : d ≡ d' = cc in
+      let e_args : arguments_at parts args ≡ arguments_at parts args' = cc in
+      λ i. entry.Call (e_d i) (one_number parts.arguments once.arguments args args' [] h g e_args i)
+  same_entry once entry.Skip entry.Skip h g is = refl
+  same_entry once (entry.Seq p q) (entry.Seq p' q') h g is =
+      let e_p : p ≡ p' = cc in
+      let e_q : q ≡ q' = cc in
+      λ i. entry.Seq (e_p i) (e_q i)
+  same_entry once entry.Ended entry.Ended h g is = refl
+  same_entry once e d h g is = cc
+
+  -- the own parts of what an entry stands for are kept
+  has_own : (e : Entry) → Fits parts e → HasParts parts (entry_layer parts e)
+  has_own entry.Stop h = tt
+  has_own (entry.Prefix b f p) h = ((b, slice_get-get_or parts.heads b (head.Channel 0) h.0), (f, slice_get-get_or parts.fields f [] h.1))
+  has_own (entry.Guard c p) h = (c, slice_get-get_or parts.exprs c (expr.Const 0) h)
+  has_own (entry.If c p q) h = (c, slice_get-get_or parts.exprs c (expr.Const 0) h)
+  has_own (entry.External ps) h = (ps, slice_get-get_or parts.choices ps [] h)
+  has_own (entry.Internal ps) h = (ps, slice_get-get_or parts.choices ps [] h)
+  has_own (entry.EachExternal x s p) h = (s, slice_get-get_or parts.exprs s (expr.Const 0) h)
+  has_own (entry.EachInternal x s p) h = (s, slice_get-get_or parts.exprs s (expr.Const 0) h)
+  has_own (entry.Hide p s) h = (s, slice_get-get_or parts.exprs s (expr.Const 0) h)
+  has_own (entry.Rename p a w) h = ((a, slice_get-get_or parts.pairs a [] h.0), (w, slice_get-get_or parts.gens w [] h.1))
+  has_own (entry.Call d args) h = (args, slice_get-get_or parts.arguments args [] h)
+  has_own entry.Skip h = tt
+  has_own (entry.Seq p q) h = tt
+  has_own entry.Ended h = tt
+
+  pub has_parts : (e : Entry) (n : Layer) → StandsAs parts e n → HasParts parts n
+  has_parts e n h = subst (λ (m : Layer). HasParts parts m) h.is (has_own e h.fits)

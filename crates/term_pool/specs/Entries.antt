@@ -1,0 +1,120 @@
+-- How a pool keeps nodes: as entries, whose own parts are numbers in stores.
+use Rattle.std.specs.Prelude.{◌≡◌, ℕ, ◌<◌, Some, List, [], length, map, slice_get, slice_index_or}
+use Rattle.csp_program.specs.declared.expressions.EventPart.{EventPart}
+use Rattle.csp_program.specs.declared.expressions.Expr.{Expr}
+use Rattle.csp_program.specs.declared.expressions.Expr.TheVariants as expr
+use Rattle.csp_program.specs.declared.expressions.Gen.{Gen}
+use Rattle.csp_program.specs.declared.processes.Field.{Field}
+use Rattle.csp_program.specs.declared.processes.Head.{Head}
+use Rattle.csp_program.specs.declared.processes.Head.TheVariants as head
+use Rattle.term_pool.specs.Layers.{Layer}
+use Rattle.term_pool.specs.Stored.{AreOnce, IsStart}
+use Rattle.term_pool.specs.declared.entry.Entry.{Entry}
+use Rattle.term_pool.specs.declared.entry.Entry.TheVariants as entry
+use Rattle.term_pool.specs.declared.node.ProcId.{ProcId}
+use Rattle.term_pool.specs.declared.own_parts.OwnParts.{OwnParts}
+
+-- the part with a number, where there is one
+abbrev pub head_at : OwnParts → ℕ → Head
+head_at parts k = slice_index_or parts.heads k (head.Channel 0)
+
+abbrev pub fields_at : OwnParts → ℕ → List Field
+fields_at parts k = slice_index_or parts.fields k []
+
+abbrev pub expr_at : OwnParts → ℕ → Expr
+expr_at parts k = slice_index_or parts.exprs k (expr.Const 0)
+
+abbrev pub arguments_at : OwnParts → ℕ → List Expr
+arguments_at parts k = slice_index_or parts.arguments k []
+
+abbrev pub pairs_at : OwnParts → ℕ → List (EventPart × EventPart)
+pairs_at parts k = slice_index_or parts.pairs k []
+
+abbrev pub gens_at : OwnParts → ℕ → List Gen
+gens_at parts k = slice_index_or parts.gens k []
+
+abbrev pub choice_at : OwnParts → ℕ → List ProcId
+choice_at parts k = slice_index_or parts.choices k []
+
+-- the layer that an entry stands for
+abbrev pub entry_layer : OwnParts → Entry → Layer
+entry_layer parts entry.Stop = Layer.Stop
+entry_layer parts (entry.Prefix h f p) = Layer.Prefix (head_at parts h) (fields_at parts f) p
+entry_layer parts (entry.Guard c p) = Layer.Guard (expr_at parts c) p
+entry_layer parts (entry.If c p q) = Layer.If (expr_at parts c) p q
+entry_layer parts (entry.External ps) = Layer.External (choice_at parts ps)
+entry_layer parts (entry.Internal ps) = Layer.Internal (choice_at parts ps)
+entry_layer parts (entry.EachExternal x s p) = Layer.EachExternal x (expr_at parts s) p
+entry_layer parts (entry.EachInternal x s p) = Layer.EachInternal x (expr_at parts s) p
+entry_layer parts (entry.Hide p s) = Layer.Hide p (expr_at parts s)
+entry_layer parts (entry.Rename p pairs gens) = Layer.Rename p (pairs_at parts pairs) (gens_at parts gens)
+entry_layer parts (entry.Call d args) = Layer.Call d (arguments_at parts args)
+entry_layer parts entry.Skip = Layer.Skip
+entry_layer parts (entry.Seq p q) = Layer.Seq p q
+entry_layer parts entry.Ended = Layer.Ended
+
+abbrev pub layers : OwnParts → List Entry → List Layer
+layers parts entries = map (entry_layer parts) entries
+
+-- whether the numbers of an entry are those of parts that are there
+abbrev pub Fits : OwnParts → Entry → Type 0
+Fits parts entry.Stop = Unit {0}
+Fits parts (entry.Prefix h f p) = (h < length parts.heads) × (f < length parts.fields)
+Fits parts (entry.Guard c p) = c < length parts.exprs
+Fits parts (entry.If c p q) = c < length parts.exprs
+Fits parts (entry.External ps) = ps < length parts.choices
+Fits parts (entry.Internal ps) = ps < length parts.choices
+Fits parts (entry.EachExternal x s p) = s < length parts.exprs
+Fits parts (entry.EachInternal x s p) = s < length parts.exprs
+Fits parts (entry.Hide p s) = s < length parts.exprs
+Fits parts (entry.Rename p pairs gens) = (pairs < length parts.pairs) × (gens < length parts.gens)
+Fits parts (entry.Call d args) = args < length parts.arguments
+Fits parts entry.Skip = Unit {0}
+Fits parts (entry.Seq p q) = Unit {0}
+Fits parts entry.Ended = Unit {0}
+
+-- the entry stands for the layer
+pub record StandsAs (parts : OwnParts) (e : Entry) (n : Layer) : Type 0 where
+  pub fits : Fits parts e
+  pub is : entry_layer parts e ≡ n
+
+-- x stands in the list
+abbrev pub Holds : {T : Type 0} → List T → T → Type 0
+Holds xs x = (k : ℕ) × (slice_get xs k ≡ Some x)
+
+-- the own parts of a layer are kept
+abbrev pub HasParts : OwnParts → Layer → Type 0
+HasParts parts Layer.Stop = Unit {0}
+HasParts parts (Layer.Prefix h fields p) = Holds parts.heads h × Holds parts.fields fields
+HasParts parts (Layer.Guard c p) = Holds parts.exprs c
+HasParts parts (Layer.If c p q) = Holds parts.exprs c
+HasParts parts (Layer.External ps) = Holds parts.choices ps
+HasParts parts (Layer.Internal ps) = Holds parts.choices ps
+HasParts parts (Layer.EachExternal x s p) = Holds parts.exprs s
+HasParts parts (Layer.EachInternal x s p) = Holds parts.exprs s
+HasParts parts (Layer.Hide p s) = Holds parts.exprs s
+HasParts parts (Layer.Rename p pairs gens) = Holds parts.pairs pairs × Holds parts.gens gens
+HasParts parts (Layer.Call d args) = Holds parts.arguments args
+HasParts parts Layer.Skip = Unit {0}
+HasParts parts (Layer.Seq p q) = Unit {0}
+HasParts parts Layer.Ended = Unit {0}
+
+-- each part stands once
+pub record ArePartsOnce (parts : OwnParts) : Type 0 where
+  pub heads : AreOnce parts.heads
+  pub fields : AreOnce parts.fields
+  pub exprs : AreOnce parts.exprs
+  pub arguments : AreOnce parts.arguments
+  pub pairs : AreOnce parts.pairs
+  pub gens : AreOnce parts.gens
+  pub choices : AreOnce parts.choices
+
+-- each part keeps its number
+pub record PartsStart (old : OwnParts) (new : OwnParts) : Type 0 where
+  pub heads : IsStart old.heads new.heads
+  pub fields : IsStart old.fields new.fields
+  pub exprs : IsStart old.exprs new.exprs
+  pub arguments : IsStart old.arguments new.arguments
+  pub pairs : IsStart old.pairs new.pairs
+  pub gens : IsStart old.gens new.gens
+  pub choices : IsStart old.choices new.choices

@@ -1,0 +1,43 @@
+//! Nodes as a pool keeps them.
+
+ghost use Rattle.term_pool.specs.ExactEntry.{exact_entry};
+
+use crate::node::ProcId;
+use containers::Exact;
+
+/// A node whose own parts are numbers in the stores of a pool, as are the lists of places of choices.
+#[derive(Clone, Copy, PartialEq, Eq, Hash)]
+pub(crate) enum Entry {
+    /// `STOP`
+    Stop,
+    /// The number of its head, that of its fields, and the place of the process after them.
+    Prefix(u32, u32, ProcId),
+    /// The number of the condition, and the place of the process under it.
+    Guard(u32, ProcId),
+    /// The number of the condition, and the place of either process.
+    If(u32, ProcId, ProcId),
+    /// The number of the list of the places of its processes.
+    External(u32),
+    /// The same.
+    Internal(u32),
+    /// The bound name, the number of its set, and the place of the process.
+    EachExternal(u32, u32, ProcId),
+    /// The same.
+    EachInternal(u32, u32, ProcId),
+    /// The place of the process, and the number of the set.
+    Hide(ProcId, u32),
+    /// The place of the process, the number of its pairs, and that of its generators.
+    Rename(ProcId, u32, u32),
+    /// The definition, and the number of its arguments.
+    Call(u32, u32),
+    /// `SKIP`
+    Skip,
+    /// The places of both processes.
+    Seq(ProcId, ProcId),
+    /// What stands after a tick.
+    Ended,
+}
+
+impl Exact for Entry {
+    ghost exact = { exact_entry };
+}

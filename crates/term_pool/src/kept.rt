@@ -1,0 +1,161 @@
+//! The nodes of a pool: entries, their own parts, and what each measures.
+
+ghost use Rattle.std.specs.Prelude.{◌≡◌, ◌<◌, ◌++◌, ◌∷◌, [], true, false, length, slice_get, IfOk, OnErr, OnOk, Some};
+ghost use Rattle.std.specs.Set.{is_member};
+ghost use Rattle.csp_program.specs.Substitution.{proc_with};
+ghost use Rattle.term_pool.specs.Entries.{entry_layer, layers, ArePartsOnce, Fits, PartsStart};
+ghost use Rattle.term_pool.specs.ExactEntry.{eq_entry};
+ghost use Rattle.term_pool.specs.First.{with_first};
+ghost use Rattle.term_pool.specs.Held.{processes, IsKept, Puts};
+ghost use Rattle.term_pool.specs.Pooled as pooled;
+ghost use Rattle.term_pool.specs.Pooled.{Has};
+ghost use Rattle.term_pool.specs.Put.{StandAt};
+ghost use Rattle.term_pool.specs.Trees.{layer_below, layer_tree, places_below, tree_at, tree_of};
+
+use crate::changed::{entry_with_first, put_own, with_places};
+use crate::entry::Entry;
+use crate::measure::Measure;
+use crate::node::{Node, ProcId};
+use crate::node_measures::of_entry;
+use crate::own_parts::{OwnParts, keep_node, node_at};
+use containers::{Items, Numbering};
+use csp_base::NoMemory;
+use csp_program::Value;
+use std::alloc::Global;
+
+// The entry at a place.
+fn entry_at(
+    parts: &OwnParts,
+    entries: &Numbering<Entry>,
+    measures: &Items<Measure>,
+    id: ProcId,
+) -> Entry
+    requires kept { IsKept parts.now entries.now measures.now }
+    requires within { id.0 < length (processes parts.now entries.now) }
+    ensures fits { Fits parts.now result }
+    ensures below { layer_below id.0 (entry_layer parts.now result) ≡ true }
+    ensures process { layer_tree (processes parts.now entries.now) (entry_layer parts.now result) ≡ tree_at (processes parts.now entries.now) id }
+{
+    entries.as_slice()[id.0 as usize]
+}
+
+/// The node at a place.
+pub(crate) fn node_in<'p>(
+    parts: &'p OwnParts,
+    entries: &Numbering<Entry>,
+    measures: &Items<Measure>,
+    id: ProcId,
+) -> Node<'p>
+    requires kept { IsKept parts.now entries.now measures.now }
+    requires within { id.0 < length (processes parts.now entries.now) }
+    ensures process { tree_of (processes parts.now entries.now) result ≡ tree_at (processes parts.now entries.now) id }
+    ensures places { places_below id.0 result ≡ true }
+{
+    node_at(parts, entry_at(parts, entries, measures, id))
+}
+
+// The place of an entry, which is the next one where it is new.
+fn put_entry(
+    parts: &OwnParts,
+    entries: &mut Numbering<Entry>,
+    measures: &mut Items<Measure>,
+    entry: Entry,
+) -> Result<ProcId, NoMemory>
+    requires kept { IsKept parts.now entries.old measures.old }
+    requires fits { Fits parts.now entry }
+    requires below { layer_below (length (processes parts.now entries.old)) (entry_layer parts.now entry) ≡ true }
+    ensures kept { IsKept parts.now entries.new measures.new }
+    ensures puts { Puts (processes parts.now entries.old) (processes parts.now entries.new) result (layer_tree (processes parts.now entries.old) (entry_layer parts.now entry)) }
+    ensures err_only_new { OnErr result (Has (processes parts.now entries.old) (layer_tree (processes parts.now entries.old) (entry_layer parts.now entry)) → ⊥) }
+{
+    match entries.find(&entry) {
+        Some(place) => Ok(ProcId(place)),
+        None => add_entry(parts, entries, measures, entry),
+    }
+}
+
+// The place of an entry that is new: the next one.
+fn add_entry(
+    parts: &OwnParts,
+    entries: &mut Numbering<Entry>,
+    measures: &mut Items<Measure>,
+    entry: Entry,
+) -> Result<ProcId, NoMemory>
+    requires kept { IsKept parts.now entries.old measures.old }
+    requires fits { Fits parts.now entry }
+    requires below { layer_below (length (processes parts.now entries.old)) (entry_layer parts.now entry) ≡ true }
+    requires unknown { is_member eq_entry entries.old entry ≡ false }
+    ensures kept { IsKept parts.now entries.new measures.new }
+    ensures puts { Puts (processes parts.now entries.old) (processes parts.now entries.new) result (layer_tree (processes parts.now entries.old) (entry_layer parts.now entry)) }
+{
+    let measure = of_entry(parts, measures.as_slice(), entry);
+    measures.push(measure)?;
+    match entries.number(entry) {
+        Ok(place) => Ok(ProcId(place)),
+        Err(_) => {
+            let _ = measures.pop();
+            Err(NoMemory)
+        }
+    }
+}
+
+/// The place of the process that the node is.
+pub(crate) fn put_in(
+    parts: &mut OwnParts,
+    entries: &mut Numbering<Entry>,
+    measures: &mut Items<Measure>,
+    alloc: Global,
+    node: Node<'_>,
+) -> Result<ProcId, NoMemory>
+    requires kept { IsKept parts.old entries.old measures.old }
+    requires below { places_below (length (processes parts.old entries.old)) node ≡ true }
+    ensures kept { IsKept parts.new entries.new measures.new }
+    ensures puts { Puts (processes parts.old entries.old) (processes parts.new entries.new) result (tree_of (processes parts.old entries.old) node.entry) }
+    ensures err_only_new { OnErr result (Has (processes parts.old entries.old) (tree_of (processes parts.old entries.old) node.entry) → ⊥) }
+{
+    let entry = keep_node(parts, alloc, node)?;
+    put_entry(parts, entries, measures, entry)
+}
+
+/// The place of the process at `id` with that at `below` in place of its first sub-process.
+pub(crate) fn put_first_in(
+    parts: &mut OwnParts,
+    entries: &mut Numbering<Entry>,
+    measures: &mut Items<Measure>,
+    alloc: Global,
+    id: ProcId,
+    below: ProcId,
+) -> Result<ProcId, NoMemory>
+    requires kept { IsKept parts.old entries.old measures.old }
+    requires id { id.0 < length (processes parts.old entries.old) }
+    requires below { below.0 < length (processes parts.old entries.old) }
+    ensures kept { IsKept parts.new entries.new measures.new }
+    ensures puts { Puts (processes parts.old entries.old) (processes parts.new entries.new) result (with_first (tree_at (processes parts.old entries.old) id) (tree_at (processes parts.old entries.old) below)) }
+{
+    let entry = entry_at(parts, entries, measures, id);
+    let entry = entry_with_first(parts, alloc, entry, below)?;
+    put_entry(parts, entries, measures, entry)
+}
+
+/// The place of what the process at `id` becomes with the value in place of the name, where `ids` are the places of what its sub-processes become.
+pub(crate) fn put_made_in(
+    parts: &mut OwnParts,
+    entries: &mut Numbering<Entry>,
+    measures: &mut Items<Measure>,
+    alloc: Global,
+    id: ProcId,
+    ids: &Items<ProcId>,
+    name: u32,
+    value: &Value,
+) -> Result<ProcId, NoMemory>
+    requires kept { IsKept parts.old entries.old measures.old }
+    requires within { id.0 < length (processes parts.old entries.old) }
+    requires made { StandAt (processes parts.old entries.old) ids.now (pooled.parts (proc_with name value.now (tree_at (processes parts.old entries.old) id))) }
+    ensures kept { IsKept parts.new entries.new measures.new }
+    ensures puts { Puts (processes parts.old entries.old) (processes parts.new entries.new) result (proc_with name value.now (tree_at (processes parts.old entries.old) id)) }
+{
+    let entry = entry_at(parts, entries, measures, id);
+    let entry = put_own(parts, alloc, entry, name, value)?;
+    let entry = with_places(parts, alloc, entry, ids)?;
+    put_entry(parts, entries, measures, entry)
+}

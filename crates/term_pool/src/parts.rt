@@ -1,0 +1,115 @@
+//! The kinds of parts that nodes have.
+
+ghost use Rattle.std.specs.Prelude.{map};
+ghost use Rattle.csp_program.specs.Depth.{expr_depth, field_depth, gen_depth, pair_depth};
+ghost use Rattle.csp_program.specs.Lists.{greatest, total};
+ghost use Rattle.csp_program.specs.Size.{expr_size, field_size, gen_size, pair_size};
+
+use crate::measure::{Measure, nothing};
+use crate::measured::{of_expr, of_exprs, of_fields, of_gens, of_pairs};
+use crate::node::ProcId;
+use crate::store::Part;
+use containers::Items;
+use csp_base::NoMemory;
+use csp_program::copies::{copy_expr, copy_exprs, copy_fields, copy_gens, copy_head, copy_pairs};
+use csp_program::{EventPart, Expr, Field, Gen, Head};
+use std::alloc::Global;
+
+impl Part for Head {
+    ghost depth = { λ head. 0 };
+
+    ghost size = { λ head. 0 };
+
+    fn copy(&self, alloc: Global) -> Result<Head, NoMemory> {
+        copy_head(alloc, self)
+    }
+
+    fn measure(&self) -> Measure {
+        nothing()
+    }
+}
+
+impl Part for Items<Field> {
+    ghost depth = { λ fields. greatest (map field_depth fields) };
+
+    ghost size = { λ fields. total (map field_size fields) };
+
+    fn copy(&self, alloc: Global) -> Result<Items<Field>, NoMemory> {
+        copy_fields(alloc, self.as_slice())
+    }
+
+    fn measure(&self) -> Measure {
+        of_fields(self.as_slice())
+    }
+}
+
+impl Part for Expr {
+    ghost depth = { expr_depth };
+
+    ghost size = { expr_size };
+
+    fn copy(&self, alloc: Global) -> Result<Expr, NoMemory> {
+        copy_expr(alloc, self)
+    }
+
+    fn measure(&self) -> Measure {
+        of_expr(self)
+    }
+}
+
+impl Part for Items<Expr> {
+    ghost depth = { λ exprs. greatest (map expr_depth exprs) };
+
+    ghost size = { λ exprs. total (map expr_size exprs) };
+
+    fn copy(&self, alloc: Global) -> Result<Items<Expr>, NoMemory> {
+        copy_exprs(alloc, self.as_slice())
+    }
+
+    fn measure(&self) -> Measure {
+        of_exprs(self.as_slice())
+    }
+}
+
+impl Part for Items<(EventPart, EventPart)> {
+    ghost depth = { λ pairs. greatest (map pair_depth pairs) };
+
+    ghost size = { λ pairs. total (map pair_size pairs) };
+
+    fn copy(&self, alloc: Global) -> Result<Items<(EventPart, EventPart)>, NoMemory> {
+        copy_pairs(alloc, self.as_slice())
+    }
+
+    fn measure(&self) -> Measure {
+        of_pairs(self.as_slice())
+    }
+}
+
+impl Part for Items<Gen> {
+    ghost depth = { λ gens. greatest (map gen_depth gens) };
+
+    ghost size = { λ gens. total (map gen_size gens) };
+
+    fn copy(&self, alloc: Global) -> Result<Items<Gen>, NoMemory> {
+        copy_gens(alloc, self.as_slice())
+    }
+
+    fn measure(&self) -> Measure {
+        of_gens(self.as_slice())
+    }
+}
+
+impl Part for Items<ProcId> {
+    ghost depth = { λ ids. 0 };
+
+    ghost size = { λ ids. 0 };
+
+    fn copy(&self, alloc: Global) -> Result<Items<ProcId>, NoMemory> {
+        let copy = Items::from_slice(alloc, self.as_slice())?;
+        Ok(copy)
+    }
+
+    fn measure(&self) -> Measure {
+        nothing()
+    }
+}
