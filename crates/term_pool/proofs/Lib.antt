@@ -7,6 +7,7 @@ pub mod NodeLemmas
 pub mod NodeMeasures
 pub mod StoreLemmas
 pub mod SubstituteLemmas
+pub mod OverLemmas
 pub mod PutLemmas
 pub mod TreeLemmas
 pub mod WithinLemmas

@@ -1,4 +1,5 @@
 //! The places of the sub-processes of a process.
+#![tactic(auto, using(crate::proofs::OverLemmas::over_forms))]
 
 ghost use Rattle.std.specs.Prelude.{◌≡◌, []};
 ghost use Rattle.term_pool.specs.Layers.{shown};

@@ -1,0 +1,188 @@
+-- The list grows by the sub-processes of each form, and the layer over their places stands for it.
+use Rattle.std.proofs.Common.{◌≡◌, ℕ, ◌+◌, List, [], ◌∷◌, ◌++◌, Some, take, drop, length, slice_get, refl, ap, sym, ◌∙◌, subst}
+use Rattle.csp_program.specs.declared.processes.Proc.{Proc}
+use Rattle.csp_program.specs.declared.processes.Proc.TheVariants as proc
+use Rattle.term_pool.proofs.OverLemmas as over
+use Rattle.term_pool.proofs.PutLemmas as lemmas
+use Rattle.term_pool.specs.Layers.{Layer, shown}
+use Rattle.term_pool.specs.Put.{Grows, StandAt, StandsFor}
+use Rattle.term_pool.specs.declared.node.ProcId.{ProcId}
+use Rattle.term_pool.proofs.put.+put_tree.Goals as goal
+
+pub put_below-returns-in_err-p-in-Prefix-clause-grows : goal.put_below-returns-in_err-p-in-Prefix-clause-grows
+put_below-returns-in_err-p-in-Prefix-clause-grows t c = lemmas.first_part c.args.pool.now c.put_tree.new.pool c.args.proc.now (proc.Prefix c.in-Prefix.field-0 c.in-Prefix.field-1 c.in-Prefix.p) c.in-Prefix.p c.get.result.now [] c.in-Prefix.is (lemmas.parts_Prefix c.in-Prefix.field-0 c.in-Prefix.field-1 c.in-Prefix.p) c.get.ensures c.in_err-p-in-Prefix.ensures.grows
+
+pub put_below-returns-in_ok-p-in-Prefix-clause-grows : goal.put_below-returns-in_ok-p-in-Prefix-clause-grows
+put_below-returns-in_ok-p-in-Prefix-clause-grows t c = lemmas.first_part c.args.pool.now c.put_tree.new.pool c.args.proc.now (proc.Prefix c.in-Prefix.field-0 c.in-Prefix.field-1 c.in-Prefix.p) c.in-Prefix.p c.get.result.now [] c.in-Prefix.is (lemmas.parts_Prefix c.in-Prefix.field-0 c.in-Prefix.field-1 c.in-Prefix.p) c.get.ensures c.in_ok-p-in-Prefix.ensures.grows
+
+pub put_below-returns-in_ok-p-in-Prefix-clause-node : goal.put_below-returns-in_ok-p-in-Prefix-clause-node
+put_below-returns-in_ok-p-in-Prefix-clause-node t c =
+    over.below_Prefix c.put_tree.new.pool c.args.proc.now c.in-Prefix.field-0 c.in-Prefix.field-1 c.in-Prefix.p c.in-Prefix.is c.few-in-Prefix.result
+    c.in_ok-p-in-Prefix.p c.few-in-Prefix.ensures.first c.get.result.now c.in_ok-p-in-Prefix.ensures.process c.get.ensures
+
+pub put_below-returns-in_err-p-in-Guard-clause-grows : goal.put_below-returns-in_err-p-in-Guard-clause-grows
+put_below-returns-in_err-p-in-Guard-clause-grows t c = lemmas.first_part c.args.pool.now c.put_tree-in-Guard.new.pool c.args.proc.now (proc.Guard c.in-Guard.field-0 c.in-Guard.p) c.in-Guard.p c.get-in-Guard.result.now [] c.in-Guard.is (lemmas.parts_Guard c.in-Guard.field-0 c.in-Guard.p) c.get-in-Guard.ensures c.in_err-p-in-Guard.ensures.grows
+
+pub put_below-returns-in_ok-p-in-Guard-clause-grows : goal.put_below-returns-in_ok-p-in-Guard-clause-grows
+put_below-returns-in_ok-p-in-Guard-clause-grows t c = lemmas.first_part c.args.pool.now c.put_tree-in-Guard.new.pool c.args.proc.now (proc.Guard c.in-Guard.field-0 c.in-Guard.p) c.in-Guard.p c.get-in-Guard.result.now [] c.in-Guard.is (lemmas.parts_Guard c.in-Guard.field-0 c.in-Guard.p) c.get-in-Guard.ensures c.in_ok-p-in-Guard.ensures.grows
+
+pub put_below-returns-in_ok-p-in-Guard-clause-node : goal.put_below-returns-in_ok-p-in-Guard-clause-node
+put_below-returns-in_ok-p-in-Guard-clause-node t c =
+    over.below_Guard c.put_tree-in-Guard.new.pool c.args.proc.now c.in-Guard.field-0 c.in-Guard.p c.in-Guard.is c.few-in-Guard.result
+    c.in_ok-p-in-Guard.p c.few-in-Guard.ensures.first c.get-in-Guard.result.now c.in_ok-p-in-Guard.ensures.process c.get-in-Guard.ensures
+
+pub put_below-returns-in_err-p-in-EachExternal-clause-grows : goal.put_below-returns-in_err-p-in-EachExternal-clause-grows
+put_below-returns-in_err-p-in-EachExternal-clause-grows t c = lemmas.first_part c.args.pool.now c.put_tree-in-EachExternal.new.pool c.args.proc.now (proc.EachExternal c.in-EachExternal.field-0 c.in-EachExternal.field-1 c.in-EachExternal.p) c.in-EachExternal.p c.get-in-EachExternal.result.now [] c.in-EachExternal.is (lemmas.parts_EachExternal c.in-EachExternal.field-0 c.in-EachExternal.field-1 c.in-EachExternal.p) c.get-in-EachExternal.ensures c.in_err-p-in-EachExternal.ensures.grows
+
+pub put_below-returns-in_ok-p-in-EachExternal-clause-grows : goal.put_below-returns-in_ok-p-in-EachExternal-clause-grows
+put_below-returns-in_ok-p-in-EachExternal-clause-grows t c = lemmas.first_part c.args.pool.now c.put_tree-in-EachExternal.new.pool c.args.proc.now (proc.EachExternal c.in-EachExternal.field-0 c.in-EachExternal.field-1 c.in-EachExternal.p) c.in-EachExternal.p c.get-in-EachExternal.result.now [] c.in-EachExternal.is (lemmas.parts_EachExternal c.in-EachExternal.field-0 c.in-EachExternal.field-1 c.in-EachExternal.p) c.get-in-EachExternal.ensures c.in_ok-p-in-EachExternal.ensures.grows
+
+pub put_below-returns-in_ok-p-in-EachExternal-clause-node : goal.put_below-returns-in_ok-p-in-EachExternal-clause-node
+put_below-returns-in_ok-p-in-EachExternal-clause-node t c =
+    over.below_EachExternal c.put_tree-in-EachExternal.new.pool c.args.proc.now c.in-EachExternal.field-0 c.in-EachExternal.field-1 c.in-EachExternal.p c.in-EachExternal.is c.few-in-EachExternal.result
+    c.in_ok-p-in-EachExternal.p c.few-in-EachExternal.ensures.first c.get-in-EachExternal.result.now c.in_ok-p-in-EachExternal.ensures.process c.get-in-EachExternal.ensures
+
+pub put_below-returns-in_err-p-in-EachInternal-clause-grows : goal.put_below-returns-in_err-p-in-EachInternal-clause-grows
+put_below-returns-in_err-p-in-EachInternal-clause-grows t c = lemmas.first_part c.args.pool.now c.put_tree-in-EachInternal.new.pool c.args.proc.now (proc.EachInternal c.in-EachInternal.field-0 c.in-EachInternal.field-1 c.in-EachInternal.p) c.in-EachInternal.p c.get-in-EachInternal.result.now [] c.in-EachInternal.is (lemmas.parts_EachInternal c.in-EachInternal.field-0 c.in-EachInternal.field-1 c.in-EachInternal.p) c.get-in-EachInternal.ensures c.in_err-p-in-EachInternal.ensures.grows
+
+pub put_below-returns-in_ok-p-in-EachInternal-clause-grows : goal.put_below-returns-in_ok-p-in-EachInternal-clause-grows
+put_below-returns-in_ok-p-in-EachInternal-clause-grows t c = lemmas.first_part c.args.pool.now c.put_tree-in-EachInternal.new.pool c.args.proc.now (proc.EachInternal c.in-EachInternal.field-0 c.in-EachInternal.field-1 c.in-EachInternal.p) c.in-EachInternal.p c.get-in-EachInternal.result.now [] c.in-EachInternal.is (lemmas.parts_EachInternal c.in-EachInternal.field-0 c.in-EachInternal.field-1 c.in-EachInternal.p) c.get-in-EachInternal.ensures c.in_ok-p-in-EachInternal.ensures.grows
+
+pub put_below-returns-in_ok-p-in-EachInternal-clause-node : goal.put_below-returns-in_ok-p-in-EachInternal-clause-node
+put_below-returns-in_ok-p-in-EachInternal-clause-node t c =
+    over.below_EachInternal c.put_tree-in-EachInternal.new.pool c.args.proc.now c.in-EachInternal.field-0 c.in-EachInternal.field-1 c.in-EachInternal.p c.in-EachInternal.is c.few-in-EachInternal.result
+    c.in_ok-p-in-EachInternal.p c.few-in-EachInternal.ensures.first c.get-in-EachInternal.result.now c.in_ok-p-in-EachInternal.ensures.process c.get-in-EachInternal.ensures
+
+pub put_below-returns-in_err-p-in-Hide-clause-grows : goal.put_below-returns-in_err-p-in-Hide-clause-grows
+put_below-returns-in_err-p-in-Hide-clause-grows t c = lemmas.first_part c.args.pool.now c.put_tree-in-Hide.new.pool c.args.proc.now (proc.Hide c.in-Hide.p c.in-Hide.field-1) c.in-Hide.p c.get-in-Hide.result.now [] c.in-Hide.is (lemmas.parts_Hide c.in-Hide.p c.in-Hide.field-1) c.get-in-Hide.ensures c.in_err-p-in-Hide.ensures.grows
+
+pub put_below-returns-in_ok-p-in-Hide-clause-grows : goal.put_below-returns-in_ok-p-in-Hide-clause-grows
+put_below-returns-in_ok-p-in-Hide-clause-grows t c = lemmas.first_part c.args.pool.now c.put_tree-in-Hide.new.pool c.args.proc.now (proc.Hide c.in-Hide.p c.in-Hide.field-1) c.in-Hide.p c.get-in-Hide.result.now [] c.in-Hide.is (lemmas.parts_Hide c.in-Hide.p c.in-Hide.field-1) c.get-in-Hide.ensures c.in_ok-p-in-Hide.ensures.grows
+
+pub put_below-returns-in_ok-p-in-Hide-clause-node : goal.put_below-returns-in_ok-p-in-Hide-clause-node
+put_below-returns-in_ok-p-in-Hide-clause-node t c =
+    over.below_Hide c.put_tree-in-Hide.new.pool c.args.proc.now c.in-Hide.p c.in-Hide.field-1 c.in-Hide.is c.few-in-Hide.result
+    c.in_ok-p-in-Hide.p c.few-in-Hide.ensures.first c.get-in-Hide.result.now c.in_ok-p-in-Hide.ensures.process c.get-in-Hide.ensures
+
+pub put_below-returns-in_err-p-in-Rename-clause-grows : goal.put_below-returns-in_err-p-in-Rename-clause-grows
+put_below-returns-in_err-p-in-Rename-clause-grows t c = lemmas.first_part c.args.pool.now c.put_tree-in-Rename.new.pool c.args.proc.now (proc.Rename c.in-Rename.p c.in-Rename.field-1 c.in-Rename.field-2) c.in-Rename.p c.get-in-Rename.result.now [] c.in-Rename.is (lemmas.parts_Rename c.in-Rename.p c.in-Rename.field-1 c.in-Rename.field-2) c.get-in-Rename.ensures c.in_err-p-in-Rename.ensures.grows
+
+pub put_below-returns-in_ok-p-in-Rename-clause-grows : goal.put_below-returns-in_ok-p-in-Rename-clause-grows
+put_below-returns-in_ok-p-in-Rename-clause-grows t c = lemmas.first_part c.args.pool.now c.put_tree-in-Rename.new.pool c.args.proc.now (proc.Rename c.in-Rename.p c.in-Rename.field-1 c.in-Rename.field-2) c.in-Rename.p c.get-in-Rename.result.now [] c.in-Rename.is (lemmas.parts_Rename c.in-Rename.p c.in-Rename.field-1 c.in-Rename.field-2) c.get-in-Rename.ensures c.in_ok-p-in-Rename.ensures.grows
+
+pub put_below-returns-in_ok-p-in-Rename-clause-node : goal.put_below-returns-in_ok-p-in-Rename-clause-node
+put_below-returns-in_ok-p-in-Rename-clause-node t c =
+    over.below_Rename c.put_tree-in-Rename.new.pool c.args.proc.now c.in-Rename.p c.in-Rename.field-1 c.in-Rename.field-2 c.in-Rename.is c.few-in-Rename.result
+    c.in_ok-p-in-Rename.p c.few-in-Rename.ensures.first c.get-in-Rename.result.now c.in_ok-p-in-Rename.ensures.process c.get-in-Rename.ensures
+
+pub put_below-returns-in_err-p-in-If-clause-grows : goal.put_below-returns-in_err-p-in-If-clause-grows
+put_below-returns-in_err-p-in-If-clause-grows t c =
+    lemmas.first_part c.args.pool.now c.put_tree-in-If.new.pool c.args.proc.now (proc.If c.in-If.field-0 c.in-If.p c.in-If.q) c.in-If.p c.get-in-If.result.now (c.in-If.q ∷ []) c.in-If.is (lemmas.parts_If c.in-If.field-0 c.in-If.p c.in-If.q) c.get-in-If.ensures c.in_err-p-in-If.ensures.grows
+
+pub put_below-returns-in_err-q-in-If-clause-grows : goal.put_below-returns-in_err-q-in-If-clause-grows
+put_below-returns-in_err-q-in-If-clause-grows t c =
+    lemmas.both_parts c.args.pool.now c.put_tree-in-If.new.pool c.put_tree-in-If-2.new.pool c.args.proc.now (proc.If c.in-If.field-0 c.in-If.p c.in-If.q) c.in-If.p c.get-in-If.result.now c.in-If.q c.get-in-If-2.result.now c.in-If.is (lemmas.parts_If c.in-If.field-0 c.in-If.p c.in-If.q)
+    c.get-in-If.ensures c.get-in-If-2.ensures c.in_ok-p-in-If.ensures.grows c.in_err-q-in-If.ensures.grows
+
+pub put_below-returns-in_ok-q-in-If-clause-grows : goal.put_below-returns-in_ok-q-in-If-clause-grows
+put_below-returns-in_ok-q-in-If-clause-grows t c =
+    lemmas.both_parts c.args.pool.now c.put_tree-in-If.new.pool c.put_tree-in-If-2.new.pool c.args.proc.now (proc.If c.in-If.field-0 c.in-If.p c.in-If.q) c.in-If.p c.get-in-If.result.now c.in-If.q c.get-in-If-2.result.now c.in-If.is (lemmas.parts_If c.in-If.field-0 c.in-If.p c.in-If.q)
+    c.get-in-If.ensures c.get-in-If-2.ensures c.in_ok-p-in-If.ensures.grows c.in_ok-q-in-If.ensures.grows
+
+pub put_below-returns-in_ok-q-in-If-clause-node : goal.put_below-returns-in_ok-q-in-If-clause-node
+put_below-returns-in_ok-q-in-If-clause-node t c =
+    over.below_If c.put_tree-in-If-2.new.pool c.args.proc.now c.in-If.field-0 c.in-If.p c.in-If.q c.in-If.is c.few-in-If.result
+    c.in_ok-p-in-If.p c.few-in-If.ensures.first c.get-in-If.result.now (c.in_ok-q-in-If.ensures.grows.front c.in_ok-p-in-If.p.0 c.get-in-If.result.now c.in_ok-p-in-If.ensures.process) c.get-in-If.ensures
+    c.in_ok-q-in-If.q c.few-in-If.ensures.second c.get-in-If-2.result.now c.in_ok-q-in-If.ensures.process c.get-in-If-2.ensures
+
+pub put_below-returns-in_err-p-in-Seq-clause-grows : goal.put_below-returns-in_err-p-in-Seq-clause-grows
+put_below-returns-in_err-p-in-Seq-clause-grows t c =
+    lemmas.first_part c.args.pool.now c.put_tree-in-Seq.new.pool c.args.proc.now (proc.Seq c.in-Seq.p c.in-Seq.q) c.in-Seq.p c.get-in-Seq.result.now (c.in-Seq.q ∷ []) c.in-Seq.is (lemmas.parts_Seq c.in-Seq.p c.in-Seq.q) c.get-in-Seq.ensures c.in_err-p-in-Seq.ensures.grows
+
+pub put_below-returns-in_err-q-in-Seq-clause-grows : goal.put_below-returns-in_err-q-in-Seq-clause-grows
+put_below-returns-in_err-q-in-Seq-clause-grows t c =
+    lemmas.both_parts c.args.pool.now c.put_tree-in-Seq.new.pool c.put_tree-in-Seq-2.new.pool c.args.proc.now (proc.Seq c.in-Seq.p c.in-Seq.q) c.in-Seq.p c.get-in-Seq.result.now c.in-Seq.q c.get-in-Seq-2.result.now c.in-Seq.is (lemmas.parts_Seq c.in-Seq.p c.in-Seq.q)
+    c.get-in-Seq.ensures c.get-in-Seq-2.ensures c.in_ok-p-in-Seq.ensures.grows c.in_err-q-in-Seq.ensures.grows
+
+pub put_below-returns-in_ok-q-in-Seq-clause-grows : goal.put_below-returns-in_ok-q-in-Seq-clause-grows
+put_below-returns-in_ok-q-in-Seq-clause-grows t c =
+    lemmas.both_parts c.args.pool.now c.put_tree-in-Seq.new.pool c.put_tree-in-Seq-2.new.pool c.args.proc.now (proc.Seq c.in-Seq.p c.in-Seq.q) c.in-Seq.p c.get-in-Seq.result.now c.in-Seq.q c.get-in-Seq-2.result.now c.in-Seq.is (lemmas.parts_Seq c.in-Seq.p c.in-Seq.q)
+    c.get-in-Seq.ensures c.get-in-Seq-2.ensures c.in_ok-p-in-Seq.ensures.grows c.in_ok-q-in-Seq.ensures.grows
+
+pub put_below-returns-in_ok-q-in-Seq-clause-node : goal.put_below-returns-in_ok-q-in-Seq-clause-node
+put_below-returns-in_ok-q-in-Seq-clause-node t c =
+    over.below_Seq c.put_tree-in-Seq-2.new.pool c.args.proc.now c.in-Seq.p c.in-Seq.q c.in-Seq.is c.few-in-Seq.result
+    c.in_ok-p-in-Seq.p c.few-in-Seq.ensures.first c.get-in-Seq.result.now (c.in_ok-q-in-Seq.ensures.grows.front c.in_ok-p-in-Seq.p.0 c.get-in-Seq.result.now c.in_ok-p-in-Seq.ensures.process) c.get-in-Seq.ensures
+    c.in_ok-q-in-Seq.q c.few-in-Seq.ensures.second c.get-in-Seq-2.result.now c.in_ok-q-in-Seq.ensures.process c.get-in-Seq-2.ensures
+
+pub put_below-returns-in_err-ids-in-External-clause-grows : goal.put_below-returns-in_err-ids-in-External-clause-grows
+put_below-returns-in_err-ids-in-External-clause-grows t c =
+    lemmas.all_parts c.args.pool.now c.put_trees.new.pool c.args.proc.now (proc.External c.in-External.procs) c.in-External.procs c.as_slice.result.now c.in-External.is (lemmas.parts_External c.in-External.procs) c.as_slice.ensures c.in_err-ids-in-External.ensures.grows
+
+pub put_below-returns-in_ok-ids-in-External-clause-grows : goal.put_below-returns-in_ok-ids-in-External-clause-grows
+put_below-returns-in_ok-ids-in-External-clause-grows t c =
+    lemmas.all_parts c.args.pool.now c.put_trees.new.pool c.args.proc.now (proc.External c.in-External.procs) c.in-External.procs c.as_slice.result.now c.in-External.is (lemmas.parts_External c.in-External.procs) c.as_slice.ensures c.in_ok-ids-in-External.ensures.grows
+
+pub put_below-returns-in_ok-ids-in-External-clause-node : goal.put_below-returns-in_ok-ids-in-External-clause-node
+put_below-returns-in_ok-ids-in-External-clause-node t c =
+    over.below_External c.put_trees.new.pool c.args.proc.now c.in-External.procs c.in-External.is c.all.result c.in_ok-ids-in-External.ids c.all.ensures c.as_slice.result.now c.in_ok-ids-in-External.ensures.places c.as_slice.ensures
+
+pub put_below-returns-in_err-ids-in-Internal-clause-grows : goal.put_below-returns-in_err-ids-in-Internal-clause-grows
+put_below-returns-in_err-ids-in-Internal-clause-grows t c =
+    lemmas.all_parts c.args.pool.now c.put_trees-in-Internal.new.pool c.args.proc.now (proc.Internal c.in-Internal.procs) c.in-Internal.procs c.as_slice-in-Internal.result.now c.in-Internal.is (lemmas.parts_Internal c.in-Internal.procs) c.as_slice-in-Internal.ensures c.in_err-ids-in-Internal.ensures.grows
+
+pub put_below-returns-in_ok-ids-in-Internal-clause-grows : goal.put_below-returns-in_ok-ids-in-Internal-clause-grows
+put_below-returns-in_ok-ids-in-Internal-clause-grows t c =
+    lemmas.all_parts c.args.pool.now c.put_trees-in-Internal.new.pool c.args.proc.now (proc.Internal c.in-Internal.procs) c.in-Internal.procs c.as_slice-in-Internal.result.now c.in-Internal.is (lemmas.parts_Internal c.in-Internal.procs) c.as_slice-in-Internal.ensures c.in_ok-ids-in-Internal.ensures.grows
+
+pub put_below-returns-in_ok-ids-in-Internal-clause-node : goal.put_below-returns-in_ok-ids-in-Internal-clause-node
+put_below-returns-in_ok-ids-in-Internal-clause-node t c =
+    over.below_Internal c.put_trees-in-Internal.new.pool c.args.proc.now c.in-Internal.procs c.in-Internal.is c.all-in-Internal.result c.in_ok-ids-in-Internal.ids c.all-in-Internal.ensures c.as_slice-in-Internal.result.now c.in_ok-ids-in-Internal.ensures.places c.as_slice-in-Internal.ensures
+
+pub put_below-returns-in-Stop-clause-node : goal.put_below-returns-in-Stop-clause-node
+put_below-returns-in-Stop-clause-node t c = over.below_Stop c.args.pool.now c.args.proc.now c.in-Stop.is c.few.result
+
+pub put_below-returns-in-Call-clause-node : goal.put_below-returns-in-Call-clause-node
+put_below-returns-in-Call-clause-node t c = over.below_Call c.args.pool.now c.args.proc.now c.in-Call.field-0 c.in-Call.field-1 c.in-Call.is c.few-in-Call.result
+
+pub put_below-returns-in-Skip-clause-node : goal.put_below-returns-in-Skip-clause-node
+put_below-returns-in-Skip-clause-node t c = over.below_Skip c.args.pool.now c.args.proc.now c.in-Skip.is c.few-in-Skip.result
+
+pub put_below-returns-in-Ended-clause-node : goal.put_below-returns-in-Ended-clause-node
+put_below-returns-in-Ended-clause-node t c = over.below_Ended c.args.pool.now c.args.proc.now c.in-Ended.is c.few-in-Ended.result
+
+pub put_tree-returns-in_err-below-clause-grows : goal.put_tree-returns-in_err-below-clause-grows
+put_tree-returns-in_err-below-clause-grows t c = lemmas.grows_some c.args.pool.now c.put_below.new.pool c.args.proc.now c.in_err-below.ensures.grows
+
+pub put_tree-put_node-requires : goal.put_tree-put_node-requires
+put_tree-put_node-requires t c = (subst (λ (n : Layer). StandsFor c.put_below.new.pool n c.args.proc.now) (sym c.node_over.ensures) c.in_ok-below.ensures.node).below
+
+pub put_tree-returns-clause-process : goal.put_tree-returns-clause-process
+put_tree-returns-clause-process t c = c.in_ok-id.ensures.process ∙ ap (λ (q : Proc). Some q) (subst (λ (n : Layer). StandsFor c.put_below.new.pool n c.args.proc.now) (sym c.node_over.ensures) c.in_ok-below.ensures.node).tree
+
+pub put_tree-returns-in_err-id-clause-grows : goal.put_tree-returns-in_err-id-clause-grows
+put_tree-returns-in_err-id-clause-grows t c =
+    lemmas.grows_node c.args.pool.now c.put_below.new.pool c.put_node.new.self c.args.proc.now (shown c.node_over.result) c.in_ok-below.ensures.grows
+    (subst (λ (n : Layer). StandsFor c.put_below.new.pool n c.args.proc.now) (sym c.node_over.ensures) c.in_ok-below.ensures.node) c.in_err-id.ensures.front c.in_err-id.ensures.known c.in_err-id.ensures.only
+
+pub put_tree-returns-clause-grows : goal.put_tree-returns-clause-grows
+put_tree-returns-clause-grows t c =
+    lemmas.grows_node c.args.pool.now c.put_below.new.pool c.put_node.new.self c.args.proc.now (shown c.node_over.result) c.in_ok-below.ensures.grows
+    (subst (λ (n : Layer). StandsFor c.put_below.new.pool n c.args.proc.now) (sym c.node_over.ensures) c.in_ok-below.ensures.node) c.in_ok-id.ensures.front c.in_ok-id.ensures.known c.in_ok-id.ensures.only
+
+pub put_trees-returns-in_err-id-clause-grows : goal.put_trees-returns-in_err-id-clause-grows
+put_trees-returns-in_err-id-clause-grows t c =
+    lemmas.grows_end c.args.pool.now c.put_tree.new.pool c.args.procs.now (c.loop-proc.proc-index + 1) (lemmas.grows_more c.args.pool.now c.loop-proc.pool c.put_tree.new.pool c.args.procs.now c.loop-proc.proc-index c.proc-item.result c.loop-proc-test.true c.proc-item.is c.loop-proc.invariant.grows c.in_err-id.ensures.grows)
+
+pub put_trees-returns-in_err-push-clause-grows : goal.put_trees-returns-in_err-push-clause-grows
+put_trees-returns-in_err-push-clause-grows t c =
+    lemmas.grows_end c.args.pool.now c.put_tree.new.pool c.args.procs.now (c.loop-proc.proc-index + 1) (lemmas.grows_more c.args.pool.now c.loop-proc.pool c.put_tree.new.pool c.args.procs.now c.loop-proc.proc-index c.proc-item.result c.loop-proc-test.true c.proc-item.is c.loop-proc.invariant.grows c.in_ok-id.ensures.grows)
+
+pub put_trees-loop-proc-preserved : goal.put_trees-loop-proc-preserved
+put_trees-loop-proc-preserved t c =
+    record {
+      places = subst (λ (xs : List ProcId). StandAt c.put_tree.new.pool xs (take (c.loop-proc.proc-index + 1) c.args.procs.now)) (sym c.in_ok-push.ensures.ok)
+          (lemmas.stand_more c.loop-proc.pool c.put_tree.new.pool c.in_ok-id.ensures.grows.front c.loop-proc.ids c.args.procs.now c.loop-proc.proc-index c.proc-item.result c.in_ok-id.id
+          c.loop-proc-test.true c.proc-item.is c.loop-proc.invariant.places c.in_ok-id.ensures.process);
+      grows = lemmas.grows_more c.args.pool.now c.loop-proc.pool c.put_tree.new.pool c.args.procs.now c.loop-proc.proc-index c.proc-item.result c.loop-proc-test.true c.proc-item.is c.loop-proc.invariant.grows c.in_ok-id.ensures.grows;
+    }
