@@ -1,19 +1,13 @@
 -- What entries stand for: it stays where the own parts grow, and different entries stand for different layers.
 use Rattle.std.proofs.Common.{◌≡◌, ℕ, ◌<◌, Some, List, [], length, get_or, slice_get, refl, ap, sym, ◌∙◌, subst}
 use Rattle.std.proofs.lemmas.Option.{slice_get_within, slice_get-get_or, get_or_from_slice_get}
-use Rattle.csp_program.specs.declared.expressions.EventPart.{EventPart}
-use Rattle.csp_program.specs.declared.expressions.Expr.{Expr}
 use Rattle.csp_program.specs.declared.expressions.Expr.TheVariants as expr
-use Rattle.csp_program.specs.declared.expressions.Gen.{Gen}
-use Rattle.csp_program.specs.declared.processes.Field.{Field}
-use Rattle.csp_program.specs.declared.processes.Head.{Head}
 use Rattle.csp_program.specs.declared.processes.Head.TheVariants as head
-use Rattle.term_pool.specs.Entries.{head_at, fields_at, expr_at, arguments_at, pairs_at, gens_at, choice_at, entry_layer, ArePartsOnce, Fits, HasParts, Holds, PartsStart, StandsAs}
+use Rattle.term_pool.specs.Entries.{head_at, fields_at, expr_at, arguments_at, pairs_at, gens_at, choice_at, entry_layer, ArePartsOnce, Fits, HasParts, PartsStart, StandsAs}
 use Rattle.term_pool.specs.Layers.{Layer}
 use Rattle.term_pool.specs.Stored.{AreOnce, IsStart}
 use Rattle.term_pool.specs.declared.entry.Entry.{Entry}
 use Rattle.term_pool.specs.declared.entry.Entry.TheVariants as entry
-use Rattle.term_pool.specs.declared.node.ProcId.{ProcId}
 use Rattle.term_pool.specs.declared.own_parts.OwnParts.{OwnParts}
 
 -- a number of the old list is one of the new one, with the same part

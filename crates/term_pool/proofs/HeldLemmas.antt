@@ -1,8 +1,8 @@
 -- What follows from how a pool keeps its processes.
-use Rattle.std.proofs.Common.{◌≡◌, ◌⊎◌, inl, inr, ℕ, zero, suc, ◌+◌, ◌<◌, ◌≤◌, Bool, true, false, ◌&&◌, ◌||◌, if◌then◌else◌, nat_lt, Some, None, Option, List, [], ◌∷◌, ◌++◌, map, length, get_or, slice_get, refl, ap, sym, ◌∙◌, subst, arith, length-append}
-use Rattle.std.proofs.lemmas.Bool.{ltb-true, lt-ltb, false≢true}
+use Rattle.std.proofs.Common.{◌≡◌, ◌⊎◌, inl, inr, ℕ, zero, suc, ◌+◌, ◌<◌, ◌≤◌, true, nat_lt, Some, List, [], ◌∷◌, ◌++◌, map, length, get_or, slice_get, refl, ap, sym, ◌∙◌, subst, arith}
+use Rattle.std.proofs.lemmas.Bool.{ltb-true, false≢true}
 use Rattle.std.proofs.lemmas.List.{map-append, length-map}
-use Rattle.std.proofs.lemmas.Option.{slice_get_within, slice_get-get_or, slice_get_read, get_or_from_slice_get}
+use Rattle.std.proofs.lemmas.Option.{slice_get_within, slice_get-get_or, get_or_from_slice_get}
 use Rattle.std.specs.Cmp.{first_so, second_so}
 use Rattle.std.specs.Prelude.{Result, Ok, Err, IsErr}
 use Rattle.containers.proofs.MembersLemmas.{slice_get-append_left}
@@ -16,7 +16,7 @@ use Rattle.term_pool.specs.Held.{IsHeld, Puts}
 use Rattle.term_pool.specs.Measured.{measured, node_depth, node_size}
 use Rattle.term_pool.specs.Pooled.{AreDifferent, Has, IsFront, PartsStandBelow, StandBelow, parts}
 use Rattle.term_pool.specs.Stored.{AreOnce, IsAbsent}
-use Rattle.term_pool.specs.Trees.{tree_at, layer_tree, layer_ids, all_below, layer_below, grown, trees_of, fall}
+use Rattle.term_pool.specs.Trees.{tree_at, layer_tree, layer_ids, all_below, layer_below, trees_of, fall}
 use Rattle.term_pool.specs.Within.{AddsOne}
 use Rattle.term_pool.specs.declared.measure.Measure.{Measure}
 use Rattle.term_pool.specs.Layers.{Layer}

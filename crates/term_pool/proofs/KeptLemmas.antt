@@ -1,5 +1,5 @@
 -- What follows from how a pool keeps its nodes as entries.
-use Rattle.std.proofs.Common.{◌≡◌, ◌⊎◌, inl, inr, ℕ, zero, suc, ◌<◌, Bool, true, false, Some, None, Option, List, [], ◌∷◌, ◌++◌, map, length, get_or, slice_get, refl, ap, sym, ◌∙◌, subst, arith}
+use Rattle.std.proofs.Common.{◌≡◌, ◌⊎◌, inl, inr, ℕ, zero, suc, ◌<◌, true, false, Some, Option, List, [], ◌∷◌, ◌++◌, length, get_or, slice_get, refl, ap, sym, ◌∙◌, subst, arith}
 use Rattle.std.proofs.lemmas.List.{map-append, length-map}
 use Rattle.std.proofs.lemmas.Option.{slice_get-map, slice_get-get_or}
 use Rattle.std.specs.Prelude.{Result, Ok, Err, IsErr, OnErr, option_map}
@@ -17,7 +17,7 @@ use Rattle.term_pool.specs.Measured.{node_depth, node_size}
 use Rattle.term_pool.specs.Moved.{moved}
 use Rattle.term_pool.specs.Pooled.{Has}
 use Rattle.term_pool.specs.Stored.{IsAbsent}
-use Rattle.term_pool.specs.Trees.{layer_below, layer_tree, tree_at, trees_of}
+use Rattle.term_pool.specs.Trees.{layer_below, layer_tree, trees_of}
 use Rattle.term_pool.specs.contracts.entry.EntryEq.TheImpl.Laws.{laws-law}
 use Rattle.term_pool.specs.declared.entry.Entry.{Entry}
 use Rattle.term_pool.specs.declared.measure.Measure.{Measure}

@@ -1,16 +1,16 @@
 -- What a node's process measures: its own parts and the processes at its places.
-use Rattle.std.proofs.Common.{◌≡◌, ℕ, zero, suc, ◌+◌, ◌<◌, max, Bool, true, ◌&&◌, nat_lt, List, [], ◌∷◌, map, length, get_or, refl, ap, sym, ◌∙◌, subst, arith}
+use Rattle.std.proofs.Common.{◌≡◌, ℕ, ◌+◌, ◌<◌, max, true, nat_lt, List, [], ◌∷◌, map, length, get_or, refl, ap, ◌∙◌, subst, arith}
 use Rattle.std.proofs.lemmas.Bool.{ltb-true}
 use Rattle.std.proofs.lemmas.List.{get_or-map, length-map}
 use Rattle.std.specs.Cmp.{first_so, second_so}
 use Rattle.csp_program.specs.Lists.{greatest, total}
-use Rattle.csp_program.specs.Depth.{expr_depth, gen_depth, pair_depth, field_depth, proc_depth}
-use Rattle.csp_program.specs.Size.{expr_size, gen_size, pair_size, field_size, proc_size}
+use Rattle.csp_program.specs.Depth.{proc_depth}
+use Rattle.csp_program.specs.Size.{proc_size}
 use Rattle.csp_program.specs.declared.processes.Proc.{Proc}
 use Rattle.csp_program.specs.declared.processes.Proc.TheVariants as proc
 use Rattle.term_pool.proofs.MeasureLaws as laws
 use Rattle.term_pool.specs.Counting.{capped}
-use Rattle.term_pool.specs.Measured.{measured, own_depth, own_size, depth_at, size_at, deepest_at, total_at, node_depth, node_size}
+use Rattle.term_pool.specs.Measured.{measured, own_depth, own_size, deepest_at, total_at, node_depth, node_size}
 use Rattle.term_pool.specs.Trees.{tree_at, layer_tree, layer_ids, all_below, layer_below}
 use Rattle.term_pool.specs.declared.measure.Measure.{Measure}
 use Rattle.term_pool.specs.Layers.{Layer}

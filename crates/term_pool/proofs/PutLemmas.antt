@@ -1,5 +1,5 @@
 -- Lemmas on lists that grow as processes are put into them, and on nodes that stand for processes.
-use Rattle.std.proofs.Common.{◌≡◌, ◌⊎◌, inl, inr, ℕ, zero, suc, ◌+◌, ◌<◌, Bool, true, ◌&&◌, nat_lt, Some, List, [], ◌∷◌, ◌++◌, map, length, get_or, slice_get, take, drop, refl, ap, sym, ◌∙◌, subst, arith}
+use Rattle.std.proofs.Common.{◌≡◌, ◌⊎◌, inl, inr, ℕ, ◌+◌, ◌<◌, true, nat_lt, Some, List, [], ◌∷◌, ◌++◌, map, length, get_or, slice_get, take, drop, refl, ap, sym, ◌∙◌, subst}
 use Rattle.std.proofs.lemmas.Bool.{lt-ltb}
 use Rattle.std.proofs.lemmas.List.{take_more, take-append-drop}
 use Rattle.std.proofs.lemmas.Option.{slice_get_within, get_or_from_slice_get}
@@ -11,12 +11,12 @@ use Rattle.csp_program.specs.declared.processes.Head.{Head}
 use Rattle.csp_program.specs.declared.processes.Proc.{Proc}
 use Rattle.csp_program.specs.declared.processes.Proc.TheVariants as proc
 use Rattle.csp_program.specs.declared.processes.Proc.TheOpen.{Proc-F}
-use Rattle.csp_program.specs.declared.processes.Proc.TheViews.{out-Proc, roll-Proc, out-roll-Proc}
+use Rattle.csp_program.specs.declared.processes.Proc.TheViews.{out-Proc, out-roll-Proc}
 use Rattle.term_pool.proofs.TreeLemmas.{both_so}
 use Rattle.term_pool.proofs.WithinLemmas.{in_left, in_right, in_whole, is_whole}
 use Rattle.term_pool.specs.Pooled.{Has, IsFront, PartsStandBelow, StandBelow, layer_parts, parts}
 use Rattle.term_pool.specs.Put.{Grows, HasAll, StandAt, StandsFor}
-use Rattle.term_pool.specs.Trees.{tree_at, layer_tree, all_below, layer_below}
+use Rattle.term_pool.specs.Trees.{tree_at, layer_tree, all_below}
 use Rattle.term_pool.specs.Within.{AddsOne, IsInOne}
 use Rattle.term_pool.specs.Layers.{Layer}
 use Rattle.term_pool.specs.declared.node.ProcId.{ProcId}

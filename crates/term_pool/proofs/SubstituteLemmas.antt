@@ -1,5 +1,5 @@
 -- What a node becomes where a value is put in for a name: its own parts first, then what stands at its places.
-use Rattle.std.proofs.Common.{◌≡◌, ℕ, zero, suc, ◌+◌, ◌<◌, ◌≤◌, Bool, true, false, ◌&&◌, cond, nat_lt, nat_eq, Some, None, Option, List, [], ◌∷◌, ◌++◌, map, length, get_or, slice_get, take, refl, ap, sym, ◌∙◌, subst, arith}
+use Rattle.std.proofs.Common.{◌≡◌, ℕ, zero, suc, ◌+◌, ◌<◌, Bool, true, false, cond, nat_lt, nat_eq, Some, None, Option, List, [], ◌∷◌, ◌++◌, map, length, get_or, slice_get, take, refl, ap, sym, ◌∙◌, subst, arith}
 use Rattle.std.proofs.lemmas.Bool.{eqb-true, ltb-true, false≢true}
 use Rattle.std.proofs.lemmas.List.{map_more, take-map}
 use Rattle.std.proofs.lemmas.Option.{slice_get-get_or, slice_get_within, get_or_from_slice_get}
@@ -7,7 +7,7 @@ use Rattle.std.specs.Cmp.{first_so, second_so}
 use Rattle.std.specs.HashMap.{HashMap, get, IsEmpty, Updates}
 use Rattle.std.specs.Map.{lookup}
 use Rattle.csp_atoms.specs.declared.value.Value.{Value}
-use Rattle.csp_program.specs.Substitution.{Twice, changed, proc_with, proc_with_of_layer, unless_bound, any_gets, any_binds, all_unless_bound, expr_with, fields_with, head_with, gens_with, pair_twice, gen_twice}
+use Rattle.csp_program.specs.Substitution.{changed, proc_with, proc_with_of_layer, unless_bound, any_binds, all_unless_bound, expr_with, fields_with, head_with, gens_with, pair_twice, gen_twice}
 use Rattle.csp_program.specs.declared.processes.Proc.{Proc}
 use Rattle.csp_program.specs.declared.processes.Proc.TheVariants as proc
 use Rattle.csp_program.specs.declared.processes.Proc.TheFolds.{para-roll-Proc}

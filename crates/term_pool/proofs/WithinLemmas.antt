@@ -1,5 +1,5 @@
 -- What stands in lists of processes and in their processes, and what a list gets at its end.
-use Rattle.std.proofs.Common.{◌≡◌, ◌⊎◌, inl, inr, ℕ, zero, suc, Some, List, [], ◌∷◌, ◌++◌, slice_get, refl, ap, sym, ◌∙◌, subst}
+use Rattle.std.proofs.Common.{◌≡◌, ◌⊎◌, inl, inr, ℕ, zero, suc, Some, List, [], ◌∷◌, ◌++◌, slice_get, refl, subst}
 use Rattle.containers.proofs.MembersLemmas.{slice_get-append_left}
 use Rattle.csp_program.specs.declared.processes.Proc.{Proc}
 use Rattle.term_pool.specs.Pooled.{Has, parts}

@@ -1,6 +1,6 @@
 -- The measures of the processes of a pool: a node's measure is made of that of its own expressions, fields, pairs and generators and of those at
 -- its places.
-use Rattle.std.specs.Prelude.{ℕ, ◌+◌, max, List, [], ◌∷◌, map, slice_index_or}
+use Rattle.std.specs.Prelude.{ℕ, ◌+◌, max, List, map, slice_index_or}
 use Rattle.csp_program.specs.Depth.{expr_depth, field_depth, gen_depth, pair_depth, proc_depth}
 use Rattle.csp_program.specs.Lists.{greatest, total}
 use Rattle.csp_program.specs.Size.{expr_size, field_size, gen_size, pair_size, proc_size}

@@ -1,5 +1,5 @@
 -- The processes that a process is made of: itself, and at any depth the sub-processes. What a list gets where a process is put into it.
-use Rattle.std.specs.Prelude.{◌≡◌, ◌⊎◌, ℕ, zero, suc, List, []}
+use Rattle.std.specs.Prelude.{◌≡◌, ◌⊎◌, ℕ, zero, suc, List}
 use Rattle.csp_program.specs.declared.processes.Proc.{Proc}
 use Rattle.term_pool.specs.Pooled.{Has, parts}
 

@@ -20,11 +20,7 @@ use substitution::{
 };
 
 // The places with another first one.
-fn with_other_first(
-    alloc: Global,
-    ids: &[ProcId],
-    below: ProcId,
-) -> Result<Items<ProcId>, NoMemory>
+fn with_other_first(alloc: Global, ids: &[ProcId], below: ProcId) -> Result<Items<ProcId>, NoMemory>
     ensures { IfOk result (λ made. made ≡ other_first ids.now below) }
 {
     let Some((_, others)) = ids.split_first() else {

@@ -15,8 +15,8 @@ pub mod pool;
 mod put;
 mod store;
 mod substitute;
-mod under;
 pub mod terms;
+mod under;
 
 pub use node::{Node, ProcId};
 pub use pool::Pool;

@@ -60,7 +60,11 @@ pub(crate) fn keep_head(parts: &mut OwnParts, alloc: Global, part: &Head) -> Res
 }
 
 // The number of fields.
-pub(crate) fn keep_fields(parts: &mut OwnParts, alloc: Global, part: &Items<Field>) -> Result<u32, NoMemory>
+pub(crate) fn keep_fields(
+    parts: &mut OwnParts,
+    alloc: Global,
+    part: &Items<Field>,
+) -> Result<u32, NoMemory>
     requires once { ArePartsOnce parts.old }
     ensures once { ArePartsOnce parts.new }
     ensures start { PartsStart parts.old parts.new }
@@ -84,7 +88,11 @@ pub(crate) fn keep_expr(parts: &mut OwnParts, alloc: Global, part: &Expr) -> Res
 }
 
 // The number of arguments.
-pub(crate) fn keep_arguments(parts: &mut OwnParts, alloc: Global, part: &Items<Expr>) -> Result<u32, NoMemory>
+pub(crate) fn keep_arguments(
+    parts: &mut OwnParts,
+    alloc: Global,
+    part: &Items<Expr>,
+) -> Result<u32, NoMemory>
     requires once { ArePartsOnce parts.old }
     ensures once { ArePartsOnce parts.new }
     ensures start { PartsStart parts.old parts.new }
@@ -96,7 +104,11 @@ pub(crate) fn keep_arguments(parts: &mut OwnParts, alloc: Global, part: &Items<E
 }
 
 // The number of pairs.
-pub(crate) fn keep_pairs(parts: &mut OwnParts, alloc: Global, part: &Items<(EventPart, EventPart)>) -> Result<u32, NoMemory>
+pub(crate) fn keep_pairs(
+    parts: &mut OwnParts,
+    alloc: Global,
+    part: &Items<(EventPart, EventPart)>,
+) -> Result<u32, NoMemory>
     requires once { ArePartsOnce parts.old }
     ensures once { ArePartsOnce parts.new }
     ensures start { PartsStart parts.old parts.new }
@@ -108,7 +120,11 @@ pub(crate) fn keep_pairs(parts: &mut OwnParts, alloc: Global, part: &Items<(Even
 }
 
 // The number of generators.
-pub(crate) fn keep_gens(parts: &mut OwnParts, alloc: Global, part: &Items<Gen>) -> Result<u32, NoMemory>
+pub(crate) fn keep_gens(
+    parts: &mut OwnParts,
+    alloc: Global,
+    part: &Items<Gen>,
+) -> Result<u32, NoMemory>
     requires once { ArePartsOnce parts.old }
     ensures once { ArePartsOnce parts.new }
     ensures start { PartsStart parts.old parts.new }
@@ -120,7 +136,11 @@ pub(crate) fn keep_gens(parts: &mut OwnParts, alloc: Global, part: &Items<Gen>) 
 }
 
 // The number of the places of a choice.
-pub(crate) fn keep_choice(parts: &mut OwnParts, alloc: Global, part: &Items<ProcId>) -> Result<u32, NoMemory>
+pub(crate) fn keep_choice(
+    parts: &mut OwnParts,
+    alloc: Global,
+    part: &Items<ProcId>,
+) -> Result<u32, NoMemory>
     requires once { ArePartsOnce parts.old }
     ensures once { ArePartsOnce parts.new }
     ensures start { PartsStart parts.old parts.new }
@@ -200,7 +220,11 @@ pub(crate) fn node_at(parts: &OwnParts, entry: Entry) -> Node<'_>
 {
     match entry {
         Entry::Stop => Node::Stop,
-        Entry::Prefix(head, fields, p) => Node::Prefix(parts.heads.get(head), parts.fields.get(fields), p),
+        Entry::Prefix(head, fields, p) => Node::Prefix(
+            parts.heads.get(head),
+            parts.fields.get(fields),
+            p,
+        ),
         Entry::Guard(c, p) => Node::Guard(parts.exprs.get(c), p),
         Entry::If(c, p, q) => Node::If(parts.exprs.get(c), p, q),
         Entry::External(ids) => Node::External(parts.choices.get(ids)),
@@ -208,7 +232,11 @@ pub(crate) fn node_at(parts: &OwnParts, entry: Entry) -> Node<'_>
         Entry::EachExternal(slot, set, p) => Node::EachExternal(slot, parts.exprs.get(set), p),
         Entry::EachInternal(slot, set, p) => Node::EachInternal(slot, parts.exprs.get(set), p),
         Entry::Hide(p, set) => Node::Hide(p, parts.exprs.get(set)),
-        Entry::Rename(p, pairs, gens) => Node::Rename(p, parts.pairs.get(pairs), parts.gens.get(gens)),
+        Entry::Rename(p, pairs, gens) => Node::Rename(
+            p,
+            parts.pairs.get(pairs),
+            parts.gens.get(gens),
+        ),
         Entry::Call(definition, args) => Node::Call(definition, parts.arguments.get(args)),
         Entry::Skip => Node::Skip,
         Entry::Seq(p, q) => Node::Seq(p, q),

@@ -121,7 +121,13 @@ impl Pool {
         ensures err { OnErr result (self.new ≡ self.old) }
         ensures err_only_new { OnErr result (Has self.old (tree_of self.old node.entry) → ⊥) }
     {
-        put_in(&mut self.parts, &mut self.entries, &mut self.measures, self.alloc, node)
+        put_in(
+            &mut self.parts,
+            &mut self.entries,
+            &mut self.measures,
+            self.alloc,
+            node,
+        )
     }
 
     /// The place of the process at `id` with the process at `below` in place of its first sub-process; where it has none, of the process itself.
@@ -135,7 +141,14 @@ impl Pool {
         ensures only { AddsOne self.old self.new (with_first (tree_at self.old id) (tree_at self.old below)) }
         ensures err { OnErr result (self.new ≡ self.old) }
     {
-        put_first_in(&mut self.parts, &mut self.entries, &mut self.measures, self.alloc, id, below)
+        put_first_in(
+            &mut self.parts,
+            &mut self.entries,
+            &mut self.measures,
+            self.alloc,
+            id,
+            below,
+        )
     }
 
     /// The place of what the process at `id` becomes with the value in place of the name, where `ids` are the places of what its sub-processes become.
@@ -153,7 +166,16 @@ impl Pool {
         ensures known { Has self.old (proc_with name value.now (tree_at self.old id)) → self.new ≡ self.old }
         ensures only { AddsOne self.old self.new (proc_with name value.now (tree_at self.old id)) }
     {
-        put_made_in(&mut self.parts, &mut self.entries, &mut self.measures, self.alloc, id, ids, name, value)
+        put_made_in(
+            &mut self.parts,
+            &mut self.entries,
+            &mut self.measures,
+            self.alloc,
+            id,
+            ids,
+            name,
+            value,
+        )
     }
 
     /// The place of the process, which is put into the pool with its sub-processes, each of them once. Where memory fails some of them are put.
@@ -188,4 +210,3 @@ impl Pool {
         self.alloc
     }
 }
-

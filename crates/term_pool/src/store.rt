@@ -15,6 +15,7 @@ use std::marker::Model;
 /// What a node keeps beside the places of its sub-processes: expressions, fields, pairs and the like.
 pub(crate) trait Part: Exact + Hash + Drop {
     ghost depth: { Self → ℕ };
+
     ghost size: { Self → ℕ };
 
     /// The same part, in memory of its own.

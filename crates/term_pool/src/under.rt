@@ -83,7 +83,12 @@ fn binds_name(node: Node<'_>, name: u32) -> bool
 }
 
 /// What stands below the node at a place.
-pub(crate) fn under_node(pool: &Pool, alloc: Global, id: ProcId, name: u32) -> Result<Under, NoMemory>
+pub(crate) fn under_node(
+    pool: &Pool,
+    alloc: Global,
+    id: ProcId,
+    name: u32,
+) -> Result<Under, NoMemory>
     requires { id.0 < length pool.now }
     ensures { IfOk result (λ below. IsUnder name pool.now id below) }
 {

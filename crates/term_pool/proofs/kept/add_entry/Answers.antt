@@ -1,7 +1,7 @@
 -- A new entry is kept with its measure.
 use Rattle.std.proofs.Common.{◌≡◌, List, [], ◌∷◌, ◌++◌, Some, slice_get, sym, ap, ◌∙◌, subst}
 use Rattle.std.specs.Prelude.{if◌then◌else◌, Ok}
-use Rattle.term_pool.proofs.KeptLemmas.{kept_push, puts_push, measures_below}
+use Rattle.term_pool.proofs.KeptLemmas.{kept_push, puts_push}
 use Rattle.term_pool.specs.Entries.{entry_layer}
 use Rattle.term_pool.specs.Held.{processes, IsKept, Puts}
 use Rattle.term_pool.specs.Measured.{node_depth, node_size}

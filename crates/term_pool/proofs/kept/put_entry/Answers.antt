@@ -1,6 +1,5 @@
 -- An entry that is known keeps its place.
-use Rattle.std.proofs.Common.{◌≡◌, false, None, ap, sym, ◌∙◌}
-use Rattle.std.specs.Prelude.{is_some}
+use Rattle.std.proofs.Common.{sym}
 use Rattle.term_pool.proofs.KeptLemmas.{on_err, puts_there, puts_unknown}
 use Rattle.term_pool.specs.Entries.{entry_layer}
 use Rattle.term_pool.specs.Held.{processes}

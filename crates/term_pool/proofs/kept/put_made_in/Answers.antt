@@ -3,7 +3,7 @@ use Rattle.csp_program.specs.Substitution.{proc_with}
 use Rattle.term_pool.proofs.EntryLemmas.{starts_both}
 use Rattle.term_pool.proofs.KeptLemmas.{below_more, kept_more, moved_as, puts_as, puts_nothing}
 use Rattle.term_pool.proofs.SubstituteLemmas.{stands_made}
-use Rattle.term_pool.specs.Entries.{entry_layer, PartsStart}
+use Rattle.term_pool.specs.Entries.{entry_layer}
 use Rattle.term_pool.specs.Held.{processes}
 use Rattle.term_pool.specs.Moved.{moved}
 use Rattle.term_pool.specs.Substituted.{own_with}

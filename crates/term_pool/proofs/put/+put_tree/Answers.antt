@@ -1,11 +1,11 @@
 -- The list grows by the sub-processes of each form, and the layer over their places stands for it.
-use Rattle.std.proofs.Common.{◌≡◌, ℕ, ◌+◌, List, [], ◌∷◌, ◌++◌, Some, take, drop, length, slice_get, refl, ap, sym, ◌∙◌, subst}
+use Rattle.std.proofs.Common.{◌+◌, List, [], ◌∷◌, Some, take, ap, sym, ◌∙◌, subst}
 use Rattle.csp_program.specs.declared.processes.Proc.{Proc}
 use Rattle.csp_program.specs.declared.processes.Proc.TheVariants as proc
 use Rattle.term_pool.proofs.OverLemmas as over
 use Rattle.term_pool.proofs.PutLemmas as lemmas
 use Rattle.term_pool.specs.Layers.{Layer, shown}
-use Rattle.term_pool.specs.Put.{Grows, StandAt, StandsFor}
+use Rattle.term_pool.specs.Put.{StandAt, StandsFor}
 use Rattle.term_pool.specs.declared.node.ProcId.{ProcId}
 use Rattle.term_pool.proofs.put.+put_tree.Goals as goal
 

@@ -1,5 +1,5 @@
 -- What a process becomes: from its own parts, and from what its sub-processes became.
-use Rattle.std.proofs.Common.{◌≡◌, ◌+◌, ◌<◌, List, Some, map, take, ap, sym, ◌∙◌, subst, arith}
+use Rattle.std.proofs.Common.{◌+◌, List, Some, map, take, ap, sym, ◌∙◌, subst, arith}
 use Rattle.csp_program.specs.Substitution.{proc_with}
 use Rattle.csp_program.specs.declared.processes.Proc.{Proc}
 use Rattle.term_pool.proofs.SubstituteLemmas as made
@@ -61,12 +61,12 @@ put_layer-put_made-requires t c =
 
 pub put_layer-returns-in_err-made-clause-grows : goal.put_layer-returns-in_err-made-clause-grows
 put_layer-returns-in_err-made-clause-grows t c =
-    made.layer_grows c.args.name c.args.value.now c.args.pool.now c.put_below.new.pool c.put_made.new.pool c.args.id c.requires.within c.in_ok-ids.ensures.grows
+    made.layer_grows c.args.name c.args.value.now c.args.pool.now c.put_below.new.pool c.put_made.new.self c.args.id c.requires.within c.in_ok-ids.ensures.grows
     c.in_err-made.ensures.front c.in_err-made.ensures.known c.in_err-made.ensures.only
 
 pub put_layer-returns-clause-grows : goal.put_layer-returns-clause-grows
 put_layer-returns-clause-grows t c =
-    made.layer_grows c.args.name c.args.value.now c.args.pool.now c.put_below.new.pool c.put_made.new.pool c.args.id c.requires.within c.in_ok-ids.ensures.grows
+    made.layer_grows c.args.name c.args.value.now c.args.pool.now c.put_below.new.pool c.put_made.new.self c.args.id c.requires.within c.in_ok-ids.ensures.grows
     c.in_ok-made.ensures.front c.in_ok-made.ensures.known c.in_ok-made.ensures.only
 
 pub put_layer-returns-clause-process : goal.put_layer-returns-clause-process
@@ -76,11 +76,11 @@ put_layer-returns-clause-process t c =
 
 pub put_layer-returns-in_err-made-clause-visited : goal.put_layer-returns-in_err-made-clause-visited
 put_layer-returns-in_err-made-clause-visited t c =
-    made.all_still_made c.args.name c.args.value.now c.put_below.new.pool c.put_made.new.pool c.in_err-made.ensures.front c.put_below.new.visited c.in_ok-ids.ensures.visited
+    made.all_still_made c.args.name c.args.value.now c.put_below.new.pool c.put_made.new.self c.in_err-made.ensures.front c.put_below.new.visited c.in_ok-ids.ensures.visited
 
 pub put_layer-returns-clause-visited : goal.put_layer-returns-clause-visited
 put_layer-returns-clause-visited t c =
-    made.all_still_made c.args.name c.args.value.now c.put_below.new.pool c.put_made.new.pool c.in_ok-made.ensures.front c.put_below.new.visited c.in_ok-ids.ensures.visited
+    made.all_still_made c.args.name c.args.value.now c.put_below.new.pool c.put_made.new.self c.in_ok-made.ensures.front c.put_below.new.visited c.in_ok-ids.ensures.visited
 
 pub put_below-returns-then-bound-clause-places : goal.put_below-returns-then-bound-clause-places
 put_below-returns-then-bound-clause-places t c =

@@ -1,5 +1,5 @@
 -- What is put into the entries, as the list of processes says it.
-use Rattle.std.proofs.Common.{◌≡◌, ◌<◌, true, List, length, ap, sym, subst}
+use Rattle.std.proofs.Common.{◌≡◌, true, List, length, ap, sym, subst}
 use Rattle.std.specs.Prelude.{OnErr}
 use Rattle.csp_program.specs.declared.processes.Proc.{Proc}
 use Rattle.term_pool.proofs.KeptLemmas.{puts_seen}

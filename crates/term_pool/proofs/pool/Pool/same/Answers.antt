@@ -1,11 +1,10 @@
 -- A process stands at one place.
-use Rattle.std.proofs.Common.{◌≡◌, ℕ, zero, suc, ◌<◌, Bool, true, false, nat_eq, IsTrue, Some, List, [], ◌∷◌, length, refl, sym, ap, ◌∙◌, arith}
+use Rattle.std.proofs.Common.{◌≡◌, ℕ, zero, suc, ◌<◌, Some, List, [], ◌∷◌, length, refl, sym, ap, ◌∙◌, arith}
 use Rattle.std.specs.Prelude.{slice_get, slice_index_or}
 use Rattle.std.proofs.lemmas.Bool.{eq-eqb, eqb-true}
 use Rattle.csp_program.specs.declared.processes.Proc.{Proc}
 use Rattle.csp_program.specs.declared.processes.Proc.TheVariants as proc
 use Rattle.term_pool.specs.Trees.{tree_at}
-use Rattle.term_pool.specs.declared.node.ProcId.{ProcId}
 use Rattle.term_pool.proofs.pool.Pool.same.Goals as goal
 
 there : (trees : List Proc) (k : ℕ) (t : Proc) → k < length trees → slice_get trees k ≡ Some (slice_index_or trees k t)
