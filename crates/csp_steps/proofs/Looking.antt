@@ -14,6 +14,7 @@ use Rattle.csp_program.specs.declared.processes.Proc.TheViews.{out-Proc}
 use Rattle.std.specs.Prelude.{Result}
 use Rattle.std.specs.Result.{IsErrAnd}
 use Rattle.term_pool.proofs.NodeLemmas.{layer_of, layer_out}
+use Rattle.term_pool.specs.Layers.{shown}
 use Rattle.term_pool.specs.declared.node.Node.{Node}
 use Rattle.process_steps.specs.Prefix.{Choice}
 use Rattle.step_values.specs.Starts.{GivesStart}
@@ -66,9 +67,9 @@ around_steps p trees mid id t u below slice h is e same =
 
 -- an operator round the process of a node
 pub around_node : (p : Content) (trees new : List Proc) (r : Result (List StepTo) EvalFault) (n m : Node) (t : Proc) (moves : List Move) → tree_of trees n ≡ t → n ≡ m
-    → GivesMoves new r (around_layer p (layer_of trees m) moves) → GivesMoves new r (around p t moves)
+    → GivesMoves new r (around_layer p (layer_of trees (shown m)) moves) → GivesMoves new r (around p t moves)
 around_node p trees new r n m t moves e is h =
-    subst (λ (d : Proc-F Proc). GivesMoves new r (around_layer p d moves)) (sym (layer_out trees m) ∙ (ap (λ (k : Node). out-Proc (tree_of trees k)) (sym is) ∙ ap out-Proc e)) h
+    subst (λ (d : Proc-F Proc). GivesMoves new r (around_layer p d moves)) (sym (layer_out trees (shown m)) ∙ (ap (λ (k : Node). out-Proc (tree_of trees k)) (sym is) ∙ ap out-Proc e)) h
 
 -- no steps
 pub none_listed : (trees : List Proc) (steps : List StepTo) (o : Outcome (List Move)) → steps ≡ [] → o ≡ Ok [] → IsListing trees steps o

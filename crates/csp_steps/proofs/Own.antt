@@ -28,8 +28,6 @@ use Rattle.term_pool.specs.First.{layer_with_first, with_first}
 use Rattle.term_pool.specs.Pooled.{IsFront}
 use Rattle.term_pool.specs.Trees.{tree_at, tree_of}
 use Rattle.term_pool.specs.declared.node.Node.{Node}
-use Rattle.term_pool.specs.declared.node.Node.TheVariants as node
-use Rattle.term_pool.specs.declared.node.ProcId.{ProcId}
 use Rattle.value_operators.specs.declared.fault.EvalFault.{EvalFault}
 use Rattle.value_operators.specs.declared.fault.EvalFault.TheVariants as fault
 use Rattle.csp_steps.specs.Computed.{around, around_layer, AreMoves, GivesMoves, hidden_move, IsListing, renamed_moves}
@@ -170,9 +168,9 @@ renames_pairs p t q pairs gens e = ap (λ (u : Proc). renamed_by p (out-Proc u))
 pub of_node : (trees : List Proc) (n m : Node) (t : Proc) → tree_of trees n ≡ t → n ≡ m → t ≡ tree_of trees m
 of_node trees n m t e is = sym e ∙ ap (tree_of trees) is
 
-pub renames : (trees : List Proc) (n : Node) (t : Proc) (id : ProcId) (pairs ps : List (EventPart × EventPart)) (gens gs : List Gen) → tree_of trees n ≡ t → n ≡ node.Rename id pairs gens → ps ≡ pairs → gs ≡ gens
-    → t ≡ proc.Rename (tree_at trees id) ps gs
-renames trees n t id pairs ps gens gs e is same alike = of_node trees n (node.Rename id pairs gens) t e is ∙ (λ i. proc.Rename (tree_at trees id) (sym same i) (sym alike i))
+pub renames : (trees : List Proc) (n m : Node) (t q : Proc) (pairs ps : List (EventPart × EventPart)) (gens gs : List Gen) → tree_of trees n ≡ t → n ≡ m → tree_of trees m ≡ proc.Rename q pairs gens → ps ≡ pairs → gs ≡ gens
+    → t ≡ proc.Rename q ps gs
+renames trees n m t q pairs ps gens gs e is form same alike = of_node trees n m t e is ∙ (form ∙ (λ i. proc.Rename q (sym same i) (sym alike i)))
 
 -- the steps of a hiding
 module _ (p : Content) (t q : Proc) (s : Expr) (e : t ≡ proc.Hide q s) (moves : List Move) where

@@ -325,7 +325,6 @@ pub(crate) fn around(
             Ok(steps)
         }
         Node::Seq(_, second) => {
-            let second = *second;
             let steps = sequence(alloc, pool, second, below)?;
             Ok(steps)
         }

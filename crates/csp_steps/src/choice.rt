@@ -67,7 +67,7 @@ fn with_operand(
     ensures front { IsFront pool.old pool.new }
 {
     let operands = with_place(alloc, ids, index, id)?;
-    let made = pool.put_node(Node::External(operands))?;
+    let made = pool.put_node(Node::External(&operands))?;
     Ok(made)
 }
 

@@ -200,36 +200,30 @@ pub(crate) fn look_at(
             Ok(Look::Steps(none))
         }
         Node::Skip => look_skip(alloc, pool),
-        Node::Guard(c, below) => look_guard(alloc, program, c, *below),
-        Node::If(c, first, second) => look_if(alloc, program, c, *first, *second),
+        Node::Guard(c, below) => look_guard(alloc, program, c, below),
+        Node::If(c, first, second) => look_if(alloc, program, c, first, second),
         Node::Internal(ids) => look_internal(alloc, ids.as_slice()),
         Node::External(ids) => {
             let ids = Items::from_slice(alloc, ids.as_slice())?;
             Ok(Look::Choice(ids))
         }
-        Node::Hide(below, _) => Ok(Look::Around(*below)),
-        Node::Rename(below, _, _) => Ok(Look::Around(*below)),
-        Node::Seq(first, _) => Ok(Look::Around(*first)),
+        Node::Hide(below, _) => Ok(Look::Around(below)),
+        Node::Rename(below, _, _) => Ok(Look::Around(below)),
+        Node::Seq(first, _) => Ok(Look::Around(first)),
         Node::Prefix(head, fields, to) => {
-            let to = *to;
             let start = of_head(program, head)?;
             let fields = copy_fields(alloc, fields.as_slice())?;
             look_prefix(alloc, program, pool, &start, fields.as_slice(), to)
         }
         Node::EachExternal(name, set, below) => {
-            let name = *name;
-            let below = *below;
             let atoms = set_in(alloc, program, set)?;
             look_each_external(alloc, pool, name, atoms.as_slice(), below)
         }
         Node::EachInternal(name, set, below) => {
-            let name = *name;
-            let below = *below;
             let atoms = set_in(alloc, program, set)?;
             look_each_internal(alloc, pool, name, atoms.as_slice(), below)
         }
         Node::Call(def, args) => {
-            let def = *def;
             let values = arguments_in(alloc, program, args.as_slice())?;
             look_call(alloc, program, pool, evaluated, def, values.as_slice())
         }

@@ -17,7 +17,7 @@ use Rattle.csp_tables.specs.Path.{Path}
 use Rattle.csp_tables.specs.Network.{Component, ComponentStep}
 use Rattle.csp_tables.specs.RawTable.{EachOnce, IsInTable, IsStepOf, RawStep, RawTable, standing_at}
 use Rattle.process_steps.specs.ComponentStep.{ProcessStep}
-use Rattle.term_pool.specs.ExactNode.{eq_id}
+use Rattle.term_pool.specs.ExactId.{eq_id}
 use Rattle.term_pool.specs.Pooled.{AreDifferent, IsFront}
 use Rattle.term_pool.specs.Trees.{tree_at}
 use Rattle.term_pool.specs.declared.node.ProcId.{ProcId}

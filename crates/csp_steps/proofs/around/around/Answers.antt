@@ -13,54 +13,54 @@ use Rattle.csp_steps.proofs.around.around.Goals as goal
 
 pub returns-in_err-number-in-Hide-clause-steps : goal.returns-in_err-number-in-Hide-clause-steps
 returns-in_err-number-in-Hide-clause-steps c =
-    let is = (of_node c.args.pool.now c.node.result.now _ (tree_at c.args.pool.now c.args.id) c.node.ensures.process c.in-Hide.is) in
-    let answer = c.in_err-number-in-Hide.ensures c.args.pool.now c.requires.within (hides_set c.args.program.now (tree_at c.args.pool.now c.args.id) _ c.in-Hide.set is) c.requires.fits in
-    number_passed c.args.program.now c.args.pool.now c.hidden_number.new.evaluated c.hidden_number.new.evaluated.sets _ (events_in c.args.program.now c.in-Hide.set) c.args.pool.now _ _ _
-    c.from_residual.ensures.1 answer (hide_fault c.args.program.now (tree_at c.args.pool.now c.args.id) _ c.in-Hide.set is (map (seen c.args.pool.now) c.args.below.now))
+    let is = (of_node c.args.pool.now c.node.result _ (tree_at c.args.pool.now c.args.id) c.node.ensures.process c.in-Hide.is) in
+    let answer = c.in_err-number-in-Hide.ensures c.args.pool.now c.requires.within (hides_set c.args.program.now (tree_at c.args.pool.now c.args.id) _ c.in-Hide.set.now is) c.requires.fits in
+    number_passed c.args.program.now c.args.pool.now c.hidden_number.new.evaluated c.hidden_number.new.evaluated.sets _ (events_in c.args.program.now c.in-Hide.set.now) c.args.pool.now _ _ _
+    c.from_residual.ensures.1 answer (hide_fault c.args.program.now (tree_at c.args.pool.now c.args.id) _ c.in-Hide.set.now is (map (seen c.args.pool.now) c.args.below.now))
 
 pub hide-requires-clause-number : goal.hide-requires-clause-number
 hide-requires-clause-number c =
-    let is = (of_node c.args.pool.now c.node.result.now _ (tree_at c.args.pool.now c.args.id) c.node.ensures.process c.in-Hide.is) in
-    let answer = c.in_ok-number-in-Hide.ensures c.args.pool.now c.requires.within (hides_set c.args.program.now (tree_at c.args.pool.now c.args.id) _ c.in-Hide.set is) c.requires.fits in
+    let is = (of_node c.args.pool.now c.node.result _ (tree_at c.args.pool.now c.args.id) c.node.ensures.process c.in-Hide.is) in
+    let answer = c.in_ok-number-in-Hide.ensures c.args.pool.now c.requires.within (hides_set c.args.program.now (tree_at c.args.pool.now c.args.id) _ c.in-Hide.set.now is) c.requires.fits in
     slice_get_within _ _ _ answer.has.listed
 
 pub returns-in_ok-steps-in-Hide-clause-steps : goal.returns-in_ok-steps-in-Hide-clause-steps
 returns-in_ok-steps-in-Hide-clause-steps c =
-    let is = (of_node c.args.pool.now c.node.result.now _ (tree_at c.args.pool.now c.args.id) c.node.ensures.process c.in-Hide.is) in
-    let answer = c.in_ok-number-in-Hide.ensures c.args.pool.now c.requires.within (hides_set c.args.program.now (tree_at c.args.pool.now c.args.id) _ c.in-Hide.set is) c.requires.fits in
-    hide_steps c.args.program.now (tree_at c.args.pool.now c.args.id) _ c.in-Hide.set is (map (seen c.args.pool.now) c.args.below.now) c.hide.new.pool answer.has.value c.in_ok-steps-in-Hide.steps answer.has.holds
+    let is = (of_node c.args.pool.now c.node.result _ (tree_at c.args.pool.now c.args.id) c.node.ensures.process c.in-Hide.is) in
+    let answer = c.in_ok-number-in-Hide.ensures c.args.pool.now c.requires.within (hides_set c.args.program.now (tree_at c.args.pool.now c.args.id) _ c.in-Hide.set.now is) c.requires.fits in
+    hide_steps c.args.program.now (tree_at c.args.pool.now c.args.id) _ c.in-Hide.set.now is (map (seen c.args.pool.now) c.args.below.now) c.hide.new.pool answer.has.value c.in_ok-steps-in-Hide.steps answer.has.holds
     (c.in_ok-steps-in-Hide.ensures.steps answer.has.value answer.has.listed)
 
 pub returns-in_ok-steps-in-Hide-clause-fits : goal.returns-in_ok-steps-in-Hide-clause-fits
 returns-in_ok-steps-in-Hide-clause-fits c =
-    let is = (of_node c.args.pool.now c.node.result.now _ (tree_at c.args.pool.now c.args.id) c.node.ensures.process c.in-Hide.is) in
-    let hides = hides_set c.args.program.now (tree_at c.args.pool.now c.args.id) _ c.in-Hide.set is in
+    let is = (of_node c.args.pool.now c.node.result _ (tree_at c.args.pool.now c.args.id) c.node.ensures.process c.in-Hide.is) in
+    let hides = hides_set c.args.program.now (tree_at c.args.pool.now c.args.id) _ c.in-Hide.set.now is in
     let answer = c.in_ok-number-in-Hide.ensures c.args.pool.now c.requires.within hides c.requires.fits in
     c.in_ok-steps-in-Hide.ensures.fits c.args.program.now answer.has.value answer.has.listed (hides ∙ answer.has.holds) answer.fits
 
 pub returns-in_err-number-in-Rename-clause-steps : goal.returns-in_err-number-in-Rename-clause-steps
 returns-in_err-number-in-Rename-clause-steps c =
-    let is = renames c.args.pool.now c.node.result.now (tree_at c.args.pool.now c.args.id) c.in-Rename.field-0 c.in-Rename.pairs c.as_slice.result.now c.in-Rename.gens c.as_slice-in-Rename.result.now c.node.ensures.process c.in-Rename.is c.as_slice.ensures c.as_slice-in-Rename.ensures in
+    let is = renames c.args.pool.now c.node.result _ (tree_at c.args.pool.now c.args.id) (tree_at c.args.pool.now c.in-Rename.field-0) c.in-Rename.pairs.now c.as_slice.result.now c.in-Rename.gens.now c.as_slice-in-Rename.result.now c.node.ensures.process c.in-Rename.is refl c.as_slice.ensures c.as_slice-in-Rename.ensures in
     let answer = c.in_err-number-in-Rename.ensures c.args.pool.now c.requires.within (renames_pairs c.args.program.now (tree_at c.args.pool.now c.args.id) _ c.as_slice.result.now c.as_slice-in-Rename.result.now is) c.requires.fits in
     number_passed c.args.program.now c.args.pool.now c.renamed_number.new.evaluated c.renamed_number.new.evaluated.images _ (renaming_in c.args.program.now c.as_slice.result.now c.as_slice-in-Rename.result.now) c.args.pool.now _ _ _
     c.from_residual-in_err-number-in-Rename.ensures.1 answer (rename_fault c.args.program.now (tree_at c.args.pool.now c.args.id) _ c.as_slice.result.now c.as_slice-in-Rename.result.now is (map (seen c.args.pool.now) c.args.below.now))
 
 pub rename-requires-clause-number : goal.rename-requires-clause-number
 rename-requires-clause-number c =
-    let is = renames c.args.pool.now c.node.result.now (tree_at c.args.pool.now c.args.id) c.in-Rename.field-0 c.in-Rename.pairs c.as_slice.result.now c.in-Rename.gens c.as_slice-in-Rename.result.now c.node.ensures.process c.in-Rename.is c.as_slice.ensures c.as_slice-in-Rename.ensures in
+    let is = renames c.args.pool.now c.node.result _ (tree_at c.args.pool.now c.args.id) (tree_at c.args.pool.now c.in-Rename.field-0) c.in-Rename.pairs.now c.as_slice.result.now c.in-Rename.gens.now c.as_slice-in-Rename.result.now c.node.ensures.process c.in-Rename.is refl c.as_slice.ensures c.as_slice-in-Rename.ensures in
     let answer = c.in_ok-number-in-Rename.ensures c.args.pool.now c.requires.within (renames_pairs c.args.program.now (tree_at c.args.pool.now c.args.id) _ c.as_slice.result.now c.as_slice-in-Rename.result.now is) c.requires.fits in
     slice_get_within _ _ _ answer.has.listed
 
 pub returns-in_ok-steps-in-Rename-clause-steps : goal.returns-in_ok-steps-in-Rename-clause-steps
 returns-in_ok-steps-in-Rename-clause-steps c =
-    let is = renames c.args.pool.now c.node.result.now (tree_at c.args.pool.now c.args.id) c.in-Rename.field-0 c.in-Rename.pairs c.as_slice.result.now c.in-Rename.gens c.as_slice-in-Rename.result.now c.node.ensures.process c.in-Rename.is c.as_slice.ensures c.as_slice-in-Rename.ensures in
+    let is = renames c.args.pool.now c.node.result _ (tree_at c.args.pool.now c.args.id) (tree_at c.args.pool.now c.in-Rename.field-0) c.in-Rename.pairs.now c.as_slice.result.now c.in-Rename.gens.now c.as_slice-in-Rename.result.now c.node.ensures.process c.in-Rename.is refl c.as_slice.ensures c.as_slice-in-Rename.ensures in
     let answer = c.in_ok-number-in-Rename.ensures c.args.pool.now c.requires.within (renames_pairs c.args.program.now (tree_at c.args.pool.now c.args.id) _ c.as_slice.result.now c.as_slice-in-Rename.result.now is) c.requires.fits in
     rename_steps c.args.program.now (tree_at c.args.pool.now c.args.id) _ c.as_slice.result.now c.as_slice-in-Rename.result.now is (map (seen c.args.pool.now) c.args.below.now) c.rename.new.pool answer.has.value c.in_ok-steps-in-Rename.steps answer.has.holds
     (c.in_ok-steps-in-Rename.ensures.steps answer.has.value answer.has.listed)
 
 pub returns-in_ok-steps-in-Rename-clause-fits : goal.returns-in_ok-steps-in-Rename-clause-fits
 returns-in_ok-steps-in-Rename-clause-fits c =
-    let is = renames c.args.pool.now c.node.result.now (tree_at c.args.pool.now c.args.id) c.in-Rename.field-0 c.in-Rename.pairs c.as_slice.result.now c.in-Rename.gens c.as_slice-in-Rename.result.now c.node.ensures.process c.in-Rename.is c.as_slice.ensures c.as_slice-in-Rename.ensures in
+    let is = renames c.args.pool.now c.node.result _ (tree_at c.args.pool.now c.args.id) (tree_at c.args.pool.now c.in-Rename.field-0) c.in-Rename.pairs.now c.as_slice.result.now c.in-Rename.gens.now c.as_slice-in-Rename.result.now c.node.ensures.process c.in-Rename.is refl c.as_slice.ensures c.as_slice-in-Rename.ensures in
     let same = renames_pairs c.args.program.now (tree_at c.args.pool.now c.args.id) _ c.as_slice.result.now c.as_slice-in-Rename.result.now is in
     let answer = c.in_ok-number-in-Rename.ensures c.args.pool.now c.requires.within same c.requires.fits in
     c.in_ok-steps-in-Rename.ensures.fits c.args.program.now answer.has.value answer.has.listed (record { renamed = answer.has.holds.renamed; same = same ∙ answer.has.holds.same; keeps = answer.has.holds.keeps }) answer.fits
@@ -70,60 +70,60 @@ returns-in_ok-steps-in-Seq-clause-fits c = fits_stay c.args.program.now c.args.p
 
 pub returns-in_ok-steps-in-Seq-clause-steps : goal.returns-in_ok-steps-in-Seq-clause-steps
 returns-in_ok-steps-in-Seq-clause-steps c =
-    around_node c.args.program.now c.args.pool.now c.sequence.new.pool (Ok c.in_ok-steps-in-Seq.steps) c.node.result.now _ (tree_at c.args.pool.now c.args.id) (map (seen c.args.pool.now) c.args.below.now) c.node.ensures.process c.in-Seq.is
+    around_node c.args.program.now c.args.pool.now c.sequence.new.pool (Ok c.in_ok-steps-in-Seq.steps) c.node.result _ (tree_at c.args.pool.now c.args.id) (map (seen c.args.pool.now) c.args.below.now) c.node.ensures.process c.in-Seq.is
     (listing c.sequence.new.pool c.in_ok-steps-in-Seq.steps (map (λ m. in_sequence (tree_at c.args.pool.now c.in-Seq.second) m.0 m.1) (map (seen c.args.pool.now) c.args.below.now)) _ refl c.in_ok-steps-in-Seq.ensures.steps)
 
 pub returns-in-Stop-clause-steps : goal.returns-in-Stop-clause-steps
 returns-in-Stop-clause-steps c =
-    around_node c.args.program.now c.args.pool.now c.args.pool.now (Ok c.new.result) c.node.result.now _ (tree_at c.args.pool.now c.args.id) (map (seen c.args.pool.now) c.args.below.now) c.node.ensures.process c.in-Stop.is
+    around_node c.args.program.now c.args.pool.now c.args.pool.now (Ok c.new.result) c.node.result _ (tree_at c.args.pool.now c.args.id) (map (seen c.args.pool.now) c.args.below.now) c.node.ensures.process c.in-Stop.is
     (none_listed c.args.pool.now c.new.result (Ok []) c.new.ensures refl)
 
 pub returns-in-Prefix-clause-steps : goal.returns-in-Prefix-clause-steps
 returns-in-Prefix-clause-steps c =
-    around_node c.args.program.now c.args.pool.now c.args.pool.now (Ok c.new-in-Prefix.result) c.node.result.now _ (tree_at c.args.pool.now c.args.id) (map (seen c.args.pool.now) c.args.below.now) c.node.ensures.process c.in-Prefix.is
+    around_node c.args.program.now c.args.pool.now c.args.pool.now (Ok c.new-in-Prefix.result) c.node.result _ (tree_at c.args.pool.now c.args.id) (map (seen c.args.pool.now) c.args.below.now) c.node.ensures.process c.in-Prefix.is
     (none_listed c.args.pool.now c.new-in-Prefix.result (Ok []) c.new-in-Prefix.ensures refl)
 
 pub returns-in-Guard-clause-steps : goal.returns-in-Guard-clause-steps
 returns-in-Guard-clause-steps c =
-    around_node c.args.program.now c.args.pool.now c.args.pool.now (Ok c.new-in-Guard.result) c.node.result.now _ (tree_at c.args.pool.now c.args.id) (map (seen c.args.pool.now) c.args.below.now) c.node.ensures.process c.in-Guard.is
+    around_node c.args.program.now c.args.pool.now c.args.pool.now (Ok c.new-in-Guard.result) c.node.result _ (tree_at c.args.pool.now c.args.id) (map (seen c.args.pool.now) c.args.below.now) c.node.ensures.process c.in-Guard.is
     (none_listed c.args.pool.now c.new-in-Guard.result (Ok []) c.new-in-Guard.ensures refl)
 
 pub returns-in-If-clause-steps : goal.returns-in-If-clause-steps
 returns-in-If-clause-steps c =
-    around_node c.args.program.now c.args.pool.now c.args.pool.now (Ok c.new-in-If.result) c.node.result.now _ (tree_at c.args.pool.now c.args.id) (map (seen c.args.pool.now) c.args.below.now) c.node.ensures.process c.in-If.is
+    around_node c.args.program.now c.args.pool.now c.args.pool.now (Ok c.new-in-If.result) c.node.result _ (tree_at c.args.pool.now c.args.id) (map (seen c.args.pool.now) c.args.below.now) c.node.ensures.process c.in-If.is
     (none_listed c.args.pool.now c.new-in-If.result (Ok []) c.new-in-If.ensures refl)
 
 pub returns-in-External-clause-steps : goal.returns-in-External-clause-steps
 returns-in-External-clause-steps c =
-    around_node c.args.program.now c.args.pool.now c.args.pool.now (Ok c.new-in-External.result) c.node.result.now _ (tree_at c.args.pool.now c.args.id) (map (seen c.args.pool.now) c.args.below.now) c.node.ensures.process c.in-External.is
+    around_node c.args.program.now c.args.pool.now c.args.pool.now (Ok c.new-in-External.result) c.node.result _ (tree_at c.args.pool.now c.args.id) (map (seen c.args.pool.now) c.args.below.now) c.node.ensures.process c.in-External.is
     (none_listed c.args.pool.now c.new-in-External.result (Ok []) c.new-in-External.ensures refl)
 
 pub returns-in-Internal-clause-steps : goal.returns-in-Internal-clause-steps
 returns-in-Internal-clause-steps c =
-    around_node c.args.program.now c.args.pool.now c.args.pool.now (Ok c.new-in-Internal.result) c.node.result.now _ (tree_at c.args.pool.now c.args.id) (map (seen c.args.pool.now) c.args.below.now) c.node.ensures.process c.in-Internal.is
+    around_node c.args.program.now c.args.pool.now c.args.pool.now (Ok c.new-in-Internal.result) c.node.result _ (tree_at c.args.pool.now c.args.id) (map (seen c.args.pool.now) c.args.below.now) c.node.ensures.process c.in-Internal.is
     (none_listed c.args.pool.now c.new-in-Internal.result (Ok []) c.new-in-Internal.ensures refl)
 
 pub returns-in-EachExternal-clause-steps : goal.returns-in-EachExternal-clause-steps
 returns-in-EachExternal-clause-steps c =
-    around_node c.args.program.now c.args.pool.now c.args.pool.now (Ok c.new-in-EachExternal.result) c.node.result.now _ (tree_at c.args.pool.now c.args.id) (map (seen c.args.pool.now) c.args.below.now) c.node.ensures.process c.in-EachExternal.is
+    around_node c.args.program.now c.args.pool.now c.args.pool.now (Ok c.new-in-EachExternal.result) c.node.result _ (tree_at c.args.pool.now c.args.id) (map (seen c.args.pool.now) c.args.below.now) c.node.ensures.process c.in-EachExternal.is
     (none_listed c.args.pool.now c.new-in-EachExternal.result (Ok []) c.new-in-EachExternal.ensures refl)
 
 pub returns-in-EachInternal-clause-steps : goal.returns-in-EachInternal-clause-steps
 returns-in-EachInternal-clause-steps c =
-    around_node c.args.program.now c.args.pool.now c.args.pool.now (Ok c.new-in-EachInternal.result) c.node.result.now _ (tree_at c.args.pool.now c.args.id) (map (seen c.args.pool.now) c.args.below.now) c.node.ensures.process c.in-EachInternal.is
+    around_node c.args.program.now c.args.pool.now c.args.pool.now (Ok c.new-in-EachInternal.result) c.node.result _ (tree_at c.args.pool.now c.args.id) (map (seen c.args.pool.now) c.args.below.now) c.node.ensures.process c.in-EachInternal.is
     (none_listed c.args.pool.now c.new-in-EachInternal.result (Ok []) c.new-in-EachInternal.ensures refl)
 
 pub returns-in-Call-clause-steps : goal.returns-in-Call-clause-steps
 returns-in-Call-clause-steps c =
-    around_node c.args.program.now c.args.pool.now c.args.pool.now (Ok c.new-in-Call.result) c.node.result.now _ (tree_at c.args.pool.now c.args.id) (map (seen c.args.pool.now) c.args.below.now) c.node.ensures.process c.in-Call.is
+    around_node c.args.program.now c.args.pool.now c.args.pool.now (Ok c.new-in-Call.result) c.node.result _ (tree_at c.args.pool.now c.args.id) (map (seen c.args.pool.now) c.args.below.now) c.node.ensures.process c.in-Call.is
     (none_listed c.args.pool.now c.new-in-Call.result (Ok []) c.new-in-Call.ensures refl)
 
 pub returns-in-Skip-clause-steps : goal.returns-in-Skip-clause-steps
 returns-in-Skip-clause-steps c =
-    around_node c.args.program.now c.args.pool.now c.args.pool.now (Ok c.new-in-Skip.result) c.node.result.now _ (tree_at c.args.pool.now c.args.id) (map (seen c.args.pool.now) c.args.below.now) c.node.ensures.process c.in-Skip.is
+    around_node c.args.program.now c.args.pool.now c.args.pool.now (Ok c.new-in-Skip.result) c.node.result _ (tree_at c.args.pool.now c.args.id) (map (seen c.args.pool.now) c.args.below.now) c.node.ensures.process c.in-Skip.is
     (none_listed c.args.pool.now c.new-in-Skip.result (Ok []) c.new-in-Skip.ensures refl)
 
 pub returns-in-Ended-clause-steps : goal.returns-in-Ended-clause-steps
 returns-in-Ended-clause-steps c =
-    around_node c.args.program.now c.args.pool.now c.args.pool.now (Ok c.new-in-Ended.result) c.node.result.now _ (tree_at c.args.pool.now c.args.id) (map (seen c.args.pool.now) c.args.below.now) c.node.ensures.process c.in-Ended.is
+    around_node c.args.program.now c.args.pool.now c.args.pool.now (Ok c.new-in-Ended.result) c.node.result _ (tree_at c.args.pool.now c.args.id) (map (seen c.args.pool.now) c.args.below.now) c.node.ensures.process c.in-Ended.is
     (none_listed c.args.pool.now c.new-in-Ended.result (Ok []) c.new-in-Ended.ensures refl)

@@ -14,101 +14,101 @@ use Rattle.csp_steps.proofs.look.look_at.Goals as goal
 
 pub returns-in-Stop-clause-look : goal.returns-in-Stop-clause-look
 returns-in-Stop-clause-look c =
-    look_at c.args.program.now c.args.pool.now c.args.pool.now (Ok (look.Steps c.new-none.result)) c.node.result.now _ (tree_at c.args.pool.now c.args.id) c.node.ensures.process c.in-Stop.is
+    look_at c.args.program.now c.args.pool.now c.args.pool.now (Ok (look.Steps c.new-none.result)) c.node.result _ (tree_at c.args.pool.now c.args.id) c.node.ensures.process c.in-Stop.is
     (none_listed c.args.pool.now c.new-none.result _ c.new-none.ensures (stop c.args.program.now c.args.pool.now).same)
 
 pub returns-in-Ended-clause-look : goal.returns-in-Ended-clause-look
 returns-in-Ended-clause-look c =
-    look_at c.args.program.now c.args.pool.now c.args.pool.now (Ok (look.Steps c.new-none-in-Ended.result)) c.node.result.now _ (tree_at c.args.pool.now c.args.id) c.node.ensures.process c.in-Ended.is
+    look_at c.args.program.now c.args.pool.now c.args.pool.now (Ok (look.Steps c.new-none-in-Ended.result)) c.node.result _ (tree_at c.args.pool.now c.args.id) c.node.ensures.process c.in-Ended.is
     (none_listed c.args.pool.now c.new-none-in-Ended.result _ c.new-none-in-Ended.ensures (ended c.args.program.now c.args.pool.now).same)
 
 pub returns-in-Skip-clause-look : goal.returns-in-Skip-clause-look
 returns-in-Skip-clause-look c =
-    look_at c.args.program.now c.args.pool.now c.look_skip.new.pool c.look_skip.result c.node.result.now _ (tree_at c.args.pool.now c.args.id) c.node.ensures.process c.in-Skip.is
+    look_at c.args.program.now c.args.pool.now c.look_skip.new.pool c.look_skip.result c.node.result _ (tree_at c.args.pool.now c.args.id) c.node.ensures.process c.in-Skip.is
     (c.look_skip.ensures.look c.args.program.now)
 
 pub returns-in-Guard-clause-look : goal.returns-in-Guard-clause-look
 returns-in-Guard-clause-look c =
-    look_at c.args.program.now c.args.pool.now c.args.pool.now c.look_guard.result c.node.result.now _ (tree_at c.args.pool.now c.args.id) c.node.ensures.process c.in-Guard.is
-    (c.look_guard.ensures c.args.pool.now (first_place c.args.id.0 (length c.args.pool.now) c.node.result.now _ c.in-Guard.below _ c.node.ensures.places c.requires.within c.in-Guard.is refl))
+    look_at c.args.program.now c.args.pool.now c.args.pool.now c.look_guard.result c.node.result _ (tree_at c.args.pool.now c.args.id) c.node.ensures.process c.in-Guard.is
+    (c.look_guard.ensures c.args.pool.now (first_place c.args.id.0 (length c.args.pool.now) c.node.result _ c.in-Guard.below _ c.node.ensures.places c.requires.within c.in-Guard.is refl))
 
 pub returns-in-If-clause-look : goal.returns-in-If-clause-look
 returns-in-If-clause-look c =
-    look_at c.args.program.now c.args.pool.now c.args.pool.now c.look_if.result c.node.result.now _ (tree_at c.args.pool.now c.args.id) c.node.ensures.process c.in-If.is
-    (c.look_if.ensures c.args.pool.now (first_place c.args.id.0 (length c.args.pool.now) c.node.result.now _ c.in-If.first _ c.node.ensures.places c.requires.within c.in-If.is refl)
-    (second_place c.args.id.0 (length c.args.pool.now) c.node.result.now _ c.in-If.first c.in-If.second c.node.ensures.places c.requires.within c.in-If.is refl))
+    look_at c.args.program.now c.args.pool.now c.args.pool.now c.look_if.result c.node.result _ (tree_at c.args.pool.now c.args.id) c.node.ensures.process c.in-If.is
+    (c.look_if.ensures c.args.pool.now (first_place c.args.id.0 (length c.args.pool.now) c.node.result _ c.in-If.first _ c.node.ensures.places c.requires.within c.in-If.is refl)
+    (second_place c.args.id.0 (length c.args.pool.now) c.node.result _ c.in-If.first c.in-If.second c.node.ensures.places c.requires.within c.in-If.is refl))
 
 pub returns-in-Internal-clause-look : goal.returns-in-Internal-clause-look
 returns-in-Internal-clause-look c =
-    look_at c.args.program.now c.args.pool.now c.args.pool.now c.look_internal.result c.node.result.now _ (tree_at c.args.pool.now c.args.id) c.node.ensures.process c.in-Internal.is
+    look_at c.args.program.now c.args.pool.now c.args.pool.now c.look_internal.result c.node.result _ (tree_at c.args.pool.now c.args.id) c.node.ensures.process c.in-Internal.is
     (subst (λ (ids : List ProcId). GivesLook c.args.program.now c.args.pool.now c.look_internal.result (proc.Internal (map (tree_at c.args.pool.now) ids))) c.as_slice.ensures
-    (c.look_internal.ensures c.args.pool.now c.args.program.now (ap (all_below (length c.args.pool.now)) c.as_slice.ensures ∙ every_place c.args.id.0 (length c.args.pool.now) c.node.result.now _ c.in-Internal.ids c.node.ensures.places c.requires.within c.in-Internal.is refl)))
+    (c.look_internal.ensures c.args.pool.now c.args.program.now (ap (all_below (length c.args.pool.now)) c.as_slice.ensures ∙ every_place c.args.id.0 (length c.args.pool.now) c.node.result _ c.in-Internal.ids.now c.node.ensures.places c.requires.within c.in-Internal.is refl)))
 
 pub returns-in_ok-ids-in-External-clause-look : goal.returns-in_ok-ids-in-External-clause-look
 returns-in_ok-ids-in-External-clause-look c =
-    look_at c.args.program.now c.args.pool.now c.args.pool.now (Ok (look.Choice c.in_ok-ids-in-External.ids)) c.node.result.now _ (tree_at c.args.pool.now c.args.id) c.node.ensures.process c.in-External.is
-    (subst (λ (ids : List ProcId). AreOfChoice c.args.program.now c.args.pool.now ids (proc.External (map (tree_at c.args.pool.now) c.in-External.ids))) (sym (c.in_ok-ids-in-External.ensures ∙ c.as_slice-in-External.ensures))
-    (external c.args.program.now c.args.pool.now c.in-External.ids (every_place c.args.id.0 (length c.args.pool.now) c.node.result.now _ c.in-External.ids c.node.ensures.places c.requires.within c.in-External.is refl)))
+    look_at c.args.program.now c.args.pool.now c.args.pool.now (Ok (look.Choice c.in_ok-ids-in-External.ids)) c.node.result _ (tree_at c.args.pool.now c.args.id) c.node.ensures.process c.in-External.is
+    (subst (λ (ids : List ProcId). AreOfChoice c.args.program.now c.args.pool.now ids (proc.External (map (tree_at c.args.pool.now) c.in-External.ids.now))) (sym (c.in_ok-ids-in-External.ensures ∙ c.as_slice-in-External.ensures))
+    (external c.args.program.now c.args.pool.now c.in-External.ids.now (every_place c.args.id.0 (length c.args.pool.now) c.node.result _ c.in-External.ids.now c.node.ensures.places c.requires.within c.in-External.is refl)))
 
 pub returns-in-Hide-clause-look : goal.returns-in-Hide-clause-look
 returns-in-Hide-clause-look c =
-    look_at c.args.program.now c.args.pool.now c.args.pool.now (Ok (look.Around c.in-Hide.below)) c.node.result.now _ (tree_at c.args.pool.now c.args.id) c.node.ensures.process c.in-Hide.is
-    (hide c.args.program.now c.args.pool.now c.in-Hide.below c.in-Hide.field-1 (first_place c.args.id.0 (length c.args.pool.now) c.node.result.now _ c.in-Hide.below _ c.node.ensures.places c.requires.within c.in-Hide.is refl))
+    look_at c.args.program.now c.args.pool.now c.args.pool.now (Ok (look.Around c.in-Hide.below)) c.node.result _ (tree_at c.args.pool.now c.args.id) c.node.ensures.process c.in-Hide.is
+    (hide c.args.program.now c.args.pool.now c.in-Hide.below c.in-Hide.field-1.now (first_place c.args.id.0 (length c.args.pool.now) c.node.result _ c.in-Hide.below _ c.node.ensures.places c.requires.within c.in-Hide.is refl))
 
 pub returns-in-Rename-clause-look : goal.returns-in-Rename-clause-look
 returns-in-Rename-clause-look c =
-    look_at c.args.program.now c.args.pool.now c.args.pool.now (Ok (look.Around c.in-Rename.below)) c.node.result.now _ (tree_at c.args.pool.now c.args.id) c.node.ensures.process c.in-Rename.is
-    (rename c.args.program.now c.args.pool.now c.in-Rename.below c.in-Rename.field-1 c.in-Rename.field-2 (first_place c.args.id.0 (length c.args.pool.now) c.node.result.now _ c.in-Rename.below _ c.node.ensures.places c.requires.within c.in-Rename.is refl))
+    look_at c.args.program.now c.args.pool.now c.args.pool.now (Ok (look.Around c.in-Rename.below)) c.node.result _ (tree_at c.args.pool.now c.args.id) c.node.ensures.process c.in-Rename.is
+    (rename c.args.program.now c.args.pool.now c.in-Rename.below c.in-Rename.field-1.now c.in-Rename.field-2.now (first_place c.args.id.0 (length c.args.pool.now) c.node.result _ c.in-Rename.below _ c.node.ensures.places c.requires.within c.in-Rename.is refl))
 
 pub returns-in-Seq-clause-look : goal.returns-in-Seq-clause-look
 returns-in-Seq-clause-look c =
-    look_at c.args.program.now c.args.pool.now c.args.pool.now (Ok (look.Around c.in-Seq.first)) c.node.result.now _ (tree_at c.args.pool.now c.args.id) c.node.ensures.process c.in-Seq.is
-    (sequence c.args.program.now c.args.pool.now c.in-Seq.first (tree_at c.args.pool.now c.in-Seq.field-1) (first_place c.args.id.0 (length c.args.pool.now) c.node.result.now _ c.in-Seq.first _ c.node.ensures.places c.requires.within c.in-Seq.is refl))
+    look_at c.args.program.now c.args.pool.now c.args.pool.now (Ok (look.Around c.in-Seq.first)) c.node.result _ (tree_at c.args.pool.now c.args.id) c.node.ensures.process c.in-Seq.is
+    (sequence c.args.program.now c.args.pool.now c.in-Seq.first (tree_at c.args.pool.now c.in-Seq.field-1) (first_place c.args.id.0 (length c.args.pool.now) c.node.result _ c.in-Seq.first _ c.node.ensures.places c.requires.within c.in-Seq.is refl))
 
 pub returns-in_err-start-in-Prefix-clause-look : goal.returns-in_err-start-in-Prefix-clause-look
 returns-in_err-start-in-Prefix-clause-look c =
-    look_at c.args.program.now c.args.pool.now c.args.pool.now _ c.node.result.now _ (tree_at c.args.pool.now c.args.id) c.node.ensures.process c.in-Prefix.is
-    (start_passed c.args.program.now c.args.pool.now (proc.Prefix c.in-Prefix.head c.in-Prefix.fields (tree_at c.args.pool.now c.in-Prefix.to)) _ _ _ c.from_residual-in_err-start-in-Prefix.ensures.1 c.in_err-start-in-Prefix.ensures
-    (λ k e. head_fault c.args.program.now c.in-Prefix.head c.in-Prefix.fields (tree_at c.args.pool.now c.in-Prefix.to) k e))
+    look_at c.args.program.now c.args.pool.now c.args.pool.now _ c.node.result _ (tree_at c.args.pool.now c.args.id) c.node.ensures.process c.in-Prefix.is
+    (start_passed c.args.program.now c.args.pool.now (proc.Prefix c.in-Prefix.head.now c.in-Prefix.fields.now (tree_at c.args.pool.now c.in-Prefix.to)) _ _ _ c.from_residual-in_err-start-in-Prefix.ensures.1 c.in_err-start-in-Prefix.ensures
+    (λ k e. head_fault c.args.program.now c.in-Prefix.head.now c.in-Prefix.fields.now (tree_at c.args.pool.now c.in-Prefix.to) k e))
 
 pub returns-in_ok-fields-in-Prefix-clause-look : goal.returns-in_ok-fields-in-Prefix-clause-look
 returns-in_ok-fields-in-Prefix-clause-look c =
-    look_at c.args.program.now c.args.pool.now c.look_prefix.new.pool c.look_prefix.result c.node.result.now _ (tree_at c.args.pool.now c.args.id) c.node.ensures.process c.in-Prefix.is
-    (subst (λ (fs : List Field). GivesLook c.args.program.now c.look_prefix.new.pool c.look_prefix.result (proc.Prefix c.in-Prefix.head fs (tree_at c.args.pool.now c.in-Prefix.to)))
-    (c.as_slice-in-Prefix-2.ensures ∙ (c.in_ok-fields-in-Prefix.ensures ∙ c.as_slice-in-Prefix.ensures)) (c.look_prefix.ensures.look c.in-Prefix.head c.in_ok-start-in-Prefix.ensures))
+    look_at c.args.program.now c.args.pool.now c.look_prefix.new.pool c.look_prefix.result c.node.result _ (tree_at c.args.pool.now c.args.id) c.node.ensures.process c.in-Prefix.is
+    (subst (λ (fs : List Field). GivesLook c.args.program.now c.look_prefix.new.pool c.look_prefix.result (proc.Prefix c.in-Prefix.head.now fs (tree_at c.args.pool.now c.in-Prefix.to)))
+    (c.as_slice-in-Prefix-2.ensures ∙ (c.in_ok-fields-in-Prefix.ensures ∙ c.as_slice-in-Prefix.ensures)) (c.look_prefix.ensures.look c.in-Prefix.head.now c.in_ok-start-in-Prefix.ensures))
 
 pub returns-in_err-atoms-in-EachExternal-clause-look : goal.returns-in_err-atoms-in-EachExternal-clause-look
 returns-in_err-atoms-in-EachExternal-clause-look c =
-    look_at c.args.program.now c.args.pool.now c.args.pool.now _ c.node.result.now _ (tree_at c.args.pool.now c.args.id) c.node.ensures.process c.in-EachExternal.is
-    (look_passed c.args.program.now c.args.pool.now (proc.EachExternal c.in-EachExternal.name c.in-EachExternal.set (tree_at c.args.pool.now c.in-EachExternal.below)) _ _ _ c.from_residual-in_err-atoms-in-EachExternal.ensures.1 c.in_err-atoms-in-EachExternal.ensures
-    (λ k e. each_external_fault c.args.program.now c.in-EachExternal.name c.in-EachExternal.set (tree_at c.args.pool.now c.in-EachExternal.below) k e))
+    look_at c.args.program.now c.args.pool.now c.args.pool.now _ c.node.result _ (tree_at c.args.pool.now c.args.id) c.node.ensures.process c.in-EachExternal.is
+    (look_passed c.args.program.now c.args.pool.now (proc.EachExternal c.in-EachExternal.name c.in-EachExternal.set.now (tree_at c.args.pool.now c.in-EachExternal.below)) _ _ _ c.from_residual-in_err-atoms-in-EachExternal.ensures.1 c.in_err-atoms-in-EachExternal.ensures
+    (λ k e. each_external_fault c.args.program.now c.in-EachExternal.name c.in-EachExternal.set.now (tree_at c.args.pool.now c.in-EachExternal.below) k e))
 
 pub returns-in_ok-atoms-in-EachExternal-clause-look : goal.returns-in_ok-atoms-in-EachExternal-clause-look
 returns-in_ok-atoms-in-EachExternal-clause-look c =
-    look_at c.args.program.now c.args.pool.now c.look_each_external.new.pool c.look_each_external.result c.node.result.now _ (tree_at c.args.pool.now c.args.id) c.node.ensures.process c.in-EachExternal.is
-    (c.look_each_external.ensures.look c.args.program.now c.in-EachExternal.set (c.in_ok-atoms-in-EachExternal.ensures ∙ ap (λ xs. Ok xs) (sym c.as_slice-in-EachExternal.ensures.members)))
+    look_at c.args.program.now c.args.pool.now c.look_each_external.new.pool c.look_each_external.result c.node.result _ (tree_at c.args.pool.now c.args.id) c.node.ensures.process c.in-EachExternal.is
+    (c.look_each_external.ensures.look c.args.program.now c.in-EachExternal.set.now (c.in_ok-atoms-in-EachExternal.ensures ∙ ap (λ xs. Ok xs) (sym c.as_slice-in-EachExternal.ensures.members)))
 
 pub returns-in_err-atoms-in-EachInternal-clause-look : goal.returns-in_err-atoms-in-EachInternal-clause-look
 returns-in_err-atoms-in-EachInternal-clause-look c =
-    look_at c.args.program.now c.args.pool.now c.args.pool.now _ c.node.result.now _ (tree_at c.args.pool.now c.args.id) c.node.ensures.process c.in-EachInternal.is
-    (look_passed c.args.program.now c.args.pool.now (proc.EachInternal c.in-EachInternal.name c.in-EachInternal.set (tree_at c.args.pool.now c.in-EachInternal.below)) _ _ _ c.from_residual-in_err-atoms-in-EachInternal.ensures.1 c.in_err-atoms-in-EachInternal.ensures
-    (λ k e. each_internal_fault c.args.program.now c.in-EachInternal.name c.in-EachInternal.set (tree_at c.args.pool.now c.in-EachInternal.below) k e))
+    look_at c.args.program.now c.args.pool.now c.args.pool.now _ c.node.result _ (tree_at c.args.pool.now c.args.id) c.node.ensures.process c.in-EachInternal.is
+    (look_passed c.args.program.now c.args.pool.now (proc.EachInternal c.in-EachInternal.name c.in-EachInternal.set.now (tree_at c.args.pool.now c.in-EachInternal.below)) _ _ _ c.from_residual-in_err-atoms-in-EachInternal.ensures.1 c.in_err-atoms-in-EachInternal.ensures
+    (λ k e. each_internal_fault c.args.program.now c.in-EachInternal.name c.in-EachInternal.set.now (tree_at c.args.pool.now c.in-EachInternal.below) k e))
 
 pub returns-in_ok-atoms-in-EachInternal-clause-look : goal.returns-in_ok-atoms-in-EachInternal-clause-look
 returns-in_ok-atoms-in-EachInternal-clause-look c =
-    look_at c.args.program.now c.args.pool.now c.look_each_internal.new.pool c.look_each_internal.result c.node.result.now _ (tree_at c.args.pool.now c.args.id) c.node.ensures.process c.in-EachInternal.is
-    (c.look_each_internal.ensures.look c.args.program.now c.in-EachInternal.set (c.in_ok-atoms-in-EachInternal.ensures ∙ ap (λ xs. Ok xs) (sym c.as_slice-in-EachInternal.ensures.members)))
+    look_at c.args.program.now c.args.pool.now c.look_each_internal.new.pool c.look_each_internal.result c.node.result _ (tree_at c.args.pool.now c.args.id) c.node.ensures.process c.in-EachInternal.is
+    (c.look_each_internal.ensures.look c.args.program.now c.in-EachInternal.set.now (c.in_ok-atoms-in-EachInternal.ensures ∙ ap (λ xs. Ok xs) (sym c.as_slice-in-EachInternal.ensures.members)))
 
 pub returns-in_err-values-in-Call-clause-look : goal.returns-in_err-values-in-Call-clause-look
 returns-in_err-values-in-Call-clause-look c =
-    look_at c.args.program.now c.args.pool.now c.args.pool.now _ c.node.result.now _ (tree_at c.args.pool.now c.args.id) c.node.ensures.process c.in-Call.is
-    (look_passed c.args.program.now c.args.pool.now (proc.Call c.in-Call.def c.in-Call.args) _ _ _ c.from_residual-in_err-values-in-Call.ensures.1 c.in_err-values-in-Call.ensures
-    (λ k e. arguments_fault c.args.program.now c.in-Call.def c.in-Call.args k (ap (arguments_in c.args.program.now) (sym c.as_slice-in-Call.ensures) ∙ e)))
+    look_at c.args.program.now c.args.pool.now c.args.pool.now _ c.node.result _ (tree_at c.args.pool.now c.args.id) c.node.ensures.process c.in-Call.is
+    (look_passed c.args.program.now c.args.pool.now (proc.Call c.in-Call.def c.in-Call.args.now) _ _ _ c.from_residual-in_err-values-in-Call.ensures.1 c.in_err-values-in-Call.ensures
+    (λ k e. arguments_fault c.args.program.now c.in-Call.def c.in-Call.args.now k (ap (arguments_in c.args.program.now) (sym c.as_slice-in-Call.ensures) ∙ e)))
 
 pub returns-in_ok-values-in-Call-clause-look : goal.returns-in_ok-values-in-Call-clause-look
 returns-in_ok-values-in-Call-clause-look c =
-    look_at c.args.program.now c.args.pool.now c.look_call.new.pool c.look_call.result c.node.result.now _ (tree_at c.args.pool.now c.args.id) c.node.ensures.process c.in-Call.is
-    (c.look_call.ensures.look c.in-Call.args (ap (arguments_in c.args.program.now) (sym c.as_slice-in-Call.ensures) ∙ (c.in_ok-values-in-Call.ensures ∙ ap (λ vs. Ok vs) (sym c.as_slice-in-Call-2.ensures))))
+    look_at c.args.program.now c.args.pool.now c.look_call.new.pool c.look_call.result c.node.result _ (tree_at c.args.pool.now c.args.id) c.node.ensures.process c.in-Call.is
+    (c.look_call.ensures.look c.in-Call.args.now (ap (arguments_in c.args.program.now) (sym c.as_slice-in-Call.ensures) ∙ (c.in_ok-values-in-Call.ensures ∙ ap (λ vs. Ok vs) (sym c.as_slice-in-Call-2.ensures))))
 
 pub returns-in-Skip-clause-fits : goal.returns-in-Skip-clause-fits
 returns-in-Skip-clause-fits c = fits_then c.args.program.now c.args.pool.now c.look_skip.new.pool c.args.evaluated.now c.look_skip.result c.look_skip.ensures.front c.requires.fits
