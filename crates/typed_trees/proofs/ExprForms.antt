@@ -241,4 +241,8 @@ module _ (es : Entities) (ks : List Kind) where
       ap (λ t. (tree_read es ks t).expr s n) (sym (tree.rolls-Rename p fronts gens))
       ∙ ap (λ r. r.expr s n) (tree_rolls es ks (Tree-F.Rename p fronts gens))
 
-pub ruleset expr_forms = (part_of-is, gen_of-From, gen_of-Cond, gen_scope-From, gen_scope-Cond, expr_of-Num, expr_of-True, expr_of-False, expr_of-Name, expr_of-Call, expr_of-Dot, expr_of-Neg, expr_of-Not, expr_of-Binary, expr_of-If, expr_of-Display, expr_of-Range, expr_of-Comp, expr_of-Product, expr_of-SetOp, expr_of-Stop, expr_of-Skip, expr_of-Prefix, expr_of-Guard, expr_of-External, expr_of-Internal, expr_of-EachExternal, expr_of-EachInternal, expr_of-Parallel, expr_of-EachParallel, expr_of-Seq, expr_of-Hide, expr_of-Rename)
+pub ruleset part_forms = (part_of-is)
+
+pub ruleset gen_forms = (gen_of-From, gen_of-Cond, gen_scope-From, gen_scope-Cond)
+
+pub ruleset expr_forms = (expr_of-Num, expr_of-True, expr_of-False, expr_of-Name, expr_of-Call, expr_of-Dot, expr_of-Neg, expr_of-Not, expr_of-Binary, expr_of-If, expr_of-Display, expr_of-Range, expr_of-Comp, expr_of-Product, expr_of-SetOp, expr_of-Stop, expr_of-Skip, expr_of-Prefix, expr_of-Guard, expr_of-External, expr_of-Internal, expr_of-EachExternal, expr_of-EachInternal, expr_of-Parallel, expr_of-EachParallel, expr_of-Seq, expr_of-Hide, expr_of-Rename)

@@ -272,4 +272,6 @@ module _ (es : Entities) (ks : List Kind) where
       ∙ ap (λ r. r.proc s n) (tree_rolls es ks (Tree-F.Rename p fronts gens))
       ∙ (λ i. proc.Rename (proc_of es ks p s n) (pairs_are fronts (gens_under es ks gens s (n + same_tree es ks p i + sides_bind fronts i) i) (n + same_tree es ks p i) i) (gens_are es ks gens s (n + same_tree es ks p i + sides_bind fronts i) i))
 
-pub ruleset proc_forms = (field_of-Dot, field_of-Output, field_of-Input, field_scope-Dot, field_scope-Output, field_scope-Input, proc_of-Num, proc_of-True, proc_of-False, proc_of-Name, proc_of-Call, proc_of-Dot, proc_of-Neg, proc_of-Not, proc_of-Binary, proc_of-If, proc_of-Display, proc_of-Range, proc_of-Comp, proc_of-Product, proc_of-SetOp, proc_of-Stop, proc_of-Skip, proc_of-Prefix, proc_of-Guard, proc_of-External, proc_of-Internal, proc_of-EachExternal, proc_of-EachInternal, proc_of-Parallel, proc_of-EachParallel, proc_of-Seq, proc_of-Hide, proc_of-Rename)
+pub ruleset field_forms = (field_of-Dot, field_of-Output, field_of-Input, field_scope-Dot, field_scope-Output, field_scope-Input)
+
+pub ruleset proc_forms = (proc_of-Num, proc_of-True, proc_of-False, proc_of-Name, proc_of-Call, proc_of-Dot, proc_of-Neg, proc_of-Not, proc_of-Binary, proc_of-If, proc_of-Display, proc_of-Range, proc_of-Comp, proc_of-Product, proc_of-SetOp, proc_of-Stop, proc_of-Skip, proc_of-Prefix, proc_of-Guard, proc_of-External, proc_of-Internal, proc_of-EachExternal, proc_of-EachInternal, proc_of-Parallel, proc_of-EachParallel, proc_of-Seq, proc_of-Hide, proc_of-Rename)

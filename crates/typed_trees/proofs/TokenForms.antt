@@ -174,4 +174,10 @@ tokens-Rename p fronts gens =
     ∙ tree_counts (Tree-F.Rename p fronts gens)
     ∙ (λ i. tokens p + pairs_are fronts i + gens_are gens i)
 
-pub ruleset token_forms = (part_tokens-is, field_tokens-Dot, field_tokens-Output, field_tokens-Input, gen_tokens-From, gen_tokens-Cond, tokens-Num, tokens-True, tokens-False, tokens-Name, tokens-Call, tokens-Dot, tokens-Neg, tokens-Not, tokens-Binary, tokens-If, tokens-Display, tokens-Range, tokens-Comp, tokens-Product, tokens-SetOp, tokens-Stop, tokens-Skip, tokens-Prefix, tokens-Guard, tokens-External, tokens-Internal, tokens-EachExternal, tokens-EachInternal, tokens-Parallel, tokens-EachParallel, tokens-Seq, tokens-Hide, tokens-Rename)
+pub ruleset part_tokens_forms = (part_tokens-is)
+
+pub ruleset field_tokens_forms = (field_tokens-Dot, field_tokens-Output, field_tokens-Input)
+
+pub ruleset gen_tokens_forms = (gen_tokens-From, gen_tokens-Cond)
+
+pub ruleset token_forms = (tokens-Num, tokens-True, tokens-False, tokens-Name, tokens-Call, tokens-Dot, tokens-Neg, tokens-Not, tokens-Binary, tokens-If, tokens-Display, tokens-Range, tokens-Comp, tokens-Product, tokens-SetOp, tokens-Stop, tokens-Skip, tokens-Prefix, tokens-Guard, tokens-External, tokens-Internal, tokens-EachExternal, tokens-EachInternal, tokens-Parallel, tokens-EachParallel, tokens-Seq, tokens-Hide, tokens-Rename)

@@ -1,10 +1,14 @@
 //! What a name alone stands for.
 
 ghost use Rattle.std.specs.Prelude.{◌≡◌, None};
+ghost use Rattle.script_names.specs.Names.{first_of};
+ghost use Rattle.script_names.specs.Typed.{number_of};
 ghost use Rattle.script_names.specs.Typed as typed;
 
 use containers::Items;
+use csp_base::Name;
 use csp_program::{Expr, Head};
+use name_tables::{Dictionary, Scope};
 use script_names::Entity;
 use std::alloc::Global;
 
@@ -42,14 +46,21 @@ fn named_entity(alloc: Global, entity: Option<Entity>) -> Expr
     }
 }
 
-/// A name by itself, with its number where it is bound and what it is declared as.
-pub(crate) fn named(alloc: Global, number: Option<u32>, entity: Option<Entity>) -> Expr
+// A name by itself, with its number where it is bound and what it is declared as.
+fn named(alloc: Global, number: Option<u32>, entity: Option<Entity>) -> Expr
     ensures { result ≡ typed.named number entity }
 {
     match number {
         Some(number) => Expr::Bound(number),
         None => named_entity(alloc, entity),
     }
+}
+
+/// A name by itself, under the bound names `scope`.
+pub(crate) fn name(alloc: Global, names: &Dictionary, scope: &Scope, x: &Name) -> Expr
+    ensures { result ≡ typed.named (number_of scope.now x.now) (first_of names.now x.now) }
+{
+    named(alloc, scope.find(x), names.find(x))
 }
 
 /// What the event of a prefix begins with.

@@ -1,19 +1,21 @@
 //! Trees as processes.
-#![tactic(auto, using(crate::proofs::TokenForms::token_forms, crate::proofs::ProcForms::proc_forms, crate::proofs::Scopes::scope_laws))]
 
 ghost use Rattle.std.specs.Prelude.{◌≡◌, ◌+◌, IfOk, OnOk};
+ghost use Rattle.script_names.specs.Names.{first_of};
+ghost use Rattle.script_names.specs.Typed.{number_of, with};
+ghost use Rattle.script_names.specs.Typed as typed;
 ghost use Rattle.typed_trees.specs.Scopes.{Keeps};
-ghost use Rattle.typed_trees.specs.Tokens.{all_tokens, field_tokens, fields_tokens, pairs_tokens, set_tokens, tokens};
-ghost use Rattle.typed_trees.specs.Words.{field_of, field_scope, fields_of, fields_scope, pairs_of, proc_of, procs_of, set_of};
+ghost use Rattle.typed_trees.specs.Tokens.{all_tokens, field_tokens, fields_tokens, gens_tokens, pairs_tokens, set_tokens, tokens};
+ghost use Rattle.typed_trees.specs.Words.{expr_of, exprs_of, field_of, field_scope, fields_of, fields_scope, gens_of, gens_scope, pairs_of, proc_of, procs_of, set_of};
 
 use crate::binders::{leave, take_number};
 use crate::counts::{count_pairs, count_tree};
 use crate::expressions::{boxed as boxed_expr, expression, expressions, front, generators};
 use crate::names::{definition_number, head};
 use containers::{Boxed, Items};
-use csp_base::NoMemory;
-use csp_program::{EventPart, Expr, Field, Proc};
-use csp_text::{FieldTree, PartTree, Tree};
+use csp_base::{Name, NoMemory};
+use csp_program::{EventPart, Expr, Field, Gen, Proc};
+use csp_text::{FieldTree, GenTree, PartTree, Tree};
 use name_tables::{Dictionary, Scope};
 use script_names::Kind;
 use std::alloc::Global;
@@ -51,6 +53,7 @@ fn unboxed(set: Option<Boxed<Expr>>) -> Option<Expr>
 }
 
 // A field. Its name is bound afterwards.
+#[tactic(auto, using(crate::proofs::TokenForms::field_tokens_forms, crate::proofs::ProcForms::field_forms, crate::proofs::Scopes::scope_laws))]
 fn field(
     alloc: Global,
     names: &Dictionary,
@@ -77,6 +80,7 @@ fn field(
 }
 
 // Fields. Their names are bound afterwards.
+#[tactic(auto, using(crate::proofs::Scopes::scope_laws))]
 fn fields(
     alloc: Global,
     names: &Dictionary,
@@ -129,6 +133,7 @@ fn no_process(next: &mut u32, tree: &Tree) -> Result<Proc, NoMemory>
 }
 
 /// A tree as a process, under the bound names `scope`, with the number `next` for its first binding token.
+#[tactic(auto, using(crate::proofs::TokenForms::token_forms, crate::proofs::ProcForms::proc_forms))]
 #[cycle(typed_proc)]
 pub(crate) fn process(
     alloc: Global,
@@ -146,77 +151,26 @@ pub(crate) fn process(
         Tree::Stop => Ok(Proc::Stop),
         Tree::Skip => Ok(Proc::Skip),
         Tree::Name(x) => Ok(Proc::Call(definition_number(names.find(x)), Items::new(alloc))),
-        Tree::Call(f, args) => {
-            let def = definition_number(names.find(f));
-            let args = expressions(alloc, names, kinds, scope, next, args.as_slice())?;
-            Ok(Proc::Call(def, args))
-        }
-        Tree::If(c, p, q) => {
-            let c = boxed_expr(alloc, names, kinds, scope, next, c.get())?;
-            let p = boxed(alloc, names, kinds, scope, next, p.get())?;
-            let q = boxed(alloc, names, kinds, scope, next, q.get())?;
-            Ok(Proc::If(c.into_inner(), p, q))
-        }
-        Tree::Prefix(event, p) => {
-            let kept = scope.len();
-            let number = scope.find(&event.name);
-            let fields = fields(alloc, names, kinds, scope, next, event.fields.as_slice())?;
-            let p = boxed(alloc, names, kinds, scope, next, p.get())?;
-            leave(scope, kept);
-            let first = head(number, names.find(&event.name));
-            Ok(Proc::Prefix(first, fields, p))
-        }
-        Tree::Guard(c, p) => {
-            let c = boxed_expr(alloc, names, kinds, scope, next, c.get())?;
-            let p = boxed(alloc, names, kinds, scope, next, p.get())?;
-            Ok(Proc::Guard(c.into_inner(), p))
-        }
-        Tree::External(ps) => {
-            let ps = processes(alloc, names, kinds, scope, next, ps.as_slice())?;
-            Ok(Proc::External(ps))
-        }
-        Tree::Internal(ps) => {
-            let ps = processes(alloc, names, kinds, scope, next, ps.as_slice())?;
-            Ok(Proc::Internal(ps))
-        }
-        Tree::EachExternal(x, set, p) => {
-            let kept = scope.len();
-            let number = take_number(next)?;
-            let set = boxed_expr(alloc, names, kinds, scope, next, set.get())?;
-            scope.bind(x, number)?;
-            let p = boxed(alloc, names, kinds, scope, next, p.get())?;
-            leave(scope, kept);
-            Ok(Proc::EachExternal(number, set.into_inner(), p))
-        }
-        Tree::EachInternal(x, set, p) => {
-            let kept = scope.len();
-            let number = take_number(next)?;
-            let set = boxed_expr(alloc, names, kinds, scope, next, set.get())?;
-            scope.bind(x, number)?;
-            let p = boxed(alloc, names, kinds, scope, next, p.get())?;
-            leave(scope, kept);
-            Ok(Proc::EachInternal(number, set.into_inner(), p))
-        }
-        Tree::Seq(p, q) => {
-            let p = boxed(alloc, names, kinds, scope, next, p.get())?;
-            let q = boxed(alloc, names, kinds, scope, next, q.get())?;
-            Ok(Proc::Seq(p, q))
-        }
-        Tree::Hide(p, set) => {
-            let p = boxed(alloc, names, kinds, scope, next, p.get())?;
-            let set = boxed_expr(alloc, names, kinds, scope, next, set.get())?;
-            Ok(Proc::Hide(p, set.into_inner()))
-        }
-        Tree::Rename(p, sides, gens) => {
-            let p = boxed(alloc, names, kinds, scope, next, p.get())?;
-            let kept = scope.len();
-            let mut first = *next;
-            count_pairs(next, sides.as_slice())?;
-            let gens = generators(alloc, names, kinds, scope, next, gens.as_slice())?;
-            let sides = pairs(alloc, names, kinds, scope, &mut first, sides.as_slice())?;
-            leave(scope, kept);
-            Ok(Proc::Rename(p, sides, gens))
-        }
+        Tree::Call(f, args) => call(alloc, names, kinds, scope, next, f, args),
+        Tree::If(c, p, q) => choice(alloc, names, kinds, scope, next, c, p, q),
+        Tree::Prefix(event, p) => prefix(
+            alloc,
+            names,
+            kinds,
+            scope,
+            next,
+            &event.name,
+            &event.fields,
+            p,
+        ),
+        Tree::Guard(c, p) => guard(alloc, names, kinds, scope, next, c, p),
+        Tree::External(ps) => external(alloc, names, kinds, scope, next, ps),
+        Tree::Internal(ps) => internal(alloc, names, kinds, scope, next, ps),
+        Tree::EachExternal(x, set, p) => each_external(alloc, names, kinds, scope, next, x, set, p),
+        Tree::EachInternal(x, set, p) => each_internal(alloc, names, kinds, scope, next, x, set, p),
+        Tree::Seq(p, q) => sequence(alloc, names, kinds, scope, next, p, q),
+        Tree::Hide(p, set) => hiding(alloc, names, kinds, scope, next, p, set),
+        Tree::Rename(p, sides, gens) => renaming(alloc, names, kinds, scope, next, p, sides, gens),
         Tree::Num(_)
         | Tree::True
         | Tree::False
@@ -232,6 +186,282 @@ pub(crate) fn process(
         | Tree::Parallel(_, _, _, _)
         | Tree::EachParallel(_, _, _, _) => no_process(next, tree),
     }
+}
+
+// The use of the definition `f`.
+fn call(
+    alloc: Global,
+    names: &Dictionary,
+    kinds: &[Kind],
+    scope: &mut Scope,
+    next: &mut u32,
+    f: &Name,
+    args: &Items<Tree>,
+) -> Result<Proc, NoMemory>
+    ensures made { IfOk result (λ made. made ≡ Proc.Call (typed.definition_number (first_of names.now f.now)) (exprs_of names.now kinds.now args.now scope.old next.old)) }
+    ensures next { OnOk result (next.new ≡ next.old + all_tokens args.now) }
+    ensures scope { OnOk result (scope.new ≡ scope.old) }
+{
+    let args = expressions(alloc, names, kinds, scope, next, args.as_slice())?;
+    let def = definition_number(names.find(f));
+    Ok(Proc::Call(def, args))
+}
+
+// One of two processes.
+#[cycle(typed_proc)]
+fn choice(
+    alloc: Global,
+    names: &Dictionary,
+    kinds: &[Kind],
+    scope: &mut Scope,
+    next: &mut u32,
+    c: &Boxed<Tree>,
+    p: &Boxed<Tree>,
+    q: &Boxed<Tree>,
+) -> Result<Proc, NoMemory>
+    ensures made { IfOk result (λ made. made ≡ Proc.If (expr_of names.now kinds.now c.now scope.old next.old) (proc_of names.now kinds.now p.now scope.old (next.old + tokens c.now)) (proc_of names.now kinds.now q.now scope.old (next.old + tokens c.now + tokens p.now))) }
+    ensures next { OnOk result (next.new ≡ next.old + tokens c.now + tokens p.now + tokens q.now) }
+    ensures scope { OnOk result (scope.new ≡ scope.old) }
+{
+    let c = boxed_expr(alloc, names, kinds, scope, next, c.get())?;
+    let p = boxed(alloc, names, kinds, scope, next, p.get())?;
+    let q = boxed(alloc, names, kinds, scope, next, q.get())?;
+    Ok(Proc::If(c.into_inner(), p, q))
+}
+
+// A prefix of a process.
+#[tactic(auto, using(crate::proofs::Scopes::scope_laws))]
+#[cycle(typed_proc)]
+fn prefix(
+    alloc: Global,
+    names: &Dictionary,
+    kinds: &[Kind],
+    scope: &mut Scope,
+    next: &mut u32,
+    x: &Name,
+    parts: &Items<FieldTree>,
+    p: &Boxed<Tree>,
+) -> Result<Proc, NoMemory>
+    ensures made { IfOk result (λ made. made ≡ Proc.Prefix (typed.head_of (number_of scope.old x.now) (first_of names.now x.now)) (fields_of names.now kinds.now parts.now scope.old next.old) (proc_of names.now kinds.now p.now (fields_scope names.now kinds.now parts.now scope.old next.old) (next.old + fields_tokens parts.now))) }
+    ensures next { OnOk result (next.new ≡ next.old + fields_tokens parts.now + tokens p.now) }
+    ensures scope { OnOk result (scope.new ≡ scope.old) }
+{
+    let kept = scope.len();
+    let first = head(scope.find(x), names.find(x));
+    let parts = fields(alloc, names, kinds, scope, next, parts.as_slice())?;
+    let p = boxed(alloc, names, kinds, scope, next, p.get())?;
+    leave(scope, kept);
+    Ok(Proc::Prefix(first, parts, p))
+}
+
+// A process under a condition.
+#[cycle(typed_proc)]
+fn guard(
+    alloc: Global,
+    names: &Dictionary,
+    kinds: &[Kind],
+    scope: &mut Scope,
+    next: &mut u32,
+    c: &Boxed<Tree>,
+    p: &Boxed<Tree>,
+) -> Result<Proc, NoMemory>
+    ensures made { IfOk result (λ made. made ≡ Proc.Guard (expr_of names.now kinds.now c.now scope.old next.old) (proc_of names.now kinds.now p.now scope.old (next.old + tokens c.now))) }
+    ensures next { OnOk result (next.new ≡ next.old + tokens c.now + tokens p.now) }
+    ensures scope { OnOk result (scope.new ≡ scope.old) }
+{
+    let c = boxed_expr(alloc, names, kinds, scope, next, c.get())?;
+    let p = boxed(alloc, names, kinds, scope, next, p.get())?;
+    Ok(Proc::Guard(c.into_inner(), p))
+}
+
+// The external choice of some processes.
+#[cycle(typed_proc)]
+fn external(
+    alloc: Global,
+    names: &Dictionary,
+    kinds: &[Kind],
+    scope: &mut Scope,
+    next: &mut u32,
+    ps: &Items<Tree>,
+) -> Result<Proc, NoMemory>
+    ensures made { IfOk result (λ made. made ≡ Proc.External (procs_of names.now kinds.now ps.now scope.old next.old)) }
+    ensures next { OnOk result (next.new ≡ next.old + all_tokens ps.now) }
+    ensures scope { OnOk result (scope.new ≡ scope.old) }
+{
+    let ps = processes(alloc, names, kinds, scope, next, ps.as_slice())?;
+    Ok(Proc::External(ps))
+}
+
+// The internal choice of some processes.
+#[cycle(typed_proc)]
+fn internal(
+    alloc: Global,
+    names: &Dictionary,
+    kinds: &[Kind],
+    scope: &mut Scope,
+    next: &mut u32,
+    ps: &Items<Tree>,
+) -> Result<Proc, NoMemory>
+    ensures made { IfOk result (λ made. made ≡ Proc.Internal (procs_of names.now kinds.now ps.now scope.old next.old)) }
+    ensures next { OnOk result (next.new ≡ next.old + all_tokens ps.now) }
+    ensures scope { OnOk result (scope.new ≡ scope.old) }
+{
+    let ps = processes(alloc, names, kinds, scope, next, ps.as_slice())?;
+    Ok(Proc::Internal(ps))
+}
+
+// A process for a value of a set: the number of its name, the set and the process.
+#[tactic(auto, using(crate::proofs::Scopes::scope_laws))]
+#[cycle(typed_proc)]
+fn for_each(
+    alloc: Global,
+    names: &Dictionary,
+    kinds: &[Kind],
+    scope: &mut Scope,
+    next: &mut u32,
+    x: &Name,
+    set: &Boxed<Tree>,
+    p: &Boxed<Tree>,
+) -> Result<(u32, Boxed<Expr>, Boxed<Proc>), NoMemory>
+    ensures number { IfOk result (λ made. made.0 ≡ next.old) }
+    ensures set { IfOk result (λ made. made.1 ≡ expr_of names.now kinds.now set.now scope.old (next.old + 1)) }
+    ensures process { IfOk result (λ made. made.2 ≡ proc_of names.now kinds.now p.now (with scope.old x.now next.old) (next.old + 1 + tokens set.now)) }
+    ensures next { OnOk result (next.new ≡ next.old + 1 + tokens set.now + tokens p.now) }
+    ensures scope { OnOk result (scope.new ≡ scope.old) }
+{
+    let kept = scope.len();
+    let number = take_number(next)?;
+    let set = boxed_expr(alloc, names, kinds, scope, next, set.get())?;
+    scope.bind(x, number)?;
+    let p = boxed(alloc, names, kinds, scope, next, p.get())?;
+    leave(scope, kept);
+    Ok((number, set, p))
+}
+
+// An external choice over the values of a set.
+#[cycle(typed_proc)]
+fn each_external(
+    alloc: Global,
+    names: &Dictionary,
+    kinds: &[Kind],
+    scope: &mut Scope,
+    next: &mut u32,
+    x: &Name,
+    set: &Boxed<Tree>,
+    p: &Boxed<Tree>,
+) -> Result<Proc, NoMemory>
+    ensures made { IfOk result (λ made. made ≡ Proc.EachExternal next.old (expr_of names.now kinds.now set.now scope.old (next.old + 1)) (proc_of names.now kinds.now p.now (with scope.old x.now next.old) (next.old + 1 + tokens set.now))) }
+    ensures next { OnOk result (next.new ≡ next.old + 1 + tokens set.now + tokens p.now) }
+    ensures scope { OnOk result (scope.new ≡ scope.old) }
+{
+    let (number, set, p) = for_each(alloc, names, kinds, scope, next, x, set, p)?;
+    Ok(Proc::EachExternal(number, set.into_inner(), p))
+}
+
+// An internal choice over the values of a set.
+#[cycle(typed_proc)]
+fn each_internal(
+    alloc: Global,
+    names: &Dictionary,
+    kinds: &[Kind],
+    scope: &mut Scope,
+    next: &mut u32,
+    x: &Name,
+    set: &Boxed<Tree>,
+    p: &Boxed<Tree>,
+) -> Result<Proc, NoMemory>
+    ensures made { IfOk result (λ made. made ≡ Proc.EachInternal next.old (expr_of names.now kinds.now set.now scope.old (next.old + 1)) (proc_of names.now kinds.now p.now (with scope.old x.now next.old) (next.old + 1 + tokens set.now))) }
+    ensures next { OnOk result (next.new ≡ next.old + 1 + tokens set.now + tokens p.now) }
+    ensures scope { OnOk result (scope.new ≡ scope.old) }
+{
+    let (number, set, p) = for_each(alloc, names, kinds, scope, next, x, set, p)?;
+    Ok(Proc::EachInternal(number, set.into_inner(), p))
+}
+
+// One process after the other.
+#[cycle(typed_proc)]
+fn sequence(
+    alloc: Global,
+    names: &Dictionary,
+    kinds: &[Kind],
+    scope: &mut Scope,
+    next: &mut u32,
+    p: &Boxed<Tree>,
+    q: &Boxed<Tree>,
+) -> Result<Proc, NoMemory>
+    ensures made { IfOk result (λ made. made ≡ Proc.Seq (proc_of names.now kinds.now p.now scope.old next.old) (proc_of names.now kinds.now q.now scope.old (next.old + tokens p.now))) }
+    ensures next { OnOk result (next.new ≡ next.old + tokens p.now + tokens q.now) }
+    ensures scope { OnOk result (scope.new ≡ scope.old) }
+{
+    let p = boxed(alloc, names, kinds, scope, next, p.get())?;
+    let q = boxed(alloc, names, kinds, scope, next, q.get())?;
+    Ok(Proc::Seq(p, q))
+}
+
+// A process with a set hidden.
+#[cycle(typed_proc)]
+fn hiding(
+    alloc: Global,
+    names: &Dictionary,
+    kinds: &[Kind],
+    scope: &mut Scope,
+    next: &mut u32,
+    p: &Boxed<Tree>,
+    set: &Boxed<Tree>,
+) -> Result<Proc, NoMemory>
+    ensures made { IfOk result (λ made. made ≡ Proc.Hide (proc_of names.now kinds.now p.now scope.old next.old) (expr_of names.now kinds.now set.now scope.old (next.old + tokens p.now))) }
+    ensures next { OnOk result (next.new ≡ next.old + tokens p.now + tokens set.now) }
+    ensures scope { OnOk result (scope.new ≡ scope.old) }
+{
+    let p = boxed(alloc, names, kinds, scope, next, p.get())?;
+    let set = boxed_expr(alloc, names, kinds, scope, next, set.get())?;
+    Ok(Proc::Hide(p, set.into_inner()))
+}
+
+// The pairs of a renaming and its generators.
+#[tactic(auto, using(crate::proofs::Scopes::scope_laws))]
+fn sides_under(
+    alloc: Global,
+    names: &Dictionary,
+    kinds: &[Kind],
+    scope: &mut Scope,
+    next: &mut u32,
+    sides: &Items<(PartTree, PartTree)>,
+    gens: &Items<GenTree>,
+) -> Result<(Items<(EventPart, EventPart)>, Items<Gen>), NoMemory>
+    ensures sides { IfOk result (λ made. made.0 ≡ pairs_of names.now kinds.now sides.now (gens_scope names.now kinds.now gens.now scope.old (next.old + pairs_tokens sides.now)) next.old) }
+    ensures gens { IfOk result (λ made. made.1 ≡ gens_of names.now kinds.now gens.now scope.old (next.old + pairs_tokens sides.now)) }
+    ensures next { OnOk result (next.new ≡ next.old + pairs_tokens sides.now + gens_tokens gens.now) }
+    ensures scope { OnOk result (scope.new ≡ scope.old) }
+{
+    let kept = scope.len();
+    let mut first = *next;
+    count_pairs(next, sides.as_slice())?;
+    let gens = generators(alloc, names, kinds, scope, next, gens.as_slice())?;
+    let sides = pairs(alloc, names, kinds, scope, &mut first, sides.as_slice())?;
+    leave(scope, kept);
+    Ok((sides, gens))
+}
+
+// A process renamed.
+#[cycle(typed_proc)]
+fn renaming(
+    alloc: Global,
+    names: &Dictionary,
+    kinds: &[Kind],
+    scope: &mut Scope,
+    next: &mut u32,
+    p: &Boxed<Tree>,
+    sides: &Items<(PartTree, PartTree)>,
+    gens: &Items<GenTree>,
+) -> Result<Proc, NoMemory>
+    ensures made { IfOk result (λ made. made ≡ Proc.Rename (proc_of names.now kinds.now p.now scope.old next.old) (pairs_of names.now kinds.now sides.now (gens_scope names.now kinds.now gens.now scope.old (next.old + tokens p.now + pairs_tokens sides.now)) (next.old + tokens p.now)) (gens_of names.now kinds.now gens.now scope.old (next.old + tokens p.now + pairs_tokens sides.now))) }
+    ensures next { OnOk result (next.new ≡ next.old + tokens p.now + pairs_tokens sides.now + gens_tokens gens.now) }
+    ensures scope { OnOk result (scope.new ≡ scope.old) }
+{
+    let p = boxed(alloc, names, kinds, scope, next, p.get())?;
+    let (sides, gens) = sides_under(alloc, names, kinds, scope, next, sides, gens)?;
+    Ok(Proc::Rename(p, sides, gens))
 }
 
 // A tree as a process on the heap.

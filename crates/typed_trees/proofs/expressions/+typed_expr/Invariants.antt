@@ -1,4 +1,7 @@
-use Rattle.std.proofs.Common.{◌≡◌, ◌+◌, ◌++◌, drop}
+use Rattle.std.proofs.Common.{◌≡◌, ◌+◌, ◌*◌, ◌++◌, drop, max}
+use denote.Param.Weighed as weighed
+use Rattle.csp_text.proofs.tree.GenTree.TheLaws as generator
+use Rattle.csp_text.proofs.tree.Tree.TheLaws.{the_size}
 use Rattle.typed_trees.specs.Scopes.{Keeps}
 use Rattle.typed_trees.specs.Tokens.{all_tokens, gens_tokens, parts_tokens}
 use Rattle.typed_trees.specs.Words.{exprs_of, gens_of, gens_scope, parts_of}
@@ -26,3 +29,58 @@ invariant-fronts-loop-part l = record {
   next : l.next + parts_tokens (drop l.part-index l.parts) ≡ l.initial.next + parts_tokens l.parts;
   scope : l.scope ≡ l.initial.scope;
 }
+
+-- how deep what is left is, three for each level: a list or a tree on the heap comes above what stands in it, and a form above those
+abbrev pub decreases-expression : goal.decreases-expression
+decreases-expression l = 3 * the_size l.tree.now
+
+abbrev pub decreases-boxed : goal.decreases-boxed
+decreases-boxed l = 3 * the_size l.tree.now + 1
+
+abbrev pub decreases-generator : goal.decreases-generator
+decreases-generator l = 3 * goal.size-generator l
+
+abbrev pub decreases-front : goal.decreases-front
+decreases-front l = 3 * goal.size-front l
+
+abbrev pub decreases-expressions : goal.decreases-expressions
+decreases-expressions l = 3 * goal.size-expressions l + 1
+
+abbrev pub decreases-generators : goal.decreases-generators
+decreases-generators l = 3 * goal.size-generators l + 1
+
+abbrev pub decreases-fronts : goal.decreases-fronts
+decreases-fronts l = 3 * goal.size-fronts l + 1
+
+abbrev pub decreases-negative : goal.decreases-negative
+decreases-negative l = 3 * goal.size-negative l + 2
+
+abbrev pub decreases-opposite : goal.decreases-opposite
+decreases-opposite l = 3 * goal.size-opposite l + 2
+
+abbrev pub decreases-call : goal.decreases-call
+decreases-call l = 3 * goal.size-call l + 2
+
+abbrev pub decreases-event : goal.decreases-event
+decreases-event l = 3 * goal.size-event l + 2
+
+abbrev pub decreases-display : goal.decreases-display
+decreases-display l = 3 * goal.size-display l + 2
+
+abbrev pub decreases-binary : goal.decreases-binary
+decreases-binary l = 3 * max (the_size l.a.now) (the_size l.b.now) + 2
+
+abbrev pub decreases-range : goal.decreases-range
+decreases-range l = 3 * max (the_size l.a.now) (the_size l.b.now) + 2
+
+abbrev pub decreases-set_operation : goal.decreases-set_operation
+decreases-set_operation l = 3 * max (the_size l.a.now) (the_size l.b.now) + 2
+
+abbrev pub decreases-choice : goal.decreases-choice
+decreases-choice l = 3 * max (the_size l.c.now) (max (the_size l.a.now) (the_size l.b.now)) + 2
+
+abbrev pub decreases-comprehension : goal.decreases-comprehension
+decreases-comprehension l = 3 * max (goal.size-comprehension l) (weighed.most (λ x. generator.the_size x) l.gens.now) + 2
+
+abbrev pub decreases-product : goal.decreases-product
+decreases-product l = 3 * max (goal.size-product l) (weighed.most (λ x. generator.the_size x) l.gens.now) + 2

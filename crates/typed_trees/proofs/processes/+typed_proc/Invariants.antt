@@ -1,4 +1,5 @@
-use Rattle.std.proofs.Common.{◌≡◌, ◌+◌, ◌++◌, drop}
+use Rattle.std.proofs.Common.{◌≡◌, ◌+◌, ◌*◌, ◌++◌, drop, max}
+use Rattle.csp_text.proofs.tree.Tree.TheLaws.{the_size}
 use Rattle.typed_trees.specs.Tokens.{all_tokens}
 use Rattle.typed_trees.specs.Words.{procs_of}
 use Rattle.typed_trees.proofs.processes.+typed_proc.Given as goal
@@ -10,3 +11,46 @@ invariant-processes-loop-tree l = record {
   next : l.next + all_tokens (drop l.tree-index l.trees) ≡ l.initial.next + all_tokens l.trees;
   scope : l.scope ≡ l.initial.scope;
 }
+
+-- how deep what is left is, four for each level: a list or a tree on the heap comes above what stands in it, and a form above those
+abbrev pub decreases-process : goal.decreases-process
+decreases-process l = 4 * the_size l.tree.now
+
+abbrev pub decreases-boxed : goal.decreases-boxed
+decreases-boxed l = 4 * the_size l.tree.now + 1
+
+abbrev pub decreases-processes : goal.decreases-processes
+decreases-processes l = 4 * goal.size-processes l + 1
+
+abbrev pub decreases-external : goal.decreases-external
+decreases-external l = 4 * goal.size-external l + 2
+
+abbrev pub decreases-internal : goal.decreases-internal
+decreases-internal l = 4 * goal.size-internal l + 2
+
+abbrev pub decreases-prefix : goal.decreases-prefix
+decreases-prefix l = 4 * the_size l.p.now + 2
+
+abbrev pub decreases-guard : goal.decreases-guard
+decreases-guard l = 4 * the_size l.p.now + 2
+
+abbrev pub decreases-for_each : goal.decreases-for_each
+decreases-for_each l = 4 * the_size l.p.now + 2
+
+abbrev pub decreases-hiding : goal.decreases-hiding
+decreases-hiding l = 4 * the_size l.p.now + 2
+
+abbrev pub decreases-renaming : goal.decreases-renaming
+decreases-renaming l = 4 * the_size l.p.now + 2
+
+abbrev pub decreases-each_external : goal.decreases-each_external
+decreases-each_external l = 4 * the_size l.p.now + 3
+
+abbrev pub decreases-each_internal : goal.decreases-each_internal
+decreases-each_internal l = 4 * the_size l.p.now + 3
+
+abbrev pub decreases-choice : goal.decreases-choice
+decreases-choice l = 4 * max (the_size l.p.now) (the_size l.q.now) + 2
+
+abbrev pub decreases-sequence : goal.decreases-sequence
+decreases-sequence l = 4 * max (the_size l.p.now) (the_size l.q.now) + 2
