@@ -1,6 +1,6 @@
 -- The depth of an expression or a process: 1 without parts, else one more than the greatest depth among its processes and expressions, those in
 -- fields, pairs and generators included. A value that was put in has depth 1, and a head counts nothing.
-use Rattle.std.specs.Prelude.{ℕ, ◌+◌, max, Some, None, List, [], ◌∷◌, map}
+use Rattle.std.specs.Prelude.{ℕ, ◌+◌, max, Some, None, map}
 use Rattle.csp_program.specs.Lists.{greatest}
 use Rattle.csp_program.specs.declared.expressions.Expr.{Expr, fold-Expr}
 use Rattle.csp_program.specs.declared.expressions.Expr.TheFolds.{fold-Gen, fold-EventPart}

@@ -1,15 +1,11 @@
 -- `==` on the parts of processes is equality.
-use Rattle.std.specs.Prelude.{◌≡◌, ℕ, Bool, true, false, ◌&&◌, nat_eq, Some, None, List, map, refl}
-use Rattle.std.proofs.Common.{sym, ◌∙◌, ap}
+use Rattle.std.specs.Prelude.{◌≡◌, Bool, true, false, ◌&&◌, nat_eq, Some, None}
+use Rattle.std.proofs.Common.{ap}
 use Rattle.std.proofs.lemmas.Bool.{eqb-true, false≢true}
 use Rattle.std.specs.Cmp.{first_so, second_so}
-use Rattle.std.specs.Cmp.Lexicographic.{pointwise}
-use Rattle.containers.specs.Exact.{IsExact-pointwise}
 use Rattle.csp_atoms.specs.Exact.{exact_value}
-use Rattle.csp_program.specs.declared.expressions.Expr.{Expr}
 use Rattle.csp_program.specs.declared.expressions.EventPart.{EventPart}
-use Rattle.csp_program.specs.declared.expressions.Gen.{Gen}
-use Rattle.csp_program.specs.ExactExpr.{eq_expr, eq_gen, eq_part, exact_expr, exact_gen, exact_part}
+use Rattle.csp_program.specs.ExactExpr.{eq_expr, eq_part, exact_expr, exact_part}
 use Rattle.csp_program.specs.contracts.processes.HeadPartialEq.TheImpl as heads
 use Rattle.csp_program.specs.contracts.processes.FieldPartialEq.TheImpl as fields
 use Rattle.csp_program.specs.declared.processes.Field.{Field}

@@ -1,7 +1,7 @@
 -- The names that are free in an expression, a process or a network. A generator binds its name in the parts of the list after it and in what the
 -- list stands beside; an input binds its name in the fields after it and in the process after the prefix. The set that a name ranges over stands
 -- outside of its binding.
-use Rattle.std.specs.Prelude.{◌≡◌, ℕ, Bool, true, false, not, ◌&&◌, ◌||◌, nat_eq, Some, None, List, [], ◌∷◌, map}
+use Rattle.std.specs.Prelude.{◌≡◌, ℕ, Bool, false, not, ◌&&◌, ◌||◌, nat_eq, Some, None, List, [], ◌∷◌, map}
 use Rattle.csp_program.specs.declared.expressions.Expr.{Expr, fold-Expr}
 use Rattle.csp_program.specs.declared.expressions.Expr.TheFolds.{fold-Gen, fold-EventPart}
 use Rattle.csp_program.specs.declared.expressions.Expr.TheOpen.{Expr-F, Gen-F, EventPart-F}

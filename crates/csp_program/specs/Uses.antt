@@ -1,5 +1,5 @@
 -- Which definitions an expression uses, by a call or by the name of a set, and which a definition of data reaches.
-use Rattle.std.specs.Prelude.{◌≡◌, ℕ, Bool, false, ◌||◌, nat_eq, IsTrue, Option, Some, None, List, [], ◌∷◌, slice_get}
+use Rattle.std.specs.Prelude.{ℕ, nat_eq, IsTrue, Option, Some, None, List, slice_get}
 use Rattle.csp_program.specs.Free.{Names, nowhere, either, any_of}
 use Rattle.csp_program.specs.declared.expressions.Expr.{Expr, fold-Expr}
 use Rattle.csp_program.specs.declared.expressions.Expr.TheOpen.{Expr-F, Gen-F, EventPart-F}

@@ -6,7 +6,7 @@ use crate::expressions::{EventPart, Expr, Gen};
 use crate::processes::{Field, Head};
 use containers::{Boxed, Items};
 use csp_atoms::Value;
-use csp_base::NoMemory;
+use csp_base::{BinOp, NoMemory, SetOp};
 use std::alloc::Global;
 
 /// The same value.
@@ -26,48 +26,144 @@ pub fn copy_expr(alloc: Global, expr: &Expr) -> Result<Expr, NoMemory>
         Expr::Truth(truth) => Ok(Expr::Truth(*truth)),
         Expr::Const(number) => Ok(Expr::Const(*number)),
         Expr::Bound(slot) => Ok(Expr::Bound(*slot)),
-        Expr::Lit(value) => Ok(Expr::Lit(copy_value(alloc, value)?)),
-        Expr::Neg(a) => Ok(Expr::Neg(copy_boxed_expr(alloc, a.get())?)),
-        Expr::Not(a) => Ok(Expr::Not(copy_boxed_expr(alloc, a.get())?)),
-        Expr::Binary(op, a, b) => {
-            let a = copy_boxed_expr(alloc, a.get())?;
-            let b = copy_boxed_expr(alloc, b.get())?;
-            Ok(Expr::Binary(*op, a, b))
-        }
-        Expr::If(c, a, b) => {
-            let c = copy_boxed_expr(alloc, c.get())?;
-            let a = copy_boxed_expr(alloc, a.get())?;
-            let b = copy_boxed_expr(alloc, b.get())?;
-            Ok(Expr::If(c, a, b))
-        }
-        Expr::Call(def, args) => Ok(Expr::Call(*def, copy_exprs(alloc, args.as_slice())?)),
+        Expr::Lit(value) => literal(alloc, value),
+        Expr::Neg(a) => negative(alloc, a),
+        Expr::Not(a) => opposite(alloc, a),
+        Expr::Binary(op, a, b) => binary(alloc, *op, a, b),
+        Expr::If(c, a, b) => choice(alloc, c, a, b),
+        Expr::Call(def, args) => call(alloc, *def, args),
         Expr::SetName(def) => Ok(Expr::SetName(*def)),
-        Expr::Event(channel, fields) => Ok(Expr::Event(
-            *channel,
-            copy_exprs(alloc, fields.as_slice())?,
-        )),
-        Expr::Display(items) => Ok(Expr::Display(copy_exprs(alloc, items.as_slice())?)),
-        Expr::Range(a, b) => {
-            let a = copy_boxed_expr(alloc, a.get())?;
-            let b = copy_boxed_expr(alloc, b.get())?;
-            Ok(Expr::Range(a, b))
-        }
-        Expr::Comp(items, gens) => {
-            let items = copy_exprs(alloc, items.as_slice())?;
-            let gens = copy_gens(alloc, gens.as_slice())?;
-            Ok(Expr::Comp(items, gens))
-        }
-        Expr::Product(parts, gens) => {
-            let parts = copy_parts(alloc, parts.as_slice())?;
-            let gens = copy_gens(alloc, gens.as_slice())?;
-            Ok(Expr::Product(parts, gens))
-        }
-        Expr::SetOp(op, a, b) => {
-            let a = copy_boxed_expr(alloc, a.get())?;
-            let b = copy_boxed_expr(alloc, b.get())?;
-            Ok(Expr::SetOp(*op, a, b))
-        }
+        Expr::Event(channel, fields) => event(alloc, *channel, fields),
+        Expr::Display(items) => display(alloc, items),
+        Expr::Range(a, b) => range(alloc, a, b),
+        Expr::Comp(items, gens) => comprehension(alloc, items, gens),
+        Expr::Product(parts, gens) => product(alloc, parts, gens),
+        Expr::SetOp(op, a, b) => set_operation(alloc, *op, a, b),
     }
+}
+
+// A value that was put in.
+fn literal(alloc: Global, value: &Value) -> Result<Expr, NoMemory>
+    ensures { IfOk result (λ copy. copy ≡ Expr.Lit value.now) }
+{
+    let value = copy_value(alloc, value)?;
+    Ok(Expr::Lit(value))
+}
+
+// The negative of an expression.
+#[cycle(copy_expr)]
+fn negative(alloc: Global, a: &Boxed<Expr>) -> Result<Expr, NoMemory>
+    ensures { IfOk result (λ copy. copy ≡ Expr.Neg a.now) }
+{
+    let a = copy_boxed_expr(alloc, a.get())?;
+    Ok(Expr::Neg(a))
+}
+
+// The opposite of a condition.
+#[cycle(copy_expr)]
+fn opposite(alloc: Global, a: &Boxed<Expr>) -> Result<Expr, NoMemory>
+    ensures { IfOk result (λ copy. copy ≡ Expr.Not a.now) }
+{
+    let a = copy_boxed_expr(alloc, a.get())?;
+    Ok(Expr::Not(a))
+}
+
+// An operator between two operands.
+#[cycle(copy_expr)]
+fn binary(alloc: Global, op: BinOp, a: &Boxed<Expr>, b: &Boxed<Expr>) -> Result<Expr, NoMemory>
+    ensures { IfOk result (λ copy. copy ≡ Expr.Binary op a.now b.now) }
+{
+    let a = copy_boxed_expr(alloc, a.get())?;
+    let b = copy_boxed_expr(alloc, b.get())?;
+    Ok(Expr::Binary(op, a, b))
+}
+
+// One of two expressions.
+#[cycle(copy_expr)]
+fn choice(
+    alloc: Global,
+    c: &Boxed<Expr>,
+    a: &Boxed<Expr>,
+    b: &Boxed<Expr>,
+) -> Result<Expr, NoMemory>
+    ensures { IfOk result (λ copy. copy ≡ Expr.If c.now a.now b.now) }
+{
+    let c = copy_boxed_expr(alloc, c.get())?;
+    let a = copy_boxed_expr(alloc, a.get())?;
+    let b = copy_boxed_expr(alloc, b.get())?;
+    Ok(Expr::If(c, a, b))
+}
+
+// The set of the numbers from `a` to `b`.
+#[cycle(copy_expr)]
+fn range(alloc: Global, a: &Boxed<Expr>, b: &Boxed<Expr>) -> Result<Expr, NoMemory>
+    ensures { IfOk result (λ copy. copy ≡ Expr.Range a.now b.now) }
+{
+    let a = copy_boxed_expr(alloc, a.get())?;
+    let b = copy_boxed_expr(alloc, b.get())?;
+    Ok(Expr::Range(a, b))
+}
+
+// An operator between two sets.
+#[cycle(copy_expr)]
+fn set_operation(
+    alloc: Global,
+    op: SetOp,
+    a: &Boxed<Expr>,
+    b: &Boxed<Expr>,
+) -> Result<Expr, NoMemory>
+    ensures { IfOk result (λ copy. copy ≡ Expr.SetOp op a.now b.now) }
+{
+    let a = copy_boxed_expr(alloc, a.get())?;
+    let b = copy_boxed_expr(alloc, b.get())?;
+    Ok(Expr::SetOp(op, a, b))
+}
+
+// The use of a definition with arguments.
+#[cycle(copy_expr)]
+fn call(alloc: Global, def: u32, args: &Items<Expr>) -> Result<Expr, NoMemory>
+    ensures { IfOk result (λ copy. copy ≡ Expr.Call def args.now) }
+{
+    let args = copy_exprs(alloc, args.as_slice())?;
+    Ok(Expr::Call(def, args))
+}
+
+// The event of a channel with fields.
+#[cycle(copy_expr)]
+fn event(alloc: Global, channel: u32, fields: &Items<Expr>) -> Result<Expr, NoMemory>
+    ensures { IfOk result (λ copy. copy ≡ Expr.Event channel fields.now) }
+{
+    let fields = copy_exprs(alloc, fields.as_slice())?;
+    Ok(Expr::Event(channel, fields))
+}
+
+// The set of some expressions.
+#[cycle(copy_expr)]
+fn display(alloc: Global, items: &Items<Expr>) -> Result<Expr, NoMemory>
+    ensures { IfOk result (λ copy. copy ≡ Expr.Display items.now) }
+{
+    let items = copy_exprs(alloc, items.as_slice())?;
+    Ok(Expr::Display(items))
+}
+
+// The set of some expressions under generators.
+#[cycle(copy_expr)]
+fn comprehension(alloc: Global, items: &Items<Expr>, gens: &Items<Gen>) -> Result<Expr, NoMemory>
+    ensures { IfOk result (λ copy. copy ≡ Expr.Comp items.now gens.now) }
+{
+    let items = copy_exprs(alloc, items.as_slice())?;
+    let gens = copy_gens(alloc, gens.as_slice())?;
+    Ok(Expr::Comp(items, gens))
+}
+
+// The set of the events that begin with some fronts, under generators.
+#[cycle(copy_expr)]
+fn product(alloc: Global, parts: &Items<EventPart>, gens: &Items<Gen>) -> Result<Expr, NoMemory>
+    ensures { IfOk result (λ copy. copy ≡ Expr.Product parts.now gens.now) }
+{
+    let parts = copy_parts(alloc, parts.as_slice())?;
+    let gens = copy_gens(alloc, gens.as_slice())?;
+    Ok(Expr::Product(parts, gens))
 }
 
 /// The same expression, on the heap.

@@ -2,50 +2,14 @@
 
 ghost use Rattle.std.specs.Prelude.{◌≡◌, IfOk};
 
-use crate::copies::{copy_expr, copy_exprs};
+use crate::copies::{copy_boxed_expr, copy_expr, copy_exprs};
 use crate::expressions::Expr;
 use crate::networks::Net;
 use crate::proc_copies::copy_proc;
-use containers::Boxed;
+use crate::processes::Proc;
+use containers::{Boxed, Items};
 use csp_base::NoMemory;
 use std::alloc::Global;
-
-// One of the networks `n` and `m`.
-fn choice(alloc: Global, c: &Expr, n: Boxed<Net>, m: Boxed<Net>) -> Result<Net, NoMemory>
-    ensures { IfOk result (λ copy. copy ≡ Net.If c.now n m) }
-{
-    Ok(Net::If(copy_expr(alloc, c)?, n, m))
-}
-
-// The networks `n` and `m` in parallel.
-fn parallel(
-    alloc: Global,
-    n: Boxed<Net>,
-    left: &Expr,
-    right: &Expr,
-    m: Boxed<Net>,
-) -> Result<Net, NoMemory>
-    ensures { IfOk result (λ copy. copy ≡ Net.Pair n left.now right.now m) }
-{
-    let left = copy_expr(alloc, left)?;
-    let right = copy_expr(alloc, right)?;
-    Ok(Net::Pair(n, left, right, m))
-}
-
-// Networks in parallel over the values of a set.
-fn each(
-    alloc: Global,
-    slot: u32,
-    set: &Expr,
-    alphabet: &Expr,
-    n: Boxed<Net>,
-) -> Result<Net, NoMemory>
-    ensures { IfOk result (λ copy. copy ≡ Net.Each slot set.now alphabet.now n) }
-{
-    let set = copy_expr(alloc, set)?;
-    let alphabet = copy_expr(alloc, alphabet)?;
-    Ok(Net::Each(slot, set, alphabet, n))
-}
 
 /// The same network.
 #[cycle(copy_net)]
@@ -53,26 +17,74 @@ pub fn copy_net(alloc: Global, net: &Net) -> Result<Net, NoMemory>
     ensures { IfOk result (λ copy. copy ≡ net.now) }
 {
     match net {
-        Net::Leaf(proc) => Ok(Net::Leaf(copy_proc(alloc, proc)?)),
-        Net::Call(def, args) => Ok(Net::Call(*def, copy_exprs(alloc, args.as_slice())?)),
-        Net::If(c, n, m) => {
-            let n = copy_boxed_net(alloc, n.get())?;
-            let m = copy_boxed_net(alloc, m.get())?;
-            choice(alloc, c, n, m)
-        }
-        Net::Pair(n, left, right, m) => {
-            let n = copy_boxed_net(alloc, n.get())?;
-            let m = copy_boxed_net(alloc, m.get())?;
-            parallel(alloc, n, left, right, m)
-        }
-        Net::Each(slot, set, alphabet, n) => each(
-            alloc,
-            *slot,
-            set,
-            alphabet,
-            copy_boxed_net(alloc, n.get())?,
-        ),
+        Net::Leaf(proc) => leaf(alloc, proc),
+        Net::Call(def, args) => call(alloc, *def, args),
+        Net::If(c, n, m) => choice(alloc, c, n, m),
+        Net::Pair(n, left, right, m) => parallel(alloc, n, left, right, m),
+        Net::Each(slot, set, alphabet, n) => each(alloc, *slot, set, alphabet, n),
     }
+}
+
+// A component.
+fn leaf(alloc: Global, proc: &Proc) -> Result<Net, NoMemory>
+    ensures { IfOk result (λ copy. copy ≡ Net.Leaf proc.now) }
+{
+    let proc = copy_proc(alloc, proc)?;
+    Ok(Net::Leaf(proc))
+}
+
+// The use of a network definition with arguments.
+fn call(alloc: Global, def: u32, args: &Items<Expr>) -> Result<Net, NoMemory>
+    ensures { IfOk result (λ copy. copy ≡ Net.Call def args.now) }
+{
+    let args = copy_exprs(alloc, args.as_slice())?;
+    Ok(Net::Call(def, args))
+}
+
+// One of the networks `n` and `m`.
+#[cycle(copy_net)]
+fn choice(alloc: Global, c: &Expr, n: &Boxed<Net>, m: &Boxed<Net>) -> Result<Net, NoMemory>
+    ensures { IfOk result (λ copy. copy ≡ Net.If c.now n.now m.now) }
+{
+    let n = copy_boxed_net(alloc, n.get())?;
+    let m = copy_boxed_net(alloc, m.get())?;
+    let c = copy_expr(alloc, c)?;
+    Ok(Net::If(c, n, m))
+}
+
+// The networks `n` and `m` in parallel.
+#[cycle(copy_net)]
+fn parallel(
+    alloc: Global,
+    n: &Boxed<Net>,
+    left: &Expr,
+    right: &Expr,
+    m: &Boxed<Net>,
+) -> Result<Net, NoMemory>
+    ensures { IfOk result (λ copy. copy ≡ Net.Pair n.now left.now right.now m.now) }
+{
+    let n = copy_boxed_net(alloc, n.get())?;
+    let m = copy_boxed_net(alloc, m.get())?;
+    let left = copy_boxed_expr(alloc, left)?;
+    let right = copy_expr(alloc, right)?;
+    Ok(Net::Pair(n, left.into_inner(), right, m))
+}
+
+// Networks in parallel over the values of a set.
+#[cycle(copy_net)]
+fn each(
+    alloc: Global,
+    slot: u32,
+    set: &Expr,
+    alphabet: &Expr,
+    n: &Boxed<Net>,
+) -> Result<Net, NoMemory>
+    ensures { IfOk result (λ copy. copy ≡ Net.Each slot set.now alphabet.now n.now) }
+{
+    let n = copy_boxed_net(alloc, n.get())?;
+    let set = copy_boxed_expr(alloc, set)?;
+    let alphabet = copy_expr(alloc, alphabet)?;
+    Ok(Net::Each(slot, set.into_inner(), alphabet, n))
 }
 
 /// The same network, on the heap.

@@ -9,64 +9,6 @@ use containers::{Boxed, Items};
 use csp_base::NoMemory;
 use std::alloc::Global;
 
-// A prefix of the process `p`.
-fn prefix(alloc: Global, head: &Head, fields: &[Field], p: Boxed<Proc>) -> Result<Proc, NoMemory>
-    ensures { IfOk result (λ copy. copy ≡ Proc.Prefix head.now fields.now p) }
-{
-    let head = copy_head(alloc, head)?;
-    let fields = copy_fields(alloc, fields)?;
-    Ok(Proc::Prefix(head, fields, p))
-}
-
-// The process `p` under a condition.
-fn guard(alloc: Global, c: &Expr, p: Boxed<Proc>) -> Result<Proc, NoMemory>
-    ensures { IfOk result (λ copy. copy ≡ Proc.Guard c.now p) }
-{
-    Ok(Proc::Guard(copy_expr(alloc, c)?, p))
-}
-
-// One of the processes `p` and `q`.
-fn choice(alloc: Global, c: &Expr, p: Boxed<Proc>, q: Boxed<Proc>) -> Result<Proc, NoMemory>
-    ensures { IfOk result (λ copy. copy ≡ Proc.If c.now p q) }
-{
-    Ok(Proc::If(copy_expr(alloc, c)?, p, q))
-}
-
-// An external choice over the values of a set.
-fn each_external(alloc: Global, slot: u32, set: &Expr, p: Boxed<Proc>) -> Result<Proc, NoMemory>
-    ensures { IfOk result (λ copy. copy ≡ Proc.EachExternal slot set.now p) }
-{
-    Ok(Proc::EachExternal(slot, copy_expr(alloc, set)?, p))
-}
-
-// An internal choice over the values of a set.
-fn each_internal(alloc: Global, slot: u32, set: &Expr, p: Boxed<Proc>) -> Result<Proc, NoMemory>
-    ensures { IfOk result (λ copy. copy ≡ Proc.EachInternal slot set.now p) }
-{
-    Ok(Proc::EachInternal(slot, copy_expr(alloc, set)?, p))
-}
-
-// The process `p` with a set hidden.
-fn hiding(alloc: Global, p: Boxed<Proc>, set: &Expr) -> Result<Proc, NoMemory>
-    ensures { IfOk result (λ copy. copy ≡ Proc.Hide p set.now) }
-{
-    Ok(Proc::Hide(p, copy_expr(alloc, set)?))
-}
-
-// The process `p` renamed.
-fn renaming(
-    alloc: Global,
-    p: Boxed<Proc>,
-    pairs: &[(EventPart, EventPart)],
-    gens: &[Gen],
-) -> Result<Proc, NoMemory>
-    ensures { IfOk result (λ copy. copy ≡ Proc.Rename p pairs.now gens.now) }
-{
-    let pairs = copy_pairs(alloc, pairs)?;
-    let gens = copy_gens(alloc, gens)?;
-    Ok(Proc::Rename(p, pairs, gens))
-}
-
 /// The same process.
 #[cycle(copy_proc)]
 pub fn copy_proc(alloc: Global, proc: &Proc) -> Result<Proc, NoMemory>
@@ -74,48 +16,139 @@ pub fn copy_proc(alloc: Global, proc: &Proc) -> Result<Proc, NoMemory>
 {
     match proc {
         Proc::Stop => Ok(Proc::Stop),
-        Proc::Prefix(head, fields, p) => prefix(
-            alloc,
-            head,
-            fields.as_slice(),
-            copy_boxed_proc(alloc, p.get())?,
-        ),
-        Proc::Guard(c, p) => guard(alloc, c, copy_boxed_proc(alloc, p.get())?),
-        Proc::If(c, p, q) => {
-            let p = copy_boxed_proc(alloc, p.get())?;
-            let q = copy_boxed_proc(alloc, q.get())?;
-            choice(alloc, c, p, q)
-        }
-        Proc::External(procs) => Ok(Proc::External(copy_procs(alloc, procs.as_slice())?)),
-        Proc::Internal(procs) => Ok(Proc::Internal(copy_procs(alloc, procs.as_slice())?)),
-        Proc::EachExternal(slot, set, p) => each_external(
-            alloc,
-            *slot,
-            set,
-            copy_boxed_proc(alloc, p.get())?,
-        ),
-        Proc::EachInternal(slot, set, p) => each_internal(
-            alloc,
-            *slot,
-            set,
-            copy_boxed_proc(alloc, p.get())?,
-        ),
-        Proc::Hide(p, set) => hiding(alloc, copy_boxed_proc(alloc, p.get())?, set),
-        Proc::Rename(p, pairs, gens) => renaming(
-            alloc,
-            copy_boxed_proc(alloc, p.get())?,
-            pairs.as_slice(),
-            gens.as_slice(),
-        ),
-        Proc::Call(def, args) => Ok(Proc::Call(*def, copy_exprs(alloc, args.as_slice())?)),
+        Proc::Prefix(head, fields, p) => prefix(alloc, head, fields, p),
+        Proc::Guard(c, p) => guard(alloc, c, p),
+        Proc::If(c, p, q) => choice(alloc, c, p, q),
+        Proc::External(procs) => external(alloc, procs),
+        Proc::Internal(procs) => internal(alloc, procs),
+        Proc::EachExternal(slot, set, p) => each_external(alloc, *slot, set, p),
+        Proc::EachInternal(slot, set, p) => each_internal(alloc, *slot, set, p),
+        Proc::Hide(p, set) => hiding(alloc, p, set),
+        Proc::Rename(p, pairs, gens) => renaming(alloc, p, pairs, gens),
+        Proc::Call(def, args) => call(alloc, *def, args),
         Proc::Skip => Ok(Proc::Skip),
-        Proc::Seq(p, q) => {
-            let p = copy_boxed_proc(alloc, p.get())?;
-            let q = copy_boxed_proc(alloc, q.get())?;
-            Ok(Proc::Seq(p, q))
-        }
+        Proc::Seq(p, q) => sequence(alloc, p, q),
         Proc::Ended => Ok(Proc::Ended),
     }
+}
+
+// A prefix of the process `p`.
+#[cycle(copy_proc)]
+fn prefix(
+    alloc: Global,
+    head: &Head,
+    fields: &Items<Field>,
+    p: &Boxed<Proc>,
+) -> Result<Proc, NoMemory>
+    ensures { IfOk result (λ copy. copy ≡ Proc.Prefix head.now fields.now p.now) }
+{
+    let p = copy_boxed_proc(alloc, p.get())?;
+    let fields = copy_fields(alloc, fields.as_slice())?;
+    let head = copy_head(alloc, head)?;
+    Ok(Proc::Prefix(head, fields, p))
+}
+
+// The process `p` under a condition.
+#[cycle(copy_proc)]
+fn guard(alloc: Global, c: &Expr, p: &Boxed<Proc>) -> Result<Proc, NoMemory>
+    ensures { IfOk result (λ copy. copy ≡ Proc.Guard c.now p.now) }
+{
+    let p = copy_boxed_proc(alloc, p.get())?;
+    let c = copy_expr(alloc, c)?;
+    Ok(Proc::Guard(c, p))
+}
+
+// One of the processes `p` and `q`.
+#[cycle(copy_proc)]
+fn choice(alloc: Global, c: &Expr, p: &Boxed<Proc>, q: &Boxed<Proc>) -> Result<Proc, NoMemory>
+    ensures { IfOk result (λ copy. copy ≡ Proc.If c.now p.now q.now) }
+{
+    let p = copy_boxed_proc(alloc, p.get())?;
+    let q = copy_boxed_proc(alloc, q.get())?;
+    let c = copy_expr(alloc, c)?;
+    Ok(Proc::If(c, p, q))
+}
+
+// The external choice of some processes.
+#[cycle(copy_proc)]
+fn external(alloc: Global, procs: &Items<Proc>) -> Result<Proc, NoMemory>
+    ensures { IfOk result (λ copy. copy ≡ Proc.External procs.now) }
+{
+    let procs = copy_procs(alloc, procs.as_slice())?;
+    Ok(Proc::External(procs))
+}
+
+// The internal choice of some processes.
+#[cycle(copy_proc)]
+fn internal(alloc: Global, procs: &Items<Proc>) -> Result<Proc, NoMemory>
+    ensures { IfOk result (λ copy. copy ≡ Proc.Internal procs.now) }
+{
+    let procs = copy_procs(alloc, procs.as_slice())?;
+    Ok(Proc::Internal(procs))
+}
+
+// An external choice over the values of a set.
+#[cycle(copy_proc)]
+fn each_external(alloc: Global, slot: u32, set: &Expr, p: &Boxed<Proc>) -> Result<Proc, NoMemory>
+    ensures { IfOk result (λ copy. copy ≡ Proc.EachExternal slot set.now p.now) }
+{
+    let p = copy_boxed_proc(alloc, p.get())?;
+    let set = copy_expr(alloc, set)?;
+    Ok(Proc::EachExternal(slot, set, p))
+}
+
+// An internal choice over the values of a set.
+#[cycle(copy_proc)]
+fn each_internal(alloc: Global, slot: u32, set: &Expr, p: &Boxed<Proc>) -> Result<Proc, NoMemory>
+    ensures { IfOk result (λ copy. copy ≡ Proc.EachInternal slot set.now p.now) }
+{
+    let p = copy_boxed_proc(alloc, p.get())?;
+    let set = copy_expr(alloc, set)?;
+    Ok(Proc::EachInternal(slot, set, p))
+}
+
+// The process `p` with a set hidden.
+#[cycle(copy_proc)]
+fn hiding(alloc: Global, p: &Boxed<Proc>, set: &Expr) -> Result<Proc, NoMemory>
+    ensures { IfOk result (λ copy. copy ≡ Proc.Hide p.now set.now) }
+{
+    let p = copy_boxed_proc(alloc, p.get())?;
+    let set = copy_expr(alloc, set)?;
+    Ok(Proc::Hide(p, set))
+}
+
+// The process `p` renamed.
+#[cycle(copy_proc)]
+fn renaming(
+    alloc: Global,
+    p: &Boxed<Proc>,
+    pairs: &Items<(EventPart, EventPart)>,
+    gens: &Items<Gen>,
+) -> Result<Proc, NoMemory>
+    ensures { IfOk result (λ copy. copy ≡ Proc.Rename p.now pairs.now gens.now) }
+{
+    let p = copy_boxed_proc(alloc, p.get())?;
+    let pairs = copy_pairs(alloc, pairs.as_slice())?;
+    let gens = copy_gens(alloc, gens.as_slice())?;
+    Ok(Proc::Rename(p, pairs, gens))
+}
+
+// The use of a definition with arguments.
+fn call(alloc: Global, def: u32, args: &Items<Expr>) -> Result<Proc, NoMemory>
+    ensures { IfOk result (λ copy. copy ≡ Proc.Call def args.now) }
+{
+    let args = copy_exprs(alloc, args.as_slice())?;
+    Ok(Proc::Call(def, args))
+}
+
+// The process `q` after the process `p`.
+#[cycle(copy_proc)]
+fn sequence(alloc: Global, p: &Boxed<Proc>, q: &Boxed<Proc>) -> Result<Proc, NoMemory>
+    ensures { IfOk result (λ copy. copy ≡ Proc.Seq p.now q.now) }
+{
+    let p = copy_boxed_proc(alloc, p.get())?;
+    let q = copy_boxed_proc(alloc, q.get())?;
+    Ok(Proc::Seq(p, q))
 }
 
 /// The same process, on the heap.
