@@ -14,7 +14,7 @@ use crate::known::Known;
 use crate::places;
 use csp_base::{Name, NoMemory};
 use csp_text::{Decl, ResourceNames, RolesNames, Tree};
-use name_notes::walk::note_bound;
+use name_notes::note_bound;
 use name_notes::{Notes, note_tree};
 use name_tables::{Dictionary, NameSet};
 use script_names::{Kind, Place, Sense, Use};

@@ -360,6 +360,8 @@ module _ (m : Meanings) (kinds : List Kind) where
       heard_all-append n ((gen_binder m g).says place names) (in_turn (map (gen_binder m) gs) place (names ++ (gen_binder m g).names))
       ∙ ap (λ hole. gens_told m kinds gs place (names ++ hole) (gen_told m kinds g place names n)) (gen_binds m g)
 
+pub ruleset told_prefix = (told-Prefix)
+
 pub ruleset told_parts = (told-field-Dot, told-field-Output, told-field-Input, told-field-Input-from, told-gen-From, told-gen-Cond, told-part, told-pair)
 
 pub ruleset told_forms = (told-Num, told-True, told-False, told-Stop, told-Skip, told-Name, told-Call, told-Dot, told-Neg, told-Not, told-Binary, told-Range, told-SetOp, told-If, told-Display, told-Comp, told-Product, told-Rename, told-Guard, told-External, told-Internal, told-EachExternal, told-EachInternal, told-Parallel, told-EachParallel, told-Seq, told-Hide, told-Prefix)

@@ -1,25 +1,21 @@
 -- Loops over the parts of trees: one more, and no more.
 use Rattle.std.proofs.Common.{◌≡◌, ℕ, ◌+◌, ◌<◌, ◌≤◌, List, ◌++◌, length, drop, get_or, ap, sym, ◌∙◌}
 use Rattle.std.proofs.Math.ListN.{drop_of_length-le}
-use Rattle.std.specs.List.{flat_map}
 use Rattle.csp_text.specs.declared.tree.FieldTree.{FieldTree}
 use Rattle.csp_text.specs.declared.tree.FieldTree.TheViews.{out-PartTree}
 use Rattle.csp_text.specs.declared.tree.GenTree.{GenTree}
 use Rattle.csp_text.specs.declared.tree.PartTree.{PartTree}
 use Rattle.csp_text.specs.declared.tree.Tree.{Tree}
-use Rattle.csp_text.specs.declared.tree.Tree.TheVariants as tree
-use Rattle.script_names.specs.declared.kinds.Class.TheVariants as class
 use Rattle.script_names.specs.declared.kinds.Sense.{Sense}
 use Rattle.script_names.specs.declared.kinds.Use.TheVariants as how
 use Rattle.script_names.specs.declared.kinds.Kind.{Kind}
 use Rattle.script_names.specs.declared.kinds.Place.{Place}
 use Rattle.script_names.specs.Names.{Name, Meanings, sense_in}
-use Rattle.script_names.specs.Says.{data_in, process_in}
 use Rattle.name_notes.specs.declared.notes.Notes.{Notes}
-use Rattle.name_notes.specs.Heard.{form_heard, use_heard}
+use Rattle.name_notes.specs.Heard.{use_heard}
 use Rattle.name_notes.specs.Told.{field_names, field_told, fields_told, gen_names, gen_told, gens_told, pair_told, pairs_told, part_told, parts_told, tree_told, trees_told}
 use Rattle.name_notes.proofs.Binders.{split_at}
-use Rattle.name_notes.proofs.ToldEquations.{fields_told-first, gens_told-first, pairs_told-first, parts_told-first, told-Comp, told-Product, told-Rename, told-pair, trees_told-first}
+use Rattle.name_notes.proofs.ToldEquations.{fields_told-first, gens_told-first, pairs_told-first, parts_told-first, told-pair, trees_told-first}
 
 module _ (m : Meanings) (kinds : List Kind) where
   pub trees_told-step : (xs : List (Tree)) (i : ℕ) (x : Tree) (place : Place) (names after : List Name) (n new whole : Notes) → i < length xs → x ≡ get_or xs i x
@@ -94,25 +90,3 @@ module _ (m : Meanings) (kinds : List Kind) where
       → n3 ≡ pair_told m kinds pair place names n
   pair_now pair place names names1 n n1 n2 n3 left right s left_is s_is right_is used first same rest =
       let told = told-pair m kinds pair place names n in cc
-
-  pub comp_now : (t : Tree) (items items1 : List Tree) (gens gens1 gens2 : List GenTree) (place inner : Place) (names b1 b2 : List Name) (n n1 n2 n3 : Notes)
-      → t ≡ tree.Comp items gens → items1 ≡ items → gens1 ≡ gens → gens2 ≡ gens → inner ≡ data_in place → n1 ≡ form_heard n class.Data place
-      → b1 ≡ names ++ flat_map gen_names gens1 → n2 ≡ trees_told m kinds items1 inner b1 n1 → b2 ≡ names → n3 ≡ gens_told m kinds gens2 place b2 n2
-      → n3 ≡ tree_told m kinds t place names n
-  comp_now t items items1 gens gens1 gens2 place inner names b1 b2 n n1 n2 n3 is i1 g1 g2 d f b w r rest =
-      let told = told-Comp m kinds items gens place names n in cc
-
-  pub product_now : (t : Tree) (parts parts1 : List PartTree) (gens gens1 gens2 : List GenTree) (place : Place) (names b1 b2 : List Name) (n n1 n2 n3 : Notes)
-      → t ≡ tree.Product parts gens → parts1 ≡ parts → gens1 ≡ gens → gens2 ≡ gens → n1 ≡ form_heard n class.Data place
-      → b1 ≡ names ++ flat_map gen_names gens1 → n2 ≡ parts_told m kinds parts1 place b1 n1 → b2 ≡ names → n3 ≡ gens_told m kinds gens2 place b2 n2
-      → n3 ≡ tree_told m kinds t place names n
-  product_now t parts parts1 gens gens1 gens2 place names b1 b2 n n1 n2 n3 is i1 g1 g2 f b w r rest =
-      let told = told-Product m kinds parts gens place names n in cc
-
-  pub rename_now : (t p p1 : Tree) (pairs pairs1 : List (PartTree × PartTree)) (gens gens1 gens2 : List GenTree) (place process : Place) (names b0 b1 b2 : List Name) (n n0 n1 n2 n3 : Notes)
-      → t ≡ tree.Rename p pairs gens → p1 ≡ p → pairs1 ≡ pairs → gens1 ≡ gens → gens2 ≡ gens → process ≡ process_in place → n0 ≡ form_heard n class.Process place
-      → n1 ≡ tree_told m kinds p1 process names n0 → b0 ≡ names
-      → b1 ≡ b0 ++ flat_map gen_names gens1 → n2 ≡ pairs_told m kinds pairs1 place b1 n1 → b2 ≡ names → n3 ≡ gens_told m kinds gens2 place b2 n2
-      → n3 ≡ tree_told m kinds t place names n
-  rename_now t p p1 pairs pairs1 gens gens1 gens2 place process names b0 b1 b2 n n0 n1 n2 n3 is q i1 g1 g2 d f w0 z b w r rest =
-      let told = told-Rename m kinds p pairs gens place names n in cc

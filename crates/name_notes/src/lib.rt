@@ -3,9 +3,12 @@
 
 mod bound;
 mod inner;
+mod named;
 pub mod notes;
+mod trees;
 mod uses;
-pub mod walk;
+mod walk;
 
+pub use named::note_bound;
 pub use notes::{Body, Findings, Notes};
-pub use walk::note_tree;
+pub use trees::note_tree;

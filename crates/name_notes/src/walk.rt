@@ -1,81 +1,28 @@
 //! A walk over a tree that notes what it says at its names and forms, in the order of their tokens.
-#![tactic(auto, using(crate::proofs::ToldEquations::told_forms, crate::proofs::ToldEquations::told_parts, crate::proofs::Binders::bound_names))]
 
-ghost use Rattle.std.specs.Prelude.{◌≡◌, [], ◌∷◌, ◌++◌, ◌||◌, false, OnOk};
+ghost use Rattle.std.specs.Prelude.{◌≡◌, [], ◌∷◌, ◌++◌, ◌||◌, false, length, OnOk};
 ghost use Rattle.std.specs.List.{flat_map};
 ghost use Rattle.script_names.specs.Faults.{is_constant};
 ghost use Rattle.script_names.specs.Names.{first_of, sense_in};
-ghost use Rattle.script_names.specs.Says.{tree_says};
-ghost use Rattle.name_notes.specs.Heard.{again_heard, heard_all, use_heard};
+ghost use Rattle.script_names.specs.Says.{data_in, network_in, part_in, process_in};
+ghost use Rattle.name_notes.specs.Heard.{again_heard, form_heard, parallel_heard, use_heard};
 ghost use Rattle.name_notes.specs.Told.{field_names, field_told, fields_told, gen_names, gen_told, gens_told, pair_told, pairs_told, part_told, parts_told, tree_told, trees_told};
 
-use crate::bound::{BoundNames, bind_all, bind_gens};
+use crate::bound::{BoundNames, bind_gens};
 use crate::inner::places_in;
+use crate::named::{note_bound, note_name};
 use crate::notes::Notes;
+use containers::{Boxed, Items};
 use csp_base::{Name, NoMemory};
-use csp_text::{FieldTree, GenTree, PartTree, Tree};
+use csp_text::{EventTree, FieldTree, GenTree, PartTree, Tree};
 use name_tables::Dictionary;
-use script_names::{Class, Entity, Kind, Place, Use};
+use script_names::{Class, Kind, Place, Use};
 use std::alloc::Global;
 
-/// Notes what a tree says at a place, under bound names.
-#[tactic(auto, unfolding(crate::specs::Told::tree_told))]
-pub fn note_tree(
-    alloc: Global,
-    names: &Dictionary,
-    kinds: &[Kind],
-    notes: &mut Notes,
-    params: &[Name],
-    place: Place,
-    tree: &Tree,
-) -> Result<(), NoMemory>
-    ensures { OnOk result (notes.new ≡ heard_all (first_of names.now) kinds.now notes.old (tree_says (first_of names.now) tree.now place params.now)) }
-{
-    let mut bound = BoundNames::new(alloc);
-    bind_all(&mut bound, params)?;
-    walk(alloc, names, kinds, notes, &mut bound, place, tree)
-}
-
-// Notes the use of a name.
-fn note_name(
-    alloc: Global,
-    names: &Dictionary,
-    kinds: &[Kind],
-    notes: &mut Notes,
-    bound: &BoundNames,
-    x: &Name,
-    how: Use,
-) -> Result<(), NoMemory>
-    ensures { OnOk result (notes.new ≡ use_heard kinds.now notes.old x.now (sense_in (first_of names.now) bound.now x.now) how) }
-{
-    let sense = bound.sense_of(names, x);
-    notes.note_use(alloc, kinds, x, sense, how)
-}
-
-// Whether a name is a constant.
-fn is_constant(names: &Dictionary, x: &Name) -> bool
-    ensures { result ≡ is_constant (first_of names.now x.now) }
-{
-    matches!(names.find(x), Some(Entity::Constant(_)))
-}
-
-/// Notes a name that is bound, and whether it is a parameter that repeats.
-pub fn note_bound(
-    alloc: Global,
-    names: &Dictionary,
-    notes: &mut Notes,
-    x: &Name,
-    repeats: bool,
-) -> Result<(), NoMemory>
-    ensures { OnOk result (notes.new ≡ again_heard notes.old x.now (repeats || is_constant (first_of names.now x.now))) }
-{
-    let again = repeats || is_constant(names, x);
-    notes.note_again(alloc, x, again)
-}
-
-// Notes what a tree says at a place, under the names that are bound there.
+/// Notes what a tree says at a place, under the names that are bound there.
+#[tactic(auto, using(crate::proofs::ToldEquations::told_forms))]
 #[cycle(walk)]
-fn walk(
+pub(crate) fn walk(
     alloc: Global,
     names: &Dictionary,
     kinds: &[Kind],
@@ -87,7 +34,6 @@ fn walk(
     ensures notes { OnOk result (notes.new ≡ tree_told (first_of names.now) kinds.now tree.now place bound.old notes.old) }
     ensures bound { OnOk result (bound.new ≡ bound.old) }
 {
-    let inner = places_in(place)?;
     match tree {
         Tree::Num(_) | Tree::True | Tree::False => {
             notes.note_form(Class::Data, place);
@@ -98,161 +44,516 @@ fn walk(
             Ok(())
         }
         Tree::Name(x) => note_name(alloc, names, kinds, notes, bound, x, Use::Alone(place)),
-        Tree::Call(f, args) => {
-            let how = Use::Called(args.len(), place);
-            note_name(alloc, names, kinds, notes, bound, f, how)?;
-            walk_all(
-                alloc,
-                names,
-                kinds,
-                notes,
-                bound,
-                inner.data,
-                args.as_slice(),
-            )
-        }
-        Tree::Dot(c, fields) => {
-            notes.note_form(Class::Data, place);
-            let how = Use::Dotted(fields.len());
-            note_name(alloc, names, kinds, notes, bound, c, how)?;
-            walk_all(
-                alloc,
-                names,
-                kinds,
-                notes,
-                bound,
-                inner.data,
-                fields.as_slice(),
-            )
-        }
-        Tree::Neg(a) | Tree::Not(a) => {
-            notes.note_form(Class::Data, place);
-            walk(alloc, names, kinds, notes, bound, inner.data, a.get())
-        }
+        Tree::Call(f, args) => walk_call(alloc, names, kinds, notes, bound, place, f, args),
+        Tree::Dot(c, fields) => walk_dot(alloc, names, kinds, notes, bound, place, c, fields),
+        Tree::Neg(a) | Tree::Not(a) => walk_operand(alloc, names, kinds, notes, bound, place, a),
         Tree::Binary(_, a, b) | Tree::Range(a, b) | Tree::SetOp(_, a, b) => {
-            notes.note_form(Class::Data, place);
-            walk(alloc, names, kinds, notes, bound, inner.data, a.get())?;
-            walk(alloc, names, kinds, notes, bound, inner.data, b.get())
+            walk_operands(alloc, names, kinds, notes, bound, place, a, b)
         }
-        Tree::If(c, a, b) => {
-            walk(alloc, names, kinds, notes, bound, inner.data, c.get())?;
-            walk(alloc, names, kinds, notes, bound, inner.part, a.get())?;
-            walk(alloc, names, kinds, notes, bound, inner.part, b.get())
-        }
-        Tree::Display(items) => {
-            notes.note_form(Class::Data, place);
-            walk_all(
-                alloc,
-                names,
-                kinds,
-                notes,
-                bound,
-                inner.data,
-                items.as_slice(),
-            )
-        }
-        Tree::Comp(items, gens) => {
-            notes.note_form(Class::Data, place);
-            let mark = bound.len();
-            bind_gens(bound, gens.as_slice())?;
-            walk_all(
-                alloc,
-                names,
-                kinds,
-                notes,
-                bound,
-                inner.data,
-                items.as_slice(),
-            )?;
-            bound.leave(mark);
-            walk_gens(alloc, names, kinds, notes, bound, place, gens.as_slice())?;
-            Ok(())
-        }
-        Tree::Product(parts, gens) => {
-            notes.note_form(Class::Data, place);
-            let mark = bound.len();
-            bind_gens(bound, gens.as_slice())?;
-            walk_parts(alloc, names, kinds, notes, bound, place, parts.as_slice())?;
-            bound.leave(mark);
-            walk_gens(alloc, names, kinds, notes, bound, place, gens.as_slice())?;
-            Ok(())
-        }
-        Tree::Prefix(event, p) => {
-            notes.note_form(Class::Process, place);
-            let how = Use::Heads(event.fields.len());
-            note_name(alloc, names, kinds, notes, bound, &event.name, how)?;
-            let mark = bound.len();
-            walk_fields(
-                alloc,
-                names,
-                kinds,
-                notes,
-                bound,
-                place,
-                event.fields.as_slice(),
-            )?;
-            walk(alloc, names, kinds, notes, bound, inner.process, p.get())?;
-            bound.leave(mark);
-            Ok(())
-        }
-        Tree::Guard(c, p) => {
-            notes.note_form(Class::Process, place);
-            walk(alloc, names, kinds, notes, bound, inner.data, c.get())?;
-            walk(alloc, names, kinds, notes, bound, inner.process, p.get())
-        }
-        Tree::External(ps) | Tree::Internal(ps) => {
-            notes.note_form(Class::Process, place);
-            walk_all(
-                alloc,
-                names,
-                kinds,
-                notes,
-                bound,
-                inner.process,
-                ps.as_slice(),
-            )
-        }
+        Tree::If(c, a, b) => walk_choice(alloc, names, kinds, notes, bound, place, c, a, b),
+        Tree::Display(items) => walk_display(alloc, names, kinds, notes, bound, place, items),
+        Tree::Comp(items, gens) => walk_comprehension(
+            alloc, names, kinds, notes, bound, place, items, gens,
+        ),
+        Tree::Product(parts, gens) => walk_product(
+            alloc, names, kinds, notes, bound, place, parts, gens,
+        ),
+        Tree::Prefix(event, p) => walk_prefix(alloc, names, kinds, notes, bound, place, event, p),
+        Tree::Guard(c, p) => walk_guard(alloc, names, kinds, notes, bound, place, c, p),
+        Tree::External(ps) | Tree::Internal(ps) => walk_processes(
+            alloc, names, kinds, notes, bound, place, ps,
+        ),
         Tree::EachExternal(x, s, p) | Tree::EachInternal(x, s, p) => {
-            notes.note_form(Class::Process, place);
-            note_bound(alloc, names, notes, x, false)?;
-            walk(alloc, names, kinds, notes, bound, inner.data, s.get())?;
-            walk_under(alloc, names, kinds, notes, bound, inner.process, x, p.get())
+            walk_for_each(alloc, names, kinds, notes, bound, place, x, s, p)
         }
-        Tree::Parallel(p, a, b, q) => {
-            notes.note_parallel(place);
-            walk(alloc, names, kinds, notes, bound, inner.network, p.get())?;
-            walk(alloc, names, kinds, notes, bound, inner.data, a.get())?;
-            walk(alloc, names, kinds, notes, bound, inner.data, b.get())?;
-            walk(alloc, names, kinds, notes, bound, inner.network, q.get())
-        }
-        Tree::EachParallel(x, s, a, p) => {
-            notes.note_parallel(place);
-            note_bound(alloc, names, notes, x, false)?;
-            walk(alloc, names, kinds, notes, bound, inner.data, s.get())?;
-            walk_under(alloc, names, kinds, notes, bound, inner.data, x, a.get())?;
-            walk_under(alloc, names, kinds, notes, bound, inner.network, x, p.get())
-        }
-        Tree::Seq(p, q) => {
-            notes.note_form(Class::Process, place);
-            walk(alloc, names, kinds, notes, bound, inner.process, p.get())?;
-            walk(alloc, names, kinds, notes, bound, inner.process, q.get())
-        }
-        Tree::Hide(p, s) => {
-            notes.note_form(Class::Process, place);
-            walk(alloc, names, kinds, notes, bound, inner.process, p.get())?;
-            walk(alloc, names, kinds, notes, bound, inner.data, s.get())
-        }
-        Tree::Rename(p, pairs, gens) => {
-            notes.note_form(Class::Process, place);
-            walk(alloc, names, kinds, notes, bound, inner.process, p.get())?;
-            let mark = bound.len();
-            bind_gens(bound, gens.as_slice())?;
-            walk_pairs(alloc, names, kinds, notes, bound, place, pairs.as_slice())?;
-            bound.leave(mark);
-            walk_gens(alloc, names, kinds, notes, bound, place, gens.as_slice())?;
-            Ok(())
-        }
+        Tree::Parallel(p, a, b, q) => walk_parallel(
+            alloc, names, kinds, notes, bound, place, p, a, b, q,
+        ),
+        Tree::EachParallel(x, s, a, p) => walk_each_parallel(
+            alloc, names, kinds, notes, bound, place, x, s, a, p,
+        ),
+        Tree::Seq(p, q) => walk_sequence(alloc, names, kinds, notes, bound, place, p, q),
+        Tree::Hide(p, s) => walk_hiding(alloc, names, kinds, notes, bound, place, p, s),
+        Tree::Rename(p, pairs, gens) => walk_renaming(
+            alloc, names, kinds, notes, bound, place, pairs, gens, p,
+        ),
     }
+}
+
+// Notes the use of the definition `f` with arguments.
+#[cycle(walk)]
+fn walk_call(
+    alloc: Global,
+    names: &Dictionary,
+    kinds: &[Kind],
+    notes: &mut Notes,
+    bound: &mut BoundNames,
+    place: Place,
+    f: &Name,
+    args: &Items<Tree>,
+) -> Result<(), NoMemory>
+    ensures notes { OnOk result (notes.new ≡ trees_told (first_of names.now) kinds.now args.now (data_in place) bound.old (use_heard kinds.now notes.old f.now (sense_in (first_of names.now) bound.old f.now) (Use.Called (length args.now) place))) }
+    ensures bound { OnOk result (bound.new ≡ bound.old) }
+{
+    let inner = places_in(place)?;
+    let how = Use::Called(args.len(), place);
+    note_name(alloc, names, kinds, notes, bound, f, how)?;
+    walk_all(
+        alloc,
+        names,
+        kinds,
+        notes,
+        bound,
+        inner.data,
+        args.as_slice(),
+    )
+}
+
+// Notes the use of the channel `c` with fields.
+#[cycle(walk)]
+fn walk_dot(
+    alloc: Global,
+    names: &Dictionary,
+    kinds: &[Kind],
+    notes: &mut Notes,
+    bound: &mut BoundNames,
+    place: Place,
+    c: &Name,
+    fields: &Items<Tree>,
+) -> Result<(), NoMemory>
+    ensures notes { OnOk result (notes.new ≡ trees_told (first_of names.now) kinds.now fields.now (data_in place) bound.old (use_heard kinds.now (form_heard notes.old Class.Data place) c.now (sense_in (first_of names.now) bound.old c.now) (Use.Dotted (length fields.now)))) }
+    ensures bound { OnOk result (bound.new ≡ bound.old) }
+{
+    let inner = places_in(place)?;
+    notes.note_form(Class::Data, place);
+    let how = Use::Dotted(fields.len());
+    note_name(alloc, names, kinds, notes, bound, c, how)?;
+    walk_all(
+        alloc,
+        names,
+        kinds,
+        notes,
+        bound,
+        inner.data,
+        fields.as_slice(),
+    )
+}
+
+// Notes an operator before its operand.
+#[cycle(walk)]
+fn walk_operand(
+    alloc: Global,
+    names: &Dictionary,
+    kinds: &[Kind],
+    notes: &mut Notes,
+    bound: &mut BoundNames,
+    place: Place,
+    a: &Boxed<Tree>,
+) -> Result<(), NoMemory>
+    ensures notes { OnOk result (notes.new ≡ tree_told (first_of names.now) kinds.now a.now (data_in place) bound.old (form_heard notes.old Class.Data place)) }
+    ensures bound { OnOk result (bound.new ≡ bound.old) }
+{
+    let inner = places_in(place)?;
+    notes.note_form(Class::Data, place);
+    walk(alloc, names, kinds, notes, bound, inner.data, a.get())
+}
+
+// Notes an operator between its operands.
+#[cycle(walk)]
+fn walk_operands(
+    alloc: Global,
+    names: &Dictionary,
+    kinds: &[Kind],
+    notes: &mut Notes,
+    bound: &mut BoundNames,
+    place: Place,
+    a: &Boxed<Tree>,
+    b: &Boxed<Tree>,
+) -> Result<(), NoMemory>
+    ensures notes { OnOk result (notes.new ≡ tree_told (first_of names.now) kinds.now b.now (data_in place) bound.old (tree_told (first_of names.now) kinds.now a.now (data_in place) bound.old (form_heard notes.old Class.Data place))) }
+    ensures bound { OnOk result (bound.new ≡ bound.old) }
+{
+    let inner = places_in(place)?;
+    notes.note_form(Class::Data, place);
+    walk(alloc, names, kinds, notes, bound, inner.data, a.get())?;
+    walk(alloc, names, kinds, notes, bound, inner.data, b.get())
+}
+
+// Notes an `if`.
+#[cycle(walk)]
+fn walk_choice(
+    alloc: Global,
+    names: &Dictionary,
+    kinds: &[Kind],
+    notes: &mut Notes,
+    bound: &mut BoundNames,
+    place: Place,
+    c: &Boxed<Tree>,
+    a: &Boxed<Tree>,
+    b: &Boxed<Tree>,
+) -> Result<(), NoMemory>
+    ensures notes { OnOk result (notes.new ≡ tree_told (first_of names.now) kinds.now b.now (part_in place) bound.old (tree_told (first_of names.now) kinds.now a.now (part_in place) bound.old (tree_told (first_of names.now) kinds.now c.now (data_in place) bound.old notes.old))) }
+    ensures bound { OnOk result (bound.new ≡ bound.old) }
+{
+    let inner = places_in(place)?;
+    walk(alloc, names, kinds, notes, bound, inner.data, c.get())?;
+    walk(alloc, names, kinds, notes, bound, inner.part, a.get())?;
+    walk(alloc, names, kinds, notes, bound, inner.part, b.get())
+}
+
+// Notes a set of what is written.
+#[cycle(walk)]
+fn walk_display(
+    alloc: Global,
+    names: &Dictionary,
+    kinds: &[Kind],
+    notes: &mut Notes,
+    bound: &mut BoundNames,
+    place: Place,
+    items: &Items<Tree>,
+) -> Result<(), NoMemory>
+    ensures notes { OnOk result (notes.new ≡ trees_told (first_of names.now) kinds.now items.now (data_in place) bound.old (form_heard notes.old Class.Data place)) }
+    ensures bound { OnOk result (bound.new ≡ bound.old) }
+{
+    let inner = places_in(place)?;
+    notes.note_form(Class::Data, place);
+    walk_all(
+        alloc,
+        names,
+        kinds,
+        notes,
+        bound,
+        inner.data,
+        items.as_slice(),
+    )
+}
+
+// Notes what trees say under the names of generators.
+#[cycle(walk)]
+fn walk_all_under(
+    alloc: Global,
+    names: &Dictionary,
+    kinds: &[Kind],
+    notes: &mut Notes,
+    bound: &mut BoundNames,
+    place: Place,
+    items: &Items<Tree>,
+    gens: &Items<GenTree>,
+) -> Result<(), NoMemory>
+    ensures notes { OnOk result (notes.new ≡ trees_told (first_of names.now) kinds.now items.now place (bound.old ++ flat_map gen_names gens.now) notes.old) }
+    ensures bound { OnOk result (bound.new ≡ bound.old) }
+{
+    let mark = bound.len();
+    bind_gens(bound, gens.as_slice())?;
+    walk_all(alloc, names, kinds, notes, bound, place, items.as_slice())?;
+    bound.leave(mark);
+    Ok(())
+}
+
+// Notes what the fronts of events say under the names of generators.
+#[cycle(walk)]
+fn walk_parts_under(
+    alloc: Global,
+    names: &Dictionary,
+    kinds: &[Kind],
+    notes: &mut Notes,
+    bound: &mut BoundNames,
+    place: Place,
+    parts: &Items<PartTree>,
+    gens: &Items<GenTree>,
+) -> Result<(), NoMemory>
+    ensures notes { OnOk result (notes.new ≡ parts_told (first_of names.now) kinds.now parts.now place (bound.old ++ flat_map gen_names gens.now) notes.old) }
+    ensures bound { OnOk result (bound.new ≡ bound.old) }
+{
+    let mark = bound.len();
+    bind_gens(bound, gens.as_slice())?;
+    walk_parts(alloc, names, kinds, notes, bound, place, parts.as_slice())?;
+    bound.leave(mark);
+    Ok(())
+}
+
+// Notes what the pairs of a renaming say under the names of generators.
+#[cycle(walk)]
+fn walk_pairs_under(
+    alloc: Global,
+    names: &Dictionary,
+    kinds: &[Kind],
+    notes: &mut Notes,
+    bound: &mut BoundNames,
+    place: Place,
+    pairs: &Items<(PartTree, PartTree)>,
+    gens: &Items<GenTree>,
+) -> Result<(), NoMemory>
+    ensures notes { OnOk result (notes.new ≡ pairs_told (first_of names.now) kinds.now pairs.now place (bound.old ++ flat_map gen_names gens.now) notes.old) }
+    ensures bound { OnOk result (bound.new ≡ bound.old) }
+{
+    let mark = bound.len();
+    bind_gens(bound, gens.as_slice())?;
+    walk_pairs(alloc, names, kinds, notes, bound, place, pairs.as_slice())?;
+    bound.leave(mark);
+    Ok(())
+}
+
+// Notes a comprehension.
+#[cycle(walk)]
+fn walk_comprehension(
+    alloc: Global,
+    names: &Dictionary,
+    kinds: &[Kind],
+    notes: &mut Notes,
+    bound: &mut BoundNames,
+    place: Place,
+    items: &Items<Tree>,
+    gens: &Items<GenTree>,
+) -> Result<(), NoMemory>
+    ensures notes { OnOk result (notes.new ≡ gens_told (first_of names.now) kinds.now gens.now place bound.old (trees_told (first_of names.now) kinds.now items.now (data_in place) (bound.old ++ flat_map gen_names gens.now) (form_heard notes.old Class.Data place))) }
+    ensures bound { OnOk result (bound.new ≡ bound.old) }
+{
+    let inner = places_in(place)?;
+    notes.note_form(Class::Data, place);
+    walk_all_under(alloc, names, kinds, notes, bound, inner.data, items, gens)?;
+    walk_gens(alloc, names, kinds, notes, bound, place, gens.as_slice())
+}
+
+// Notes the events that begin with some fronts.
+#[cycle(walk)]
+fn walk_product(
+    alloc: Global,
+    names: &Dictionary,
+    kinds: &[Kind],
+    notes: &mut Notes,
+    bound: &mut BoundNames,
+    place: Place,
+    parts: &Items<PartTree>,
+    gens: &Items<GenTree>,
+) -> Result<(), NoMemory>
+    ensures notes { OnOk result (notes.new ≡ gens_told (first_of names.now) kinds.now gens.now place bound.old (parts_told (first_of names.now) kinds.now parts.now place (bound.old ++ flat_map gen_names gens.now) (form_heard notes.old Class.Data place))) }
+    ensures bound { OnOk result (bound.new ≡ bound.old) }
+{
+    notes.note_form(Class::Data, place);
+    walk_parts_under(alloc, names, kinds, notes, bound, place, parts, gens)?;
+    walk_gens(alloc, names, kinds, notes, bound, place, gens.as_slice())
+}
+
+// Notes a prefix.
+#[tactic(auto, using(crate::proofs::ToldEquations::told_prefix))]
+#[cycle(walk)]
+fn walk_prefix(
+    alloc: Global,
+    names: &Dictionary,
+    kinds: &[Kind],
+    notes: &mut Notes,
+    bound: &mut BoundNames,
+    place: Place,
+    event: &EventTree,
+    p: &Boxed<Tree>,
+) -> Result<(), NoMemory>
+    ensures notes { OnOk result (notes.new ≡ tree_told (first_of names.now) kinds.now (Tree.Prefix event.now p.now) place bound.old notes.old) }
+    ensures bound { OnOk result (bound.new ≡ bound.old) }
+{
+    let inner = places_in(place)?;
+    notes.note_form(Class::Process, place);
+    let how = Use::Heads(event.fields.len());
+    note_name(alloc, names, kinds, notes, bound, &event.name, how)?;
+    let mark = bound.len();
+    walk_fields(
+        alloc,
+        names,
+        kinds,
+        notes,
+        bound,
+        place,
+        event.fields.as_slice(),
+    )?;
+    walk(alloc, names, kinds, notes, bound, inner.process, p.get())?;
+    bound.leave(mark);
+    Ok(())
+}
+
+// Notes a guard.
+#[cycle(walk)]
+fn walk_guard(
+    alloc: Global,
+    names: &Dictionary,
+    kinds: &[Kind],
+    notes: &mut Notes,
+    bound: &mut BoundNames,
+    place: Place,
+    c: &Boxed<Tree>,
+    p: &Boxed<Tree>,
+) -> Result<(), NoMemory>
+    ensures notes { OnOk result (notes.new ≡ tree_told (first_of names.now) kinds.now p.now (process_in place) bound.old (tree_told (first_of names.now) kinds.now c.now (data_in place) bound.old (form_heard notes.old Class.Process place))) }
+    ensures bound { OnOk result (bound.new ≡ bound.old) }
+{
+    let inner = places_in(place)?;
+    notes.note_form(Class::Process, place);
+    walk(alloc, names, kinds, notes, bound, inner.data, c.get())?;
+    walk(alloc, names, kinds, notes, bound, inner.process, p.get())
+}
+
+// Notes a choice of some processes.
+#[cycle(walk)]
+fn walk_processes(
+    alloc: Global,
+    names: &Dictionary,
+    kinds: &[Kind],
+    notes: &mut Notes,
+    bound: &mut BoundNames,
+    place: Place,
+    ps: &Items<Tree>,
+) -> Result<(), NoMemory>
+    ensures notes { OnOk result (notes.new ≡ trees_told (first_of names.now) kinds.now ps.now (process_in place) bound.old (form_heard notes.old Class.Process place)) }
+    ensures bound { OnOk result (bound.new ≡ bound.old) }
+{
+    let inner = places_in(place)?;
+    notes.note_form(Class::Process, place);
+    walk_all(
+        alloc,
+        names,
+        kinds,
+        notes,
+        bound,
+        inner.process,
+        ps.as_slice(),
+    )
+}
+
+// Notes a choice over the values of a set.
+#[cycle(walk)]
+fn walk_for_each(
+    alloc: Global,
+    names: &Dictionary,
+    kinds: &[Kind],
+    notes: &mut Notes,
+    bound: &mut BoundNames,
+    place: Place,
+    x: &Name,
+    s: &Boxed<Tree>,
+    p: &Boxed<Tree>,
+) -> Result<(), NoMemory>
+    ensures notes { OnOk result (notes.new ≡ tree_told (first_of names.now) kinds.now p.now (process_in place) (bound.old ++ x.now ∷ []) (tree_told (first_of names.now) kinds.now s.now (data_in place) bound.old (again_heard (form_heard notes.old Class.Process place) x.now (false || is_constant (first_of names.now x.now))))) }
+    ensures bound { OnOk result (bound.new ≡ bound.old) }
+{
+    let inner = places_in(place)?;
+    notes.note_form(Class::Process, place);
+    note_bound(alloc, names, notes, x, false)?;
+    walk(alloc, names, kinds, notes, bound, inner.data, s.get())?;
+    walk_under(alloc, names, kinds, notes, bound, inner.process, x, p.get())
+}
+
+// Notes two networks in parallel.
+#[cycle(walk)]
+fn walk_parallel(
+    alloc: Global,
+    names: &Dictionary,
+    kinds: &[Kind],
+    notes: &mut Notes,
+    bound: &mut BoundNames,
+    place: Place,
+    p: &Boxed<Tree>,
+    a: &Boxed<Tree>,
+    b: &Boxed<Tree>,
+    q: &Boxed<Tree>,
+) -> Result<(), NoMemory>
+    ensures notes { OnOk result (notes.new ≡ tree_told (first_of names.now) kinds.now q.now (network_in place) bound.old (tree_told (first_of names.now) kinds.now b.now (data_in place) bound.old (tree_told (first_of names.now) kinds.now a.now (data_in place) bound.old (tree_told (first_of names.now) kinds.now p.now (network_in place) bound.old (parallel_heard notes.old place))))) }
+    ensures bound { OnOk result (bound.new ≡ bound.old) }
+{
+    let inner = places_in(place)?;
+    notes.note_parallel(place);
+    walk(alloc, names, kinds, notes, bound, inner.network, p.get())?;
+    walk(alloc, names, kinds, notes, bound, inner.data, a.get())?;
+    walk(alloc, names, kinds, notes, bound, inner.data, b.get())?;
+    walk(alloc, names, kinds, notes, bound, inner.network, q.get())
+}
+
+// Notes networks in parallel over the values of a set.
+#[cycle(walk)]
+fn walk_each_parallel(
+    alloc: Global,
+    names: &Dictionary,
+    kinds: &[Kind],
+    notes: &mut Notes,
+    bound: &mut BoundNames,
+    place: Place,
+    x: &Name,
+    s: &Boxed<Tree>,
+    a: &Boxed<Tree>,
+    p: &Boxed<Tree>,
+) -> Result<(), NoMemory>
+    ensures notes { OnOk result (notes.new ≡ tree_told (first_of names.now) kinds.now p.now (network_in place) (bound.old ++ x.now ∷ []) (tree_told (first_of names.now) kinds.now a.now (data_in place) (bound.old ++ x.now ∷ []) (tree_told (first_of names.now) kinds.now s.now (data_in place) bound.old (again_heard (parallel_heard notes.old place) x.now (false || is_constant (first_of names.now x.now)))))) }
+    ensures bound { OnOk result (bound.new ≡ bound.old) }
+{
+    let inner = places_in(place)?;
+    notes.note_parallel(place);
+    note_bound(alloc, names, notes, x, false)?;
+    walk(alloc, names, kinds, notes, bound, inner.data, s.get())?;
+    walk_under(alloc, names, kinds, notes, bound, inner.data, x, a.get())?;
+    walk_under(alloc, names, kinds, notes, bound, inner.network, x, p.get())
+}
+
+// Notes one process after the other.
+#[cycle(walk)]
+fn walk_sequence(
+    alloc: Global,
+    names: &Dictionary,
+    kinds: &[Kind],
+    notes: &mut Notes,
+    bound: &mut BoundNames,
+    place: Place,
+    p: &Boxed<Tree>,
+    q: &Boxed<Tree>,
+) -> Result<(), NoMemory>
+    ensures notes { OnOk result (notes.new ≡ tree_told (first_of names.now) kinds.now q.now (process_in place) bound.old (tree_told (first_of names.now) kinds.now p.now (process_in place) bound.old (form_heard notes.old Class.Process place))) }
+    ensures bound { OnOk result (bound.new ≡ bound.old) }
+{
+    let inner = places_in(place)?;
+    notes.note_form(Class::Process, place);
+    walk(alloc, names, kinds, notes, bound, inner.process, p.get())?;
+    walk(alloc, names, kinds, notes, bound, inner.process, q.get())
+}
+
+// Notes a process with a set hidden.
+#[cycle(walk)]
+fn walk_hiding(
+    alloc: Global,
+    names: &Dictionary,
+    kinds: &[Kind],
+    notes: &mut Notes,
+    bound: &mut BoundNames,
+    place: Place,
+    p: &Boxed<Tree>,
+    s: &Boxed<Tree>,
+) -> Result<(), NoMemory>
+    ensures notes { OnOk result (notes.new ≡ tree_told (first_of names.now) kinds.now s.now (data_in place) bound.old (tree_told (first_of names.now) kinds.now p.now (process_in place) bound.old (form_heard notes.old Class.Process place))) }
+    ensures bound { OnOk result (bound.new ≡ bound.old) }
+{
+    let inner = places_in(place)?;
+    notes.note_form(Class::Process, place);
+    walk(alloc, names, kinds, notes, bound, inner.process, p.get())?;
+    walk(alloc, names, kinds, notes, bound, inner.data, s.get())
+}
+
+// Notes a process renamed.
+#[cycle(walk)]
+fn walk_renaming(
+    alloc: Global,
+    names: &Dictionary,
+    kinds: &[Kind],
+    notes: &mut Notes,
+    bound: &mut BoundNames,
+    place: Place,
+    pairs: &Items<(PartTree, PartTree)>,
+    gens: &Items<GenTree>,
+    p: &Boxed<Tree>,
+) -> Result<(), NoMemory>
+    ensures notes { OnOk result (notes.new ≡ gens_told (first_of names.now) kinds.now gens.now place bound.old (pairs_told (first_of names.now) kinds.now pairs.now place (bound.old ++ flat_map gen_names gens.now) (tree_told (first_of names.now) kinds.now p.now (process_in place) bound.old (form_heard notes.old Class.Process place)))) }
+    ensures bound { OnOk result (bound.new ≡ bound.old) }
+{
+    let inner = places_in(place)?;
+    notes.note_form(Class::Process, place);
+    walk(alloc, names, kinds, notes, bound, inner.process, p.get())?;
+    walk_pairs_under(alloc, names, kinds, notes, bound, place, pairs, gens)?;
+    walk_gens(alloc, names, kinds, notes, bound, place, gens.as_slice())
 }
 
 // Notes what a tree says under one more bound name.
@@ -318,6 +619,7 @@ fn walk_fields(
 }
 
 // Notes what a field says, and binds its name.
+#[tactic(auto, using(crate::proofs::ToldEquations::told_parts, crate::proofs::Binders::bound_names))]
 #[cycle(walk)]
 fn walk_field(
     alloc: Global,
@@ -381,6 +683,7 @@ fn walk_gens(
 }
 
 // Notes what a generator says, and binds its name.
+#[tactic(auto, using(crate::proofs::ToldEquations::told_parts, crate::proofs::Binders::bound_names))]
 #[cycle(walk)]
 fn walk_gen(
     alloc: Global,
@@ -429,6 +732,7 @@ fn walk_parts(
 }
 
 // Notes what the front of an event says.
+#[tactic(auto, using(crate::proofs::ToldEquations::told_parts))]
 #[cycle(walk)]
 fn walk_part(
     alloc: Global,
@@ -457,6 +761,7 @@ fn walk_part(
 }
 
 // Notes what the pairs of a renaming say.
+#[tactic(auto, using(crate::proofs::ToldEquations::told_parts))]
 #[cycle(walk)]
 fn walk_pairs(
     alloc: Global,

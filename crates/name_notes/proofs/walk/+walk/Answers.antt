@@ -3,7 +3,7 @@ use Rattle.std.specs.List.{flat_map}
 use Rattle.script_names.specs.Names.{first_of}
 use Rattle.name_notes.specs.Told.{field_names, fields_told, gen_names, gens_told, pairs_told, parts_told, trees_told}
 use Rattle.name_notes.proofs.Binders.{field_names-Dot, field_names-Output, gen_names-Cond, none_bound, restored}
-use Rattle.name_notes.proofs.WalkSteps.{fields_told-end, fields_told-step, gens_told-end, gens_told-step, pair_now, comp_now, product_now, rename_now, pairs_told-end, pairs_told-step, parts_told-end, parts_told-step, trees_told-end, trees_told-step}
+use Rattle.name_notes.proofs.WalkSteps.{fields_told-end, fields_told-step, gens_told-end, gens_told-step, pair_now, pairs_told-end, pairs_told-step, parts_told-end, parts_told-step, trees_told-end, trees_told-step}
 use Rattle.name_tables.proofs.DeclaredLemmas.{flat_end, flat_step}
 use Rattle.name_notes.proofs.walk.+walk.Goals as goal
 
@@ -102,35 +102,3 @@ walk_field-returns-in_ok-walk-in-Output-clause-bound t c =
 pub walk_gen-returns-in_ok-walk-in-Cond-clause-bound : goal.walk_gen-returns-in_ok-walk-in-Cond-clause-bound
 walk_gen-returns-in_ok-walk-in-Cond-clause-bound t c =
     c.in_ok-walk-in-Cond.ensures.bound ∙ none_bound c.args.bound.now (gen_names c.args.generator.now) (ap gen_names c.in-Cond.is ∙ gen_names-Cond c.in-Cond.condition)
-
-pub walk-returns-in_ok-walk_gens-in-Comp-clause-notes : goal.walk-returns-in_ok-walk_gens-in-Comp-clause-notes
-walk-returns-in_ok-walk_gens-in-Comp-clause-notes t c =
-    comp_now (first_of c.args.names.now) c.args.kinds.now c.args.tree.now c.in-Comp.items c.as_slice-in-Comp-2.result.now c.in-Comp.gens c.as_slice-in-Comp.result.now c.as_slice-in-Comp-3.result.now
-    c.args.place c.in_ok-inner.inner.data c.args.bound.now c.bind_gens.new.bound c.leave.new.self c.args.notes.now c.note_form-in-Comp.new.self c.walk_all-in-Comp.new.notes c.walk_gens.new.notes
-    c.in-Comp.is c.as_slice-in-Comp-2.ensures c.as_slice-in-Comp.ensures c.as_slice-in-Comp-3.ensures c.in_ok-inner.ensures.data c.note_form-in-Comp.ensures
-    c.in_ok-bind_gens-in-Comp.ensures c.in_ok-walk_all-in-Comp.ensures.notes
-    (restored c.leave.new.self c.bind_gens.new.bound c.walk_all-in-Comp.new.bound c.args.bound.now (flat_map gen_names c.as_slice-in-Comp.result.now) c.len-mark.result c.len-mark.ensures
-    c.in_ok-bind_gens-in-Comp.ensures c.in_ok-walk_all-in-Comp.ensures.bound c.leave.ensures)
-    c.in_ok-walk_gens-in-Comp.ensures.notes
-
-pub walk-returns-in_ok-walk_gens-in-Product-clause-notes : goal.walk-returns-in_ok-walk_gens-in-Product-clause-notes
-walk-returns-in_ok-walk_gens-in-Product-clause-notes t c =
-    product_now (first_of c.args.names.now) c.args.kinds.now c.args.tree.now c.in-Product.parts c.as_slice-in-Product-2.result.now c.in-Product.gens c.as_slice-in-Product.result.now c.as_slice-in-Product-3.result.now
-    c.args.place c.args.bound.now c.bind_gens-in-Product.new.bound c.leave-in-Product.new.self c.args.notes.now c.note_form-in-Product.new.self c.walk_parts.new.notes c.walk_gens-in-Product.new.notes
-    c.in-Product.is c.as_slice-in-Product-2.ensures c.as_slice-in-Product.ensures c.as_slice-in-Product-3.ensures c.note_form-in-Product.ensures
-    c.in_ok-bind_gens-in-Product.ensures c.in_ok-walk_parts-in-Product.ensures.notes
-    (restored c.leave-in-Product.new.self c.bind_gens-in-Product.new.bound c.walk_parts.new.bound c.args.bound.now (flat_map gen_names c.as_slice-in-Product.result.now) c.len-mark-in-Product.result c.len-mark-in-Product.ensures
-    c.in_ok-bind_gens-in-Product.ensures c.in_ok-walk_parts-in-Product.ensures.bound c.leave-in-Product.ensures)
-    c.in_ok-walk_gens-in-Product.ensures.notes
-
-pub walk-returns-in_ok-walk_gens-in-Rename-clause-notes : goal.walk-returns-in_ok-walk_gens-in-Rename-clause-notes
-walk-returns-in_ok-walk_gens-in-Rename-clause-notes t c =
-    rename_now (first_of c.args.names.now) c.args.kinds.now c.args.tree.now c.in-Rename.p c.get-in-Rename.result.now c.in-Rename.pairs c.as_slice-in-Rename-2.result.now c.in-Rename.gens c.as_slice-in-Rename.result.now c.as_slice-in-Rename-3.result.now
-    c.args.place c.in_ok-inner.inner.process c.args.bound.now c.walk-in-Rename.new.bound c.bind_gens-in-Rename.new.bound c.leave-in-Rename.new.self
-    c.args.notes.now c.note_form-in-Rename.new.self c.walk-in-Rename.new.notes c.walk_pairs.new.notes c.walk_gens-in-Rename.new.notes
-    c.in-Rename.is c.get-in-Rename.ensures c.as_slice-in-Rename-2.ensures c.as_slice-in-Rename.ensures c.as_slice-in-Rename-3.ensures c.in_ok-inner.ensures.process c.note_form-in-Rename.ensures
-    c.in_ok-walk-in-Rename.ensures.notes c.in_ok-walk-in-Rename.ensures.bound
-    c.in_ok-bind_gens-in-Rename.ensures c.in_ok-walk_pairs-in-Rename.ensures.notes
-    (restored c.leave-in-Rename.new.self c.bind_gens-in-Rename.new.bound c.walk_pairs.new.bound c.walk-in-Rename.new.bound (flat_map gen_names c.as_slice-in-Rename.result.now) c.len-mark-in-Rename.result c.len-mark-in-Rename.ensures
-    c.in_ok-bind_gens-in-Rename.ensures c.in_ok-walk_pairs-in-Rename.ensures.bound c.leave-in-Rename.ensures ∙ c.in_ok-walk-in-Rename.ensures.bound)
-    c.in_ok-walk_gens-in-Rename.ensures.notes
