@@ -98,4 +98,8 @@ part_after-is x v part =
     para-roll-EventPart Expr Gen EventPart (expr_with_of_layer x v) (gen_with_of_layer x v) (part_with_of_layer x v) (out-EventPart part) ∙
     ap (λ es. roll-EventPart (record { channel = (out-EventPart part).channel; fields = es })) (exprs_changed x v (out-EventPart part).fields)
 
-pub ruleset expr_forms = (expr_after-Num, expr_after-Truth, expr_after-Const, expr_after-Bound, expr_after-Lit, expr_after-Neg, expr_after-Not, expr_after-Binary, expr_after-If, expr_after-Call, expr_after-SetName, expr_after-Event, expr_after-Display, expr_after-Range, expr_after-Comp, expr_after-Product, expr_after-SetOp, gen_after-From, gen_after-Cond, part_after-is)
+pub ruleset gen_forms = (gen_after-From, gen_after-Cond)
+
+pub ruleset part_forms = (part_after-is)
+
+pub ruleset expr_forms = (expr_after-Num, expr_after-Truth, expr_after-Const, expr_after-Bound, expr_after-Lit, expr_after-Neg, expr_after-Not, expr_after-Binary, expr_after-If, expr_after-Call, expr_after-SetName, expr_after-Event, expr_after-Display, expr_after-Range, expr_after-Comp, expr_after-Product, expr_after-SetOp)

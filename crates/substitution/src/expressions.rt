@@ -1,12 +1,11 @@
 //! A value in place of a name in expressions.
-#![tactic(auto, using(crate::proofs::ExprEquations::expr_forms))]
 
 ghost use Rattle.std.specs.Prelude.{◌≡◌, ◌||◌, false, nat_eq, if◌then◌else◌, IfOk};
 ghost use Rattle.csp_program.specs.Substitution.{any_binds, binds};
 ghost use Rattle.substitution.specs.Parts.{expr_after, exprs_after, gen_after, gens_after, part_after, parts_after};
 
 use containers::{Boxed, Items};
-use csp_base::NoMemory;
+use csp_base::{BinOp, NoMemory, SetOp};
 use csp_program::copies::{copy_expr, copy_gen, copy_part, copy_value};
 use csp_program::{EventPart, Expr, Gen, Value};
 use std::alloc::Global;
@@ -53,6 +52,7 @@ pub fn any_binds_name(gens: &[Gen], name: u32) -> bool
     false
 }
 
+#[tactic(auto, using(crate::proofs::ExprEquations::expr_forms))]
 #[cycle(replace_expr)]
 pub(crate) fn replace_expr(
     alloc: Global,
@@ -66,64 +66,193 @@ pub(crate) fn replace_expr(
         Expr::Num(number) => Ok(Expr::Num(*number)),
         Expr::Truth(truth) => Ok(Expr::Truth(*truth)),
         Expr::Const(number) => Ok(Expr::Const(*number)),
-        Expr::Bound(other) => {
-            let made = replace_name(alloc, *other, name, value)?;
-            Ok(made)
-        }
-        Expr::Lit(kept) => Ok(Expr::Lit(copy_value(alloc, kept)?)),
-        Expr::Neg(a) => Ok(Expr::Neg(replace_boxed_expr(alloc, a.get(), name, value)?)),
-        Expr::Not(a) => Ok(Expr::Not(replace_boxed_expr(alloc, a.get(), name, value)?)),
-        Expr::Binary(op, a, b) => {
-            let a = replace_boxed_expr(alloc, a.get(), name, value)?;
-            let b = replace_boxed_expr(alloc, b.get(), name, value)?;
-            Ok(Expr::Binary(*op, a, b))
-        }
-        Expr::If(c, a, b) => {
-            let c = replace_boxed_expr(alloc, c.get(), name, value)?;
-            let a = replace_boxed_expr(alloc, a.get(), name, value)?;
-            let b = replace_boxed_expr(alloc, b.get(), name, value)?;
-            Ok(Expr::If(c, a, b))
-        }
-        Expr::Call(def, args) => {
-            let args = replace_exprs(alloc, false, args.as_slice(), name, value)?;
-            Ok(Expr::Call(*def, args))
-        }
+        Expr::Bound(other) => replace_name(alloc, *other, name, value),
+        Expr::Lit(kept) => literal(alloc, kept),
+        Expr::Neg(a) => negative(alloc, a, name, value),
+        Expr::Not(a) => opposite(alloc, a, name, value),
+        Expr::Binary(op, a, b) => binary(alloc, *op, a, b, name, value),
+        Expr::If(c, a, b) => choice(alloc, c, a, b, name, value),
+        Expr::Call(def, args) => call(alloc, *def, args, name, value),
         Expr::SetName(def) => Ok(Expr::SetName(*def)),
-        Expr::Event(channel, fields) => {
-            let fields = replace_exprs(alloc, false, fields.as_slice(), name, value)?;
-            Ok(Expr::Event(*channel, fields))
-        }
-        Expr::Display(items) => {
-            let items = replace_exprs(alloc, false, items.as_slice(), name, value)?;
-            Ok(Expr::Display(items))
-        }
-        Expr::Range(a, b) => {
-            let a = replace_boxed_expr(alloc, a.get(), name, value)?;
-            let b = replace_boxed_expr(alloc, b.get(), name, value)?;
-            Ok(Expr::Range(a, b))
-        }
-        Expr::Comp(items, gens) => {
-            let bound = any_binds_name(gens.as_slice(), name);
-            let items = replace_exprs(alloc, bound, items.as_slice(), name, value)?;
-            let gens = replace_gens(alloc, gens.as_slice(), name, value)?;
-            Ok(Expr::Comp(items, gens))
-        }
-        Expr::Product(parts, gens) => {
-            let bound = any_binds_name(gens.as_slice(), name);
-            let parts = replace_parts(alloc, bound, parts.as_slice(), name, value)?;
-            let gens = replace_gens(alloc, gens.as_slice(), name, value)?;
-            Ok(Expr::Product(parts, gens))
-        }
-        Expr::SetOp(op, a, b) => {
-            let a = replace_boxed_expr(alloc, a.get(), name, value)?;
-            let b = replace_boxed_expr(alloc, b.get(), name, value)?;
-            Ok(Expr::SetOp(*op, a, b))
-        }
+        Expr::Event(channel, fields) => event(alloc, *channel, fields, name, value),
+        Expr::Display(items) => display(alloc, items, name, value),
+        Expr::Range(a, b) => range(alloc, a, b, name, value),
+        Expr::Comp(items, gens) => comprehension(alloc, items, gens, name, value),
+        Expr::Product(parts, gens) => product(alloc, parts, gens, name, value),
+        Expr::SetOp(op, a, b) => set_operation(alloc, *op, a, b, name, value),
     }
 }
 
+// A value that was put in before.
+fn literal(alloc: Global, value: &Value) -> Result<Expr, NoMemory>
+    ensures { IfOk result (λ made. made ≡ Expr.Lit value.now) }
+{
+    let value = copy_value(alloc, value)?;
+    Ok(Expr::Lit(value))
+}
+
+// The negative of an expression.
 #[cycle(replace_expr)]
-fn replace_boxed_expr(
+fn negative(alloc: Global, a: &Boxed<Expr>, name: u32, value: &Value) -> Result<Expr, NoMemory>
+    ensures { IfOk result (λ made. made ≡ Expr.Neg (expr_after name value.now a.now)) }
+{
+    let a = replace_boxed_expr(alloc, a.get(), name, value)?;
+    Ok(Expr::Neg(a))
+}
+
+// The opposite of a condition.
+#[cycle(replace_expr)]
+fn opposite(alloc: Global, a: &Boxed<Expr>, name: u32, value: &Value) -> Result<Expr, NoMemory>
+    ensures { IfOk result (λ made. made ≡ Expr.Not (expr_after name value.now a.now)) }
+{
+    let a = replace_boxed_expr(alloc, a.get(), name, value)?;
+    Ok(Expr::Not(a))
+}
+
+// An operator between two operands.
+#[cycle(replace_expr)]
+fn binary(
+    alloc: Global,
+    op: BinOp,
+    a: &Boxed<Expr>,
+    b: &Boxed<Expr>,
+    name: u32,
+    value: &Value,
+) -> Result<Expr, NoMemory>
+    ensures { IfOk result (λ made. made ≡ Expr.Binary op (expr_after name value.now a.now) (expr_after name value.now b.now)) }
+{
+    let a = replace_boxed_expr(alloc, a.get(), name, value)?;
+    let b = replace_boxed_expr(alloc, b.get(), name, value)?;
+    Ok(Expr::Binary(op, a, b))
+}
+
+// One of two expressions.
+#[cycle(replace_expr)]
+fn choice(
+    alloc: Global,
+    c: &Boxed<Expr>,
+    a: &Boxed<Expr>,
+    b: &Boxed<Expr>,
+    name: u32,
+    value: &Value,
+) -> Result<Expr, NoMemory>
+    ensures { IfOk result (λ made. made ≡ Expr.If (expr_after name value.now c.now) (expr_after name value.now a.now) (expr_after name value.now b.now)) }
+{
+    let c = replace_boxed_expr(alloc, c.get(), name, value)?;
+    let a = replace_boxed_expr(alloc, a.get(), name, value)?;
+    let b = replace_boxed_expr(alloc, b.get(), name, value)?;
+    Ok(Expr::If(c, a, b))
+}
+
+// The set of the numbers from `a` to `b`.
+#[cycle(replace_expr)]
+fn range(
+    alloc: Global,
+    a: &Boxed<Expr>,
+    b: &Boxed<Expr>,
+    name: u32,
+    value: &Value,
+) -> Result<Expr, NoMemory>
+    ensures { IfOk result (λ made. made ≡ Expr.Range (expr_after name value.now a.now) (expr_after name value.now b.now)) }
+{
+    let a = replace_boxed_expr(alloc, a.get(), name, value)?;
+    let b = replace_boxed_expr(alloc, b.get(), name, value)?;
+    Ok(Expr::Range(a, b))
+}
+
+// An operator between two sets.
+#[cycle(replace_expr)]
+fn set_operation(
+    alloc: Global,
+    op: SetOp,
+    a: &Boxed<Expr>,
+    b: &Boxed<Expr>,
+    name: u32,
+    value: &Value,
+) -> Result<Expr, NoMemory>
+    ensures { IfOk result (λ made. made ≡ Expr.SetOp op (expr_after name value.now a.now) (expr_after name value.now b.now)) }
+{
+    let a = replace_boxed_expr(alloc, a.get(), name, value)?;
+    let b = replace_boxed_expr(alloc, b.get(), name, value)?;
+    Ok(Expr::SetOp(op, a, b))
+}
+
+// The use of a definition with arguments.
+#[cycle(replace_expr)]
+fn call(
+    alloc: Global,
+    def: u32,
+    args: &Items<Expr>,
+    name: u32,
+    value: &Value,
+) -> Result<Expr, NoMemory>
+    ensures { IfOk result (λ made. made ≡ Expr.Call def (exprs_after name value.now false args.now)) }
+{
+    let args = replace_exprs(alloc, false, args.as_slice(), name, value)?;
+    Ok(Expr::Call(def, args))
+}
+
+// The event of a channel with fields.
+#[cycle(replace_expr)]
+fn event(
+    alloc: Global,
+    channel: u32,
+    fields: &Items<Expr>,
+    name: u32,
+    value: &Value,
+) -> Result<Expr, NoMemory>
+    ensures { IfOk result (λ made. made ≡ Expr.Event channel (exprs_after name value.now false fields.now)) }
+{
+    let fields = replace_exprs(alloc, false, fields.as_slice(), name, value)?;
+    Ok(Expr::Event(channel, fields))
+}
+
+// The set of some expressions.
+#[cycle(replace_expr)]
+fn display(alloc: Global, items: &Items<Expr>, name: u32, value: &Value) -> Result<Expr, NoMemory>
+    ensures { IfOk result (λ made. made ≡ Expr.Display (exprs_after name value.now false items.now)) }
+{
+    let items = replace_exprs(alloc, false, items.as_slice(), name, value)?;
+    Ok(Expr::Display(items))
+}
+
+// The set of some expressions under generators.
+#[cycle(replace_expr)]
+fn comprehension(
+    alloc: Global,
+    items: &Items<Expr>,
+    gens: &Items<Gen>,
+    name: u32,
+    value: &Value,
+) -> Result<Expr, NoMemory>
+    ensures { IfOk result (λ made. made ≡ Expr.Comp (exprs_after name value.now (any_binds name gens.now) items.now) (gens_after name value.now false gens.now)) }
+{
+    let bound = any_binds_name(gens.as_slice(), name);
+    let items = replace_exprs(alloc, bound, items.as_slice(), name, value)?;
+    let gens = replace_gens(alloc, gens.as_slice(), name, value)?;
+    Ok(Expr::Comp(items, gens))
+}
+
+// The set of the events that begin with some fronts, under generators.
+#[cycle(replace_expr)]
+fn product(
+    alloc: Global,
+    parts: &Items<EventPart>,
+    gens: &Items<Gen>,
+    name: u32,
+    value: &Value,
+) -> Result<Expr, NoMemory>
+    ensures { IfOk result (λ made. made ≡ Expr.Product (parts_after name value.now (any_binds name gens.now) parts.now) (gens_after name value.now false gens.now)) }
+{
+    let bound = any_binds_name(gens.as_slice(), name);
+    let parts = replace_parts(alloc, bound, parts.as_slice(), name, value)?;
+    let gens = replace_gens(alloc, gens.as_slice(), name, value)?;
+    Ok(Expr::Product(parts, gens))
+}
+
+/// An expression on the heap.
+#[cycle(replace_expr)]
+pub(crate) fn replace_boxed_expr(
     alloc: Global,
     expr: &Expr,
     name: u32,
@@ -170,6 +299,7 @@ pub(crate) fn replace_exprs(
     Ok(made)
 }
 
+#[tactic(auto, using(crate::proofs::ExprEquations::gen_forms))]
 #[cycle(replace_expr)]
 fn replace_gen(alloc: Global, generator: &Gen, name: u32, value: &Value) -> Result<Gen, NoMemory>
     ensures { IfOk result (λ made. made ≡ gen_after name value.now generator.now) }
@@ -216,6 +346,7 @@ pub(crate) fn replace_gens(
     Ok(made)
 }
 
+#[tactic(auto, using(crate::proofs::ExprEquations::part_forms))]
 #[cycle(replace_expr)]
 pub(crate) fn replace_part(
     alloc: Global,

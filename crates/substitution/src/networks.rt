@@ -1,66 +1,18 @@
 //! A value in place of a name in networks.
-#![tactic(auto, using(crate::proofs::NetEquations::net_forms))]
 
-ghost use Rattle.std.specs.Prelude.{◌≡◌, if◌then◌else◌, nat_eq, IfOk};
+ghost use Rattle.std.specs.Prelude.{◌≡◌, false, if◌then◌else◌, nat_eq, IfOk};
 ghost use Rattle.substitution.specs.Networks.{net_after, net_below};
-ghost use Rattle.substitution.specs.Parts.{expr_after};
+ghost use Rattle.substitution.specs.Parts.{expr_after, exprs_after, proc_after};
 
-use crate::expressions::{replace_expr, replace_expr_unless, replace_exprs};
+use crate::expressions::{replace_boxed_expr, replace_expr, replace_expr_unless, replace_exprs};
 use crate::processes::replace_proc;
-use containers::Boxed;
+use containers::{Boxed, Items};
 use csp_base::NoMemory;
 use csp_program::net_copies::copy_net;
-use csp_program::{Expr, Net, Value};
+use csp_program::{Expr, Net, Proc, Value};
 use std::alloc::Global;
 
-// One of the networks `left` and `right`.
-fn choice(
-    alloc: Global,
-    c: &Expr,
-    left: Boxed<Net>,
-    right: Boxed<Net>,
-    name: u32,
-    value: &Value,
-) -> Result<Net, NoMemory>
-    ensures { IfOk result (λ made. made ≡ Net.If (expr_after name value.now c.now) left right) }
-{
-    Ok(Net::If(replace_expr(alloc, c, name, value)?, left, right))
-}
-
-// Two networks with their alphabets.
-fn pair(
-    alloc: Global,
-    left: Boxed<Net>,
-    a: &Expr,
-    b: &Expr,
-    right: Boxed<Net>,
-    name: u32,
-    value: &Value,
-) -> Result<Net, NoMemory>
-    ensures { IfOk result (λ made. made ≡ Net.Pair left (expr_after name value.now a.now) (expr_after name value.now b.now) right) }
-{
-    let a = replace_expr(alloc, a, name, value)?;
-    let b = replace_expr(alloc, b, name, value)?;
-    Ok(Net::Pair(left, a, b, right))
-}
-
-// A network for each value of a set. The alphabet stands under the binding, and the set outside of it.
-fn each(
-    alloc: Global,
-    other: u32,
-    set: &Expr,
-    a: &Expr,
-    net: Boxed<Net>,
-    name: u32,
-    value: &Value,
-) -> Result<Net, NoMemory>
-    ensures { IfOk result (λ made. made ≡ Net.Each other (expr_after name value.now set.now) (if nat_eq other name then a.now else expr_after name value.now a.now) net) }
-{
-    let set = replace_expr(alloc, set, name, value)?;
-    let a = replace_expr_unless(alloc, other == name, a, name, value)?;
-    Ok(Net::Each(other, set, a, net))
-}
-
+#[tactic(auto, using(crate::proofs::NetEquations::net_forms))]
 #[cycle(replace_net)]
 pub(crate) fn replace_net(
     alloc: Global,
@@ -71,26 +23,91 @@ pub(crate) fn replace_net(
     ensures { IfOk result (λ made. made ≡ net_after name value.now net.now) }
 {
     match net {
-        Net::Leaf(process) => Ok(Net::Leaf(replace_proc(alloc, process, name, value)?)),
-        Net::Call(def, args) => {
-            let args = replace_exprs(alloc, false, args.as_slice(), name, value)?;
-            Ok(Net::Call(*def, args))
-        }
-        Net::If(c, left, right) => {
-            let left = replace_boxed_net(alloc, false, left.get(), name, value)?;
-            let right = replace_boxed_net(alloc, false, right.get(), name, value)?;
-            Ok(choice(alloc, c, left, right, name, value)?)
-        }
-        Net::Pair(left, a, b, right) => {
-            let left = replace_boxed_net(alloc, false, left.get(), name, value)?;
-            let right = replace_boxed_net(alloc, false, right.get(), name, value)?;
-            Ok(pair(alloc, left, a, b, right, name, value)?)
-        }
-        Net::Each(other, set, a, inner) => {
-            let inner = replace_boxed_net(alloc, *other == name, inner.get(), name, value)?;
-            Ok(each(alloc, *other, set, a, inner, name, value)?)
-        }
+        Net::Leaf(process) => leaf(alloc, process, name, value),
+        Net::Call(def, args) => call(alloc, *def, args, name, value),
+        Net::If(c, left, right) => choice(alloc, c, left, right, name, value),
+        Net::Pair(left, a, b, right) => pair(alloc, left, a, b, right, name, value),
+        Net::Each(other, set, a, inner) => each(alloc, *other, set, a, inner, name, value),
     }
+}
+
+// A component.
+fn leaf(alloc: Global, process: &Proc, name: u32, value: &Value) -> Result<Net, NoMemory>
+    ensures { IfOk result (λ made. made ≡ Net.Leaf (proc_after name value.now process.now)) }
+{
+    let process = replace_proc(alloc, process, name, value)?;
+    Ok(Net::Leaf(process))
+}
+
+// The use of a network definition with arguments.
+fn call(
+    alloc: Global,
+    def: u32,
+    args: &Items<Expr>,
+    name: u32,
+    value: &Value,
+) -> Result<Net, NoMemory>
+    ensures { IfOk result (λ made. made ≡ Net.Call def (exprs_after name value.now false args.now)) }
+{
+    let args = replace_exprs(alloc, false, args.as_slice(), name, value)?;
+    Ok(Net::Call(def, args))
+}
+
+// One of two networks.
+#[cycle(replace_net)]
+fn choice(
+    alloc: Global,
+    c: &Expr,
+    left: &Boxed<Net>,
+    right: &Boxed<Net>,
+    name: u32,
+    value: &Value,
+) -> Result<Net, NoMemory>
+    ensures { IfOk result (λ made. made ≡ Net.If (expr_after name value.now c.now) (net_below name value.now false left.now) (net_below name value.now false right.now)) }
+{
+    let left = replace_boxed_net(alloc, false, left.get(), name, value)?;
+    let right = replace_boxed_net(alloc, false, right.get(), name, value)?;
+    let c = replace_expr(alloc, c, name, value)?;
+    Ok(Net::If(c, left, right))
+}
+
+// Two networks with their alphabets.
+#[cycle(replace_net)]
+fn pair(
+    alloc: Global,
+    left: &Boxed<Net>,
+    a: &Expr,
+    b: &Expr,
+    right: &Boxed<Net>,
+    name: u32,
+    value: &Value,
+) -> Result<Net, NoMemory>
+    ensures { IfOk result (λ made. made ≡ Net.Pair (net_below name value.now false left.now) (expr_after name value.now a.now) (expr_after name value.now b.now) (net_below name value.now false right.now)) }
+{
+    let left = replace_boxed_net(alloc, false, left.get(), name, value)?;
+    let right = replace_boxed_net(alloc, false, right.get(), name, value)?;
+    let a = replace_boxed_expr(alloc, a, name, value)?;
+    let b = replace_expr(alloc, b, name, value)?;
+    Ok(Net::Pair(left, a.into_inner(), b, right))
+}
+
+// A network for each value of a set. The alphabet stands under the binding, and the set outside of it.
+#[cycle(replace_net)]
+fn each(
+    alloc: Global,
+    other: u32,
+    set: &Expr,
+    a: &Expr,
+    net: &Boxed<Net>,
+    name: u32,
+    value: &Value,
+) -> Result<Net, NoMemory>
+    ensures { IfOk result (λ made. made ≡ Net.Each other (expr_after name value.now set.now) (if nat_eq other name then a.now else expr_after name value.now a.now) (net_below name value.now (nat_eq other name) net.now)) }
+{
+    let net = replace_boxed_net(alloc, other == name, net.get(), name, value)?;
+    let set = replace_boxed_expr(alloc, set, name, value)?;
+    let a = replace_expr_unless(alloc, other == name, a, name, value)?;
+    Ok(Net::Each(other, set.into_inner(), a, net))
 }
 
 // A network on the heap, kept where the name is bound.

@@ -1,9 +1,8 @@
 //! A value in place of a name in processes.
-#![tactic(auto, using(crate::proofs::ProcEquations::proc_forms))]
 
-ghost use Rattle.std.specs.Prelude.{◌≡◌, false, IfOk};
-ghost use Rattle.csp_program.specs.Substitution.{any_binds, head_with};
-ghost use Rattle.substitution.specs.Parts.{expr_after, fields_after, gens_after, pairs_after, proc_after, proc_below, procs_after};
+ghost use Rattle.std.specs.Prelude.{◌≡◌, false, nat_eq, IfOk};
+ghost use Rattle.csp_program.specs.Substitution.{any_binds, any_gets, head_with};
+ghost use Rattle.substitution.specs.Parts.{expr_after, exprs_after, fields_after, gens_after, pairs_after, proc_after, proc_below, procs_after};
 
 use crate::expressions::{any_binds_name, replace_expr, replace_exprs, replace_gens};
 use crate::fields::{any_gets_name, replace_fields, replace_pairs, substitute_head};
@@ -13,107 +12,7 @@ use csp_program::proc_copies::copy_proc;
 use csp_program::{EventPart, Expr, Field, Gen, Head, Proc, Value};
 use std::alloc::Global;
 
-// A prefix of the process `p`.
-fn prefix(
-    alloc: Global,
-    head: &Head,
-    fields: &[Field],
-    p: Boxed<Proc>,
-    name: u32,
-    value: &Value,
-) -> Result<Proc, NoMemory>
-    ensures { IfOk result (λ made. made ≡ Proc.Prefix (head_with name value.now head.now) (fields_after name value.now false fields.now) p) }
-{
-    let head = substitute_head(alloc, head, name, value)?;
-    let fields = replace_fields(alloc, fields, name, value)?;
-    Ok(Proc::Prefix(head, fields, p))
-}
-
-// The process `p` under a condition.
-fn guard(
-    alloc: Global,
-    c: &Expr,
-    p: Boxed<Proc>,
-    name: u32,
-    value: &Value,
-) -> Result<Proc, NoMemory>
-    ensures { IfOk result (λ made. made ≡ Proc.Guard (expr_after name value.now c.now) p) }
-{
-    Ok(Proc::Guard(replace_expr(alloc, c, name, value)?, p))
-}
-
-// One of the processes `p` and `q`.
-fn choice(
-    alloc: Global,
-    c: &Expr,
-    p: Boxed<Proc>,
-    q: Boxed<Proc>,
-    name: u32,
-    value: &Value,
-) -> Result<Proc, NoMemory>
-    ensures { IfOk result (λ made. made ≡ Proc.If (expr_after name value.now c.now) p q) }
-{
-    Ok(Proc::If(replace_expr(alloc, c, name, value)?, p, q))
-}
-
-// An external choice over the values of a set.
-fn each_external(
-    alloc: Global,
-    other: u32,
-    set: &Expr,
-    p: Boxed<Proc>,
-    name: u32,
-    value: &Value,
-) -> Result<Proc, NoMemory>
-    ensures { IfOk result (λ made. made ≡ Proc.EachExternal other (expr_after name value.now set.now) p) }
-{
-    Ok(Proc::EachExternal(other, replace_expr(alloc, set, name, value)?, p))
-}
-
-// An internal choice over the values of a set.
-fn each_internal(
-    alloc: Global,
-    other: u32,
-    set: &Expr,
-    p: Boxed<Proc>,
-    name: u32,
-    value: &Value,
-) -> Result<Proc, NoMemory>
-    ensures { IfOk result (λ made. made ≡ Proc.EachInternal other (expr_after name value.now set.now) p) }
-{
-    Ok(Proc::EachInternal(other, replace_expr(alloc, set, name, value)?, p))
-}
-
-// The process `p` with a set hidden.
-fn hiding(
-    alloc: Global,
-    p: Boxed<Proc>,
-    set: &Expr,
-    name: u32,
-    value: &Value,
-) -> Result<Proc, NoMemory>
-    ensures { IfOk result (λ made. made ≡ Proc.Hide p (expr_after name value.now set.now)) }
-{
-    Ok(Proc::Hide(p, replace_expr(alloc, set, name, value)?))
-}
-
-// The process `p` renamed.
-fn renaming(
-    alloc: Global,
-    p: Boxed<Proc>,
-    pairs: &[(EventPart, EventPart)],
-    gens: &[Gen],
-    name: u32,
-    value: &Value,
-) -> Result<Proc, NoMemory>
-    ensures { IfOk result (λ made. made ≡ Proc.Rename p (pairs_after name value.now (any_binds name gens.now) pairs.now) (gens_after name value.now false gens.now)) }
-{
-    let bound = any_binds_name(gens, name);
-    let pairs = replace_pairs(alloc, bound, pairs, name, value)?;
-    let gens = replace_gens(alloc, gens, name, value)?;
-    Ok(Proc::Rename(p, pairs, gens))
-}
-
+#[tactic(auto, using(crate::proofs::ProcEquations::proc_forms))]
 #[cycle(replace_proc)]
 pub(crate) fn replace_proc(
     alloc: Global,
@@ -125,56 +24,190 @@ pub(crate) fn replace_proc(
 {
     match proc {
         Proc::Stop => Ok(Proc::Stop),
-        Proc::Prefix(head, fields, p) => {
-            let bound = any_gets_name(fields.as_slice(), name);
-            let p = replace_boxed_proc(alloc, bound, p.get(), name, value)?;
-            Ok(prefix(alloc, head, fields.as_slice(), p, name, value)?)
-        }
-        Proc::Guard(c, p) => {
-            let p = replace_boxed_proc(alloc, false, p.get(), name, value)?;
-            Ok(guard(alloc, c, p, name, value)?)
-        }
-        Proc::If(c, p, q) => {
-            let p = replace_boxed_proc(alloc, false, p.get(), name, value)?;
-            let q = replace_boxed_proc(alloc, false, q.get(), name, value)?;
-            Ok(choice(alloc, c, p, q, name, value)?)
-        }
-        Proc::External(procs) => {
-            let procs = replace_procs(alloc, procs.as_slice(), name, value)?;
-            Ok(Proc::External(procs))
-        }
-        Proc::Internal(procs) => {
-            let procs = replace_procs(alloc, procs.as_slice(), name, value)?;
-            Ok(Proc::Internal(procs))
-        }
-        Proc::EachExternal(other, set, p) => {
-            let p = replace_boxed_proc(alloc, *other == name, p.get(), name, value)?;
-            Ok(each_external(alloc, *other, set, p, name, value)?)
-        }
-        Proc::EachInternal(other, set, p) => {
-            let p = replace_boxed_proc(alloc, *other == name, p.get(), name, value)?;
-            Ok(each_internal(alloc, *other, set, p, name, value)?)
-        }
-        Proc::Hide(p, set) => {
-            let p = replace_boxed_proc(alloc, false, p.get(), name, value)?;
-            Ok(hiding(alloc, p, set, name, value)?)
-        }
-        Proc::Rename(p, pairs, gens) => {
-            let p = replace_boxed_proc(alloc, false, p.get(), name, value)?;
-            Ok(renaming(alloc, p, pairs.as_slice(), gens.as_slice(), name, value)?)
-        }
-        Proc::Call(def, args) => {
-            let args = replace_exprs(alloc, false, args.as_slice(), name, value)?;
-            Ok(Proc::Call(*def, args))
-        }
+        Proc::Prefix(head, fields, p) => prefix(alloc, head, fields, p, name, value),
+        Proc::Guard(c, p) => guard(alloc, c, p, name, value),
+        Proc::If(c, p, q) => choice(alloc, c, p, q, name, value),
+        Proc::External(procs) => external(alloc, procs, name, value),
+        Proc::Internal(procs) => internal(alloc, procs, name, value),
+        Proc::EachExternal(other, set, p) => each_external(alloc, *other, set, p, name, value),
+        Proc::EachInternal(other, set, p) => each_internal(alloc, *other, set, p, name, value),
+        Proc::Hide(p, set) => hiding(alloc, p, set, name, value),
+        Proc::Rename(p, pairs, gens) => renaming(alloc, p, pairs, gens, name, value),
+        Proc::Call(def, args) => call(alloc, *def, args, name, value),
         Proc::Skip => Ok(Proc::Skip),
-        Proc::Seq(p, q) => {
-            let p = replace_boxed_proc(alloc, false, p.get(), name, value)?;
-            let q = replace_boxed_proc(alloc, false, q.get(), name, value)?;
-            Ok(Proc::Seq(p, q))
-        }
+        Proc::Seq(p, q) => sequence(alloc, p, q, name, value),
         Proc::Ended => Ok(Proc::Ended),
     }
+}
+
+// A prefix.
+#[cycle(replace_proc)]
+fn prefix(
+    alloc: Global,
+    head: &Head,
+    fields: &Items<Field>,
+    p: &Boxed<Proc>,
+    name: u32,
+    value: &Value,
+) -> Result<Proc, NoMemory>
+    ensures { IfOk result (λ made. made ≡ Proc.Prefix (head_with name value.now head.now) (fields_after name value.now false fields.now) (proc_below name value.now (any_gets name fields.now) p.now)) }
+{
+    let bound = any_gets_name(fields.as_slice(), name);
+    let p = replace_boxed_proc(alloc, bound, p.get(), name, value)?;
+    let fields = replace_fields(alloc, fields.as_slice(), name, value)?;
+    let head = substitute_head(alloc, head, name, value)?;
+    Ok(Proc::Prefix(head, fields, p))
+}
+
+// A process under a condition.
+#[cycle(replace_proc)]
+fn guard(
+    alloc: Global,
+    c: &Expr,
+    p: &Boxed<Proc>,
+    name: u32,
+    value: &Value,
+) -> Result<Proc, NoMemory>
+    ensures { IfOk result (λ made. made ≡ Proc.Guard (expr_after name value.now c.now) (proc_below name value.now false p.now)) }
+{
+    let p = replace_boxed_proc(alloc, false, p.get(), name, value)?;
+    let c = replace_expr(alloc, c, name, value)?;
+    Ok(Proc::Guard(c, p))
+}
+
+// One of two processes.
+#[cycle(replace_proc)]
+fn choice(
+    alloc: Global,
+    c: &Expr,
+    p: &Boxed<Proc>,
+    q: &Boxed<Proc>,
+    name: u32,
+    value: &Value,
+) -> Result<Proc, NoMemory>
+    ensures { IfOk result (λ made. made ≡ Proc.If (expr_after name value.now c.now) (proc_below name value.now false p.now) (proc_below name value.now false q.now)) }
+{
+    let p = replace_boxed_proc(alloc, false, p.get(), name, value)?;
+    let q = replace_boxed_proc(alloc, false, q.get(), name, value)?;
+    let c = replace_expr(alloc, c, name, value)?;
+    Ok(Proc::If(c, p, q))
+}
+
+// The external choice of some processes.
+#[cycle(replace_proc)]
+fn external(alloc: Global, procs: &Items<Proc>, name: u32, value: &Value) -> Result<Proc, NoMemory>
+    ensures { IfOk result (λ made. made ≡ Proc.External (procs_after name value.now procs.now)) }
+{
+    let procs = replace_procs(alloc, procs.as_slice(), name, value)?;
+    Ok(Proc::External(procs))
+}
+
+// The internal choice of some processes.
+#[cycle(replace_proc)]
+fn internal(alloc: Global, procs: &Items<Proc>, name: u32, value: &Value) -> Result<Proc, NoMemory>
+    ensures { IfOk result (λ made. made ≡ Proc.Internal (procs_after name value.now procs.now)) }
+{
+    let procs = replace_procs(alloc, procs.as_slice(), name, value)?;
+    Ok(Proc::Internal(procs))
+}
+
+// An external choice over the values of a set.
+#[cycle(replace_proc)]
+fn each_external(
+    alloc: Global,
+    other: u32,
+    set: &Expr,
+    p: &Boxed<Proc>,
+    name: u32,
+    value: &Value,
+) -> Result<Proc, NoMemory>
+    ensures { IfOk result (λ made. made ≡ Proc.EachExternal other (expr_after name value.now set.now) (proc_below name value.now (nat_eq other name) p.now)) }
+{
+    let p = replace_boxed_proc(alloc, other == name, p.get(), name, value)?;
+    let set = replace_expr(alloc, set, name, value)?;
+    Ok(Proc::EachExternal(other, set, p))
+}
+
+// An internal choice over the values of a set.
+#[cycle(replace_proc)]
+fn each_internal(
+    alloc: Global,
+    other: u32,
+    set: &Expr,
+    p: &Boxed<Proc>,
+    name: u32,
+    value: &Value,
+) -> Result<Proc, NoMemory>
+    ensures { IfOk result (λ made. made ≡ Proc.EachInternal other (expr_after name value.now set.now) (proc_below name value.now (nat_eq other name) p.now)) }
+{
+    let p = replace_boxed_proc(alloc, other == name, p.get(), name, value)?;
+    let set = replace_expr(alloc, set, name, value)?;
+    Ok(Proc::EachInternal(other, set, p))
+}
+
+// A process with a set hidden.
+#[cycle(replace_proc)]
+fn hiding(
+    alloc: Global,
+    p: &Boxed<Proc>,
+    set: &Expr,
+    name: u32,
+    value: &Value,
+) -> Result<Proc, NoMemory>
+    ensures { IfOk result (λ made. made ≡ Proc.Hide (proc_below name value.now false p.now) (expr_after name value.now set.now)) }
+{
+    let p = replace_boxed_proc(alloc, false, p.get(), name, value)?;
+    let set = replace_expr(alloc, set, name, value)?;
+    Ok(Proc::Hide(p, set))
+}
+
+// A process renamed.
+#[cycle(replace_proc)]
+fn renaming(
+    alloc: Global,
+    p: &Boxed<Proc>,
+    pairs: &Items<(EventPart, EventPart)>,
+    gens: &Items<Gen>,
+    name: u32,
+    value: &Value,
+) -> Result<Proc, NoMemory>
+    ensures { IfOk result (λ made. made ≡ Proc.Rename (proc_below name value.now false p.now) (pairs_after name value.now (any_binds name gens.now) pairs.now) (gens_after name value.now false gens.now)) }
+{
+    let p = replace_boxed_proc(alloc, false, p.get(), name, value)?;
+    let bound = any_binds_name(gens.as_slice(), name);
+    let pairs = replace_pairs(alloc, bound, pairs.as_slice(), name, value)?;
+    let gens = replace_gens(alloc, gens.as_slice(), name, value)?;
+    Ok(Proc::Rename(p, pairs, gens))
+}
+
+// The use of a definition with arguments.
+fn call(
+    alloc: Global,
+    def: u32,
+    args: &Items<Expr>,
+    name: u32,
+    value: &Value,
+) -> Result<Proc, NoMemory>
+    ensures { IfOk result (λ made. made ≡ Proc.Call def (exprs_after name value.now false args.now)) }
+{
+    let args = replace_exprs(alloc, false, args.as_slice(), name, value)?;
+    Ok(Proc::Call(def, args))
+}
+
+// One process after the other.
+#[cycle(replace_proc)]
+fn sequence(
+    alloc: Global,
+    p: &Boxed<Proc>,
+    q: &Boxed<Proc>,
+    name: u32,
+    value: &Value,
+) -> Result<Proc, NoMemory>
+    ensures { IfOk result (λ made. made ≡ Proc.Seq (proc_below name value.now false p.now) (proc_below name value.now false q.now)) }
+{
+    let p = replace_boxed_proc(alloc, false, p.get(), name, value)?;
+    let q = replace_boxed_proc(alloc, false, q.get(), name, value)?;
+    Ok(Proc::Seq(p, q))
 }
 
 // A process on the heap, kept where the name is bound.

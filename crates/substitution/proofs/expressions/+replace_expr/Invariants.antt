@@ -1,4 +1,7 @@
-use Rattle.std.proofs.Common.{◌≡◌, ◌++◌, drop, false}
+use Rattle.std.proofs.Common.{◌≡◌, ◌+◌, ◌*◌, ◌++◌, drop, false, max}
+use denote.Param.Weighed as weighed
+use Rattle.csp_program.proofs.expressions.Expr.TheLaws.{the_size}
+use Rattle.csp_program.proofs.expressions.Gen.TheLaws as generator
 use Rattle.substitution.specs.Parts.{exprs_after, gens_after, parts_after}
 use Rattle.substitution.proofs.expressions.+replace_expr.Given as goal
 
@@ -13,3 +16,67 @@ invariant-replace_gens-loop-generator l = l.made ++ gens_after l.name l.value l.
 -- what is made so far, followed by what is made of the rest, is what is made of all
 abbrev pub invariant-replace_parts-loop-part : goal.invariant-replace_parts-loop-part
 invariant-replace_parts-loop-part l = l.made ++ parts_after l.name l.value l.bound (drop l.part-index l.parts) ≡ parts_after l.name l.value l.bound l.parts
+
+-- how deep what is left is, four for each level: what may be kept comes above what stands in it, a list above that, and a form above those
+abbrev pub decreases-replace_expr : goal.decreases-replace_expr
+decreases-replace_expr l = 4 * goal.size-replace_expr l
+
+abbrev pub decreases-replace_gen : goal.decreases-replace_gen
+decreases-replace_gen l = 4 * goal.size-replace_gen l
+
+abbrev pub decreases-replace_part : goal.decreases-replace_part
+decreases-replace_part l = 4 * goal.size-replace_part l
+
+abbrev pub decreases-replace_boxed_expr : goal.decreases-replace_boxed_expr
+decreases-replace_boxed_expr l = 4 * goal.size-replace_boxed_expr l + 1
+
+abbrev pub decreases-replace_expr_unless : goal.decreases-replace_expr_unless
+decreases-replace_expr_unless l = 4 * goal.size-replace_expr_unless l + 1
+
+abbrev pub decreases-replace_gen_unless : goal.decreases-replace_gen_unless
+decreases-replace_gen_unless l = 4 * goal.size-replace_gen_unless l + 1
+
+abbrev pub decreases-replace_part_unless : goal.decreases-replace_part_unless
+decreases-replace_part_unless l = 4 * goal.size-replace_part_unless l + 1
+
+abbrev pub decreases-replace_exprs : goal.decreases-replace_exprs
+decreases-replace_exprs l = 4 * goal.size-replace_exprs l + 2
+
+abbrev pub decreases-replace_gens : goal.decreases-replace_gens
+decreases-replace_gens l = 4 * goal.size-replace_gens l + 2
+
+abbrev pub decreases-replace_parts : goal.decreases-replace_parts
+decreases-replace_parts l = 4 * goal.size-replace_parts l + 2
+
+abbrev pub decreases-negative : goal.decreases-negative
+decreases-negative l = 4 * (the_size l.a.now) + 3
+
+abbrev pub decreases-opposite : goal.decreases-opposite
+decreases-opposite l = 4 * (the_size l.a.now) + 3
+
+abbrev pub decreases-binary : goal.decreases-binary
+decreases-binary l = 4 * (max (the_size l.a.now) (the_size l.b.now)) + 3
+
+abbrev pub decreases-choice : goal.decreases-choice
+decreases-choice l = 4 * (max (the_size l.c.now) (max (the_size l.a.now) (the_size l.b.now))) + 3
+
+abbrev pub decreases-range : goal.decreases-range
+decreases-range l = 4 * (max (the_size l.a.now) (the_size l.b.now)) + 3
+
+abbrev pub decreases-set_operation : goal.decreases-set_operation
+decreases-set_operation l = 4 * (max (the_size l.a.now) (the_size l.b.now)) + 3
+
+abbrev pub decreases-call : goal.decreases-call
+decreases-call l = 4 * goal.size-call l + 3
+
+abbrev pub decreases-event : goal.decreases-event
+decreases-event l = 4 * goal.size-event l + 3
+
+abbrev pub decreases-display : goal.decreases-display
+decreases-display l = 4 * goal.size-display l + 3
+
+abbrev pub decreases-comprehension : goal.decreases-comprehension
+decreases-comprehension l = 4 * max (goal.size-comprehension l) (weighed.most (λ x. generator.the_size x) l.gens.now) + 3
+
+abbrev pub decreases-product : goal.decreases-product
+decreases-product l = 4 * max (goal.size-product l) (weighed.most (λ x. generator.the_size x) l.gens.now) + 3

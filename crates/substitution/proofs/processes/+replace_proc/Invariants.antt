@@ -1,7 +1,48 @@
-use Rattle.std.proofs.Common.{◌≡◌, ◌++◌, drop}
+use Rattle.std.proofs.Common.{◌≡◌, ◌+◌, ◌*◌, ◌++◌, drop, max}
+use Rattle.csp_program.proofs.processes.Proc.TheLaws.{the_size}
 use Rattle.substitution.specs.Parts.{procs_after}
 use Rattle.substitution.proofs.processes.+replace_proc.Given as goal
 
 -- what is made so far, followed by what is made of the rest, is what is made of all
 abbrev pub invariant-replace_procs-loop-proc : goal.invariant-replace_procs-loop-proc
 invariant-replace_procs-loop-proc l = l.made ++ procs_after l.name l.value (drop l.proc-index l.procs) ≡ procs_after l.name l.value l.procs
+
+-- how deep what is left is, three for each level: a list or a process on the heap comes above what stands in it, and a form above those
+abbrev pub decreases-replace_proc : goal.decreases-replace_proc
+decreases-replace_proc l = 3 * the_size l.proc.now
+
+abbrev pub decreases-replace_boxed_proc : goal.decreases-replace_boxed_proc
+decreases-replace_boxed_proc l = 3 * the_size l.proc.now + 1
+
+abbrev pub decreases-replace_procs : goal.decreases-replace_procs
+decreases-replace_procs l = 3 * goal.size-replace_procs l + 1
+
+abbrev pub decreases-external : goal.decreases-external
+decreases-external l = 3 * goal.size-external l + 2
+
+abbrev pub decreases-internal : goal.decreases-internal
+decreases-internal l = 3 * goal.size-internal l + 2
+
+abbrev pub decreases-prefix : goal.decreases-prefix
+decreases-prefix l = 3 * the_size l.p.now + 2
+
+abbrev pub decreases-guard : goal.decreases-guard
+decreases-guard l = 3 * the_size l.p.now + 2
+
+abbrev pub decreases-each_external : goal.decreases-each_external
+decreases-each_external l = 3 * the_size l.p.now + 2
+
+abbrev pub decreases-each_internal : goal.decreases-each_internal
+decreases-each_internal l = 3 * the_size l.p.now + 2
+
+abbrev pub decreases-hiding : goal.decreases-hiding
+decreases-hiding l = 3 * the_size l.p.now + 2
+
+abbrev pub decreases-renaming : goal.decreases-renaming
+decreases-renaming l = 3 * the_size l.p.now + 2
+
+abbrev pub decreases-choice : goal.decreases-choice
+decreases-choice l = 3 * max (the_size l.p.now) (the_size l.q.now) + 2
+
+abbrev pub decreases-sequence : goal.decreases-sequence
+decreases-sequence l = 3 * max (the_size l.p.now) (the_size l.q.now) + 2
