@@ -8,10 +8,10 @@ use Rattle.csp_text.specs.Written.{symbol_text}
 -- all symbols, longer ones first
 abbrev pub symbols : List Symbol
 symbols =
-    InternalChoice ∷ Arrow ∷ ExternalChoice ∷ Parallel ∷ OpenRename ∷ CloseRename ∷ OpenProduct ∷ CloseProduct ∷ LeftArrow
-    ∷ DotDot ∷ Equal ∷ NotEqual ∷ LessEqual ∷ GreaterEqual
-    ∷ Dot ∷ Bang ∷ Question ∷ Colon ∷ At ∷ Defines ∷ Less ∷ Greater ∷ Plus ∷ Minus ∷ Star ∷ Slash ∷ Percent
-    ∷ OpenParen ∷ CloseParen ∷ OpenBrace ∷ CloseBrace ∷ OpenBracket ∷ CloseBracket ∷ Comma ∷ Ampersand ∷ Bar
+    InternalChoice ∷ Arrow ∷ DotDot ∷ ExternalChoice ∷ Parallel ∷ OpenRename ∷ CloseRename ∷ OpenProduct ∷ CloseProduct ∷ LeftArrow
+    ∷ Equal ∷ NotEqual ∷ LessEqual ∷ GreaterEqual
+    ∷ Defines ∷ Dot ∷ OpenBrace ∷ Bar ∷ OpenBracket ∷ CloseBracket ∷ Bang ∷ Less ∷ Greater ∷ Minus
+    ∷ Question ∷ Colon ∷ At ∷ Plus ∷ Star ∷ Slash ∷ Percent ∷ OpenParen ∷ CloseParen ∷ CloseBrace ∷ Comma ∷ Ampersand
     ∷ Backslash ∷ Semicolon ∷ []
 
 -- the longest symbol that the text begins with

@@ -1,6 +1,6 @@
 //! Symbols of a text: the longest one that fits.
 
-ghost use Rattle.std.specs.Prelude.{◌≡◌, ◌<◌, ◌≤◌, length, IfSome};
+ghost use Rattle.std.specs.Prelude.{◌≡◌, ◌<◌, ◌≤◌, ℕ, List, ◌∷◌, length, IfSome, Some};
 ghost use Rattle.csp_lexer.specs.Symbols.{IsLongest, longest_symbol, symbol_at};
 ghost use Rattle.csp_text.specs.Written.{symbol_text};
 
@@ -10,6 +10,7 @@ use csp_text::{Symbol, symbol_text};
 const SYMBOLS: [Symbol; 38] = [
     Symbol::InternalChoice,
     Symbol::Arrow,
+    Symbol::DotDot,
     Symbol::ExternalChoice,
     Symbol::Parallel,
     Symbol::OpenRename,
@@ -17,47 +18,87 @@ const SYMBOLS: [Symbol; 38] = [
     Symbol::OpenProduct,
     Symbol::CloseProduct,
     Symbol::LeftArrow,
-    Symbol::DotDot,
     Symbol::Equal,
     Symbol::NotEqual,
     Symbol::LessEqual,
     Symbol::GreaterEqual,
+    Symbol::Defines,
     Symbol::Dot,
+    Symbol::OpenBrace,
+    Symbol::Bar,
+    Symbol::OpenBracket,
+    Symbol::CloseBracket,
     Symbol::Bang,
+    Symbol::Less,
+    Symbol::Greater,
+    Symbol::Minus,
     Symbol::Question,
     Symbol::Colon,
     Symbol::At,
-    Symbol::Defines,
-    Symbol::Less,
-    Symbol::Greater,
     Symbol::Plus,
-    Symbol::Minus,
     Symbol::Star,
     Symbol::Slash,
     Symbol::Percent,
     Symbol::OpenParen,
     Symbol::CloseParen,
-    Symbol::OpenBrace,
     Symbol::CloseBrace,
-    Symbol::OpenBracket,
-    Symbol::CloseBracket,
     Symbol::Comma,
     Symbol::Ampersand,
-    Symbol::Bar,
     Symbol::Backslash,
     Symbol::Semicolon,
 ];
 
-// The longest symbol that the text begins with.
-fn longest_symbol(text: &[u8]) -> Option<Symbol>
-    ensures value { result ≡ longest_symbol text.now }
-    ensures longest { IsLongest text.now result }
-    ensures within { IfSome result (λ symbol. (0 < length (symbol_text symbol)) × (length (symbol_text symbol) ≤ length text.now)) }
+// The symbol that is this byte alone, where no longer symbol begins with it.
+#[tactic(auto, unfolding(crate::specs::Symbols::longest_symbol))]
+fn alone(byte: u8) -> Option<Symbol>
+    ensures { IfSome result (λ symbol. (rest : List ℕ) → longest_symbol (byte ∷ rest) ≡ Some symbol) }
+{
+    match byte {
+        b',' => Some(Symbol::Comma),
+        b'(' => Some(Symbol::OpenParen),
+        b')' => Some(Symbol::CloseParen),
+        b'}' => Some(Symbol::CloseBrace),
+        b'?' => Some(Symbol::Question),
+        b':' => Some(Symbol::Colon),
+        b'@' => Some(Symbol::At),
+        b'+' => Some(Symbol::Plus),
+        b'*' => Some(Symbol::Star),
+        b'/' => Some(Symbol::Slash),
+        b'%' => Some(Symbol::Percent),
+        b'&' => Some(Symbol::Ampersand),
+        b'\\' => Some(Symbol::Backslash),
+        b';' => Some(Symbol::Semicolon),
+        _ => None,
+    }
+}
+
+// The first symbol of the list that the text begins with.
+fn first_symbol(text: &[u8]) -> Option<Symbol>
+    ensures { result ≡ longest_symbol text.now }
 {
     SYMBOLS
         .iter()
         .find(|symbol| text.starts_with(symbol_text(**symbol)))
         .copied()
+}
+
+// The symbol that the text begins with, first tried as a byte alone.
+fn symbol_in_front(text: &[u8]) -> Option<Symbol>
+    ensures { result ≡ longest_symbol text.now }
+{
+    text.first()
+        .and_then(|byte| alone(*byte))
+        .or_else(|| first_symbol(text))
+}
+
+// The longest symbol that the text begins with.
+#[tactic(auto, using(crate::proofs::SymbolsLemmas::found_fits, crate::proofs::SymbolsLemmas::found_longest))]
+fn longest_symbol(text: &[u8]) -> Option<Symbol>
+    ensures value { result ≡ longest_symbol text.now }
+    ensures longest { IsLongest text.now result }
+    ensures within { IfSome result (λ symbol. (0 < length (symbol_text symbol)) × (length (symbol_text symbol) ≤ length text.now)) }
+{
+    symbol_in_front(text)
 }
 
 // The symbol that the text begins with. On the line of an assertion each bracket is a symbol by itself.
