@@ -13,7 +13,7 @@ ghost use Rattle.expression_steps.specs.Moved.Moved.{inner};
 
 use crate::form::{Form, GeneratorsOf, PartOf};
 use crate::frame::{AtomFrame, Frame};
-use crate::step::{Step, found, inner, inner_behind, next};
+use crate::step::{Step, found, inner, next};
 use containers::{Boxed, Items};
 use csp_base::{Name, SetOp};
 use csp_text::{Symbol, Token, Tree};
@@ -67,8 +67,9 @@ fn set_operator<'t>(limits: Limits, op: SetOp, tokens: &'t [Token]) -> Result<St
     ensures falls { IfOk result (λ s. weight (moved s) < 32 * length tokens.now + 33) }
 {
     let inside = limits.opened(tokens)?;
-    let frame = Frame::Atom(AtomFrame::FirstSet(inside, op));
-    inner_behind(Symbol::OpenParen, frame, Form::Item, inside, tokens)
+    let behind = expect(tokens, Symbol::OpenParen)?;
+    let frame = AtomFrame::FirstSet(inside, op);
+    Ok(wait(frame, Form::Item, inside, behind))
 }
 
 // What stands behind `(`.
@@ -281,8 +282,9 @@ fn behind_first_set<'t>(
     ensures moves { Gives result moved (resume_first_set limits op first rest.now) }
     ensures falls { IfOk result (λ s. weight (moved s) < 32 * length rest.now + 34) }
 {
-    let frame = Frame::Atom(AtomFrame::SecondSet(op, first));
-    inner_behind(Symbol::Comma, frame, Form::Item, limits, rest)
+    let behind = expect(rest, Symbol::Comma)?;
+    let frame = AtomFrame::SecondSet(op, first);
+    Ok(wait(frame, Form::Item, limits, behind))
 }
 
 // An operator on sets with its operands.

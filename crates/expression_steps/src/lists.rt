@@ -307,11 +307,11 @@ fn behind_old<'t>(
     ensures moves { Gives result moved (end_old limits renaming old tokens.now) }
     ensures falls { IfOk result (λ s. weight (moved s) < 32 * length tokens.now + 33) }
 {
-    let form = Form::Part(PartOf::New(renaming, old));
     match expect(tokens, Symbol::LeftArrow) {
-        Ok(behind) => Ok(next(form, limits, behind)),
+        Ok(behind) => Ok(next(Form::Part(PartOf::New(renaming, old)), limits, behind)),
         Err(fault) => {
-            drop(form);
+            drop(renaming);
+            drop(old);
             Err(fault)
         }
     }

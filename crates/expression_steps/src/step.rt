@@ -1,17 +1,14 @@
 //! One step of the reading.
 
-ghost use Rattle.std.specs.Prelude.{◌≡◌, ◌+◌, ◌≤◌, IfOk};
-ghost use Rattle.tree_reading.specs.Gives.{Gives};
-ghost use Rattle.expression_steps.specs.Moved.{inner_behind, inner_behind_word, moved, pending_weight, weight};
+ghost use Rattle.std.specs.Prelude.{◌≡◌};
+ghost use Rattle.expression_steps.specs.Moved.{moved};
 ghost use Rattle.expression_steps.specs.Moved.Moved.{found, inner, next};
 
 use crate::form::Form;
 use crate::frame::Frame;
 use containers::Boxed;
-use csp_text::{Symbol, Token, Tree, Word};
-use tree_reading::fault::ReadFault;
+use csp_text::{Token, Tree};
 use tree_reading::limits::Limits;
-use tree_reading::look::{expect, expect_word};
 use tree_reading::read::{Binding, BoundRead};
 
 /// What is to be read next, within limits, from the front of tokens.
@@ -59,48 +56,6 @@ pub fn inner<'t>(frame: Frame, form: Form, limits: Limits, tokens: &'t [Token]) 
             tokens,
         },
     )
-}
-
-/// Behind the symbol, which has to stand at the front, the form is to be read, while this waits.
-pub fn inner_behind<'t>(
-    symbol: Symbol,
-    frame: Frame,
-    form: Form,
-    limits: Limits,
-    tokens: &'t [Token],
-) -> Result<Step<'t>, ReadFault>
-    ensures moves { Gives result moved (inner_behind symbol frame form limits tokens.now) }
-    ensures falls { IfOk result (λ s. weight (moved s) + 30 ≤ pending_weight form tokens.now) }
-{
-    match expect(tokens, symbol) {
-        Ok(behind) => Ok(inner(frame, form, limits, behind)),
-        Err(fault) => {
-            drop(frame);
-            drop(form);
-            Err(fault)
-        }
-    }
-}
-
-/// Behind the word, which has to stand at the front, the form is to be read, while this waits.
-pub fn inner_behind_word<'t>(
-    word: Word,
-    frame: Frame,
-    form: Form,
-    limits: Limits,
-    tokens: &'t [Token],
-) -> Result<Step<'t>, ReadFault>
-    ensures moves { Gives result moved (inner_behind_word word frame form limits tokens.now) }
-    ensures falls { IfOk result (λ s. weight (moved s) + 30 ≤ pending_weight form tokens.now) }
-{
-    match expect_word(tokens, word) {
-        Ok(behind) => Ok(inner(frame, form, limits, behind)),
-        Err(fault) => {
-            drop(frame);
-            drop(form);
-            Err(fault)
-        }
-    }
 }
 
 /// The form is to be read in place of what was begun.

@@ -12,11 +12,11 @@ use csp_text::{Symbol, Token, Tree};
 use expression_steps::form::Form;
 use expression_steps::frame::{Frame, ParallelFrame};
 use expression_steps::nesting::parallel_limits;
-use expression_steps::step::{Step, found, inner, inner_behind};
+use expression_steps::step::{Step, found, inner};
 use std::alloc::Global;
 use tree_reading::fault::ReadFault;
 use tree_reading::limits::Limits;
-use tree_reading::look::skip;
+use tree_reading::look::{expect, skip};
 use tree_reading::nodes::parallel;
 use tree_reading::read::Binding;
 
@@ -74,8 +74,9 @@ fn behind_left_alphabet<'t>(
     ensures moves { Gives result moved (resume_left_alphabet limits alphabets left alphabet rest.now) }
     ensures falls { IfOk result (λ s. weight (moved s) < 32 * length rest.now + 34) }
 {
-    let frame = Frame::Parallel(ParallelFrame::RightAlphabet(limits, left, alphabet));
-    inner_behind(Symbol::Parallel, frame, Form::Atom, alphabets, rest)
+    let behind = expect(rest, Symbol::Parallel)?;
+    let frame = ParallelFrame::RightAlphabet(limits, left, alphabet);
+    Ok(wait(frame, Form::Atom, alphabets, behind))
 }
 
 // What stands behind the right alphabet of a parallel.
@@ -89,8 +90,9 @@ fn behind_right_alphabet<'t>(
     ensures moves { Gives result moved (resume_right_alphabet limits left a b rest.now) }
     ensures falls { IfOk result (λ s. weight (moved s) < 32 * length rest.now + 34) }
 {
-    let frame = Frame::Parallel(ParallelFrame::RightSide(left, a, b));
-    inner_behind(Symbol::CloseBracket, frame, Form::Side, limits, rest)
+    let behind = expect(rest, Symbol::CloseBracket)?;
+    let frame = ParallelFrame::RightSide(left, a, b);
+    Ok(wait(frame, Form::Side, limits, behind))
 }
 
 // A parallel with its right side, which is bound like this.

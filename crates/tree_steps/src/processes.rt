@@ -13,11 +13,11 @@ use csp_text::{Symbol, Token, Tree, Word};
 use expression_steps::form::Form;
 use expression_steps::frame::{Frame, ProcessFrame};
 use expression_steps::nesting::operand_limits;
-use expression_steps::step::{Step, found, inner, inner_behind_word};
+use expression_steps::step::{Step, found, inner};
 use std::alloc::Global;
 use tree_reading::fault::ReadFault;
 use tree_reading::limits::Limits;
-use tree_reading::look::skip;
+use tree_reading::look::{expect_word, skip};
 use tree_reading::nodes::{conditional, guarded, sequential};
 use tree_reading::read::Binding;
 
@@ -73,8 +73,9 @@ fn behind_condition<'t>(
     ensures moves { Gives result moved (resume_condition limits condition rest.now) }
     ensures falls { IfOk result (λ s. weight (moved s) < 32 * length rest.now + 34) }
 {
-    let frame = Frame::Process(ProcessFrame::FirstPart(limits, condition));
-    inner_behind_word(Word::Then, frame, Form::Tree, limits, rest)
+    let behind = expect_word(rest, Word::Then)?;
+    let frame = ProcessFrame::FirstPart(limits, condition);
+    Ok(wait(frame, Form::Tree, limits, behind))
 }
 
 // What stands behind the first part of an `if`.
@@ -87,8 +88,9 @@ fn behind_first_part<'t>(
     ensures moves { Gives result moved (resume_first_part limits condition first rest.now) }
     ensures falls { IfOk result (λ s. weight (moved s) < 32 * length rest.now + 34) }
 {
-    let frame = Frame::Process(ProcessFrame::SecondPart(condition, first));
-    inner_behind_word(Word::Else, frame, Form::Tree, limits, rest)
+    let behind = expect_word(rest, Word::Else)?;
+    let frame = ProcessFrame::SecondPart(condition, first);
+    Ok(wait(frame, Form::Tree, limits, behind))
 }
 
 // An `if` with its parts.

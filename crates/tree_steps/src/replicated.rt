@@ -14,7 +14,7 @@ use csp_base::Name;
 use csp_text::{Symbol, Token, Tree};
 use expression_steps::form::Form;
 use expression_steps::frame::{Frame, ReplicatedFrame, Replication};
-use expression_steps::step::{Step, found, inner, inner_behind};
+use expression_steps::step::{Step, found, inner};
 use std::alloc::Global;
 use tree_reading::fault::ReadFault;
 use tree_reading::limits::Limits;
@@ -41,8 +41,9 @@ pub(crate) fn replicated<'t>(
 {
     let inside = limits.inside(tokens)?;
     let (name, colon) = expect_name(alloc, tokens)?;
-    let frame = Frame::Replicated(ReplicatedFrame::Range(inside, replication, name));
-    inner_behind(Symbol::Colon, frame, Form::Atom, inside, colon)
+    let behind = expect(colon, Symbol::Colon)?;
+    let frame = ReplicatedFrame::Range(inside, replication, name);
+    Ok(wait(frame, Form::Atom, inside, behind))
 }
 
 // What stands behind the bracket of the alphabet of a replicated parallel.
@@ -136,8 +137,9 @@ fn behind_alphabet<'t>(
     ensures moves { Gives result moved (resume_alphabet limits name set alphabet tokens.now) }
     ensures falls { IfOk result (λ s. weight (moved s) < 32 * length tokens.now + 34) }
 {
-    let frame = Frame::Replicated(ReplicatedFrame::Parallel(name, set, alphabet));
-    inner_behind(Symbol::CloseBracket, frame, Form::Tree, limits, tokens)
+    let behind = expect(tokens, Symbol::CloseBracket)?;
+    let frame = ReplicatedFrame::Parallel(name, set, alphabet);
+    Ok(wait(frame, Form::Tree, limits, behind))
 }
 
 // A replicated parallel with its process.
