@@ -86,9 +86,14 @@ fn first_symbol(text: &[u8]) -> Option<Symbol>
 fn symbol_in_front(text: &[u8]) -> Option<Symbol>
     ensures { result ≡ longest_symbol text.now }
 {
-    text.first()
-        .and_then(|byte| alone(*byte))
-        .or_else(|| first_symbol(text))
+    let by_itself = match text.first() {
+        Some(byte) => alone(*byte),
+        None => None,
+    };
+    match by_itself {
+        Some(symbol) => Some(symbol),
+        None => first_symbol(text),
+    }
 }
 
 // The longest symbol that the text begins with.
