@@ -70,8 +70,8 @@ fn steps_of_operands(
     Ok(steps)
 }
 
-/// The steps of the process at a place of the pool, each once. The processes after them are put into the pool. What is evaluated on the way is kept, if it
-/// can come again: what `evaluated` has kept of the pool and the program isn't evaluated anew. A fault of kind `Value` comes only where
+/// The steps of the process at a place of the pool, each once. The processes after them are put into the pool, and what is evaluated of hidings and
+/// renamings on the way is kept in `evaluated`, so that no later step evaluates it again. A fault of kind `Value` comes only where
 /// the process has no list of steps for want of a value, with the kind of the first value that there isn't.
 pub fn steps_in(
     alloc: Global,
