@@ -1,10 +1,6 @@
 -- What comes of one step of the reading, without the references of the program; and what bounds the number of steps.
-use Rattle.std.specs.Prelude.{ℕ, ◌+◌, ◌*◌, Option, Some, List, length}
-use Rattle.csp_text.specs.declared.token.Symbol.{Symbol}
+use Rattle.std.specs.Prelude.{ℕ, ◌+◌, ◌*◌, List, length}
 use Rattle.csp_text.specs.declared.token.Token.{Token}
-use Rattle.csp_text.specs.declared.token.Word.{Word}
-use Rattle.csp_grammar.specs.Reader.{and_then}
-use Rattle.csp_grammar.specs.Tokens.{skip, skip_word}
 use Rattle.csp_text.specs.declared.tree.Tree.{Tree}
 use Rattle.tree_reading.specs.declared.limits.Limits.{Limits}
 use Rattle.tree_reading.specs.declared.read.Binding.{Binding}
@@ -31,13 +27,6 @@ abbrev pub moved : Step → Moved
 moved (step.Found r) = found (seen r)
 moved (step.Inner frame p) = inner frame p.form p.limits p.tokens.now
 moved (step.Next p) = next p.form p.limits p.tokens.now
-
--- behind the symbol or the word, which has to stand at the front, the form is read while the frame waits
-abbrev pub inner_behind : Symbol → Frame → Form → Limits → List Token → Option Moved
-inner_behind s w f l ts = and_then (skip s ts) λ us. Some (inner w f l us)
-
-abbrev pub inner_behind_word : Word → Frame → Form → Limits → List Token → Option Moved
-inner_behind_word s w f l ts = and_then (skip_word s ts) λ us. Some (inner w f l us)
 
 -- A step takes a token away, or goes on to a form that is read in fewer steps, or to what waits. So a weight falls: tokens weigh most, then what waits,
 -- then forms. The rest of an event may have no token, and counts as having one more.
