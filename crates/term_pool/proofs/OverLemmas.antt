@@ -1,5 +1,6 @@
 -- The layer of a process over the places of its sub-processes.
 use Rattle.std.proofs.Common.{◌≡◌, ℕ, Some, List, slice_get, ap, sym, ◌∙◌, subst}
+use Rattle.std.specs.Prelude.{Result, Ok, Err, IfOk}
 use Rattle.csp_program.specs.declared.expressions.EventPart.{EventPart}
 use Rattle.csp_program.specs.declared.expressions.Expr.{Expr}
 use Rattle.csp_program.specs.declared.expressions.Gen.{Gen}
@@ -75,50 +76,46 @@ over_Ended b = ap (λ (t : Proc). layer_at (out-Proc t) b) (sym proc.rolls-Ended
 pub ruleset over_forms = (over_Stop, over_Prefix, over_Guard, over_If, over_External, over_Internal, over_EachExternal, over_EachInternal, over_Hide, over_Rename, over_Call, over_Skip, over_Seq, over_Ended)
 
 module _ (trees : List Proc) (t : Proc) where
-  -- what stands at a place
-  stands_first : (i j : ProcId) → j ≡ i → (r p : Proc) → slice_get trees i.0 ≡ Some r → r ≡ p → slice_get trees j.0 ≡ Some p
-  stands_first i j f r p h e = ap (λ (k : ProcId). slice_get trees k.0) f ∙ (h ∙ ap (λ (x : Proc). Some x) e)
-
-  -- the layer of each form stands for it
+  -- the layer of each form, over places where its sub-processes stand, stands for it
   pub below_Stop : t ≡ proc.Stop → (b : Below) → StandsFor trees (layer_over t b) t
   below_Stop is b =
       lemmas.stands_by trees (layer_over t b) Layer.Stop t proc.Stop (ap (λ (u : Proc). layer_over u b) is ∙ over_Stop b) is (lemmas.stands_Stop trees)
 
-  pub below_Prefix : (head : Head) (fields : List Field) (p : Proc) → t ≡ (proc.Prefix head fields p) → (b : Below) → (i_p : ProcId) → b.first ≡ i_p → (r_p : Proc) → slice_get trees i_p.0 ≡ Some r_p → r_p ≡ p → StandsFor trees (layer_over t b) t
-  below_Prefix head fields p is b i_p f_p r_p h_p e_p =
-      lemmas.stands_by trees (layer_over t b) (Layer.Prefix head fields b.first) t (proc.Prefix head fields p) (ap (λ (u : Proc). layer_over u b) is ∙ over_Prefix head fields p b) is (lemmas.stands_Prefix trees head fields b.first p (stands_first i_p b.first f_p r_p p h_p e_p))
+  pub below_Prefix : (head : Head) (fields : List Field) (p : Proc) → t ≡ (proc.Prefix head fields p) → (b : Below) → slice_get trees b.first.0 ≡ Some p → StandsFor trees (layer_over t b) t
+  below_Prefix head fields p is b h_p =
+      lemmas.stands_by trees (layer_over t b) (Layer.Prefix head fields b.first) t (proc.Prefix head fields p) (ap (λ (u : Proc). layer_over u b) is ∙ over_Prefix head fields p b) is (lemmas.stands_Prefix trees head fields b.first p h_p)
 
-  pub below_Guard : (c : Expr) (p : Proc) → t ≡ (proc.Guard c p) → (b : Below) → (i_p : ProcId) → b.first ≡ i_p → (r_p : Proc) → slice_get trees i_p.0 ≡ Some r_p → r_p ≡ p → StandsFor trees (layer_over t b) t
-  below_Guard c p is b i_p f_p r_p h_p e_p =
-      lemmas.stands_by trees (layer_over t b) (Layer.Guard c b.first) t (proc.Guard c p) (ap (λ (u : Proc). layer_over u b) is ∙ over_Guard c p b) is (lemmas.stands_Guard trees c b.first p (stands_first i_p b.first f_p r_p p h_p e_p))
+  pub below_Guard : (c : Expr) (p : Proc) → t ≡ (proc.Guard c p) → (b : Below) → slice_get trees b.first.0 ≡ Some p → StandsFor trees (layer_over t b) t
+  below_Guard c p is b h_p =
+      lemmas.stands_by trees (layer_over t b) (Layer.Guard c b.first) t (proc.Guard c p) (ap (λ (u : Proc). layer_over u b) is ∙ over_Guard c p b) is (lemmas.stands_Guard trees c b.first p h_p)
 
-  pub below_If : (c : Expr) (p : Proc) (q : Proc) → t ≡ (proc.If c p q) → (b : Below) → (i_p : ProcId) → b.first ≡ i_p → (r_p : Proc) → slice_get trees i_p.0 ≡ Some r_p → r_p ≡ p → (i_q : ProcId) → b.second ≡ i_q → (r_q : Proc) → slice_get trees i_q.0 ≡ Some r_q → r_q ≡ q → StandsFor trees (layer_over t b) t
-  below_If c p q is b i_p f_p r_p h_p e_p i_q f_q r_q h_q e_q =
-      lemmas.stands_by trees (layer_over t b) (Layer.If c b.first b.second) t (proc.If c p q) (ap (λ (u : Proc). layer_over u b) is ∙ over_If c p q b) is (lemmas.stands_If trees c b.first p b.second q (stands_first i_p b.first f_p r_p p h_p e_p) (stands_first i_q b.second f_q r_q q h_q e_q))
+  pub below_If : (c : Expr) (p : Proc) (q : Proc) → t ≡ (proc.If c p q) → (b : Below) → slice_get trees b.first.0 ≡ Some p → slice_get trees b.second.0 ≡ Some q → StandsFor trees (layer_over t b) t
+  below_If c p q is b h_p h_q =
+      lemmas.stands_by trees (layer_over t b) (Layer.If c b.first b.second) t (proc.If c p q) (ap (λ (u : Proc). layer_over u b) is ∙ over_If c p q b) is (lemmas.stands_If trees c b.first p b.second q h_p h_q)
 
-  pub below_External : (ps : List Proc) → t ≡ (proc.External ps) → (b : Below) → (ids : List ProcId) → b.all ≡ ids → (rs : List Proc) → StandAt trees ids rs → rs ≡ ps → StandsFor trees (layer_over t b) t
-  below_External ps is b ids f rs h e =
-      lemmas.stands_by trees (layer_over t b) (Layer.External b.all) t (proc.External ps) (ap (λ (u : Proc). layer_over u b) is ∙ over_External ps b) is (lemmas.stands_External trees b.all ps (subst (λ (us : List Proc). StandAt trees b.all us) e (subst (λ (xs : List ProcId). StandAt trees xs rs) (sym f) h)))
+  pub below_External : (ps : List Proc) → t ≡ (proc.External ps) → (b : Below) → StandAt trees b.all ps → StandsFor trees (layer_over t b) t
+  below_External ps is b h =
+      lemmas.stands_by trees (layer_over t b) (Layer.External b.all) t (proc.External ps) (ap (λ (u : Proc). layer_over u b) is ∙ over_External ps b) is (lemmas.stands_External trees b.all ps h)
 
-  pub below_Internal : (ps : List Proc) → t ≡ (proc.Internal ps) → (b : Below) → (ids : List ProcId) → b.all ≡ ids → (rs : List Proc) → StandAt trees ids rs → rs ≡ ps → StandsFor trees (layer_over t b) t
-  below_Internal ps is b ids f rs h e =
-      lemmas.stands_by trees (layer_over t b) (Layer.Internal b.all) t (proc.Internal ps) (ap (λ (u : Proc). layer_over u b) is ∙ over_Internal ps b) is (lemmas.stands_Internal trees b.all ps (subst (λ (us : List Proc). StandAt trees b.all us) e (subst (λ (xs : List ProcId). StandAt trees xs rs) (sym f) h)))
+  pub below_Internal : (ps : List Proc) → t ≡ (proc.Internal ps) → (b : Below) → StandAt trees b.all ps → StandsFor trees (layer_over t b) t
+  below_Internal ps is b h =
+      lemmas.stands_by trees (layer_over t b) (Layer.Internal b.all) t (proc.Internal ps) (ap (λ (u : Proc). layer_over u b) is ∙ over_Internal ps b) is (lemmas.stands_Internal trees b.all ps h)
 
-  pub below_EachExternal : (y : ℕ) (s : Expr) (p : Proc) → t ≡ (proc.EachExternal y s p) → (b : Below) → (i_p : ProcId) → b.first ≡ i_p → (r_p : Proc) → slice_get trees i_p.0 ≡ Some r_p → r_p ≡ p → StandsFor trees (layer_over t b) t
-  below_EachExternal y s p is b i_p f_p r_p h_p e_p =
-      lemmas.stands_by trees (layer_over t b) (Layer.EachExternal y s b.first) t (proc.EachExternal y s p) (ap (λ (u : Proc). layer_over u b) is ∙ over_EachExternal y s p b) is (lemmas.stands_EachExternal trees y s b.first p (stands_first i_p b.first f_p r_p p h_p e_p))
+  pub below_EachExternal : (y : ℕ) (s : Expr) (p : Proc) → t ≡ (proc.EachExternal y s p) → (b : Below) → slice_get trees b.first.0 ≡ Some p → StandsFor trees (layer_over t b) t
+  below_EachExternal y s p is b h_p =
+      lemmas.stands_by trees (layer_over t b) (Layer.EachExternal y s b.first) t (proc.EachExternal y s p) (ap (λ (u : Proc). layer_over u b) is ∙ over_EachExternal y s p b) is (lemmas.stands_EachExternal trees y s b.first p h_p)
 
-  pub below_EachInternal : (y : ℕ) (s : Expr) (p : Proc) → t ≡ (proc.EachInternal y s p) → (b : Below) → (i_p : ProcId) → b.first ≡ i_p → (r_p : Proc) → slice_get trees i_p.0 ≡ Some r_p → r_p ≡ p → StandsFor trees (layer_over t b) t
-  below_EachInternal y s p is b i_p f_p r_p h_p e_p =
-      lemmas.stands_by trees (layer_over t b) (Layer.EachInternal y s b.first) t (proc.EachInternal y s p) (ap (λ (u : Proc). layer_over u b) is ∙ over_EachInternal y s p b) is (lemmas.stands_EachInternal trees y s b.first p (stands_first i_p b.first f_p r_p p h_p e_p))
+  pub below_EachInternal : (y : ℕ) (s : Expr) (p : Proc) → t ≡ (proc.EachInternal y s p) → (b : Below) → slice_get trees b.first.0 ≡ Some p → StandsFor trees (layer_over t b) t
+  below_EachInternal y s p is b h_p =
+      lemmas.stands_by trees (layer_over t b) (Layer.EachInternal y s b.first) t (proc.EachInternal y s p) (ap (λ (u : Proc). layer_over u b) is ∙ over_EachInternal y s p b) is (lemmas.stands_EachInternal trees y s b.first p h_p)
 
-  pub below_Hide : (p : Proc) (s : Expr) → t ≡ (proc.Hide p s) → (b : Below) → (i_p : ProcId) → b.first ≡ i_p → (r_p : Proc) → slice_get trees i_p.0 ≡ Some r_p → r_p ≡ p → StandsFor trees (layer_over t b) t
-  below_Hide p s is b i_p f_p r_p h_p e_p =
-      lemmas.stands_by trees (layer_over t b) (Layer.Hide b.first s) t (proc.Hide p s) (ap (λ (u : Proc). layer_over u b) is ∙ over_Hide p s b) is (lemmas.stands_Hide trees s b.first p (stands_first i_p b.first f_p r_p p h_p e_p))
+  pub below_Hide : (p : Proc) (s : Expr) → t ≡ (proc.Hide p s) → (b : Below) → slice_get trees b.first.0 ≡ Some p → StandsFor trees (layer_over t b) t
+  below_Hide p s is b h_p =
+      lemmas.stands_by trees (layer_over t b) (Layer.Hide b.first s) t (proc.Hide p s) (ap (λ (u : Proc). layer_over u b) is ∙ over_Hide p s b) is (lemmas.stands_Hide trees s b.first p h_p)
 
-  pub below_Rename : (p : Proc) (pairs : List (EventPart × EventPart)) (gens : List Gen) → t ≡ (proc.Rename p pairs gens) → (b : Below) → (i_p : ProcId) → b.first ≡ i_p → (r_p : Proc) → slice_get trees i_p.0 ≡ Some r_p → r_p ≡ p → StandsFor trees (layer_over t b) t
-  below_Rename p pairs gens is b i_p f_p r_p h_p e_p =
-      lemmas.stands_by trees (layer_over t b) (Layer.Rename b.first pairs gens) t (proc.Rename p pairs gens) (ap (λ (u : Proc). layer_over u b) is ∙ over_Rename p pairs gens b) is (lemmas.stands_Rename trees pairs gens b.first p (stands_first i_p b.first f_p r_p p h_p e_p))
+  pub below_Rename : (p : Proc) (pairs : List (EventPart × EventPart)) (gens : List Gen) → t ≡ (proc.Rename p pairs gens) → (b : Below) → slice_get trees b.first.0 ≡ Some p → StandsFor trees (layer_over t b) t
+  below_Rename p pairs gens is b h_p =
+      lemmas.stands_by trees (layer_over t b) (Layer.Rename b.first pairs gens) t (proc.Rename p pairs gens) (ap (λ (u : Proc). layer_over u b) is ∙ over_Rename p pairs gens b) is (lemmas.stands_Rename trees pairs gens b.first p h_p)
 
   pub below_Call : (d : ℕ) (args : List Expr) → t ≡ (proc.Call d args) → (b : Below) → StandsFor trees (layer_over t b) t
   below_Call d args is b =
@@ -128,10 +125,19 @@ module _ (trees : List Proc) (t : Proc) where
   below_Skip is b =
       lemmas.stands_by trees (layer_over t b) Layer.Skip t proc.Skip (ap (λ (u : Proc). layer_over u b) is ∙ over_Skip b) is (lemmas.stands_Skip trees)
 
-  pub below_Seq : (p : Proc) (q : Proc) → t ≡ (proc.Seq p q) → (b : Below) → (i_p : ProcId) → b.first ≡ i_p → (r_p : Proc) → slice_get trees i_p.0 ≡ Some r_p → r_p ≡ p → (i_q : ProcId) → b.second ≡ i_q → (r_q : Proc) → slice_get trees i_q.0 ≡ Some r_q → r_q ≡ q → StandsFor trees (layer_over t b) t
-  below_Seq p q is b i_p f_p r_p h_p e_p i_q f_q r_q h_q e_q =
-      lemmas.stands_by trees (layer_over t b) (Layer.Seq b.first b.second) t (proc.Seq p q) (ap (λ (u : Proc). layer_over u b) is ∙ over_Seq p q b) is (lemmas.stands_Seq trees b.first p b.second q (stands_first i_p b.first f_p r_p p h_p e_p) (stands_first i_q b.second f_q r_q q h_q e_q))
+  pub below_Seq : (p : Proc) (q : Proc) → t ≡ (proc.Seq p q) → (b : Below) → slice_get trees b.first.0 ≡ Some p → slice_get trees b.second.0 ≡ Some q → StandsFor trees (layer_over t b) t
+  below_Seq p q is b h_p h_q =
+      lemmas.stands_by trees (layer_over t b) (Layer.Seq b.first b.second) t (proc.Seq p q) (ap (λ (u : Proc). layer_over u b) is ∙ over_Seq p q b) is (lemmas.stands_Seq trees b.first p b.second q h_p h_q)
 
   pub below_Ended : t ≡ proc.Ended → (b : Below) → StandsFor trees (layer_over t b) t
   below_Ended is b =
       lemmas.stands_by trees (layer_over t b) Layer.Ended t proc.Ended (ap (λ (u : Proc). layer_over u b) is ∙ over_Ended b) is (lemmas.stands_Ended trees)
+
+-- what is so of each value that comes of a call
+pub if_ok : {T E : Type 0} (r : Result T E) (P Q : T → Type 0) → ((x : T) → P x → Q x) → IfOk r P → IfOk r Q
+if_ok (Ok x) P Q f h = f x h
+if_ok (Err e) P Q f h = tt
+
+pub if_both : {T E : Type 0} (r : Result T E) (P Q R : T → Type 0) → ((x : T) → P x → Q x → R x) → IfOk r P → IfOk r Q → IfOk r R
+if_both (Ok x) P Q R f h g = f x h g
+if_both (Err e) P Q R f h g = tt

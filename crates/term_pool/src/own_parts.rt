@@ -2,7 +2,7 @@
 
 ghost use Rattle.std.specs.Prelude.{◌≡◌, [], slice_get, IfOk, OnErr, Some};
 ghost use Rattle.term_pool.specs.Entries.{entry_layer, ArePartsOnce, Fits, HasParts, PartsStart, StandsAs};
-ghost use Rattle.term_pool.specs.Layers.{shown};
+ghost use Rattle.term_pool.specs.Layers.{shown, Layer};
 ghost use Rattle.term_pool.specs.Stored.{IsAbsent};
 
 use crate::entry::Entry;
@@ -151,6 +151,44 @@ pub(crate) fn keep_choice(
     Ok(place)
 }
 
+// The entry of a prefix, whose head and fields are kept.
+fn keep_prefix(
+    parts: &mut OwnParts,
+    alloc: Global,
+    head: &Head,
+    fields: &Items<Field>,
+    p: ProcId,
+) -> Result<Entry, NoMemory>
+    requires once { ArePartsOnce parts.old }
+    ensures once { ArePartsOnce parts.new }
+    ensures start { PartsStart parts.old parts.new }
+    ensures entry { IfOk result (λ entry. StandsAs parts.new entry (Layer.Prefix head.now fields.now p)) }
+    ensures err_only_new { OnErr result (HasParts parts.old (Layer.Prefix head.now fields.now p) → ⊥) }
+{
+    let head = keep_head(parts, alloc, head)?;
+    let fields = keep_fields(parts, alloc, fields)?;
+    Ok(Entry::Prefix(head, fields, p))
+}
+
+// The entry of a renaming, whose pairs and generators are kept.
+fn keep_renaming(
+    parts: &mut OwnParts,
+    alloc: Global,
+    p: ProcId,
+    pairs: &Items<(EventPart, EventPart)>,
+    gens: &Items<Gen>,
+) -> Result<Entry, NoMemory>
+    requires once { ArePartsOnce parts.old }
+    ensures once { ArePartsOnce parts.new }
+    ensures start { PartsStart parts.old parts.new }
+    ensures entry { IfOk result (λ entry. StandsAs parts.new entry (Layer.Rename p pairs.now gens.now)) }
+    ensures err_only_new { OnErr result (HasParts parts.old (Layer.Rename p pairs.now gens.now) → ⊥) }
+{
+    let pairs = keep_pairs(parts, alloc, pairs)?;
+    let gens = keep_gens(parts, alloc, gens)?;
+    Ok(Entry::Rename(p, pairs, gens))
+}
+
 /// The entry of a node, whose own parts are kept.
 pub(crate) fn keep_node(
     parts: &mut OwnParts,
@@ -165,11 +203,7 @@ pub(crate) fn keep_node(
 {
     match node {
         Node::Stop => Ok(Entry::Stop),
-        Node::Prefix(head, fields, p) => {
-            let head = keep_head(parts, alloc, head)?;
-            let fields = keep_fields(parts, alloc, fields)?;
-            Ok(Entry::Prefix(head, fields, p))
-        }
+        Node::Prefix(head, fields, p) => keep_prefix(parts, alloc, head, fields, p),
         Node::Guard(c, p) => {
             let c = keep_expr(parts, alloc, c)?;
             Ok(Entry::Guard(c, p))
@@ -198,11 +232,7 @@ pub(crate) fn keep_node(
             let set = keep_expr(parts, alloc, set)?;
             Ok(Entry::Hide(p, set))
         }
-        Node::Rename(p, pairs, gens) => {
-            let pairs = keep_pairs(parts, alloc, pairs)?;
-            let gens = keep_gens(parts, alloc, gens)?;
-            Ok(Entry::Rename(p, pairs, gens))
-        }
+        Node::Rename(p, pairs, gens) => keep_renaming(parts, alloc, p, pairs, gens),
         Node::Call(definition, args) => {
             let args = keep_arguments(parts, alloc, args)?;
             Ok(Entry::Call(definition, args))

@@ -32,43 +32,19 @@ fn put_below(pool: &mut Pool, alloc: Global, proc: &Proc) -> Result<Below, NoMem
 {
     match proc {
         Proc::Stop => Ok(few(alloc, ProcId(0), ProcId(0))),
-        Proc::Prefix(_, _, p) => {
-            let p = put_tree(pool, alloc, p.get())?;
-            Ok(few(alloc, p, p))
-        }
-        Proc::Guard(_, p) => {
-            let p = put_tree(pool, alloc, p.get())?;
-            Ok(few(alloc, p, p))
-        }
+        Proc::Prefix(_, _, p) => put_one(pool, alloc, p.get()),
+        Proc::Guard(_, p) => put_one(pool, alloc, p.get()),
         Proc::If(_, p, q) => {
             let p = put_tree(pool, alloc, p.get())?;
             let q = put_tree(pool, alloc, q.get())?;
             Ok(few(alloc, p, q))
         }
-        Proc::External(procs) => {
-            let ids = put_trees(pool, alloc, procs.as_slice())?;
-            Ok(all(ids))
-        }
-        Proc::Internal(procs) => {
-            let ids = put_trees(pool, alloc, procs.as_slice())?;
-            Ok(all(ids))
-        }
-        Proc::EachExternal(_, _, p) => {
-            let p = put_tree(pool, alloc, p.get())?;
-            Ok(few(alloc, p, p))
-        }
-        Proc::EachInternal(_, _, p) => {
-            let p = put_tree(pool, alloc, p.get())?;
-            Ok(few(alloc, p, p))
-        }
-        Proc::Hide(p, _) => {
-            let p = put_tree(pool, alloc, p.get())?;
-            Ok(few(alloc, p, p))
-        }
-        Proc::Rename(p, _, _) => {
-            let p = put_tree(pool, alloc, p.get())?;
-            Ok(few(alloc, p, p))
-        }
+        Proc::External(procs) => put_choice(pool, alloc, procs.as_slice()),
+        Proc::Internal(procs) => put_choice(pool, alloc, procs.as_slice()),
+        Proc::EachExternal(_, _, p) => put_one(pool, alloc, p.get()),
+        Proc::EachInternal(_, _, p) => put_one(pool, alloc, p.get()),
+        Proc::Hide(p, _) => put_one(pool, alloc, p.get()),
+        Proc::Rename(p, _, _) => put_one(pool, alloc, p.get()),
         Proc::Call(_, _) => Ok(few(alloc, ProcId(0), ProcId(0))),
         Proc::Skip => Ok(few(alloc, ProcId(0), ProcId(0))),
         Proc::Seq(p, q) => {
@@ -78,6 +54,26 @@ fn put_below(pool: &mut Pool, alloc: Global, proc: &Proc) -> Result<Below, NoMem
         }
         Proc::Ended => Ok(few(alloc, ProcId(0), ProcId(0))),
     }
+}
+
+// The place of the process, which is put into the pool.
+#[cycle(put_tree)]
+fn put_one(pool: &mut Pool, alloc: Global, p: &Proc) -> Result<Below, NoMemory>
+    ensures first { IfOk result (λ below. slice_get pool.new below.first.0 ≡ Some p.now) }
+    ensures grows { Grows pool.old pool.new (p.now ∷ []) }
+{
+    let p = put_tree(pool, alloc, p)?;
+    Ok(few(alloc, p, p))
+}
+
+// The places of the processes of a choice, which are put into the pool.
+#[cycle(put_tree)]
+fn put_choice(pool: &mut Pool, alloc: Global, procs: &[Proc]) -> Result<Below, NoMemory>
+    ensures all { IfOk result (λ below. StandAt pool.new below.all procs.now) }
+    ensures grows { Grows pool.old pool.new procs.now }
+{
+    let ids = put_trees(pool, alloc, procs)?;
+    Ok(all(ids))
 }
 
 // The places of the processes, which are put into the pool.

@@ -1,99 +1,89 @@
 -- The list grows by the sub-processes of each form, and the layer over their places stands for it.
-use Rattle.std.proofs.Common.{◌+◌, List, [], ◌∷◌, Some, take, ap, sym, ◌∙◌, subst}
+use Rattle.std.proofs.Common.{◌≡◌, ◌+◌, List, [], ◌∷◌, Some, take, slice_get, sym, ap, ◌∙◌, subst}
 use Rattle.csp_program.specs.declared.processes.Proc.{Proc}
 use Rattle.csp_program.specs.declared.processes.Proc.TheVariants as proc
 use Rattle.term_pool.proofs.OverLemmas as over
 use Rattle.term_pool.proofs.PutLemmas as lemmas
 use Rattle.term_pool.specs.Layers.{Layer, shown}
+use Rattle.term_pool.specs.Over.{layer_over}
 use Rattle.term_pool.specs.Put.{StandAt, StandsFor}
 use Rattle.term_pool.specs.declared.node.ProcId.{ProcId}
 use Rattle.term_pool.proofs.put.+put_tree.Goals as goal
 
-pub put_below-returns-in_err-p-in-Prefix-clause-grows : goal.put_below-returns-in_err-p-in-Prefix-clause-grows
-put_below-returns-in_err-p-in-Prefix-clause-grows t c = lemmas.first_part c.args.pool.now c.put_tree.new.pool c.args.proc.now (proc.Prefix c.in-Prefix.field-0 c.in-Prefix.field-1 c.in-Prefix.p) c.in-Prefix.p c.get.result.now [] c.in-Prefix.is (lemmas.parts_Prefix c.in-Prefix.field-0 c.in-Prefix.field-1 c.in-Prefix.p) c.get.ensures c.in_err-p-in-Prefix.ensures.grows
+pub put_below-returns-in-Prefix-clause-grows : goal.put_below-returns-in-Prefix-clause-grows
+put_below-returns-in-Prefix-clause-grows t c =
+    lemmas.all_parts c.args.pool.now c.put_one.new.pool c.args.proc.now (proc.Prefix c.in-Prefix.field-0 c.in-Prefix.field-1 c.in-Prefix.p) (c.in-Prefix.p ∷ []) (c.get.result.now ∷ []) c.in-Prefix.is (lemmas.parts_Prefix c.in-Prefix.field-0 c.in-Prefix.field-1 c.in-Prefix.p) (ap (λ (q : Proc). q ∷ []) c.get.ensures) c.put_one.ensures.grows
 
-pub put_below-returns-in_ok-p-in-Prefix-clause-grows : goal.put_below-returns-in_ok-p-in-Prefix-clause-grows
-put_below-returns-in_ok-p-in-Prefix-clause-grows t c = lemmas.first_part c.args.pool.now c.put_tree.new.pool c.args.proc.now (proc.Prefix c.in-Prefix.field-0 c.in-Prefix.field-1 c.in-Prefix.p) c.in-Prefix.p c.get.result.now [] c.in-Prefix.is (lemmas.parts_Prefix c.in-Prefix.field-0 c.in-Prefix.field-1 c.in-Prefix.p) c.get.ensures c.in_ok-p-in-Prefix.ensures.grows
+pub put_below-returns-in-Prefix-clause-node : goal.put_below-returns-in-Prefix-clause-node
+put_below-returns-in-Prefix-clause-node t c =
+    over.if_ok c.put_one.result (λ b. slice_get c.put_one.new.pool b.first.0 ≡ Some c.get.result.now) (λ b. StandsFor c.put_one.new.pool (layer_over c.args.proc.now b) c.args.proc.now)
+    (λ b h. over.below_Prefix c.put_one.new.pool c.args.proc.now c.in-Prefix.field-0 c.in-Prefix.field-1 c.in-Prefix.p c.in-Prefix.is b (h ∙ ap (λ (q : Proc). Some q) c.get.ensures)) c.put_one.ensures.first
 
-pub put_below-returns-in_ok-p-in-Prefix-clause-node : goal.put_below-returns-in_ok-p-in-Prefix-clause-node
-put_below-returns-in_ok-p-in-Prefix-clause-node t c =
-    over.below_Prefix c.put_tree.new.pool c.args.proc.now c.in-Prefix.field-0 c.in-Prefix.field-1 c.in-Prefix.p c.in-Prefix.is c.few-in-Prefix.result
-    c.in_ok-p-in-Prefix.p c.few-in-Prefix.ensures.first c.get.result.now c.in_ok-p-in-Prefix.ensures.process c.get.ensures
+pub put_below-returns-in-Guard-clause-grows : goal.put_below-returns-in-Guard-clause-grows
+put_below-returns-in-Guard-clause-grows t c =
+    lemmas.all_parts c.args.pool.now c.put_one-in-Guard.new.pool c.args.proc.now (proc.Guard c.in-Guard.field-0 c.in-Guard.p) (c.in-Guard.p ∷ []) (c.get-in-Guard.result.now ∷ []) c.in-Guard.is (lemmas.parts_Guard c.in-Guard.field-0 c.in-Guard.p) (ap (λ (q : Proc). q ∷ []) c.get-in-Guard.ensures) c.put_one-in-Guard.ensures.grows
 
-pub put_below-returns-in_err-p-in-Guard-clause-grows : goal.put_below-returns-in_err-p-in-Guard-clause-grows
-put_below-returns-in_err-p-in-Guard-clause-grows t c = lemmas.first_part c.args.pool.now c.put_tree-in-Guard.new.pool c.args.proc.now (proc.Guard c.in-Guard.field-0 c.in-Guard.p) c.in-Guard.p c.get-in-Guard.result.now [] c.in-Guard.is (lemmas.parts_Guard c.in-Guard.field-0 c.in-Guard.p) c.get-in-Guard.ensures c.in_err-p-in-Guard.ensures.grows
+pub put_below-returns-in-Guard-clause-node : goal.put_below-returns-in-Guard-clause-node
+put_below-returns-in-Guard-clause-node t c =
+    over.if_ok c.put_one-in-Guard.result (λ b. slice_get c.put_one-in-Guard.new.pool b.first.0 ≡ Some c.get-in-Guard.result.now) (λ b. StandsFor c.put_one-in-Guard.new.pool (layer_over c.args.proc.now b) c.args.proc.now)
+    (λ b h. over.below_Guard c.put_one-in-Guard.new.pool c.args.proc.now c.in-Guard.field-0 c.in-Guard.p c.in-Guard.is b (h ∙ ap (λ (q : Proc). Some q) c.get-in-Guard.ensures)) c.put_one-in-Guard.ensures.first
 
-pub put_below-returns-in_ok-p-in-Guard-clause-grows : goal.put_below-returns-in_ok-p-in-Guard-clause-grows
-put_below-returns-in_ok-p-in-Guard-clause-grows t c = lemmas.first_part c.args.pool.now c.put_tree-in-Guard.new.pool c.args.proc.now (proc.Guard c.in-Guard.field-0 c.in-Guard.p) c.in-Guard.p c.get-in-Guard.result.now [] c.in-Guard.is (lemmas.parts_Guard c.in-Guard.field-0 c.in-Guard.p) c.get-in-Guard.ensures c.in_ok-p-in-Guard.ensures.grows
+pub put_below-returns-in-EachExternal-clause-grows : goal.put_below-returns-in-EachExternal-clause-grows
+put_below-returns-in-EachExternal-clause-grows t c =
+    lemmas.all_parts c.args.pool.now c.put_one-in-EachExternal.new.pool c.args.proc.now (proc.EachExternal c.in-EachExternal.field-0 c.in-EachExternal.field-1 c.in-EachExternal.p) (c.in-EachExternal.p ∷ []) (c.get-in-EachExternal.result.now ∷ []) c.in-EachExternal.is (lemmas.parts_EachExternal c.in-EachExternal.field-0 c.in-EachExternal.field-1 c.in-EachExternal.p) (ap (λ (q : Proc). q ∷ []) c.get-in-EachExternal.ensures) c.put_one-in-EachExternal.ensures.grows
 
-pub put_below-returns-in_ok-p-in-Guard-clause-node : goal.put_below-returns-in_ok-p-in-Guard-clause-node
-put_below-returns-in_ok-p-in-Guard-clause-node t c =
-    over.below_Guard c.put_tree-in-Guard.new.pool c.args.proc.now c.in-Guard.field-0 c.in-Guard.p c.in-Guard.is c.few-in-Guard.result
-    c.in_ok-p-in-Guard.p c.few-in-Guard.ensures.first c.get-in-Guard.result.now c.in_ok-p-in-Guard.ensures.process c.get-in-Guard.ensures
+pub put_below-returns-in-EachExternal-clause-node : goal.put_below-returns-in-EachExternal-clause-node
+put_below-returns-in-EachExternal-clause-node t c =
+    over.if_ok c.put_one-in-EachExternal.result (λ b. slice_get c.put_one-in-EachExternal.new.pool b.first.0 ≡ Some c.get-in-EachExternal.result.now) (λ b. StandsFor c.put_one-in-EachExternal.new.pool (layer_over c.args.proc.now b) c.args.proc.now)
+    (λ b h. over.below_EachExternal c.put_one-in-EachExternal.new.pool c.args.proc.now c.in-EachExternal.field-0 c.in-EachExternal.field-1 c.in-EachExternal.p c.in-EachExternal.is b (h ∙ ap (λ (q : Proc). Some q) c.get-in-EachExternal.ensures)) c.put_one-in-EachExternal.ensures.first
 
-pub put_below-returns-in_err-p-in-EachExternal-clause-grows : goal.put_below-returns-in_err-p-in-EachExternal-clause-grows
-put_below-returns-in_err-p-in-EachExternal-clause-grows t c = lemmas.first_part c.args.pool.now c.put_tree-in-EachExternal.new.pool c.args.proc.now (proc.EachExternal c.in-EachExternal.field-0 c.in-EachExternal.field-1 c.in-EachExternal.p) c.in-EachExternal.p c.get-in-EachExternal.result.now [] c.in-EachExternal.is (lemmas.parts_EachExternal c.in-EachExternal.field-0 c.in-EachExternal.field-1 c.in-EachExternal.p) c.get-in-EachExternal.ensures c.in_err-p-in-EachExternal.ensures.grows
+pub put_below-returns-in-EachInternal-clause-grows : goal.put_below-returns-in-EachInternal-clause-grows
+put_below-returns-in-EachInternal-clause-grows t c =
+    lemmas.all_parts c.args.pool.now c.put_one-in-EachInternal.new.pool c.args.proc.now (proc.EachInternal c.in-EachInternal.field-0 c.in-EachInternal.field-1 c.in-EachInternal.p) (c.in-EachInternal.p ∷ []) (c.get-in-EachInternal.result.now ∷ []) c.in-EachInternal.is (lemmas.parts_EachInternal c.in-EachInternal.field-0 c.in-EachInternal.field-1 c.in-EachInternal.p) (ap (λ (q : Proc). q ∷ []) c.get-in-EachInternal.ensures) c.put_one-in-EachInternal.ensures.grows
 
-pub put_below-returns-in_ok-p-in-EachExternal-clause-grows : goal.put_below-returns-in_ok-p-in-EachExternal-clause-grows
-put_below-returns-in_ok-p-in-EachExternal-clause-grows t c = lemmas.first_part c.args.pool.now c.put_tree-in-EachExternal.new.pool c.args.proc.now (proc.EachExternal c.in-EachExternal.field-0 c.in-EachExternal.field-1 c.in-EachExternal.p) c.in-EachExternal.p c.get-in-EachExternal.result.now [] c.in-EachExternal.is (lemmas.parts_EachExternal c.in-EachExternal.field-0 c.in-EachExternal.field-1 c.in-EachExternal.p) c.get-in-EachExternal.ensures c.in_ok-p-in-EachExternal.ensures.grows
+pub put_below-returns-in-EachInternal-clause-node : goal.put_below-returns-in-EachInternal-clause-node
+put_below-returns-in-EachInternal-clause-node t c =
+    over.if_ok c.put_one-in-EachInternal.result (λ b. slice_get c.put_one-in-EachInternal.new.pool b.first.0 ≡ Some c.get-in-EachInternal.result.now) (λ b. StandsFor c.put_one-in-EachInternal.new.pool (layer_over c.args.proc.now b) c.args.proc.now)
+    (λ b h. over.below_EachInternal c.put_one-in-EachInternal.new.pool c.args.proc.now c.in-EachInternal.field-0 c.in-EachInternal.field-1 c.in-EachInternal.p c.in-EachInternal.is b (h ∙ ap (λ (q : Proc). Some q) c.get-in-EachInternal.ensures)) c.put_one-in-EachInternal.ensures.first
 
-pub put_below-returns-in_ok-p-in-EachExternal-clause-node : goal.put_below-returns-in_ok-p-in-EachExternal-clause-node
-put_below-returns-in_ok-p-in-EachExternal-clause-node t c =
-    over.below_EachExternal c.put_tree-in-EachExternal.new.pool c.args.proc.now c.in-EachExternal.field-0 c.in-EachExternal.field-1 c.in-EachExternal.p c.in-EachExternal.is c.few-in-EachExternal.result
-    c.in_ok-p-in-EachExternal.p c.few-in-EachExternal.ensures.first c.get-in-EachExternal.result.now c.in_ok-p-in-EachExternal.ensures.process c.get-in-EachExternal.ensures
+pub put_below-returns-in-Hide-clause-grows : goal.put_below-returns-in-Hide-clause-grows
+put_below-returns-in-Hide-clause-grows t c =
+    lemmas.all_parts c.args.pool.now c.put_one-in-Hide.new.pool c.args.proc.now (proc.Hide c.in-Hide.p c.in-Hide.field-1) (c.in-Hide.p ∷ []) (c.get-in-Hide.result.now ∷ []) c.in-Hide.is (lemmas.parts_Hide c.in-Hide.p c.in-Hide.field-1) (ap (λ (q : Proc). q ∷ []) c.get-in-Hide.ensures) c.put_one-in-Hide.ensures.grows
 
-pub put_below-returns-in_err-p-in-EachInternal-clause-grows : goal.put_below-returns-in_err-p-in-EachInternal-clause-grows
-put_below-returns-in_err-p-in-EachInternal-clause-grows t c = lemmas.first_part c.args.pool.now c.put_tree-in-EachInternal.new.pool c.args.proc.now (proc.EachInternal c.in-EachInternal.field-0 c.in-EachInternal.field-1 c.in-EachInternal.p) c.in-EachInternal.p c.get-in-EachInternal.result.now [] c.in-EachInternal.is (lemmas.parts_EachInternal c.in-EachInternal.field-0 c.in-EachInternal.field-1 c.in-EachInternal.p) c.get-in-EachInternal.ensures c.in_err-p-in-EachInternal.ensures.grows
+pub put_below-returns-in-Hide-clause-node : goal.put_below-returns-in-Hide-clause-node
+put_below-returns-in-Hide-clause-node t c =
+    over.if_ok c.put_one-in-Hide.result (λ b. slice_get c.put_one-in-Hide.new.pool b.first.0 ≡ Some c.get-in-Hide.result.now) (λ b. StandsFor c.put_one-in-Hide.new.pool (layer_over c.args.proc.now b) c.args.proc.now)
+    (λ b h. over.below_Hide c.put_one-in-Hide.new.pool c.args.proc.now c.in-Hide.p c.in-Hide.field-1 c.in-Hide.is b (h ∙ ap (λ (q : Proc). Some q) c.get-in-Hide.ensures)) c.put_one-in-Hide.ensures.first
 
-pub put_below-returns-in_ok-p-in-EachInternal-clause-grows : goal.put_below-returns-in_ok-p-in-EachInternal-clause-grows
-put_below-returns-in_ok-p-in-EachInternal-clause-grows t c = lemmas.first_part c.args.pool.now c.put_tree-in-EachInternal.new.pool c.args.proc.now (proc.EachInternal c.in-EachInternal.field-0 c.in-EachInternal.field-1 c.in-EachInternal.p) c.in-EachInternal.p c.get-in-EachInternal.result.now [] c.in-EachInternal.is (lemmas.parts_EachInternal c.in-EachInternal.field-0 c.in-EachInternal.field-1 c.in-EachInternal.p) c.get-in-EachInternal.ensures c.in_ok-p-in-EachInternal.ensures.grows
+pub put_below-returns-in-Rename-clause-grows : goal.put_below-returns-in-Rename-clause-grows
+put_below-returns-in-Rename-clause-grows t c =
+    lemmas.all_parts c.args.pool.now c.put_one-in-Rename.new.pool c.args.proc.now (proc.Rename c.in-Rename.p c.in-Rename.field-1 c.in-Rename.field-2) (c.in-Rename.p ∷ []) (c.get-in-Rename.result.now ∷ []) c.in-Rename.is (lemmas.parts_Rename c.in-Rename.p c.in-Rename.field-1 c.in-Rename.field-2) (ap (λ (q : Proc). q ∷ []) c.get-in-Rename.ensures) c.put_one-in-Rename.ensures.grows
 
-pub put_below-returns-in_ok-p-in-EachInternal-clause-node : goal.put_below-returns-in_ok-p-in-EachInternal-clause-node
-put_below-returns-in_ok-p-in-EachInternal-clause-node t c =
-    over.below_EachInternal c.put_tree-in-EachInternal.new.pool c.args.proc.now c.in-EachInternal.field-0 c.in-EachInternal.field-1 c.in-EachInternal.p c.in-EachInternal.is c.few-in-EachInternal.result
-    c.in_ok-p-in-EachInternal.p c.few-in-EachInternal.ensures.first c.get-in-EachInternal.result.now c.in_ok-p-in-EachInternal.ensures.process c.get-in-EachInternal.ensures
-
-pub put_below-returns-in_err-p-in-Hide-clause-grows : goal.put_below-returns-in_err-p-in-Hide-clause-grows
-put_below-returns-in_err-p-in-Hide-clause-grows t c = lemmas.first_part c.args.pool.now c.put_tree-in-Hide.new.pool c.args.proc.now (proc.Hide c.in-Hide.p c.in-Hide.field-1) c.in-Hide.p c.get-in-Hide.result.now [] c.in-Hide.is (lemmas.parts_Hide c.in-Hide.p c.in-Hide.field-1) c.get-in-Hide.ensures c.in_err-p-in-Hide.ensures.grows
-
-pub put_below-returns-in_ok-p-in-Hide-clause-grows : goal.put_below-returns-in_ok-p-in-Hide-clause-grows
-put_below-returns-in_ok-p-in-Hide-clause-grows t c = lemmas.first_part c.args.pool.now c.put_tree-in-Hide.new.pool c.args.proc.now (proc.Hide c.in-Hide.p c.in-Hide.field-1) c.in-Hide.p c.get-in-Hide.result.now [] c.in-Hide.is (lemmas.parts_Hide c.in-Hide.p c.in-Hide.field-1) c.get-in-Hide.ensures c.in_ok-p-in-Hide.ensures.grows
-
-pub put_below-returns-in_ok-p-in-Hide-clause-node : goal.put_below-returns-in_ok-p-in-Hide-clause-node
-put_below-returns-in_ok-p-in-Hide-clause-node t c =
-    over.below_Hide c.put_tree-in-Hide.new.pool c.args.proc.now c.in-Hide.p c.in-Hide.field-1 c.in-Hide.is c.few-in-Hide.result
-    c.in_ok-p-in-Hide.p c.few-in-Hide.ensures.first c.get-in-Hide.result.now c.in_ok-p-in-Hide.ensures.process c.get-in-Hide.ensures
-
-pub put_below-returns-in_err-p-in-Rename-clause-grows : goal.put_below-returns-in_err-p-in-Rename-clause-grows
-put_below-returns-in_err-p-in-Rename-clause-grows t c = lemmas.first_part c.args.pool.now c.put_tree-in-Rename.new.pool c.args.proc.now (proc.Rename c.in-Rename.p c.in-Rename.field-1 c.in-Rename.field-2) c.in-Rename.p c.get-in-Rename.result.now [] c.in-Rename.is (lemmas.parts_Rename c.in-Rename.p c.in-Rename.field-1 c.in-Rename.field-2) c.get-in-Rename.ensures c.in_err-p-in-Rename.ensures.grows
-
-pub put_below-returns-in_ok-p-in-Rename-clause-grows : goal.put_below-returns-in_ok-p-in-Rename-clause-grows
-put_below-returns-in_ok-p-in-Rename-clause-grows t c = lemmas.first_part c.args.pool.now c.put_tree-in-Rename.new.pool c.args.proc.now (proc.Rename c.in-Rename.p c.in-Rename.field-1 c.in-Rename.field-2) c.in-Rename.p c.get-in-Rename.result.now [] c.in-Rename.is (lemmas.parts_Rename c.in-Rename.p c.in-Rename.field-1 c.in-Rename.field-2) c.get-in-Rename.ensures c.in_ok-p-in-Rename.ensures.grows
-
-pub put_below-returns-in_ok-p-in-Rename-clause-node : goal.put_below-returns-in_ok-p-in-Rename-clause-node
-put_below-returns-in_ok-p-in-Rename-clause-node t c =
-    over.below_Rename c.put_tree-in-Rename.new.pool c.args.proc.now c.in-Rename.p c.in-Rename.field-1 c.in-Rename.field-2 c.in-Rename.is c.few-in-Rename.result
-    c.in_ok-p-in-Rename.p c.few-in-Rename.ensures.first c.get-in-Rename.result.now c.in_ok-p-in-Rename.ensures.process c.get-in-Rename.ensures
+pub put_below-returns-in-Rename-clause-node : goal.put_below-returns-in-Rename-clause-node
+put_below-returns-in-Rename-clause-node t c =
+    over.if_ok c.put_one-in-Rename.result (λ b. slice_get c.put_one-in-Rename.new.pool b.first.0 ≡ Some c.get-in-Rename.result.now) (λ b. StandsFor c.put_one-in-Rename.new.pool (layer_over c.args.proc.now b) c.args.proc.now)
+    (λ b h. over.below_Rename c.put_one-in-Rename.new.pool c.args.proc.now c.in-Rename.p c.in-Rename.field-1 c.in-Rename.field-2 c.in-Rename.is b (h ∙ ap (λ (q : Proc). Some q) c.get-in-Rename.ensures)) c.put_one-in-Rename.ensures.first
 
 pub put_below-returns-in_err-p-in-If-clause-grows : goal.put_below-returns-in_err-p-in-If-clause-grows
 put_below-returns-in_err-p-in-If-clause-grows t c =
-    lemmas.first_part c.args.pool.now c.put_tree-in-If.new.pool c.args.proc.now (proc.If c.in-If.field-0 c.in-If.p c.in-If.q) c.in-If.p c.get-in-If.result.now (c.in-If.q ∷ []) c.in-If.is (lemmas.parts_If c.in-If.field-0 c.in-If.p c.in-If.q) c.get-in-If.ensures c.in_err-p-in-If.ensures.grows
+    lemmas.first_part c.args.pool.now c.put_tree.new.pool c.args.proc.now (proc.If c.in-If.field-0 c.in-If.p c.in-If.q) c.in-If.p c.get-in-If.result.now (c.in-If.q ∷ []) c.in-If.is (lemmas.parts_If c.in-If.field-0 c.in-If.p c.in-If.q) c.get-in-If.ensures c.in_err-p-in-If.ensures.grows
 
 pub put_below-returns-in_err-q-in-If-clause-grows : goal.put_below-returns-in_err-q-in-If-clause-grows
 put_below-returns-in_err-q-in-If-clause-grows t c =
-    lemmas.both_parts c.args.pool.now c.put_tree-in-If.new.pool c.put_tree-in-If-2.new.pool c.args.proc.now (proc.If c.in-If.field-0 c.in-If.p c.in-If.q) c.in-If.p c.get-in-If.result.now c.in-If.q c.get-in-If-2.result.now c.in-If.is (lemmas.parts_If c.in-If.field-0 c.in-If.p c.in-If.q)
+    lemmas.both_parts c.args.pool.now c.put_tree.new.pool c.put_tree-in-If.new.pool c.args.proc.now (proc.If c.in-If.field-0 c.in-If.p c.in-If.q) c.in-If.p c.get-in-If.result.now c.in-If.q c.get-in-If-2.result.now c.in-If.is (lemmas.parts_If c.in-If.field-0 c.in-If.p c.in-If.q)
     c.get-in-If.ensures c.get-in-If-2.ensures c.in_ok-p-in-If.ensures.grows c.in_err-q-in-If.ensures.grows
 
 pub put_below-returns-in_ok-q-in-If-clause-grows : goal.put_below-returns-in_ok-q-in-If-clause-grows
 put_below-returns-in_ok-q-in-If-clause-grows t c =
-    lemmas.both_parts c.args.pool.now c.put_tree-in-If.new.pool c.put_tree-in-If-2.new.pool c.args.proc.now (proc.If c.in-If.field-0 c.in-If.p c.in-If.q) c.in-If.p c.get-in-If.result.now c.in-If.q c.get-in-If-2.result.now c.in-If.is (lemmas.parts_If c.in-If.field-0 c.in-If.p c.in-If.q)
+    lemmas.both_parts c.args.pool.now c.put_tree.new.pool c.put_tree-in-If.new.pool c.args.proc.now (proc.If c.in-If.field-0 c.in-If.p c.in-If.q) c.in-If.p c.get-in-If.result.now c.in-If.q c.get-in-If-2.result.now c.in-If.is (lemmas.parts_If c.in-If.field-0 c.in-If.p c.in-If.q)
     c.get-in-If.ensures c.get-in-If-2.ensures c.in_ok-p-in-If.ensures.grows c.in_ok-q-in-If.ensures.grows
 
 pub put_below-returns-in_ok-q-in-If-clause-node : goal.put_below-returns-in_ok-q-in-If-clause-node
 put_below-returns-in_ok-q-in-If-clause-node t c =
-    over.below_If c.put_tree-in-If-2.new.pool c.args.proc.now c.in-If.field-0 c.in-If.p c.in-If.q c.in-If.is c.few-in-If.result
-    c.in_ok-p-in-If.p c.few-in-If.ensures.first c.get-in-If.result.now (c.in_ok-q-in-If.ensures.grows.front c.in_ok-p-in-If.p.0 c.get-in-If.result.now c.in_ok-p-in-If.ensures.process) c.get-in-If.ensures
-    c.in_ok-q-in-If.q c.few-in-If.ensures.second c.get-in-If-2.result.now c.in_ok-q-in-If.ensures.process c.get-in-If-2.ensures
+    over.below_If c.put_tree-in-If.new.pool c.args.proc.now c.in-If.field-0 c.in-If.p c.in-If.q c.in-If.is c.few-in-If.result
+    (ap (λ (k : ProcId). slice_get c.put_tree-in-If.new.pool k.0) c.few-in-If.ensures.first ∙
+    (c.in_ok-q-in-If.ensures.grows.front c.in_ok-p-in-If.p.0 c.get-in-If.result.now c.in_ok-p-in-If.ensures.process ∙ ap (λ (r : Proc). Some r) c.get-in-If.ensures))
+    (ap (λ (k : ProcId). slice_get c.put_tree-in-If.new.pool k.0) c.few-in-If.ensures.second ∙ (c.in_ok-q-in-If.ensures.process ∙ ap (λ (r : Proc). Some r) c.get-in-If-2.ensures))
 
 pub put_below-returns-in_err-p-in-Seq-clause-grows : goal.put_below-returns-in_err-p-in-Seq-clause-grows
 put_below-returns-in_err-p-in-Seq-clause-grows t c =
@@ -112,32 +102,27 @@ put_below-returns-in_ok-q-in-Seq-clause-grows t c =
 pub put_below-returns-in_ok-q-in-Seq-clause-node : goal.put_below-returns-in_ok-q-in-Seq-clause-node
 put_below-returns-in_ok-q-in-Seq-clause-node t c =
     over.below_Seq c.put_tree-in-Seq-2.new.pool c.args.proc.now c.in-Seq.p c.in-Seq.q c.in-Seq.is c.few-in-Seq.result
-    c.in_ok-p-in-Seq.p c.few-in-Seq.ensures.first c.get-in-Seq.result.now (c.in_ok-q-in-Seq.ensures.grows.front c.in_ok-p-in-Seq.p.0 c.get-in-Seq.result.now c.in_ok-p-in-Seq.ensures.process) c.get-in-Seq.ensures
-    c.in_ok-q-in-Seq.q c.few-in-Seq.ensures.second c.get-in-Seq-2.result.now c.in_ok-q-in-Seq.ensures.process c.get-in-Seq-2.ensures
+    (ap (λ (k : ProcId). slice_get c.put_tree-in-Seq-2.new.pool k.0) c.few-in-Seq.ensures.first ∙
+    (c.in_ok-q-in-Seq.ensures.grows.front c.in_ok-p-in-Seq.p.0 c.get-in-Seq.result.now c.in_ok-p-in-Seq.ensures.process ∙ ap (λ (r : Proc). Some r) c.get-in-Seq.ensures))
+    (ap (λ (k : ProcId). slice_get c.put_tree-in-Seq-2.new.pool k.0) c.few-in-Seq.ensures.second ∙ (c.in_ok-q-in-Seq.ensures.process ∙ ap (λ (r : Proc). Some r) c.get-in-Seq-2.ensures))
 
-pub put_below-returns-in_err-ids-in-External-clause-grows : goal.put_below-returns-in_err-ids-in-External-clause-grows
-put_below-returns-in_err-ids-in-External-clause-grows t c =
-    lemmas.all_parts c.args.pool.now c.put_trees.new.pool c.args.proc.now (proc.External c.in-External.procs) c.in-External.procs c.as_slice.result.now c.in-External.is (lemmas.parts_External c.in-External.procs) c.as_slice.ensures c.in_err-ids-in-External.ensures.grows
+pub put_below-returns-in-External-clause-grows : goal.put_below-returns-in-External-clause-grows
+put_below-returns-in-External-clause-grows t c =
+    lemmas.all_parts c.args.pool.now c.put_choice.new.pool c.args.proc.now (proc.External c.in-External.procs) c.in-External.procs c.as_slice.result.now c.in-External.is (lemmas.parts_External c.in-External.procs) c.as_slice.ensures c.put_choice.ensures.grows
 
-pub put_below-returns-in_ok-ids-in-External-clause-grows : goal.put_below-returns-in_ok-ids-in-External-clause-grows
-put_below-returns-in_ok-ids-in-External-clause-grows t c =
-    lemmas.all_parts c.args.pool.now c.put_trees.new.pool c.args.proc.now (proc.External c.in-External.procs) c.in-External.procs c.as_slice.result.now c.in-External.is (lemmas.parts_External c.in-External.procs) c.as_slice.ensures c.in_ok-ids-in-External.ensures.grows
+pub put_below-returns-in-External-clause-node : goal.put_below-returns-in-External-clause-node
+put_below-returns-in-External-clause-node t c =
+    over.if_ok c.put_choice.result (λ b. StandAt c.put_choice.new.pool b.all c.as_slice.result.now) (λ b. StandsFor c.put_choice.new.pool (layer_over c.args.proc.now b) c.args.proc.now)
+    (λ b h. over.below_External c.put_choice.new.pool c.args.proc.now c.in-External.procs c.in-External.is b (subst (λ (ps : List Proc). StandAt c.put_choice.new.pool b.all ps) c.as_slice.ensures h)) c.put_choice.ensures.all
 
-pub put_below-returns-in_ok-ids-in-External-clause-node : goal.put_below-returns-in_ok-ids-in-External-clause-node
-put_below-returns-in_ok-ids-in-External-clause-node t c =
-    over.below_External c.put_trees.new.pool c.args.proc.now c.in-External.procs c.in-External.is c.all.result c.in_ok-ids-in-External.ids c.all.ensures c.as_slice.result.now c.in_ok-ids-in-External.ensures.places c.as_slice.ensures
+pub put_below-returns-in-Internal-clause-grows : goal.put_below-returns-in-Internal-clause-grows
+put_below-returns-in-Internal-clause-grows t c =
+    lemmas.all_parts c.args.pool.now c.put_choice-in-Internal.new.pool c.args.proc.now (proc.Internal c.in-Internal.procs) c.in-Internal.procs c.as_slice-in-Internal.result.now c.in-Internal.is (lemmas.parts_Internal c.in-Internal.procs) c.as_slice-in-Internal.ensures c.put_choice-in-Internal.ensures.grows
 
-pub put_below-returns-in_err-ids-in-Internal-clause-grows : goal.put_below-returns-in_err-ids-in-Internal-clause-grows
-put_below-returns-in_err-ids-in-Internal-clause-grows t c =
-    lemmas.all_parts c.args.pool.now c.put_trees-in-Internal.new.pool c.args.proc.now (proc.Internal c.in-Internal.procs) c.in-Internal.procs c.as_slice-in-Internal.result.now c.in-Internal.is (lemmas.parts_Internal c.in-Internal.procs) c.as_slice-in-Internal.ensures c.in_err-ids-in-Internal.ensures.grows
-
-pub put_below-returns-in_ok-ids-in-Internal-clause-grows : goal.put_below-returns-in_ok-ids-in-Internal-clause-grows
-put_below-returns-in_ok-ids-in-Internal-clause-grows t c =
-    lemmas.all_parts c.args.pool.now c.put_trees-in-Internal.new.pool c.args.proc.now (proc.Internal c.in-Internal.procs) c.in-Internal.procs c.as_slice-in-Internal.result.now c.in-Internal.is (lemmas.parts_Internal c.in-Internal.procs) c.as_slice-in-Internal.ensures c.in_ok-ids-in-Internal.ensures.grows
-
-pub put_below-returns-in_ok-ids-in-Internal-clause-node : goal.put_below-returns-in_ok-ids-in-Internal-clause-node
-put_below-returns-in_ok-ids-in-Internal-clause-node t c =
-    over.below_Internal c.put_trees-in-Internal.new.pool c.args.proc.now c.in-Internal.procs c.in-Internal.is c.all-in-Internal.result c.in_ok-ids-in-Internal.ids c.all-in-Internal.ensures c.as_slice-in-Internal.result.now c.in_ok-ids-in-Internal.ensures.places c.as_slice-in-Internal.ensures
+pub put_below-returns-in-Internal-clause-node : goal.put_below-returns-in-Internal-clause-node
+put_below-returns-in-Internal-clause-node t c =
+    over.if_ok c.put_choice-in-Internal.result (λ b. StandAt c.put_choice-in-Internal.new.pool b.all c.as_slice-in-Internal.result.now) (λ b. StandsFor c.put_choice-in-Internal.new.pool (layer_over c.args.proc.now b) c.args.proc.now)
+    (λ b h. over.below_Internal c.put_choice-in-Internal.new.pool c.args.proc.now c.in-Internal.procs c.in-Internal.is b (subst (λ (ps : List Proc). StandAt c.put_choice-in-Internal.new.pool b.all ps) c.as_slice-in-Internal.ensures h)) c.put_choice-in-Internal.ensures.all
 
 pub put_below-returns-in-Stop-clause-node : goal.put_below-returns-in-Stop-clause-node
 put_below-returns-in-Stop-clause-node t c = over.below_Stop c.args.pool.now c.args.proc.now c.in-Stop.is c.few.result
