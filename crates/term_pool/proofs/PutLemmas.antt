@@ -53,9 +53,6 @@ more_whole : (old mid : List Proc) (t u : Proc) → ((w : Proc) → Has mid w �
 more_whole old mid t u first (inl h) = more_parts old t u (first u h)
 more_whole old mid t u first (inr e) = inr (is_whole t u e)
 
-pub grows_none : (old ts : List Proc) → Grows old old ts
-grows_none old ts = record { front = λ k t h. h; known = λ stand has. refl; only = λ u h. inl h }
-
 -- first the one processes and then the others
 pub grows_both : (old mid new ps qs : List Proc) → Grows old mid ps → Grows mid new qs → Grows old new (ps ++ qs)
 grows_both old mid new ps qs g h = record {
@@ -233,9 +230,6 @@ all_parts old new t u ps rs e f g h = subst (λ (ts : List Proc). Grows old new 
 
 pub stands_by : (trees : List Proc) (n m : Layer) (t u : Proc) → n ≡ m → t ≡ u → StandsFor trees m u → StandsFor trees n t
 stands_by trees n m t u e f h = subst (λ (x : Layer). StandsFor trees x t) (sym e) (subst (λ (x : Proc). StandsFor trees m x) (sym f) h)
-
-pub stored : (trees : List Proc) (k : ℕ) (r p : Proc) → slice_get trees k ≡ Some r → r ≡ p → slice_get trees k ≡ Some p
-stored trees k r p h e = h ∙ ap (λ (x : Proc). Some x) e
 
 -- the node's process after its sub-processes
 pub grows_node : (old mid new : List Proc) (t : Proc) (n : Layer) → Grows old mid (parts t) → StandsFor mid n t → IsFront mid new → (Has mid (layer_tree mid n) → new ≡ mid)

@@ -4,7 +4,7 @@ ghost use Rattle.std.specs.Prelude.{◌≡◌, ◌+◌, max};
 ghost use Rattle.term_pool.specs.Counting.{capped};
 
 /// The depth and the size of a term or of a part of one.
-#[derive(Clone, Copy, Debug, PartialEq, Eq)]
+#[derive(Clone, Copy)]
 pub struct Measure {
     /// One more than the greatest depth of its parts.
     pub depth: u32,
