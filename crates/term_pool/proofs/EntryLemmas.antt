@@ -68,7 +68,6 @@ module _ (old new : OwnParts) (start : PartsStart old new) where
   layer_stays (entry.Seq p q) h = refl
   layer_stays entry.Ended h = refl
 
-
 module _ (parts : OwnParts) where
   -- different entries stand for different layers
   pub same_entry : ArePartsOnce parts → (e d : Entry) → Fits parts e → Fits parts d → entry_layer parts e ≡ entry_layer parts d → e ≡ d

@@ -1,5 +1,5 @@
 -- The layer of a process over the places of its sub-processes.
-use Rattle.std.proofs.Common.{◌≡◌, ℕ, Some, List, slice_get, ap, sym, ◌∙◌, subst}
+use Rattle.std.proofs.Common.{◌≡◌, ℕ, Some, List, slice_get, ap, sym, ◌∙◌}
 use Rattle.std.specs.Prelude.{Result, Ok, Err, IfOk}
 use Rattle.csp_program.specs.declared.expressions.EventPart.{EventPart}
 use Rattle.csp_program.specs.declared.expressions.Expr.{Expr}
@@ -15,7 +15,6 @@ use Rattle.term_pool.specs.Layers.{Layer}
 use Rattle.term_pool.specs.Over.{layer_at, layer_over}
 use Rattle.term_pool.specs.Put.{StandAt, StandsFor}
 use Rattle.term_pool.specs.declared.below.Below.{Below}
-use Rattle.term_pool.specs.declared.node.ProcId.{ProcId}
 
 pub over_Stop : (b : Below) → layer_over proc.Stop b ≡ Layer.Stop
 unfolding layer_over
