@@ -102,3 +102,19 @@ walk_field-returns-in_ok-walk-in-Output-clause-bound t c =
 pub walk_gen-returns-in_ok-walk-in-Cond-clause-bound : goal.walk_gen-returns-in_ok-walk-in-Cond-clause-bound
 walk_gen-returns-in_ok-walk-in-Cond-clause-bound t c =
     c.in_ok-walk-in-Cond.ensures.bound ∙ none_bound c.args.bound.now (gen_names c.args.generator.now) (ap gen_names c.in-Cond.is ∙ gen_names-Cond c.in-Cond.condition)
+
+pub walk_under-returns-clause-bound : goal.walk_under-returns-clause-bound
+walk_under-returns-clause-bound t c = restored _ _ _ c.args.bound.now _ _ c.len-mark.ensures c.in_ok-bind.ensures c.in_ok-walk.ensures.bound c.leave.ensures
+
+pub walk_all_under-returns-clause-bound : goal.walk_all_under-returns-clause-bound
+walk_all_under-returns-clause-bound t c = restored _ _ _ c.args.bound.now _ _ c.len-mark.ensures c.in_ok-bind_gens.ensures c.in_ok-walk_all.ensures.bound c.leave.ensures
+
+pub walk_parts_under-returns-clause-bound : goal.walk_parts_under-returns-clause-bound
+walk_parts_under-returns-clause-bound t c = restored _ _ _ c.args.bound.now _ _ c.len-mark.ensures c.in_ok-bind_gens.ensures c.in_ok-walk_parts.ensures.bound c.leave.ensures
+
+pub walk_pairs_under-returns-clause-bound : goal.walk_pairs_under-returns-clause-bound
+walk_pairs_under-returns-clause-bound t c = restored _ _ _ c.args.bound.now _ _ c.len-mark.ensures c.in_ok-bind_gens.ensures c.in_ok-walk_pairs.ensures.bound c.leave.ensures
+
+pub walk_prefix-returns-clause-bound : goal.walk_prefix-returns-clause-bound
+walk_prefix-returns-clause-bound t c =
+    restored _ _ _ c.args.bound.now _ _ (c.len-mark.ensures) c.in_ok-walk_fields.ensures.bound c.in_ok-walk.ensures.bound c.leave.ensures
