@@ -24,4 +24,8 @@ keeps_on a b c first second =
 pub take_whole : (n : ℕ) (s : Scope) → length s ≤ n → take n s ≡ s
 take_whole n s short = take_all n s short
 
+-- a scope that is left again after one more name
+pub left_again : (now inner bound outer old more : Scope) (kept : ℕ) → kept ≡ length old → outer ≡ old → bound ≡ outer ++ more → inner ≡ bound → now ≡ take kept inner → now ≡ old
+left_again now inner bound outer old more kept k o b i n = n ∙ (λ j. take (k j) ((i ∙ b ∙ ap (λ s. s ++ more) o) j)) ∙ keeps_longer old more
+
 pub ruleset scope_laws = (keeps_itself, keeps_longer, keeps_on, take_whole)

@@ -195,7 +195,6 @@ fn pair(
 }
 
 // Networks in parallel over the values of a set.
-#[tactic(auto, using(crate::proofs::Scopes::scope_laws))]
 #[cycle(typed_net)]
 fn each(
     alloc: Global,

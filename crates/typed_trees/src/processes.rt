@@ -15,7 +15,7 @@ use crate::names::{definition_number, head};
 use containers::{Boxed, Items};
 use csp_base::{Name, NoMemory};
 use csp_program::{EventPart, Expr, Field, Gen, Proc};
-use csp_text::{FieldTree, GenTree, PartTree, Tree};
+use csp_text::{EventTree, FieldTree, GenTree, PartTree, Tree};
 use name_tables::{Dictionary, Scope};
 use script_names::Kind;
 use std::alloc::Global;
@@ -133,7 +133,7 @@ fn no_process(next: &mut u32, tree: &Tree) -> Result<Proc, NoMemory>
 }
 
 /// A tree as a process, under the bound names `scope`, with the number `next` for its first binding token.
-#[tactic(auto, using(crate::proofs::TokenForms::token_forms, crate::proofs::ProcForms::proc_forms))]
+#[tactic(auto, using(crate::proofs::ProcForms::bare_forms))]
 #[cycle(typed_proc)]
 pub(crate) fn process(
     alloc: Global,
@@ -153,16 +153,7 @@ pub(crate) fn process(
         Tree::Name(x) => Ok(Proc::Call(definition_number(names.find(x)), Items::new(alloc))),
         Tree::Call(f, args) => call(alloc, names, kinds, scope, next, f, args),
         Tree::If(c, p, q) => choice(alloc, names, kinds, scope, next, c, p, q),
-        Tree::Prefix(event, p) => prefix(
-            alloc,
-            names,
-            kinds,
-            scope,
-            next,
-            &event.name,
-            &event.fields,
-            p,
-        ),
+        Tree::Prefix(event, p) => prefix(alloc, names, kinds, scope, next, event, p),
         Tree::Guard(c, p) => guard(alloc, names, kinds, scope, next, c, p),
         Tree::External(ps) => external(alloc, names, kinds, scope, next, ps),
         Tree::Internal(ps) => internal(alloc, names, kinds, scope, next, ps),
@@ -189,6 +180,7 @@ pub(crate) fn process(
 }
 
 // The use of the definition `f`.
+#[tactic(auto, using(crate::proofs::ProcForms::call_forms))]
 fn call(
     alloc: Global,
     names: &Dictionary,
@@ -198,8 +190,8 @@ fn call(
     f: &Name,
     args: &Items<Tree>,
 ) -> Result<Proc, NoMemory>
-    ensures made { IfOk result (λ made. made ≡ Proc.Call (typed.definition_number (first_of names.now f.now)) (exprs_of names.now kinds.now args.now scope.old next.old)) }
-    ensures next { OnOk result (next.new ≡ next.old + all_tokens args.now) }
+    ensures made { IfOk result (λ made. made ≡ proc_of names.now kinds.now (Tree.Call f.now args.now) scope.old next.old) }
+    ensures next { OnOk result (next.new ≡ next.old + tokens (Tree.Call f.now args.now)) }
     ensures scope { OnOk result (scope.new ≡ scope.old) }
 {
     let args = expressions(alloc, names, kinds, scope, next, args.as_slice())?;
@@ -208,6 +200,7 @@ fn call(
 }
 
 // One of two processes.
+#[tactic(auto, using(crate::proofs::ProcForms::choice_forms))]
 #[cycle(typed_proc)]
 fn choice(
     alloc: Global,
@@ -219,8 +212,8 @@ fn choice(
     p: &Boxed<Tree>,
     q: &Boxed<Tree>,
 ) -> Result<Proc, NoMemory>
-    ensures made { IfOk result (λ made. made ≡ Proc.If (expr_of names.now kinds.now c.now scope.old next.old) (proc_of names.now kinds.now p.now scope.old (next.old + tokens c.now)) (proc_of names.now kinds.now q.now scope.old (next.old + tokens c.now + tokens p.now))) }
-    ensures next { OnOk result (next.new ≡ next.old + tokens c.now + tokens p.now + tokens q.now) }
+    ensures made { IfOk result (λ made. made ≡ proc_of names.now kinds.now (Tree.If c.now p.now q.now) scope.old next.old) }
+    ensures next { OnOk result (next.new ≡ next.old + tokens (Tree.If c.now p.now q.now)) }
     ensures scope { OnOk result (scope.new ≡ scope.old) }
 {
     let c = boxed_expr(alloc, names, kinds, scope, next, c.get())?;
@@ -230,7 +223,7 @@ fn choice(
 }
 
 // A prefix of a process.
-#[tactic(auto, using(crate::proofs::Scopes::scope_laws))]
+#[tactic(auto, using(crate::proofs::ProcForms::prefix_forms, crate::proofs::Scopes::scope_laws))]
 #[cycle(typed_proc)]
 fn prefix(
     alloc: Global,
@@ -238,23 +231,23 @@ fn prefix(
     kinds: &[Kind],
     scope: &mut Scope,
     next: &mut u32,
-    x: &Name,
-    parts: &Items<FieldTree>,
+    event: &EventTree,
     p: &Boxed<Tree>,
 ) -> Result<Proc, NoMemory>
-    ensures made { IfOk result (λ made. made ≡ Proc.Prefix (typed.head_of (number_of scope.old x.now) (first_of names.now x.now)) (fields_of names.now kinds.now parts.now scope.old next.old) (proc_of names.now kinds.now p.now (fields_scope names.now kinds.now parts.now scope.old next.old) (next.old + fields_tokens parts.now))) }
-    ensures next { OnOk result (next.new ≡ next.old + fields_tokens parts.now + tokens p.now) }
+    ensures made { IfOk result (λ made. made ≡ proc_of names.now kinds.now (Tree.Prefix event.now p.now) scope.old next.old) }
+    ensures next { OnOk result (next.new ≡ next.old + tokens (Tree.Prefix event.now p.now)) }
     ensures scope { OnOk result (scope.new ≡ scope.old) }
 {
     let kept = scope.len();
-    let first = head(scope.find(x), names.find(x));
-    let parts = fields(alloc, names, kinds, scope, next, parts.as_slice())?;
+    let first = head(scope.find(&event.name), names.find(&event.name));
+    let fields = fields(alloc, names, kinds, scope, next, event.fields.as_slice())?;
     let p = boxed(alloc, names, kinds, scope, next, p.get())?;
     leave(scope, kept);
-    Ok(Proc::Prefix(first, parts, p))
+    Ok(Proc::Prefix(first, fields, p))
 }
 
 // A process under a condition.
+#[tactic(auto, using(crate::proofs::ProcForms::guard_forms))]
 #[cycle(typed_proc)]
 fn guard(
     alloc: Global,
@@ -265,8 +258,8 @@ fn guard(
     c: &Boxed<Tree>,
     p: &Boxed<Tree>,
 ) -> Result<Proc, NoMemory>
-    ensures made { IfOk result (λ made. made ≡ Proc.Guard (expr_of names.now kinds.now c.now scope.old next.old) (proc_of names.now kinds.now p.now scope.old (next.old + tokens c.now))) }
-    ensures next { OnOk result (next.new ≡ next.old + tokens c.now + tokens p.now) }
+    ensures made { IfOk result (λ made. made ≡ proc_of names.now kinds.now (Tree.Guard c.now p.now) scope.old next.old) }
+    ensures next { OnOk result (next.new ≡ next.old + tokens (Tree.Guard c.now p.now)) }
     ensures scope { OnOk result (scope.new ≡ scope.old) }
 {
     let c = boxed_expr(alloc, names, kinds, scope, next, c.get())?;
@@ -275,6 +268,7 @@ fn guard(
 }
 
 // The external choice of some processes.
+#[tactic(auto, using(crate::proofs::ProcForms::external_forms))]
 #[cycle(typed_proc)]
 fn external(
     alloc: Global,
@@ -284,8 +278,8 @@ fn external(
     next: &mut u32,
     ps: &Items<Tree>,
 ) -> Result<Proc, NoMemory>
-    ensures made { IfOk result (λ made. made ≡ Proc.External (procs_of names.now kinds.now ps.now scope.old next.old)) }
-    ensures next { OnOk result (next.new ≡ next.old + all_tokens ps.now) }
+    ensures made { IfOk result (λ made. made ≡ proc_of names.now kinds.now (Tree.External ps.now) scope.old next.old) }
+    ensures next { OnOk result (next.new ≡ next.old + tokens (Tree.External ps.now)) }
     ensures scope { OnOk result (scope.new ≡ scope.old) }
 {
     let ps = processes(alloc, names, kinds, scope, next, ps.as_slice())?;
@@ -293,6 +287,7 @@ fn external(
 }
 
 // The internal choice of some processes.
+#[tactic(auto, using(crate::proofs::ProcForms::internal_forms))]
 #[cycle(typed_proc)]
 fn internal(
     alloc: Global,
@@ -302,8 +297,8 @@ fn internal(
     next: &mut u32,
     ps: &Items<Tree>,
 ) -> Result<Proc, NoMemory>
-    ensures made { IfOk result (λ made. made ≡ Proc.Internal (procs_of names.now kinds.now ps.now scope.old next.old)) }
-    ensures next { OnOk result (next.new ≡ next.old + all_tokens ps.now) }
+    ensures made { IfOk result (λ made. made ≡ proc_of names.now kinds.now (Tree.Internal ps.now) scope.old next.old) }
+    ensures next { OnOk result (next.new ≡ next.old + tokens (Tree.Internal ps.now)) }
     ensures scope { OnOk result (scope.new ≡ scope.old) }
 {
     let ps = processes(alloc, names, kinds, scope, next, ps.as_slice())?;
@@ -311,7 +306,6 @@ fn internal(
 }
 
 // A process for a value of a set: the number of its name, the set and the process.
-#[tactic(auto, using(crate::proofs::Scopes::scope_laws))]
 #[cycle(typed_proc)]
 fn for_each(
     alloc: Global,
@@ -339,6 +333,7 @@ fn for_each(
 }
 
 // An external choice over the values of a set.
+#[tactic(auto, using(crate::proofs::ProcForms::each_external_forms))]
 #[cycle(typed_proc)]
 fn each_external(
     alloc: Global,
@@ -350,8 +345,8 @@ fn each_external(
     set: &Boxed<Tree>,
     p: &Boxed<Tree>,
 ) -> Result<Proc, NoMemory>
-    ensures made { IfOk result (λ made. made ≡ Proc.EachExternal next.old (expr_of names.now kinds.now set.now scope.old (next.old + 1)) (proc_of names.now kinds.now p.now (with scope.old x.now next.old) (next.old + 1 + tokens set.now))) }
-    ensures next { OnOk result (next.new ≡ next.old + 1 + tokens set.now + tokens p.now) }
+    ensures made { IfOk result (λ made. made ≡ proc_of names.now kinds.now (Tree.EachExternal x.now set.now p.now) scope.old next.old) }
+    ensures next { OnOk result (next.new ≡ next.old + tokens (Tree.EachExternal x.now set.now p.now)) }
     ensures scope { OnOk result (scope.new ≡ scope.old) }
 {
     let (number, set, p) = for_each(alloc, names, kinds, scope, next, x, set, p)?;
@@ -359,6 +354,7 @@ fn each_external(
 }
 
 // An internal choice over the values of a set.
+#[tactic(auto, using(crate::proofs::ProcForms::each_internal_forms))]
 #[cycle(typed_proc)]
 fn each_internal(
     alloc: Global,
@@ -370,8 +366,8 @@ fn each_internal(
     set: &Boxed<Tree>,
     p: &Boxed<Tree>,
 ) -> Result<Proc, NoMemory>
-    ensures made { IfOk result (λ made. made ≡ Proc.EachInternal next.old (expr_of names.now kinds.now set.now scope.old (next.old + 1)) (proc_of names.now kinds.now p.now (with scope.old x.now next.old) (next.old + 1 + tokens set.now))) }
-    ensures next { OnOk result (next.new ≡ next.old + 1 + tokens set.now + tokens p.now) }
+    ensures made { IfOk result (λ made. made ≡ proc_of names.now kinds.now (Tree.EachInternal x.now set.now p.now) scope.old next.old) }
+    ensures next { OnOk result (next.new ≡ next.old + tokens (Tree.EachInternal x.now set.now p.now)) }
     ensures scope { OnOk result (scope.new ≡ scope.old) }
 {
     let (number, set, p) = for_each(alloc, names, kinds, scope, next, x, set, p)?;
@@ -379,6 +375,7 @@ fn each_internal(
 }
 
 // One process after the other.
+#[tactic(auto, using(crate::proofs::ProcForms::sequence_forms))]
 #[cycle(typed_proc)]
 fn sequence(
     alloc: Global,
@@ -389,8 +386,8 @@ fn sequence(
     p: &Boxed<Tree>,
     q: &Boxed<Tree>,
 ) -> Result<Proc, NoMemory>
-    ensures made { IfOk result (λ made. made ≡ Proc.Seq (proc_of names.now kinds.now p.now scope.old next.old) (proc_of names.now kinds.now q.now scope.old (next.old + tokens p.now))) }
-    ensures next { OnOk result (next.new ≡ next.old + tokens p.now + tokens q.now) }
+    ensures made { IfOk result (λ made. made ≡ proc_of names.now kinds.now (Tree.Seq p.now q.now) scope.old next.old) }
+    ensures next { OnOk result (next.new ≡ next.old + tokens (Tree.Seq p.now q.now)) }
     ensures scope { OnOk result (scope.new ≡ scope.old) }
 {
     let p = boxed(alloc, names, kinds, scope, next, p.get())?;
@@ -399,6 +396,7 @@ fn sequence(
 }
 
 // A process with a set hidden.
+#[tactic(auto, using(crate::proofs::ProcForms::hiding_forms))]
 #[cycle(typed_proc)]
 fn hiding(
     alloc: Global,
@@ -409,8 +407,8 @@ fn hiding(
     p: &Boxed<Tree>,
     set: &Boxed<Tree>,
 ) -> Result<Proc, NoMemory>
-    ensures made { IfOk result (λ made. made ≡ Proc.Hide (proc_of names.now kinds.now p.now scope.old next.old) (expr_of names.now kinds.now set.now scope.old (next.old + tokens p.now))) }
-    ensures next { OnOk result (next.new ≡ next.old + tokens p.now + tokens set.now) }
+    ensures made { IfOk result (λ made. made ≡ proc_of names.now kinds.now (Tree.Hide p.now set.now) scope.old next.old) }
+    ensures next { OnOk result (next.new ≡ next.old + tokens (Tree.Hide p.now set.now)) }
     ensures scope { OnOk result (scope.new ≡ scope.old) }
 {
     let p = boxed(alloc, names, kinds, scope, next, p.get())?;
@@ -444,6 +442,7 @@ fn sides_under(
 }
 
 // A process renamed.
+#[tactic(auto, using(crate::proofs::ProcForms::renaming_forms))]
 #[cycle(typed_proc)]
 fn renaming(
     alloc: Global,
@@ -455,8 +454,8 @@ fn renaming(
     sides: &Items<(PartTree, PartTree)>,
     gens: &Items<GenTree>,
 ) -> Result<Proc, NoMemory>
-    ensures made { IfOk result (λ made. made ≡ Proc.Rename (proc_of names.now kinds.now p.now scope.old next.old) (pairs_of names.now kinds.now sides.now (gens_scope names.now kinds.now gens.now scope.old (next.old + tokens p.now + pairs_tokens sides.now)) (next.old + tokens p.now)) (gens_of names.now kinds.now gens.now scope.old (next.old + tokens p.now + pairs_tokens sides.now))) }
-    ensures next { OnOk result (next.new ≡ next.old + tokens p.now + pairs_tokens sides.now + gens_tokens gens.now) }
+    ensures made { IfOk result (λ made. made ≡ proc_of names.now kinds.now (Tree.Rename p.now sides.now gens.now) scope.old next.old) }
+    ensures next { OnOk result (next.new ≡ next.old + tokens (Tree.Rename p.now sides.now gens.now)) }
     ensures scope { OnOk result (scope.new ≡ scope.old) }
 {
     let p = boxed(alloc, names, kinds, scope, next, p.get())?;
