@@ -32,7 +32,7 @@ use Rattle.expression_steps.specs.Moved.{FoundTree}
 use Rattle.tree_parser.proofs.Combining.{StepGives, by_case, by_found, by_look, split}
 use Rattle.tree_parser.specs.Then.{Outcome, Then}
 use Rattle.tree_parser.proofs.Then.{assoc, change, done, later, put}
-use Rattle.tree_steps.specs.Events.{move_event, move_fields, move_input, resume_event}
+use Rattle.event_steps.specs.Events.{move_event, move_fields, move_input, resume_event}
 use Rattle.expression_steps.specs.Nesting.{operand_limits}
 use Rattle.tree_steps.specs.Processes.{move_hidden, move_operand, resume_choice, resume_parallel, resume_process}
 use Rattle.tree_steps.specs.Replicated.{move_ranged, move_replicated, resume_replicated}

@@ -20,7 +20,7 @@ use Rattle.tree_reading.specs.declared.limits.Limits.{Limits}
 use Rattle.tree_reading.specs.declared.look.Chain.{Chain}
 use Rattle.tree_reading.specs.declared.read.Binding.{Binding}
 use Rattle.tree_reading.specs.declared.read.Binding.TheVariants as binding
-use Rattle.tree_steps.specs.Events.{field_of, may_dot_after}
+use Rattle.event_steps.specs.Events.{field_of, may_dot_after}
 use Rattle.expression_steps.specs.Moved.{Moved, FoundTree}
 use Rattle.expression_steps.specs.Moved.Moved.{found, inner, next}
 use Rattle.expression_steps.specs.declared.form.Form.{Form}

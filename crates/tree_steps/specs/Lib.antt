@@ -1,4 +1,3 @@
-pub mod Events
 pub mod Machine
 pub mod Processes
 pub mod Replicated

@@ -9,7 +9,7 @@ use Rattle.tree_reading.specs.declared.look.PrefixStart.{PrefixStart}
 use Rattle.tree_reading.specs.declared.look.PrefixStart.TheVariants as opening
 use Rattle.tree_reading.specs.declared.read.Binding.TheVariants as binding
 use Rattle.expression_steps.specs.Atoms.{move_atom, resume_atom}
-use Rattle.tree_steps.specs.Events.{move_fields, resume_event}
+use Rattle.event_steps.specs.Events.{move_fields, resume_event}
 use Rattle.expression_steps.specs.Expressions.{move_expression, resume_expression}
 use Rattle.expression_steps.specs.Lists.{move_generators, move_part, resume_list}
 use Rattle.expression_steps.specs.Moved.{Moved, FoundTree}

@@ -15,6 +15,7 @@ use Rattle.tree_reading.specs.declared.limits.Limits.{Limits}
 use Rattle.tree_reading.specs.declared.look.Chain.{Chain}
 use Rattle.tree_reading.specs.declared.read.Binding.{Binding}
 use Rattle.tree_reading.specs.declared.read.Binding.TheVariants as binding
+use Rattle.event_steps.specs.Endings.{end_process}
 use Rattle.expression_steps.specs.Nesting.{operand_limits, parallel_limits}
 use Rattle.expression_steps.specs.Moved.{Moved, FoundTree}
 use Rattle.expression_steps.specs.Moved.Moved.{found, inner}
@@ -145,10 +146,6 @@ move_guard l p =
     case (skip symbol.Ampersand p.2)
     (λ us. move_guarded l p.1 us)
     (λ _. Some (found p))
-
--- what ends with a process, which is bound as that is
-abbrev pub end_process : Tree → Binding → List Token → Option Moved
-end_process t k ts = and_then (sure (at_least binding.Open k)) λ _. Some (found (of_process k, t, ts))
 
 -- what waits, with the part that it waits for
 abbrev pub resume_parallel : ParallelFrame → FoundTree → Option Moved

@@ -2,7 +2,6 @@
 #![tactic(auto)]
 
 mod choices;
-mod events;
 pub mod machine;
 mod parallels;
 mod processes;

@@ -8,12 +8,12 @@ ghost use Rattle.tree_steps.specs.Machine.{begin, begin_event, begin_item, begin
 ghost use Rattle.expression_steps.specs.Moved.{moved, pending_weight, weight};
 
 use crate::choices::{self, resume_choice};
-use crate::events::{fields, resume_event};
 use crate::parallels::{self, resume_parallel};
 use crate::processes::{self, resume_process};
 use crate::replicated::{replicated, resume_replicated};
 use containers::{Boxed, Items};
 use csp_text::{Token, Tree};
+use event_steps::events::{fields, resume_event};
 use expression_steps::atoms::{atom, resume_atom};
 use expression_steps::expressions::{expression, resume_expression};
 use expression_steps::form::{Form, PartOf};

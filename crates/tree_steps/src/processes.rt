@@ -4,12 +4,14 @@ ghost use Rattle.std.specs.Prelude.{◌≡◌, ◌+◌, ◌*◌, ◌<◌, length
 ghost use Rattle.csp_text.specs.declared.tree.Tree.TheVariants as tree;
 ghost use Rattle.tree_reading.specs.Gives.{Gives};
 ghost use Rattle.expression_steps.specs.declared.frame.Frame.TheVariants as frames;
-ghost use Rattle.tree_steps.specs.Processes.{end_if, end_process, move_first_process, move_guard, move_guarded, move_sequence, resume_condition, resume_first_part, resume_process};
+ghost use Rattle.tree_steps.specs.Processes.{end_if, move_first_process, move_guard, move_guarded, move_sequence, resume_condition, resume_first_part, resume_process};
+ghost use Rattle.event_steps.specs.Endings.{end_process};
 ghost use Rattle.expression_steps.specs.Moved.{moved, weight};
 ghost use Rattle.expression_steps.specs.Moved.Moved.{inner};
 
 use containers::Boxed;
 use csp_text::{Symbol, Token, Tree, Word};
+use event_steps::ending::ending;
 use expression_steps::form::Form;
 use expression_steps::frame::{Frame, ProcessFrame};
 use expression_steps::nesting::operand_limits;
@@ -136,19 +138,6 @@ fn behind_guard<'t>(
         Some(behind) => guard_behind(limits, part, behind),
         None => Ok(found(binding, part, rest)),
     }
-}
-
-// A process that ends with one bound like this.
-pub(crate) fn ending<'t>(
-    process: Boxed<Tree>,
-    binding: Binding,
-    rest: &'t [Token],
-) -> Result<Step<'t>, ReadFault>
-    ensures moves { Gives result moved (end_process process binding rest.now) }
-    ensures falls { IfOk result (λ s. weight (moved s) < 32 * length rest.now + 34) }
-{
-    binding.expect(Binding::Open, rest)?;
-    Ok(found(binding.of_process(), process, rest))
 }
 
 // A sequence with its second process, which is bound like this.

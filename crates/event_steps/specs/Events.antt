@@ -14,7 +14,7 @@ use Rattle.tree_reading.specs.Starts.{dotted_fields, named}
 use Rattle.tree_reading.specs.declared.limits.Limits.{Limits}
 use Rattle.tree_reading.specs.declared.read.Binding.TheVariants as binding
 use Rattle.expression_steps.specs.Moved.{Moved, FoundTree}
-use Rattle.tree_steps.specs.Processes.{end_process}
+use Rattle.event_steps.specs.Endings.{end_process}
 use Rattle.expression_steps.specs.Moved.Moved.{found, inner, next}
 use Rattle.expression_steps.specs.declared.form.Form.TheVariants as form
 use Rattle.expression_steps.specs.declared.frame.Frame.TheVariants as frame

@@ -4,11 +4,11 @@ ghost use Rattle.std.specs.Prelude.{◌≡◌, ◌+◌, ◌*◌, ◌<◌, length
 ghost use Rattle.csp_text.specs.declared.tree.Tree.TheVariants as tree;
 ghost use Rattle.csp_grammar.specs.Grammar.{event_tree};
 ghost use Rattle.tree_reading.specs.Gives.{Gives};
-ghost use Rattle.tree_steps.specs.Events.{field_of, longer, may_dot_after, move_dot, move_event, move_fields, move_input, move_named_input, read_value, resume_event, resume_field};
-ghost use Rattle.tree_steps.specs.Processes.{end_process};
+ghost use Rattle.event_steps.specs.Events.{field_of, longer, may_dot_after, move_dot, move_event, move_fields, move_input, move_named_input, read_value, resume_event, resume_field};
+ghost use Rattle.event_steps.specs.Endings.{end_process};
 ghost use Rattle.expression_steps.specs.Moved.{moved, weight};
 
-use crate::processes::ending;
+use crate::ending::ending;
 use containers::{Boxed, Items};
 use csp_base::Name;
 use csp_text::{FieldTree, Symbol, Token, Tree};
@@ -127,8 +127,8 @@ fn dot<'t>(
     Ok(value(limits, name, fields, FieldKind::Dot, tokens))
 }
 
-// The rest of an event.
-pub(crate) fn fields<'t>(
+/// The rest of an event, of which the name and these fields are read. No memory and a text that is no event are faults.
+pub fn fields<'t>(
     alloc: Global,
     limits: Limits,
     name: Name,
@@ -205,8 +205,8 @@ fn prefix_ended<'t>(
     ending(prefix, binding, rest)
 }
 
-// An event that waits, with the part that it waits for, which is bound like this.
-pub(crate) fn resume_event<'t>(
+/// An event that waits, with the part that it waits for, which is bound like this. No memory and a text that is no event are faults.
+pub fn resume_event<'t>(
     alloc: Global,
     frame: EventFrame,
     binding: Binding,

@@ -1,0 +1,25 @@
+//! How a process ends that ends with another.
+
+ghost use Rattle.std.specs.Prelude.{◌+◌, ◌*◌, ◌<◌, length, IfOk};
+ghost use Rattle.tree_reading.specs.Gives.{Gives};
+ghost use Rattle.event_steps.specs.Endings.{end_process};
+ghost use Rattle.expression_steps.specs.Moved.{moved, weight};
+
+use containers::Boxed;
+use csp_text::{Token, Tree};
+use expression_steps::step::{Step, found};
+use tree_reading::fault::ReadFault;
+use tree_reading::read::Binding;
+
+/// A process that ends with one bound like this: bound as that is, where that binds at least as an open one.
+pub fn ending<'t>(
+    process: Boxed<Tree>,
+    binding: Binding,
+    rest: &'t [Token],
+) -> Result<Step<'t>, ReadFault>
+    ensures moves { Gives result moved (end_process process binding rest.now) }
+    ensures falls { IfOk result (λ s. weight (moved s) < 32 * length rest.now + 34) }
+{
+    binding.expect(Binding::Open, rest)?;
+    Ok(found(binding.of_process(), process, rest))
+}
