@@ -1,24 +1,30 @@
 -- The derivations of the worked texts.
-use Rattle.std.proofs.Common.{ℕ, zero, suc, List, [], refl}
+use Rattle.std.proofs.Common.{ℕ, suc, List, ◌∷◌}
 use Rattle.csp_text.specs.declared.token.Token.{Token}
+use Rattle.csp_text.specs.declared.token.Token.TheVariants.{Name, Num, Symbol}
+use Rattle.csp_text.specs.declared.token.Symbol.TheVariants.{OpenParen, CloseParen, Plus}
 use Rattle.csp_text.specs.declared.tree.Tree.{Tree}
+use Rattle.csp_text.specs.declared.tree.Tree.TheVariants as tree
+use Rattle.csp_base.specs.declared.operators.BinOp.TheVariants.{Add}
 use Rattle.csp_grammar.specs.Precedence.IsNext.{disjunction-conjunction, conjunction-negation, negation-comparison, comparison-sum, sum-product, product-minus, minus-renaming}
-use Rattle.csp_grammar.specs.Precedence.Level.{disjunction, minus}
+use Rattle.csp_grammar.specs.Precedence.IsLeftOperator.{minus-sign, percent, plus}
+use Rattle.csp_grammar.specs.Precedence.Level.{disjunction, minus, product, sum}
 use Rattle.csp_grammar.specs.Grammar.{AtomText, ExpressionText, ClosedPrefixText}
 use Rattle.csp_grammar.specs.Grammar as g
 use Rattle.csp_grammar.specs.Examples.{PrefixBindsTighterThanChoice, PrefixBindsTighterThanSequence, SetOfOneNegativeNumber, SequencesNestFromTheRight, HidingsNestFromTheLeft, DifferencesNestFromTheLeft, FieldsAreArithmetic, OpenFormsReachToTheRight, ParenthesesLeaveNoTrace}
-use Rattle.csp_grammar.specs.Reader.{readers}
-use Rattle.csp_grammar.proofs.SoundScripts.{tree_sound}
+
+above_sum : {n : ℕ} {ts : List Token} {t : Tree} {r : List Token} → ExpressionText n sum ts t r → ExpressionText n disjunction ts t r
+above_sum e =
+    g.expression-tighter disjunction-conjunction (g.expression-tighter conjunction-negation (g.expression-tighter negation-comparison
+    (g.expression-tighter comparison-sum e)))
 
 above_minus : {n : ℕ} {ts : List Token} {t : Tree} {r : List Token} → ExpressionText n minus ts t r → ExpressionText n disjunction ts t r
-above_minus e =
-    g.expression-tighter disjunction-conjunction (g.expression-tighter conjunction-negation (g.expression-tighter negation-comparison
-    (g.expression-tighter comparison-sum (g.expression-tighter sum-product (g.expression-tighter product-minus e)))))
+above_minus e = above_sum (g.expression-tighter sum-product (g.expression-tighter product-minus e))
 
 atom_alone : {n : ℕ} {ts : List Token} {t : Tree} {r : List Token} → AtomText n ts t r → ExpressionText n minus ts t r
 atom_alone a = g.expression-tighter minus-renaming (g.expression-atom a)
 
-process : {n : ℕ} {ts : List Token} {t : Tree} {r : List Token} → AtomText n ts t r → ClosedPrefixText n ts t r
+pub process : {n : ℕ} {ts : List Token} {t : Tree} {r : List Token} → AtomText n ts t r → ClosedPrefixText n ts t r
 process a = g.closed-prefix-expression (above_minus (atom_alone a))
 
 pub choice : PrefixBindsTighterThanChoice
@@ -38,31 +44,44 @@ negative n k =
     g.tree-side (g.side-closed (g.closed-side-sequence (g.closed-sequence-one (process (g.atom-display (g.items-one (g.item-expression
     (above_minus (g.expression-negative (atom_alone g.atom-number))))))))))
 
--- what is read of a text is its tree
-
-enough : ℕ
-enough = suc (suc (suc (suc (suc (suc (suc (suc (suc (suc (suc (suc (suc (suc (suc (suc zero)))))))))))))))
-
 pub sequences : SequencesNestFromTheRight
-unfolding readers enough
-sequences n p q s = tree_sound n _ _ [] enough refl
+sequences n p q s =
+    g.tree-side (g.side-closed (g.closed-side-sequence
+    (g.closed-sequence-more (process g.atom-name) (g.closed-sequence-more (process g.atom-name) (g.closed-sequence-one (process g.atom-name))))))
 
 pub hidings : HidingsNestFromTheLeft
-unfolding readers enough
-hidings n p a b = tree_sound n _ _ [] enough refl
+hidings n p a b = g.tree-side (g.side-closed (g.closed-side-hiding (g.hiding-more (g.hiding-one (g.expression-atom g.atom-name) g.atom-name) g.atom-name)))
+
+operand : {n : ℕ} {ts : List Token} {t : Tree} {r : List Token} → AtomText n ts t r → ExpressionText n product ts t r
+operand a = g.expression-tighter product-minus (atom_alone a)
 
 pub differences : DifferencesNestFromTheLeft
-unfolding readers enough
-differences n i j k = tree_sound n _ _ [] enough refl
+differences n i j k =
+    g.tree-side (g.side-closed (g.closed-side-sequence (g.closed-sequence-one (g.closed-prefix-expression (above_sum
+    (g.expression-left-operator sum-product minus-sign
+    (g.expression-left-operator sum-product minus-sign (g.expression-tighter sum-product (operand g.atom-number)) (operand g.atom-number)) (operand g.atom-number)))))))
+
+-- (i + k)
+in_parentheses : {n k : ℕ} {i : List ℕ} {r : List Token} →
+    AtomText (suc n) (Symbol OpenParen ∷ Name i ∷ Symbol Plus ∷ Num k ∷ Symbol CloseParen ∷ r) (tree.Binary Add (tree.Name i) (tree.Num k)) r
+in_parentheses =
+    g.atom-parentheses (g.tree-side (g.side-closed (g.closed-side-sequence (g.closed-sequence-one (g.closed-prefix-expression (above_sum
+    (g.expression-left-operator sum-product plus (g.expression-tighter sum-product (operand g.atom-name)) (operand g.atom-number))))))))
 
 pub fields : FieldsAreArithmetic
-unfolding readers enough
-fields n k m c i p = tree_sound (suc n) _ _ [] enough refl
+fields n k m c i p =
+    g.tree-side (g.side-closed (g.closed-side-sequence (g.closed-sequence-one (g.closed-prefix-event (g.event-fields
+    (g.fields-output (g.expression-tighter sum-product (operand g.atom-name))
+    (g.fields-output (g.expression-tighter sum-product (g.expression-left-operator product-minus percent (operand in_parentheses) (atom_alone g.atom-number)))
+    g.fields-none))) (process g.atom-name)))))
 
 pub open_forms : OpenFormsReachToTheRight
-unfolding readers enough
-open_forms n x s p q = tree_sound n _ _ [] enough refl
+open_forms n x s p q =
+    g.tree-side (g.side-sequence (g.open-sequence-one (g.open-prefix-open-form (g.open-external g.atom-name
+    (g.tree-side (g.side-closed (g.closed-side-choice g.external (g.closed-choice-two
+    (g.closed-sequence-one (process g.atom-name)) (g.closed-sequence-one (process g.atom-name))))))))))
 
 pub parentheses : ParenthesesLeaveNoTrace
-unfolding readers enough
-parentheses n p = tree_sound (suc n) _ _ [] enough refl
+parentheses n p =
+    g.tree-side (g.side-closed (g.closed-side-sequence (g.closed-sequence-one (process (g.atom-parentheses
+    (g.tree-side (g.side-closed (g.closed-side-sequence (g.closed-sequence-one (process g.atom-name))))))))))

@@ -3,6 +3,4 @@ pub mod Examples
 pub mod Grammar
 pub mod Precedence
 pub mod Reader
-pub mod Settles
 pub mod Tokens
-pub mod Unique

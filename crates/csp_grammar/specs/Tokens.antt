@@ -6,8 +6,6 @@ use Rattle.csp_text.specs.declared.token.Word.{Word}
 use Rattle.csp_text.specs.declared.token.Word.TheVariants as word
 use Rattle.csp_text.specs.declared.token.Symbol.{Symbol}
 use Rattle.csp_text.specs.declared.token.Symbol.TheVariants as symbol
-use Rattle.csp_base.specs.declared.operators.BinOp.{BinOp}
-use Rattle.csp_base.specs.declared.operators.BinOp.TheVariants as operator
 
 abbrev pub symbol_place : Symbol → ℕ
 symbol_place symbol.Arrow = 0
@@ -152,16 +150,6 @@ is_text [] (y ∷ ys) = false
 is_text (x ∷ xs) [] = false
 is_text (x ∷ xs) (y ∷ ys) = nat_eq x y && is_text xs ys
 
--- the name that the list begins with
-abbrev pub first_name : List Token → Option (List ℕ)
-first_name [] = None
-first_name (token.Name x ∷ ts) = Some x
-first_name (token.Word _ ∷ ts) = None
-first_name (token.Symbol _ ∷ ts) = None
-first_name (token.Num _ ∷ ts) = None
-first_name (token.Roles _ ∷ ts) = None
-first_name (token.Resource _ ∷ ts) = None
-
 -- what follows the name that the list begins with, nothing where it begins with none
 abbrev pub behind_name : List Token → List Token
 behind_name [] = []
@@ -171,41 +159,3 @@ behind_name (token.Symbol _ ∷ ts) = []
 behind_name (token.Num _ ∷ ts) = []
 behind_name (token.Roles _ ∷ ts) = []
 behind_name (token.Resource _ ∷ ts) = []
-
--- the operator between two operands that a symbol writes
-abbrev pub symbol_operator : Symbol → Option BinOp
-symbol_operator symbol.Equal = Some operator.Eq
-symbol_operator symbol.NotEqual = Some operator.Ne
-symbol_operator symbol.Less = Some operator.Lt
-symbol_operator symbol.LessEqual = Some operator.Le
-symbol_operator symbol.Greater = Some operator.Gt
-symbol_operator symbol.GreaterEqual = Some operator.Ge
-symbol_operator symbol.Plus = Some operator.Add
-symbol_operator symbol.Minus = Some operator.Sub
-symbol_operator symbol.Star = Some operator.Mul
-symbol_operator symbol.Slash = Some operator.Div
-symbol_operator symbol.Percent = Some operator.Rem
-symbol_operator _ = None
-
-abbrev pub word_operator : Word → Option BinOp
-word_operator word.Or = Some operator.Or
-word_operator word.And = Some operator.And
-word_operator _ = None
-
-abbrev pub token_operator : Token → Option BinOp
-token_operator (token.Symbol s) = symbol_operator s
-token_operator (token.Word w) = word_operator w
-token_operator (token.Name _) = None
-token_operator (token.Num _) = None
-token_operator (token.Roles _) = None
-token_operator (token.Resource _) = None
-
--- the operator that the list begins with
-abbrev pub first_operator : List Token → Option BinOp
-first_operator [] = None
-first_operator (t ∷ ts) = token_operator t
-
--- the list without its first token
-abbrev pub behind : List Token → List Token
-behind [] = []
-behind (t ∷ ts) = ts

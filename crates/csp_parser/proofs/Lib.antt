@@ -1,6 +1,5 @@
 pub mod Assertions
 pub mod Faults
-pub mod Fronts
 pub mod Lists
 pub mod Scripts
 pub mod Steps

@@ -1,34 +1,28 @@
 -- What the reading of the declarations says of the script.
-use Rattle.std.proofs.Common.{◌≡◌, List, sym, subst, ◌∙◌, arith}
+use Rattle.std.proofs.Common.{◌≡◌, Some, None, List, sym, subst, ◌∙◌}
 use Rattle.std.specs.Prelude.{Result, Ok}
 use Rattle.csp_base.specs.declared.place.Place.{Place}
 use Rattle.csp_text.specs.declared.token.Token.{Token}
 use Rattle.csp_text.specs.declared.script.Decl.{Decl}
 use Rattle.csp_text.specs.declared.script.Script.{Script}
 use Rattle.csp_grammar.specs.Declarations.{DeclarationsText, ScriptText}
-use Rattle.csp_grammar.proofs.Settling.{scripts_settle, settled_script}
-use Rattle.csp_grammar.proofs.Unique.{one_script}
 use Rattle.csp_lexer.specs.Placed.{PlacedTokens, tokens_of}
 use Rattle.csp_parser.specs.Spells.{EachTextSpellsOneScript}
-use Rattle.tree_reading.specs.Reads.{Any, IfRead, Reads, Refuses}
+use Rattle.tree_reading.specs.Settled.{Settles}
+use Rattle.tree_reading.proofs.Unique.{one_script, settled_nothing, settled_script}
 
 -- what is read of the tokens, is spelled
-pub is_spelled : (tokens : List Token) {ts : List Token} {ds : List Decl} → ts ≡ tokens → Reads (λ R. R.declarations ts) ds → DeclarationsText tokens ds
-is_spelled tokens {ts} {ds} e r = subst (λ us. DeclarationsText us ds) e (settled_script ts (record { decls = ds }) (record { enough = r.enough; settles = r.settles }))
+pub is_spelled : (tokens : List Token) {ts : List Token} {ds : List Decl} → ts ≡ tokens → Settles (λ L. L.declarations ts) (Some ds) → DeclarationsText tokens ds
+is_spelled tokens {ts} {ds} e r = subst (λ us. DeclarationsText us ds) e (settled_script ts (record { decls = ds }) r)
 
 -- and nothing else is
-pub is_only : (tokens : List Token) {ts : List Token} {ds : List Decl} → ts ≡ tokens → Reads (λ R. R.declarations ts) ds →
+pub is_only : (tokens : List Token) {ts : List Token} {ds : List Decl} → ts ≡ tokens → Settles (λ L. L.declarations ts) (Some ds) →
     (other : Script) → ScriptText tokens other → ◌≡◌ {A = Script} (record { decls = ds }) other
 is_only tokens {ts} {ds} e r other p = one_script tokens (record { decls = ds }) other (is_spelled tokens e r) p
 
-not_read : (tokens : List Token) → Refuses (λ R. R.declarations tokens) Any → (s : Script) → ScriptText tokens s → ⊥
-not_read tokens r s p =
-    let read = scripts_settle tokens s p in
-    subst (IfRead (λ x. Any x → ⊥)) (read.settles read.enough (omega arith)) (r.never read.enough) tt
-
--- where the reading is refused, nothing is spelled
-pub is_none : (tokens : List Token) {ts : List Token} → ts ≡ tokens → Refuses (λ R. R.declarations ts) Any → (s : Script) → ScriptText tokens s → ⊥
-is_none tokens {ts} e r s p = not_read ts r s (subst (λ us. ScriptText us s) (sym e) p)
+-- where the reading comes to nothing, nothing is spelled
+pub is_none : (tokens : List Token) {ts : List Token} → ts ≡ tokens → Settles (λ L. L.declarations ts) None → (s : Script) → ScriptText tokens s → ⊥
+is_none tokens {ts} e r s p = settled_nothing ts s r (subst (λ us. ScriptText us s) (sym e) p)
 
 same_tokens : (a b : PlacedTokens) → ◌≡◌ {A = Result PlacedTokens Place} (Ok a) (Ok b) → a ≡ b
 same_tokens a b e = cc

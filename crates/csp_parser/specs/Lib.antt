@@ -1,4 +1,3 @@
-pub mod Asserted
 pub mod Fault
 pub mod Places
 pub mod Spells

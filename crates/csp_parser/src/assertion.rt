@@ -1,12 +1,11 @@
 //! Assertions of deadlock freedom.
 
 ghost use Rattle.std.specs.Prelude.{◌≡◌, ◌<◌, ◌≤◌, [], length, IfOk, Some, None};
-ghost use Rattle.csp_grammar.specs.Reader.{read_asserted, read_assertion};
+ghost use Rattle.tree_reading.specs.Limited.{read_asserted, read_assertion};
 ghost use Rattle.csp_grammar.specs.Tokens.{is_text};
-ghost use Rattle.csp_text.specs.Depth.{tree_depth};
-ghost use Rattle.csp_parser.specs.Asserted.{deadlock_free, ending, is_model, model, name_that};
+ghost use Rattle.tree_reading.specs.Asserted.{deadlock_free, ending, is_model, model, name_that};
 ghost use Rattle.tree_reading.specs.Answers.{IfNoText};
-ghost use Rattle.tree_reading.specs.Reads.{Any, Reads, Refuses};
+ghost use Rattle.tree_reading.specs.Settled.{Settles};
 
 use crate::names::expect;
 use crate::types::WHOLE;
@@ -19,10 +18,9 @@ use tree_reading::look::{named, skip};
 
 // The name or the call that is asserted: an atom that begins with a name.
 fn asserted<'t>(alloc: Global, tokens: &'t [Token]) -> Result<Read<'t, Tree>, ReadFault>
-    ensures read { IfOk result (λ r. Reads (λ R. read_asserted R tokens.now) (r.part, r.rest.now)) }
-    ensures depth { IfOk result (λ r. tree_depth r.part ≤ 200) }
+    ensures read { IfOk result (λ r. Settles (λ L. read_asserted L tokens.now) (Some (r.part, r.rest.now))) }
     ensures shorter { IfOk result (λ r. length r.rest.now < length tokens.now) }
-    ensures none { IfNoText result (Refuses (λ R. read_asserted R tokens.now) (λ p. tree_depth p.0 ≤ 200)) }
+    ensures none { IfNoText result (Settles (λ L. read_asserted L tokens.now) None) }
 {
     match named(tokens) {
         Some(_) => atom(alloc, WHOLE, tokens),
@@ -111,7 +109,7 @@ fn deadlock_free(tokens: &[Token]) -> Result<&[Token], ReadFault>
 }
 
 // What follows the rest of an assertion, behind its process.
-#[tactic(auto, unfolding(crate::specs::Asserted::ending))]
+#[tactic(auto, unfolding(tree_reading::specs::Asserted::ending))]
 fn ending(tokens: &[Token]) -> Result<&[Token], ReadFault>
     ensures found { IfOk result (λ rest. ending tokens.now ≡ Some rest.now) }
     ensures shorter { IfOk result (λ rest. length rest.now < length tokens.now) }
@@ -124,9 +122,9 @@ fn ending(tokens: &[Token]) -> Result<&[Token], ReadFault>
 
 // The assertion behind `assert`.
 pub(crate) fn assertion<'t>(alloc: Global, tokens: &'t [Token]) -> Result<Read<'t, Decl>, ReadFault>
-    ensures read { IfOk result (λ r. Reads (λ R. read_assertion R tokens.now) (r.part, r.rest.now)) }
+    ensures read { IfOk result (λ r. Settles (λ L. read_assertion L tokens.now) (Some (r.part, r.rest.now))) }
     ensures shorter { IfOk result (λ r. length r.rest.now < length tokens.now) }
-    ensures none { IfNoText result (Refuses (λ R. read_assertion R tokens.now) Any) }
+    ensures none { IfNoText result (Settles (λ L. read_assertion L tokens.now) None) }
 {
     let process = asserted(alloc, tokens)?;
     match ending(process.rest) {

@@ -1,9 +1,9 @@
 //! The declarations of a script.
 
-ghost use Rattle.std.specs.Prelude.{◌≡◌, ◌<◌, ◌≤◌, ◌∷◌, length, IfOk};
-ghost use Rattle.csp_grammar.specs.Reader.{read_declaration, read_word_declaration};
+ghost use Rattle.std.specs.Prelude.{◌≡◌, ◌<◌, ◌≤◌, ◌∷◌, length, IfOk, Some, None};
+ghost use Rattle.tree_reading.specs.Limited.{read_declaration, read_word_declaration};
 ghost use Rattle.tree_reading.specs.Answers.{IfNoText};
-ghost use Rattle.tree_reading.specs.Reads.{Any, Reads, Refuses};
+ghost use Rattle.tree_reading.specs.Settled.{Settles};
 
 use crate::assertion::assertion;
 use crate::declared::{channel, datatype, definition, nametype};
@@ -61,9 +61,9 @@ fn word_declaration<'t>(
     all: &'t [Token],
     tokens: &'t [Token],
 ) -> Result<Read<'t, Decl>, ReadFault>
-    ensures read { IfOk result (λ r. Reads (λ R. read_word_declaration R word tokens.now) (r.part, r.rest.now)) }
+    ensures read { IfOk result (λ r. Settles (λ L. read_word_declaration L word tokens.now) (Some (r.part, r.rest.now))) }
     ensures shorter { IfOk result (λ r. length r.rest.now < length tokens.now) }
-    ensures none { IfNoText result (Refuses (λ R. read_word_declaration R word tokens.now) Any) }
+    ensures none { IfNoText result (Settles (λ L. read_word_declaration L word tokens.now) None) }
 {
     match word {
         Word::Channel => channel(alloc, tokens),
@@ -76,9 +76,9 @@ fn word_declaration<'t>(
 
 // The declaration at the front.
 fn declaration<'t>(alloc: Global, tokens: &'t [Token]) -> Result<Read<'t, Decl>, ReadFault>
-    ensures read { IfOk result (λ r. Reads (λ R. read_declaration R tokens.now) (r.part, r.rest.now)) }
+    ensures read { IfOk result (λ r. Settles (λ L. read_declaration L tokens.now) (Some (r.part, r.rest.now))) }
     ensures shorter { IfOk result (λ r. length r.rest.now < length tokens.now) }
-    ensures none { IfNoText result (Refuses (λ R. read_declaration R tokens.now) Any) }
+    ensures none { IfNoText result (Settles (λ L. read_declaration L tokens.now) None) }
 {
     let Some((first, rest)) = tokens.split_first() else {
         return Err(stopped(tokens));
@@ -101,8 +101,8 @@ fn declaration<'t>(alloc: Global, tokens: &'t [Token]) -> Result<Read<'t, Decl>,
 
 // The declarations that the tokens are, one after another.
 pub(crate) fn declarations(alloc: Global, tokens: &[Token]) -> Result<Items<Decl>, ReadFault>
-    ensures read { IfOk result (λ decls. Reads (λ R. R.declarations tokens.now) decls) }
-    ensures none { IfNoText result (Refuses (λ R. R.declarations tokens.now) Any) }
+    ensures read { IfOk result (λ decls. Settles (λ L. L.declarations tokens.now) (Some decls)) }
+    ensures none { IfNoText result (Settles (λ L. L.declarations tokens.now) None) }
 {
     let mut decls = Items::new(alloc);
     let mut rest = tokens;

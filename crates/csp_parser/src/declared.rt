@@ -1,9 +1,9 @@
 //! Declarations of channels, types and processes.
 
-ghost use Rattle.std.specs.Prelude.{◌≡◌, ◌<◌, ◌≤◌, [], length, IfOk};
-ghost use Rattle.csp_grammar.specs.Reader.{read_channel, read_datatype, read_definition, read_nametype};
+ghost use Rattle.std.specs.Prelude.{◌≡◌, ◌<◌, ◌≤◌, [], length, IfOk, Some, None};
+ghost use Rattle.tree_reading.specs.Limited.{read_channel, read_datatype, read_definition, read_nametype};
 ghost use Rattle.tree_reading.specs.Answers.{IfNoText};
-ghost use Rattle.tree_reading.specs.Reads.{Any, Reads, Refuses};
+ghost use Rattle.tree_reading.specs.Settled.{Settles};
 
 use crate::names::{expect, name, names, parameters};
 use crate::types::{WHOLE, types};
@@ -16,9 +16,9 @@ use tree_reading::look::skip;
 
 // The channels behind `channel`, with the types of their fields.
 pub(crate) fn channel<'t>(alloc: Global, tokens: &'t [Token]) -> Result<Read<'t, Decl>, ReadFault>
-    ensures read { IfOk result (λ r. Reads (λ R. read_channel R tokens.now) (r.part, r.rest.now)) }
+    ensures read { IfOk result (λ r. Settles (λ L. read_channel L tokens.now) (Some (r.part, r.rest.now))) }
     ensures shorter { IfOk result (λ r. length r.rest.now < length tokens.now) }
-    ensures none { IfNoText result (Refuses (λ R. read_channel R tokens.now) Any) }
+    ensures none { IfNoText result (Settles (λ L. read_channel L tokens.now) None) }
 {
     let channels = names(alloc, Symbol::Comma, tokens)?;
     match skip(channels.rest, Symbol::Colon) {
@@ -38,9 +38,9 @@ pub(crate) fn channel<'t>(alloc: Global, tokens: &'t [Token]) -> Result<Read<'t,
 
 // The name of a type and its values, behind `datatype`.
 pub(crate) fn datatype<'t>(alloc: Global, tokens: &'t [Token]) -> Result<Read<'t, Decl>, ReadFault>
-    ensures read { IfOk result (λ r. Reads (λ R. read_datatype R tokens.now) (r.part, r.rest.now)) }
+    ensures read { IfOk result (λ r. Settles (λ L. read_datatype L tokens.now) (Some (r.part, r.rest.now))) }
     ensures shorter { IfOk result (λ r. length r.rest.now < length tokens.now) }
-    ensures none { IfNoText result (Refuses (λ R. read_datatype R tokens.now) Any) }
+    ensures none { IfNoText result (Settles (λ L. read_datatype L tokens.now) None) }
 {
     let named = name(alloc, tokens)?;
     let behind = expect(named.rest, Symbol::Defines)?;
@@ -53,9 +53,9 @@ pub(crate) fn datatype<'t>(alloc: Global, tokens: &'t [Token]) -> Result<Read<'t
 
 // The name of a set and the set, behind `nametype`.
 pub(crate) fn nametype<'t>(alloc: Global, tokens: &'t [Token]) -> Result<Read<'t, Decl>, ReadFault>
-    ensures read { IfOk result (λ r. Reads (λ R. read_nametype R tokens.now) (r.part, r.rest.now)) }
+    ensures read { IfOk result (λ r. Settles (λ L. read_nametype L tokens.now) (Some (r.part, r.rest.now))) }
     ensures shorter { IfOk result (λ r. length r.rest.now < length tokens.now) }
-    ensures none { IfNoText result (Refuses (λ R. read_nametype R tokens.now) Any) }
+    ensures none { IfNoText result (Settles (λ L. read_nametype L tokens.now) None) }
 {
     let named = name(alloc, tokens)?;
     let behind = expect(named.rest, Symbol::Defines)?;
@@ -72,9 +72,9 @@ pub(crate) fn definition<'t>(
     defined: &Name,
     tokens: &'t [Token],
 ) -> Result<Read<'t, Decl>, ReadFault>
-    ensures read { IfOk result (λ r. Reads (λ R. read_definition R defined.now tokens.now) (r.part, r.rest.now)) }
+    ensures read { IfOk result (λ r. Settles (λ L. read_definition L defined.now tokens.now) (Some (r.part, r.rest.now))) }
     ensures shorter { IfOk result (λ r. length r.rest.now < length tokens.now) }
-    ensures none { IfNoText result (Refuses (λ R. read_definition R defined.now tokens.now) Any) }
+    ensures none { IfNoText result (Settles (λ L. read_definition L defined.now tokens.now) None) }
 {
     let taken = parameters(alloc, tokens)?;
     let behind = expect(taken.rest, Symbol::Defines)?;

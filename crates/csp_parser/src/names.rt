@@ -1,10 +1,11 @@
 //! Names, lists of them, and the symbols around them.
 
 ghost use Rattle.std.specs.Prelude.{◌≡◌, ◌<◌, ◌≤◌, [], length, IfOk, Some, None};
-ghost use Rattle.csp_grammar.specs.Reader.{read_parameters};
-ghost use Rattle.csp_grammar.specs.Tokens.{behind_name, first_name, skip};
+ghost use Rattle.tree_reading.specs.Limited.{read_parameters};
+ghost use Rattle.csp_grammar.specs.Tokens.{skip};
 ghost use Rattle.tree_reading.specs.Answers.{IfNoText};
-ghost use Rattle.tree_reading.specs.Reads.{Any, Reads, Refuses};
+ghost use Rattle.tree_reading.specs.Starts.{named};
+ghost use Rattle.tree_reading.specs.Settled.{Settles};
 
 use containers::Items;
 use csp_base::Name;
@@ -27,12 +28,10 @@ pub(crate) fn expect(tokens: &[Token], symbol: Symbol) -> Result<&[Token], ReadF
 }
 
 // The name that has to stand at the front.
-#[tactic(auto, using(crate::proofs::Fronts::first_is, crate::proofs::Fronts::behind_is, crate::proofs::Fronts::no_first))]
 pub(crate) fn name<'t>(alloc: Global, tokens: &'t [Token]) -> Result<Read<'t, Name>, ReadFault>
-    ensures name { IfOk result (λ r. first_name tokens.now ≡ Some r.part) }
-    ensures rest { IfOk result (λ r. behind_name tokens.now ≡ r.rest.now) }
+    ensures found { IfOk result (λ r. named tokens.now ≡ Some (r.part, r.rest.now)) }
     ensures shorter { IfOk result (λ r. length r.rest.now < length tokens.now) }
-    ensures none { IfNoText result (first_name tokens.now ≡ None) }
+    ensures none { IfNoText result (named tokens.now ≡ None) }
 {
     match named(tokens) {
         Some((found, rest)) => {
@@ -49,9 +48,9 @@ pub(crate) fn names<'t>(
     sign: Symbol,
     tokens: &'t [Token],
 ) -> Result<Read<'t, Items<Name>>, ReadFault>
-    ensures read { IfOk result (λ r. Reads (λ R. R.names sign tokens.now) (r.part, r.rest.now)) }
+    ensures read { IfOk result (λ r. Settles (λ L. L.names sign tokens.now) (Some (r.part, r.rest.now))) }
     ensures shorter { IfOk result (λ r. length r.rest.now < length tokens.now) }
-    ensures none { IfNoText result (Refuses (λ R. R.names sign tokens.now) Any) }
+    ensures none { IfNoText result (Settles (λ L. L.names sign tokens.now) None) }
 {
     let mut part = Items::new(alloc);
     let mut rest = tokens;
@@ -73,9 +72,9 @@ pub(crate) fn parameters<'t>(
     alloc: Global,
     tokens: &'t [Token],
 ) -> Result<Read<'t, Items<Name>>, ReadFault>
-    ensures read { IfOk result (λ r. Reads (λ R. read_parameters R tokens.now) (r.part, r.rest.now)) }
+    ensures read { IfOk result (λ r. Settles (λ L. read_parameters L tokens.now) (Some (r.part, r.rest.now))) }
     ensures shorter { IfOk result (λ r. length r.rest.now ≤ length tokens.now) }
-    ensures none { IfNoText result (Refuses (λ R. read_parameters R tokens.now) Any) }
+    ensures none { IfNoText result (Settles (λ L. read_parameters L tokens.now) None) }
 {
     let Some(inside) = skip(tokens, Symbol::OpenParen) else {
         return Ok(Read {

@@ -1,8 +1,8 @@
 //! The types of a channel's fields.
 
-ghost use Rattle.std.specs.Prelude.{◌≡◌, ◌<◌, ◌≤◌, [], length, IfOk};
+ghost use Rattle.std.specs.Prelude.{◌≡◌, ◌<◌, ◌≤◌, [], length, IfOk, Some, None};
 ghost use Rattle.tree_reading.specs.Answers.{IfNoText};
-ghost use Rattle.tree_reading.specs.Reads.{Any, Reads, Refuses};
+ghost use Rattle.tree_reading.specs.Settled.{Settles};
 
 use containers::Items;
 use csp_text::{Symbol, Token, Tree};
@@ -21,9 +21,9 @@ pub(crate) fn types<'t>(
     alloc: Global,
     tokens: &'t [Token],
 ) -> Result<Read<'t, Items<Tree>>, ReadFault>
-    ensures read { IfOk result (λ r. Reads (λ R. R.types tokens.now) (r.part, r.rest.now)) }
+    ensures read { IfOk result (λ r. Settles (λ L. L.types tokens.now) (Some (r.part, r.rest.now))) }
     ensures shorter { IfOk result (λ r. length r.rest.now < length tokens.now) }
-    ensures none { IfNoText result (Refuses (λ R. R.types tokens.now) Any) }
+    ensures none { IfNoText result (Settles (λ L. L.types tokens.now) None) }
 {
     let mut part = Items::new(alloc);
     let mut rest = tokens;

@@ -14,7 +14,7 @@ use Rattle.csp_lexer.specs.Lexed.{lexed}
 use Rattle.csp_lexer.specs.Placed.{PlacedTokens, tokens_of}
 use Rattle.csp_lexer.specs.Places.{beginning}
 use Rattle.csp_grammar.specs.Declarations.{DeclarationsText, ScriptText}
-use Rattle.csp_grammar.proofs.Unique.{one_script}
+use Rattle.tree_reading.proofs.Unique.{one_script}
 use Rattle.script_printer.specs.PrintedScript.{script_text}
 use Rattle.print_laws.specs.Fits.{Every, Fits, FitsLine, IsName}
 use Rattle.print_laws.specs.Laws.{FoundTokensAreWellFormed, PrintedTextSpellsNoOther, PrintedTextSpellsTheScript, script_tokens}

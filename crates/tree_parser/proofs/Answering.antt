@@ -1,5 +1,5 @@
 -- What the calls answer follows from what the whole reading comes to.
-use Rattle.std.proofs.Common.{◌≡◌, ◌≤◌, Option, Some, None, List, Ok, Err, sym, subst}
+use Rattle.std.proofs.Common.{◌≡◌, ◌≤◌, Option, Some, None, List, Ok, Err, sym, subst, arith}
 use Rattle.std.specs.Prelude.{Result}
 use Rattle.std.specs.Result.{IsErrAnd}
 use Rattle.csp_text.specs.Depth.{tree_depth}
@@ -7,13 +7,12 @@ use Rattle.csp_text.specs.declared.token.Token.{Token}
 use Rattle.csp_text.specs.declared.tree.Tree.{Tree}
 use Rattle.tree_reading.specs.Answers.{IfNoText}
 use Rattle.tree_reading.specs.Limited.{Limited}
-use Rattle.tree_reading.specs.Reads.{Reads, Refuses}
 use Rattle.tree_reading.specs.Settled.{Settles}
 use Rattle.tree_reading.specs.declared.fault.ReadFault.{ReadFault}
 use Rattle.tree_reading.specs.declared.fault.ReadFault.TheVariants as fault
 use Rattle.tree_reading.specs.declared.limits.Limits.{Limits}
 use Rattle.tree_reading.specs.declared.read.Binding.{Binding}
-use Rattle.tree_reading.proofs.Exactness.{read_atoms, read_trees, refused_atoms, refused_trees}
+use Rattle.tree_reading.proofs.SoundScripts.{atom_sound, tree_sound}
 use Rattle.tree_parser.specs.Meaning.{FormGives, bound}
 use Rattle.expression_steps.specs.Moved.{FoundTree}
 use Rattle.tree_parser.specs.Stack.{Answered, whole}
@@ -38,17 +37,17 @@ unsettled F k (something q h e) = absurd (no_some (sym e))
 
 -- t is the tree that was found, out of its box
 module _ (l : Limits) (ts : List Token) (r : FoundTree) (t : Tree) (is : t ≡ r.1) where
-  pub tree_is_read : FormGives form.Tree l ts whole (Some r) → Reads (λ R. R.tree l.brackets ts) (t, r.2)
-  tree_is_read h = subst (λ x. Reads (λ R. R.tree l.brackets ts) (x, r.2)) (sym is) (read_trees l ts r.1 r.2 (settled (λ L. L.tree l ts) _ r h)).0
+  pub tree_is_read : FormGives form.Tree l ts whole (Some r) → Settles (λ L. L.tree l ts) (Some (t, r.2))
+  tree_is_read h = subst (λ x. Settles (λ L. L.tree l ts) (Some (x, r.2))) (sym is) (settled (λ L. L.tree l ts) _ r h)
 
   pub tree_is_within : FormGives form.Tree l ts whole (Some r) → tree_depth t ≤ l.depth
-  tree_is_within h = subst (λ x. tree_depth x ≤ l.depth) (sym is) (read_trees l ts r.1 r.2 (settled (λ L. L.tree l ts) _ r h)).1
+  tree_is_within h = let s = tree_is_read h in (tree_sound l.brackets l.depth ts t r.2 s.enough (s.settles s.enough (omega arith))).1
 
-  pub atom_is_read : FormGives form.Atom l ts whole (Some r) → Reads (λ R. R.atom l.brackets ts) (t, r.2)
-  atom_is_read h = subst (λ x. Reads (λ R. R.atom l.brackets ts) (x, r.2)) (sym is) (read_atoms l ts r.1 r.2 (settled (λ L. L.atom l ts) _ r h)).0
+  pub atom_is_read : FormGives form.Atom l ts whole (Some r) → Settles (λ L. L.atom l ts) (Some (t, r.2))
+  atom_is_read h = subst (λ x. Settles (λ L. L.atom l ts) (Some (x, r.2))) (sym is) (settled (λ L. L.atom l ts) _ r h)
 
   pub atom_is_within : FormGives form.Atom l ts whole (Some r) → tree_depth t ≤ l.depth
-  atom_is_within h = subst (λ x. tree_depth x ≤ l.depth) (sym is) (read_atoms l ts r.1 r.2 (settled (λ L. L.atom l ts) _ r h)).1
+  atom_is_within h = let s = atom_is_read h in (atom_sound l.brackets l.depth ts t r.2 s.enough (s.settles s.enough (omega arith))).1
 
 no_text : {A : Type 0} (B : Type 0) (f : ReadFault) (seen : A → FoundTree) (g : Form) (l : Limits) (ts : List Token) (P : Type 0) → Answered (Err f) seen g l ts →
     (FormGives g l ts whole None → P) → IfNoText {A = B} (Err f) P
@@ -61,9 +60,9 @@ passed (Ok b) f seen g l ts P is h k = absurd is
 passed {B} (Err y) f seen g l ts P is h k = subst (λ e. IfNoText {A = B} (Err e) P) (sym is) (no_text B f seen g l ts P h k)
 
 pub no_tree : {A B : Type 0} (x : Result B ReadFault) (f : ReadFault) (seen : A → FoundTree) (l : Limits) (ts : List Token) → IsErrAnd x (λ y. y ≡ f) →
-    Answered (Err f) seen form.Tree l ts → IfNoText x (Refuses (λ R. R.tree l.brackets ts) (λ p. tree_depth p.0 ≤ l.depth))
-no_tree x f seen l ts is h = passed x f seen form.Tree l ts _ is h (λ g. refused_trees l ts (unsettled (λ L. L.tree l ts) _ g))
+    Answered (Err f) seen form.Tree l ts → IfNoText x (Settles (λ L. L.tree l ts) None)
+no_tree x f seen l ts is h = passed x f seen form.Tree l ts _ is h (λ g. unsettled (λ L. L.tree l ts) _ g)
 
 pub no_atom : {A B : Type 0} (x : Result B ReadFault) (f : ReadFault) (seen : A → FoundTree) (l : Limits) (ts : List Token) → IsErrAnd x (λ y. y ≡ f) →
-    Answered (Err f) seen form.Atom l ts → IfNoText x (Refuses (λ R. R.atom l.brackets ts) (λ p. tree_depth p.0 ≤ l.depth))
-no_atom x f seen l ts is h = passed x f seen form.Atom l ts _ is h (λ g. refused_atoms l ts (unsettled (λ L. L.atom l ts) _ g))
+    Answered (Err f) seen form.Atom l ts → IfNoText x (Settles (λ L. L.atom l ts) None)
+no_atom x f seen l ts is h = passed x f seen form.Atom l ts _ is h (λ g. unsettled (λ L. L.atom l ts) _ g)

@@ -1,9 +1,9 @@
 //! The calls of the parser.
 
-ghost use Rattle.std.specs.Prelude.{◌≤◌, ◌<◌, length, IfOk};
+ghost use Rattle.std.specs.Prelude.{◌≤◌, ◌<◌, Some, None, length, IfOk};
 ghost use Rattle.csp_text.specs.Depth.{tree_depth};
 ghost use Rattle.tree_reading.specs.Answers.{IfNoText};
-ghost use Rattle.tree_reading.specs.Reads.{Reads, Refuses};
+ghost use Rattle.tree_reading.specs.Settled.{Settles};
 
 use crate::reading::read;
 use csp_text::{Token, Tree};
@@ -19,14 +19,14 @@ pub fn tree<'t>(
     limits: Limits,
     tokens: &'t [Token],
 ) -> Result<Read<'t, Tree>, ReadFault>
-    // What is read is what the grammar's reader gives,
-    ensures read { IfOk result (λ r. Reads (λ R. R.tree limits.brackets tokens.now) (r.part, r.rest.now)) }
+    // What is read is what the grammar's reader settles on within the limits,
+    ensures read { IfOk result (λ r. Settles (λ L. L.tree limits tokens.now) (Some (r.part, r.rest.now))) }
 
     // and within the limit of depth.
     ensures depth { IfOk result (λ r. tree_depth r.part ≤ limits.depth) }
 
-    // The fault that no text is there comes only where the reader gives nothing within the limit.
-    ensures none { IfNoText result (Refuses (λ R. R.tree limits.brackets tokens.now) (λ p. tree_depth p.0 ≤ limits.depth)) }
+    // The fault that no text is there comes only where it settles on nothing.
+    ensures none { IfNoText result (Settles (λ L. L.tree limits tokens.now) None) }
 
     ensures shorter { IfOk result (λ r. length r.rest.now < length tokens.now) }
 {
@@ -43,14 +43,14 @@ pub fn atom<'t>(
     limits: Limits,
     tokens: &'t [Token],
 ) -> Result<Read<'t, Tree>, ReadFault>
-    // What is read is what the grammar's reader gives,
-    ensures read { IfOk result (λ r. Reads (λ R. R.atom limits.brackets tokens.now) (r.part, r.rest.now)) }
+    // What is read is what the grammar's reader settles on within the limits,
+    ensures read { IfOk result (λ r. Settles (λ L. L.atom limits tokens.now) (Some (r.part, r.rest.now))) }
 
     // and within the limit of depth.
     ensures depth { IfOk result (λ r. tree_depth r.part ≤ limits.depth) }
 
-    // The fault that no text is there comes only where the reader gives nothing within the limit.
-    ensures none { IfNoText result (Refuses (λ R. R.atom limits.brackets tokens.now) (λ p. tree_depth p.0 ≤ limits.depth)) }
+    // The fault that no text is there comes only where it settles on nothing.
+    ensures none { IfNoText result (Settles (λ L. L.atom limits tokens.now) None) }
 
     ensures shorter { IfOk result (λ r. length r.rest.now < length tokens.now) }
 {

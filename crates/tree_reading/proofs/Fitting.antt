@@ -1,42 +1,80 @@
 -- Depths within a limit.
-use Rattle.std.proofs.Common.{◌≡◌, ℕ, suc, ◌+◌, max, true, false, nat_le, arith}
+use Rattle.std.proofs.Common.{◌≡◌, ℕ, zero, suc, ◌+◌, ◌≤◌, max, true, nat_le, Option, Some, refl, sym, ap, ◌∙◌, arith}
+use Rattle.csp_text.specs.Depth.{tree_depth}
+use Rattle.csp_text.specs.declared.tree.Tree.{Tree}
+use Rattle.csp_grammar.specs.Reader.{and_then}
+use Rattle.tree_reading.specs.Limited.{Limited, limited}
+use Rattle.tree_reading.specs.Nesting.{around, inside, limits, sure}
+use Rattle.tree_reading.specs.Settled.{Settles}
+use Rattle.tree_reading.specs.declared.limits.Limits.{Limits}
 
-pub fit_max : (a b d : ℕ) → nat_le a d ≡ true → nat_le b d ≡ true → nat_le (max a b) d ≡ true
-fit_max a b d h k = grind (arith)
+-- of two parts
 
-pub deep_left : (a b d : ℕ) → nat_le a d ≡ false → nat_le (max a b) d ≡ false
-deep_left a b d h = grind (arith)
+pub both : {a b d : ℕ} → a ≤ d → b ≤ d → max a b ≤ d
+both {a} {b} {d} h k = grind (arith)
 
-pub deep_right : (a b d : ℕ) → nat_le b d ≡ false → nat_le (max a b) d ≡ false
-deep_right a b d h = grind (arith)
+pub left : (a b : ℕ) {d : ℕ} → max a b ≤ d → a ≤ d
+left a b {d} h = grind (arith)
+
+pub right : (a b : ℕ) {d : ℕ} → max a b ≤ d → b ≤ d
+right a b {d} h = grind (arith)
 
 -- a node is deeper by one than its parts
-pub fit_node : (x a e : ℕ) → x ≡ 1 + a → nat_le a e ≡ true → nat_le x (suc e) ≡ true
-fit_node x a e is h = grind (arith)
+pub node : {x a d e : ℕ} → x ≡ 1 + a → d ≡ suc e → a ≤ e → x ≤ d
+node {x} {a} {d} {e} is deep h = omega arith
 
-pub deep_node : (x a e : ℕ) → x ≡ 1 + a → nat_le a e ≡ false → nat_le x (suc e) ≡ false
-deep_node x a e is h = grind (arith)
+-- so what is in it is less deep
+pub part : {x a d : ℕ} → x ≡ 1 + a → x ≤ d → a ≤ d
+part {x} {a} {d} is h = omega arith
 
--- a node whose first part may not be one
-pub deep_around : (x a rest d : ℕ) → x ≡ 1 + max a rest → nat_le (suc a) d ≡ false → nat_le x d ≡ false
-deep_around x a rest d is h = grind (arith)
+-- THE PARTS OF A NODE, AS THEY ARE READ
 
-pub fit_none : (d : ℕ) → nat_le 0 d ≡ true
-fit_none d = grind (arith)
+-- the depth of the parts of a node of this one
+abbrev pub less : ℕ → ℕ
+less zero = zero
+less (suc d) = d
 
-pub fit_first : (a b d : ℕ) → nat_le (max a b) d ≡ true → nat_le a d ≡ true
-fit_first a b d h = grind (arith)
+lower : (x a d : ℕ) → x ≡ 1 + a → x ≤ suc d → a ≤ d
+lower x a d is h = omega arith
 
-pub deep_only : (a d : ℕ) → nat_le (max a 0) d ≡ false → nat_le a d ≡ false
-deep_only a d h = grind (arith)
+too_deep : {A : Type 0} (x a : ℕ) → x ≡ 1 + a → x ≤ 0 → A
+too_deep x a is h = absurd (omega arith)
 
--- a node with a part that is too deep
-pub deep_whole : (x a rest d : ℕ) → x ≡ 1 + max a rest → nat_le a d ≡ false → nat_le x d ≡ false
-deep_whole x a rest d is h = grind (arith)
+pub parts : {x a : ℕ} (d : ℕ) → x ≡ 1 + a → x ≤ d → a ≤ less d
+parts {x} {a} zero is h = too_deep x a is h
+parts {x} {a} (suc d) is h = lower x a d is h
 
--- a node of four parts whose first part may not be one, or is too deep
-pub deep_first : (x a b rest d : ℕ) → x ≡ 1 + max (max a b) rest → nat_le (suc a) d ≡ false → nat_le x d ≡ false
-deep_first x a b rest d is h = grind (arith)
+at_most : (a d : ℕ) → a ≤ d → a ≤ suc d
+at_most a d h = omega arith
 
-pub deep_first_whole : (x a b rest d : ℕ) → x ≡ 1 + max (max a b) rest → nat_le a d ≡ false → nat_le x d ≡ false
-deep_first_whole x a b rest d is h = grind (arith)
+pub up : {a : ℕ} (d : ℕ) → a ≤ less d → a ≤ d
+up zero h = h
+up {a} (suc d) h = at_most a d h
+
+-- a node of depth x may be read
+pub inner : {B : Type 0} {n x : ℕ} (a d : ℕ) {o : Option B} (K : Limited → Limits → Option B) → x ≡ 1 + a → x ≤ d →
+    Settles (λ L. K L (limits n (less d))) o → Settles (λ L. and_then (inside (limits n d)) (K L)) o
+inner {x = x} a zero K is h s = too_deep x a is h
+inner {x = x} a (suc d) K is h s = s
+
+pub first_part : (a b : ℕ) → a ≤ max a b
+first_part a b = grind (arith)
+
+test : (a e : ℕ) → a ≤ e → nat_le a e ≡ true
+test a e h = grind (arith)
+
+through : (a b e : ℕ) → a ≤ b → b ≤ e → a ≤ e
+through a b e h k = omega arith
+
+tested : {B : Type 0} {n : ℕ} (e : ℕ) (t : Tree) {o : Option B} (K : Limited → Limits → Option B) → tree_depth t ≤ e → Settles (λ L. K L (limits n e)) o →
+    Settles (λ L. and_then (and_then (sure (nat_le (tree_depth t) e)) λ _. Some (limits n e)) (K L)) o
+tested {n = n} e t K h s = record {
+  enough = s.enough;
+  settles = λ f le. ap (λ b. and_then (and_then (sure b) λ _. Some (limits n e)) (K (limited f))) (test (tree_depth t) e h) ∙ s.settles f le;
+}
+
+-- and one with this tree as a part that was read before
+pub about : {B : Type 0} {n x a : ℕ} (d : ℕ) (t : Tree) {o : Option B} (K : Limited → Limits → Option B) → x ≡ 1 + a → tree_depth t ≤ a → x ≤ d →
+    Settles (λ L. K L (limits n (less d))) o → Settles (λ L. and_then (around (limits n d) t) (K L)) o
+about {x = x} {a = a} zero t K is part h s = too_deep x a is h
+about {x = x} {a = a} (suc d) t K is part h s = tested d t K (through (tree_depth t) a d part (lower x a d is h)) s

@@ -1,7 +1,8 @@
 -- How readings within a limit of depth settle, one step of the readers after another.
-use Rattle.std.proofs.Common.{◌≡◌, ℕ, zero, suc, ◌+◌, ◌≤◌, Option, Some, None, refl, ap, ◌∙◌, arith}
-use Rattle.csp_grammar.specs.Reader.{and_then}
+use Rattle.std.proofs.Common.{◌≡◌, ℕ, zero, suc, ◌+◌, ◌≤◌, Bool, true, false, if◌then◌else◌, Option, Some, None, refl, sym, ap, ◌∙◌, arith}
+use Rattle.csp_grammar.specs.Reader.{and_then, case}
 use Rattle.tree_reading.specs.Limited.{Limited, limited, next_limited}
+use Rattle.tree_reading.specs.Nesting.{sure}
 use Rattle.tree_reading.specs.Settled.{Settles}
 
 pub limited_next : (f : ℕ) → limited (suc f) ≡ next_limited (limited f)
@@ -31,3 +32,40 @@ bind {A} {B} {F} {a} {o} K s t = record {
 -- nothing comes of a reading that settles on nothing
 pub bind_none : {A B : Type 0} {F : Limited → Option A} (K : Limited → A → Option B) → Settles F None → Settles (λ L. and_then (F L) (K L)) None
 bind_none {A} {B} {F} K s = record { enough = s.enough; settles = λ f le. ap (λ x. and_then x (K (limited f))) (s.settles f le) }
+
+-- LOOKS AND TESTS
+
+-- what is there in a look at the tokens
+pub look : {A B : Type 0} {x : Option A} {a : A} {o : Option B} (K : Limited → A → Option B) → x ≡ Some a → Settles (λ L. K L a) o → Settles (λ L. and_then x (K L)) o
+look {A} {B} {x} {a} {o} K e s = record { enough = s.enough; settles = λ f le. ap (λ y. and_then y (K (limited f))) e ∙ s.settles f le }
+
+-- and nothing comes of one that shows nothing
+pub look_none : {A B : Type 0} {x : Option A} (K : Limited → A → Option B) → x ≡ None → Settles (λ L. and_then x (K L)) None
+look_none {A} {B} {x} K e = record { enough = 0; settles = λ f le. ap (λ y. and_then y (K (limited f))) e }
+
+pub there : {A B : Type 0} {x : Option A} {a : A} {o : Option B} (K : Limited → A → Option B) (N : Limited → Unit {0} → Option B) →
+    x ≡ Some a → Settles (λ L. K L a) o → Settles (λ L. case x (K L) (N L)) o
+there {A} {B} {x} {a} {o} K N e s = record { enough = s.enough; settles = λ f le. ap (λ y. case y (K (limited f)) (N (limited f))) e ∙ s.settles f le }
+
+pub not_there : {A B : Type 0} {x : Option A} {o : Option B} (K : Limited → A → Option B) (N : Limited → Unit {0} → Option B) →
+    x ≡ None → Settles (λ L. N L tt) o → Settles (λ L. case x (K L) (N L)) o
+not_there {A} {B} {x} {o} K N e s = record { enough = s.enough; settles = λ f le. ap (λ y. case y (K (limited f)) (N (limited f))) e ∙ s.settles f le }
+
+pub granted : {B : Type 0} {b : Bool} {o : Option B} (K : Limited → Unit {0} → Option B) → b ≡ true → Settles (λ L. K L tt) o → Settles (λ L. and_then (sure b) (K L)) o
+granted {B} {b} {o} K e s = record { enough = s.enough; settles = λ f le. ap (λ c. and_then (sure c) (K (limited f))) e ∙ s.settles f le }
+
+pub first : {B : Type 0} {b : Bool} {o : Option B} (G N : Limited → Option B) → b ≡ true → Settles G o → Settles (λ L. if b then G L else N L) o
+first {B} {b} {o} G N e s = record { enough = s.enough; settles = λ f le. ap (λ c. if c then G (limited f) else N (limited f)) e ∙ s.settles f le }
+
+pub second : {B : Type 0} {b : Bool} {o : Option B} (G N : Limited → Option B) → b ≡ false → Settles N o → Settles (λ L. if b then G L else N L) o
+second {B} {b} {o} G N e s = record { enough = s.enough; settles = λ f le. ap (λ c. if c then G (limited f) else N (limited f)) e ∙ s.settles f le }
+
+inside_some : {A : Type 0} (x y : A) → ◌≡◌ {A = Option A} (Some x) (Some y) → x ≡ y
+inside_some x y e = cc
+
+-- a reading settles on one answer
+pub one_answer : {A : Type 0} {F : Limited → Option A} {o p : Option A} → Settles F o → Settles F p → o ≡ p
+one_answer {A} {F} {o} {p} s t = sym (s.settles (s.enough + t.enough) (omega arith)) ∙ t.settles (s.enough + t.enough) (omega arith)
+
+pub same : {A : Type 0} {F : Limited → Option A} {x y : A} → Settles F (Some x) → Settles F (Some y) → x ≡ y
+same {A} {F} {x} {y} s t = inside_some x y (one_answer s t)

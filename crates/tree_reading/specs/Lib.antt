@@ -1,8 +1,9 @@
 pub mod Answers
+pub mod Asserted
 pub mod Bindings
 pub mod Gives
+pub mod Laws
 pub mod Limited
 pub mod Nesting
-pub mod Reads
 pub mod Settled
 pub mod Starts

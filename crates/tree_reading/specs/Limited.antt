@@ -1,11 +1,16 @@
--- The reader of the grammar within limits, as the functions of this crate read: it reads no tree that is deeper than the limit. A part of a node may be
--- as deep as the node without its own level. Where the first part of a node was read before the node was known, its depth is looked at once it is.
+-- The grammar as a reader within limits: functions that read a tree from the front of a list of tokens and answer it with what is left, or nothing. The
+-- reader never goes back: it decides by the next token, and by how tightly what it has read is bound. It opens no more brackets than the limits have, and
+-- reads no tree that is deeper than they say. A part of a node may be as deep as the node without its own level. Where the first part of a node was read
+-- before the node was known, its depth is looked at once it is.
 --
--- Each step is a look at the front of the tokens or a call, and nothing comes of a step that gives nothing. As the reader's functions, those of
--- `limited f` may call one another f times in a row.
+-- Each step is a look at the front of the tokens or a call, and nothing comes of a step that gives nothing. The functions of `limited f` may call one
+-- another f times in a row.
 use Rattle.std.specs.Prelude.{ℕ, zero, suc, Bool, true, false, if◌then◌else◌, Option, Some, None, List, [], ◌∷◌}
 use Rattle.csp_text.specs.declared.token.Token.{Token}
+use Rattle.csp_text.specs.declared.token.Token.TheVariants as token
+use Rattle.csp_text.specs.declared.token.Word.{Word}
 use Rattle.csp_text.specs.declared.token.Word.TheVariants as word
+use Rattle.csp_text.specs.declared.token.Symbol.{Symbol}
 use Rattle.csp_text.specs.declared.token.Symbol.TheVariants as symbol
 use Rattle.csp_text.specs.declared.tree.Tree.{Tree}
 use Rattle.csp_text.specs.declared.tree.Tree.TheVariants as tree
@@ -15,11 +20,14 @@ use Rattle.csp_text.specs.declared.tree.FieldTree.{FieldTree}
 use Rattle.csp_text.specs.declared.tree.FieldTree.TheVariants as field
 use Rattle.csp_text.specs.declared.tree.GenTree.{GenTree}
 use Rattle.csp_text.specs.declared.tree.GenTree.TheVariants as generator
+use Rattle.csp_text.specs.declared.script.Decl.{Decl}
+use Rattle.csp_text.specs.declared.script.Decl.TheVariants as decl
 use Rattle.csp_grammar.specs.Grammar.{choice_of, event_tree, part_tree}
 use Rattle.csp_grammar.specs.Reader.{Reading, and_then, case, begins_event, dotted_tree, only}
-use Rattle.csp_grammar.specs.Tokens.{skip, skip_word}
+use Rattle.csp_grammar.specs.Tokens.{first_token, skip, skip_word}
+use Rattle.tree_reading.specs.Asserted.{ending}
 use Rattle.tree_reading.specs.Bindings.{Found, of_process, at_least, tighter}
-use Rattle.tree_reading.specs.Nesting.{sure, bracketed, inside, around}
+use Rattle.tree_reading.specs.Nesting.{sure, bracketed, inside, around, whole}
 use Rattle.tree_reading.specs.Starts.{choice, chain_symbol, each_tree, dotted_fields, named, first_chain, sign_behind, atom_start, prefix_start}
 use Rattle.tree_reading.specs.declared.limits.Limits.{Limits}
 use Rattle.tree_reading.specs.declared.read.Binding.{Binding}
@@ -48,6 +56,9 @@ pub record Limited : Type 0 where
   pub gens : Limits → List Token → Reading (List GenTree)
   pub items : Limits → List Token → Found (List Tree)
   pub atom : Limits → List Token → Reading Tree
+  pub names : Symbol → List Token → Reading (List (List ℕ))
+  pub types : List Token → Reading (List Tree)
+  pub declarations : List Token → Option (List Decl)
 
 module _ (L : Limited) where
   abbrev pub read_dotted : Limits → List Token → Found Tree
@@ -336,6 +347,80 @@ module _ (L : Limited) where
       (λ us. and_then (sure (at_least binding.Closed p.0)) λ _. and_then (around l p.1) λ e. read_parallel e p.1 us)
       (λ _. Some (p.1, p.2))
 
+  -- names with the sign between them
+  abbrev pub read_names : Symbol → List Token → Reading (List (List ℕ))
+  read_names sign ts =
+      and_then (named ts) λ x.
+      case (skip sign x.1)
+      (λ us. and_then (L.names sign us) λ p. Some (x.0 ∷ p.0, p.1))
+      (λ _. Some (x.0 ∷ [], x.1))
+
+  abbrev pub read_types : List Token → Reading (List Tree)
+  read_types ts =
+      and_then (L.atom whole ts) λ p.
+      case (skip symbol.Dot p.1)
+      (λ us. and_then (L.types us) λ q. Some (p.0 ∷ q.0, q.1))
+      (λ _. Some (p.0 ∷ [], p.1))
+
+  -- what stands behind `channel`
+  abbrev pub read_channel : List Token → Reading Decl
+  read_channel ts =
+      and_then (L.names symbol.Comma ts) λ p.
+      case (skip symbol.Colon p.1)
+      (λ us. and_then (L.types us) λ q. Some (decl.Channel p.0 q.0, q.1))
+      (λ _. Some (decl.Channel p.0 [], p.1))
+
+  -- what stands behind `datatype`
+  abbrev pub read_datatype : List Token → Reading Decl
+  read_datatype ts =
+      and_then (named ts) λ d. and_then (skip symbol.Defines d.1) λ us. and_then (L.names symbol.Bar us) λ p. Some (decl.Datatype d.0 p.0, p.1)
+
+  -- what stands behind `nametype`
+  abbrev pub read_nametype : List Token → Reading Decl
+  read_nametype ts =
+      and_then (named ts) λ x. and_then (skip symbol.Defines x.1) λ us. and_then (L.atom whole us) λ p. Some (decl.Nametype x.0 p.0, p.1)
+
+  abbrev pub read_parameters : List Token → Reading (List (List ℕ))
+  read_parameters ts =
+      case (skip symbol.OpenParen ts)
+      (λ us. and_then (L.names symbol.Comma us) λ p. and_then (skip symbol.CloseParen p.1) λ vs. Some (p.0, vs))
+      (λ _. Some ([], ts))
+
+  -- what stands behind the name that is defined
+  abbrev pub read_definition : List ℕ → List Token → Reading Decl
+  read_definition f ts =
+      and_then (read_parameters ts) λ p. and_then (skip symbol.Defines p.1) λ us. and_then (L.tree whole us) λ q. Some (decl.Define f p.0 q.0, q.1)
+
+  -- the name or the call of an assertion: an atom that begins with a name
+  abbrev pub read_asserted : List Token → Reading Tree
+  read_asserted ts = and_then (named ts) λ _. L.atom whole ts
+
+  -- what stands behind `assert`
+  abbrev pub read_assertion : List Token → Reading Decl
+  read_assertion ts = and_then (read_asserted ts) λ p. and_then (ending p.1) λ us. Some (decl.Assert p.0, us)
+
+  abbrev pub read_word_declaration : Word → List Token → Reading Decl
+  read_word_declaration word.Channel ts = read_channel ts
+  read_word_declaration word.Datatype ts = read_datatype ts
+  read_word_declaration word.Nametype ts = read_nametype ts
+  read_word_declaration word.Assert ts = read_assertion ts
+  read_word_declaration _ ts = None
+
+  abbrev pub read_declaration : List Token → Reading Decl
+  read_declaration [] = None
+  read_declaration (token.Name f ∷ ts) = read_definition f ts
+  read_declaration (token.Word w ∷ ts) = read_word_declaration w ts
+  read_declaration (token.Roles names ∷ ts) = Some (decl.Roles names, ts)
+  read_declaration (token.Resource names ∷ ts) = Some (decl.Resource names, ts)
+  read_declaration (token.Num _ ∷ ts) = None
+  read_declaration (token.Symbol _ ∷ ts) = None
+
+  abbrev pub read_declarations : List Token → Option (List Decl)
+  read_declarations ts =
+      case (first_token ts)
+      (λ t. and_then (read_declaration ts) λ p. and_then (L.declarations p.1) λ ds. Some (p.0 ∷ ds))
+      (λ _. Some [])
+
 -- the readers that may call these
 abbrev pub next_limited : Limited → Limited
 next_limited L = record {
@@ -353,6 +438,9 @@ next_limited L = record {
   gens = read_gens L;
   items = read_items L;
   atom = read_atom L;
+  names = read_names L;
+  types = read_types L;
+  declarations = read_declarations L;
 }
 
 -- the readers that read nothing
@@ -372,6 +460,9 @@ nothing_limited = record {
   gens = λ l ts. None;
   items = λ l ts. None;
   atom = λ l ts. None;
+  names = λ sign ts. None;
+  types = λ ts. None;
+  declarations = λ ts. None;
 }
 
 unfoldable pub limited : ℕ → Limited

@@ -10,6 +10,14 @@ abbrev pub sure : Bool → Option (Unit {0})
 sure false = None
 sure true = Some tt
 
+-- the limits with so many brackets and this depth
+abbrev pub limits : ℕ → ℕ → Limits
+limits brackets depth = record { brackets = brackets; depth = depth }
+
+-- those of a tree that stands in no other
+abbrev pub whole : Limits
+whole = limits 400 200
+
 abbrev pub less : ℕ → Option ℕ
 less zero = None
 less (suc n) = Some n

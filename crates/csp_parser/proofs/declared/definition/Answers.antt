@@ -12,4 +12,4 @@ pub returns-in_err-body-clause-none : goal.returns-in_err-body-clause-none
 returns-in_err-body-clause-none c = passed _ _ _ _ c.from_residual-in_err-body.ensures.1 c.in_err-body.ensures.none (λ e. definition_empty c.args.defined.now c.args.tokens.now c.in_ok-taken.ensures.read c.in_ok-behind.ensures.found e)
 
 pub returns-clause-read : goal.returns-clause-read
-returns-clause-read c = definition_named c.args.tokens.now c.in_ok-copied.ensures (definition_read c.args.tokens.now c.in_ok-taken.ensures.read c.in_ok-behind.ensures.found c.in_ok-body.ensures.read c.in_ok-body.ensures.depth)
+returns-clause-read c = definition_named c.args.tokens.now c.in_ok-copied.ensures (definition_read c.args.tokens.now c.in_ok-taken.ensures.read c.in_ok-behind.ensures.found c.in_ok-body.ensures.read)

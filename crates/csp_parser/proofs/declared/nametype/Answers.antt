@@ -6,10 +6,10 @@ pub returns-in_err-named-clause-none : goal.returns-in_err-named-clause-none
 returns-in_err-named-clause-none c = passed _ _ _ _ c.from_residual.ensures.1 c.in_err-named.ensures.none (λ e. nametype_unnamed c.args.tokens.now e)
 
 pub returns-in_err-behind-clause-none : goal.returns-in_err-behind-clause-none
-returns-in_err-behind-clause-none c = passed _ _ _ _ c.from_residual-in_err-behind.ensures.1 c.in_err-behind.ensures.none (λ e. nametype_undefined c.args.tokens.now c.in_ok-named.ensures.name c.in_ok-named.ensures.rest e)
+returns-in_err-behind-clause-none c = passed _ _ _ _ c.from_residual-in_err-behind.ensures.1 c.in_err-behind.ensures.none (λ e. nametype_undefined c.args.tokens.now c.in_ok-named.ensures.found e)
 
 pub returns-in_err-set-clause-none : goal.returns-in_err-set-clause-none
-returns-in_err-set-clause-none c = passed _ _ _ _ c.from_residual-in_err-set.ensures.1 c.in_err-set.ensures.none (λ e. nametype_empty c.args.tokens.now c.in_ok-named.ensures.name c.in_ok-named.ensures.rest c.in_ok-behind.ensures.found e)
+returns-in_err-set-clause-none c = passed _ _ _ _ c.from_residual-in_err-set.ensures.1 c.in_err-set.ensures.none (λ e. nametype_empty c.args.tokens.now c.in_ok-named.ensures.found c.in_ok-behind.ensures.found e)
 
 pub returns-clause-read : goal.returns-clause-read
-returns-clause-read c = nametype_read c.args.tokens.now c.in_ok-named.ensures.name c.in_ok-named.ensures.rest c.in_ok-behind.ensures.found c.in_ok-set.ensures.read c.in_ok-set.ensures.depth
+returns-clause-read c = nametype_read c.args.tokens.now c.in_ok-named.ensures.found c.in_ok-behind.ensures.found c.in_ok-set.ensures.read

@@ -10,7 +10,7 @@ pub returns-in_err-found-clause-none : goal.returns-in_err-found-clause-none
 returns-in_err-found-clause-none c = passed _ _ _ _ c.from_residual.ensures.1 c.in_err-found.ensures.none (λ e. names_stop c.loop-part.invariant.0 e)
 
 pub returns-in_default-clause-read : goal.returns-in_default-clause-read
-returns-in_default-clause-read c = names_end c.loop-part.invariant.0 c.in_ok-found.ensures.name c.in_ok-found.ensures.rest (sym c.in_default.ensures.same) c.in_ok-push.ensures.ok
+returns-in_default-clause-read c = names_end c.loop-part.invariant.0 c.in_ok-found.ensures.found (sym c.in_default.ensures.same) c.in_ok-push.ensures.ok
 
 pub returns-in_default-clause-shorter : goal.returns-in_default-clause-shorter
 returns-in_default-clause-shorter c =
@@ -32,4 +32,4 @@ loop-part-preserved c =
     let b : length c.in-Some.next.now < length c.in_ok-found.found.rest.now = c.in-Some.ensures.shorter in
     let e : length c.loop-part.rest.now ≤ length c.args.tokens.now = c.loop-part.invariant.1 in
     let d : length c.in-Some.next.now ≤ length c.args.tokens.now = omega arith in
-    (names_more c.loop-part.invariant.0 c.in_ok-found.ensures.name c.in_ok-found.ensures.rest (sym c.in-Some.ensures.same) c.in_ok-push.ensures.ok, d)
+    (names_more c.loop-part.invariant.0 c.in_ok-found.ensures.found (sym c.in-Some.ensures.same) c.in_ok-push.ensures.ok, d)

@@ -1,0 +1,270 @@
+-- What a look at the tokens tells, where something is there.
+use Rattle.std.proofs.Common.{◌≡◌, ℕ, zero, suc, Bool, true, false, ◌&&◌, nat_eq, if◌then◌else◌, Option, Some, None, List, [], ◌∷◌, refl, sym, ap, ◌∙◌, arith}
+use Rattle.csp_text.specs.declared.token.Token.{Token}
+use Rattle.csp_text.specs.declared.token.Token.TheVariants as token
+use Rattle.csp_text.specs.declared.token.Word.{Word}
+use Rattle.csp_text.specs.declared.token.Word.TheVariants as word
+use Rattle.csp_text.specs.declared.token.Symbol.{Symbol}
+use Rattle.csp_text.specs.declared.token.Symbol.TheVariants as symbol
+use Rattle.csp_base.specs.declared.operators.BinOp.{BinOp}
+use Rattle.csp_grammar.specs.Grammar.{choice_sign}
+use Rattle.csp_grammar.specs.Precedence.{Level, IsLeftOperator, IsComparison}
+use Rattle.csp_grammar.specs.Precedence as table
+use Rattle.csp_grammar.specs.Precedence.Level.{disjunction, conjunction, negation, comparison, sum, product, minus, renaming}
+use Rattle.csp_grammar.specs.Tokens.{symbol_place, symbol_binding, word_place, is_symbol, skip, skip_word, is_text}
+use Rattle.tree_reading.specs.Starts.{choice, chain_symbol, first_chain, may_follow, named, sign_behind, symbol_sign, token_sign, word_sign}
+use Rattle.tree_reading.specs.declared.look.Chain.{Chain}
+use Rattle.tree_reading.specs.declared.look.Chain.TheVariants as chain
+use Rattle.tree_reading.specs.declared.look.Sign.{Sign}
+use Rattle.tree_reading.specs.declared.look.Sign.TheVariants as sign
+use Rattle.tree_reading.specs.declared.read.Binding.{Binding}
+use Rattle.tree_reading.specs.declared.read.Binding.TheVariants as binding
+use Rattle.tree_reading.proofs.Holds.{Holds, by_case, by_then}
+use Rattle.tree_reading.proofs.Holds.Holds.{none, some}
+
+symbols : List Symbol
+symbols = symbol.Arrow ∷ symbol.ExternalChoice ∷ symbol.InternalChoice ∷ symbol.Parallel ∷ symbol.OpenRename ∷ symbol.CloseRename ∷ symbol.OpenProduct ∷ symbol.CloseProduct ∷ symbol.LeftArrow ∷ symbol.DotDot ∷ symbol.Dot ∷ symbol.Bang ∷ symbol.Question ∷ symbol.Colon ∷ symbol.At ∷ symbol.Defines ∷ symbol.Equal ∷ symbol.NotEqual ∷ symbol.Less ∷ symbol.LessEqual ∷ symbol.Greater ∷ symbol.GreaterEqual ∷ symbol.Plus ∷ symbol.Minus ∷ symbol.Star ∷ symbol.Slash ∷ symbol.Percent ∷ symbol.OpenParen ∷ symbol.CloseParen ∷ symbol.OpenBrace ∷ symbol.CloseBrace ∷ symbol.OpenBracket ∷ symbol.CloseBracket ∷ symbol.Comma ∷ symbol.Ampersand ∷ symbol.Bar ∷ symbol.Backslash ∷ symbol.Semicolon ∷ []
+
+words : List Word
+words = word.And ∷ word.Assert ∷ word.Channel ∷ word.Datatype ∷ word.Diff ∷ word.Else ∷ word.False ∷ word.If ∷ word.Inter ∷ word.Nametype ∷ word.Not ∷ word.Or ∷ word.Then ∷ word.True ∷ word.Union ∷ word.Stop ∷ word.Skip ∷ []
+
+-- the element at a place of a list
+abbrev at : {A : Type 0} → List A → ℕ → Option A
+at [] n = None
+at (x ∷ xs) zero = Some x
+at (x ∷ xs) (suc n) = at xs n
+
+symbol_at : (s : Symbol) → at symbols (symbol_place s) ≡ Some s
+unfolding symbols
+symbol_at symbol.Arrow = refl
+symbol_at symbol.ExternalChoice = refl
+symbol_at symbol.InternalChoice = refl
+symbol_at symbol.Parallel = refl
+symbol_at symbol.OpenRename = refl
+symbol_at symbol.CloseRename = refl
+symbol_at symbol.OpenProduct = refl
+symbol_at symbol.CloseProduct = refl
+symbol_at symbol.LeftArrow = refl
+symbol_at symbol.DotDot = refl
+symbol_at symbol.Dot = refl
+symbol_at symbol.Bang = refl
+symbol_at symbol.Question = refl
+symbol_at symbol.Colon = refl
+symbol_at symbol.At = refl
+symbol_at symbol.Defines = refl
+symbol_at symbol.Equal = refl
+symbol_at symbol.NotEqual = refl
+symbol_at symbol.Less = refl
+symbol_at symbol.LessEqual = refl
+symbol_at symbol.Greater = refl
+symbol_at symbol.GreaterEqual = refl
+symbol_at symbol.Plus = refl
+symbol_at symbol.Minus = refl
+symbol_at symbol.Star = refl
+symbol_at symbol.Slash = refl
+symbol_at symbol.Percent = refl
+symbol_at symbol.OpenParen = refl
+symbol_at symbol.CloseParen = refl
+symbol_at symbol.OpenBrace = refl
+symbol_at symbol.CloseBrace = refl
+symbol_at symbol.OpenBracket = refl
+symbol_at symbol.CloseBracket = refl
+symbol_at symbol.Comma = refl
+symbol_at symbol.Ampersand = refl
+symbol_at symbol.Bar = refl
+symbol_at symbol.Backslash = refl
+symbol_at symbol.Semicolon = refl
+
+word_at : (w : Word) → at words (word_place w) ≡ Some w
+unfolding words
+word_at word.And = refl
+word_at word.Assert = refl
+word_at word.Channel = refl
+word_at word.Datatype = refl
+word_at word.Diff = refl
+word_at word.Else = refl
+word_at word.False = refl
+word_at word.If = refl
+word_at word.Inter = refl
+word_at word.Nametype = refl
+word_at word.Not = refl
+word_at word.Or = refl
+word_at word.Then = refl
+word_at word.True = refl
+word_at word.Union = refl
+word_at word.Stop = refl
+word_at word.Skip = refl
+
+inside : {A : Type 0} (x y : A) → ◌≡◌ {A = Option A} (Some x) (Some y) → x ≡ y
+inside x y e = cc
+
+second_half : (b : Bool) (p q : ℕ) → (b && nat_eq p q) ≡ true → p ≡ q
+second_half b p q h = grind (arith)
+
+eq_places : (p q : ℕ) → nat_eq p q ≡ true → p ≡ q
+eq_places p q h = grind (arith)
+
+symbol_same : (s u : Symbol) → is_symbol s u ≡ true → u ≡ s
+symbol_same s u h =
+    inside u s (sym (symbol_at u) ∙ ap (at symbols) (second_half (nat_eq (symbol_binding u) (symbol_binding s)) (symbol_place u) (symbol_place s) h) ∙ symbol_at s)
+
+word_same : (w u : Word) → nat_eq (word_place u) (word_place w) ≡ true → u ≡ w
+word_same w u h = inside u w (sym (word_at u) ∙ ap (at words) (eq_places (word_place u) (word_place w) h) ∙ word_at w)
+
+when_true : {A : Type 0} {P : A → Type 0} (b : Bool) (x : A) → (b ≡ true → P x) → Holds P (if b then Some x else None)
+when_true false x f = none
+when_true true x f = some (f refl)
+
+pub skips : (s : Symbol) (ts : List Token) → Holds (λ us. ts ≡ token.Symbol s ∷ us) (skip s ts)
+skips s [] = none
+skips s (token.Symbol u ∷ ts) = when_true (is_symbol s u) ts (λ h. ap (λ v. token.Symbol v ∷ ts) (symbol_same s u h))
+skips s (token.Word _ ∷ ts) = none
+skips s (token.Name _ ∷ ts) = none
+skips s (token.Num _ ∷ ts) = none
+skips s (token.Roles _ ∷ ts) = none
+skips s (token.Resource _ ∷ ts) = none
+
+pub skips_word : (w : Word) (ts : List Token) → Holds (λ us. ts ≡ token.Word w ∷ us) (skip_word w ts)
+skips_word w [] = none
+skips_word w (token.Word u ∷ ts) = when_true (nat_eq (word_place u) (word_place w)) ts (λ h. ap (λ v. token.Word v ∷ ts) (word_same w u h))
+skips_word w (token.Symbol _ ∷ ts) = none
+skips_word w (token.Name _ ∷ ts) = none
+skips_word w (token.Num _ ∷ ts) = none
+skips_word w (token.Roles _ ∷ ts) = none
+skips_word w (token.Resource _ ∷ ts) = none
+
+pub names : (ts : List Token) → Holds (λ x. ts ≡ token.Name x.0 ∷ x.1) (named ts)
+names [] = none
+names (token.Name x ∷ ts) = some refl
+names (token.Word _ ∷ ts) = none
+names (token.Symbol _ ∷ ts) = none
+names (token.Num _ ∷ ts) = none
+names (token.Roles _ ∷ ts) = none
+names (token.Resource _ ∷ ts) = none
+
+-- how tightly an operator binds
+abbrev pub binding_of : Level → Binding
+binding_of disjunction = binding.Disjunction
+binding_of conjunction = binding.Conjunction
+binding_of negation = binding.Complement
+binding_of comparison = binding.Comparison
+binding_of sum = binding.Sum
+binding_of product = binding.Product
+binding_of minus = binding.Negative
+binding_of renaming = binding.Renaming
+
+-- what an operator between two operands is in the table
+pub data IsOperator : Token → BinOp → Binding → Type 0 where
+  left : {l : Level} {sign : Token} {op : BinOp} → IsLeftOperator l sign op → IsOperator sign op (binding_of l)
+  compared : {sign : Token} {op : BinOp} → IsComparison sign op → IsOperator sign op binding.Comparison
+
+-- what goes on with an operand
+pub data IsSign : Token → Sign → Type 0 where
+  operator : {t : Token} {op : BinOp} {m : Binding} → IsOperator t op m → IsSign t (sign.Operator op m)
+  pairs : IsSign (token.Symbol symbol.OpenRename) sign.Renaming
+
+symbol_signs : (s : Symbol) → Holds (IsSign (token.Symbol s)) (symbol_sign s)
+symbol_signs symbol.Arrow = none
+symbol_signs symbol.ExternalChoice = none
+symbol_signs symbol.InternalChoice = none
+symbol_signs symbol.Parallel = none
+symbol_signs symbol.OpenRename = some pairs
+symbol_signs symbol.CloseRename = none
+symbol_signs symbol.OpenProduct = none
+symbol_signs symbol.CloseProduct = none
+symbol_signs symbol.LeftArrow = none
+symbol_signs symbol.DotDot = none
+symbol_signs symbol.Dot = none
+symbol_signs symbol.Bang = none
+symbol_signs symbol.Question = none
+symbol_signs symbol.Colon = none
+symbol_signs symbol.At = none
+symbol_signs symbol.Defines = none
+symbol_signs symbol.Equal = some (operator (compared table.equal))
+symbol_signs symbol.NotEqual = some (operator (compared table.not-equal))
+symbol_signs symbol.Less = some (operator (compared table.less))
+symbol_signs symbol.LessEqual = some (operator (compared table.less-equal))
+symbol_signs symbol.Greater = some (operator (compared table.greater))
+symbol_signs symbol.GreaterEqual = some (operator (compared table.greater-equal))
+symbol_signs symbol.Plus = some (operator (left table.plus))
+symbol_signs symbol.Minus = some (operator (left table.minus-sign))
+symbol_signs symbol.Star = some (operator (left table.star))
+symbol_signs symbol.Slash = some (operator (left table.slash))
+symbol_signs symbol.Percent = some (operator (left table.percent))
+symbol_signs symbol.OpenParen = none
+symbol_signs symbol.CloseParen = none
+symbol_signs symbol.OpenBrace = none
+symbol_signs symbol.CloseBrace = none
+symbol_signs symbol.OpenBracket = none
+symbol_signs symbol.CloseBracket = none
+symbol_signs symbol.Comma = none
+symbol_signs symbol.Ampersand = none
+symbol_signs symbol.Bar = none
+symbol_signs symbol.Backslash = none
+symbol_signs symbol.Semicolon = none
+
+word_signs : (w : Word) → Holds (IsSign (token.Word w)) (word_sign w)
+word_signs word.And = some (operator (left table.and))
+word_signs word.Assert = none
+word_signs word.Channel = none
+word_signs word.Datatype = none
+word_signs word.Diff = none
+word_signs word.Else = none
+word_signs word.False = none
+word_signs word.If = none
+word_signs word.Inter = none
+word_signs word.Nametype = none
+word_signs word.Not = none
+word_signs word.Or = some (operator (left table.or))
+word_signs word.Then = none
+word_signs word.True = none
+word_signs word.Union = none
+word_signs word.Stop = none
+word_signs word.Skip = none
+
+pub token_signs : (t : Token) → Holds (IsSign t) (token_sign t)
+token_signs (token.Symbol s) = symbol_signs s
+token_signs (token.Word w) = word_signs w
+token_signs (token.Name _) = none
+token_signs (token.Num _) = none
+token_signs (token.Roles _) = none
+token_signs (token.Resource _) = none
+
+-- the list begins with a sign that goes on with an operand bound like this
+pub record GoesOn (level k : Binding) (ts : List Token) (p : Sign × List Token) : Type 0 where
+  pub first : Token
+  pub split : ts ≡ first ∷ p.1
+  pub is : IsSign first p.0
+  pub may : may_follow level k p.0 ≡ true
+
+pub signs : (level k : Binding) (ts : List Token) → Holds (GoesOn level k ts) (sign_behind level k ts)
+signs level k [] = none
+signs level k (t ∷ ts) = by_then _ (token_signs t) λ s is. when_true (may_follow level k s) (s, ts) (λ h. record { first = t; split = refl; is = is; may = h })
+
+pub chains : (ts : List Token) → Holds (λ c. ts ≡ choice_sign (choice c.0) ∷ c.1) (first_chain ts)
+chains ts = by_case _ _ (skips symbol.ExternalChoice ts) (λ us e. some e) (by_then _ (skips symbol.InternalChoice ts) (λ us e. some e))
+
+pub skips_chain : (c : Chain) (ts : List Token) → Holds (λ us. ts ≡ choice_sign (choice c) ∷ us) (skip (chain_symbol c) ts)
+skips_chain chain.External ts = skips symbol.ExternalChoice ts
+skips_chain chain.Internal ts = skips symbol.InternalChoice ts
+
+impossible : false ≡ true → ⊥
+impossible h = grind (arith)
+
+elim_false : {A : Type 0} → false ≡ true → A
+elim_false h = absurd (impossible h)
+
+first_half : (b c : Bool) → (b && c) ≡ true → b ≡ true
+first_half b c h = grind (arith)
+
+last_half : (b c : Bool) → (b && c) ≡ true → c ≡ true
+last_half b c h = grind (arith)
+
+pair : (x y : ℕ) (xs ys : List ℕ) → nat_eq x y ≡ true → xs ≡ ys → ◌≡◌ {A = List ℕ} (x ∷ xs) (y ∷ ys)
+pair x y xs ys h e = ap (λ z. z ∷ xs) (eq_places x y h) ∙ ap (λ zs. y ∷ zs) e
+
+pub texts : (xs ys : List ℕ) → is_text xs ys ≡ true → xs ≡ ys
+texts [] [] h = refl
+texts [] (y ∷ ys) h = elim_false h
+texts (x ∷ xs) [] h = elim_false h
+texts (x ∷ xs) (y ∷ ys) h = pair x y xs ys (first_half (nat_eq x y) (is_text xs ys) h) (texts xs ys (last_half (nat_eq x y) (is_text xs ys) h))
