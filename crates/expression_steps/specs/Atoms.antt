@@ -17,6 +17,7 @@ use Rattle.tree_reading.specs.declared.look.AtomStart.TheVariants as start
 use Rattle.tree_reading.specs.declared.read.Binding.{Binding}
 use Rattle.tree_reading.specs.declared.read.Binding.TheVariants as binding
 use Rattle.expression_steps.specs.Moved.{Moved, FoundTree}
+use Rattle.expression_steps.specs.Plain.{plain_within}
 use Rattle.expression_steps.specs.Moved.Moved.{found, inner, next}
 use Rattle.expression_steps.specs.declared.form.Form.{Form}
 use Rattle.expression_steps.specs.declared.form.Form.TheVariants as form
@@ -34,17 +35,33 @@ wait_atom w f l ts = Some (inner (frame.Atom w) f l ts)
 abbrev pub move_set_operator : Limits → SetOp → List Token → Option Moved
 move_set_operator e op ts = and_then (skip symbol.OpenParen ts) λ us. wait_atom (atom.FirstSet e op) form.Item e us
 
+-- the next argument of a call behind these arguments
+abbrev pub wait_argument : Limits → List ℕ → List Tree × List Token → Option Moved
+wait_argument e x q = wait_atom (atom.Argument e x q.0) form.Item e q.1
+
+-- the same, and behind the plain items that stand there
+abbrev pub next_argument : Limits → List ℕ → List Tree → List Token → Option Moved
+next_argument e x items ts = wait_argument e x (plain_within e.depth items ts)
+
+-- the next item of a set behind these items
+abbrev pub wait_element : Limits → List Tree × List Token → Option Moved
+wait_element e q = wait_atom (atom.Element e q.0) form.Item e q.1
+
+-- the same, and behind the plain items that stand there
+abbrev pub next_element : Limits → List Tree → List Token → Option Moved
+next_element e items ts = wait_element e (plain_within e.depth items ts)
+
 -- behind `{`
 abbrev pub move_set : Limits → List Token → Option Moved
 move_set e ts =
     case (skip symbol.CloseBrace ts)
     (λ us. Some (found (binding.Atom, tree.Display [], us)))
-    (λ _. wait_atom (atom.Element e []) form.Item e ts)
+    (λ _. next_element e [] ts)
 
 -- behind the first token of an atom, with the parenthesis of a call
 abbrev pub move_atom_rest : Limits → AtomStart → List Token → Option Moved
 move_atom_rest l (start.Leaf t) ts = and_then (inside l) λ _. Some (found (binding.Atom, t, ts))
-move_atom_rest l (start.Call x) ts = and_then (opened l) λ e. wait_atom (atom.Argument e x []) form.Item e ts
+move_atom_rest l (start.Call x) ts = and_then (opened l) λ e. next_argument e x [] ts
 move_atom_rest l (start.SetOperator op) ts = and_then (opened l) λ e. move_set_operator e op ts
 move_atom_rest l start.Parentheses ts = and_then (bracketed l) λ m. wait_atom atom.Parentheses form.Tree m ts
 move_atom_rest l start.Set ts = and_then (opened l) λ e. move_set e ts
@@ -61,7 +78,7 @@ end_atom s t ts = and_then (skip s ts) λ us. Some (found (binding.Atom, t, us))
 abbrev pub move_arguments : Limits → List ℕ → List Tree → List Token → Option Moved
 move_arguments e x items ts =
     case (skip symbol.Comma ts)
-    (λ us. wait_atom (atom.Argument e x items) form.Item e us)
+    (λ us. next_argument e x items us)
     (λ _. end_atom symbol.CloseParen (tree.Call x items) ts)
 
 -- behind the lower bound of a range and `..`; the item is bound as k says
@@ -78,7 +95,7 @@ move_last_element e k items ts =
 
 -- behind these items of a set, the last of which is bound as k says
 abbrev pub move_elements : Limits → Binding → List Tree → List Token → Option Moved
-move_elements e k items ts = case (skip symbol.Comma ts) (λ us. wait_atom (atom.Element e items) form.Item e us) (λ _. move_last_element e k items ts)
+move_elements e k items ts = case (skip symbol.Comma ts) (λ us. next_element e items us) (λ _. move_last_element e k items ts)
 
 -- behind the first operand of an operator on sets
 abbrev pub resume_first_set : Limits → SetOp → Tree → List Token → Option Moved

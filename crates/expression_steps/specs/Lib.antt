@@ -3,3 +3,4 @@ pub mod Expressions
 pub mod Lists
 pub mod Moved
 pub mod Nesting
+pub mod Plain

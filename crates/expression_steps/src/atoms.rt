@@ -7,12 +7,13 @@ ghost use Rattle.tree_reading.specs.declared.look.AtomStart.TheVariants as start
 ghost use Rattle.tree_reading.specs.Bindings.{last_item};
 ghost use Rattle.tree_reading.specs.Gives.{Gives};
 ghost use Rattle.expression_steps.specs.declared.frame.Frame.TheVariants as frames;
-ghost use Rattle.expression_steps.specs.Atoms.{end_atom, move_arguments, move_atom, move_atom_rest, move_elements, move_last_element, move_range, move_set, resume_atom, resume_first_set};
+ghost use Rattle.expression_steps.specs.Atoms.{end_atom, move_arguments, move_atom, move_atom_rest, move_elements, move_last_element, move_range, move_set, next_argument, next_element, resume_atom, resume_first_set};
 ghost use Rattle.expression_steps.specs.Moved.{moved, weight};
 ghost use Rattle.expression_steps.specs.Moved.Moved.{inner};
 
 use crate::form::{Form, GeneratorsOf, PartOf};
 use crate::frame::{AtomFrame, Frame};
+use crate::plain::push_plain_items;
 use crate::step::{Step, found, inner, next};
 use containers::{Boxed, Items};
 use csp_base::{Name, SetOp};
@@ -46,6 +47,23 @@ fn leaf<'t>(
     Ok(found(Binding::Atom, part, tokens))
 }
 
+// The next argument of a call behind these arguments, and behind the plain items that stand there.
+fn next_argument<'t>(
+    alloc: Global,
+    limits: Limits,
+    name: Name,
+    before: Items<Tree>,
+    tokens: &'t [Token],
+) -> Result<Step<'t>, ReadFault>
+    ensures moves { Gives result moved (next_argument limits name before tokens.now) }
+    ensures falls { IfOk result (λ s. weight (moved s) < 32 * length tokens.now + 33) }
+{
+    let mut arguments = before;
+    let rest = push_plain_items(alloc, limits, &mut arguments, tokens)?;
+    let frame = AtomFrame::Argument(limits, name, arguments);
+    Ok(wait(frame, Form::Item, limits, rest))
+}
+
 // What stands behind the name of a call and its parenthesis.
 fn call_behind<'t>(
     alloc: Global,
@@ -57,8 +75,7 @@ fn call_behind<'t>(
     ensures falls { IfOk result (λ s. weight (moved s) < 32 * length tokens.now + 33) }
 {
     let inside = limits.opened(tokens)?;
-    let frame = AtomFrame::Argument(inside, name, Items::new(alloc));
-    Ok(wait(frame, Form::Item, inside, tokens))
+    next_argument(alloc, inside, name, Items::new(alloc), tokens)
 }
 
 // What stands behind the word of an operator on sets.
@@ -91,6 +108,22 @@ fn product<'t>(alloc: Global, limits: Limits, tokens: &'t [Token]) -> Result<Ste
     Ok(next(form, inside, tokens))
 }
 
+// The next item of a set behind these items, and behind the plain items that stand there.
+fn next_element<'t>(
+    alloc: Global,
+    limits: Limits,
+    before: Items<Tree>,
+    tokens: &'t [Token],
+) -> Result<Step<'t>, ReadFault>
+    ensures moves { Gives result moved (next_element limits before tokens.now) }
+    ensures falls { IfOk result (λ s. weight (moved s) < 32 * length tokens.now + 33) }
+{
+    let mut items = before;
+    let rest = push_plain_items(alloc, limits, &mut items, tokens)?;
+    let frame = AtomFrame::Element(limits, items);
+    Ok(wait(frame, Form::Item, limits, rest))
+}
+
 // What stands behind `{`, within the bracket.
 fn set_behind<'t>(alloc: Global, limits: Limits, tokens: &'t [Token]) -> Result<Step<'t>, ReadFault>
     ensures moves { Gives result moved (move_set limits tokens.now) }
@@ -102,12 +135,7 @@ fn set_behind<'t>(alloc: Global, limits: Limits, tokens: &'t [Token]) -> Result<
             let part = display(alloc, items)?;
             Ok(found(Binding::Atom, part, rest))
         }
-        None => Ok(wait(
-            AtomFrame::Element(limits, items),
-            Form::Item,
-            limits,
-            tokens,
-        )),
+        None => next_element(alloc, limits, items, tokens),
     }
 }
 
@@ -177,8 +205,7 @@ fn behind_arguments<'t>(
         let part = call(alloc, name, arguments)?;
         return closed(Symbol::CloseParen, part, tokens);
     };
-    let frame = AtomFrame::Argument(limits, name, arguments);
-    Ok(wait(frame, Form::Item, limits, behind))
+    next_argument(alloc, limits, name, arguments, behind)
 }
 
 // What stands behind the lower bound of a range, which is bound like this, and `..`.
@@ -247,10 +274,7 @@ fn behind_elements<'t>(
     ensures falls { IfOk result (λ s. weight (moved s) < 32 * length tokens.now + 34) }
 {
     match skip(tokens, Symbol::Comma) {
-        Some(behind) => {
-            let frame = AtomFrame::Element(limits, items);
-            Ok(wait(frame, Form::Item, limits, behind))
-        }
+        Some(behind) => next_element(alloc, limits, items, behind),
         None => behind_last_element(alloc, limits, binding, items, tokens),
     }
 }

@@ -14,7 +14,7 @@ use crate::frame::{ExpressionFrame, Frame};
 use crate::nesting::bracket_limits;
 use crate::step::{Step, found, inner, next};
 use containers::{Boxed, Items};
-use csp_base::BinOp;
+use csp_base::{BinOp, NoMemory};
 use csp_text::{Symbol, Token, Tree, Word};
 use std::alloc::Global;
 use tree_reading::fault::ReadFault;
@@ -109,7 +109,7 @@ fn renaming_begun<'t>(
     ensures falls { IfOk result (λ s. weight (moved s) < 32 * length tokens.now + 34) }
 {
     let pairs = bracket_limits(limits, left.get(), tokens)?;
-    let renaming = renaming_of(alloc, limits, level, left);
+    let renaming = renaming_of(alloc, limits, level, left)?;
     Ok(next(Form::Part(PartOf::Old(renaming)), pairs, tokens))
 }
 
@@ -132,15 +132,22 @@ fn sign_passed<'t>(
 }
 
 // A renaming of which no pair is read yet.
-fn renaming_of(alloc: Global, limits: Limits, level: Binding, left: Boxed<Tree>) -> Renaming
-    ensures { result ≡ renaming_of limits level left }
+fn renaming_of(
+    alloc: Global,
+    limits: Limits,
+    level: Binding,
+    left: Boxed<Tree>,
+) -> Result<Boxed<Renaming>, NoMemory>
+    ensures { IfOk result (λ r. r ≡ renaming_of limits level left) }
 {
-    Renaming {
+    let renaming = Renaming {
         limits,
         level,
         left,
         pairs: Items::new(alloc),
-    }
+    };
+    let boxed = Boxed::new(alloc, renaming)?;
+    Ok(boxed)
 }
 
 // What stands behind an operand that is bound like this.

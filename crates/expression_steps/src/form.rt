@@ -44,6 +44,8 @@ pub enum Form {
 }
 
 /// What a name with fields belongs to.
+///
+/// A renaming and the left side of a pair, which are rare, are on the heap, so that a form is small.
 #[derive(Drop)]
 pub enum PartOf {
     /// It is a dotted event.
@@ -51,9 +53,9 @@ pub enum PartOf {
     /// A production, with the parts before it.
     Product(Items<PartTree>),
     /// The left side of a pair.
-    Old(Renaming),
+    Old(Boxed<Renaming>),
     /// The right side of a pair, whose left side is given.
-    New(Renaming, PartTree),
+    New(Boxed<Renaming>, Boxed<PartTree>),
 }
 
 /// A renaming, as far as it is read.
@@ -77,5 +79,5 @@ pub enum GeneratorsOf {
     /// A production of these parts.
     Product(Items<PartTree>),
     /// A renaming with all its pairs.
-    Renaming(Renaming),
+    Renaming(Boxed<Renaming>),
 }

@@ -7,4 +7,5 @@ pub mod form;
 pub mod frame;
 pub mod lists;
 pub mod nesting;
+mod plain;
 pub mod step;

@@ -32,7 +32,7 @@ fn wait<'t>(frame: ListFrame, form: Form, limits: Limits, tokens: &'t [Token]) -
 // A renaming with all its generators, whose bracket is passed, and the operators behind it.
 fn renaming_ended<'t>(
     alloc: Global,
-    renaming: Renaming,
+    renaming: Boxed<Renaming>,
     generators: Items<GenTree>,
     tokens: &'t [Token],
 ) -> Result<Step<'t>, ReadFault>
@@ -44,7 +44,7 @@ fn renaming_ended<'t>(
         level,
         left,
         pairs,
-    } = renaming;
+    } = renaming.into_inner();
     let whole = renamed(alloc, left, pairs, generators)?;
     operators(alloc, limits, level, Binding::Renaming, whole, tokens)
 }
@@ -80,7 +80,7 @@ fn product_ended<'t>(
 // A renaming with all its generators.
 fn renaming_closed<'t>(
     alloc: Global,
-    renaming: Renaming,
+    renaming: Boxed<Renaming>,
     generators: Items<GenTree>,
     tokens: &'t [Token],
 ) -> Result<Step<'t>, ReadFault>
@@ -211,12 +211,18 @@ fn behind_generator<'t>(
 }
 
 // The renaming with one more pair.
-fn with_pair(renaming: Renaming, old: PartTree, new: PartTree) -> Result<Renaming, NoMemory>
+fn with_pair(
+    alloc: Global,
+    renaming: Boxed<Renaming>,
+    old: Boxed<PartTree>,
+    new: PartTree,
+) -> Result<Boxed<Renaming>, NoMemory>
     ensures { IfOk result (λ r. r ≡ with_pair renaming old new) }
 {
-    let mut renaming = renaming;
-    renaming.pairs.push((old, new))?;
-    Ok(renaming)
+    let mut renaming = renaming.into_inner();
+    renaming.pairs.push((old.into_inner(), new))?;
+    let longer = Boxed::new(alloc, renaming)?;
+    Ok(longer)
 }
 
 // What stands behind these parts of a production.
@@ -255,7 +261,7 @@ fn behind_product<'t>(
 fn behind_pairs<'t>(
     alloc: Global,
     limits: Limits,
-    renaming: Renaming,
+    renaming: Boxed<Renaming>,
     tokens: &'t [Token],
 ) -> Result<Step<'t>, ReadFault>
     ensures moves { Gives result moved (end_pairs limits renaming tokens.now) }
@@ -271,15 +277,15 @@ fn behind_pairs<'t>(
 fn behind_pair<'t>(
     alloc: Global,
     limits: Limits,
-    renaming: Renaming,
-    old: PartTree,
+    renaming: Boxed<Renaming>,
+    old: Boxed<PartTree>,
     new: PartTree,
     tokens: &'t [Token],
 ) -> Result<Step<'t>, ReadFault>
     ensures moves { Gives result moved (end_pair limits renaming old new tokens.now) }
     ensures falls { IfOk result (λ s. weight (moved s) < 32 * length tokens.now + 33) }
 {
-    let renaming = with_pair(renaming, old, new)?;
+    let renaming = with_pair(alloc, renaming, old, new)?;
     behind_pairs(alloc, limits, renaming, tokens)
 }
 
@@ -299,22 +305,18 @@ fn item_ended<'t>(
 
 // What stands behind the left side of a pair.
 fn behind_old<'t>(
+    alloc: Global,
     limits: Limits,
-    renaming: Renaming,
+    renaming: Boxed<Renaming>,
     old: PartTree,
     tokens: &'t [Token],
 ) -> Result<Step<'t>, ReadFault>
     ensures moves { Gives result moved (end_old limits renaming old tokens.now) }
     ensures falls { IfOk result (λ s. weight (moved s) < 32 * length tokens.now + 33) }
 {
-    match expect(tokens, Symbol::LeftArrow) {
-        Ok(behind) => Ok(next(Form::Part(PartOf::New(renaming, old)), limits, behind)),
-        Err(fault) => {
-            drop(renaming);
-            drop(old);
-            Err(fault)
-        }
-    }
+    let behind = expect(tokens, Symbol::LeftArrow)?;
+    let old = Boxed::new(alloc, old)?;
+    Ok(next(Form::Part(PartOf::New(renaming, old)), limits, behind))
 }
 
 // What a part belongs to, with it.
@@ -334,7 +336,9 @@ fn part_ended<'t>(
         PartOf::Product(parts) => {
             behind_product(alloc, limits, parts, PartTree { name, fields }, tokens)
         }
-        PartOf::Old(renaming) => behind_old(limits, renaming, PartTree { name, fields }, tokens),
+        PartOf::Old(renaming) => {
+            behind_old(alloc, limits, renaming, PartTree { name, fields }, tokens)
+        }
         PartOf::New(renaming, old) => {
             behind_pair(
                 alloc,

@@ -35,6 +35,7 @@ use Rattle.expression_steps.specs.Atoms.{move_arguments, move_atom_rest, move_el
 use Rattle.expression_steps.specs.Expressions.{move_expression, resume_expression}
 use Rattle.tree_steps.specs.Machine.{begin, begin_item, begin_opened, resume}
 use Rattle.tree_parser.proofs.ListSteps.{generators_step, list_resumed, one_longer, operators_step, part_step, product_read}
+use Rattle.tree_parser.proofs.PlainSteps.{arguments_more, arguments_read, elements_more, elements_read}
 use Rattle.tree_parser.proofs.ProcessSteps.{choice_resumed, event_resumed, fields_step, parallel_resumed, process_resumed, replicated_resumed, replicated_step}
 use Rattle.tree_parser.specs.Meaning.{AtomGives, CallEnd, ExpressionGives, FormGives, FrameGives, SetEnd, bound, items_after}
 
@@ -53,33 +54,23 @@ expression_resumed K s (expression.Right l level op k t) p h = operators_step K 
 atom_rest_step : (K : FoundTree → Outcome → Type 0) (s : Outcome) (l : Limits) (a : AtomStart) (ts : List Token) → StepGives (move_atom_rest l a ts) K s →
     Then (λ L. read_atom_rest L l a ts) (bound binding.Atom K) s
 atom_rest_step K s l (start.Leaf t) ts h = by_look K (inside l) _ _ h (λ _ h. done h)
-atom_rest_step K s l (start.Call x) ts h = by_opened K (bracketed l) _ _ h (λ e h. assoc {F = λ L. L.items e ts} _ (later (assoc _ h)))
+atom_rest_step K s l (start.Call x) ts h = by_opened K (bracketed l) _ _ h (λ e h. assoc {F = λ L. L.items e ts} _ (later (assoc _ (arguments_read K s e x [] ts h))))
 atom_rest_step K s l (start.SetOperator op) ts h = by_opened K (bracketed l) _ _ h (λ e h. by_look K (skip symbol.OpenParen ts) _ _ h (λ us h. assoc _ h))
 atom_rest_step K s l start.Parentheses ts h = by_look K (bracketed l) _ _ h (λ m h. assoc _ h)
 atom_rest_step K s l start.Set ts h =
-    by_opened K (bracketed l) _ _ h (λ e h. by_case K (skip symbol.CloseBrace ts) _ _ _ _ h (λ us h. done h) (λ h. assoc {F = λ L. L.items e ts} _ (later (assoc _ h))))
+    by_opened K (bracketed l) _ _ h (λ e h. by_case K (skip symbol.CloseBrace ts) _ _ _ _ h (λ us h. done h) (λ h. assoc {F = λ L. L.items e ts} _ (later (assoc _ (elements_read K s e [] ts h)))))
 atom_rest_step K s l start.Product ts h = by_opened K (bracketed l) _ _ h (λ e h. product_read K s e ts h)
 
 arguments_step : (K : FoundTree → Outcome → Type 0) (s : Outcome) (e : Limits) (x : List ℕ) (before : List Tree) (p : FoundTree) →
     StepGives (move_arguments e x (before ++ p.1 ∷ []) p.2) K s → Then (λ L. items_after L e p) (λ q s. CallEnd x (before ++ q.1) q.2 K s) s
 arguments_step K s e x before p h =
-    by_case K (skip symbol.Comma p.2) _ _ _ _ h (λ us h. put _ (change (λ q k. one_longer (λ xs. CallEnd x xs q.2 K s) before p.1 q.1 k) (later (assoc _ h))))
+    by_case K (skip symbol.Comma p.2) _ _ _ _ h (λ us h. arguments_more K s e x before p.1 us (arguments_read K s e x (before ++ p.1 ∷ []) us h))
     (λ h. done (by_look K (skip symbol.CloseParen p.2) _ _ h (λ us h. done h)))
-
--- all items but the last need nothing of it
-last_of_more : (before : List Tree) (t : Tree) (k : Binding) → last_item (before ++ t ∷ []) k ≡ last_item before binding.Dotted
-last_of_more [] t k = refl
-last_of_more (a ∷ before) t k = refl
-
-more_items : (K : FoundTree → Outcome → Type 0) (s : Outcome) (e : Limits) (before : List Tree) (t : Tree) (q : Binding × List Tree × List Token) →
-    SetEnd e (last_item (before ++ t ∷ []) q.0) ((before ++ t ∷ []) ++ q.1) q.2 K s → SetEnd e (last_item before binding.Dotted) (before ++ t ∷ q.1) q.2 K s
-more_items K s e before t q h =
-    one_longer (λ xs. SetEnd e (last_item before binding.Dotted) xs q.2 K s) before t q.1 (subst (λ k. SetEnd e k ((before ++ t ∷ []) ++ q.1) q.2 K s) (last_of_more before t q.0) h)
 
 elements_step : (K : FoundTree → Outcome → Type 0) (s : Outcome) (e : Limits) (before : List Tree) (p : FoundTree) →
     StepGives (move_elements e (last_item before p.0) (before ++ p.1 ∷ []) p.2) K s → Then (λ L. items_after L e p) (λ q s. SetEnd e (last_item before q.0) (before ++ q.1) q.2 K s) s
 elements_step K s e before p h =
-    by_case K (skip symbol.Comma p.2) _ _ _ _ h (λ us h. put _ (change (λ q k. more_items K s e before p.1 q k) (later (assoc _ h)))) (λ h. done (
+    by_case K (skip symbol.Comma p.2) _ _ _ _ h (λ us h. elements_more K s e before p.1 us (elements_read K s e (before ++ p.1 ∷ []) us h)) (λ h. done (
     by_case K (skip symbol.DotDot p.2) _ _ _ _ h
     (λ us h. by_look K (sure (at_least binding.Sum (last_item before p.0))) _ _ h (λ _ h. by_look K (only (before ++ p.1 ∷ [])) _ _ h (λ a h. assoc _ h))) (λ h.
     by_case K (skip symbol.Bar p.2) _ _ _ _ h (λ us h. assoc _ h) (λ h. by_look K (skip symbol.CloseBrace p.2) _ _ h (λ us h. done h)))))

@@ -1,0 +1,84 @@
+//! Items of a set and arguments of a call that are a number or a name in front of a comma.
+
+ghost use Rattle.std.specs.Prelude.{◌≡◌, ◌≤◌, ◌<◌, length, IfOk, MatchOption};
+ghost use Rattle.expression_steps.specs.Plain.{Pushed, plain_items, plain_within};
+
+use containers::Items;
+use csp_base::NoMemory;
+use csp_text::{Symbol, Token, Tree};
+use std::alloc::Global;
+use tree_reading::limits::Limits;
+use tree_reading::look::skip;
+
+// Puts the tree that the token is by itself behind these items, where it is a number or a name, and tells whether it is.
+fn push_token(alloc: Global, items: &mut Items<Tree>, token: &Token) -> Result<bool, NoMemory>
+    ensures { IfOk result (λ is_plain. Pushed items.old token.now is_plain items.new) }
+{
+    match token {
+        Token::Num(number) => {
+            items.push(Tree::Num(*number))?;
+            Ok(true)
+        }
+        Token::Name(name) => {
+            let name = name.try_clone(alloc)?;
+            items.push(Tree::Name(name))?;
+            Ok(true)
+        }
+        _ => Ok(false),
+    }
+}
+
+// Puts the plain item at the front behind these items, and gives what stands behind its comma; or nothing where none is there.
+#[tactic(auto, using(crate::proofs::PlainLemmas::no_comma, crate::proofs::PlainLemmas::not_pushed, crate::proofs::PlainLemmas::one_more))]
+fn push_plain<'t>(
+    alloc: Global,
+    items: &mut Items<Tree>,
+    tokens: &'t [Token],
+) -> Result<Option<&'t [Token]>, NoMemory>
+    ensures same { IfOk result (λ r. MatchOption r (plain_items items.old tokens.now ≡ (items.new, tokens.now)) (λ rest. plain_items items.old tokens.now ≡ plain_items items.new rest.now)) }
+    ensures shorter { IfOk result (λ r. MatchOption r Unit (λ rest. length rest.now < length tokens.now)) }
+{
+    let Some((first, behind)) = tokens.split_first() else {
+        return Ok(None);
+    };
+    let Some(rest) = skip(behind, Symbol::Comma) else {
+        return Ok(None);
+    };
+    if push_token(alloc, items, first)? {
+        Ok(Some(rest))
+    } else {
+        Ok(None)
+    }
+}
+
+// Puts the plain items at the front behind these items, and gives what is left of the tokens.
+fn push_all_plain<'t>(
+    alloc: Global,
+    items: &mut Items<Tree>,
+    tokens: &'t [Token],
+) -> Result<&'t [Token], NoMemory>
+    ensures same { IfOk result (λ rest. plain_items items.old tokens.now ≡ (items.new, rest.now)) }
+    ensures no_longer { IfOk result (λ rest. length rest.now ≤ length tokens.now) }
+{
+    let mut rest = tokens;
+    while let Some(behind) = push_plain(alloc, items, rest)? {
+        rest = behind;
+    }
+    Ok(rest)
+}
+
+// The same where a tree may be deep enough for an item.
+pub(crate) fn push_plain_items<'t>(
+    alloc: Global,
+    limits: Limits,
+    items: &mut Items<Tree>,
+    tokens: &'t [Token],
+) -> Result<&'t [Token], NoMemory>
+    ensures same { IfOk result (λ rest. plain_within limits.depth items.old tokens.now ≡ (items.new, rest.now)) }
+    ensures no_longer { IfOk result (λ rest. length rest.now ≤ length tokens.now) }
+{
+    if limits.depth == 0 {
+        return Ok(tokens);
+    }
+    push_all_plain(alloc, items, tokens)
+}
