@@ -1,5 +1,5 @@
 -- Depths within a limit.
-use Rattle.std.proofs.Common.{◌≡◌, ℕ, zero, suc, ◌+◌, ◌≤◌, max, true, nat_le, Option, Some, refl, sym, ap, ◌∙◌, arith}
+use Rattle.std.proofs.Common.{◌≡◌, ℕ, zero, suc, ◌+◌, ◌≤◌, max, true, nat_le, Option, Some, ap, ◌∙◌, arith}
 use Rattle.csp_text.specs.Depth.{tree_depth}
 use Rattle.csp_text.specs.declared.tree.Tree.{Tree}
 use Rattle.csp_grammar.specs.Reader.{and_then}
@@ -22,10 +22,6 @@ right a b {d} h = grind (arith)
 -- a node is deeper by one than its parts
 pub node : {x a d e : ℕ} → x ≡ 1 + a → d ≡ suc e → a ≤ e → x ≤ d
 node {x} {a} {d} {e} is deep h = omega arith
-
--- so what is in it is less deep
-pub part : {x a d : ℕ} → x ≡ 1 + a → x ≤ d → a ≤ d
-part {x} {a} {d} is h = omega arith
 
 -- THE PARTS OF A NODE, AS THEY ARE READ
 

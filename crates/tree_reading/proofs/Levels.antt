@@ -1,5 +1,5 @@
 -- The levels of expressions as numbers, and how an expression is read whatever level the reading began at.
-use Rattle.std.proofs.Common.{◌≡◌, ℕ, suc, ◌+◌, ◌≤◌, max, Bool, true, false, ◌&&◌, nat_lt, nat_le, if◌then◌else◌, Option, Some, None, List, [], ◌∷◌, map, refl, sym, ap, subst, arith}
+use Rattle.std.proofs.Common.{◌≡◌, ℕ, suc, ◌≤◌, max, Bool, true, false, ◌&&◌, nat_lt, nat_le, if◌then◌else◌, Option, Some, None, List, [], ◌∷◌, map, refl, ap, arith}
 use Rattle.csp_text.specs.Depth.{gen_depth, greatest, greatest_of_pairs, part_depth, tree_depth}
 use Rattle.csp_text.specs.declared.token.Token.{Token}
 use Rattle.csp_text.specs.declared.token.Token.TheVariants as token
@@ -18,7 +18,7 @@ use Rattle.csp_grammar.specs.Tokens.{begins, binding}
 use Rattle.tree_reading.specs.Bindings.{left_operand, number, tighter}
 use Rattle.tree_reading.specs.Limited.{read_conditions}
 use Rattle.tree_reading.specs.Nesting.{limits}
-use Rattle.tree_reading.specs.Starts.{may_follow, sign_behind, sign_binding, token_sign}
+use Rattle.tree_reading.specs.Starts.{may_follow, sign_behind, sign_binding}
 use Rattle.tree_reading.specs.declared.look.Sign.{Sign}
 use Rattle.tree_reading.specs.declared.look.Sign.TheVariants as sign
 use Rattle.tree_reading.specs.declared.read.Binding.{Binding}

@@ -4,7 +4,6 @@ use Rattle.csp_text.specs.Depth.{field_depth, gen_depth, greatest, part_depth, t
 use Rattle.csp_text.specs.declared.token.Token.{Token}
 use Rattle.csp_text.specs.declared.token.Symbol.{Symbol}
 use Rattle.csp_text.specs.declared.tree.Tree.{Tree}
-use Rattle.csp_text.specs.declared.tree.FieldTree.{FieldTree}
 use Rattle.csp_grammar.specs.Declarations.{NamesText, TypesText, DeclarationsText}
 use Rattle.csp_grammar.specs.Grammar.{Choice, choice_sign, TreeText, SideText, ClosedSideText, HidingText, ClosedChoiceText, OpenChoiceText, ClosedSequenceText, OpenSequenceText, ClosedPrefixText, OpenPrefixText, FieldsText, DottedText, DotsText, ExpressionText, PairsText, PartsText, GensText, ItemText, ItemsText, AtomText}
 use Rattle.csp_grammar.specs.Grammar as g

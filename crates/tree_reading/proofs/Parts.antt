@@ -5,7 +5,6 @@ use Rattle.csp_text.specs.declared.token.Token.{Token}
 use Rattle.csp_text.specs.declared.token.Token.TheVariants as token
 use Rattle.csp_text.specs.declared.token.Symbol.TheVariants as symbol
 use Rattle.csp_text.specs.declared.tree.Tree.{Tree}
-use Rattle.csp_text.specs.declared.tree.Tree.TheVariants as tree
 use Rattle.csp_text.specs.declared.tree.FieldTree.{FieldTree}
 use Rattle.csp_text.specs.declared.tree.FieldTree.TheVariants as field
 use Rattle.csp_text.specs.declared.tree.GenTree.{GenTree}
@@ -15,7 +14,7 @@ use Rattle.csp_grammar.specs.Grammar.Choice.{external, internal}
 use Rattle.csp_grammar.specs.Precedence.{Level}
 use Rattle.csp_grammar.specs.Reader.{and_then, begins_event, case, with_first}
 use Rattle.csp_grammar.specs.Tokens.{begins, skip}
-use Rattle.tree_reading.specs.Bindings.{Found, at_least, number, of_process}
+use Rattle.tree_reading.specs.Bindings.{Found, number, of_process}
 use Rattle.tree_reading.specs.Limited.{Limited, read_side, read_guard}
 use Rattle.tree_reading.specs.Nesting.{limits}
 use Rattle.tree_reading.specs.Starts.{chain_symbol, dot_fields, first_chain, prefix_start}

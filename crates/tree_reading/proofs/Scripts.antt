@@ -42,9 +42,9 @@ parameters_read : {ts : List Token} {xs : List (List ℕ)} {r : List Token} → 
 parameters_read d.none e = not_there _ _ e now
 parameters_read (d.some names) e = bind _ (names_read names refl) now
 
-asserted_read : {ts : List Token} {t : Tree} {r : List Token} → AssertedText ts t r → tree_depth t ≤ 200 → Stops 1 r → Gives (λ L. read_asserted L ts) (t, r)
-asserted_read {r = r} d.name h s = atom_read g.atom-name 200 h (more 1 20 r refl s)
-asserted_read {r = r} (d.call items) h s = atom_read (g.atom-call items) 200 h (more 1 20 r refl s)
+asserted_read : {ts : List Token} {t : Tree} {r : List Token} → AssertedText ts t r → tree_depth t ≤ 200 → Stops 20 r → Gives (λ L. read_asserted L ts) (t, r)
+asserted_read d.name h s = atom_read g.atom-name 200 h s
+asserted_read (d.call items) h s = atom_read (g.atom-call items) 200 h s
 
 model_read : {ts r : List Token} → ModelText ts r → skip symbol.OpenBracket r ≡ None → model ts ≡ Some r
 model_read {ts = ts} d.none e = ap (λ o. case o (λ us. and_then (name_that is_model us) λ vs. skip symbol.CloseBracket vs) (λ _. Some ts)) e
@@ -62,7 +62,7 @@ declaration_read (d.channel-of names types) e = bind _ (names_read names refl) (
 declaration_read (d.datatype names) e = bind _ (names_read names (e.no_symbol symbol.Bar)) now
 declaration_read {r = r} (d.nametype a h) e = bind _ (atom_read a 200 h (more 1 20 r refl e.stops)) now
 declaration_read {r = r} (d.define parameters p h) e = bind _ (parameters_read parameters refl) (bind _ (tree_read p 200 h (more 1 6 r refl e.stops)) now)
-declaration_read (d.assertion asserted h model) e = bind _ (asserted_read asserted h refl) (look _ (ending_read model) now)
+declaration_read (d.assertion asserted h m) e = bind _ (asserted_read asserted h refl) (look _ (ending_read m) now)
 declaration_read d.roles e = now
 declaration_read d.resource e = now
 

@@ -1,5 +1,5 @@
 -- What is read of expressions and sets, the grammar has.
-use Rattle.std.proofs.Common.{◌≡◌, ℕ, suc, ◌+◌, ◌≤◌, max, Bool, true, false, ◌&&◌, nat_le, Option, Some, None, List, [], ◌∷◌, map, refl, sym, ap, subst, ◌∙◌, arith}
+use Rattle.std.proofs.Common.{◌≡◌, ℕ, suc, ◌≤◌, max, Bool, true, ◌&&◌, nat_le, Option, Some, None, List, [], ◌∷◌, map, refl, sym, ap, subst, ◌∙◌, arith}
 use Rattle.csp_text.specs.Depth.{field_depth, gen_depth, greatest, part_depth, tree_depth}
 use Rattle.csp_text.specs.declared.token.Token.{Token}
 use Rattle.csp_text.specs.declared.token.Token.TheVariants.{Name, Num, Word, Symbol}
@@ -24,13 +24,12 @@ use Rattle.csp_grammar.specs.Precedence as table
 use Rattle.csp_grammar.specs.Precedence.Level.{disjunction, conjunction, negation, comparison, sum, product, minus, renaming}
 use Rattle.csp_grammar.specs.Reader.{and_then, begins_event, case, dotted_tree, only}
 use Rattle.tree_reading.specs.Bindings.{at_least, left_operand, number, tighter}
-use Rattle.tree_reading.specs.Limited.{Limited, read_dotted, read_item, read_items, read_dots, read_part, read_parts, read_pair, read_pairs, read_source, read_condition, read_gen, read_gens, read_conditions, read_call, read_set_operator, read_range, read_comprehension, read_filled, read_set, read_product, read_parentheses, read_atom_rest, read_atom, read_complement, read_negative, read_expression, read_renaming, read_with, read_operators, read_input, read_field, read_fields}
+use Rattle.tree_reading.specs.Limited.{Limited, read_dotted, read_item, read_items, read_dots, read_part, read_parts, read_pair, read_pairs, read_condition, read_gen, read_gens, read_conditions, read_call, read_set_operator, read_range, read_comprehension, read_filled, read_set, read_product, read_parentheses, read_atom_rest, read_atom, read_complement, read_negative, read_expression, read_renaming, read_with, read_operators, read_input, read_field, read_fields}
 use Rattle.tree_reading.specs.Nesting.{limits}
 use Rattle.tree_reading.specs.Starts.{atom_start, other_start, sign_binding, symbol_start, word_start}
 use Rattle.tree_reading.specs.declared.look.AtomStart.{AtomStart}
 use Rattle.tree_reading.specs.declared.look.AtomStart.TheVariants as start
 use Rattle.tree_reading.specs.declared.look.Sign.{Sign}
-use Rattle.tree_reading.specs.declared.look.Sign.TheVariants as sign
 use Rattle.tree_reading.specs.declared.read.Binding.{Binding}
 use Rattle.tree_reading.specs.declared.read.Binding.TheVariants as bound
 use Rattle.tree_reading.proofs.Fitting.{both, node}
@@ -208,8 +207,11 @@ module _ (L : Limited) (S : Sound L) where
       by_then _ (look.skips symbol.OpenParen ts) λ us o.
       by_then _ (item m e us) λ p i. by_then _ (look.skips symbol.Comma p.2) λ vs f.
       by_then _ (item m e vs) λ q j. by_then _ (look.skips symbol.CloseParen q.2) λ ws h.
-      some (subst (λ z. AtomText (suc m) (set_op_word op ∷ z) (tree.SetOp op p.1 q.1) ws) (sym o)
-      (g.atom-set-operator (subst (λ z. ItemText m us p.1 z) f i.item) (subst (λ z. ItemText m vs q.1 z) h j.item)), node (depths.depth-SetOp op p.1 q.1) deep (both i.fits j.fits))
+      some (
+        subst (λ z. AtomText (suc m) (set_op_word op ∷ z) (tree.SetOp op p.1 q.1) ws) (sym o)
+            (g.atom-set-operator (subst (λ z. ItemText m us p.1 z) f i.item) (subst (λ z. ItemText m vs q.1 z) h j.item)),
+        node (depths.depth-SetOp op p.1 q.1) deep (both i.fits j.fits),
+      )
 
   first_fits : (a e : ℕ) → max a 0 ≤ e → a ≤ e
   first_fits a e h = grind (arith)
@@ -221,8 +223,10 @@ module _ (L : Limited) (S : Sound L) where
       Holds (λ q. AtomText (suc m) (Symbol symbol.OpenBrace ∷ ts) q.0 q.1 × (tree_depth q.0 ≤ d)) (read_range L (limits m e) p.0 p.1 us)
   range m d e ts p us deep i is =
       by_sure (at_least bound.Sum p.0) _ λ h. by_then _ (only_one p.1) λ a one. by_then _ (S.expression m e bound.Sum us (omega arith)) λ q b. by_then _ (look.skips symbol.CloseBrace q.2) λ vs f.
-      some (g.atom-range (subst (λ z. ExpressionText m sum ts a z) is (i.single a one sum (is_le 15 (number p.0) h))) (subst (λ z. ExpressionText m sum us q.1 z) f (b.is sum b.above)),
-      node (depths.depth-Range a q.1) deep (both (one_fits p.1 a e one i.fit) b.fits))
+      some (
+        g.atom-range (subst (λ z. ExpressionText m sum ts a z) is (i.single a one sum (is_le 15 (number p.0) h))) (subst (λ z. ExpressionText m sum us q.1 z) f (b.is sum b.above)),
+        node (depths.depth-Range a q.1) deep (both (one_fits p.1 a e one i.fit) b.fits),
+      )
 
   comprehension : (m d e : ℕ) (ts : List Token) (items : List Tree) (us : List Token) → d ≡ suc e → ItemsText m ts items (Symbol symbol.Bar ∷ us) → greatest (map tree_depth items) ≤ e →
       Holds (λ q. AtomText (suc m) (Symbol symbol.OpenBrace ∷ ts) q.0 q.1 × (tree_depth q.0 ≤ d)) (read_comprehension L (limits m e) items us)
@@ -394,17 +398,23 @@ module _ (L : Limited) (S : Sound L) where
   input n d dot ts us is =
       by_then _ (look.names us) λ x ex. by_case _ _ (look.skips symbol.Colon x.1)
       (λ vs ev. by_then _ (S.atom n d vs) λ p a.
-      some ((λ fs r rest. subst (λ z. FieldsText n dot z (field.Input x.0 (Some p.0) ∷ fs) r) (sym (is ∙ ap (λ z. Symbol symbol.Question ∷ z) (ex ∙ ap (λ z. Name x.0 ∷ z) ev))) (g.fields-input-from a.0 rest)),
-      as_deep (depths.depth-input-from x.0 p.0) a.1))
-      (some ((λ fs r rest. subst (λ z. FieldsText n dot z (field.Input x.0 None ∷ fs) r) (sym (is ∙ ap (λ z. Symbol symbol.Question ∷ z) ex)) (g.fields-input rest)),
-      as_deep (depths.depth-input x.0) (nothing d)))
+      some (
+        (λ fs r rest. subst (λ z. FieldsText n dot z (field.Input x.0 (Some p.0) ∷ fs) r) (sym (is ∙ ap (λ z. Symbol symbol.Question ∷ z) (ex ∙ ap (λ z. Name x.0 ∷ z) ev))) (g.fields-input-from a.0 rest)),
+        as_deep (depths.depth-input-from x.0 p.0) a.1,
+      ))
+      (some (
+        (λ fs r rest. subst (λ z. FieldsText n dot z (field.Input x.0 None ∷ fs) r) (sym (is ∙ ap (λ z. Symbol symbol.Question ∷ z) ex)) (g.fields-input rest)),
+        as_deep (depths.depth-input x.0) (nothing d),
+      ))
 
   a_field : (n d : ℕ) (dot : Bool) (ts : List Token) → Holds (FieldRead n d dot ts) (read_field L (limits n d) dot ts)
   a_field n d dot ts =
       by_case _ _ (look.skips symbol.Dot ts)
       (λ us e. by_sure dot _ λ may. by_then _ (S.expression n d bound.Sum us (omega arith)) λ p a.
-      some ((λ fs r rest. subst (λ z. FieldsText n z ts (field.Dot p.1 ∷ fs) r) (sym may) (subst (λ z. FieldsText n true z (field.Dot p.1 ∷ fs) r) (sym e) (g.fields-dot (a.is sum a.above) rest))),
-      as_deep (depths.depth-dot p.1) a.fits))
+      some (
+        (λ fs r rest. subst (λ z. FieldsText n z ts (field.Dot p.1 ∷ fs) r) (sym may) (subst (λ z. FieldsText n true z (field.Dot p.1 ∷ fs) r) (sym e) (g.fields-dot (a.is sum a.above) rest))),
+        as_deep (depths.depth-dot p.1) a.fits,
+      ))
       (by_case _ _ (look.skips symbol.Bang ts)
       (λ us e. by_then _ (S.expression n d bound.Sum us (omega arith)) λ p a.
       some ((λ fs r rest. subst (λ z. FieldsText n dot z (field.Output p.1 ∷ fs) r) (sym e) (g.fields-output (a.is sum a.above) rest)), as_deep (depths.depth-Output p.1) a.fits))

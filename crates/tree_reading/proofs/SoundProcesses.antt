@@ -1,5 +1,5 @@
 -- What is read of processes, the grammar has.
-use Rattle.std.proofs.Common.{◌≡◌, inl, inr, ℕ, suc, ◌+◌, ◌≤◌, max, Bool, true, nat_le, Option, Some, None, List, [], ◌∷◌, map, refl, sym, ap, subst, ◌∙◌, arith}
+use Rattle.std.proofs.Common.{◌≡◌, inl, inr, ℕ, suc, ◌+◌, ◌≤◌, max, Bool, true, nat_le, Option, Some, None, List, ◌∷◌, map, refl, sym, ap, subst, ◌∙◌, arith}
 use Rattle.csp_text.specs.Depth.{field_depth, greatest, tree_depth}
 use Rattle.csp_text.specs.declared.token.Token.{Token}
 use Rattle.csp_text.specs.declared.token.Token.TheVariants.{Name, Word, Symbol}
@@ -328,8 +328,10 @@ module _ (L : Limited) (S : Sound L) where
   parallel n d e us t ts deep front fits =
       by_bracketed n e _ λ m en. by_then _ (S.atom m e ts) λ a at. by_then _ (look.skips symbol.Parallel a.1) λ vs ev. by_then _ (S.atom m e vs) λ b bt. by_then _ (look.skips symbol.CloseBracket b.1) λ ws f.
       by_then _ (side n e ws) λ q sr. by_sure (at_least bound.Open q.0) _ λ h.
-      some (paralleled en front (subst (λ z. AtomText m ts a.0 z) ev at.0) (subst (λ z. AtomText m vs b.0 z) f bt.0) (side_of q (is_le 1 (number q.0) h) sr),
-      node (depths.depth-Parallel t a.0 b.0 q.1) deep (both (both fits at.1) (both bt.1 sr.fits)))
+      some (
+        paralleled en front (subst (λ z. AtomText m ts a.0 z) ev at.0) (subst (λ z. AtomText m vs b.0 z) f bt.0) (side_of q (is_le 1 (number q.0) h) sr),
+        node (depths.depth-Parallel t a.0 b.0 q.1) deep (both (both fits at.1) (both bt.1 sr.fits)),
+      )
 
   pub a_tree : (n d : ℕ) (ts : List Token) → Holds (λ p. TreeText n ts p.0 p.1 × (tree_depth p.0 ≤ d)) (read_tree L (limits n d) ts)
   a_tree n d ts =

@@ -1,5 +1,5 @@
 -- What is read of declarations, the grammar has; and so of all that the readers read.
-use Rattle.std.proofs.Common.{◌≡◌, ◌⊎◌, inl, inr, ℕ, zero, suc, ◌≤◌, Bool, true, false, ◌||◌, Option, Some, None, List, [], ◌∷◌, codes, refl, sym, ap, subst, ◌∙◌, arith}
+use Rattle.std.proofs.Common.{◌≡◌, ◌⊎◌, inl, inr, ℕ, zero, suc, ◌≤◌, Bool, true, false, ◌||◌, Some, List, [], ◌∷◌, codes, refl, sym, ap, subst, ◌∙◌, arith}
 use Rattle.csp_text.specs.Depth.{tree_depth}
 use Rattle.csp_base.specs.declared.operators.SetOp.TheVariants as set_op
 use Rattle.csp_text.specs.declared.token.Token.{Token}
@@ -10,7 +10,6 @@ use Rattle.csp_text.specs.declared.token.Word.TheVariants as word
 use Rattle.csp_text.specs.declared.token.Symbol.{Symbol}
 use Rattle.csp_text.specs.declared.token.Symbol.TheVariants as symbol
 use Rattle.csp_text.specs.declared.tree.Tree.{Tree}
-use Rattle.csp_text.specs.declared.tree.Tree.TheVariants as tree
 use Rattle.csp_text.specs.declared.script.Decl.{Decl}
 use Rattle.csp_text.specs.declared.script.Decl.TheVariants as decl
 use Rattle.csp_grammar.specs.Declarations.{NamesText, TypesText, ParametersText, AssertedText, ModelText, DeclarationText, DeclarationsText}
