@@ -11,3 +11,5 @@ pub mod OverLemmas
 pub mod PutLemmas
 pub mod TreeLemmas
 pub mod WithinLemmas
+pub mod LowLemmas
+pub mod TreeLow

@@ -76,7 +76,7 @@ module _ (x : ℕ) (v : Value) where
   places_own (Layer.Seq p q) = refl
   places_own Layer.Ended = refl
 
-  put_stop : proc_with x v proc.Stop ≡ proc.Stop
+  pub put_stop : proc_with x v proc.Stop ≡ proc.Stop
   put_stop = ap (proc_with x v) (sym proc.rolls-Stop) ∙ para-roll-Proc Proc (proc_with_of_layer x v) Proc-F.Stop
 
   -- a place of the processes with the value put in
@@ -93,7 +93,7 @@ module _ (x : ℕ) (v : Value) where
   put_all trees (id ∷ ids) = λ i. substitute_at trees id i ∷ put_all trees ids i
 
   -- below a node that doesn't bind the name the value goes in
-  put_open : (trees : List Proc) (n : Layer) → binds_below x n ≡ false → proc_with x v (layer_tree trees n) ≡ layer_tree (all_with x v trees) (own_with x v n)
+  pub put_open : (trees : List Proc) (n : Layer) → binds_below x n ≡ false → proc_with x v (layer_tree trees n) ≡ layer_tree (all_with x v trees) (own_with x v n)
   put_open trees Layer.Stop h = (ap (proc_with x v) (rolls trees Layer.Stop) ∙ para-roll-Proc Proc (proc_with_of_layer x v) (layer_of trees Layer.Stop))
   put_open trees (Layer.Prefix k fields p) h =
       (ap (proc_with x v) (rolls trees (Layer.Prefix k fields p)) ∙ para-roll-Proc Proc (proc_with_of_layer x v) (layer_of trees (Layer.Prefix k fields p))) ∙ ((λ i. proc.Prefix (head_with x v k) (fields_with x v fields) (unless_bound (h i) (tree_at trees p, proc_with x v (tree_at trees p)))) ∙ (λ i. proc.Prefix (head_with x v k) (fields_with x v fields) (substitute_at trees p i)))
@@ -114,7 +114,7 @@ module _ (x : ℕ) (v : Value) where
   put_open trees Layer.Ended h = (ap (proc_with x v) (rolls trees Layer.Ended) ∙ para-roll-Proc Proc (proc_with_of_layer x v) (layer_of trees Layer.Ended))
 
   -- below a node that binds it nothing changes
-  put_bound : (trees : List Proc) (n : Layer) → binds_below x n ≡ true → proc_with x v (layer_tree trees n) ≡ layer_tree trees (own_with x v n)
+  pub put_bound : (trees : List Proc) (n : Layer) → binds_below x n ≡ true → proc_with x v (layer_tree trees n) ≡ layer_tree trees (own_with x v n)
   put_bound trees (Layer.Prefix k fields p) h =
       (ap (proc_with x v) (rolls trees (Layer.Prefix k fields p)) ∙ para-roll-Proc Proc (proc_with_of_layer x v) (layer_of trees (Layer.Prefix k fields p))) ∙ (λ i. proc.Prefix (head_with x v k) (fields_with x v fields) (unless_bound (h i) (tree_at trees p, proc_with x v (tree_at trees p))))
   put_bound trees (Layer.EachExternal y s p) h =

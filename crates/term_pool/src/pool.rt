@@ -6,6 +6,7 @@ ghost use Rattle.csp_program.specs.Size.{proc_size};
 ghost use Rattle.csp_program.specs.Substitution.{proc_with};
 ghost use Rattle.term_pool.specs.Counting.{capped};
 ghost use Rattle.term_pool.specs.First.{with_first};
+ghost use Rattle.term_pool.specs.Low.{ProcLow};
 ghost use Rattle.term_pool.specs.Pooled.{parts, AreDifferent, Has, IsFront, PartsStandBelow};
 ghost use Rattle.term_pool.specs.Put.{StandAt};
 ghost use Rattle.term_pool.specs.Trees.{places_below, tree_at, tree_of};
@@ -15,6 +16,7 @@ use crate::entry::Entry;
 use crate::kept::{node_in, put_first_in, put_in, put_made_in};
 use crate::measure::Measure;
 use crate::node::{Node, ProcId};
+use crate::node_least::{least_at, note_least};
 use crate::own_parts::{OwnParts, no_parts};
 use crate::put::put_tree;
 use crate::substitute::substitute_at;
@@ -34,6 +36,7 @@ pub struct Pool {
     parts: OwnParts,
     entries: Numbering<Entry>,
     measures: Items<Measure>,
+    leasts: Items<u32>,
 }
 
 impl Model for Pool {
@@ -41,7 +44,8 @@ impl Model for Pool {
     ghost use Rattle.std.specs.Coded.{codes};
     ghost use Rattle.csp_program.specs.contracts.processes.Proc as process;
     ghost use Rattle.csp_program.specs.declared.processes.Proc.{Proc};
-    ghost use Rattle.term_pool.specs.Held.{processes, IsKept};
+    ghost use Rattle.term_pool.specs.Held.{processes};
+    ghost use Rattle.term_pool.specs.Low.{IsNoted};
 
     ghost Value = { List Proc };
 
@@ -49,7 +53,7 @@ impl Model for Pool {
 
     ghost view = { λ p. processes p.parts p.entries };
 
-    ghost invariant = { λ p. IsKept p.parts p.entries p.measures };
+    ghost invariant = { λ p. IsNoted p.parts p.entries p.measures p.leasts };
 }
 
 impl Pool {
@@ -62,6 +66,7 @@ impl Pool {
             parts: no_parts(alloc),
             entries: Numbering::new(alloc),
             measures: Items::new(alloc),
+            leasts: Items::new(alloc),
         }
     }
 
@@ -100,6 +105,13 @@ impl Pool {
         self.measures.as_slice()[id.0 as usize].size
     }
 
+    // A number below which the process at a place reads no name: a value in place of such a name leaves it as it is.
+    pub(crate) fn least(&self, id: ProcId) -> u32
+        ensures { ProcLow result (tree_at self.now id) }
+    {
+        least_at(self.leasts.as_slice(), id)
+    }
+
     /// Whether the processes at two places are one process.
     pub fn same(&self, left: ProcId, right: ProcId) -> bool
         requires left { left.0 < length self.now }
@@ -121,13 +133,15 @@ impl Pool {
         ensures err { OnErr result (self.new ≡ self.old) }
         ensures err_only_new { OnErr result (Has self.old (tree_of self.old node.entry) → ⊥) }
     {
-        put_in(
+        let made = put_in(
             &mut self.parts,
             &mut self.entries,
             &mut self.measures,
             self.alloc,
             node,
-        )
+        );
+        note_least(&self.parts, &self.entries, &self.measures, &mut self.leasts);
+        made
     }
 
     /// The place of the process at `id` with the process at `below` in place of its first sub-process; where it has none, of the process itself.
@@ -141,14 +155,16 @@ impl Pool {
         ensures only { AddsOne self.old self.new (with_first (tree_at self.old id) (tree_at self.old below)) }
         ensures err { OnErr result (self.new ≡ self.old) }
     {
-        put_first_in(
+        let made = put_first_in(
             &mut self.parts,
             &mut self.entries,
             &mut self.measures,
             self.alloc,
             id,
             below,
-        )
+        );
+        note_least(&self.parts, &self.entries, &self.measures, &mut self.leasts);
+        made
     }
 
     /// The place of what the process at `id` becomes with the value in place of the name, where `ids` are the places of what its sub-processes become.
@@ -166,7 +182,7 @@ impl Pool {
         ensures known { Has self.old (proc_with name value.now (tree_at self.old id)) → self.new ≡ self.old }
         ensures only { AddsOne self.old self.new (proc_with name value.now (tree_at self.old id)) }
     {
-        put_made_in(
+        let made = put_made_in(
             &mut self.parts,
             &mut self.entries,
             &mut self.measures,
@@ -175,7 +191,9 @@ impl Pool {
             ids,
             name,
             value,
-        )
+        );
+        note_least(&self.parts, &self.entries, &self.measures, &mut self.leasts);
+        made
     }
 
     /// The place of the process, which is put into the pool with its sub-processes, each of them once. Where memory fails some of them are put.

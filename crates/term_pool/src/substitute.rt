@@ -51,6 +51,9 @@ pub(crate) fn substitute_at(
     ensures grows { Grows pool.old pool.new (proc_with name value.now (tree_at pool.old id.now) ∷ []) }
     ensures visited { AreMade name value.now pool.new visited.new }
 {
+    if name < pool.least(*id) {
+        return Ok(*id);
+    }
     if let Some(made) = known(visited, id) {
         return Ok(made);
     }

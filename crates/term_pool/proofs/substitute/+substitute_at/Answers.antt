@@ -1,7 +1,9 @@
 -- What a process becomes: from its own parts, and from what its sub-processes became.
 use Rattle.std.proofs.Common.{◌+◌, List, Some, map, take, ap, sym, ◌∙◌, subst, arith}
+use Rattle.std.proofs.lemmas.Option.{slice_get-get_or}
 use Rattle.csp_program.specs.Substitution.{proc_with}
 use Rattle.csp_program.specs.declared.processes.Proc.{Proc}
+use Rattle.csp_program.specs.declared.processes.Proc.TheVariants as proc
 use Rattle.term_pool.proofs.SubstituteLemmas as made
 use Rattle.term_pool.proofs.PutLemmas as lemmas
 use Rattle.term_pool.specs.Pooled.{parts}
@@ -100,3 +102,8 @@ pub put_below-returns-clause-grows : goal.put_below-returns-clause-grows
 put_below-returns-clause-grows t c =
     subst (λ (ts : List Proc). Grows c.args.pool.now c.put_all.new.pool ts)
     (made.under_open c.args.name c.args.value.now c.args.pool.now c.args.id c.requires.within c.in_ok-below.below c.in_ok-below.ensures c.if-bound.false c.as_slice.result.now c.as_slice.ensures) c.in_ok-made.ensures.grows
+
+pub substitute_at-returns-then-name-least-clause-process : goal.substitute_at-returns-then-name-least-clause-process
+substitute_at-returns-then-name-least-clause-process t c =
+    slice_get-get_or c.args.pool.now c.args.id.now.0 proc.Stop c.requires.within ∙
+    ap (λ (q : Proc). Some q) (sym (c.least.ensures c.args.name c.args.value.now c.if-name-least.true))

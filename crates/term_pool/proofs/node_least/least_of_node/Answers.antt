@@ -1,0 +1,12 @@
+-- The number is none above those of the own parts and of the places.
+use Rattle.term_pool.proofs.LowLemmas as low
+use Rattle.term_pool.specs.Layers.{shown}
+use Rattle.term_pool.specs.Low.{PlaceLow}
+use Rattle.term_pool.specs.Trees.{places}
+use Rattle.term_pool.proofs.node_least.least_of_node.Goals as goal
+
+pub returns-clause-own : goal.returns-clause-own
+returns-clause-own c = low.own_lower c.lower.result c.least_of_own.result (shown c.args.node) c.lower.ensures.left c.least_of_own.ensures
+
+pub returns-clause-places : goal.returns-clause-places
+returns-clause-places c = low.all_lower (PlaceLow c.args.leasts.now) (low.place_lower c.args.leasts.now) c.lower.result c.least_of_places.result (places c.args.node) c.lower.ensures.right c.least_of_places.ensures
