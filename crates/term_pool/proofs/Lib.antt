@@ -2,10 +2,8 @@ pub mod EntryLemmas
 pub mod FirstLemmas
 pub mod HeldLemmas
 pub mod KeptLemmas
-pub mod MeasureLaws
 pub mod NodeLemmas
 pub mod NodeMeasures
-pub mod StoreLemmas
 pub mod SubstituteLemmas
 pub mod OverLemmas
 pub mod PutLemmas
@@ -13,3 +11,4 @@ pub mod TreeLemmas
 pub mod WithinLemmas
 pub mod LowLemmas
 pub mod TreeLow
+pub mod ValuesLemmas

@@ -1,5 +1,6 @@
 use Rattle.std.proofs.Common.{take}
-use Rattle.term_pool.specs.Low.{AllLow, PlaceLow}
+use Rattle.pool_parts.specs.Low.{AllLow}
+use Rattle.term_pool.specs.Low.{PlaceLow}
 use Rattle.term_pool.proofs.node_least.least_of_ids.Given as goal
 
 -- the number so far is one of those before this
