@@ -25,7 +25,7 @@ use Rattle.csp_steps.specs.Inputs.{input_ways}
 use Rattle.csp_steps.specs.Listed.{seen}
 use Rattle.csp_steps.specs.declared.prefix.Input.{Input}
 use Rattle.csp_steps.specs.declared.step.StepTo.{StepTo}
-use Rattle.term_pool.specs.declared.node.ProcId.{ProcId}
+use Rattle.pool_parts.specs.declared.place.ProcId.{ProcId}
 use Rattle.step_values.proofs.Lists.{left, left_begin, left_end, left_fault, left_next, map_join, map_push}
 use Rattle.csp_steps.proofs.Places.{all_within_push, seen_stay, tree_stays}
 

@@ -30,7 +30,7 @@ use Rattle.process_steps.specs.declared.label.Label.{Label}
 use Rattle.process_steps.specs.declared.label.Label.TheVariants.{Silent, Visible, Tick}
 use Rattle.term_pool.specs.Trees.{all_below, places, places_below, tree_at, tree_of}
 use Rattle.term_pool.specs.declared.node.Node.{Node}
-use Rattle.term_pool.specs.declared.node.ProcId.{ProcId}
+use Rattle.pool_parts.specs.declared.place.ProcId.{ProcId}
 use Rattle.value_operators.specs.declared.fault.EvalFault.{EvalFault}
 use Rattle.csp_steps.specs.Computed.{all_within, around_layer, AreAround, AreAt, AreOfChoice, AreThoseAt, filled, GivesLook, IsListing, IsPlaceOf}
 use Rattle.csp_steps.specs.Listed.{seen}

@@ -18,7 +18,7 @@ use Rattle.step_values.specs.declared.images.Images.{Images}
 use Rattle.term_pool.proofs.PutLemmas.{at}
 use Rattle.term_pool.specs.Pooled.{IsFront}
 use Rattle.term_pool.specs.Trees.{tree_at}
-use Rattle.term_pool.specs.declared.node.ProcId.{ProcId}
+use Rattle.pool_parts.specs.declared.place.ProcId.{ProcId}
 use Rattle.csp_steps.specs.Evaluated.{body_of, AreBodies, AreNoted, Fits, HasMoreNumbers, HasValue, Hides, IsNumbered, LeadOn, Renames, StandsAs, hidden_by, renamed_by}
 use Rattle.csp_steps.specs.declared.evaluated.Evaluated.{Evaluated}
 use Rattle.csp_steps.specs.declared.step.StepTo.{StepTo}

@@ -13,7 +13,7 @@ use Rattle.term_pool.proofs.PutLemmas.{at}
 use Rattle.term_pool.proofs.TreeLemmas.{both_so}
 use Rattle.term_pool.specs.Pooled.{IsFront}
 use Rattle.term_pool.specs.Trees.{all_below, tree_at}
-use Rattle.term_pool.specs.declared.node.ProcId.{ProcId}
+use Rattle.pool_parts.specs.declared.place.ProcId.{ProcId}
 use Rattle.csp_steps.specs.Computed.{all_within, hidden_move, renamed_moves, AreMoves, IsMove}
 use Rattle.csp_steps.specs.Listed.{seen}
 use Rattle.csp_steps.specs.declared.step.StepTo.{StepTo}

@@ -7,7 +7,7 @@ use Rattle.csp_steps.specs.declared.step.StepTo.{StepTo}
 use Rattle.process_steps.specs.contracts.label.LabelPartialEq.TheImpl as labels
 use Rattle.process_steps.specs.declared.label.Label.{Label}
 use Rattle.process_steps.specs.declared.label.Label.TheVariants.{Silent, Visible, Tick}
-use Rattle.term_pool.specs.ExactId.{eq_id, exact_id}
+use Rattle.pool_parts.specs.ExactId.{eq_id, exact_id}
 
 abbrev pub eq_label : Label → Label → Bool
 eq_label = (labels.ghosts).eq

@@ -9,7 +9,7 @@ use Rattle.csp_program.specs.declared.programs.Content.{Content}
 use Rattle.csp_tables.specs.Network.{Component}
 use Rattle.csp_tables.specs.RawTable.{IsTableOf, RawTable}
 use Rattle.process_steps.specs.ComponentStep.{ProcessStep, Ticks}
-use Rattle.term_pool.specs.Counting.{capped}
+use Rattle.pool_parts.specs.Counting.{capped}
 use Rattle.term_pool.specs.Trees.{tree_at}
 use Rattle.local_tables.specs.Component.{step_count}
 use Rattle.local_tables.specs.Faults.{CanEnd, counted_size}

@@ -17,10 +17,10 @@ use Rattle.csp_tables.specs.Path.{Path}
 use Rattle.csp_tables.specs.Network.{Component, ComponentStep}
 use Rattle.csp_tables.specs.RawTable.{EachOnce, IsInTable, IsStepOf, RawStep, RawTable, standing_at}
 use Rattle.process_steps.specs.ComponentStep.{ProcessStep}
-use Rattle.term_pool.specs.ExactId.{eq_id}
+use Rattle.pool_parts.specs.ExactId.{eq_id}
 use Rattle.term_pool.specs.Pooled.{AreDifferent, IsFront}
 use Rattle.term_pool.specs.Trees.{tree_at}
-use Rattle.term_pool.specs.declared.node.ProcId.{ProcId}
+use Rattle.pool_parts.specs.declared.place.ProcId.{ProcId}
 use Rattle.local_tables.specs.Component.{AreSteps, AreTerms}
 use Rattle.local_tables.specs.Faults.{counted_size}
 use Rattle.local_tables.specs.Progress.{AreFound, AreLed, ArePart, HasMoreTerms, IsAdded, IsFitting, IsSoFar, IsWithin, Origin, Steps, label_of, terms_at}

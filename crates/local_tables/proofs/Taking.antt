@@ -16,7 +16,7 @@ use Rattle.process_steps.specs.Step.{Step}
 use Rattle.process_steps.specs.declared.label.Label.TheVariants.{Tick}
 use Rattle.term_pool.specs.Pooled.{IsFront}
 use Rattle.term_pool.specs.Trees.{tree_at}
-use Rattle.term_pool.specs.declared.node.ProcId.{ProcId}
+use Rattle.pool_parts.specs.declared.place.ProcId.{ProcId}
 use Rattle.local_tables.specs.Component.{AreSteps, HasList, step_count}
 use Rattle.local_tables.specs.Progress.{AreFollowed, AreFound, AreTaken, ComesFrom, HasMore, HasMoreTerms, HasStepMore, IsAt, IsFollowed, IsInside, IsSoFar, IsTaken, IsUpTo, IsWithin, LeadsTo, Origin, Steps, process_label, terms_at}
 use Rattle.local_tables.specs.Stops.{HasEnd}

@@ -12,7 +12,7 @@ use Rattle.csp_tables.specs.RawTable.{RawTable, standing_at}
 use Rattle.csp_tables.specs.Trace.{After}
 use Rattle.process_steps.specs.ComponentStep.{ProcessStep, Ticks}
 use Rattle.process_steps.specs.StepList.{steps_of}
-use Rattle.term_pool.specs.Counting.{capped}
+use Rattle.pool_parts.specs.Counting.{capped}
 use Rattle.local_tables.specs.Component.{AreSteps, AreTerms, step_count}
 use Rattle.local_tables.specs.declared.fault.LocalFault.{LocalFault}
 use Rattle.local_tables.specs.declared.fault.LocalFault.TheVariants.{NoMemory, StepCount, TermCount, TermDepth, TermTotal, Terminates, Value}

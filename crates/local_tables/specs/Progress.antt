@@ -16,7 +16,7 @@ use Rattle.process_steps.specs.ComponentStep.{ProcessStep, Ticks}
 use Rattle.process_steps.specs.declared.label.Label.{Label as ProcessLabel}
 use Rattle.process_steps.specs.declared.label.Label.TheVariants.{Silent, Visible, Tick}
 use Rattle.term_pool.specs.Trees.{tree_at}
-use Rattle.term_pool.specs.declared.node.ProcId.{ProcId}
+use Rattle.pool_parts.specs.declared.place.ProcId.{ProcId}
 use Rattle.local_tables.specs.Component.{AreSteps, AreTerms, HasList, step_count}
 use Rattle.local_tables.specs.Faults.{counted_size}
 use Rattle.local_tables.specs.declared.found.Found.{Found}

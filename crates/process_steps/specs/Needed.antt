@@ -2,7 +2,6 @@
 use Rattle.std.specs.Prelude.{ℕ, ◌+◌, Bool, Option, Some, None, Ok, Err, List, [], ◌∷◌, ◌++◌}
 use Rattle.csp_atoms.specs.Sets.{event_numbers}
 use Rattle.csp_program.specs.Outcome.{Outcome, and_then}
-use Rattle.csp_program.specs.Substitution.{proc_with}
 use Rattle.csp_program.specs.Value.{as_set, as_truth, value_of}
 use Rattle.csp_atoms.specs.declared.atom.Atom.{Atom}
 use Rattle.csp_atoms.specs.declared.value.Value.{Value}
@@ -13,6 +12,7 @@ use Rattle.csp_program.specs.declared.programs.Body.{Body}
 use Rattle.csp_program.specs.declared.programs.Body.TheVariants as body
 use Rattle.csp_program.specs.declared.programs.Content.{Content}
 use Rattle.csp_program.specs.declared.programs.Def.{Def}
+use Rattle.substitution.specs.Several.{with_values}
 
 -- what each member of a list comes to, from the left
 abbrev pub all_outcomes : {A B : Type 0} → (A → Outcome B) → List A → Outcome (List B)
@@ -43,12 +43,6 @@ events_in p s = and_then (set_in p s) (λ atoms. needed_events (event_numbers at
 -- the values of arguments, from the left
 abbrev pub arguments_in : Content → List Expr → Outcome (List Value)
 arguments_in p args = all_outcomes (value_of p) args
-
--- a process with values in place of names, one after another
-abbrev pub with_values : List ℕ → List Value → Proc → Proc
-with_values [] vs q = q
-with_values (x ∷ xs) [] q = q
-with_values (x ∷ xs) (v ∷ vs) q = with_values xs vs (proc_with x v q)
 
 -- the body of a definition of a process, with the values of the arguments in place of the parameters
 abbrev pub process_of : List ℕ → Body → List Value → Outcome Proc

@@ -5,7 +5,7 @@ use Rattle.csp_program.specs.declared.expressions.Expr.TheVariants as expr
 use Rattle.csp_program.specs.declared.processes.Head.TheVariants as head
 use Rattle.term_pool.specs.Entries.{head_at, fields_at, expr_at, arguments_at, pairs_at, gens_at, choice_at, entry_layer, ArePartsOnce, Fits, HasParts, PartsStart, StandsAs}
 use Rattle.term_pool.specs.Layers.{Layer}
-use Rattle.term_pool.specs.Stored.{AreOnce, IsStart}
+use Rattle.pool_parts.specs.Stored.{AreOnce, IsStart}
 use Rattle.term_pool.specs.declared.entry.Entry.{Entry}
 use Rattle.term_pool.specs.declared.entry.Entry.TheVariants as entry
 use Rattle.term_pool.specs.declared.own_parts.OwnParts.{OwnParts}

@@ -16,7 +16,7 @@ use Rattle.term_pool.proofs.TreeLemmas.{all_below_more, both_so}
 use Rattle.term_pool.specs.First.{layer_with_first, node_with_first, other_first, with_first}
 use Rattle.term_pool.specs.Trees.{tree_at, layer_tree, layer_ids, all_below, layer_below}
 use Rattle.term_pool.specs.Layers.{Layer}
-use Rattle.term_pool.specs.declared.node.ProcId.{ProcId}
+use Rattle.pool_parts.specs.declared.place.ProcId.{ProcId}
 
 -- what each form becomes
 pub first_Stop : (q : Proc) → with_first proc.Stop q ≡ proc.Stop

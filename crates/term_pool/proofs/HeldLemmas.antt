@@ -15,12 +15,12 @@ use Rattle.term_pool.proofs.WithinLemmas.{has_push}
 use Rattle.term_pool.specs.Held.{IsHeld, Puts}
 use Rattle.term_pool.specs.Measured.{measured, node_depth, node_size}
 use Rattle.term_pool.specs.Pooled.{AreDifferent, Has, IsFront, PartsStandBelow, StandBelow, parts}
-use Rattle.term_pool.specs.Stored.{AreOnce, IsAbsent}
+use Rattle.pool_parts.specs.Stored.{AreOnce, IsAbsent}
 use Rattle.term_pool.specs.Trees.{tree_at, layer_tree, layer_ids, all_below, layer_below, trees_of, fall}
 use Rattle.term_pool.specs.Within.{AddsOne}
-use Rattle.term_pool.specs.declared.measure.Measure.{Measure}
+use Rattle.pool_parts.specs.declared.measure.Measure.{Measure}
 use Rattle.term_pool.specs.Layers.{Layer}
-use Rattle.term_pool.specs.declared.node.ProcId.{ProcId}
+use Rattle.pool_parts.specs.declared.place.ProcId.{ProcId}
 
 abbrev id_at : ℕ → ProcId
 id_at k = record { 0 = k }

@@ -8,7 +8,7 @@ use Rattle.csp_program.specs.declared.processes.Proc.{Proc}
 use Rattle.csp_program.specs.declared.processes.Proc.TheVariants as proc
 use Rattle.term_pool.proofs.EntryLemmas.{fits_more, layer_stays, same_entry, has_parts}
 use Rattle.term_pool.proofs.HeldLemmas.{below_measures, held_push, is_known, last_or, places_fall, puts_known, puts_new, puts_none, tree_stands, trees_length, unknown_push}
-use Rattle.term_pool.proofs.StoreLemmas.{is_absent}
+use Rattle.pool_parts.proofs.StoreLemmas.{is_absent}
 use Rattle.term_pool.specs.Entries.{entry_layer, layers, ArePartsOnce, Fits, HasParts, PartsStart, StandsAs}
 use Rattle.term_pool.specs.ExactEntry.{eq_entry}
 use Rattle.term_pool.specs.Held.{processes, IsHeld, IsKept, Puts}
@@ -16,12 +16,12 @@ use Rattle.term_pool.specs.Layers.{Layer}
 use Rattle.term_pool.specs.Measured.{node_depth, node_size}
 use Rattle.term_pool.specs.Moved.{moved}
 use Rattle.term_pool.specs.Pooled.{Has}
-use Rattle.term_pool.specs.Stored.{IsAbsent}
+use Rattle.pool_parts.specs.Stored.{IsAbsent}
 use Rattle.term_pool.specs.Trees.{layer_below, layer_tree, trees_of}
 use Rattle.term_pool.specs.contracts.entry.EntryEq.TheImpl.Laws.{laws-law}
 use Rattle.term_pool.specs.declared.entry.Entry.{Entry}
-use Rattle.term_pool.specs.declared.measure.Measure.{Measure}
-use Rattle.term_pool.specs.declared.node.ProcId.{ProcId}
+use Rattle.pool_parts.specs.declared.measure.Measure.{Measure}
+use Rattle.pool_parts.specs.declared.place.ProcId.{ProcId}
 use Rattle.term_pool.specs.declared.own_parts.OwnParts.{OwnParts}
 
 abbrev id_at : ℕ → ProcId

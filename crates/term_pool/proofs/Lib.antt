@@ -2,12 +2,13 @@ pub mod EntryLemmas
 pub mod FirstLemmas
 pub mod HeldLemmas
 pub mod KeptLemmas
-pub mod MeasureLaws
 pub mod NodeLemmas
 pub mod NodeMeasures
-pub mod StoreLemmas
 pub mod SubstituteLemmas
 pub mod OverLemmas
 pub mod PutLemmas
 pub mod TreeLemmas
 pub mod WithinLemmas
+pub mod LowLemmas
+pub mod TreeLow
+pub mod ValuesLemmas

@@ -9,7 +9,7 @@ use Rattle.csp_program.specs.declared.processes.Proc.TheViews.{out-Proc, roll-Pr
 use Rattle.term_pool.specs.Pooled.{layer_parts, parts}
 use Rattle.term_pool.specs.Trees.{tree_at, layer_tree, layer_ids, all_below, layer_below}
 use Rattle.term_pool.specs.Layers.{Layer}
-use Rattle.term_pool.specs.declared.node.ProcId.{ProcId}
+use Rattle.pool_parts.specs.declared.place.ProcId.{ProcId}
 
 -- the node with the trees of its places, as a layer
 abbrev pub layer_of : List Proc → Layer → Proc-F Proc

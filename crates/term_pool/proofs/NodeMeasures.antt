@@ -8,13 +8,13 @@ use Rattle.csp_program.specs.Depth.{proc_depth}
 use Rattle.csp_program.specs.Size.{proc_size}
 use Rattle.csp_program.specs.declared.processes.Proc.{Proc}
 use Rattle.csp_program.specs.declared.processes.Proc.TheVariants as proc
-use Rattle.term_pool.proofs.MeasureLaws as laws
-use Rattle.term_pool.specs.Counting.{capped}
+use Rattle.pool_parts.proofs.MeasureLaws as laws
+use Rattle.pool_parts.specs.Counting.{capped}
 use Rattle.term_pool.specs.Measured.{measured, own_depth, own_size, deepest_at, total_at, node_depth, node_size}
 use Rattle.term_pool.specs.Trees.{tree_at, layer_tree, layer_ids, all_below, layer_below}
-use Rattle.term_pool.specs.declared.measure.Measure.{Measure}
+use Rattle.pool_parts.specs.declared.measure.Measure.{Measure}
 use Rattle.term_pool.specs.Layers.{Layer}
-use Rattle.term_pool.specs.declared.node.ProcId.{ProcId}
+use Rattle.pool_parts.specs.declared.place.ProcId.{ProcId}
 
 pub tree_depth : (ts : List Proc) (n : Layer) → proc_depth (layer_tree ts n) ≡ 1 + max (own_depth n) (greatest (map proc_depth (map (tree_at ts) (layer_ids n))))
 tree_depth ts Layer.Stop = omega (arith, laws.proc_depth-Stop)

@@ -19,7 +19,7 @@ use Rattle.term_pool.specs.Put.{Grows, HasAll, StandAt, StandsFor}
 use Rattle.term_pool.specs.Trees.{tree_at, layer_tree, all_below}
 use Rattle.term_pool.specs.Within.{AddsOne, IsInOne}
 use Rattle.term_pool.specs.Layers.{Layer}
-use Rattle.term_pool.specs.declared.node.ProcId.{ProcId}
+use Rattle.pool_parts.specs.declared.place.ProcId.{ProcId}
 
 has_front : (trees : List Proc) (ps qs : List Proc) → HasAll trees (ps ++ qs) → HasAll trees ps
 has_front trees [] qs h = tt

@@ -9,7 +9,7 @@ use Rattle.csp_program.specs.declared.processes.Proc.TheVariants as proc
 use Rattle.term_pool.proofs.NodeLemmas.{agree_node}
 use Rattle.term_pool.specs.Trees.{layer_tree, all_below, layer_below, grown, fall}
 use Rattle.term_pool.specs.Layers.{Layer}
-use Rattle.term_pool.specs.declared.node.ProcId.{ProcId}
+use Rattle.pool_parts.specs.declared.place.ProcId.{ProcId}
 
 pub both_so : (a b : Bool) → a ≡ true → b ≡ true → (a && b) ≡ true
 both_so a b h g = subst (λ (x : Bool). (x && b) ≡ true) (sym h) g

@@ -8,10 +8,10 @@ use Rattle.csp_program.specs.declared.processes.Field.{Field}
 use Rattle.csp_program.specs.declared.processes.Head.{Head}
 use Rattle.csp_program.specs.declared.processes.Head.TheVariants as head
 use Rattle.term_pool.specs.Layers.{Layer}
-use Rattle.term_pool.specs.Stored.{AreOnce, IsStart}
+use Rattle.pool_parts.specs.Stored.{AreOnce, IsStart}
 use Rattle.term_pool.specs.declared.entry.Entry.{Entry}
 use Rattle.term_pool.specs.declared.entry.Entry.TheVariants as entry
-use Rattle.term_pool.specs.declared.node.ProcId.{ProcId}
+use Rattle.pool_parts.specs.declared.place.ProcId.{ProcId}
 use Rattle.term_pool.specs.declared.own_parts.OwnParts.{OwnParts}
 
 -- the part with a number, where there is one

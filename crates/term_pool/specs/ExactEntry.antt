@@ -2,7 +2,7 @@
 use Rattle.std.specs.Prelude.{◌≡◌, Bool, true, ◌&&◌, nat_eq, refl}
 use Rattle.std.proofs.lemmas.Bool.{eqb-true, false≢true}
 use Rattle.std.specs.Cmp.{first_so, second_so}
-use Rattle.term_pool.specs.ExactId.{eq_id, exact_id}
+use Rattle.pool_parts.specs.ExactId.{eq_id, exact_id}
 use Rattle.term_pool.specs.contracts.entry.EntryPartialEq.TheImpl as entries
 use Rattle.term_pool.specs.declared.entry.Entry.{Entry}
 use Rattle.term_pool.specs.declared.entry.Entry.TheVariants as entry

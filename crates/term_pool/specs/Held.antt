@@ -5,12 +5,12 @@ use Rattle.term_pool.specs.Entries.{layers, ArePartsOnce, Fits}
 use Rattle.term_pool.specs.Layers.{Layer}
 use Rattle.term_pool.specs.Measured.{measured}
 use Rattle.term_pool.specs.Pooled.{Has, IsFront}
-use Rattle.term_pool.specs.Stored.{AreOnce}
+use Rattle.pool_parts.specs.Stored.{AreOnce}
 use Rattle.term_pool.specs.Trees.{fall, trees_of}
 use Rattle.term_pool.specs.Within.{AddsOne}
 use Rattle.term_pool.specs.declared.entry.Entry.{Entry}
-use Rattle.term_pool.specs.declared.measure.Measure.{Measure}
-use Rattle.term_pool.specs.declared.node.ProcId.{ProcId}
+use Rattle.pool_parts.specs.declared.measure.Measure.{Measure}
+use Rattle.pool_parts.specs.declared.place.ProcId.{ProcId}
 use Rattle.term_pool.specs.declared.own_parts.OwnParts.{OwnParts}
 
 pub record IsHeld (nodes : List Layer) (measures : List Measure) : Type 0 where

@@ -7,7 +7,7 @@ use Rattle.csp_program.specs.declared.processes.Field.{Field}
 use Rattle.csp_program.specs.declared.processes.Head.{Head}
 use Rattle.term_pool.specs.declared.node.Node.{Node}
 use Rattle.term_pool.specs.declared.node.Node.TheVariants as node
-use Rattle.term_pool.specs.declared.node.ProcId.{ProcId}
+use Rattle.pool_parts.specs.declared.place.ProcId.{ProcId}
 
 pub data Layer : Type 0 where
   Stop : Layer

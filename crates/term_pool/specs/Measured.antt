@@ -5,11 +5,11 @@ use Rattle.csp_program.specs.Depth.{expr_depth, field_depth, gen_depth, pair_dep
 use Rattle.csp_program.specs.Lists.{greatest, total}
 use Rattle.csp_program.specs.Size.{expr_size, field_size, gen_size, pair_size, proc_size}
 use Rattle.csp_program.specs.declared.processes.Proc.{Proc}
-use Rattle.term_pool.specs.Counting.{capped}
+use Rattle.pool_parts.specs.Counting.{capped}
 use Rattle.term_pool.specs.Trees.{layer_ids}
-use Rattle.term_pool.specs.declared.measure.Measure.{Measure}
+use Rattle.pool_parts.specs.declared.measure.Measure.{Measure}
 use Rattle.term_pool.specs.Layers.{Layer}
-use Rattle.term_pool.specs.declared.node.ProcId.{ProcId}
+use Rattle.pool_parts.specs.declared.place.ProcId.{ProcId}
 
 -- the depth and the size of a process
 abbrev pub measured : Proc → Measure

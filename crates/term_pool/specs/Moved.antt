@@ -1,7 +1,7 @@
 -- A node with other places in place of its own, one after another.
 use Rattle.std.specs.Prelude.{ℕ, List, slice_index_or}
 use Rattle.term_pool.specs.Layers.{Layer}
-use Rattle.term_pool.specs.declared.node.ProcId.{ProcId}
+use Rattle.pool_parts.specs.declared.place.ProcId.{ProcId}
 
 -- the place at an index of the list, 0 where the list is too short
 abbrev pub id_or : List ProcId → ℕ → ProcId

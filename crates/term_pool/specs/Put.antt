@@ -5,7 +5,7 @@ use Rattle.term_pool.specs.Pooled.{Has, IsFront, PartsStandBelow}
 use Rattle.term_pool.specs.Trees.{layer_below, layer_tree}
 use Rattle.term_pool.specs.Within.{IsInOne}
 use Rattle.term_pool.specs.Layers.{Layer}
-use Rattle.term_pool.specs.declared.node.ProcId.{ProcId}
+use Rattle.pool_parts.specs.declared.place.ProcId.{ProcId}
 
 -- each of the processes stands in the list
 abbrev pub HasAll : List Proc → List Proc → Type 0

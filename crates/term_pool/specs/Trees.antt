@@ -4,7 +4,7 @@ use Rattle.csp_program.specs.declared.processes.Proc.{Proc}
 use Rattle.csp_program.specs.declared.processes.Proc.TheVariants as proc
 use Rattle.term_pool.specs.Layers.{Layer, shown}
 use Rattle.term_pool.specs.declared.node.Node.{Node}
-use Rattle.term_pool.specs.declared.node.ProcId.{ProcId}
+use Rattle.pool_parts.specs.declared.place.ProcId.{ProcId}
 
 -- the tree at a place
 abbrev pub tree_at : List Proc → ProcId → Proc

@@ -5,9 +5,10 @@ ghost use Rattle.std.specs.Prelude.{◌≡◌, []};
 ghost use Rattle.term_pool.specs.Layers.{shown};
 ghost use Rattle.term_pool.specs.Over.{layer_over};
 
-use crate::node::{Node, ProcId};
+use crate::node::Node;
 use containers::Items;
 use csp_program::Proc;
+use pool_parts::ProcId;
 use std::alloc::Global;
 
 /// The places of the sub-processes: of a choice `all`, of another process the first and the second, as far as it has them.

@@ -5,14 +5,15 @@ ghost use Rattle.csp_program.specs.Substitution.{all_unless_bound, any_binds, ex
 ghost use Rattle.term_pool.specs.Entries.{arguments_at, choice_at, entry_layer, expr_at, fields_at, gens_at, head_at, pairs_at, ArePartsOnce, Fits, PartsStart, StandsAs};
 ghost use Rattle.term_pool.specs.First.{node_with_first, other_first};
 ghost use Rattle.term_pool.specs.Moved.{id_or, moved};
-ghost use Rattle.term_pool.specs.Substituted.{own_with};
+ghost use Rattle.term_pool.specs.Substituted.{own_with, own_with_all};
 
 use crate::entry::Entry;
-use crate::node::ProcId;
+use crate::node_least::least_of_own;
 use crate::own_parts::{OwnParts, keep_choice};
 use containers::Items;
 use csp_base::NoMemory;
 use csp_program::Value;
+use pool_parts::ProcId;
 use std::alloc::Global;
 use substitution::{
     substitute_expr, substitute_exprs, substitute_fields, substitute_gens, substitute_head,
@@ -253,8 +254,54 @@ fn put_pairs(
     Ok(made)
 }
 
-/// The entry with the value in its own parts.
-pub(crate) fn put_own(
+/// The entry with the values in its own parts, one after another.
+pub(crate) fn put_owns(
+    parts: &mut OwnParts,
+    alloc: Global,
+    entry: Entry,
+    names: &[u32],
+    values: &[Value],
+) -> Result<Entry, NoMemory>
+    requires once { ArePartsOnce parts.old }
+    requires fits { Fits parts.old entry }
+    ensures once { ArePartsOnce parts.new }
+    ensures start { PartsStart parts.old parts.new }
+    ensures entry { IfOk result (λ made. StandsAs parts.new made (own_with_all names.now values.now (entry_layer parts.old entry))) }
+{
+    let Some((name, other_names)) = names.split_first() else {
+        return Ok(entry);
+    };
+    let Some((value, other_values)) = values.split_first() else {
+        return Ok(entry);
+    };
+    let next = put_where_read(parts, alloc, entry, *name, value)?;
+    let made = put_owns(parts, alloc, next, other_names, other_values)?;
+    Ok(made)
+}
+
+// The entry with the value in its own parts. Where they read no name so low it is the same entry.
+fn put_where_read(
+    parts: &mut OwnParts,
+    alloc: Global,
+    entry: Entry,
+    name: u32,
+    value: &Value,
+) -> Result<Entry, NoMemory>
+    requires once { ArePartsOnce parts.old }
+    requires fits { Fits parts.old entry }
+    ensures once { ArePartsOnce parts.new }
+    ensures start { PartsStart parts.old parts.new }
+    ensures entry { IfOk result (λ made. StandsAs parts.new made (own_with name value.now (entry_layer parts.old entry))) }
+{
+    if name < least_of_own(parts, entry) {
+        return Ok(entry);
+    }
+    let made = put_own(parts, alloc, entry, name, value)?;
+    Ok(made)
+}
+
+// The same whatever they read.
+fn put_own(
     parts: &mut OwnParts,
     alloc: Global,
     entry: Entry,

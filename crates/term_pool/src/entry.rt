@@ -2,8 +2,8 @@
 
 ghost use Rattle.term_pool.specs.ExactEntry.{exact_entry};
 
-use crate::node::ProcId;
 use containers::Exact;
+use pool_parts::ProcId;
 
 /// A node whose own parts are numbers in the stores of a pool, as are the lists of places of choices.
 #[derive(Clone, Copy, PartialEq, Eq, Hash)]

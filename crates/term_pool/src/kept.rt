@@ -2,7 +2,7 @@
 
 ghost use Rattle.std.specs.Prelude.{◌≡◌, ◌<◌, ◌++◌, ◌∷◌, [], true, false, length, slice_get, IfOk, OnErr, OnOk, Some};
 ghost use Rattle.std.specs.Set.{is_member};
-ghost use Rattle.csp_program.specs.Substitution.{proc_with};
+ghost use Rattle.substitution.specs.Several.{with_values};
 ghost use Rattle.term_pool.specs.Entries.{entry_layer, layers, ArePartsOnce, Fits, PartsStart};
 ghost use Rattle.term_pool.specs.ExactEntry.{eq_entry};
 ghost use Rattle.term_pool.specs.First.{with_first};
@@ -12,19 +12,19 @@ ghost use Rattle.term_pool.specs.Pooled.{Has};
 ghost use Rattle.term_pool.specs.Put.{StandAt};
 ghost use Rattle.term_pool.specs.Trees.{layer_below, layer_tree, places_below, tree_at, tree_of};
 
-use crate::changed::{entry_with_first, put_own, with_places};
+use crate::changed::{entry_with_first, put_owns, with_places};
 use crate::entry::Entry;
-use crate::measure::Measure;
-use crate::node::{Node, ProcId};
+use crate::node::Node;
 use crate::node_measures::of_entry;
 use crate::own_parts::{OwnParts, keep_node, node_at};
 use containers::{Items, Numbering};
 use csp_base::NoMemory;
 use csp_program::Value;
+use pool_parts::{Measure, ProcId};
 use std::alloc::Global;
 
-// The entry at a place.
-fn entry_at(
+/// The entry at a place.
+pub(crate) fn entry_at(
     parts: &OwnParts,
     entries: &Numbering<Entry>,
     measures: &Items<Measure>,
@@ -137,7 +137,7 @@ pub(crate) fn put_first_in(
     put_entry(parts, entries, measures, entry)
 }
 
-/// The place of what the process at `id` becomes with the value in place of the name, where `ids` are the places of what its sub-processes become.
+/// The place of what the process at `id` becomes with the values in place of the names, where `ids` are the places of what its sub-processes become.
 pub(crate) fn put_made_in(
     parts: &mut OwnParts,
     entries: &mut Numbering<Entry>,
@@ -145,17 +145,17 @@ pub(crate) fn put_made_in(
     alloc: Global,
     id: ProcId,
     ids: &Items<ProcId>,
-    name: u32,
-    value: &Value,
+    names: &[u32],
+    values: &[Value],
 ) -> Result<ProcId, NoMemory>
     requires kept { IsKept parts.old entries.old measures.old }
     requires within { id.0 < length (processes parts.old entries.old) }
-    requires made { StandAt (processes parts.old entries.old) ids.now (pooled.parts (proc_with name value.now (tree_at (processes parts.old entries.old) id))) }
+    requires made { StandAt (processes parts.old entries.old) ids.now (pooled.parts (with_values names.now values.now (tree_at (processes parts.old entries.old) id))) }
     ensures kept { IsKept parts.new entries.new measures.new }
-    ensures puts { Puts (processes parts.old entries.old) (processes parts.new entries.new) result (proc_with name value.now (tree_at (processes parts.old entries.old) id)) }
+    ensures puts { Puts (processes parts.old entries.old) (processes parts.new entries.new) result (with_values names.now values.now (tree_at (processes parts.old entries.old) id)) }
 {
     let entry = entry_at(parts, entries, measures, id);
-    let entry = put_own(parts, alloc, entry, name, value)?;
+    let entry = put_owns(parts, alloc, entry, names, values)?;
     let entry = with_places(parts, alloc, entry, ids)?;
     put_entry(parts, entries, measures, entry)
 }

@@ -1,13 +1,8 @@
 //! Processes whose sub-processes are places in a pool.
 
-ghost use Rattle.term_pool.specs.ExactId.{exact_id};
-
-use containers::{Exact, Items};
+use containers::Items;
 use csp_program::{EventPart, Expr, Field, Gen, Head};
-
-/// The place of a process in a pool, from 0 on.
-#[derive(Clone, Copy, Debug, PartialEq, Eq, Hash)]
-pub struct ProcId(pub u32);
+use pool_parts::ProcId;
 
 /// One layer of a process: its expressions, and the place of each of its sub-processes.
 #[derive(Clone, Copy)]
@@ -40,8 +35,4 @@ pub enum Node<'p> {
     Seq(ProcId, ProcId),
     /// What stands after a tick. No text spells it.
     Ended,
-}
-
-impl Exact for ProcId {
-    ghost exact = { exact_id };
 }

@@ -1,15 +1,15 @@
 //! What a node measures, from what its own parts and the processes at its places measure.
 
 ghost use Rattle.std.specs.Prelude.{◌≡◌, ◌<◌, [], ◌∷◌, true, length};
-ghost use Rattle.term_pool.specs.Counting.{capped};
+ghost use Rattle.pool_parts.specs.Counting.{capped};
 ghost use Rattle.term_pool.specs.Entries.{entry_layer, Fits};
 ghost use Rattle.term_pool.specs.Measured.{depth_at, size_at, deepest_at, total_at, own_depth, own_size, node_depth, node_size};
 ghost use Rattle.term_pool.specs.Trees.{all_below, layer_below, layer_ids};
 
 use crate::entry::Entry;
-use crate::measure::{Measure, node as node_of, nothing, together};
-use crate::node::ProcId;
 use crate::own_parts::OwnParts;
+use pool_parts::ProcId;
+use pool_parts::measure::{Measure, node as node_of, nothing, together};
 
 // What the own parts of the node measure.
 fn of_own(parts: &OwnParts, entry: Entry) -> Measure

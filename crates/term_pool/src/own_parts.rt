@@ -3,14 +3,14 @@
 ghost use Rattle.std.specs.Prelude.{◌≡◌, [], slice_get, IfOk, OnErr, Some};
 ghost use Rattle.term_pool.specs.Entries.{entry_layer, ArePartsOnce, Fits, HasParts, PartsStart, StandsAs};
 ghost use Rattle.term_pool.specs.Layers.{shown, Layer};
-ghost use Rattle.term_pool.specs.Stored.{IsAbsent};
+ghost use Rattle.pool_parts.specs.Stored.{IsAbsent};
 
 use crate::entry::Entry;
-use crate::node::{Node, ProcId};
-use crate::store::Store;
+use crate::node::Node;
 use containers::Items;
 use csp_base::NoMemory;
 use csp_program::{EventPart, Expr, Field, Gen, Head};
+use pool_parts::{ProcId, Store};
 use std::alloc::Global;
 
 /// The own parts of nodes, each kind in a store of its own, and the lists of places of choices.

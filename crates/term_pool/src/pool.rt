@@ -4,8 +4,10 @@ ghost use Rattle.std.specs.Prelude.{◌≡◌, ◌↔◌, IsTrue, ◌<◌, ◌^�
 ghost use Rattle.csp_program.specs.Depth.{proc_depth};
 ghost use Rattle.csp_program.specs.Size.{proc_size};
 ghost use Rattle.csp_program.specs.Substitution.{proc_with};
-ghost use Rattle.term_pool.specs.Counting.{capped};
+ghost use Rattle.pool_parts.specs.Counting.{capped};
+ghost use Rattle.substitution.specs.Several.{with_values};
 ghost use Rattle.term_pool.specs.First.{with_first};
+ghost use Rattle.term_pool.specs.Low.{ProcLow};
 ghost use Rattle.term_pool.specs.Pooled.{parts, AreDifferent, Has, IsFront, PartsStandBelow};
 ghost use Rattle.term_pool.specs.Put.{StandAt};
 ghost use Rattle.term_pool.specs.Trees.{places_below, tree_at, tree_of};
@@ -13,17 +15,20 @@ ghost use Rattle.term_pool.specs.Within.{AddsOne, AddsParts};
 
 use crate::entry::Entry;
 use crate::kept::{node_in, put_first_in, put_in, put_made_in};
-use crate::measure::Measure;
-use crate::node::{Node, ProcId};
+use crate::node::Node;
+use crate::node_least::least_at;
+use crate::noted::note_least;
 use crate::own_parts::{OwnParts, no_parts};
 use crate::put::put_tree;
 use crate::substitute::substitute_at;
 use containers::{Items, Numbering};
 use csp_base::NoMemory;
 use csp_program::{Proc, Value};
+use pool_parts::{Measure, ProcId};
 use std::alloc::Global;
 use std::collections::HashMap;
 use std::marker::Model;
+use std::slice::from_ref;
 
 /// A list of processes, fewer than 2^32 of them and all different. It keeps the allocator.
 ///
@@ -34,6 +39,7 @@ pub struct Pool {
     parts: OwnParts,
     entries: Numbering<Entry>,
     measures: Items<Measure>,
+    leasts: Items<u32>,
 }
 
 impl Model for Pool {
@@ -41,7 +47,8 @@ impl Model for Pool {
     ghost use Rattle.std.specs.Coded.{codes};
     ghost use Rattle.csp_program.specs.contracts.processes.Proc as process;
     ghost use Rattle.csp_program.specs.declared.processes.Proc.{Proc};
-    ghost use Rattle.term_pool.specs.Held.{processes, IsKept};
+    ghost use Rattle.term_pool.specs.Held.{processes};
+    ghost use Rattle.term_pool.specs.Low.{IsNoted};
 
     ghost Value = { List Proc };
 
@@ -49,7 +56,7 @@ impl Model for Pool {
 
     ghost view = { λ p. processes p.parts p.entries };
 
-    ghost invariant = { λ p. IsKept p.parts p.entries p.measures };
+    ghost invariant = { λ p. IsNoted p.parts p.entries p.measures p.leasts };
 }
 
 impl Pool {
@@ -62,6 +69,7 @@ impl Pool {
             parts: no_parts(alloc),
             entries: Numbering::new(alloc),
             measures: Items::new(alloc),
+            leasts: Items::new(alloc),
         }
     }
 
@@ -100,6 +108,13 @@ impl Pool {
         self.measures.as_slice()[id.0 as usize].size
     }
 
+    // A number below which the process at a place reads no name: a value in place of such a name leaves it as it is.
+    pub(crate) fn least(&self, id: ProcId) -> u32
+        ensures { ProcLow result (tree_at self.now id) }
+    {
+        least_at(self.leasts.as_slice(), id)
+    }
+
     /// Whether the processes at two places are one process.
     pub fn same(&self, left: ProcId, right: ProcId) -> bool
         requires left { left.0 < length self.now }
@@ -121,13 +136,15 @@ impl Pool {
         ensures err { OnErr result (self.new ≡ self.old) }
         ensures err_only_new { OnErr result (Has self.old (tree_of self.old node.entry) → ⊥) }
     {
-        put_in(
+        let made = put_in(
             &mut self.parts,
             &mut self.entries,
             &mut self.measures,
             self.alloc,
             node,
-        )
+        );
+        note_least(&self.parts, &self.entries, &self.measures, &mut self.leasts);
+        made
     }
 
     /// The place of the process at `id` with the process at `below` in place of its first sub-process; where it has none, of the process itself.
@@ -141,41 +158,45 @@ impl Pool {
         ensures only { AddsOne self.old self.new (with_first (tree_at self.old id) (tree_at self.old below)) }
         ensures err { OnErr result (self.new ≡ self.old) }
     {
-        put_first_in(
+        let made = put_first_in(
             &mut self.parts,
             &mut self.entries,
             &mut self.measures,
             self.alloc,
             id,
             below,
-        )
+        );
+        note_least(&self.parts, &self.entries, &self.measures, &mut self.leasts);
+        made
     }
 
-    /// The place of what the process at `id` becomes with the value in place of the name, where `ids` are the places of what its sub-processes become.
+    /// The place of what the process at `id` becomes with the values in place of the names, where `ids` are the places of what its sub-processes become.
     pub(crate) fn put_made(
         &mut self,
         id: ProcId,
         ids: &Items<ProcId>,
-        name: u32,
-        value: &Value,
+        names: &[u32],
+        values: &[Value],
     ) -> Result<ProcId, NoMemory>
         requires within { id.0 < length self.old }
-        requires made { StandAt self.old ids.now (parts (proc_with name value.now (tree_at self.old id))) }
-        ensures process { IfOk result (λ made. slice_get self.new made.0 ≡ Some (proc_with name value.now (tree_at self.old id))) }
+        requires made { StandAt self.old ids.now (parts (with_values names.now values.now (tree_at self.old id))) }
+        ensures process { IfOk result (λ made. slice_get self.new made.0 ≡ Some (with_values names.now values.now (tree_at self.old id))) }
         ensures front { IsFront self.old self.new }
-        ensures known { Has self.old (proc_with name value.now (tree_at self.old id)) → self.new ≡ self.old }
-        ensures only { AddsOne self.old self.new (proc_with name value.now (tree_at self.old id)) }
+        ensures known { Has self.old (with_values names.now values.now (tree_at self.old id)) → self.new ≡ self.old }
+        ensures only { AddsOne self.old self.new (with_values names.now values.now (tree_at self.old id)) }
     {
-        put_made_in(
+        let made = put_made_in(
             &mut self.parts,
             &mut self.entries,
             &mut self.measures,
             self.alloc,
             id,
             ids,
-            name,
-            value,
-        )
+            names,
+            values,
+        );
+        note_least(&self.parts, &self.entries, &self.measures, &mut self.leasts);
+        made
     }
 
     /// The place of the process, which is put into the pool with its sub-processes, each of them once. Where memory fails some of them are put.
@@ -189,8 +210,7 @@ impl Pool {
         put_tree(self, alloc, proc)
     }
 
-    /// The place of what the process at `id` is with the value in place of the bound name with the number `slot`. What isn't in the pool is put into it,
-    /// with its sub-processes, each of them once. Where memory fails some of them are put.
+    /// The place of what the process at `id` is with the value in place of the bound name with the number `slot`, as `put_all_in` puts it.
     pub fn substitute(&mut self, id: ProcId, slot: u32, value: &Value) -> Result<ProcId, NoMemory>
         requires { id.0 < length self.old }
         ensures process { IfOk result (λ made. slice_get self.new made.0 ≡ Some (proc_with slot value.now (tree_at self.old id))) }
@@ -198,9 +218,27 @@ impl Pool {
         ensures known { Has self.old (proc_with slot value.now (tree_at self.old id)) → self.new ≡ self.old }
         ensures only { AddsParts self.old self.new (proc_with slot value.now (tree_at self.old id)) }
     {
+        let made = self.put_all_in(id, from_ref(&slot), from_ref(value))?;
+        Ok(made)
+    }
+
+    /// The place of what the process at `id` is with the values in place of the bound names with these numbers, one after another. What isn't in the pool
+    /// is put into it, with its sub-processes, each of them once: a process with some of the values alone is not. Where memory fails some of them are put.
+    pub fn put_all_in(
+        &mut self,
+        id: ProcId,
+        names: &[u32],
+        values: &[Value],
+    ) -> Result<ProcId, NoMemory>
+        requires { id.0 < length self.old }
+        ensures process { IfOk result (λ made. slice_get self.new made.0 ≡ Some (with_values names.now values.now (tree_at self.old id))) }
+        ensures front { IsFront self.old self.new }
+        ensures known { Has self.old (with_values names.now values.now (tree_at self.old id)) → self.new ≡ self.old }
+        ensures only { AddsParts self.old self.new (with_values names.now values.now (tree_at self.old id)) }
+    {
         let alloc = self.alloc();
         let mut visited = HashMap::new(alloc);
-        substitute_at(self, &mut visited, alloc, &id, slot, value)
+        substitute_at(self, &mut visited, alloc, &id, names, values)
     }
 
     // The allocator.

@@ -6,11 +6,11 @@ ghost use Rattle.term_pool.specs.Pooled.{parts};
 ghost use Rattle.term_pool.specs.Put.{Grows, StandAt, StandsFor};
 
 use crate::below::{Below, all, few, node_over};
-use crate::node::ProcId;
 use crate::pool::Pool;
 use containers::Items;
 use csp_base::NoMemory;
 use csp_program::Proc;
+use pool_parts::ProcId;
 use std::alloc::Global;
 
 /// The place of the process, which is put into the pool.

@@ -1,19 +1,20 @@
-//! Putting a value for a name into a process of a pool.
+//! Putting values for names into a process of a pool.
 
-ghost use Rattle.std.specs.Prelude.{◌≡◌, ◌<◌, [], ◌∷◌, true, length, map, nat_eq, slice_get, IfOk, OnOk, OnErr, Some};
+ghost use Rattle.std.specs.Prelude.{◌≡◌, ◌<◌, [], ◌∷◌, true, length, map, nat_eq, slice_get, IfOk, List, OnOk, OnErr, Some};
 ghost use Rattle.std.specs.HashMap.{get, IsUnchanged, Updates};
-ghost use Rattle.csp_program.specs.Substitution.{proc_with};
+ghost use Rattle.csp_atoms.specs.declared.value.Value.{Value};
+ghost use Rattle.substitution.specs.Several.{with_values};
 ghost use Rattle.term_pool.specs.Pooled.{parts};
 ghost use Rattle.term_pool.specs.Put.{Grows, StandAt};
-ghost use Rattle.term_pool.specs.Substituted.{all_with, AreMade};
+ghost use Rattle.term_pool.specs.Substituted.{all_less, all_with, AreMade};
 ghost use Rattle.term_pool.specs.Trees.{all_below, tree_at};
 
-use crate::node::ProcId;
 use crate::pool::Pool;
 use crate::under::{Under, under_node};
 use containers::Items;
 use csp_base::NoMemory;
 use csp_program::Value;
+use pool_parts::ProcId;
 use std::alloc::Global;
 use std::collections::HashMap;
 
@@ -35,26 +36,48 @@ fn remember(visited: &mut HashMap<u32, ProcId>, id: ProcId, made: ProcId) -> Res
     }
 }
 
-/// The place of what the process at `id` is with the value in place of the name. `visited` says what became of the places seen so far.
+// Whether all of the names are below the number.
+fn are_below(names: &[u32], least: u32) -> bool
+    ensures { result ≡ all_less least names.now }
+{
+    for name in names {
+        if *name >= least {
+            return false;
+        }
+    }
+    true
+}
+
+// Whether the process at the place stays as it is, whatever values the names get, because it reads no name so low.
+fn stays(pool: &Pool, id: ProcId, names: &[u32]) -> bool
+    ensures { result ≡ true → (values : List Value) → with_values names.now values (tree_at pool.now id) ≡ tree_at pool.now id }
+{
+    are_below(names, pool.least(id))
+}
+
+/// The place of what the process at `id` is with the values in place of the names, one after another. `visited` says what became of the places seen so far.
 #[cycle(substitute_at)]
 pub(crate) fn substitute_at(
     pool: &mut Pool,
     visited: &mut HashMap<u32, ProcId>,
     alloc: Global,
     id: &ProcId,
-    name: u32,
-    value: &Value,
+    names: &[u32],
+    values: &[Value],
 ) -> Result<ProcId, NoMemory>
     requires within { id.now.0 < length pool.old }
-    requires visited { AreMade name value.now pool.old visited.old }
-    ensures process { IfOk result (λ made. slice_get pool.new made.0 ≡ Some (proc_with name value.now (tree_at pool.old id.now))) }
-    ensures grows { Grows pool.old pool.new (proc_with name value.now (tree_at pool.old id.now) ∷ []) }
-    ensures visited { AreMade name value.now pool.new visited.new }
+    requires visited { AreMade names.now values.now pool.old visited.old }
+    ensures process { IfOk result (λ made. slice_get pool.new made.0 ≡ Some (with_values names.now values.now (tree_at pool.old id.now))) }
+    ensures grows { Grows pool.old pool.new (with_values names.now values.now (tree_at pool.old id.now) ∷ []) }
+    ensures visited { AreMade names.now values.now pool.new visited.new }
 {
+    if stays(pool, *id, names) {
+        return Ok(*id);
+    }
     if let Some(made) = known(visited, id) {
         return Ok(made);
     }
-    let made = put_layer(pool, visited, alloc, *id, name, value)?;
+    let made = put_layer(pool, visited, alloc, *id, names, values)?;
     remember(visited, *id, made)?;
     Ok(made)
 }
@@ -66,46 +89,74 @@ fn put_layer(
     visited: &mut HashMap<u32, ProcId>,
     alloc: Global,
     id: ProcId,
-    name: u32,
-    value: &Value,
+    names: &[u32],
+    values: &[Value],
 ) -> Result<ProcId, NoMemory>
     requires within { id.0 < length pool.old }
-    requires visited { AreMade name value.now pool.old visited.old }
-    ensures process { IfOk result (λ made. slice_get pool.new made.0 ≡ Some (proc_with name value.now (tree_at pool.old id))) }
-    ensures grows { Grows pool.old pool.new (proc_with name value.now (tree_at pool.old id) ∷ []) }
-    ensures visited { AreMade name value.now pool.new visited.new }
+    requires visited { AreMade names.now values.now pool.old visited.old }
+    ensures process { IfOk result (λ made. slice_get pool.new made.0 ≡ Some (with_values names.now values.now (tree_at pool.old id))) }
+    ensures grows { Grows pool.old pool.new (with_values names.now values.now (tree_at pool.old id) ∷ []) }
+    ensures visited { AreMade names.now values.now pool.new visited.new }
 {
-    let ids = put_below(pool, visited, alloc, id, name, value)?;
-    let made = pool.put_made(id, &ids, name, value)?;
+    let ids = put_below(pool, visited, alloc, id, names, values)?;
+    let made = pool.put_made(id, &ids, names, values)?;
     Ok(made)
 }
 
-// The places of what the sub-processes of the process at `id` become: where it binds the name they stay.
+// The places of what the sub-processes of the process at `id` become. Where it binds some of the names, the others alone get their values there.
 #[cycle(substitute_at)]
 fn put_below(
     pool: &mut Pool,
     visited: &mut HashMap<u32, ProcId>,
     alloc: Global,
     id: ProcId,
-    name: u32,
-    value: &Value,
+    names: &[u32],
+    values: &[Value],
 ) -> Result<Items<ProcId>, NoMemory>
     requires within { id.0 < length pool.old }
-    requires visited { AreMade name value.now pool.old visited.old }
-    ensures places { IfOk result (λ made. StandAt pool.new made (parts (proc_with name value.now (tree_at pool.old id)))) }
-    ensures grows { Grows pool.old pool.new (parts (proc_with name value.now (tree_at pool.old id))) }
-    ensures visited { AreMade name value.now pool.new visited.new }
+    requires visited { AreMade names.now values.now pool.old visited.old }
+    ensures places { IfOk result (λ made. StandAt pool.new made (parts (with_values names.now values.now (tree_at pool.old id)))) }
+    ensures grows { Grows pool.old pool.new (parts (with_values names.now values.now (tree_at pool.old id))) }
+    ensures visited { AreMade names.now values.now pool.new visited.new }
 {
-    let below = under_node(pool, alloc, id, name)?;
-    let Under { ids, bound } = below;
-    if bound {
-        return Ok(ids);
+    let under = under_node(pool, alloc, id, names, values)?;
+    let Under { ids, unbound } = under;
+    match &unbound {
+        None => {
+            let made = put_all(pool, visited, alloc, id, ids.as_slice(), names, values)?;
+            Ok(made)
+        }
+        Some(others) => {
+            let places = ids.as_slice();
+            let other_names = others.names.as_slice();
+            let other_values = others.values.as_slice();
+            let made = put_anew(pool, alloc, id, places, other_names, other_values)?;
+            Ok(made)
+        }
     }
-    let made = put_all(pool, visited, alloc, id, ids.as_slice(), name, value)?;
+}
+
+// What becomes of the places, which are smaller than `id`, where none has been visited.
+#[cycle(substitute_at)]
+fn put_anew(
+    pool: &mut Pool,
+    alloc: Global,
+    id: ProcId,
+    ids: &[ProcId],
+    names: &[u32],
+    values: &[Value],
+) -> Result<Items<ProcId>, NoMemory>
+    requires within { id.0 < length pool.old }
+    requires places { all_below id.0 ids.now ≡ true }
+    ensures places { IfOk result (λ made. StandAt pool.new made (map (tree_at (all_with names.now values.now pool.old)) ids.now)) }
+    ensures grows { Grows pool.old pool.new (map (tree_at (all_with names.now values.now pool.old)) ids.now) }
+{
+    let mut visited = HashMap::new(alloc);
+    let made = put_all(pool, &mut visited, alloc, id, ids, names, values)?;
     Ok(made)
 }
 
-// What became of the places, which are smaller than `id`.
+// What becomes of the places, which are smaller than `id`.
 #[cycle(substitute_at)]
 fn put_all(
     pool: &mut Pool,
@@ -113,19 +164,19 @@ fn put_all(
     alloc: Global,
     id: ProcId,
     ids: &[ProcId],
-    name: u32,
-    value: &Value,
+    names: &[u32],
+    values: &[Value],
 ) -> Result<Items<ProcId>, NoMemory>
     requires within { id.0 < length pool.old }
     requires places { all_below id.0 ids.now ≡ true }
-    requires visited { AreMade name value.now pool.old visited.old }
-    ensures places { IfOk result (λ made. StandAt pool.new made (map (tree_at (all_with name value.now pool.old)) ids.now)) }
-    ensures grows { Grows pool.old pool.new (map (tree_at (all_with name value.now pool.old)) ids.now) }
-    ensures visited { AreMade name value.now pool.new visited.new }
+    requires visited { AreMade names.now values.now pool.old visited.old }
+    ensures places { IfOk result (λ made. StandAt pool.new made (map (tree_at (all_with names.now values.now pool.old)) ids.now)) }
+    ensures grows { Grows pool.old pool.new (map (tree_at (all_with names.now values.now pool.old)) ids.now) }
+    ensures visited { AreMade names.now values.now pool.new visited.new }
 {
     let mut made = Items::new(alloc);
     for p in ids {
-        let place = substitute_at(pool, visited, alloc, p, name, value)?;
+        let place = substitute_at(pool, visited, alloc, p, names, values)?;
         made.push(place)?;
     }
     Ok(made)

@@ -3,10 +3,10 @@
 ghost use Rattle.std.specs.Prelude.{◌≡◌};
 ghost use Rattle.csp_program.specs.Depth.{proc_depth};
 ghost use Rattle.csp_program.specs.Size.{proc_size};
-ghost use Rattle.term_pool.specs.Counting.{capped};
+ghost use Rattle.pool_parts.specs.Counting.{capped};
 
-use crate::measured::of_proc;
 use csp_program::Proc;
+use pool_parts::measured::of_proc;
 
 /// The depth of a term: 1 without parts, else one more than the greatest depth among its processes and expressions. Counting stops at 4,294,967,295.
 pub fn term_depth(term: &Proc) -> u32

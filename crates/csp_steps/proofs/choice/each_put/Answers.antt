@@ -1,6 +1,6 @@
 use Rattle.std.proofs.Common.{List, [], refl, sym, subst, arith}
 use Rattle.term_pool.specs.Trees.{tree_at}
-use Rattle.term_pool.specs.declared.node.ProcId.{ProcId}
+use Rattle.pool_parts.specs.declared.place.ProcId.{ProcId}
 use Rattle.csp_steps.specs.Computed.{AreAt}
 use Rattle.csp_steps.proofs.Choosing.{all_put, next_put}
 use Rattle.csp_steps.proofs.Places.{front_both, front_same, still_within}

@@ -3,7 +3,7 @@ use Rattle.csp_program.specs.declared.processes.Field.{Field}
 use Rattle.csp_program.specs.declared.processes.Proc.TheVariants as proc
 use Rattle.process_steps.specs.Needed.{arguments_in}
 use Rattle.term_pool.specs.Trees.{all_below, tree_at}
-use Rattle.term_pool.specs.declared.node.ProcId.{ProcId}
+use Rattle.pool_parts.specs.declared.place.ProcId.{ProcId}
 use Rattle.csp_steps.specs.declared.look.Look.TheVariants as look
 use Rattle.csp_steps.specs.Computed.{AreOfChoice, GivesLook}
 use Rattle.csp_steps.proofs.Computing.{look_passed}

@@ -5,7 +5,7 @@ use Rattle.csp_atoms.specs.declared.atom.Atom.{Atom}
 use Rattle.csp_values.proofs.Steps.{nothing}
 use Rattle.process_steps.specs.declared.label.Label.TheVariants.{Silent}
 use Rattle.term_pool.specs.Trees.{tree_at}
-use Rattle.term_pool.specs.declared.node.ProcId.{ProcId}
+use Rattle.pool_parts.specs.declared.place.ProcId.{ProcId}
 use Rattle.csp_steps.proofs.Forms.{each_internal, each_internal_none}
 use Rattle.csp_steps.specs.declared.step.StepTo.{StepTo}
 use Rattle.csp_steps.proofs.look.look_each_internal.Goals as goal

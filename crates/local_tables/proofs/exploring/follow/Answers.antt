@@ -3,7 +3,7 @@ use Rattle.std.specs.Prelude.{slice_get, slice_index_or}
 use Rattle.std.proofs.lemmas.Option.{slice_get-get_or}
 use Rattle.csp_steps.specs.declared.step.StepTo.{StepTo}
 use Rattle.term_pool.specs.Trees.{tree_at}
-use Rattle.term_pool.specs.declared.node.ProcId.{ProcId}
+use Rattle.pool_parts.specs.declared.place.ProcId.{ProcId}
 use Rattle.local_tables.specs.Component.{component}
 use Rattle.local_tables.specs.Progress.{IsAt}
 use Rattle.local_tables.specs.Stops.{StopsAt, as_stop}

@@ -2,7 +2,7 @@
 use Rattle.std.proofs.Common.{Option, unwrap_or, sym, ap, ◌∙◌}
 use Rattle.std.proofs.lemmas.Option.{unwrap_or-slice_get}
 use Rattle.std.specs.Option.{option_copied}
-use Rattle.term_pool.specs.declared.node.ProcId.{ProcId}
+use Rattle.pool_parts.specs.declared.place.ProcId.{ProcId}
 use Rattle.term_pool.proofs.changed.at.Goals as goal
 
 pub returns-in-None : goal.returns-in-None

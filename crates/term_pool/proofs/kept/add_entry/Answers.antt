@@ -7,7 +7,7 @@ use Rattle.term_pool.specs.Held.{processes, IsKept, Puts}
 use Rattle.term_pool.specs.Measured.{node_depth, node_size}
 use Rattle.term_pool.specs.Trees.{layer_tree}
 use Rattle.term_pool.specs.declared.entry.Entry.{Entry}
-use Rattle.term_pool.specs.declared.measure.Measure.{Measure}
+use Rattle.pool_parts.specs.declared.measure.Measure.{Measure}
 use Rattle.term_pool.proofs.kept.add_entry.Goals as goal
 
 pub returns-in-Ok-clause-kept : goal.returns-in-Ok-clause-kept

@@ -1,5 +1,5 @@
 use Rattle.std.proofs.Common.{◌≡◌, ◌+◌, ◌≤◌, max, true, length, drop}
-use Rattle.term_pool.specs.Counting.{capped}
+use Rattle.pool_parts.specs.Counting.{capped}
 use Rattle.term_pool.specs.Measured.{deepest_at, total_at}
 use Rattle.term_pool.specs.Trees.{all_below}
 use Rattle.term_pool.proofs.node_measures.at_places.Given as goal

@@ -7,7 +7,7 @@ use Rattle.term_pool.proofs.PutLemmas as lemmas
 use Rattle.term_pool.specs.Layers.{Layer, shown}
 use Rattle.term_pool.specs.Over.{layer_over}
 use Rattle.term_pool.specs.Put.{StandAt, StandsFor}
-use Rattle.term_pool.specs.declared.node.ProcId.{ProcId}
+use Rattle.pool_parts.specs.declared.place.ProcId.{ProcId}
 use Rattle.term_pool.proofs.put.+put_tree.Goals as goal
 
 pub put_below-returns-in-Prefix-clause-grows : goal.put_below-returns-in-Prefix-clause-grows

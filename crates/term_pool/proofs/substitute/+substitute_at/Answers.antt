@@ -1,102 +1,128 @@
 -- What a process becomes: from its own parts, and from what its sub-processes became.
 use Rattle.std.proofs.Common.{◌+◌, List, Some, map, take, ap, sym, ◌∙◌, subst, arith}
-use Rattle.csp_program.specs.Substitution.{proc_with}
+use Rattle.std.proofs.lemmas.Option.{slice_get-get_or}
+use Rattle.substitution.specs.Several.{with_values}
 use Rattle.csp_program.specs.declared.processes.Proc.{Proc}
-use Rattle.term_pool.proofs.SubstituteLemmas as made
+use Rattle.csp_program.specs.declared.processes.Proc.TheVariants as proc
+use Rattle.term_pool.proofs.ValuesLemmas as made
 use Rattle.term_pool.proofs.PutLemmas as lemmas
 use Rattle.term_pool.specs.Pooled.{parts}
 use Rattle.term_pool.specs.Put.{Grows, StandAt}
 use Rattle.term_pool.specs.Substituted.{all_with}
 use Rattle.term_pool.specs.Trees.{tree_at}
-use Rattle.term_pool.specs.declared.node.ProcId.{ProcId}
+use Rattle.pool_parts.specs.declared.place.ProcId.{ProcId}
 use Rattle.term_pool.proofs.substitute.+substitute_at.Goals as goal
 
 pub put_all-substitute_at-requires : goal.put_all-substitute_at-requires
 put_all-substitute_at-requires t c =
-    let smaller = made.next_smaller c.args.name c.args.value.now c.args.pool.now c.args.id c.requires.within c.args.ids.now c.requires.places c.loop-p.p-index c.loop-p-test.true in
-    (omega (arith, smaller), (made.next_in c.args.name c.args.value.now c.args.pool.now c.args.id c.requires.within c.args.ids.now c.requires.places c.loop-p.p-index c.loop-p-test.true c.loop-p.pool c.loop-p.invariant.grows.front, c.loop-p.invariant.visited))
+    let smaller = made.next_smaller c.args.names.now c.args.values.now c.args.pool.now c.args.id c.requires.within c.args.ids.now c.requires.places c.loop-p.p-index c.loop-p-test.true in
+    (omega (arith, smaller), (made.next_in c.args.names.now c.args.values.now c.args.pool.now c.args.id c.requires.within c.args.ids.now c.requires.places c.loop-p.p-index c.loop-p-test.true c.loop-p.pool c.loop-p.invariant.grows.front, c.loop-p.invariant.visited))
 
 pub put_all-returns-in_err-place-clause-grows : goal.put_all-returns-in_err-place-clause-grows
 put_all-returns-in_err-place-clause-grows t c =
-    made.next_ends c.args.name c.args.value.now c.args.pool.now c.args.id c.requires.within c.args.ids.now c.requires.places c.loop-p.p-index c.loop-p-test.true
+    made.next_ends c.args.names.now c.args.values.now c.args.pool.now c.args.id c.requires.within c.args.ids.now c.requires.places c.loop-p.p-index c.loop-p-test.true
     c.loop-p.pool c.substitute_at.new.pool c.loop-p.invariant.grows c.in_err-place.ensures.grows
 
 pub put_all-returns-in_err-push-clause-grows : goal.put_all-returns-in_err-push-clause-grows
 put_all-returns-in_err-push-clause-grows t c =
-    made.next_ends c.args.name c.args.value.now c.args.pool.now c.args.id c.requires.within c.args.ids.now c.requires.places c.loop-p.p-index c.loop-p-test.true
+    made.next_ends c.args.names.now c.args.values.now c.args.pool.now c.args.id c.requires.within c.args.ids.now c.requires.places c.loop-p.p-index c.loop-p-test.true
     c.loop-p.pool c.substitute_at.new.pool c.loop-p.invariant.grows c.in_ok-place.ensures.grows
 
 pub put_all-loop-p-preserved : goal.put_all-loop-p-preserved
 put_all-loop-p-preserved t c =
     record {
-      places = subst (λ (xs : List ProcId). StandAt c.substitute_at.new.pool xs (map (tree_at (all_with c.args.name c.args.value.now c.args.pool.now)) (take (c.loop-p.p-index + 1) c.args.ids.now))) (sym c.in_ok-push.ensures.ok)
-          (made.next_stands c.args.name c.args.value.now c.args.pool.now c.args.id c.requires.within c.args.ids.now c.requires.places c.loop-p.p-index c.loop-p-test.true
+      places = subst (λ (xs : List ProcId). StandAt c.substitute_at.new.pool xs (map (tree_at (all_with c.args.names.now c.args.values.now c.args.pool.now)) (take (c.loop-p.p-index + 1) c.args.ids.now))) (sym c.in_ok-push.ensures.ok)
+          (made.next_stands c.args.names.now c.args.values.now c.args.pool.now c.args.id c.requires.within c.args.ids.now c.requires.places c.loop-p.p-index c.loop-p-test.true
           c.loop-p.pool c.substitute_at.new.pool c.loop-p.invariant.grows.front c.in_ok-place.ensures.grows.front c.loop-p.made c.in_ok-place.place c.loop-p.invariant.places c.in_ok-place.ensures.process);
-      grows = made.next_grows c.args.name c.args.value.now c.args.pool.now c.args.id c.requires.within c.args.ids.now c.requires.places c.loop-p.p-index c.loop-p-test.true c.loop-p.pool c.substitute_at.new.pool c.loop-p.invariant.grows c.in_ok-place.ensures.grows;
+      grows = made.next_grows c.args.names.now c.args.values.now c.args.pool.now c.args.id c.requires.within c.args.ids.now c.requires.places c.loop-p.p-index c.loop-p-test.true c.loop-p.pool c.substitute_at.new.pool c.loop-p.invariant.grows c.in_ok-place.ensures.grows;
       visited = c.in_ok-place.ensures.visited;
     }
 
 pub substitute_at-returns-in-Some-clause-process : goal.substitute_at-returns-in-Some-clause-process
 substitute_at-returns-in-Some-clause-process t c =
-    made.made_after c.args.name c.args.value.now c.args.pool.now c.args.pool.now c.args.id.now c.in-Some.made c.requires.within (λ k q h. h)
+    made.made_after c.args.names.now c.args.values.now c.args.pool.now c.args.pool.now c.args.id.now c.in-Some.made c.requires.within (λ k q h. h)
     (c.requires.visited c.args.id.now.0 c.in-Some.made (sym c.known.ensures ∙ c.in-Some.is))
 
 pub substitute_at-returns-clause-visited : goal.substitute_at-returns-clause-visited
 substitute_at-returns-clause-visited t c =
-    made.more_made c.args.name c.args.value.now c.put_layer.new.pool c.put_layer.new.visited c.remember.new.visited c.args.id.now.0 c.in_ok-made.made c.in_ok-made.ensures.visited
-    (made.made_by c.args.name c.args.value.now c.args.pool.now c.put_layer.new.pool c.args.id.now c.requires.within c.in_ok-made.ensures.grows.front c.in_ok-made.made c.in_ok-made.ensures.process)
+    made.more_made c.args.names.now c.args.values.now c.put_layer.new.pool c.put_layer.new.visited c.remember.new.visited c.args.id.now.0 c.in_ok-made.made c.in_ok-made.ensures.visited
+    (made.made_by c.args.names.now c.args.values.now c.args.pool.now c.put_layer.new.pool c.args.id.now c.requires.within c.in_ok-made.ensures.grows.front c.in_ok-made.made c.in_ok-made.ensures.process)
     c.in_ok-remember.ensures.ok
 
 pub put_layer-returns-in_err-ids-clause-grows : goal.put_layer-returns-in_err-ids-clause-grows
 put_layer-returns-in_err-ids-clause-grows t c =
-    lemmas.grows_some c.args.pool.now c.put_below.new.pool (proc_with c.args.name c.args.value.now (tree_at c.args.pool.now c.args.id)) c.in_err-ids.ensures.grows
+    lemmas.grows_some c.args.pool.now c.put_below.new.pool (with_values c.args.names.now c.args.values.now (tree_at c.args.pool.now c.args.id)) c.in_err-ids.ensures.grows
 
 pub put_layer-put_made-requires : goal.put_layer-put_made-requires
 put_layer-put_made-requires t c =
     record {
-      within = made.still_within c.args.name c.args.value.now c.args.pool.now c.put_below.new.pool c.args.id c.requires.within c.in_ok-ids.ensures.grows.front;
-      made = subst (λ (q : Proc). StandAt c.put_below.new.pool c.in_ok-ids.ids (parts (proc_with c.args.name c.args.value.now q)))
-          (sym (made.tree_stays c.args.name c.args.value.now c.args.pool.now c.put_below.new.pool c.args.id c.requires.within c.in_ok-ids.ensures.grows.front)) c.in_ok-ids.ensures.places;
+      within = made.still_within c.args.names.now c.args.values.now c.args.pool.now c.put_below.new.pool c.args.id c.requires.within c.in_ok-ids.ensures.grows.front;
+      made = subst (λ (q : Proc). StandAt c.put_below.new.pool c.in_ok-ids.ids (parts (with_values c.args.names.now c.args.values.now q)))
+          (sym (made.tree_stays c.args.names.now c.args.values.now c.args.pool.now c.put_below.new.pool c.args.id c.requires.within c.in_ok-ids.ensures.grows.front)) c.in_ok-ids.ensures.places;
     }
 
 pub put_layer-returns-in_err-made-clause-grows : goal.put_layer-returns-in_err-made-clause-grows
 put_layer-returns-in_err-made-clause-grows t c =
-    made.layer_grows c.args.name c.args.value.now c.args.pool.now c.put_below.new.pool c.put_made.new.self c.args.id c.requires.within c.in_ok-ids.ensures.grows
+    made.layer_grows c.args.names.now c.args.values.now c.args.pool.now c.put_below.new.pool c.put_made.new.self c.args.id c.requires.within c.in_ok-ids.ensures.grows
     c.in_err-made.ensures.front c.in_err-made.ensures.known c.in_err-made.ensures.only
 
 pub put_layer-returns-clause-grows : goal.put_layer-returns-clause-grows
 put_layer-returns-clause-grows t c =
-    made.layer_grows c.args.name c.args.value.now c.args.pool.now c.put_below.new.pool c.put_made.new.self c.args.id c.requires.within c.in_ok-ids.ensures.grows
+    made.layer_grows c.args.names.now c.args.values.now c.args.pool.now c.put_below.new.pool c.put_made.new.self c.args.id c.requires.within c.in_ok-ids.ensures.grows
     c.in_ok-made.ensures.front c.in_ok-made.ensures.known c.in_ok-made.ensures.only
 
 pub put_layer-returns-clause-process : goal.put_layer-returns-clause-process
 put_layer-returns-clause-process t c =
-    c.in_ok-made.ensures.process ∙ ap (λ (q : Proc). Some (proc_with c.args.name c.args.value.now q))
-    (made.tree_stays c.args.name c.args.value.now c.args.pool.now c.put_below.new.pool c.args.id c.requires.within c.in_ok-ids.ensures.grows.front)
+    c.in_ok-made.ensures.process ∙ ap (λ (q : Proc). Some (with_values c.args.names.now c.args.values.now q))
+    (made.tree_stays c.args.names.now c.args.values.now c.args.pool.now c.put_below.new.pool c.args.id c.requires.within c.in_ok-ids.ensures.grows.front)
 
 pub put_layer-returns-in_err-made-clause-visited : goal.put_layer-returns-in_err-made-clause-visited
 put_layer-returns-in_err-made-clause-visited t c =
-    made.all_still_made c.args.name c.args.value.now c.put_below.new.pool c.put_made.new.self c.in_err-made.ensures.front c.put_below.new.visited c.in_ok-ids.ensures.visited
+    made.all_still_made c.args.names.now c.args.values.now c.put_below.new.pool c.put_made.new.self c.in_err-made.ensures.front c.put_below.new.visited c.in_ok-ids.ensures.visited
 
 pub put_layer-returns-clause-visited : goal.put_layer-returns-clause-visited
 put_layer-returns-clause-visited t c =
-    made.all_still_made c.args.name c.args.value.now c.put_below.new.pool c.put_made.new.self c.in_ok-made.ensures.front c.put_below.new.visited c.in_ok-ids.ensures.visited
+    made.all_still_made c.args.names.now c.args.values.now c.put_below.new.pool c.put_made.new.self c.in_ok-made.ensures.front c.put_below.new.visited c.in_ok-ids.ensures.visited
 
-pub put_below-returns-then-bound-clause-places : goal.put_below-returns-then-bound-clause-places
-put_below-returns-then-bound-clause-places t c =
-    made.under_kept c.args.name c.args.value.now c.args.pool.now c.args.id c.requires.within c.in_ok-below.below c.in_ok-below.ensures c.if-bound.true
-
-pub put_below-returns-in_err-made-clause-grows : goal.put_below-returns-in_err-made-clause-grows
-put_below-returns-in_err-made-clause-grows t c =
+pub put_below-returns-in_err-made-in-None-clause-grows : goal.put_below-returns-in_err-made-in-None-clause-grows
+put_below-returns-in_err-made-in-None-clause-grows t c =
     subst (λ (ts : List Proc). Grows c.args.pool.now c.put_all.new.pool ts)
-    (made.under_open c.args.name c.args.value.now c.args.pool.now c.args.id c.requires.within c.in_ok-below.below c.in_ok-below.ensures c.if-bound.false c.as_slice.result.now c.as_slice.ensures) c.in_err-made.ensures.grows
+    (made.under_none c.args.names.now c.args.values.now c.args.pool.now c.args.id c.in_ok-under.under c.in_ok-under.ensures c.in-None.is c.as_slice.result.now c.as_slice.ensures) c.in_err-made-in-None.ensures.grows
+
+pub put_below-returns-in-None-clause-places : goal.put_below-returns-in-None-clause-places
+put_below-returns-in-None-clause-places t c =
+    subst (λ (ts : List Proc). StandAt c.put_all.new.pool c.in_ok-made-in-None.made ts)
+    (made.under_none c.args.names.now c.args.values.now c.args.pool.now c.args.id c.in_ok-under.under c.in_ok-under.ensures c.in-None.is c.as_slice.result.now c.as_slice.ensures) c.in_ok-made-in-None.ensures.places
+
+pub put_below-returns-in-None-clause-grows : goal.put_below-returns-in-None-clause-grows
+put_below-returns-in-None-clause-grows t c =
+    subst (λ (ts : List Proc). Grows c.args.pool.now c.put_all.new.pool ts)
+    (made.under_none c.args.names.now c.args.values.now c.args.pool.now c.args.id c.in_ok-under.under c.in_ok-under.ensures c.in-None.is c.as_slice.result.now c.as_slice.ensures) c.in_ok-made-in-None.ensures.grows
+
+pub put_below-returns-in_err-made-in-Some-clause-grows : goal.put_below-returns-in_err-made-in-Some-clause-grows
+put_below-returns-in_err-made-in-Some-clause-grows t c =
+    subst (λ (ts : List Proc). Grows c.args.pool.now c.put_anew.new.pool ts)
+    (made.under_some c.args.names.now c.args.values.now c.args.pool.now c.args.id c.in_ok-under.under c.in_ok-under.ensures c.in-Some.others c.in-Some.is c.as_slice-other_names.result.now c.as_slice-other_names.ensures c.as_slice-other_values.result.now c.as_slice-other_values.ensures c.as_slice-places.result.now c.as_slice-places.ensures) c.in_err-made-in-Some.ensures.grows
 
 pub put_below-returns-clause-places : goal.put_below-returns-clause-places
 put_below-returns-clause-places t c =
-    subst (λ (ts : List Proc). StandAt c.put_all.new.pool c.in_ok-made.made ts)
-    (made.under_open c.args.name c.args.value.now c.args.pool.now c.args.id c.requires.within c.in_ok-below.below c.in_ok-below.ensures c.if-bound.false c.as_slice.result.now c.as_slice.ensures) c.in_ok-made.ensures.places
+    subst (λ (ts : List Proc). StandAt c.put_anew.new.pool c.in_ok-made-in-Some.made ts)
+    (made.under_some c.args.names.now c.args.values.now c.args.pool.now c.args.id c.in_ok-under.under c.in_ok-under.ensures c.in-Some.others c.in-Some.is c.as_slice-other_names.result.now c.as_slice-other_names.ensures c.as_slice-other_values.result.now c.as_slice-other_values.ensures c.as_slice-places.result.now c.as_slice-places.ensures) c.in_ok-made-in-Some.ensures.places
 
 pub put_below-returns-clause-grows : goal.put_below-returns-clause-grows
 put_below-returns-clause-grows t c =
-    subst (λ (ts : List Proc). Grows c.args.pool.now c.put_all.new.pool ts)
-    (made.under_open c.args.name c.args.value.now c.args.pool.now c.args.id c.requires.within c.in_ok-below.below c.in_ok-below.ensures c.if-bound.false c.as_slice.result.now c.as_slice.ensures) c.in_ok-made.ensures.grows
+    subst (λ (ts : List Proc). Grows c.args.pool.now c.put_anew.new.pool ts)
+    (made.under_some c.args.names.now c.args.values.now c.args.pool.now c.args.id c.in_ok-under.under c.in_ok-under.ensures c.in-Some.others c.in-Some.is c.as_slice-other_names.result.now c.as_slice-other_names.ensures c.as_slice-other_values.result.now c.as_slice-other_values.ensures c.as_slice-places.result.now c.as_slice-places.ensures) c.in_ok-made-in-Some.ensures.grows
+
+pub put_below-returns-in_err-made-in-Some-clause-visited : goal.put_below-returns-in_err-made-in-Some-clause-visited
+put_below-returns-in_err-made-in-Some-clause-visited t c =
+    made.all_still_made c.args.names.now c.args.values.now c.args.pool.now c.put_anew.new.pool c.in_err-made-in-Some.ensures.grows.front c.args.visited.now c.requires.visited
+
+pub put_below-returns-clause-visited : goal.put_below-returns-clause-visited
+put_below-returns-clause-visited t c =
+    made.all_still_made c.args.names.now c.args.values.now c.args.pool.now c.put_anew.new.pool c.in_ok-made-in-Some.ensures.grows.front c.args.visited.now c.requires.visited
+
+pub substitute_at-returns-then-stays-clause-process : goal.substitute_at-returns-then-stays-clause-process
+substitute_at-returns-then-stays-clause-process t c =
+    slice_get-get_or c.args.pool.now c.args.id.now.0 proc.Stop c.requires.within ∙
+    ap (λ (q : Proc). Some q) (sym (c.stays.ensures c.if-stays.true c.args.values.now))

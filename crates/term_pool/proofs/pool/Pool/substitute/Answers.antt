@@ -1,18 +1,17 @@
--- The list grows at its end alone, by what stands in the process, and stays as it is where it has the process.
-use Rattle.csp_program.specs.Substitution.{proc_with}
-use Rattle.term_pool.proofs.SubstituteLemmas.{none_made}
-use Rattle.term_pool.proofs.WithinLemmas.{adds_parts}
+-- One value is put in as several are.
+use Rattle.std.proofs.Common.{subst}
+use Rattle.csp_program.specs.declared.processes.Proc.{Proc}
+use Rattle.term_pool.proofs.ValuesLemmas.{one_value}
 use Rattle.term_pool.specs.Trees.{tree_at}
+use Rattle.term_pool.specs.Within.{AddsParts}
 use Rattle.term_pool.proofs.pool.Pool.substitute.Goals as goal
 
-pub substitute_at-requires-clause-visited : goal.substitute_at-requires-clause-visited
-substitute_at-requires-clause-visited c = none_made c.args.slot c.args.value.now c.args.self.now c.new-visited.result c.new-visited.ensures.empty
-
-pub returns-clause-front : goal.returns-clause-front
-returns-clause-front c = c.substitute_at.ensures.grows.front
-
-pub returns-clause-known : goal.returns-clause-known
-returns-clause-known c = λ has. c.substitute_at.ensures.grows.known c.alloc-alloc.ensures.parts (has, tt)
+pub returns-in_err-made-clause-only : goal.returns-in_err-made-clause-only
+returns-in_err-made-clause-only c =
+    subst (λ (t : Proc). AddsParts c.args.self.now c.put_all_in.new.self t)
+    (one_value c.from_ref.result.now c.args.slot c.from_ref.ensures.value c.from_ref-2.result.now c.args.value.now c.from_ref-2.ensures.value (tree_at c.args.self.now c.args.id)) c.in_err-made.ensures.only
 
 pub returns-clause-only : goal.returns-clause-only
-returns-clause-only c = adds_parts c.args.self.now c.substitute_at.new.pool (proc_with c.args.slot c.args.value.now (tree_at c.args.self.now c.args.id)) c.substitute_at.ensures.grows.only
+returns-clause-only c =
+    subst (λ (t : Proc). AddsParts c.args.self.now c.put_all_in.new.self t)
+    (one_value c.from_ref.result.now c.args.slot c.from_ref.ensures.value c.from_ref-2.result.now c.args.value.now c.from_ref-2.ensures.value (tree_at c.args.self.now c.args.id)) c.in_ok-made.ensures.only

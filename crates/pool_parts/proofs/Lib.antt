@@ -1,0 +1,3 @@
+pub mod LowLemmas
+pub mod MeasureLaws
+pub mod StoreLemmas

@@ -1,0 +1,14 @@
+use Rattle.std.proofs.Common.{◌≡◌, ◌+◌, ◌≤◌, max, map, drop}
+use Rattle.csp_program.specs.Lists.{greatest, total}
+use Rattle.csp_program.specs.Depth.{pair_depth}
+use Rattle.csp_program.specs.Size.{pair_size}
+use Rattle.pool_parts.specs.Counting.{capped}
+use Rattle.pool_parts.proofs.measured.of_pairs.Given as goal
+
+-- what is measured so far, together with the rest, is all
+abbrev pub invariant-loop-pair : goal.invariant-loop-pair
+invariant-loop-pair l = record {
+  small : l.all.size ≤ 4294967295;
+  depth : max l.all.depth (capped (greatest (map pair_depth (drop l.pair-index l.pairs)))) ≡ capped (greatest (map pair_depth l.pairs));
+  size : capped (l.all.size + total (map pair_size (drop l.pair-index l.pairs))) ≡ capped (total (map pair_size l.pairs));
+}

@@ -1,0 +1,4 @@
+pub mod Counting
+pub mod ExactId
+pub mod Low
+pub mod Stored

@@ -1,0 +1,144 @@
+//! Numbers below which an expression reads no name: with a value in place of such a name it stays as it is.
+
+ghost use Rattle.std.specs.Prelude.{◌≤◌};
+ghost use Rattle.pool_parts.specs.Low.{AllLow, ExprLow, FieldLow, GenLow, HeadLow, PairLow, PartLow};
+
+use csp_program::{EventPart, Expr, Field, Gen, Head};
+
+/// The lower of two numbers.
+pub fn lower(left: u32, right: u32) -> u32
+    ensures left { result ≤ left }
+    ensures right { result ≤ right }
+{
+    if left < right { left } else { right }
+}
+
+#[cycle(least_of_expr)]
+pub fn least_of_expr(expr: &Expr) -> u32
+    ensures { ExprLow result expr.now }
+{
+    match expr {
+        Expr::Num(_) => u32::MAX,
+        Expr::Truth(_) => u32::MAX,
+        Expr::Const(_) => u32::MAX,
+        Expr::Bound(name) => *name,
+        Expr::Lit(_) => u32::MAX,
+        Expr::Neg(a) => least_of_expr(a.get()),
+        Expr::Not(a) => least_of_expr(a.get()),
+        Expr::Binary(_, a, b) => lower(least_of_expr(a.get()), least_of_expr(b.get())),
+        Expr::If(c, a, b) => {
+            let parts = lower(least_of_expr(a.get()), least_of_expr(b.get()));
+            lower(least_of_expr(c.get()), parts)
+        }
+        Expr::Call(_, args) => least_of_exprs(args.as_slice()),
+        Expr::SetName(_) => u32::MAX,
+        Expr::Event(_, fields) => least_of_exprs(fields.as_slice()),
+        Expr::Display(items) => least_of_exprs(items.as_slice()),
+        Expr::Range(a, b) => lower(least_of_expr(a.get()), least_of_expr(b.get())),
+        Expr::Comp(items, gens) => lower(
+            least_of_exprs(items.as_slice()),
+            least_of_gens(gens.as_slice()),
+        ),
+        Expr::Product(parts, gens) => lower(
+            least_of_parts(parts.as_slice()),
+            least_of_gens(gens.as_slice()),
+        ),
+        Expr::SetOp(_, a, b) => lower(least_of_expr(a.get()), least_of_expr(b.get())),
+    }
+}
+
+#[cycle(least_of_expr)]
+pub fn least_of_exprs(exprs: &[Expr]) -> u32
+    ensures { AllLow ExprLow result exprs.now }
+{
+    let mut least = u32::MAX;
+    for expr in exprs {
+        least = lower(least, least_of_expr(expr));
+    }
+    least
+}
+
+#[cycle(least_of_expr)]
+fn least_of_gen(generator: &Gen) -> u32
+    ensures { GenLow result generator.now }
+{
+    match generator {
+        Gen::From(_, set) => least_of_expr(set),
+        Gen::Cond(condition) => least_of_expr(condition),
+    }
+}
+
+#[cycle(least_of_expr)]
+pub fn least_of_gens(gens: &[Gen]) -> u32
+    ensures { AllLow GenLow result gens.now }
+{
+    let mut least = u32::MAX;
+    for generator in gens {
+        least = lower(least, least_of_gen(generator));
+    }
+    least
+}
+
+#[cycle(least_of_expr)]
+fn least_of_part(part: &EventPart) -> u32
+    ensures { PartLow result part.now }
+{
+    least_of_exprs(part.fields.as_slice())
+}
+
+#[cycle(least_of_expr)]
+fn least_of_parts(parts: &[EventPart]) -> u32
+    ensures { AllLow PartLow result parts.now }
+{
+    let mut least = u32::MAX;
+    for part in parts {
+        least = lower(least, least_of_part(part));
+    }
+    least
+}
+
+fn least_of_field(field: &Field) -> u32
+    ensures { FieldLow result field.now }
+{
+    match field {
+        Field::Put(expr) => least_of_expr(expr),
+        Field::Get(_, None) => u32::MAX,
+        Field::Get(_, Some(set)) => least_of_expr(set),
+    }
+}
+
+pub fn least_of_fields(fields: &[Field]) -> u32
+    ensures { AllLow FieldLow result fields.now }
+{
+    let mut least = u32::MAX;
+    for field in fields {
+        least = lower(least, least_of_field(field));
+    }
+    least
+}
+
+fn least_of_pair(pair: &(EventPart, EventPart)) -> u32
+    ensures { PairLow result pair.now }
+{
+    lower(least_of_part(&pair.0), least_of_part(&pair.1))
+}
+
+pub fn least_of_pairs(pairs: &[(EventPart, EventPart)]) -> u32
+    ensures { AllLow PairLow result pairs.now }
+{
+    let mut least = u32::MAX;
+    for pair in pairs {
+        least = lower(least, least_of_pair(pair));
+    }
+    least
+}
+
+pub fn least_of_head(head: &Head) -> u32
+    ensures { HeadLow result head.now }
+{
+    match head {
+        Head::Channel(_) => u32::MAX,
+        Head::Bound(name) => *name,
+        Head::Put(_) => u32::MAX,
+    }
+}

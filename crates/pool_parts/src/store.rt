@@ -1,0 +1,235 @@
+//! Values that a pool keeps once each, with what is noted of each.
+
+ghost use Rattle.std.specs.Prelude.{◌≡◌, ℕ, ◌<◌, [], length, slice_get, slice_index_or, IfOk, List, MatchOption, OnErr, Some};
+ghost use Rattle.pool_parts.specs.Counting.{capped};
+ghost use Rattle.pool_parts.specs.Stored.{AreNoted, AreOnce, IsAbsent, IsNote, IsStart};
+ghost use Rattle.pool_parts.specs.declared.store.Note.{Note};
+
+use crate::measure::Measure;
+use containers::{Exact, Items, Numbering};
+use csp_base::NoMemory;
+use std::alloc::Global;
+use std::hash::Hash;
+use std::marker::Model;
+
+/// What a node keeps beside the places of its sub-processes: expressions, fields, pairs and the like.
+pub trait Part: Exact + Hash + Drop {
+    ghost depth: { Self → ℕ };
+
+    ghost size: { Self → ℕ };
+
+    ghost low: { ℕ → Self → Type 0 };
+
+    /// The same part, in memory of its own.
+    fn copy(&self, alloc: Global) -> Result<Self, NoMemory>
+        ensures { IfOk result (λ copy. copy ≡ self.now) };
+
+    /// What it measures.
+    fn measure(&self) -> Measure
+        ensures depth { result.depth ≡ capped (depth self.now) }
+        ensures size { result.size ≡ capped (size self.now) };
+
+    /// A number below which it reads no name: a value in place of such a name leaves it as it is.
+    fn least(&self) -> u32
+        ensures { low result self.now };
+}
+
+/// What is noted of a part.
+#[derive(Clone, Copy)]
+pub struct Note {
+    /// What it measures.
+    pub measure: Measure,
+    /// A number below which it reads no name.
+    pub least: u32,
+}
+
+/// Parts that stand once each, numbered from 0 on, and what is noted of each.
+///
+/// Contracts see the list of the parts.
+#[derive(Drop)]
+pub struct Store<T: Part> {
+    parts: Numbering<T>,
+    notes: Items<Note>,
+}
+
+impl<T: Part> Model for Store<T> {
+    ghost use Rattle.std.specs.Prelude.{List};
+    ghost use Rattle.std.specs.Coded.{coded_list};
+    ghost use Rattle.pool_parts.specs.Stored.{AreNoted};
+
+    ghost Value = { List T };
+
+    ghost coded = { coded_list T.code };
+
+    ghost view = { λ s. s.parts };
+
+    ghost invariant = { λ s. AreNoted T.depth T.size T.low s.notes s.parts };
+}
+
+impl<T: Part> Store<T> {
+    /// No parts. It takes no memory yet.
+    pub fn new(alloc: Global) -> Store<T>
+        ensures { result ≡ [] }
+    {
+        Store {
+            parts: Numbering::new(alloc),
+            notes: Items::new(alloc),
+        }
+    }
+
+    /// The parts in the order of their numbers.
+    pub fn as_slice(&self) -> &[T]
+        ensures value { result.now ≡ self.now }
+        ensures once { AreOnce self.now }
+    {
+        slice_of(&self.parts)
+    }
+
+    /// The part with the number `place`.
+    pub fn get(&self, place: u32) -> &T
+        requires { place < length self.now }
+        ensures { (other : T) → result.now ≡ slice_index_or self.now place other }
+    {
+        &self.as_slice()[place as usize]
+    }
+
+    /// What the part with the number `place` measures.
+    pub fn measure(&self, place: u32) -> Measure
+        requires { place < length self.now }
+        ensures depth { (other : T) → result.depth ≡ capped (T.depth (slice_index_or self.now place other)) }
+        ensures size { (other : T) → result.size ≡ capped (T.size (slice_index_or self.now place other)) }
+    {
+        note_at(&self.parts, &self.notes, place).measure
+    }
+
+    /// A number below which the part with the number `place` reads no name.
+    pub fn least(&self, place: u32) -> u32
+        requires { place < length self.now }
+        ensures { (other : T) → T.low result (slice_index_or self.now place other) }
+    {
+        note_at(&self.parts, &self.notes, place).least
+    }
+
+    /// The number of the part, of which a copy is kept where it is new.
+    pub fn keep(&mut self, alloc: Global, part: &T) -> Result<u32, NoMemory>
+        ensures place { IfOk result (λ place. slice_get self.new place ≡ Some part.now) }
+        ensures start { IsStart self.old self.new }
+        ensures once { AreOnce self.new }
+        ensures err_only_new { OnErr result (IsAbsent self.old part.now) }
+    {
+        let place = keep_in(&mut self.parts, &mut self.notes, alloc, part)?;
+        Ok(place)
+    }
+
+    /// The number of the part, which is kept itself where it is new.
+    pub fn keep_own(&mut self, part: T) -> Result<u32, NoMemory>
+        ensures place { IfOk result (λ place. slice_get self.new place ≡ Some part) }
+        ensures start { IsStart self.old self.new }
+        ensures once { AreOnce self.new }
+    {
+        let place = keep_own_in(&mut self.parts, &mut self.notes, part)?;
+        Ok(place)
+    }
+}
+
+// The parts in the order of their numbers. Its contract says that none stands twice.
+fn slice_of<T: Part>(parts: &Numbering<T>) -> &[T]
+    ensures value { result.now ≡ parts.now }
+    ensures once { AreOnce parts.now }
+{
+    parts.as_slice()
+}
+
+// What is to be noted of the part.
+fn note_of<T: Part>(part: &T) -> Note
+    ensures { IsNote T.depth T.size T.low part.now result }
+{
+    Note {
+        measure: part.measure(),
+        least: part.least(),
+    }
+}
+
+// What is noted of the part with the number `place`, or is to be.
+fn note_at<T: Part>(parts: &Numbering<T>, notes: &Items<Note>, place: u32) -> Note
+    requires noted { AreNoted T.depth T.size T.low notes.now parts.now }
+    requires within { place < length parts.now }
+    ensures { (other : T) → IsNote T.depth T.size T.low (slice_index_or parts.now place other) result }
+{
+    match notes.get(place as usize) {
+        Some(note) => *note,
+        None => note_of(&parts.as_slice()[place as usize]),
+    }
+}
+
+// Notes what is to be noted of the first part of which nothing is. Where memory fails it notes nothing.
+fn note_next<T: Part>(parts: &Numbering<T>, notes: &mut Items<Note>)
+    requires noted { AreNoted T.depth T.size T.low notes.old parts.now }
+    ensures noted { AreNoted T.depth T.size T.low notes.new parts.now }
+{
+    let place = notes.len();
+    if place < parts.len() {
+        let note = note_of(&parts.as_slice()[place]);
+        let _ = notes.push(note);
+    }
+}
+
+// The number of the part, if it has one.
+fn find_in<T: Part>(parts: &Numbering<T>, part: &T) -> Option<u32>
+    ensures { MatchOption result (IsAbsent parts.now part.now) (λ place. slice_get parts.now place ≡ Some part.now) }
+{
+    parts.find(part)
+}
+
+// The number of the part, of which a copy is kept where it is new.
+fn keep_in<T: Part>(
+    parts: &mut Numbering<T>,
+    notes: &mut Items<Note>,
+    alloc: Global,
+    part: &T,
+) -> Result<u32, NoMemory>
+    requires noted { AreNoted T.depth T.size T.low notes.old parts.old }
+    ensures noted { AreNoted T.depth T.size T.low notes.new parts.new }
+    ensures place { IfOk result (λ place. slice_get parts.new place ≡ Some part.now) }
+    ensures start { IsStart parts.old parts.new }
+    ensures once { AreOnce parts.new }
+    ensures err_only_new { OnErr result (IsAbsent parts.old part.now) }
+{
+    let _ = slice_of(parts);
+    match find_in(parts, part) {
+        Some(place) => Ok(place),
+        None => {
+            let copy = part.copy(alloc)?;
+            keep_own_in(parts, notes, copy)
+        }
+    }
+}
+
+// The number of the part, which is kept itself where it is new.
+fn keep_own_in<T: Part>(
+    parts: &mut Numbering<T>,
+    notes: &mut Items<Note>,
+    part: T,
+) -> Result<u32, NoMemory>
+    requires noted { AreNoted T.depth T.size T.low notes.old parts.old }
+    ensures noted { AreNoted T.depth T.size T.low notes.new parts.new }
+    ensures place { IfOk result (λ place. slice_get parts.new place ≡ Some part) }
+    ensures start { IsStart parts.old parts.new }
+    ensures once { AreOnce parts.new }
+{
+    let place = number(parts, part)?;
+    note_next(parts, notes);
+    Ok(place)
+}
+
+// The number of the part, which is the next one where it is new.
+fn number<T: Part>(parts: &mut Numbering<T>, part: T) -> Result<u32, NoMemory>
+    ensures place { IfOk result (λ place. slice_get parts.new place ≡ Some part) }
+    ensures start { IsStart parts.old parts.new }
+    ensures once { AreOnce parts.new }
+    ensures noted { (notes : List Note) → AreNoted T.depth T.size T.low notes parts.old → AreNoted T.depth T.size T.low notes parts.new }
+{
+    let number = parts.number(part);
+    let _ = slice_of(parts);
+    Ok(number?)
+}
