@@ -1,10 +1,1 @@
-pub mod Deciding
-pub mod Ends
-pub mod Keeping
-pub mod Looking
-pub mod Opening
-pub mod Ranked
-pub mod Reading
 pub mod Serving
-pub mod Sets
-pub mod Sides

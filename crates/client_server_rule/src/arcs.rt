@@ -5,11 +5,10 @@ ghost use Rattle.design_rules.specs.ClientServer.{KeepRoles, Serves};
 ghost use Rattle.digraph.specs.Circle.{HasNoCircle};
 ghost use Rattle.digraph.specs.Digraph.{HasArc};
 ghost use Rattle.digraph.specs.Walk.{AreHeights};
-ghost use Rattle.client_server_rule.specs.Network.{ServesBelow, ServesOn};
-ghost use Rattle.client_server_rule.specs.Told.{Tells};
+ghost use Rattle.client_server_rule.specs.Serving.{ServesBelow, ServesOn};
+ghost use Rattle.client_server_conditions.specs.Told.{Tells};
 
-use crate::fault::RoleFault;
-use crate::network::{Network, link_of};
+use client_server_conditions::{Network, RoleFault, link_of};
 use containers::Items;
 use csp_base::NoMemory;
 use digraph::{Fault, Heights, Rows, longest_walks};

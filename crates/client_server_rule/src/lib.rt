@@ -2,15 +2,7 @@
 #![tactic(auto)]
 
 mod arcs;
-mod clients;
-mod conditions;
-mod fault;
-mod network;
-mod nodes;
-mod parted;
-mod ranks;
 mod rule;
-mod runs;
 
-pub use fault::RoleFault;
+pub use client_server_conditions::RoleFault;
 pub use rule::client_server;

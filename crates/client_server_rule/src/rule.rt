@@ -4,15 +4,12 @@ ghost use Rattle.std.specs.Prelude.{◌≡◌, IfErr, IfOk, OnOk, length};
 ghost use Rattle.csp_tables.specs.Shape.{IsWellFormed};
 ghost use Rattle.design_rules.specs.ClientServer.{IsClientServer, KeepRoles};
 ghost use Rattle.design_rules.specs.ClientServerRanking.{IsClientServerRanking};
-ghost use Rattle.client_server_rule.specs.Told.{Tells};
+ghost use Rattle.client_server_conditions.specs.Told.{Tells};
 
 use crate::arcs::heights;
-use crate::conditions::Condition;
-use crate::fault::RoleFault;
-use crate::network::Network;
-use crate::ranks::ranking;
-use crate::runs::check;
+use client_server_conditions::{Condition, Network, RoleFault, check};
 use csp_tables::{Ranking, RoleSets, Shape};
+use rule_rankings::client_server_ranking;
 use std::alloc::Global;
 
 /// The ranking of a network of clients and servers, or what breaks the rule: the least condition of S1 to S5, or S6.
@@ -27,7 +24,7 @@ pub fn client_server(alloc: Global, shape: &Shape, roles: &[RoleSets]) -> Result
     let network = Network::new(alloc, shape, roles)?;
     check_runs(alloc, &network)?;
     let heights = heights(alloc, &network)?;
-    let ranking = ranking(alloc, &network, &heights)?;
+    let ranking = client_server_ranking(alloc, &network, &heights)?;
     Ok(ranking)
 }
 

@@ -1,4 +1,4 @@
--- Numbers that rise from each link to the next one of a part rise along all orders; and circles, passed the other way round.
+-- Numbers that rise from each link to the next one of a part rise along all orders.
 use Rattle.std.proofs.Common.{◌≡◌, ℕ, zero, suc, ◌+◌, ◌-◌, ◌%◌, ◌<◌, ◌≤◌, inl, inr, ◌⊎◌, List, [], ◌∷◌, ◌++◌, length, get_or, take, drop, true, false, Some, IsTrue, nat_eq, refl, sym, ap, subst, ◌∙◌, arith, eq-eqb}
 use Rattle.std.specs.Prelude.{slice_get, reverse}
 use Rattle.std.proofs.lemmas.Bool.{cases_Bool, cases_eq, cond-true, cond-false, or_cases, or_left, or_right, eqb-true, both_ways, false≢true}
@@ -17,62 +17,10 @@ use Rattle.design_rules.specs.Cyclic.{links_of, place_after, AllKeepPlaces, Must
 use Rattle.design_rules.specs.CyclicRanking.{ComesAfter, AreChainNumbers}
 use Rattle.design_rules.proofs.Places.{Keeping, IsAt, some_links, first_lap, precedes, precedes_rest}
 use Rattle.design_rules.proofs.Walks.{walk_bound}
-use Rattle.cyclic_rule.specs.Links.{ends_below, ends_of}
-use Rattle.cyclic_rule.specs.Orders.{IsOrder, order_at, AreOrders}
-use Rattle.cyclic_rule.specs.Chains.{IsNextIn, IsRestAfter, ComesNext, IsNextAt, turned_circle}
-
--- ---- the links of a part
-
-has-push : (xs : List ℕ) (x y : ℕ) → has (xs ++ x ∷ []) y ≡ true → (has xs y ≡ true) ⊎ (x ≡ y)
-has-push xs x y h = elim (or_cases (has xs y) (has (x ∷ []) y) (sym (list_any-append (λ z. nat_eq z y) xs (x ∷ [])) ∙ h)) [
-  | inl old ↦ inl old
-  | inr new ↦ elim (or_cases (nat_eq x y) false new) [ inl same ↦ inr (eqb-true x y same) | inr never ↦ absurd (false≢true never) ]
-]
-
-pub ends_sound : (shape : Shape) (i n m : ℕ) → has (ends_below shape i n) m ≡ true → (m < n) × IsTrue (is_end shape i m)
-ends_sound shape i zero m h = absurd (false≢true h)
-ends_sound shape i (suc n) m h =
-    elim (cases_Bool (is_end shape i n)) [
-      | inl end ↦ elim (has-push (ends_below shape i n) n m (subst (λ xs. has xs m ≡ true) (cond-true (is_end shape i n) (ends_below shape i n ++ n ∷ []) (ends_below shape i n) end) h)) [
-        | inl old ↦ let r = ends_sound shape i n m old in let less : m < n = r.0 in (omega arith, r.1)
-        | inr new ↦ subst (λ k. (k < suc n) × IsTrue (is_end shape i k)) new (omega arith, end)
-      ]
-      | inr off ↦ let r = ends_sound shape i n m (subst (λ xs. has xs m ≡ true) (cond-false (is_end shape i n) (ends_below shape i n ++ n ∷ []) (ends_below shape i n) off) h) in let less : m < n = r.0 in (omega arith, r.1)
-    ]
-
-pub ends_complete : (shape : Shape) (i n m : ℕ) → m < n → is_end shape i m ≡ true → has (ends_below shape i n) m ≡ true
-ends_complete shape i zero m less end = absurd (omega arith)
-ends_complete shape i (suc n) m less end =
-    elim (cases_eq m n) [
-      | inl same ↦
-          let here : is_end shape i n ≡ true = subst (λ k. is_end shape i k ≡ true) same end in
-          subst (λ xs. has xs m ≡ true) (sym (cond-true (is_end shape i n) (ends_below shape i n ++ n ∷ []) (ends_below shape i n) here))
-          (list_any-append (λ z. nat_eq z m) (ends_below shape i n) (n ∷ []) ∙ or_right (has (ends_below shape i n) m) (has (n ∷ []) m) (or_left (nat_eq n m) false (eq-eqb n m (sym same))))
-      | inr other ↦
-          let old = ends_complete shape i n m (omega arith) end in
-          elim (cases_Bool (is_end shape i n)) [
-            | inl h ↦ subst (λ xs. has xs m ≡ true) (sym (cond-true (is_end shape i n) (ends_below shape i n ++ n ∷ []) (ends_below shape i n) h)) (list_any-append (λ z. nat_eq z m) (ends_below shape i n) (n ∷ []) ∙ or_left (has (ends_below shape i n) m) (has (n ∷ []) m) old)
-            | inr h ↦ subst (λ xs. has xs m ≡ true) (sym (cond-false (is_end shape i n) (ends_below shape i n ++ n ∷ []) (ends_below shape i n) h)) old
-          ]
-    ]
-
--- a number of a list stands at a place
-pub place_in : (xs : List ℕ) (x : ℕ) → has xs x ≡ true → (k : ℕ) × (slice_get xs k ≡ Some x)
-place_in [] x h = absurd (false≢true h)
-place_in (y ∷ ys) x h = elim (or_cases (nat_eq y x) (has ys x) h) [
-  | inl same ↦ (0, ap Some (eqb-true y x same))
-  | inr later ↦ let r = place_in ys x later in (suc r.0, r.1)
-]
-
-pub has_place : (xs : List ℕ) (k x : ℕ) → slice_get xs k ≡ Some x → has xs x ≡ true
-has_place [] k x h = absurd (let below : k < length {A = ℕ} [] = slice_get_within [] k x h in omega arith)
-has_place (y ∷ ys) zero x h = let same : y ≡ x = cc in or_left (nat_eq y x) (has ys x) (eq-eqb y x same)
-has_place (y ∷ ys) (suc k) x h = or_right (nat_eq y x) (has ys x) (has_place ys k x h)
-
-pub some_at : (xs : List ℕ) (k : ℕ) → k < length xs → (x : ℕ) × (slice_get xs k ≡ Some x)
-some_at [] k h = absurd (omega arith)
-some_at (x ∷ xs) zero h = (x, refl)
-some_at (x ∷ xs) (suc k) h = some_at xs k (omega arith)
+use Rattle.shape_links.specs.Links.{ends_below, ends_of}
+use Rattle.cyclic_conditions.specs.Orders.{IsOrder, order_at, AreOrders}
+use Rattle.cyclic_rule.specs.Chains.{IsNextIn, IsRestAfter, ComesNext, IsNextAt}
+use Rattle.shape_links.proofs.Links.{ends_sound, ends_complete, place_in, has_place, has_at, some_at}
 
 -- ---- orders and numbers
 
@@ -160,53 +108,6 @@ module _ (shape : Shape) (orders : List (List ℕ)) (w : IsWellFormed shape) (ke
         most = λ n y walk. walk_bound (ComesAfter shape) number (λ m k before. rise k m before) n l y walk;
       }
 
--- ---- circles the other way round
-
-module _ (A B : ℕ → ℕ → Type 0) (flip : (x y : ℕ) → A x y → B y x) where
-  leads_more : (x : ℕ) (vs : List ℕ) (y z : ℕ) → Leads B x vs y → B y z → Leads B x (vs ++ y ∷ []) z
-  leads_more x [] y z arc last = (arc, last)
-  leads_more x (v ∷ vs) y z l last = (l.0, leads_more v vs y z l.1 last)
-
-  back_leads : (x : ℕ) (vs : List ℕ) (y : ℕ) → Leads A x vs y → Leads B y (reverse vs) x
-  back_leads x [] y arc = flip x y arc
-  back_leads x (v ∷ vs) y l = subst (λ us. Leads B y us x) (sym (reverse-cons v vs)) (leads_more y (reverse vs) v x (back_leads v vs y l.1) (flip x v l.0))
-    where
-      reverse-cons : (u : ℕ) (us : List ℕ) → reverse (u ∷ us) ≡ reverse us ++ u ∷ []
-      reverse-cons u us = reverse-append (u ∷ []) us
-
-  at_turned : (v : ℕ) (vs : List ℕ) (k : ℕ) → 0 < k → k < length (v ∷ vs) → get_or (v ∷ reverse vs) k 0 ≡ get_or (v ∷ vs) (length (v ∷ vs) - k) 0
-  at_turned v vs zero some h = absurd (omega arith)
-  at_turned v vs (suc k) some h =
-      get_or-reverse vs k 0 (omega arith) ∙ ap (λ j. get_or (v ∷ vs) j 0) (let e : suc (length vs - 1 - k) ≡ length (v ∷ vs) - suc k = omega arith in e)
-
-  pub turned_least : (vs : List ℕ) → IsLeastCircle A vs → IsLeastCircle B (turned_circle vs)
-  turned_least [] c = absurd c.circle
-  turned_least (v ∷ vs) c = record {
-    circle = back_leads v vs v c.circle;
-    distinct = λ j k less h same.
-        let within : k < length (v ∷ vs) = omega (arith, length-reverse vs) in
-        elim (cases_eq j 0) [
-          | inl none ↦ c.distinct 0 (length (v ∷ vs) - k) (omega arith) (omega arith) (subst (λ i. get_or (v ∷ reverse vs) i 0 ≡ get_or (v ∷ reverse vs) k 0) none same ∙ at_turned v vs k (omega arith) within)
-          | inr some ↦ c.distinct (length (v ∷ vs) - k) (length (v ∷ vs) - j) (omega arith) (omega arith) (sym (at_turned v vs k (omega arith) within) ∙ sym same ∙ at_turned v vs j (omega arith) (omega arith))
-        ];
-    least_first = λ k some h.
-        let within : k < length (v ∷ vs) = omega (arith, length-reverse vs) in
-        subst (λ x. v < x) (sym (at_turned v vs k some within)) (c.least_first (length (v ∷ vs) - k) (omega arith) (omega arith));
-  }
-
-pub circle_some : (A : ℕ → ℕ → Type 0) (vs : List ℕ) → IsLeastCircle A vs → 0 < length vs
-circle_some A [] c = absurd c.circle
-circle_some A (v ∷ vs) c = omega arith
-
-pub turned_by : (xs : List ℕ) (n : ℕ) → 0 < length xs → n ≡ length xs - 1 → drop n (reverse xs) ++ take n (reverse xs) ≡ turned_circle xs
-turned_by [] n some is = absurd (omega arith)
-turned_by (v ∷ vs) n some is =
-    let whole : reverse (v ∷ vs) ≡ reverse vs ++ v ∷ [] = reverse-append (v ∷ []) vs in
-    let count : n ≡ length (reverse vs) = omega (arith, length-reverse vs) in
-    let back : drop (length (reverse vs)) (reverse vs ++ v ∷ []) ≡ v ∷ [] = drop-append_seam (reverse vs) (v ∷ []) in
-    let front : take (length (reverse vs)) (reverse vs ++ v ∷ []) ≡ reverse vs = take-append_seam (reverse vs) (v ∷ []) in
-    rw (whole, count, back, front) refl
-
 -- ---- what the rows are made of
 
 pub order_within : (shape : Shape) (i : ℕ) (order : List ℕ) → IsOrder shape i order → (k d : ℕ) → k < length order → get_or order k d < length shape.links
@@ -229,9 +130,6 @@ order_all shape orders i n slice row a h same is count k d below =
 
 pub ends_all : (shape : Shape) (i n : ℕ) (slice : List ℕ) → slice ≡ ends_of shape i → n ≡ length shape.links → (k d : ℕ) → k < length slice → get_or slice k d < n
 ends_all shape i n slice is count k d below = subst (λ m. get_or slice k d < m) (sym count) (subst (λ (xs : List ℕ). k < length xs → get_or xs k d < length shape.links) (sym is) (ends_within shape i k d) below)
-
-pub has_at : (xs : List ℕ) (k : ℕ) → k < length xs → has xs (get_or xs k 0) ≡ true
-has_at xs k h = list_any_at (λ z. nat_eq z (get_or xs k 0)) xs k 0 h (eq-eqb (get_or xs k 0) (get_or xs k 0) refl)
 
 some_is : (x y : ℕ) → Some x ≡ Some y → x ≡ y
 some_is x y h = cc

@@ -2,8 +2,8 @@
 use Rattle.std.specs.Prelude.{◌≡◌, ◌<◌, ◌+◌, ◌⊎◌, ℕ, List, [], ◌∷◌, Some, IsTrue, false, length, reverse, slice_get}
 use Rattle.csp_base.specs.Members.{has}
 use Rattle.csp_tables.specs.Shape.{Shape}
-use Rattle.cyclic_rule.specs.Links.{ends_of}
-use Rattle.cyclic_rule.specs.Orders.{order_at}
+use Rattle.shape_links.specs.Links.{ends_of}
+use Rattle.cyclic_conditions.specs.Orders.{order_at}
 
 -- m stands in the list next after l
 pub record IsNextIn (order : List ℕ) (l m : ℕ) : Type 0 where
@@ -27,8 +27,3 @@ pub record IsNextAt (shape : Shape) (orders : List (List ℕ)) (n l m : ℕ) : T
   pub part : ℕ
   pub within : part < n
   pub next : ComesNext (order_at orders part) (ends_of shape part) l m
-
--- the first vertex, and the others in the other direction
-abbrev pub turned_circle : List ℕ → List ℕ
-turned_circle [] = []
-turned_circle (v ∷ vs) = v ∷ reverse vs

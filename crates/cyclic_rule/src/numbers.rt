@@ -6,16 +6,15 @@ ghost use Rattle.digraph.specs.Digraph.{HasArc};
 ghost use Rattle.design_rules.specs.Cyclic.{AllKeepPlaces, NumbersRise};
 ghost use Rattle.design_rules.specs.CyclicRanking.{AreChainNumbers};
 ghost use Rattle.cyclic_rule.specs.Chains.{ComesNext, IsNextAt, IsNextIn, IsRestAfter};
-ghost use Rattle.cyclic_rule.specs.Links.{ends_of};
-ghost use Rattle.cyclic_rule.specs.Orders.{AreOrders};
-ghost use Rattle.cyclic_rule.specs.Told.{Tells};
+ghost use Rattle.shape_links.specs.Links.{ends_of};
+ghost use Rattle.cyclic_conditions.specs.Orders.{AreOrders};
+ghost use Rattle.cyclic_conditions.specs.Told.{Tells};
 
-use crate::circle::turned;
-use crate::fault::CyclicFault;
-use crate::prepared::Prepared;
 use containers::Items;
 use csp_base::NoMemory;
+use cyclic_conditions::{CyclicFault, Prepared};
 use digraph::{Fault, Heights, Rows, longest_walks};
+use shape_links::turned;
 use std::alloc::Global;
 
 // For each link the greatest number of links that must come before it in a chain.

@@ -6,15 +6,12 @@ ghost use Rattle.csp_tables.specs.Shape.{IsWellFormed};
 ghost use Rattle.csp_tables.specs.Standing.{IsBusyShape};
 ghost use Rattle.design_rules.specs.Cyclic.{IsCyclic};
 ghost use Rattle.design_rules.specs.CyclicRanking.{IsCyclicRanking};
-ghost use Rattle.cyclic_rule.specs.Told.{Tells};
+ghost use Rattle.cyclic_conditions.specs.Told.{Tells};
 
-use crate::fault::CyclicFault;
 use crate::numbers::numbers;
-use crate::orders::orders;
-use crate::prepared::Prepared;
-use crate::ranks::ranking;
-use crate::whole::check_ends;
 use csp_tables::{Ranking, Shape};
+use cyclic_conditions::{CyclicFault, Prepared, check_ends, link_orders};
+use rule_rankings::cyclic_ranking;
 use std::alloc::Global;
 
 /// The ranking of a cyclic network, or what breaks the rule.
@@ -28,9 +25,9 @@ pub fn cyclic(alloc: Global, shape: &Shape) -> Result<Ranking, CyclicFault>
     ensures fault { IfErr result (λ fault. Tells shape.now fault) }
 {
     let prepared = Prepared::new(alloc, shape)?;
-    let orders = orders(alloc, &prepared)?;
+    let orders = link_orders(alloc, &prepared)?;
     let numbers = numbers(alloc, &prepared, &orders)?;
     check_ends(alloc, &prepared)?;
-    let ranking = ranking(alloc, &prepared, &numbers)?;
+    let ranking = cyclic_ranking(alloc, &prepared, &numbers)?;
     Ok(ranking)
 }

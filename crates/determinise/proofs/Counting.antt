@@ -13,9 +13,10 @@ use Rattle.csp_base.proofs.Rising.{rises_from_increasing, same_members}
 use Rattle.csp_tables.specs.RawTable.{RawTable, RawStep}
 use Rattle.csp_tables.specs.Table.{Node, end_of}
 use Rattle.determinise.specs.ManySets.{HaveSameStates, ReachesSets}
-use Rattle.determinise.specs.Progress.{set_at, IsSetAfter, AreReachedSets, AreNodesSoFar}
+use Rattle.determinise.specs.Progress.{set_at, AreReachedSets, AreNodesSoFar}
+use Rattle.term_sets.specs.TermSets.{IsSetAfter}
 use Rattle.determinise.proofs.Groups.{same_tests}
-use Rattle.determinise.proofs.MoveLists.{any_place}
+use Rattle.term_sets.proofs.MoveLists.{any_place}
 use Rattle.determinise.proofs.Runs.{ends_at}
 
 -- traces to the first sets

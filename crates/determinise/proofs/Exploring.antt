@@ -12,10 +12,11 @@ use Rattle.csp_tables.specs.RawTable.{RawTable, RawStep}
 use Rattle.csp_tables.specs.Table.{Node, target, node_at}
 use Rattle.csp_tables.specs.BreadthFirst.{targets_of_steps, targets_of_nodes, MeetsInOrder, MeetsUpTo}
 use Rattle.csp_tables.proofs.Listed.{step_listed, listed_step}
-use Rattle.determinise.specs.Moves.{has_event, has_move, AreMovesOf, IsNextSet, IsSilentlyReached}
-use Rattle.determinise.specs.Progress.{set_at, IsTermSet, IsReachedFromSet, AreMoreSets, AreNodeSteps, IsNodeOf, IsSetAfter, AreReachedSets, AreNodesSoFar}
-use Rattle.determinise.proofs.Traces.{After-none, After-event, After-append, After-cut, After-first}
-use Rattle.determinise.proofs.MoveLists.{any_place, place_of_move, listed_at}
+use Rattle.term_sets.specs.Moves.{has_event, has_move, AreMovesOf, IsNextSet, IsSilentlyReached}
+use Rattle.determinise.specs.Progress.{set_at, IsReachedFromSet, AreMoreSets, AreNodeSteps, IsNodeOf, AreReachedSets, AreNodesSoFar}
+use Rattle.term_sets.specs.TermSets.{IsTermSet, IsSetAfter}
+use Rattle.term_sets.proofs.Traces.{After-none, After-event, After-append, After-cut, After-first}
+use Rattle.term_sets.proofs.MoveLists.{any_place, place_of_move, listed_at}
 use Rattle.determinise.proofs.MoreSets.{meets_then}
 
 -- ---- events and moves
@@ -62,19 +63,6 @@ module _ (raw : RawTable) (s set : List ℕ) (moves : List (ℕ × ℕ)) (after 
     );
     some = let m = move_of_event moves e listed in (m.0, into e m.0 m.0 m.1 (After-none (RawStep raw) m.0));
   }
-
--- the closure of the first term
-pub first_after : (raw : RawTable) (set : List ℕ) → ((t : ℕ) → IsTrue (has set t) ↔ IsSilentlyReached raw (0 ∷ []) t) → IsSetAfter raw [] set
-first_after raw set members = record {
-  terms = λ t. (
-    λ h. let r = (members t).0 h in subst (λ (x : ℕ). After (RawStep raw) x [] t) (zero_of r.start r.listed) r.silently,
-    λ a. (members t).1 (record { start = 0; listed = refl; silently = a }),
-  );
-  some = (0, After-none (RawStep raw) 0);
-}
-  where
-    zero_of : (x : ℕ) → has (0 ∷ []) x ≡ true → x ≡ 0
-    zero_of x h = elim (or_cases (nat_eq 0 x) false h) as (λ _. x ≡ 0) [ inl e ↦ sym (eqb-true 0 x e) | inr e ↦ absurd (false≢true e) ]
 
 pub one_reached : (raw : RawTable) (set : List ℕ) (sets : List (List ℕ)) → IsSetAfter raw [] set → IsTermSet raw set → sets ≡ set ∷ [] → AreReachedSets raw sets
 one_reached raw set sets after form is = subst (AreReachedSets raw) (sym is) (record {

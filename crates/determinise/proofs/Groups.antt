@@ -9,9 +9,10 @@ use Rattle.std.proofs.lemmas.List.Folds.{list_any_at}
 use Rattle.csp_base.specs.Members.{has}
 use Rattle.csp_tables.specs.RawTable.{RawTable}
 use Rattle.csp_tables.specs.BreadthFirst.{targets_of_steps}
-use Rattle.determinise.specs.Moves.{has_event, has_move, IsNextSet}
-use Rattle.determinise.specs.Progress.{IsSilentClosure, IsSomeNextSet}
-use Rattle.determinise.proofs.MoveLists.{any_place, place_of_move, listed_at}
+use Rattle.term_sets.specs.Moves.{has_event, has_move, IsNextSet}
+use Rattle.determinise.specs.Progress.{IsSomeNextSet}
+use Rattle.term_sets.specs.TermSets.{IsSilentClosure}
+use Rattle.term_sets.proofs.MoveLists.{any_place, place_of_move, listed_at}
 
 pub same_tests : (a b : Bool) → (a ≡ true → b ≡ true) → (b ≡ true → a ≡ true) → a ≡ b
 same_tests true b f g = sym (f refl)

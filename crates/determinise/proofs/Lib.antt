@@ -1,7 +1,3 @@
-pub mod Closures
-pub mod Traces
-pub mod MoveLists
-pub mod Silence
 pub mod MoreSets
 pub mod Groups
 pub mod NodeSteps

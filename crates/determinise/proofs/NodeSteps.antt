@@ -8,8 +8,9 @@ use Rattle.std.proofs.Math.Seq.{get_or-append_seam}
 use Rattle.csp_tables.specs.RawTable.{RawTable}
 use Rattle.csp_tables.specs.Table.{is_possible, target}
 use Rattle.csp_tables.specs.BreadthFirst.{targets_of_steps, MeetsInOrder}
-use Rattle.determinise.specs.Moves.{has_event, IsNextSet}
-use Rattle.determinise.specs.Progress.{set_at, AreMoreSets, IsSilentClosure, IsSomeNextSet, LeadsToSet, AreNodeSteps}
+use Rattle.term_sets.specs.Moves.{has_event, IsNextSet}
+use Rattle.determinise.specs.Progress.{set_at, AreMoreSets, IsSomeNextSet, LeadsToSet, AreNodeSteps}
+use Rattle.term_sets.specs.TermSets.{IsSilentClosure}
 use Rattle.determinise.proofs.Groups.{IsGroup, event_at, group_targets, event_place, events_more, next_of_group, some_next}
 use Rattle.determinise.proofs.MoreSets.{no_more, more_then_more, more_of_kind, meets_then}
 

@@ -10,7 +10,8 @@ use Rattle.csp_tables.specs.Table.{Node, is_possible, node_at, node_after, is_ru
 use Rattle.csp_tables.specs.BreadthFirst.{IsBreadthFirst, MeetsUpTo}
 use Rattle.determinise.specs.Determinised.{FollowsTraces, AreDifferentSets}
 use Rattle.csp_tables.specs.NormalTable.{HasAcceptances, IsRisingNode}
-use Rattle.determinise.specs.Progress.{set_at, AreNodeSteps, IsNodeOf, IsSetAfter, AreReachedSets, AreNodesSoFar}
+use Rattle.determinise.specs.Progress.{set_at, AreNodeSteps, IsNodeOf, AreReachedSets, AreNodesSoFar}
+use Rattle.term_sets.specs.TermSets.{IsSetAfter}
 use Rattle.determinise.proofs.Exploring.{move_after, next_after, event_of_move}
 
 both_true : (a b : Bool) → a ≡ true → b ≡ true → (a && b) ≡ true

@@ -1,4 +1,3 @@
 pub mod Determinised
 pub mod ManySets
-pub mod Moves
 pub mod Progress

@@ -1,26 +1,11 @@
 -- What holds while sets of terms are found and numbered.
-use Rattle.std.specs.Prelude.{◌≡◌, ◌≢◌, ◌↔◌, ◌<◌, ◌≤◌, ℕ, List, [], length, get_or, map, take, IsTrue, All}
-use Rattle.std.specs.List.Sorted.{IsStrictlyIncreasing, IsStrictlySortedBy}
-use Rattle.std.specs.Cmp.Lexicographic.{slice_cmp}
-use Rattle.std.specs.Ordering.{nat_cmp}
-use Rattle.csp_base.specs.Members.{has}
-use Rattle.csp_tables.specs.Path.{Stable}
-use Rattle.csp_tables.specs.Trace.{After, IsTrace}
-use Rattle.csp_tables.specs.RawTable.{RawTable, RawStep}
-use Rattle.csp_tables.specs.Offer.{IsMinimalOffer}
-use Rattle.csp_tables.specs.Behaviour.{OffersAcceptance}
-use Rattle.csp_tables.specs.NormalTable.{IsListed}
+use Rattle.std.specs.Prelude.{◌≡◌, ◌≢◌, ◌<◌, ◌≤◌, ℕ, List, [], length, get_or, map, take, IsTrue}
+use Rattle.std.specs.List.Sorted.{IsStrictlyIncreasing}
+use Rattle.csp_tables.specs.RawTable.{RawTable}
 use Rattle.csp_tables.specs.Table.{Node, is_possible, target, node_at}
 use Rattle.csp_tables.specs.BreadthFirst.{MeetsUpTo}
-use Rattle.determinise.specs.Moves.{has_event, IsNextSet, AreMovesOf, IsSilentlyReached}
-
--- of the sets that stable terms among these offer, those that contain no smaller one
-pub record AreMinimalOffers (raw : RawTable) (terms : List ℕ) (sets : List (List ℕ)) : Type 0 where
-  pub sound : All (IsMinimalOffer raw terms) sets
-  pub complete : (M : List ℕ) → IsMinimalOffer raw terms M → IsListed sets M
-  pub covered : (n : ℕ) → IsTrue (has terms n) → Stable (RawStep raw) n → OffersAcceptance (RawStep raw) n sets
-  pub rising : All IsStrictlyIncreasing sets
-  pub order : IsStrictlySortedBy (slice_cmp nat_cmp) sets
+use Rattle.term_sets.specs.Moves.{has_event, IsNextSet, AreMovesOf}
+use Rattle.term_sets.specs.TermSets.{AreMinimalOffers, IsSetAfter, IsTermSet}
 
 -- the set in a place
 abbrev pub set_at : List (List ℕ) → ℕ → List ℕ
@@ -29,16 +14,6 @@ set_at sets n = get_or sets n []
 -- no set stands twice
 abbrev pub StandOnce : List (List ℕ) → Type 0
 StandOnce sets = (m n : ℕ) → m < n → n < length sets → set_at sets m ≢ set_at sets n
-
--- a set of terms of the table, written as a rising list
-pub record IsTermSet (raw : RawTable) (set : List ℕ) : Type 0 where
-  pub rising : IsStrictlyIncreasing set
-  pub within : All (λ t. t < raw.count) set
-
--- silent steps from the starts lead to exactly the terms of the set
-pub record IsSilentClosure (raw : RawTable) (starts set : List ℕ) : Type 0 where
-  pub members : (t : ℕ) → IsTrue (has set t) ↔ IsSilentlyReached raw starts t
-  pub form : IsTermSet raw set
 
 -- the set to which one of these events leads over these steps
 pub record IsSomeNextSet (raw : RawTable) (moves : List (ℕ × ℕ)) (set : List ℕ) : Type 0 where
@@ -77,11 +52,6 @@ AreStepsOf raw sets terms next = (moves : List (ℕ × ℕ)) × AreMovesOf raw t
 pub record IsNodeOf (raw : RawTable) (sets : List (List ℕ)) (terms : List ℕ) (node : Node) : Type 0 where
   pub steps : AreStepsOf raw sets terms node.next
   pub accept : AreMinimalOffers raw terms node.accept
-
--- The trace leads to the terms of the set, and to one at least.
-pub record IsSetAfter (raw : RawTable) (s set : List ℕ) : Type 0 where
-  pub terms : (t : ℕ) → IsTrue (has set t) ↔ After (RawStep raw) 0 s t
-  pub some : IsTrace (RawStep raw) 0 s
 
 -- each set is the one after some trace
 pub record AreReachedSets (raw : RawTable) (sets : List (List ℕ)) : Type 0 where

@@ -10,12 +10,12 @@ ghost use Rattle.determinise.specs.Progress.{AreNodesSoFar, AreReachedSets};
 
 use crate::fault::SetFault;
 use crate::node::node_of;
-use crate::prepared::Prepared;
 use crate::table::SetTable;
 use containers::{Items, Numbering};
 use csp_base::NoMemory;
 use csp_tables::{NormNode, RawTable};
 use std::alloc::Global;
+use term_sets::Prepared;
 
 /// The determinised table of a raw table: a node for each set of terms to which a trace from term 0 leads, with the minimal
 /// acceptances of the set.

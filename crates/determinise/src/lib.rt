@@ -1,12 +1,9 @@
 //! Determinisation of raw tables: a node for each set of terms that a trace leads to, with its minimal acceptances.
 #![tactic(auto)]
 
-mod closed;
 mod explore;
 mod fault;
 mod node;
-mod prepared;
-mod rows;
 mod sets;
 mod table;
 

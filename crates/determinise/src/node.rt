@@ -2,15 +2,16 @@
 
 ghost use Rattle.std.specs.Prelude.{◌≡◌, ◌<◌, ◌≤◌, ℕ, IfOk, OnOk, length};
 ghost use Rattle.csp_tables.specs.BreadthFirst.{MeetsInOrder, targets_of_steps};
-ghost use Rattle.determinise.specs.Progress.{AreMinimalOffers, AreMoreSets, AreStepsOf, IsNodeOf, IsReachedFromSet, IsTermSet, set_at};
+ghost use Rattle.determinise.specs.Progress.{AreMoreSets, AreStepsOf, IsNodeOf, IsReachedFromSet, set_at};
+ghost use Rattle.term_sets.specs.TermSets.{AreMinimalOffers, IsTermSet};
 
 use crate::fault::SetFault;
-use crate::prepared::Prepared;
 use crate::sets::next_steps;
 use containers::{Items, Numbering};
 use csp_base::{Event, EventSet, NoMemory};
 use csp_tables::NormNode;
 use std::alloc::Global;
+use term_sets::Prepared;
 
 // The node of the set in a place. The sets to which its events lead are numbered where they have no number yet.
 pub(crate) fn node_of(

@@ -3,13 +3,14 @@
 ghost use Rattle.std.specs.Prelude.{◌≡◌, ◌+◌, ◌<◌, ◌≤◌, ℕ, [], ◌∷◌, ◌++◌, All, IfOk, OnOk, length, slice_index_or};
 ghost use Rattle.std.specs.List.Sorted.{IsNonDecreasingBy};
 ghost use Rattle.csp_tables.specs.BreadthFirst.{MeetsInOrder, targets_of_steps};
-ghost use Rattle.determinise.specs.Progress.{AreMoreSets, AreNodeSteps, IsSilentClosure, IsSomeNextSet, set_at};
+ghost use Rattle.determinise.specs.Progress.{AreMoreSets, AreNodeSteps, IsSomeNextSet, set_at};
+ghost use Rattle.term_sets.specs.TermSets.{IsSilentClosure};
 
 use crate::fault::SetFault;
-use crate::prepared::Prepared;
 use containers::{Items, Numbering};
 use csp_base::{Event, NoMemory};
 use std::alloc::Global;
+use term_sets::Prepared;
 
 // How many sets there may be.
 const SET_LIMIT: usize = 2048;

@@ -9,9 +9,9 @@ use Rattle.std.proofs.lemmas.List.Folds.{list_any-append}
 use Rattle.std.proofs.lemmas.List.Sorted.{Contains-permutation, IsPermutation-sym}
 use Rattle.csp_tables.specs.Table.{Node, node_at, is_possible, target, node_after}
 use Rattle.equal_futures.specs.Future.{StepsRise, NodesRise}
-use Rattle.equal_futures.specs.Blocks.{has_arrow, AreFrom, AreMarkSteps, AreAdded, AreIncoming, AreGathered}
+use Rattle.equal_futures.specs.Arrows.{has_arrow, AreFrom, AreMarkSteps, AreAdded, AreIncoming, AreGathered}
 use Rattle.equal_futures.proofs.RowLists.{once}
-use Rattle.equal_futures.proofs.Writes.{by_write}
+use Rattle.partitions.proofs.Writes.{by_write}
 
 pub bool_from_iff : (a b : Bool) → (a ≡ true → b ≡ true) → (b ≡ true → a ≡ true) → a ≡ b
 bool_from_iff true true f g = refl

@@ -5,8 +5,9 @@ use Rattle.std.specs.List.{All}
 use Rattle.std.specs.List.Sorted.{IsNonDecreasingBy, IsPermutation}
 use Rattle.std.proofs.lemmas.Bool.{cases_lt, or_cases, or_left, or_right, eqb-true, eq-eqb, false≢true}
 use Rattle.std.proofs.lemmas.List.{length-take-le, length-drop, get_or-take, get_or-drop}
-use Rattle.equal_futures.specs.Blocks.{State, HasBlocks, IsCalm, IsOnward, IsSplit, IsSplitByEvents, AreFrom, block_at, has_arrow, is_source, event_at}
-use Rattle.equal_futures.proofs.Splitting.{onward_trans, onward_refl}
+use Rattle.equal_futures.specs.Arrows.{IsSplitByEvents, AreFrom, has_arrow, event_at}
+use Rattle.partitions.specs.Blocks.{State, HasBlocks, IsCalm, IsOnward, IsSplit, block_at, is_source}
+use Rattle.partitions.proofs.Splitting.{onward_trans, onward_refl}
 use Rattle.equal_futures.proofs.Gathering.{step_place, step_at, bool_from_iff, permuted, all_sources}
 
 -- the events before a place are done, and don't come again

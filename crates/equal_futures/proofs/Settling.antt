@@ -9,11 +9,12 @@ use Rattle.csp_tables.specs.Table.{Node, node_at, is_possible, node_after}
 use Rattle.equal_futures.specs.Splits.{AreAllFrom, IsSplitByBlock, IsSplitByMarks}
 use Rattle.equal_futures.specs.Future.{HaveEqualFuture, AreFutureClasses, NodesRise}
 use Rattle.equal_futures.specs.Alike.{AreTold}
-use Rattle.equal_futures.specs.Blocks.{State, HasBlocks, IsCalm, IsWhole, IsTaken, IsSplitByEvents, AreMarkSteps, AreIncoming, AreGathered, AreFrom, block_at, waits, has_arrow}
+use Rattle.equal_futures.specs.Arrows.{IsSplitByEvents, AreMarkSteps, AreIncoming, AreGathered, AreFrom, has_arrow}
+use Rattle.partitions.specs.Blocks.{State, HasBlocks, IsCalm, IsWhole, IsTaken, block_at, waits}
 use Rattle.equal_futures.proofs.RowLists.{target_below}
 use Rattle.equal_futures.proofs.Futures.{same_marks, same_events, future_after, AreStable, future_from_stable}
 use Rattle.equal_futures.proofs.Gathering.{bool_from_iff}
-use Rattle.equal_futures.proofs.Taking.{has_at}
+use Rattle.partitions.proofs.Taking.{has_at}
 
 pub future_sym : (nodes : List Node) (marks : List ℕ) (i j : ℕ) → HaveEqualFuture nodes marks i j → HaveEqualFuture nodes marks j i
 future_sym nodes marks i j f = record { runs = λ w. sym (f.runs w); ends = λ w r. sym (f.ends w (f.runs w ∙ r)) }

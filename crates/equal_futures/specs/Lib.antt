@@ -1,6 +1,5 @@
 pub mod Alike
-pub mod BlockSteps
-pub mod Blocks
+pub mod Arrows
 pub mod Future
 pub mod Rows
 pub mod Splits

@@ -1,7 +1,8 @@
 -- Splits by marks and by blocks, for the contracts of this crate's own functions.
 use Rattle.std.specs.Prelude.{◌≡◌, ◌↔◌, ◌<◌, ℕ, List, [], IsTrue, length, slice_index_or}
 use Rattle.csp_base.specs.Members.{has}
-use Rattle.equal_futures.specs.Blocks.{State, IsSplitByEvents, AreMarkSteps, AreGathered, block_at, has_arrow}
+use Rattle.equal_futures.specs.Arrows.{IsSplitByEvents, AreMarkSteps, AreGathered, has_arrow}
+use Rattle.partitions.specs.Blocks.{State, block_at}
 
 -- the steps in the rows lead from nodes below n
 abbrev pub AreAllFrom : ℕ → List (List (ℕ × ℕ)) → Type 0

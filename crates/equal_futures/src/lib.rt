@@ -1,7 +1,6 @@
 //! Nodes of a table with equal future: their classes, by splitters.
 #![tactic(auto)]
 
-mod partition;
 mod rounds;
 mod splitters;
 

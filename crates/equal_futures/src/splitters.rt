@@ -3,14 +3,15 @@
 ghost use Rattle.std.specs.Prelude.{◌≡◌, ◌≢◌, ◌+◌, ◌<◌, ◌≤◌, ◌^◌, ℕ, [], ◌∷◌, ◌++◌, replicate, length, slice_set, slice_index_or, All, IfOk, OnOk};
 ghost use Rattle.std.specs.List.Sorted.{IsNonDecreasingBy};
 ghost use Rattle.equal_futures.specs.Future.{AreFutureClasses, NodesRise};
-ghost use Rattle.equal_futures.specs.Blocks.{AreAdded, AreFrom, AreGathered, AreIncoming, AreMarkSteps, HasBlocks, IsCalm, IsSplitByEvents, IsWhole, count_of, event_at, state_of};
+ghost use Rattle.equal_futures.specs.Arrows.{AreAdded, AreFrom, AreGathered, AreIncoming, AreMarkSteps, IsSplitByEvents, event_at};
+ghost use Rattle.partitions.specs.Blocks.{HasBlocks, IsCalm, IsWhole, count_of, state_of};
 ghost use Rattle.equal_futures.specs.Splits.{AreAllFrom, IsSplitByBlock, IsSplitByMarks};
 
-use crate::partition::{Partition, whole};
 use crate::rounds::{Classes, round};
 use containers::Items;
 use csp_base::NoMemory;
 use csp_tables::NormNode;
+use partitions::{Partition, whole};
 use std::alloc::Global;
 
 /// The classes of nodes with equal future, refined by a list of blocks that wait to be used as splitters. A splitter splits

@@ -4,17 +4,17 @@ use Rattle.csp_program.specs.declared.processes.Proc.{Proc}
 use Rattle.csp_program.specs.declared.programs.Content.{Content}
 use Rattle.csp_tables.specs.Network.{Tree, leaves}
 use Rattle.csp_tables.specs.Shape.{Shape}
-use Rattle.client_server_rule.specs.declared.fault.RoleFault.{RoleFault}
-use Rattle.client_server_rule.specs.declared.fault.RoleFault.TheVariants as role
+use Rattle.client_server_conditions.specs.declared.fault.RoleFault.{RoleFault}
+use Rattle.client_server_conditions.specs.declared.fault.RoleFault.TheVariants as role
 use Rattle.csp_tables.specs.declared.rule.Rule.{Rule}
 use Rattle.csp_tables.specs.declared.rule.Rule.TheVariants.{ClientServer, Cyclic, Resource}
 use Rattle.network_layout.specs.declared.told.NotedFault.{NotedFault}
 use Rattle.network_layout.specs.declared.told.NotedFault.TheVariants as noted
-use Rattle.resource_rule.specs.declared.fault.ResourceFault.{ResourceFault}
-use Rattle.resource_rule.specs.declared.fault.ResourceFault.TheVariants as resource
+use Rattle.resource_conditions.specs.declared.fault.ResourceFault.{ResourceFault}
+use Rattle.resource_conditions.specs.declared.fault.ResourceFault.TheVariants as resource
 use Rattle.csp_text.specs.declared.script.Script.{Script}
-use Rattle.cyclic_rule.specs.declared.fault.CyclicFault.{CyclicFault}
-use Rattle.cyclic_rule.specs.declared.fault.CyclicFault.TheVariants as cyclic
+use Rattle.cyclic_conditions.specs.declared.fault.CyclicFault.{CyclicFault}
+use Rattle.cyclic_conditions.specs.declared.fault.CyclicFault.TheVariants as cyclic
 use Rattle.report.specs.Report.{status}
 use Rattle.report.specs.declared.answer.Answer.{Answer}
 use Rattle.report.specs.declared.answer.Answer.TheVariants as answer

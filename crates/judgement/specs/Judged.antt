@@ -12,10 +12,10 @@ use Rattle.csp_tables.specs.Standing.{IsBusyShape}
 use Rattle.csp_tables.specs.declared.rule.Rule.{Rule}
 use Rattle.csp_tables.specs.declared.rule.Rule.TheVariants.{ClientServer, Cyclic, Resource}
 use Rattle.csp_text.specs.declared.script.Script.{Script}
-use Rattle.client_server_rule.specs.Told.{Tells as TellsOfRoles}
-use Rattle.client_server_rule.specs.declared.fault.RoleFault.{RoleFault}
-use Rattle.cyclic_rule.specs.Told.{Tells}
-use Rattle.cyclic_rule.specs.declared.fault.CyclicFault.{CyclicFault}
+use Rattle.client_server_conditions.specs.Told.{Tells as TellsOfRoles}
+use Rattle.client_server_conditions.specs.declared.fault.RoleFault.{RoleFault}
+use Rattle.cyclic_conditions.specs.Told.{Tells}
+use Rattle.cyclic_conditions.specs.declared.fault.CyclicFault.{CyclicFault}
 use Rattle.design_rules.specs.ClientServer.{IsClientServer}
 use Rattle.design_rules.specs.ClientServerRanking.{IsClientServerRanking}
 use Rattle.design_rules.specs.Cyclic.{IsCyclic}
@@ -41,8 +41,8 @@ use Rattle.report.specs.declared.answer.Answer.{Answer}
 use Rattle.report.specs.declared.answer.Answer.TheVariants as answer
 use Rattle.report.specs.declared.answer.Shortfall.TheVariants as shortfall
 use Rattle.report.specs.declared.answer.TableFault.TheVariants as table
-use Rattle.resource_rule.specs.Told.{Tells as TellsOfUses}
-use Rattle.resource_rule.specs.declared.fault.ResourceFault.{ResourceFault}
+use Rattle.resource_conditions.specs.Told.{Tells as TellsOfUses}
+use Rattle.resource_conditions.specs.declared.fault.ResourceFault.{ResourceFault}
 use Rattle.script_names.specs.Resolved.{IsProgram, IsRefused}
 use Rattle.script_names.specs.declared.fault.ResolveFault.{ResolveFault}
 use Rattle.judgement.specs.Counts.{greatest_rank, node_count}

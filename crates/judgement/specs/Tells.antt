@@ -2,10 +2,10 @@
 use Rattle.std.specs.Prelude.{◌≡◌, ℕ, map}
 use Rattle.csp_program.specs.declared.programs.Content.{Content}
 use Rattle.csp_tables.specs.Shape.{Shape, link_at}
-use Rattle.client_server_rule.specs.declared.fault.RoleFault.{RoleFault}
-use Rattle.client_server_rule.specs.declared.fault.RoleFault.TheVariants as role
-use Rattle.cyclic_rule.specs.declared.fault.CyclicFault.{CyclicFault}
-use Rattle.cyclic_rule.specs.declared.fault.CyclicFault.TheVariants as cyclic
+use Rattle.client_server_conditions.specs.declared.fault.RoleFault.{RoleFault}
+use Rattle.client_server_conditions.specs.declared.fault.RoleFault.TheVariants as role
+use Rattle.cyclic_conditions.specs.declared.fault.CyclicFault.{CyclicFault}
+use Rattle.cyclic_conditions.specs.declared.fault.CyclicFault.TheVariants as cyclic
 use Rattle.fault_answers.specs.Tells.{on_component, texts}
 use Rattle.network_layout.specs.declared.told.NotedFault.{NotedFault}
 use Rattle.network_layout.specs.declared.told.NotedFault.TheVariants as noted
@@ -20,8 +20,8 @@ use Rattle.report.specs.declared.answer.Refusal.TheVariants as refusal
 use Rattle.report.specs.declared.answer.Shortfall.TheVariants as shortfall
 use Rattle.report.specs.declared.answer.Site.TheVariants as site
 use Rattle.report.specs.declared.answer.TableFault.TheVariants as table
-use Rattle.resource_rule.specs.declared.fault.ResourceFault.{ResourceFault}
-use Rattle.resource_rule.specs.declared.fault.ResourceFault.TheVariants as resource
+use Rattle.resource_conditions.specs.declared.fault.ResourceFault.{ResourceFault}
+use Rattle.resource_conditions.specs.declared.fault.ResourceFault.TheVariants as resource
 
 -- the two components of a link
 abbrev pub ends_of : Shape → ℕ → ℕ × ℕ

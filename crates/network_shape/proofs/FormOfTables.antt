@@ -10,7 +10,7 @@ use Rattle.csp_tables.specs.Trace.{IsTrace, IsAcceptance, IsWithin}
 use Rattle.csp_tables.specs.Form.{BeginsAbove, StepsHaveForm, AreWithin, NodesHaveForm}
 use Rattle.csp_tables.specs.BreadthFirst.{MeetsInOrder, targets_of_steps, targets_of_nodes}
 use Rattle.csp_tables.specs.NormalTable.{IsNormalTable, IsRisingNode}
-use Rattle.determinise.proofs.Traces.{After-append, After-event, After-cut, After-first}
+use Rattle.term_sets.proofs.Traces.{After-append, After-event, After-cut, After-first}
 use Rattle.network_shape.specs.Parts.{HasEventsWithin, IsWellFormedPart}
 
 -- ---- where steps lead

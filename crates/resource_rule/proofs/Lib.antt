@@ -1,9 +1,2 @@
-pub mod Acquiring
-pub mod Circles
-pub mod Holding
-pub mod Joining
-pub mod Links
 pub mod Offering
-pub mod Ranking
-pub mod Sets
 pub mod Using

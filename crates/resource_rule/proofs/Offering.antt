@@ -13,11 +13,10 @@ use Rattle.csp_tables.specs.Roles.{use_at}
 use Rattle.design_rules.specs.Resource.{holds, acquires, IsHeldWhile}
 use Rattle.observed_runs.specs.Observed.{pair_at}
 use Rattle.observed_runs.specs.Exploration.{Found}
-use Rattle.resource_rule.specs.Setting.{Setting, IsUser, node_of}
-use Rattle.resource_rule.specs.Tests.{is_offered, is_offered_at}
-use Rattle.resource_rule.specs.Finding.{WatchesLink, IsOfferedHolding}
-use Rattle.resource_rule.proofs.Acquiring.{is_part}
-use Rattle.resource_rule.proofs.Sets.{subset_within, within_subset, any_member, any_of, any_at}
+use Rattle.resource_conditions.specs.Setting.{Setting, IsUser, node_of}
+use Rattle.resource_rule.specs.Uses.{is_offered, is_offered_at, WatchesLink, IsOfferedHolding}
+use Rattle.resource_conditions.proofs.Acquiring.{is_part}
+use Rattle.resource_conditions.proofs.Sets.{subset_within, within_subset, any_member, any_of, any_at}
 use Rattle.resource_rule.proofs.Using.{parity_is}
 
 -- ---- events that are collected

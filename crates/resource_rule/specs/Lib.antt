@@ -1,7 +1,1 @@
-pub mod Finding
-pub mod Links
-pub mod Ranks
-pub mod Setting
-pub mod Tests
-pub mod Told
-pub mod Turned
+pub mod Uses

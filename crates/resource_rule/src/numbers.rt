@@ -4,13 +4,12 @@ ghost use Rattle.std.specs.Prelude.{◌≡◌, ◌<◌, ℕ, All, IfErr, IfOk, l
 ghost use Rattle.design_rules.specs.Resource.{IsHeldWhile, KeepUses, ResourcesRise};
 ghost use Rattle.design_rules.specs.ResourceRanking.{AreResourceNumbers};
 ghost use Rattle.digraph.specs.Digraph.{HasArc};
-ghost use Rattle.resource_rule.specs.Ranks.{number_by};
-ghost use Rattle.resource_rule.specs.Setting.{TellsOf};
+ghost use Rattle.rule_rankings.specs.ResourceRanks.{number_by};
+ghost use Rattle.resource_conditions.specs.Setting.{TellsOf};
 
-use crate::circle::turned;
-use crate::fault::ResourceFault;
-use crate::prepared::Prepared;
 use digraph::{Fault, Heights, Rows, longest_walks};
+use resource_conditions::{Prepared, ResourceFault};
+use shape_links::turned;
 use std::alloc::Global;
 
 // For each resource the greatest number of resources that must be numbered below it in a chain.

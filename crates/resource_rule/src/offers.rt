@@ -6,14 +6,14 @@ ghost use Rattle.csp_base.specs.Events.{is_subset_of};
 ghost use Rattle.csp_tables.specs.Part.{part_at};
 ghost use Rattle.design_rules.specs.Resource.{acquires};
 ghost use Rattle.digraph.specs.Digraph.{has_arc};
-ghost use Rattle.resource_rule.specs.Finding.{HaveNodes};
-ghost use Rattle.resource_rule.specs.Links.{is_acquired_by};
-ghost use Rattle.resource_rule.specs.Setting.{KeepKinds, node_of};
-ghost use Rattle.resource_rule.specs.Tests.{is_offered, is_offered_at};
+ghost use Rattle.resource_conditions.specs.Finding.{HaveNodes};
+ghost use Rattle.resource_conditions.specs.Acquired.{is_acquired_by};
+ghost use Rattle.resource_conditions.specs.Setting.{KeepKinds, node_of};
+ghost use Rattle.resource_rule.specs.Uses.{is_offered, is_offered_at};
 
-use crate::prepared::Prepared;
 use csp_base::{Event, EventSet, NoMemory};
 use digraph::Rows;
+use resource_conditions::{Prepared, acquired};
 use std::alloc::Global;
 
 // The events of the acceptances in the vocabulary at the pairs with the state 1.
@@ -125,34 +125,4 @@ fn add_arc(
     };
     rows.add_arc(resource, held)?;
     Ok(())
-}
-
-// The resource that the event acquires.
-pub(crate) fn acquired(prepared: &Prepared<'_>, event: Event) -> Option<u32>
-    requires { KeepKinds prepared.now }
-    ensures within { (j : ℕ) → result ≡ Some j → j < length prepared.now.shape.parts }
-    ensures found { (j : ℕ) → result ≡ Some j → is_acquired_by prepared.now j event ≡ true }
-    ensures owned { (j : ℕ) → is_acquired_by prepared.now j event ≡ true → result ≡ Some j }
-{
-    let _form = prepared.shape();
-    let link = prepared.owner(event)?;
-    let ends = prepared.link(link);
-    let left = ends.left();
-    let right = ends.right();
-    if is_acquired(prepared, left, event) {
-        return Some(left);
-    }
-    if is_acquired(prepared, right, event) {
-        return Some(right);
-    }
-    None
-}
-
-// Whether the part is a resource that the event acquires.
-fn is_acquired(prepared: &Prepared<'_>, part: u32, event: Event) -> bool
-    requires { part < length prepared.now.shape.parts }
-    ensures { result ≡ is_acquired_by prepared.now part event }
-{
-    let uses = prepared.uses(part);
-    uses.is_resource() && uses.acquire().contains(event)
 }

@@ -5,17 +5,13 @@ ghost use Rattle.csp_tables.specs.Part.{TripleDisjoint, alphabets_of};
 ghost use Rattle.csp_tables.specs.Shape.{IsWellFormed};
 ghost use Rattle.design_rules.specs.Resource.{IsResource};
 ghost use Rattle.design_rules.specs.ResourceRanking.{IsResourceRanking};
-ghost use Rattle.resource_rule.specs.Told.{Tells};
+ghost use Rattle.resource_conditions.specs.Told.{Tells};
 
-use crate::fault::ResourceFault;
-use crate::grants::check_grants;
-use crate::kinds::check_kinds;
 use crate::numbers::numbers;
-use crate::prepared::Prepared;
-use crate::ranks::ranking;
-use crate::turns::check_turns;
 use crate::users::holdings;
 use csp_tables::{Ranking, Shape, UseSets};
+use resource_conditions::{Prepared, ResourceFault, check_grants, check_kinds, check_turns};
+use rule_rankings::resource_ranking;
 use std::alloc::Global;
 
 /// The ranking of a network of users and resources, or what breaks the rule.
@@ -34,6 +30,6 @@ pub fn resource(alloc: Global, shape: &Shape, uses: &[UseSets]) -> Result<Rankin
     check_grants(alloc, &prepared)?;
     let rows = holdings(alloc, &prepared)?;
     let heights = numbers(alloc, &prepared, &rows)?;
-    let ranking = ranking(alloc, &prepared, &heights)?;
+    let ranking = resource_ranking(alloc, &prepared, &heights)?;
     Ok(ranking)
 }

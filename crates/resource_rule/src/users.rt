@@ -5,16 +5,15 @@ ghost use Rattle.csp_tables.specs.Part.{part_at};
 ghost use Rattle.csp_tables.specs.Shape.{Joins, is_end};
 ghost use Rattle.design_rules.specs.Resource.{IsHeldWhile, UsesInTurn};
 ghost use Rattle.digraph.specs.Digraph.{HasArc};
-ghost use Rattle.resource_rule.specs.Finding.{FindsBroken, FindsRun, HaveNodes, UsesLink, WatchesLink};
-ghost use Rattle.resource_rule.specs.Setting.{IsUser, KeepGrants, KeepKinds, KeepTurns, TellsOf, UsersKeepTurns};
-ghost use Rattle.resource_rule.specs.Tests.{are_uses, is_use};
+ghost use Rattle.resource_conditions.specs.Finding.{FindsBroken, FindsRun, HaveNodes};
+ghost use Rattle.resource_rule.specs.Uses.{UsesLink, WatchesLink, are_uses, is_use};
+ghost use Rattle.resource_conditions.specs.Setting.{IsUser, KeepGrants, KeepKinds, KeepTurns, TellsOf, UsersKeepTurns};
 
-use crate::fault::ResourceFault;
 use crate::offers::{add_arcs, offered};
-use crate::prepared::Prepared;
 use csp_base::{Event, NoMemory, Trace};
 use digraph::Rows;
 use observed_runs::{Explored, Parity, explore};
+use resource_conditions::{Prepared, ResourceFault};
 use std::alloc::Global;
 
 // An arc from each resource to each one that a user holds while it offers to acquire the first; or the first user that does

@@ -4,7 +4,8 @@ use Rattle.std.proofs.lemmas.Bool.{cases_lt}
 use Rattle.std.proofs.lemmas.Option.{get_or_from_slice_get, slice_get_within}
 use Rattle.csp_base.specs.Members.{has}
 use Rattle.digraph.specs.Digraph.{HasArc}
-use Rattle.cyclic_rule.proofs.Chaining.{place_in, rest_is, rest_last}
+use Rattle.cyclic_rule.proofs.Chaining.{rest_is, rest_last}
+use Rattle.shape_links.proofs.Links.{place_in}
 use Rattle.cyclic_rule.proofs.numbers.chain_rest.Goals as goal
 
 pub loop-link-preserved : goal.loop-link-preserved

@@ -3,8 +3,9 @@ use Rattle.std.specs.Prelude.{slice_index}
 use Rattle.digraph.specs.Digraph.{HasArc}
 use Rattle.digraph.specs.Circle.{IsLeastCircle}
 use Rattle.design_rules.specs.Cyclic.{MustPrecede}
-use Rattle.cyclic_rule.specs.Chains.{turned_circle}
-use Rattle.cyclic_rule.proofs.Chaining.{next_precedes, all_rise, chain_numbers, turned_least, circle_some}
+use Rattle.shape_links.specs.Turned.{turned_circle}
+use Rattle.cyclic_rule.proofs.Chaining.{next_precedes, all_rise, chain_numbers}
+use Rattle.shape_links.proofs.Circles.{turned_least, circle_some}
 use Rattle.cyclic_rule.proofs.numbers.numbers.Goals as goal
 
 pub returns-in-Ok-clause-chains : goal.returns-in-Ok-clause-chains

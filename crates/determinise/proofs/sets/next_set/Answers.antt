@@ -2,7 +2,7 @@ use Rattle.std.proofs.Common.{◌≡◌, ◌↔◌, ◌<◌, ℕ, List, IsTrue, 
 use Rattle.std.specs.List.{All}
 use Rattle.csp_base.specs.Members.{has}
 use Rattle.csp_tables.specs.BreadthFirst.{targets_of_steps}
-use Rattle.determinise.specs.Moves.{IsSilentlyReached}
+use Rattle.term_sets.specs.Moves.{IsSilentlyReached}
 use Rattle.determinise.proofs.Groups.{targets_below}
 use Rattle.determinise.proofs.sets.next_set.Goals as goal
 

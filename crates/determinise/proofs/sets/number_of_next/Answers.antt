@@ -1,7 +1,7 @@
 use Rattle.std.proofs.Common.{[], sym, subst}
 use Rattle.std.proofs.lemmas.Option.{slice_get_within, get_or_from_slice_get}
 use Rattle.csp_tables.specs.BreadthFirst.{targets_of_steps}
-use Rattle.determinise.specs.Progress.{IsSilentClosure}
+use Rattle.term_sets.specs.TermSets.{IsSilentClosure}
 use Rattle.determinise.proofs.MoreSets.{numbered_more, numbered_in_order}
 use Rattle.determinise.proofs.sets.number_of_next.Goals as goal
 

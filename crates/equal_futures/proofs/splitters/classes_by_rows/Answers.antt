@@ -1,7 +1,7 @@
 use Rattle.std.proofs.Common.{◌≡◌, length, refl, sym, ap, ◌∙◌}
 use Rattle.std.proofs.lemmas.Result.{IfOk-weaker}
 use Rattle.equal_futures.specs.Alike.{AreTold}
-use Rattle.equal_futures.specs.Blocks.{state_of, count_of}
+use Rattle.partitions.specs.Blocks.{state_of, count_of}
 use Rattle.equal_futures.specs.declared.rounds.Classes.{Classes}
 use Rattle.equal_futures.proofs.Settling.{block_refined, classes_told, marks_refined, rows_read}
 use Rattle.equal_futures.proofs.splitters.classes_by_rows.Goals as goal

@@ -1,5 +1,5 @@
 use Rattle.std.proofs.Common.{length}
-use Rattle.equal_futures.specs.Blocks.{state_of, work}
+use Rattle.partitions.specs.Blocks.{state_of, work}
 use Rattle.equal_futures.proofs.Settling.{IsRefined}
 use Rattle.equal_futures.proofs.splitters.classes_by_rows.Given as goal
 

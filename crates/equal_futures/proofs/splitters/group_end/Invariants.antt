@@ -1,5 +1,5 @@
 use Rattle.std.proofs.Common.{◌≡◌, ℕ, ◌<◌, ◌≤◌, ◌-◌, length}
-use Rattle.equal_futures.specs.Blocks.{event_at}
+use Rattle.equal_futures.specs.Arrows.{event_at}
 use Rattle.equal_futures.proofs.splitters.group_end.Given as goal
 
 abbrev pub invariant-loop-to : goal.invariant-loop-to

@@ -1,4 +1,4 @@
-use Rattle.equal_futures.specs.Blocks.{AreIncoming}
+use Rattle.equal_futures.specs.Arrows.{AreIncoming}
 use Rattle.equal_futures.proofs.splitters.incoming.Given as goal
 
 abbrev pub invariant-loop-source : goal.invariant-loop-source

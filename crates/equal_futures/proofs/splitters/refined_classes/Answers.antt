@@ -1,5 +1,5 @@
 use Rattle.std.proofs.Common.{ℕ, List, length, sym, subst}
-use Rattle.equal_futures.specs.Blocks.{AreIncoming}
+use Rattle.equal_futures.specs.Arrows.{AreIncoming}
 use Rattle.equal_futures.proofs.splitters.refined_classes.Goals as goal
 
 pub classes_by_rows-requires-clause-incoming : goal.classes_by_rows-requires-clause-incoming

@@ -1,7 +1,7 @@
 use Rattle.std.proofs.Common.{◌<◌, sym, subst, arith}
 use Rattle.std.specs.List.{All}
-use Rattle.equal_futures.specs.Blocks.{state_of, count_of, IsSplit}
-use Rattle.equal_futures.proofs.Splitting.{same_count}
+use Rattle.partitions.specs.Blocks.{state_of, count_of, IsSplit}
+use Rattle.partitions.proofs.Splitting.{same_count}
 use Rattle.equal_futures.proofs.Grouping.{one_more_group, all_groups, sources_part, part}
 use Rattle.equal_futures.proofs.splitters.split_by_groups.Goals as goal
 

@@ -1,5 +1,5 @@
 use Rattle.std.proofs.Common.{◌-◌, length}
-use Rattle.equal_futures.specs.Blocks.{state_of, count_of}
+use Rattle.partitions.specs.Blocks.{state_of, count_of}
 use Rattle.equal_futures.proofs.Grouping.{AreSplitUpTo}
 use Rattle.equal_futures.proofs.splitters.split_by_groups.Given as goal
 

@@ -1,5 +1,5 @@
 use Rattle.std.proofs.Common.{take}
-use Rattle.equal_futures.specs.Blocks.{AreMarkSteps}
+use Rattle.equal_futures.specs.Arrows.{AreMarkSteps}
 use Rattle.equal_futures.proofs.splitters.with_marks.Given as goal
 
 abbrev pub invariant-loop-node : goal.invariant-loop-node

@@ -5,8 +5,8 @@ use Rattle.digraph.specs.Circle.{IsLeastCircle}
 use Rattle.digraph.proofs.WalkLaws.{same_longest}
 use Rattle.design_rules.specs.Resource.{IsHeldWhile}
 use Rattle.design_rules.specs.ResourceRanking.{StandsAbove}
-use Rattle.resource_rule.specs.Turned.{turned_circle}
-use Rattle.resource_rule.proofs.Circles.{turned_least, circle_some}
+use Rattle.shape_links.specs.Turned.{turned_circle}
+use Rattle.shape_links.proofs.Circles.{turned_least, circle_some}
 use Rattle.resource_rule.proofs.numbers.numbers.Goals as goal
 
 pub returns-in-Ok-clause-numbers : goal.returns-in-Ok-clause-numbers

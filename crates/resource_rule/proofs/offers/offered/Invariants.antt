@@ -1,6 +1,6 @@
 use Rattle.std.proofs.Common.{◌≡◌, ℕ, take}
 use Rattle.csp_base.specs.Members.{has}
-use Rattle.resource_rule.specs.Tests.{is_offered_at}
+use Rattle.resource_rule.specs.Uses.{is_offered_at}
 use Rattle.resource_rule.proofs.offers.offered.Given as goal
 
 abbrev pub invariant-loop-place : goal.invariant-loop-place

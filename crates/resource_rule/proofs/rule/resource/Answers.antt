@@ -1,15 +1,15 @@
 use Rattle.std.proofs.Common.{length, subst}
 use Rattle.design_rules.specs.Resource.{IsResource}
 use Rattle.design_rules.specs.ResourceRanking.{IsResourceRanking, top_number}
-use Rattle.resource_rule.specs.Ranks.{number_by}
-use Rattle.resource_rule.specs.Setting.{Setting}
+use Rattle.rule_rankings.specs.ResourceRanks.{number_by}
+use Rattle.resource_conditions.specs.Setting.{Setting}
 use Rattle.resource_rule.proofs.rule.resource.Goals as goal
 
 pub numbers-requires-clause-keep : goal.numbers-requires-clause-keep
 numbers-requires-clause-keep c = record { kinds = c.in_ok-check_kinds.ensures.kinds; used = c.in_ok-check_turns.ensures.turns; grants = c.in_ok-check_grants.ensures.grants; turns = c.in_ok-rows.ensures.users }
 
-pub ranking-requires-clause-keep : goal.ranking-requires-clause-keep
-ranking-requires-clause-keep c = record { kinds = c.in_ok-check_kinds.ensures.kinds; used = c.in_ok-check_turns.ensures.turns; grants = c.in_ok-check_grants.ensures.grants; turns = c.in_ok-rows.ensures.users }
+pub resource_ranking-requires-clause-keep : goal.resource_ranking-requires-clause-keep
+resource_ranking-requires-clause-keep c = record { kinds = c.in_ok-check_kinds.ensures.kinds; used = c.in_ok-check_turns.ensures.turns; grants = c.in_ok-check_grants.ensures.grants; turns = c.in_ok-rows.ensures.users }
 
 pub returns-clause-resource : goal.returns-clause-resource
 returns-clause-resource c =

@@ -1,6 +1,6 @@
 use Rattle.std.proofs.Common.{◌≡◌, ◌<◌, ℕ, true}
 use Rattle.observed_runs.specs.Observed.{pair_at}
-use Rattle.resource_rule.specs.Tests.{are_uses}
+use Rattle.resource_rule.specs.Uses.{are_uses}
 use Rattle.resource_rule.proofs.users.broken_use.Given as goal
 
 abbrev pub invariant-loop-place : goal.invariant-loop-place

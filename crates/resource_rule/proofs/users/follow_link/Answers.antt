@@ -4,9 +4,9 @@ use Rattle.csp_tables.specs.Shape.{link_at}
 use Rattle.digraph.specs.Digraph.{has_arc}
 use Rattle.observed_runs.specs.Observed.{pair_at}
 use Rattle.observed_runs.specs.Observers.{parity_step}
-use Rattle.resource_rule.specs.Finding.{HaveNodes, UsesLink}
-use Rattle.resource_rule.specs.Tests.{are_uses, is_offered_at}
-use Rattle.resource_rule.proofs.Holding.{at_run, every_run, have_nodes}
+use Rattle.resource_conditions.specs.Finding.{HaveNodes}
+use Rattle.resource_rule.specs.Uses.{UsesLink, are_uses, is_offered_at}
+use Rattle.resource_conditions.proofs.Holding.{at_run, every_run, have_nodes}
 use Rattle.resource_rule.proofs.Offering.{arc_sound, arc_complete}
 use Rattle.resource_rule.proofs.Using.{uses_link, not_in_use}
 use Rattle.resource_rule.proofs.users.follow_link.Goals as goal

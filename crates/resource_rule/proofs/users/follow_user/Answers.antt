@@ -3,9 +3,10 @@ use Rattle.std.specs.Prelude.{slice_get}
 use Rattle.std.proofs.lemmas.Bool.{cases_lt}
 use Rattle.csp_tables.specs.Shape.{Joins}
 use Rattle.digraph.specs.Digraph.{HasArc}
-use Rattle.resource_rule.specs.Finding.{FindsRun, UsesLink}
-use Rattle.resource_rule.specs.Links.{ends_of}
-use Rattle.resource_rule.proofs.Links.{end_here, end_place, same_end}
+use Rattle.resource_conditions.specs.Finding.{FindsRun}
+use Rattle.resource_rule.specs.Uses.{UsesLink}
+use Rattle.shape_links.specs.Links.{ends_of}
+use Rattle.shape_links.proofs.Links.{end_here, end_place, same_end}
 use Rattle.resource_rule.proofs.users.follow_user.Goals as goal
 
 pub follow_link-requires-clause-link : goal.follow_link-requires-clause-link

@@ -3,8 +3,8 @@ use Rattle.std.specs.Prelude.{slice_get}
 use Rattle.digraph.specs.Digraph.{HasArc}
 use Rattle.csp_tables.specs.Shape.{Joins}
 use Rattle.design_rules.specs.Resource.{IsHeldWhile}
-use Rattle.resource_rule.specs.Finding.{UsesLink}
-use Rattle.resource_rule.specs.Links.{ends_of}
+use Rattle.resource_rule.specs.Uses.{UsesLink}
+use Rattle.shape_links.specs.Links.{ends_of}
 use Rattle.resource_rule.proofs.users.follow_user.Given as goal
 
 abbrev pub invariant-loop-link : goal.invariant-loop-link

@@ -1,8 +1,8 @@
 use Rattle.std.proofs.Common.{◌≡◌, ◌∙◌, ℕ, List, false, ap, sym, subst}
 use Rattle.std.specs.List.{list_all}
 use Rattle.csp_tables.specs.Table.{Node}
-use Rattle.resource_rule.specs.Tests.{is_use}
-use Rattle.resource_rule.proofs.Sets.{fails_here}
+use Rattle.resource_rule.specs.Uses.{is_use}
+use Rattle.resource_conditions.proofs.Sets.{fails_here}
 use Rattle.resource_rule.proofs.users.uses_at.Goals as goal
 
 pub returns-then-not-use_in_turn : goal.returns-then-not-use_in_turn

@@ -1,6 +1,6 @@
 use Rattle.std.proofs.Common.{◌≡◌, ℕ, true, take}
 use Rattle.std.specs.List.{list_all}
-use Rattle.resource_rule.specs.Tests.{is_use}
+use Rattle.resource_rule.specs.Uses.{is_use}
 use Rattle.resource_rule.proofs.users.uses_at.Given as goal
 
 abbrev pub invariant-loop-event : goal.invariant-loop-event

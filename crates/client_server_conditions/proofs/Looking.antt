@@ -1,0 +1,128 @@
+-- What one node shows, read off its tests.
+use Rattle.std.proofs.Common.{◌≡◌, ℕ, zero, suc, List, [], ◌∷◌, Bool, true, false, not, ◌&&◌, ◌||◌, nat_eq, inl, inr, refl, sym, ap, subst, arith, eq-eqb}
+use Rattle.std.specs.List.{list_any}
+use Rattle.std.proofs.lemmas.Bool.{cases_Bool, and_parts, and_from, or_cases, or_left, or_right, eqb-true, both_ways, false≢true, not-true}
+use Rattle.csp_base.specs.Members.{has}
+use Rattle.csp_base.specs.Events.{is_subset_of, meets_of}
+use Rattle.csp_base.proofs.SetLaws.{common_member, member_of_superset, is_subset_of_from_members, meets_of_from_member}
+use Rattle.csp_tables.specs.Table.{is_possible}
+use Rattle.csp_tables.specs.Part.{AreApart}
+use Rattle.csp_tables.specs.Trace.{IsWithin}
+use Rattle.csp_tables.specs.Roles.{RoleSets}
+use Rattle.client_server_conditions.specs.Nodes.{is_in_turn, AreInTurn, EachShared, HasAllOrNone, splits, takes, refuses, is_out_of_turn}
+
+neither : (a b : Bool) → (a || b) ≡ false → (a ≡ false) × (b ≡ false)
+neither true b h = absurd (false≢true (sym h))
+neither false b h = (refl, h)
+
+-- ---- steps
+
+pub in_turn : (next : List (ℕ × ℕ)) (shared : List ℕ) (roles : RoleSets) (opened : Bool) → list_any (is_out_of_turn shared roles opened) next ≡ false → AreInTurn next shared roles opened
+in_turn [] shared roles opened h e possible on = absurd (false≢true possible)
+in_turn (step ∷ next) shared roles opened h e possible on =
+    let n = neither (is_out_of_turn shared roles opened step) (list_any (is_out_of_turn shared roles opened) next) h in
+    elim (or_cases (nat_eq step.0 e) (is_possible next e) possible) [
+      | inl same ↦
+          let is = eqb-true step.0 e same in
+          elim (cases_Bool (is_in_turn roles opened e)) [
+            | inl turn ↦ turn
+            | inr not_turn ↦ absurd (both_ways (has shared e && not (is_in_turn roles opened e)) (subst (λ (x : ℕ). (has shared x && not (is_in_turn roles opened x)) ≡ false) is n.0) (and_from (has shared e) (not (is_in_turn roles opened e)) on (ap not not_turn)))
+          ]
+      | inr later ↦ in_turn next shared roles opened n.1 e later on
+    ]
+
+pub out_of_turn : (next : List (ℕ × ℕ)) (shared : List ℕ) (roles : RoleSets) (opened : Bool) → list_any (is_out_of_turn shared roles opened) next ≡ true → AreInTurn next shared roles opened → ⊥
+out_of_turn [] shared roles opened h turns = false≢true h
+out_of_turn (step ∷ next) shared roles opened h turns = elim (or_cases (is_out_of_turn shared roles opened step) (list_any (is_out_of_turn shared roles opened) next) h) [
+  | inl out ↦
+      let p = and_parts (has shared step.0) (not (is_in_turn roles opened step.0)) out in
+      both_ways (is_in_turn roles opened step.0) (not-true (is_in_turn roles opened step.0) p.1) (turns step.0 (or_left (nat_eq step.0 step.0) (is_possible next step.0) (eq-eqb step.0 step.0 refl)) p.0)
+  | inr later ↦ out_of_turn next shared roles opened later (λ e possible on. turns e (or_right (nat_eq step.0 e) (is_possible next e) possible) on)
+]
+
+-- ---- acceptances
+
+pub each_none : (P : List ℕ → Type 0) (V : List ℕ) (test : List ℕ → Bool) → ((M : List ℕ) → test M ≡ false → IsWithin M V → P M) → (accept : List (List ℕ)) → list_any test accept ≡ false → EachShared P V accept
+each_none P V test keeps [] h k below within = absurd (omega arith)
+each_none P V test keeps (M ∷ Ms) h zero below within = keeps M (neither (test M) (list_any test Ms) h).0 within
+each_none P V test keeps (M ∷ Ms) h (suc k) below within = each_none P V test keeps Ms (neither (test M) (list_any test Ms) h).1 k (omega arith) within
+
+pub each_some : (P : List ℕ → Type 0) (V : List ℕ) (test : List ℕ → Bool) → ((M : List ℕ) → test M ≡ true → IsWithin M V × (P M → ⊥)) → (accept : List (List ℕ)) → list_any test accept ≡ true → EachShared P V accept → ⊥
+each_some P V test breaks [] h each = false≢true h
+each_some P V test breaks (M ∷ Ms) h each = elim (or_cases (test M) (list_any test Ms) h) [
+  | inl here ↦ let b = breaks M here in b.1 (each 0 (omega arith) b.0)
+  | inr later ↦ each_some P V test breaks Ms later (λ k below within. each (suc k) (omega arith) within)
+]
+
+second_false : (a b : Bool) → (a && b) ≡ false → a ≡ true → b ≡ false
+second_false true b h k = h
+second_false false b h k = absurd (false≢true k)
+
+within_subset : (M V : List ℕ) → IsWithin M V → is_subset_of M V ≡ true
+within_subset M V w = is_subset_of_from_members M V w
+
+subset_within : (M V : List ℕ) → is_subset_of M V ≡ true → IsWithin M V
+subset_within M V h e x = member_of_superset M V h e x
+
+takes_none : (V R M : List ℕ) → takes V R M ≡ false → IsWithin M V → AreApart M R
+takes_none V R M h within e m r = both_ways (meets_of M R) (second_false (is_subset_of M V) (meets_of M R) h (within_subset M V within)) (meets_of_from_member M R e m r)
+
+takes_some : (V R M : List ℕ) → takes V R M ≡ true → IsWithin M V × (AreApart M R → ⊥)
+takes_some V R M h =
+    let p = and_parts (is_subset_of M V) (meets_of M R) h in
+    let x = common_member M R p.1 in
+    (subset_within M V p.0, λ apart. apart x.0 x.1 x.2)
+
+splits_none : (V R M : List ℕ) → splits V R M ≡ false → IsWithin M V → HasAllOrNone R M
+splits_none V R M h within =
+    let rest = second_false (is_subset_of M V) (meets_of M R && not (is_subset_of R M)) h (within_subset M V within) in
+    elim (cases_Bool (meets_of M R)) [
+      | inl meets ↦ elim (cases_Bool (is_subset_of R M)) [
+        | inl all ↦ inl (subset_within R M all)
+        | inr lacks ↦ absurd (both_ways (meets_of M R && not (is_subset_of R M)) rest (and_from (meets_of M R) (not (is_subset_of R M)) meets (ap not lacks)))
+      ]
+      | inr apart ↦ inr (λ e m r. both_ways (meets_of M R) apart (meets_of_from_member M R e m r))
+    ]
+
+splits_some : (V R M : List ℕ) → splits V R M ≡ true → IsWithin M V × (HasAllOrNone R M → ⊥)
+splits_some V R M h =
+    let p = and_parts (is_subset_of M V) (meets_of M R && not (is_subset_of R M)) h in
+    let q = and_parts (meets_of M R) (not (is_subset_of R M)) p.1 in
+    let x = common_member M R q.0 in (
+      subset_within M V p.0,
+      λ either. elim either [
+        | inl all ↦ both_ways (is_subset_of R M) (not-true (is_subset_of R M) q.1) (within_subset R M all)
+        | inr apart ↦ apart x.0 x.1 x.2
+      ],
+    )
+
+refuses_none : (V A M : List ℕ) → refuses V A M ≡ false → IsWithin M V → IsWithin A M
+refuses_none V A M h within = elim (cases_Bool (is_subset_of A M)) [
+  | inl all ↦ subset_within A M all
+  | inr lacks ↦ absurd (both_ways (not (is_subset_of A M)) (second_false (is_subset_of M V) (not (is_subset_of A M)) h (within_subset M V within)) (ap not lacks))
+]
+
+refuses_some : (V A M : List ℕ) → refuses V A M ≡ true → IsWithin M V × (IsWithin A M → ⊥)
+refuses_some V A M h =
+    let p = and_parts (is_subset_of M V) (not (is_subset_of A M)) h in
+    (subset_within M V p.0, λ all. both_ways (is_subset_of A M) (not-true (is_subset_of A M) p.1) (within_subset A M all))
+
+-- ---- all acceptances of a node
+
+pub none_takes : (V R : List ℕ) (accept : List (List ℕ)) → list_any (takes V R) accept ≡ false → EachShared (λ M. AreApart M R) V accept
+none_takes V R accept h = each_none (λ M. AreApart M R) V (takes V R) (takes_none V R) accept h
+
+pub one_takes : (V R : List ℕ) (accept : List (List ℕ)) → list_any (takes V R) accept ≡ true → EachShared (λ M. AreApart M R) V accept → ⊥
+one_takes V R accept h = each_some (λ M. AreApart M R) V (takes V R) (takes_some V R) accept h
+
+pub none_splits : (V R : List ℕ) (accept : List (List ℕ)) → list_any (splits V R) accept ≡ false → EachShared (HasAllOrNone R) V accept
+none_splits V R accept h = each_none (HasAllOrNone R) V (splits V R) (splits_none V R) accept h
+
+pub one_splits : (V R : List ℕ) (accept : List (List ℕ)) → list_any (splits V R) accept ≡ true → EachShared (HasAllOrNone R) V accept → ⊥
+one_splits V R accept h = each_some (HasAllOrNone R) V (splits V R) (splits_some V R) accept h
+
+pub none_refuses : (V A : List ℕ) (accept : List (List ℕ)) → list_any (refuses V A) accept ≡ false → EachShared (IsWithin A) V accept
+none_refuses V A accept h = each_none (IsWithin A) V (refuses V A) (refuses_none V A) accept h
+
+pub one_refuses : (V A : List ℕ) (accept : List (List ℕ)) → list_any (refuses V A) accept ≡ true → EachShared (IsWithin A) V accept → ⊥
+one_refuses V A accept h = each_some (IsWithin A) V (refuses V A) (refuses_some V A) accept h

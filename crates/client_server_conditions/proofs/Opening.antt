@@ -1,0 +1,155 @@
+-- When a link is open, as the exploration of one end shows it; and which events of the link are acknowledgements.
+use Rattle.std.proofs.Common.{◌≡◌, ℕ, suc, ◌+◌, List, [], ◌∷◌, Bool, true, false, not, ◌&&◌, ◌||◌, cond, IsTrue, nat_eq, inl, inr, refl, sym, ap, subst, ◌∙◌, arith, eq-eqb}
+use Rattle.std.specs.List.{list_any}
+use Rattle.std.proofs.lemmas.Bool.{cases_Bool, and_from, or_cases, or_left, or_right, false≢true, cond-true, cond-false, and_parts, eqb-true}
+use Rattle.csp_base.specs.Members.{has}
+use Rattle.csp_tables.specs.Table.{Node}
+use Rattle.csp_tables.specs.Shape.{Joins, link_at}
+use Rattle.csp_tables.specs.Roles.{role_at}
+use Rattle.design_rules.specs.Counts.{count_in, is_odd}
+use Rattle.design_rules.specs.ClientServer.{has_acknowledgements, is_acknowledgement, is_open}
+use Rattle.design_rules.proofs.Counts.{count_more, count_same}
+use Rattle.observed_runs.specs.Observed.{observed, LeadsTo}
+use Rattle.observed_runs.specs.Observers.{parity_step}
+use Rattle.client_server_conditions.specs.Network.{Network, Asks, Grants}
+use Rattle.client_server_conditions.specs.Conditions.{AreAcknowledgements, is_open_at}
+
+-- ---- parities
+
+abbrev number : Bool → ℕ
+number b = cond b 1 0
+
+is_one : (b : Bool) → nat_eq (number b) 1 ≡ b
+is_one true = refl
+is_one false = refl
+
+turned : (b : Bool) → cond (nat_eq (number b) 0) 1 0 ≡ number (not b)
+turned true = refl
+turned false = refl
+
+-- the parity after another odd or even number
+abbrev flip : Bool → Bool → Bool
+flip b odd = cond odd (not b) b
+
+flip_not : (b odd : Bool) → flip (not b) odd ≡ flip b (not odd)
+flip_not true true = refl
+flip_not true false = refl
+flip_not false true = refl
+flip_not false false = refl
+
+odd_next : (S : List ℕ) (e : ℕ) (s : List ℕ) → has S e ≡ true → is_odd (count_in S (e ∷ s)) ≡ not (is_odd (count_in S s))
+odd_next S e s on = ap is_odd (count_more S e s on ∙ plus_one (count_in S s))
+  where
+    plus_one : (n : ℕ) → n + 1 ≡ suc n
+    plus_one n = omega arith
+
+parity_counts : (S : List ℕ) (b : Bool) (s : List ℕ) → observed (parity_step S) (number b) s ≡ number (flip b (is_odd (count_in S s)))
+parity_counts S b [] = refl
+parity_counts S b (e ∷ s) = elim (cases_Bool (has S e)) [
+  | inl on ↦
+      let to : parity_step S (number b) e ≡ number (not b) = cond-true (has S e) (cond (nat_eq (number b) 0) 1 0) (number b) on ∙ turned b in
+      ap (λ n. observed (parity_step S) n s) to ∙ parity_counts S (not b) s ∙ ap number (flip_not b (is_odd (count_in S s)) ∙ ap (flip b) (sym (odd_next S e s on)))
+  | inr off ↦
+      let to : parity_step S (number b) e ≡ number b = cond-false (has S e) (cond (nat_eq (number b) 0) 1 0) (number b) off in
+      ap (λ n. observed (parity_step S) n s) to ∙ parity_counts S b s ∙ ap (λ n. number (flip b (is_odd n))) (sym (count_same S e s off))
+]
+
+flip_false : (odd : Bool) → flip false odd ≡ odd
+flip_false true = refl
+flip_false false = refl
+
+-- the state to which a run leads tells whether the link is open
+pub opened_is : (network : Network) (l : ℕ) (table : List Node) (s : List ℕ) (pair : ℕ × ℕ) (acknowledged : Bool) → acknowledged ≡ has_acknowledgements network.shape network.roles l → LeadsTo table (parity_step (link_at network.shape l).shared) 0 s pair → is_open_at acknowledged pair.1 ≡ is_open network.shape network.roles l s
+opened_is network l table s pair acknowledged is leads =
+    let S = (link_at network.shape l).shared in
+    let odd : nat_eq pair.1 1 ≡ is_odd (count_in (link_at network.shape l).shared s) =
+    ap (λ n. nat_eq n 1) (sym leads.state ∙ parity_counts S false s) ∙ is_one (flip false (is_odd (count_in S s))) ∙ flip_false (is_odd (count_in S s)) in
+    ap (λ a. a && nat_eq pair.1 1) is ∙ ap (λ b. has_acknowledgements network.shape network.roles l && b) odd
+
+-- ---- acknowledgements
+
+none_second : (a b : Bool) → b ≡ false → (a || b) ≡ a
+none_second true b h = refl
+none_second false b h = h
+
+none_first : (a b : Bool) → a ≡ false → (a || b) ≡ b
+none_first true b h = absurd (false≢true (sym h))
+none_first false b h = refl
+
+module _ (network : Network) (i l : ℕ) where
+  pub awaited_are : (M : List ℕ) → Asks network i l → ((e : ℕ) → has M e ≡ (has (link_at network.shape l).shared e && has (role_at network.roles i).cack e)) → AreAcknowledgements network i l M
+  awaited_are M a are e = are e ∙ same (has (link_at network.shape l).shared e) (has (role_at network.roles i).cack e) (is_acknowledgement network.roles i e) (λ on. sym (none_second (has (role_at network.roles i).cack e) (has (role_at network.roles i).sack e) (a.client.no_service e on).1))
+    where
+      same : (on x y : Bool) → (on ≡ true → x ≡ y) → (on && x) ≡ (on && y)
+      same true x y h = h refl
+      same false x y h = refl
+
+  pub owed_are : (M : List ℕ) → Grants network i l → ((e : ℕ) → has M e ≡ (has (link_at network.shape l).shared e && has (role_at network.roles i).sack e)) → AreAcknowledgements network i l M
+  owed_are M g are e = are e ∙ same (has (link_at network.shape l).shared e) (has (role_at network.roles i).sack e) (is_acknowledgement network.roles i e) (λ on. sym (none_first (has (role_at network.roles i).cack e) (has (role_at network.roles i).sack e) (g.client.no_asking e on).1))
+    where
+      same : (on x y : Bool) → (on ≡ true → x ≡ y) → (on && x) ≡ (on && y)
+      same true x y h = h refl
+      same false x y h = refl
+
+  -- an acknowledgement for the client, whichever end it is, is one of either end
+  abbrev for_ends : ℕ → Bool
+  for_ends e = has (role_at network.roles (link_at network.shape l).left).cack e || has (role_at network.roles (link_at network.shape l).right).cack e
+
+  for_both : (j k e : ℕ) → Joins network.shape j k l → for_ends e ≡ (has (role_at network.roles j).cack e || has (role_at network.roles k).cack e)
+  for_both j k e joins = elim joins.ends [
+    | inl x ↦ ap (λ p. has (role_at network.roles p).cack e || has (role_at network.roles (link_at network.shape l).right).cack e) x.0 ∙ ap (λ p. has (role_at network.roles j).cack e || has (role_at network.roles p).cack e) x.1
+    | inr x ↦ ap (λ p. has (role_at network.roles p).cack e || has (role_at network.roles (link_at network.shape l).right).cack e) x.0 ∙ ap (λ p. has (role_at network.roles k).cack e || has (role_at network.roles p).cack e) x.1 ∙ swapped (has (role_at network.roles k).cack e) (has (role_at network.roles j).cack e)
+  ]
+    where
+      swapped : (a b : Bool) → (a || b) ≡ (b || a)
+      swapped true true = refl
+      swapped true false = refl
+      swapped false true = refl
+      swapped false false = refl
+
+  ends_ask : (e : ℕ) → Asks network i l → IsTrue (has (link_at network.shape l).shared e) → for_ends e ≡ is_acknowledgement network.roles i e
+  ends_ask e a on = for_both i a.server e a.joins ∙ none_second (has (role_at network.roles i).cack e) (has (role_at network.roles a.server).cack e) (a.client.no_asking e on).1 ∙ sym (none_second (has (role_at network.roles i).cack e) (has (role_at network.roles i).sack e) (a.client.no_service e on).1)
+
+  ends_grant : (e : ℕ) → Grants network i l → IsTrue (has (link_at network.shape l).shared e) → for_ends e ≡ is_acknowledgement network.roles i e
+  ends_grant e g on = for_both g.asker i e g.joins ∙ none_second (has (role_at network.roles g.asker).cack e) (has (role_at network.roles i).cack e) (g.client.no_asking e on).1 ∙ g.client.acknowledgements e on ∙ sym (none_first (has (role_at network.roles i).cack e) (has (role_at network.roles i).sack e) (g.client.no_asking e on).1)
+
+  -- the part is the one or the other
+  pub record HasSide (asks : Bool) : Type 0 where
+    pub client : asks ≡ true → Asks network i l
+    pub server : asks ≡ false → Grants network i l
+
+  ends_are : (asks : Bool) (e : ℕ) → HasSide asks → IsTrue (has (link_at network.shape l).shared e) → for_ends e ≡ is_acknowledgement network.roles i e
+  ends_are true e h on = ends_ask e (h.client refl) on
+  ends_are false e h on = ends_grant e (h.server refl) on
+
+  -- the link has acknowledgements where its set of them is not empty
+  some_member : (test : ℕ → Bool) (xs : List ℕ) → list_any test xs ≡ true → (e : ℕ) × IsTrue (has xs e) × (test e ≡ true)
+  some_member test [] h = absurd (false≢true h)
+  some_member test (x ∷ xs) h = elim (or_cases (test x) (list_any test xs) h) [
+    | inl here ↦ (x, or_left (nat_eq x x) (has xs x) (eq-eqb x x refl), here)
+    | inr later ↦ let r = some_member test xs later in (r.0, or_right (nat_eq x r.0) (has xs r.0) r.1, r.2)
+  ]
+
+  member_some : (test : ℕ → Bool) (xs : List ℕ) (e : ℕ) → has xs e ≡ true → test e ≡ true → list_any test xs ≡ true
+  member_some test [] e h k = absurd (false≢true h)
+  member_some test (x ∷ xs) e h k = elim (or_cases (nat_eq x e) (has xs e) h) [
+    | inl same ↦ or_left (test x) (list_any test xs) (subst (λ y. test y ≡ true) (sym (eqb-true x e same)) k)
+    | inr later ↦ or_right (test x) (list_any test xs) (member_some test xs e later k)
+  ]
+
+  some_first : (xs : List ℕ) → (xs ≡ [] → ⊥) → (e : ℕ) × IsTrue (has xs e)
+  some_first [] h = absurd (h refl)
+  some_first (x ∷ xs) h = (x, or_left (nat_eq x x) (has xs x) (eq-eqb x x refl))
+
+  pub acknowledged_is : (asks : Bool) (M : List ℕ) (empty : Bool) → HasSide asks → AreAcknowledgements network i l M → (empty ≡ true → M ≡ []) × (M ≡ [] → empty ≡ true) → not empty ≡ has_acknowledgements network.shape network.roles l
+  acknowledged_is asks M true side are is = elim (cases_Bool (has_acknowledgements network.shape network.roles l)) [
+    | inr none ↦ sym none
+    | inl some ↦
+        let x = some_member for_ends (link_at network.shape l).shared some in
+        let member : has M x.0 ≡ true = are x.0 ∙ and_from (has (link_at network.shape l).shared x.0) (is_acknowledgement network.roles i x.0) x.1 (sym (ends_are asks x.0 side x.1) ∙ x.2) in
+        absurd (false≢true (ap (λ (zs : List ℕ). has zs x.0) (sym (is.0 refl)) ∙ member))
+  ]
+  acknowledged_is asks M false side are is =
+      let x = some_first M (λ none. false≢true (is.1 none)) in
+      let p = and_parts (has (link_at network.shape l).shared x.0) (is_acknowledgement network.roles i x.0) (sym (are x.0) ∙ x.1) in
+      sym (member_some for_ends (link_at network.shape l).shared x.0 p.0 (ends_are asks x.0 side p.0 ∙ p.1))

@@ -1,0 +1,5 @@
+pub mod Conditions
+pub mod Network
+pub mod Nodes
+pub mod Sides
+pub mod Told

@@ -1,0 +1,116 @@
+//! Whether a component keeps S3, S4 or S5 where it stands.
+
+ghost use Rattle.std.specs.Prelude.{◌≡◌, ◌<◌, ℕ, None, true, false, IfSome, length};
+ghost use Rattle.csp_tables.specs.Part.{part_at};
+ghost use Rattle.observed_runs.specs.Observed.{pair_at};
+ghost use Rattle.client_server_conditions.specs.Conditions.{AreAcknowledgements, IsOnSide, KeepsAt, is_asked_of, is_open_at, condition_number};
+
+use crate::network::{Network, link_of, node_of};
+use crate::nodes::{some_out_of_turn, some_refuses, some_takes};
+use csp_base::EventSet;
+
+/// Three conditions on the runs of a component: S3, S4 and S5.
+#[derive(Clone, Copy)]
+pub enum Condition {
+    /// Requests and acknowledgements take turns on each link.
+    Turns,
+    /// Requests are taken all together, and none while a link to a client is open.
+    Service,
+    /// While a link to a server is open, each of its acknowledgements is taken.
+    Answers,
+}
+
+impl Condition {
+    // Which of the conditions it is.
+    pub(crate) fn number(self) -> u32
+        ensures { result ≡ condition_number self }
+    {
+        match self {
+            Condition::Turns => 3,
+            Condition::Service => 4,
+            Condition::Answers => 5,
+        }
+    }
+
+    // Whether the condition asks anything of an end of a link.
+    pub(crate) fn is_asked_of(self, asks: bool, acknowledged: bool) -> bool
+        ensures { result ≡ is_asked_of self asks acknowledged }
+    {
+        match self {
+            Condition::Turns => true,
+            Condition::Service => !asks && acknowledged,
+            Condition::Answers => asks && acknowledged,
+        }
+    }
+}
+
+// The place of a pair at which the part breaks the condition on the link.
+pub(crate) fn broken_pair(
+    network: &Network<'_>,
+    condition: Condition,
+    part: u32,
+    link: u32,
+    acknowledgements: &EventSet,
+    acknowledged: bool,
+    pairs: &[(u32, u32)],
+) -> Option<usize>
+    requires part { part < length network.now.shape.parts }
+    requires link { link < length network.now.shape.links }
+    requires side { IsOnSide network.now condition part link }
+    requires acknowledgements { AreAcknowledgements network.now part link acknowledgements.now }
+    requires nodes { (k : ℕ) → k < length pairs.now → (pair_at pairs.now k).0 < length (part_at network.now.shape.parts part).table }
+    ensures none { result ≡ None → (k : ℕ) → k < length pairs.now → KeepsAt network.now condition part link (pair_at pairs.now k).0 (is_open_at acknowledged (pair_at pairs.now k).1) }
+    ensures within { IfSome result (λ k. k < length pairs.now) }
+    ensures broken { IfSome result (λ k. KeepsAt network.now condition part link (pair_at pairs.now k).0 (is_open_at acknowledged (pair_at pairs.now k).1) → ⊥) }
+{
+    for (place, (node, state)) in pairs.iter().enumerate() {
+        let opened = acknowledged && *state == 1;
+        if is_broken(
+            network,
+            condition,
+            part,
+            link,
+            acknowledgements,
+            *node,
+            opened,
+        ) {
+            return Some(place);
+        }
+    }
+    None
+}
+
+// Whether the part breaks the condition on the link at the node.
+fn is_broken(
+    network: &Network<'_>,
+    condition: Condition,
+    part: u32,
+    link: u32,
+    acknowledgements: &EventSet,
+    node: u32,
+    opened: bool,
+) -> bool
+    requires part { part < length network.now.shape.parts }
+    requires link { link < length network.now.shape.links }
+    requires side { IsOnSide network.now condition part link }
+    requires acknowledgements { AreAcknowledgements network.now part link acknowledgements.now }
+    requires node { node < length (part_at network.now.shape.parts part).table }
+    ensures keeps { result ≡ false → KeepsAt network.now condition part link node opened }
+    ensures breaks { result ≡ true → KeepsAt network.now condition part link node opened → ⊥ }
+{
+    let shape = network.shape();
+    let roles = network.roles(part);
+    let at = node_of(shape, part, node);
+    match condition {
+        Condition::Turns => some_out_of_turn(
+            at.next(),
+            link_of(shape, link).shared(),
+            roles,
+            opened,
+        ),
+        Condition::Service => opened && some_takes(at.accept(), shape.vocabulary(), roles.sreq()),
+        Condition::Answers => {
+            opened && some_refuses(at.accept(), shape.vocabulary(), acknowledgements)
+        }
+    }
+}

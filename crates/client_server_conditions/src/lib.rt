@@ -1,0 +1,16 @@
+//! What the rule of clients and servers asks of links and of components: S1 and S2, that the roles part the events and each link
+//! has a client, and S3, S4 and S5, on the runs of each component.
+#![tactic(auto)]
+
+mod clients;
+mod conditions;
+mod fault;
+mod network;
+mod nodes;
+mod parted;
+mod runs;
+
+pub use conditions::Condition;
+pub use fault::RoleFault;
+pub use network::{Network, link_of, part_of};
+pub use runs::check;

@@ -1,0 +1,78 @@
+//! Whether the four sets of each component part the events that it shares.
+
+ghost use Rattle.std.specs.Prelude.{◌≡◌, ◌<◌, ◌↔◌, ◌&&◌, ℕ, IfErr, IfOk, OnOk, IsTrue, length};
+ghost use Rattle.csp_base.specs.Members.{has};
+ghost use Rattle.csp_tables.specs.Part.{part_at};
+ghost use Rattle.csp_tables.specs.Roles.{role_at};
+ghost use Rattle.csp_tables.specs.Shape.{IsWellFormed};
+ghost use Rattle.design_rules.specs.ClientServer.{HasRoles};
+ghost use Rattle.client_server_conditions.specs.Sides.{PartOwn};
+ghost use Rattle.client_server_conditions.specs.Told.{Tells};
+
+use crate::fault::RoleFault;
+use csp_base::{EventSet, NoMemory, Trace};
+use csp_tables::{RoleSets, Shape};
+use std::alloc::Global;
+
+// Succeeds where each component's sets part what it shares, and else tells the first whose sets do not.
+pub(crate) fn check_parted(
+    alloc: Global,
+    shape: &Shape,
+    roles: &[RoleSets],
+) -> Result<(), RoleFault>
+    requires { length roles.now ≡ length shape.now.parts }
+    ensures parted { OnOk result ((i : ℕ) → i < length shape.now.parts → HasRoles shape.now roles.now i) }
+    ensures fault { IfErr result (λ fault. Tells shape.now roles.now fault) }
+{
+    for part in 0..shape.parts().len() {
+        if !part_has_roles(alloc, shape, roles, part as u32)? {
+            let trace = Trace::new(alloc);
+            return Err(RoleFault::BreaksRole {
+                condition: 1,
+                part: part as u32,
+                trace,
+            });
+        }
+    }
+    Ok(())
+}
+
+// Whether the sets of the part do.
+fn part_has_roles(
+    alloc: Global,
+    shape: &Shape,
+    roles: &[RoleSets],
+    part: u32,
+) -> Result<bool, NoMemory>
+    requires part { part < length shape.now.parts }
+    requires roles { length roles.now ≡ length shape.now.parts }
+    ensures { IfOk result (λ parted. IsTrue parted ↔ HasRoles shape.now roles.now part) }
+{
+    let own = shape.parts()[part as usize]
+        .alphabet()
+        .inter(alloc, shape.vocabulary())?;
+    let parted = part_own(alloc, &own, &roles[part as usize])?;
+    Ok(parted)
+}
+
+// Whether the four sets part the events.
+fn part_own(alloc: Global, own: &EventSet, roles: &RoleSets) -> Result<bool, NoMemory>
+    ensures { IfOk result (λ parted. IsTrue parted ↔ PartOwn own.now roles.now) }
+{
+    let client = roles.creq().union(alloc, roles.cack())?;
+    let server = roles.sreq().union(alloc, roles.sack())?;
+    let all = client.union(alloc, &server)?;
+    if roles.creq().meets(roles.cack()) {
+        return Ok(false);
+    }
+    if roles.sreq().meets(roles.sack()) {
+        return Ok(false);
+    }
+    if client.meets(&server) {
+        return Ok(false);
+    }
+    if !own.is_subset(&all) {
+        return Ok(false);
+    }
+    Ok(all.is_subset(own))
+}

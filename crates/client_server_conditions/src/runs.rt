@@ -1,0 +1,215 @@
+//! Runs after which a component breaks S3, S4 or S5.
+
+ghost use Rattle.std.specs.Prelude.{◌≡◌, ◌<◌, ℕ, List, None, true, false, IsTrue, IfErr, IfOk, IfSome, OnOk, length};
+ghost use Rattle.csp_tables.specs.Part.{part_at};
+ghost use Rattle.csp_tables.specs.Shape.{IsWellFormed, is_end, link_at};
+ghost use Rattle.design_rules.specs.ClientServer.{has_acknowledgements};
+ghost use Rattle.observed_runs.specs.Exploration.{AreFound, IsExploration};
+ghost use Rattle.csp_tables.specs.Table.{node_at};
+ghost use Rattle.observed_runs.specs.Observed.{pair_at};
+ghost use Rattle.observed_runs.specs.Observers.{parity_step};
+ghost use Rattle.client_server_conditions.specs.Conditions.{AreAcknowledgements, IsDecided, IsOnSide, Keeps, KeepsLinks, KeepsOn, KeepsWhole, TellsBroken};
+ghost use Rattle.client_server_conditions.specs.Network.{Asks, Grants};
+ghost use Rattle.client_server_conditions.specs.Nodes.{EachShared, HasAllOrNone};
+
+use crate::conditions::{Condition, broken_pair};
+use crate::fault::RoleFault;
+use crate::network::{Network, link_of, node_of, part_of};
+use crate::nodes::some_splits;
+use csp_base::{EventSet, NoMemory, Trace};
+use csp_tables::Shape;
+use observed_runs::{Explored, Parity, Unwatched, explore};
+use std::alloc::Global;
+
+/// Succeeds where each component keeps the condition after each of its runs, and else tells the first that does not.
+pub fn check(alloc: Global, network: &Network<'_>, condition: Condition) -> Result<(), RoleFault>
+    ensures keeps { OnOk result ((i : ℕ) (s : List ℕ) → Keeps network.now condition i s) }
+    ensures fault { IfErr result (λ fault. TellsBroken network.now condition fault) }
+{
+    for part in 0..network.shape().parts().len() {
+        let run = part_run(alloc, network, condition, part as u32)?;
+        if let Some(trace) = run {
+            return Err(RoleFault::BreaksRole {
+                condition: condition.number(),
+                part: part as u32,
+                trace,
+            });
+        }
+    }
+    Ok(())
+}
+
+// A run after which the part breaks the condition, if there is one.
+fn part_run(
+    alloc: Global,
+    network: &Network<'_>,
+    condition: Condition,
+    part: u32,
+) -> Result<Option<Trace>, NoMemory>
+    requires { part < length network.now.shape.parts }
+    ensures { IfOk result (λ run. IsDecided network.now.shape part (Keeps network.now condition part) run) }
+{
+    let run = whole_run(alloc, network, condition, part)?;
+    match run {
+        Some(trace) => Ok(Some(trace)),
+        None => links_run(alloc, network, condition, part),
+    }
+}
+
+// A run after which the part breaks what the condition asks whatever the link.
+fn whole_run(
+    alloc: Global,
+    network: &Network<'_>,
+    condition: Condition,
+    part: u32,
+) -> Result<Option<Trace>, NoMemory>
+    requires { part < length network.now.shape.parts }
+    ensures { IfOk result (λ run. IsDecided network.now.shape part (KeepsWhole network.now condition part) run) }
+{
+    match condition {
+        Condition::Service => split_run(alloc, network, part),
+        Condition::Turns | Condition::Answers => Ok(None),
+    }
+}
+
+// A run after which an acceptance has some requests to the part and not all.
+fn split_run(alloc: Global, network: &Network<'_>, part: u32) -> Result<Option<Trace>, NoMemory>
+    requires { part < length network.now.shape.parts }
+    ensures { IfOk result (λ run. IsDecided network.now.shape part (KeepsWhole network.now Condition.Service part) run) }
+{
+    let shape = network.shape();
+    let requests = network.roles(part).sreq();
+    let explored = explore(alloc, part_of(shape, part), &Unwatched)?;
+    match split_pair(shape, part, requests, explored.pairs()) {
+        Some(place) => {
+            let run = explored.run_to(alloc, place)?;
+            Ok(Some(run))
+        }
+        None => Ok(None),
+    }
+}
+
+// A run after which the part breaks what the condition asks on one of its links.
+fn links_run(
+    alloc: Global,
+    network: &Network<'_>,
+    condition: Condition,
+    part: u32,
+) -> Result<Option<Trace>, NoMemory>
+    requires { part < length network.now.shape.parts }
+    ensures { IfOk result (λ run. IsDecided network.now.shape part (KeepsLinks network.now condition part) run) }
+{
+    for link in network.links(part) {
+        let run = link_run(alloc, network, condition, part, *link)?;
+        if let Some(trace) = run {
+            return Ok(Some(trace));
+        }
+    }
+    Ok(None)
+}
+
+// A run after which the part breaks what the condition asks on the link.
+fn link_run(
+    alloc: Global,
+    network: &Network<'_>,
+    condition: Condition,
+    part: u32,
+    link: u32,
+) -> Result<Option<Trace>, NoMemory>
+    requires part { part < length network.now.shape.parts }
+    requires link { link < length network.now.shape.links }
+    requires end { IsTrue (is_end network.now.shape part link) }
+    ensures { IfOk result (λ run. IsDecided network.now.shape part (KeepsOn network.now condition part link) run) }
+{
+    let _linked = network.shape();
+    let asks = network.asks(part, link);
+    let events = acknowledgements(alloc, network, part, link, asks)?;
+    let acknowledged = !events.is_empty();
+    if !condition.is_asked_of(asks, acknowledged) {
+        return Ok(None);
+    }
+    let run = broken_run(alloc, network, condition, part, link, &events, acknowledged)?;
+    Ok(run)
+}
+
+// The acknowledgements among the link's events, as the part has them.
+fn acknowledgements(
+    alloc: Global,
+    network: &Network<'_>,
+    part: u32,
+    link: u32,
+    asks: bool,
+) -> Result<EventSet, NoMemory>
+    requires part { part < length network.now.shape.parts }
+    requires link { link < length network.now.shape.links }
+    requires client { asks ≡ true → Asks network.now part link }
+    requires server { asks ≡ false → Grants network.now part link }
+    ensures { IfOk result (λ events. AreAcknowledgements network.now part link events) }
+{
+    let shared = link_of(network.shape(), link).shared();
+    let roles = network.roles(part);
+    if asks {
+        let awaited = shared.inter(alloc, roles.cack())?;
+        return Ok(awaited);
+    }
+    let owed = shared.inter(alloc, roles.sack())?;
+    Ok(owed)
+}
+
+// A run after which the part breaks the condition on the link, by exploring its table with the parity of the link's events.
+fn broken_run(
+    alloc: Global,
+    network: &Network<'_>,
+    condition: Condition,
+    part: u32,
+    link: u32,
+    events: &EventSet,
+    acknowledged: bool,
+) -> Result<Option<Trace>, NoMemory>
+    requires part { part < length network.now.shape.parts }
+    requires link { link < length network.now.shape.links }
+    requires side { IsOnSide network.now condition part link }
+    requires events { AreAcknowledgements network.now part link events.now }
+    requires acknowledged { acknowledged ≡ has_acknowledgements network.now.shape network.now.roles link }
+    ensures { IfOk result (λ run. IsDecided network.now.shape part (KeepsOn network.now condition part link) run) }
+{
+    let explored = explored_link(alloc, network.shape(), part, link)?;
+    let pairs = explored.pairs();
+    match broken_pair(network, condition, part, link, events, acknowledged, pairs) {
+        Some(place) => {
+            let run = explored.run_to(alloc, place)?;
+            Ok(Some(run))
+        }
+        None => Ok(None),
+    }
+}
+
+// The exploration of a part with the parity of the link's events.
+fn explored_link(alloc: Global, shape: &Shape, part: u32, link: u32) -> Result<Explored, NoMemory>
+    requires form { IsWellFormed shape.now }
+    requires part { part < length shape.now.parts }
+    requires link { link < length shape.now.links }
+    ensures pairs { IfOk result (λ explored. IsExploration (part_at shape.now.parts part).table (parity_step (link_at shape.now link).shared) 0 explored.pairs) }
+    ensures found { IfOk result (λ explored. AreFound (part_at shape.now.parts part).table (parity_step (link_at shape.now link).shared) 0 explored) }
+{
+    let parity = Parity::new(link_of(shape, link).shared());
+    let explored = explore(alloc, part_of(shape, part), &parity)?;
+    Ok(explored)
+}
+
+// The place of a pair at which an acceptance has some of the requests and not all.
+fn split_pair(shape: &Shape, part: u32, requests: &EventSet, pairs: &[(u32, u32)]) -> Option<usize>
+    requires part { part < length shape.now.parts }
+    requires nodes { (k : ℕ) → k < length pairs.now → (pair_at pairs.now k).0 < length (part_at shape.now.parts part).table }
+    ensures none { result ≡ None → (k : ℕ) → k < length pairs.now → EachShared (HasAllOrNone requests.now) shape.now.vocabulary (node_at (part_at shape.now.parts part).table (pair_at pairs.now k).0).accept }
+    ensures within { IfSome result (λ k. k < length pairs.now) }
+    ensures broken { IfSome result (λ k. EachShared (HasAllOrNone requests.now) shape.now.vocabulary (node_at (part_at shape.now.parts part).table (pair_at pairs.now k).0).accept → ⊥) }
+{
+    for (place, (node, _)) in pairs.iter().enumerate() {
+        let accept = node_of(shape, part, *node).accept();
+        if some_splits(accept, shape.vocabulary(), requests) {
+            return Some(place);
+        }
+    }
+    None
+}

@@ -1,6 +1,0 @@
-use Rattle.std.proofs.Common.{ℕ, ◌<◌}
-use Rattle.design_rules.specs.ClientServer.{HasRoles}
-use Rattle.client_server_rule.proofs.parted.check_parted.Given as goal
-
-abbrev pub invariant-loop-part : goal.invariant-loop-part
-invariant-loop-part l = (i : ℕ) → i < l.part → HasRoles l.shape l.roles i

@@ -1,7 +1,0 @@
-use Rattle.std.proofs.Common.{ℕ, ◌<◌, List, get_or}
-use Rattle.client_server_rule.specs.Conditions.{KeepsOn}
-use Rattle.client_server_rule.specs.Links.{ends_of}
-use Rattle.client_server_rule.proofs.runs.links_run.Given as goal
-
-abbrev pub invariant-loop-link : goal.invariant-loop-link
-invariant-loop-link l = (k : ℕ) (s : List ℕ) → k < l.link-index → KeepsOn l.network l.condition l.part (get_or (ends_of l.network.shape l.part) k 0) s

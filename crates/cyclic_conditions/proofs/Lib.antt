@@ -1,0 +1,3 @@
+pub mod Laps
+pub mod Noting
+pub mod Shortness

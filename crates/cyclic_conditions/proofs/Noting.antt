@@ -1,0 +1,121 @@
+-- Facts that are kept by the places of a lap.
+use Rattle.std.proofs.Common.{◌≡◌, ℕ, ◌<◌, inl, inr, ◌⊎◌, List, [], length, get_or, set, Option, Some, None, Result, Err, IsTrue, sym, ap, subst, ◌∙◌}
+use Rattle.std.proofs.lemmas.Bool.{cases_eq, cases_lt}
+use Rattle.std.proofs.lemmas.List.{get_or-set_same, get_or-set_other, get_or_past, get_or_read}
+use Rattle.csp_tables.specs.Table.{Node, node_at, is_possible}
+use Rattle.csp_tables.specs.Part.{Part, part_at}
+use Rattle.csp_tables.specs.Shape.{Shape, IsWellFormed}
+use Rattle.net_sound.proofs.Within.{part_form}
+use Rattle.observed_runs.specs.Observed.{pair_at}
+use Rattle.observed_runs.proofs.Leading.{listed_step, step_listed, node_form}
+use Rattle.shape_links.specs.Links.{IsOwner}
+use Rattle.cyclic_conditions.specs.Facts.{IsFact, first_at, HasFirst, AreFirsts, IsNoted, Disagree, AreClashing, KeepsFirsts}
+use Rattle.cyclic_conditions.specs.declared.facts.Fact.{Fact}
+use Rattle.cyclic_conditions.specs.declared.facts.FactFault.{FactFault}
+use Rattle.cyclic_conditions.specs.declared.facts.FactFault.TheVariants.{Clash}
+
+same_fact : (f g : Fact) → Some f ≡ Some g → f ≡ g
+same_fact f g h = cc
+
+no_fact : (f : Fact) → None ≡ Some f → ⊥
+no_fact f h = cc
+
+-- a kept fact stands within the list
+pub first_within : (firsts : List (Option Fact)) (r l : ℕ) → HasFirst firsts r l → r < length firsts
+first_within firsts r l x = elim (cases_lt r (length firsts)) [ inl h ↦ h | inr h ↦ absurd (no_fact x.fact (sym (get_or_past firsts r None h) ∙ x.kept)) ]
+
+-- ---- one more
+
+module _ (firsts : List (Option Fact)) (place : ℕ) (fact : Fact) (within : place < length firsts) where
+  at_place : first_at (set firsts place (Some fact)) place ≡ Some fact
+  at_place = get_or-set_same firsts place (Some fact) None within
+
+  elsewhere : (q : ℕ) → (q ≡ place → ⊥) → first_at (set firsts place (Some fact)) q ≡ first_at firsts q
+  elsewhere q ne = get_or-set_other firsts place q (Some fact) None ne
+
+  pub set_sound : (q : ℕ) (f : Fact) → first_at (set firsts place (Some fact)) q ≡ Some f → (first_at firsts q ≡ Some f) ⊎ ((q ≡ place) × (f ≡ fact))
+  set_sound q f h = elim (cases_eq q place) [
+    | inl same ↦ inr (same, sym (same_fact fact f (sym at_place ∙ subst (λ p. first_at (set firsts place (Some fact)) p ≡ Some f) same h)))
+    | inr other ↦ inl (sym (elsewhere q other) ∙ h)
+  ]
+
+  old_first : (q l : ℕ) → HasFirst (set firsts place (Some fact)) q l → (HasFirst firsts q l) ⊎ ((q ≡ place) × (fact.link ≡ l))
+  old_first q l x = elim (set_sound q x.fact x.kept) [
+    | inl old ↦ inl (record { fact = x.fact; kept = old; link = x.link })
+    | inr new ↦ inr (new.0, ap (λ (f : Fact). f.link) (sym new.1) ∙ x.link)
+  ]
+
+  pub set_apart : ((r : ℕ) → HasFirst firsts r fact.link → ⊥) → ((q r l : ℕ) → HasFirst firsts q l → HasFirst firsts r l → q ≡ r) → (q r l : ℕ) → HasFirst (set firsts place (Some fact)) q l → HasFirst (set firsts place (Some fact)) r l → q ≡ r
+  set_apart none apart q r l x y = elim (old_first q l x) [
+    | inl old ↦ elim (old_first r l y) [
+      | inl older ↦ apart q r l old older
+      | inr new ↦ absurd (none q (subst (HasFirst firsts q) (sym new.1) old))
+    ]
+    | inr new ↦ elim (old_first r l y) [
+      | inl old ↦ absurd (none r (subst (HasFirst firsts r) (sym new.1) old))
+      | inr newer ↦ new.0 ∙ sym newer.0
+    ]
+  ]
+
+-- ---- what is noted of a part
+
+-- what is known of the kept facts once one more was noted
+pub firsts_more : (shape : Shape) (i : ℕ) (pairs : List (ℕ × ℕ)) (old new : List (Option Fact)) (place : ℕ) (fact : Fact) → AreFirsts shape i pairs old → IsFact shape i pairs place fact → ((q : ℕ) (f : Fact) → first_at new q ≡ Some f → (first_at old q ≡ Some f) ⊎ ((q ≡ place) × (f ≡ fact))) → (((q r l : ℕ) → HasFirst old q l → HasFirst old r l → q ≡ r) → (q r l : ℕ) → HasFirst new q l → HasFirst new r l → q ≡ r) → AreFirsts shape i pairs new
+firsts_more shape i pairs old new place fact a is sound apart = record {
+  sound = λ q f h. elim (sound q f h) [
+    | inl k ↦ a.sound q f k
+    | inr k ↦ subst (λ p. IsFact shape i pairs p f) (sym k.0) (subst (IsFact shape i pairs place) (sym k.1) is)
+  ];
+  apart = apart a.apart;
+}
+
+pub clashing : (shape : Shape) (i : ℕ) (pairs : List (ℕ × ℕ)) (firsts : List (Option Fact)) (place : ℕ) (fact f g : Fact) → AreFirsts shape i pairs firsts → IsFact shape i pairs place fact → (f ≡ fact) × (r : ℕ) × (first_at firsts r ≡ Some g) × Disagree place fact r g → AreClashing shape i pairs f g
+clashing shape i pairs firsts place fact f g a is k = record {
+  first_place = place;
+  second_place = k.1;
+  first = subst (IsFact shape i pairs place) (sym k.0) is;
+  second = a.sound k.1 g k.2;
+  apart = subst (λ x. Disagree place x k.1 g) (sym k.0) k.3;
+}
+
+pub noted_still : (shape : Shape) (i : ℕ) (pairs : List (ℕ × ℕ)) (old new : List (Option Fact)) (p : ℕ) → KeepsFirsts old new → IsNoted shape i pairs old p → IsNoted shape i pairs new p
+noted_still shape i pairs old new p keeps noted e l possible o = keeps (pair_at pairs p).1 l (noted e l possible o)
+
+-- where each step of the node is noted, all that is possible is
+pub all_noted : (shape : Shape) (i : ℕ) (pairs : List (ℕ × ℕ)) (firsts : List (Option Fact)) (p : ℕ) (next : List (ℕ × ℕ)) → next ≡ (node_at (part_at shape.parts i).table (pair_at pairs p).0).next → ((k l : ℕ) → k < length next → IsOwner shape l (get_or next k (0, 0)).0 → HasFirst firsts (pair_at pairs p).1 l) → IsNoted shape i pairs firsts p
+all_noted shape i pairs firsts p next is all e l possible o =
+    let s = listed_step (node_at (part_at shape.parts i).table (pair_at pairs p).0).next e possible in
+    all s.place l (subst (λ zs. s.place < length zs) (sym is) s.within)
+    (subst (IsOwner shape l) (sym s.event ∙ ap (λ (zs : List (ℕ × ℕ)). (get_or zs s.place (0, 0)).0) (sym is)) o)
+
+abbrev pub failed : FactFault → Result (Unit {0}) FactFault
+failed fault = Err fault
+
+pub same_fault : (x y : FactFault) → failed x ≡ failed y → x ≡ y
+same_fault x y h = cc
+
+pub same_fault_at : {T : Type 0} (x y : FactFault) (r : Result T FactFault) → r ≡ Err x → r ≡ Err y → x ≡ y
+same_fault_at x y r h k = cc
+
+pub err_on : {T : Type 0} (r : Result T FactFault) (x y : FactFault) → r ≡ Err x → x ≡ y → r ≡ Err y
+err_on r x y h k = cc
+
+-- two faults that are one tell the same facts
+pub same_clash : (f g x y : Fact) → failed (Clash f g) ≡ failed (Clash x y) → (x ≡ f) × (y ≡ g)
+same_clash f g x y h = (cc, cc)
+
+-- ---- what is read of a part
+
+pub part_read : (shape : Shape) (parts : List Part) (i : ℕ) (p : Part) → parts ≡ shape.parts → i < length shape.parts → p ≡ get_or parts i p → p ≡ part_at shape.parts i
+part_read shape parts i p is h at = get_or_read shape.parts i p h (at ∙ ap (λ (ps : List Part). get_or ps i p) is) (record { alphabet = []; table = [] })
+
+pub node_read : (table nodes : List Node) (n : ℕ) (node : Node) → nodes ≡ table → n < length table → node ≡ get_or nodes n node → node ≡ node_at table n
+node_read table nodes n node is h at = get_or_read table n node h (at ∙ ap (λ (ns : List Node). get_or ns n node) is) (record { next = []; accept = [] })
+
+pub step_possible : (shape : Shape) (i n : ℕ) (next : List (ℕ × ℕ)) (k : ℕ) (x : ℕ × ℕ) → IsWellFormed shape → i < length shape.parts → next ≡ (node_at (part_at shape.parts i).table n).next → k < length next → x ≡ get_or next k x → (x ≡ get_or next k (0, 0)) × IsTrue (is_possible (node_at (part_at shape.parts i).table n).next x.0)
+step_possible shape i n next k x w h is below at =
+    let p = part_at shape.parts i in
+    let form = node_form (part_at shape.parts i).alphabet (length (part_at shape.parts i).table) (part_at shape.parts i).table n (part_form shape.parts i h w.form).nodes in
+    let s = step_listed (part_at shape.parts i).alphabet (length (part_at shape.parts i).table) (node_at (part_at shape.parts i).table n).next k form (subst (λ (zs : List (ℕ × ℕ)). k < length zs) is below) in
+    let same : x ≡ get_or next k (0, 0) = get_or_read next k x below at (0, 0) in
+    (same, subst (λ (y : ℕ × ℕ). IsTrue (is_possible (node_at (part_at shape.parts i).table n).next y.0)) (sym (same ∙ ap (λ (zs : List (ℕ × ℕ)). get_or zs k (0, 0)) is)) s.possible)

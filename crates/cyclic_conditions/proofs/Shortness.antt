@@ -1,0 +1,229 @@
+-- Acceptances that fall short of a link.
+use Rattle.std.proofs.Common.{◌≡◌, ℕ, ◌<◌, inl, inr, List, [], ◌∷◌, length, get_or, set, Bool, true, false, ◌&&◌, Option, Some, None, IsTrue, nat_eq, nat_le, refl, sym, ap, subst, ◌∙◌, arith, eq-eqb}
+use Rattle.std.specs.List.{find}
+use Rattle.std.proofs.lemmas.Bool.{cases_Bool, cases_eq, cond-true, cond-false, and_parts, and_from, or_cases, eqb-true, both_ways, false≢true}
+use Rattle.std.proofs.lemmas.List.{get_or-set_same, get_or-set_other, get_or_read}
+use Rattle.std.proofs.lemmas.Bool.Decides.{nat_tests}
+use Rattle.csp_base.specs.Members.{has}
+use Rattle.csp_base.specs.Events.{is_subset_of}
+use Rattle.csp_tables.specs.Table.{node_at, is_possible, IsRun, end_of}
+use Rattle.csp_tables.specs.Part.{Part, part_at, alphabets_of, TripleDisjoint}
+use Rattle.csp_tables.specs.Trace.{IsWithin}
+use Rattle.csp_tables.specs.Shape.{Shape, is_end, link_at, acceptance_at, IsWellFormed}
+use Rattle.net_sound.proofs.Within.{part_form}
+use Rattle.design_rules.specs.Cyclic.{AllKeepPlaces, FallsShort, IsWholeEnd, ReachesLink}
+use Rattle.design_rules.proofs.Runs.{possible_within, end_within}
+use Rattle.design_rules.proofs.Shapes.{sharer, some_link}
+use Rattle.design_rules.proofs.Places.{one_link_at}
+use Rattle.shape_links.specs.Links.{IsOwner}
+use Rattle.cyclic_conditions.specs.Shorts.{IsShort, IsOnOne, IsShortAt, short_at, IsSomeShort, IsMarked, KeepsShorts}
+use Rattle.shape_links.proofs.Links.{owner_end}
+
+-- ---- sets
+
+pub subset_within : (M N : List ℕ) → is_subset_of M N ≡ true → IsWithin M N
+subset_within [] N h e x = absurd (false≢true x)
+subset_within (y ∷ ys) N h e x =
+    let p = and_parts (has N y) (is_subset_of ys N) h in
+    elim (or_cases (nat_eq y e) (has ys e) x) [
+      | inl same ↦ subst (λ z. has N z ≡ true) (eqb-true y e same) p.0
+      | inr later ↦ subset_within ys N p.1 e later
+    ]
+
+pub within_subset : (M N : List ℕ) → IsWithin M N → is_subset_of M N ≡ true
+within_subset [] N w = refl
+within_subset (y ∷ ys) N w = and_from (has N y) (is_subset_of ys N) (w y (first y ys)) (within_subset ys N (λ e x. w e (later y ys e x)))
+  where
+    first : (z : ℕ) (zs : List ℕ) → has (z ∷ zs) z ≡ true
+    first z zs = rw (eq-eqb z z refl) refl
+
+    later : (z : ℕ) (zs : List ℕ) (e : ℕ) → has zs e ≡ true → has (z ∷ zs) e ≡ true
+    later z zs e x = elim (cases_Bool (nat_eq z e)) [ inl k ↦ rw k refl | inr k ↦ rw k x ]
+
+-- a member that is missing
+pub missing : (M N : List ℕ) → is_subset_of M N ≡ false → (e : ℕ) × (has M e ≡ true) × (has N e ≡ false)
+missing [] N h = absurd (false≢true (sym h))
+missing (y ∷ ys) N h = elim (cases_Bool (has N y)) [
+  | inl there ↦ let r = missing ys N (rest (has N y) (is_subset_of ys N) there h) in (r.0, later y ys r.0 r.1, r.2)
+  | inr lacks ↦ (y, first y ys, lacks)
+]
+  where
+    rest : (a b : Bool) → a ≡ true → (a && b) ≡ false → b ≡ false
+    rest true b t f = f
+    rest false b t f = absurd (false≢true t)
+
+    first : (z : ℕ) (zs : List ℕ) → has (z ∷ zs) z ≡ true
+    first z zs = rw (eq-eqb z z refl) refl
+
+    later : (z : ℕ) (zs : List ℕ) (e : ℕ) → has zs e ≡ true → has (z ∷ zs) e ≡ true
+    later z zs e x = elim (cases_Bool (nat_eq z e)) [ inl k ↦ rw k refl | inr k ↦ rw k x ]
+
+-- the first member from 0 on is a member, and there is one where there is any
+find_has : (test : ℕ → Bool) (M : List ℕ) (e : ℕ) → find test M ≡ Some e → has M e ≡ true
+find_has test [] e h = absurd (cc)
+find_has test (x ∷ xs) e h = elim (cases_Bool (test x)) [
+  | inl passes ↦ let same : x ≡ e = some_is x e (sym (cond-true (test x) (Some x) (find test xs) passes) ∙ h) in rw (eq-eqb x e same) refl
+  | inr fails ↦ later x xs e (find_has test xs e (sym (cond-false (test x) (Some x) (find test xs) fails) ∙ h))
+]
+  where
+    some_is : (a b : ℕ) → Some a ≡ Some b → a ≡ b
+    some_is a b k = cc
+
+    later : (z : ℕ) (zs : List ℕ) (w : ℕ) → has zs w ≡ true → has (z ∷ zs) w ≡ true
+    later z zs w y = elim (cases_Bool (nat_eq z w)) [ inl k ↦ rw k refl | inr k ↦ rw k y ]
+
+zero_least : (x : ℕ) → nat_le 0 x ≡ true
+zero_least x = grind (arith, nat_tests)
+
+pub first_found : (M : List ℕ) (e : ℕ) → find (nat_le 0) M ≡ Some e → has M e ≡ true
+first_found M e h = find_has (nat_le 0) M e h
+
+pub none_found : (M : List ℕ) (e : ℕ) → find (nat_le 0) M ≡ None → has M e ≡ true → ⊥
+none_found [] e h x = false≢true x
+none_found (x ∷ xs) e h k = never x (sym (cond-true (nat_le 0 x) (Some x) (find (nat_le 0) xs) (zero_least x)) ∙ h)
+  where
+    never : (a : ℕ) → Some a ≡ None → ⊥
+    never a b = cc
+
+-- ---- short sets
+
+-- an event of the vocabulary has a link
+pub vocabulary_owner : (shape : Shape) (e : ℕ) → IsWellFormed shape → IsTrue (has shape.vocabulary e) → (l : ℕ) × IsOwner shape l e
+vocabulary_owner shape e w v =
+    let two = (w.vocabulary e).0 v in
+    let s = sharer shape.parts e (omega arith) in
+    let l = some_link shape s.place e w s.within s.owned v in
+    (l.0, record { within = l.1.within; event = l.1.event })
+
+-- all events of an acceptance lie on one link
+pub on_one : (shape : Shape) (i n k : ℕ) → IsWellFormed shape → TripleDisjoint (alphabets_of shape.parts) → AllKeepPlaces shape → i < length shape.parts → n < length (part_at shape.parts i).table → IsOnOne shape (acceptance_at (part_at shape.parts i) n k)
+on_one shape i n k w triple keep h below l m e f hl hm xe xf le mf =
+    let r = w.reached i n h below in
+    one_link_at shape i l m r.run r.run e f (keep i h) (reach l e hl xe le) (reach m f hm xf mf) refl
+  where
+    reach : (p x : ℕ) → p < length shape.links → IsTrue (has (acceptance_at (part_at shape.parts i) n k) x) → IsTrue (has (link_at shape p).shared x) → ReachesLink shape i p (w.reached i n h below).run x
+    reach p x hp member on =
+        let r = w.reached i n h below in
+        let possible = w.possible i n k x h member in
+        record {
+          possible = record { runs = record { part = h; follows = r.follows }; next = subst (λ j. IsTrue (is_possible (node_at (part_at shape.parts i).table j).next x)) (sym r.leads) possible };
+          on = owner_end shape i p x w triple h (possible_within (part_at shape.parts i) n x (part_form shape.parts i h w.form) possible) (record { within = hp; event = on });
+        }
+
+-- the part is an end of the link of which an acceptance falls short
+pub short_end : (shape : Shape) (i n k l : ℕ) → IsWellFormed shape → TripleDisjoint (alphabets_of shape.parts) → i < length shape.parts → IsShort shape l (acceptance_at (part_at shape.parts i) n k) → IsTrue (is_end shape i l)
+short_end shape i n k l w triple h s =
+    let possible = w.possible i n k s.meets.event h s.meets.first in
+    (owner_end shape i l s.meets.event w triple h (possible_within (part_at shape.parts i) n s.meets.event (part_form shape.parts i h w.form) possible) (record { within = s.link; event = s.meets.second })).end
+
+pub short_set : (shape : Shape) (l e : ℕ) (M : List ℕ) → is_subset_of M shape.vocabulary ≡ true → find (nat_le 0) M ≡ Some e → IsOwner shape l e → is_subset_of (link_at shape l).shared M ≡ false → IsShort shape l M
+short_set shape l e M within first o lacks =
+    let x = missing (link_at shape l).shared M lacks in
+    record {
+      link = o.within;
+      shared = subset_within M shape.vocabulary within;
+      meets = record { event = e; first = first_found M e first; second = o.event };
+      missing = x.0;
+      on = x.1;
+      lacks = x.2;
+    }
+
+pub short_subset : (shape : Shape) (l : ℕ) (M : List ℕ) → IsShort shape l M → is_subset_of M shape.vocabulary ≡ true
+short_subset shape l M s = within_subset M shape.vocabulary s.shared
+
+pub short_owner : (shape : Shape) (l m e : ℕ) (M : List ℕ) → IsOnOne shape M → IsShort shape l M → find (nat_le 0) M ≡ Some e → IsOwner shape m e → l ≡ m
+short_owner shape l m e M one s first o = one l m s.meets.event e s.link o.within s.meets.first (first_found M e first) s.meets.second o.event
+
+pub short_lacks : (shape : Shape) (l : ℕ) (M : List ℕ) → IsShort shape l M → is_subset_of (link_at shape l).shared M ≡ true → ⊥
+short_lacks shape l M s h = both_ways (has M s.missing) s.lacks (subset_within (link_at shape l).shared M h s.missing s.on)
+
+-- ---- ends that fall short
+
+pub short_falls : (shape : Shape) (i l n : ℕ) (s : List ℕ) → i < length shape.parts → IsShortAt shape i l n → IsRun (part_at shape.parts i).table s → end_of (part_at shape.parts i).table 0 s ≡ n → FallsShort shape l i s
+short_falls shape i l n s h x run leads =
+    subst (λ m. IsShortAt shape i l m → FallsShort shape l i s) leads
+    (λ y. record {
+      place = y.place;
+      accepts = record { runs = record { part = h; follows = run }; listed = y.listed; shared = y.short.shared };
+      meets = y.short.meets;
+      missing = y.short.missing;
+      on = y.short.on;
+      lacks = y.short.lacks;
+    })
+    x
+
+-- the same, of a part that was read
+pub read_falls : (shape : Shape) (i l n j : ℕ) (s : List ℕ) (p : Part) → i < length shape.parts → j ≡ i → p ≡ part_at shape.parts j → IsShortAt shape i l n → IsRun p.table s × (end_of p.table 0 s ≡ n) → FallsShort shape l i s
+read_falls shape i l n j s p h same is x run =
+    let at : p ≡ part_at shape.parts i = is ∙ ap (part_at shape.parts) same in
+    let here = subst (λ (q : Part). IsRun q.table s × (end_of q.table 0 s ≡ n)) at run in
+    short_falls shape i l n s h x here.0 here.1
+
+pub falls_short_at : (shape : Shape) (i l : ℕ) (s : List ℕ) → IsWellFormed shape → l < length shape.links → FallsShort shape l i s → IsShortAt shape i l (end_of (part_at shape.parts i).table 0 s)
+falls_short_at shape i l s w h f = record {
+  node = end_within (part_at shape.parts i) s (part_form shape.parts i f.accepts.runs.part w.form) f.accepts.runs.follows;
+  place = f.place;
+  listed = f.accepts.listed;
+  short = record { link = h; shared = f.accepts.shared; meets = f.meets; missing = f.missing; on = f.on; lacks = f.lacks };
+}
+
+pub nothing : {n : ℕ} → None ≡ Some n → ⊥
+nothing h = cc
+
+no_mark : {n : ℕ} → Some n ≡ None → ⊥
+no_mark h = cc
+
+-- an end that is not marked is whole
+pub left_whole : (shape : Shape) (left right : List (Option ℕ)) (l : ℕ) → IsWellFormed shape → l < length shape.links → ((i m n : ℕ) → i < length shape.parts → IsShortAt shape i m n → IsMarked shape left right i m) → short_at left l ≡ None → IsWholeEnd shape l (link_at shape l).left
+left_whole shape left right l w h marked none s f =
+    let m = marked (link_at shape l).left l (end_of (part_at shape.parts (link_at shape l).left).table 0 s) f.accepts.runs.part (falls_short_at shape (link_at shape l).left l s w h f) in
+    let x = m.at_left refl in
+    no_mark (sym x.1 ∙ none)
+
+pub right_whole : (shape : Shape) (left right : List (Option ℕ)) (l : ℕ) → IsWellFormed shape → l < length shape.links → ((i m n : ℕ) → i < length shape.parts → IsShortAt shape i m n → IsMarked shape left right i m) → short_at right l ≡ None → IsWholeEnd shape l (link_at shape l).right
+right_whole shape left right l w h marked none s f =
+    let m = marked (link_at shape l).right l (end_of (part_at shape.parts (link_at shape l).right).table 0 s) f.accepts.runs.part (falls_short_at shape (link_at shape l).right l s w h f) in
+    let x = m.at_right refl in
+    no_mark (sym x.1 ∙ none)
+
+-- ---- marks
+
+some_same : (a b : ℕ) → Some a ≡ Some b → a ≡ b
+some_same a b h = cc
+
+pub some_number : (a b : ℕ) → Some a ≡ Some b → a ≡ b
+some_number a b h = cc
+
+pub mark_keeps : (shorts : List (Option ℕ)) (l n : ℕ) → l < length shorts → KeepsShorts shorts (set shorts l (Some n))
+mark_keeps shorts l n h m x = elim (cases_eq m l) [
+  | inl same ↦ (n, subst (λ k. short_at (set shorts l (Some n)) k ≡ Some n) (sym same) (get_or-set_same shorts l (Some n) None h))
+  | inr other ↦ (x.0, get_or-set_other shorts l m (Some n) None other ∙ x.1)
+]
+
+pub mark_here : (shorts : List (Option ℕ)) (l n : ℕ) → l < length shorts → IsSomeShort (set shorts l (Some n)) l
+mark_here shorts l n h = (n, get_or-set_same shorts l (Some n) None h)
+
+-- a mark more
+pub mark_sound : (P : ℕ → ℕ → Type 0) (shorts : List (Option ℕ)) (l n : ℕ) → l < length shorts → ((m k : ℕ) → short_at shorts m ≡ Some k → P m k) → P l n → (m k : ℕ) → short_at (set shorts l (Some n)) m ≡ Some k → P m k
+mark_sound P shorts l n h all new m k at = elim (cases_eq m l) [
+  | inl same ↦
+      let is : n ≡ k = some_same n k (sym (get_or-set_same shorts l (Some n) None h) ∙ subst (λ j. short_at (set shorts l (Some n)) j ≡ Some k) same at) in
+      subst (λ j. P j k) (sym same) (subst (P l) is new)
+  | inr other ↦ all m k (sym (get_or-set_other shorts l m (Some n) None other) ∙ at)
+]
+
+pub marked_still : (shape : Shape) (left right more_left more_right : List (Option ℕ)) (i l : ℕ) → KeepsShorts left more_left → KeepsShorts right more_right → IsMarked shape left right i l → IsMarked shape more_left more_right i l
+marked_still shape left right more_left more_right i l kl kr m = record { at_left = λ h. kl l (m.at_left h); at_right = λ h. kr l (m.at_right h) }
+
+pub keeps_both : (a b d : List (Option ℕ)) → KeepsShorts a b → KeepsShorts b d → KeepsShorts a d
+keeps_both a b d h k l x = k l (h l x)
+
+pub other_end : (shape : Shape) (i l : ℕ) → IsTrue (is_end shape i l) → ((link_at shape l).left ≡ i → ⊥) → (link_at shape l).right ≡ i
+other_end shape i l end ne = elim (or_cases (nat_eq (link_at shape l).left i) (nat_eq (link_at shape l).right i) end) [
+  | inl left ↦ absurd (ne (eqb-true (link_at shape l).left i left))
+  | inr right ↦ eqb-true (link_at shape l).right i right
+]
+
+-- an acceptance that is read
+pub accept_read : (shape : Shape) (i n k : ℕ) (accept : List (List ℕ)) (M : List ℕ) → accept ≡ (node_at (part_at shape.parts i).table n).accept → k < length accept → M ≡ get_or accept k M → (M ≡ acceptance_at (part_at shape.parts i) n k) × (k < length (node_at (part_at shape.parts i).table n).accept)
+accept_read shape i n k accept M is h at = (get_or_read accept k M h at [] ∙ ap (λ (Ms : List (List ℕ)). get_or Ms k []) is, subst (λ (Ms : List (List ℕ)). k < length Ms) is h)

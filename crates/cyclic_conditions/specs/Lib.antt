@@ -1,0 +1,4 @@
+pub mod Facts
+pub mod Orders
+pub mod Shorts
+pub mod Told

@@ -1,0 +1,288 @@
+//! Whether each link has an end that accepts all of its events wherever it accepts some.
+
+ghost use Rattle.std.specs.Prelude.{◌≡◌, ◌<◌, ◌⊎◌, ℕ, List, Some, None, IfErr, IfOk, OnOk, IsTrue, length, get_or};
+ghost use Rattle.csp_tables.specs.Form.{HasForm};
+ghost use Rattle.csp_tables.specs.Part.{part_at};
+ghost use Rattle.csp_tables.specs.Shape.{IsReached, is_end, link_at};
+ghost use Rattle.csp_tables.specs.Table.{IsRun, end_of, node_at};
+ghost use Rattle.design_rules.specs.Cyclic.{AllKeepPlaces, CanBeNumbered, FallsShort, HasWholeEnd, IsWholeEnd};
+ghost use Rattle.observed_runs.specs.Observed.{pair_at};
+ghost use Rattle.cyclic_conditions.specs.Shorts.{AreShorts, IsMarked, IsOnOne, IsShort, IsShortAt, KeepsShorts, short_at};
+ghost use Rattle.cyclic_conditions.specs.Told.{Tells};
+
+use crate::fault::CyclicFault;
+use crate::prepared::Prepared;
+use csp_base::{Event, EventSet, NoMemory, Trace};
+use csp_tables::Part;
+use observed_runs::{Unwatched, explore};
+use std::alloc::Global;
+
+/// Succeeds where each link has a whole end, and else tells the first that has none.
+pub fn check_ends(alloc: Global, prepared: &Prepared<'_>) -> Result<(), CyclicFault>
+    requires keep { AllKeepPlaces prepared.now }
+    requires numbered { CanBeNumbered prepared.now }
+    ensures whole { OnOk result ((l : ℕ) → l < length prepared.now.links → HasWholeEnd prepared.now l) }
+    ensures fault { IfErr result (λ fault. Tells prepared.now fault) }
+{
+    let count = prepared.shape().links().len();
+    let mut left = vec![in alloc; None; count]?;
+    let mut right = vec![in alloc; None; count]?;
+    mark_and_check(alloc, prepared, &mut left, &mut right)?;
+    Ok(())
+}
+
+// Marks the ends that fall short, and tells the first link that has no whole end.
+fn mark_and_check(
+    alloc: Global,
+    prepared: &Prepared<'_>,
+    left: &mut [Option<u32>],
+    right: &mut [Option<u32>],
+) -> Result<(), CyclicFault>
+    requires keep { AllKeepPlaces prepared.now }
+    requires numbered { CanBeNumbered prepared.now }
+    requires left { length left.old ≡ length prepared.now.links }
+    requires right { length right.old ≡ length prepared.now.links }
+    requires none_left { (l : ℕ) → short_at left.old l ≡ None }
+    requires none_right { (l : ℕ) → short_at right.old l ≡ None }
+    ensures whole { OnOk result ((l : ℕ) → l < length prepared.now.links → HasWholeEnd prepared.now l) }
+    ensures fault { IfErr result (λ fault. Tells prepared.now fault) }
+{
+    mark_all(prepared, left, right);
+    check_marks(alloc, prepared, left, right)?;
+    Ok(())
+}
+
+// Tells the first link of which both ends are marked.
+fn check_marks(
+    alloc: Global,
+    prepared: &Prepared<'_>,
+    left: &[Option<u32>],
+    right: &[Option<u32>],
+) -> Result<(), CyclicFault>
+    requires keep { AllKeepPlaces prepared.now }
+    requires numbered { CanBeNumbered prepared.now }
+    requires left { length left.now ≡ length prepared.now.links }
+    requires right { length right.now ≡ length prepared.now.links }
+    requires shorts { AreShorts prepared.now left.now right.now }
+    requires marked { (i l n : ℕ) → i < length prepared.now.parts → IsShortAt prepared.now i l n → IsMarked prepared.now left.now right.now i l }
+    ensures whole { OnOk result ((l : ℕ) → l < length prepared.now.links → HasWholeEnd prepared.now l) }
+    ensures fault { IfErr result (λ fault. Tells prepared.now fault) }
+{
+    let _form = prepared.shape();
+    let _order = _form.links();
+    for l in 0..left.len() {
+        check_link(alloc, prepared, l as u32, left[l], right[l])?;
+    }
+    Ok(())
+}
+
+// Tells the link, if both ends are marked.
+fn check_link(
+    alloc: Global,
+    prepared: &Prepared<'_>,
+    link: u32,
+    left: Option<u32>,
+    right: Option<u32>,
+) -> Result<(), CyclicFault>
+    requires keep { AllKeepPlaces prepared.now }
+    requires numbered { CanBeNumbered prepared.now }
+    requires link { link < length prepared.now.links }
+    requires left_short { (n : ℕ) → left ≡ Some n → IsShortAt prepared.now (link_at prepared.now link).left link n }
+    requires right_short { (n : ℕ) → right ≡ Some n → IsShortAt prepared.now (link_at prepared.now link).right link n }
+    requires left_whole { left ≡ None → IsWholeEnd prepared.now link (link_at prepared.now link).left }
+    requires right_whole { right ≡ None → IsWholeEnd prepared.now link (link_at prepared.now link).right }
+    requires first { (m : ℕ) → m < link → HasWholeEnd prepared.now m }
+    ensures whole { OnOk result (HasWholeEnd prepared.now link) }
+    ensures fault { IfErr result (λ fault. Tells prepared.now fault) }
+{
+    let Some(left_node) = left else {
+        return Ok(());
+    };
+    let Some(right_node) = right else {
+        return Ok(());
+    };
+    let fault = told(alloc, prepared, link, left_node, right_node)?;
+    Err(fault)
+}
+
+// The link, with a run at either end after which it falls short.
+fn told(
+    alloc: Global,
+    prepared: &Prepared<'_>,
+    link: u32,
+    left_node: u32,
+    right_node: u32,
+) -> Result<CyclicFault, NoMemory>
+    requires link { link < length prepared.now.links }
+    requires left { IsShortAt prepared.now (link_at prepared.now link).left link left_node }
+    requires right { IsShortAt prepared.now (link_at prepared.now link).right link right_node }
+    requires keep { AllKeepPlaces prepared.now }
+    requires numbered { CanBeNumbered prepared.now }
+    requires first { (m : ℕ) → m < link → HasWholeEnd prepared.now m }
+    ensures { IfOk result (λ fault. Tells prepared.now fault) }
+{
+    let shape = prepared.shape();
+    let ends = &shape.links()[link as usize];
+    let left = run_to_node(alloc, &shape.parts()[ends.left() as usize], left_node)?;
+    let right = run_to_node(alloc, &shape.parts()[ends.right() as usize], right_node)?;
+    Ok(CyclicFault::NoWholeEnd { link, left, right })
+}
+
+// A run of the part's table that leads to the node.
+fn run_to_node(alloc: Global, part: &Part, node: u32) -> Result<Trace, NoMemory>
+    requires form { HasForm part.now }
+    requires reached { IsReached part.now.table node }
+    ensures { IfOk result (λ run. IsRun part.now.table run × (end_of part.now.table 0 run ≡ node)) }
+{
+    let explored = explore(alloc, part, &Unwatched)?;
+    let place = node_place(explored.pairs(), node);
+    let run = explored.run_to(alloc, place)?;
+    Ok(run)
+}
+
+// The place of a pair with the node.
+fn node_place(pairs: &[(u32, u32)], node: u32) -> usize
+    requires { (k : ℕ) × (k < length pairs.now) × ((pair_at pairs.now k).0 ≡ node) }
+    ensures within { result < length pairs.now }
+    ensures found { (pair_at pairs.now result).0 ≡ node }
+{
+    for (place, (other, _)) in pairs.iter().enumerate() {
+        if *other == node {
+            return place;
+        }
+    }
+    unreachable!()
+}
+
+// Marks for each link the ends that fall short, each with a node where it does.
+fn mark_all(prepared: &Prepared<'_>, left: &mut [Option<u32>], right: &mut [Option<u32>])
+    requires keep { AllKeepPlaces prepared.now }
+    requires left { length left.old ≡ length prepared.now.links }
+    requires right { length right.old ≡ length prepared.now.links }
+    requires none_left { (l : ℕ) → short_at left.old l ≡ None }
+    requires none_right { (l : ℕ) → short_at right.old l ≡ None }
+    ensures shorts { AreShorts prepared.now left.new right.new }
+    ensures marked { (i l n : ℕ) → i < length prepared.now.parts → IsShortAt prepared.now i l n → IsMarked prepared.now left.new right.new i l }
+{
+    for part in 0..prepared.shape().parts().len() {
+        mark_part(prepared, part as u32, left, right);
+    }
+}
+
+// Marks the links of which the part falls short.
+fn mark_part(
+    prepared: &Prepared<'_>,
+    part: u32,
+    left: &mut [Option<u32>],
+    right: &mut [Option<u32>],
+)
+    requires part { part < length prepared.now.parts }
+    requires keep { AllKeepPlaces prepared.now }
+    requires left { length left.old ≡ length prepared.now.links }
+    requires right { length right.old ≡ length prepared.now.links }
+    requires shorts { AreShorts prepared.now left.old right.old }
+    ensures shorts { AreShorts prepared.now left.new right.new }
+    ensures keeps_left { KeepsShorts left.old left.new }
+    ensures keeps_right { KeepsShorts right.old right.new }
+    ensures marked { (l n : ℕ) → IsShortAt prepared.now part l n → IsMarked prepared.now left.new right.new part l }
+{
+    let nodes = prepared.shape().parts()[part as usize].table().nodes();
+    for node in 0..nodes.len() {
+        mark_node(prepared, part, node as u32, left, right);
+    }
+}
+
+// Marks the links of which an acceptance of the node falls short.
+fn mark_node(
+    prepared: &Prepared<'_>,
+    part: u32,
+    node: u32,
+    left: &mut [Option<u32>],
+    right: &mut [Option<u32>],
+)
+    requires part { part < length prepared.now.parts }
+    requires node { node < length (part_at prepared.now.parts part).table }
+    requires keep { AllKeepPlaces prepared.now }
+    requires left { length left.old ≡ length prepared.now.links }
+    requires right { length right.old ≡ length prepared.now.links }
+    requires shorts { AreShorts prepared.now left.old right.old }
+    ensures shorts { AreShorts prepared.now left.new right.new }
+    ensures keeps_left { KeepsShorts left.old left.new }
+    ensures keeps_right { KeepsShorts right.old right.new }
+    ensures marked { (l : ℕ) → IsShortAt prepared.now part l node → IsMarked prepared.now left.new right.new part l }
+{
+    let accept = prepared.shape().parts()[part as usize].table().nodes()[node as usize].accept();
+    for set in accept {
+        mark_set(prepared, part, node, set, left, right);
+    }
+}
+
+// Marks the link of which the acceptance falls short, if there is one.
+fn mark_set(
+    prepared: &Prepared<'_>,
+    part: u32,
+    node: u32,
+    set: &EventSet,
+    left: &mut [Option<u32>],
+    right: &mut [Option<u32>],
+)
+    requires one { IsOnOne prepared.now set.now }
+    requires end { (l : ℕ) → IsShort prepared.now l set.now → IsTrue (is_end prepared.now part l) }
+    requires short { (l : ℕ) → IsShort prepared.now l set.now → IsShortAt prepared.now part l node }
+    requires left { length left.old ≡ length prepared.now.links }
+    requires right { length right.old ≡ length prepared.now.links }
+    requires shorts { AreShorts prepared.now left.old right.old }
+    ensures shorts { AreShorts prepared.now left.new right.new }
+    ensures keeps_left { KeepsShorts left.old left.new }
+    ensures keeps_right { KeepsShorts right.old right.new }
+    ensures marked { (l : ℕ) → IsShort prepared.now l set.now → IsMarked prepared.now left.new right.new part l }
+{
+    let Some(link) = short_link(prepared, set) else {
+        return;
+    };
+    mark(prepared, part, node, link, left, right);
+}
+
+// Marks the end of the link that the part is.
+fn mark(
+    prepared: &Prepared<'_>,
+    part: u32,
+    node: u32,
+    link: u32,
+    left: &mut [Option<u32>],
+    right: &mut [Option<u32>],
+)
+    requires link { link < length prepared.now.links }
+    requires end { IsTrue (is_end prepared.now part link) }
+    requires left { length left.old ≡ length prepared.now.links }
+    requires right { length right.old ≡ length prepared.now.links }
+    requires short { IsShortAt prepared.now part link node }
+    requires shorts { AreShorts prepared.now left.old right.old }
+    ensures shorts { AreShorts prepared.now left.new right.new }
+    ensures keeps_left { KeepsShorts left.old left.new }
+    ensures keeps_right { KeepsShorts right.old right.new }
+    ensures marked { IsMarked prepared.now left.new right.new part link }
+{
+    if prepared.shape().links()[link as usize].left() == part {
+        left[link as usize] = Some(node);
+    } else {
+        right[link as usize] = Some(node);
+    }
+}
+
+// The link of which the set has some events and not all, where the set lies in the vocabulary.
+fn short_link(prepared: &Prepared<'_>, set: &EventSet) -> Option<u32>
+    ensures short { (l : ℕ) → result ≡ Some l → IsShort prepared.now l set.now }
+    ensures all { (l : ℕ) → IsOnOne prepared.now set.now → IsShort prepared.now l set.now → result ≡ Some l }
+{
+    let shape = prepared.shape();
+    if !set.is_subset(shape.vocabulary()) {
+        return None;
+    }
+    let event = set.first_from(Event(0))?;
+    let link = prepared.owner(event)?;
+    if shape.links()[link as usize].shared().is_subset(set) {
+        return None;
+    }
+    Some(link)
+}

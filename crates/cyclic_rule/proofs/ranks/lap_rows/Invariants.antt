@@ -1,8 +1,0 @@
-use Rattle.std.proofs.Common.{[], map}
-use Rattle.std.specs.Prelude.{slice_index}
-use Rattle.cyclic_rule.specs.Ranks.{AreNodeLaps, no_node}
-use Rattle.cyclic_rule.proofs.Ranking.{AreEachBelow}
-use Rattle.cyclic_rule.proofs.ranks.lap_rows.Given as goal
-
-abbrev pub invariant-loop-node : goal.invariant-loop-node
-invariant-loop-node l = AreEachBelow no_node [] (AreNodeLaps l.prepared (slice_index l.numbers) l.top) l.node-index l.nodes (map (λ row. row.items) l.rows.items)

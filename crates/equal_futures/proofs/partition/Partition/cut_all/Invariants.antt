@@ -1,6 +1,0 @@
-use Rattle.equal_futures.specs.Blocks.{state_of, count_of}
-use Rattle.equal_futures.proofs.Splitting.{AreCutUpTo}
-use Rattle.equal_futures.proofs.partition.Partition.cut_all.Given as goal
-
-abbrev pub invariant-loop-block : goal.invariant-loop-block
-invariant-loop-block l = AreCutUpTo (count_of l.initial.self) (state_of l.initial.self) (state_of l.self) l.touched l.block-index

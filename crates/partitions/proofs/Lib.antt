@@ -1,0 +1,10 @@
+pub mod Advancing
+pub mod Awaiting
+pub mod Cutting
+pub mod DividedFrom
+pub mod Dividing
+pub mod Marking
+pub mod Sizes
+pub mod Splitting
+pub mod Taking
+pub mod Writes

@@ -1,0 +1,90 @@
+-- A node is marked, or was marked before: what is known then.
+use Rattle.std.proofs.Common.{◌≡◌, ℕ, ◌+◌, ◌<◌, ◌≤◌, ◌⊎◌, List, [], ◌∷◌, ◌++◌, length, get_or, ◌^◌, Bool, true, false, ◌||◌, nat_eq, refl, sym, ap, ◌∙◌, subst, arith, inl, inr}
+use Rattle.std.specs.Prelude.{slice_index}
+use Rattle.std.proofs.lemmas.Bool.{lt-ltb, eq-eqb, eqb-true, or_left, or_right, or_cases, false≢true}
+use Rattle.std.proofs.lemmas.List.{get_or_read}
+use Rattle.std.proofs.lemmas.List.Folds.{list_any-append}
+use Rattle.csp_base.specs.Members.{has}
+use Rattle.partitions.specs.Blocks.{State, HasBlocks, IsMarked, AreTouched, block_at, is_marked}
+use Rattle.partitions.specs.BlockSteps.{IsAdvanced}
+use Rattle.partitions.proofs.Advancing.{blocks_advanced, marked_advanced, middles_then}
+
+same_or : (a b : Bool) → (b ≡ true → a ≡ true) → a ≡ (a || b)
+same_or true b h = refl
+same_or false true h = absurd (false≢true (h refl))
+same_or false false h = refl
+
+pub marked_before : (n : ℕ) (s : State) (node : ℕ) → HasBlocks n s → slice_index s.places node < slice_index s.middles (block_at s node) → IsMarked n s s node
+marked_before n s node good l = record {
+  fit = good;
+  same = record { blocks = refl; firsts = refl; ends = refl; waiting = refl; flags = refl };
+  marked = λ i h. same_or (is_marked s i) (nat_eq i node) (λ e. ap (λ k. is_marked s k) (eqb-true i node e) ∙ lt-ltb (slice_index s.places node) (slice_index s.middles (block_at s node)) l);
+}
+
+pub has_push : (xs : List ℕ) (x : ℕ) → has (xs ++ x ∷ []) x ≡ true
+has_push xs x = list_any-append (λ y. nat_eq y x) xs (x ∷ []) ∙ or_right (has xs x) (nat_eq x x || false) (or_left (nat_eq x x) false (eq-eqb x x refl))
+
+pub has_more : (xs : List ℕ) (x y : ℕ) → has xs y ≡ true → has (xs ++ x ∷ []) y ≡ true
+has_more xs x y h = list_any-append (λ z. nat_eq z y) xs (x ∷ []) ∙ or_left (has xs y) (nat_eq x y || false) h
+
+pub has_one_of : (xs : List ℕ) (x y : ℕ) → has (xs ++ x ∷ []) y ≡ true → (has xs y ≡ true) ⊎ (x ≡ y)
+has_one_of xs x y h = elim (or_cases (has xs y) (nat_eq x y || false) (sym (list_any-append (λ z. nat_eq z y) xs (x ∷ [])) ∙ h)) as (λ _. (has xs y ≡ true) ⊎ (x ≡ y)) [
+  | inl old ↦ inl old
+  | inr new ↦ elim (or_cases (nat_eq x y) false new) as (λ _. (has xs y ≡ true) ⊎ (x ≡ y)) [ inl e ↦ inr (eqb-true x y e) | inr none ↦ absurd (false≢true none) ]
+]
+
+module _ (n : ℕ) (s t : State) (node : ℕ) (good : HasBlocks n s) (inside : node < n) (unmarked : slice_index s.middles (block_at s node) ≤ slice_index s.places node) (a : IsAdvanced s t node) where
+  pub marked_now : IsMarked n s t node
+  marked_now = record {
+    fit = blocks_advanced n s t node good inside unmarked a;
+    same = record { blocks = a.blocks; firsts = a.firsts; ends = a.ends; waiting = a.waiting; flags = a.flags };
+    marked = marked_advanced n s t node good inside unmarked a;
+  }
+
+  -- the block is among those with marked nodes
+  pub touched_now : (touched : List ℕ) → ((b : ℕ) → b < length s.firsts → slice_index s.firsts b < slice_index s.middles b → has touched b ≡ true) → ((b : ℕ) → has touched b ≡ true → b < length s.firsts) → has touched (block_at s node) ≡ true → AreTouched t touched
+  touched_now touched all known here = record {
+    all = λ b h. subst (λ (xs : List ℕ). slice_index xs b < slice_index t.middles b → has touched b ≡ true) (sym a.firsts)
+        (middles_then n s t node good inside unmarked a b (λ m. slice_index s.firsts b < m → has touched b ≡ true) (λ e _. ap (λ c. has touched c) e ∙ here) (λ _ l. all b (subst (λ (xs : List ℕ). b < length xs) a.firsts h) l));
+    known = λ b h. subst (λ (xs : List ℕ). b < length xs) (sym a.firsts) (known b h);
+  }
+
+  -- where marked nodes were in the block before
+  pub touched_again : (touched : List ℕ) → AreTouched s touched → (slice_index s.middles (block_at s node) ≡ slice_index s.firsts (block_at s node) → ⊥) → AreTouched t touched
+  touched_again touched old other =
+      let p = good.spans (block_at s node) (good.numbered node inside) in
+      touched_now touched old.all old.known (old.all (block_at s node) (good.numbered node inside) (omega (arith, p.0, other)))
+
+  -- where the block is listed now
+  pub touched_new : (touched : List ℕ) → AreTouched s touched → AreTouched t (touched ++ block_at s node ∷ [])
+  touched_new touched old =
+      touched_now (touched ++ block_at s node ∷ [])
+      (λ b h l. has_more touched (block_at s node) b (old.all b h l))
+      (λ b h. elim (has_one_of touched (block_at s node) b h) as (λ _. b < length s.firsts) [ inl before ↦ old.known b before | inr e ↦ subst (λ c. c < length s.firsts) e (good.numbered node inside) ])
+      (has_push touched (block_at s node))
+
+-- What the code reads for the node: its block b, its place p, where the marked nodes of the block end, m, and where it begins, f.
+module _ (n : ℕ) (s : State) (node b m p : ℕ) (good : HasBlocks n s) (inside : node < n) (read_b : b ≡ get_or s.blocks node b) (read_m : m ≡ get_or s.middles b m) (read_p : p ≡ get_or s.places node p) where
+  pub block_read : b ≡ block_at s node
+  block_read = get_or_read s.blocks node b (subst (λ k. node < k) (sym good.blocks_len) inside) read_b 0
+
+  known : b < length s.firsts
+  known = subst (λ c. c < length s.firsts) (sym block_read) (good.numbered node inside)
+
+  middle_read : m ≡ slice_index s.middles (block_at s node)
+  middle_read = get_or_read s.middles b m (subst (λ k. b < k) (sym good.middles_len) known) read_m 0 ∙ ap (λ c. slice_index s.middles c) block_read
+
+  place_read : p ≡ slice_index s.places node
+  place_read = get_or_read s.places node p (subst (λ k. node < k) (sym good.places_len) inside) read_p 0
+
+  pub unmarked_read : m ≤ p → slice_index s.middles (block_at s node) ≤ slice_index s.places node
+  unmarked_read h = subst (λ x. x ≤ slice_index s.places node) middle_read (subst (λ x. m ≤ x) place_read h)
+
+  pub marked_read : p < m → slice_index s.places node < slice_index s.middles (block_at s node)
+  marked_read h = subst (λ x. x < slice_index s.middles (block_at s node)) place_read (subst (λ x. p < x) middle_read h)
+
+  pub other_read : (f : ℕ) → f ≡ get_or s.firsts b f → (m ≡ f → ⊥) → slice_index s.middles (block_at s node) ≡ slice_index s.firsts (block_at s node) → ⊥
+  other_read f read_f ne e = ne (middle_read ∙ e ∙ sym (get_or_read s.firsts b f known read_f 0 ∙ ap (λ c. slice_index s.firsts c) block_read))
+
+  pub middle_fits : slice_index s.middles (block_at s node) ≤ slice_index s.places node → m + 1 < 2 ^ 32
+  middle_fits h = let q = (good.placed node inside).0 in let k = good.small in let e = middle_read in omega arith

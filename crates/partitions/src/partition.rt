@@ -1,0 +1,357 @@
+//! A partition of the nodes into blocks that can be split, at the cost of the nodes that move. Blocks that were split wait
+//! until they are used as splitters.
+
+ghost use Rattle.std.specs.Prelude.{◌≡◌, ◌↔◌, ◌||◌, ◌+◌, ◌<◌, ◌≤◌, ◌≢◌, ◌^◌, ℕ, [], ◌∷◌, ◌++◌, false, true, nat_eq, replicate, length, All, slice_index, slice_index_or, slice_set, IsTrue, IfOk, OnOk, MatchOption};
+ghost use Rattle.partitions.specs.Blocks.{count_of, state_of, HasBlocks, AreBoth, AreCut, AreMarked, AreTouched, IsCalm, IsCut, IsDone, IsMarked, IsSplit, IsTaken, IsWhole};
+ghost use Rattle.csp_base.specs.Members.{has};
+ghost use Rattle.partitions.specs.BlockSteps.{AreCounted, HasLongerSpans, IsAdvanced, IsAwaited, IsCalmed, IsDivided, IsLonger};
+
+use csp_base::NoMemory;
+use std::alloc::Global;
+
+/// Nodes in blocks. The nodes stand in one list, block by block, and in each block those that are marked stand first.
+#[derive(Drop)]
+pub struct Partition {
+    /// The nodes, block by block.
+    pub order: Vec<u32>,
+    /// Where each node stands among them.
+    pub places: Vec<u32>,
+    /// The block of each node.
+    pub blocks: Vec<u32>,
+    /// Where each block begins.
+    pub firsts: Vec<u32>,
+    /// Where the marked nodes of each block end.
+    pub middles: Vec<u32>,
+    /// Where each block ends.
+    pub ends: Vec<u32>,
+    /// The blocks that wait, the next one last.
+    pub waiting: Vec<u32>,
+    /// Whether each block waits.
+    pub flags: Vec<bool>,
+}
+
+/// All nodes in one block, which waits.
+pub fn whole(alloc: Global, count: u32) -> Result<Partition, NoMemory>
+    ensures { IfOk result (λ made. IsWhole count (state_of made)) }
+{
+    let number = if count == 0 { 0 } else { 1 };
+    let (order, places, blocks) = in_order(alloc, count)?;
+    let ((firsts, middles, ends), (waiting, flags)) = first_blocks(alloc, number, count)?;
+    Ok(Partition {
+        order,
+        places,
+        blocks,
+        firsts,
+        middles,
+        ends,
+        waiting,
+        flags,
+    })
+}
+
+// The nodes in the order of their numbers, where each stands, and its block, the first one.
+fn in_order(alloc: Global, count: u32) -> Result<(Vec<u32>, Vec<u32>, Vec<u32>), NoMemory>
+    ensures order { IfOk result (λ made. AreCounted count made.0.items) }
+    ensures places { IfOk result (λ made. AreCounted count made.1.items) }
+    ensures blocks { IfOk result (λ made. made.2.items ≡ replicate count 0) }
+{
+    let order = counted(alloc, count)?;
+    let places = counted(alloc, count)?;
+    let blocks = filled(alloc, 0, count as usize)?;
+    Ok((order, places, blocks))
+}
+
+// The lists of so many blocks: where each has its nodes, and that it waits.
+fn first_blocks(
+    alloc: Global,
+    number: usize,
+    count: u32,
+) -> Result<((Vec<u32>, Vec<u32>, Vec<u32>), (Vec<u32>, Vec<bool>)), NoMemory>
+    ensures firsts { IfOk result (λ made. made.0.0.items ≡ replicate number 0) }
+    ensures middles { IfOk result (λ made. made.0.1.items ≡ replicate number 0) }
+    ensures ends { IfOk result (λ made. made.0.2.items ≡ replicate number count) }
+    ensures waiting { IfOk result (λ made. made.1.0.items ≡ replicate number 0) }
+    ensures flags { IfOk result (λ made. made.1.1.items ≡ replicate number true) }
+{
+    let spans = spans(alloc, number, count)?;
+    let waiting = all_waiting(alloc, number)?;
+    Ok((spans, waiting))
+}
+
+// Where each of so many blocks begins, where its marked nodes end, and where it ends: each has all nodes, and none is marked.
+fn spans(
+    alloc: Global,
+    number: usize,
+    count: u32,
+) -> Result<(Vec<u32>, Vec<u32>, Vec<u32>), NoMemory>
+    ensures firsts { IfOk result (λ made. made.0.items ≡ replicate number 0) }
+    ensures middles { IfOk result (λ made. made.1.items ≡ replicate number 0) }
+    ensures ends { IfOk result (λ made. made.2.items ≡ replicate number count) }
+{
+    let firsts = filled(alloc, 0, number)?;
+    let middles = filled(alloc, 0, number)?;
+    let ends = filled(alloc, count, number)?;
+    Ok((firsts, middles, ends))
+}
+
+// The blocks that wait, where all do, and for each that it does. There is one at most.
+fn all_waiting(alloc: Global, number: usize) -> Result<(Vec<u32>, Vec<bool>), NoMemory>
+    ensures waiting { IfOk result (λ made. made.0.items ≡ replicate number 0) }
+    ensures flags { IfOk result (λ made. made.1.items ≡ replicate number true) }
+{
+    let waiting = filled(alloc, 0, number)?;
+    let flags = vec![in alloc; true; number]?;
+    Ok((waiting, flags))
+}
+
+// As many times the value as `number` says.
+fn filled(alloc: Global, value: u32, number: usize) -> Result<Vec<u32>, NoMemory>
+    ensures { IfOk result (λ made. made.items ≡ replicate number value) }
+{
+    let made = vec![in alloc; value; number]?;
+    Ok(made)
+}
+
+// The numbers below `count`.
+fn counted(alloc: Global, count: u32) -> Result<Vec<u32>, NoMemory>
+    ensures len { IfOk result (λ made. length made.items ≡ count) }
+    ensures each { IfOk result (λ made. (i : ℕ) → i < count → slice_index made.items i ≡ i) }
+{
+    let mut made = Vec::new(alloc);
+    for number in 0..count {
+        made.push(number)?;
+    }
+    Ok(made)
+}
+
+impl Partition {
+    /// The nodes of a block.
+    pub fn members(&self, block: u32) -> &[u32]
+        requires blocks { HasBlocks (count_of self.now) (state_of self.now) }
+        requires block { block < length self.now.firsts.items }
+        ensures { (i : ℕ) → IsTrue (has result.now i) ↔ ((i < count_of self.now) × (slice_index self.now.blocks.items i ≡ block)) }
+    {
+        let first = self.firsts[block as usize];
+        let end = self.ends[block as usize];
+        &self.order[first as usize..end as usize]
+    }
+
+    /// Takes the next block from those that wait.
+    pub fn next_waiting(&mut self) -> Option<u32>
+        requires { HasBlocks (count_of self.old) (state_of self.old) }
+        ensures { MatchOption result (IsDone (state_of self.old) (state_of self.new)) (λ block. IsTaken (count_of self.old) (state_of self.old) (state_of self.new) block) }
+    {
+        let Some(block) = self.waiting.pop() else {
+            return None;
+        };
+        self.flags[block as usize] = false;
+        Some(block)
+    }
+
+    /// Splits each block into those of its nodes from which steps lead and the others. Both parts wait then.
+    pub fn split(&mut self, alloc: Global, steps: &[(u32, u32)]) -> Result<(), NoMemory>
+        requires blocks { HasBlocks (count_of self.old) (state_of self.old) }
+        requires calm { IsCalm (state_of self.old) }
+        requires sources { All (λ step. step.1 < count_of self.old) steps.now }
+        ensures { OnOk result (IsSplit (count_of self.old) (state_of self.old) (state_of self.new) steps.now) }
+    {
+        let touched = self.mark_all(alloc, steps)?;
+        self.cut_all(touched.as_slice())?;
+        Ok(())
+    }
+
+    // Marks the nodes from which steps lead, and lists the blocks that have marked nodes.
+    fn mark_all(&mut self, alloc: Global, steps: &[(u32, u32)]) -> Result<Vec<u32>, NoMemory>
+        requires blocks { HasBlocks (count_of self.old) (state_of self.old) }
+        requires calm { IsCalm (state_of self.old) }
+        requires sources { All (λ step. step.1 < count_of self.old) steps.now }
+        ensures { IfOk result (λ touched. AreMarked (count_of self.old) (state_of self.old) (state_of self.new) touched.items steps.now) }
+    {
+        let mut touched = Vec::new(alloc);
+        for (_, source) in steps {
+            self.mark(&mut touched, *source)?;
+        }
+        Ok(touched)
+    }
+
+    // Cuts the blocks that have marked nodes.
+    fn cut_all(&mut self, touched: &[u32]) -> Result<(), NoMemory>
+        requires blocks { HasBlocks (count_of self.old) (state_of self.old) }
+        requires touched { AreTouched (state_of self.old) touched.now }
+        ensures { OnOk result (AreCut (count_of self.old) (state_of self.old) (state_of self.new)) }
+    {
+        for block in touched {
+            self.cut(*block)?;
+        }
+        Ok(())
+    }
+
+    // Marks a node. `touched` lists the blocks with marked nodes.
+    fn mark(&mut self, touched: &mut Vec<u32>, node: u32) -> Result<(), NoMemory>
+        requires blocks { HasBlocks (count_of self.old) (state_of self.old) }
+        requires node { node < count_of self.old }
+        requires touched { AreTouched (state_of self.old) touched.old.items }
+        ensures marked { OnOk result (IsMarked (count_of self.old) (state_of self.old) (state_of self.new) node) }
+        ensures touched { OnOk result (AreTouched (state_of self.new) touched.new.items) }
+    {
+        let block = self.blocks[node as usize];
+        let middle = self.middles[block as usize];
+        if self.places[node as usize] < middle {
+            return Ok(());
+        }
+        if middle == self.firsts[block as usize] {
+            push(touched, block)?;
+        }
+        self.advance(node);
+        Ok(())
+    }
+
+    // Marks a node that isn't marked: it changes places with the first one of its block that isn't.
+    fn advance(&mut self, node: u32)
+        requires blocks { HasBlocks (count_of self.old) (state_of self.old) }
+        requires node { node < count_of self.old }
+        requires unmarked { slice_index self.old.middles.items (slice_index self.old.blocks.items node) ≤ slice_index self.old.places.items node }
+        ensures { IsAdvanced (state_of self.old) (state_of self.new) node }
+    {
+        let block = self.blocks[node as usize];
+        let place = self.places[node as usize];
+        let middle = self.middles[block as usize];
+        let other = self.order[middle as usize];
+        self.order[place as usize] = other;
+        self.order[middle as usize] = node;
+        self.places[other as usize] = place;
+        self.places[node as usize] = middle;
+        self.middles[block as usize] = middle + 1;
+    }
+
+    // Makes the marked nodes of a block a block of their own, unless all nodes or none are marked, and takes the marks away.
+    fn cut(&mut self, block: u32) -> Result<(), NoMemory>
+        requires blocks { HasBlocks (count_of self.old) (state_of self.old) }
+        requires block { block < length self.old.firsts.items }
+        ensures { OnOk result (IsCut (count_of self.old) (state_of self.old) (state_of self.new) block) }
+    {
+        let first = self.firsts[block as usize];
+        let middle = self.middles[block as usize];
+        if middle == first || middle == self.ends[block as usize] {
+            self.calm(block);
+            return Ok(());
+        }
+        self.cut_between(block)
+    }
+
+    // Takes the marks of a block away.
+    fn calm(&mut self, block: u32)
+        requires blocks { HasBlocks (count_of self.old) (state_of self.old) }
+        requires block { block < length self.old.firsts.items }
+        ensures { IsCalmed (state_of self.old) (state_of self.new) block }
+    {
+        self.middles[block as usize] = self.firsts[block as usize];
+    }
+
+    // Makes the marked nodes of a block a block of their own. Both blocks wait then.
+    fn cut_between(&mut self, block: u32) -> Result<(), NoMemory>
+        requires blocks { HasBlocks (count_of self.old) (state_of self.old) }
+        requires block { block < length self.old.firsts.items }
+        requires some { slice_index self.old.firsts.items block < slice_index self.old.middles.items block }
+        requires not_all { slice_index self.old.middles.items block < slice_index self.old.ends.items block }
+        ensures { OnOk result (IsCut (count_of self.old) (state_of self.old) (state_of self.new) block) }
+    {
+        let new = self.divide(block)?;
+        let (larger, smaller) = self.by_size(block, new);
+        self.wait(larger)?;
+        self.wait(smaller)?;
+        Ok(())
+    }
+
+    // The two blocks, the larger one first.
+    fn by_size(&self, left: u32, right: u32) -> (u32, u32)
+        requires blocks { HasBlocks (count_of self.now) (state_of self.now) }
+        requires left { left < length self.now.firsts.items }
+        requires right { right < length self.now.firsts.items }
+        ensures { AreBoth left right result.0 result.1 }
+    {
+        if self.size(left) < self.size(right) {
+            (right, left)
+        } else {
+            (left, right)
+        }
+    }
+
+    // How many nodes a block has.
+    fn size(&self, block: u32) -> u32
+        requires blocks { HasBlocks (count_of self.now) (state_of self.now) }
+        requires block { block < length self.now.firsts.items }
+    {
+        self.ends[block as usize] - self.firsts[block as usize]
+    }
+
+    // Makes the marked nodes of a block a block of their own, the last one, and answers its number.
+    fn divide(&mut self, block: u32) -> Result<u32, NoMemory>
+        requires blocks { HasBlocks (count_of self.old) (state_of self.old) }
+        requires block { block < length self.old.firsts.items }
+        ensures divided { OnOk result (IsDivided (state_of self.old) (state_of self.new) block) }
+        ensures new { IfOk result (λ new. new ≡ length self.old.firsts.items) }
+    {
+        let first = self.firsts[block as usize];
+        let middle = self.middles[block as usize];
+        self.firsts[block as usize] = middle;
+        let new = self.add_block(first, middle)?;
+        assign(&self.order, &mut self.blocks, first, middle, new);
+        Ok(new)
+    }
+
+    // Adds a block between two places, and answers its number. It has no marks, and doesn't wait.
+    fn add_block(&mut self, first: u32, end: u32) -> Result<u32, NoMemory>
+        requires { length self.old.firsts.items < 2 ^ 32 }
+        ensures longer { OnOk result (IsLonger (state_of self.old) (state_of self.new) first end) }
+        ensures new { IfOk result (λ new. new ≡ length self.old.firsts.items) }
+    {
+        let new = self.firsts.len() as u32;
+        self.add_span(first, end)?;
+        self.flags.push(false)?;
+        Ok(new)
+    }
+
+    // Adds where a block without marks begins and ends.
+    fn add_span(&mut self, first: u32, end: u32) -> Result<(), NoMemory>
+        ensures { OnOk result (HasLongerSpans (state_of self.old) (state_of self.new) first end) }
+    {
+        push(&mut self.firsts, first)?;
+        push(&mut self.middles, first)?;
+        push(&mut self.ends, end)?;
+        Ok(())
+    }
+
+    // Lets a block wait, if it doesn't yet.
+    fn wait(&mut self, block: u32) -> Result<(), NoMemory>
+        requires { block < length self.old.flags.items }
+        ensures { OnOk result (IsAwaited (state_of self.old) (state_of self.new) block) }
+    {
+        if !self.flags[block as usize] {
+            self.waiting.push(block)?;
+            self.flags[block as usize] = true;
+        }
+        Ok(())
+    }
+}
+
+// Adds a number at the end.
+fn push(numbers: &mut Vec<u32>, number: u32) -> Result<(), NoMemory>
+    ensures { OnOk result (numbers.new.items ≡ numbers.old.items ++ number ∷ []) }
+{
+    numbers.push(number)?;
+    Ok(())
+}
+
+// Writes the block of the nodes that stand from `first` on below `middle`.
+fn assign(order: &[u32], blocks: &mut [u32], first: u32, middle: u32, new: u32)
+    requires ordered { first ≤ middle }
+    requires bounds { middle ≤ length order.now }
+    requires nodes { All (λ node. node < length blocks.old) order.now }
+    ensures moved { (k : ℕ) → first ≤ k → k < middle → slice_index blocks.new (slice_index order.now k) ≡ new }
+    ensures kept { (i : ℕ) → ((k : ℕ) → first ≤ k → k < middle → slice_index order.now k ≡ i → ⊥) → slice_index blocks.new i ≡ slice_index blocks.old i }
+{
+    for place in first..middle {
+        blocks[order[place as usize] as usize] = new;
+    }
+}

@@ -1,0 +1,4 @@
+pub mod Acquiring
+pub mod Holding
+pub mod Joining
+pub mod Sets

@@ -1,0 +1,7 @@
+use Rattle.std.proofs.Common.{◌<◌, ℕ, List}
+use Rattle.design_rules.specs.Resource.{GrantsAll}
+use Rattle.resource_conditions.specs.Setting.{IsResourcePart}
+use Rattle.resource_conditions.proofs.grants.check_grants.Given as goal
+
+abbrev pub invariant-loop-part : goal.invariant-loop-part
+invariant-loop-part l = (j : ℕ) (t : List ℕ) → j < l.part → IsResourcePart l.prepared j → GrantsAll l.prepared.shape l.prepared.uses j t

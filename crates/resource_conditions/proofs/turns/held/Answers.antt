@@ -1,0 +1,17 @@
+use Rattle.std.proofs.Common.{ℕ, List, subst}
+use Rattle.csp_tables.specs.Part.{Part, part_at}
+use Rattle.observed_runs.specs.Exploration.{AreFound, IsExploration}
+use Rattle.observed_runs.specs.Observers.{holder_step}
+use Rattle.resource_conditions.proofs.turns.held.Goals as goal
+
+pub returns : goal.returns
+returns c =
+    let made = c.in_ok-explored.explored in
+    let table = (part_at c.args.prepared.now.shape.parts c.args.part).table in
+    let mine = holder_step c.new-holder.result.holders.now in
+    record {
+      holders = c.holders.result.now;
+      are = c.holders.ensures;
+      explored = subst (λ (H : List ℕ). IsExploration table (holder_step H) 0 made.pairs) c.new-holder.ensures (subst (λ (q : Part). IsExploration q.table mine 0 made.pairs) c.component.ensures.value c.in_ok-explored.ensures.pairs);
+      origins_are = subst (λ (H : List ℕ). AreFound table (holder_step H) 0 made) c.new-holder.ensures (subst (λ (q : Part). AreFound q.table mine 0 made) c.component.ensures.value c.in_ok-explored.ensures.found);
+    }

@@ -1,0 +1,5 @@
+pub mod Acquired
+pub mod Finding
+pub mod Setting
+pub mod Tests
+pub mod Told

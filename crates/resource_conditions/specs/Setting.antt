@@ -1,0 +1,50 @@
+-- A shape, and what is told of its resources. (No rule's decider cites this.)
+use Rattle.std.specs.Prelude.{◌≡◌, ◌<◌, ℕ, List, true, false, not, length}
+use Rattle.csp_tables.specs.Shape.{Shape, link_at}
+use Rattle.csp_tables.specs.Roles.{UseSets, use_at}
+use Rattle.csp_tables.specs.Table.{Node, node_at}
+use Rattle.csp_tables.specs.Part.{part_at}
+use Rattle.design_rules.specs.Resource.{JoinsKinds, HasUses, HaveKinds, IsUsedInTurn, GrantsAll, UsesInTurn}
+use Rattle.resource_conditions.specs.declared.fault.ResourceFault.{ResourceFault}
+use Rattle.resource_conditions.specs.Told.{Tells}
+
+pub record Setting : Type 0 where
+  pub shape : Shape
+  pub uses : List UseSets
+
+abbrev pub TellsOf : Setting → ResourceFault → Type 0
+TellsOf g fault = Tells g.shape g.uses fault
+
+abbrev pub IsResourcePart : Setting → ℕ → Type 0
+IsResourcePart g i = (use_at g.uses i).resource ≡ true
+
+abbrev pub IsUser : Setting → ℕ → Type 0
+IsUser g i = (use_at g.uses i).resource ≡ false
+
+-- the node n of the part i
+abbrev pub node_of : Setting → ℕ → ℕ → Node
+node_of g i n = node_at (part_at g.shape.parts i).table n
+
+-- what U1 asks of the links with this left end, and of the sets of this part
+abbrev pub HasLinked : Setting → ℕ → Type 0
+HasLinked g i = (l : ℕ) → l < length g.shape.links → (link_at g.shape l).left ≡ i → JoinsKinds g.shape g.uses l
+
+abbrev pub HasParted : Setting → ℕ → Type 0
+HasParted g i = HasUses g.shape g.uses i
+
+-- U1, U2, U3 and U4
+abbrev pub KeepKinds : Setting → Type 0
+KeepKinds g = HaveKinds g.shape g.uses
+
+abbrev pub KeepTurns : Setting → Type 0
+KeepTurns g = (i : ℕ) (s : List ℕ) → IsResourcePart g i → IsUsedInTurn g.shape g.uses i s
+
+abbrev pub KeepGrants : Setting → Type 0
+KeepGrants g = (i : ℕ) (s : List ℕ) → IsResourcePart g i → GrantsAll g.shape g.uses i s
+
+abbrev pub UsersKeepTurns : Setting → Type 0
+UsersKeepTurns g = (i : ℕ) (s : List ℕ) → IsUser g i → UsesInTurn g.shape g.uses i s
+
+-- one of the two parts is a resource and the other a user
+abbrev pub AreOtherKinds : Setting → ℕ → ℕ → Type 0
+AreOtherKinds g i j = (use_at g.uses i).resource ≡ not (use_at g.uses j).resource

@@ -1,0 +1,28 @@
+-- U2 and U3 as tests of a node and of a state that an observer has there. (No rule's decider cites
+-- this.)
+use Rattle.std.specs.Prelude.{◌-◌, ℕ, List, Bool, true, not, ◌&&◌, ◌||◌, nat_eq, if◌then◌else◌}
+use Rattle.std.specs.List.{list_all, list_any}
+use Rattle.csp_base.specs.Members.{has}
+use Rattle.csp_base.specs.Events.{is_subset_of, inter_of}
+use Rattle.csp_tables.specs.Roles.{use_at}
+use Rattle.csp_tables.specs.Shape.{link_at}
+use Rattle.resource_conditions.specs.Setting.{Setting, node_of}
+
+-- U2: whether an event that is possible in the resource i is in turn, in the state of its holder: 0 where it is free, else
+-- 1 + the holder's link
+abbrev pub is_turn : Setting → ℕ → ℕ → ℕ → Bool
+is_turn g i state e = if has g.shape.vocabulary e then (if nat_eq state 0 then has (use_at g.uses i).acquire e else has (use_at g.uses i).release e && has (link_at g.shape (state - 1)).shared e) else true
+
+abbrev pub are_turns : Setting → ℕ → ℕ × ℕ → Bool
+are_turns g i pair = list_all (λ (step : ℕ × ℕ). is_turn g i pair.1 step.0) (node_of g i pair.0).next
+
+-- U3: what an acceptance of the resource i must have in this state of its holder
+abbrev pub wanted_in : Setting → ℕ → ℕ → List ℕ
+wanted_in g i state = if nat_eq state 0 then (use_at g.uses i).acquire else inter_of (use_at g.uses i).release (link_at g.shape (state - 1)).shared
+
+-- whether each acceptance in the vocabulary has all that is wanted
+abbrev pub are_granted : List ℕ → List ℕ → List (List ℕ) → Bool
+are_granted vocabulary wanted accept = list_all (λ M. not (is_subset_of M vocabulary) || is_subset_of wanted M) accept
+
+abbrev pub are_grants : Setting → ℕ → ℕ × ℕ → Bool
+are_grants g i pair = are_granted g.shape.vocabulary (wanted_in g i pair.1) (node_of g i pair.0).accept

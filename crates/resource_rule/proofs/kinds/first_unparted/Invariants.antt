@@ -1,6 +1,0 @@
-use Rattle.std.proofs.Common.{◌<◌, ℕ}
-use Rattle.resource_rule.specs.Setting.{HasParted}
-use Rattle.resource_rule.proofs.kinds.first_unparted.Given as goal
-
-abbrev pub invariant-loop-part : goal.invariant-loop-part
-invariant-loop-part l = (j : ℕ) → j < l.part → HasParted l.prepared j

@@ -1,7 +1,0 @@
--- A circle, passed the other way round. (For private contracts: no public one cites this.)
-use Rattle.std.specs.Prelude.{ℕ, List, [], ◌∷◌, reverse}
-
--- the first vertex, and the others in the other direction
-abbrev pub turned_circle : List ℕ → List ℕ
-turned_circle [] = []
-turned_circle (v ∷ vs) = v ∷ reverse vs

@@ -1,0 +1,4 @@
+pub mod ClientServerRanking
+pub mod CyclicRanking
+pub mod ResourceRanking
+pub mod RowsBelow

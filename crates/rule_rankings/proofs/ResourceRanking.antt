@@ -1,0 +1,254 @@
+-- The ranks of a network of users and resources.
+use Rattle.std.proofs.Common.{◌≡◌, ℕ, zero, suc, ◌+◌, ◌-◌, ◌*◌, ◌<◌, ◌≤◌, ◌⊎◌, inl, inr, ℤ, pos, List, [], ◌∷◌, ◌++◌, length, get_or, replicate, Bool, true, false, ◌||◌, cond, max, nat_eq, refl, sym, ap, subst, ◌∙◌, arith, eq-eqb}
+use Rattle.std.specs.List.{list_any}
+use Rattle.std.proofs.lemmas.Bool.{cases_Bool, cases_eq, cases_lt, cond-true, cond-false, and_parts, and_from, or_cases, or_left, or_right, both_ways, false≢true}
+use Rattle.std.proofs.lemmas.List.{length-append, get_or_append_left, get_or_past, get_or_read}
+use Rattle.std.proofs.Math.Seq.{get_or-append_seam}
+use Rattle.csp_base.specs.Members.{has}
+use Rattle.csp_tables.specs.Table.{Node, node_at, end_of}
+use Rattle.csp_tables.specs.Part.{Part, part_at, IsNonEmpty, AreApart}
+use Rattle.csp_tables.specs.Trace.{IsWithin}
+use Rattle.csp_tables.specs.Shape.{acceptance_at, IsWellFormed}
+use Rattle.csp_tables.specs.Standing.{IsPossible, Accepts, accepted}
+use Rattle.csp_tables.specs.Roles.{UseSets, use_at}
+use Rattle.csp_tables.specs.Ranking.{Ranking, PartRanks, AsMany, AtMostOne, RanksFit, LapsFit, PartsFit, rank_at, lap_of}
+use Rattle.net_sound.proofs.Within.{part_form}
+use Rattle.design_rules.specs.Vertices.{IsVertex}
+use Rattle.design_rules.specs.Resource.{is_held, acquires, KeepUses}
+use Rattle.design_rules.specs.ResourceRanking.{top_number, AreResourceRanks}
+use Rattle.design_rules.proofs.Runs.{end_within}
+use Rattle.resource_conditions.specs.Setting.{Setting}
+use Rattle.resource_conditions.specs.Acquired.{is_acquired_by}
+use Rattle.rule_rankings.proofs.RowsBelow.{no_ranks, as_many, parts_fit}
+use Rattle.rule_rankings.specs.ResourceRanks.{number_by, IsLeastAcquired, IsRank, AreNodeRanks, ArePartRanks, HaveTop}
+use Rattle.rule_rankings.specs.Rows.{AreEach, no_node, AreNoLaps}
+use Rattle.resource_conditions.proofs.Acquiring.{acquire_only}
+use Rattle.resource_conditions.proofs.Sets.{any_member, any_of}
+
+-- ---- the greatest number
+
+below_top : (uses : List UseSets) (number : ℕ → ℕ) (n j : ℕ) → j < n → (use_at uses j).resource ≡ true → number j ≤ top_number uses number n
+below_top uses number zero j h r = absurd (omega arith)
+below_top uses number (suc n) j h r =
+    elim (cases_eq j n) [
+      | inl e ↦ let own : cond (use_at uses n).resource (number n) 0 ≡ number n = cond-true (use_at uses n).resource (number n) 0 (subst (λ k. (use_at uses k).resource ≡ true) e r) in let same : number j ≡ number n = ap number e in omega arith
+      | inr ne ↦ let rest : number j ≤ top_number uses number n = below_top uses number n j (omega arith) r in omega arith
+    ]
+
+-- each number is small
+pub small_number : (heights : List ℕ) (count : ℕ) → count ≤ 512 → ((k d : ℕ) → k < length heights → get_or heights k d < count) → (j : ℕ) → number_by heights j ≤ 512
+small_number heights count few below j = elim (cases_lt j (length heights)) [
+  | inl within ↦ let h : get_or heights j 0 < count = below j 0 within in omega arith
+  | inr past ↦ let none : get_or heights j 0 ≡ 0 = get_or_past heights j 0 past in omega arith
+]
+
+cond_small : (b : Bool) (n : ℕ) → n ≤ 512 → cond b n 0 ≤ 512
+cond_small true n h = h
+cond_small false n h = omega arith
+
+-- one part more
+pub top_next : (uses : List UseSets) (heights : List ℕ) (n top number new : ℕ) → top ≡ top_number uses (number_by heights) n → top ≤ 512 → number_by heights n ≤ 512 → number ≡ cond (use_at uses n).resource (number_by heights n) 0 → new ≡ max number top → (new ≡ top_number uses (number_by heights) (n + 1)) × (new ≤ 512)
+top_next uses heights n top number new is few small at next =
+    let own : number ≤ 512 = subst (λ k. k ≤ 512) (sym at) (cond_small (use_at uses n).resource (number_by heights n) small) in
+    (next ∙ ap (λ k. max k top) at ∙ ap (max (cond (use_at uses n).resource (number_by heights n) 0)) is ∙ ap (top_number uses (number_by heights)) (let e : suc n ≡ n + 1 = omega arith in e), omega arith)
+
+pub have_top : (g : Setting) (heights : List ℕ) (n top : ℕ) → length heights ≡ length g.shape.parts → n ≡ length g.shape.parts → top ≡ top_number g.uses (number_by heights) n → top ≤ 512 → ((j : ℕ) → number_by heights j ≤ 512) → HaveTop g heights top
+have_top g heights n top count all is few small =
+    let at : top ≡ top_number g.uses (number_by heights) (length g.shape.parts) = is ∙ ap (top_number g.uses (number_by heights)) all in
+    record {
+      count = count;
+      is = at;
+      above = λ j below resource. let high : number_by heights j ≤ top_number g.uses (number_by heights) (length g.shape.parts) = below_top g.uses (number_by heights) (length g.shape.parts) j below resource in omega arith;
+      few = few;
+      small = small;
+    }
+
+-- ---- the least number
+
+-- what is known of the least number when these events are left
+pub record IsLeastSoFar (g : Setting) (number : ℕ → ℕ) (top : ℕ) (set left : List ℕ) (least : ℕ) : Type 0 where
+  pub within : (e : ℕ) → has left e ≡ true → has set e ≡ true
+  pub below : (j : ℕ) → acquires g.uses set j ≡ true → (acquires g.uses left j ≡ true) ⊎ (least ≤ number j)
+  pub attained : (least ≡ top + 1) ⊎ ((j : ℕ) × (j < length g.shape.parts) × (acquires g.uses set j ≡ true) × (number j ≡ least))
+
+pub least_next : (g : Setting) (number : ℕ → ℕ) (top : ℕ) (set left : List ℕ) (e least new : ℕ) → IsLeastSoFar g number top set (e ∷ left) least → new ≤ least → ((j : ℕ) → is_acquired_by g j e ≡ true → new ≤ number j) → (new ≡ least) ⊎ ((j : ℕ) × (j < length g.shape.parts) × (is_acquired_by g j e ≡ true) × (number j ≡ new)) → IsLeastSoFar g number top set left new
+least_next g number top set left e least new s less below attained = record {
+  within = λ x h. s.within x (or_right (nat_eq e x) (has left x) h);
+  below = λ j a. elim (s.below j a) [
+    | inl some ↦
+        let p = and_parts (use_at g.uses j).resource (has (use_at g.uses j).acquire e || list_any (λ x. has (use_at g.uses j).acquire x) left) some in
+        elim (or_cases (has (use_at g.uses j).acquire e) (list_any (λ x. has (use_at g.uses j).acquire x) left) p.1) [
+          | inl here ↦ inr (below j (and_from (use_at g.uses j).resource (has (use_at g.uses j).acquire e) p.0 here))
+          | inr later ↦ inl (and_from (use_at g.uses j).resource (list_any (λ x. has (use_at g.uses j).acquire x) left) p.0 later)
+        ]
+    | inr low ↦ inr (omega arith)
+  ];
+  attained = elim attained [
+    | inl same ↦ elim s.attained [
+      | inl none ↦ inl (same ∙ none)
+      | inr some ↦ inr (some.0, some.1, some.2, some.3 ∙ sym same)
+    ]
+    | inr one ↦
+        let p = and_parts (use_at g.uses one.0).resource (has (use_at g.uses one.0).acquire e) one.2 in
+        inr (one.0, one.1, and_from (use_at g.uses one.0).resource (list_any (λ x. has (use_at g.uses one.0).acquire x) set) p.0 (any_of (λ x. has (use_at g.uses one.0).acquire x) set e (s.within e (or_left (nat_eq e e) (has left e) (eq-eqb e e refl))) p.1), one.3)
+  ];
+}
+
+pub least_end : (g : Setting) (number : ℕ → ℕ) (top : ℕ) (set : List ℕ) (least : ℕ) → IsLeastSoFar g number top set [] least → IsLeastAcquired g number top set least
+least_end g number top set least s = record {
+  below = λ j a. elim (s.below j a) [
+    | inl never ↦ absurd (false≢true (and_parts (use_at g.uses j).resource false never).1)
+    | inr low ↦ low
+  ];
+  attained = s.attained;
+}
+
+-- the rank of a user
+pub user_is : (g : Setting) (number : ℕ → ℕ) (top i least : ℕ) (M : List ℕ) (rank : ℤ) → (use_at g.uses i).resource ≡ false → IsLeastAcquired g number top M least → IsNonEmpty M → IsWithin M g.shape.vocabulary → ((j : ℕ) → j < length g.shape.parts → (use_at g.uses j).resource ≡ true → number j ≤ top) → (least ≤ top → rank ≡ pos (2 * (top - least) + 2)) → (top < least → rank ≡ pos 0) → IsRank g number top i M rank
+user_is g number top i least M rank user l some within high here none = record {
+  other = λ never. absurd (never within some);
+  free = λ resource. absurd (both_ways (use_at g.uses i).resource user resource);
+  held = λ resource. absurd (both_ways (use_at g.uses i).resource user resource);
+  acquiring = λ j _ _ below a lowest.
+      let mine : least ≤ number j = l.below j a in
+      let p = and_parts (use_at g.uses j).resource (list_any (λ x. has (use_at g.uses j).acquire x) M) a in
+      let top_above : number j ≤ top = high j below p.0 in
+      let same : number j ≡ least = elim l.attained [
+        | inl past ↦ absurd (omega arith)
+        | inr one ↦ let low : number j ≤ number one.0 = lowest one.0 one.1 one.2 in let at : number one.0 ≡ least = one.3 in omega arith
+      ] in
+      here (omega arith) ∙ ap (λ n. pos (2 * (top - n) + 2)) (sym same);
+  not_acquiring = λ _ nothing. elim l.attained [
+    | inl past ↦ none (omega arith)
+    | inr one ↦ absurd (both_ways (acquires g.uses M one.0) (nothing one.0 one.1) one.2)
+  ];
+}
+
+-- the rank of an acceptance that is not in the vocabulary, and of one without events
+pub rank_outside : (g : Setting) (number : ℕ → ℕ) (top i : ℕ) (M : List ℕ) → (IsWithin M g.shape.vocabulary → ⊥) → IsRank g number top i M (pos 0)
+rank_outside g number top i M outside = record {
+  other = λ _. refl;
+  free = λ _ within. absurd (outside within);
+  held = λ _ within. absurd (outside within);
+  acquiring = λ _ _ within. absurd (outside within);
+  not_acquiring = λ _ _. refl;
+}
+
+pub rank_empty : (g : Setting) (number : ℕ → ℕ) (top i : ℕ) (M : List ℕ) → ((e : ℕ) → has M e ≡ true → ⊥) → IsRank g number top i M (pos 0)
+rank_empty g number top i M none = record {
+  other = λ _. refl;
+  free = λ _ _ some. absurd (none some.0 some.1);
+  held = λ _ _ some. absurd (none some.0 some.1);
+  acquiring = λ j _ _ _ a.
+      let p = and_parts (use_at g.uses j).resource (list_any (λ x. has (use_at g.uses j).acquire x) M) a in
+      let e = any_member (λ x. has (use_at g.uses j).acquire x) M p.1 in
+      absurd (none e.0 e.1);
+  not_acquiring = λ _ _. refl;
+}
+
+-- the rank of a resource, by one of the events
+pub free_is : (g : Setting) (number : ℕ → ℕ) (top i e : ℕ) (M : List ℕ) (rank : ℤ) → (use_at g.uses i).resource ≡ true → IsWithin M g.shape.vocabulary → has M e ≡ true → has (use_at g.uses i).acquire e ≡ true → rank ≡ pos (2 * top + 2) → IsRank g number top i M rank
+free_is g number top i e M rank resource within member a is = record {
+  other = λ never. absurd (never within (e, member));
+  free = λ _ _ _ _. is;
+  held = λ _ _ _ apart. absurd (apart e member a);
+  acquiring = λ _ user. absurd (both_ways (use_at g.uses i).resource user resource);
+  not_acquiring = λ user. absurd (both_ways (use_at g.uses i).resource user resource);
+}
+
+pub held_is : (g : Setting) (number : ℕ → ℕ) (top i e : ℕ) (M : List ℕ) (rank : ℤ) → (use_at g.uses i).resource ≡ true → IsWithin M g.shape.vocabulary → has M e ≡ true → has (use_at g.uses i).acquire e ≡ false → rank ≡ pos (2 * (top - number i) + 1) → IsRank g number top i M rank
+held_is g number top i e M rank resource within member a is = record {
+  other = λ never. absurd (never within (e, member));
+  free = λ _ _ _ all. absurd (both_ways (has (use_at g.uses i).acquire e) a (all e member));
+  held = λ _ _ _ _. is;
+  acquiring = λ _ user. absurd (both_ways (use_at g.uses i).resource user resource);
+  not_acquiring = λ user. absurd (both_ways (use_at g.uses i).resource user resource);
+}
+
+-- ---- how the ranking fits
+
+ranks_fit : (g : Setting) (number : ℕ → ℕ) (top i : ℕ) (table : List Node) (rows : List (List ℤ)) → AreEach no_node [] (AreNodeRanks g number top i) table rows → RanksFit table rows
+ranks_fit g number top i [] [] e = tt
+ranks_fit g number top i [] (r ∷ rs) e = absurd (let many : length {A = Node} [] ≡ length (r ∷ rs) = e.as_many in omega arith)
+ranks_fit g number top i (n ∷ ns) [] e = absurd (let many : length (n ∷ ns) ≡ length {A = List ℤ} [] = e.as_many in omega arith)
+ranks_fit g number top i (n ∷ ns) (r ∷ rs) e =
+    let many : length (n ∷ ns) ≡ length (r ∷ rs) = e.as_many in
+    (as_many n.accept r (e.each 0 (omega arith)).as_many, ranks_fit g number top i ns rs (record { as_many = omega arith; each = λ k h. e.each (suc k) (omega arith) }))
+
+no_laps_at_most : (n : ℕ) → AtMostOne (replicate n 0)
+no_laps_at_most zero = tt
+no_laps_at_most (suc n) = (omega arith, no_laps_at_most n)
+
+no_laps_as_many : {A : Type 0} (xs : List A) → AsMany {B = ℕ} xs (replicate (length xs) 0)
+no_laps_as_many [] = tt
+no_laps_as_many (x ∷ xs) = no_laps_as_many xs
+
+laps_fit : (table : List Node) (rows : List (List ℕ)) → AreEach no_node [] AreNoLaps table rows → LapsFit table rows
+laps_fit [] [] e = tt
+laps_fit [] (r ∷ rs) e = absurd (let many : length {A = Node} [] ≡ length (r ∷ rs) = e.as_many in omega arith)
+laps_fit (n ∷ ns) [] e = absurd (let many : length (n ∷ ns) ≡ length {A = List ℕ} [] = e.as_many in omega arith)
+laps_fit (n ∷ ns) (r ∷ rs) e =
+    let many : length (n ∷ ns) ≡ length (r ∷ rs) = e.as_many in
+    let is : r ≡ replicate (length n.next) 0 = e.each 0 (omega arith) in
+    (subst (AsMany n.next) (sym is) (no_laps_as_many n.next), subst AtMostOne (sym is) (no_laps_at_most (length n.next)), laps_fit ns rs (record { as_many = omega arith; each = λ k h. e.each (suc k) (omega arith) }))
+
+lap_none : (next : List (ℕ × ℕ)) (n e : ℕ) → lap_of next (replicate n 0) e ≡ 0
+lap_none [] n e = refl
+lap_none (x ∷ xs) zero e = refl
+lap_none (x ∷ xs) (suc n) e = elim (cases_Bool (nat_eq x.0 e)) [
+  | inl here ↦ cond-true (nat_eq x.0 e) 0 (lap_of xs (replicate n 0) e) here
+  | inr later ↦ cond-false (nat_eq x.0 e) 0 (lap_of xs (replicate n 0) e) later ∙ lap_none xs n e
+]
+
+lap_nowhere : (next : List (ℕ × ℕ)) (e : ℕ) → lap_of next [] e ≡ 0
+lap_nowhere [] e = refl
+lap_nowhere (x ∷ xs) e = refl
+
+module _ (g : Setting) (number : ℕ → ℕ) (top : ℕ) (w : IsWellFormed g.shape) (keep : KeepUses g.shape g.uses) where
+  rank_row : (i n k : ℕ) (r : PartRanks) → ArePartRanks g number top i r → n < length (part_at g.shape.parts i).table → k < length (node_at (part_at g.shape.parts i).table n).accept → IsRank g number top i (acceptance_at (part_at g.shape.parts i) n k) (rank_at r.ranks n k)
+  rank_row i n k r a h b = ((a.ranks_are).each n h).each k b
+
+  rank_here : (i k : ℕ) (s : List ℕ) (r : PartRanks) → ArePartRanks g number top i r → Accepts g.shape i s k → IsRank g number top i (accepted g.shape i s k) (rank_at r.ranks (end_of (part_at g.shape.parts i).table 0 s) k)
+  rank_here i k s r a accepts = rank_row i (end_of (part_at g.shape.parts i).table 0 s) k r a (end_within (part_at g.shape.parts i) s (part_form g.shape.parts i accepts.runs.part w.form) accepts.runs.follows) accepts.listed
+
+  possible_of : (i k e : ℕ) (s : List ℕ) → Accepts g.shape i s k → has (accepted g.shape i s k) e ≡ true → IsPossible g.shape i s e
+  possible_of i k e s accepts x = record { runs = accepts.runs; next = w.possible i (end_of (part_at g.shape.parts i).table 0 s) k e accepts.runs.part x }
+
+  -- a free resource's events acquire it
+  free_acquires : (i k : ℕ) (s : List ℕ) → (use_at g.uses i).resource ≡ true → Accepts g.shape i s k → is_held g.shape s ≡ false → IsWithin (accepted g.shape i s k) (use_at g.uses i).acquire
+  free_acquires i k s resource accepts free e x =
+      sym (cond-false (is_held g.shape s) (has (use_at g.uses i).release e) (has (use_at g.uses i).acquire e) free) ∙ (keep.used i s resource).turn e (possible_of i k e s accepts x) (accepts.shared e x)
+
+  -- a held resource's events do not
+  held_releases : (i k : ℕ) (s : List ℕ) → (use_at g.uses i).resource ≡ true → Accepts g.shape i s k → is_held g.shape s ≡ true → AreApart (accepted g.shape i s k) (use_at g.uses i).acquire
+  held_releases i k s resource accepts held e x a =
+      let release = sym (cond-true (is_held g.shape s) (has (use_at g.uses i).release e) (has (use_at g.uses i).acquire e) held) ∙ (keep.used i s resource).turn e (possible_of i k e s accepts x) (accepts.shared e x) in
+      both_ways (has (use_at g.uses i).release e) (acquire_only g i e keep.kinds accepts.runs.part resource a).2 release
+
+  other_rank : (i n k : ℕ) (r : PartRanks) → i < length g.shape.parts → ArePartRanks g number top i r → (IsVertex g.shape i n k → ⊥) → rank_at r.ranks n k ≡ pos 0
+  other_rank i n k r h a none = elim (cases_lt n (length (part_at g.shape.parts i).table)) [
+    | inl node ↦ elim (cases_lt k (length (node_at (part_at g.shape.parts i).table n).accept)) [
+      | inl listed ↦ (rank_row i n k r a node listed).other (λ within some. none (record { part = h; node = node; listed = listed; some = some; shared = within }))
+      | inr past ↦ get_or_past (get_or r.ranks n []) k (pos 0) (let many : length (node_at (part_at g.shape.parts i).table n).accept ≡ length (get_or r.ranks n []) = ((a.ranks_are).each n node).as_many in omega arith)
+    ]
+    | inr past ↦ ap (λ (row : List ℤ). get_or row k (pos 0)) (get_or_past r.ranks n [] (let many : length (part_at g.shape.parts i).table ≡ length r.ranks = a.ranks_are.as_many in omega arith))
+  ]
+
+  no_lap : (i n e : ℕ) (r : PartRanks) → ArePartRanks g number top i r → lap_of (node_at (part_at g.shape.parts i).table n).next (get_or r.laps n []) e ≡ 0
+  no_lap i n e r a = elim (cases_lt n (length (part_at g.shape.parts i).table)) [
+    | inl node ↦ ap (λ row. lap_of (node_at (part_at g.shape.parts i).table n).next row e) ((a.laps_are).each n node) ∙ lap_none (node_at (part_at g.shape.parts i).table n).next (length (node_at (part_at g.shape.parts i).table n).next) e
+    | inr past ↦ ap (λ row. lap_of (node_at (part_at g.shape.parts i).table n).next row e) (get_or_past r.laps n [] (let many : length (part_at g.shape.parts i).table ≡ length r.laps = a.laps_are.as_many in omega arith)) ∙ lap_nowhere (node_at (part_at g.shape.parts i).table n).next e
+  ]
+
+  pub resource_ranks : (ranking : Ranking) → top ≡ top_number g.uses number (length g.shape.parts) → length ranking.parts ≡ length g.shape.parts → ((i : ℕ) → i < length g.shape.parts → ArePartRanks g number top i (get_or ranking.parts i no_ranks)) → ranking.scale ≡ pos 0 → AreResourceRanks g.shape g.uses number top ranking
+  resource_ranks ranking is count each scale = record {
+    greatest = is;
+    fits = parts_fit g.shape.parts ranking.parts count (λ i h. (ranks_fit g number top i (part_at g.shape.parts i).table (get_or ranking.parts i no_ranks).ranks (each i h).ranks_are, laps_fit (part_at g.shape.parts i).table (get_or ranking.parts i no_ranks).laps (each i h).laps_are));
+    scale = scale;
+    free = λ i s k resource a free. (rank_here i k s (get_or ranking.parts i no_ranks) (each i a.accepts.runs.part) a.accepts).free resource a.accepts.shared a.some (free_acquires i k s resource a.accepts free);
+    held = λ i s k resource a held. (rank_here i k s (get_or ranking.parts i no_ranks) (each i a.accepts.runs.part) a.accepts).held resource a.accepts.shared a.some (held_releases i k s resource a.accepts held);
+    acquiring = λ i s k j user a below acquired least. (rank_here i k s (get_or ranking.parts i no_ranks) (each i a.accepts.runs.part) a.accepts).acquiring j user a.accepts.shared below acquired least;
+    not_acquiring = λ i s k user a nothing. (rank_here i k s (get_or ranking.parts i no_ranks) (each i a.accepts.runs.part) a.accepts).not_acquiring user nothing;
+    others = λ i n k h none. other_rank i n k (get_or ranking.parts i no_ranks) h (each i h) none;
+    laps = λ i n e h. no_lap i n e (get_or ranking.parts i no_ranks) (each i h);
+  }

@@ -1,0 +1,14 @@
+use Rattle.std.proofs.Common.{◌∙◌, ℕ, [], ◌∷◌, List, map, pos, ap, subst}
+use Rattle.std.specs.Prelude.{slice_index}
+use Rattle.std.proofs.lemmas.List.{map-append}
+use Rattle.rule_rankings.specs.CyclicRanks.{AreNodeRanks, IsRank}
+use Rattle.rule_rankings.specs.Rows.{AreEach, no_node}
+use Rattle.rule_rankings.proofs.RowsBelow.{below_more}
+use Rattle.rule_rankings.proofs.cyclic.rank_rows.Goals as goal
+
+pub loop-node-preserved : goal.loop-node-preserved
+loop-node-preserved c =
+    let more = ap (map (λ row. row.items)) c.in_ok-push.ensures.items ∙ map-append (λ row. row.items) c.loop-node.rows.items (c.in_ok-row.row ∷ []) in
+    let row = c.in_ok-row.ensures in
+    let at = c.accept.ensures in
+    below_more no_node [] (AreNodeRanks c.args.prepared.now (slice_index c.args.numbers.now)) c.loop-node.node-index c.args.nodes.now (map (λ row. row.items) c.loop-node.rows.items) (map (λ row. row.items) c.push.new.self.items) c.node-item.result c.in_ok-row.row.items c.loop-node.invariant c.loop-node-test.true c.node-item.is (subst (λ (Ms : List (List ℕ)). AreEach [] (pos 0) (IsRank c.args.prepared.now (slice_index c.args.numbers.now)) Ms c.in_ok-row.row.items) at row) more

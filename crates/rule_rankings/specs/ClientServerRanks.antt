@@ -1,0 +1,28 @@
+-- The ranks and the laps of a part. (No rule's decider cites this.)
+use Rattle.std.specs.Prelude.{◌≡◌, ◌<◌, ◌*◌, ℕ, ℤ, pos, ◌-ℤ◌, List, [], length, get_or, replicate}
+use Rattle.csp_tables.specs.Part.{part_at, IsNonEmpty, Meet, AreApart}
+use Rattle.csp_tables.specs.Table.{Node}
+use Rattle.csp_tables.specs.Trace.{IsWithin}
+use Rattle.csp_tables.specs.Roles.{role_at}
+use Rattle.csp_tables.specs.Ranking.{PartRanks}
+use Rattle.client_server_conditions.specs.Network.{Network}
+use Rattle.rule_rankings.specs.Rows.{AreEach, AreNoLaps, no_node}
+
+-- The rank of an acceptance: the one where it has requests, and the other where it has none; 0 where it is empty or not in the
+-- vocabulary.
+pub record IsRank (vocabulary requests : List ℕ) (serving asking : ℤ) (M : List ℕ) (rank : ℤ) : Type 0 where
+  pub serves : IsWithin M vocabulary → Meet M requests → rank ≡ serving
+  pub asks : IsWithin M vocabulary → IsNonEmpty M → AreApart M requests → rank ≡ asking
+  pub other : (IsWithin M vocabulary → IsNonEmpty M → ⊥) → rank ≡ pos 0
+
+abbrev pub AreNodeRanks : List ℕ → List ℕ → ℤ → ℤ → Node → List ℤ → Type 0
+AreNodeRanks vocabulary requests serving asking node ranks = AreEach [] (pos 0) (IsRank vocabulary requests serving asking) node.accept ranks
+
+-- the rank of acceptances with requests, where n parts are in the network
+abbrev pub serving_rank : ℕ → ℕ → ℤ
+serving_rank n height = pos (2 * n) -ℤ pos height
+
+-- the ranks and the laps of the part in place i, which stands at this height
+pub record ArePartRanks (network : Network) (height : ℕ → ℕ) (i : ℕ) (ranks : PartRanks) : Type 0 where
+  pub ranks_are : AreEach no_node [] (AreNodeRanks network.shape.vocabulary (role_at network.roles i).sreq (serving_rank (length network.shape.parts) (height i)) (pos (height i))) (part_at network.shape.parts i).table ranks.ranks
+  pub laps_are : AreEach no_node [] AreNoLaps (part_at network.shape.parts i).table ranks.laps

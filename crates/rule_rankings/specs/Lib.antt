@@ -1,0 +1,4 @@
+pub mod ClientServerRanks
+pub mod CyclicRanks
+pub mod ResourceRanks
+pub mod Rows

@@ -1,0 +1,45 @@
+-- The ranks and laps of a part. (No rule's decider cites this.)
+use Rattle.std.specs.Prelude.{◌≡◌, ◌<◌, ◌≤◌, ◌⊎◌, ◌+◌, ◌-◌, ◌*◌, ℕ, ℤ, pos, List, [], false, IsTrue, length, get_or, replicate, slice_index}
+use Rattle.csp_tables.specs.Part.{part_at, IsNonEmpty, AreApart}
+use Rattle.csp_tables.specs.Table.{Node}
+use Rattle.csp_tables.specs.Trace.{IsWithin}
+use Rattle.csp_tables.specs.Ranking.{PartRanks}
+use Rattle.csp_tables.specs.Roles.{use_at}
+use Rattle.design_rules.specs.Resource.{acquires}
+use Rattle.design_rules.specs.ResourceRanking.{top_number}
+use Rattle.resource_conditions.specs.Setting.{Setting, IsResourcePart, IsUser}
+use Rattle.rule_rankings.specs.Rows.{AreEach, AreNoLaps, no_node}
+
+-- a resource's number is one more than its height
+abbrev pub number_by : List ℕ → ℕ → ℕ
+number_by heights j = slice_index heights j + 1
+
+-- the least number of a resource that the set acquires, where there is one, and else one more than the greatest number
+pub record IsLeastAcquired (g : Setting) (number : ℕ → ℕ) (top : ℕ) (M : List ℕ) (least : ℕ) : Type 0 where
+  pub below : (j : ℕ) → IsTrue (acquires g.uses M j) → least ≤ number j
+  pub attained : (least ≡ top + 1) ⊎ ((j : ℕ) × (j < length g.shape.parts) × IsTrue (acquires g.uses M j) × (number j ≡ least))
+
+-- The rank of an acceptance of the part i: 0 unless it lies in the vocabulary and is not empty. Of a resource it is told by
+-- whether its events acquire it; of a user by the least number of what they acquire.
+pub record IsRank (g : Setting) (number : ℕ → ℕ) (top i : ℕ) (M : List ℕ) (rank : ℤ) : Type 0 where
+  pub other : (IsWithin M g.shape.vocabulary → IsNonEmpty M → ⊥) → rank ≡ pos 0
+  pub free : IsResourcePart g i → IsWithin M g.shape.vocabulary → IsNonEmpty M → IsWithin M (use_at g.uses i).acquire → rank ≡ pos (2 * top + 2)
+  pub held : IsResourcePart g i → IsWithin M g.shape.vocabulary → IsNonEmpty M → AreApart M (use_at g.uses i).acquire → rank ≡ pos (2 * (top - number i) + 1)
+  pub acquiring : (j : ℕ) → IsUser g i → IsWithin M g.shape.vocabulary → j < length g.shape.parts → IsTrue (acquires g.uses M j) → ((m : ℕ) → m < length g.shape.parts → IsTrue (acquires g.uses M m) → number j ≤ number m) → rank ≡ pos (2 * (top - number j) + 2)
+  pub not_acquiring : IsUser g i → ((m : ℕ) → m < length g.shape.parts → acquires g.uses M m ≡ false) → rank ≡ pos 0
+
+abbrev pub AreNodeRanks : Setting → (ℕ → ℕ) → ℕ → ℕ → Node → List ℤ → Type 0
+AreNodeRanks g number top i node ranks = AreEach [] (pos 0) (IsRank g number top i) node.accept ranks
+
+-- the ranks and the laps of the part in place i
+pub record ArePartRanks (g : Setting) (number : ℕ → ℕ) (top i : ℕ) (ranks : PartRanks) : Type 0 where
+  pub ranks_are : AreEach no_node [] (AreNodeRanks g number top i) (part_at g.shape.parts i).table ranks.ranks
+  pub laps_are : AreEach no_node [] AreNoLaps (part_at g.shape.parts i).table ranks.laps
+
+-- The heights are those of the parts, and the top is the greatest number of a resource.
+pub record HaveTop (g : Setting) (heights : List ℕ) (top : ℕ) : Type 0 where
+  pub count : length heights ≡ length g.shape.parts
+  pub is : top ≡ top_number g.uses (number_by heights) (length g.shape.parts)
+  pub above : (j : ℕ) → j < length g.shape.parts → IsResourcePart g j → number_by heights j ≤ top
+  pub few : top ≤ 512
+  pub small : (j : ℕ) → number_by heights j ≤ 512

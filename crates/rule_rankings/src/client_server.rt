@@ -1,0 +1,127 @@
+//! The ranking of a network of clients and servers.
+
+ghost use Rattle.std.specs.Prelude.{◌≡◌, ◌<◌, ◌≤◌, ◌^◌, ◌*◌, ◌++◌, ◌∷◌, [], ℕ, List, All, pos, IfOk, OnOk, length, map, replicate, slice_index};
+ghost use Rattle.csp_tables.specs.Part.{part_at};
+ghost use Rattle.csp_tables.specs.Shape.{IsWellFormed};
+ghost use Rattle.design_rules.specs.ClientServer.{Serves};
+ghost use Rattle.design_rules.specs.ClientServerRanking.{IsClientServerRanking};
+ghost use Rattle.digraph.specs.Walk.{AreHeights};
+ghost use Rattle.rule_rankings.specs.ClientServerRanks.{AreNodeRanks, ArePartRanks, IsRank, serving_rank};
+ghost use Rattle.rule_rankings.specs.Rows.{AreEach, no_node};
+
+use crate::rows::{no_laps, push};
+use client_server_conditions::{Network, part_of};
+use csp_base::{EventSet, NoMemory};
+use csp_tables::{NormNode, PartRanks, Ranking};
+use digraph::Heights;
+use std::alloc::Global;
+
+// The ranks of acceptances with requests to the component as a server, and of others.
+#[derive(Clone, Copy)]
+struct Levels {
+    serving: i64,
+    asking: i64,
+}
+
+/// The ranking with these heights of the parts.
+pub fn client_server_ranking(
+    alloc: Global,
+    network: &Network<'_>,
+    heights: &Heights,
+) -> Result<Ranking, NoMemory>
+    requires heights { AreHeights (Serves network.now.shape network.now.roles) (length network.now.shape.parts) heights.now }
+    requires below { All (λ height. height < length network.now.shape.parts) heights.now }
+    ensures { IfOk result (λ ranking. IsClientServerRanking network.now.shape network.now.roles ranking) }
+{
+    let mut parts = Vec::new(alloc);
+    for part in 0..network.shape().parts().len() {
+        let ranks = part_ranks(alloc, network, heights, part as u32)?;
+        push(&mut parts, ranks)?;
+    }
+    Ok(Ranking::new(0, parts))
+}
+
+// The ranks and the laps of a part.
+fn part_ranks(
+    alloc: Global,
+    network: &Network<'_>,
+    heights: &Heights,
+    part: u32,
+) -> Result<PartRanks, NoMemory>
+    requires part { part < length network.now.shape.parts }
+    requires count { length heights.now ≡ length network.now.shape.parts }
+    requires below { slice_index heights.now part < length network.now.shape.parts }
+    ensures { IfOk result (λ ranks. ArePartRanks network.now (slice_index heights.now) part ranks) }
+{
+    let shape = network.shape();
+    let levels = levels_of(shape.parts().len() as u32, heights.of(part));
+    let nodes = part_of(shape, part).table().nodes();
+    let requests = network.roles(part).sreq();
+    let ranks = rank_rows(alloc, shape.vocabulary(), requests, levels, nodes)?;
+    let laps = no_laps(alloc, nodes)?;
+    Ok(PartRanks::new(ranks, laps))
+}
+
+// The ranks of a part at this height, where there are so many parts.
+fn levels_of(count: u32, height: u32) -> Levels
+    requires few { count ≤ 512 }
+    requires below { height < count }
+    ensures serving { result.serving ≡ serving_rank count height }
+    ensures asking { result.asking ≡ pos height }
+{
+    Levels {
+        serving: 2 * i64::from(count) - i64::from(height),
+        asking: i64::from(height),
+    }
+}
+
+// For each node the ranks of its acceptances.
+fn rank_rows(
+    alloc: Global,
+    vocabulary: &EventSet,
+    requests: &EventSet,
+    levels: Levels,
+    nodes: &[NormNode],
+) -> Result<Vec<Vec<i64>>, NoMemory>
+    ensures { IfOk result (λ rows. AreEach no_node [] (AreNodeRanks vocabulary.now requests.now levels.serving levels.asking) nodes.now (map (λ row. row.items) rows.items)) }
+{
+    let mut rows = Vec::new(alloc);
+    for node in nodes {
+        let row = rank_row(alloc, vocabulary, requests, levels, node.accept())?;
+        rows.push(row)?;
+    }
+    Ok(rows)
+}
+
+// The ranks of some acceptances.
+fn rank_row(
+    alloc: Global,
+    vocabulary: &EventSet,
+    requests: &EventSet,
+    levels: Levels,
+    accept: &[EventSet],
+) -> Result<Vec<i64>, NoMemory>
+    ensures { IfOk result (λ row. AreEach [] (pos 0) (IsRank vocabulary.now requests.now levels.serving levels.asking) accept.now row.items) }
+{
+    let mut row = Vec::new(alloc);
+    for set in accept {
+        row.push(rank_of(vocabulary, requests, levels, set))?;
+    }
+    Ok(row)
+}
+
+// The rank of an acceptance.
+fn rank_of(vocabulary: &EventSet, requests: &EventSet, levels: Levels, set: &EventSet) -> i64
+    ensures { IsRank vocabulary.now requests.now levels.serving levels.asking set.now result }
+{
+    if !set.is_subset(vocabulary) {
+        return 0;
+    }
+    if set.meets(requests) {
+        return levels.serving;
+    }
+    if set.is_empty() {
+        return 0;
+    }
+    levels.asking
+}

@@ -1,0 +1,27 @@
+-- The link of an event, and the links of a part.
+use Rattle.std.specs.Prelude.{◌≡◌, ◌<◌, ℕ, zero, suc, List, [], ◌∷◌, ◌++◌, IsTrue, length, slice_index, slice_index_or, if◌then◌else◌}
+use Rattle.csp_base.specs.Members.{has}
+use Rattle.csp_tables.specs.Shape.{Shape, is_end, link_at}
+
+-- the event is one of the link's
+pub record IsOwner (shape : Shape) (l e : ℕ) : Type 0 where
+  pub within : l < length shape.links
+  pub event : IsTrue (has (link_at shape l).shared e)
+
+-- for each event 1 + the link that has it, 0 where none has
+pub record AreOwners (shape : Shape) (owners : List ℕ) : Type 0 where
+  pub sound : (e l : ℕ) → slice_index owners e ≡ suc l → IsOwner shape l e
+  pub complete : (e l : ℕ) → IsOwner shape l e → slice_index owners e ≡ suc l
+
+-- the links of the part i among the first n, in rising order
+abbrev pub ends_below : Shape → ℕ → ℕ → List ℕ
+ends_below shape i zero = []
+ends_below shape i (suc n) = if is_end shape i n then ends_below shape i n ++ n ∷ [] else ends_below shape i n
+
+abbrev pub ends_of : Shape → ℕ → List ℕ
+ends_of shape i = ends_below shape i (length shape.links)
+
+-- for each part its links among the first n
+pub record AreEnds (shape : Shape) (n : ℕ) (ends : List (List ℕ)) : Type 0 where
+  pub count : length ends ≡ length shape.parts
+  pub each : (i : ℕ) → i < length shape.parts → slice_index_or ends i [] ≡ ends_below shape i n

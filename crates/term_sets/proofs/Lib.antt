@@ -1,0 +1,5 @@
+pub mod Closures
+pub mod First
+pub mod MoveLists
+pub mod Silence
+pub mod Traces
