@@ -90,9 +90,16 @@ fn fault_in(
     ensures known { OnOk result (IsNext known.old decl.now known.new) }
 {
     let mut notes = Notes::new(alloc);
-    note_decl(alloc, names, kinds, known, &mut notes, decl)?;
-    let deep = is_deep(kinds, depths, known.definitions, decl);
-    Ok(fault_of(known.declarations, notes.into_findings(), deep))
+    match note_decl(alloc, names, kinds, known, &mut notes, decl) {
+        Ok(()) => {
+            let deep = is_deep(kinds, depths, known.definitions, decl);
+            Ok(fault_of(known.declarations, notes.into_findings(), deep))
+        }
+        Err(fault) => {
+            drop(notes);
+            Err(fault)
+        }
+    }
 }
 
 // Whether a declaration is a definition of data with the number d that is over 800 deep.
