@@ -50,8 +50,9 @@ fn first_fault(
     ensures { IfOk result (λ fault. fault ≡ fault_from decls.now kinds.now [] decls.now) }
 {
     let mut known = Known::new(alloc);
-    let fault = first_after(alloc, decls, names, kinds, depths, &mut known)?;
-    Ok(fault)
+    let fault = first_after(alloc, decls, names, kinds, depths, &mut known);
+    drop(known);
+    fault
 }
 
 // The first fault of the declarations, of which none is known yet.
