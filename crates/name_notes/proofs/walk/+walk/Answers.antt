@@ -2,8 +2,8 @@ use Rattle.std.proofs.Common.{◌++◌, ap, refl, ◌∙◌, arith}
 use Rattle.std.specs.List.{flat_map}
 use Rattle.script_names.specs.Names.{first_of}
 use Rattle.name_notes.specs.Told.{field_names, fields_told, gen_names, gens_told, pairs_told, parts_told, trees_told}
-use Rattle.name_notes.proofs.Binders.{field_names-Dot, field_names-Output, gen_names-Cond, none_bound, restored}
-use Rattle.name_notes.proofs.ToldEquations.{told-Call, told-Dot, told-If, told-Display, told-Comp, told-Product, told-Guard, told-Parallel, told-EachParallel, told-Seq, told-Hide, told-Rename}
+use Rattle.name_notes.proofs.Binders.{bound_names, field_names-Dot, field_names-Output, gen_names-Cond, none_bound, restored}
+use Rattle.name_notes.proofs.ToldEquations.{told-Call, told-Dot, told-If, told-Display, told-Comp, told-Product, told-Guard, told-Parallel, told-EachParallel, told-Seq, told-Hide, told-Rename, told_forms, told_parts, told_prefix}
 use Rattle.name_notes.proofs.WalkSteps.{fields_told-end, fields_told-step, gens_told-end, gens_told-step, pair_now, pairs_told-end, pairs_told-step, parts_told-end, parts_told-step, trees_told-end, trees_told-step}
 use Rattle.name_tables.proofs.DeclaredLemmas.{flat_end, flat_step}
 use Rattle.name_notes.proofs.walk.+walk.Goals as goal
@@ -197,3 +197,48 @@ walk-returns-in-Rename t c = record {
   notes = rw (c.in-Rename.is, told-Rename) c.walk_renaming.ensures.notes;
   bound = c.walk_renaming.ensures.bound;
 }
+
+pub walk-returns-in-Binary-clause-notes : goal.walk-returns-in-Binary-clause-notes
+walk-returns-in-Binary-clause-notes t c = grind (arith, told_forms)
+
+pub walk-returns-in-EachExternal-clause-notes : goal.walk-returns-in-EachExternal-clause-notes
+walk-returns-in-EachExternal-clause-notes t c = grind (arith, told_forms)
+
+pub walk-returns-in-External-clause-notes : goal.walk-returns-in-External-clause-notes
+walk-returns-in-External-clause-notes t c = grind (arith, told_forms)
+
+pub walk-returns-in-Name-clause-notes : goal.walk-returns-in-Name-clause-notes
+walk-returns-in-Name-clause-notes t c = grind (arith, told_forms)
+
+pub walk-returns-in-Neg-clause-notes : goal.walk-returns-in-Neg-clause-notes
+walk-returns-in-Neg-clause-notes t c = grind (arith, told_forms)
+
+pub walk-returns-in-Num-clause-notes : goal.walk-returns-in-Num-clause-notes
+walk-returns-in-Num-clause-notes t c = grind (arith, told_forms)
+
+pub walk-returns-in-Stop-clause-notes : goal.walk-returns-in-Stop-clause-notes
+walk-returns-in-Stop-clause-notes t c = grind (arith, told_forms)
+
+pub walk_field-returns-in_ok-bind-in-None-clause-notes : goal.walk_field-returns-in_ok-bind-in-None-clause-notes
+walk_field-returns-in_ok-bind-in-None-clause-notes t c = grind (arith, told_parts, bound_names)
+
+pub walk_field-returns-in_ok-bind-in-Some-clause-notes : goal.walk_field-returns-in_ok-bind-in-Some-clause-notes
+walk_field-returns-in_ok-bind-in-Some-clause-notes t c = grind (arith, told_parts, bound_names)
+
+pub walk_field-returns-in_ok-walk-in-Dot-clause-notes : goal.walk_field-returns-in_ok-walk-in-Dot-clause-notes
+walk_field-returns-in_ok-walk-in-Dot-clause-notes t c = grind (arith, told_parts, bound_names)
+
+pub walk_field-returns-in_ok-walk-in-Output-clause-notes : goal.walk_field-returns-in_ok-walk-in-Output-clause-notes
+walk_field-returns-in_ok-walk-in-Output-clause-notes t c = grind (arith, told_parts, bound_names)
+
+pub walk_gen-returns-in_ok-walk-in-Cond-clause-notes : goal.walk_gen-returns-in_ok-walk-in-Cond-clause-notes
+walk_gen-returns-in_ok-walk-in-Cond-clause-notes t c = grind (arith, told_parts, bound_names)
+
+pub walk_gen-returns-in_ok-walk-in-From-clause-notes : goal.walk_gen-returns-in_ok-walk-in-From-clause-notes
+walk_gen-returns-in_ok-walk-in-From-clause-notes t c = grind (arith, told_parts, bound_names)
+
+pub walk_part-returns-clause-notes : goal.walk_part-returns-clause-notes
+walk_part-returns-clause-notes t c = grind (arith, told_parts)
+
+pub walk_prefix-returns-clause-notes : goal.walk_prefix-returns-clause-notes
+walk_prefix-returns-clause-notes t c = grind (arith, told_prefix)
