@@ -2,7 +2,6 @@
 use Rattle.std.proofs.Common.{◌≡◌, ℕ, zero, suc, ◌+◌, ◌-◌, ◌*◌, ◌^◌, ◌<◌, ◌≤◌, List, [], ◌∷◌, length, drop, get_or, drop-cons, add-one, refl, sym, ap, ◌∙◌, arith, rules}
 use Rattle.std.specs.Fmt.{decimal}
 use Rattle.std.specs.Int.{IsInRange}
-use Rattle.std.proofs.Math.ListN.{drop_of_length-le}
 use Rattle.std.proofs.lemmas.Fmt.{decimal-digits_value, digits_decimal, digits_value-decimal, first_decimal, decimal_nonempty, length-decimal-le, decimal_digit}
 use Rattle.std.proofs.lemmas.Str.Parse.{FoldsDigits, IsNumeralModel, digits_value_short, numerals_by_fold, tells_by_index}
 use Rattle.command_words.specs.Numerals.{IsShortNumeral, continued, numeral_value}
@@ -15,9 +14,6 @@ continued_step n i digits within = rw (add-one, drop-cons digits i 0) refl
 pub continued_grows : (n : ℕ) (digits : List ℕ) → n ≤ continued n digits
 continued_grows n [] = omega arith
 continued_grows n (d ∷ digits) = let more = continued_grows (n * 10 + (d - 48)) digits in omega arith
-
-pub continued_end : (n i : ℕ) (digits : List ℕ) → length digits ≤ i → continued n (drop i digits) ≡ n
-continued_end n i digits at_end = ap (continued n) (drop_of_length-le digits at_end)
 
 abbrev AreDigits : List ℕ → Type 0
 AreDigits ds = (i : ℕ) → i < length ds → IsInRange 48 57 (get_or ds i 0)

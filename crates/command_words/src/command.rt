@@ -10,7 +10,7 @@ ghost use Rattle.command_words.specs.declared.command.Trial.{Trial as TrialValue
 ghost use Rattle.command_words.specs.Command.{Asks, AsksForTrial, IsNoTrial, NamesNoScript};
 ghost use Rattle.command_words.specs.Named.{IsNamed};
 
-use crate::numbers::number_of;
+use crate::numbers::spelled_number;
 use crate::words::Words;
 use csp_base::Bytes;
 use csp_tables::Rule;
@@ -110,7 +110,9 @@ fn asked_table(words: &[Bytes]) -> Option<(u32, &[u8])>
     ensures none { IfNone result ((i : ℕ) (script : List ℕ) → Asks words.now (Table i) script → ⊥) }
 {
     match words {
-        [table, script, index] if table.as_slice() == TABLE => match number_of(index.as_slice()) {
+        [table, script, index] if table.as_slice() == TABLE => match spelled_number(
+            index.as_slice(),
+        ) {
             Some(index) => Some((index, script.as_slice())),
             None => None,
         },
@@ -155,7 +157,7 @@ fn named_trial(family: &[u8], size: &[u8]) -> Option<Trial>
     let Some(family) = family_named(family) else {
         return None;
     };
-    let Some(size) = number_of(size) else {
+    let Some(size) = spelled_number(size) else {
         return None;
     };
     trial_of(family, size)

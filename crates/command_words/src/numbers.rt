@@ -43,7 +43,7 @@ fn is_short_numeral(word: &[u8]) -> bool
 }
 
 // The number that the word is, where it is one to six decimal digits without a leading zero.
-pub(crate) fn number_of(word: &[u8]) -> Option<u32>
+pub(crate) fn spelled_number(word: &[u8]) -> Option<u32>
     ensures number { IfSome result (λ n. (n < 1000000) × (word.now ≡ decimal n)) }
     ensures none { IfNone result ((n : ℕ) → n < 1000000 → word.now ≡ decimal n → ⊥) }
 {

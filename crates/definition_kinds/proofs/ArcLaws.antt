@@ -4,14 +4,14 @@ use Rattle.std.specs.Prelude.{Some, None, slice_get, Vec, if◌then◌else◌}
 use Rattle.std.specs.Option.{option_map}
 use Rattle.std.proofs.lemmas.Bool.Decides.{nat_tests}
 use Rattle.std.specs.declared.alloc.Global.{Global}
-use Rattle.std.proofs.lemmas.Bool.{cases_lt, false≢true, lt-ltb, ltb-true, eqb-true}
+use Rattle.std.proofs.lemmas.Bool.{cases_lt, false≢true, lt-ltb, eqb-true}
 use Rattle.std.proofs.lemmas.List.Folds.{list_any_more}
 use Rattle.std.proofs.lemmas.Option.{slice_get_past, slice_get_read, slice_get-map}
 use Rattle.script_names.specs.declared.kinds.End.{End}
 use Rattle.script_names.specs.declared.kinds.End.TheVariants as end
 use Rattle.script_names.specs.Kinds.{ends_at}
 use Rattle.name_tables.specs.Ends.{rows}
-use Rattle.definition_kinds.specs.Sources.{comes_from, is_last, some_from, source_of}
+use Rattle.definition_kinds.specs.Sources.{comes_from, some_from}
 
 pub or_false : (b : Bool) → b ≡ (b || false)
 or_false true = refl
@@ -35,18 +35,6 @@ ends_step n target v w d i ends default now before first within now_is so_far =
 if_some : (b : Bool) (u v : ℕ) → (if b then Some u else None) ≡ Some v → (b ≡ true) × (u ≡ v)
 if_some true u v h = (refl, cc)
 if_some false u v h = absurd (cc)
-
--- no arc comes from beyond the last vertex
-pub source_below : (n : ℕ) (target e : End) (v : ℕ) → source_of n target e ≡ Some v → v < n + 1
-source_below n target (end.Use d) v is =
-    let p = if_some (nat_lt d n) d v is in
-    let below : d < n = ltb-true d n p.0 in
-    let same : d ≡ v = p.1 in
-    omega arith
-source_below n target end.Data v is = let same : n ≡ v = (if_some (is_last target end.Data) n v is).1 in omega arith
-source_below n target end.Process v is = let same : n ≡ v = (if_some (is_last target end.Process) n v is).1 in omega arith
-source_below n target end.Parallel v is = let same : n ≡ v = (if_some (is_last target end.Parallel) n v is).1 in omega arith
-source_below n target end.Nothing v is = let same : n ≡ v = (if_some (is_last target end.Nothing) n v is).1 in omega arith
 
 -- one definition more
 last_or_before : (w d : ℕ) → nat_lt w (d + 1) ≡ (nat_lt w d || nat_eq w d)

@@ -1,6 +1,6 @@
 -- What definitions are, from what is found of them.
 use Rattle.std.proofs.Common.{◌≡◌, ℕ, zero, suc, ◌+◌, ◌<◌, Bool, false, List, [], ◌∷◌, ◌++◌, ◌⊎◌, inl, inr, length, take, get_or, refl, sym, ap, ◌∙◌, subst, arith}
-use Rattle.std.specs.Prelude.{Some, None, slice_get, Vec, ◌↔◌, IsTrue, if◌then◌else◌}
+use Rattle.std.specs.Prelude.{Some, slice_get, Vec, ◌↔◌, IsTrue, if◌then◌else◌}
 use Rattle.std.specs.List.{flat_map}
 use Rattle.std.specs.declared.alloc.Global.{Global}
 use Rattle.std.proofs.Math.Path.{fun_ext}
@@ -32,12 +32,6 @@ snoc_cases (z ∷ zs) x (suc k) y at =
       | inl before ↦ inl before
       | inr last ↦ inr (ap suc last.0, last.1)
     ]
-
-pub found_none : (found : Found) (kinds : List Kind) → kinds ≡ [] → AreFound found 0 kinds
-found_none found kinds none = record {
-  one_each = ap length none;
-  each = λ d kind at. let at_none : None ≡ Some kind = ap (λ (ks : List Kind). slice_get ks d) (sym none) ∙ at in absurd (cc);
-}
 
 pub found_step : (found : Found) (d : ℕ) (kinds new : List Kind) (kind : Kind) → new ≡ kinds ++ kind ∷ [] → kind ≡ kind_found found d → AreFound found d kinds → AreFound found (d + 1) new
 found_step found d kinds new kind new_is is so_far = record {

@@ -22,18 +22,6 @@ stops_left x (suc y) most =
       | inr within ↦ let e : min x most ≡ x = omega arith in ap (λ m. min (m * suc y) most) e
     ]
 
-pub stops_right : (x y most : ℕ) → min (x * min y most) most ≡ min (x * y) most
-stops_right zero y most = omega arith
-stops_right (suc x) y most =
-    elim (cases_lt most y) as (λ _. min (suc x * min y most) most ≡ min (suc x * y) most) [
-      | inl over ↦
-          let e : min y most ≡ most = omega arith in
-          let lesser : min (suc x * most) most ≡ most = omega arith in
-          let greater : min (suc x * y) most ≡ most = omega arith in
-          ap (λ m. min (suc x * m) most) e ∙ lesser ∙ sym greater
-      | inr within ↦ let e : min y most ≡ y = omega arith in ap (λ m. min (suc x * m) most) e
-    ]
-
 -- one more set
 pub count_step : (count next most i : ℕ) (sets : List (List Atom)) (set : List Atom) (whole : ℕ) → i < length sets → set ≡ get_or sets i set
     → next ≡ min (count * length set) most → min (count * row_count (drop i sets)) most ≡ min whole most → min (next * row_count (drop (i + 1) sets)) most ≡ min whole most

@@ -3,9 +3,8 @@ use Rattle.std.proofs.Common.{◌≡◌, ℕ, zero, suc, ◌+◌, ◌<◌, ◌�
 use Rattle.std.specs.Prelude.{Some, None, Result, Ok, Err, slice_get}
 use Rattle.std.specs.Result.{IsErrAnd}
 use Rattle.std.proofs.Math.ListN.{drop_of_length-le}
-use Rattle.std.proofs.lemmas.List.{append-nil, length-append}
+use Rattle.std.proofs.lemmas.List.{append-nil}
 use Rattle.csp_atoms.specs.declared.atom.Atom.{Atom}
-use Rattle.csp_program.specs.EventNumber.{row_count}
 use Rattle.csp_program.specs.EventTable.{channel_events, events_from_channel}
 use Rattle.csp_program.specs.Outcome.{Outcome, and_then}
 use Rattle.csp_program.specs.Value.{value_of}
@@ -106,16 +105,6 @@ drop_none [] zero at = refl
 drop_none [] (suc n) at = refl
 drop_none (y ∷ ys) zero at = absurd (cc)
 drop_none (y ∷ ys) (suc n) at = drop_none ys n at
-
-pub fill_some : (made new channels : List Channel) (channel filled : Channel) (first next : ℕ) (sets : List (List Atom)) (all : List (List (List Atom)))
-    → slice_get all (length made) ≡ Some sets → next ≡ first + row_count sets → filled ≡ record channel { fields = Some sets; first = first } → new ≡ made ++ filled ∷ []
-    → new ++ with_sets next channels (drop (length new) all) ≡ made ++ with_sets first (channel ∷ channels) (drop (length made) all)
-fill_some made new channels channel filled first next sets all at next_is filled_is new_is =
-    let longer : length new ≡ suc (length made) = ap length new_is ∙ length-append made (filled ∷ []) ∙ add-one (length made) in
-    (λ i. new_is i ++ with_sets (next_is i) channels (drop (longer i) all))
-    ∙ append_assoc made (filled ∷ []) (with_sets (first + row_count sets) channels (drop (suc (length made)) all))
-    ∙ ap (λ (one : Channel). made ++ one ∷ with_sets (first + row_count sets) channels (drop (suc (length made)) all)) filled_is
-    ∙ ap (λ rest. made ++ with_sets first (channel ∷ channels) rest) (sym (drop_some all (length made) sets at))
 
 none_left : (first : ℕ) (channels : List Channel) → with_sets first channels [] ≡ []
 none_left first [] = refl

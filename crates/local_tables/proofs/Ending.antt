@@ -32,9 +32,6 @@ sizes_exact (t ∷ ts) h =
     let others : total (map proc_size ts) ≡ total (map counted_size ts) = sizes_exact ts (omega arith) in
     λ i. one i + others i
 
-pub shallow_of : (n : ℕ) → capped n ≤ 800 → n ≤ 800
-shallow_of n h = let low : min n 4294967295 ≤ 800 = h in omega arith
-
 whole : (p : Content) (c : Component Proc) (terms : List Proc) (origins : List Origin) (raw : RawTable) (at : ℕ) → ArePart p c terms origins raw → AreFollowed p c terms raw at → length terms ≤ at → IsTableOf (ProcessStep p) c terms raw
 whole p c terms origins raw at part followed all = record {
   first = part.led.first;

@@ -95,7 +95,3 @@ inside_still old new id front inside = slice_get_within new id.0 (tree_at old id
 pub terms_kept : (old new : List Proc) (ids : List ProcId) → IsFront old new → ((k : ℕ) (id : ProcId) → slice_get ids k ≡ Some id → id.0 < length old) → terms_at new ids ≡ terms_at old ids
 terms_kept old new [] front places = refl
 terms_kept old new (id ∷ ids) front places = λ i. tree_kept old new id front (places 0 id refl) i ∷ terms_kept old new ids front (λ k x h. places (suc k) x h) i
-
--- a place stands in one place where its term does
-pub ids_once : (trees : List Proc) (ids : List ProcId) → EachOnce (terms_at trees ids) → (j k : ℕ) (id : ProcId) → slice_get ids j ≡ Some id → slice_get ids k ≡ Some id → j ≡ k
-ids_once trees ids once j k id h g = once j k (tree_at trees id) (map_at (tree_at trees) ids j id h) (map_at (tree_at trees) ids k id g)

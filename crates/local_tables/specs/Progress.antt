@@ -180,6 +180,6 @@ pub record LeadsToTerm (p : Content) (c : Component Proc) (terms : List Proc) (t
   pub after : After (ComponentStep (ProcessStep p)) c trace (standing_at c term)
 
 -- the events of a step
-abbrev pub events_of : Option ℕ → List ℕ
-events_of None = []
-events_of (Some e) = e ∷ []
+abbrev pub step_events : Option ℕ → List ℕ
+step_events None = []
+step_events (Some e) = e ∷ []

@@ -10,7 +10,7 @@ ghost use Rattle.local_tables.specs.Progress.{CanBePassed, HasMore, HasStepMore,
 ghost use Rattle.local_tables.specs.Stops.{PassesSteps, StopsAt};
 
 use crate::fault::{LocalFault, Stop};
-use crate::found::{Found, Task, begin, number_of};
+use crate::found::{Found, Task, begin, term_number};
 use crate::local_table::{LocalTable, Room};
 use crate::origins::trace_to;
 use csp_base::{Event, EventSet, NoMemory};
@@ -54,7 +54,9 @@ fn table_of(alloc: Global, task: &Task<'_>) -> Result<LocalTable, LocalFault>
     ensures fault { IfErr result (Tells task.now.program.now (component task.now.alphabet.now task.now.start.now) task.now.room) }
 {
     let mut found = Found::new(alloc);
-    explored(alloc, task, &mut found)
+    let table = explored(alloc, task, &mut found);
+    drop(found);
+    table
 }
 
 // The same, from where nothing is found yet.
@@ -228,7 +230,7 @@ fn lead(
     ensures within { OnOk result (IsWithin task.now.room found.new) }
     ensures stop { IfErr result (StopsAt task.now.program.now (component task.now.alphabet.now task.now.start.now) task.now.room found.new) }
 {
-    let number = number_of(task, found, from, &event, to)?;
+    let number = term_number(task, found, from, &event, to)?;
     add_step(&mut found.table, from, event, number)?;
     check_steps(&task.room, &found.table)
 }

@@ -76,7 +76,7 @@ pub(crate) fn begin(task: &Task<'_>, found: &mut Found) -> Result<(), Stop>
 }
 
 // The number of the term at a place of the pool, to which a step leads from the term with the number `from`.
-pub(crate) fn number_of(
+pub(crate) fn term_number(
     task: &Task<'_>,
     found: &mut Found,
     from: u32,

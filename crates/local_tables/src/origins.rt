@@ -4,7 +4,7 @@ ghost use Rattle.std.specs.Prelude.{◌≡◌, ◌+◌, ◌<◌, ◌≤◌, ◌+
 ghost use Rattle.csp_program.specs.declared.processes.Proc.{Proc};
 ghost use Rattle.csp_program.specs.declared.programs.Content.{Content};
 ghost use Rattle.csp_tables.specs.Network.{Component};
-ghost use Rattle.local_tables.specs.Progress.{AreLed, LeadsToTerm, Origin, events_of};
+ghost use Rattle.local_tables.specs.Progress.{AreLed, LeadsToTerm, Origin, step_events};
 
 use csp_base::{Event, NoMemory, Trace};
 use std::alloc::Global;
@@ -48,7 +48,7 @@ fn events_to(
 
 // The event of a step, if it has one, at the end.
 fn push_event(events: &mut Vec<Event>, event: Option<Event>) -> Result<(), NoMemory>
-    ensures { OnOk result (events.new.items ≡ events.old.items ++ events_of event) }
+    ensures { OnOk result (events.new.items ≡ events.old.items ++ step_events event) }
 {
     let Some(event) = event else {
         return Ok(());

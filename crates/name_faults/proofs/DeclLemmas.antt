@@ -1,5 +1,6 @@
 -- What each form of declaration says, step by step.
-use Rattle.std.proofs.Common.{◌≡◌, List, [], ◌∷◌, ◌++◌, slice_get, sym, ap, ◌∙◌}
+use Rattle.std.proofs.Common.{◌≡◌, List, [], ◌∷◌, ◌++◌, slice_get, refl, sym, ap, subst, ◌∙◌}
+use Rattle.std.proofs.lemmas.List.{append-nil}
 use Rattle.csp_text.specs.declared.script.Decl.{Decl}
 use Rattle.csp_text.specs.declared.script.Decl.TheVariants as decl
 use Rattle.csp_text.specs.declared.tree.Tree.{Tree}
@@ -45,3 +46,7 @@ module _ (m : Meanings) (kinds : List Kind) (k : Known) (d : Decl) (n : Notes) w
       ∙ ap (λ p. heard_all m kinds p body) (parameters_are m kinds [] named params)
       ∙ sym (heard_all-append m kinds named (parameters_after [] params) body)
       ∙ ap (λ e. heard_all m kinds n (says_after m kinds k e)) (sym is)
+
+-- no names are known besides
+pub none_more : (xs none : List Name) → none ≡ [] → SameNames xs (xs ++ none)
+none_more xs none is = subst (λ ys. SameNames xs (xs ++ ys)) (sym is) (subst (SameNames xs) (sym (append-nil xs)) (λ x. refl))

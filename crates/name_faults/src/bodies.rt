@@ -99,6 +99,11 @@ fn body_at(
     ensures { IfOk result (λ body. body ≡ found.body_of (tree_says (first_of names.now) tree.now place params.now)) }
 {
     let mut notes = Notes::new(alloc);
-    note_tree(alloc, names, kinds, &mut notes, params, place, tree)?;
-    Ok(notes.into_body())
+    match note_tree(alloc, names, kinds, &mut notes, params, place, tree) {
+        Ok(()) => Ok(notes.into_body()),
+        Err(fault) => {
+            drop(notes);
+            Err(fault)
+        }
+    }
 }

@@ -168,6 +168,22 @@ fn note_parameters(
     ensures { OnOk result (notes.new ≡ parameters_heard (first_of names.now) [] notes.old xs.now) }
 {
     let mut before = NameSet::new(alloc);
+    let noted = note_each(alloc, names, &mut before, notes, xs);
+    drop(before);
+    noted
+}
+
+// Notes parameters, of which none comes before the first.
+fn note_each(
+    alloc: Global,
+    names: &Dictionary,
+    before: &mut NameSet,
+    notes: &mut Notes,
+    xs: &[Name],
+) -> Result<(), NoMemory>
+    requires { before.old ≡ [] }
+    ensures { OnOk result (notes.new ≡ parameters_heard (first_of names.now) [] notes.old xs.now) }
+{
     for x in xs {
         let repeats = before.add(alloc, x)?;
         note_bound(alloc, names, notes, x, repeats)?;

@@ -50,8 +50,9 @@ fn first_fault(
     ensures { IfOk result (λ fault. fault ≡ fault_from decls.now kinds.now [] decls.now) }
 {
     let mut known = Known::new(alloc);
-    let fault = first_after(alloc, decls, names, kinds, depths, &mut known)?;
-    Ok(fault)
+    let fault = first_after(alloc, decls, names, kinds, depths, &mut known);
+    drop(known);
+    fault
 }
 
 // The first fault of the declarations, of which none is known yet.
@@ -90,9 +91,16 @@ fn fault_in(
     ensures known { OnOk result (IsNext known.old decl.now known.new) }
 {
     let mut notes = Notes::new(alloc);
-    note_decl(alloc, names, kinds, known, &mut notes, decl)?;
-    let deep = is_deep(kinds, depths, known.definitions, decl);
-    Ok(fault_of(known.declarations, notes.into_findings(), deep))
+    match note_decl(alloc, names, kinds, known, &mut notes, decl) {
+        Ok(()) => {
+            let deep = is_deep(kinds, depths, known.definitions, decl);
+            Ok(fault_of(known.declarations, notes.into_findings(), deep))
+        }
+        Err(fault) => {
+            drop(notes);
+            Err(fault)
+        }
+    }
 }
 
 // Whether a declaration is a definition of data with the number d that is over 800 deep.

@@ -3,9 +3,14 @@
 //! The file TEXTS holds texts, each below a line that begins with `=== ` and says what the text is an example of. Each is shown, what was shown is
 //! shown again, and each is judged. Of the text in the file SCRIPT, each front is shown, and judged by the rule of users and resources. The file ROWS
 //! holds texts too, each below a line that begins with `=== ` and has the words of a command, with SCRIPT for the text, then a colon, and what the text
-//! is an example of.
+//! is an example of. Last comes what is answered over devices that fail.
 #![tactic(auto)]
 
+mod devices;
+mod system;
+
+use crate::devices::push_devices;
+use crate::system::push_system;
 use csp_base::{Bytes, NoMemory};
 use dl_outside::{FileShelf, Shelf, StdSink, SureShelf, SureSink};
 use dl_top::send::send;
@@ -30,12 +35,18 @@ const CHECK_RESOURCE: [&[u8]; 3] = [b"check", b"resource", b"text"];
 /// What is printed before the place of a text that is no script.
 const NO_SCRIPT: &[u8] = b"refused\n1 no script near line ";
 
-/// The status of the command for the text, and what is sent.
-fn answered(alloc: Global, words: &[&[u8]], text: &[u8]) -> Result<(u8, SureSink), NoMemory> {
+/// The command of these words.
+fn command(alloc: Global, words: &[&[u8]]) -> Result<Words, NoMemory> {
     let mut asked = Words::new(alloc);
     for word in words {
         asked.push(word)?;
     }
+    Ok(asked)
+}
+
+/// The status of the command for the text, and what is sent.
+fn answered(alloc: Global, words: &[&[u8]], text: &[u8]) -> Result<(u8, SureSink), NoMemory> {
+    let asked = command(alloc, words)?;
     answered_words(alloc, &asked, text)
 }
 
@@ -48,11 +59,28 @@ fn answered_words(alloc: Global, asked: &Words, text: &[u8]) -> Result<(u8, Sure
     Ok((status, out))
 }
 
+/// Adds the line that answers stand below.
+fn push_title(lines: &mut Bytes, title: &[u8]) -> Result<(), NoMemory> {
+    lines.extend_from_slice(b"=== ")?;
+    lines.extend_from_slice(title)?;
+    lines.push(b'\n')
+}
+
 /// Adds a line of a label and a status.
 fn push_status(alloc: Global, lines: &mut Bytes, label: &[u8], status: u8) -> Result<(), NoMemory> {
     let status = format!(in alloc; "{status}\n")?;
     lines.extend_from_slice(label)?;
     lines.extend_from_slice(status.as_bytes())
+}
+
+/// Adds what is answered where what was shown is shown again, and what is shown then if that is another text.
+fn push_shown_again(alloc: Global, lines: &mut Bytes, shown: &[u8]) -> Result<(), NoMemory> {
+    let (status, out) = answered(alloc, &SHOW, shown)?;
+    push_status(alloc, lines, b"show again ", status)?;
+    if out.sent() != shown {
+        lines.extend_from_slice(out.sent())?;
+    }
+    Ok(())
 }
 
 /// Adds what is answered where the text is shown, and whether what is shown then is shown as the same text.
@@ -61,11 +89,7 @@ fn push_shown(alloc: Global, lines: &mut Bytes, text: &[u8]) -> Result<(), NoMem
     push_status(alloc, lines, b"show ", status)?;
     lines.extend_from_slice(out.sent())?;
     if status == 0 {
-        let (again, twice) = answered(alloc, &SHOW, out.sent())?;
-        push_status(alloc, lines, b"show again ", again)?;
-        if twice.sent() != out.sent() {
-            lines.extend_from_slice(twice.sent())?;
-        }
+        push_shown_again(alloc, lines, out.sent())?;
     }
     Ok(())
 }
@@ -91,9 +115,7 @@ fn cut_at<'a>(bytes: &'a [u8], mark: &[u8]) -> Option<(&'a [u8], &'a [u8])> {
 /// Adds the line that the text stands below, and the answers to the text.
 fn push_answers(alloc: Global, lines: &mut Bytes, titled: &[u8]) -> Result<(), NoMemory> {
     let (title, text) = cut_at(titled, b"\n").unwrap_or((titled, b""));
-    lines.extend_from_slice(b"=== ")?;
-    lines.extend_from_slice(title)?;
-    lines.push(b'\n')?;
+    push_title(lines, title)?;
     push_shown(alloc, lines, text)?;
     push_judged(alloc, lines, text)
 }
@@ -140,9 +162,7 @@ fn words_of(alloc: Global, line: &[u8]) -> Result<Words, NoMemory> {
 /// Adds the line that a row stands below, and what the command of the row answers.
 fn push_row(alloc: Global, lines: &mut Bytes, titled: &[u8]) -> Result<(), NoMemory> {
     let (title, text) = cut_at(titled, b"\n").unwrap_or((titled, b""));
-    lines.extend_from_slice(b"=== ")?;
-    lines.extend_from_slice(title)?;
-    lines.push(b'\n')?;
+    push_title(lines, title)?;
     let (command, _) = cut_at(title, b" : ").unwrap_or((title, b""));
     let asked = words_of(alloc, command)?;
     let (status, out) = answered_words(alloc, &asked, text)?;
@@ -201,13 +221,16 @@ fn push_fronts(alloc: Global, lines: &mut Bytes, text: &[u8]) -> Result<(), NoMe
     lines.extend_from_slice(line.as_bytes())
 }
 
-/// The lines for the texts of the files.
-fn answers(alloc: Global, texts: &[u8], script: &[u8], rows: &[u8]) -> Result<Bytes, NoMemory> {
+/// The lines for the texts of the files, and for devices that fail.
+fn answers(rt: &HostRuntime, texts: &[u8], script: &[u8], rows: &[u8]) -> Result<Bytes, NoMemory> {
+    let alloc = rt.alloc();
     let mut lines = Bytes::new(alloc);
     push_all_answers(alloc, &mut lines, texts)?;
-    lines.extend_from_slice(b"=== each front of the script\n")?;
+    push_title(&mut lines, b"each front of the script")?;
     push_fronts(alloc, &mut lines, script)?;
     push_rows(alloc, &mut lines, rows)?;
+    push_devices(alloc, &mut lines)?;
+    push_system(rt, &mut lines)?;
     Ok(lines)
 }
 
@@ -235,7 +258,7 @@ fn main(rt: HostRuntime) -> ExitCode {
     let Ok(rows) = shelf.load(alloc, rows.as_bytes(), FILE_LIMIT) else {
         return ExitCode::from(4);
     };
-    let Ok(lines) = answers(alloc, texts.as_slice(), script.as_slice(), rows.as_slice()) else {
+    let Ok(lines) = answers(&rt, texts.as_slice(), script.as_slice(), rows.as_slice()) else {
         return ExitCode::from(5);
     };
     match send(&mut StdSink::new(&rt), lines.as_slice()) {

@@ -42,5 +42,5 @@ unnamed name number f n None is small num none = λ trial named.
 
 pub returns-clause-none : goal.returns-clause-none
 returns-clause-none c =
-    unnamed _ _ c.in-Some.family c.in-Some-number_of.size c.trial_of.result c.in-Some.ensures.named c.in-Some-number_of.ensures.number.0
-    c.in-Some-number_of.ensures.number.1 c.trial_of.ensures.none
+    unnamed _ _ c.in-Some.family c.in-Some-spelled_number.size c.trial_of.result c.in-Some.ensures.named c.in-Some-spelled_number.ensures.number.0
+    c.in-Some-spelled_number.ensures.number.1 c.trial_of.ensures.none

@@ -2,7 +2,7 @@ use Rattle.std.proofs.Common.{◌≡◌, ◌-◌, ◌<◌, ◌≤◌, ℕ, List,
 use Rattle.std.specs.Prelude.{reverse, slice_get, slice_index_or}
 use Rattle.std.proofs.lemmas.List.{get_or_default}
 use Rattle.std.proofs.lemmas.Option.{slice_get-get_or}
-use Rattle.local_tables.specs.Progress.{LeadsToTerm, Origin, events_of}
+use Rattle.local_tables.specs.Progress.{LeadsToTerm, Origin, step_events}
 use Rattle.local_tables.proofs.Walking.{back_one, leads_nowhere}
 use Rattle.local_tables.proofs.origins.events_to.Goals as goal
 
@@ -17,7 +17,7 @@ loop-at-preserved c =
     record {
       within = omega arith;
       leads = λ p d terms led s l.
-          subst (λ (zs : List ℕ). LeadsToTerm p d terms (s ++ reverse zs) c.args.number) (sym (c.in_ok-push_event.ensures ∙ ap (λ (z : Origin). c.loop-at.events.items ++ events_of z.1) (get_or_default origins (c.loop-at.at - 1) c.index-origins-at-in-loop-at.result c.index-origins-at.result (omega arith))))
+          subst (λ (zs : List ℕ). LeadsToTerm p d terms (s ++ reverse zs) c.args.number) (sym (c.in_ok-push_event.ensures ∙ ap (λ (z : Origin). c.loop-at.events.items ++ step_events z.1) (get_or_default origins (c.loop-at.at - 1) c.index-origins-at-in-loop-at.result c.index-origins-at.result (omega arith))))
           (back_one p d terms origins c.loop-at.at o c.loop-at.events.items c.args.number led some is (c.loop-at.invariant.leads p d terms led) s l);
     }
 

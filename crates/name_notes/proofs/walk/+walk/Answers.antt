@@ -2,7 +2,8 @@ use Rattle.std.proofs.Common.{◌++◌, ap, refl, ◌∙◌, arith}
 use Rattle.std.specs.List.{flat_map}
 use Rattle.script_names.specs.Names.{first_of}
 use Rattle.name_notes.specs.Told.{field_names, fields_told, gen_names, gens_told, pairs_told, parts_told, trees_told}
-use Rattle.name_notes.proofs.Binders.{field_names-Dot, field_names-Output, gen_names-Cond, none_bound, restored}
+use Rattle.name_notes.proofs.Binders.{bound_names, field_names-Dot, field_names-Output, gen_names-Cond, none_bound, restored}
+use Rattle.name_notes.proofs.ToldEquations.{told-Call, told-Dot, told-If, told-Display, told-Comp, told-Product, told-Guard, told-Parallel, told-EachParallel, told-Seq, told-Hide, told-Rename, told_forms, told_parts, told_prefix}
 use Rattle.name_notes.proofs.WalkSteps.{fields_told-end, fields_told-step, gens_told-end, gens_told-step, pair_now, pairs_told-end, pairs_told-step, parts_told-end, parts_told-step, trees_told-end, trees_told-step}
 use Rattle.name_tables.proofs.DeclaredLemmas.{flat_end, flat_step}
 use Rattle.name_notes.proofs.walk.+walk.Goals as goal
@@ -118,3 +119,126 @@ walk_pairs_under-returns-clause-bound t c = restored _ _ _ c.args.bound.now _ _ 
 pub walk_prefix-returns-clause-bound : goal.walk_prefix-returns-clause-bound
 walk_prefix-returns-clause-bound t c =
     restored _ _ _ c.args.bound.now _ _ (c.len-mark.ensures) c.in_ok-walk_fields.ensures.bound c.in_ok-walk.ensures.bound c.leave.ensures
+
+pub walk-returns-in-Call : goal.walk-returns-in-Call
+walk-returns-in-Call t c = record {
+  notes = rw (c.in-Call.is, told-Call) c.walk_call.ensures.notes;
+  bound = c.walk_call.ensures.bound;
+}
+
+pub walk-returns-in-Dot : goal.walk-returns-in-Dot
+walk-returns-in-Dot t c = record {
+  notes = rw (c.in-Dot.is, told-Dot) c.walk_dot.ensures.notes;
+  bound = c.walk_dot.ensures.bound;
+}
+
+pub walk-returns-in-If : goal.walk-returns-in-If
+walk-returns-in-If t c = record {
+  notes = rw (c.in-If.is, told-If) c.walk_choice.ensures.notes;
+  bound = c.walk_choice.ensures.bound;
+}
+
+pub walk-returns-in-Display : goal.walk-returns-in-Display
+walk-returns-in-Display t c = record {
+  notes = rw (c.in-Display.is, told-Display) c.walk_display.ensures.notes;
+  bound = c.walk_display.ensures.bound;
+}
+
+pub walk-returns-in-Comp : goal.walk-returns-in-Comp
+walk-returns-in-Comp t c = record {
+  notes = rw (c.in-Comp.is, told-Comp) c.walk_comprehension.ensures.notes;
+  bound = c.walk_comprehension.ensures.bound;
+}
+
+pub walk-returns-in-Product : goal.walk-returns-in-Product
+walk-returns-in-Product t c = record {
+  notes = rw (c.in-Product.is, told-Product) c.walk_product.ensures.notes;
+  bound = c.walk_product.ensures.bound;
+}
+
+pub walk-returns-in-Prefix : goal.walk-returns-in-Prefix
+walk-returns-in-Prefix t c = record {
+  notes = rw c.in-Prefix.is c.walk_prefix.ensures.notes;
+  bound = c.walk_prefix.ensures.bound;
+}
+
+pub walk-returns-in-Guard : goal.walk-returns-in-Guard
+walk-returns-in-Guard t c = record {
+  notes = rw (c.in-Guard.is, told-Guard) c.walk_guard.ensures.notes;
+  bound = c.walk_guard.ensures.bound;
+}
+
+pub walk-returns-in-Parallel : goal.walk-returns-in-Parallel
+walk-returns-in-Parallel t c = record {
+  notes = rw (c.in-Parallel.is, told-Parallel) c.walk_parallel.ensures.notes;
+  bound = c.walk_parallel.ensures.bound;
+}
+
+pub walk-returns-in-EachParallel : goal.walk-returns-in-EachParallel
+walk-returns-in-EachParallel t c = record {
+  notes = rw (c.in-EachParallel.is, told-EachParallel) c.walk_each_parallel.ensures.notes;
+  bound = c.walk_each_parallel.ensures.bound;
+}
+
+pub walk-returns-in-Seq : goal.walk-returns-in-Seq
+walk-returns-in-Seq t c = record {
+  notes = rw (c.in-Seq.is, told-Seq) c.walk_sequence.ensures.notes;
+  bound = c.walk_sequence.ensures.bound;
+}
+
+pub walk-returns-in-Hide : goal.walk-returns-in-Hide
+walk-returns-in-Hide t c = record {
+  notes = rw (c.in-Hide.is, told-Hide) c.walk_hiding.ensures.notes;
+  bound = c.walk_hiding.ensures.bound;
+}
+
+pub walk-returns-in-Rename : goal.walk-returns-in-Rename
+walk-returns-in-Rename t c = record {
+  notes = rw (c.in-Rename.is, told-Rename) c.walk_renaming.ensures.notes;
+  bound = c.walk_renaming.ensures.bound;
+}
+
+pub walk-returns-in-Binary-clause-notes : goal.walk-returns-in-Binary-clause-notes
+walk-returns-in-Binary-clause-notes t c = grind (arith, told_forms)
+
+pub walk-returns-in-EachExternal-clause-notes : goal.walk-returns-in-EachExternal-clause-notes
+walk-returns-in-EachExternal-clause-notes t c = grind (arith, told_forms)
+
+pub walk-returns-in-External-clause-notes : goal.walk-returns-in-External-clause-notes
+walk-returns-in-External-clause-notes t c = grind (arith, told_forms)
+
+pub walk-returns-in-Name-clause-notes : goal.walk-returns-in-Name-clause-notes
+walk-returns-in-Name-clause-notes t c = grind (arith, told_forms)
+
+pub walk-returns-in-Neg-clause-notes : goal.walk-returns-in-Neg-clause-notes
+walk-returns-in-Neg-clause-notes t c = grind (arith, told_forms)
+
+pub walk-returns-in-Num-clause-notes : goal.walk-returns-in-Num-clause-notes
+walk-returns-in-Num-clause-notes t c = grind (arith, told_forms)
+
+pub walk-returns-in-Stop-clause-notes : goal.walk-returns-in-Stop-clause-notes
+walk-returns-in-Stop-clause-notes t c = grind (arith, told_forms)
+
+pub walk_field-returns-in_ok-bind-in-None-clause-notes : goal.walk_field-returns-in_ok-bind-in-None-clause-notes
+walk_field-returns-in_ok-bind-in-None-clause-notes t c = grind (arith, told_parts, bound_names)
+
+pub walk_field-returns-in_ok-bind-in-Some-clause-notes : goal.walk_field-returns-in_ok-bind-in-Some-clause-notes
+walk_field-returns-in_ok-bind-in-Some-clause-notes t c = grind (arith, told_parts, bound_names)
+
+pub walk_field-returns-in_ok-walk-in-Dot-clause-notes : goal.walk_field-returns-in_ok-walk-in-Dot-clause-notes
+walk_field-returns-in_ok-walk-in-Dot-clause-notes t c = grind (arith, told_parts, bound_names)
+
+pub walk_field-returns-in_ok-walk-in-Output-clause-notes : goal.walk_field-returns-in_ok-walk-in-Output-clause-notes
+walk_field-returns-in_ok-walk-in-Output-clause-notes t c = grind (arith, told_parts, bound_names)
+
+pub walk_gen-returns-in_ok-walk-in-Cond-clause-notes : goal.walk_gen-returns-in_ok-walk-in-Cond-clause-notes
+walk_gen-returns-in_ok-walk-in-Cond-clause-notes t c = grind (arith, told_parts, bound_names)
+
+pub walk_gen-returns-in_ok-walk-in-From-clause-notes : goal.walk_gen-returns-in_ok-walk-in-From-clause-notes
+walk_gen-returns-in_ok-walk-in-From-clause-notes t c = grind (arith, told_parts, bound_names)
+
+pub walk_part-returns-clause-notes : goal.walk_part-returns-clause-notes
+walk_part-returns-clause-notes t c = grind (arith, told_parts)
+
+pub walk_prefix-returns-clause-notes : goal.walk_prefix-returns-clause-notes
+walk_prefix-returns-clause-notes t c = grind (arith, told_prefix)

@@ -4,7 +4,7 @@ use Rattle.script_names.specs.Names.{first_of}
 use Rattle.name_notes.specs.Heard.{again_heard}
 use Rattle.name_faults.specs.Known.{parameters_heard}
 use Rattle.name_faults.proofs.KnownLemmas.{parameters_end, parameters_step}
-use Rattle.name_faults.proofs.declarations.note_parameters.Goals as goal
+use Rattle.name_faults.proofs.declarations.note_each.Goals as goal
 
 pub loop-x-preserved : goal.loop-x-preserved
 loop-x-preserved c =

@@ -2,7 +2,7 @@ use Rattle.std.proofs.Common.{◌<◌, subst, sym, ap, ◌∙◌}
 use Rattle.std.proofs.lemmas.Bool.{false≢true}
 use Rattle.std.specs.Fmt.{decimal}
 use Rattle.command_words.proofs.Digits.{decimal_is_numeral, numeral_is_decimal, numeral_is_small}
-use Rattle.command_words.proofs.numbers.number_of.Goals as goal
+use Rattle.command_words.proofs.numbers.spelled_number.Goals as goal
 
 pub returns-then-not-is_short_numeral-clause-none : goal.returns-then-not-is_short_numeral-clause-none
 returns-then-not-is_short_numeral-clause-none c n few is =
