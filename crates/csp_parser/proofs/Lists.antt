@@ -9,7 +9,7 @@ use Rattle.csp_text.specs.declared.tree.Tree.{Tree}
 use Rattle.csp_text.specs.declared.script.Decl.{Decl}
 use Rattle.csp_grammar.specs.Reader.{and_then}
 use Rattle.csp_grammar.specs.Tokens.{skip}
-use Rattle.tree_reading.specs.Limited.{Limited, limited, read_declaration}
+use Rattle.tree_reading.specs.Limited.{Limited, read_declaration}
 use Rattle.tree_reading.specs.Nesting.{whole}
 use Rattle.tree_reading.specs.Settled.{Settles}
 use Rattle.tree_reading.specs.Starts.{named}
@@ -35,15 +35,15 @@ in_turn put step None s = s
 in_turn put step (Some c) s = s
 
 -- one more part
-one_more : {A B C : Type 0} {F : Limited → Option A} {G : Limited → Option B} {H : Limited → Option C} (put : B → A) (step : C → B) →
+one_more : {A B C : Type 0} {F : Limited → Option A} {G : Limited → Option B} {H : Limited → Option C} {put : B → A} {step : C → B} →
     Continues F G put → Continues G H step → Continues F H (λ c. put (step c))
-one_more put step c d = record { follows = λ o s. in_turn put step o (c.follows _ (d.follows o s)) }
+one_more {put = put} {step = step} c d = record { follows = λ o s. in_turn put step o (c.follows _ (d.follows o s)) }
 
 -- a list in front of which one more part is put
 list_more : {E : Type 0} {F G H : Limited → Option (List E × List Token)} {x : E} (done : List E) →
     Continues F G (λ p. (done ++ p.0, p.1)) → Continues G H (λ p. (x ∷ p.0, p.1)) → Continues F H (λ p. ((done ++ x ∷ []) ++ p.0, p.1))
 list_more {E} {F} {G} {H} {x} done c d =
-    subst (λ put. Continues F H put) (λ i p. (sym (append_assoc done (x ∷ []) p.0) i, p.1)) (one_more (λ p. (done ++ p.0, p.1)) (λ p. (x ∷ p.0, p.1)) c d)
+    subst (λ put. Continues F H put) (λ i p. (sym (append_assoc done (x ∷ []) p.0) i, p.1)) (one_more c d)
 
 -- what is made of what another reads
 put_by : {A B : Type 0} {F : Limited → Option A} {o : Option A} (g : A → B) → Settles F o → Settles (λ L. and_then (F L) λ a. Some (g a)) (and_then o λ a. Some (g a))
@@ -69,7 +69,7 @@ names_more {s} {all} {ts} {us} {vs} {done} {new} {x} so_far e f n =
 pub names_end : {s : Symbol} {all ts us : List Token} {done new : List (List ℕ)} {x : List ℕ} → NamesSoFar s all done ts →
     named ts ≡ Some (x, us) → skip s us ≡ None → new ≡ done ++ x ∷ [] → Settles (λ L. L.names s all) (Some (new, us))
 names_end {s} {all} {ts} {us} {done} {new} {x} so_far e f n =
-    subst (λ d. Settles (λ L. L.names s all) (Some (d, us))) (sym n) (so_far.continues.follows _ (later (look _ e (not_there _ _ f now))))
+    subst (λ d. Settles (λ L. L.names s all) (Some (d, us))) (sym n) (so_far.continues.follows (Some (x ∷ [], us)) (later (look _ e (not_there _ _ f now))))
 
 pub names_stop : {s : Symbol} {all ts : List Token} {done : List (List ℕ)} → NamesSoFar s all done ts → named ts ≡ None → Settles (λ L. L.names s all) None
 names_stop so_far e = so_far.continues.follows None (later (look_none _ e))
@@ -94,7 +94,7 @@ types_more {all} {ts} {us} {vs} {done} {new} {a} so_far r f n =
 pub types_end : {all ts us : List Token} {done new : List Tree} {a : Tree} → TypesSoFar all done ts →
     Settles (λ L. L.atom whole ts) (Some (a, us)) → skip Dot us ≡ None → new ≡ done ++ a ∷ [] → Settles (λ L. L.types all) (Some (new, us))
 types_end {all} {ts} {us} {done} {new} {a} so_far r f n =
-    subst (λ d. Settles (λ L. L.types all) (Some (d, us))) (sym n) (so_far.continues.follows _ (later (bind _ r (not_there _ _ f now))))
+    subst (λ d. Settles (λ L. L.types all) (Some (d, us))) (sym n) (so_far.continues.follows (Some (a ∷ [], us)) (later (bind _ r (not_there _ _ f now))))
 
 pub types_stop : {all ts : List Token} {done : List Tree} → TypesSoFar all done ts → Settles (λ L. L.atom whole ts) None → Settles (λ L. L.types all) None
 types_stop so_far r = so_far.continues.follows None (later (bind_none _ r))
@@ -118,7 +118,7 @@ declarations_more [] so_far has_token r n = absurd (omega arith)
 declarations_more {all} {us} {done} {new} {d} (t ∷ ts) so_far has_token r n =
     subst (λ ds. DeclarationsSoFar all ds us) (sym n) (record {
       continues = subst (λ put. Continues (λ L. L.declarations all) (λ L. L.declarations us) put) (λ i ds. sym (append_assoc done (d ∷ []) ds) i)
-          (one_more (λ ds. done ++ ds) (λ ds. d ∷ ds) so_far.continues (declaration_before r));
+          (one_more so_far.continues (declaration_before r));
     })
 
 pub declarations_end : {all : List Token} {done : List Decl} (ts : List Token) → DeclarationsSoFar all done ts → length ts ≡ 0 → Settles (λ L. L.declarations all) (Some done)

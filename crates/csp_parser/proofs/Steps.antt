@@ -2,7 +2,7 @@
 use Rattle.std.proofs.Common.{◌≡◌, Some, None, List, [], sym, subst}
 use Rattle.std.specs.Prelude.{ℕ}
 use Rattle.csp_text.specs.declared.token.Token.{Token}
-use Rattle.csp_text.specs.declared.token.Symbol.TheVariants.{Bar, Colon, Comma, Defines}
+use Rattle.csp_text.specs.declared.token.Symbol.TheVariants.{Bar, CloseParen, Colon, Comma, Defines, OpenParen}
 use Rattle.csp_text.specs.declared.tree.Tree.{Tree}
 use Rattle.csp_text.specs.declared.script.Decl.TheVariants as decl
 use Rattle.csp_grammar.specs.Tokens.{skip}
@@ -60,6 +60,11 @@ pub nametype_empty : (ts : List Token) {us vs : List Token} {x : List ℕ} → n
 nametype_empty ts e f r = look _ e (look _ f (bind_none _ r))
 
 -- DEFINITIONS
+
+-- the parenthesis of parameters that none closes
+pub parameters_open : (ts : List Token) {us vs : List Token} {xs : List (List ℕ)} → skip OpenParen ts ≡ Some us → Settles (λ L. L.names Comma us) (Some (xs, vs)) → skip CloseParen vs ≡ None →
+    Settles (λ L. read_parameters L ts) None
+parameters_open ts e r f = there _ _ e (bind _ r (look_none _ f))
 
 pub definition_named : {f g : List ℕ} (ts : List Token) {ws : List Token} {xs : List (List ℕ)} {t : Tree} → g ≡ f → Settles (λ L. read_definition L f ts) (Some (decl.Define f xs t, ws)) →
     Settles (λ L. read_definition L f ts) (Some (decl.Define g xs t, ws))
