@@ -1,5 +1,5 @@
 -- Every step comes to what the reader of the grammar makes of it.
-use Rattle.std.proofs.Common.{◌≡◌, ℕ, true, List, [], ◌∷◌, ◌++◌, refl, subst}
+use Rattle.std.proofs.Common.{ℕ, true, List, [], ◌∷◌, ◌++◌}
 use Rattle.csp_text.specs.declared.token.Token.{Token}
 use Rattle.csp_text.specs.declared.token.Word.TheVariants as word
 use Rattle.csp_text.specs.declared.token.Symbol.TheVariants as symbol
@@ -30,11 +30,11 @@ use Rattle.expression_steps.specs.declared.frame.AtomFrame.TheVariants as atom
 use Rattle.expression_steps.specs.Moved.{FoundTree}
 use Rattle.tree_parser.proofs.Combining.{StepGives, by_case, by_look, by_opened, by_test}
 use Rattle.tree_parser.specs.Then.{Outcome, Then}
-use Rattle.tree_parser.proofs.Then.{assoc, change, done, later, put}
+use Rattle.tree_parser.proofs.Then.{assoc, change, done, later}
 use Rattle.expression_steps.specs.Atoms.{move_arguments, move_atom_rest, move_elements, resume_atom}
 use Rattle.expression_steps.specs.Expressions.{move_expression, resume_expression}
 use Rattle.tree_steps.specs.Machine.{begin, begin_item, begin_opened, resume}
-use Rattle.tree_parser.proofs.ListSteps.{generators_step, list_resumed, one_longer, operators_step, part_step, product_read}
+use Rattle.tree_parser.proofs.ListSteps.{generators_step, list_resumed, operators_step, part_step, product_read}
 use Rattle.tree_parser.proofs.PlainSteps.{arguments_more, arguments_read, elements_more, elements_read}
 use Rattle.tree_parser.proofs.ProcessSteps.{choice_resumed, event_resumed, fields_step, parallel_resumed, process_resumed, replicated_resumed, replicated_step}
 use Rattle.tree_parser.specs.Meaning.{AtomGives, CallEnd, ExpressionGives, FormGives, FrameGives, SetEnd, bound, items_after}
