@@ -1,5 +1,5 @@
 -- What a node becomes where several values are put in, one after another: the names that it doesn't bind get theirs in what stands at its places.
-use Rattle.std.proofs.Common.{◌≡◌, ℕ, zero, suc, ◌+◌, ◌<◌, Bool, true, false, cond, ◌||◌, nat_lt, nat_eq, Some, None, Option, List, [], ◌∷◌, ◌++◌, map, length, get_or, slice_get, take, refl, ap, sym, ◌∙◌, subst, arith, append_assoc}
+use Rattle.std.proofs.Common.{◌≡◌, ℕ, zero, suc, ◌+◌, ◌<◌, Bool, true, false, cond, ◌||◌, nat_lt, nat_eq, Some, None, Option, List, [], ◌∷◌, ◌++◌, map, length, get_or, slice_get, take, refl, ap, sym, ◌∙◌, subst, arith}
 use Rattle.std.proofs.lemmas.Bool.{eqb-true, ltb-true, false≢true}
 use Rattle.std.proofs.lemmas.List.{append-nil, map_more, take-map}
 use Rattle.std.proofs.lemmas.Option.{slice_get-get_or, slice_get_within, get_or_from_slice_get}
@@ -296,39 +296,11 @@ module _ (n : Layer) where
   pub names_no_values : (front xs ys : List ℕ) (x : ℕ) → xs ≡ x ∷ ys → (vs : List Value) → length vs ≡ 0 → front ≡ front ++ names_below n xs vs
   names_no_values front xs ys x e vs h = sym (append-nil front) ∙ (λ i. front ++ names_below n (sym e i) (sym (nothing vs h) i))
 
-  names_joined : (x : ℕ) (xs : List ℕ) (v : Value) (vs : List Value) → names_below n (x ∷ []) (v ∷ []) ++ names_below n xs vs ≡ names_below n (x ∷ xs) (v ∷ vs)
-  names_joined x xs v vs = step (binds_below x n)
-    where
-      step : (b : Bool) → cond b [] (x ∷ []) ++ names_below n xs vs ≡ cond b (names_below n xs vs) (x ∷ names_below n xs vs)
-      step true = refl
-      step false = refl
-
-  pub names_next : (front mid new xs ys : List ℕ) (x : ℕ) → xs ≡ x ∷ ys → (vs ws : List Value) (v : Value) → vs ≡ v ∷ ws → mid ≡ front ++ names_below n (x ∷ []) (v ∷ []) → new ≡ mid ++ names_below n ys ws
-      → new ≡ front ++ names_below n xs vs
-  names_next front mid new xs ys x e vs ws v f g h =
-      h ∙ (ap (λ (zs : List ℕ). zs ++ names_below n ys ws) g ∙
-      (append_assoc front (names_below n (x ∷ []) (v ∷ [])) (names_below n ys ws) ∙
-      (ap (λ (zs : List ℕ). front ++ zs) (names_joined x ys v ws) ∙ (λ i. front ++ names_below n (sym e i) (sym f i)))))
-
   pub values_no_names : (front : List Value) (xs : List ℕ) → length xs ≡ 0 → (vs : List Value) → front ≡ front ++ values_below n xs vs
   values_no_names front xs h vs = sym (append-nil front) ∙ ap (λ (ys : List ℕ). front ++ values_below n ys vs) (sym (nothing xs h))
 
   pub values_no_values : (front : List Value) (xs ys : List ℕ) (x : ℕ) → xs ≡ x ∷ ys → (vs : List Value) → length vs ≡ 0 → front ≡ front ++ values_below n xs vs
   values_no_values front xs ys x e vs h = sym (append-nil front) ∙ (λ i. front ++ values_below n (sym e i) (sym (nothing vs h) i))
-
-  values_joined : (x : ℕ) (xs : List ℕ) (v : Value) (vs : List Value) → values_below n (x ∷ []) (v ∷ []) ++ values_below n xs vs ≡ values_below n (x ∷ xs) (v ∷ vs)
-  values_joined x xs v vs = step (binds_below x n)
-    where
-      step : (b : Bool) → cond b [] (v ∷ []) ++ values_below n xs vs ≡ cond b (values_below n xs vs) (v ∷ values_below n xs vs)
-      step true = refl
-      step false = refl
-
-  pub values_next : (front mid new : List Value) (xs ys : List ℕ) (x : ℕ) → xs ≡ x ∷ ys → (vs ws : List Value) (v : Value) → vs ≡ v ∷ ws → mid ≡ front ++ values_below n (x ∷ []) (v ∷ []) → new ≡ mid ++ values_below n ys ws
-      → new ≡ front ++ values_below n xs vs
-  values_next front mid new xs ys x e vs ws v f g h =
-      h ∙ (ap (λ (zs : List Value). zs ++ values_below n ys ws) g ∙
-      (append_assoc front (values_below n (x ∷ []) (v ∷ [])) (values_below n ys ws) ∙
-      (ap (λ (zs : List Value). front ++ zs) (values_joined x ys v ws) ∙ (λ i. front ++ values_below n (sym e i) (sym f i)))))
 
 -- one value alone
 pub one_value : (xs : List ℕ) (x : ℕ) → xs ≡ x ∷ [] → (vs : List Value) (v : Value) → vs ≡ v ∷ [] → (t : Proc) → with_values xs vs t ≡ proc_with x v t

@@ -1,6 +1,6 @@
 -- One name more, unless the node binds it.
 use Rattle.std.proofs.Common.{ℕ, List, length, ap, arith}
-use Rattle.term_pool.proofs.ValuesLemmas.{names_next, names_no_names, names_no_values, values_next, values_no_names, values_no_values}
+use Rattle.term_pool.proofs.ValuesLemmas.{names_no_names, names_no_values, values_no_names, values_no_values}
 use Rattle.term_pool.specs.Layers.{shown}
 use Rattle.term_pool.proofs.under.+add_all_unbound.Goals as goal
 
