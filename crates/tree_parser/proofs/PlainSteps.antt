@@ -8,9 +8,9 @@ use Rattle.csp_text.specs.declared.token.Symbol.TheVariants as symbol
 use Rattle.csp_text.specs.declared.tree.Tree.{Tree}
 use Rattle.csp_text.specs.declared.tree.Tree.TheVariants as tree
 use Rattle.csp_grammar.specs.Reader.{and_then}
-use Rattle.csp_grammar.proofs.Holds.{Holds}
-use Rattle.csp_grammar.proofs.Holds.Holds.{some}
-use Rattle.csp_grammar.proofs.Looks.{skips}
+use Rattle.tree_reading.proofs.Holds.{Holds}
+use Rattle.tree_reading.proofs.Holds.Holds.{some}
+use Rattle.tree_reading.proofs.Looks.{skips}
 use Rattle.tree_reading.specs.Bindings.{last_item}
 use Rattle.tree_reading.specs.Nesting.{inside, less}
 use Rattle.tree_reading.specs.Starts.{is_symbol_token}
