@@ -1,6 +1,6 @@
 //! The commands over devices in memory that fail, tell no texts or hold none.
 
-use crate::{command, push_status, push_title};
+use crate::{command, push_answer, push_title};
 use csp_base::{Bytes, NoMemory};
 use dl_outside::{MemoryShelf, MemorySink, QuietShelf, Shelf, SureShelf, SureSink};
 use dl_top::dl_main;
@@ -20,6 +20,30 @@ fn failing_shelf(alloc: Global, failing: &[u32]) -> Result<MemoryShelf, NoMemory
     Ok(shelf)
 }
 
+/// A sink that takes ten bytes at a call and fails at these ones.
+fn failing_sink(alloc: Global, failing: &[u32]) -> Result<MemorySink, NoMemory> {
+    Ok(MemorySink::new(alloc, 10, failing.to_vec(alloc)?))
+}
+
+/// The status of the command over the shelf, and what it sends to a sink without faults.
+fn answered_over_shelf<S: Shelf>(
+    alloc: Global,
+    words: &[&[u8]],
+    shelf: &mut S,
+) -> Result<(u8, SureSink), NoMemory> {
+    let asked = command(alloc, words)?;
+    let mut out = SureSink::new(alloc, 1000);
+    let status = dl_main(alloc, &asked, shelf, &mut out);
+    Ok((status, out))
+}
+
+/// The status of the judgement of the script, which goes to the sink.
+fn judged_into_sink(alloc: Global, out: &mut MemorySink) -> Result<u8, NoMemory> {
+    let asked = command(alloc, &CHECK)?;
+    let mut shelf = failing_shelf(alloc, &[])?;
+    Ok(dl_main(alloc, &asked, &mut shelf, out))
+}
+
 /// Adds what the command answers over the shelf, and what it sends to a sink without faults.
 fn push_over_shelf<S: Shelf>(
     alloc: Global,
@@ -28,12 +52,9 @@ fn push_over_shelf<S: Shelf>(
     words: &[&[u8]],
     shelf: &mut S,
 ) -> Result<(), NoMemory> {
-    let asked = command(alloc, words)?;
-    let mut out = SureSink::new(alloc, 1000);
-    let status = dl_main(alloc, &asked, shelf, &mut out);
     push_title(lines, title)?;
-    push_status(alloc, lines, b"status ", status)?;
-    lines.extend_from_slice(out.sent())
+    let (status, out) = answered_over_shelf(alloc, words, shelf)?;
+    push_answer(alloc, lines, b"status ", status, out.sent())
 }
 
 /// Adds what the command answers over a shelf that fails at these calls.
@@ -80,13 +101,10 @@ fn push_sink(
     title: &[u8],
     failing: &[u32],
 ) -> Result<(), NoMemory> {
-    let mut shelf = failing_shelf(alloc, &[])?;
-    let asked = command(alloc, &CHECK)?;
-    let mut out = MemorySink::new(alloc, 10, failing.to_vec(alloc)?);
-    let status = dl_main(alloc, &asked, &mut shelf, &mut out);
     push_title(lines, title)?;
-    push_status(alloc, lines, b"status ", status)?;
-    lines.extend_from_slice(out.sent())?;
+    let mut out = failing_sink(alloc, failing)?;
+    let status = judged_into_sink(alloc, &mut out)?;
+    push_answer(alloc, lines, b"status ", status, out.sent())?;
     lines.push(b'\n')
 }
 

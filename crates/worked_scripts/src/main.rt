@@ -73,6 +73,18 @@ fn push_status(alloc: Global, lines: &mut Bytes, label: &[u8], status: u8) -> Re
     lines.extend_from_slice(status.as_bytes())
 }
 
+/// Adds a line of a label and the status of what is answered, and what is sent.
+fn push_answer(
+    alloc: Global,
+    lines: &mut Bytes,
+    label: &[u8],
+    status: u8,
+    sent: &[u8],
+) -> Result<(), NoMemory> {
+    push_status(alloc, lines, label, status)?;
+    lines.extend_from_slice(sent)
+}
+
 /// Adds what is answered where what was shown is shown again, and what is shown then if that is another text.
 fn push_shown_again(alloc: Global, lines: &mut Bytes, shown: &[u8]) -> Result<(), NoMemory> {
     let (status, out) = answered(alloc, &SHOW, shown)?;
@@ -86,8 +98,7 @@ fn push_shown_again(alloc: Global, lines: &mut Bytes, shown: &[u8]) -> Result<()
 /// Adds what is answered where the text is shown, and whether what is shown then is shown as the same text.
 fn push_shown(alloc: Global, lines: &mut Bytes, text: &[u8]) -> Result<(), NoMemory> {
     let (status, out) = answered(alloc, &SHOW, text)?;
-    push_status(alloc, lines, b"show ", status)?;
-    lines.extend_from_slice(out.sent())?;
+    push_answer(alloc, lines, b"show ", status, out.sent())?;
     if status == 0 {
         push_shown_again(alloc, lines, out.sent())?;
     }
@@ -97,8 +108,7 @@ fn push_shown(alloc: Global, lines: &mut Bytes, text: &[u8]) -> Result<(), NoMem
 /// Adds what is answered where the text is judged.
 fn push_judged(alloc: Global, lines: &mut Bytes, text: &[u8]) -> Result<(), NoMemory> {
     let (status, out) = answered(alloc, &CHECK, text)?;
-    push_status(alloc, lines, b"check ", status)?;
-    lines.extend_from_slice(out.sent())
+    push_answer(alloc, lines, b"check ", status, out.sent())
 }
 
 /// The bytes before the first place where the mark stands, and those behind the mark.
@@ -159,15 +169,19 @@ fn words_of(alloc: Global, line: &[u8]) -> Result<Words, NoMemory> {
     Ok(asked)
 }
 
+/// The status of the command of the row for the text, and what is sent.
+fn answered_row(alloc: Global, title: &[u8], text: &[u8]) -> Result<(u8, SureSink), NoMemory> {
+    let (command, _) = cut_at(title, b" : ").unwrap_or((title, b""));
+    let asked = words_of(alloc, command)?;
+    answered_words(alloc, &asked, text)
+}
+
 /// Adds the line that a row stands below, and what the command of the row answers.
 fn push_row(alloc: Global, lines: &mut Bytes, titled: &[u8]) -> Result<(), NoMemory> {
     let (title, text) = cut_at(titled, b"\n").unwrap_or((titled, b""));
     push_title(lines, title)?;
-    let (command, _) = cut_at(title, b" : ").unwrap_or((title, b""));
-    let asked = words_of(alloc, command)?;
-    let (status, out) = answered_words(alloc, &asked, text)?;
-    push_status(alloc, lines, b"status ", status)?;
-    lines.extend_from_slice(out.sent())
+    let (status, out) = answered_row(alloc, title, text)?;
+    push_answer(alloc, lines, b"status ", status, out.sent())
 }
 
 /// Adds what all rows of the file answer.
