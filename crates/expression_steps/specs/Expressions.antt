@@ -17,6 +17,7 @@ use Rattle.tree_reading.specs.declared.look.Sign.TheVariants as sign
 use Rattle.tree_reading.specs.declared.read.Binding.{Binding}
 use Rattle.tree_reading.specs.declared.read.Binding.TheVariants as binding
 use Rattle.expression_steps.specs.Nesting.{bracket_limits}
+use Rattle.expression_steps.specs.Plain.{plain_operand}
 use Rattle.expression_steps.specs.Moved.{Moved}
 use Rattle.expression_steps.specs.Moved.Moved.{found, inner, next}
 use Rattle.expression_steps.specs.declared.form.Form.{Form}
@@ -41,12 +42,6 @@ abbrev pub move_negative : Limits → Binding → List Token → Option Moved
 move_negative l level ts =
     and_then (sure (at_least level binding.Negative)) λ _. and_then (inside l) λ e. wait_expression (expression.Negative l level) (form.Expression binding.Negative) e ts
 
-abbrev pub move_expression : Limits → Binding → List Token → Option Moved
-move_expression l level ts =
-    case (skip_word word.Not ts) (λ us. move_complement l level us) λ _.
-    case (skip symbol.Minus ts) (λ us. move_negative l level us) λ _.
-    wait_expression (expression.First l level) form.Atom l ts
-
 -- a renaming of which no pair is read yet
 abbrev pub renaming_of : Limits → Binding → Tree → Renaming
 renaming_of l level t = record { limits = l; level = level; left = t; pairs = [] }
@@ -67,6 +62,22 @@ move_sign l level t sign.Renaming ts = move_renaming l level t ts
 -- behind an operand that is bound as k says
 abbrev pub move_operators : Limits → Binding → Binding → Tree → List Token → Option Moved
 move_operators l level k t ts = case (sign_behind level k ts) (λ s. move_sign l level t s.0 s.1) (λ _. Some (found (k, t, ts)))
+
+-- behind an operand that is a number or a name alone
+abbrev pub move_plain : Limits → Binding → Tree → List Token → Option Moved
+move_plain l level t ts = and_then (inside l) λ _. move_operators l level binding.Atom t ts
+
+-- the first operand is read: where it is a number or a name alone, this needs no step of its own
+abbrev pub move_operand : Limits → Binding → List Token → Option Moved
+move_operand l level ts =
+    case (plain_operand ts) (λ p. move_plain l level p.0 p.1) λ _.
+    wait_expression (expression.First l level) form.Atom l ts
+
+abbrev pub move_expression : Limits → Binding → List Token → Option Moved
+move_expression l level ts =
+    case (skip_word word.Not ts) (λ us. move_complement l level us) λ _.
+    case (skip symbol.Minus ts) (λ us. move_negative l level us) λ _.
+    move_operand l level ts
 
 -- an expression that waits, with the part that it waits for
 abbrev pub resume_expression : ExpressionFrame → Tree → List Token → Option Moved

@@ -1,4 +1,5 @@
--- Items of a set and arguments of a call that are a number or a name in front of a comma: they are taken one after another, with no step for each.
+-- Operands that are a number or a name alone; and items of a set and arguments of a call that are one in front of a comma: these are taken one after
+-- another, with no step for each.
 use Rattle.std.specs.Prelude.{◌≡◌, ℕ, zero, suc, Bool, true, false, if◌then◌else◌, Option, Some, None, MatchOption, List, [], ◌∷◌, ◌++◌}
 use Rattle.std.specs.Option.{option_map_or}
 use Rattle.csp_text.specs.declared.token.Token.{Token}
@@ -6,6 +7,8 @@ use Rattle.csp_text.specs.declared.token.Token.TheVariants as token
 use Rattle.csp_text.specs.declared.token.Symbol.TheVariants as symbol
 use Rattle.csp_text.specs.declared.tree.Tree.{Tree}
 use Rattle.csp_text.specs.declared.tree.Tree.TheVariants as tree
+use Rattle.csp_grammar.specs.Reader.{and_then, case}
+use Rattle.csp_grammar.specs.Tokens.{skip}
 use Rattle.tree_reading.specs.Starts.{is_symbol_token}
 
 -- the tree that a token is by itself, where it is a number or a name
@@ -16,6 +19,11 @@ plain_tree (token.Word _) = None
 plain_tree (token.Symbol _) = None
 plain_tree (token.Roles _) = None
 plain_tree (token.Resource _) = None
+
+-- the operand at the front that is a number or a name alone, and what follows it
+abbrev pub plain_operand : List Token → Option (Tree × List Token)
+plain_operand [] = None
+plain_operand (t ∷ ts) = case (skip symbol.OpenParen ts) (λ _. None) (λ _. and_then (plain_tree t) λ a. Some (a, ts))
 
 -- the items behind these, with the tree that the token is by itself; where it is none, they are the same
 abbrev pub Pushed : List Tree → Token → Bool → List Tree → Type 0

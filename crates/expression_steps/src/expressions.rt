@@ -5,13 +5,14 @@ ghost use Rattle.csp_text.specs.declared.tree.Tree.TheVariants as tree;
 ghost use Rattle.tree_reading.specs.Gives.{Gives};
 ghost use Rattle.tree_reading.specs.declared.read.Binding.TheVariants as bindings;
 ghost use Rattle.expression_steps.specs.declared.frame.Frame.TheVariants as frames;
-ghost use Rattle.expression_steps.specs.Expressions.{move_complement, move_expression, move_negative, move_operator, move_operators, move_renaming, move_sign, renaming_of, resume_expression};
+ghost use Rattle.expression_steps.specs.Expressions.{move_complement, move_expression, move_negative, move_operand, move_operator, move_operators, move_plain, move_renaming, move_sign, renaming_of, resume_expression};
 ghost use Rattle.expression_steps.specs.Moved.{moved, weight};
 ghost use Rattle.expression_steps.specs.Moved.Moved.{inner};
 
 use crate::form::{Form, PartOf, Renaming};
 use crate::frame::{ExpressionFrame, Frame};
 use crate::nesting::bracket_limits;
+use crate::plain::plain_operand;
 use crate::step::{Step, found, inner, next};
 use containers::{Boxed, Items};
 use csp_base::{BinOp, NoMemory};
@@ -58,25 +59,6 @@ fn negative_behind<'t>(
     let inside = limits.inside(tokens)?;
     let frame = ExpressionFrame::Negative(limits, level);
     Ok(wait(frame, Form::Expression(Binding::Negative), inside, tokens))
-}
-
-/// An expression whose operators outside brackets bind as tightly as the level, or tighter.
-pub fn expression<'t>(
-    limits: Limits,
-    level: Binding,
-    tokens: &'t [Token],
-) -> Result<Step<'t>, ReadFault>
-    ensures moves { Gives result moved (move_expression limits level tokens.now) }
-    ensures falls { IfOk result (λ s. weight (moved s) < 32 * length tokens.now + 4) }
-{
-    if let Some(behind) = skip_word(tokens, Word::Not) {
-        return complement_behind(limits, level, behind);
-    }
-    if let Some(behind) = skip(tokens, Symbol::Minus) {
-        return negative_behind(limits, level, behind);
-    }
-    let frame = ExpressionFrame::First(limits, level);
-    Ok(wait(frame, Form::Atom, limits, tokens))
 }
 
 // What stands behind an operand and an operator.
@@ -166,6 +148,59 @@ pub(crate) fn operators<'t>(
         Some((sign, behind)) => sign_passed(alloc, limits, level, left, sign, behind),
         None => Ok(found(binding, left, tokens)),
     }
+}
+
+// What stands behind a first operand that is a number or a name alone.
+fn plain_passed<'t>(
+    alloc: Global,
+    limits: Limits,
+    level: Binding,
+    part: Boxed<Tree>,
+    tokens: &'t [Token],
+) -> Result<Step<'t>, ReadFault>
+    ensures moves { Gives result moved (move_plain limits level part tokens.now) }
+    ensures falls { IfOk result (λ s. weight (moved s) < 32 * length tokens.now + 34) }
+{
+    limits.inside(tokens)?;
+    operators(alloc, limits, level, Binding::Atom, part, tokens)
+}
+
+// The first operand of an expression.
+fn operand<'t>(
+    alloc: Global,
+    limits: Limits,
+    level: Binding,
+    tokens: &'t [Token],
+) -> Result<Step<'t>, ReadFault>
+    ensures moves { Gives result moved (move_operand limits level tokens.now) }
+    ensures falls { IfOk result (λ s. weight (moved s) < 32 * length tokens.now + 4) }
+{
+    match plain_operand(alloc, tokens)? {
+        Some((part, rest)) => plain_passed(alloc, limits, level, part, rest),
+        None => {
+            let frame = ExpressionFrame::First(limits, level);
+            Ok(wait(frame, Form::Atom, limits, tokens))
+        }
+    }
+}
+
+/// An expression whose operators outside brackets bind as tightly as the level, or tighter.
+pub fn expression<'t>(
+    alloc: Global,
+    limits: Limits,
+    level: Binding,
+    tokens: &'t [Token],
+) -> Result<Step<'t>, ReadFault>
+    ensures moves { Gives result moved (move_expression limits level tokens.now) }
+    ensures falls { IfOk result (λ s. weight (moved s) < 32 * length tokens.now + 4) }
+{
+    if let Some(behind) = skip_word(tokens, Word::Not) {
+        return complement_behind(limits, level, behind);
+    }
+    if let Some(behind) = skip(tokens, Symbol::Minus) {
+        return negative_behind(limits, level, behind);
+    }
+    operand(alloc, limits, level, tokens)
 }
 
 // `not` with its operand, and the operators behind it.

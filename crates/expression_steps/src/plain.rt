@@ -1,9 +1,9 @@
-//! Items of a set and arguments of a call that are a number or a name in front of a comma.
+//! Operands that are a number or a name alone; and items of a set and arguments of a call that are one in front of a comma.
 
-ghost use Rattle.std.specs.Prelude.{◌≡◌, ◌≤◌, ◌<◌, length, IfOk, MatchOption};
-ghost use Rattle.expression_steps.specs.Plain.{Pushed, plain_items, plain_within};
+ghost use Rattle.std.specs.Prelude.{◌≡◌, ◌≤◌, ◌<◌, Some, None, length, IfOk, MatchOption};
+ghost use Rattle.expression_steps.specs.Plain.{Pushed, plain_items, plain_operand, plain_tree, plain_within};
 
-use containers::Items;
+use containers::{Boxed, Items};
 use csp_base::NoMemory;
 use csp_text::{Symbol, Token, Tree};
 use std::alloc::Global;
@@ -81,4 +81,42 @@ pub(crate) fn push_plain_items<'t>(
         return Ok(tokens);
     }
     push_all_plain(alloc, items, tokens)
+}
+
+// The tree that the token is by itself, where it is a number or a name.
+fn plain_tree(alloc: Global, token: &Token) -> Result<Option<Boxed<Tree>>, NoMemory>
+    ensures { IfOk result (λ tree. tree ≡ plain_tree token.now) }
+{
+    match token {
+        Token::Num(number) => {
+            let tree = Boxed::new(alloc, Tree::Num(*number))?;
+            Ok(Some(tree))
+        }
+        Token::Name(name) => {
+            let name = name.try_clone(alloc)?;
+            let tree = Boxed::new(alloc, Tree::Name(name))?;
+            Ok(Some(tree))
+        }
+        _ => Ok(None),
+    }
+}
+
+// The operand at the front that is a number or a name alone, and what follows it; nothing where another stands there.
+pub(crate) fn plain_operand<'t>(
+    alloc: Global,
+    tokens: &'t [Token],
+) -> Result<Option<(Boxed<Tree>, &'t [Token])>, NoMemory>
+    ensures same { IfOk result (λ r. MatchOption r (plain_operand tokens.now ≡ None) (λ p. plain_operand tokens.now ≡ Some (p.0, p.1.now))) }
+    ensures shorter { IfOk result (λ r. MatchOption r Unit (λ p. length p.1.now < length tokens.now)) }
+{
+    let Some((first, rest)) = tokens.split_first() else {
+        return Ok(None);
+    };
+    if skip(rest, Symbol::OpenParen).is_some() {
+        return Ok(None);
+    }
+    match plain_tree(alloc, first)? {
+        Some(tree) => Ok(Some((tree, rest))),
+        None => Ok(None),
+    }
 }

@@ -1,6 +1,7 @@
 pub mod Answering
 pub mod Combining
 pub mod ListSteps
+pub mod OperandSteps
 pub mod PlainSteps
 pub mod ProcessSteps
 pub mod Steps

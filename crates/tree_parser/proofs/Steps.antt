@@ -35,6 +35,7 @@ use Rattle.expression_steps.specs.Atoms.{move_arguments, move_atom_rest, move_el
 use Rattle.expression_steps.specs.Expressions.{move_expression, resume_expression}
 use Rattle.tree_steps.specs.Machine.{begin, begin_item, begin_opened, resume}
 use Rattle.tree_parser.proofs.ListSteps.{generators_step, list_resumed, operators_step, part_step, product_read}
+use Rattle.tree_parser.proofs.OperandSteps.{operand_step}
 use Rattle.tree_parser.proofs.PlainSteps.{arguments_more, arguments_read, elements_more, elements_read}
 use Rattle.tree_parser.proofs.ProcessSteps.{choice_resumed, event_resumed, fields_step, parallel_resumed, process_resumed, replicated_resumed, replicated_step}
 use Rattle.tree_parser.specs.Meaning.{AtomGives, CallEnd, ExpressionGives, FormGives, FrameGives, SetEnd, bound, items_after}
@@ -43,7 +44,7 @@ expression_step : (K : FoundTree → Outcome → Type 0) (s : Outcome) (l : Limi
     Then (λ L. L.expression l level ts) K s
 expression_step K s l level ts h =
     later (by_case K (skip_word word.Not ts) _ _ _ _ h (λ us h. by_look K (sure (at_least level binding.Complement)) _ _ h (λ _ h. by_look K (inside l) _ _ h (λ e h. assoc _ h))) (λ h.
-    by_case K (skip symbol.Minus ts) _ _ _ _ h (λ us h. by_look K (sure (at_least level binding.Negative)) _ _ h (λ _ h. by_look K (inside l) _ _ h (λ e h. assoc _ h))) (λ h. assoc _ h)))
+    by_case K (skip symbol.Minus ts) _ _ _ _ h (λ us h. by_look K (sure (at_least level binding.Negative)) _ _ h (λ _ h. by_look K (inside l) _ _ h (λ e h. assoc _ h))) (λ h. operand_step K s l level ts h)))
 
 expression_resumed : (K : FoundTree → Outcome → Type 0) (s : Outcome) (w : ExpressionFrame) (p : FoundTree) → StepGives (resume_expression w p.1 p.2) K s → ExpressionGives w p K s
 expression_resumed K s (expression.Complement l level) p h = operators_step K s l level binding.Complement (tree.Not p.1) p.2 h
@@ -94,7 +95,7 @@ opened_step K s l opening.Expression ts h = assoc _ h
 
 item_step : (K : FoundTree → Outcome → Type 0) (s : Outcome) (l : Limits) (ts : List Token) → StepGives (begin_item l ts) K s → FormGives form.Item l ts K s
 item_step K s l ts h =
-    by_test K (begins_event ts) _ _ _ _ h (λ h. by_look K (inside l) _ _ h (λ e h. assoc _ (change (λ c k. assoc _ k) h))) (λ h. h)
+    by_test K (begins_event ts) _ _ _ _ h (λ h. by_look K (inside l) _ _ h (λ e h. assoc _ (change (λ c k. assoc _ k) h))) (λ h. expression_step K s l binding.Disjunction ts h)
 
 pub begun : (K : FoundTree → Outcome → Type 0) (s : Outcome) (f : Form) (l : Limits) (ts : List Token) → StepGives (begin f l ts) K s → FormGives f l ts K s
 begun K s form.Tree l ts h = later (assoc _ h)

@@ -44,7 +44,7 @@ begin_prefix l ts = and_then (prefix_start ts) λ s. begin_opened l s.0 s.1
 -- an item: a dotted event or an expression
 abbrev pub begin_item : Limits → List Token → Option Moved
 begin_item l ts =
-    if begins_event ts then (and_then (inside l) λ e. Some (next (form.Part part_of.Item) e ts)) else Some (next (form.Expression binding.Disjunction) l ts)
+    if begins_event ts then (and_then (inside l) λ e. Some (next (form.Part part_of.Item) e ts)) else move_expression l binding.Disjunction ts
 
 abbrev pub begin : Form → Limits → List Token → Option Moved
 begin form.Tree l ts = wait_parallel (parallel.LeftSide l) form.Side l ts

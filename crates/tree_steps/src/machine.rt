@@ -79,7 +79,7 @@ fn prefix<'t>(alloc: Global, limits: Limits, tokens: &'t [Token]) -> Result<Step
 }
 
 // An item.
-fn item<'t>(limits: Limits, tokens: &'t [Token]) -> Result<Step<'t>, ReadFault>
+fn item<'t>(alloc: Global, limits: Limits, tokens: &'t [Token]) -> Result<Step<'t>, ReadFault>
     ensures moves { Gives result moved (begin_item limits tokens.now) }
     ensures falls { IfOk result (λ s. weight (moved s) < 32 * length tokens.now + 5) }
 {
@@ -87,8 +87,7 @@ fn item<'t>(limits: Limits, tokens: &'t [Token]) -> Result<Step<'t>, ReadFault>
         let inside = limits.inside(tokens)?;
         return Ok(next(Form::Part(PartOf::Item), inside, tokens));
     }
-    let form = Form::Expression(Binding::Disjunction);
-    Ok(next(form, limits, tokens))
+    expression(alloc, limits, Binding::Disjunction, tokens)
 }
 
 // All of a tree.
@@ -140,9 +139,9 @@ pub fn begin<'t>(
         Form::Side => side(limits, tokens),
         Form::Sequence => sequence(limits, tokens),
         Form::Prefix => prefix(alloc, limits, tokens),
-        Form::Expression(level) => expression(limits, level, tokens),
+        Form::Expression(level) => expression(alloc, limits, level, tokens),
         Form::Atom => atom(alloc, limits, tokens),
-        Form::Item => item(limits, tokens),
+        Form::Item => item(alloc, limits, tokens),
         Form::Fields {
             name,
             fields: before,
