@@ -57,6 +57,7 @@ pub fn of_expr(expr: &Expr) -> Measure
 }
 
 #[cycle(of_expr)]
+#[tactic(auto)]
 pub fn of_exprs(exprs: &[Expr]) -> Measure
     ensures depth { result.depth ≡ capped (greatest (map expr_depth exprs.now)) }
     ensures size { result.size ≡ capped (total (map expr_size exprs.now)) }
@@ -80,6 +81,7 @@ fn of_gen(generator: &Gen) -> Measure
 }
 
 #[cycle(of_expr)]
+#[tactic(auto)]
 pub fn of_gens(gens: &[Gen]) -> Measure
     ensures depth { result.depth ≡ capped (greatest (map gen_depth gens.now)) }
     ensures size { result.size ≡ capped (total (map gen_size gens.now)) }
@@ -100,6 +102,7 @@ fn of_part(part: &EventPart) -> Measure
 }
 
 #[cycle(of_expr)]
+#[tactic(auto)]
 fn of_parts(parts: &[EventPart]) -> Measure
     ensures depth { result.depth ≡ capped (greatest (map part_depth parts.now)) }
     ensures size { result.size ≡ capped (total (map part_size parts.now)) }
@@ -122,6 +125,7 @@ fn of_field(field: &Field) -> Measure
     }
 }
 
+#[tactic(auto)]
 pub fn of_fields(fields: &[Field]) -> Measure
     ensures depth { result.depth ≡ capped (greatest (map field_depth fields.now)) }
     ensures size { result.size ≡ capped (total (map field_size fields.now)) }
@@ -140,6 +144,7 @@ fn of_pair(pair: &(EventPart, EventPart)) -> Measure
     counted(together(of_part(&pair.0), of_part(&pair.1)))
 }
 
+#[tactic(auto)]
 pub fn of_pairs(pairs: &[(EventPart, EventPart)]) -> Measure
     ensures depth { result.depth ≡ capped (greatest (map pair_depth pairs.now)) }
     ensures size { result.size ≡ capped (total (map pair_size pairs.now)) }
@@ -183,6 +188,7 @@ pub fn of_proc(proc: &Proc) -> Measure
 }
 
 #[cycle(of_proc)]
+#[tactic(auto)]
 fn of_procs(procs: &[Proc]) -> Measure
     ensures depth { result.depth ≡ capped (greatest (map proc_depth procs.now)) }
     ensures size { result.size ≡ capped (total (map proc_size procs.now)) }

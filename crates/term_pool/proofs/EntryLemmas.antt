@@ -69,59 +69,60 @@ module _ (old new : OwnParts) (start : PartsStart old new) where
   layer_stays entry.Ended h = refl
 
 module _ (parts : OwnParts) where
+  -- the layer shows the entry
+  abbrev Shows : Entry → Layer → Type 0
+  Shows entry.Stop Layer.Stop = Unit {0}
+  Shows (entry.Prefix b f p) (Layer.Prefix b' f' p') = (head_at parts b ≡ b') × ((fields_at parts f ≡ f') × (p ≡ p'))
+  Shows (entry.Guard c p) (Layer.Guard c' p') = (expr_at parts c ≡ c') × (p ≡ p')
+  Shows (entry.If c p q) (Layer.If c' p' q') = (expr_at parts c ≡ c') × ((p ≡ p') × (q ≡ q'))
+  Shows (entry.External ps) (Layer.External ps') = choice_at parts ps ≡ ps'
+  Shows (entry.Internal ps) (Layer.Internal ps') = choice_at parts ps ≡ ps'
+  Shows (entry.EachExternal x s p) (Layer.EachExternal x' s' p') = (x ≡ x') × ((expr_at parts s ≡ s') × (p ≡ p'))
+  Shows (entry.EachInternal x s p) (Layer.EachInternal x' s' p') = (x ≡ x') × ((expr_at parts s ≡ s') × (p ≡ p'))
+  Shows (entry.Hide p s) (Layer.Hide p' s') = (p ≡ p') × (expr_at parts s ≡ s')
+  Shows (entry.Rename p a w) (Layer.Rename p' a' w') = (p ≡ p') × ((pairs_at parts a ≡ a') × (gens_at parts w ≡ w'))
+  Shows (entry.Call d args) (Layer.Call d' args') = (d ≡ d') × (arguments_at parts args ≡ args')
+  Shows entry.Skip Layer.Skip = Unit {0}
+  Shows (entry.Seq p q) (Layer.Seq p' q') = (p ≡ p') × (q ≡ q')
+  Shows entry.Ended Layer.Ended = Unit {0}
+  Shows e other = ⊥
+
+  shows_own : (e : Entry) → Shows e (entry_layer parts e)
+  shows_own entry.Stop = tt
+  shows_own (entry.Prefix b f p) = (refl, (refl, refl))
+  shows_own (entry.Guard c p) = (refl, refl)
+  shows_own (entry.If c p q) = (refl, (refl, refl))
+  shows_own (entry.External ps) = refl
+  shows_own (entry.Internal ps) = refl
+  shows_own (entry.EachExternal x s p) = (refl, (refl, refl))
+  shows_own (entry.EachInternal x s p) = (refl, (refl, refl))
+  shows_own (entry.Hide p s) = (refl, refl)
+  shows_own (entry.Rename p a w) = (refl, (refl, refl))
+  shows_own (entry.Call d args) = (refl, refl)
+  shows_own entry.Skip = tt
+  shows_own (entry.Seq p q) = (refl, refl)
+  shows_own entry.Ended = tt
+
+  shown_same : ArePartsOnce parts → (e d : Entry) → Fits parts e → Fits parts d → Shows e (entry_layer parts d) → e ≡ d
+  shown_same once entry.Stop entry.Stop h g z = refl
+  shown_same once (entry.Prefix b f p) (entry.Prefix b' f' p') h g z = λ i. entry.Prefix (one_number parts.heads once.heads b b' (head.Channel 0) h.0 g.0 z.0 i) (one_number parts.fields once.fields f f' [] h.1 g.1 z.1.0 i) (z.1.1 i)
+  shown_same once (entry.Guard c p) (entry.Guard c' p') h g z = λ i. entry.Guard (one_number parts.exprs once.exprs c c' (expr.Const 0) h g z.0 i) (z.1 i)
+  shown_same once (entry.If c p q) (entry.If c' p' q') h g z = λ i. entry.If (one_number parts.exprs once.exprs c c' (expr.Const 0) h g z.0 i) (z.1.0 i) (z.1.1 i)
+  shown_same once (entry.External ps) (entry.External ps') h g z = λ i. entry.External (one_number parts.choices once.choices ps ps' [] h g z i)
+  shown_same once (entry.Internal ps) (entry.Internal ps') h g z = λ i. entry.Internal (one_number parts.choices once.choices ps ps' [] h g z i)
+  shown_same once (entry.EachExternal x s p) (entry.EachExternal x' s' p') h g z = λ i. entry.EachExternal (z.0 i) (one_number parts.exprs once.exprs s s' (expr.Const 0) h g z.1.0 i) (z.1.1 i)
+  shown_same once (entry.EachInternal x s p) (entry.EachInternal x' s' p') h g z = λ i. entry.EachInternal (z.0 i) (one_number parts.exprs once.exprs s s' (expr.Const 0) h g z.1.0 i) (z.1.1 i)
+  shown_same once (entry.Hide p s) (entry.Hide p' s') h g z = λ i. entry.Hide (z.0 i) (one_number parts.exprs once.exprs s s' (expr.Const 0) h g z.1 i)
+  shown_same once (entry.Rename p a w) (entry.Rename p' a' w') h g z = λ i. entry.Rename (z.0 i) (one_number parts.pairs once.pairs a a' [] h.0 g.0 z.1.0 i) (one_number parts.gens once.gens w w' [] h.1 g.1 z.1.1 i)
+  shown_same once (entry.Call d args) (entry.Call d' args') h g z = λ i. entry.Call (z.0 i) (one_number parts.arguments once.arguments args args' [] h g z.1 i)
+  shown_same once entry.Skip entry.Skip h g z = refl
+  shown_same once (entry.Seq p q) (entry.Seq p' q') h g z = λ i. entry.Seq (z.0 i) (z.1 i)
+  shown_same once entry.Ended entry.Ended h g z = refl
+  shown_same once e d h g z = absurd z
+
   -- different entries stand for different layers
   pub same_entry : ArePartsOnce parts → (e d : Entry) → Fits parts e → Fits parts d → entry_layer parts e ≡ entry_layer parts d → e ≡ d
-  same_entry once entry.Stop entry.Stop h g is = refl
-  same_entry once (entry.Prefix b f p) (entry.Prefix b' f' p') h g is =
-      let e_b : head_at parts b ≡ head_at parts b' = cc in
-      let e_f : fields_at parts f ≡ fields_at parts f' = cc in
-      let e_p : p ≡ p' = cc in
-      λ i. entry.Prefix (one_number parts.heads once.heads b b' (head.Channel 0) h.0 g.0 e_b i) (one_number parts.fields once.fields f f' [] h.1 g.1 e_f i) (e_p i)
-  same_entry once (entry.Guard c p) (entry.Guard c' p') h g is =
-      let e_c : expr_at parts c ≡ expr_at parts c' = cc in
-      let e_p : p ≡ p' = cc in
-      λ i. entry.Guard (one_number parts.exprs once.exprs c c' (expr.Const 0) h g e_c i) (e_p i)
-  same_entry once (entry.If c p q) (entry.If c' p' q') h g is =
-      let e_c : expr_at parts c ≡ expr_at parts c' = cc in
-      let e_p : p ≡ p' = cc in
-      let e_q : q ≡ q' = cc in
-      λ i. entry.If (one_number parts.exprs once.exprs c c' (expr.Const 0) h g e_c i) (e_p i) (e_q i)
-  same_entry once (entry.External ps) (entry.External ps') h g is =
-      let e_ps : choice_at parts ps ≡ choice_at parts ps' = cc in
-      λ i. entry.External (one_number parts.choices once.choices ps ps' [] h g e_ps i)
-  same_entry once (entry.Internal ps) (entry.Internal ps') h g is =
-      let e_ps : choice_at parts ps ≡ choice_at parts ps' = cc in
-      λ i. entry.Internal (one_number parts.choices once.choices ps ps' [] h g e_ps i)
-  same_entry once (entry.EachExternal x s p) (entry.EachExternal x' s' p') h g is =
-      let e_x : x ≡ x' = cc in
-      let e_s : expr_at parts s ≡ expr_at parts s' = cc in
-      let e_p : p ≡ p' = cc in
-      λ i. entry.EachExternal (e_x i) (one_number parts.exprs once.exprs s s' (expr.Const 0) h g e_s i) (e_p i)
-  same_entry once (entry.EachInternal x s p) (entry.EachInternal x' s' p') h g is =
-      let e_x : x ≡ x' = cc in
-      let e_s : expr_at parts s ≡ expr_at parts s' = cc in
-      let e_p : p ≡ p' = cc in
-      λ i. entry.EachInternal (e_x i) (one_number parts.exprs once.exprs s s' (expr.Const 0) h g e_s i) (e_p i)
-  same_entry once (entry.Hide p s) (entry.Hide p' s') h g is =
-      let e_p : p ≡ p' = cc in
-      let e_s : expr_at parts s ≡ expr_at parts s' = cc in
-      λ i. entry.Hide (e_p i) (one_number parts.exprs once.exprs s s' (expr.Const 0) h g e_s i)
-  same_entry once (entry.Rename p a w) (entry.Rename p' a' w') h g is =
-      let e_p : p ≡ p' = cc in
-      let e_a : pairs_at parts a ≡ pairs_at parts a' = cc in
-      let e_w : gens_at parts w ≡ gens_at parts w' = cc in
-      λ i. entry.Rename (e_p i) (one_number parts.pairs once.pairs a a' [] h.0 g.0 e_a i) (one_number parts.gens once.gens w w' [] h.1 g.1 e_w i)
-  same_entry once (entry.Call d args) (entry.Call d' args') h g is =
-      let e_d : d ≡ d' = cc in
-      let e_args : arguments_at parts args ≡ arguments_at parts args' = cc in
-      λ i. entry.Call (e_d i) (one_number parts.arguments once.arguments args args' [] h g e_args i)
-  same_entry once entry.Skip entry.Skip h g is = refl
-  same_entry once (entry.Seq p q) (entry.Seq p' q') h g is =
-      let e_p : p ≡ p' = cc in
-      let e_q : q ≡ q' = cc in
-      λ i. entry.Seq (e_p i) (e_q i)
-  same_entry once entry.Ended entry.Ended h g is = refl
-  same_entry once e d h g is = cc
+  same_entry once e d h g is = shown_same once e d h g (subst (Shows e) is (shows_own e))
 
   -- the own parts of what an entry stands for are kept
   has_own : (e : Entry) → Fits parts e → HasParts parts (entry_layer parts e)

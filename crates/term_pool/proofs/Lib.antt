@@ -7,6 +7,7 @@ pub mod NodeMeasures
 pub mod SubstituteLemmas
 pub mod OverLemmas
 pub mod PutLemmas
+pub mod StandsLemmas
 pub mod TreeLemmas
 pub mod WithinLemmas
 pub mod LowLemmas

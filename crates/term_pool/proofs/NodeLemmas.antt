@@ -1,5 +1,5 @@
 -- The layer of a process that a node stands for, and that different nodes stand for different processes.
-use Rattle.std.proofs.Common.{◌≡◌, ℕ, ◌<◌, true, nat_lt, List, [], ◌∷◌, map, refl, ap, sym, ◌∙◌}
+use Rattle.std.proofs.Common.{◌≡◌, ℕ, ◌<◌, true, nat_lt, List, [], ◌∷◌, map, refl, ap, sym, subst, ◌∙◌}
 use Rattle.std.proofs.lemmas.Bool.{ltb-true}
 use Rattle.std.specs.Cmp.{first_so, second_so}
 use Rattle.csp_program.specs.declared.processes.Proc.{Proc}
@@ -68,6 +68,40 @@ pub parts_at : (ts : List Proc) (n : Layer) → parts (layer_tree ts n) ≡ map 
 unfolding parts
 parts_at ts n = ap layer_parts (layer_out ts n) ∙ layer_places ts n
 
+-- the layer shows the node, with a tree at each of its places
+abbrev Shows : List Proc → Layer → Proc-F Proc → Type 0
+Shows ts Layer.Stop Proc-F.Stop = Unit {0}
+Shows ts (Layer.Prefix k fields p) (Proc-F.Prefix k' fields' p') = (k ≡ k') × ((fields ≡ fields') × (tree_at ts p ≡ p'))
+Shows ts (Layer.Guard c p) (Proc-F.Guard c' p') = (c ≡ c') × (tree_at ts p ≡ p')
+Shows ts (Layer.If c p q) (Proc-F.If c' p' q') = (c ≡ c') × ((tree_at ts p ≡ p') × (tree_at ts q ≡ q'))
+Shows ts (Layer.External ps) (Proc-F.External ps') = map (tree_at ts) ps ≡ ps'
+Shows ts (Layer.Internal ps) (Proc-F.Internal ps') = map (tree_at ts) ps ≡ ps'
+Shows ts (Layer.EachExternal y s p) (Proc-F.EachExternal y' s' p') = (y ≡ y') × ((s ≡ s') × (tree_at ts p ≡ p'))
+Shows ts (Layer.EachInternal y s p) (Proc-F.EachInternal y' s' p') = (y ≡ y') × ((s ≡ s') × (tree_at ts p ≡ p'))
+Shows ts (Layer.Hide p s) (Proc-F.Hide p' s') = (tree_at ts p ≡ p') × (s ≡ s')
+Shows ts (Layer.Rename p pairs gens) (Proc-F.Rename p' pairs' gens') = (tree_at ts p ≡ p') × ((pairs ≡ pairs') × (gens ≡ gens'))
+Shows ts (Layer.Call d args) (Proc-F.Call d' args') = (d ≡ d') × (args ≡ args')
+Shows ts Layer.Skip Proc-F.Skip = Unit {0}
+Shows ts (Layer.Seq p q) (Proc-F.Seq p' q') = (tree_at ts p ≡ p') × (tree_at ts q ≡ q')
+Shows ts Layer.Ended Proc-F.Ended = Unit {0}
+Shows ts n other = ⊥
+
+shows_own : (ts : List Proc) (n : Layer) → Shows ts n (layer_of ts n)
+shows_own ts Layer.Stop = tt
+shows_own ts (Layer.Prefix k fields p) = (refl, (refl, refl))
+shows_own ts (Layer.Guard c p) = (refl, refl)
+shows_own ts (Layer.If c p q) = (refl, (refl, refl))
+shows_own ts (Layer.External ps) = refl
+shows_own ts (Layer.Internal ps) = refl
+shows_own ts (Layer.EachExternal y s p) = (refl, (refl, refl))
+shows_own ts (Layer.EachInternal y s p) = (refl, (refl, refl))
+shows_own ts (Layer.Hide p s) = (refl, refl)
+shows_own ts (Layer.Rename p pairs gens) = (refl, (refl, refl))
+shows_own ts (Layer.Call d args) = (refl, refl)
+shows_own ts Layer.Skip = tt
+shows_own ts (Layer.Seq p q) = (refl, refl)
+shows_own ts Layer.Ended = tt
+
 -- where the trees at the first b places differ, nodes that look at no other places have different trees
 module _ (ts : List Proc) (b : ℕ) (different : (i j : ℕ) → i < b → j < b → (tree_at ts (record { 0 = i })) ≡ (tree_at ts (record { 0 = j })) → i ≡ j) where
   same_id : (p q : ProcId) → nat_lt p.0 b ≡ true → nat_lt q.0 b ≡ true → tree_at ts p ≡ tree_at ts q → p ≡ q
@@ -83,58 +117,25 @@ module _ (ts : List Proc) (b : ℕ) (different : (i j : ℕ) → i < b → j < b
       λ i. same_id p q (first_so (nat_lt p.0 b) (all_below b ps) h) (first_so (nat_lt q.0 b) (all_below b qs) g) first i ∷
       same_ids ps qs (second_so (nat_lt p.0 b) (all_below b ps) h) (second_so (nat_lt q.0 b) (all_below b qs) g) others i
 
+  shown_same : (n m : Layer) → layer_below b n ≡ true → layer_below b m ≡ true → Shows ts n (layer_of ts m) → n ≡ m
+  shown_same Layer.Stop Layer.Stop h g e = refl
+  shown_same (Layer.Prefix k fields p) (Layer.Prefix k' fields' p') h g e = λ i. Layer.Prefix (e.0 i) (e.1.0 i) (same_id p p' (first_so (nat_lt p.0 b) (all_below b []) h) (first_so (nat_lt p'.0 b) (all_below b []) g) e.1.1 i)
+  shown_same (Layer.Guard c p) (Layer.Guard c' p') h g e = λ i. Layer.Guard (e.0 i) (same_id p p' (first_so (nat_lt p.0 b) (all_below b []) h) (first_so (nat_lt p'.0 b) (all_below b []) g) e.1 i)
+  shown_same (Layer.If c p q) (Layer.If c' p' q') h g e = λ i. Layer.If (e.0 i) (same_id p p' (first_so (nat_lt p.0 b) (all_below b (q ∷ [])) h) (first_so (nat_lt p'.0 b) (all_below b (q' ∷ [])) g) e.1.0 i) (same_id q q' (first_so (nat_lt q.0 b) (all_below b []) (second_so (nat_lt p.0 b) (all_below b (q ∷ [])) h)) (first_so (nat_lt q'.0 b) (all_below b []) (second_so (nat_lt p'.0 b) (all_below b (q' ∷ [])) g)) e.1.1 i)
+  shown_same (Layer.External ps) (Layer.External ps') h g e = λ i. Layer.External (same_ids ps ps' h g e i)
+  shown_same (Layer.Internal ps) (Layer.Internal ps') h g e = λ i. Layer.Internal (same_ids ps ps' h g e i)
+  shown_same (Layer.EachExternal y s p) (Layer.EachExternal y' s' p') h g e = λ i. Layer.EachExternal (e.0 i) (e.1.0 i) (same_id p p' (first_so (nat_lt p.0 b) (all_below b []) h) (first_so (nat_lt p'.0 b) (all_below b []) g) e.1.1 i)
+  shown_same (Layer.EachInternal y s p) (Layer.EachInternal y' s' p') h g e = λ i. Layer.EachInternal (e.0 i) (e.1.0 i) (same_id p p' (first_so (nat_lt p.0 b) (all_below b []) h) (first_so (nat_lt p'.0 b) (all_below b []) g) e.1.1 i)
+  shown_same (Layer.Hide p s) (Layer.Hide p' s') h g e = λ i. Layer.Hide (same_id p p' (first_so (nat_lt p.0 b) (all_below b []) h) (first_so (nat_lt p'.0 b) (all_below b []) g) e.0 i) (e.1 i)
+  shown_same (Layer.Rename p pairs gens) (Layer.Rename p' pairs' gens') h g e = λ i. Layer.Rename (same_id p p' (first_so (nat_lt p.0 b) (all_below b []) h) (first_so (nat_lt p'.0 b) (all_below b []) g) e.0 i) (e.1.0 i) (e.1.1 i)
+  shown_same (Layer.Call d args) (Layer.Call d' args') h g e = λ i. Layer.Call (e.0 i) (e.1 i)
+  shown_same Layer.Skip Layer.Skip h g e = refl
+  shown_same (Layer.Seq p q) (Layer.Seq p' q') h g e = λ i. Layer.Seq (same_id p p' (first_so (nat_lt p.0 b) (all_below b (q ∷ [])) h) (first_so (nat_lt p'.0 b) (all_below b (q' ∷ [])) g) e.0 i) (same_id q q' (first_so (nat_lt q.0 b) (all_below b []) (second_so (nat_lt p.0 b) (all_below b (q ∷ [])) h)) (first_so (nat_lt q'.0 b) (all_below b []) (second_so (nat_lt p'.0 b) (all_below b (q' ∷ [])) g)) e.1 i)
+  shown_same Layer.Ended Layer.Ended h g e = refl
+  shown_same n m h g e = absurd e
+
   same_layer : (n m : Layer) → layer_below b n ≡ true → layer_below b m ≡ true → layer_of ts n ≡ layer_of ts m → n ≡ m
-  same_layer Layer.Stop Layer.Stop h g e = refl
-  same_layer (Layer.Prefix k fields p) (Layer.Prefix k' fields' p') h g e =
-      let e_k : k ≡ k' = cc in
-      let e_fields : fields ≡ fields' = cc in
-      let e_p : tree_at ts p ≡ tree_at ts p' = cc in
-      λ i. Layer.Prefix (e_k i) (e_fields i) (same_id p p' (first_so (nat_lt p.0 b) (all_below b []) h) (first_so (nat_lt p'.0 b) (all_below b []) g) e_p i)
-  same_layer (Layer.Guard c p) (Layer.Guard c' p') h g e =
-      let e_c : c ≡ c' = cc in
-      let e_p : tree_at ts p ≡ tree_at ts p' = cc in
-      λ i. Layer.Guard (e_c i) (same_id p p' (first_so (nat_lt p.0 b) (all_below b []) h) (first_so (nat_lt p'.0 b) (all_below b []) g) e_p i)
-  same_layer (Layer.If c p q) (Layer.If c' p' q') h g e =
-      let e_c : c ≡ c' = cc in
-      let e_p : tree_at ts p ≡ tree_at ts p' = cc in
-      let e_q : tree_at ts q ≡ tree_at ts q' = cc in
-      λ i. Layer.If (e_c i) (same_id p p' (first_so (nat_lt p.0 b) (all_below b (q ∷ [])) h) (first_so (nat_lt p'.0 b) (all_below b (q' ∷ [])) g) e_p i) (same_id q q' (first_so (nat_lt q.0 b) (all_below b []) (second_so (nat_lt p.0 b) (all_below b (q ∷ [])) h)) (first_so (nat_lt q'.0 b) (all_below b []) (second_so (nat_lt p'.0 b) (all_below b (q' ∷ [])) g)) e_q i)
-  same_layer (Layer.External ps) (Layer.External ps') h g e =
-      let e_ps : map (tree_at ts) ps ≡ map (tree_at ts) ps' = cc in
-      λ i. Layer.External (same_ids ps ps' h g e_ps i)
-  same_layer (Layer.Internal ps) (Layer.Internal ps') h g e =
-      let e_ps : map (tree_at ts) ps ≡ map (tree_at ts) ps' = cc in
-      λ i. Layer.Internal (same_ids ps ps' h g e_ps i)
-  same_layer (Layer.EachExternal y s p) (Layer.EachExternal y' s' p') h g e =
-      let e_y : y ≡ y' = cc in
-      let e_s : s ≡ s' = cc in
-      let e_p : tree_at ts p ≡ tree_at ts p' = cc in
-      λ i. Layer.EachExternal (e_y i) (e_s i) (same_id p p' (first_so (nat_lt p.0 b) (all_below b []) h) (first_so (nat_lt p'.0 b) (all_below b []) g) e_p i)
-  same_layer (Layer.EachInternal y s p) (Layer.EachInternal y' s' p') h g e =
-      let e_y : y ≡ y' = cc in
-      let e_s : s ≡ s' = cc in
-      let e_p : tree_at ts p ≡ tree_at ts p' = cc in
-      λ i. Layer.EachInternal (e_y i) (e_s i) (same_id p p' (first_so (nat_lt p.0 b) (all_below b []) h) (first_so (nat_lt p'.0 b) (all_below b []) g) e_p i)
-  same_layer (Layer.Hide p s) (Layer.Hide p' s') h g e =
-      let e_p : tree_at ts p ≡ tree_at ts p' = cc in
-      let e_s : s ≡ s' = cc in
-      λ i. Layer.Hide (same_id p p' (first_so (nat_lt p.0 b) (all_below b []) h) (first_so (nat_lt p'.0 b) (all_below b []) g) e_p i) (e_s i)
-  same_layer (Layer.Rename p pairs gens) (Layer.Rename p' pairs' gens') h g e =
-      let e_p : tree_at ts p ≡ tree_at ts p' = cc in
-      let e_pairs : pairs ≡ pairs' = cc in
-      let e_gens : gens ≡ gens' = cc in
-      λ i. Layer.Rename (same_id p p' (first_so (nat_lt p.0 b) (all_below b []) h) (first_so (nat_lt p'.0 b) (all_below b []) g) e_p i) (e_pairs i) (e_gens i)
-  same_layer (Layer.Call d args) (Layer.Call d' args') h g e =
-      let e_d : d ≡ d' = cc in
-      let e_args : args ≡ args' = cc in
-      λ i. Layer.Call (e_d i) (e_args i)
-  same_layer Layer.Skip Layer.Skip h g e = refl
-  same_layer (Layer.Seq p q) (Layer.Seq p' q') h g e =
-      let e_p : tree_at ts p ≡ tree_at ts p' = cc in
-      let e_q : tree_at ts q ≡ tree_at ts q' = cc in
-      λ i. Layer.Seq (same_id p p' (first_so (nat_lt p.0 b) (all_below b (q ∷ [])) h) (first_so (nat_lt p'.0 b) (all_below b (q' ∷ [])) g) e_p i) (same_id q q' (first_so (nat_lt q.0 b) (all_below b []) (second_so (nat_lt p.0 b) (all_below b (q ∷ [])) h)) (first_so (nat_lt q'.0 b) (all_below b []) (second_so (nat_lt p'.0 b) (all_below b (q' ∷ [])) g)) e_q i)
-  same_layer Layer.Ended Layer.Ended h g e = refl
-  same_layer n m h g e = cc
+  same_layer n m h g e = shown_same n m h g (subst (Shows ts n) e (shows_own ts n))
 
   pub same_node : (n m : Layer) → layer_below b n ≡ true → layer_below b m ≡ true → layer_tree ts n ≡ layer_tree ts m → n ≡ m
   same_node n m h g e = same_layer n m h g (sym (layer_out ts n) ∙ (ap out-Proc e ∙ layer_out ts m))

@@ -1,0 +1,59 @@
+use Rattle.std.proofs.Common.{refl, subst}
+use Rattle.term_pool.proofs.StandsLemmas.{stands_External, stands_Internal}
+use Rattle.term_pool.specs.Entries.{Fits}
+use Rattle.term_pool.specs.declared.entry.Entry.{Entry}
+use Rattle.term_pool.proofs.changed.entry_with_first.Goals as goal
+
+pub returns-in_ok-ids-in-External-clause-entry : goal.returns-in_ok-ids-in-External-clause-entry
+returns-in_ok-ids-in-External-clause-entry c = rw c.in-External.is (stands_External c.choice_with_first.new.parts c.in_ok-ids-in-External.ids _ c.in_ok-ids-in-External.ensures.made)
+
+pub returns-in_ok-ids-in-Internal-clause-entry : goal.returns-in_ok-ids-in-Internal-clause-entry
+returns-in_ok-ids-in-Internal-clause-entry c = rw c.in-Internal.is (stands_Internal c.choice_with_first-in-Internal.new.parts c.in_ok-ids-in-Internal.ids _ c.in_ok-ids-in-Internal.ensures.made)
+
+pub returns-in-Prefix-clause-entry : goal.returns-in-Prefix-clause-entry
+returns-in-Prefix-clause-entry c = record {
+  fits = subst (λ (e : Entry). Fits c.args.parts.now e) c.in-Prefix.is c.requires.fits;
+  is = rw c.in-Prefix.is refl;
+}
+
+pub returns-in-Guard-clause-entry : goal.returns-in-Guard-clause-entry
+returns-in-Guard-clause-entry c = record {
+  fits = subst (λ (e : Entry). Fits c.args.parts.now e) c.in-Guard.is c.requires.fits;
+  is = rw c.in-Guard.is refl;
+}
+
+pub returns-in-If-clause-entry : goal.returns-in-If-clause-entry
+returns-in-If-clause-entry c = record {
+  fits = subst (λ (e : Entry). Fits c.args.parts.now e) c.in-If.is c.requires.fits;
+  is = rw c.in-If.is refl;
+}
+
+pub returns-in-EachExternal-clause-entry : goal.returns-in-EachExternal-clause-entry
+returns-in-EachExternal-clause-entry c = record {
+  fits = subst (λ (e : Entry). Fits c.args.parts.now e) c.in-EachExternal.is c.requires.fits;
+  is = rw c.in-EachExternal.is refl;
+}
+
+pub returns-in-EachInternal-clause-entry : goal.returns-in-EachInternal-clause-entry
+returns-in-EachInternal-clause-entry c = record {
+  fits = subst (λ (e : Entry). Fits c.args.parts.now e) c.in-EachInternal.is c.requires.fits;
+  is = rw c.in-EachInternal.is refl;
+}
+
+pub returns-in-Hide-clause-entry : goal.returns-in-Hide-clause-entry
+returns-in-Hide-clause-entry c = record {
+  fits = subst (λ (e : Entry). Fits c.args.parts.now e) c.in-Hide.is c.requires.fits;
+  is = rw c.in-Hide.is refl;
+}
+
+pub returns-in-Rename-clause-entry : goal.returns-in-Rename-clause-entry
+returns-in-Rename-clause-entry c = record {
+  fits = subst (λ (e : Entry). Fits c.args.parts.now e) c.in-Rename.is c.requires.fits;
+  is = rw c.in-Rename.is refl;
+}
+
+pub returns-in-Call-clause-entry : goal.returns-in-Call-clause-entry
+returns-in-Call-clause-entry c = record {
+  fits = subst (λ (e : Entry). Fits c.args.parts.now e) c.in-Call.is c.requires.fits;
+  is = rw c.in-Call.is refl;
+}
