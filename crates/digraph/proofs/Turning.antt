@@ -5,7 +5,7 @@ use Rattle.std.proofs.lemmas.List.{length-append, length-take-le, length-drop, g
 use Rattle.std.proofs.lemmas.Bool.{cases_lt, ltb-false}
 use Rattle.digraph.specs.Digraph.{Digraph, HasArc}
 use Rattle.digraph.specs.Circle.{IsCircle, IsLeastCircle}
-use Rattle.digraph.specs.Turn.{IsTurnedFrom}
+use Rattle.circles.specs.Turn.{IsTurnedFrom}
 use Rattle.digraph.proofs.WalkLaws.{Leads-from_places}
 
 -- a circle of distinct vertices, place by place

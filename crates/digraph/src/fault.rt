@@ -1,4 +1,4 @@
-use crate::circles::Circle;
+use circles::Circle;
 use std::alloc::AllocError;
 
 /// Why a digraph has no heights, or none were found.

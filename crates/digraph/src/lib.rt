@@ -1,7 +1,6 @@
 //! Digraphs as rows of targets: the longest walk from each vertex or a circle, and the vertices that walks reach.
 #![tactic(auto)]
 
-mod circles;
 mod fault;
 mod heights;
 mod reach;

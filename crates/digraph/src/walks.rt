@@ -4,10 +4,10 @@ ghost use Rattle.digraph.specs.Walk.{IsLongestWalk, AreHeights};
 ghost use Rattle.digraph.specs.Circle.{HasNoCircle, IsLeastCircle};
 ghost use Rattle.digraph.specs.Search.{IsSearch, StaysMet, mark_at, work_left};
 
-use crate::circles::circle_from;
 use crate::fault::Fault;
 use crate::heights::Heights;
 use crate::rows::Rows;
+use circles::circle_from;
 use std::alloc::{AllocError, Global};
 
 // How far the search is with a vertex: not come to yet, on the trail, or with its height known.

@@ -1,4 +1,3 @@
-pub mod Counting
 pub mod Free
 pub mod KindsUnique
 pub mod OneNetwork

@@ -58,11 +58,12 @@ use Rattle.resource_conditions.specs.declared.fault.ResourceFault.{ResourceFault
 use Rattle.script_names.specs.Resolved.{IsProgram, Resolves}
 use Rattle.script_names.specs.declared.fault.ResolveFault.{ResolveFault}
 use Rattle.script_names.specs.declared.fault.ResolveFault.TheVariants as script
-use Rattle.judgement.specs.Counts.{greatest_rank, node_count}
+use Rattle.free_answers.specs.Counts.{greatest_rank, node_count}
+use Rattle.free_answers.specs.Told.{IsToldFree}
 use Rattle.judgement.specs.Judged.{AlphabetsAreJudged, IsJudged, IsJudgedBy, IsJudgedClientServer, IsJudgedCyclic, IsJudgedResource, NetworkIsJudged, ProgramIsJudged, RolesAreJudged, ShapeIsJudged, TablesAreJudged, UsesAreJudged}
 use Rattle.judgement.specs.Tells.{TellsBusy, TellsCyclic, TellsNoted, TellsParts, TellsRoles, TellsUses}
 use Rattle.fault_answers.specs.Tells.{TellsComponent, TellsLayout, TellsScript, on_component, texts}
-use Rattle.judgement.specs.Told.{IsToldFree, TellsTriple}
+use Rattle.judgement.specs.Told.{TellsTriple}
 use Rattle.judgement.proofs.Free.{client_server_free, cyclic_free, resource_free}
 
 networks_are_small : NetworksAreSmall

@@ -18,7 +18,7 @@ use Rattle.cyclic_conditions.specs.declared.fault.CyclicFault.TheVariants as cyc
 use Rattle.report.specs.Report.{status}
 use Rattle.report.specs.declared.answer.Answer.{Answer}
 use Rattle.report.specs.declared.answer.Answer.TheVariants as answer
-use Rattle.judgement.specs.Counts.{greatest_rank, node_count}
+use Rattle.free_answers.specs.Counts.{greatest_rank, node_count}
 use Rattle.judgement.specs.Judged.{AlphabetsAreJudged, IsDeadlockFree, IsJudged, IsJudgedBy, IsJudgedClientServer, IsJudgedCyclic, IsJudgedResource, NetworkIsJudged, ProgramIsJudged, RolesAreJudged, ShapeIsJudged, TablesAreJudged, UsesAreJudged}
 use Rattle.judgement.specs.Networks.{HasSilentBound, IsLive, IsNetworkOf, Network}
 use Rattle.judgement.specs.Tells.{TellsCyclic, TellsNoted, TellsRoles, TellsUses}

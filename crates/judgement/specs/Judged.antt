@@ -45,7 +45,7 @@ use Rattle.resource_conditions.specs.Told.{Tells as TellsOfUses}
 use Rattle.resource_conditions.specs.declared.fault.ResourceFault.{ResourceFault}
 use Rattle.script_names.specs.Resolved.{IsProgram, IsRefused}
 use Rattle.script_names.specs.declared.fault.ResolveFault.{ResolveFault}
-use Rattle.judgement.specs.Counts.{greatest_rank, node_count}
+use Rattle.free_answers.specs.Counts.{greatest_rank, node_count}
 use Rattle.judgement.specs.Networks.{HasSilentBound, IsLive}
 use Rattle.judgement.specs.Tells.{TellsCyclic, TellsNoted, TellsRoles, TellsUses}
 

@@ -1,4 +1,3 @@
-pub mod Counts
 pub mod Judged
 pub mod Laws
 pub mod Networks

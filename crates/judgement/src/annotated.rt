@@ -12,7 +12,6 @@ ghost use Rattle.network_trees.specs.NetworkOf.{network_of};
 ghost use Rattle.process_steps.specs.ComponentStep.{ProcessStep};
 ghost use Rattle.judgement.specs.Judged.{IsJudgedClientServer, IsJudgedResource, RolesAreJudged, UsesAreJudged};
 
-use crate::rules::free;
 use crate::telling::{noted_answer, role_answer, use_answer};
 use client_server_rule::client_server;
 use csp_base::NoMemory;
@@ -41,7 +40,7 @@ fn by_roles(
         → IsShapeOf (ProcessStep program.now) tree shape.now → IfOk result (RolesAreJudged program.now tree shape.now roles.now) }
 {
     match client_server(alloc, shape, roles) {
-        Ok(ranking) => free(Rule::ClientServer, layout, tables, shape, &ranking),
+        Ok(ranking) => free_answer(Rule::ClientServer, layout, tables, shape, &ranking),
         Err(fault) => role_answer(alloc, program, fault),
     }
 }
@@ -84,7 +83,7 @@ fn by_uses(
         → IsShapeOf (ProcessStep program.now) tree shape.now → IfOk result (UsesAreJudged program.now tree shape.now uses.now) }
 {
     match resource(alloc, shape, uses) {
-        Ok(ranking) => free(Rule::Resource, layout, tables, shape, &ranking),
+        Ok(ranking) => free_answer(Rule::Resource, layout, tables, shape, &ranking),
         Err(fault) => use_answer(alloc, program, fault),
     }
 }

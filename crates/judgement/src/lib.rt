@@ -2,7 +2,6 @@
 #![tactic(auto)]
 
 mod annotated;
-mod counts;
 mod ends;
 mod judging;
 mod laws;

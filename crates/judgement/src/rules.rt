@@ -12,45 +12,19 @@ ghost use Rattle.network_tables.specs.Tables.{AreTablesOf};
 ghost use Rattle.network_trees.specs.NetworkOf.{network_of};
 ghost use Rattle.process_steps.specs.ComponentStep.{ProcessStep};
 ghost use Rattle.judgement.specs.Judged.{IsJudgedBy, IsJudgedCyclic, ShapeIsJudged};
-ghost use Rattle.judgement.specs.Told.{IsToldFree};
 
 use crate::annotated::{by_client_server_rule, by_resource_rule};
-use crate::counts::{count_nodes, greatest};
 use crate::telling::{cyclic_answer, stop_answer};
 use csp_base::NoMemory;
 use csp_program::Program;
-use csp_tables::{Ranking, Rule, Shape};
+use csp_tables::{Rule, Shape};
 use cyclic_rule::cyclic;
+use free_answers::free_answer;
 use network_layout::Layout;
 use network_shape::busy;
-use network_tables::{ComponentTable, silent_bound};
+use network_tables::ComponentTable;
 use report::Answer;
 use std::alloc::Global;
-
-// The answer that a network is free of deadlock, by a rule with its ranking.
-pub(crate) fn free(
-    rule: Rule,
-    layout: &Layout,
-    tables: &[ComponentTable],
-    shape: &Shape,
-    ranking: &Ranking,
-) -> Result<Answer, NoMemory>
-    ensures { (p : Content) → AreTablesOf p layout.now tables.now → IfOk result (IsToldFree p layout.now rule shape.now ranking.now) }
-{
-    let Ok(components) = u32::try_from(layout.seats().len()) else {
-        return Err(NoMemory);
-    };
-    let bound = silent_bound(tables)?;
-    let nodes = count_nodes(shape.parts())?;
-    let greatest_rank = greatest(ranking)?;
-    Ok(Answer::DeadlockFree {
-        rule,
-        components,
-        nodes,
-        bound,
-        greatest_rank,
-    })
-}
 
 // What the cyclic rule says.
 fn by_cyclic_rule(
@@ -67,7 +41,7 @@ fn by_cyclic_rule(
         → IsShapeOf (ProcessStep program.now) tree shape.now → IfOk result (IsJudgedCyclic program.now tree shape.now) }
 {
     match cyclic(alloc, shape) {
-        Ok(ranking) => free(Rule::Cyclic, layout, tables, shape, &ranking),
+        Ok(ranking) => free_answer(Rule::Cyclic, layout, tables, shape, &ranking),
         Err(fault) => cyclic_answer(alloc, program, shape, fault),
     }
 }

@@ -1,5 +1,0 @@
-use Rattle.judgement.proofs.Counting.{one_rank}
-use Rattle.judgement.proofs.counts.greatest_in_row.Goals as goal
-
-pub loop-rank-preserved : goal.loop-rank-preserved
-loop-rank-preserved c = one_rank c.args.start c.args.row.now _ _ _ _ c.loop-rank-test.true c.loop-rank.invariant c.larger-most.ensures
