@@ -77,19 +77,6 @@ none_first true b h = absurd (false≢true (sym h))
 none_first false b h = refl
 
 module _ (network : Network) (i l : ℕ) where
-  pub awaited_are : (M : List ℕ) → Asks network i l → ((e : ℕ) → has M e ≡ (has (link_at network.shape l).shared e && has (role_at network.roles i).cack e)) → AreAcknowledgements network i l M
-  awaited_are M a are e = are e ∙ same (has (link_at network.shape l).shared e) (has (role_at network.roles i).cack e) (is_acknowledgement network.roles i e) (λ on. sym (none_second (has (role_at network.roles i).cack e) (has (role_at network.roles i).sack e) (a.client.no_service e on).1))
-    where
-      same : (on x y : Bool) → (on ≡ true → x ≡ y) → (on && x) ≡ (on && y)
-      same true x y h = h refl
-      same false x y h = refl
-
-  pub owed_are : (M : List ℕ) → Grants network i l → ((e : ℕ) → has M e ≡ (has (link_at network.shape l).shared e && has (role_at network.roles i).sack e)) → AreAcknowledgements network i l M
-  owed_are M g are e = are e ∙ same (has (link_at network.shape l).shared e) (has (role_at network.roles i).sack e) (is_acknowledgement network.roles i e) (λ on. sym (none_first (has (role_at network.roles i).cack e) (has (role_at network.roles i).sack e) (g.client.no_asking e on).1))
-    where
-      same : (on x y : Bool) → (on ≡ true → x ≡ y) → (on && x) ≡ (on && y)
-      same true x y h = h refl
-      same false x y h = refl
 
   -- an acknowledgement for the client, whichever end it is, is one of either end
   abbrev for_ends : ℕ → Bool

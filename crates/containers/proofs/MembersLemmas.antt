@@ -1,9 +1,6 @@
 -- What a caller knows of a list without doubles once a value is in it: its members, its length, and that each place keeps its value.
-use Rattle.std.proofs.Common.{◌≡◌, ℕ, zero, suc, ◌≤◌, Bool, true, false, cond, ◌||◌, List, [], ◌∷◌, ◌++◌, Some, length, slice_get, refl, ◌∙◌, arith}
-use Rattle.std.proofs.lemmas.Grind.{common_steps}
-use Rattle.std.proofs.lemmas.List.Folds.{list_any-append}
+use Rattle.std.proofs.Common.{◌≡◌, ℕ, zero, suc, Bool, true, false, cond, List, [], ◌∷◌, ◌++◌, Some, slice_get, refl, arith}
 use Rattle.std.proofs.lemmas.Map.Keys.{IsDistinct-push}
-use Rattle.std.proofs.lemmas.Map.Steps.{list_any_congr}
 use Rattle.std.specs.Cmp.{IsEquivalence}
 use Rattle.std.specs.List.{IsDistinct}
 use Rattle.std.specs.Set.{is_member}
@@ -24,24 +21,7 @@ module _ {X : Type 0} (eq : X → X → Bool) where
   pub slice_get-with_new : (xs : List X) (x : X) (place : ℕ) (y : X) → slice_get xs place ≡ Some y → slice_get (with_new eq xs x) place ≡ Some y
   slice_get-with_new xs x place y h = by_known (λ ys. slice_get ys place ≡ Some y) xs x (is_member eq xs x) (λ _. h) (λ _. slice_get-append_left xs (x ∷ []) place y h)
 
-  pub length-le-with_new : (xs : List X) (x : X) → length xs ≤ length (with_new eq xs x)
-  length-le-with_new xs x = by_known (λ ys. length xs ≤ length ys) xs x (is_member eq xs x) (λ _. omega arith) (λ _. grind (arith, common_steps))
-
-or_implied : (s t : Bool) → (t ≡ true → s ≡ true) → s ≡ (s || t)
-or_implied true t h = refl
-or_implied false true h = h refl
-or_implied false false h = refl
-
-or-false : (s t : Bool) → (s || (t || false)) ≡ (s || t)
-or-false true t = refl
-or-false false true = refl
-or-false false false = refl
-
 module _ {X : Type 0} {eq : X → X → Bool} (laws : IsEquivalence eq) where
-  pub is_member-with_new : (xs : List X) (x q : X) → is_member eq (with_new eq xs x) q ≡ (is_member eq xs q || eq q x)
-  is_member-with_new xs x q = by_known (λ ys. is_member eq ys q ≡ (is_member eq xs q || eq q x)) xs x (is_member eq xs x)
-      (λ known. or_implied (is_member eq xs q) (eq q x) (λ e. list_any_congr laws q x xs e ∙ known))
-      (λ _. list_any-append (eq q) xs (x ∷ []) ∙ or-false (is_member eq xs q) (eq q x))
 
   pub IsDistinct-with_new : (xs : List X) (x : X) → IsDistinct eq xs → IsDistinct eq (with_new eq xs x)
   IsDistinct-with_new xs x distinct = by_known (IsDistinct eq) xs x (is_member eq xs x) (λ _. distinct) (λ new. IsDistinct-push laws xs x distinct new)

@@ -1,12 +1,12 @@
 -- The members of the results of operations on sets of atoms.
 use Rattle.std.proofs.Common.{◌≡◌, ℕ, Bool, true, false, not, cond, ◌&&◌, ◌||◌, refl, sym, ◌∙◌, ap, subst, inl, inr, List, [], ◌∷◌}
 use Rattle.std.specs.List.{filter}
-use Rattle.std.proofs.lemmas.Bool.{false≢true, true≢false, eqb-false}
+use Rattle.std.proofs.lemmas.Bool.{false≢true, true≢false}
 use Rattle.csp_atoms.specs.Order.{kind_of, same}
-use Rattle.csp_atoms.specs.Sets.{AllAbove, AllOfKind, IsOneKind, IsRising, alike, has_atom, with_atom, union_of, inter_of, diff_of}
+use Rattle.csp_atoms.specs.Sets.{AllAbove, IsRising, has_atom, with_atom, union_of, inter_of, diff_of}
 use Rattle.csp_atoms.specs.declared.atom.Atom.{Atom}
 use Rattle.csp_atoms.proofs.OrderLaws.{same_exact, same_itself, less_itself, before_from_less, cases_atoms}
-use Rattle.csp_atoms.proofs.ListLaws.{has_not_before, AllAbove-trans, kind_first}
+use Rattle.csp_atoms.proofs.ListLaws.{has_not_before, AllAbove-trans}
 
 or_same : (a b : Bool) → (a || b) ≡ (a || (a || b))
 or_same true b = refl
@@ -65,30 +65,6 @@ has-diff_of xs ys z = has-filter (λ a. not (has_atom ys a)) xs z
 other_kind : (t : Bool) (l : ℕ) (x y : Atom) → same y x ≡ t → kind_of y ≡ l → (kind_of x ≡ l → ⊥) → t ≡ false
 other_kind true l x y e k n = absurd (n (ap kind_of (sym (same_exact y x e)) ∙ k))
 other_kind false l x y e k n = refl
-
-pub has_other_kind : (l : ℕ) (x : Atom) (ys : List Atom) → AllOfKind l ys → (kind_of x ≡ l → ⊥) → has_atom ys x ≡ false
-has_other_kind l x [] r n = refl
-has_other_kind l x (y ∷ ys) r n = rw (other_kind (same y x) l x y refl r.0 n) (has_other_kind l x ys r.1 n)
-
-inter_apart : (k l : ℕ) (xs ys : List Atom) → AllOfKind k xs → AllOfKind l ys → (k ≡ l → ⊥) → inter_of xs ys ≡ []
-inter_apart k l [] ys r s n = refl
-inter_apart k l (x ∷ xs) ys r s n = rw (has_other_kind l x ys s (λ h. n (sym r.0 ∙ h))) (inter_apart k l xs ys r.1 s n)
-
-diff_apart : (k l : ℕ) (xs ys : List Atom) → AllOfKind k xs → AllOfKind l ys → (k ≡ l → ⊥) → diff_of xs ys ≡ xs
-diff_apart k l [] ys r s n = refl
-diff_apart k l (x ∷ xs) ys r s n = rw (has_other_kind l x ys s (λ h. n (sym r.0 ∙ h))) (ap (λ l. x ∷ l) (diff_apart k l xs ys r.1 s n))
-
--- sets of two kinds have nothing in common
-pub inter_of_two_kinds : (xs ys : List Atom) → IsOneKind xs → IsOneKind ys → alike xs ys ≡ false → inter_of xs ys ≡ []
-inter_of_two_kinds [] ys r s h = refl
-inter_of_two_kinds (x ∷ xs) [] r s h = absurd (true≢false h)
-inter_of_two_kinds (x ∷ xs) (y ∷ ys) r s h = inter_apart (kind_of x) (kind_of y) (x ∷ xs) (y ∷ ys) (kind_first x xs r) (kind_first y ys s) (eqb-false (kind_of x) (kind_of y) h)
-
--- and nothing is taken from the first by the second
-pub diff_of_two_kinds : (xs ys : List Atom) → IsOneKind xs → IsOneKind ys → alike xs ys ≡ false → diff_of xs ys ≡ xs
-diff_of_two_kinds [] ys r s h = refl
-diff_of_two_kinds (x ∷ xs) [] r s h = absurd (true≢false h)
-diff_of_two_kinds (x ∷ xs) (y ∷ ys) r s h = diff_apart (kind_of x) (kind_of y) (x ∷ xs) (y ∷ ys) (kind_first x xs r) (kind_first y ys s) (eqb-false (kind_of x) (kind_of y) h)
 
 -- ---- extensionality
 

@@ -19,11 +19,6 @@ is_less Less h = refl
 is_less Equal h = absurd (false≢true h)
 is_less Greater h = absurd (false≢true h)
 
-is_equal : (o : Ordering) → is_eq o ≡ true → o ≡ Equal
-is_equal Less h = absurd (false≢true h)
-is_equal Equal h = refl
-is_equal Greater h = absurd (false≢true h)
-
 ints_equal : (o : Ordering) (m n : ℤ) → o ≡ int_cmp m n → is_eq o ≡ true → m ≡ n
 ints_equal Less m n e h = absurd (false≢true h)
 ints_equal Equal m n e h = int_ranked m n Equal e

@@ -1,5 +1,5 @@
 -- The walk over two lists of blocks: what is done and what is left make the operation of both.
-use Rattle.std.proofs.Common.{◌≡◌, ℕ, zero, suc, ◌+◌, ◌-◌, ◌*◌, ◌/◌, ◌%◌, ◌^◌, ◌<◌, ◌≤◌, true, false, not, cond, ◌&&◌, ◌||◌, eqb, ltb, List, [], ◌∷◌, ◌++◌, length, min, max, refl, sym, ap, inl, inr, le_refl, ◌∙◌, subst, arith}
+use Rattle.std.proofs.Common.{◌≡◌, ℕ, zero, suc, ◌+◌, ◌-◌, ◌*◌, ◌/◌, ◌%◌, ◌^◌, ◌<◌, ◌≤◌, true, false, not, cond, ◌&&◌, ◌||◌, eqb, List, [], ◌∷◌, ◌++◌, length, min, max, refl, sym, ap, inl, inr, le_refl, ◌∙◌, subst, arith}
 use Rattle.std.proofs.lemmas.Bool.{cases_eq, cases_lt, eq-eqb, ne_eqb, lt-ltb, le-ltb}
 use Rattle.std.proofs.lemmas.Nat.Bits.{bit_at_and, bit_at_or, bit_at_not, bit_at-lt, bit_at-trailing_zeros}
 use Rattle.std.proofs.lemmas.Nat.{or_lt, and_le_l}
@@ -101,25 +101,6 @@ least_of-ahead m (p ∷ ps) (q ∷ qs) l r s =
       | inr h ↦ rw (le-ltb p.0 q.0 h) (s.0, s.1, ((omega arith), r.1, r.2, r.3, r.4), (le_refl q.0, s.1, s.2, s.3, s.4))
     ]
 
--- each step takes a block from one list at least
-rest_after-le : (ps : List (ℕ × ℕ)) (n : ℕ) → length (rest_after ps n) ≤ length ps
-rest_after-le [] n = le_refl 0
-rest_after-le (p ∷ ps) n =
-    elim (eqb p.0 n) as (λ b. length (cond b ps (p ∷ ps)) ≤ length (p ∷ ps)) [ true ↦ omega arith | false ↦ omega arith ]
-
-rest_after-lt : (p : ℕ × ℕ) (ps : List (ℕ × ℕ)) → length (rest_after (p ∷ ps) p.0) < length (p ∷ ps)
-rest_after-lt p ps = rw (eq-eqb p.0 p.0 refl) (omega arith)
-
-pub rest_after-shorter : (ps qs : List (ℕ × ℕ)) → 0 < length ps + length qs → length (rest_after ps (least_of ps qs)) + length (rest_after qs (least_of ps qs)) < length ps + length qs
-rest_after-shorter [] [] l = absurd (omega arith)
-rest_after-shorter [] (q ∷ qs) l = let h = rest_after-lt q qs in omega arith
-rest_after-shorter (p ∷ ps) [] l = let h = rest_after-lt p ps in omega arith
-rest_after-shorter (p ∷ ps) (q ∷ qs) l =
-    elim (ltb p.0 q.0) as (λ b. length (rest_after (p ∷ ps) (cond b p.0 q.0)) + length (rest_after (q ∷ qs) (cond b p.0 q.0)) < length (p ∷ ps) + length (q ∷ qs)) [
-      | true ↦ (let h = rest_after-lt p ps in let g = rest_after-le (q ∷ qs) p.0 in omega arith)
-      | false ↦ (let h = rest_after-lt q qs in let g = rest_after-le (p ∷ ps) q.0 in omega arith)
-    ]
-
 -- ---- blocks one after another
 
 pub end_from-push : (m : ℕ) (ps : List (ℕ × ℕ)) (p : ℕ × ℕ) → end_from m (ps ++ p ∷ []) ≡ p.0 + 1
@@ -159,9 +140,6 @@ pub record IsMerging (op : Operation) (left right out ps qs : List (ℕ × ℕ))
   pub first_ahead : AreBlocksFrom (end_from 0 out) ps
   pub second_ahead : AreBlocksFrom (end_from 0 out) qs
   pub words : (b : ℕ) → word_at out b + combined_of op (word_at ps b) (word_at qs b) ≡ combined_of op (word_at left b) (word_at right b)
-
-pub IsMerging-start : (op : Operation) (left right : List (ℕ × ℕ)) → AreBlocksFrom 0 left → AreBlocksFrom 0 right → IsMerging op left right [] left right
-IsMerging-start op left right r s = record { done = tt; first_ahead = r; second_ahead = s; words = λ b. omega arith }
 
 step_words : (op : Operation) (out ps qs : List (ℕ × ℕ)) (n b : ℕ) → AreBlocksFrom n ps → AreBlocksFrom n qs
     → word_at (with_word out n (combined_of op (first_word ps n) (first_word qs n))) b + combined_of op (word_at (rest_after ps n) b) (word_at (rest_after qs n) b)

@@ -323,11 +323,5 @@ order_past_front ps qs i e =
     whole : (rs : List (ℕ × ℕ)) → events_of (take i rs) ++ events_of (drop i rs) ≡ events_of rs
     whole rs = sym (events_of-append (take i rs) (drop i rs)) ∙ ap events_of (take-append-drop i rs)
 
-pub first_past_front : (ps : List (ℕ × ℕ)) (i : ℕ) (d : ℕ × ℕ) → get_or (drop i ps) 0 d ≡ get_or ps i d
-first_past_front [] zero d = refl
-first_past_front [] (suc i) d = refl
-first_past_front (p ∷ ps) zero d = refl
-first_past_front (p ∷ ps) (suc i) d = first_past_front ps i d
-
 pub blocks_past_front : (ps : List (ℕ × ℕ)) (i : ℕ) → AreBlocksFrom 0 ps → AreBlocksFrom 0 (drop i ps)
 blocks_past_front ps i r = AreBlocksFrom-weaken 0 (end_from 0 (take i ps)) (drop i ps) (omega arith) (AreBlocksFrom-drop 0 ps i r)

@@ -55,9 +55,6 @@ word_at-drop ps i b n r l m =
     ap (λ qs. word_at qs b) (sym (take-append-drop i ps)) ∙ word_at-append (take i ps) (drop i ps) b
     ∙ ap (λ w. w + word_at (drop i ps) b) (word_at_past 0 (take i ps) b (AreBlocksFrom-take 0 ps i r) (omega arith)) ∙ (omega arith)
 
-pub first_word-drop : (ps : List (ℕ × ℕ)) (i n : ℕ) → AreBlocksFrom 0 ps → end_from 0 (take i ps) ≤ n → AreBlocksFrom n (drop i ps) → first_word (drop i ps) n ≡ word_at ps n
-first_word-drop ps i n r l s = first_word-word_at n (drop i ps) s ∙ sym (word_at-drop ps i n n r l (le_refl n))
-
 -- whether an event is a member, from the blocks from its number on
 pub has_from_front : (ps qs : List (ℕ × ℕ)) (x : ℕ) → AreBlocksFrom 0 ps → AreBlocksFrom (x / 64) qs → ((b : ℕ) → x / 64 ≤ b → word_at qs b ≡ word_at ps b)
     → has (events_of ps) x ≡ has_bit (first_word qs (x / 64)) (x % 64)

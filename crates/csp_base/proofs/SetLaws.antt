@@ -3,7 +3,7 @@ use Rattle.std.proofs.Common.{◌≡◌, ℕ, true, not, ◌&&◌, eqb, List, []
 use Rattle.std.proofs.lemmas.Bool.{false≢true, or_cases, or_left, or_right, eq-eqb}
 use Rattle.std.specs.List.Sorted.{IsStrictlyIncreasing}
 use Rattle.csp_base.specs.Events.{has, with_member, union_of, set_of, inter_of, diff_of, meets_of}
-use Rattle.csp_base.proofs.Rising.{rises_from_increasing, increasing_from_rises, same_members, has-with_member, RisesFrom-with_member, RisesFrom-union_of, RisesFrom-filter, has-filter, and_comm, is_subset_of_from_members, member_of_superset, meets_of_from_member, not_meets_of_from_members}
+use Rattle.csp_base.proofs.Rising.{rises_from_increasing, increasing_from_rises, same_members, has-with_member, RisesFrom-with_member, RisesFrom-union_of, has-filter, and_comm, is_subset_of_from_members, member_of_superset, meets_of_from_member, not_meets_of_from_members}
 pub use Rattle.csp_base.proofs.Rising.{has-append, has-with_member, has-union_of, is_subset_of_from_members, not_is_subset_of_from_member, member_of_superset, meets_of_from_member, not_meets_of_from_members}
 
 -- extensionality: sets with the same members are equal
@@ -28,12 +28,6 @@ increasing-union_of xs ys r = increasing_from_rises 0 (union_of xs ys) (RisesFro
 
 pub increasing-set_of : (xs : List ℕ) → IsStrictlyIncreasing (set_of xs)
 increasing-set_of xs = increasing_from_rises 0 (set_of xs) (RisesFrom-union_of xs [] tt)
-
-pub increasing-inter_of : (xs ys : List ℕ) → IsStrictlyIncreasing xs → IsStrictlyIncreasing (inter_of xs ys)
-increasing-inter_of xs ys r = increasing_from_rises 0 (inter_of xs ys) (RisesFrom-filter (has ys) 0 xs (rises_from_increasing xs r))
-
-pub increasing-diff_of : (xs ys : List ℕ) → IsStrictlyIncreasing xs → IsStrictlyIncreasing (diff_of xs ys)
-increasing-diff_of xs ys r = increasing_from_rises 0 (diff_of xs ys) (RisesFrom-filter (λ z. not (has ys z)) 0 xs (rises_from_increasing xs r))
 
 -- ---- a member in common
 

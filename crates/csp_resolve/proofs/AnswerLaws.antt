@@ -28,19 +28,6 @@ err_from shown also (fault.EventLimit n) part whole along owed = along (fault.Ev
 err_from shown also (fault.DataDepth i) part whole along owed = along (fault.DataDepth i) owed
 err_from shown also (fault.Value i k) part whole along owed = along (fault.Value i k) owed
 
--- an error that the whole has is owed
-pub err_of : {A B : Type 0} (shown : A → B) (f : ResolveFault) (whole : Answer B) → whole ≡ Err f → Answers shown (Err f) whole
-err_of shown fault.NoMemory whole is = tt
-err_of shown fault.NoAssert whole is = is
-err_of shown (fault.Unknown i x) whole is = is
-err_of shown (fault.Twice i x) whole is = is
-err_of shown (fault.WrongKind i) whole is = is
-err_of shown (fault.WrongCount i x) whole is = is
-err_of shown (fault.ParallelInside i) whole is = is
-err_of shown (fault.EventLimit n) whole is = is
-err_of shown (fault.DataDepth i) whole is = is
-err_of shown (fault.Value i k) whole is = is
-
 pub grows_err : {A B : Type 0} (shown : A → B) (f : ResolveFault) (old new : List SharedSets) (part : Answer (List (List (List Atom)))) (whole : Answer B)
     → ((g : ResolveFault) → part ≡ Err g → whole ≡ Err g) → Grows (Err f) old new part → Answers shown (Err f) whole
 grows_err shown fault.NoMemory old new part whole along owed = tt
@@ -91,24 +78,6 @@ pub passed_grown : {B C : Type 0} (r : Result C ResolveFault) (f : ResolveFault)
     → IsErrAnd r (λ y. y ≡ f) → Grows (Err f) old new part → ((g : ResolveFault) → part ≡ Err g → whole ≡ Err g) → Answers also r whole
 passed_grown (Ok x) f also old new part whole is owed along = absurd is
 passed_grown (Err y) f also old new part whole is owed along = rw is (grows_err also f old new part whole along owed)
-
-grows_from : {A B : Type 0} (shown : A → B) (f : ResolveFault) (old new : List SharedSets) (part : Answer B) (whole : Answer (List (List (List Atom))))
-    → ((g : ResolveFault) → part ≡ Err g → whole ≡ Err g) → Answers shown (Err f) part → Grows (Err f) old new whole
-grows_from shown fault.NoMemory old new part whole along owed = tt
-grows_from shown fault.NoAssert old new part whole along owed = along fault.NoAssert owed
-grows_from shown (fault.Unknown i x) old new part whole along owed = along (fault.Unknown i x) owed
-grows_from shown (fault.Twice i x) old new part whole along owed = along (fault.Twice i x) owed
-grows_from shown (fault.WrongKind i) old new part whole along owed = along (fault.WrongKind i) owed
-grows_from shown (fault.WrongCount i x) old new part whole along owed = along (fault.WrongCount i x) owed
-grows_from shown (fault.ParallelInside i) old new part whole along owed = along (fault.ParallelInside i) owed
-grows_from shown (fault.EventLimit n) old new part whole along owed = along (fault.EventLimit n) owed
-grows_from shown (fault.DataDepth i) old new part whole along owed = along (fault.DataDepth i) owed
-grows_from shown (fault.Value i k) old new part whole along owed = along (fault.Value i k) owed
-
-pub grows_passed : {A B : Type 0} (r : Result (Unit {0}) ResolveFault) (f : ResolveFault) (shown : A → B) (old new : List SharedSets) (part : Answer B) (whole : Answer (List (List (List Atom))))
-    → IsErrAnd r (λ y. y ≡ f) → Answers shown (Err f) part → ((g : ResolveFault) → part ≡ Err g → whole ≡ Err g) → Grows r old new whole
-grows_passed (Ok x) f shown old new part whole is owed along = absurd is
-grows_passed (Err y) f shown old new part whole is owed along = rw is (grows_from shown f old new part whole along owed)
 
 pub refused_at : (script : Script) (decls : List Decl) (kinds : List Kind) (r : Result Content ResolveFault) (f : ResolveFault) → decls ≡ script.decls → AreKinds decls kinds
     → IsErrAnd r (λ y. y ≡ f) → Answers (λ (p : Content). p) (Err f) (resolved decls kinds) → Resolves script r

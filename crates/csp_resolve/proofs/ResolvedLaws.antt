@@ -7,7 +7,6 @@ use Rattle.csp_text.specs.declared.script.Decl.{Decl}
 use Rattle.csp_text.specs.declared.tree.Tree.{Tree}
 use Rattle.csp_resolve.specs.Answers.{types_read}
 use Rattle.name_tables.specs.Firsts.{SameFirsts}
-use Rattle.script_names.specs.declared.fault.ResolveFault.{ResolveFault}
 use Rattle.script_names.specs.declared.fault.ResolveFault.TheVariants as fault
 use Rattle.script_names.specs.declared.kinds.Kind.{Kind}
 use Rattle.script_names.specs.Contents.{first_assertion, plain_content}
@@ -18,9 +17,6 @@ use Rattle.script_names.specs.Told.{name_fault}
 module _ (decls : List Decl) (kinds : List Kind) where
   pub no_assert : first_assertion decls ≡ None → resolved decls kinds ≡ Err fault.NoAssert
   no_assert none = ap (with_root decls kinds) none
-
-  pub at_fault : (root : Tree) (f : ResolveFault) → first_assertion decls ≡ Some root → name_fault decls kinds ≡ Some f → resolved decls kinds ≡ Err f
-  at_fault root f asserted told = ap (with_root decls kinds) asserted ∙ ap (with_names decls kinds) told
 
   pub faultless : (root : Tree) (names : Entities) (content : Content) → SameFirsts names (declared decls) → first_assertion decls ≡ Some root → name_fault decls kinds ≡ None
       → content ≡ plain_content decls kinds

@@ -87,7 +87,3 @@ grows_by_channels p types_of i xs types sets one old new told channels_is sets_i
   ap (λ o. and_next o (λ s. Ok (replicate (length xs) s))) told,
   ap spread new_is ∙ spread-snoc old one ∙ (λ j. spread old ++ replicate (channels_is j) (sets_is j)),
 )
-
--- another adds none
-pub grows_by_none : (old new : List SharedSets) → new ≡ old → GrowsBy old new (Ok [])
-grows_by_none old new same = ([], refl, ap spread same ∙ sym (append-nil (spread old)))

@@ -1,10 +1,10 @@
 -- What arcs there are once more ends were gone over.
-use Rattle.std.proofs.Common.{◌≡◌, ℕ, ◌+◌, ◌<◌, ◌≤◌, Bool, true, false, ◌&&◌, ◌||◌, nat_eq, nat_lt, List, inl, inr, length, take, get_or, refl, sym, ap, ◌∙◌, arith}
+use Rattle.std.proofs.Common.{◌≡◌, ℕ, ◌+◌, ◌<◌, ◌≤◌, Bool, true, false, ◌&&◌, ◌||◌, nat_eq, nat_lt, List, length, take, get_or, refl, sym, ap, ◌∙◌, arith}
 use Rattle.std.specs.Prelude.{Some, None, slice_get, Vec, if◌then◌else◌}
 use Rattle.std.specs.Option.{option_map}
 use Rattle.std.proofs.lemmas.Bool.Decides.{nat_tests}
 use Rattle.std.specs.declared.alloc.Global.{Global}
-use Rattle.std.proofs.lemmas.Bool.{cases_lt, false≢true, lt-ltb, eqb-true}
+use Rattle.std.proofs.lemmas.Bool.{false≢true, eqb-true}
 use Rattle.std.proofs.lemmas.List.Folds.{list_any_more}
 use Rattle.std.proofs.lemmas.Option.{slice_get_past, slice_get_read, slice_get-map}
 use Rattle.script_names.specs.declared.kinds.End.{End}
@@ -76,12 +76,3 @@ module _ (n : ℕ) (target : End) (all : List (Vec End Global)) where
 
   past_end : (v w : ℕ) → length all ≤ w → from v w ≡ false
   past_end v w past = ap (λ o. some_from n target v (ends_at o)) (slice_get-map (λ (e : Vec End Global). e.items) all w ∙ ap (option_map (λ (e : Vec End Global). e.items)) (slice_get_past all w past))
-
-  pub arcs_end : (v w d : ℕ) (now : Bool) → length all ≤ d → now ≡ (nat_lt w d && from v w) → now ≡ from v w
-  arcs_end v w d now at_end so_far =
-      elim (cases_lt w d) as (λ _. now ≡ from v w) [
-        | inl below ↦ so_far ∙ ap (λ b. b && from v w) (lt-ltb w d below)
-        | inr past ↦
-            let none : from v w ≡ false = past_end v w (omega arith) in
-            so_far ∙ ap (λ b. nat_lt w d && b) none ∙ and_false (nat_lt w d) ∙ sym none
-      ]

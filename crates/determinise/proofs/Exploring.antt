@@ -1,6 +1,6 @@
 -- Traces lead from set to set, and the nodes of the sets come one after another.
-use Rattle.std.proofs.Common.{◌≡◌, ◌↔◌, ℕ, ◌<◌, inl, inr, true, false, nat_eq, IsTrue, List, [], ◌∷◌, ◌++◌, length, get_or, take, refl, sym, ap, subst, ◌∙◌, arith, eq-eqb}
-use Rattle.std.proofs.lemmas.Bool.{cases_lt, eqb-true, false≢true, or_cases}
+use Rattle.std.proofs.Common.{◌≡◌, ℕ, ◌<◌, inl, inr, true, nat_eq, IsTrue, List, [], ◌∷◌, ◌++◌, length, get_or, take, sym, ap, subst, ◌∙◌, arith, eq-eqb}
+use Rattle.std.proofs.lemmas.Bool.{cases_lt, eqb-true}
 use Rattle.std.proofs.lemmas.Grind.{flat_map-append}
 use Rattle.std.proofs.lemmas.List.{append-nil, get_or_append_left, length-append, take-append-le, take_all}
 use Rattle.std.proofs.lemmas.List.Folds.{list_any_at}
@@ -12,7 +12,7 @@ use Rattle.csp_tables.specs.RawTable.{RawTable, RawStep}
 use Rattle.csp_tables.specs.Table.{Node, target, node_at}
 use Rattle.csp_tables.specs.BreadthFirst.{targets_of_steps, targets_of_nodes, MeetsInOrder, MeetsUpTo}
 use Rattle.csp_tables.proofs.Listed.{step_listed, listed_step}
-use Rattle.term_sets.specs.Moves.{has_event, has_move, AreMovesOf, IsNextSet, IsSilentlyReached}
+use Rattle.term_sets.specs.Moves.{has_event, has_move, AreMovesOf, IsNextSet}
 use Rattle.determinise.specs.Progress.{set_at, IsReachedFromSet, AreMoreSets, AreNodeSteps, IsNodeOf, AreReachedSets, AreNodesSoFar}
 use Rattle.term_sets.specs.TermSets.{IsTermSet, IsSetAfter}
 use Rattle.term_sets.proofs.Traces.{After-none, After-event, After-append, After-cut, After-first}
@@ -64,15 +64,6 @@ module _ (raw : RawTable) (s set : List ℕ) (moves : List (ℕ × ℕ)) (after 
     some = let m = move_of_event moves e listed in (m.0, into e m.0 m.0 m.1 (After-none (RawStep raw) m.0));
   }
 
-pub one_reached : (raw : RawTable) (set : List ℕ) (sets : List (List ℕ)) → IsSetAfter raw [] set → IsTermSet raw set → sets ≡ set ∷ [] → AreReachedSets raw sets
-one_reached raw set sets after form is = subst (AreReachedSets raw) (sym is) (record {
-  first = after;
-  not_empty = omega arith;
-  each = λ n h. let zero : n ≡ 0 = omega arith in ([], rw zero after);
-  forms = λ n h. let zero : n ≡ 0 = omega arith in rw zero form;
-  apart = λ m n a b. absurd (omega arith);
-})
-
 pub reached_more : (raw : RawTable) (old new : List (List ℕ)) (place : ℕ) → place < length old → AreReachedSets raw old → AreMoreSets (IsReachedFromSet raw (set_at old place)) old new → AreReachedSets raw new
 reached_more raw old new place below r more = record {
   first = subst (IsSetAfter raw []) (sym (more.kept 0 r.not_empty)) r.first;
@@ -104,14 +95,6 @@ node_kept raw P old new k node below more n = subst (λ (X : List ℕ). IsNodeOf
   steps = (n.steps.0, n.steps.1, steps_kept raw n.steps.0 P old new node.next more n.steps.2);
   accept = n.accept;
 })
-
-pub no_nodes : (raw : RawTable) (sets : List (List ℕ)) → length sets ≡ 1 → AreNodesSoFar raw sets []
-no_nodes raw sets one = record {
-  fewer = omega arith;
-  each = λ k h. absurd (omega arith);
-  met = sym one;
-  in_turn = λ k h. absurd (omega arith);
-}
 
 pub nodes_more : (raw : RawTable) (P : List ℕ → Type 0) (old new : List (List ℕ)) (nodes : List Node) (node : Node) → length nodes < length old → AreNodesSoFar raw old nodes → AreMoreSets P old new → IsNodeOf raw new (set_at old (length nodes)) node → MeetsInOrder (length old) (targets_of_steps node.next) (length new) → AreNodesSoFar raw new (nodes ++ node ∷ [])
 nodes_more raw P old new nodes node below so_far more is order = record {

@@ -1,8 +1,8 @@
 -- What an arc that is added changes, and where arcs begin and end.
-use Rattle.std.proofs.Common.{◌≡◌, ℕ, ◌<◌, Bool, true, false, ◌==◌, ◌&&◌, ◌||◌, nat_eq, eq-eqb, List, [], ◌∷◌, ◌++◌, length, set, replicate, get_or, refl, sym, ap, ◌∙◌, inl, inr, get_or-set_same, get_or-set_other}
+use Rattle.std.proofs.Common.{◌≡◌, ℕ, ◌<◌, Bool, true, false, ◌==◌, ◌&&◌, ◌||◌, nat_eq, eq-eqb, [], ◌∷◌, ◌++◌, length, set, get_or, refl, sym, ap, ◌∙◌, inl, inr, get_or-set_same, get_or-set_other}
 use Rattle.std.specs.List.{All}
 use Rattle.csp_base.specs.Members.{has}
-use Rattle.std.proofs.lemmas.List.{length-set, length-replicate, get_or-replicate, get_or_past, get_or_read, get_or_default}
+use Rattle.std.proofs.lemmas.List.{length-set, get_or_past, get_or_read, get_or_default}
 use Rattle.std.proofs.lemmas.List.Folds.{list_any-append, list_any_at, Any-from_list_any}
 use Rattle.std.proofs.lemmas.Bool.{cases_eq, cases_lt, or_cases, and_parts, eqb-true, ne_eqb, false≢true}
 use Rattle.digraph.specs.Digraph.{Digraph, targets_of, has_arc, HasArc, InRange}
@@ -45,11 +45,6 @@ InRange-add g from to a b kept v w arc =
       | inl old ↦ rw length-set (kept v w old)
       | inr new ↦ let is : w ≡ to = eqb-true w to (and_parts (v == from) (w == to) new).1 in rw (length-set, is) b
     ]
-
-pub InRange-none : (n : ℕ) → InRange (replicate n [])
-InRange-none n v w arc =
-    let below : v < length (replicate {A = List ℕ} n []) = HasArc-from (replicate n []) v w arc in
-    absurd (false≢true (rw (get_or-replicate {A = List ℕ} n v [] [] (rw length-replicate at below)) at arc))
 
 -- each target in a row is a vertex
 pub targets_below : (g : Digraph) (v : ℕ) → InRange g → All (λ w. w < length g) (targets_of g v)

@@ -4,7 +4,7 @@ use Rattle.std.proofs.lemmas.List.{length-set, length_push, get_or_append_left, 
 use Rattle.digraph.specs.declared.walks.Mark.{Mark}
 use Rattle.digraph.specs.declared.walks.Mark.TheVariants.{New, Open, Done}
 use Rattle.digraph.specs.Digraph.{Digraph, targets_of, HasArc}
-use Rattle.digraph.specs.Search.{IsSearch, StaysMet, mark_at, work_left}
+use Rattle.digraph.specs.Search.{IsSearch, mark_at, work_left}
 use Rattle.digraph.proofs.Writes.{after_set, after_push, done_count-open, sum-set}
 
 module _ (g : Digraph) (marks : List Mark) (heights rest trail : List ℕ) (s : IsSearch g marks heights rest trail) (w : ℕ) (vertex : w < length g) (new : mark_at marks w ≡ New) where
@@ -39,9 +39,6 @@ module _ (g : Digraph) (marks : List Mark) (heights rest trail : List ℕ) (s : 
     | inl p ↦ absurd (cc)
     | inr p ↦ (p.0, sym p.1 ∙ h)
   ]
-
-  pub stays_met_entering : StaysMet marks (set marks w Open)
-  stays_met_entering v h = (was_new v h).1
 
   not_on_trail : (k : ℕ) → k < length trail → get_or trail k 0 ≢ w
   not_on_trail k h e = let o = s.opened k h in let n : mark_at marks (get_or trail k 0) ≡ New = rw e new in cc

@@ -6,7 +6,7 @@ use Rattle.digraph.specs.declared.walks.Mark.{Mark}
 use Rattle.digraph.specs.declared.walks.Mark.TheVariants.{New, Open, Done}
 use Rattle.digraph.specs.Digraph.{Digraph, HasArc}
 use Rattle.digraph.specs.Walk.{Walk}
-use Rattle.digraph.specs.Search.{IsSearch, StaysMet, mark_at, done_count, work_left}
+use Rattle.digraph.specs.Search.{IsSearch, mark_at, done_count}
 use Rattle.digraph.proofs.Arcs.{place_of_arc}
 use Rattle.digraph.proofs.Writes.{after_set, open_within, done_count-done}
 
@@ -32,17 +32,11 @@ module _ (g : Digraph) (marks : List Mark) (heights rest trail : List ℕ) (s : 
   was_done : (u : ℕ) → mark_at (set marks v Done) u ≡ Done → (u ≡ v) ⊎ (mark_at marks u ≡ Done)
   was_done u h = elim (mark_then u) as (λ _. (u ≡ v) ⊎ (mark_at marks u ≡ Done)) [ inl p ↦ inl p.0 | inr p ↦ inr (sym p.1 ∙ h) ]
 
-  pub stays_met_finishing : StaysMet marks (set marks v Done)
-  stays_met_finishing u h = was_new u h
-
   shorter : length (take (length trail - 1) trail) ≡ length trail - 1
   shorter = length-take-le (length trail - 1) trail (omega arith)
 
   place : (k : ℕ) → k < length (take (length trail - 1) trail) → (k < length trail - 1) × (get_or (take (length trail - 1) trail) k 0 ≡ get_or trail k 0)
   place k h = let l : k < length trail - 1 = rw shorter at h in (l, get_or-take (length trail - 1) trail k 0 l)
-
-  pub less_work_finishing : work_left rest (take (length trail - 1) trail) < work_left rest trail
-  less_work_finishing = omega (arith, shorter)
 
   -- no walk from v is longer than its height
   longest : (n u : ℕ) → Walk (HasArc g) n v u → n ≤ get_or heights v 0

@@ -6,9 +6,9 @@ use Rattle.digraph.specs.declared.walks.Mark.{Mark}
 use Rattle.digraph.specs.declared.walks.Mark.TheVariants.{Open, Done}
 use Rattle.digraph.specs.Digraph.{Digraph, targets_of, HasArc}
 use Rattle.digraph.specs.Walk.{Walk}
-use Rattle.digraph.specs.Search.{IsSearch, mark_at, done_count, work_left}
+use Rattle.digraph.specs.Search.{IsSearch, mark_at, done_count}
 use Rattle.digraph.proofs.Arcs.{HasArc-at}
-use Rattle.digraph.proofs.Writes.{after_set, open_within, sum-set}
+use Rattle.digraph.proofs.Writes.{after_set, open_within}
 
 module _ (g : Digraph) (marks : List Mark) (heights rest trail : List ℕ) (s : IsSearch g marks heights rest trail) (v w : ℕ) (opened : mark_at marks v ≡ Open) (left : 0 < get_or rest v 0) (done : mark_at marks w ≡ Done) (is : get_or (targets_of g v) (get_or rest v 0 - 1) 0 ≡ w) where
   in_heights : v < length heights
@@ -66,9 +66,6 @@ module _ (g : Digraph) (marks : List Mark) (heights rest trail : List ℕ) (s : 
         ])
         | inr p ↦ rw p.1 (s.attained u)
       ]
-
-  pub less_work_raising : work_left (set rest v (get_or rest v 0 - 1)) trail < work_left rest trail
-  less_work_raising = let e = sum-set rest v (get_or rest v 0 - 1) in_rest in omega arith
 
   pub search_raising : IsSearch g marks (set heights v (max (get_or heights v 0) (get_or heights w 0 + 1))) (set rest v (get_or rest v 0 - 1)) trail
   search_raising = record {

@@ -70,24 +70,6 @@ pub first_arc : {V : Type 0} (Arc : V → V → Type 0) (x : V) (vs : List V) (y
 first_arc Arc x [] y l = (y, l)
 first_arc Arc x (v ∷ vs) y l = (v, l.0)
 
--- a relation without walks from a vertex back to itself has no circle
-pub walk_round : {V : Type 0} (Arc : V → V → Type 0) (x : V) (vs : List V) (y : V) → Leads Arc x vs y → Walk Arc (suc (length vs)) x y
-walk_round Arc x [] y l = (y, l, refl)
-walk_round Arc x (v ∷ vs) y l = (v, l.0, walk_round Arc v vs y l.1)
-
-pub no_circle_by_walks : {V : Type 0} (Arc : V → V → Type 0) → ((n : ℕ) (x : V) → Walk Arc (suc n) x x → ⊥) → HasNoCircle Arc
-no_circle_by_walks Arc none' [] circle = circle
-no_circle_by_walks Arc none' (v ∷ vs) circle = none' (length vs) v (walk_round Arc v vs v circle)
-
--- a walk of an arc or more leads over vertices
-pub over_vertices : {V : Type 0} (Arc : V → V → Type 0) (n : ℕ) (x y : V) → Walk Arc (suc n) x y → (vs : List V) × Leads Arc x vs y
-over_vertices Arc zero x y walk = ([], subst (Arc x) walk.2 walk.1)
-over_vertices Arc (suc n) x y walk = let rest = over_vertices Arc n walk.0 y walk.2 in (walk.0 ∷ rest.0, (walk.1, rest.1))
-
--- and one that leads back is a circle
-pub no_walk_round : {V : Type 0} (Arc : V → V → Type 0) → HasNoCircle Arc → (n : ℕ) (x : V) → Walk Arc (suc n) x x → ⊥
-no_walk_round Arc none' n x walk = let l = over_vertices Arc n x x walk in none' (x ∷ l.0) l.1
-
 -- arcs from each vertex of a list to the next, and from the last on
 pub Leads-from_places : (Arc : ℕ → ℕ → Type 0) (x : ℕ) (vs : List ℕ) (y : ℕ) → ((k : ℕ) → k + 1 < length (x ∷ vs) → Arc (get_or (x ∷ vs) k 0) (get_or (x ∷ vs) (k + 1) 0)) → Arc (get_or (x ∷ vs) (length vs) 0) y → Leads Arc x vs y
 Leads-from_places Arc x [] y arcs last = last

@@ -29,13 +29,6 @@ open_within marks v h =
       | inr past ↦ let e : mark_at marks v ≡ New = get_or_past marks v New past in absurd (cc)
     ]
 
-pub done_within : (marks : List Mark) (v : ℕ) → mark_at marks v ≡ Done → v < length marks
-done_within marks v h =
-    elim (cases_lt v (length marks)) as (λ _. v < length marks) [
-      | inl below ↦ below
-      | inr past ↦ let e : mark_at marks v ≡ New = get_or_past marks v New past in absurd (cc)
-    ]
-
 abbrev weight : Mark → ℕ
 weight m = cond (is_done m) 1 0
 

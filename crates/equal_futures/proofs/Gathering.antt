@@ -1,17 +1,14 @@
 -- Steps in lists: where they stand, the rows of incoming steps, and steps that are gathered.
-use Rattle.std.proofs.Common.{◌≡◌, ℕ, zero, suc, ◌+◌, ◌<◌, inl, inr, List, [], ◌∷◌, ◌++◌, length, set, get_or, take, replicate, Bool, true, false, ◌||◌, ◌&&◌, nat_eq, nat_lt, refl, sym, ap, ◌∙◌, subst, arith}
-use Rattle.std.specs.Prelude.{slice_index_or, ◌↔◌}
-use Rattle.std.specs.List.{list_any, All, Contains}
+use Rattle.std.proofs.Common.{◌≡◌, ℕ, zero, suc, ◌+◌, ◌<◌, inl, inr, List, [], ◌∷◌, length, get_or, Bool, true, false, ◌||◌, ◌&&◌, nat_eq, refl, sym, ap, ◌∙◌, subst, arith}
+use Rattle.std.specs.Prelude.{◌↔◌}
+use Rattle.std.specs.List.{All, Contains}
 use Rattle.std.specs.List.Sorted.{IsPermutation}
-use Rattle.std.proofs.lemmas.Bool.{cases_eq, cases_order, or_cases, or_left, or_right, and_parts, and_from, eqb-true, eq-eqb, ne_eqb, lt-ltb, le-ltb, false≢true}
-use Rattle.std.proofs.lemmas.List.{take_more, length-replicate, get_or-replicate, length-set, length-take-le, get_or-take}
-use Rattle.std.proofs.lemmas.List.Folds.{list_any-append}
+use Rattle.std.proofs.lemmas.Bool.{cases_eq, or_cases, or_left, or_right, and_parts, and_from, eqb-true, eq-eqb, ne_eqb, false≢true}
 use Rattle.std.proofs.lemmas.List.Sorted.{Contains-permutation, IsPermutation-sym}
 use Rattle.csp_tables.specs.Table.{Node, node_at, is_possible, target, node_after}
 use Rattle.equal_futures.specs.Future.{StepsRise, NodesRise}
-use Rattle.equal_futures.specs.Arrows.{has_arrow, AreFrom, AreMarkSteps, AreAdded, AreIncoming, AreGathered}
+use Rattle.equal_futures.specs.Arrows.{has_arrow, AreFrom, AreAdded, AreIncoming}
 use Rattle.equal_futures.proofs.RowLists.{once}
-use Rattle.partitions.proofs.Writes.{by_write}
 
 pub bool_from_iff : (a b : Bool) → (a ≡ true → b ≡ true) → (b ≡ true → a ≡ true) → a ≡ b
 bool_from_iff true true f g = refl
@@ -97,43 +94,6 @@ away false true true e = refl
 away false true false true = refl
 away false true false false = refl
 
-pub none_added : (rows : List (List (ℕ × ℕ))) (source : ℕ) → AreAdded rows rows source []
-none_added rows source = record { one_each = refl; steps = λ t e i h. keep (has_arrow (get_or rows t []) e i) (nat_eq source i) }
-  where
-    keep : (a s : Bool) → a ≡ (a || (s && false))
-    keep true s = refl
-    keep false true = refl
-    keep false false = refl
-
-pub one_more_added : (old rows more : List (List (ℕ × ℕ))) (source : ℕ) (next : List (ℕ × ℕ)) (k : ℕ) (d : ℕ × ℕ) → k < length next → (get_or next k d).1 < length old → AreAdded old rows source (take k next) → more ≡ set rows (get_or next k d).1 (get_or rows (get_or next k d).1 [] ++ ((get_or next k d).0, source) ∷ []) → AreAdded old more source (take (k + 1) next)
-one_more_added old rows more source next k d inside below a is = record {
-  one_each = ap (λ (xs : List (List (ℕ × ℕ))). length xs) is ∙ length-set rows (get_or next k d).1 (get_or rows (get_or next k d).1 [] ++ ((get_or next k d).0, source) ∷ []) ∙ a.one_each;
-  steps = λ t e i h.
-      let step = get_or next k d in
-      let row = get_or rows step.1 [] ++ (step.0, source) ∷ [] in
-      let there : step.1 < length rows = subst (λ m. step.1 < m) (sym a.one_each) below in
-      let grown : take (k + 1) next ≡ take k next ++ step ∷ [] = take_more next k d inside in
-      let has_more : has_arrow (take (k + 1) next) e t ≡ (has_arrow (take k next) e t || ((nat_eq step.0 e && nat_eq step.1 t) || false)) = ap (λ (xs : List (ℕ × ℕ)). has_arrow xs e t) grown ∙ list_any-append (λ (x : ℕ × ℕ). nat_eq x.0 e && nat_eq x.1 t) (take k next) (step ∷ []) in
-      subst (λ (xs : List (List (ℕ × ℕ))). has_arrow (get_or xs t []) e i ≡ (has_arrow (get_or old t []) e i || (nat_eq source i && has_arrow (take (k + 1) next) e t))) (sym is)
-      (subst (λ b. has_arrow (get_or (set rows step.1 row) t []) e i ≡ (has_arrow (get_or old t []) e i || (nat_eq source i && b))) (sym has_more)
-      (by_write rows step.1 row t [] there (λ r. has_arrow r e i ≡ (has_arrow (get_or old t []) e i || (nat_eq source i && (has_arrow (take k next) e t || ((nat_eq step.0 e && nat_eq step.1 t) || false)))))
-      (λ same.
-      list_any-append (λ (x : ℕ × ℕ). nat_eq x.0 e && nat_eq x.1 i) (get_or rows step.1 []) ((step.0, source) ∷ [])
-      ∙ ap (λ b. b || ((nat_eq step.0 e && nat_eq source i) || false)) (ap (λ r. has_arrow (get_or rows r []) e i) (sym same) ∙ a.steps t e i h)
-      ∙ here (has_arrow (get_or old t []) e i) (nat_eq source i) (has_arrow (take k next) e t) (nat_eq step.0 e)
-      ∙ ap (λ b. has_arrow (get_or old t []) e i || (nat_eq source i && (has_arrow (take k next) e t || ((nat_eq step.0 e && b) || false)))) (sym (eq-eqb step.1 t (sym same))))
-      (λ other.
-      a.steps t e i h
-      ∙ away (has_arrow (get_or old t []) e i) (nat_eq source i) (has_arrow (take k next) e t) (nat_eq step.0 e)
-      ∙ ap (λ b. has_arrow (get_or old t []) e i || (nat_eq source i && (has_arrow (take k next) e t || ((nat_eq step.0 e && b) || false)))) (sym (ne_eqb step.1 t (λ q. other (sym q)))))));
-}
-
-pub none_incoming : (nodes : List Node) → AreIncoming nodes (replicate (length nodes) []) 0
-none_incoming nodes = record {
-  one_each = length-replicate (length nodes) [];
-  exact = λ t e i h. (λ p. absurd (false≢true (subst (λ (r : List (ℕ × ℕ)). has_arrow r e i ≡ true) (get_or-replicate (length nodes) t [] [] h) p)), λ p. absurd (omega (arith, p.0)));
-}
-
 pub one_more_incoming : (nodes : List Node) (rows more : List (List (ℕ × ℕ))) (k : ℕ) → NodesRise nodes → AreIncoming nodes rows k → AreAdded rows more k (node_at nodes k).next → AreIncoming nodes more (k + 1)
 one_more_incoming nodes rows more k rise a b = record {
   one_each = b.one_each ∙ a.one_each;
@@ -156,62 +116,6 @@ one_more_incoming nodes rows more k rise a b = record {
         ],
       );
 }
-
--- what is gathered from one member more
-pub one_more_gathered : (rows : List (List (ℕ × ℕ))) (members : List ℕ) (k : ℕ) (steps more : List (ℕ × ℕ)) → k < length members → AreGathered rows (take k members) steps → more ≡ steps ++ get_or rows (get_or members k 0) [] → AreGathered rows (take (k + 1) members) more
-one_more_gathered rows members k steps more inside a is e i =
-    let t = get_or members k 0 in
-    ap (λ (xs : List (ℕ × ℕ)). has_arrow xs e i) is ∙ list_any-append (λ (x : ℕ × ℕ). nat_eq x.0 e && nat_eq x.1 i) steps (get_or rows t [])
-    ∙ ap (λ b. b || has_arrow (get_or rows t []) e i) (a e i)
-    ∙ ap (λ b. list_any (λ t. has_arrow (slice_index_or rows t []) e i) (take k members) || b) (sym (or_none (has_arrow (get_or rows t []) e i)))
-    ∙ sym (list_any-append (λ t. has_arrow (slice_index_or rows t []) e i) (take k members) (t ∷ []))
-    ∙ sym (ap (λ (xs : List ℕ). list_any (λ t. has_arrow (slice_index_or rows t []) e i) xs) (take_more members k 0 inside))
-  where
-    or_none : (a : Bool) → (a || false) ≡ a
-    or_none true = refl
-    or_none false = refl
-
--- the steps by marks, one node more
-pub one_more_mark : (marks : List ℕ) (k m : ℕ) (steps : List (ℕ × ℕ)) → k < length marks → m ≡ get_or marks k 0 → AreMarkSteps (take k marks) steps → AreMarkSteps (take (k + 1) marks) (steps ++ (m, k) ∷ [])
-one_more_mark marks k m steps inside is a e i =
-    let len : length (take k marks) ≡ k = length-take-le k marks (omega arith) in
-    let len' : length (take (k + 1) marks) ≡ k + 1 = length-take-le (k + 1) marks (omega arith) in
-    list_any-append (λ (x : ℕ × ℕ). nat_eq x.0 e && nat_eq x.1 i) steps ((m, k) ∷ [])
-    ∙ ap (λ b. b || ((nat_eq m e && nat_eq k i) || false)) (a e i)
-    ∙ elim (cases_order i k) as (λ _. ((nat_lt i (length (take k marks)) && nat_eq (get_or (take k marks) i 0) e) || ((nat_eq m e && nat_eq k i) || false)) ≡ (nat_lt i (length (take (k + 1) marks)) && nat_eq (get_or (take (k + 1) marks) i 0) e)) [
-      | inl same ↦ at_end (nat_lt i (length (take k marks))) (nat_eq (get_or (take k marks) i 0) e) (nat_eq m e) (nat_eq k i) (nat_lt i (length (take (k + 1) marks))) (nat_eq (get_or (take (k + 1) marks) i 0) e)
-          (le-ltb i (length (take k marks)) (omega arith)) (eq-eqb k i (sym same)) (lt-ltb i (length (take (k + 1) marks)) (omega arith))
-          (ap (λ x. nat_eq x e) (is ∙ ap (λ x. get_or marks x 0) (sym same) ∙ sym (get_or-take (k + 1) marks i 0 (omega arith))))
-      | inr apart ↦ elim apart as (λ _. ((nat_lt i (length (take k marks)) && nat_eq (get_or (take k marks) i 0) e) || ((nat_eq m e && nat_eq k i) || false)) ≡ (nat_lt i (length (take (k + 1) marks)) && nat_eq (get_or (take (k + 1) marks) i 0) e)) [
-        | inl before ↦ inside_one (nat_lt i (length (take k marks))) (nat_eq (get_or (take k marks) i 0) e) (nat_eq m e) (nat_eq k i) (nat_lt i (length (take (k + 1) marks))) (nat_eq (get_or (take (k + 1) marks) i 0) e)
-            (lt-ltb i (length (take k marks)) (omega arith)) (ne_eqb k i (λ q. absurd (omega arith))) (lt-ltb i (length (take (k + 1) marks)) (omega arith))
-            (ap (λ x. nat_eq x e) (get_or-take k marks i 0 before ∙ sym (get_or-take (k + 1) marks i 0 (omega arith))))
-        | inr after ↦ past (nat_lt i (length (take k marks))) (nat_eq (get_or (take k marks) i 0) e) (nat_eq m e) (nat_eq k i) (nat_lt i (length (take (k + 1) marks))) (nat_eq (get_or (take (k + 1) marks) i 0) e)
-            (le-ltb i (length (take k marks)) (omega arith)) (ne_eqb k i (λ q. absurd (omega arith))) (le-ltb i (length (take (k + 1) marks)) (omega arith))
-      ]
-    ]
-  where
-    at_end : (a b c d u v : Bool) → a ≡ false → d ≡ true → u ≡ true → c ≡ v → ((a && b) || ((c && d) || false)) ≡ (u && v)
-    at_end a b c d u v p q r s = rw (p, q, r, s) (ends v)
-      where
-        ends : (v : Bool) → ((false && b) || ((v && true) || false)) ≡ (true && v)
-        ends true = refl
-        ends false = refl
-
-    inside_one : (a b c d u v : Bool) → a ≡ true → d ≡ false → u ≡ true → b ≡ v → ((a && b) || ((c && d) || false)) ≡ (u && v)
-    inside_one a b c d u v p q r s = rw (p, q, r, s) (ends v c)
-      where
-        ends : (v c : Bool) → ((true && v) || ((c && false) || false)) ≡ (true && v)
-        ends true c = refl
-        ends false true = refl
-        ends false false = refl
-
-    past : (a b c d u v : Bool) → a ≡ false → d ≡ false → u ≡ false → ((a && b) || ((c && d) || false)) ≡ (u && v)
-    past a b c d u v p q r = rw (p, q, r) (ends c)
-      where
-        ends : (c : Bool) → ((false && b) || ((c && false) || false)) ≡ (false && v)
-        ends true = refl
-        ends false = refl
 
 -- each step of a node leads to a node
 pub all_targets : (n : ℕ) (steps : List (ℕ × ℕ)) → StepsRise n steps → All (λ step. step.1 < n) steps

@@ -7,7 +7,7 @@ use Rattle.std.proofs.lemmas.Bool.{cases_lt, or_cases, or_left, or_right, eqb-tr
 use Rattle.std.proofs.lemmas.List.{length-take-le, length-drop, get_or-take, get_or-drop}
 use Rattle.equal_futures.specs.Arrows.{IsSplitByEvents, AreFrom, has_arrow, event_at}
 use Rattle.partitions.specs.Blocks.{State, HasBlocks, IsCalm, IsOnward, IsSplit, block_at, is_source}
-use Rattle.partitions.proofs.Splitting.{onward_trans, onward_refl}
+use Rattle.partitions.proofs.Splitting.{onward_trans}
 use Rattle.equal_futures.proofs.Gathering.{step_place, step_at, bool_from_iff, permuted, all_sources}
 
 -- the events before a place are done, and don't come again
@@ -17,15 +17,6 @@ pub record AreSplitUpTo (n : ℕ) (s t : State) (steps : List (ℕ × ℕ)) (fro
   pub onward : IsOnward n s t
   pub exact : (i j : ℕ) → i < n → j < n → (block_at t i ≡ block_at t j) ↔ ((block_at s i ≡ block_at s j) × ((k : ℕ) → k < from → has_arrow steps (event_at steps k) i ≡ has_arrow steps (event_at steps k) j))
   pub apart : (k l : ℕ) → k < from → from ≤ l → l < length steps → event_at steps k ≡ event_at steps l → ⊥
-
-pub none_split : (n : ℕ) (s : State) (steps : List (ℕ × ℕ)) → HasBlocks n s → IsCalm s → AreSplitUpTo n s s steps 0
-none_split n s steps good calm = record {
-  fit = good;
-  calm = calm;
-  onward = onward_refl n s;
-  exact = λ i j h l. (λ e. (e, λ k m. absurd (omega arith)), λ p. p.0);
-  apart = λ k l h m p e. absurd (omega arith);
-}
 
 source_place : (steps : List (ℕ × ℕ)) (i : ℕ) → is_source steps i ≡ true → (k : ℕ) × (k < length steps) × ((get_or steps k (0, 0)).1 ≡ i)
 source_place [] i h = absurd (false≢true h)

@@ -36,9 +36,6 @@ pub record IsNumbered (key : ℕ → List ℕ) (n : ℕ) (seen : List (List ℕ)
   pub below : (k : ℕ) → k < n → get_or numbers k 0 < length seen
   pub order : SeenInOrder 0 numbers (length seen)
 
-pub none_numbered : (key : ℕ → List ℕ) → IsNumbered key 0 [] []
-none_numbered key = record { one_each = refl; first = λ k h. absurd (omega arith); below = λ k h. absurd (omega arith); order = refl }
-
 -- a key that is found keeps its place when the list grows
 keeps_place : (p : List ℕ → Bool) (seen : List (List ℕ)) (x : List ℕ) → position_or_len p seen < length seen → position_or_len p (seen ++ x ∷ []) ≡ position_or_len p seen
 keeps_place p seen x below =

@@ -159,9 +159,6 @@ module _ (nodes : List Node) (marks : List ℕ) (rise : NodesRise nodes) (one_ea
   enters : (e i : ℕ) → (has_arrow steps e i ≡ true) ↔ ((i < length nodes) × (is_possible (node_at nodes i).next e ≡ true) × (block_at s (node_after nodes i e) ≡ b))
   enters = gathered_enter nodes marks rise one_each s b rows members steps incoming are_members (subst (λ (xs : List (List (ℕ × ℕ))). AreGathered xs members steps) is_read gathered)
 
-  pub sources_read : AreFrom k steps
-  sources_read e i h = subst (λ x. i < x) (sym is_k) ((enters e i).0 h).0
-
   pub refined_read : IsSplitByEvents k r t steps → IsRefined nodes marks t
   refined_read split = next_refined nodes marks rise one_each s r t b steps a (subst (λ x. IsTaken x s r b) is_m taken) enters (subst (λ x. IsSplitByEvents x r t steps) is_k split)
 

@@ -1,6 +1,6 @@
 -- Field sets, one after another.
 use Rattle.std.proofs.Common.{◌≡◌, ℕ, zero, suc, ◌+◌, ◌<◌, ◌≤◌, List, [], ◌∷◌, ◌++◌, length, drop, get_or, replicate, refl, sym, ap, ◌∙◌, append_assoc, add-one}
-use Rattle.std.specs.Prelude.{Some, None, Result, Ok, Err, slice_get}
+use Rattle.std.specs.Prelude.{None, Result, Ok, Err, slice_get}
 use Rattle.std.specs.Result.{IsErrAnd}
 use Rattle.std.proofs.Math.ListN.{drop_of_length-le}
 use Rattle.std.proofs.lemmas.List.{append-nil}
@@ -93,12 +93,6 @@ table_step new events whole c next i channels channel within is next_is new_is s
 pub table_end : (events whole : List EventInfo) (c i : ℕ) (channels : List Channel) → length channels ≤ i → events ++ events_from_channel c (drop i channels) ≡ whole → events ≡ whole
 table_end events whole c i channels at_end so_far =
     sym (append-nil events) ∙ ap (λ rest. events ++ events_from_channel c rest) (sym (drop_of_length-le channels at_end)) ∙ so_far
-
--- the sets at a place, and those after it
-drop_some : {X : Type 0} (xs : List X) (n : ℕ) (x : X) → slice_get xs n ≡ Some x → drop n xs ≡ x ∷ drop (suc n) xs
-drop_some [] n x at = absurd (cc)
-drop_some (y ∷ ys) zero x at = let same : y ≡ x = cc in ap (λ z. z ∷ ys) same
-drop_some (y ∷ ys) (suc n) x at = drop_some ys n x at
 
 drop_none : {X : Type 0} (xs : List X) (n : ℕ) → slice_get xs n ≡ None → drop n xs ≡ []
 drop_none [] zero at = refl

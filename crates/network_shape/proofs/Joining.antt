@@ -1,8 +1,8 @@
 -- Owners of events, and rows of shared events, while the parts are gone over.
-use Rattle.std.proofs.Common.{◌≡◌, ℕ, zero, suc, ◌+◌, ◌-◌, ◌<◌, ◌≤◌, inl, inr, List, [], ◌∷◌, ◌++◌, length, set, replicate, cond, true, false, Option, Some, None, IsTrue, nat_eq, refl, sym, ap, subst, ◌∙◌, arith, eq-eqb}
-use Rattle.std.proofs.lemmas.Bool.{cases_Bool, cases_eq, cases_lt, cond-true, cond-false, or_cases, or_left, or_right, both_ways, false≢true, eqb-true, ne_eqb}
-use Rattle.std.proofs.lemmas.List.{append-nil, length-append, length-replicate, get_or-replicate, get_or_append_left, get_or-append-add, get_or-set_same, get_or-set_other}
-use Rattle.std.proofs.lemmas.Option.{none-some, same_Some}
+use Rattle.std.proofs.Common.{◌≡◌, ℕ, zero, suc, ◌+◌, ◌-◌, ◌<◌, ◌≤◌, inl, inr, List, [], ◌∷◌, ◌++◌, length, replicate, cond, true, false, Option, Some, None, IsTrue, nat_eq, refl, sym, ap, subst, ◌∙◌, arith, eq-eqb}
+use Rattle.std.proofs.lemmas.Bool.{cases_Bool, cases_eq, cases_lt, cond-true, cond-false, or_cases, or_left, or_right, both_ways, false≢true, eqb-true}
+use Rattle.std.proofs.lemmas.List.{length-append, length-replicate, get_or-replicate, get_or_append_left, get_or-append-add}
+use Rattle.std.proofs.lemmas.Option.{same_Some}
 use Rattle.std.proofs.Math.Seq.{get_or-append_right}
 use Rattle.csp_base.specs.Members.{has}
 use Rattle.csp_tables.specs.Part.{Part, part_at, alphabets_of, sharers, TripleDisjoint}
@@ -10,12 +10,6 @@ use Rattle.net_sound.proofs.Sharers.{at_three}
 use Rattle.network_shape.specs.Rows.{owner_of, AreOwners, pair_at, row_at, is_part, joint, joints, IsSharedBy, IsInRow, IsRow, AreRows}
 
 -- ---- owners
-
-pub no_owners : (parts : List Part) → AreOwners parts 0 []
-no_owners parts = record {
-  sound = λ e i h. absurd (none-some i h);
-  complete = λ e i j below above within x y. absurd (omega arith);
-}
 
 pub owners_more : (parts : List Part) (n : ℕ) (owners more : List (Option ℕ)) → TripleDisjoint (alphabets_of parts) → n < length parts → AreOwners parts n owners
     → ((e : ℕ) → owner_of more e ≡ cond (has (part_at parts n).alphabet e) (Some n) (owner_of owners e)) → AreOwners parts (n + 1) more
@@ -63,22 +57,6 @@ one_joint owners part i e h = cond-true (is_part (owner_of owners e) i) ((part, 
 
 pub no_joint : (owners : List (Option ℕ)) (part i e : ℕ) → is_part (owner_of owners e) i ≡ false → joint owners part i e ≡ []
 no_joint owners part i e h = cond-false (is_part (owner_of owners e) i) ((part, e) ∷ []) [] h
-
-pub joint_added : (owners : List (Option ℕ)) (rows : List (List (ℕ × ℕ))) (part left e : ℕ) → owner_of owners e ≡ Some left → left < length rows → (i : ℕ)
-    → row_at (set rows left (row_at rows left ++ (part, e) ∷ [])) i ≡ row_at rows i ++ joint owners part i e
-joint_added owners rows part left e own h i = elim (cases_eq i left) [
-  | inl same ↦
-      subst (λ k. row_at (set rows left (row_at rows left ++ (part, e) ∷ [])) k ≡ row_at rows k ++ joint owners part k e) (sym same)
-      (get_or-set_same rows left (row_at rows left ++ (part, e) ∷ []) [] h ∙ ap (λ r. row_at rows left ++ r) (sym (one_joint owners part left e (some_is (owner_of owners e) left own))))
-  | inr other ↦
-      get_or-set_other rows left i (row_at rows left ++ (part, e) ∷ []) [] other
-      ∙ sym (append-nil (row_at rows i))
-      ∙ ap (λ r. row_at rows i ++ r) (sym (no_joint owners part i e (ap (λ o. is_part o i) own ∙ ne_eqb left i (λ same. other (sym same)))))
-]
-
-pub no_joint_added : (owners : List (Option ℕ)) (rows : List (List (ℕ × ℕ))) (part e : ℕ) → owner_of owners e ≡ None → (i : ℕ)
-    → row_at rows i ≡ row_at rows i ++ joint owners part i e
-no_joint_added owners rows part e none i = sym (append-nil (row_at rows i)) ∙ ap (λ r. row_at rows i ++ r) (sym (no_joint owners part i e (ap (λ o. is_part o i) none)))
 
 -- ---- the pairs of one part
 

@@ -68,14 +68,6 @@ pair_group row start end e k order within above below is =
 
 -- ---- links, one after another
 
-pub no_links : (parts : List Part) → AreLinksBefore parts 0 0 []
-no_links parts = record {
-  joins = λ k less. absurd (omega arith);
-  before = λ k less. absurd (omega arith);
-  all = λ l r order within precedes meet. absurd (elim precedes [ inl k ↦ omega arith | inr k ↦ let none : r < 0 = k.1 in omega arith ]);
-  rise = λ k m order less. absurd (omega arith);
-}
-
 in_longer : (links : List Link) (link : Link) (l r : ℕ) → IsLinked links l r → IsLinked (links ++ link ∷ []) l r
 in_longer links link l r h =
     let at = get_or_append_left links (link ∷ []) (record { left = 0; right = 0; shared = [] }) h.place h.within in
@@ -187,18 +179,6 @@ module _ (parts : List Part) (i : ℕ) (row : List (ℕ × ℕ)) (r : IsRow part
   -- a part with which an event is shared stands in the row
   shared_place : (j : ℕ) → i < j → j < length parts → Meet (part_at parts i).alphabet (part_at parts j).alphabet → (e : ℕ) × IsInRow row j e
   shared_place j later within meet = (meet.event, r.complete j meet.event (record { later = later; within = within; left = meet.first; right = meet.second }))
-
-  pub first_links : (links : List Link) → AreLinksBefore parts i 0 links → AreLinksTo parts i row 0 links
-  first_links links a = record {
-    before = further parts i 0 (next_right parts row 0) links a (omega arith) (λ j later above below within meet.
-        let s = (shared_place j later within meet).1 in
-        let l : s.place < length row = s.within in
-        let h : (pair_at row 0).0 ≤ (pair_at row s.place).0 = r.rise 0 s.place (omega arith) s.within in
-        let first : next_right parts row 0 ≡ (pair_at row 0).0 = next_at parts row 0 (omega arith) in
-        let is : (pair_at row s.place).0 ≡ j = s.part in
-        omega arith);
-    begins = λ k less within. absurd (omega arith);
-  }
 
   pub last_links : (start : ℕ) (links : List Link) → length row ≤ start → AreLinksTo parts i row start links → AreLinksBefore parts (i + 1) 0 links
   last_links start links h a = next_part parts i links (subst (λ m. AreLinksBefore parts i m links) (next_end parts row start h) a.before)

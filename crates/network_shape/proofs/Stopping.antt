@@ -1,14 +1,11 @@
 -- Parts without an empty acceptance at a node, and a part with one.
 use Rattle.std.proofs.Common.{◌≡◌, ℕ, ◌+◌, ◌<◌, inl, inr, List, [], ◌∷◌, length, get_or, true, nat_eq, refl, sym, ap, subst, ◌∙◌, arith, eq-eqb}
 use Rattle.std.specs.Prelude.{Result, Ok, Err, IfOk}
-use Rattle.std.proofs.lemmas.Bool.{cases_lt, cases_eq, or_left, false≢true}
+use Rattle.std.proofs.lemmas.Bool.{cases_eq, or_left, false≢true}
 use Rattle.std.proofs.lemmas.List.{get_or_read}
-use Rattle.std.proofs.Math.ListN.{get_or-eq_default}
 use Rattle.csp_base.specs.Members.{has}
 use Rattle.csp_tables.specs.Table.{Node, node_at, end_of}
 use Rattle.csp_tables.specs.Part.{Part, part_at, IsNonEmpty}
-use Rattle.csp_tables.specs.Shape.{Shape}
-use Rattle.csp_tables.specs.Standing.{IsBusyShape}
 use Rattle.network_shape.specs.Stops.{IsBusyPart, HasEmpty, StopsRefute}
 
 -- no acceptance of a node is empty
@@ -26,9 +23,6 @@ non_empty acceptances none k less = member (get_or acceptances k []) (λ empty. 
 pub busy_part : (p : Part) → ((n : ℕ) → AreNonEmpty (node_at p.table n).accept) → IsBusyPart p
 busy_part p all s k run less = all (end_of p.table 0 s) k less
 
-pub busy_shape : (shape : Shape) → ((i : ℕ) → i < length shape.parts → IsBusyPart (part_at shape.parts i)) → IsBusyShape shape
-busy_shape shape all i s k runs less = all i runs.part s k runs.follows less
-
 -- a shape with a part that stops is not busy
 pub stops_refute : StopsRefute
 stops_refute shape i s stop busy =
@@ -44,13 +38,6 @@ nodes_more table nodes n node acceptances is h at same none before m less = elim
       let read : node_at table n ≡ node = sym (get_or_read table n node (subst (λ ns. n < length ns) is h) (at ∙ ap (λ ns. get_or ns n node) is) (record { next = []; accept = [] })) in
       subst (λ x. AreNonEmpty (node_at table x).accept) (sym here) (subst (λ (x : Node). AreNonEmpty x.accept) (sym read) (subst AreNonEmpty same (non_empty acceptances none)))
   | inr other ↦ before m (omega arith)
-]
-
--- past the end stands a node without acceptances
-pub past_nodes : (table : List Node) → ((n : ℕ) → n < length table → AreNonEmpty (node_at table n).accept) → (n : ℕ) → AreNonEmpty (node_at table n).accept
-past_nodes table all n = elim (cases_lt n (length table)) [
-  | inl less ↦ all n less
-  | inr past ↦ subst (λ (x : Node). AreNonEmpty x.accept) (sym (get_or-eq_default table (record { next = []; accept = [] }) past)) (λ k less. absurd (omega arith))
 ]
 
 -- one more part

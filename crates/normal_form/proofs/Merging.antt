@@ -13,9 +13,6 @@ pub record AreMergedSoFar (nodes : List Node) (classes : List ℕ) (n : ℕ) (me
   pub one_each : length merged ≡ seen_by 0 classes n
   pub first : (k : ℕ) → k < n → IsFirst classes k → node_at merged (slice_index classes k) ≡ renamed classes (node_at nodes k)
 
-pub none_merged : (nodes : List Node) (classes : List ℕ) → AreMergedSoFar nodes classes 0 []
-none_merged nodes classes = record { one_each = refl; first = λ k h. absurd (omega arith) }
-
 module _ (nodes : List Node) (classes : List ℕ) (count : ℕ) (order : SeenInOrder 0 classes count) (n : ℕ) (below : n < length classes) (merged new : List Node) (class : ℕ) (node : Node) (s : AreMergedSoFar nodes classes n merged) (class_is : class ≡ slice_index classes n) (node_is : node ≡ node_at nodes n) where
   pub one_more_merged : new ≡ cond (nat_eq class (length merged)) (merged ++ renamed classes node ∷ []) merged → AreMergedSoFar nodes classes (n + 1) new
   one_more_merged is = elim (step_at classes count order n below) as (λ _. AreMergedSoFar nodes classes (n + 1) new) [

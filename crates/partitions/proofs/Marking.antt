@@ -1,11 +1,11 @@
 -- A node is marked, or was marked before: what is known then.
 use Rattle.std.proofs.Common.{◌≡◌, ℕ, ◌+◌, ◌<◌, ◌≤◌, ◌⊎◌, List, [], ◌∷◌, ◌++◌, length, get_or, ◌^◌, Bool, true, false, ◌||◌, nat_eq, refl, sym, ap, ◌∙◌, subst, arith, inl, inr}
 use Rattle.std.specs.Prelude.{slice_index}
-use Rattle.std.proofs.lemmas.Bool.{lt-ltb, eq-eqb, eqb-true, or_left, or_right, or_cases, false≢true}
+use Rattle.std.proofs.lemmas.Bool.{eq-eqb, eqb-true, or_left, or_right, or_cases, false≢true}
 use Rattle.std.proofs.lemmas.List.{get_or_read}
 use Rattle.std.proofs.lemmas.List.Folds.{list_any-append}
 use Rattle.csp_base.specs.Members.{has}
-use Rattle.partitions.specs.Blocks.{State, HasBlocks, IsMarked, AreTouched, block_at, is_marked}
+use Rattle.partitions.specs.Blocks.{State, HasBlocks, IsMarked, AreTouched, block_at}
 use Rattle.partitions.specs.BlockSteps.{IsAdvanced}
 use Rattle.partitions.proofs.Advancing.{blocks_advanced, marked_advanced, middles_then}
 
@@ -13,13 +13,6 @@ same_or : (a b : Bool) → (b ≡ true → a ≡ true) → a ≡ (a || b)
 same_or true b h = refl
 same_or false true h = absurd (false≢true (h refl))
 same_or false false h = refl
-
-pub marked_before : (n : ℕ) (s : State) (node : ℕ) → HasBlocks n s → slice_index s.places node < slice_index s.middles (block_at s node) → IsMarked n s s node
-marked_before n s node good l = record {
-  fit = good;
-  same = record { blocks = refl; firsts = refl; ends = refl; waiting = refl; flags = refl };
-  marked = λ i h. same_or (is_marked s i) (nat_eq i node) (λ e. ap (λ k. is_marked s k) (eqb-true i node e) ∙ lt-ltb (slice_index s.places node) (slice_index s.middles (block_at s node)) l);
-}
 
 pub has_push : (xs : List ℕ) (x : ℕ) → has (xs ++ x ∷ []) x ≡ true
 has_push xs x = list_any-append (λ y. nat_eq y x) xs (x ∷ []) ∙ or_right (has xs x) (nat_eq x x || false) (or_left (nat_eq x x) false (eq-eqb x x refl))
@@ -79,9 +72,6 @@ module _ (n : ℕ) (s : State) (node b m p : ℕ) (good : HasBlocks n s) (inside
 
   pub unmarked_read : m ≤ p → slice_index s.middles (block_at s node) ≤ slice_index s.places node
   unmarked_read h = subst (λ x. x ≤ slice_index s.places node) middle_read (subst (λ x. m ≤ x) place_read h)
-
-  pub marked_read : p < m → slice_index s.places node < slice_index s.middles (block_at s node)
-  marked_read h = subst (λ x. x < slice_index s.middles (block_at s node)) place_read (subst (λ x. p < x) middle_read h)
 
   pub other_read : (f : ℕ) → f ≡ get_or s.firsts b f → (m ≡ f → ⊥) → slice_index s.middles (block_at s node) ≡ slice_index s.firsts (block_at s node) → ⊥
   other_read f read_f ne e = ne (middle_read ∙ e ∙ sym (get_or_read s.firsts b f known read_f 0 ∙ ap (λ c. slice_index s.firsts c) block_read))

@@ -1,8 +1,8 @@
 -- Nodes are marked and blocks are cut, one after the other: blocks are split by the sources of steps.
 use Rattle.std.proofs.Common.{◌≡◌, ℕ, zero, suc, ◌+◌, ◌<◌, ◌≤◌, inl, inr, List, [], ◌∷◌, ◌++◌, length, get_or, take, drop, Bool, true, false, ◌||◌, nat_eq, refl, sym, ap, ◌∙◌, subst, arith}
 use Rattle.std.specs.Prelude.{slice_index, slice_index_or, ◌↔◌}
-use Rattle.std.proofs.lemmas.Bool.{le-ltb, false≢true, or_cases, or_left, or_right, eqb-true, eq-eqb, ne_eqb, cases_eq, cases_lt}
-use Rattle.std.proofs.lemmas.List.{take_more, drop_more, drop_all}
+use Rattle.std.proofs.lemmas.Bool.{le-ltb, false≢true, or_cases, or_left, or_right, eqb-true, eq-eqb, ne_eqb, cases_eq}
+use Rattle.std.proofs.lemmas.List.{take_more, drop_more}
 use Rattle.std.proofs.lemmas.List.Folds.{list_any-append}
 use Rattle.csp_base.specs.Members.{has}
 use Rattle.partitions.specs.Blocks.{State, HasBlocks, HaveSameBlocks, IsMarked, AreMarked, AreTouched, AreTogether, AreCut, IsCut, IsCalm, IsOnward, IsSplit, block_at, is_marked, is_source, waits}
@@ -67,15 +67,6 @@ pub record AreCutUpTo (n : ℕ) (s t : State) (touched : List ℕ) (k : ℕ) : T
   pub known : (c : ℕ) → has touched c ≡ true → c < length t.firsts
   pub onward : IsOnward n s t
 
-pub none_cut : (n : ℕ) (s : State) (touched : List ℕ) → HasBlocks n s → AreTouched s touched → AreCutUpTo n s s touched 0
-none_cut n s touched good touch = record {
-  fit = good;
-  together = λ i j h l. (λ p. p, λ p. p);
-  left = touch.all;
-  known = touch.known;
-  onward = onward_refl n s;
-}
-
 pub one_more_cut : (n : ℕ) (s t u : State) (touched : List ℕ) (k b : ℕ) → k < length touched → b ≡ get_or touched k 0 → AreCutUpTo n s t touched k → IsCut n t u b → AreCutUpTo n s u touched (k + 1)
 one_more_cut n s t u touched k b inside read a c = record {
   fit = c.fit;
@@ -90,17 +81,6 @@ one_more_cut n s t u touched k b inside read a c = record {
       ];
   known = λ d h. let p = a.known d h in let q = c.more in omega arith;
   onward = onward_trans n s t u a.onward c.onward;
-}
-
-pub all_cut : (n : ℕ) (s t : State) (touched : List ℕ) (k : ℕ) → length touched ≤ k → AreCutUpTo n s t touched k → AreCut n s t
-all_cut n s t touched k over a = record {
-  fit = a.fit;
-  together = a.together;
-  calm = λ c h. elim (cases_lt (slice_index t.firsts c) (slice_index t.middles c)) as (λ _. slice_index t.middles c ≡ slice_index t.firsts c) [
-    | inl l ↦ absurd (false≢true (subst (λ (xs : List ℕ). has xs c ≡ true) (drop_all k touched over) (a.left c h l)))
-    | inr g ↦ let p = (a.fit.spans c h).0 in omega arith
-  ];
-  onward = a.onward;
 }
 
 -- a block of the list that is read is known

@@ -1,7 +1,7 @@
 -- The first partition, the members of a block, and a block that is taken from those that wait.
 use Rattle.std.proofs.Common.{◌≡◌, ℕ, zero, suc, ◌+◌, ◌-◌, ◌<◌, ◌≤◌, ◌⊎◌, inl, inr, List, [], ◌∷◌, ◌++◌, length, set, get_or, take, drop, replicate, ◌^◌, Bool, true, false, nat_eq, refl, sym, ap, ◌∙◌, subst, arith}
 use Rattle.std.specs.Prelude.{slice_index, slice_index_or, ◌↔◌}
-use Rattle.std.proofs.lemmas.Bool.{cases_eq, cases_lt, or_cases, or_left, or_right, eqb-true, eq-eqb, false≢true, false_from_ne_true}
+use Rattle.std.proofs.lemmas.Bool.{cases_eq, cases_lt, or_cases, or_left, or_right, eqb-true, eq-eqb, false≢true}
 use Rattle.std.proofs.lemmas.List.{length-set, length_push, length-replicate, get_or-replicate, get_or-set_other, get_or-set_same, get_or-take, get_or-drop, length-take-le, length-drop, get_or_past}
 use Rattle.csp_base.specs.Members.{has}
 use Rattle.partitions.specs.Blocks.{State, HasBlocks, IsWhole, IsTaken, block_at, waits, sizes}
@@ -100,10 +100,6 @@ module _ (n : ℕ) (s t : State) (b : ℕ) (good : HasBlocks n s) (order : t.ord
     others = waits_then;
     less = let p : length t.firsts ≡ length s.firsts = ap (λ (xs : List ℕ). length xs) firsts in let q = shorter in omega arith;
   }
-
--- where the list of those that wait is empty none waits
-pub none_waits : (n : ℕ) (s : State) → HasBlocks n s → s.waiting ≡ [] → (b : ℕ) → waits s b ≡ false
-none_waits n s good empty b = false_from_ne_true (waits s b) (λ w. false≢true (subst (λ (xs : List ℕ). has xs b ≡ true) empty (good.listed b w)))
 
 -- the first partition: k is the number of blocks, one unless there is no node
 abbrev pub start : ℕ → ℕ → List ℕ → List ℕ → State

@@ -141,9 +141,6 @@ module _ (g : Setting) (i : ℕ) (holders : List ℕ) (w : IsWellFormed g.shape)
     | inr hidden ↦ absurd (both_ways (is_turn g i state e) broken (cond-false (has g.shape.vocabulary e) (cond (nat_eq state 0) (has (use_at g.uses i).acquire e) (has (use_at g.uses i).release e && has (link_at g.shape (state - 1)).shared e)) true hidden))
   ]
 
-  abbrev turns_in : ℕ → ℕ → Bool
-  turns_in n state = are_turns g i (n, state)
-
   pub used_in_turn : ((s : List ℕ) → IsRun (part_at g.shape.parts i).table s → are_turns g i (end_of (part_at g.shape.parts i).table 0 s, observed (holder_step holders) 0 s) ≡ true) → (s : List ℕ) → IsUsedInTurn g.shape g.uses i s
   used_in_turn all s = record {
     turn = λ e possible shared.

@@ -62,10 +62,6 @@ held false o k a h = absurd (cc)
 abbrev pub Grows : List Atom → List Atom → (Atom → Type 0) → Type 0
 Grows atoms more New = (IsSetValue atoms → IsSetValue more) × ((z : Atom) → IsTrue (has_atom more z) ↔ (IsTrue (has_atom atoms z) ⊎ New z))
 
-pub is_same : (t : Bool) (a z : Atom) → same a z ≡ t → IsTrue t → a ≡ z
-is_same true a z e h = same_exact a z e
-is_same false a z e h = absurd (false≢true h)
-
 or_first : (a b : Bool) → IsTrue a → IsTrue (a || b)
 or_first true b t = refl
 or_first false b t = absurd (false≢true t)
