@@ -1,8 +1,8 @@
 -- The members of the results of operations on sets of atoms.
-use Rattle.std.proofs.Common.{◌≡◌, ℕ, Bool, true, false, not, cond, ◌&&◌, ◌||◌, refl, sym, ◌∙◌, ap, subst, inl, inr, List, [], ◌∷◌}
+use Rattle.std.proofs.Common.{◌≡◌, Bool, true, false, not, cond, ◌&&◌, ◌||◌, refl, sym, ◌∙◌, ap, subst, inl, inr, List, [], ◌∷◌}
 use Rattle.std.specs.List.{filter}
 use Rattle.std.proofs.lemmas.Bool.{false≢true, true≢false}
-use Rattle.csp_atoms.specs.Order.{kind_of, same}
+use Rattle.csp_atoms.specs.Order.{same}
 use Rattle.csp_atoms.specs.Sets.{AllAbove, IsRising, has_atom, with_atom, union_of, inter_of, diff_of}
 use Rattle.csp_atoms.specs.declared.atom.Atom.{Atom}
 use Rattle.csp_atoms.proofs.OrderLaws.{same_exact, same_itself, less_itself, before_from_less, cases_atoms}
@@ -59,12 +59,6 @@ has-inter_of xs ys z = has-filter (has_atom ys) xs z
 
 pub has-diff_of : (xs ys : List Atom) (z : Atom) → has_atom (diff_of xs ys) z ≡ (has_atom xs z && not (has_atom ys z))
 has-diff_of xs ys z = has-filter (λ a. not (has_atom ys a)) xs z
-
--- ---- sets of two kinds
-
-other_kind : (t : Bool) (l : ℕ) (x y : Atom) → same y x ≡ t → kind_of y ≡ l → (kind_of x ≡ l → ⊥) → t ≡ false
-other_kind true l x y e k n = absurd (n (ap kind_of (sym (same_exact y x e)) ∙ k))
-other_kind false l x y e k n = refl
 
 -- ---- extensionality
 

@@ -1,12 +1,12 @@
 -- What arcs there are once more ends were gone over.
-use Rattle.std.proofs.Common.{◌≡◌, ℕ, ◌+◌, ◌<◌, ◌≤◌, Bool, true, false, ◌&&◌, ◌||◌, nat_eq, nat_lt, List, length, take, get_or, refl, sym, ap, ◌∙◌, arith}
-use Rattle.std.specs.Prelude.{Some, None, slice_get, Vec, if◌then◌else◌}
+use Rattle.std.proofs.Common.{◌≡◌, ℕ, ◌+◌, ◌<◌, Bool, true, false, ◌&&◌, ◌||◌, nat_eq, nat_lt, List, length, take, get_or, refl, sym, ap, ◌∙◌, arith}
+use Rattle.std.specs.Prelude.{Some, slice_get, Vec}
 use Rattle.std.specs.Option.{option_map}
 use Rattle.std.proofs.lemmas.Bool.Decides.{nat_tests}
 use Rattle.std.specs.declared.alloc.Global.{Global}
 use Rattle.std.proofs.lemmas.Bool.{false≢true, eqb-true}
 use Rattle.std.proofs.lemmas.List.Folds.{list_any_more}
-use Rattle.std.proofs.lemmas.Option.{slice_get_past, slice_get_read, slice_get-map}
+use Rattle.std.proofs.lemmas.Option.{slice_get_read, slice_get-map}
 use Rattle.script_names.specs.declared.kinds.End.{End}
 use Rattle.script_names.specs.declared.kinds.End.TheVariants as end
 use Rattle.script_names.specs.Kinds.{ends_at}
@@ -32,10 +32,6 @@ ends_step n target v w d i ends default now before first within now_is so_far =
     one_more now before first (some_from n target v (take i ends)) (comes_from n target v (get_or ends i default)) (nat_eq w d) now_is so_far
     ∙ ap (λ b. first || (b && nat_eq w d)) (sym (list_any_more (comes_from n target v) ends i default within))
 
-if_some : (b : Bool) (u v : ℕ) → (if b then Some u else None) ≡ Some v → (b ≡ true) × (u ≡ v)
-if_some true u v h = (refl, cc)
-if_some false u v h = absurd (cc)
-
 -- one definition more
 last_or_before : (w d : ℕ) → nat_lt w (d + 1) ≡ (nat_lt w d || nat_eq w d)
 last_or_before w d = grind (arith, nat_tests)
@@ -54,10 +50,6 @@ both false true false false h = refl
 both false false f true h = refl
 both false false f false h = refl
 
-and_false : (b : Bool) → (b && false) ≡ false
-and_false true = refl
-and_false false = refl
-
 module _ (n : ℕ) (target : End) (all : List (Vec End Global)) where
   abbrev pub from : ℕ → ℕ → Bool
   from v w = some_from n target v (ends_at (slice_get (rows all) w))
@@ -73,6 +65,3 @@ module _ (n : ℕ) (target : End) (all : List (Vec End Global)) where
       ∙ both (nat_lt w d) (nat_eq w d) (from v w) (some_from n target v ends.items)
       (λ same. ap (λ k. from v k) (eqb-true w d same) ∙ ap (λ o. some_from n target v (ends_at o)) (there d ends within is))
       ∙ ap (λ b. b && from v w) (sym (last_or_before w d))
-
-  past_end : (v w : ℕ) → length all ≤ w → from v w ≡ false
-  past_end v w past = ap (λ o. some_from n target v (ends_at o)) (slice_get-map (λ (e : Vec End Global). e.items) all w ∙ ap (option_map (λ (e : Vec End Global). e.items)) (slice_get_past all w past))

@@ -4,7 +4,6 @@ use Rattle.std.specs.Prelude.{slice_index, ◌↔◌}
 use Rattle.std.proofs.lemmas.Bool.{false≢true, both_ways, false_from_ne_true}
 use Rattle.partitions.specs.Blocks.{State, HasBlocks, IsCut, AreTogether, AreBoth, block_at, is_marked, waits, work}
 use Rattle.partitions.specs.BlockSteps.{IsDivided, IsAwaited, IsCalmed}
-use Rattle.partitions.proofs.Writes.{by_write}
 use Rattle.partitions.proofs.Sizes.{few_blocks}
 use Rattle.partitions.proofs.Awaiting.{blocks_awaited, waits_here, waits_still, waiting_most, blocks_same_awaited, marks_same_awaited}
 use Rattle.partitions.proofs.Dividing.{blocks_divided, fate, left_then, same_waits, one_more, Fate, moves, stays, outside}
@@ -120,11 +119,3 @@ module _ (n : ℕ) (s t u v : State) (b x y : ℕ) (good : HasBlocks n s) (insid
 
 -- only the marks of a block go, where all or none of its nodes had one
 module _ (n : ℕ) (s t : State) (b : ℕ) (good : HasBlocks n s) (inside : b < length s.firsts) (a : IsCalmed s t b) (even : (slice_index s.middles b ≡ slice_index s.firsts b) ⊎ (slice_index s.middles b ≡ slice_index s.ends b)) where
-  middles_then : (c : ℕ) (P : ℕ → Type 0) → (c ≡ b → P (slice_index s.firsts b)) → ((c ≡ b → ⊥) → P (slice_index s.middles c)) → P (slice_index t.middles c)
-  middles_then c P same rest = subst (λ (xs : List ℕ). P (slice_index xs c)) (sym a.middles) (by_write s.middles b (slice_index s.firsts b) c 0 (subst (λ k. b < k) (sym good.middles_len) inside) P same rest)
-
-  same_block : (i : ℕ) → block_at t i ≡ block_at s i
-  same_block i = ap (λ (xs : List ℕ). slice_index xs i) a.same.blocks
-
-  same_place : (i : ℕ) → slice_index t.places i ≡ slice_index s.places i
-  same_place i = ap (λ (xs : List ℕ). slice_index xs i) a.places

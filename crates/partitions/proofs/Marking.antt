@@ -1,5 +1,5 @@
 -- A node is marked, or was marked before: what is known then.
-use Rattle.std.proofs.Common.{◌≡◌, ℕ, ◌+◌, ◌<◌, ◌≤◌, ◌⊎◌, List, [], ◌∷◌, ◌++◌, length, get_or, ◌^◌, Bool, true, false, ◌||◌, nat_eq, refl, sym, ap, ◌∙◌, subst, arith, inl, inr}
+use Rattle.std.proofs.Common.{◌≡◌, ℕ, ◌+◌, ◌<◌, ◌≤◌, ◌⊎◌, List, [], ◌∷◌, ◌++◌, length, get_or, ◌^◌, true, false, ◌||◌, nat_eq, refl, sym, ap, ◌∙◌, subst, arith, inl, inr}
 use Rattle.std.specs.Prelude.{slice_index}
 use Rattle.std.proofs.lemmas.Bool.{eq-eqb, eqb-true, or_left, or_right, or_cases, false≢true}
 use Rattle.std.proofs.lemmas.List.{get_or_read}
@@ -8,11 +8,6 @@ use Rattle.csp_base.specs.Members.{has}
 use Rattle.partitions.specs.Blocks.{State, HasBlocks, IsMarked, AreTouched, block_at}
 use Rattle.partitions.specs.BlockSteps.{IsAdvanced}
 use Rattle.partitions.proofs.Advancing.{blocks_advanced, marked_advanced, middles_then}
-
-same_or : (a b : Bool) → (b ≡ true → a ≡ true) → a ≡ (a || b)
-same_or true b h = refl
-same_or false true h = absurd (false≢true (h refl))
-same_or false false h = refl
 
 pub has_push : (xs : List ℕ) (x : ℕ) → has (xs ++ x ∷ []) x ≡ true
 has_push xs x = list_any-append (λ y. nat_eq y x) xs (x ∷ []) ∙ or_right (has xs x) (nat_eq x x || false) (or_left (nat_eq x x) false (eq-eqb x x refl))

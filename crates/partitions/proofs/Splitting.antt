@@ -56,9 +56,6 @@ onward_trans n s t u a b = record {
       (before.0, λ j k e. later.1 j k (before.1 j k e));
 }
 
-pub onward_refl : (n : ℕ) (s : State) → IsOnward n s s
-onward_refl n s = record { less = omega arith; kept = λ i h w. (w, λ j k e. e) }
-
 -- the blocks of the list up to a place were cut
 pub record AreCutUpTo (n : ℕ) (s t : State) (touched : List ℕ) (k : ℕ) : Type 0 where
   pub fit : HasBlocks n t
