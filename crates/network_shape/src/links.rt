@@ -54,7 +54,7 @@ fn add_links(
     let mut start = 0;
     while start < row.len() {
         let end = group_end(row, start);
-        let shared = events_of(alloc, &row[start..end])?;
+        let shared = events_in(alloc, &row[start..end])?;
         push(links, Link::new(left, row[start].0, shared))?;
         start = end;
     }
@@ -85,7 +85,7 @@ fn group_end(row: &[(u32, Event)], start: usize) -> usize
 }
 
 // The events of the pairs.
-fn events_of(alloc: Global, pairs: &[(u32, Event)]) -> Result<EventSet, NoMemory>
+fn events_in(alloc: Global, pairs: &[(u32, Event)]) -> Result<EventSet, NoMemory>
     ensures { IfOk result (λ made. (e : ℕ) → has made e ≡ has_event pairs.now e) }
 {
     let mut events = EventSet::new(alloc);
