@@ -17,6 +17,7 @@ use client_server_rule::client_server;
 use csp_base::NoMemory;
 use csp_program::Program;
 use csp_tables::{RoleSets, Rule, Shape, UseSets};
+use free_answers::free_answer;
 use network_layout::{Layout, roles_of, uses_of};
 use network_tables::ComponentTable;
 use report::Answer;
