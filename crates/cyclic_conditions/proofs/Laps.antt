@@ -248,12 +248,12 @@ orders_more shape n orders order more count each new is = (
 pub links_count : (shape : Shape) (i : ℕ) (links : List ℕ) → links ≡ ends_of shape i → length links ≡ links_of shape i
 links_count shape i links is = ap length is ∙ length-ends shape i (length shape.links)
 
-pub explores : (shape : Shape) (i : ℕ) (links : List ℕ) (pairs found : List (ℕ × ℕ)) → IsWellFormed shape → TripleDisjoint (alphabets_of shape.parts) → i < length shape.parts → links ≡ ends_of shape i → (length links ≡ 0 → ⊥) → pairs ≡ found → IsExploration (part_at shape.parts i).table (lap_step shape.vocabulary (links_of shape i - 1)) 0 found → Explores shape i pairs
-explores shape i links pairs found w triple h is some same x = record {
+pub explores : (shape : Shape) (i count : ℕ) (pairs found : List (ℕ × ℕ)) → IsWellFormed shape → TripleDisjoint (alphabets_of shape.parts) → i < length shape.parts → count ≡ links_of shape i → 0 < count → pairs ≡ found → IsExploration (part_at shape.parts i).table (lap_step shape.vocabulary (links_of shape i - 1)) 0 found → Explores shape i pairs
+explores shape i count pairs found w triple h links some same x = record {
   form = w;
   apart = triple;
   part = h;
-  some = let count : length links ≡ links_of shape i = links_count shape i links is in omega arith;
+  some = omega (arith, links, some);
   explored = subst (IsExploration (part_at shape.parts i).table (lap_step shape.vocabulary (links_of shape i - 1)) 0) (sym same) x;
 }
 

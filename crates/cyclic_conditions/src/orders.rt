@@ -54,13 +54,34 @@ fn order_of(alloc: Global, prepared: &Prepared<'_>, part: u32) -> Result<Items<u
         return Ok(Items::new(alloc));
     }
     let explored = explored_part(alloc, prepared, part, count as u32)?;
-    match facts(alloc, prepared, part, explored.pairs(), count as u32) {
+    order_found(alloc, prepared, part, count as u32, &explored)
+}
+
+// The same of a part with so many links, by what an exploration of it found.
+fn order_found(
+    alloc: Global,
+    prepared: &Prepared<'_>,
+    part: u32,
+    count: u32,
+    explored: &Explored,
+) -> Result<Items<u32>, CyclicFault>
+    requires part { part < length prepared.now.parts }
+    requires links { count ≡ links_of prepared.now part }
+    requires some { 0 < count }
+    requires pairs { IsExploration (part_at prepared.now.parts part).table (lap_step prepared.now.vocabulary (links_of prepared.now part - 1)) 0 explored.now.pairs }
+    requires found { AreFound (part_at prepared.now.parts part).table (lap_step prepared.now.vocabulary (links_of prepared.now part - 1)) 0 explored.now }
+    ensures keeps { OnOk result (KeepsPlaces prepared.now part) }
+    ensures order { IfOk result (λ order. IsOrder prepared.now part order) }
+    ensures fault { IfErr result (λ fault. IsBrokenOrder prepared.now part fault) }
+{
+    let _form = prepared.shape();
+    match facts(alloc, prepared, part, explored.pairs(), count) {
         Ok(firsts) => {
             let order = in_order(alloc, &firsts)?;
             Ok(order)
         }
         Err(FactFault::Clash(here, there)) => {
-            let fault = told(alloc, prepared, part, &explored, here, there)?;
+            let fault = told(alloc, prepared, part, explored, here, there)?;
             Err(fault)
         }
         Err(FactFault::NoMemory) => Err(CyclicFault::NoMemory),
