@@ -1,14 +1,38 @@
 -- What is read of a shape.
-use Rattle.std.proofs.Common.{◌≡◌, ℕ, ◌<◌, List, [], Bool, length, get_or, sym, ap, ◌∙◌}
+use Rattle.std.proofs.Common.{◌≡◌, ℕ, ◌<◌, List, [], Bool, length, get_or, sym, ap, ◌∙◌, arith}
 use Rattle.std.proofs.lemmas.List.{get_or_read}
 use Rattle.csp_tables.specs.Part.{Part, part_at}
-use Rattle.csp_tables.specs.Shape.{Link, Shape, link_at}
+use Rattle.csp_tables.specs.Roles.{RoleSets, role_at}
+use Rattle.csp_tables.specs.Shape.{IsWellFormed, Link, Shape, link_at}
 
 pub part_read : (shape : Shape) (parts : List Part) (i : ℕ) (p : Part) → parts ≡ shape.parts → i < length shape.parts → p ≡ get_or parts i p → p ≡ part_at shape.parts i
 part_read shape parts i p is h at = get_or_read shape.parts i p h (at ∙ ap (λ (ps : List Part). get_or ps i p) is) (record { alphabet = []; table = [] })
 
 pub link_read : (shape : Shape) (links : List Link) (k : ℕ) (link : Link) → links ≡ shape.links → k < length shape.links → link ≡ get_or links k link → link ≡ link_at shape k
 link_read shape links k link is h at = get_or_read shape.links k link h (at ∙ ap (λ (ls : List Link). get_or ls k link) is) (record { left = 0; right = 0; shared = [] })
+
+-- the roles of the part in this place
+role_read : (roles : List RoleSets) (i : ℕ) (role : RoleSets) → i < length roles → role ≡ get_or roles i role → role ≡ role_at roles i
+role_read roles i role h at = get_or_read roles i role h at (record { creq = []; cack = []; sreq = []; sack = [] })
+
+-- a link that was read, and the roles at its ends
+module _ (shape : Shape) (roles : List RoleSets) (l : ℕ) (w : IsWellFormed shape) (count : length roles ≡ length shape.parts) (inside : l < length shape.links)
+    (links : List Link) (link : Link) (all : links ≡ shape.links) (is : link ≡ get_or links l link) where
+  there : link ≡ link_at shape l
+  there = link_read shape links l link all inside is
+
+  pub shared_there : (events : List ℕ) → events ≡ link.shared → events ≡ (link_at shape l).shared
+  shared_there events e = e ∙ ap (λ (k : Link). k.shared) there
+
+  pub left_role : (i : ℕ) (role : RoleSets) → i ≡ link.left → role ≡ get_or roles i role → role ≡ role_at roles (link_at shape l).left
+  left_role i role e at =
+      let two = w.links l inside in
+      role_read roles (link_at shape l).left role (omega (arith, count, two.ordered, two.within)) (at ∙ ap (λ k. get_or roles k role) (e ∙ ap (λ (k : Link). k.left) there))
+
+  pub right_role : (i : ℕ) (role : RoleSets) → i ≡ link.right → role ≡ get_or roles i role → role ≡ role_at roles (link_at shape l).right
+  right_role i role e at =
+      let two = w.links l inside in
+      role_read roles (link_at shape l).right role (omega (arith, count, two.within)) (at ∙ ap (λ k. get_or roles k role) (e ∙ ap (λ (k : Link). k.right) there))
 
 -- what a test of three values says of the values that they were read from
 pub read_three : {A B C : Type 0} (f : A → B → C → Bool) (a x : A) (b y : B) (d z : C) (r v : Bool) → r ≡ f a b d → a ≡ x → b ≡ y → d ≡ z → r ≡ v → f x y z ≡ v

@@ -5,10 +5,10 @@ use Rattle.std.proofs.lemmas.List.{length-append, get_or_append_left, get_or_rea
 use Rattle.std.proofs.Math.Seq.{get_or-append_seam}
 use mathlib.Core.Bool.{beq}
 use Rattle.csp_tables.specs.Shape.{Link, Shape, is_end, link_at}
-use Rattle.csp_tables.specs.Roles.{RoleSets}
+use Rattle.csp_tables.specs.Roles.{RoleSets, role_at}
 use Rattle.design_rules.specs.ClientServer.{HasClient, IsClientOn}
 use Rattle.client_server_conditions.specs.Network.{Network, Asks, Grants}
-use Rattle.client_server_conditions.specs.Sides.{IsSide, AreSides}
+use Rattle.client_server_conditions.specs.Sides.{AreSides, IsClient, IsSide}
 use Rattle.client_server_conditions.proofs.Reading.{link_read}
 
 -- the side of one link more
@@ -23,6 +23,37 @@ sides_more shape roles n sides more side a new is = record {
         subst (λ j. IsSide shape roles j (get_or more j false)) same (subst (IsSide shape roles n) (sym last) new)
   ];
 }
+
+-- who is the client on a link, by the events and the roles that were read
+pub client_on : (shape : Shape) (roles : List RoleSets) (l i j : ℕ) (events : List ℕ) (client server : RoleSets) → events ≡ (link_at shape l).shared → client ≡ role_at roles i → server ≡ role_at roles j
+    → IsClient events client server → IsClientOn shape roles l i j
+client_on shape roles l i j events client server shared mine other k =
+    let there : IsClient (link_at shape l).shared client server = subst (λ (es : List ℕ). IsClient es client server) shared k in
+    let asked : IsClient (link_at shape l).shared (role_at roles i) server = subst (λ (role : RoleSets). IsClient (link_at shape l).shared role server) mine there in
+    let both : IsClient (link_at shape l).shared (role_at roles i) (role_at roles j) = subst (IsClient (link_at shape l).shared (role_at roles i)) other asked in
+    record {
+      requests = both.requests;
+      acknowledgements = both.acknowledgements;
+      no_service = λ e h. (both.no_other.requests_taken e h, both.no_other.acknowledged e h);
+      no_asking = λ e h. (both.no_other.requests_made e h, both.no_other.awaited e h);
+    }
+
+pub client_read : (shape : Shape) (roles : List RoleSets) (l i j : ℕ) (events : List ℕ) (client server : RoleSets) → events ≡ (link_at shape l).shared → client ≡ role_at roles i → server ≡ role_at roles j
+    → IsClientOn shape roles l i j → IsClient events client server
+client_read shape roles l i j events client server shared mine other k =
+    let both : IsClient (link_at shape l).shared (role_at roles i) (role_at roles j) = record {
+      requests = k.requests;
+      acknowledgements = k.acknowledgements;
+      no_other = record {
+        requests_taken = λ e h. (k.no_service e h).0;
+        acknowledged = λ e h. (k.no_service e h).1;
+        requests_made = λ e h. (k.no_asking e h).0;
+        awaited = λ e h. (k.no_asking e h).1;
+      };
+    } in
+    let asked : IsClient (link_at shape l).shared (role_at roles i) server = subst (IsClient (link_at shape l).shared (role_at roles i)) (sym other) both in
+    let there : IsClient (link_at shape l).shared client server = subst (λ (role : RoleSets). IsClient (link_at shape l).shared role server) (sym mine) asked in
+    subst (λ (es : List ℕ). IsClient es client server) (sym shared) there
 
 side_is : (shape : Shape) (roles : List RoleSets) (l : ℕ) (side : Bool) → IsSide shape roles l side → HasClient shape roles l
 side_is shape roles l true s = inl s
