@@ -77,7 +77,6 @@ none_first true b h = absurd (false≢true (sym h))
 none_first false b h = refl
 
 module _ (network : Network) (i l : ℕ) where
-
   -- an acknowledgement for the client, whichever end it is, is one of either end
   abbrev for_ends : ℕ → Bool
   for_ends e = has (role_at network.roles (link_at network.shape l).left).cack e || has (role_at network.roles (link_at network.shape l).right).cack e

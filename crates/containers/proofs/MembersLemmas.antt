@@ -22,6 +22,5 @@ module _ {X : Type 0} (eq : X → X → Bool) where
   slice_get-with_new xs x place y h = by_known (λ ys. slice_get ys place ≡ Some y) xs x (is_member eq xs x) (λ _. h) (λ _. slice_get-append_left xs (x ∷ []) place y h)
 
 module _ {X : Type 0} {eq : X → X → Bool} (laws : IsEquivalence eq) where
-
   pub IsDistinct-with_new : (xs : List X) (x : X) → IsDistinct eq xs → IsDistinct eq (with_new eq xs x)
   IsDistinct-with_new xs x distinct = by_known (IsDistinct eq) xs x (is_member eq xs x) (λ _. distinct) (λ new. IsDistinct-push laws xs x distinct new)

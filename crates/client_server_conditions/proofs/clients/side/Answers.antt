@@ -11,14 +11,14 @@ returns-then-branch c =
     let left : c.index-roles-left.result ≡ role_at c.args.roles.now (link_at c.args.shape.now c.args.link).left = left_role c.args.shape.now c.args.roles.now c.args.link c.requires.form c.requires.roles c.requires.link c.links.result.now c.index-links-link.result c.links.ensures.value c.index-links-link.is c.left.result c.index-roles-left.result c.left.ensures.value c.index-roles-left.is in
     let right : c.index-roles-right.result ≡ role_at c.args.roles.now (link_at c.args.shape.now c.args.link).right = right_role c.args.shape.now c.args.roles.now c.args.link c.requires.form c.requires.roles c.requires.link c.links.result.now c.index-links-link.result c.links.ensures.value c.index-links-link.is c.right.result c.index-roles-right.result c.right.ensures.value c.index-roles-right.is in
     client_on c.args.shape.now c.args.roles.now c.args.link (link_at c.args.shape.now c.args.link).left (link_at c.args.shape.now c.args.link).right c.shared.result.now c.index-roles-left.result c.index-roles-right.result
-      (shared_there c.args.shape.now c.args.roles.now c.args.link c.requires.form c.requires.roles c.requires.link c.links.result.now c.index-links-link.result c.links.ensures.value c.index-links-link.is c.shared.result.now c.shared.ensures) left right (c.in_ok-is_client.ensures.0 c.if-branch.true)
+    (shared_there c.args.shape.now c.args.roles.now c.args.link c.requires.form c.requires.roles c.requires.link c.links.result.now c.index-links-link.result c.links.ensures.value c.index-links-link.is c.shared.result.now c.shared.ensures) left right (c.in_ok-is_client.ensures.0 c.if-branch.true)
 
 pub returns-then-branch-2 : goal.returns-then-branch-2
 returns-then-branch-2 c =
     let left : c.index-roles-left.result ≡ role_at c.args.roles.now (link_at c.args.shape.now c.args.link).left = left_role c.args.shape.now c.args.roles.now c.args.link c.requires.form c.requires.roles c.requires.link c.links.result.now c.index-links-link.result c.links.ensures.value c.index-links-link.is c.left.result c.index-roles-left.result c.left.ensures.value c.index-roles-left.is in
     let right : c.index-roles-right.result ≡ role_at c.args.roles.now (link_at c.args.shape.now c.args.link).right = right_role c.args.shape.now c.args.roles.now c.args.link c.requires.form c.requires.roles c.requires.link c.links.result.now c.index-links-link.result c.links.ensures.value c.index-links-link.is c.right.result c.index-roles-right.result c.right.ensures.value c.index-roles-right.is in
     client_on c.args.shape.now c.args.roles.now c.args.link (link_at c.args.shape.now c.args.link).right (link_at c.args.shape.now c.args.link).left c.shared-2.result.now c.index-roles-right.result c.index-roles-left.result
-      (shared_there c.args.shape.now c.args.roles.now c.args.link c.requires.form c.requires.roles c.requires.link c.links.result.now c.index-links-link.result c.links.ensures.value c.index-links-link.is c.shared-2.result.now c.shared-2.ensures) right left (c.in_ok-is_client-2.ensures.0 c.if-branch-2.true)
+    (shared_there c.args.shape.now c.args.roles.now c.args.link c.requires.form c.requires.roles c.requires.link c.links.result.now c.index-links-link.result c.links.ensures.value c.index-links-link.is c.shared-2.result.now c.shared-2.ensures) right left (c.in_ok-is_client-2.ensures.0 c.if-branch-2.true)
 
 pub returns : goal.returns
 returns c =
