@@ -3,7 +3,7 @@ use Rattle.std.proofs.Common.{◌≡◌, ℕ, ◌+◌, ◌<◌, ◌≤◌, ◌�
 use Rattle.std.specs.Prelude.{slice_index, ◌↔◌}
 use Rattle.std.proofs.lemmas.Bool.{false≢true, both_ways, false_from_ne_true}
 use Rattle.partitions.specs.Blocks.{State, HasBlocks, IsCut, AreTogether, AreBoth, block_at, is_marked, waits, work}
-use Rattle.partitions.specs.BlockSteps.{IsDivided, IsAwaited, IsCalmed}
+use Rattle.partitions.specs.BlockSteps.{IsDivided, IsAwaited}
 use Rattle.partitions.proofs.Sizes.{few_blocks}
 use Rattle.partitions.proofs.Awaiting.{blocks_awaited, waits_here, waits_still, waiting_most, blocks_same_awaited, marks_same_awaited}
 use Rattle.partitions.proofs.Dividing.{blocks_divided, fate, left_then, same_waits, one_more, Fate, moves, stays, outside}
@@ -116,6 +116,3 @@ module _ (n : ℕ) (s t u v : State) (b x y : ℕ) (good : HasBlocks n s) (insid
           );
     };
   }
-
--- only the marks of a block go, where all or none of its nodes had one
-module _ (n : ℕ) (s t : State) (b : ℕ) (good : HasBlocks n s) (inside : b < length s.firsts) (a : IsCalmed s t b) (even : (slice_index s.middles b ≡ slice_index s.firsts b) ⊎ (slice_index s.middles b ≡ slice_index s.ends b)) where
