@@ -203,6 +203,22 @@ fn literal(alloc: Global, value: &Value) -> Result<Value, EvalFault>
     Ok(value.try_clone(alloc)?)
 }
 
+// The set of the numbers from `first` to `last`, as a value.
+fn range_value(alloc: Global, first: i64, last: i64) -> Result<Value, EvalFault>
+    ensures { Gives result (meant.many (meant.range first last)) }
+{
+    let atoms = numbers(alloc, first, last)?;
+    Ok(Value::Many(atoms))
+}
+
+// What an operator gives of two sets, as a value.
+fn set_value(alloc: Global, op: SetOp, left: AtomSet, right: AtomSet) -> Result<Value, EvalFault>
+    ensures { Gives result (meant.many (meant.set_binary op left right)) }
+{
+    let atoms = combined(alloc, op, &left, &right)?;
+    Ok(Value::Many(atoms))
+}
+
 // The number that an expression is worth.
 #[cycle(eval)]
 fn eval_number(scope: &Scope<'_>, names: &Names<'_>, expr: &Expr) -> Result<i64, EvalFault>
@@ -341,8 +357,7 @@ fn eval_range(scope: &Scope<'_>, names: &Names<'_>, a: &Expr, b: &Expr) -> Resul
 {
     let first = eval_number(scope, names, a)?;
     let last = eval_number(scope, names, b)?;
-    let atoms = numbers(scope.alloc, first, last)?;
-    Ok(Value::Many(atoms))
+    range_value(scope.alloc, first, last)
 }
 
 // The value of an operator between two sets.
@@ -358,8 +373,7 @@ fn eval_set_op(
 {
     let left = eval_atoms(scope, names, a)?;
     let right = eval_atoms(scope, names, b)?;
-    let atoms = combined(scope.alloc, op, &left, &right)?;
-    Ok(Value::Many(atoms))
+    set_value(scope.alloc, op, left, right)
 }
 
 // The value of `{| parts | gens |}`. Where a channel has no field sets, no generator is walked.

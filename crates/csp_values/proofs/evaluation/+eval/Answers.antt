@@ -1,11 +1,11 @@
 use Rattle.std.proofs.Common.{◌≡◌, ℕ, ◌+◌, true, false, Ok, Err, List, [], ◌∷◌, ap, refl, sym, ◌∙◌, arith, to_z, of_z, w64}
 use Rattle.std.proofs.lemmas.Int.{ints}
 use Rattle.csp_program.specs.Outcome.{and_then}
-use Rattle.csp_program.specs.Value.{as_number, as_set, as_truth, bound_to}
+use Rattle.csp_program.specs.Value.{as_number, as_set, as_truth, bound_to, many, range}
 use Rattle.value_operators.specs.Env.{env_in, with_bound}
 use Rattle.value_operators.proofs.Faults.{passed}
 use Rattle.value_operators.proofs.NameLaws.{with_bound-last}
-use Rattle.csp_values.specs.Worth.{number_worth, truth_worth, atoms_worth, use_worth, with_items, with_fronts, walk_worth, each_worth, gathered_of}
+use Rattle.csp_values.specs.Worth.{number_worth, truth_worth, atoms_worth, range_of, set_of, use_worth, with_items, with_fronts, walk_worth, each_worth, gathered_of}
 use Rattle.csp_values.proofs.Arms.{lacking, not_lacking, same, same_tally, part_passed, walk_passed, worth_num, worth_truth, worth_const, worth_bound, worth_lit, worth_neg, worth_not, worth_binary, worth_if, worth_call, worth_set_name, worth_event, worth_display, worth_range, worth_set_op, worth_comp, worth_product, datum_worth, datatype_worth, front_of_sets, front_without_sets, front_fault, front_added, binding_item_fault, binding_with_items, walk_from, walk_cond}
 use Rattle.csp_values.proofs.Equations.{body-Nametype, body-Process, body-Network, use-none_left, use-unknown, use-known, fronts-nil, with_items-nil, binding-full, walk-nil, each-nil}
 use Rattle.csp_values.proofs.Falls.{weight_neg, weight_not, weight_binary, weight_if, weight_call, weight_set_name, weight_event, weight_display, weight_range, weight_set_op, weight_comp, weight_product, weight_from, weight_cond, weight_gens, weight_part, use_falls}
@@ -166,6 +166,27 @@ eval_expr-returns-in-Product t c = same _ _ _ (worth_product c.args.scope.now.co
 
 pub eval_expr-returns-in-SetOp : goal.eval_expr-returns-in-SetOp
 eval_expr-returns-in-SetOp t c = same _ _ _ (worth_set_op c.args.scope.now.content.now c.args.scope.now.uses (env_in c.args.names.now) c.args.expr.now c.in-SetOp.op c.in-SetOp.a c.in-SetOp.b c.get-in-SetOp.result.now c.get-in-SetOp-2.result.now c.in-SetOp.is c.get-in-SetOp.ensures c.get-in-SetOp-2.ensures) c.eval_set_op.ensures
+
+pub eval_range-returns-in_err-first : goal.eval_range-returns-in_err-first
+eval_range-returns-in_err-first t c = passed _ _ _ _ c.from_residual.ensures.1 c.in_err-first.ensures (λ k e. ap (λ o. range_of o (number_worth c.args.scope.now.content.now c.args.scope.now.uses (env_in c.args.names.now) c.args.b.now)) e)
+
+pub eval_range-returns-in_err-last : goal.eval_range-returns-in_err-last
+eval_range-returns-in_err-last t c = passed _ _ _ _ c.from_residual-in_err-last.ensures.1 c.in_err-last.ensures (λ k e. ap (λ o. range_of o (number_worth c.args.scope.now.content.now c.args.scope.now.uses (env_in c.args.names.now) c.args.b.now)) c.in_ok-first.ensures ∙ ap (λ o. range_of (Ok c.in_ok-first.first) o) e)
+
+pub eval_range-returns : goal.eval_range-returns
+eval_range-returns t c =
+    let first : to_z w64 (of_z w64 c.in_ok-first.first) ≡ c.in_ok-first.first = omega (arith, ints) in
+    let last : to_z w64 (of_z w64 c.in_ok-last.last) ≡ c.in_ok-last.last = omega (arith, ints) in
+    same _ _ _ ((λ i. range_of (c.in_ok-first.ensures i) (c.in_ok-last.ensures i)) ∙ (λ i. many (range (sym first i) (sym last i)))) c.range_value.ensures
+
+pub eval_set_op-returns-in_err-left : goal.eval_set_op-returns-in_err-left
+eval_set_op-returns-in_err-left t c = passed _ _ _ _ c.from_residual.ensures.1 c.in_err-left.ensures (λ k e. ap (λ o. set_of c.args.op o (atoms_worth c.args.scope.now.content.now c.args.scope.now.uses (env_in c.args.names.now) c.args.b.now)) e)
+
+pub eval_set_op-returns-in_err-right : goal.eval_set_op-returns-in_err-right
+eval_set_op-returns-in_err-right t c = passed _ _ _ _ c.from_residual-in_err-right.ensures.1 c.in_err-right.ensures (λ k e. ap (λ o. set_of c.args.op o (atoms_worth c.args.scope.now.content.now c.args.scope.now.uses (env_in c.args.names.now) c.args.b.now)) c.in_ok-left.ensures ∙ ap (λ o. set_of c.args.op (Ok c.in_ok-left.left) o) e)
+
+pub eval_set_op-returns : goal.eval_set_op-returns
+eval_set_op-returns t c = same _ _ _ (λ i. set_of c.args.op (c.in_ok-left.ensures i) (c.in_ok-right.ensures i)) c.set_value.ensures
 
 pub eval_fields-loop-field-init : goal.eval_fields-loop-field-init
 eval_fields-loop-field-init t c = fields_begin c.args.scope.now.content.now c.args.scope.now.uses (env_in c.args.names.now) c.args.fields.now c.args.sets.now c.args.each
