@@ -1,5 +1,6 @@
 pub mod Annotations
 pub mod Assertions
+pub mod Classes
 pub mod Comments
 pub mod Cutting
 pub mod Front

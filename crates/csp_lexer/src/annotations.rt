@@ -1,13 +1,14 @@
 //! Annotations, which are line comments.
 
-ghost use Rattle.std.specs.Prelude.{◌≡◌, ◌<◌, ◌≤◌, not, length, IfOk, IfSome, MatchOption, None, Some};
+ghost use Rattle.std.specs.Prelude.{◌≡◌, IfOk, IfSome, MatchOption, None, Some};
 ghost use Rattle.std.specs.Option.{option_copied};
-ghost use Rattle.std.specs.List.{list_all, prefix_len};
+ghost use Rattle.std.specs.List.{list_all};
 ghost use Rattle.csp_lexer.specs.Annotations.{after_spaces, after_word, first_word, is_space, line_piece, marked_piece, next_name, resource, roles};
 ghost use Rattle.csp_lexer.specs.Passed.{Passed};
 ghost use Rattle.csp_lexer.specs.Pieces.{one_before};
 ghost use Rattle.csp_text.specs.declared.token.Token.TheVariants as token;
 
+use crate::classes::{Class, bytes_of, is_space};
 use crate::tokens::Tokens;
 use crate::words::is_name;
 use containers::Boxed;
@@ -15,34 +16,11 @@ use csp_base::{Name, NoMemory, Place};
 use csp_text::{ResourceNames, RolesNames, Token};
 use std::alloc::Global;
 
-// Whether the byte divides the words of a line.
-pub(crate) fn is_space(b: u8) -> bool
-    ensures { result ≡ is_space b }
-{
-    b == b' ' || b == b'\t' || b == b'\r'
-}
-
-// How many spaces the bytes begin with.
-fn spaces(bytes: &[u8]) -> usize
-    ensures value { result ≡ prefix_len is_space bytes.now }
-    ensures within { result ≤ length bytes.now }
-{
-    bytes.iter().take_while(|b| is_space(**b)).count()
-}
-
-// How many bytes stand before the first space.
-fn word_bytes(bytes: &[u8]) -> usize
-    ensures value { result ≡ prefix_len (λ b. not (is_space b)) bytes.now }
-    ensures within { result ≤ length bytes.now }
-{
-    bytes.iter().take_while(|b| !is_space(**b)).count()
-}
-
 // The bytes without the spaces at the front.
 fn after_spaces(bytes: &[u8]) -> &[u8]
     ensures { result.now ≡ after_spaces bytes.now }
 {
-    let len = spaces(bytes);
+    let len = bytes_of(Class::Space, bytes);
     &bytes[len..]
 }
 
@@ -52,7 +30,7 @@ fn split_word(bytes: &[u8]) -> (&[u8], &[u8])
     ensures rest { result.1.now ≡ after_word bytes.now }
 {
     let words = after_spaces(bytes);
-    let len = word_bytes(words);
+    let len = bytes_of(Class::WordOfLine, words);
     (&words[..len], &words[len..])
 }
 
@@ -114,7 +92,6 @@ struct ResourceWords<'a> {
 }
 
 // The five names that the bytes are.
-#[tactic(auto, unfolding(crate::specs::Annotations::roles))]
 fn roles_words(bytes: &[u8]) -> Option<RolesWords<'_>>
     ensures { MatchOption result (roles bytes.now ≡ None)
         (λ w. roles bytes.now ≡ Some (token.Roles (record { process = w.process.now; creq = w.creq.now; cack = w.cack.now; sreq = w.sreq.now; sack = w.sack.now }))) }
@@ -147,7 +124,6 @@ fn roles_words(bytes: &[u8]) -> Option<RolesWords<'_>>
 }
 
 // The three names that the bytes are.
-#[tactic(auto, unfolding(crate::specs::Annotations::resource))]
 fn resource_words(bytes: &[u8]) -> Option<ResourceWords<'_>>
     ensures { MatchOption result (resource bytes.now ≡ None)
         (λ w. resource bytes.now ≡ Some (token.Resource (record { process = w.process.now; acquire = w.acquire.now; release = w.release.now }))) }

@@ -4,13 +4,15 @@ ghost use Rattle.std.specs.Prelude.{◌≡◌, ◌+◌, ◌<◌, ◌≤◌, ◌^
 ghost use Rattle.std.specs.Option.{option_copied};
 ghost use Rattle.csp_lexer.specs.Comments.{after_comments, line_len};
 
+use crate::classes::{Class, bytes_of};
+
 // How many bytes the text has up to its first line feed.
 #[tactic(auto, unfolding(crate::specs::Comments::line_len))]
 pub(crate) fn line_len(text: &[u8]) -> usize
     ensures value { result ≡ line_len text.now }
     ensures within { result ≤ length text.now }
 {
-    text.iter().take_while(|b| **b != b'\n').count()
+    bytes_of(Class::Line, text)
 }
 
 // How many comments are open behind the first mark or byte of the text, and what is left of it.

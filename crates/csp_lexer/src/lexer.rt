@@ -8,8 +8,9 @@ ghost use Rattle.csp_lexer.specs.Annotations.{line_comment};
 ghost use Rattle.csp_lexer.specs.Lexed.{IfNoScript, lexed};
 ghost use Rattle.csp_lexer.specs.Passed.{Passed};
 
-use crate::annotations::{is_space, pass_line};
+use crate::annotations::pass_line;
 use crate::assertions::pass_assertion;
+use crate::classes::is_space;
 use crate::comments::{after_comment, line_len};
 use crate::fault::LexFault;
 use crate::line::pass_token;

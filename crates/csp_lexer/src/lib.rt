@@ -3,6 +3,7 @@
 
 mod annotations;
 mod assertions;
+mod classes;
 mod comments;
 pub mod fault;
 mod forms;

@@ -8,7 +8,7 @@ ghost use Rattle.csp_lexer.specs.Pieces.{one_at};
 ghost use Rattle.csp_lexer.specs.Tokens.{token_at};
 ghost use Rattle.csp_base.specs.declared.place.Place.{Place as PlaceValue};
 
-use crate::annotations::is_space;
+use crate::classes::is_space;
 use crate::places::behind_all;
 use crate::scan::token_at;
 use crate::tokens::Tokens;

@@ -1,9 +1,10 @@
 //! The token at the front of a text.
 
 ghost use Rattle.std.specs.Prelude.{◌≡◌, ◌+◌, ◌-◌, ◌*◌, ◌<◌, ◌≤◌, length, IfOk, IfSome};
-ghost use Rattle.csp_lexer.specs.Tokens.{digits_len, number_token, token_at, with_len};
+ghost use Rattle.csp_lexer.specs.Tokens.{number_token, token_at, with_len};
 ghost use Rattle.csp_lexer.specs.Words.{word_token};
 
+use crate::classes::{Class, bytes_of};
 use crate::symbols::symbol_at;
 use crate::words::{is_foreign, reserved_word, word_len};
 use csp_base::{Name, NoMemory};
@@ -12,17 +13,6 @@ use std::alloc::Global;
 
 // The greatest number that a script may have.
 const GREATEST_NUMBER: u32 = 1_000_000;
-
-// How many digits the text begins with.
-#[tactic(auto, unfolding(crate::specs::Tokens::digits_len))]
-fn digits_len(text: &[u8]) -> usize
-    ensures value { result ≡ digits_len text.now }
-    ensures within { result ≤ length text.now }
-{
-    text.iter()
-        .take_while(|b| matches!(**b, b'0'..=b'9'))
-        .count()
-}
 
 // The number that the digits are, or `None` where it is too great.
 fn number_token(digits: &[u8]) -> Option<Token>
@@ -53,7 +43,7 @@ fn word_token(alloc: Global, word: &[u8]) -> Result<Option<Token>, NoMemory>
 }
 
 // The token that the text begins with, and how many bytes it takes; on the line of an assertion or elsewhere.
-#[tactic(auto, unfolding(crate::specs::Tokens::token_at))]
+#[tactic(auto, unfolding(crate::specs::Tokens::token_at, crate::specs::Tokens::digits_len))]
 pub(crate) fn token_at(
     alloc: Global,
     on_line: bool,
@@ -67,7 +57,7 @@ pub(crate) fn token_at(
         let found = word_token(alloc, &text[..word])?;
         return Ok(with_len(word, found));
     }
-    let digits = digits_len(text);
+    let digits = bytes_of(Class::Digit, text);
     if 0 < digits {
         return Ok(with_len(digits, number_token(&text[..digits])));
     }

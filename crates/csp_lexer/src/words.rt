@@ -1,49 +1,19 @@
 //! Words of a text: how long the one at the front is, and which of them are reserved.
 
 ghost use Rattle.std.specs.Prelude.{◌≡◌, ◌≤◌, length};
-ghost use Rattle.std.specs.List.{prefix_len};
 ghost use Rattle.std.specs.Option.{option_copied};
-ghost use Rattle.csp_lexer.specs.Words.{is_foreign, is_letter, is_name, is_name_byte, is_prime, reserved_word, word_len, word_rest_len};
+ghost use Rattle.csp_lexer.specs.Words.{is_foreign, is_name, reserved_word, word_len, word_rest_len};
 
+use crate::classes::{Class, bytes_of, is_letter};
 use csp_text::{Word, word_text};
-
-// Whether the byte is a letter.
-fn is_letter(b: u8) -> bool
-    ensures { result ≡ is_letter b }
-{
-    matches!(b, b'A'..=b'Z' | b'a'..=b'z')
-}
-
-// Whether the byte is a letter, a digit or an underscore.
-fn is_name_byte(b: u8) -> bool
-    ensures { result ≡ is_name_byte b }
-{
-    is_letter(b) || matches!(b, b'0'..=b'9') || b == b'_'
-}
-
-// How many letters, digits and underscores the text begins with.
-fn name_bytes(text: &[u8]) -> usize
-    ensures value { result ≡ prefix_len is_name_byte text.now }
-    ensures within { result ≤ length text.now }
-{
-    text.iter().take_while(|b| is_name_byte(**b)).count()
-}
-
-// How many primes the text begins with.
-fn primes(text: &[u8]) -> usize
-    ensures value { result ≡ prefix_len is_prime text.now }
-    ensures within { result ≤ length text.now }
-{
-    text.iter().take_while(|b| **b == b'\'').count()
-}
 
 // How many bytes of the text may follow the first letter of a word.
 fn word_rest_len(text: &[u8]) -> usize
     ensures value { result ≡ word_rest_len text.now }
     ensures within { result ≤ length text.now }
 {
-    let names = name_bytes(text);
-    names + primes(&text[names..])
+    let names = bytes_of(Class::Name, text);
+    names + bytes_of(Class::Prime, &text[names..])
 }
 
 // How many bytes the longest word at the front of the text has, or 0 where the text begins with none.

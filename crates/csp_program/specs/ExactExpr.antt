@@ -1,17 +1,19 @@
 -- `==` on expressions is equality: by induction, one layer at a time.
-use Rattle.std.specs.Prelude.{◌≡◌, ℕ, ℤ, Bool, true, false, ◌&&◌, nat_eq, List, map, refl}
+use denote.Enum.Compared.{Each, by}
+use Rattle.std.specs.Prelude.{◌≡◌, ℕ, Bool, true, false, ◌&&◌, nat_eq, List, map, refl}
 use Rattle.std.proofs.Common.{sym, ◌∙◌, subst}
 use Rattle.std.proofs.lemmas.Bool.{eqb-true, false≢true}
 use Rattle.std.proofs.lemmas.Bool.Decides.{Decides-int_eq}
 use Rattle.std.specs.Cmp.{first_so, second_so}
+use Rattle.std.specs.Ordering.{int_eq}
 use Rattle.std.specs.Cmp.Lexicographic.{pointwise}
 use Rattle.containers.proofs.SameLemmas.{IsSame, Known, same_items, same_rolled}
 use Rattle.csp_atoms.specs.Exact.{exact_value}
 use Rattle.csp_atoms.specs.contracts.value.ValuePartialEq.TheImpl as values
-use Rattle.csp_atoms.specs.declared.value.Value.{Value}
 use Rattle.std.specs.contracts.prelude.BoolPartialEq.TheImpl as bools
 use Rattle.csp_base.specs.contracts.operators.BinOpPartialEq.TheImpl as binops
 use Rattle.csp_base.specs.contracts.operators.SetOpPartialEq.TheImpl as setops
+use Rattle.csp_program.specs.contracts.expressions.Expr.{the_parts}
 use Rattle.csp_program.specs.contracts.expressions.ExprPartialEq.TheImpl as exprs
 use Rattle.csp_program.specs.contracts.expressions.ExprPartialEq.TheImpl.Laws as expr_laws
 use Rattle.csp_program.specs.contracts.expressions.GenPartialEq.TheImpl as gens
@@ -23,6 +25,7 @@ use Rattle.csp_base.specs.declared.operators.BinOp.TheVariants as binop
 use Rattle.csp_base.specs.declared.operators.SetOp.{SetOp}
 use Rattle.csp_base.specs.declared.operators.SetOp.TheVariants as setop
 use Rattle.csp_program.specs.declared.expressions.Expr.{Expr}
+use Rattle.csp_program.specs.declared.expressions.Expr.TheBlock.{split-Expr, the_family}
 use Rattle.csp_program.specs.declared.expressions.Expr.TheOpen.{Expr-F, Gen-F, EventPart-F}
 use Rattle.csp_program.specs.declared.expressions.Expr.TheFolds.{ind-Expr, ind-Gen, ind-EventPart, map-Expr, map-Gen, map-EventPart}
 use Rattle.csp_program.specs.declared.expressions.Expr.TheViews.{out-Expr, roll-Expr, roll-out-Expr, out-roll-Expr, out-Gen, roll-Gen, roll-out-Gen, out-EventPart, roll-EventPart, roll-out-EventPart, out-roll-EventPart}
@@ -66,107 +69,32 @@ exact_bool true true h = refl
 exact_bool false false h = refl
 exact_bool x y h = absurd (false≢true h)
 
-same-Expr-Num : (n : ℤ) (z : Expr-F Expr Gen EventPart) → expr_laws.unfolded (roll-Expr (Expr-F.Num n)) (roll-Expr z) ≡ true → roll-Expr (Expr-F.Num n) ≡ roll-Expr z
-same-Expr-Num n (Expr-F.Num n') h =
-    let g = simp out-roll-Expr at h in
-    λ i. roll-Expr (Expr-F.Num ((Decides-int_eq n n').0 (g) i))
-same-Expr-Num n z h = absurd (false≢true (simp out-roll-Expr at h))
+-- `==` at the fields of a variant that has one, two or three
+abbrev one : {X Z : Type 0} → (X → X → Bool) → X × Z → X × Z → Bool
+one eq x y = eq x.0 y.0
 
-same-Expr-Truth : (b : Bool) (z : Expr-F Expr Gen EventPart) → expr_laws.unfolded (roll-Expr (Expr-F.Truth b)) (roll-Expr z) ≡ true → roll-Expr (Expr-F.Truth b) ≡ roll-Expr z
-same-Expr-Truth b (Expr-F.Truth b') h =
-    let g = simp out-roll-Expr at h in
-    λ i. roll-Expr (Expr-F.Truth (exact_bool b b' (g) i))
-same-Expr-Truth b z h = absurd (false≢true (simp out-roll-Expr at h))
+abbrev two : {X Y Z : Type 0} → (X → X → Bool) → (Y → Y → Bool) → X × (Y × Z) → X × (Y × Z) → Bool
+two eq eq' x y = eq x.0 y.0 && eq' x.1.0 y.1.0
 
-same-Expr-Const : (k : ℕ) (z : Expr-F Expr Gen EventPart) → expr_laws.unfolded (roll-Expr (Expr-F.Const k)) (roll-Expr z) ≡ true → roll-Expr (Expr-F.Const k) ≡ roll-Expr z
-same-Expr-Const k (Expr-F.Const k') h =
-    let g : (nat_eq k k') ≡ true = simp out-roll-Expr at h in
-    λ i. roll-Expr (Expr-F.Const (eqb-true k k' (g) i))
-same-Expr-Const k z h = absurd (false≢true (simp out-roll-Expr at h))
+abbrev three : {X Y Z W : Type 0} → (X → X → Bool) → (Y → Y → Bool) → (Z → Z → Bool) → X × (Y × (Z × W)) → X × (Y × (Z × W)) → Bool
+three eq eq' eq'' x y = eq x.0 y.0 && (eq' x.1.0 y.1.0 && eq'' x.1.1.0 y.1.1.0)
 
-same-Expr-Bound : (y : ℕ) (z : Expr-F Expr Gen EventPart) → expr_laws.unfolded (roll-Expr (Expr-F.Bound y)) (roll-Expr z) ≡ true → roll-Expr (Expr-F.Bound y) ≡ roll-Expr z
-same-Expr-Bound y (Expr-F.Bound y') h =
-    let g : (nat_eq y y') ≡ true = simp out-roll-Expr at h in
-    λ i. roll-Expr (Expr-F.Bound (eqb-true y y' (g) i))
-same-Expr-Bound y z h = absurd (false≢true (simp out-roll-Expr at h))
+abbrev eq_exprs : List Expr → List Expr → Bool
+eq_exprs = pointwise eq_expr
 
-same-Expr-Lit : (w : Value) (z : Expr-F Expr Gen EventPart) → expr_laws.unfolded (roll-Expr (Expr-F.Lit w)) (roll-Expr z) ≡ true → roll-Expr (Expr-F.Lit w) ≡ roll-Expr z
-same-Expr-Lit w (Expr-F.Lit w') h =
-    let g : ((values.ghosts).eq w w') ≡ true = simp out-roll-Expr at h in
-    λ i. roll-Expr (Expr-F.Lit (exact_value w w' (g) i))
-same-Expr-Lit w z h = absurd (false≢true (simp out-roll-Expr at h))
+abbrev eq_gens : List Gen → List Gen → Bool
+eq_gens = pointwise eq_gen
 
-same-Expr-Neg : (a : Known eq_expr) (z : Expr-F Expr Gen EventPart) → expr_laws.unfolded (roll-Expr (Expr-F.Neg a.0)) (roll-Expr z) ≡ true → roll-Expr (Expr-F.Neg a.0) ≡ roll-Expr z
-same-Expr-Neg a (Expr-F.Neg a') h =
-    let g : (eq_expr a.0 a') ≡ true = simp out-roll-Expr at h in
-    λ i. roll-Expr (Expr-F.Neg (a.1 a' (g) i))
-same-Expr-Neg a z h = absurd (false≢true (simp out-roll-Expr at h))
+-- the same for each variant, in their order
+abbrev eq_each : Each Bool the_parts
+eq_each = (one int_eq, (one (bools.ghosts).eq, (one nat_eq, (one nat_eq, (one (values.ghosts).eq, (one eq_expr, (one eq_expr, (three (binops.ghosts).eq eq_expr eq_expr, (three eq_expr eq_expr eq_expr, (two nat_eq eq_exprs, (one nat_eq, (two nat_eq eq_exprs, (one eq_exprs, (two eq_expr eq_expr, (two eq_exprs eq_gens, (two (pointwise eq_part) eq_gens, (three (setops.ghosts).eq eq_expr eq_expr, tt)))))))))))))))))
 
-same-Expr-Not : (a : Known eq_expr) (z : Expr-F Expr Gen EventPart) → expr_laws.unfolded (roll-Expr (Expr-F.Not a.0)) (roll-Expr z) ≡ true → roll-Expr (Expr-F.Not a.0) ≡ roll-Expr z
-same-Expr-Not a (Expr-F.Not a') h =
-    let g : (eq_expr a.0 a') ≡ true = simp out-roll-Expr at h in
-    λ i. roll-Expr (Expr-F.Not (a.1 a' (g) i))
-same-Expr-Not a z h = absurd (false≢true (simp out-roll-Expr at h))
+-- `==` at two layers
+abbrev eq_layer : Expr-F Expr Gen EventPart → Expr-F Expr Gen EventPart → Bool
+eq_layer d z = by false false the_parts eq_each (split-Expr the_family d) (split-Expr the_family z)
 
-same-Expr-Binary : (op : BinOp) (a : Known eq_expr) (b : Known eq_expr) (z : Expr-F Expr Gen EventPart) → expr_laws.unfolded (roll-Expr (Expr-F.Binary op a.0 b.0)) (roll-Expr z) ≡ true → roll-Expr (Expr-F.Binary op a.0 b.0) ≡ roll-Expr z
-same-Expr-Binary op a b (Expr-F.Binary op' a' b') h =
-    let g : (((binops.ghosts).eq op op') && ((eq_expr a.0 a') && (eq_expr b.0 b'))) ≡ true = simp out-roll-Expr at h in
-    λ i. roll-Expr (Expr-F.Binary (exact_binop op op' (first_so ((binops.ghosts).eq op op') ((eq_expr a.0 a') && (eq_expr b.0 b')) g) i) (a.1 a' (first_so (eq_expr a.0 a') (eq_expr b.0 b') (second_so ((binops.ghosts).eq op op') ((eq_expr a.0 a') && (eq_expr b.0 b')) g)) i) (b.1 b' (second_so (eq_expr a.0 a') (eq_expr b.0 b') (second_so ((binops.ghosts).eq op op') ((eq_expr a.0 a') && (eq_expr b.0 b')) g)) i))
-same-Expr-Binary op a b z h = absurd (false≢true (simp out-roll-Expr at h))
-
-same-Expr-If : (c : Known eq_expr) (a : Known eq_expr) (b : Known eq_expr) (z : Expr-F Expr Gen EventPart) → expr_laws.unfolded (roll-Expr (Expr-F.If c.0 a.0 b.0)) (roll-Expr z) ≡ true → roll-Expr (Expr-F.If c.0 a.0 b.0) ≡ roll-Expr z
-same-Expr-If c a b (Expr-F.If c' a' b') h =
-    let g : ((eq_expr c.0 c') && ((eq_expr a.0 a') && (eq_expr b.0 b'))) ≡ true = simp out-roll-Expr at h in
-    λ i. roll-Expr (Expr-F.If (c.1 c' (first_so (eq_expr c.0 c') ((eq_expr a.0 a') && (eq_expr b.0 b')) g) i) (a.1 a' (first_so (eq_expr a.0 a') (eq_expr b.0 b') (second_so (eq_expr c.0 c') ((eq_expr a.0 a') && (eq_expr b.0 b')) g)) i) (b.1 b' (second_so (eq_expr a.0 a') (eq_expr b.0 b') (second_so (eq_expr c.0 c') ((eq_expr a.0 a') && (eq_expr b.0 b')) g)) i))
-same-Expr-If c a b z h = absurd (false≢true (simp out-roll-Expr at h))
-
-same-Expr-Call : (d : ℕ) (args : List (Known eq_expr)) (z : Expr-F Expr Gen EventPart) → expr_laws.unfolded (roll-Expr (Expr-F.Call d (map (λ e. e.0) args))) (roll-Expr z) ≡ true → roll-Expr (Expr-F.Call d (map (λ e. e.0) args)) ≡ roll-Expr z
-same-Expr-Call d args (Expr-F.Call d' args') h =
-    let g : ((nat_eq d d') && (pointwise eq_expr (map (λ e. e.0) args) args')) ≡ true = simp out-roll-Expr at h in
-    λ i. roll-Expr (Expr-F.Call (eqb-true d d' (first_so (nat_eq d d') (pointwise eq_expr (map (λ e. e.0) args) args') g) i) (same_items eq_expr args args' (second_so (nat_eq d d') (pointwise eq_expr (map (λ e. e.0) args) args') g) i))
-same-Expr-Call d args z h = absurd (false≢true (simp out-roll-Expr at h))
-
-same-Expr-SetName : (d : ℕ) (z : Expr-F Expr Gen EventPart) → expr_laws.unfolded (roll-Expr (Expr-F.SetName d)) (roll-Expr z) ≡ true → roll-Expr (Expr-F.SetName d) ≡ roll-Expr z
-same-Expr-SetName d (Expr-F.SetName d') h =
-    let g : (nat_eq d d') ≡ true = simp out-roll-Expr at h in
-    λ i. roll-Expr (Expr-F.SetName (eqb-true d d' (g) i))
-same-Expr-SetName d z h = absurd (false≢true (simp out-roll-Expr at h))
-
-same-Expr-Event : (c : ℕ) (fields : List (Known eq_expr)) (z : Expr-F Expr Gen EventPart) → expr_laws.unfolded (roll-Expr (Expr-F.Event c (map (λ e. e.0) fields))) (roll-Expr z) ≡ true → roll-Expr (Expr-F.Event c (map (λ e. e.0) fields)) ≡ roll-Expr z
-same-Expr-Event c fields (Expr-F.Event c' fields') h =
-    let g : ((nat_eq c c') && (pointwise eq_expr (map (λ e. e.0) fields) fields')) ≡ true = simp out-roll-Expr at h in
-    λ i. roll-Expr (Expr-F.Event (eqb-true c c' (first_so (nat_eq c c') (pointwise eq_expr (map (λ e. e.0) fields) fields') g) i) (same_items eq_expr fields fields' (second_so (nat_eq c c') (pointwise eq_expr (map (λ e. e.0) fields) fields') g) i))
-same-Expr-Event c fields z h = absurd (false≢true (simp out-roll-Expr at h))
-
-same-Expr-Display : (items : List (Known eq_expr)) (z : Expr-F Expr Gen EventPart) → expr_laws.unfolded (roll-Expr (Expr-F.Display (map (λ e. e.0) items))) (roll-Expr z) ≡ true → roll-Expr (Expr-F.Display (map (λ e. e.0) items)) ≡ roll-Expr z
-same-Expr-Display items (Expr-F.Display items') h =
-    let g : (pointwise eq_expr (map (λ e. e.0) items) items') ≡ true = simp out-roll-Expr at h in
-    λ i. roll-Expr (Expr-F.Display (same_items eq_expr items items' (g) i))
-same-Expr-Display items z h = absurd (false≢true (simp out-roll-Expr at h))
-
-same-Expr-Range : (a : Known eq_expr) (b : Known eq_expr) (z : Expr-F Expr Gen EventPart) → expr_laws.unfolded (roll-Expr (Expr-F.Range a.0 b.0)) (roll-Expr z) ≡ true → roll-Expr (Expr-F.Range a.0 b.0) ≡ roll-Expr z
-same-Expr-Range a b (Expr-F.Range a' b') h =
-    let g : ((eq_expr a.0 a') && (eq_expr b.0 b')) ≡ true = simp out-roll-Expr at h in
-    λ i. roll-Expr (Expr-F.Range (a.1 a' (first_so (eq_expr a.0 a') (eq_expr b.0 b') g) i) (b.1 b' (second_so (eq_expr a.0 a') (eq_expr b.0 b') g) i))
-same-Expr-Range a b z h = absurd (false≢true (simp out-roll-Expr at h))
-
-same-Expr-Comp : (items : List (Known eq_expr)) (gens : List (Known eq_gen)) (z : Expr-F Expr Gen EventPart) → expr_laws.unfolded (roll-Expr (Expr-F.Comp (map (λ e. e.0) items) (map (λ e. e.0) gens))) (roll-Expr z) ≡ true → roll-Expr (Expr-F.Comp (map (λ e. e.0) items) (map (λ e. e.0) gens)) ≡ roll-Expr z
-same-Expr-Comp items gens (Expr-F.Comp items' gens') h =
-    let g : ((pointwise eq_expr (map (λ e. e.0) items) items') && (pointwise eq_gen (map (λ e. e.0) gens) gens')) ≡ true = simp out-roll-Expr at h in
-    λ i. roll-Expr (Expr-F.Comp (same_items eq_expr items items' (first_so (pointwise eq_expr (map (λ e. e.0) items) items') (pointwise eq_gen (map (λ e. e.0) gens) gens') g) i) (same_items eq_gen gens gens' (second_so (pointwise eq_expr (map (λ e. e.0) items) items') (pointwise eq_gen (map (λ e. e.0) gens) gens') g) i))
-same-Expr-Comp items gens z h = absurd (false≢true (simp out-roll-Expr at h))
-
-same-Expr-Product : (parts : List (Known eq_part)) (gens : List (Known eq_gen)) (z : Expr-F Expr Gen EventPart) → expr_laws.unfolded (roll-Expr (Expr-F.Product (map (λ e. e.0) parts) (map (λ e. e.0) gens))) (roll-Expr z) ≡ true → roll-Expr (Expr-F.Product (map (λ e. e.0) parts) (map (λ e. e.0) gens)) ≡ roll-Expr z
-same-Expr-Product parts gens (Expr-F.Product parts' gens') h =
-    let g : ((pointwise eq_part (map (λ e. e.0) parts) parts') && (pointwise eq_gen (map (λ e. e.0) gens) gens')) ≡ true = simp out-roll-Expr at h in
-    λ i. roll-Expr (Expr-F.Product (same_items eq_part parts parts' (first_so (pointwise eq_part (map (λ e. e.0) parts) parts') (pointwise eq_gen (map (λ e. e.0) gens) gens') g) i) (same_items eq_gen gens gens' (second_so (pointwise eq_part (map (λ e. e.0) parts) parts') (pointwise eq_gen (map (λ e. e.0) gens) gens') g) i))
-same-Expr-Product parts gens z h = absurd (false≢true (simp out-roll-Expr at h))
-
-same-Expr-SetOp : (op : SetOp) (a : Known eq_expr) (b : Known eq_expr) (z : Expr-F Expr Gen EventPart) → expr_laws.unfolded (roll-Expr (Expr-F.SetOp op a.0 b.0)) (roll-Expr z) ≡ true → roll-Expr (Expr-F.SetOp op a.0 b.0) ≡ roll-Expr z
-same-Expr-SetOp op a b (Expr-F.SetOp op' a' b') h =
-    let g : (((setops.ghosts).eq op op') && ((eq_expr a.0 a') && (eq_expr b.0 b'))) ≡ true = simp out-roll-Expr at h in
-    λ i. roll-Expr (Expr-F.SetOp (exact_setop op op' (first_so ((setops.ghosts).eq op op') ((eq_expr a.0 a') && (eq_expr b.0 b')) g) i) (a.1 a' (first_so (eq_expr a.0 a') (eq_expr b.0 b') (second_so ((setops.ghosts).eq op op') ((eq_expr a.0 a') && (eq_expr b.0 b')) g)) i) (b.1 b' (second_so (eq_expr a.0 a') (eq_expr b.0 b') (second_so ((setops.ghosts).eq op op') ((eq_expr a.0 a') && (eq_expr b.0 b')) g)) i))
-same-Expr-SetOp op a b z h = absurd (false≢true (simp out-roll-Expr at h))
+layered : (d z : Expr-F Expr Gen EventPart) → expr_laws.unfolded (roll-Expr d) (roll-Expr z) ≡ true → eq_layer d z ≡ true
+layered d z h = subst (λ u. eq_layer d u ≡ true) (out-roll-Expr z) (subst (λ u. eq_layer u (out-Expr (roll-Expr z)) ≡ true) (out-roll-Expr d) h)
 
 same-Gen-From : (y : ℕ) (s : Known eq_expr) (z : Gen-F Expr Gen EventPart) → gen_laws.unfolded (roll-Gen (Gen-F.From y s.0)) (roll-Gen z) ≡ true → roll-Gen (Gen-F.From y s.0) ≡ roll-Gen z
 same-Gen-From y s (Gen-F.From y' s') h =
@@ -210,43 +138,55 @@ bare_expr x = map-Expr KE KG KP Expr Gen EventPart (λ e. e.0) (λ e. e.0) (λ e
 abbrev bare_gen : Gen-F KE KG KP → Gen-F Expr Gen EventPart
 bare_gen x = map-Gen KE KG KP Expr Gen EventPart (λ e. e.0) (λ e. e.0) (λ e. e.0) x
 
-expr_layer : (x : Expr-F KE KG KP) (y : Expr-F Expr Gen EventPart) → expr_laws.unfolded (roll-Expr (bare_expr x)) (roll-Expr y) ≡ true → roll-Expr (bare_expr x) ≡ roll-Expr y
-expr_layer (Expr-F.Num n) = same-Expr-Num n
-expr_layer (Expr-F.Truth b) = same-Expr-Truth b
-expr_layer (Expr-F.Const k) = same-Expr-Const k
-expr_layer (Expr-F.Bound y) = same-Expr-Bound y
-expr_layer (Expr-F.Lit w) = same-Expr-Lit w
-expr_layer (Expr-F.Neg a) = same-Expr-Neg a
-expr_layer (Expr-F.Not a) = same-Expr-Not a
-expr_layer (Expr-F.Binary op a b) = same-Expr-Binary op a b
-expr_layer (Expr-F.If c a b) = same-Expr-If c a b
-expr_layer (Expr-F.Call d args) = same-Expr-Call d args
-expr_layer (Expr-F.SetName d) = same-Expr-SetName d
-expr_layer (Expr-F.Event c fields) = same-Expr-Event c fields
-expr_layer (Expr-F.Display items) = same-Expr-Display items
-expr_layer (Expr-F.Range a b) = same-Expr-Range a b
-expr_layer (Expr-F.Comp items gens) = same-Expr-Comp items gens
-expr_layer (Expr-F.Product parts gens) = same-Expr-Product parts gens
-expr_layer (Expr-F.SetOp op a b) = same-Expr-SetOp op a b
+expr_layer : (x : Expr-F KE KG KP) (z : Expr-F Expr Gen EventPart) → eq_layer (bare_expr x) z ≡ true → roll-Expr (bare_expr x) ≡ roll-Expr z
+expr_layer (Expr-F.Num n) (Expr-F.Num n') h = λ i. roll-Expr (Expr-F.Num ((Decides-int_eq n n').0 h i))
+expr_layer (Expr-F.Truth b) (Expr-F.Truth b') h = λ i. roll-Expr (Expr-F.Truth (exact_bool b b' h i))
+expr_layer (Expr-F.Const k) (Expr-F.Const k') h = λ i. roll-Expr (Expr-F.Const (eqb-true k k' h i))
+expr_layer (Expr-F.Bound y) (Expr-F.Bound y') h = λ i. roll-Expr (Expr-F.Bound (eqb-true y y' h i))
+expr_layer (Expr-F.Lit w) (Expr-F.Lit w') h = λ i. roll-Expr (Expr-F.Lit (exact_value w w' h i))
+expr_layer (Expr-F.Neg a) (Expr-F.Neg a') h = λ i. roll-Expr (Expr-F.Neg (a.1 a' h i))
+expr_layer (Expr-F.Not a) (Expr-F.Not a') h = λ i. roll-Expr (Expr-F.Not (a.1 a' h i))
+expr_layer (Expr-F.Binary op a b) (Expr-F.Binary op' a' b') h =
+    let g = second_so ((binops.ghosts).eq op op') (eq_expr a.0 a' && eq_expr b.0 b') h in
+    λ i. roll-Expr (Expr-F.Binary (exact_binop op op' (first_so ((binops.ghosts).eq op op') (eq_expr a.0 a' && eq_expr b.0 b') h) i) (a.1 a' (first_so (eq_expr a.0 a') (eq_expr b.0 b') g) i) (b.1 b' (second_so (eq_expr a.0 a') (eq_expr b.0 b') g) i))
+expr_layer (Expr-F.If c a b) (Expr-F.If c' a' b') h =
+    let g = second_so (eq_expr c.0 c') (eq_expr a.0 a' && eq_expr b.0 b') h in
+    λ i. roll-Expr (Expr-F.If (c.1 c' (first_so (eq_expr c.0 c') (eq_expr a.0 a' && eq_expr b.0 b') h) i) (a.1 a' (first_so (eq_expr a.0 a') (eq_expr b.0 b') g) i) (b.1 b' (second_so (eq_expr a.0 a') (eq_expr b.0 b') g) i))
+expr_layer (Expr-F.Call d args) (Expr-F.Call d' args') h =
+    λ i. roll-Expr (Expr-F.Call (eqb-true d d' (first_so (nat_eq d d') (pointwise eq_expr (map (λ e. e.0) args) args') h) i) (same_items eq_expr args args' (second_so (nat_eq d d') (pointwise eq_expr (map (λ e. e.0) args) args') h) i))
+expr_layer (Expr-F.SetName d) (Expr-F.SetName d') h = λ i. roll-Expr (Expr-F.SetName (eqb-true d d' h i))
+expr_layer (Expr-F.Event c fields) (Expr-F.Event c' fields') h =
+    λ i. roll-Expr (Expr-F.Event (eqb-true c c' (first_so (nat_eq c c') (pointwise eq_expr (map (λ e. e.0) fields) fields') h) i) (same_items eq_expr fields fields' (second_so (nat_eq c c') (pointwise eq_expr (map (λ e. e.0) fields) fields') h) i))
+expr_layer (Expr-F.Display items) (Expr-F.Display items') h = λ i. roll-Expr (Expr-F.Display (same_items eq_expr items items' h i))
+expr_layer (Expr-F.Range a b) (Expr-F.Range a' b') h =
+    λ i. roll-Expr (Expr-F.Range (a.1 a' (first_so (eq_expr a.0 a') (eq_expr b.0 b') h) i) (b.1 b' (second_so (eq_expr a.0 a') (eq_expr b.0 b') h) i))
+expr_layer (Expr-F.Comp items gens) (Expr-F.Comp items' gens') h =
+    λ i. roll-Expr (Expr-F.Comp (same_items eq_expr items items' (first_so (pointwise eq_expr (map (λ e. e.0) items) items') (pointwise eq_gen (map (λ e. e.0) gens) gens') h) i) (same_items eq_gen gens gens' (second_so (pointwise eq_expr (map (λ e. e.0) items) items') (pointwise eq_gen (map (λ e. e.0) gens) gens') h) i))
+expr_layer (Expr-F.Product parts gens) (Expr-F.Product parts' gens') h =
+    λ i. roll-Expr (Expr-F.Product (same_items eq_part parts parts' (first_so (pointwise eq_part (map (λ e. e.0) parts) parts') (pointwise eq_gen (map (λ e. e.0) gens) gens') h) i) (same_items eq_gen gens gens' (second_so (pointwise eq_part (map (λ e. e.0) parts) parts') (pointwise eq_gen (map (λ e. e.0) gens) gens') h) i))
+expr_layer (Expr-F.SetOp op a b) (Expr-F.SetOp op' a' b') h =
+    let g = second_so ((setops.ghosts).eq op op') (eq_expr a.0 a' && eq_expr b.0 b') h in
+    λ i. roll-Expr (Expr-F.SetOp (exact_setop op op' (first_so ((setops.ghosts).eq op op') (eq_expr a.0 a' && eq_expr b.0 b') h) i) (a.1 a' (first_so (eq_expr a.0 a') (eq_expr b.0 b') g) i) (b.1 b' (second_so (eq_expr a.0 a') (eq_expr b.0 b') g) i))
+expr_layer x z h = absurd (false≢true h)
 
 gen_layer : (x : Gen-F KE KG KP) (y : Gen-F Expr Gen EventPart) → gen_laws.unfolded (roll-Gen (bare_gen x)) (roll-Gen y) ≡ true → roll-Gen (bare_gen x) ≡ roll-Gen y
 gen_layer (Gen-F.From y s) = same-Gen-From y s
 gen_layer (Gen-F.Cond c) = same-Gen-Cond c
 
+expr_step : (z : Expr-F Expr Gen EventPart) (x : Expr-F KE KG KP) → bare_expr x ≡ z → IsSame eq_expr (roll-Expr z)
+expr_step = same_rolled eq_expr roll-Expr out-Expr roll-out-Expr bare_expr (λ x y h. expr_layer x y (layered (bare_expr x) y (sym (expr_laws.is (roll-Expr (bare_expr x)) (roll-Expr y)) ∙ h)))
+
+gen_step : (z : Gen-F Expr Gen EventPart) (x : Gen-F KE KG KP) → bare_gen x ≡ z → IsSame eq_gen (roll-Gen z)
+gen_step = same_rolled eq_gen roll-Gen out-Gen roll-out-Gen bare_gen (λ x y h. gen_layer x y (sym (gen_laws.is (roll-Gen (bare_gen x)) (roll-Gen y)) ∙ h))
+
+part_step : (z : EventPart-F Expr Gen EventPart) (x : EventPart-F KE KG KP) → bare_part x ≡ z → IsSame eq_part (roll-EventPart z)
+part_step = same_rolled eq_part roll-EventPart out-EventPart roll-out-EventPart bare_part (λ x y h. same-EventPart x y (sym (part_laws.is (roll-EventPart (bare_part x)) (roll-EventPart y)) ∙ h))
+
 pub exact_expr : (x y : Expr) → eq_expr x y ≡ true → x ≡ y
-exact_expr = ind-Expr (IsSame eq_expr) (IsSame eq_gen) (IsSame eq_part)
-    (same_rolled eq_expr roll-Expr out-Expr roll-out-Expr bare_expr (λ x y h. expr_layer x y (sym (expr_laws.is (roll-Expr (bare_expr x)) (roll-Expr y)) ∙ h)))
-    (same_rolled eq_gen roll-Gen out-Gen roll-out-Gen bare_gen (λ x y h. gen_layer x y (sym (gen_laws.is (roll-Gen (bare_gen x)) (roll-Gen y)) ∙ h)))
-    (same_rolled eq_part roll-EventPart out-EventPart roll-out-EventPart bare_part (λ x y h. same-EventPart x y (sym (part_laws.is (roll-EventPart (bare_part x)) (roll-EventPart y)) ∙ h)))
+exact_expr = ind-Expr (IsSame eq_expr) (IsSame eq_gen) (IsSame eq_part) expr_step gen_step part_step
 
 pub exact_gen : (x y : Gen) → eq_gen x y ≡ true → x ≡ y
-exact_gen = ind-Gen (IsSame eq_expr) (IsSame eq_gen) (IsSame eq_part)
-    (same_rolled eq_expr roll-Expr out-Expr roll-out-Expr bare_expr (λ x y h. expr_layer x y (sym (expr_laws.is (roll-Expr (bare_expr x)) (roll-Expr y)) ∙ h)))
-    (same_rolled eq_gen roll-Gen out-Gen roll-out-Gen bare_gen (λ x y h. gen_layer x y (sym (gen_laws.is (roll-Gen (bare_gen x)) (roll-Gen y)) ∙ h)))
-    (same_rolled eq_part roll-EventPart out-EventPart roll-out-EventPart bare_part (λ x y h. same-EventPart x y (sym (part_laws.is (roll-EventPart (bare_part x)) (roll-EventPart y)) ∙ h)))
+exact_gen = ind-Gen (IsSame eq_expr) (IsSame eq_gen) (IsSame eq_part) expr_step gen_step part_step
 
 pub exact_part : (x y : EventPart) → eq_part x y ≡ true → x ≡ y
-exact_part = ind-EventPart (IsSame eq_expr) (IsSame eq_gen) (IsSame eq_part)
-    (same_rolled eq_expr roll-Expr out-Expr roll-out-Expr bare_expr (λ x y h. expr_layer x y (sym (expr_laws.is (roll-Expr (bare_expr x)) (roll-Expr y)) ∙ h)))
-    (same_rolled eq_gen roll-Gen out-Gen roll-out-Gen bare_gen (λ x y h. gen_layer x y (sym (gen_laws.is (roll-Gen (bare_gen x)) (roll-Gen y)) ∙ h)))
-    (same_rolled eq_part roll-EventPart out-EventPart roll-out-EventPart bare_part (λ x y h. same-EventPart x y (sym (part_laws.is (roll-EventPart (bare_part x)) (roll-EventPart y)) ∙ h)))
+exact_part = ind-EventPart (IsSame eq_expr) (IsSame eq_gen) (IsSame eq_part) expr_step gen_step part_step

@@ -1,10 +1,10 @@
 -- What a call answers for a form, from what calls answer for its parts.
 use Rattle.std.proofs.Common.{◌≡◌, ℕ, zero, suc, ◌+◌, ◌-◌, ◌<◌, ◌≤◌, Bool, true, false, cond, List, [], ◌∷◌, Some, None, Ok, Err, map, length, drop, refl, ap, sym, subst, ◌∙◌, arith}
-use Rattle.std.specs.Prelude.{ℤ, slice_get, Result, Option}
+use Rattle.std.specs.Prelude.{ℤ, if◌then◌else◌, slice_get, Result, Option}
 use Rattle.std.specs.Result.{IsErrAnd}
 use Rattle.csp_program.specs.Atoms.{all_added, events_from}
 use Rattle.csp_program.specs.Outcome.{Outcome, and_then}
-use Rattle.csp_program.specs.Value.{first_of, Env, Gathered, bound_to, bound_value, many, number, as_set, sets_of, as_truth}
+use Rattle.csp_program.specs.Value.{first_of, Env, Gathered, bound_to, bound_value, many, number, range, set_binary, as_number, as_set, sets_of, as_truth}
 use Rattle.csp_atoms.specs.declared.atom.Atom.{Atom}
 use Rattle.csp_atoms.specs.declared.atom.Atom.TheVariants as atom
 use Rattle.csp_atoms.specs.declared.value.Value.{Value}
@@ -28,7 +28,7 @@ use Rattle.value_operators.specs.Forms.{negative, inverse, operation, choice, na
 use Rattle.value_operators.specs.Gives.{Gives}
 use Rattle.value_operators.specs.declared.fault.EvalFault.{EvalFault}
 use Rattle.value_operators.specs.declared.fault.EvalFault.TheVariants as fault
-use Rattle.csp_values.specs.Worth.{worth, worths, use_worth, body_worth, with_items, fields_worth, front_worth, with_front, with_fronts, one_more_binding, walk_worth, each_worth, GivesTally, gathered_of}
+use Rattle.csp_values.specs.Worth.{worth, worths, number_worth, truth_worth, atoms_worth, chosen, range_of, set_of, use_worth, body_worth, with_items, fields_worth, front_worth, with_front, with_fronts, one_more_binding, walk_worth, each_worth, GivesTally, gathered_of}
 use Rattle.csp_values.specs.declared.tally.Tally.{Tally}
 use Rattle.csp_values.proofs.Equations as eq
 use Rattle.csp_values.proofs.FieldSteps.{front_scaled}
@@ -58,6 +58,33 @@ pub walk_passed : (r : Result Tally EvalFault) (f : EvalFault) (part whole : Out
 walk_passed (Ok x) f part whole is h passes = absurd is
 walk_passed (Err y) f part whole is h passes = rw is (walk_fault f part whole h passes)
 
+-- one step after another is one step
+chain : {A B C : Type 0} (o : Outcome A) (f : A → Outcome B) (g : B → Outcome C) → and_then o (λ a. and_then (f a) g) ≡ and_then (and_then o f) g
+chain (Ok a) f g = refl
+chain (Err k) f g = refl
+
+-- two parts, each of which is taken for what it is worth
+module _ {V M C : Type 0} (f : V → Outcome M) (g : M → M → Outcome C) where
+  second_part : (o : Outcome M) (b : Outcome V) → and_then o (λ m. and_then b (λ w. and_then (f w) (λ n. g m n))) ≡ and_then o (λ m. and_then (and_then b f) (λ n. g m n))
+  second_part (Ok m) b = chain b f (λ n. g m n)
+  second_part (Err k) b = refl
+
+  both_parts : (a b : Outcome V) → and_then a (λ v. and_then (f v) (λ m. and_then b (λ w. and_then (f w) (λ n. g m n)))) ≡ and_then (and_then a f) (λ m. and_then (and_then b f) (λ n. g m n))
+  both_parts (Ok v) b = second_part (f v) b
+  both_parts (Err k) b = refl
+
+number_is : (p : Content) (n : ℕ) (env : Env) (e : Expr) → and_then (worth p n env e) (λ v. as_number v) ≡ number_worth p n env e
+unfolding number_worth
+number_is p n env e = refl
+
+truth_is : (p : Content) (n : ℕ) (env : Env) (e : Expr) → and_then (worth p n env e) (λ v. as_truth v) ≡ truth_worth p n env e
+unfolding truth_worth
+truth_is p n env e = refl
+
+atoms_are : (p : Content) (n : ℕ) (env : Env) (e : Expr) → and_then (worth p n env e) (λ v. as_set v) ≡ atoms_worth p n env e
+unfolding atoms_worth
+atoms_are p n env e = refl
+
 -- forms of expressions
 module _ (p : Content) (n : ℕ) (env : Env) where
   pub worth_num : (e : Expr) (k m : ℤ) → e ≡ expr.Num k → m ≡ k → worth p n env e ≡ Ok (number m)
@@ -84,9 +111,11 @@ module _ (p : Content) (n : ℕ) (env : Env) where
   pub worth_binary : (e : Expr) (op : BinOp) (a b a' b' : Expr) → e ≡ expr.Binary op a b → a' ≡ a → b' ≡ b → worth p n env e ≡ operation op (worth p n env a') (worth p n env b')
   worth_binary e op a b a' b' is got_a got_b = ap (worth p n env) is ∙ (eq.worth-Binary p n env op a b ∙ (λ i. operation op (worth p n env (sym got_a i)) (worth p n env (sym got_b i))))
 
-  pub worth_if : (e c a b c' a' b' : Expr) → e ≡ expr.If c a b → c' ≡ c → a' ≡ a → b' ≡ b → worth p n env e ≡ choice (worth p n env c') (worth p n env a') (worth p n env b')
+  pub worth_if : (e c a b c' a' b' : Expr) → e ≡ expr.If c a b → c' ≡ c → a' ≡ a → b' ≡ b → worth p n env e ≡ chosen (truth_worth p n env c') (worth p n env a') (worth p n env b')
   worth_if e c a b c' a' b' is got_c got_a got_b =
-      ap (worth p n env) is ∙ (eq.worth-If p n env c a b ∙ (λ i. choice (worth p n env (sym got_c i)) (worth p n env (sym got_a i)) (worth p n env (sym got_b i))))
+      ap (worth p n env) is ∙ (eq.worth-If p n env c a b ∙ ((λ i. choice (worth p n env (sym got_c i)) (worth p n env (sym got_a i)) (worth p n env (sym got_b i))) ∙
+      (chain (worth p n env c') (λ v. as_truth v) (λ t. if t then worth p n env a' else worth p n env b') ∙
+      ap (λ o. chosen o (worth p n env a') (worth p n env b')) (truth_is p n env c'))))
 
   pub worth_call : (e : Expr) (d : ℕ) (args args' : List Expr) → e ≡ expr.Call d args → args' ≡ args → worth p n env e ≡ and_then (worths p n env args') (λ vs. use_worth p n d vs)
   worth_call e d args args' is got = ap (worth p n env) is ∙ (eq.worth-Call p n env d args ∙ ap (λ x. and_then (worths p n env x) (λ vs. use_worth p n d vs)) (sym got))
@@ -100,11 +129,17 @@ module _ (p : Content) (n : ℕ) (env : Env) where
   pub worth_display : (e : Expr) (items items' : List Expr) → e ≡ expr.Display items → items' ≡ items → worth p n env e ≡ a_set (with_items p n env items' [])
   worth_display e items items' is got = ap (worth p n env) is ∙ (eq.worth-Display p n env items ∙ ap (λ x. a_set (with_items p n env x [])) (sym got))
 
-  pub worth_range : (e a b a' b' : Expr) → e ≡ expr.Range a b → a' ≡ a → b' ≡ b → worth p n env e ≡ a_range (worth p n env a') (worth p n env b')
-  worth_range e a b a' b' is got_a got_b = ap (worth p n env) is ∙ (eq.worth-Range p n env a b ∙ (λ i. a_range (worth p n env (sym got_a i)) (worth p n env (sym got_b i))))
+  pub worth_range : (e a b a' b' : Expr) → e ≡ expr.Range a b → a' ≡ a → b' ≡ b → worth p n env e ≡ range_of (number_worth p n env a') (number_worth p n env b')
+  worth_range e a b a' b' is got_a got_b =
+      ap (worth p n env) is ∙ (eq.worth-Range p n env a b ∙ ((λ i. a_range (worth p n env (sym got_a i)) (worth p n env (sym got_b i))) ∙
+      (both_parts (λ v. as_number v) (λ k m. many (range k m)) (worth p n env a') (worth p n env b') ∙
+      (λ i. range_of (number_is p n env a' i) (number_is p n env b' i)))))
 
-  pub worth_set_op : (e : Expr) (op : SetOp) (a b a' b' : Expr) → e ≡ expr.SetOp op a b → a' ≡ a → b' ≡ b → worth p n env e ≡ set_operation op (worth p n env a') (worth p n env b')
-  worth_set_op e op a b a' b' is got_a got_b = ap (worth p n env) is ∙ (eq.worth-SetOp p n env op a b ∙ (λ i. set_operation op (worth p n env (sym got_a i)) (worth p n env (sym got_b i))))
+  pub worth_set_op : (e : Expr) (op : SetOp) (a b a' b' : Expr) → e ≡ expr.SetOp op a b → a' ≡ a → b' ≡ b → worth p n env e ≡ set_of op (atoms_worth p n env a') (atoms_worth p n env b')
+  worth_set_op e op a b a' b' is got_a got_b =
+      ap (worth p n env) is ∙ (eq.worth-SetOp p n env op a b ∙ ((λ i. set_operation op (worth p n env (sym got_a i)) (worth p n env (sym got_b i))) ∙
+      (both_parts (λ v. as_set v) (λ xs ys. many (set_binary op xs ys)) (worth p n env a') (worth p n env b') ∙
+      (λ i. set_of op (atoms_are p n env a' i) (atoms_are p n env b' i)))))
 
   pub worth_comp : (e : Expr) (items items' : List Expr) (gens gens' : List Gen) → e ≡ expr.Comp items gens → items' ≡ items → gens' ≡ gens → worth p n env e ≡ gathered_set (walk_worth p n gens' items' [] env nothing_yet)
   worth_comp e items items' gens gens' is got_items got_gens =
@@ -183,22 +218,18 @@ module _ (p : Content) (n : ℕ) (items : List Expr) (parts : List EventPart) (e
 
 -- generators
 module _ (p : Content) (n : ℕ) (first : Gen) (gens : List Gen) (items : List Expr) (parts : List EventPart) (env : Env) (state : Gathered) where
-  pub walk_from : (x : ℕ) (s : Expr) (o : Outcome Value) → first ≡ generator.From x s → worth p n env s ≡ o
-      → walk_worth p n (first ∷ gens) items parts env state ≡ and_then o (λ v. and_then (as_set v) (λ atoms. each_worth p n x atoms gens items parts env state))
+  pub walk_from : (x : ℕ) (s : Expr) (o : Outcome (List Atom)) → first ≡ generator.From x s → atoms_worth p n env s ≡ o
+      → walk_worth p n (first ∷ gens) items parts env state ≡ and_then o (λ atoms. each_worth p n x atoms gens items parts env state)
   walk_from x s o is came =
       ap (λ g. walk_worth p n (g ∷ gens) items parts env state) is ∙
-      (eq.walk-From p n x s gens items parts env state ∙ ap (λ z. and_then z (λ v. and_then (as_set v) (λ atoms. each_worth p n x atoms gens items parts env state))) came)
+      (eq.walk-From p n x s gens items parts env state ∙
+      (chain (worth p n env s) (λ v. as_set v) (λ atoms. each_worth p n x atoms gens items parts env state) ∙
+      ap (λ z. and_then z (λ atoms. each_worth p n x atoms gens items parts env state)) (atoms_are p n env s ∙ came)))
 
-  pub walk_from_set : (x : ℕ) (s : Expr) (v : Value) (o : Outcome (List Atom)) → first ≡ generator.From x s → worth p n env s ≡ Ok v → as_set v ≡ o
-      → walk_worth p n (first ∷ gens) items parts env state ≡ and_then o (λ atoms. each_worth p n x atoms gens items parts env state)
-  walk_from_set x s v o is came set = walk_from x s (Ok v) is came ∙ ap (λ z. and_then z (λ atoms. each_worth p n x atoms gens items parts env state)) set
-
-  pub walk_cond : (c : Expr) (o : Outcome Value) → first ≡ generator.Cond c → worth p n env c ≡ o
-      → walk_worth p n (first ∷ gens) items parts env state ≡ and_then o (λ v. and_then (as_truth v) (λ b. cond b (walk_worth p n gens items parts env state) (Ok state)))
+  pub walk_cond : (c : Expr) (o : Outcome Bool) → first ≡ generator.Cond c → truth_worth p n env c ≡ o
+      → walk_worth p n (first ∷ gens) items parts env state ≡ and_then o (λ b. cond b (walk_worth p n gens items parts env state) (Ok state))
   walk_cond c o is came =
       ap (λ g. walk_worth p n (g ∷ gens) items parts env state) is ∙
-      (eq.walk-Cond p n c gens items parts env state ∙ ap (λ z. and_then z (λ v. and_then (as_truth v) (λ b. cond b (walk_worth p n gens items parts env state) (Ok state)))) came)
-
-  pub walk_cond_truth : (c : Expr) (v : Value) (o : Outcome Bool) → first ≡ generator.Cond c → worth p n env c ≡ Ok v → as_truth v ≡ o
-      → walk_worth p n (first ∷ gens) items parts env state ≡ and_then o (λ b. cond b (walk_worth p n gens items parts env state) (Ok state))
-  walk_cond_truth c v o is came truth = walk_cond c (Ok v) is came ∙ ap (λ z. and_then z (λ b. cond b (walk_worth p n gens items parts env state) (Ok state))) truth
+      (eq.walk-Cond p n c gens items parts env state ∙
+      (chain (worth p n env c) (λ v. as_truth v) (λ b. cond b (walk_worth p n gens items parts env state) (Ok state)) ∙
+      ap (λ z. and_then z (λ b. cond b (walk_worth p n gens items parts env state) (Ok state))) (truth_is p n env c ∙ came)))

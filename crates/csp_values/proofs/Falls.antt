@@ -25,8 +25,8 @@ weight_not e a a' is got = ap weight is ∙ (w.weight-Not a ∙ ap (λ x. weight
 pub weight_binary : (e : Expr) (op : BinOp) (a b a' b' : Expr) → e ≡ expr.Binary op a b → a' ≡ a → b' ≡ b → weight e ≡ weight a' + weight b' + 2
 weight_binary e op a b a' b' is got_a got_b = ap weight is ∙ (w.weight-Binary op a b ∙ (λ i. weight (sym got_a i) + weight (sym got_b i) + 2))
 
-pub weight_if : (e c a b c' a' b' : Expr) → e ≡ expr.If c a b → c' ≡ c → a' ≡ a → b' ≡ b → weight e ≡ weight c' + weight a' + weight b' + 2
-weight_if e c a b c' a' b' is got_c got_a got_b = ap weight is ∙ (w.weight-If c a b ∙ (λ i. weight (sym got_c i) + weight (sym got_a i) + weight (sym got_b i) + 2))
+pub weight_if : (e c a b c' a' b' : Expr) → e ≡ expr.If c a b → c' ≡ c → a' ≡ a → b' ≡ b → weight e ≡ weight c' + weight a' + weight b' + 3
+weight_if e c a b c' a' b' is got_c got_a got_b = ap weight is ∙ (w.weight-If c a b ∙ (λ i. weight (sym got_c i) + weight (sym got_a i) + weight (sym got_b i) + 3))
 
 pub weight_call : (e : Expr) (d : ℕ) (args args' : List Expr) → e ≡ expr.Call d args → args' ≡ args → weight e ≡ weights args' + 3
 weight_call e d args args' is got = ap weight is ∙ (w.weight-Call d args ∙ ap (λ x. weights x + 3) (sym got))
@@ -40,11 +40,11 @@ weight_event e c fields fields' is got = ap weight is ∙ (w.weight-Event c fiel
 pub weight_display : (e : Expr) (items items' : List Expr) → e ≡ expr.Display items → items' ≡ items → weight e ≡ weights items' + 3
 weight_display e items items' is got = ap weight is ∙ (w.weight-Display items ∙ ap (λ x. weights x + 3) (sym got))
 
-pub weight_range : (e a b a' b' : Expr) → e ≡ expr.Range a b → a' ≡ a → b' ≡ b → weight e ≡ weight a' + weight b' + 2
-weight_range e a b a' b' is got_a got_b = ap weight is ∙ (w.weight-Range a b ∙ (λ i. weight (sym got_a i) + weight (sym got_b i) + 2))
+pub weight_range : (e a b a' b' : Expr) → e ≡ expr.Range a b → a' ≡ a → b' ≡ b → weight e ≡ weight a' + weight b' + 3
+weight_range e a b a' b' is got_a got_b = ap weight is ∙ (w.weight-Range a b ∙ (λ i. weight (sym got_a i) + weight (sym got_b i) + 3))
 
-pub weight_set_op : (e : Expr) (op : SetOp) (a b a' b' : Expr) → e ≡ expr.SetOp op a b → a' ≡ a → b' ≡ b → weight e ≡ weight a' + weight b' + 2
-weight_set_op e op a b a' b' is got_a got_b = ap weight is ∙ (w.weight-SetOp op a b ∙ (λ i. weight (sym got_a i) + weight (sym got_b i) + 2))
+pub weight_set_op : (e : Expr) (op : SetOp) (a b a' b' : Expr) → e ≡ expr.SetOp op a b → a' ≡ a → b' ≡ b → weight e ≡ weight a' + weight b' + 3
+weight_set_op e op a b a' b' is got_a got_b = ap weight is ∙ (w.weight-SetOp op a b ∙ (λ i. weight (sym got_a i) + weight (sym got_b i) + 3))
 
 pub weight_comp : (e : Expr) (items items' : List Expr) (gens gens' : List Gen) → e ≡ expr.Comp items gens → items' ≡ items → gens' ≡ gens → weight e ≡ weights items' + part_weights [] + gen_weights gens' + 5
 weight_comp e items items' gens gens' is got_items got_gens =

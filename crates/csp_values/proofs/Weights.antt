@@ -26,15 +26,15 @@ of_expr (Expr-F.Lit v) = 1
 of_expr (Expr-F.Neg a) = a + 2
 of_expr (Expr-F.Not a) = a + 2
 of_expr (Expr-F.Binary op a b) = a + b + 2
-of_expr (Expr-F.If c a b) = c + a + b + 2
+of_expr (Expr-F.If c a b) = c + a + b + 3
 of_expr (Expr-F.Call d args) = total args + 3
 of_expr (Expr-F.SetName d) = 2
 of_expr (Expr-F.Event c fields) = total fields + 4
 of_expr (Expr-F.Display items) = total items + 3
-of_expr (Expr-F.Range a b) = a + b + 2
+of_expr (Expr-F.Range a b) = a + b + 3
 of_expr (Expr-F.Comp items gens) = total items + total gens + 5
 of_expr (Expr-F.Product parts gens) = total parts + total gens + 6
-of_expr (Expr-F.SetOp op a b) = a + b + 2
+of_expr (Expr-F.SetOp op a b) = a + b + 3
 
 abbrev of_gen : Gen-F ℕ ℕ ℕ → ℕ
 of_gen (Gen-F.From x s) = s + 3
@@ -73,7 +73,7 @@ pub weight-Binary : (op : BinOp) (a b : Expr) → weight (expr.Binary op a b) �
 unfolding weight weights gen_weight gen_weights part_weight part_weights
 weight-Binary op a b = ap (fold-Expr ℕ ℕ ℕ of_expr of_gen of_part) (sym (expr.rolls-Binary op a b)) ∙ fold-roll-Expr ℕ ℕ ℕ of_expr of_gen of_part (Expr-F.Binary op a b)
 
-pub weight-If : (c a b : Expr) → weight (expr.If c a b) ≡ weight c + weight a + weight b + 2
+pub weight-If : (c a b : Expr) → weight (expr.If c a b) ≡ weight c + weight a + weight b + 3
 unfolding weight weights gen_weight gen_weights part_weight part_weights
 weight-If c a b = ap (fold-Expr ℕ ℕ ℕ of_expr of_gen of_part) (sym (expr.rolls-If c a b)) ∙ fold-roll-Expr ℕ ℕ ℕ of_expr of_gen of_part (Expr-F.If c a b)
 
@@ -93,7 +93,7 @@ pub weight-Display : (items : List Expr) → weight (expr.Display items) ≡ wei
 unfolding weight weights gen_weight gen_weights part_weight part_weights
 weight-Display items = ap (fold-Expr ℕ ℕ ℕ of_expr of_gen of_part) (sym (expr.rolls-Display items)) ∙ fold-roll-Expr ℕ ℕ ℕ of_expr of_gen of_part (Expr-F.Display items)
 
-pub weight-Range : (a b : Expr) → weight (expr.Range a b) ≡ weight a + weight b + 2
+pub weight-Range : (a b : Expr) → weight (expr.Range a b) ≡ weight a + weight b + 3
 unfolding weight weights gen_weight gen_weights part_weight part_weights
 weight-Range a b = ap (fold-Expr ℕ ℕ ℕ of_expr of_gen of_part) (sym (expr.rolls-Range a b)) ∙ fold-roll-Expr ℕ ℕ ℕ of_expr of_gen of_part (Expr-F.Range a b)
 
@@ -105,7 +105,7 @@ pub weight-Product : (parts : List EventPart) (gens : List Gen) → weight (expr
 unfolding weight weights gen_weight gen_weights part_weight part_weights
 weight-Product parts gens = ap (fold-Expr ℕ ℕ ℕ of_expr of_gen of_part) (sym (expr.rolls-Product parts gens)) ∙ fold-roll-Expr ℕ ℕ ℕ of_expr of_gen of_part (Expr-F.Product parts gens)
 
-pub weight-SetOp : (op : SetOp) (a b : Expr) → weight (expr.SetOp op a b) ≡ weight a + weight b + 2
+pub weight-SetOp : (op : SetOp) (a b : Expr) → weight (expr.SetOp op a b) ≡ weight a + weight b + 3
 unfolding weight weights gen_weight gen_weights part_weight part_weights
 weight-SetOp op a b = ap (fold-Expr ℕ ℕ ℕ of_expr of_gen of_part) (sym (expr.rolls-SetOp op a b)) ∙ fold-roll-Expr ℕ ℕ ℕ of_expr of_gen of_part (Expr-F.SetOp op a b)
 

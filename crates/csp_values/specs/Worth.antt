@@ -1,11 +1,12 @@
 -- What the parts of an expression come to where so many uses of definitions may still be entered, under an environment: the definitions of the value
 -- of an expression, applied to trees.
-use Rattle.std.specs.Prelude.{◌≡◌, ℕ, Result, Ok, Err, Some, List, [], ◌∷◌, map, slice_get}
+use Rattle.std.specs.Prelude.{◌≡◌, ℕ, ℤ, Bool, if◌then◌else◌, Result, Ok, Err, Some, List, [], ◌∷◌, map, slice_get}
 use Rattle.csp_program.specs.Outcome.{Outcome, and_then}
-use Rattle.csp_program.specs.Value.{first_of, Env, Meaning, Turn, Front, Gathered, meaning, turn, front, values_of, items_added, fields_number, front_number, fronts_added, sets_of, over, walked, gathered, uses_within, def_value, value_within}
+use Rattle.csp_program.specs.Value.{first_of, as_number, as_truth, as_set, many, range, set_binary, Env, Meaning, Turn, Front, Gathered, meaning, turn, front, values_of, items_added, fields_number, front_number, fronts_added, sets_of, over, walked, gathered, uses_within, def_value, value_within}
 use Rattle.csp_atoms.specs.declared.atom.Atom.{Atom}
 use Rattle.csp_atoms.specs.declared.value.Value.{Value}
 use Rattle.csp_atoms.specs.declared.value.Value.TheVariants.{One}
+use Rattle.csp_base.specs.declared.operators.SetOp.{SetOp}
 use Rattle.csp_program.specs.declared.expressions.EventPart.{EventPart}
 use Rattle.csp_program.specs.declared.expressions.Expr.{Expr}
 use Rattle.csp_program.specs.declared.expressions.Gen.{Gen}
@@ -18,6 +19,26 @@ use Rattle.csp_values.specs.declared.tally.Tally.{Tally}
 -- an expression
 unfoldable pub worth : Content → ℕ → Env → Expr → Outcome Value
 worth p n env e = value_within p n e env
+
+-- the number, the truth value and the set that an expression is worth
+unfoldable pub number_worth : Content → ℕ → Env → Expr → Outcome ℤ
+number_worth p n env e = and_then (worth p n env e) (λ v. as_number v)
+
+unfoldable pub truth_worth : Content → ℕ → Env → Expr → Outcome Bool
+truth_worth p n env e = and_then (worth p n env e) (λ v. as_truth v)
+
+unfoldable pub atoms_worth : Content → ℕ → Env → Expr → Outcome (List Atom)
+atoms_worth p n env e = and_then (worth p n env e) (λ v. as_set v)
+
+-- forms on what their parts come to so
+abbrev pub chosen : Outcome Bool → Outcome Value → Outcome Value → Outcome Value
+chosen c a b = and_then c (λ t. if t then a else b)
+
+abbrev pub range_of : Outcome ℤ → Outcome ℤ → Outcome Value
+range_of a b = and_then a (λ m. and_then b (λ n. many (range m n)))
+
+abbrev pub set_of : SetOp → Outcome (List Atom) → Outcome (List Atom) → Outcome Value
+set_of op a b = and_then a (λ xs. and_then b (λ ys. many (set_binary op xs ys)))
 
 abbrev pub meanings : Content → ℕ → List Expr → List Meaning
 meanings p n es = map (meaning (uses_within p n) p.channels) es

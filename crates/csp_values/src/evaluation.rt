@@ -7,7 +7,7 @@ ghost use Rattle.csp_program.specs.Value as meant;
 ghost use Rattle.value_operators.specs.Env.{env_in, with_bound};
 ghost use Rattle.value_operators.specs.Gives.{Gives};
 ghost use Rattle.value_operators.specs.Forms as form;
-ghost use Rattle.csp_values.specs.Worth.{worth, worths, use_worth, body_worth, with_items, fields_worth, front_worth, with_front, with_fronts, one_more_binding, walk_worth, each_worth, gathered_of, GivesTally};
+ghost use Rattle.csp_values.specs.Worth.{worth, worths, number_worth, truth_worth, atoms_worth, chosen, range_of, set_of, use_worth, body_worth, with_items, fields_worth, front_worth, with_front, with_fronts, one_more_binding, walk_worth, each_worth, gathered_of, GivesTally};
 
 use crate::tally::Tally;
 use containers::Items;
@@ -172,7 +172,7 @@ fn eval_expr(scope: &Scope<'_>, names: &Names<'_>, expr: &Expr) -> Result<Value,
         Expr::Truth(truth) => Ok(Value::One(Atom::Truth(*truth))),
         Expr::Const(number) => Ok(Value::One(Atom::Const(*number))),
         Expr::Bound(slot) => named(scope.alloc, names, *slot),
-        Expr::Lit(value) => Ok(value.try_clone(scope.alloc)?),
+        Expr::Lit(value) => literal(scope.alloc, value),
         Expr::Neg(a) => eval_negative(scope, names, a.get()),
         Expr::Not(a) => eval_not(scope, names, a.get()),
         Expr::Binary(op, a, b) => eval_binary(scope, names, *op, a.get(), b.get()),
@@ -194,6 +194,56 @@ fn eval_expr(scope: &Scope<'_>, names: &Names<'_>, expr: &Expr) -> Result<Value,
         }
         Expr::SetOp(op, a, b) => eval_set_op(scope, names, *op, a.get(), b.get()),
     }
+}
+
+// The value that was put in.
+fn literal(alloc: Global, value: &Value) -> Result<Value, EvalFault>
+    ensures { Gives result (Ok value.now) }
+{
+    Ok(value.try_clone(alloc)?)
+}
+
+// The set of the numbers from `first` to `last`, as a value.
+fn range_value(alloc: Global, first: i64, last: i64) -> Result<Value, EvalFault>
+    ensures { Gives result (meant.many (meant.range first last)) }
+{
+    let atoms = numbers(alloc, first, last)?;
+    Ok(Value::Many(atoms))
+}
+
+// What an operator gives of two sets, as a value.
+fn set_value(alloc: Global, op: SetOp, left: AtomSet, right: AtomSet) -> Result<Value, EvalFault>
+    ensures { Gives result (meant.many (meant.set_binary op left right)) }
+{
+    let atoms = combined(alloc, op, &left, &right)?;
+    Ok(Value::Many(atoms))
+}
+
+// The number that an expression is worth.
+#[cycle(eval)]
+fn eval_number(scope: &Scope<'_>, names: &Names<'_>, expr: &Expr) -> Result<i64, EvalFault>
+    ensures { Gives result (number_worth scope.now.content.now scope.now.uses (env_in names.now) expr.now) }
+{
+    let value = eval_expr(scope, names, expr)?;
+    to_number(&value)
+}
+
+// The truth value that an expression is worth.
+#[cycle(eval)]
+fn eval_truth(scope: &Scope<'_>, names: &Names<'_>, expr: &Expr) -> Result<bool, EvalFault>
+    ensures { Gives result (truth_worth scope.now.content.now scope.now.uses (env_in names.now) expr.now) }
+{
+    let value = eval_expr(scope, names, expr)?;
+    to_truth(&value)
+}
+
+// The set that an expression is worth.
+#[cycle(eval)]
+fn eval_atoms(scope: &Scope<'_>, names: &Names<'_>, expr: &Expr) -> Result<AtomSet, EvalFault>
+    ensures { Gives result (atoms_worth scope.now.content.now scope.now.uses (env_in names.now) expr.now) }
+{
+    let value = eval_expr(scope, names, expr)?;
+    to_set(value)
 }
 
 // The value of `-a`.
@@ -242,10 +292,9 @@ fn eval_if(
     a: &Expr,
     b: &Expr,
 ) -> Result<Value, EvalFault>
-    ensures { Gives result (form.choice (worth scope.now.content.now scope.now.uses (env_in names.now) c.now) (worth scope.now.content.now scope.now.uses (env_in names.now) a.now) (worth scope.now.content.now scope.now.uses (env_in names.now) b.now)) }
+    ensures { Gives result (chosen (truth_worth scope.now.content.now scope.now.uses (env_in names.now) c.now) (worth scope.now.content.now scope.now.uses (env_in names.now) a.now) (worth scope.now.content.now scope.now.uses (env_in names.now) b.now)) }
 {
-    let condition = eval_expr(scope, names, c)?;
-    let holds = to_truth(&condition)?;
+    let holds = eval_truth(scope, names, c)?;
     if holds {
         eval_expr(scope, names, a)
     } else {
@@ -304,14 +353,11 @@ fn eval_display(scope: &Scope<'_>, names: &Names<'_>, items: &[Expr]) -> Result<
 // The set of the numbers from `a` to `b`.
 #[cycle(eval)]
 fn eval_range(scope: &Scope<'_>, names: &Names<'_>, a: &Expr, b: &Expr) -> Result<Value, EvalFault>
-    ensures { Gives result (form.a_range (worth scope.now.content.now scope.now.uses (env_in names.now) a.now) (worth scope.now.content.now scope.now.uses (env_in names.now) b.now)) }
+    ensures { Gives result (range_of (number_worth scope.now.content.now scope.now.uses (env_in names.now) a.now) (number_worth scope.now.content.now scope.now.uses (env_in names.now) b.now)) }
 {
-    let first = eval_expr(scope, names, a)?;
-    let first = to_number(&first)?;
-    let last = eval_expr(scope, names, b)?;
-    let last = to_number(&last)?;
-    let atoms = numbers(scope.alloc, first, last)?;
-    Ok(Value::Many(atoms))
+    let first = eval_number(scope, names, a)?;
+    let last = eval_number(scope, names, b)?;
+    range_value(scope.alloc, first, last)
 }
 
 // The value of an operator between two sets.
@@ -323,14 +369,11 @@ fn eval_set_op(
     a: &Expr,
     b: &Expr,
 ) -> Result<Value, EvalFault>
-    ensures { Gives result (form.set_operation op (worth scope.now.content.now scope.now.uses (env_in names.now) a.now) (worth scope.now.content.now scope.now.uses (env_in names.now) b.now)) }
+    ensures { Gives result (set_of op (atoms_worth scope.now.content.now scope.now.uses (env_in names.now) a.now) (atoms_worth scope.now.content.now scope.now.uses (env_in names.now) b.now)) }
 {
-    let first = eval_expr(scope, names, a)?;
-    let left = to_set(first)?;
-    let second = eval_expr(scope, names, b)?;
-    let right = to_set(second)?;
-    let atoms = combined(scope.alloc, op, &left, &right)?;
-    Ok(Value::Many(atoms))
+    let left = eval_atoms(scope, names, a)?;
+    let right = eval_atoms(scope, names, b)?;
+    set_value(scope.alloc, op, left, right)
 }
 
 // The value of `{| parts | gens |}`. Where a channel has no field sets, no generator is walked.
@@ -585,13 +628,11 @@ fn walk_first(
 {
     match first {
         Gen::From(slot, set) => {
-            let value = eval_expr(scope, names, set)?;
-            let atoms = to_set(value)?;
+            let atoms = eval_atoms(scope, names, set)?;
             walk_each(scope, names, *slot, atoms.as_slice(), rest, yields, tally)
         }
         Gen::Cond(condition) => {
-            let value = eval_expr(scope, names, condition)?;
-            let holds = to_truth(&value)?;
+            let holds = eval_truth(scope, names, condition)?;
             if holds {
                 walk(scope, names, rest, yields, tally)
             } else {

@@ -5,4 +5,4 @@ use Rattle.csp_lexer.proofs.annotations.after_spaces.Goals as goal
 
 pub returns : goal.returns
 unfolding after_spaces
-returns c = rw (take_rest, c.spaces-len.ensures.value) refl
+returns c = rw (take_rest, c.bytes_of-len.ensures.value) refl

@@ -1,11 +1,12 @@
-use Rattle.std.proofs.Common.{◌≡◌, ℕ, ◌+◌, true, false, Ok, Err, List, [], ◌∷◌, ap, sym, ◌∙◌, arith, to_z, of_z, w64}
+use Rattle.std.proofs.Common.{◌≡◌, ℕ, ◌+◌, true, false, Ok, Err, List, [], ◌∷◌, ap, refl, sym, ◌∙◌, arith, to_z, of_z, w64}
 use Rattle.std.proofs.lemmas.Int.{ints}
-use Rattle.csp_program.specs.Value.{bound_to}
+use Rattle.csp_program.specs.Outcome.{and_then}
+use Rattle.csp_program.specs.Value.{as_number, as_set, as_truth, bound_to, many, range}
 use Rattle.value_operators.specs.Env.{env_in, with_bound}
 use Rattle.value_operators.proofs.Faults.{passed}
 use Rattle.value_operators.proofs.NameLaws.{with_bound-last}
-use Rattle.csp_values.specs.Worth.{use_worth, with_items, with_fronts, walk_worth, each_worth, gathered_of}
-use Rattle.csp_values.proofs.Arms.{lacking, not_lacking, same, same_tally, part_passed, walk_passed, worth_num, worth_truth, worth_const, worth_bound, worth_lit, worth_neg, worth_not, worth_binary, worth_if, worth_call, worth_set_name, worth_event, worth_display, worth_range, worth_set_op, worth_comp, worth_product, datum_worth, datatype_worth, front_of_sets, front_without_sets, front_fault, front_added, binding_item_fault, binding_with_items, walk_from, walk_from_set, walk_cond, walk_cond_truth}
+use Rattle.csp_values.specs.Worth.{number_worth, truth_worth, atoms_worth, range_of, set_of, use_worth, with_items, with_fronts, walk_worth, each_worth, gathered_of}
+use Rattle.csp_values.proofs.Arms.{lacking, not_lacking, same, same_tally, part_passed, walk_passed, worth_num, worth_truth, worth_const, worth_bound, worth_lit, worth_neg, worth_not, worth_binary, worth_if, worth_call, worth_set_name, worth_event, worth_display, worth_range, worth_set_op, worth_comp, worth_product, datum_worth, datatype_worth, front_of_sets, front_without_sets, front_fault, front_added, binding_item_fault, binding_with_items, walk_from, walk_cond}
 use Rattle.csp_values.proofs.Equations.{body-Nametype, body-Process, body-Network, use-none_left, use-unknown, use-known, fronts-nil, with_items-nil, binding-full, walk-nil, each-nil}
 use Rattle.csp_values.proofs.Falls.{weight_neg, weight_not, weight_binary, weight_if, weight_call, weight_set_name, weight_event, weight_display, weight_range, weight_set_op, weight_comp, weight_product, weight_from, weight_cond, weight_gens, weight_part, use_falls}
 use Rattle.csp_values.proofs.FieldSteps.{fields_after, fields_begin, fields_end, fields_too_many, field_fault, field_refused, field_taken}
@@ -130,9 +131,6 @@ eval_expr-returns-in-Const t c = worth_const c.args.scope.now.content.now c.args
 pub eval_expr-returns-in-Bound : goal.eval_expr-returns-in-Bound
 eval_expr-returns-in-Bound t c = same _ _ _ (worth_bound c.args.scope.now.content.now c.args.scope.now.uses (env_in c.args.names.now) c.args.expr.now c.in-Bound.slot c.in-Bound.is) c.named.ensures
 
-pub eval_expr-returns-in_ok-try_clone-in-Lit : goal.eval_expr-returns-in_ok-try_clone-in-Lit
-eval_expr-returns-in_ok-try_clone-in-Lit t c = worth_lit c.args.scope.now.content.now c.args.scope.now.uses (env_in c.args.names.now) c.args.expr.now c.in-Lit.value c.in_ok-try_clone-in-Lit.field-0 c.in-Lit.is c.in_ok-try_clone-in-Lit.ensures
-
 pub eval_expr-returns-in-Neg : goal.eval_expr-returns-in-Neg
 eval_expr-returns-in-Neg t c = same _ _ _ (worth_neg c.args.scope.now.content.now c.args.scope.now.uses (env_in c.args.names.now) c.args.expr.now c.in-Neg.a c.get.result.now c.in-Neg.is c.get.ensures) c.eval_negative.ensures
 
@@ -168,6 +166,27 @@ eval_expr-returns-in-Product t c = same _ _ _ (worth_product c.args.scope.now.co
 
 pub eval_expr-returns-in-SetOp : goal.eval_expr-returns-in-SetOp
 eval_expr-returns-in-SetOp t c = same _ _ _ (worth_set_op c.args.scope.now.content.now c.args.scope.now.uses (env_in c.args.names.now) c.args.expr.now c.in-SetOp.op c.in-SetOp.a c.in-SetOp.b c.get-in-SetOp.result.now c.get-in-SetOp-2.result.now c.in-SetOp.is c.get-in-SetOp.ensures c.get-in-SetOp-2.ensures) c.eval_set_op.ensures
+
+pub eval_range-returns-in_err-first : goal.eval_range-returns-in_err-first
+eval_range-returns-in_err-first t c = passed _ _ _ _ c.from_residual.ensures.1 c.in_err-first.ensures (λ k e. ap (λ o. range_of o (number_worth c.args.scope.now.content.now c.args.scope.now.uses (env_in c.args.names.now) c.args.b.now)) e)
+
+pub eval_range-returns-in_err-last : goal.eval_range-returns-in_err-last
+eval_range-returns-in_err-last t c = passed _ _ _ _ c.from_residual-in_err-last.ensures.1 c.in_err-last.ensures (λ k e. ap (λ o. range_of o (number_worth c.args.scope.now.content.now c.args.scope.now.uses (env_in c.args.names.now) c.args.b.now)) c.in_ok-first.ensures ∙ ap (λ o. range_of (Ok c.in_ok-first.first) o) e)
+
+pub eval_range-returns : goal.eval_range-returns
+eval_range-returns t c =
+    let first : to_z w64 (of_z w64 c.in_ok-first.first) ≡ c.in_ok-first.first = omega (arith, ints) in
+    let last : to_z w64 (of_z w64 c.in_ok-last.last) ≡ c.in_ok-last.last = omega (arith, ints) in
+    same _ _ _ ((λ i. range_of (c.in_ok-first.ensures i) (c.in_ok-last.ensures i)) ∙ (λ i. many (range (sym first i) (sym last i)))) c.range_value.ensures
+
+pub eval_set_op-returns-in_err-left : goal.eval_set_op-returns-in_err-left
+eval_set_op-returns-in_err-left t c = passed _ _ _ _ c.from_residual.ensures.1 c.in_err-left.ensures (λ k e. ap (λ o. set_of c.args.op o (atoms_worth c.args.scope.now.content.now c.args.scope.now.uses (env_in c.args.names.now) c.args.b.now)) e)
+
+pub eval_set_op-returns-in_err-right : goal.eval_set_op-returns-in_err-right
+eval_set_op-returns-in_err-right t c = passed _ _ _ _ c.from_residual-in_err-right.ensures.1 c.in_err-right.ensures (λ k e. ap (λ o. set_of c.args.op o (atoms_worth c.args.scope.now.content.now c.args.scope.now.uses (env_in c.args.names.now) c.args.b.now)) c.in_ok-left.ensures ∙ ap (λ o. set_of c.args.op (Ok c.in_ok-left.left) o) e)
+
+pub eval_set_op-returns : goal.eval_set_op-returns
+eval_set_op-returns t c = same _ _ _ (λ i. set_of c.args.op (c.in_ok-left.ensures i) (c.in_ok-right.ensures i)) c.set_value.ensures
 
 pub eval_fields-loop-field-init : goal.eval_fields-loop-field-init
 eval_fields-loop-field-init t c = fields_begin c.args.scope.now.content.now c.args.scope.now.uses (env_in c.args.names.now) c.args.fields.now c.args.sets.now c.args.each
@@ -223,6 +242,54 @@ gather-returns-in_err-atoms-2 t c = part_passed _ _ _ _ c.from_residual-in_err-a
 pub gather-returns : goal.gather-returns
 gather-returns t c = binding_with_items c.args.scope.now.content.now c.args.scope.now.uses c.args.yields.now.items.now c.args.yields.now.parts.now (env_in c.args.names.now) (gathered_of c.args.tally) (omega arith) c.in_ok-atoms.atoms (Ok c.in_ok-atoms-2.atoms) c.in_ok-atoms.ensures c.in_ok-atoms-2.ensures
 
+pub walk_first-eval_atoms-requires : goal.walk_first-eval_atoms-requires
+walk_first-eval_atoms-requires t c = (omega (arith, weight_from c.args.first.now c.in-From.slot c.in-From.set c.in-From.is), tt)
+
+pub walk_first-returns-in_err-atoms-in-From : goal.walk_first-returns-in_err-atoms-in-From
+walk_first-returns-in_err-atoms-in-From t c = part_passed _ _ _ _ c.from_residual.ensures.1 c.in_err-atoms-in-From.ensures (λ k e. walk_from c.args.scope.now.content.now c.args.scope.now.uses c.args.first.now c.args.rest.now c.args.yields.now.items.now c.args.yields.now.parts.now (env_in c.args.names.now) (gathered_of c.args.tally) c.in-From.slot c.in-From.set (Err k) c.in-From.is e)
+
+pub walk_first-returns-in_ok-atoms-in-From : goal.walk_first-returns-in_ok-atoms-in-From
+walk_first-returns-in_ok-atoms-in-From t c = same_tally _ _ _ (walk_from c.args.scope.now.content.now c.args.scope.now.uses c.args.first.now c.args.rest.now c.args.yields.now.items.now c.args.yields.now.parts.now (env_in c.args.names.now) (gathered_of c.args.tally) c.in-From.slot c.in-From.set (Ok c.as_slice.result.now) c.in-From.is (c.in_ok-atoms-in-From.ensures ∙ ap (λ l. Ok l) (sym c.as_slice.ensures.members))) c.walk_each.ensures
+
+pub walk_first-eval_truth-requires : goal.walk_first-eval_truth-requires
+walk_first-eval_truth-requires t c = (omega (arith, weight_cond c.args.first.now c.in-Cond.condition c.in-Cond.is), tt)
+
+pub walk_first-returns-in_err-holds-in-Cond : goal.walk_first-returns-in_err-holds-in-Cond
+walk_first-returns-in_err-holds-in-Cond t c = part_passed _ _ _ _ c.from_residual-in_err-holds-in-Cond.ensures.1 c.in_err-holds-in-Cond.ensures (λ k e. walk_cond c.args.scope.now.content.now c.args.scope.now.uses c.args.first.now c.args.rest.now c.args.yields.now.items.now c.args.yields.now.parts.now (env_in c.args.names.now) (gathered_of c.args.tally) c.in-Cond.condition (Err k) c.in-Cond.is e)
+
+pub walk_first-returns-then-holds : goal.walk_first-returns-then-holds
+walk_first-returns-then-holds t c = same_tally _ _ _ (walk_cond c.args.scope.now.content.now c.args.scope.now.uses c.args.first.now c.args.rest.now c.args.yields.now.items.now c.args.yields.now.parts.now (env_in c.args.names.now) (gathered_of c.args.tally) c.in-Cond.condition (Ok true) c.in-Cond.is (c.in_ok-holds-in-Cond.ensures ∙ ap (λ b. Ok b) c.if-holds.true)) c.walk.ensures
+
+pub walk_first-returns-else-holds : goal.walk_first-returns-else-holds
+walk_first-returns-else-holds t c = walk_cond c.args.scope.now.content.now c.args.scope.now.uses c.args.first.now c.args.rest.now c.args.yields.now.items.now c.args.yields.now.parts.now (env_in c.args.names.now) (gathered_of c.args.tally) c.in-Cond.condition (Ok false) c.in-Cond.is (c.in_ok-holds-in-Cond.ensures ∙ ap (λ b. Ok b) c.if-holds.false)
+
+pub eval_expr-returns-in-Lit : goal.eval_expr-returns-in-Lit
+eval_expr-returns-in-Lit t c = same _ _ _ (worth_lit c.args.scope.now.content.now c.args.scope.now.uses (env_in c.args.names.now) c.args.expr.now c.in-Lit.value c.in-Lit.value c.in-Lit.is refl) c.literal.ensures
+
+pub eval_number-returns-in_err-value : goal.eval_number-returns-in_err-value
+unfolding number_worth
+eval_number-returns-in_err-value t c = passed _ _ _ _ c.from_residual.ensures.1 c.in_err-value.ensures (λ k e. ap (λ o. and_then o (λ v. as_number v)) e)
+
+pub eval_number-returns : goal.eval_number-returns
+unfolding number_worth
+eval_number-returns t c = same _ _ _ (ap (λ o. and_then o (λ v. as_number v)) c.in_ok-value.ensures) c.to_number.ensures
+
+pub eval_truth-returns-in_err-value : goal.eval_truth-returns-in_err-value
+unfolding truth_worth
+eval_truth-returns-in_err-value t c = passed _ _ _ _ c.from_residual.ensures.1 c.in_err-value.ensures (λ k e. ap (λ o. and_then o (λ v. as_truth v)) e)
+
+pub eval_truth-returns : goal.eval_truth-returns
+unfolding truth_worth
+eval_truth-returns t c = same _ _ _ (ap (λ o. and_then o (λ v. as_truth v)) c.in_ok-value.ensures) c.to_truth.ensures
+
+pub eval_atoms-returns-in_err-value : goal.eval_atoms-returns-in_err-value
+unfolding atoms_worth
+eval_atoms-returns-in_err-value t c = passed _ _ _ _ c.from_residual.ensures.1 c.in_err-value.ensures (λ k e. ap (λ o. and_then o (λ v. as_set v)) e)
+
+pub eval_atoms-returns : goal.eval_atoms-returns
+unfolding atoms_worth
+eval_atoms-returns t c = same _ _ _ (ap (λ o. and_then o (λ v. as_set v)) c.in_ok-value.ensures) c.to_set.ensures
+
 pub walk-walk_first-requires : goal.walk-walk_first-requires
 walk-walk_first-requires t c = (omega (arith, weight_gens c.args.gens.now c.in-Some.first.now c.in-Some.rest.now c.in-Some.ensures.cases.0), tt)
 
@@ -238,38 +305,11 @@ walk_each-loop-atom-preserved t c = each_step _ c.args.scope.now.content.now c.a
 pub walk_each-returns : goal.walk_each-returns
 walk_each-returns t c = c.loop-atom.invariant ∙ (ap (λ xs. each_worth c.args.scope.now.content.now c.args.scope.now.uses c.args.slot xs c.args.rest.now c.args.yields.now.items.now c.args.yields.now.parts.now (env_in c.args.names.now) (gathered_of c.loop-atom.tally)) (nothing_left c.args.atoms.now c.loop-atom.atom-index (omega arith)) ∙ each-nil c.args.scope.now.content.now c.args.scope.now.uses c.args.slot c.args.rest.now c.args.yields.now.items.now c.args.yields.now.parts.now (env_in c.args.names.now) (gathered_of c.loop-atom.tally))
 
-pub walk_first-eval_expr-requires : goal.walk_first-eval_expr-requires
-walk_first-eval_expr-requires t c = (omega (arith, weight_from c.args.first.now c.in-From.slot c.in-From.set c.in-From.is), tt)
-
-pub walk_first-returns-in_err-value-in-From : goal.walk_first-returns-in_err-value-in-From
-walk_first-returns-in_err-value-in-From t c = part_passed _ _ _ _ c.from_residual.ensures.1 c.in_err-value-in-From.ensures (λ k e. walk_from c.args.scope.now.content.now c.args.scope.now.uses c.args.first.now c.args.rest.now c.args.yields.now.items.now c.args.yields.now.parts.now (env_in c.args.names.now) (gathered_of c.args.tally) c.in-From.slot c.in-From.set (Err k) c.in-From.is e)
-
-pub walk_first-returns-in_err-atoms-in-From : goal.walk_first-returns-in_err-atoms-in-From
-walk_first-returns-in_err-atoms-in-From t c = part_passed _ _ _ _ c.from_residual-in_err-atoms-in-From.ensures.1 c.in_err-atoms-in-From.ensures (λ k e. walk_from_set c.args.scope.now.content.now c.args.scope.now.uses c.args.first.now c.args.rest.now c.args.yields.now.items.now c.args.yields.now.parts.now (env_in c.args.names.now) (gathered_of c.args.tally) c.in-From.slot c.in-From.set c.in_ok-value-in-From.value (Err k) c.in-From.is c.in_ok-value-in-From.ensures e)
-
 pub walk_first-walk_each-requires : goal.walk_first-walk_each-requires
 walk_first-walk_each-requires t c = (omega (arith, weight_from c.args.first.now c.in-From.slot c.in-From.set c.in-From.is), tt)
 
-pub walk_first-returns-in-From : goal.walk_first-returns-in-From
-walk_first-returns-in-From t c = same_tally _ _ _ (walk_from_set c.args.scope.now.content.now c.args.scope.now.uses c.args.first.now c.args.rest.now c.args.yields.now.items.now c.args.yields.now.parts.now (env_in c.args.names.now) (gathered_of c.args.tally) c.in-From.slot c.in-From.set c.in_ok-value-in-From.value (Ok c.as_slice.result.now) c.in-From.is c.in_ok-value-in-From.ensures (c.in_ok-atoms-in-From.ensures ∙ ap (λ l. Ok l) (sym c.as_slice.ensures.members))) c.walk_each.ensures
-
-pub walk_first-eval_expr-requires-in-Cond : goal.walk_first-eval_expr-requires-in-Cond
-walk_first-eval_expr-requires-in-Cond t c = (omega (arith, weight_cond c.args.first.now c.in-Cond.condition c.in-Cond.is), tt)
-
-pub walk_first-returns-in_err-value-in-Cond : goal.walk_first-returns-in_err-value-in-Cond
-walk_first-returns-in_err-value-in-Cond t c = part_passed _ _ _ _ c.from_residual-in_err-value-in-Cond.ensures.1 c.in_err-value-in-Cond.ensures (λ k e. walk_cond c.args.scope.now.content.now c.args.scope.now.uses c.args.first.now c.args.rest.now c.args.yields.now.items.now c.args.yields.now.parts.now (env_in c.args.names.now) (gathered_of c.args.tally) c.in-Cond.condition (Err k) c.in-Cond.is e)
-
-pub walk_first-returns-in_err-holds-in-Cond : goal.walk_first-returns-in_err-holds-in-Cond
-walk_first-returns-in_err-holds-in-Cond t c = part_passed _ _ _ _ c.from_residual-in_err-holds-in-Cond.ensures.1 c.in_err-holds-in-Cond.ensures (λ k e. walk_cond_truth c.args.scope.now.content.now c.args.scope.now.uses c.args.first.now c.args.rest.now c.args.yields.now.items.now c.args.yields.now.parts.now (env_in c.args.names.now) (gathered_of c.args.tally) c.in-Cond.condition c.in_ok-value-in-Cond.value (Err k) c.in-Cond.is c.in_ok-value-in-Cond.ensures e)
-
 pub walk_first-walk-requires : goal.walk_first-walk-requires
 walk_first-walk-requires t c = (omega (arith, weight_cond c.args.first.now c.in-Cond.condition c.in-Cond.is), tt)
-
-pub walk_first-returns-then-holds : goal.walk_first-returns-then-holds
-walk_first-returns-then-holds t c = same_tally _ _ _ (walk_cond_truth c.args.scope.now.content.now c.args.scope.now.uses c.args.first.now c.args.rest.now c.args.yields.now.items.now c.args.yields.now.parts.now (env_in c.args.names.now) (gathered_of c.args.tally) c.in-Cond.condition c.in_ok-value-in-Cond.value (Ok true) c.in-Cond.is c.in_ok-value-in-Cond.ensures (c.in_ok-holds-in-Cond.ensures ∙ ap (λ b. Ok b) c.if-holds.true)) c.walk.ensures
-
-pub walk_first-returns : goal.walk_first-returns
-walk_first-returns t c = walk_cond_truth c.args.scope.now.content.now c.args.scope.now.uses c.args.first.now c.args.rest.now c.args.yields.now.items.now c.args.yields.now.parts.now (env_in c.args.names.now) (gathered_of c.args.tally) c.in-Cond.condition c.in_ok-value-in-Cond.value (Ok false) c.in-Cond.is c.in_ok-value-in-Cond.ensures (c.in_ok-holds-in-Cond.ensures ∙ ap (λ b. Ok b) c.if-holds.false)
 
 pub eval_product-eval_comprehension-requires : goal.eval_product-eval_comprehension-requires
 eval_product-eval_comprehension-requires t c = (omega (arith, weights-nil), tt)

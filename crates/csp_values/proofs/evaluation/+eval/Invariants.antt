@@ -10,6 +10,15 @@ use Rattle.csp_values.proofs.evaluation.+eval.Given as goal
 abbrev pub decreases-eval_expr : goal.decreases-eval_expr
 decreases-eval_expr l = cost l.scope.now.content.now l.scope.now.uses + weight l.expr.now
 
+abbrev pub decreases-eval_number : goal.decreases-eval_number
+decreases-eval_number l = cost l.scope.now.content.now l.scope.now.uses + weight l.expr.now + 1
+
+abbrev pub decreases-eval_truth : goal.decreases-eval_truth
+decreases-eval_truth l = cost l.scope.now.content.now l.scope.now.uses + weight l.expr.now + 1
+
+abbrev pub decreases-eval_atoms : goal.decreases-eval_atoms
+decreases-eval_atoms l = cost l.scope.now.content.now l.scope.now.uses + weight l.expr.now + 1
+
 abbrev pub decreases-eval_negative : goal.decreases-eval_negative
 decreases-eval_negative l = cost l.scope.now.content.now l.scope.now.uses + weight l.a.now + 1
 
@@ -20,7 +29,7 @@ abbrev pub decreases-eval_binary : goal.decreases-eval_binary
 decreases-eval_binary l = cost l.scope.now.content.now l.scope.now.uses + (weight l.a.now + weight l.b.now + 1)
 
 abbrev pub decreases-eval_if : goal.decreases-eval_if
-decreases-eval_if l = cost l.scope.now.content.now l.scope.now.uses + (weight l.c.now + weight l.a.now + weight l.b.now + 1)
+decreases-eval_if l = cost l.scope.now.content.now l.scope.now.uses + (weight l.c.now + weight l.a.now + weight l.b.now + 2)
 
 abbrev pub decreases-eval_call : goal.decreases-eval_call
 decreases-eval_call l = cost l.scope.now.content.now l.scope.now.uses + (weights l.args.now + 2)
@@ -35,10 +44,10 @@ abbrev pub decreases-eval_display : goal.decreases-eval_display
 decreases-eval_display l = cost l.scope.now.content.now l.scope.now.uses + (weights l.items.now + 2)
 
 abbrev pub decreases-eval_range : goal.decreases-eval_range
-decreases-eval_range l = cost l.scope.now.content.now l.scope.now.uses + (weight l.a.now + weight l.b.now + 1)
+decreases-eval_range l = cost l.scope.now.content.now l.scope.now.uses + (weight l.a.now + weight l.b.now + 2)
 
 abbrev pub decreases-eval_set_op : goal.decreases-eval_set_op
-decreases-eval_set_op l = cost l.scope.now.content.now l.scope.now.uses + (weight l.a.now + weight l.b.now + 1)
+decreases-eval_set_op l = cost l.scope.now.content.now l.scope.now.uses + (weight l.a.now + weight l.b.now + 2)
 
 abbrev pub decreases-eval_product : goal.decreases-eval_product
 decreases-eval_product l = cost l.scope.now.content.now l.scope.now.uses + (part_weights l.parts.now + gen_weights l.gens.now + 5)
