@@ -231,15 +231,25 @@ proc_size-Seq p q = ap proc_size (sym (proc.rolls-Seq p q)) ∙ fold-roll-Proc �
 pub proc_size-Ended : proc_size proc.Ended ≡ 1
 proc_size-Ended = ap proc_size (sym proc.rolls-Ended) ∙ fold-roll-Proc ℕ proc_size_of_layer Proc-F.Ended
 
+-- counting that stops, one further
+next : (n d : ℕ) → n ≡ capped d → capped (1 + n) ≡ capped (1 + d)
+next n d h = omega arith
+
+whole : (n d e f : ℕ) → e ≡ f → f ≡ 1 + d → n ≡ capped d → capped (1 + n) ≡ capped e
+whole n d e f is of h = next n d h ∙ sym (ap capped (is ∙ of))
+
+two_sums : (s r : ℕ) → 1 + s + r ≡ 1 + (s + r)
+two_sums s r = omega arith
+
 -- what is measured of the parts gives the measure of the whole: of an expression
 pub expr_parts : (m : Measure) (e f : Expr) (d s : ℕ) → e ≡ f → expr_depth f ≡ 1 + d → expr_size f ≡ 1 + s → m.depth ≡ capped d → m.size ≡ capped s
     → (capped (1 + m.depth) ≡ capped (expr_depth e)) × (capped (1 + m.size) ≡ capped (expr_size e))
-expr_parts m e f d s is depth size h g = let z = ap expr_depth is in let y = ap expr_size is in (omega arith, omega arith)
+expr_parts m e f d s is depth size h g = (whole m.depth d (expr_depth e) (expr_depth f) (ap expr_depth is) depth h, whole m.size s (expr_size e) (expr_size f) (ap expr_size is) size g)
 
 -- and of a process
 pub proc_parts : (m : Measure) (p q : Proc) (d s : ℕ) → p ≡ q → proc_depth q ≡ 1 + d → proc_size q ≡ 1 + s → m.depth ≡ capped d → m.size ≡ capped s
     → (capped (1 + m.depth) ≡ capped (proc_depth p)) × (capped (1 + m.size) ≡ capped (proc_size p))
-proc_parts m p q d s is depth size h g = let z = ap proc_depth is in let y = ap proc_size is in (omega arith, omega arith)
+proc_parts m p q d s is depth size h g = (whole m.depth d (proc_depth p) (proc_depth q) (ap proc_depth is) depth h, whole m.size s (proc_size p) (proc_size q) (ap proc_size is) size g)
 
 -- of an expression with a list of expressions, and of one over another, as they are read
 pub expr_list : (m : Measure) (e f : Expr) (xs es : List Expr) → xs ≡ es → e ≡ f → expr_depth f ≡ 1 + greatest (map expr_depth es) → expr_size f ≡ 1 + total (map expr_size es)
@@ -260,9 +270,9 @@ proc_list m p q xs ps read is depth size h g =
 -- of an expression with parts of two kinds
 pub expr_both : (m : Measure) (e f : Expr) (d s r : ℕ) → e ≡ f → expr_depth f ≡ 1 + d → expr_size f ≡ 1 + s + r → m.depth ≡ capped d → m.size ≡ capped (s + r)
     → (capped (1 + m.depth) ≡ capped (expr_depth e)) × (capped (1 + m.size) ≡ capped (expr_size e))
-expr_both m e f d s r is depth size h g = let w : expr_size f ≡ 1 + (s + r) = omega (arith, size) in expr_parts m e f d (s + r) is depth w h g
+expr_both m e f d s r is depth size h g = expr_parts m e f d (s + r) is depth (size ∙ two_sums s r) h g
 
 -- of a process with parts of two kinds
 pub proc_both : (m : Measure) (p q : Proc) (d s r : ℕ) → p ≡ q → proc_depth q ≡ 1 + d → proc_size q ≡ 1 + s + r → m.depth ≡ capped d → m.size ≡ capped (s + r)
     → (capped (1 + m.depth) ≡ capped (proc_depth p)) × (capped (1 + m.size) ≡ capped (proc_size p))
-proc_both m p q d s r is depth size h g = let w : proc_size q ≡ 1 + (s + r) = omega (arith, size) in proc_parts m p q d (s + r) is depth w h g
+proc_both m p q d s r is depth size h g = proc_parts m p q d (s + r) is depth (size ∙ two_sums s r) h g

@@ -239,11 +239,7 @@ fn of_prefix(fields: &Items<Field>, p: &Boxed<Proc>) -> Measure
 
 // What the parts of a renaming measure together.
 #[cycle(of_proc)]
-fn of_renaming(
-    p: &Boxed<Proc>,
-    pairs: &Items<(EventPart, EventPart)>,
-    gens: &Items<Gen>,
-) -> Measure
+fn of_renaming(p: &Boxed<Proc>, pairs: &Items<(EventPart, EventPart)>, gens: &Items<Gen>) -> Measure
     ensures depth { result.depth ≡ capped (max (proc_depth p.now) (max (greatest (map pair_depth pairs.now)) (greatest (map gen_depth gens.now)))) }
     ensures size { result.size ≡ capped (proc_size p.now + total (map pair_size pairs.now) + total (map gen_size gens.now)) }
 {
