@@ -1,6 +1,6 @@
 //! Entries with other places, or with a value in their own parts.
 
-ghost use Rattle.std.specs.Prelude.{◌≡◌, ◌<◌, [], ◌∷◌, length, map, slice_get, slice_index_or, IfOk, Some};
+ghost use Rattle.std.specs.Prelude.{◌≡◌, ◌<◌, [], length, map, slice_get, IfOk, Some};
 ghost use Rattle.csp_program.specs.Substitution.{all_unless_bound, any_binds, expr_with, fields_with, gen_twice, gens_with, head_with, pair_twice};
 ghost use Rattle.term_pool.specs.Entries.{arguments_at, choice_at, entry_layer, expr_at, fields_at, gens_at, head_at, pairs_at, renumbered, Fits, PartsStart, StandsAs};
 ghost use Rattle.term_pool.specs.First.{node_with_first, other_first};

@@ -2,8 +2,7 @@
 
 ghost use Rattle.std.specs.Prelude.{◌≡◌, [], slice_get, IfOk, OnErr, Some};
 ghost use Rattle.term_pool.specs.Entries.{entry_layer, numbered, ArePartsOnce, Fits, HasParts, Holds, PartsStart, StandsAs};
-ghost use Rattle.term_pool.specs.Layers.{shown, Layer};
-ghost use Rattle.pool_parts.specs.Stored.{IsAbsent};
+ghost use Rattle.term_pool.specs.Layers.{shown};
 
 use crate::entry::Entry;
 use crate::node::Node;

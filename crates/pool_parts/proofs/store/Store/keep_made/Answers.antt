@@ -1,6 +1,6 @@
 -- Where a part was made it is the one that is asked for.
 use Rattle.std.proofs.Common.{◌≡◌, Some, ap, ◌∙◌, subst}
-use Rattle.std.specs.Prelude.{Result, IfOk}
+use Rattle.std.specs.Prelude.{IfOk}
 use Rattle.pool_parts.proofs.store.Store.keep_made.Goals as goal
 
 pub returns-clause-place : goal.returns-clause-place

@@ -2,7 +2,6 @@
 use Rattle.std.proofs.Common.{◌≡◌, ◌<◌, List, length, sym, ap, ◌∙◌, subst}
 use Rattle.csp_program.specs.declared.processes.Proc.{Proc}
 use Rattle.term_pool.specs.Held.{processes}
-use Rattle.term_pool.specs.Layers.{Layer}
 use Rattle.term_pool.specs.Trees.{layer_below, layer_tree, tree_at, tree_of}
 use Rattle.term_pool.proofs.pool.Pool.node.Goals as goal
 
