@@ -1,5 +1,5 @@
 -- What the depth and the size of each form of an expression and of a process are, in terms of its parts.
-use Rattle.std.proofs.Common.{◌≡◌, ℕ, ◌+◌, max, ℤ, Bool, List, map, ap, sym, ◌∙◌}
+use Rattle.std.proofs.Common.{◌≡◌, ℕ, ◌+◌, max, ℤ, Bool, List, map, ap, sym, ◌∙◌, arith}
 use Rattle.csp_program.specs.Lists.{greatest, total}
 use Rattle.csp_program.specs.Depth.{expr_depth, gen_depth, part_depth, pair_depth, field_depth, proc_depth, expr_depth_of_layer, gen_depth_of_layer, part_depth_of_layer, proc_depth_of_layer}
 use Rattle.csp_program.specs.Size.{elements_of, expr_size, gen_size, part_size, pair_size, field_size, proc_size, expr_size_of_layer, gen_size_of_layer, part_size_of_layer, proc_size_of_layer}
@@ -20,6 +20,8 @@ use Rattle.csp_program.specs.declared.processes.Proc.{Proc}
 use Rattle.csp_program.specs.declared.processes.Proc.TheVariants as proc
 use Rattle.csp_program.specs.declared.processes.Proc.TheFolds.{fold-roll-Proc}
 use Rattle.csp_program.specs.declared.processes.Proc.TheOpen.{Proc-F}
+use Rattle.pool_parts.specs.Counting.{capped}
+use Rattle.pool_parts.specs.declared.measure.Measure.{Measure}
 
 pub expr_depth-Num : (n : ℤ) → expr_depth (expr.Num n) ≡ 1
 expr_depth-Num n = ap expr_depth (sym (expr.rolls-Num n)) ∙ fold-roll-Expr ℕ ℕ ℕ expr_depth_of_layer gen_depth_of_layer part_depth_of_layer (Expr-F.Num n)
@@ -141,7 +143,9 @@ gen_size-Cond c = ap gen_size (sym (generator.rolls-Cond c)) ∙ fold-roll-Gen �
 pub part_size-is : (part : EventPart) → part_size part ≡ total (map expr_size (out-EventPart part).fields)
 part_size-is part = ap part_size (sym (roll-out-EventPart part)) ∙ fold-roll-EventPart ℕ ℕ ℕ expr_size_of_layer gen_size_of_layer part_size_of_layer (out-EventPart part)
 
-pub ruleset expr_measures = (expr_depth-Num, expr_depth-Truth, expr_depth-Const, expr_depth-Bound, expr_depth-Lit, expr_depth-Neg, expr_depth-Not, expr_depth-Binary, expr_depth-If, expr_depth-Call, expr_depth-SetName, expr_depth-Event, expr_depth-Display, expr_depth-Range, expr_depth-Comp, expr_depth-Product, expr_depth-SetOp, gen_depth-From, gen_depth-Cond, part_depth-is, expr_size-Num, expr_size-Truth, expr_size-Const, expr_size-Bound, expr_size-Lit, expr_size-Neg, expr_size-Not, expr_size-Binary, expr_size-If, expr_size-Call, expr_size-SetName, expr_size-Event, expr_size-Display, expr_size-Range, expr_size-Comp, expr_size-Product, expr_size-SetOp, gen_size-From, gen_size-Cond, part_size-is)
+pub ruleset gen_measures = (gen_depth-From, gen_depth-Cond, gen_size-From, gen_size-Cond)
+
+pub ruleset part_measures = (part_depth-is, part_size-is)
 
 pub proc_depth-Stop : proc_depth proc.Stop ≡ 1
 proc_depth-Stop = ap proc_depth (sym proc.rolls-Stop) ∙ fold-roll-Proc ℕ proc_depth_of_layer Proc-F.Stop
@@ -227,4 +231,48 @@ proc_size-Seq p q = ap proc_size (sym (proc.rolls-Seq p q)) ∙ fold-roll-Proc �
 pub proc_size-Ended : proc_size proc.Ended ≡ 1
 proc_size-Ended = ap proc_size (sym proc.rolls-Ended) ∙ fold-roll-Proc ℕ proc_size_of_layer Proc-F.Ended
 
-pub ruleset proc_measures = (proc_depth-Stop, proc_depth-Prefix, proc_depth-Guard, proc_depth-If, proc_depth-External, proc_depth-Internal, proc_depth-EachExternal, proc_depth-EachInternal, proc_depth-Hide, proc_depth-Rename, proc_depth-Call, proc_depth-Skip, proc_depth-Seq, proc_depth-Ended, proc_size-Stop, proc_size-Prefix, proc_size-Guard, proc_size-If, proc_size-External, proc_size-Internal, proc_size-EachExternal, proc_size-EachInternal, proc_size-Hide, proc_size-Rename, proc_size-Call, proc_size-Skip, proc_size-Seq, proc_size-Ended)
+-- counting that stops, one further
+next : (n d : ℕ) → n ≡ capped d → capped (1 + n) ≡ capped (1 + d)
+next n d h = omega arith
+
+whole : (n d e f : ℕ) → e ≡ f → f ≡ 1 + d → n ≡ capped d → capped (1 + n) ≡ capped e
+whole n d e f is of h = next n d h ∙ sym (ap capped (is ∙ of))
+
+two_sums : (s r : ℕ) → 1 + s + r ≡ 1 + (s + r)
+two_sums s r = omega arith
+
+-- what is measured of the parts gives the measure of the whole: of an expression
+pub expr_parts : (m : Measure) (e f : Expr) (d s : ℕ) → e ≡ f → expr_depth f ≡ 1 + d → expr_size f ≡ 1 + s → m.depth ≡ capped d → m.size ≡ capped s
+    → (capped (1 + m.depth) ≡ capped (expr_depth e)) × (capped (1 + m.size) ≡ capped (expr_size e))
+expr_parts m e f d s is depth size h g = (whole m.depth d (expr_depth e) (expr_depth f) (ap expr_depth is) depth h, whole m.size s (expr_size e) (expr_size f) (ap expr_size is) size g)
+
+-- and of a process
+pub proc_parts : (m : Measure) (p q : Proc) (d s : ℕ) → p ≡ q → proc_depth q ≡ 1 + d → proc_size q ≡ 1 + s → m.depth ≡ capped d → m.size ≡ capped s
+    → (capped (1 + m.depth) ≡ capped (proc_depth p)) × (capped (1 + m.size) ≡ capped (proc_size p))
+proc_parts m p q d s is depth size h g = (whole m.depth d (proc_depth p) (proc_depth q) (ap proc_depth is) depth h, whole m.size s (proc_size p) (proc_size q) (ap proc_size is) size g)
+
+-- of an expression with a list of expressions, and of one over another, as they are read
+pub expr_list : (m : Measure) (e f : Expr) (xs es : List Expr) → xs ≡ es → e ≡ f → expr_depth f ≡ 1 + greatest (map expr_depth es) → expr_size f ≡ 1 + total (map expr_size es)
+    → m.depth ≡ capped (greatest (map expr_depth xs)) → m.size ≡ capped (total (map expr_size xs)) → (capped (1 + m.depth) ≡ capped (expr_depth e)) × (capped (1 + m.size) ≡ capped (expr_size e))
+expr_list m e f xs es read is depth size h g =
+    expr_parts m e f (greatest (map expr_depth es)) (total (map expr_size es)) is depth size (h ∙ ap (λ (ys : List Expr). capped (greatest (map expr_depth ys))) read) (g ∙ ap (λ (ys : List Expr). capped (total (map expr_size ys))) read)
+
+pub expr_over : (m : Measure) (e f x a : Expr) → x ≡ a → e ≡ f → expr_depth f ≡ 1 + expr_depth a → expr_size f ≡ 1 + expr_size a
+    → m.depth ≡ capped (expr_depth x) → m.size ≡ capped (expr_size x) → (capped (1 + m.depth) ≡ capped (expr_depth e)) × (capped (1 + m.size) ≡ capped (expr_size e))
+expr_over m e f x a read is depth size h g = expr_parts m e f (expr_depth a) (expr_size a) is depth size (h ∙ ap (λ (y : Expr). capped (expr_depth y)) read) (g ∙ ap (λ (y : Expr). capped (expr_size y)) read)
+
+-- of a choice, as its processes are read
+pub proc_list : (m : Measure) (p q : Proc) (xs ps : List Proc) → xs ≡ ps → p ≡ q → proc_depth q ≡ 1 + greatest (map proc_depth ps) → proc_size q ≡ 1 + total (map proc_size ps)
+    → m.depth ≡ capped (greatest (map proc_depth xs)) → m.size ≡ capped (total (map proc_size xs)) → (capped (1 + m.depth) ≡ capped (proc_depth p)) × (capped (1 + m.size) ≡ capped (proc_size p))
+proc_list m p q xs ps read is depth size h g =
+    proc_parts m p q (greatest (map proc_depth ps)) (total (map proc_size ps)) is depth size (h ∙ ap (λ (ys : List Proc). capped (greatest (map proc_depth ys))) read) (g ∙ ap (λ (ys : List Proc). capped (total (map proc_size ys))) read)
+
+-- of an expression with parts of two kinds
+pub expr_both : (m : Measure) (e f : Expr) (d s r : ℕ) → e ≡ f → expr_depth f ≡ 1 + d → expr_size f ≡ 1 + s + r → m.depth ≡ capped d → m.size ≡ capped (s + r)
+    → (capped (1 + m.depth) ≡ capped (expr_depth e)) × (capped (1 + m.size) ≡ capped (expr_size e))
+expr_both m e f d s r is depth size h g = expr_parts m e f d (s + r) is depth (size ∙ two_sums s r) h g
+
+-- of a process with parts of two kinds
+pub proc_both : (m : Measure) (p q : Proc) (d s r : ℕ) → p ≡ q → proc_depth q ≡ 1 + d → proc_size q ≡ 1 + s + r → m.depth ≡ capped d → m.size ≡ capped (s + r)
+    → (capped (1 + m.depth) ≡ capped (proc_depth p)) × (capped (1 + m.size) ≡ capped (proc_size p))
+proc_both m p q d s r is depth size h g = proc_parts m p q d (s + r) is depth (size ∙ two_sums s r) h g

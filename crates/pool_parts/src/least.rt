@@ -3,6 +3,7 @@
 ghost use Rattle.std.specs.Prelude.{◌≤◌};
 ghost use Rattle.pool_parts.specs.Low.{AllLow, ExprLow, FieldLow, GenLow, HeadLow, PairLow, PartLow};
 
+use containers::{Boxed, Items};
 use csp_program::{EventPart, Expr, Field, Gen, Head};
 
 /// The lower of two numbers.
@@ -25,26 +26,50 @@ pub fn least_of_expr(expr: &Expr) -> u32
         Expr::Lit(_) => u32::MAX,
         Expr::Neg(a) => least_of_expr(a.get()),
         Expr::Not(a) => least_of_expr(a.get()),
-        Expr::Binary(_, a, b) => lower(least_of_expr(a.get()), least_of_expr(b.get())),
-        Expr::If(c, a, b) => {
-            let parts = lower(least_of_expr(a.get()), least_of_expr(b.get()));
-            lower(least_of_expr(c.get()), parts)
-        }
+        Expr::Binary(_, a, b) => least_of_both(a, b),
+        Expr::If(c, a, b) => lower(least_of_expr(c.get()), least_of_both(a, b)),
         Expr::Call(_, args) => least_of_exprs(args.as_slice()),
         Expr::SetName(_) => u32::MAX,
         Expr::Event(_, fields) => least_of_exprs(fields.as_slice()),
         Expr::Display(items) => least_of_exprs(items.as_slice()),
-        Expr::Range(a, b) => lower(least_of_expr(a.get()), least_of_expr(b.get())),
-        Expr::Comp(items, gens) => lower(
-            least_of_exprs(items.as_slice()),
-            least_of_gens(gens.as_slice()),
-        ),
-        Expr::Product(parts, gens) => lower(
-            least_of_parts(parts.as_slice()),
-            least_of_gens(gens.as_slice()),
-        ),
-        Expr::SetOp(_, a, b) => lower(least_of_expr(a.get()), least_of_expr(b.get())),
+        Expr::Range(a, b) => least_of_both(a, b),
+        Expr::Comp(items, gens) => least_of_comprehension(items, gens),
+        Expr::Product(parts, gens) => least_of_production(parts, gens),
+        Expr::SetOp(_, a, b) => least_of_both(a, b),
     }
+}
+
+// The number of two expressions.
+#[cycle(least_of_expr)]
+fn least_of_both(a: &Boxed<Expr>, b: &Boxed<Expr>) -> u32
+    ensures left { ExprLow result a.now }
+    ensures right { ExprLow result b.now }
+{
+    lower(least_of_expr(a.get()), least_of_expr(b.get()))
+}
+
+// The number of a comprehension.
+#[cycle(least_of_expr)]
+fn least_of_comprehension(items: &Items<Expr>, gens: &Items<Gen>) -> u32
+    ensures items { AllLow ExprLow result items.now }
+    ensures gens { AllLow GenLow result gens.now }
+{
+    lower(
+        least_of_exprs(items.as_slice()),
+        least_of_gens(gens.as_slice()),
+    )
+}
+
+// The number of a production.
+#[cycle(least_of_expr)]
+fn least_of_production(parts: &Items<EventPart>, gens: &Items<Gen>) -> u32
+    ensures parts { AllLow PartLow result parts.now }
+    ensures gens { AllLow GenLow result gens.now }
+{
+    lower(
+        least_of_parts(parts.as_slice()),
+        least_of_gens(gens.as_slice()),
+    )
 }
 
 #[cycle(least_of_expr)]

@@ -1,13 +1,13 @@
 //! What expressions and processes measure.
-#![tactic(auto, using(crate::proofs::MeasureLaws::expr_measures, crate::proofs::MeasureLaws::proc_measures))]
 
-ghost use Rattle.std.specs.Prelude.{◌≡◌, map};
+ghost use Rattle.std.specs.Prelude.{◌≡◌, ◌+◌, max, map};
 ghost use Rattle.csp_program.specs.Depth.{expr_depth, gen_depth, part_depth, pair_depth, field_depth, proc_depth};
 ghost use Rattle.csp_program.specs.Lists.{greatest, total};
 ghost use Rattle.csp_program.specs.Size.{elements_of, expr_size, gen_size, part_size, pair_size, field_size, proc_size};
 ghost use Rattle.pool_parts.specs.Counting.{capped};
 
 use crate::measure::{Measure, counted, elements, node, nothing, together};
+use containers::{Boxed, Items};
 use csp_program::{EventPart, Expr, Field, Gen, Proc, Value};
 
 // The elements of the sets of a value.
@@ -26,38 +26,63 @@ pub fn of_expr(expr: &Expr) -> Measure
     ensures depth { result.depth ≡ capped (expr_depth expr.now) }
     ensures size { result.size ≡ capped (expr_size expr.now) }
 {
+    node(of_parts_of_expr(expr))
+}
+
+// What the parts of an expression measure together.
+#[cycle(of_expr)]
+fn of_parts_of_expr(expr: &Expr) -> Measure
+    ensures { (capped (1 + result.depth) ≡ capped (expr_depth expr.now)) × (capped (1 + result.size) ≡ capped (expr_size expr.now)) }
+{
     match expr {
-        Expr::Num(_) => node(nothing()),
-        Expr::Truth(_) => node(nothing()),
-        Expr::Const(_) => node(nothing()),
-        Expr::Bound(_) => node(nothing()),
-        Expr::Lit(value) => node(of_value(value)),
-        Expr::Neg(a) => node(of_expr(a.get())),
-        Expr::Not(a) => node(of_expr(a.get())),
-        Expr::Binary(_, a, b) => node(together(of_expr(a.get()), of_expr(b.get()))),
-        Expr::If(c, a, b) => {
-            let parts = together(of_expr(a.get()), of_expr(b.get()));
-            node(together(of_expr(c.get()), parts))
-        }
-        Expr::Call(_, args) => node(of_exprs(args.as_slice())),
-        Expr::SetName(_) => node(nothing()),
-        Expr::Event(_, fields) => node(of_exprs(fields.as_slice())),
-        Expr::Display(items) => node(of_exprs(items.as_slice())),
-        Expr::Range(a, b) => node(together(of_expr(a.get()), of_expr(b.get()))),
-        Expr::Comp(items, gens) => node(together(
-            of_exprs(items.as_slice()),
-            of_gens(gens.as_slice()),
-        )),
-        Expr::Product(parts, gens) => node(together(
-            of_parts(parts.as_slice()),
-            of_gens(gens.as_slice()),
-        )),
-        Expr::SetOp(_, a, b) => node(together(of_expr(a.get()), of_expr(b.get()))),
+        Expr::Num(_) => nothing(),
+        Expr::Truth(_) => nothing(),
+        Expr::Const(_) => nothing(),
+        Expr::Bound(_) => nothing(),
+        Expr::Lit(value) => of_value(value),
+        Expr::Neg(a) => of_expr(a.get()),
+        Expr::Not(a) => of_expr(a.get()),
+        Expr::Binary(_, a, b) => of_both(a, b),
+        Expr::If(c, a, b) => together(of_expr(c.get()), of_both(a, b)),
+        Expr::Call(_, args) => of_exprs(args.as_slice()),
+        Expr::SetName(_) => nothing(),
+        Expr::Event(_, fields) => of_exprs(fields.as_slice()),
+        Expr::Display(items) => of_exprs(items.as_slice()),
+        Expr::Range(a, b) => of_both(a, b),
+        Expr::Comp(items, gens) => of_comprehension(items, gens),
+        Expr::Product(parts, gens) => of_production(parts, gens),
+        Expr::SetOp(_, a, b) => of_both(a, b),
     }
 }
 
+// What two expressions measure together.
 #[cycle(of_expr)]
-#[tactic(auto)]
+fn of_both(a: &Boxed<Expr>, b: &Boxed<Expr>) -> Measure
+    ensures depth { result.depth ≡ capped (max (expr_depth a.now) (expr_depth b.now)) }
+    ensures size { result.size ≡ capped (expr_size a.now + expr_size b.now) }
+{
+    together(of_expr(a.get()), of_expr(b.get()))
+}
+
+// What the parts of a comprehension measure together.
+#[cycle(of_expr)]
+fn of_comprehension(items: &Items<Expr>, gens: &Items<Gen>) -> Measure
+    ensures depth { result.depth ≡ capped (max (greatest (map expr_depth items.now)) (greatest (map gen_depth gens.now))) }
+    ensures size { result.size ≡ capped (total (map expr_size items.now) + total (map gen_size gens.now)) }
+{
+    together(of_exprs(items.as_slice()), of_gens(gens.as_slice()))
+}
+
+// What the parts of a production measure together.
+#[cycle(of_expr)]
+fn of_production(parts: &Items<EventPart>, gens: &Items<Gen>) -> Measure
+    ensures depth { result.depth ≡ capped (max (greatest (map part_depth parts.now)) (greatest (map gen_depth gens.now))) }
+    ensures size { result.size ≡ capped (total (map part_size parts.now) + total (map gen_size gens.now)) }
+{
+    together(of_parts(parts.as_slice()), of_gens(gens.as_slice()))
+}
+
+#[cycle(of_expr)]
 pub fn of_exprs(exprs: &[Expr]) -> Measure
     ensures depth { result.depth ≡ capped (greatest (map expr_depth exprs.now)) }
     ensures size { result.size ≡ capped (total (map expr_size exprs.now)) }
@@ -70,6 +95,7 @@ pub fn of_exprs(exprs: &[Expr]) -> Measure
 }
 
 #[cycle(of_expr)]
+#[tactic(auto, using(crate::proofs::MeasureLaws::gen_measures))]
 fn of_gen(generator: &Gen) -> Measure
     ensures depth { result.depth ≡ capped (gen_depth generator.now) }
     ensures size { result.size ≡ capped (gen_size generator.now) }
@@ -81,7 +107,6 @@ fn of_gen(generator: &Gen) -> Measure
 }
 
 #[cycle(of_expr)]
-#[tactic(auto)]
 pub fn of_gens(gens: &[Gen]) -> Measure
     ensures depth { result.depth ≡ capped (greatest (map gen_depth gens.now)) }
     ensures size { result.size ≡ capped (total (map gen_size gens.now)) }
@@ -94,6 +119,7 @@ pub fn of_gens(gens: &[Gen]) -> Measure
 }
 
 #[cycle(of_expr)]
+#[tactic(auto, using(crate::proofs::MeasureLaws::part_measures))]
 fn of_part(part: &EventPart) -> Measure
     ensures depth { result.depth ≡ capped (part_depth part.now) }
     ensures size { result.size ≡ capped (part_size part.now) }
@@ -102,7 +128,6 @@ fn of_part(part: &EventPart) -> Measure
 }
 
 #[cycle(of_expr)]
-#[tactic(auto)]
 fn of_parts(parts: &[EventPart]) -> Measure
     ensures depth { result.depth ≡ capped (greatest (map part_depth parts.now)) }
     ensures size { result.size ≡ capped (total (map part_size parts.now)) }
@@ -125,7 +150,6 @@ fn of_field(field: &Field) -> Measure
     }
 }
 
-#[tactic(auto)]
 pub fn of_fields(fields: &[Field]) -> Measure
     ensures depth { result.depth ≡ capped (greatest (map field_depth fields.now)) }
     ensures size { result.size ≡ capped (total (map field_size fields.now)) }
@@ -144,7 +168,6 @@ fn of_pair(pair: &(EventPart, EventPart)) -> Measure
     counted(together(of_part(&pair.0), of_part(&pair.1)))
 }
 
-#[tactic(auto)]
 pub fn of_pairs(pairs: &[(EventPart, EventPart)]) -> Measure
     ensures depth { result.depth ≡ capped (greatest (map pair_depth pairs.now)) }
     ensures size { result.size ≡ capped (total (map pair_size pairs.now)) }
@@ -161,34 +184,70 @@ pub fn of_proc(proc: &Proc) -> Measure
     ensures depth { result.depth ≡ capped (proc_depth proc.now) }
     ensures size { result.size ≡ capped (proc_size proc.now) }
 {
+    node(of_parts_of_proc(proc))
+}
+
+// What the parts of a process measure together.
+#[cycle(of_proc)]
+fn of_parts_of_proc(proc: &Proc) -> Measure
+    ensures { (capped (1 + result.depth) ≡ capped (proc_depth proc.now)) × (capped (1 + result.size) ≡ capped (proc_size proc.now)) }
+{
     match proc {
-        Proc::Stop => node(nothing()),
-        Proc::Prefix(_, fields, p) => {
-            node(together(of_fields(fields.as_slice()), of_proc(p.get())))
-        }
-        Proc::Guard(c, p) => node(together(of_expr(c), of_proc(p.get()))),
-        Proc::If(c, p, q) => {
-            let parts = together(of_proc(p.get()), of_proc(q.get()));
-            node(together(of_expr(c), parts))
-        }
-        Proc::External(procs) => node(of_procs(procs.as_slice())),
-        Proc::Internal(procs) => node(of_procs(procs.as_slice())),
-        Proc::EachExternal(_, set, p) => node(together(of_expr(set), of_proc(p.get()))),
-        Proc::EachInternal(_, set, p) => node(together(of_expr(set), of_proc(p.get()))),
-        Proc::Hide(p, set) => node(together(of_proc(p.get()), of_expr(set))),
-        Proc::Rename(p, pairs, gens) => {
-            let parts = together(of_pairs(pairs.as_slice()), of_gens(gens.as_slice()));
-            node(together(of_proc(p.get()), parts))
-        }
-        Proc::Call(_, args) => node(of_exprs(args.as_slice())),
-        Proc::Skip => node(nothing()),
-        Proc::Seq(p, q) => node(together(of_proc(p.get()), of_proc(q.get()))),
-        Proc::Ended => node(nothing()),
+        Proc::Stop => nothing(),
+        Proc::Prefix(_, fields, p) => of_prefix(fields, p),
+        Proc::Guard(c, p) => of_under(c, p),
+        Proc::If(c, p, q) => together(of_expr(c), of_two(p, q)),
+        Proc::External(procs) => of_procs(procs.as_slice()),
+        Proc::Internal(procs) => of_procs(procs.as_slice()),
+        Proc::EachExternal(_, set, p) => of_under(set, p),
+        Proc::EachInternal(_, set, p) => of_under(set, p),
+        Proc::Hide(p, set) => of_under(set, p),
+        Proc::Rename(p, pairs, gens) => of_renaming(p, pairs, gens),
+        Proc::Call(_, args) => of_exprs(args.as_slice()),
+        Proc::Skip => nothing(),
+        Proc::Seq(p, q) => of_two(p, q),
+        Proc::Ended => nothing(),
     }
 }
 
+// What a process measures together with the expression over it.
 #[cycle(of_proc)]
-#[tactic(auto)]
+fn of_under(expr: &Expr, p: &Boxed<Proc>) -> Measure
+    ensures depth { result.depth ≡ capped (max (expr_depth expr.now) (proc_depth p.now)) }
+    ensures size { result.size ≡ capped (expr_size expr.now + proc_size p.now) }
+{
+    together(of_expr(expr), of_proc(p.get()))
+}
+
+// What two processes measure together.
+#[cycle(of_proc)]
+fn of_two(p: &Boxed<Proc>, q: &Boxed<Proc>) -> Measure
+    ensures depth { result.depth ≡ capped (max (proc_depth p.now) (proc_depth q.now)) }
+    ensures size { result.size ≡ capped (proc_size p.now + proc_size q.now) }
+{
+    together(of_proc(p.get()), of_proc(q.get()))
+}
+
+// What the parts of a prefix measure together.
+#[cycle(of_proc)]
+fn of_prefix(fields: &Items<Field>, p: &Boxed<Proc>) -> Measure
+    ensures depth { result.depth ≡ capped (max (greatest (map field_depth fields.now)) (proc_depth p.now)) }
+    ensures size { result.size ≡ capped (total (map field_size fields.now) + proc_size p.now) }
+{
+    together(of_fields(fields.as_slice()), of_proc(p.get()))
+}
+
+// What the parts of a renaming measure together.
+#[cycle(of_proc)]
+fn of_renaming(p: &Boxed<Proc>, pairs: &Items<(EventPart, EventPart)>, gens: &Items<Gen>) -> Measure
+    ensures depth { result.depth ≡ capped (max (proc_depth p.now) (max (greatest (map pair_depth pairs.now)) (greatest (map gen_depth gens.now)))) }
+    ensures size { result.size ≡ capped (proc_size p.now + total (map pair_size pairs.now) + total (map gen_size gens.now)) }
+{
+    let parts = together(of_pairs(pairs.as_slice()), of_gens(gens.as_slice()));
+    together(of_proc(p.get()), parts)
+}
+
+#[cycle(of_proc)]
 fn of_procs(procs: &[Proc]) -> Measure
     ensures depth { result.depth ≡ capped (greatest (map proc_depth procs.now)) }
     ensures size { result.size ≡ capped (total (map proc_size procs.now)) }

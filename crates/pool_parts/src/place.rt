@@ -5,7 +5,7 @@ ghost use Rattle.pool_parts.specs.ExactId.{exact_id};
 use containers::Exact;
 
 /// The place of a process in a pool, from 0 on.
-#[derive(Clone, Copy, Debug, PartialEq, Eq, Hash)]
+#[derive(Clone, Copy, PartialEq, Eq, Hash)]
 pub struct ProcId(pub u32);
 
 impl Exact for ProcId {

@@ -121,12 +121,14 @@ impl<T: Part> Store<T> {
         Ok(place)
     }
 
-    /// The number of the part, which is kept itself where it is new.
-    pub fn keep_own(&mut self, part: T) -> Result<u32, NoMemory>
-        ensures place { IfOk result (λ place. slice_get self.new place ≡ Some part) }
+    /// The number of a part that was made, which is kept itself where it is new; none where it was not made.
+    pub fn keep_made(&mut self, made: Result<T, NoMemory>) -> Result<u32, NoMemory>
+        ensures place { (part : T) → IfOk made (λ it. it ≡ part) → IfOk result (λ place. slice_get self.new place ≡ Some part) }
         ensures start { IsStart self.old self.new }
         ensures once { AreOnce self.new }
     {
+        let _ = slice_of(&self.parts);
+        let part = made?;
         let place = keep_own_in(&mut self.parts, &mut self.notes, part)?;
         Ok(place)
     }

@@ -24,6 +24,17 @@ stays old new start k other h = get_or_from_slice_get new k (get_or old k other)
 one_number : {T : Type 0} (xs : List T) → AreOnce xs → (j k : ℕ) (other : T) → j < length xs → k < length xs → get_or xs j other ≡ get_or xs k other → j ≡ k
 one_number xs once j k other h g e = once j k (get_or xs j other) (slice_get-get_or xs j other h) (slice_get-get_or xs k other g ∙ ap (λ x. Some x) (sym e))
 
+pub starts_same : (parts : OwnParts) → PartsStart parts parts
+starts_same parts = record {
+  heads = λ k x h. h;
+  fields = λ k x h. h;
+  exprs = λ k x h. h;
+  arguments = λ k x h. h;
+  pairs = λ k x h. h;
+  gens = λ k x h. h;
+  choices = λ k x h. h;
+}
+
 pub starts_both : (old mid new : OwnParts) → PartsStart old mid → PartsStart mid new → PartsStart old new
 starts_both old mid new a b = record {
   heads = λ k x h. b.heads k x (a.heads k x h);

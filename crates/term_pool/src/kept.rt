@@ -3,7 +3,7 @@
 ghost use Rattle.std.specs.Prelude.{◌≡◌, ◌<◌, ◌++◌, ◌∷◌, [], true, false, length, slice_get, IfOk, OnErr, OnOk, Some};
 ghost use Rattle.std.specs.Set.{is_member};
 ghost use Rattle.substitution.specs.Several.{with_values};
-ghost use Rattle.term_pool.specs.Entries.{entry_layer, layers, ArePartsOnce, Fits, PartsStart};
+ghost use Rattle.term_pool.specs.Entries.{entry_layer, Fits};
 ghost use Rattle.term_pool.specs.ExactEntry.{eq_entry};
 ghost use Rattle.term_pool.specs.First.{with_first};
 ghost use Rattle.term_pool.specs.Held.{processes, IsKept, Puts};
@@ -12,11 +12,11 @@ ghost use Rattle.term_pool.specs.Pooled.{Has};
 ghost use Rattle.term_pool.specs.Put.{StandAt};
 ghost use Rattle.term_pool.specs.Trees.{layer_below, layer_tree, places_below, tree_at, tree_of};
 
-use crate::changed::{entry_with_first, put_owns, with_places};
+use crate::changed::{entry_with_first, made_entry};
 use crate::entry::Entry;
 use crate::node::Node;
 use crate::node_measures::of_entry;
-use crate::own_parts::{OwnParts, keep_node, node_at};
+use crate::own_parts::{OwnParts, keep_node, parts_once};
 use containers::{Items, Numbering};
 use csp_base::NoMemory;
 use csp_program::Value;
@@ -37,21 +37,6 @@ pub(crate) fn entry_at(
     ensures process { layer_tree (processes parts.now entries.now) (entry_layer parts.now result) ≡ tree_at (processes parts.now entries.now) id }
 {
     entries.as_slice()[id.0 as usize]
-}
-
-/// The node at a place.
-pub(crate) fn node_in<'p>(
-    parts: &'p OwnParts,
-    entries: &Numbering<Entry>,
-    measures: &Items<Measure>,
-    id: ProcId,
-) -> Node<'p>
-    requires kept { IsKept parts.now entries.now measures.now }
-    requires within { id.0 < length (processes parts.now entries.now) }
-    ensures process { tree_of (processes parts.now entries.now) result ≡ tree_at (processes parts.now entries.now) id }
-    ensures places { places_below id.0 result ≡ true }
-{
-    node_at(parts, entry_at(parts, entries, measures, id))
 }
 
 // The place of an entry, which is the next one where it is new.
@@ -113,7 +98,9 @@ pub(crate) fn put_in(
     ensures puts { Puts (processes parts.old entries.old) (processes parts.new entries.new) result (tree_of (processes parts.old entries.old) node.entry) }
     ensures err_only_new { OnErr result (Has (processes parts.old entries.old) (tree_of (processes parts.old entries.old) node.entry) → ⊥) }
 {
-    let entry = keep_node(parts, alloc, node)?;
+    let kept = keep_node(parts, alloc, node);
+    parts_once(parts);
+    let entry = kept?;
     put_entry(parts, entries, measures, entry)
 }
 
@@ -133,7 +120,9 @@ pub(crate) fn put_first_in(
     ensures puts { Puts (processes parts.old entries.old) (processes parts.new entries.new) result (with_first (tree_at (processes parts.old entries.old) id) (tree_at (processes parts.old entries.old) below)) }
 {
     let entry = entry_at(parts, entries, measures, id);
-    let entry = entry_with_first(parts, alloc, entry, below)?;
+    let made = entry_with_first(parts, alloc, entry, below);
+    parts_once(parts);
+    let entry = made?;
     put_entry(parts, entries, measures, entry)
 }
 
@@ -155,7 +144,8 @@ pub(crate) fn put_made_in(
     ensures puts { Puts (processes parts.old entries.old) (processes parts.new entries.new) result (with_values names.now values.now (tree_at (processes parts.old entries.old) id)) }
 {
     let entry = entry_at(parts, entries, measures, id);
-    let entry = put_owns(parts, alloc, entry, names, values)?;
-    let entry = with_places(parts, alloc, entry, ids)?;
+    let made = made_entry(parts, alloc, entry, ids, names, values);
+    parts_once(parts);
+    let entry = made?;
     put_entry(parts, entries, measures, entry)
 }

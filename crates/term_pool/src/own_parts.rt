@@ -1,9 +1,8 @@
 //! The own parts of the nodes of a pool.
 
 ghost use Rattle.std.specs.Prelude.{◌≡◌, [], slice_get, IfOk, OnErr, Some};
-ghost use Rattle.term_pool.specs.Entries.{entry_layer, ArePartsOnce, Fits, HasParts, PartsStart, StandsAs};
-ghost use Rattle.term_pool.specs.Layers.{shown, Layer};
-ghost use Rattle.pool_parts.specs.Stored.{IsAbsent};
+ghost use Rattle.term_pool.specs.Entries.{entry_layer, numbered, ArePartsOnce, Fits, HasParts, Holds, PartsStart, StandsAs};
+ghost use Rattle.term_pool.specs.Layers.{shown};
 
 use crate::entry::Entry;
 use crate::node::Node;
@@ -47,146 +46,136 @@ pub(crate) fn no_parts(alloc: Global) -> OwnParts
     }
 }
 
-// The number of a head.
-pub(crate) fn keep_head(parts: &mut OwnParts, alloc: Global, part: &Head) -> Result<u32, NoMemory>
-    requires once { ArePartsOnce parts.old }
-    ensures once { ArePartsOnce parts.new }
-    ensures start { PartsStart parts.old parts.new }
-    ensures place { IfOk result (λ place. slice_get parts.new.heads place ≡ Some part.now) }
-    ensures err_only_new { OnErr result (IsAbsent parts.old.heads part.now) }
+/// Reads the parts of each kind: the contract of a store says that no part stands twice in it.
+pub(crate) fn parts_once(parts: &OwnParts)
+    ensures { ArePartsOnce parts.now }
 {
-    let place = parts.heads.keep(alloc, part)?;
-    Ok(place)
+    let _ = parts.heads.as_slice();
+    let _ = parts.fields.as_slice();
+    let _ = parts.exprs.as_slice();
+    let _ = parts.arguments.as_slice();
+    let _ = parts.pairs.as_slice();
+    let _ = parts.gens.as_slice();
+    let _ = parts.choices.as_slice();
 }
 
-// The number of fields.
-pub(crate) fn keep_fields(
-    parts: &mut OwnParts,
-    alloc: Global,
-    part: &Items<Field>,
-) -> Result<u32, NoMemory>
-    requires once { ArePartsOnce parts.old }
-    ensures once { ArePartsOnce parts.new }
+// The number of an expression, and 0: a node has at most two numbers.
+fn keep_expr(parts: &mut OwnParts, alloc: Global, part: &Expr) -> Result<(u32, u32), NoMemory>
     ensures start { PartsStart parts.old parts.new }
-    ensures place { IfOk result (λ place. slice_get parts.new.fields place ≡ Some part.now) }
-    ensures err_only_new { OnErr result (IsAbsent parts.old.fields part.now) }
-{
-    let place = parts.fields.keep(alloc, part)?;
-    Ok(place)
-}
-
-// The number of an expression.
-pub(crate) fn keep_expr(parts: &mut OwnParts, alloc: Global, part: &Expr) -> Result<u32, NoMemory>
-    requires once { ArePartsOnce parts.old }
-    ensures once { ArePartsOnce parts.new }
-    ensures start { PartsStart parts.old parts.new }
-    ensures place { IfOk result (λ place. slice_get parts.new.exprs place ≡ Some part.now) }
-    ensures err_only_new { OnErr result (IsAbsent parts.old.exprs part.now) }
+    ensures place { IfOk result (λ own. slice_get parts.new.exprs own.0 ≡ Some part.now) }
+    ensures err_only_new { OnErr result (Holds parts.old.exprs part.now → ⊥) }
 {
     let place = parts.exprs.keep(alloc, part)?;
-    Ok(place)
+    Ok((place, 0))
 }
 
-// The number of arguments.
-pub(crate) fn keep_arguments(
+// The number of arguments, and 0.
+fn keep_arguments(
     parts: &mut OwnParts,
     alloc: Global,
     part: &Items<Expr>,
-) -> Result<u32, NoMemory>
-    requires once { ArePartsOnce parts.old }
-    ensures once { ArePartsOnce parts.new }
+) -> Result<(u32, u32), NoMemory>
     ensures start { PartsStart parts.old parts.new }
-    ensures place { IfOk result (λ place. slice_get parts.new.arguments place ≡ Some part.now) }
-    ensures err_only_new { OnErr result (IsAbsent parts.old.arguments part.now) }
+    ensures place { IfOk result (λ own. slice_get parts.new.arguments own.0 ≡ Some part.now) }
+    ensures err_only_new { OnErr result (Holds parts.old.arguments part.now → ⊥) }
 {
     let place = parts.arguments.keep(alloc, part)?;
-    Ok(place)
+    Ok((place, 0))
 }
 
-// The number of pairs.
-pub(crate) fn keep_pairs(
-    parts: &mut OwnParts,
-    alloc: Global,
-    part: &Items<(EventPart, EventPart)>,
-) -> Result<u32, NoMemory>
-    requires once { ArePartsOnce parts.old }
-    ensures once { ArePartsOnce parts.new }
-    ensures start { PartsStart parts.old parts.new }
-    ensures place { IfOk result (λ place. slice_get parts.new.pairs place ≡ Some part.now) }
-    ensures err_only_new { OnErr result (IsAbsent parts.old.pairs part.now) }
-{
-    let place = parts.pairs.keep(alloc, part)?;
-    Ok(place)
-}
-
-// The number of generators.
-pub(crate) fn keep_gens(
-    parts: &mut OwnParts,
-    alloc: Global,
-    part: &Items<Gen>,
-) -> Result<u32, NoMemory>
-    requires once { ArePartsOnce parts.old }
-    ensures once { ArePartsOnce parts.new }
-    ensures start { PartsStart parts.old parts.new }
-    ensures place { IfOk result (λ place. slice_get parts.new.gens place ≡ Some part.now) }
-    ensures err_only_new { OnErr result (IsAbsent parts.old.gens part.now) }
-{
-    let place = parts.gens.keep(alloc, part)?;
-    Ok(place)
-}
-
-// The number of the places of a choice.
+/// The number of the places of a choice, and 0.
 pub(crate) fn keep_choice(
     parts: &mut OwnParts,
     alloc: Global,
     part: &Items<ProcId>,
-) -> Result<u32, NoMemory>
-    requires once { ArePartsOnce parts.old }
-    ensures once { ArePartsOnce parts.new }
+) -> Result<(u32, u32), NoMemory>
     ensures start { PartsStart parts.old parts.new }
-    ensures place { IfOk result (λ place. slice_get parts.new.choices place ≡ Some part.now) }
-    ensures err_only_new { OnErr result (IsAbsent parts.old.choices part.now) }
+    ensures place { IfOk result (λ own. slice_get parts.new.choices own.0 ≡ Some part.now) }
+    ensures err_only_new { OnErr result (Holds parts.old.choices part.now → ⊥) }
 {
     let place = parts.choices.keep(alloc, part)?;
-    Ok(place)
+    Ok((place, 0))
 }
 
-// The entry of a prefix, whose head and fields are kept.
+// The numbers of a head and of fields.
 fn keep_prefix(
     parts: &mut OwnParts,
     alloc: Global,
     head: &Head,
     fields: &Items<Field>,
-    p: ProcId,
-) -> Result<Entry, NoMemory>
-    requires once { ArePartsOnce parts.old }
-    ensures once { ArePartsOnce parts.new }
+) -> Result<(u32, u32), NoMemory>
     ensures start { PartsStart parts.old parts.new }
-    ensures entry { IfOk result (λ entry. StandsAs parts.new entry (Layer.Prefix head.now fields.now p)) }
-    ensures err_only_new { OnErr result (HasParts parts.old (Layer.Prefix head.now fields.now p) → ⊥) }
+    ensures heads { IfOk result (λ own. slice_get parts.new.heads own.0 ≡ Some head.now) }
+    ensures fields { IfOk result (λ own. slice_get parts.new.fields own.1 ≡ Some fields.now) }
+    ensures err_only_new { OnErr result (Holds parts.old.heads head.now × Holds parts.old.fields fields.now → ⊥) }
 {
-    let head = keep_head(parts, alloc, head)?;
-    let fields = keep_fields(parts, alloc, fields)?;
-    Ok(Entry::Prefix(head, fields, p))
+    let head = parts.heads.keep(alloc, head)?;
+    let fields = parts.fields.keep(alloc, fields)?;
+    Ok((head, fields))
 }
 
-// The entry of a renaming, whose pairs and generators are kept.
+// The numbers of pairs and of generators.
 fn keep_renaming(
     parts: &mut OwnParts,
     alloc: Global,
-    p: ProcId,
     pairs: &Items<(EventPart, EventPart)>,
     gens: &Items<Gen>,
-) -> Result<Entry, NoMemory>
-    requires once { ArePartsOnce parts.old }
-    ensures once { ArePartsOnce parts.new }
+) -> Result<(u32, u32), NoMemory>
     ensures start { PartsStart parts.old parts.new }
-    ensures entry { IfOk result (λ entry. StandsAs parts.new entry (Layer.Rename p pairs.now gens.now)) }
-    ensures err_only_new { OnErr result (HasParts parts.old (Layer.Rename p pairs.now gens.now) → ⊥) }
+    ensures pairs { IfOk result (λ own. slice_get parts.new.pairs own.0 ≡ Some pairs.now) }
+    ensures gens { IfOk result (λ own. slice_get parts.new.gens own.1 ≡ Some gens.now) }
+    ensures err_only_new { OnErr result (Holds parts.old.pairs pairs.now × Holds parts.old.gens gens.now → ⊥) }
 {
-    let pairs = keep_pairs(parts, alloc, pairs)?;
-    let gens = keep_gens(parts, alloc, gens)?;
-    Ok(Entry::Rename(p, pairs, gens))
+    let pairs = parts.pairs.keep(alloc, pairs)?;
+    let gens = parts.gens.keep(alloc, gens)?;
+    Ok((pairs, gens))
+}
+
+// The numbers of the own parts of the node, 0 for those that it doesn't have.
+fn keep_own(parts: &mut OwnParts, alloc: Global, node: Node<'_>) -> Result<(u32, u32), NoMemory>
+    ensures start { PartsStart parts.old parts.new }
+    ensures own { IfOk result (λ own. StandsAs parts.new (numbered (shown node.entry) own) (shown node.entry)) }
+    ensures err_only_new { OnErr result (HasParts parts.old (shown node.entry) → ⊥) }
+{
+    match node {
+        Node::Stop => Ok((0, 0)),
+        Node::Prefix(head, fields, _) => keep_prefix(parts, alloc, head, fields),
+        Node::Guard(c, _) => keep_expr(parts, alloc, c),
+        Node::If(c, _, _) => keep_expr(parts, alloc, c),
+        Node::External(ids) => keep_choice(parts, alloc, ids),
+        Node::Internal(ids) => keep_choice(parts, alloc, ids),
+        Node::EachExternal(_, set, _) => keep_expr(parts, alloc, set),
+        Node::EachInternal(_, set, _) => keep_expr(parts, alloc, set),
+        Node::Hide(_, set) => keep_expr(parts, alloc, set),
+        Node::Rename(_, pairs, gens) => keep_renaming(parts, alloc, pairs, gens),
+        Node::Call(_, args) => keep_arguments(parts, alloc, args),
+        Node::Skip => Ok((0, 0)),
+        Node::Seq(_, _) => Ok((0, 0)),
+        Node::Ended => Ok((0, 0)),
+    }
+}
+
+// The entry of the node, where these are the numbers of its own parts.
+fn entry_of(node: Node<'_>, own: (u32, u32)) -> Entry
+    ensures { result ≡ numbered (shown node.entry) own }
+{
+    let (first, second) = own;
+    match node {
+        Node::Stop => Entry::Stop,
+        Node::Prefix(_, _, p) => Entry::Prefix(first, second, p),
+        Node::Guard(_, p) => Entry::Guard(first, p),
+        Node::If(_, p, q) => Entry::If(first, p, q),
+        Node::External(_) => Entry::External(first),
+        Node::Internal(_) => Entry::Internal(first),
+        Node::EachExternal(slot, _, p) => Entry::EachExternal(slot, first, p),
+        Node::EachInternal(slot, _, p) => Entry::EachInternal(slot, first, p),
+        Node::Hide(p, _) => Entry::Hide(p, first),
+        Node::Rename(p, _, _) => Entry::Rename(p, first, second),
+        Node::Call(definition, _) => Entry::Call(definition, first),
+        Node::Skip => Entry::Skip,
+        Node::Seq(p, q) => Entry::Seq(p, q),
+        Node::Ended => Entry::Ended,
+    }
 }
 
 /// The entry of a node, whose own parts are kept.
@@ -195,52 +184,12 @@ pub(crate) fn keep_node(
     alloc: Global,
     node: Node<'_>,
 ) -> Result<Entry, NoMemory>
-    requires once { ArePartsOnce parts.old }
-    ensures once { ArePartsOnce parts.new }
     ensures start { PartsStart parts.old parts.new }
     ensures entry { IfOk result (λ entry. StandsAs parts.new entry (shown node.entry)) }
     ensures err_only_new { OnErr result (HasParts parts.old (shown node.entry) → ⊥) }
 {
-    match node {
-        Node::Stop => Ok(Entry::Stop),
-        Node::Prefix(head, fields, p) => keep_prefix(parts, alloc, head, fields, p),
-        Node::Guard(c, p) => {
-            let c = keep_expr(parts, alloc, c)?;
-            Ok(Entry::Guard(c, p))
-        }
-        Node::If(c, p, q) => {
-            let c = keep_expr(parts, alloc, c)?;
-            Ok(Entry::If(c, p, q))
-        }
-        Node::External(ids) => {
-            let ids = keep_choice(parts, alloc, ids)?;
-            Ok(Entry::External(ids))
-        }
-        Node::Internal(ids) => {
-            let ids = keep_choice(parts, alloc, ids)?;
-            Ok(Entry::Internal(ids))
-        }
-        Node::EachExternal(slot, set, p) => {
-            let set = keep_expr(parts, alloc, set)?;
-            Ok(Entry::EachExternal(slot, set, p))
-        }
-        Node::EachInternal(slot, set, p) => {
-            let set = keep_expr(parts, alloc, set)?;
-            Ok(Entry::EachInternal(slot, set, p))
-        }
-        Node::Hide(p, set) => {
-            let set = keep_expr(parts, alloc, set)?;
-            Ok(Entry::Hide(p, set))
-        }
-        Node::Rename(p, pairs, gens) => keep_renaming(parts, alloc, p, pairs, gens),
-        Node::Call(definition, args) => {
-            let args = keep_arguments(parts, alloc, args)?;
-            Ok(Entry::Call(definition, args))
-        }
-        Node::Skip => Ok(Entry::Skip),
-        Node::Seq(p, q) => Ok(Entry::Seq(p, q)),
-        Node::Ended => Ok(Entry::Ended),
-    }
+    let own = keep_own(parts, alloc, node)?;
+    Ok(entry_of(node, own))
 }
 
 /// The node that an entry stands for.

@@ -14,11 +14,11 @@ ghost use Rattle.term_pool.specs.Trees.{places_below, tree_at, tree_of};
 ghost use Rattle.term_pool.specs.Within.{AddsOne, AddsParts};
 
 use crate::entry::Entry;
-use crate::kept::{node_in, put_first_in, put_in, put_made_in};
+use crate::kept::{entry_at, put_first_in, put_in, put_made_in};
 use crate::node::Node;
 use crate::node_least::least_at;
 use crate::noted::note_least;
-use crate::own_parts::{OwnParts, no_parts};
+use crate::own_parts::{OwnParts, no_parts, node_at};
 use crate::put::put_tree;
 use crate::substitute::substitute_at;
 use containers::{Items, Numbering};
@@ -89,7 +89,8 @@ impl Pool {
         ensures process { tree_of self.now result ≡ tree_at self.now id }
         ensures places { places_below id.0 result ≡ true }
     {
-        node_in(&self.parts, &self.entries, &self.measures, id)
+        let entry = entry_at(&self.parts, &self.entries, &self.measures, id);
+        node_at(&self.parts, entry)
     }
 
     /// The depth of the process at a place, as `term_depth` counts it.

@@ -20,8 +20,7 @@ pub(crate) fn put_tree(pool: &mut Pool, alloc: Global, proc: &Proc) -> Result<Pr
     ensures grows { Grows pool.old pool.new (proc.now ∷ []) }
 {
     let below = put_below(pool, alloc, proc)?;
-    let id = pool.put_node(node_over(proc, &below))?;
-    Ok(id)
+    pool.put_node(node_over(proc, &below))
 }
 
 // The places of the sub-processes of the process, which are put into the pool.
@@ -34,11 +33,7 @@ fn put_below(pool: &mut Pool, alloc: Global, proc: &Proc) -> Result<Below, NoMem
         Proc::Stop => Ok(few(alloc, ProcId(0), ProcId(0))),
         Proc::Prefix(_, _, p) => put_one(pool, alloc, p.get()),
         Proc::Guard(_, p) => put_one(pool, alloc, p.get()),
-        Proc::If(_, p, q) => {
-            let p = put_tree(pool, alloc, p.get())?;
-            let q = put_tree(pool, alloc, q.get())?;
-            Ok(few(alloc, p, q))
-        }
+        Proc::If(_, p, q) => put_two(pool, alloc, p.get(), q.get()),
         Proc::External(procs) => put_choice(pool, alloc, procs.as_slice()),
         Proc::Internal(procs) => put_choice(pool, alloc, procs.as_slice()),
         Proc::EachExternal(_, _, p) => put_one(pool, alloc, p.get()),
@@ -47,11 +42,7 @@ fn put_below(pool: &mut Pool, alloc: Global, proc: &Proc) -> Result<Below, NoMem
         Proc::Rename(p, _, _) => put_one(pool, alloc, p.get()),
         Proc::Call(_, _) => Ok(few(alloc, ProcId(0), ProcId(0))),
         Proc::Skip => Ok(few(alloc, ProcId(0), ProcId(0))),
-        Proc::Seq(p, q) => {
-            let p = put_tree(pool, alloc, p.get())?;
-            let q = put_tree(pool, alloc, q.get())?;
-            Ok(few(alloc, p, q))
-        }
+        Proc::Seq(p, q) => put_two(pool, alloc, p.get(), q.get()),
         Proc::Ended => Ok(few(alloc, ProcId(0), ProcId(0))),
     }
 }
@@ -64,6 +55,18 @@ fn put_one(pool: &mut Pool, alloc: Global, p: &Proc) -> Result<Below, NoMemory>
 {
     let p = put_tree(pool, alloc, p)?;
     Ok(few(alloc, p, p))
+}
+
+// The places of both processes, which are put into the pool.
+#[cycle(put_tree)]
+fn put_two(pool: &mut Pool, alloc: Global, p: &Proc, q: &Proc) -> Result<Below, NoMemory>
+    ensures first { IfOk result (λ below. slice_get pool.new below.first.0 ≡ Some p.now) }
+    ensures second { IfOk result (λ below. slice_get pool.new below.second.0 ≡ Some q.now) }
+    ensures grows { Grows pool.old pool.new (p.now ∷ q.now ∷ []) }
+{
+    let first = put_tree(pool, alloc, p)?;
+    let second = put_tree(pool, alloc, q)?;
+    Ok(few(alloc, first, second))
 }
 
 // The places of the processes of a choice, which are put into the pool.

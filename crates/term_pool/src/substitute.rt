@@ -6,7 +6,7 @@ ghost use Rattle.csp_atoms.specs.declared.value.Value.{Value};
 ghost use Rattle.substitution.specs.Several.{with_values};
 ghost use Rattle.term_pool.specs.Pooled.{parts};
 ghost use Rattle.term_pool.specs.Put.{Grows, StandAt};
-ghost use Rattle.term_pool.specs.Substituted.{all_less, all_with, AreMade};
+ghost use Rattle.term_pool.specs.Substituted.{all_less, all_with, AreMade, IsUnder};
 ghost use Rattle.term_pool.specs.Trees.{all_below, tree_at};
 
 use crate::pool::Pool;
@@ -99,8 +99,7 @@ fn put_layer(
     ensures visited { AreMade names.now values.now pool.new visited.new }
 {
     let ids = put_below(pool, visited, alloc, id, names, values)?;
-    let made = pool.put_made(id, &ids, names, values)?;
-    Ok(made)
+    pool.put_made(id, &ids, names, values)
 }
 
 // The places of what the sub-processes of the process at `id` become. Where it binds some of the names, the others alone get their values there.
@@ -120,18 +119,34 @@ fn put_below(
     ensures visited { AreMade names.now values.now pool.new visited.new }
 {
     let under = under_node(pool, alloc, id, names, values)?;
-    let Under { ids, unbound } = under;
-    match &unbound {
-        None => {
-            let made = put_all(pool, visited, alloc, id, ids.as_slice(), names, values)?;
-            Ok(made)
-        }
+    put_under(pool, visited, alloc, id, &under, names, values)
+}
+
+// The same, where this is what stands below the node.
+#[cycle(substitute_at)]
+fn put_under(
+    pool: &mut Pool,
+    visited: &mut HashMap<u32, ProcId>,
+    alloc: Global,
+    id: ProcId,
+    under: &Under,
+    names: &[u32],
+    values: &[Value],
+) -> Result<Items<ProcId>, NoMemory>
+    requires within { id.0 < length pool.old }
+    requires visited { AreMade names.now values.now pool.old visited.old }
+    requires under { IsUnder names.now values.now pool.old id under.now }
+    ensures places { IfOk result (λ made. StandAt pool.new made (parts (with_values names.now values.now (tree_at pool.old id)))) }
+    ensures grows { Grows pool.old pool.new (parts (with_values names.now values.now (tree_at pool.old id))) }
+    ensures visited { AreMade names.now values.now pool.new visited.new }
+{
+    let places = under.ids.as_slice();
+    match &under.unbound {
+        None => put_all(pool, visited, alloc, id, places, names, values),
         Some(others) => {
-            let places = ids.as_slice();
             let other_names = others.names.as_slice();
             let other_values = others.values.as_slice();
-            let made = put_anew(pool, alloc, id, places, other_names, other_values)?;
-            Ok(made)
+            put_anew(pool, alloc, id, places, other_names, other_values)
         }
     }
 }

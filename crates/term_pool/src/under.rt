@@ -50,6 +50,12 @@ fn two(alloc: Global, p: ProcId, q: ProcId) -> Result<Items<ProcId>, NoMemory>
     Ok(ids)
 }
 
+fn copied(alloc: Global, ids: &Items<ProcId>) -> Result<Items<ProcId>, NoMemory>
+    ensures { IfOk result (λ copy. copy ≡ ids.now) }
+{
+    Ok(Items::from_slice(alloc, ids.as_slice())?)
+}
+
 // The places of the node's sub-processes.
 fn places_of(alloc: Global, node: Node<'_>) -> Result<Items<ProcId>, NoMemory>
     ensures { IfOk result (λ ids. ids ≡ places node.entry) }
@@ -59,8 +65,8 @@ fn places_of(alloc: Global, node: Node<'_>) -> Result<Items<ProcId>, NoMemory>
         Node::Prefix(_, _, p) => one(alloc, p),
         Node::Guard(_, p) => one(alloc, p),
         Node::If(_, p, q) => two(alloc, p, q),
-        Node::External(ids) => Ok(Items::from_slice(alloc, ids.as_slice())?),
-        Node::Internal(ids) => Ok(Items::from_slice(alloc, ids.as_slice())?),
+        Node::External(ids) => copied(alloc, ids),
+        Node::Internal(ids) => copied(alloc, ids),
         Node::EachExternal(_, _, p) => one(alloc, p),
         Node::EachInternal(_, _, p) => one(alloc, p),
         Node::Hide(p, _) => one(alloc, p),
@@ -120,8 +126,8 @@ fn add_unbound(
     if binds_name(node, name) {
         return Ok(());
     }
-    let value = copy_value(alloc, value)?;
     unbound.names.push(name)?;
+    let value = copy_value(alloc, value)?;
     unbound.values.push(value)?;
     Ok(())
 }
@@ -179,7 +185,7 @@ pub(crate) fn under_node(
     ensures { IfOk result (IsUnder names.now values.now pool.now id) }
 {
     let node = pool.node(id);
-    let unbound = unbound_below(alloc, node, names, values)?;
     let ids = places_of(alloc, node)?;
+    let unbound = unbound_below(alloc, node, names, values)?;
     Ok(Under { ids, unbound })
 }

@@ -39,28 +39,22 @@ least_of_expr-returns-in-Not t c =
 
 pub least_of_expr-returns-in-Binary : goal.least_of_expr-returns-in-Binary
 least_of_expr-returns-in-Binary t c =
-    low.low_Binary c.lower.result c.args.expr.now c.in-Binary.field-0 c.in-Binary.a c.in-Binary.b c.in-Binary.is
-    (low.part_of c.lower.result c.least_of_expr-in-Binary.result c.get-in-Binary.result.now c.in-Binary.a c.get-in-Binary.ensures c.lower.ensures.left c.least_of_expr-in-Binary.ensures)
-    (low.part_of c.lower.result c.least_of_expr-in-Binary-2.result c.get-in-Binary-2.result.now c.in-Binary.b c.get-in-Binary-2.ensures c.lower.ensures.right c.least_of_expr-in-Binary-2.ensures)
+    low.low_Binary c.least_of_both.result c.args.expr.now c.in-Binary.field-0 c.in-Binary.a c.in-Binary.b c.in-Binary.is c.least_of_both.ensures.left c.least_of_both.ensures.right
 
 pub least_of_expr-returns-in-Range : goal.least_of_expr-returns-in-Range
 least_of_expr-returns-in-Range t c =
-    low.low_Range c.lower-in-Range.result c.args.expr.now c.in-Range.a c.in-Range.b c.in-Range.is
-    (low.part_of c.lower-in-Range.result c.least_of_expr-in-Range.result c.get-in-Range.result.now c.in-Range.a c.get-in-Range.ensures c.lower-in-Range.ensures.left c.least_of_expr-in-Range.ensures)
-    (low.part_of c.lower-in-Range.result c.least_of_expr-in-Range-2.result c.get-in-Range-2.result.now c.in-Range.b c.get-in-Range-2.ensures c.lower-in-Range.ensures.right c.least_of_expr-in-Range-2.ensures)
+    low.low_Range c.least_of_both-in-Range.result c.args.expr.now c.in-Range.a c.in-Range.b c.in-Range.is c.least_of_both-in-Range.ensures.left c.least_of_both-in-Range.ensures.right
 
 pub least_of_expr-returns-in-SetOp : goal.least_of_expr-returns-in-SetOp
 least_of_expr-returns-in-SetOp t c =
-    low.low_SetOp c.lower-in-SetOp.result c.args.expr.now c.in-SetOp.field-0 c.in-SetOp.a c.in-SetOp.b c.in-SetOp.is
-    (low.part_of c.lower-in-SetOp.result c.least_of_expr-in-SetOp.result c.get-in-SetOp.result.now c.in-SetOp.a c.get-in-SetOp.ensures c.lower-in-SetOp.ensures.left c.least_of_expr-in-SetOp.ensures)
-    (low.part_of c.lower-in-SetOp.result c.least_of_expr-in-SetOp-2.result c.get-in-SetOp-2.result.now c.in-SetOp.b c.get-in-SetOp-2.ensures c.lower-in-SetOp.ensures.right c.least_of_expr-in-SetOp-2.ensures)
+    low.low_SetOp c.least_of_both-in-SetOp.result c.args.expr.now c.in-SetOp.field-0 c.in-SetOp.a c.in-SetOp.b c.in-SetOp.is c.least_of_both-in-SetOp.ensures.left c.least_of_both-in-SetOp.ensures.right
 
 pub least_of_expr-returns-in-If : goal.least_of_expr-returns-in-If
 least_of_expr-returns-in-If t c =
-    low.low_If c.lower-in-If.result c.args.expr.now c.in-If.c c.in-If.a c.in-If.b c.in-If.is
-    (low.part_of c.lower-in-If.result c.least_of_expr-in-If-3.result c.get-in-If-3.result.now c.in-If.c c.get-in-If-3.ensures c.lower-in-If.ensures.left c.least_of_expr-in-If-3.ensures)
-    (low.expr_lower c.lower-in-If.result c.lower-parts.result c.in-If.a c.lower-in-If.ensures.right (low.part_of c.lower-parts.result c.least_of_expr-in-If.result c.get-in-If.result.now c.in-If.a c.get-in-If.ensures c.lower-parts.ensures.left c.least_of_expr-in-If.ensures))
-    (low.expr_lower c.lower-in-If.result c.lower-parts.result c.in-If.b c.lower-in-If.ensures.right (low.part_of c.lower-parts.result c.least_of_expr-in-If-2.result c.get-in-If-2.result.now c.in-If.b c.get-in-If-2.ensures c.lower-parts.ensures.right c.least_of_expr-in-If-2.ensures))
+    low.low_If c.lower.result c.args.expr.now c.in-If.c c.in-If.a c.in-If.b c.in-If.is
+    (low.part_of c.lower.result c.least_of_expr-in-If.result c.get-in-If.result.now c.in-If.c c.get-in-If.ensures c.lower.ensures.left c.least_of_expr-in-If.ensures)
+    (low.expr_lower c.lower.result c.least_of_both-in-If.result c.in-If.a c.lower.ensures.right c.least_of_both-in-If.ensures.left)
+    (low.expr_lower c.lower.result c.least_of_both-in-If.result c.in-If.b c.lower.ensures.right c.least_of_both-in-If.ensures.right)
 
 pub least_of_expr-returns-in-Call : goal.least_of_expr-returns-in-Call
 least_of_expr-returns-in-Call t c =
@@ -76,15 +70,33 @@ least_of_expr-returns-in-Display t c =
 
 pub least_of_expr-returns-in-Comp : goal.least_of_expr-returns-in-Comp
 least_of_expr-returns-in-Comp t c =
-    low.low_Comp c.lower-in-Comp.result c.args.expr.now c.in-Comp.items c.in-Comp.gens c.in-Comp.is
-    (low.exprs_of c.lower-in-Comp.result c.least_of_exprs-in-Comp.result c.as_slice-in-Comp.result.now c.in-Comp.items c.as_slice-in-Comp.ensures c.lower-in-Comp.ensures.left c.least_of_exprs-in-Comp.ensures)
-    (low.gens_of c.lower-in-Comp.result c.least_of_gens.result c.as_slice-in-Comp-2.result.now c.in-Comp.gens c.as_slice-in-Comp-2.ensures c.lower-in-Comp.ensures.right c.least_of_gens.ensures)
+    low.low_Comp c.least_of_comprehension.result c.args.expr.now c.in-Comp.items c.in-Comp.gens c.in-Comp.is c.least_of_comprehension.ensures.items c.least_of_comprehension.ensures.gens
 
 pub least_of_expr-returns-in-Product : goal.least_of_expr-returns-in-Product
 least_of_expr-returns-in-Product t c =
-    low.low_Product c.lower-in-Product.result c.args.expr.now c.in-Product.parts c.in-Product.gens c.in-Product.is
-    (low.parts_of c.lower-in-Product.result c.least_of_parts.result c.as_slice-in-Product.result.now c.in-Product.parts c.as_slice-in-Product.ensures c.lower-in-Product.ensures.left c.least_of_parts.ensures)
-    (low.gens_of c.lower-in-Product.result c.least_of_gens-in-Product.result c.as_slice-in-Product-2.result.now c.in-Product.gens c.as_slice-in-Product-2.ensures c.lower-in-Product.ensures.right c.least_of_gens-in-Product.ensures)
+    low.low_Product c.least_of_production.result c.args.expr.now c.in-Product.parts c.in-Product.gens c.in-Product.is c.least_of_production.ensures.parts c.least_of_production.ensures.gens
+
+pub least_of_both-returns-clause-left : goal.least_of_both-returns-clause-left
+least_of_both-returns-clause-left t c = low.part_of c.lower.result c.least_of_expr.result c.get.result.now c.args.a.now c.get.ensures c.lower.ensures.left c.least_of_expr.ensures
+
+pub least_of_both-returns-clause-right : goal.least_of_both-returns-clause-right
+least_of_both-returns-clause-right t c = low.part_of c.lower.result c.least_of_expr-2.result c.get-2.result.now c.args.b.now c.get-2.ensures c.lower.ensures.right c.least_of_expr-2.ensures
+
+pub least_of_comprehension-returns-clause-items : goal.least_of_comprehension-returns-clause-items
+least_of_comprehension-returns-clause-items t c =
+    low.exprs_of c.lower.result c.least_of_exprs.result c.as_slice.result.now c.args.items.now c.as_slice.ensures c.lower.ensures.left c.least_of_exprs.ensures
+
+pub least_of_comprehension-returns-clause-gens : goal.least_of_comprehension-returns-clause-gens
+least_of_comprehension-returns-clause-gens t c =
+    low.gens_of c.lower.result c.least_of_gens.result c.as_slice-2.result.now c.args.gens.now c.as_slice-2.ensures c.lower.ensures.right c.least_of_gens.ensures
+
+pub least_of_production-returns-clause-parts : goal.least_of_production-returns-clause-parts
+least_of_production-returns-clause-parts t c =
+    low.parts_of c.lower.result c.least_of_parts.result c.as_slice.result.now c.args.parts.now c.as_slice.ensures c.lower.ensures.left c.least_of_parts.ensures
+
+pub least_of_production-returns-clause-gens : goal.least_of_production-returns-clause-gens
+least_of_production-returns-clause-gens t c =
+    low.gens_of c.lower.result c.least_of_gens.result c.as_slice-2.result.now c.args.gens.now c.as_slice-2.ensures c.lower.ensures.right c.least_of_gens.ensures
 
 pub least_of_exprs-loop-expr-preserved : goal.least_of_exprs-loop-expr-preserved
 least_of_exprs-loop-expr-preserved t c =

@@ -1,4 +1,7 @@
-use Rattle.std.proofs.Common.{◌≡◌, ◌+◌, ◌≤◌, max, map, drop}
+use Rattle.std.proofs.Common.{◌≡◌, ◌+◌, ◌*◌, ◌≤◌, max, map, drop}
+use denote.Param.Weighed as weighed
+use Rattle.csp_program.proofs.expressions.Expr.TheLaws.{the_size}
+use Rattle.csp_program.proofs.expressions.Gen.TheLaws as generator
 use Rattle.csp_program.specs.Lists.{greatest, total}
 use Rattle.csp_program.specs.Depth.{expr_depth, gen_depth, part_depth}
 use Rattle.csp_program.specs.Size.{expr_size, gen_size, part_size}
@@ -28,3 +31,34 @@ invariant-of_parts-loop-part l = record {
   depth : max l.all.depth (capped (greatest (map part_depth (drop l.part-index l.parts)))) ≡ capped (greatest (map part_depth l.parts));
   size : capped (l.all.size + total (map part_size (drop l.part-index l.parts))) ≡ capped (total (map part_size l.parts));
 }
+
+-- how deep what is left is, four for each level: the parts of an expression come below it, a list above its items, and two of them above both
+abbrev pub decreases-of_expr : goal.decreases-of_expr
+decreases-of_expr l = 4 * goal.size-of_expr l + 1
+
+abbrev pub decreases-of_parts_of_expr : goal.decreases-of_parts_of_expr
+decreases-of_parts_of_expr l = 4 * goal.size-of_parts_of_expr l
+
+abbrev pub decreases-of_both : goal.decreases-of_both
+decreases-of_both l = 4 * max (the_size l.a.now) (the_size l.b.now) + 3
+
+abbrev pub decreases-of_comprehension : goal.decreases-of_comprehension
+decreases-of_comprehension l = 4 * max (goal.size-of_comprehension l) (weighed.most (λ x. generator.the_size x) l.gens.now) + 3
+
+abbrev pub decreases-of_production : goal.decreases-of_production
+decreases-of_production l = 4 * max (goal.size-of_production l) (weighed.most (λ x. generator.the_size x) l.gens.now) + 3
+
+abbrev pub decreases-of_exprs : goal.decreases-of_exprs
+decreases-of_exprs l = 4 * goal.size-of_exprs l + 2
+
+abbrev pub decreases-of_gens : goal.decreases-of_gens
+decreases-of_gens l = 4 * goal.size-of_gens l + 2
+
+abbrev pub decreases-of_parts : goal.decreases-of_parts
+decreases-of_parts l = 4 * goal.size-of_parts l + 2
+
+abbrev pub decreases-of_gen : goal.decreases-of_gen
+decreases-of_gen l = 4 * goal.size-of_gen l
+
+abbrev pub decreases-of_part : goal.decreases-of_part
+decreases-of_part l = 4 * goal.size-of_part l

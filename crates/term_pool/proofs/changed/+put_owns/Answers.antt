@@ -18,7 +18,7 @@ returns-in_default-split_first-clause-entry t c = record {
 pub put_owns-requires : goal.put_owns-requires
 put_owns-requires t c =
     let shorter = ap (λ (xs : List ℕ). length xs) c.in-Some.ensures.cases.0 in
-    (omega (arith, shorter), (c.in_ok-next.ensures.once, c.in_ok-next.ensures.entry.fits))
+    (omega (arith, shorter), c.in_ok-next.ensures.entry.fits)
 
 pub returns-in_err-made-clause-start : goal.returns-in_err-made-clause-start
 returns-in_err-made-clause-start t c = starts_both c.args.parts.now c.put_where_read.new.parts c.put_owns.new.parts c.in_ok-next.ensures.start c.in_err-made.ensures.start

@@ -1,4 +1,5 @@
 use Rattle.std.proofs.Common.{refl, subst}
+use Rattle.term_pool.proofs.EntryLemmas.{starts_same}
 use Rattle.term_pool.proofs.StandsLemmas.{stands_External, stands_Internal}
 use Rattle.term_pool.specs.Entries.{Fits}
 use Rattle.term_pool.specs.declared.entry.Entry.{Entry}
@@ -57,3 +58,39 @@ returns-in-Call-clause-entry c = record {
   fits = subst (λ (e : Entry). Fits c.args.parts.now e) c.in-Call.is c.requires.fits;
   is = rw c.in-Call.is refl;
 }
+
+pub returns-in-Stop-clause-start : goal.returns-in-Stop-clause-start
+returns-in-Stop-clause-start c = starts_same c.args.parts.now
+
+pub returns-in-Prefix-clause-start : goal.returns-in-Prefix-clause-start
+returns-in-Prefix-clause-start c = starts_same c.args.parts.now
+
+pub returns-in-Guard-clause-start : goal.returns-in-Guard-clause-start
+returns-in-Guard-clause-start c = starts_same c.args.parts.now
+
+pub returns-in-If-clause-start : goal.returns-in-If-clause-start
+returns-in-If-clause-start c = starts_same c.args.parts.now
+
+pub returns-in-EachExternal-clause-start : goal.returns-in-EachExternal-clause-start
+returns-in-EachExternal-clause-start c = starts_same c.args.parts.now
+
+pub returns-in-EachInternal-clause-start : goal.returns-in-EachInternal-clause-start
+returns-in-EachInternal-clause-start c = starts_same c.args.parts.now
+
+pub returns-in-Hide-clause-start : goal.returns-in-Hide-clause-start
+returns-in-Hide-clause-start c = starts_same c.args.parts.now
+
+pub returns-in-Rename-clause-start : goal.returns-in-Rename-clause-start
+returns-in-Rename-clause-start c = starts_same c.args.parts.now
+
+pub returns-in-Call-clause-start : goal.returns-in-Call-clause-start
+returns-in-Call-clause-start c = starts_same c.args.parts.now
+
+pub returns-in-Skip-clause-start : goal.returns-in-Skip-clause-start
+returns-in-Skip-clause-start c = starts_same c.args.parts.now
+
+pub returns-in-Seq-clause-start : goal.returns-in-Seq-clause-start
+returns-in-Seq-clause-start c = starts_same c.args.parts.now
+
+pub returns-in-Ended-clause-start : goal.returns-in-Ended-clause-start
+returns-in-Ended-clause-start c = starts_same c.args.parts.now

@@ -1,8 +1,76 @@
+use Rattle.std.proofs.Common.{refl, subst}
+use Rattle.term_pool.specs.Entries.{expr_at, fields_at, gens_at, head_at, pairs_at, Fits}
+use Rattle.term_pool.specs.Layers.{Layer}
+use Rattle.term_pool.specs.declared.entry.Entry.{Entry}
+use Rattle.term_pool.proofs.EntryLemmas.{starts_same}
 use Rattle.term_pool.proofs.StandsLemmas.{stands_External, stands_Internal}
 use Rattle.term_pool.proofs.changed.with_places.Goals as goal
 
-pub returns-in_ok-ids-in-External-clause-entry : goal.returns-in_ok-ids-in-External-clause-entry
-returns-in_ok-ids-in-External-clause-entry c = rw c.in-External.is (stands_External c.keep_choice.new.parts c.in_ok-ids-in-External.ids _ c.in_ok-ids-in-External.ensures.place)
+pub returns-in_ok-own-in-External-clause-entry : goal.returns-in_ok-own-in-External-clause-entry
+returns-in_ok-own-in-External-clause-entry c = rw c.in-External.is (stands_External c.keep_choice.new.parts c.in_ok-own-in-External.own.0 _ c.in_ok-own-in-External.ensures.place)
 
-pub returns-in_ok-ids-in-Internal-clause-entry : goal.returns-in_ok-ids-in-Internal-clause-entry
-returns-in_ok-ids-in-Internal-clause-entry c = rw c.in-Internal.is (stands_Internal c.keep_choice-in-Internal.new.parts c.in_ok-ids-in-Internal.ids _ c.in_ok-ids-in-Internal.ensures.place)
+pub returns-in_ok-own-in-Internal-clause-entry : goal.returns-in_ok-own-in-Internal-clause-entry
+returns-in_ok-own-in-Internal-clause-entry c = rw c.in-Internal.is (stands_Internal c.keep_choice-in-Internal.new.parts c.in_ok-own-in-Internal.own.0 _ c.in_ok-own-in-Internal.ensures.place)
+
+pub returns-in-Prefix-clause-entry : goal.returns-in-Prefix-clause-entry
+returns-in-Prefix-clause-entry c = let fits = subst (λ (e : Entry). Fits c.args.parts.now e) c.in-Prefix.is c.requires.fits in rw c.in-Prefix.is (record { fits = fits; is = λ i. Layer.Prefix (head_at c.args.parts.now c.in-Prefix.head) (fields_at c.args.parts.now c.in-Prefix.fields) (c.at.ensures i) })
+
+pub returns-in-Guard-clause-entry : goal.returns-in-Guard-clause-entry
+returns-in-Guard-clause-entry c = let fits = subst (λ (e : Entry). Fits c.args.parts.now e) c.in-Guard.is c.requires.fits in rw c.in-Guard.is (record { fits = fits; is = λ i. Layer.Guard (expr_at c.args.parts.now c.in-Guard.c) (c.at-in-Guard.ensures i) })
+
+pub returns-in-If-clause-entry : goal.returns-in-If-clause-entry
+returns-in-If-clause-entry c = let fits = subst (λ (e : Entry). Fits c.args.parts.now e) c.in-If.is c.requires.fits in rw c.in-If.is (record { fits = fits; is = λ i. Layer.If (expr_at c.args.parts.now c.in-If.c) (c.at-in-If.ensures i) (c.at-in-If-2.ensures i) })
+
+pub returns-in-EachExternal-clause-entry : goal.returns-in-EachExternal-clause-entry
+returns-in-EachExternal-clause-entry c = let fits = subst (λ (e : Entry). Fits c.args.parts.now e) c.in-EachExternal.is c.requires.fits in rw c.in-EachExternal.is (record { fits = fits; is = λ i. Layer.EachExternal c.in-EachExternal.slot (expr_at c.args.parts.now c.in-EachExternal.set) (c.at-in-EachExternal.ensures i) })
+
+pub returns-in-EachInternal-clause-entry : goal.returns-in-EachInternal-clause-entry
+returns-in-EachInternal-clause-entry c = let fits = subst (λ (e : Entry). Fits c.args.parts.now e) c.in-EachInternal.is c.requires.fits in rw c.in-EachInternal.is (record { fits = fits; is = λ i. Layer.EachInternal c.in-EachInternal.slot (expr_at c.args.parts.now c.in-EachInternal.set) (c.at-in-EachInternal.ensures i) })
+
+pub returns-in-Hide-clause-entry : goal.returns-in-Hide-clause-entry
+returns-in-Hide-clause-entry c = let fits = subst (λ (e : Entry). Fits c.args.parts.now e) c.in-Hide.is c.requires.fits in rw c.in-Hide.is (record { fits = fits; is = λ i. Layer.Hide (c.at-in-Hide.ensures i) (expr_at c.args.parts.now c.in-Hide.set) })
+
+pub returns-in-Rename-clause-entry : goal.returns-in-Rename-clause-entry
+returns-in-Rename-clause-entry c = let fits = subst (λ (e : Entry). Fits c.args.parts.now e) c.in-Rename.is c.requires.fits in rw c.in-Rename.is (record { fits = fits; is = λ i. Layer.Rename (c.at-in-Rename.ensures i) (pairs_at c.args.parts.now c.in-Rename.pairs) (gens_at c.args.parts.now c.in-Rename.gens) })
+
+pub returns-in-Call-clause-entry : goal.returns-in-Call-clause-entry
+returns-in-Call-clause-entry c = let fits = subst (λ (e : Entry). Fits c.args.parts.now e) c.in-Call.is c.requires.fits in rw c.in-Call.is (record { fits = fits; is = refl })
+
+pub returns-in-Seq-clause-entry : goal.returns-in-Seq-clause-entry
+returns-in-Seq-clause-entry c = rw c.in-Seq.is (record { fits = tt; is = λ i. Layer.Seq (c.at-in-Seq.ensures i) (c.at-in-Seq-2.ensures i) })
+
+pub returns-in-Stop-clause-start : goal.returns-in-Stop-clause-start
+returns-in-Stop-clause-start c = starts_same c.args.parts.now
+
+pub returns-in-Prefix-clause-start : goal.returns-in-Prefix-clause-start
+returns-in-Prefix-clause-start c = starts_same c.args.parts.now
+
+pub returns-in-Guard-clause-start : goal.returns-in-Guard-clause-start
+returns-in-Guard-clause-start c = starts_same c.args.parts.now
+
+pub returns-in-If-clause-start : goal.returns-in-If-clause-start
+returns-in-If-clause-start c = starts_same c.args.parts.now
+
+pub returns-in-EachExternal-clause-start : goal.returns-in-EachExternal-clause-start
+returns-in-EachExternal-clause-start c = starts_same c.args.parts.now
+
+pub returns-in-EachInternal-clause-start : goal.returns-in-EachInternal-clause-start
+returns-in-EachInternal-clause-start c = starts_same c.args.parts.now
+
+pub returns-in-Hide-clause-start : goal.returns-in-Hide-clause-start
+returns-in-Hide-clause-start c = starts_same c.args.parts.now
+
+pub returns-in-Rename-clause-start : goal.returns-in-Rename-clause-start
+returns-in-Rename-clause-start c = starts_same c.args.parts.now
+
+pub returns-in-Call-clause-start : goal.returns-in-Call-clause-start
+returns-in-Call-clause-start c = starts_same c.args.parts.now
+
+pub returns-in-Skip-clause-start : goal.returns-in-Skip-clause-start
+returns-in-Skip-clause-start c = starts_same c.args.parts.now
+
+pub returns-in-Seq-clause-start : goal.returns-in-Seq-clause-start
+returns-in-Seq-clause-start c = starts_same c.args.parts.now
+
+pub returns-in-Ended-clause-start : goal.returns-in-Ended-clause-start
+returns-in-Ended-clause-start c = starts_same c.args.parts.now

@@ -9,28 +9,28 @@ use Rattle.term_pool.specs.Trees.{tree_at}
 use Rattle.term_pool.proofs.kept.put_first_in.Goals as goal
 
 pub returns-in_err-entry-clause-kept : goal.returns-in_err-entry-clause-kept
-returns-in_err-entry-clause-kept c = kept_more c.args.parts.now c.entry_with_first.new.parts c.in_err-entry.ensures.start c.args.entries.now c.args.measures.now c.requires.kept c.in_err-entry.ensures.once
+returns-in_err-entry-clause-kept c = kept_more c.args.parts.now c.entry_with_first-made.new.parts c.entry_with_first-made.ensures.start c.args.entries.now c.args.measures.now c.requires.kept c.parts_once.ensures
 
 pub returns-in_err-entry-clause-puts : goal.returns-in_err-entry-clause-puts
 returns-in_err-entry-clause-puts c =
-    puts_nothing c.args.parts.now c.entry_with_first.new.parts c.in_err-entry.ensures.start c.args.entries.now c.args.measures.now c.requires.kept
+    puts_nothing c.args.parts.now c.entry_with_first-made.new.parts c.entry_with_first-made.ensures.start c.args.entries.now c.args.measures.now c.requires.kept
     c.from_residual.result c.from_residual.ensures.0 (with_first (tree_at (processes c.args.parts.now c.args.entries.now) c.args.id) (tree_at (processes c.args.parts.now c.args.entries.now) c.args.below))
 
 pub put_entry-requires-clause-kept : goal.put_entry-requires-clause-kept
-put_entry-requires-clause-kept c = kept_more c.args.parts.now c.entry_with_first.new.parts c.in_ok-entry.ensures.start c.args.entries.now c.args.measures.now c.requires.kept c.in_ok-entry.ensures.once
+put_entry-requires-clause-kept c = kept_more c.args.parts.now c.entry_with_first-made.new.parts c.entry_with_first-made.ensures.start c.args.entries.now c.args.measures.now c.requires.kept c.parts_once.ensures
 
 pub put_entry-requires-clause-below : goal.put_entry-requires-clause-below
 put_entry-requires-clause-below c =
-    below_more c.args.parts.now c.entry_with_first.new.parts c.in_ok-entry.ensures.start c.args.entries.now c.args.measures.now c.requires.kept
+    below_more c.args.parts.now c.entry_with_first-made.new.parts c.entry_with_first-made.ensures.start c.args.entries.now c.args.measures.now c.requires.kept
     c.in_ok-entry.entry (node_with_first (entry_layer c.args.parts.now c.entry_at-entry.result) c.args.below) c.in_ok-entry.ensures.entry
     (made_below (processes c.args.parts.now c.args.entries.now) c.args.id c.args.below c.requires.id c.requires.below (entry_layer c.args.parts.now c.entry_at-entry.result) c.entry_at-entry.ensures.process c.entry_at-entry.ensures.below
     (node_with_first (entry_layer c.args.parts.now c.entry_at-entry.result) c.args.below) refl)
 
 pub returns-clause-puts : goal.returns-clause-puts
 returns-clause-puts c =
-    puts_as c.args.parts.now c.entry_with_first.new.parts c.in_ok-entry.ensures.start c.args.entries.now c.args.measures.now c.requires.kept
+    puts_as c.args.parts.now c.entry_with_first-made.new.parts c.entry_with_first-made.ensures.start c.args.entries.now c.args.measures.now c.requires.kept
     c.in_ok-entry.entry (node_with_first (entry_layer c.args.parts.now c.entry_at-entry.result) c.args.below) c.in_ok-entry.ensures.entry
     (with_first (tree_at (processes c.args.parts.now c.args.entries.now) c.args.id) (tree_at (processes c.args.parts.now c.args.entries.now) c.args.below))
     (made_tree (processes c.args.parts.now c.args.entries.now) c.args.id c.args.below c.requires.id c.requires.below (entry_layer c.args.parts.now c.entry_at-entry.result) c.entry_at-entry.ensures.process c.entry_at-entry.ensures.below
     (node_with_first (entry_layer c.args.parts.now c.entry_at-entry.result) c.args.below) refl)
-    (processes c.entry_with_first.new.parts c.put_entry.new.entries) c.put_entry.result c.put_entry.ensures.puts
+    (processes c.entry_with_first-made.new.parts c.put_entry.new.entries) c.put_entry.result c.put_entry.ensures.puts

@@ -8,11 +8,11 @@ use Rattle.term_pool.specs.Trees.{layer_tree, tree_of}
 use Rattle.term_pool.proofs.kept.put_in.Goals as goal
 
 pub returns-in_err-entry-clause-kept : goal.returns-in_err-entry-clause-kept
-returns-in_err-entry-clause-kept c = kept_more c.args.parts.now c.keep_node.new.parts c.in_err-entry.ensures.start c.args.entries.now c.args.measures.now c.requires.kept c.in_err-entry.ensures.once
+returns-in_err-entry-clause-kept c = kept_more c.args.parts.now c.keep_node-kept.new.parts c.keep_node-kept.ensures.start c.args.entries.now c.args.measures.now c.requires.kept c.parts_once.ensures
 
 pub returns-in_err-entry-clause-puts : goal.returns-in_err-entry-clause-puts
 returns-in_err-entry-clause-puts c =
-    puts_nothing c.args.parts.now c.keep_node.new.parts c.in_err-entry.ensures.start c.args.entries.now c.args.measures.now c.requires.kept
+    puts_nothing c.args.parts.now c.keep_node-kept.new.parts c.keep_node-kept.ensures.start c.args.entries.now c.args.measures.now c.requires.kept
     c.from_residual.result c.from_residual.ensures.0 (tree_of (processes c.args.parts.now c.args.entries.now) c.args.node)
 
 pub returns-in_err-entry-clause-err_only_new : goal.returns-in_err-entry-clause-err_only_new
@@ -21,21 +21,21 @@ returns-in_err-entry-clause-err_only_new c =
     (no_parts_no_process c.args.parts.now c.args.entries.now c.args.measures.now c.requires.kept (shown c.args.node) c.requires.below c.in_err-entry.ensures.err_only_new)
 
 pub put_entry-requires-clause-kept : goal.put_entry-requires-clause-kept
-put_entry-requires-clause-kept c = kept_more c.args.parts.now c.keep_node.new.parts c.in_ok-entry.ensures.start c.args.entries.now c.args.measures.now c.requires.kept c.in_ok-entry.ensures.once
+put_entry-requires-clause-kept c = kept_more c.args.parts.now c.keep_node-kept.new.parts c.keep_node-kept.ensures.start c.args.entries.now c.args.measures.now c.requires.kept c.parts_once.ensures
 
 pub put_entry-requires-clause-below : goal.put_entry-requires-clause-below
 put_entry-requires-clause-below c =
-    below_more c.args.parts.now c.keep_node.new.parts c.in_ok-entry.ensures.start c.args.entries.now c.args.measures.now c.requires.kept
+    below_more c.args.parts.now c.keep_node-kept.new.parts c.keep_node-kept.ensures.start c.args.entries.now c.args.measures.now c.requires.kept
     c.in_ok-entry.entry (shown c.args.node) c.in_ok-entry.ensures.entry c.requires.below
 
 pub returns-clause-puts : goal.returns-clause-puts
 returns-clause-puts c =
-    puts_as c.args.parts.now c.keep_node.new.parts c.in_ok-entry.ensures.start c.args.entries.now c.args.measures.now c.requires.kept
+    puts_as c.args.parts.now c.keep_node-kept.new.parts c.keep_node-kept.ensures.start c.args.entries.now c.args.measures.now c.requires.kept
     c.in_ok-entry.entry (shown c.args.node) c.in_ok-entry.ensures.entry (layer_tree (processes c.args.parts.now c.args.entries.now) (shown c.args.node)) refl
-    (processes c.keep_node.new.parts c.put_entry.new.entries) c.put_entry.result c.put_entry.ensures.puts
+    (processes c.keep_node-kept.new.parts c.put_entry.new.entries) c.put_entry.result c.put_entry.ensures.puts
 
 pub returns-clause-err_only_new : goal.returns-clause-err_only_new
 returns-clause-err_only_new c =
-    unknown_as c.args.parts.now c.keep_node.new.parts c.in_ok-entry.ensures.start c.args.entries.now c.args.measures.now c.requires.kept
+    unknown_as c.args.parts.now c.keep_node-kept.new.parts c.keep_node-kept.ensures.start c.args.entries.now c.args.measures.now c.requires.kept
     c.in_ok-entry.entry (shown c.args.node) c.in_ok-entry.ensures.entry (layer_tree (processes c.args.parts.now c.args.entries.now) (shown c.args.node)) refl
     c.put_entry.result c.put_entry.ensures.err_only_new

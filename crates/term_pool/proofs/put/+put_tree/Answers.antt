@@ -1,5 +1,6 @@
 -- The list grows by the sub-processes of each form, and the layer over their places stands for it.
 use Rattle.std.proofs.Common.{◌≡◌, ◌+◌, List, [], ◌∷◌, Some, take, slice_get, sym, ap, ◌∙◌, subst}
+use Rattle.std.specs.Prelude.{IfOk}
 use Rattle.csp_program.specs.declared.processes.Proc.{Proc}
 use Rattle.csp_program.specs.declared.processes.Proc.TheVariants as proc
 use Rattle.term_pool.proofs.OverLemmas as over
@@ -8,6 +9,7 @@ use Rattle.term_pool.specs.Layers.{Layer, shown}
 use Rattle.term_pool.specs.Over.{layer_over}
 use Rattle.term_pool.specs.Put.{StandAt, StandsFor}
 use Rattle.pool_parts.specs.declared.place.ProcId.{ProcId}
+use Rattle.term_pool.specs.declared.below.Below.{Below}
 use Rattle.term_pool.proofs.put.+put_tree.Goals as goal
 
 pub put_below-returns-in-Prefix-clause-grows : goal.put_below-returns-in-Prefix-clause-grows
@@ -64,47 +66,41 @@ put_below-returns-in-Rename-clause-node t c =
     over.if_ok c.put_one-in-Rename.result (λ b. slice_get c.put_one-in-Rename.new.pool b.first.0 ≡ Some c.get-in-Rename.result.now) (λ b. StandsFor c.put_one-in-Rename.new.pool (layer_over c.args.proc.now b) c.args.proc.now)
     (λ b h. over.below_Rename c.put_one-in-Rename.new.pool c.args.proc.now c.in-Rename.p c.in-Rename.field-1 c.in-Rename.field-2 c.in-Rename.is b (h ∙ ap (λ (q : Proc). Some q) c.get-in-Rename.ensures)) c.put_one-in-Rename.ensures.first
 
-pub put_below-returns-in_err-p-in-If-clause-grows : goal.put_below-returns-in_err-p-in-If-clause-grows
-put_below-returns-in_err-p-in-If-clause-grows t c =
-    lemmas.first_part c.args.pool.now c.put_tree.new.pool c.args.proc.now (proc.If c.in-If.field-0 c.in-If.p c.in-If.q) c.in-If.p c.get-in-If.result.now (c.in-If.q ∷ []) c.in-If.is (lemmas.parts_If c.in-If.field-0 c.in-If.p c.in-If.q) c.get-in-If.ensures c.in_err-p-in-If.ensures.grows
+pub put_below-returns-in-If-clause-grows : goal.put_below-returns-in-If-clause-grows
+put_below-returns-in-If-clause-grows t c =
+    lemmas.all_parts c.args.pool.now c.put_two.new.pool c.args.proc.now (proc.If c.in-If.field-0 c.in-If.p c.in-If.q) (c.in-If.p ∷ c.in-If.q ∷ []) (c.get-in-If.result.now ∷ c.get-in-If-2.result.now ∷ []) c.in-If.is (lemmas.parts_If c.in-If.field-0 c.in-If.p c.in-If.q) (λ i. c.get-in-If.ensures i ∷ c.get-in-If-2.ensures i ∷ []) c.put_two.ensures.grows
 
-pub put_below-returns-in_err-q-in-If-clause-grows : goal.put_below-returns-in_err-q-in-If-clause-grows
-put_below-returns-in_err-q-in-If-clause-grows t c =
-    lemmas.both_parts c.args.pool.now c.put_tree.new.pool c.put_tree-in-If.new.pool c.args.proc.now (proc.If c.in-If.field-0 c.in-If.p c.in-If.q) c.in-If.p c.get-in-If.result.now c.in-If.q c.get-in-If-2.result.now c.in-If.is (lemmas.parts_If c.in-If.field-0 c.in-If.p c.in-If.q)
-    c.get-in-If.ensures c.get-in-If-2.ensures c.in_ok-p-in-If.ensures.grows c.in_err-q-in-If.ensures.grows
+pub put_below-returns-in-If-clause-node : goal.put_below-returns-in-If-clause-node
+put_below-returns-in-If-clause-node t c =
+    over.if_both c.put_two.result _ _ _
+    (λ (b : Below) (h : slice_get c.put_two.new.pool b.first.0 ≡ Some c.get-in-If.result.now) (k : slice_get c.put_two.new.pool b.second.0 ≡ Some c.get-in-If-2.result.now).
+    over.below_If c.put_two.new.pool c.args.proc.now c.in-If.field-0 c.in-If.p c.in-If.q c.in-If.is b (h ∙ ap (λ (r : Proc). Some r) c.get-in-If.ensures) (k ∙ ap (λ (r : Proc). Some r) c.get-in-If-2.ensures)) c.put_two.ensures.first c.put_two.ensures.second
 
-pub put_below-returns-in_ok-q-in-If-clause-grows : goal.put_below-returns-in_ok-q-in-If-clause-grows
-put_below-returns-in_ok-q-in-If-clause-grows t c =
-    lemmas.both_parts c.args.pool.now c.put_tree.new.pool c.put_tree-in-If.new.pool c.args.proc.now (proc.If c.in-If.field-0 c.in-If.p c.in-If.q) c.in-If.p c.get-in-If.result.now c.in-If.q c.get-in-If-2.result.now c.in-If.is (lemmas.parts_If c.in-If.field-0 c.in-If.p c.in-If.q)
-    c.get-in-If.ensures c.get-in-If-2.ensures c.in_ok-p-in-If.ensures.grows c.in_ok-q-in-If.ensures.grows
+pub put_below-returns-in-Seq-clause-grows : goal.put_below-returns-in-Seq-clause-grows
+put_below-returns-in-Seq-clause-grows t c =
+    lemmas.all_parts c.args.pool.now c.put_two-in-Seq.new.pool c.args.proc.now (proc.Seq c.in-Seq.p c.in-Seq.q) (c.in-Seq.p ∷ c.in-Seq.q ∷ []) (c.get-in-Seq.result.now ∷ c.get-in-Seq-2.result.now ∷ []) c.in-Seq.is (lemmas.parts_Seq c.in-Seq.p c.in-Seq.q) (λ i. c.get-in-Seq.ensures i ∷ c.get-in-Seq-2.ensures i ∷ []) c.put_two-in-Seq.ensures.grows
 
-pub put_below-returns-in_ok-q-in-If-clause-node : goal.put_below-returns-in_ok-q-in-If-clause-node
-put_below-returns-in_ok-q-in-If-clause-node t c =
-    over.below_If c.put_tree-in-If.new.pool c.args.proc.now c.in-If.field-0 c.in-If.p c.in-If.q c.in-If.is c.few-in-If.result
-    (ap (λ (k : ProcId). slice_get c.put_tree-in-If.new.pool k.0) c.few-in-If.ensures.first ∙
-    (c.in_ok-q-in-If.ensures.grows.front c.in_ok-p-in-If.p.0 c.get-in-If.result.now c.in_ok-p-in-If.ensures.process ∙ ap (λ (r : Proc). Some r) c.get-in-If.ensures))
-    (ap (λ (k : ProcId). slice_get c.put_tree-in-If.new.pool k.0) c.few-in-If.ensures.second ∙ (c.in_ok-q-in-If.ensures.process ∙ ap (λ (r : Proc). Some r) c.get-in-If-2.ensures))
+pub put_below-returns-in-Seq-clause-node : goal.put_below-returns-in-Seq-clause-node
+put_below-returns-in-Seq-clause-node t c =
+    over.if_both c.put_two-in-Seq.result _ _ _
+    (λ (b : Below) (h : slice_get c.put_two-in-Seq.new.pool b.first.0 ≡ Some c.get-in-Seq.result.now) (k : slice_get c.put_two-in-Seq.new.pool b.second.0 ≡ Some c.get-in-Seq-2.result.now).
+    over.below_Seq c.put_two-in-Seq.new.pool c.args.proc.now c.in-Seq.p c.in-Seq.q c.in-Seq.is b (h ∙ ap (λ (r : Proc). Some r) c.get-in-Seq.ensures) (k ∙ ap (λ (r : Proc). Some r) c.get-in-Seq-2.ensures)) c.put_two-in-Seq.ensures.first c.put_two-in-Seq.ensures.second
 
-pub put_below-returns-in_err-p-in-Seq-clause-grows : goal.put_below-returns-in_err-p-in-Seq-clause-grows
-put_below-returns-in_err-p-in-Seq-clause-grows t c =
-    lemmas.first_part c.args.pool.now c.put_tree-in-Seq.new.pool c.args.proc.now (proc.Seq c.in-Seq.p c.in-Seq.q) c.in-Seq.p c.get-in-Seq.result.now (c.in-Seq.q ∷ []) c.in-Seq.is (lemmas.parts_Seq c.in-Seq.p c.in-Seq.q) c.get-in-Seq.ensures c.in_err-p-in-Seq.ensures.grows
+pub put_two-returns-in_err-first-clause-grows : goal.put_two-returns-in_err-first-clause-grows
+put_two-returns-in_err-first-clause-grows t c = lemmas.grows_less c.args.pool.now c.put_tree.new.pool (c.args.p.now ∷ []) (c.args.q.now ∷ []) c.in_err-first.ensures.grows
 
-pub put_below-returns-in_err-q-in-Seq-clause-grows : goal.put_below-returns-in_err-q-in-Seq-clause-grows
-put_below-returns-in_err-q-in-Seq-clause-grows t c =
-    lemmas.both_parts c.args.pool.now c.put_tree-in-Seq.new.pool c.put_tree-in-Seq-2.new.pool c.args.proc.now (proc.Seq c.in-Seq.p c.in-Seq.q) c.in-Seq.p c.get-in-Seq.result.now c.in-Seq.q c.get-in-Seq-2.result.now c.in-Seq.is (lemmas.parts_Seq c.in-Seq.p c.in-Seq.q)
-    c.get-in-Seq.ensures c.get-in-Seq-2.ensures c.in_ok-p-in-Seq.ensures.grows c.in_err-q-in-Seq.ensures.grows
+pub put_two-returns-in_err-second-clause-grows : goal.put_two-returns-in_err-second-clause-grows
+put_two-returns-in_err-second-clause-grows t c = lemmas.grows_both c.args.pool.now c.put_tree.new.pool c.put_tree-2.new.pool (c.args.p.now ∷ []) (c.args.q.now ∷ []) c.in_ok-first.ensures.grows c.in_err-second.ensures.grows
 
-pub put_below-returns-in_ok-q-in-Seq-clause-grows : goal.put_below-returns-in_ok-q-in-Seq-clause-grows
-put_below-returns-in_ok-q-in-Seq-clause-grows t c =
-    lemmas.both_parts c.args.pool.now c.put_tree-in-Seq.new.pool c.put_tree-in-Seq-2.new.pool c.args.proc.now (proc.Seq c.in-Seq.p c.in-Seq.q) c.in-Seq.p c.get-in-Seq.result.now c.in-Seq.q c.get-in-Seq-2.result.now c.in-Seq.is (lemmas.parts_Seq c.in-Seq.p c.in-Seq.q)
-    c.get-in-Seq.ensures c.get-in-Seq-2.ensures c.in_ok-p-in-Seq.ensures.grows c.in_ok-q-in-Seq.ensures.grows
+pub put_two-returns-clause-grows : goal.put_two-returns-clause-grows
+put_two-returns-clause-grows t c = lemmas.grows_both c.args.pool.now c.put_tree.new.pool c.put_tree-2.new.pool (c.args.p.now ∷ []) (c.args.q.now ∷ []) c.in_ok-first.ensures.grows c.in_ok-second.ensures.grows
 
-pub put_below-returns-in_ok-q-in-Seq-clause-node : goal.put_below-returns-in_ok-q-in-Seq-clause-node
-put_below-returns-in_ok-q-in-Seq-clause-node t c =
-    over.below_Seq c.put_tree-in-Seq-2.new.pool c.args.proc.now c.in-Seq.p c.in-Seq.q c.in-Seq.is c.few-in-Seq.result
-    (ap (λ (k : ProcId). slice_get c.put_tree-in-Seq-2.new.pool k.0) c.few-in-Seq.ensures.first ∙
-    (c.in_ok-q-in-Seq.ensures.grows.front c.in_ok-p-in-Seq.p.0 c.get-in-Seq.result.now c.in_ok-p-in-Seq.ensures.process ∙ ap (λ (r : Proc). Some r) c.get-in-Seq.ensures))
-    (ap (λ (k : ProcId). slice_get c.put_tree-in-Seq-2.new.pool k.0) c.few-in-Seq.ensures.second ∙ (c.in_ok-q-in-Seq.ensures.process ∙ ap (λ (r : Proc). Some r) c.get-in-Seq-2.ensures))
+pub put_two-returns-clause-first : goal.put_two-returns-clause-first
+put_two-returns-clause-first t c =
+    ap (λ (k : ProcId). slice_get c.put_tree-2.new.pool k.0) c.few.ensures.first ∙ c.in_ok-second.ensures.grows.front c.in_ok-first.first.0 c.args.p.now c.in_ok-first.ensures.process
+
+pub put_two-returns-clause-second : goal.put_two-returns-clause-second
+put_two-returns-clause-second t c = ap (λ (k : ProcId). slice_get c.put_tree-2.new.pool k.0) c.few.ensures.second ∙ c.in_ok-second.ensures.process
 
 pub put_below-returns-in-External-clause-grows : goal.put_below-returns-in-External-clause-grows
 put_below-returns-in-External-clause-grows t c =
@@ -143,17 +139,14 @@ pub put_tree-put_node-requires : goal.put_tree-put_node-requires
 put_tree-put_node-requires t c = (subst (λ (n : Layer). StandsFor c.put_below.new.pool n c.args.proc.now) (sym c.node_over.ensures) c.in_ok-below.ensures.node).below
 
 pub put_tree-returns-clause-process : goal.put_tree-returns-clause-process
-put_tree-returns-clause-process t c = c.in_ok-id.ensures.process ∙ ap (λ (q : Proc). Some q) (subst (λ (n : Layer). StandsFor c.put_below.new.pool n c.args.proc.now) (sym c.node_over.ensures) c.in_ok-below.ensures.node).tree
-
-pub put_tree-returns-in_err-id-clause-grows : goal.put_tree-returns-in_err-id-clause-grows
-put_tree-returns-in_err-id-clause-grows t c =
-    lemmas.grows_node c.args.pool.now c.put_below.new.pool c.put_node.new.self c.args.proc.now (shown c.node_over.result) c.in_ok-below.ensures.grows
-    (subst (λ (n : Layer). StandsFor c.put_below.new.pool n c.args.proc.now) (sym c.node_over.ensures) c.in_ok-below.ensures.node) c.in_err-id.ensures.front c.in_err-id.ensures.known c.in_err-id.ensures.only
+put_tree-returns-clause-process t c =
+    subst (λ (q : Proc). IfOk c.put_node.result (λ (id : ProcId). slice_get c.put_node.new.self id.0 ≡ Some q))
+    (subst (λ (n : Layer). StandsFor c.put_below.new.pool n c.args.proc.now) (sym c.node_over.ensures) c.in_ok-below.ensures.node).tree c.put_node.ensures.process
 
 pub put_tree-returns-clause-grows : goal.put_tree-returns-clause-grows
 put_tree-returns-clause-grows t c =
     lemmas.grows_node c.args.pool.now c.put_below.new.pool c.put_node.new.self c.args.proc.now (shown c.node_over.result) c.in_ok-below.ensures.grows
-    (subst (λ (n : Layer). StandsFor c.put_below.new.pool n c.args.proc.now) (sym c.node_over.ensures) c.in_ok-below.ensures.node) c.in_ok-id.ensures.front c.in_ok-id.ensures.known c.in_ok-id.ensures.only
+    (subst (λ (n : Layer). StandsFor c.put_below.new.pool n c.args.proc.now) (sym c.node_over.ensures) c.in_ok-below.ensures.node) c.put_node.ensures.front c.put_node.ensures.known c.put_node.ensures.only
 
 pub put_trees-returns-in_err-id-clause-grows : goal.put_trees-returns-in_err-id-clause-grows
 put_trees-returns-in_err-id-clause-grows t c =

@@ -1,5 +1,6 @@
 -- What a process becomes: from its own parts, and from what its sub-processes became.
-use Rattle.std.proofs.Common.{◌+◌, List, Some, map, take, ap, sym, ◌∙◌, subst, arith}
+use Rattle.std.proofs.Common.{◌≡◌, ◌+◌, List, Some, map, take, slice_get, ap, sym, ◌∙◌, subst, arith}
+use Rattle.std.specs.Prelude.{IfOk}
 use Rattle.std.proofs.lemmas.Option.{slice_get-get_or}
 use Rattle.substitution.specs.Several.{with_values}
 use Rattle.csp_program.specs.declared.processes.Proc.{Proc}
@@ -61,66 +62,43 @@ put_layer-put_made-requires t c =
           (sym (made.tree_stays c.args.names.now c.args.values.now c.args.pool.now c.put_below.new.pool c.args.id c.requires.within c.in_ok-ids.ensures.grows.front)) c.in_ok-ids.ensures.places;
     }
 
-pub put_layer-returns-in_err-made-clause-grows : goal.put_layer-returns-in_err-made-clause-grows
-put_layer-returns-in_err-made-clause-grows t c =
-    made.layer_grows c.args.names.now c.args.values.now c.args.pool.now c.put_below.new.pool c.put_made.new.self c.args.id c.requires.within c.in_ok-ids.ensures.grows
-    c.in_err-made.ensures.front c.in_err-made.ensures.known c.in_err-made.ensures.only
-
 pub put_layer-returns-clause-grows : goal.put_layer-returns-clause-grows
 put_layer-returns-clause-grows t c =
     made.layer_grows c.args.names.now c.args.values.now c.args.pool.now c.put_below.new.pool c.put_made.new.self c.args.id c.requires.within c.in_ok-ids.ensures.grows
-    c.in_ok-made.ensures.front c.in_ok-made.ensures.known c.in_ok-made.ensures.only
+    c.put_made.ensures.front c.put_made.ensures.known c.put_made.ensures.only
 
 pub put_layer-returns-clause-process : goal.put_layer-returns-clause-process
 put_layer-returns-clause-process t c =
-    c.in_ok-made.ensures.process ∙ ap (λ (q : Proc). Some (with_values c.args.names.now c.args.values.now q))
-    (made.tree_stays c.args.names.now c.args.values.now c.args.pool.now c.put_below.new.pool c.args.id c.requires.within c.in_ok-ids.ensures.grows.front)
-
-pub put_layer-returns-in_err-made-clause-visited : goal.put_layer-returns-in_err-made-clause-visited
-put_layer-returns-in_err-made-clause-visited t c =
-    made.all_still_made c.args.names.now c.args.values.now c.put_below.new.pool c.put_made.new.self c.in_err-made.ensures.front c.put_below.new.visited c.in_ok-ids.ensures.visited
+    subst (λ (q : Proc). IfOk c.put_made.result (λ (id : ProcId). slice_get c.put_made.new.self id.0 ≡ Some (with_values c.args.names.now c.args.values.now q)))
+    (made.tree_stays c.args.names.now c.args.values.now c.args.pool.now c.put_below.new.pool c.args.id c.requires.within c.in_ok-ids.ensures.grows.front) c.put_made.ensures.process
 
 pub put_layer-returns-clause-visited : goal.put_layer-returns-clause-visited
 put_layer-returns-clause-visited t c =
-    made.all_still_made c.args.names.now c.args.values.now c.put_below.new.pool c.put_made.new.self c.in_ok-made.ensures.front c.put_below.new.visited c.in_ok-ids.ensures.visited
+    made.all_still_made c.args.names.now c.args.values.now c.put_below.new.pool c.put_made.new.self c.put_made.ensures.front c.put_below.new.visited c.in_ok-ids.ensures.visited
 
-pub put_below-returns-in_err-made-in-None-clause-grows : goal.put_below-returns-in_err-made-in-None-clause-grows
-put_below-returns-in_err-made-in-None-clause-grows t c =
+pub put_under-returns-in-None-clause-places : goal.put_under-returns-in-None-clause-places
+put_under-returns-in-None-clause-places t c =
+    subst (λ (ts : List Proc). IfOk c.put_all.result (λ (ids : List ProcId). StandAt c.put_all.new.pool ids ts))
+    (made.under_none c.args.names.now c.args.values.now c.args.pool.now c.args.id c.args.under.now c.requires.under c.in-None.is c.as_slice-places.result.now c.as_slice-places.ensures) c.put_all.ensures.places
+
+pub put_under-returns-in-None-clause-grows : goal.put_under-returns-in-None-clause-grows
+put_under-returns-in-None-clause-grows t c =
     subst (λ (ts : List Proc). Grows c.args.pool.now c.put_all.new.pool ts)
-    (made.under_none c.args.names.now c.args.values.now c.args.pool.now c.args.id c.in_ok-under.under c.in_ok-under.ensures c.in-None.is c.as_slice.result.now c.as_slice.ensures) c.in_err-made-in-None.ensures.grows
+    (made.under_none c.args.names.now c.args.values.now c.args.pool.now c.args.id c.args.under.now c.requires.under c.in-None.is c.as_slice-places.result.now c.as_slice-places.ensures) c.put_all.ensures.grows
 
-pub put_below-returns-in-None-clause-places : goal.put_below-returns-in-None-clause-places
-put_below-returns-in-None-clause-places t c =
-    subst (λ (ts : List Proc). StandAt c.put_all.new.pool c.in_ok-made-in-None.made ts)
-    (made.under_none c.args.names.now c.args.values.now c.args.pool.now c.args.id c.in_ok-under.under c.in_ok-under.ensures c.in-None.is c.as_slice.result.now c.as_slice.ensures) c.in_ok-made-in-None.ensures.places
+pub put_under-returns-in-Some-clause-places : goal.put_under-returns-in-Some-clause-places
+put_under-returns-in-Some-clause-places t c =
+    subst (λ (ts : List Proc). IfOk c.put_anew.result (λ (ids : List ProcId). StandAt c.put_anew.new.pool ids ts))
+    (made.under_some c.args.names.now c.args.values.now c.args.pool.now c.args.id c.args.under.now c.requires.under c.in-Some.others c.in-Some.is c.as_slice-other_names.result.now c.as_slice-other_names.ensures c.as_slice-other_values.result.now c.as_slice-other_values.ensures c.as_slice-places.result.now c.as_slice-places.ensures) c.put_anew.ensures.places
 
-pub put_below-returns-in-None-clause-grows : goal.put_below-returns-in-None-clause-grows
-put_below-returns-in-None-clause-grows t c =
-    subst (λ (ts : List Proc). Grows c.args.pool.now c.put_all.new.pool ts)
-    (made.under_none c.args.names.now c.args.values.now c.args.pool.now c.args.id c.in_ok-under.under c.in_ok-under.ensures c.in-None.is c.as_slice.result.now c.as_slice.ensures) c.in_ok-made-in-None.ensures.grows
-
-pub put_below-returns-in_err-made-in-Some-clause-grows : goal.put_below-returns-in_err-made-in-Some-clause-grows
-put_below-returns-in_err-made-in-Some-clause-grows t c =
+pub put_under-returns-in-Some-clause-grows : goal.put_under-returns-in-Some-clause-grows
+put_under-returns-in-Some-clause-grows t c =
     subst (λ (ts : List Proc). Grows c.args.pool.now c.put_anew.new.pool ts)
-    (made.under_some c.args.names.now c.args.values.now c.args.pool.now c.args.id c.in_ok-under.under c.in_ok-under.ensures c.in-Some.others c.in-Some.is c.as_slice-other_names.result.now c.as_slice-other_names.ensures c.as_slice-other_values.result.now c.as_slice-other_values.ensures c.as_slice-places.result.now c.as_slice-places.ensures) c.in_err-made-in-Some.ensures.grows
+    (made.under_some c.args.names.now c.args.values.now c.args.pool.now c.args.id c.args.under.now c.requires.under c.in-Some.others c.in-Some.is c.as_slice-other_names.result.now c.as_slice-other_names.ensures c.as_slice-other_values.result.now c.as_slice-other_values.ensures c.as_slice-places.result.now c.as_slice-places.ensures) c.put_anew.ensures.grows
 
-pub put_below-returns-clause-places : goal.put_below-returns-clause-places
-put_below-returns-clause-places t c =
-    subst (λ (ts : List Proc). StandAt c.put_anew.new.pool c.in_ok-made-in-Some.made ts)
-    (made.under_some c.args.names.now c.args.values.now c.args.pool.now c.args.id c.in_ok-under.under c.in_ok-under.ensures c.in-Some.others c.in-Some.is c.as_slice-other_names.result.now c.as_slice-other_names.ensures c.as_slice-other_values.result.now c.as_slice-other_values.ensures c.as_slice-places.result.now c.as_slice-places.ensures) c.in_ok-made-in-Some.ensures.places
-
-pub put_below-returns-clause-grows : goal.put_below-returns-clause-grows
-put_below-returns-clause-grows t c =
-    subst (λ (ts : List Proc). Grows c.args.pool.now c.put_anew.new.pool ts)
-    (made.under_some c.args.names.now c.args.values.now c.args.pool.now c.args.id c.in_ok-under.under c.in_ok-under.ensures c.in-Some.others c.in-Some.is c.as_slice-other_names.result.now c.as_slice-other_names.ensures c.as_slice-other_values.result.now c.as_slice-other_values.ensures c.as_slice-places.result.now c.as_slice-places.ensures) c.in_ok-made-in-Some.ensures.grows
-
-pub put_below-returns-in_err-made-in-Some-clause-visited : goal.put_below-returns-in_err-made-in-Some-clause-visited
-put_below-returns-in_err-made-in-Some-clause-visited t c =
-    made.all_still_made c.args.names.now c.args.values.now c.args.pool.now c.put_anew.new.pool c.in_err-made-in-Some.ensures.grows.front c.args.visited.now c.requires.visited
-
-pub put_below-returns-clause-visited : goal.put_below-returns-clause-visited
-put_below-returns-clause-visited t c =
-    made.all_still_made c.args.names.now c.args.values.now c.args.pool.now c.put_anew.new.pool c.in_ok-made-in-Some.ensures.grows.front c.args.visited.now c.requires.visited
+pub put_under-returns-in-Some-clause-visited : goal.put_under-returns-in-Some-clause-visited
+put_under-returns-in-Some-clause-visited t c =
+    made.all_still_made c.args.names.now c.args.values.now c.args.pool.now c.put_anew.new.pool c.put_anew.ensures.grows.front c.args.visited.now c.requires.visited
 
 pub substitute_at-returns-then-stays-clause-process : goal.substitute_at-returns-then-stays-clause-process
 substitute_at-returns-then-stays-clause-process t c =

@@ -1,11 +1,17 @@
--- The node at a place stands for the process there.
-use Rattle.std.proofs.Common.{◌≡◌, ◌<◌, List, length, sym, subst}
+-- The node of the entry at a place stands for the process there.
+use Rattle.std.proofs.Common.{◌≡◌, ◌<◌, List, length, sym, ap, ◌∙◌, subst}
 use Rattle.csp_program.specs.declared.processes.Proc.{Proc}
-use Rattle.term_pool.specs.Trees.{tree_at, tree_of}
+use Rattle.term_pool.specs.Held.{processes}
+use Rattle.term_pool.specs.Trees.{layer_below, layer_tree, tree_at, tree_of}
 use Rattle.term_pool.proofs.pool.Pool.node.Goals as goal
 
-pub node_in-requires-clause-within : goal.node_in-requires-clause-within
-node_in-requires-clause-within c = subst (λ (ts : List Proc). c.args.id.0 < length ts) (sym c.self.view_is) c.requires
+pub entry_at-entry-requires-clause-within : goal.entry_at-entry-requires-clause-within
+entry_at-entry-requires-clause-within c = subst (λ (ts : List Proc). c.args.id.0 < length ts) (sym c.self.view_is) c.requires
 
 pub returns-clause-process : goal.returns-clause-process
-returns-clause-process c = subst (λ (ts : List Proc). tree_of ts c.node_in.result ≡ tree_at ts c.args.id) c.self.view_is c.node_in.ensures.process
+returns-clause-process c =
+    subst (λ (ts : List Proc). tree_of ts c.node_at.result ≡ tree_at ts c.args.id) c.self.view_is
+    (ap (layer_tree (processes c.self.inside.parts c.self.inside.entries)) c.node_at.ensures ∙ c.entry_at-entry.ensures.process)
+
+pub returns-clause-places : goal.returns-clause-places
+returns-clause-places c = ap (layer_below c.args.id.0) c.node_at.ensures ∙ c.entry_at-entry.ensures.below
