@@ -1,4 +1,4 @@
-use Rattle.std.proofs.Common.{◌≡◌, ◌+◌, ◌∷◌, Bool, cond, drop, false, ap, sym, arith}
+use Rattle.std.proofs.Common.{◌+◌, ◌∷◌, Bool, cond, drop, false, ap, sym, arith}
 use Rattle.substitution.specs.Parts.{field_after, fields_after}
 use Rattle.substitution.proofs.ListEquations.{next_made}
 use Rattle.substitution.proofs.fields.replace_fields.Goals as goal

@@ -1,4 +1,4 @@
-use Rattle.std.proofs.Common.{◌≡◌, ◌+◌, drop, false, true, refl, sym, subst, arith}
+use Rattle.std.proofs.Common.{◌≡◌, ◌+◌, drop, refl, sym, subst, arith}
 use Rattle.std.specs.Prelude.{IfOk, Bool}
 use Rattle.csp_program.specs.declared.processes.Proc.{Proc}
 use Rattle.substitution.specs.Parts.{proc_after, proc_below, procs_after}
