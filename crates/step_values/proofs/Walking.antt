@@ -5,7 +5,6 @@ use Rattle.std.specs.Result.{IsErrAnd}
 use Rattle.csp_program.specs.Outcome.{Outcome, and_then}
 use Rattle.csp_program.specs.Value.{Env, Turn, as_set, as_truth, turn, uses_within, walked}
 use Rattle.csp_atoms.specs.declared.atom.Atom.{Atom}
-use Rattle.csp_atoms.specs.declared.value.Value.{Value}
 use Rattle.csp_atoms.specs.declared.value.Value.TheVariants.{One}
 use Rattle.csp_program.specs.declared.expressions.EventPart.{EventPart}
 use Rattle.csp_program.specs.declared.expressions.Expr.{Expr}
@@ -54,6 +53,11 @@ value_of_tally {A = A} (Err y) f part whole is h passes = rw is (gone f h)
     gone fault.NoMemory k = tt
     gone (fault.Value kind) k = passes kind k
 
+-- two steps, and then a third
+one_then : {A B C : Type 0} (o : Outcome A) (f : A → Outcome B) (g : B → Outcome C) → and_then o (λ a. and_then (f a) g) ≡ and_then (and_then o f) g
+one_then (Ok a) f g = refl
+one_then (Err k) f g = refl
+
 module _ (p : Content) (pairs : List (EventPart × EventPart)) where
   pub walk_none : (gens : List Gen) (env : Env) (state : Gathering) → gens ≡ [] → renamed_walk p pairs gens env state ≡ binding_renamed p pairs env state
   unfolding renamed_walk
@@ -72,26 +76,17 @@ module _ (p : Content) (pairs : List (EventPart × EventPart)) where
   unfolding renamed_walk worth walk_turn
   walk-Cond c gens env state = ap (λ t. walk_turn t gens env state) (turn-Cond p (length p.defs) c)
 
-  module _ (first : Gen) (gens : List Gen) (env : Env) (state : Gathering) where
-    pub walk_from : (x : ℕ) (s : Expr) (o : Outcome Value) → first ≡ generator.From x s → worth p (length p.defs) env s ≡ o
-        → renamed_walk p pairs (first ∷ gens) env state ≡ and_then o (λ v. and_then (as_set v) (λ atoms. renamed_each p pairs x atoms gens env state))
-    walk_from x s o is came =
-        ap (λ g. renamed_walk p pairs (g ∷ gens) env state) is ∙
-        (walk-From x s gens env state ∙ ap (λ z. and_then z (λ v. and_then (as_set v) (λ atoms. renamed_each p pairs x atoms gens env state))) came)
+  pub walk_from : (x : ℕ) (s : Expr) (gens : List Gen) (env : Env) (state : Gathering) (o : Outcome (List Atom)) → and_then (worth p (length p.defs) env s) as_set ≡ o
+      → renamed_walk p pairs (generator.From x s ∷ gens) env state ≡ and_then o (λ atoms. renamed_each p pairs x atoms gens env state)
+  walk_from x s gens env state o came =
+      walk-From x s gens env state ∙
+      (one_then (worth p (length p.defs) env s) as_set (λ atoms. renamed_each p pairs x atoms gens env state) ∙ ap (λ z. and_then z (λ atoms. renamed_each p pairs x atoms gens env state)) came)
 
-    pub walk_from_set : (x : ℕ) (s : Expr) (v : Value) (o : Outcome (List Atom)) → first ≡ generator.From x s → worth p (length p.defs) env s ≡ Ok v → as_set v ≡ o
-        → renamed_walk p pairs (first ∷ gens) env state ≡ and_then o (λ atoms. renamed_each p pairs x atoms gens env state)
-    walk_from_set x s v o is came set = walk_from x s (Ok v) is came ∙ ap (λ z. and_then z (λ atoms. renamed_each p pairs x atoms gens env state)) set
-
-    pub walk_cond : (c : Expr) (o : Outcome Value) → first ≡ generator.Cond c → worth p (length p.defs) env c ≡ o
-        → renamed_walk p pairs (first ∷ gens) env state ≡ and_then o (λ v. and_then (as_truth v) (λ b. cond b (renamed_walk p pairs gens env state) (Ok state)))
-    walk_cond c o is came =
-        ap (λ g. renamed_walk p pairs (g ∷ gens) env state) is ∙
-        (walk-Cond c gens env state ∙ ap (λ z. and_then z (λ v. and_then (as_truth v) (λ b. cond b (renamed_walk p pairs gens env state) (Ok state)))) came)
-
-    pub walk_cond_truth : (c : Expr) (v : Value) (o : Outcome Bool) → first ≡ generator.Cond c → worth p (length p.defs) env c ≡ Ok v → as_truth v ≡ o
-        → renamed_walk p pairs (first ∷ gens) env state ≡ and_then o (λ b. cond b (renamed_walk p pairs gens env state) (Ok state))
-    walk_cond_truth c v o is came truth = walk_cond c (Ok v) is came ∙ ap (λ z. and_then z (λ b. cond b (renamed_walk p pairs gens env state) (Ok state))) truth
+  pub walk_cond : (c : Expr) (gens : List Gen) (env : Env) (state : Gathering) (o : Outcome Bool) → and_then (worth p (length p.defs) env c) as_truth ≡ o
+      → renamed_walk p pairs (generator.Cond c ∷ gens) env state ≡ and_then o (λ b. cond b (renamed_walk p pairs gens env state) (Ok state))
+  walk_cond c gens env state o came =
+      walk-Cond c gens env state ∙
+      (one_then (worth p (length p.defs) env c) as_truth (λ b. cond b (renamed_walk p pairs gens env state) (Ok state)) ∙ ap (λ z. and_then z (λ b. cond b (renamed_walk p pairs gens env state) (Ok state))) came)
 
   each_none : (x : ℕ) (gens : List Gen) (env : Env) (state : Gathering) → renamed_each p pairs x [] gens env state ≡ Ok state
   unfolding renamed_each

@@ -203,6 +203,5 @@ pub(crate) fn add_pair(
         given,
     };
     let events = events_from(program, first, count);
-    let made = add_events(alloc, program, &side, first, events, renamed)?;
-    Ok(made)
+    add_events(alloc, program, &side, first, events, renamed)
 }

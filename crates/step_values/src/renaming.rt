@@ -1,7 +1,9 @@
 //! The pairs of an old event and a new one that a renaming makes.
 
-ghost use Rattle.std.specs.Prelude.{◌≡◌, ◌∷◌, [], ◌++◌, Ok};
+ghost use Rattle.std.specs.Prelude.{◌≡◌, ◌∷◌, [], ◌++◌, length, Ok};
 ghost use Rattle.csp_program.specs.Outcome.{and_then};
+ghost use Rattle.csp_program.specs.Value.{as_set, as_truth};
+ghost use Rattle.csp_values.specs.Worth.{worth};
 ghost use Rattle.process_steps.specs.Renaming as meant;
 ghost use Rattle.value_operators.specs.Env.{with_bound};
 ghost use Rattle.value_operators.specs.Gives.{Gives};
@@ -9,9 +11,9 @@ ghost use Rattle.step_values.specs.Walked.{gathering_of, renamed_each, renamed_w
 
 use crate::renamed::add_pair;
 use containers::Items;
-use csp_atoms::Atom;
+use csp_atoms::{Atom, AtomSet};
 use csp_base::Event;
-use csp_program::{EventPart, Gen, Program, ValueKind};
+use csp_program::{EventPart, Expr, Gen, Program, ValueKind};
 use csp_values::{EvalFault, eval_under};
 use std::alloc::Global;
 use value_operators::names::with_name;
@@ -74,6 +76,26 @@ fn gather(scope: &Scope<'_>, bound: &[(u32, Atom)], tally: Tally) -> Result<Tall
     })
 }
 
+// The atoms of a set under a binding.
+fn set_under(scope: &Scope<'_>, bound: &[(u32, Atom)], set: &Expr) -> Result<AtomSet, EvalFault>
+    ensures { Gives result (and_then (worth scope.now.program.now (length scope.now.program.now.defs) (with_bound bound.now []) set.now) as_set) }
+{
+    let value = eval_under(scope.alloc, scope.program, bound, set)?;
+    to_set(value)
+}
+
+// Whether a condition holds under a binding.
+fn holds_under(
+    scope: &Scope<'_>,
+    bound: &[(u32, Atom)],
+    condition: &Expr,
+) -> Result<bool, EvalFault>
+    ensures { Gives result (and_then (worth scope.now.program.now (length scope.now.program.now.defs) (with_bound bound.now []) condition.now) as_truth) }
+{
+    let value = eval_under(scope.alloc, scope.program, bound, condition)?;
+    to_truth(&value)
+}
+
 // The bindings of generators, walked in nested loops.
 #[cycle(walk)]
 fn walk(
@@ -102,21 +124,43 @@ fn walk_first(
     ensures { GivesTally result (renamed_walk scope.now.program.now scope.now.pairs.now (first.now ∷ rest.now) (with_bound bound.now []) (gathering_of tally)) }
 {
     match first {
-        Gen::From(slot, set) => {
-            let value = eval_under(scope.alloc, scope.program, bound, set)?;
-            let atoms = to_set(value)?;
-            walk_each(scope, bound, *slot, atoms.as_slice(), rest, tally)
-        }
-        Gen::Cond(condition) => {
-            let value = eval_under(scope.alloc, scope.program, bound, condition)?;
-            let holds = to_truth(&value)?;
-            if holds {
-                walk(scope, bound, rest, tally)
-            } else {
-                Ok(tally)
-            }
-        }
+        Gen::From(slot, set) => walk_from(scope, bound, *slot, set, rest, tally),
+        Gen::Cond(condition) => walk_where(scope, bound, condition, rest, tally),
     }
+}
+
+// The same for a generator of the atoms of a set.
+#[cycle(walk)]
+fn walk_from(
+    scope: &Scope<'_>,
+    bound: &[(u32, Atom)],
+    slot: u32,
+    set: &Expr,
+    rest: &[Gen],
+    tally: Tally,
+) -> Result<Tally, EvalFault>
+    ensures { GivesTally result (renamed_walk scope.now.program.now scope.now.pairs.now (Gen.From slot set.now ∷ rest.now) (with_bound bound.now []) (gathering_of tally)) }
+{
+    let atoms = set_under(scope, bound, set)?;
+    walk_each(scope, bound, slot, atoms.as_slice(), rest, tally)
+}
+
+// The same for a condition.
+#[cycle(walk)]
+fn walk_where(
+    scope: &Scope<'_>,
+    bound: &[(u32, Atom)],
+    condition: &Expr,
+    rest: &[Gen],
+    tally: Tally,
+) -> Result<Tally, EvalFault>
+    ensures { GivesTally result (renamed_walk scope.now.program.now scope.now.pairs.now (Gen.Cond condition.now ∷ rest.now) (with_bound bound.now []) (gathering_of tally)) }
+{
+    let holds = holds_under(scope, bound, condition)?;
+    if holds {
+        return walk(scope, bound, rest, tally);
+    }
+    Ok(tally)
 }
 
 // The bindings of generators for each atom that a name takes, in rising order.

@@ -1,5 +1,6 @@
 -- Lists of parts with a value put in, in the two ways that they are written.
-use Rattle.std.proofs.Common.{◌≡◌, ℕ, Bool, true, false, cond, nat_eq, if◌then◌else◌, Some, None, List, [], ◌∷◌, map, ap, sym, ◌∙◌, refl}
+use Rattle.std.proofs.Common.{◌≡◌, ℕ, suc, ◌+◌, ◌<◌, Bool, true, false, cond, nat_eq, if◌then◌else◌, Some, None, Ok, Err, List, [], ◌∷◌, ◌++◌, map, length, get_or, drop, ap, sym, ◌∙◌, refl, add-one, append_assoc, drop-cons}
+use Rattle.std.specs.Prelude.{IfOk, Result}
 use Rattle.substitution.specs.Parts.{expr_after, gen_after, part_after, proc_after, exprs_after, gens_after, parts_after, pairs_after, fields_after, procs_after}
 use Rattle.csp_program.specs.Substitution.{expr_with, gen_with, part_with, pair_with, fields_with, proc_with, changed, kept, Twice, all_unless_bound, any_binds, binds, gens_with, gen_twice, pair_twice}
 use Rattle.csp_atoms.specs.declared.value.Value.{Value}
@@ -114,3 +115,29 @@ parts_bound x v (p ∷ ps) = λ i. p ∷ parts_bound x v ps i
 pub pairs_bound : (x : ℕ) (v : Value) (ps : List (EventPart × EventPart)) → pairs_after x v true ps ≡ ps
 pairs_bound x v [] = refl
 pairs_bound x v (p ∷ ps) = λ i. p ∷ pairs_bound x v ps i
+
+-- what was kept, where the name is bound
+module _ {E : Type 0} (x : ℕ) (v : Value) where
+  pub exprs_kept : (b : Bool) (es : List Expr) (r : Result (List Expr) E) → b ≡ true → IfOk r (λ made. made ≡ es) → IfOk r (λ made. made ≡ exprs_after x v b es)
+  exprs_kept b es (Ok made) e h = h ∙ (sym (exprs_bound x v es) ∙ ap (λ t. exprs_after x v t es) (sym e))
+  exprs_kept b es (Err f) e h = h
+
+  pub parts_kept : (b : Bool) (ps : List EventPart) (r : Result (List EventPart) E) → b ≡ true → IfOk r (λ made. made ≡ ps) → IfOk r (λ made. made ≡ parts_after x v b ps)
+  parts_kept b ps (Ok made) e h = h ∙ (sym (parts_bound x v ps) ∙ ap (λ t. parts_after x v t ps) (sym e))
+  parts_kept b ps (Err f) e h = h
+
+  pub pairs_kept : (b : Bool) (ps : List (EventPart × EventPart)) (r : Result (List (EventPart × EventPart)) E) → b ≡ true → IfOk r (λ made. made ≡ ps) → IfOk r (λ made. made ≡ pairs_after x v b ps)
+  pairs_kept b ps (Ok made) e h = h ∙ (sym (pairs_bound x v ps) ∙ ap (λ t. pairs_after x v t ps) (sym e))
+  pairs_kept b ps (Err f) e h = h
+
+-- one part more is made
+left_of : {A : Type 0} (xs : List A) (i : ℕ) (x : A) → i < length xs → x ≡ get_or xs i x → drop i xs ≡ x ∷ drop (i + 1) xs
+left_of xs i x lt is = rw (add-one i) (drop-cons xs i x lt ∙ ap (λ y. y ∷ drop (suc i) xs) (sym is))
+
+pub next_made : {A B : Type 0} (f : List A → List B) (xs : List A) (i : ℕ) (x : A) (y : B) (tail made more whole : List B) → i < length xs → x ≡ get_or xs i x → f (x ∷ drop (i + 1) xs) ≡ y ∷ tail
+    → made ++ f (drop i xs) ≡ whole → more ≡ made ++ y ∷ [] → more ++ tail ≡ whole
+next_made f xs i x y tail made more whole lt is step h grown =
+    ap (λ ys. ys ++ tail) grown ∙
+    (append_assoc made (y ∷ []) tail ∙
+    (ap (λ ys. made ++ ys) (sym step) ∙
+    (ap (λ rest. made ++ f rest) (sym (left_of xs i x lt is)) ∙ h)))

@@ -22,8 +22,7 @@ pub fn substitute_expr(
 ) -> Result<Expr, NoMemory>
     ensures { IfOk result (λ made. made ≡ expr_with name value.now expr.now) }
 {
-    let made = replace_expr(alloc, expr, name, value)?;
-    Ok(made)
+    replace_expr(alloc, expr, name, value)
 }
 
 /// The expressions with the value in place of the name in each of them.
@@ -35,8 +34,7 @@ pub fn substitute_exprs(
 ) -> Result<Items<Expr>, NoMemory>
     ensures { IfOk result (λ made. made ≡ map (expr_with name value.now) exprs.now) }
 {
-    let made = replace_exprs(alloc, false, exprs, name, value)?;
-    Ok(made)
+    replace_exprs(alloc, false, exprs, name, value)
 }
 
 /// The generators with the value in place of the name, up to the one that binds the name. Those after it stay as they are.
@@ -48,8 +46,7 @@ pub fn substitute_gens(
 ) -> Result<Items<Gen>, NoMemory>
     ensures { IfOk result (λ made. made ≡ gens_with name (map (gen_twice name value.now) gens.now)) }
 {
-    let made = replace_gens(alloc, gens, name, value)?;
-    Ok(made)
+    replace_gens(alloc, gens, name, value)
 }
 
 /// The fields of a prefix with the value in place of the name, up to the one that binds the name. Those after it stay as they are.
@@ -61,8 +58,7 @@ pub fn substitute_fields(
 ) -> Result<Items<Field>, NoMemory>
     ensures { IfOk result (λ made. made ≡ fields_with name value.now fields.now) }
 {
-    let made = replace_fields(alloc, fields, name, value)?;
-    Ok(made)
+    replace_fields(alloc, fields, name, value)
 }
 
 /// The pairs of a renaming with these generators, with the value in place of the name. They stay as they are where a generator binds the name.
@@ -76,8 +72,7 @@ pub fn substitute_pairs(
     ensures { IfOk result (λ made. made ≡ all_unless_bound (any_binds name gens.now) (map (pair_twice name value.now) pairs.now)) }
 {
     let bound = any_binds_name(gens, name);
-    let made = replace_pairs(alloc, bound, pairs, name, value)?;
-    Ok(made)
+    replace_pairs(alloc, bound, pairs, name, value)
 }
 
 /// The process with the value in place of the bound name with this number, wherever that name is free.
@@ -85,8 +80,7 @@ pub fn substitute_pairs(
 pub fn substitute(alloc: Global, process: &Proc, name: u32, value: &Value) -> Result<Proc, NoMemory>
     ensures { IfOk result (λ made. made ≡ proc_with name value.now process.now) }
 {
-    let made = replace_proc(alloc, process, name, value)?;
-    Ok(made)
+    replace_proc(alloc, process, name, value)
 }
 
 /// The network with the value in place of the bound name with this number, wherever that name is free.
@@ -94,6 +88,5 @@ pub fn substitute(alloc: Global, process: &Proc, name: u32, value: &Value) -> Re
 pub fn substitute_net(alloc: Global, net: &Net, name: u32, value: &Value) -> Result<Net, NoMemory>
     ensures { IfOk result (λ made. made ≡ net_with name value.now net.now) }
 {
-    let made = replace_net(alloc, net, name, value)?;
-    Ok(made)
+    replace_net(alloc, net, name, value)
 }

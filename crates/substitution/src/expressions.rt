@@ -4,9 +4,10 @@ ghost use Rattle.std.specs.Prelude.{◌≡◌, ◌||◌, false, nat_eq, if◌the
 ghost use Rattle.csp_program.specs.Substitution.{any_binds, binds};
 ghost use Rattle.substitution.specs.Parts.{expr_after, exprs_after, gen_after, gens_after, part_after, parts_after};
 
+use crate::made::{boxed, push_made};
 use containers::{Boxed, Items};
 use csp_base::{BinOp, NoMemory, SetOp};
-use csp_program::copies::{copy_expr, copy_gen, copy_part, copy_value};
+use csp_program::copies::{copy_exprs, copy_gen, copy_parts, copy_value};
 use csp_program::{EventPart, Expr, Gen, Value};
 use std::alloc::Global;
 
@@ -96,7 +97,7 @@ fn literal(alloc: Global, value: &Value) -> Result<Expr, NoMemory>
 fn negative(alloc: Global, a: &Boxed<Expr>, name: u32, value: &Value) -> Result<Expr, NoMemory>
     ensures { IfOk result (λ made. made ≡ Expr.Neg (expr_after name value.now a.now)) }
 {
-    let a = replace_boxed_expr(alloc, a.get(), name, value)?;
+    let a = replace_boxed_expr(alloc, a, name, value)?;
     Ok(Expr::Neg(a))
 }
 
@@ -105,7 +106,7 @@ fn negative(alloc: Global, a: &Boxed<Expr>, name: u32, value: &Value) -> Result<
 fn opposite(alloc: Global, a: &Boxed<Expr>, name: u32, value: &Value) -> Result<Expr, NoMemory>
     ensures { IfOk result (λ made. made ≡ Expr.Not (expr_after name value.now a.now)) }
 {
-    let a = replace_boxed_expr(alloc, a.get(), name, value)?;
+    let a = replace_boxed_expr(alloc, a, name, value)?;
     Ok(Expr::Not(a))
 }
 
@@ -121,8 +122,7 @@ fn binary(
 ) -> Result<Expr, NoMemory>
     ensures { IfOk result (λ made. made ≡ Expr.Binary op (expr_after name value.now a.now) (expr_after name value.now b.now)) }
 {
-    let a = replace_boxed_expr(alloc, a.get(), name, value)?;
-    let b = replace_boxed_expr(alloc, b.get(), name, value)?;
+    let (a, b) = replace_two(alloc, a, b, name, value)?;
     Ok(Expr::Binary(op, a, b))
 }
 
@@ -138,9 +138,8 @@ fn choice(
 ) -> Result<Expr, NoMemory>
     ensures { IfOk result (λ made. made ≡ Expr.If (expr_after name value.now c.now) (expr_after name value.now a.now) (expr_after name value.now b.now)) }
 {
-    let c = replace_boxed_expr(alloc, c.get(), name, value)?;
-    let a = replace_boxed_expr(alloc, a.get(), name, value)?;
-    let b = replace_boxed_expr(alloc, b.get(), name, value)?;
+    let c = replace_boxed_expr(alloc, c, name, value)?;
+    let (a, b) = replace_two(alloc, a, b, name, value)?;
     Ok(Expr::If(c, a, b))
 }
 
@@ -155,8 +154,7 @@ fn range(
 ) -> Result<Expr, NoMemory>
     ensures { IfOk result (λ made. made ≡ Expr.Range (expr_after name value.now a.now) (expr_after name value.now b.now)) }
 {
-    let a = replace_boxed_expr(alloc, a.get(), name, value)?;
-    let b = replace_boxed_expr(alloc, b.get(), name, value)?;
+    let (a, b) = replace_two(alloc, a, b, name, value)?;
     Ok(Expr::Range(a, b))
 }
 
@@ -172,8 +170,7 @@ fn set_operation(
 ) -> Result<Expr, NoMemory>
     ensures { IfOk result (λ made. made ≡ Expr.SetOp op (expr_after name value.now a.now) (expr_after name value.now b.now)) }
 {
-    let a = replace_boxed_expr(alloc, a.get(), name, value)?;
-    let b = replace_boxed_expr(alloc, b.get(), name, value)?;
+    let (a, b) = replace_two(alloc, a, b, name, value)?;
     Ok(Expr::SetOp(op, a, b))
 }
 
@@ -250,35 +247,33 @@ fn product(
     Ok(Expr::Product(parts, gens))
 }
 
-/// An expression on the heap.
+// An expression on the heap.
 #[cycle(replace_expr)]
-pub(crate) fn replace_boxed_expr(
+fn replace_boxed_expr(
     alloc: Global,
-    expr: &Expr,
+    expr: &Boxed<Expr>,
     name: u32,
     value: &Value,
 ) -> Result<Boxed<Expr>, NoMemory>
     ensures { IfOk result (λ made. made ≡ expr_after name value.now expr.now) }
 {
-    let made = replace_expr(alloc, expr, name, value)?;
-    Ok(Boxed::new(alloc, made)?)
+    boxed(alloc, replace_expr(alloc, expr.get(), name, value))
 }
 
-/// An expression, kept where the name is bound.
+// Two expressions on the heap.
 #[cycle(replace_expr)]
-pub(crate) fn replace_expr_unless(
+fn replace_two(
     alloc: Global,
-    bound: bool,
-    expr: &Expr,
+    a: &Boxed<Expr>,
+    b: &Boxed<Expr>,
     name: u32,
     value: &Value,
-) -> Result<Expr, NoMemory>
-    ensures { IfOk result (λ made. made ≡ (if bound then expr.now else expr_after name value.now expr.now)) }
+) -> Result<(Boxed<Expr>, Boxed<Expr>), NoMemory>
+    ensures { IfOk result (λ made. (made.0 ≡ expr_after name value.now a.now) × (made.1 ≡ expr_after name value.now b.now)) }
 {
-    if bound {
-        return Ok(copy_expr(alloc, expr)?);
-    }
-    Ok(replace_expr(alloc, expr, name, value)?)
+    let a = replace_boxed_expr(alloc, a, name, value)?;
+    let b = replace_boxed_expr(alloc, b, name, value)?;
+    Ok((a, b))
 }
 
 /// Expressions, kept where the name is bound.
@@ -292,9 +287,13 @@ pub(crate) fn replace_exprs(
 ) -> Result<Items<Expr>, NoMemory>
     ensures { IfOk result (λ made. made ≡ exprs_after name value.now bound exprs.now) }
 {
+    if bound {
+        return copy_exprs(alloc, exprs);
+    }
     let mut made = Items::new(alloc);
     for expr in exprs {
-        made.push(replace_expr_unless(alloc, bound, expr, name, value)?)?;
+        let item = replace_expr(alloc, expr, name, value);
+        push_made(&mut made, item)?;
     }
     Ok(made)
 }
@@ -322,9 +321,9 @@ fn replace_gen_unless(
     ensures { IfOk result (λ made. made ≡ (if bound then generator.now else gen_after name value.now generator.now)) }
 {
     if bound {
-        return Ok(copy_gen(alloc, generator)?);
+        return copy_gen(alloc, generator);
     }
-    Ok(replace_gen(alloc, generator, name, value)?)
+    replace_gen(alloc, generator, name, value)
 }
 
 /// Generators. Those after the one that binds the name are kept.
@@ -340,7 +339,8 @@ pub(crate) fn replace_gens(
     let mut made = Items::new(alloc);
     let mut bound = false;
     for generator in gens {
-        made.push(replace_gen_unless(alloc, bound, generator, name, value)?)?;
+        let item = replace_gen_unless(alloc, bound, generator, name, value);
+        push_made(&mut made, item)?;
         bound = still_bound(bound, generator, name);
     }
     Ok(made)
@@ -363,23 +363,6 @@ pub(crate) fn replace_part(
     })
 }
 
-// The front of an event, kept where the name is bound.
-#[cycle(replace_expr)]
-fn replace_part_unless(
-    alloc: Global,
-    bound: bool,
-    part: &EventPart,
-    name: u32,
-    value: &Value,
-) -> Result<EventPart, NoMemory>
-    ensures { IfOk result (λ made. made ≡ (if bound then part.now else part_after name value.now part.now)) }
-{
-    if bound {
-        return Ok(copy_part(alloc, part)?);
-    }
-    Ok(replace_part(alloc, part, name, value)?)
-}
-
 // The fronts of events, kept where the name is bound.
 #[cycle(replace_expr)]
 fn replace_parts(
@@ -391,9 +374,13 @@ fn replace_parts(
 ) -> Result<Items<EventPart>, NoMemory>
     ensures { IfOk result (λ made. made ≡ parts_after name value.now bound parts.now) }
 {
+    if bound {
+        return copy_parts(alloc, parts);
+    }
     let mut made = Items::new(alloc);
     for part in parts {
-        made.push(replace_part_unless(alloc, bound, part, name, value)?)?;
+        let item = replace_part(alloc, part, name, value);
+        push_made(&mut made, item)?;
     }
     Ok(made)
 }

@@ -6,9 +6,10 @@ ghost use Rattle.csp_program.specs.Substitution.{any_gets, head_with};
 ghost use Rattle.substitution.specs.Parts.{field_after, fields_after, gets, pair_after, pairs_after};
 
 use crate::expressions::{replace_expr, replace_part};
+use crate::made::push_made;
 use containers::Items;
 use csp_base::NoMemory;
-use csp_program::copies::{copy_field, copy_pair, copy_value};
+use csp_program::copies::{copy_field, copy_pairs, copy_value};
 use csp_program::{EventPart, Field, Head, Value};
 use std::alloc::Global;
 
@@ -89,9 +90,9 @@ fn replace_field_unless(
     ensures { IfOk result (λ made. made ≡ (if bound then field.now else field_after name value.now field.now)) }
 {
     if bound {
-        return Ok(copy_field(alloc, field)?);
+        return copy_field(alloc, field);
     }
-    Ok(replace_field(alloc, field, name, value)?)
+    replace_field(alloc, field, name, value)
 }
 
 /// Fields. Those after the one that binds the name are kept.
@@ -106,7 +107,8 @@ pub(crate) fn replace_fields(
     let mut made = Items::new(alloc);
     let mut bound = false;
     for field in fields {
-        made.push(replace_field_unless(alloc, bound, field, name, value)?)?;
+        let item = replace_field_unless(alloc, bound, field, name, value);
+        push_made(&mut made, item)?;
         bound = still_got(bound, field, name);
     }
     Ok(made)
@@ -125,22 +127,6 @@ fn replace_pair(
     Ok((old, new))
 }
 
-// A pair of a renaming, kept where the name is bound.
-fn replace_pair_unless(
-    alloc: Global,
-    bound: bool,
-    pair: &(EventPart, EventPart),
-    name: u32,
-    value: &Value,
-) -> Result<(EventPart, EventPart), NoMemory>
-    ensures { IfOk result (λ made. made ≡ (if bound then pair.now else pair_after name value.now pair.now)) }
-{
-    if bound {
-        return Ok(copy_pair(alloc, pair)?);
-    }
-    Ok(replace_pair(alloc, pair, name, value)?)
-}
-
 /// The pairs of a renaming, kept where the name is bound.
 pub(crate) fn replace_pairs(
     alloc: Global,
@@ -151,9 +137,13 @@ pub(crate) fn replace_pairs(
 ) -> Result<Items<(EventPart, EventPart)>, NoMemory>
     ensures { IfOk result (λ made. made ≡ pairs_after name value.now bound pairs.now) }
 {
+    if bound {
+        return copy_pairs(alloc, pairs);
+    }
     let mut made = Items::new(alloc);
     for pair in pairs {
-        made.push(replace_pair_unless(alloc, bound, pair, name, value)?)?;
+        let item = replace_pair(alloc, pair, name, value);
+        push_made(&mut made, item)?;
     }
     Ok(made)
 }

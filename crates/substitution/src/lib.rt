@@ -5,6 +5,7 @@ pub mod calls;
 mod expressions;
 mod fields;
 pub mod laws;
+mod made;
 mod networks;
 mod processes;
 

@@ -4,10 +4,12 @@ ghost use Rattle.std.specs.Prelude.{◌≡◌, false, if◌then◌else◌, nat_e
 ghost use Rattle.substitution.specs.Networks.{net_after, net_below};
 ghost use Rattle.substitution.specs.Parts.{expr_after, exprs_after, proc_after};
 
-use crate::expressions::{replace_boxed_expr, replace_expr, replace_expr_unless, replace_exprs};
+use crate::expressions::{replace_expr, replace_exprs};
+use crate::made::boxed;
 use crate::processes::replace_proc;
 use containers::{Boxed, Items};
 use csp_base::NoMemory;
+use csp_program::copies::copy_expr;
 use csp_program::net_copies::copy_net;
 use csp_program::{Expr, Net, Proc, Value};
 use std::alloc::Global;
@@ -65,8 +67,7 @@ fn choice(
 ) -> Result<Net, NoMemory>
     ensures { IfOk result (λ made. made ≡ Net.If (expr_after name value.now c.now) (net_below name value.now false left.now) (net_below name value.now false right.now)) }
 {
-    let left = replace_boxed_net(alloc, false, left.get(), name, value)?;
-    let right = replace_boxed_net(alloc, false, right.get(), name, value)?;
+    let (left, right) = replace_two(alloc, left, right, name, value)?;
     let c = replace_expr(alloc, c, name, value)?;
     Ok(Net::If(c, left, right))
 }
@@ -84,11 +85,16 @@ fn pair(
 ) -> Result<Net, NoMemory>
     ensures { IfOk result (λ made. made ≡ Net.Pair (net_below name value.now false left.now) (expr_after name value.now a.now) (expr_after name value.now b.now) (net_below name value.now false right.now)) }
 {
-    let left = replace_boxed_net(alloc, false, left.get(), name, value)?;
-    let right = replace_boxed_net(alloc, false, right.get(), name, value)?;
-    let a = replace_boxed_expr(alloc, a, name, value)?;
-    let b = replace_expr(alloc, b, name, value)?;
-    Ok(Net::Pair(left, a.into_inner(), b, right))
+    let (left, right) = replace_two(alloc, left, right, name, value)?;
+    let (a, b) = replace_exprs_beside(alloc, false, a, b, name, value)?;
+    Ok(pair_of(left, a, b, right))
+}
+
+// The same of what they became.
+fn pair_of(left: Boxed<Net>, a: Boxed<Expr>, b: Boxed<Expr>, right: Boxed<Net>) -> Net
+    ensures { result ≡ Net.Pair left a b right }
+{
+    Net::Pair(left, a.into_inner(), b.into_inner(), right)
 }
 
 // A network for each value of a set. The alphabet stands under the binding, and the set outside of it.
@@ -104,10 +110,64 @@ fn each(
 ) -> Result<Net, NoMemory>
     ensures { IfOk result (λ made. made ≡ Net.Each other (expr_after name value.now set.now) (if nat_eq other name then a.now else expr_after name value.now a.now) (net_below name value.now (nat_eq other name) net.now)) }
 {
-    let net = replace_boxed_net(alloc, other == name, net.get(), name, value)?;
-    let set = replace_boxed_expr(alloc, set, name, value)?;
-    let a = replace_expr_unless(alloc, other == name, a, name, value)?;
-    Ok(Net::Each(other, set.into_inner(), a, net))
+    let net = replace_boxed_net(alloc, other == name, net, name, value)?;
+    let (set, a) = replace_exprs_beside(alloc, other == name, set, a, name, value)?;
+    Ok(each_of(other, set, a, net))
+}
+
+// The same of what they became.
+fn each_of(other: u32, set: Boxed<Expr>, a: Boxed<Expr>, net: Boxed<Net>) -> Net
+    ensures { result ≡ Net.Each other set a net }
+{
+    Net::Each(other, set.into_inner(), a.into_inner(), net)
+}
+
+// An expression beside a network, on the heap, kept where the name is bound.
+fn replace_beside(
+    alloc: Global,
+    bound: bool,
+    expr: &Expr,
+    name: u32,
+    value: &Value,
+) -> Result<Boxed<Expr>, NoMemory>
+    ensures { IfOk result (λ made. made ≡ (if bound then expr.now else expr_after name value.now expr.now)) }
+{
+    if bound {
+        return boxed(alloc, copy_expr(alloc, expr));
+    }
+    boxed(alloc, replace_expr(alloc, expr, name, value))
+}
+
+// Two expressions beside a network, of which the second is kept where the name is bound.
+fn replace_exprs_beside(
+    alloc: Global,
+    bound: bool,
+    first: &Expr,
+    second: &Expr,
+    name: u32,
+    value: &Value,
+) -> Result<(Boxed<Expr>, Boxed<Expr>), NoMemory>
+    ensures { IfOk result (λ made. (made.0 ≡ expr_after name value.now first.now) × (made.1 ≡ (if bound then second.now else expr_after name value.now second.now))) }
+{
+    let first = replace_beside(alloc, false, first, name, value)?;
+    let second = replace_beside(alloc, bound, second, name, value)?;
+    Ok((first, second))
+}
+
+// Two networks on the heap.
+#[cycle(replace_net)]
+fn replace_two(
+    alloc: Global,
+    left: &Boxed<Net>,
+    right: &Boxed<Net>,
+    name: u32,
+    value: &Value,
+) -> Result<(Boxed<Net>, Boxed<Net>), NoMemory>
+    ensures { IfOk result (λ made. (made.0 ≡ net_below name value.now false left.now) × (made.1 ≡ net_below name value.now false right.now)) }
+{
+    let left = replace_boxed_net(alloc, false, left, name, value)?;
+    let right = replace_boxed_net(alloc, false, right, name, value)?;
+    Ok((left, right))
 }
 
 // A network on the heap, kept where the name is bound.
@@ -115,16 +175,14 @@ fn each(
 fn replace_boxed_net(
     alloc: Global,
     bound: bool,
-    net: &Net,
+    net: &Boxed<Net>,
     name: u32,
     value: &Value,
 ) -> Result<Boxed<Net>, NoMemory>
     ensures { IfOk result (λ made. made ≡ net_below name value.now bound net.now) }
 {
     if bound {
-        let copy = copy_net(alloc, net)?;
-        return Ok(Boxed::new(alloc, copy)?);
+        return boxed(alloc, copy_net(alloc, net.get()));
     }
-    let made = replace_net(alloc, net, name, value)?;
-    Ok(Boxed::new(alloc, made)?)
+    boxed(alloc, replace_net(alloc, net.get(), name, value))
 }

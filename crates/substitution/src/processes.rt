@@ -6,6 +6,7 @@ ghost use Rattle.substitution.specs.Parts.{expr_after, exprs_after, fields_after
 
 use crate::expressions::{any_binds_name, replace_expr, replace_exprs, replace_gens};
 use crate::fields::{any_gets_name, replace_fields, replace_pairs, substitute_head};
+use crate::made::{boxed, push_made};
 use containers::{Boxed, Items};
 use csp_base::NoMemory;
 use csp_program::proc_copies::copy_proc;
@@ -53,10 +54,24 @@ fn prefix(
     ensures { IfOk result (λ made. made ≡ Proc.Prefix (head_with name value.now head.now) (fields_after name value.now false fields.now) (proc_below name value.now (any_gets name fields.now) p.now)) }
 {
     let bound = any_gets_name(fields.as_slice(), name);
-    let p = replace_boxed_proc(alloc, bound, p.get(), name, value)?;
+    let p = replace_boxed_proc(alloc, bound, p, name, value)?;
+    let (head, fields) = replace_start(alloc, head, fields, name, value)?;
+    Ok(Proc::Prefix(head, fields, p))
+}
+
+// The head and the fields of a prefix.
+fn replace_start(
+    alloc: Global,
+    head: &Head,
+    fields: &Items<Field>,
+    name: u32,
+    value: &Value,
+) -> Result<(Head, Items<Field>), NoMemory>
+    ensures { IfOk result (λ made. (made.0 ≡ head_with name value.now head.now) × (made.1 ≡ fields_after name value.now false fields.now)) }
+{
     let fields = replace_fields(alloc, fields.as_slice(), name, value)?;
     let head = substitute_head(alloc, head, name, value)?;
-    Ok(Proc::Prefix(head, fields, p))
+    Ok((head, fields))
 }
 
 // A process under a condition.
@@ -70,7 +85,7 @@ fn guard(
 ) -> Result<Proc, NoMemory>
     ensures { IfOk result (λ made. made ≡ Proc.Guard (expr_after name value.now c.now) (proc_below name value.now false p.now)) }
 {
-    let p = replace_boxed_proc(alloc, false, p.get(), name, value)?;
+    let p = replace_boxed_proc(alloc, false, p, name, value)?;
     let c = replace_expr(alloc, c, name, value)?;
     Ok(Proc::Guard(c, p))
 }
@@ -87,8 +102,7 @@ fn choice(
 ) -> Result<Proc, NoMemory>
     ensures { IfOk result (λ made. made ≡ Proc.If (expr_after name value.now c.now) (proc_below name value.now false p.now) (proc_below name value.now false q.now)) }
 {
-    let p = replace_boxed_proc(alloc, false, p.get(), name, value)?;
-    let q = replace_boxed_proc(alloc, false, q.get(), name, value)?;
+    let (p, q) = replace_two(alloc, p, q, name, value)?;
     let c = replace_expr(alloc, c, name, value)?;
     Ok(Proc::If(c, p, q))
 }
@@ -123,7 +137,7 @@ fn each_external(
 ) -> Result<Proc, NoMemory>
     ensures { IfOk result (λ made. made ≡ Proc.EachExternal other (expr_after name value.now set.now) (proc_below name value.now (nat_eq other name) p.now)) }
 {
-    let p = replace_boxed_proc(alloc, other == name, p.get(), name, value)?;
+    let p = replace_boxed_proc(alloc, other == name, p, name, value)?;
     let set = replace_expr(alloc, set, name, value)?;
     Ok(Proc::EachExternal(other, set, p))
 }
@@ -140,7 +154,7 @@ fn each_internal(
 ) -> Result<Proc, NoMemory>
     ensures { IfOk result (λ made. made ≡ Proc.EachInternal other (expr_after name value.now set.now) (proc_below name value.now (nat_eq other name) p.now)) }
 {
-    let p = replace_boxed_proc(alloc, other == name, p.get(), name, value)?;
+    let p = replace_boxed_proc(alloc, other == name, p, name, value)?;
     let set = replace_expr(alloc, set, name, value)?;
     Ok(Proc::EachInternal(other, set, p))
 }
@@ -156,7 +170,7 @@ fn hiding(
 ) -> Result<Proc, NoMemory>
     ensures { IfOk result (λ made. made ≡ Proc.Hide (proc_below name value.now false p.now) (expr_after name value.now set.now)) }
 {
-    let p = replace_boxed_proc(alloc, false, p.get(), name, value)?;
+    let p = replace_boxed_proc(alloc, false, p, name, value)?;
     let set = replace_expr(alloc, set, name, value)?;
     Ok(Proc::Hide(p, set))
 }
@@ -173,11 +187,25 @@ fn renaming(
 ) -> Result<Proc, NoMemory>
     ensures { IfOk result (λ made. made ≡ Proc.Rename (proc_below name value.now false p.now) (pairs_after name value.now (any_binds name gens.now) pairs.now) (gens_after name value.now false gens.now)) }
 {
-    let p = replace_boxed_proc(alloc, false, p.get(), name, value)?;
+    let p = replace_boxed_proc(alloc, false, p, name, value)?;
+    let (pairs, gens) = replace_renaming(alloc, pairs, gens, name, value)?;
+    Ok(Proc::Rename(p, pairs, gens))
+}
+
+// The pairs and the generators of a renaming.
+fn replace_renaming(
+    alloc: Global,
+    pairs: &Items<(EventPart, EventPart)>,
+    gens: &Items<Gen>,
+    name: u32,
+    value: &Value,
+) -> Result<(Items<(EventPart, EventPart)>, Items<Gen>), NoMemory>
+    ensures { IfOk result (λ made. (made.0 ≡ pairs_after name value.now (any_binds name gens.now) pairs.now) × (made.1 ≡ gens_after name value.now false gens.now)) }
+{
     let bound = any_binds_name(gens.as_slice(), name);
     let pairs = replace_pairs(alloc, bound, pairs.as_slice(), name, value)?;
     let gens = replace_gens(alloc, gens.as_slice(), name, value)?;
-    Ok(Proc::Rename(p, pairs, gens))
+    Ok((pairs, gens))
 }
 
 // The use of a definition with arguments.
@@ -205,8 +233,7 @@ fn sequence(
 ) -> Result<Proc, NoMemory>
     ensures { IfOk result (λ made. made ≡ Proc.Seq (proc_below name value.now false p.now) (proc_below name value.now false q.now)) }
 {
-    let p = replace_boxed_proc(alloc, false, p.get(), name, value)?;
-    let q = replace_boxed_proc(alloc, false, q.get(), name, value)?;
+    let (p, q) = replace_two(alloc, p, q, name, value)?;
     Ok(Proc::Seq(p, q))
 }
 
@@ -215,18 +242,32 @@ fn sequence(
 fn replace_boxed_proc(
     alloc: Global,
     bound: bool,
-    proc: &Proc,
+    proc: &Boxed<Proc>,
     name: u32,
     value: &Value,
 ) -> Result<Boxed<Proc>, NoMemory>
     ensures { IfOk result (λ made. made ≡ proc_below name value.now bound proc.now) }
 {
     if bound {
-        let copy = copy_proc(alloc, proc)?;
-        return Ok(Boxed::new(alloc, copy)?);
+        return boxed(alloc, copy_proc(alloc, proc.get()));
     }
-    let made = replace_proc(alloc, proc, name, value)?;
-    Ok(Boxed::new(alloc, made)?)
+    boxed(alloc, replace_proc(alloc, proc.get(), name, value))
+}
+
+// Two processes on the heap.
+#[cycle(replace_proc)]
+fn replace_two(
+    alloc: Global,
+    p: &Boxed<Proc>,
+    q: &Boxed<Proc>,
+    name: u32,
+    value: &Value,
+) -> Result<(Boxed<Proc>, Boxed<Proc>), NoMemory>
+    ensures { IfOk result (λ made. (made.0 ≡ proc_below name value.now false p.now) × (made.1 ≡ proc_below name value.now false q.now)) }
+{
+    let p = replace_boxed_proc(alloc, false, p, name, value)?;
+    let q = replace_boxed_proc(alloc, false, q, name, value)?;
+    Ok((p, q))
 }
 
 #[cycle(replace_proc)]
@@ -240,7 +281,8 @@ fn replace_procs(
 {
     let mut made = Items::new(alloc);
     for proc in procs {
-        made.push(replace_proc(alloc, proc, name, value)?)?;
+        let item = replace_proc(alloc, proc, name, value);
+        push_made(&mut made, item)?;
     }
     Ok(made)
 }

@@ -1,6 +1,8 @@
-use Rattle.std.proofs.Common.{sym, ◌∙◌}
+use Rattle.std.proofs.Common.{◌≡◌, List, sym, subst}
+use Rattle.std.specs.Prelude.{IfOk}
+use Rattle.csp_program.specs.declared.expressions.Gen.{Gen}
 use Rattle.substitution.proofs.ListEquations.{gens_changed}
 use Rattle.substitution.proofs.calls.substitute_gens.Goals as goal
 
 pub returns : goal.returns
-returns c = c.in_ok-made.ensures ∙ sym (gens_changed c.args.name c.args.value.now c.args.gens.now)
+returns c = subst (λ (gs : List Gen). IfOk c.replace_gens.result (λ made. made ≡ gs)) (sym (gens_changed c.args.name c.args.value.now c.args.gens.now)) c.replace_gens.ensures

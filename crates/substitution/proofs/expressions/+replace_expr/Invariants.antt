@@ -7,7 +7,7 @@ use Rattle.substitution.proofs.expressions.+replace_expr.Given as goal
 
 -- what is made so far, followed by what is made of the rest, is what is made of all
 abbrev pub invariant-replace_exprs-loop-expr : goal.invariant-replace_exprs-loop-expr
-invariant-replace_exprs-loop-expr l = l.made ++ exprs_after l.name l.value l.bound (drop l.expr-index l.exprs) ≡ exprs_after l.name l.value l.bound l.exprs
+invariant-replace_exprs-loop-expr l = l.made ++ exprs_after l.name l.value false (drop l.expr-index l.exprs) ≡ exprs_after l.name l.value false l.exprs
 
 -- what is made so far, followed by what is made of the rest, is what is made of all
 abbrev pub invariant-replace_gens-loop-generator : goal.invariant-replace_gens-loop-generator
@@ -15,7 +15,7 @@ invariant-replace_gens-loop-generator l = l.made ++ gens_after l.name l.value l.
 
 -- what is made so far, followed by what is made of the rest, is what is made of all
 abbrev pub invariant-replace_parts-loop-part : goal.invariant-replace_parts-loop-part
-invariant-replace_parts-loop-part l = l.made ++ parts_after l.name l.value l.bound (drop l.part-index l.parts) ≡ parts_after l.name l.value l.bound l.parts
+invariant-replace_parts-loop-part l = l.made ++ parts_after l.name l.value false (drop l.part-index l.parts) ≡ parts_after l.name l.value false l.parts
 
 -- how deep what is left is, four for each level: what may be kept comes above what stands in it, a list above that, and a form above those
 abbrev pub decreases-replace_expr : goal.decreases-replace_expr
@@ -28,16 +28,10 @@ abbrev pub decreases-replace_part : goal.decreases-replace_part
 decreases-replace_part l = 4 * goal.size-replace_part l
 
 abbrev pub decreases-replace_boxed_expr : goal.decreases-replace_boxed_expr
-decreases-replace_boxed_expr l = 4 * goal.size-replace_boxed_expr l + 1
-
-abbrev pub decreases-replace_expr_unless : goal.decreases-replace_expr_unless
-decreases-replace_expr_unless l = 4 * goal.size-replace_expr_unless l + 1
+decreases-replace_boxed_expr l = 4 * the_size l.expr.now + 1
 
 abbrev pub decreases-replace_gen_unless : goal.decreases-replace_gen_unless
 decreases-replace_gen_unless l = 4 * goal.size-replace_gen_unless l + 1
-
-abbrev pub decreases-replace_part_unless : goal.decreases-replace_part_unless
-decreases-replace_part_unless l = 4 * goal.size-replace_part_unless l + 1
 
 abbrev pub decreases-replace_exprs : goal.decreases-replace_exprs
 decreases-replace_exprs l = 4 * goal.size-replace_exprs l + 2
@@ -47,6 +41,9 @@ decreases-replace_gens l = 4 * goal.size-replace_gens l + 2
 
 abbrev pub decreases-replace_parts : goal.decreases-replace_parts
 decreases-replace_parts l = 4 * goal.size-replace_parts l + 2
+
+abbrev pub decreases-replace_two : goal.decreases-replace_two
+decreases-replace_two l = 4 * (max (the_size l.a.now) (the_size l.b.now)) + 2
 
 abbrev pub decreases-negative : goal.decreases-negative
 decreases-negative l = 4 * (the_size l.a.now) + 3

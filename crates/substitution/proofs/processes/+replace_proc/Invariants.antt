@@ -7,42 +7,45 @@ use Rattle.substitution.proofs.processes.+replace_proc.Given as goal
 abbrev pub invariant-replace_procs-loop-proc : goal.invariant-replace_procs-loop-proc
 invariant-replace_procs-loop-proc l = l.made ++ procs_after l.name l.value (drop l.proc-index l.procs) ≡ procs_after l.name l.value l.procs
 
--- how deep what is left is, three for each level: a list or a process on the heap comes above what stands in it, and a form above those
+-- how deep what is left is, four for each level: a list or a process on the heap comes above what stands in it, two of them above one, and a form above those
 abbrev pub decreases-replace_proc : goal.decreases-replace_proc
-decreases-replace_proc l = 3 * the_size l.proc.now
+decreases-replace_proc l = 4 * the_size l.proc.now
 
 abbrev pub decreases-replace_boxed_proc : goal.decreases-replace_boxed_proc
-decreases-replace_boxed_proc l = 3 * the_size l.proc.now + 1
+decreases-replace_boxed_proc l = 4 * the_size l.proc.now + 1
 
 abbrev pub decreases-replace_procs : goal.decreases-replace_procs
-decreases-replace_procs l = 3 * goal.size-replace_procs l + 1
+decreases-replace_procs l = 4 * goal.size-replace_procs l + 1
 
 abbrev pub decreases-external : goal.decreases-external
-decreases-external l = 3 * goal.size-external l + 2
+decreases-external l = 4 * goal.size-external l + 3
 
 abbrev pub decreases-internal : goal.decreases-internal
-decreases-internal l = 3 * goal.size-internal l + 2
+decreases-internal l = 4 * goal.size-internal l + 3
 
 abbrev pub decreases-prefix : goal.decreases-prefix
-decreases-prefix l = 3 * the_size l.p.now + 2
+decreases-prefix l = 4 * the_size l.p.now + 3
 
 abbrev pub decreases-guard : goal.decreases-guard
-decreases-guard l = 3 * the_size l.p.now + 2
+decreases-guard l = 4 * the_size l.p.now + 3
 
 abbrev pub decreases-each_external : goal.decreases-each_external
-decreases-each_external l = 3 * the_size l.p.now + 2
+decreases-each_external l = 4 * the_size l.p.now + 3
 
 abbrev pub decreases-each_internal : goal.decreases-each_internal
-decreases-each_internal l = 3 * the_size l.p.now + 2
+decreases-each_internal l = 4 * the_size l.p.now + 3
 
 abbrev pub decreases-hiding : goal.decreases-hiding
-decreases-hiding l = 3 * the_size l.p.now + 2
+decreases-hiding l = 4 * the_size l.p.now + 3
 
 abbrev pub decreases-renaming : goal.decreases-renaming
-decreases-renaming l = 3 * the_size l.p.now + 2
+decreases-renaming l = 4 * the_size l.p.now + 3
 
 abbrev pub decreases-choice : goal.decreases-choice
-decreases-choice l = 3 * max (the_size l.p.now) (the_size l.q.now) + 2
+decreases-choice l = 4 * max (the_size l.p.now) (the_size l.q.now) + 3
 
 abbrev pub decreases-sequence : goal.decreases-sequence
-decreases-sequence l = 3 * max (the_size l.p.now) (the_size l.q.now) + 2
+decreases-sequence l = 4 * max (the_size l.p.now) (the_size l.q.now) + 3
+
+abbrev pub decreases-replace_two : goal.decreases-replace_two
+decreases-replace_two l = 4 * max (the_size l.p.now) (the_size l.q.now) + 2
