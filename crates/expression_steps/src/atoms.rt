@@ -155,11 +155,7 @@ pub fn atom<'t>(alloc: Global, limits: Limits, tokens: &'t [Token]) -> Result<St
 }
 
 // An atom with its closing bracket.
-pub(crate) fn closed<'t>(
-    symbol: Symbol,
-    part: Boxed<Tree>,
-    tokens: &'t [Token],
-) -> Result<Step<'t>, ReadFault>
+fn closed<'t>(symbol: Symbol, part: Boxed<Tree>, tokens: &'t [Token]) -> Result<Step<'t>, ReadFault>
     ensures moves { Gives result moved (end_atom symbol part tokens.now) }
     ensures falls { IfOk result (λ s. weight (moved s) < 32 * length tokens.now + 33) }
 {
@@ -181,8 +177,8 @@ pub(crate) fn closed_node<'t>(
     closed(symbol, part, tokens)
 }
 
-// The items with one more behind them.
-pub(crate) fn with_item(items: Items<Tree>, item: Boxed<Tree>) -> Result<Items<Tree>, NoMemory>
+/// The items with one more behind them.
+pub fn with_item(items: Items<Tree>, item: Boxed<Tree>) -> Result<Items<Tree>, NoMemory>
     ensures { IfOk result (λ r. r ≡ items ++ item ∷ []) }
 {
     let mut items = items;

@@ -7,6 +7,7 @@ ghost use Rattle.expression_steps.specs.Moved.{moved, weight};
 
 use containers::{Boxed, Items};
 use csp_text::{Symbol, Token, Tree};
+use expression_steps::atoms::with_item;
 use expression_steps::form::Form;
 use expression_steps::frame::{ChoiceFrame, Frame};
 use expression_steps::nesting::operand_limits;
@@ -191,8 +192,7 @@ fn choice_goes_on<'t>(
     ensures moves { Gives result moved (end_operand limits chain (before ++ part ∷ []) binding rest.now) }
     ensures falls { IfOk result (λ s. weight (moved s) < 32 * length rest.now + 34) }
 {
-    let mut operands = before;
-    operands.push(part.into_inner())?;
+    let operands = with_item(before, part)?;
     behind_operands(alloc, limits, chain, operands, binding, rest)
 }
 

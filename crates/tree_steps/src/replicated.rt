@@ -4,7 +4,7 @@ ghost use Rattle.std.specs.Prelude.{◌+◌, ◌*◌, ◌<◌, length, IfOk};
 ghost use Rattle.csp_grammar.specs.Reader.{and_then};
 ghost use Rattle.tree_reading.specs.Gives.{Gives};
 ghost use Rattle.tree_reading.specs.Nesting.{inside};
-ghost use Rattle.tree_steps.specs.Replicated.{end_choice, move_bracket, move_replicated, resume_alphabet, resume_range, resume_replicated};
+ghost use Rattle.tree_steps.specs.Replicated.{end_choice, move_alphabet, move_bracket, move_ranged, move_replicated, resume_alphabet, resume_range, resume_replicated};
 ghost use Rattle.expression_steps.specs.Moved.{moved, weight};
 
 use containers::Boxed;
@@ -20,6 +20,22 @@ use tree_reading::look::{Chain, expect, expect_name};
 use tree_reading::nodes::each;
 use tree_reading::read::Binding;
 
+// What stands behind the sign of a replicated form, within the form.
+fn name_begun<'t>(
+    alloc: Global,
+    limits: Limits,
+    replication: Replication,
+    tokens: &'t [Token],
+) -> Result<Step<'t>, ReadFault>
+    ensures moves { Gives result moved (move_replicated limits replication tokens.now) }
+    ensures falls { IfOk result (λ s. weight (moved s) < 32 * length tokens.now) }
+{
+    let (name, colon) = expect_name(alloc, tokens)?;
+    let behind = expect(colon, Symbol::Colon)?;
+    let frame = Frame::Replicated(ReplicatedFrame::Range(limits, replication, name));
+    Ok(inner(frame, Form::Atom, limits, behind))
+}
+
 // What stands behind the sign of a replicated form.
 pub(crate) fn replicated<'t>(
     alloc: Global,
@@ -31,10 +47,22 @@ pub(crate) fn replicated<'t>(
     ensures falls { IfOk result (λ s. weight (moved s) < 32 * length tokens.now) }
 {
     let inside = limits.inside(tokens)?;
-    let (name, colon) = expect_name(alloc, tokens)?;
-    let behind = expect(colon, Symbol::Colon)?;
-    let frame = Frame::Replicated(ReplicatedFrame::Range(inside, replication, name));
-    Ok(inner(frame, Form::Atom, inside, behind))
+    name_begun(alloc, inside, replication, tokens)
+}
+
+// What stands behind the bracket of the alphabet of a replicated parallel.
+fn alphabet_begun<'t>(
+    limits: Limits,
+    name: Name,
+    set: Boxed<Tree>,
+    tokens: &'t [Token],
+) -> Result<Step<'t>, ReadFault>
+    ensures moves { Gives result moved (move_alphabet limits name set tokens.now) }
+    ensures falls { IfOk result (λ s. weight (moved s) < 32 * length tokens.now + 34) }
+{
+    let alphabet = limits.bracketed(tokens)?;
+    let frame = Frame::Replicated(ReplicatedFrame::Alphabet(limits, name, set));
+    Ok(inner(frame, Form::Atom, alphabet, tokens))
 }
 
 // What stands behind the set of a replicated parallel and its `@`.
@@ -48,9 +76,27 @@ fn bracket_behind<'t>(
     ensures falls { IfOk result (λ s. weight (moved s) < 32 * length tokens.now + 34) }
 {
     let behind = expect(tokens, Symbol::OpenBracket)?;
-    let alphabet = limits.bracketed(behind)?;
-    let frame = Frame::Replicated(ReplicatedFrame::Alphabet(limits, name, set));
-    Ok(inner(frame, Form::Atom, alphabet, behind))
+    alphabet_begun(limits, name, set, behind)
+}
+
+// What stands behind the set of a replicated form and its `@`.
+fn ranged<'t>(
+    limits: Limits,
+    replication: Replication,
+    name: Name,
+    set: Boxed<Tree>,
+    tokens: &'t [Token],
+) -> Result<Step<'t>, ReadFault>
+    ensures moves { Gives result moved (move_ranged limits replication name set tokens.now) }
+    ensures falls { IfOk result (λ s. weight (moved s) < 32 * length tokens.now + 34) }
+{
+    match replication {
+        Replication::Choice(chain) => {
+            let frame = Frame::Replicated(ReplicatedFrame::Chosen(chain, name, set));
+            Ok(inner(frame, Form::Tree, limits, tokens))
+        }
+        Replication::Parallel => bracket_behind(limits, name, set, tokens),
+    }
 }
 
 // What stands behind the set that the name of a replicated form ranges over.
@@ -65,13 +111,7 @@ fn behind_range<'t>(
     ensures falls { IfOk result (λ s. weight (moved s) < 32 * length tokens.now + 34) }
 {
     let behind = expect(tokens, Symbol::At)?;
-    match replication {
-        Replication::Choice(chain) => {
-            let frame = Frame::Replicated(ReplicatedFrame::Chosen(chain, name, set));
-            Ok(inner(frame, Form::Tree, limits, behind))
-        }
-        Replication::Parallel => bracket_behind(limits, name, set, behind),
-    }
+    ranged(limits, replication, name, set, behind)
 }
 
 // A replicated choice with its process.
