@@ -1,10 +1,10 @@
 use Rattle.std.proofs.Common.{◌++◌, [], ◌∷◌, ap, sym, ◌∙◌, arith, append_assoc}
 use Rattle.std.specs.Prelude.{flat_map}
 use Rattle.csp_text.specs.declared.tree.FieldTree.TheVariants as field
-use Rattle.csp_text.specs.declared.tree.FieldTree.TheViews.{out-EventTree, out-PartTree}
+use Rattle.csp_text.specs.declared.tree.FieldTree.TheViews.{out-EventTree}
 use Rattle.csp_text.specs.declared.token.Token.TheVariants.{Name, Symbol, Word}
 use Rattle.csp_text.specs.declared.tree.Tree.TheVariants as tree
-use Rattle.csp_text.specs.declared.token.Symbol.TheVariants.{Arrow, ExternalChoice, InternalChoice, Parallel, OpenRename, CloseRename, OpenProduct, CloseProduct, LeftArrow, DotDot, Dot, Minus, Question, Colon, At, OpenParen, CloseParen, OpenBrace, CloseBrace, OpenBracket, CloseBracket, Comma, Ampersand, Bar, Backslash, Semicolon}
+use Rattle.csp_text.specs.declared.token.Symbol.TheVariants.{Arrow, ExternalChoice, InternalChoice, Parallel, OpenRename, CloseRename, OpenProduct, CloseProduct, LeftArrow, DotDot, Dot, Minus, Question, Colon, At, OpenParen, CloseParen, OpenBrace, CloseBrace, OpenBracket, CloseBracket, Comma, Bar}
 use Rattle.csp_text.specs.declared.token.Word.TheVariants as word
 use Rattle.script_printer.specs.TokenText.{spaced}
 use Rattle.script_printer.specs.PrintedTree.{bound_in, conditions, dotted, event_tokens, field_tokens, gen_tokens, item_tokens, operand_tokens, operator_token, part_tokens, printed_tokens, renamed_tokens, separated, set_op_token}
