@@ -1,17 +1,14 @@
 //! Events and what stands behind their arrows.
 
 ghost use Rattle.std.specs.Prelude.{◌≡◌, ◌+◌, ◌*◌, ◌<◌, length, IfOk};
-ghost use Rattle.csp_text.specs.declared.tree.Tree.TheVariants as tree;
-ghost use Rattle.csp_grammar.specs.Grammar.{event_tree};
 ghost use Rattle.tree_reading.specs.Gives.{Gives};
-ghost use Rattle.event_steps.specs.Events.{field_of, longer, may_dot_after, move_dot, move_event, move_fields, move_input, move_named_input, read_value, resume_event, resume_field};
-ghost use Rattle.event_steps.specs.Endings.{end_process};
+ghost use Rattle.event_steps.specs.Events.{longer, move_dot, move_event, move_fields, move_input, move_named_input, read_value, resume_event, resume_field};
 ghost use Rattle.expression_steps.specs.Moved.{moved, weight};
 
-use crate::ending::ending;
+use crate::ending::ended;
 use containers::{Boxed, Items};
 use csp_base::Name;
-use csp_text::{FieldTree, Symbol, Token, Tree};
+use csp_text::{EventTree, FieldTree, Symbol, Token, Tree};
 use expression_steps::form::Form;
 use expression_steps::frame::{EventFrame, FieldKind, Frame};
 use expression_steps::step::{Step, found, inner, next};
@@ -19,7 +16,7 @@ use std::alloc::Global;
 use tree_reading::fault::{ReadFault, expect_true};
 use tree_reading::limits::Limits;
 use tree_reading::look::{expect_name, skip};
-use tree_reading::nodes::{expect_dotted, prefixed};
+use tree_reading::nodes::expect_dotted;
 use tree_reading::read::Binding;
 
 // The rest of an event with one field more.
@@ -151,27 +148,6 @@ pub fn fields<'t>(
     event(alloc, limits, name, fields, tokens)
 }
 
-// The field of this kind with this tree.
-fn field_of(kind: FieldKind, tree: Tree) -> FieldTree
-    ensures { result ≡ field_of kind tree }
-{
-    match kind {
-        FieldKind::Dot => FieldTree::Dot(tree),
-        FieldKind::Output => FieldTree::Output(tree),
-        FieldKind::Input(name) => FieldTree::Input(name, Some(tree)),
-    }
-}
-
-// Whether a field with a dot may follow one of this kind.
-fn may_dot_after(kind: &FieldKind) -> bool
-    ensures { result ≡ may_dot_after kind.now }
-{
-    match kind {
-        FieldKind::Dot | FieldKind::Output => true,
-        FieldKind::Input(_) => false,
-    }
-}
-
 // What stands behind the tree of a field.
 fn behind_field<'t>(
     limits: Limits,
@@ -184,25 +160,21 @@ fn behind_field<'t>(
     ensures moves { Gives result moved (resume_field limits name before kind part rest.now) }
     ensures falls { IfOk result (λ s. weight (moved s) < 32 * length rest.now + 34) }
 {
-    let may_dot = may_dot_after(&kind);
-    let field = field_of(kind, part.into_inner());
-    longer(limits, name, before, field, may_dot, rest)
-}
-
-// A prefix with its process, which is bound like this.
-fn prefix_ended<'t>(
-    alloc: Global,
-    name: Name,
-    fields: Items<FieldTree>,
-    binding: Binding,
-    process: Boxed<Tree>,
-    rest: &'t [Token],
-) -> Result<Step<'t>, ReadFault>
-    ensures moves { Gives result moved (end_process (tree.Prefix (event_tree name fields) process) binding rest.now) }
-    ensures falls { IfOk result (λ s. weight (moved s) < 32 * length rest.now + 34) }
-{
-    let prefix = prefixed(alloc, name, fields, process)?;
-    ending(prefix, binding, rest)
+    let tree = part.into_inner();
+    match kind {
+        FieldKind::Dot => longer(limits, name, before, FieldTree::Dot(tree), true, rest),
+        FieldKind::Output => longer(limits, name, before, FieldTree::Output(tree), true, rest),
+        FieldKind::Input(input) => {
+            longer(
+                limits,
+                name,
+                before,
+                FieldTree::Input(input, Some(tree)),
+                false,
+                rest,
+            )
+        }
+    }
 }
 
 /// An event that waits, with the part that it waits for, which is bound like this. No memory and a text that is no event are faults.
@@ -221,7 +193,12 @@ pub fn resume_event<'t>(
             behind_field(limits, name, before, kind, part, rest)
         }
         EventFrame::Prefixed(name, fields) => {
-            prefix_ended(alloc, name, fields, binding, part, rest)
+            ended(
+                alloc,
+                Tree::Prefix(EventTree { name, fields }, part),
+                binding,
+                rest,
+            )
         }
     }
 }

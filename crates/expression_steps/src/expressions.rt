@@ -1,13 +1,9 @@
 //! Expressions: operators before and behind their operands.
 
 ghost use Rattle.std.specs.Prelude.{◌≡◌, ◌+◌, ◌*◌, ◌<◌, length, IfOk};
-ghost use Rattle.csp_text.specs.declared.tree.Tree.TheVariants as tree;
 ghost use Rattle.tree_reading.specs.Gives.{Gives};
-ghost use Rattle.tree_reading.specs.declared.read.Binding.TheVariants as bindings;
-ghost use Rattle.expression_steps.specs.declared.frame.Frame.TheVariants as frames;
 ghost use Rattle.expression_steps.specs.Expressions.{move_complement, move_expression, move_negative, move_operand, move_operator, move_operators, move_plain, move_renaming, move_sign, renaming_of, resume_expression};
 ghost use Rattle.expression_steps.specs.Moved.{moved, weight};
-ghost use Rattle.expression_steps.specs.Moved.Moved.{inner};
 
 use crate::form::{Form, PartOf, Renaming};
 use crate::frame::{ExpressionFrame, Frame};
@@ -21,15 +17,7 @@ use std::alloc::Global;
 use tree_reading::fault::ReadFault;
 use tree_reading::limits::Limits;
 use tree_reading::look::{Sign, sign_behind, skip, skip_word};
-use tree_reading::nodes::{binary, complement, negative};
 use tree_reading::read::Binding;
-
-// A part of an expression is to be read, while this waits.
-fn wait<'t>(frame: ExpressionFrame, form: Form, limits: Limits, tokens: &'t [Token]) -> Step<'t>
-    ensures { moved result ≡ inner (frames.Expression frame) form limits tokens.now }
-{
-    inner(Frame::Expression(frame), form, limits, tokens)
-}
 
 // What stands behind `not`.
 fn complement_behind<'t>(
@@ -42,8 +30,8 @@ fn complement_behind<'t>(
 {
     Binding::Complement.expect(level, tokens)?;
     let inside = limits.inside(tokens)?;
-    let frame = ExpressionFrame::Complement(limits, level);
-    Ok(wait(frame, Form::Expression(Binding::Complement), inside, tokens))
+    let frame = Frame::Expression(ExpressionFrame::Complement(limits, level));
+    Ok(inner(frame, Form::Expression(Binding::Complement), inside, tokens))
 }
 
 // What stands behind `-` before an operand.
@@ -57,8 +45,8 @@ fn negative_behind<'t>(
 {
     Binding::Negative.expect(level, tokens)?;
     let inside = limits.inside(tokens)?;
-    let frame = ExpressionFrame::Negative(limits, level);
-    Ok(wait(frame, Form::Expression(Binding::Negative), inside, tokens))
+    let frame = Frame::Expression(ExpressionFrame::Negative(limits, level));
+    Ok(inner(frame, Form::Expression(Binding::Negative), inside, tokens))
 }
 
 // What stands behind an operand and an operator.
@@ -74,9 +62,9 @@ fn operator_passed<'t>(
     ensures falls { IfOk result (λ s. weight (moved s) < 32 * length tokens.now + 34) }
 {
     let inside = limits.around(left.get(), tokens)?;
-    let frame = ExpressionFrame::Right(limits, level, op, binding, left);
+    let frame = Frame::Expression(ExpressionFrame::Right(limits, level, op, binding, left));
     let form = Form::Expression(binding.tighter());
-    Ok(wait(frame, form, inside, tokens))
+    Ok(inner(frame, form, inside, tokens))
 }
 
 // What stands behind an operand and the bracket of a renaming.
@@ -178,8 +166,8 @@ fn operand<'t>(
     match plain_operand(alloc, tokens)? {
         Some((part, rest)) => plain_passed(alloc, limits, level, part, rest),
         None => {
-            let frame = ExpressionFrame::First(limits, level);
-            Ok(wait(frame, Form::Atom, limits, tokens))
+            let frame = Frame::Expression(ExpressionFrame::First(limits, level));
+            Ok(inner(frame, Form::Atom, limits, tokens))
         }
     }
 }
@@ -203,51 +191,19 @@ pub fn expression<'t>(
     operand(alloc, limits, level, tokens)
 }
 
-// `not` with its operand, and the operators behind it.
-fn complement_ended<'t>(
+// A node that is bound like this, and the operators behind it.
+pub(crate) fn passed<'t>(
     alloc: Global,
     limits: Limits,
     level: Binding,
-    part: Boxed<Tree>,
-    rest: &'t [Token],
-) -> Result<Step<'t>, ReadFault>
-    ensures moves { Gives result moved (move_operators limits level bindings.Complement (tree.Not part) rest.now) }
-    ensures falls { IfOk result (λ s. weight (moved s) < 32 * length rest.now + 34) }
-{
-    let whole = complement(alloc, part)?;
-    operators(alloc, limits, level, Binding::Complement, whole, rest)
-}
-
-// `-` with its operand, and the operators behind it.
-fn negative_ended<'t>(
-    alloc: Global,
-    limits: Limits,
-    level: Binding,
-    part: Boxed<Tree>,
-    rest: &'t [Token],
-) -> Result<Step<'t>, ReadFault>
-    ensures moves { Gives result moved (move_operators limits level bindings.Negative (tree.Neg part) rest.now) }
-    ensures falls { IfOk result (λ s. weight (moved s) < 32 * length rest.now + 34) }
-{
-    let whole = negative(alloc, part)?;
-    operators(alloc, limits, level, Binding::Negative, whole, rest)
-}
-
-// An operator with its operands, and the operators behind it.
-fn operator_ended<'t>(
-    alloc: Global,
-    whole: (Limits, Binding),
-    op: BinOp,
     binding: Binding,
-    left: Boxed<Tree>,
-    right: Boxed<Tree>,
+    node: Tree,
     rest: &'t [Token],
 ) -> Result<Step<'t>, ReadFault>
-    ensures moves { Gives result moved (move_operators whole.0 whole.1 binding (tree.Binary op left right) rest.now) }
+    ensures moves { Gives result moved (move_operators limits level binding node rest.now) }
     ensures falls { IfOk result (λ s. weight (moved s) < 32 * length rest.now + 34) }
 {
-    let (limits, level) = whole;
-    let part = binary(alloc, op, left, right)?;
+    let part = Boxed::new(alloc, node)?;
     operators(alloc, limits, level, binding, part, rest)
 }
 
@@ -263,16 +219,19 @@ pub fn resume_expression<'t>(
 {
     match frame {
         ExpressionFrame::Complement(limits, level) => {
-            complement_ended(alloc, limits, level, part, rest)
+            let node = Tree::Not(part);
+            passed(alloc, limits, level, Binding::Complement, node, rest)
         }
         ExpressionFrame::Negative(limits, level) => {
-            negative_ended(alloc, limits, level, part, rest)
+            let node = Tree::Neg(part);
+            passed(alloc, limits, level, Binding::Negative, node, rest)
         }
         ExpressionFrame::First(limits, level) => {
             operators(alloc, limits, level, Binding::Atom, part, rest)
         }
         ExpressionFrame::Right(limits, level, op, binding, left) => {
-            operator_ended(alloc, (limits, level), op, binding, left, part, rest)
+            let node = Tree::Binary(op, left, part);
+            passed(alloc, limits, level, binding, node, rest)
         }
     }
 }

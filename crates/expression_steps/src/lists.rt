@@ -2,13 +2,11 @@
 
 ghost use Rattle.std.specs.Prelude.{◌≡◌, ◌+◌, ◌*◌, ◌<◌, length, IfOk, Some, [], ◌∷◌, ◌++◌};
 ghost use Rattle.tree_reading.specs.Gives.{Gives};
-ghost use Rattle.expression_steps.specs.declared.frame.Frame.TheVariants as frames;
-ghost use Rattle.expression_steps.specs.Lists.{close_renaming, end_comprehension, end_generators, end_item, end_old, end_pair, end_pairs, end_part, end_product, end_product_part, end_product_parts, end_renaming, move_condition, move_conditions, move_dots, move_generator, move_generators, move_part, move_source, resume_list, with_pair};
+ghost use Rattle.expression_steps.specs.Lists.{close_renaming, end_generators, end_item, end_old, end_pair, end_pairs, end_part, end_product_part, end_product_parts, end_renaming, move_condition, move_conditions, move_dots, move_generator, move_generators, move_part, move_source, resume_list, with_pair};
 ghost use Rattle.expression_steps.specs.Moved.{moved, weight};
-ghost use Rattle.expression_steps.specs.Moved.Moved.{inner};
 
-use crate::atoms::closed;
-use crate::expressions::operators;
+use crate::atoms::{closed_node, with_item};
+use crate::expressions::passed;
 use crate::form::{Form, GeneratorsOf, PartOf, Renaming};
 use crate::frame::{Frame, ListFrame};
 use crate::step::{Step, found, inner, next};
@@ -19,15 +17,8 @@ use std::alloc::Global;
 use tree_reading::fault::ReadFault;
 use tree_reading::limits::Limits;
 use tree_reading::look::{expect, expect_name, named, skip};
-use tree_reading::nodes::{comprehension, expect_fields, production, renamed};
+use tree_reading::nodes::expect_fields;
 use tree_reading::read::Binding;
-
-// A part of a list is to be read, while this waits.
-fn wait<'t>(frame: ListFrame, form: Form, limits: Limits, tokens: &'t [Token]) -> Step<'t>
-    ensures { moved result ≡ inner (frames.List frame) form limits tokens.now }
-{
-    inner(Frame::List(frame), form, limits, tokens)
-}
 
 // A renaming with all its generators, whose bracket is passed, and the operators behind it.
 fn renaming_ended<'t>(
@@ -45,36 +36,8 @@ fn renaming_ended<'t>(
         left,
         pairs,
     } = renaming.into_inner();
-    let whole = renamed(alloc, left, pairs, generators)?;
-    operators(alloc, limits, level, Binding::Renaming, whole, tokens)
-}
-
-// A comprehension with all its generators.
-fn comprehension_ended<'t>(
-    alloc: Global,
-    items: Items<Tree>,
-    generators: Items<GenTree>,
-    tokens: &'t [Token],
-) -> Result<Step<'t>, ReadFault>
-    ensures moves { Gives result moved (end_comprehension items generators tokens.now) }
-    ensures falls { IfOk result (λ s. weight (moved s) < 32 * length tokens.now + 33) }
-{
-    let part = comprehension(alloc, items, generators)?;
-    closed(Symbol::CloseBrace, part, tokens)
-}
-
-// A production with all its generators.
-fn product_ended<'t>(
-    alloc: Global,
-    parts: Items<PartTree>,
-    generators: Items<GenTree>,
-    tokens: &'t [Token],
-) -> Result<Step<'t>, ReadFault>
-    ensures moves { Gives result moved (end_product parts generators tokens.now) }
-    ensures falls { IfOk result (λ s. weight (moved s) < 32 * length tokens.now + 33) }
-{
-    let part = production(alloc, parts, generators)?;
-    closed(Symbol::CloseProduct, part, tokens)
+    let node = Tree::Rename(left, pairs, generators);
+    passed(alloc, limits, level, Binding::Renaming, node, tokens)
 }
 
 // A renaming with all its generators.
@@ -108,8 +71,22 @@ fn generators_ended<'t>(
     ensures falls { IfOk result (λ s. weight (moved s) < 32 * length tokens.now + 33) }
 {
     match of {
-        GeneratorsOf::Comprehension(items) => comprehension_ended(alloc, items, generators, tokens),
-        GeneratorsOf::Product(parts) => product_ended(alloc, parts, generators, tokens),
+        GeneratorsOf::Comprehension(items) => {
+            closed_node(
+                alloc,
+                Symbol::CloseBrace,
+                Tree::Comp(items, generators),
+                tokens,
+            )
+        }
+        GeneratorsOf::Product(parts) => {
+            closed_node(
+                alloc,
+                Symbol::CloseProduct,
+                Tree::Product(parts, generators),
+                tokens,
+            )
+        }
         GeneratorsOf::Renaming(renaming) => renaming_closed(alloc, renaming, generators, tokens),
     }
 }
@@ -140,13 +117,9 @@ fn condition<'t>(
 ) -> Step<'t>
     ensures { Some (moved result) ≡ move_condition limits of before tokens.now }
 {
-    let frame = ListFrame::Condition(limits, of, before);
-    wait(
-        frame,
-        Form::Expression(Binding::Disjunction),
-        limits,
-        tokens,
-    )
+    let frame = Frame::List(ListFrame::Condition(limits, of, before));
+    let form = Form::Expression(Binding::Disjunction);
+    inner(frame, form, limits, tokens)
 }
 
 // A generator of this name, whose arrow is passed, behind these generators.
@@ -163,8 +136,8 @@ fn source<'t>(
 {
     match name.try_clone(alloc) {
         Ok(name) => {
-            let frame = ListFrame::Source(limits, of, before, name);
-            Ok(wait(frame, Form::Atom, limits, tokens))
+            let frame = Frame::List(ListFrame::Source(limits, of, before, name));
+            Ok(inner(frame, Form::Atom, limits, tokens))
         }
         Err(_) => {
             drop(of);
@@ -303,6 +276,26 @@ fn item_ended<'t>(
     Ok(found(Binding::Dotted, event, tokens))
 }
 
+// The right side of a pair is to be read, behind its left side and the arrow.
+fn right_side<'t>(
+    limits: Limits,
+    renaming: Boxed<Renaming>,
+    old: Boxed<PartTree>,
+    tokens: &'t [Token],
+) -> Result<Step<'t>, ReadFault>
+    ensures moves { Gives result moved (end_old limits renaming old tokens.now) }
+    ensures falls { IfOk result (λ s. weight (moved s) < 32 * length tokens.now + 33) }
+{
+    match expect(tokens, Symbol::LeftArrow) {
+        Ok(behind) => Ok(next(Form::Part(PartOf::New(renaming, old)), limits, behind)),
+        Err(fault) => {
+            drop(renaming);
+            drop(old);
+            Err(fault)
+        }
+    }
+}
+
 // What stands behind the left side of a pair.
 fn behind_old<'t>(
     alloc: Global,
@@ -314,9 +307,13 @@ fn behind_old<'t>(
     ensures moves { Gives result moved (end_old limits renaming old tokens.now) }
     ensures falls { IfOk result (λ s. weight (moved s) < 32 * length tokens.now + 33) }
 {
-    let behind = expect(tokens, Symbol::LeftArrow)?;
-    let old = Boxed::new(alloc, old)?;
-    Ok(next(Form::Part(PartOf::New(renaming, old)), limits, behind))
+    match Boxed::new(alloc, old) {
+        Ok(old) => right_side(limits, renaming, old, tokens),
+        Err(_) => {
+            drop(renaming);
+            Err(ReadFault::NoMemory)
+        }
+    }
 }
 
 // What a part belongs to, with it.
@@ -367,8 +364,8 @@ fn dots<'t>(
     let Some(behind) = skip(tokens, Symbol::Dot) else {
         return part_ended(alloc, limits, of, name, fields, tokens);
     };
-    let frame = ListFrame::Dot(limits, of, name, fields);
-    Ok(wait(frame, Form::Expression(Binding::Sum), limits, behind))
+    let frame = Frame::List(ListFrame::Dot(limits, of, name, fields));
+    Ok(inner(frame, Form::Expression(Binding::Sum), limits, behind))
 }
 
 /// A name with fields that have a dot.
@@ -403,9 +400,8 @@ fn behind_dot<'t>(
     ensures moves { Gives result moved (move_dots limits of name (before ++ field ∷ []) rest.now) }
     ensures falls { IfOk result (λ s. weight (moved s) < 32 * length rest.now + 34) }
 {
-    let mut fields = before;
-    match fields.push(field.into_inner()) {
-        Ok(()) => dots(alloc, limits, of, name, fields, rest),
+    match with_item(before, field) {
+        Ok(fields) => dots(alloc, limits, of, name, fields, rest),
         Err(_) => {
             drop(of);
             Err(ReadFault::NoMemory)

@@ -67,20 +67,22 @@ fn push_all_plain<'t>(
     Ok(rest)
 }
 
-// The same where a tree may be deep enough for an item.
-pub(crate) fn push_plain_items<'t>(
+// These items with the plain ones at the front behind them, where a tree may be deep enough for an item; and what is left of the tokens.
+pub(crate) fn with_plain_items<'t>(
     alloc: Global,
     limits: Limits,
-    items: &mut Items<Tree>,
+    before: Items<Tree>,
     tokens: &'t [Token],
-) -> Result<&'t [Token], NoMemory>
-    ensures same { IfOk result (λ rest. plain_within limits.depth items.old tokens.now ≡ (items.new, rest.now)) }
-    ensures no_longer { IfOk result (λ rest. length rest.now ≤ length tokens.now) }
+) -> Result<(Items<Tree>, &'t [Token]), NoMemory>
+    ensures same { IfOk result (λ r. plain_within limits.depth before tokens.now ≡ (r.0, r.1.now)) }
+    ensures no_longer { IfOk result (λ r. length r.1.now ≤ length tokens.now) }
 {
+    let mut items = before;
     if limits.depth == 0 {
-        return Ok(tokens);
+        return Ok((items, tokens));
     }
-    push_all_plain(alloc, items, tokens)
+    let rest = push_all_plain(alloc, &mut items, tokens)?;
+    Ok((items, rest))
 }
 
 // The tree that the token is by itself, where it is a number or a name.

@@ -1,13 +1,16 @@
 //! One step of the reading.
 
-ghost use Rattle.std.specs.Prelude.{◌≡◌};
-ghost use Rattle.expression_steps.specs.Moved.{moved};
+ghost use Rattle.std.specs.Prelude.{◌≡◌, ◌+◌, ◌*◌, ◌<◌, length, IfOk, Some};
+ghost use Rattle.tree_reading.specs.Gives.{Gives};
+ghost use Rattle.expression_steps.specs.Moved.{moved, weight};
 ghost use Rattle.expression_steps.specs.Moved.Moved.{found, inner, next};
 
 use crate::form::Form;
 use crate::frame::Frame;
 use containers::Boxed;
 use csp_text::{Token, Tree};
+use std::alloc::Global;
+use tree_reading::fault::ReadFault;
 use tree_reading::limits::Limits;
 use tree_reading::read::{Binding, BoundRead};
 
@@ -42,6 +45,20 @@ pub fn found<'t>(binding: Binding, part: Boxed<Tree>, rest: &'t [Token]) -> Step
         part,
         rest,
     })
+}
+
+/// The same with a tree that is this node.
+pub fn found_node<'t>(
+    alloc: Global,
+    binding: Binding,
+    node: Tree,
+    rest: &'t [Token],
+) -> Result<Step<'t>, ReadFault>
+    ensures moves { Gives result moved (Some (found (binding, node, rest.now))) }
+    ensures falls { IfOk result (λ s. weight (moved s) < 32 * length rest.now + 33) }
+{
+    let part = Boxed::new(alloc, node)?;
+    Ok(found(binding, part, rest))
 }
 
 /// The form is to be read, while this waits.

@@ -415,7 +415,3 @@ part-is part =
     ∙ ap (λ l. Name (out-PartTree part).name ∷ l) (flat_map-map (λ x. Symbol Dot ∷ operand x) printed (out-PartTree part).fields)
 
 pub ruleset tree_shapes = (shape-Stop, shape-Skip, shape-Num, shape-True, shape-False, shape-Name, shape-Call, shape-Dot, shape-Neg, shape-Not, shape-Binary, shape-If, shape-Display, shape-Range, shape-Comp, shape-Product, shape-SetOp, shape-Prefix, shape-Guard, shape-External, shape-Internal, shape-EachExternal, shape-EachInternal, shape-Parallel, shape-EachParallel, shape-Seq, shape-Hide, shape-Rename)
-
-pub ruleset tree_tokens = (tokens-Stop, tokens-Skip, tokens-Num, tokens-True, tokens-False, tokens-Name, tokens-Call, tokens-Dot, tokens-Neg, tokens-Not, tokens-Binary, tokens-If, tokens-Display, tokens-Range, tokens-Comp, tokens-Product, tokens-SetOp, tokens-Prefix, tokens-Guard, tokens-External, tokens-Internal, tokens-EachExternal, tokens-EachInternal, tokens-Parallel, tokens-EachParallel, tokens-Seq, tokens-Hide, tokens-Rename)
-
-pub ruleset part_equations = (field-Dot, field-Output, field-Input, field-Input-from, gen-From, gen-Cond, event-is, part-is)

@@ -16,14 +16,9 @@ pub spaced_append : (a b : List Token) → spaced (a ++ b) ≡ spaced a ++ space
 unfolding spaced
 spaced_append a b = flat_map-append (λ t. 32 ∷ token_text t) a b
 
-pub spaced_cons : (t : Token) (ts : List Token) → spaced (t ∷ ts) ≡ spaced (t ∷ []) ++ spaced ts
-spaced_cons t ts = spaced_append (t ∷ []) ts
-
 pub spaced_none : spaced [] ≡ []
 unfolding spaced
 spaced_none = refl
-
-pub ruleset written = (spaced_append, spaced_cons, spaced_none)
 
 -- nothing more is written
 pub no_more : (start : List ℕ) → start ++ spaced [] ≡ start

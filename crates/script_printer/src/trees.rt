@@ -1,9 +1,9 @@
 //! Trees: each form written token by token, straight into the text.
-#![tactic(auto, using(crate::proofs::PrintedEquations::tree_tokens, crate::proofs::PrintedEquations::part_equations, crate::proofs::Written::written))]
 
 ghost use Rattle.std.specs.Prelude.{◌≡◌, ◌++◌, [], ◌∷◌, OnOk, flat_map};
 ghost use Rattle.csp_text.specs.declared.token.Token.TheVariants as token;
 ghost use Rattle.csp_text.specs.declared.token.Symbol.TheVariants.{At, Comma};
+ghost use Rattle.csp_text.specs.declared.tree.Tree.TheVariants as tree;
 ghost use Rattle.script_printer.specs.TokenText.{spaced};
 ghost use Rattle.script_printer.specs.PrintedTree.{bound_in, conditions, dotted, event_tokens, field_tokens, gen_tokens, in_parentheses, item_tokens, operand_tokens, part_tokens, printed_tokens, renamed_tokens, separated};
 
@@ -12,7 +12,8 @@ use crate::shapes::shape_of;
 use crate::tokens::{
     put_between, put_name, put_number, put_operator, put_set_op, put_symbol, put_word,
 };
-use csp_base::{Bytes, Name, NoMemory};
+use containers::{Boxed, Items};
+use csp_base::{BinOp, Bytes, Name, NoMemory, SetOp};
 use csp_text::{EventTree, FieldTree, GenTree, PartTree, Symbol, Tree, Word};
 
 // Adds a tree without parentheses.
@@ -27,111 +28,247 @@ pub(crate) fn put_tree(text: &mut Bytes, tree: &Tree) -> Result<(), NoMemory>
         Tree::True => put_word(text, Word::True),
         Tree::False => put_word(text, Word::False),
         Tree::Name(name) => put_name(text, name),
-        Tree::Call(name, items) => {
-            put_name(text, name)?;
-            put_symbol(text, Symbol::OpenParen)?;
-            put_items(text, items.as_slice())?;
-            put_symbol(text, Symbol::CloseParen)
-        }
-        Tree::Dot(name, fields) => {
-            put_name(text, name)?;
-            put_dotted(text, fields.as_slice())
-        }
+        Tree::Call(name, items) => put_call(text, name, items),
+        Tree::Dot(name, fields) => put_front(text, name, fields),
         Tree::Neg(a) => put_after(text, Symbol::Minus, a.get()),
-        Tree::Not(a) => {
-            put_word(text, Word::Not)?;
-            put_operand(text, a.get())
-        }
-        Tree::Binary(op, a, b) => {
-            put_operand(text, a.get())?;
-            put_operator(text, *op)?;
-            put_operand(text, b.get())
-        }
-        Tree::If(c, a, b) => {
-            put_word(text, Word::If)?;
-            put_operand(text, c.get())?;
-            put_word(text, Word::Then)?;
-            put_tree(text, a.get())?;
-            put_word(text, Word::Else)?;
-            put_tree(text, b.get())
-        }
-        Tree::Display(items) => {
-            put_symbol(text, Symbol::OpenBrace)?;
-            put_items(text, items.as_slice())?;
-            put_symbol(text, Symbol::CloseBrace)
-        }
-        Tree::Range(a, b) => {
-            put_after(text, Symbol::OpenBrace, a.get())?;
-            put_after(text, Symbol::DotDot, b.get())?;
-            put_symbol(text, Symbol::CloseBrace)
-        }
-        Tree::Comp(items, gens) => {
-            put_symbol(text, Symbol::OpenBrace)?;
-            put_items(text, items.as_slice())?;
-            put_symbol(text, Symbol::Bar)?;
-            put_gens(text, gens.as_slice())?;
-            put_symbol(text, Symbol::CloseBrace)
-        }
-        Tree::Product(parts, gens) => {
-            put_symbol(text, Symbol::OpenProduct)?;
-            put_parts(text, parts.as_slice())?;
-            put_conditions(text, gens.as_slice())?;
-            put_symbol(text, Symbol::CloseProduct)
-        }
-        Tree::SetOp(op, a, b) => {
-            put_set_op(text, *op)?;
-            put_symbol(text, Symbol::OpenParen)?;
-            put_item(text, a.get())?;
-            put_symbol(text, Symbol::Comma)?;
-            put_item(text, b.get())?;
-            put_symbol(text, Symbol::CloseParen)
-        }
-        Tree::Prefix(event, p) => {
-            put_event(text, event)?;
-            put_after(text, Symbol::Arrow, p.get())
-        }
-        Tree::Guard(condition, p) => {
-            put_operand(text, condition.get())?;
-            put_after(text, Symbol::Ampersand, p.get())
-        }
+        Tree::Not(a) => put_complement(text, a.get()),
+        Tree::Binary(op, a, b) => put_binary(text, a, *op, b),
+        Tree::If(condition, a, b) => put_conditional(text, condition, a, b),
+        Tree::Display(items) => put_enclosed(text, Symbol::OpenBrace, items, Symbol::CloseBrace),
+        Tree::Range(a, b) => put_range(text, a, b),
+        Tree::Comp(items, gens) => put_comprehension(text, items, gens),
+        Tree::Product(parts, gens) => put_production(text, parts, gens),
+        Tree::SetOp(op, a, b) => put_set_operation(text, *op, a, b),
+        Tree::Prefix(event, p) => put_prefix(text, event, p),
+        Tree::Guard(condition, p) => put_infix(text, condition, Symbol::Ampersand, p),
         Tree::External(ps) => put_operands(text, ps.as_slice(), Symbol::ExternalChoice),
         Tree::Internal(ps) => put_operands(text, ps.as_slice(), Symbol::InternalChoice),
-        Tree::EachExternal(name, s, p) => {
-            put_replicated(text, Symbol::ExternalChoice, name, s.get())?;
-            put_tree(text, p.get())
-        }
-        Tree::EachInternal(name, s, p) => {
-            put_replicated(text, Symbol::InternalChoice, name, s.get())?;
-            put_tree(text, p.get())
-        }
-        Tree::Parallel(p, a, b, q) => {
-            put_operand(text, p.get())?;
-            put_after(text, Symbol::OpenBracket, a.get())?;
-            put_after(text, Symbol::Parallel, b.get())?;
-            put_after(text, Symbol::CloseBracket, q.get())
-        }
-        Tree::EachParallel(name, s, a, p) => {
-            put_replicated(text, Symbol::Parallel, name, s.get())?;
-            put_after(text, Symbol::OpenBracket, a.get())?;
-            put_symbol(text, Symbol::CloseBracket)?;
-            put_tree(text, p.get())
-        }
-        Tree::Seq(p, q) => {
-            put_operand(text, p.get())?;
-            put_after(text, Symbol::Semicolon, q.get())
-        }
-        Tree::Hide(p, s) => {
-            put_operand(text, p.get())?;
-            put_after(text, Symbol::Backslash, s.get())
-        }
-        Tree::Rename(p, pairs, gens) => {
-            put_operand(text, p.get())?;
-            put_symbol(text, Symbol::OpenRename)?;
-            put_pairs(text, pairs.as_slice())?;
-            put_conditions(text, gens.as_slice())?;
-            put_symbol(text, Symbol::CloseRename)
-        }
+        Tree::EachExternal(name, s, p) => put_each(text, Symbol::ExternalChoice, name, s, p),
+        Tree::EachInternal(name, s, p) => put_each(text, Symbol::InternalChoice, name, s, p),
+        Tree::Parallel(p, a, b, q) => put_parallel(text, p, a, b, q),
+        Tree::EachParallel(name, s, a, p) => put_each_parallel(text, name, s, a, p),
+        Tree::Seq(p, q) => put_infix(text, p, Symbol::Semicolon, q),
+        Tree::Hide(p, s) => put_infix(text, p, Symbol::Backslash, s),
+        Tree::Rename(p, pairs, gens) => put_renaming(text, pairs, gens, p),
     }
+}
+
+// Adds a call.
+#[cycle(trees)]
+fn put_call(text: &mut Bytes, name: &Name, items: &Items<Tree>) -> Result<(), NoMemory>
+    ensures { OnOk result (text.new ≡ text.old ++ spaced (printed_tokens (tree.Call name.now items.now))) }
+{
+    put_name(text, name)?;
+    put_enclosed(text, Symbol::OpenParen, items, Symbol::CloseParen)
+}
+
+// Adds items with commas between them, in brackets.
+#[cycle(trees)]
+fn put_enclosed(
+    text: &mut Bytes,
+    opening: Symbol,
+    items: &Items<Tree>,
+    closing: Symbol,
+) -> Result<(), NoMemory>
+    ensures { OnOk result (text.new ≡ text.old ++ spaced (token.Symbol opening ∷ separated item_tokens (token.Symbol Comma) items.now ++ token.Symbol closing ∷ [])) }
+{
+    put_symbol(text, opening)?;
+    put_items(text, items.as_slice())?;
+    put_symbol(text, closing)
+}
+
+// Adds a name and fields with a dot before each.
+#[cycle(trees)]
+fn put_front(text: &mut Bytes, name: &Name, fields: &Items<Tree>) -> Result<(), NoMemory>
+    ensures { OnOk result (text.new ≡ text.old ++ spaced (token.Name name.now ∷ dotted operand_tokens fields.now)) }
+{
+    put_name(text, name)?;
+    put_dotted(text, fields.as_slice())
+}
+
+// Adds `not` and its operand.
+#[cycle(trees)]
+fn put_complement(text: &mut Bytes, a: &Tree) -> Result<(), NoMemory>
+    ensures { OnOk result (text.new ≡ text.old ++ spaced (printed_tokens (tree.Not a.now))) }
+{
+    put_word(text, Word::Not)?;
+    put_operand(text, a)
+}
+
+// Adds an operator between its operands.
+#[cycle(trees)]
+fn put_binary(text: &mut Bytes, a: &Boxed<Tree>, op: BinOp, b: &Boxed<Tree>) -> Result<(), NoMemory>
+    ensures { OnOk result (text.new ≡ text.old ++ spaced (printed_tokens (tree.Binary op a.now b.now))) }
+{
+    put_operand(text, a.get())?;
+    put_operator(text, op)?;
+    put_operand(text, b.get())
+}
+
+// Adds a sign between two operands.
+#[cycle(trees)]
+fn put_infix(
+    text: &mut Bytes,
+    a: &Boxed<Tree>,
+    sign: Symbol,
+    b: &Boxed<Tree>,
+) -> Result<(), NoMemory>
+    ensures { OnOk result (text.new ≡ text.old ++ spaced (operand_tokens a.now ++ token.Symbol sign ∷ operand_tokens b.now)) }
+{
+    put_operand(text, a.get())?;
+    put_after(text, sign, b.get())
+}
+
+// Adds an `if` with its condition and its parts.
+#[cycle(trees)]
+fn put_conditional(
+    text: &mut Bytes,
+    condition: &Boxed<Tree>,
+    a: &Boxed<Tree>,
+    b: &Boxed<Tree>,
+) -> Result<(), NoMemory>
+    ensures { OnOk result (text.new ≡ text.old ++ spaced (printed_tokens (tree.If condition.now a.now b.now))) }
+{
+    put_word(text, Word::If)?;
+    put_operand(text, condition.get())?;
+    put_word(text, Word::Then)?;
+    put_tree(text, a.get())?;
+    put_word(text, Word::Else)?;
+    put_tree(text, b.get())
+}
+
+// Adds a range.
+#[cycle(trees)]
+fn put_range(text: &mut Bytes, a: &Boxed<Tree>, b: &Boxed<Tree>) -> Result<(), NoMemory>
+    ensures { OnOk result (text.new ≡ text.old ++ spaced (printed_tokens (tree.Range a.now b.now))) }
+{
+    put_after(text, Symbol::OpenBrace, a.get())?;
+    put_after(text, Symbol::DotDot, b.get())?;
+    put_symbol(text, Symbol::CloseBrace)
+}
+
+// Adds a comprehension.
+#[cycle(trees)]
+fn put_comprehension(
+    text: &mut Bytes,
+    items: &Items<Tree>,
+    gens: &Items<GenTree>,
+) -> Result<(), NoMemory>
+    ensures { OnOk result (text.new ≡ text.old ++ spaced (printed_tokens (tree.Comp items.now gens.now))) }
+{
+    put_symbol(text, Symbol::OpenBrace)?;
+    put_items(text, items.as_slice())?;
+    put_symbol(text, Symbol::Bar)?;
+    put_gens(text, gens.as_slice())?;
+    put_symbol(text, Symbol::CloseBrace)
+}
+
+// Adds a production.
+#[cycle(trees)]
+fn put_production(
+    text: &mut Bytes,
+    parts: &Items<PartTree>,
+    gens: &Items<GenTree>,
+) -> Result<(), NoMemory>
+    ensures { OnOk result (text.new ≡ text.old ++ spaced (printed_tokens (tree.Product parts.now gens.now))) }
+{
+    put_symbol(text, Symbol::OpenProduct)?;
+    put_parts(text, parts.as_slice())?;
+    put_conditions(text, gens.as_slice())?;
+    put_symbol(text, Symbol::CloseProduct)
+}
+
+// Adds an operator on sets with its operands.
+#[cycle(trees)]
+fn put_set_operation(
+    text: &mut Bytes,
+    op: SetOp,
+    a: &Boxed<Tree>,
+    b: &Boxed<Tree>,
+) -> Result<(), NoMemory>
+    ensures { OnOk result (text.new ≡ text.old ++ spaced (printed_tokens (tree.SetOp op a.now b.now))) }
+{
+    put_set_op(text, op)?;
+    put_symbol(text, Symbol::OpenParen)?;
+    put_item(text, a.get())?;
+    put_symbol(text, Symbol::Comma)?;
+    put_item(text, b.get())?;
+    put_symbol(text, Symbol::CloseParen)
+}
+
+// Adds a prefix.
+#[cycle(trees)]
+fn put_prefix(text: &mut Bytes, event: &EventTree, p: &Boxed<Tree>) -> Result<(), NoMemory>
+    ensures { OnOk result (text.new ≡ text.old ++ spaced (printed_tokens (tree.Prefix event.now p.now))) }
+{
+    put_event(text, event)?;
+    put_after(text, Symbol::Arrow, p.get())
+}
+
+// Adds a replicated choice.
+#[cycle(trees)]
+fn put_each(
+    text: &mut Bytes,
+    sign: Symbol,
+    name: &Name,
+    s: &Boxed<Tree>,
+    p: &Boxed<Tree>,
+) -> Result<(), NoMemory>
+    ensures { OnOk result (text.new ≡ text.old ++ spaced (token.Symbol sign ∷ bound_in name.now (operand_tokens s.now) ++ token.Symbol At ∷ printed_tokens p.now)) }
+{
+    put_replicated(text, sign, name, s.get())?;
+    put_tree(text, p.get())
+}
+
+// Adds a parallel.
+#[cycle(trees)]
+fn put_parallel(
+    text: &mut Bytes,
+    p: &Boxed<Tree>,
+    a: &Boxed<Tree>,
+    b: &Boxed<Tree>,
+    q: &Boxed<Tree>,
+) -> Result<(), NoMemory>
+    ensures { OnOk result (text.new ≡ text.old ++ spaced (printed_tokens (tree.Parallel p.now a.now b.now q.now))) }
+{
+    put_operand(text, p.get())?;
+    put_after(text, Symbol::OpenBracket, a.get())?;
+    put_after(text, Symbol::Parallel, b.get())?;
+    put_after(text, Symbol::CloseBracket, q.get())
+}
+
+// Adds a replicated parallel.
+#[cycle(trees)]
+fn put_each_parallel(
+    text: &mut Bytes,
+    name: &Name,
+    s: &Boxed<Tree>,
+    a: &Boxed<Tree>,
+    p: &Boxed<Tree>,
+) -> Result<(), NoMemory>
+    ensures { OnOk result (text.new ≡ text.old ++ spaced (printed_tokens (tree.EachParallel name.now s.now a.now p.now))) }
+{
+    put_replicated(text, Symbol::Parallel, name, s.get())?;
+    put_after(text, Symbol::OpenBracket, a.get())?;
+    put_symbol(text, Symbol::CloseBracket)?;
+    put_tree(text, p.get())
+}
+
+// Adds a renaming.
+#[cycle(trees)]
+fn put_renaming(
+    text: &mut Bytes,
+    pairs: &Items<(PartTree, PartTree)>,
+    gens: &Items<GenTree>,
+    p: &Boxed<Tree>,
+) -> Result<(), NoMemory>
+    ensures { OnOk result (text.new ≡ text.old ++ spaced (printed_tokens (tree.Rename p.now pairs.now gens.now))) }
+{
+    put_operand(text, p.get())?;
+    put_symbol(text, Symbol::OpenRename)?;
+    put_pairs(text, pairs.as_slice())?;
+    put_conditions(text, gens.as_slice())?;
+    put_symbol(text, Symbol::CloseRename)
 }
 
 // Adds a tree in parentheses.
@@ -237,8 +374,7 @@ fn put_gen(text: &mut Bytes, generator: &GenTree) -> Result<(), NoMemory>
 fn put_part(text: &mut Bytes, part: &PartTree) -> Result<(), NoMemory>
     ensures { OnOk result (text.new ≡ text.old ++ spaced (part_tokens part.now)) }
 {
-    put_name(text, &part.name)?;
-    put_dotted(text, part.fields.as_slice())
+    put_front(text, &part.name, &part.fields)
 }
 
 // Adds generators behind a bar, or nothing where there are none.

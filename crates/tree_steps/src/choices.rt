@@ -1,14 +1,13 @@
 //! Choices and hidings.
 
-ghost use Rattle.std.specs.Prelude.{◌≡◌, ◌∷◌, ◌++◌, [], ◌+◌, ◌*◌, ◌<◌, length, IfOk};
+ghost use Rattle.std.specs.Prelude.{◌∷◌, ◌++◌, [], ◌+◌, ◌*◌, ◌<◌, length, IfOk};
 ghost use Rattle.tree_reading.specs.Gives.{Gives};
-ghost use Rattle.expression_steps.specs.declared.frame.Frame.TheVariants as frames;
 ghost use Rattle.tree_steps.specs.Processes.{begin_chain, end_choice, end_operand, move_chain, move_first_hiding, move_first_operand, move_hidden, move_hiding, move_operand, next_operand, resume_choice, resume_hidden};
 ghost use Rattle.expression_steps.specs.Moved.{moved, weight};
-ghost use Rattle.expression_steps.specs.Moved.Moved.{inner};
 
 use containers::{Boxed, Items};
 use csp_text::{Symbol, Token, Tree};
+use expression_steps::atoms::with_item;
 use expression_steps::form::Form;
 use expression_steps::frame::{ChoiceFrame, Frame};
 use expression_steps::nesting::operand_limits;
@@ -17,20 +16,8 @@ use std::alloc::Global;
 use tree_reading::fault::ReadFault;
 use tree_reading::limits::Limits;
 use tree_reading::look::{Chain, first_chain, skip};
-use tree_reading::nodes::{chosen, hidden};
+use tree_reading::nodes::chosen;
 use tree_reading::read::Binding;
-
-// A part of it is to be read, while this waits.
-pub(crate) fn wait<'t>(
-    frame: ChoiceFrame,
-    form: Form,
-    limits: Limits,
-    tokens: &'t [Token],
-) -> Step<'t>
-    ensures { moved result ≡ inner (frames.Choice frame) form limits tokens.now }
-{
-    inner(Frame::Choice(frame), form, limits, tokens)
-}
 
 // What stands behind a process and the sign of a choice, within the choice.
 fn choice_begun<'t>(
@@ -45,8 +32,8 @@ fn choice_begun<'t>(
 {
     let mut operands = Items::new(alloc);
     operands.push(first.into_inner())?;
-    let frame = ChoiceFrame::Operand(limits, chain, operands);
-    Ok(wait(frame, Form::Sequence, limits, tokens))
+    let frame = Frame::Choice(ChoiceFrame::Operand(limits, chain, operands));
+    Ok(inner(frame, Form::Sequence, limits, tokens))
 }
 
 // What stands behind a process and the sign of a choice.
@@ -75,8 +62,8 @@ fn hiding_behind<'t>(
     ensures falls { IfOk result (λ s. weight (moved s) < 32 * length tokens.now + 34) }
 {
     let inside = limits.around(process.get(), tokens)?;
-    let frame = ChoiceFrame::Hidden(limits, process);
-    Ok(wait(frame, Form::Atom, inside, tokens))
+    let frame = Frame::Choice(ChoiceFrame::Hidden(limits, process));
+    Ok(inner(frame, Form::Atom, inside, tokens))
 }
 
 // What stands behind a hiding.
@@ -105,7 +92,7 @@ fn behind_hidden<'t>(
     ensures moves { Gives result moved (resume_hidden limits process set rest.now) }
     ensures falls { IfOk result (λ s. weight (moved s) < 32 * length rest.now + 34) }
 {
-    let hiding = hidden(alloc, process, set)?;
+    let hiding = Boxed::new(alloc, Tree::Hide(process, set))?;
     behind_hiding(limits, hiding, rest)
 }
 
@@ -170,8 +157,8 @@ fn next_operand<'t>(
     ensures falls { IfOk result (λ s. weight (moved s) < 32 * length rest.now + 34) }
 {
     binding.expect(Binding::Closed, rest)?;
-    let frame = ChoiceFrame::Operand(limits, chain, operands);
-    Ok(wait(frame, Form::Sequence, limits, rest))
+    let frame = Frame::Choice(ChoiceFrame::Operand(limits, chain, operands));
+    Ok(inner(frame, Form::Sequence, limits, rest))
 }
 
 // What stands behind these operands of a choice, the last of which is bound like this.
@@ -205,8 +192,7 @@ fn choice_goes_on<'t>(
     ensures moves { Gives result moved (end_operand limits chain (before ++ part ∷ []) binding rest.now) }
     ensures falls { IfOk result (λ s. weight (moved s) < 32 * length rest.now + 34) }
 {
-    let mut operands = before;
-    operands.push(part.into_inner())?;
+    let operands = with_item(before, part)?;
     behind_operands(alloc, limits, chain, operands, binding, rest)
 }
 

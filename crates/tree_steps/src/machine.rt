@@ -1,15 +1,14 @@
 //! The reading step by step.
 
-ghost use Rattle.std.specs.Prelude.{◌≡◌, ◌+◌, ◌*◌, ◌<◌, length, IfOk};
+ghost use Rattle.std.specs.Prelude.{◌+◌, ◌*◌, ◌<◌, length, IfOk};
 ghost use Rattle.tree_reading.specs.declared.look.PrefixStart.TheVariants as openings;
-ghost use Rattle.expression_steps.specs.declared.form.Form.TheVariants as forms;
 ghost use Rattle.tree_reading.specs.Gives.{Gives};
 ghost use Rattle.tree_steps.specs.Machine.{begin, begin_event, begin_item, begin_opened, begin_prefix, resume};
 ghost use Rattle.expression_steps.specs.Moved.{moved, pending_weight, weight};
 
-use crate::choices::{self, resume_choice};
-use crate::parallels::{self, resume_parallel};
-use crate::processes::{self, resume_process};
+use crate::choices::resume_choice;
+use crate::parallels::resume_parallel;
+use crate::processes::resume_process;
 use crate::replicated::{replicated, resume_replicated};
 use containers::{Boxed, Items};
 use csp_text::{Token, Tree};
@@ -19,7 +18,7 @@ use expression_steps::expressions::{expression, resume_expression};
 use expression_steps::form::{Form, PartOf};
 use expression_steps::frame::{ChoiceFrame, Frame, ParallelFrame, ProcessFrame, Replication};
 use expression_steps::lists::{generators, part, resume_list};
-use expression_steps::step::{Step, next};
+use expression_steps::step::{Step, inner, next};
 use std::alloc::Global;
 use tree_reading::fault::ReadFault;
 use tree_reading::limits::Limits;
@@ -42,8 +41,9 @@ fn condition<'t>(limits: Limits, tokens: &'t [Token]) -> Result<Step<'t>, ReadFa
     ensures falls { IfOk result (λ s. weight (moved s) < 32 * length tokens.now + 7) }
 {
     let inside = limits.inside(tokens)?;
+    let frame = Frame::Process(ProcessFrame::Condition(inside));
     let condition = Form::Expression(Binding::Disjunction);
-    Ok(processes::wait(ProcessFrame::Condition(inside), condition, inside, tokens))
+    Ok(inner(frame, condition, inside, tokens))
 }
 
 // What stands behind that with which a process or an expression begins.
@@ -62,9 +62,9 @@ fn opened<'t>(
         PrefixStart::Each(chain) => replicated(alloc, limits, Replication::Choice(chain), tokens),
         PrefixStart::EachParallel => replicated(alloc, limits, Replication::Parallel, tokens),
         PrefixStart::Expression => {
-            let frame = ProcessFrame::Guard(limits);
+            let frame = Frame::Process(ProcessFrame::Guard(limits));
             let condition = Form::Expression(Binding::Disjunction);
-            Ok(processes::wait(frame, condition, limits, tokens))
+            Ok(inner(frame, condition, limits, tokens))
         }
     }
 }
@@ -90,40 +90,6 @@ fn item<'t>(alloc: Global, limits: Limits, tokens: &'t [Token]) -> Result<Step<'
     expression(alloc, limits, Binding::Disjunction, tokens)
 }
 
-// All of a tree.
-fn tree<'t>(limits: Limits, tokens: &'t [Token]) -> Result<Step<'t>, ReadFault>
-    ensures moves { Gives result moved (begin forms.Tree limits tokens.now) }
-    ensures falls { IfOk result (λ s. weight (moved s) < pending_weight forms.Tree tokens.now) }
-{
-    Ok(parallels::wait(ParallelFrame::LeftSide(limits), Form::Side, limits, tokens))
-}
-
-// A side.
-fn side<'t>(limits: Limits, tokens: &'t [Token]) -> Result<Step<'t>, ReadFault>
-    ensures moves { Gives result moved (begin forms.Side limits tokens.now) }
-    ensures falls { IfOk result (λ s. weight (moved s) < pending_weight forms.Side tokens.now) }
-{
-    Ok(choices::wait(
-        ChoiceFrame::FirstOperand(limits),
-        Form::Sequence,
-        limits,
-        tokens,
-    ))
-}
-
-// A sequence.
-fn sequence<'t>(limits: Limits, tokens: &'t [Token]) -> Result<Step<'t>, ReadFault>
-    ensures moves { Gives result moved (begin forms.Sequence limits tokens.now) }
-    ensures falls { IfOk result (λ s. weight (moved s) < pending_weight forms.Sequence tokens.now) }
-{
-    Ok(processes::wait(
-        ProcessFrame::FirstProcess(limits),
-        Form::Prefix,
-        limits,
-        tokens,
-    ))
-}
-
 /// The first step of what is to be read.
 pub fn begin<'t>(
     alloc: Global,
@@ -135,9 +101,18 @@ pub fn begin<'t>(
     ensures falls { IfOk result (λ s. weight (moved s) < pending_weight form tokens.now) }
 {
     match form {
-        Form::Tree => tree(limits, tokens),
-        Form::Side => side(limits, tokens),
-        Form::Sequence => sequence(limits, tokens),
+        Form::Tree => {
+            let frame = Frame::Parallel(ParallelFrame::LeftSide(limits));
+            Ok(inner(frame, Form::Side, limits, tokens))
+        }
+        Form::Side => {
+            let frame = Frame::Choice(ChoiceFrame::FirstOperand(limits));
+            Ok(inner(frame, Form::Sequence, limits, tokens))
+        }
+        Form::Sequence => {
+            let frame = Frame::Process(ProcessFrame::FirstProcess(limits));
+            Ok(inner(frame, Form::Prefix, limits, tokens))
+        }
         Form::Prefix => prefix(alloc, limits, tokens),
         Form::Expression(level) => expression(alloc, limits, level, tokens),
         Form::Atom => atom(alloc, limits, tokens),

@@ -1,36 +1,21 @@
 //! Parallels of two sides with their alphabets.
 
-ghost use Rattle.std.specs.Prelude.{◌≡◌, ◌+◌, ◌*◌, ◌<◌, length, IfOk};
+ghost use Rattle.std.specs.Prelude.{◌+◌, ◌*◌, ◌<◌, length, IfOk};
 ghost use Rattle.tree_reading.specs.Gives.{Gives};
-ghost use Rattle.expression_steps.specs.declared.frame.Frame.TheVariants as frames;
-ghost use Rattle.tree_steps.specs.Processes.{end_parallel, move_left_side, move_parallel, resume_left_alphabet, resume_parallel, resume_right_alphabet, resume_right_side};
+ghost use Rattle.tree_steps.specs.Processes.{move_left_side, move_parallel, resume_left_alphabet, resume_parallel, resume_right_alphabet, resume_right_side};
 ghost use Rattle.expression_steps.specs.Moved.{moved, weight};
-ghost use Rattle.expression_steps.specs.Moved.Moved.{inner};
 
 use containers::Boxed;
 use csp_text::{Symbol, Token, Tree};
 use expression_steps::form::Form;
 use expression_steps::frame::{Frame, ParallelFrame};
 use expression_steps::nesting::parallel_limits;
-use expression_steps::step::{Step, found, inner};
+use expression_steps::step::{Step, found, found_node, inner};
 use std::alloc::Global;
 use tree_reading::fault::ReadFault;
 use tree_reading::limits::Limits;
 use tree_reading::look::{expect, skip};
-use tree_reading::nodes::parallel;
 use tree_reading::read::Binding;
-
-// A part of it is to be read, while this waits.
-pub(crate) fn wait<'t>(
-    frame: ParallelFrame,
-    form: Form,
-    limits: Limits,
-    tokens: &'t [Token],
-) -> Step<'t>
-    ensures { moved result ≡ inner (frames.Parallel frame) form limits tokens.now }
-{
-    inner(Frame::Parallel(frame), form, limits, tokens)
-}
 
 // What stands behind the left side of a parallel and its `[`.
 fn parallel_behind<'t>(
@@ -43,8 +28,8 @@ fn parallel_behind<'t>(
     ensures falls { IfOk result (λ s. weight (moved s) < 32 * length tokens.now + 34) }
 {
     let (sides, alphabets) = parallel_limits(limits, binding, left.get(), tokens)?;
-    let frame = ParallelFrame::LeftAlphabet(sides, alphabets, left);
-    Ok(wait(frame, Form::Atom, alphabets, tokens))
+    let frame = Frame::Parallel(ParallelFrame::LeftAlphabet(sides, alphabets, left));
+    Ok(inner(frame, Form::Atom, alphabets, tokens))
 }
 
 // What stands behind the left side of a parallel, or all of a tree.
@@ -75,8 +60,8 @@ fn behind_left_alphabet<'t>(
     ensures falls { IfOk result (λ s. weight (moved s) < 32 * length rest.now + 34) }
 {
     let behind = expect(rest, Symbol::Parallel)?;
-    let frame = ParallelFrame::RightAlphabet(limits, left, alphabet);
-    Ok(wait(frame, Form::Atom, alphabets, behind))
+    let frame = Frame::Parallel(ParallelFrame::RightAlphabet(limits, left, alphabet));
+    Ok(inner(frame, Form::Atom, alphabets, behind))
 }
 
 // What stands behind the right alphabet of a parallel.
@@ -91,24 +76,8 @@ fn behind_right_alphabet<'t>(
     ensures falls { IfOk result (λ s. weight (moved s) < 32 * length rest.now + 34) }
 {
     let behind = expect(rest, Symbol::CloseBracket)?;
-    let frame = ParallelFrame::RightSide(left, a, b);
-    Ok(wait(frame, Form::Side, limits, behind))
-}
-
-// A parallel with its right side, which is bound like this.
-fn parallel_ended<'t>(
-    alloc: Global,
-    left: Boxed<Tree>,
-    a: Boxed<Tree>,
-    b: Boxed<Tree>,
-    right: Boxed<Tree>,
-    rest: &'t [Token],
-) -> Result<Step<'t>, ReadFault>
-    ensures moves { Gives result moved (end_parallel left a b right rest.now) }
-    ensures falls { IfOk result (λ s. weight (moved s) < 32 * length rest.now + 34) }
-{
-    let process = parallel(alloc, left, a, b, right)?;
-    Ok(found(Binding::Open, process, rest))
+    let frame = Frame::Parallel(ParallelFrame::RightSide(left, a, b));
+    Ok(inner(frame, Form::Side, limits, behind))
 }
 
 // A parallel with its right side, which is bound like this.
@@ -125,7 +94,12 @@ fn behind_right_side<'t>(
     ensures falls { IfOk result (λ s. weight (moved s) < 32 * length rest.now + 34) }
 {
     binding.expect(Binding::Open, rest)?;
-    parallel_ended(alloc, left, a, b, right, rest)
+    found_node(
+        alloc,
+        Binding::Open,
+        Tree::Parallel(left, a, b, right),
+        rest,
+    )
 }
 
 // A parallel that waits, with the part that it waits for, which is bound like this.

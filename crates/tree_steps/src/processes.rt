@@ -1,39 +1,22 @@
 //! Sequences, conditions and guards.
 
-ghost use Rattle.std.specs.Prelude.{◌≡◌, ◌+◌, ◌*◌, ◌<◌, length, IfOk};
-ghost use Rattle.csp_text.specs.declared.tree.Tree.TheVariants as tree;
+ghost use Rattle.std.specs.Prelude.{◌+◌, ◌*◌, ◌<◌, length, IfOk};
 ghost use Rattle.tree_reading.specs.Gives.{Gives};
-ghost use Rattle.expression_steps.specs.declared.frame.Frame.TheVariants as frames;
-ghost use Rattle.tree_steps.specs.Processes.{end_if, move_first_process, move_guard, move_guarded, move_sequence, resume_condition, resume_first_part, resume_process};
-ghost use Rattle.event_steps.specs.Endings.{end_process};
+ghost use Rattle.tree_steps.specs.Processes.{move_first_process, move_guard, move_guarded, move_sequence, resume_condition, resume_first_part, resume_process};
 ghost use Rattle.expression_steps.specs.Moved.{moved, weight};
-ghost use Rattle.expression_steps.specs.Moved.Moved.{inner};
 
 use containers::Boxed;
 use csp_text::{Symbol, Token, Tree, Word};
-use event_steps::ending::ending;
+use event_steps::ending::ended;
 use expression_steps::form::Form;
 use expression_steps::frame::{Frame, ProcessFrame};
 use expression_steps::nesting::operand_limits;
-use expression_steps::step::{Step, found, inner};
+use expression_steps::step::{Step, found, found_node, inner};
 use std::alloc::Global;
 use tree_reading::fault::ReadFault;
 use tree_reading::limits::Limits;
 use tree_reading::look::{expect_word, skip};
-use tree_reading::nodes::{conditional, guarded, sequential};
 use tree_reading::read::Binding;
-
-// A part of it is to be read, while this waits.
-pub(crate) fn wait<'t>(
-    frame: ProcessFrame,
-    form: Form,
-    limits: Limits,
-    tokens: &'t [Token],
-) -> Step<'t>
-    ensures { moved result ≡ inner (frames.Process frame) form limits tokens.now }
-{
-    inner(Frame::Process(frame), form, limits, tokens)
-}
 
 // What stands behind the first process of a sequence and its sign.
 fn sequence_behind<'t>(
@@ -46,8 +29,8 @@ fn sequence_behind<'t>(
     ensures falls { IfOk result (λ s. weight (moved s) < 32 * length tokens.now + 34) }
 {
     let inside = operand_limits(limits, binding, part.get(), tokens)?;
-    let frame = ProcessFrame::SecondProcess(part);
-    Ok(wait(frame, Form::Sequence, inside, tokens))
+    let frame = Frame::Process(ProcessFrame::SecondProcess(part));
+    Ok(inner(frame, Form::Sequence, inside, tokens))
 }
 
 // What stands behind the first process of a sequence, or all of it.
@@ -76,8 +59,8 @@ fn behind_condition<'t>(
     ensures falls { IfOk result (λ s. weight (moved s) < 32 * length rest.now + 34) }
 {
     let behind = expect_word(rest, Word::Then)?;
-    let frame = ProcessFrame::FirstPart(limits, condition);
-    Ok(wait(frame, Form::Tree, limits, behind))
+    let frame = Frame::Process(ProcessFrame::FirstPart(limits, condition));
+    Ok(inner(frame, Form::Tree, limits, behind))
 }
 
 // What stands behind the first part of an `if`.
@@ -91,23 +74,8 @@ fn behind_first_part<'t>(
     ensures falls { IfOk result (λ s. weight (moved s) < 32 * length rest.now + 34) }
 {
     let behind = expect_word(rest, Word::Else)?;
-    let frame = ProcessFrame::SecondPart(condition, first);
-    Ok(wait(frame, Form::Tree, limits, behind))
-}
-
-// An `if` with its parts.
-fn if_ended<'t>(
-    alloc: Global,
-    condition: Boxed<Tree>,
-    first: Boxed<Tree>,
-    second: Boxed<Tree>,
-    rest: &'t [Token],
-) -> Result<Step<'t>, ReadFault>
-    ensures moves { Gives result moved (end_if condition first second rest.now) }
-    ensures falls { IfOk result (λ s. weight (moved s) < 32 * length rest.now + 34) }
-{
-    let process = conditional(alloc, condition, first, second)?;
-    Ok(found(Binding::Open, process, rest))
+    let frame = Frame::Process(ProcessFrame::SecondPart(condition, first));
+    Ok(inner(frame, Form::Tree, limits, behind))
 }
 
 // What stands behind the condition of a guard and its sign.
@@ -120,8 +88,8 @@ fn guard_behind<'t>(
     ensures falls { IfOk result (λ s. weight (moved s) < 32 * length tokens.now + 34) }
 {
     let inside = limits.around(condition.get(), tokens)?;
-    let frame = ProcessFrame::Guarded(condition);
-    Ok(wait(frame, Form::Prefix, inside, tokens))
+    let frame = Frame::Process(ProcessFrame::Guarded(condition));
+    Ok(inner(frame, Form::Prefix, inside, tokens))
 }
 
 // What stands behind the condition of a guard, or all of an expression.
@@ -140,36 +108,6 @@ fn behind_guard<'t>(
     }
 }
 
-// A sequence with its second process, which is bound like this.
-fn sequence_ended<'t>(
-    alloc: Global,
-    first: Boxed<Tree>,
-    binding: Binding,
-    second: Boxed<Tree>,
-    rest: &'t [Token],
-) -> Result<Step<'t>, ReadFault>
-    ensures moves { Gives result moved (end_process (tree.Seq first second) binding rest.now) }
-    ensures falls { IfOk result (λ s. weight (moved s) < 32 * length rest.now + 34) }
-{
-    let process = sequential(alloc, first, second)?;
-    ending(process, binding, rest)
-}
-
-// A guard with what it guards, which is bound like this.
-fn guard_ended<'t>(
-    alloc: Global,
-    condition: Boxed<Tree>,
-    binding: Binding,
-    process: Boxed<Tree>,
-    rest: &'t [Token],
-) -> Result<Step<'t>, ReadFault>
-    ensures moves { Gives result moved (end_process (tree.Guard condition process) binding rest.now) }
-    ensures falls { IfOk result (λ s. weight (moved s) < 32 * length rest.now + 34) }
-{
-    let guard = guarded(alloc, condition, process)?;
-    ending(guard, binding, rest)
-}
-
 // A sequence, a condition or a guard that waits, with the part that it waits for, which is bound like this.
 pub(crate) fn resume_process<'t>(
     alloc: Global,
@@ -183,15 +121,17 @@ pub(crate) fn resume_process<'t>(
 {
     match frame {
         ProcessFrame::FirstProcess(limits) => behind_first_process(limits, binding, part, rest),
-        ProcessFrame::SecondProcess(first) => sequence_ended(alloc, first, binding, part, rest),
+        ProcessFrame::SecondProcess(first) => ended(alloc, Tree::Seq(first, part), binding, rest),
         ProcessFrame::Condition(limits) => behind_condition(limits, part, rest),
         ProcessFrame::FirstPart(limits, condition) => {
             behind_first_part(limits, condition, part, rest)
         }
         ProcessFrame::SecondPart(condition, first) => {
-            if_ended(alloc, condition, first, part, rest)
+            found_node(alloc, Binding::Open, Tree::If(condition, first, part), rest)
         }
         ProcessFrame::Guard(limits) => behind_guard(limits, binding, part, rest),
-        ProcessFrame::Guarded(condition) => guard_ended(alloc, condition, binding, part, rest),
+        ProcessFrame::Guarded(condition) => {
+            ended(alloc, Tree::Guard(condition, part), binding, rest)
+        }
     }
 }

@@ -1,32 +1,39 @@
 //! Replicated choices and parallels.
 
-ghost use Rattle.std.specs.Prelude.{◌≡◌, ◌+◌, ◌*◌, ◌<◌, length, IfOk};
+ghost use Rattle.std.specs.Prelude.{◌+◌, ◌*◌, ◌<◌, length, IfOk};
 ghost use Rattle.csp_grammar.specs.Reader.{and_then};
 ghost use Rattle.tree_reading.specs.Gives.{Gives};
 ghost use Rattle.tree_reading.specs.Nesting.{inside};
-ghost use Rattle.expression_steps.specs.declared.frame.Frame.TheVariants as frames;
-ghost use Rattle.tree_steps.specs.Replicated.{end_choice, end_parallel, move_alphabet, move_bracket, move_ranged, move_replicated, resume_alphabet, resume_range, resume_replicated};
+ghost use Rattle.tree_steps.specs.Replicated.{end_choice, move_alphabet, move_bracket, move_ranged, move_replicated, resume_alphabet, resume_range, resume_replicated};
 ghost use Rattle.expression_steps.specs.Moved.{moved, weight};
-ghost use Rattle.expression_steps.specs.Moved.Moved.{inner};
 
 use containers::Boxed;
 use csp_base::Name;
 use csp_text::{Symbol, Token, Tree};
 use expression_steps::form::Form;
 use expression_steps::frame::{Frame, ReplicatedFrame, Replication};
-use expression_steps::step::{Step, found, inner};
+use expression_steps::step::{Step, found, found_node, inner};
 use std::alloc::Global;
 use tree_reading::fault::ReadFault;
 use tree_reading::limits::Limits;
 use tree_reading::look::{Chain, expect, expect_name};
-use tree_reading::nodes::{each, each_parallel};
+use tree_reading::nodes::each;
 use tree_reading::read::Binding;
 
-// A part of a replicated form is to be read, while this waits.
-fn wait<'t>(frame: ReplicatedFrame, form: Form, limits: Limits, tokens: &'t [Token]) -> Step<'t>
-    ensures { moved result ≡ inner (frames.Replicated frame) form limits tokens.now }
+// What stands behind the sign of a replicated form, within the form.
+fn name_begun<'t>(
+    alloc: Global,
+    limits: Limits,
+    replication: Replication,
+    tokens: &'t [Token],
+) -> Result<Step<'t>, ReadFault>
+    ensures moves { Gives result moved (move_replicated limits replication tokens.now) }
+    ensures falls { IfOk result (λ s. weight (moved s) < 32 * length tokens.now) }
 {
-    inner(Frame::Replicated(frame), form, limits, tokens)
+    let (name, colon) = expect_name(alloc, tokens)?;
+    let behind = expect(colon, Symbol::Colon)?;
+    let frame = Frame::Replicated(ReplicatedFrame::Range(limits, replication, name));
+    Ok(inner(frame, Form::Atom, limits, behind))
 }
 
 // What stands behind the sign of a replicated form.
@@ -40,10 +47,7 @@ pub(crate) fn replicated<'t>(
     ensures falls { IfOk result (λ s. weight (moved s) < 32 * length tokens.now) }
 {
     let inside = limits.inside(tokens)?;
-    let (name, colon) = expect_name(alloc, tokens)?;
-    let behind = expect(colon, Symbol::Colon)?;
-    let frame = ReplicatedFrame::Range(inside, replication, name);
-    Ok(wait(frame, Form::Atom, inside, behind))
+    name_begun(alloc, inside, replication, tokens)
 }
 
 // What stands behind the bracket of the alphabet of a replicated parallel.
@@ -57,8 +61,8 @@ fn alphabet_begun<'t>(
     ensures falls { IfOk result (λ s. weight (moved s) < 32 * length tokens.now + 34) }
 {
     let alphabet = limits.bracketed(tokens)?;
-    let frame = ReplicatedFrame::Alphabet(limits, name, set);
-    Ok(wait(frame, Form::Atom, alphabet, tokens))
+    let frame = Frame::Replicated(ReplicatedFrame::Alphabet(limits, name, set));
+    Ok(inner(frame, Form::Atom, alphabet, tokens))
 }
 
 // What stands behind the set of a replicated parallel and its `@`.
@@ -88,8 +92,8 @@ fn ranged<'t>(
 {
     match replication {
         Replication::Choice(chain) => {
-            let frame = ReplicatedFrame::Chosen(chain, name, set);
-            Ok(wait(frame, Form::Tree, limits, tokens))
+            let frame = Frame::Replicated(ReplicatedFrame::Chosen(chain, name, set));
+            Ok(inner(frame, Form::Tree, limits, tokens))
         }
         Replication::Parallel => bracket_behind(limits, name, set, tokens),
     }
@@ -138,24 +142,8 @@ fn behind_alphabet<'t>(
     ensures falls { IfOk result (λ s. weight (moved s) < 32 * length tokens.now + 34) }
 {
     let behind = expect(tokens, Symbol::CloseBracket)?;
-    let frame = ReplicatedFrame::Parallel(name, set, alphabet);
-    Ok(wait(frame, Form::Tree, limits, behind))
-}
-
-// A replicated parallel with its process.
-fn parallel_ended<'t>(
-    alloc: Global,
-    name: Name,
-    set: Boxed<Tree>,
-    alphabet: Boxed<Tree>,
-    process: Boxed<Tree>,
-    rest: &'t [Token],
-) -> Result<Step<'t>, ReadFault>
-    ensures moves { Gives result moved (end_parallel name set alphabet process rest.now) }
-    ensures falls { IfOk result (λ s. weight (moved s) < 32 * length rest.now + 34) }
-{
-    let process = each_parallel(alloc, name, set, alphabet, process)?;
-    Ok(found(Binding::Open, process, rest))
+    let frame = Frame::Replicated(ReplicatedFrame::Parallel(name, set, alphabet));
+    Ok(inner(frame, Form::Tree, limits, behind))
 }
 
 // A replicated form that waits, with the part that it waits for.
@@ -179,7 +167,8 @@ pub(crate) fn resume_replicated<'t>(
             behind_alphabet(limits, name, set, part, rest)
         }
         ReplicatedFrame::Parallel(name, set, alphabet) => {
-            parallel_ended(alloc, name, set, alphabet, part, rest)
+            let node = Tree::EachParallel(name, set, alphabet, part);
+            found_node(alloc, Binding::Open, node, rest)
         }
     }
 }

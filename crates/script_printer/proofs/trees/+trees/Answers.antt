@@ -1,13 +1,14 @@
 use Rattle.std.proofs.Common.{◌++◌, [], ◌∷◌, ap, sym, ◌∙◌, arith, append_assoc}
 use Rattle.std.specs.Prelude.{flat_map}
 use Rattle.csp_text.specs.declared.tree.FieldTree.TheVariants as field
-use Rattle.csp_text.specs.declared.tree.FieldTree.TheViews.{out-EventTree, out-PartTree}
+use Rattle.csp_text.specs.declared.tree.FieldTree.TheViews.{out-EventTree}
 use Rattle.csp_text.specs.declared.token.Token.TheVariants.{Name, Symbol, Word}
-use Rattle.csp_text.specs.declared.token.Symbol.TheVariants.{Arrow, ExternalChoice, InternalChoice, Parallel, OpenRename, CloseRename, OpenProduct, CloseProduct, LeftArrow, DotDot, Dot, Question, Colon, At, OpenParen, CloseParen, OpenBrace, CloseBrace, OpenBracket, CloseBracket, Comma, Ampersand, Bar, Backslash, Semicolon}
+use Rattle.csp_text.specs.declared.tree.Tree.TheVariants as tree
+use Rattle.csp_text.specs.declared.token.Symbol.TheVariants.{Arrow, ExternalChoice, InternalChoice, Parallel, OpenRename, CloseRename, OpenProduct, CloseProduct, LeftArrow, DotDot, Dot, Minus, Question, Colon, At, OpenParen, CloseParen, OpenBrace, CloseBrace, OpenBracket, CloseBracket, Comma, Bar}
 use Rattle.csp_text.specs.declared.token.Word.TheVariants as word
 use Rattle.script_printer.specs.TokenText.{spaced}
 use Rattle.script_printer.specs.PrintedTree.{bound_in, conditions, dotted, event_tokens, field_tokens, gen_tokens, item_tokens, operand_tokens, operator_token, part_tokens, printed_tokens, renamed_tokens, separated, set_op_token}
-use Rattle.script_printer.proofs.PrintedEquations.{tokens-Binary, tokens-Call, tokens-Comp, tokens-Display, tokens-Dot, tokens-EachExternal, tokens-EachInternal, tokens-EachParallel, tokens-Guard, tokens-Hide, tokens-If, tokens-Not, tokens-Parallel, tokens-Prefix, tokens-Product, tokens-Range, tokens-Rename, tokens-Seq, tokens-SetOp, field-Input, field-Input-from, gen-From, event-is, part-is}
+use Rattle.script_printer.proofs.PrintedEquations.{tokens-Binary, tokens-Call, tokens-Comp, tokens-Display, tokens-Dot, tokens-EachExternal, tokens-EachInternal, tokens-EachParallel, tokens-External, tokens-False, tokens-Guard, tokens-Hide, tokens-If, tokens-Internal, tokens-Name, tokens-Neg, tokens-Not, tokens-Num, tokens-Parallel, tokens-Prefix, tokens-Product, tokens-Range, tokens-Rename, tokens-Seq, tokens-SetOp, tokens-Skip, tokens-Stop, tokens-True, field-Dot, field-Output, field-Input, field-Input-from, gen-From, gen-Cond, event-is, part-is}
 use Rattle.script_printer.proofs.Written.{last, more, written_as, separated_begin, separated_step, separated_end, each_step, each_end, none_shown, some_shown, no_more}
 use Rattle.script_printer.proofs.trees.+trees.Goals as goal
 
@@ -134,13 +135,6 @@ pub put_pairs-returns : goal.put_pairs-returns
 put_pairs-returns t c =
     separated_end renamed_tokens (Symbol Comma) c.args.pairs.now c.loop-place.place c.loop-place.text _ (omega arith) c.loop-place.invariant
 
-pub put_part-returns : goal.put_part-returns
-put_part-returns t c =
-    written_as c.args.text.now c.put_dotted.new.text _ _ c.put_dotted.result
-    (part-is c.args.part.now ∙ (λ i. Name (out-PartTree c.args.part.now).name ∷ dotted operand_tokens (sym c.as_slice.ensures i)))
-    (last c.args.text.now c.put_name.new.text c.put_dotted.new.text (Name (out-PartTree c.args.part.now).name ∷ []) (dotted operand_tokens c.as_slice.result.now) c.put_dotted.result
-    c.in_ok-put_name.ensures c.put_dotted.ensures)
-
 pub put_parts-loop-place-init : goal.put_parts-loop-place-init
 put_parts-loop-place-init t c = ap (λ l. c.args.text.now ++ spaced l) (separated_begin part_tokens (Symbol Comma) c.args.parts.now)
 
@@ -161,160 +155,233 @@ put_replicated-returns t c =
     c.in_ok-put_name.ensures (last c.put_name.new.text c.put_after.new.text c.put_symbol-2.new.text (Symbol Colon ∷ operand_tokens c.args.set.now) (Symbol At ∷ []) c.put_symbol-2.result
     c.in_ok-put_after.ensures c.put_symbol-2.ensures)))
 
-pub put_tree-returns-in_ok-put_items-in-Call : goal.put_tree-returns-in_ok-put_items-in-Call
-put_tree-returns-in_ok-put_items-in-Call t c =
-    written_as c.args.text.now c.put_symbol-in-Call.new.text _ _ c.put_symbol-in-Call.result
-    (ap printed_tokens c.in-Call.is ∙ tokens-Call c.in-Call.name c.in-Call.items ∙ (λ i. Name c.in-Call.name ∷ Symbol OpenParen ∷ separated item_tokens (Symbol Comma) (sym c.as_slice.ensures i) ++ Symbol CloseParen ∷ []))
-    (last c.args.text.now c.put_name-in-Call.new.text c.put_symbol-in-Call.new.text (Name c.in-Call.name ∷ []) (Symbol OpenParen ∷ ((separated item_tokens (Symbol Comma) c.as_slice.result.now) ++ (Symbol CloseParen ∷ []))) c.put_symbol-in-Call.result
-    c.in_ok-put_name-in-Call.ensures (last c.put_name-in-Call.new.text c.put_symbol.new.text c.put_symbol-in-Call.new.text (Symbol OpenParen ∷ []) ((separated item_tokens (Symbol Comma) c.as_slice.result.now) ++ (Symbol CloseParen ∷ [])) c.put_symbol-in-Call.result
-    c.in_ok-put_symbol-in-Call.ensures (last c.put_symbol.new.text c.put_items.new.text c.put_symbol-in-Call.new.text (separated item_tokens (Symbol Comma) c.as_slice.result.now) (Symbol CloseParen ∷ []) c.put_symbol-in-Call.result
-    c.in_ok-put_items-in-Call.ensures c.put_symbol-in-Call.ensures)))
+pub put_call-returns : goal.put_call-returns
+put_call-returns t c =
+    written_as c.args.text.now c.put_enclosed.new.text _ _ c.put_enclosed.result
+    (tokens-Call c.args.name.now c.args.items.now)
+    (last c.args.text.now c.put_name.new.text c.put_enclosed.new.text (Name c.args.name.now ∷ []) (Symbol OpenParen ∷ separated item_tokens (Symbol Comma) c.args.items.now ++ Symbol CloseParen ∷ []) c.put_enclosed.result
+    c.in_ok-put_name.ensures c.put_enclosed.ensures)
 
-pub put_tree-returns-in_ok-put_name-in-Dot : goal.put_tree-returns-in_ok-put_name-in-Dot
-put_tree-returns-in_ok-put_name-in-Dot t c =
+pub put_enclosed-returns : goal.put_enclosed-returns
+put_enclosed-returns t c =
+    written_as c.args.text.now c.put_symbol-2.new.text _ _ c.put_symbol-2.result
+    (λ i. Symbol c.args.opening ∷ separated item_tokens (Symbol Comma) (sym c.as_slice.ensures i) ++ Symbol c.args.closing ∷ [])
+    (last c.args.text.now c.put_symbol.new.text c.put_symbol-2.new.text (Symbol c.args.opening ∷ []) ((separated item_tokens (Symbol Comma) c.as_slice.result.now) ++ (Symbol c.args.closing ∷ [])) c.put_symbol-2.result
+    c.in_ok-put_symbol.ensures (last c.put_symbol.new.text c.put_items.new.text c.put_symbol-2.new.text (separated item_tokens (Symbol Comma) c.as_slice.result.now) (Symbol c.args.closing ∷ []) c.put_symbol-2.result
+    c.in_ok-put_items.ensures c.put_symbol-2.ensures))
+
+pub put_front-returns : goal.put_front-returns
+put_front-returns t c =
     written_as c.args.text.now c.put_dotted.new.text _ _ c.put_dotted.result
-    (ap printed_tokens c.in-Dot.is ∙ tokens-Dot c.in-Dot.name c.in-Dot.fields ∙ (λ i. Name c.in-Dot.name ∷ dotted operand_tokens (sym c.as_slice-in-Dot.ensures i)))
-    (last c.args.text.now c.put_name-in-Dot.new.text c.put_dotted.new.text (Name c.in-Dot.name ∷ []) (dotted operand_tokens c.as_slice-in-Dot.result.now) c.put_dotted.result
-    c.in_ok-put_name-in-Dot.ensures c.put_dotted.ensures)
+    (λ i. Name c.args.name.now ∷ dotted operand_tokens (sym c.as_slice.ensures i))
+    (last c.args.text.now c.put_name.new.text c.put_dotted.new.text (Name c.args.name.now ∷ []) (dotted operand_tokens c.as_slice.result.now) c.put_dotted.result
+    c.in_ok-put_name.ensures c.put_dotted.ensures)
 
-pub put_tree-returns-in_ok-put_word-in-Not : goal.put_tree-returns-in_ok-put_word-in-Not
-put_tree-returns-in_ok-put_word-in-Not t c =
+pub put_part-returns : goal.put_part-returns
+put_part-returns t c = written_as c.args.text.now c.put_front.new.text _ _ c.put_front.result (part-is c.args.part.now) c.put_front.ensures
+
+pub put_complement-returns : goal.put_complement-returns
+put_complement-returns t c =
     written_as c.args.text.now c.put_operand.new.text _ _ c.put_operand.result
-    (ap printed_tokens c.in-Not.is ∙ tokens-Not c.in-Not.a ∙ (λ i. Word word.Not ∷ operand_tokens (sym c.get-in-Not.ensures i)))
-    (last c.args.text.now c.put_word-in-Not.new.text c.put_operand.new.text (Word word.Not ∷ []) (operand_tokens c.get-in-Not.result.now) c.put_operand.result
-    c.in_ok-put_word-in-Not.ensures c.put_operand.ensures)
+    (tokens-Not c.args.a.now)
+    (last c.args.text.now c.put_word.new.text c.put_operand.new.text (Word word.Not ∷ []) (operand_tokens c.args.a.now) c.put_operand.result
+    c.in_ok-put_word.ensures c.put_operand.ensures)
 
-pub put_tree-returns-in_ok-put_operator-in-Binary : goal.put_tree-returns-in_ok-put_operator-in-Binary
-put_tree-returns-in_ok-put_operator-in-Binary t c =
-    written_as c.args.text.now c.put_operand-in-Binary-2.new.text _ _ c.put_operand-in-Binary-2.result
-    (ap printed_tokens c.in-Binary.is ∙ tokens-Binary c.in-Binary.op c.in-Binary.a c.in-Binary.b ∙ (λ i. operand_tokens (sym c.get-in-Binary.ensures i) ++ operator_token c.in-Binary.op ∷ operand_tokens (sym c.get-in-Binary-2.ensures i)))
-    (last c.args.text.now c.put_operand-in-Binary.new.text c.put_operand-in-Binary-2.new.text (operand_tokens c.get-in-Binary.result.now) ((operator_token c.in-Binary.op ∷ []) ++ (operand_tokens c.get-in-Binary-2.result.now)) c.put_operand-in-Binary-2.result
-    c.in_ok-put_operand-in-Binary.ensures (last c.put_operand-in-Binary.new.text c.put_operator.new.text c.put_operand-in-Binary-2.new.text (operator_token c.in-Binary.op ∷ []) (operand_tokens c.get-in-Binary-2.result.now) c.put_operand-in-Binary-2.result
-    c.in_ok-put_operator-in-Binary.ensures c.put_operand-in-Binary-2.ensures))
+pub put_binary-returns : goal.put_binary-returns
+put_binary-returns t c =
+    written_as c.args.text.now c.put_operand-2.new.text _ _ c.put_operand-2.result
+    (tokens-Binary c.args.op c.args.a.now c.args.b.now ∙ (λ i. operand_tokens (sym c.get.ensures i) ++ operator_token c.args.op ∷ operand_tokens (sym c.get-2.ensures i)))
+    (last c.args.text.now c.put_operand.new.text c.put_operand-2.new.text (operand_tokens c.get.result.now) ((operator_token c.args.op ∷ []) ++ (operand_tokens c.get-2.result.now)) c.put_operand-2.result
+    c.in_ok-put_operand.ensures (last c.put_operand.new.text c.put_operator.new.text c.put_operand-2.new.text (operator_token c.args.op ∷ []) (operand_tokens c.get-2.result.now) c.put_operand-2.result
+    c.in_ok-put_operator.ensures c.put_operand-2.ensures))
 
-pub put_tree-returns-in_ok-put_word-in-If-3 : goal.put_tree-returns-in_ok-put_word-in-If-3
-put_tree-returns-in_ok-put_word-in-If-3 t c =
-    written_as c.args.text.now c.put_tree-in-If.new.text _ _ c.put_tree-in-If.result
-    (ap printed_tokens c.in-If.is ∙ tokens-If c.in-If.c c.in-If.a c.in-If.b ∙ (λ i. Word word.If ∷ operand_tokens (sym c.get-in-If.ensures i) ++ Word word.Then ∷ printed_tokens (sym c.get-in-If-2.ensures i) ++ Word word.Else ∷ printed_tokens (sym c.get-in-If-3.ensures i)) ∙ append_assoc (Word word.If ∷ operand_tokens c.get-in-If.result.now) (Word word.Then ∷ printed_tokens c.get-in-If-2.result.now) (Word word.Else ∷ printed_tokens c.get-in-If-3.result.now))
-    (last c.args.text.now c.put_word-in-If.new.text c.put_tree-in-If.new.text (Word word.If ∷ []) ((operand_tokens c.get-in-If.result.now) ++ (Word word.Then ∷ ((printed_tokens c.get-in-If-2.result.now) ++ (Word word.Else ∷ (printed_tokens c.get-in-If-3.result.now))))) c.put_tree-in-If.result
-    c.in_ok-put_word-in-If.ensures (last c.put_word-in-If.new.text c.put_operand-in-If.new.text c.put_tree-in-If.new.text (operand_tokens c.get-in-If.result.now) (Word word.Then ∷ ((printed_tokens c.get-in-If-2.result.now) ++ (Word word.Else ∷ (printed_tokens c.get-in-If-3.result.now)))) c.put_tree-in-If.result
-    c.in_ok-put_operand-in-If.ensures (last c.put_operand-in-If.new.text c.put_word-in-If-2.new.text c.put_tree-in-If.new.text (Word word.Then ∷ []) ((printed_tokens c.get-in-If-2.result.now) ++ (Word word.Else ∷ (printed_tokens c.get-in-If-3.result.now))) c.put_tree-in-If.result
-    c.in_ok-put_word-in-If-2.ensures (last c.put_word-in-If-2.new.text c.put_tree.new.text c.put_tree-in-If.new.text (printed_tokens c.get-in-If-2.result.now) (Word word.Else ∷ (printed_tokens c.get-in-If-3.result.now)) c.put_tree-in-If.result
-    c.in_ok-put_tree-in-If.ensures (last c.put_tree.new.text c.put_word-in-If-3.new.text c.put_tree-in-If.new.text (Word word.Else ∷ []) (printed_tokens c.get-in-If-3.result.now) c.put_tree-in-If.result
-    c.in_ok-put_word-in-If-3.ensures c.put_tree-in-If.ensures)))))
+pub put_infix-returns : goal.put_infix-returns
+put_infix-returns t c =
+    written_as c.args.text.now c.put_after.new.text _ _ c.put_after.result
+    (λ i. operand_tokens (sym c.get.ensures i) ++ Symbol c.args.sign ∷ operand_tokens (sym c.get-2.ensures i))
+    (last c.args.text.now c.put_operand.new.text c.put_after.new.text (operand_tokens c.get.result.now) (Symbol c.args.sign ∷ operand_tokens c.get-2.result.now) c.put_after.result
+    c.in_ok-put_operand.ensures c.put_after.ensures)
 
-pub put_tree-returns-in_ok-put_items-in-Display : goal.put_tree-returns-in_ok-put_items-in-Display
-put_tree-returns-in_ok-put_items-in-Display t c =
-    written_as c.args.text.now c.put_symbol-in-Display-2.new.text _ _ c.put_symbol-in-Display-2.result
-    (ap printed_tokens c.in-Display.is ∙ tokens-Display c.in-Display.items ∙ (λ i. Symbol OpenBrace ∷ separated item_tokens (Symbol Comma) (sym c.as_slice-in-Display.ensures i) ++ Symbol CloseBrace ∷ []))
-    (last c.args.text.now c.put_symbol-in-Display.new.text c.put_symbol-in-Display-2.new.text (Symbol OpenBrace ∷ []) ((separated item_tokens (Symbol Comma) c.as_slice-in-Display.result.now) ++ (Symbol CloseBrace ∷ [])) c.put_symbol-in-Display-2.result
-    c.in_ok-put_symbol-in-Display.ensures (last c.put_symbol-in-Display.new.text c.put_items-in-Display.new.text c.put_symbol-in-Display-2.new.text (separated item_tokens (Symbol Comma) c.as_slice-in-Display.result.now) (Symbol CloseBrace ∷ []) c.put_symbol-in-Display-2.result
-    c.in_ok-put_items-in-Display.ensures c.put_symbol-in-Display-2.ensures))
+pub put_conditional-returns : goal.put_conditional-returns
+put_conditional-returns t c =
+    written_as c.args.text.now c.put_tree-2.new.text _ _ c.put_tree-2.result
+    (tokens-If c.args.condition.now c.args.a.now c.args.b.now ∙ (λ i. Word word.If ∷ operand_tokens (sym c.get.ensures i) ++ Word word.Then ∷ printed_tokens (sym c.get-2.ensures i) ++ Word word.Else ∷ printed_tokens (sym c.get-3.ensures i)) ∙ append_assoc (Word word.If ∷ operand_tokens c.get.result.now) (Word word.Then ∷ printed_tokens c.get-2.result.now) (Word word.Else ∷ printed_tokens c.get-3.result.now))
+    (last c.args.text.now c.put_word.new.text c.put_tree-2.new.text (Word word.If ∷ []) ((operand_tokens c.get.result.now) ++ ((Word word.Then ∷ []) ++ ((printed_tokens c.get-2.result.now) ++ ((Word word.Else ∷ []) ++ (printed_tokens c.get-3.result.now))))) c.put_tree-2.result
+    c.in_ok-put_word.ensures (last c.put_word.new.text c.put_operand.new.text c.put_tree-2.new.text (operand_tokens c.get.result.now) ((Word word.Then ∷ []) ++ ((printed_tokens c.get-2.result.now) ++ ((Word word.Else ∷ []) ++ (printed_tokens c.get-3.result.now)))) c.put_tree-2.result
+    c.in_ok-put_operand.ensures (last c.put_operand.new.text c.put_word-2.new.text c.put_tree-2.new.text (Word word.Then ∷ []) ((printed_tokens c.get-2.result.now) ++ ((Word word.Else ∷ []) ++ (printed_tokens c.get-3.result.now))) c.put_tree-2.result
+    c.in_ok-put_word-2.ensures (last c.put_word-2.new.text c.put_tree.new.text c.put_tree-2.new.text (printed_tokens c.get-2.result.now) ((Word word.Else ∷ []) ++ (printed_tokens c.get-3.result.now)) c.put_tree-2.result
+    c.in_ok-put_tree.ensures (last c.put_tree.new.text c.put_word-3.new.text c.put_tree-2.new.text (Word word.Else ∷ []) (printed_tokens c.get-3.result.now) c.put_tree-2.result
+    c.in_ok-put_word-3.ensures c.put_tree-2.ensures)))))
 
-pub put_tree-returns-in_ok-put_after-in-Range-2 : goal.put_tree-returns-in_ok-put_after-in-Range-2
-put_tree-returns-in_ok-put_after-in-Range-2 t c =
-    written_as c.args.text.now c.put_symbol-in-Range.new.text _ _ c.put_symbol-in-Range.result
-    (ap printed_tokens c.in-Range.is ∙ tokens-Range c.in-Range.a c.in-Range.b ∙ (λ i. Symbol OpenBrace ∷ operand_tokens (sym c.get-in-Range.ensures i) ++ Symbol DotDot ∷ operand_tokens (sym c.get-in-Range-2.ensures i) ++ Symbol CloseBrace ∷ []) ∙ append_assoc (Symbol OpenBrace ∷ operand_tokens c.get-in-Range.result.now) (Symbol DotDot ∷ operand_tokens c.get-in-Range-2.result.now) (Symbol CloseBrace ∷ []))
-    (last c.args.text.now c.put_after-in-Range.new.text c.put_symbol-in-Range.new.text (Symbol OpenBrace ∷ operand_tokens c.get-in-Range.result.now) ((Symbol DotDot ∷ operand_tokens c.get-in-Range-2.result.now) ++ (Symbol CloseBrace ∷ [])) c.put_symbol-in-Range.result
-    c.in_ok-put_after-in-Range.ensures (last c.put_after-in-Range.new.text c.put_after-in-Range-2.new.text c.put_symbol-in-Range.new.text (Symbol DotDot ∷ operand_tokens c.get-in-Range-2.result.now) (Symbol CloseBrace ∷ []) c.put_symbol-in-Range.result
-    c.in_ok-put_after-in-Range-2.ensures c.put_symbol-in-Range.ensures))
+pub put_range-returns : goal.put_range-returns
+put_range-returns t c =
+    written_as c.args.text.now c.put_symbol.new.text _ _ c.put_symbol.result
+    (tokens-Range c.args.a.now c.args.b.now ∙ (λ i. Symbol OpenBrace ∷ operand_tokens (sym c.get.ensures i) ++ Symbol DotDot ∷ operand_tokens (sym c.get-2.ensures i) ++ Symbol CloseBrace ∷ []) ∙ append_assoc (Symbol OpenBrace ∷ operand_tokens c.get.result.now) (Symbol DotDot ∷ operand_tokens c.get-2.result.now) (Symbol CloseBrace ∷ []))
+    (last c.args.text.now c.put_after.new.text c.put_symbol.new.text (Symbol OpenBrace ∷ operand_tokens c.get.result.now) ((Symbol DotDot ∷ operand_tokens c.get-2.result.now) ++ (Symbol CloseBrace ∷ [])) c.put_symbol.result
+    c.in_ok-put_after.ensures (last c.put_after.new.text c.put_after-2.new.text c.put_symbol.new.text (Symbol DotDot ∷ operand_tokens c.get-2.result.now) (Symbol CloseBrace ∷ []) c.put_symbol.result
+    c.in_ok-put_after-2.ensures c.put_symbol.ensures))
 
-pub put_tree-returns-in_ok-put_gens-in-Comp : goal.put_tree-returns-in_ok-put_gens-in-Comp
-put_tree-returns-in_ok-put_gens-in-Comp t c =
-    written_as c.args.text.now c.put_symbol-in-Comp-3.new.text _ _ c.put_symbol-in-Comp-3.result
-    (ap printed_tokens c.in-Comp.is ∙ tokens-Comp c.in-Comp.items c.in-Comp.gens ∙ (λ i. Symbol OpenBrace ∷ separated item_tokens (Symbol Comma) (sym c.as_slice-in-Comp.ensures i) ++ Symbol Bar ∷ separated gen_tokens (Symbol Comma) (sym c.as_slice-in-Comp-2.ensures i) ++ Symbol CloseBrace ∷ []) ∙ append_assoc (Symbol OpenBrace ∷ separated item_tokens (Symbol Comma) c.as_slice-in-Comp.result.now) (Symbol Bar ∷ separated gen_tokens (Symbol Comma) c.as_slice-in-Comp-2.result.now) (Symbol CloseBrace ∷ []))
-    (last c.args.text.now c.put_symbol-in-Comp.new.text c.put_symbol-in-Comp-3.new.text (Symbol OpenBrace ∷ []) ((separated item_tokens (Symbol Comma) c.as_slice-in-Comp.result.now) ++ (Symbol Bar ∷ ((separated gen_tokens (Symbol Comma) c.as_slice-in-Comp-2.result.now) ++ (Symbol CloseBrace ∷ [])))) c.put_symbol-in-Comp-3.result
-    c.in_ok-put_symbol-in-Comp.ensures (last c.put_symbol-in-Comp.new.text c.put_items-in-Comp.new.text c.put_symbol-in-Comp-3.new.text (separated item_tokens (Symbol Comma) c.as_slice-in-Comp.result.now) (Symbol Bar ∷ ((separated gen_tokens (Symbol Comma) c.as_slice-in-Comp-2.result.now) ++ (Symbol CloseBrace ∷ []))) c.put_symbol-in-Comp-3.result
-    c.in_ok-put_items-in-Comp.ensures (last c.put_items-in-Comp.new.text c.put_symbol-in-Comp-2.new.text c.put_symbol-in-Comp-3.new.text (Symbol Bar ∷ []) ((separated gen_tokens (Symbol Comma) c.as_slice-in-Comp-2.result.now) ++ (Symbol CloseBrace ∷ [])) c.put_symbol-in-Comp-3.result
-    c.in_ok-put_symbol-in-Comp-2.ensures (last c.put_symbol-in-Comp-2.new.text c.put_gens.new.text c.put_symbol-in-Comp-3.new.text (separated gen_tokens (Symbol Comma) c.as_slice-in-Comp-2.result.now) (Symbol CloseBrace ∷ []) c.put_symbol-in-Comp-3.result
-    c.in_ok-put_gens-in-Comp.ensures c.put_symbol-in-Comp-3.ensures))))
+pub put_comprehension-returns : goal.put_comprehension-returns
+put_comprehension-returns t c =
+    written_as c.args.text.now c.put_symbol-3.new.text _ _ c.put_symbol-3.result
+    (tokens-Comp c.args.items.now c.args.gens.now ∙ (λ i. Symbol OpenBrace ∷ separated item_tokens (Symbol Comma) (sym c.as_slice.ensures i) ++ Symbol Bar ∷ separated gen_tokens (Symbol Comma) (sym c.as_slice-2.ensures i) ++ Symbol CloseBrace ∷ []) ∙ append_assoc (Symbol OpenBrace ∷ separated item_tokens (Symbol Comma) c.as_slice.result.now) (Symbol Bar ∷ separated gen_tokens (Symbol Comma) c.as_slice-2.result.now) (Symbol CloseBrace ∷ []))
+    (last c.args.text.now c.put_symbol.new.text c.put_symbol-3.new.text (Symbol OpenBrace ∷ []) ((separated item_tokens (Symbol Comma) c.as_slice.result.now) ++ ((Symbol Bar ∷ []) ++ ((separated gen_tokens (Symbol Comma) c.as_slice-2.result.now) ++ (Symbol CloseBrace ∷ [])))) c.put_symbol-3.result
+    c.in_ok-put_symbol.ensures (last c.put_symbol.new.text c.put_items.new.text c.put_symbol-3.new.text (separated item_tokens (Symbol Comma) c.as_slice.result.now) ((Symbol Bar ∷ []) ++ ((separated gen_tokens (Symbol Comma) c.as_slice-2.result.now) ++ (Symbol CloseBrace ∷ []))) c.put_symbol-3.result
+    c.in_ok-put_items.ensures (last c.put_items.new.text c.put_symbol-2.new.text c.put_symbol-3.new.text (Symbol Bar ∷ []) ((separated gen_tokens (Symbol Comma) c.as_slice-2.result.now) ++ (Symbol CloseBrace ∷ [])) c.put_symbol-3.result
+    c.in_ok-put_symbol-2.ensures (last c.put_symbol-2.new.text c.put_gens.new.text c.put_symbol-3.new.text (separated gen_tokens (Symbol Comma) c.as_slice-2.result.now) (Symbol CloseBrace ∷ []) c.put_symbol-3.result
+    c.in_ok-put_gens.ensures c.put_symbol-3.ensures))))
 
-pub put_tree-returns-in_ok-put_conditions-in-Product : goal.put_tree-returns-in_ok-put_conditions-in-Product
-put_tree-returns-in_ok-put_conditions-in-Product t c =
-    written_as c.args.text.now c.put_symbol-in-Product-2.new.text _ _ c.put_symbol-in-Product-2.result
-    (ap printed_tokens c.in-Product.is ∙ tokens-Product c.in-Product.parts c.in-Product.gens ∙ (λ i. Symbol OpenProduct ∷ separated part_tokens (Symbol Comma) (sym c.as_slice-in-Product.ensures i) ++ conditions gen_tokens (sym c.as_slice-in-Product-2.ensures i) ++ Symbol CloseProduct ∷ []) ∙ append_assoc (Symbol OpenProduct ∷ separated part_tokens (Symbol Comma) c.as_slice-in-Product.result.now) (conditions gen_tokens c.as_slice-in-Product-2.result.now) (Symbol CloseProduct ∷ []))
-    (last c.args.text.now c.put_symbol-in-Product.new.text c.put_symbol-in-Product-2.new.text (Symbol OpenProduct ∷ []) ((separated part_tokens (Symbol Comma) c.as_slice-in-Product.result.now) ++ ((conditions gen_tokens c.as_slice-in-Product-2.result.now) ++ (Symbol CloseProduct ∷ []))) c.put_symbol-in-Product-2.result
-    c.in_ok-put_symbol-in-Product.ensures (last c.put_symbol-in-Product.new.text c.put_parts.new.text c.put_symbol-in-Product-2.new.text (separated part_tokens (Symbol Comma) c.as_slice-in-Product.result.now) ((conditions gen_tokens c.as_slice-in-Product-2.result.now) ++ (Symbol CloseProduct ∷ [])) c.put_symbol-in-Product-2.result
-    c.in_ok-put_parts-in-Product.ensures (last c.put_parts.new.text c.put_conditions.new.text c.put_symbol-in-Product-2.new.text (conditions gen_tokens c.as_slice-in-Product-2.result.now) (Symbol CloseProduct ∷ []) c.put_symbol-in-Product-2.result
-    c.in_ok-put_conditions-in-Product.ensures c.put_symbol-in-Product-2.ensures)))
+pub put_production-returns : goal.put_production-returns
+put_production-returns t c =
+    written_as c.args.text.now c.put_symbol-2.new.text _ _ c.put_symbol-2.result
+    (tokens-Product c.args.parts.now c.args.gens.now ∙ (λ i. Symbol OpenProduct ∷ separated part_tokens (Symbol Comma) (sym c.as_slice.ensures i) ++ conditions gen_tokens (sym c.as_slice-2.ensures i) ++ Symbol CloseProduct ∷ []) ∙ append_assoc (Symbol OpenProduct ∷ separated part_tokens (Symbol Comma) c.as_slice.result.now) (conditions gen_tokens c.as_slice-2.result.now) (Symbol CloseProduct ∷ []))
+    (last c.args.text.now c.put_symbol.new.text c.put_symbol-2.new.text (Symbol OpenProduct ∷ []) ((separated part_tokens (Symbol Comma) c.as_slice.result.now) ++ ((conditions gen_tokens c.as_slice-2.result.now) ++ (Symbol CloseProduct ∷ []))) c.put_symbol-2.result
+    c.in_ok-put_symbol.ensures (last c.put_symbol.new.text c.put_parts.new.text c.put_symbol-2.new.text (separated part_tokens (Symbol Comma) c.as_slice.result.now) ((conditions gen_tokens c.as_slice-2.result.now) ++ (Symbol CloseProduct ∷ [])) c.put_symbol-2.result
+    c.in_ok-put_parts.ensures (last c.put_parts.new.text c.put_conditions.new.text c.put_symbol-2.new.text (conditions gen_tokens c.as_slice-2.result.now) (Symbol CloseProduct ∷ []) c.put_symbol-2.result
+    c.in_ok-put_conditions.ensures c.put_symbol-2.ensures)))
 
-pub put_tree-returns-in_ok-put_item-in-SetOp-2 : goal.put_tree-returns-in_ok-put_item-in-SetOp-2
-put_tree-returns-in_ok-put_item-in-SetOp-2 t c =
-    written_as c.args.text.now c.put_symbol-in-SetOp-3.new.text _ _ c.put_symbol-in-SetOp-3.result
-    (ap printed_tokens c.in-SetOp.is ∙ tokens-SetOp c.in-SetOp.op c.in-SetOp.a c.in-SetOp.b ∙ (λ i. set_op_token c.in-SetOp.op ∷ Symbol OpenParen ∷ item_tokens (sym c.get-in-SetOp.ensures i) ++ Symbol Comma ∷ item_tokens (sym c.get-in-SetOp-2.ensures i) ++ Symbol CloseParen ∷ []) ∙ append_assoc (set_op_token c.in-SetOp.op ∷ Symbol OpenParen ∷ item_tokens c.get-in-SetOp.result.now) (Symbol Comma ∷ item_tokens c.get-in-SetOp-2.result.now) (Symbol CloseParen ∷ []))
-    (last c.args.text.now c.put_set_op.new.text c.put_symbol-in-SetOp-3.new.text (set_op_token c.in-SetOp.op ∷ []) (Symbol OpenParen ∷ ((item_tokens c.get-in-SetOp.result.now) ++ (Symbol Comma ∷ ((item_tokens c.get-in-SetOp-2.result.now) ++ (Symbol CloseParen ∷ []))))) c.put_symbol-in-SetOp-3.result
-    c.in_ok-put_set_op-in-SetOp.ensures (last c.put_set_op.new.text c.put_symbol-in-SetOp.new.text c.put_symbol-in-SetOp-3.new.text (Symbol OpenParen ∷ []) ((item_tokens c.get-in-SetOp.result.now) ++ (Symbol Comma ∷ ((item_tokens c.get-in-SetOp-2.result.now) ++ (Symbol CloseParen ∷ [])))) c.put_symbol-in-SetOp-3.result
-    c.in_ok-put_symbol-in-SetOp.ensures (last c.put_symbol-in-SetOp.new.text c.put_item.new.text c.put_symbol-in-SetOp-3.new.text (item_tokens c.get-in-SetOp.result.now) (Symbol Comma ∷ ((item_tokens c.get-in-SetOp-2.result.now) ++ (Symbol CloseParen ∷ []))) c.put_symbol-in-SetOp-3.result
-    c.in_ok-put_item-in-SetOp.ensures (last c.put_item.new.text c.put_symbol-in-SetOp-2.new.text c.put_symbol-in-SetOp-3.new.text (Symbol Comma ∷ []) ((item_tokens c.get-in-SetOp-2.result.now) ++ (Symbol CloseParen ∷ [])) c.put_symbol-in-SetOp-3.result
-    c.in_ok-put_symbol-in-SetOp-2.ensures (last c.put_symbol-in-SetOp-2.new.text c.put_item-in-SetOp.new.text c.put_symbol-in-SetOp-3.new.text (item_tokens c.get-in-SetOp-2.result.now) (Symbol CloseParen ∷ []) c.put_symbol-in-SetOp-3.result
-    c.in_ok-put_item-in-SetOp-2.ensures c.put_symbol-in-SetOp-3.ensures)))))
+pub put_set_operation-returns : goal.put_set_operation-returns
+put_set_operation-returns t c =
+    written_as c.args.text.now c.put_symbol-3.new.text _ _ c.put_symbol-3.result
+    (tokens-SetOp c.args.op c.args.a.now c.args.b.now ∙ (λ i. set_op_token c.args.op ∷ Symbol OpenParen ∷ item_tokens (sym c.get.ensures i) ++ Symbol Comma ∷ item_tokens (sym c.get-2.ensures i) ++ Symbol CloseParen ∷ []) ∙ append_assoc (set_op_token c.args.op ∷ Symbol OpenParen ∷ item_tokens c.get.result.now) (Symbol Comma ∷ item_tokens c.get-2.result.now) (Symbol CloseParen ∷ []))
+    (last c.args.text.now c.put_set_op.new.text c.put_symbol-3.new.text (set_op_token c.args.op ∷ []) ((Symbol OpenParen ∷ []) ++ ((item_tokens c.get.result.now) ++ ((Symbol Comma ∷ []) ++ ((item_tokens c.get-2.result.now) ++ (Symbol CloseParen ∷ []))))) c.put_symbol-3.result
+    c.in_ok-put_set_op.ensures (last c.put_set_op.new.text c.put_symbol.new.text c.put_symbol-3.new.text (Symbol OpenParen ∷ []) ((item_tokens c.get.result.now) ++ ((Symbol Comma ∷ []) ++ ((item_tokens c.get-2.result.now) ++ (Symbol CloseParen ∷ [])))) c.put_symbol-3.result
+    c.in_ok-put_symbol.ensures (last c.put_symbol.new.text c.put_item.new.text c.put_symbol-3.new.text (item_tokens c.get.result.now) ((Symbol Comma ∷ []) ++ ((item_tokens c.get-2.result.now) ++ (Symbol CloseParen ∷ []))) c.put_symbol-3.result
+    c.in_ok-put_item.ensures (last c.put_item.new.text c.put_symbol-2.new.text c.put_symbol-3.new.text (Symbol Comma ∷ []) ((item_tokens c.get-2.result.now) ++ (Symbol CloseParen ∷ [])) c.put_symbol-3.result
+    c.in_ok-put_symbol-2.ensures (last c.put_symbol-2.new.text c.put_item-2.new.text c.put_symbol-3.new.text (item_tokens c.get-2.result.now) (Symbol CloseParen ∷ []) c.put_symbol-3.result
+    c.in_ok-put_item-2.ensures c.put_symbol-3.ensures)))))
 
-pub put_tree-returns-in_ok-put_event-in-Prefix : goal.put_tree-returns-in_ok-put_event-in-Prefix
-put_tree-returns-in_ok-put_event-in-Prefix t c =
-    written_as c.args.text.now c.put_after-in-Prefix.new.text _ _ c.put_after-in-Prefix.result
-    (ap printed_tokens c.in-Prefix.is ∙ tokens-Prefix c.in-Prefix.event c.in-Prefix.p ∙ (λ i. event_tokens c.in-Prefix.event ++ Symbol Arrow ∷ operand_tokens (sym c.get-in-Prefix.ensures i)))
-    (last c.args.text.now c.put_event.new.text c.put_after-in-Prefix.new.text (event_tokens c.in-Prefix.event) (Symbol Arrow ∷ operand_tokens c.get-in-Prefix.result.now) c.put_after-in-Prefix.result
-    c.in_ok-put_event-in-Prefix.ensures c.put_after-in-Prefix.ensures)
+pub put_prefix-returns : goal.put_prefix-returns
+put_prefix-returns t c =
+    written_as c.args.text.now c.put_after.new.text _ _ c.put_after.result
+    (tokens-Prefix c.args.event.now c.args.p.now ∙ (λ i. event_tokens c.args.event.now ++ Symbol Arrow ∷ operand_tokens (sym c.get.ensures i)))
+    (last c.args.text.now c.put_event.new.text c.put_after.new.text (event_tokens c.args.event.now) (Symbol Arrow ∷ operand_tokens c.get.result.now) c.put_after.result
+    c.in_ok-put_event.ensures c.put_after.ensures)
 
-pub put_tree-returns-in_ok-put_operand-in-Guard : goal.put_tree-returns-in_ok-put_operand-in-Guard
-put_tree-returns-in_ok-put_operand-in-Guard t c =
-    written_as c.args.text.now c.put_after-in-Guard.new.text _ _ c.put_after-in-Guard.result
-    (ap printed_tokens c.in-Guard.is ∙ tokens-Guard c.in-Guard.condition c.in-Guard.p ∙ (λ i. operand_tokens (sym c.get-in-Guard.ensures i) ++ Symbol Ampersand ∷ operand_tokens (sym c.get-in-Guard-2.ensures i)))
-    (last c.args.text.now c.put_operand-in-Guard.new.text c.put_after-in-Guard.new.text (operand_tokens c.get-in-Guard.result.now) (Symbol Ampersand ∷ operand_tokens c.get-in-Guard-2.result.now) c.put_after-in-Guard.result
-    c.in_ok-put_operand-in-Guard.ensures c.put_after-in-Guard.ensures)
+pub put_each-returns : goal.put_each-returns
+put_each-returns t c =
+    written_as c.args.text.now c.put_tree.new.text _ _ c.put_tree.result
+    ((λ i. Symbol c.args.sign ∷ bound_in c.args.name.now (operand_tokens (sym c.get.ensures i)) ++ Symbol At ∷ printed_tokens (sym c.get-2.ensures i)) ∙ ap (λ l. Symbol c.args.sign ∷ bound_in c.args.name.now l) (sym (append_assoc (operand_tokens c.get.result.now) (Symbol At ∷ []) (printed_tokens c.get-2.result.now))))
+    (last c.args.text.now c.put_replicated.new.text c.put_tree.new.text (Symbol c.args.sign ∷ bound_in c.args.name.now (operand_tokens c.get.result.now) ++ Symbol At ∷ []) (printed_tokens c.get-2.result.now) c.put_tree.result
+    c.in_ok-put_replicated.ensures c.put_tree.ensures)
 
-pub put_tree-returns-in_ok-put_replicated-in-EachExternal : goal.put_tree-returns-in_ok-put_replicated-in-EachExternal
-put_tree-returns-in_ok-put_replicated-in-EachExternal t c =
-    written_as c.args.text.now c.put_tree-in-EachExternal.new.text _ _ c.put_tree-in-EachExternal.result
-    (ap printed_tokens c.in-EachExternal.is ∙ tokens-EachExternal c.in-EachExternal.name c.in-EachExternal.s c.in-EachExternal.p ∙ (λ i. Symbol ExternalChoice ∷ bound_in c.in-EachExternal.name (operand_tokens (sym c.get-in-EachExternal.ensures i)) ++ Symbol At ∷ printed_tokens (sym c.get-in-EachExternal-2.ensures i)) ∙ ap (λ l. Symbol ExternalChoice ∷ bound_in c.in-EachExternal.name l) (sym (append_assoc (operand_tokens c.get-in-EachExternal.result.now) (Symbol At ∷ []) (printed_tokens c.get-in-EachExternal-2.result.now))))
-    (last c.args.text.now c.put_replicated.new.text c.put_tree-in-EachExternal.new.text (Symbol ExternalChoice ∷ bound_in c.in-EachExternal.name (operand_tokens c.get-in-EachExternal.result.now) ++ Symbol At ∷ []) (printed_tokens c.get-in-EachExternal-2.result.now) c.put_tree-in-EachExternal.result
-    c.in_ok-put_replicated-in-EachExternal.ensures c.put_tree-in-EachExternal.ensures)
+pub put_parallel-returns : goal.put_parallel-returns
+put_parallel-returns t c =
+    written_as c.args.text.now c.put_after-3.new.text _ _ c.put_after-3.result
+    (tokens-Parallel c.args.p.now c.args.a.now c.args.b.now c.args.q.now ∙ (λ i. operand_tokens (sym c.get.ensures i) ++ Symbol OpenBracket ∷ operand_tokens (sym c.get-2.ensures i) ++ Symbol Parallel ∷ operand_tokens (sym c.get-3.ensures i) ++ Symbol CloseBracket ∷ operand_tokens (sym c.get-4.ensures i)) ∙ append_assoc ((operand_tokens c.get.result.now) ++ (Symbol OpenBracket ∷ operand_tokens c.get-2.result.now)) (Symbol Parallel ∷ operand_tokens c.get-3.result.now) (Symbol CloseBracket ∷ operand_tokens c.get-4.result.now) ∙ append_assoc (operand_tokens c.get.result.now) (Symbol OpenBracket ∷ operand_tokens c.get-2.result.now) ((Symbol Parallel ∷ operand_tokens c.get-3.result.now) ++ (Symbol CloseBracket ∷ operand_tokens c.get-4.result.now)))
+    (last c.args.text.now c.put_operand.new.text c.put_after-3.new.text (operand_tokens c.get.result.now) ((Symbol OpenBracket ∷ operand_tokens c.get-2.result.now) ++ ((Symbol Parallel ∷ operand_tokens c.get-3.result.now) ++ (Symbol CloseBracket ∷ operand_tokens c.get-4.result.now))) c.put_after-3.result
+    c.in_ok-put_operand.ensures (last c.put_operand.new.text c.put_after.new.text c.put_after-3.new.text (Symbol OpenBracket ∷ operand_tokens c.get-2.result.now) ((Symbol Parallel ∷ operand_tokens c.get-3.result.now) ++ (Symbol CloseBracket ∷ operand_tokens c.get-4.result.now)) c.put_after-3.result
+    c.in_ok-put_after.ensures (last c.put_after.new.text c.put_after-2.new.text c.put_after-3.new.text (Symbol Parallel ∷ operand_tokens c.get-3.result.now) (Symbol CloseBracket ∷ operand_tokens c.get-4.result.now) c.put_after-3.result
+    c.in_ok-put_after-2.ensures c.put_after-3.ensures)))
 
-pub put_tree-returns-in_ok-put_replicated-in-EachInternal : goal.put_tree-returns-in_ok-put_replicated-in-EachInternal
-put_tree-returns-in_ok-put_replicated-in-EachInternal t c =
-    written_as c.args.text.now c.put_tree-in-EachInternal.new.text _ _ c.put_tree-in-EachInternal.result
-    (ap printed_tokens c.in-EachInternal.is ∙ tokens-EachInternal c.in-EachInternal.name c.in-EachInternal.s c.in-EachInternal.p ∙ (λ i. Symbol InternalChoice ∷ bound_in c.in-EachInternal.name (operand_tokens (sym c.get-in-EachInternal.ensures i)) ++ Symbol At ∷ printed_tokens (sym c.get-in-EachInternal-2.ensures i)) ∙ ap (λ l. Symbol InternalChoice ∷ bound_in c.in-EachInternal.name l) (sym (append_assoc (operand_tokens c.get-in-EachInternal.result.now) (Symbol At ∷ []) (printed_tokens c.get-in-EachInternal-2.result.now))))
-    (last c.args.text.now c.put_replicated-in-EachInternal.new.text c.put_tree-in-EachInternal.new.text (Symbol InternalChoice ∷ bound_in c.in-EachInternal.name (operand_tokens c.get-in-EachInternal.result.now) ++ Symbol At ∷ []) (printed_tokens c.get-in-EachInternal-2.result.now) c.put_tree-in-EachInternal.result
-    c.in_ok-put_replicated-in-EachInternal.ensures c.put_tree-in-EachInternal.ensures)
+pub put_each_parallel-returns : goal.put_each_parallel-returns
+put_each_parallel-returns t c =
+    written_as c.args.text.now c.put_tree.new.text _ _ c.put_tree.result
+    (tokens-EachParallel c.args.name.now c.args.s.now c.args.a.now c.args.p.now ∙ (λ i. Symbol Parallel ∷ bound_in c.args.name.now (operand_tokens (sym c.get.ensures i)) ++ Symbol At ∷ Symbol OpenBracket ∷ operand_tokens (sym c.get-2.ensures i) ++ Symbol CloseBracket ∷ printed_tokens (sym c.get-3.ensures i)) ∙ append_assoc (Symbol Parallel ∷ bound_in c.args.name.now (operand_tokens c.get.result.now)) (Symbol At ∷ Symbol OpenBracket ∷ operand_tokens c.get-2.result.now) (Symbol CloseBracket ∷ printed_tokens c.get-3.result.now) ∙ ap (λ l. Symbol Parallel ∷ bound_in c.args.name.now l) (sym (append_assoc (operand_tokens c.get.result.now) (Symbol At ∷ []) (Symbol OpenBracket ∷ operand_tokens c.get-2.result.now ++ Symbol CloseBracket ∷ printed_tokens c.get-3.result.now))))
+    (last c.args.text.now c.put_replicated.new.text c.put_tree.new.text (Symbol Parallel ∷ bound_in c.args.name.now (operand_tokens c.get.result.now) ++ Symbol At ∷ []) ((Symbol OpenBracket ∷ operand_tokens c.get-2.result.now) ++ ((Symbol CloseBracket ∷ []) ++ (printed_tokens c.get-3.result.now))) c.put_tree.result
+    c.in_ok-put_replicated.ensures (last c.put_replicated.new.text c.put_after.new.text c.put_tree.new.text (Symbol OpenBracket ∷ operand_tokens c.get-2.result.now) ((Symbol CloseBracket ∷ []) ++ (printed_tokens c.get-3.result.now)) c.put_tree.result
+    c.in_ok-put_after.ensures (last c.put_after.new.text c.put_symbol.new.text c.put_tree.new.text (Symbol CloseBracket ∷ []) (printed_tokens c.get-3.result.now) c.put_tree.result
+    c.in_ok-put_symbol.ensures c.put_tree.ensures)))
 
-pub put_tree-returns-in_ok-put_after-in-Parallel-2 : goal.put_tree-returns-in_ok-put_after-in-Parallel-2
-put_tree-returns-in_ok-put_after-in-Parallel-2 t c =
-    written_as c.args.text.now c.put_after-in-Parallel-3.new.text _ _ c.put_after-in-Parallel-3.result
-    (ap printed_tokens c.in-Parallel.is ∙ tokens-Parallel c.in-Parallel.p c.in-Parallel.a c.in-Parallel.b c.in-Parallel.q ∙ (λ i. operand_tokens (sym c.get-in-Parallel.ensures i) ++ Symbol OpenBracket ∷ operand_tokens (sym c.get-in-Parallel-2.ensures i) ++ Symbol Parallel ∷ operand_tokens (sym c.get-in-Parallel-3.ensures i) ++ Symbol CloseBracket ∷ operand_tokens (sym c.get-in-Parallel-4.ensures i)) ∙ append_assoc ((operand_tokens c.get-in-Parallel.result.now) ++ (Symbol OpenBracket ∷ operand_tokens c.get-in-Parallel-2.result.now)) (Symbol Parallel ∷ operand_tokens c.get-in-Parallel-3.result.now) (Symbol CloseBracket ∷ operand_tokens c.get-in-Parallel-4.result.now) ∙ append_assoc (operand_tokens c.get-in-Parallel.result.now) (Symbol OpenBracket ∷ operand_tokens c.get-in-Parallel-2.result.now) ((Symbol Parallel ∷ operand_tokens c.get-in-Parallel-3.result.now) ++ (Symbol CloseBracket ∷ operand_tokens c.get-in-Parallel-4.result.now)))
-    (last c.args.text.now c.put_operand-in-Parallel.new.text c.put_after-in-Parallel-3.new.text (operand_tokens c.get-in-Parallel.result.now) ((Symbol OpenBracket ∷ operand_tokens c.get-in-Parallel-2.result.now) ++ ((Symbol Parallel ∷ operand_tokens c.get-in-Parallel-3.result.now) ++ (Symbol CloseBracket ∷ operand_tokens c.get-in-Parallel-4.result.now))) c.put_after-in-Parallel-3.result
-    c.in_ok-put_operand-in-Parallel.ensures (last c.put_operand-in-Parallel.new.text c.put_after-in-Parallel.new.text c.put_after-in-Parallel-3.new.text (Symbol OpenBracket ∷ operand_tokens c.get-in-Parallel-2.result.now) ((Symbol Parallel ∷ operand_tokens c.get-in-Parallel-3.result.now) ++ (Symbol CloseBracket ∷ operand_tokens c.get-in-Parallel-4.result.now)) c.put_after-in-Parallel-3.result
-    c.in_ok-put_after-in-Parallel.ensures (last c.put_after-in-Parallel.new.text c.put_after-in-Parallel-2.new.text c.put_after-in-Parallel-3.new.text (Symbol Parallel ∷ operand_tokens c.get-in-Parallel-3.result.now) (Symbol CloseBracket ∷ operand_tokens c.get-in-Parallel-4.result.now) c.put_after-in-Parallel-3.result
-    c.in_ok-put_after-in-Parallel-2.ensures c.put_after-in-Parallel-3.ensures)))
+pub put_renaming-returns : goal.put_renaming-returns
+put_renaming-returns t c =
+    written_as c.args.text.now c.put_symbol-2.new.text _ _ c.put_symbol-2.result
+    (tokens-Rename c.args.p.now c.args.pairs.now c.args.gens.now ∙ (λ i. operand_tokens (sym c.get.ensures i) ++ Symbol OpenRename ∷ separated renamed_tokens (Symbol Comma) (sym c.as_slice.ensures i) ++ conditions gen_tokens (sym c.as_slice-2.ensures i) ++ Symbol CloseRename ∷ []) ∙ append_assoc ((operand_tokens c.get.result.now) ++ (Symbol OpenRename ∷ separated renamed_tokens (Symbol Comma) c.as_slice.result.now)) (conditions gen_tokens c.as_slice-2.result.now) (Symbol CloseRename ∷ []) ∙ append_assoc (operand_tokens c.get.result.now) (Symbol OpenRename ∷ separated renamed_tokens (Symbol Comma) c.as_slice.result.now) ((conditions gen_tokens c.as_slice-2.result.now) ++ (Symbol CloseRename ∷ [])))
+    (last c.args.text.now c.put_operand.new.text c.put_symbol-2.new.text (operand_tokens c.get.result.now) ((Symbol OpenRename ∷ []) ++ ((separated renamed_tokens (Symbol Comma) c.as_slice.result.now) ++ ((conditions gen_tokens c.as_slice-2.result.now) ++ (Symbol CloseRename ∷ [])))) c.put_symbol-2.result
+    c.in_ok-put_operand.ensures (last c.put_operand.new.text c.put_symbol.new.text c.put_symbol-2.new.text (Symbol OpenRename ∷ []) ((separated renamed_tokens (Symbol Comma) c.as_slice.result.now) ++ ((conditions gen_tokens c.as_slice-2.result.now) ++ (Symbol CloseRename ∷ []))) c.put_symbol-2.result
+    c.in_ok-put_symbol.ensures (last c.put_symbol.new.text c.put_pairs.new.text c.put_symbol-2.new.text (separated renamed_tokens (Symbol Comma) c.as_slice.result.now) ((conditions gen_tokens c.as_slice-2.result.now) ++ (Symbol CloseRename ∷ [])) c.put_symbol-2.result
+    c.in_ok-put_pairs.ensures (last c.put_pairs.new.text c.put_conditions.new.text c.put_symbol-2.new.text (conditions gen_tokens c.as_slice-2.result.now) (Symbol CloseRename ∷ []) c.put_symbol-2.result
+    c.in_ok-put_conditions.ensures c.put_symbol-2.ensures))))
 
-pub put_tree-returns-in_ok-put_symbol-in-EachParallel : goal.put_tree-returns-in_ok-put_symbol-in-EachParallel
-put_tree-returns-in_ok-put_symbol-in-EachParallel t c =
-    written_as c.args.text.now c.put_tree-in-EachParallel.new.text _ _ c.put_tree-in-EachParallel.result
-    (ap printed_tokens c.in-EachParallel.is ∙ tokens-EachParallel c.in-EachParallel.name c.in-EachParallel.s c.in-EachParallel.a c.in-EachParallel.p ∙ (λ i. Symbol Parallel ∷ bound_in c.in-EachParallel.name (operand_tokens (sym c.get-in-EachParallel.ensures i)) ++ Symbol At ∷ Symbol OpenBracket ∷ operand_tokens (sym c.get-in-EachParallel-2.ensures i) ++ Symbol CloseBracket ∷ printed_tokens (sym c.get-in-EachParallel-3.ensures i)) ∙ append_assoc (Symbol Parallel ∷ bound_in c.in-EachParallel.name (operand_tokens c.get-in-EachParallel.result.now)) (Symbol At ∷ Symbol OpenBracket ∷ operand_tokens c.get-in-EachParallel-2.result.now) (Symbol CloseBracket ∷ printed_tokens c.get-in-EachParallel-3.result.now) ∙ ap (λ l. Symbol Parallel ∷ bound_in c.in-EachParallel.name l) (sym (append_assoc (operand_tokens c.get-in-EachParallel.result.now) (Symbol At ∷ []) (Symbol OpenBracket ∷ operand_tokens c.get-in-EachParallel-2.result.now ++ Symbol CloseBracket ∷ printed_tokens c.get-in-EachParallel-3.result.now))))
-    (last c.args.text.now c.put_replicated-in-EachParallel.new.text c.put_tree-in-EachParallel.new.text (Symbol Parallel ∷ bound_in c.in-EachParallel.name (operand_tokens c.get-in-EachParallel.result.now) ++ Symbol At ∷ []) ((Symbol OpenBracket ∷ operand_tokens c.get-in-EachParallel-2.result.now) ++ (Symbol CloseBracket ∷ (printed_tokens c.get-in-EachParallel-3.result.now))) c.put_tree-in-EachParallel.result
-    c.in_ok-put_replicated-in-EachParallel.ensures (last c.put_replicated-in-EachParallel.new.text c.put_after-in-EachParallel.new.text c.put_tree-in-EachParallel.new.text (Symbol OpenBracket ∷ operand_tokens c.get-in-EachParallel-2.result.now) (Symbol CloseBracket ∷ (printed_tokens c.get-in-EachParallel-3.result.now)) c.put_tree-in-EachParallel.result
-    c.in_ok-put_after-in-EachParallel.ensures (last c.put_after-in-EachParallel.new.text c.put_symbol-in-EachParallel.new.text c.put_tree-in-EachParallel.new.text (Symbol CloseBracket ∷ []) (printed_tokens c.get-in-EachParallel-3.result.now) c.put_tree-in-EachParallel.result
-    c.in_ok-put_symbol-in-EachParallel.ensures c.put_tree-in-EachParallel.ensures)))
+pub put_tree-returns-in-Stop : goal.put_tree-returns-in-Stop
+put_tree-returns-in-Stop t c = written_as c.args.text.now c.put_word.new.text _ _ c.put_word.result (ap printed_tokens c.in-Stop.is ∙ tokens-Stop) c.put_word.ensures
 
-pub put_tree-returns-in_ok-put_operand-in-Seq : goal.put_tree-returns-in_ok-put_operand-in-Seq
-put_tree-returns-in_ok-put_operand-in-Seq t c =
-    written_as c.args.text.now c.put_after-in-Seq.new.text _ _ c.put_after-in-Seq.result
-    (ap printed_tokens c.in-Seq.is ∙ tokens-Seq c.in-Seq.p c.in-Seq.q ∙ (λ i. operand_tokens (sym c.get-in-Seq.ensures i) ++ Symbol Semicolon ∷ operand_tokens (sym c.get-in-Seq-2.ensures i)))
-    (last c.args.text.now c.put_operand-in-Seq.new.text c.put_after-in-Seq.new.text (operand_tokens c.get-in-Seq.result.now) (Symbol Semicolon ∷ operand_tokens c.get-in-Seq-2.result.now) c.put_after-in-Seq.result
-    c.in_ok-put_operand-in-Seq.ensures c.put_after-in-Seq.ensures)
+pub put_tree-returns-in-Skip : goal.put_tree-returns-in-Skip
+put_tree-returns-in-Skip t c = written_as c.args.text.now c.put_word-in-Skip.new.text _ _ c.put_word-in-Skip.result (ap printed_tokens c.in-Skip.is ∙ tokens-Skip) c.put_word-in-Skip.ensures
 
-pub put_tree-returns-in_ok-put_operand-in-Hide : goal.put_tree-returns-in_ok-put_operand-in-Hide
-put_tree-returns-in_ok-put_operand-in-Hide t c =
-    written_as c.args.text.now c.put_after-in-Hide.new.text _ _ c.put_after-in-Hide.result
-    (ap printed_tokens c.in-Hide.is ∙ tokens-Hide c.in-Hide.p c.in-Hide.s ∙ (λ i. operand_tokens (sym c.get-in-Hide.ensures i) ++ Symbol Backslash ∷ operand_tokens (sym c.get-in-Hide-2.ensures i)))
-    (last c.args.text.now c.put_operand-in-Hide.new.text c.put_after-in-Hide.new.text (operand_tokens c.get-in-Hide.result.now) (Symbol Backslash ∷ operand_tokens c.get-in-Hide-2.result.now) c.put_after-in-Hide.result
-    c.in_ok-put_operand-in-Hide.ensures c.put_after-in-Hide.ensures)
+pub put_tree-returns-in-Num : goal.put_tree-returns-in-Num
+put_tree-returns-in-Num t c = written_as c.args.text.now c.put_number.new.text _ _ c.put_number.result (ap printed_tokens c.in-Num.is ∙ tokens-Num c.in-Num.number) c.put_number.ensures
 
-pub put_tree-returns-in_ok-put_conditions-in-Rename : goal.put_tree-returns-in_ok-put_conditions-in-Rename
-put_tree-returns-in_ok-put_conditions-in-Rename t c =
-    written_as c.args.text.now c.put_symbol-in-Rename-2.new.text _ _ c.put_symbol-in-Rename-2.result
-    (ap printed_tokens c.in-Rename.is ∙ tokens-Rename c.in-Rename.p c.in-Rename.pairs c.in-Rename.gens ∙ (λ i. operand_tokens (sym c.get-in-Rename.ensures i) ++ Symbol OpenRename ∷ separated renamed_tokens (Symbol Comma) (sym c.as_slice-in-Rename.ensures i) ++ conditions gen_tokens (sym c.as_slice-in-Rename-2.ensures i) ++ Symbol CloseRename ∷ []) ∙ append_assoc ((operand_tokens c.get-in-Rename.result.now) ++ (Symbol OpenRename ∷ separated renamed_tokens (Symbol Comma) c.as_slice-in-Rename.result.now)) (conditions gen_tokens c.as_slice-in-Rename-2.result.now) (Symbol CloseRename ∷ []) ∙ append_assoc (operand_tokens c.get-in-Rename.result.now) (Symbol OpenRename ∷ separated renamed_tokens (Symbol Comma) c.as_slice-in-Rename.result.now) ((conditions gen_tokens c.as_slice-in-Rename-2.result.now) ++ (Symbol CloseRename ∷ [])))
-    (last c.args.text.now c.put_operand-in-Rename.new.text c.put_symbol-in-Rename-2.new.text (operand_tokens c.get-in-Rename.result.now) (Symbol OpenRename ∷ ((separated renamed_tokens (Symbol Comma) c.as_slice-in-Rename.result.now) ++ ((conditions gen_tokens c.as_slice-in-Rename-2.result.now) ++ (Symbol CloseRename ∷ [])))) c.put_symbol-in-Rename-2.result
-    c.in_ok-put_operand-in-Rename.ensures (last c.put_operand-in-Rename.new.text c.put_symbol-in-Rename.new.text c.put_symbol-in-Rename-2.new.text (Symbol OpenRename ∷ []) ((separated renamed_tokens (Symbol Comma) c.as_slice-in-Rename.result.now) ++ ((conditions gen_tokens c.as_slice-in-Rename-2.result.now) ++ (Symbol CloseRename ∷ []))) c.put_symbol-in-Rename-2.result
-    c.in_ok-put_symbol-in-Rename.ensures (last c.put_symbol-in-Rename.new.text c.put_pairs.new.text c.put_symbol-in-Rename-2.new.text (separated renamed_tokens (Symbol Comma) c.as_slice-in-Rename.result.now) ((conditions gen_tokens c.as_slice-in-Rename-2.result.now) ++ (Symbol CloseRename ∷ [])) c.put_symbol-in-Rename-2.result
-    c.in_ok-put_pairs-in-Rename.ensures (last c.put_pairs.new.text c.put_conditions-in-Rename.new.text c.put_symbol-in-Rename-2.new.text (conditions gen_tokens c.as_slice-in-Rename-2.result.now) (Symbol CloseRename ∷ []) c.put_symbol-in-Rename-2.result
-    c.in_ok-put_conditions-in-Rename.ensures c.put_symbol-in-Rename-2.ensures))))
+pub put_tree-returns-in-True : goal.put_tree-returns-in-True
+put_tree-returns-in-True t c = written_as c.args.text.now c.put_word-in-True.new.text _ _ c.put_word-in-True.result (ap printed_tokens c.in-True.is ∙ tokens-True) c.put_word-in-True.ensures
+
+pub put_tree-returns-in-False : goal.put_tree-returns-in-False
+put_tree-returns-in-False t c = written_as c.args.text.now c.put_word-in-False.new.text _ _ c.put_word-in-False.result (ap printed_tokens c.in-False.is ∙ tokens-False) c.put_word-in-False.ensures
+
+pub put_tree-returns-in-Name : goal.put_tree-returns-in-Name
+put_tree-returns-in-Name t c = written_as c.args.text.now c.put_name.new.text _ _ c.put_name.result (ap printed_tokens c.in-Name.is ∙ tokens-Name c.in-Name.name) c.put_name.ensures
+
+pub put_tree-returns-in-Call : goal.put_tree-returns-in-Call
+put_tree-returns-in-Call t c = written_as c.args.text.now c.put_call.new.text _ _ c.put_call.result (ap printed_tokens c.in-Call.is) c.put_call.ensures
+
+pub put_tree-returns-in-Dot : goal.put_tree-returns-in-Dot
+put_tree-returns-in-Dot t c = written_as c.args.text.now c.put_front.new.text _ _ c.put_front.result (ap printed_tokens c.in-Dot.is ∙ tokens-Dot c.in-Dot.name c.in-Dot.fields) c.put_front.ensures
+
+pub put_tree-returns-in-Neg : goal.put_tree-returns-in-Neg
+put_tree-returns-in-Neg t c = written_as c.args.text.now c.put_after.new.text _ _ c.put_after.result (ap printed_tokens c.in-Neg.is ∙ tokens-Neg c.in-Neg.a ∙ ap (λ l. Symbol Minus ∷ operand_tokens l) (sym c.get.ensures)) c.put_after.ensures
+
+pub put_tree-returns-in-Not : goal.put_tree-returns-in-Not
+put_tree-returns-in-Not t c = written_as c.args.text.now c.put_complement.new.text _ _ c.put_complement.result (ap printed_tokens c.in-Not.is ∙ ap (λ l. printed_tokens (tree.Not l)) (sym c.get-in-Not.ensures)) c.put_complement.ensures
+
+pub put_tree-returns-in-Binary : goal.put_tree-returns-in-Binary
+put_tree-returns-in-Binary t c = written_as c.args.text.now c.put_binary.new.text _ _ c.put_binary.result (ap printed_tokens c.in-Binary.is) c.put_binary.ensures
+
+pub put_tree-returns-in-If : goal.put_tree-returns-in-If
+put_tree-returns-in-If t c = written_as c.args.text.now c.put_conditional.new.text _ _ c.put_conditional.result (ap printed_tokens c.in-If.is) c.put_conditional.ensures
+
+pub put_tree-returns-in-Display : goal.put_tree-returns-in-Display
+put_tree-returns-in-Display t c = written_as c.args.text.now c.put_enclosed.new.text _ _ c.put_enclosed.result (ap printed_tokens c.in-Display.is ∙ tokens-Display c.in-Display.items) c.put_enclosed.ensures
+
+pub put_tree-returns-in-Range : goal.put_tree-returns-in-Range
+put_tree-returns-in-Range t c = written_as c.args.text.now c.put_range.new.text _ _ c.put_range.result (ap printed_tokens c.in-Range.is) c.put_range.ensures
+
+pub put_tree-returns-in-Comp : goal.put_tree-returns-in-Comp
+put_tree-returns-in-Comp t c = written_as c.args.text.now c.put_comprehension.new.text _ _ c.put_comprehension.result (ap printed_tokens c.in-Comp.is) c.put_comprehension.ensures
+
+pub put_tree-returns-in-Product : goal.put_tree-returns-in-Product
+put_tree-returns-in-Product t c = written_as c.args.text.now c.put_production.new.text _ _ c.put_production.result (ap printed_tokens c.in-Product.is) c.put_production.ensures
+
+pub put_tree-returns-in-SetOp : goal.put_tree-returns-in-SetOp
+put_tree-returns-in-SetOp t c = written_as c.args.text.now c.put_set_operation.new.text _ _ c.put_set_operation.result (ap printed_tokens c.in-SetOp.is) c.put_set_operation.ensures
+
+pub put_tree-returns-in-Prefix : goal.put_tree-returns-in-Prefix
+put_tree-returns-in-Prefix t c = written_as c.args.text.now c.put_prefix.new.text _ _ c.put_prefix.result (ap printed_tokens c.in-Prefix.is) c.put_prefix.ensures
+
+pub put_tree-returns-in-Guard : goal.put_tree-returns-in-Guard
+put_tree-returns-in-Guard t c = written_as c.args.text.now c.put_infix.new.text _ _ c.put_infix.result (ap printed_tokens c.in-Guard.is ∙ tokens-Guard c.in-Guard.condition c.in-Guard.p) c.put_infix.ensures
+
+pub put_tree-returns-in-External : goal.put_tree-returns-in-External
+put_tree-returns-in-External t c = written_as c.args.text.now c.put_operands.new.text _ _ c.put_operands.result (ap printed_tokens c.in-External.is ∙ tokens-External c.in-External.ps ∙ ap (separated operand_tokens (Symbol ExternalChoice)) (sym c.as_slice.ensures)) c.put_operands.ensures
+
+pub put_tree-returns-in-Internal : goal.put_tree-returns-in-Internal
+put_tree-returns-in-Internal t c = written_as c.args.text.now c.put_operands-in-Internal.new.text _ _ c.put_operands-in-Internal.result (ap printed_tokens c.in-Internal.is ∙ tokens-Internal c.in-Internal.ps ∙ ap (separated operand_tokens (Symbol InternalChoice)) (sym c.as_slice-in-Internal.ensures)) c.put_operands-in-Internal.ensures
+
+pub put_tree-returns-in-EachExternal : goal.put_tree-returns-in-EachExternal
+put_tree-returns-in-EachExternal t c = written_as c.args.text.now c.put_each.new.text _ _ c.put_each.result (ap printed_tokens c.in-EachExternal.is ∙ tokens-EachExternal c.in-EachExternal.name c.in-EachExternal.s c.in-EachExternal.p) c.put_each.ensures
+
+pub put_tree-returns-in-EachInternal : goal.put_tree-returns-in-EachInternal
+put_tree-returns-in-EachInternal t c = written_as c.args.text.now c.put_each-in-EachInternal.new.text _ _ c.put_each-in-EachInternal.result (ap printed_tokens c.in-EachInternal.is ∙ tokens-EachInternal c.in-EachInternal.name c.in-EachInternal.s c.in-EachInternal.p) c.put_each-in-EachInternal.ensures
+
+pub put_tree-returns-in-Parallel : goal.put_tree-returns-in-Parallel
+put_tree-returns-in-Parallel t c = written_as c.args.text.now c.put_parallel.new.text _ _ c.put_parallel.result (ap printed_tokens c.in-Parallel.is) c.put_parallel.ensures
+
+pub put_tree-returns-in-EachParallel : goal.put_tree-returns-in-EachParallel
+put_tree-returns-in-EachParallel t c = written_as c.args.text.now c.put_each_parallel.new.text _ _ c.put_each_parallel.result (ap printed_tokens c.in-EachParallel.is) c.put_each_parallel.ensures
+
+pub put_tree-returns-in-Seq : goal.put_tree-returns-in-Seq
+put_tree-returns-in-Seq t c = written_as c.args.text.now c.put_infix-in-Seq.new.text _ _ c.put_infix-in-Seq.result (ap printed_tokens c.in-Seq.is ∙ tokens-Seq c.in-Seq.p c.in-Seq.q) c.put_infix-in-Seq.ensures
+
+pub put_tree-returns-in-Hide : goal.put_tree-returns-in-Hide
+put_tree-returns-in-Hide t c = written_as c.args.text.now c.put_infix-in-Hide.new.text _ _ c.put_infix-in-Hide.result (ap printed_tokens c.in-Hide.is ∙ tokens-Hide c.in-Hide.p c.in-Hide.s) c.put_infix-in-Hide.ensures
+
+pub put_tree-returns-in-Rename : goal.put_tree-returns-in-Rename
+put_tree-returns-in-Rename t c = written_as c.args.text.now c.put_renaming.new.text _ _ c.put_renaming.result (ap printed_tokens c.in-Rename.is) c.put_renaming.ensures
+
+pub put_gen-returns-in-Cond : goal.put_gen-returns-in-Cond
+put_gen-returns-in-Cond t c = written_as c.args.text.now c.put_operand.new.text _ _ c.put_operand.result (ap gen_tokens c.in-Cond.is ∙ gen-Cond c.in-Cond.condition) c.put_operand.ensures
+
+pub put_field-returns-in-Dot : goal.put_field-returns-in-Dot
+put_field-returns-in-Dot t c = written_as c.args.text.now c.put_after.new.text _ _ c.put_after.result (ap field_tokens c.in-Dot.is ∙ field-Dot c.in-Dot.tree) c.put_after.ensures
+
+pub put_field-returns-in-Output : goal.put_field-returns-in-Output
+put_field-returns-in-Output t c = written_as c.args.text.now c.put_after-in-Output.new.text _ _ c.put_after-in-Output.result (ap field_tokens c.in-Output.is ∙ field-Output c.in-Output.tree) c.put_after-in-Output.ensures

@@ -1,4 +1,7 @@
-use Rattle.std.proofs.Common.{◌≡◌, ◌++◌, ◌∷◌, drop}
+use Rattle.std.proofs.Common.{◌≡◌, ◌+◌, ◌*◌, ◌++◌, ◌∷◌, drop, max}
+use denote.Param.Weighed as weighed
+use Rattle.csp_text.proofs.tree.GenTree.TheLaws as generator
+use Rattle.csp_text.proofs.tree.Tree.TheLaws.{the_size}
 use Rattle.std.specs.Prelude.{flat_map}
 use Rattle.csp_text.specs.declared.token.Symbol.TheVariants.{Comma, Dot}
 use Rattle.csp_text.specs.declared.token.Token.TheVariants as token
@@ -42,3 +45,106 @@ abbrev pub invariant-put_fields-loop-field : goal.invariant-put_fields-loop-fiel
 invariant-put_fields-loop-field l =
     l.text ++ spaced (flat_map field_tokens (drop l.field-index l.fields))
     ≡ l.fn.text ++ spaced (flat_map field_tokens l.fields)
+
+-- how deep what is left is, eight for each level: what writes a tree in parentheses, behind a sign or in a list comes above what writes it, and a form above those
+abbrev pub decreases-put_tree : goal.decreases-put_tree
+decreases-put_tree l = 8 * goal.size-put_tree l
+
+abbrev pub decreases-put_field : goal.decreases-put_field
+decreases-put_field l = 8 * goal.size-put_field l
+
+abbrev pub decreases-put_gen : goal.decreases-put_gen
+decreases-put_gen l = 8 * goal.size-put_gen l
+
+abbrev pub decreases-put_part : goal.decreases-put_part
+decreases-put_part l = 8 * goal.size-put_part l
+
+abbrev pub decreases-put_event : goal.decreases-put_event
+decreases-put_event l = 8 * goal.size-put_event l
+
+abbrev pub decreases-put_in_parentheses : goal.decreases-put_in_parentheses
+decreases-put_in_parentheses l = 8 * goal.size-put_in_parentheses l + 1
+
+abbrev pub decreases-put_gens : goal.decreases-put_gens
+decreases-put_gens l = 8 * goal.size-put_gens l + 1
+
+abbrev pub decreases-put_parts : goal.decreases-put_parts
+decreases-put_parts l = 8 * goal.size-put_parts l + 1
+
+abbrev pub decreases-put_pairs : goal.decreases-put_pairs
+decreases-put_pairs l = 8 * goal.size-put_pairs l + 1
+
+abbrev pub decreases-put_fields : goal.decreases-put_fields
+decreases-put_fields l = 8 * goal.size-put_fields l + 1
+
+abbrev pub decreases-put_operand : goal.decreases-put_operand
+decreases-put_operand l = 8 * goal.size-put_operand l + 2
+
+abbrev pub decreases-put_item : goal.decreases-put_item
+decreases-put_item l = 8 * goal.size-put_item l + 2
+
+abbrev pub decreases-put_conditions : goal.decreases-put_conditions
+decreases-put_conditions l = 8 * goal.size-put_conditions l + 2
+
+abbrev pub decreases-put_after : goal.decreases-put_after
+decreases-put_after l = 8 * goal.size-put_after l + 3
+
+abbrev pub decreases-put_complement : goal.decreases-put_complement
+decreases-put_complement l = 8 * goal.size-put_complement l + 3
+
+abbrev pub decreases-put_items : goal.decreases-put_items
+decreases-put_items l = 8 * goal.size-put_items l + 3
+
+abbrev pub decreases-put_operands : goal.decreases-put_operands
+decreases-put_operands l = 8 * goal.size-put_operands l + 3
+
+abbrev pub decreases-put_replicated : goal.decreases-put_replicated
+decreases-put_replicated l = 8 * goal.size-put_replicated l + 4
+
+abbrev pub decreases-put_dotted : goal.decreases-put_dotted
+decreases-put_dotted l = 8 * goal.size-put_dotted l + 4
+
+abbrev pub decreases-put_enclosed : goal.decreases-put_enclosed
+decreases-put_enclosed l = 8 * goal.size-put_enclosed l + 4
+
+abbrev pub decreases-put_front : goal.decreases-put_front
+decreases-put_front l = 8 * goal.size-put_front l + 5
+
+abbrev pub decreases-put_call : goal.decreases-put_call
+decreases-put_call l = 8 * goal.size-put_call l + 5
+
+abbrev pub decreases-put_binary : goal.decreases-put_binary
+decreases-put_binary l = 8 * (max (the_size l.a.now) (the_size l.b.now)) + 5
+
+abbrev pub decreases-put_infix : goal.decreases-put_infix
+decreases-put_infix l = 8 * (max (the_size l.a.now) (the_size l.b.now)) + 5
+
+abbrev pub decreases-put_conditional : goal.decreases-put_conditional
+decreases-put_conditional l = 8 * (max (the_size l.condition.now) (max (the_size l.a.now) (the_size l.b.now))) + 5
+
+abbrev pub decreases-put_range : goal.decreases-put_range
+decreases-put_range l = 8 * (max (the_size l.a.now) (the_size l.b.now)) + 5
+
+abbrev pub decreases-put_set_operation : goal.decreases-put_set_operation
+decreases-put_set_operation l = 8 * (max (the_size l.a.now) (the_size l.b.now)) + 5
+
+abbrev pub decreases-put_each : goal.decreases-put_each
+decreases-put_each l = 8 * (max (the_size l.s.now) (the_size l.p.now)) + 5
+
+abbrev pub decreases-put_parallel : goal.decreases-put_parallel
+decreases-put_parallel l = 8 * (max (the_size l.p.now) (max (the_size l.a.now) (max (the_size l.b.now) (the_size l.q.now)))) + 5
+
+abbrev pub decreases-put_each_parallel : goal.decreases-put_each_parallel
+decreases-put_each_parallel l = 8 * (max (the_size l.s.now) (max (the_size l.a.now) (the_size l.p.now))) + 5
+
+abbrev pub decreases-put_prefix : goal.decreases-put_prefix
+decreases-put_prefix l = 8 * (max (goal.size-put_prefix l) (the_size l.p.now)) + 5
+
+abbrev pub decreases-put_comprehension : goal.decreases-put_comprehension
+decreases-put_comprehension l = 8 * (max (goal.size-put_comprehension l) (weighed.most (λ x. generator.the_size x) l.gens.now)) + 5
+
+abbrev pub decreases-put_production : goal.decreases-put_production
+decreases-put_production l = 8 * (max (goal.size-put_production l) (weighed.most (λ x. generator.the_size x) l.gens.now)) + 5
+
+abbrev pub decreases-put_renaming : goal.decreases-put_renaming
+decreases-put_renaming l = 8 * (max (goal.size-put_renaming l) (max (the_size l.p.now) (weighed.most (λ x. generator.the_size x) l.gens.now))) + 5
