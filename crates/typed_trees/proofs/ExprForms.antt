@@ -4,7 +4,6 @@ use Rattle.csp_base.specs.declared.operators.BinOp.{BinOp}
 use Rattle.csp_base.specs.declared.operators.SetOp.{SetOp}
 use Rattle.csp_text.specs.declared.tree.FieldTree.TheOpen.{GenTree-F, Tree-F}
 use Rattle.csp_text.specs.declared.tree.FieldTree.TheViews.{out-PartTree, roll-out-PartTree}
-use Rattle.csp_text.specs.declared.tree.EventTree.{EventTree}
 use Rattle.csp_text.specs.declared.tree.GenTree.{GenTree}
 use Rattle.csp_text.specs.declared.tree.GenTree.TheVariants as gentree
 use Rattle.csp_text.specs.declared.tree.PartTree.{PartTree}
@@ -19,6 +18,7 @@ use Rattle.script_names.specs.Typed.{Scope, bindings, exprs, under, with, named,
 use Rattle.script_names.specs.Typed as typed
 use Rattle.typed_trees.specs.Tokens.{tokens, all_tokens, gens_tokens, parts_tokens}
 use Rattle.typed_trees.specs.Words.{tree_read, gen_read, part_read, expr_of, exprs_of, gen_of, gen_scope, gens_of, gens_scope, part_of, parts_of}
+use Rattle.typed_trees.proofs.TokenForms.{tokens-Num, tokens-True, tokens-False, tokens-Name}
 use Rattle.typed_trees.proofs.Rolls.{tree_rolls, gen_rolls, part_rolls}
 use Rattle.typed_trees.proofs.SameTokens.{same_tree, same_gen, same_part}
 
@@ -176,73 +176,8 @@ module _ (es : Entities) (ks : List Kind) where
       ∙ ap (λ r. r.expr s n) (tree_rolls es ks (Tree-F.SetOp op a b))
       ∙ (λ i. expr.SetOp op (expr_of es ks a s n) (expr_of es ks b s (n + same_tree es ks a i)))
 
-  pub expr_of-Stop : (s : Scope) (n : ℕ) → expr_of es ks tree.Stop s n ≡ expr.Num (pos 0)
-  unfolding expr_of
-  expr_of-Stop s n = ap (λ t. (tree_read es ks t).expr s n) (sym tree.rolls-Stop) ∙ ap (λ r. r.expr s n) (tree_rolls es ks Tree-F.Stop)
-
-  pub expr_of-Skip : (s : Scope) (n : ℕ) → expr_of es ks tree.Skip s n ≡ expr.Num (pos 0)
-  unfolding expr_of
-  expr_of-Skip s n = ap (λ t. (tree_read es ks t).expr s n) (sym tree.rolls-Skip) ∙ ap (λ r. r.expr s n) (tree_rolls es ks Tree-F.Skip)
-
-  pub expr_of-Prefix : (event : EventTree) (p : Tree) (s : Scope) (n : ℕ) → expr_of es ks (tree.Prefix event p) s n ≡ expr.Num (pos 0)
-  unfolding expr_of
-  expr_of-Prefix event p s n =
-      ap (λ t. (tree_read es ks t).expr s n) (sym (tree.rolls-Prefix event p))
-      ∙ ap (λ r. r.expr s n) (tree_rolls es ks (Tree-F.Prefix event p))
-
-  pub expr_of-Guard : (c : Tree) (p : Tree) (s : Scope) (n : ℕ) → expr_of es ks (tree.Guard c p) s n ≡ expr.Num (pos 0)
-  unfolding expr_of
-  expr_of-Guard c p s n = ap (λ t. (tree_read es ks t).expr s n) (sym (tree.rolls-Guard c p)) ∙ ap (λ r. r.expr s n) (tree_rolls es ks (Tree-F.Guard c p))
-
-  pub expr_of-External : (ps : List Tree) (s : Scope) (n : ℕ) → expr_of es ks (tree.External ps) s n ≡ expr.Num (pos 0)
-  unfolding expr_of
-  expr_of-External ps s n = ap (λ t. (tree_read es ks t).expr s n) (sym (tree.rolls-External ps)) ∙ ap (λ r. r.expr s n) (tree_rolls es ks (Tree-F.External ps))
-
-  pub expr_of-Internal : (ps : List Tree) (s : Scope) (n : ℕ) → expr_of es ks (tree.Internal ps) s n ≡ expr.Num (pos 0)
-  unfolding expr_of
-  expr_of-Internal ps s n = ap (λ t. (tree_read es ks t).expr s n) (sym (tree.rolls-Internal ps)) ∙ ap (λ r. r.expr s n) (tree_rolls es ks (Tree-F.Internal ps))
-
-  pub expr_of-EachExternal : (x : Name) (u : Tree) (p : Tree) (s : Scope) (n : ℕ) → expr_of es ks (tree.EachExternal x u p) s n ≡ expr.Num (pos 0)
-  unfolding expr_of
-  expr_of-EachExternal x u p s n =
-      ap (λ t. (tree_read es ks t).expr s n) (sym (tree.rolls-EachExternal x u p))
-      ∙ ap (λ r. r.expr s n) (tree_rolls es ks (Tree-F.EachExternal x u p))
-
-  pub expr_of-EachInternal : (x : Name) (u : Tree) (p : Tree) (s : Scope) (n : ℕ) → expr_of es ks (tree.EachInternal x u p) s n ≡ expr.Num (pos 0)
-  unfolding expr_of
-  expr_of-EachInternal x u p s n =
-      ap (λ t. (tree_read es ks t).expr s n) (sym (tree.rolls-EachInternal x u p))
-      ∙ ap (λ r. r.expr s n) (tree_rolls es ks (Tree-F.EachInternal x u p))
-
-  pub expr_of-Parallel : (p : Tree) (a : Tree) (b : Tree) (q : Tree) (s : Scope) (n : ℕ) → expr_of es ks (tree.Parallel p a b q) s n ≡ expr.Num (pos 0)
-  unfolding expr_of
-  expr_of-Parallel p a b q s n =
-      ap (λ t. (tree_read es ks t).expr s n) (sym (tree.rolls-Parallel p a b q))
-      ∙ ap (λ r. r.expr s n) (tree_rolls es ks (Tree-F.Parallel p a b q))
-
-  pub expr_of-EachParallel : (x : Name) (u : Tree) (a : Tree) (p : Tree) (s : Scope) (n : ℕ) → expr_of es ks (tree.EachParallel x u a p) s n ≡ expr.Num (pos 0)
-  unfolding expr_of
-  expr_of-EachParallel x u a p s n =
-      ap (λ t. (tree_read es ks t).expr s n) (sym (tree.rolls-EachParallel x u a p))
-      ∙ ap (λ r. r.expr s n) (tree_rolls es ks (Tree-F.EachParallel x u a p))
-
-  pub expr_of-Seq : (p : Tree) (q : Tree) (s : Scope) (n : ℕ) → expr_of es ks (tree.Seq p q) s n ≡ expr.Num (pos 0)
-  unfolding expr_of
-  expr_of-Seq p q s n = ap (λ t. (tree_read es ks t).expr s n) (sym (tree.rolls-Seq p q)) ∙ ap (λ r. r.expr s n) (tree_rolls es ks (Tree-F.Seq p q))
-
-  pub expr_of-Hide : (p : Tree) (u : Tree) (s : Scope) (n : ℕ) → expr_of es ks (tree.Hide p u) s n ≡ expr.Num (pos 0)
-  unfolding expr_of
-  expr_of-Hide p u s n = ap (λ t. (tree_read es ks t).expr s n) (sym (tree.rolls-Hide p u)) ∙ ap (λ r. r.expr s n) (tree_rolls es ks (Tree-F.Hide p u))
-
-  pub expr_of-Rename : (p : Tree) (fronts : List (PartTree × PartTree)) (gens : List GenTree) (s : Scope) (n : ℕ)
-      → expr_of es ks (tree.Rename p fronts gens) s n ≡ expr.Num (pos 0)
-  unfolding expr_of
-  expr_of-Rename p fronts gens s n =
-      ap (λ t. (tree_read es ks t).expr s n) (sym (tree.rolls-Rename p fronts gens))
-      ∙ ap (λ r. r.expr s n) (tree_rolls es ks (Tree-F.Rename p fronts gens))
-
 pub ruleset part_forms = (part_of-is)
 
 pub ruleset gen_forms = (gen_of-From, gen_of-Cond, gen_scope-From, gen_scope-Cond)
 
-pub ruleset expr_forms = (expr_of-Num, expr_of-True, expr_of-False, expr_of-Name, expr_of-Call, expr_of-Dot, expr_of-Neg, expr_of-Not, expr_of-Binary, expr_of-If, expr_of-Display, expr_of-Range, expr_of-Comp, expr_of-Product, expr_of-SetOp, expr_of-Stop, expr_of-Skip, expr_of-Prefix, expr_of-Guard, expr_of-External, expr_of-Internal, expr_of-EachExternal, expr_of-EachInternal, expr_of-Parallel, expr_of-EachParallel, expr_of-Seq, expr_of-Hide, expr_of-Rename)
+pub ruleset bare_forms = (expr_of-Num, expr_of-True, expr_of-False, expr_of-Name, tokens-Num, tokens-True, tokens-False, tokens-Name)

@@ -5,3 +5,4 @@ pub mod Scopes
 pub mod ExprForms
 pub mod ProcForms
 pub mod NetForms
+pub mod OtherForms

@@ -1,7 +1,5 @@
 -- What each form of a tree is as a process.
 use Rattle.std.proofs.Common.{◌≡◌, ℕ, ◌+◌, Option, Some, None, List, [], ◌∷◌, map, refl, ap, sym, ◌∙◌}
-use Rattle.csp_base.specs.declared.operators.BinOp.{BinOp}
-use Rattle.csp_base.specs.declared.operators.SetOp.{SetOp}
 use Rattle.csp_text.specs.declared.tree.FieldTree.{FieldTree}
 use Rattle.csp_text.specs.declared.tree.FieldTree.TheOpen.{FieldTree-F, Tree-F}
 use Rattle.csp_text.specs.declared.tree.FieldTree.TheVariants as fieldtree
@@ -100,18 +98,6 @@ module _ (es : Entities) (ks : List Kind) where
       ap (λ f. (field_read es ks f).after s n) (sym (fieldtree.rolls-Input x (Some t)))
       ∙ ap (λ b. b.after s n) (field_rolls es ks (FieldTree-F.Input x (Some t)))
 
-  pub proc_of-Num : (k : ℕ) (s : Scope) (n : ℕ) → proc_of es ks (tree.Num k) s n ≡ proc.Stop
-  unfolding proc_of expr_of
-  proc_of-Num k s n = ap (λ t. (tree_read es ks t).proc s n) (sym (tree.rolls-Num k)) ∙ ap (λ r. r.proc s n) (tree_rolls es ks (Tree-F.Num k))
-
-  pub proc_of-True : (s : Scope) (n : ℕ) → proc_of es ks tree.True s n ≡ proc.Stop
-  unfolding proc_of expr_of
-  proc_of-True s n = ap (λ t. (tree_read es ks t).proc s n) (sym tree.rolls-True) ∙ ap (λ r. r.proc s n) (tree_rolls es ks Tree-F.True)
-
-  pub proc_of-False : (s : Scope) (n : ℕ) → proc_of es ks tree.False s n ≡ proc.Stop
-  unfolding proc_of expr_of
-  proc_of-False s n = ap (λ t. (tree_read es ks t).proc s n) (sym tree.rolls-False) ∙ ap (λ r. r.proc s n) (tree_rolls es ks Tree-F.False)
-
   pub proc_of-Name : (x : Name) (s : Scope) (n : ℕ) → proc_of es ks (tree.Name x) s n ≡ proc.Call (definition_number (first_of es x)) []
   unfolding proc_of expr_of
   proc_of-Name x s n = ap (λ t. (tree_read es ks t).proc s n) (sym (tree.rolls-Name x)) ∙ ap (λ r. r.proc s n) (tree_rolls es ks (Tree-F.Name x))
@@ -124,26 +110,6 @@ module _ (es : Entities) (ks : List Kind) where
       ∙ ap (λ r. r.proc s n) (tree_rolls es ks (Tree-F.Call f args))
       ∙ (λ i. proc.Call (definition_number (first_of es f)) (exprs_are es ks args s n i))
 
-  pub proc_of-Dot : (c : Name) (fields : List Tree) (s : Scope) (n : ℕ) → proc_of es ks (tree.Dot c fields) s n ≡ proc.Stop
-  unfolding proc_of expr_of
-  proc_of-Dot c fields s n =
-      ap (λ t. (tree_read es ks t).proc s n) (sym (tree.rolls-Dot c fields))
-      ∙ ap (λ r. r.proc s n) (tree_rolls es ks (Tree-F.«Tree::Dot» c fields))
-
-  pub proc_of-Neg : (a : Tree) (s : Scope) (n : ℕ) → proc_of es ks (tree.Neg a) s n ≡ proc.Stop
-  unfolding proc_of expr_of
-  proc_of-Neg a s n = ap (λ t. (tree_read es ks t).proc s n) (sym (tree.rolls-Neg a)) ∙ ap (λ r. r.proc s n) (tree_rolls es ks (Tree-F.Neg a))
-
-  pub proc_of-Not : (a : Tree) (s : Scope) (n : ℕ) → proc_of es ks (tree.Not a) s n ≡ proc.Stop
-  unfolding proc_of expr_of
-  proc_of-Not a s n = ap (λ t. (tree_read es ks t).proc s n) (sym (tree.rolls-Not a)) ∙ ap (λ r. r.proc s n) (tree_rolls es ks (Tree-F.Not a))
-
-  pub proc_of-Binary : (op : BinOp) (a : Tree) (b : Tree) (s : Scope) (n : ℕ) → proc_of es ks (tree.Binary op a b) s n ≡ proc.Stop
-  unfolding proc_of expr_of
-  proc_of-Binary op a b s n =
-      ap (λ t. (tree_read es ks t).proc s n) (sym (tree.rolls-Binary op a b))
-      ∙ ap (λ r. r.proc s n) (tree_rolls es ks (Tree-F.Binary op a b))
-
   pub proc_of-If : (c : Tree) (a : Tree) (b : Tree) (s : Scope) (n : ℕ)
       → proc_of es ks (tree.If c a b) s n ≡ proc.If (expr_of es ks c s n) (proc_of es ks a s (n + tokens c)) (proc_of es ks b s (n + tokens c + tokens a))
   unfolding proc_of expr_of
@@ -151,34 +117,6 @@ module _ (es : Entities) (ks : List Kind) where
       ap (λ t. (tree_read es ks t).proc s n) (sym (tree.rolls-If c a b))
       ∙ ap (λ r. r.proc s n) (tree_rolls es ks (Tree-F.If c a b))
       ∙ (λ i. proc.If (expr_of es ks c s n) (proc_of es ks a s (n + same_tree es ks c i)) (proc_of es ks b s (n + same_tree es ks c i + same_tree es ks a i)))
-
-  pub proc_of-Display : (items : List Tree) (s : Scope) (n : ℕ) → proc_of es ks (tree.Display items) s n ≡ proc.Stop
-  unfolding proc_of expr_of
-  proc_of-Display items s n =
-      ap (λ t. (tree_read es ks t).proc s n) (sym (tree.rolls-Display items))
-      ∙ ap (λ r. r.proc s n) (tree_rolls es ks (Tree-F.Display items))
-
-  pub proc_of-Range : (a : Tree) (b : Tree) (s : Scope) (n : ℕ) → proc_of es ks (tree.Range a b) s n ≡ proc.Stop
-  unfolding proc_of expr_of
-  proc_of-Range a b s n = ap (λ t. (tree_read es ks t).proc s n) (sym (tree.rolls-Range a b)) ∙ ap (λ r. r.proc s n) (tree_rolls es ks (Tree-F.Range a b))
-
-  pub proc_of-Comp : (items : List Tree) (gens : List GenTree) (s : Scope) (n : ℕ) → proc_of es ks (tree.Comp items gens) s n ≡ proc.Stop
-  unfolding proc_of expr_of
-  proc_of-Comp items gens s n =
-      ap (λ t. (tree_read es ks t).proc s n) (sym (tree.rolls-Comp items gens))
-      ∙ ap (λ r. r.proc s n) (tree_rolls es ks (Tree-F.Comp items gens))
-
-  pub proc_of-Product : (fronts : List PartTree) (gens : List GenTree) (s : Scope) (n : ℕ) → proc_of es ks (tree.Product fronts gens) s n ≡ proc.Stop
-  unfolding proc_of expr_of
-  proc_of-Product fronts gens s n =
-      ap (λ t. (tree_read es ks t).proc s n) (sym (tree.rolls-Product fronts gens))
-      ∙ ap (λ r. r.proc s n) (tree_rolls es ks (Tree-F.Product fronts gens))
-
-  pub proc_of-SetOp : (op : SetOp) (a : Tree) (b : Tree) (s : Scope) (n : ℕ) → proc_of es ks (tree.SetOp op a b) s n ≡ proc.Stop
-  unfolding proc_of expr_of
-  proc_of-SetOp op a b s n =
-      ap (λ t. (tree_read es ks t).proc s n) (sym (tree.rolls-SetOp op a b))
-      ∙ ap (λ r. r.proc s n) (tree_rolls es ks (Tree-F.SetOp op a b))
 
   pub proc_of-Stop : (s : Scope) (n : ℕ) → proc_of es ks tree.Stop s n ≡ proc.Stop
   unfolding proc_of expr_of
@@ -236,18 +174,6 @@ module _ (es : Entities) (ks : List Kind) where
       ∙ ap (λ r. r.proc s n) (tree_rolls es ks (Tree-F.EachInternal x u p))
       ∙ (λ i. proc.EachInternal n (expr_of es ks u s (n + 1)) (proc_of es ks p (with s x n) (n + 1 + same_tree es ks u i)))
 
-  pub proc_of-Parallel : (p : Tree) (a : Tree) (b : Tree) (q : Tree) (s : Scope) (n : ℕ) → proc_of es ks (tree.Parallel p a b q) s n ≡ proc.Stop
-  unfolding proc_of expr_of
-  proc_of-Parallel p a b q s n =
-      ap (λ t. (tree_read es ks t).proc s n) (sym (tree.rolls-Parallel p a b q))
-      ∙ ap (λ r. r.proc s n) (tree_rolls es ks (Tree-F.Parallel p a b q))
-
-  pub proc_of-EachParallel : (x : Name) (u : Tree) (a : Tree) (p : Tree) (s : Scope) (n : ℕ) → proc_of es ks (tree.EachParallel x u a p) s n ≡ proc.Stop
-  unfolding proc_of expr_of
-  proc_of-EachParallel x u a p s n =
-      ap (λ t. (tree_read es ks t).proc s n) (sym (tree.rolls-EachParallel x u a p))
-      ∙ ap (λ r. r.proc s n) (tree_rolls es ks (Tree-F.EachParallel x u a p))
-
   pub proc_of-Seq : (p : Tree) (q : Tree) (s : Scope) (n : ℕ)
       → proc_of es ks (tree.Seq p q) s n ≡ proc.Seq (proc_of es ks p s n) (proc_of es ks q s (n + tokens p))
   unfolding proc_of expr_of
@@ -297,5 +223,4 @@ pub ruleset renaming_forms = (proc_of-Rename, tokens-Rename)
 
 pub ruleset prefix_forms = (proc_of-Prefix, tokens-Prefix)
 
--- the forms that stand for a process by themselves, and those that stand for none
-pub ruleset bare_forms = (proc_of-Num, proc_of-True, proc_of-False, proc_of-Name, proc_of-Dot, proc_of-Neg, proc_of-Not, proc_of-Binary, proc_of-Display, proc_of-Range, proc_of-Comp, proc_of-Product, proc_of-SetOp, proc_of-Stop, proc_of-Skip, proc_of-Parallel, proc_of-EachParallel, tokens-Stop, tokens-Skip, tokens-Name)
+pub ruleset bare_forms = (proc_of-Stop, proc_of-Skip, proc_of-Name, tokens-Stop, tokens-Skip, tokens-Name)

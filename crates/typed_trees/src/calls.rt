@@ -5,6 +5,7 @@ ghost use Rattle.script_names.specs.declared.kinds.Kind.{Kind};
 ghost use Rattle.script_names.specs.Names.{Entities, first_of};
 ghost use Rattle.script_names.specs.Typed.{all_bind, exprs, reading};
 
+use crate::binders::{Binders, Meanings};
 use crate::counts::count_tree;
 use crate::expressions::{expression, expressions};
 use crate::networks::network;
@@ -16,6 +17,7 @@ use csp_text::Tree;
 use name_tables::{Dictionary, Scope};
 use script_names::Kind;
 use std::alloc::Global;
+use std::mem::replace;
 
 /// How many binding tokens a tree has. Its names may mean anything.
 pub fn binds(tree: &Tree) -> Result<u32, NoMemory>
@@ -24,6 +26,24 @@ pub fn binds(tree: &Tree) -> Result<u32, NoMemory>
     let mut count = 0;
     count_tree(&mut count, tree)?;
     Ok(count)
+}
+
+// The bound names, taken out of `scope`, with the number of the next binding token.
+fn taken(alloc: Global, scope: &mut Scope, next: u32) -> Binders
+    ensures scope { result.scope ≡ scope.old }
+    ensures next { result.next ≡ next }
+{
+    let scope = replace(scope, Scope::new(alloc));
+    Binders { scope, next }
+}
+
+// Puts the bound names back into `scope`, and the number into `next`.
+fn put_back(binders: Binders, scope: &mut Scope, next: &mut u32)
+    ensures scope { scope.new ≡ binders.scope }
+    ensures next { next.new ≡ binders.next }
+{
+    *scope = binders.scope;
+    *next = binders.next;
 }
 
 /// A tree as an expression, under the bound names `scope`. Its binding tokens have the numbers from `next` on.
@@ -40,8 +60,15 @@ pub fn typed_expr(
     ensures next { OnOk result (next.new ≡ next.old + (reading (first_of names.now) kinds.now tree.now).binds) }
     ensures scope { OnOk result (scope.new ≡ scope.old) }
 {
-    let made = expression(alloc, names, kinds, scope, next, tree)?;
-    Ok(made)
+    let meanings = Meanings {
+        alloc,
+        names,
+        kinds,
+    };
+    let mut binders = taken(alloc, scope, *next);
+    let made = expression(&meanings, &mut binders, tree);
+    put_back(binders, scope, next);
+    Ok(made?)
 }
 
 /// Trees as expressions, numbered one after another.
@@ -57,8 +84,15 @@ pub fn typed_exprs(
     ensures next { OnOk result (next.new ≡ next.old + all_bind (map (reading (first_of names.now) kinds.now) trees.now)) }
     ensures scope { OnOk result (scope.new ≡ scope.old) }
 {
-    let made = expressions(alloc, names, kinds, scope, next, trees)?;
-    Ok(made)
+    let meanings = Meanings {
+        alloc,
+        names,
+        kinds,
+    };
+    let mut binders = taken(alloc, scope, *next);
+    let made = expressions(&meanings, &mut binders, trees);
+    put_back(binders, scope, next);
+    Ok(made?)
 }
 
 /// A tree as a process, under the bound names `scope`. Its binding tokens have the numbers from `next` on.
@@ -75,8 +109,15 @@ pub fn typed_proc(
     ensures next { OnOk result (next.new ≡ next.old + (reading (first_of names.now) kinds.now tree.now).binds) }
     ensures scope { OnOk result (scope.new ≡ scope.old) }
 {
-    let made = process(alloc, names, kinds, scope, next, tree)?;
-    Ok(made)
+    let meanings = Meanings {
+        alloc,
+        names,
+        kinds,
+    };
+    let mut binders = taken(alloc, scope, *next);
+    let made = process(&meanings, &mut binders, tree);
+    put_back(binders, scope, next);
+    Ok(made?)
 }
 
 /// A tree as a network, under the bound names `scope`. Its binding tokens have the numbers from `next` on. One that holds no parallel and no use of
@@ -94,6 +135,13 @@ pub fn typed_net(
     ensures next { OnOk result (next.new ≡ next.old + (reading (first_of names.now) kinds.now tree.now).binds) }
     ensures scope { OnOk result (scope.new ≡ scope.old) }
 {
-    let made = network(alloc, names, kinds, scope, next, tree)?;
-    Ok(made)
+    let meanings = Meanings {
+        alloc,
+        names,
+        kinds,
+    };
+    let mut binders = taken(alloc, scope, *next);
+    let made = network(&meanings, &mut binders, tree);
+    put_back(binders, scope, next);
+    Ok(made?)
 }

@@ -7,248 +7,204 @@ ghost use Rattle.typed_trees.specs.Tokens.{all_tokens, gen_tokens, gens_tokens, 
 ghost use Rattle.typed_trees.specs.Words.{expr_of, exprs_of, gen_of, gen_scope, gens_of, gens_scope, part_of, parts_of};
 ghost use Rattle.typed_trees.specs.Scopes.{Keeps};
 
-use crate::binders::{leave, take_number};
+use crate::binders::{Binders, Meanings, leave, take_number};
 use crate::counts::{count_parts, count_tree, count_trees};
 use crate::names::{channel_number, definition_number, name};
 use containers::{Boxed, Items};
 use csp_base::{BinOp, Name, NoMemory, SetOp};
 use csp_program::{EventPart, Expr, Gen};
 use csp_text::{GenTree, PartTree, Tree};
-use name_tables::{Dictionary, Scope};
-use script_names::Kind;
-use std::alloc::Global;
 
 // What stands for a process where an expression is needed, which it never is in a script without faults.
-fn no_expression(next: &mut u32, tree: &Tree) -> Result<Expr, NoMemory>
+fn no_expression(binders: &mut Binders, tree: &Tree) -> Result<Expr, NoMemory>
     ensures made { IfOk result (λ made. made ≡ Expr.Num (pos 0)) }
-    ensures next { OnOk result (next.new ≡ next.old + tokens tree.now) }
+    ensures next { OnOk result (binders.new.next ≡ binders.old.next + tokens tree.now) }
+    ensures scope { OnOk result (binders.new.scope ≡ binders.old.scope) }
 {
-    count_tree(next, tree)?;
+    count_tree(&mut binders.next, tree)?;
     Ok(Expr::Num(0))
 }
 
-/// A tree as an expression, under the bound names `scope`, with the number `next` for its first binding token.
-#[tactic(auto, using(crate::proofs::TokenForms::token_forms, crate::proofs::ExprForms::expr_forms))]
+/// A tree as an expression.
+#[tactic(auto, using(crate::proofs::ExprForms::bare_forms))]
 #[cycle(typed_expr)]
 pub(crate) fn expression(
-    alloc: Global,
-    names: &Dictionary,
-    kinds: &[Kind],
-    scope: &mut Scope,
-    next: &mut u32,
+    meanings: &Meanings<'_>,
+    binders: &mut Binders,
     tree: &Tree,
 ) -> Result<Expr, NoMemory>
-    ensures made { IfOk result (λ made. made ≡ expr_of names.now kinds.now tree.now scope.old next.old) }
-    ensures next { OnOk result (next.new ≡ next.old + tokens tree.now) }
-    ensures scope { OnOk result (scope.new ≡ scope.old) }
+    ensures made { IfOk result (λ made. made ≡ expr_of meanings.now.names.now meanings.now.kinds.now tree.now binders.old.scope binders.old.next) }
+    ensures next { OnOk result (binders.new.next ≡ binders.old.next + tokens tree.now) }
+    ensures scope { OnOk result (binders.new.scope ≡ binders.old.scope) }
 {
     match tree {
         Tree::Num(number) => Ok(Expr::Num(i64::from(*number))),
         Tree::True => Ok(Expr::Truth(true)),
         Tree::False => Ok(Expr::Truth(false)),
-        Tree::Name(x) => Ok(name(alloc, names, scope, x)),
-        Tree::Call(f, args) => call(alloc, names, kinds, scope, next, f, args),
-        Tree::Dot(c, fields) => event(alloc, names, kinds, scope, next, c, fields),
-        Tree::Neg(a) => negative(alloc, names, kinds, scope, next, a),
-        Tree::Not(a) => opposite(alloc, names, kinds, scope, next, a),
-        Tree::Binary(op, a, b) => binary(alloc, names, kinds, scope, next, *op, a, b),
-        Tree::If(c, a, b) => choice(alloc, names, kinds, scope, next, c, a, b),
-        Tree::Display(items) => display(alloc, names, kinds, scope, next, items),
-        Tree::Range(a, b) => range(alloc, names, kinds, scope, next, a, b),
-        Tree::Comp(items, gens) => comprehension(alloc, names, kinds, scope, next, items, gens),
-        Tree::Product(parts, gens) => product(alloc, names, kinds, scope, next, parts, gens),
-        Tree::SetOp(op, a, b) => set_operation(alloc, names, kinds, scope, next, *op, a, b),
-        Tree::Stop
-        | Tree::Skip
-        | Tree::Prefix(_, _)
-        | Tree::Guard(_, _)
-        | Tree::External(_)
-        | Tree::Internal(_)
-        | Tree::EachExternal(_, _, _)
-        | Tree::EachInternal(_, _, _)
-        | Tree::Parallel(_, _, _, _)
-        | Tree::EachParallel(_, _, _, _)
-        | Tree::Seq(_, _)
-        | Tree::Hide(_, _)
-        | Tree::Rename(_, _, _) => no_expression(next, tree),
+        Tree::Name(x) => Ok(name(meanings, &binders.scope, x)),
+        Tree::Call(f, args) => call(meanings, binders, f, args),
+        Tree::Dot(c, fields) => event(meanings, binders, c, fields),
+        Tree::Neg(a) => negative(meanings, binders, a),
+        Tree::Not(a) => opposite(meanings, binders, a),
+        Tree::Binary(op, a, b) => binary(meanings, binders, *op, a, b),
+        Tree::If(c, a, b) => choice(meanings, binders, c, a, b),
+        Tree::Display(items) => display(meanings, binders, items),
+        Tree::Range(a, b) => range(meanings, binders, a, b),
+        Tree::Comp(items, gens) => comprehension(meanings, binders, items, gens),
+        Tree::Product(parts, gens) => product(meanings, binders, parts, gens),
+        Tree::SetOp(op, a, b) => set_operation(meanings, binders, *op, a, b),
+        _ => no_expression(binders, tree),
     }
 }
 
 // The negative of an expression.
 #[cycle(typed_expr)]
 fn negative(
-    alloc: Global,
-    names: &Dictionary,
-    kinds: &[Kind],
-    scope: &mut Scope,
-    next: &mut u32,
+    meanings: &Meanings<'_>,
+    binders: &mut Binders,
     a: &Boxed<Tree>,
 ) -> Result<Expr, NoMemory>
-    ensures made { IfOk result (λ made. made ≡ Expr.Neg (expr_of names.now kinds.now a.now scope.old next.old)) }
-    ensures next { OnOk result (next.new ≡ next.old + tokens a.now) }
-    ensures scope { OnOk result (scope.new ≡ scope.old) }
+    ensures made { IfOk result (λ made. made ≡ Expr.Neg (expr_of meanings.now.names.now meanings.now.kinds.now a.now binders.old.scope binders.old.next)) }
+    ensures next { OnOk result (binders.new.next ≡ binders.old.next + tokens a.now) }
+    ensures scope { OnOk result (binders.new.scope ≡ binders.old.scope) }
 {
-    let a = boxed(alloc, names, kinds, scope, next, a.get())?;
+    let a = boxed(meanings, binders, a.get())?;
     Ok(Expr::Neg(a))
 }
 
 // The opposite of a condition.
 #[cycle(typed_expr)]
 fn opposite(
-    alloc: Global,
-    names: &Dictionary,
-    kinds: &[Kind],
-    scope: &mut Scope,
-    next: &mut u32,
+    meanings: &Meanings<'_>,
+    binders: &mut Binders,
     a: &Boxed<Tree>,
 ) -> Result<Expr, NoMemory>
-    ensures made { IfOk result (λ made. made ≡ Expr.Not (expr_of names.now kinds.now a.now scope.old next.old)) }
-    ensures next { OnOk result (next.new ≡ next.old + tokens a.now) }
-    ensures scope { OnOk result (scope.new ≡ scope.old) }
+    ensures made { IfOk result (λ made. made ≡ Expr.Not (expr_of meanings.now.names.now meanings.now.kinds.now a.now binders.old.scope binders.old.next)) }
+    ensures next { OnOk result (binders.new.next ≡ binders.old.next + tokens a.now) }
+    ensures scope { OnOk result (binders.new.scope ≡ binders.old.scope) }
 {
-    let a = boxed(alloc, names, kinds, scope, next, a.get())?;
+    let a = boxed(meanings, binders, a.get())?;
     Ok(Expr::Not(a))
 }
 
 // An operator between two operands.
 #[cycle(typed_expr)]
 fn binary(
-    alloc: Global,
-    names: &Dictionary,
-    kinds: &[Kind],
-    scope: &mut Scope,
-    next: &mut u32,
+    meanings: &Meanings<'_>,
+    binders: &mut Binders,
     op: BinOp,
     a: &Boxed<Tree>,
     b: &Boxed<Tree>,
 ) -> Result<Expr, NoMemory>
-    ensures made { IfOk result (λ made. made ≡ Expr.Binary op (expr_of names.now kinds.now a.now scope.old next.old) (expr_of names.now kinds.now b.now scope.old (next.old + tokens a.now))) }
-    ensures next { OnOk result (next.new ≡ next.old + tokens a.now + tokens b.now) }
-    ensures scope { OnOk result (scope.new ≡ scope.old) }
+    ensures made { IfOk result (λ made. made ≡ Expr.Binary op (expr_of meanings.now.names.now meanings.now.kinds.now a.now binders.old.scope binders.old.next) (expr_of meanings.now.names.now meanings.now.kinds.now b.now binders.old.scope (binders.old.next + tokens a.now))) }
+    ensures next { OnOk result (binders.new.next ≡ binders.old.next + tokens a.now + tokens b.now) }
+    ensures scope { OnOk result (binders.new.scope ≡ binders.old.scope) }
 {
-    let a = boxed(alloc, names, kinds, scope, next, a.get())?;
-    let b = boxed(alloc, names, kinds, scope, next, b.get())?;
+    let a = boxed(meanings, binders, a.get())?;
+    let b = boxed(meanings, binders, b.get())?;
     Ok(Expr::Binary(op, a, b))
 }
 
 // An operator between two sets.
 #[cycle(typed_expr)]
 fn set_operation(
-    alloc: Global,
-    names: &Dictionary,
-    kinds: &[Kind],
-    scope: &mut Scope,
-    next: &mut u32,
+    meanings: &Meanings<'_>,
+    binders: &mut Binders,
     op: SetOp,
     a: &Boxed<Tree>,
     b: &Boxed<Tree>,
 ) -> Result<Expr, NoMemory>
-    ensures made { IfOk result (λ made. made ≡ Expr.SetOp op (expr_of names.now kinds.now a.now scope.old next.old) (expr_of names.now kinds.now b.now scope.old (next.old + tokens a.now))) }
-    ensures next { OnOk result (next.new ≡ next.old + tokens a.now + tokens b.now) }
-    ensures scope { OnOk result (scope.new ≡ scope.old) }
+    ensures made { IfOk result (λ made. made ≡ Expr.SetOp op (expr_of meanings.now.names.now meanings.now.kinds.now a.now binders.old.scope binders.old.next) (expr_of meanings.now.names.now meanings.now.kinds.now b.now binders.old.scope (binders.old.next + tokens a.now))) }
+    ensures next { OnOk result (binders.new.next ≡ binders.old.next + tokens a.now + tokens b.now) }
+    ensures scope { OnOk result (binders.new.scope ≡ binders.old.scope) }
 {
-    let a = boxed(alloc, names, kinds, scope, next, a.get())?;
-    let b = boxed(alloc, names, kinds, scope, next, b.get())?;
+    let a = boxed(meanings, binders, a.get())?;
+    let b = boxed(meanings, binders, b.get())?;
     Ok(Expr::SetOp(op, a, b))
 }
 
 // The set of the numbers from `a` to `b`.
 #[cycle(typed_expr)]
 fn range(
-    alloc: Global,
-    names: &Dictionary,
-    kinds: &[Kind],
-    scope: &mut Scope,
-    next: &mut u32,
+    meanings: &Meanings<'_>,
+    binders: &mut Binders,
     a: &Boxed<Tree>,
     b: &Boxed<Tree>,
 ) -> Result<Expr, NoMemory>
-    ensures made { IfOk result (λ made. made ≡ Expr.Range (expr_of names.now kinds.now a.now scope.old next.old) (expr_of names.now kinds.now b.now scope.old (next.old + tokens a.now))) }
-    ensures next { OnOk result (next.new ≡ next.old + tokens a.now + tokens b.now) }
-    ensures scope { OnOk result (scope.new ≡ scope.old) }
+    ensures made { IfOk result (λ made. made ≡ Expr.Range (expr_of meanings.now.names.now meanings.now.kinds.now a.now binders.old.scope binders.old.next) (expr_of meanings.now.names.now meanings.now.kinds.now b.now binders.old.scope (binders.old.next + tokens a.now))) }
+    ensures next { OnOk result (binders.new.next ≡ binders.old.next + tokens a.now + tokens b.now) }
+    ensures scope { OnOk result (binders.new.scope ≡ binders.old.scope) }
 {
-    let a = boxed(alloc, names, kinds, scope, next, a.get())?;
-    let b = boxed(alloc, names, kinds, scope, next, b.get())?;
+    let a = boxed(meanings, binders, a.get())?;
+    let b = boxed(meanings, binders, b.get())?;
     Ok(Expr::Range(a, b))
 }
 
 // One of two expressions.
 #[cycle(typed_expr)]
 fn choice(
-    alloc: Global,
-    names: &Dictionary,
-    kinds: &[Kind],
-    scope: &mut Scope,
-    next: &mut u32,
+    meanings: &Meanings<'_>,
+    binders: &mut Binders,
     c: &Boxed<Tree>,
     a: &Boxed<Tree>,
     b: &Boxed<Tree>,
 ) -> Result<Expr, NoMemory>
-    ensures made { IfOk result (λ made. made ≡ Expr.If (expr_of names.now kinds.now c.now scope.old next.old) (expr_of names.now kinds.now a.now scope.old (next.old + tokens c.now)) (expr_of names.now kinds.now b.now scope.old (next.old + tokens c.now + tokens a.now))) }
-    ensures next { OnOk result (next.new ≡ next.old + tokens c.now + tokens a.now + tokens b.now) }
-    ensures scope { OnOk result (scope.new ≡ scope.old) }
+    ensures made { IfOk result (λ made. made ≡ Expr.If (expr_of meanings.now.names.now meanings.now.kinds.now c.now binders.old.scope binders.old.next) (expr_of meanings.now.names.now meanings.now.kinds.now a.now binders.old.scope (binders.old.next + tokens c.now)) (expr_of meanings.now.names.now meanings.now.kinds.now b.now binders.old.scope (binders.old.next + tokens c.now + tokens a.now))) }
+    ensures next { OnOk result (binders.new.next ≡ binders.old.next + tokens c.now + tokens a.now + tokens b.now) }
+    ensures scope { OnOk result (binders.new.scope ≡ binders.old.scope) }
 {
-    let c = boxed(alloc, names, kinds, scope, next, c.get())?;
-    let a = boxed(alloc, names, kinds, scope, next, a.get())?;
-    let b = boxed(alloc, names, kinds, scope, next, b.get())?;
+    let c = boxed(meanings, binders, c.get())?;
+    let a = boxed(meanings, binders, a.get())?;
+    let b = boxed(meanings, binders, b.get())?;
     Ok(Expr::If(c, a, b))
 }
 
 // The use of the definition `f`.
 #[cycle(typed_expr)]
 fn call(
-    alloc: Global,
-    names: &Dictionary,
-    kinds: &[Kind],
-    scope: &mut Scope,
-    next: &mut u32,
+    meanings: &Meanings<'_>,
+    binders: &mut Binders,
     f: &Name,
     args: &Items<Tree>,
 ) -> Result<Expr, NoMemory>
-    ensures made { IfOk result (λ made. made ≡ Expr.Call (typed.definition_number (first_of names.now f.now)) (exprs_of names.now kinds.now args.now scope.old next.old)) }
-    ensures next { OnOk result (next.new ≡ next.old + all_tokens args.now) }
-    ensures scope { OnOk result (scope.new ≡ scope.old) }
+    ensures made { IfOk result (λ made. made ≡ Expr.Call (typed.definition_number (first_of meanings.now.names.now f.now)) (exprs_of meanings.now.names.now meanings.now.kinds.now args.now binders.old.scope binders.old.next)) }
+    ensures next { OnOk result (binders.new.next ≡ binders.old.next + all_tokens args.now) }
+    ensures scope { OnOk result (binders.new.scope ≡ binders.old.scope) }
 {
-    let args = expressions(alloc, names, kinds, scope, next, args.as_slice())?;
-    let def = definition_number(names.find(f));
+    let args = expressions(meanings, binders, args.as_slice())?;
+    let def = definition_number(meanings.names.find(f));
     Ok(Expr::Call(def, args))
 }
 
 // The event of the channel `c`.
 #[cycle(typed_expr)]
 fn event(
-    alloc: Global,
-    names: &Dictionary,
-    kinds: &[Kind],
-    scope: &mut Scope,
-    next: &mut u32,
+    meanings: &Meanings<'_>,
+    binders: &mut Binders,
     c: &Name,
     fields: &Items<Tree>,
 ) -> Result<Expr, NoMemory>
-    ensures made { IfOk result (λ made. made ≡ Expr.Event (typed.channel_number (first_of names.now c.now)) (exprs_of names.now kinds.now fields.now scope.old next.old)) }
-    ensures next { OnOk result (next.new ≡ next.old + all_tokens fields.now) }
-    ensures scope { OnOk result (scope.new ≡ scope.old) }
+    ensures made { IfOk result (λ made. made ≡ Expr.Event (typed.channel_number (first_of meanings.now.names.now c.now)) (exprs_of meanings.now.names.now meanings.now.kinds.now fields.now binders.old.scope binders.old.next)) }
+    ensures next { OnOk result (binders.new.next ≡ binders.old.next + all_tokens fields.now) }
+    ensures scope { OnOk result (binders.new.scope ≡ binders.old.scope) }
 {
-    let fields = expressions(alloc, names, kinds, scope, next, fields.as_slice())?;
-    let channel = channel_number(names.find(c));
+    let fields = expressions(meanings, binders, fields.as_slice())?;
+    let channel = channel_number(meanings.names.find(c));
     Ok(Expr::Event(channel, fields))
 }
 
 // The set of some expressions.
 #[cycle(typed_expr)]
 fn display(
-    alloc: Global,
-    names: &Dictionary,
-    kinds: &[Kind],
-    scope: &mut Scope,
-    next: &mut u32,
+    meanings: &Meanings<'_>,
+    binders: &mut Binders,
     items: &Items<Tree>,
 ) -> Result<Expr, NoMemory>
-    ensures made { IfOk result (λ made. made ≡ Expr.Display (exprs_of names.now kinds.now items.now scope.old next.old)) }
-    ensures next { OnOk result (next.new ≡ next.old + all_tokens items.now) }
-    ensures scope { OnOk result (scope.new ≡ scope.old) }
+    ensures made { IfOk result (λ made. made ≡ Expr.Display (exprs_of meanings.now.names.now meanings.now.kinds.now items.now binders.old.scope binders.old.next)) }
+    ensures next { OnOk result (binders.new.next ≡ binders.old.next + all_tokens items.now) }
+    ensures scope { OnOk result (binders.new.scope ≡ binders.old.scope) }
 {
-    let items = expressions(alloc, names, kinds, scope, next, items.as_slice())?;
+    let items = expressions(meanings, binders, items.as_slice())?;
     Ok(Expr::Display(items))
 }
 
@@ -256,24 +212,24 @@ fn display(
 #[tactic(auto, using(crate::proofs::Scopes::scope_laws))]
 #[cycle(typed_expr)]
 fn comprehension(
-    alloc: Global,
-    names: &Dictionary,
-    kinds: &[Kind],
-    scope: &mut Scope,
-    next: &mut u32,
+    meanings: &Meanings<'_>,
+    binders: &mut Binders,
     items: &Items<Tree>,
     gens: &Items<GenTree>,
 ) -> Result<Expr, NoMemory>
-    ensures made { IfOk result (λ made. made ≡ Expr.Comp (exprs_of names.now kinds.now items.now (gens_scope names.now kinds.now gens.now scope.old (next.old + all_tokens items.now)) next.old) (gens_of names.now kinds.now gens.now scope.old (next.old + all_tokens items.now))) }
-    ensures next { OnOk result (next.new ≡ next.old + all_tokens items.now + gens_tokens gens.now) }
-    ensures scope { OnOk result (scope.new ≡ scope.old) }
+    ensures made { IfOk result (λ made. made ≡ Expr.Comp (exprs_of meanings.now.names.now meanings.now.kinds.now items.now (gens_scope meanings.now.names.now meanings.now.kinds.now gens.now binders.old.scope (binders.old.next + all_tokens items.now)) binders.old.next) (gens_of meanings.now.names.now meanings.now.kinds.now gens.now binders.old.scope (binders.old.next + all_tokens items.now))) }
+    ensures next { OnOk result (binders.new.next ≡ binders.old.next + all_tokens items.now + gens_tokens gens.now) }
+    ensures scope { OnOk result (binders.new.scope ≡ binders.old.scope) }
 {
-    let kept = scope.len();
-    let mut first = *next;
-    count_trees(next, items.as_slice())?;
-    let gens = generators(alloc, names, kinds, scope, next, gens.as_slice())?;
-    let items = expressions(alloc, names, kinds, scope, &mut first, items.as_slice())?;
-    leave(scope, kept);
+    let kept = binders.scope.len();
+    let first = binders.next;
+    count_trees(&mut binders.next, items.as_slice())?;
+    let gens = generators(meanings, binders, gens.as_slice())?;
+    let last = binders.next;
+    binders.next = first;
+    let items = expressions(meanings, binders, items.as_slice())?;
+    binders.next = last;
+    leave(binders, kept);
     Ok(Expr::Comp(items, gens))
 }
 
@@ -281,62 +237,56 @@ fn comprehension(
 #[tactic(auto, using(crate::proofs::Scopes::scope_laws))]
 #[cycle(typed_expr)]
 fn product(
-    alloc: Global,
-    names: &Dictionary,
-    kinds: &[Kind],
-    scope: &mut Scope,
-    next: &mut u32,
+    meanings: &Meanings<'_>,
+    binders: &mut Binders,
     parts: &Items<PartTree>,
     gens: &Items<GenTree>,
 ) -> Result<Expr, NoMemory>
-    ensures made { IfOk result (λ made. made ≡ Expr.Product (parts_of names.now kinds.now parts.now (gens_scope names.now kinds.now gens.now scope.old (next.old + parts_tokens parts.now)) next.old) (gens_of names.now kinds.now gens.now scope.old (next.old + parts_tokens parts.now))) }
-    ensures next { OnOk result (next.new ≡ next.old + parts_tokens parts.now + gens_tokens gens.now) }
-    ensures scope { OnOk result (scope.new ≡ scope.old) }
+    ensures made { IfOk result (λ made. made ≡ Expr.Product (parts_of meanings.now.names.now meanings.now.kinds.now parts.now (gens_scope meanings.now.names.now meanings.now.kinds.now gens.now binders.old.scope (binders.old.next + parts_tokens parts.now)) binders.old.next) (gens_of meanings.now.names.now meanings.now.kinds.now gens.now binders.old.scope (binders.old.next + parts_tokens parts.now))) }
+    ensures next { OnOk result (binders.new.next ≡ binders.old.next + parts_tokens parts.now + gens_tokens gens.now) }
+    ensures scope { OnOk result (binders.new.scope ≡ binders.old.scope) }
 {
-    let kept = scope.len();
-    let mut first = *next;
-    count_parts(next, parts.as_slice())?;
-    let gens = generators(alloc, names, kinds, scope, next, gens.as_slice())?;
-    let parts = fronts(alloc, names, kinds, scope, &mut first, parts.as_slice())?;
-    leave(scope, kept);
+    let kept = binders.scope.len();
+    let first = binders.next;
+    count_parts(&mut binders.next, parts.as_slice())?;
+    let gens = generators(meanings, binders, gens.as_slice())?;
+    let last = binders.next;
+    binders.next = first;
+    let parts = fronts(meanings, binders, parts.as_slice())?;
+    binders.next = last;
+    leave(binders, kept);
     Ok(Expr::Product(parts, gens))
 }
 
 /// A tree as an expression on the heap.
 #[cycle(typed_expr)]
 pub(crate) fn boxed(
-    alloc: Global,
-    names: &Dictionary,
-    kinds: &[Kind],
-    scope: &mut Scope,
-    next: &mut u32,
+    meanings: &Meanings<'_>,
+    binders: &mut Binders,
     tree: &Tree,
 ) -> Result<Boxed<Expr>, NoMemory>
-    ensures made { IfOk result (λ made. made ≡ expr_of names.now kinds.now tree.now scope.old next.old) }
-    ensures next { OnOk result (next.new ≡ next.old + tokens tree.now) }
-    ensures scope { OnOk result (scope.new ≡ scope.old) }
+    ensures made { IfOk result (λ made. made ≡ expr_of meanings.now.names.now meanings.now.kinds.now tree.now binders.old.scope binders.old.next) }
+    ensures next { OnOk result (binders.new.next ≡ binders.old.next + tokens tree.now) }
+    ensures scope { OnOk result (binders.new.scope ≡ binders.old.scope) }
 {
-    let made = expression(alloc, names, kinds, scope, next, tree)?;
-    Ok(Boxed::new(alloc, made)?)
+    let made = expression(meanings, binders, tree)?;
+    Ok(Boxed::new(meanings.alloc, made)?)
 }
 
 /// Trees as expressions, numbered one after another.
 #[cycle(typed_expr)]
 pub(crate) fn expressions(
-    alloc: Global,
-    names: &Dictionary,
-    kinds: &[Kind],
-    scope: &mut Scope,
-    next: &mut u32,
+    meanings: &Meanings<'_>,
+    binders: &mut Binders,
     trees: &[Tree],
 ) -> Result<Items<Expr>, NoMemory>
-    ensures made { IfOk result (λ made. made ≡ exprs_of names.now kinds.now trees.now scope.old next.old) }
-    ensures next { OnOk result (next.new ≡ next.old + all_tokens trees.now) }
-    ensures scope { OnOk result (scope.new ≡ scope.old) }
+    ensures made { IfOk result (λ made. made ≡ exprs_of meanings.now.names.now meanings.now.kinds.now trees.now binders.old.scope binders.old.next) }
+    ensures next { OnOk result (binders.new.next ≡ binders.old.next + all_tokens trees.now) }
+    ensures scope { OnOk result (binders.new.scope ≡ binders.old.scope) }
 {
-    let mut made = Items::new(alloc);
+    let mut made = Items::new(meanings.alloc);
     for tree in trees {
-        made.push(expression(alloc, names, kinds, scope, next, tree)?)?;
+        made.push(expression(meanings, binders, tree)?)?;
     }
     Ok(made)
 }
@@ -345,28 +295,23 @@ pub(crate) fn expressions(
 #[tactic(auto, using(crate::proofs::TokenForms::gen_tokens_forms, crate::proofs::ExprForms::gen_forms, crate::proofs::Scopes::scope_laws))]
 #[cycle(typed_expr)]
 fn generator(
-    alloc: Global,
-    names: &Dictionary,
-    kinds: &[Kind],
-    scope: &mut Scope,
-    next: &mut u32,
+    meanings: &Meanings<'_>,
+    binders: &mut Binders,
     tree: &GenTree,
 ) -> Result<Gen, NoMemory>
-    ensures made { IfOk result (λ made. made ≡ gen_of names.now kinds.now tree.now scope.old next.old) }
-    ensures next { OnOk result (next.new ≡ next.old + gen_tokens tree.now) }
-    ensures scope { OnOk result (scope.new ≡ gen_scope names.now kinds.now tree.now scope.old next.old) }
-    ensures keeps { OnOk result (Keeps scope.old scope.new) }
+    ensures made { IfOk result (λ made. made ≡ gen_of meanings.now.names.now meanings.now.kinds.now tree.now binders.old.scope binders.old.next) }
+    ensures next { OnOk result (binders.new.next ≡ binders.old.next + gen_tokens tree.now) }
+    ensures scope { OnOk result (binders.new.scope ≡ gen_scope meanings.now.names.now meanings.now.kinds.now tree.now binders.old.scope binders.old.next) }
+    ensures keeps { OnOk result (Keeps binders.old.scope binders.new.scope) }
 {
     match tree {
         GenTree::From(x, set) => {
-            let number = take_number(next)?;
-            let set = boxed(alloc, names, kinds, scope, next, set)?;
-            scope.bind(x, number)?;
+            let number = take_number(binders)?;
+            let set = boxed(meanings, binders, set)?;
+            binders.scope.bind(x, number)?;
             Ok(Gen::From(number, set.into_inner()))
         }
-        GenTree::Cond(condition) => {
-            Ok(Gen::Cond(expression(alloc, names, kinds, scope, next, condition)?))
-        }
+        GenTree::Cond(condition) => { Ok(Gen::Cond(expression(meanings, binders, condition)?)) }
     }
 }
 
@@ -374,21 +319,18 @@ fn generator(
 #[tactic(auto, using(crate::proofs::Scopes::scope_laws))]
 #[cycle(typed_expr)]
 pub(crate) fn generators(
-    alloc: Global,
-    names: &Dictionary,
-    kinds: &[Kind],
-    scope: &mut Scope,
-    next: &mut u32,
+    meanings: &Meanings<'_>,
+    binders: &mut Binders,
     trees: &[GenTree],
 ) -> Result<Items<Gen>, NoMemory>
-    ensures made { IfOk result (λ made. made ≡ gens_of names.now kinds.now trees.now scope.old next.old) }
-    ensures next { OnOk result (next.new ≡ next.old + gens_tokens trees.now) }
-    ensures scope { OnOk result (scope.new ≡ gens_scope names.now kinds.now trees.now scope.old next.old) }
-    ensures keeps { OnOk result (Keeps scope.old scope.new) }
+    ensures made { IfOk result (λ made. made ≡ gens_of meanings.now.names.now meanings.now.kinds.now trees.now binders.old.scope binders.old.next) }
+    ensures next { OnOk result (binders.new.next ≡ binders.old.next + gens_tokens trees.now) }
+    ensures scope { OnOk result (binders.new.scope ≡ gens_scope meanings.now.names.now meanings.now.kinds.now trees.now binders.old.scope binders.old.next) }
+    ensures keeps { OnOk result (Keeps binders.old.scope binders.new.scope) }
 {
-    let mut made = Items::new(alloc);
+    let mut made = Items::new(meanings.alloc);
     for tree in trees {
-        made.push(generator(alloc, names, kinds, scope, next, tree)?)?;
+        made.push(generator(meanings, binders, tree)?)?;
     }
     Ok(made)
 }
@@ -397,39 +339,33 @@ pub(crate) fn generators(
 #[tactic(auto, using(crate::proofs::TokenForms::part_tokens_forms, crate::proofs::ExprForms::part_forms))]
 #[cycle(typed_expr)]
 pub(crate) fn front(
-    alloc: Global,
-    names: &Dictionary,
-    kinds: &[Kind],
-    scope: &mut Scope,
-    next: &mut u32,
+    meanings: &Meanings<'_>,
+    binders: &mut Binders,
     part: &PartTree,
 ) -> Result<EventPart, NoMemory>
-    ensures made { IfOk result (λ made. made ≡ part_of names.now kinds.now part.now scope.old next.old) }
-    ensures next { OnOk result (next.new ≡ next.old + part_tokens part.now) }
-    ensures scope { OnOk result (scope.new ≡ scope.old) }
+    ensures made { IfOk result (λ made. made ≡ part_of meanings.now.names.now meanings.now.kinds.now part.now binders.old.scope binders.old.next) }
+    ensures next { OnOk result (binders.new.next ≡ binders.old.next + part_tokens part.now) }
+    ensures scope { OnOk result (binders.new.scope ≡ binders.old.scope) }
 {
-    let channel = channel_number(names.find(&part.name));
-    let fields = expressions(alloc, names, kinds, scope, next, part.fields.as_slice())?;
+    let channel = channel_number(meanings.names.find(&part.name));
+    let fields = expressions(meanings, binders, part.fields.as_slice())?;
     Ok(EventPart { channel, fields })
 }
 
 // The fronts of events, numbered one after another.
 #[cycle(typed_expr)]
 fn fronts(
-    alloc: Global,
-    names: &Dictionary,
-    kinds: &[Kind],
-    scope: &mut Scope,
-    next: &mut u32,
+    meanings: &Meanings<'_>,
+    binders: &mut Binders,
     parts: &[PartTree],
 ) -> Result<Items<EventPart>, NoMemory>
-    ensures made { IfOk result (λ made. made ≡ parts_of names.now kinds.now parts.now scope.old next.old) }
-    ensures next { OnOk result (next.new ≡ next.old + parts_tokens parts.now) }
-    ensures scope { OnOk result (scope.new ≡ scope.old) }
+    ensures made { IfOk result (λ made. made ≡ parts_of meanings.now.names.now meanings.now.kinds.now parts.now binders.old.scope binders.old.next) }
+    ensures next { OnOk result (binders.new.next ≡ binders.old.next + parts_tokens parts.now) }
+    ensures scope { OnOk result (binders.new.scope ≡ binders.old.scope) }
 {
-    let mut made = Items::new(alloc);
+    let mut made = Items::new(meanings.alloc);
     for part in parts {
-        made.push(front(alloc, names, kinds, scope, next, part)?)?;
+        made.push(front(meanings, binders, part)?)?;
     }
     Ok(made)
 }

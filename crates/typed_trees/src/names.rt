@@ -5,10 +5,11 @@ ghost use Rattle.script_names.specs.Names.{first_of};
 ghost use Rattle.script_names.specs.Typed.{number_of};
 ghost use Rattle.script_names.specs.Typed as typed;
 
+use crate::binders::Meanings;
 use containers::Items;
 use csp_base::Name;
 use csp_program::{Expr, Head};
-use name_tables::{Dictionary, Scope};
+use name_tables::Scope;
 use script_names::Entity;
 use std::alloc::Global;
 
@@ -57,10 +58,10 @@ fn named(alloc: Global, number: Option<u32>, entity: Option<Entity>) -> Expr
 }
 
 /// A name by itself, under the bound names `scope`.
-pub(crate) fn name(alloc: Global, names: &Dictionary, scope: &Scope, x: &Name) -> Expr
-    ensures { result ≡ typed.named (number_of scope.now x.now) (first_of names.now x.now) }
+pub(crate) fn name(meanings: &Meanings<'_>, scope: &Scope, x: &Name) -> Expr
+    ensures { result ≡ typed.named (number_of scope.now x.now) (first_of meanings.now.names.now x.now) }
 {
-    named(alloc, scope.find(x), names.find(x))
+    named(meanings.alloc, scope.find(x), meanings.names.find(x))
 }
 
 /// What the event of a prefix begins with.

@@ -1,9 +1,11 @@
+use Rattle.std.proofs.Common.{◌∙◌}
+use Rattle.typed_trees.proofs.OtherForms.{proc_of-other}
 use Rattle.typed_trees.proofs.Scopes.{left_again}
 use Rattle.typed_trees.proofs.processes.+typed_proc.Goals as goal
 
 pub for_each-returns-clause-scope : goal.for_each-returns-clause-scope
 for_each-returns-clause-scope t c =
-    left_again _ _ _ _ c.args.scope.now _ _ c.len-kept.ensures c.in_ok-set.ensures.scope c.in_ok-bind.ensures c.in_ok-p.ensures.scope c.leave.ensures
+    left_again _ _ _ _ c.args.binders.now.scope _ _ c.len-kept.ensures (c.in_ok-set.ensures.scope ∙ c.in_ok-number.ensures.scope) c.in_ok-bind.ensures c.in_ok-p.ensures.scope c.leave.ensures.scope
 
 pub process-returns-in-Call : goal.process-returns-in-Call
 process-returns-in-Call t c = record {
@@ -81,3 +83,26 @@ process-returns-in-Rename t c = record {
   next = rw c.in-Rename.is c.renaming.ensures.next;
   scope = c.renaming.ensures.scope;
 }
+
+pub process-returns-in_default : goal.process-returns-in_default
+process-returns-in_default t c =
+    let other = proc_of-other c.args.meanings.now.names.now c.args.meanings.now.kinds.now c.args.tree.now c.args.binders.now.scope c.args.binders.now.next (record {
+      not_skip = c.in_default.not-Skip;
+      not_name = c.in_default.not-Name;
+      not_call = c.in_default.not-Call;
+      not_if = c.in_default.not-If;
+      not_prefix = c.in_default.not-Prefix;
+      not_guard = c.in_default.not-Guard;
+      not_external = c.in_default.not-External;
+      not_internal = c.in_default.not-Internal;
+      not_each_external = c.in_default.not-EachExternal;
+      not_each_internal = c.in_default.not-EachInternal;
+      not_seq = c.in_default.not-Seq;
+      not_hide = c.in_default.not-Hide;
+      not_rename = c.in_default.not-Rename;
+    }) in
+    record {
+      made = rw other c.no_process.ensures.made;
+      next = c.no_process.ensures.next;
+      scope = c.no_process.ensures.scope;
+    }

@@ -7,9 +7,9 @@ use Rattle.typed_trees.proofs.processes.+typed_proc.Given as goal
 -- what is made so far, followed by what is made of the rest, is what is made of all
 abbrev pub invariant-processes-loop-tree : goal.invariant-processes-loop-tree
 invariant-processes-loop-tree l = record {
-  made : l.made ++ procs_of l.names l.kinds (drop l.tree-index l.trees) l.scope l.next ≡ procs_of l.names l.kinds l.trees l.initial.scope l.initial.next;
-  next : l.next + all_tokens (drop l.tree-index l.trees) ≡ l.initial.next + all_tokens l.trees;
-  scope : l.scope ≡ l.initial.scope;
+  made : l.made ++ procs_of l.meanings.names.now l.meanings.kinds.now (drop l.tree-index l.trees) l.binders.scope l.binders.next ≡ procs_of l.meanings.names.now l.meanings.kinds.now l.trees l.initial.binders.scope l.initial.binders.next;
+  next : l.binders.next + all_tokens (drop l.tree-index l.trees) ≡ l.initial.binders.next + all_tokens l.trees;
+  scope : l.binders.scope ≡ l.initial.binders.scope;
 }
 
 -- how deep what is left is, four for each level: a list or a tree on the heap comes above what stands in it, and a form above those
