@@ -1,9 +1,8 @@
 -- What the walk of each form of a network is, from what its parts come to.
-use Rattle.std.proofs.Common.{◌≡◌, ℕ, zero, suc, Bool, if◌then◌else◌, Ok, Err, List, [], ◌∷◌, refl, ap, sym, ◌∙◌, subst}
+use Rattle.std.proofs.Common.{◌≡◌, ℕ, suc, Bool, if◌then◌else◌, Ok, Err, List, [], refl, ap, sym, ◌∙◌}
 use Rattle.std.specs.Prelude.{slice_get}
 use Rattle.csp_program.specs.Outcome.{Outcome, and_then}
 use Rattle.csp_program.specs.Substitution.{expr_with, net_with}
-use Rattle.csp_tables.specs.Network.{Tree, Operands}
 use Rattle.process_steps.specs.Needed.{arguments_in, events_in, set_in, truth_in}
 use Rattle.network_trees.specs.NetworkOf.{Walked, component, goes_on, nested, network_called, walked, walked_leaf, walked_node, with_value}
 use Rattle.network_layout.specs.Lays.{node, one_operand, operand_walked, operands_each, two}

@@ -1,15 +1,15 @@
 -- Events in one, two and three alphabets, and the components that have an event.
-use Rattle.std.proofs.Common.{◌≡◌, ℕ, zero, suc, ◌+◌, ◌<◌, ◌≤◌, Bool, true, false, ◌||◌, ◌&&◌, if◌then◌else◌, List, [], ◌∷◌, ◌++◌, length, drop, take, get_or, map, refl, ap, ap₂, sym, ◌∙◌, subst, arith, inl, inr}
+use Rattle.std.proofs.Common.{◌≡◌, ℕ, zero, suc, ◌+◌, ◌<◌, ◌≤◌, Bool, true, false, ◌||◌, ◌&&◌, if◌then◌else◌, List, [], ◌∷◌, ◌++◌, length, drop, take, get_or, map, refl, ap, ap₂, sym, ◌∙◌, subst, arith}
 use Rattle.std.specs.Prelude.{nat_le}
 use Rattle.std.proofs.Math.Dec.{leb}
-use Rattle.std.proofs.lemmas.Bool.{cases_Bool, le-leb, lt-leb, leb-true, leb-false}
+use Rattle.std.proofs.lemmas.Bool.{le-leb, lt-leb, leb-true, leb-false}
 use Rattle.std.proofs.Math.Bool.{or-true}
 use Rattle.csp_base.specs.Members.{has}
-use Rattle.csp_tables.specs.Part.{TripleDisjoint, sharers}
+use Rattle.csp_tables.specs.Part.{sharers}
 use Rattle.std.proofs.lemmas.List.{get_or-map, length-map}
 use Rattle.csp_program.specs.declared.processes.Proc.{Proc}
 use Rattle.csp_tables.specs.Network.{Component}
-use Rattle.network_layout.specs.Triple.{AreCrowded, alphabets, holders, holders_from}
+use Rattle.network_layout.specs.Triple.{alphabets, holders, holders_from}
 use Rattle.network_layout.proofs.ListSteps.{left_of, nothing_left, take_more}
 
 -- the sets have the events of one, two and three of the alphabets, or more

@@ -1,6 +1,6 @@
 //! Seats: a component of a network with its alphabet.
 
-ghost use Rattle.std.specs.Prelude.{◌≡◌, ◌≤◌, ◌&&◌, ◌||◌, ℕ, IfOk, length};
+ghost use Rattle.std.specs.Prelude.{◌≡◌, ◌≤◌, ◌&&◌, ◌||◌, ℕ, IfOk, OnOk, length};
 ghost use Rattle.csp_base.specs.Members.{has};
 ghost use Rattle.network_layout.specs.Triple.{AreCrowded, alphabets};
 
@@ -117,6 +117,24 @@ fn with_both(
     Ok(made)
 }
 
+// Counts the events of one component more.
+fn count(
+    alloc: Global,
+    once: &mut EventSet,
+    twice: &mut EventSet,
+    thrice: &mut EventSet,
+    alphabet: &EventSet,
+) -> Result<(), NoMemory>
+    ensures one { OnOk result ((e : ℕ) → has once.new e ≡ (has once.old e || has alphabet.now e)) }
+    ensures two { OnOk result ((e : ℕ) → has twice.new e ≡ (has twice.old e || (has once.old e && has alphabet.now e))) }
+    ensures three { OnOk result ((e : ℕ) → has thrice.new e ≡ (has thrice.old e || (has twice.old e && has alphabet.now e))) }
+{
+    *thrice = with_both(alloc, thrice, twice, alphabet)?;
+    *twice = with_both(alloc, twice, once, alphabet)?;
+    *once = once.union(alloc, alphabet)?;
+    Ok(())
+}
+
 // The events of three components or more.
 fn crowded(alloc: Global, seats: &[Seat]) -> Result<EventSet, NoMemory>
     ensures { IfOk result (AreCrowded (alphabets seats.now)) }
@@ -125,9 +143,7 @@ fn crowded(alloc: Global, seats: &[Seat]) -> Result<EventSet, NoMemory>
     let mut twice = EventSet::new(alloc);
     let mut thrice = EventSet::new(alloc);
     for seat in seats {
-        thrice = with_both(alloc, &thrice, &twice, seat.alphabet())?;
-        twice = with_both(alloc, &twice, &once, seat.alphabet())?;
-        once = once.union(alloc, seat.alphabet())?;
+        count(alloc, &mut once, &mut twice, &mut thrice, seat.alphabet())?;
     }
     Ok(thrice)
 }

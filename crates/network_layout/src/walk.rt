@@ -43,9 +43,9 @@ fn sit(
     if seats.len() >= MOST_COMPONENTS {
         return Err(LayoutFault::ComponentLimit { found: 513 });
     }
-    let joint = alphabet.union(scope.alloc, &EventSet::new(scope.alloc))?;
     let seat = seat_of(scope.alloc, process, alphabet)?;
     seats.push(seat)?;
+    let joint = alphabet.union(scope.alloc, &EventSet::new(scope.alloc))?;
     Ok(joint)
 }
 
