@@ -1,12 +1,11 @@
 -- What the walk of each form of a network is, from what its parts come to.
-use Rattle.std.proofs.Common.{◌≡◌, ℕ, zero, suc, Bool, if◌then◌else◌, Ok, Err, List, [], ◌∷◌, refl, ap, sym, ◌∙◌, subst}
+use Rattle.std.proofs.Common.{◌≡◌, ℕ, suc, Bool, if◌then◌else◌, Ok, Err, List, [], refl, ap, sym, ◌∙◌}
 use Rattle.std.specs.Prelude.{slice_get}
-use Rattle.csp_program.specs.Outcome.{Outcome}
+use Rattle.csp_program.specs.Outcome.{Outcome, and_then}
 use Rattle.csp_program.specs.Substitution.{expr_with, net_with}
-use Rattle.csp_tables.specs.Network.{Tree, Operands}
 use Rattle.process_steps.specs.Needed.{arguments_in, events_in, set_in, truth_in}
-use Rattle.network_trees.specs.NetworkOf.{Walked, component, goes_on, nested, network_called, side_by_side, two_operands, walked, walked_leaf, walked_node, with_value}
-use Rattle.network_layout.specs.Lays.{node, one_operand, operand_walked, operands_each}
+use Rattle.network_trees.specs.NetworkOf.{Walked, component, goes_on, nested, network_called, walked, walked_leaf, walked_node, with_value}
+use Rattle.network_layout.specs.Lays.{node, one_operand, operand_walked, operands_each, two}
 use Rattle.csp_atoms.specs.declared.atom.Atom.{Atom}
 use Rattle.csp_atoms.specs.declared.value.Value.{Value}
 use Rattle.csp_atoms.specs.declared.value.Value.TheVariants.{One}
@@ -54,29 +53,36 @@ pub node-Leaf : (p : Content) (levels k : ℕ) (alphabet : List ℕ) (q : Proc) 
 unfolding node
 node-Leaf p levels k alphabet q = refl
 
+-- ---- values that are needed one after another
+
+then_value : {A B C : Type 0} (o : Outcome A) (f : A → Outcome B) (g : B → Walked C) → with_value o (λ a. with_value (f a) g) ≡ with_value (and_then o f) g
+then_value (Ok a) f g = refl
+then_value (Err why) f g = refl
+
+then_both : {A B C : Type 0} (o : Outcome A) (q : Outcome B) (g : A → B → Walked C)
+    → with_value o (λ a. with_value q (λ b. g a b)) ≡ with_value {A = A × B} (and_then o (λ a. and_then q (λ b. Ok (a, b)))) (λ x. g x.0 x.1)
+then_both (Ok a) (Ok b) g = refl
+then_both (Ok a) (Err why) g = refl
+then_both (Err why) q g = refl
+
+then_with : {A B C : Type 0} (o : Outcome A) (b : B) (g : A → B → Walked C) → with_value o (λ a. g a b) ≡ with_value {A = A × B} (and_then o (λ a. Ok (a, b))) (λ x. g x.0 x.1)
+then_with (Ok a) b g = refl
+then_with (Err why) b g = refl
+
 -- ---- a call
 
-call_from : {A B C : Type 0} (o : Outcome A) (f : A → Outcome B) (g : B → Walked C) (a : A) (b : B) → o ≡ Ok a → f a ≡ Ok b → with_value o (λ x. with_value (f x) g) ≡ g b
-call_from o f g a b is then_is = ap (λ x. with_value x (λ y. with_value (f y) g)) is ∙ ap (λ x. with_value x g) then_is
-
-pub call_goes : (p : Content) (levels k : ℕ) (alphabet : List ℕ) (d : ℕ) (args : List Expr) (vs : List Value) (n : Net)
-    → arguments_in p args ≡ Ok vs → network_called (slice_get p.defs d) vs ≡ Ok n → node p levels k alphabet (Net-F.Call d args) ≡ walked p levels k alphabet n
+call_is : (p : Content) (levels k : ℕ) (alphabet : List ℕ) (d : ℕ) (args : List Expr)
+    → node p levels k alphabet (Net-F.Call d args) ≡ with_value (and_then (arguments_in p args) (network_called (slice_get p.defs d))) (walked p levels k alphabet)
 unfolding node
-call_goes p levels k alphabet d args vs n given body =
-    call_from (arguments_in p args) (network_called (slice_get p.defs d)) (walked p levels k alphabet) vs n given body
+call_is p levels k alphabet d args = then_value (arguments_in p args) (network_called (slice_get p.defs d)) (walked p levels k alphabet)
+
+pub call_goes : (p : Content) (levels k : ℕ) (alphabet : List ℕ) (d : ℕ) (args : List Expr) (n : Net)
+    → and_then (arguments_in p args) (network_called (slice_get p.defs d)) ≡ Ok n → node p levels k alphabet (Net-F.Call d args) ≡ walked p levels k alphabet n
+call_goes p levels k alphabet d args n is = call_is p levels k alphabet d args ∙ ap (λ o. with_value o (walked p levels k alphabet)) is
 
 pub call_lacks : (p : Content) (levels k : ℕ) (alphabet : List ℕ) (d : ℕ) (args : List Expr) (why : ValueKind)
-    → arguments_in p args ≡ Err why → node p levels k alphabet (Net-F.Call d args) ≡ Err (fault.Value why)
-unfolding node
-call_lacks p levels k alphabet d args why given =
-    ap (λ o. with_value o (λ vs. with_value (network_called (slice_get p.defs d) vs) (walked p levels k alphabet))) given
-
-pub call_lacks_body : (p : Content) (levels k : ℕ) (alphabet : List ℕ) (d : ℕ) (args : List Expr) (vs : List Value) (why : ValueKind)
-    → arguments_in p args ≡ Ok vs → network_called (slice_get p.defs d) vs ≡ Err why → node p levels k alphabet (Net-F.Call d args) ≡ Err (fault.Value why)
-unfolding node
-call_lacks_body p levels k alphabet d args vs why given body =
-    ap (λ o. with_value o (λ vs. with_value (network_called (slice_get p.defs d) vs) (walked p levels k alphabet))) given ∙
-    ap (λ o. with_value o (walked p levels k alphabet)) body
+    → and_then (arguments_in p args) (network_called (slice_get p.defs d)) ≡ Err why → node p levels k alphabet (Net-F.Call d args) ≡ Err (fault.Value why)
+call_lacks p levels k alphabet d args why is = call_is p levels k alphabet d args ∙ ap (λ o. with_value o (walked p levels k alphabet)) is
 
 -- ---- a choice
 
@@ -102,40 +108,37 @@ pub each_lacks : (p : Content) (levels k : ℕ) (alphabet : List ℕ) (x : ℕ) 
 unfolding node operands_each
 each_lacks p levels k alphabet x s a n why is = ap (λ o. with_value o (λ atoms. operands_each p levels k x a n atoms)) is
 
-pub one_goes : (p : Content) (levels k x : ℕ) (a : Expr) (n : Net) (v : Atom) (alphabet : List ℕ)
-    → events_in p (expr_with x (One v) a) ≡ Ok alphabet → one_operand p levels k x a n v ≡ operand_walked p levels k alphabet (net_with x (One v) n)
+one_is : (p : Content) (levels k x : ℕ) (a : Expr) (n : Net) (v : Atom)
+    → one_operand p levels k x a n v
+    ≡ with_value {A = List ℕ × Net} (and_then (events_in p (expr_with x (One v) a)) (λ events. Ok (events, net_with x (One v) n))) (λ part. operand_walked p levels k part.0 part.1)
 unfolding one_operand
-one_goes p levels k x a n v alphabet is = ap (λ o. with_value o (λ events. operand_walked p levels k events (net_with x (One v) n))) is
+one_is p levels k x a n v = then_with (events_in p (expr_with x (One v) a)) (net_with x (One v) n) (operand_walked p levels k)
+
+pub one_goes : (p : Content) (levels k x : ℕ) (a : Expr) (n : Net) (v : Atom) (part : List ℕ × Net)
+    → and_then {B = List ℕ × Net} (events_in p (expr_with x (One v) a)) (λ events. Ok (events, net_with x (One v) n)) ≡ Ok part → one_operand p levels k x a n v ≡ operand_walked p levels k part.0 part.1
+one_goes p levels k x a n v part is = one_is p levels k x a n v ∙ ap (λ (o : Outcome (List ℕ × Net)). with_value o (λ part. operand_walked p levels k part.0 part.1)) is
 
 pub one_lacks : (p : Content) (levels k x : ℕ) (a : Expr) (n : Net) (v : Atom) (why : ValueKind)
-    → events_in p (expr_with x (One v) a) ≡ Err why → one_operand p levels k x a n v ≡ Err (fault.Value why)
-unfolding one_operand
-one_lacks p levels k x a n v why is = ap (λ o. with_value o (λ events. operand_walked p levels k events (net_with x (One v) n))) is
+    → and_then {B = List ℕ × Net} (events_in p (expr_with x (One v) a)) (λ events. Ok (events, net_with x (One v) n)) ≡ Err why → one_operand p levels k x a n v ≡ Err (fault.Value why)
+one_lacks p levels k x a n v why is = one_is p levels k x a n v ∙ ap (λ (o : Outcome (List ℕ × Net)). with_value o (λ part. operand_walked p levels k part.0 part.1)) is
 
 pub operand_fault : (p : Content) (levels k : ℕ) (alphabet : List ℕ) (n : Net) (f : LayoutFault) → walked p levels k alphabet n ≡ Err f → operand_walked p levels k alphabet n ≡ Err f
 unfolding operand_walked
 operand_fault p levels k alphabet n f is = ap (λ o. goes_on o (nested k alphabet)) is
 
--- the two operands of a pair
-unfoldable pub two : Content → ℕ → ℕ → List ℕ → Net → List ℕ → Net → Walked (Tree Proc)
-two p levels k left n right m = side_by_side p (walked p levels) (two_operands p (walked p levels) k left n right m)
-
-pub pair_goes : (p : Content) (levels k : ℕ) (alphabet : List ℕ) (n : Net) (a b : Expr) (m : Net) (left right : List ℕ)
-    → events_in p a ≡ Ok left → events_in p b ≡ Ok right → node p levels k alphabet (Net-F.Pair n a b m) ≡ two p levels k left n right m
+pair_is : (p : Content) (levels k : ℕ) (alphabet : List ℕ) (n : Net) (a b : Expr) (m : Net) → node p levels k alphabet (Net-F.Pair n a b m)
+    ≡ with_value {A = List ℕ × List ℕ} (and_then (events_in p a) (λ left. and_then (events_in p b) (λ right. Ok (left, right)))) (λ both. two p levels k both.0 n both.1 m)
 unfolding node two
-pair_goes p levels k alphabet n a b m left right is also =
-    ap (λ o. with_value o (λ l. with_value (events_in p b) (λ r. two p levels k l n r m))) is ∙ ap (λ o. with_value o (λ r. two p levels k left n r m)) also
+pair_is p levels k alphabet n a b m = then_both (events_in p a) (events_in p b) (λ left right. two p levels k left n right m)
 
-pub pair_lacks_left : (p : Content) (levels k : ℕ) (alphabet : List ℕ) (n : Net) (a b : Expr) (m : Net) (why : ValueKind)
-    → events_in p a ≡ Err why → node p levels k alphabet (Net-F.Pair n a b m) ≡ Err (fault.Value why)
-unfolding node two
-pair_lacks_left p levels k alphabet n a b m why is = ap (λ o. with_value o (λ l. with_value (events_in p b) (λ r. two p levels k l n r m))) is
+pub pair_goes : (p : Content) (levels k : ℕ) (alphabet : List ℕ) (n : Net) (a b : Expr) (m : Net) (both : List ℕ × List ℕ)
+    → and_then {B = List ℕ × List ℕ} (events_in p a) (λ left. and_then (events_in p b) (λ right. Ok (left, right))) ≡ Ok both
+    → node p levels k alphabet (Net-F.Pair n a b m) ≡ two p levels k both.0 n both.1 m
+pair_goes p levels k alphabet n a b m both is = pair_is p levels k alphabet n a b m ∙ ap (λ (o : Outcome (List ℕ × List ℕ)). with_value o (λ both. two p levels k both.0 n both.1 m)) is
 
-pub pair_lacks_right : (p : Content) (levels k : ℕ) (alphabet : List ℕ) (n : Net) (a b : Expr) (m : Net) (left : List ℕ) (why : ValueKind)
-    → events_in p a ≡ Ok left → events_in p b ≡ Err why → node p levels k alphabet (Net-F.Pair n a b m) ≡ Err (fault.Value why)
-unfolding node two
-pair_lacks_right p levels k alphabet n a b m left why is also =
-    ap (λ o. with_value o (λ l. with_value (events_in p b) (λ r. two p levels k l n r m))) is ∙ ap (λ o. with_value o (λ r. two p levels k left n r m)) also
+pub pair_lacks : (p : Content) (levels k : ℕ) (alphabet : List ℕ) (n : Net) (a b : Expr) (m : Net) (why : ValueKind)
+    → and_then {B = List ℕ × List ℕ} (events_in p a) (λ left. and_then (events_in p b) (λ right. Ok (left, right))) ≡ Err why → node p levels k alphabet (Net-F.Pair n a b m) ≡ Err (fault.Value why)
+pair_lacks p levels k alphabet n a b m why is = pair_is p levels k alphabet n a b m ∙ ap (λ (o : Outcome (List ℕ × List ℕ)). with_value o (λ both. two p levels k both.0 n both.1 m)) is
 
 -- an operand of its own alphabet is given none
 pub pair_any : (p : Content) (levels k : ℕ) (alphabet : List ℕ) (n : Net) (a b : Expr) (m : Net) → node p levels k alphabet (Net-F.Pair n a b m) ≡ node p levels k [] (Net-F.Pair n a b m)

@@ -11,8 +11,7 @@ use Rattle.csp_tables.specs.Network.Operands.{none, operand}
 use Rattle.network_trees.specs.Joint.{joint, odd_event}
 use Rattle.network_trees.specs.NetworkOf.{Walked, agreed, component, goes_on, nested, operand_first, side_by_side, walked}
 use Rattle.network_trees.proofs.InOrder.{makes_tree}
-use Rattle.network_layout.specs.Lays.{Differs, Fails, IsLaid, Lays, operand_walked}
-use Rattle.network_layout.proofs.Equations.{two}
+use Rattle.network_layout.specs.Lays.{Differs, Fails, IsLaid, Lays, operand_walked, two}
 use Rattle.network_layout.proofs.Passed.{lays_fault}
 use Rattle.network_layout.proofs.Together.{joint-append}
 use Rattle.csp_program.specs.declared.networks.Net.{Net}

@@ -1,4 +1,3 @@
-pub mod ArgumentSteps
 pub mod EachSteps
 pub mod Equations
 pub mod FirstEvents

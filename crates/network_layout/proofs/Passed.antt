@@ -7,11 +7,7 @@ use Rattle.csp_program.specs.declared.kinds.ValueKind.{ValueKind}
 use Rattle.csp_program.specs.declared.processes.Proc.{Proc}
 use Rattle.csp_tables.specs.Network.{Component, Tree}
 use Rattle.network_trees.specs.NetworkOf.{Walked}
-use Rattle.network_trees.specs.Faults.{layout_fault}
-use Rattle.network_layout.specs.Lays.{Fails, Finds, IsLaid, Lacks, Lays}
-use Rattle.value_operators.specs.Gives.{Gives}
-use Rattle.value_operators.specs.declared.fault.EvalFault.{EvalFault}
-use Rattle.value_operators.specs.declared.fault.EvalFault.TheVariants as eval
+use Rattle.network_layout.specs.Lays.{Fails, Lacks, Lays}
 use Rattle.network_trees.specs.declared.fault.LayoutFault.{LayoutFault}
 use Rattle.network_trees.specs.declared.fault.LayoutFault.TheVariants as fault
 
@@ -48,16 +44,3 @@ walk_passed r f part whole old new is h passes = lays_fault r f whole old new is
 
 pub same : (r : Result (List ℕ) LayoutFault) (whole part : Walked (Tree Proc)) (old new : List (Component Proc)) → whole ≡ part → Lays r part old new → Lays r whole old new
 same r whole part old new is h = subst (λ o. Lays r o old new) (sym is) h
-
-pub laid_same : (whole part : Walked (Tree Proc)) (old new : List (Component Proc)) (events : List ℕ) → whole ≡ part → IsLaid part old new events → IsLaid whole old new events
-laid_same whole part old new events is h = subst (λ o. IsLaid o old new events) (sym is) h
-
-finds_fault : {A B : Type 0} (f : EvalFault) (part : Outcome A) (whole : Outcome B) → Gives {A = A} (Err f) part → ((k : ValueKind) → part ≡ Err k → whole ≡ Err k) → Lacks (layout_fault f) whole
-finds_fault eval.NoMemory part whole h passes = tt
-finds_fault (eval.Value why) part whole h passes = passes why h
-
--- the fault of an evaluation
-pub eval_passed : {A B : Type 0} (r : Result B LayoutFault) (f : EvalFault) (part : Outcome A) (whole : Outcome B)
-    → IsErrAnd r (λ y. y ≡ layout_fault f) → Gives {A = A} (Err f) part → ((k : ValueKind) → part ≡ Err k → whole ≡ Err k) → Finds r whole
-eval_passed (Ok x) f part whole is h passes = absurd is
-eval_passed (Err y) f part whole is h passes = subst (λ g. Lacks g whole) (sym is) (finds_fault f part whole h passes)

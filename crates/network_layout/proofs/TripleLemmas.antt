@@ -1,15 +1,15 @@
 -- Events in one, two and three alphabets, and the components that have an event.
-use Rattle.std.proofs.Common.{◌≡◌, ℕ, zero, suc, ◌+◌, ◌<◌, ◌≤◌, Bool, true, false, ◌||◌, ◌&&◌, if◌then◌else◌, List, [], ◌∷◌, ◌++◌, length, drop, take, get_or, map, refl, ap, ap₂, sym, ◌∙◌, subst, arith, inl, inr}
+use Rattle.std.proofs.Common.{◌≡◌, ℕ, zero, suc, ◌+◌, ◌<◌, ◌≤◌, Bool, true, false, ◌||◌, ◌&&◌, if◌then◌else◌, List, [], ◌∷◌, ◌++◌, length, drop, take, get_or, map, refl, ap, ap₂, sym, ◌∙◌, subst, arith}
 use Rattle.std.specs.Prelude.{nat_le}
 use Rattle.std.proofs.Math.Dec.{leb}
-use Rattle.std.proofs.lemmas.Bool.{cases_Bool, le-leb, lt-leb, leb-true, leb-false}
+use Rattle.std.proofs.lemmas.Bool.{le-leb, lt-leb, leb-true, leb-false}
 use Rattle.std.proofs.Math.Bool.{or-true}
 use Rattle.csp_base.specs.Members.{has}
-use Rattle.csp_tables.specs.Part.{TripleDisjoint, sharers}
+use Rattle.csp_tables.specs.Part.{sharers}
 use Rattle.std.proofs.lemmas.List.{get_or-map, length-map}
 use Rattle.csp_program.specs.declared.processes.Proc.{Proc}
 use Rattle.csp_tables.specs.Network.{Component}
-use Rattle.network_layout.specs.Triple.{AreCrowded, alphabets, holders, holders_from}
+use Rattle.network_layout.specs.Triple.{alphabets, holders, holders_from}
 use Rattle.network_layout.proofs.ListSteps.{left_of, nothing_left, take_more}
 
 -- the sets have the events of one, two and three of the alphabets, or more
@@ -58,10 +58,10 @@ module _ (alphabets : List (List ℕ)) (a : List ℕ) where
   after_first once next one joined e =
       joined e ∙ (ap (λ b. b || has a e) (one e) ∙ (first_at (sharers alphabets e) (has a e) ∙ ap (nat_le 1) (sym (sharers-last alphabets a e))))
 
-  after_more : (n : ℕ) (less more both next : List ℕ) → ((e : ℕ) → has less e ≡ nat_le n (sharers alphabets e)) → ((e : ℕ) → has more e ≡ nat_le (n + 1) (sharers alphabets e))
-      → ((e : ℕ) → has both e ≡ (has less e && has a e)) → ((e : ℕ) → has next e ≡ (has more e || has both e)) → (e : ℕ) → has next e ≡ nat_le (n + 1) (sharers (alphabets ++ a ∷ []) e)
-  after_more n less more both next few many common joined e =
-      joined e ∙ (ap₂ (λ b c. b || c) (many e) (common e ∙ ap (λ b. b && has a e) (few e)) ∙
+  after_more : (n : ℕ) (less more next : List ℕ) → ((e : ℕ) → has less e ≡ nat_le n (sharers alphabets e)) → ((e : ℕ) → has more e ≡ nat_le (n + 1) (sharers alphabets e))
+      → ((e : ℕ) → has next e ≡ (has more e || (has less e && has a e))) → (e : ℕ) → has next e ≡ nat_le (n + 1) (sharers (alphabets ++ a ∷ []) e)
+  after_more n less more next few many joined e =
+      joined e ∙ (ap₂ (λ b c. b || c) (many e) (ap (λ b. b && has a e) (few e)) ∙
       (more_at n (sharers alphabets e) (has a e) ∙ ap (nat_le (n + 1)) (sym (sharers-last alphabets a e))))
 
 pub counted_none : (alphabets : List (List ℕ)) (once twice thrice : List ℕ) → alphabets ≡ [] → once ≡ [] → twice ≡ [] → thrice ≡ [] → IsCounted alphabets once twice thrice
@@ -72,16 +72,15 @@ counted_none alphabets once twice thrice is one two three =
       three = λ e. ap (λ xs. has xs e) three;
     })
 
-pub counted_next : (all : List (List ℕ)) (i : ℕ) (a : List ℕ) (once twice thrice second third first' twice' thrice' : List ℕ)
+pub counted_next : (all : List (List ℕ)) (i : ℕ) (a : List ℕ) (once twice thrice first' twice' thrice' : List ℕ)
     → i < length all → a ≡ get_or all i a → IsCounted (take i all) once twice thrice
-    → ((e : ℕ) → has third e ≡ (has twice e && has a e)) → ((e : ℕ) → has thrice' e ≡ (has thrice e || has third e))
-    → ((e : ℕ) → has second e ≡ (has once e && has a e)) → ((e : ℕ) → has twice' e ≡ (has twice e || has second e))
+    → ((e : ℕ) → has thrice' e ≡ (has thrice e || (has twice e && has a e))) → ((e : ℕ) → has twice' e ≡ (has twice e || (has once e && has a e)))
     → ((e : ℕ) → has first' e ≡ (has once e || has a e)) → IsCounted (take (i + 1) all) first' twice' thrice'
-counted_next all i a once twice thrice second third first' twice' thrice' lt is far third_is thrice_is second_is twice_is once_is =
+counted_next all i a once twice thrice first' twice' thrice' lt is far thrice_is twice_is once_is =
     subst (λ rows. IsCounted rows first' twice' thrice') (sym (take_more all i a lt is)) (record {
       one = after_first (take i all) a once first' far.one once_is;
-      two = after_more (take i all) a 1 once twice second twice' far.one far.two second_is twice_is;
-      three = after_more (take i all) a 2 twice thrice third thrice' far.two far.three third_is thrice_is;
+      two = after_more (take i all) a 1 once twice twice' far.one far.two twice_is;
+      three = after_more (take i all) a 2 twice thrice thrice' far.two far.three thrice_is;
     })
 
 -- ---- the components that have an event

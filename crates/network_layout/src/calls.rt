@@ -1,17 +1,19 @@
 //! Networks with values in place of names.
 
-ghost use Rattle.std.specs.Prelude.{◌≡◌, IfOk, slice_get};
+ghost use Rattle.std.specs.Prelude.{◌≡◌, IfOk, Ok, slice_get};
 ghost use Rattle.csp_atoms.specs.declared.value.Value.TheVariants.{One};
-ghost use Rattle.csp_program.specs.Substitution.{net_with};
+ghost use Rattle.csp_program.specs.Outcome.{and_then};
+ghost use Rattle.csp_program.specs.Substitution.{expr_with, net_with};
+ghost use Rattle.process_steps.specs.Needed.{arguments_in, events_in};
 ghost use Rattle.network_trees.specs.NetworkOf.{network_called, network_with};
 ghost use Rattle.network_layout.specs.Lays.{Finds};
 
-use crate::values::{KIND, Scope};
+use crate::values::{KIND, Scope, arguments, events_at};
 use containers::Boxed;
 use csp_atoms::{Atom, Value};
-use csp_base::NoMemory;
+use csp_base::{EventSet, NoMemory};
 use csp_program::net_copies::copy_boxed_net;
-use csp_program::{Body, Net};
+use csp_program::{Body, Expr, Net};
 use network_trees::LayoutFault;
 use std::alloc::Global;
 use substitution::substitute_net;
@@ -20,20 +22,29 @@ use substitution::substitute_net;
 fn with_value(alloc: Global, net: &Net, name: u32, value: &Value) -> Result<Boxed<Net>, NoMemory>
     ensures { IfOk result (λ made. made ≡ net_with name value.now net.now) }
 {
-    let made = substitute_net(alloc, net, name, value)?;
-    Ok(Boxed::new(alloc, made)?)
+    Ok(Boxed::new(alloc, substitute_net(alloc, net, name, value)?)?)
 }
 
 // A network with an atom in place of a name.
-pub(crate) fn body_at(
-    alloc: Global,
-    net: &Net,
-    name: u32,
-    atom: &Atom,
-) -> Result<Boxed<Net>, NoMemory>
+fn body_at(alloc: Global, net: &Net, name: u32, atom: &Atom) -> Result<Boxed<Net>, NoMemory>
     ensures { IfOk result (λ made. made ≡ net_with name (One atom.now) net.now) }
 {
     with_value(alloc, net, name, &Value::One(*atom))
+}
+
+// An operand, its alphabet and its network, with an atom in place of a name.
+pub(crate) fn operand_at(
+    scope: &Scope<'_>,
+    alphabet: &Expr,
+    net: &Net,
+    name: u32,
+    atom: &Atom,
+) -> Result<(EventSet, Boxed<Net>), LayoutFault>
+    ensures { Finds result (and_then (events_in scope.now.program.now (expr_with name (One atom.now) alphabet.now)) (λ events. Ok (events, net_with name (One atom.now) net.now))) }
+{
+    let events = events_at(scope, alphabet, name, atom)?;
+    let body = body_at(scope.alloc, net, name, atom)?;
+    Ok((events, body))
 }
 
 // A network with values in place of parameters.
@@ -57,15 +68,11 @@ fn with_values(
     Ok(made)
 }
 
-// The network that a call of a definition stands for.
-pub(crate) fn called(
-    scope: &Scope<'_>,
-    def: u32,
-    values: &[Value],
-) -> Result<Boxed<Net>, LayoutFault>
-    ensures { Finds result (network_called (slice_get scope.now.content.now.defs def) values.now) }
+// The network of a definition, with these values.
+fn defined(scope: &Scope<'_>, def: u32, values: &[Value]) -> Result<Boxed<Net>, LayoutFault>
+    ensures { Finds result (network_called (slice_get scope.now.program.now.defs def) values.now) }
 {
-    match scope.content.defs.get(def as usize) {
+    match scope.program.content().defs.get(def as usize) {
         None => Err(KIND),
         Some(def) => match &def.body {
             Body::Network(net) => {
@@ -75,4 +82,13 @@ pub(crate) fn called(
             _ => Err(KIND),
         },
     }
+}
+
+// The network that a call of a definition stands for.
+pub(crate) fn called(scope: &Scope<'_>, def: u32, args: &[Expr]) -> Result<Boxed<Net>, LayoutFault>
+    ensures { Finds result (and_then (arguments_in scope.now.program.now args.now) (network_called (slice_get scope.now.program.now.defs def))) }
+{
+    let values = arguments(scope, args)?;
+    let net = defined(scope, def, values.as_slice())?;
+    Ok(net)
 }

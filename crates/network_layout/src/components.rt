@@ -34,8 +34,8 @@ pub fn layout(alloc: Global, program: &Program) -> Result<Layout, LayoutFault>
     ensures seats { IfOk result (AreSeats (network_of program.now)) }
     ensures fault { IfErr result (λ fault. Fails fault (network_of program.now)) }
 {
+    let scope = Scope { alloc, program };
     let content = program.content();
-    let scope = Scope { alloc, content };
     let events = first_events(alloc, short(content.events.len())?)?;
     let mut seats = Items::new(alloc);
     walk(&scope, MOST_LEVELS, &content.root, &events, &mut seats)?;

@@ -1,9 +1,10 @@
 //! Seats: a component of a network with its alphabet.
 
-ghost use Rattle.std.specs.Prelude.{◌≡◌, ◌≤◌, IfOk, length};
+ghost use Rattle.std.specs.Prelude.{◌≡◌, ◌≤◌, ◌&&◌, ◌||◌, ℕ, IfOk, OnOk, length};
+ghost use Rattle.csp_base.specs.Members.{has};
 ghost use Rattle.network_layout.specs.Triple.{AreCrowded, alphabets};
 
-use containers::Items;
+use containers::{Boxed, Items};
 use csp_base::{EventSet, NoMemory};
 use csp_program::Proc;
 use std::alloc::Global;
@@ -12,7 +13,7 @@ use std::marker::Model;
 /// A component of a network: the process where it begins, and the events that it takes part in.
 #[derive(Drop)]
 pub struct Seat {
-    term: Proc,
+    term: Boxed<Proc>,
     alphabet: EventSet,
 }
 
@@ -31,7 +32,7 @@ impl Model for Seat {
 
 impl Seat {
     /// The component that begins with this process and has this alphabet.
-    pub fn new(term: Proc, alphabet: EventSet) -> Seat
+    pub fn new(term: Boxed<Proc>, alphabet: EventSet) -> Seat
         ensures { result ≡ record { alphabet = alphabet; term = term } }
     {
         Seat { term, alphabet }
@@ -41,7 +42,7 @@ impl Seat {
     pub fn term(&self) -> &Proc
         ensures { result.now ≡ self.now.term }
     {
-        &self.term
+        self.term.get()
     }
 
     /// The events that the component takes part in.
@@ -102,6 +103,38 @@ impl Layout {
     }
 }
 
+// The events of a set, and those of two others together.
+fn with_both(
+    alloc: Global,
+    sum: &EventSet,
+    left: &EventSet,
+    right: &EventSet,
+) -> Result<EventSet, NoMemory>
+    ensures { IfOk result (λ made. (e : ℕ) → has made e ≡ (has sum.now e || (has left.now e && has right.now e))) }
+{
+    let both = left.inter(alloc, right)?;
+    let made = sum.union(alloc, &both)?;
+    Ok(made)
+}
+
+// Counts the events of one component more.
+fn count(
+    alloc: Global,
+    once: &mut EventSet,
+    twice: &mut EventSet,
+    thrice: &mut EventSet,
+    alphabet: &EventSet,
+) -> Result<(), NoMemory>
+    ensures one { OnOk result ((e : ℕ) → has once.new e ≡ (has once.old e || has alphabet.now e)) }
+    ensures two { OnOk result ((e : ℕ) → has twice.new e ≡ (has twice.old e || (has once.old e && has alphabet.now e))) }
+    ensures three { OnOk result ((e : ℕ) → has thrice.new e ≡ (has thrice.old e || (has twice.old e && has alphabet.now e))) }
+{
+    *thrice = with_both(alloc, thrice, twice, alphabet)?;
+    *twice = with_both(alloc, twice, once, alphabet)?;
+    *once = once.union(alloc, alphabet)?;
+    Ok(())
+}
+
 // The events of three components or more.
 fn crowded(alloc: Global, seats: &[Seat]) -> Result<EventSet, NoMemory>
     ensures { IfOk result (AreCrowded (alphabets seats.now)) }
@@ -110,11 +143,7 @@ fn crowded(alloc: Global, seats: &[Seat]) -> Result<EventSet, NoMemory>
     let mut twice = EventSet::new(alloc);
     let mut thrice = EventSet::new(alloc);
     for seat in seats {
-        let third = twice.inter(alloc, seat.alphabet())?;
-        thrice = thrice.union(alloc, &third)?;
-        let second = once.inter(alloc, seat.alphabet())?;
-        twice = twice.union(alloc, &second)?;
-        once = once.union(alloc, seat.alphabet())?;
+        count(alloc, &mut once, &mut twice, &mut thrice, seat.alphabet())?;
     }
     Ok(thrice)
 }

@@ -54,7 +54,7 @@ fn use_of(alloc: Global, def: u32, args: &[Expr]) -> Result<Boxed<Expr>, NoMemor
 
 // The set that a definition is, with these arguments.
 fn told_set(scope: &Scope<'_>, args: &[Expr], def: u32) -> Result<EventSet, LayoutFault>
-    ensures { Finds result (told_set scope.now.content.now args.now def) }
+    ensures { Finds result (told_set scope.now.program.now args.now def) }
 {
     let call = use_of(scope.alloc, def, args)?;
     events(scope, call.get())
@@ -62,7 +62,7 @@ fn told_set(scope: &Scope<'_>, args: &[Expr], def: u32) -> Result<EventSet, Layo
 
 // The sets that an annotation tells.
 fn noted_roles(scope: &Scope<'_>, args: &[Expr], note: &RolesNote) -> Result<RoleSets, LayoutFault>
-    ensures { Finds result (told_roles scope.now.content.now args.now (Some note.now)) }
+    ensures { Finds result (told_roles scope.now.program.now args.now (Some note.now)) }
 {
     let creq = told_set(scope, args, note.creq)?;
     let cack = told_set(scope, args, note.cack)?;
@@ -73,7 +73,7 @@ fn noted_roles(scope: &Scope<'_>, args: &[Expr], note: &RolesNote) -> Result<Rol
 
 // The sets that an annotation of a resource tells.
 fn noted_uses(scope: &Scope<'_>, args: &[Expr], note: &ResourceNote) -> Result<UseSets, LayoutFault>
-    ensures { Finds result (told_uses scope.now.content.now args.now (Some note.now)) }
+    ensures { Finds result (told_uses scope.now.program.now args.now (Some note.now)) }
 {
     let acquire = told_set(scope, args, note.acquire)?;
     let release = told_set(scope, args, note.release)?;
@@ -113,10 +113,10 @@ fn find_resource(notes: &[ResourceNote], process: u32) -> Option<&ResourceNote>
 
 // What is told of a component.
 fn seat_roles(scope: &Scope<'_>, seat: &Seat) -> Result<RoleSets, LayoutFault>
-    ensures { Finds result (component_roles scope.now.content.now seat.now) }
+    ensures { Finds result (component_roles scope.now.program.now seat.now) }
 {
     match seat.term() {
-        Proc::Call(def, args) => match find_roles(scope.content.roles.as_slice(), *def) {
+        Proc::Call(def, args) => match find_roles(scope.program.content().roles.as_slice(), *def) {
             Some(note) => noted_roles(scope, args.as_slice(), note),
             None => Ok(no_roles(scope.alloc)),
         },
@@ -125,10 +125,13 @@ fn seat_roles(scope: &Scope<'_>, seat: &Seat) -> Result<RoleSets, LayoutFault>
 }
 
 fn seat_uses(scope: &Scope<'_>, seat: &Seat) -> Result<UseSets, LayoutFault>
-    ensures { Finds result (component_uses scope.now.content.now seat.now) }
+    ensures { Finds result (component_uses scope.now.program.now seat.now) }
 {
     match seat.term() {
-        Proc::Call(def, args) => match find_resource(scope.content.resources.as_slice(), *def) {
+        Proc::Call(def, args) => match find_resource(
+            scope.program.content().resources.as_slice(),
+            *def,
+        ) {
             Some(note) => noted_uses(scope, args.as_slice(), note),
             None => Ok(no_uses(scope.alloc)),
         },
@@ -149,8 +152,8 @@ fn untold(fault: LayoutFault, part: u32) -> NotedFault
 // What is told of each of the components.
 fn all_roles(scope: &Scope<'_>, seats: &[Seat]) -> Result<Items<RoleSets>, NotedFault>
     requires { length seats.now ≤ 512 }
-    ensures told { IfOk result (λ told. all_outcomes (component_roles scope.now.content.now) seats.now ≡ Ok told) }
-    ensures fault { IfErr result (IsUntold (component_roles scope.now.content.now) seats.now) }
+    ensures told { IfOk result (λ told. all_outcomes (component_roles scope.now.program.now) seats.now ≡ Ok told) }
+    ensures fault { IfErr result (IsUntold (component_roles scope.now.program.now) seats.now) }
 {
     let mut made = Items::new(scope.alloc);
     for (part, seat) in seats.iter().enumerate() {
@@ -172,8 +175,7 @@ pub fn roles_of(
     ensures told { IfOk result (λ told. all_outcomes (component_roles program.now) layout.now ≡ Ok told) }
     ensures fault { IfErr result (IsUntold (component_roles program.now) layout.now) }
 {
-    let content = program.content();
-    let scope = Scope { alloc, content };
+    let scope = Scope { alloc, program };
     let told = all_roles(&scope, layout.seats())?;
     Ok(told)
 }
@@ -181,8 +183,8 @@ pub fn roles_of(
 // What is told of each of the components.
 fn all_uses(scope: &Scope<'_>, seats: &[Seat]) -> Result<Items<UseSets>, NotedFault>
     requires { length seats.now ≤ 512 }
-    ensures told { IfOk result (λ told. all_outcomes (component_uses scope.now.content.now) seats.now ≡ Ok told) }
-    ensures fault { IfErr result (IsUntold (component_uses scope.now.content.now) seats.now) }
+    ensures told { IfOk result (λ told. all_outcomes (component_uses scope.now.program.now) seats.now ≡ Ok told) }
+    ensures fault { IfErr result (IsUntold (component_uses scope.now.program.now) seats.now) }
 {
     let mut made = Items::new(scope.alloc);
     for (part, seat) in seats.iter().enumerate() {
@@ -203,8 +205,7 @@ pub fn uses_of(
     ensures told { IfOk result (λ told. all_outcomes (component_uses program.now) layout.now ≡ Ok told) }
     ensures fault { IfErr result (IsUntold (component_uses program.now) layout.now) }
 {
-    let content = program.content();
-    let scope = Scope { alloc, content };
+    let scope = Scope { alloc, program };
     let told = all_uses(&scope, layout.seats())?;
     Ok(told)
 }

@@ -1,25 +1,35 @@
 //! The walk of a network, depth first from the left. It seats each component that it meets, and gives back their alphabets together.
 
-ghost use Rattle.std.specs.Prelude.{◌≡◌, [], length};
+ghost use Rattle.std.specs.Prelude.{◌≡◌, [], IfOk, length};
 ghost use Rattle.csp_program.specs.declared.networks.Net.TheOpen.{Net-F};
 ghost use Rattle.network_trees.specs.NetworkOf.{component, walked};
-ghost use Rattle.network_layout.specs.Lays.{Lays, node, one_operand, operand_walked, operands_each};
+ghost use Rattle.network_layout.specs.Lays.{Lays, node, one_operand, operand_walked, operands_each, two};
 
-use crate::calls::{body_at, called};
+use crate::calls::{called, operand_at};
 use crate::nesting::agree;
 use crate::seat::Seat;
-use crate::values::{Scope, arguments, events, events_at, set, truth};
+use crate::values::{Scope, both_events, set, truth};
 use containers::Items;
 use csp_atoms::Atom;
-use csp_base::EventSet;
-use csp_program::proc_copies::copy_proc;
+use csp_base::{EventSet, NoMemory};
+use csp_program::proc_copies::copy_boxed_proc;
 use csp_program::{Expr, Net, Proc};
 use network_trees::LayoutFault;
+use std::alloc::Global;
 
 // The greatest number of components.
 const MOST_COMPONENTS: usize = 512;
 
 const TOO_DEEP: LayoutFault = LayoutFault::NetworkDepth { found: 801 };
+
+// A component.
+fn seat_of(alloc: Global, process: &Proc, alphabet: &EventSet) -> Result<Seat, NoMemory>
+    ensures { IfOk result (λ seat. seat ≡ record { alphabet = alphabet.now; term = process.now }) }
+{
+    let kept = alphabet.try_clone(alloc)?;
+    let term = copy_boxed_proc(alloc, process)?;
+    Ok(Seat::new(term, kept))
+}
 
 // Seats a component.
 fn sit(
@@ -33,10 +43,9 @@ fn sit(
     if seats.len() >= MOST_COMPONENTS {
         return Err(LayoutFault::ComponentLimit { found: 513 });
     }
-    let kept = alphabet.try_clone(scope.alloc)?;
+    let seat = seat_of(scope.alloc, process, alphabet)?;
+    seats.push(seat)?;
     let joint = alphabet.union(scope.alloc, &EventSet::new(scope.alloc))?;
-    let term = copy_proc(scope.alloc, process)?;
-    seats.push(Seat::new(term, kept))?;
     Ok(joint)
 }
 
@@ -47,7 +56,7 @@ fn walk_leaf(
     alphabet: &EventSet,
     seats: &mut Items<Seat>,
 ) -> Result<EventSet, LayoutFault>
-    ensures { Lays result (walked scope.now.content.now 0 (length seats.old) alphabet.now net.now) seats.old seats.new }
+    ensures { Lays result (walked scope.now.program.now 0 (length seats.old) alphabet.now net.now) seats.old seats.new }
 {
     match net {
         Net::Leaf(process) => sit(scope, process, alphabet, seats),
@@ -67,7 +76,7 @@ pub(crate) fn walk(
     alphabet: &EventSet,
     seats: &mut Items<Seat>,
 ) -> Result<EventSet, LayoutFault>
-    ensures { Lays result (walked scope.now.content.now levels (length seats.old) alphabet.now net.now) seats.old seats.new }
+    ensures { Lays result (walked scope.now.program.now levels (length seats.old) alphabet.now net.now) seats.old seats.new }
 {
     if levels == 0 {
         return walk_leaf(scope, net, alphabet, seats);
@@ -92,12 +101,10 @@ fn walk_call(
     alphabet: &EventSet,
     seats: &mut Items<Seat>,
 ) -> Result<EventSet, LayoutFault>
-    ensures { Lays result (node scope.now.content.now levels (length seats.old) alphabet.now (Net-F.Call def args.now)) seats.old seats.new }
+    ensures { Lays result (node scope.now.program.now levels (length seats.old) alphabet.now (Net-F.Call def args.now)) seats.old seats.new }
 {
-    let values = arguments(scope, args)?;
-    let net = called(scope, def, values.as_slice())?;
-    let joint = walk(scope, levels, net.get(), alphabet, seats)?;
-    Ok(joint)
+    let net = called(scope, def, args)?;
+    walk(scope, levels, net.get(), alphabet, seats)
 }
 
 // A choice, which stands for one of its parts.
@@ -111,7 +118,7 @@ fn walk_if(
     alphabet: &EventSet,
     seats: &mut Items<Seat>,
 ) -> Result<EventSet, LayoutFault>
-    ensures { Lays result (node scope.now.content.now levels (length seats.old) alphabet.now (Net-F.If condition.now left.now right.now)) seats.old seats.new }
+    ensures { Lays result (node scope.now.program.now levels (length seats.old) alphabet.now (Net-F.If condition.now left.now right.now)) seats.old seats.new }
 {
     let holds = truth(scope, condition)?;
     if holds {
@@ -129,7 +136,7 @@ fn operand(
     alphabet: &EventSet,
     seats: &mut Items<Seat>,
 ) -> Result<EventSet, LayoutFault>
-    ensures { Lays result (operand_walked scope.now.content.now levels (length seats.old) alphabet.now net.now) seats.old seats.new }
+    ensures { Lays result (operand_walked scope.now.program.now levels (length seats.old) alphabet.now net.now) seats.old seats.new }
 {
     let first = seats.len();
     let joint = walk(scope, levels, net, alphabet, seats)?;
@@ -148,12 +155,35 @@ fn walk_pair(
     right: &Net,
     seats: &mut Items<Seat>,
 ) -> Result<EventSet, LayoutFault>
-    ensures { Lays result (node scope.now.content.now levels (length seats.old) [] (Net-F.Pair left.now left_alphabet.now right_alphabet.now right.now)) seats.old seats.new }
+    ensures { Lays result (node scope.now.program.now levels (length seats.old) [] (Net-F.Pair left.now left_alphabet.now right_alphabet.now right.now)) seats.old seats.new }
 {
-    let left_events = events(scope, left_alphabet)?;
-    let right_events = events(scope, right_alphabet)?;
-    let first = operand(scope, levels, left, &left_events, seats)?;
-    let second = operand(scope, levels, right, &right_events, seats)?;
+    let alphabets = both_events(scope, left_alphabet, right_alphabet)?;
+    walk_both(
+        scope,
+        levels,
+        left,
+        &alphabets.0,
+        right,
+        &alphabets.1,
+        seats,
+    )
+}
+
+// Two operands with these alphabets.
+#[cycle(walk)]
+fn walk_both(
+    scope: &Scope<'_>,
+    levels: u32,
+    left: &Net,
+    left_alphabet: &EventSet,
+    right: &Net,
+    right_alphabet: &EventSet,
+    seats: &mut Items<Seat>,
+) -> Result<EventSet, LayoutFault>
+    ensures { Lays result (two scope.now.program.now levels (length seats.old) left_alphabet.now left.now right_alphabet.now right.now) seats.old seats.new }
+{
+    let first = operand(scope, levels, left, left_alphabet, seats)?;
+    let second = operand(scope, levels, right, right_alphabet, seats)?;
     let joint = first.union(scope.alloc, &second)?;
     Ok(joint)
 }
@@ -169,11 +199,10 @@ fn walk_set(
     net: &Net,
     seats: &mut Items<Seat>,
 ) -> Result<EventSet, LayoutFault>
-    ensures { Lays result (node scope.now.content.now levels (length seats.old) [] (Net-F.Each name values.now alphabet.now net.now)) seats.old seats.new }
+    ensures { Lays result (node scope.now.program.now levels (length seats.old) [] (Net-F.Each name values.now alphabet.now net.now)) seats.old seats.new }
 {
     let atoms = set(scope, values)?;
-    let joint = walk_each(scope, levels, name, atoms.as_slice(), alphabet, net, seats)?;
-    Ok(joint)
+    walk_each(scope, levels, name, atoms.as_slice(), alphabet, net, seats)
 }
 
 // An operand for each of these values.
@@ -187,7 +216,7 @@ fn walk_each(
     net: &Net,
     seats: &mut Items<Seat>,
 ) -> Result<EventSet, LayoutFault>
-    ensures { Lays result (operands_each scope.now.content.now levels (length seats.old) name alphabet.now net.now atoms.now) seats.old seats.new }
+    ensures { Lays result (operands_each scope.now.program.now levels (length seats.old) name alphabet.now net.now atoms.now) seats.old seats.new }
 {
     let mut joint = EventSet::new(scope.alloc);
     for atom in atoms {
@@ -208,10 +237,8 @@ fn walk_one(
     net: &Net,
     seats: &mut Items<Seat>,
 ) -> Result<EventSet, LayoutFault>
-    ensures { Lays result (one_operand scope.now.content.now levels (length seats.old) name alphabet.now net.now atom.now) seats.old seats.new }
+    ensures { Lays result (one_operand scope.now.program.now levels (length seats.old) name alphabet.now net.now atom.now) seats.old seats.new }
 {
-    let events = events_at(scope, alphabet, name, atom)?;
-    let body = body_at(scope.alloc, net, name, atom)?;
-    let joint = operand(scope, levels, body.get(), &events, seats)?;
-    Ok(joint)
+    let part = operand_at(scope, alphabet, net, name, atom)?;
+    operand(scope, levels, part.1.get(), &part.0, seats)
 }

@@ -8,10 +8,8 @@ pub loop-seat-preserved : goal.loop-seat-preserved
 loop-seat-preserved c =
     let lt = many_alphabets c.args.seats.now c.loop-seat.seat-index (omega arith) in
     counted_next (alphabets c.args.seats.now) c.loop-seat.seat-index c.seat-item.result.alphabet c.loop-seat.once c.loop-seat.twice c.loop-seat.thrice
-    c.in_ok-second.second c.in_ok-third.third c.in_ok-once.once c.in_ok-twice.twice c.in_ok-thrice.thrice
+    c.count.new.once c.count.new.twice c.count.new.thrice
     lt (at_seat c.args.seats.now c.loop-seat.seat-index c.seat-item.result lt c.seat-item.is) c.loop-seat.invariant
-    (λ e. c.in_ok-third.ensures.members e ∙ ap (λ xs. has c.loop-seat.twice e && has xs e) c.alphabet.ensures)
-    c.in_ok-thrice.ensures.members
-    (λ e. c.in_ok-second.ensures.members e ∙ ap (λ xs. has c.loop-seat.once e && has xs e) c.alphabet-in-loop-seat.ensures)
-    c.in_ok-twice.ensures.members
-    (λ e. c.in_ok-once.ensures.members e ∙ ap (λ xs. has c.loop-seat.once e || has xs e) c.alphabet-in-loop-seat-2.ensures)
+    (λ e. c.in_ok-count.ensures.three e ∙ ap (λ xs. has c.loop-seat.thrice e || (has c.loop-seat.twice e && has xs e)) c.alphabet.ensures)
+    (λ e. c.in_ok-count.ensures.two e ∙ ap (λ xs. has c.loop-seat.twice e || (has c.loop-seat.once e && has xs e)) c.alphabet.ensures)
+    (λ e. c.in_ok-count.ensures.one e ∙ ap (λ xs. has c.loop-seat.once e || has xs e) c.alphabet.ensures)

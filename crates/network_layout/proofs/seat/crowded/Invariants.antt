@@ -1,7 +1,4 @@
-use Rattle.std.proofs.Common.{◌≡◌, ℕ, take}
-use Rattle.std.specs.Prelude.{nat_le}
-use Rattle.csp_base.specs.Members.{has}
-use Rattle.csp_tables.specs.Part.{sharers}
+use Rattle.std.proofs.Common.{take}
 use Rattle.network_layout.specs.Triple.{alphabets}
 use Rattle.network_layout.proofs.TripleLemmas.{IsCounted}
 use Rattle.network_layout.proofs.seat.crowded.Given as goal

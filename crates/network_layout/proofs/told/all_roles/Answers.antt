@@ -9,13 +9,13 @@ loop-part-init c = ap (λ told. Ok told) (sym c.new-made.ensures)
 
 pub returns-in-Err-clause-fault : goal.returns-in-Err-clause-fault
 returns-in-Err-clause-fault c =
-    untold_first (component_roles c.args.scope.now.content.now) c.args.seats.now c.loop-part.part c.index-seats-part.result c.loop-part.made c.untold.result c.in-Err.fault
+    untold_first (component_roles c.args.scope.now.program.now) c.args.seats.now c.loop-part.part c.index-seats-part.result c.loop-part.made c.untold.result c.in-Err.fault
     c.loop-part.invariant (omega arith) c.index-seats-part.is c.in-Err.ensures c.untold.ensures
 
 pub loop-part-preserved : goal.loop-part-preserved
 loop-part-preserved c =
-    told_next (component_roles c.args.scope.now.content.now) c.args.seats.now c.loop-part.part c.index-seats-part.result c.loop-part.made c.push.new.self c.in-Ok.sets
+    told_next (component_roles c.args.scope.now.program.now) c.args.seats.now c.loop-part.part c.index-seats-part.result c.loop-part.made c.push.new.self c.in-Ok.sets
     c.loop-part.invariant (omega arith) c.index-seats-part.is c.in-Ok.ensures c.in_ok-push-in-Ok.ensures.ok
 
 pub returns-clause-told : goal.returns-clause-told
-returns-clause-told c = told_end (component_roles c.args.scope.now.content.now) c.args.seats.now c.loop-part.part c.loop-part.made c.loop-part.invariant (omega arith)
+returns-clause-told c = told_end (component_roles c.args.scope.now.program.now) c.args.seats.now c.loop-part.part c.loop-part.made c.loop-part.invariant (omega arith)

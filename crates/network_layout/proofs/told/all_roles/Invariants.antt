@@ -5,4 +5,4 @@ use Rattle.network_layout.proofs.told.all_roles.Given as goal
 
 -- what is told of the components so far has values
 abbrev pub invariant-loop-part : goal.invariant-loop-part
-invariant-loop-part l = all_outcomes (component_roles l.scope.content.now) (take l.part l.seats) ≡ Ok l.made
+invariant-loop-part l = all_outcomes (component_roles l.scope.program.now) (take l.part l.seats) ≡ Ok l.made

@@ -14,8 +14,11 @@ decreases-walk_if l = 8 * l.levels + 1
 abbrev pub decreases-operand : goal.decreases-operand
 decreases-operand l = 8 * l.levels + 1
 
+abbrev pub decreases-walk_both : goal.decreases-walk_both
+decreases-walk_both l = 8 * l.levels + 2
+
 abbrev pub decreases-walk_pair : goal.decreases-walk_pair
-decreases-walk_pair l = 8 * l.levels + 2
+decreases-walk_pair l = 8 * l.levels + 3
 
 abbrev pub decreases-walk_one : goal.decreases-walk_one
 decreases-walk_one l = 8 * l.levels + 2
@@ -29,5 +32,5 @@ decreases-walk_set l = 8 * l.levels + 4
 -- the operands so far are those of the values that were passed
 abbrev pub invariant-walk_each-loop-atom : goal.invariant-walk_each-loop-atom
 invariant-walk_each-loop-atom l =
-    EachSoFar (each l.scope.content.now l.levels l.name l.alphabet l.net l.atoms (length l.fn.seats)) (each l.scope.content.now l.levels l.name l.alphabet l.net (drop l.atom-index l.atoms))
+    EachSoFar (each l.scope.program.now l.levels l.name l.alphabet l.net l.atoms (length l.fn.seats)) (each l.scope.program.now l.levels l.name l.alphabet l.net (drop l.atom-index l.atoms))
     l.fn.seats l.seats l.joint
