@@ -3,7 +3,6 @@ use Rattle.std.proofs.Common.{◌≡◌, ℕ, ◌+◌, ◌*◌, ◌<◌, ◌≤�
 use Rattle.csp_program.specs.Outcome.{Outcome, and_then}
 use Rattle.csp_program.specs.Value.{field_place, value_of}
 use Rattle.csp_atoms.specs.declared.atom.Atom.{Atom}
-use Rattle.csp_atoms.specs.declared.value.Value.{Value}
 use Rattle.csp_program.specs.declared.expressions.Expr.{Expr}
 use Rattle.csp_program.specs.declared.kinds.ValueKind.{ValueKind}
 use Rattle.csp_program.specs.declared.kinds.ValueKind.TheVariants.{OutsideChannel}
@@ -29,24 +28,22 @@ use Rattle.pool_parts.specs.declared.place.ProcId.{ProcId}
 use Rattle.step_values.proofs.Lists.{left, left_begin, left_end, left_fault, left_next, map_join, map_push}
 use Rattle.csp_steps.proofs.Places.{all_within_push, seen_stay, tree_stays}
 
+-- steps of which the last one is a number that goes on
+then_number : {B : Type 0} (o : Outcome ℕ) (g : ℕ → ℕ) (h : ℕ → Outcome B) → and_then o (λ k. h (g k)) ≡ and_then (and_then o (λ k. Ok (g k))) h
+then_number (Ok k) g h = refl
+then_number (Err f) g h = refl
+
+then_numbers : {A B : Type 0} (o : Outcome A) (f : A → Outcome ℕ) (g : ℕ → ℕ) (h : ℕ → Outcome B) → and_then o (λ v. and_then (f v) (λ k. h (g k))) ≡ and_then (and_then o (λ v. and_then (f v) (λ k. Ok (g k)))) h
+then_numbers (Ok v) f g h = then_number (f v) g h
+then_numbers (Err k) f g h = refl
+
 -- an output
 module _ (p : Content) (moves : List Move) (first : ℕ) (set : List Atom) (sets : List (List Atom)) (e : Expr) (fields : List Field) (q : Proc) (n : ℕ) where
-  by_output : Outcome Value → Outcome (List Move)
-  by_output o = filled moves first (and_then o (λ v. and_then (field_place set v) (λ k. ways_to_fill p sets fields q (n * length set + k))))
-
-  pub output_fault : (k : ValueKind) → value_of p e ≡ Err k → filled moves first (ways_to_fill p (set ∷ sets) (field.Put e ∷ fields) q n) ≡ Err k
-  unfolding by_output
-  output_fault k h = ap by_output h
-
-  pub place_fault : (v : Value) (k : ValueKind) → value_of p e ≡ Ok v → field_place set v ≡ Err k → filled moves first (ways_to_fill p (set ∷ sets) (field.Put e ∷ fields) q n) ≡ Err k
-  unfolding by_output
-  place_fault v k h g = ap by_output h ∙ ap (λ o. filled moves first (and_then o (λ j. ways_to_fill p sets fields q (n * length set + j)))) g
-
-  pub output_next : (v : Value) (k m : ℕ) → value_of p e ≡ Ok v → field_place set v ≡ Ok k → n * length set + k ≡ m
-      → filled moves first (ways_to_fill p (set ∷ sets) (field.Put e ∷ fields) q n) ≡ filled moves first (ways_to_fill p sets fields q m)
-  unfolding by_output
-  output_next v k m h g number =
-      ap by_output h ∙ (ap (λ o. filled moves first (and_then o (λ j. ways_to_fill p sets fields q (n * length set + j)))) g ∙ ap (λ j. filled moves first (ways_to_fill p sets fields q j)) number)
+  pub output_is : (o : Outcome ℕ) → and_then (value_of p e) (λ v. and_then (field_place set v) (λ k. Ok (n * length set + k))) ≡ o
+      → filled moves first (ways_to_fill p (set ∷ sets) (field.Put e ∷ fields) q n) ≡ filled moves first (and_then o (λ m. ways_to_fill p sets fields q m))
+  output_is o h =
+      ap (filled moves first) (then_numbers (value_of p e) (field_place set) (λ k. n * length set + k) (ways_to_fill p sets fields q)) ∙
+      ap (λ z. filled moves first (and_then z (λ m. ways_to_fill p sets fields q m))) h
 
 -- an input
 module _ (p : Content) (moves : List Move) (first : ℕ) (set : List Atom) (sets : List (List Atom)) (x : ℕ) (s : Option Expr) (fields : List Field) (q : Proc) (n : ℕ) where

@@ -16,6 +16,7 @@ use Rattle.std.specs.Result.{IsErrAnd}
 use Rattle.term_pool.proofs.NodeLemmas.{layer_of, layer_out}
 use Rattle.term_pool.specs.Layers.{shown}
 use Rattle.term_pool.specs.declared.node.Node.{Node}
+use Rattle.term_pool.specs.declared.node.Node.TheVariants as node
 use Rattle.process_steps.specs.Prefix.{Choice}
 use Rattle.step_values.specs.Starts.{GivesStart}
 use Rattle.value_operators.specs.declared.fault.EvalFault.{EvalFault}
@@ -70,6 +71,27 @@ pub around_node : (p : Content) (trees new : List Proc) (r : Result (List StepTo
     → GivesMoves new r (around_layer p (layer_of trees (shown m)) moves) → GivesMoves new r (around p t moves)
 around_node p trees new r n m t moves e is h =
     subst (λ (d : Proc-F Proc). GivesMoves new r (around_layer p d moves)) (sym (layer_out trees (shown m)) ∙ (ap (λ (k : Node). out-Proc (tree_of trees k)) (sym is) ∙ ap out-Proc e)) h
+
+-- what is no hiding, no renaming and no sequence has no steps round it
+around_layer_of : (p : Content) (trees : List Proc) (n : Node) (t : Proc) (moves : List Move) → tree_of trees n ≡ t → around p t moves ≡ around_layer p (layer_of trees (shown n)) moves
+around_layer_of p trees n t moves e = ap (λ (d : Proc-F Proc). around_layer p d moves) (sym (sym (layer_out trees (shown n)) ∙ ap out-Proc e))
+
+pub around_none : (p : Content) (trees : List Proc) (n : Node) (t : Proc) (moves : List Move) → tree_of trees n ≡ t → ((q : _) (s : _) → n ≡ node.Hide q s → ⊥) → ((q : _) (pairs : _) (gens : _) → n ≡ node.Rename q pairs gens → ⊥)
+    → ((q : _) (r : _) → n ≡ node.Seq q r → ⊥) → around p t moves ≡ Ok []
+around_none p trees (node.Hide q s) t moves e hide rename sequence = absurd (hide q s refl)
+around_none p trees (node.Rename q pairs gens) t moves e hide rename sequence = absurd (rename q pairs gens refl)
+around_none p trees (node.Seq q r) t moves e hide rename sequence = absurd (sequence q r refl)
+around_none p trees node.Stop t moves e hide rename sequence = around_layer_of p trees node.Stop t moves e
+around_none p trees (node.Prefix h fields q) t moves e hide rename sequence = around_layer_of p trees (node.Prefix h fields q) t moves e
+around_none p trees (node.Guard c q) t moves e hide rename sequence = around_layer_of p trees (node.Guard c q) t moves e
+around_none p trees (node.If c q r) t moves e hide rename sequence = around_layer_of p trees (node.If c q r) t moves e
+around_none p trees (node.External ids) t moves e hide rename sequence = around_layer_of p trees (node.External ids) t moves e
+around_none p trees (node.Internal ids) t moves e hide rename sequence = around_layer_of p trees (node.Internal ids) t moves e
+around_none p trees (node.EachExternal x s q) t moves e hide rename sequence = around_layer_of p trees (node.EachExternal x s q) t moves e
+around_none p trees (node.EachInternal x s q) t moves e hide rename sequence = around_layer_of p trees (node.EachInternal x s q) t moves e
+around_none p trees (node.Call d args) t moves e hide rename sequence = around_layer_of p trees (node.Call d args) t moves e
+around_none p trees node.Skip t moves e hide rename sequence = around_layer_of p trees node.Skip t moves e
+around_none p trees node.Ended t moves e hide rename sequence = around_layer_of p trees node.Ended t moves e
 
 -- no steps
 pub none_listed : (trees : List Proc) (steps : List StepTo) (o : Outcome (List Move)) → steps ≡ [] → o ≡ Ok [] → IsListing trees steps o

@@ -18,7 +18,7 @@ use Rattle.csp_program.specs.declared.programs.Content.{Content}
 use Rattle.process_steps.proofs.Equations as forms
 use Rattle.process_steps.specs.Needed.{events_in}
 use Rattle.process_steps.specs.Renaming.{Renamed, renaming_in}
-use Rattle.process_steps.specs.StepList.{Move, in_hiding, in_renaming}
+use Rattle.process_steps.specs.StepList.{Move, in_hiding, in_renaming, in_sequence}
 use Rattle.process_steps.specs.declared.label.Label.{Label}
 use Rattle.process_steps.specs.declared.label.Label.TheVariants.{Silent, Visible, Tick}
 use Rattle.step_values.specs.Images.{becomes, Keeps, KeepsOutcome}
@@ -30,7 +30,7 @@ use Rattle.term_pool.specs.Trees.{tree_at, tree_of}
 use Rattle.term_pool.specs.declared.node.Node.{Node}
 use Rattle.value_operators.specs.declared.fault.EvalFault.{EvalFault}
 use Rattle.value_operators.specs.declared.fault.EvalFault.TheVariants as fault
-use Rattle.csp_steps.specs.Computed.{around, around_layer, AreMoves, GivesMoves, hidden_move, IsListing, renamed_moves}
+use Rattle.csp_steps.specs.Computed.{around, around_layer, AreMoves, GivesMoves, hidden_move, hides, IsListing, renamed_moves}
 use Rattle.csp_steps.specs.Evaluated.{Fits, GivesNumber, HasMoreNumbers, hidden_by, Hides, LeadOn, renamed_by, Renames, StandsAs}
 use Rattle.csp_steps.specs.Listed.{seen}
 use Rattle.csp_steps.specs.declared.evaluated.Evaluated.{Evaluated}
@@ -66,6 +66,17 @@ module _ (p : Content) where
   renamed_kept : (t q : Proc) → renamed_by p (out-Proc (with_first t q)) ≡ renamed_by p (out-Proc t)
   unfolding with_first
   renamed_kept t q = (layer_kept (out-Proc t) q).1
+
+-- a step that is no tick, in a sequence and in a hiding
+pub goes_on : (q : Proc) (l : Label) (r : Proc) → (l ≡ Tick → ⊥) → in_sequence q l r ≡ (l, proc.Seq r q)
+goes_on q Silent r h = refl
+goes_on q (Visible e) r h = refl
+goes_on q Tick r h = absurd (h refl)
+
+pub goes_hidden : (hidden : List ℕ) (t : Proc) (l : Label) (r : Proc) → (l ≡ Tick → ⊥) → hidden_move hidden t l r ≡ (if hides hidden l then Silent else l, with_first t r)
+goes_hidden hidden t Silent r h = refl
+goes_hidden hidden t (Visible e) r h = refl
+goes_hidden hidden t Tick r h = absurd (h refl)
 
 -- the label is a tick, or this holds of the process after the step
 abbrev GoesTo : (Proc → Type 0) → Move → Type 0

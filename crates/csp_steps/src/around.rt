@@ -8,6 +8,7 @@ ghost use Rattle.csp_program.specs.declared.programs.Content.{Content};
 ghost use Rattle.process_steps.specs.StepList as lists;
 ghost use Rattle.step_values.specs.Images.{becomes};
 ghost use Rattle.step_values.specs.declared.images.Images.{Images as Kept};
+ghost use Rattle.term_pool.specs.First.{with_first};
 ghost use Rattle.term_pool.specs.Pooled.{IsFront};
 ghost use Rattle.term_pool.specs.Trees.{tree_at};
 ghost use Rattle.csp_steps.specs.Computed.{all_within, around as made_around, hidden_move, hides, images_in, renamed_moves, AreMoves, GivesMoves, IsMove};
@@ -37,14 +38,7 @@ fn in_sequence(pool: &mut Pool, second: ProcId, step: StepTo) -> Result<StepTo, 
             label: Label::Silent,
             to: second,
         }),
-        Label::Silent => {
-            let to = pool.put_node(Node::Seq(step.to, second))?;
-            Ok(StepTo {
-                label: Label::Silent,
-                to,
-            })
-        }
-        Label::Visible(_) => {
+        _ => {
             let to = pool.put_node(Node::Seq(step.to, second))?;
             Ok(StepTo {
                 label: step.label,
@@ -79,8 +73,7 @@ pub(crate) fn put_ended(pool: &mut Pool) -> Result<ProcId, NoMemory>
     ensures process { IfOk result (λ made. slice_get pool.new made.0 ≡ Some proc.Ended) }
     ensures front { IsFront pool.old pool.new }
 {
-    let made = pool.put_node(Node::Ended)?;
-    Ok(made)
+    pool.put_node(Node::Ended)
 }
 
 // Whether the label is one of the hidden events.
@@ -124,14 +117,7 @@ fn in_hiding(
                 to,
             })
         }
-        Label::Silent => {
-            let to = pool.put_with_first(id, step.to)?;
-            Ok(StepTo {
-                label: Label::Silent,
-                to,
-            })
-        }
-        Label::Visible(_) => {
+        _ => {
             let label = label_of(hidden, step.label);
             let to = pool.put_with_first(id, step.to)?;
             Ok(StepTo { label, to })
@@ -216,6 +202,26 @@ fn label_images(alloc: Global, images: &Images, label: &Label) -> Result<Items<E
     }
 }
 
+// Steps, and after them those by what the event of a step becomes.
+fn add_visible(
+    alloc: Global,
+    pool: &mut Pool,
+    id: ProcId,
+    images: &Images,
+    step: StepTo,
+    steps: Items<StepTo>,
+) -> Result<Items<StepTo>, NoMemory>
+    requires id { id.0 < length pool.old }
+    requires within { step.to.0 < length pool.old }
+    requires steps { all_within (length pool.old) steps ≡ true }
+    ensures steps { IfOk result (λ made. AreMoves pool.new made (map (seen pool.old) steps ++ map (λ d. (Label.Visible d, with_first (tree_at pool.old id) (tree_at pool.old step.to))) (images_in (becomes images.now) step.label))) }
+    ensures front { IsFront pool.old pool.new }
+{
+    let events = label_images(alloc, images, &step.label)?;
+    let to = pool.put_with_first(id, step.to)?;
+    add_events(events.as_slice(), to, steps)
+}
+
 // Steps, and after them what a step of the process below makes of a renaming.
 fn add_renamed(
     alloc: Global,
@@ -240,11 +246,7 @@ fn add_renamed(
             let to = pool.put_with_first(id, step.to)?;
             add_step(Label::Silent, to, steps)
         }
-        Label::Visible(_) => {
-            let events = label_images(alloc, images, &step.label)?;
-            let to = pool.put_with_first(id, step.to)?;
-            add_events(events.as_slice(), to, steps)
-        }
+        Label::Visible(_) => add_visible(alloc, pool, id, images, step, steps),
     }
 }
 
@@ -328,16 +330,6 @@ pub(crate) fn around(
             let steps = sequence(alloc, pool, second, below)?;
             Ok(steps)
         }
-        Node::Stop => Ok(Items::new(alloc)),
-        Node::Prefix(_, _, _) => Ok(Items::new(alloc)),
-        Node::Guard(_, _) => Ok(Items::new(alloc)),
-        Node::If(_, _, _) => Ok(Items::new(alloc)),
-        Node::External(_) => Ok(Items::new(alloc)),
-        Node::Internal(_) => Ok(Items::new(alloc)),
-        Node::EachExternal(_, _, _) => Ok(Items::new(alloc)),
-        Node::EachInternal(_, _, _) => Ok(Items::new(alloc)),
-        Node::Call(_, _) => Ok(Items::new(alloc)),
-        Node::Skip => Ok(Items::new(alloc)),
-        Node::Ended => Ok(Items::new(alloc)),
+        _ => Ok(Items::new(alloc)),
     }
 }

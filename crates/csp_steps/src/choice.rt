@@ -1,6 +1,8 @@
 //! Choices between processes at places of a pool.
 
 ghost use Rattle.std.specs.Prelude.{◌≡◌, ◌<◌, ◌++◌, true, length, map, slice_get, slice_set, IfOk, Some};
+ghost use Rattle.csp_atoms.specs.declared.value.Value.TheVariants as value;
+ghost use Rattle.csp_program.specs.Substitution.{proc_with};
 ghost use Rattle.csp_program.specs.declared.processes.Proc.TheVariants as proc;
 ghost use Rattle.process_steps.specs.Step as meant;
 ghost use Rattle.process_steps.specs.StepList as lists;
@@ -17,6 +19,20 @@ use process_steps::Label;
 use std::alloc::Global;
 use term_pool::{Node, Pool, ProcId};
 
+/// The place of what the process at `id` is with the atom in place of the name.
+pub(crate) fn put_atom(
+    pool: &mut Pool,
+    name: u32,
+    atom: Atom,
+    id: ProcId,
+) -> Result<ProcId, NoMemory>
+    requires within { id.0 < length pool.old }
+    ensures process { IfOk result (λ made. slice_get pool.new made.0 ≡ Some (proc_with name (value.One atom) (tree_at pool.old id))) }
+    ensures front { IsFront pool.old pool.new }
+{
+    pool.substitute(id, name, &Value::One(atom))
+}
+
 /// The places of what the process at `id` is with each of the atoms in place of the name.
 pub(crate) fn each_put(
     alloc: Global,
@@ -31,7 +47,7 @@ pub(crate) fn each_put(
 {
     let mut ids = Items::new(alloc);
     for atom in atoms {
-        let made = pool.substitute(id, name, &Value::One(*atom))?;
+        let made = put_atom(pool, name, *atom, id)?;
         ids.push(made)?;
     }
     Ok(ids)
@@ -67,8 +83,7 @@ fn with_operand(
     ensures front { IsFront pool.old pool.new }
 {
     let operands = with_place(alloc, ids, index, id)?;
-    let made = pool.put_node(Node::External(&operands))?;
-    Ok(made)
+    pool.put_node(Node::External(&operands))
 }
 
 // What a step of an operand makes of the choice.

@@ -38,9 +38,6 @@ pub(crate) fn enter(
             let made = pool.put_all_in(id, found.params.as_slice(), values)?;
             Ok(made)
         }
-        Body::Datum(_) => Err(KIND),
-        Body::Nametype(_) => Err(KIND),
-        Body::Datatype(_) => Err(KIND),
-        Body::Network(_) => Err(KIND),
+        _ => Err(KIND),
     }
 }

@@ -1,6 +1,6 @@
 //! What was evaluated for the processes of a pool, so that it is evaluated once.
 
-ghost use Rattle.std.specs.Prelude.{◌≡◌, ◌<◌, ℕ, [], ◌∷◌, length, List, nat_eq, slice_get, IfOk, OnOk, OnErr, Ok, Some};
+ghost use Rattle.std.specs.Prelude.{◌≡◌, ◌<◌, ℕ, [], ◌∷◌, ◌++◌, length, List, nat_eq, slice_get, IfOk, OnOk, OnErr, Ok, Some};
 ghost use Rattle.std.specs.HashMap.{get, IsUnchanged, Updates};
 ghost use Rattle.csp_program.specs.declared.processes.Proc.{Proc as Process};
 ghost use Rattle.csp_program.specs.declared.processes.Proc.TheViews.{out-Proc};
@@ -82,6 +82,23 @@ fn next_number(count: usize) -> Result<u32, NoMemory>
     }
 }
 
+// Keeps a value, and its number for the key.
+fn put_value<T: Drop>(
+    values: &mut Items<T>,
+    numbers: &mut HashMap<u32, u32>,
+    key: u32,
+    value: T,
+) -> Result<u32, NoMemory>
+    ensures number { IfOk result (λ number. number ≡ length values.old) }
+    ensures values { OnOk result (values.new ≡ values.old ++ value ∷ []) }
+    ensures numbers { IfOk result (λ number. Updates nat_eq numbers.old numbers.new key (Some number)) }
+{
+    let number = next_number(values.len())?;
+    values.push(value)?;
+    keep(numbers, key, number)?;
+    Ok(number)
+}
+
 /// The number of the set of the hiding at a place, which is evaluated if it isn't yet.
 pub(crate) fn hidden_number(
     alloc: Global,
@@ -96,9 +113,7 @@ pub(crate) fn hidden_number(
         return Ok(number);
     }
     let hidden = events_in(alloc, program, set)?;
-    let number = next_number(evaluated.sets.len())?;
-    evaluated.sets.push(hidden)?;
-    keep(&mut evaluated.hidings, id.0, number)?;
+    let number = put_value(&mut evaluated.sets, &mut evaluated.hidings, id.0, hidden)?;
     Ok(number)
 }
 
@@ -131,9 +146,12 @@ pub(crate) fn renamed_number(
         return Ok(number);
     }
     let images = images_in(alloc, program, pairs, gens)?;
-    let number = next_number(evaluated.images.len())?;
-    evaluated.images.push(images)?;
-    keep(&mut evaluated.renamings, id.0, number)?;
+    let number = put_value(
+        &mut evaluated.images,
+        &mut evaluated.renamings,
+        id.0,
+        images,
+    )?;
     Ok(number)
 }
 

@@ -2,6 +2,7 @@
 
 ghost use Rattle.std.specs.Prelude.{◌≡◌, ◌<◌, ◌∷◌, [], true, length, map, List, Ok, IfOk, OnOk};
 ghost use Rattle.csp_program.specs.declared.expressions.Expr.{Expr as Expression};
+ghost use Rattle.csp_program.specs.declared.processes.Field.{Field as LogicField};
 ghost use Rattle.csp_program.specs.declared.processes.Head.{Head as LogicHead};
 ghost use Rattle.csp_program.specs.declared.processes.Proc.{Proc as Process};
 ghost use Rattle.csp_program.specs.declared.processes.Proc.TheVariants as proc;
@@ -13,6 +14,7 @@ ghost use Rattle.term_pool.specs.Trees.{all_below, tree_at};
 ghost use Rattle.csp_steps.specs.Computed.{GivesLook};
 ghost use Rattle.csp_steps.specs.Evaluated.{Fits};
 ghost use Rattle.step_values.specs.Starts.{choice_in};
+ghost use Rattle.value_operators.specs.Gives.{Gives};
 
 use crate::around::put_ended;
 use crate::choice::{each_put, silent_to};
@@ -21,7 +23,7 @@ use crate::evaluated::Evaluated;
 use crate::prefix::prefix_steps;
 use crate::step::StepTo;
 use containers::Items;
-use csp_atoms::{Atom, Value};
+use csp_atoms::{AtomSet, Value};
 use csp_base::NoMemory;
 use csp_program::copies::copy_fields;
 use csp_program::{Expr, Field, Program, ValueKind};
@@ -104,36 +106,46 @@ fn look_skip(alloc: Global, pool: &mut Pool) -> Result<Look, EvalFault>
     Ok(Look::Steps(steps))
 }
 
-// A prefix whose head stands for the events from `start` on.
+// A prefix whose head stands for the events from `start` on, from its fields.
 fn look_prefix(
     alloc: Global,
     program: &Program,
     pool: &mut Pool,
     start: &Start<'_>,
-    fields: &[Field],
+    fields: Result<Items<Field>, NoMemory>,
     id: ProcId,
 ) -> Result<Look, EvalFault>
     requires within { id.0 < length pool.old }
-    ensures look { (head : LogicHead) → meant.of_head program.now head ≡ Ok (choice_in start.now) → GivesLook program.now pool.new result (proc.Prefix head fields.now (tree_at pool.old id)) }
+    ensures look { (head : LogicHead) → (written : List LogicField) → IfOk fields (λ fs. fs ≡ written) → meant.of_head program.now head ≡ Ok (choice_in start.now) → GivesLook program.now pool.new result (proc.Prefix head written (tree_at pool.old id)) }
     ensures front { IsFront pool.old pool.new }
 {
-    let steps = prefix_steps(alloc, program, pool, start, fields, id)?;
+    let fields = fields?;
+    let steps = prefix_steps(alloc, program, pool, start, fields.as_slice(), id)?;
     Ok(Look::Steps(steps))
 }
 
-// A choice between what a process is with each value of a set.
+// A choice between processes.
+fn look_external(alloc: Global, ids: &[ProcId]) -> Result<Look, EvalFault>
+    ensures { (trees : List Process) → (p : Content) → all_below (length trees) ids.now ≡ true → GivesLook p trees result (proc.External (map (tree_at trees) ids.now)) }
+{
+    let ids = Items::from_slice(alloc, ids)?;
+    Ok(Look::Choice(ids))
+}
+
+// A choice between what a process is with each value of a set, from what the set comes to.
 fn look_each_external(
     alloc: Global,
     pool: &mut Pool,
     name: u32,
-    atoms: &[Atom],
+    atoms: Result<AtomSet, EvalFault>,
     id: ProcId,
 ) -> Result<Look, EvalFault>
     requires within { id.0 < length pool.old }
-    ensures look { (p : Content) → (s : Expression) → need.set_in p s ≡ Ok atoms.now → GivesLook p pool.new result (proc.EachExternal name s (tree_at pool.old id)) }
+    ensures look { (p : Content) → (s : Expression) → Gives atoms (need.set_in p s) → GivesLook p pool.new result (proc.EachExternal name s (tree_at pool.old id)) }
     ensures front { IsFront pool.old pool.new }
 {
-    let ids = each_put(alloc, pool, name, atoms, id)?;
+    let atoms = atoms?;
+    let ids = each_put(alloc, pool, name, atoms.as_slice(), id)?;
     Ok(Look::Choice(ids))
 }
 
@@ -142,13 +154,15 @@ fn look_each_internal(
     alloc: Global,
     pool: &mut Pool,
     name: u32,
-    atoms: &[Atom],
+    atoms: Result<AtomSet, EvalFault>,
     id: ProcId,
 ) -> Result<Look, EvalFault>
     requires within { id.0 < length pool.old }
-    ensures look { (p : Content) → (s : Expression) → need.set_in p s ≡ Ok atoms.now → GivesLook p pool.new result (proc.EachInternal name s (tree_at pool.old id)) }
+    ensures look { (p : Content) → (s : Expression) → Gives atoms (need.set_in p s) → GivesLook p pool.new result (proc.EachInternal name s (tree_at pool.old id)) }
     ensures front { IsFront pool.old pool.new }
 {
+    let set = atoms?;
+    let atoms = set.as_slice();
     if atoms.is_empty() {
         return Err(EMPTY_CHOICE);
     }
@@ -157,21 +171,22 @@ fn look_each_internal(
     Ok(Look::Steps(steps))
 }
 
-// A call.
+// A call, from what its arguments come to.
 fn look_call(
     alloc: Global,
     program: &Program,
     pool: &mut Pool,
     evaluated: &mut Evaluated,
     def: u32,
-    values: &[Value],
+    values: Result<Items<Value>, EvalFault>,
 ) -> Result<Look, EvalFault>
     requires fits { Fits program.now pool.old evaluated.old }
-    ensures look { (args : List Expression) → need.arguments_in program.now args ≡ Ok values.now → GivesLook program.now pool.new result (proc.Call def args) }
+    ensures look { (args : List Expression) → Gives values (need.arguments_in program.now args) → GivesLook program.now pool.new result (proc.Call def args) }
     ensures front { IsFront pool.old pool.new }
     ensures fits { OnOk result (Fits program.now pool.new evaluated.new) }
 {
-    let to = enter(program, pool, evaluated, def, values)?;
+    let values = values?;
+    let to = enter(program, pool, evaluated, def, values.as_slice())?;
     let steps = one_step(alloc, Label::Silent, to)?;
     Ok(Look::Steps(steps))
 }
@@ -203,29 +218,26 @@ pub(crate) fn look_at(
         Node::Guard(c, below) => look_guard(alloc, program, c, below),
         Node::If(c, first, second) => look_if(alloc, program, c, first, second),
         Node::Internal(ids) => look_internal(alloc, ids.as_slice()),
-        Node::External(ids) => {
-            let ids = Items::from_slice(alloc, ids.as_slice())?;
-            Ok(Look::Choice(ids))
-        }
+        Node::External(ids) => look_external(alloc, ids.as_slice()),
         Node::Hide(below, _) => Ok(Look::Around(below)),
         Node::Rename(below, _, _) => Ok(Look::Around(below)),
         Node::Seq(first, _) => Ok(Look::Around(first)),
         Node::Prefix(head, fields, to) => {
             let start = of_head(program, head)?;
-            let fields = copy_fields(alloc, fields.as_slice())?;
-            look_prefix(alloc, program, pool, &start, fields.as_slice(), to)
+            let fields = copy_fields(alloc, fields.as_slice());
+            look_prefix(alloc, program, pool, &start, fields, to)
         }
         Node::EachExternal(name, set, below) => {
-            let atoms = set_in(alloc, program, set)?;
-            look_each_external(alloc, pool, name, atoms.as_slice(), below)
+            let atoms = set_in(alloc, program, set);
+            look_each_external(alloc, pool, name, atoms, below)
         }
         Node::EachInternal(name, set, below) => {
-            let atoms = set_in(alloc, program, set)?;
-            look_each_internal(alloc, pool, name, atoms.as_slice(), below)
+            let atoms = set_in(alloc, program, set);
+            look_each_internal(alloc, pool, name, atoms, below)
         }
         Node::Call(def, args) => {
-            let values = arguments_in(alloc, program, args.as_slice())?;
-            look_call(alloc, program, pool, evaluated, def, values.as_slice())
+            let values = arguments_in(alloc, program, args.as_slice());
+            look_call(alloc, program, pool, evaluated, def, values)
         }
     }
 }

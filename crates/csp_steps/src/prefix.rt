@@ -1,7 +1,10 @@
 //! The ways to fill the fields of a prefix.
 
 ghost use Rattle.std.specs.Prelude.{◌≡◌, ◌<◌, ◌+◌, ◌*◌, ◌++◌, [], ◌∷◌, if◌then◌else◌, true, length, map, Ok, IfOk};
+ghost use Rattle.csp_atoms.specs.declared.value.Value.TheVariants as value;
+ghost use Rattle.csp_program.specs.Outcome.{and_then};
 ghost use Rattle.csp_program.specs.Substitution.{any_gets, proc_with};
+ghost use Rattle.csp_program.specs.Value.{field_place, value_of};
 ghost use Rattle.process_steps.specs.Needed.{each_joined};
 ghost use Rattle.process_steps.specs.Prefix as meant;
 ghost use Rattle.process_steps.specs.Prefix.{ways_to_fill};
@@ -12,6 +15,7 @@ ghost use Rattle.csp_steps.specs.Inputs.{input_ways};
 ghost use Rattle.csp_steps.specs.Listed.{seen};
 ghost use Rattle.value_operators.specs.Gives.{Gives};
 
+use crate::choice::put_atom;
 use crate::step::StepTo;
 use containers::Items;
 use csp_atoms::{Atom, AtomSet, Value};
@@ -117,22 +121,34 @@ fn add_event(
     Ok(steps)
 }
 
+// The fields after an input that takes the value.
+fn later_fields(
+    alloc: Global,
+    fields: &[Field],
+    name: u32,
+    atom: Atom,
+) -> Result<Items<Field>, NoMemory>
+    ensures { IfOk result (λ made. made ≡ meant.later_fields name atom fields.now) }
+{
+    substitute_fields(alloc, fields, name, &Value::One(atom))
+}
+
 // The process after an input that takes the value, where `fields` come before it.
 fn later_process(
     pool: &mut Pool,
     name: u32,
-    value: &Value,
+    atom: Atom,
     fields: &[Field],
     to: ProcId,
 ) -> Result<ProcId, NoMemory>
     requires within { to.0 < length pool.old }
-    ensures process { IfOk result (λ made. IsPlaceOf pool.new made (Ok (if any_gets name fields.now then tree_at pool.old to else proc_with name value.now (tree_at pool.old to)))) }
+    ensures process { IfOk result (λ made. IsPlaceOf pool.new made (Ok (if any_gets name fields.now then tree_at pool.old to else proc_with name (value.One atom) (tree_at pool.old to)))) }
     ensures front { IsFront pool.old pool.new }
 {
     if any_gets_name(fields, name) {
         return Ok(to);
     }
-    let made = pool.substitute(to, name, value)?;
+    let made = put_atom(pool, name, atom, to)?;
     Ok(made)
 }
 
@@ -141,6 +157,20 @@ fn number_after(number: u64, set: &AtomSet, place: u64) -> Result<u64, EvalFault
     ensures { Gives result (Ok (number * length set.now + place)) }
 {
     with_field(number, set, place, 1)
+}
+
+// The number of fields with one more, which has the value of an output.
+fn number_with_output(
+    filling: &Filling<'_>,
+    set: &AtomSet,
+    output: &Expr,
+    number: u64,
+) -> Result<u64, EvalFault>
+    ensures { Gives result (and_then (value_of filling.now.program.now output.now) (λ v. and_then (field_place set.now v) (λ k. Ok (number * length set.now + k)))) }
+{
+    let value = eval(filling.alloc, filling.program, output)?;
+    let place = place_in(set, &value)?;
+    number_after(number, set, place)
 }
 
 // Steps, and after them the one where no set is left.
@@ -215,11 +245,8 @@ fn fill_output(
     ensures steps { GivesMoves pool.new result (filled (map (seen pool.old) steps) filling.now.first (ways_to_fill filling.now.program.now (set.now ∷ rest.now) (Field.Put output.now ∷ later.now) (tree_at pool.old to) number)) }
     ensures front { IsFront pool.old pool.new }
 {
-    let value = eval(filling.alloc, filling.program, output)?;
-    let place = place_in(set, &value)?;
-    let number = number_after(number, set, place)?;
-    let made = fill(filling, pool, rest, later, to, number, steps)?;
-    Ok(made)
+    let number = number_with_output(filling, set, output, number)?;
+    fill(filling, pool, rest, later, to, number, steps)
 }
 
 // The same where an input comes first.
@@ -251,8 +278,7 @@ fn fill_input(
         to,
         number,
     };
-    let made = fill_each(filling, pool, &input, steps)?;
-    Ok(made)
+    fill_each(filling, pool, &input, steps)
 }
 
 // Steps, and after them those of each value that an input may take.
@@ -294,12 +320,10 @@ fn fill_value(
     let given = is_given(input.given, *atom);
     if given {
         let number = number_after(input.number, input.set, place as u64)?;
-        let value = Value::One(*atom);
-        let fields = substitute_fields(filling.alloc, input.later, input.name, &value)?;
-        let to = later_process(pool, input.name, &value, input.later, input.to)?;
+        let fields = later_fields(filling.alloc, input.later, input.name, *atom)?;
+        let to = later_process(pool, input.name, *atom, input.later, input.to)?;
         let rest = input.rest;
-        let made = fill(filling, pool, rest, fields.as_slice(), to, number, steps)?;
-        return Ok(made);
+        return fill(filling, pool, rest, fields.as_slice(), to, number, steps);
     }
     Ok(steps)
 }
@@ -323,6 +347,5 @@ pub(crate) fn prefix_steps(
         first: start.first,
     };
     let nothing = Items::new(alloc);
-    let steps = fill(&filling, pool, start.sets, fields, to, 0, nothing)?;
-    Ok(steps)
+    fill(&filling, pool, start.sets, fields, to, 0, nothing)
 }

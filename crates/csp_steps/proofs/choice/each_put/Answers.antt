@@ -12,13 +12,13 @@ loop-atom-init c = record {
   places = subst (λ (qs : List ProcId). AreAt c.args.pool.now qs []) (sym c.new-ids.ensures) (record { same = refl; within = refl });
 }
 
-pub substitute-requires : goal.substitute-requires
-substitute-requires c = still_within c.args.pool.now c.loop-atom.pool c.loop-atom.invariant.front c.args.id c.requires.within
+pub put_atom-requires : goal.put_atom-requires
+put_atom-requires c = record { within = still_within c.args.pool.now c.loop-atom.pool c.loop-atom.invariant.front c.args.id c.requires.within }
 
 pub loop-atom-preserved : goal.loop-atom-preserved
 loop-atom-preserved c = record {
-  front = front_both c.args.pool.now c.loop-atom.pool c.substitute.new.self c.loop-atom.invariant.front c.in_ok-made.ensures.front;
-  places = next_put c.args.pool.now c.loop-atom.pool c.substitute.new.self c.loop-atom.invariant.front c.in_ok-made.ensures.front c.args.id c.requires.within c.args.name c.args.atoms.now
+  front = front_both c.args.pool.now c.loop-atom.pool c.put_atom.new.pool c.loop-atom.invariant.front c.in_ok-made.ensures.front;
+  places = next_put c.args.pool.now c.loop-atom.pool c.put_atom.new.pool c.loop-atom.invariant.front c.in_ok-made.ensures.front c.args.id c.requires.within c.args.name c.args.atoms.now
       c.loop-atom.atom-index c.atom-item.result (omega arith) c.atom-item.is c.loop-atom.ids c.push.new.self c.in_ok-made.made c.loop-atom.invariant.places c.in_ok-made.ensures.process c.in_ok-push.ensures.ok;
 }
 

@@ -1,4 +1,5 @@
-use Rattle.std.proofs.Common.{Some, List, length, map, ap, ◌∙◌}
+use Rattle.std.proofs.Common.{◌≡◌, Some, List, length, map, slice_get, ap, ◌∙◌, subst}
+use Rattle.std.specs.Prelude.{IfOk}
 use Rattle.csp_program.specs.declared.processes.Proc.{Proc}
 use Rattle.csp_program.specs.declared.processes.Proc.TheVariants as proc
 use Rattle.term_pool.specs.Trees.{all_below, tree_at}
@@ -11,5 +12,6 @@ put_node-requires c =
 
 pub returns-clause-process : goal.returns-clause-process
 returns-clause-process c =
-    c.in_ok-made.ensures.process ∙
-    ap (λ (ts : List Proc). Some (proc.External ts)) (ap (map (tree_at c.args.pool.now)) c.in_ok-operands.ensures ∙ with_other c.args.pool.now c.args.ids.now c.args.index c.args.id)
+    subst (λ (t : Proc). IfOk c.put_node.result (λ made. slice_get c.put_node.new.self made.0 ≡ Some t))
+    (ap (λ (ts : List Proc). proc.External ts) (ap (map (tree_at c.args.pool.now)) c.in_ok-operands.ensures ∙ with_other c.args.pool.now c.args.ids.now c.args.index c.args.id))
+    c.put_node.ensures.process

@@ -1,13 +1,15 @@
-use Rattle.std.proofs.Common.{Ok, List, length, map, refl, ap, sym, ◌∙◌, subst}
+use Rattle.std.proofs.Common.{◌≡◌, Ok, List, length, map, refl, ap, ◌∙◌, subst}
+use Rattle.std.specs.Prelude.{IfOk}
+use Rattle.csp_program.specs.declared.expressions.Expr.{Expr}
+use Rattle.value_operators.specs.Gives.{Gives}
 use Rattle.csp_program.specs.declared.processes.Field.{Field}
 use Rattle.csp_program.specs.declared.processes.Proc.TheVariants as proc
 use Rattle.process_steps.specs.Needed.{arguments_in}
 use Rattle.term_pool.specs.Trees.{all_below, tree_at}
 use Rattle.pool_parts.specs.declared.place.ProcId.{ProcId}
 use Rattle.csp_steps.specs.declared.look.Look.TheVariants as look
-use Rattle.csp_steps.specs.Computed.{AreOfChoice, GivesLook}
-use Rattle.csp_steps.proofs.Computing.{look_passed}
-use Rattle.csp_steps.proofs.Forms.{arguments_fault, each_external_fault, each_internal_fault, ended, every_place, external, first_place, head_fault, hide, look_at, rename, second_place, sequence, stop}
+use Rattle.csp_steps.specs.Computed.{GivesLook}
+use Rattle.csp_steps.proofs.Forms.{ended, every_place, first_place, head_fault, hide, look_at, rename, second_place, sequence, stop}
 use Rattle.csp_steps.proofs.Looking.{none_listed, start_passed}
 use Rattle.csp_steps.proofs.Noting.{fits_then}
 use Rattle.csp_steps.proofs.look.look_at.Goals as goal
@@ -44,11 +46,11 @@ returns-in-Internal-clause-look c =
     (subst (λ (ids : List ProcId). GivesLook c.args.program.now c.args.pool.now c.look_internal.result (proc.Internal (map (tree_at c.args.pool.now) ids))) c.as_slice.ensures
     (c.look_internal.ensures c.args.pool.now c.args.program.now (ap (all_below (length c.args.pool.now)) c.as_slice.ensures ∙ every_place c.args.id.0 (length c.args.pool.now) c.node.result _ c.in-Internal.ids.now c.node.ensures.places c.requires.within c.in-Internal.is refl)))
 
-pub returns-in_ok-ids-in-External-clause-look : goal.returns-in_ok-ids-in-External-clause-look
-returns-in_ok-ids-in-External-clause-look c =
-    look_at c.args.program.now c.args.pool.now c.args.pool.now (Ok (look.Choice c.in_ok-ids-in-External.ids)) c.node.result _ (tree_at c.args.pool.now c.args.id) c.node.ensures.process c.in-External.is
-    (subst (λ (ids : List ProcId). AreOfChoice c.args.program.now c.args.pool.now ids (proc.External (map (tree_at c.args.pool.now) c.in-External.ids.now))) (sym (c.in_ok-ids-in-External.ensures ∙ c.as_slice-in-External.ensures))
-    (external c.args.program.now c.args.pool.now c.in-External.ids.now (every_place c.args.id.0 (length c.args.pool.now) c.node.result _ c.in-External.ids.now c.node.ensures.places c.requires.within c.in-External.is refl)))
+pub returns-in-External-clause-look : goal.returns-in-External-clause-look
+returns-in-External-clause-look c =
+    look_at c.args.program.now c.args.pool.now c.args.pool.now c.look_external.result c.node.result _ (tree_at c.args.pool.now c.args.id) c.node.ensures.process c.in-External.is
+    (subst (λ (ids : List ProcId). GivesLook c.args.program.now c.args.pool.now c.look_external.result (proc.External (map (tree_at c.args.pool.now) ids))) c.as_slice-in-External.ensures
+    (c.look_external.ensures c.args.pool.now c.args.program.now (ap (all_below (length c.args.pool.now)) c.as_slice-in-External.ensures ∙ every_place c.args.id.0 (length c.args.pool.now) c.node.result _ c.in-External.ids.now c.node.ensures.places c.requires.within c.in-External.is refl)))
 
 pub returns-in-Hide-clause-look : goal.returns-in-Hide-clause-look
 returns-in-Hide-clause-look c =
@@ -68,58 +70,40 @@ returns-in-Seq-clause-look c =
 pub returns-in_err-start-in-Prefix-clause-look : goal.returns-in_err-start-in-Prefix-clause-look
 returns-in_err-start-in-Prefix-clause-look c =
     look_at c.args.program.now c.args.pool.now c.args.pool.now _ c.node.result _ (tree_at c.args.pool.now c.args.id) c.node.ensures.process c.in-Prefix.is
-    (start_passed c.args.program.now c.args.pool.now (proc.Prefix c.in-Prefix.head.now c.in-Prefix.fields.now (tree_at c.args.pool.now c.in-Prefix.to)) _ _ _ c.from_residual-in_err-start-in-Prefix.ensures.1 c.in_err-start-in-Prefix.ensures
+    (start_passed c.args.program.now c.args.pool.now (proc.Prefix c.in-Prefix.head.now c.in-Prefix.fields.now (tree_at c.args.pool.now c.in-Prefix.to)) _ _ _ c.from_residual.ensures.1 c.in_err-start-in-Prefix.ensures
     (λ k e. head_fault c.args.program.now c.in-Prefix.head.now c.in-Prefix.fields.now (tree_at c.args.pool.now c.in-Prefix.to) k e))
 
-pub returns-in_ok-fields-in-Prefix-clause-look : goal.returns-in_ok-fields-in-Prefix-clause-look
-returns-in_ok-fields-in-Prefix-clause-look c =
+pub returns-in_ok-start-in-Prefix-clause-look : goal.returns-in_ok-start-in-Prefix-clause-look
+returns-in_ok-start-in-Prefix-clause-look c =
     look_at c.args.program.now c.args.pool.now c.look_prefix.new.pool c.look_prefix.result c.node.result _ (tree_at c.args.pool.now c.args.id) c.node.ensures.process c.in-Prefix.is
-    (subst (λ (fs : List Field). GivesLook c.args.program.now c.look_prefix.new.pool c.look_prefix.result (proc.Prefix c.in-Prefix.head.now fs (tree_at c.args.pool.now c.in-Prefix.to)))
-    (c.as_slice-in-Prefix-2.ensures ∙ (c.in_ok-fields-in-Prefix.ensures ∙ c.as_slice-in-Prefix.ensures)) (c.look_prefix.ensures.look c.in-Prefix.head.now c.in_ok-start-in-Prefix.ensures))
+    (c.look_prefix.ensures.look c.in-Prefix.head.now c.in-Prefix.fields.now
+    (subst (λ (written : List Field). IfOk c.copy_fields-fields.result (λ fs. fs ≡ written)) c.as_slice-in-Prefix.ensures c.copy_fields-fields.ensures) c.in_ok-start-in-Prefix.ensures)
 
-pub returns-in_err-atoms-in-EachExternal-clause-look : goal.returns-in_err-atoms-in-EachExternal-clause-look
-returns-in_err-atoms-in-EachExternal-clause-look c =
-    look_at c.args.program.now c.args.pool.now c.args.pool.now _ c.node.result _ (tree_at c.args.pool.now c.args.id) c.node.ensures.process c.in-EachExternal.is
-    (look_passed c.args.program.now c.args.pool.now (proc.EachExternal c.in-EachExternal.name c.in-EachExternal.set.now (tree_at c.args.pool.now c.in-EachExternal.below)) _ _ _ c.from_residual-in_err-atoms-in-EachExternal.ensures.1 c.in_err-atoms-in-EachExternal.ensures
-    (λ k e. each_external_fault c.args.program.now c.in-EachExternal.name c.in-EachExternal.set.now (tree_at c.args.pool.now c.in-EachExternal.below) k e))
-
-pub returns-in_ok-atoms-in-EachExternal-clause-look : goal.returns-in_ok-atoms-in-EachExternal-clause-look
-returns-in_ok-atoms-in-EachExternal-clause-look c =
+pub returns-in-EachExternal-clause-look : goal.returns-in-EachExternal-clause-look
+returns-in-EachExternal-clause-look c =
     look_at c.args.program.now c.args.pool.now c.look_each_external.new.pool c.look_each_external.result c.node.result _ (tree_at c.args.pool.now c.args.id) c.node.ensures.process c.in-EachExternal.is
-    (c.look_each_external.ensures.look c.args.program.now c.in-EachExternal.set.now (c.in_ok-atoms-in-EachExternal.ensures ∙ ap (λ xs. Ok xs) (sym c.as_slice-in-EachExternal.ensures.members)))
+    (c.look_each_external.ensures.look c.args.program.now c.in-EachExternal.set.now c.set_in-atoms.ensures)
 
-pub returns-in_err-atoms-in-EachInternal-clause-look : goal.returns-in_err-atoms-in-EachInternal-clause-look
-returns-in_err-atoms-in-EachInternal-clause-look c =
-    look_at c.args.program.now c.args.pool.now c.args.pool.now _ c.node.result _ (tree_at c.args.pool.now c.args.id) c.node.ensures.process c.in-EachInternal.is
-    (look_passed c.args.program.now c.args.pool.now (proc.EachInternal c.in-EachInternal.name c.in-EachInternal.set.now (tree_at c.args.pool.now c.in-EachInternal.below)) _ _ _ c.from_residual-in_err-atoms-in-EachInternal.ensures.1 c.in_err-atoms-in-EachInternal.ensures
-    (λ k e. each_internal_fault c.args.program.now c.in-EachInternal.name c.in-EachInternal.set.now (tree_at c.args.pool.now c.in-EachInternal.below) k e))
-
-pub returns-in_ok-atoms-in-EachInternal-clause-look : goal.returns-in_ok-atoms-in-EachInternal-clause-look
-returns-in_ok-atoms-in-EachInternal-clause-look c =
+pub returns-in-EachInternal-clause-look : goal.returns-in-EachInternal-clause-look
+returns-in-EachInternal-clause-look c =
     look_at c.args.program.now c.args.pool.now c.look_each_internal.new.pool c.look_each_internal.result c.node.result _ (tree_at c.args.pool.now c.args.id) c.node.ensures.process c.in-EachInternal.is
-    (c.look_each_internal.ensures.look c.args.program.now c.in-EachInternal.set.now (c.in_ok-atoms-in-EachInternal.ensures ∙ ap (λ xs. Ok xs) (sym c.as_slice-in-EachInternal.ensures.members)))
+    (c.look_each_internal.ensures.look c.args.program.now c.in-EachInternal.set.now c.set_in-atoms-in-EachInternal.ensures)
 
-pub returns-in_err-values-in-Call-clause-look : goal.returns-in_err-values-in-Call-clause-look
-returns-in_err-values-in-Call-clause-look c =
-    look_at c.args.program.now c.args.pool.now c.args.pool.now _ c.node.result _ (tree_at c.args.pool.now c.args.id) c.node.ensures.process c.in-Call.is
-    (look_passed c.args.program.now c.args.pool.now (proc.Call c.in-Call.def c.in-Call.args.now) _ _ _ c.from_residual-in_err-values-in-Call.ensures.1 c.in_err-values-in-Call.ensures
-    (λ k e. arguments_fault c.args.program.now c.in-Call.def c.in-Call.args.now k (ap (arguments_in c.args.program.now) (sym c.as_slice-in-Call.ensures) ∙ e)))
-
-pub returns-in_ok-values-in-Call-clause-look : goal.returns-in_ok-values-in-Call-clause-look
-returns-in_ok-values-in-Call-clause-look c =
+pub returns-in-Call-clause-look : goal.returns-in-Call-clause-look
+returns-in-Call-clause-look c =
     look_at c.args.program.now c.args.pool.now c.look_call.new.pool c.look_call.result c.node.result _ (tree_at c.args.pool.now c.args.id) c.node.ensures.process c.in-Call.is
-    (c.look_call.ensures.look c.in-Call.args.now (ap (arguments_in c.args.program.now) (sym c.as_slice-in-Call.ensures) ∙ (c.in_ok-values-in-Call.ensures ∙ ap (λ vs. Ok vs) (sym c.as_slice-in-Call-2.ensures))))
+    (c.look_call.ensures.look c.in-Call.args.now (subst (λ (es : List Expr). Gives c.arguments_in-values.result (arguments_in c.args.program.now es)) c.as_slice-in-Call.ensures c.arguments_in-values.ensures))
 
 pub returns-in-Skip-clause-fits : goal.returns-in-Skip-clause-fits
 returns-in-Skip-clause-fits c = fits_then c.args.program.now c.args.pool.now c.look_skip.new.pool c.args.evaluated.now c.look_skip.result c.look_skip.ensures.front c.requires.fits
 
-pub returns-in_ok-fields-in-Prefix-clause-fits : goal.returns-in_ok-fields-in-Prefix-clause-fits
-returns-in_ok-fields-in-Prefix-clause-fits c = fits_then c.args.program.now c.args.pool.now c.look_prefix.new.pool c.args.evaluated.now c.look_prefix.result c.look_prefix.ensures.front c.requires.fits
+pub returns-in_ok-start-in-Prefix-clause-fits : goal.returns-in_ok-start-in-Prefix-clause-fits
+returns-in_ok-start-in-Prefix-clause-fits c = fits_then c.args.program.now c.args.pool.now c.look_prefix.new.pool c.args.evaluated.now c.look_prefix.result c.look_prefix.ensures.front c.requires.fits
 
-pub returns-in_ok-atoms-in-EachExternal-clause-fits : goal.returns-in_ok-atoms-in-EachExternal-clause-fits
-returns-in_ok-atoms-in-EachExternal-clause-fits c =
+pub returns-in-EachExternal-clause-fits : goal.returns-in-EachExternal-clause-fits
+returns-in-EachExternal-clause-fits c =
     fits_then c.args.program.now c.args.pool.now c.look_each_external.new.pool c.args.evaluated.now c.look_each_external.result c.look_each_external.ensures.front c.requires.fits
 
-pub returns-in_ok-atoms-in-EachInternal-clause-fits : goal.returns-in_ok-atoms-in-EachInternal-clause-fits
-returns-in_ok-atoms-in-EachInternal-clause-fits c =
+pub returns-in-EachInternal-clause-fits : goal.returns-in-EachInternal-clause-fits
+returns-in-EachInternal-clause-fits c =
     fits_then c.args.program.now c.args.pool.now c.look_each_internal.new.pool c.args.evaluated.now c.look_each_internal.result c.look_each_internal.ensures.front c.requires.fits

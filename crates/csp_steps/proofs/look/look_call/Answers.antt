@@ -1,18 +1,30 @@
-use Rattle.std.proofs.Common.{List, sym, subst}
+use Rattle.std.proofs.Common.{Ok, List, ap, sym, ◌∙◌, subst}
+use Rattle.std.specs.Prelude.{Result}
+use Rattle.csp_atoms.specs.declared.value.Value.{Value}
 use Rattle.csp_program.specs.declared.processes.Proc.TheVariants as proc
+use Rattle.process_steps.specs.Needed.{arguments_in}
 use Rattle.process_steps.specs.StepList.{steps_of}
+use Rattle.value_operators.specs.Gives.{Gives}
+use Rattle.value_operators.specs.declared.fault.EvalFault.{EvalFault}
 use Rattle.csp_steps.specs.Computed.{IsListing}
 use Rattle.csp_steps.specs.declared.step.StepTo.{StepTo}
-use Rattle.csp_steps.proofs.Computing.{place_passed}
-use Rattle.csp_steps.proofs.Forms.{call, call_fault}
+use Rattle.csp_steps.proofs.Computing.{look_passed, place_passed}
+use Rattle.csp_steps.proofs.Forms.{arguments_fault, call, call_fault}
 use Rattle.csp_steps.proofs.look.look_call.Goals as goal
+
+pub returns-in_err-values-clause-look : goal.returns-in_err-values-clause-look
+returns-in_err-values-clause-look c =
+    λ args h. look_passed c.args.program.now c.args.pool.now (proc.Call c.args.def args) _ _ (arguments_in c.args.program.now args) c.from_residual.ensures.1
+    (subst (λ (r : Result (List Value) EvalFault). Gives r (arguments_in c.args.program.now args)) c.in_err-values.was h) (λ k e. arguments_fault c.args.program.now c.args.def args k e)
 
 pub returns-in_err-to-clause-look : goal.returns-in_err-to-clause-look
 returns-in_err-to-clause-look c =
-    λ args e. place_passed c.args.program.now c.enter.new.pool c.enter.new.pool (proc.Call c.args.def args) _ _ _ c.from_residual.ensures.1 c.in_err-to.ensures.process
-    (λ k g. call_fault c.args.program.now c.args.def args c.args.values.now k e g)
+    λ args h. let e = subst (λ (r : Result (List Value) EvalFault). Gives r (arguments_in c.args.program.now args)) c.in_ok-values.was h ∙ ap (λ vs. Ok vs) (sym c.as_slice.ensures) in
+    place_passed c.args.program.now c.enter.new.pool c.enter.new.pool (proc.Call c.args.def args) _ _ _ c.from_residual-in_err-to.ensures.1 c.in_err-to.ensures.process
+    (λ k g. call_fault c.args.program.now c.args.def args c.as_slice.result.now k e g)
 
 pub returns-clause-look : goal.returns-clause-look
 returns-clause-look c =
-    λ args e. subst (λ (ss : List StepTo). IsListing c.enter.new.pool ss (steps_of c.args.program.now (proc.Call c.args.def args))) (sym c.in_ok-steps.ensures)
-    (call c.args.program.now c.enter.new.pool c.args.def args c.args.values.now c.in_ok-to.to e c.in_ok-to.ensures.process)
+    λ args h. let e = subst (λ (r : Result (List Value) EvalFault). Gives r (arguments_in c.args.program.now args)) c.in_ok-values.was h ∙ ap (λ vs. Ok vs) (sym c.as_slice.ensures) in
+    subst (λ (ss : List StepTo). IsListing c.enter.new.pool ss (steps_of c.args.program.now (proc.Call c.args.def args))) (sym c.in_ok-steps.ensures)
+    (call c.args.program.now c.enter.new.pool c.args.def args c.as_slice.result.now c.in_ok-to.to e c.in_ok-to.ensures.process)

@@ -1,23 +1,23 @@
-use Rattle.std.proofs.Common.{Ok, List, map, length, get_or, ap, sym, ◌∙◌, arith}
+use Rattle.std.proofs.Common.{Err, List, Ok, map, length, get_or, ap, sym, ◌∙◌, arith}
 use Rattle.csp_atoms.specs.declared.atom.Atom.{Atom}
 use Rattle.csp_program.specs.declared.processes.Field.TheVariants as field
 use Rattle.term_pool.specs.Trees.{tree_at}
 use Rattle.csp_steps.specs.Listed.{seen}
 use Rattle.csp_steps.proofs.Computing.{moves_passed, passed_moves, same_moves}
-use Rattle.csp_steps.proofs.Filling.{given_fault, given_next, input_begin, input_end, input_fault, input_next, no_fields, no_sets, not_given, one_field, output_fault, output_next, place_fault, no_fault, taken_next}
+use Rattle.csp_steps.proofs.Filling.{given_fault, given_next, input_begin, input_end, input_fault, input_next, no_fields, no_sets, not_given, one_field, output_is, no_fault, taken_next}
 use Rattle.step_values.proofs.Pairs.{count_is}
 use Rattle.csp_steps.proofs.Places.{all_within_stay, front_both, front_same}
 use Rattle.csp_steps.proofs.prefix.+fill.Goals as goal
 
-pub fill_output-returns-in_err-value-clause-steps : goal.fill_output-returns-in_err-value-clause-steps
-fill_output-returns-in_err-value-clause-steps t c =
-    passed_moves c.args.pool.now _ _ _ _ c.from_residual.ensures.1 c.in_err-value.ensures
-    (λ k e. output_fault c.args.filling.now.program.now (map (seen c.args.pool.now) c.args.steps) c.args.filling.now.first c.args.set.now c.args.rest.now c.args.output.now c.args.later.now (tree_at c.args.pool.now c.args.to) c.args.number k e)
+pub fill_output-returns-in_err-number-clause-steps : goal.fill_output-returns-in_err-number-clause-steps
+fill_output-returns-in_err-number-clause-steps t c =
+    passed_moves c.args.pool.now _ _ _ _ c.from_residual.ensures.1 c.in_err-number.ensures
+    (λ k e. output_is c.args.filling.now.program.now (map (seen c.args.pool.now) c.args.steps) c.args.filling.now.first c.args.set.now c.args.rest.now c.args.output.now c.args.later.now (tree_at c.args.pool.now c.args.to) c.args.number (Err k) e)
 
-pub fill_output-returns-in_err-place-clause-steps : goal.fill_output-returns-in_err-place-clause-steps
-fill_output-returns-in_err-place-clause-steps t c =
-    passed_moves c.args.pool.now _ _ _ _ c.from_residual-in_err-place.ensures.1 c.in_err-place.ensures
-    (λ k e. place_fault c.args.filling.now.program.now (map (seen c.args.pool.now) c.args.steps) c.args.filling.now.first c.args.set.now c.args.rest.now c.args.output.now c.args.later.now (tree_at c.args.pool.now c.args.to) c.args.number c.in_ok-value.value k c.in_ok-value.ensures e)
+pub fill_output-returns-clause-steps : goal.fill_output-returns-clause-steps
+fill_output-returns-clause-steps t c =
+    same_moves c.fill.new.pool c.fill.result _ _
+    (output_is c.args.filling.now.program.now (map (seen c.args.pool.now) c.args.steps) c.args.filling.now.first c.args.set.now c.args.rest.now c.args.output.now c.args.later.now (tree_at c.args.pool.now c.args.to) c.args.number (Ok c.in_ok-number.number) c.in_ok-number.ensures) c.fill.ensures.steps
 
 pub fill_input-returns-in_err-given-clause-steps : goal.fill_input-returns-in_err-given-clause-steps
 fill_input-returns-in_err-given-clause-steps t c =
@@ -43,32 +43,11 @@ fill-returns-in-Get-clause-steps t c =
     one_field c.args.filling.now.program.now _ _ (map (seen c.args.pool.now) c.args.steps) c.args.filling.now.first c.in-Some.set.now c.in-Some.rest.now c.args.sets.now c.in-Some-split_first.field.now (field.Get c.in-Get.name c.in-Get.given)
     c.in-Some-split_first.later.now c.args.fields.now (tree_at c.args.pool.now c.args.to) c.args.number c.in-Some.ensures.cases.0 c.in-Some-split_first.ensures.cases.0 c.in-Get.is c.fill_input.ensures.steps
 
-pub fill_output-returns-in_err-number-clause-steps : goal.fill_output-returns-in_err-number-clause-steps
-fill_output-returns-in_err-number-clause-steps t c = passed_moves c.args.pool.now _ _ _ _ c.from_residual-in_err-number.ensures.1 c.in_err-number.ensures (λ k e. no_fault _ k _ e)
-
-pub fill_output-returns-in_err-made-clause-steps : goal.fill_output-returns-in_err-made-clause-steps
-fill_output-returns-in_err-made-clause-steps t c =
-    moves_passed c.fill.new.pool c.fill.new.pool _ _ _ _ c.from_residual-in_err-made.ensures.1 c.in_err-made.ensures.steps
-    (λ k e. output_next c.args.filling.now.program.now (map (seen c.args.pool.now) c.args.steps) c.args.filling.now.first c.args.set.now c.args.rest.now c.args.output.now c.args.later.now (tree_at c.args.pool.now c.args.to) c.args.number
-    c.in_ok-value.value c.in_ok-place.place c.in_ok-number.number c.in_ok-value.ensures c.in_ok-place.ensures (count_is _ _ c.in_ok-number.ensures) ∙ e)
-
-pub fill_output-returns-clause-steps : goal.fill_output-returns-clause-steps
-fill_output-returns-clause-steps t c =
-    same_moves c.fill.new.pool (Ok c.in_ok-made.made) _ _
-    (output_next c.args.filling.now.program.now (map (seen c.args.pool.now) c.args.steps) c.args.filling.now.first c.args.set.now c.args.rest.now c.args.output.now c.args.later.now (tree_at c.args.pool.now c.args.to) c.args.number
-    c.in_ok-value.value c.in_ok-place.place c.in_ok-number.number c.in_ok-value.ensures c.in_ok-place.ensures (count_is _ _ c.in_ok-number.ensures)) c.in_ok-made.ensures.steps
-
-pub fill_input-returns-in_err-made-clause-steps : goal.fill_input-returns-in_err-made-clause-steps
-fill_input-returns-in_err-made-clause-steps t c =
-    moves_passed c.fill_each.new.pool c.fill_each.new.pool _ _ _ _ c.from_residual-in_err-made.ensures.1 c.in_err-made.ensures.steps
-    (λ k e. given_next c.args.filling.now.program.now (map (seen c.args.pool.now) c.args.steps) c.args.filling.now.first c.args.set.now c.args.rest.now c.args.name c.args.given.now c.args.later.now (tree_at c.args.pool.now c.args.to) c.args.number
-    c.in_ok-given.given c.in_ok-given.ensures ∙ e)
-
 pub fill_input-returns-clause-steps : goal.fill_input-returns-clause-steps
 fill_input-returns-clause-steps t c =
-    same_moves c.fill_each.new.pool (Ok c.in_ok-made.made) _ _
+    same_moves c.fill_each.new.pool c.fill_each.result _ _
     (given_next c.args.filling.now.program.now (map (seen c.args.pool.now) c.args.steps) c.args.filling.now.first c.args.set.now c.args.rest.now c.args.name c.args.given.now c.args.later.now (tree_at c.args.pool.now c.args.to) c.args.number
-    c.in_ok-given.given c.in_ok-given.ensures) c.in_ok-made.ensures.steps
+    c.in_ok-given.given c.in_ok-given.ensures) c.fill_each.ensures.steps
 
 pub fill_each-loop-place-init : goal.fill_each-loop-place-init
 fill_each-loop-place-init t c = record {
@@ -111,17 +90,11 @@ fill_value-returns-clause-steps t c = record {
 pub fill_value-returns-in_err-number-clause-steps : goal.fill_value-returns-in_err-number-clause-steps
 fill_value-returns-in_err-number-clause-steps t c = passed_moves c.args.pool.now _ _ _ _ c.from_residual.ensures.1 c.in_err-number.ensures (λ k e. no_fault _ k _ e)
 
-pub fill_value-returns-in_err-made-clause-steps : goal.fill_value-returns-in_err-made-clause-steps
-fill_value-returns-in_err-made-clause-steps t c =
-    moves_passed c.fill.new.pool c.fill.new.pool _ _ _ _ c.from_residual-in_err-made.ensures.1 c.in_err-made.ensures.steps
-    (λ k e. taken_next c.args.filling.now.program.now c.args.input.now c.args.filling.now.first c.args.pool.now c.later_process.new.pool c.in_ok-to.ensures.front c.args.steps c.requires.steps c.args.place c.args.atom.now c.in_ok-fields.fields c.as_slice.result.now c.in_ok-to.to c.in_ok-number.number
-    (sym c.is_given-given.ensures ∙ c.if-given.true) c.in_ok-fields.ensures c.as_slice.ensures c.in_ok-to.ensures.process (count_is _ _ c.in_ok-number.ensures) ∙ e)
-
 pub fill_value-returns-then-given-clause-steps : goal.fill_value-returns-then-given-clause-steps
 fill_value-returns-then-given-clause-steps t c =
-    same_moves c.fill.new.pool (Ok c.in_ok-made.made) _ _
+    same_moves c.fill.new.pool c.fill.result _ _
     (taken_next c.args.filling.now.program.now c.args.input.now c.args.filling.now.first c.args.pool.now c.later_process.new.pool c.in_ok-to.ensures.front c.args.steps c.requires.steps c.args.place c.args.atom.now c.in_ok-fields.fields c.as_slice.result.now c.in_ok-to.to c.in_ok-number.number
-    (sym c.is_given-given.ensures ∙ c.if-given.true) c.in_ok-fields.ensures c.as_slice.ensures c.in_ok-to.ensures.process (count_is _ _ c.in_ok-number.ensures)) c.in_ok-made.ensures.steps
+    (sym c.is_given-given.ensures ∙ c.if-given.true) c.in_ok-fields.ensures c.as_slice.ensures c.in_ok-to.ensures.process (count_is _ _ c.in_ok-number.ensures)) c.fill.ensures.steps
 
 pub fill_value-fill-requires : goal.fill_value-fill-requires
 fill_value-fill-requires t c = (
