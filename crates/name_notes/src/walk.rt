@@ -31,6 +31,8 @@ pub(crate) fn walk(
     ensures notes { OnOk result (notes.new ≡ tree_told (first_of meanings.now.names.now) meanings.now.kinds.now tree.now place bound.old notes.old) }
     ensures bound { OnOk result (bound.new ≡ bound.old) }
 {
+    let (datum, action) = (Class::Data, Class::Process);
+    let (data, process) = (Need::Data, Need::Process);
     match tree {
         Tree::Num(_) | Tree::True | Tree::False => {
             notes.note_form(Class::Data, place);
@@ -44,58 +46,18 @@ pub(crate) fn walk(
         Tree::Call(f, args) => walk_call(meanings, notes, bound, place, f, args),
         Tree::Dot(c, fields) => walk_dot(meanings, notes, bound, place, c, fields),
         Tree::Neg(a) | Tree::Not(a) => walk_operand(meanings, notes, bound, place, a),
-        Tree::Binary(_, a, b) | Tree::Range(a, b) | Tree::SetOp(_, a, b) => {
-            walk_two(
-                meanings,
-                notes,
-                bound,
-                place,
-                Class::Data,
-                Need::Data,
-                a,
-                Need::Data,
-                b,
-            )
-        }
+        Tree::Binary(_, a, b) | Tree::Range(a, b) | Tree::SetOp(_, a, b) => walk_two(
+            meanings, notes, bound, place, datum, data, a, data, b,
+        ),
         Tree::If(c, a, b) => walk_choice(meanings, notes, bound, place, c, a, b),
-        Tree::Display(items) => {
-            walk_list(
-                meanings,
-                notes,
-                bound,
-                place,
-                Class::Data,
-                Need::Data,
-                items,
-            )
-        }
+        Tree::Display(items) => walk_list(meanings, notes, bound, place, datum, data, items),
         Tree::Comp(items, gens) => walk_comprehension(meanings, notes, bound, place, items, gens),
         Tree::Product(parts, gens) => walk_product(meanings, notes, bound, place, parts, gens),
         Tree::Prefix(event, p) => walk_prefix(meanings, notes, bound, place, event, p),
-        Tree::Guard(c, p) => {
-            walk_two(
-                meanings,
-                notes,
-                bound,
-                place,
-                Class::Process,
-                Need::Data,
-                c,
-                Need::Process,
-                p,
-            )
-        }
-        Tree::External(ps) | Tree::Internal(ps) => {
-            walk_list(
-                meanings,
-                notes,
-                bound,
-                place,
-                Class::Process,
-                Need::Process,
-                ps,
-            )
-        }
+        Tree::Guard(c, p) => walk_two(meanings, notes, bound, place, action, data, c, process, p),
+        Tree::External(ps) | Tree::Internal(ps) => walk_list(
+            meanings, notes, bound, place, action, process, ps,
+        ),
         Tree::EachExternal(x, s, p) | Tree::EachInternal(x, s, p) => {
             walk_for_each(meanings, notes, bound, place, x, s, p)
         }
@@ -103,32 +65,10 @@ pub(crate) fn walk(
         Tree::EachParallel(x, s, a, p) => walk_each_parallel(
             meanings, notes, bound, place, x, s, a, p,
         ),
-        Tree::Seq(p, q) => {
-            walk_two(
-                meanings,
-                notes,
-                bound,
-                place,
-                Class::Process,
-                Need::Process,
-                p,
-                Need::Process,
-                q,
-            )
-        }
-        Tree::Hide(p, s) => {
-            walk_two(
-                meanings,
-                notes,
-                bound,
-                place,
-                Class::Process,
-                Need::Process,
-                p,
-                Need::Data,
-                s,
-            )
-        }
+        Tree::Seq(p, q) => walk_two(
+            meanings, notes, bound, place, action, process, p, process, q,
+        ),
+        Tree::Hide(p, s) => walk_two(meanings, notes, bound, place, action, process, p, data, s),
         Tree::Rename(p, pairs, gens) => walk_renaming(
             meanings, notes, bound, place, pairs, gens, p,
         ),
