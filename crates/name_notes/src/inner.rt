@@ -36,8 +36,8 @@ pub(crate) fn places_in(place: Place) -> Result<Inner, NoMemory>
     })
 }
 
-// The place on a level.
-fn at(need: Need, network: bool, level: u32) -> Place
+/// The place on a level.
+pub(crate) fn at(need: Need, network: bool, level: u32) -> Place
     ensures { result ≡ record { need = need; network = network; level = level } }
 {
     Place {

@@ -12,20 +12,29 @@ use name_tables::Dictionary;
 use script_names::{Entity, Kind, Use};
 use std::alloc::Global;
 
+/// What names stand for where nothing binds them.
+#[derive(Drop)]
+pub(crate) struct Meanings<'a> {
+    /// Where memory comes from.
+    pub(crate) alloc: Global,
+    /// What they are declared as.
+    pub(crate) names: &'a Dictionary,
+    /// What the definitions are.
+    pub(crate) kinds: &'a [Kind],
+}
+
 /// Notes the use of a name.
 pub(crate) fn note_name(
-    alloc: Global,
-    names: &Dictionary,
-    kinds: &[Kind],
+    meanings: &Meanings<'_>,
     notes: &mut Notes,
     bound: &BoundNames,
     x: &Name,
     how: Use,
 ) -> Result<(), NoMemory>
-    ensures { OnOk result (notes.new ≡ use_heard kinds.now notes.old x.now (sense_in (first_of names.now) bound.now x.now) how) }
+    ensures { OnOk result (notes.new ≡ use_heard meanings.now.kinds.now notes.old x.now (sense_in (first_of meanings.now.names.now) bound.now x.now) how) }
 {
-    let sense = bound.sense_of(names, x);
-    notes.note_use(alloc, kinds, x, sense, how)
+    let sense = bound.sense_of(meanings.names, x);
+    notes.note_use(meanings.alloc, meanings.kinds, x, sense, how)
 }
 
 // Whether a name is a constant.

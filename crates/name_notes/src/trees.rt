@@ -6,6 +6,7 @@ ghost use Rattle.script_names.specs.Says.{tree_says};
 ghost use Rattle.name_notes.specs.Heard.{heard_all};
 
 use crate::bound::{BoundNames, bind_all};
+use crate::named::Meanings;
 use crate::notes::Notes;
 use crate::walk::walk;
 use csp_base::{Name, NoMemory};
@@ -29,5 +30,10 @@ pub fn note_tree(
 {
     let mut bound = BoundNames::new(alloc);
     bind_all(&mut bound, params)?;
-    walk(alloc, names, kinds, notes, &mut bound, place, tree)
+    let meanings = Meanings {
+        alloc,
+        names,
+        kinds,
+    };
+    walk(&meanings, notes, &mut bound, place, tree)
 }

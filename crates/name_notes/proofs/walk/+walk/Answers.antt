@@ -10,42 +10,42 @@ use Rattle.name_notes.proofs.walk.+walk.Goals as goal
 
 pub walk_all-loop-tree-preserved : goal.walk_all-loop-tree-preserved
 walk_all-loop-tree-preserved t c = record {
-  notes = trees_told-step (first_of c.args.names.now) c.args.kinds.now c.args.trees.now c.loop-tree.tree-index c.tree-item.result c.args.place c.loop-tree.bound c.walk.new.bound c.loop-tree.notes c.walk.new.notes
-      (trees_told (first_of c.args.names.now) c.args.kinds.now c.args.trees.now c.args.place c.args.bound.now c.args.notes.now)
+  notes = trees_told-step (first_of c.args.meanings.now.names.now) c.args.meanings.now.kinds.now c.args.trees.now c.loop-tree.tree-index c.tree-item.result c.args.place c.loop-tree.bound c.walk.new.bound c.loop-tree.notes c.walk.new.notes
+      (trees_told (first_of c.args.meanings.now.names.now) c.args.meanings.now.kinds.now c.args.trees.now c.args.place c.args.bound.now c.args.notes.now)
       c.loop-tree-test.true c.tree-item.is c.in_ok-walk.ensures.notes c.in_ok-walk.ensures.bound c.loop-tree.invariant.notes;
   bound = c.in_ok-walk.ensures.bound ∙ c.loop-tree.invariant.bound;
 }
 
 pub walk_all-returns-clause-notes : goal.walk_all-returns-clause-notes
 walk_all-returns-clause-notes t c =
-    trees_told-end (first_of c.args.names.now) c.args.kinds.now c.args.trees.now c.loop-tree.tree-index c.args.place c.loop-tree.bound c.loop-tree.notes
-    (trees_told (first_of c.args.names.now) c.args.kinds.now c.args.trees.now c.args.place c.args.bound.now c.args.notes.now) (omega arith) c.loop-tree.invariant.notes
+    trees_told-end (first_of c.args.meanings.now.names.now) c.args.meanings.now.kinds.now c.args.trees.now c.loop-tree.tree-index c.args.place c.loop-tree.bound c.loop-tree.notes
+    (trees_told (first_of c.args.meanings.now.names.now) c.args.meanings.now.kinds.now c.args.trees.now c.args.place c.args.bound.now c.args.notes.now) (omega arith) c.loop-tree.invariant.notes
 
 pub walk_parts-loop-part-preserved : goal.walk_parts-loop-part-preserved
 walk_parts-loop-part-preserved t c = record {
-  notes = parts_told-step (first_of c.args.names.now) c.args.kinds.now c.args.parts.now c.loop-part.part-index c.part-item.result c.args.place c.loop-part.bound c.walk_part.new.bound c.loop-part.notes c.walk_part.new.notes
-      (parts_told (first_of c.args.names.now) c.args.kinds.now c.args.parts.now c.args.place c.args.bound.now c.args.notes.now)
+  notes = parts_told-step (first_of c.args.meanings.now.names.now) c.args.meanings.now.kinds.now c.args.parts.now c.loop-part.part-index c.part-item.result c.args.place c.loop-part.bound c.walk_part.new.bound c.loop-part.notes c.walk_part.new.notes
+      (parts_told (first_of c.args.meanings.now.names.now) c.args.meanings.now.kinds.now c.args.parts.now c.args.place c.args.bound.now c.args.notes.now)
       c.loop-part-test.true c.part-item.is c.in_ok-walk_part.ensures.notes c.in_ok-walk_part.ensures.bound c.loop-part.invariant.notes;
   bound = c.in_ok-walk_part.ensures.bound ∙ c.loop-part.invariant.bound;
 }
 
 pub walk_parts-returns-clause-notes : goal.walk_parts-returns-clause-notes
 walk_parts-returns-clause-notes t c =
-    parts_told-end (first_of c.args.names.now) c.args.kinds.now c.args.parts.now c.loop-part.part-index c.args.place c.loop-part.bound c.loop-part.notes
-    (parts_told (first_of c.args.names.now) c.args.kinds.now c.args.parts.now c.args.place c.args.bound.now c.args.notes.now) (omega arith) c.loop-part.invariant.notes
+    parts_told-end (first_of c.args.meanings.now.names.now) c.args.meanings.now.kinds.now c.args.parts.now c.loop-part.part-index c.args.place c.loop-part.bound c.loop-part.notes
+    (parts_told (first_of c.args.meanings.now.names.now) c.args.meanings.now.kinds.now c.args.parts.now c.args.place c.args.bound.now c.args.notes.now) (omega arith) c.loop-part.invariant.notes
 
 pub walk_fields-loop-field-preserved : goal.walk_fields-loop-field-preserved
 walk_fields-loop-field-preserved t c = record {
-  notes = fields_told-step (first_of c.args.names.now) c.args.kinds.now c.args.fields.now c.loop-field.field-index c.field-item.result c.args.place c.loop-field.bound c.walk_field.new.bound c.loop-field.notes c.walk_field.new.notes
-      (fields_told (first_of c.args.names.now) c.args.kinds.now c.args.fields.now c.args.place c.args.bound.now c.args.notes.now)
+  notes = fields_told-step (first_of c.args.meanings.now.names.now) c.args.meanings.now.kinds.now c.args.fields.now c.loop-field.field-index c.field-item.result c.args.place c.loop-field.bound c.walk_field.new.bound c.loop-field.notes c.walk_field.new.notes
+      (fields_told (first_of c.args.meanings.now.names.now) c.args.meanings.now.kinds.now c.args.fields.now c.args.place c.args.bound.now c.args.notes.now)
       c.loop-field-test.true c.field-item.is c.in_ok-walk_field.ensures.notes c.in_ok-walk_field.ensures.bound c.loop-field.invariant.notes;
   bound = flat_step field_names c.walk_field.new.bound c.loop-field.bound (c.args.bound.now ++ flat_map field_names c.args.fields.now) c.loop-field.field-index c.args.fields.now c.field-item.result c.loop-field-test.true c.field-item.is c.in_ok-walk_field.ensures.bound c.loop-field.invariant.bound;
 }
 
 pub walk_fields-returns-clause-notes : goal.walk_fields-returns-clause-notes
 walk_fields-returns-clause-notes t c =
-    fields_told-end (first_of c.args.names.now) c.args.kinds.now c.args.fields.now c.loop-field.field-index c.args.place c.loop-field.bound c.loop-field.notes
-    (fields_told (first_of c.args.names.now) c.args.kinds.now c.args.fields.now c.args.place c.args.bound.now c.args.notes.now) (omega arith) c.loop-field.invariant.notes
+    fields_told-end (first_of c.args.meanings.now.names.now) c.args.meanings.now.kinds.now c.args.fields.now c.loop-field.field-index c.args.place c.loop-field.bound c.loop-field.notes
+    (fields_told (first_of c.args.meanings.now.names.now) c.args.meanings.now.kinds.now c.args.fields.now c.args.place c.args.bound.now c.args.notes.now) (omega arith) c.loop-field.invariant.notes
 
 pub walk_fields-returns-clause-bound : goal.walk_fields-returns-clause-bound
 walk_fields-returns-clause-bound t c =
@@ -53,16 +53,16 @@ walk_fields-returns-clause-bound t c =
 
 pub walk_gens-loop-generator-preserved : goal.walk_gens-loop-generator-preserved
 walk_gens-loop-generator-preserved t c = record {
-  notes = gens_told-step (first_of c.args.names.now) c.args.kinds.now c.args.gens.now c.loop-generator.generator-index c.generator-item.result c.args.place c.loop-generator.bound c.walk_gen.new.bound c.loop-generator.notes c.walk_gen.new.notes
-      (gens_told (first_of c.args.names.now) c.args.kinds.now c.args.gens.now c.args.place c.args.bound.now c.args.notes.now)
+  notes = gens_told-step (first_of c.args.meanings.now.names.now) c.args.meanings.now.kinds.now c.args.gens.now c.loop-generator.generator-index c.generator-item.result c.args.place c.loop-generator.bound c.walk_gen.new.bound c.loop-generator.notes c.walk_gen.new.notes
+      (gens_told (first_of c.args.meanings.now.names.now) c.args.meanings.now.kinds.now c.args.gens.now c.args.place c.args.bound.now c.args.notes.now)
       c.loop-generator-test.true c.generator-item.is c.in_ok-walk_gen.ensures.notes c.in_ok-walk_gen.ensures.bound c.loop-generator.invariant.notes;
   bound = flat_step gen_names c.walk_gen.new.bound c.loop-generator.bound (c.args.bound.now ++ flat_map gen_names c.args.gens.now) c.loop-generator.generator-index c.args.gens.now c.generator-item.result c.loop-generator-test.true c.generator-item.is c.in_ok-walk_gen.ensures.bound c.loop-generator.invariant.bound;
 }
 
 pub walk_gens-returns-clause-notes : goal.walk_gens-returns-clause-notes
 walk_gens-returns-clause-notes t c =
-    gens_told-end (first_of c.args.names.now) c.args.kinds.now c.args.gens.now c.loop-generator.generator-index c.args.place c.loop-generator.bound c.loop-generator.notes
-    (gens_told (first_of c.args.names.now) c.args.kinds.now c.args.gens.now c.args.place c.args.bound.now c.args.notes.now) (omega arith) c.loop-generator.invariant.notes
+    gens_told-end (first_of c.args.meanings.now.names.now) c.args.meanings.now.kinds.now c.args.gens.now c.loop-generator.generator-index c.args.place c.loop-generator.bound c.loop-generator.notes
+    (gens_told (first_of c.args.meanings.now.names.now) c.args.meanings.now.kinds.now c.args.gens.now c.args.place c.args.bound.now c.args.notes.now) (omega arith) c.loop-generator.invariant.notes
 
 pub walk_gens-returns-clause-bound : goal.walk_gens-returns-clause-bound
 walk_gens-returns-clause-bound t c =
@@ -73,8 +73,8 @@ walk_gens-returns-clause-bound t c =
 
 pub walk_pairs-loop-pair-preserved : goal.walk_pairs-loop-pair-preserved
 walk_pairs-loop-pair-preserved t c =
-    let m = first_of c.args.names.now in
-    let kinds = c.args.kinds.now in
+    let m = first_of c.args.meanings.now.names.now in
+    let kinds = c.args.meanings.now.kinds.now in
     let bound = c.in_ok-walk_part-2.ensures.bound ∙ c.in_ok-walk_part.ensures.bound in
     record {
       notes = pairs_told-step m kinds c.args.pairs.now c.loop-pair.pair-index c.pair-item.result c.args.place c.loop-pair.bound c.walk_part-in-loop-pair.new.bound
@@ -89,8 +89,8 @@ walk_pairs-loop-pair-preserved t c =
 
 pub walk_pairs-returns-clause-notes : goal.walk_pairs-returns-clause-notes
 walk_pairs-returns-clause-notes t c =
-    pairs_told-end (first_of c.args.names.now) c.args.kinds.now c.args.pairs.now c.loop-pair.pair-index c.args.place c.loop-pair.bound c.loop-pair.notes
-    (pairs_told (first_of c.args.names.now) c.args.kinds.now c.args.pairs.now c.args.place c.args.bound.now c.args.notes.now) (omega arith) c.loop-pair.invariant.notes
+    pairs_told-end (first_of c.args.meanings.now.names.now) c.args.meanings.now.kinds.now c.args.pairs.now c.loop-pair.pair-index c.args.place c.loop-pair.bound c.loop-pair.notes
+    (pairs_told (first_of c.args.meanings.now.names.now) c.args.meanings.now.kinds.now c.args.pairs.now c.args.place c.args.bound.now c.args.notes.now) (omega arith) c.loop-pair.invariant.notes
 
 pub walk_field-returns-in_ok-walk-in-Dot-clause-bound : goal.walk_field-returns-in_ok-walk-in-Dot-clause-bound
 walk_field-returns-in_ok-walk-in-Dot-clause-bound t c =
@@ -140,8 +140,8 @@ walk-returns-in-If t c = record {
 
 pub walk-returns-in-Display : goal.walk-returns-in-Display
 walk-returns-in-Display t c = record {
-  notes = rw (c.in-Display.is, told-Display) c.walk_display.ensures.notes;
-  bound = c.walk_display.ensures.bound;
+  notes = rw (c.in-Display.is, told-Display) c.walk_list.ensures.notes;
+  bound = c.walk_list.ensures.bound;
 }
 
 pub walk-returns-in-Comp : goal.walk-returns-in-Comp
@@ -164,8 +164,8 @@ walk-returns-in-Prefix t c = record {
 
 pub walk-returns-in-Guard : goal.walk-returns-in-Guard
 walk-returns-in-Guard t c = record {
-  notes = rw (c.in-Guard.is, told-Guard) c.walk_guard.ensures.notes;
-  bound = c.walk_guard.ensures.bound;
+  notes = rw (c.in-Guard.is, told-Guard) c.walk_two.ensures.notes;
+  bound = c.walk_two.ensures.bound;
 }
 
 pub walk-returns-in-Parallel : goal.walk-returns-in-Parallel
@@ -182,14 +182,14 @@ walk-returns-in-EachParallel t c = record {
 
 pub walk-returns-in-Seq : goal.walk-returns-in-Seq
 walk-returns-in-Seq t c = record {
-  notes = rw (c.in-Seq.is, told-Seq) c.walk_sequence.ensures.notes;
-  bound = c.walk_sequence.ensures.bound;
+  notes = rw (c.in-Seq.is, told-Seq) c.walk_two-in-Seq.ensures.notes;
+  bound = c.walk_two-in-Seq.ensures.bound;
 }
 
 pub walk-returns-in-Hide : goal.walk-returns-in-Hide
 walk-returns-in-Hide t c = record {
-  notes = rw (c.in-Hide.is, told-Hide) c.walk_hiding.ensures.notes;
-  bound = c.walk_hiding.ensures.bound;
+  notes = rw (c.in-Hide.is, told-Hide) c.walk_two-in-Hide.ensures.notes;
+  bound = c.walk_two-in-Hide.ensures.bound;
 }
 
 pub walk-returns-in-Rename : goal.walk-returns-in-Rename

@@ -10,31 +10,31 @@ use Rattle.name_notes.proofs.walk.+walk.Given as goal
 -- In each loop, what is noted after those that are left is what is noted after all.
 abbrev pub invariant-walk_all-loop-tree : goal.invariant-walk_all-loop-tree
 invariant-walk_all-loop-tree l = record {
-  notes : trees_told (first_of l.names) l.kinds (drop l.tree-index l.trees) l.place l.bound l.notes ≡ trees_told (first_of l.names) l.kinds l.trees l.place l.initial.bound l.initial.notes;
+  notes : trees_told (first_of l.meanings.names.now) l.meanings.kinds.now (drop l.tree-index l.trees) l.place l.bound l.notes ≡ trees_told (first_of l.meanings.names.now) l.meanings.kinds.now l.trees l.place l.initial.bound l.initial.notes;
   bound : l.bound ≡ l.initial.bound;
 }
 
 abbrev pub invariant-walk_parts-loop-part : goal.invariant-walk_parts-loop-part
 invariant-walk_parts-loop-part l = record {
-  notes : parts_told (first_of l.names) l.kinds (drop l.part-index l.parts) l.place l.bound l.notes ≡ parts_told (first_of l.names) l.kinds l.parts l.place l.initial.bound l.initial.notes;
+  notes : parts_told (first_of l.meanings.names.now) l.meanings.kinds.now (drop l.part-index l.parts) l.place l.bound l.notes ≡ parts_told (first_of l.meanings.names.now) l.meanings.kinds.now l.parts l.place l.initial.bound l.initial.notes;
   bound : l.bound ≡ l.initial.bound;
 }
 
 abbrev pub invariant-walk_pairs-loop-pair : goal.invariant-walk_pairs-loop-pair
 invariant-walk_pairs-loop-pair l = record {
-  notes : pairs_told (first_of l.names) l.kinds (drop l.pair-index l.pairs) l.place l.bound l.notes ≡ pairs_told (first_of l.names) l.kinds l.pairs l.place l.initial.bound l.initial.notes;
+  notes : pairs_told (first_of l.meanings.names.now) l.meanings.kinds.now (drop l.pair-index l.pairs) l.place l.bound l.notes ≡ pairs_told (first_of l.meanings.names.now) l.meanings.kinds.now l.pairs l.place l.initial.bound l.initial.notes;
   bound : l.bound ≡ l.initial.bound;
 }
 
 abbrev pub invariant-walk_fields-loop-field : goal.invariant-walk_fields-loop-field
 invariant-walk_fields-loop-field l = record {
-  notes : fields_told (first_of l.names) l.kinds (drop l.field-index l.fields) l.place l.bound l.notes ≡ fields_told (first_of l.names) l.kinds l.fields l.place l.initial.bound l.initial.notes;
+  notes : fields_told (first_of l.meanings.names.now) l.meanings.kinds.now (drop l.field-index l.fields) l.place l.bound l.notes ≡ fields_told (first_of l.meanings.names.now) l.meanings.kinds.now l.fields l.place l.initial.bound l.initial.notes;
   bound : l.bound ++ flat_map field_names (drop l.field-index l.fields) ≡ l.initial.bound ++ flat_map field_names l.fields;
 }
 
 abbrev pub invariant-walk_gens-loop-generator : goal.invariant-walk_gens-loop-generator
 invariant-walk_gens-loop-generator l = record {
-  notes : gens_told (first_of l.names) l.kinds (drop l.generator-index l.gens) l.place l.bound l.notes ≡ gens_told (first_of l.names) l.kinds l.gens l.place l.initial.bound l.initial.notes;
+  notes : gens_told (first_of l.meanings.names.now) l.meanings.kinds.now (drop l.generator-index l.gens) l.place l.bound l.notes ≡ gens_told (first_of l.meanings.names.now) l.meanings.kinds.now l.gens l.place l.initial.bound l.initial.notes;
   bound : l.bound ++ flat_map gen_names (drop l.generator-index l.gens) ≡ l.initial.bound ++ flat_map gen_names l.gens;
 }
 
@@ -87,20 +87,14 @@ decreases-walk_dot l = 4 * goal.size-walk_dot l + 3
 abbrev pub decreases-walk_operand : goal.decreases-walk_operand
 decreases-walk_operand l = 4 * goal.size-walk_operand l + 3
 
-abbrev pub decreases-walk_display : goal.decreases-walk_display
-decreases-walk_display l = 4 * goal.size-walk_display l + 3
+abbrev pub decreases-walk_list : goal.decreases-walk_list
+decreases-walk_list l = 4 * goal.size-walk_list l + 3
 
-abbrev pub decreases-walk_processes : goal.decreases-walk_processes
-decreases-walk_processes l = 4 * goal.size-walk_processes l + 3
-
-abbrev pub decreases-walk_operands : goal.decreases-walk_operands
-decreases-walk_operands l = 4 * (max (the_size l.a.now) (the_size l.b.now)) + 3
+abbrev pub decreases-walk_two : goal.decreases-walk_two
+decreases-walk_two l = 4 * (max (the_size l.a.now) (the_size l.b.now)) + 3
 
 abbrev pub decreases-walk_choice : goal.decreases-walk_choice
 decreases-walk_choice l = 4 * (max (the_size l.c.now) (max (the_size l.a.now) (the_size l.b.now))) + 3
-
-abbrev pub decreases-walk_guard : goal.decreases-walk_guard
-decreases-walk_guard l = 4 * (max (the_size l.c.now) (the_size l.p.now)) + 3
 
 abbrev pub decreases-walk_for_each : goal.decreases-walk_for_each
 decreases-walk_for_each l = 4 * (max (the_size l.s.now) (the_size l.p.now)) + 3
@@ -110,12 +104,6 @@ decreases-walk_parallel l = 4 * (max (the_size l.p.now) (max (the_size l.a.now) 
 
 abbrev pub decreases-walk_each_parallel : goal.decreases-walk_each_parallel
 decreases-walk_each_parallel l = 4 * (max (the_size l.s.now) (max (the_size l.a.now) (the_size l.p.now))) + 3
-
-abbrev pub decreases-walk_sequence : goal.decreases-walk_sequence
-decreases-walk_sequence l = 4 * (max (the_size l.p.now) (the_size l.q.now)) + 3
-
-abbrev pub decreases-walk_hiding : goal.decreases-walk_hiding
-decreases-walk_hiding l = 4 * (max (the_size l.p.now) (the_size l.s.now)) + 3
 
 abbrev pub decreases-walk_comprehension : goal.decreases-walk_comprehension
 decreases-walk_comprehension l = 4 * max (goal.size-walk_comprehension l) (weighed.most (λ x. generator.the_size x) l.gens.now) + 3
