@@ -1,4 +1,5 @@
 pub mod Lines
+pub mod Parts
 pub mod EventText
 pub mod Refusals
 pub mod Shortfalls

@@ -2,21 +2,13 @@
 
 ghost use Rattle.std.specs.Prelude.{◌≡◌, ◌++◌, OnOk, IfOk, slice_get};
 ghost use Rattle.std.specs.List.{flat_map};
-ghost use Rattle.std.specs.Fmt.{signed_decimal};
 ghost use Rattle.report.specs.EventText.{channel_name, event_text, field_text};
 
+use crate::lines::push_signed;
 use csp_atoms::Atom;
 use csp_base::{Bytes, Event, NoMemory};
 use csp_program::{Content, Program};
 use std::alloc::Global;
-
-// Adds a number, with its sign where it is below 0.
-pub(crate) fn push_signed(alloc: Global, text: &mut Bytes, number: i64) -> Result<(), NoMemory>
-    ensures { OnOk result (text.new ≡ text.old ++ signed_decimal number) }
-{
-    let number = format!(in alloc; "{number}")?;
-    text.extend_from_slice(number.as_bytes())
-}
 
 // Adds a field.
 fn push_field(

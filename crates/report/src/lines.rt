@@ -1,120 +1,63 @@
 //! What the lines of a report are made of.
 
-ghost use Rattle.std.specs.Prelude.{◌≡◌, ◌++◌, IfOk, OnOk, codes};
+ghost use Rattle.std.specs.Prelude.{◌≡◌, ◌++◌, ◌∷◌, [], IfOk, OnOk, codes};
 ghost use Rattle.std.specs.List.{flat_map};
-ghost use Rattle.std.specs.Fmt.{decimal};
-ghost use Rattle.report.specs.Lines.{comma_list, line, numbers_text, set_text, trace_text};
+ghost use Rattle.std.specs.Fmt.{decimal, signed_decimal};
+ghost use Rattle.report.specs.Lines.{comma_list, line, numbers_text};
+ghost use Rattle.report.specs.Parts.{part_text, parts_text};
 
 use csp_base::{Bytes, NoMemory};
 use std::alloc::Global;
 
-const LINE_FEED: u8 = b'\n';
-
-// Adds a line.
-pub(crate) fn push_line(report: &mut Bytes, text: &[u8]) -> Result<(), NoMemory>
-    ensures { OnOk result (report.new ≡ report.old ++ line text.now) }
-{
-    report.extend_from_slice(text)?;
-    report.push(LINE_FEED)
-}
-
-// A text with a line feed after it.
-pub(crate) fn ended(text: Bytes) -> Result<Bytes, NoMemory>
-    ensures { IfOk result (λ made. made ≡ line text) }
-{
-    let mut text = text;
-    text.push(LINE_FEED)?;
-    Ok(text)
+// A part of a line.
+#[derive(Clone, Copy)]
+pub(crate) enum Part<'a> {
+    // A text.
+    Text(&'a [u8]),
+    // A number.
+    Number(u64),
+    // A number, with its sign where it is below 0.
+    Signed(i64),
+    // Numbers, with a blank before each.
+    Numbers(&'a [u32]),
+    // Events in their order.
+    Trace(&'a [Bytes]),
+    // A set of events.
+    Set(&'a [Bytes]),
 }
 
 // Adds a number.
-pub(crate) fn push_number(alloc: Global, report: &mut Bytes, number: u64) -> Result<(), NoMemory>
+fn push_number(alloc: Global, report: &mut Bytes, number: u64) -> Result<(), NoMemory>
     ensures { OnOk result (report.new ≡ report.old ++ decimal number) }
 {
     let number = format!(in alloc; "{number}")?;
     report.extend_from_slice(number.as_bytes())
 }
 
-// A text and a number.
-pub(crate) fn numbered(alloc: Global, before: &[u8], number: u64) -> Result<Bytes, NoMemory>
-    ensures { IfOk result (λ made. made ≡ before.now ++ decimal number) }
+// Adds a number, with its sign where it is below 0.
+pub(crate) fn push_signed(alloc: Global, report: &mut Bytes, number: i64) -> Result<(), NoMemory>
+    ensures { OnOk result (report.new ≡ report.old ++ signed_decimal number) }
 {
-    let mut made = Bytes::from_slice(alloc, before)?;
-    push_number(alloc, &mut made, number)?;
-    Ok(made)
+    let number = format!(in alloc; "{number}")?;
+    report.extend_from_slice(number.as_bytes())
 }
 
-// Adds a text and a number.
-pub(crate) fn push_numbered(
-    alloc: Global,
-    report: &mut Bytes,
-    before: &[u8],
-    number: u64,
-) -> Result<(), NoMemory>
-    ensures { OnOk result (report.new ≡ report.old ++ (before.now ++ decimal number)) }
+// Adds a number, with a blank before it.
+fn push_apart(alloc: Global, report: &mut Bytes, number: &u32) -> Result<(), NoMemory>
+    ensures { OnOk result (report.new ≡ report.old ++ (codes " " ++ decimal number.now)) }
 {
-    report.extend_from_slice(before)?;
-    push_number(alloc, report, number)
+    report.push(b' ')?;
+    push_number(alloc, report, u64::from(*number))
 }
 
-// A number between two texts.
-pub(crate) fn between(
-    alloc: Global,
-    before: &[u8],
-    number: u64,
-    after: &[u8],
-) -> Result<Bytes, NoMemory>
-    ensures { IfOk result (λ made. made ≡ before.now ++ decimal number ++ after.now) }
+// Adds numbers, with a blank before each.
+fn push_numbers(alloc: Global, report: &mut Bytes, numbers: &[u32]) -> Result<(), NoMemory>
+    ensures { OnOk result (report.new ≡ report.old ++ numbers_text numbers.now) }
 {
-    let mut made = numbered(alloc, before, number)?;
-    made.extend_from_slice(after)?;
-    Ok(made)
-}
-
-// Two numbers, each after a text.
-pub(crate) fn both(
-    alloc: Global,
-    before: &[u8],
-    left: u64,
-    between: &[u8],
-    right: u64,
-) -> Result<Bytes, NoMemory>
-    ensures { IfOk result (λ made. made ≡ before.now ++ decimal left ++ between.now ++ decimal right) }
-{
-    let mut made = numbered(alloc, before, left)?;
-    push_numbered(alloc, &mut made, between, right)?;
-    Ok(made)
-}
-
-// A name between two texts, and a number.
-pub(crate) fn named(
-    alloc: Global,
-    before: &[u8],
-    name: &[u8],
-    after: &[u8],
-    number: u64,
-) -> Result<Bytes, NoMemory>
-    ensures { IfOk result (λ made. made ≡ before.now ++ name.now ++ after.now ++ decimal number) }
-{
-    let mut made = Bytes::from_slice(alloc, before)?;
-    made.extend_from_slice(name)?;
-    push_numbered(alloc, &mut made, after, number)?;
-    Ok(made)
-}
-
-// Three texts, one after another.
-pub(crate) fn joined(
-    alloc: Global,
-    first: &[u8],
-    second: &[u8],
-    third: &[u8],
-) -> Result<Bytes, NoMemory>
-    ensures { IfOk result (λ made. made ≡ first.now ++ second.now ++ third.now) }
-{
-    let mut made = Bytes::from_slice(alloc, first)?;
-    made.extend_from_slice(second)?;
-    made.extend_from_slice(third)?;
-    Ok(made)
+    for number in numbers {
+        push_apart(alloc, report, number)?;
+    }
+    Ok(())
 }
 
 // Adds a text, with a comma and a blank before it.
@@ -146,60 +89,67 @@ fn push_list(report: &mut Bytes, texts: &[Bytes]) -> Result<(), NoMemory>
     push_more(report, more)
 }
 
-// A trace.
-pub(crate) fn trace(alloc: Global, events: &[Bytes]) -> Result<Bytes, NoMemory>
-    ensures { IfOk result (λ made. made ≡ trace_text events.now) }
+// Adds texts, with a comma and a blank between them, between two bytes.
+fn push_enclosed(report: &mut Bytes, first: u8, texts: &[Bytes], last: u8) -> Result<(), NoMemory>
+    ensures { OnOk result (report.new ≡ report.old ++ (first ∷ (comma_list texts.now ++ last ∷ []))) }
 {
-    let mut made = Bytes::from_slice(alloc, b"<")?;
-    push_list(&mut made, events)?;
-    made.extend_from_slice(b">")?;
-    Ok(made)
+    report.push(first)?;
+    push_list(report, texts)?;
+    report.push(last)
 }
 
-// A set of events.
-pub(crate) fn set(alloc: Global, events: &[Bytes]) -> Result<Bytes, NoMemory>
-    ensures { IfOk result (λ made. made ≡ set_text events.now) }
+// Adds a part.
+fn push_part(alloc: Global, report: &mut Bytes, part: &Part<'_>) -> Result<(), NoMemory>
+    ensures { OnOk result (report.new ≡ report.old ++ part_text part.now) }
 {
-    let mut made = Bytes::from_slice(alloc, b"{")?;
-    push_list(&mut made, events)?;
-    made.extend_from_slice(b"}")?;
-    Ok(made)
+    match part {
+        Part::Text(text) => report.extend_from_slice(text),
+        Part::Number(number) => push_number(alloc, report, *number),
+        Part::Signed(number) => push_signed(alloc, report, *number),
+        Part::Numbers(numbers) => push_numbers(alloc, report, numbers),
+        Part::Trace(events) => push_enclosed(report, b'<', events, b'>'),
+        Part::Set(events) => push_enclosed(report, b'{', events, b'}'),
+    }
 }
 
-// A number between two texts, and a trace.
-pub(crate) fn traced(
-    alloc: Global,
-    before: &[u8],
-    number: u64,
-    after: &[u8],
-    events: &[Bytes],
-) -> Result<Bytes, NoMemory>
-    ensures { IfOk result (λ made. made ≡ before.now ++ decimal number ++ after.now ++ trace_text events.now) }
+// Adds parts, one after another.
+fn push_parts(alloc: Global, report: &mut Bytes, parts: &[Part<'_>]) -> Result<(), NoMemory>
+    ensures { OnOk result (report.new ≡ report.old ++ flat_map part_text parts.now) }
 {
-    let text = trace(alloc, events)?;
-    let mut made = between(alloc, before, number, after)?;
-    made.extend_from_slice(text.as_slice())?;
-    Ok(made)
-}
-
-// Adds a number, with a blank before it.
-fn push_apart(alloc: Global, report: &mut Bytes, number: &u32) -> Result<(), NoMemory>
-    ensures { OnOk result (report.new ≡ report.old ++ (codes " " ++ decimal number.now)) }
-{
-    let number = *number;
-    push_numbered(alloc, report, b" ", u64::from(number))
-}
-
-// Adds numbers, with a blank before each.
-pub(crate) fn push_numbers(
-    alloc: Global,
-    report: &mut Bytes,
-    numbers: &[u32],
-) -> Result<(), NoMemory>
-    ensures { OnOk result (report.new ≡ report.old ++ numbers_text numbers.now) }
-{
-    for number in numbers {
-        push_apart(alloc, report, number)?;
+    for part in parts {
+        push_part(alloc, report, part)?;
     }
     Ok(())
+}
+
+// Adds a line of these parts.
+pub(crate) fn push_line(
+    alloc: Global,
+    report: &mut Bytes,
+    parts: &[Part<'_>],
+) -> Result<(), NoMemory>
+    ensures { OnOk result (report.new ≡ report.old ++ line (parts_text parts.now)) }
+{
+    push_parts(alloc, report, parts)?;
+    report.push(b'\n')?;
+    Ok(())
+}
+
+// The text of these parts.
+#[tactic(auto, using(crate::proofs::PartsText::parts_all))]
+pub(crate) fn written(alloc: Global, parts: &[Part<'_>]) -> Result<Bytes, NoMemory>
+    ensures { IfOk result (λ made. made ≡ parts_text parts.now) }
+{
+    let mut made = Bytes::new(alloc);
+    push_parts(alloc, &mut made, parts)?;
+    Ok(made)
+}
+
+// The line of these parts.
+pub(crate) fn written_line(alloc: Global, parts: &[Part<'_>]) -> Result<Bytes, NoMemory>
+    ensures { IfOk result (λ made. made ≡ line (parts_text parts.now)) }
+{
+    let mut made = Bytes::new(alloc);
+    push_line(alloc, &mut made, parts)?;
+    Ok(made)
 }

@@ -5,7 +5,7 @@ ghost use Rattle.report.specs.Refusals.{kind_text, site_text};
 ghost use Rattle.report.specs.Report.{rule_text};
 
 use crate::answer::Site;
-use crate::lines::numbered;
+use crate::lines::{Part, written};
 use csp_base::{Bytes, NoMemory};
 use csp_program::ValueKind;
 use csp_tables::Rule;
@@ -41,9 +41,21 @@ pub(crate) fn site(alloc: Global, site: Site) -> Result<Bytes, NoMemory>
     ensures { IfOk result (λ made. made ≡ site_text site) }
 {
     match site {
-        Site::Declaration(d) => numbered(alloc, b" in declaration ", u64::from(d)),
+        Site::Declaration(d) => written(
+            alloc,
+            &[Part::Text(b" in declaration "), Part::Number(u64::from(d))],
+        ),
         Site::Network => Bytes::from_slice(alloc, b" in the network"),
-        Site::Component(i) => numbered(alloc, b" in component ", u64::from(i)),
-        Site::Annotation(i) => numbered(alloc, b" in the annotation of component ", u64::from(i)),
+        Site::Component(i) => written(
+            alloc,
+            &[Part::Text(b" in component "), Part::Number(u64::from(i))],
+        ),
+        Site::Annotation(i) => written(
+            alloc,
+            &[
+                Part::Text(b" in the annotation of component "),
+                Part::Number(u64::from(i)),
+            ],
+        ),
     }
 }

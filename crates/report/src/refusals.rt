@@ -2,12 +2,13 @@
 
 ghost use Rattle.std.specs.Prelude.{◌≡◌, ◌+◌, ◌++◌, IfOk, codes};
 ghost use Rattle.std.specs.Fmt.{decimal};
+ghost use Rattle.report.specs.Lines.{trace_text};
 ghost use Rattle.report.specs.Refusals.{component_text, declaration_text, kind_text, nesting_text, network_text, refusal_text, site_text};
 
 use crate::answer::{NameFault, NetworkFault, Refusal, Site, TableFault};
-use crate::lines::{between, both, joined, named, numbered, traced};
+use crate::lines::{Part, written};
 use crate::printed::{kind_name, site};
-use csp_base::{Bytes, NoMemory};
+use csp_base::{Bytes, NoMemory, Place};
 use csp_program::ValueKind;
 use std::alloc::Global;
 
@@ -16,25 +17,14 @@ fn value(alloc: Global, kind: ValueKind, at: Site) -> Result<Bytes, NoMemory>
     ensures { IfOk result (λ made. made ≡ codes "2 value fault " ++ kind_text kind ++ site_text at) }
 {
     let place = site(alloc, at)?;
-    joined(alloc, b"2 value fault ", kind_name(kind), place.as_slice())
-}
-
-// Two numbers, each after a text, and two texts.
-fn range(
-    alloc: Global,
-    before: &[u8],
-    first: u64,
-    between: &[u8],
-    last: u64,
-    after: &[u8],
-    event: &[u8],
-) -> Result<Bytes, NoMemory>
-    ensures { IfOk result (λ made. made ≡ before.now ++ decimal first ++ between.now ++ decimal last ++ after.now ++ event.now) }
-{
-    let mut made = both(alloc, before, first, between, last)?;
-    made.extend_from_slice(after)?;
-    made.extend_from_slice(event)?;
-    Ok(made)
+    written(
+        alloc,
+        &[
+            Part::Text(b"2 value fault "),
+            Part::Text(kind_name(kind)),
+            Part::Text(place.as_slice()),
+        ],
+    )
 }
 
 // An operand that differs from its alphabet; after the first component it has `more`.
@@ -42,15 +32,18 @@ fn differs(alloc: Global, first: u32, more: u32, event: &[u8]) -> Result<Bytes, 
     ensures { IfOk result (λ made. made ≡ nesting_text first (1 + more) event.now) }
 {
     let last = u64::from(first) + u64::from(more);
-    range(
+    let made = written(
         alloc,
-        b"14 components ",
-        u64::from(first),
-        b" to ",
-        last,
-        b" differ from their alphabet at ",
-        event,
-    )
+        &[
+            Part::Text(b"14 components "),
+            Part::Number(u64::from(first)),
+            Part::Text(b" to "),
+            Part::Number(last),
+            Part::Text(b" differ from their alphabet at "),
+            Part::Text(event),
+        ],
+    )?;
+    Ok(made)
 }
 
 // An operand that differs from its alphabet.
@@ -58,31 +51,76 @@ fn nesting(alloc: Global, first: u32, count: u32, event: &[u8]) -> Result<Bytes,
     ensures { IfOk result (λ made. made ≡ nesting_text first count event.now) }
 {
     if count == 0 {
-        return joined(
+        return written(
             alloc,
-            b"14 an empty operand has ",
-            event,
-            b" in its alphabet",
+            &[
+                Part::Text(b"14 an empty operand has "),
+                Part::Text(event),
+                Part::Text(b" in its alphabet"),
+            ],
         );
     }
     differs(alloc, first, count - 1, event)
+}
+
+// A name that is at fault in a declaration.
+fn named<'a>(
+    alloc: Global,
+    before: &'a [u8],
+    name: &'a [u8],
+    after: &'a [u8],
+    inside: u32,
+) -> Result<Bytes, NoMemory>
+    ensures { IfOk result (λ made. made ≡ before.now ++ name.now ++ after.now ++ decimal inside) }
+{
+    written(
+        alloc,
+        &[
+            Part::Text(before),
+            Part::Text(name),
+            Part::Text(after),
+            Part::Number(u64::from(inside)),
+        ],
+    )
+}
+
+// A text and a number.
+fn numbered(alloc: Global, before: &[u8], number: u32) -> Result<Bytes, NoMemory>
+    ensures { IfOk result (λ made. made ≡ before.now ++ decimal number) }
+{
+    written(
+        alloc,
+        &[Part::Text(before), Part::Number(u64::from(number))],
+    )
+}
+
+// A number between two texts.
+fn between<'a>(
+    alloc: Global,
+    before: &'a [u8],
+    number: u64,
+    after: &'a [u8],
+) -> Result<Bytes, NoMemory>
+    ensures { IfOk result (λ made. made ≡ before.now ++ decimal number ++ after.now) }
+{
+    written(
+        alloc,
+        &[Part::Text(before), Part::Number(number), Part::Text(after)],
+    )
 }
 
 // What is wrong in a declaration.
 fn declared(alloc: Global, inside: u32, fault: &NameFault) -> Result<Bytes, NoMemory>
     ensures { IfOk result (λ made. made ≡ declaration_text inside fault.now) }
 {
-    let inside = u64::from(inside);
     match fault {
-        NameFault::Unknown { name } => {
-            named(
-                alloc,
-                b"4 unknown name ",
-                name.as_slice(),
-                b" in declaration ",
-                inside,
-            )
-        }
+        NameFault::Unknown { name } => named(
+            alloc,
+            b"4 unknown name ",
+            name.as_slice(),
+            b" in declaration ",
+            inside,
+        ),
         NameFault::Twice { name } => named(
             alloc,
             b"5 name ",
@@ -91,24 +129,36 @@ fn declared(alloc: Global, inside: u32, fault: &NameFault) -> Result<Bytes, NoMe
             inside,
         ),
         NameFault::WrongKind => numbered(alloc, b"6 wrong kind in declaration ", inside),
-        NameFault::WrongCount { name } => {
-            named(
-                alloc,
-                b"7 wrong count for ",
-                name.as_slice(),
-                b" in declaration ",
-                inside,
-            )
-        }
-        NameFault::ParallelInside => {
-            numbered(
-                alloc,
-                b"8 parallel inside a component in declaration ",
-                inside,
-            )
-        }
+        NameFault::WrongCount { name } => named(
+            alloc,
+            b"7 wrong count for ",
+            name.as_slice(),
+            b" in declaration ",
+            inside,
+        ),
+        NameFault::ParallelInside => numbered(
+            alloc,
+            b"8 parallel inside a component in declaration ",
+            inside,
+        ),
         NameFault::DataDepth => numbered(alloc, b"33 data too deep in declaration ", inside),
     }
+}
+
+// A component that can end.
+fn terminates(alloc: Global, component: u64, trace: &[Bytes]) -> Result<Bytes, NoMemory>
+    ensures { IfOk result (λ made. made
+        ≡ codes "19 component " ++ decimal component ++ codes " can terminate after " ++ trace_text trace.now) }
+{
+    written(
+        alloc,
+        &[
+            Part::Text(b"19 component "),
+            Part::Number(component),
+            Part::Text(b" can terminate after "),
+            Part::Trace(trace),
+        ],
+    )
 }
 
 // Why a component has no normal table.
@@ -138,15 +188,7 @@ fn component(alloc: Global, component: u32, fault: &TableFault) -> Result<Bytes,
             i,
             b" has more than 2048 sets of terms",
         ),
-        TableFault::Terminates { trace } => {
-            traced(
-                alloc,
-                b"19 component ",
-                i,
-                b" can terminate after ",
-                trace.as_slice(),
-            )
-        }
+        TableFault::Terminates { trace } => terminates(alloc, i, trace.as_slice()),
     }
 }
 
@@ -168,18 +210,28 @@ fn network(alloc: Global, fault: &NetworkFault) -> Result<Bytes, NoMemory>
     }
 }
 
+// A place where no script is found.
+fn no_script(alloc: Global, at: &Place) -> Result<Bytes, NoMemory>
+    ensures { IfOk result (λ made. made
+        ≡ codes "1 no script near line " ++ decimal at.now.line ++ codes " column " ++ decimal at.now.column) }
+{
+    written(
+        alloc,
+        &[
+            Part::Text(b"1 no script near line "),
+            Part::Number(u64::from(at.line)),
+            Part::Text(b" column "),
+            Part::Number(u64::from(at.column)),
+        ],
+    )
+}
+
 // The line of a refusal, without its end.
 pub(crate) fn refusal_line(alloc: Global, refusal: &Refusal) -> Result<Bytes, NoMemory>
     ensures { IfOk result (λ made. made ≡ refusal_text refusal.now) }
 {
     match refusal {
-        Refusal::NoScript { at } => both(
-            alloc,
-            b"1 no script near line ",
-            u64::from(at.line),
-            b" column ",
-            u64::from(at.column),
-        ),
+        Refusal::NoScript { at } => no_script(alloc, at),
         Refusal::Value { kind, site } => value(alloc, *kind, *site),
         Refusal::NoAssert => Bytes::from_slice(alloc, b"3 no deadlock assertion"),
         Refusal::Declaration { inside, fault } => declared(alloc, *inside, fault),

@@ -7,8 +7,7 @@ ghost use Rattle.report.specs.Lines.{line};
 ghost use Rattle.report.specs.Report.{accept_text, deadlock_free_text, next_text, node_text, nodes_text, report_text, rule_text, status, table_text};
 
 use crate::answer::{Answer, PrintedNode};
-use crate::events::push_signed;
-use crate::lines::{both, ended, joined, named, numbered, push_line, push_number, set};
+use crate::lines::{Part, push_line, written, written_line};
 use crate::printed::rule_name;
 use crate::refusals::refusal_line;
 use crate::shortfalls::shortfall_lines;
@@ -34,25 +33,7 @@ pub fn status_of(answer: &Answer) -> u8
 fn one_line(alloc: Global, text: &[u8]) -> Result<Bytes, NoMemory>
     ensures { IfOk result (λ made. made ≡ line text.now) }
 {
-    let made = Bytes::from_slice(alloc, text)?;
-    ended(made)
-}
-
-// A line of a text and a number.
-fn count_line(alloc: Global, text: &[u8], number: u64) -> Result<Bytes, NoMemory>
-    ensures { IfOk result (λ made. made ≡ line (text.now ++ decimal number)) }
-{
-    let made = numbered(alloc, text, number)?;
-    ended(made)
-}
-
-// The line of the greatest rank.
-fn rank_line(alloc: Global, rank: i64) -> Result<Bytes, NoMemory>
-    ensures { IfOk result (λ made. made ≡ line (codes "greatest rank " ++ signed_decimal rank)) }
-{
-    let mut made = Bytes::from_slice(alloc, b"greatest rank ")?;
-    push_signed(alloc, &mut made, rank)?;
-    ended(made)
+    written_line(alloc, &[Part::Text(text)])
 }
 
 // Adds the line of an event of a node.
@@ -64,9 +45,17 @@ fn push_step(
 ) -> Result<(), NoMemory>
     ensures { OnOk result (report.new ≡ report.old ++ next_text node step.now) }
 {
-    push_number(alloc, report, u64::from(node))?;
-    let text = named(alloc, b" ", step.0.as_slice(), b" -> ", u64::from(step.1))?;
-    push_line(report, text.as_slice())
+    push_line(
+        alloc,
+        report,
+        &[
+            Part::Number(u64::from(node)),
+            Part::Text(b" "),
+            Part::Text(step.0.as_slice()),
+            Part::Text(b" -> "),
+            Part::Number(u64::from(step.1)),
+        ],
+    )
 }
 
 // Adds the line of an acceptance of a node.
@@ -78,10 +67,15 @@ fn push_offer(
 ) -> Result<(), NoMemory>
     ensures { OnOk result (report.new ≡ report.old ++ accept_text node events.now) }
 {
-    let events = set(alloc, events.as_slice())?;
-    push_number(alloc, report, u64::from(node))?;
-    let text = joined(alloc, b" accepts ", events.as_slice(), b"\n")?;
-    report.extend_from_slice(text.as_slice())
+    push_line(
+        alloc,
+        report,
+        &[
+            Part::Number(u64::from(node)),
+            Part::Text(b" accepts "),
+            Part::Set(events.as_slice()),
+        ],
+    )
 }
 
 // Adds a line for each event of a node.
@@ -149,20 +143,19 @@ fn push_nodes(alloc: Global, report: &mut Bytes, nodes: &[PrintedNode]) -> Resul
     Ok(())
 }
 
-// The first lines of the report of a table.
-fn table_head(alloc: Global, component: u32, count: u32, nodes: usize) -> Result<Bytes, NoMemory>
-    ensures { IfOk result (λ made. made
-        ≡ line (codes "component " ++ decimal component ++ codes " of " ++ decimal count) ++ line (codes "nodes " ++ decimal nodes)) }
+// The first line of the report of a table.
+fn table_head(alloc: Global, component: u32, count: u32) -> Result<Bytes, NoMemory>
+    ensures { IfOk result (λ made. made ≡ line (codes "component " ++ decimal component ++ codes " of " ++ decimal count)) }
 {
-    let first = both(
+    written_line(
         alloc,
-        b"component ",
-        u64::from(component),
-        b" of ",
-        u64::from(count),
-    )?;
-    let second = count_line(alloc, b"nodes ", nodes as u64)?;
-    joined(alloc, first.as_slice(), b"\n", second.as_slice())
+        &[
+            Part::Text(b"component "),
+            Part::Number(u64::from(component)),
+            Part::Text(b" of "),
+            Part::Number(u64::from(count)),
+        ],
+    )
 }
 
 // The report of a table.
@@ -174,31 +167,71 @@ fn table(
 ) -> Result<Bytes, NoMemory>
     ensures { IfOk result (λ made. made ≡ table_text component count nodes.now) }
 {
-    let mut made = table_head(alloc, component, count, nodes.len())?;
+    let mut made = table_head(alloc, component, count)?;
+    push_line(
+        alloc,
+        &mut made,
+        &[Part::Text(b"nodes "), Part::Number(nodes.len() as u64)],
+    )?;
     push_nodes(alloc, &mut made, nodes)?;
     Ok(made)
+}
+
+// A line of a text and a number.
+fn count_line(alloc: Global, text: &[u8], number: u64) -> Result<Bytes, NoMemory>
+    ensures { IfOk result (λ made. made ≡ line (text.now ++ decimal number)) }
+{
+    written_line(alloc, &[Part::Text(text), Part::Number(number)])
+}
+
+// The line of the greatest rank.
+fn rank_line(alloc: Global, rank: i64) -> Result<Bytes, NoMemory>
+    ensures { IfOk result (λ made. made ≡ line (codes "greatest rank " ++ signed_decimal rank)) }
+{
+    written_line(alloc, &[Part::Text(b"greatest rank "), Part::Signed(rank)])
 }
 
 // The line of a rule.
 fn rule_line(alloc: Global, rule: Rule) -> Result<Bytes, NoMemory>
     ensures { IfOk result (λ made. made ≡ line (codes "rule " ++ rule_text rule)) }
 {
-    joined(alloc, b"rule ", rule_name(rule), b"\n")
+    written_line(alloc, &[Part::Text(b"rule "), Part::Text(rule_name(rule))])
+}
+
+// Three texts, one after another.
+fn joined<'a>(
+    alloc: Global,
+    first: &'a [u8],
+    second: &'a [u8],
+    third: &'a [u8],
+) -> Result<Bytes, NoMemory>
+    ensures { IfOk result (λ made. made ≡ first.now ++ second.now ++ third.now) }
+{
+    written(
+        alloc,
+        &[Part::Text(first), Part::Text(second), Part::Text(third)],
+    )
 }
 
 // Four texts, one after another.
-fn four(
+fn four<'a>(
     alloc: Global,
-    first: &[u8],
-    second: &[u8],
-    third: &[u8],
-    fourth: &[u8],
+    first: &'a [u8],
+    second: &'a [u8],
+    third: &'a [u8],
+    fourth: &'a [u8],
 ) -> Result<Bytes, NoMemory>
     ensures { IfOk result (λ made. made ≡ first.now ++ second.now ++ third.now ++ fourth.now) }
 {
-    let mut made = joined(alloc, first, second, third)?;
-    made.extend_from_slice(fourth)?;
-    Ok(made)
+    written(
+        alloc,
+        &[
+            Part::Text(first),
+            Part::Text(second),
+            Part::Text(third),
+            Part::Text(fourth),
+        ],
+    )
 }
 
 // What is counted of a network that is free of deadlock.
@@ -252,14 +285,14 @@ fn deadlock_free(
 fn refused(alloc: Global, reason: &[u8]) -> Result<Bytes, NoMemory>
     ensures { IfOk result (λ made. made ≡ line (codes "refused") ++ line reason.now) }
 {
-    joined(alloc, b"refused\n", reason, b"\n")
+    written_line(alloc, &[Part::Text(b"refused\n"), Part::Text(reason)])
 }
 
 // The report of a network that is not proved.
 fn not_proved(alloc: Global, reason: &[u8]) -> Result<Bytes, NoMemory>
     ensures { IfOk result (λ made. made ≡ line (codes "not proved") ++ reason.now) }
 {
-    joined(alloc, b"not proved\n", reason, b"")
+    written(alloc, &[Part::Text(b"not proved\n"), Part::Text(reason)])
 }
 
 /// The report of an answer, each line with a line feed at its end.

@@ -4,69 +4,94 @@ ghost use Rattle.std.specs.Prelude.{◌≡◌, ◌++◌, IfOk, OnOk, codes};
 ghost use Rattle.std.specs.List.{flat_map};
 ghost use Rattle.std.specs.Fmt.{decimal};
 ghost use Rattle.report.specs.Lines.{line, numbers_text, trace_text};
-ghost use Rattle.report.specs.Shortfalls.{after_text, condition_text, link_text, shortfall_text};
+ghost use Rattle.report.specs.Shortfalls.{after_text, link_text, shortfall_text};
 
 use crate::answer::Shortfall;
-use crate::lines::{between, both, ended, joined, push_line, push_numbers, traced};
+use crate::lines::{Part, push_line, written_line};
 use csp_base::{Bytes, NoMemory};
 use std::alloc::Global;
 
 // A line of a text and numbers.
-fn circle(alloc: Global, text: &[u8], components: &[u32]) -> Result<Bytes, NoMemory>
+fn circle<'a>(alloc: Global, text: &'a [u8], components: &'a [u32]) -> Result<Bytes, NoMemory>
     ensures { IfOk result (λ made. made ≡ line (text.now ++ numbers_text components.now)) }
 {
-    let mut made = Bytes::from_slice(alloc, text)?;
-    push_numbers(alloc, &mut made, components)?;
-    ended(made)
+    written_line(alloc, &[Part::Text(text), Part::Numbers(components)])
 }
 
 // The line of an event in several alphabets.
-fn shared(alloc: Global, event: &[u8], components: &[u32]) -> Result<Bytes, NoMemory>
+fn shared<'a>(alloc: Global, event: &'a [u8], components: &'a [u32]) -> Result<Bytes, NoMemory>
     ensures { IfOk result (λ made. made ≡ line (codes "20 event " ++ event.now ++ codes " is in alphabets" ++ numbers_text components.now)) }
 {
-    let mut made = joined(alloc, b"20 event ", event, b" is in alphabets")?;
-    push_numbers(alloc, &mut made, components)?;
-    ended(made)
+    written_line(
+        alloc,
+        &[
+            Part::Text(b"20 event "),
+            Part::Text(event),
+            Part::Text(b" is in alphabets"),
+            Part::Numbers(components),
+        ],
+    )
 }
 
 // A line of a component and a trace.
-fn after(
+fn after<'a>(
     alloc: Global,
-    before: &[u8],
+    before: &'a [u8],
     component: u32,
-    between: &[u8],
-    trace: &[Bytes],
+    between: &'a [u8],
+    trace: &'a [Bytes],
 ) -> Result<Bytes, NoMemory>
     ensures { IfOk result (λ made. made ≡ line (before.now ++ decimal component ++ between.now ++ trace_text trace.now)) }
 {
-    let made = traced(alloc, before, u64::from(component), between, trace)?;
-    ended(made)
+    written_line(
+        alloc,
+        &[
+            Part::Text(before),
+            Part::Number(u64::from(component)),
+            Part::Text(between),
+            Part::Trace(trace),
+        ],
+    )
 }
 
 // The line of a component that does not go round its links.
-fn order(alloc: Global, component: u32, trace: &[Bytes], event: &[u8]) -> Result<Bytes, NoMemory>
+fn order<'a>(
+    alloc: Global,
+    component: u32,
+    trace: &'a [Bytes],
+    event: &'a [u8],
+) -> Result<Bytes, NoMemory>
     ensures { IfOk result (λ made. made
         ≡ line (codes "23 component " ++ decimal component ++ codes " breaks C1 after " ++ trace_text trace.now ++ codes " by " ++ event.now)) }
 {
-    let mut made = traced(
+    let made = written_line(
         alloc,
-        b"23 component ",
-        u64::from(component),
-        b" breaks C1 after ",
-        trace,
+        &[
+            Part::Text(b"23 component "),
+            Part::Number(u64::from(component)),
+            Part::Text(b" breaks C1 after "),
+            Part::Trace(trace),
+            Part::Text(b" by "),
+            Part::Text(event),
+        ],
     )?;
-    made.extend_from_slice(b" by ")?;
-    made.extend_from_slice(event)?;
-    ended(made)
+    Ok(made)
 }
 
 // Adds the line of a link.
 fn push_link(alloc: Global, report: &mut Bytes, link: &(u32, u32)) -> Result<(), NoMemory>
     ensures { OnOk result (report.new ≡ report.old ++ line (link_text link.now)) }
 {
-    let (left, right) = (u64::from(link.0), u64::from(link.1));
-    let text = both(alloc, b"link ", left, b" ", right)?;
-    push_line(report, text.as_slice())
+    push_line(
+        alloc,
+        report,
+        &[
+            Part::Text(b"link "),
+            Part::Number(u64::from(link.0)),
+            Part::Text(b" "),
+            Part::Number(u64::from(link.1)),
+        ],
+    )
 }
 
 // Adds a line for each link.
@@ -93,9 +118,37 @@ fn no_full_end(alloc: Global, left: u32, right: u32) -> Result<Bytes, NoMemory>
     ensures { IfOk result (λ made. made
         ≡ line (codes "25 link " ++ decimal left ++ codes " " ++ decimal right ++ codes " has no full end")) }
 {
-    let mut made = both(alloc, b"25 link ", u64::from(left), b" ", u64::from(right))?;
-    made.extend_from_slice(b" has no full end")?;
-    ended(made)
+    written_line(
+        alloc,
+        &[
+            Part::Text(b"25 link "),
+            Part::Number(u64::from(left)),
+            Part::Text(b" "),
+            Part::Number(u64::from(right)),
+            Part::Text(b" has no full end"),
+        ],
+    )
+}
+
+// Adds the line of an end of the link.
+fn push_after(
+    alloc: Global,
+    report: &mut Bytes,
+    component: u32,
+    trace: &[Bytes],
+) -> Result<(), NoMemory>
+    ensures { OnOk result (report.new ≡ report.old ++ line (after_text component trace.now)) }
+{
+    push_line(
+        alloc,
+        report,
+        &[
+            Part::Text(b"component "),
+            Part::Number(u64::from(component)),
+            Part::Text(b" after "),
+            Part::Trace(trace),
+        ],
+    )
 }
 
 // The lines of a link that no end takes whole.
@@ -110,27 +163,35 @@ fn both_ends(
         ≡ line (codes "25 link " ++ decimal left ++ codes " " ++ decimal right ++ codes " has no full end")
         ++ line (after_text left left_trace.now) ++ line (after_text right right_trace.now)) }
 {
-    let first = no_full_end(alloc, left, right)?;
-    let second = after(alloc, b"component ", left, b" after ", left_trace)?;
-    let third = after(alloc, b"component ", right, b" after ", right_trace)?;
-    joined(alloc, first.as_slice(), second.as_slice(), third.as_slice())
+    let mut made = no_full_end(alloc, left, right)?;
+    push_after(alloc, &mut made, left, left_trace)?;
+    push_after(alloc, &mut made, right, right_trace)?;
+    Ok(made)
 }
 
 // The line of a condition that a component breaks.
-fn condition(
+fn condition<'a>(
     alloc: Global,
-    number: &[u8],
+    before: &'a [u8],
     component: u32,
-    letter: &[u8],
+    between: &'a [u8],
     condition: u32,
-    trace: &[Bytes],
+    trace: &'a [Bytes],
 ) -> Result<Bytes, NoMemory>
-    ensures { IfOk result (λ made. made ≡ line (condition_text number.now component letter.now condition trace.now)) }
+    ensures { IfOk result (λ made. made
+        ≡ line (before.now ++ decimal component ++ between.now ++ decimal condition ++ codes " after " ++ trace_text trace.now)) }
 {
-    let who = between(alloc, b" component ", u64::from(component), b" breaks ")?;
-    let what = traced(alloc, letter, u64::from(condition), b" after ", trace)?;
-    let made = joined(alloc, number, who.as_slice(), what.as_slice())?;
-    ended(made)
+    written_line(
+        alloc,
+        &[
+            Part::Text(before),
+            Part::Number(u64::from(component)),
+            Part::Text(between),
+            Part::Number(u64::from(condition)),
+            Part::Text(b" after "),
+            Part::Trace(trace),
+        ],
+    )
 }
 
 // The lines of a shortfall.
@@ -170,7 +231,14 @@ pub(crate) fn shortfall_lines(alloc: Global, shortfall: &Shortfall) -> Result<By
             condition: number,
             component,
             trace,
-        } => condition(alloc, b"26", *component, b"S", *number, trace.as_slice()),
+        } => condition(
+            alloc,
+            b"26 component ",
+            *component,
+            b" breaks S",
+            *number,
+            trace.as_slice(),
+        ),
         Shortfall::ClientsCircle { components } => {
             circle(alloc, b"27 clients in a circle", components.as_slice())
         }
@@ -178,7 +246,14 @@ pub(crate) fn shortfall_lines(alloc: Global, shortfall: &Shortfall) -> Result<By
             condition: number,
             component,
             trace,
-        } => condition(alloc, b"28", *component, b"U", *number, trace.as_slice()),
+        } => condition(
+            alloc,
+            b"28 component ",
+            *component,
+            b" breaks U",
+            *number,
+            trace.as_slice(),
+        ),
         Shortfall::ResourcesCircle { components } => {
             circle(alloc, b"29 resources in a circle", components.as_slice())
         }

@@ -1,0 +1,10 @@
+use Rattle.std.proofs.Common.{◌++◌, ◌∙◌, ap}
+use Rattle.std.specs.Prelude.{codes}
+use Rattle.std.specs.Fmt.{decimal}
+use Rattle.report.specs.Lines.{line, trace_text}
+use Rattle.report.proofs.shortfalls.order.Goals as goal
+
+pub returns : goal.returns
+returns c =
+    c.in_ok-made.ensures ∙
+    ap (λ n. line (codes "23 component " ++ decimal n ++ codes " breaks C1 after " ++ trace_text c.args.trace.now ++ codes " by " ++ c.args.event.now)) c.from.ensures
