@@ -6,9 +6,14 @@ use std::hash::{Hash, Hasher};
 use std::marker::Model;
 
 /// A value on the heap, which contracts see as the value itself.
-#[derive(Drop)]
 pub struct Boxed<T> {
     inner: Box<T>,
+}
+
+impl<T: Drop> Drop for Boxed<T> {
+    fn drop(self) {
+        let Boxed { inner: _inner } = self;
+    }
 }
 
 impl<T> Model for Boxed<T> {

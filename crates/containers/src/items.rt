@@ -9,9 +9,15 @@ use std::hash::{Hash, Hasher};
 use std::marker::Model;
 
 /// Items in a row on the heap, which contracts see as a list.
-#[derive(Debug, Drop)]
+#[derive(Debug)]
 pub struct Items<T> {
     items: Vec<T>,
+}
+
+impl<T: Drop> Drop for Items<T> {
+    fn drop(self) {
+        let Items { items: _items } = self;
+    }
 }
 
 impl<T> Model for Items<T> {

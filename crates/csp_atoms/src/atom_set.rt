@@ -16,9 +16,16 @@ use std::alloc::Global;
 use std::marker::Model;
 
 /// A set of atoms of one kind. Contracts see the list of its members, which rises strictly.
-#[derive(PartialEq, Eq, Hash, Drop)]
+#[derive(PartialEq, Eq, Hash)]
 pub struct AtomSet {
     atoms: Items<Atom>,
+}
+
+// By hand, so that a crate that ends one calls this and proves no end of its own.
+impl Drop for AtomSet {
+    fn drop(self) {
+        let AtomSet { atoms: _atoms } = self;
+    }
 }
 
 impl Model for AtomSet {

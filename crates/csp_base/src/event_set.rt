@@ -36,9 +36,15 @@ impl Model for Event {
 }
 
 /// A set of events. Contracts see the list of its members, which rises strictly.
-#[derive(Drop)]
 pub struct EventSet {
     blocks: Vec<(u32, u64)>,
+}
+
+// By hand, so that a crate that ends one calls this and proves no end of its own.
+impl Drop for EventSet {
+    fn drop(self) {
+        let EventSet { blocks: _blocks } = self;
+    }
 }
 
 impl Model for EventSet {

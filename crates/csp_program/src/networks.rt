@@ -5,7 +5,6 @@ use crate::processes::Proc;
 use containers::{Boxed, Items};
 
 /// A network. Parts stand in the order of the text.
-#[derive(Drop)]
 pub enum Net {
     /// A component.
     Leaf(Proc),
@@ -17,4 +16,17 @@ pub enum Net {
     Pair(Boxed<Net>, Expr, Expr, Boxed<Net>),
     /// `|| x:S @ [A] N`
     Each(u32, Expr, Expr, Boxed<Net>),
+}
+
+// By hand, so that a crate that ends one calls this and proves no end of its own.
+impl Drop for Net {
+    fn drop(self) {
+        match self {
+            Net::Leaf(_first) => {}
+            Net::Call(_, _second) => {}
+            Net::If(_first, _second, _third) => {}
+            Net::Pair(_first, _second, _third, _fourth) => {}
+            Net::Each(_, _second, _third, _fourth) => {}
+        }
+    }
 }

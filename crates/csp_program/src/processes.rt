@@ -5,7 +5,7 @@ use containers::{Boxed, Items};
 use csp_atoms::Value;
 
 /// What the event of a prefix begins with.
-#[derive(PartialEq, Eq, Hash, Drop)]
+#[derive(PartialEq, Eq, Hash)]
 pub enum Head {
     /// The channel with this number.
     Channel(u32),
@@ -15,8 +15,19 @@ pub enum Head {
     Put(Value),
 }
 
+// By hand, so that a crate that ends one calls this and proves no end of its own.
+impl Drop for Head {
+    fn drop(self) {
+        match self {
+            Head::Channel(_) => {}
+            Head::Bound(_) => {}
+            Head::Put(_first) => {}
+        }
+    }
+}
+
 /// A field of a prefix.
-#[derive(PartialEq, Eq, Hash, Drop)]
+#[derive(PartialEq, Eq, Hash)]
 pub enum Field {
     /// A field that has the value of the expression.
     Put(Expr),
@@ -24,8 +35,17 @@ pub enum Field {
     Get(u32, Option<Expr>),
 }
 
+// By hand, so that a crate that ends one calls this and proves no end of its own.
+impl Drop for Field {
+    fn drop(self) {
+        match self {
+            Field::Put(_first) => {}
+            Field::Get(_, _second) => {}
+        }
+    }
+}
+
 /// A process. Parts stand in the order of the text.
-#[derive(Drop)]
 pub enum Proc {
     /// `STOP`
     Stop,
@@ -55,4 +75,26 @@ pub enum Proc {
     Seq(Boxed<Proc>, Boxed<Proc>),
     /// What stands after a tick. No text spells it.
     Ended,
+}
+
+// By hand, so that a crate that ends one calls this and proves no end of its own.
+impl Drop for Proc {
+    fn drop(self) {
+        match self {
+            Proc::Stop => {}
+            Proc::Prefix(_first, _second, _third) => {}
+            Proc::Guard(_first, _second) => {}
+            Proc::If(_first, _second, _third) => {}
+            Proc::External(_first) => {}
+            Proc::Internal(_first) => {}
+            Proc::EachExternal(_, _second, _third) => {}
+            Proc::EachInternal(_, _second, _third) => {}
+            Proc::Hide(_first, _second) => {}
+            Proc::Rename(_first, _second, _third) => {}
+            Proc::Call(_, _second) => {}
+            Proc::Skip => {}
+            Proc::Seq(_first, _second) => {}
+            Proc::Ended => {}
+        }
+    }
 }
