@@ -13,9 +13,15 @@ use std::marker::Model;
 /// Values numbered from 0 on in the order in which they are first seen, fewer than 2^32 of them.
 ///
 /// Contracts see it as the list of its values, in which no value stands twice. A value is found by its hash.
-#[derive(Drop)]
 pub struct Numbering<T: Eq + Hash> {
     values: IndexSet<T>,
+}
+
+// By hand, so that a crate that ends one calls this and proves no end of its own.
+impl<T: Eq + Hash + Drop> Drop for Numbering<T> {
+    fn drop(self) {
+        let Numbering { values: _values } = self;
+    }
 }
 
 impl<T: Eq + Hash> Model for Numbering<T> {

@@ -12,7 +12,6 @@ use csp_base::Name;
 use std::marker::Model;
 
 /// An event of the event table.
-#[derive(Drop)]
 pub struct EventInfo {
     /// The number of its channel.
     pub channel: u32,
@@ -20,8 +19,17 @@ pub struct EventInfo {
     pub fields: Items<Atom>,
 }
 
+// By hand, so that a crate that ends one calls this and proves no end of its own.
+impl Drop for EventInfo {
+    fn drop(self) {
+        let EventInfo {
+            channel: _channel,
+            fields: _fields,
+        } = self;
+    }
+}
+
 /// A channel.
-#[derive(Drop)]
 pub struct Channel {
     /// Its name.
     pub name: Name,
@@ -31,6 +39,18 @@ pub struct Channel {
     pub fields: Option<Items<AtomSet>>,
     /// The number of its first event: how many events the channels before it have.
     pub first: u32,
+}
+
+// By hand, so that a crate that ends one calls this and proves no end of its own.
+impl Drop for Channel {
+    fn drop(self) {
+        let Channel {
+            name: _name,
+            types: _types,
+            fields: _fields,
+            first: _first,
+        } = self;
+    }
 }
 
 /// What a definition's name stands for.
@@ -61,7 +81,6 @@ impl Drop for Body {
 }
 
 /// A definition.
-#[derive(Drop)]
 pub struct Def {
     /// Its name.
     pub name: Name,
@@ -69,6 +88,17 @@ pub struct Def {
     pub params: Items<u32>,
     /// What the name stands for.
     pub body: Body,
+}
+
+// By hand, so that a crate that ends one calls this and proves no end of its own.
+impl Drop for Def {
+    fn drop(self) {
+        let Def {
+            name: _name,
+            params: _params,
+            body: _body,
+        } = self;
+    }
 }
 
 /// The roles of a process, by the numbers of the definitions that the annotation names.
@@ -98,7 +128,6 @@ pub struct ResourceNote {
 }
 
 /// What a program holds.
-#[derive(Drop)]
 pub struct Content {
     /// The event table.
     pub events: Items<EventInfo>,
@@ -116,10 +145,31 @@ pub struct Content {
     pub root: Net,
 }
 
+// By hand, so that a crate that ends one calls this and proves no end of its own.
+impl Drop for Content {
+    fn drop(self) {
+        let Content {
+            events: _events,
+            channels: _channels,
+            consts: _consts,
+            defs: _defs,
+            roles: _roles,
+            resources: _resources,
+            root: _root,
+        } = self;
+    }
+}
+
 /// A program that is in order: what it holds fits together.
-#[derive(Drop)]
 pub struct Program {
     content: Content,
+}
+
+// By hand, so that a crate that ends one calls this and proves no end of its own.
+impl Drop for Program {
+    fn drop(self) {
+        let Program { content: _content } = self;
+    }
 }
 
 impl Model for Program {

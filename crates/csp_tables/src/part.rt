@@ -7,10 +7,19 @@ use csp_base::EventSet;
 use std::marker::Model;
 
 /// A component of a network: the events that it takes part in, and its table.
-#[derive(Drop)]
 pub struct Part {
     alphabet: EventSet,
     table: NormTable,
+}
+
+// By hand, so that a crate that ends one calls this and proves no end of its own.
+impl Drop for Part {
+    fn drop(self) {
+        let Part {
+            alphabet: _alphabet,
+            table: _table,
+        } = self;
+    }
 }
 
 impl Model for Part {

@@ -8,11 +8,21 @@ use std::alloc::Global;
 use std::marker::Model;
 
 /// The silent steps and the steps by events of one component, over the numbers of its terms. The first term is 0.
-#[derive(Drop)]
 pub struct RawTable {
     silent: Vec<(u32, u32)>,
     steps: Vec<(u32, Event, u32)>,
     count: u32,
+}
+
+// By hand, so that a crate that ends one calls this and proves no end of its own.
+impl Drop for RawTable {
+    fn drop(self) {
+        let RawTable {
+            silent: _silent,
+            steps: _steps,
+            count: _count,
+        } = self;
+    }
 }
 
 impl Model for RawTable {

@@ -6,12 +6,23 @@ use csp_base::EventSet;
 use std::marker::Model;
 
 /// The requests and the acknowledgements of a component as a client, and those as a server.
-#[derive(Drop)]
 pub struct RoleSets {
     creq: EventSet,
     cack: EventSet,
     sreq: EventSet,
     sack: EventSet,
+}
+
+// By hand, so that a crate that ends one calls this and proves no end of its own.
+impl Drop for RoleSets {
+    fn drop(self) {
+        let RoleSets {
+            creq: _creq,
+            cack: _cack,
+            sreq: _sreq,
+            sack: _sack,
+        } = self;
+    }
 }
 
 impl Model for RoleSets {

@@ -8,11 +8,21 @@ use csp_base::EventSet;
 use std::marker::Model;
 
 /// A link joins two parts of a network, by their numbers. The left number is below the right one.
-#[derive(Drop)]
 pub struct Link {
     left: u32,
     right: u32,
     shared: EventSet,
+}
+
+// By hand, so that a crate that ends one calls this and proves no end of its own.
+impl Drop for Link {
+    fn drop(self) {
+        let Link {
+            left: _left,
+            right: _right,
+            shared: _shared,
+        } = self;
+    }
 }
 
 impl Model for Link {
@@ -65,11 +75,21 @@ impl Link {
 
 /// The shape of a network. Its parts and its links are numbered from 0, by numbers below 2 ^ 32. The links rise by their
 /// left part, and then by their right one.
-#[derive(Drop)]
 pub struct Shape {
     parts: Vec<Part>,
     links: Vec<Link>,
     vocabulary: EventSet,
+}
+
+// By hand, so that a crate that ends one calls this and proves no end of its own.
+impl Drop for Shape {
+    fn drop(self) {
+        let Shape {
+            parts: _parts,
+            links: _links,
+            vocabulary: _vocabulary,
+        } = self;
+    }
 }
 
 impl Model for Shape {

@@ -6,11 +6,21 @@ use csp_base::EventSet;
 use std::marker::Model;
 
 /// Whether a component is a resource, and the events that acquire and that release it.
-#[derive(Drop)]
 pub struct UseSets {
     resource: bool,
     acquire: EventSet,
     release: EventSet,
+}
+
+// By hand, so that a crate that ends one calls this and proves no end of its own.
+impl Drop for UseSets {
+    fn drop(self) {
+        let UseSets {
+            resource: _resource,
+            acquire: _acquire,
+            release: _release,
+        } = self;
+    }
 }
 
 impl Model for UseSets {

@@ -6,7 +6,6 @@ use csp_base::Name;
 /// A part of a script. Blanks and comments stand between tokens and have no meaning.
 ///
 /// The names of an annotation, which are rare, are on the heap, so that a token is small.
-#[derive(Drop)]
 pub enum Token {
     /// A name that the script gives.
     Name(Name),
@@ -22,8 +21,21 @@ pub enum Token {
     Resource(Boxed<ResourceNames>),
 }
 
+// By hand, so that a crate that ends one calls this and proves no end of its own.
+impl Drop for Token {
+    fn drop(self) {
+        match self {
+            Token::Name(_first) => {}
+            Token::Num(_first) => {}
+            Token::Word(_first) => {}
+            Token::Symbol(_first) => {}
+            Token::Roles(_first) => {}
+            Token::Resource(_first) => {}
+        }
+    }
+}
+
 /// The names of an annotation that gives a process its roles of client and server.
-#[derive(Drop)]
 pub struct RolesNames {
     /// The process.
     pub process: Name,
@@ -37,8 +49,20 @@ pub struct RolesNames {
     pub sack: Name,
 }
 
+// By hand, so that a crate that ends one calls this and proves no end of its own.
+impl Drop for RolesNames {
+    fn drop(self) {
+        let RolesNames {
+            process: _process,
+            creq: _creq,
+            cack: _cack,
+            sreq: _sreq,
+            sack: _sack,
+        } = self;
+    }
+}
+
 /// The names of an annotation that makes a process a resource.
-#[derive(Drop)]
 pub struct ResourceNames {
     /// The process.
     pub process: Name,
@@ -46,6 +70,17 @@ pub struct ResourceNames {
     pub acquire: Name,
     /// The definition of the events by which it is released.
     pub release: Name,
+}
+
+// By hand, so that a crate that ends one calls this and proves no end of its own.
+impl Drop for ResourceNames {
+    fn drop(self) {
+        let ResourceNames {
+            process: _process,
+            acquire: _acquire,
+            release: _release,
+        } = self;
+    }
 }
 
 /// The reserved words of the language.

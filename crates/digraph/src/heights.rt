@@ -3,9 +3,15 @@ ghost use Rattle.std.specs.Prelude.{◌≡◌, ◌==◌, ◌<◌, ℕ, length, s
 use std::marker::Model;
 
 /// A number for each vertex of a digraph, as `longest_walks` finds them.
-#[derive(Drop)]
 pub struct Heights {
     numbers: Vec<u32>,
+}
+
+// By hand, so that a crate that ends one calls this and proves no end of its own.
+impl Drop for Heights {
+    fn drop(self) {
+        let Heights { numbers: _numbers } = self;
+    }
 }
 
 impl Model for Heights {

@@ -7,9 +7,15 @@ use std::marker::Model;
 /// A digraph: for each vertex the row of the targets of its arcs.
 ///
 /// The vertices are the numbers below `len`, and each target is one of them.
-#[derive(Drop)]
 pub struct Rows {
     rows: Vec<Vec<u32>>,
+}
+
+// By hand, so that a crate that ends one calls this and proves no end of its own.
+impl Drop for Rows {
+    fn drop(self) {
+        let Rows { rows: _rows } = self;
+    }
 }
 
 impl Model for Rows {

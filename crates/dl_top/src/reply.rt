@@ -12,12 +12,21 @@ use report::{Answer, report_of, status_of};
 use std::alloc::Global;
 
 /// What the words are answered: an answer, and the trial that it is of, if the words ask for one.
-#[derive(Drop)]
 pub struct Reply {
     /// The trial.
     pub trial: Option<Trial>,
     /// The answer.
     pub answer: Answer,
+}
+
+// By hand, so that a crate that ends one calls this and proves no end of its own.
+impl Drop for Reply {
+    fn drop(self) {
+        let Reply {
+            trial: _trial,
+            answer: _answer,
+        } = self;
+    }
 }
 
 /// The rule by which a family is judged.

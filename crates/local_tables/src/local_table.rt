@@ -12,10 +12,19 @@ pub struct Room {
 }
 
 /// The table of a component.
-#[derive(Drop)]
 pub struct LocalTable {
     /// The terms by their numbers, with their steps.
     pub table: RawTable,
     /// How much room they take.
     pub used: Room,
+}
+
+// By hand, so that a crate that ends one calls this and proves no end of its own.
+impl Drop for LocalTable {
+    fn drop(self) {
+        let LocalTable {
+            table: _table,
+            used: _used,
+        } = self;
+    }
 }

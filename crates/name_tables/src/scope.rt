@@ -13,12 +13,22 @@ use std::alloc::Global;
 use std::marker::Model;
 
 /// A bound name, and what it hides.
-#[derive(Drop)]
 pub struct Binding {
     name: Name,
     number: u32,
     /// The number of the bound name of the same spelling that it hides.
     hidden: Option<u32>,
+}
+
+// By hand, so that a crate that ends one calls this and proves no end of its own.
+impl Drop for Binding {
+    fn drop(self) {
+        let Binding {
+            name: _name,
+            number: _number,
+            hidden: _hidden,
+        } = self;
+    }
 }
 
 /// The bound names at a place with their numbers, in the order in which they were bound. The last one of a spelling is found by its hash.

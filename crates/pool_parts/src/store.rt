@@ -46,10 +46,19 @@ pub struct Note {
 /// Parts that stand once each, numbered from 0 on, and what is noted of each.
 ///
 /// Contracts see the list of the parts.
-#[derive(Drop)]
 pub struct Store<T: Part> {
     parts: Numbering<T>,
     notes: Items<Note>,
+}
+
+// By hand, so that a crate that ends one calls this and proves no end of its own.
+impl<T: Part + Drop> Drop for Store<T> {
+    fn drop(self) {
+        let Store {
+            parts: _parts,
+            notes: _notes,
+        } = self;
+    }
 }
 
 impl<T: Part> Model for Store<T> {

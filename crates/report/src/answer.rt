@@ -19,7 +19,6 @@ pub enum Site {
 }
 
 /// What is wrong in a declaration.
-#[derive(Drop)]
 pub enum NameFault {
     /// A name is neither bound nor declared (4).
     Unknown {
@@ -44,8 +43,21 @@ pub enum NameFault {
     DataDepth,
 }
 
+// By hand, so that a crate that ends one calls this and proves no end of its own.
+impl Drop for NameFault {
+    fn drop(self) {
+        match self {
+            NameFault::Unknown { name: _name } => {}
+            NameFault::Twice { name: _name } => {}
+            NameFault::WrongKind => {}
+            NameFault::WrongCount { name: _name } => {}
+            NameFault::ParallelInside => {}
+            NameFault::DataDepth => {}
+        }
+    }
+}
+
 /// Why a component has no normal table.
-#[derive(Drop)]
 pub enum TableFault {
     /// It has more than 16,384 terms (10).
     TermCount,
@@ -66,8 +78,22 @@ pub enum TableFault {
     },
 }
 
+// By hand, so that a crate that ends one calls this and proves no end of its own.
+impl Drop for TableFault {
+    fn drop(self) {
+        match self {
+            TableFault::TermCount => {}
+            TableFault::TermDepth => {}
+            TableFault::TermTotal => {}
+            TableFault::StepCount => {}
+            TableFault::Diverges => {}
+            TableFault::SubsetLimit => {}
+            TableFault::Terminates { trace: _trace } => {}
+        }
+    }
+}
+
 /// Why a program spells no network.
-#[derive(Drop)]
 pub enum NetworkFault {
     /// The alphabet of an operand is not the union of those of its components (14).
     BadNesting {
@@ -86,8 +112,23 @@ pub enum NetworkFault {
     NetworkDepth,
 }
 
+// By hand, so that a crate that ends one calls this and proves no end of its own.
+impl Drop for NetworkFault {
+    fn drop(self) {
+        match self {
+            NetworkFault::BadNesting {
+                first: _first,
+                count: _count,
+                event: _event,
+            } => {}
+            NetworkFault::EmptyNetwork => {}
+            NetworkFault::ComponentLimit => {}
+            NetworkFault::NetworkDepth => {}
+        }
+    }
+}
+
 /// Why a script is refused.
-#[derive(Drop)]
 pub enum Refusal {
     /// The script has more than 1,048,576 bytes (36).
     ScriptTooLong,
@@ -133,8 +174,33 @@ pub enum Refusal {
     },
 }
 
+// By hand, so that a crate that ends one calls this and proves no end of its own.
+impl Drop for Refusal {
+    fn drop(self) {
+        match self {
+            Refusal::ScriptTooLong => {}
+            Refusal::NoScript { at: _at } => {}
+            Refusal::Value {
+                kind: _kind,
+                site: _site,
+            } => {}
+            Refusal::NoAssert => {}
+            Refusal::Declaration {
+                inside: _inside,
+                fault: _fault,
+            } => {}
+            Refusal::EventLimit { count: _count } => {}
+            Refusal::Network(_first) => {}
+            Refusal::Component {
+                component: _component,
+                fault: _fault,
+            } => {}
+            Refusal::NoComponent { count: _count } => {}
+        }
+    }
+}
+
 /// Why a network is not proved.
-#[derive(Drop)]
 pub enum Shortfall {
     /// An event is in three alphabets (20).
     NotTripleDisjoint {
@@ -205,8 +271,51 @@ pub enum Shortfall {
     },
 }
 
+// By hand, so that a crate that ends one calls this and proves no end of its own.
+impl Drop for Shortfall {
+    fn drop(self) {
+        match self {
+            Shortfall::NotTripleDisjoint {
+                event: _event,
+                components: _components,
+            } => {}
+            Shortfall::Stops {
+                component: _component,
+                trace: _trace,
+            } => {}
+            Shortfall::BreaksOrder {
+                component: _component,
+                trace: _trace,
+                event: _event,
+            } => {}
+            Shortfall::LinksCircle { links: _links } => {}
+            Shortfall::NoFullEnd {
+                left: _left,
+                right: _right,
+                left_trace: _left_trace,
+                right_trace: _right_trace,
+            } => {}
+            Shortfall::BreaksRole {
+                condition: _condition,
+                component: _component,
+                trace: _trace,
+            } => {}
+            Shortfall::ClientsCircle {
+                components: _components,
+            } => {}
+            Shortfall::BreaksUse {
+                condition: _condition,
+                component: _component,
+                trace: _trace,
+            } => {}
+            Shortfall::ResourcesCircle {
+                components: _components,
+            } => {}
+        }
+    }
+}
+
 /// A node of a normal table, with its events as texts.
-#[derive(Drop)]
 pub struct PrintedNode {
     /// Each event that is possible, with the node to which it leads.
     pub next: Items<(Bytes, u32)>,
@@ -214,8 +323,17 @@ pub struct PrintedNode {
     pub accept: Items<Items<Bytes>>,
 }
 
+// By hand, so that a crate that ends one calls this and proves no end of its own.
+impl Drop for PrintedNode {
+    fn drop(self) {
+        let PrintedNode {
+            next: _next,
+            accept: _accept,
+        } = self;
+    }
+}
+
 /// The answer to the words of a command line, with the values that its report prints.
-#[derive(Drop)]
 pub enum Answer {
     /// The words are no command.
     Usage,
@@ -254,4 +372,30 @@ pub enum Answer {
         /// The greatest rank, 0 where there is none.
         greatest_rank: i64,
     },
+}
+
+// By hand, so that a crate that ends one calls this and proves no end of its own.
+impl Drop for Answer {
+    fn drop(self) {
+        match self {
+            Answer::Usage => {}
+            Answer::ScriptNotFound => {}
+            Answer::ScriptNotRead => {}
+            Answer::Refused(_first) => {}
+            Answer::NotProved(_first) => {}
+            Answer::Shown { text: _text } => {}
+            Answer::Table {
+                component: _component,
+                count: _count,
+                nodes: _nodes,
+            } => {}
+            Answer::DeadlockFree {
+                rule: _rule,
+                components: _components,
+                nodes: _nodes,
+                bound: _bound,
+                greatest_rank: _greatest_rank,
+            } => {}
+        }
+    }
 }

@@ -13,7 +13,6 @@ use pool_parts::{ProcId, Store};
 use std::alloc::Global;
 
 /// The own parts of nodes, each kind in a store of its own, and the lists of places of choices.
-#[derive(Drop)]
 pub(crate) struct OwnParts {
     /// What prefixes begin with.
     pub heads: Store<Head>,
@@ -29,6 +28,21 @@ pub(crate) struct OwnParts {
     pub gens: Store<Items<Gen>>,
     /// The places of the processes of choices.
     pub choices: Store<Items<ProcId>>,
+}
+
+// By hand, so that a crate that ends one calls this and proves no end of its own.
+impl Drop for OwnParts {
+    fn drop(self) {
+        let OwnParts {
+            heads: _heads,
+            fields: _fields,
+            exprs: _exprs,
+            arguments: _arguments,
+            pairs: _pairs,
+            gens: _gens,
+            choices: _choices,
+        } = self;
+    }
 }
 
 /// No parts. They take no memory yet.
