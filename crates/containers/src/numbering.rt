@@ -1,6 +1,6 @@
-ghost use Rattle.std.specs.Prelude.{◌≡◌, ◌<◌, ◌^◌, ◌↔◌, false, [], ◌∷◌, ◌++◌, length, position, slice_get, IsTrue, IfOk, IfSome, is_some, OnOk, OnErr};
+ghost use Rattle.std.specs.Prelude.{◌≡◌, ◌<◌, ◌^◌, ◌↔◌, false, [], ◌∷◌, ◌++◌, length, not, position, slice_get, IsTrue, IfOk, IfSome, is_some, OnOk, OnErr};
 ghost use Rattle.std.specs.List.{IsDistinct, position_or_len};
-ghost use Rattle.std.specs.Option.{option_copied};
+ghost use Rattle.std.specs.Option.{option_copied, option_to_list};
 ghost use Rattle.std.specs.Set.{is_member};
 ghost use Rattle.containers.specs.Members.{with_new};
 
@@ -99,7 +99,28 @@ impl<T: Exact + Hash + Drop> Numbering<T> {
         ensures err { OnErr result (self.new ≡ self.old) }
         ensures err_only_new { OnErr result (is_member T.eq self.old x ≡ false) }
     {
+        let (place, _) = number_in(&mut self.values, x)?;
+        Ok(place)
+    }
+
+    /// The number of `x`, and whether it is new.
+    pub fn insert_full(&mut self, x: T) -> Result<(u32, bool), AllocError>
+        ensures list { OnOk result (self.new ≡ with_new T.eq self.old x) }
+        ensures place { IfOk result (λ made. slice_get self.new made.0 ≡ Some x) }
+        ensures new { IfOk result (λ made. made.1 ≡ not (is_member T.eq self.old x)) }
+
+        // A known value needs no memory. With 2^32 - 1 values there is none for another.
+        ensures err { OnErr result (self.new ≡ self.old) }
+        ensures err_only_new { OnErr result (is_member T.eq self.old x ≡ false) }
+    {
         number_in(&mut self.values, x)
+    }
+
+    /// Takes the last value out. Its number goes to the next value that is new.
+    pub fn pop(&mut self) -> Option<T>
+        ensures { self.old ≡ self.new ++ option_to_list result }
+    {
+        self.values.pop()
     }
 }
 
@@ -116,22 +137,26 @@ fn find_in<T: Exact + Hash>(values: &IndexSet<T>, x: &T) -> Option<u32>
     }
 }
 
-// The place of x among the values, at whose end it goes where it is new.
-fn number_in<T: Exact + Hash + Drop>(values: &mut IndexSet<T>, x: T) -> Result<u32, AllocError>
+// The place of x among the values, at whose end it goes where it is new, and whether it is.
+fn number_in<T: Exact + Hash + Drop>(
+    values: &mut IndexSet<T>,
+    x: T,
+) -> Result<(u32, bool), AllocError>
     requires { length values.old.keys < 2 ^ 32 }
     ensures list { OnOk result (values.new.keys ≡ with_new T.eq values.old.keys x) }
-    ensures first { IfOk result (λ place. place ≡ position_or_len (T.eq x) values.old.keys) }
-    ensures place { IfOk result (λ place. slice_get values.new.keys place ≡ Some x) }
+    ensures first { IfOk result (λ made. made.0 ≡ position_or_len (T.eq x) values.old.keys) }
+    ensures place { IfOk result (λ made. slice_get values.new.keys made.0 ≡ Some x) }
+    ensures new { IfOk result (λ made. made.1 ≡ not (is_member T.eq values.old.keys x)) }
     ensures err { OnErr result (values.new.keys ≡ values.old.keys) }
     ensures err_only_new { OnErr result (is_member T.eq values.old.keys x ≡ false) }
     ensures small { length values.new.keys < 2 ^ 32 }
 {
     if values.len() == u32::MAX as usize {
         return match find_in(values, &x) {
-            Some(place) => Ok(place),
+            Some(place) => Ok((place, false)),
             None => Err(AllocError),
         };
     }
-    let (place, _) = values.insert_full(x)?;
-    Ok(place as u32)
+    let (place, new) = values.insert_full(x)?;
+    Ok((place as u32, new))
 }
