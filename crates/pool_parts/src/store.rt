@@ -1,6 +1,6 @@
 //! Values that a pool keeps once each, with what is noted of each.
 
-ghost use Rattle.std.specs.Prelude.{◌≡◌, ℕ, ◌<◌, [], length, slice_get, slice_index_or, IfOk, List, MatchOption, OnErr, Some};
+ghost use Rattle.std.specs.Prelude.{◌≡◌, ℕ, ◌<◌, [], length, slice_get, slice_index_or, IfOk, IsTrue, List, MatchOption, OnErr, Some};
 ghost use Rattle.pool_parts.specs.Counting.{capped};
 ghost use Rattle.pool_parts.specs.Stored.{AreNoted, AreOnce, IsAbsent, IsNote, IsStart};
 ghost use Rattle.pool_parts.specs.declared.store.Note.{Note};
@@ -49,6 +49,8 @@ pub struct Note {
 pub struct Store<T: Part> {
     parts: Numbering<T>,
     notes: Items<Note>,
+    // the number that was told last: the same part is often asked for again
+    latest: u32,
 }
 
 // By hand, so that a crate that ends one calls this and proves no end of its own.
@@ -57,6 +59,7 @@ impl<T: Part + Drop> Drop for Store<T> {
         let Store {
             parts: _parts,
             notes: _notes,
+            latest: _latest,
         } = self;
     }
 }
@@ -83,6 +86,7 @@ impl<T: Part> Store<T> {
         Store {
             parts: Numbering::new(alloc),
             notes: Items::new(alloc),
+            latest: 0,
         }
     }
 
@@ -126,7 +130,8 @@ impl<T: Part> Store<T> {
         ensures once { AreOnce self.new }
         ensures err_only_new { OnErr result (IsAbsent self.old part.now) }
     {
-        let place = keep_in(&mut self.parts, &mut self.notes, alloc, part)?;
+        let place = keep_in(&mut self.parts, &mut self.notes, self.latest, alloc, part)?;
+        self.latest = place;
         Ok(place)
     }
 
@@ -185,10 +190,23 @@ fn note_next<T: Part>(parts: &Numbering<T>, notes: &mut Items<Note>)
     }
 }
 
-// The number of the part, if it has one.
-fn find_in<T: Part>(parts: &Numbering<T>, part: &T) -> Option<u32>
+// Whether the part stands at a place.
+fn is_at<T: Part>(parts: &Numbering<T>, place: u32, part: &T) -> bool
+    ensures { IsTrue result → slice_get parts.now place ≡ Some part.now }
+{
+    match parts.get(place as usize) {
+        Some(other) => *other == *part,
+        None => false,
+    }
+}
+
+// The number of the part, if it has one: `latest` is looked at first.
+fn find_in<T: Part>(parts: &Numbering<T>, latest: u32, part: &T) -> Option<u32>
     ensures { MatchOption result (IsAbsent parts.now part.now) (λ place. slice_get parts.now place ≡ Some part.now) }
 {
+    if is_at(parts, latest, part) {
+        return Some(latest);
+    }
     parts.find(part)
 }
 
@@ -196,6 +214,7 @@ fn find_in<T: Part>(parts: &Numbering<T>, part: &T) -> Option<u32>
 fn keep_in<T: Part>(
     parts: &mut Numbering<T>,
     notes: &mut Items<Note>,
+    latest: u32,
     alloc: Global,
     part: &T,
 ) -> Result<u32, NoMemory>
@@ -207,7 +226,7 @@ fn keep_in<T: Part>(
     ensures err_only_new { OnErr result (IsAbsent parts.old part.now) }
 {
     let _ = slice_of(parts);
-    match find_in(parts, part) {
+    match find_in(parts, latest, part) {
         Some(place) => Ok(place),
         None => {
             let copy = part.copy(alloc)?;

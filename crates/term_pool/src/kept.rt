@@ -1,10 +1,8 @@
 //! The nodes of a pool: entries, their own parts, and what each measures.
 
 ghost use Rattle.std.specs.Prelude.{◌≡◌, ◌<◌, ◌++◌, ◌∷◌, [], true, false, length, slice_get, IfOk, OnErr, OnOk, Some};
-ghost use Rattle.std.specs.Set.{is_member};
 ghost use Rattle.substitution.specs.Several.{with_values};
 ghost use Rattle.term_pool.specs.Entries.{entry_layer, Fits};
-ghost use Rattle.term_pool.specs.ExactEntry.{eq_entry};
 ghost use Rattle.term_pool.specs.First.{with_first};
 ghost use Rattle.term_pool.specs.Held.{processes, IsKept, Puts};
 ghost use Rattle.term_pool.specs.Pooled as pooled;
@@ -39,7 +37,7 @@ pub(crate) fn entry_at(
     entries.as_slice()[id.0 as usize]
 }
 
-// The place of an entry, which is the next one where it is new.
+// The place of an entry, which is the next one where it is new. Where there is no memory for its measure, it is taken out again.
 fn put_entry(
     parts: &OwnParts,
     entries: &mut Numbering<Entry>,
@@ -53,32 +51,16 @@ fn put_entry(
     ensures puts { Puts (processes parts.now entries.old) (processes parts.now entries.new) result (layer_tree (processes parts.now entries.old) (entry_layer parts.now entry)) }
     ensures err_only_new { OnErr result (Has (processes parts.now entries.old) (layer_tree (processes parts.now entries.old) (entry_layer parts.now entry)) → ⊥) }
 {
-    match entries.find(&entry) {
-        Some(place) => Ok(ProcId(place)),
-        None => add_entry(parts, entries, measures, entry),
+    let known = entries.len();
+    let place = entries.number(entry)?;
+    if (place as usize) < known {
+        return Ok(ProcId(place));
     }
-}
-
-// The place of an entry that is new: the next one.
-fn add_entry(
-    parts: &OwnParts,
-    entries: &mut Numbering<Entry>,
-    measures: &mut Items<Measure>,
-    entry: Entry,
-) -> Result<ProcId, NoMemory>
-    requires kept { IsKept parts.now entries.old measures.old }
-    requires fits { Fits parts.now entry }
-    requires below { layer_below (length (processes parts.now entries.old)) (entry_layer parts.now entry) ≡ true }
-    requires unknown { is_member eq_entry entries.old entry ≡ false }
-    ensures kept { IsKept parts.now entries.new measures.new }
-    ensures puts { Puts (processes parts.now entries.old) (processes parts.now entries.new) result (layer_tree (processes parts.now entries.old) (entry_layer parts.now entry)) }
-{
     let measure = of_entry(parts, measures.as_slice(), entry);
-    measures.push(measure)?;
-    match entries.number(entry) {
-        Ok(place) => Ok(ProcId(place)),
+    match measures.push(measure) {
+        Ok(()) => Ok(ProcId(place)),
         Err(_) => {
-            let _ = measures.pop();
+            let _ = entries.pop();
             Err(NoMemory)
         }
     }
