@@ -1,6 +1,6 @@
-ghost use Rattle.std.specs.Prelude.{◌≡◌, ◌<◌, ◌^◌, ◌↔◌, false, [], ◌∷◌, ◌++◌, length, not, position, slice_get, IsTrue, IfOk, IfSome, is_some, OnOk, OnErr};
+ghost use Rattle.std.specs.Prelude.{◌≡◌, ◌<◌, ◌^◌, ◌↔◌, false, [], ◌∷◌, ◌++◌, length, not, position, slice_get, IsTrue, IfOk, IfSome, MatchOption, is_some, OnOk, OnErr};
 ghost use Rattle.std.specs.List.{IsDistinct, position_or_len};
-ghost use Rattle.std.specs.Option.{option_copied, option_to_list};
+ghost use Rattle.std.specs.Option.{option_copied};
 ghost use Rattle.std.specs.Set.{is_member};
 ghost use Rattle.containers.specs.Members.{with_new};
 
@@ -118,7 +118,7 @@ impl<T: Exact + Hash + Drop> Numbering<T> {
 
     /// Takes the last value out. Its number goes to the next value that is new.
     pub fn pop(&mut self) -> Option<T>
-        ensures { self.old ≡ self.new ++ option_to_list result }
+        ensures { MatchOption result ((self.old ≡ []) × (self.new ≡ [])) (λ last. self.old ≡ self.new ++ last ∷ []) }
     {
         self.values.pop()
     }

@@ -1,8 +1,8 @@
 -- What follows from how a pool keeps its nodes as entries.
-use Rattle.std.proofs.Common.{◌≡◌, ◌⊎◌, inl, inr, ℕ, zero, suc, ◌<◌, true, false, Some, Option, List, [], ◌∷◌, ◌++◌, length, get_or, slice_get, refl, ap, sym, ◌∙◌, subst, arith}
-use Rattle.std.proofs.lemmas.List.{map-append, length-map}
+use Rattle.std.proofs.Common.{◌≡◌, ◌⊎◌, inl, inr, ℕ, zero, suc, ◌<◌, Bool, true, false, None, Some, Option, List, [], ◌∷◌, ◌++◌, length, get_or, slice_get, refl, ap, sym, ◌∙◌, subst, arith}
+use Rattle.std.proofs.lemmas.List.{map-append, length-map, length_push, same_from_push}
 use Rattle.std.proofs.lemmas.Option.{slice_get-map, slice_get-get_or}
-use Rattle.std.specs.Prelude.{Result, Ok, Err, IsErr, OnErr, option_map}
+use Rattle.std.specs.Prelude.{Result, Ok, Err, IsErr, MatchOption, OnErr, not, option_map}
 use Rattle.std.specs.Set.{is_member}
 use Rattle.csp_program.specs.declared.processes.Proc.{Proc}
 use Rattle.csp_program.specs.declared.processes.Proc.TheVariants as proc
@@ -163,3 +163,20 @@ on_err (Err e) P p = p
 -- own parts first, and then places
 pub moved_as : (mid new : OwnParts) (e : Entry) (n : Layer) (ids : List ProcId) (d : Entry) → StandsAs mid e n → StandsAs new d (moved (entry_layer mid e) ids) → StandsAs new d (moved n ids)
 moved_as mid new e n ids d h g = record { fits = g.fits; is = g.is ∙ ap (λ (m : Layer). moved m ids) h.is }
+
+-- what was put at the end is taken out again
+pub taken_out : (all before after : List Entry) (e : Entry) (gone : Option Entry) → all ≡ before ++ e ∷ [] → MatchOption gone ((all ≡ []) × (after ≡ [])) (λ last. all ≡ after ++ last ∷ []) → after ≡ before
+taken_out all before after e None pushed h =
+    let a = ap (λ (xs : List Entry). length xs) (sym pushed ∙ h.0) in
+    let b = length_push before e in
+    absurd (omega (arith, a, b))
+taken_out all before after e (Some last) pushed h = sym (same_from_push before after e last (sym pushed ∙ h)).0
+
+-- what is told of a value: whether it is new, by whether it is known
+pub was_known : (known new : Bool) → new ≡ not known → new ≡ false → known ≡ true
+was_known true new h k = refl
+was_known false new h k = cc
+
+pub was_unknown : (known new : Bool) → new ≡ not known → new ≡ true → known ≡ false
+was_unknown true new h k = cc
+was_unknown false new h k = refl

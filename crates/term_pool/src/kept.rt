@@ -51,9 +51,8 @@ fn put_entry(
     ensures puts { Puts (processes parts.now entries.old) (processes parts.now entries.new) result (layer_tree (processes parts.now entries.old) (entry_layer parts.now entry)) }
     ensures err_only_new { OnErr result (Has (processes parts.now entries.old) (layer_tree (processes parts.now entries.old) (entry_layer parts.now entry)) → ⊥) }
 {
-    let known = entries.len();
-    let place = entries.number(entry)?;
-    if (place as usize) < known {
+    let (place, new) = entries.insert_full(entry)?;
+    if !new {
         return Ok(ProcId(place));
     }
     let measure = of_entry(parts, measures.as_slice(), entry);
