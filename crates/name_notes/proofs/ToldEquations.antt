@@ -319,21 +319,21 @@ module _ (m : Meanings) (kinds : List Kind) where
       ap (λ (f : Fields Said). heard_all m kinds n (part_says m f place names)) (part_is m part)
       ∙ ap (λ hole. trees_told m kinds fields (data_in place) names (use_heard kinds n x (sense_in m names x) (how.Begins hole))) (length-map (tree_says m) fields)
 
-  pub told-pair : (pair : PartTree × PartTree) (place : Place) (names : List Name) (n : Notes) →
-      pair_told m kinds pair place names n
-      ≡ part_told m kinds pair.1 place names (part_told m kinds pair.0 place names
-      (use_heard kinds n (out-PartTree pair.0).name (sense_in m names (out-PartTree pair.0).name)
-      (how.Renamed (length (out-PartTree pair.0).fields) (sense_in m names (out-PartTree pair.1).name) (length (out-PartTree pair.1).fields))))
+  pub told-pair : (old new : PartTree) (place : Place) (names : List Name) (n : Notes) →
+      pair_told m kinds (old, new) place names n
+      ≡ part_told m kinds new place names (part_told m kinds old place names
+      (use_heard kinds n (out-PartTree old).name (sense_in m names (out-PartTree old).name)
+      (how.Renamed (length (out-PartTree old).fields) (sense_in m names (out-PartTree new).name) (length (out-PartTree new).fields))))
   unfolding pair_told part_told
-  told-pair pair place names n =
-      let left = out-PartTree pair.0 in
-      let right = out-PartTree pair.1 in
-      let rest : Notes → Notes = λ used. heard_all m kinds used (part_says m (part_fields m pair.0) place names ++ part_says m (part_fields m pair.1) place names) in
-      ap (λ (f : Fields Said). rest (use_heard kinds n f.name (sense_in m names f.name) (how.Renamed (length f.fields) (sense_in m names (part_fields m pair.1).name) (length (part_fields m pair.1).fields)))) (part_is m pair.0)
-      ∙ ap (λ (f : Fields Said). rest (use_heard kinds n left.name (sense_in m names left.name) (how.Renamed (length (map (tree_says m) left.fields)) (sense_in m names f.name) (length f.fields)))) (part_is m pair.1)
+  told-pair old new place names n =
+      let left = out-PartTree old in
+      let right = out-PartTree new in
+      let rest : Notes → Notes = λ used. heard_all m kinds used (part_says m (part_fields m old) place names ++ part_says m (part_fields m new) place names) in
+      ap (λ (f : Fields Said). rest (use_heard kinds n f.name (sense_in m names f.name) (how.Renamed (length f.fields) (sense_in m names (part_fields m new).name) (length (part_fields m new).fields)))) (part_is m old)
+      ∙ ap (λ (f : Fields Said). rest (use_heard kinds n left.name (sense_in m names left.name) (how.Renamed (length (map (tree_says m) left.fields)) (sense_in m names f.name) (length f.fields)))) (part_is m new)
       ∙ (λ i. rest (use_heard kinds n left.name (sense_in m names left.name) (how.Renamed (length-map (tree_says m) left.fields i) (sense_in m names right.name) (length-map (tree_says m) right.fields i))))
       ∙ heard_all-append (use_heard kinds n left.name (sense_in m names left.name) (how.Renamed (length left.fields) (sense_in m names right.name) (length right.fields)))
-      (part_says m (part_fields m pair.0) place names) (part_says m (part_fields m pair.1) place names)
+      (part_says m (part_fields m old) place names) (part_says m (part_fields m new) place names)
 
   -- the first of a list, then the rest
   pub trees_told-first : (t : Tree) (ts : List Tree) (place : Place) (names : List Name) (n : Notes) → trees_told m kinds (t ∷ ts) place names n ≡ trees_told m kinds ts place names (tree_told m kinds t place names n)
@@ -359,8 +359,6 @@ module _ (m : Meanings) (kinds : List Kind) where
   gens_told-first g gs place names n =
       heard_all-append n ((gen_binder m g).says place names) (in_turn (map (gen_binder m) gs) place (names ++ (gen_binder m g).names))
       ∙ ap (λ hole. gens_told m kinds gs place (names ++ hole) (gen_told m kinds g place names n)) (gen_binds m g)
-
-pub ruleset told_prefix = (told-Prefix)
 
 pub ruleset told_parts = (told-field-Dot, told-field-Output, told-field-Input, told-field-Input-from, told-gen-From, told-gen-Cond, told-part, told-pair)
 

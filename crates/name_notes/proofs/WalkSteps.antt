@@ -2,20 +2,16 @@
 use Rattle.std.proofs.Common.{◌≡◌, ℕ, ◌+◌, ◌<◌, ◌≤◌, List, ◌++◌, length, drop, get_or, ap, sym, ◌∙◌}
 use Rattle.std.proofs.Math.ListN.{drop_of_length-le}
 use Rattle.csp_text.specs.declared.tree.FieldTree.{FieldTree}
-use Rattle.csp_text.specs.declared.tree.FieldTree.TheViews.{out-PartTree}
 use Rattle.csp_text.specs.declared.tree.GenTree.{GenTree}
 use Rattle.csp_text.specs.declared.tree.PartTree.{PartTree}
 use Rattle.csp_text.specs.declared.tree.Tree.{Tree}
-use Rattle.script_names.specs.declared.kinds.Sense.{Sense}
-use Rattle.script_names.specs.declared.kinds.Use.TheVariants as how
 use Rattle.script_names.specs.declared.kinds.Kind.{Kind}
 use Rattle.script_names.specs.declared.kinds.Place.{Place}
-use Rattle.script_names.specs.Names.{Name, Meanings, sense_in}
+use Rattle.script_names.specs.Names.{Name, Meanings}
 use Rattle.name_notes.specs.declared.notes.Notes.{Notes}
-use Rattle.name_notes.specs.Heard.{use_heard}
 use Rattle.name_notes.specs.Told.{field_names, field_told, fields_told, gen_names, gen_told, gens_told, pair_told, pairs_told, part_told, parts_told, tree_told, trees_told}
 use Rattle.name_notes.proofs.Binders.{split_at}
-use Rattle.name_notes.proofs.ToldEquations.{fields_told-first, gens_told-first, pairs_told-first, parts_told-first, told-pair, trees_told-first}
+use Rattle.name_notes.proofs.ToldEquations.{fields_told-first, gens_told-first, pairs_told-first, parts_told-first, trees_told-first}
 
 module _ (m : Meanings) (kinds : List Kind) where
   pub trees_told-step : (xs : List (Tree)) (i : ℕ) (x : Tree) (place : Place) (names after : List Name) (n new whole : Notes) → i < length xs → x ≡ get_or xs i x
@@ -82,11 +78,3 @@ module _ (m : Meanings) (kinds : List Kind) where
   pub gens_told-end : (xs : List (GenTree)) (i : ℕ) (place : Place) (names : List Name) (n whole : Notes) → length xs ≤ i → gens_told m kinds (drop i xs) place names n ≡ whole → n ≡ whole
   unfolding gens_told
   gens_told-end xs i place names n whole at_end so_far = ap (λ ys. gens_told m kinds ys place names n) (sym (drop_of_length-le xs at_end)) ∙ so_far
-
-  pub pair_now : (pair : PartTree × PartTree) (place : Place) (names names1 : List Name) (n n1 n2 n3 : Notes) (left right : ℕ) (s : Sense)
-      → left ≡ length (out-PartTree pair.0).fields → s ≡ sense_in m names (out-PartTree pair.1).name → right ≡ length (out-PartTree pair.1).fields
-      → n1 ≡ use_heard kinds n (out-PartTree pair.0).name (sense_in m names (out-PartTree pair.0).name) (how.Renamed left s right)
-      → n2 ≡ part_told m kinds pair.0 place names n1 → names1 ≡ names → n3 ≡ part_told m kinds pair.1 place names1 n2
-      → n3 ≡ pair_told m kinds pair place names n
-  pair_now pair place names names1 n n1 n2 n3 left right s left_is s_is right_is used first same rest =
-      let told = told-pair m kinds pair place names n in cc

@@ -1,6 +1,6 @@
 //! What a tree says, noted.
 
-ghost use Rattle.std.specs.Prelude.{◌≡◌, OnOk};
+ghost use Rattle.std.specs.Prelude.{◌≡◌, ◌++◌, OnOk};
 ghost use Rattle.script_names.specs.Names.{first_of};
 ghost use Rattle.script_names.specs.Says.{tree_says};
 ghost use Rattle.name_notes.specs.Heard.{heard_all};
@@ -16,7 +16,6 @@ use script_names::{Kind, Place};
 use std::alloc::Global;
 
 /// Notes what a tree says at a place, under bound names.
-#[tactic(auto, unfolding(crate::specs::Told::tree_told))]
 pub fn note_tree(
     alloc: Global,
     names: &Dictionary,
@@ -28,12 +27,27 @@ pub fn note_tree(
 ) -> Result<(), NoMemory>
     ensures { OnOk result (notes.new ≡ heard_all (first_of names.now) kinds.now notes.old (tree_says (first_of names.now) tree.now place params.now)) }
 {
-    let mut bound = BoundNames::new(alloc);
-    bind_all(&mut bound, params)?;
     let meanings = Meanings {
         alloc,
         names,
         kinds,
     };
-    walk(&meanings, notes, &mut bound, place, tree)
+    let mut bound = BoundNames::new(alloc);
+    note_under(&meanings, notes, &mut bound, params, place, tree)
+}
+
+// Notes what a tree says at a place, under the bound names and more of them.
+#[tactic(auto, unfolding(crate::specs::Told::tree_told))]
+fn note_under(
+    meanings: &Meanings<'_>,
+    notes: &mut Notes,
+    bound: &mut BoundNames,
+    params: &[Name],
+    place: Place,
+    tree: &Tree,
+) -> Result<(), NoMemory>
+    ensures { OnOk result (notes.new ≡ heard_all (first_of meanings.now.names.now) meanings.now.kinds.now notes.old (tree_says (first_of meanings.now.names.now) tree.now place (bound.old ++ params.now))) }
+{
+    bind_all(bound, params)?;
+    walk(meanings, notes, bound, place, tree)
 }

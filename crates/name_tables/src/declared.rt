@@ -1,6 +1,6 @@
 //! The dictionary of a script.
 
-ghost use Rattle.std.specs.Prelude.{◌≡◌, ◌+◌, ℕ, ◌++◌, length, IfOk, OnOk};
+ghost use Rattle.std.specs.Prelude.{◌≡◌, ◌+◌, ℕ, [], ◌∷◌, ◌++◌, length, IfOk, OnOk};
 ghost use Rattle.script_names.specs.Names.{channels_from, constants_from, counted, declared, declares};
 ghost use Rattle.name_tables.specs.Firsts.{SameFirsts};
 ghost use Rattle.name_tables.specs.Counted.{counts};
@@ -47,19 +47,26 @@ pub fn dictionary_of(alloc: Global, decls: &[Decl]) -> Result<Dictionary, NoMemo
     ensures { IfOk result (λ names. SameFirsts names (declared decls.now)) }
 {
     let mut names = Dictionary::new(alloc);
+    declare_all(alloc, &mut names, decls)?;
+    Ok(names)
+}
+
+// Declares what declarations declare, the first numbers being 0.
+fn declare_all(alloc: Global, names: &mut Dictionary, decls: &[Decl]) -> Result<(), NoMemory>
+    ensures { OnOk result (SameFirsts names.new (names.old ++ declared decls.now)) }
+{
     let mut numbers = Numbers {
         channels: 0,
         constants: 0,
         definitions: 0,
     };
     for decl in decls {
-        declare(alloc, &mut names, &mut numbers, decl)?;
+        declare(alloc, names, &mut numbers, decl)?;
     }
-    Ok(names)
+    Ok(())
 }
 
 // Declares what a declaration declares.
-#[tactic(auto, using(crate::proofs::DeclaredLemmas::datatype_names))]
 fn declare(
     alloc: Global,
     names: &mut Dictionary,
@@ -74,25 +81,67 @@ fn declare(
             let fields = short(types.len())?;
             declare_channels(alloc, names, numbers, xs.as_slice(), fields)
         }
-        Decl::Datatype(x, ks) => {
-            let d = numbers.definitions;
-            numbers.definitions = next(d)?;
-            names.declare(x, alloc, Entity::Set(d))?;
-            declare_constants(alloc, names, numbers, ks.as_slice())?;
-            Ok(())
-        }
-        Decl::Nametype(x, _) => {
-            let d = numbers.definitions;
-            numbers.definitions = next(d)?;
-            names.declare(x, alloc, Entity::Set(d))
-        }
-        Decl::Define(x, params, _) => {
-            let d = numbers.definitions;
-            numbers.definitions = next(d)?;
-            names.declare(x, alloc, Entity::Definition(d, short(params.len())?))
-        }
+        Decl::Datatype(x, ks) => declare_datatype(alloc, names, numbers, x, ks.as_slice()),
+        Decl::Nametype(x, _) => declare_set(alloc, names, numbers, x),
+        Decl::Define(x, params, _) => declare_definition(alloc, names, numbers, x, params.len()),
         Decl::Assert(_) | Decl::Roles(_) | Decl::Resource(_) => Ok(()),
     }
+}
+
+// The number of one more definition, which is counted.
+fn take_definition(numbers: &mut Numbers) -> Result<u32, NoMemory>
+    ensures number { IfOk result (λ d. d ≡ numbers.old.definitions) }
+    ensures numbers { OnOk result (numbers.new ≡ record numbers.old { definitions = numbers.old.definitions + 1 }) }
+{
+    let d = numbers.definitions;
+    numbers.definitions = next(d)?;
+    Ok(d)
+}
+
+// Declares a set by its name.
+fn declare_set(
+    alloc: Global,
+    names: &mut Dictionary,
+    numbers: &mut Numbers,
+    x: &Name,
+) -> Result<(), NoMemory>
+    ensures names { OnOk result (SameFirsts names.new (names.old ++ (x.now, Entity.Set numbers.old.definitions) ∷ [])) }
+    ensures numbers { OnOk result (numbers.new ≡ record numbers.old { definitions = numbers.old.definitions + 1 }) }
+{
+    let d = take_definition(numbers)?;
+    names.declare(x, alloc, Entity::Set(d))
+}
+
+// Declares a definition with so many parameters.
+fn declare_definition(
+    alloc: Global,
+    names: &mut Dictionary,
+    numbers: &mut Numbers,
+    x: &Name,
+    params: usize,
+) -> Result<(), NoMemory>
+    ensures names { OnOk result (SameFirsts names.new (names.old ++ (x.now, Entity.Definition numbers.old.definitions params) ∷ [])) }
+    ensures numbers { OnOk result (numbers.new ≡ record numbers.old { definitions = numbers.old.definitions + 1 }) }
+{
+    let d = take_definition(numbers)?;
+    let params = short(params)?;
+    names.declare(x, alloc, Entity::Definition(d, params))
+}
+
+// Declares a datatype and its constants.
+fn declare_datatype(
+    alloc: Global,
+    names: &mut Dictionary,
+    numbers: &mut Numbers,
+    x: &Name,
+    ks: &[Name],
+) -> Result<(), NoMemory>
+    ensures names { OnOk result (SameFirsts names.new (names.old ++ (x.now, Entity.Set numbers.old.definitions) ∷ constants_from numbers.old.constants ks.now)) }
+    ensures numbers { OnOk result (numbers.new ≡ record numbers.old { definitions = numbers.old.definitions + 1; constants = numbers.old.constants + length ks.now }) }
+{
+    declare_set(alloc, names, numbers, x)?;
+    declare_constants(alloc, names, numbers, ks)?;
+    Ok(())
 }
 
 // Declares channels of so many fields.

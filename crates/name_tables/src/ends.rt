@@ -1,6 +1,6 @@
 //! Where bodies end.
 
-ghost use Rattle.std.specs.Prelude.{◌≡◌, [], ◌∷◌, ◌++◌, IfOk, OnOk};
+ghost use Rattle.std.specs.Prelude.{◌≡◌, List, [], ◌∷◌, ◌++◌, IfOk, OnOk};
 ghost use Rattle.std.specs.List.{flat_map};
 ghost use Rattle.script_names.specs.Contents.{parameters};
 ghost use Rattle.script_names.specs.Kinds as meant;
@@ -111,56 +111,64 @@ pub fn ends_of_all(
     ensures { IfOk result (λ all. rows all.items ≡ flat_map (meant.body_ends (first_of names.now)) decls.now) }
 {
     let mut all = Vec::new(alloc);
-    let mut scope = Scope::new(alloc);
-    for decl in decls {
-        add_body(alloc, names, &mut scope, &mut all, decl)?;
-    }
+    add_bodies(alloc, names, &mut all, decls)?;
     Ok(all)
+}
+
+// Puts the ends of the bodies of definitions at the end.
+fn add_bodies(
+    alloc: Global,
+    names: &Dictionary,
+    all: &mut Vec<Vec<End>>,
+    decls: &[Decl],
+) -> Result<(), NoMemory>
+    ensures { OnOk result (rows all.new.items ≡ rows all.old.items ++ flat_map (meant.body_ends (first_of names.now)) decls.now) }
+{
+    for decl in decls {
+        add_body(alloc, names, all, decl)?;
+    }
+    Ok(())
 }
 
 // Puts the ends of a body at the end, where the declaration is a definition.
 fn add_body(
     alloc: Global,
     names: &Dictionary,
-    scope: &mut Scope,
     all: &mut Vec<Vec<End>>,
     decl: &Decl,
 ) -> Result<(), NoMemory>
-    requires { scope.old ≡ [] }
-    ensures ends { OnOk result (rows all.new.items ≡ rows all.old.items ++ meant.body_ends (first_of names.now) decl.now) }
-    ensures scope { OnOk result (scope.new ≡ []) }
+    ensures { OnOk result (rows all.new.items ≡ rows all.old.items ++ meant.body_ends (first_of names.now) decl.now) }
 {
     match decl {
         Decl::Define(_, params, tree) => {
-            let ends = ends_under(alloc, names, scope, params.as_slice(), tree)?;
-            all.push(ends)?;
-            Ok(())
+            push_made(all, ends_under(alloc, names, params.as_slice(), tree))
         }
-        Decl::Nametype(_, _) | Decl::Datatype(_, _) => {
-            let ends = data_ends(alloc)?;
-            all.push(ends)?;
-            Ok(())
-        }
+        Decl::Nametype(_, _) | Decl::Datatype(_, _) => push_made(all, data_ends(alloc)),
         Decl::Channel(_, _) | Decl::Assert(_) | Decl::Roles(_) | Decl::Resource(_) => Ok(()),
     }
+}
+
+// Puts the ends of a body at the end.
+fn push_made(all: &mut Vec<Vec<End>>, made: Result<Vec<End>, NoMemory>) -> Result<(), NoMemory>
+    ensures { (ends : List End) → IfOk made (λ row. row.items ≡ ends) → OnOk result (rows all.new.items ≡ rows all.old.items ++ ends ∷ []) }
+{
+    let ends = made?;
+    all.push(ends)?;
+    Ok(())
 }
 
 // The ends of a body under parameters.
 fn ends_under(
     alloc: Global,
     names: &Dictionary,
-    scope: &mut Scope,
     params: &[Name],
     tree: &Tree,
 ) -> Result<Vec<End>, NoMemory>
-    requires { scope.old ≡ [] }
-    ensures ends { IfOk result (λ ends. ends.items ≡ meant.ends (first_of names.now) params.now tree.now) }
-    ensures scope { OnOk result (scope.new ≡ []) }
+    ensures { IfOk result (λ ends. ends.items ≡ meant.ends (first_of names.now) params.now tree.now) }
 {
-    bind_all(scope, params)?;
-    let ends = ends_of(alloc, names, scope, tree)?;
-    scope.leave(0);
-    Ok(ends)
+    let mut scope = Scope::new(alloc);
+    bind_all(&mut scope, params)?;
+    ends_of(alloc, names, &scope, tree)
 }
 
 // The ends of a body.

@@ -1,6 +1,7 @@
 use Rattle.std.proofs.Common.{◌≡◌, ◌+◌, ◌*◌, ◌++◌, drop, max}
 use denote.Param.Weighed as weighed
 use Rattle.csp_text.proofs.tree.GenTree.TheLaws as generator
+use Rattle.csp_text.proofs.tree.PartTree.TheLaws as part
 use Rattle.csp_text.proofs.tree.Tree.TheLaws.{the_size}
 use Rattle.std.specs.List.{flat_map}
 use Rattle.script_names.specs.Names.{first_of}
@@ -38,81 +39,90 @@ invariant-walk_gens-loop-generator l = record {
   bound : l.bound ++ flat_map gen_names (drop l.generator-index l.gens) ≡ l.initial.bound ++ flat_map gen_names l.gens;
 }
 
--- how deep what is left is, four for each level: a list comes above what stands in it, what is bound over it above that, and a form above these
+-- how deep what is left is, six for each level: a list comes above what stands in it, what is bound over it above that, and a form above these
 abbrev pub decreases-walk : goal.decreases-walk
-decreases-walk l = 4 * goal.size-walk l
+decreases-walk l = 6 * goal.size-walk l + 1
 
 abbrev pub decreases-walk_field : goal.decreases-walk_field
-decreases-walk_field l = 4 * goal.size-walk_field l
+decreases-walk_field l = 6 * goal.size-walk_field l
 
 abbrev pub decreases-walk_gen : goal.decreases-walk_gen
-decreases-walk_gen l = 4 * goal.size-walk_gen l
+decreases-walk_gen l = 6 * goal.size-walk_gen l
 
 abbrev pub decreases-walk_part : goal.decreases-walk_part
-decreases-walk_part l = 4 * goal.size-walk_part l
+decreases-walk_part l = 6 * goal.size-walk_part l
 
-abbrev pub decreases-walk_under : goal.decreases-walk_under
-decreases-walk_under l = 4 * goal.size-walk_under l + 1
+abbrev pub decreases-walk_binder : goal.decreases-walk_binder
+decreases-walk_binder l = 6 * goal.size-walk_binder l + 2
+
+abbrev pub decreases-walk_pair : goal.decreases-walk_pair
+decreases-walk_pair l = 6 * max (part.the_size l.old.now) (part.the_size l.new.now) + 1
 
 abbrev pub decreases-walk_all : goal.decreases-walk_all
-decreases-walk_all l = 4 * goal.size-walk_all l + 1
+decreases-walk_all l = 6 * goal.size-walk_all l + 2
 
 abbrev pub decreases-walk_fields : goal.decreases-walk_fields
-decreases-walk_fields l = 4 * goal.size-walk_fields l + 1
+decreases-walk_fields l = 6 * goal.size-walk_fields l + 1
 
 abbrev pub decreases-walk_gens : goal.decreases-walk_gens
-decreases-walk_gens l = 4 * goal.size-walk_gens l + 1
+decreases-walk_gens l = 6 * goal.size-walk_gens l + 1
 
 abbrev pub decreases-walk_parts : goal.decreases-walk_parts
-decreases-walk_parts l = 4 * goal.size-walk_parts l + 1
+decreases-walk_parts l = 6 * goal.size-walk_parts l + 1
 
 abbrev pub decreases-walk_pairs : goal.decreases-walk_pairs
-decreases-walk_pairs l = 4 * goal.size-walk_pairs l + 1
+decreases-walk_pairs l = 6 * goal.size-walk_pairs l + 2
 
 abbrev pub decreases-walk_all_under : goal.decreases-walk_all_under
-decreases-walk_all_under l = 4 * goal.size-walk_all_under l + 2
+decreases-walk_all_under l = 6 * goal.size-walk_all_under l + 3
 
 abbrev pub decreases-walk_parts_under : goal.decreases-walk_parts_under
-decreases-walk_parts_under l = 4 * goal.size-walk_parts_under l + 2
+decreases-walk_parts_under l = 6 * goal.size-walk_parts_under l + 2
 
 abbrev pub decreases-walk_pairs_under : goal.decreases-walk_pairs_under
-decreases-walk_pairs_under l = 4 * goal.size-walk_pairs_under l + 2
-
-abbrev pub decreases-walk_call : goal.decreases-walk_call
-decreases-walk_call l = 4 * goal.size-walk_call l + 3
-
-abbrev pub decreases-walk_dot : goal.decreases-walk_dot
-decreases-walk_dot l = 4 * goal.size-walk_dot l + 3
-
-abbrev pub decreases-walk_operand : goal.decreases-walk_operand
-decreases-walk_operand l = 4 * goal.size-walk_operand l + 3
-
-abbrev pub decreases-walk_list : goal.decreases-walk_list
-decreases-walk_list l = 4 * goal.size-walk_list l + 3
+decreases-walk_pairs_under l = 6 * goal.size-walk_pairs_under l + 3
 
 abbrev pub decreases-walk_two : goal.decreases-walk_two
-decreases-walk_two l = 4 * (max (the_size l.a.now) (the_size l.b.now)) + 3
+decreases-walk_two l = 6 * max (the_size l.a.now) (the_size l.b.now) + 6
+
+abbrev pub decreases-walk_both : goal.decreases-walk_both
+decreases-walk_both l = 6 * max (the_size l.a.now) (the_size l.b.now) + 5
+
+abbrev pub decreases-walk_call : goal.decreases-walk_call
+decreases-walk_call l = 6 * goal.size-walk_call l + 5
+
+abbrev pub decreases-walk_dot : goal.decreases-walk_dot
+decreases-walk_dot l = 6 * goal.size-walk_dot l + 5
+
+abbrev pub decreases-walk_operand : goal.decreases-walk_operand
+decreases-walk_operand l = 6 * goal.size-walk_operand l + 5
+
+abbrev pub decreases-walk_list : goal.decreases-walk_list
+decreases-walk_list l = 6 * goal.size-walk_list l + 5
 
 abbrev pub decreases-walk_choice : goal.decreases-walk_choice
-decreases-walk_choice l = 4 * (max (the_size l.c.now) (max (the_size l.a.now) (the_size l.b.now))) + 3
+decreases-walk_choice l = 6 * (max (the_size l.c.now) (max (the_size l.a.now) (the_size l.b.now))) + 6
 
 abbrev pub decreases-walk_for_each : goal.decreases-walk_for_each
-decreases-walk_for_each l = 4 * (max (the_size l.s.now) (the_size l.p.now)) + 3
+decreases-walk_for_each l = 6 * (max (the_size l.s.now) (the_size l.p.now)) + 5
 
 abbrev pub decreases-walk_parallel : goal.decreases-walk_parallel
-decreases-walk_parallel l = 4 * (max (the_size l.p.now) (max (the_size l.a.now) (max (the_size l.b.now) (the_size l.q.now)))) + 3
+decreases-walk_parallel l = 6 * (max (the_size l.p.now) (max (the_size l.a.now) (max (the_size l.b.now) (the_size l.q.now)))) + 6
 
 abbrev pub decreases-walk_each_parallel : goal.decreases-walk_each_parallel
-decreases-walk_each_parallel l = 4 * (max (the_size l.s.now) (max (the_size l.a.now) (the_size l.p.now))) + 3
+decreases-walk_each_parallel l = 6 * (max (the_size l.s.now) (max (the_size l.a.now) (the_size l.p.now))) + 6
 
 abbrev pub decreases-walk_comprehension : goal.decreases-walk_comprehension
-decreases-walk_comprehension l = 4 * max (goal.size-walk_comprehension l) (weighed.most (λ x. generator.the_size x) l.gens.now) + 3
+decreases-walk_comprehension l = 6 * max (goal.size-walk_comprehension l) (weighed.most (λ x. generator.the_size x) l.gens.now) + 5
 
 abbrev pub decreases-walk_product : goal.decreases-walk_product
-decreases-walk_product l = 4 * max (goal.size-walk_product l) (weighed.most (λ x. generator.the_size x) l.gens.now) + 3
+decreases-walk_product l = 6 * max (goal.size-walk_product l) (weighed.most (λ x. generator.the_size x) l.gens.now) + 5
 
 abbrev pub decreases-walk_prefix : goal.decreases-walk_prefix
-decreases-walk_prefix l = 4 * max (goal.size-walk_prefix l) (the_size l.p.now) + 3
+decreases-walk_prefix l = 6 * max (goal.size-walk_prefix l) (the_size l.p.now) + 5
 
 abbrev pub decreases-walk_renaming : goal.decreases-walk_renaming
-decreases-walk_renaming l = 4 * max (goal.size-walk_renaming l) (max (the_size l.p.now) (weighed.most (λ x. generator.the_size x) l.gens.now)) + 3
+decreases-walk_renaming l = 6 * max (goal.size-walk_renaming l) (max (the_size l.p.now) (weighed.most (λ x. generator.the_size x) l.gens.now)) + 5
+
+abbrev pub decreases-walk_event : goal.decreases-walk_event
+decreases-walk_event l = 6 * goal.size-walk_event l + 4

@@ -1,0 +1,17 @@
+use Rattle.std.proofs.Common.{◌++◌, arith}
+use Rattle.std.specs.List.{flat_map}
+use Rattle.script_names.specs.Kinds.{body_ends}
+use Rattle.script_names.specs.Names.{first_of}
+use Rattle.name_tables.specs.Ends.{rows}
+use Rattle.name_tables.proofs.DeclaredLemmas.{flat_end, flat_step}
+use Rattle.name_tables.proofs.ends.add_bodies.Goals as goal
+
+pub loop-decl-preserved : goal.loop-decl-preserved
+loop-decl-preserved c =
+    flat_step (body_ends (first_of c.args.names.now)) (rows c.add_body.new.all.items) (rows c.loop-decl.all.items) (rows c.args.all.now.items ++ flat_map (body_ends (first_of c.args.names.now)) c.args.decls.now)
+    c.loop-decl.decl-index c.args.decls.now c.decl-item.result c.loop-decl-test.true c.decl-item.is c.in_ok-add_body.ensures c.loop-decl.invariant
+
+pub returns : goal.returns
+returns c =
+    flat_end (body_ends (first_of c.args.names.now)) (rows c.loop-decl.all.items) (rows c.args.all.now.items ++ flat_map (body_ends (first_of c.args.names.now)) c.args.decls.now)
+    c.loop-decl.decl-index c.args.decls.now (omega arith) c.loop-decl.invariant

@@ -1,0 +1,9 @@
+use Rattle.std.proofs.Common.{◌≡◌, ◌++◌, drop}
+use Rattle.std.specs.List.{flat_map}
+use Rattle.script_names.specs.Kinds.{body_ends}
+use Rattle.script_names.specs.Names.{first_of}
+use Rattle.name_tables.specs.Ends.{rows}
+use Rattle.name_tables.proofs.ends.add_bodies.Given as goal
+
+abbrev pub invariant-loop-decl : goal.invariant-loop-decl
+invariant-loop-decl l = rows l.all.items ++ flat_map (body_ends (first_of l.names)) (drop l.decl-index l.decls) ≡ rows l.initial.all.items ++ flat_map (body_ends (first_of l.names)) l.decls
