@@ -18,7 +18,7 @@ use Rattle.script_names.specs.Typed.{Scope, bindings, exprs, under, with, named,
 use Rattle.script_names.specs.Typed as typed
 use Rattle.typed_trees.specs.Tokens.{tokens, all_tokens, gens_tokens, parts_tokens}
 use Rattle.typed_trees.specs.Words.{tree_read, gen_read, part_read, expr_of, exprs_of, gen_of, gen_scope, gens_of, gens_scope, part_of, parts_of}
-use Rattle.typed_trees.proofs.TokenForms.{tokens-Num, tokens-True, tokens-False, tokens-Name}
+use Rattle.typed_trees.proofs.TokenForms.{tokens-Num, tokens-True, tokens-False, tokens-Name, tokens-Call, tokens-Dot, tokens-Neg, tokens-Not, tokens-Binary, tokens-Display, tokens-Range, tokens-SetOp}
 use Rattle.typed_trees.proofs.Rolls.{tree_rolls, gen_rolls, part_rolls}
 use Rattle.typed_trees.proofs.SameTokens.{same_tree, same_gen, same_part}
 
@@ -180,4 +180,4 @@ pub ruleset part_forms = (part_of-is)
 
 pub ruleset gen_forms = (gen_of-From, gen_of-Cond, gen_scope-From, gen_scope-Cond)
 
-pub ruleset bare_forms = (expr_of-Num, expr_of-True, expr_of-False, expr_of-Name, tokens-Num, tokens-True, tokens-False, tokens-Name)
+pub ruleset expr_forms = (expr_of-Num, expr_of-True, expr_of-False, expr_of-Name, expr_of-Call, expr_of-Dot, expr_of-Neg, expr_of-Not, expr_of-Binary, expr_of-Display, expr_of-Range, expr_of-SetOp, tokens-Num, tokens-True, tokens-False, tokens-Name, tokens-Call, tokens-Dot, tokens-Neg, tokens-Not, tokens-Binary, tokens-Display, tokens-Range, tokens-SetOp)

@@ -17,7 +17,7 @@ use Rattle.script_names.specs.Typed.{Scope, bindings, bindings_bind, pairs_bind,
 use Rattle.script_names.specs.Typed as typed
 use Rattle.typed_trees.specs.Tokens.{tokens, fields_tokens, pairs_tokens}
 use Rattle.typed_trees.specs.Words.{tree_read, field_read, part_read, expr_of, exprs_of, field_of, field_scope, fields_of, fields_scope, set_of, gens_of, gens_scope, part_of, pairs_of, proc_of, procs_of}
-use Rattle.typed_trees.proofs.TokenForms.{tokens-Call, tokens-EachExternal, tokens-EachInternal, tokens-External, tokens-Guard, tokens-Hide, tokens-If, tokens-Internal, tokens-Name, tokens-Prefix, tokens-Rename, tokens-Seq, tokens-Skip, tokens-Stop}
+use Rattle.typed_trees.proofs.TokenForms.{tokens-Call}
 use Rattle.typed_trees.proofs.Rolls.{event_read, tree_rolls, field_rolls, event_rolls}
 use Rattle.typed_trees.proofs.SameTokens.{same_tree, same_field, same_part}
 use Rattle.typed_trees.proofs.ExprForms.{exprs_are, gens_are, gens_under}
@@ -202,25 +202,3 @@ module _ (es : Entities) (ks : List Kind) where
 pub ruleset field_forms = (field_of-Dot, field_of-Output, field_of-Input, field_scope-Dot, field_scope-Output, field_scope-Input)
 
 pub ruleset call_forms = (proc_of-Call, tokens-Call)
-
-pub ruleset choice_forms = (proc_of-If, tokens-If)
-
-pub ruleset guard_forms = (proc_of-Guard, tokens-Guard)
-
-pub ruleset external_forms = (proc_of-External, tokens-External)
-
-pub ruleset internal_forms = (proc_of-Internal, tokens-Internal)
-
-pub ruleset each_external_forms = (proc_of-EachExternal, tokens-EachExternal)
-
-pub ruleset each_internal_forms = (proc_of-EachInternal, tokens-EachInternal)
-
-pub ruleset sequence_forms = (proc_of-Seq, tokens-Seq)
-
-pub ruleset hiding_forms = (proc_of-Hide, tokens-Hide)
-
-pub ruleset renaming_forms = (proc_of-Rename, tokens-Rename)
-
-pub ruleset prefix_forms = (proc_of-Prefix, tokens-Prefix)
-
-pub ruleset bare_forms = (proc_of-Stop, proc_of-Skip, proc_of-Name, tokens-Stop, tokens-Skip, tokens-Name)

@@ -6,7 +6,7 @@ ghost use Rattle.script_names.specs.Names.{Entities, first_of};
 ghost use Rattle.script_names.specs.Typed.{all_bind, exprs, reading};
 
 use crate::binders::{Binders, Meanings};
-use crate::counts::count_tree;
+use crate::counts::{after, count_tree};
 use crate::expressions::{expression, expressions};
 use crate::networks::network;
 use crate::processes::process;
@@ -23,8 +23,7 @@ use std::mem::replace;
 pub fn binds(tree: &Tree) -> Result<u32, NoMemory>
     ensures { IfOk result (λ n. (names : Entities) (kinds : List Kind) → n ≡ (reading (first_of names) kinds tree.now).binds) }
 {
-    let mut count = 0;
-    count_tree(&mut count, tree)?;
+    let count = after(0, count_tree(tree))?;
     Ok(count)
 }
 
@@ -68,7 +67,7 @@ pub fn typed_expr(
     let mut binders = taken(alloc, scope, *next);
     let made = expression(&meanings, &mut binders, tree);
     put_back(binders, scope, next);
-    Ok(made?)
+    made
 }
 
 /// Trees as expressions, numbered one after another.
@@ -92,7 +91,7 @@ pub fn typed_exprs(
     let mut binders = taken(alloc, scope, *next);
     let made = expressions(&meanings, &mut binders, trees);
     put_back(binders, scope, next);
-    Ok(made?)
+    made
 }
 
 /// A tree as a process, under the bound names `scope`. Its binding tokens have the numbers from `next` on.
@@ -117,7 +116,7 @@ pub fn typed_proc(
     let mut binders = taken(alloc, scope, *next);
     let made = process(&meanings, &mut binders, tree);
     put_back(binders, scope, next);
-    Ok(made?)
+    made
 }
 
 /// A tree as a network, under the bound names `scope`. Its binding tokens have the numbers from `next` on. One that holds no parallel and no use of
@@ -143,5 +142,5 @@ pub fn typed_net(
     let mut binders = taken(alloc, scope, *next);
     let made = network(&meanings, &mut binders, tree);
     put_back(binders, scope, next);
-    Ok(made?)
+    made
 }

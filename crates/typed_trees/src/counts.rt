@@ -1,273 +1,165 @@
-//! How many binding tokens trees have.
+//! How many binding tokens trees have. A count that would pass its type's end stays there.
 
-ghost use Rattle.std.specs.Prelude.{◌≡◌, ◌+◌, OnOk};
+ghost use Rattle.std.specs.Prelude.{◌≡◌, ℕ, ◌+◌, IfOk};
+ghost use Rattle.csp_text.specs.Depth.{capped};
 ghost use Rattle.typed_trees.specs.Tokens.{all_tokens, field_tokens, fields_tokens, gen_tokens, gens_tokens, part_tokens, parts_tokens, pairs_tokens, tokens};
 
-use containers::{Boxed, Items};
+use containers::Boxed;
 use csp_base::NoMemory;
 use csp_text::{FieldTree, GenTree, PartTree, Tree};
 
-// Counts one more. A count that passes its type's end is refused like want of memory.
-fn count_one(count: &mut u32) -> Result<(), NoMemory>
-    ensures { OnOk result (count.new ≡ count.old + 1) }
+// Both counts together.
+fn sum(left: u32, right: u32) -> u32
+    ensures { result ≡ capped (left + right) }
 {
-    match count.checked_add(1) {
-        Some(next) => {
-            *count = next;
-            Ok(())
-        }
+    left.saturating_add(right)
+}
+
+/// The number that is `count` after `number`. A count at its type's end is refused like want of memory.
+pub(crate) fn after(number: u32, count: u32) -> Result<u32, NoMemory>
+    ensures { IfOk result (λ next. (tokens : ℕ) → count ≡ capped tokens → next ≡ number + tokens) }
+{
+    if count == u32::MAX {
+        return Err(NoMemory);
+    }
+    match number.checked_add(count) {
+        Some(next) => Ok(next),
         None => Err(NoMemory),
     }
 }
 
-/// Adds the number of a tree's binding tokens to `count`.
+/// The number of a tree's binding tokens.
 #[tactic(auto, using(crate::proofs::TokenForms::token_forms))]
 #[cycle(count)]
-pub(crate) fn count_tree(count: &mut u32, tree: &Tree) -> Result<(), NoMemory>
-    ensures { OnOk result (count.new ≡ count.old + tokens tree.now) }
+pub(crate) fn count_tree(tree: &Tree) -> u32
+    ensures { result ≡ capped (tokens tree.now) }
 {
     match tree {
-        Tree::Stop | Tree::Skip | Tree::Num(_) | Tree::True | Tree::False | Tree::Name(_) => Ok(()),
+        Tree::Stop | Tree::Skip | Tree::Num(_) | Tree::True | Tree::False | Tree::Name(_) => 0,
         Tree::Call(_, items)
         | Tree::Dot(_, items)
         | Tree::Display(items)
         | Tree::External(items)
-        | Tree::Internal(items) => count_items(count, items),
-        Tree::Neg(a) | Tree::Not(a) => count_boxed(count, a),
+        | Tree::Internal(items) => count_trees(items.as_slice()),
+        Tree::Neg(a) | Tree::Not(a) => count_tree(a.get()),
         Tree::Binary(_, a, b)
         | Tree::Range(a, b)
         | Tree::SetOp(_, a, b)
         | Tree::Guard(a, b)
         | Tree::Seq(a, b)
-        | Tree::Hide(a, b) => count_two(count, a, b),
-        Tree::EachExternal(_, a, b) | Tree::EachInternal(_, a, b) => count_for_each(count, a, b),
-        Tree::If(a, b, c) => count_three(count, a, b, c),
-        Tree::EachParallel(_, a, b, c) => count_each_parallel(count, a, b, c),
-        Tree::Comp(items, gens) => count_comprehension(count, items, gens),
-        Tree::Product(parts, gens) => count_product(count, parts, gens),
-        Tree::Prefix(event, p) => count_prefix(count, &event.fields, p),
-        Tree::Parallel(p, a, b, q) => count_four(count, p, a, b, q),
-        Tree::Rename(p, pairs, gens) => count_renaming(count, pairs, gens, p),
+        | Tree::Hide(a, b) => count_two(a, b),
+        Tree::EachExternal(_, a, b) | Tree::EachInternal(_, a, b) => sum(1, count_two(a, b)),
+        Tree::If(a, b, c) => sum(count_two(a, b), count_tree(c.get())),
+        Tree::EachParallel(_, a, b, c) => sum(sum(1, count_two(a, b)), count_tree(c.get())),
+        Tree::Comp(items, gens) => sum(count_trees(items.as_slice()), count_gens(gens.as_slice())),
+        Tree::Product(parts, gens) => {
+            sum(count_parts(parts.as_slice()), count_gens(gens.as_slice()))
+        }
+        Tree::Prefix(event, p) => sum(count_fields(event.fields.as_slice()), count_tree(p.get())),
+        Tree::Parallel(p, a, b, q) => sum(count_two(p, a), count_two(b, q)),
+        Tree::Rename(p, pairs, gens) => sum(
+            sum(count_tree(p.get()), count_pairs(pairs.as_slice())),
+            count_gens(gens.as_slice()),
+        ),
     }
-}
-
-// The same of a tree on the heap.
-#[cycle(count)]
-fn count_boxed(count: &mut u32, tree: &Boxed<Tree>) -> Result<(), NoMemory>
-    ensures { OnOk result (count.new ≡ count.old + tokens tree.now) }
-{
-    count_tree(count, tree.get())
-}
-
-// The same of a list of trees.
-#[cycle(count)]
-fn count_items(count: &mut u32, items: &Items<Tree>) -> Result<(), NoMemory>
-    ensures { OnOk result (count.new ≡ count.old + all_tokens items.now) }
-{
-    count_trees(count, items.as_slice())
 }
 
 // The same of two trees.
 #[cycle(count)]
-fn count_two(count: &mut u32, a: &Boxed<Tree>, b: &Boxed<Tree>) -> Result<(), NoMemory>
-    ensures { OnOk result (count.new ≡ count.old + tokens a.now + tokens b.now) }
+fn count_two(a: &Boxed<Tree>, b: &Boxed<Tree>) -> u32
+    ensures { result ≡ capped (tokens a.now + tokens b.now) }
 {
-    count_tree(count, a.get())?;
-    count_tree(count, b.get())
+    sum(count_tree(a.get()), count_tree(b.get()))
 }
 
-// The same of three trees.
+/// The number of some trees' binding tokens.
 #[cycle(count)]
-fn count_three(
-    count: &mut u32,
-    a: &Boxed<Tree>,
-    b: &Boxed<Tree>,
-    c: &Boxed<Tree>,
-) -> Result<(), NoMemory>
-    ensures { OnOk result (count.new ≡ count.old + tokens a.now + tokens b.now + tokens c.now) }
+pub(crate) fn count_trees(trees: &[Tree]) -> u32
+    ensures { result ≡ capped (all_tokens trees.now) }
 {
-    count_two(count, a, b)?;
-    count_tree(count, c.get())
-}
-
-// The same of four trees.
-#[cycle(count)]
-fn count_four(
-    count: &mut u32,
-    p: &Boxed<Tree>,
-    a: &Boxed<Tree>,
-    b: &Boxed<Tree>,
-    q: &Boxed<Tree>,
-) -> Result<(), NoMemory>
-    ensures { OnOk result (count.new ≡ count.old + tokens p.now + tokens a.now + tokens b.now + tokens q.now) }
-{
-    count_three(count, p, a, b)?;
-    count_tree(count, q.get())
-}
-
-// The same of a replicated choice: its name, its set and its process.
-#[cycle(count)]
-fn count_for_each(count: &mut u32, a: &Boxed<Tree>, b: &Boxed<Tree>) -> Result<(), NoMemory>
-    ensures { OnOk result (count.new ≡ count.old + 1 + tokens a.now + tokens b.now) }
-{
-    count_one(count)?;
-    count_two(count, a, b)
-}
-
-// The same of a replicated parallel: its name, its set, its alphabet and its network.
-#[cycle(count)]
-fn count_each_parallel(
-    count: &mut u32,
-    a: &Boxed<Tree>,
-    b: &Boxed<Tree>,
-    c: &Boxed<Tree>,
-) -> Result<(), NoMemory>
-    ensures { OnOk result (count.new ≡ count.old + 1 + tokens a.now + tokens b.now + tokens c.now) }
-{
-    count_one(count)?;
-    count_three(count, a, b, c)
-}
-
-// The same of a comprehension.
-#[cycle(count)]
-fn count_comprehension(
-    count: &mut u32,
-    items: &Items<Tree>,
-    gens: &Items<GenTree>,
-) -> Result<(), NoMemory>
-    ensures { OnOk result (count.new ≡ count.old + all_tokens items.now + gens_tokens gens.now) }
-{
-    count_trees(count, items.as_slice())?;
-    count_gens(count, gens.as_slice())
-}
-
-// The same of the events that begin with some fronts.
-#[cycle(count)]
-fn count_product(
-    count: &mut u32,
-    parts: &Items<PartTree>,
-    gens: &Items<GenTree>,
-) -> Result<(), NoMemory>
-    ensures { OnOk result (count.new ≡ count.old + parts_tokens parts.now + gens_tokens gens.now) }
-{
-    count_parts(count, parts.as_slice())?;
-    count_gens(count, gens.as_slice())
-}
-
-// The same of a prefix: its fields and its process.
-#[cycle(count)]
-fn count_prefix(count: &mut u32, fields: &Items<FieldTree>, p: &Boxed<Tree>) -> Result<(), NoMemory>
-    ensures { OnOk result (count.new ≡ count.old + fields_tokens fields.now + tokens p.now) }
-{
-    count_fields(count, fields.as_slice())?;
-    count_tree(count, p.get())
-}
-
-// The same of a renaming: its pairs, its generators and its process.
-#[cycle(count)]
-fn count_renaming(
-    count: &mut u32,
-    pairs: &Items<(PartTree, PartTree)>,
-    gens: &Items<GenTree>,
-    p: &Boxed<Tree>,
-) -> Result<(), NoMemory>
-    ensures { OnOk result (count.new ≡ count.old + tokens p.now + pairs_tokens pairs.now + gens_tokens gens.now) }
-{
-    count_tree(count, p.get())?;
-    count_pairs(count, pairs.as_slice())?;
-    count_gens(count, gens.as_slice())
-}
-
-/// Adds the numbers of some trees' binding tokens.
-#[cycle(count)]
-pub(crate) fn count_trees(count: &mut u32, trees: &[Tree]) -> Result<(), NoMemory>
-    ensures { OnOk result (count.new ≡ count.old + all_tokens trees.now) }
-{
+    let mut count = 0;
     for tree in trees {
-        count_tree(count, tree)?;
+        count = sum(count, count_tree(tree));
     }
-    Ok(())
+    count
 }
 
 #[cycle(count)]
-fn count_fields(count: &mut u32, fields: &[FieldTree]) -> Result<(), NoMemory>
-    ensures { OnOk result (count.new ≡ count.old + fields_tokens fields.now) }
+fn count_fields(fields: &[FieldTree]) -> u32
+    ensures { result ≡ capped (fields_tokens fields.now) }
 {
+    let mut count = 0;
     for field in fields {
-        count_field(count, field)?;
+        count = sum(count, count_field(field));
     }
-    Ok(())
+    count
 }
 
 #[tactic(auto, using(crate::proofs::TokenForms::field_tokens_forms))]
 #[cycle(count)]
-fn count_field(count: &mut u32, field: &FieldTree) -> Result<(), NoMemory>
-    ensures { OnOk result (count.new ≡ count.old + field_tokens field.now) }
+fn count_field(field: &FieldTree) -> u32
+    ensures { result ≡ capped (field_tokens field.now) }
 {
     match field {
-        FieldTree::Dot(a) => count_tree(count, a),
-        FieldTree::Output(a) => count_tree(count, a),
-        FieldTree::Input(_, set) => {
-            count_one(count)?;
-            match set {
-                Some(set) => count_tree(count, set),
-                None => Ok(()),
-            }
-        }
+        FieldTree::Dot(a) => count_tree(a),
+        FieldTree::Output(a) => count_tree(a),
+        FieldTree::Input(_, set) => match set {
+            Some(set) => sum(1, count_tree(set)),
+            None => 1,
+        },
     }
 }
 
 #[cycle(count)]
-fn count_gens(count: &mut u32, gens: &[GenTree]) -> Result<(), NoMemory>
-    ensures { OnOk result (count.new ≡ count.old + gens_tokens gens.now) }
+fn count_gens(gens: &[GenTree]) -> u32
+    ensures { result ≡ capped (gens_tokens gens.now) }
 {
+    let mut count = 0;
     for generator in gens {
-        count_gen(count, generator)?;
+        count = sum(count, count_gen(generator));
     }
-    Ok(())
+    count
 }
 
 #[tactic(auto, using(crate::proofs::TokenForms::gen_tokens_forms))]
 #[cycle(count)]
-fn count_gen(count: &mut u32, generator: &GenTree) -> Result<(), NoMemory>
-    ensures { OnOk result (count.new ≡ count.old + gen_tokens generator.now) }
+fn count_gen(generator: &GenTree) -> u32
+    ensures { result ≡ capped (gen_tokens generator.now) }
 {
     match generator {
-        GenTree::From(_, set) => {
-            count_one(count)?;
-            count_tree(count, set)
-        }
-        GenTree::Cond(condition) => count_tree(count, condition),
+        GenTree::From(_, set) => sum(1, count_tree(set)),
+        GenTree::Cond(condition) => count_tree(condition),
     }
 }
 
 #[tactic(auto, using(crate::proofs::TokenForms::part_tokens_forms))]
 #[cycle(count)]
-fn count_front(count: &mut u32, part: &PartTree) -> Result<(), NoMemory>
-    ensures { OnOk result (count.new ≡ count.old + part_tokens part.now) }
+fn count_front(part: &PartTree) -> u32
+    ensures { result ≡ capped (part_tokens part.now) }
 {
-    count_trees(count, part.fields.as_slice())
+    count_trees(part.fields.as_slice())
 }
 
-/// Adds the numbers of the binding tokens of events' fronts.
+/// The number of the binding tokens of events' fronts.
 #[cycle(count)]
-pub(crate) fn count_parts(count: &mut u32, parts: &[PartTree]) -> Result<(), NoMemory>
-    ensures { OnOk result (count.new ≡ count.old + parts_tokens parts.now) }
+pub(crate) fn count_parts(parts: &[PartTree]) -> u32
+    ensures { result ≡ capped (parts_tokens parts.now) }
 {
+    let mut count = 0;
     for part in parts {
-        count_front(count, part)?;
+        count = sum(count, count_front(part));
     }
-    Ok(())
+    count
 }
 
-/// Adds the numbers of the binding tokens of a renaming's pairs.
+/// The number of the binding tokens of a renaming's pairs.
 #[cycle(count)]
-pub(crate) fn count_pairs(count: &mut u32, pairs: &[(PartTree, PartTree)]) -> Result<(), NoMemory>
-    ensures { OnOk result (count.new ≡ count.old + pairs_tokens pairs.now) }
+pub(crate) fn count_pairs(pairs: &[(PartTree, PartTree)]) -> u32
+    ensures { result ≡ capped (pairs_tokens pairs.now) }
 {
+    let mut count = 0;
     for pair in pairs {
-        count_front(count, &pair.0)?;
-        count_front(count, &pair.1)?;
+        count = sum(count, sum(count_front(&pair.0), count_front(&pair.1)));
     }
-    Ok(())
+    count
 }

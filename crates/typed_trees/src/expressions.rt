@@ -1,17 +1,17 @@
 //! Trees as expressions.
 
 ghost use Rattle.std.specs.Prelude.{◌≡◌, ◌+◌, pos, IfOk, OnOk};
-ghost use Rattle.script_names.specs.Names.{first_of};
-ghost use Rattle.script_names.specs.Typed as typed;
+ghost use Rattle.script_names.specs.Typed.{with};
 ghost use Rattle.typed_trees.specs.Tokens.{all_tokens, gen_tokens, gens_tokens, part_tokens, parts_tokens, tokens};
 ghost use Rattle.typed_trees.specs.Words.{expr_of, exprs_of, gen_of, gen_scope, gens_of, gens_scope, part_of, parts_of};
 ghost use Rattle.typed_trees.specs.Scopes.{Keeps};
 
 use crate::binders::{Binders, Meanings, leave, take_number};
-use crate::counts::{count_parts, count_tree, count_trees};
+use crate::counts::{after, count_parts, count_tree, count_trees};
+use crate::made::{on_heap, push_made};
 use crate::names::{channel_number, definition_number, name};
 use containers::{Boxed, Items};
-use csp_base::{BinOp, Name, NoMemory, SetOp};
+use csp_base::{Name, NoMemory};
 use csp_program::{EventPart, Expr, Gen};
 use csp_text::{GenTree, PartTree, Tree};
 
@@ -21,12 +21,12 @@ fn no_expression(binders: &mut Binders, tree: &Tree) -> Result<Expr, NoMemory>
     ensures next { OnOk result (binders.new.next ≡ binders.old.next + tokens tree.now) }
     ensures scope { OnOk result (binders.new.scope ≡ binders.old.scope) }
 {
-    count_tree(&mut binders.next, tree)?;
+    binders.next = after(binders.next, count_tree(tree))?;
     Ok(Expr::Num(0))
 }
 
 /// A tree as an expression.
-#[tactic(auto, using(crate::proofs::ExprForms::bare_forms))]
+#[tactic(auto, using(crate::proofs::ExprForms::expr_forms))]
 #[cycle(typed_expr)]
 pub(crate) fn expression(
     meanings: &Meanings<'_>,
@@ -42,102 +42,55 @@ pub(crate) fn expression(
         Tree::True => Ok(Expr::Truth(true)),
         Tree::False => Ok(Expr::Truth(false)),
         Tree::Name(x) => Ok(name(meanings, &binders.scope, x)),
-        Tree::Call(f, args) => call(meanings, binders, f, args),
-        Tree::Dot(c, fields) => event(meanings, binders, c, fields),
-        Tree::Neg(a) => negative(meanings, binders, a),
-        Tree::Not(a) => opposite(meanings, binders, a),
-        Tree::Binary(op, a, b) => binary(meanings, binders, *op, a, b),
+        Tree::Call(f, args) => {
+            let args = expressions(meanings, binders, args.as_slice())?;
+            Ok(Expr::Call(definition_number(meanings.names.find(f)), args))
+        }
+        Tree::Dot(c, fields) => {
+            let fields = expressions(meanings, binders, fields.as_slice())?;
+            Ok(Expr::Event(channel_number(meanings.names.find(c)), fields))
+        }
+        Tree::Neg(a) => Ok(Expr::Neg(boxed(meanings, binders, a.get())?)),
+        Tree::Not(a) => Ok(Expr::Not(boxed(meanings, binders, a.get())?)),
+        Tree::Binary(op, a, b) => {
+            let (a, b) = two(meanings, binders, a, b)?;
+            Ok(Expr::Binary(*op, a, b))
+        }
         Tree::If(c, a, b) => choice(meanings, binders, c, a, b),
-        Tree::Display(items) => display(meanings, binders, items),
-        Tree::Range(a, b) => range(meanings, binders, a, b),
+        Tree::Display(items) => {
+            let items = expressions(meanings, binders, items.as_slice())?;
+            Ok(Expr::Display(items))
+        }
+        Tree::Range(a, b) => {
+            let (a, b) = two(meanings, binders, a, b)?;
+            Ok(Expr::Range(a, b))
+        }
         Tree::Comp(items, gens) => comprehension(meanings, binders, items, gens),
         Tree::Product(parts, gens) => product(meanings, binders, parts, gens),
-        Tree::SetOp(op, a, b) => set_operation(meanings, binders, *op, a, b),
+        Tree::SetOp(op, a, b) => {
+            let (a, b) = two(meanings, binders, a, b)?;
+            Ok(Expr::SetOp(*op, a, b))
+        }
         _ => no_expression(binders, tree),
     }
 }
 
-// The negative of an expression.
+/// Two trees as expressions on the heap.
 #[cycle(typed_expr)]
-fn negative(
+pub(crate) fn two(
     meanings: &Meanings<'_>,
     binders: &mut Binders,
-    a: &Boxed<Tree>,
-) -> Result<Expr, NoMemory>
-    ensures made { IfOk result (λ made. made ≡ Expr.Neg (expr_of meanings.now.names.now meanings.now.kinds.now a.now binders.old.scope binders.old.next)) }
-    ensures next { OnOk result (binders.new.next ≡ binders.old.next + tokens a.now) }
-    ensures scope { OnOk result (binders.new.scope ≡ binders.old.scope) }
-{
-    let a = boxed(meanings, binders, a.get())?;
-    Ok(Expr::Neg(a))
-}
-
-// The opposite of a condition.
-#[cycle(typed_expr)]
-fn opposite(
-    meanings: &Meanings<'_>,
-    binders: &mut Binders,
-    a: &Boxed<Tree>,
-) -> Result<Expr, NoMemory>
-    ensures made { IfOk result (λ made. made ≡ Expr.Not (expr_of meanings.now.names.now meanings.now.kinds.now a.now binders.old.scope binders.old.next)) }
-    ensures next { OnOk result (binders.new.next ≡ binders.old.next + tokens a.now) }
-    ensures scope { OnOk result (binders.new.scope ≡ binders.old.scope) }
-{
-    let a = boxed(meanings, binders, a.get())?;
-    Ok(Expr::Not(a))
-}
-
-// An operator between two operands.
-#[cycle(typed_expr)]
-fn binary(
-    meanings: &Meanings<'_>,
-    binders: &mut Binders,
-    op: BinOp,
     a: &Boxed<Tree>,
     b: &Boxed<Tree>,
-) -> Result<Expr, NoMemory>
-    ensures made { IfOk result (λ made. made ≡ Expr.Binary op (expr_of meanings.now.names.now meanings.now.kinds.now a.now binders.old.scope binders.old.next) (expr_of meanings.now.names.now meanings.now.kinds.now b.now binders.old.scope (binders.old.next + tokens a.now))) }
+) -> Result<(Boxed<Expr>, Boxed<Expr>), NoMemory>
+    ensures first { IfOk result (λ made. made.0 ≡ expr_of meanings.now.names.now meanings.now.kinds.now a.now binders.old.scope binders.old.next) }
+    ensures second { IfOk result (λ made. made.1 ≡ expr_of meanings.now.names.now meanings.now.kinds.now b.now binders.old.scope (binders.old.next + tokens a.now)) }
     ensures next { OnOk result (binders.new.next ≡ binders.old.next + tokens a.now + tokens b.now) }
     ensures scope { OnOk result (binders.new.scope ≡ binders.old.scope) }
 {
     let a = boxed(meanings, binders, a.get())?;
     let b = boxed(meanings, binders, b.get())?;
-    Ok(Expr::Binary(op, a, b))
-}
-
-// An operator between two sets.
-#[cycle(typed_expr)]
-fn set_operation(
-    meanings: &Meanings<'_>,
-    binders: &mut Binders,
-    op: SetOp,
-    a: &Boxed<Tree>,
-    b: &Boxed<Tree>,
-) -> Result<Expr, NoMemory>
-    ensures made { IfOk result (λ made. made ≡ Expr.SetOp op (expr_of meanings.now.names.now meanings.now.kinds.now a.now binders.old.scope binders.old.next) (expr_of meanings.now.names.now meanings.now.kinds.now b.now binders.old.scope (binders.old.next + tokens a.now))) }
-    ensures next { OnOk result (binders.new.next ≡ binders.old.next + tokens a.now + tokens b.now) }
-    ensures scope { OnOk result (binders.new.scope ≡ binders.old.scope) }
-{
-    let a = boxed(meanings, binders, a.get())?;
-    let b = boxed(meanings, binders, b.get())?;
-    Ok(Expr::SetOp(op, a, b))
-}
-
-// The set of the numbers from `a` to `b`.
-#[cycle(typed_expr)]
-fn range(
-    meanings: &Meanings<'_>,
-    binders: &mut Binders,
-    a: &Boxed<Tree>,
-    b: &Boxed<Tree>,
-) -> Result<Expr, NoMemory>
-    ensures made { IfOk result (λ made. made ≡ Expr.Range (expr_of meanings.now.names.now meanings.now.kinds.now a.now binders.old.scope binders.old.next) (expr_of meanings.now.names.now meanings.now.kinds.now b.now binders.old.scope (binders.old.next + tokens a.now))) }
-    ensures next { OnOk result (binders.new.next ≡ binders.old.next + tokens a.now + tokens b.now) }
-    ensures scope { OnOk result (binders.new.scope ≡ binders.old.scope) }
-{
-    let a = boxed(meanings, binders, a.get())?;
-    let b = boxed(meanings, binders, b.get())?;
-    Ok(Expr::Range(a, b))
+    Ok((a, b))
 }
 
 // One of two expressions.
@@ -154,62 +107,11 @@ fn choice(
     ensures scope { OnOk result (binders.new.scope ≡ binders.old.scope) }
 {
     let c = boxed(meanings, binders, c.get())?;
-    let a = boxed(meanings, binders, a.get())?;
-    let b = boxed(meanings, binders, b.get())?;
+    let (a, b) = two(meanings, binders, a, b)?;
     Ok(Expr::If(c, a, b))
 }
 
-// The use of the definition `f`.
-#[cycle(typed_expr)]
-fn call(
-    meanings: &Meanings<'_>,
-    binders: &mut Binders,
-    f: &Name,
-    args: &Items<Tree>,
-) -> Result<Expr, NoMemory>
-    ensures made { IfOk result (λ made. made ≡ Expr.Call (typed.definition_number (first_of meanings.now.names.now f.now)) (exprs_of meanings.now.names.now meanings.now.kinds.now args.now binders.old.scope binders.old.next)) }
-    ensures next { OnOk result (binders.new.next ≡ binders.old.next + all_tokens args.now) }
-    ensures scope { OnOk result (binders.new.scope ≡ binders.old.scope) }
-{
-    let args = expressions(meanings, binders, args.as_slice())?;
-    let def = definition_number(meanings.names.find(f));
-    Ok(Expr::Call(def, args))
-}
-
-// The event of the channel `c`.
-#[cycle(typed_expr)]
-fn event(
-    meanings: &Meanings<'_>,
-    binders: &mut Binders,
-    c: &Name,
-    fields: &Items<Tree>,
-) -> Result<Expr, NoMemory>
-    ensures made { IfOk result (λ made. made ≡ Expr.Event (typed.channel_number (first_of meanings.now.names.now c.now)) (exprs_of meanings.now.names.now meanings.now.kinds.now fields.now binders.old.scope binders.old.next)) }
-    ensures next { OnOk result (binders.new.next ≡ binders.old.next + all_tokens fields.now) }
-    ensures scope { OnOk result (binders.new.scope ≡ binders.old.scope) }
-{
-    let fields = expressions(meanings, binders, fields.as_slice())?;
-    let channel = channel_number(meanings.names.find(c));
-    Ok(Expr::Event(channel, fields))
-}
-
-// The set of some expressions.
-#[cycle(typed_expr)]
-fn display(
-    meanings: &Meanings<'_>,
-    binders: &mut Binders,
-    items: &Items<Tree>,
-) -> Result<Expr, NoMemory>
-    ensures made { IfOk result (λ made. made ≡ Expr.Display (exprs_of meanings.now.names.now meanings.now.kinds.now items.now binders.old.scope binders.old.next)) }
-    ensures next { OnOk result (binders.new.next ≡ binders.old.next + all_tokens items.now) }
-    ensures scope { OnOk result (binders.new.scope ≡ binders.old.scope) }
-{
-    let items = expressions(meanings, binders, items.as_slice())?;
-    Ok(Expr::Display(items))
-}
-
 // The set of some expressions under generators.
-#[tactic(auto, using(crate::proofs::Scopes::scope_laws))]
 #[cycle(typed_expr)]
 fn comprehension(
     meanings: &Meanings<'_>,
@@ -223,7 +125,7 @@ fn comprehension(
 {
     let kept = binders.scope.len();
     let first = binders.next;
-    count_trees(&mut binders.next, items.as_slice())?;
+    binders.next = after(first, count_trees(items.as_slice()))?;
     let gens = generators(meanings, binders, gens.as_slice())?;
     let last = binders.next;
     binders.next = first;
@@ -234,7 +136,6 @@ fn comprehension(
 }
 
 // The set of the events that begin with some fronts, under generators.
-#[tactic(auto, using(crate::proofs::Scopes::scope_laws))]
 #[cycle(typed_expr)]
 fn product(
     meanings: &Meanings<'_>,
@@ -248,7 +149,7 @@ fn product(
 {
     let kept = binders.scope.len();
     let first = binders.next;
-    count_parts(&mut binders.next, parts.as_slice())?;
+    binders.next = after(first, count_parts(parts.as_slice()))?;
     let gens = generators(meanings, binders, gens.as_slice())?;
     let last = binders.next;
     binders.next = first;
@@ -269,8 +170,8 @@ pub(crate) fn boxed(
     ensures next { OnOk result (binders.new.next ≡ binders.old.next + tokens tree.now) }
     ensures scope { OnOk result (binders.new.scope ≡ binders.old.scope) }
 {
-    let made = expression(meanings, binders, tree)?;
-    Ok(Boxed::new(meanings.alloc, made)?)
+    let made = expression(meanings, binders, tree);
+    on_heap(meanings.alloc, made)
 }
 
 /// Trees as expressions, numbered one after another.
@@ -286,9 +187,29 @@ pub(crate) fn expressions(
 {
     let mut made = Items::new(meanings.alloc);
     for tree in trees {
-        made.push(expression(meanings, binders, tree)?)?;
+        let part = expression(meanings, binders, tree);
+        push_made(&mut made, part)?;
     }
     Ok(made)
+}
+
+/// Binds the name `x` that takes the values of a set: its number, and the set.
+#[cycle(typed_expr)]
+pub(crate) fn bind_over(
+    meanings: &Meanings<'_>,
+    binders: &mut Binders,
+    x: &Name,
+    set: &Tree,
+) -> Result<(u32, Boxed<Expr>), NoMemory>
+    ensures number { IfOk result (λ made. made.0 ≡ binders.old.next) }
+    ensures set { IfOk result (λ made. made.1 ≡ expr_of meanings.now.names.now meanings.now.kinds.now set.now binders.old.scope (binders.old.next + 1)) }
+    ensures next { OnOk result (binders.new.next ≡ binders.old.next + 1 + tokens set.now) }
+    ensures scope { OnOk result (binders.new.scope ≡ with binders.old.scope x.now binders.old.next) }
+{
+    let number = take_number(binders)?;
+    let set = boxed(meanings, binders, set)?;
+    binders.scope.bind(x, number)?;
+    Ok((number, set))
 }
 
 // A generator. Its name is bound afterwards.
@@ -306,9 +227,7 @@ fn generator(
 {
     match tree {
         GenTree::From(x, set) => {
-            let number = take_number(binders)?;
-            let set = boxed(meanings, binders, set)?;
-            binders.scope.bind(x, number)?;
+            let (number, set) = bind_over(meanings, binders, x, set)?;
             Ok(Gen::From(number, set.into_inner()))
         }
         GenTree::Cond(condition) => { Ok(Gen::Cond(expression(meanings, binders, condition)?)) }
@@ -330,7 +249,8 @@ pub(crate) fn generators(
 {
     let mut made = Items::new(meanings.alloc);
     for tree in trees {
-        made.push(generator(meanings, binders, tree)?)?;
+        let part = generator(meanings, binders, tree);
+        push_made(&mut made, part)?;
     }
     Ok(made)
 }
@@ -365,7 +285,8 @@ fn fronts(
 {
     let mut made = Items::new(meanings.alloc);
     for part in parts {
-        made.push(front(meanings, binders, part)?)?;
+        let part = front(meanings, binders, part);
+        push_made(&mut made, part)?;
     }
     Ok(made)
 }

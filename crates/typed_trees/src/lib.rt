@@ -5,6 +5,7 @@ mod binders;
 mod calls;
 mod counts;
 mod expressions;
+mod made;
 mod names;
 mod networks;
 mod processes;

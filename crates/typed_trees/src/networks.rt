@@ -8,8 +8,9 @@ ghost use Rattle.script_names.specs.Typed as typed;
 ghost use Rattle.typed_trees.specs.Tokens.{all_tokens, tokens};
 ghost use Rattle.typed_trees.specs.Words.{expr_of, exprs_of, net_of, networked_in, proc_of};
 
-use crate::binders::{Binders, Meanings, leave, take_number};
-use crate::expressions::{boxed as boxed_expr, expressions};
+use crate::binders::{Binders, Meanings, leave};
+use crate::expressions::{bind_over, boxed as boxed_expr, expressions, two};
+use crate::made::on_heap;
 use crate::names::definition_number;
 use crate::processes::process;
 use containers::{Boxed, Items};
@@ -134,8 +135,7 @@ fn pair(
     ensures scope { OnOk result (binders.new.scope ≡ binders.old.scope) }
 {
     let p = boxed(meanings, binders, p.get())?;
-    let a = boxed_expr(meanings, binders, a.get())?;
-    let b = boxed_expr(meanings, binders, b.get())?;
+    let (a, b) = two(meanings, binders, a, b)?;
     let q = boxed(meanings, binders, q.get())?;
     Ok(Net::Pair(p, a.into_inner(), b.into_inner(), q))
 }
@@ -155,9 +155,7 @@ fn each(
     ensures scope { OnOk result (binders.new.scope ≡ binders.old.scope) }
 {
     let kept = binders.scope.len();
-    let number = take_number(binders)?;
-    let set = boxed_expr(meanings, binders, set.get())?;
-    binders.scope.bind(x, number)?;
+    let (number, set) = bind_over(meanings, binders, x, set.get())?;
     let a = boxed_expr(meanings, binders, a.get())?;
     let p = boxed(meanings, binders, p.get())?;
     leave(binders, kept);
@@ -184,6 +182,6 @@ fn boxed(
     ensures next { OnOk result (binders.new.next ≡ binders.old.next + tokens tree.now) }
     ensures scope { OnOk result (binders.new.scope ≡ binders.old.scope) }
 {
-    let made = network(meanings, binders, tree)?;
-    Ok(Boxed::new(meanings.alloc, made)?)
+    let made = network(meanings, binders, tree);
+    on_heap(meanings.alloc, made)
 }

@@ -1,14 +1,17 @@
 //! Trees as processes.
 
-ghost use Rattle.std.specs.Prelude.{◌≡◌, ◌+◌, IfOk, OnOk};
+ghost use Rattle.std.specs.Prelude.{◌≡◌, ◌+◌, IfOk, IsOkAnd, OnOk};
 ghost use Rattle.script_names.specs.Typed.{with};
 ghost use Rattle.typed_trees.specs.Scopes.{Keeps};
 ghost use Rattle.typed_trees.specs.Tokens.{all_tokens, field_tokens, fields_tokens, gens_tokens, pairs_tokens, set_tokens, tokens};
 ghost use Rattle.typed_trees.specs.Words.{expr_of, field_of, field_scope, fields_of, fields_scope, gens_of, gens_scope, pairs_of, proc_of, procs_of, set_of};
 
 use crate::binders::{Binders, Meanings, leave, take_number};
-use crate::counts::{count_pairs, count_tree};
-use crate::expressions::{boxed as boxed_expr, expression, expressions, front, generators};
+use crate::counts::{after, count_pairs, count_tree};
+use crate::expressions::{
+    bind_over, boxed as boxed_expr, expression, expressions, front, generators,
+};
+use crate::made::{on_heap, push_made};
 use crate::names::{definition_number, head};
 use containers::{Boxed, Items};
 use csp_base::{Name, NoMemory};
@@ -44,8 +47,31 @@ fn unboxed(set: Option<Boxed<Expr>>) -> Option<Expr>
     }
 }
 
+// An input. Its name is bound afterwards.
+fn input(
+    meanings: &Meanings<'_>,
+    binders: &mut Binders,
+    x: &Name,
+    set: &Option<Tree>,
+) -> Result<Field, NoMemory>
+    ensures made { IfOk result (λ made. made ≡ Field.Get binders.old.next (set_of meanings.now.names.now meanings.now.kinds.now set.now binders.old.scope (binders.old.next + 1))) }
+    ensures next { OnOk result (binders.new.next ≡ binders.old.next + 1 + set_tokens set.now) }
+    ensures scope { OnOk result (binders.new.scope ≡ with binders.old.scope x.now binders.old.next) }
+{
+    let number = take_number(binders)?;
+    let set = input_set(meanings, binders, set)?;
+    binders.scope.bind(x, number)?;
+    Ok(Field::Get(number, unboxed(set)))
+}
+
+// What an event puts out, once it was made.
+fn put(value: Result<Expr, NoMemory>) -> Result<Field, NoMemory>
+    ensures { IfOk result (λ field. IsOkAnd value (λ value. field ≡ Field.Put value)) }
+{
+    Ok(Field::Put(value?))
+}
+
 // A field. Its name is bound afterwards.
-#[tactic(auto, using(crate::proofs::TokenForms::field_tokens_forms, crate::proofs::ProcForms::field_forms, crate::proofs::Scopes::scope_laws))]
 fn field(
     meanings: &Meanings<'_>,
     binders: &mut Binders,
@@ -57,14 +83,8 @@ fn field(
     ensures keeps { OnOk result (Keeps binders.old.scope binders.new.scope) }
 {
     match tree {
-        FieldTree::Dot(a) => Ok(Field::Put(expression(meanings, binders, a)?)),
-        FieldTree::Output(a) => Ok(Field::Put(expression(meanings, binders, a)?)),
-        FieldTree::Input(x, set) => {
-            let number = take_number(binders)?;
-            let set = input_set(meanings, binders, set)?;
-            binders.scope.bind(x, number)?;
-            Ok(Field::Get(number, unboxed(set)))
-        }
+        FieldTree::Dot(a) | FieldTree::Output(a) => put(expression(meanings, binders, a)),
+        FieldTree::Input(x, set) => input(meanings, binders, x, set),
     }
 }
 
@@ -82,7 +102,8 @@ fn fields(
 {
     let mut made = Items::new(meanings.alloc);
     for tree in trees {
-        made.push(field(meanings, binders, tree)?)?;
+        let part = field(meanings, binders, tree);
+        push_made(&mut made, part)?;
     }
     Ok(made)
 }
@@ -112,12 +133,11 @@ fn no_process(binders: &mut Binders, tree: &Tree) -> Result<Proc, NoMemory>
     ensures next { OnOk result (binders.new.next ≡ binders.old.next + tokens tree.now) }
     ensures scope { OnOk result (binders.new.scope ≡ binders.old.scope) }
 {
-    count_tree(&mut binders.next, tree)?;
+    binders.next = after(binders.next, count_tree(tree))?;
     Ok(Proc::Stop)
 }
 
 /// A tree as a process.
-#[tactic(auto, using(crate::proofs::ProcForms::bare_forms))]
 #[cycle(typed_proc)]
 pub(crate) fn process(
     meanings: &Meanings<'_>,
@@ -139,10 +159,22 @@ pub(crate) fn process(
         Tree::If(c, p, q) => choice(meanings, binders, c, p, q),
         Tree::Prefix(event, p) => prefix(meanings, binders, event, p),
         Tree::Guard(c, p) => guard(meanings, binders, c, p),
-        Tree::External(ps) => external(meanings, binders, ps),
-        Tree::Internal(ps) => internal(meanings, binders, ps),
-        Tree::EachExternal(x, set, p) => each_external(meanings, binders, x, set, p),
-        Tree::EachInternal(x, set, p) => each_internal(meanings, binders, x, set, p),
+        Tree::External(ps) => {
+            let ps = processes(meanings, binders, ps.as_slice())?;
+            Ok(Proc::External(ps))
+        }
+        Tree::Internal(ps) => {
+            let ps = processes(meanings, binders, ps.as_slice())?;
+            Ok(Proc::Internal(ps))
+        }
+        Tree::EachExternal(x, set, p) => {
+            let (number, set, p) = for_each(meanings, binders, x, set, p)?;
+            Ok(Proc::EachExternal(number, set.into_inner(), p))
+        }
+        Tree::EachInternal(x, set, p) => {
+            let (number, set, p) = for_each(meanings, binders, x, set, p)?;
+            Ok(Proc::EachInternal(number, set.into_inner(), p))
+        }
         Tree::Seq(p, q) => sequence(meanings, binders, p, q),
         Tree::Hide(p, set) => hiding(meanings, binders, p, set),
         Tree::Rename(p, sides, gens) => renaming(meanings, binders, p, sides, gens),
@@ -168,7 +200,6 @@ fn call(
 }
 
 // One of two processes.
-#[tactic(auto, using(crate::proofs::ProcForms::choice_forms))]
 #[cycle(typed_proc)]
 fn choice(
     meanings: &Meanings<'_>,
@@ -188,7 +219,6 @@ fn choice(
 }
 
 // A prefix of a process.
-#[tactic(auto, using(crate::proofs::ProcForms::prefix_forms, crate::proofs::Scopes::scope_laws))]
 #[cycle(typed_proc)]
 fn prefix(
     meanings: &Meanings<'_>,
@@ -212,7 +242,6 @@ fn prefix(
 }
 
 // A process under a condition.
-#[tactic(auto, using(crate::proofs::ProcForms::guard_forms))]
 #[cycle(typed_proc)]
 fn guard(
     meanings: &Meanings<'_>,
@@ -227,38 +256,6 @@ fn guard(
     let c = boxed_expr(meanings, binders, c.get())?;
     let p = boxed(meanings, binders, p.get())?;
     Ok(Proc::Guard(c.into_inner(), p))
-}
-
-// The external choice of some processes.
-#[tactic(auto, using(crate::proofs::ProcForms::external_forms))]
-#[cycle(typed_proc)]
-fn external(
-    meanings: &Meanings<'_>,
-    binders: &mut Binders,
-    ps: &Items<Tree>,
-) -> Result<Proc, NoMemory>
-    ensures made { IfOk result (λ made. made ≡ proc_of meanings.now.names.now meanings.now.kinds.now (Tree.External ps.now) binders.old.scope binders.old.next) }
-    ensures next { OnOk result (binders.new.next ≡ binders.old.next + tokens (Tree.External ps.now)) }
-    ensures scope { OnOk result (binders.new.scope ≡ binders.old.scope) }
-{
-    let ps = processes(meanings, binders, ps.as_slice())?;
-    Ok(Proc::External(ps))
-}
-
-// The internal choice of some processes.
-#[tactic(auto, using(crate::proofs::ProcForms::internal_forms))]
-#[cycle(typed_proc)]
-fn internal(
-    meanings: &Meanings<'_>,
-    binders: &mut Binders,
-    ps: &Items<Tree>,
-) -> Result<Proc, NoMemory>
-    ensures made { IfOk result (λ made. made ≡ proc_of meanings.now.names.now meanings.now.kinds.now (Tree.Internal ps.now) binders.old.scope binders.old.next) }
-    ensures next { OnOk result (binders.new.next ≡ binders.old.next + tokens (Tree.Internal ps.now)) }
-    ensures scope { OnOk result (binders.new.scope ≡ binders.old.scope) }
-{
-    let ps = processes(meanings, binders, ps.as_slice())?;
-    Ok(Proc::Internal(ps))
 }
 
 // A process for a value of a set: the number of its name, the set and the process.
@@ -277,52 +274,13 @@ fn for_each(
     ensures scope { OnOk result (binders.new.scope ≡ binders.old.scope) }
 {
     let kept = binders.scope.len();
-    let number = take_number(binders)?;
-    let set = boxed_expr(meanings, binders, set.get())?;
-    binders.scope.bind(x, number)?;
+    let (number, set) = bind_over(meanings, binders, x, set.get())?;
     let p = boxed(meanings, binders, p.get())?;
     leave(binders, kept);
     Ok((number, set, p))
 }
 
-// An external choice over the values of a set.
-#[tactic(auto, using(crate::proofs::ProcForms::each_external_forms))]
-#[cycle(typed_proc)]
-fn each_external(
-    meanings: &Meanings<'_>,
-    binders: &mut Binders,
-    x: &Name,
-    set: &Boxed<Tree>,
-    p: &Boxed<Tree>,
-) -> Result<Proc, NoMemory>
-    ensures made { IfOk result (λ made. made ≡ proc_of meanings.now.names.now meanings.now.kinds.now (Tree.EachExternal x.now set.now p.now) binders.old.scope binders.old.next) }
-    ensures next { OnOk result (binders.new.next ≡ binders.old.next + tokens (Tree.EachExternal x.now set.now p.now)) }
-    ensures scope { OnOk result (binders.new.scope ≡ binders.old.scope) }
-{
-    let (number, set, p) = for_each(meanings, binders, x, set, p)?;
-    Ok(Proc::EachExternal(number, set.into_inner(), p))
-}
-
-// An internal choice over the values of a set.
-#[tactic(auto, using(crate::proofs::ProcForms::each_internal_forms))]
-#[cycle(typed_proc)]
-fn each_internal(
-    meanings: &Meanings<'_>,
-    binders: &mut Binders,
-    x: &Name,
-    set: &Boxed<Tree>,
-    p: &Boxed<Tree>,
-) -> Result<Proc, NoMemory>
-    ensures made { IfOk result (λ made. made ≡ proc_of meanings.now.names.now meanings.now.kinds.now (Tree.EachInternal x.now set.now p.now) binders.old.scope binders.old.next) }
-    ensures next { OnOk result (binders.new.next ≡ binders.old.next + tokens (Tree.EachInternal x.now set.now p.now)) }
-    ensures scope { OnOk result (binders.new.scope ≡ binders.old.scope) }
-{
-    let (number, set, p) = for_each(meanings, binders, x, set, p)?;
-    Ok(Proc::EachInternal(number, set.into_inner(), p))
-}
-
 // One process after the other.
-#[tactic(auto, using(crate::proofs::ProcForms::sequence_forms))]
 #[cycle(typed_proc)]
 fn sequence(
     meanings: &Meanings<'_>,
@@ -340,7 +298,6 @@ fn sequence(
 }
 
 // A process with a set hidden.
-#[tactic(auto, using(crate::proofs::ProcForms::hiding_forms))]
 #[cycle(typed_proc)]
 fn hiding(
     meanings: &Meanings<'_>,
@@ -358,7 +315,6 @@ fn hiding(
 }
 
 // The pairs of a renaming and its generators.
-#[tactic(auto, using(crate::proofs::Scopes::scope_laws))]
 fn sides_under(
     meanings: &Meanings<'_>,
     binders: &mut Binders,
@@ -372,7 +328,7 @@ fn sides_under(
 {
     let kept = binders.scope.len();
     let first = binders.next;
-    count_pairs(&mut binders.next, sides.as_slice())?;
+    binders.next = after(first, count_pairs(sides.as_slice()))?;
     let gens = generators(meanings, binders, gens.as_slice())?;
     let last = binders.next;
     binders.next = first;
@@ -383,7 +339,6 @@ fn sides_under(
 }
 
 // A process renamed.
-#[tactic(auto, using(crate::proofs::ProcForms::renaming_forms))]
 #[cycle(typed_proc)]
 fn renaming(
     meanings: &Meanings<'_>,
@@ -412,8 +367,8 @@ fn boxed(
     ensures next { OnOk result (binders.new.next ≡ binders.old.next + tokens tree.now) }
     ensures scope { OnOk result (binders.new.scope ≡ binders.old.scope) }
 {
-    let made = process(meanings, binders, tree)?;
-    Ok(Boxed::new(meanings.alloc, made)?)
+    let made = process(meanings, binders, tree);
+    on_heap(meanings.alloc, made)
 }
 
 // Trees as processes, numbered one after another.
@@ -429,7 +384,8 @@ fn processes(
 {
     let mut made = Items::new(meanings.alloc);
     for tree in trees {
-        made.push(process(meanings, binders, tree)?)?;
+        let part = process(meanings, binders, tree);
+        push_made(&mut made, part)?;
     }
     Ok(made)
 }

@@ -1,7 +1,9 @@
-use Rattle.std.proofs.Common.{◌≡◌, ℕ, ◌+◌, Result, Ok, Err, OnOk, arith}
-use Rattle.typed_trees.proofs.ExprForms.{expr_of-Call, expr_of-Dot, expr_of-Neg, expr_of-Not, expr_of-Binary, expr_of-If, expr_of-Display, expr_of-Range, expr_of-Comp, expr_of-Product, expr_of-SetOp}
+use Rattle.std.proofs.Common.{◌≡◌, ℕ, ◌+◌, Result, Ok, Err, OnOk, take, ◌∙◌, arith}
+use Rattle.typed_trees.proofs.ExprForms.{expr_of-If, expr_of-Comp, expr_of-Product, gen_of-From, gen_scope-From}
 use Rattle.typed_trees.proofs.OtherForms.{expr_of-other}
-use Rattle.typed_trees.proofs.TokenForms.{tokens-Call, tokens-Dot, tokens-Neg, tokens-Not, tokens-Binary, tokens-If, tokens-Display, tokens-Range, tokens-Comp, tokens-Product, tokens-SetOp}
+use Rattle.typed_trees.proofs.TokenForms.{tokens-If, tokens-Comp, tokens-Product, gen_tokens-From}
+use Rattle.typed_trees.proofs.Scopes.{keeps_longer}
+use Rattle.typed_trees.specs.Tokens.{all_tokens, parts_tokens}
 use Rattle.typed_trees.proofs.expressions.+typed_expr.Goals as goal
 
 -- two numbers, and three, that are added one after another
@@ -12,62 +14,6 @@ added (Err e) new n a b h = h
 added_thrice : {A E : Type 0} (r : Result A E) (new n a b c : ℕ) → OnOk r (new ≡ n + a + b + c) → OnOk r (new ≡ n + (a + b + c))
 added_thrice (Ok x) new n a b c h = omega arith
 added_thrice (Err e) new n a b c h = h
-
-pub expression-returns-in-Call : goal.expression-returns-in-Call
-expression-returns-in-Call t c = record {
-  made = rw (c.in-Call.is, expr_of-Call) c.call.ensures.made;
-  next = rw (c.in-Call.is, tokens-Call) c.call.ensures.next;
-  scope = c.call.ensures.scope;
-}
-
-pub expression-returns-in-Dot : goal.expression-returns-in-Dot
-expression-returns-in-Dot t c = record {
-  made = rw (c.in-Dot.is, expr_of-Dot) c.event.ensures.made;
-  next = rw (c.in-Dot.is, tokens-Dot) c.event.ensures.next;
-  scope = c.event.ensures.scope;
-}
-
-pub expression-returns-in-Neg : goal.expression-returns-in-Neg
-expression-returns-in-Neg t c = record {
-  made = rw (c.in-Neg.is, expr_of-Neg) c.negative.ensures.made;
-  next = rw (c.in-Neg.is, tokens-Neg) c.negative.ensures.next;
-  scope = c.negative.ensures.scope;
-}
-
-pub expression-returns-in-Not : goal.expression-returns-in-Not
-expression-returns-in-Not t c = record {
-  made = rw (c.in-Not.is, expr_of-Not) c.opposite.ensures.made;
-  next = rw (c.in-Not.is, tokens-Not) c.opposite.ensures.next;
-  scope = c.opposite.ensures.scope;
-}
-
-pub expression-returns-in-Binary : goal.expression-returns-in-Binary
-expression-returns-in-Binary t c = record {
-  made = rw (c.in-Binary.is, expr_of-Binary) c.binary.ensures.made;
-  next = rw (c.in-Binary.is, tokens-Binary) (added c.binary.result c.binary.new.binders.next c.args.binders.now.next _ _ c.binary.ensures.next);
-  scope = c.binary.ensures.scope;
-}
-
-pub expression-returns-in-If : goal.expression-returns-in-If
-expression-returns-in-If t c = record {
-  made = rw (c.in-If.is, expr_of-If) c.choice.ensures.made;
-  next = rw (c.in-If.is, tokens-If) (added_thrice c.choice.result c.choice.new.binders.next c.args.binders.now.next _ _ _ c.choice.ensures.next);
-  scope = c.choice.ensures.scope;
-}
-
-pub expression-returns-in-Display : goal.expression-returns-in-Display
-expression-returns-in-Display t c = record {
-  made = rw (c.in-Display.is, expr_of-Display) c.display.ensures.made;
-  next = rw (c.in-Display.is, tokens-Display) c.display.ensures.next;
-  scope = c.display.ensures.scope;
-}
-
-pub expression-returns-in-Range : goal.expression-returns-in-Range
-expression-returns-in-Range t c = record {
-  made = rw (c.in-Range.is, expr_of-Range) c.range.ensures.made;
-  next = rw (c.in-Range.is, tokens-Range) (added c.range.result c.range.new.binders.next c.args.binders.now.next _ _ c.range.ensures.next);
-  scope = c.range.ensures.scope;
-}
 
 pub expression-returns-in-Comp : goal.expression-returns-in-Comp
 expression-returns-in-Comp t c = record {
@@ -81,13 +27,6 @@ expression-returns-in-Product t c = record {
   made = rw (c.in-Product.is, expr_of-Product) c.product.ensures.made;
   next = rw (c.in-Product.is, tokens-Product) (added c.product.result c.product.new.binders.next c.args.binders.now.next _ _ c.product.ensures.next);
   scope = c.product.ensures.scope;
-}
-
-pub expression-returns-in-SetOp : goal.expression-returns-in-SetOp
-expression-returns-in-SetOp t c = record {
-  made = rw (c.in-SetOp.is, expr_of-SetOp) c.set_operation.ensures.made;
-  next = rw (c.in-SetOp.is, tokens-SetOp) (added c.set_operation.result c.set_operation.new.binders.next c.args.binders.now.next _ _ c.set_operation.ensures.next);
-  scope = c.set_operation.ensures.scope;
 }
 
 pub expression-returns-in_default : goal.expression-returns-in_default
@@ -114,3 +53,48 @@ expression-returns-in_default t c =
       next = c.no_expression.ensures.next;
       scope = c.no_expression.ensures.scope;
     }
+
+pub expression-returns-in-If : goal.expression-returns-in-If
+expression-returns-in-If t c = record {
+  made = rw (c.in-If.is, expr_of-If) c.choice.ensures.made;
+  next = rw (c.in-If.is, tokens-If) (added_thrice c.choice.result c.choice.new.binders.next c.args.binders.now.next _ _ _ c.choice.ensures.next);
+  scope = c.choice.ensures.scope;
+}
+
+pub comprehension-returns-clause-made : goal.comprehension-returns-clause-made
+comprehension-returns-clause-made t c =
+    let start = c.in_ok-binders.ensures (all_tokens c.as_slice.result.now) c.count_trees.ensures in
+    grind (arith, start)
+
+pub comprehension-returns-clause-next : goal.comprehension-returns-clause-next
+comprehension-returns-clause-next t c =
+    let start = c.in_ok-binders.ensures (all_tokens c.as_slice.result.now) c.count_trees.ensures in
+    grind (arith, start)
+
+pub comprehension-returns-clause-scope : goal.comprehension-returns-clause-scope
+comprehension-returns-clause-scope t c = c.leave.ensures.scope ∙ (λ i. take (c.len-kept.ensures i) (c.in_ok-items.ensures.scope i)) ∙ c.in_ok-gens.ensures.keeps
+
+pub product-returns-clause-made : goal.product-returns-clause-made
+product-returns-clause-made t c =
+    let start = c.in_ok-binders.ensures (parts_tokens c.as_slice.result.now) c.count_parts.ensures in
+    grind (arith, start)
+
+pub product-returns-clause-next : goal.product-returns-clause-next
+product-returns-clause-next t c =
+    let start = c.in_ok-binders.ensures (parts_tokens c.as_slice.result.now) c.count_parts.ensures in
+    grind (arith, start)
+
+pub product-returns-clause-scope : goal.product-returns-clause-scope
+product-returns-clause-scope t c = c.leave.ensures.scope ∙ (λ i. take (c.len-kept.ensures i) (c.in_ok-parts.ensures.scope i)) ∙ c.in_ok-gens.ensures.keeps
+
+pub generator-returns-in_ok-number-in-From-clause-made : goal.generator-returns-in_ok-number-in-From-clause-made
+generator-returns-in_ok-number-in-From-clause-made t c = grind (arith, gen_of-From)
+
+pub generator-returns-in_ok-number-in-From-clause-next : goal.generator-returns-in_ok-number-in-From-clause-next
+generator-returns-in_ok-number-in-From-clause-next t c = grind (arith, gen_tokens-From)
+
+pub generator-returns-in_ok-number-in-From-clause-scope : goal.generator-returns-in_ok-number-in-From-clause-scope
+generator-returns-in_ok-number-in-From-clause-scope t c = grind (arith, gen_scope-From)
+
+pub generator-returns-in_ok-number-in-From-clause-keeps : goal.generator-returns-in_ok-number-in-From-clause-keeps
+generator-returns-in_ok-number-in-From-clause-keeps t c = grind (arith, keeps_longer)

@@ -30,57 +30,39 @@ invariant-fronts-loop-part l = record {
   scope : l.binders.scope ≡ l.initial.binders.scope;
 }
 
--- how deep what is left is, three for each level: a list or a tree on the heap comes above what stands in it, and a form above those
+-- how deep what is left is, four for each level: a list or a tree on the heap comes above what stands in it, two trees above one, and a form above those
 abbrev pub decreases-expression : goal.decreases-expression
-decreases-expression l = 3 * the_size l.tree.now
+decreases-expression l = 4 * the_size l.tree.now
 
 abbrev pub decreases-boxed : goal.decreases-boxed
-decreases-boxed l = 3 * the_size l.tree.now + 1
+decreases-boxed l = 4 * the_size l.tree.now + 1
 
 abbrev pub decreases-generator : goal.decreases-generator
-decreases-generator l = 3 * goal.size-generator l
+decreases-generator l = 4 * goal.size-generator l
 
 abbrev pub decreases-front : goal.decreases-front
-decreases-front l = 3 * goal.size-front l
+decreases-front l = 4 * goal.size-front l
 
 abbrev pub decreases-expressions : goal.decreases-expressions
-decreases-expressions l = 3 * goal.size-expressions l + 1
+decreases-expressions l = 4 * goal.size-expressions l + 1
 
 abbrev pub decreases-generators : goal.decreases-generators
-decreases-generators l = 3 * goal.size-generators l + 1
+decreases-generators l = 4 * goal.size-generators l + 1
 
 abbrev pub decreases-fronts : goal.decreases-fronts
-decreases-fronts l = 3 * goal.size-fronts l + 1
+decreases-fronts l = 4 * goal.size-fronts l + 1
 
-abbrev pub decreases-negative : goal.decreases-negative
-decreases-negative l = 3 * goal.size-negative l + 2
-
-abbrev pub decreases-opposite : goal.decreases-opposite
-decreases-opposite l = 3 * goal.size-opposite l + 2
-
-abbrev pub decreases-call : goal.decreases-call
-decreases-call l = 3 * goal.size-call l + 2
-
-abbrev pub decreases-event : goal.decreases-event
-decreases-event l = 3 * goal.size-event l + 2
-
-abbrev pub decreases-display : goal.decreases-display
-decreases-display l = 3 * goal.size-display l + 2
-
-abbrev pub decreases-binary : goal.decreases-binary
-decreases-binary l = 3 * max (the_size l.a.now) (the_size l.b.now) + 2
-
-abbrev pub decreases-range : goal.decreases-range
-decreases-range l = 3 * max (the_size l.a.now) (the_size l.b.now) + 2
-
-abbrev pub decreases-set_operation : goal.decreases-set_operation
-decreases-set_operation l = 3 * max (the_size l.a.now) (the_size l.b.now) + 2
-
-abbrev pub decreases-choice : goal.decreases-choice
-decreases-choice l = 3 * max (the_size l.c.now) (max (the_size l.a.now) (the_size l.b.now)) + 2
+abbrev pub decreases-two : goal.decreases-two
+decreases-two l = 4 * max (the_size l.a.now) (the_size l.b.now) + 2
 
 abbrev pub decreases-comprehension : goal.decreases-comprehension
-decreases-comprehension l = 3 * max (goal.size-comprehension l) (weighed.most (λ x. generator.the_size x) l.gens.now) + 2
+decreases-comprehension l = 4 * max (goal.size-comprehension l) (weighed.most (λ x. generator.the_size x) l.gens.now) + 2
 
 abbrev pub decreases-product : goal.decreases-product
-decreases-product l = 3 * max (goal.size-product l) (weighed.most (λ x. generator.the_size x) l.gens.now) + 2
+decreases-product l = 4 * max (goal.size-product l) (weighed.most (λ x. generator.the_size x) l.gens.now) + 2
+
+abbrev pub decreases-bind_over : goal.decreases-bind_over
+decreases-bind_over l = 4 * the_size l.set.now + 2
+
+abbrev pub decreases-choice : goal.decreases-choice
+decreases-choice l = 4 * max (the_size l.c.now) (max (the_size l.a.now) (the_size l.b.now)) + 3

@@ -1,11 +1,13 @@
-use Rattle.std.proofs.Common.{◌∙◌}
+use Rattle.std.proofs.Common.{refl, ◌∙◌, arith}
+use Rattle.typed_trees.proofs.NetForms.{net_of-Name, net_of-Call, net_of-If, net_of-Parallel, net_of-EachParallel}
+use Rattle.typed_trees.proofs.TokenForms.{tokens-Name, tokens-Call, tokens-If, tokens-Parallel, tokens-EachParallel}
 use Rattle.typed_trees.proofs.OtherForms.{net_of-other}
 use Rattle.typed_trees.proofs.Scopes.{left_again}
 use Rattle.typed_trees.proofs.networks.+typed_net.Goals as goal
 
 pub each-returns-clause-scope : goal.each-returns-clause-scope
 each-returns-clause-scope t c =
-    left_again _ _ _ _ c.args.binders.now.scope _ _ c.len-kept.ensures (c.in_ok-set.ensures.scope ∙ c.in_ok-number.ensures.scope) c.in_ok-bind.ensures (c.in_ok-p.ensures.scope ∙ c.in_ok-a.ensures.scope)
+    left_again _ _ _ _ c.args.binders.now.scope _ _ c.len-kept.ensures refl c.in_ok-number.ensures.scope (c.in_ok-p.ensures.scope ∙ c.in_ok-a.ensures.scope)
     c.leave.ensures.scope
 
 pub network-returns-in_default : goal.network-returns-in_default
@@ -22,3 +24,33 @@ network-returns-in_default t c =
       next = c.leaf-in_default.ensures.next;
       scope = c.leaf-in_default.ensures.scope;
     }
+
+pub network-returns-in-Name-clause-made : goal.network-returns-in-Name-clause-made
+network-returns-in-Name-clause-made t c = grind (arith, net_of-Name)
+
+pub network-returns-in-Name-clause-next : goal.network-returns-in-Name-clause-next
+network-returns-in-Name-clause-next t c = grind (arith, tokens-Name)
+
+pub network-returns-in-Call-clause-made : goal.network-returns-in-Call-clause-made
+network-returns-in-Call-clause-made t c = grind (arith, net_of-Call)
+
+pub network-returns-in-Call-clause-next : goal.network-returns-in-Call-clause-next
+network-returns-in-Call-clause-next t c = grind (arith, tokens-Call)
+
+pub network-returns-in-If-clause-made : goal.network-returns-in-If-clause-made
+network-returns-in-If-clause-made t c = grind (arith, net_of-If)
+
+pub network-returns-in-If-clause-next : goal.network-returns-in-If-clause-next
+network-returns-in-If-clause-next t c = grind (arith, tokens-If)
+
+pub network-returns-in-Parallel-clause-made : goal.network-returns-in-Parallel-clause-made
+network-returns-in-Parallel-clause-made t c = grind (arith, net_of-Parallel)
+
+pub network-returns-in-Parallel-clause-next : goal.network-returns-in-Parallel-clause-next
+network-returns-in-Parallel-clause-next t c = grind (arith, tokens-Parallel)
+
+pub network-returns-in-EachParallel-clause-made : goal.network-returns-in-EachParallel-clause-made
+network-returns-in-EachParallel-clause-made t c = grind (arith, net_of-EachParallel)
+
+pub network-returns-in-EachParallel-clause-next : goal.network-returns-in-EachParallel-clause-next
+network-returns-in-EachParallel-clause-next t c = grind (arith, tokens-EachParallel)

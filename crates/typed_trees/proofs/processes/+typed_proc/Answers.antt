@@ -1,11 +1,13 @@
-use Rattle.std.proofs.Common.{◌∙◌}
+use Rattle.std.proofs.Common.{take, refl, ◌∙◌, arith}
 use Rattle.typed_trees.proofs.OtherForms.{proc_of-other}
+use Rattle.typed_trees.proofs.ProcForms.{proc_of-EachExternal, proc_of-EachInternal, proc_of-External, proc_of-Guard, proc_of-Hide, proc_of-If, proc_of-Internal, proc_of-Name, proc_of-Prefix, proc_of-Rename, proc_of-Seq, proc_of-Skip, proc_of-Stop}
 use Rattle.typed_trees.proofs.Scopes.{left_again}
+use Rattle.typed_trees.proofs.TokenForms.{tokens-EachExternal, tokens-EachInternal, tokens-External, tokens-Guard, tokens-Hide, tokens-If, tokens-Internal, tokens-Name, tokens-Prefix, tokens-Rename, tokens-Seq, tokens-Skip, tokens-Stop}
 use Rattle.typed_trees.proofs.processes.+typed_proc.Goals as goal
 
 pub for_each-returns-clause-scope : goal.for_each-returns-clause-scope
 for_each-returns-clause-scope t c =
-    left_again _ _ _ _ c.args.binders.now.scope _ _ c.len-kept.ensures (c.in_ok-set.ensures.scope ∙ c.in_ok-number.ensures.scope) c.in_ok-bind.ensures c.in_ok-p.ensures.scope c.leave.ensures.scope
+    left_again _ _ _ _ c.args.binders.now.scope _ _ c.len-kept.ensures refl c.in_ok-number.ensures.scope c.in_ok-p.ensures.scope c.leave.ensures.scope
 
 pub process-returns-in-Call : goal.process-returns-in-Call
 process-returns-in-Call t c = record {
@@ -33,34 +35,6 @@ process-returns-in-Guard t c = record {
   made = rw c.in-Guard.is c.guard.ensures.made;
   next = rw c.in-Guard.is c.guard.ensures.next;
   scope = c.guard.ensures.scope;
-}
-
-pub process-returns-in-External : goal.process-returns-in-External
-process-returns-in-External t c = record {
-  made = rw c.in-External.is c.external.ensures.made;
-  next = rw c.in-External.is c.external.ensures.next;
-  scope = c.external.ensures.scope;
-}
-
-pub process-returns-in-Internal : goal.process-returns-in-Internal
-process-returns-in-Internal t c = record {
-  made = rw c.in-Internal.is c.internal.ensures.made;
-  next = rw c.in-Internal.is c.internal.ensures.next;
-  scope = c.internal.ensures.scope;
-}
-
-pub process-returns-in-EachExternal : goal.process-returns-in-EachExternal
-process-returns-in-EachExternal t c = record {
-  made = rw c.in-EachExternal.is c.each_external.ensures.made;
-  next = rw c.in-EachExternal.is c.each_external.ensures.next;
-  scope = c.each_external.ensures.scope;
-}
-
-pub process-returns-in-EachInternal : goal.process-returns-in-EachInternal
-process-returns-in-EachInternal t c = record {
-  made = rw c.in-EachInternal.is c.each_internal.ensures.made;
-  next = rw c.in-EachInternal.is c.each_internal.ensures.next;
-  scope = c.each_internal.ensures.scope;
 }
 
 pub process-returns-in-Seq : goal.process-returns-in-Seq
@@ -106,3 +80,84 @@ process-returns-in_default t c =
       next = c.no_process.ensures.next;
       scope = c.no_process.ensures.scope;
     }
+
+pub choice-returns-clause-made : goal.choice-returns-clause-made
+choice-returns-clause-made t c = grind (arith, proc_of-If)
+
+pub choice-returns-clause-next : goal.choice-returns-clause-next
+choice-returns-clause-next t c = grind (arith, tokens-If)
+
+pub prefix-returns-clause-made : goal.prefix-returns-clause-made
+prefix-returns-clause-made t c = grind (arith, proc_of-Prefix)
+
+pub prefix-returns-clause-next : goal.prefix-returns-clause-next
+prefix-returns-clause-next t c = grind (arith, tokens-Prefix)
+
+pub guard-returns-clause-made : goal.guard-returns-clause-made
+guard-returns-clause-made t c = grind (arith, proc_of-Guard)
+
+pub guard-returns-clause-next : goal.guard-returns-clause-next
+guard-returns-clause-next t c = grind (arith, tokens-Guard)
+
+pub sequence-returns-clause-made : goal.sequence-returns-clause-made
+sequence-returns-clause-made t c = grind (arith, proc_of-Seq)
+
+pub sequence-returns-clause-next : goal.sequence-returns-clause-next
+sequence-returns-clause-next t c = grind (arith, tokens-Seq)
+
+pub hiding-returns-clause-made : goal.hiding-returns-clause-made
+hiding-returns-clause-made t c = grind (arith, proc_of-Hide)
+
+pub hiding-returns-clause-next : goal.hiding-returns-clause-next
+hiding-returns-clause-next t c = grind (arith, tokens-Hide)
+
+pub renaming-returns-clause-made : goal.renaming-returns-clause-made
+renaming-returns-clause-made t c = grind (arith, proc_of-Rename)
+
+pub renaming-returns-clause-next : goal.renaming-returns-clause-next
+renaming-returns-clause-next t c = grind (arith, tokens-Rename)
+
+pub prefix-returns-clause-scope : goal.prefix-returns-clause-scope
+prefix-returns-clause-scope t c = c.leave.ensures.scope ∙ (λ i. take (c.len-kept.ensures i) (c.in_ok-p.ensures.scope i)) ∙ c.in_ok-fields.ensures.keeps
+
+pub process-returns-in-Stop-clause-made : goal.process-returns-in-Stop-clause-made
+process-returns-in-Stop-clause-made t c = grind (arith, proc_of-Stop)
+
+pub process-returns-in-Stop-clause-next : goal.process-returns-in-Stop-clause-next
+process-returns-in-Stop-clause-next t c = grind (arith, tokens-Stop)
+
+pub process-returns-in-Skip-clause-made : goal.process-returns-in-Skip-clause-made
+process-returns-in-Skip-clause-made t c = grind (arith, proc_of-Skip)
+
+pub process-returns-in-Skip-clause-next : goal.process-returns-in-Skip-clause-next
+process-returns-in-Skip-clause-next t c = grind (arith, tokens-Skip)
+
+pub process-returns-in-Name-clause-made : goal.process-returns-in-Name-clause-made
+process-returns-in-Name-clause-made t c = grind (arith, proc_of-Name)
+
+pub process-returns-in-Name-clause-next : goal.process-returns-in-Name-clause-next
+process-returns-in-Name-clause-next t c = grind (arith, tokens-Name)
+
+pub process-returns-in_ok-ps-in-External-clause-made : goal.process-returns-in_ok-ps-in-External-clause-made
+process-returns-in_ok-ps-in-External-clause-made t c = grind (arith, proc_of-External)
+
+pub process-returns-in_ok-ps-in-External-clause-next : goal.process-returns-in_ok-ps-in-External-clause-next
+process-returns-in_ok-ps-in-External-clause-next t c = grind (arith, tokens-External)
+
+pub process-returns-in_ok-ps-in-Internal-clause-made : goal.process-returns-in_ok-ps-in-Internal-clause-made
+process-returns-in_ok-ps-in-Internal-clause-made t c = grind (arith, proc_of-Internal)
+
+pub process-returns-in_ok-ps-in-Internal-clause-next : goal.process-returns-in_ok-ps-in-Internal-clause-next
+process-returns-in_ok-ps-in-Internal-clause-next t c = grind (arith, tokens-Internal)
+
+pub process-returns-in_ok-number-in-EachExternal-clause-made : goal.process-returns-in_ok-number-in-EachExternal-clause-made
+process-returns-in_ok-number-in-EachExternal-clause-made t c = grind (arith, proc_of-EachExternal)
+
+pub process-returns-in_ok-number-in-EachExternal-clause-next : goal.process-returns-in_ok-number-in-EachExternal-clause-next
+process-returns-in_ok-number-in-EachExternal-clause-next t c = grind (arith, tokens-EachExternal)
+
+pub process-returns-in_ok-number-in-EachInternal-clause-made : goal.process-returns-in_ok-number-in-EachInternal-clause-made
+process-returns-in_ok-number-in-EachInternal-clause-made t c = grind (arith, proc_of-EachInternal)
+
+pub process-returns-in_ok-number-in-EachInternal-clause-next : goal.process-returns-in_ok-number-in-EachInternal-clause-next
+process-returns-in_ok-number-in-EachInternal-clause-next t c = grind (arith, tokens-EachInternal)

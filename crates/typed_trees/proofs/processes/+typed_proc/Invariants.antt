@@ -22,12 +22,6 @@ decreases-boxed l = 4 * the_size l.tree.now + 1
 abbrev pub decreases-processes : goal.decreases-processes
 decreases-processes l = 4 * goal.size-processes l + 1
 
-abbrev pub decreases-external : goal.decreases-external
-decreases-external l = 4 * goal.size-external l + 2
-
-abbrev pub decreases-internal : goal.decreases-internal
-decreases-internal l = 4 * goal.size-internal l + 2
-
 abbrev pub decreases-prefix : goal.decreases-prefix
 decreases-prefix l = 4 * the_size l.p.now + 2
 
@@ -42,12 +36,6 @@ decreases-hiding l = 4 * the_size l.p.now + 2
 
 abbrev pub decreases-renaming : goal.decreases-renaming
 decreases-renaming l = 4 * the_size l.p.now + 2
-
-abbrev pub decreases-each_external : goal.decreases-each_external
-decreases-each_external l = 4 * the_size l.p.now + 3
-
-abbrev pub decreases-each_internal : goal.decreases-each_internal
-decreases-each_internal l = 4 * the_size l.p.now + 3
 
 abbrev pub decreases-choice : goal.decreases-choice
 decreases-choice l = 4 * max (the_size l.p.now) (the_size l.q.now) + 2
