@@ -5,3 +5,4 @@ pub mod FormsLemmas
 pub mod NumbersLemmas
 pub mod PlacedLemmas
 pub mod SymbolsLemmas
+pub mod WordsLemmas

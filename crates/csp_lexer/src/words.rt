@@ -28,6 +28,9 @@ pub(crate) fn word_len(text: &[u8]) -> usize
     }
 }
 
+// No reserved word is shorter, and many names are.
+const SHORTEST_WORD: usize = 2;
+
 // The words that the language reserves.
 const WORDS: [Word; 17] = [
     Word::And,
@@ -53,6 +56,9 @@ const WORDS: [Word; 17] = [
 pub(crate) fn reserved_word(bytes: &[u8]) -> Option<Word>
     ensures { result ≡ reserved_word bytes.now }
 {
+    if bytes.len() < SHORTEST_WORD {
+        return None;
+    }
     WORDS
         .iter()
         .find(|word| bytes == word_text(**word))
@@ -77,6 +83,9 @@ const FOREIGN_WORDS: [&[u8]; 10] = [
 pub(crate) fn is_foreign(word: &[u8]) -> bool
     ensures { result ≡ is_foreign word.now }
 {
+    if word.len() < SHORTEST_WORD {
+        return false;
+    }
     FOREIGN_WORDS.iter().any(|foreign| word == *foreign)
 }
 
