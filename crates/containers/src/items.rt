@@ -1,4 +1,4 @@
-ghost use Rattle.std.specs.Prelude.{◌≡◌, ◌<◌, ◌≤◌, ◌↔◌, [], ◌∷◌, ◌++◌, length, insert, slice_get, IsTrue, IfOk, MatchOption, OnOk, OnErr};
+ghost use Rattle.std.specs.Prelude.{◌≡◌, ◌<◌, ◌≤◌, ◌↔◌, [], ◌∷◌, ◌++◌, length, insert, slice_get, IsTrue, IfOk, IsOkAnd, MatchOption, OnOk, OnErr};
 ghost use Rattle.std.specs.Option.{option_copied};
 ghost use Rattle.std.specs.Cmp.Lexicographic.{pointwise, lists_equiv, lists_per};
 ghost use Rattle.std.specs.Hash as fed;
@@ -98,6 +98,16 @@ impl<T: Drop> Items<T> {
         ensures ok { OnOk result (self.new ≡ self.old ++ item ∷ []) }
         ensures err { OnErr result (self.new ≡ self.old) }
     {
+        self.items.push(item)?;
+        Ok(())
+    }
+
+    /// Puts what was made at the end. Where it could not be made, or there is no memory for it, the items stay as they are.
+    pub fn push_made(&mut self, made: Result<T, AllocError>) -> Result<(), AllocError>
+        ensures ok { OnOk result (IsOkAnd made (λ item. self.new ≡ self.old ++ item ∷ [])) }
+        ensures err { OnErr result (self.new ≡ self.old) }
+    {
+        let item = made?;
         self.items.push(item)?;
         Ok(())
     }
