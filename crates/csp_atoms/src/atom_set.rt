@@ -69,7 +69,7 @@ impl AtomSet {
         ensures { IfOk result (λ found. found ≡ event_numbers self.now) }
     {
         match sorted::events(alloc, self.atoms.as_slice())? {
-            Some(events) => Ok(Some(EventSet::from_sorted(alloc, &events)?)),
+            Some(events) => EventSet::from_sorted(alloc, &events).map(Some),
             None => Ok(None),
         }
     }

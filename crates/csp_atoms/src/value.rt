@@ -23,7 +23,7 @@ impl Value {
     {
         match self {
             Value::One(atom) => Ok(Value::One(*atom)),
-            Value::Many(atoms) => Ok(Value::Many(atoms.try_clone(alloc)?)),
+            Value::Many(atoms) => atoms.try_clone(alloc).map(Value::Many),
         }
     }
 }
