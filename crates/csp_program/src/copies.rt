@@ -26,46 +26,24 @@ pub fn copy_expr(alloc: Global, expr: &Expr) -> Result<Expr, NoMemory>
         Expr::Truth(truth) => Ok(Expr::Truth(*truth)),
         Expr::Const(number) => Ok(Expr::Const(*number)),
         Expr::Bound(slot) => Ok(Expr::Bound(*slot)),
-        Expr::Lit(value) => literal(alloc, value),
-        Expr::Neg(a) => negative(alloc, a),
-        Expr::Not(a) => opposite(alloc, a),
+        Expr::Lit(value) => copy_value(alloc, value).map(Expr::Lit),
+        Expr::Neg(a) => copy_boxed_expr(alloc, a.get()).map(Expr::Neg),
+        Expr::Not(a) => copy_boxed_expr(alloc, a.get()).map(Expr::Not),
         Expr::Binary(op, a, b) => binary(alloc, *op, a, b),
         Expr::If(c, a, b) => choice(alloc, c, a, b),
-        Expr::Call(def, args) => call(alloc, *def, args),
+        Expr::Call(def, args) => {
+            copy_exprs(alloc, args.as_slice()).map(|args| Expr::Call(*def, args))
+        }
         Expr::SetName(def) => Ok(Expr::SetName(*def)),
-        Expr::Event(channel, fields) => event(alloc, *channel, fields),
-        Expr::Display(items) => display(alloc, items),
+        Expr::Event(channel, fields) => {
+            copy_exprs(alloc, fields.as_slice()).map(|fields| Expr::Event(*channel, fields))
+        }
+        Expr::Display(items) => copy_exprs(alloc, items.as_slice()).map(Expr::Display),
         Expr::Range(a, b) => range(alloc, a, b),
         Expr::Comp(items, gens) => comprehension(alloc, items, gens),
         Expr::Product(parts, gens) => product(alloc, parts, gens),
         Expr::SetOp(op, a, b) => set_operation(alloc, *op, a, b),
     }
-}
-
-// A value that was put in.
-fn literal(alloc: Global, value: &Value) -> Result<Expr, NoMemory>
-    ensures { IfOk result (λ copy. copy ≡ Expr.Lit value.now) }
-{
-    let value = copy_value(alloc, value)?;
-    Ok(Expr::Lit(value))
-}
-
-// The negative of an expression.
-#[cycle(copy_expr)]
-fn negative(alloc: Global, a: &Boxed<Expr>) -> Result<Expr, NoMemory>
-    ensures { IfOk result (λ copy. copy ≡ Expr.Neg a.now) }
-{
-    let a = copy_boxed_expr(alloc, a.get())?;
-    Ok(Expr::Neg(a))
-}
-
-// The opposite of a condition.
-#[cycle(copy_expr)]
-fn opposite(alloc: Global, a: &Boxed<Expr>) -> Result<Expr, NoMemory>
-    ensures { IfOk result (λ copy. copy ≡ Expr.Not a.now) }
-{
-    let a = copy_boxed_expr(alloc, a.get())?;
-    Ok(Expr::Not(a))
 }
 
 // An operator between two operands.
@@ -119,33 +97,6 @@ fn set_operation(
     Ok(Expr::SetOp(op, a, b))
 }
 
-// The use of a definition with arguments.
-#[cycle(copy_expr)]
-fn call(alloc: Global, def: u32, args: &Items<Expr>) -> Result<Expr, NoMemory>
-    ensures { IfOk result (λ copy. copy ≡ Expr.Call def args.now) }
-{
-    let args = copy_exprs(alloc, args.as_slice())?;
-    Ok(Expr::Call(def, args))
-}
-
-// The event of a channel with fields.
-#[cycle(copy_expr)]
-fn event(alloc: Global, channel: u32, fields: &Items<Expr>) -> Result<Expr, NoMemory>
-    ensures { IfOk result (λ copy. copy ≡ Expr.Event channel fields.now) }
-{
-    let fields = copy_exprs(alloc, fields.as_slice())?;
-    Ok(Expr::Event(channel, fields))
-}
-
-// The set of some expressions.
-#[cycle(copy_expr)]
-fn display(alloc: Global, items: &Items<Expr>) -> Result<Expr, NoMemory>
-    ensures { IfOk result (λ copy. copy ≡ Expr.Display items.now) }
-{
-    let items = copy_exprs(alloc, items.as_slice())?;
-    Ok(Expr::Display(items))
-}
-
 // The set of some expressions under generators.
 #[cycle(copy_expr)]
 fn comprehension(alloc: Global, items: &Items<Expr>, gens: &Items<Gen>) -> Result<Expr, NoMemory>
@@ -171,8 +122,7 @@ fn product(alloc: Global, parts: &Items<EventPart>, gens: &Items<Gen>) -> Result
 pub fn copy_boxed_expr(alloc: Global, expr: &Expr) -> Result<Boxed<Expr>, NoMemory>
     ensures { IfOk result (λ copy. copy ≡ expr.now) }
 {
-    let copy = copy_expr(alloc, expr)?;
-    Ok(Boxed::new(alloc, copy)?)
+    copy_expr(alloc, expr).and_then(|copy| Boxed::new(alloc, copy))
 }
 
 /// The same expressions.
@@ -182,7 +132,7 @@ pub fn copy_exprs(alloc: Global, exprs: &[Expr]) -> Result<Items<Expr>, NoMemory
 {
     let mut copies = Items::new(alloc);
     for expr in exprs {
-        copies.push(copy_expr(alloc, expr)?)?;
+        copies.push_made(copy_expr(alloc, expr))?;
     }
     Ok(copies)
 }
@@ -193,8 +143,8 @@ pub fn copy_gen(alloc: Global, generator: &Gen) -> Result<Gen, NoMemory>
     ensures { IfOk result (λ copy. copy ≡ generator.now) }
 {
     match generator {
-        Gen::From(slot, set) => Ok(Gen::From(*slot, copy_expr(alloc, set)?)),
-        Gen::Cond(condition) => Ok(Gen::Cond(copy_expr(alloc, condition)?)),
+        Gen::From(slot, set) => copy_expr(alloc, set).map(|set| Gen::From(*slot, set)),
+        Gen::Cond(condition) => copy_expr(alloc, condition).map(Gen::Cond),
     }
 }
 
@@ -205,7 +155,7 @@ pub fn copy_gens(alloc: Global, gens: &[Gen]) -> Result<Items<Gen>, NoMemory>
 {
     let mut copies = Items::new(alloc);
     for generator in gens {
-        copies.push(copy_gen(alloc, generator)?)?;
+        copies.push_made(copy_gen(alloc, generator))?;
     }
     Ok(copies)
 }
@@ -215,8 +165,7 @@ pub fn copy_gens(alloc: Global, gens: &[Gen]) -> Result<Items<Gen>, NoMemory>
 pub fn copy_part(alloc: Global, part: &EventPart) -> Result<EventPart, NoMemory>
     ensures { IfOk result (λ copy. copy ≡ part.now) }
 {
-    let fields = copy_exprs(alloc, part.fields.as_slice())?;
-    Ok(EventPart {
+    copy_exprs(alloc, part.fields.as_slice()).map(|fields| EventPart {
         channel: part.channel,
         fields,
     })
@@ -229,7 +178,7 @@ pub fn copy_parts(alloc: Global, parts: &[EventPart]) -> Result<Items<EventPart>
 {
     let mut copies = Items::new(alloc);
     for part in parts {
-        copies.push(copy_part(alloc, part)?)?;
+        copies.push_made(copy_part(alloc, part))?;
     }
     Ok(copies)
 }
@@ -241,7 +190,7 @@ pub fn copy_head(alloc: Global, head: &Head) -> Result<Head, NoMemory>
     match head {
         Head::Channel(channel) => Ok(Head::Channel(*channel)),
         Head::Bound(slot) => Ok(Head::Bound(*slot)),
-        Head::Put(value) => Ok(Head::Put(copy_value(alloc, value)?)),
+        Head::Put(value) => copy_value(alloc, value).map(Head::Put),
     }
 }
 
@@ -250,9 +199,11 @@ pub fn copy_field(alloc: Global, field: &Field) -> Result<Field, NoMemory>
     ensures { IfOk result (λ copy. copy ≡ field.now) }
 {
     match field {
-        Field::Put(expr) => Ok(Field::Put(copy_expr(alloc, expr)?)),
+        Field::Put(expr) => copy_expr(alloc, expr).map(Field::Put),
         Field::Get(slot, None) => Ok(Field::Get(*slot, None)),
-        Field::Get(slot, Some(set)) => Ok(Field::Get(*slot, Some(copy_expr(alloc, set)?))),
+        Field::Get(slot, Some(set)) => {
+            copy_expr(alloc, set).map(|set| Field::Get(*slot, Some(set)))
+        }
     }
 }
 
@@ -262,7 +213,7 @@ pub fn copy_fields(alloc: Global, fields: &[Field]) -> Result<Items<Field>, NoMe
 {
     let mut copies = Items::new(alloc);
     for field in fields {
-        copies.push(copy_field(alloc, field)?)?;
+        copies.push_made(copy_field(alloc, field))?;
     }
     Ok(copies)
 }
@@ -288,7 +239,7 @@ pub fn copy_pairs(
 {
     let mut copies = Items::new(alloc);
     for pair in pairs {
-        copies.push(copy_pair(alloc, pair)?)?;
+        copies.push_made(copy_pair(alloc, pair))?;
     }
     Ok(copies)
 }

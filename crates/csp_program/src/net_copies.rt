@@ -6,7 +6,6 @@ use crate::copies::{copy_boxed_expr, copy_expr, copy_exprs};
 use crate::expressions::Expr;
 use crate::networks::Net;
 use crate::proc_copies::copy_proc;
-use crate::processes::Proc;
 use containers::{Boxed, Items};
 use csp_base::NoMemory;
 use std::alloc::Global;
@@ -17,7 +16,7 @@ pub fn copy_net(alloc: Global, net: &Net) -> Result<Net, NoMemory>
     ensures { IfOk result (λ copy. copy ≡ net.now) }
 {
     match net {
-        Net::Leaf(proc) => leaf(alloc, proc),
+        Net::Leaf(proc) => copy_proc(alloc, proc).map(Net::Leaf),
         Net::Call(def, args) => call(alloc, *def, args),
         Net::If(c, n, m) => choice(alloc, c, n, m),
         Net::Pair(n, left, right, m) => parallel(alloc, n, left, right, m),
@@ -25,20 +24,11 @@ pub fn copy_net(alloc: Global, net: &Net) -> Result<Net, NoMemory>
     }
 }
 
-// A component.
-fn leaf(alloc: Global, proc: &Proc) -> Result<Net, NoMemory>
-    ensures { IfOk result (λ copy. copy ≡ Net.Leaf proc.now) }
-{
-    let proc = copy_proc(alloc, proc)?;
-    Ok(Net::Leaf(proc))
-}
-
 // The use of a network definition with arguments.
 fn call(alloc: Global, def: u32, args: &Items<Expr>) -> Result<Net, NoMemory>
     ensures { IfOk result (λ copy. copy ≡ Net.Call def args.now) }
 {
-    let args = copy_exprs(alloc, args.as_slice())?;
-    Ok(Net::Call(def, args))
+    copy_exprs(alloc, args.as_slice()).map(|args| Net::Call(def, args))
 }
 
 // One of the networks `n` and `m`.
@@ -48,8 +38,7 @@ fn choice(alloc: Global, c: &Expr, n: &Boxed<Net>, m: &Boxed<Net>) -> Result<Net
 {
     let n = copy_boxed_net(alloc, n.get())?;
     let m = copy_boxed_net(alloc, m.get())?;
-    let c = copy_expr(alloc, c)?;
-    Ok(Net::If(c, n, m))
+    copy_expr(alloc, c).map(|c| Net::If(c, n, m))
 }
 
 // The networks `n` and `m` in parallel.
@@ -65,9 +54,12 @@ fn parallel(
 {
     let n = copy_boxed_net(alloc, n.get())?;
     let m = copy_boxed_net(alloc, m.get())?;
-    let left = copy_boxed_expr(alloc, left)?;
-    let right = copy_expr(alloc, right)?;
-    Ok(Net::Pair(n, left.into_inner(), right, m))
+    copy_two_exprs(alloc, left, right).map(|(left, right)| Net::Pair(
+        n,
+        left.into_inner(),
+        right.into_inner(),
+        m,
+    ))
 }
 
 // Networks in parallel over the values of a set.
@@ -82,9 +74,25 @@ fn each(
     ensures { IfOk result (λ copy. copy ≡ Net.Each slot set.now alphabet.now n.now) }
 {
     let n = copy_boxed_net(alloc, n.get())?;
-    let set = copy_boxed_expr(alloc, set)?;
-    let alphabet = copy_expr(alloc, alphabet)?;
-    Ok(Net::Each(slot, set.into_inner(), alphabet, n))
+    copy_two_exprs(alloc, set, alphabet).map(|(set, alphabet)| Net::Each(
+        slot,
+        set.into_inner(),
+        alphabet.into_inner(),
+        n,
+    ))
+}
+
+// The same two expressions, on the heap.
+fn copy_two_exprs(
+    alloc: Global,
+    first: &Expr,
+    second: &Expr,
+) -> Result<(Boxed<Expr>, Boxed<Expr>), NoMemory>
+    ensures first { IfOk result (λ copies. copies.0 ≡ first.now) }
+    ensures second { IfOk result (λ copies. copies.1 ≡ second.now) }
+{
+    let first = copy_boxed_expr(alloc, first)?;
+    copy_boxed_expr(alloc, second).map(|second| (first, second))
 }
 
 /// The same network, on the heap.
@@ -92,6 +100,5 @@ fn each(
 pub fn copy_boxed_net(alloc: Global, net: &Net) -> Result<Boxed<Net>, NoMemory>
     ensures { IfOk result (λ copy. copy ≡ net.now) }
 {
-    let copy = copy_net(alloc, net)?;
-    Ok(Boxed::new(alloc, copy)?)
+    copy_net(alloc, net).and_then(|copy| Boxed::new(alloc, copy))
 }

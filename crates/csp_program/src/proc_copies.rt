@@ -19,13 +19,15 @@ pub fn copy_proc(alloc: Global, proc: &Proc) -> Result<Proc, NoMemory>
         Proc::Prefix(head, fields, p) => prefix(alloc, head, fields, p),
         Proc::Guard(c, p) => guard(alloc, c, p),
         Proc::If(c, p, q) => choice(alloc, c, p, q),
-        Proc::External(procs) => external(alloc, procs),
-        Proc::Internal(procs) => internal(alloc, procs),
+        Proc::External(procs) => copy_procs(alloc, procs.as_slice()).map(Proc::External),
+        Proc::Internal(procs) => copy_procs(alloc, procs.as_slice()).map(Proc::Internal),
         Proc::EachExternal(slot, set, p) => each_external(alloc, *slot, set, p),
         Proc::EachInternal(slot, set, p) => each_internal(alloc, *slot, set, p),
         Proc::Hide(p, set) => hiding(alloc, p, set),
         Proc::Rename(p, pairs, gens) => renaming(alloc, p, pairs, gens),
-        Proc::Call(def, args) => call(alloc, *def, args),
+        Proc::Call(def, args) => {
+            copy_exprs(alloc, args.as_slice()).map(|args| Proc::Call(*def, args))
+        }
         Proc::Skip => Ok(Proc::Skip),
         Proc::Seq(p, q) => sequence(alloc, p, q),
         Proc::Ended => Ok(Proc::Ended),
@@ -44,8 +46,7 @@ fn prefix(
 {
     let p = copy_boxed_proc(alloc, p.get())?;
     let fields = copy_fields(alloc, fields.as_slice())?;
-    let head = copy_head(alloc, head)?;
-    Ok(Proc::Prefix(head, fields, p))
+    copy_head(alloc, head).map(|head| Proc::Prefix(head, fields, p))
 }
 
 // The process `p` under a condition.
@@ -54,8 +55,7 @@ fn guard(alloc: Global, c: &Expr, p: &Boxed<Proc>) -> Result<Proc, NoMemory>
     ensures { IfOk result (λ copy. copy ≡ Proc.Guard c.now p.now) }
 {
     let p = copy_boxed_proc(alloc, p.get())?;
-    let c = copy_expr(alloc, c)?;
-    Ok(Proc::Guard(c, p))
+    copy_expr(alloc, c).map(|c| Proc::Guard(c, p))
 }
 
 // One of the processes `p` and `q`.
@@ -65,26 +65,7 @@ fn choice(alloc: Global, c: &Expr, p: &Boxed<Proc>, q: &Boxed<Proc>) -> Result<P
 {
     let p = copy_boxed_proc(alloc, p.get())?;
     let q = copy_boxed_proc(alloc, q.get())?;
-    let c = copy_expr(alloc, c)?;
-    Ok(Proc::If(c, p, q))
-}
-
-// The external choice of some processes.
-#[cycle(copy_proc)]
-fn external(alloc: Global, procs: &Items<Proc>) -> Result<Proc, NoMemory>
-    ensures { IfOk result (λ copy. copy ≡ Proc.External procs.now) }
-{
-    let procs = copy_procs(alloc, procs.as_slice())?;
-    Ok(Proc::External(procs))
-}
-
-// The internal choice of some processes.
-#[cycle(copy_proc)]
-fn internal(alloc: Global, procs: &Items<Proc>) -> Result<Proc, NoMemory>
-    ensures { IfOk result (λ copy. copy ≡ Proc.Internal procs.now) }
-{
-    let procs = copy_procs(alloc, procs.as_slice())?;
-    Ok(Proc::Internal(procs))
+    copy_expr(alloc, c).map(|c| Proc::If(c, p, q))
 }
 
 // An external choice over the values of a set.
@@ -93,8 +74,7 @@ fn each_external(alloc: Global, slot: u32, set: &Expr, p: &Boxed<Proc>) -> Resul
     ensures { IfOk result (λ copy. copy ≡ Proc.EachExternal slot set.now p.now) }
 {
     let p = copy_boxed_proc(alloc, p.get())?;
-    let set = copy_expr(alloc, set)?;
-    Ok(Proc::EachExternal(slot, set, p))
+    copy_expr(alloc, set).map(|set| Proc::EachExternal(slot, set, p))
 }
 
 // An internal choice over the values of a set.
@@ -103,8 +83,7 @@ fn each_internal(alloc: Global, slot: u32, set: &Expr, p: &Boxed<Proc>) -> Resul
     ensures { IfOk result (λ copy. copy ≡ Proc.EachInternal slot set.now p.now) }
 {
     let p = copy_boxed_proc(alloc, p.get())?;
-    let set = copy_expr(alloc, set)?;
-    Ok(Proc::EachInternal(slot, set, p))
+    copy_expr(alloc, set).map(|set| Proc::EachInternal(slot, set, p))
 }
 
 // The process `p` with a set hidden.
@@ -113,8 +92,7 @@ fn hiding(alloc: Global, p: &Boxed<Proc>, set: &Expr) -> Result<Proc, NoMemory>
     ensures { IfOk result (λ copy. copy ≡ Proc.Hide p.now set.now) }
 {
     let p = copy_boxed_proc(alloc, p.get())?;
-    let set = copy_expr(alloc, set)?;
-    Ok(Proc::Hide(p, set))
+    copy_expr(alloc, set).map(|set| Proc::Hide(p, set))
 }
 
 // The process `p` renamed.
@@ -129,16 +107,7 @@ fn renaming(
 {
     let p = copy_boxed_proc(alloc, p.get())?;
     let pairs = copy_pairs(alloc, pairs.as_slice())?;
-    let gens = copy_gens(alloc, gens.as_slice())?;
-    Ok(Proc::Rename(p, pairs, gens))
-}
-
-// The use of a definition with arguments.
-fn call(alloc: Global, def: u32, args: &Items<Expr>) -> Result<Proc, NoMemory>
-    ensures { IfOk result (λ copy. copy ≡ Proc.Call def args.now) }
-{
-    let args = copy_exprs(alloc, args.as_slice())?;
-    Ok(Proc::Call(def, args))
+    copy_gens(alloc, gens.as_slice()).map(|gens| Proc::Rename(p, pairs, gens))
 }
 
 // The process `q` after the process `p`.
@@ -156,8 +125,7 @@ fn sequence(alloc: Global, p: &Boxed<Proc>, q: &Boxed<Proc>) -> Result<Proc, NoM
 pub fn copy_boxed_proc(alloc: Global, proc: &Proc) -> Result<Boxed<Proc>, NoMemory>
     ensures { IfOk result (λ copy. copy ≡ proc.now) }
 {
-    let copy = copy_proc(alloc, proc)?;
-    Ok(Boxed::new(alloc, copy)?)
+    copy_proc(alloc, proc).and_then(|copy| Boxed::new(alloc, copy))
 }
 
 /// The same processes.
@@ -167,7 +135,7 @@ pub fn copy_procs(alloc: Global, procs: &[Proc]) -> Result<Items<Proc>, NoMemory
 {
     let mut copies = Items::new(alloc);
     for proc in procs {
-        copies.push(copy_proc(alloc, proc)?)?;
+        copies.push_made(copy_proc(alloc, proc))?;
     }
     Ok(copies)
 }

@@ -36,12 +36,6 @@ decreases-copy_gens l = 3 * goal.size-copy_gens l + 1
 abbrev pub decreases-copy_parts : goal.decreases-copy_parts
 decreases-copy_parts l = 3 * goal.size-copy_parts l + 1
 
-abbrev pub decreases-negative : goal.decreases-negative
-decreases-negative l = 3 * (the_size l.a.now) + 2
-
-abbrev pub decreases-opposite : goal.decreases-opposite
-decreases-opposite l = 3 * (the_size l.a.now) + 2
-
 abbrev pub decreases-binary : goal.decreases-binary
 decreases-binary l = 3 * (max (the_size l.a.now) (the_size l.b.now)) + 2
 
@@ -53,15 +47,6 @@ decreases-range l = 3 * (max (the_size l.a.now) (the_size l.b.now)) + 2
 
 abbrev pub decreases-set_operation : goal.decreases-set_operation
 decreases-set_operation l = 3 * (max (the_size l.a.now) (the_size l.b.now)) + 2
-
-abbrev pub decreases-call : goal.decreases-call
-decreases-call l = 3 * goal.size-call l + 2
-
-abbrev pub decreases-event : goal.decreases-event
-decreases-event l = 3 * goal.size-event l + 2
-
-abbrev pub decreases-display : goal.decreases-display
-decreases-display l = 3 * goal.size-display l + 2
 
 abbrev pub decreases-comprehension : goal.decreases-comprehension
 decreases-comprehension l = 3 * max (goal.size-comprehension l) (weighed.most (λ x. generator.the_size x) l.gens.now) + 2

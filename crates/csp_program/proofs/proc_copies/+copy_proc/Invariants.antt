@@ -16,12 +16,6 @@ decreases-copy_boxed_proc l = 3 * the_size l.proc.now + 1
 abbrev pub decreases-copy_procs : goal.decreases-copy_procs
 decreases-copy_procs l = 3 * goal.size-copy_procs l + 1
 
-abbrev pub decreases-external : goal.decreases-external
-decreases-external l = 3 * goal.size-external l + 2
-
-abbrev pub decreases-internal : goal.decreases-internal
-decreases-internal l = 3 * goal.size-internal l + 2
-
 abbrev pub decreases-prefix : goal.decreases-prefix
 decreases-prefix l = 3 * the_size l.p.now + 2
 
