@@ -92,6 +92,7 @@ struct ResourceWords<'a> {
 }
 
 // The five names that the bytes are.
+#[tactic(auto, unfolding(crate::specs::Annotations::roles))]
 fn roles_words(bytes: &[u8]) -> Option<RolesWords<'_>>
     ensures { MatchOption result (roles bytes.now ≡ None)
         (λ w. roles bytes.now ≡ Some (token.Roles (record { process = w.process.now; creq = w.creq.now; cack = w.cack.now; sreq = w.sreq.now; sack = w.sack.now }))) }
@@ -111,10 +112,7 @@ fn roles_words(bytes: &[u8]) -> Option<RolesWords<'_>>
     let Some((sack, rest)) = next_name(rest) else {
         return None;
     };
-    if !is_end(rest) {
-        return None;
-    }
-    Some(RolesWords {
+    is_end(rest).then_some(RolesWords {
         process,
         creq,
         cack,
@@ -124,6 +122,7 @@ fn roles_words(bytes: &[u8]) -> Option<RolesWords<'_>>
 }
 
 // The three names that the bytes are.
+#[tactic(auto, unfolding(crate::specs::Annotations::resource))]
 fn resource_words(bytes: &[u8]) -> Option<ResourceWords<'_>>
     ensures { MatchOption result (resource bytes.now ≡ None)
         (λ w. resource bytes.now ≡ Some (token.Resource (record { process = w.process.now; acquire = w.acquire.now; release = w.release.now }))) }
@@ -137,10 +136,7 @@ fn resource_words(bytes: &[u8]) -> Option<ResourceWords<'_>>
     let Some((release, rest)) = next_name(rest) else {
         return None;
     };
-    if !is_end(rest) {
-        return None;
-    }
-    Some(ResourceWords {
+    is_end(rest).then_some(ResourceWords {
         process,
         acquire,
         release,
@@ -192,20 +188,6 @@ fn resource_names(alloc: Global, words: &ResourceWords<'_>) -> Result<ResourceNa
     })
 }
 
-// The annotation of these names on the heap.
-fn roles_token(alloc: Global, names: RolesNames) -> Result<Token, NoMemory>
-    ensures { IfOk result (λ made. made ≡ token.Roles names) }
-{
-    Ok(Token::Roles(Boxed::new(alloc, names)?))
-}
-
-// The annotation of these names on the heap.
-fn resource_token(alloc: Global, names: ResourceNames) -> Result<Token, NoMemory>
-    ensures { IfOk result (λ made. made ≡ token.Resource names) }
-{
-    Ok(Token::Resource(Boxed::new(alloc, names)?))
-}
-
 // The annotation of the five names that the bytes are, or `None` where they are anything else.
 fn roles(alloc: Global, bytes: &[u8]) -> Result<Option<Token>, NoMemory>
     ensures { IfOk result (λ found. found ≡ roles bytes.now) }
@@ -213,9 +195,9 @@ fn roles(alloc: Global, bytes: &[u8]) -> Result<Option<Token>, NoMemory>
     let Some(words) = roles_words(bytes) else {
         return Ok(None);
     };
-    let names = roles_names(alloc, &words)?;
-    let token = roles_token(alloc, names)?;
-    Ok(Some(token))
+    roles_names(alloc, &words)
+        .and_then(|names| Boxed::new(alloc, names))
+        .map(|names| Some(Token::Roles(names)))
 }
 
 // The annotation of the three names that the bytes are, or `None` where they are anything else.
@@ -225,9 +207,9 @@ fn resource(alloc: Global, bytes: &[u8]) -> Result<Option<Token>, NoMemory>
     let Some(words) = resource_words(bytes) else {
         return Ok(None);
     };
-    let names = resource_names(alloc, &words)?;
-    let token = resource_token(alloc, names)?;
-    Ok(Some(token))
+    resource_names(alloc, &words)
+        .and_then(|names| Boxed::new(alloc, names))
+        .map(|names| Some(Token::Resource(names)))
 }
 
 // Adds the token, if there is one, and leaves the rest.
