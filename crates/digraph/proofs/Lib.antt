@@ -3,6 +3,7 @@ pub mod Arcs
 pub mod WalkLaws
 pub mod HeightLaws
 mod RowVectors
+mod Results
 mod Writes
 mod Entering
 mod Raising

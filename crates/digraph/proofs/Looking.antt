@@ -10,14 +10,14 @@ module _ (g : Digraph) (marks : List Mark) (heights rest trail : List ℕ) (s : 
   pub top_open : mark_at marks v ≡ Open
   top_open = let o = s.opened (length trail - 1) (omega arith) in rw last at o
 
-  module _ (row : List ℕ) (is_row : row ≡ targets_of g v) (some_left : get_or rest v 0 ≡ 0 → ⊥) where
-    pub top_arc : HasArc g v (get_or row (get_or rest v 0 - 1) 0)
+  module _ (w : ℕ) (is_w : w ≡ get_or (targets_of g v) (get_or rest v 0 - 1) 0) (some_left : get_or rest v 0 ≡ 0 → ⊥) where
+    pub top_arc : HasArc g v w
     top_arc =
         let h = s.within v top_open in
-        rw is_row (HasArc-at g v (get_or rest v 0 - 1) (omega arith))
+        rw is_w (HasArc-at g v (get_or rest v 0 - 1) (omega arith))
 
-    pub top_back : HasArc g (get_or trail (length trail - 1) 0) (get_or row (get_or rest v 0 - 1) 0)
+    pub top_back : HasArc g (get_or trail (length trail - 1) 0) w
     top_back = rw last top_arc
 
-    pub top_follows : (k : ℕ) → k + 1 ≡ length trail → HasArc g (get_or trail k 0) (get_or row (get_or rest v 0 - 1) 0)
+    pub top_follows : (k : ℕ) → k + 1 ≡ length trail → HasArc g (get_or trail k 0) w
     top_follows k h = let e : k ≡ length trail - 1 = omega arith in rw e top_back

@@ -1,4 +1,4 @@
-ghost use Rattle.std.specs.Prelude.{◌≡◌, ℕ, ◌<◌, ◌↔◌, All, nat_eq, length, IsTrue, IfOk, OnOk};
+ghost use Rattle.std.specs.Prelude.{◌≡◌, [], ℕ, ◌<◌, ◌↔◌, All, nat_eq, length, IsTrue, IfOk, OnOk};
 ghost use Rattle.std.specs.List.{IsDistinct};
 ghost use Rattle.csp_base.specs.Members.{has};
 ghost use Rattle.digraph.specs.Digraph.{HasArc};
@@ -25,14 +25,26 @@ pub fn reachable_from(
     ensures below { IfOk result (All (λ v. v < length rows.now)) }
 {
     let mut found = Numbering::new(alloc);
-    add_all(&mut found, sources)?;
+    add_reached(rows, sources, &mut found)?;
+    Ok(found)
+}
+
+// Adds them to none.
+fn add_reached(rows: &Rows, sources: &[u32], found: &mut Numbering<u32>) -> Result<(), AllocError>
+    requires none { found.old ≡ [] }
+    requires sources { All (λ v. v < length rows.now) sources.now }
+    ensures members { OnOk result ((v : ℕ) → IsTrue (has found.new v) ↔ ReachesFrom (HasArc rows.now) sources.now v) }
+    ensures order { OnOk result (found.new ≡ found_over rows.now sources.now found.new) }
+    ensures below { OnOk result (All (λ v. v < length rows.now) found.new) }
+{
+    add_all(found, sources)?;
     let mut place = 0;
     while place < found.len() {
         let v = found.as_slice()[place];
-        add_all(&mut found, rows.targets(v))?;
+        add_all(found, rows.targets(v))?;
         place += 1;
     }
-    Ok(found)
+    Ok(())
 }
 
 // Adds those of the vertices that are new.

@@ -1,4 +1,5 @@
 ghost use Rattle.std.specs.Prelude.{◌≡◌, ◌≢◌, ℕ, ◌+◌, ◌-◌, ◌<◌, ◌≤◌, ◌^◌, ◌↔◌, List, [], ◌∷◌, ◌++◌, length, max, take, slice_index, slice_set, replicate, All, IsTrue, IfOk, OnOk, OnErr};
+ghost use Rattle.circles.specs.Turn.{IsTurnedFrom};
 ghost use Rattle.digraph.specs.Digraph.{targets_of, HasArc};
 ghost use Rattle.digraph.specs.Walk.{IsLongestWalk, AreHeights};
 ghost use Rattle.digraph.specs.Circle.{HasNoCircle, IsLeastCircle};
@@ -37,11 +38,29 @@ pub fn longest_walks(alloc: Global, rows: &Rows) -> Result<Heights, Fault>
     ensures no_heights { (vs : List ℕ) → result ≡ Err (Fault.Circle vs) → (heights : List ℕ) → ¬ AreHeights (HasArc rows.now) (length rows.now) heights }
 {
     let count = rows.len();
-    let mut marks = vec![in alloc; Mark::New; count]?;
     let mut heights = vec![in alloc; 0; count]?;
-    let mut rest = sizes(alloc, rows)?;
-    walk_all(alloc, rows, &mut marks, &mut heights, &mut rest)?;
+    find_heights(alloc, rows, &mut heights)?;
     Ok(Heights::from_vec(heights))
+}
+
+// Writes the height of each vertex, where 0 stands before.
+fn find_heights(alloc: Global, rows: &Rows, heights: &mut [u32]) -> Result<(), Fault>
+    requires { heights.old ≡ replicate (length rows.now) 0 }
+    ensures heights { OnOk result (AreHeights (HasArc rows.now) (length rows.now) heights.new) }
+    ensures below { OnOk result (All (λ height. height < length rows.now) heights.new) }
+    ensures circle { (vs : List ℕ) → result ≡ Err (Fault.Circle vs) → IsLeastCircle (HasArc rows.now) vs }
+{
+    let (mut marks, mut rest) = first_state(alloc, rows)?;
+    walk_all(alloc, rows, &mut marks, heights, &mut rest)
+}
+
+// Before the first walk each vertex is new, with nothing of its row looked at.
+fn first_state(alloc: Global, rows: &Rows) -> Result<(Vec<Mark>, Vec<usize>), AllocError>
+    ensures { IfOk result (λ made. IsSearch rows.now made.0.items (replicate (length rows.now) 0) made.1.items []) }
+{
+    let marks = vec![in alloc; Mark::New; rows.len()]?;
+    let rest = sizes(alloc, rows)?;
+    Ok((marks, rest))
 }
 
 // One more than the number of targets of each vertex.
@@ -146,18 +165,33 @@ fn step(
         finish(marks, trail, v);
         return Ok(());
     }
-    let w = rows.targets(v)[left - 1];
+    let w = target(rows, v, left - 1);
     match marks[w as usize] {
-        Mark::New => {
-            enter(rows, marks, rest, trail, w)?;
-            Ok(())
-        }
-        Mark::Open => Err(Fault::Circle(circle_from(alloc, trail, w)?)),
+        Mark::New => enter(rows, marks, rest, trail, w),
+        Mark::Open => Err(circle_of(alloc, trail, w)),
         Mark::Done => {
             raise(heights, rest, v, w);
             Ok(())
         }
     }
+}
+
+// The target in a place of a vertex's row.
+fn target(rows: &Rows, v: u32, place: usize) -> u32
+    requires vertex { v < length rows.now }
+    requires place { place < length (targets_of rows.now v) }
+    ensures value { result ≡ slice_index (targets_of rows.now v) place }
+    ensures within { result < length rows.now }
+{
+    rows.targets(v)[place]
+}
+
+// The circle on a trail that comes back to a vertex, or that memory ran out.
+fn circle_of(alloc: Global, trail: &[u32], first: u32) -> Fault
+    requires { (k : ℕ) × (k < length trail.now) × (slice_index trail.now k ≡ first) }
+    ensures { (vs : List ℕ) → result ≡ Fault.Circle vs → IsTurnedFrom trail.now first vs }
+{
+    circle_from(alloc, trail, first).map_or(Fault::NoMemory, Fault::Circle)
 }
 
 // Puts a new vertex on the trail.
@@ -167,15 +201,18 @@ fn enter(
     rest: &mut [usize],
     trail: &mut Vec<u32>,
     w: u32,
-) -> Result<(), AllocError>
+) -> Result<(), Fault>
     requires vertex { w < length rows.now }
     requires marks { w < length marks.old }
     requires rest { w < length rest.old }
     ensures marks { OnOk result (marks.new ≡ slice_set marks.old w Mark.Open) }
     ensures rest { OnOk result (rest.new ≡ slice_set rest.old w (length (targets_of rows.now w))) }
+    ensures no_circle { (vs : List ℕ) → result ≡ Err (Fault.Circle vs) → ⊥ }
     ensures trail { OnOk result (trail.new.items ≡ trail.old.items ++ w ∷ []) }
 {
-    trail.push(w)?;
+    let Ok(()) = trail.push(w) else {
+        return Err(Fault::NoMemory);
+    };
     marks[w as usize] = Mark::Open;
     rest[w as usize] = rows.targets(w).len();
     Ok(())

@@ -1,6 +1,6 @@
 use Rattle.std.proofs.Common.{◌-◌, length}
 use Rattle.digraph.proofs.Reaching.{IsSearched}
-use Rattle.digraph.proofs.reach.reachable_from.Given as goal
+use Rattle.digraph.proofs.reach.add_reached.Given as goal
 
 abbrev pub invariant-loop-place : goal.invariant-loop-place
 invariant-loop-place l = IsSearched l.rows l.sources l.found l.place
