@@ -2,7 +2,8 @@
 
 ghost use Rattle.std.specs.Prelude.{◌≡◌, ◌++◌, [], ◌∷◌, OnOk, flat_map};
 ghost use Rattle.csp_text.specs.declared.token.Token.TheVariants as token;
-ghost use Rattle.csp_text.specs.declared.token.Symbol.TheVariants.{At, Comma};
+ghost use Rattle.csp_text.specs.declared.token.Symbol.TheVariants.{At, Bar, Comma};
+ghost use Rattle.csp_text.specs.declared.tree.FieldTree.TheVariants as field;
 ghost use Rattle.csp_text.specs.declared.tree.Tree.TheVariants as tree;
 ghost use Rattle.script_printer.specs.TokenText.{spaced};
 ghost use Rattle.script_printer.specs.PrintedTree.{bound_in, conditions, dotted, event_tokens, field_tokens, gen_tokens, in_parentheses, item_tokens, operand_tokens, part_tokens, printed_tokens, renamed_tokens, separated};
@@ -31,7 +32,7 @@ pub(crate) fn put_tree(text: &mut Bytes, tree: &Tree) -> Result<(), NoMemory>
         Tree::Call(name, items) => put_call(text, name, items),
         Tree::Dot(name, fields) => put_front(text, name, fields),
         Tree::Neg(a) => put_after(text, Symbol::Minus, a.get()),
-        Tree::Not(a) => put_complement(text, a.get()),
+        Tree::Not(a) => put_after_word(text, Word::Not, a.get()),
         Tree::Binary(op, a, b) => put_binary(text, a, *op, b),
         Tree::If(condition, a, b) => put_conditional(text, condition, a, b),
         Tree::Display(items) => put_enclosed(text, Symbol::OpenBrace, items, Symbol::CloseBrace),
@@ -86,15 +87,6 @@ fn put_front(text: &mut Bytes, name: &Name, fields: &Items<Tree>) -> Result<(), 
     put_dotted(text, fields.as_slice())
 }
 
-// Adds `not` and its operand.
-#[cycle(trees)]
-fn put_complement(text: &mut Bytes, a: &Tree) -> Result<(), NoMemory>
-    ensures { OnOk result (text.new ≡ text.old ++ spaced (printed_tokens (tree.Not a.now))) }
-{
-    put_word(text, Word::Not)?;
-    put_operand(text, a)
-}
-
 // Adds an operator between its operands.
 #[cycle(trees)]
 fn put_binary(text: &mut Bytes, a: &Boxed<Tree>, op: BinOp, b: &Boxed<Tree>) -> Result<(), NoMemory>
@@ -129,12 +121,9 @@ fn put_conditional(
 ) -> Result<(), NoMemory>
     ensures { OnOk result (text.new ≡ text.old ++ spaced (printed_tokens (tree.If condition.now a.now b.now))) }
 {
-    put_word(text, Word::If)?;
-    put_operand(text, condition.get())?;
-    put_word(text, Word::Then)?;
-    put_tree(text, a.get())?;
-    put_word(text, Word::Else)?;
-    put_tree(text, b.get())
+    put_after_word(text, Word::If, condition.get())?;
+    put_branch(text, Word::Then, a.get())?;
+    put_branch(text, Word::Else, b.get())
 }
 
 // Adds a range.
@@ -158,9 +147,7 @@ fn put_comprehension(
 {
     put_symbol(text, Symbol::OpenBrace)?;
     put_items(text, items.as_slice())?;
-    put_symbol(text, Symbol::Bar)?;
-    put_gens(text, gens.as_slice())?;
-    put_symbol(text, Symbol::CloseBrace)
+    put_generators(text, gens.as_slice(), Symbol::CloseBrace)
 }
 
 // Adds a production.
@@ -174,8 +161,7 @@ fn put_production(
 {
     put_symbol(text, Symbol::OpenProduct)?;
     put_parts(text, parts.as_slice())?;
-    put_conditions(text, gens.as_slice())?;
-    put_symbol(text, Symbol::CloseProduct)
+    put_conditions(text, gens, Symbol::CloseProduct)
 }
 
 // Adds an operator on sets with its operands.
@@ -189,10 +175,8 @@ fn put_set_operation(
     ensures { OnOk result (text.new ≡ text.old ++ spaced (printed_tokens (tree.SetOp op a.now b.now))) }
 {
     put_set_op(text, op)?;
-    put_symbol(text, Symbol::OpenParen)?;
-    put_item(text, a.get())?;
-    put_symbol(text, Symbol::Comma)?;
-    put_item(text, b.get())?;
+    put_item_after(text, Symbol::OpenParen, a)?;
+    put_item_after(text, Symbol::Comma, b)?;
     put_symbol(text, Symbol::CloseParen)
 }
 
@@ -231,10 +215,9 @@ fn put_parallel(
 ) -> Result<(), NoMemory>
     ensures { OnOk result (text.new ≡ text.old ++ spaced (printed_tokens (tree.Parallel p.now a.now b.now q.now))) }
 {
-    put_operand(text, p.get())?;
-    put_after(text, Symbol::OpenBracket, a.get())?;
-    put_after(text, Symbol::Parallel, b.get())?;
-    put_after(text, Symbol::CloseBracket, q.get())
+    put_infix(text, p, Symbol::OpenBracket, a)?;
+    put_symbol(text, Symbol::Parallel)?;
+    put_infix(text, b, Symbol::CloseBracket, q)
 }
 
 // Adds a replicated parallel.
@@ -250,8 +233,7 @@ fn put_each_parallel(
 {
     put_replicated(text, Symbol::Parallel, name, s.get())?;
     put_after(text, Symbol::OpenBracket, a.get())?;
-    put_symbol(text, Symbol::CloseBracket)?;
-    put_tree(text, p.get())
+    put_tree_after(text, Symbol::CloseBracket, p.get())
 }
 
 // Adds a renaming.
@@ -267,8 +249,7 @@ fn put_renaming(
     put_operand(text, p.get())?;
     put_symbol(text, Symbol::OpenRename)?;
     put_pairs(text, pairs.as_slice())?;
-    put_conditions(text, gens.as_slice())?;
-    put_symbol(text, Symbol::CloseRename)
+    put_conditions(text, gens, Symbol::CloseRename)
 }
 
 // Adds a tree in parentheses.
@@ -316,6 +297,42 @@ fn put_after(text: &mut Bytes, sign: Symbol, tree: &Tree) -> Result<(), NoMemory
     put_operand(text, tree)
 }
 
+// Adds a sign and an item behind it.
+#[cycle(trees)]
+fn put_item_after(text: &mut Bytes, sign: Symbol, tree: &Boxed<Tree>) -> Result<(), NoMemory>
+    ensures { OnOk result (text.new ≡ text.old ++ spaced (token.Symbol sign ∷ item_tokens tree.now)) }
+{
+    put_symbol(text, sign)?;
+    put_item(text, tree.get())
+}
+
+// Adds a sign and a tree without parentheses behind it.
+#[cycle(trees)]
+fn put_tree_after(text: &mut Bytes, sign: Symbol, tree: &Tree) -> Result<(), NoMemory>
+    ensures { OnOk result (text.new ≡ text.old ++ spaced (token.Symbol sign ∷ printed_tokens tree.now)) }
+{
+    put_symbol(text, sign)?;
+    put_tree(text, tree)
+}
+
+// Adds a word and an operand behind it.
+#[cycle(trees)]
+fn put_after_word(text: &mut Bytes, word: Word, tree: &Tree) -> Result<(), NoMemory>
+    ensures { OnOk result (text.new ≡ text.old ++ spaced (token.Word word ∷ operand_tokens tree.now)) }
+{
+    put_word(text, word)?;
+    put_operand(text, tree)
+}
+
+// Adds the word before a part of an `if`, and the part.
+#[cycle(trees)]
+fn put_branch(text: &mut Bytes, word: Word, part: &Tree) -> Result<(), NoMemory>
+    ensures { OnOk result (text.new ≡ text.old ++ spaced (token.Word word ∷ printed_tokens part.now)) }
+{
+    put_word(text, word)?;
+    put_tree(text, part)
+}
+
 // Adds the front of a replicated form: its sign, its name, and the set that the name is bound in.
 #[cycle(trees)]
 fn put_replicated(text: &mut Bytes, sign: Symbol, name: &Name, set: &Tree) -> Result<(), NoMemory>
@@ -344,14 +361,20 @@ fn put_field(text: &mut Bytes, field: &FieldTree) -> Result<(), NoMemory>
     match field {
         FieldTree::Dot(tree) => put_after(text, Symbol::Dot, tree),
         FieldTree::Output(tree) => put_after(text, Symbol::Bang, tree),
-        FieldTree::Input(name, set) => {
-            put_symbol(text, Symbol::Question)?;
-            put_name(text, name)?;
-            match set {
-                Some(set) => put_after(text, Symbol::Colon, set),
-                None => Ok(()),
-            }
-        }
+        FieldTree::Input(name, set) => put_input(text, name, set),
+    }
+}
+
+// Adds an input, with its set where it has one.
+#[cycle(trees)]
+fn put_input(text: &mut Bytes, name: &Name, set: &Option<Tree>) -> Result<(), NoMemory>
+    ensures { OnOk result (text.new ≡ text.old ++ spaced (field_tokens (field.Input name.now set.now))) }
+{
+    put_symbol(text, Symbol::Question)?;
+    put_name(text, name)?;
+    match set {
+        Some(set) => put_after(text, Symbol::Colon, set),
+        None => Ok(()),
     }
 }
 
@@ -377,16 +400,36 @@ fn put_part(text: &mut Bytes, part: &PartTree) -> Result<(), NoMemory>
     put_front(text, &part.name, &part.fields)
 }
 
-// Adds generators behind a bar, or nothing where there are none.
+// Adds a pair of a renaming.
 #[cycle(trees)]
-fn put_conditions(text: &mut Bytes, gens: &[GenTree]) -> Result<(), NoMemory>
-    ensures { OnOk result (text.new ≡ text.old ++ spaced (conditions gen_tokens gens.now)) }
+fn put_pair(text: &mut Bytes, pair: &(PartTree, PartTree)) -> Result<(), NoMemory>
+    ensures { OnOk result (text.new ≡ text.old ++ spaced (renamed_tokens pair.now)) }
 {
-    if gens.is_empty() {
-        return Ok(());
-    }
+    put_part(text, &pair.0)?;
+    put_symbol(text, Symbol::LeftArrow)?;
+    put_part(text, &pair.1)
+}
+
+// Adds generators behind a bar, and the bracket behind them.
+#[cycle(trees)]
+fn put_generators(text: &mut Bytes, gens: &[GenTree], closing: Symbol) -> Result<(), NoMemory>
+    ensures { OnOk result (text.new ≡ text.old ++ spaced (token.Symbol Bar ∷ separated gen_tokens (token.Symbol Comma) gens.now ++ token.Symbol closing ∷ [])) }
+{
     put_symbol(text, Symbol::Bar)?;
-    put_gens(text, gens)
+    put_gens(text, gens)?;
+    put_symbol(text, closing)
+}
+
+// The same, with no bar where there are no generators.
+#[cycle(trees)]
+fn put_conditions(text: &mut Bytes, gens: &Items<GenTree>, closing: Symbol) -> Result<(), NoMemory>
+    ensures { OnOk result (text.new ≡ text.old ++ spaced (conditions gen_tokens gens.now ++ token.Symbol closing ∷ [])) }
+{
+    let gens = gens.as_slice();
+    if gens.is_empty() {
+        return put_symbol(text, closing);
+    }
+    put_generators(text, gens, closing)
 }
 
 // Adds items with commas between them.
@@ -448,9 +491,7 @@ fn put_pairs(text: &mut Bytes, pairs: &[(PartTree, PartTree)]) -> Result<(), NoM
 {
     for (place, pair) in pairs.iter().enumerate() {
         put_between(text, place, Symbol::Comma)?;
-        put_part(text, &pair.0)?;
-        put_symbol(text, Symbol::LeftArrow)?;
-        put_part(text, &pair.1)?;
+        put_pair(text, pair)?;
     }
     Ok(())
 }

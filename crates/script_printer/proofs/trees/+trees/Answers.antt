@@ -3,13 +3,12 @@ use Rattle.std.specs.Prelude.{flat_map}
 use Rattle.csp_text.specs.declared.tree.FieldTree.TheVariants as field
 use Rattle.csp_text.specs.declared.tree.FieldTree.TheViews.{out-EventTree}
 use Rattle.csp_text.specs.declared.token.Token.TheVariants.{Name, Symbol, Word}
-use Rattle.csp_text.specs.declared.tree.Tree.TheVariants as tree
 use Rattle.csp_text.specs.declared.token.Symbol.TheVariants.{Arrow, ExternalChoice, InternalChoice, Parallel, OpenRename, CloseRename, OpenProduct, CloseProduct, LeftArrow, DotDot, Dot, Minus, Question, Colon, At, OpenParen, CloseParen, OpenBrace, CloseBrace, OpenBracket, CloseBracket, Comma, Bar}
 use Rattle.csp_text.specs.declared.token.Word.TheVariants as word
 use Rattle.script_printer.specs.TokenText.{spaced}
 use Rattle.script_printer.specs.PrintedTree.{bound_in, conditions, dotted, event_tokens, field_tokens, gen_tokens, item_tokens, operand_tokens, operator_token, part_tokens, printed_tokens, renamed_tokens, separated, set_op_token}
 use Rattle.script_printer.proofs.PrintedEquations.{tokens-Binary, tokens-Call, tokens-Comp, tokens-Display, tokens-Dot, tokens-EachExternal, tokens-EachInternal, tokens-EachParallel, tokens-External, tokens-False, tokens-Guard, tokens-Hide, tokens-If, tokens-Internal, tokens-Name, tokens-Neg, tokens-Not, tokens-Num, tokens-Parallel, tokens-Prefix, tokens-Product, tokens-Range, tokens-Rename, tokens-Seq, tokens-SetOp, tokens-Skip, tokens-Stop, tokens-True, field-Dot, field-Output, field-Input, field-Input-from, gen-From, gen-Cond, event-is, part-is}
-use Rattle.script_printer.proofs.Written.{last, more, written_as, separated_begin, separated_step, separated_end, each_step, each_end, none_shown, some_shown, no_more}
+use Rattle.script_printer.proofs.Written.{last, more, written_as, separated_begin, separated_step, separated_end, each_step, each_end, none_shown, some_shown}
 use Rattle.script_printer.proofs.trees.+trees.Goals as goal
 
 pub put_after-returns : goal.put_after-returns
@@ -19,15 +18,23 @@ put_after-returns t c =
 
 pub put_conditions-returns-then-is_empty : goal.put_conditions-returns-then-is_empty
 put_conditions-returns-then-is_empty t c =
-    sym (no_more c.args.text.now)
-    ∙ ap (λ l. c.args.text.now ++ spaced l) (sym (none_shown gen_tokens c.args.gens.now (sym c.is_empty.ensures ∙ c.if-is_empty.true)))
+    written_as c.args.text.now c.put_symbol.new.text _ _ c.put_symbol.result
+    (ap (λ l. conditions gen_tokens l ++ Symbol c.args.closing ∷ []) (sym c.as_slice-gens.ensures)
+    ∙ ap (λ l. l ++ Symbol c.args.closing ∷ []) (none_shown gen_tokens c.as_slice-gens.result.now (sym c.is_empty.ensures ∙ c.if-is_empty.true)))
+    c.put_symbol.ensures
 
 pub put_conditions-returns : goal.put_conditions-returns
 put_conditions-returns t c =
-    written_as c.args.text.now c.put_gens.new.text _ _ c.put_gens.result
-    (some_shown gen_tokens c.args.gens.now (sym c.is_empty.ensures ∙ c.if-is_empty.false))
-    (last c.args.text.now c.put_symbol.new.text c.put_gens.new.text (Symbol Bar ∷ []) (separated gen_tokens (Symbol Comma) c.args.gens.now) c.put_gens.result
-    c.in_ok-put_symbol.ensures c.put_gens.ensures)
+    written_as c.args.text.now c.put_generators.new.text _ _ c.put_generators.result
+    (ap (λ l. conditions gen_tokens l ++ Symbol c.args.closing ∷ []) (sym c.as_slice-gens.ensures)
+    ∙ ap (λ l. l ++ Symbol c.args.closing ∷ []) (some_shown gen_tokens c.as_slice-gens.result.now (sym c.is_empty.ensures ∙ c.if-is_empty.false)))
+    c.put_generators.ensures
+
+pub put_generators-returns : goal.put_generators-returns
+put_generators-returns t c =
+    last c.args.text.now c.put_symbol.new.text c.put_symbol-2.new.text (Symbol Bar ∷ []) (separated gen_tokens (Symbol Comma) c.args.gens.now ++ Symbol c.args.closing ∷ []) c.put_symbol-2.result
+    c.in_ok-put_symbol.ensures (last c.put_symbol.new.text c.put_gens.new.text c.put_symbol-2.new.text (separated gen_tokens (Symbol Comma) c.args.gens.now) (Symbol c.args.closing ∷ []) c.put_symbol-2.result
+    c.in_ok-put_gens.ensures c.put_symbol-2.ensures)
 
 pub put_dotted-loop-field-preserved : goal.put_dotted-loop-field-preserved
 put_dotted-loop-field-preserved t c =
@@ -45,18 +52,21 @@ put_event-returns t c =
     (last c.args.text.now c.put_name.new.text c.put_fields.new.text (Name (out-EventTree c.args.event.now).name ∷ []) (flat_map field_tokens c.as_slice.result.now) c.put_fields.result
     c.in_ok-put_name.ensures c.put_fields.ensures)
 
-pub put_field-returns-in-None : goal.put_field-returns-in-None
-put_field-returns-in-None t c =
-    more c.args.text.now c.put_symbol.new.text c.put_name.new.text (Symbol Question ∷ []) (Name c.in-Input.name ∷ []) c.in_ok-put_symbol-in-Input.ensures c.in_ok-put_name-in-Input.ensures
-    ∙ ap (λ l. c.args.text.now ++ spaced l) (sym (ap field_tokens (c.in-Input.is ∙ ap (field.Input c.in-Input.name) c.in-None.is) ∙ field-Input c.in-Input.name))
+pub put_input-returns-in-None : goal.put_input-returns-in-None
+put_input-returns-in-None t c =
+    more c.args.text.now c.put_symbol.new.text c.put_name.new.text (Symbol Question ∷ []) (Name c.args.name.now ∷ []) c.in_ok-put_symbol.ensures c.in_ok-put_name.ensures
+    ∙ ap (λ l. c.args.text.now ++ spaced l) (sym (ap (λ set. field_tokens (field.Input c.args.name.now set)) c.in-None.is ∙ field-Input c.args.name.now))
 
-pub put_field-returns-in-Some : goal.put_field-returns-in-Some
-put_field-returns-in-Some t c =
-    written_as c.args.text.now c.put_after-in-Some.new.text _ _ c.put_after-in-Some.result
-    (ap field_tokens (c.in-Input.is ∙ ap (field.Input c.in-Input.name) c.in-Some.is) ∙ field-Input-from c.in-Input.name c.in-Some.set)
-    (last c.args.text.now c.put_symbol.new.text c.put_after-in-Some.new.text (Symbol Question ∷ []) (Name c.in-Input.name ∷ (Symbol Colon ∷ operand_tokens c.in-Some.set)) c.put_after-in-Some.result
-    c.in_ok-put_symbol-in-Input.ensures (last c.put_symbol.new.text c.put_name.new.text c.put_after-in-Some.new.text (Name c.in-Input.name ∷ []) (Symbol Colon ∷ operand_tokens c.in-Some.set) c.put_after-in-Some.result
-    c.in_ok-put_name-in-Input.ensures c.put_after-in-Some.ensures))
+pub put_input-returns-in-Some : goal.put_input-returns-in-Some
+put_input-returns-in-Some t c =
+    written_as c.args.text.now c.put_after.new.text _ _ c.put_after.result
+    (ap (λ set. field_tokens (field.Input c.args.name.now set)) c.in-Some.is ∙ field-Input-from c.args.name.now c.in-Some.set)
+    (last c.args.text.now c.put_symbol.new.text c.put_after.new.text (Symbol Question ∷ []) (Name c.args.name.now ∷ (Symbol Colon ∷ operand_tokens c.in-Some.set)) c.put_after.result
+    c.in_ok-put_symbol.ensures (last c.put_symbol.new.text c.put_name.new.text c.put_after.new.text (Name c.args.name.now ∷ []) (Symbol Colon ∷ operand_tokens c.in-Some.set) c.put_after.result
+    c.in_ok-put_name.ensures c.put_after.ensures))
+
+pub put_field-returns-in-Input : goal.put_field-returns-in-Input
+put_field-returns-in-Input t c = written_as c.args.text.now c.put_input.new.text _ _ c.put_input.result (ap field_tokens c.in-Input.is) c.put_input.ensures
 
 pub put_fields-loop-field-preserved : goal.put_fields-loop-field-preserved
 put_fields-loop-field-preserved t c =
@@ -122,14 +132,18 @@ put_operands-returns t c =
 pub put_pairs-loop-place-init : goal.put_pairs-loop-place-init
 put_pairs-loop-place-init t c = ap (λ l. c.args.text.now ++ spaced l) (separated_begin renamed_tokens (Symbol Comma) c.args.pairs.now)
 
-pub put_pairs-loop-place-preserved : goal.put_pairs-loop-place-preserved
+pub put_pair-returns : goal.put_pair-returns
 unfolding renamed_tokens
+put_pair-returns t c =
+    last c.args.text.now c.put_part.new.text c.put_part-2.new.text (part_tokens c.args.pair.now.0) (Symbol LeftArrow ∷ part_tokens c.args.pair.now.1) c.put_part-2.result
+    c.in_ok-put_part.ensures (last c.put_part.new.text c.put_symbol.new.text c.put_part-2.new.text (Symbol LeftArrow ∷ []) (part_tokens c.args.pair.now.1) c.put_part-2.result
+    c.in_ok-put_symbol.ensures c.put_part-2.ensures)
+
+pub put_pairs-loop-place-preserved : goal.put_pairs-loop-place-preserved
 put_pairs-loop-place-preserved t c =
-    separated_step renamed_tokens (Symbol Comma) c.args.pairs.now c.loop-place.place c.index-pairs-place.result c.loop-place.text c.put_between.new.text c.put_part-in-loop-place.new.text _
+    separated_step renamed_tokens (Symbol Comma) c.args.pairs.now c.loop-place.place c.index-pairs-place.result c.loop-place.text c.put_between.new.text c.put_pair.new.text _
     c.loop-place-test.true c.index-pairs-place.is c.in_ok-put_between.ensures
-    (more c.put_between.new.text c.put_part.new.text c.put_part-in-loop-place.new.text (part_tokens c.index-pairs-place.result.0) (Symbol LeftArrow ∷ part_tokens c.index-pairs-place.result.1)
-    c.in_ok-put_part.ensures
-    (more c.put_part.new.text c.put_symbol.new.text c.put_part-in-loop-place.new.text (Symbol LeftArrow ∷ []) (part_tokens c.index-pairs-place.result.1) c.in_ok-put_symbol.ensures c.in_ok-put_part-2.ensures)) c.loop-place.invariant
+    c.in_ok-put_pair.ensures c.loop-place.invariant
 
 pub put_pairs-returns : goal.put_pairs-returns
 put_pairs-returns t c =
@@ -180,12 +194,27 @@ put_front-returns t c =
 pub put_part-returns : goal.put_part-returns
 put_part-returns t c = written_as c.args.text.now c.put_front.new.text _ _ c.put_front.result (part-is c.args.part.now) c.put_front.ensures
 
-pub put_complement-returns : goal.put_complement-returns
-put_complement-returns t c =
-    written_as c.args.text.now c.put_operand.new.text _ _ c.put_operand.result
-    (tokens-Not c.args.a.now)
-    (last c.args.text.now c.put_word.new.text c.put_operand.new.text (Word word.Not ∷ []) (operand_tokens c.args.a.now) c.put_operand.result
-    c.in_ok-put_word.ensures c.put_operand.ensures)
+pub put_after_word-returns : goal.put_after_word-returns
+put_after_word-returns t c =
+    last c.args.text.now c.put_word.new.text c.put_operand.new.text (Word c.args.word ∷ []) (operand_tokens c.args.tree.now) c.put_operand.result
+    c.in_ok-put_word.ensures c.put_operand.ensures
+
+pub put_branch-returns : goal.put_branch-returns
+put_branch-returns t c =
+    last c.args.text.now c.put_word.new.text c.put_tree.new.text (Word c.args.word ∷ []) (printed_tokens c.args.part.now) c.put_tree.result
+    c.in_ok-put_word.ensures c.put_tree.ensures
+
+pub put_item_after-returns : goal.put_item_after-returns
+put_item_after-returns t c =
+    written_as c.args.text.now c.put_item.new.text _ _ c.put_item.result
+    (λ i. Symbol c.args.sign ∷ item_tokens (sym c.get.ensures i))
+    (last c.args.text.now c.put_symbol.new.text c.put_item.new.text (Symbol c.args.sign ∷ []) (item_tokens c.get.result.now) c.put_item.result
+    c.in_ok-put_symbol.ensures c.put_item.ensures)
+
+pub put_tree_after-returns : goal.put_tree_after-returns
+put_tree_after-returns t c =
+    last c.args.text.now c.put_symbol.new.text c.put_tree.new.text (Symbol c.args.sign ∷ []) (printed_tokens c.args.tree.now) c.put_tree.result
+    c.in_ok-put_symbol.ensures c.put_tree.ensures
 
 pub put_binary-returns : goal.put_binary-returns
 put_binary-returns t c =
@@ -204,14 +233,11 @@ put_infix-returns t c =
 
 pub put_conditional-returns : goal.put_conditional-returns
 put_conditional-returns t c =
-    written_as c.args.text.now c.put_tree-2.new.text _ _ c.put_tree-2.result
+    written_as c.args.text.now c.put_branch-2.new.text _ _ c.put_branch-2.result
     (tokens-If c.args.condition.now c.args.a.now c.args.b.now ∙ (λ i. Word word.If ∷ operand_tokens (sym c.get.ensures i) ++ Word word.Then ∷ printed_tokens (sym c.get-2.ensures i) ++ Word word.Else ∷ printed_tokens (sym c.get-3.ensures i)) ∙ append_assoc (Word word.If ∷ operand_tokens c.get.result.now) (Word word.Then ∷ printed_tokens c.get-2.result.now) (Word word.Else ∷ printed_tokens c.get-3.result.now))
-    (last c.args.text.now c.put_word.new.text c.put_tree-2.new.text (Word word.If ∷ []) ((operand_tokens c.get.result.now) ++ ((Word word.Then ∷ []) ++ ((printed_tokens c.get-2.result.now) ++ ((Word word.Else ∷ []) ++ (printed_tokens c.get-3.result.now))))) c.put_tree-2.result
-    c.in_ok-put_word.ensures (last c.put_word.new.text c.put_operand.new.text c.put_tree-2.new.text (operand_tokens c.get.result.now) ((Word word.Then ∷ []) ++ ((printed_tokens c.get-2.result.now) ++ ((Word word.Else ∷ []) ++ (printed_tokens c.get-3.result.now)))) c.put_tree-2.result
-    c.in_ok-put_operand.ensures (last c.put_operand.new.text c.put_word-2.new.text c.put_tree-2.new.text (Word word.Then ∷ []) ((printed_tokens c.get-2.result.now) ++ ((Word word.Else ∷ []) ++ (printed_tokens c.get-3.result.now))) c.put_tree-2.result
-    c.in_ok-put_word-2.ensures (last c.put_word-2.new.text c.put_tree.new.text c.put_tree-2.new.text (printed_tokens c.get-2.result.now) ((Word word.Else ∷ []) ++ (printed_tokens c.get-3.result.now)) c.put_tree-2.result
-    c.in_ok-put_tree.ensures (last c.put_tree.new.text c.put_word-3.new.text c.put_tree-2.new.text (Word word.Else ∷ []) (printed_tokens c.get-3.result.now) c.put_tree-2.result
-    c.in_ok-put_word-3.ensures c.put_tree-2.ensures)))))
+    (last c.args.text.now c.put_after_word.new.text c.put_branch-2.new.text (Word word.If ∷ operand_tokens c.get.result.now) ((Word word.Then ∷ printed_tokens c.get-2.result.now) ++ (Word word.Else ∷ printed_tokens c.get-3.result.now)) c.put_branch-2.result
+    c.in_ok-put_after_word.ensures (last c.put_after_word.new.text c.put_branch.new.text c.put_branch-2.new.text (Word word.Then ∷ printed_tokens c.get-2.result.now) (Word word.Else ∷ printed_tokens c.get-3.result.now) c.put_branch-2.result
+    c.in_ok-put_branch.ensures c.put_branch-2.ensures))
 
 pub put_range-returns : goal.put_range-returns
 put_range-returns t c =
@@ -223,33 +249,28 @@ put_range-returns t c =
 
 pub put_comprehension-returns : goal.put_comprehension-returns
 put_comprehension-returns t c =
-    written_as c.args.text.now c.put_symbol-3.new.text _ _ c.put_symbol-3.result
+    written_as c.args.text.now c.put_generators.new.text _ _ c.put_generators.result
     (tokens-Comp c.args.items.now c.args.gens.now ∙ (λ i. Symbol OpenBrace ∷ separated item_tokens (Symbol Comma) (sym c.as_slice.ensures i) ++ Symbol Bar ∷ separated gen_tokens (Symbol Comma) (sym c.as_slice-2.ensures i) ++ Symbol CloseBrace ∷ []) ∙ append_assoc (Symbol OpenBrace ∷ separated item_tokens (Symbol Comma) c.as_slice.result.now) (Symbol Bar ∷ separated gen_tokens (Symbol Comma) c.as_slice-2.result.now) (Symbol CloseBrace ∷ []))
-    (last c.args.text.now c.put_symbol.new.text c.put_symbol-3.new.text (Symbol OpenBrace ∷ []) ((separated item_tokens (Symbol Comma) c.as_slice.result.now) ++ ((Symbol Bar ∷ []) ++ ((separated gen_tokens (Symbol Comma) c.as_slice-2.result.now) ++ (Symbol CloseBrace ∷ [])))) c.put_symbol-3.result
-    c.in_ok-put_symbol.ensures (last c.put_symbol.new.text c.put_items.new.text c.put_symbol-3.new.text (separated item_tokens (Symbol Comma) c.as_slice.result.now) ((Symbol Bar ∷ []) ++ ((separated gen_tokens (Symbol Comma) c.as_slice-2.result.now) ++ (Symbol CloseBrace ∷ []))) c.put_symbol-3.result
-    c.in_ok-put_items.ensures (last c.put_items.new.text c.put_symbol-2.new.text c.put_symbol-3.new.text (Symbol Bar ∷ []) ((separated gen_tokens (Symbol Comma) c.as_slice-2.result.now) ++ (Symbol CloseBrace ∷ [])) c.put_symbol-3.result
-    c.in_ok-put_symbol-2.ensures (last c.put_symbol-2.new.text c.put_gens.new.text c.put_symbol-3.new.text (separated gen_tokens (Symbol Comma) c.as_slice-2.result.now) (Symbol CloseBrace ∷ []) c.put_symbol-3.result
-    c.in_ok-put_gens.ensures c.put_symbol-3.ensures))))
+    (last c.args.text.now c.put_symbol.new.text c.put_generators.new.text (Symbol OpenBrace ∷ []) ((separated item_tokens (Symbol Comma) c.as_slice.result.now) ++ (Symbol Bar ∷ separated gen_tokens (Symbol Comma) c.as_slice-2.result.now ++ Symbol CloseBrace ∷ [])) c.put_generators.result
+    c.in_ok-put_symbol.ensures (last c.put_symbol.new.text c.put_items.new.text c.put_generators.new.text (separated item_tokens (Symbol Comma) c.as_slice.result.now) (Symbol Bar ∷ separated gen_tokens (Symbol Comma) c.as_slice-2.result.now ++ Symbol CloseBrace ∷ []) c.put_generators.result
+    c.in_ok-put_items.ensures c.put_generators.ensures))
 
 pub put_production-returns : goal.put_production-returns
 put_production-returns t c =
-    written_as c.args.text.now c.put_symbol-2.new.text _ _ c.put_symbol-2.result
-    (tokens-Product c.args.parts.now c.args.gens.now ∙ (λ i. Symbol OpenProduct ∷ separated part_tokens (Symbol Comma) (sym c.as_slice.ensures i) ++ conditions gen_tokens (sym c.as_slice-2.ensures i) ++ Symbol CloseProduct ∷ []) ∙ append_assoc (Symbol OpenProduct ∷ separated part_tokens (Symbol Comma) c.as_slice.result.now) (conditions gen_tokens c.as_slice-2.result.now) (Symbol CloseProduct ∷ []))
-    (last c.args.text.now c.put_symbol.new.text c.put_symbol-2.new.text (Symbol OpenProduct ∷ []) ((separated part_tokens (Symbol Comma) c.as_slice.result.now) ++ ((conditions gen_tokens c.as_slice-2.result.now) ++ (Symbol CloseProduct ∷ []))) c.put_symbol-2.result
-    c.in_ok-put_symbol.ensures (last c.put_symbol.new.text c.put_parts.new.text c.put_symbol-2.new.text (separated part_tokens (Symbol Comma) c.as_slice.result.now) ((conditions gen_tokens c.as_slice-2.result.now) ++ (Symbol CloseProduct ∷ [])) c.put_symbol-2.result
-    c.in_ok-put_parts.ensures (last c.put_parts.new.text c.put_conditions.new.text c.put_symbol-2.new.text (conditions gen_tokens c.as_slice-2.result.now) (Symbol CloseProduct ∷ []) c.put_symbol-2.result
-    c.in_ok-put_conditions.ensures c.put_symbol-2.ensures)))
+    written_as c.args.text.now c.put_conditions.new.text _ _ c.put_conditions.result
+    (tokens-Product c.args.parts.now c.args.gens.now ∙ (λ i. Symbol OpenProduct ∷ separated part_tokens (Symbol Comma) (sym c.as_slice.ensures i) ++ conditions gen_tokens c.args.gens.now ++ Symbol CloseProduct ∷ []) ∙ append_assoc (Symbol OpenProduct ∷ separated part_tokens (Symbol Comma) c.as_slice.result.now) (conditions gen_tokens c.args.gens.now) (Symbol CloseProduct ∷ []))
+    (last c.args.text.now c.put_symbol.new.text c.put_conditions.new.text (Symbol OpenProduct ∷ []) ((separated part_tokens (Symbol Comma) c.as_slice.result.now) ++ (conditions gen_tokens c.args.gens.now ++ Symbol CloseProduct ∷ [])) c.put_conditions.result
+    c.in_ok-put_symbol.ensures (last c.put_symbol.new.text c.put_parts.new.text c.put_conditions.new.text (separated part_tokens (Symbol Comma) c.as_slice.result.now) (conditions gen_tokens c.args.gens.now ++ Symbol CloseProduct ∷ []) c.put_conditions.result
+    c.in_ok-put_parts.ensures c.put_conditions.ensures))
 
 pub put_set_operation-returns : goal.put_set_operation-returns
 put_set_operation-returns t c =
-    written_as c.args.text.now c.put_symbol-3.new.text _ _ c.put_symbol-3.result
-    (tokens-SetOp c.args.op c.args.a.now c.args.b.now ∙ (λ i. set_op_token c.args.op ∷ Symbol OpenParen ∷ item_tokens (sym c.get.ensures i) ++ Symbol Comma ∷ item_tokens (sym c.get-2.ensures i) ++ Symbol CloseParen ∷ []) ∙ append_assoc (set_op_token c.args.op ∷ Symbol OpenParen ∷ item_tokens c.get.result.now) (Symbol Comma ∷ item_tokens c.get-2.result.now) (Symbol CloseParen ∷ []))
-    (last c.args.text.now c.put_set_op.new.text c.put_symbol-3.new.text (set_op_token c.args.op ∷ []) ((Symbol OpenParen ∷ []) ++ ((item_tokens c.get.result.now) ++ ((Symbol Comma ∷ []) ++ ((item_tokens c.get-2.result.now) ++ (Symbol CloseParen ∷ []))))) c.put_symbol-3.result
-    c.in_ok-put_set_op.ensures (last c.put_set_op.new.text c.put_symbol.new.text c.put_symbol-3.new.text (Symbol OpenParen ∷ []) ((item_tokens c.get.result.now) ++ ((Symbol Comma ∷ []) ++ ((item_tokens c.get-2.result.now) ++ (Symbol CloseParen ∷ [])))) c.put_symbol-3.result
-    c.in_ok-put_symbol.ensures (last c.put_symbol.new.text c.put_item.new.text c.put_symbol-3.new.text (item_tokens c.get.result.now) ((Symbol Comma ∷ []) ++ ((item_tokens c.get-2.result.now) ++ (Symbol CloseParen ∷ []))) c.put_symbol-3.result
-    c.in_ok-put_item.ensures (last c.put_item.new.text c.put_symbol-2.new.text c.put_symbol-3.new.text (Symbol Comma ∷ []) ((item_tokens c.get-2.result.now) ++ (Symbol CloseParen ∷ [])) c.put_symbol-3.result
-    c.in_ok-put_symbol-2.ensures (last c.put_symbol-2.new.text c.put_item-2.new.text c.put_symbol-3.new.text (item_tokens c.get-2.result.now) (Symbol CloseParen ∷ []) c.put_symbol-3.result
-    c.in_ok-put_item-2.ensures c.put_symbol-3.ensures)))))
+    written_as c.args.text.now c.put_symbol.new.text _ _ c.put_symbol.result
+    (tokens-SetOp c.args.op c.args.a.now c.args.b.now ∙ append_assoc (set_op_token c.args.op ∷ Symbol OpenParen ∷ item_tokens c.args.a.now) (Symbol Comma ∷ item_tokens c.args.b.now) (Symbol CloseParen ∷ []))
+    (last c.args.text.now c.put_set_op.new.text c.put_symbol.new.text (set_op_token c.args.op ∷ []) ((Symbol OpenParen ∷ item_tokens c.args.a.now) ++ ((Symbol Comma ∷ item_tokens c.args.b.now) ++ (Symbol CloseParen ∷ []))) c.put_symbol.result
+    c.in_ok-put_set_op.ensures (last c.put_set_op.new.text c.put_item_after.new.text c.put_symbol.new.text (Symbol OpenParen ∷ item_tokens c.args.a.now) ((Symbol Comma ∷ item_tokens c.args.b.now) ++ (Symbol CloseParen ∷ [])) c.put_symbol.result
+    c.in_ok-put_item_after.ensures (last c.put_item_after.new.text c.put_item_after-2.new.text c.put_symbol.new.text (Symbol Comma ∷ item_tokens c.args.b.now) (Symbol CloseParen ∷ []) c.put_symbol.result
+    c.in_ok-put_item_after-2.ensures c.put_symbol.ensures)))
 
 pub put_prefix-returns : goal.put_prefix-returns
 put_prefix-returns t c =
@@ -267,31 +288,28 @@ put_each-returns t c =
 
 pub put_parallel-returns : goal.put_parallel-returns
 put_parallel-returns t c =
-    written_as c.args.text.now c.put_after-3.new.text _ _ c.put_after-3.result
-    (tokens-Parallel c.args.p.now c.args.a.now c.args.b.now c.args.q.now ∙ (λ i. operand_tokens (sym c.get.ensures i) ++ Symbol OpenBracket ∷ operand_tokens (sym c.get-2.ensures i) ++ Symbol Parallel ∷ operand_tokens (sym c.get-3.ensures i) ++ Symbol CloseBracket ∷ operand_tokens (sym c.get-4.ensures i)) ∙ append_assoc ((operand_tokens c.get.result.now) ++ (Symbol OpenBracket ∷ operand_tokens c.get-2.result.now)) (Symbol Parallel ∷ operand_tokens c.get-3.result.now) (Symbol CloseBracket ∷ operand_tokens c.get-4.result.now) ∙ append_assoc (operand_tokens c.get.result.now) (Symbol OpenBracket ∷ operand_tokens c.get-2.result.now) ((Symbol Parallel ∷ operand_tokens c.get-3.result.now) ++ (Symbol CloseBracket ∷ operand_tokens c.get-4.result.now)))
-    (last c.args.text.now c.put_operand.new.text c.put_after-3.new.text (operand_tokens c.get.result.now) ((Symbol OpenBracket ∷ operand_tokens c.get-2.result.now) ++ ((Symbol Parallel ∷ operand_tokens c.get-3.result.now) ++ (Symbol CloseBracket ∷ operand_tokens c.get-4.result.now))) c.put_after-3.result
-    c.in_ok-put_operand.ensures (last c.put_operand.new.text c.put_after.new.text c.put_after-3.new.text (Symbol OpenBracket ∷ operand_tokens c.get-2.result.now) ((Symbol Parallel ∷ operand_tokens c.get-3.result.now) ++ (Symbol CloseBracket ∷ operand_tokens c.get-4.result.now)) c.put_after-3.result
-    c.in_ok-put_after.ensures (last c.put_after.new.text c.put_after-2.new.text c.put_after-3.new.text (Symbol Parallel ∷ operand_tokens c.get-3.result.now) (Symbol CloseBracket ∷ operand_tokens c.get-4.result.now) c.put_after-3.result
-    c.in_ok-put_after-2.ensures c.put_after-3.ensures)))
+    written_as c.args.text.now c.put_infix-2.new.text _ _ c.put_infix-2.result
+    (tokens-Parallel c.args.p.now c.args.a.now c.args.b.now c.args.q.now ∙ append_assoc (operand_tokens c.args.p.now ++ Symbol OpenBracket ∷ operand_tokens c.args.a.now) (Symbol Parallel ∷ operand_tokens c.args.b.now) (Symbol CloseBracket ∷ operand_tokens c.args.q.now))
+    (last c.args.text.now c.put_infix.new.text c.put_infix-2.new.text (operand_tokens c.args.p.now ++ Symbol OpenBracket ∷ operand_tokens c.args.a.now) ((Symbol Parallel ∷ []) ++ (operand_tokens c.args.b.now ++ Symbol CloseBracket ∷ operand_tokens c.args.q.now)) c.put_infix-2.result
+    c.in_ok-put_infix.ensures (last c.put_infix.new.text c.put_symbol.new.text c.put_infix-2.new.text (Symbol Parallel ∷ []) (operand_tokens c.args.b.now ++ Symbol CloseBracket ∷ operand_tokens c.args.q.now) c.put_infix-2.result
+    c.in_ok-put_symbol.ensures c.put_infix-2.ensures))
 
 pub put_each_parallel-returns : goal.put_each_parallel-returns
 put_each_parallel-returns t c =
-    written_as c.args.text.now c.put_tree.new.text _ _ c.put_tree.result
+    written_as c.args.text.now c.put_tree_after.new.text _ _ c.put_tree_after.result
     (tokens-EachParallel c.args.name.now c.args.s.now c.args.a.now c.args.p.now ∙ (λ i. Symbol Parallel ∷ bound_in c.args.name.now (operand_tokens (sym c.get.ensures i)) ++ Symbol At ∷ Symbol OpenBracket ∷ operand_tokens (sym c.get-2.ensures i) ++ Symbol CloseBracket ∷ printed_tokens (sym c.get-3.ensures i)) ∙ append_assoc (Symbol Parallel ∷ bound_in c.args.name.now (operand_tokens c.get.result.now)) (Symbol At ∷ Symbol OpenBracket ∷ operand_tokens c.get-2.result.now) (Symbol CloseBracket ∷ printed_tokens c.get-3.result.now) ∙ ap (λ l. Symbol Parallel ∷ bound_in c.args.name.now l) (sym (append_assoc (operand_tokens c.get.result.now) (Symbol At ∷ []) (Symbol OpenBracket ∷ operand_tokens c.get-2.result.now ++ Symbol CloseBracket ∷ printed_tokens c.get-3.result.now))))
-    (last c.args.text.now c.put_replicated.new.text c.put_tree.new.text (Symbol Parallel ∷ bound_in c.args.name.now (operand_tokens c.get.result.now) ++ Symbol At ∷ []) ((Symbol OpenBracket ∷ operand_tokens c.get-2.result.now) ++ ((Symbol CloseBracket ∷ []) ++ (printed_tokens c.get-3.result.now))) c.put_tree.result
-    c.in_ok-put_replicated.ensures (last c.put_replicated.new.text c.put_after.new.text c.put_tree.new.text (Symbol OpenBracket ∷ operand_tokens c.get-2.result.now) ((Symbol CloseBracket ∷ []) ++ (printed_tokens c.get-3.result.now)) c.put_tree.result
-    c.in_ok-put_after.ensures (last c.put_after.new.text c.put_symbol.new.text c.put_tree.new.text (Symbol CloseBracket ∷ []) (printed_tokens c.get-3.result.now) c.put_tree.result
-    c.in_ok-put_symbol.ensures c.put_tree.ensures)))
+    (last c.args.text.now c.put_replicated.new.text c.put_tree_after.new.text (Symbol Parallel ∷ bound_in c.args.name.now (operand_tokens c.get.result.now) ++ Symbol At ∷ []) ((Symbol OpenBracket ∷ operand_tokens c.get-2.result.now) ++ (Symbol CloseBracket ∷ printed_tokens c.get-3.result.now)) c.put_tree_after.result
+    c.in_ok-put_replicated.ensures (last c.put_replicated.new.text c.put_after.new.text c.put_tree_after.new.text (Symbol OpenBracket ∷ operand_tokens c.get-2.result.now) (Symbol CloseBracket ∷ printed_tokens c.get-3.result.now) c.put_tree_after.result
+    c.in_ok-put_after.ensures c.put_tree_after.ensures))
 
 pub put_renaming-returns : goal.put_renaming-returns
 put_renaming-returns t c =
-    written_as c.args.text.now c.put_symbol-2.new.text _ _ c.put_symbol-2.result
-    (tokens-Rename c.args.p.now c.args.pairs.now c.args.gens.now ∙ (λ i. operand_tokens (sym c.get.ensures i) ++ Symbol OpenRename ∷ separated renamed_tokens (Symbol Comma) (sym c.as_slice.ensures i) ++ conditions gen_tokens (sym c.as_slice-2.ensures i) ++ Symbol CloseRename ∷ []) ∙ append_assoc ((operand_tokens c.get.result.now) ++ (Symbol OpenRename ∷ separated renamed_tokens (Symbol Comma) c.as_slice.result.now)) (conditions gen_tokens c.as_slice-2.result.now) (Symbol CloseRename ∷ []) ∙ append_assoc (operand_tokens c.get.result.now) (Symbol OpenRename ∷ separated renamed_tokens (Symbol Comma) c.as_slice.result.now) ((conditions gen_tokens c.as_slice-2.result.now) ++ (Symbol CloseRename ∷ [])))
-    (last c.args.text.now c.put_operand.new.text c.put_symbol-2.new.text (operand_tokens c.get.result.now) ((Symbol OpenRename ∷ []) ++ ((separated renamed_tokens (Symbol Comma) c.as_slice.result.now) ++ ((conditions gen_tokens c.as_slice-2.result.now) ++ (Symbol CloseRename ∷ [])))) c.put_symbol-2.result
-    c.in_ok-put_operand.ensures (last c.put_operand.new.text c.put_symbol.new.text c.put_symbol-2.new.text (Symbol OpenRename ∷ []) ((separated renamed_tokens (Symbol Comma) c.as_slice.result.now) ++ ((conditions gen_tokens c.as_slice-2.result.now) ++ (Symbol CloseRename ∷ []))) c.put_symbol-2.result
-    c.in_ok-put_symbol.ensures (last c.put_symbol.new.text c.put_pairs.new.text c.put_symbol-2.new.text (separated renamed_tokens (Symbol Comma) c.as_slice.result.now) ((conditions gen_tokens c.as_slice-2.result.now) ++ (Symbol CloseRename ∷ [])) c.put_symbol-2.result
-    c.in_ok-put_pairs.ensures (last c.put_pairs.new.text c.put_conditions.new.text c.put_symbol-2.new.text (conditions gen_tokens c.as_slice-2.result.now) (Symbol CloseRename ∷ []) c.put_symbol-2.result
-    c.in_ok-put_conditions.ensures c.put_symbol-2.ensures))))
+    written_as c.args.text.now c.put_conditions.new.text _ _ c.put_conditions.result
+    (tokens-Rename c.args.p.now c.args.pairs.now c.args.gens.now ∙ (λ i. operand_tokens (sym c.get.ensures i) ++ Symbol OpenRename ∷ separated renamed_tokens (Symbol Comma) (sym c.as_slice.ensures i) ++ conditions gen_tokens c.args.gens.now ++ Symbol CloseRename ∷ []) ∙ append_assoc ((operand_tokens c.get.result.now) ++ (Symbol OpenRename ∷ separated renamed_tokens (Symbol Comma) c.as_slice.result.now)) (conditions gen_tokens c.args.gens.now) (Symbol CloseRename ∷ []) ∙ append_assoc (operand_tokens c.get.result.now) (Symbol OpenRename ∷ separated renamed_tokens (Symbol Comma) c.as_slice.result.now) ((conditions gen_tokens c.args.gens.now) ++ (Symbol CloseRename ∷ [])))
+    (last c.args.text.now c.put_operand.new.text c.put_conditions.new.text (operand_tokens c.get.result.now) ((Symbol OpenRename ∷ []) ++ ((separated renamed_tokens (Symbol Comma) c.as_slice.result.now) ++ (conditions gen_tokens c.args.gens.now ++ Symbol CloseRename ∷ []))) c.put_conditions.result
+    c.in_ok-put_operand.ensures (last c.put_operand.new.text c.put_symbol.new.text c.put_conditions.new.text (Symbol OpenRename ∷ []) ((separated renamed_tokens (Symbol Comma) c.as_slice.result.now) ++ (conditions gen_tokens c.args.gens.now ++ Symbol CloseRename ∷ [])) c.put_conditions.result
+    c.in_ok-put_symbol.ensures (last c.put_symbol.new.text c.put_pairs.new.text c.put_conditions.new.text (separated renamed_tokens (Symbol Comma) c.as_slice.result.now) (conditions gen_tokens c.args.gens.now ++ Symbol CloseRename ∷ []) c.put_conditions.result
+    c.in_ok-put_pairs.ensures c.put_conditions.ensures)))
 
 pub put_tree-returns-in-Stop : goal.put_tree-returns-in-Stop
 put_tree-returns-in-Stop t c = written_as c.args.text.now c.put_word.new.text _ _ c.put_word.result (ap printed_tokens c.in-Stop.is ∙ tokens-Stop) c.put_word.ensures
@@ -321,7 +339,7 @@ pub put_tree-returns-in-Neg : goal.put_tree-returns-in-Neg
 put_tree-returns-in-Neg t c = written_as c.args.text.now c.put_after.new.text _ _ c.put_after.result (ap printed_tokens c.in-Neg.is ∙ tokens-Neg c.in-Neg.a ∙ ap (λ l. Symbol Minus ∷ operand_tokens l) (sym c.get.ensures)) c.put_after.ensures
 
 pub put_tree-returns-in-Not : goal.put_tree-returns-in-Not
-put_tree-returns-in-Not t c = written_as c.args.text.now c.put_complement.new.text _ _ c.put_complement.result (ap printed_tokens c.in-Not.is ∙ ap (λ l. printed_tokens (tree.Not l)) (sym c.get-in-Not.ensures)) c.put_complement.ensures
+put_tree-returns-in-Not t c = written_as c.args.text.now c.put_after_word.new.text _ _ c.put_after_word.result (ap printed_tokens c.in-Not.is ∙ tokens-Not c.in-Not.a ∙ ap (λ l. Word word.Not ∷ operand_tokens l) (sym c.get-in-Not.ensures)) c.put_after_word.ensures
 
 pub put_tree-returns-in-Binary : goal.put_tree-returns-in-Binary
 put_tree-returns-in-Binary t c = written_as c.args.text.now c.put_binary.new.text _ _ c.put_binary.result (ap printed_tokens c.in-Binary.is) c.put_binary.ensures

@@ -71,8 +71,20 @@ decreases-put_gens l = 8 * goal.size-put_gens l + 1
 abbrev pub decreases-put_parts : goal.decreases-put_parts
 decreases-put_parts l = 8 * goal.size-put_parts l + 1
 
+abbrev pub decreases-put_pair : goal.decreases-put_pair
+decreases-put_pair l = 8 * goal.size-put_pair l + 1
+
 abbrev pub decreases-put_pairs : goal.decreases-put_pairs
-decreases-put_pairs l = 8 * goal.size-put_pairs l + 1
+decreases-put_pairs l = 8 * goal.size-put_pairs l + 2
+
+abbrev pub decreases-put_branch : goal.decreases-put_branch
+decreases-put_branch l = 8 * goal.size-put_branch l + 1
+
+abbrev pub decreases-put_tree_after : goal.decreases-put_tree_after
+decreases-put_tree_after l = 8 * goal.size-put_tree_after l + 1
+
+abbrev pub decreases-put_input : goal.decreases-put_input
+decreases-put_input l = 8 * goal.size-put_input l + 4
 
 abbrev pub decreases-put_fields : goal.decreases-put_fields
 decreases-put_fields l = 8 * goal.size-put_fields l + 1
@@ -83,14 +95,20 @@ decreases-put_operand l = 8 * goal.size-put_operand l + 2
 abbrev pub decreases-put_item : goal.decreases-put_item
 decreases-put_item l = 8 * goal.size-put_item l + 2
 
+abbrev pub decreases-put_generators : goal.decreases-put_generators
+decreases-put_generators l = 8 * goal.size-put_generators l + 2
+
 abbrev pub decreases-put_conditions : goal.decreases-put_conditions
-decreases-put_conditions l = 8 * goal.size-put_conditions l + 2
+decreases-put_conditions l = 8 * goal.size-put_conditions l + 3
 
 abbrev pub decreases-put_after : goal.decreases-put_after
 decreases-put_after l = 8 * goal.size-put_after l + 3
 
-abbrev pub decreases-put_complement : goal.decreases-put_complement
-decreases-put_complement l = 8 * goal.size-put_complement l + 3
+abbrev pub decreases-put_after_word : goal.decreases-put_after_word
+decreases-put_after_word l = 8 * goal.size-put_after_word l + 3
+
+abbrev pub decreases-put_item_after : goal.decreases-put_item_after
+decreases-put_item_after l = 8 * goal.size-put_item_after l + 3
 
 abbrev pub decreases-put_items : goal.decreases-put_items
 decreases-put_items l = 8 * goal.size-put_items l + 3
@@ -132,7 +150,7 @@ abbrev pub decreases-put_each : goal.decreases-put_each
 decreases-put_each l = 8 * (max (the_size l.s.now) (the_size l.p.now)) + 5
 
 abbrev pub decreases-put_parallel : goal.decreases-put_parallel
-decreases-put_parallel l = 8 * (max (the_size l.p.now) (max (the_size l.a.now) (max (the_size l.b.now) (the_size l.q.now)))) + 5
+decreases-put_parallel l = 8 * (max (the_size l.p.now) (max (the_size l.a.now) (max (the_size l.b.now) (the_size l.q.now)))) + 6
 
 abbrev pub decreases-put_each_parallel : goal.decreases-put_each_parallel
 decreases-put_each_parallel l = 8 * (max (the_size l.s.now) (max (the_size l.a.now) (the_size l.p.now))) + 5
