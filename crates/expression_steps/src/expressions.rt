@@ -1,6 +1,6 @@
 //! Expressions: operators before and behind their operands.
 
-ghost use Rattle.std.specs.Prelude.{◌≡◌, ◌+◌, ◌*◌, ◌<◌, length, IfOk};
+ghost use Rattle.std.specs.Prelude.{◌≡◌, ◌+◌, ◌*◌, ◌<◌, length, IfOk, Some};
 ghost use Rattle.tree_reading.specs.Gives.{Gives};
 ghost use Rattle.expression_steps.specs.Expressions.{move_complement, move_expression, move_negative, move_operand, move_operator, move_operators, move_plain, move_renaming, move_sign, renaming_of, resume_expression};
 ghost use Rattle.expression_steps.specs.Moved.{moved, weight};
@@ -11,7 +11,7 @@ use crate::nesting::bracket_limits;
 use crate::plain::plain_operand;
 use crate::step::{Step, found, inner, next};
 use containers::{Boxed, Items};
-use csp_base::{BinOp, NoMemory};
+use csp_base::BinOp;
 use csp_text::{Symbol, Token, Tree, Word};
 use std::alloc::Global;
 use tree_reading::fault::ReadFault;
@@ -79,8 +79,11 @@ fn renaming_begun<'t>(
     ensures falls { IfOk result (λ s. weight (moved s) < 32 * length tokens.now + 34) }
 {
     let pairs = bracket_limits(limits, left.get(), tokens)?;
-    let renaming = renaming_of(alloc, limits, level, left)?;
-    Ok(next(Form::Part(PartOf::Old(renaming)), pairs, tokens))
+    renaming_of(alloc, limits, level, left).map(|renaming| next(
+        Form::Part(PartOf::Old(renaming)),
+        pairs,
+        tokens,
+    ))
 }
 
 // What stands behind an operand and a sign.
@@ -107,8 +110,8 @@ fn renaming_of(
     limits: Limits,
     level: Binding,
     left: Boxed<Tree>,
-) -> Result<Boxed<Renaming>, NoMemory>
-    ensures { IfOk result (λ r. r ≡ renaming_of limits level left) }
+) -> Result<Boxed<Renaming>, ReadFault>
+    ensures { Gives result (λ r. r) (Some (renaming_of limits level left)) }
 {
     let renaming = Renaming {
         limits,

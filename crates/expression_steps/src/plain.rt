@@ -15,15 +15,10 @@ fn push_token(alloc: Global, items: &mut Items<Tree>, token: &Token) -> Result<b
     ensures { IfOk result (λ is_plain. Pushed items.old token.now is_plain items.new) }
 {
     match token {
-        Token::Num(number) => {
-            items.push(Tree::Num(*number))?;
-            Ok(true)
-        }
-        Token::Name(name) => {
-            let name = name.try_clone(alloc)?;
-            items.push(Tree::Name(name))?;
-            Ok(true)
-        }
+        Token::Num(number) => items.push(Tree::Num(*number)).map(|_| true),
+        Token::Name(name) => items
+            .push_made(name.try_clone(alloc).map(Tree::Name))
+            .map(|_| true),
         _ => Ok(false),
     }
 }
@@ -44,11 +39,8 @@ fn push_plain<'t>(
     let Some(rest) = skip(behind, Symbol::Comma) else {
         return Ok(None);
     };
-    if push_token(alloc, items, first)? {
-        Ok(Some(rest))
-    } else {
-        Ok(None)
-    }
+    let is_plain = push_token(alloc, items, first)?;
+    Ok(is_plain.then_some(rest))
 }
 
 // Puts the plain items at the front behind these items, and gives what is left of the tokens.
@@ -90,15 +82,12 @@ fn plain_tree(alloc: Global, token: &Token) -> Result<Option<Boxed<Tree>>, NoMem
     ensures { IfOk result (λ tree. tree ≡ plain_tree token.now) }
 {
     match token {
-        Token::Num(number) => {
-            let tree = Boxed::new(alloc, Tree::Num(*number))?;
-            Ok(Some(tree))
-        }
-        Token::Name(name) => {
-            let name = name.try_clone(alloc)?;
-            let tree = Boxed::new(alloc, Tree::Name(name))?;
-            Ok(Some(tree))
-        }
+        Token::Num(number) => Boxed::new(alloc, Tree::Num(*number)).map(Some),
+        Token::Name(name) => name
+            .try_clone(alloc)
+            .map(Tree::Name)
+            .and_then(|tree| Boxed::new(alloc, tree))
+            .map(Some),
         _ => Ok(None),
     }
 }
@@ -117,8 +106,5 @@ pub(crate) fn plain_operand<'t>(
     if skip(rest, Symbol::OpenParen).is_some() {
         return Ok(None);
     }
-    match plain_tree(alloc, first)? {
-        Some(tree) => Ok(Some((tree, rest))),
-        None => Ok(None),
-    }
+    plain_tree(alloc, first).map(|tree| tree.map(|tree| (tree, rest)))
 }
