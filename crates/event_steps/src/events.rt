@@ -142,10 +142,10 @@ pub fn fields<'t>(
     if let Some(behind) = skip(tokens, Symbol::Bang) {
         return Ok(value(limits, name, fields, FieldKind::Output, behind));
     }
-    if let Some(behind) = skip(tokens, Symbol::Question) {
-        return input(alloc, limits, name, fields, behind);
+    match skip(tokens, Symbol::Question) {
+        Some(behind) => input(alloc, limits, name, fields, behind),
+        None => event(alloc, limits, name, fields, tokens),
     }
-    event(alloc, limits, name, fields, tokens)
 }
 
 // What stands behind the tree of a field.
