@@ -31,9 +31,10 @@ fn name_begun<'t>(
     ensures falls { IfOk result (λ s. weight (moved s) < 32 * length tokens.now) }
 {
     let (name, colon) = expect_name(alloc, tokens)?;
-    let behind = expect(colon, Symbol::Colon)?;
-    let frame = Frame::Replicated(ReplicatedFrame::Range(limits, replication, name));
-    Ok(inner(frame, Form::Atom, limits, behind))
+    expect(colon, Symbol::Colon).map(|behind| {
+        let frame = Frame::Replicated(ReplicatedFrame::Range(limits, replication, name));
+        inner(frame, Form::Atom, limits, behind)
+    })
 }
 
 // What stands behind the sign of a replicated form.
