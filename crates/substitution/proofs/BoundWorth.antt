@@ -6,7 +6,7 @@ use Rattle.csp_program.specs.Atoms.{added, all_added, events_from}
 use Rattle.csp_program.specs.EventNumber.{row_count}
 use Rattle.csp_program.specs.Outcome.{Outcome, and_then}
 use Rattle.csp_program.specs.Substitution.{any_binds, binds, layer_binds}
-use Rattle.csp_program.specs.Value.{Env, Front, Gathered, Meaning, Turn, Uses, as_atom, as_number, as_set, as_truth, binary, bound_value, comprehension, field_place, fields_number, first_of, from, front, front_count, front_number, front_of_layer, fronts_added, gathered, in_range, items_added, lack_sets, many, meaning, meaning_of_layer, over, range, set_binary, sets_of, truth, turn, turn_of_layer, values_of, walked, when}
+use Rattle.csp_program.specs.Value.{Env, Front, Gathered, Meaning, Turn, Uses, as_atom, as_number, as_set, as_truth, binary, bound_value, field_place, fields_number, first_of, from, front, front_count, front_number, front_of_layer, fronts_added, gathered, items_added, lack_sets, many, meaning, meaning_of_layer, over, range, set_binary, sets_of, turn, turn_of_layer, values_of, walked, when}
 use Rattle.csp_atoms.specs.declared.atom.Atom.{Atom}
 use Rattle.csp_atoms.specs.declared.atom.Atom.TheVariants as atom
 use Rattle.csp_atoms.specs.declared.value.Value.{Value}
@@ -16,10 +16,10 @@ use Rattle.csp_program.specs.declared.expressions.Expr.TheVariants as expr
 use Rattle.csp_program.specs.declared.expressions.Expr.TheFolds.{fold-roll-Expr, fold-roll-Gen, fold-roll-EventPart, ind-Expr, map-Expr, map-Gen, map-EventPart}
 use Rattle.csp_program.specs.declared.expressions.Expr.TheOpen.{Expr-F, Gen-F, EventPart-F}
 use Rattle.csp_program.specs.declared.expressions.Expr.TheViews.{roll-Expr, roll-Gen, roll-EventPart, out-Gen, out-roll-Gen, out-roll-EventPart}
-use Rattle.csp_program.specs.declared.expressions.EventPart.{EventPart, out-EventPart}
+use Rattle.csp_program.specs.declared.expressions.EventPart.{EventPart}
 use Rattle.csp_program.specs.declared.expressions.Gen.{Gen}
 use Rattle.csp_program.specs.declared.expressions.Gen.TheVariants as generator
-use Rattle.csp_program.specs.declared.kinds.ValueKind.TheVariants.{Kind, OutsideChannel, SetLimit}
+use Rattle.csp_program.specs.declared.kinds.ValueKind.TheVariants.{Kind, SetLimit}
 use Rattle.csp_program.specs.declared.programs.Channel.{Channel}
 use Rattle.substitution.specs.Parts.{expr_after, gen_after, part_after, exprs_after, gens_after, parts_after}
 use Rattle.substitution.proofs.ExprEquations as puts

@@ -1,6 +1,6 @@
 -- Lists of parts with a value put in, in the two ways that they are written.
 use Rattle.std.proofs.Common.{◌≡◌, ℕ, suc, ◌+◌, ◌<◌, Bool, true, false, cond, nat_eq, if◌then◌else◌, Some, None, Ok, Err, List, [], ◌∷◌, ◌++◌, map, length, get_or, drop, ap, sym, ◌∙◌, refl, add-one, append_assoc, drop-cons}
-use Rattle.std.specs.Prelude.{IfOk, Result}
+use Rattle.std.specs.Prelude.{IfOk, IsOkAnd, Result}
 use Rattle.substitution.specs.Parts.{expr_after, gen_after, part_after, proc_after, exprs_after, gens_after, parts_after, pairs_after, fields_after, procs_after}
 use Rattle.csp_program.specs.Substitution.{expr_with, gen_with, part_with, pair_with, fields_with, proc_with, changed, kept, Twice, all_unless_bound, any_binds, binds, gens_with, gen_twice, pair_twice}
 use Rattle.csp_atoms.specs.declared.value.Value.{Value}
@@ -141,3 +141,8 @@ next_made f xs i x y tail made more whole lt is step h grown =
     (append_assoc made (y ∷ []) tail ∙
     (ap (λ ys. made ++ ys) (sym step) ∙
     (ap (λ rest. made ++ f rest) (sym (left_of xs i x lt is)) ∙ h)))
+
+-- what was made is put at the end
+pub pushed : {A E : Type 0} (made : Result A E) (value : A) (old new : List A) → IfOk made (λ part. part ≡ value) → IsOkAnd made (λ item. new ≡ old ++ item ∷ []) → new ≡ old ++ value ∷ []
+pushed (Ok part) value old new is put = put ∙ ap (λ item. old ++ item ∷ []) is
+pushed (Err e) value old new is put = elim put [ ]

@@ -4,7 +4,6 @@ ghost use Rattle.std.specs.Prelude.{◌≡◌, ◌||◌, false, nat_eq, if◌the
 ghost use Rattle.csp_program.specs.Substitution.{any_binds, binds};
 ghost use Rattle.substitution.specs.Parts.{expr_after, exprs_after, gen_after, gens_after, part_after, parts_after};
 
-use crate::made::{boxed, push_made};
 use containers::{Boxed, Items};
 use csp_base::{BinOp, NoMemory, SetOp};
 use csp_program::copies::{copy_exprs, copy_gen, copy_parts, copy_value};
@@ -16,7 +15,7 @@ fn replace_name(alloc: Global, other: u32, name: u32, value: &Value) -> Result<E
     ensures { IfOk result (λ made. made ≡ (if nat_eq other name then Expr.Lit value.now else Expr.Bound other)) }
 {
     if other == name {
-        return Ok(Expr::Lit(copy_value(alloc, value)?));
+        return copy_value(alloc, value).map(Expr::Lit);
     }
     Ok(Expr::Bound(other))
 }
@@ -68,46 +67,28 @@ pub(crate) fn replace_expr(
         Expr::Truth(truth) => Ok(Expr::Truth(*truth)),
         Expr::Const(number) => Ok(Expr::Const(*number)),
         Expr::Bound(other) => replace_name(alloc, *other, name, value),
-        Expr::Lit(kept) => literal(alloc, kept),
-        Expr::Neg(a) => negative(alloc, a, name, value),
-        Expr::Not(a) => opposite(alloc, a, name, value),
+        Expr::Lit(kept) => copy_value(alloc, kept).map(Expr::Lit),
+        Expr::Neg(a) => replace_boxed_expr(alloc, a, name, value).map(Expr::Neg),
+        Expr::Not(a) => replace_boxed_expr(alloc, a, name, value).map(Expr::Not),
         Expr::Binary(op, a, b) => binary(alloc, *op, a, b, name, value),
         Expr::If(c, a, b) => choice(alloc, c, a, b, name, value),
-        Expr::Call(def, args) => call(alloc, *def, args, name, value),
+        Expr::Call(def, args) => {
+            let args = replace_exprs(alloc, false, args.as_slice(), name, value);
+            args.map(|args| Expr::Call(*def, args))
+        }
         Expr::SetName(def) => Ok(Expr::SetName(*def)),
-        Expr::Event(channel, fields) => event(alloc, *channel, fields, name, value),
-        Expr::Display(items) => display(alloc, items, name, value),
+        Expr::Event(channel, fields) => {
+            let fields = replace_exprs(alloc, false, fields.as_slice(), name, value);
+            fields.map(|fields| Expr::Event(*channel, fields))
+        }
+        Expr::Display(items) => {
+            replace_exprs(alloc, false, items.as_slice(), name, value).map(Expr::Display)
+        }
         Expr::Range(a, b) => range(alloc, a, b, name, value),
         Expr::Comp(items, gens) => comprehension(alloc, items, gens, name, value),
         Expr::Product(parts, gens) => product(alloc, parts, gens, name, value),
         Expr::SetOp(op, a, b) => set_operation(alloc, *op, a, b, name, value),
     }
-}
-
-// A value that was put in before.
-fn literal(alloc: Global, value: &Value) -> Result<Expr, NoMemory>
-    ensures { IfOk result (λ made. made ≡ Expr.Lit value.now) }
-{
-    let value = copy_value(alloc, value)?;
-    Ok(Expr::Lit(value))
-}
-
-// The negative of an expression.
-#[cycle(replace_expr)]
-fn negative(alloc: Global, a: &Boxed<Expr>, name: u32, value: &Value) -> Result<Expr, NoMemory>
-    ensures { IfOk result (λ made. made ≡ Expr.Neg (expr_after name value.now a.now)) }
-{
-    let a = replace_boxed_expr(alloc, a, name, value)?;
-    Ok(Expr::Neg(a))
-}
-
-// The opposite of a condition.
-#[cycle(replace_expr)]
-fn opposite(alloc: Global, a: &Boxed<Expr>, name: u32, value: &Value) -> Result<Expr, NoMemory>
-    ensures { IfOk result (λ made. made ≡ Expr.Not (expr_after name value.now a.now)) }
-{
-    let a = replace_boxed_expr(alloc, a, name, value)?;
-    Ok(Expr::Not(a))
 }
 
 // An operator between two operands.
@@ -122,8 +103,7 @@ fn binary(
 ) -> Result<Expr, NoMemory>
     ensures { IfOk result (λ made. made ≡ Expr.Binary op (expr_after name value.now a.now) (expr_after name value.now b.now)) }
 {
-    let (a, b) = replace_two(alloc, a, b, name, value)?;
-    Ok(Expr::Binary(op, a, b))
+    replace_two(alloc, a, b, name, value).map(|(a, b)| Expr::Binary(op, a, b))
 }
 
 // One of two expressions.
@@ -154,8 +134,7 @@ fn range(
 ) -> Result<Expr, NoMemory>
     ensures { IfOk result (λ made. made ≡ Expr.Range (expr_after name value.now a.now) (expr_after name value.now b.now)) }
 {
-    let (a, b) = replace_two(alloc, a, b, name, value)?;
-    Ok(Expr::Range(a, b))
+    replace_two(alloc, a, b, name, value).map(|(a, b)| Expr::Range(a, b))
 }
 
 // An operator between two sets.
@@ -170,47 +149,7 @@ fn set_operation(
 ) -> Result<Expr, NoMemory>
     ensures { IfOk result (λ made. made ≡ Expr.SetOp op (expr_after name value.now a.now) (expr_after name value.now b.now)) }
 {
-    let (a, b) = replace_two(alloc, a, b, name, value)?;
-    Ok(Expr::SetOp(op, a, b))
-}
-
-// The use of a definition with arguments.
-#[cycle(replace_expr)]
-fn call(
-    alloc: Global,
-    def: u32,
-    args: &Items<Expr>,
-    name: u32,
-    value: &Value,
-) -> Result<Expr, NoMemory>
-    ensures { IfOk result (λ made. made ≡ Expr.Call def (exprs_after name value.now false args.now)) }
-{
-    let args = replace_exprs(alloc, false, args.as_slice(), name, value)?;
-    Ok(Expr::Call(def, args))
-}
-
-// The event of a channel with fields.
-#[cycle(replace_expr)]
-fn event(
-    alloc: Global,
-    channel: u32,
-    fields: &Items<Expr>,
-    name: u32,
-    value: &Value,
-) -> Result<Expr, NoMemory>
-    ensures { IfOk result (λ made. made ≡ Expr.Event channel (exprs_after name value.now false fields.now)) }
-{
-    let fields = replace_exprs(alloc, false, fields.as_slice(), name, value)?;
-    Ok(Expr::Event(channel, fields))
-}
-
-// The set of some expressions.
-#[cycle(replace_expr)]
-fn display(alloc: Global, items: &Items<Expr>, name: u32, value: &Value) -> Result<Expr, NoMemory>
-    ensures { IfOk result (λ made. made ≡ Expr.Display (exprs_after name value.now false items.now)) }
-{
-    let items = replace_exprs(alloc, false, items.as_slice(), name, value)?;
-    Ok(Expr::Display(items))
+    replace_two(alloc, a, b, name, value).map(|(a, b)| Expr::SetOp(op, a, b))
 }
 
 // The set of some expressions under generators.
@@ -257,7 +196,7 @@ fn replace_boxed_expr(
 ) -> Result<Boxed<Expr>, NoMemory>
     ensures { IfOk result (λ made. made ≡ expr_after name value.now expr.now) }
 {
-    boxed(alloc, replace_expr(alloc, expr.get(), name, value))
+    replace_expr(alloc, expr.get(), name, value).and_then(|expr| Boxed::new(alloc, expr))
 }
 
 // Two expressions on the heap.
@@ -292,8 +231,7 @@ pub(crate) fn replace_exprs(
     }
     let mut made = Items::new(alloc);
     for expr in exprs {
-        let item = replace_expr(alloc, expr, name, value);
-        push_made(&mut made, item)?;
+        made.push_made(replace_expr(alloc, expr, name, value))?;
     }
     Ok(made)
 }
@@ -304,8 +242,10 @@ fn replace_gen(alloc: Global, generator: &Gen, name: u32, value: &Value) -> Resu
     ensures { IfOk result (λ made. made ≡ gen_after name value.now generator.now) }
 {
     match generator {
-        Gen::From(other, set) => Ok(Gen::From(*other, replace_expr(alloc, set, name, value)?)),
-        Gen::Cond(condition) => Ok(Gen::Cond(replace_expr(alloc, condition, name, value)?)),
+        Gen::From(other, set) => {
+            replace_expr(alloc, set, name, value).map(|set| Gen::From(*other, set))
+        }
+        Gen::Cond(condition) => replace_expr(alloc, condition, name, value).map(Gen::Cond),
     }
 }
 
@@ -339,8 +279,7 @@ pub(crate) fn replace_gens(
     let mut made = Items::new(alloc);
     let mut bound = false;
     for generator in gens {
-        let item = replace_gen_unless(alloc, bound, generator, name, value);
-        push_made(&mut made, item)?;
+        made.push_made(replace_gen_unless(alloc, bound, generator, name, value))?;
         bound = still_bound(bound, generator, name);
     }
     Ok(made)
@@ -379,8 +318,7 @@ fn replace_parts(
     }
     let mut made = Items::new(alloc);
     for part in parts {
-        let item = replace_part(alloc, part, name, value);
-        push_made(&mut made, item)?;
+        made.push_made(replace_part(alloc, part, name, value))?;
     }
     Ok(made)
 }

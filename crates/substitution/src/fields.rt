@@ -6,7 +6,6 @@ ghost use Rattle.csp_program.specs.Substitution.{any_gets, head_with};
 ghost use Rattle.substitution.specs.Parts.{field_after, fields_after, gets, pair_after, pairs_after};
 
 use crate::expressions::{replace_expr, replace_part};
-use crate::made::push_made;
 use containers::Items;
 use csp_base::NoMemory;
 use csp_program::copies::{copy_field, copy_pairs, copy_value};
@@ -26,11 +25,11 @@ pub fn substitute_head(
         Head::Channel(channel) => Ok(Head::Channel(*channel)),
         Head::Bound(other) => {
             if *other == name {
-                return Ok(Head::Put(copy_value(alloc, value)?));
+                return copy_value(alloc, value).map(Head::Put);
             }
             Ok(Head::Bound(*other))
         }
-        Head::Put(kept) => Ok(Head::Put(copy_value(alloc, kept)?)),
+        Head::Put(kept) => copy_value(alloc, kept).map(Head::Put),
     }
 }
 
@@ -70,11 +69,11 @@ fn replace_field(alloc: Global, field: &Field, name: u32, value: &Value) -> Resu
     ensures { IfOk result (λ made. made ≡ field_after name value.now field.now) }
 {
     match field {
-        Field::Put(expr) => Ok(Field::Put(replace_expr(alloc, expr, name, value)?)),
+        Field::Put(expr) => replace_expr(alloc, expr, name, value).map(Field::Put),
         Field::Get(other, None) => Ok(Field::Get(*other, None)),
-        Field::Get(other, Some(set)) => Ok(Field::Get(
+        Field::Get(other, Some(set)) => replace_expr(alloc, set, name, value).map(|set| Field::Get(
             *other,
-            Some(replace_expr(alloc, set, name, value)?),
+            Some(set),
         )),
     }
 }
@@ -107,8 +106,7 @@ pub(crate) fn replace_fields(
     let mut made = Items::new(alloc);
     let mut bound = false;
     for field in fields {
-        let item = replace_field_unless(alloc, bound, field, name, value);
-        push_made(&mut made, item)?;
+        made.push_made(replace_field_unless(alloc, bound, field, name, value))?;
         bound = still_got(bound, field, name);
     }
     Ok(made)
@@ -142,8 +140,7 @@ pub(crate) fn replace_pairs(
     }
     let mut made = Items::new(alloc);
     for pair in pairs {
-        let item = replace_pair(alloc, pair, name, value);
-        push_made(&mut made, item)?;
+        made.push_made(replace_pair(alloc, pair, name, value))?;
     }
     Ok(made)
 }

@@ -5,7 +5,6 @@ pub mod calls;
 mod expressions;
 mod fields;
 pub mod laws;
-mod made;
 mod networks;
 mod processes;
 

@@ -5,13 +5,12 @@ ghost use Rattle.substitution.specs.Networks.{net_after, net_below};
 ghost use Rattle.substitution.specs.Parts.{expr_after, exprs_after, proc_after};
 
 use crate::expressions::{replace_expr, replace_exprs};
-use crate::made::boxed;
 use crate::processes::replace_proc;
 use containers::{Boxed, Items};
 use csp_base::NoMemory;
-use csp_program::copies::copy_expr;
-use csp_program::net_copies::copy_net;
-use csp_program::{Expr, Net, Proc, Value};
+use csp_program::copies::copy_boxed_expr;
+use csp_program::net_copies::copy_boxed_net;
+use csp_program::{Expr, Net, Value};
 use std::alloc::Global;
 
 #[tactic(auto, using(crate::proofs::NetEquations::net_forms))]
@@ -25,20 +24,12 @@ pub(crate) fn replace_net(
     ensures { IfOk result (λ made. made ≡ net_after name value.now net.now) }
 {
     match net {
-        Net::Leaf(process) => leaf(alloc, process, name, value),
+        Net::Leaf(process) => replace_proc(alloc, process, name, value).map(Net::Leaf),
         Net::Call(def, args) => call(alloc, *def, args, name, value),
         Net::If(c, left, right) => choice(alloc, c, left, right, name, value),
         Net::Pair(left, a, b, right) => pair(alloc, left, a, b, right, name, value),
         Net::Each(other, set, a, inner) => each(alloc, *other, set, a, inner, name, value),
     }
-}
-
-// A component.
-fn leaf(alloc: Global, process: &Proc, name: u32, value: &Value) -> Result<Net, NoMemory>
-    ensures { IfOk result (λ made. made ≡ Net.Leaf (proc_after name value.now process.now)) }
-{
-    let process = replace_proc(alloc, process, name, value)?;
-    Ok(Net::Leaf(process))
 }
 
 // The use of a network definition with arguments.
@@ -51,8 +42,7 @@ fn call(
 ) -> Result<Net, NoMemory>
     ensures { IfOk result (λ made. made ≡ Net.Call def (exprs_after name value.now false args.now)) }
 {
-    let args = replace_exprs(alloc, false, args.as_slice(), name, value)?;
-    Ok(Net::Call(def, args))
+    replace_exprs(alloc, false, args.as_slice(), name, value).map(|args| Net::Call(def, args))
 }
 
 // One of two networks.
@@ -68,8 +58,7 @@ fn choice(
     ensures { IfOk result (λ made. made ≡ Net.If (expr_after name value.now c.now) (net_below name value.now false left.now) (net_below name value.now false right.now)) }
 {
     let (left, right) = replace_two(alloc, left, right, name, value)?;
-    let c = replace_expr(alloc, c, name, value)?;
-    Ok(Net::If(c, left, right))
+    replace_expr(alloc, c, name, value).map(|c| Net::If(c, left, right))
 }
 
 // Two networks with their alphabets.
@@ -86,15 +75,12 @@ fn pair(
     ensures { IfOk result (λ made. made ≡ Net.Pair (net_below name value.now false left.now) (expr_after name value.now a.now) (expr_after name value.now b.now) (net_below name value.now false right.now)) }
 {
     let (left, right) = replace_two(alloc, left, right, name, value)?;
-    let (a, b) = replace_exprs_beside(alloc, false, a, b, name, value)?;
-    Ok(pair_of(left, a, b, right))
-}
-
-// The same of what they became.
-fn pair_of(left: Boxed<Net>, a: Boxed<Expr>, b: Boxed<Expr>, right: Boxed<Net>) -> Net
-    ensures { result ≡ Net.Pair left a b right }
-{
-    Net::Pair(left, a.into_inner(), b.into_inner(), right)
+    replace_exprs_beside(alloc, false, a, b, name, value).map(|(a, b)| Net::Pair(
+        left,
+        a.into_inner(),
+        b.into_inner(),
+        right,
+    ))
 }
 
 // A network for each value of a set. The alphabet stands under the binding, and the set outside of it.
@@ -111,15 +97,12 @@ fn each(
     ensures { IfOk result (λ made. made ≡ Net.Each other (expr_after name value.now set.now) (if nat_eq other name then a.now else expr_after name value.now a.now) (net_below name value.now (nat_eq other name) net.now)) }
 {
     let net = replace_boxed_net(alloc, other == name, net, name, value)?;
-    let (set, a) = replace_exprs_beside(alloc, other == name, set, a, name, value)?;
-    Ok(each_of(other, set, a, net))
-}
-
-// The same of what they became.
-fn each_of(other: u32, set: Boxed<Expr>, a: Boxed<Expr>, net: Boxed<Net>) -> Net
-    ensures { result ≡ Net.Each other set a net }
-{
-    Net::Each(other, set.into_inner(), a.into_inner(), net)
+    replace_exprs_beside(alloc, other == name, set, a, name, value).map(|(set, a)| Net::Each(
+        other,
+        set.into_inner(),
+        a.into_inner(),
+        net,
+    ))
 }
 
 // An expression beside a network, on the heap, kept where the name is bound.
@@ -133,9 +116,9 @@ fn replace_beside(
     ensures { IfOk result (λ made. made ≡ (if bound then expr.now else expr_after name value.now expr.now)) }
 {
     if bound {
-        return boxed(alloc, copy_expr(alloc, expr));
+        return copy_boxed_expr(alloc, expr);
     }
-    boxed(alloc, replace_expr(alloc, expr, name, value))
+    replace_expr(alloc, expr, name, value).and_then(|expr| Boxed::new(alloc, expr))
 }
 
 // Two expressions beside a network, of which the second is kept where the name is bound.
@@ -182,7 +165,7 @@ fn replace_boxed_net(
     ensures { IfOk result (λ made. made ≡ net_below name value.now bound net.now) }
 {
     if bound {
-        return boxed(alloc, copy_net(alloc, net.get()));
+        return copy_boxed_net(alloc, net.get());
     }
-    boxed(alloc, replace_net(alloc, net.get(), name, value))
+    replace_net(alloc, net.get(), name, value).and_then(|net| Boxed::new(alloc, net))
 }

@@ -6,10 +6,9 @@ ghost use Rattle.substitution.specs.Parts.{expr_after, exprs_after, fields_after
 
 use crate::expressions::{any_binds_name, replace_expr, replace_exprs, replace_gens};
 use crate::fields::{any_gets_name, replace_fields, replace_pairs, substitute_head};
-use crate::made::{boxed, push_made};
 use containers::{Boxed, Items};
 use csp_base::NoMemory;
-use csp_program::proc_copies::copy_proc;
+use csp_program::proc_copies::copy_boxed_proc;
 use csp_program::{EventPart, Expr, Field, Gen, Head, Proc, Value};
 use std::alloc::Global;
 
@@ -28,13 +27,20 @@ pub(crate) fn replace_proc(
         Proc::Prefix(head, fields, p) => prefix(alloc, head, fields, p, name, value),
         Proc::Guard(c, p) => guard(alloc, c, p, name, value),
         Proc::If(c, p, q) => choice(alloc, c, p, q, name, value),
-        Proc::External(procs) => external(alloc, procs, name, value),
-        Proc::Internal(procs) => internal(alloc, procs, name, value),
+        Proc::External(procs) => {
+            replace_procs(alloc, procs.as_slice(), name, value).map(Proc::External)
+        }
+        Proc::Internal(procs) => {
+            replace_procs(alloc, procs.as_slice(), name, value).map(Proc::Internal)
+        }
         Proc::EachExternal(other, set, p) => each_external(alloc, *other, set, p, name, value),
         Proc::EachInternal(other, set, p) => each_internal(alloc, *other, set, p, name, value),
         Proc::Hide(p, set) => hiding(alloc, p, set, name, value),
         Proc::Rename(p, pairs, gens) => renaming(alloc, p, pairs, gens, name, value),
-        Proc::Call(def, args) => call(alloc, *def, args, name, value),
+        Proc::Call(def, args) => {
+            let args = replace_exprs(alloc, false, args.as_slice(), name, value);
+            args.map(|args| Proc::Call(*def, args))
+        }
         Proc::Skip => Ok(Proc::Skip),
         Proc::Seq(p, q) => sequence(alloc, p, q, name, value),
         Proc::Ended => Ok(Proc::Ended),
@@ -55,8 +61,8 @@ fn prefix(
 {
     let bound = any_gets_name(fields.as_slice(), name);
     let p = replace_boxed_proc(alloc, bound, p, name, value)?;
-    let (head, fields) = replace_start(alloc, head, fields, name, value)?;
-    Ok(Proc::Prefix(head, fields, p))
+    let start = replace_start(alloc, head, fields, name, value);
+    start.map(|(head, fields)| Proc::Prefix(head, fields, p))
 }
 
 // The head and the fields of a prefix.
@@ -70,8 +76,7 @@ fn replace_start(
     ensures { IfOk result (λ made. (made.0 ≡ head_with name value.now head.now) × (made.1 ≡ fields_after name value.now false fields.now)) }
 {
     let fields = replace_fields(alloc, fields.as_slice(), name, value)?;
-    let head = substitute_head(alloc, head, name, value)?;
-    Ok((head, fields))
+    substitute_head(alloc, head, name, value).map(|head| (head, fields))
 }
 
 // A process under a condition.
@@ -86,8 +91,7 @@ fn guard(
     ensures { IfOk result (λ made. made ≡ Proc.Guard (expr_after name value.now c.now) (proc_below name value.now false p.now)) }
 {
     let p = replace_boxed_proc(alloc, false, p, name, value)?;
-    let c = replace_expr(alloc, c, name, value)?;
-    Ok(Proc::Guard(c, p))
+    replace_expr(alloc, c, name, value).map(|c| Proc::Guard(c, p))
 }
 
 // One of two processes.
@@ -103,26 +107,7 @@ fn choice(
     ensures { IfOk result (λ made. made ≡ Proc.If (expr_after name value.now c.now) (proc_below name value.now false p.now) (proc_below name value.now false q.now)) }
 {
     let (p, q) = replace_two(alloc, p, q, name, value)?;
-    let c = replace_expr(alloc, c, name, value)?;
-    Ok(Proc::If(c, p, q))
-}
-
-// The external choice of some processes.
-#[cycle(replace_proc)]
-fn external(alloc: Global, procs: &Items<Proc>, name: u32, value: &Value) -> Result<Proc, NoMemory>
-    ensures { IfOk result (λ made. made ≡ Proc.External (procs_after name value.now procs.now)) }
-{
-    let procs = replace_procs(alloc, procs.as_slice(), name, value)?;
-    Ok(Proc::External(procs))
-}
-
-// The internal choice of some processes.
-#[cycle(replace_proc)]
-fn internal(alloc: Global, procs: &Items<Proc>, name: u32, value: &Value) -> Result<Proc, NoMemory>
-    ensures { IfOk result (λ made. made ≡ Proc.Internal (procs_after name value.now procs.now)) }
-{
-    let procs = replace_procs(alloc, procs.as_slice(), name, value)?;
-    Ok(Proc::Internal(procs))
+    replace_expr(alloc, c, name, value).map(|c| Proc::If(c, p, q))
 }
 
 // An external choice over the values of a set.
@@ -138,8 +123,7 @@ fn each_external(
     ensures { IfOk result (λ made. made ≡ Proc.EachExternal other (expr_after name value.now set.now) (proc_below name value.now (nat_eq other name) p.now)) }
 {
     let p = replace_boxed_proc(alloc, other == name, p, name, value)?;
-    let set = replace_expr(alloc, set, name, value)?;
-    Ok(Proc::EachExternal(other, set, p))
+    replace_expr(alloc, set, name, value).map(|set| Proc::EachExternal(other, set, p))
 }
 
 // An internal choice over the values of a set.
@@ -155,8 +139,7 @@ fn each_internal(
     ensures { IfOk result (λ made. made ≡ Proc.EachInternal other (expr_after name value.now set.now) (proc_below name value.now (nat_eq other name) p.now)) }
 {
     let p = replace_boxed_proc(alloc, other == name, p, name, value)?;
-    let set = replace_expr(alloc, set, name, value)?;
-    Ok(Proc::EachInternal(other, set, p))
+    replace_expr(alloc, set, name, value).map(|set| Proc::EachInternal(other, set, p))
 }
 
 // A process with a set hidden.
@@ -171,8 +154,7 @@ fn hiding(
     ensures { IfOk result (λ made. made ≡ Proc.Hide (proc_below name value.now false p.now) (expr_after name value.now set.now)) }
 {
     let p = replace_boxed_proc(alloc, false, p, name, value)?;
-    let set = replace_expr(alloc, set, name, value)?;
-    Ok(Proc::Hide(p, set))
+    replace_expr(alloc, set, name, value).map(|set| Proc::Hide(p, set))
 }
 
 // A process renamed.
@@ -188,8 +170,8 @@ fn renaming(
     ensures { IfOk result (λ made. made ≡ Proc.Rename (proc_below name value.now false p.now) (pairs_after name value.now (any_binds name gens.now) pairs.now) (gens_after name value.now false gens.now)) }
 {
     let p = replace_boxed_proc(alloc, false, p, name, value)?;
-    let (pairs, gens) = replace_renaming(alloc, pairs, gens, name, value)?;
-    Ok(Proc::Rename(p, pairs, gens))
+    let sides = replace_renaming(alloc, pairs, gens, name, value);
+    sides.map(|(pairs, gens)| Proc::Rename(p, pairs, gens))
 }
 
 // The pairs and the generators of a renaming.
@@ -208,20 +190,6 @@ fn replace_renaming(
     Ok((pairs, gens))
 }
 
-// The use of a definition with arguments.
-fn call(
-    alloc: Global,
-    def: u32,
-    args: &Items<Expr>,
-    name: u32,
-    value: &Value,
-) -> Result<Proc, NoMemory>
-    ensures { IfOk result (λ made. made ≡ Proc.Call def (exprs_after name value.now false args.now)) }
-{
-    let args = replace_exprs(alloc, false, args.as_slice(), name, value)?;
-    Ok(Proc::Call(def, args))
-}
-
 // One process after the other.
 #[cycle(replace_proc)]
 fn sequence(
@@ -233,8 +201,7 @@ fn sequence(
 ) -> Result<Proc, NoMemory>
     ensures { IfOk result (λ made. made ≡ Proc.Seq (proc_below name value.now false p.now) (proc_below name value.now false q.now)) }
 {
-    let (p, q) = replace_two(alloc, p, q, name, value)?;
-    Ok(Proc::Seq(p, q))
+    replace_two(alloc, p, q, name, value).map(|(p, q)| Proc::Seq(p, q))
 }
 
 // A process on the heap, kept where the name is bound.
@@ -249,9 +216,9 @@ fn replace_boxed_proc(
     ensures { IfOk result (λ made. made ≡ proc_below name value.now bound proc.now) }
 {
     if bound {
-        return boxed(alloc, copy_proc(alloc, proc.get()));
+        return copy_boxed_proc(alloc, proc.get());
     }
-    boxed(alloc, replace_proc(alloc, proc.get(), name, value))
+    replace_proc(alloc, proc.get(), name, value).and_then(|proc| Boxed::new(alloc, proc))
 }
 
 // Two processes on the heap.
@@ -281,8 +248,7 @@ fn replace_procs(
 {
     let mut made = Items::new(alloc);
     for proc in procs {
-        let item = replace_proc(alloc, proc, name, value);
-        push_made(&mut made, item)?;
+        made.push_made(replace_proc(alloc, proc, name, value))?;
     }
     Ok(made)
 }

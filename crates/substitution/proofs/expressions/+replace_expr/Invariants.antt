@@ -45,12 +45,6 @@ decreases-replace_parts l = 4 * goal.size-replace_parts l + 2
 abbrev pub decreases-replace_two : goal.decreases-replace_two
 decreases-replace_two l = 4 * (max (the_size l.a.now) (the_size l.b.now)) + 2
 
-abbrev pub decreases-negative : goal.decreases-negative
-decreases-negative l = 4 * (the_size l.a.now) + 3
-
-abbrev pub decreases-opposite : goal.decreases-opposite
-decreases-opposite l = 4 * (the_size l.a.now) + 3
-
 abbrev pub decreases-binary : goal.decreases-binary
 decreases-binary l = 4 * (max (the_size l.a.now) (the_size l.b.now)) + 3
 
@@ -62,15 +56,6 @@ decreases-range l = 4 * (max (the_size l.a.now) (the_size l.b.now)) + 3
 
 abbrev pub decreases-set_operation : goal.decreases-set_operation
 decreases-set_operation l = 4 * (max (the_size l.a.now) (the_size l.b.now)) + 3
-
-abbrev pub decreases-call : goal.decreases-call
-decreases-call l = 4 * goal.size-call l + 3
-
-abbrev pub decreases-event : goal.decreases-event
-decreases-event l = 4 * goal.size-event l + 3
-
-abbrev pub decreases-display : goal.decreases-display
-decreases-display l = 4 * goal.size-display l + 3
 
 abbrev pub decreases-comprehension : goal.decreases-comprehension
 decreases-comprehension l = 4 * max (goal.size-comprehension l) (weighed.most (λ x. generator.the_size x) l.gens.now) + 3

@@ -1,6 +1,6 @@
 use Rattle.std.proofs.Common.{◌+◌, drop, false, refl, arith}
 use Rattle.substitution.specs.Parts.{pair_after, pairs_after}
-use Rattle.substitution.proofs.ListEquations.{next_made, pairs_kept}
+use Rattle.substitution.proofs.ListEquations.{next_made, pushed, pairs_kept}
 use Rattle.substitution.proofs.fields.replace_pairs.Goals as goal
 
 pub returns-then-bound : goal.returns-then-bound
@@ -9,5 +9,5 @@ returns-then-bound c = pairs_kept c.args.name c.args.value.now c.args.bound c.ar
 pub loop-pair-preserved : goal.loop-pair-preserved
 loop-pair-preserved c =
     next_made (pairs_after c.args.name c.args.value.now false) c.args.pairs.now c.loop-pair.pair-index c.pair-item.result (pair_after c.args.name c.args.value.now c.pair-item.result)
-    (pairs_after c.args.name c.args.value.now false (drop (c.loop-pair.pair-index + 1) c.args.pairs.now)) c.loop-pair.made c.push_made.new.parts (pairs_after c.args.name c.args.value.now false c.args.pairs.now)
-    (omega arith) c.pair-item.is refl c.loop-pair.invariant (c.in_ok-push_made.ensures (pair_after c.args.name c.args.value.now c.pair-item.result) c.replace_pair-item.ensures)
+    (pairs_after c.args.name c.args.value.now false (drop (c.loop-pair.pair-index + 1) c.args.pairs.now)) c.loop-pair.made c.push_made.new.self (pairs_after c.args.name c.args.value.now false c.args.pairs.now)
+    (omega arith) c.pair-item.is refl c.loop-pair.invariant (pushed _ _ _ _ c.replace_pair.ensures c.in_ok-push_made.ensures.ok)

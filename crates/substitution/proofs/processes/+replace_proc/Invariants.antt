@@ -17,12 +17,6 @@ decreases-replace_boxed_proc l = 4 * the_size l.proc.now + 1
 abbrev pub decreases-replace_procs : goal.decreases-replace_procs
 decreases-replace_procs l = 4 * goal.size-replace_procs l + 1
 
-abbrev pub decreases-external : goal.decreases-external
-decreases-external l = 4 * goal.size-external l + 3
-
-abbrev pub decreases-internal : goal.decreases-internal
-decreases-internal l = 4 * goal.size-internal l + 3
-
 abbrev pub decreases-prefix : goal.decreases-prefix
 decreases-prefix l = 4 * the_size l.p.now + 3
 
