@@ -1,5 +1,5 @@
 -- How an event is printed: the name of its channel, and each field after a dot. A field is a number or a constant.
-use Rattle.std.specs.Prelude.{ℕ, Option, Some, None, List, [], ◌∷◌, ◌++◌, codes, slice_get}
+use Rattle.std.specs.Prelude.{ℕ, Option, Some, None, List, [], ◌++◌, codes, slice_get}
 use Rattle.std.specs.List.{flat_map}
 use Rattle.std.specs.Fmt.{signed_decimal}
 use Rattle.csp_atoms.specs.declared.atom.Atom.{Atom}

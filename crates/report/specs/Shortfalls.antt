@@ -1,5 +1,5 @@
 -- The lines of each reason why a network is not proved.
-use Rattle.std.specs.Prelude.{ℕ, List, [], ◌∷◌, ◌++◌, codes}
+use Rattle.std.specs.Prelude.{ℕ, List, ◌++◌, codes}
 use Rattle.std.specs.List.{flat_map}
 use Rattle.std.specs.Fmt.{decimal}
 use Rattle.report.specs.Lines.{line, trace_text, numbers_text}

@@ -2,13 +2,23 @@
 
 ghost use Rattle.std.specs.Prelude.{◌≡◌, ◌++◌, OnOk, IfOk, slice_get};
 ghost use Rattle.std.specs.List.{flat_map};
-ghost use Rattle.report.specs.EventText.{channel_name, event_text, field_text};
+ghost use Rattle.report.specs.EventText.{channel_name, event_text, field_text, text_or_none};
 
 use crate::lines::push_signed;
 use csp_atoms::Atom;
 use csp_base::{Bytes, Event, NoMemory};
-use csp_program::{Content, Program};
+use csp_program::{Content, EventInfo, Program};
 use std::alloc::Global;
+
+// Adds the name of a constant; nothing past the end.
+fn push_constant(content: &Content, text: &mut Bytes, constant: u32) -> Result<(), NoMemory>
+    ensures { OnOk result (text.new ≡ text.old ++ text_or_none (slice_get content.now.consts constant)) }
+{
+    match content.consts.get(constant as usize) {
+        Some(name) => text.extend_from_slice(name.as_slice()),
+        None => Ok(()),
+    }
+}
 
 // Adds a field.
 fn push_field(
@@ -22,10 +32,7 @@ fn push_field(
     text.push(b'.')?;
     match field {
         Atom::Num(number) => push_signed(alloc, text, *number),
-        Atom::Const(constant) => match content.consts.get(*constant as usize) {
-            Some(name) => text.extend_from_slice(name.as_slice()),
-            None => Ok(()),
-        },
+        Atom::Const(constant) => push_constant(content, text, *constant),
         Atom::Truth(_) | Atom::Event(_) => Ok(()),
     }
 }
@@ -55,15 +62,22 @@ fn named(alloc: Global, content: &Content, channel: u32) -> Result<Bytes, NoMemo
     }
 }
 
+// The text of an event of the table.
+fn info_text(alloc: Global, content: &Content, info: &EventInfo) -> Result<Bytes, NoMemory>
+    ensures { IfOk result (λ text. text ≡ channel_name (slice_get content.now.channels info.now.channel) ++ flat_map (field_text content.now) info.now.fields) }
+{
+    let mut text = named(alloc, content, info.channel)?;
+    push_fields(alloc, content, &mut text, info.fields.as_slice())?;
+    Ok(text)
+}
+
 /// The event as reports print it: the name of its channel, and each field after a dot.
 pub fn event_text(alloc: Global, program: &Program, event: Event) -> Result<Bytes, NoMemory>
     ensures { IfOk result (λ text. text ≡ event_text program.now event) }
 {
     let content = program.content();
-    let Some(info) = content.events.get(event.0 as usize) else {
-        return Ok(Bytes::new(alloc));
-    };
-    let mut text = named(alloc, content, info.channel)?;
-    push_fields(alloc, content, &mut text, info.fields.as_slice())?;
-    Ok(text)
+    match content.events.get(event.0 as usize) {
+        Some(info) => info_text(alloc, content, info),
+        None => Ok(Bytes::new(alloc)),
+    }
 }

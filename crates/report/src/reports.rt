@@ -2,11 +2,13 @@
 
 ghost use Rattle.std.specs.Prelude.{◌≡◌, ◌+◌, ◌++◌, IfOk, OnOk, codes};
 ghost use Rattle.std.specs.List.{flat_map};
-ghost use Rattle.std.specs.Fmt.{decimal, signed_decimal};
+ghost use Rattle.std.specs.Fmt.{decimal};
 ghost use Rattle.report.specs.Lines.{line};
-ghost use Rattle.report.specs.Report.{accept_text, deadlock_free_text, next_text, node_text, nodes_text, report_text, rule_text, status, table_text};
+ghost use Rattle.report.specs.Refusals.{refusal_text};
+ghost use Rattle.report.specs.Shortfalls.{shortfall_text};
+ghost use Rattle.report.specs.Report.{accept_text, deadlock_free_text, next_text, node_text, nodes_text, report_text, status, table_text};
 
-use crate::answer::{Answer, PrintedNode};
+use crate::answer::{Answer, PrintedNode, Refusal, Shortfall};
 use crate::lines::{Part, push_line, written, written_line};
 use crate::printed::rule_name;
 use crate::refusals::refusal_line;
@@ -143,19 +145,22 @@ fn push_nodes(alloc: Global, report: &mut Bytes, nodes: &[PrintedNode]) -> Resul
     Ok(())
 }
 
-// The first line of the report of a table.
-fn table_head(alloc: Global, component: u32, count: u32) -> Result<Bytes, NoMemory>
-    ensures { IfOk result (λ made. made ≡ line (codes "component " ++ decimal component ++ codes " of " ++ decimal count)) }
+// The first two lines of the report of a table.
+fn table_head(alloc: Global, component: u32, count: u32, nodes: usize) -> Result<Bytes, NoMemory>
+    ensures { IfOk result (λ made. made ≡ line (codes "component " ++ decimal component ++ codes " of " ++ decimal count) ++ line (codes "nodes " ++ decimal nodes)) }
 {
-    written_line(
+    let made = written_line(
         alloc,
         &[
             Part::Text(b"component "),
             Part::Number(u64::from(component)),
             Part::Text(b" of "),
             Part::Number(u64::from(count)),
+            Part::Text(b"\nnodes "),
+            Part::Number(nodes as u64),
         ],
-    )
+    )?;
+    Ok(made)
 }
 
 // The report of a table.
@@ -167,97 +172,9 @@ fn table(
 ) -> Result<Bytes, NoMemory>
     ensures { IfOk result (λ made. made ≡ table_text component count nodes.now) }
 {
-    let mut made = table_head(alloc, component, count)?;
-    push_line(
-        alloc,
-        &mut made,
-        &[Part::Text(b"nodes "), Part::Number(nodes.len() as u64)],
-    )?;
+    let mut made = table_head(alloc, component, count, nodes.len())?;
     push_nodes(alloc, &mut made, nodes)?;
     Ok(made)
-}
-
-// A line of a text and a number.
-fn count_line(alloc: Global, text: &[u8], number: u64) -> Result<Bytes, NoMemory>
-    ensures { IfOk result (λ made. made ≡ line (text.now ++ decimal number)) }
-{
-    written_line(alloc, &[Part::Text(text), Part::Number(number)])
-}
-
-// The line of the greatest rank.
-fn rank_line(alloc: Global, rank: i64) -> Result<Bytes, NoMemory>
-    ensures { IfOk result (λ made. made ≡ line (codes "greatest rank " ++ signed_decimal rank)) }
-{
-    written_line(alloc, &[Part::Text(b"greatest rank "), Part::Signed(rank)])
-}
-
-// The line of a rule.
-fn rule_line(alloc: Global, rule: Rule) -> Result<Bytes, NoMemory>
-    ensures { IfOk result (λ made. made ≡ line (codes "rule " ++ rule_text rule)) }
-{
-    written_line(alloc, &[Part::Text(b"rule "), Part::Text(rule_name(rule))])
-}
-
-// Three texts, one after another.
-fn joined<'a>(
-    alloc: Global,
-    first: &'a [u8],
-    second: &'a [u8],
-    third: &'a [u8],
-) -> Result<Bytes, NoMemory>
-    ensures { IfOk result (λ made. made ≡ first.now ++ second.now ++ third.now) }
-{
-    written(
-        alloc,
-        &[Part::Text(first), Part::Text(second), Part::Text(third)],
-    )
-}
-
-// Four texts, one after another.
-fn four<'a>(
-    alloc: Global,
-    first: &'a [u8],
-    second: &'a [u8],
-    third: &'a [u8],
-    fourth: &'a [u8],
-) -> Result<Bytes, NoMemory>
-    ensures { IfOk result (λ made. made ≡ first.now ++ second.now ++ third.now ++ fourth.now) }
-{
-    written(
-        alloc,
-        &[
-            Part::Text(first),
-            Part::Text(second),
-            Part::Text(third),
-            Part::Text(fourth),
-        ],
-    )
-}
-
-// What is counted of a network that is free of deadlock.
-fn counts(
-    alloc: Global,
-    components: u32,
-    nodes: u32,
-    bound: u32,
-    greatest_rank: i64,
-) -> Result<Bytes, NoMemory>
-    ensures { IfOk result (λ made. made ≡ line (codes "components " ++ decimal components)
-        ++ line (codes "nodes " ++ decimal nodes)
-        ++ line (codes "silent bound " ++ decimal bound)
-        ++ line (codes "greatest rank " ++ signed_decimal greatest_rank)) }
-{
-    let components = count_line(alloc, b"components ", u64::from(components))?;
-    let nodes = count_line(alloc, b"nodes ", u64::from(nodes))?;
-    let bound = count_line(alloc, b"silent bound ", u64::from(bound))?;
-    let rank = rank_line(alloc, greatest_rank)?;
-    four(
-        alloc,
-        components.as_slice(),
-        nodes.as_slice(),
-        bound.as_slice(),
-        rank.as_slice(),
-    )
 }
 
 // The report of a network that is free of deadlock.
@@ -271,28 +188,44 @@ fn deadlock_free(
 ) -> Result<Bytes, NoMemory>
     ensures { IfOk result (λ made. made ≡ deadlock_free_text rule components nodes bound greatest_rank) }
 {
-    let counts = counts(alloc, components, nodes, bound, greatest_rank)?;
-    let head = rule_line(alloc, rule)?;
-    joined(
+    let made = written_line(
         alloc,
-        b"deadlock-free\n",
-        head.as_slice(),
-        counts.as_slice(),
-    )
+        &[
+            Part::Text(b"deadlock-free\nrule "),
+            Part::Text(rule_name(rule)),
+            Part::Text(b"\ncomponents "),
+            Part::Number(u64::from(components)),
+            Part::Text(b"\nnodes "),
+            Part::Number(u64::from(nodes)),
+            Part::Text(b"\nsilent bound "),
+            Part::Number(u64::from(bound)),
+            Part::Text(b"\ngreatest rank "),
+            Part::Signed(greatest_rank),
+        ],
+    )?;
+    Ok(made)
 }
 
 // The report of a script that is refused.
-fn refused(alloc: Global, reason: &[u8]) -> Result<Bytes, NoMemory>
-    ensures { IfOk result (λ made. made ≡ line (codes "refused") ++ line reason.now) }
+fn refused(alloc: Global, refusal: &Refusal) -> Result<Bytes, NoMemory>
+    ensures { IfOk result (λ made. made ≡ line (codes "refused") ++ line (refusal_text refusal.now)) }
 {
-    written_line(alloc, &[Part::Text(b"refused\n"), Part::Text(reason)])
+    let reason = refusal_line(alloc, refusal)?;
+    written_line(
+        alloc,
+        &[Part::Text(b"refused\n"), Part::Text(reason.as_slice())],
+    )
 }
 
 // The report of a network that is not proved.
-fn not_proved(alloc: Global, reason: &[u8]) -> Result<Bytes, NoMemory>
-    ensures { IfOk result (λ made. made ≡ line (codes "not proved") ++ reason.now) }
+fn not_proved(alloc: Global, shortfall: &Shortfall) -> Result<Bytes, NoMemory>
+    ensures { IfOk result (λ made. made ≡ line (codes "not proved") ++ shortfall_text shortfall.now) }
 {
-    written(alloc, &[Part::Text(b"not proved\n"), Part::Text(reason)])
+    let reason = shortfall_lines(alloc, shortfall)?;
+    written(
+        alloc,
+        &[Part::Text(b"not proved\n"), Part::Text(reason.as_slice())],
+    )
 }
 
 /// The report of an answer, each line with a line feed at its end.
@@ -306,14 +239,8 @@ pub fn report_of(alloc: Global, answer: &Answer) -> Result<Bytes, NoMemory>
         ),
         Answer::ScriptNotFound => one_line(alloc, b"outside fault: script not found"),
         Answer::ScriptNotRead => one_line(alloc, b"outside fault: script not read"),
-        Answer::Refused(refusal) => {
-            let text = refusal_line(alloc, refusal)?;
-            refused(alloc, text.as_slice())
-        }
-        Answer::NotProved(shortfall) => {
-            let text = shortfall_lines(alloc, shortfall)?;
-            not_proved(alloc, text.as_slice())
-        }
+        Answer::Refused(refusal) => refused(alloc, refusal),
+        Answer::NotProved(shortfall) => not_proved(alloc, shortfall),
         Answer::Shown { text } => text.try_clone(alloc),
         Answer::Table {
             component,

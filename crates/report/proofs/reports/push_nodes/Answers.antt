@@ -1,4 +1,4 @@
-use Rattle.std.proofs.Common.{refl, ap, sym, ◌∙◌, arith}
+use Rattle.std.proofs.Common.{arith}
 use Rattle.report.proofs.Nodes.{nodes_step}
 use Rattle.report.proofs.reports.push_nodes.Goals as goal
 
