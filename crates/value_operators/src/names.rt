@@ -1,6 +1,6 @@
 //! The values of bound names.
 
-ghost use Rattle.std.specs.Prelude.{◌≡◌, ◌∷◌, ◌++◌, [], IfOk};
+ghost use Rattle.std.specs.Prelude.{◌≡◌, ◌∷◌, ◌++◌, [], Ok, IfOk};
 ghost use Rattle.csp_program.specs.Value.{bound_value, bound_to};
 ghost use Rattle.value_operators.specs.Env.{env_in};
 ghost use Rattle.value_operators.specs.Gives.{Gives};
@@ -26,6 +26,13 @@ pub struct Names<'a> {
     pub bound: &'a [(u32, Atom)],
 }
 
+/// The same value.
+pub fn copied(alloc: Global, value: &Value) -> Result<Value, EvalFault>
+    ensures { Gives result (Ok value.now) }
+{
+    Ok(value.try_clone(alloc)?)
+}
+
 // The value of a parameter.
 fn argument(alloc: Global, params: &[u32], args: &[Value], slot: u32) -> Result<Value, EvalFault>
     ensures { Gives result (bound_value (bound_to params.now args.now) slot) }
@@ -37,7 +44,7 @@ fn argument(alloc: Global, params: &[u32], args: &[Value], slot: u32) -> Result<
             return Err(KIND);
         };
         if *param == slot {
-            return Ok(arg.try_clone(alloc)?);
+            return copied(alloc, arg);
         }
         params = other_params;
         args = other_args;

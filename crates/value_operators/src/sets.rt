@@ -98,6 +98,17 @@ pub fn with_events(atoms: AtomSet, first: u64, count: u64) -> Result<AtomSet, Ev
     Ok(atoms)
 }
 
+// The atoms of either set.
+fn united(alloc: Global, left: &AtomSet, right: &AtomSet) -> Result<AtomSet, EvalFault>
+    ensures { Gives result (set_binary SetOp.Union left.now right.now) }
+{
+    match left.union(alloc, right) {
+        Ok(atoms) => within_limit(atoms),
+        Err(AtomSetError::MixedKinds) => Err(KIND),
+        Err(AtomSetError::NoMemory) => Err(EvalFault::NoMemory),
+    }
+}
+
 /// What an operator gives of two sets.
 pub fn combined(
     alloc: Global,
@@ -108,11 +119,7 @@ pub fn combined(
     ensures { Gives result (set_binary op left.now right.now) }
 {
     match op {
-        SetOp::Union => match left.union(alloc, right) {
-            Ok(atoms) => within_limit(atoms),
-            Err(AtomSetError::MixedKinds) => Err(KIND),
-            Err(AtomSetError::NoMemory) => Err(EvalFault::NoMemory),
-        },
+        SetOp::Union => united(alloc, left, right),
         SetOp::Inter => within_limit(left.inter(alloc, right)?),
         SetOp::Diff => within_limit(left.diff(alloc, right)?),
     }
