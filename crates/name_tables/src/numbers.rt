@@ -8,6 +8,13 @@ ghost use Rattle.name_tables.specs.Hidden.{Writes};
 use csp_base::{Name, NoMemory};
 use indexmap::IndexMap;
 
+/// The number that is written of a name.
+pub fn written(last: &IndexMap<Name, u32>, name: &Name) -> Option<u32>
+    ensures { result ≡ get same_name last.now name.now }
+{
+    last.get(name).copied()
+}
+
 /// Writes the number of a name, and tells what it was before.
 #[tactic(auto, using(crate::proofs::ScopeLemmas::writes_updates))]
 pub fn write(

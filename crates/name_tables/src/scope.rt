@@ -6,7 +6,7 @@ ghost use Rattle.script_names.specs.Names.{same_name};
 ghost use Rattle.name_tables.specs.Hidden.{shown, KeepHidden, HasNumbers, Writes};
 ghost use Rattle.script_names.specs.Typed.{number_of};
 
-use crate::numbers::{forget, rewrite, write};
+use crate::numbers::{forget, rewrite, write, written};
 use csp_base::{Name, NoMemory};
 use indexmap::IndexMap;
 use std::alloc::Global;
@@ -32,11 +32,21 @@ impl Drop for Binding {
 }
 
 /// The bound names at a place with their numbers, in the order in which they were bound. The last one of a spelling is found by its hash.
-#[derive(Drop)]
 pub struct Scope {
     alloc: Global,
     bindings: Vec<Binding>,
     last: IndexMap<Name, u32>,
+}
+
+// By hand, so that a crate that ends one calls this and proves no end of its own.
+impl Drop for Scope {
+    fn drop(self) {
+        let Scope {
+            alloc: _alloc,
+            bindings: _bindings,
+            last: _last,
+        } = self;
+    }
 }
 
 impl Model for Scope {
@@ -74,7 +84,7 @@ impl Scope {
     pub fn find(&self, name: &Name) -> Option<u32>
         ensures { result ≡ number_of self.now name.now }
     {
-        self.last.get(name).copied()
+        written(&self.last, name)
     }
 
     /// Binds one more name.
@@ -110,7 +120,7 @@ fn bind_in(
     ensures kept { KeepHidden [] bindings.new.items }
     ensures numbers { HasNumbers last.new (map shown bindings.new.items) }
 {
-    let hidden = last.get(&name).copied();
+    let hidden = written(last, &name);
     let binding = Binding {
         name,
         number,

@@ -9,13 +9,13 @@ use Rattle.name_tables.proofs.scope.bind_in.Goals as goal
 pub returns-in-Ok-clause-kept : goal.returns-in-Ok-clause-kept
 returns-in-Ok-clause-kept c =
     let bs = c.args.bindings.now.items in
-    let e : c.copied-hidden.result ≡ get same_name c.args.last.now c.args.name = cc in
-    let h : c.copied-hidden.result ≡ number_of (map shown bs) c.args.name = e ∙ c.requires.numbers c.args.name in
-    bound-kept bs c.push.new.self.items (record { name = c.args.name; number = c.args.number; hidden = c.copied-hidden.result }) c.in_ok-push.ensures.items c.requires.kept h
+    let e : c.written-hidden.result ≡ get same_name c.args.last.now c.args.name = c.written-hidden.ensures in
+    let h : c.written-hidden.result ≡ number_of (map shown bs) c.args.name = e ∙ c.requires.numbers c.args.name in
+    bound-kept bs c.push.new.self.items (record { name = c.args.name; number = c.args.number; hidden = c.written-hidden.result }) c.in_ok-push.ensures.items c.requires.kept h
 
 pub returns-in-Ok-clause-numbers : goal.returns-in-Ok-clause-numbers
 returns-in-Ok-clause-numbers c =
     let bs = c.args.bindings.now.items in
-    bound-numbers c.args.last.now c.write.new.last bs c.push.new.self.items (record { name = c.args.name; number = c.args.number; hidden = c.copied-hidden.result })
+    bound-numbers c.args.last.now c.write.new.last bs c.push.new.self.items (record { name = c.args.name; number = c.args.number; hidden = c.written-hidden.result })
     c.in_ok-push.ensures.items c.requires.numbers
     (subst (λ x. Writes c.args.last.now c.write.new.last x (Some c.args.number)) c.requires.same c.in-Ok.ensures.writes)
