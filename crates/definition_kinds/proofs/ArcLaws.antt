@@ -8,7 +8,6 @@ use Rattle.std.proofs.lemmas.Bool.{false≢true, eqb-true}
 use Rattle.std.proofs.lemmas.List.Folds.{list_any_more}
 use Rattle.std.proofs.lemmas.Option.{slice_get_read, slice_get-map}
 use Rattle.script_names.specs.declared.kinds.End.{End}
-use Rattle.script_names.specs.declared.kinds.End.TheVariants as end
 use Rattle.script_names.specs.Kinds.{ends_at}
 use Rattle.name_tables.specs.Ends.{rows}
 use Rattle.definition_kinds.specs.Sources.{comes_from, some_from}

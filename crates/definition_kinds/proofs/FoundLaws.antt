@@ -44,7 +44,7 @@ found_step found d kinds new kind new_is is so_far = record {
       ];
 }
 
-rows-snoc : (xs : List (Vec End Global)) (x : Vec End Global) → rows (xs ++ x ∷ []) ≡ rows xs ++ x.items ∷ []
+pub rows-snoc : (xs : List (Vec End Global)) (x : Vec End Global) → rows (xs ++ x ∷ []) ≡ rows xs ++ x.items ∷ []
 rows-snoc [] x = refl
 rows-snoc (y ∷ ys) x = ap (λ zs. y.items ∷ zs) (rows-snoc ys x)
 
@@ -52,10 +52,10 @@ firsts-snoc : (xs : List (List End)) (x : List End) → first_ends (xs ++ x ∷ 
 firsts-snoc [] x = refl
 firsts-snoc (y ∷ ys) x = ap (λ zs. take 1 y ∷ zs) (firsts-snoc ys x)
 
-pub firsts_step : (all : List (Vec End Global)) (i : ℕ) (ends : Vec End Global) (old new : List (Vec End Global)) (first : Vec End Global) → i < length all → ends ≡ get_or all i ends
-    → first.items ≡ take 1 ends.items → new ≡ old ++ first ∷ [] → rows old ≡ first_ends (rows (take i all)) → rows new ≡ first_ends (rows (take (i + 1) all))
-firsts_step all i ends old new first within is first_is new_is so_far =
-    ap rows new_is ∙ rows-snoc old first ∙ (λ j. so_far j ++ first_is j ∷ [])
+pub firsts_step : (all : List (Vec End Global)) (i : ℕ) (ends : Vec End Global) (old new : List (Vec End Global)) → i < length all → ends ≡ get_or all i ends
+    → rows new ≡ rows old ++ take 1 ends.items ∷ [] → rows old ≡ first_ends (rows (take i all)) → rows new ≡ first_ends (rows (take (i + 1) all))
+firsts_step all i ends old new within is new_is so_far =
+    new_is ∙ (λ j. so_far j ++ take 1 ends.items ∷ [])
     ∙ sym (firsts-snoc (rows (take i all)) ends.items)
     ∙ ap first_ends (sym (rows-snoc (take i all) ends))
     ∙ ap (λ zs. first_ends (rows zs)) (ap (λ e. take i all ++ e ∷ []) is ∙ sym (take_more all i ends within))

@@ -1,7 +1,7 @@
 //! Where bodies end as a digraph, in which arcs are turned round: an arc leads to a definition from each definition that it ends at a use of, and from
 //! one vertex more where it has the end that is looked for.
 
-ghost use Rattle.std.specs.Prelude.{◌≡◌, ℕ, ◌+◌, ◌<◌, ◌&&◌, ◌||◌, nat_eq, length, slice_get, IfOk, OnOk};
+ghost use Rattle.std.specs.Prelude.{◌≡◌, ℕ, ◌+◌, ◌<◌, ◌&&◌, ◌||◌, nat_eq, [], length, replicate, slice_get, IfOk, OnOk};
 ghost use Rattle.definition_kinds.specs.Sources as meant;
 ghost use Rattle.digraph.specs.Digraph.{has_arc};
 ghost use Rattle.name_tables.specs.Ends.{rows};
@@ -69,6 +69,13 @@ fn add_ends(rows: &mut Rows, count: u32, target: End, d: u32, ends: &[End]) -> R
     Ok(())
 }
 
+// So many vertices and one more, without an arc.
+fn no_arcs(alloc: Global, count: u32) -> Result<Rows, NoMemory>
+    ensures { IfOk result (λ made. made ≡ replicate (count + 1) []) }
+{
+    Rows::new(alloc, next(count)?)
+}
+
 /// The digraph of these definitions. The vertex `count`, which is their number, stands for the end that is looked for.
 pub fn turned_round(
     alloc: Global,
@@ -80,7 +87,7 @@ pub fn turned_round(
     ensures len { IfOk result (λ made. length made ≡ count + 1) }
     ensures arcs { IfOk result (λ made. (v w : ℕ) → has_arc made v w ≡ meant.some_from count target v (ends_at (slice_get (rows all.now) w))) }
 {
-    let mut rows = Rows::new(alloc, next(count)?)?;
+    let mut rows = no_arcs(alloc, count)?;
     let mut d: u32 = 0;
     for ends in all {
         add_ends(&mut rows, count, target, d, ends.as_slice())?;

@@ -3,9 +3,10 @@
 ghost use Rattle.std.specs.Prelude.{◌≡◌, IfOk};
 ghost use Rattle.definition_kinds.specs.Found.{AreFound, IsFound};
 ghost use Rattle.definition_kinds.specs.Found as meant;
+ghost use Rattle.definition_kinds.specs.Sources.{AreLeading};
 ghost use Rattle.name_tables.specs.Ends.{rows};
 ghost use Rattle.name_tables.specs.Firsts.{SameFirsts};
-ghost use Rattle.script_names.specs.Kinds.{AreKinds};
+ghost use Rattle.script_names.specs.Kinds.{AreKinds, AreKindsOf, first_ends as firsts_of};
 ghost use Rattle.script_names.specs.Names.{declared};
 
 use crate::leading::{first_ends, is_marked, leading};
@@ -18,7 +19,6 @@ use script_names::{Class, End, Kind};
 use std::alloc::Global;
 
 // What was found of each definition.
-#[derive(Drop)]
 struct Found {
     /// Whether it is data.
     data: Vec<bool>,
@@ -28,15 +28,33 @@ struct Found {
     networks: Vec<bool>,
 }
 
+// By hand, so that a function that ends one calls this.
+impl Drop for Found {
+    fn drop(self) {
+        let Found {
+            data: _data,
+            nothing: _nothing,
+            networks: _networks,
+        } = self;
+    }
+}
+
 /// What each definition of a script is, where `names` are its declared names.
 pub fn kinds_of(alloc: Global, decls: &[Decl], names: &Dictionary) -> Result<Vec<Kind>, NoMemory>
     requires { SameFirsts names.now (declared decls.now) }
     ensures { IfOk result (λ kinds. AreKinds decls.now kinds.items) }
 {
     let all = ends_of_all(alloc, names, decls)?;
-    let count = short(all.len())?;
-    let found = found_among(alloc, all.as_slice())?;
-    let kinds = kinds_found(alloc, &found, count)?;
+    let kinds = kinds_among(alloc, all.as_slice())?;
+    Ok(kinds)
+}
+
+// What definitions with these ends are.
+fn kinds_among(alloc: Global, all: &[Vec<End>]) -> Result<Vec<Kind>, NoMemory>
+    ensures { IfOk result (λ kinds. AreKindsOf (rows all.now) kinds.items) }
+{
+    let found = found_among(alloc, all)?;
+    let kinds = kinds_found(alloc, &found, all.len())?;
     Ok(kinds)
 }
 
@@ -44,9 +62,7 @@ pub fn kinds_of(alloc: Global, decls: &[Decl], names: &Dictionary) -> Result<Vec
 fn found_among(alloc: Global, all: &[Vec<End>]) -> Result<Found, NoMemory>
     ensures { IfOk result (IsFound (rows all.now)) }
 {
-    let firsts = first_ends(alloc, all)?;
-    let data = leading(alloc, firsts.as_slice(), End::Data)?;
-    let nothing = leading(alloc, firsts.as_slice(), End::Nothing)?;
+    let (data, nothing) = classes_among(alloc, all)?;
     let networks = leading(alloc, all, End::Parallel)?;
     Ok(Found {
         data,
@@ -55,12 +71,22 @@ fn found_among(alloc: Global, all: &[Vec<End>]) -> Result<Found, NoMemory>
     })
 }
 
+// Which definitions with these ends are data, and which end at a name without a meaning.
+fn classes_among(alloc: Global, all: &[Vec<End>]) -> Result<(Vec<bool>, Vec<bool>), NoMemory>
+    ensures data { IfOk result (λ marks. AreLeading End.Data (firsts_of (rows all.now)) marks.0.items) }
+    ensures nothing { IfOk result (λ marks. AreLeading End.Nothing (firsts_of (rows all.now)) marks.1.items) }
+{
+    let firsts = first_ends(alloc, all)?;
+    let data = leading(alloc, firsts.as_slice(), End::Data)?;
+    leading(alloc, firsts.as_slice(), End::Nothing).map(|nothing| (data, nothing))
+}
+
 // What so many definitions are.
-fn kinds_found(alloc: Global, found: &Found, count: u32) -> Result<Vec<Kind>, NoMemory>
+fn kinds_found(alloc: Global, found: &Found, count: usize) -> Result<Vec<Kind>, NoMemory>
     ensures { IfOk result (λ kinds. AreFound found.now count kinds.items) }
 {
     let mut kinds = Vec::new(alloc);
-    for d in 0..count {
+    for d in 0..short(count)? {
         kinds.push(kind_found(found, d))?;
     }
     Ok(kinds)

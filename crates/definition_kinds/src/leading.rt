@@ -1,6 +1,6 @@
 //! The definitions from which following ends leads to an end that is looked for.
 
-ghost use Rattle.std.specs.Prelude.{◌≡◌, ◌<◌, ℕ, true, length, take, IfOk};
+ghost use Rattle.std.specs.Prelude.{◌≡◌, ◌<◌, ℕ, true, [], ◌∷◌, ◌++◌, length, take, IfOk, OnOk};
 ghost use Rattle.csp_base.specs.Members.{has};
 ghost use Rattle.definition_kinds.specs.Sources as sources;
 ghost use Rattle.definition_kinds.specs.Sources.{AreLeading, AreReached, is_last};
@@ -78,9 +78,18 @@ pub fn first_ends(alloc: Global, all: &[Vec<End>]) -> Result<Vec<Vec<End>>, NoMe
 {
     let mut firsts = Vec::new(alloc);
     for ends in all {
-        firsts.push(first_end(alloc, ends.as_slice())?)?;
+        push_first(alloc, &mut firsts, ends.as_slice())?;
     }
     Ok(firsts)
+}
+
+// Puts the first end of a definition at the end.
+fn push_first(alloc: Global, firsts: &mut Vec<Vec<End>>, ends: &[End]) -> Result<(), NoMemory>
+    ensures { OnOk result (rows firsts.new.items ≡ rows firsts.old.items ++ take 1 ends.now ∷ []) }
+{
+    let first = first_end(alloc, ends)?;
+    firsts.push(first)?;
+    Ok(())
 }
 
 // The first end of a definition.

@@ -1,9 +1,10 @@
-use Rattle.std.proofs.Common.{List, ap, ◌∙◌, take}
+use Rattle.std.proofs.Common.{List, ap, ◌∙◌, ◌∷◌, ◌++◌, [], take}
 use Rattle.script_names.specs.declared.kinds.End.{End}
+use Rattle.name_tables.specs.Ends.{rows}
 use Rattle.definition_kinds.proofs.FoundLaws.{firsts_step}
 use Rattle.definition_kinds.proofs.leading.first_ends.Goals as goal
 
 pub loop-ends-preserved : goal.loop-ends-preserved
 loop-ends-preserved c =
-    firsts_step c.args.all.now c.loop-ends.ends-index c.ends-item.result c.loop-ends.firsts.items c.push.new.self.items c.in_ok-first_end.field-0 c.loop-ends-test.true c.ends-item.is
-    (c.in_ok-first_end.ensures ∙ ap (λ (es : List End). take 1 es) c.as_slice.ensures.value) c.in_ok-push.ensures.items c.loop-ends.invariant
+    firsts_step c.args.all.now c.loop-ends.ends-index c.ends-item.result c.loop-ends.firsts.items c.push_first.new.firsts.items c.loop-ends-test.true c.ends-item.is
+    (c.in_ok-push_first.ensures ∙ ap (λ (es : List End). rows c.loop-ends.firsts.items ++ take 1 es ∷ []) c.as_slice.ensures.value) c.loop-ends.invariant
