@@ -49,8 +49,11 @@ module _ (n : ℕ) (s : State) (b f e : ℕ) (good : HasBlocks n s) (inside : b 
 
 -- one of those that wait is taken
 module _ (n : ℕ) (s t : State) (b : ℕ) (good : HasBlocks n s) (order : t.order ≡ s.order) (places : t.places ≡ s.places) (blocks : t.blocks ≡ s.blocks) (firsts : t.firsts ≡ s.firsts) (middles : t.middles ≡ s.middles) (ends : t.ends ≡ s.ends) (flags : t.flags ≡ set s.flags b false) (waiting : s.waiting ≡ t.waiting ++ b ∷ []) where
+  waited : has s.waiting b ≡ true
+  waited = subst (λ (xs : List ℕ). has xs b ≡ true) (sym waiting) (has_push t.waiting b)
+
   known : b < length s.firsts
-  known = good.known b (subst (λ (xs : List ℕ). has xs b ≡ true) (sym waiting) (has_push t.waiting b))
+  known = good.known b waited
 
   flag_there : b < length s.flags
   flag_there = subst (λ k. b < k) (sym good.flags_len) known
@@ -66,6 +69,7 @@ module _ (n : ℕ) (s t : State) (b : ℕ) (good : HasBlocks n s) (order : t.ord
 
   pub block_taken : IsTaken n s t b
   block_taken = record {
+    waited = waited;
     fit = record {
       small = good.small;
       order_len = ap (λ (xs : List ℕ). length xs) order ∙ good.order_len;

@@ -1,6 +1,6 @@
 -- A partition of the nodes below n into blocks, for refinement by splitters. The nodes stand in one list, block by block; in
 -- each block those that are marked stand first. Some blocks wait: they are to be used as splitters.
-use Rattle.std.specs.Prelude.{◌≡◌, ◌↔◌, ◌⊎◌, ◌+◌, ◌-◌, ◌*◌, ◌^◌, ◌<◌, ◌≤◌, ℕ, List, [], ◌∷◌, Bool, true, false, ◌&&◌, ◌||◌, nat_eq, nat_lt, IsTrue, length, slice_index, slice_index_or}
+use Rattle.std.specs.Prelude.{◌≡◌, ◌↔◌, ◌⊎◌, ◌+◌, ◌-◌, ◌*◌, ◌^◌, ◌<◌, ◌≤◌, ℕ, List, [], ◌∷◌, Bool, true, false, ◌||◌, nat_eq, nat_lt, IsTrue, length, slice_index, slice_index_or}
 use Rattle.std.specs.List.{list_any}
 use Rattle.csp_base.specs.Members.{has}
 use Rattle.partitions.specs.declared.partition.Partition.{Partition}
@@ -143,6 +143,7 @@ pub record IsWhole (n : ℕ) (s : State) : Type 0 where
 
 -- One of the blocks that waited is taken, and nothing else changes.
 pub record IsTaken (n : ℕ) (old new : State) (b : ℕ) : Type 0 where
+  pub waited : IsTrue (has old.waiting b)
   pub fit : HasBlocks n new
   pub calm : IsCalm old → IsCalm new
   pub known : b < length new.firsts
