@@ -12,7 +12,7 @@ ghost use Rattle.csp_tables.specs.Behaviour.{OffersAcceptance};
 ghost use Rattle.csp_tables.specs.NormalTable.{IsListed};
 ghost use Rattle.acceptances.specs.OfferTests.{AreMarks, AreOffers, offers_at};
 
-use crate::least::{least_sets, push_unless, sort_sets};
+use crate::least::{push_unless, sorted_least};
 use csp_base::{Event, EventSet, NoMemory};
 use csp_tables::RawTable;
 use std::alloc::Global;
@@ -66,9 +66,7 @@ impl<'a> Offers<'a> {
         ensures order { IfOk result (λ sets. IsStrictlySortedBy (slice_cmp nat_cmp) sets.items) }
     {
         let mut offers = offers_of(alloc, &self.unstable, &self.sets, terms)?;
-        sort_sets(&mut offers)?;
-        let kept = least_sets(alloc, &offers)?;
-        Ok(kept)
+        sorted_least(alloc, &mut offers)
     }
 }
 
@@ -104,8 +102,8 @@ fn event_sets(alloc: Global, table: &RawTable) -> Result<Vec<EventSet>, NoMemory
     ensures { IfOk result (λ sets. AreOffers table.now sets.items) }
 {
     let mut sets = empty_sets(alloc, table.count())?;
-    for (from, event, _) in table.steps() {
-        insert_at(&mut sets, *from as usize, *event)?;
+    for step in table.steps() {
+        insert_at(&mut sets, step.0, step.1)?;
     }
     Ok(sets)
 }
@@ -122,11 +120,11 @@ fn empty_sets(alloc: Global, count: u32) -> Result<Vec<EventSet>, NoMemory>
 }
 
 // Adds an event to the set in a place.
-fn insert_at(sets: &mut Vec<EventSet>, place: usize, event: Event) -> Result<(), NoMemory>
+fn insert_at(sets: &mut Vec<EventSet>, place: u32, event: Event) -> Result<(), NoMemory>
     requires { place < length sets.old.items }
     ensures ok { OnOk result (sets.new.items ≡ slice_set sets.old.items place (with_member event (slice_index_or sets.old.items place []))) }
 {
-    sets[place].insert(event)?;
+    sets[place as usize].insert(event)?;
     Ok(())
 }
 

@@ -3,15 +3,15 @@ use Rattle.acceptances.proofs.Terms.{step_from, events_after, rising_after, leng
 use Rattle.acceptances.proofs.offers.event_sets.Goals as goal
 
 pub insert_at-requires : goal.insert_at-requires
-insert_at-requires c = rw c.loop-from.invariant.one_each (step_from c.args.table.now c.steps-from-items.ensures.form c.steps-from-items.result.now c.steps-from-items.ensures.value c.loop-from.from-index c.loop-from-item.result c.loop-from-test.true c.loop-from-item.is)
+insert_at-requires c = rw c.loop-step.invariant.one_each (step_from c.args.table.now c.steps-step-items.ensures.form c.steps-step-items.result.now c.steps-step-items.ensures.value c.loop-step.step-index c.step-item.result c.loop-step-test.true c.step-item.is)
 
-pub loop-from-preserved : goal.loop-from-preserved
-loop-from-preserved c =
-    let before = c.loop-from.invariant in
-    let below : c.loop-from-item.result.0 < c.args.table.now.count = step_from c.args.table.now c.steps-from-items.ensures.form c.steps-from-items.result.now c.steps-from-items.ensures.value c.loop-from.from-index c.loop-from-item.result c.loop-from-test.true c.loop-from-item.is in
-    let within : c.loop-from-item.result.0 < length c.loop-from.sets.items = rw before.one_each below in
+pub loop-step-preserved : goal.loop-step-preserved
+loop-step-preserved c =
+    let before = c.loop-step.invariant in
+    let below : c.step-item.result.0 < c.args.table.now.count = step_from c.args.table.now c.steps-step-items.ensures.form c.steps-step-items.result.now c.steps-step-items.ensures.value c.loop-step.step-index c.step-item.result c.loop-step-test.true c.step-item.is in
+    let within : c.step-item.result.0 < length c.loop-step.sets.items = rw before.one_each below in
     record {
-      one_each = length_after _ _ _ _ _ c.loop-from-test.true c.loop-from-item.is within c.in_ok-insert_at.ensures.ok ∙ before.one_each;
-      events = λ n e h. events_after _ _ _ _ _ c.loop-from-test.true c.loop-from-item.is within c.in_ok-insert_at.ensures.ok n e (before.events n e h);
-      rising = λ n h. rising_after _ _ _ _ _ c.loop-from-test.true c.loop-from-item.is within c.in_ok-insert_at.ensures.ok n (before.rising n h) (before.rising c.loop-from-item.result.0 below);
+      one_each = length_after _ _ _ _ _ c.loop-step-test.true c.step-item.is within c.in_ok-insert_at.ensures.ok ∙ before.one_each;
+      events = λ n e h. events_after _ _ _ _ _ c.loop-step-test.true c.step-item.is within c.in_ok-insert_at.ensures.ok n e (before.events n e h);
+      rising = λ n h. rising_after _ _ _ _ _ c.loop-step-test.true c.step-item.is within c.in_ok-insert_at.ensures.ok n (before.rising n h) (before.rising c.step-item.result.0 below);
     }

@@ -4,9 +4,9 @@ use Rattle.csp_base.specs.Events.{has}
 use Rattle.std.specs.List.Sorted.{IsStrictlyIncreasing}
 use Rattle.acceptances.proofs.offers.event_sets.Given as goal
 
-abbrev pub invariant-loop-from : goal.invariant-loop-from
-invariant-loop-from l = record {
+abbrev pub invariant-loop-step : goal.invariant-loop-step
+invariant-loop-step l = record {
   one_each : length l.sets.items ≡ l.table.count;
-  events : (n e : ℕ) → n < l.table.count → has (get_or l.sets.items n []) e ≡ list_any (λ step. nat_eq n step.0 && nat_eq e step.1) (take l.from-index l.from-items);
+  events : (n e : ℕ) → n < l.table.count → has (get_or l.sets.items n []) e ≡ list_any (λ step. nat_eq n step.0 && nat_eq e step.1) (take l.step-index l.step-items);
   rising : (n : ℕ) → n < l.table.count → IsStrictlyIncreasing (get_or l.sets.items n []);
 }
