@@ -1,7 +1,8 @@
 //! The shelf of the system's files. That a file holds what its reads give is trusted, and no part of any proof.
 
-ghost use Rattle.std.specs.Prelude.{◌≡◌, ◌≢◌, ◌≤◌, length, None};
+ghost use Rattle.std.specs.Prelude.{◌≡◌, ◌≢◌, ◌≤◌, ◌⊎◌, length, None};
 ghost use Rattle.std.specs.Str.{IsUtf8};
+ghost use Rattle.dl_outside.specs.Count.{one_more};
 ghost use Rattle.dl_outside.specs.FileShelf.{OpenAnswers, ReadAnswers, FileAnswers};
 
 use crate::count::raised;
@@ -21,6 +22,7 @@ pub struct FileShelf<'a, R> {
 }
 
 impl<'a, R> Model for FileShelf<'a, R> {
+    ghost use Rattle.dl_outside.specs.Count.{one_more};
     ghost use Rattle.dl_outside.specs.FileShelf.{FileCounts};
 
     ghost Value = { FileCounts };
@@ -52,13 +54,30 @@ fn open_file<R: Files>(files: &R, name: &[u8], faults: &mut u64) -> Result<R::Fi
         Ok(file) => Ok(file),
         Err(error) => {
             *faults = raised(*faults);
-            if error.kind() == ErrorKind::NotFound {
-                Err(LoadFault::Missing)
-            } else {
-                Err(LoadFault::Failed)
-            }
+            Err(fault_of(error.kind()))
         }
     }
+}
+
+/// What an error of this kind says of a file that was to be opened.
+fn fault_of(kind: ErrorKind) -> LoadFault
+    ensures { (result ≡ LoadFault.Missing) ⊎ (result ≡ LoadFault.Failed) }
+{
+    if kind == ErrorKind::NotFound {
+        LoadFault::Missing
+    } else {
+        LoadFault::Failed
+    }
+}
+
+/// Counts a read that failed.
+fn failed(faults: &mut u64) -> LoadFault
+    ensures fault { result ≡ LoadFault.Failed }
+    ensures counted { faults.new ≡ one_more faults.old }
+    ensures never_falls { faults.old ≤ faults.new }
+{
+    *faults = raised(*faults);
+    LoadFault::Failed
 }
 
 /// Appends what one read gives, and answers how many bytes that are: none at the end.
@@ -73,17 +92,29 @@ fn read_piece<R: Read>(
     ensures never_falls { faults.old ≤ faults.new }
 {
     let mut piece = [0u8; 4096];
-    let Ok(count) = reader.read(&mut piece) else {
-        *faults = raised(*faults);
-        return Err(LoadFault::Failed);
-    };
-    let Some(counted) = taken.checked_add(count as u64) else {
-        *faults = raised(*faults);
-        return Err(LoadFault::Failed);
+    match reader.read(&mut piece) {
+        Ok(count) => append(&piece[..count], text, faults, taken),
+        Err(_) => Err(failed(faults)),
+    }
+}
+
+/// Appends a piece that was read, and answers how many bytes it has.
+fn append(
+    piece: &[u8],
+    text: &mut Bytes,
+    faults: &mut u64,
+    taken: &mut u64,
+) -> Result<usize, LoadFault>
+    ensures answer { ReadAnswers (length text.old) (length text.new)
+        (record { faults = faults.old; taken = taken.old }) (record { faults = faults.new; taken = taken.new }) result }
+    ensures never_falls { faults.old ≤ faults.new }
+{
+    let Some(counted) = taken.checked_add(piece.len() as u64) else {
+        return Err(failed(faults));
     };
     *taken = counted;
-    text.extend_from_slice(&piece[..count])?;
-    Ok(count)
+    text.extend_from_slice(piece)?;
+    Ok(piece.len())
 }
 
 /// Reads to the end, or until more than `limit` bytes are there.

@@ -1,6 +1,6 @@
 //! Texts under names, as the shelves in memory hold them.
 
-ghost use Rattle.std.specs.Prelude.{◌≡◌, OnOk, OnErr};
+ghost use Rattle.std.specs.Prelude.{◌≡◌, ◌∷◌, ◌++◌, [], OnOk, OnErr};
 ghost use Rattle.std.specs.List.{position};
 ghost use Rattle.std.specs.Option.{option_copied};
 ghost use Rattle.dl_outside.specs.Load.{AnswersTold};
@@ -65,11 +65,23 @@ pub(crate) fn put_text(
         Some(place) => {
             let held = &mut texts[place];
             held.text = text;
+            Ok(())
         }
-        None => {
-            let name = Bytes::from_slice(alloc, name)?;
-            texts.push(NamedText { name, text })?;
-        }
+        None => add_text(alloc, texts, name, text),
     }
+}
+
+/// Puts a text under a name, behind those that are held.
+fn add_text(
+    alloc: Global,
+    texts: &mut Vec<NamedText>,
+    name: &[u8],
+    text: Bytes,
+) -> Result<(), NoMemory>
+    ensures ok { OnOk result (texts.new.items ≡ texts.old.items ++ record { name = name.now; text = text } ∷ []) }
+    ensures err { OnErr result (texts.new.items ≡ texts.old.items) }
+{
+    let name = Bytes::from_slice(alloc, name)?;
+    texts.push(NamedText { name, text })?;
     Ok(())
 }
