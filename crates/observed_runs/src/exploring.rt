@@ -2,6 +2,7 @@
 
 ghost use Rattle.std.specs.Prelude.{◌≡◌, ◌<◌, ◌^◌, ◌⊎◌, ◌++◌, ◌∷◌, [], ℕ, List, IfOk, OnOk, length};
 ghost use Rattle.csp_tables.specs.Form.{HasForm};
+ghost use Rattle.csp_tables.specs.Table.{node_at};
 ghost use Rattle.observed_runs.specs.Exploration.{AreFound, HaveOrigins, IsExploration};
 ghost use Rattle.observed_runs.specs.Observed.{pair_at};
 ghost use Rattle.observed_runs.specs.Progress.{AreFollowed, AreMore, IsAdded, IsListed};
@@ -23,14 +24,48 @@ pub fn explore<O: Observer>(alloc: Global, part: &Part, observer: &O) -> Result<
 {
     let mut pairs = Numbering::new(alloc);
     let mut origins = Vec::new(alloc);
-    let start = observer.start();
-    pairs.number((0, start))?;
+    find(part, observer, &mut pairs, &mut origins)?;
+    Ok(Explored::new(pairs, origins))
+}
+
+// Lists the pairs with their origins, where none is listed yet.
+fn find<O: Observer>(
+    part: &Part,
+    observer: &O,
+    pairs: &mut Numbering<(u32, u32)>,
+    origins: &mut Vec<(u32, Event)>,
+) -> Result<(), NoMemory>
+    requires form { HasForm part.now }
+    requires no_pairs { pairs.old ≡ [] }
+    requires no_origins { origins.old.items ≡ [] }
+    ensures pairs { OnOk result (IsExploration part.now.table (O.step observer.now) (O.start_state observer.now) pairs.new) }
+    ensures found { OnOk result (AreFound part.now.table (O.step observer.now) (O.start_state observer.now) (record { pairs = pairs.new; origins = origins.new.items })) }
+    ensures origins { OnOk result (HaveOrigins (record { pairs = pairs.new; origins = origins.new.items })) }
+{
+    pairs.number((0, observer.start()))?;
+    follow_all(part, observer, pairs, origins)
+}
+
+// Follows each pair that is listed, from the first one on.
+fn follow_all<O: Observer>(
+    part: &Part,
+    observer: &O,
+    pairs: &mut Numbering<(u32, u32)>,
+    origins: &mut Vec<(u32, Event)>,
+) -> Result<(), NoMemory>
+    requires form { HasForm part.now }
+    requires first { pairs.old ≡ (0, O.start_state observer.now) ∷ [] }
+    requires no_origins { origins.old.items ≡ [] }
+    ensures pairs { OnOk result (IsExploration part.now.table (O.step observer.now) (O.start_state observer.now) pairs.new) }
+    ensures found { OnOk result (AreFound part.now.table (O.step observer.now) (O.start_state observer.now) (record { pairs = pairs.new; origins = origins.new.items })) }
+    ensures origins { OnOk result (HaveOrigins (record { pairs = pairs.new; origins = origins.new.items })) }
+{
     let mut place = 0;
     while place < pairs.as_slice().len() {
-        follow(part, observer, &mut pairs, &mut origins, place as u32)?;
+        follow(part, observer, pairs, origins, place as u32)?;
         place += 1;
     }
-    Ok(Explored::new(pairs, origins))
+    Ok(())
 }
 
 // Lists the pairs to which events lead from the pair in a place.
@@ -47,12 +82,43 @@ fn follow<O: Observer>(
     ensures more { OnOk result (AreMore part.now (O.step observer.now) pairs.old origins.old.items place pairs.new origins.new.items) }
     ensures followed { OnOk result (AreFollowed part.now.table (O.step observer.now) pairs.new place) }
 {
-    let (node, state) = pairs.as_slice()[place as usize];
-    for (event, target) in part.table().nodes()[node as usize].next() {
-        let next = observer.next(state, *event);
-        add(pairs, origins, (*target, next), (place, *event))?;
+    let (steps, state) = steps_from(part, pairs, place);
+    for step in steps {
+        add_target(observer, pairs, origins, place, state, *step)?;
     }
     Ok(())
+}
+
+// The steps from the node of the pair in a place, and the pair's state.
+fn steps_from<'a>(
+    part: &'a Part,
+    pairs: &Numbering<(u32, u32)>,
+    place: u32,
+) -> (&'a [(Event, u32)], u32)
+    requires place { place < length pairs.now }
+    requires node { (pair_at pairs.now place).0 < length part.now.table }
+    ensures steps { result.0.now ≡ (node_at part.now.table (pair_at pairs.now place).0).next }
+    ensures state { result.1 ≡ (pair_at pairs.now place).1 }
+{
+    let (node, state) = pairs.as_slice()[place as usize];
+    (part.table().nodes()[node as usize].next(), state)
+}
+
+// Lists the pair to which the step leads from the pair in a place with this state.
+fn add_target<O: Observer>(
+    observer: &O,
+    pairs: &mut Numbering<(u32, u32)>,
+    origins: &mut Vec<(u32, Event)>,
+    place: u32,
+    state: u32,
+    step: (Event, u32),
+) -> Result<(), NoMemory>
+    ensures added { OnOk result (IsAdded pairs.old origins.old.items (step.1, O.step observer.now state step.0) (place, step.0) pairs.new origins.new.items) }
+    ensures listed { OnOk result (IsListed pairs.new (step.1, O.step observer.now state step.0)) }
+{
+    let (event, target) = step;
+    let next = observer.next(state, event);
+    add(pairs, origins, (target, next), (place, event))
 }
 
 // Lists the pair, with its origin, if it is new.

@@ -1,11 +1,10 @@
-use Rattle.std.proofs.Common.{◌≡◌, ◌+◌, ◌<◌, ◌≤◌, length, sym, ap, subst, ◌∙◌, arith, inl, inr}
+use Rattle.std.proofs.Common.{◌≡◌, ◌+◌, ◌<◌, ◌≤◌, length, ap, subst, ◌∙◌, arith, inl, inr}
 use Rattle.std.proofs.lemmas.Bool.{cases_lt}
 use Rattle.std.proofs.lemmas.List.{length-append}
 use Rattle.observed_runs.specs.Progress.{AreFollowed}
-use Rattle.observed_runs.specs.Exploration.{Found, IsExploration}
 use Rattle.observed_runs.proofs.Growing.{explored_more, followed_still}
 use Rattle.observed_runs.proofs.Finding.{is_exploration}
-use Rattle.observed_runs.proofs.exploring.explore.Goals as goal
+use Rattle.observed_runs.proofs.exploring.follow_all.Goals as goal
 
 pub loop-place-preserved : goal.loop-place-preserved
 loop-place-preserved g c =
@@ -37,5 +36,4 @@ returns-clause-pairs g c =
     let pairs = c.loop-place.pairs in
     let i = c.loop-place.invariant in
     let all : length c.loop-place.pairs ≤ c.loop-place.place = omega (arith, ap length c.as_slice.ensures.value, c.loop-place-test.false) in
-    let whole = is_exploration part.table step start (record { pairs = pairs; origins = c.loop-place.origins.items }) i.explored.sources i.explored.found (λ k h. i.followed k (omega arith)) c.as_slice.ensures.distinct in
-    subst (λ (found : Found). IsExploration part.table step start found.pairs) (sym c.new.ensures) whole
+    is_exploration part.table step start (record { pairs = pairs; origins = c.loop-place.origins.items }) i.explored.sources i.explored.found (λ k h. i.followed k (omega arith)) c.as_slice.ensures.distinct

@@ -1,7 +1,7 @@
 use Rattle.std.proofs.Common.{◌<◌, ◌≤◌, ◌-◌, ◌^◌, ℕ, length}
 use Rattle.observed_runs.specs.Progress.{AreFollowed}
 use Rattle.observed_runs.proofs.Growing.{AreExplored}
-use Rattle.observed_runs.proofs.exploring.explore.Given as goal
+use Rattle.observed_runs.proofs.exploring.follow_all.Given as goal
 
 abbrev pub invariant-loop-place : goal.invariant-loop-place
 invariant-loop-place g l = record {
