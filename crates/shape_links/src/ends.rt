@@ -1,12 +1,12 @@
 //! The links of each part.
 
-ghost use Rattle.std.specs.Prelude.{◌≡◌, ◌<◌, ◌+◌, ◌++◌, ◌∷◌, [], ℕ, IfOk, OnOk, length, replicate, slice_index_or, slice_set};
+ghost use Rattle.std.specs.Prelude.{◌≡◌, ◌<◌, ◌+◌, ◌++◌, ◌∷◌, ◌||◌, [], ℕ, nat_eq, IfOk, OnOk, length, replicate, slice_index_or, slice_set, if◌then◌else◌};
 ghost use Rattle.csp_tables.specs.Shape.{IsWellFormed};
 ghost use Rattle.shape_links.specs.Links.{AreEnds};
 
 use containers::Items;
 use csp_base::NoMemory;
-use csp_tables::Shape;
+use csp_tables::{Link, Shape};
 use std::alloc::Global;
 
 /// For each part its links, in rising order.
@@ -16,10 +16,21 @@ pub fn links_of_parts(alloc: Global, shape: &Shape) -> Result<Vec<Items<u32>>, N
 {
     let mut ends = empty_rows(alloc, shape.parts().len())?;
     for (l, link) in shape.links().iter().enumerate() {
-        push_at(&mut ends, link.left() as usize, l as u32)?;
-        push_at(&mut ends, link.right() as usize, l as u32)?;
+        add_link(&mut ends, link, l as u32)?;
     }
     Ok(ends)
+}
+
+// Adds the number of a link at the end of the lists of its two ends.
+fn add_link(ends: &mut Vec<Items<u32>>, link: &Link, number: u32) -> Result<(), NoMemory>
+    requires { link.now.right < length ends.old.items }
+    ensures count { OnOk result (length ends.new.items ≡ length ends.old.items) }
+    ensures each { OnOk result ((i : ℕ) → i < length ends.old.items → slice_index_or ends.new.items i []
+        ≡ (if nat_eq link.now.left i || nat_eq link.now.right i then slice_index_or ends.old.items i [] ++ number ∷ [] else slice_index_or ends.old.items i [])) }
+{
+    push_at(ends, link.left() as usize, number)?;
+    push_at(ends, link.right() as usize, number)?;
+    Ok(())
 }
 
 // As many empty lists as `count` says.
