@@ -1,5 +1,5 @@
 -- The links of a part.
-use Rattle.std.proofs.Common.{◌≡◌, ℕ, ◌<◌, List, [], length, get_or, true, IsTrue}
+use Rattle.std.proofs.Common.{◌≡◌, ℕ, ◌<◌, List, length, get_or, IsTrue}
 use Rattle.std.proofs.lemmas.Option.{slice_get_within, get_or_from_slice_get}
 use Rattle.csp_tables.specs.Shape.{Shape, is_end}
 use Rattle.shape_links.specs.Links.{ends_of}

@@ -1,10 +1,10 @@
 //! Which end of each link is the client.
 
-ghost use Rattle.std.specs.Prelude.{◌≡◌, ◌<◌, ◌↔◌, ◌++◌, ◌∷◌, [], ℕ, IfErr, IfOk, OnOk, IsTrue, length};
+ghost use Rattle.std.specs.Prelude.{◌≡◌, ◌<◌, ◌⊎◌, ◌↔◌, ◌++◌, ◌∷◌, [], ℕ, None, IfErr, IfOk, OnOk, IsTrue, length};
 ghost use Rattle.csp_tables.specs.Roles.{role_at};
 ghost use Rattle.csp_tables.specs.Shape.{IsWellFormed, link_at};
 ghost use Rattle.design_rules.specs.ClientServer.{HasRoles};
-ghost use Rattle.client_server_conditions.specs.Sides.{AgreeOn, AreSides, HaveNoOther, IsClient, IsSideOrNone};
+ghost use Rattle.client_server_conditions.specs.Sides.{AgreeOn, AreSides, HaveNoOther, IsClient, IsSide, IsSideOrNone};
 ghost use Rattle.client_server_conditions.specs.Told.{Tells};
 
 use crate::fault::RoleFault;
@@ -26,20 +26,32 @@ pub(crate) fn sides(
 {
     let mut sides = Vec::new(alloc);
     for link in 0..shape.links().len() {
-        match side(alloc, shape, roles, link as u32)? {
-            Some(left_asks) => push(&mut sides, left_asks)?,
-            None => return Err(no_client(alloc, shape, link as u32)),
-        }
+        let left_asks = known_side(alloc, shape, roles, link as u32)?;
+        let Ok(()) = sides.push(left_asks) else {
+            return Err(RoleFault::NoMemory);
+        };
     }
     Ok(sides)
 }
 
-// Adds a side at the end.
-fn push(sides: &mut Vec<bool>, left_asks: bool) -> Result<(), NoMemory>
-    ensures { OnOk result (sides.new.items ≡ sides.old.items ++ left_asks ∷ []) }
+// Whether the left end of the link is its client, or that the link has none.
+fn known_side(
+    alloc: Global,
+    shape: &Shape,
+    roles: &[RoleSets],
+    link: u32,
+) -> Result<bool, RoleFault>
+    requires form { IsWellFormed shape.now }
+    requires roles { length roles.now ≡ length shape.now.parts }
+    requires link { link < length shape.now.links }
+    ensures side { IfOk result (IsSide shape.now roles.now link) }
+    ensures fault { IfErr result (λ fault. (fault ≡ RoleFault.NoMemory)
+        ⊎ ((fault ≡ RoleFault.BreaksRole 2 (link_at shape.now link).left []) × IsSideOrNone shape.now roles.now link None)) }
 {
-    sides.push(left_asks)?;
-    Ok(())
+    match side(alloc, shape, roles, link)? {
+        Some(left_asks) => Ok(left_asks),
+        None => Err(no_client(alloc, shape, link)),
+    }
 }
 
 // The link has no client.
@@ -94,8 +106,7 @@ fn is_client(
     if !agree_on(alloc, events, client.creq(), server.sreq())? {
         return Ok(false);
     }
-    let agree = agree_on(alloc, events, client.cack(), server.sack())?;
-    Ok(agree)
+    agree_on(alloc, events, client.cack(), server.sack())
 }
 
 // Whether the client serves by none of the events, and the server asks by none.

@@ -56,7 +56,9 @@ impl<'a> Network<'a> {
     {
         check_parted(alloc, shape, roles)?;
         let sides = sides(alloc, shape, roles)?;
-        let ends = links_of_parts(alloc, shape)?;
+        let Ok(ends) = links_of_parts(alloc, shape) else {
+            return Err(RoleFault::NoMemory);
+        };
         Ok(Network {
             shape,
             roles,

@@ -51,8 +51,7 @@ fn part_has_roles(
     let own = shape.parts()[part as usize]
         .alphabet()
         .inter(alloc, shape.vocabulary())?;
-    let parted = part_own(alloc, &own, &roles[part as usize])?;
-    Ok(parted)
+    part_own(alloc, &own, &roles[part as usize])
 }
 
 // Whether the four sets part the events.

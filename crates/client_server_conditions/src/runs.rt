@@ -78,15 +78,9 @@ fn split_run(alloc: Global, network: &Network<'_>, part: u32) -> Result<Option<T
     ensures { IfOk result (λ run. IsDecided network.now.shape part (KeepsWhole network.now Condition.Service part) run) }
 {
     let shape = network.shape();
-    let requests = network.roles(part).sreq();
     let explored = explore(alloc, part_of(shape, part), &Unwatched)?;
-    match split_pair(shape, part, requests, explored.pairs()) {
-        Some(place) => {
-            let run = explored.run_to(alloc, place)?;
-            Ok(Some(run))
-        }
-        None => Ok(None),
-    }
+    let requests = network.roles(part).sreq();
+    explored.run_if_any(alloc, split_pair(shape, part, requests, explored.pairs()))
 }
 
 // A run after which the part breaks what the condition asks on one of its links.
@@ -128,8 +122,7 @@ fn link_run(
     if !condition.is_asked_of(asks, acknowledged) {
         return Ok(None);
     }
-    let run = broken_run(alloc, network, condition, part, link, &events, acknowledged)?;
-    Ok(run)
+    broken_run(alloc, network, condition, part, link, &events, acknowledged)
 }
 
 // The acknowledgements among the link's events, as the part has them.
@@ -149,11 +142,9 @@ fn acknowledgements(
     let shared = link_of(network.shape(), link).shared();
     let roles = network.roles(part);
     if asks {
-        let awaited = shared.inter(alloc, roles.cack())?;
-        return Ok(awaited);
+        return shared.inter(alloc, roles.cack());
     }
-    let owed = shared.inter(alloc, roles.sack())?;
-    Ok(owed)
+    shared.inter(alloc, roles.sack())
 }
 
 // A run after which the part breaks the condition on the link, by exploring its table with the parity of the link's events.
@@ -175,13 +166,8 @@ fn broken_run(
 {
     let explored = explored_link(alloc, network.shape(), part, link)?;
     let pairs = explored.pairs();
-    match broken_pair(network, condition, part, link, events, acknowledged, pairs) {
-        Some(place) => {
-            let run = explored.run_to(alloc, place)?;
-            Ok(Some(run))
-        }
-        None => Ok(None),
-    }
+    let place = broken_pair(network, condition, part, link, events, acknowledged, pairs);
+    explored.run_if_any(alloc, place)
 }
 
 // The exploration of a part with the parity of the link's events.
@@ -193,8 +179,7 @@ fn explored_link(alloc: Global, shape: &Shape, part: u32, link: u32) -> Result<E
     ensures found { IfOk result (λ explored. AreFound (part_at shape.now.parts part).table (parity_step (link_at shape.now link).shared) 0 explored) }
 {
     let parity = Parity::new(link_of(shape, link).shared());
-    let explored = explore(alloc, part_of(shape, part), &parity)?;
-    Ok(explored)
+    explore(alloc, part_of(shape, part), &parity)
 }
 
 // The place of a pair at which an acceptance has some of the requests and not all.

@@ -1,6 +1,6 @@
 //! What an exploration found.
 
-ghost use Rattle.std.specs.Prelude.{◌≡◌, ◌+◌, ◌<◌, ◌≤◌, ℕ, List, IfOk, length};
+ghost use Rattle.std.specs.Prelude.{◌≡◌, ◌+◌, ◌<◌, ◌≤◌, ℕ, List, None, IfOk, IfSome, IsSomeAnd, MatchOption, length};
 ghost use Rattle.csp_tables.specs.Table.{Node};
 ghost use Rattle.observed_runs.specs.Exploration.{AreFound, HaveOrigins};
 ghost use Rattle.observed_runs.specs.Observed.{LeadsTo, pair_at};
@@ -59,6 +59,18 @@ impl Explored {
     {
         let run = events_to(alloc, self.origins.as_slice(), place)?;
         Trace::from_slice(alloc, run.as_slice())
+    }
+
+    /// A run that leads to the pair in this place, if there is a place.
+    pub fn run_if_any(&self, alloc: Global, place: Option<usize>) -> Result<Option<Trace>, NoMemory>
+        requires { IfSome place (λ k. k < length self.now.pairs) }
+        ensures { (table : List Node) (step : ℕ → ℕ → ℕ) (start : ℕ) → AreFound table step start self.now
+            → IfOk result (λ run. MatchOption place (run ≡ None) (λ k. IsSomeAnd run (λ s. LeadsTo table step start s (pair_at self.now.pairs k)))) }
+    {
+        match place {
+            Some(place) => self.run_to(alloc, place).map(Some),
+            None => Ok(None),
+        }
     }
 }
 

@@ -12,6 +12,6 @@ invariant_of-result c =
         parted = c.in_ok-check_parted.ensures.parted;
         linked = λ l h. side_client shape roles l c.in_ok-sides.sides.items (length c.args.shape.now.links) c.in_ok-sides.ensures.sides h;
       },
-      c.in_ok-ends.ensures,
+      c.in-Ok.ensures,
       c.in_ok-sides.ensures.sides,
     )
