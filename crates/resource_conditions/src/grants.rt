@@ -5,7 +5,7 @@ ghost use Rattle.csp_base.specs.Events.{inter_of};
 ghost use Rattle.csp_tables.specs.Part.{part_at};
 ghost use Rattle.csp_tables.specs.Shape.{link_at};
 ghost use Rattle.design_rules.specs.Resource.{GrantsAll};
-ghost use Rattle.resource_conditions.specs.Finding.{FindsBroken, FindsRun, HaveNodes};
+ghost use Rattle.resource_conditions.specs.Finding.{FindsBroken, FindsRun, HaveNodes, WatchesHolder};
 ghost use Rattle.resource_conditions.specs.Setting.{IsResourcePart, KeepGrants, KeepKinds, KeepTurns, TellsOf};
 ghost use Rattle.resource_conditions.specs.Tests.{are_granted, are_grants};
 
@@ -13,6 +13,7 @@ use crate::fault::ResourceFault;
 use crate::prepared::Prepared;
 use crate::turns::held;
 use csp_base::{EventSet, NoMemory, Trace};
+use observed_runs::Explored;
 use std::alloc::Global;
 
 /// Succeeds where U3 holds, and else tells the first resource that breaks it.
@@ -43,16 +44,25 @@ fn denial(alloc: Global, prepared: &Prepared<'_>, part: u32) -> Result<Option<Tr
     if !prepared.uses(part).is_resource() {
         return Ok(None);
     }
-    let _form = prepared.shape();
     let explored = held(alloc, prepared, part)?;
+    denial_found(alloc, prepared, part, &explored)
+}
+
+// The same of a resource, by what an exploration of it found.
+fn denial_found(
+    alloc: Global,
+    prepared: &Prepared<'_>,
+    part: u32,
+    explored: &Explored,
+) -> Result<Option<Trace>, NoMemory>
+    requires part { part < length prepared.now.shape.parts }
+    requires resource { IsResourcePart prepared.now part }
+    requires held { WatchesHolder prepared.now part explored.now }
+    ensures { IfOk result (FindsRun prepared.now part (λ s. IsResourcePart prepared.now part → GrantsAll prepared.now.shape prepared.now.uses part s)) }
+{
+    let _form = prepared.shape();
     let broken = broken_grant(alloc, prepared, part, explored.pairs())?;
-    match broken {
-        Some(place) => {
-            let run = explored.run_to(alloc, place)?;
-            Ok(Some(run))
-        }
-        None => Ok(None),
-    }
+    explored.run_if_any(alloc, broken)
 }
 
 // The place of a pair at which an acceptance lacks what it must grant.

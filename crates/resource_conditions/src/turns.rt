@@ -42,13 +42,7 @@ fn misuse(alloc: Global, prepared: &Prepared<'_>, part: u32) -> Result<Option<Tr
     }
     let _form = prepared.shape();
     let explored = held(alloc, prepared, part)?;
-    match broken_turn(prepared, part, explored.pairs()) {
-        Some(place) => {
-            let run = explored.run_to(alloc, place)?;
-            Ok(Some(run))
-        }
-        None => Ok(None),
-    }
+    explored.run_if_any(alloc, broken_turn(prepared, part, explored.pairs()))
 }
 
 // The exploration of a part with its holder.
@@ -57,8 +51,7 @@ pub(crate) fn held(alloc: Global, prepared: &Prepared<'_>, part: u32) -> Result<
     ensures { IfOk result (λ explored. WatchesHolder prepared.now part explored) }
 {
     let holder = Holder::new(prepared.holders());
-    let explored = explore(alloc, prepared.component(part), &holder)?;
-    Ok(explored)
+    explore(alloc, prepared.component(part), &holder)
 }
 
 // The place of a pair at which an event is possible that is not in turn.

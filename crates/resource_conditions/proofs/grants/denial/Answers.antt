@@ -1,40 +1,6 @@
-use Rattle.std.proofs.Common.{◌≡◌, ◌<◌, ◌∙◌, ℕ, List, true, false, length, ap, sym, subst}
-use Rattle.csp_tables.specs.Part.{part_at}
+use Rattle.std.proofs.Common.{◌∙◌, ap, sym}
 use Rattle.csp_tables.specs.Roles.{UseSets}
-use Rattle.observed_runs.specs.Observed.{pair_at}
-use Rattle.observed_runs.specs.Observers.{holder_step}
-use Rattle.resource_conditions.specs.Finding.{FindsBroken, HaveNodes}
-use Rattle.resource_conditions.specs.Tests.{are_grants}
-use Rattle.resource_conditions.proofs.Holding.{at_run, every_run, have_nodes, grants_all, not_all_granted}
 use Rattle.resource_conditions.proofs.grants.denial.Goals as goal
 
-pub broken_grant-requires-clause-nodes : goal.broken_grant-requires-clause-nodes
-broken_grant-requires-clause-nodes c =
-    let x = c.in_ok-explored.ensures in
-    subst (HaveNodes c.args.prepared.now c.args.part) (sym c.pairs.ensures) (have_nodes c.args.prepared.now c.args.part (holder_step x.holders) c.in_ok-explored.explored.pairs c.shape-form.ensures.form c.requires x.explored)
-
-pub returns-in-Some : goal.returns-in-Some
-returns-in-Some c =
-    let g = c.args.prepared.now in
-    let i = c.args.part in
-    let x = c.in_ok-explored.ensures in
-    let table = (part_at g.shape.parts i).table in
-    let pair = pair_at c.in_ok-explored.explored.pairs c.in-Some.place in
-    let leads = c.in_ok-run-in-Some.ensures table (holder_step x.holders) 0 x.origins_are in
-    let broken = subst (λ (ps : List (ℕ × ℕ)). are_grants c.args.prepared.now c.args.part (pair_at ps c.in-Some.place) ≡ false) c.pairs.ensures (subst (FindsBroken (are_grants g i) c.pairs.result.now) c.in-Some.is c.in_ok-broken.ensures).1 in
-    let resource = sym (c.is_resource.ensures ∙ ap (λ (u : UseSets). u.resource) c.uses.ensures) ∙ c.if-not-is_resource.false in (
-      record { part = c.requires; follows = leads.follows },
-      λ used. not_all_granted g i x.holders c.shape-form.ensures.form c.shape-form.ensures.apart c.requires x.are c.in_ok-run-in-Some.run' leads.follows
-          (at_run table (holder_step x.holders) (λ n state. are_grants g i (n, state)) c.in_ok-run-in-Some.run' pair false leads broken) (used resource),
-    )
-
-pub returns : goal.returns
-returns c s _ =
-    let g = c.args.prepared.now in
-    let i = c.args.part in
-    let x = c.in_ok-explored.ensures in
-    let table = (part_at g.shape.parts i).table in
-    let pairs = c.in_ok-explored.explored.pairs in
-    let all = subst (λ (ps : List (ℕ × ℕ)). (k : ℕ) → k < length ps → are_grants c.args.prepared.now c.args.part (pair_at ps k) ≡ true) c.pairs.ensures (subst (FindsBroken (are_grants g i) c.pairs.result.now) c.in-None.is c.in_ok-broken.ensures) in
-    grants_all g i x.holders c.shape-form.ensures.form c.shape-form.ensures.apart c.requires x.are
-    (every_run table (holder_step x.holders) (λ n state. are_grants g i (n, state)) pairs x.explored all) s
+pub denial_found-requires-clause-resource : goal.denial_found-requires-clause-resource
+denial_found-requires-clause-resource c = sym (c.is_resource.ensures ∙ ap (λ (u : UseSets). u.resource) c.uses.ensures) ∙ c.if-not-is_resource.false
