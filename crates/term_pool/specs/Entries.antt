@@ -78,40 +78,6 @@ pub record StandsAs (parts : OwnParts) (e : Entry) (n : Layer) : Type 0 where
   pub fits : Fits parts e
   pub is : entry_layer parts e ≡ n
 
--- the entry of a layer whose own parts have these numbers
-abbrev pub numbered : Layer → ℕ × ℕ → Entry
-numbered Layer.Stop own = entry.Stop
-numbered (Layer.Prefix h fields p) own = entry.Prefix own.0 own.1 p
-numbered (Layer.Guard c p) own = entry.Guard own.0 p
-numbered (Layer.If c p q) own = entry.If own.0 p q
-numbered (Layer.External ps) own = entry.External own.0
-numbered (Layer.Internal ps) own = entry.Internal own.0
-numbered (Layer.EachExternal x s p) own = entry.EachExternal x own.0 p
-numbered (Layer.EachInternal x s p) own = entry.EachInternal x own.0 p
-numbered (Layer.Hide p s) own = entry.Hide p own.0
-numbered (Layer.Rename p pairs gens) own = entry.Rename p own.0 own.1
-numbered (Layer.Call d args) own = entry.Call d own.0
-numbered Layer.Skip own = entry.Skip
-numbered (Layer.Seq p q) own = entry.Seq p q
-numbered Layer.Ended own = entry.Ended
-
--- the entry with these numbers of own parts in place of its own
-abbrev pub renumbered : Entry → ℕ × ℕ → Entry
-renumbered entry.Stop own = entry.Stop
-renumbered (entry.Prefix h f p) own = entry.Prefix own.0 own.1 p
-renumbered (entry.Guard c p) own = entry.Guard own.0 p
-renumbered (entry.If c p q) own = entry.If own.0 p q
-renumbered (entry.External ps) own = entry.External own.0
-renumbered (entry.Internal ps) own = entry.Internal own.0
-renumbered (entry.EachExternal x s p) own = entry.EachExternal x own.0 p
-renumbered (entry.EachInternal x s p) own = entry.EachInternal x own.0 p
-renumbered (entry.Hide p s) own = entry.Hide p own.0
-renumbered (entry.Rename p pairs gens) own = entry.Rename p own.0 own.1
-renumbered (entry.Call d args) own = entry.Call d own.0
-renumbered entry.Skip own = entry.Skip
-renumbered (entry.Seq p q) own = entry.Seq p q
-renumbered entry.Ended own = entry.Ended
-
 -- x stands in the list
 abbrev pub Holds : {T : Type 0} → List T → T → Type 0
 Holds xs x = (k : ℕ) × (slice_get xs k ≡ Some x)

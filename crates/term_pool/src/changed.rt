@@ -2,7 +2,7 @@
 
 ghost use Rattle.std.specs.Prelude.{◌≡◌, ◌<◌, [], length, map, slice_get, IfOk, Some};
 ghost use Rattle.csp_program.specs.Substitution.{all_unless_bound, any_binds, expr_with, fields_with, gen_twice, gens_with, head_with, pair_twice};
-ghost use Rattle.term_pool.specs.Entries.{arguments_at, choice_at, entry_layer, expr_at, fields_at, gens_at, head_at, pairs_at, renumbered, Fits, PartsStart, StandsAs};
+ghost use Rattle.term_pool.specs.Entries.{arguments_at, choice_at, entry_layer, expr_at, fields_at, gens_at, head_at, pairs_at, Fits, PartsStart, StandsAs};
 ghost use Rattle.term_pool.specs.First.{node_with_first, other_first};
 ghost use Rattle.term_pool.specs.Moved.{id_or, moved};
 ghost use Rattle.term_pool.specs.Substituted.{own_with, own_with_all};
@@ -63,14 +63,8 @@ pub(crate) fn entry_with_first(
         Entry::Prefix(head, fields, _) => Ok(Entry::Prefix(head, fields, below)),
         Entry::Guard(c, _) => Ok(Entry::Guard(c, below)),
         Entry::If(c, _, q) => Ok(Entry::If(c, below, q)),
-        Entry::External(ids) => {
-            let ids = choice_with_first(parts, alloc, ids, below)?;
-            Ok(Entry::External(ids))
-        }
-        Entry::Internal(ids) => {
-            let ids = choice_with_first(parts, alloc, ids, below)?;
-            Ok(Entry::Internal(ids))
-        }
+        Entry::External(ids) => { choice_with_first(parts, alloc, ids, below).map(Entry::External) }
+        Entry::Internal(ids) => { choice_with_first(parts, alloc, ids, below).map(Entry::Internal) }
         Entry::EachExternal(slot, set, _) => Ok(Entry::EachExternal(slot, set, below)),
         Entry::EachInternal(slot, set, _) => Ok(Entry::EachInternal(slot, set, below)),
         Entry::Hide(_, set) => Ok(Entry::Hide(below, set)),
@@ -108,14 +102,8 @@ fn with_places(
         Entry::Prefix(head, fields, _) => Ok(Entry::Prefix(head, fields, at(ids, 0))),
         Entry::Guard(c, _) => Ok(Entry::Guard(c, at(ids, 0))),
         Entry::If(c, _, _) => Ok(Entry::If(c, at(ids, 0), at(ids, 1))),
-        Entry::External(_) => {
-            let own = keep_choice(parts, alloc, ids)?;
-            Ok(Entry::External(own.0))
-        }
-        Entry::Internal(_) => {
-            let own = keep_choice(parts, alloc, ids)?;
-            Ok(Entry::Internal(own.0))
-        }
+        Entry::External(_) => keep_choice(parts, alloc, ids).map(Entry::External),
+        Entry::Internal(_) => keep_choice(parts, alloc, ids).map(Entry::Internal),
         Entry::EachExternal(slot, set, _) => Ok(Entry::EachExternal(slot, set, at(ids, 0))),
         Entry::EachInternal(slot, set, _) => Ok(Entry::EachInternal(slot, set, at(ids, 0))),
         Entry::Hide(_, set) => Ok(Entry::Hide(at(ids, 0), set)),
@@ -127,38 +115,36 @@ fn with_places(
     }
 }
 
-// The number of an expression with the value put in, and 0.
+// The number of an expression with the value put in.
 fn put_expr(
     parts: &mut OwnParts,
     alloc: Global,
     place: u32,
     name: u32,
     value: &Value,
-) -> Result<(u32, u32), NoMemory>
+) -> Result<u32, NoMemory>
     requires within { place < length parts.old.exprs }
     ensures start { PartsStart parts.old parts.new }
-    ensures made { IfOk result (λ own. slice_get parts.new.exprs own.0 ≡ Some (expr_with name value.now (expr_at parts.old place))) }
+    ensures made { IfOk result (λ made. slice_get parts.new.exprs made ≡ Some (expr_with name value.now (expr_at parts.old place))) }
 {
     let made = substitute_expr(alloc, parts.exprs.get(place), name, value);
-    let place = parts.exprs.keep_made(made)?;
-    Ok((place, 0))
+    parts.exprs.keep_made(made)
 }
 
-// The number of arguments with the value put in, and 0.
+// The number of arguments with the value put in.
 fn put_arguments(
     parts: &mut OwnParts,
     alloc: Global,
     place: u32,
     name: u32,
     value: &Value,
-) -> Result<(u32, u32), NoMemory>
+) -> Result<u32, NoMemory>
     requires within { place < length parts.old.arguments }
     ensures start { PartsStart parts.old parts.new }
-    ensures made { IfOk result (λ own. slice_get parts.new.arguments own.0 ≡ Some (map (expr_with name value.now) (arguments_at parts.old place))) }
+    ensures made { IfOk result (λ made. slice_get parts.new.arguments made ≡ Some (map (expr_with name value.now) (arguments_at parts.old place))) }
 {
     let made = substitute_exprs(alloc, parts.arguments.get(place).as_slice(), name, value);
-    let place = parts.arguments.keep_made(made)?;
-    Ok((place, 0))
+    parts.arguments.keep_made(made)
 }
 
 /// The entry with the values in its own parts, one after another, and with these places in place of its own, as many.
@@ -217,60 +203,50 @@ fn put_where_read(
     if name < least_of_own(parts, entry) {
         return Ok(entry);
     }
-    let own = put_own(parts, alloc, entry, name, value)?;
-    Ok(with_numbers(entry, own))
+    put_own(parts, alloc, entry, name, value)
 }
 
-// The numbers of the own parts of the entry with the value in them, 0 for those that it doesn't have.
+// The entry with the value in its own parts, each of which is kept.
 fn put_own(
     parts: &mut OwnParts,
     alloc: Global,
     entry: Entry,
     name: u32,
     value: &Value,
-) -> Result<(u32, u32), NoMemory>
+) -> Result<Entry, NoMemory>
     requires fits { Fits parts.old entry }
     ensures start { PartsStart parts.old parts.new }
-    ensures own { IfOk result (λ own. StandsAs parts.new (renumbered entry own) (own_with name value.now (entry_layer parts.old entry))) }
+    ensures entry { IfOk result (λ made. StandsAs parts.new made (own_with name value.now (entry_layer parts.old entry))) }
 {
     match entry {
-        Entry::Stop => Ok((0, 0)),
-        Entry::Prefix(head, fields, _) => put_prefix(parts, alloc, head, fields, name, value),
-        Entry::Guard(c, _) => put_expr(parts, alloc, c, name, value),
-        Entry::If(c, _, _) => put_expr(parts, alloc, c, name, value),
-        Entry::External(ids) => Ok((ids, 0)),
-        Entry::Internal(ids) => Ok((ids, 0)),
-        Entry::EachExternal(_, set, _) => put_expr(parts, alloc, set, name, value),
-        Entry::EachInternal(_, set, _) => put_expr(parts, alloc, set, name, value),
-        Entry::Hide(_, set) => put_expr(parts, alloc, set, name, value),
-        Entry::Rename(_, pairs, gens) => put_renaming(parts, alloc, pairs, gens, name, value),
-        Entry::Call(_, args) => put_arguments(parts, alloc, args, name, value),
-        Entry::Skip => Ok((0, 0)),
-        Entry::Seq(_, _) => Ok((0, 0)),
-        Entry::Ended => Ok((0, 0)),
-    }
-}
-
-// The entry with these numbers of own parts in place of its own.
-fn with_numbers(entry: Entry, own: (u32, u32)) -> Entry
-    ensures { result ≡ renumbered entry own }
-{
-    let (first, second) = own;
-    match entry {
-        Entry::Stop => Entry::Stop,
-        Entry::Prefix(_, _, p) => Entry::Prefix(first, second, p),
-        Entry::Guard(_, p) => Entry::Guard(first, p),
-        Entry::If(_, p, q) => Entry::If(first, p, q),
-        Entry::External(_) => Entry::External(first),
-        Entry::Internal(_) => Entry::Internal(first),
-        Entry::EachExternal(slot, _, p) => Entry::EachExternal(slot, first, p),
-        Entry::EachInternal(slot, _, p) => Entry::EachInternal(slot, first, p),
-        Entry::Hide(p, _) => Entry::Hide(p, first),
-        Entry::Rename(p, _, _) => Entry::Rename(p, first, second),
-        Entry::Call(definition, _) => Entry::Call(definition, first),
-        Entry::Skip => Entry::Skip,
-        Entry::Seq(p, q) => Entry::Seq(p, q),
-        Entry::Ended => Entry::Ended,
+        Entry::Prefix(head, fields, p) => {
+            let own = put_prefix(parts, alloc, head, fields, name, value);
+            own.map(|(head, fields)| Entry::Prefix(head, fields, p))
+        }
+        Entry::Guard(c, p) => { put_expr(parts, alloc, c, name, value).map(|c| Entry::Guard(c, p)) }
+        Entry::If(c, p, q) => { put_expr(parts, alloc, c, name, value).map(|c| Entry::If(c, p, q)) }
+        Entry::EachExternal(slot, set, p) => {
+            put_expr(parts, alloc, set, name, value).map(|set| Entry::EachExternal(slot, set, p))
+        }
+        Entry::EachInternal(slot, set, p) => {
+            put_expr(parts, alloc, set, name, value).map(|set| Entry::EachInternal(slot, set, p))
+        }
+        Entry::Hide(p, set) => {
+            put_expr(parts, alloc, set, name, value).map(|set| Entry::Hide(p, set))
+        }
+        Entry::Rename(p, pairs, gens) => {
+            let own = put_renaming(parts, alloc, pairs, gens, name, value);
+            own.map(|(pairs, gens)| Entry::Rename(p, pairs, gens))
+        }
+        Entry::Call(definition, args) => {
+            put_arguments(parts, alloc, args, name, value).map(|args| Entry::Call(definition, args))
+        }
+        Entry::Stop => Ok(entry),
+        Entry::External(_) => Ok(entry),
+        Entry::Internal(_) => Ok(entry),
+        Entry::Skip => Ok(entry),
+        Entry::Seq(_, _) => Ok(entry),
+        Entry::Ended => Ok(entry),
     }
 }
 

@@ -1,7 +1,7 @@
 //! The own parts of the nodes of a pool.
 
 ghost use Rattle.std.specs.Prelude.{◌≡◌, [], slice_get, IfOk, OnErr, Some};
-ghost use Rattle.term_pool.specs.Entries.{entry_layer, numbered, ArePartsOnce, Fits, HasParts, Holds, PartsStart, StandsAs};
+ghost use Rattle.term_pool.specs.Entries.{entry_layer, ArePartsOnce, Fits, HasParts, Holds, PartsStart, StandsAs};
 ghost use Rattle.term_pool.specs.Layers.{shown};
 
 use crate::entry::Entry;
@@ -73,42 +73,35 @@ pub(crate) fn parts_once(parts: &OwnParts)
     let _ = parts.choices.as_slice();
 }
 
-// The number of an expression, and 0: a node has at most two numbers.
-fn keep_expr(parts: &mut OwnParts, alloc: Global, part: &Expr) -> Result<(u32, u32), NoMemory>
+// The number of an expression.
+fn keep_expr(parts: &mut OwnParts, alloc: Global, part: &Expr) -> Result<u32, NoMemory>
     ensures start { PartsStart parts.old parts.new }
-    ensures place { IfOk result (λ own. slice_get parts.new.exprs own.0 ≡ Some part.now) }
+    ensures place { IfOk result (λ place. slice_get parts.new.exprs place ≡ Some part.now) }
     ensures err_only_new { OnErr result (Holds parts.old.exprs part.now → ⊥) }
 {
-    let place = parts.exprs.keep(alloc, part)?;
-    Ok((place, 0))
+    parts.exprs.keep(alloc, part)
 }
 
-// The number of arguments, and 0.
-fn keep_arguments(
-    parts: &mut OwnParts,
-    alloc: Global,
-    part: &Items<Expr>,
-) -> Result<(u32, u32), NoMemory>
+// The number of arguments.
+fn keep_arguments(parts: &mut OwnParts, alloc: Global, part: &Items<Expr>) -> Result<u32, NoMemory>
     ensures start { PartsStart parts.old parts.new }
-    ensures place { IfOk result (λ own. slice_get parts.new.arguments own.0 ≡ Some part.now) }
+    ensures place { IfOk result (λ place. slice_get parts.new.arguments place ≡ Some part.now) }
     ensures err_only_new { OnErr result (Holds parts.old.arguments part.now → ⊥) }
 {
-    let place = parts.arguments.keep(alloc, part)?;
-    Ok((place, 0))
+    parts.arguments.keep(alloc, part)
 }
 
-/// The number of the places of a choice, and 0.
+/// The number of the places of a choice.
 pub(crate) fn keep_choice(
     parts: &mut OwnParts,
     alloc: Global,
     part: &Items<ProcId>,
-) -> Result<(u32, u32), NoMemory>
+) -> Result<u32, NoMemory>
     ensures start { PartsStart parts.old parts.new }
-    ensures place { IfOk result (λ own. slice_get parts.new.choices own.0 ≡ Some part.now) }
+    ensures place { IfOk result (λ place. slice_get parts.new.choices place ≡ Some part.now) }
     ensures err_only_new { OnErr result (Holds parts.old.choices part.now → ⊥) }
 {
-    let place = parts.choices.keep(alloc, part)?;
-    Ok((place, 0))
+    parts.choices.keep(alloc, part)
 }
 
 // The numbers of a head and of fields.
@@ -145,53 +138,6 @@ fn keep_renaming(
     Ok((pairs, gens))
 }
 
-// The numbers of the own parts of the node, 0 for those that it doesn't have.
-fn keep_own(parts: &mut OwnParts, alloc: Global, node: Node<'_>) -> Result<(u32, u32), NoMemory>
-    ensures start { PartsStart parts.old parts.new }
-    ensures own { IfOk result (λ own. StandsAs parts.new (numbered (shown node.entry) own) (shown node.entry)) }
-    ensures err_only_new { OnErr result (HasParts parts.old (shown node.entry) → ⊥) }
-{
-    match node {
-        Node::Stop => Ok((0, 0)),
-        Node::Prefix(head, fields, _) => keep_prefix(parts, alloc, head, fields),
-        Node::Guard(c, _) => keep_expr(parts, alloc, c),
-        Node::If(c, _, _) => keep_expr(parts, alloc, c),
-        Node::External(ids) => keep_choice(parts, alloc, ids),
-        Node::Internal(ids) => keep_choice(parts, alloc, ids),
-        Node::EachExternal(_, set, _) => keep_expr(parts, alloc, set),
-        Node::EachInternal(_, set, _) => keep_expr(parts, alloc, set),
-        Node::Hide(_, set) => keep_expr(parts, alloc, set),
-        Node::Rename(_, pairs, gens) => keep_renaming(parts, alloc, pairs, gens),
-        Node::Call(_, args) => keep_arguments(parts, alloc, args),
-        Node::Skip => Ok((0, 0)),
-        Node::Seq(_, _) => Ok((0, 0)),
-        Node::Ended => Ok((0, 0)),
-    }
-}
-
-// The entry of the node, where these are the numbers of its own parts.
-fn entry_of(node: Node<'_>, own: (u32, u32)) -> Entry
-    ensures { result ≡ numbered (shown node.entry) own }
-{
-    let (first, second) = own;
-    match node {
-        Node::Stop => Entry::Stop,
-        Node::Prefix(_, _, p) => Entry::Prefix(first, second, p),
-        Node::Guard(_, p) => Entry::Guard(first, p),
-        Node::If(_, p, q) => Entry::If(first, p, q),
-        Node::External(_) => Entry::External(first),
-        Node::Internal(_) => Entry::Internal(first),
-        Node::EachExternal(slot, _, p) => Entry::EachExternal(slot, first, p),
-        Node::EachInternal(slot, _, p) => Entry::EachInternal(slot, first, p),
-        Node::Hide(p, _) => Entry::Hide(p, first),
-        Node::Rename(p, _, _) => Entry::Rename(p, first, second),
-        Node::Call(definition, _) => Entry::Call(definition, first),
-        Node::Skip => Entry::Skip,
-        Node::Seq(p, q) => Entry::Seq(p, q),
-        Node::Ended => Entry::Ended,
-    }
-}
-
 /// The entry of a node, whose own parts are kept.
 pub(crate) fn keep_node(
     parts: &mut OwnParts,
@@ -202,8 +148,34 @@ pub(crate) fn keep_node(
     ensures entry { IfOk result (λ entry. StandsAs parts.new entry (shown node.entry)) }
     ensures err_only_new { OnErr result (HasParts parts.old (shown node.entry) → ⊥) }
 {
-    let own = keep_own(parts, alloc, node)?;
-    Ok(entry_of(node, own))
+    match node {
+        Node::Stop => Ok(Entry::Stop),
+        Node::Prefix(head, fields, p) => {
+            let own = keep_prefix(parts, alloc, head, fields);
+            own.map(|(head, fields)| Entry::Prefix(head, fields, p))
+        }
+        Node::Guard(c, p) => keep_expr(parts, alloc, c).map(|c| Entry::Guard(c, p)),
+        Node::If(c, p, q) => keep_expr(parts, alloc, c).map(|c| Entry::If(c, p, q)),
+        Node::External(ids) => keep_choice(parts, alloc, ids).map(Entry::External),
+        Node::Internal(ids) => keep_choice(parts, alloc, ids).map(Entry::Internal),
+        Node::EachExternal(slot, set, p) => {
+            keep_expr(parts, alloc, set).map(|set| Entry::EachExternal(slot, set, p))
+        }
+        Node::EachInternal(slot, set, p) => {
+            keep_expr(parts, alloc, set).map(|set| Entry::EachInternal(slot, set, p))
+        }
+        Node::Hide(p, set) => keep_expr(parts, alloc, set).map(|set| Entry::Hide(p, set)),
+        Node::Rename(p, pairs, gens) => {
+            let own = keep_renaming(parts, alloc, pairs, gens);
+            own.map(|(pairs, gens)| Entry::Rename(p, pairs, gens))
+        }
+        Node::Call(definition, args) => {
+            keep_arguments(parts, alloc, args).map(|args| Entry::Call(definition, args))
+        }
+        Node::Skip => Ok(Entry::Skip),
+        Node::Seq(p, q) => Ok(Entry::Seq(p, q)),
+        Node::Ended => Ok(Entry::Ended),
+    }
 }
 
 /// The node that an entry stands for.

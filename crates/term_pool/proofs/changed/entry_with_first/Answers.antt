@@ -1,15 +1,17 @@
-use Rattle.std.proofs.Common.{refl, subst}
+use Rattle.std.proofs.Common.{rules, refl, subst}
 use Rattle.term_pool.proofs.EntryLemmas.{starts_same}
+use Rattle.term_pool.proofs.MapLemmas.{if_map}
 use Rattle.term_pool.proofs.StandsLemmas.{stands_External, stands_Internal}
 use Rattle.term_pool.specs.Entries.{Fits}
 use Rattle.term_pool.specs.declared.entry.Entry.{Entry}
+use Rattle.term_pool.specs.declared.entry.Entry.TheVariants as entry
 use Rattle.term_pool.proofs.changed.entry_with_first.Goals as goal
 
-pub returns-in_ok-ids-in-External-clause-entry : goal.returns-in_ok-ids-in-External-clause-entry
-returns-in_ok-ids-in-External-clause-entry c = rw c.in-External.is (stands_External c.choice_with_first.new.parts c.in_ok-ids-in-External.ids _ c.in_ok-ids-in-External.ensures.made)
+pub returns-in-External-clause-entry : goal.returns-in-External-clause-entry
+returns-in-External-clause-entry c = rw c.in-External.is (if_map c.choice_with_first.result _ c.map.result (λ k. entry.External k) _ _ c.map.ensures.cases (λ x y r. search rules) (λ k. stands_External c.choice_with_first.new.parts k _) c.choice_with_first.ensures.made)
 
-pub returns-in_ok-ids-in-Internal-clause-entry : goal.returns-in_ok-ids-in-Internal-clause-entry
-returns-in_ok-ids-in-Internal-clause-entry c = rw c.in-Internal.is (stands_Internal c.choice_with_first-in-Internal.new.parts c.in_ok-ids-in-Internal.ids _ c.in_ok-ids-in-Internal.ensures.made)
+pub returns-in-Internal-clause-entry : goal.returns-in-Internal-clause-entry
+returns-in-Internal-clause-entry c = rw c.in-Internal.is (if_map c.choice_with_first-in-Internal.result _ c.map-in-Internal.result (λ k. entry.Internal k) _ _ c.map-in-Internal.ensures.cases (λ x y r. search rules) (λ k. stands_Internal c.choice_with_first-in-Internal.new.parts k _) c.choice_with_first-in-Internal.ensures.made)
 
 pub returns-in-Prefix-clause-entry : goal.returns-in-Prefix-clause-entry
 returns-in-Prefix-clause-entry c = record {

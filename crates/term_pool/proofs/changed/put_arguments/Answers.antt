@@ -7,5 +7,5 @@ use Rattle.term_pool.proofs.changed.put_arguments.Goals as goal
 
 pub returns-clause-made : goal.returns-clause-made
 returns-clause-made c =
-    c.in_ok-place.ensures.place (map (expr_with c.args.name c.args.value.now) (arguments_at c.args.parts.now c.args.place))
+    c.keep_made.ensures.place (map (expr_with c.args.name c.args.value.now) (arguments_at c.args.parts.now c.args.place))
     (subst (λ (es : List Expr). IfOk c.substitute_exprs-made.result (λ made. made ≡ map (expr_with c.args.name c.args.value.now) es)) (c.as_slice.ensures ∙ c.get.ensures []) c.substitute_exprs-made.ensures)

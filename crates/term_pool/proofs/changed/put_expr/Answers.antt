@@ -8,5 +8,5 @@ use Rattle.term_pool.proofs.changed.put_expr.Goals as goal
 
 pub returns-clause-made : goal.returns-clause-made
 returns-clause-made c =
-    c.in_ok-place.ensures.place (expr_with c.args.name c.args.value.now (expr_at c.args.parts.now c.args.place))
+    c.keep_made.ensures.place (expr_with c.args.name c.args.value.now (expr_at c.args.parts.now c.args.place))
     (subst (λ (e : Expr). IfOk c.substitute_expr-made.result (λ made. made ≡ expr_with c.args.name c.args.value.now e)) (c.get.ensures (expr.Const 0)) c.substitute_expr-made.ensures)

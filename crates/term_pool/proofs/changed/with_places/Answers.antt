@@ -1,16 +1,18 @@
-use Rattle.std.proofs.Common.{refl, subst}
+use Rattle.std.proofs.Common.{rules, refl, subst}
 use Rattle.term_pool.specs.Entries.{expr_at, fields_at, gens_at, head_at, pairs_at, Fits}
 use Rattle.term_pool.specs.Layers.{Layer}
 use Rattle.term_pool.specs.declared.entry.Entry.{Entry}
 use Rattle.term_pool.proofs.EntryLemmas.{starts_same}
+use Rattle.term_pool.proofs.MapLemmas.{if_map}
 use Rattle.term_pool.proofs.StandsLemmas.{stands_External, stands_Internal}
+use Rattle.term_pool.specs.declared.entry.Entry.TheVariants as entry
 use Rattle.term_pool.proofs.changed.with_places.Goals as goal
 
-pub returns-in_ok-own-in-External-clause-entry : goal.returns-in_ok-own-in-External-clause-entry
-returns-in_ok-own-in-External-clause-entry c = rw c.in-External.is (stands_External c.keep_choice.new.parts c.in_ok-own-in-External.own.0 _ c.in_ok-own-in-External.ensures.place)
+pub returns-in-External-clause-entry : goal.returns-in-External-clause-entry
+returns-in-External-clause-entry c = rw c.in-External.is (if_map c.keep_choice.result _ c.map.result (λ k. entry.External k) _ _ c.map.ensures.cases (λ x y r. search rules) (λ k. stands_External c.keep_choice.new.parts k _) c.keep_choice.ensures.place)
 
-pub returns-in_ok-own-in-Internal-clause-entry : goal.returns-in_ok-own-in-Internal-clause-entry
-returns-in_ok-own-in-Internal-clause-entry c = rw c.in-Internal.is (stands_Internal c.keep_choice-in-Internal.new.parts c.in_ok-own-in-Internal.own.0 _ c.in_ok-own-in-Internal.ensures.place)
+pub returns-in-Internal-clause-entry : goal.returns-in-Internal-clause-entry
+returns-in-Internal-clause-entry c = rw c.in-Internal.is (if_map c.keep_choice-in-Internal.result _ c.map-in-Internal.result (λ k. entry.Internal k) _ _ c.map-in-Internal.ensures.cases (λ x y r. search rules) (λ k. stands_Internal c.keep_choice-in-Internal.new.parts k _) c.keep_choice-in-Internal.ensures.place)
 
 pub returns-in-Prefix-clause-entry : goal.returns-in-Prefix-clause-entry
 returns-in-Prefix-clause-entry c = let fits = subst (λ (e : Entry). Fits c.args.parts.now e) c.in-Prefix.is c.requires.fits in rw c.in-Prefix.is (record { fits = fits; is = λ i. Layer.Prefix (head_at c.args.parts.now c.in-Prefix.head) (fields_at c.args.parts.now c.in-Prefix.fields) (c.at.ensures i) })
