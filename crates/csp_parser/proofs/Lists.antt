@@ -46,7 +46,7 @@ list_more {E} {F} {G} {H} {x} done c d =
     subst (λ put. Continues F H put) (λ i p. (sym (append_assoc done (x ∷ []) p.0) i, p.1)) (one_more c d)
 
 -- what is made of what another reads
-put_by : {A B : Type 0} {F : Limited → Option A} {o : Option A} (g : A → B) → Settles F o → Settles (λ L. and_then (F L) λ a. Some (g a)) (and_then o λ a. Some (g a))
+pub put_by : {A B : Type 0} {F : Limited → Option A} {o : Option A} (g : A → B) → Settles F o → Settles (λ L. and_then (F L) λ a. Some (g a)) (and_then o λ a. Some (g a))
 put_by g s = record { enough = s.enough; settles = λ f le. ap (λ x. and_then x λ a. Some (g a)) (s.settles f le) }
 
 -- NAMES

@@ -102,10 +102,10 @@ fn deadlock_free(tokens: &[Token]) -> Result<&[Token], ReadFault>
     ensures shorter { IfOk result (λ rest. length rest.now < length tokens.now) }
     ensures none { IfNoText result (deadlock_free tokens.now ≡ None) }
 {
-    let opened = expect(tokens, Symbol::Colon)?;
-    let inside = expect(opened, Symbol::OpenBracket)?;
-    let behind = expect_name(inside, b"deadlock")?;
-    expect_name(behind, b"free")
+    expect(tokens, Symbol::Colon)
+        .and_then(|rest| expect(rest, Symbol::OpenBracket))
+        .and_then(|rest| expect_name(rest, b"deadlock"))
+        .and_then(|rest| expect_name(rest, b"free"))
 }
 
 // What follows the rest of an assertion, behind its process.

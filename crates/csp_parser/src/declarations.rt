@@ -1,13 +1,17 @@
 //! The declarations of a script.
 
-ghost use Rattle.std.specs.Prelude.{◌≡◌, ◌<◌, ◌≤◌, ◌∷◌, length, IfOk, Some, None};
+ghost use Rattle.std.specs.Prelude.{◌≡◌, ◌<◌, ◌≤◌, List, [], ◌∷◌, ◌++◌, length, IfOk, Some, None};
+ghost use Rattle.csp_text.specs.declared.script.Decl.{Decl as DeclValue};
+ghost use Rattle.csp_text.specs.declared.script.Decl.TheVariants as decl;
+ghost use Rattle.csp_text.specs.declared.token.Token.{Token as TokenValue};
+ghost use Rattle.tree_reading.specs.Gives.{Gives};
 ghost use Rattle.tree_reading.specs.Limited.{read_declaration, read_word_declaration};
 ghost use Rattle.tree_reading.specs.Answers.{IfNoText};
 ghost use Rattle.tree_reading.specs.Settled.{Settles};
 
 use crate::assertion::assertion;
 use crate::declared::{channel, datatype, definition, nametype};
-use containers::Items;
+use containers::{Boxed, Items};
 use csp_base::{Name, NoMemory};
 use csp_text::{Decl, ResourceNames, RolesNames, Token, Word};
 use std::alloc::Global;
@@ -20,8 +24,7 @@ fn copy_pair(alloc: Global, a: &Name, b: &Name) -> Result<(Name, Name), NoMemory
     ensures second { IfOk result (λ pair. pair.1 ≡ b.now) }
 {
     let first = a.try_clone(alloc)?;
-    let second = b.try_clone(alloc)?;
-    Ok((first, second))
+    b.try_clone(alloc).map(|second| (first, second))
 }
 
 // A copy of the names of roles.
@@ -30,8 +33,7 @@ fn copy_roles(alloc: Global, names: &RolesNames) -> Result<RolesNames, NoMemory>
 {
     let process = names.process.try_clone(alloc)?;
     let (creq, cack) = copy_pair(alloc, &names.creq, &names.cack)?;
-    let (sreq, sack) = copy_pair(alloc, &names.sreq, &names.sack)?;
-    Ok(RolesNames {
+    copy_pair(alloc, &names.sreq, &names.sack).map(|(sreq, sack)| RolesNames {
         process,
         creq,
         cack,
@@ -45,13 +47,35 @@ fn copy_resource(alloc: Global, names: &ResourceNames) -> Result<ResourceNames, 
     ensures { IfOk result (λ copy. copy ≡ names.now) }
 {
     let process = names.process.try_clone(alloc)?;
-    let acquire = names.acquire.try_clone(alloc)?;
-    let release = names.release.try_clone(alloc)?;
-    Ok(ResourceNames {
+    copy_pair(alloc, &names.acquire, &names.release).map(|(acquire, release)| ResourceNames {
         process,
         acquire,
         release,
     })
+}
+
+// The annotation of these names, and what follows it.
+fn roles<'t>(
+    alloc: Global,
+    names: &Boxed<RolesNames>,
+    rest: &'t [Token],
+) -> Result<Read<'t, Decl>, ReadFault>
+    ensures { Gives {B = DeclValue × List TokenValue} result (λ r. (r.part, r.rest.now)) (Some (decl.Roles names.now, rest.now)) }
+{
+    let part = Decl::Roles(copy_roles(alloc, names.get())?);
+    Ok(Read { part, rest })
+}
+
+// The annotation of these names, and what follows it.
+fn resource<'t>(
+    alloc: Global,
+    names: &Boxed<ResourceNames>,
+    rest: &'t [Token],
+) -> Result<Read<'t, Decl>, ReadFault>
+    ensures { Gives {B = DeclValue × List TokenValue} result (λ r. (r.part, r.rest.now)) (Some (decl.Resource names.now, rest.now)) }
+{
+    let part = Decl::Resource(copy_resource(alloc, names.get())?);
+    Ok(Read { part, rest })
 }
 
 // The declaration behind this word, which stands at the front of all tokens.
@@ -86,17 +110,25 @@ fn declaration<'t>(alloc: Global, tokens: &'t [Token]) -> Result<Read<'t, Decl>,
     match first {
         Token::Name(defined) => definition(alloc, defined, rest),
         Token::Word(word) => word_declaration(alloc, *word, tokens, rest),
-        Token::Roles(names) => {
-            let part = Decl::Roles(copy_roles(alloc, names.get())?);
-            Ok(Read { part, rest })
-        }
-        Token::Resource(names) => {
-            let part = Decl::Resource(copy_resource(alloc, names.get())?);
-            Ok(Read { part, rest })
-        }
-        Token::Num(_) => Err(stopped(tokens)),
-        Token::Symbol(_) => Err(stopped(tokens)),
+        Token::Roles(names) => roles(alloc, names, rest),
+        Token::Resource(names) => resource(alloc, names, rest),
+        _ => Err(stopped(tokens)),
     }
+}
+
+// Adds the declaration at the front, and gives what follows it.
+fn push_declaration<'t>(
+    alloc: Global,
+    decls: &mut Items<Decl>,
+    tokens: &'t [Token],
+) -> Result<&'t [Token], ReadFault>
+    ensures read { IfOk result (λ rest. (d : DeclValue) × Settles (λ L. read_declaration L tokens.now) (Some (d, rest.now)) × (decls.new ≡ decls.old ++ d ∷ [])) }
+    ensures shorter { IfOk result (λ rest. length rest.now < length tokens.now) }
+    ensures none { IfNoText result (Settles (λ L. read_declaration L tokens.now) None) }
+{
+    let found = declaration(alloc, tokens)?;
+    decls.push(found.part)?;
+    Ok(found.rest)
 }
 
 // The declarations that the tokens are, one after another.
@@ -107,9 +139,7 @@ pub(crate) fn declarations(alloc: Global, tokens: &[Token]) -> Result<Items<Decl
     let mut decls = Items::new(alloc);
     let mut rest = tokens;
     while !rest.is_empty() {
-        let found = declaration(alloc, rest)?;
-        decls.push(found.part)?;
-        rest = found.rest;
+        rest = push_declaration(alloc, &mut decls, rest)?;
     }
     Ok(decls)
 }

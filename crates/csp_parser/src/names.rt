@@ -1,6 +1,6 @@
 //! Names, lists of them, and the symbols around them.
 
-ghost use Rattle.std.specs.Prelude.{◌≡◌, ◌<◌, ◌≤◌, [], length, IfOk, Some, None};
+ghost use Rattle.std.specs.Prelude.{◌≡◌, ◌<◌, ◌≤◌, ℕ, List, [], ◌∷◌, ◌++◌, length, IfOk, Some, None};
 ghost use Rattle.tree_reading.specs.Limited.{read_parameters};
 ghost use Rattle.csp_grammar.specs.Tokens.{skip};
 ghost use Rattle.tree_reading.specs.Answers.{IfNoText};
@@ -42,6 +42,21 @@ pub(crate) fn name<'t>(alloc: Global, tokens: &'t [Token]) -> Result<Read<'t, Na
     }
 }
 
+// Adds the name that has to stand at the front, and gives what follows it.
+fn push_name<'t>(
+    alloc: Global,
+    names: &mut Items<Name>,
+    tokens: &'t [Token],
+) -> Result<&'t [Token], ReadFault>
+    ensures found { IfOk result (λ rest. (x : List ℕ) × (named tokens.now ≡ Some (x, rest.now)) × (names.new ≡ names.old ++ x ∷ [])) }
+    ensures shorter { IfOk result (λ rest. length rest.now < length tokens.now) }
+    ensures none { IfNoText result (named tokens.now ≡ None) }
+{
+    let found = name(alloc, tokens)?;
+    names.push(found.part)?;
+    Ok(found.rest)
+}
+
 // One name or more, with the sign between them.
 pub(crate) fn names<'t>(
     alloc: Global,
@@ -55,13 +70,9 @@ pub(crate) fn names<'t>(
     let mut part = Items::new(alloc);
     let mut rest = tokens;
     loop {
-        let found = name(alloc, rest)?;
-        part.push(found.part)?;
-        let Some(next) = skip(found.rest, sign) else {
-            return Ok(Read {
-                part,
-                rest: found.rest,
-            });
+        let behind = push_name(alloc, &mut part, rest)?;
+        let Some(next) = skip(behind, sign) else {
+            return Ok(Read { part, rest: behind });
         };
         rest = next;
     }
@@ -83,8 +94,7 @@ pub(crate) fn parameters<'t>(
         });
     };
     let listed = names(alloc, Symbol::Comma, inside)?;
-    let rest = expect(listed.rest, Symbol::CloseParen)?;
-    Ok(Read {
+    expect(listed.rest, Symbol::CloseParen).map(|rest| Read {
         part: listed.part,
         rest,
     })

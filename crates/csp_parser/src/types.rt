@@ -1,7 +1,9 @@
 //! The types of a channel's fields.
 
-ghost use Rattle.std.specs.Prelude.{◌≡◌, ◌<◌, ◌≤◌, [], length, IfOk, Some, None};
+ghost use Rattle.std.specs.Prelude.{◌≡◌, ◌<◌, ◌≤◌, [], ◌∷◌, ◌++◌, length, IfOk, Some, None};
+ghost use Rattle.csp_text.specs.declared.tree.Tree.{Tree as TreeValue};
 ghost use Rattle.tree_reading.specs.Answers.{IfNoText};
+ghost use Rattle.tree_reading.specs.Nesting.{whole};
 ghost use Rattle.tree_reading.specs.Settled.{Settles};
 
 use containers::Items;
@@ -16,6 +18,21 @@ pub(crate) const WHOLE: Limits = Limits {
     depth: 200,
 };
 
+// Adds the type at the front, and gives what follows it.
+fn push_type<'t>(
+    alloc: Global,
+    types: &mut Items<Tree>,
+    tokens: &'t [Token],
+) -> Result<&'t [Token], ReadFault>
+    ensures read { IfOk result (λ rest. (t : TreeValue) × Settles (λ L. L.atom whole tokens.now) (Some (t, rest.now)) × (types.new ≡ types.old ++ t ∷ [])) }
+    ensures shorter { IfOk result (λ rest. length rest.now < length tokens.now) }
+    ensures none { IfNoText result (Settles (λ L. L.atom whole tokens.now) None) }
+{
+    let found = atom(alloc, WHOLE, tokens)?;
+    types.push(found.part)?;
+    Ok(found.rest)
+}
+
 // One type or more, with dots between them.
 pub(crate) fn types<'t>(
     alloc: Global,
@@ -28,13 +45,9 @@ pub(crate) fn types<'t>(
     let mut part = Items::new(alloc);
     let mut rest = tokens;
     loop {
-        let found = atom(alloc, WHOLE, rest)?;
-        part.push(found.part)?;
-        let Some(next) = skip(found.rest, Symbol::Dot) else {
-            return Ok(Read {
-                part,
-                rest: found.rest,
-            });
+        let behind = push_type(alloc, &mut part, rest)?;
+        let Some(next) = skip(behind, Symbol::Dot) else {
+            return Ok(Read { part, rest: behind });
         };
         rest = next;
     }

@@ -6,30 +6,30 @@ use Rattle.csp_parser.proofs.names.names.Goals as goal
 pub loop-part-init : goal.loop-part-init
 loop-part-init c = (names_begin c.new-part.ensures, omega arith)
 
-pub returns-in_err-found-clause-none : goal.returns-in_err-found-clause-none
-returns-in_err-found-clause-none c = passed _ _ _ _ c.from_residual.ensures.1 c.in_err-found.ensures.none (λ e. names_stop c.loop-part.invariant.0 e)
+pub returns-in_err-behind-clause-none : goal.returns-in_err-behind-clause-none
+returns-in_err-behind-clause-none c = passed _ _ _ _ c.from_residual.ensures.1 c.in_err-behind.ensures.none (λ e. names_stop c.loop-part.invariant.0 e)
 
 pub returns-in_default-clause-read : goal.returns-in_default-clause-read
-returns-in_default-clause-read c = names_end c.loop-part.invariant.0 c.in_ok-found.ensures.found (sym c.in_default.ensures.same) c.in_ok-push.ensures.ok
+returns-in_default-clause-read c = names_end c.loop-part.invariant.0 c.in_ok-behind.ensures.found.1 (sym c.in_default.ensures.same) c.in_ok-behind.ensures.found.2
 
 pub returns-in_default-clause-shorter : goal.returns-in_default-clause-shorter
 returns-in_default-clause-shorter c =
-    let a : length c.in_ok-found.found.rest.now < length c.loop-part.rest.now = c.in_ok-found.ensures.shorter in
+    let a : length c.in_ok-behind.behind.now < length c.loop-part.rest.now = c.in_ok-behind.ensures.shorter in
     let b : length c.loop-part.rest.now ≤ length c.args.tokens.now = c.loop-part.invariant.1 in
-    let d : length c.in_ok-found.found.rest.now < length c.args.tokens.now = omega arith in
+    let d : length c.in_ok-behind.behind.now < length c.args.tokens.now = omega arith in
     d
 
 pub loop-part-smaller : goal.loop-part-smaller
 loop-part-smaller c =
-    let a : length c.in_ok-found.found.rest.now < length c.loop-part.rest.now = c.in_ok-found.ensures.shorter in
-    let b : length c.in-Some.next.now < length c.in_ok-found.found.rest.now = c.in-Some.ensures.shorter in
+    let a : length c.in_ok-behind.behind.now < length c.loop-part.rest.now = c.in_ok-behind.ensures.shorter in
+    let b : length c.in-Some.next.now < length c.in_ok-behind.behind.now = c.in-Some.ensures.shorter in
     let d : length c.in-Some.next.now < length c.loop-part.rest.now = omega arith in
     d
 
 pub loop-part-preserved : goal.loop-part-preserved
 loop-part-preserved c =
-    let a : length c.in_ok-found.found.rest.now < length c.loop-part.rest.now = c.in_ok-found.ensures.shorter in
-    let b : length c.in-Some.next.now < length c.in_ok-found.found.rest.now = c.in-Some.ensures.shorter in
+    let a : length c.in_ok-behind.behind.now < length c.loop-part.rest.now = c.in_ok-behind.ensures.shorter in
+    let b : length c.in-Some.next.now < length c.in_ok-behind.behind.now = c.in-Some.ensures.shorter in
     let e : length c.loop-part.rest.now ≤ length c.args.tokens.now = c.loop-part.invariant.1 in
     let d : length c.in-Some.next.now ≤ length c.args.tokens.now = omega arith in
-    (names_more c.loop-part.invariant.0 c.in_ok-found.ensures.found (sym c.in-Some.ensures.same) c.in_ok-push.ensures.ok, d)
+    (names_more c.loop-part.invariant.0 c.in_ok-behind.ensures.found.1 (sym c.in-Some.ensures.same) c.in_ok-behind.ensures.found.2, d)
