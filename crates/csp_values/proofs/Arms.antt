@@ -173,12 +173,16 @@ found k = Ok k
 same_found : (m k : ℕ) → found m ≡ found k → m ≡ k
 same_found m k h = cc
 
-pub front_of_sets : (p : Content) (n : ℕ) (env : Env) (c : ℕ) (es : List Expr) (channels : List Channel) (sets : List (List Atom)) (each : ℕ) (o : Outcome ℕ) → channels ≡ p.channels → sets_of (slice_get channels c) ≡ Some sets
-    → found (each_of sets (length es)) ≡ found each → scaled (fields_worth p n env es sets 0) each ≡ o → front_worth p n env c es ≡ and_then o (λ place. Ok (first_of (slice_get channels c) + place))
-front_of_sets p n env c es channels sets each o got has is_each came =
+pub front_of_sets : (p : Content) (n : ℕ) (env : Env) (c : ℕ) (es : List Expr) (channels : List Channel) (sets : List (List Atom)) (o : Outcome ℕ) → channels ≡ p.channels → sets_of (slice_get channels c) ≡ Some sets
+    → scaled (fields_worth p n env es sets 0) (each_of sets (length es)) ≡ o → front_worth p n env c es ≡ and_then o (λ place. Ok (first_of (slice_get channels c) + place))
+front_of_sets p n env c es channels sets o got has came =
     let has_sets : sets_of (slice_get p.channels c) ≡ Some sets = ap (λ cs. sets_of (slice_get cs c)) (sym got) ∙ has in
-    front_scaled p n env c es sets o has_sets (ap (scaled (fields_worth p n env es sets 0)) (same_found (each_of sets (length es)) each is_each) ∙ came) ∙
+    front_scaled p n env c es sets o has_sets came ∙
     ap (λ cs. and_then o (λ place. found (first_of (slice_get cs c) + place))) (sym got)
+
+-- fields that are counted over the choices of the others
+pub counted_over : (fields : Outcome ℕ) (count each : ℕ) → found count ≡ found each → scaled fields count ≡ scaled fields each
+counted_over fields count each is = ap (scaled fields) (same_found count each is)
 
 pub front_without_sets : (p : Content) (n : ℕ) (env : Env) (c : ℕ) (es : List Expr) (channels : List Channel) → channels ≡ p.channels → sets_of (slice_get channels c) ≡ None → front_worth p n env c es ≡ Err Kind
 front_without_sets p n env c es channels got has = eq.front-none p n env c es (ap (λ cs. sets_of (slice_get cs c)) (sym got) ∙ has)

@@ -22,8 +22,8 @@ weight_neg e a a' is got = ap weight is ∙ (w.weight-Neg a ∙ ap (λ x. weight
 pub weight_not : (e a a' : Expr) → e ≡ expr.Not a → a' ≡ a → weight e ≡ weight a' + 2
 weight_not e a a' is got = ap weight is ∙ (w.weight-Not a ∙ ap (λ x. weight x + 2) (sym got))
 
-pub weight_binary : (e : Expr) (op : BinOp) (a b a' b' : Expr) → e ≡ expr.Binary op a b → a' ≡ a → b' ≡ b → weight e ≡ weight a' + weight b' + 2
-weight_binary e op a b a' b' is got_a got_b = ap weight is ∙ (w.weight-Binary op a b ∙ (λ i. weight (sym got_a i) + weight (sym got_b i) + 2))
+pub weight_binary : (e : Expr) (op : BinOp) (a b a' b' : Expr) → e ≡ expr.Binary op a b → a' ≡ a → b' ≡ b → weight e ≡ weight a' + weight b' + 3
+weight_binary e op a b a' b' is got_a got_b = ap weight is ∙ (w.weight-Binary op a b ∙ (λ i. weight (sym got_a i) + weight (sym got_b i) + 3))
 
 pub weight_if : (e c a b c' a' b' : Expr) → e ≡ expr.If c a b → c' ≡ c → a' ≡ a → b' ≡ b → weight e ≡ weight c' + weight a' + weight b' + 3
 weight_if e c a b c' a' b' is got_c got_a got_b = ap weight is ∙ (w.weight-If c a b ∙ (λ i. weight (sym got_c i) + weight (sym got_a i) + weight (sym got_b i) + 3))
@@ -34,11 +34,11 @@ weight_call e d args args' is got = ap weight is ∙ (w.weight-Call d args ∙ a
 pub weight_set_name : (e : Expr) (d : ℕ) → e ≡ expr.SetName d → weight e ≡ 2
 weight_set_name e d is = ap weight is ∙ w.weight-SetName d
 
-pub weight_event : (e : Expr) (c : ℕ) (fields fields' : List Expr) → e ≡ expr.Event c fields → fields' ≡ fields → weight e ≡ weights fields' + 4
-weight_event e c fields fields' is got = ap weight is ∙ (w.weight-Event c fields ∙ ap (λ x. weights x + 4) (sym got))
+pub weight_event : (e : Expr) (c : ℕ) (fields fields' : List Expr) → e ≡ expr.Event c fields → fields' ≡ fields → weight e ≡ weights fields' + 6
+weight_event e c fields fields' is got = ap weight is ∙ (w.weight-Event c fields ∙ ap (λ x. weights x + 6) (sym got))
 
-pub weight_display : (e : Expr) (items items' : List Expr) → e ≡ expr.Display items → items' ≡ items → weight e ≡ weights items' + 3
-weight_display e items items' is got = ap weight is ∙ (w.weight-Display items ∙ ap (λ x. weights x + 3) (sym got))
+pub weight_display : (e : Expr) (items items' : List Expr) → e ≡ expr.Display items → items' ≡ items → weight e ≡ weights items' + 4
+weight_display e items items' is got = ap weight is ∙ (w.weight-Display items ∙ ap (λ x. weights x + 4) (sym got))
 
 pub weight_range : (e a b a' b' : Expr) → e ≡ expr.Range a b → a' ≡ a → b' ≡ b → weight e ≡ weight a' + weight b' + 3
 weight_range e a b a' b' is got_a got_b = ap weight is ∙ (w.weight-Range a b ∙ (λ i. weight (sym got_a i) + weight (sym got_b i) + 3))
@@ -46,16 +46,16 @@ weight_range e a b a' b' is got_a got_b = ap weight is ∙ (w.weight-Range a b �
 pub weight_set_op : (e : Expr) (op : SetOp) (a b a' b' : Expr) → e ≡ expr.SetOp op a b → a' ≡ a → b' ≡ b → weight e ≡ weight a' + weight b' + 3
 weight_set_op e op a b a' b' is got_a got_b = ap weight is ∙ (w.weight-SetOp op a b ∙ (λ i. weight (sym got_a i) + weight (sym got_b i) + 3))
 
-pub weight_comp : (e : Expr) (items items' : List Expr) (gens gens' : List Gen) → e ≡ expr.Comp items gens → items' ≡ items → gens' ≡ gens → weight e ≡ weights items' + part_weights [] + gen_weights gens' + 5
+pub weight_comp : (e : Expr) (items items' : List Expr) (gens gens' : List Gen) → e ≡ expr.Comp items gens → items' ≡ items → gens' ≡ gens → weight e ≡ weights items' + part_weights [] + gen_weights gens' + 6
 weight_comp e items items' gens gens' is got_items got_gens =
     let none : part_weights [] ≡ 0 = w.part_weights-nil in
-    let whole : weight e ≡ weights items' + gen_weights gens' + 5 = ap weight is ∙ (w.weight-Comp items gens ∙ (λ i. weights (sym got_items i) + gen_weights (sym got_gens i) + 5)) in
+    let whole : weight e ≡ weights items' + gen_weights gens' + 6 = ap weight is ∙ (w.weight-Comp items gens ∙ (λ i. weights (sym got_items i) + gen_weights (sym got_gens i) + 6)) in
     omega arith
 
-pub weight_product : (e : Expr) (parts parts' : List EventPart) (gens gens' : List Gen) → e ≡ expr.Product parts gens → parts' ≡ parts → gens' ≡ gens → weight e ≡ weights [] + part_weights parts' + gen_weights gens' + 6
+pub weight_product : (e : Expr) (parts parts' : List EventPart) (gens gens' : List Gen) → e ≡ expr.Product parts gens → parts' ≡ parts → gens' ≡ gens → weight e ≡ weights [] + part_weights parts' + gen_weights gens' + 7
 weight_product e parts parts' gens gens' is got_parts got_gens =
     let none : weights [] ≡ 0 = w.weights-nil in
-    let whole : weight e ≡ part_weights parts' + gen_weights gens' + 6 = ap weight is ∙ (w.weight-Product parts gens ∙ (λ i. part_weights (sym got_parts i) + gen_weights (sym got_gens i) + 6)) in
+    let whole : weight e ≡ part_weights parts' + gen_weights gens' + 7 = ap weight is ∙ (w.weight-Product parts gens ∙ (λ i. part_weights (sym got_parts i) + gen_weights (sym got_gens i) + 7)) in
     omega arith
 
 pub weight_from : (g : Gen) (x : ℕ) (s : Expr) → g ≡ generator.From x s → gen_weight g ≡ weight s + 3
@@ -67,8 +67,8 @@ weight_cond g c is = ap gen_weight is ∙ w.weight-Cond c
 pub weight_gens : (gens : List Gen) (first : Gen) (rest : List Gen) → gens ≡ first ∷ rest → gen_weights gens ≡ gen_weight first + gen_weights rest
 weight_gens gens first rest is = ap gen_weights is ∙ w.gen_weights-cons first rest
 
-pub weight_part : (part : EventPart) (fields : List Expr) → fields ≡ (out-EventPart part).fields → part_weight part ≡ weights fields + 4
-weight_part part fields got = w.part_weight-is part ∙ ap (λ x. weights x + 4) (sym got)
+pub weight_part : (part : EventPart) (fields : List Expr) → fields ≡ (out-EventPart part).fields → part_weight part ≡ weights fields + 5
+weight_part part fields got = w.part_weight-is part ∙ ap (λ x. weights x + 5) (sym got)
 
 pub weight_datum : (b : Body) (e : Expr) → b ≡ body.Datum e → body_weight b ≡ weight e
 weight_datum b e is = ap body_weight is

@@ -14,7 +14,7 @@ use Rattle.csp_program.specs.declared.programs.Content.{Content}
 use Rattle.value_operators.specs.Forms.{each_of, scaled}
 use Rattle.csp_values.specs.Worth.{worth, fields_worth, front_worth}
 use Rattle.csp_values.proofs.Equations.{fields-nil, fields-none, fields-cons, front-none, front-some}
-use Rattle.csp_values.proofs.Steps.{left_of}
+use Rattle.csp_values.proofs.Steps.{chain, left_of}
 
 -- the number of fields after others, where both count so many for one
 unfoldable pub fields_after : Content → ℕ → Env → List Expr → List (List Atom) → ℕ → ℕ → Outcome ℕ
@@ -66,21 +66,17 @@ unfolding fields_after
 fields_here p n env es all set others each number i e lt is split =
     ap (λ xs. fields_after p n env xs all each number) (left_of es i e lt is) ∙ ap (λ ss. fields_after p n env (e ∷ drop (i + 1) es) ss each number) split
 
-pub field_fault : (whole : Outcome ℕ) (p : Content) (n : ℕ) (env : Env) (es : List Expr) (all : List (List Atom)) (set : List Atom) (others : List (List Atom)) (each number i : ℕ) (e : Expr) (k : ValueKind)
-    → whole ≡ fields_after p n env (drop i es) all each number → i < length es → e ≡ get_or es i e → all ≡ set ∷ others → worth p n env e ≡ Err k → whole ≡ Err k
-field_fault whole p n env es all set others each number i e k w lt is split bad =
-    w ∙ (fields_here p n env es all set others each number i e lt is split ∙ ap (fields_next p n env (drop (i + 1) es) set others each number) bad)
+field_then : (whole : Outcome ℕ) (p : Content) (n : ℕ) (env : Env) (es : List Expr) (all : List (List Atom)) (set : List Atom) (others : List (List Atom)) (each number i : ℕ) (e : Expr)
+    → whole ≡ fields_after p n env (drop i es) all each number → i < length es → e ≡ get_or es i e → all ≡ set ∷ others
+    → whole ≡ and_then (and_then (worth p n env e) (λ v. field_place set v)) (λ place. fields_after p n env (drop (i + 1) es) others each (number * length set + place * each))
+field_then whole p n env es all set others each number i e w lt is split =
+    w ∙ (fields_here p n env es all set others each number i e lt is split ∙
+    chain (worth p n env e) (λ v. field_place set v) (λ place. fields_after p n env (drop (i + 1) es) others each (number * length set + place * each)))
 
-field_then : (whole : Outcome ℕ) (p : Content) (n : ℕ) (env : Env) (es : List Expr) (all : List (List Atom)) (set : List Atom) (others : List (List Atom)) (each number i : ℕ) (e : Expr) (v : Value)
-    → whole ≡ fields_after p n env (drop i es) all each number → i < length es → e ≡ get_or es i e → all ≡ set ∷ others → worth p n env e ≡ Ok v
-    → whole ≡ and_then (field_place set v) (λ place. fields_after p n env (drop (i + 1) es) others each (number * length set + place * each))
-field_then whole p n env es all set others each number i e v w lt is split good =
-    w ∙ (fields_here p n env es all set others each number i e lt is split ∙ ap (fields_next p n env (drop (i + 1) es) set others each number) good)
-
-pub field_refused : (whole : Outcome ℕ) (p : Content) (n : ℕ) (env : Env) (es : List Expr) (all : List (List Atom)) (set : List Atom) (others : List (List Atom)) (each number i : ℕ) (e : Expr) (v : Value) (k : ValueKind)
-    → whole ≡ fields_after p n env (drop i es) all each number → i < length es → e ≡ get_or es i e → all ≡ set ∷ others → worth p n env e ≡ Ok v → field_place set v ≡ Err k → whole ≡ Err k
-field_refused whole p n env es all set others each number i e v k w lt is split good bad =
-    field_then whole p n env es all set others each number i e v w lt is split good ∙
+pub field_refused : (whole : Outcome ℕ) (p : Content) (n : ℕ) (env : Env) (es : List Expr) (all : List (List Atom)) (set : List Atom) (others : List (List Atom)) (each number i : ℕ) (e : Expr) (k : ValueKind)
+    → whole ≡ fields_after p n env (drop i es) all each number → i < length es → e ≡ get_or es i e → all ≡ set ∷ others → and_then (worth p n env e) (λ v. field_place set v) ≡ Err k → whole ≡ Err k
+field_refused whole p n env es all set others each number i e k w lt is split bad =
+    field_then whole p n env es all set others each number i e w lt is split ∙
     ap (λ o. and_then o (λ place. fields_after p n env (drop (i + 1) es) others each (number * length set + place * each))) bad
 
 abbrev found : ℕ → Outcome ℕ
@@ -89,11 +85,11 @@ found n = Ok n
 same_found : (m n : ℕ) → found m ≡ found n → m ≡ n
 same_found m n h = cc
 
-pub field_taken : (whole : Outcome ℕ) (p : Content) (n : ℕ) (env : Env) (es : List Expr) (all : List (List Atom)) (set : List Atom) (others : List (List Atom)) (each number more place i : ℕ) (e : Expr) (v : Value)
-    → whole ≡ fields_after p n env (drop i es) all each number → i < length es → e ≡ get_or es i e → all ≡ set ∷ others → worth p n env e ≡ Ok v → field_place set v ≡ Ok place
+pub field_taken : (whole : Outcome ℕ) (p : Content) (n : ℕ) (env : Env) (es : List Expr) (all : List (List Atom)) (set : List Atom) (others : List (List Atom)) (each number more place i : ℕ) (e : Expr)
+    → whole ≡ fields_after p n env (drop i es) all each number → i < length es → e ≡ get_or es i e → all ≡ set ∷ others → and_then (worth p n env e) (λ v. field_place set v) ≡ Ok place
     → found (number * length set + place * each) ≡ found more → whole ≡ fields_after p n env (drop (i + 1) es) others each more
-field_taken whole p n env es all set others each number more place i e v w lt is split good taken counted =
-    field_then whole p n env es all set others each number i e v w lt is split good ∙
+field_taken whole p n env es all set others each number more place i e w lt is split taken counted =
+    field_then whole p n env es all set others each number i e w lt is split ∙
     (ap (λ o. and_then o (λ k. fields_after p n env (drop (i + 1) es) others each (number * length set + k * each))) taken ∙
     ap (fields_after p n env (drop (i + 1) es) others each) (same_found (number * length set + place * each) more counted))
 

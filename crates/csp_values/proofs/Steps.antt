@@ -31,7 +31,7 @@ pub nothing_left : {A : Type 0} (xs : List A) (i : ℕ) → length xs ≤ i → 
 nothing_left xs i past = nothing (drop i xs) (omega (arith, length-drop i xs))
 
 -- one step after another is one step
-chain : {A B C : Type 0} (o : Outcome A) (f : A → Outcome B) (g : B → Outcome C) → and_then o (λ a. and_then (f a) g) ≡ and_then (and_then o f) g
+pub chain : {A B C : Type 0} (o : Outcome A) (f : A → Outcome B) (g : B → Outcome C) → and_then o (λ a. and_then (f a) g) ≡ and_then (and_then o f) g
 chain (Ok a) f g = refl
 chain (Err k) f g = refl
 
@@ -83,29 +83,30 @@ item_of v atoms = and_then (as_atom v) (λ a. added atoms a)
 abbrev items_next : Content → ℕ → Env → List Atom → List Expr → Outcome Value → Outcome (List Atom)
 items_next p n env atoms es o = and_then o (λ v. and_then (as_atom v) (λ a. and_then (added atoms a) (λ more. with_items p n env es more)))
 
+item_last : (o : Outcome Value) (atoms : List Atom) (rest : List Atom → Outcome (List Atom))
+    → and_then o (λ v. and_then (as_atom v) (λ a. and_then (added atoms a) (λ more. rest more))) ≡ and_then (and_then o (λ v. item_of v atoms)) (λ more. rest more)
+item_last (Ok v) atoms rest = chain (as_atom v) (λ a. added atoms a) (λ more. rest more)
+item_last (Err k) atoms rest = refl
+
 items_here : (p : Content) (n : ℕ) (env : Env) (atoms : List Atom) (es : List Expr) (i : ℕ) (e : Expr) → i < length es → e ≡ get_or es i e
     → with_items p n env (drop i es) atoms ≡ items_next p n env atoms (drop (i + 1) es) (worth p n env e)
 items_here p n env atoms es i e lt is = ap (λ xs. with_items p n env xs atoms) (left_of es i e lt is) ∙ with_items-cons p n env e (drop (i + 1) es) atoms
 
-pub items_fault : (whole : Outcome (List Atom)) (p : Content) (n : ℕ) (env : Env) (atoms : List Atom) (es : List Expr) (i : ℕ) (e : Expr) (k : ValueKind)
-    → whole ≡ with_items p n env (drop i es) atoms → i < length es → e ≡ get_or es i e → worth p n env e ≡ Err k → whole ≡ Err k
-items_fault whole p n env atoms es i e k w lt is bad = w ∙ (items_here p n env atoms es i e lt is ∙ ap (items_next p n env atoms (drop (i + 1) es)) bad)
+items_then : (whole : Outcome (List Atom)) (p : Content) (n : ℕ) (env : Env) (atoms : List Atom) (es : List Expr) (i : ℕ) (e : Expr)
+    → whole ≡ with_items p n env (drop i es) atoms → i < length es → e ≡ get_or es i e
+    → whole ≡ and_then (and_then (worth p n env e) (λ v. item_of v atoms)) (λ more. with_items p n env (drop (i + 1) es) more)
+items_then whole p n env atoms es i e w lt is =
+    w ∙ (items_here p n env atoms es i e lt is ∙ (item_last (worth p n env e) atoms (λ more. with_items p n env (drop (i + 1) es) more)))
 
-items_then : (whole : Outcome (List Atom)) (p : Content) (n : ℕ) (env : Env) (atoms : List Atom) (es : List Expr) (i : ℕ) (e : Expr) (v : Value)
-    → whole ≡ with_items p n env (drop i es) atoms → i < length es → e ≡ get_or es i e → worth p n env e ≡ Ok v → whole ≡ and_then (item_of v atoms) (λ more. with_items p n env (drop (i + 1) es) more)
-items_then whole p n env atoms es i e v w lt is good =
-    w ∙ (items_here p n env atoms es i e lt is ∙ (ap (items_next p n env atoms (drop (i + 1) es)) good ∙
-    chain (as_atom v) (λ a. added atoms a) (λ more. with_items p n env (drop (i + 1) es) more)))
+pub items_refused : (whole : Outcome (List Atom)) (p : Content) (n : ℕ) (env : Env) (atoms : List Atom) (es : List Expr) (i : ℕ) (e : Expr) (k : ValueKind)
+    → whole ≡ with_items p n env (drop i es) atoms → i < length es → e ≡ get_or es i e → and_then (worth p n env e) (λ v. item_of v atoms) ≡ Err k → whole ≡ Err k
+items_refused whole p n env atoms es i e k w lt is bad =
+    items_then whole p n env atoms es i e w lt is ∙ ap (λ o. and_then o (λ more. with_items p n env (drop (i + 1) es) more)) bad
 
-pub items_refused : (whole : Outcome (List Atom)) (p : Content) (n : ℕ) (env : Env) (atoms : List Atom) (es : List Expr) (i : ℕ) (e : Expr) (v : Value) (k : ValueKind)
-    → whole ≡ with_items p n env (drop i es) atoms → i < length es → e ≡ get_or es i e → worth p n env e ≡ Ok v → item_of v atoms ≡ Err k → whole ≡ Err k
-items_refused whole p n env atoms es i e v k w lt is good bad =
-    items_then whole p n env atoms es i e v w lt is good ∙ ap (λ o. and_then o (λ more. with_items p n env (drop (i + 1) es) more)) bad
-
-pub items_taken : (whole : Outcome (List Atom)) (p : Content) (n : ℕ) (env : Env) (atoms more : List Atom) (es : List Expr) (i : ℕ) (e : Expr) (v : Value)
-    → whole ≡ with_items p n env (drop i es) atoms → i < length es → e ≡ get_or es i e → worth p n env e ≡ Ok v → item_of v atoms ≡ Ok more → whole ≡ with_items p n env (drop (i + 1) es) more
-items_taken whole p n env atoms more es i e v w lt is good taken =
-    items_then whole p n env atoms es i e v w lt is good ∙ ap (λ o. and_then o (λ all. with_items p n env (drop (i + 1) es) all)) taken
+pub items_taken : (whole : Outcome (List Atom)) (p : Content) (n : ℕ) (env : Env) (atoms more : List Atom) (es : List Expr) (i : ℕ) (e : Expr)
+    → whole ≡ with_items p n env (drop i es) atoms → i < length es → e ≡ get_or es i e → and_then (worth p n env e) (λ v. item_of v atoms) ≡ Ok more → whole ≡ with_items p n env (drop (i + 1) es) more
+items_taken whole p n env atoms more es i e w lt is taken =
+    items_then whole p n env atoms es i e w lt is ∙ ap (λ o. and_then o (λ all. with_items p n env (drop (i + 1) es) all)) taken
 
 -- fronts that are added one by one
 fronts_here : (p : Content) (n : ℕ) (env : Env) (atoms : List Atom) (ps : List EventPart) (i : ℕ) (part : EventPart) → i < length ps → part ≡ get_or ps i part

@@ -25,15 +25,15 @@ of_expr (Expr-F.Bound x) = 1
 of_expr (Expr-F.Lit v) = 1
 of_expr (Expr-F.Neg a) = a + 2
 of_expr (Expr-F.Not a) = a + 2
-of_expr (Expr-F.Binary op a b) = a + b + 2
+of_expr (Expr-F.Binary op a b) = a + b + 3
 of_expr (Expr-F.If c a b) = c + a + b + 3
 of_expr (Expr-F.Call d args) = total args + 3
 of_expr (Expr-F.SetName d) = 2
-of_expr (Expr-F.Event c fields) = total fields + 4
-of_expr (Expr-F.Display items) = total items + 3
+of_expr (Expr-F.Event c fields) = total fields + 6
+of_expr (Expr-F.Display items) = total items + 4
 of_expr (Expr-F.Range a b) = a + b + 3
-of_expr (Expr-F.Comp items gens) = total items + total gens + 5
-of_expr (Expr-F.Product parts gens) = total parts + total gens + 6
+of_expr (Expr-F.Comp items gens) = total items + total gens + 6
+of_expr (Expr-F.Product parts gens) = total parts + total gens + 7
 of_expr (Expr-F.SetOp op a b) = a + b + 3
 
 abbrev of_gen : Gen-F ℕ ℕ ℕ → ℕ
@@ -41,7 +41,7 @@ of_gen (Gen-F.From x s) = s + 3
 of_gen (Gen-F.Cond c) = c + 3
 
 abbrev of_part : EventPart-F ℕ ℕ ℕ → ℕ
-of_part part = total part.fields + 4
+of_part part = total part.fields + 5
 
 unfoldable pub weight : Expr → ℕ
 weight = fold-Expr ℕ ℕ ℕ of_expr of_gen of_part
@@ -69,7 +69,7 @@ pub weight-Not : (a : Expr) → weight (expr.Not a) ≡ weight a + 2
 unfolding weight weights gen_weight gen_weights part_weight part_weights
 weight-Not a = ap (fold-Expr ℕ ℕ ℕ of_expr of_gen of_part) (sym (expr.rolls-Not a)) ∙ fold-roll-Expr ℕ ℕ ℕ of_expr of_gen of_part (Expr-F.Not a)
 
-pub weight-Binary : (op : BinOp) (a b : Expr) → weight (expr.Binary op a b) ≡ weight a + weight b + 2
+pub weight-Binary : (op : BinOp) (a b : Expr) → weight (expr.Binary op a b) ≡ weight a + weight b + 3
 unfolding weight weights gen_weight gen_weights part_weight part_weights
 weight-Binary op a b = ap (fold-Expr ℕ ℕ ℕ of_expr of_gen of_part) (sym (expr.rolls-Binary op a b)) ∙ fold-roll-Expr ℕ ℕ ℕ of_expr of_gen of_part (Expr-F.Binary op a b)
 
@@ -85,11 +85,11 @@ pub weight-SetName : (d : ℕ) → weight (expr.SetName d) ≡ 2
 unfolding weight weights gen_weight gen_weights part_weight part_weights
 weight-SetName d = ap (fold-Expr ℕ ℕ ℕ of_expr of_gen of_part) (sym (expr.rolls-SetName d)) ∙ fold-roll-Expr ℕ ℕ ℕ of_expr of_gen of_part (Expr-F.SetName d)
 
-pub weight-Event : (c : ℕ) (fields : List Expr) → weight (expr.Event c fields) ≡ weights fields + 4
+pub weight-Event : (c : ℕ) (fields : List Expr) → weight (expr.Event c fields) ≡ weights fields + 6
 unfolding weight weights gen_weight gen_weights part_weight part_weights
 weight-Event c fields = ap (fold-Expr ℕ ℕ ℕ of_expr of_gen of_part) (sym (expr.rolls-Event c fields)) ∙ fold-roll-Expr ℕ ℕ ℕ of_expr of_gen of_part (Expr-F.Event c fields)
 
-pub weight-Display : (items : List Expr) → weight (expr.Display items) ≡ weights items + 3
+pub weight-Display : (items : List Expr) → weight (expr.Display items) ≡ weights items + 4
 unfolding weight weights gen_weight gen_weights part_weight part_weights
 weight-Display items = ap (fold-Expr ℕ ℕ ℕ of_expr of_gen of_part) (sym (expr.rolls-Display items)) ∙ fold-roll-Expr ℕ ℕ ℕ of_expr of_gen of_part (Expr-F.Display items)
 
@@ -97,11 +97,11 @@ pub weight-Range : (a b : Expr) → weight (expr.Range a b) ≡ weight a + weigh
 unfolding weight weights gen_weight gen_weights part_weight part_weights
 weight-Range a b = ap (fold-Expr ℕ ℕ ℕ of_expr of_gen of_part) (sym (expr.rolls-Range a b)) ∙ fold-roll-Expr ℕ ℕ ℕ of_expr of_gen of_part (Expr-F.Range a b)
 
-pub weight-Comp : (items : List Expr) (gens : List Gen) → weight (expr.Comp items gens) ≡ weights items + gen_weights gens + 5
+pub weight-Comp : (items : List Expr) (gens : List Gen) → weight (expr.Comp items gens) ≡ weights items + gen_weights gens + 6
 unfolding weight weights gen_weight gen_weights part_weight part_weights
 weight-Comp items gens = ap (fold-Expr ℕ ℕ ℕ of_expr of_gen of_part) (sym (expr.rolls-Comp items gens)) ∙ fold-roll-Expr ℕ ℕ ℕ of_expr of_gen of_part (Expr-F.Comp items gens)
 
-pub weight-Product : (parts : List EventPart) (gens : List Gen) → weight (expr.Product parts gens) ≡ part_weights parts + gen_weights gens + 6
+pub weight-Product : (parts : List EventPart) (gens : List Gen) → weight (expr.Product parts gens) ≡ part_weights parts + gen_weights gens + 7
 unfolding weight weights gen_weight gen_weights part_weight part_weights
 weight-Product parts gens = ap (fold-Expr ℕ ℕ ℕ of_expr of_gen of_part) (sym (expr.rolls-Product parts gens)) ∙ fold-roll-Expr ℕ ℕ ℕ of_expr of_gen of_part (Expr-F.Product parts gens)
 
@@ -117,7 +117,7 @@ pub weight-Cond : (c : Expr) → gen_weight (generator.Cond c) ≡ weight c + 3
 unfolding weight gen_weight
 weight-Cond c = ap (fold-Gen ℕ ℕ ℕ of_expr of_gen of_part) (sym (generator.rolls-Cond c)) ∙ fold-roll-Gen ℕ ℕ ℕ of_expr of_gen of_part (Gen-F.Cond c)
 
-pub part_weight-is : (part : EventPart) → part_weight part ≡ weights (out-EventPart part).fields + 4
+pub part_weight-is : (part : EventPart) → part_weight part ≡ weights (out-EventPart part).fields + 5
 unfolding weight part_weight weights
 part_weight-is part = ap (fold-EventPart ℕ ℕ ℕ of_expr of_gen of_part) (sym (roll-out-EventPart part)) ∙ fold-roll-EventPart ℕ ℕ ℕ of_expr of_gen of_part (out-EventPart part)
 

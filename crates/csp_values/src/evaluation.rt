@@ -1,8 +1,10 @@
 //! Evaluation, from the left.
 
-ghost use Rattle.std.specs.Prelude.{◌≡◌, [], ◌∷◌, length, Ok};
+ghost use Rattle.std.specs.Prelude.{◌≡◌, [], ◌∷◌, length, map};
+ghost use Rattle.csp_atoms.specs.declared.atom.Atom.TheVariants as atom;
+ghost use Rattle.csp_program.specs.Atoms.{added, all_added};
 ghost use Rattle.csp_program.specs.Outcome.{and_then};
-ghost use Rattle.csp_program.specs.Value.{value_of, as_set};
+ghost use Rattle.csp_program.specs.Value.{as_atom, as_set, binary, field_place, value_of};
 ghost use Rattle.csp_program.specs.Value as meant;
 ghost use Rattle.value_operators.specs.Env.{env_in, with_bound};
 ghost use Rattle.value_operators.specs.Gives.{Gives};
@@ -16,7 +18,7 @@ use csp_base::{BinOp, SetOp};
 use csp_program::{Body, Content, Def, EventPart, Expr, Gen, Program, ValueKind};
 use std::alloc::Global;
 use value_operators::EvalFault;
-use value_operators::names::{Names, named, with_name};
+use value_operators::names::{Names, copied, named, with_name};
 use value_operators::numbers::{
     count_with, each_of, event_at, field_sets, lack_sets, place_in, with_field,
 };
@@ -172,7 +174,7 @@ fn eval_expr(scope: &Scope<'_>, names: &Names<'_>, expr: &Expr) -> Result<Value,
         Expr::Truth(truth) => Ok(Value::One(Atom::Truth(*truth))),
         Expr::Const(number) => Ok(Value::One(Atom::Const(*number))),
         Expr::Bound(slot) => named(scope.alloc, names, *slot),
-        Expr::Lit(value) => literal(scope.alloc, value),
+        Expr::Lit(value) => copied(scope.alloc, value),
         Expr::Neg(a) => eval_negative(scope, names, a.get()),
         Expr::Not(a) => eval_not(scope, names, a.get()),
         Expr::Binary(op, a, b) => eval_binary(scope, names, *op, a.get(), b.get()),
@@ -196,18 +198,19 @@ fn eval_expr(scope: &Scope<'_>, names: &Names<'_>, expr: &Expr) -> Result<Value,
     }
 }
 
-// The value that was put in.
-fn literal(alloc: Global, value: &Value) -> Result<Value, EvalFault>
-    ensures { Gives result (Ok value.now) }
-{
-    Ok(value.try_clone(alloc)?)
-}
-
 // The set of the numbers from `first` to `last`, as a value.
 fn range_value(alloc: Global, first: i64, last: i64) -> Result<Value, EvalFault>
     ensures { Gives result (meant.many (meant.range first last)) }
 {
     let atoms = numbers(alloc, first, last)?;
+    Ok(Value::Many(atoms))
+}
+
+// The set of constants, as a value.
+fn constants_value(alloc: Global, numbers: &[u32]) -> Result<Value, EvalFault>
+    ensures { Gives result (meant.many (all_added [] (map (λ k. atom.Const k) numbers.now))) }
+{
+    let atoms = constants(alloc, numbers)?;
     Ok(Value::Many(atoms))
 }
 
@@ -276,11 +279,25 @@ fn eval_binary(
     ensures { Gives result (form.operation op (worth scope.now.content.now scope.now.uses (env_in names.now) a.now) (worth scope.now.content.now scope.now.uses (env_in names.now) b.now)) }
 {
     let first = eval_expr(scope, names, a)?;
-    if let Some(value) = decided(op, &first)? {
+    eval_second(scope, names, op, &first, b)
+}
+
+// The value of an operator between a value and the second operand, which is not evaluated where the first one decides.
+#[cycle(eval)]
+fn eval_second(
+    scope: &Scope<'_>,
+    names: &Names<'_>,
+    op: BinOp,
+    first: &Value,
+    b: &Expr,
+) -> Result<Value, EvalFault>
+    ensures { Gives result (binary op first.now (worth scope.now.content.now scope.now.uses (env_in names.now) b.now)) }
+{
+    if let Some(value) = decided(op, first)? {
         return Ok(value);
     }
     let second = eval_expr(scope, names, b)?;
-    applied(op, &first, &second)
+    applied(op, first, &second)
 }
 
 // The value of `if c then a else b`.
@@ -466,10 +483,7 @@ fn eval_body(scope: &Scope<'_>, def: &Def, args: &[Value]) -> Result<Value, Eval
             };
             eval_expr(scope, &names, expr)
         }
-        Body::Datatype(numbers) => {
-            let atoms = constants(scope.alloc, numbers.as_slice())?;
-            Ok(Value::Many(atoms))
-        }
+        Body::Datatype(numbers) => constants_value(scope.alloc, numbers.as_slice()),
         Body::Process(_) => Err(KIND),
         Body::Network(_) => Err(KIND),
     }
@@ -487,10 +501,23 @@ fn add_items(
 {
     let mut atoms = atoms;
     for item in items {
-        let value = eval_expr(scope, names, item)?;
-        atoms = with_item(atoms, &value)?;
+        atoms = add_item(scope, names, item, atoms)?;
     }
     Ok(atoms)
+}
+
+// A set with the value of an item in it.
+#[cycle(eval)]
+fn add_item(
+    scope: &Scope<'_>,
+    names: &Names<'_>,
+    item: &Expr,
+    atoms: AtomSet,
+) -> Result<AtomSet, EvalFault>
+    ensures { Gives result (and_then (worth scope.now.content.now scope.now.uses (env_in names.now) item.now) (λ v. and_then (as_atom v) (λ a. added atoms a))) }
+{
+    let value = eval_expr(scope, names, item)?;
+    with_item(atoms, &value)
 }
 
 // The number of fields among all choices of values of these sets, each counted `each` times.
@@ -510,12 +537,39 @@ fn eval_fields(
         let Some((set, others)) = rest.split_first() else {
             return Err(OUTSIDE);
         };
-        let value = eval_expr(scope, names, field)?;
-        let place = place_in(set, &value)?;
+        let place = eval_place(scope, names, field, set)?;
         number = with_field(number, set, place, each)?;
         rest = others;
     }
     Ok(number)
+}
+
+// The place of the value of an expression among the values of a field.
+#[cycle(eval)]
+fn eval_place(
+    scope: &Scope<'_>,
+    names: &Names<'_>,
+    expr: &Expr,
+    set: &AtomSet,
+) -> Result<u64, EvalFault>
+    ensures { Gives result (and_then (worth scope.now.content.now scope.now.uses (env_in names.now) expr.now) (λ v. field_place set.now v)) }
+{
+    let value = eval_expr(scope, names, expr)?;
+    place_in(set, &value)
+}
+
+// The number of fields among all choices of values of these sets, counted over the choices of those that are not given.
+#[cycle(eval)]
+fn eval_choice(
+    scope: &Scope<'_>,
+    names: &Names<'_>,
+    fields: &[Expr],
+    sets: &[AtomSet],
+) -> Result<u64, EvalFault>
+    ensures { Gives result (form.scaled (fields_worth scope.now.content.now scope.now.uses (env_in names.now) fields.now sets.now 0) (form.each_of sets.now (length fields.now))) }
+{
+    let each = each_of(sets, fields.len())?;
+    eval_fields(scope, names, fields, sets, each)
 }
 
 // The number of the first event of a channel that begins with these fields.
@@ -531,8 +585,7 @@ fn eval_front(
     let channels = scope.content.channels.as_slice();
     match field_sets(channels, channel) {
         Some(sets) => {
-            let each = each_of(sets, fields.len())?;
-            let place = eval_fields(scope, names, fields, sets, each)?;
+            let place = eval_choice(scope, names, fields, sets)?;
             event_at(channels, channel, place)
         }
         None => Err(KIND),

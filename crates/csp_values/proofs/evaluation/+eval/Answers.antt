@@ -1,16 +1,17 @@
 use Rattle.std.proofs.Common.{◌≡◌, ℕ, ◌+◌, true, false, Ok, Err, List, [], ◌∷◌, ap, refl, sym, ◌∙◌, arith, to_z, of_z, w64}
 use Rattle.std.proofs.lemmas.Int.{ints}
 use Rattle.csp_program.specs.Outcome.{and_then}
-use Rattle.csp_program.specs.Value.{as_number, as_set, as_truth, bound_to, many, range}
+use Rattle.csp_program.specs.Atoms.{added}
+use Rattle.csp_program.specs.Value.{as_atom, as_number, as_set, as_truth, bound_to, field_place, many, range}
 use Rattle.value_operators.specs.Env.{env_in, with_bound}
 use Rattle.value_operators.proofs.Faults.{passed}
 use Rattle.value_operators.proofs.NameLaws.{with_bound-last}
 use Rattle.csp_values.specs.Worth.{number_worth, truth_worth, atoms_worth, range_of, set_of, use_worth, with_items, with_fronts, walk_worth, each_worth, gathered_of}
-use Rattle.csp_values.proofs.Arms.{lacking, not_lacking, same, same_tally, part_passed, walk_passed, worth_num, worth_truth, worth_const, worth_bound, worth_lit, worth_neg, worth_not, worth_binary, worth_if, worth_call, worth_set_name, worth_event, worth_display, worth_range, worth_set_op, worth_comp, worth_product, datum_worth, datatype_worth, front_of_sets, front_without_sets, front_fault, front_added, binding_item_fault, binding_with_items, walk_from, walk_cond}
+use Rattle.csp_values.proofs.Arms.{lacking, not_lacking, same, same_tally, part_passed, walk_passed, worth_num, worth_truth, worth_const, worth_bound, worth_lit, worth_neg, worth_not, worth_binary, worth_if, worth_call, worth_set_name, worth_event, worth_display, worth_range, worth_set_op, worth_comp, worth_product, datum_worth, datatype_worth, counted_over, front_of_sets, front_without_sets, front_fault, front_added, binding_item_fault, binding_with_items, walk_from, walk_cond}
 use Rattle.csp_values.proofs.Equations.{body-Nametype, body-Process, body-Network, use-none_left, use-unknown, use-known, fronts-nil, with_items-nil, binding-full, walk-nil, each-nil}
 use Rattle.csp_values.proofs.Falls.{weight_neg, weight_not, weight_binary, weight_if, weight_call, weight_set_name, weight_event, weight_display, weight_range, weight_set_op, weight_comp, weight_product, weight_from, weight_cond, weight_gens, weight_part, use_falls}
-use Rattle.csp_values.proofs.FieldSteps.{fields_after, fields_begin, fields_end, fields_too_many, field_fault, field_refused, field_taken}
-use Rattle.csp_values.proofs.Steps.{nothing, nothing_left, worths_after, worths_begin, worths_end, worths_fault, worths_next, items_fault, items_refused, items_taken, fronts_fault, fronts_next, each_fault, each_step}
+use Rattle.csp_values.proofs.FieldSteps.{fields_after, fields_begin, fields_end, fields_too_many, field_refused, field_taken}
+use Rattle.csp_values.proofs.Steps.{nothing, nothing_left, worths_after, worths_begin, worths_end, worths_fault, worths_next, items_refused, items_taken, fronts_fault, fronts_next, each_fault, each_step}
 use Rattle.csp_values.proofs.Weights.{weights-nil, weight, weight_in, part_weight_in}
 use Rattle.csp_values.proofs.evaluation.+eval.Goals as goal
 
@@ -35,17 +36,20 @@ add_fronts-loop-part-preserved t c = fronts_next _ c.args.scope.now.content.now 
 pub add_fronts-returns : goal.add_fronts-returns
 add_fronts-returns t c = c.loop-part.invariant ∙ (ap (λ ps. with_fronts c.args.scope.now.content.now c.args.scope.now.uses (env_in c.args.names.now) ps c.loop-part.atoms) (nothing_left c.args.parts.now c.loop-part.part-index (omega arith)) ∙ fronts-nil c.args.scope.now.content.now c.args.scope.now.uses (env_in c.args.names.now) c.loop-part.atoms)
 
-pub add_items-eval_expr-requires : goal.add_items-eval_expr-requires
-add_items-eval_expr-requires t c = let lighter = weight_in c.args.items.now c.loop-item.item-index c.item-item.result (omega arith) c.item-item.is in (omega (arith, lighter), tt)
-
-pub add_items-returns-in_err-value : goal.add_items-returns-in_err-value
-add_items-returns-in_err-value t c = passed _ _ _ _ c.from_residual.ensures.1 c.in_err-value.ensures (λ k e. items_fault _ c.args.scope.now.content.now c.args.scope.now.uses (env_in c.args.names.now) c.loop-item.atoms c.args.items.now c.loop-item.item-index c.item-item.result k c.loop-item.invariant (omega arith) c.item-item.is e)
+pub add_items-add_item-requires : goal.add_items-add_item-requires
+add_items-add_item-requires t c = let lighter = weight_in c.args.items.now c.loop-item.item-index c.item-item.result (omega arith) c.item-item.is in (omega (arith, lighter), tt)
 
 pub add_items-returns-in_err-atoms : goal.add_items-returns-in_err-atoms
-add_items-returns-in_err-atoms t c = passed _ _ _ _ c.from_residual-in_err-atoms.ensures.1 c.in_err-atoms.ensures (λ k e. items_refused _ c.args.scope.now.content.now c.args.scope.now.uses (env_in c.args.names.now) c.loop-item.atoms c.args.items.now c.loop-item.item-index c.item-item.result c.in_ok-value.value k c.loop-item.invariant (omega arith) c.item-item.is c.in_ok-value.ensures e)
+add_items-returns-in_err-atoms t c = passed _ _ _ _ c.from_residual.ensures.1 c.in_err-atoms.ensures (λ k e. items_refused _ c.args.scope.now.content.now c.args.scope.now.uses (env_in c.args.names.now) c.loop-item.atoms c.args.items.now c.loop-item.item-index c.item-item.result k c.loop-item.invariant (omega arith) c.item-item.is e)
 
 pub add_items-loop-item-preserved : goal.add_items-loop-item-preserved
-add_items-loop-item-preserved t c = items_taken _ c.args.scope.now.content.now c.args.scope.now.uses (env_in c.args.names.now) c.loop-item.atoms c.in_ok-atoms.atoms c.args.items.now c.loop-item.item-index c.item-item.result c.in_ok-value.value c.loop-item.invariant (omega arith) c.item-item.is c.in_ok-value.ensures c.in_ok-atoms.ensures
+add_items-loop-item-preserved t c = items_taken _ c.args.scope.now.content.now c.args.scope.now.uses (env_in c.args.names.now) c.loop-item.atoms c.in_ok-atoms.atoms c.args.items.now c.loop-item.item-index c.item-item.result c.loop-item.invariant (omega arith) c.item-item.is c.in_ok-atoms.ensures
+
+pub add_item-returns-in_err-value : goal.add_item-returns-in_err-value
+add_item-returns-in_err-value t c = passed _ _ _ _ c.from_residual.ensures.1 c.in_err-value.ensures (λ k e. ap (λ o. and_then o (λ v. and_then (as_atom v) (λ a. added c.args.atoms a))) e)
+
+pub add_item-returns : goal.add_item-returns
+add_item-returns t c = same _ _ _ (ap (λ o. and_then o (λ v. and_then (as_atom v) (λ a. added c.args.atoms a))) c.in_ok-value.ensures) c.with_item.ensures
 
 pub add_items-returns : goal.add_items-returns
 add_items-returns t c = c.loop-item.invariant ∙ (ap (λ es. with_items c.args.scope.now.content.now c.args.scope.now.uses (env_in c.args.names.now) es c.loop-item.atoms) (nothing_left c.args.items.now c.loop-item.item-index (omega arith)) ∙ with_items-nil c.args.scope.now.content.now c.args.scope.now.uses (env_in c.args.names.now) c.loop-item.atoms)
@@ -65,17 +69,14 @@ eval_all-loop-expr-preserved t c = worths_next _ c.args.scope.now.content.now c.
 pub eval_all-returns : goal.eval_all-returns
 eval_all-returns t c = c.loop-expr.invariant ∙ (ap (worths_after c.args.scope.now.content.now c.args.scope.now.uses (env_in c.args.names.now) c.loop-expr.values) (nothing_left c.args.exprs.now c.loop-expr.expr-index (omega arith)) ∙ worths_end c.args.scope.now.content.now c.args.scope.now.uses (env_in c.args.names.now) c.loop-expr.values)
 
-pub eval_body-returns-in_err-atoms-in-Datatype : goal.eval_body-returns-in_err-atoms-in-Datatype
-eval_body-returns-in_err-atoms-in-Datatype t c = passed _ _ _ _ c.from_residual.ensures.1 c.in_err-atoms-in-Datatype.ensures (λ k e. datatype_worth c.args.scope.now.content.now c.args.scope.now.uses c.args.def.now c.args.args.now c.in-Datatype.numbers c.as_slice-in-Datatype.result.now (Err k) c.in-Datatype.is c.as_slice-in-Datatype.ensures e)
-
 pub eval_body-returns-in-Datum : goal.eval_body-returns-in-Datum
 eval_body-returns-in-Datum t c = same _ _ _ (datum_worth c.args.scope.now.content.now c.args.scope.now.uses c.args.def.now c.args.args.now c.as_slice.result.now c.in-Datum.expr c.in-Datum.is c.as_slice.ensures) c.eval_expr.ensures
 
 pub eval_body-returns-in-Nametype : goal.eval_body-returns-in-Nametype
 eval_body-returns-in-Nametype t c = same _ _ _ (body-Nametype c.args.scope.now.content.now c.args.scope.now.uses c.args.def.now c.args.args.now c.in-Nametype.expr c.in-Nametype.is) c.eval_expr-in-Nametype.ensures
 
-pub eval_body-returns-in_ok-atoms-in-Datatype : goal.eval_body-returns-in_ok-atoms-in-Datatype
-eval_body-returns-in_ok-atoms-in-Datatype t c = datatype_worth c.args.scope.now.content.now c.args.scope.now.uses c.args.def.now c.args.args.now c.in-Datatype.numbers c.as_slice-in-Datatype.result.now (Ok c.in_ok-atoms-in-Datatype.atoms) c.in-Datatype.is c.as_slice-in-Datatype.ensures c.in_ok-atoms-in-Datatype.ensures
+pub eval_body-returns-in-Datatype : goal.eval_body-returns-in-Datatype
+eval_body-returns-in-Datatype t c = same _ _ _ (datatype_worth c.args.scope.now.content.now c.args.scope.now.uses c.args.def.now c.args.args.now c.in-Datatype.numbers c.as_slice-in-Datatype.result.now _ c.in-Datatype.is c.as_slice-in-Datatype.ensures refl) c.constants_value.ensures
 
 pub eval_body-returns-in-Process : goal.eval_body-returns-in-Process
 eval_body-returns-in-Process t c = body-Process c.args.scope.now.content.now c.args.scope.now.uses c.args.def.now c.args.args.now c.in-Process.field-0 c.in-Process.is
@@ -194,26 +195,32 @@ eval_fields-loop-field-init t c = fields_begin c.args.scope.now.content.now c.ar
 pub eval_fields-returns-in_default : goal.eval_fields-returns-in_default
 eval_fields-returns-in_default t c = fields_too_many _ c.args.scope.now.content.now c.args.scope.now.uses (env_in c.args.names.now) c.args.fields.now c.loop-field.rest.now c.args.each c.loop-field.number c.loop-field.field-index c.field-item.result c.loop-field.invariant (omega arith) c.field-item.is c.in_default.ensures.cases
 
-pub eval_fields-eval_expr-requires : goal.eval_fields-eval_expr-requires
-eval_fields-eval_expr-requires t c = let lighter = weight_in c.args.fields.now c.loop-field.field-index c.field-item.result (omega arith) c.field-item.is in (omega (arith, lighter), tt)
-
-pub eval_fields-returns-in_err-value : goal.eval_fields-returns-in_err-value
-eval_fields-returns-in_err-value t c = passed _ _ _ _ c.from_residual.ensures.1 c.in_err-value.ensures (λ k e. field_fault _ c.args.scope.now.content.now c.args.scope.now.uses (env_in c.args.names.now) c.args.fields.now c.loop-field.rest.now c.in-Some.set.now c.in-Some.others.now c.args.each c.loop-field.number c.loop-field.field-index c.field-item.result k c.loop-field.invariant (omega arith) c.field-item.is c.in-Some.ensures.cases.0 e)
+pub eval_fields-eval_place-requires : goal.eval_fields-eval_place-requires
+eval_fields-eval_place-requires t c = let lighter = weight_in c.args.fields.now c.loop-field.field-index c.field-item.result (omega arith) c.field-item.is in (omega (arith, lighter), tt)
 
 pub eval_fields-returns-in_err-place : goal.eval_fields-returns-in_err-place
-eval_fields-returns-in_err-place t c = passed _ _ _ _ c.from_residual-in_err-place.ensures.1 c.in_err-place.ensures (λ k e. field_refused _ c.args.scope.now.content.now c.args.scope.now.uses (env_in c.args.names.now) c.args.fields.now c.loop-field.rest.now c.in-Some.set.now c.in-Some.others.now c.args.each c.loop-field.number c.loop-field.field-index c.field-item.result c.in_ok-value.value k c.loop-field.invariant (omega arith) c.field-item.is c.in-Some.ensures.cases.0 c.in_ok-value.ensures e)
+eval_fields-returns-in_err-place t c = passed _ _ _ _ c.from_residual.ensures.1 c.in_err-place.ensures (λ k e. field_refused _ c.args.scope.now.content.now c.args.scope.now.uses (env_in c.args.names.now) c.args.fields.now c.loop-field.rest.now c.in-Some.set.now c.in-Some.others.now c.args.each c.loop-field.number c.loop-field.field-index c.field-item.result k c.loop-field.invariant (omega arith) c.field-item.is c.in-Some.ensures.cases.0 e)
 
 pub eval_fields-loop-field-preserved : goal.eval_fields-loop-field-preserved
-eval_fields-loop-field-preserved t c = field_taken _ c.args.scope.now.content.now c.args.scope.now.uses (env_in c.args.names.now) c.args.fields.now c.loop-field.rest.now c.in-Some.set.now c.in-Some.others.now c.args.each c.loop-field.number c.in_ok-number.number c.in_ok-place.place c.loop-field.field-index c.field-item.result c.in_ok-value.value c.loop-field.invariant (omega arith) c.field-item.is c.in-Some.ensures.cases.0 c.in_ok-value.ensures c.in_ok-place.ensures c.in_ok-number.ensures
+eval_fields-loop-field-preserved t c = field_taken _ c.args.scope.now.content.now c.args.scope.now.uses (env_in c.args.names.now) c.args.fields.now c.loop-field.rest.now c.in-Some.set.now c.in-Some.others.now c.args.each c.loop-field.number c.in_ok-number.number c.in_ok-place.place c.loop-field.field-index c.field-item.result c.loop-field.invariant (omega arith) c.field-item.is c.in-Some.ensures.cases.0 c.in_ok-place.ensures c.in_ok-number.ensures
+
+pub eval_place-returns-in_err-value : goal.eval_place-returns-in_err-value
+eval_place-returns-in_err-value t c = passed _ _ _ _ c.from_residual.ensures.1 c.in_err-value.ensures (λ k e. ap (λ o. and_then o (λ v. field_place c.args.set.now v)) e)
+
+pub eval_place-returns : goal.eval_place-returns
+eval_place-returns t c = same _ _ _ (ap (λ o. and_then o (λ v. field_place c.args.set.now v)) c.in_ok-value.ensures) c.place_in.ensures
+
+pub eval_choice-returns : goal.eval_choice-returns
+eval_choice-returns t c = same _ _ _ (counted_over _ _ c.in_ok-each.each c.in_ok-each.ensures) c.eval_fields.ensures
 
 pub eval_fields-returns : goal.eval_fields-returns
 eval_fields-returns t c = c.loop-field.invariant ∙ (ap (λ es. fields_after c.args.scope.now.content.now c.args.scope.now.uses (env_in c.args.names.now) es c.loop-field.rest.now c.args.each c.loop-field.number) (nothing_left c.args.fields.now c.loop-field.field-index (omega arith)) ∙ fields_end c.args.scope.now.content.now c.args.scope.now.uses (env_in c.args.names.now) c.loop-field.rest.now c.args.each c.loop-field.number)
 
 pub eval_front-returns-in_err-place-in-Some : goal.eval_front-returns-in_err-place-in-Some
-eval_front-returns-in_err-place-in-Some t c = passed _ _ _ _ c.from_residual-in_err-place-in-Some.ensures.1 c.in_err-place-in-Some.ensures (λ k e. front_of_sets c.args.scope.now.content.now c.args.scope.now.uses (env_in c.args.names.now) c.args.channel c.args.fields.now c.as_slice-channels.result.now c.in-Some.sets.now c.in_ok-each-in-Some.each (Err k) c.as_slice-channels.ensures c.in-Some.ensures c.in_ok-each-in-Some.ensures e)
+eval_front-returns-in_err-place-in-Some t c = passed _ _ _ _ c.from_residual.ensures.1 c.in_err-place-in-Some.ensures (λ k e. front_of_sets c.args.scope.now.content.now c.args.scope.now.uses (env_in c.args.names.now) c.args.channel c.args.fields.now c.as_slice-channels.result.now c.in-Some.sets.now (Err k) c.as_slice-channels.ensures c.in-Some.ensures e)
 
 pub eval_front-returns-in_ok-place-in-Some : goal.eval_front-returns-in_ok-place-in-Some
-eval_front-returns-in_ok-place-in-Some t c = same _ _ _ (front_of_sets c.args.scope.now.content.now c.args.scope.now.uses (env_in c.args.names.now) c.args.channel c.args.fields.now c.as_slice-channels.result.now c.in-Some.sets.now c.in_ok-each-in-Some.each (Ok c.in_ok-place-in-Some.place) c.as_slice-channels.ensures c.in-Some.ensures c.in_ok-each-in-Some.ensures c.in_ok-place-in-Some.ensures) c.event_at.ensures
+eval_front-returns-in_ok-place-in-Some t c = same _ _ _ (front_of_sets c.args.scope.now.content.now c.args.scope.now.uses (env_in c.args.names.now) c.args.channel c.args.fields.now c.as_slice-channels.result.now c.in-Some.sets.now (Ok c.in_ok-place-in-Some.place) c.as_slice-channels.ensures c.in-Some.ensures c.in_ok-place-in-Some.ensures) c.event_at.ensures
 
 pub eval_front-returns-in-None : goal.eval_front-returns-in-None
 eval_front-returns-in-None t c = front_without_sets c.args.scope.now.content.now c.args.scope.now.uses (env_in c.args.names.now) c.args.channel c.args.fields.now c.as_slice-channels.result.now c.as_slice-channels.ensures c.in-None.ensures
@@ -264,7 +271,7 @@ pub walk_first-returns-else-holds : goal.walk_first-returns-else-holds
 walk_first-returns-else-holds t c = walk_cond c.args.scope.now.content.now c.args.scope.now.uses c.args.first.now c.args.rest.now c.args.yields.now.items.now c.args.yields.now.parts.now (env_in c.args.names.now) (gathered_of c.args.tally) c.in-Cond.condition (Ok false) c.in-Cond.is (c.in_ok-holds-in-Cond.ensures ∙ ap (λ b. Ok b) c.if-holds.false)
 
 pub eval_expr-returns-in-Lit : goal.eval_expr-returns-in-Lit
-eval_expr-returns-in-Lit t c = same _ _ _ (worth_lit c.args.scope.now.content.now c.args.scope.now.uses (env_in c.args.names.now) c.args.expr.now c.in-Lit.value c.in-Lit.value c.in-Lit.is refl) c.literal.ensures
+eval_expr-returns-in-Lit t c = same _ _ _ (worth_lit c.args.scope.now.content.now c.args.scope.now.uses (env_in c.args.names.now) c.args.expr.now c.in-Lit.value c.in-Lit.value c.in-Lit.is refl) c.copied.ensures
 
 pub eval_number-returns-in_err-value : goal.eval_number-returns-in_err-value
 unfolding number_worth

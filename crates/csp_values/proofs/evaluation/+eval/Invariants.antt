@@ -26,7 +26,10 @@ abbrev pub decreases-eval_not : goal.decreases-eval_not
 decreases-eval_not l = cost l.scope.now.content.now l.scope.now.uses + weight l.a.now + 1
 
 abbrev pub decreases-eval_binary : goal.decreases-eval_binary
-decreases-eval_binary l = cost l.scope.now.content.now l.scope.now.uses + (weight l.a.now + weight l.b.now + 1)
+decreases-eval_binary l = cost l.scope.now.content.now l.scope.now.uses + (weight l.a.now + weight l.b.now + 2)
+
+abbrev pub decreases-eval_second : goal.decreases-eval_second
+decreases-eval_second l = cost l.scope.now.content.now l.scope.now.uses + weight l.b.now + 1
 
 abbrev pub decreases-eval_if : goal.decreases-eval_if
 decreases-eval_if l = cost l.scope.now.content.now l.scope.now.uses + (weight l.c.now + weight l.a.now + weight l.b.now + 2)
@@ -38,10 +41,10 @@ abbrev pub decreases-eval_set_name : goal.decreases-eval_set_name
 decreases-eval_set_name l = cost l.scope.now.content.now l.scope.now.uses + 1
 
 abbrev pub decreases-eval_event : goal.decreases-eval_event
-decreases-eval_event l = cost l.scope.now.content.now l.scope.now.uses + (weights l.fields.now + 3)
+decreases-eval_event l = cost l.scope.now.content.now l.scope.now.uses + (weights l.fields.now + 5)
 
 abbrev pub decreases-eval_display : goal.decreases-eval_display
-decreases-eval_display l = cost l.scope.now.content.now l.scope.now.uses + (weights l.items.now + 2)
+decreases-eval_display l = cost l.scope.now.content.now l.scope.now.uses + (weights l.items.now + 3)
 
 abbrev pub decreases-eval_range : goal.decreases-eval_range
 decreases-eval_range l = cost l.scope.now.content.now l.scope.now.uses + (weight l.a.now + weight l.b.now + 2)
@@ -50,10 +53,10 @@ abbrev pub decreases-eval_set_op : goal.decreases-eval_set_op
 decreases-eval_set_op l = cost l.scope.now.content.now l.scope.now.uses + (weight l.a.now + weight l.b.now + 2)
 
 abbrev pub decreases-eval_product : goal.decreases-eval_product
-decreases-eval_product l = cost l.scope.now.content.now l.scope.now.uses + (part_weights l.parts.now + gen_weights l.gens.now + 5)
+decreases-eval_product l = cost l.scope.now.content.now l.scope.now.uses + (part_weights l.parts.now + gen_weights l.gens.now + 6)
 
 abbrev pub decreases-eval_comprehension : goal.decreases-eval_comprehension
-decreases-eval_comprehension l = cost l.scope.now.content.now l.scope.now.uses + (weights l.items.now + part_weights l.parts.now + gen_weights l.gens.now + 4)
+decreases-eval_comprehension l = cost l.scope.now.content.now l.scope.now.uses + (weights l.items.now + part_weights l.parts.now + gen_weights l.gens.now + 5)
 
 abbrev pub decreases-eval_all : goal.decreases-eval_all
 decreases-eval_all l = cost l.scope.now.content.now l.scope.now.uses + (weights l.exprs.now + 1)
@@ -65,13 +68,22 @@ abbrev pub decreases-eval_body : goal.decreases-eval_body
 decreases-eval_body l = cost l.scope.now.content.now l.scope.now.uses + (body_weight l.def.now.body + 1)
 
 abbrev pub decreases-add_items : goal.decreases-add_items
-decreases-add_items l = cost l.scope.now.content.now l.scope.now.uses + (weights l.items.now + 1)
+decreases-add_items l = cost l.scope.now.content.now l.scope.now.uses + (weights l.items.now + 2)
+
+abbrev pub decreases-add_item : goal.decreases-add_item
+decreases-add_item l = cost l.scope.now.content.now l.scope.now.uses + weight l.item.now + 1
 
 abbrev pub decreases-eval_fields : goal.decreases-eval_fields
-decreases-eval_fields l = cost l.scope.now.content.now l.scope.now.uses + (weights l.fields.now + 1)
+decreases-eval_fields l = cost l.scope.now.content.now l.scope.now.uses + (weights l.fields.now + 2)
+
+abbrev pub decreases-eval_place : goal.decreases-eval_place
+decreases-eval_place l = cost l.scope.now.content.now l.scope.now.uses + weight l.expr.now + 1
+
+abbrev pub decreases-eval_choice : goal.decreases-eval_choice
+decreases-eval_choice l = cost l.scope.now.content.now l.scope.now.uses + (weights l.fields.now + 3)
 
 abbrev pub decreases-eval_front : goal.decreases-eval_front
-decreases-eval_front l = cost l.scope.now.content.now l.scope.now.uses + (weights l.fields.now + 2)
+decreases-eval_front l = cost l.scope.now.content.now l.scope.now.uses + (weights l.fields.now + 4)
 
 abbrev pub decreases-add_front : goal.decreases-add_front
 decreases-add_front l = cost l.scope.now.content.now l.scope.now.uses + part_weight l.part.now
@@ -80,16 +92,16 @@ abbrev pub decreases-add_fronts : goal.decreases-add_fronts
 decreases-add_fronts l = cost l.scope.now.content.now l.scope.now.uses + (part_weights l.parts.now + 1)
 
 abbrev pub decreases-gather : goal.decreases-gather
-decreases-gather l = cost l.scope.now.content.now l.scope.now.uses + (weights l.yields.now.items.now + part_weights l.yields.now.parts.now + 2)
+decreases-gather l = cost l.scope.now.content.now l.scope.now.uses + (weights l.yields.now.items.now + part_weights l.yields.now.parts.now + 3)
 
 abbrev pub decreases-walk : goal.decreases-walk
-decreases-walk l = cost l.scope.now.content.now l.scope.now.uses + (weights l.yields.now.items.now + part_weights l.yields.now.parts.now + gen_weights l.gens.now + 3)
+decreases-walk l = cost l.scope.now.content.now l.scope.now.uses + (weights l.yields.now.items.now + part_weights l.yields.now.parts.now + gen_weights l.gens.now + 4)
 
 abbrev pub decreases-walk_first : goal.decreases-walk_first
-decreases-walk_first l = cost l.scope.now.content.now l.scope.now.uses + (weights l.yields.now.items.now + part_weights l.yields.now.parts.now + gen_weight l.first.now + gen_weights l.rest.now + 2)
+decreases-walk_first l = cost l.scope.now.content.now l.scope.now.uses + (weights l.yields.now.items.now + part_weights l.yields.now.parts.now + gen_weight l.first.now + gen_weights l.rest.now + 3)
 
 abbrev pub decreases-walk_each : goal.decreases-walk_each
-decreases-walk_each l = cost l.scope.now.content.now l.scope.now.uses + (weights l.yields.now.items.now + part_weights l.yields.now.parts.now + gen_weights l.rest.now + 4)
+decreases-walk_each l = cost l.scope.now.content.now l.scope.now.uses + (weights l.yields.now.items.now + part_weights l.yields.now.parts.now + gen_weights l.rest.now + 5)
 
 -- the expressions that are left are still to be evaluated
 abbrev pub invariant-eval_all-loop-expr : goal.invariant-eval_all-loop-expr
