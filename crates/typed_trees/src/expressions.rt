@@ -1,6 +1,7 @@
 //! Trees as expressions.
 
-ghost use Rattle.std.specs.Prelude.{◌≡◌, ◌+◌, pos, IfOk, OnOk};
+ghost use Rattle.std.specs.Prelude.{◌≡◌, ℕ, ◌+◌, pos, IfOk, OnOk};
+ghost use Rattle.csp_text.specs.Depth.{capped};
 ghost use Rattle.script_names.specs.Typed.{with};
 ghost use Rattle.typed_trees.specs.Tokens.{all_tokens, gen_tokens, gens_tokens, part_tokens, parts_tokens, tokens};
 ghost use Rattle.typed_trees.specs.Words.{expr_of, exprs_of, gen_of, gen_scope, gens_of, gens_scope, part_of, parts_of};
@@ -8,7 +9,6 @@ ghost use Rattle.typed_trees.specs.Scopes.{Keeps};
 
 use crate::binders::{Binders, Meanings, leave, take_number};
 use crate::counts::{after, count_parts, count_tree, count_trees};
-use crate::made::{on_heap, push_made};
 use crate::names::{channel_number, definition_number, name};
 use containers::{Boxed, Items};
 use csp_base::{Name, NoMemory};
@@ -43,33 +43,27 @@ pub(crate) fn expression(
         Tree::False => Ok(Expr::Truth(false)),
         Tree::Name(x) => Ok(name(meanings, &binders.scope, x)),
         Tree::Call(f, args) => {
-            let args = expressions(meanings, binders, args.as_slice())?;
-            Ok(Expr::Call(definition_number(meanings.names.find(f)), args))
+            let def = definition_number(meanings.names.find(f));
+            expressions(meanings, binders, args.as_slice()).map(|args| Expr::Call(def, args))
         }
         Tree::Dot(c, fields) => {
-            let fields = expressions(meanings, binders, fields.as_slice())?;
-            Ok(Expr::Event(channel_number(meanings.names.find(c)), fields))
+            let channel = channel_number(meanings.names.find(c));
+            expressions(meanings, binders, fields.as_slice()).map(|fields| Expr::Event(
+                channel, fields,
+            ))
         }
-        Tree::Neg(a) => Ok(Expr::Neg(boxed(meanings, binders, a.get())?)),
-        Tree::Not(a) => Ok(Expr::Not(boxed(meanings, binders, a.get())?)),
+        Tree::Neg(a) => boxed(meanings, binders, a.get()).map(Expr::Neg),
+        Tree::Not(a) => boxed(meanings, binders, a.get()).map(Expr::Not),
         Tree::Binary(op, a, b) => {
-            let (a, b) = two(meanings, binders, a, b)?;
-            Ok(Expr::Binary(*op, a, b))
+            two(meanings, binders, a, b).map(|(a, b)| Expr::Binary(*op, a, b))
         }
         Tree::If(c, a, b) => choice(meanings, binders, c, a, b),
-        Tree::Display(items) => {
-            let items = expressions(meanings, binders, items.as_slice())?;
-            Ok(Expr::Display(items))
-        }
-        Tree::Range(a, b) => {
-            let (a, b) = two(meanings, binders, a, b)?;
-            Ok(Expr::Range(a, b))
-        }
+        Tree::Display(items) => expressions(meanings, binders, items.as_slice()).map(Expr::Display),
+        Tree::Range(a, b) => two(meanings, binders, a, b).map(|(a, b)| Expr::Range(a, b)),
         Tree::Comp(items, gens) => comprehension(meanings, binders, items, gens),
         Tree::Product(parts, gens) => product(meanings, binders, parts, gens),
         Tree::SetOp(op, a, b) => {
-            let (a, b) = two(meanings, binders, a, b)?;
-            Ok(Expr::SetOp(*op, a, b))
+            two(meanings, binders, a, b).map(|(a, b)| Expr::SetOp(*op, a, b))
         }
         _ => no_expression(binders, tree),
     }
@@ -107,8 +101,7 @@ fn choice(
     ensures scope { OnOk result (binders.new.scope ≡ binders.old.scope) }
 {
     let c = boxed(meanings, binders, c.get())?;
-    let (a, b) = two(meanings, binders, a, b)?;
-    Ok(Expr::If(c, a, b))
+    two(meanings, binders, a, b).map(|(a, b)| Expr::If(c, a, b))
 }
 
 // The set of some expressions under generators.
@@ -124,15 +117,12 @@ fn comprehension(
     ensures scope { OnOk result (binders.new.scope ≡ binders.old.scope) }
 {
     let kept = binders.scope.len();
-    let first = binders.next;
-    binders.next = after(first, count_trees(items.as_slice()))?;
-    let gens = generators(meanings, binders, gens.as_slice())?;
-    let last = binders.next;
-    binders.next = first;
-    let items = expressions(meanings, binders, items.as_slice())?;
+    let count = count_trees(items.as_slice());
+    let (gens, last) = generators_after(meanings, binders, count, gens.as_slice())?;
+    let items = expressions(meanings, binders, items.as_slice());
     binders.next = last;
     leave(binders, kept);
-    Ok(Expr::Comp(items, gens))
+    items.map(|items| Expr::Comp(items, gens))
 }
 
 // The set of the events that begin with some fronts, under generators.
@@ -148,15 +138,12 @@ fn product(
     ensures scope { OnOk result (binders.new.scope ≡ binders.old.scope) }
 {
     let kept = binders.scope.len();
-    let first = binders.next;
-    binders.next = after(first, count_parts(parts.as_slice()))?;
-    let gens = generators(meanings, binders, gens.as_slice())?;
-    let last = binders.next;
-    binders.next = first;
-    let parts = fronts(meanings, binders, parts.as_slice())?;
+    let count = count_parts(parts.as_slice());
+    let (gens, last) = generators_after(meanings, binders, count, gens.as_slice())?;
+    let parts = fronts(meanings, binders, parts.as_slice());
     binders.next = last;
     leave(binders, kept);
-    Ok(Expr::Product(parts, gens))
+    parts.map(|parts| Expr::Product(parts, gens))
 }
 
 /// A tree as an expression on the heap.
@@ -170,8 +157,8 @@ pub(crate) fn boxed(
     ensures next { OnOk result (binders.new.next ≡ binders.old.next + tokens tree.now) }
     ensures scope { OnOk result (binders.new.scope ≡ binders.old.scope) }
 {
-    let made = expression(meanings, binders, tree);
-    on_heap(meanings.alloc, made)
+    let alloc = meanings.alloc;
+    expression(meanings, binders, tree).and_then(|made| Boxed::new(alloc, made))
 }
 
 /// Trees as expressions, numbered one after another.
@@ -187,8 +174,7 @@ pub(crate) fn expressions(
 {
     let mut made = Items::new(meanings.alloc);
     for tree in trees {
-        let part = expression(meanings, binders, tree);
-        push_made(&mut made, part)?;
+        made.push_made(expression(meanings, binders, tree))?;
     }
     Ok(made)
 }
@@ -206,9 +192,25 @@ pub(crate) fn bind_over(
     ensures next { OnOk result (binders.new.next ≡ binders.old.next + 1 + tokens set.now) }
     ensures scope { OnOk result (binders.new.scope ≡ with binders.old.scope x.now binders.old.next) }
 {
+    let (number, set) = numbered(meanings, binders, set)?;
+    binders.scope.bind(x, number)?;
+    Ok((number, set))
+}
+
+// The number of a name that takes the values of a set, and the set.
+#[cycle(typed_expr)]
+fn numbered(
+    meanings: &Meanings<'_>,
+    binders: &mut Binders,
+    set: &Tree,
+) -> Result<(u32, Boxed<Expr>), NoMemory>
+    ensures number { IfOk result (λ made. made.0 ≡ binders.old.next) }
+    ensures set { IfOk result (λ made. made.1 ≡ expr_of meanings.now.names.now meanings.now.kinds.now set.now binders.old.scope (binders.old.next + 1)) }
+    ensures next { OnOk result (binders.new.next ≡ binders.old.next + 1 + tokens set.now) }
+    ensures scope { OnOk result (binders.new.scope ≡ binders.old.scope) }
+{
     let number = take_number(binders)?;
     let set = boxed(meanings, binders, set)?;
-    binders.scope.bind(x, number)?;
     Ok((number, set))
 }
 
@@ -227,10 +229,12 @@ fn generator(
 {
     match tree {
         GenTree::From(x, set) => {
-            let (number, set) = bind_over(meanings, binders, x, set)?;
-            Ok(Gen::From(number, set.into_inner()))
+            bind_over(meanings, binders, x, set).map(|(number, set)| Gen::From(
+                number,
+                set.into_inner(),
+            ))
         }
-        GenTree::Cond(condition) => { Ok(Gen::Cond(expression(meanings, binders, condition)?)) }
+        GenTree::Cond(condition) => expression(meanings, binders, condition).map(Gen::Cond),
     }
 }
 
@@ -249,10 +253,31 @@ pub(crate) fn generators(
 {
     let mut made = Items::new(meanings.alloc);
     for tree in trees {
-        let part = generator(meanings, binders, tree);
-        push_made(&mut made, part)?;
+        made.push_made(generator(meanings, binders, tree))?;
     }
     Ok(made)
+}
+
+/// Generators whose tokens come after so many others: the generators, and the number of the token after theirs. The next token stays the one that it was.
+#[cycle(typed_expr)]
+pub(crate) fn generators_after(
+    meanings: &Meanings<'_>,
+    binders: &mut Binders,
+    count: u32,
+    trees: &[GenTree],
+) -> Result<(Items<Gen>, u32), NoMemory>
+    ensures made { IfOk result (λ made. (n : ℕ) → count ≡ capped n → made.0 ≡ gens_of meanings.now.names.now meanings.now.kinds.now trees.now binders.old.scope (binders.old.next + n)) }
+    ensures last { IfOk result (λ made. (n : ℕ) → count ≡ capped n → made.1 ≡ binders.old.next + n + gens_tokens trees.now) }
+    ensures next { OnOk result (binders.new.next ≡ binders.old.next) }
+    ensures scope { OnOk result ((n : ℕ) → count ≡ capped n → binders.new.scope ≡ gens_scope meanings.now.names.now meanings.now.kinds.now trees.now binders.old.scope (binders.old.next + n)) }
+    ensures keeps { OnOk result (Keeps binders.old.scope binders.new.scope) }
+{
+    let first = binders.next;
+    binders.next = after(first, count)?;
+    let gens = generators(meanings, binders, trees)?;
+    let last = binders.next;
+    binders.next = first;
+    Ok((gens, last))
 }
 
 /// The front of an event.
@@ -268,8 +293,10 @@ pub(crate) fn front(
     ensures scope { OnOk result (binders.new.scope ≡ binders.old.scope) }
 {
     let channel = channel_number(meanings.names.find(&part.name));
-    let fields = expressions(meanings, binders, part.fields.as_slice())?;
-    Ok(EventPart { channel, fields })
+    expressions(meanings, binders, part.fields.as_slice()).map(|fields| EventPart {
+        channel,
+        fields,
+    })
 }
 
 // The fronts of events, numbered one after another.
@@ -285,8 +312,7 @@ fn fronts(
 {
     let mut made = Items::new(meanings.alloc);
     for part in parts {
-        let part = front(meanings, binders, part);
-        push_made(&mut made, part)?;
+        made.push_made(front(meanings, binders, part))?;
     }
     Ok(made)
 }

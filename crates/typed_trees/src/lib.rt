@@ -5,7 +5,6 @@ mod binders;
 mod calls;
 mod counts;
 mod expressions;
-mod made;
 mod names;
 mod networks;
 mod processes;

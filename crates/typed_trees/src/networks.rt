@@ -10,12 +10,11 @@ ghost use Rattle.typed_trees.specs.Words.{expr_of, exprs_of, net_of, networked_i
 
 use crate::binders::{Binders, Meanings, leave};
 use crate::expressions::{bind_over, boxed as boxed_expr, expressions, two};
-use crate::made::on_heap;
 use crate::names::definition_number;
 use crate::processes::process;
 use containers::{Boxed, Items};
 use csp_base::{Name, NoMemory};
-use csp_program::Net;
+use csp_program::{Expr, Net};
 use csp_text::Tree;
 use name_tables::Scope;
 use name_tables::ends::sense_in;
@@ -96,9 +95,8 @@ fn call(
     ensures next { OnOk result (binders.new.next ≡ binders.old.next + all_tokens args.now) }
     ensures scope { OnOk result (binders.new.scope ≡ binders.old.scope) }
 {
-    let args = expressions(meanings, binders, args.as_slice())?;
     let def = definition_number(meanings.names.find(f));
-    Ok(Net::Call(def, args))
+    expressions(meanings, binders, args.as_slice()).map(|args| Net::Call(def, args))
 }
 
 // One of two networks.
@@ -115,9 +113,8 @@ fn choice(
     ensures scope { OnOk result (binders.new.scope ≡ binders.old.scope) }
 {
     let c = boxed_expr(meanings, binders, c.get())?;
-    let p = boxed(meanings, binders, p.get())?;
-    let q = boxed(meanings, binders, q.get())?;
-    Ok(Net::If(c.into_inner(), p, q))
+    let p = boxed(meanings, binders, p)?;
+    boxed(meanings, binders, q).map(|q| Net::If(c.into_inner(), p, q))
 }
 
 // Two networks in parallel.
@@ -134,10 +131,9 @@ fn pair(
     ensures next { OnOk result (binders.new.next ≡ binders.old.next + tokens p.now + tokens a.now + tokens b.now + tokens q.now) }
     ensures scope { OnOk result (binders.new.scope ≡ binders.old.scope) }
 {
-    let p = boxed(meanings, binders, p.get())?;
+    let p = boxed(meanings, binders, p)?;
     let (a, b) = two(meanings, binders, a, b)?;
-    let q = boxed(meanings, binders, q.get())?;
-    Ok(Net::Pair(p, a.into_inner(), b.into_inner(), q))
+    boxed(meanings, binders, q).map(|q| Net::Pair(p, a.into_inner(), b.into_inner(), q))
 }
 
 // Networks in parallel over the values of a set.
@@ -155,11 +151,29 @@ fn each(
     ensures scope { OnOk result (binders.new.scope ≡ binders.old.scope) }
 {
     let kept = binders.scope.len();
+    let (number, set, a) = sets_over(meanings, binders, x, set, a)?;
+    let p = boxed(meanings, binders, p);
+    leave(binders, kept);
+    p.map(|p| Net::Each(number, set.into_inner(), a.into_inner(), p))
+}
+
+// Binds the name `x` that takes the values of a set: its number, the set and, under the name, the alphabet.
+fn sets_over(
+    meanings: &Meanings<'_>,
+    binders: &mut Binders,
+    x: &Name,
+    set: &Boxed<Tree>,
+    a: &Boxed<Tree>,
+) -> Result<(u32, Boxed<Expr>, Boxed<Expr>), NoMemory>
+    ensures number { IfOk result (λ made. made.0 ≡ binders.old.next) }
+    ensures set { IfOk result (λ made. made.1 ≡ expr_of meanings.now.names.now meanings.now.kinds.now set.now binders.old.scope (binders.old.next + 1)) }
+    ensures alphabet { IfOk result (λ made. made.2 ≡ expr_of meanings.now.names.now meanings.now.kinds.now a.now (with binders.old.scope x.now binders.old.next) (binders.old.next + 1 + tokens set.now)) }
+    ensures next { OnOk result (binders.new.next ≡ binders.old.next + 1 + tokens set.now + tokens a.now) }
+    ensures scope { OnOk result (binders.new.scope ≡ with binders.old.scope x.now binders.old.next) }
+{
     let (number, set) = bind_over(meanings, binders, x, set.get())?;
     let a = boxed_expr(meanings, binders, a.get())?;
-    let p = boxed(meanings, binders, p.get())?;
-    leave(binders, kept);
-    Ok(Net::Each(number, set.into_inner(), a.into_inner(), p))
+    Ok((number, set, a))
 }
 
 // A tree as a component.
@@ -168,7 +182,7 @@ fn leaf(meanings: &Meanings<'_>, binders: &mut Binders, tree: &Tree) -> Result<N
     ensures next { OnOk result (binders.new.next ≡ binders.old.next + tokens tree.now) }
     ensures scope { OnOk result (binders.new.scope ≡ binders.old.scope) }
 {
-    Ok(Net::Leaf(process(meanings, binders, tree)?))
+    process(meanings, binders, tree).map(Net::Leaf)
 }
 
 // A tree as a network on the heap.
@@ -176,12 +190,12 @@ fn leaf(meanings: &Meanings<'_>, binders: &mut Binders, tree: &Tree) -> Result<N
 fn boxed(
     meanings: &Meanings<'_>,
     binders: &mut Binders,
-    tree: &Tree,
+    tree: &Boxed<Tree>,
 ) -> Result<Boxed<Net>, NoMemory>
     ensures made { IfOk result (λ made. made ≡ net_of meanings.now.names.now meanings.now.kinds.now tree.now binders.old.scope binders.old.next) }
     ensures next { OnOk result (binders.new.next ≡ binders.old.next + tokens tree.now) }
     ensures scope { OnOk result (binders.new.scope ≡ binders.old.scope) }
 {
-    let made = network(meanings, binders, tree);
-    on_heap(meanings.alloc, made)
+    let alloc = meanings.alloc;
+    network(meanings, binders, tree.get()).and_then(|made| Boxed::new(alloc, made))
 }

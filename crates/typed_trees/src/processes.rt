@@ -1,17 +1,16 @@
 //! Trees as processes.
 
-ghost use Rattle.std.specs.Prelude.{◌≡◌, ◌+◌, IfOk, IsOkAnd, OnOk};
+ghost use Rattle.std.specs.Prelude.{◌≡◌, ◌+◌, IfOk, OnOk};
 ghost use Rattle.script_names.specs.Typed.{with};
 ghost use Rattle.typed_trees.specs.Scopes.{Keeps};
-ghost use Rattle.typed_trees.specs.Tokens.{all_tokens, field_tokens, fields_tokens, gens_tokens, pairs_tokens, set_tokens, tokens};
-ghost use Rattle.typed_trees.specs.Words.{expr_of, field_of, field_scope, fields_of, fields_scope, gens_of, gens_scope, pairs_of, proc_of, procs_of, set_of};
+ghost use Rattle.typed_trees.specs.Tokens.{all_tokens, field_tokens, fields_tokens, gens_tokens, pairs_tokens, part_tokens, set_tokens, tokens};
+ghost use Rattle.typed_trees.specs.Words.{expr_of, field_of, field_scope, fields_of, fields_scope, gens_of, gens_scope, pairs_of, part_of, proc_of, procs_of, set_of};
 
 use crate::binders::{Binders, Meanings, leave, take_number};
 use crate::counts::{after, count_pairs, count_tree};
 use crate::expressions::{
-    bind_over, boxed as boxed_expr, expression, expressions, front, generators,
+    bind_over, boxed as boxed_expr, expression, expressions, front, generators_after,
 };
-use crate::made::{on_heap, push_made};
 use crate::names::{definition_number, head};
 use containers::{Boxed, Items};
 use csp_base::{Name, NoMemory};
@@ -29,10 +28,7 @@ fn input_set(
     ensures scope { OnOk result (binders.new.scope ≡ binders.old.scope) }
 {
     match set {
-        Some(set) => {
-            let set = boxed_expr(meanings, binders, set)?;
-            Ok(Some(set))
-        }
+        Some(set) => boxed_expr(meanings, binders, set).map(Some),
         None => Ok(None),
     }
 }
@@ -58,17 +54,25 @@ fn input(
     ensures next { OnOk result (binders.new.next ≡ binders.old.next + 1 + set_tokens set.now) }
     ensures scope { OnOk result (binders.new.scope ≡ with binders.old.scope x.now binders.old.next) }
 {
-    let number = take_number(binders)?;
-    let set = input_set(meanings, binders, set)?;
+    let (number, set) = numbered_set(meanings, binders, set)?;
     binders.scope.bind(x, number)?;
     Ok(Field::Get(number, unboxed(set)))
 }
 
-// What an event puts out, once it was made.
-fn put(value: Result<Expr, NoMemory>) -> Result<Field, NoMemory>
-    ensures { IfOk result (λ field. IsOkAnd value (λ value. field ≡ Field.Put value)) }
+// The number of the name of an input, and its set, where it has one.
+fn numbered_set(
+    meanings: &Meanings<'_>,
+    binders: &mut Binders,
+    set: &Option<Tree>,
+) -> Result<(u32, Option<Boxed<Expr>>), NoMemory>
+    ensures number { IfOk result (λ made. made.0 ≡ binders.old.next) }
+    ensures set { IfOk result (λ made. made.1 ≡ set_of meanings.now.names.now meanings.now.kinds.now set.now binders.old.scope (binders.old.next + 1)) }
+    ensures next { OnOk result (binders.new.next ≡ binders.old.next + 1 + set_tokens set.now) }
+    ensures scope { OnOk result (binders.new.scope ≡ binders.old.scope) }
 {
-    Ok(Field::Put(value?))
+    let number = take_number(binders)?;
+    let set = input_set(meanings, binders, set)?;
+    Ok((number, set))
 }
 
 // A field. Its name is bound afterwards.
@@ -83,7 +87,9 @@ fn field(
     ensures keeps { OnOk result (Keeps binders.old.scope binders.new.scope) }
 {
     match tree {
-        FieldTree::Dot(a) | FieldTree::Output(a) => put(expression(meanings, binders, a)),
+        FieldTree::Dot(a) | FieldTree::Output(a) => expression(meanings, binders, a).map(
+            Field::Put,
+        ),
         FieldTree::Input(x, set) => input(meanings, binders, x, set),
     }
 }
@@ -102,8 +108,7 @@ fn fields(
 {
     let mut made = Items::new(meanings.alloc);
     for tree in trees {
-        let part = field(meanings, binders, tree);
-        push_made(&mut made, part)?;
+        made.push_made(field(meanings, binders, tree))?;
     }
     Ok(made)
 }
@@ -120,11 +125,25 @@ fn pairs(
 {
     let mut made = Items::new(meanings.alloc);
     for tree in trees {
-        let old = front(meanings, binders, &tree.0)?;
-        let new = front(meanings, binders, &tree.1)?;
-        made.push((old, new))?;
+        made.push_made(pair(meanings, binders, tree))?;
     }
     Ok(made)
+}
+
+// A pair of a renaming.
+fn pair(
+    meanings: &Meanings<'_>,
+    binders: &mut Binders,
+    tree: &(PartTree, PartTree),
+) -> Result<(EventPart, EventPart), NoMemory>
+    ensures old { IfOk result (λ made. made.0 ≡ part_of meanings.now.names.now meanings.now.kinds.now tree.now.0 binders.old.scope binders.old.next) }
+    ensures new { IfOk result (λ made. made.1 ≡ part_of meanings.now.names.now meanings.now.kinds.now tree.now.1 binders.old.scope (binders.old.next + part_tokens tree.now.0)) }
+    ensures next { OnOk result (binders.new.next ≡ binders.old.next + part_tokens tree.now.0 + part_tokens tree.now.1) }
+    ensures scope { OnOk result (binders.new.scope ≡ binders.old.scope) }
+{
+    let old = front(meanings, binders, &tree.0)?;
+    let new = front(meanings, binders, &tree.1)?;
+    Ok((old, new))
 }
 
 // What stands for data where a process is needed, which it never is in a script without faults.
@@ -159,22 +178,18 @@ pub(crate) fn process(
         Tree::If(c, p, q) => choice(meanings, binders, c, p, q),
         Tree::Prefix(event, p) => prefix(meanings, binders, event, p),
         Tree::Guard(c, p) => guard(meanings, binders, c, p),
-        Tree::External(ps) => {
-            let ps = processes(meanings, binders, ps.as_slice())?;
-            Ok(Proc::External(ps))
-        }
-        Tree::Internal(ps) => {
-            let ps = processes(meanings, binders, ps.as_slice())?;
-            Ok(Proc::Internal(ps))
-        }
-        Tree::EachExternal(x, set, p) => {
-            let (number, set, p) = for_each(meanings, binders, x, set, p)?;
-            Ok(Proc::EachExternal(number, set.into_inner(), p))
-        }
-        Tree::EachInternal(x, set, p) => {
-            let (number, set, p) = for_each(meanings, binders, x, set, p)?;
-            Ok(Proc::EachInternal(number, set.into_inner(), p))
-        }
+        Tree::External(ps) => processes(meanings, binders, ps.as_slice()).map(Proc::External),
+        Tree::Internal(ps) => processes(meanings, binders, ps.as_slice()).map(Proc::Internal),
+        Tree::EachExternal(x, set, p) => for_each(meanings, binders, x, set, p).map(|(
+            number,
+            set,
+            p,
+        )| Proc::EachExternal(number, set.into_inner(), p)),
+        Tree::EachInternal(x, set, p) => for_each(meanings, binders, x, set, p).map(|(
+            number,
+            set,
+            p,
+        )| Proc::EachInternal(number, set.into_inner(), p)),
         Tree::Seq(p, q) => sequence(meanings, binders, p, q),
         Tree::Hide(p, set) => hiding(meanings, binders, p, set),
         Tree::Rename(p, sides, gens) => renaming(meanings, binders, p, sides, gens),
@@ -194,9 +209,8 @@ fn call(
     ensures next { OnOk result (binders.new.next ≡ binders.old.next + tokens (Tree.Call f.now args.now)) }
     ensures scope { OnOk result (binders.new.scope ≡ binders.old.scope) }
 {
-    let args = expressions(meanings, binders, args.as_slice())?;
     let def = definition_number(meanings.names.find(f));
-    Ok(Proc::Call(def, args))
+    expressions(meanings, binders, args.as_slice()).map(|args| Proc::Call(def, args))
 }
 
 // One of two processes.
@@ -213,9 +227,8 @@ fn choice(
     ensures scope { OnOk result (binders.new.scope ≡ binders.old.scope) }
 {
     let c = boxed_expr(meanings, binders, c.get())?;
-    let p = boxed(meanings, binders, p.get())?;
-    let q = boxed(meanings, binders, q.get())?;
-    Ok(Proc::If(c.into_inner(), p, q))
+    let p = boxed(meanings, binders, p)?;
+    boxed(meanings, binders, q).map(|q| Proc::If(c.into_inner(), p, q))
 }
 
 // A prefix of a process.
@@ -231,13 +244,13 @@ fn prefix(
     ensures scope { OnOk result (binders.new.scope ≡ binders.old.scope) }
 {
     let kept = binders.scope.len();
+    let fields = fields(meanings, binders, event.fields.as_slice())?;
+    let p = boxed(meanings, binders, p)?;
+    leave(binders, kept);
     let first = head(
         binders.scope.find(&event.name),
         meanings.names.find(&event.name),
     );
-    let fields = fields(meanings, binders, event.fields.as_slice())?;
-    let p = boxed(meanings, binders, p.get())?;
-    leave(binders, kept);
     Ok(Proc::Prefix(first, fields, p))
 }
 
@@ -254,8 +267,7 @@ fn guard(
     ensures scope { OnOk result (binders.new.scope ≡ binders.old.scope) }
 {
     let c = boxed_expr(meanings, binders, c.get())?;
-    let p = boxed(meanings, binders, p.get())?;
-    Ok(Proc::Guard(c.into_inner(), p))
+    boxed(meanings, binders, p).map(|p| Proc::Guard(c.into_inner(), p))
 }
 
 // A process for a value of a set: the number of its name, the set and the process.
@@ -275,9 +287,9 @@ fn for_each(
 {
     let kept = binders.scope.len();
     let (number, set) = bind_over(meanings, binders, x, set.get())?;
-    let p = boxed(meanings, binders, p.get())?;
+    let p = boxed(meanings, binders, p);
     leave(binders, kept);
-    Ok((number, set, p))
+    p.map(|p| (number, set, p))
 }
 
 // One process after the other.
@@ -292,9 +304,8 @@ fn sequence(
     ensures next { OnOk result (binders.new.next ≡ binders.old.next + tokens (Tree.Seq p.now q.now)) }
     ensures scope { OnOk result (binders.new.scope ≡ binders.old.scope) }
 {
-    let p = boxed(meanings, binders, p.get())?;
-    let q = boxed(meanings, binders, q.get())?;
-    Ok(Proc::Seq(p, q))
+    let p = boxed(meanings, binders, p)?;
+    boxed(meanings, binders, q).map(|q| Proc::Seq(p, q))
 }
 
 // A process with a set hidden.
@@ -309,9 +320,8 @@ fn hiding(
     ensures next { OnOk result (binders.new.next ≡ binders.old.next + tokens (Tree.Hide p.now set.now)) }
     ensures scope { OnOk result (binders.new.scope ≡ binders.old.scope) }
 {
-    let p = boxed(meanings, binders, p.get())?;
-    let set = boxed_expr(meanings, binders, set.get())?;
-    Ok(Proc::Hide(p, set.into_inner()))
+    let p = boxed(meanings, binders, p)?;
+    boxed_expr(meanings, binders, set.get()).map(|set| Proc::Hide(p, set.into_inner()))
 }
 
 // The pairs of a renaming and its generators.
@@ -327,15 +337,12 @@ fn sides_under(
     ensures scope { OnOk result (binders.new.scope ≡ binders.old.scope) }
 {
     let kept = binders.scope.len();
-    let first = binders.next;
-    binders.next = after(first, count_pairs(sides.as_slice()))?;
-    let gens = generators(meanings, binders, gens.as_slice())?;
-    let last = binders.next;
-    binders.next = first;
-    let sides = pairs(meanings, binders, sides.as_slice())?;
+    let count = count_pairs(sides.as_slice());
+    let (gens, last) = generators_after(meanings, binders, count, gens.as_slice())?;
+    let sides = pairs(meanings, binders, sides.as_slice());
     binders.next = last;
     leave(binders, kept);
-    Ok((sides, gens))
+    sides.map(|sides| (sides, gens))
 }
 
 // A process renamed.
@@ -351,9 +358,8 @@ fn renaming(
     ensures next { OnOk result (binders.new.next ≡ binders.old.next + tokens (Tree.Rename p.now sides.now gens.now)) }
     ensures scope { OnOk result (binders.new.scope ≡ binders.old.scope) }
 {
-    let p = boxed(meanings, binders, p.get())?;
-    let (sides, gens) = sides_under(meanings, binders, sides, gens)?;
-    Ok(Proc::Rename(p, sides, gens))
+    let p = boxed(meanings, binders, p)?;
+    sides_under(meanings, binders, sides, gens).map(|(sides, gens)| Proc::Rename(p, sides, gens))
 }
 
 // A tree as a process on the heap.
@@ -361,14 +367,14 @@ fn renaming(
 fn boxed(
     meanings: &Meanings<'_>,
     binders: &mut Binders,
-    tree: &Tree,
+    tree: &Boxed<Tree>,
 ) -> Result<Boxed<Proc>, NoMemory>
     ensures made { IfOk result (λ made. made ≡ proc_of meanings.now.names.now meanings.now.kinds.now tree.now binders.old.scope binders.old.next) }
     ensures next { OnOk result (binders.new.next ≡ binders.old.next + tokens tree.now) }
     ensures scope { OnOk result (binders.new.scope ≡ binders.old.scope) }
 {
-    let made = process(meanings, binders, tree);
-    on_heap(meanings.alloc, made)
+    let alloc = meanings.alloc;
+    process(meanings, binders, tree.get()).and_then(|made| Boxed::new(alloc, made))
 }
 
 // Trees as processes, numbered one after another.
@@ -384,8 +390,7 @@ fn processes(
 {
     let mut made = Items::new(meanings.alloc);
     for tree in trees {
-        let part = process(meanings, binders, tree);
-        push_made(&mut made, part)?;
+        made.push_made(process(meanings, binders, tree))?;
     }
     Ok(made)
 }

@@ -1,9 +1,10 @@
-use Rattle.std.proofs.Common.{◌≡◌, ℕ, ◌+◌, Result, Ok, Err, OnOk, take, ◌∙◌, arith}
+use Rattle.std.proofs.Common.{◌≡◌, ℕ, ◌+◌, Result, Ok, Err, OnOk, take, ap, ◌∙◌, arith}
 use Rattle.typed_trees.proofs.ExprForms.{expr_of-If, expr_of-Comp, expr_of-Product, gen_of-From, gen_scope-From}
 use Rattle.typed_trees.proofs.OtherForms.{expr_of-other}
 use Rattle.typed_trees.proofs.TokenForms.{tokens-If, tokens-Comp, tokens-Product, gen_tokens-From}
-use Rattle.typed_trees.proofs.Scopes.{keeps_longer}
-use Rattle.typed_trees.specs.Tokens.{all_tokens, parts_tokens}
+use Rattle.typed_trees.proofs.Scopes.{carried, keeps_longer}
+use Rattle.typed_trees.specs.Tokens.{all_tokens, gens_tokens, parts_tokens}
+use Rattle.typed_trees.specs.Words.{gens_of, gens_scope}
 use Rattle.typed_trees.proofs.expressions.+typed_expr.Goals as goal
 
 -- two numbers, and three, that are added one after another
@@ -61,40 +62,61 @@ expression-returns-in-If t c = record {
   scope = c.choice.ensures.scope;
 }
 
+pub generators_after-returns-clause-made : goal.generators_after-returns-clause-made
+generators_after-returns-clause-made t c = λ n is. c.in_ok-gens.ensures.made ∙ ap (gens_of c.args.meanings.now.names.now c.args.meanings.now.kinds.now c.args.trees.now c.args.binders.now.scope) (c.in_ok-binders.ensures n is)
+
+pub generators_after-returns-clause-last : goal.generators_after-returns-clause-last
+generators_after-returns-clause-last t c = λ n is. c.in_ok-gens.ensures.next ∙ ap (λ k. k + gens_tokens c.args.trees.now) (c.in_ok-binders.ensures n is)
+
+pub generators_after-returns-clause-scope : goal.generators_after-returns-clause-scope
+generators_after-returns-clause-scope t c = λ n is. c.in_ok-gens.ensures.scope ∙ ap (gens_scope c.args.meanings.now.names.now c.args.meanings.now.kinds.now c.args.trees.now c.args.binders.now.scope) (c.in_ok-binders.ensures n is)
+
 pub comprehension-returns-clause-made : goal.comprehension-returns-clause-made
 comprehension-returns-clause-made t c =
-    let start = c.in_ok-binders.ensures (all_tokens c.as_slice.result.now) c.count_trees.ensures in
-    grind (arith, start)
+    let gens = c.in_ok-gens.ensures.made (all_tokens c.as_slice.result.now) c.count_trees-count.ensures in
+    let last = c.in_ok-gens.ensures.last (all_tokens c.as_slice.result.now) c.count_trees-count.ensures in
+    let scope = c.in_ok-gens.ensures.scope (all_tokens c.as_slice.result.now) c.count_trees-count.ensures in
+    grind (arith, gens, last, scope)
 
 pub comprehension-returns-clause-next : goal.comprehension-returns-clause-next
 comprehension-returns-clause-next t c =
-    let start = c.in_ok-binders.ensures (all_tokens c.as_slice.result.now) c.count_trees.ensures in
-    grind (arith, start)
+    let gens = c.in_ok-gens.ensures.made (all_tokens c.as_slice.result.now) c.count_trees-count.ensures in
+    let last = c.in_ok-gens.ensures.last (all_tokens c.as_slice.result.now) c.count_trees-count.ensures in
+    let scope = c.in_ok-gens.ensures.scope (all_tokens c.as_slice.result.now) c.count_trees-count.ensures in
+    grind (arith, gens, last, scope)
 
 pub comprehension-returns-clause-scope : goal.comprehension-returns-clause-scope
-comprehension-returns-clause-scope t c = c.leave.ensures.scope ∙ (λ i. take (c.len-kept.ensures i) (c.in_ok-items.ensures.scope i)) ∙ c.in_ok-gens.ensures.keeps
+comprehension-returns-clause-scope t c =
+    carried c.expressions-items.result c.map.result c.map.ensures.variant
+    (λ same. c.leave.ensures.scope ∙ (λ i. take (c.len-kept.ensures i) (same i)) ∙ c.in_ok-gens.ensures.keeps) c.expressions-items.ensures.scope
 
 pub product-returns-clause-made : goal.product-returns-clause-made
 product-returns-clause-made t c =
-    let start = c.in_ok-binders.ensures (parts_tokens c.as_slice.result.now) c.count_parts.ensures in
-    grind (arith, start)
+    let gens = c.in_ok-gens.ensures.made (parts_tokens c.as_slice.result.now) c.count_parts-count.ensures in
+    let last = c.in_ok-gens.ensures.last (parts_tokens c.as_slice.result.now) c.count_parts-count.ensures in
+    let scope = c.in_ok-gens.ensures.scope (parts_tokens c.as_slice.result.now) c.count_parts-count.ensures in
+    grind (arith, gens, last, scope)
 
 pub product-returns-clause-next : goal.product-returns-clause-next
 product-returns-clause-next t c =
-    let start = c.in_ok-binders.ensures (parts_tokens c.as_slice.result.now) c.count_parts.ensures in
-    grind (arith, start)
+    let gens = c.in_ok-gens.ensures.made (parts_tokens c.as_slice.result.now) c.count_parts-count.ensures in
+    let last = c.in_ok-gens.ensures.last (parts_tokens c.as_slice.result.now) c.count_parts-count.ensures in
+    let scope = c.in_ok-gens.ensures.scope (parts_tokens c.as_slice.result.now) c.count_parts-count.ensures in
+    grind (arith, gens, last, scope)
 
 pub product-returns-clause-scope : goal.product-returns-clause-scope
-product-returns-clause-scope t c = c.leave.ensures.scope ∙ (λ i. take (c.len-kept.ensures i) (c.in_ok-parts.ensures.scope i)) ∙ c.in_ok-gens.ensures.keeps
+product-returns-clause-scope t c =
+    carried c.fronts-parts.result c.map.result c.map.ensures.variant
+    (λ same. c.leave.ensures.scope ∙ (λ i. take (c.len-kept.ensures i) (same i)) ∙ c.in_ok-gens.ensures.keeps) c.fronts-parts.ensures.scope
 
-pub generator-returns-in_ok-number-in-From-clause-made : goal.generator-returns-in_ok-number-in-From-clause-made
-generator-returns-in_ok-number-in-From-clause-made t c = grind (arith, gen_of-From)
+pub generator-returns-in-From-clause-made : goal.generator-returns-in-From-clause-made
+generator-returns-in-From-clause-made t c = grind (arith, gen_of-From)
 
-pub generator-returns-in_ok-number-in-From-clause-next : goal.generator-returns-in_ok-number-in-From-clause-next
-generator-returns-in_ok-number-in-From-clause-next t c = grind (arith, gen_tokens-From)
+pub generator-returns-in-From-clause-next : goal.generator-returns-in-From-clause-next
+generator-returns-in-From-clause-next t c = grind (arith, gen_tokens-From)
 
-pub generator-returns-in_ok-number-in-From-clause-scope : goal.generator-returns-in_ok-number-in-From-clause-scope
-generator-returns-in_ok-number-in-From-clause-scope t c = grind (arith, gen_scope-From)
+pub generator-returns-in-From-clause-scope : goal.generator-returns-in-From-clause-scope
+generator-returns-in-From-clause-scope t c = grind (arith, gen_scope-From)
 
-pub generator-returns-in_ok-number-in-From-clause-keeps : goal.generator-returns-in_ok-number-in-From-clause-keeps
-generator-returns-in_ok-number-in-From-clause-keeps t c = grind (arith, keeps_longer)
+pub generator-returns-in-From-clause-keeps : goal.generator-returns-in-From-clause-keeps
+generator-returns-in-From-clause-keeps t c = grind (arith, keeps_longer)

@@ -49,6 +49,9 @@ decreases-expressions l = 4 * goal.size-expressions l + 1
 abbrev pub decreases-generators : goal.decreases-generators
 decreases-generators l = 4 * goal.size-generators l + 1
 
+abbrev pub decreases-generators_after : goal.decreases-generators_after
+decreases-generators_after l = 4 * goal.size-generators_after l + 2
+
 abbrev pub decreases-fronts : goal.decreases-fronts
 decreases-fronts l = 4 * goal.size-fronts l + 1
 
@@ -56,13 +59,16 @@ abbrev pub decreases-two : goal.decreases-two
 decreases-two l = 4 * max (the_size l.a.now) (the_size l.b.now) + 2
 
 abbrev pub decreases-comprehension : goal.decreases-comprehension
-decreases-comprehension l = 4 * max (goal.size-comprehension l) (weighed.most (λ x. generator.the_size x) l.gens.now) + 2
+decreases-comprehension l = 4 * max (goal.size-comprehension l) (weighed.most (λ x. generator.the_size x) l.gens.now) + 3
 
 abbrev pub decreases-product : goal.decreases-product
-decreases-product l = 4 * max (goal.size-product l) (weighed.most (λ x. generator.the_size x) l.gens.now) + 2
+decreases-product l = 4 * max (goal.size-product l) (weighed.most (λ x. generator.the_size x) l.gens.now) + 3
 
 abbrev pub decreases-bind_over : goal.decreases-bind_over
-decreases-bind_over l = 4 * the_size l.set.now + 2
+decreases-bind_over l = 4 * the_size l.set.now + 3
+
+abbrev pub decreases-numbered : goal.decreases-numbered
+decreases-numbered l = 4 * the_size l.set.now + 2
 
 abbrev pub decreases-choice : goal.decreases-choice
 decreases-choice l = 4 * max (the_size l.c.now) (max (the_size l.a.now) (the_size l.b.now)) + 3

@@ -2,13 +2,13 @@ use Rattle.std.proofs.Common.{refl, ◌∙◌, arith}
 use Rattle.typed_trees.proofs.NetForms.{net_of-Name, net_of-Call, net_of-If, net_of-Parallel, net_of-EachParallel}
 use Rattle.typed_trees.proofs.TokenForms.{tokens-Name, tokens-Call, tokens-If, tokens-Parallel, tokens-EachParallel}
 use Rattle.typed_trees.proofs.OtherForms.{net_of-other}
-use Rattle.typed_trees.proofs.Scopes.{left_again}
+use Rattle.typed_trees.proofs.Scopes.{carried, left_again}
 use Rattle.typed_trees.proofs.networks.+typed_net.Goals as goal
 
 pub each-returns-clause-scope : goal.each-returns-clause-scope
 each-returns-clause-scope t c =
-    left_again _ _ _ _ c.args.binders.now.scope _ _ c.len-kept.ensures refl c.in_ok-number.ensures.scope (c.in_ok-p.ensures.scope ∙ c.in_ok-a.ensures.scope)
-    c.leave.ensures.scope
+    carried c.boxed-p.result c.map.result c.map.ensures.variant
+    (λ same. left_again _ _ _ _ c.args.binders.now.scope _ _ c.len-kept.ensures refl c.in_ok-number.ensures.scope same c.leave.ensures.scope) c.boxed-p.ensures.scope
 
 pub network-returns-in_default : goal.network-returns-in_default
 network-returns-in_default t c =

@@ -1,13 +1,14 @@
-use Rattle.std.proofs.Common.{take, refl, ◌∙◌, arith}
+use Rattle.std.proofs.Common.{◌≡◌, take, refl, ◌∙◌, arith}
 use Rattle.typed_trees.proofs.OtherForms.{proc_of-other}
 use Rattle.typed_trees.proofs.ProcForms.{proc_of-EachExternal, proc_of-EachInternal, proc_of-External, proc_of-Guard, proc_of-Hide, proc_of-If, proc_of-Internal, proc_of-Name, proc_of-Prefix, proc_of-Rename, proc_of-Seq, proc_of-Skip, proc_of-Stop}
-use Rattle.typed_trees.proofs.Scopes.{left_again}
+use Rattle.typed_trees.proofs.Scopes.{carried, left_again}
 use Rattle.typed_trees.proofs.TokenForms.{tokens-EachExternal, tokens-EachInternal, tokens-External, tokens-Guard, tokens-Hide, tokens-If, tokens-Internal, tokens-Name, tokens-Prefix, tokens-Rename, tokens-Seq, tokens-Skip, tokens-Stop}
 use Rattle.typed_trees.proofs.processes.+typed_proc.Goals as goal
 
 pub for_each-returns-clause-scope : goal.for_each-returns-clause-scope
 for_each-returns-clause-scope t c =
-    left_again _ _ _ _ c.args.binders.now.scope _ _ c.len-kept.ensures refl c.in_ok-number.ensures.scope c.in_ok-p.ensures.scope c.leave.ensures.scope
+    carried c.boxed-p.result c.map.result c.map.ensures.variant
+    (λ same. left_again _ _ _ _ c.args.binders.now.scope _ _ c.len-kept.ensures refl c.in_ok-number.ensures.scope same c.leave.ensures.scope) c.boxed-p.ensures.scope
 
 pub process-returns-in-Call : goal.process-returns-in-Call
 process-returns-in-Call t c = record {
@@ -88,7 +89,10 @@ pub choice-returns-clause-next : goal.choice-returns-clause-next
 choice-returns-clause-next t c = grind (arith, tokens-If)
 
 pub prefix-returns-clause-made : goal.prefix-returns-clause-made
-prefix-returns-clause-made t c = grind (arith, proc_of-Prefix)
+prefix-returns-clause-made t c =
+    let left : c.leave.new.binders.scope ≡ c.args.binders.now.scope =
+    c.leave.ensures.scope ∙ (λ i. take (c.len-kept.ensures i) (c.in_ok-p.ensures.scope i)) ∙ c.in_ok-fields.ensures.keeps in
+    grind (arith, proc_of-Prefix, left)
 
 pub prefix-returns-clause-next : goal.prefix-returns-clause-next
 prefix-returns-clause-next t c = grind (arith, tokens-Prefix)
@@ -138,26 +142,26 @@ process-returns-in-Name-clause-made t c = grind (arith, proc_of-Name)
 pub process-returns-in-Name-clause-next : goal.process-returns-in-Name-clause-next
 process-returns-in-Name-clause-next t c = grind (arith, tokens-Name)
 
-pub process-returns-in_ok-ps-in-External-clause-made : goal.process-returns-in_ok-ps-in-External-clause-made
-process-returns-in_ok-ps-in-External-clause-made t c = grind (arith, proc_of-External)
+pub process-returns-in-External-clause-made : goal.process-returns-in-External-clause-made
+process-returns-in-External-clause-made t c = grind (arith, proc_of-External)
 
-pub process-returns-in_ok-ps-in-External-clause-next : goal.process-returns-in_ok-ps-in-External-clause-next
-process-returns-in_ok-ps-in-External-clause-next t c = grind (arith, tokens-External)
+pub process-returns-in-External-clause-next : goal.process-returns-in-External-clause-next
+process-returns-in-External-clause-next t c = grind (arith, tokens-External)
 
-pub process-returns-in_ok-ps-in-Internal-clause-made : goal.process-returns-in_ok-ps-in-Internal-clause-made
-process-returns-in_ok-ps-in-Internal-clause-made t c = grind (arith, proc_of-Internal)
+pub process-returns-in-Internal-clause-made : goal.process-returns-in-Internal-clause-made
+process-returns-in-Internal-clause-made t c = grind (arith, proc_of-Internal)
 
-pub process-returns-in_ok-ps-in-Internal-clause-next : goal.process-returns-in_ok-ps-in-Internal-clause-next
-process-returns-in_ok-ps-in-Internal-clause-next t c = grind (arith, tokens-Internal)
+pub process-returns-in-Internal-clause-next : goal.process-returns-in-Internal-clause-next
+process-returns-in-Internal-clause-next t c = grind (arith, tokens-Internal)
 
-pub process-returns-in_ok-number-in-EachExternal-clause-made : goal.process-returns-in_ok-number-in-EachExternal-clause-made
-process-returns-in_ok-number-in-EachExternal-clause-made t c = grind (arith, proc_of-EachExternal)
+pub process-returns-in-EachExternal-clause-made : goal.process-returns-in-EachExternal-clause-made
+process-returns-in-EachExternal-clause-made t c = grind (arith, proc_of-EachExternal)
 
-pub process-returns-in_ok-number-in-EachExternal-clause-next : goal.process-returns-in_ok-number-in-EachExternal-clause-next
-process-returns-in_ok-number-in-EachExternal-clause-next t c = grind (arith, tokens-EachExternal)
+pub process-returns-in-EachExternal-clause-next : goal.process-returns-in-EachExternal-clause-next
+process-returns-in-EachExternal-clause-next t c = grind (arith, tokens-EachExternal)
 
-pub process-returns-in_ok-number-in-EachInternal-clause-made : goal.process-returns-in_ok-number-in-EachInternal-clause-made
-process-returns-in_ok-number-in-EachInternal-clause-made t c = grind (arith, proc_of-EachInternal)
+pub process-returns-in-EachInternal-clause-made : goal.process-returns-in-EachInternal-clause-made
+process-returns-in-EachInternal-clause-made t c = grind (arith, proc_of-EachInternal)
 
-pub process-returns-in_ok-number-in-EachInternal-clause-next : goal.process-returns-in_ok-number-in-EachInternal-clause-next
-process-returns-in_ok-number-in-EachInternal-clause-next t c = grind (arith, tokens-EachInternal)
+pub process-returns-in-EachInternal-clause-next : goal.process-returns-in-EachInternal-clause-next
+process-returns-in-EachInternal-clause-next t c = grind (arith, tokens-EachInternal)
