@@ -1,6 +1,6 @@
 -- What a call answers for a form, from what calls answer for its parts.
-use Rattle.std.proofs.Common.{◌≡◌, ℕ, zero, suc, ◌+◌, ◌-◌, ◌<◌, ◌≤◌, Bool, true, false, cond, List, [], ◌∷◌, Some, None, Ok, Err, map, length, drop, refl, ap, sym, subst, ◌∙◌, arith}
-use Rattle.std.specs.Prelude.{ℤ, if◌then◌else◌, slice_get, Result, Option}
+use Rattle.std.proofs.Common.{◌≡◌, ℕ, ◌+◌, ◌<◌, Bool, true, false, cond, List, [], ◌∷◌, Some, None, Ok, Err, map, length, refl, ap, sym, subst, ◌∙◌}
+use Rattle.std.specs.Prelude.{ℤ, if◌then◌else◌, slice_get, Result}
 use Rattle.std.specs.Result.{IsErrAnd}
 use Rattle.csp_program.specs.Atoms.{all_added, events_from}
 use Rattle.csp_program.specs.Outcome.{Outcome, and_then}
@@ -8,7 +8,7 @@ use Rattle.csp_program.specs.Value.{first_of, Env, Gathered, bound_to, bound_val
 use Rattle.csp_atoms.specs.declared.atom.Atom.{Atom}
 use Rattle.csp_atoms.specs.declared.atom.Atom.TheVariants as atom
 use Rattle.csp_atoms.specs.declared.value.Value.{Value}
-use Rattle.csp_atoms.specs.declared.value.Value.TheVariants.{One, Many}
+use Rattle.csp_atoms.specs.declared.value.Value.TheVariants.{One}
 use Rattle.csp_base.specs.declared.operators.BinOp.{BinOp}
 use Rattle.csp_base.specs.declared.operators.SetOp.{SetOp}
 use Rattle.csp_program.specs.declared.expressions.EventPart.{EventPart}
@@ -28,7 +28,7 @@ use Rattle.value_operators.specs.Forms.{negative, inverse, operation, choice, na
 use Rattle.value_operators.specs.Gives.{Gives}
 use Rattle.value_operators.specs.declared.fault.EvalFault.{EvalFault}
 use Rattle.value_operators.specs.declared.fault.EvalFault.TheVariants as fault
-use Rattle.csp_values.specs.Worth.{worth, worths, number_worth, truth_worth, atoms_worth, chosen, range_of, set_of, use_worth, body_worth, with_items, fields_worth, front_worth, with_front, with_fronts, one_more_binding, walk_worth, each_worth, GivesTally, gathered_of}
+use Rattle.csp_values.specs.Worth.{worth, worths, number_worth, truth_worth, atoms_worth, chosen, range_of, set_of, use_worth, body_worth, with_items, fields_worth, front_worth, with_front, with_fronts, one_more_binding, walk_worth, each_worth, GivesTally}
 use Rattle.csp_values.specs.declared.tally.Tally.{Tally}
 use Rattle.csp_values.proofs.Equations as eq
 use Rattle.csp_values.proofs.FieldSteps.{front_scaled}

@@ -1,6 +1,6 @@
 -- What the parts of a form weigh, and what a use of a definition costs.
-use Rattle.std.proofs.Common.{◌≡◌, ℕ, zero, suc, ◌+◌, ◌-◌, ◌*◌, ◌<◌, ◌≤◌, List, [], ◌∷◌, Some, None, length, refl, ap, sym, ◌∙◌, arith}
-use Rattle.std.specs.Prelude.{Option, slice_get}
+use Rattle.std.proofs.Common.{◌≡◌, ℕ, ◌+◌, ◌-◌, ◌<◌, List, [], ◌∷◌, Some, ap, sym, ◌∙◌, arith}
+use Rattle.std.specs.Prelude.{slice_get}
 use Rattle.csp_base.specs.declared.operators.BinOp.{BinOp}
 use Rattle.csp_base.specs.declared.operators.SetOp.{SetOp}
 use Rattle.csp_program.specs.declared.expressions.EventPart.{EventPart}
@@ -58,10 +58,10 @@ weight_product e parts parts' gens gens' is got_parts got_gens =
     let whole : weight e ≡ part_weights parts' + gen_weights gens' + 7 = ap weight is ∙ (w.weight-Product parts gens ∙ (λ i. part_weights (sym got_parts i) + gen_weights (sym got_gens i) + 7)) in
     omega arith
 
-pub weight_from : (g : Gen) (x : ℕ) (s : Expr) → g ≡ generator.From x s → gen_weight g ≡ weight s + 3
+pub weight_from : (g : Gen) (x : ℕ) (s : Expr) → g ≡ generator.From x s → gen_weight g ≡ weight s + 5
 weight_from g x s is = ap gen_weight is ∙ w.weight-From x s
 
-pub weight_cond : (g : Gen) (c : Expr) → g ≡ generator.Cond c → gen_weight g ≡ weight c + 3
+pub weight_cond : (g : Gen) (c : Expr) → g ≡ generator.Cond c → gen_weight g ≡ weight c + 5
 weight_cond g c is = ap gen_weight is ∙ w.weight-Cond c
 
 pub weight_gens : (gens : List Gen) (first : Gen) (rest : List Gen) → gens ≡ first ∷ rest → gen_weights gens ≡ gen_weight first + gen_weights rest

@@ -1,5 +1,5 @@
 -- The fields of an event, one after another, in numbers that count so many for one.
-use Rattle.std.proofs.Common.{◌≡◌, ℕ, zero, suc, ◌+◌, ◌*◌, ◌<◌, List, [], ◌∷◌, Some, None, Ok, Err, Bool, true, false, cond, length, drop, get_or, refl, ap, sym, ◌∙◌, arith}
+use Rattle.std.proofs.Common.{◌≡◌, ℕ, zero, suc, ◌+◌, ◌*◌, ◌<◌, List, [], ◌∷◌, Some, Ok, Err, Bool, true, false, cond, length, drop, get_or, refl, ap, sym, ◌∙◌, arith}
 use Rattle.std.specs.Prelude.{nat_eq, slice_get}
 use Rattle.csp_program.specs.EventNumber.{row_count}
 use Rattle.csp_program.specs.Outcome.{Outcome, and_then}
@@ -13,7 +13,7 @@ use Rattle.csp_program.specs.declared.kinds.ValueKind.TheVariants.{OutsideChanne
 use Rattle.csp_program.specs.declared.programs.Content.{Content}
 use Rattle.value_operators.specs.Forms.{each_of, scaled}
 use Rattle.csp_values.specs.Worth.{worth, fields_worth, front_worth}
-use Rattle.csp_values.proofs.Equations.{fields-nil, fields-none, fields-cons, front-none, front-some}
+use Rattle.csp_values.proofs.Equations.{fields-nil, fields-none, fields-cons, front-some}
 use Rattle.csp_values.proofs.Steps.{chain, left_of}
 
 -- the number of fields after others, where both count so many for one

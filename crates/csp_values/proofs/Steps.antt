@@ -1,22 +1,18 @@
 -- Lists that are evaluated one element after another: what is left decides together with what has come so far.
-use Rattle.std.proofs.Common.{◌≡◌, ℕ, zero, suc, ◌+◌, ◌*◌, ◌<◌, ◌≤◌, List, [], ◌∷◌, ◌++◌, Some, None, Ok, Err, Bool, true, false, cond, length, length-drop, drop, get_or, map, refl, ap, sym, ◌∙◌, arith, add-one, drop-cons, append_assoc, append-nil}
-use Rattle.std.specs.Prelude.{nat_eq, nat_lt, slice_get}
-use Rattle.csp_program.specs.Atoms.{added, all_added, events_from}
-use Rattle.csp_program.specs.EventNumber.{row_count}
+use Rattle.std.proofs.Common.{◌≡◌, ℕ, suc, ◌+◌, ◌<◌, ◌≤◌, List, [], ◌∷◌, ◌++◌, Ok, Err, length, length-drop, drop, get_or, refl, ap, sym, ◌∙◌, arith, add-one, drop-cons, append_assoc, append-nil}
+use Rattle.csp_program.specs.Atoms.{added}
 use Rattle.csp_program.specs.Outcome.{Outcome, and_then}
-use Rattle.csp_program.specs.Value.{first_of, Env, Gathered, as_atom, field_place, sets_of, as_truth, as_set}
+use Rattle.csp_program.specs.Value.{Env, Gathered, as_atom}
 use Rattle.csp_atoms.specs.declared.atom.Atom.{Atom}
 use Rattle.csp_atoms.specs.declared.value.Value.{Value}
-use Rattle.csp_atoms.specs.declared.value.Value.TheVariants.{One, Many}
+use Rattle.csp_atoms.specs.declared.value.Value.TheVariants.{One}
 use Rattle.csp_program.specs.declared.expressions.EventPart.{EventPart}
 use Rattle.csp_program.specs.declared.expressions.Expr.{Expr}
 use Rattle.csp_program.specs.declared.expressions.Gen.{Gen}
 use Rattle.csp_program.specs.declared.kinds.ValueKind.{ValueKind}
-use Rattle.csp_program.specs.declared.kinds.ValueKind.TheVariants.{OutsideChannel, SetLimit}
 use Rattle.csp_program.specs.declared.programs.Content.{Content}
-use Rattle.value_operators.specs.Forms.{each_of, scaled}
-use Rattle.csp_values.specs.Worth.{worth, worths, with_items, fields_worth, with_front, with_fronts, walk_worth, each_worth}
-use Rattle.csp_values.proofs.Equations.{worths-nil, worths-cons, with_items-nil, with_items-cons, fields-nil, fields-none, fields-cons, fronts-nil, fronts-cons, each-nil, each-cons}
+use Rattle.csp_values.specs.Worth.{worth, worths, with_items, with_front, with_fronts, walk_worth, each_worth}
+use Rattle.csp_values.proofs.Equations.{worths-nil, worths-cons, with_items-cons, fronts-cons, each-cons}
 
 -- the list from an element on
 pub left_of : {A : Type 0} (xs : List A) (i : ℕ) (x : A) → i < length xs → x ≡ get_or xs i x → drop i xs ≡ x ∷ drop (i + 1) xs

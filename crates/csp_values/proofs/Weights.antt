@@ -1,5 +1,5 @@
 -- A weight for evaluation: each call that it makes is for less. A use of a definition costs more than any body weighs.
-use Rattle.std.proofs.Common.{◌≡◌, ℕ, zero, suc, ◌+◌, ◌-◌, ◌*◌, ◌<◌, ◌≤◌, List, [], ◌∷◌, Option, Some, None, map, length, get_or, refl, ap, sym, ◌∙◌, arith}
+use Rattle.std.proofs.Common.{◌≡◌, ℕ, zero, suc, ◌+◌, ◌-◌, ◌*◌, ◌<◌, ◌≤◌, List, [], ◌∷◌, Some, map, length, get_or, refl, ap, sym, ◌∙◌, arith}
 use Rattle.std.specs.Prelude.{slice_get}
 use Rattle.csp_program.specs.Lists.{total}
 use Rattle.csp_program.specs.declared.expressions.Expr.{Expr, fold-Expr}
@@ -37,8 +37,8 @@ of_expr (Expr-F.Product parts gens) = total parts + total gens + 7
 of_expr (Expr-F.SetOp op a b) = a + b + 3
 
 abbrev of_gen : Gen-F ℕ ℕ ℕ → ℕ
-of_gen (Gen-F.From x s) = s + 3
-of_gen (Gen-F.Cond c) = c + 3
+of_gen (Gen-F.From x s) = s + 5
+of_gen (Gen-F.Cond c) = c + 5
 
 abbrev of_part : EventPart-F ℕ ℕ ℕ → ℕ
 of_part part = total part.fields + 5
@@ -109,11 +109,11 @@ pub weight-SetOp : (op : SetOp) (a b : Expr) → weight (expr.SetOp op a b) ≡ 
 unfolding weight weights gen_weight gen_weights part_weight part_weights
 weight-SetOp op a b = ap (fold-Expr ℕ ℕ ℕ of_expr of_gen of_part) (sym (expr.rolls-SetOp op a b)) ∙ fold-roll-Expr ℕ ℕ ℕ of_expr of_gen of_part (Expr-F.SetOp op a b)
 
-pub weight-From : (x : ℕ) (s : Expr) → gen_weight (generator.From x s) ≡ weight s + 3
+pub weight-From : (x : ℕ) (s : Expr) → gen_weight (generator.From x s) ≡ weight s + 5
 unfolding weight gen_weight
 weight-From x s = ap (fold-Gen ℕ ℕ ℕ of_expr of_gen of_part) (sym (generator.rolls-From x s)) ∙ fold-roll-Gen ℕ ℕ ℕ of_expr of_gen of_part (Gen-F.From x s)
 
-pub weight-Cond : (c : Expr) → gen_weight (generator.Cond c) ≡ weight c + 3
+pub weight-Cond : (c : Expr) → gen_weight (generator.Cond c) ≡ weight c + 5
 unfolding weight gen_weight
 weight-Cond c = ap (fold-Gen ℕ ℕ ℕ of_expr of_gen of_part) (sym (generator.rolls-Cond c)) ∙ fold-roll-Gen ℕ ℕ ℕ of_expr of_gen of_part (Gen-F.Cond c)
 

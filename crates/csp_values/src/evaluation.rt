@@ -1,6 +1,6 @@
 //! Evaluation, from the left.
 
-ghost use Rattle.std.specs.Prelude.{◌≡◌, [], ◌∷◌, length, map};
+ghost use Rattle.std.specs.Prelude.{◌≡◌, if◌then◌else◌, Ok, [], ◌∷◌, length, map};
 ghost use Rattle.csp_atoms.specs.declared.atom.Atom.TheVariants as atom;
 ghost use Rattle.csp_program.specs.Atoms.{added, all_added};
 ghost use Rattle.csp_program.specs.Outcome.{and_then};
@@ -680,18 +680,45 @@ fn walk_first(
     ensures { GivesTally result (walk_worth scope.now.content.now scope.now.uses (first.now ∷ rest.now) yields.now.items.now yields.now.parts.now (env_in names.now) (gathered_of tally)) }
 {
     match first {
-        Gen::From(slot, set) => {
-            let atoms = eval_atoms(scope, names, set)?;
-            walk_each(scope, names, *slot, atoms.as_slice(), rest, yields, tally)
-        }
-        Gen::Cond(condition) => {
-            let holds = eval_truth(scope, names, condition)?;
-            if holds {
-                walk(scope, names, rest, yields, tally)
-            } else {
-                Ok(tally)
-            }
-        }
+        Gen::From(slot, set) => walk_over(scope, names, *slot, set, rest, yields, tally),
+        Gen::Cond(condition) => walk_where(scope, names, condition, rest, yields, tally),
+    }
+}
+
+// The bindings of generators for each atom of a set that a name takes.
+#[cycle(eval)]
+fn walk_over(
+    scope: &Scope<'_>,
+    names: &Names<'_>,
+    slot: u32,
+    set: &Expr,
+    rest: &[Gen],
+    yields: &Yield<'_>,
+    tally: Tally,
+) -> Result<Tally, EvalFault>
+    ensures { GivesTally result (and_then (atoms_worth scope.now.content.now scope.now.uses (env_in names.now) set.now) (λ atoms. each_worth scope.now.content.now scope.now.uses slot atoms rest.now yields.now.items.now yields.now.parts.now (env_in names.now) (gathered_of tally))) }
+{
+    let atoms = eval_atoms(scope, names, set)?;
+    walk_each(scope, names, slot, atoms.as_slice(), rest, yields, tally)
+}
+
+// The bindings of generators where a condition holds, and none where it doesn't.
+#[cycle(eval)]
+fn walk_where(
+    scope: &Scope<'_>,
+    names: &Names<'_>,
+    condition: &Expr,
+    rest: &[Gen],
+    yields: &Yield<'_>,
+    tally: Tally,
+) -> Result<Tally, EvalFault>
+    ensures { GivesTally result (and_then (truth_worth scope.now.content.now scope.now.uses (env_in names.now) condition.now) (λ b. if b then walk_worth scope.now.content.now scope.now.uses rest.now yields.now.items.now yields.now.parts.now (env_in names.now) (gathered_of tally) else Ok (gathered_of tally))) }
+{
+    let holds = eval_truth(scope, names, condition)?;
+    if holds {
+        walk(scope, names, rest, yields, tally)
+    } else {
+        Ok(tally)
     }
 }
 
@@ -710,13 +737,29 @@ fn walk_each(
 {
     let mut tally = tally;
     for atom in atoms {
-        let bound = with_name(scope.alloc, names.bound, slot, *atom)?;
-        let inner = Names {
-            params: names.params,
-            args: names.args,
-            bound: bound.as_slice(),
-        };
-        tally = walk(scope, &inner, rest, yields, tally)?;
+        tally = walk_one(scope, names, slot, *atom, rest, yields, tally)?;
     }
     Ok(tally)
+}
+
+// The bindings of generators for one atom that a name takes.
+#[cycle(eval)]
+fn walk_one(
+    scope: &Scope<'_>,
+    names: &Names<'_>,
+    slot: u32,
+    atom: Atom,
+    rest: &[Gen],
+    yields: &Yield<'_>,
+    tally: Tally,
+) -> Result<Tally, EvalFault>
+    ensures { GivesTally result (walk_worth scope.now.content.now scope.now.uses rest.now yields.now.items.now yields.now.parts.now ((slot, Value.One atom) ∷ env_in names.now) (gathered_of tally)) }
+{
+    let bound = with_name(scope.alloc, names.bound, slot, atom)?;
+    let inner = Names {
+        params: names.params,
+        args: names.args,
+        bound: bound.as_slice(),
+    };
+    walk(scope, &inner, rest, yields, tally)
 }

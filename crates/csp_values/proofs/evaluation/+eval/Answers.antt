@@ -1,4 +1,4 @@
-use Rattle.std.proofs.Common.{◌≡◌, ℕ, ◌+◌, true, false, Ok, Err, List, [], ◌∷◌, ap, refl, sym, ◌∙◌, arith, to_z, of_z, w64}
+use Rattle.std.proofs.Common.{◌≡◌, cond, Ok, Err, ap, refl, sym, ◌∙◌, arith, to_z, of_z, w64}
 use Rattle.std.proofs.lemmas.Int.{ints}
 use Rattle.csp_program.specs.Outcome.{and_then}
 use Rattle.csp_program.specs.Atoms.{added}
@@ -12,7 +12,7 @@ use Rattle.csp_values.proofs.Equations.{body-Nametype, body-Process, body-Networ
 use Rattle.csp_values.proofs.Falls.{weight_neg, weight_not, weight_binary, weight_if, weight_call, weight_set_name, weight_event, weight_display, weight_range, weight_set_op, weight_comp, weight_product, weight_from, weight_cond, weight_gens, weight_part, use_falls}
 use Rattle.csp_values.proofs.FieldSteps.{fields_after, fields_begin, fields_end, fields_too_many, field_refused, field_taken}
 use Rattle.csp_values.proofs.Steps.{nothing, nothing_left, worths_after, worths_begin, worths_end, worths_fault, worths_next, items_refused, items_taken, fronts_fault, fronts_next, each_fault, each_step}
-use Rattle.csp_values.proofs.Weights.{weights-nil, weight, weight_in, part_weight_in}
+use Rattle.csp_values.proofs.Weights.{weights-nil, weight_in, part_weight_in}
 use Rattle.csp_values.proofs.evaluation.+eval.Goals as goal
 
 pub add_front-eval_front-requires : goal.add_front-eval_front-requires
@@ -249,26 +249,32 @@ gather-returns-in_err-atoms-2 t c = part_passed _ _ _ _ c.from_residual-in_err-a
 pub gather-returns : goal.gather-returns
 gather-returns t c = binding_with_items c.args.scope.now.content.now c.args.scope.now.uses c.args.yields.now.items.now c.args.yields.now.parts.now (env_in c.args.names.now) (gathered_of c.args.tally) (omega arith) c.in_ok-atoms.atoms (Ok c.in_ok-atoms-2.atoms) c.in_ok-atoms.ensures c.in_ok-atoms-2.ensures
 
-pub walk_first-eval_atoms-requires : goal.walk_first-eval_atoms-requires
-walk_first-eval_atoms-requires t c = (omega (arith, weight_from c.args.first.now c.in-From.slot c.in-From.set c.in-From.is), tt)
+pub walk_first-walk_over-requires : goal.walk_first-walk_over-requires
+walk_first-walk_over-requires t c = (omega (arith, weight_from c.args.first.now c.in-From.slot c.in-From.set c.in-From.is), tt)
 
-pub walk_first-returns-in_err-atoms-in-From : goal.walk_first-returns-in_err-atoms-in-From
-walk_first-returns-in_err-atoms-in-From t c = part_passed _ _ _ _ c.from_residual.ensures.1 c.in_err-atoms-in-From.ensures (λ k e. walk_from c.args.scope.now.content.now c.args.scope.now.uses c.args.first.now c.args.rest.now c.args.yields.now.items.now c.args.yields.now.parts.now (env_in c.args.names.now) (gathered_of c.args.tally) c.in-From.slot c.in-From.set (Err k) c.in-From.is e)
+pub walk_first-walk_where-requires : goal.walk_first-walk_where-requires
+walk_first-walk_where-requires t c = (omega (arith, weight_cond c.args.first.now c.in-Cond.condition c.in-Cond.is), tt)
 
-pub walk_first-returns-in_ok-atoms-in-From : goal.walk_first-returns-in_ok-atoms-in-From
-walk_first-returns-in_ok-atoms-in-From t c = same_tally _ _ _ (walk_from c.args.scope.now.content.now c.args.scope.now.uses c.args.first.now c.args.rest.now c.args.yields.now.items.now c.args.yields.now.parts.now (env_in c.args.names.now) (gathered_of c.args.tally) c.in-From.slot c.in-From.set (Ok c.as_slice.result.now) c.in-From.is (c.in_ok-atoms-in-From.ensures ∙ ap (λ l. Ok l) (sym c.as_slice.ensures.members))) c.walk_each.ensures
+pub walk_over-returns-in_err-atoms : goal.walk_over-returns-in_err-atoms
+walk_over-returns-in_err-atoms t c = part_passed _ _ _ _ c.from_residual.ensures.1 c.in_err-atoms.ensures (λ k e. ap (λ o. and_then o (λ atoms. each_worth c.args.scope.now.content.now c.args.scope.now.uses c.args.slot atoms c.args.rest.now c.args.yields.now.items.now c.args.yields.now.parts.now (env_in c.args.names.now) (gathered_of c.args.tally))) e)
 
-pub walk_first-eval_truth-requires : goal.walk_first-eval_truth-requires
-walk_first-eval_truth-requires t c = (omega (arith, weight_cond c.args.first.now c.in-Cond.condition c.in-Cond.is), tt)
+pub walk_over-returns : goal.walk_over-returns
+walk_over-returns t c = same_tally _ _ _ (ap (λ o. and_then o (λ atoms. each_worth c.args.scope.now.content.now c.args.scope.now.uses c.args.slot atoms c.args.rest.now c.args.yields.now.items.now c.args.yields.now.parts.now (env_in c.args.names.now) (gathered_of c.args.tally))) (c.in_ok-atoms.ensures ∙ ap (λ l. Ok l) (sym c.as_slice.ensures.members))) c.walk_each.ensures
 
-pub walk_first-returns-in_err-holds-in-Cond : goal.walk_first-returns-in_err-holds-in-Cond
-walk_first-returns-in_err-holds-in-Cond t c = part_passed _ _ _ _ c.from_residual-in_err-holds-in-Cond.ensures.1 c.in_err-holds-in-Cond.ensures (λ k e. walk_cond c.args.scope.now.content.now c.args.scope.now.uses c.args.first.now c.args.rest.now c.args.yields.now.items.now c.args.yields.now.parts.now (env_in c.args.names.now) (gathered_of c.args.tally) c.in-Cond.condition (Err k) c.in-Cond.is e)
+pub walk_first-returns-in-From : goal.walk_first-returns-in-From
+walk_first-returns-in-From t c = same_tally _ _ _ (walk_from c.args.scope.now.content.now c.args.scope.now.uses c.args.first.now c.args.rest.now c.args.yields.now.items.now c.args.yields.now.parts.now (env_in c.args.names.now) (gathered_of c.args.tally) c.in-From.slot c.in-From.set _ c.in-From.is refl) c.walk_over.ensures
 
-pub walk_first-returns-then-holds : goal.walk_first-returns-then-holds
-walk_first-returns-then-holds t c = same_tally _ _ _ (walk_cond c.args.scope.now.content.now c.args.scope.now.uses c.args.first.now c.args.rest.now c.args.yields.now.items.now c.args.yields.now.parts.now (env_in c.args.names.now) (gathered_of c.args.tally) c.in-Cond.condition (Ok true) c.in-Cond.is (c.in_ok-holds-in-Cond.ensures ∙ ap (λ b. Ok b) c.if-holds.true)) c.walk.ensures
+pub walk_where-returns-in_err-holds : goal.walk_where-returns-in_err-holds
+walk_where-returns-in_err-holds t c = part_passed _ _ _ _ c.from_residual.ensures.1 c.in_err-holds.ensures (λ k e. ap (λ o. and_then o (λ b. cond b (walk_worth c.args.scope.now.content.now c.args.scope.now.uses c.args.rest.now c.args.yields.now.items.now c.args.yields.now.parts.now (env_in c.args.names.now) (gathered_of c.args.tally)) (Ok (gathered_of c.args.tally)))) e)
 
-pub walk_first-returns-else-holds : goal.walk_first-returns-else-holds
-walk_first-returns-else-holds t c = walk_cond c.args.scope.now.content.now c.args.scope.now.uses c.args.first.now c.args.rest.now c.args.yields.now.items.now c.args.yields.now.parts.now (env_in c.args.names.now) (gathered_of c.args.tally) c.in-Cond.condition (Ok false) c.in-Cond.is (c.in_ok-holds-in-Cond.ensures ∙ ap (λ b. Ok b) c.if-holds.false)
+pub walk_where-returns-then-holds : goal.walk_where-returns-then-holds
+walk_where-returns-then-holds t c = same_tally _ _ _ (ap (λ o. and_then o (λ b. cond b (walk_worth c.args.scope.now.content.now c.args.scope.now.uses c.args.rest.now c.args.yields.now.items.now c.args.yields.now.parts.now (env_in c.args.names.now) (gathered_of c.args.tally)) (Ok (gathered_of c.args.tally)))) (c.in_ok-holds.ensures ∙ ap (λ b. Ok b) c.if-holds.true)) c.walk.ensures
+
+pub walk_where-returns-else-holds : goal.walk_where-returns-else-holds
+walk_where-returns-else-holds t c = ap (λ o. and_then o (λ b. cond b (walk_worth c.args.scope.now.content.now c.args.scope.now.uses c.args.rest.now c.args.yields.now.items.now c.args.yields.now.parts.now (env_in c.args.names.now) (gathered_of c.args.tally)) (Ok (gathered_of c.args.tally)))) (c.in_ok-holds.ensures ∙ ap (λ b. Ok b) c.if-holds.false)
+
+pub walk_first-returns-in-Cond : goal.walk_first-returns-in-Cond
+walk_first-returns-in-Cond t c = same_tally _ _ _ (walk_cond c.args.scope.now.content.now c.args.scope.now.uses c.args.first.now c.args.rest.now c.args.yields.now.items.now c.args.yields.now.parts.now (env_in c.args.names.now) (gathered_of c.args.tally) c.in-Cond.condition _ c.in-Cond.is refl) c.walk_where.ensures
 
 pub eval_expr-returns-in-Lit : goal.eval_expr-returns-in-Lit
 eval_expr-returns-in-Lit t c = same _ _ _ (worth_lit c.args.scope.now.content.now c.args.scope.now.uses (env_in c.args.names.now) c.args.expr.now c.in-Lit.value c.in-Lit.value c.in-Lit.is refl) c.copied.ensures
@@ -304,19 +310,16 @@ pub walk-returns-in-None : goal.walk-returns-in-None
 walk-returns-in-None t c = same_tally _ _ _ (ap (λ gs. walk_worth c.args.scope.now.content.now c.args.scope.now.uses gs c.args.yields.now.items.now c.args.yields.now.parts.now (env_in c.args.names.now) (gathered_of c.args.tally)) (nothing c.args.gens.now c.in-None.ensures.cases) ∙ walk-nil c.args.scope.now.content.now c.args.scope.now.uses c.args.yields.now.items.now c.args.yields.now.parts.now (env_in c.args.names.now) (gathered_of c.args.tally)) c.gather.ensures
 
 pub walk_each-returns-in_err-tally : goal.walk_each-returns-in_err-tally
-walk_each-returns-in_err-tally t c = walk_passed _ _ _ _ c.from_residual-in_err-tally.ensures.1 c.in_err-tally.ensures (λ k e. each_fault _ c.args.scope.now.content.now c.args.scope.now.uses c.args.slot c.args.atoms.now c.args.rest.now c.args.yields.now.items.now c.args.yields.now.parts.now (env_in c.args.names.now) _ (gathered_of c.loop-atom.tally) c.loop-atom.atom-index c.atom-item.result c.atom-item.result k c.loop-atom.invariant (omega arith) c.atom-item.is (ap (λ bs. with_bound bs (bound_to c.args.names.now.params.now c.args.names.now.args.now)) (c.as_slice.ensures.value ∙ c.in_ok-bound.ensures) ∙ with_bound-last c.args.names.now.bound.now (c.args.slot, c.atom-item.result) (bound_to c.args.names.now.params.now c.args.names.now.args.now)) e)
+walk_each-returns-in_err-tally t c = walk_passed _ _ _ _ c.from_residual.ensures.1 c.in_err-tally.ensures (λ k e. each_fault _ c.args.scope.now.content.now c.args.scope.now.uses c.args.slot c.args.atoms.now c.args.rest.now c.args.yields.now.items.now c.args.yields.now.parts.now (env_in c.args.names.now) _ (gathered_of c.loop-atom.tally) c.loop-atom.atom-index c.atom-item.result c.atom-item.result k c.loop-atom.invariant (omega arith) c.atom-item.is refl e)
 
 pub walk_each-loop-atom-preserved : goal.walk_each-loop-atom-preserved
-walk_each-loop-atom-preserved t c = each_step _ c.args.scope.now.content.now c.args.scope.now.uses c.args.slot c.args.atoms.now c.args.rest.now c.args.yields.now.items.now c.args.yields.now.parts.now (env_in c.args.names.now) _ (gathered_of c.loop-atom.tally) (gathered_of c.in_ok-tally.tally) c.loop-atom.atom-index c.atom-item.result c.atom-item.result c.loop-atom.invariant (omega arith) c.atom-item.is (ap (λ bs. with_bound bs (bound_to c.args.names.now.params.now c.args.names.now.args.now)) (c.as_slice.ensures.value ∙ c.in_ok-bound.ensures) ∙ with_bound-last c.args.names.now.bound.now (c.args.slot, c.atom-item.result) (bound_to c.args.names.now.params.now c.args.names.now.args.now)) c.in_ok-tally.ensures
+walk_each-loop-atom-preserved t c = each_step _ c.args.scope.now.content.now c.args.scope.now.uses c.args.slot c.args.atoms.now c.args.rest.now c.args.yields.now.items.now c.args.yields.now.parts.now (env_in c.args.names.now) _ (gathered_of c.loop-atom.tally) (gathered_of c.in_ok-tally.tally) c.loop-atom.atom-index c.atom-item.result c.atom-item.result c.loop-atom.invariant (omega arith) c.atom-item.is refl c.in_ok-tally.ensures
+
+pub walk_one-returns : goal.walk_one-returns
+walk_one-returns t c = same_tally _ _ _ (ap (λ env. walk_worth c.args.scope.now.content.now c.args.scope.now.uses c.args.rest.now c.args.yields.now.items.now c.args.yields.now.parts.now env (gathered_of c.args.tally)) (sym (ap (λ bs. with_bound bs (bound_to c.args.names.now.params.now c.args.names.now.args.now)) (c.as_slice.ensures.value ∙ c.in_ok-bound.ensures) ∙ with_bound-last c.args.names.now.bound.now (c.args.slot, c.args.atom) (bound_to c.args.names.now.params.now c.args.names.now.args.now)))) c.walk.ensures
 
 pub walk_each-returns : goal.walk_each-returns
 walk_each-returns t c = c.loop-atom.invariant ∙ (ap (λ xs. each_worth c.args.scope.now.content.now c.args.scope.now.uses c.args.slot xs c.args.rest.now c.args.yields.now.items.now c.args.yields.now.parts.now (env_in c.args.names.now) (gathered_of c.loop-atom.tally)) (nothing_left c.args.atoms.now c.loop-atom.atom-index (omega arith)) ∙ each-nil c.args.scope.now.content.now c.args.scope.now.uses c.args.slot c.args.rest.now c.args.yields.now.items.now c.args.yields.now.parts.now (env_in c.args.names.now) (gathered_of c.loop-atom.tally))
-
-pub walk_first-walk_each-requires : goal.walk_first-walk_each-requires
-walk_first-walk_each-requires t c = (omega (arith, weight_from c.args.first.now c.in-From.slot c.in-From.set c.in-From.is), tt)
-
-pub walk_first-walk-requires : goal.walk_first-walk-requires
-walk_first-walk-requires t c = (omega (arith, weight_cond c.args.first.now c.in-Cond.condition c.in-Cond.is), tt)
 
 pub eval_product-eval_comprehension-requires : goal.eval_product-eval_comprehension-requires
 eval_product-eval_comprehension-requires t c = (omega (arith, weights-nil), tt)

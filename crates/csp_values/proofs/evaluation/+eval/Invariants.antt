@@ -1,4 +1,4 @@
-use Rattle.std.proofs.Common.{◌≡◌, ℕ, ◌+◌, [], drop}
+use Rattle.std.proofs.Common.{◌≡◌, ◌+◌, drop}
 use Rattle.value_operators.specs.Env.{env_in}
 use Rattle.value_operators.specs.Forms.{scaled}
 use Rattle.csp_values.specs.Worth.{worths, with_items, with_fronts, fields_worth, each_worth, gathered_of}
@@ -101,7 +101,16 @@ abbrev pub decreases-walk_first : goal.decreases-walk_first
 decreases-walk_first l = cost l.scope.now.content.now l.scope.now.uses + (weights l.yields.now.items.now + part_weights l.yields.now.parts.now + gen_weight l.first.now + gen_weights l.rest.now + 3)
 
 abbrev pub decreases-walk_each : goal.decreases-walk_each
-decreases-walk_each l = cost l.scope.now.content.now l.scope.now.uses + (weights l.yields.now.items.now + part_weights l.yields.now.parts.now + gen_weights l.rest.now + 5)
+decreases-walk_each l = cost l.scope.now.content.now l.scope.now.uses + (weights l.yields.now.items.now + part_weights l.yields.now.parts.now + gen_weights l.rest.now + 6)
+
+abbrev pub decreases-walk_one : goal.decreases-walk_one
+decreases-walk_one l = cost l.scope.now.content.now l.scope.now.uses + (weights l.yields.now.items.now + part_weights l.yields.now.parts.now + gen_weights l.rest.now + 5)
+
+abbrev pub decreases-walk_over : goal.decreases-walk_over
+decreases-walk_over l = cost l.scope.now.content.now l.scope.now.uses + (weights l.yields.now.items.now + part_weights l.yields.now.parts.now + weight l.set.now + gen_weights l.rest.now + 7)
+
+abbrev pub decreases-walk_where : goal.decreases-walk_where
+decreases-walk_where l = cost l.scope.now.content.now l.scope.now.uses + (weights l.yields.now.items.now + part_weights l.yields.now.parts.now + weight l.condition.now + gen_weights l.rest.now + 5)
 
 -- the expressions that are left are still to be evaluated
 abbrev pub invariant-eval_all-loop-expr : goal.invariant-eval_all-loop-expr
