@@ -24,11 +24,23 @@ pub fn fill_events(
 ) -> Result<(), NoMemory>
     ensures { OnOk result (content.new ≡ meant.with_events content.old (meant.with_sets 0 content.old.channels (spread shared.now))) }
 {
-    let all = spread_sets(alloc, shared)?;
     let channels = replace(&mut content.channels, Items::new(alloc));
-    content.channels = with_sets(alloc, channels, all.as_slice())?;
+    content.channels = filled(alloc, channels, shared)?;
     content.events = event_table(alloc, content.channels.as_slice())?;
     Ok(())
+}
+
+// The channels with the field sets that the channels of each declaration share.
+fn filled(
+    alloc: Global,
+    channels: Items<Channel>,
+    shared: &[SharedSets],
+) -> Result<Items<Channel>, NoMemory>
+    ensures { IfOk result (λ made. made ≡ meant.with_sets 0 channels (spread shared.now)) }
+{
+    let all = spread_sets(alloc, shared)?;
+    let made = with_sets(alloc, channels, all.as_slice())?;
+    Ok(made)
 }
 
 // The channels with these field sets.
@@ -61,10 +73,7 @@ fn add_channel(
 {
     match all.get(made.len()) {
         Some(sets) => match filling(alloc, first, sets.as_slice()) {
-            Ok((fields, next)) => {
-                push_filled(made, first, channel, fields)?;
-                Ok(next)
-            }
+            Ok((fields, next)) => push_filled(made, first, channel, fields).map(|()| next),
             Err(error) => {
                 let_go(channel);
                 Err(error)

@@ -93,7 +93,7 @@ pub fn copy_sets(alloc: Global, sets: &[AtomSet]) -> Result<Items<AtomSet>, NoMe
 {
     let mut copies = Items::new(alloc);
     for set in sets {
-        copies.push(set.try_clone(alloc)?)?;
+        copies.push_made(set.try_clone(alloc))?;
     }
     Ok(copies)
 }
