@@ -3,9 +3,9 @@ use Rattle.std.proofs.Common.{◌≡◌, ℕ, ◌<◌, inl, inr, ◌⊎◌, List
 use Rattle.std.proofs.lemmas.Bool.{cases_eq, cases_lt}
 use Rattle.std.proofs.lemmas.List.{get_or-set_same, get_or-set_other, get_or_past, get_or_read}
 use Rattle.csp_tables.specs.Table.{Node, node_at, is_possible}
+use Rattle.csp_tables.specs.Form.{HasForm}
 use Rattle.csp_tables.specs.Part.{Part, part_at}
-use Rattle.csp_tables.specs.Shape.{Shape, IsWellFormed}
-use Rattle.net_sound.proofs.Within.{part_form}
+use Rattle.csp_tables.specs.Shape.{Shape}
 use Rattle.observed_runs.specs.Observed.{pair_at}
 use Rattle.observed_runs.proofs.Leading.{listed_step, step_listed, node_form}
 use Rattle.shape_links.specs.Links.{IsOwner}
@@ -112,10 +112,10 @@ part_read shape parts i p is h at = get_or_read shape.parts i p h (at ∙ ap (λ
 pub node_read : (table nodes : List Node) (n : ℕ) (node : Node) → nodes ≡ table → n < length table → node ≡ get_or nodes n node → node ≡ node_at table n
 node_read table nodes n node is h at = get_or_read table n node h (at ∙ ap (λ (ns : List Node). get_or ns n node) is) (record { next = []; accept = [] })
 
-pub step_possible : (shape : Shape) (i n : ℕ) (next : List (ℕ × ℕ)) (k : ℕ) (x : ℕ × ℕ) → IsWellFormed shape → i < length shape.parts → next ≡ (node_at (part_at shape.parts i).table n).next → k < length next → x ≡ get_or next k x → (x ≡ get_or next k (0, 0)) × IsTrue (is_possible (node_at (part_at shape.parts i).table n).next x.0)
-step_possible shape i n next k x w h is below at =
+pub step_possible : (shape : Shape) (i n : ℕ) (next : List (ℕ × ℕ)) (k : ℕ) (x : ℕ × ℕ) → HasForm (part_at shape.parts i) → next ≡ (node_at (part_at shape.parts i).table n).next → k < length next → x ≡ get_or next k x → (x ≡ get_or next k (0, 0)) × IsTrue (is_possible (node_at (part_at shape.parts i).table n).next x.0)
+step_possible shape i n next k x has is below at =
     let p = part_at shape.parts i in
-    let form = node_form (part_at shape.parts i).alphabet (length (part_at shape.parts i).table) (part_at shape.parts i).table n (part_form shape.parts i h w.form).nodes in
+    let form = node_form (part_at shape.parts i).alphabet (length (part_at shape.parts i).table) (part_at shape.parts i).table n has.nodes in
     let s = step_listed (part_at shape.parts i).alphabet (length (part_at shape.parts i).table) (node_at (part_at shape.parts i).table n).next k form (subst (λ (zs : List (ℕ × ℕ)). k < length zs) is below) in
     let same : x ≡ get_or next k (0, 0) = get_or_read next k x below at (0, 0) in
     (same, subst (λ (y : ℕ × ℕ). IsTrue (is_possible (node_at (part_at shape.parts i).table n).next y.0)) (sym (same ∙ ap (λ (zs : List (ℕ × ℕ)). get_or zs k (0, 0)) is)) s.possible)

@@ -1,12 +1,13 @@
 //! Which link a component comes to at each place of its lap.
 
-ghost use Rattle.std.specs.Prelude.{◌≡◌, ◌<◌, ◌⊎◌, ◌++◌, ℕ, Some, None, IsTrue, IfOk, IfSome, OnOk, OnErr, length, slice_get};
+ghost use Rattle.std.specs.Prelude.{◌≡◌, ◌<◌, ◌⊎◌, ◌++◌, ℕ, Some, None, IsTrue, IfErr, IfOk, IfSome, OnOk, OnErr, length, slice_get};
 ghost use Rattle.csp_tables.specs.Part.{part_at};
 ghost use Rattle.csp_tables.specs.Table.{is_possible, node_at};
 ghost use Rattle.observed_runs.specs.Observed.{pair_at};
 ghost use Rattle.cyclic_conditions.specs.Facts.{Disagree, AreClashing, AreFirsts, AreNoted, HasFirst, IsFact, IsNoted, KeepsFirsts, first_at, is_of_link, links_in_order};
 ghost use Rattle.shape_links.specs.Links.{IsOwner};
 
+use crate::fault::CyclicFault;
 use crate::prepared::Prepared;
 use containers::Items;
 use csp_base::{Event, NoMemory};
@@ -98,10 +99,10 @@ fn note_all(
     ensures noted { OnOk result (IsNoted prepared.now part pairs.now firsts.new pair) }
     ensures clash { (f g : Fact) → result ≡ Err (FactFault.Clash f g) → AreClashing prepared.now part pairs.now f g }
 {
-    let (node, place) = pairs[pair];
-    let nodes = prepared.shape().parts()[part as usize].table().nodes();
-    for (event, _) in nodes[node as usize].next() {
-        note_event(prepared, part, pairs, pair, place, *event, firsts)?;
+    let at = pairs[pair];
+    let nodes = prepared.component(part).table().nodes();
+    for step in nodes[at.0 as usize].next() {
+        note_event(prepared, part, pairs, pair, at.1, step.0, firsts)?;
     }
     Ok(())
 }
@@ -182,8 +183,9 @@ fn is_of(first: &Option<Fact>, link: u32) -> bool
 }
 
 // The links in the order of their places, up to the first place without one.
-pub(crate) fn in_order(alloc: Global, firsts: &[Option<Fact>]) -> Result<Items<u32>, NoMemory>
-    ensures { IfOk result (λ links. links ≡ links_in_order firsts.now) }
+pub(crate) fn in_order(alloc: Global, firsts: &[Option<Fact>]) -> Result<Items<u32>, CyclicFault>
+    ensures links { IfOk result (λ links. links ≡ links_in_order firsts.now) }
+    ensures fault { IfErr result (λ fault. fault ≡ CyclicFault.NoMemory) }
 {
     let mut links = Items::new(alloc);
     for first in firsts {

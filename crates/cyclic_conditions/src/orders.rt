@@ -1,6 +1,6 @@
 //! The order in which each component goes through its links.
 
-ghost use Rattle.std.specs.Prelude.{◌≡◌, ◌<◌, ◌-◌, ◌++◌, ◌∷◌, [], ℕ, List, IfErr, IfOk, OnOk, length};
+ghost use Rattle.std.specs.Prelude.{◌≡◌, ◌<◌, ◌≤◌, ◌-◌, ◌++◌, ◌∷◌, [], ℕ, List, IfErr, IfOk, OnOk, length};
 ghost use Rattle.csp_tables.specs.Part.{part_at};
 ghost use Rattle.design_rules.specs.Cyclic.{AllKeepPlaces, BreaksOrder, KeepsPlaces, links_of};
 ghost use Rattle.observed_runs.specs.Exploration.{AreFound, IsExploration};
@@ -13,7 +13,7 @@ use crate::facts::{Fact, FactFault, facts, in_order};
 use crate::fault::CyclicFault;
 use crate::prepared::Prepared;
 use containers::Items;
-use csp_base::NoMemory;
+use csp_base::{Event, NoMemory, Trace};
 use observed_runs::{Explored, Lap, explore};
 use std::alloc::Global;
 
@@ -27,17 +27,27 @@ pub fn link_orders(alloc: Global, prepared: &Prepared<'_>) -> Result<Vec<Items<u
     let count = prepared.shape().parts().len();
     let mut orders = Vec::new(alloc);
     for part in 0..count {
-        let order = order_of(alloc, prepared, part as u32)?;
-        push(&mut orders, order)?;
+        add_order(alloc, prepared, part as u32, &mut orders)?;
     }
     Ok(orders)
 }
 
-// Adds an order at the end.
-fn push(orders: &mut Vec<Items<u32>>, order: Items<u32>) -> Result<(), NoMemory>
-    ensures { OnOk result (orders.new.items ≡ orders.old.items ++ order ∷ []) }
+// Adds the order of a part at the end.
+fn add_order(
+    alloc: Global,
+    prepared: &Prepared<'_>,
+    part: u32,
+    orders: &mut Vec<Items<u32>>,
+) -> Result<(), CyclicFault>
+    requires { part < length prepared.now.parts }
+    ensures keeps { OnOk result (KeepsPlaces prepared.now part) }
+    ensures order { OnOk result ((order : List ℕ) × IsOrder prepared.now part order × (orders.new.items ≡ orders.old.items ++ order ∷ [])) }
+    ensures fault { IfErr result (λ fault. IsBrokenOrder prepared.now part fault) }
 {
-    orders.push(order)?;
+    let order = order_of(alloc, prepared, part)?;
+    let Ok(()) = orders.push(order) else {
+        return Err(CyclicFault::NoMemory);
+    };
     Ok(())
 }
 
@@ -49,12 +59,12 @@ fn order_of(alloc: Global, prepared: &Prepared<'_>, part: u32) -> Result<Items<u
     ensures fault { IfErr result (λ fault. IsBrokenOrder prepared.now part fault) }
 {
     let _links = prepared.shape().links();
-    let count = prepared.links(part).len();
+    let count = prepared.links(part).len() as u32;
     if count == 0 {
         return Ok(Items::new(alloc));
     }
-    let explored = explored_part(alloc, prepared, part, count as u32)?;
-    order_found(alloc, prepared, part, count as u32, &explored)
+    let explored = explored_part(alloc, prepared, part, count)?;
+    order_found(alloc, prepared, part, count, &explored)
 }
 
 // The same of a part with so many links, by what an exploration of it found.
@@ -76,13 +86,9 @@ fn order_found(
 {
     let _form = prepared.shape();
     match facts(alloc, prepared, part, explored.pairs(), count) {
-        Ok(firsts) => {
-            let order = in_order(alloc, &firsts)?;
-            Ok(order)
-        }
+        Ok(firsts) => in_order(alloc, &firsts),
         Err(FactFault::Clash(here, there)) => {
-            let fault = told(alloc, prepared, part, explored, here, there)?;
-            Err(fault)
+            Err(told(alloc, prepared, part, explored, here, there))
         }
         Err(FactFault::NoMemory) => Err(CyclicFault::NoMemory),
     }
@@ -101,11 +107,8 @@ fn explored_part(
     ensures pairs { IfOk result (λ explored. IsExploration (part_at prepared.now.parts part).table (lap_step prepared.now.vocabulary (links_of prepared.now part - 1)) 0 explored.pairs) }
     ensures found { IfOk result (λ explored. AreFound (part_at prepared.now.parts part).table (lap_step prepared.now.vocabulary (links_of prepared.now part - 1)) 0 explored) }
 {
-    let shape = prepared.shape();
-    let component = &shape.parts()[part as usize];
-    let lap = Lap::new(shape.vocabulary(), count);
-    let explored = explore(alloc, component, &lap)?;
-    Ok(explored)
+    let lap = Lap::new(prepared.shape().vocabulary(), count);
+    explore(alloc, prepared.component(part), &lap)
 }
 
 // What two facts tell that no order allows: the one whose run is not the shorter one.
@@ -116,26 +119,38 @@ fn told(
     explored: &Explored,
     here: Fact,
     there: Fact,
-) -> Result<CyclicFault, NoMemory>
+) -> CyclicFault
     requires part { part < length prepared.now.parts }
     requires links { 0 < links_of prepared.now part }
     requires found { AreFound (part_at prepared.now.parts part).table (lap_step prepared.now.vocabulary (links_of prepared.now part - 1)) 0 explored.now }
     requires clash { AreClashing prepared.now part explored.now.pairs here there }
-    ensures { IfOk result (λ fault. IsBrokenOrder prepared.now part fault) }
+    ensures { IsBrokenOrder prepared.now part result }
 {
     let _form = prepared.shape();
-    let first = explored.run_to(alloc, here.pair)?;
-    let second = explored.run_to(alloc, there.pair)?;
+    let Ok(first) = explored.run_to(alloc, here.pair) else {
+        return CyclicFault::NoMemory;
+    };
+    let Ok(second) = explored.run_to(alloc, there.pair) else {
+        return CyclicFault::NoMemory;
+    };
+    no_order(part, first, second, here.event, there.event)
+}
+
+// The fault with the run that is not the shorter one, and the event after it.
+fn no_order(part: u32, first: Trace, second: Trace, here: Event, there: Event) -> CyclicFault
+    ensures first { length second ≤ length first → result ≡ CyclicFault.NoOrder part first here }
+    ensures second { length first < length second → result ≡ CyclicFault.NoOrder part second there }
+{
     if second.len() <= first.len() {
-        return Ok(CyclicFault::NoOrder {
+        return CyclicFault::NoOrder {
             part,
             trace: first,
-            event: here.event,
-        });
+            event: here,
+        };
     }
-    Ok(CyclicFault::NoOrder {
+    CyclicFault::NoOrder {
         part,
         trace: second,
-        event: there.event,
-    })
+        event: there,
+    }
 }

@@ -1,14 +1,15 @@
 //! A shape whose links are sorted out once: the link of each event, and the links of each part.
 
 ghost use Rattle.std.specs.Prelude.{◌≡◌, ◌<◌, ℕ, Some, IfOk, length};
-ghost use Rattle.csp_tables.specs.Part.{TripleDisjoint, alphabets_of};
+ghost use Rattle.csp_tables.specs.Form.{HasForm};
+ghost use Rattle.csp_tables.specs.Part.{TripleDisjoint, alphabets_of, part_at};
 ghost use Rattle.csp_tables.specs.Shape.{IsWellFormed};
 ghost use Rattle.csp_tables.specs.Standing.{IsBusyShape};
 ghost use Rattle.shape_links.specs.Links.{AreEnds, AreOwners, IsOwner, ends_of};
 
 use containers::Items;
 use csp_base::{Event, NoMemory};
-use csp_tables::Shape;
+use csp_tables::{Part, Shape};
 use shape_links::{link_of, links_of_events, links_of_parts};
 use std::alloc::Global;
 use std::marker::Model;
@@ -61,6 +62,15 @@ impl<'a> Prepared<'a> {
         ensures busy { IsBusyShape self.now }
     {
         self.shape
+    }
+
+    /// The part in this place.
+    pub fn component(&self, part: u32) -> &'a Part
+        requires { part < length self.now.parts }
+        ensures value { result.now ≡ part_at self.now.parts part }
+        ensures form { HasForm result.now }
+    {
+        &self.shape().parts()[part as usize]
     }
 
     /// The link that has the event.

@@ -1,7 +1,6 @@
 //! Whether each link has an end that accepts all of its events wherever it accepts some.
 
-ghost use Rattle.std.specs.Prelude.{◌≡◌, ◌<◌, ◌⊎◌, ℕ, List, Some, None, IfErr, IfOk, OnOk, IsTrue, length, get_or};
-ghost use Rattle.csp_tables.specs.Form.{HasForm};
+ghost use Rattle.std.specs.Prelude.{◌≡◌, ◌<◌, ◌⊎◌, ℕ, List, Some, None, IfErr, IfOk, OnOk, IsTrue, length, get_or, replicate};
 ghost use Rattle.csp_tables.specs.Part.{part_at};
 ghost use Rattle.csp_tables.specs.Shape.{IsReached, is_end, link_at};
 ghost use Rattle.csp_tables.specs.Table.{IsRun, end_of, node_at};
@@ -13,7 +12,6 @@ ghost use Rattle.cyclic_conditions.specs.Told.{Tells};
 use crate::fault::CyclicFault;
 use crate::prepared::Prepared;
 use csp_base::{Event, EventSet, NoMemory, Trace};
-use csp_tables::Part;
 use observed_runs::{Unwatched, explore};
 use std::alloc::Global;
 
@@ -25,10 +23,18 @@ pub fn check_ends(alloc: Global, prepared: &Prepared<'_>) -> Result<(), CyclicFa
     ensures fault { IfErr result (λ fault. Tells prepared.now fault) }
 {
     let count = prepared.shape().links().len();
-    let mut left = vec![in alloc; None; count]?;
-    let mut right = vec![in alloc; None; count]?;
-    mark_and_check(alloc, prepared, &mut left, &mut right)?;
-    Ok(())
+    let (mut left, mut right) = unmarked(alloc, count)?;
+    mark_and_check(alloc, prepared, &mut left, &mut right)
+}
+
+// No mark for either end of so many links.
+fn unmarked(alloc: Global, count: usize) -> Result<(Vec<Option<u32>>, Vec<Option<u32>>), NoMemory>
+    ensures left { IfOk result (λ made. made.0.items ≡ replicate count None) }
+    ensures right { IfOk result (λ made. made.1.items ≡ replicate count None) }
+{
+    let left = vec![in alloc; None; count]?;
+    let right = vec![in alloc; None; count]?;
+    Ok((left, right))
 }
 
 // Marks the ends that fall short, and tells the first link that has no whole end.
@@ -48,8 +54,7 @@ fn mark_and_check(
     ensures fault { IfErr result (λ fault. Tells prepared.now fault) }
 {
     mark_all(prepared, left, right);
-    check_marks(alloc, prepared, left, right)?;
-    Ok(())
+    check_marks(alloc, prepared, left, right)
 }
 
 // Tells the first link of which both ends are marked.
@@ -101,8 +106,7 @@ fn check_link(
     let Some(right_node) = right else {
         return Ok(());
     };
-    let fault = told(alloc, prepared, link, left_node, right_node)?;
-    Err(fault)
+    Err(told(alloc, prepared, link, left_node, right_node))
 }
 
 // The link, with a run at either end after which it falls short.
@@ -112,32 +116,40 @@ fn told(
     link: u32,
     left_node: u32,
     right_node: u32,
-) -> Result<CyclicFault, NoMemory>
+) -> CyclicFault
     requires link { link < length prepared.now.links }
     requires left { IsShortAt prepared.now (link_at prepared.now link).left link left_node }
     requires right { IsShortAt prepared.now (link_at prepared.now link).right link right_node }
     requires keep { AllKeepPlaces prepared.now }
     requires numbered { CanBeNumbered prepared.now }
     requires first { (m : ℕ) → m < link → HasWholeEnd prepared.now m }
-    ensures { IfOk result (λ fault. Tells prepared.now fault) }
+    ensures { Tells prepared.now result }
 {
     let shape = prepared.shape();
     let ends = &shape.links()[link as usize];
-    let left = run_to_node(alloc, &shape.parts()[ends.left() as usize], left_node)?;
-    let right = run_to_node(alloc, &shape.parts()[ends.right() as usize], right_node)?;
-    Ok(CyclicFault::NoWholeEnd { link, left, right })
+    let Ok(left) = run_to_node(alloc, prepared, ends.left(), left_node) else {
+        return CyclicFault::NoMemory;
+    };
+    let Ok(right) = run_to_node(alloc, prepared, ends.right(), right_node) else {
+        return CyclicFault::NoMemory;
+    };
+    CyclicFault::NoWholeEnd { link, left, right }
 }
 
 // A run of the part's table that leads to the node.
-fn run_to_node(alloc: Global, part: &Part, node: u32) -> Result<Trace, NoMemory>
-    requires form { HasForm part.now }
-    requires reached { IsReached part.now.table node }
-    ensures { IfOk result (λ run. IsRun part.now.table run × (end_of part.now.table 0 run ≡ node)) }
+fn run_to_node(
+    alloc: Global,
+    prepared: &Prepared<'_>,
+    part: u32,
+    node: u32,
+) -> Result<Trace, NoMemory>
+    requires part { part < length prepared.now.parts }
+    requires reached { IsReached (part_at prepared.now.parts part).table node }
+    ensures { IfOk result (λ run. IsRun (part_at prepared.now.parts part).table run × (end_of (part_at prepared.now.parts part).table 0 run ≡ node)) }
 {
-    let explored = explore(alloc, part, &Unwatched)?;
+    let explored = explore(alloc, prepared.component(part), &Unwatched)?;
     let place = node_place(explored.pairs(), node);
-    let run = explored.run_to(alloc, place)?;
-    Ok(run)
+    explored.run_to(alloc, place)
 }
 
 // The place of a pair with the node.

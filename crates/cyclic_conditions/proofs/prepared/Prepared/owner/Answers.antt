@@ -1,6 +1,6 @@
-use Rattle.std.proofs.Common.{◌≡◌, List, ℕ, subst, sym}
+use Rattle.std.proofs.Common.{subst, sym}
 use Rattle.csp_tables.specs.Shape.{Shape}
-use Rattle.shape_links.specs.Links.{AreOwners, IsOwner}
+use Rattle.shape_links.specs.Links.{AreOwners}
 use Rattle.cyclic_conditions.proofs.prepared.Prepared.owner.Goals as goal
 
 pub returns-clause-found : goal.returns-clause-found
