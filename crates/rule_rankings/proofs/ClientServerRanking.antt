@@ -1,17 +1,16 @@
 -- The ranks and the laps of a network of clients and servers.
-use Rattle.std.proofs.Common.{◌≡◌, ℕ, suc, ◌+◌, ◌<◌, inl, inr, ℤ, pos, List, [], ◌∷◌, ◌++◌, length, get_or, replicate, Bool, true, false, nat_eq, refl, sym, ap, subst, ◌∙◌, arith, eq-eqb}
+use Rattle.std.proofs.Common.{◌≡◌, ℕ, suc, ◌<◌, inl, inr, ℤ, pos, List, [], ◌∷◌, length, get_or, replicate, Bool, true, false, nat_eq, refl, sym, ap, subst, ◌∙◌, arith, eq-eqb}
 use Rattle.std.specs.Prelude.{slice_index}
 use Rattle.std.proofs.lemmas.Bool.{cases_Bool, cases_lt, cond-true, cond-false, both_ways, or_left}
-use Rattle.std.proofs.lemmas.List.{length-append, get_or_append_left, get_or_past, get_or_read}
-use Rattle.std.proofs.Math.Seq.{get_or-append_seam}
+use Rattle.std.proofs.lemmas.List.{get_or_past}
 use Rattle.csp_base.specs.Members.{has}
 use Rattle.csp_base.specs.Events.{is_subset_of, meets_of}
 use Rattle.csp_base.proofs.SetLaws.{common_member, member_of_superset, is_subset_of_from_members, meets_of_from_member}
 use Rattle.csp_tables.specs.Table.{Node, node_at}
-use Rattle.csp_tables.specs.Part.{Part, part_at, IsNonEmpty}
+use Rattle.csp_tables.specs.Part.{part_at, IsNonEmpty}
 use Rattle.csp_tables.specs.Shape.{acceptance_at}
 use Rattle.csp_tables.specs.Roles.{role_at}
-use Rattle.csp_tables.specs.Ranking.{Ranking, PartRanks, AsMany, AtMostOne, RanksFit, LapsFit, PartsFit, rank_at, lap_of}
+use Rattle.csp_tables.specs.Ranking.{Ranking, PartRanks, AsMany, AtMostOne, RanksFit, LapsFit, rank_at, lap_of}
 use Rattle.digraph.specs.Walk.{AreHeights}
 use Rattle.design_rules.specs.ClientServer.{Serves}
 use Rattle.design_rules.specs.ClientServerRanking.{IsClientServerRanking}

@@ -1,17 +1,16 @@
 -- The ranks of a network of users and resources.
-use Rattle.std.proofs.Common.{◌≡◌, ℕ, zero, suc, ◌+◌, ◌-◌, ◌*◌, ◌<◌, ◌≤◌, ◌⊎◌, inl, inr, ℤ, pos, List, [], ◌∷◌, ◌++◌, length, get_or, replicate, Bool, true, false, ◌||◌, cond, max, nat_eq, refl, sym, ap, subst, ◌∙◌, arith, eq-eqb}
+use Rattle.std.proofs.Common.{◌≡◌, ℕ, zero, suc, ◌+◌, ◌-◌, ◌*◌, ◌<◌, ◌≤◌, ◌⊎◌, inl, inr, ℤ, pos, List, [], ◌∷◌, length, get_or, replicate, Bool, true, false, ◌||◌, cond, max, nat_eq, refl, sym, ap, subst, ◌∙◌, arith, eq-eqb}
 use Rattle.std.specs.List.{list_any}
 use Rattle.std.proofs.lemmas.Bool.{cases_Bool, cases_eq, cases_lt, cond-true, cond-false, and_parts, and_from, or_cases, or_left, or_right, both_ways, false≢true}
-use Rattle.std.proofs.lemmas.List.{length-append, get_or_append_left, get_or_past, get_or_read}
-use Rattle.std.proofs.Math.Seq.{get_or-append_seam}
+use Rattle.std.proofs.lemmas.List.{get_or_past}
 use Rattle.csp_base.specs.Members.{has}
 use Rattle.csp_tables.specs.Table.{Node, node_at, end_of}
-use Rattle.csp_tables.specs.Part.{Part, part_at, IsNonEmpty, AreApart}
+use Rattle.csp_tables.specs.Part.{part_at, IsNonEmpty, AreApart}
 use Rattle.csp_tables.specs.Trace.{IsWithin}
 use Rattle.csp_tables.specs.Shape.{acceptance_at, IsWellFormed}
 use Rattle.csp_tables.specs.Standing.{IsPossible, Accepts, accepted}
 use Rattle.csp_tables.specs.Roles.{UseSets, use_at}
-use Rattle.csp_tables.specs.Ranking.{Ranking, PartRanks, AsMany, AtMostOne, RanksFit, LapsFit, PartsFit, rank_at, lap_of}
+use Rattle.csp_tables.specs.Ranking.{Ranking, PartRanks, AsMany, AtMostOne, RanksFit, LapsFit, rank_at, lap_of}
 use Rattle.net_sound.proofs.Within.{part_form}
 use Rattle.design_rules.specs.Vertices.{IsVertex}
 use Rattle.design_rules.specs.Resource.{is_held, acquires, KeepUses}

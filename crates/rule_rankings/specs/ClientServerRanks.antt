@@ -1,5 +1,5 @@
 -- The ranks and the laps of a part. (No rule's decider cites this.)
-use Rattle.std.specs.Prelude.{◌≡◌, ◌<◌, ◌*◌, ℕ, ℤ, pos, ◌-ℤ◌, List, [], length, get_or, replicate}
+use Rattle.std.specs.Prelude.{◌≡◌, ◌*◌, ℕ, ℤ, pos, ◌-ℤ◌, List, [], length}
 use Rattle.csp_tables.specs.Part.{part_at, IsNonEmpty, Meet, AreApart}
 use Rattle.csp_tables.specs.Table.{Node}
 use Rattle.csp_tables.specs.Trace.{IsWithin}

@@ -1,5 +1,5 @@
 -- The ranks and laps of a part. (No rule's decider cites this.)
-use Rattle.std.specs.Prelude.{◌≡◌, ◌<◌, ◌≤◌, ℕ, ℤ, pos, List, [], IsTrue, length, get_or, nat_eq, if◌then◌else◌}
+use Rattle.std.specs.Prelude.{◌≡◌, ◌<◌, ◌≤◌, ℕ, ℤ, pos, List, [], IsTrue, length, nat_eq, if◌then◌else◌}
 use Rattle.csp_base.specs.Members.{has}
 use Rattle.csp_tables.specs.Part.{part_at, IsNonEmpty, Meet}
 use Rattle.csp_tables.specs.Table.{Node}

@@ -1,5 +1,5 @@
 -- The ranks and laps of a part. (No rule's decider cites this.)
-use Rattle.std.specs.Prelude.{◌≡◌, ◌<◌, ◌≤◌, ◌⊎◌, ◌+◌, ◌-◌, ◌*◌, ℕ, ℤ, pos, List, [], false, IsTrue, length, get_or, replicate, slice_index}
+use Rattle.std.specs.Prelude.{◌≡◌, ◌<◌, ◌≤◌, ◌⊎◌, ◌+◌, ◌-◌, ◌*◌, ℕ, ℤ, pos, List, [], false, IsTrue, length, slice_index}
 use Rattle.csp_tables.specs.Part.{part_at, IsNonEmpty, AreApart}
 use Rattle.csp_tables.specs.Table.{Node}
 use Rattle.csp_tables.specs.Trace.{IsWithin}

@@ -9,10 +9,11 @@ ghost use Rattle.digraph.specs.Walk.{AreHeights};
 ghost use Rattle.rule_rankings.specs.ClientServerRanks.{AreNodeRanks, ArePartRanks, IsRank, serving_rank};
 ghost use Rattle.rule_rankings.specs.Rows.{AreEach, no_node};
 
-use crate::rows::{no_laps, push};
+use crate::rows::no_laps;
 use client_server_conditions::{Network, part_of};
+use containers::Items;
 use csp_base::{EventSet, NoMemory};
-use csp_tables::{NormNode, PartRanks, Ranking};
+use csp_tables::{NormNode, PartRanks, Ranking, Shape};
 use digraph::Heights;
 use std::alloc::Global;
 
@@ -33,12 +34,11 @@ pub fn client_server_ranking(
     requires below { All (λ height. height < length network.now.shape.parts) heights.now }
     ensures { IfOk result (λ ranking. IsClientServerRanking network.now.shape network.now.roles ranking) }
 {
-    let mut parts = Vec::new(alloc);
+    let mut parts = Items::new(alloc);
     for part in 0..network.shape().parts().len() {
-        let ranks = part_ranks(alloc, network, heights, part as u32)?;
-        push(&mut parts, ranks)?;
+        parts.push_made(part_ranks(alloc, network, heights, part as u32))?;
     }
-    Ok(Ranking::new(0, parts))
+    Ok(Ranking::new(0, parts.into_vec()))
 }
 
 // The ranks and the laps of a part.
@@ -54,7 +54,7 @@ fn part_ranks(
     ensures { IfOk result (λ ranks. ArePartRanks network.now (slice_index heights.now) part ranks) }
 {
     let shape = network.shape();
-    let levels = levels_of(shape.parts().len() as u32, heights.of(part));
+    let levels = levels_of(shape, heights, part);
     let nodes = part_of(shape, part).table().nodes();
     let requests = network.roles(part).sreq();
     let ranks = rank_rows(alloc, shape.vocabulary(), requests, levels, nodes)?;
@@ -62,16 +62,19 @@ fn part_ranks(
     Ok(PartRanks::new(ranks, laps))
 }
 
-// The ranks of a part at this height, where there are so many parts.
-fn levels_of(count: u32, height: u32) -> Levels
-    requires few { count ≤ 512 }
-    requires below { height < count }
-    ensures serving { result.serving ≡ serving_rank count height }
-    ensures asking { result.asking ≡ pos height }
+// The ranks of a part of the shape, by its height.
+fn levels_of(shape: &Shape, heights: &Heights, part: u32) -> Levels
+    requires part { part < length heights.now }
+    requires few { length shape.now.parts ≤ 512 }
+    requires below { slice_index heights.now part < length shape.now.parts }
+    ensures serving { result.serving ≡ serving_rank (length shape.now.parts) (slice_index heights.now part) }
+    ensures asking { result.asking ≡ pos (slice_index heights.now part) }
 {
+    let count = shape.parts().len() as u32;
+    let height = i64::from(heights.of(part));
     Levels {
-        serving: 2 * i64::from(count) - i64::from(height),
-        asking: i64::from(height),
+        serving: 2 * i64::from(count) - height,
+        asking: height,
     }
 }
 
@@ -85,12 +88,11 @@ fn rank_rows(
 ) -> Result<Vec<Vec<i64>>, NoMemory>
     ensures { IfOk result (λ rows. AreEach no_node [] (AreNodeRanks vocabulary.now requests.now levels.serving levels.asking) nodes.now (map (λ row. row.items) rows.items)) }
 {
-    let mut rows = Vec::new(alloc);
+    let mut rows = Items::new(alloc);
     for node in nodes {
-        let row = rank_row(alloc, vocabulary, requests, levels, node.accept())?;
-        rows.push(row)?;
+        rows.push_made(rank_row(alloc, vocabulary, requests, levels, node.accept()))?;
     }
-    Ok(rows)
+    Ok(rows.into_vec())
 }
 
 // The ranks of some acceptances.

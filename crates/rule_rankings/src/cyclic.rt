@@ -11,7 +11,7 @@ ghost use Rattle.shape_links.specs.Links.{ends_of};
 ghost use Rattle.rule_rankings.specs.CyclicRanks.{AreNodeLaps, AreNodeRanks, ArePartRanks, IsGreatest, IsLap, IsRank};
 ghost use Rattle.rule_rankings.specs.Rows.{AreEach, no_node};
 
-use crate::rows::push;
+use containers::Items;
 use csp_base::{Event, EventSet, NoMemory};
 use csp_tables::{NormNode, PartRanks, Ranking};
 use cyclic_conditions::Prepared;
@@ -29,12 +29,11 @@ pub fn cyclic_ranking(
     requires rise { NumbersRise prepared.now (slice_index numbers.now) }
     ensures { IfOk result (λ ranking. AreCyclicRanks prepared.now (slice_index numbers.now) ranking) }
 {
-    let mut parts = Vec::new(alloc);
+    let mut parts = Items::new(alloc);
     for part in 0..prepared.shape().parts().len() {
-        let ranks = part_ranks(alloc, prepared, numbers, part as u32)?;
-        push(&mut parts, ranks)?;
+        parts.push_made(part_ranks(alloc, prepared, numbers, part as u32))?;
     }
-    Ok(Ranking::new(scale(numbers.as_slice()), parts))
+    Ok(Ranking::new(scale(numbers.as_slice()), parts.into_vec()))
 }
 
 // One more than the greatest number, 0 if there is none.
@@ -82,7 +81,7 @@ fn part_ranks(
     ensures { IfOk result (λ ranks. ArePartRanks prepared.now (slice_index numbers.now) part ranks) }
 {
     let top = greatest(numbers, prepared.links(part));
-    let nodes = prepared.shape().parts()[part as usize].table().nodes();
+    let nodes = prepared.component(part).table().nodes();
     let ranks = rank_rows(alloc, prepared, numbers, nodes)?;
     let laps = lap_rows(alloc, prepared, numbers, top, nodes)?;
     Ok(PartRanks::new(ranks, laps))
@@ -110,12 +109,11 @@ fn rank_rows(
     requires { length numbers.now ≡ length prepared.now.links }
     ensures { IfOk result (λ rows. AreEach no_node [] (AreNodeRanks prepared.now (slice_index numbers.now)) nodes.now (map (λ row. row.items) rows.items)) }
 {
-    let mut rows = Vec::new(alloc);
+    let mut rows = Items::new(alloc);
     for node in nodes {
-        let row = rank_row(alloc, prepared, numbers, node.accept())?;
-        rows.push(row)?;
+        rows.push_made(rank_row(alloc, prepared, numbers, node.accept()))?;
     }
-    Ok(rows)
+    Ok(rows.into_vec())
 }
 
 // The ranks of some acceptances.
@@ -163,12 +161,11 @@ fn lap_rows(
     requires { length numbers.now ≡ length prepared.now.links }
     ensures { IfOk result (λ rows. AreEach no_node [] (AreNodeLaps prepared.now (slice_index numbers.now) top) nodes.now (map (λ row. row.items) rows.items)) }
 {
-    let mut rows = Vec::new(alloc);
+    let mut rows = Items::new(alloc);
     for node in nodes {
-        let row = lap_row(alloc, prepared, numbers, top, node.next())?;
-        rows.push(row)?;
+        rows.push_made(lap_row(alloc, prepared, numbers, top, node.next()))?;
     }
-    Ok(rows)
+    Ok(rows.into_vec())
 }
 
 // The laps of some events.

@@ -9,7 +9,8 @@ ghost use Rattle.rule_rankings.specs.ResourceRanks.{AreNodeRanks, ArePartRanks, 
 ghost use Rattle.rule_rankings.specs.Rows.{AreEach, no_node};
 ghost use Rattle.resource_conditions.specs.Setting.{KeepKinds};
 
-use crate::rows::{no_laps, push};
+use crate::rows::no_laps;
+use containers::Items;
 use csp_base::{Event, EventSet, NoMemory};
 use csp_tables::{NormNode, PartRanks, Ranking};
 use digraph::Heights;
@@ -29,12 +30,11 @@ pub fn resource_ranking(
 {
     let _form = prepared.shape();
     let top = top(prepared, heights);
-    let mut parts = Vec::new(alloc);
+    let mut parts = Items::new(alloc);
     for part in 0..prepared.count() {
-        let ranks = part_ranks(alloc, prepared, heights, top, part)?;
-        push(&mut parts, ranks)?;
+        parts.push_made(part_ranks(alloc, prepared, heights, top, part))?;
     }
-    Ok(Ranking::new(0, parts))
+    Ok(Ranking::new(0, parts.into_vec()))
 }
 
 // The greatest number of a resource, 0 if there is none.
@@ -120,12 +120,11 @@ fn rank_rows(
     requires part { part < length prepared.now.shape.parts }
     ensures { IfOk result (λ rows. AreEach no_node [] (AreNodeRanks prepared.now (number_by heights.now) top part) nodes.now (map (λ row. row.items) rows.items)) }
 {
-    let mut rows = Vec::new(alloc);
+    let mut rows = Items::new(alloc);
     for node in nodes {
-        let row = rank_row(alloc, prepared, heights, top, part, node.accept())?;
-        rows.push(row)?;
+        rows.push_made(rank_row(alloc, prepared, heights, top, part, node.accept()))?;
     }
-    Ok(rows)
+    Ok(rows.into_vec())
 }
 
 // The ranks of some acceptances.

@@ -1,16 +1,18 @@
-use Rattle.std.proofs.Common.{◌≡◌, ◌∙◌, ◌≤◌, pos, length, ap, sym, subst, refl, arith}
+use Rattle.std.proofs.Common.{◌≡◌, List, ◌∙◌, ◌≤◌, pos, length, ap, sym, subst, refl, arith}
 use Rattle.std.specs.Prelude.{slice_index}
 use Rattle.csp_tables.specs.Part.{Part}
 use Rattle.csp_tables.specs.Shape.{Shape}
 use Rattle.design_rules.specs.ClientServerRanking.{IsClientServerRanking}
 use Rattle.rule_rankings.specs.ClientServerRanks.{ArePartRanks}
 use Rattle.rule_rankings.proofs.ClientServerRanking.{role_ranking}
-use Rattle.rule_rankings.proofs.RowsBelow.{parts_more}
+use Rattle.csp_tables.specs.Ranking.{PartRanks}
+use Rattle.rule_rankings.proofs.RowsBelow.{parts_more, pushed}
 use Rattle.rule_rankings.proofs.client_server.client_server_ranking.Goals as goal
 
 pub loop-part-preserved : goal.loop-part-preserved
 loop-part-preserved c =
-    let more = parts_more (ArePartRanks c.args.network.now (slice_index c.args.heights.now)) c.loop-part.part c.loop-part.parts.items c.in_ok-ranks.ranks c.push.new.parts.items c.loop-part.invariant.count c.loop-part.invariant.each c.in_ok-ranks.ensures c.in_ok-push.ensures in
+    let w = pushed c.part_ranks.result c.loop-part.parts c.push_made.new.self _ c.in_ok-push_made.ensures.ok c.part_ranks.ensures in
+    let more = parts_more (ArePartRanks c.args.network.now (slice_index c.args.heights.now)) c.loop-part.part c.loop-part.parts w.0 c.push_made.new.self c.loop-part.invariant.count c.loop-part.invariant.each w.1 w.2 in
     record { count = more.0; each = more.1 }
 
 pub returns : goal.returns
@@ -19,7 +21,7 @@ returns c =
     let parts : length c.parts-part-end.result.now ≡ length c.args.network.now.shape.parts = ap (length {A = Part}) c.parts-part-end.ensures.value ∙ ap (λ (s : Shape). length s.parts) c.shape.ensures.value in
     let all : length c.parts-part-end.result.now ≤ c.loop-part.part = c.loop-part-test.false in
     let end : c.loop-part.part ≤ length c.parts-part-end.result.now = c.loop-part.auto.part-end in
-    let count : length c.loop-part.parts.items ≡ length c.args.network.now.shape.parts = omega (arith, c.loop-part.invariant.count) in
-    subst (IsClientServerRanking network.shape network.roles) (sym c.new.ensures)
-    (role_ranking network c.args.heights.now (record { scale = pos 0; parts = c.loop-part.parts.items }) c.requires.heights count
+    let count : length c.loop-part.parts ≡ length c.args.network.now.shape.parts = omega (arith, c.loop-part.invariant.count) in
+    subst (IsClientServerRanking network.shape network.roles) (sym (c.new.ensures ∙ ap (λ (ps : List PartRanks). record { scale = pos 0; parts = ps }) c.into_vec.ensures))
+    (role_ranking network c.args.heights.now (record { scale = pos 0; parts = c.loop-part.parts }) c.requires.heights count
     (λ i h. c.loop-part.invariant.each i (omega arith)) refl)

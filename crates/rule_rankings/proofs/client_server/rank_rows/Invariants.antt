@@ -5,4 +5,4 @@ use Rattle.rule_rankings.proofs.RowsBelow.{AreEachBelow}
 use Rattle.rule_rankings.proofs.client_server.rank_rows.Given as goal
 
 abbrev pub invariant-loop-node : goal.invariant-loop-node
-invariant-loop-node l = AreEachBelow no_node [] (AreNodeRanks l.vocabulary l.requests l.levels.serving l.levels.asking) l.node-index l.nodes (map (λ row. row.items) l.rows.items)
+invariant-loop-node l = AreEachBelow no_node [] (AreNodeRanks l.vocabulary l.requests l.levels.serving l.levels.asking) l.node-index l.nodes (map (λ row. row.items) l.rows)

@@ -7,12 +7,14 @@ use Rattle.csp_tables.specs.Shape.{Shape}
 use Rattle.design_rules.specs.Counts.{above_all}
 use Rattle.rule_rankings.specs.CyclicRanks.{ArePartRanks}
 use Rattle.rule_rankings.proofs.CyclicRanking.{cyclic_ranks}
-use Rattle.rule_rankings.proofs.RowsBelow.{parts_more}
+use Rattle.csp_tables.specs.Ranking.{PartRanks}
+use Rattle.rule_rankings.proofs.RowsBelow.{parts_more, pushed}
 use Rattle.rule_rankings.proofs.cyclic.cyclic_ranking.Goals as goal
 
 pub loop-part-preserved : goal.loop-part-preserved
 loop-part-preserved c =
-    let more = parts_more (ArePartRanks c.args.prepared.now (slice_index c.args.numbers.now)) c.loop-part.part c.loop-part.parts.items c.in_ok-ranks.ranks c.push.new.parts.items c.loop-part.invariant.count c.loop-part.invariant.each c.in_ok-ranks.ensures c.in_ok-push.ensures in
+    let w = pushed c.part_ranks.result c.loop-part.parts c.push_made.new.self _ c.in_ok-push_made.ensures.ok c.part_ranks.ensures in
+    let more = parts_more (ArePartRanks c.args.prepared.now (slice_index c.args.numbers.now)) c.loop-part.part c.loop-part.parts w.0 c.push_made.new.self c.loop-part.invariant.count c.loop-part.invariant.each w.1 w.2 in
     record { count = more.0; each = more.1 }
 
 pub returns : goal.returns
@@ -22,9 +24,9 @@ returns c =
     let parts : length c.parts-part-end.result.now ≡ length c.args.prepared.now.parts = ap (length {A = Part}) c.parts-part-end.ensures.value ∙ ap (λ (s : Shape). length s.parts) c.shape.ensures.value in
     let all : length c.parts-part-end.result.now ≤ c.loop-part.part = c.loop-part-test.false in
     let end : c.loop-part.part ≤ length c.parts-part-end.result.now = c.loop-part.auto.part-end in
-    let count : length c.loop-part.parts.items ≡ length c.args.prepared.now.parts = omega (arith, c.loop-part.invariant.count) in
+    let count : length c.loop-part.parts ≡ length c.args.prepared.now.parts = omega (arith, c.loop-part.invariant.count) in
     let same : to_z w64 (of_z w64 c.scale.result) ≡ c.scale.result = omega (arith, ints) in
     let scale : to_z w64 (of_z w64 c.scale.result) ≡ pos (above_all (slice_index c.args.numbers.now) (length c.args.prepared.now.links)) = same ∙ c.scale.ensures ∙ ap (λ (ns : List ℕ). pos (above_all (slice_index ns) (length ns))) c.as_slice.ensures ∙ ap (λ (n : ℕ). pos (above_all (slice_index c.args.numbers.now) n)) c.requires.count in
-    subst (AreCyclicRanks shape number) (sym c.new.ensures)
-    (cyclic_ranks shape number (record { scale = to_z w64 (of_z w64 c.scale.result); parts = c.loop-part.parts.items }) c.shape.ensures.form c.shape.ensures.apart c.requires.keep c.requires.rise count
+    subst (AreCyclicRanks shape number) (sym (c.new.ensures ∙ ap (λ (ps : List PartRanks). record { scale = to_z w64 (of_z w64 c.scale.result); parts = ps }) c.into_vec.ensures))
+    (cyclic_ranks shape number (record { scale = to_z w64 (of_z w64 c.scale.result); parts = c.loop-part.parts }) c.shape.ensures.form c.shape.ensures.apart c.requires.keep c.requires.rise count
     (λ i h. c.loop-part.invariant.each i (omega arith)) scale)

@@ -3,11 +3,9 @@ use Rattle.std.specs.Prelude.{slice_index}
 use Rattle.csp_base.specs.Members.{has}
 use Rattle.csp_tables.specs.Table.{Node}
 use Rattle.csp_tables.specs.Part.{Part}
-use Rattle.csp_tables.specs.Shape.{Shape}
 use Rattle.rule_rankings.specs.CyclicRanks.{AreNodeRanks, AreNodeLaps, ArePartRanks, IsGreatest}
 use Rattle.rule_rankings.specs.Rows.{AreEach, no_node}
 use Rattle.shape_links.proofs.Links.{ends_sound}
-use Rattle.cyclic_conditions.proofs.Noting.{part_read}
 use Rattle.rule_rankings.proofs.cyclic.part_ranks.Goals as goal
 
 pub greatest-top-requires : goal.greatest-top-requires
@@ -17,7 +15,7 @@ greatest-top-requires c l h =
 
 pub returns : goal.returns
 returns c =
-    let p = part_read c.args.prepared.now c.parts.result.now c.args.part c.index-parts-part.result (c.parts.ensures.value ∙ ap (λ (s : Shape). s.parts) c.shape.ensures.value) c.requires.part c.index-parts-part.is in
+    let p = c.component.ensures.value in
     let nodes = c.nodes-nodes.ensures.value ∙ c.table.ensures ∙ ap (λ (q : Part). q.table) p in
     let top = c.greatest-top.result in
     subst (ArePartRanks c.args.prepared.now (slice_index c.args.numbers.now) c.args.part) (sym c.new.ensures)

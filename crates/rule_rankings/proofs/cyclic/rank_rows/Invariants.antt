@@ -6,4 +6,4 @@ use Rattle.rule_rankings.proofs.RowsBelow.{AreEachBelow}
 use Rattle.rule_rankings.proofs.cyclic.rank_rows.Given as goal
 
 abbrev pub invariant-loop-node : goal.invariant-loop-node
-invariant-loop-node l = AreEachBelow no_node [] (AreNodeRanks l.prepared (slice_index l.numbers)) l.node-index l.nodes (map (λ row. row.items) l.rows.items)
+invariant-loop-node l = AreEachBelow no_node [] (AreNodeRanks l.prepared (slice_index l.numbers)) l.node-index l.nodes (map (λ row. row.items) l.rows)

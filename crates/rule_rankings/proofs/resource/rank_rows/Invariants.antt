@@ -5,4 +5,4 @@ use Rattle.rule_rankings.proofs.RowsBelow.{AreEachBelow}
 use Rattle.rule_rankings.proofs.resource.rank_rows.Given as goal
 
 abbrev pub invariant-loop-node : goal.invariant-loop-node
-invariant-loop-node l = AreEachBelow no_node [] (AreNodeRanks l.prepared (number_by l.heights) l.top l.part) l.node-index l.nodes (map (λ row. row.items) l.rows.items)
+invariant-loop-node l = AreEachBelow no_node [] (AreNodeRanks l.prepared (number_by l.heights) l.top l.part) l.node-index l.nodes (map (λ row. row.items) l.rows)

@@ -4,4 +4,4 @@ use Rattle.rule_rankings.proofs.RowsBelow.{AreEachBelow}
 use Rattle.rule_rankings.proofs.rows.no_laps.Given as goal
 
 abbrev pub invariant-loop-node : goal.invariant-loop-node
-invariant-loop-node l = AreEachBelow no_node [] AreNoLaps l.node-index l.nodes (map (λ row. row.items) l.rows.items)
+invariant-loop-node l = AreEachBelow no_node [] AreNoLaps l.node-index l.nodes (map (λ row. row.items) l.rows)
