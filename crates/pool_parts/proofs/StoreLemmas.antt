@@ -57,6 +57,11 @@ pub is_found : {T : Type 0} (eq : T → T → Bool) (same : (x : T) → eq x x �
 is_found eq same xs x (Some k) e h = h
 is_found eq same xs x None e h = is_absent eq same xs x (sym e)
 
+-- the same of an error
+pub absent_on_err : {T : Type 0} {U E : Type 0} (eq : T → T → Bool) (same : (x : T) → eq x x ≡ true) (xs : List T) (x : T) (result : Result U E) → is_member eq xs x ≡ false → OnErr result (IsAbsent xs x)
+absent_on_err eq same xs x (Ok u) h = tt
+absent_on_err eq same xs x (Err e) h = is_absent eq same xs x h
+
 -- what numbering makes of a list: the same list, or one element more
 pub start_new : {T : Type 0} (eq : T → T → Bool) (old new : List T) (x : T) → new ≡ with_new eq old x → IsStart old new
 start_new {T} eq old new x e = either (is_member eq old x) refl

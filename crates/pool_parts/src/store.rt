@@ -140,6 +140,7 @@ impl<T: Part> Store<T> {
         ensures place { (part : T) → IfOk made (λ it. it ≡ part) → IfOk result (λ place. slice_get self.new place ≡ Some part) }
         ensures start { IsStart self.old self.new }
         ensures once { AreOnce self.new }
+        ensures err_only_new { OnErr result (IfOk made (λ part. IsAbsent self.old part)) }
     {
         let _ = slice_of(&self.parts);
         let part = made?;
@@ -246,6 +247,7 @@ fn keep_own_in<T: Part>(
     ensures place { IfOk result (λ place. slice_get parts.new place ≡ Some part) }
     ensures start { IsStart parts.old parts.new }
     ensures once { AreOnce parts.new }
+    ensures err_only_new { OnErr result (IsAbsent parts.old part) }
 {
     let place = number(parts, part)?;
     note_next(parts, notes);
@@ -258,6 +260,7 @@ fn number<T: Part>(parts: &mut Numbering<T>, part: T) -> Result<u32, NoMemory>
     ensures start { IsStart parts.old parts.new }
     ensures once { AreOnce parts.new }
     ensures noted { (notes : List Note) → AreNoted T.depth T.size T.low notes parts.old → AreNoted T.depth T.size T.low notes parts.new }
+    ensures err_only_new { OnErr result (IsAbsent parts.old part) }
 {
     let number = parts.number(part);
     let _ = slice_of(parts);
