@@ -142,10 +142,7 @@ impl<T: Part> Store<T> {
         ensures once { AreOnce self.new }
         ensures err_only_new { OnErr result (IfOk made (λ part. IsAbsent self.old part)) }
     {
-        let _ = slice_of(&self.parts);
-        let part = made?;
-        let place = keep_own_in(&mut self.parts, &mut self.notes, part)?;
-        Ok(place)
+        keep_made_in(&mut self.parts, &mut self.notes, made)
     }
 }
 
@@ -229,11 +226,26 @@ fn keep_in<T: Part>(
     let _ = slice_of(parts);
     match find_in(parts, latest, part) {
         Some(place) => Ok(place),
-        None => {
-            let copy = part.copy(alloc)?;
-            keep_own_in(parts, notes, copy)
-        }
+        None => keep_made_in(parts, notes, part.copy(alloc)),
     }
+}
+
+// The number of a part that was made, which is kept itself where it is new.
+fn keep_made_in<T: Part>(
+    parts: &mut Numbering<T>,
+    notes: &mut Items<Note>,
+    made: Result<T, NoMemory>,
+) -> Result<u32, NoMemory>
+    requires noted { AreNoted T.depth T.size T.low notes.old parts.old }
+    ensures noted { AreNoted T.depth T.size T.low notes.new parts.new }
+    ensures place { (part : T) → IfOk made (λ it. it ≡ part) → IfOk result (λ place. slice_get parts.new place ≡ Some part) }
+    ensures start { IsStart parts.old parts.new }
+    ensures once { AreOnce parts.new }
+    ensures err_only_new { OnErr result (IfOk made (λ part. IsAbsent parts.old part)) }
+{
+    let _ = slice_of(parts);
+    let part = made?;
+    keep_own_in(parts, notes, part)
 }
 
 // The number of the part, which is kept itself where it is new.
