@@ -22,3 +22,8 @@ pub err_map : {T U E : Type 0} (made : Result T E) (R : T → U → Type 0) (res
 err_map (Ok x) R (Ok y) P comes p = tt
 err_map (Ok x) R (Err e) P comes p = absurd comes
 err_map (Err e) R r P comes p = subst (λ z. OnErr z P) (sym comes) p
+
+-- what was made, with what holds of it
+pub was_made : {T E : Type 0} (made : Result T E) (P Q : T → Type 0) → IsOkAnd made P → IfOk made Q → (x : T) × P x × Q x
+was_made (Ok x) P Q p q = (x, p, q)
+was_made (Err e) P Q p q = absurd p

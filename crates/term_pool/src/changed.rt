@@ -161,8 +161,7 @@ pub(crate) fn made_entry(
     ensures entry { IfOk result (λ made. StandsAs parts.new made (moved (own_with_all names.now values.now (entry_layer parts.old entry)) ids.now)) }
 {
     let entry = put_owns(parts, alloc, entry, names, values)?;
-    let made = with_places(parts, alloc, entry, ids)?;
-    Ok(made)
+    with_places(parts, alloc, entry, ids)
 }
 
 // The entry with the values in its own parts, one after another.
@@ -184,8 +183,7 @@ fn put_owns(
         return Ok(entry);
     };
     let next = put_where_read(parts, alloc, entry, *name, value)?;
-    let made = put_owns(parts, alloc, next, other_names, other_values)?;
-    Ok(made)
+    put_owns(parts, alloc, next, other_names, other_values)
 }
 
 // The entry with the value in its own parts. Where they read no name so low it is the same entry.

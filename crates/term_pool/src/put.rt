@@ -87,8 +87,7 @@ fn put_trees(pool: &mut Pool, alloc: Global, procs: &[Proc]) -> Result<Items<Pro
 {
     let mut ids = Items::new(alloc);
     for proc in procs {
-        let id = put_tree(pool, alloc, proc)?;
-        ids.push(id)?;
+        ids.push_made(put_tree(pool, alloc, proc))?;
     }
     Ok(ids)
 }

@@ -167,8 +167,7 @@ fn put_anew(
     ensures grows { Grows pool.old pool.new (map (tree_at (all_with names.now values.now pool.old)) ids.now) }
 {
     let mut visited = HashMap::new(alloc);
-    let made = put_all(pool, &mut visited, alloc, id, ids, names, values)?;
-    Ok(made)
+    put_all(pool, &mut visited, alloc, id, ids, names, values)
 }
 
 // What becomes of the places, which are smaller than `id`.
@@ -191,8 +190,7 @@ fn put_all(
 {
     let mut made = Items::new(alloc);
     for p in ids {
-        let place = substitute_at(pool, visited, alloc, p, names, values)?;
-        made.push(place)?;
+        made.push_made(substitute_at(pool, visited, alloc, p, names, values))?;
     }
     Ok(made)
 }

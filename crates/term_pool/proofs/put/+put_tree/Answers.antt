@@ -10,6 +10,7 @@ use Rattle.term_pool.specs.Over.{layer_over}
 use Rattle.term_pool.specs.Put.{StandAt, StandsFor}
 use Rattle.pool_parts.specs.declared.place.ProcId.{ProcId}
 use Rattle.term_pool.specs.declared.below.Below.{Below}
+use Rattle.term_pool.proofs.MapLemmas.{was_made}
 use Rattle.term_pool.proofs.put.+put_tree.Goals as goal
 
 pub put_below-returns-in-Prefix-clause-grows : goal.put_below-returns-in-Prefix-clause-grows
@@ -148,19 +149,16 @@ put_tree-returns-clause-grows t c =
     lemmas.grows_node c.args.pool.now c.put_below.new.pool c.put_node.new.self c.args.proc.now (shown c.node_over.result) c.in_ok-below.ensures.grows
     (subst (λ (n : Layer). StandsFor c.put_below.new.pool n c.args.proc.now) (sym c.node_over.ensures) c.in_ok-below.ensures.node) c.put_node.ensures.front c.put_node.ensures.known c.put_node.ensures.only
 
-pub put_trees-returns-in_err-id-clause-grows : goal.put_trees-returns-in_err-id-clause-grows
-put_trees-returns-in_err-id-clause-grows t c =
-    lemmas.grows_end c.args.pool.now c.put_tree.new.pool c.args.procs.now (c.loop-proc.proc-index + 1) (lemmas.grows_more c.args.pool.now c.loop-proc.pool c.put_tree.new.pool c.args.procs.now c.loop-proc.proc-index c.proc-item.result c.loop-proc-test.true c.proc-item.is c.loop-proc.invariant.grows c.in_err-id.ensures.grows)
-
-pub put_trees-returns-in_err-push-clause-grows : goal.put_trees-returns-in_err-push-clause-grows
-put_trees-returns-in_err-push-clause-grows t c =
-    lemmas.grows_end c.args.pool.now c.put_tree.new.pool c.args.procs.now (c.loop-proc.proc-index + 1) (lemmas.grows_more c.args.pool.now c.loop-proc.pool c.put_tree.new.pool c.args.procs.now c.loop-proc.proc-index c.proc-item.result c.loop-proc-test.true c.proc-item.is c.loop-proc.invariant.grows c.in_ok-id.ensures.grows)
+pub put_trees-returns-in_err-push_made-clause-grows : goal.put_trees-returns-in_err-push_made-clause-grows
+put_trees-returns-in_err-push_made-clause-grows t c =
+    lemmas.grows_end c.args.pool.now c.put_tree.new.pool c.args.procs.now (c.loop-proc.proc-index + 1) (lemmas.grows_more c.args.pool.now c.loop-proc.pool c.put_tree.new.pool c.args.procs.now c.loop-proc.proc-index c.proc-item.result c.loop-proc-test.true c.proc-item.is c.loop-proc.invariant.grows c.put_tree.ensures.grows)
 
 pub put_trees-loop-proc-preserved : goal.put_trees-loop-proc-preserved
 put_trees-loop-proc-preserved t c =
+    let id = was_made c.put_tree.result _ _ c.in_ok-push_made.ensures.ok c.put_tree.ensures.process in
     record {
-      places = subst (λ (xs : List ProcId). StandAt c.put_tree.new.pool xs (take (c.loop-proc.proc-index + 1) c.args.procs.now)) (sym c.in_ok-push.ensures.ok)
-          (lemmas.stand_more c.loop-proc.pool c.put_tree.new.pool c.in_ok-id.ensures.grows.front c.loop-proc.ids c.args.procs.now c.loop-proc.proc-index c.proc-item.result c.in_ok-id.id
-          c.loop-proc-test.true c.proc-item.is c.loop-proc.invariant.places c.in_ok-id.ensures.process);
-      grows = lemmas.grows_more c.args.pool.now c.loop-proc.pool c.put_tree.new.pool c.args.procs.now c.loop-proc.proc-index c.proc-item.result c.loop-proc-test.true c.proc-item.is c.loop-proc.invariant.grows c.in_ok-id.ensures.grows;
+      places = subst (λ (xs : List ProcId). StandAt c.put_tree.new.pool xs (take (c.loop-proc.proc-index + 1) c.args.procs.now)) (sym id.1)
+          (lemmas.stand_more c.loop-proc.pool c.put_tree.new.pool c.put_tree.ensures.grows.front c.loop-proc.ids c.args.procs.now c.loop-proc.proc-index c.proc-item.result id.0
+          c.loop-proc-test.true c.proc-item.is c.loop-proc.invariant.places id.2);
+      grows = lemmas.grows_more c.args.pool.now c.loop-proc.pool c.put_tree.new.pool c.args.procs.now c.loop-proc.proc-index c.proc-item.result c.loop-proc-test.true c.proc-item.is c.loop-proc.invariant.grows c.put_tree.ensures.grows;
     }

@@ -12,6 +12,7 @@ use Rattle.term_pool.specs.Put.{Grows, StandAt}
 use Rattle.term_pool.specs.Substituted.{all_with}
 use Rattle.term_pool.specs.Trees.{tree_at}
 use Rattle.pool_parts.specs.declared.place.ProcId.{ProcId}
+use Rattle.term_pool.proofs.MapLemmas.{was_made}
 use Rattle.term_pool.proofs.substitute.+substitute_at.Goals as goal
 
 pub put_all-substitute_at-requires : goal.put_all-substitute_at-requires
@@ -19,24 +20,20 @@ put_all-substitute_at-requires t c =
     let smaller = made.next_smaller c.args.names.now c.args.values.now c.args.pool.now c.args.id c.requires.within c.args.ids.now c.requires.places c.loop-p.p-index c.loop-p-test.true in
     (omega (arith, smaller), (made.next_in c.args.names.now c.args.values.now c.args.pool.now c.args.id c.requires.within c.args.ids.now c.requires.places c.loop-p.p-index c.loop-p-test.true c.loop-p.pool c.loop-p.invariant.grows.front, c.loop-p.invariant.visited))
 
-pub put_all-returns-in_err-place-clause-grows : goal.put_all-returns-in_err-place-clause-grows
-put_all-returns-in_err-place-clause-grows t c =
+pub put_all-returns-in_err-push_made-clause-grows : goal.put_all-returns-in_err-push_made-clause-grows
+put_all-returns-in_err-push_made-clause-grows t c =
     made.next_ends c.args.names.now c.args.values.now c.args.pool.now c.args.id c.requires.within c.args.ids.now c.requires.places c.loop-p.p-index c.loop-p-test.true
-    c.loop-p.pool c.substitute_at.new.pool c.loop-p.invariant.grows c.in_err-place.ensures.grows
-
-pub put_all-returns-in_err-push-clause-grows : goal.put_all-returns-in_err-push-clause-grows
-put_all-returns-in_err-push-clause-grows t c =
-    made.next_ends c.args.names.now c.args.values.now c.args.pool.now c.args.id c.requires.within c.args.ids.now c.requires.places c.loop-p.p-index c.loop-p-test.true
-    c.loop-p.pool c.substitute_at.new.pool c.loop-p.invariant.grows c.in_ok-place.ensures.grows
+    c.loop-p.pool c.substitute_at.new.pool c.loop-p.invariant.grows c.substitute_at.ensures.grows
 
 pub put_all-loop-p-preserved : goal.put_all-loop-p-preserved
 put_all-loop-p-preserved t c =
+    let place = was_made c.substitute_at.result _ _ c.in_ok-push_made.ensures.ok c.substitute_at.ensures.process in
     record {
-      places = subst (λ (xs : List ProcId). StandAt c.substitute_at.new.pool xs (map (tree_at (all_with c.args.names.now c.args.values.now c.args.pool.now)) (take (c.loop-p.p-index + 1) c.args.ids.now))) (sym c.in_ok-push.ensures.ok)
+      places = subst (λ (xs : List ProcId). StandAt c.substitute_at.new.pool xs (map (tree_at (all_with c.args.names.now c.args.values.now c.args.pool.now)) (take (c.loop-p.p-index + 1) c.args.ids.now))) (sym place.1)
           (made.next_stands c.args.names.now c.args.values.now c.args.pool.now c.args.id c.requires.within c.args.ids.now c.requires.places c.loop-p.p-index c.loop-p-test.true
-          c.loop-p.pool c.substitute_at.new.pool c.loop-p.invariant.grows.front c.in_ok-place.ensures.grows.front c.loop-p.made c.in_ok-place.place c.loop-p.invariant.places c.in_ok-place.ensures.process);
-      grows = made.next_grows c.args.names.now c.args.values.now c.args.pool.now c.args.id c.requires.within c.args.ids.now c.requires.places c.loop-p.p-index c.loop-p-test.true c.loop-p.pool c.substitute_at.new.pool c.loop-p.invariant.grows c.in_ok-place.ensures.grows;
-      visited = c.in_ok-place.ensures.visited;
+          c.loop-p.pool c.substitute_at.new.pool c.loop-p.invariant.grows.front c.substitute_at.ensures.grows.front c.loop-p.made place.0 c.loop-p.invariant.places place.2);
+      grows = made.next_grows c.args.names.now c.args.values.now c.args.pool.now c.args.id c.requires.within c.args.ids.now c.requires.places c.loop-p.p-index c.loop-p-test.true c.loop-p.pool c.substitute_at.new.pool c.loop-p.invariant.grows c.substitute_at.ensures.grows;
+      visited = c.substitute_at.ensures.visited;
     }
 
 pub substitute_at-returns-in-Some-clause-process : goal.substitute_at-returns-in-Some-clause-process
