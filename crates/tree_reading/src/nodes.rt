@@ -13,21 +13,13 @@ use csp_base::{Name, NoMemory};
 use csp_text::{FieldTree, Token, Tree};
 use std::alloc::Global;
 
-// A tree on the heap.
-fn boxed(alloc: Global, tree: Tree) -> Result<Boxed<Tree>, NoMemory>
-    ensures { IfOk result (λ t. t ≡ tree) }
-{
-    let boxed = Boxed::new(alloc, tree)?;
-    Ok(boxed)
-}
-
 /// A chain of processes with the sign of a choice between them.
 pub fn chosen(alloc: Global, chain: Chain, operands: Items<Tree>) -> Result<Boxed<Tree>, NoMemory>
     ensures { IfOk result (λ t. t ≡ choice_of (choice chain) operands) }
 {
     match chain {
-        Chain::External => boxed(alloc, Tree::External(operands)),
-        Chain::Internal => boxed(alloc, Tree::Internal(operands)),
+        Chain::External => Boxed::new(alloc, Tree::External(operands)),
+        Chain::Internal => Boxed::new(alloc, Tree::Internal(operands)),
     }
 }
 
@@ -43,7 +35,7 @@ pub fn expect_fields(
     if fields.is_empty() {
         return Err(stopped(tokens));
     }
-    let dotted = boxed(alloc, Tree::Dot(name, fields))?;
+    let dotted = Boxed::new(alloc, Tree::Dot(name, fields))?;
     Ok(dotted)
 }
 
@@ -58,8 +50,8 @@ pub fn each(
     ensures { IfOk result (λ t. t ≡ each_tree chain name set p) }
 {
     match chain {
-        Chain::External => boxed(alloc, Tree::EachExternal(name, set, p)),
-        Chain::Internal => boxed(alloc, Tree::EachInternal(name, set, p)),
+        Chain::External => Boxed::new(alloc, Tree::EachExternal(name, set, p)),
+        Chain::Internal => Boxed::new(alloc, Tree::EachInternal(name, set, p)),
     }
 }
 
@@ -67,7 +59,7 @@ pub fn each(
 fn alone(alloc: Global, item: Tree) -> Result<Boxed<Tree>, ReadFault>
     ensures { Gives result (λ t. t) (Some item) }
 {
-    let item = boxed(alloc, item)?;
+    let item = Boxed::new(alloc, item)?;
     Ok(item)
 }
 
