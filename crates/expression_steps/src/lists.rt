@@ -194,8 +194,7 @@ fn with_pair(
 {
     let mut renaming = renaming.into_inner();
     renaming.pairs.push((old.into_inner(), new))?;
-    let longer = Boxed::new(alloc, renaming)?;
-    Ok(longer)
+    Boxed::new(alloc, renaming)
 }
 
 // What stands behind these parts of a production.
