@@ -117,12 +117,13 @@ fn comprehension(
     ensures scope { OnOk result (binders.new.scope ≡ binders.old.scope) }
 {
     let kept = binders.scope.len();
-    let count = count_trees(items.as_slice());
+    let items = items.as_slice();
+    let count = count_trees(items);
     let (gens, last) = generators_after(meanings, binders, count, gens.as_slice())?;
-    let items = expressions(meanings, binders, items.as_slice());
+    let made = expressions(meanings, binders, items);
     binders.next = last;
     leave(binders, kept);
-    items.map(|items| Expr::Comp(items, gens))
+    made.map(|items| Expr::Comp(items, gens))
 }
 
 // The set of the events that begin with some fronts, under generators.
@@ -138,12 +139,13 @@ fn product(
     ensures scope { OnOk result (binders.new.scope ≡ binders.old.scope) }
 {
     let kept = binders.scope.len();
-    let count = count_parts(parts.as_slice());
+    let parts = parts.as_slice();
+    let count = count_parts(parts);
     let (gens, last) = generators_after(meanings, binders, count, gens.as_slice())?;
-    let parts = fronts(meanings, binders, parts.as_slice());
+    let made = fronts(meanings, binders, parts);
     binders.next = last;
     leave(binders, kept);
-    parts.map(|parts| Expr::Product(parts, gens))
+    made.map(|parts| Expr::Product(parts, gens))
 }
 
 /// A tree as an expression on the heap.

@@ -64,12 +64,12 @@ pub(crate) fn name(meanings: &Meanings<'_>, scope: &Scope, x: &Name) -> Expr
     named(meanings.alloc, scope.find(x), meanings.names.find(x))
 }
 
-/// What the event of a prefix begins with.
-pub(crate) fn head(number: Option<u32>, entity: Option<Entity>) -> Head
-    ensures { result ≡ typed.head_of number entity }
+/// What the event of a prefix begins with, under the bound names `scope`.
+pub(crate) fn head(meanings: &Meanings<'_>, scope: &Scope, x: &Name) -> Head
+    ensures { result ≡ typed.head_of (number_of scope.now x.now) (first_of meanings.now.names.now x.now) }
 {
-    match number {
+    match scope.find(x) {
         Some(number) => Head::Bound(number),
-        None => Head::Channel(channel_number(entity)),
+        None => Head::Channel(channel_number(meanings.names.find(x))),
     }
 }

@@ -227,8 +227,7 @@ fn choice(
     ensures scope { OnOk result (binders.new.scope ≡ binders.old.scope) }
 {
     let c = boxed_expr(meanings, binders, c.get())?;
-    let p = boxed(meanings, binders, p)?;
-    boxed(meanings, binders, q).map(|q| Proc::If(c.into_inner(), p, q))
+    two(meanings, binders, p, q).map(|(p, q)| Proc::If(c.into_inner(), p, q))
 }
 
 // A prefix of a process.
@@ -247,10 +246,7 @@ fn prefix(
     let fields = fields(meanings, binders, event.fields.as_slice())?;
     let p = boxed(meanings, binders, p)?;
     leave(binders, kept);
-    let first = head(
-        binders.scope.find(&event.name),
-        meanings.names.find(&event.name),
-    );
+    let first = head(meanings, &binders.scope, &event.name);
     Ok(Proc::Prefix(first, fields, p))
 }
 
@@ -304,8 +300,7 @@ fn sequence(
     ensures next { OnOk result (binders.new.next ≡ binders.old.next + tokens (Tree.Seq p.now q.now)) }
     ensures scope { OnOk result (binders.new.scope ≡ binders.old.scope) }
 {
-    let p = boxed(meanings, binders, p)?;
-    boxed(meanings, binders, q).map(|q| Proc::Seq(p, q))
+    two(meanings, binders, p, q).map(|(p, q)| Proc::Seq(p, q))
 }
 
 // A process with a set hidden.
@@ -360,6 +355,24 @@ fn renaming(
 {
     let p = boxed(meanings, binders, p)?;
     sides_under(meanings, binders, sides, gens).map(|(sides, gens)| Proc::Rename(p, sides, gens))
+}
+
+// Two trees as processes on the heap.
+#[cycle(typed_proc)]
+fn two(
+    meanings: &Meanings<'_>,
+    binders: &mut Binders,
+    p: &Boxed<Tree>,
+    q: &Boxed<Tree>,
+) -> Result<(Boxed<Proc>, Boxed<Proc>), NoMemory>
+    ensures first { IfOk result (λ made. made.0 ≡ proc_of meanings.now.names.now meanings.now.kinds.now p.now binders.old.scope binders.old.next) }
+    ensures second { IfOk result (λ made. made.1 ≡ proc_of meanings.now.names.now meanings.now.kinds.now q.now binders.old.scope (binders.old.next + tokens p.now)) }
+    ensures next { OnOk result (binders.new.next ≡ binders.old.next + tokens p.now + tokens q.now) }
+    ensures scope { OnOk result (binders.new.scope ≡ binders.old.scope) }
+{
+    let p = boxed(meanings, binders, p)?;
+    let q = boxed(meanings, binders, q)?;
+    Ok((p, q))
 }
 
 // A tree as a process on the heap.

@@ -73,41 +73,41 @@ generators_after-returns-clause-scope t c = λ n is. c.in_ok-gens.ensures.scope 
 
 pub comprehension-returns-clause-made : goal.comprehension-returns-clause-made
 comprehension-returns-clause-made t c =
-    let gens = c.in_ok-gens.ensures.made (all_tokens c.as_slice.result.now) c.count_trees-count.ensures in
-    let last = c.in_ok-gens.ensures.last (all_tokens c.as_slice.result.now) c.count_trees-count.ensures in
-    let scope = c.in_ok-gens.ensures.scope (all_tokens c.as_slice.result.now) c.count_trees-count.ensures in
+    let gens = c.in_ok-gens.ensures.made (all_tokens c.as_slice-items.result.now) c.count_trees-count.ensures in
+    let last = c.in_ok-gens.ensures.last (all_tokens c.as_slice-items.result.now) c.count_trees-count.ensures in
+    let scope = c.in_ok-gens.ensures.scope (all_tokens c.as_slice-items.result.now) c.count_trees-count.ensures in
     grind (arith, gens, last, scope)
 
 pub comprehension-returns-clause-next : goal.comprehension-returns-clause-next
 comprehension-returns-clause-next t c =
-    let gens = c.in_ok-gens.ensures.made (all_tokens c.as_slice.result.now) c.count_trees-count.ensures in
-    let last = c.in_ok-gens.ensures.last (all_tokens c.as_slice.result.now) c.count_trees-count.ensures in
-    let scope = c.in_ok-gens.ensures.scope (all_tokens c.as_slice.result.now) c.count_trees-count.ensures in
+    let gens = c.in_ok-gens.ensures.made (all_tokens c.as_slice-items.result.now) c.count_trees-count.ensures in
+    let last = c.in_ok-gens.ensures.last (all_tokens c.as_slice-items.result.now) c.count_trees-count.ensures in
+    let scope = c.in_ok-gens.ensures.scope (all_tokens c.as_slice-items.result.now) c.count_trees-count.ensures in
     grind (arith, gens, last, scope)
 
 pub comprehension-returns-clause-scope : goal.comprehension-returns-clause-scope
 comprehension-returns-clause-scope t c =
-    carried c.expressions-items.result c.map.result c.map.ensures.variant
-    (λ same. c.leave.ensures.scope ∙ (λ i. take (c.len-kept.ensures i) (same i)) ∙ c.in_ok-gens.ensures.keeps) c.expressions-items.ensures.scope
+    carried c.expressions-made.result c.map.result c.map.ensures.variant
+    (λ same. c.leave.ensures.scope ∙ (λ i. take (c.len-kept.ensures i) (same i)) ∙ c.in_ok-gens.ensures.keeps) c.expressions-made.ensures.scope
 
 pub product-returns-clause-made : goal.product-returns-clause-made
 product-returns-clause-made t c =
-    let gens = c.in_ok-gens.ensures.made (parts_tokens c.as_slice.result.now) c.count_parts-count.ensures in
-    let last = c.in_ok-gens.ensures.last (parts_tokens c.as_slice.result.now) c.count_parts-count.ensures in
-    let scope = c.in_ok-gens.ensures.scope (parts_tokens c.as_slice.result.now) c.count_parts-count.ensures in
+    let gens = c.in_ok-gens.ensures.made (parts_tokens c.as_slice-parts.result.now) c.count_parts-count.ensures in
+    let last = c.in_ok-gens.ensures.last (parts_tokens c.as_slice-parts.result.now) c.count_parts-count.ensures in
+    let scope = c.in_ok-gens.ensures.scope (parts_tokens c.as_slice-parts.result.now) c.count_parts-count.ensures in
     grind (arith, gens, last, scope)
 
 pub product-returns-clause-next : goal.product-returns-clause-next
 product-returns-clause-next t c =
-    let gens = c.in_ok-gens.ensures.made (parts_tokens c.as_slice.result.now) c.count_parts-count.ensures in
-    let last = c.in_ok-gens.ensures.last (parts_tokens c.as_slice.result.now) c.count_parts-count.ensures in
-    let scope = c.in_ok-gens.ensures.scope (parts_tokens c.as_slice.result.now) c.count_parts-count.ensures in
+    let gens = c.in_ok-gens.ensures.made (parts_tokens c.as_slice-parts.result.now) c.count_parts-count.ensures in
+    let last = c.in_ok-gens.ensures.last (parts_tokens c.as_slice-parts.result.now) c.count_parts-count.ensures in
+    let scope = c.in_ok-gens.ensures.scope (parts_tokens c.as_slice-parts.result.now) c.count_parts-count.ensures in
     grind (arith, gens, last, scope)
 
 pub product-returns-clause-scope : goal.product-returns-clause-scope
 product-returns-clause-scope t c =
-    carried c.fronts-parts.result c.map.result c.map.ensures.variant
-    (λ same. c.leave.ensures.scope ∙ (λ i. take (c.len-kept.ensures i) (same i)) ∙ c.in_ok-gens.ensures.keeps) c.fronts-parts.ensures.scope
+    carried c.fronts-made.result c.map.result c.map.ensures.variant
+    (λ same. c.leave.ensures.scope ∙ (λ i. take (c.len-kept.ensures i) (same i)) ∙ c.in_ok-gens.ensures.keeps) c.fronts-made.ensures.scope
 
 pub generator-returns-in-From-clause-made : goal.generator-returns-in-From-clause-made
 generator-returns-in-From-clause-made t c = grind (arith, gen_of-From)

@@ -37,8 +37,11 @@ decreases-hiding l = 4 * the_size l.p.now + 2
 abbrev pub decreases-renaming : goal.decreases-renaming
 decreases-renaming l = 4 * the_size l.p.now + 2
 
+abbrev pub decreases-two : goal.decreases-two
+decreases-two l = 4 * max (the_size l.p.now) (the_size l.q.now) + 2
+
 abbrev pub decreases-choice : goal.decreases-choice
-decreases-choice l = 4 * max (the_size l.p.now) (the_size l.q.now) + 2
+decreases-choice l = 4 * max (the_size l.p.now) (the_size l.q.now) + 3
 
 abbrev pub decreases-sequence : goal.decreases-sequence
-decreases-sequence l = 4 * max (the_size l.p.now) (the_size l.q.now) + 2
+decreases-sequence l = 4 * max (the_size l.p.now) (the_size l.q.now) + 3
