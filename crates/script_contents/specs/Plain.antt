@@ -1,5 +1,5 @@
 -- Parts of what a script's declarations put into its program. Only the private contracts of this crate cite them.
-use Rattle.std.specs.Prelude.{ℕ, Bool, if◌then◌else◌, None, List, [], ◌∷◌, length, slice_get}
+use Rattle.std.specs.Prelude.{ℕ, Bool, if◌then◌else◌, None, List, [], length, slice_get}
 use Rattle.csp_text.specs.declared.script.Decl.{Decl}
 use Rattle.csp_text.specs.declared.tree.Tree.{Tree}
 use Rattle.csp_program.specs.declared.expressions.Expr.{Expr}

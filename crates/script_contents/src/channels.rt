@@ -32,8 +32,23 @@ pub fn types_of(
     Ok(typed)
 }
 
-/// The channels of a script.
-pub fn channels(
+/// The channels and the names of the constants of a script.
+pub fn channels_and_constants(
+    alloc: Global,
+    names: &Dictionary,
+    kinds: &[Kind],
+    decls: &[Decl],
+) -> Result<(Items<Channel>, Items<Name>), NoMemory>
+    ensures channels { IfOk result (λ made. made.0 ≡ flat_map (meant.channels_of (first_of names.now) kinds.now) decls.now) }
+    ensures constants { IfOk result (λ made. made.1 ≡ flat_map constants_in decls.now) }
+{
+    let channels = channels(alloc, names, kinds, decls)?;
+    let constants = constants(alloc, decls)?;
+    Ok((channels, constants))
+}
+
+// The channels of a script.
+fn channels(
     alloc: Global,
     names: &Dictionary,
     kinds: &[Kind],
@@ -82,7 +97,7 @@ fn add_named(
     ensures { OnOk result (made.new ≡ made.old ++ map (λ (x : Name). plain_channel x types.now) xs.now) }
 {
     for x in xs {
-        made.push(channel(alloc, x, types)?)?;
+        made.push_made(channel(alloc, x, types))?;
     }
     Ok(())
 }
@@ -92,8 +107,7 @@ fn channel(alloc: Global, x: &Name, types: &[Expr]) -> Result<Channel, NoMemory>
     ensures { IfOk result (λ made. made ≡ plain_channel x.now types.now) }
 {
     let name = x.try_clone(alloc)?;
-    let types = copy_exprs(alloc, types)?;
-    Ok(Channel {
+    copy_exprs(alloc, types).map(|types| Channel {
         name,
         types,
         fields: None,
@@ -101,8 +115,8 @@ fn channel(alloc: Global, x: &Name, types: &[Expr]) -> Result<Channel, NoMemory>
     })
 }
 
-/// The names of the constants of a script.
-pub fn constants(alloc: Global, decls: &[Decl]) -> Result<Items<Name>, NoMemory>
+// The names of the constants of a script.
+fn constants(alloc: Global, decls: &[Decl]) -> Result<Items<Name>, NoMemory>
     ensures { IfOk result (λ made. made ≡ flat_map constants_in decls.now) }
 {
     let mut made = Items::new(alloc);
@@ -132,7 +146,7 @@ fn add_names(alloc: Global, made: &mut Items<Name>, xs: &[Name]) -> Result<(), N
     ensures { OnOk result (made.new ≡ made.old ++ xs.now) }
 {
     for x in xs {
-        made.push(x.try_clone(alloc)?)?;
+        made.push_made(x.try_clone(alloc))?;
     }
     Ok(())
 }

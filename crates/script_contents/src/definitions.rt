@@ -47,30 +47,35 @@ fn count(numbers: Numbers, decl: &Decl) -> Result<Numbers, NoMemory>
     ensures { IfOk result (λ after. counts after ≡ counted (counts numbers) decl.now) }
 {
     match decl {
-        Decl::Channel(xs, _) => Ok(Numbers {
-            channels: sum(numbers.channels, short(xs.len())?)?,
+        Decl::Channel(xs, _) => sum(numbers.channels, xs.len()).map(|channels| Numbers {
+            channels,
             constants: numbers.constants,
             definitions: numbers.definitions,
         }),
-        Decl::Datatype(_, ks) => Ok(Numbers {
-            channels: numbers.channels,
-            constants: sum(numbers.constants, short(ks.len())?)?,
-            definitions: next(numbers.definitions)?,
-        }),
-        Decl::Nametype(_, _) | Decl::Define(_, _, _) => Ok(Numbers {
-            channels: numbers.channels,
-            constants: numbers.constants,
-            definitions: next(numbers.definitions)?,
-        }),
+        Decl::Datatype(_, ks) => {
+            let constants = sum(numbers.constants, ks.len())?;
+            next(numbers.definitions).map(|definitions| Numbers {
+                channels: numbers.channels,
+                constants,
+                definitions,
+            })
+        }
+        Decl::Nametype(_, _) | Decl::Define(_, _, _) => {
+            next(numbers.definitions).map(|definitions| Numbers {
+                channels: numbers.channels,
+                constants: numbers.constants,
+                definitions,
+            })
+        }
         Decl::Assert(_) | Decl::Roles(_) | Decl::Resource(_) => Ok(numbers),
     }
 }
 
 // The sum, which is refused like want of memory where its type has none.
-fn sum(n: u32, m: u32) -> Result<u32, NoMemory>
+fn sum(n: u32, m: usize) -> Result<u32, NoMemory>
     ensures { IfOk result (λ sum. sum ≡ n + m) }
 {
-    match n.checked_add(m) {
+    match n.checked_add(short(m)?) {
         Some(sum) => Ok(sum),
         None => Err(NoMemory),
     }
@@ -89,36 +94,13 @@ fn add_definition(
 {
     match decl {
         Decl::Define(x, params, tree) => {
-            let def = define(
-                alloc,
-                names,
-                kinds,
-                numbers.definitions,
-                x,
-                params.as_slice(),
-                tree,
-            )?;
-            push_def(made, def)
+            let d = numbers.definitions;
+            made.push_made(define(alloc, names, kinds, d, x, params.as_slice(), tree))
         }
-        Decl::Nametype(x, tree) => {
-            let def = nametype(alloc, names, kinds, x, tree)?;
-            push_def(made, def)
-        }
-        Decl::Datatype(x, ks) => {
-            let count = short(ks.len())?;
-            let def = datatype(alloc, x, numbers.constants, count)?;
-            push_def(made, def)
-        }
+        Decl::Nametype(x, tree) => made.push_made(nametype(alloc, names, kinds, x, tree)),
+        Decl::Datatype(x, ks) => { made.push_made(datatype(alloc, x, numbers.constants, ks.len())) }
         Decl::Channel(_, _) | Decl::Assert(_) | Decl::Roles(_) | Decl::Resource(_) => Ok(()),
     }
-}
-
-// Puts a definition at the end.
-fn push_def(made: &mut Items<Def>, def: Def) -> Result<(), NoMemory>
-    ensures { OnOk result (made.new ≡ made.old ++ def ∷ []) }
-{
-    made.push(def)?;
-    Ok(())
 }
 
 // The definition with the number `d`.
@@ -134,10 +116,8 @@ fn define(
     ensures { IfOk result (λ def. def ≡ definition_at (first_of names.now) kinds.now d x.now params.now tree.now) }
 {
     let name = x.try_clone(alloc)?;
-    let count = short(params.len())?;
-    let numbers = numbers_from(alloc, 0, count)?;
-    let body = body_of(alloc, names, kinds, d, params, count, tree)?;
-    Ok(Def {
+    let numbers = numbers_from(alloc, 0, params.len())?;
+    body_of(alloc, names, kinds, d, params, tree).map(|body| Def {
         name,
         params: numbers,
         body,
@@ -151,15 +131,14 @@ fn body_of(
     kinds: &[Kind],
     d: u32,
     params: &[Name],
-    n: u32,
     tree: &Tree,
 ) -> Result<Body, NoMemory>
-    ensures { IfOk result (λ body. body ≡ body_at (first_of names.now) kinds.now d tree.now n (meant.parameters 0 params.now)) }
+    ensures { IfOk result (λ body. body ≡ body_at (first_of names.now) kinds.now d tree.now (length params.now) (meant.parameters 0 params.now)) }
 {
+    let n = short(params.len())?;
     let mut scope = Scope::new(alloc);
     bind_all(&mut scope, params)?;
-    let body = body_under(alloc, names, kinds, d, &mut scope, n, tree)?;
-    Ok(body)
+    body_under(alloc, names, kinds, d, &mut scope, n, tree)
 }
 
 // The body of the definition with the number `d`, whose first binding token has the number `n`.
@@ -177,7 +156,7 @@ fn body_under(
     let mut next = n;
     let kind = kind_at(kinds, d);
     match kind.class {
-        Class::Data => Ok(Body::Datum(typed_expr(alloc, names, kinds, scope, &mut next, tree)?)),
+        Class::Data => typed_expr(alloc, names, kinds, scope, &mut next, tree).map(Body::Datum),
         Class::Process | Class::Unknown => {
             process_under(alloc, names, kinds, kind.network, scope, n, tree)
         }
@@ -198,9 +177,9 @@ fn process_under(
 {
     let mut next = n;
     if network {
-        Ok(Body::Network(typed_net(alloc, names, kinds, scope, &mut next, tree)?))
+        typed_net(alloc, names, kinds, scope, &mut next, tree).map(Body::Network)
     } else {
-        Ok(Body::Process(typed_proc(alloc, names, kinds, scope, &mut next, tree)?))
+        typed_proc(alloc, names, kinds, scope, &mut next, tree).map(Body::Process)
     }
 }
 
@@ -231,8 +210,7 @@ fn nametype(
     let name = x.try_clone(alloc)?;
     let mut scope = Scope::new(alloc);
     let mut next: u32 = 0;
-    let expr = typed_expr(alloc, names, kinds, &mut scope, &mut next, tree)?;
-    Ok(Def {
+    typed_expr(alloc, names, kinds, &mut scope, &mut next, tree).map(|expr| Def {
         name,
         params: Items::new(alloc),
         body: Body::Nametype(expr),
@@ -240,12 +218,11 @@ fn nametype(
 }
 
 // A datatype of so many constants, the first of which has the number `first`.
-fn datatype(alloc: Global, x: &Name, first: u32, count: u32) -> Result<Def, NoMemory>
+fn datatype(alloc: Global, x: &Name, first: u32, count: usize) -> Result<Def, NoMemory>
     ensures { IfOk result (λ def. def ≡ datatype_of x.now first count) }
 {
     let name = x.try_clone(alloc)?;
-    let constants = numbers_from(alloc, first, count)?;
-    Ok(Def {
+    numbers_from(alloc, first, count).map(|constants| Def {
         name,
         params: Items::new(alloc),
         body: Body::Datatype(constants),
@@ -253,7 +230,7 @@ fn datatype(alloc: Global, x: &Name, first: u32, count: u32) -> Result<Def, NoMe
 }
 
 // The numbers from `first` on, so many of them.
-fn numbers_from(alloc: Global, first: u32, count: u32) -> Result<Items<u32>, NoMemory>
+fn numbers_from(alloc: Global, first: u32, count: usize) -> Result<Items<u32>, NoMemory>
     ensures { IfOk result (λ made. made ≡ meant.numbers_from first count) }
 {
     let mut made = Items::new(alloc);

@@ -25,12 +25,22 @@ fn defined_by(names: &Dictionary, x: &Name) -> u32
     }
 }
 
-/// The annotations of roles.
-pub fn roles(
+/// The annotations of roles and of resources.
+pub fn annotations(
     alloc: Global,
     names: &Dictionary,
     decls: &[Decl],
-) -> Result<Items<RolesNote>, NoMemory>
+) -> Result<(Items<RolesNote>, Items<ResourceNote>), NoMemory>
+    ensures roles { IfOk result (λ made. made.0 ≡ flat_map (roles_in (first_of names.now)) decls.now) }
+    ensures resources { IfOk result (λ made. made.1 ≡ flat_map (resources_in (first_of names.now)) decls.now) }
+{
+    let roles = roles(alloc, names, decls)?;
+    let resources = resources(alloc, names, decls)?;
+    Ok((roles, resources))
+}
+
+// The annotations of roles.
+fn roles(alloc: Global, names: &Dictionary, decls: &[Decl]) -> Result<Items<RolesNote>, NoMemory>
     ensures { IfOk result (λ made. made ≡ flat_map (roles_in (first_of names.now)) decls.now) }
 {
     let mut made = Items::new(alloc);
@@ -64,8 +74,8 @@ fn add_roles(names: &Dictionary, made: &mut Items<RolesNote>, decl: &Decl) -> Re
     }
 }
 
-/// The annotations of resources.
-pub fn resources(
+// The annotations of resources.
+fn resources(
     alloc: Global,
     names: &Dictionary,
     decls: &[Decl],

@@ -7,10 +7,10 @@ returns c =
     (record {
       events = c.new.result;
       channels = c.in_ok-channels.channels;
-      consts = c.in_ok-consts.consts;
+      consts = c.in_ok-channels.consts;
       defs = c.in_ok-defs.defs;
       roles = c.in_ok-roles.roles;
-      resources = c.in_ok-resources.resources;
-      root = c.in_ok-root.root;
+      resources = c.in_ok-roles.resources;
+      root = c.in_ok-defs.root;
     })
-    c.requires.names c.requires.root c.new.ensures c.in_ok-channels.ensures c.in_ok-consts.ensures c.in_ok-defs.ensures c.in_ok-roles.ensures c.in_ok-resources.ensures c.in_ok-root.ensures
+    c.requires.names c.requires.root c.new.ensures c.in_ok-channels.ensures.channels c.in_ok-channels.ensures.constants c.in_ok-defs.ensures.definitions c.in_ok-roles.ensures.roles c.in_ok-roles.ensures.resources c.in_ok-defs.ensures.root
