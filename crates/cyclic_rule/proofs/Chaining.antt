@@ -1,23 +1,20 @@
 -- Numbers that rise from each link to the next one of a part rise along all orders.
-use Rattle.std.proofs.Common.{◌≡◌, ℕ, zero, suc, ◌+◌, ◌-◌, ◌%◌, ◌<◌, ◌≤◌, inl, inr, ◌⊎◌, List, [], ◌∷◌, ◌++◌, length, get_or, take, drop, true, false, Some, IsTrue, nat_eq, refl, sym, ap, subst, ◌∙◌, arith, eq-eqb}
-use Rattle.std.specs.Prelude.{slice_get, reverse}
-use Rattle.std.proofs.lemmas.Bool.{cases_Bool, cases_eq, cond-true, cond-false, or_cases, or_left, or_right, eqb-true, both_ways, false≢true}
-use Rattle.std.proofs.lemmas.List.{get_or-reverse, get_or_read, length-reverse, reverse-append}
-use Rattle.std.proofs.lemmas.List.Folds.{list_any-append, list_any_at}
+use Rattle.std.proofs.Common.{◌≡◌, ℕ, zero, suc, ◌+◌, ◌-◌, ◌%◌, ◌<◌, ◌≤◌, inl, inr, ◌⊎◌, List, [], length, get_or, true, false, Some, sym, ap, subst, ◌∙◌, arith}
+use Rattle.std.specs.Prelude.{slice_get}
+use Rattle.std.proofs.lemmas.Bool.{cases_Bool, cases_eq, both_ways}
+use Rattle.std.proofs.lemmas.List.{get_or_read}
 use Rattle.std.proofs.lemmas.Option.{slice_get_within, get_or_from_slice_get}
-use Rattle.std.proofs.Math.Seq.{drop-append_seam, take-append_seam}
 use Rattle.std.proofs.lemmas.Nat.{mod_below}
 use Rattle.std.proofs.Math.Nat.{mod-le}
 use Rattle.csp_base.specs.Members.{has}
-use Rattle.csp_tables.specs.Shape.{Shape, is_end, IsWellFormed}
+use Rattle.csp_tables.specs.Shape.{Shape, IsWellFormed}
 use Rattle.digraph.specs.Walk.{IsLongestWalk}
-use Rattle.digraph.specs.Circle.{Leads, IsLeastCircle}
 use Rattle.digraph.proofs.WalkLaws.{same_walk}
 use Rattle.design_rules.specs.Cyclic.{links_of, place_after, AllKeepPlaces, MustPrecede, NumbersRise}
 use Rattle.design_rules.specs.CyclicRanking.{ComesAfter, AreChainNumbers}
 use Rattle.design_rules.proofs.Places.{Keeping, IsAt, some_links, first_lap, precedes, precedes_rest}
 use Rattle.design_rules.proofs.Walks.{walk_bound}
-use Rattle.shape_links.specs.Links.{ends_below, ends_of}
+use Rattle.shape_links.specs.Links.{ends_of}
 use Rattle.cyclic_conditions.specs.Orders.{IsOrder, order_at, AreOrders}
 use Rattle.cyclic_rule.specs.Chains.{IsNextIn, IsRestAfter, ComesNext, IsNextAt}
 use Rattle.shape_links.proofs.Links.{ends_sound, ends_complete, place_in, has_place, has_at, some_at}

@@ -1,5 +1,5 @@
 -- Which link comes next after which. (No public contract cites this.)
-use Rattle.std.specs.Prelude.{◌≡◌, ◌<◌, ◌+◌, ◌⊎◌, ℕ, List, [], ◌∷◌, Some, IsTrue, false, length, reverse, slice_get}
+use Rattle.std.specs.Prelude.{◌≡◌, ◌<◌, ◌+◌, ◌⊎◌, ℕ, List, Some, IsTrue, false, length, slice_get}
 use Rattle.csp_base.specs.Members.{has}
 use Rattle.csp_tables.specs.Shape.{Shape}
 use Rattle.shape_links.specs.Links.{ends_of}

@@ -7,6 +7,7 @@ ghost use Rattle.design_rules.specs.Cyclic.{AllKeepPlaces, NumbersRise};
 ghost use Rattle.design_rules.specs.CyclicRanking.{AreChainNumbers};
 ghost use Rattle.cyclic_rule.specs.Chains.{ComesNext, IsNextAt, IsNextIn, IsRestAfter};
 ghost use Rattle.shape_links.specs.Links.{ends_of};
+ghost use Rattle.shape_links.specs.Turned.{turned_circle};
 ghost use Rattle.cyclic_conditions.specs.Orders.{AreOrders};
 ghost use Rattle.cyclic_conditions.specs.Told.{Tells};
 
@@ -34,11 +35,19 @@ pub(crate) fn numbers(
     let rows = chains(alloc, prepared, orders)?;
     match longest_walks(alloc, &rows) {
         Ok(heights) => Ok(heights),
-        Err(Fault::Circle(circle)) => {
-            let links = turned(alloc, circle.members())?;
-            Err(CyclicFault::Circle { links })
-        }
+        Err(Fault::Circle(circle)) => Err(told(alloc, circle.members())),
         Err(Fault::NoMemory) => Err(CyclicFault::NoMemory),
+    }
+}
+
+// The circle in the other direction, or that memory ran out.
+fn told(alloc: Global, circle: &[u32]) -> CyclicFault
+    requires { 0 < length circle.now }
+    ensures { (result ≡ CyclicFault.NoMemory) ⊎ (result ≡ CyclicFault.Circle (turned_circle circle.now)) }
+{
+    match turned(alloc, circle) {
+        Ok(links) => CyclicFault::Circle { links },
+        Err(_) => CyclicFault::NoMemory,
     }
 }
 

@@ -1,16 +1,17 @@
 //! The rule as a whole.
 
-ghost use Rattle.std.specs.Prelude.{IfErr, IfOk, OnOk};
+ghost use Rattle.std.specs.Prelude.{◌≡◌, ◌<◌, ℕ, IfErr, IfOk, OnOk, length, slice_index};
 ghost use Rattle.csp_tables.specs.Part.{TripleDisjoint, alphabets_of};
 ghost use Rattle.csp_tables.specs.Shape.{IsWellFormed};
 ghost use Rattle.csp_tables.specs.Standing.{IsBusyShape};
-ghost use Rattle.design_rules.specs.Cyclic.{IsCyclic};
-ghost use Rattle.design_rules.specs.CyclicRanking.{IsCyclicRanking};
+ghost use Rattle.design_rules.specs.Cyclic.{AllKeepPlaces, HasWholeEnd, IsCyclic, NumbersRise};
+ghost use Rattle.design_rules.specs.CyclicRanking.{AreChainNumbers, IsCyclicRanking};
 ghost use Rattle.cyclic_conditions.specs.Told.{Tells};
 
 use crate::numbers::numbers;
 use csp_tables::{Ranking, Shape};
 use cyclic_conditions::{CyclicFault, Prepared, check_ends, link_orders};
+use digraph::Heights;
 use rule_rankings::cyclic_ranking;
 use std::alloc::Global;
 
@@ -25,9 +26,31 @@ pub fn cyclic(alloc: Global, shape: &Shape) -> Result<Ranking, CyclicFault>
     ensures fault { IfErr result (λ fault. Tells shape.now fault) }
 {
     let prepared = Prepared::new(alloc, shape)?;
-    let orders = link_orders(alloc, &prepared)?;
-    let numbers = numbers(alloc, &prepared, &orders)?;
-    check_ends(alloc, &prepared)?;
-    let ranking = cyclic_ranking(alloc, &prepared, &numbers)?;
+    ranked(alloc, &prepared)
+}
+
+// The same of a shape that is prepared.
+fn ranked(alloc: Global, prepared: &Prepared<'_>) -> Result<Ranking, CyclicFault>
+    ensures cyclic { OnOk result (IsCyclic prepared.now) }
+    ensures ranking { IfOk result (λ ranking. IsCyclicRanking prepared.now ranking) }
+    ensures fault { IfErr result (λ fault. Tells prepared.now fault) }
+{
+    let numbers = checked_numbers(alloc, prepared)?;
+    let ranking = cyclic_ranking(alloc, prepared, &numbers)?;
     Ok(ranking)
+}
+
+// The numbers of the links, where the rule holds, and else what breaks it.
+fn checked_numbers(alloc: Global, prepared: &Prepared<'_>) -> Result<Heights, CyclicFault>
+    ensures keep { OnOk result (AllKeepPlaces prepared.now) }
+    ensures count { IfOk result (λ numbers. length numbers ≡ length prepared.now.links) }
+    ensures chains { IfOk result (λ numbers. AreChainNumbers prepared.now (slice_index numbers)) }
+    ensures rise { IfOk result (λ numbers. NumbersRise prepared.now (slice_index numbers)) }
+    ensures whole { OnOk result ((l : ℕ) → l < length prepared.now.links → HasWholeEnd prepared.now l) }
+    ensures fault { IfErr result (λ fault. Tells prepared.now fault) }
+{
+    let orders = link_orders(alloc, prepared)?;
+    let numbers = numbers(alloc, prepared, &orders)?;
+    check_ends(alloc, prepared)?;
+    Ok(numbers)
 }

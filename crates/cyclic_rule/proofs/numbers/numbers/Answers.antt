@@ -1,9 +1,11 @@
-use Rattle.std.proofs.Common.{◌<◌, ◌∙◌, ℕ, List, length, ap, sym, subst, Err}
+use Rattle.std.proofs.Common.{◌<◌, ℕ, List, length, ap, inl, inr, sym, subst, Err}
 use Rattle.std.specs.Prelude.{slice_index}
 use Rattle.digraph.specs.Digraph.{HasArc}
 use Rattle.digraph.specs.Circle.{IsLeastCircle}
 use Rattle.design_rules.specs.Cyclic.{MustPrecede}
 use Rattle.shape_links.specs.Turned.{turned_circle}
+use Rattle.cyclic_conditions.specs.Told.{Tells}
+use Rattle.cyclic_conditions.specs.declared.fault.CyclicFault.TheVariants.{Circle}
 use Rattle.cyclic_rule.proofs.Chaining.{next_precedes, all_rise, chain_numbers}
 use Rattle.shape_links.proofs.Circles.{turned_least, circle_some}
 use Rattle.cyclic_rule.proofs.numbers.numbers.Goals as goal
@@ -20,16 +22,20 @@ returns-in-Ok-clause-chains c =
 pub returns-in-Ok-clause-rise : goal.returns-in-Ok-clause-rise
 returns-in-Ok-clause-rise c = all_rise c.args.prepared.now c.args.orders.now c.shape-form.ensures.form c.requires.keep c.requires.orders (slice_index c.in-Ok.heights) (λ l m x. c.in-Ok.ensures.falls m l (c.in_ok-rows.ensures.complete m l x))
 
-pub turned-requires : goal.turned-requires
-turned-requires c =
+pub told-requires : goal.told-requires
+told-requires c =
     let it = c.in-Err-Circle.ensures.circle c.in-Err-Circle.circle (ap Err c.in-Err-Circle.field-0-is) in
     subst (λ (vs : List ℕ). 0 < length vs) (sym c.members.ensures) (circle_some (HasArc c.in_ok-rows.rows) c.in-Err-Circle.circle it)
 
 pub returns-in-Err-Circle-clause-fault : goal.returns-in-Err-Circle-clause-fault
 returns-in-Err-Circle-clause-fault c =
     let it = c.in-Err-Circle.ensures.circle c.in-Err-Circle.circle (ap Err c.in-Err-Circle.field-0-is) in
-    record {
+    let disagree : Tells c.args.prepared.now (Circle (turned_circle c.members.result.now)) = record {
       order = c.requires.keep;
-      circle = subst (IsLeastCircle (MustPrecede c.args.prepared.now)) (sym (c.in_ok-links-in-Err-Circle.ensures ∙ ap turned_circle c.members.ensures))
+      circle = subst (IsLeastCircle (MustPrecede c.args.prepared.now)) (sym (ap turned_circle c.members.ensures))
           (turned_least (HasArc c.in_ok-rows.rows) (MustPrecede c.args.prepared.now) (λ m l arc. next_precedes c.args.prepared.now c.args.orders.now c.shape-form.ensures.form c.requires.keep c.requires.orders l m (c.in_ok-rows.ensures.sound m l arc)) c.in-Err-Circle.circle it);
-    }
+    } in
+    elim c.told.ensures as (λ _. Tells c.args.prepared.now c.told.result) [
+      | inl want ↦ subst (Tells c.args.prepared.now) (sym want) tt
+      | inr is ↦ subst (Tells c.args.prepared.now) (sym is) disagree
+    ]
