@@ -25,11 +25,18 @@ pub(crate) fn heights(alloc: Global, network: &Network<'_>) -> Result<Heights, R
     let rows = arcs(alloc, network)?;
     match longest_walks(alloc, &rows) {
         Ok(heights) => Ok(heights),
-        Err(Fault::Circle(circle)) => {
-            let clients = Items::from_slice(alloc, circle.members())?;
-            Err(RoleFault::ClientsCircle { clients })
-        }
+        Err(Fault::Circle(circle)) => Err(told(alloc, circle.members())),
         Err(Fault::NoMemory) => Err(RoleFault::NoMemory),
+    }
+}
+
+// The circle of clients, or that memory ran out.
+fn told(alloc: Global, circle: &[u32]) -> RoleFault
+    ensures { (result ≡ RoleFault.NoMemory) ⊎ (result ≡ RoleFault.ClientsCircle circle.now) }
+{
+    match Items::from_slice(alloc, circle) {
+        Ok(clients) => RoleFault::ClientsCircle { clients },
+        Err(_) => RoleFault::NoMemory,
     }
 }
 

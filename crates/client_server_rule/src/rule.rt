@@ -1,14 +1,17 @@
 //! The rule as a whole.
 
-ghost use Rattle.std.specs.Prelude.{◌≡◌, IfErr, IfOk, OnOk, length};
+ghost use Rattle.std.specs.Prelude.{◌≡◌, ◌<◌, All, IfErr, IfOk, OnOk, length};
 ghost use Rattle.csp_tables.specs.Shape.{IsWellFormed};
-ghost use Rattle.design_rules.specs.ClientServer.{IsClientServer, KeepRoles};
+ghost use Rattle.design_rules.specs.ClientServer.{IsClientServer, KeepRoles, Serves};
 ghost use Rattle.design_rules.specs.ClientServerRanking.{IsClientServerRanking};
+ghost use Rattle.digraph.specs.Circle.{HasNoCircle};
+ghost use Rattle.digraph.specs.Walk.{AreHeights};
 ghost use Rattle.client_server_conditions.specs.Told.{Tells};
 
 use crate::arcs::heights;
 use client_server_conditions::{Condition, Network, RoleFault, check};
 use csp_tables::{Ranking, RoleSets, Shape};
+use digraph::Heights;
 use rule_rankings::client_server_ranking;
 use std::alloc::Global;
 
@@ -22,20 +25,31 @@ pub fn client_server(alloc: Global, shape: &Shape, roles: &[RoleSets]) -> Result
     ensures fault { IfErr result (λ fault. Tells shape.now roles.now fault) }
 {
     let network = Network::new(alloc, shape, roles)?;
-    check_runs(alloc, &network)?;
-    let heights = heights(alloc, &network)?;
-    let ranking = client_server_ranking(alloc, &network, &heights)?;
+    ranked(alloc, &network)
+}
+
+// The same of a network in which S1 and S2 hold.
+fn ranked(alloc: Global, network: &Network<'_>) -> Result<Ranking, RoleFault>
+    ensures client_server { OnOk result (IsClientServer network.now.shape network.now.roles) }
+    ensures ranking { IfOk result (λ ranking. IsClientServerRanking network.now.shape network.now.roles ranking) }
+    ensures fault { IfErr result (λ fault. Tells network.now.shape network.now.roles fault) }
+{
+    let heights = checked_heights(alloc, network)?;
+    let ranking = client_server_ranking(alloc, network, &heights)?;
     Ok(ranking)
 }
 
-// Succeeds where S3, S4 and S5 hold, and else tells the least that does not.
-fn check_runs(alloc: Global, network: &Network<'_>) -> Result<(), RoleFault>
+// The heights of the parts, where S3, S4, S5 and S6 hold, and else the least that does not.
+fn checked_heights(alloc: Global, network: &Network<'_>) -> Result<Heights, RoleFault>
     ensures keep { OnOk result (KeepRoles network.now.shape network.now.roles) }
+    ensures heights { IfOk result (λ heights. AreHeights (Serves network.now.shape network.now.roles) (length network.now.shape.parts) heights) }
+    ensures below { IfOk result (λ heights. All (λ height. height < length network.now.shape.parts) heights) }
+    ensures no_circle { OnOk result (HasNoCircle (Serves network.now.shape network.now.roles)) }
     ensures fault { IfErr result (λ fault. Tells network.now.shape network.now.roles fault) }
 {
     let _linked = network.shape();
     check(alloc, network, Condition::Turns)?;
     check(alloc, network, Condition::Service)?;
     check(alloc, network, Condition::Answers)?;
-    Ok(())
+    heights(alloc, network)
 }
