@@ -1,6 +1,6 @@
 -- U4, and what a user offers while it holds a resource, on its runs and as tests of a node and of the parity of a link's events.
 -- (For private contracts: no public one cites this.)
-use Rattle.std.specs.Prelude.{◌<◌, ℕ, List, Bool, true, ◌&&◌, IsTrue, nat_eq, if◌then◌else◌}
+use Rattle.std.specs.Prelude.{ℕ, List, Bool, true, ◌&&◌, IsTrue, nat_eq, if◌then◌else◌}
 use Rattle.std.specs.List.{list_all, list_any}
 use Rattle.csp_base.specs.Members.{has}
 use Rattle.csp_base.specs.Events.{is_subset_of}

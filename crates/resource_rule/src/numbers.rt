@@ -1,11 +1,12 @@
 //! The numbers of the resources: how many must be acquired before each, in a chain.
 
-ghost use Rattle.std.specs.Prelude.{◌≡◌, ◌<◌, ℕ, All, IfErr, IfOk, length};
+ghost use Rattle.std.specs.Prelude.{◌≡◌, ◌<◌, ◌⊎◌, ℕ, All, IfErr, IfOk, length};
 ghost use Rattle.design_rules.specs.Resource.{IsHeldWhile, KeepUses, ResourcesRise};
 ghost use Rattle.design_rules.specs.ResourceRanking.{AreResourceNumbers};
 ghost use Rattle.digraph.specs.Digraph.{HasArc};
 ghost use Rattle.rule_rankings.specs.ResourceRanks.{number_by};
 ghost use Rattle.resource_conditions.specs.Setting.{TellsOf};
+ghost use Rattle.shape_links.specs.Turned.{turned_circle};
 
 use digraph::{Fault, Heights, Rows, longest_walks};
 use resource_conditions::{Prepared, ResourceFault};
@@ -31,10 +32,18 @@ pub(crate) fn numbers(
     let _form = prepared.shape();
     match longest_walks(alloc, rows) {
         Ok(heights) => Ok(heights),
-        Err(Fault::Circle(circle)) => {
-            let resources = turned(alloc, circle.members())?;
-            Err(ResourceFault::ResourcesCircle { resources })
-        }
+        Err(Fault::Circle(circle)) => Err(told(alloc, circle.members())),
         Err(Fault::NoMemory) => Err(ResourceFault::NoMemory),
+    }
+}
+
+// The circle in the other direction, or that memory ran out.
+fn told(alloc: Global, circle: &[u32]) -> ResourceFault
+    requires { 0 < length circle.now }
+    ensures { (result ≡ ResourceFault.NoMemory) ⊎ (result ≡ ResourceFault.ResourcesCircle (turned_circle circle.now)) }
+{
+    match turned(alloc, circle) {
+        Ok(resources) => ResourceFault::ResourcesCircle { resources },
+        Err(_) => ResourceFault::NoMemory,
     }
 }

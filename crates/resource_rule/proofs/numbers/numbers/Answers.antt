@@ -1,4 +1,4 @@
-use Rattle.std.proofs.Common.{◌<◌, ◌∙◌, ℕ, List, length, ap, sym, subst, refl, arith, Err}
+use Rattle.std.proofs.Common.{◌<◌, ℕ, List, length, ap, sym, subst, refl, arith, inl, inr, Err}
 use Rattle.std.specs.Prelude.{slice_index}
 use Rattle.digraph.specs.Digraph.{HasArc}
 use Rattle.digraph.specs.Circle.{IsLeastCircle}
@@ -7,6 +7,8 @@ use Rattle.design_rules.specs.Resource.{IsHeldWhile}
 use Rattle.design_rules.specs.ResourceRanking.{StandsAbove}
 use Rattle.shape_links.specs.Turned.{turned_circle}
 use Rattle.shape_links.proofs.Circles.{turned_least, circle_some}
+use Rattle.resource_conditions.specs.Setting.{TellsOf}
+use Rattle.resource_conditions.specs.declared.fault.ResourceFault.TheVariants.{ResourcesCircle}
 use Rattle.resource_rule.proofs.numbers.numbers.Goals as goal
 
 pub returns-in-Ok-clause-numbers : goal.returns-in-Ok-clause-numbers
@@ -24,17 +26,21 @@ returns-in-Ok-clause-rise c m j held =
     let falls : slice_index c.in-Ok.heights m < slice_index c.in-Ok.heights j = c.in-Ok.ensures.falls j m (c.requires.complete j m held) in
     omega arith
 
-pub turned-requires : goal.turned-requires
-turned-requires c =
+pub told-requires : goal.told-requires
+told-requires c =
     let it = c.in-Err-Circle.ensures.circle c.in-Err-Circle.circle (ap Err c.in-Err-Circle.field-0-is) in
     subst (λ (vs : List ℕ). 0 < length vs) (sym c.members.ensures) (circle_some (HasArc c.args.rows.now) c.in-Err-Circle.circle it)
 
-pub returns-in_ok-resources-in-Err-Circle-clause-fault : goal.returns-in_ok-resources-in-Err-Circle-clause-fault
-returns-in_ok-resources-in-Err-Circle-clause-fault c =
+pub returns-in-Err-Circle-clause-fault : goal.returns-in-Err-Circle-clause-fault
+returns-in-Err-Circle-clause-fault c =
     let g = c.args.prepared.now in
     let it = c.in-Err-Circle.ensures.circle c.in-Err-Circle.circle (ap Err c.in-Err-Circle.field-0-is) in
-    record {
+    let in_circle : TellsOf g (ResourcesCircle (turned_circle c.members.result.now)) = record {
       keep_uses = c.requires.keep;
-      circle = subst (IsLeastCircle (IsHeldWhile g.shape g.uses)) (sym (c.in_ok-resources-in-Err-Circle.ensures ∙ ap turned_circle c.members.ensures))
+      circle = subst (IsLeastCircle (IsHeldWhile g.shape g.uses)) (sym (ap turned_circle c.members.ensures))
           (turned_least (HasArc c.args.rows.now) (IsHeldWhile g.shape g.uses) (λ (x y : ℕ) arc. c.requires.sound x y arc) c.in-Err-Circle.circle it);
-    }
+    } in
+    elim c.told.ensures as (λ _. TellsOf g c.told.result) [
+      | inl want ↦ subst (TellsOf g) (sym want) tt
+      | inr is ↦ subst (TellsOf g) (sym is) in_circle
+    ]

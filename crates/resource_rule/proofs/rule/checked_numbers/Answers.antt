@@ -1,0 +1,7 @@
+use Rattle.resource_rule.proofs.rule.checked_numbers.Goals as goal
+
+pub numbers-requires-clause-keep : goal.numbers-requires-clause-keep
+numbers-requires-clause-keep c = record { kinds = c.in_ok-check_uses.ensures.kinds; used = c.in_ok-check_uses.ensures.turns; grants = c.in_ok-check_uses.ensures.grants; turns = c.in_ok-rows.ensures.users }
+
+pub returns-clause-keep : goal.returns-clause-keep
+returns-clause-keep c = record { kinds = c.in_ok-check_uses.ensures.kinds; used = c.in_ok-check_uses.ensures.turns; grants = c.in_ok-check_uses.ensures.grants; turns = c.in_ok-rows.ensures.users }
