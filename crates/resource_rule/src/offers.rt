@@ -1,6 +1,6 @@
 //! What a user offers while it holds a resource, and which resources that acquires.
 
-ghost use Rattle.std.specs.Prelude.{◌≡◌, ◌<◌, ◌&&◌, ◌||◌, ℕ, Some, true, IfOk, OnOk, length, nat_eq};
+ghost use Rattle.std.specs.Prelude.{◌≡◌, ◌<◌, ◌&&◌, ◌||◌, ℕ, List, Some, true, IfOk, OnOk, length, nat_eq};
 ghost use Rattle.csp_base.specs.Members.{has};
 ghost use Rattle.csp_base.specs.Events.{is_subset_of};
 ghost use Rattle.csp_tables.specs.Part.{part_at};
@@ -16,8 +16,30 @@ use digraph::Rows;
 use resource_conditions::{Prepared, acquired};
 use std::alloc::Global;
 
+// An arc from each resource that the part offers to acquire at the pairs with the state 1 to the one that is held.
+pub(crate) fn add_offered(
+    alloc: Global,
+    prepared: &Prepared<'_>,
+    part: u32,
+    pairs: &[(u32, u32)],
+    held: u32,
+    rows: &mut Rows,
+) -> Result<(), NoMemory>
+    requires part { part < length prepared.now.shape.parts }
+    requires nodes { HaveNodes prepared.now part pairs.now }
+    requires kinds { KeepKinds prepared.now }
+    requires count { length rows.old ≡ length prepared.now.shape.parts }
+    requires held { held < length rows.old }
+    ensures count { length rows.new ≡ length rows.old }
+    ensures arcs { OnOk result ((events : List ℕ) × ((e : ℕ) → has events e ≡ is_offered_at prepared.now part pairs.now e)
+        × ((j m : ℕ) → has_arc rows.new j m ≡ (has_arc rows.old j m || (acquires prepared.now.uses events j && nat_eq held m)))) }
+{
+    let events = offered(alloc, prepared, part, pairs)?;
+    add_arcs(prepared, rows, held, &events)
+}
+
 // The events of the acceptances in the vocabulary at the pairs with the state 1.
-pub(crate) fn offered(
+fn offered(
     alloc: Global,
     prepared: &Prepared<'_>,
     part: u32,
@@ -89,7 +111,7 @@ fn with_set(
 }
 
 // An arc from each resource that the events acquire to the one that is held.
-pub(crate) fn add_arcs(
+fn add_arcs(
     prepared: &Prepared<'_>,
     rows: &mut Rows,
     held: u32,

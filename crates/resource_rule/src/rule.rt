@@ -53,8 +53,7 @@ fn checked_numbers(alloc: Global, prepared: &Prepared<'_>) -> Result<Heights, Re
 {
     check_uses(alloc, prepared)?;
     let rows = holdings(alloc, prepared)?;
-    let heights = numbers(alloc, prepared, &rows)?;
-    Ok(heights)
+    numbers(alloc, prepared, &rows)
 }
 
 // Succeeds where U1, U2 and U3 hold, and else tells the least that does not.

@@ -9,7 +9,7 @@ ghost use Rattle.resource_conditions.specs.Finding.{FindsBroken, FindsRun, HaveN
 ghost use Rattle.resource_rule.specs.Uses.{UsesLink, WatchesLink, are_uses, is_use};
 ghost use Rattle.resource_conditions.specs.Setting.{IsUser, KeepGrants, KeepKinds, KeepTurns, TellsOf, UsersKeepTurns};
 
-use crate::offers::{add_arcs, offered};
+use crate::offers::add_offered;
 use csp_base::{Event, NoMemory, Trace};
 use digraph::Rows;
 use observed_runs::{Explored, Parity, explore};
@@ -88,15 +88,39 @@ fn follow_link(
     ensures kept { OnOk result ((j m : ℕ) → HasArc rows.old j m → HasArc rows.new j m) }
     ensures complete { result ≡ Ok None → (j m : ℕ) (h : IsHeldWhile prepared.now.shape prepared.now.uses m j) → h.user ≡ part → h.link ≡ link → HasArc rows.new j m }
 {
+    let explored = link_explored(alloc, prepared, part, link)?;
+    follow_explored(alloc, prepared, part, link, &explored, rows)
+}
+
+// The same, by what an exploration of the user with the parity of the link found.
+fn follow_explored(
+    alloc: Global,
+    prepared: &Prepared<'_>,
+    part: u32,
+    link: u32,
+    explored: &Explored,
+    rows: &mut Rows,
+) -> Result<Option<Trace>, NoMemory>
+    requires part { part < length prepared.now.shape.parts }
+    requires user { IsUser prepared.now part }
+    requires link { link < length prepared.now.shape.links }
+    requires end { IsTrue (is_end prepared.now.shape part link) }
+    requires kinds { KeepKinds prepared.now }
+    requires watches { WatchesLink prepared.now part link explored.now }
+    requires count { length rows.old ≡ length prepared.now.shape.parts }
+    ensures run { IfOk result (FindsRun prepared.now part (λ s. (j : ℕ) → Joins prepared.now.shape part j link → UsesLink prepared.now part link j s)) }
+    ensures count { length rows.new ≡ length rows.old }
+    ensures sound { OnOk result ((j m : ℕ) → HasArc rows.new j m → HasArc rows.old j m ⊎ IsHeldWhile prepared.now.shape prepared.now.uses m j) }
+    ensures kept { OnOk result ((j m : ℕ) → HasArc rows.old j m → HasArc rows.new j m) }
+    ensures complete { result ≡ Ok None → (j m : ℕ) (h : IsHeldWhile prepared.now.shape prepared.now.uses m j) → h.user ≡ part → h.link ≡ link → HasArc rows.new j m }
+{
     let _form = prepared.shape();
     let other = other_end(prepared, part, link);
-    let explored = link_explored(alloc, prepared, part, link)?;
     if let Some(place) = broken_use(prepared, part, link, other, explored.pairs()) {
         let run = explored.run_to(alloc, place)?;
         return Ok(Some(run));
     }
-    let events = offered(alloc, prepared, part, explored.pairs())?;
-    add_arcs(prepared, rows, other, &events)?;
+    add_offered(alloc, prepared, part, explored.pairs(), other, rows)?;
     Ok(None)
 }
 
