@@ -15,34 +15,32 @@ use Rattle.name_notes.specs.Heard.{again_heard, heard_all}
 use Rattle.name_notes.proofs.ToldEquations.{heard_all-append}
 use Rattle.name_faults.specs.declared.known.Known.{Known}
 use Rattle.name_faults.specs.Known.{declared_heard, parameters_heard, says_after}
-use Rattle.name_faults.proofs.KnownLemmas.{declared_is, heard_same, parameters_are}
+use Rattle.name_faults.proofs.KnownLemmas.{declared_is, parameters_are}
 
 module _ (m : Meanings) (kinds : List Kind) (k : Known) (d : Decl) (n : Notes) where
-  pub channel_told : (xs : List Name) (types : List Tree) (n1 n2 : Notes) → d ≡ decl.Channel xs types
-      → n1 ≡ declared_heard k.declared n xs → n2 ≡ heard_all m kinds n1 (types_say m kinds types) → n2 ≡ heard_all m kinds n (says_after m kinds k d)
-  channel_told xs types n1 n2 is first rest =
-      rest
-      ∙ ap (λ p. heard_all m kinds p (types_say m kinds types)) (first ∙ declared_is m kinds k.declared n xs)
+  pub channel_told : (xs : List Name) (types : List Tree) (after : Notes) → d ≡ decl.Channel xs types
+      → after ≡ heard_all m kinds (declared_heard k.declared n xs) (types_say m kinds types) → after ≡ heard_all m kinds n (says_after m kinds k d)
+  channel_told xs types after is heard =
+      heard
+      ∙ ap (λ p. heard_all m kinds p (types_say m kinds types)) (declared_is m kinds k.declared n xs)
       ∙ sym (heard_all-append m kinds n (declared_after k.declared xs) (types_say m kinds types))
       ∙ ap (λ e. heard_all m kinds n (says_after m kinds k e)) (sym is)
 
-  pub datatype_told : (x : Name) (ks before : List Name) (n1 n2 : Notes) → d ≡ decl.Datatype x ks
-      → n1 ≡ again_heard n x (is_among k.declared x) → SameNames before (k.declared ++ x ∷ []) → n2 ≡ declared_heard before n1 ks → n2 ≡ heard_all m kinds n (says_after m kinds k d)
-  datatype_told x ks before n1 n2 is first same rest =
-      rest
-      ∙ heard_same before (k.declared ++ x ∷ []) ks n1 same
-      ∙ ap (λ p. declared_heard (k.declared ++ x ∷ []) p ks) first
+  pub datatype_told : (x : Name) (ks : List Name) (after : Notes) → d ≡ decl.Datatype x ks
+      → after ≡ declared_heard k.declared n (x ∷ ks) → after ≡ heard_all m kinds n (says_after m kinds k d)
+  datatype_told x ks after is heard =
+      heard
       ∙ declared_is m kinds k.declared n (x ∷ ks)
       ∙ ap (λ e. heard_all m kinds n (says_after m kinds k e)) (sym is)
 
-  pub define_told : (x : Name) (params : List Name) (t : Tree) (place : Place) (n1 n2 : Notes) → d ≡ decl.Define x params t → place ≡ body_place (slice_get kinds k.definitions)
-      → n1 ≡ again_heard n x (is_among k.declared x) → n2 ≡ heard_all m kinds (parameters_heard m [] n1 params) (tree_says m t place params)
-      → n2 ≡ heard_all m kinds n (says_after m kinds k d)
-  define_told x params t place n1 n2 is place_is first rest =
+  pub define_told : (x : Name) (params : List Name) (t : Tree) (place : Place) (after : Notes) → d ≡ decl.Define x params t → place ≡ body_place (slice_get kinds k.definitions)
+      → after ≡ heard_all m kinds (parameters_heard m [] (again_heard n x (is_among k.declared x)) params) (tree_says m t place params)
+      → after ≡ heard_all m kinds n (says_after m kinds k d)
+  define_told x params t place after is place_is heard =
       let body = tree_says m t (body_place (slice_get kinds k.definitions)) params in
       let named = again_heard n x (is_among k.declared x) in
-      rest
-      ∙ (λ i. heard_all m kinds (parameters_heard m [] (first i) params) (tree_says m t (place_is i) params))
+      heard
+      ∙ (λ i. heard_all m kinds (parameters_heard m [] named params) (tree_says m t (place_is i) params))
       ∙ ap (λ p. heard_all m kinds p body) (parameters_are m kinds [] named params)
       ∙ sym (heard_all-append m kinds named (parameters_after [] params) body)
       ∙ ap (λ e. heard_all m kinds n (says_after m kinds k e)) (sym is)

@@ -8,6 +8,7 @@ ghost use Rattle.script_names.specs.Told.{bodies_from, body_place, expanded_body
 ghost use Rattle.name_notes.specs.Found as found;
 
 use crate::places;
+use containers::Items;
 use csp_base::{Name, NoMemory};
 use csp_text::{Decl, Tree};
 use name_notes::{Body, Notes, note_tree};
@@ -21,10 +22,10 @@ pub(crate) fn bodies_of(
     names: &Dictionary,
     kinds: &[Kind],
     decls: &[Decl],
-) -> Result<Vec<Body>, NoMemory>
-    ensures { IfOk result (λ bodies. bodies.items ≡ map found.body_of (bodies_from (first_of names.now) kinds.now 0 decls.now)) }
+) -> Result<Items<Body>, NoMemory>
+    ensures { IfOk result (λ bodies. bodies ≡ map found.body_of (bodies_from (first_of names.now) kinds.now 0 decls.now)) }
 {
-    let mut bodies = Vec::new(alloc);
+    let mut bodies = Items::new(alloc);
     for decl in decls {
         add_body(alloc, names, kinds, &mut bodies, decl)?;
     }
@@ -36,27 +37,20 @@ fn add_body(
     alloc: Global,
     names: &Dictionary,
     kinds: &[Kind],
-    bodies: &mut Vec<Body>,
+    bodies: &mut Items<Body>,
     decl: &Decl,
 ) -> Result<(), NoMemory>
-    ensures { OnOk result (bodies.new.items ≡ bodies.old.items ++ map found.body_of (bodies_from (first_of names.now) kinds.now (length bodies.old.items) (decl.now ∷ []))) }
+    ensures { OnOk result (bodies.new ≡ bodies.old ++ map found.body_of (bodies_from (first_of names.now) kinds.now (length bodies.old) (decl.now ∷ []))) }
 {
     match decl {
         Decl::Define(_, params, tree) => {
             let d = bodies.len();
-            let body = expanded_body(alloc, names, kinds, d, params.as_slice(), tree)?;
-            bodies.push(body)?;
-            Ok(())
+            bodies.push_made(expanded_body(alloc, names, kinds, d, params.as_slice(), tree))
         }
         Decl::Nametype(_, tree) => {
-            let body = body_at(alloc, names, kinds, &[], places::data_place(), tree)?;
-            bodies.push(body)?;
-            Ok(())
+            bodies.push_made(body_at(alloc, names, kinds, &[], places::data_place(), tree))
         }
-        Decl::Datatype(_, _) => {
-            bodies.push(Notes::new(alloc).into_body())?;
-            Ok(())
-        }
+        Decl::Datatype(_, _) => bodies.push(Notes::new(alloc).into_body()),
         Decl::Channel(_, _) | Decl::Assert(_) | Decl::Roles(_) | Decl::Resource(_) => Ok(()),
     }
 }

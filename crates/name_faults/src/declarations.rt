@@ -1,6 +1,6 @@
 //! What is noted of a declaration.
 
-ghost use Rattle.std.specs.Prelude.{◌≡◌, [], ◌∷◌, ◌++◌, slice_get, OnOk, IfOk};
+ghost use Rattle.std.specs.Prelude.{◌≡◌, [], ◌∷◌, ◌++◌, OnOk, IfOk};
 ghost use Rattle.std.specs.List.{flat_map};
 ghost use Rattle.script_names.specs.declared.kinds.Use.TheVariants as how;
 ghost use Rattle.script_names.specs.Names.{first_of, is_among, sense_in};
@@ -37,56 +37,113 @@ pub(crate) fn note_decl(
 {
     match decl {
         Decl::Channel(xs, types) => {
-            note_declared(alloc, notes, &mut known.declared, xs.as_slice())?;
-            note_types(alloc, names, kinds, notes, types.as_slice())?;
-            Ok(())
+            let declared = &mut known.declared;
+            note_channel(
+                alloc,
+                names,
+                kinds,
+                notes,
+                declared,
+                xs.as_slice(),
+                types.as_slice(),
+            )
         }
-        Decl::Datatype(x, ks) => {
-            note_name(alloc, notes, &mut known.declared, x)?;
-            note_declared(alloc, notes, &mut known.declared, ks.as_slice())?;
-            Ok(())
-        }
+        Decl::Datatype(x, ks) => note_datatype(alloc, notes, &mut known.declared, x, ks.as_slice()),
         Decl::Nametype(x, tree) => {
-            note_name(alloc, notes, &mut known.declared, x)?;
-            note_tree(alloc, names, kinds, notes, &[], places::data_place(), tree)?;
-            Ok(())
+            note_nametype(alloc, names, kinds, notes, &mut known.declared, x, tree)
         }
         Decl::Define(x, params, tree) => {
             let place = places::body_place(kinds, known.definitions as usize);
-            note_name(alloc, notes, &mut known.declared, x)?;
-            note_definition(alloc, names, kinds, notes, place, params.as_slice(), tree)?;
-            Ok(())
+            let declared = &mut known.declared;
+            note_definition(
+                alloc,
+                names,
+                kinds,
+                notes,
+                declared,
+                place,
+                x,
+                params.as_slice(),
+                tree,
+            )
         }
         Decl::Assert(tree) => {
-            note_tree(alloc, names, kinds, notes, &[], places::root_place(), tree)?;
-            Ok(())
+            note_tree(alloc, names, kinds, notes, &[], places::root_place(), tree)
         }
-        Decl::Roles(roles) => {
-            note_roles(alloc, names, kinds, notes, &mut known.roles, roles)?;
-            Ok(())
-        }
+        Decl::Roles(roles) => note_roles(alloc, names, kinds, notes, &mut known.roles, roles),
         Decl::Resource(resource) => {
-            note_resource(alloc, names, kinds, notes, &mut known.uses, resource)?;
-            Ok(())
+            note_resource(alloc, names, kinds, notes, &mut known.uses, resource)
         }
     }
 }
 
-// Notes the parameters and the body of a definition.
+// Notes the names and the types of channels.
+fn note_channel(
+    alloc: Global,
+    names: &Dictionary,
+    kinds: &[Kind],
+    notes: &mut Notes,
+    declared: &mut NameSet,
+    xs: &[Name],
+    types: &[Tree],
+) -> Result<(), NoMemory>
+    ensures notes { OnOk result (notes.new ≡ heard_all (first_of names.now) kinds.now (declared_heard declared.old notes.old xs.now) (types_say (first_of names.now) kinds.now types.now)) }
+    ensures declared { OnOk result (SameNames declared.new (declared.old ++ xs.now)) }
+{
+    note_declared(alloc, notes, declared, xs)?;
+    note_types(alloc, names, kinds, notes, types)
+}
+
+// Notes the names of a datatype and of its constants.
+fn note_datatype(
+    alloc: Global,
+    notes: &mut Notes,
+    declared: &mut NameSet,
+    x: &Name,
+    ks: &[Name],
+) -> Result<(), NoMemory>
+    ensures notes { OnOk result (notes.new ≡ declared_heard declared.old notes.old (x.now ∷ ks.now)) }
+    ensures declared { OnOk result (SameNames declared.new (declared.old ++ x.now ∷ ks.now)) }
+{
+    note_name(alloc, notes, declared, x)?;
+    note_declared(alloc, notes, declared, ks)
+}
+
+// Notes the name and the set of a nametype.
+fn note_nametype(
+    alloc: Global,
+    names: &Dictionary,
+    kinds: &[Kind],
+    notes: &mut Notes,
+    declared: &mut NameSet,
+    x: &Name,
+    tree: &Tree,
+) -> Result<(), NoMemory>
+    ensures notes { OnOk result (notes.new ≡ heard_all (first_of names.now) kinds.now (again_heard notes.old x.now (is_among declared.old x.now)) (tree_says (first_of names.now) tree.now data_place [])) }
+    ensures declared { OnOk result (SameNames declared.new (declared.old ++ x.now ∷ [])) }
+{
+    note_name(alloc, notes, declared, x)?;
+    note_tree(alloc, names, kinds, notes, &[], places::data_place(), tree)
+}
+
+// Notes the name, the parameters and the body of a definition.
 fn note_definition(
     alloc: Global,
     names: &Dictionary,
     kinds: &[Kind],
     notes: &mut Notes,
+    declared: &mut NameSet,
     place: Place,
+    x: &Name,
     params: &[Name],
     tree: &Tree,
 ) -> Result<(), NoMemory>
-    ensures { OnOk result (notes.new ≡ heard_all (first_of names.now) kinds.now (parameters_heard (first_of names.now) [] notes.old params.now) (tree_says (first_of names.now) tree.now place params.now)) }
+    ensures notes { OnOk result (notes.new ≡ heard_all (first_of names.now) kinds.now (parameters_heard (first_of names.now) [] (again_heard notes.old x.now (is_among declared.old x.now)) params.now) (tree_says (first_of names.now) tree.now place params.now)) }
+    ensures declared { OnOk result (SameNames declared.new (declared.old ++ x.now ∷ [])) }
 {
+    note_name(alloc, notes, declared, x)?;
     note_parameters(alloc, names, notes, params)?;
-    note_tree(alloc, names, kinds, notes, params, place, tree)?;
-    Ok(())
+    note_tree(alloc, names, kinds, notes, params, place, tree)
 }
 
 // Notes an annotation of roles.
@@ -102,11 +159,8 @@ fn note_roles(
     ensures annotated { OnOk result (SameNames annotated.new (annotated.old ++ roles.now.process ∷ [])) }
 {
     let sense = note_annotated(alloc, names, kinds, notes, annotated, &roles.process)?;
-    note_set(alloc, names, kinds, notes, sense, &roles.creq)?;
-    note_set(alloc, names, kinds, notes, sense, &roles.cack)?;
-    note_set(alloc, names, kinds, notes, sense, &roles.sreq)?;
-    note_set(alloc, names, kinds, notes, sense, &roles.sack)?;
-    Ok(())
+    note_sets(alloc, names, kinds, notes, sense, &roles.creq, &roles.cack)?;
+    note_sets(alloc, names, kinds, notes, sense, &roles.sreq, &roles.sack)
 }
 
 // Notes an annotation of a resource.
@@ -122,9 +176,15 @@ fn note_resource(
     ensures annotated { OnOk result (SameNames annotated.new (annotated.old ++ resource.now.process ∷ [])) }
 {
     let sense = note_annotated(alloc, names, kinds, notes, annotated, &resource.process)?;
-    note_set(alloc, names, kinds, notes, sense, &resource.acquire)?;
-    note_set(alloc, names, kinds, notes, sense, &resource.release)?;
-    Ok(())
+    note_sets(
+        alloc,
+        names,
+        kinds,
+        notes,
+        sense,
+        &resource.acquire,
+        &resource.release,
+    )
 }
 
 // Notes a name that is declared.
@@ -234,6 +294,22 @@ fn note_annotated(
     let sense = sense_of(names, x);
     notes.note_use(alloc, kinds, x, sense, Use::Annotated)?;
     Ok(sense)
+}
+
+// Notes two sets of the annotation of a process that stands for this.
+fn note_sets(
+    alloc: Global,
+    names: &Dictionary,
+    kinds: &[Kind],
+    notes: &mut Notes,
+    process: Sense,
+    first: &Name,
+    second: &Name,
+) -> Result<(), NoMemory>
+    ensures { OnOk result (notes.new ≡ use_heard kinds.now (use_heard kinds.now notes.old first.now (sense_in (first_of names.now) [] first.now) (how.Annotates process)) second.now (sense_in (first_of names.now) [] second.now) (how.Annotates process)) }
+{
+    note_set(alloc, names, kinds, notes, process, first)?;
+    note_set(alloc, names, kinds, notes, process, second)
 }
 
 // Notes a set of the annotation of a process that stands for this.
