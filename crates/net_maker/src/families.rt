@@ -102,14 +102,19 @@ fn lines(family: Family) -> &'static [u8]
     }
 }
 
+// The line that says a size.
+fn size_line(alloc: Global, n: u32) -> Result<Bytes, NoMemory>
+    ensures { IfOk result (λ text. text ≡ line (codes "N = " ++ decimal n)) }
+{
+    let text = format!(in alloc; "N = {n}\n")?;
+    Bytes::from_slice(alloc, text.as_bytes())
+}
+
 // A text after the line that says a size.
 fn sized(alloc: Global, n: u32, lines: &[u8]) -> Result<Bytes, NoMemory>
     ensures { IfOk result (λ text. text ≡ line (codes "N = " ++ decimal n) ++ lines.now) }
 {
-    let n = format!(in alloc; "{n}")?;
-    let mut text = Bytes::from_slice(alloc, b"N = ")?;
-    text.extend_from_slice(n.as_bytes())?;
-    text.push(b'\n')?;
+    let mut text = size_line(alloc, n)?;
     text.extend_from_slice(lines)?;
     Ok(text)
 }
