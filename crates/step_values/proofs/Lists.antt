@@ -5,7 +5,7 @@ use Rattle.csp_program.specs.Lists.{joined}
 use Rattle.csp_program.specs.Outcome.{Outcome, and_then}
 use Rattle.csp_program.specs.declared.kinds.ValueKind.{ValueKind}
 use Rattle.csp_values.proofs.Steps.{left_of, nothing_left}
-use Rattle.process_steps.specs.Needed.{all_outcomes, each_joined}
+use Rattle.process_steps.specs.Needed.{each_joined}
 
 -- the first elements of a list
 pub taken : {A : Type 0} (xs : List A) (i : ℕ) (x : A) → i < length xs → x ≡ get_or xs i x → take (i + 1) xs ≡ take i xs ++ x ∷ []
@@ -28,41 +28,6 @@ map_join f (x ∷ xs) ys = ap (λ zs. f x ∷ zs) (map_join f xs ys)
 pub joined_push : {A : Type 0} (xss : List (List A)) (xs : List A) → joined (xss ++ xs ∷ []) ≡ joined xss ++ xs
 joined_push [] xs = append-nil xs
 joined_push (ys ∷ xss) xs = ap (λ zs. ys ++ zs) (joined_push xss xs) ∙ sym (append_assoc ys (joined xss) xs)
-
--- what the members of a list come to, after others
-unfoldable pub all_after : {A B : Type 0} → (A → Outcome B) → List B → List A → Outcome (List B)
-all_after f done xs = and_then (all_outcomes f xs) (λ ys. Ok (done ++ ys))
-
-module _ {A B : Type 0} (f : A → Outcome B) where
-  none_before : (o : Outcome (List B)) → o ≡ and_then o (λ ys. Ok ([] ++ ys))
-  none_before (Ok ys) = refl
-  none_before (Err k) = refl
-
-  pub all_begin : (xs : List A) → all_outcomes f xs ≡ all_after f [] xs
-  unfolding all_after
-  all_begin xs = none_before (all_outcomes f xs)
-
-  pub all_end : (done : List B) (xs : List A) (i : ℕ) → length xs ≤ i → all_after f done (drop i xs) ≡ Ok done
-  unfolding all_after
-  all_end done xs i past = ap (λ rest. and_then (all_outcomes f rest) (λ ys. Ok (done ++ ys))) (nothing_left xs i past) ∙ ap (λ ys. Ok ys) (append-nil done)
-
-  one_before : (o : Outcome (List B)) (done : List B) (y : B) → and_then (and_then o (λ ys. Ok (y ∷ ys))) (λ ys. Ok (done ++ ys)) ≡ and_then o (λ ys. Ok ((done ++ y ∷ []) ++ ys))
-  one_before (Ok ys) done y = ap (λ all. Ok all) (sym (append_assoc done (y ∷ []) ys))
-  one_before (Err k) done y = refl
-
-  pub all_next : (done : List B) (xs : List A) (i : ℕ) (x : A) (y : B) → i < length xs → x ≡ get_or xs i x → f x ≡ Ok y
-      → all_after f done (drop i xs) ≡ all_after f (done ++ y ∷ []) (drop (i + 1) xs)
-  unfolding all_after
-  all_next done xs i x y lt is e =
-      ap (λ rest. and_then (all_outcomes f rest) (λ ys. Ok (done ++ ys))) (left_of xs i x lt is) ∙
-      (ap (λ o. and_then (and_then o (λ z. and_then (all_outcomes f (drop (i + 1) xs)) (λ ys. Ok (z ∷ ys)))) (λ ys. Ok (done ++ ys))) e ∙
-      one_before (all_outcomes f (drop (i + 1) xs)) done y)
-
-  pub all_fault : (done : List B) (xs : List A) (i : ℕ) (x : A) (k : ValueKind) → i < length xs → x ≡ get_or xs i x → f x ≡ Err k → all_after f done (drop i xs) ≡ Err k
-  unfolding all_after
-  all_fault done xs i x k lt is e =
-      ap (λ rest. and_then (all_outcomes f rest) (λ ys. Ok (done ++ ys))) (left_of xs i x lt is) ∙
-      ap (λ o. and_then (and_then o (λ z. and_then (all_outcomes f (drop (i + 1) xs)) (λ ys. Ok (z ∷ ys)))) (λ ys. Ok (done ++ ys))) e
 
 -- The lists of what is left of a list, one after another and each changed by h, after others.
 unfoldable pub left : {A B C : Type 0} → (ℕ → A → Outcome (List B)) → (List B → List C) → List C → ℕ → List A → Outcome (List C)

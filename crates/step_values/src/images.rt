@@ -33,6 +33,20 @@ fn take_out(alloc: Global, by_event: &mut HashMap<u32, Items<Event>>, event: Eve
     }
 }
 
+// Keeps these events for an event.
+fn keep(
+    by_event: &mut HashMap<u32, Items<Event>>,
+    event: Event,
+    events: Items<Event>,
+) -> Result<(), NoMemory>
+    ensures { OnOk result ((e : ℕ) → kept_for by_event.new e ≡ (if nat_eq event e then events else kept_for by_event.old e)) }
+{
+    match by_event.insert(event.0, events) {
+        Ok(_) => Ok(()),
+        Err(_) => Err(NoMemory),
+    }
+}
+
 // Keeps the new event of a pair, after those that are kept for the old one.
 fn add_new(
     alloc: Global,
@@ -44,10 +58,7 @@ fn add_new(
 {
     let mut events = take_out(alloc, by_event, old);
     events.push(new)?;
-    match by_event.insert(old.0, events) {
-        Ok(_) => Ok(()),
-        Err(_) => Err(NoMemory),
-    }
+    keep(by_event, old, events)
 }
 
 /// What events become by the renaming that makes these pairs of an old event and a new one.

@@ -7,7 +7,7 @@ use containers::Items;
 use csp_atoms::{AtomSet, Value};
 use csp_base::EventSet;
 use csp_program::{Expr, Program, ValueKind};
-use csp_values::{EvalFault, eval, eval_set};
+use csp_values::{EvalFault, eval, eval_all_under, eval_set};
 use std::alloc::Global;
 use value_operators::operators::to_truth;
 
@@ -49,10 +49,5 @@ pub fn arguments_in(
 ) -> Result<Items<Value>, EvalFault>
     ensures { Gives result (meant.arguments_in program.now args.now) }
 {
-    let mut values = Items::new(alloc);
-    for arg in args {
-        let value = eval(alloc, program, arg)?;
-        values.push(value)?;
-    }
-    Ok(values)
+    eval_all_under(alloc, program, &[], args)
 }

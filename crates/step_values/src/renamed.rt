@@ -4,9 +4,12 @@ ghost use Rattle.std.specs.Prelude.{◌≡◌, ◌+◌, ◌*◌, ◌++◌, [], d
 ghost use Rattle.csp_atoms.specs.declared.value.Value.TheVariants as value;
 ghost use Rattle.csp_program.specs.Outcome.{and_then};
 ghost use Rattle.csp_program.specs.Value.{field_place, first_of, sets_of};
+ghost use Rattle.csp_program.specs.declared.expressions.EventPart.{out-EventPart};
+ghost use Rattle.csp_values.specs.Worth.{front_worth};
 ghost use Rattle.process_steps.specs.Needed.{each_joined};
 ghost use Rattle.process_steps.specs.Renaming as meant;
 ghost use Rattle.value_operators.specs.Env.{with_bound};
+ghost use Rattle.value_operators.specs.Forms.{count_with};
 ghost use Rattle.value_operators.specs.Gives.{Gives};
 ghost use Rattle.step_values.specs.Walked.{new_event};
 
@@ -69,7 +72,7 @@ fn copy_values(alloc: Global, values: &[Value]) -> Result<Items<Value>, NoMemory
 {
     let mut made = Items::new(alloc);
     for value in values {
-        made.push(copy_value(alloc, value)?)?;
+        made.push_made(copy_value(alloc, value))?;
     }
     Ok(made)
 }
@@ -100,39 +103,40 @@ fn number_with(values: &[Value], sets: &[AtomSet]) -> Result<u64, EvalFault>
     let mut number = 0;
     let mut rest = sets;
     for value in values {
-        let Some((set, others)) = rest.split_first() else {
+        let [set, others @ ..] = rest else {
             return Err(OUTSIDE);
         };
         number = number_after(number, set, value)?;
         rest = others;
     }
-    if !rest.is_empty() {
-        return Err(OUTSIDE);
+    match rest {
+        [] => Ok(number),
+        _ => Err(OUTSIDE),
     }
-    Ok(number)
 }
 
-// The number of the event of a channel that has these values as its fields.
-fn event_with(program: &Program, channel: u32, values: &[Value]) -> Result<u64, EvalFault>
+// The event with this number. One that 32 bits don't hold is refused like want of memory.
+fn event(number: u64) -> Result<Event, EvalFault>
+    ensures { Gives result (Ok number) }
+{
+    match u32::try_from(number) {
+        Ok(number) => Ok(Event(number)),
+        Err(_) => Err(EvalFault::NoMemory),
+    }
+}
+
+// The event of a channel that has these values as its fields.
+fn event_with(program: &Program, channel: u32, values: &[Value]) -> Result<Event, EvalFault>
     ensures { Gives result (meant.event_with (first_of (slice_get program.now.channels channel)) (sets_of (slice_get program.now.channels channel)) values.now) }
 {
     let channels = program.content().channels.as_slice();
     match field_sets(channels, channel) {
         Some(sets) => {
             let number = number_with(values, sets)?;
-            event_at(channels, channel, number)
+            let number = event_at(channels, channel, number)?;
+            event(number)
         }
         None => Err(KIND),
-    }
-}
-
-// The event with this number.
-fn event(number: u64) -> Result<Event, NoMemory>
-    ensures { IfOk result (λ event. event ≡ number) }
-{
-    match u32::try_from(number) {
-        Ok(number) => Ok(Event(number)),
-        Err(_) => Err(NoMemory),
     }
 }
 
@@ -141,7 +145,7 @@ fn event_after(first: u64, place: usize) -> Result<Event, NoMemory>
     ensures { IfOk result (λ event. event ≡ first + place) }
 {
     match first.checked_add(place as u64) {
-        Some(number) => event(number),
+        Some(number) => event(number).map_err(|_| NoMemory),
         None => Err(NoMemory),
     }
 }
@@ -157,8 +161,27 @@ fn new_of(
 {
     let rest = fields_from(info.fields.as_slice(), new.given);
     let values = values_then(alloc, new.values, rest)?;
-    let number = event_with(program, new.channel, values.as_slice())?;
-    Ok(event(number)?)
+    event_with(program, new.channel, values.as_slice())
+}
+
+// What is renamed, with the event that has `place` among those from `first` on and what it becomes.
+fn add_event(
+    alloc: Global,
+    program: &Program,
+    new: &NewSide<'_>,
+    first: u64,
+    place: usize,
+    info: &EventInfo,
+    renamed: Items<(Event, Event)>,
+) -> Result<Items<(Event, Event)>, EvalFault>
+    ensures { Gives result (and_then (meant.renamed_as (new_event program.now new.now.channel new.now.values.now) new.now.given (first + place) info.now) (λ more. Ok (renamed ++ more))) }
+{
+    let becomes = new_of(alloc, program, new, info)?;
+    let mut renamed = renamed;
+    let Ok(()) = renamed.push_made(event_after(first, place).map(|event| (event, becomes))) else {
+        return Err(EvalFault::NoMemory);
+    };
+    Ok(renamed)
 }
 
 // What is renamed, with events from `first` on and what each becomes.
@@ -174,11 +197,49 @@ fn add_events(
 {
     let mut renamed = renamed;
     for (place, info) in events.iter().enumerate() {
-        let becomes = new_of(alloc, program, new, info)?;
-        let event = event_after(first, place)?;
-        renamed.push((event, becomes))?;
+        renamed = add_event(alloc, program, new, first, place, info, renamed)?;
     }
     Ok(renamed)
+}
+
+// What is renamed, with the events of a channel from `first` on that begin with one choice of the fields that the old side gives, and what each
+// becomes.
+fn add_choice(
+    alloc: Global,
+    program: &Program,
+    channel: u32,
+    first: u64,
+    new: &NewSide<'_>,
+    renamed: Items<(Event, Event)>,
+) -> Result<Items<(Event, Event)>, EvalFault>
+    ensures { Gives result (and_then (each_joined (meant.renamed_as (new_event program.now new.now.channel new.now.values.now) new.now.given) first (take (count_with (sets_of (slice_get program.now.channels channel)) new.now.given) (drop first program.now.events))) (λ more. Ok (renamed ++ more))) }
+{
+    let count = count_with(program.content().channels.as_slice(), channel, new.given)?;
+    let events = events_from(program, first, count);
+    add_events(alloc, program, new, first, events, renamed)
+}
+
+// What is renamed, with what a pair renames under a binding, where the old side begins with the event `first`.
+fn add_from(
+    alloc: Global,
+    program: &Program,
+    bound: &[(u32, Atom)],
+    pair: &(EventPart, EventPart),
+    first: u64,
+    renamed: Items<(Event, Event)>,
+) -> Result<Items<(Event, Event)>, EvalFault>
+    ensures { front_worth program.now (length program.now.defs) (with_bound bound.now []) (out-EventPart pair.now.0).channel (out-EventPart pair.now.0).fields ≡ Ok first
+        → Gives result (and_then (meant.pair_renamed program.now (with_bound bound.now []) pair.now) (λ more. Ok (renamed ++ more))) }
+{
+    let old = &pair.0;
+    let new = &pair.1;
+    let values = eval_all_under(alloc, program, bound, new.fields.as_slice())?;
+    let side = NewSide {
+        channel: new.channel,
+        values: values.as_slice(),
+        given: old.fields.len(),
+    };
+    add_choice(alloc, program, old.channel, first, &side, renamed)
 }
 
 /// What is renamed, with what a pair renames under a binding.
@@ -192,16 +253,6 @@ pub(crate) fn add_pair(
     ensures { Gives result (and_then (meant.pair_renamed program.now (with_bound bound.now []) pair.now) (λ more. Ok (renamed ++ more))) }
 {
     let old = &pair.0;
-    let new = &pair.1;
     let first = front_under(alloc, program, bound, old.channel, old.fields.as_slice())?;
-    let values = eval_all_under(alloc, program, bound, new.fields.as_slice())?;
-    let given = old.fields.len();
-    let count = count_with(program.content().channels.as_slice(), old.channel, given)?;
-    let side = NewSide {
-        channel: new.channel,
-        values: values.as_slice(),
-        given,
-    };
-    let events = events_from(program, first, count);
-    add_events(alloc, program, &side, first, events, renamed)
+    add_from(alloc, program, bound, pair, first, renamed)
 }

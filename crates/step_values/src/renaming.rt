@@ -1,6 +1,7 @@
 //! The pairs of an old event and a new one that a renaming makes.
 
 ghost use Rattle.std.specs.Prelude.{◌≡◌, ◌∷◌, [], ◌++◌, length, Ok};
+ghost use Rattle.csp_atoms.specs.declared.value.Value.TheVariants as value;
 ghost use Rattle.csp_program.specs.Outcome.{and_then};
 ghost use Rattle.csp_program.specs.Value.{as_set, as_truth};
 ghost use Rattle.csp_values.specs.Worth.{worth};
@@ -177,10 +178,25 @@ fn walk_each(
 {
     let mut tally = tally;
     for atom in atoms {
-        let inner = with_name(scope.alloc, bound, slot, *atom)?;
-        tally = walk(scope, inner.as_slice(), rest, tally)?;
+        tally = walk_atom(scope, bound, slot, *atom, rest, tally)?;
     }
     Ok(tally)
+}
+
+// The bindings of generators for one atom that a name takes.
+#[cycle(walk)]
+fn walk_atom(
+    scope: &Scope<'_>,
+    bound: &[(u32, Atom)],
+    slot: u32,
+    atom: Atom,
+    rest: &[Gen],
+    tally: Tally,
+) -> Result<Tally, EvalFault>
+    ensures { GivesTally result (renamed_walk scope.now.program.now scope.now.pairs.now rest.now ((slot, value.One atom) ∷ with_bound bound.now []) (gathering_of tally)) }
+{
+    let inner = with_name(scope.alloc, bound, slot, atom)?;
+    walk(scope, inner.as_slice(), rest, tally)
 }
 
 /// What a renaming makes of events: pairs of an old event and a new one.

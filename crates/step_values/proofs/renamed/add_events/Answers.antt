@@ -1,5 +1,4 @@
-use Rattle.std.proofs.Common.{◌+◌, ◌++◌, ◌∷◌, [], Ok, drop, refl, ap, sym, ◌∙◌, arith}
-use Rattle.csp_program.specs.Outcome.{and_then}
+use Rattle.std.proofs.Common.{◌+◌, drop, refl, ap, ◌∙◌, arith}
 use Rattle.process_steps.specs.Renaming.{renamed_as}
 use Rattle.value_operators.proofs.Faults.{passed}
 use Rattle.step_values.specs.Walked.{new_event}
@@ -11,22 +10,19 @@ loop-place-init c =
     left_begin (renamed_as (new_event c.args.program.now c.args.new.now.channel c.args.new.now.values.now) c.args.new.now.given) (λ rs. rs) c.args.renamed c.args.first c.args.events.now ∙
     ap (λ k. left (renamed_as (new_event c.args.program.now c.args.new.now.channel c.args.new.now.values.now) c.args.new.now.given) (λ rs. rs) c.args.renamed k c.args.events.now) (omega arith)
 
-pub returns-in_err-becomes : goal.returns-in_err-becomes
-returns-in_err-becomes c =
-    passed _ _ _ _ c.from_residual.ensures.1 c.in_err-becomes.ensures
+pub returns-in_err-renamed : goal.returns-in_err-renamed
+returns-in_err-renamed c =
+    passed _ _ _ _ c.from_residual.ensures.1 c.in_err-renamed.ensures
     (λ k e. c.loop-place.invariant ∙
     left_fault (renamed_as (new_event c.args.program.now c.args.new.now.channel c.args.new.now.values.now) c.args.new.now.given) (λ rs. rs) refl (λ xs ys. refl) c.loop-place.renamed c.args.events.now
-    (c.args.first + c.loop-place.place) c.loop-place.place c.index-events-place.result k (omega arith) c.index-events-place.is
-    (ap (λ o. and_then (and_then o (λ d. Ok ((c.args.first + c.loop-place.place, d) ∷ []))) (λ ys. Ok (c.loop-place.renamed ++ ys))) e))
+    (c.args.first + c.loop-place.place) c.loop-place.place c.index-events-place.result k (omega arith) c.index-events-place.is e)
 
 pub loop-place-preserved : goal.loop-place-preserved
 loop-place-preserved c =
     c.loop-place.invariant ∙
-    (left_next (renamed_as (new_event c.args.program.now c.args.new.now.channel c.args.new.now.values.now) c.args.new.now.given) (λ rs. rs) refl (λ xs ys. refl) c.loop-place.renamed c.push.new.self c.args.events.now
-    (c.args.first + c.loop-place.place) c.loop-place.place c.index-events-place.result (omega arith) c.index-events-place.is
-    (ap (λ o. and_then (and_then o (λ d. Ok ((c.args.first + c.loop-place.place, d) ∷ []))) (λ ys. Ok (c.loop-place.renamed ++ ys))) c.in_ok-becomes.ensures ∙
-    ap (λ rs. Ok rs) (ap (λ e. c.loop-place.renamed ++ (e, c.in_ok-becomes.becomes) ∷ []) (sym c.in_ok-event.ensures) ∙ sym c.in_ok-push.ensures.ok)) ∙
-    ap (λ k. left (renamed_as (new_event c.args.program.now c.args.new.now.channel c.args.new.now.values.now) c.args.new.now.given) (λ rs. rs) c.push.new.self k (drop (c.loop-place.place + 1) c.args.events.now)) (omega arith))
+    (left_next (renamed_as (new_event c.args.program.now c.args.new.now.channel c.args.new.now.values.now) c.args.new.now.given) (λ rs. rs) refl (λ xs ys. refl) c.loop-place.renamed c.in_ok-renamed.renamed c.args.events.now
+    (c.args.first + c.loop-place.place) c.loop-place.place c.index-events-place.result (omega arith) c.index-events-place.is c.in_ok-renamed.ensures ∙
+    ap (λ k. left (renamed_as (new_event c.args.program.now c.args.new.now.channel c.args.new.now.values.now) c.args.new.now.given) (λ rs. rs) c.in_ok-renamed.renamed k (drop (c.loop-place.place + 1) c.args.events.now)) (omega arith))
 
 pub returns : goal.returns
 returns c =

@@ -1,4 +1,5 @@
-use Rattle.std.proofs.Common.{[], ◌∷◌, true, false, Ok, Err, ap, sym, ◌∙◌, subst, arith}
+use Rattle.std.proofs.Common.{[], ◌∷◌, true, false, Ok, Err, refl, ap, sym, ◌∙◌, subst, arith}
+use Rattle.csp_program.specs.Value.{Env}
 use Rattle.csp_program.specs.declared.expressions.Gen.{Gen}
 use Rattle.csp_values.proofs.Steps.{nothing}
 use Rattle.value_operators.specs.Env.{with_bound}
@@ -14,21 +15,26 @@ walk-returns-in-None t c =
 
 pub walk_each-returns-in_err-tally : goal.walk_each-returns-in_err-tally
 walk_each-returns-in_err-tally t c =
-    walk_passed _ _ _ _ c.from_residual-in_err-tally.ensures.1 c.in_err-tally.ensures
+    walk_passed _ _ _ _ c.from_residual.ensures.1 c.in_err-tally.ensures
     (λ k e. c.loop-atom.invariant ∙
     each_fault c.args.scope.now.program.now c.args.scope.now.pairs.now c.args.slot c.args.atoms.now c.args.rest.now (with_bound c.args.bound.now []) _ (gathering_of c.loop-atom.tally) c.loop-atom.atom-index c.atom-item.result (omega arith) c.atom-item.is
-    (ap (λ bs. with_bound bs []) (c.as_slice.ensures.value ∙ c.in_ok-inner.ensures) ∙ with_bound-last c.args.bound.now (c.args.slot, c.atom-item.result) []) k e)
+    refl k e)
 
 pub walk_each-loop-atom-preserved : goal.walk_each-loop-atom-preserved
 walk_each-loop-atom-preserved t c =
     c.loop-atom.invariant ∙
     each_step c.args.scope.now.program.now c.args.scope.now.pairs.now c.args.slot c.args.atoms.now c.args.rest.now (with_bound c.args.bound.now []) _ (gathering_of c.loop-atom.tally) c.loop-atom.atom-index c.atom-item.result (omega arith) c.atom-item.is
-    (ap (λ bs. with_bound bs []) (c.as_slice.ensures.value ∙ c.in_ok-inner.ensures) ∙ with_bound-last c.args.bound.now (c.args.slot, c.atom-item.result) []) (gathering_of c.in_ok-tally.tally) c.in_ok-tally.ensures
+    refl (gathering_of c.in_ok-tally.tally) c.in_ok-tally.ensures
 
 pub walk_each-returns : goal.walk_each-returns
 walk_each-returns t c =
     c.loop-atom.invariant ∙
     each_end c.args.scope.now.program.now c.args.scope.now.pairs.now c.args.slot c.args.atoms.now c.args.rest.now (with_bound c.args.bound.now []) (gathering_of c.loop-atom.tally) c.loop-atom.atom-index (omega arith)
+
+pub walk_atom-returns : goal.walk_atom-returns
+walk_atom-returns t c =
+    subst (λ (env : Env). GivesTally c.walk.result (renamed_walk c.args.scope.now.program.now c.args.scope.now.pairs.now c.args.rest.now env (gathering_of c.args.tally)))
+    (ap (λ bs. with_bound bs []) (c.as_slice.ensures.value ∙ c.in_ok-inner.ensures) ∙ with_bound-last c.args.bound.now (c.args.slot, c.args.atom) []) c.walk.ensures
 
 pub walk_first-returns-in-From : goal.walk_first-returns-in-From
 walk_first-returns-in-From t c =
