@@ -68,6 +68,5 @@ fn next_at(
 {
     let terms = sets.as_slice()[place].as_slice();
     let moves = table.moves(alloc, terms)?;
-    let next = next_steps(alloc, table, &moves, sets)?;
-    Ok(next)
+    next_steps(alloc, table, &moves, sets)
 }
