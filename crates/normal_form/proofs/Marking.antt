@@ -1,6 +1,6 @@
 -- Acceptances numbered in the order in which they are first seen: what holds while the nodes are gone through, and at the end.
-use Rattle.std.proofs.Common.{◌≡◌, ◌≢◌, ℕ, ◌+◌, ◌<◌, ◌≤◌, inl, inr, Bool, true, nat_eq, Some, List, [], ◌∷◌, ◌++◌, length, get_or, refl, sym, ap, ◌∙◌, subst, arith, below_more, eq-eqb}
-use Rattle.std.specs.Prelude.{slice_index, slice_get}
+use Rattle.std.proofs.Common.{◌≡◌, ◌≢◌, ℕ, ◌+◌, ◌<◌, ◌≤◌, inl, inr, Bool, true, nat_eq, Some, List, [], ◌∷◌, ◌++◌, length, get_or, Result, Ok, Err, refl, sym, ap, ◌∙◌, subst, arith, below_more, eq-eqb}
+use Rattle.std.specs.Prelude.{slice_index, slice_get, IfOk, IsOkAnd, OnOk}
 use Rattle.std.specs.Set.{is_member}
 use Rattle.std.specs.Cmp.Lexicographic.{pointwise}
 use Rattle.std.proofs.lemmas.Bool.{cases_Bool, cases_lt, cases_order, cond-true, cond-false, false≢true, and_from}
@@ -11,6 +11,11 @@ use Rattle.std.proofs.Math.Seq.{get_or-append_seam}
 use Rattle.containers.specs.Members.{with_new}
 use Rattle.csp_tables.specs.Table.{Node, node_at}
 use Rattle.normal_form.specs.Marks.{AreMarksOf}
+
+-- what was made and pushed, and what holds of it
+pub pushed : {E : Type 0} (made : Result ℕ E) (old new : List ℕ) (L : Type 0) (P : ℕ → Type 0) → IsOkAnd made (λ item. new ≡ old ++ item ∷ []) → OnOk made L → IfOk made P → (item : ℕ) × L × P item × (new ≡ old ++ item ∷ [])
+pushed (Ok x) old new L P is l p = (x, l, p, is)
+pushed (Err e) old new L P is l p = absurd is
 
 -- equality of lists of sets, as a test
 abbrev pub same_sets : List (List ℕ) → List (List ℕ) → Bool

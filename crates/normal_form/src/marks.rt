@@ -13,13 +13,12 @@ pub(crate) fn accept_marks(alloc: Global, nodes: &[NormNode]) -> Result<Vec<u32>
     ensures { IfOk result (λ marks. AreMarksOf nodes.now marks.items) }
 {
     let mut numbering = Numbering::new(alloc);
-    let mut marks = Vec::new(alloc);
+    let mut marks = Items::new(alloc);
     for node in nodes {
         let key = accept_key(alloc, node.accept())?;
-        let mark = numbering.number(key)?;
-        marks.push(mark)?;
+        marks.push_made(numbering.number(key))?;
     }
-    Ok(marks)
+    Ok(marks.into_vec())
 }
 
 // The sets as lists of numbers, which can be numbered.
@@ -28,8 +27,7 @@ fn accept_key(alloc: Global, sets: &[EventSet]) -> Result<Items<Items<u32>>, NoM
 {
     let mut key = Items::new(alloc);
     for set in sets {
-        let events = event_numbers(alloc, set)?;
-        key.push(events)?;
+        key.push_made(event_numbers(alloc, set))?;
     }
     Ok(key)
 }

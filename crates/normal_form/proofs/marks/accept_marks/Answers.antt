@@ -1,13 +1,15 @@
-use Rattle.std.proofs.Common.{◌∙◌, arith}
-use Rattle.normal_form.proofs.Marking.{one_more_marked, all_marked, item_read}
+use Rattle.std.proofs.Common.{◌∙◌, sym, subst, arith}
+use Rattle.normal_form.specs.Marks.{AreMarksOf}
+use Rattle.normal_form.proofs.Marking.{one_more_marked, all_marked, item_read, pushed}
 use Rattle.normal_form.proofs.marks.accept_marks.Goals as goal
 
 pub loop-node-preserved : goal.loop-node-preserved
 loop-node-preserved c =
-    one_more_marked c.args.nodes.now c.loop-node.node-index c.loop-node.numbering c.number.new.self c.loop-node.marks.items c.push.new.self.items c.in_ok-mark.mark c.in_ok-key.key c.loop-node.invariant
-    c.in_ok-mark.ensures.list c.in_ok-mark.ensures.place
+    let w = pushed c.number.result c.loop-node.marks c.push_made.new.self _ _ c.in_ok-push_made.ensures.ok c.number.ensures.list c.number.ensures.place in
+    one_more_marked c.args.nodes.now c.loop-node.node-index c.loop-node.numbering c.number.new.self c.loop-node.marks c.push_made.new.self w.0 c.in_ok-key.key c.loop-node.invariant
+    w.1 w.2
     (c.in_ok-key.ensures ∙ c.accept.ensures ∙ item_read c.args.nodes.now c.loop-node.node-index c.node-item.result c.loop-node-test.true c.node-item.is)
-    c.in_ok-push.ensures.items
+    w.3
 
 pub returns : goal.returns
-returns c = all_marked c.args.nodes.now c.loop-node.node-index c.loop-node.numbering c.loop-node.marks.items (omega arith) c.loop-node.invariant
+returns c = subst (AreMarksOf c.args.nodes.now) (sym c.into_vec.ensures) (all_marked c.args.nodes.now c.loop-node.node-index c.loop-node.numbering c.loop-node.marks (omega arith) c.loop-node.invariant)

@@ -2,4 +2,4 @@ use Rattle.normal_form.proofs.Marking.{AreMarkedSoFar}
 use Rattle.normal_form.proofs.marks.accept_marks.Given as goal
 
 abbrev pub invariant-loop-node : goal.invariant-loop-node
-invariant-loop-node l = AreMarkedSoFar l.nodes l.node-index l.numbering l.marks.items
+invariant-loop-node l = AreMarkedSoFar l.nodes l.node-index l.numbering l.marks
