@@ -83,3 +83,7 @@ pub refused_at : (script : Script) (decls : List Decl) (kinds : List Kind) (r : 
     → IsErrAnd r (λ y. y ≡ f) → Answers (λ (p : Content). p) (Err f) (resolved decls kinds) → Resolves script r
 refused_at script decls kinds (Ok x) f decls_are are is owed = absurd is
 refused_at script decls kinds (Err y) f decls_are are is owed = rw is (refused_from script decls kinds f decls_are are owed)
+
+pub resolves_at : (script : Script) (r : Result Content ResolveFault) (f : ResolveFault) → IsErrAnd r (λ y. y ≡ f) → Resolves script (Err f) → Resolves script r
+resolves_at script (Ok x) f is owed = absurd is
+resolves_at script (Err y) f is owed = rw is owed

@@ -1,7 +1,8 @@
 //! The field sets of a script's channels, and its event table.
 
-ghost use Rattle.std.specs.Prelude.{◌≡◌, List, [], ◌∷◌, ◌++◌, OnOk};
+ghost use Rattle.std.specs.Prelude.{◌≡◌, List, [], ◌∷◌, ◌++◌, IfOk, OnOk};
 ghost use Rattle.csp_resolve.specs.Answers.{Answers, Grows, sets_of, types_read};
+ghost use Rattle.event_tables.specs.declared.sets.SharedSets.{SharedSets};
 ghost use Rattle.event_tables.specs.Spread.{spread};
 ghost use Rattle.script_names.specs.Names.{first_of};
 ghost use Rattle.script_names.specs.Resolved as meant;
@@ -56,10 +57,9 @@ fn add_sets(
 {
     match decl {
         Decl::Channel(xs, types) => {
-            let channels = short(xs.len())?;
             let types = types_of(alloc, names, kinds, types.as_slice())?;
-            let sets = sets_in(alloc, content, i, types.as_slice())?;
-            push_shared(shared, SharedSets { channels, sets })?;
+            let one = shared_in(alloc, content, i, xs.len(), types.as_slice())?;
+            push_shared(shared, one)?;
             Ok(())
         }
         Decl::Datatype(_, _)
@@ -77,6 +77,22 @@ fn push_shared(shared: &mut Vec<SharedSets>, one: SharedSets) -> Result<(), NoMe
 {
     shared.push(one)?;
     Ok(())
+}
+
+// The field sets of so many channels of these types in the declaration with the number `i`.
+fn shared_in(
+    alloc: Global,
+    content: &Content,
+    i: u32,
+    channels: usize,
+    types: &[Expr],
+) -> Result<SharedSets, ResolveFault>
+    ensures channels { IfOk result (λ one. one.channels ≡ channels) }
+    ensures sets { Answers (λ (one : SharedSets). one.sets) result (meant.told_in i (meant.field_sets content.now types.now)) }
+{
+    let channels = short(channels)?;
+    let sets = sets_in(alloc, content, i, types)?;
+    Ok(SharedSets { channels, sets })
 }
 
 // The field sets of these types in the declaration with the number `i`.

@@ -3,6 +3,7 @@
 ghost use Rattle.std.specs.Prelude.{◌≡◌, Some, List, IfOk, OnOk};
 ghost use Rattle.std.specs.Option.{option_copied};
 ghost use Rattle.csp_program.specs.declared.programs.Content.{Content};
+ghost use Rattle.csp_program.specs.InOrder.{IsInOrder};
 ghost use Rattle.csp_resolve.specs.Answers.{Answers, types_read};
 ghost use Rattle.name_tables.specs.Firsts.{SameFirsts};
 ghost use Rattle.resolved_laws.specs.Laws.{HasFew};
@@ -30,7 +31,7 @@ use std::alloc::Global;
 fn boxed(alloc: Global, program: Program) -> Result<Boxed<Program>, NoMemory>
     ensures { IfOk result (λ made. made ≡ program) }
 {
-    Ok(Boxed::new(alloc, program)?)
+    Boxed::new(alloc, program)
 }
 
 /// The program of a script. A fault is told exactly where the script has no program, and it is the first in this order: no deadlock assertion, a name
@@ -38,13 +39,23 @@ fn boxed(alloc: Global, program: Program) -> Result<Boxed<Program>, NoMemory>
 pub fn resolve(alloc: Global, script: &Script) -> Result<Boxed<Program>, ResolveFault>
     ensures { meant.Resolves script.now result }
 {
-    programs_are_in_order();
-    let decls = script.decls.as_slice();
-    let names = dictionary_of(alloc, decls)?;
-    let kinds = kinds_of(alloc, decls, &names)?;
-    let content = resolved(alloc, decls, &names, kinds.as_slice())?;
+    let names = dictionary_of(alloc, script.decls.as_slice())?;
+    let content = content_of(alloc, script, &names)?;
     let program = boxed(alloc, Program::new(content))?;
     Ok(program)
+}
+
+// What the program of a script holds whose names stand for what `names` says.
+fn content_of(alloc: Global, script: &Script, names: &Dictionary) -> Result<Content, ResolveFault>
+    requires { SameFirsts names.now (declared script.now.decls) }
+    ensures resolves { meant.Resolves script.now result }
+    ensures in_order { IfOk result IsInOrder }
+{
+    programs_are_in_order();
+    let decls = script.decls.as_slice();
+    let kinds = kinds_of(alloc, decls, names)?;
+    let content = resolved(alloc, decls, names, kinds.as_slice())?;
+    Ok(content)
 }
 
 // What the program of declarations holds whose definitions are of these kinds.
@@ -127,8 +138,7 @@ fn expect_few(content: &Content) -> Result<(), NoMemory>
 {
     short(content.channels.len())?;
     short(content.consts.len())?;
-    short(content.defs.len())?;
-    Ok(())
+    short(content.defs.len()).map(|_count| ())
 }
 
 // Ends a value.
