@@ -37,13 +37,12 @@ pub(crate) fn note_decl(
 {
     match decl {
         Decl::Channel(xs, types) => {
-            let declared = &mut known.declared;
             note_channel(
                 alloc,
                 names,
                 kinds,
                 notes,
-                declared,
+                &mut known.declared,
                 xs.as_slice(),
                 types.as_slice(),
             )
@@ -54,13 +53,12 @@ pub(crate) fn note_decl(
         }
         Decl::Define(x, params, tree) => {
             let place = places::body_place(kinds, known.definitions as usize);
-            let declared = &mut known.declared;
             note_definition(
                 alloc,
                 names,
                 kinds,
                 notes,
-                declared,
+                &mut known.declared,
                 place,
                 x,
                 params.as_slice(),
