@@ -1,6 +1,6 @@
 //! Marks that tell nodes with different acceptances apart.
 
-ghost use Rattle.std.specs.Prelude.{◌≡◌, IfOk, ◌<◌, length, ℕ, ◌↔◌, slice_index};
+ghost use Rattle.std.specs.Prelude.{◌≡◌, [], IfOk, OnOk, ◌<◌, length, ℕ, ◌↔◌, slice_index};
 ghost use Rattle.normal_form.specs.Marks.{AreMarksOf};
 
 use containers::{Items, Numbering};
@@ -14,11 +14,26 @@ pub(crate) fn accept_marks(alloc: Global, nodes: &[NormNode]) -> Result<Vec<u32>
 {
     let mut numbering = Numbering::new(alloc);
     let mut marks = Items::new(alloc);
+    add_marks(alloc, nodes, &mut numbering, &mut marks)?;
+    Ok(marks.into_vec())
+}
+
+// Adds the number of each node's key to none, where no key is numbered yet.
+fn add_marks(
+    alloc: Global,
+    nodes: &[NormNode],
+    numbering: &mut Numbering<Items<Items<u32>>>,
+    marks: &mut Items<u32>,
+) -> Result<(), NoMemory>
+    requires empty { numbering.old ≡ [] }
+    requires none { marks.old ≡ [] }
+    ensures { OnOk result (AreMarksOf nodes.now marks.new) }
+{
     for node in nodes {
         let key = accept_key(alloc, node.accept())?;
         marks.push_made(numbering.number(key))?;
     }
-    Ok(marks.into_vec())
+    Ok(())
 }
 
 // The sets as lists of numbers, which can be numbered.

@@ -33,7 +33,9 @@ pub fn normalise(alloc: Global, table: &RawTable, heights: &Heights) -> Result<N
 {
     let _count = table.count();
     let sets = sets_of(alloc, table)?;
-    let made = merged_nodes(alloc, sets.nodes())?;
+    let Ok(made) = merged_nodes(alloc, sets.nodes()) else {
+        return Err(NormFault::NoMemory);
+    };
     Ok(made)
 }
 

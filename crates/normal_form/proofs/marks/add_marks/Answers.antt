@@ -1,7 +1,6 @@
-use Rattle.std.proofs.Common.{◌∙◌, sym, subst, arith}
-use Rattle.normal_form.specs.Marks.{AreMarksOf}
+use Rattle.std.proofs.Common.{◌∙◌, arith}
 use Rattle.normal_form.proofs.Marking.{one_more_marked, all_marked, item_read, pushed}
-use Rattle.normal_form.proofs.marks.accept_marks.Goals as goal
+use Rattle.normal_form.proofs.marks.add_marks.Goals as goal
 
 pub loop-node-preserved : goal.loop-node-preserved
 loop-node-preserved c =
@@ -12,4 +11,4 @@ loop-node-preserved c =
     w.3
 
 pub returns : goal.returns
-returns c = subst (AreMarksOf c.args.nodes.now) (sym c.into_vec.ensures) (all_marked c.args.nodes.now c.loop-node.node-index c.loop-node.numbering c.loop-node.marks (omega arith) c.loop-node.invariant)
+returns c = all_marked c.args.nodes.now c.loop-node.node-index c.loop-node.numbering c.loop-node.marks (omega arith) c.loop-node.invariant
