@@ -5,6 +5,7 @@ pub mod Entering
 pub mod Filling
 pub mod Forms
 pub mod Looking
+pub mod Made
 pub mod Noting
 pub mod Own
 pub mod Places

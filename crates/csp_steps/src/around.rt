@@ -62,8 +62,7 @@ fn sequence(
 {
     let mut steps = Items::new(alloc);
     for step in below {
-        let made = in_sequence(pool, second, *step)?;
-        steps.push(made)?;
+        steps.push_made(in_sequence(pool, second, *step))?;
     }
     Ok(steps)
 }
@@ -140,8 +139,7 @@ fn hiding(
 {
     let mut steps = Items::new(alloc);
     for step in below {
-        let made = in_hiding(pool, id, hidden, *step)?;
-        steps.push(made)?;
+        steps.push_made(in_hiding(pool, id, hidden, *step))?;
     }
     Ok(steps)
 }

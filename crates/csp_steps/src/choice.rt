@@ -47,8 +47,7 @@ pub(crate) fn each_put(
 {
     let mut ids = Items::new(alloc);
     for atom in atoms {
-        let made = put_atom(pool, name, *atom, id)?;
-        ids.push(made)?;
+        ids.push_made(put_atom(pool, name, *atom, id))?;
     }
     Ok(ids)
 }
@@ -131,8 +130,7 @@ pub(crate) fn add_operand(
 {
     let mut steps = steps;
     for step in below {
-        let made = in_choice(alloc, pool, ids, index, *step)?;
-        steps.push(made)?;
+        steps.push_made(in_choice(alloc, pool, ids, index, *step))?;
     }
     Ok(steps)
 }

@@ -72,16 +72,6 @@ fn keep(numbers: &mut HashMap<u32, u32>, key: u32, number: u32) -> Result<(), No
     }
 }
 
-// The number of the next value.
-fn next_number(count: usize) -> Result<u32, NoMemory>
-    ensures { IfOk result (λ number. number ≡ count) }
-{
-    match u32::try_from(count) {
-        Ok(number) => Ok(number),
-        Err(_) => Err(NoMemory),
-    }
-}
-
 // Keeps a value, and its number for the key.
 fn put_value<T: Drop>(
     values: &mut Items<T>,
@@ -93,7 +83,9 @@ fn put_value<T: Drop>(
     ensures values { OnOk result (values.new ≡ values.old ++ value ∷ []) }
     ensures numbers { IfOk result (λ number. Updates nat_eq numbers.old numbers.new key (Some number)) }
 {
-    let number = next_number(values.len())?;
+    let Ok(number) = u32::try_from(values.len()) else {
+        return Err(NoMemory);
+    };
     values.push(value)?;
     keep(numbers, key, number)?;
     Ok(number)
@@ -113,7 +105,9 @@ pub(crate) fn hidden_number(
         return Ok(number);
     }
     let hidden = events_in(alloc, program, set)?;
-    let number = put_value(&mut evaluated.sets, &mut evaluated.hidings, id.0, hidden)?;
+    let Ok(number) = put_value(&mut evaluated.sets, &mut evaluated.hidings, id.0, hidden) else {
+        return Err(EvalFault::NoMemory);
+    };
     Ok(number)
 }
 
@@ -146,12 +140,14 @@ pub(crate) fn renamed_number(
         return Ok(number);
     }
     let images = images_in(alloc, program, pairs, gens)?;
-    let number = put_value(
+    let Ok(number) = put_value(
         &mut evaluated.images,
         &mut evaluated.renamings,
         id.0,
         images,
-    )?;
+    ) else {
+        return Err(EvalFault::NoMemory);
+    };
     Ok(number)
 }
 

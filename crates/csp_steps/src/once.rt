@@ -16,5 +16,5 @@ pub(crate) fn once(alloc: Global, steps: &[StepTo]) -> Result<Vec<StepTo>, NoMem
     for step in steps {
         numbered.number(*step)?;
     }
-    Ok(Vec::from_slice(alloc, numbered.as_slice())?)
+    Vec::from_slice(alloc, numbered.as_slice())
 }

@@ -3,6 +3,7 @@ use Rattle.term_pool.specs.Trees.{tree_at}
 use Rattle.csp_steps.specs.Computed.{hidden_move, AreMoves}
 use Rattle.csp_steps.specs.declared.step.StepTo.{StepTo}
 use Rattle.csp_steps.proofs.Computing.{whole_moves}
+use Rattle.csp_steps.proofs.Made.{made_then}
 use Rattle.csp_steps.proofs.Places.{front_both, front_same, still_within}
 use Rattle.csp_steps.proofs.Rounds.{hiding_next, step_in}
 use Rattle.csp_steps.proofs.around.hiding.Goals as goal
@@ -22,10 +23,10 @@ in_hiding-requires c =
 
 pub loop-step-preserved : goal.loop-step-preserved
 loop-step-preserved c = record {
-  front = front_both c.args.pool.now c.loop-step.pool c.in_hiding.new.pool c.loop-step.invariant.front c.in_ok-made.ensures.front;
-  moves = hiding_next c.args.pool.now c.loop-step.pool c.in_hiding.new.pool c.loop-step.invariant.front c.in_ok-made.ensures.front c.args.below.now c.requires.below
-      c.loop-step.step-index c.step-item.result (omega arith) c.step-item.is c.args.id c.requires.id c.args.hidden.now c.loop-step.steps c.push.new.self c.in_ok-made.made
-      c.loop-step.invariant.moves c.in_ok-made.ensures.move_ c.in_ok-push.ensures.ok;
+  front = front_both c.args.pool.now c.loop-step.pool c.in_hiding.new.pool c.loop-step.invariant.front c.in_hiding.ensures.front;
+  moves = made_then c.in_hiding.result _ _ _ c.in_hiding.ensures.move_ c.in_ok-push_made.ensures.ok (λ x p q. hiding_next c.args.pool.now c.loop-step.pool c.in_hiding.new.pool c.loop-step.invariant.front c.in_hiding.ensures.front c.args.below.now c.requires.below
+      c.loop-step.step-index c.step-item.result (omega arith) c.step-item.is c.args.id c.requires.id c.args.hidden.now c.loop-step.steps c.push_made.new.self x
+      c.loop-step.invariant.moves p q);
 }
 
 pub returns-clause-steps : goal.returns-clause-steps

@@ -3,6 +3,7 @@ use Rattle.process_steps.specs.StepList.{in_choice}
 use Rattle.term_pool.specs.Trees.{tree_at}
 use Rattle.csp_steps.specs.Listed.{seen}
 use Rattle.csp_steps.proofs.Computing.{whole_moves}
+use Rattle.csp_steps.proofs.Made.{made_then}
 use Rattle.csp_steps.proofs.Places.{all_below_stay, front_both, front_same}
 use Rattle.csp_steps.proofs.Rounds.{choice_next, step_in}
 use Rattle.csp_steps.proofs.choice.add_operand.Goals as goal
@@ -22,10 +23,10 @@ in_choice-requires c = record {
 
 pub loop-step-preserved : goal.loop-step-preserved
 loop-step-preserved c = record {
-  front = front_both c.args.pool.now c.loop-step.pool c.in_choice.new.pool c.loop-step.invariant.front c.in_ok-made.ensures.front;
-  moves = choice_next c.args.pool.now c.loop-step.pool c.in_choice.new.pool c.loop-step.invariant.front c.in_ok-made.ensures.front c.args.below.now c.requires.below
-      c.loop-step.step-index c.step-item.result (omega arith) c.step-item.is c.args.ids.now c.requires.operands c.args.index (map (seen c.args.pool.now) c.args.steps) c.loop-step.steps c.push.new.self c.in_ok-made.made
-      c.loop-step.invariant.moves c.in_ok-made.ensures.move_ c.in_ok-push.ensures.ok;
+  front = front_both c.args.pool.now c.loop-step.pool c.in_choice.new.pool c.loop-step.invariant.front c.in_choice.ensures.front;
+  moves = made_then c.in_choice.result _ _ _ c.in_choice.ensures.move_ c.in_ok-push_made.ensures.ok (λ x p q. choice_next c.args.pool.now c.loop-step.pool c.in_choice.new.pool c.loop-step.invariant.front c.in_choice.ensures.front c.args.below.now c.requires.below
+      c.loop-step.step-index c.step-item.result (omega arith) c.step-item.is c.args.ids.now c.requires.operands c.args.index (map (seen c.args.pool.now) c.args.steps) c.loop-step.steps c.push_made.new.self x
+      c.loop-step.invariant.moves p q);
 }
 
 pub returns-clause-steps : goal.returns-clause-steps

@@ -3,6 +3,7 @@ use Rattle.term_pool.specs.Trees.{tree_at}
 use Rattle.pool_parts.specs.declared.place.ProcId.{ProcId}
 use Rattle.csp_steps.specs.Computed.{AreAt}
 use Rattle.csp_steps.proofs.Choosing.{all_put, next_put}
+use Rattle.csp_steps.proofs.Made.{made_then}
 use Rattle.csp_steps.proofs.Places.{front_both, front_same, still_within}
 use Rattle.csp_steps.proofs.choice.each_put.Goals as goal
 
@@ -17,9 +18,9 @@ put_atom-requires c = record { within = still_within c.args.pool.now c.loop-atom
 
 pub loop-atom-preserved : goal.loop-atom-preserved
 loop-atom-preserved c = record {
-  front = front_both c.args.pool.now c.loop-atom.pool c.put_atom.new.pool c.loop-atom.invariant.front c.in_ok-made.ensures.front;
-  places = next_put c.args.pool.now c.loop-atom.pool c.put_atom.new.pool c.loop-atom.invariant.front c.in_ok-made.ensures.front c.args.id c.requires.within c.args.name c.args.atoms.now
-      c.loop-atom.atom-index c.atom-item.result (omega arith) c.atom-item.is c.loop-atom.ids c.push.new.self c.in_ok-made.made c.loop-atom.invariant.places c.in_ok-made.ensures.process c.in_ok-push.ensures.ok;
+  front = front_both c.args.pool.now c.loop-atom.pool c.put_atom.new.pool c.loop-atom.invariant.front c.put_atom.ensures.front;
+  places = made_then c.put_atom.result _ _ _ c.put_atom.ensures.process c.in_ok-push_made.ensures.ok (λ x p q. next_put c.args.pool.now c.loop-atom.pool c.put_atom.new.pool c.loop-atom.invariant.front c.put_atom.ensures.front c.args.id c.requires.within c.args.name c.args.atoms.now
+      c.loop-atom.atom-index c.atom-item.result (omega arith) c.atom-item.is c.loop-atom.ids c.push_made.new.self x c.loop-atom.invariant.places p q);
 }
 
 pub returns-clause-places : goal.returns-clause-places

@@ -7,5 +7,5 @@ returns-in-Some c = λ trees within same h. hidden_known c.args.program.now tree
 
 pub returns : goal.returns
 returns c =
-    λ trees within same h. hidden_new c.args.program.now trees c.args.evaluated.now h c.args.id c.in_ok-number.number within _ c.in_ok-hidden.hidden c.put_value.new.values c.put_value.new.numbers same c.in_ok-hidden.ensures
-    c.in_ok-number.ensures.number c.in_ok-number.ensures.values c.in_ok-number.ensures.numbers
+    λ trees within same h. hidden_new c.args.program.now trees c.args.evaluated.now h c.args.id c.in-Ok.number within _ c.in_ok-hidden.hidden c.put_value.new.values c.put_value.new.numbers same c.in_ok-hidden.ensures
+    c.in-Ok.ensures.number c.in-Ok.ensures.values c.in-Ok.ensures.numbers
