@@ -162,7 +162,9 @@ fn hide(
 {
     let hidden = &evaluated.sets.as_slice()[number as usize];
     let steps = hiding(alloc, pool, id, hidden, below)?;
-    note_steps(&mut evaluated.hidings, number, steps.as_slice())?;
+    let Ok(()) = note_steps(&mut evaluated.hidings, number, steps.as_slice()) else {
+        return Err(NoMemory);
+    };
     Ok(steps)
 }
 
@@ -286,7 +288,9 @@ fn rename(
 {
     let images = &evaluated.images.as_slice()[number as usize];
     let steps = renaming(alloc, pool, id, images, below)?;
-    note_steps(&mut evaluated.renamings, number, steps.as_slice())?;
+    let Ok(()) = note_steps(&mut evaluated.renamings, number, steps.as_slice()) else {
+        return Err(NoMemory);
+    };
     Ok(steps)
 }
 
