@@ -1,13 +1,13 @@
 -- A fault of a part is a fault of the whole.
-use Rattle.std.proofs.Common.{◌≡◌, ℕ, Ok, Err, List, subst, sym}
-use Rattle.std.specs.Prelude.{Result}
-use Rattle.std.specs.Result.{IsErrAnd}
+use Rattle.std.proofs.Common.{◌≡◌, ℕ, Ok, Err, List, [], ◌∷◌, ◌++◌, ap, subst, sym, ◌∙◌}
+use Rattle.std.specs.Prelude.{IfErr, IfOk, Result}
+use Rattle.std.specs.Result.{IsErrAnd, IsOkAnd}
 use Rattle.csp_program.specs.Outcome.{Outcome}
 use Rattle.csp_program.specs.declared.kinds.ValueKind.{ValueKind}
 use Rattle.csp_program.specs.declared.processes.Proc.{Proc}
 use Rattle.csp_tables.specs.Network.{Component, Tree}
 use Rattle.network_trees.specs.NetworkOf.{Walked}
-use Rattle.network_layout.specs.Lays.{Fails, Lacks, Lays}
+use Rattle.network_layout.specs.Lays.{Fails, IsLaid, Lacks, Lays}
 use Rattle.network_trees.specs.declared.fault.LayoutFault.{LayoutFault}
 use Rattle.network_trees.specs.declared.fault.LayoutFault.TheVariants as fault
 
@@ -44,3 +44,14 @@ walk_passed r f part whole old new is h passes = lays_fault r f whole old new is
 
 pub same : (r : Result (List ℕ) LayoutFault) (whole part : Walked (Tree Proc)) (old new : List (Component Proc)) → whole ≡ part → Lays r part old new → Lays r whole old new
 same r whole part old new is h = subst (λ o. Lays r o old new) (sym is) h
+
+-- events that are made last, or want of memory for them
+pub lays_last : (r : Result (List ℕ) LayoutFault) (whole : Walked (Tree Proc)) (old new : List (Component Proc)) (events : List ℕ)
+    → IfOk r (λ made. made ≡ events) → IfErr r (λ f. f ≡ fault.NoMemory) → IsLaid whole old new events → Lays r whole old new
+lays_last (Ok made) whole old new events is free laid = subst (λ es. IsLaid whole old new es) (sym is) laid
+lays_last (Err f) whole old new events is free laid = subst (λ g. Fails g whole) (sym free) tt
+
+-- what was made was put at the end
+pub put_made : {A E : Type 0} (made : Result A E) (old new : List A) (a : A) → IfOk made (λ x. x ≡ a) → IsOkAnd made (λ x. new ≡ old ++ x ∷ []) → new ≡ old ++ a ∷ []
+put_made (Ok x) old new a is put = put ∙ ap (λ y. old ++ y ∷ []) is
+put_made (Err e) old new a is put = absurd put

@@ -1,12 +1,12 @@
 //! The layout of a program's network.
 
-ghost use Rattle.std.specs.Prelude.{◌≡◌, IfErr, IfOk};
+ghost use Rattle.std.specs.Prelude.{◌≡◌, ◌≤◌, IfErr, IfOk, length};
 ghost use Rattle.std.specs.List.{range_with_len};
-ghost use Rattle.network_trees.specs.NetworkOf.{network_of};
+ghost use Rattle.network_trees.specs.NetworkOf.{all_events, network_of, walked};
 ghost use Rattle.network_layout.specs.Lays.{AreSeats, Fails};
 
 use crate::nesting::short;
-use crate::seat::Layout;
+use crate::seat::{Layout, Seat};
 use crate::values::Scope;
 use crate::walk::walk;
 use containers::Items;
@@ -29,16 +29,39 @@ fn first_events(alloc: Global, count: u32) -> Result<EventSet, NoMemory>
     Ok(events)
 }
 
+// All events of a program.
+fn all_events(alloc: Global, program: &Program) -> Result<EventSet, NoMemory>
+    ensures { IfOk result (λ made. made ≡ all_events program.now) }
+{
+    let count = short(program.content().events.len())?;
+    first_events(alloc, count)
+}
+
+// The components that the walk of a program's network meets.
+fn seats_of(alloc: Global, program: &Program) -> Result<Items<Seat>, LayoutFault>
+    ensures seats { IfOk result (AreSeats (walked program.now 800 0 (all_events program.now) program.now.root)) }
+    ensures few { IfOk result (λ seats. length seats ≤ 512) }
+    ensures fault { IfErr result (λ fault. Fails fault (walked program.now 800 0 (all_events program.now) program.now.root)) }
+{
+    let events = all_events(alloc, program)?;
+    let scope = Scope { alloc, program };
+    let mut seats = Items::new(alloc);
+    walk(
+        &scope,
+        MOST_LEVELS,
+        &program.content().root,
+        &events,
+        &mut seats,
+    )?;
+    Ok(seats)
+}
+
 /// The components of the network that a program spells, from left to right. A fault is the first that the walk of the network meets.
 pub fn layout(alloc: Global, program: &Program) -> Result<Layout, LayoutFault>
     ensures seats { IfOk result (AreSeats (network_of program.now)) }
     ensures fault { IfErr result (λ fault. Fails fault (network_of program.now)) }
 {
-    let scope = Scope { alloc, program };
-    let content = program.content();
-    let events = first_events(alloc, short(content.events.len())?)?;
-    let mut seats = Items::new(alloc);
-    walk(&scope, MOST_LEVELS, &content.root, &events, &mut seats)?;
+    let seats = seats_of(alloc, program)?;
     if seats.is_empty() {
         return Err(LayoutFault::EmptyNetwork);
     }

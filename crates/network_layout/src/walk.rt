@@ -1,8 +1,10 @@
 //! The walk of a network, depth first from the left. It seats each component that it meets, and gives back their alphabets together.
 
-ghost use Rattle.std.specs.Prelude.{◌≡◌, [], IfOk, length};
+ghost use Rattle.std.specs.Prelude.{◌≡◌, [], IfErr, IfOk, length};
+ghost use Rattle.csp_base.specs.Events.{union_of};
 ghost use Rattle.csp_program.specs.declared.networks.Net.TheOpen.{Net-F};
 ghost use Rattle.network_trees.specs.NetworkOf.{component, walked};
+ghost use Rattle.network_trees.specs.declared.fault.LayoutFault.TheVariants.{NoMemory as OutOfMemory};
 ghost use Rattle.network_layout.specs.Lays.{Lays, node, one_operand, operand_walked, operands_each, two};
 
 use crate::calls::{called, operand_at};
@@ -31,6 +33,15 @@ fn seat_of(alloc: Global, process: &Proc, alphabet: &EventSet) -> Result<Seat, N
     Ok(Seat::new(term, kept))
 }
 
+// The events of two alphabets together.
+fn both(scope: &Scope<'_>, left: &EventSet, right: &EventSet) -> Result<EventSet, LayoutFault>
+    ensures joint { IfOk result (λ made. made ≡ union_of left.now right.now) }
+    ensures fault { IfErr result (λ fault. fault ≡ OutOfMemory) }
+{
+    let joint = left.union(scope.alloc, right)?;
+    Ok(joint)
+}
+
 // Seats a component.
 fn sit(
     scope: &Scope<'_>,
@@ -43,10 +54,8 @@ fn sit(
     if seats.len() >= MOST_COMPONENTS {
         return Err(LayoutFault::ComponentLimit { found: 513 });
     }
-    let seat = seat_of(scope.alloc, process, alphabet)?;
-    seats.push(seat)?;
-    let joint = alphabet.union(scope.alloc, &EventSet::new(scope.alloc))?;
-    Ok(joint)
+    seats.push_made(seat_of(scope.alloc, process, alphabet))?;
+    both(scope, alphabet, &EventSet::new(scope.alloc))
 }
 
 // A network in which no node may be entered.
@@ -184,8 +193,7 @@ fn walk_both(
 {
     let first = operand(scope, levels, left, left_alphabet, seats)?;
     let second = operand(scope, levels, right, right_alphabet, seats)?;
-    let joint = first.union(scope.alloc, &second)?;
-    Ok(joint)
+    both(scope, &first, &second)
 }
 
 // An operand for each value of a set.

@@ -5,19 +5,16 @@ use csp_program::ValueKind;
 use value_operators::EvalFault;
 
 /// The first fault that the walk of a network meets, or want of memory.
-#[derive(Clone, Copy, Debug, PartialEq, Eq, Drop, thiserror::Error)]
+#[derive(Clone, Copy, Drop)]
 pub enum LayoutFault {
     /// Want of memory.
-    #[error("out of memory")]
     NoMemory,
     /// A value is needed that there isn't.
-    #[error("no value")]
     Value {
         /// The kind of fault.
         kind: ValueKind,
     },
     /// The alphabet of an operand is not that of its components together.
-    #[error("an operand differs from its alphabet")]
     BadNesting {
         /// The number of the operand's first component.
         first: u32,
@@ -27,16 +24,13 @@ pub enum LayoutFault {
         event: Event,
     },
     /// The network has no components.
-    #[error("no components")]
     EmptyNetwork,
     /// The network has too many components.
-    #[error("too many components")]
     ComponentLimit {
         /// The number of them at which the walk ended.
         found: u32,
     },
     /// The network is nested too deep.
-    #[error("nested too deep")]
     NetworkDepth {
         /// The depth at which the walk ended.
         found: u32,

@@ -1,11 +1,12 @@
-use Rattle.std.proofs.Common.{ap, ap₂, sym, suc, Ok, true, false, [], length, ◌-◌, ◌≡◌, ◌∙◌, arith}
+use Rattle.std.proofs.Common.{ap, ap₂, refl, sym, suc, Ok, true, false, [], length, ◌-◌, ◌≡◌, ◌∙◌, arith}
+use Rattle.csp_base.specs.Events.{union_of}
 use Rattle.csp_program.specs.declared.networks.Net.TheOpen.{Net-F}
 use Rattle.csp_program.specs.declared.networks.Net.TheViews.{out-Net}
 use Rattle.network_layout.specs.Lays.{operand_walked}
 use Rattle.network_layout.proofs.EachSteps.{each_begin, each_end, each_fault, each_next}
 use Rattle.network_layout.proofs.Equations.{call_goes, call_lacks, each_any, each_goes, each_lacks, entered, if_goes, if_lacks, layer-Call, layer-Each, layer-If, layer-Leaf, layer-Pair, node-Leaf, one_goes, one_lacks, operand_fault, pair_any, pair_goes, pair_lacks}
 use Rattle.network_layout.proofs.Laid.{operand_agrees, operand_differs, pair_fault, pair_laid, pair_second_fault}
-use Rattle.network_layout.proofs.Passed.{same, value_passed, walk_passed}
+use Rattle.network_layout.proofs.Passed.{lays_last, same, value_passed, walk_passed}
 use Rattle.network_layout.proofs.walk.+walk.Goals as goal
 
 -- ---- an operand
@@ -113,8 +114,10 @@ walk_both-returns-in_err-second t c =
 
 pub walk_both-returns : goal.walk_both-returns
 walk_both-returns t c =
-    pair_laid c.args.scope.now.program.now c.args.levels c.args.left_alphabet.now c.args.left.now c.args.right_alphabet.now c.args.right.now
-    c.args.seats.now c.operand.new.seats c.operand-2.new.seats c.in_ok-first.first c.in_ok-second.second c.in_ok-joint.joint c.in_ok-first.ensures c.in_ok-second.ensures c.in_ok-joint.ensures.value
+    lays_last _ _ _ _ _ c.both.ensures.joint c.both.ensures.fault
+    (pair_laid c.args.scope.now.program.now c.args.levels c.args.left_alphabet.now c.args.left.now c.args.right_alphabet.now c.args.right.now
+    c.args.seats.now c.operand.new.seats c.operand-2.new.seats c.in_ok-first.first c.in_ok-second.second (union_of c.in_ok-first.first c.in_ok-second.second)
+    c.in_ok-first.ensures c.in_ok-second.ensures refl)
 
 -- ---- an operand for each value
 

@@ -1,4 +1,4 @@
-use Rattle.std.proofs.Common.{◌≡◌, ℕ, ◌+◌, ◌*◌, drop, length}
+use Rattle.std.proofs.Common.{◌+◌, ◌*◌, drop, length}
 use Rattle.network_layout.proofs.EachSteps.{EachSoFar, each}
 use Rattle.network_layout.proofs.walk.+walk.Given as goal
 
