@@ -217,10 +217,8 @@ fn add_visible(
     ensures steps { IfOk result (λ made. AreMoves pool.new made (map (seen pool.old) steps ++ map (λ d. (Label.Visible d, with_first (tree_at pool.old id) (tree_at pool.old step.to))) (images_in (becomes images.now) step.label))) }
     ensures front { IsFront pool.old pool.new }
 {
+    let events = label_images(alloc, images, &step.label)?;
     let to = pool.put_with_first(id, step.to)?;
-    let Ok(events) = label_images(alloc, images, &step.label) else {
-        return Err(NoMemory);
-    };
     add_events(events.as_slice(), to, steps)
 }
 

@@ -8,5 +8,5 @@ use Rattle.csp_steps.proofs.around.add_visible.Goals as goal
 pub returns-clause-steps : goal.returns-clause-steps
 returns-clause-steps c =
     add_many c.args.pool.now c.put_with_first.new.self c.in_ok-to.ensures.front c.args.steps c.requires.steps c.in_ok-to.to (with_first (tree_at c.args.pool.now c.args.id) (tree_at c.args.pool.now c.args.step.to)) c.as_slice.result.now _ c.add_events.result
-    (sym (ap (map (λ d. (Visible d, with_first (tree_at c.args.pool.now c.args.id) (tree_at c.args.pool.now c.args.step.to)))) (c.as_slice.ensures ∙ c.in-Ok.ensures)))
+    (sym (ap (map (λ d. (Visible d, with_first (tree_at c.args.pool.now c.args.id) (tree_at c.args.pool.now c.args.step.to)))) (c.as_slice.ensures ∙ c.in_ok-events.ensures)))
     c.in_ok-to.ensures.process c.add_events.ensures
