@@ -162,9 +162,7 @@ fn hide(
 {
     let hidden = &evaluated.sets.as_slice()[number as usize];
     let steps = hiding(alloc, pool, id, hidden, below)?;
-    let Ok(()) = note_steps(&mut evaluated.hidings, number, steps.as_slice()) else {
-        return Err(NoMemory);
-    };
+    note_steps(&mut evaluated.hidings, number, steps.as_slice())?;
     Ok(steps)
 }
 
@@ -288,9 +286,7 @@ fn rename(
 {
     let images = &evaluated.images.as_slice()[number as usize];
     let steps = renaming(alloc, pool, id, images, below)?;
-    let Ok(()) = note_steps(&mut evaluated.renamings, number, steps.as_slice()) else {
-        return Err(NoMemory);
-    };
+    note_steps(&mut evaluated.renamings, number, steps.as_slice())?;
     Ok(steps)
 }
 

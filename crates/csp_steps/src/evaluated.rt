@@ -87,7 +87,8 @@ fn put_value<T: Drop>(
         return Err(NoMemory);
     };
     values.push(value)?;
-    keep(numbers, key, number).map(|()| number)
+    keep(numbers, key, number)?;
+    Ok(number)
 }
 
 /// The number of the set of the hiding at a place, which is evaluated if it isn't yet.

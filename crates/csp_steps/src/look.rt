@@ -119,9 +119,7 @@ fn look_prefix(
     ensures look { (head : LogicHead) → (written : List LogicField) → IfOk fields (λ fs. fs ≡ written) → meant.of_head program.now head ≡ Ok (choice_in start.now) → GivesLook program.now pool.new result (proc.Prefix head written (tree_at pool.old id)) }
     ensures front { IsFront pool.old pool.new }
 {
-    let Ok(fields) = fields else {
-        return Err(EvalFault::NoMemory);
-    };
+    let fields = fields?;
     let steps = prefix_steps(alloc, program, pool, start, fields.as_slice(), id)?;
     Ok(Look::Steps(steps))
 }

@@ -169,8 +169,7 @@ fn number_with_output(
     ensures { Gives result (and_then (value_of filling.now.program.now output.now) (λ v. and_then (field_place set.now v) (λ k. Ok (number * length set.now + k)))) }
 {
     let value = eval(filling.alloc, filling.program, output)?;
-    let place = place_in(set, &value)?;
-    number_after(number, set, place)
+    number_after(number, set, place_in(set, &value)?)
 }
 
 // Steps, and after them the one where no set is left.

@@ -19,4 +19,4 @@ returns-clause-fits c =
     hidden c.note_steps.new.numbers there is
     (subst (λ (x : List ℕ). AreMoves c.hiding.new.pool c.in_ok-steps.steps (map (λ m. hidden_move x (tree_at c.args.pool.now c.args.id) m.0 m.1) (map (seen c.args.pool.now) c.args.below.now)))
     (c.index-as_slice-number.is ∙ get_or_from_slice_get c.as_slice.result.now c.args.number hidden c.index-as_slice-number.result (ap (λ (xs : List (List ℕ)). slice_get xs c.args.number) c.as_slice.ensures ∙ there)) c.in_ok-steps.ensures.steps)
-    (subst (λ (ss : List StepTo). HasMoreNumbers c.args.evaluated.now.hidings c.note_steps.new.numbers c.args.number ss) c.as_slice-2.ensures c.in-Ok.ensures)
+    (subst (λ (ss : List StepTo). HasMoreNumbers c.args.evaluated.now.hidings c.note_steps.new.numbers c.args.number ss) c.as_slice-2.ensures c.in_ok-note_steps.ensures)

@@ -22,4 +22,4 @@ returns-clause-fits c =
     images c.note_steps.new.numbers there is
     (subst (λ (x : Images). AreMoves c.renaming.new.pool c.in_ok-steps.steps (joined (map (λ m. renamed_moves (becomes x) (tree_at c.args.pool.now c.args.id) m.0 m.1) (map (seen c.args.pool.now) c.args.below.now))))
     (c.index-as_slice-number.is ∙ get_or_from_slice_get c.as_slice.result.now c.args.number images c.index-as_slice-number.result (ap (λ (xs : List (Images)). slice_get xs c.args.number) c.as_slice.ensures ∙ there)) c.in_ok-steps.ensures.steps)
-    (subst (λ (ss : List StepTo). HasMoreNumbers c.args.evaluated.now.renamings c.note_steps.new.numbers c.args.number ss) c.as_slice-2.ensures c.in-Ok.ensures)
+    (subst (λ (ss : List StepTo). HasMoreNumbers c.args.evaluated.now.renamings c.note_steps.new.numbers c.args.number ss) c.as_slice-2.ensures c.in_ok-note_steps.ensures)

@@ -12,13 +12,13 @@ use Rattle.csp_steps.proofs.look.look_prefix.Goals as goal
 
 pub returns-in_err-steps-clause-look : goal.returns-in_err-steps-clause-look
 returns-in_err-steps-clause-look c =
-    λ head written h e. subst (λ (fs : List Field). GivesLook c.args.program.now c.prefix_steps.new.pool c.from_residual.result (proc.Prefix head fs (tree_at c.args.pool.now c.args.id)))
-    (c.as_slice.ensures ∙ subst (λ (r : Result (List Field) _). IfOk r (λ fs. fs ≡ written)) c.in-Ok.is h)
-    (steps_passed c.args.program.now c.prefix_steps.new.pool c.prefix_steps.new.pool (proc.Prefix head c.as_slice.result.now (tree_at c.args.pool.now c.args.id)) _ _ _ c.from_residual.ensures.1 c.in_err-steps.ensures.steps
+    λ head written h e. subst (λ (fs : List Field). GivesLook c.args.program.now c.prefix_steps.new.pool c.from_residual-in_err-steps.result (proc.Prefix head fs (tree_at c.args.pool.now c.args.id)))
+    (c.as_slice.ensures ∙ subst (λ (r : Result (List Field) _). IfOk r (λ fs. fs ≡ written)) c.in_ok-fields.was h)
+    (steps_passed c.args.program.now c.prefix_steps.new.pool c.prefix_steps.new.pool (proc.Prefix head c.as_slice.result.now (tree_at c.args.pool.now c.args.id)) _ _ _ c.from_residual-in_err-steps.ensures.1 c.in_err-steps.ensures.steps
     (λ k g. prefix_fault c.args.program.now head c.as_slice.result.now (tree_at c.args.pool.now c.args.id) (choice_in c.args.start.now) k e g))
 
 pub returns-clause-look : goal.returns-clause-look
 returns-clause-look c =
     λ head written h e. subst (λ (fs : List Field). GivesLook c.args.program.now c.prefix_steps.new.pool (Ok (look.Steps c.in_ok-steps.steps)) (proc.Prefix head fs (tree_at c.args.pool.now c.args.id)))
-    (c.as_slice.ensures ∙ subst (λ (r : Result (List Field) _). IfOk r (λ fs. fs ≡ written)) c.in-Ok.is h)
+    (c.as_slice.ensures ∙ subst (λ (r : Result (List Field) _). IfOk r (λ fs. fs ≡ written)) c.in_ok-fields.was h)
     (prefix c.args.program.now c.prefix_steps.new.pool c.in_ok-steps.steps head c.as_slice.result.now (tree_at c.args.pool.now c.args.id) (choice_in c.args.start.now) e c.in_ok-steps.ensures.steps)
