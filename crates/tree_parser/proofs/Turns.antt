@@ -1,17 +1,19 @@
 -- What a turn of the reading comes to follows from what the step in it does.
-use Rattle.std.proofs.Common.{◌≡◌, ◌≤◌, Option, Some, None, List, [], ◌∷◌, ◌++◌, Ok, Err, refl, sym, ap, subst, ◌∙◌, arith}
+use Rattle.std.proofs.Common.{◌≡◌, ℕ, ◌<◌, Option, Some, None, List, [], ◌∷◌, ◌++◌, Ok, Err, refl, sym, ap, subst, ◌∙◌, arith}
 use Rattle.std.specs.Prelude.{Result}
 use Rattle.std.specs.Result.{IsErrAnd}
 use Rattle.csp_text.specs.declared.token.Token.{Token}
 use Rattle.tree_reading.specs.Gives.{Gives}
 use Rattle.tree_reading.specs.declared.fault.ReadFault.{ReadFault}
 use Rattle.tree_reading.specs.declared.fault.ReadFault.TheVariants as fault
+use Rattle.csp_text.specs.declared.tree.Tree.{Tree}
 use Rattle.tree_reading.specs.declared.limits.Limits.{Limits}
+use Rattle.tree_reading.specs.declared.read.BoundRead.{BoundRead}
 use Rattle.tree_steps.specs.Machine.{begin, resume}
 use Rattle.tree_parser.specs.Meaning.{FormGives, FrameGives, MoveGives}
-use Rattle.expression_steps.specs.Moved.{FoundTree, Moved, moved, pending_weight}
+use Rattle.expression_steps.specs.Moved.{FoundTree, Moved, moved, seen, weight}
 use Rattle.expression_steps.specs.Moved.Moved.{found, inner, next}
-use Rattle.tree_parser.specs.Stack.{Turned, Waiting, reading_weight, stacked, whole}
+use Rattle.tree_parser.specs.Stack.{Answered, Turned, Waiting, reading_weight, stacked, whole}
 use Rattle.tree_parser.specs.Then.{Outcome}
 use Rattle.expression_steps.specs.declared.form.Form.{Form}
 use Rattle.expression_steps.specs.declared.frame.Frame.{Frame}
@@ -80,10 +82,18 @@ stops_back x r before after w p e is h = turn_stops x r after before (found p) (
 abbrev pub Leads : Form → Limits → List Token → Moved → List Frame → Type 0
 Leads f l ts m frames = (s : Outcome) → MoveGives m (Waiting frames) s → FormGives f l ts whole s
 
--- it begins with the whole, which is to be read next
-module _ (f : Form) (l : Limits) (ts : List Token) (m : Moved) (frames : List Frame) (is : m ≡ next f l ts) (none : frames ≡ []) where
-  pub leads_first : Leads f l ts m frames
-  leads_first s h = subst (λ x. MoveGives x whole s) is (subst (λ fs. MoveGives m (Waiting fs) s) none h)
+pub leads_first : (f : Form) (l : Limits) (ts : List Token) (m : Moved) (frames : List Frame) → begin f l ts ≡ Some m → frames ≡ [] → Leads f l ts m frames
+leads_first f l ts m frames e n s h = begun whole s f l ts (step_gives (begin f l ts) m whole s e (subst (λ fs. MoveGives m (Waiting fs) s) n h))
 
-  pub first_weight : reading_weight m frames ≤ pending_weight f ts
-  first_weight = subst (λ fs. reading_weight m fs ≤ pending_weight f ts) (sym none) (subst (λ x. reading_weight x [] ≤ pending_weight f ts) (sym is) (omega arith))
+fault_first : (r : ReadFault) (f : Form) (l : Limits) (ts : List Token) → Gives {A = Step} (Err r) moved (begin f l ts) → Answered {A = BoundRead Tree} (Err r) seen f l ts
+fault_first fault.NoMemory f l ts h = tt
+fault_first (fault.NoText left) f l ts h = begun whole None f l ts (step_stops (begin f l ts) whole h)
+
+-- a first step that stops
+pub stops_first : (x : Result (BoundRead Tree) ReadFault) (r : ReadFault) (f : Form) (l : Limits) (ts : List Token) → IsErrAnd x (λ y. y ≡ r) →
+    Gives {A = Step} (Err r) moved (begin f l ts) → Answered x seen f l ts
+stops_first (Ok b) r f l ts is h = absurd is
+stops_first (Err y) r f l ts is h = subst (λ e. Answered {A = BoundRead Tree} (Err e) seen f l ts) (sym is) (fault_first r f l ts h)
+
+pub first_weight : (m : Moved) (frames : List Frame) (w : ℕ) → frames ≡ [] → weight m < w → reading_weight m frames < w
+first_weight m frames w e h = subst (λ fs. reading_weight m fs < w) (sym e) (omega (arith, h))

@@ -10,7 +10,7 @@ use containers::{Boxed, Items};
 use csp_text::{Token, Tree};
 use expression_steps::form::Form;
 use expression_steps::frame::Frame;
-use expression_steps::step::{Step, next};
+use expression_steps::step::Step;
 use std::alloc::Global;
 use tree_reading::fault::ReadFault;
 use tree_reading::limits::Limits;
@@ -107,7 +107,7 @@ pub(crate) fn read<'t>(
     ensures falls { IfOk result (λ r. found_weight r.rest.now < pending_weight form tokens.now) }
 {
     let mut frames = Items::new(alloc);
-    let mut step = next(form, limits, tokens);
+    let mut step = begin(alloc, form, limits, tokens)?;
     loop {
         match turn(alloc, &mut frames, step)? {
             Turn::Goes(next) => step = next,

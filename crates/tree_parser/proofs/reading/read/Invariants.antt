@@ -1,13 +1,13 @@
-use Rattle.std.proofs.Common.{◌≤◌}
+use Rattle.std.proofs.Common.{◌<◌}
 use Rattle.expression_steps.specs.Moved.{moved, pending_weight}
 use Rattle.tree_parser.specs.Stack.{reading_weight}
 use Rattle.tree_parser.proofs.Turns.{Leads}
 use Rattle.tree_parser.proofs.reading.read.Given as goal
 
--- what the reading comes to so far is what the whole comes to, and it weighs no more
+-- what the reading comes to so far is what the whole comes to, and it weighs less
 abbrev pub invariant-loop-frames : goal.invariant-loop-frames
 invariant-loop-frames l =
-    Leads l.fn.form l.fn.limits l.fn.tokens (moved l.step) l.frames × (reading_weight (moved l.step) l.frames ≤ pending_weight l.fn.form l.fn.tokens)
+    Leads l.fn.form l.fn.limits l.fn.tokens (moved l.step) l.frames × (reading_weight (moved l.step) l.frames < pending_weight l.fn.form l.fn.tokens)
 
 abbrev pub decreases-loop-frames : goal.decreases-loop-frames
 decreases-loop-frames l = reading_weight (moved l.step) l.frames
