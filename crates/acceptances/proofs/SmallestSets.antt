@@ -1,11 +1,11 @@
 -- Of some sets those that contain no smaller one, and that each set contains one of them.
-use Rattle.std.proofs.Common.{◌≡◌, ◌↔◌, ℕ, ◌<◌, ◌⊎◌, inl, inr, Bool, true, false, not, ◌&&◌, IsTrue, List, [], ◌∷◌, get_or, refl, sym, ap, subst, ◌∙◌}
+use Rattle.std.proofs.Common.{◌≡◌, ◌↔◌, ℕ, ◌<◌, ◌⊎◌, inl, inr, Bool, true, false, not, ◌&&◌, IsTrue, List, ◌∷◌, get_or, refl, sym, ap, subst, ◌∙◌}
 use Rattle.std.specs.List.{All, Contains, filter}
 use Rattle.std.specs.List.Sorted.{IsStrictlyIncreasing, IsStrictlySortedBy}
 use Rattle.std.specs.Cmp.{first_so, second_so}
 use Rattle.std.specs.Cmp.Lexicographic.{slice_cmp}
 use Rattle.std.specs.Ordering.{nat_cmp}
-use Rattle.std.proofs.lemmas.Bool.{false≢true, cases_Bool}
+use Rattle.std.proofs.lemmas.Bool.{false≢true, cases_Bool, not-true, not_from_false}
 use Rattle.std.proofs.lemmas.List.Kept.{IsStrictlySortedBy-filter}
 use Rattle.csp_base.specs.Events.{has, is_subset_of}
 use Rattle.csp_base.proofs.SetLaws.{is_subset_of_from_members, member_of_superset}
@@ -17,7 +17,8 @@ use Rattle.csp_tables.specs.Behaviour.{OffersAcceptance}
 use Rattle.csp_tables.specs.NormalTable.{IsListed}
 use Rattle.acceptances.specs.OfferTests.{can_do, AreMarks, AreOffers, offers_at, has_smaller}
 use Rattle.acceptances.proofs.Member.{Member, member_from_contains, contains_from_member, stands, all_of_members, member_of_filter, member_from_filter, any_of_member, member_of_any}
-use Rattle.acceptances.proofs.Terms.{same_tests, stable_by_test, test_by_stable, offers_by_test, test_by_offers, Source, source, listed_offer, within_of}
+use Rattle.acceptances.proofs.Terms.{stable_by_test, test_by_stable, offers_by_test, test_by_offers, Source, source, listed_offer, within_of}
+use Rattle.csp_base.proofs.Booleans.{same_tests}
 
 abbrev pub is_least : List (List ℕ) → List ℕ → Bool
 is_least sets M = not (has_smaller sets M)
@@ -25,13 +26,6 @@ is_least sets M = not (has_smaller sets M)
 -- the test of one set against another
 abbrev is_below : List ℕ → List ℕ → Bool
 is_below M N = is_subset_of N M && not (is_subset_of M N)
-
-not_true : (b : Bool) → b ≡ false → not b ≡ true
-not_true b h = ap not h
-
-not_false : (b : Bool) → not b ≡ true → b ≡ false
-not_false true h = absurd (false≢true h)
-not_false false h = refl
 
 within_by_test : (M N : List ℕ) → is_subset_of M N ≡ true → IsWithin M N
 within_by_test M N test e h = member_of_superset M N test e h
@@ -43,7 +37,7 @@ least_by_test sets M N test listed within =
       | inl holds ↦ within_by_test M N holds
       | inr fails ↦
           let below : is_below M N ≡ true = rw (is_subset_of_from_members N M within, fails) refl in
-          absurd (false≢true (sym (not_false (has_smaller sets M) test) ∙ any_of_member (is_below M) sets N listed below))
+          absurd (false≢true (sym (not-true (has_smaller sets M) test) ∙ any_of_member (is_below M) sets N listed below))
     ]
 
 pub test_by_least : (sets : List (List ℕ)) (M : List ℕ) → ((N : List ℕ) → Member N sets → IsWithin N M → IsWithin M N) → is_least sets M ≡ true
@@ -53,9 +47,9 @@ test_by_least sets M least =
           let p = member_of_any (is_below M) sets holds in
           let within : IsWithin p.0 M = within_by_test p.0 M (first_so (is_subset_of p.0 M) (not (is_subset_of M p.0)) p.2) in
           let back : is_subset_of M p.0 ≡ true = is_subset_of_from_members M p.0 (least p.0 p.1 within) in
-          let fails : is_subset_of M p.0 ≡ false = not_false (is_subset_of M p.0) (second_so (is_subset_of p.0 M) (not (is_subset_of M p.0)) p.2) in
+          let fails : is_subset_of M p.0 ≡ false = not-true (is_subset_of M p.0) (second_so (is_subset_of p.0 M) (not (is_subset_of M p.0)) p.2) in
           absurd (false≢true (sym fails ∙ back))
-      | inr fails ↦ not_true (has_smaller sets M) fails
+      | inr fails ↦ not_from_false (has_smaller sets M) fails
     ]
 
 -- a set within M, out of M and the others, that contains none of the others but as a whole

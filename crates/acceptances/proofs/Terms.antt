@@ -1,5 +1,5 @@
 -- The sets of the stable terms of a table, and what those terms offer.
-use Rattle.std.proofs.Common.{◌≡◌, ℕ, suc, ◌+◌, ◌<◌, ◌⊎◌, inl, inr, Bool, true, false, ◌&&◌, ◌||◌, nat_eq, cond, Some, List, [], ◌∷◌, ◌++◌, length, get_or, set, take, refl, sym, ap, subst, ◌∙◌, arith}
+use Rattle.std.proofs.Common.{◌≡◌, ℕ, suc, ◌+◌, ◌<◌, ◌⊎◌, inl, inr, Bool, true, false, ◌&&◌, ◌||◌, nat_eq, cond, Some, List, ◌∷◌, ◌++◌, length, get_or, set, take, refl, sym, ap, subst, ◌∙◌, arith}
 use Rattle.std.specs.List.{list_any, All}
 use Rattle.std.specs.List.Sorted.{IsStrictlyIncreasing}
 use Rattle.std.specs.Cmp.{first_so, second_so}
@@ -13,22 +13,19 @@ use Rattle.csp_tables.specs.Path.{Stable}
 use Rattle.csp_tables.specs.Trace.{Offers}
 use Rattle.csp_tables.specs.RawTable.{RawTable, RawStep}
 use Rattle.csp_tables.specs.RawForm.{HasRawForm}
-use Rattle.csp_tables.proofs.Listed.{any_of, passing, silent_at, step_at}
+use Rattle.csp_tables.proofs.Listed.{passing, silent_at, step_at}
 use Rattle.acceptances.specs.OfferTests.{is_unstable, can_do, offers_at}
 use Rattle.acceptances.proofs.Member.{Member, member_of_any}
-
--- tests that agree when they are true are equal
-pub same_tests : (a b : Bool) → (a ≡ true → b ≡ true) → (b ≡ true → a ≡ true) → a ≡ b
-same_tests true b f g = sym (f refl)
-same_tests false true f g = g refl
-same_tests false false f g = refl
+use Rattle.csp_base.proofs.Booleans.{or_none}
+use Rattle.csp_base.proofs.Listed.{same_number}
+use Rattle.std.proofs.lemmas.Map.Keys.{any_passes_from_place}
 
 same : (n : ℕ) → nat_eq n n ≡ true
 same n = eq-eqb n n refl
 
 -- ---- the tests of a table
 pub unstable_by_step : (raw : RawTable) (n t : ℕ) → RawStep raw n silent t → is_unstable raw n ≡ true
-unstable_by_step raw n t step = any_of (λ (p : ℕ × ℕ). nat_eq n p.0) raw.silent step.0 (n, t) step.1 (same n)
+unstable_by_step raw n t step = any_passes_from_place (λ (p : ℕ × ℕ). nat_eq n p.0) raw.silent step.0 (n, t) step.1 (same n)
 
 pub stable_by_test : (raw : RawTable) (n : ℕ) → is_unstable raw n ≡ false → Stable (RawStep raw) n
 stable_by_test raw n test t step = false≢true (sym test ∙ unstable_by_step raw n t step)
@@ -55,7 +52,7 @@ pub test_by_offers : (raw : RawTable) (n e : ℕ) → Offers (RawStep raw) n e �
 test_by_offers raw n e offers =
     let first : nat_eq n n ≡ true = same n in
     let second : nat_eq e e ≡ true = same e in
-    any_of (λ (p : ℕ × ℕ × ℕ). nat_eq n p.0 && nat_eq e p.1) raw.steps offers.1.0 (n, e, offers.0) offers.1.1 (rw (first, second) refl)
+    any_passes_from_place (λ (p : ℕ × ℕ × ℕ). nat_eq n p.0 && nat_eq e p.1) raw.steps offers.1.0 (n, e, offers.0) offers.1.1 (rw (first, second) refl)
 
 -- ---- the sets of terms without a mark
 pub record Source (unstable : List Bool) (sets : List (List ℕ)) (terms M : List ℕ) : Type 0 where
@@ -121,13 +118,6 @@ or_flip true false = refl
 or_flip false true = refl
 or_flip false false = refl
 
-or_false : (a : Bool) → a ≡ (a || false)
-or_false true = refl
-or_false false = refl
-
-eq_flip : (a b : ℕ) → nat_eq a b ≡ nat_eq b a
-eq_flip a b = same_tests (nat_eq a b) (nat_eq b a) (λ h. eq-eqb b a (sym (eqb-true a b h))) (λ h. eq-eqb a b (sym (eqb-true b a h)))
-
 -- the events of a term, once one more event is in the set of the term `from`
 pub set_more : (sets : List (List ℕ)) (from event n e : ℕ) → from < length sets → has (get_or (set sets from (with_member event (get_or sets from []))) n []) e ≡ (has (get_or sets n []) e || (nat_eq n from && nat_eq e event))
 set_more sets from event n e within =
@@ -136,11 +126,11 @@ set_more sets from event n e within =
           let read : get_or (set sets from (with_member event (get_or sets from []))) from [] ≡ with_member event (get_or sets from []) = get_or-set_same sets from (with_member event (get_or sets from [])) [] within in
           let members : has (with_member event (get_or sets from [])) e ≡ (nat_eq event e || has (get_or sets from []) e) = has-with_member event (get_or sets from []) e in
           let test : nat_eq from from ≡ true = same from in
-          rw (there, read, members, test, eq_flip event e) (or_flip (nat_eq e event) (has (get_or sets from []) e))
+          rw (there, read, members, test, same_number event e) (or_flip (nat_eq e event) (has (get_or sets from []) e))
       | inr other ↦
           let read : get_or (set sets from (with_member event (get_or sets from []))) n [] ≡ get_or sets n [] = get_or-set_other sets from n (with_member event (get_or sets from [])) [] other in
           let test : nat_eq n from ≡ false = differ n from other in
-          rw (read, test) (or_false (has (get_or sets n []) e))
+          rw (read, test) (or_none (has (get_or sets n []) e))
     ]
   where
     differ : (a b : ℕ) → (a ≡ b → ⊥) → nat_eq a b ≡ false

@@ -1,6 +1,5 @@
 -- From what holds at the pairs of an exploration to what holds after runs, and from links to parts.
-use Rattle.std.proofs.Common.{◌≡◌, ℕ, ◌<◌, ◌≤◌, ◌+◌, List, [], ◌∷◌, Bool, true, false, not, ◌&&◌, Option, Some, None, Result, Ok, Err, length, refl, sym, ap, subst, ◌∙◌, arith, inl, inr}
-use Rattle.std.specs.Prelude.{IfOk}
+use Rattle.std.proofs.Common.{◌≡◌, ℕ, ◌<◌, ◌≤◌, ◌+◌, List, ◌∷◌, Bool, true, false, not, ◌&&◌, Option, Some, None, length, refl, sym, ap, subst, ◌∙◌, arith, inl, inr}
 use Rattle.std.proofs.lemmas.Bool.{and_parts, both_ways, false≢true, cond-true, cond-false, and_from, cases_lt}
 use Rattle.csp_base.specs.Members.{has}
 use Rattle.csp_tables.specs.Table.{node_at, end_of}
@@ -165,7 +164,3 @@ undivided network i shape requests n is same u = subst (λ r. Undivided network.
 
 pub divided : (network : Network) (i : ℕ) (shape : Shape) (requests : List ℕ) (n : ℕ) → shape ≡ network.shape → requests ≡ (role_at network.roles i).sreq → SplitsNot network i n → Undivided shape i requests n
 divided network i shape requests n is same u = subst (λ (s : Shape). Undivided s i requests n) (sym is) (subst (λ r. Undivided network.shape i r n) (sym same) u)
-
-pub if_ok_more : {T E : Type 0} (r : Result T E) (P Q : T → Type 0) → ((x : T) → P x → Q x) → IfOk r P → IfOk r Q
-if_ok_more (Ok x) P Q more h = more x h
-if_ok_more (Err e) P Q more h = h

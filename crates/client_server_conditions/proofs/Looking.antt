@@ -1,7 +1,7 @@
 -- What one node shows, read off its tests.
-use Rattle.std.proofs.Common.{◌≡◌, ℕ, zero, suc, List, [], ◌∷◌, Bool, true, false, not, ◌&&◌, ◌||◌, nat_eq, inl, inr, refl, sym, ap, subst, arith, eq-eqb}
+use Rattle.std.proofs.Common.{◌≡◌, ℕ, zero, suc, List, ◌∷◌, Bool, true, false, not, ◌&&◌, ◌||◌, nat_eq, inl, inr, refl, ap, subst, arith, eq-eqb}
 use Rattle.std.specs.List.{list_any}
-use Rattle.std.proofs.lemmas.Bool.{cases_Bool, and_parts, and_from, or_cases, or_left, or_right, eqb-true, both_ways, false≢true, not-true}
+use Rattle.std.proofs.lemmas.Bool.{cases_Bool, and_parts, and_from, or_cases, or_left, or_right, eqb-true, both_ways, false≢true, not-true, or_parts}
 use Rattle.csp_base.specs.Members.{has}
 use Rattle.csp_base.specs.Events.{is_subset_of, meets_of}
 use Rattle.csp_base.proofs.SetLaws.{common_member, member_of_superset, is_subset_of_from_members, meets_of_from_member}
@@ -10,17 +10,14 @@ use Rattle.csp_tables.specs.Part.{AreApart}
 use Rattle.csp_tables.specs.Trace.{IsWithin}
 use Rattle.csp_tables.specs.Roles.{RoleSets}
 use Rattle.client_server_conditions.specs.Nodes.{is_in_turn, AreInTurn, EachShared, HasAllOrNone, splits, takes, refuses, is_out_of_turn}
-
-neither : (a b : Bool) → (a || b) ≡ false → (a ≡ false) × (b ≡ false)
-neither true b h = absurd (false≢true (sym h))
-neither false b h = (refl, h)
+use Rattle.csp_base.proofs.Booleans.{and_second_false}
 
 -- ---- steps
 
 pub in_turn : (next : List (ℕ × ℕ)) (shared : List ℕ) (roles : RoleSets) (opened : Bool) → list_any (is_out_of_turn shared roles opened) next ≡ false → AreInTurn next shared roles opened
 in_turn [] shared roles opened h e possible on = absurd (false≢true possible)
 in_turn (step ∷ next) shared roles opened h e possible on =
-    let n = neither (is_out_of_turn shared roles opened step) (list_any (is_out_of_turn shared roles opened) next) h in
+    let n = or_parts (is_out_of_turn shared roles opened step) (list_any (is_out_of_turn shared roles opened) next) h in
     elim (or_cases (nat_eq step.0 e) (is_possible next e) possible) [
       | inl same ↦
           let is = eqb-true step.0 e same in
@@ -44,8 +41,8 @@ out_of_turn (step ∷ next) shared roles opened h turns = elim (or_cases (is_out
 
 pub each_none : (P : List ℕ → Type 0) (V : List ℕ) (test : List ℕ → Bool) → ((M : List ℕ) → test M ≡ false → IsWithin M V → P M) → (accept : List (List ℕ)) → list_any test accept ≡ false → EachShared P V accept
 each_none P V test keeps [] h k below within = absurd (omega arith)
-each_none P V test keeps (M ∷ Ms) h zero below within = keeps M (neither (test M) (list_any test Ms) h).0 within
-each_none P V test keeps (M ∷ Ms) h (suc k) below within = each_none P V test keeps Ms (neither (test M) (list_any test Ms) h).1 k (omega arith) within
+each_none P V test keeps (M ∷ Ms) h zero below within = keeps M (or_parts (test M) (list_any test Ms) h).0 within
+each_none P V test keeps (M ∷ Ms) h (suc k) below within = each_none P V test keeps Ms (or_parts (test M) (list_any test Ms) h).1 k (omega arith) within
 
 pub each_some : (P : List ℕ → Type 0) (V : List ℕ) (test : List ℕ → Bool) → ((M : List ℕ) → test M ≡ true → IsWithin M V × (P M → ⊥)) → (accept : List (List ℕ)) → list_any test accept ≡ true → EachShared P V accept → ⊥
 each_some P V test breaks [] h each = false≢true h
@@ -54,10 +51,6 @@ each_some P V test breaks (M ∷ Ms) h each = elim (or_cases (test M) (list_any 
   | inr later ↦ each_some P V test breaks Ms later (λ k below within. each (suc k) (omega arith) within)
 ]
 
-second_false : (a b : Bool) → (a && b) ≡ false → a ≡ true → b ≡ false
-second_false true b h k = h
-second_false false b h k = absurd (false≢true k)
-
 within_subset : (M V : List ℕ) → IsWithin M V → is_subset_of M V ≡ true
 within_subset M V w = is_subset_of_from_members M V w
 
@@ -65,7 +58,7 @@ subset_within : (M V : List ℕ) → is_subset_of M V ≡ true → IsWithin M V
 subset_within M V h e x = member_of_superset M V h e x
 
 takes_none : (V R M : List ℕ) → takes V R M ≡ false → IsWithin M V → AreApart M R
-takes_none V R M h within e m r = both_ways (meets_of M R) (second_false (is_subset_of M V) (meets_of M R) h (within_subset M V within)) (meets_of_from_member M R e m r)
+takes_none V R M h within e m r = both_ways (meets_of M R) (and_second_false (is_subset_of M V) (meets_of M R) h (within_subset M V within)) (meets_of_from_member M R e m r)
 
 takes_some : (V R M : List ℕ) → takes V R M ≡ true → IsWithin M V × (AreApart M R → ⊥)
 takes_some V R M h =
@@ -75,7 +68,7 @@ takes_some V R M h =
 
 splits_none : (V R M : List ℕ) → splits V R M ≡ false → IsWithin M V → HasAllOrNone R M
 splits_none V R M h within =
-    let rest = second_false (is_subset_of M V) (meets_of M R && not (is_subset_of R M)) h (within_subset M V within) in
+    let rest = and_second_false (is_subset_of M V) (meets_of M R && not (is_subset_of R M)) h (within_subset M V within) in
     elim (cases_Bool (meets_of M R)) [
       | inl meets ↦ elim (cases_Bool (is_subset_of R M)) [
         | inl all ↦ inl (subset_within R M all)
@@ -99,7 +92,7 @@ splits_some V R M h =
 refuses_none : (V A M : List ℕ) → refuses V A M ≡ false → IsWithin M V → IsWithin A M
 refuses_none V A M h within = elim (cases_Bool (is_subset_of A M)) [
   | inl all ↦ subset_within A M all
-  | inr lacks ↦ absurd (both_ways (not (is_subset_of A M)) (second_false (is_subset_of M V) (not (is_subset_of A M)) h (within_subset M V within)) (ap not lacks))
+  | inr lacks ↦ absurd (both_ways (not (is_subset_of A M)) (and_second_false (is_subset_of M V) (not (is_subset_of A M)) h (within_subset M V within)) (ap not lacks))
 ]
 
 refuses_some : (V A M : List ℕ) → refuses V A M ≡ true → IsWithin M V × (IsWithin A M → ⊥)

@@ -1,5 +1,5 @@
 -- When a link is open, as the exploration of one end shows it; and which events of the link are acknowledgements.
-use Rattle.std.proofs.Common.{◌≡◌, ℕ, suc, ◌+◌, List, [], ◌∷◌, Bool, true, false, not, ◌&&◌, ◌||◌, cond, IsTrue, nat_eq, inl, inr, refl, sym, ap, subst, ◌∙◌, arith, eq-eqb}
+use Rattle.std.proofs.Common.{◌≡◌, ℕ, suc, ◌+◌, List, ◌∷◌, Bool, true, false, not, ◌&&◌, ◌||◌, cond, IsTrue, nat_eq, inl, inr, refl, sym, ap, subst, ◌∙◌, arith, eq-eqb}
 use Rattle.std.specs.List.{list_any}
 use Rattle.std.proofs.lemmas.Bool.{cases_Bool, and_from, or_cases, or_left, or_right, false≢true, cond-true, cond-false, and_parts, eqb-true}
 use Rattle.csp_base.specs.Members.{has}
@@ -13,6 +13,7 @@ use Rattle.observed_runs.specs.Observed.{observed, LeadsTo}
 use Rattle.observed_runs.specs.Observers.{parity_step}
 use Rattle.client_server_conditions.specs.Network.{Network, Asks, Grants}
 use Rattle.client_server_conditions.specs.Conditions.{AreAcknowledgements, is_open_at}
+use Rattle.csp_base.proofs.Booleans.{or_unless}
 
 -- ---- parities
 
@@ -68,10 +69,6 @@ opened_is network l table s pair acknowledged is leads =
 
 -- ---- acknowledgements
 
-none_second : (a b : Bool) → b ≡ false → (a || b) ≡ a
-none_second true b h = refl
-none_second false b h = h
-
 none_first : (a b : Bool) → a ≡ false → (a || b) ≡ b
 none_first true b h = absurd (false≢true (sym h))
 none_first false b h = refl
@@ -94,10 +91,10 @@ module _ (network : Network) (i l : ℕ) where
       swapped false false = refl
 
   ends_ask : (e : ℕ) → Asks network i l → IsTrue (has (link_at network.shape l).shared e) → for_ends e ≡ is_acknowledgement network.roles i e
-  ends_ask e a on = for_both i a.server e a.joins ∙ none_second (has (role_at network.roles i).cack e) (has (role_at network.roles a.server).cack e) (a.client.no_asking e on).1 ∙ sym (none_second (has (role_at network.roles i).cack e) (has (role_at network.roles i).sack e) (a.client.no_service e on).1)
+  ends_ask e a on = for_both i a.server e a.joins ∙ or_unless (has (role_at network.roles i).cack e) (has (role_at network.roles a.server).cack e) (a.client.no_asking e on).1 ∙ sym (or_unless (has (role_at network.roles i).cack e) (has (role_at network.roles i).sack e) (a.client.no_service e on).1)
 
   ends_grant : (e : ℕ) → Grants network i l → IsTrue (has (link_at network.shape l).shared e) → for_ends e ≡ is_acknowledgement network.roles i e
-  ends_grant e g on = for_both g.asker i e g.joins ∙ none_second (has (role_at network.roles g.asker).cack e) (has (role_at network.roles i).cack e) (g.client.no_asking e on).1 ∙ g.client.acknowledgements e on ∙ sym (none_first (has (role_at network.roles i).cack e) (has (role_at network.roles i).sack e) (g.client.no_asking e on).1)
+  ends_grant e g on = for_both g.asker i e g.joins ∙ or_unless (has (role_at network.roles g.asker).cack e) (has (role_at network.roles i).cack e) (g.client.no_asking e on).1 ∙ g.client.acknowledgements e on ∙ sym (none_first (has (role_at network.roles i).cack e) (has (role_at network.roles i).sack e) (g.client.no_asking e on).1)
 
   -- the part is the one or the other
   pub record HasSide (asks : Bool) : Type 0 where

@@ -6,6 +6,7 @@ use Rattle.csp_base.specs.Events.{is_subset_of, meets_of}
 use Rattle.csp_base.proofs.SetLaws.{common_member, member_of_superset, is_subset_of_from_members, meets_of_from_member}
 use Rattle.csp_tables.specs.Roles.{RoleSets}
 use Rattle.client_server_conditions.specs.Sides.{PartOwn, AgreeOn, LacksAll}
+use Rattle.csp_base.proofs.Booleans.{and_second_false}
 
 -- ---- none in common
 
@@ -125,18 +126,14 @@ parts_own own client server all roles u p q r h k e =
 one_at : (own : List ℕ) (roles : RoleSets) → PartOwn own roles → (e : ℕ) → IsOneOf (has roles.creq e) (has roles.cack e) (has roles.sreq e) (has roles.sack e) (has own e)
 one_at own roles o e = one_of (has roles.creq e) (has roles.cack e) (has roles.sreq e) (has roles.sack e) (has own e) (o e)
 
-and_lacks : (a b : Bool) → (a && b) ≡ false → a ≡ true → b ≡ false
-and_lacks true b h k = h
-and_lacks false b h k = absurd (false≢true k)
-
 pub own_client : (own : List ℕ) (roles : RoleSets) → PartOwn own roles → LacksAll roles.creq roles.cack
-own_client own roles o e h = and_lacks (has roles.creq e) (has roles.cack e) (one_at own roles o e).client h
+own_client own roles o e h = and_second_false (has roles.creq e) (has roles.cack e) (one_at own roles o e).client h
 
 pub own_server : (own : List ℕ) (roles : RoleSets) → PartOwn own roles → LacksAll roles.sreq roles.sack
-own_server own roles o e h = and_lacks (has roles.sreq e) (has roles.sack e) (one_at own roles o e).server h
+own_server own roles o e h = and_second_false (has roles.sreq e) (has roles.sack e) (one_at own roles o e).server h
 
 pub own_apart : (own client server all : List ℕ) (roles : RoleSets) → AreUnions roles client server all → PartOwn own roles → LacksAll client server
-own_apart own client server all roles u o e h = u.server_is e ∙ and_lacks (has roles.creq e || has roles.cack e) (has roles.sreq e || has roles.sack e) (one_at own roles o e).apart (sym (u.client_is e) ∙ h)
+own_apart own client server all roles u o e h = u.server_is e ∙ and_second_false (has roles.creq e || has roles.cack e) (has roles.sreq e || has roles.sack e) (one_at own roles o e).apart (sym (u.client_is e) ∙ h)
 
 own_all : (own client server all : List ℕ) (roles : RoleSets) → AreUnions roles client server all → PartOwn own roles → (e : ℕ) → has all e ≡ has own e
 own_all own client server all roles u o e = u.all_is e ∙ ap (λ b. b || has server e) (u.client_is e) ∙ ap (λ b. (has roles.creq e || has roles.cack e) || b) (u.server_is e) ∙ (one_at own roles o e).all

@@ -1,5 +1,5 @@
 -- The members of the results of operations on sets of atoms.
-use Rattle.std.proofs.Common.{◌≡◌, Bool, true, false, not, cond, ◌&&◌, ◌||◌, refl, sym, ◌∙◌, ap, subst, inl, inr, List, [], ◌∷◌}
+use Rattle.std.proofs.Common.{◌≡◌, Bool, true, false, not, cond, ◌&&◌, ◌||◌, refl, sym, ◌∙◌, ap, subst, inl, inr, List, ◌∷◌}
 use Rattle.std.specs.List.{filter}
 use Rattle.std.proofs.lemmas.Bool.{false≢true, true≢false}
 use Rattle.csp_atoms.specs.Order.{same}
@@ -7,23 +7,7 @@ use Rattle.csp_atoms.specs.Sets.{AllAbove, IsRising, has_atom, with_atom, union_
 use Rattle.csp_atoms.specs.declared.atom.Atom.{Atom}
 use Rattle.csp_atoms.proofs.OrderLaws.{same_exact, same_itself, less_itself, before_from_less, cases_atoms}
 use Rattle.csp_atoms.proofs.ListLaws.{has_not_before, AllAbove-trans}
-
-or_same : (a b : Bool) → (a || b) ≡ (a || (a || b))
-or_same true b = refl
-or_same false b = refl
-
-or_swap : (a b c : Bool) → (a || (b || c)) ≡ (b || (a || c))
-or_swap true true c = refl
-or_swap true false c = refl
-or_swap false b c = refl
-
-or_assoc : (a b c : Bool) → (a || (b || c)) ≡ ((a || b) || c)
-or_assoc true b c = refl
-or_assoc false b c = refl
-
-and_false : (a : Bool) → (a && false) ≡ false
-and_false true = refl
-and_false false = refl
+use Rattle.csp_base.proofs.Booleans.{or_regroup, and_false, or_swap, or_again}
 
 pub has-with_atom : (xs : List Atom) (a z : Atom) → has_atom (with_atom xs a) z ≡ (same a z || has_atom xs z)
 has-with_atom [] a z = refl
@@ -32,7 +16,7 @@ has-with_atom (x ∷ xs) a z =
       | inl h ↦ let b = before_from_less x a h in
           rw (b.not_back, b.is_before) (ap (λ t. same x z || t) (has-with_atom xs a z) ∙ or_swap (same x z) (same a z) (has_atom xs z))
       | inr o ↦ elim o [
-        | inl e ↦ subst (λ y. has_atom (with_atom (x ∷ xs) y) z ≡ (same y z || has_atom (x ∷ xs) z)) e (rw (less_itself x) (or_same (same x z) (has_atom xs z)))
+        | inl e ↦ subst (λ y. has_atom (with_atom (x ∷ xs) y) z ≡ (same y z || has_atom (x ∷ xs) z)) e (rw (less_itself x) (or_again (same x z) (has_atom xs z)))
         | inr h ↦ rw h
       ]
     ]
@@ -40,7 +24,7 @@ has-with_atom (x ∷ xs) a z =
 pub has-union_of : (xs ys : List Atom) (z : Atom) → has_atom (union_of xs ys) z ≡ (has_atom xs z || has_atom ys z)
 has-union_of [] ys z = refl
 has-union_of (x ∷ xs) ys z =
-    has-with_atom (union_of xs ys) x z ∙ ap (λ t. same x z || t) (has-union_of xs ys z) ∙ or_assoc (same x z) (has_atom xs z) (has_atom ys z)
+    has-with_atom (union_of xs ys) x z ∙ ap (λ t. same x z || t) (has-union_of xs ys z) ∙ or_regroup (same x z) (has_atom xs z) (has_atom ys z)
 
 filter_cases : (p : Atom → Bool) (x z : Atom) (kept whole : List Atom) (t u : Bool) → p x ≡ t → same x z ≡ u → has_atom kept z ≡ (has_atom whole z && p z) → has_atom (cond t (x ∷ kept) kept) z ≡ ((same x z || has_atom whole z) && p z)
 filter_cases p x z kept whole true true e f h = rw f (sym (ap p (sym (same_exact x z f)) ∙ e))

@@ -50,6 +50,10 @@ pub less-trans : (a b c : Atom) → less a b ≡ true → less b c ≡ true → 
 unfolding less
 less-trans a b c h g = ap is_lt (order_total.trans a b c (is_less (order_of a b) h) (is_less (order_of b c) g))
 
+pub less_number : (m n : ℤ) → m <ℤ n → less (atom.Num m) (atom.Num n) ≡ true
+unfolding less
+less_number m n h = grind (arith, ints)
+
 pub less_itself : (a : Atom) → less a a ≡ false
 unfolding less
 less_itself a = ap is_lt (tied_itself order_total a)

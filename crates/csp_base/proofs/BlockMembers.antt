@@ -1,5 +1,5 @@
 -- The events of blocks, by the words of the blocks.
-use Rattle.std.proofs.Common.{◌≡◌, ℕ, ◌+◌, ◌-◌, ◌*◌, ◌/◌, ◌%◌, ◌^◌, ◌<◌, ◌≤◌, Bool, true, false, ◌||◌, List, [], ◌∷◌, ◌++◌, length, refl, sym, ap, inl, inr, le_refl, ◌∙◌, subst, arith}
+use Rattle.std.proofs.Common.{◌≡◌, ℕ, ◌+◌, ◌-◌, ◌*◌, ◌/◌, ◌%◌, ◌^◌, ◌<◌, ◌≤◌, true, false, ◌||◌, List, ◌∷◌, ◌++◌, length, refl, sym, ap, inl, inr, le_refl, ◌∙◌, subst, arith}
 use Rattle.std.proofs.lemmas.Bool.{cases_lt, cases_order, eq-eqb, ne_eqb, false≢true}
 use Rattle.std.proofs.lemmas.Nat.Bits.{bit_at-zero}
 use Rattle.std.specs.Prelude.{◌==◌}
@@ -7,6 +7,7 @@ use Rattle.csp_base.specs.Events.{has}
 use Rattle.csp_base.specs.Blocks.{has_bit, word_events, events_of, word_at, AreBlocksFrom}
 use Rattle.csp_base.proofs.Rising.{RisesFrom, RisesFrom-weaken, RisesFrom-append, has_below, has-append}
 use Rattle.csp_base.proofs.Words.{RisesFrom-word_events, word_events_above, has-word_events}
+use Rattle.std.proofs.Math.Bool.{or-false}
 
 pub AreBlocksFrom-weaken : (m n : ℕ) (ps : List (ℕ × ℕ)) → m ≤ n → AreBlocksFrom n ps → AreBlocksFrom m ps
 AreBlocksFrom-weaken m n [] l r = tt
@@ -32,10 +33,6 @@ word_at_later p ps b n = rw (ne_eqb p.0 b n) (omega arith)
 pub has_bit-zero : (k : ℕ) → has_bit 0 k ≡ false
 has_bit-zero k = ap (λ n. n == 1) (bit_at-zero k)
 
-or_false : (a : Bool) → (a || false) ≡ a
-or_false true = refl
-or_false false = refl
-
 -- the events of a word end before the next word's first
 pub word_events_under : (from w x : ℕ) → has (word_events 64 from w) x ≡ true → x < from + 64
 word_events_under from w x e =
@@ -58,7 +55,7 @@ has_in_first p ps k r l =
     let later : has (events_of ps) (64 * p.0 + k) ≡ false = has_below (64 * (p.0 + 1)) (events_of ps) (64 * p.0 + k) (RisesFrom-events_of (p.0 + 1) ps r) (omega arith) in
     has-append (word_events 64 (64 * p.0) p.1) (events_of ps) (64 * p.0 + k)
     ∙ ap (λ b. has (word_events 64 (64 * p.0) p.1) (64 * p.0 + k) || b) later
-    ∙ or_false (has (word_events 64 (64 * p.0) p.1) (64 * p.0 + k))
+    ∙ or-false (has (word_events 64 (64 * p.0) p.1) (64 * p.0 + k))
     ∙ has-word_events 64 (64 * p.0) p.1 k l
     ∙ ap (λ w. has_bit w k) (sym (word_at_first p ps r))
 

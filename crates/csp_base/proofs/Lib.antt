@@ -1,11 +1,15 @@
 pub mod BlockMembers
 pub mod BlocksOf
+pub mod Booleans
 pub mod Finds
 pub mod Includes
+pub mod Listed
+pub mod Lists
 pub mod LowestBit
 pub mod MergeSteps
 pub mod OrderLemmas
 pub mod Places
+pub mod Results
 pub mod Rising
 pub mod SetLaws
 pub mod SetTests

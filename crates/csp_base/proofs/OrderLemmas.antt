@@ -1,10 +1,10 @@
 -- The order of two sets as lists, by the first event in which they differ.
-use Rattle.std.proofs.Common.{◌≡◌, ℕ, zero, suc, ◌+◌, ◌-◌, ◌*◌, ◌/◌, ◌%◌, ◌^◌, ◌<◌, ◌≤◌, Bool, true, false, not, cond, ◌||◌, eqb, ltb, List, [], ◌∷◌, ◌++◌, length, take, drop, get_or, min, refl, sym, ap, inl, inr, le_refl, ◌∙◌, subst, arith}
-use Rattle.std.proofs.lemmas.Bool.{cases_eq, cases_lt, cases_order, eq-eqb, ne_eqb, eqb-true, eqb-false, lt-ltb, le-ltb, or_left, false≢true, true≢false}
-use Rattle.std.proofs.lemmas.Nat.Bits.{bit_at-zero, bit_at_xor, bit_at-lt, bit_at_above, bit_at-trailing_zeros}
+use Rattle.std.proofs.Common.{◌≡◌, ℕ, zero, suc, ◌+◌, ◌-◌, ◌*◌, ◌/◌, ◌%◌, ◌^◌, ◌<◌, ◌≤◌, Bool, true, false, not, cond, ◌||◌, eqb, ltb, List, ◌∷◌, ◌++◌, length, take, drop, get_or, min, refl, sym, ap, inl, inr, le_refl, ◌∙◌, subst, arith}
+use Rattle.std.proofs.lemmas.Bool.{cases_eq, cases_lt, cases_order, eq-eqb, ne_eqb, eqb-true, eqb-false, lt-ltb, le-ltb, false≢true, true≢false, not-true, not-false, ltb-true, ltb-false}
+use Rattle.std.proofs.lemmas.Nat.Bits.{bit_at-zero, bit_at_xor, bit_at-lt, bit_at_above, bit_at-trailing_zeros, same_from_bits}
 use Rattle.std.proofs.lemmas.List.{take-append-drop}
 use Rattle.std.specs.Int.{bit_at, w64}
-use Rattle.std.specs.Prelude.{◌==◌}
+use Rattle.std.specs.Prelude.{◌==◌, bit_xor}
 use Rattle.csp_base.specs.Events.{has}
 use Rattle.csp_base.specs.Blocks.{has_bit, word_at, AreBlocksFrom, events_of}
 use Rattle.csp_base.specs.Operations.{end_from}
@@ -14,9 +14,6 @@ use Rattle.csp_base.proofs.MergeSteps.{bit_of_word}
 use Rattle.csp_base.proofs.Places.{AreBlocksFrom-drop}
 use Rattle.std.proofs.lemmas.Nat.{xor_lt, pow-add}
 use Rattle.std.proofs.Math.Nat.{div-div-eq-div-mul, div-le_self}
-use Rattle.std.proofs.lemmas.Nat.Bits.{same_from_bits}
-use Rattle.std.proofs.lemmas.Bool.{not-false}
-use Rattle.std.specs.Prelude.{bit_xor}
 use Rattle.std.specs.Int.Count.{count_trailing_zeros}
 use Rattle.std.specs.Bool.{MatchBool}
 use Rattle.std.specs.Cmp.Lexicographic.{slice_cmp}
@@ -24,7 +21,7 @@ use Rattle.std.specs.Ordering.{nat_cmp, ordering_then}
 use Rattle.std.specs.declared.cmp.Ordering.TheVariants.{Less, Equal, Greater}
 use Rattle.csp_base.specs.Orders.{word_order_at}
 use Rattle.csp_base.proofs.Finds.{events_of-append, lowest_bit}
-use Rattle.std.proofs.lemmas.Bool.{ltb-true, ltb-false}
+use Rattle.csp_base.proofs.Listed.{has_first, has_rest}
 
 -- ---- two words
 
@@ -66,12 +63,6 @@ nat_cmp_eq a b e = rw (le-ltb a b (omega arith), eq-eqb a b e)
 abbrev pub GoesOn : Bool → List ℕ → ℕ → Type 0
 GoesOn r ys x = MatchBool r ((z : ℕ) × (x < z) × (has ys z ≡ true)) ((z : ℕ) → x < z → has ys z ≡ false)
 
-tail_member : (c : ℕ) (zs : List ℕ) (z : ℕ) → (c ≡ z → ⊥) → has (c ∷ zs) z ≡ has zs z
-tail_member c zs z ne = ap (λ q. q || has zs z) (ne_eqb c z ne)
-
-first_member : (c : ℕ) (zs : List ℕ) → has (c ∷ zs) c ≡ true
-first_member c zs = or_left (eqb c c) (has zs c) (eq-eqb c c refl)
-
 at_least : (c : ℕ) (zs : List ℕ) (z : ℕ) → RisesFrom (c + 1) zs → has (c ∷ zs) z ≡ true → c ≤ z
 at_least c zs z r h = elim (cases_lt z c) [ inl l ↦ absurd (false≢true (sym (has_below c (c ∷ zs) z (le_refl c, r) l) ∙ h)) | inr l ↦ l ]
 
@@ -80,16 +71,16 @@ tails_agree : (a : ℕ) (xs ys : List ℕ) (z : ℕ) → RisesFrom (a + 1) xs �
 tails_agree a xs ys z r s same =
     elim (cases_eq a z) [
       | inl h ↦ has_below (a + 1) xs z r (omega arith) ∙ sym (has_below (a + 1) ys z s (omega arith))
-      | inr ne ↦ sym (tail_member a xs z ne) ∙ same ∙ tail_member a ys z ne
+      | inr ne ↦ sym (has_rest a xs z ne) ∙ same ∙ has_rest a ys z ne
     ]
 
 goes_on_tail : (r : Bool) (b : ℕ) (ys : List ℕ) (x : ℕ) → b < x → GoesOn r (b ∷ ys) x → GoesOn r ys x
-goes_on_tail true b ys x l on = (on.0, on.1, sym (tail_member b ys on.0 (let g : x < on.0 = on.1 in omega arith)) ∙ on.2)
-goes_on_tail false b ys x l on = λ z g. sym (tail_member b ys z (omega arith)) ∙ on z g
+goes_on_tail true b ys x l on = (on.0, on.1, sym (has_rest b ys on.0 (let g : x < on.0 = on.1 in omega arith)) ∙ on.2)
+goes_on_tail false b ys x l on = λ z g. sym (has_rest b ys z (omega arith)) ∙ on z g
 
 goes_on_first : (r : Bool) (b : ℕ) (ys : List ℕ) (x : ℕ) → x < b → GoesOn r (b ∷ ys) x → r ≡ true
 goes_on_first true b ys x l on = refl
-goes_on_first false b ys x l on = absurd (false≢true (sym (on b l) ∙ first_member b ys))
+goes_on_first false b ys x l on = absurd (false≢true (sym (on b l) ∙ has_first b ys))
 
 first_less : (r : Bool) (a b : ℕ) (xs ys : List ℕ) → a < b → r ≡ true → (slice_cmp nat_cmp (a ∷ xs) (b ∷ ys) ≡ cond r Less Greater) × (slice_cmp nat_cmp (b ∷ ys) (a ∷ xs) ≡ cond r Greater Less)
 first_less r a b xs ys l e = (
@@ -110,21 +101,21 @@ order_at_member r x m n (a ∷ xs) (b ∷ ys) rx ry h g same on =
       | inl e ↦
           let ry' : RisesFrom (a + 1) ys = subst (λ c. RisesFrom (c + 1) ys) (sym e) ry.1 in
           let same' : (z : ℕ) → z < x → has (a ∷ xs) z ≡ has (a ∷ ys) z = subst (λ c. (z : ℕ) → z < x → has (a ∷ xs) z ≡ has (c ∷ ys) z) (sym e) same in
-          let ne : a ≡ x → ⊥ = λ z. true≢false (sym (subst (λ c. has (b ∷ ys) c ≡ true) (sym e ∙ z) (first_member b ys)) ∙ g) in
-          let rest = order_at_member r x (a + 1) (a + 1) xs ys rx.1 ry' (sym (tail_member a xs x ne) ∙ h) (sym (tail_member b ys x (λ z. ne (e ∙ z))) ∙ g)
+          let ne : a ≡ x → ⊥ = λ z. true≢false (sym (subst (λ c. has (b ∷ ys) c ≡ true) (sym e ∙ z) (has_first b ys)) ∙ g) in
+          let rest = order_at_member r x (a + 1) (a + 1) xs ys rx.1 ry' (sym (has_rest a xs x ne) ∙ h) (sym (has_rest b ys x (λ z. ne (e ∙ z))) ∙ g)
           (λ z l. tails_agree a xs ys z rx.1 ry' (same' z l)) (goes_on_tail r b ys x (omega arith) on) in
           (ap (λ o. ordering_then o (slice_cmp nat_cmp xs ys)) (nat_cmp_eq a b e) ∙ rest.0, ap (λ o. ordering_then o (slice_cmp nat_cmp ys xs)) (nat_cmp_eq b a (sym e)) ∙ rest.1)
       | inr o ↦
           elim o [
             | inl l ↦
                 let here : x ≡ a = elim (cases_lt a x) [
-                  | inl k ↦ absurd (true≢false (sym (first_member a xs) ∙ same a k ∙ has_below b (b ∷ ys) a (le_refl b, ry.1) l))
+                  | inl k ↦ absurd (true≢false (sym (has_first a xs) ∙ same a k ∙ has_below b (b ∷ ys) a (le_refl b, ry.1) l))
                   | inr k ↦ omega arith
                 ] in
                 first_less r a b xs ys l (goes_on_first r b ys x (omega arith) on)
             | inr l ↦
                 elim (cases_lt b x) [
-                  | inl k ↦ absurd (false≢true (sym (has_below a (a ∷ xs) b (le_refl a, rx.1) l) ∙ same b k ∙ first_member b ys))
+                  | inl k ↦ absurd (false≢true (sym (has_below a (a ∷ xs) b (le_refl a, rx.1) l) ∙ same b k ∙ has_first b ys))
                   | inr k ↦ absurd (omega arith)
                 ]
           ]
@@ -138,10 +129,6 @@ has_bit-shr w k i = ap (λ n. n % 2 == 1) (ap (λ m. w / m) (pow-add 2 k i) ∙ 
 -- whether blocks follow
 abbrev pub Follows : Bool → List (ℕ × ℕ) → Type 0
 Follows more qs = MatchBool more (0 < length qs) (length qs ≡ 0)
-
-not_cases : (b : Bool) → not b ≡ true → b ≡ false
-not_cases true e = sym e
-not_cases false e = refl
 
 -- an event in a later block
 later_event : (n w : ℕ) (qs : List (ℕ × ℕ)) → AreBlocksFrom 0 ((n, w) ∷ qs) → 0 < length qs → (z : ℕ) × (64 * n + 64 ≤ z) × (has (events_of ((n, w) ∷ qs)) z ≡ true)
@@ -232,7 +219,7 @@ order_at_words lm rm n v w ps qs r s ne f g =
         let low = differing_bit v w r.3 s.3 ne in
         let k : ℕ = count_trailing_zeros 64 (bit_xor v w) in
         ap (λ b. cond b (cond (rm || not (eqb (w / 2 ^ k) 0)) Less Greater) (cond (lm || not (eqb (v / 2 ^ k) 0)) Greater Less)) e
-        ∙ sym (order_where_set rm n v w k ps qs r s low.0 e (not_cases (has_bit w k) (sym low.1 ∙ e)) low.2 g).0
+        ∙ sym (order_where_set rm n v w k ps qs r s low.0 e (not-true (has_bit w k) (sym low.1 ∙ e)) low.2 g).0
     by false e =
         let low = differing_bit v w r.3 s.3 ne in
         let k : ℕ = count_trailing_zeros 64 (bit_xor v w) in

@@ -1,12 +1,14 @@
 -- Facts on strictly rising lists of numbers, by their members.
-use Rattle.std.proofs.Common.{◌≡◌, ℕ, zero, suc, ◌+◌, ◌<◌, ◌≤◌, Bool, true, false, not, cond, ◌&&◌, ◌||◌, eqb, ltb, leb, List, [], ◌∷◌, ◌++◌, refl, sym, ap, inl, inr, le_refl, ◌∙◌, subst, add-one, arith, Some, None}
-use Rattle.std.proofs.lemmas.Bool.{cases_eq, cases_lt, cases_order, or_right, or_left, or_from, or_cases, or_parts, and_from, and_left, and_right, and_parts, ltb-true, ltb-false, eqb-false, eq-eqb, ne_eqb, le-leb, lt-leb, eqb-true, false≢true, true≢false}
+use Rattle.std.proofs.Common.{◌≡◌, ℕ, zero, suc, ◌+◌, ◌<◌, ◌≤◌, Bool, true, false, not, cond, ◌&&◌, ◌||◌, eqb, ltb, leb, List, ◌∷◌, ◌++◌, refl, sym, ap, inl, inr, le_refl, ◌∙◌, subst, add-one, arith, Some, None}
+use Rattle.std.proofs.lemmas.Bool.{cases_eq, cases_lt, cases_order, or_right, or_left, or_from, or_cases, or_parts, and_from, and_left, and_right, and_parts, ltb-true, ltb-false, eqb-false, ne_eqb, le-leb, lt-leb, eqb-true, false≢true, true≢false}
 use Rattle.std.specs.List.Sorted.{IsStrictlyIncreasing}
 use Rattle.std.specs.List.{filter, find}
 use Rattle.std.specs.Prelude.{◌==◌}
 use Rattle.std.proofs.lemmas.List.Folds.{list_any-append}
 use Rattle.std.proofs.lemmas.Map.Views.{any-filter_same}
 use Rattle.csp_base.specs.Events.{has, with_member, union_of, set_of, inter_of, diff_of, is_subset_of, meets_of}
+use Rattle.csp_base.proofs.Booleans.{or_regroup, or_swap, or_again}
+use Rattle.csp_base.proofs.Listed.{has_first, has_rest}
 
 -- the list rises strictly, from the given number on
 abbrev pub RisesFrom : ℕ → List ℕ → Type 0
@@ -22,13 +24,6 @@ has_below n [] x r l = refl
 has_below n (y ∷ ys) x r l =
     let h : n ≤ y = r.0 in
     rw (ne_eqb y x (omega arith)) (has_below (y + 1) ys x r.1 (omega arith))
-
--- a member of a list whose first number is y, other than y, is a member of the rest
-has_rest : (y : ℕ) (ys : List ℕ) (x : ℕ) → (y ≡ x → ⊥) → has (y ∷ ys) x ≡ has ys x
-has_rest y ys x n = rw (ne_eqb y x n)
-
-has_first : (y : ℕ) (ys : List ℕ) → has (y ∷ ys) y ≡ true
-has_first y ys = rw (eq-eqb y y refl)
 
 -- the first numbers of two rising lists with the same members are equal
 same_first : (x : ℕ) (xs : List ℕ) (y : ℕ) (ys : List ℕ) → RisesFrom (x + 1) xs → RisesFrom (y + 1) ys → ((z : ℕ) → has (x ∷ xs) z ≡ has (y ∷ ys) z) → x ≡ y
@@ -104,14 +99,6 @@ RisesFrom-filter p n (x ∷ xs) r =
       | false ↦ RisesFrom-filter p n xs (RisesFrom-weaken n (x + 1) xs (let h : n ≤ x = r.0 in omega arith) r.1)
     ]
 
-or_same : (a b : Bool) → (a || b) ≡ (a || (a || b))
-or_same true b = refl
-or_same false b = refl
-
-or_assoc : (a b c : Bool) → (a || (b || c)) ≡ ((a || b) || c)
-or_assoc true b c = refl
-or_assoc false b c = refl
-
 pub and_comm : (a b : Bool) → (a && b) ≡ (b && a)
 and_comm true true = refl
 and_comm true false = refl
@@ -123,14 +110,9 @@ not_meets_rest true true c h = h
 not_meets_rest true false c h = refl
 not_meets_rest false b c h = h
 
-or_swap : (a b c : Bool) → (a || (b || c)) ≡ (b || (a || c))
-or_swap true true c = refl
-or_swap true false c = refl
-or_swap false b c = refl
-
 has-with_member_cases : (a b : Bool) (x y z : ℕ) (ys zs : List ℕ) → eqb x y ≡ b → has zs z ≡ (eqb x z || has ys z) → has (cond a (x ∷ y ∷ ys) (cond b (y ∷ ys) (y ∷ zs))) z ≡ (eqb x z || has (y ∷ ys) z)
 has-with_member_cases true b x y z ys zs e ih = refl
-has-with_member_cases false true x y z ys zs e ih = rw (eqb-true x y e) (or_same (eqb y z) (has ys z))
+has-with_member_cases false true x y z ys zs e ih = rw (eqb-true x y e) (or_again (eqb y z) (has ys z))
 has-with_member_cases false false x y z ys zs e ih = rw ih (or_swap (eqb y z) (eqb x z) (has ys z))
 
 pub has-with_member : (x : ℕ) (ys : List ℕ) (z : ℕ) → has (with_member x ys) z ≡ (eqb x z || has ys z)
@@ -153,7 +135,7 @@ RisesFrom-with_member n x (y ∷ ys) l r =
 pub has-union_of : (xs ys : List ℕ) (z : ℕ) → has (union_of xs ys) z ≡ (has xs z || has ys z)
 has-union_of [] ys z = refl
 has-union_of (x ∷ xs) ys z =
-    has-with_member x (union_of xs ys) z ∙ ap (λ b. eqb x z || b) (has-union_of xs ys z) ∙ or_assoc (eqb x z) (has xs z) (has ys z)
+    has-with_member x (union_of xs ys) z ∙ ap (λ b. eqb x z || b) (has-union_of xs ys z) ∙ or_regroup (eqb x z) (has xs z) (has ys z)
 
 pub RisesFrom-union_of : (xs ys : List ℕ) → RisesFrom 0 ys → RisesFrom 0 (union_of xs ys)
 RisesFrom-union_of [] ys r = r

@@ -1,5 +1,5 @@
 -- The symbol found is the longest that stands at the front of the text.
-use Rattle.std.proofs.Common.{◌≡◌, ℕ, zero, suc, ◌+◌, ◌<◌, ◌≤◌, Bool, true, false, ◌&&◌, cond, List, [], ◌∷◌, ◌++◌, length, refl, sym, ap, ◌∙◌, subst, arith}
+use Rattle.std.proofs.Common.{◌≡◌, ℕ, zero, suc, ◌+◌, ◌<◌, ◌≤◌, Bool, true, false, ◌&&◌, cond, List, ◌∷◌, ◌++◌, length, refl, sym, ap, ◌∙◌, subst, arith}
 use Rattle.std.proofs.lemmas.Bool.{and_parts, eqb-true, false≢true}
 use Rattle.std.proofs.lemmas.List.{length-append}
 use Rattle.std.proofs.lemmas.Bool.Decides.{nat_tests}
@@ -83,7 +83,7 @@ within n (x ∷ xs) (suc i) s fall there =
     let b : length (symbol_text x) ≤ n = first.1 in
     (later.0, omega arith)
 
-symbol_has_byte : (s : Symbol) → 0 < length (symbol_text s)
+pub symbol_has_byte : (s : Symbol) → 0 < length (symbol_text s)
 symbol_has_byte s = let there = place s in (within 3 symbols there.0 s all_fall there.1).0
 
 no_longer : (x : Symbol) (xs : List Symbol) → falls (length (symbol_text x)) xs ≡ true → (i : ℕ) (s : Symbol) → slice_get (x ∷ xs) i ≡ Some s → length (symbol_text s) ≤ length (symbol_text x)

@@ -1,3 +1,4 @@
+pub mod Outcomes
 pub mod SubstitutionFolds
 pub mod SubstitutionLaws
 pub mod UsesWithin

@@ -1,5 +1,5 @@
 -- The number of uses that may still be entered doesn't matter once it is as great as the nesting of uses.
-use Rattle.std.proofs.Common.{◌≡◌, ℕ, zero, suc, ◌≤◌, Bool, true, false, ◌||◌, IsTrue, Some, None, List, [], ◌∷◌, map, refl, sym, ◌∙◌, subst, arith}
+use Rattle.std.proofs.Common.{◌≡◌, ℕ, zero, suc, ◌≤◌, ◌||◌, IsTrue, Some, None, List, ◌∷◌, map, refl, sym, ◌∙◌, subst, arith}
 use Rattle.std.specs.Prelude.{Option, slice_get, nat_eq}
 use Rattle.std.proofs.lemmas.Bool.{false≢true, eq-eqb}
 use Rattle.csp_program.specs.Free.{Names, either, any_of}
@@ -19,14 +19,7 @@ use Rattle.csp_program.specs.declared.programs.Body.TheVariants as body
 use Rattle.csp_program.specs.declared.programs.Channel.{Channel}
 use Rattle.csp_program.specs.declared.programs.Content.{Content}
 use Rattle.csp_program.specs.declared.programs.Def.{Def}
-
-or_left : (a b : Bool) → IsTrue a → IsTrue (a || b)
-or_left true b t = refl
-or_left false b t = absurd (false≢true t)
-
-or_right : (a b : Bool) → IsTrue b → IsTrue (a || b)
-or_right true b t = refl
-or_right false b t = t
+use Rattle.csp_base.proofs.Booleans.{is_or_first, is_or_second}
 
 abbrev gen_uses : Gen → Names
 gen_uses = fold-Gen Names Names Names expr_uses_of_layer gen_uses_of_layer part_uses_of_layer
@@ -46,10 +39,10 @@ module _ (u w : Uses) (channels : List Channel) where
   Agree names = (d : ℕ) → IsTrue (names d) → u d ≡ w d
 
   left : (a b : Names) → Agree (either a b) → Agree a
-  left a b h d t = h d (or_left (a d) (b d) t)
+  left a b h d t = h d (is_or_first (a d) (b d) t)
 
   right : (a b : Names) → Agree (either a b) → Agree b
-  right a b h d t = h d (or_right (a d) (b d) t)
+  right a b h d t = h d (is_or_second (a d) (b d) t)
 
   abbrev pub SameExpr : Expr → Type 0
   SameExpr e = Agree (expr_uses e) → meaning u channels e ≡ meaning w channels e
@@ -113,7 +106,7 @@ module _ (u w : Uses) (channels : List Channel) where
       (b.1 (right (expr_uses a.0) (expr_uses b.0) (right (expr_uses c.0) (either (expr_uses a.0) (expr_uses b.0)) h)) i)))
   expr_layer (Expr-F.Call d args) = layer (Expr-F.Call d (map (λ e. e.0) args))
       (λ h i env. called (exprs_same args (right (λ n. nat_eq d n) (any_of (map expr_uses (map (λ e. e.0) args))) h) i)
-      (h d (or_left (nat_eq d d) (any_of (map expr_uses (map (λ e. e.0) args)) d) (eq-eqb d d refl)) i) env)
+      (h d (is_or_first (nat_eq d d) (any_of (map expr_uses (map (λ e. e.0) args)) d) (eq-eqb d d refl)) i) env)
   expr_layer (Expr-F.SetName d) = layer (Expr-F.SetName d) (λ h i env. named (h d (eq-eqb d d refl) i) env)
   expr_layer (Expr-F.Event c fields) = layer (Expr-F.Event c (map (λ e. e.0) fields)) (λ h i. meaning_of_layer u channels (Expr-F.Event c (exprs_same fields h i)))
   expr_layer (Expr-F.Display items) = layer (Expr-F.Display (map (λ e. e.0) items)) (λ h i. meaning_of_layer u channels (Expr-F.Display (exprs_same items h i)))

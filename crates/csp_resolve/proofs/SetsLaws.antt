@@ -1,5 +1,5 @@
 -- The field sets of channels, one declaration after another.
-use Rattle.std.proofs.Common.{◌≡◌, ℕ, ◌+◌, ◌<◌, ◌≤◌, List, [], ◌∷◌, ◌++◌, length, drop, get_or, replicate, refl, sym, ap, ◌∙◌, append_assoc}
+use Rattle.std.proofs.Common.{◌≡◌, ℕ, ◌+◌, ◌<◌, ◌≤◌, List, ◌∷◌, ◌++◌, length, drop, get_or, replicate, refl, sym, ap, ◌∙◌, append_assoc}
 use Rattle.std.specs.Prelude.{Ok, Err}
 use Rattle.std.proofs.Math.ListN.{drop_of_length-le}
 use Rattle.std.proofs.lemmas.List.{append-nil}
@@ -12,10 +12,10 @@ use Rattle.csp_text.specs.declared.tree.Tree.{Tree}
 use Rattle.csp_resolve.specs.Answers.{GrowsBy, sets_of}
 use Rattle.event_tables.specs.declared.sets.SharedSets.{SharedSets}
 use Rattle.event_tables.specs.Spread.{spread}
-use Rattle.name_tables.proofs.DeclaredLemmas.{split_at}
 use Rattle.script_names.specs.declared.fault.ResolveFault.{ResolveFault}
 use Rattle.script_names.specs.Names.{Name}
 use Rattle.script_names.specs.Resolved.{Answer, and_next, channel_sets, field_sets, told_in}
+use Rattle.csp_base.proofs.Lists.{drop_read}
 
 abbrev pub Sets : Type 0
 Sets = List (List (List Atom))
@@ -60,7 +60,7 @@ module _ (p : Content) (types_of : List Tree → List Expr) where
   module _ (decls : List Decl) (i k next : ℕ) (d : Decl) (within : i < length decls) (is : d ≡ get_or decls i d) (next_is : next ≡ k + 1)
       (sets : Sets) (whole : Answer Sets) (so_far : whole ≡ sets_with sets (channel_sets p types_of k (drop i decls))) where
     at_first : whole ≡ sets_with sets (with_first (sets_of p types_of k d) (channel_sets p types_of (k + 1) (drop (i + 1) decls)))
-    at_first = so_far ∙ ap (λ rest. sets_with sets (channel_sets p types_of k rest)) (split_at decls i d within is)
+    at_first = so_far ∙ ap (λ rest. sets_with sets (channel_sets p types_of k rest)) (drop_read decls i d within is)
         ∙ ap (sets_with sets) (first_then k d (drop (i + 1) decls))
 
     pub sets_step : (own new : Sets) → sets_of p types_of k d ≡ Ok own → new ≡ sets ++ own → whole ≡ sets_with new (channel_sets p types_of next (drop (i + 1) decls))

@@ -1,6 +1,6 @@
 -- The steps of an operand of a choice.
-use Rattle.std.proofs.Common.{◌≡◌, ℕ, ◌+◌, ◌<◌, ◌≤◌, true, nat_lt, zero, suc, Ok, Err, Some, List, [], ◌∷◌, ◌++◌, map, length, get_or, slice_get, slice_set, take, drop, refl, ap, sym, ◌∙◌, subst, arith}
-use Rattle.std.proofs.lemmas.Bool.{lt-ltb}
+use Rattle.std.proofs.Common.{◌≡◌, ℕ, ◌+◌, ◌<◌, ◌≤◌, true, nat_lt, zero, suc, Ok, Err, Some, List, ◌∷◌, ◌++◌, map, length, get_or, slice_get, slice_set, take, drop, refl, ap, sym, ◌∙◌, subst, arith}
+use Rattle.std.proofs.lemmas.Bool.{lt-ltb, and_from}
 use Rattle.std.proofs.lemmas.List.{get_or-map, length-map, map-set}
 use Rattle.std.proofs.lemmas.Option.{slice_get_within}
 use Rattle.std.specs.Cmp.{first_so, second_so}
@@ -16,15 +16,15 @@ use Rattle.csp_program.specs.declared.programs.Content.{Content}
 use Rattle.process_steps.specs.Step.{each_put}
 use Rattle.process_steps.specs.StepList.{Move, in_choice, steps_of}
 use Rattle.term_pool.proofs.PutLemmas.{at}
-use Rattle.term_pool.proofs.TreeLemmas.{both_so}
 use Rattle.term_pool.specs.Pooled.{IsFront}
 use Rattle.term_pool.specs.Trees.{all_below, tree_at}
 use Rattle.pool_parts.specs.declared.place.ProcId.{ProcId}
 use Rattle.csp_steps.specs.Computed.{all_within, AreAt, IsMove}
 use Rattle.csp_steps.specs.Listed.{seen}
 use Rattle.csp_steps.specs.declared.step.StepTo.{StepTo}
-use Rattle.step_values.proofs.Lists.{left, left_fault, left_next, map_push, taken, taken_whole}
+use Rattle.step_values.proofs.Lists.{left, left_fault, left_next, taken_whole}
 use Rattle.csp_steps.proofs.Places.{at_stay, below_at, front_both, one_place, seen_stay, still_within, tree_stays, trees_stay}
+use Rattle.csp_base.proofs.Lists.{take_read, map_push}
 
 abbrev pub of_operand : Content → List Proc → ℕ → Proc → Outcome (List Move)
 of_operand p qs k q = and_then (steps_of p q) (λ moves. Ok (map (λ m. in_choice qs k m.0 m.1) moves))
@@ -37,7 +37,7 @@ module _ (old mid new : List Proc) (f : IsFront old mid) (g : IsFront mid new) (
   next_put x atoms i a lt is ids more made h process grown =
       let q = tree_at old id in
       let all : each_put x (take (i + 1) atoms) q ≡ each_put x (take i atoms) q ++ proc_with x (One a) q ∷ [] =
-      ap (λ xs. each_put x xs q) (taken atoms i a lt is) ∙ map_push (λ b. proc_with x (One b) q) (take i atoms) a in
+      ap (λ xs. each_put x xs q) (take_read atoms i a lt is) ∙ map_push (λ b. proc_with x (One b) q) (take i atoms) a in
       let here : slice_get new made.0 ≡ Some (proc_with x (One a) q) = process ∙ ap (λ (t : Proc). Some (proc_with x (One a) t)) (tree_stays old mid f id within) in
       subst (λ (qs : List ProcId). AreAt new qs (each_put x (take (i + 1) atoms) q)) (sym grown)
       (subst (λ (ts : List Proc). AreAt new (ids ++ made ∷ []) ts) (sym all) (one_place new ids (each_put x (take i atoms) q) made (proc_with x (One a) q) (at_stay mid new g ids (each_put x (take i atoms) q) h) here))
@@ -65,9 +65,9 @@ with_other trees ids k id = map-set (tree_at trees) ids k id
 
 pub below_other : (count : ℕ) (ids : List ProcId) (k : ℕ) (id : ProcId) → all_below count ids ≡ true → id.0 < count → all_below count (slice_set ids k id) ≡ true
 below_other count [] k id h lt = refl
-below_other count (q ∷ ids) zero id h lt = both_so (nat_lt id.0 count) (all_below count ids) (lt-ltb id.0 count lt) (second_so (nat_lt q.0 count) (all_below count ids) h)
+below_other count (q ∷ ids) zero id h lt = and_from (nat_lt id.0 count) (all_below count ids) (lt-ltb id.0 count lt) (second_so (nat_lt q.0 count) (all_below count ids) h)
 below_other count (q ∷ ids) (suc k) id h lt =
-    both_so (nat_lt q.0 count) (all_below count (slice_set ids k id)) (first_so (nat_lt q.0 count) (all_below count ids) h)
+    and_from (nat_lt q.0 count) (all_below count (slice_set ids k id)) (first_so (nat_lt q.0 count) (all_below count ids) h)
     (below_other count ids k id (second_so (nat_lt q.0 count) (all_below count ids) h) lt)
 
 -- The next operand: its steps are taken in the list mid, and what they make of the choice is added there.

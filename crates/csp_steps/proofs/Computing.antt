@@ -1,5 +1,5 @@
 -- What a call answers for a whole, from what calls answer for its parts.
-use Rattle.std.proofs.Common.{◌≡◌, ℕ, ◌+◌, ◌<◌, ◌≤◌, Ok, Err, List, [], ◌∷◌, ◌++◌, map, take, length, get_or, refl, ap, sym, ◌∙◌, subst, append_assoc}
+use Rattle.std.proofs.Common.{◌≡◌, ℕ, ◌+◌, ◌<◌, ◌≤◌, Ok, Err, List, ◌∷◌, ◌++◌, map, take, length, get_or, refl, ap, sym, ◌∙◌, subst, append_assoc}
 use Rattle.std.specs.Prelude.{Result}
 use Rattle.std.specs.Result.{IsErrAnd}
 use Rattle.csp_program.specs.Lists.{joined}
@@ -16,8 +16,9 @@ use Rattle.csp_steps.specs.Computed.{AreMoves, GivesLook, GivesMoves, GivesPlace
 use Rattle.csp_steps.specs.Listed.{FaultIs, seen}
 use Rattle.csp_steps.specs.declared.look.Look.{Look}
 use Rattle.csp_steps.specs.declared.step.StepTo.{StepTo}
-use Rattle.step_values.proofs.Lists.{joined_push, map_push, taken, taken_whole}
+use Rattle.step_values.proofs.Lists.{joined_push, taken_whole}
 use Rattle.csp_steps.proofs.Places.{moves_stay, one_move}
+use Rattle.csp_base.proofs.Lists.{take_read, map_push}
 
 -- steps that are these moves, where the outcome is the moves
 pub listing : (trees : List Proc) (steps : List StepTo) (moves : List Move) (o : Outcome (List Move)) → o ≡ Ok moves → AreMoves trees steps moves → IsListing trees steps o
@@ -99,7 +100,7 @@ fault_passed {A = A} mid (Err y) f o is h = rw is (fault_gone A mid f o h)
 module _ (old mid new : List Proc) (front : IsFront mid new) (below : List StepTo) (i : ℕ) (s : StepTo) (lt : i < length below) (is : s ≡ get_or below i s) where
   more_seen : (f : Move → Move) → map f (map (seen old) (take (i + 1) below)) ≡ map f (map (seen old) (take i below)) ++ f (seen old s) ∷ []
   more_seen f =
-      ap (λ xs. map f (map (seen old) xs)) (taken below i s lt is) ∙
+      ap (λ xs. map f (map (seen old) xs)) (take_read below i s lt is) ∙
       (ap (map f) (map_push (seen old) (take i below) s) ∙ map_push f (map (seen old) (take i below)) (seen old s))
 
   pub next_move : (f : Move → Move) (before : List Move) (steps : List StepTo) (made : StepTo) → AreMoves mid steps (before ++ map f (map (seen old) (take i below))) → IsMove new made (f (seen old s))
@@ -110,7 +111,7 @@ module _ (old mid new : List Proc) (front : IsFront mid new) (below : List StepT
 
   more_joined : (f : Move → List Move) → joined (map f (map (seen old) (take (i + 1) below))) ≡ joined (map f (map (seen old) (take i below))) ++ f (seen old s)
   more_joined f =
-      ap (λ xs. joined (map f (map (seen old) xs))) (taken below i s lt is) ∙
+      ap (λ xs. joined (map f (map (seen old) xs))) (take_read below i s lt is) ∙
       (ap (λ ms. joined (map f ms)) (map_push (seen old) (take i below) s) ∙
       (ap joined (map_push f (map (seen old) (take i below)) (seen old s)) ∙ joined_push (map f (map (seen old) (take i below))) (f (seen old s))))
 

@@ -1,10 +1,10 @@
 -- A list of steps without its doubles, which is made one step after another.
-use Rattle.std.proofs.Common.{◌≡◌, ◌⊎◌, inl, inr, ℕ, zero, suc, ◌+◌, ◌<◌, ◌≤◌, Bool, true, false, cond, Some, List, [], ◌∷◌, ◌++◌, map, take, length, get_or, slice_get, refl, ap, sym, ◌∙◌, subst}
+use Rattle.std.proofs.Common.{◌≡◌, ◌⊎◌, inl, inr, ℕ, zero, suc, ◌+◌, ◌<◌, ◌≤◌, Bool, true, false, cond, Some, List, ◌∷◌, ◌++◌, map, take, length, get_or, slice_get, refl, ap, sym, ◌∙◌, subst}
 use Rattle.std.proofs.lemmas.Bool.{false≢true}
 use Rattle.std.proofs.lemmas.Map.Keys.{IsDistinct-head, IsDistinct-tail}
 use Rattle.std.specs.List.{AllByRecursion, IsDistinct}
 use Rattle.std.specs.Set.{is_member}
-use Rattle.containers.proofs.MembersLemmas.{slice_get-with_new}
+use Rattle.containers.proofs.MembersLemmas.{slice_get-with_new, slice_get-append_left}
 use Rattle.containers.specs.Members.{with_new}
 use Rattle.csp_program.specs.declared.processes.Proc.{Proc}
 use Rattle.csp_program.specs.declared.programs.Content.{Content}
@@ -16,8 +16,9 @@ use Rattle.csp_steps.specs.Listed.{AreStepsOf, seen}
 use Rattle.csp_steps.specs.Once.{IsOnce, Stands}
 use Rattle.csp_steps.specs.contracts.step.StepToEq.TheImpl.Laws.{laws-law}
 use Rattle.csp_steps.specs.declared.step.StepTo.{StepTo}
-use Rattle.step_values.proofs.Lists.{taken, taken_whole}
+use Rattle.step_values.proofs.Lists.{taken_whole}
 use Rattle.csp_steps.proofs.Places.{within_of}
+use Rattle.csp_base.proofs.Lists.{take_read}
 
 -- what stands in a list with one more at its end
 stands_earlier : {X : Type 0} (y z x : X) (xs : List X) → Stands xs x ⊎ (y ≡ x) → Stands (z ∷ xs) x ⊎ (y ≡ x)
@@ -30,17 +31,12 @@ at_push y x [] (suc k) h = cc
 at_push y x (z ∷ xs) zero h = inl (zero, h)
 at_push y x (z ∷ xs) (suc k) h = stands_earlier y z x xs (at_push y x xs k h)
 
-at_left : {X : Type 0} (xs ys : List X) (k : ℕ) (x : X) → slice_get xs k ≡ Some x → slice_get (xs ++ ys) k ≡ Some x
-at_left [] ys k x h = cc
-at_left (z ∷ xs) ys zero x h = h
-at_left (z ∷ xs) ys (suc k) x h = at_left xs ys k x h
-
 last : {X : Type 0} (xs : List X) (x : X) → Stands (xs ++ x ∷ []) x
 last [] x = (zero, refl)
 last (z ∷ xs) x = let h = last xs x in (suc h.0, h.1)
 
 stands_left : {X : Type 0} (xs : List X) (y x : X) → Stands xs x → Stands (xs ++ y ∷ []) x
-stands_left xs y x h = (h.0, at_left xs (y ∷ []) h.0 x h.1)
+stands_left xs y x h = (h.0, slice_get-append_left xs (y ∷ []) h.0 x h.1)
 
 stands_new : (known : Bool) (xs : List StepTo) (y x : StepTo) → Stands (cond known xs (xs ++ y ∷ [])) x → Stands xs x ⊎ (y ≡ x)
 stands_new true xs y x h = inl h
@@ -50,7 +46,7 @@ stands_new false xs y x h = at_push y x xs h.0 h.1
 module _ (xs : List StepTo) (i : ℕ) (s : StepTo) (lt : i < length xs) (is : s ≡ get_or xs i s) (old new : List StepTo) (place : ℕ)
     (grown : new ≡ with_new eq_step old s) (here : slice_get new place ≡ Some s) where
   more : take (i + 1) xs ≡ take i xs ++ s ∷ []
-  more = taken xs i s lt is
+  more = take_read xs i s lt is
 
   still : (x : StepTo) → Stands old x → Stands new x
   still x h = (h.0, ap (λ ys. slice_get ys h.0) grown ∙ slice_get-with_new eq_step old s h.0 x h.1)

@@ -1,12 +1,11 @@
 -- The ways to fill fields, one field after another, and the values of an input, one after another.
-use Rattle.std.proofs.Common.{◌≡◌, ℕ, ◌+◌, ◌*◌, ◌<◌, ◌≤◌, Bool, true, false, if◌then◌else◌, Ok, Err, Option, List, [], ◌∷◌, ◌++◌, map, drop, length, get_or, refl, ap, sym, ◌∙◌, subst, append-nil}
+use Rattle.std.proofs.Common.{◌≡◌, ℕ, ◌+◌, ◌*◌, ◌<◌, ◌≤◌, Bool, true, false, if◌then◌else◌, Ok, Err, Option, List, ◌∷◌, ◌++◌, map, drop, length, get_or, refl, ap, sym, ◌∙◌, subst, append-nil}
 use Rattle.csp_program.specs.Outcome.{Outcome, and_then}
 use Rattle.csp_program.specs.Value.{field_place, value_of}
 use Rattle.csp_atoms.specs.declared.atom.Atom.{Atom}
 use Rattle.csp_program.specs.declared.expressions.Expr.{Expr}
 use Rattle.csp_program.specs.declared.kinds.ValueKind.{ValueKind}
 use Rattle.csp_program.specs.declared.kinds.ValueKind.TheVariants.{OutsideChannel}
-use Rattle.csp_values.proofs.Steps.{nothing}
 use Rattle.std.specs.Prelude.{Result, nat_eq}
 use Rattle.value_operators.specs.declared.fault.EvalFault.{EvalFault}
 use Rattle.csp_program.specs.declared.processes.Field.{Field}
@@ -25,8 +24,10 @@ use Rattle.csp_steps.specs.Listed.{seen}
 use Rattle.csp_steps.specs.declared.prefix.Input.{Input}
 use Rattle.csp_steps.specs.declared.step.StepTo.{StepTo}
 use Rattle.pool_parts.specs.declared.place.ProcId.{ProcId}
-use Rattle.step_values.proofs.Lists.{left, left_begin, left_end, left_fault, left_next, map_join, map_push}
+use Rattle.step_values.proofs.Lists.{left, left_begin, left_end, left_fault, left_next}
 use Rattle.csp_steps.proofs.Places.{all_within_push, seen_stay, tree_stays}
+use Rattle.std.proofs.lemmas.List.{map-append, nil_from_length}
+use Rattle.csp_base.proofs.Lists.{map_push}
 
 -- steps of which the last one is a number that goes on
 then_number : {B : Type 0} (o : Outcome ℕ) (g : ℕ → ℕ) (h : ℕ → Outcome B) → and_then o (λ k. h (g k)) ≡ and_then (and_then o (λ k. Ok (g k))) h
@@ -87,7 +88,7 @@ module _ (p : Content) (input : Input) (first : ℕ) (old mid : List Proc) (f : 
   input_begin steps = left_begin (input_ways p input (tree_at old input.to)) (map (event_move first)) (map (seen old) steps) 0 input.set.now
 
   pub input_end : (moves : List Move) (i : ℕ) → length input.set.now ≤ i → left (input_ways p input (tree_at old input.to)) (map (event_move first)) moves i (drop i input.set.now) ≡ Ok moves
-  input_end moves i past = left_end ways (map (event_move first)) refl (map_join (event_move first)) moves input.set.now i i past
+  input_end moves i past = left_end ways (map (event_move first)) refl (map-append (event_move first)) moves input.set.now i i past
 
   same_ways : (moves : List Move) (i : ℕ) (a : Atom) → filled moves first (input_ways p input (tree_at old input.to) i a) ≡ filled moves first (input_ways p input (tree_at mid input.to) i a)
   same_ways moves i a = ap (λ (t : Proc). filled moves first (input_ways p input t i a)) (sym (tree_stays old mid f input.to within))
@@ -95,22 +96,22 @@ module _ (p : Content) (input : Input) (first : ℕ) (old mid : List Proc) (f : 
   pub input_fault : (moves : List Move) (i : ℕ) (a : Atom) (k : ValueKind) → i < length input.set.now → a ≡ get_or input.set.now i a
       → filled moves first (input_ways p input (tree_at mid input.to) i a) ≡ Err k
       → left (input_ways p input (tree_at old input.to)) (map (event_move first)) moves i (drop i input.set.now) ≡ Err k
-  input_fault moves i a k lt is e = left_fault ways (map (event_move first)) refl (map_join (event_move first)) moves input.set.now i i a k lt is (same_ways moves i a ∙ e)
+  input_fault moves i a k lt is e = left_fault ways (map (event_move first)) refl (map-append (event_move first)) moves input.set.now i i a k lt is (same_ways moves i a ∙ e)
 
   pub input_next : (moves all : List Move) (i : ℕ) (a : Atom) → i < length input.set.now → a ≡ get_or input.set.now i a
       → filled moves first (input_ways p input (tree_at mid input.to) i a) ≡ Ok all
       → left (input_ways p input (tree_at old input.to)) (map (event_move first)) moves i (drop i input.set.now) ≡
       left (input_ways p input (tree_at old input.to)) (map (event_move first)) all (i + 1) (drop (i + 1) input.set.now)
-  input_next moves all i a lt is e = left_next ways (map (event_move first)) refl (map_join (event_move first)) moves all input.set.now i i a lt is (same_ways moves i a ∙ e)
+  input_next moves all i a lt is e = left_next ways (map (event_move first)) refl (map-append (event_move first)) moves all input.set.now i i a lt is (same_ways moves i a ∙ e)
 
 -- fields that are taken apart
 pub no_sets : (p : Content) (trees : List Proc) (r : Result (List StepTo) EvalFault) (moves : List Move) (first : ℕ) (sets : List (List Atom)) (fields : List Field) (q : Proc) (n : ℕ)
     → length sets ≡ 0 → GivesMoves trees r (filled moves first (ways_to_fill p [] fields q n)) → GivesMoves trees r (filled moves first (ways_to_fill p sets fields q n))
-no_sets p trees r moves first sets fields q n none h = subst (λ (ss : List (List Atom)). GivesMoves trees r (filled moves first (ways_to_fill p ss fields q n))) (sym (nothing sets none)) h
+no_sets p trees r moves first sets fields q n none h = subst (λ (ss : List (List Atom)). GivesMoves trees r (filled moves first (ways_to_fill p ss fields q n))) (sym (nil_from_length sets none)) h
 
 pub no_fields : (p : Content) (moves : List Move) (first : ℕ) (set : List Atom) (rest sets : List (List Atom)) (fields : List Field) (q : Proc) (n : ℕ)
     → sets ≡ set ∷ rest → length fields ≡ 0 → filled moves first (ways_to_fill p sets fields q n) ≡ Err OutsideChannel
-no_fields p moves first set rest sets fields q n some none = λ i. filled moves first (ways_to_fill p (some i) (nothing fields none i) q n)
+no_fields p moves first set rest sets fields q n some none = λ i. filled moves first (ways_to_fill p (some i) (nil_from_length fields none i) q n)
 
 pub one_field : (p : Content) (trees : List Proc) (r : Result (List StepTo) EvalFault) (moves : List Move) (first : ℕ) (set : List Atom) (rest sets : List (List Atom)) (f g : Field) (later fields : List Field) (q : Proc) (n : ℕ)
     → sets ≡ set ∷ rest → fields ≡ f ∷ later → f ≡ g → GivesMoves trees r (filled moves first (ways_to_fill p (set ∷ rest) (g ∷ later) q n))
@@ -130,7 +131,7 @@ never a k h = cc
 pub fill_end : (p : Content) (pool : List Proc) (steps made : List StepTo) (first n : ℕ) (to : ProcId) (fields : List Field) → to.0 < length pool → all_within (length pool) steps ≡ true → length fields ≡ 0
     → made ≡ steps ++ record { label = Visible (first + n); to = to } ∷ [] → IsListing pool made (filled (map (seen pool) steps) first (ways_to_fill p [] fields (tree_at pool to) n))
 fill_end p pool steps made first n to fields within all none e = record {
-  same = ap (λ (fs : List Field). filled (map (seen pool) steps) first (ways_to_fill p [] fs (tree_at pool to) n)) (nothing fields none) ∙
+  same = ap (λ (fs : List Field). filled (map (seen pool) steps) first (ways_to_fill p [] fs (tree_at pool to) n)) (nil_from_length fields none) ∙
       ap (λ ms. Ok ms) (sym (ap (map (seen pool)) e ∙ map_push (seen pool) steps (record { label = Visible (first + n); to = to })));
   within = ap (all_within (length pool)) e ∙ all_within_push (length pool) steps (record { label = Visible (first + n); to = to }) all within;
 }

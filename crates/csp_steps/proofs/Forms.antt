@@ -1,6 +1,6 @@
 -- The steps of each form of a process, as a look at it finds them, and how deep the processes below it are.
-use Rattle.std.proofs.Common.{◌≡◌, ℕ, suc, ◌+◌, ◌<◌, ◌≤◌, true, false, if◌then◌else◌, Ok, Err, List, [], ◌∷◌, map, length, slice_get, refl, ap, sym, ◌∙◌, subst, arith}
-use Rattle.std.proofs.lemmas.Bool.{ltb-true, lt-ltb}
+use Rattle.std.proofs.Common.{◌≡◌, ℕ, suc, ◌+◌, ◌<◌, ◌≤◌, true, false, if◌then◌else◌, Ok, Err, List, ◌∷◌, map, length, slice_get, refl, ap, sym, ◌∙◌, subst, arith}
+use Rattle.std.proofs.lemmas.Bool.{ltb-true, lt-ltb, and_from}
 use Rattle.std.specs.Cmp.{first_so, second_so}
 use Rattle.std.specs.Prelude.{Result, nat_lt}
 use Rattle.csp_program.specs.Depth.{proc_depth}
@@ -36,7 +36,7 @@ use Rattle.csp_steps.specs.Computed.{all_within, around_layer, AreAround, AreAt,
 use Rattle.csp_steps.specs.Listed.{seen}
 use Rattle.csp_steps.specs.declared.look.Look.{Look}
 use Rattle.csp_steps.specs.declared.step.StepTo.{StepTo}
-use Rattle.term_pool.proofs.TreeLemmas.{all_below_more, both_so}
+use Rattle.term_pool.proofs.TreeLemmas.{all_below_more}
 
 depth_of : (t : Proc) (d : Proc-F Proc) → out-Proc t ≡ d → proc_depth t ≡ layer_depth d
 depth_of t d e = depth_of_out t ∙ ap layer_depth e
@@ -134,7 +134,7 @@ module _ (p : Content) where
   to_each_within : (count : ℕ) (ids : List ProcId) → all_below count ids ≡ true → all_within count (map (λ id. record { label = Silent; to = id }) ids) ≡ true
   to_each_within count [] h = refl
   to_each_within count (id ∷ ids) h =
-      both_so (nat_lt id.0 count) (all_within count (map (λ id. record { label = Silent; to = id }) ids)) (first_so (nat_lt id.0 count) (all_below count ids) h)
+      and_from (nat_lt id.0 count) (all_within count (map (λ id. record { label = Silent; to = id }) ids)) (first_so (nat_lt id.0 count) (all_below count ids) h)
       (to_each_within count ids (second_so (nat_lt id.0 count) (all_below count ids) h))
 
   pub internal : (trees : List Proc) (ids : List ProcId) (steps : List StepTo) → steps ≡ map (λ id. record { label = Silent; to = id }) ids → all_below (length trees) ids ≡ true
@@ -175,7 +175,7 @@ module _ (p : Content) where
       forms.steps-Call p d args ∙ ap (λ o. and_then o (λ ws. and_then (called (slice_get p.defs d) ws) (λ q. Ok ((Silent, q) ∷ [])))) h
 
   one_within : (trees : List Proc) (l : Label) (id : ProcId) → id.0 < length trees → all_within (length trees) (record { label = l; to = id } ∷ []) ≡ true
-  one_within trees l id within = both_so (nat_lt id.0 (length trees)) true (lt-ltb id.0 (length trees) within) refl
+  one_within trees l id within = and_from (nat_lt id.0 (length trees)) true (lt-ltb id.0 (length trees) within) refl
 
   pub call : (trees : List Proc) (d : ℕ) (args : List Expr) (vs : List Value) (id : ProcId) → arguments_in p args ≡ Ok vs → IsPlaceOf trees id (called (slice_get p.defs d) vs)
       → IsListing trees (record { label = Silent; to = id } ∷ []) (steps_of p (proc.Call d args))

@@ -5,7 +5,6 @@ pub mod Entering
 pub mod Filling
 pub mod Forms
 pub mod Looking
-pub mod Made
 pub mod Noting
 pub mod Own
 pub mod Places

@@ -1,5 +1,5 @@
 -- What is kept of evaluations stays true where the pool grows, and where more is kept.
-use Rattle.std.proofs.Common.{◌≡◌, ◌⊎◌, ℕ, zero, suc, ◌<◌, Bool, true, false, cond, nat_eq, Option, Some, None, Ok, Err, List, [], ◌∷◌, ◌++◌, length, get_or, slice_get, refl, ap, sym, ◌∙◌, subst, inl, inr}
+use Rattle.std.proofs.Common.{◌≡◌, ◌⊎◌, ℕ, zero, suc, ◌<◌, Bool, true, false, cond, nat_eq, Option, Some, None, Ok, Err, List, ◌∷◌, ◌++◌, length, get_or, slice_get, refl, ap, sym, ◌∙◌, subst, inl, inr}
 use Rattle.std.proofs.lemmas.Bool.{eqb-true}
 use Rattle.std.proofs.lemmas.Option.{slice_get-get_or}
 use Rattle.std.specs.HashMap.{HashMap, get, IsEmpty, Updates}
@@ -23,6 +23,7 @@ use Rattle.csp_steps.specs.Evaluated.{body_of, AreBodies, AreNoted, Fits, HasMor
 use Rattle.csp_steps.specs.declared.evaluated.Evaluated.{Evaluated}
 use Rattle.csp_steps.specs.declared.step.StepTo.{StepTo}
 use Rattle.csp_steps.proofs.Places.{front_both, standing}
+use Rattle.csp_base.proofs.Lists.{slice_get_last}
 
 -- one key more has a number
 at_key : (P : ℕ → ℕ → Type 0) (k n : ℕ) → P k n → (q m : ℕ) (before : Option ℕ) → (before ≡ Some m → P q m) → (b : Bool) → nat_eq k q ≡ b → cond b (Some n) before ≡ Some m → P q m
@@ -44,13 +45,8 @@ no_key P numbers empty q m g =
 stands_stay : (old new : List Proc) → IsFront old new → (q : ℕ) (P : Proc → Type 0) → StandsAs old q P → StandsAs new q P
 stands_stay old new front q P h = record { process = h.process; stands = front q h.process h.stands; holds = h.holds }
 
--- the value at the end of a list
-at_end : {T : Type 0} (xs : List T) (x : T) → slice_get (xs ++ x ∷ []) (length xs) ≡ Some x
-at_end [] x = refl
-at_end (y ∷ xs) x = at_end xs x
-
 pub pushed_at : {T : Type 0} (values more : List T) (x : T) (k : ℕ) → more ≡ values ++ x ∷ [] → k ≡ length values → slice_get more k ≡ Some x
-pushed_at values more x k grown last = (λ i. slice_get (grown i) (last i)) ∙ at_end values x
+pushed_at values more x k grown last = (λ i. slice_get (grown i) (last i)) ∙ slice_get_last values x
 
 -- at the place stands a process that comes to the value
 abbrev ComesTo : {T : Type 0} → (Proc-F Proc → T → Type 0) → List Proc → ℕ → T → Type 0

@@ -1,13 +1,12 @@
 -- What stays where the list of processes of a pool grows at its end.
-use Rattle.std.proofs.Common.{◌≡◌, ℕ, zero, suc, ◌<◌, true, nat_lt, Some, Ok, List, [], ◌∷◌, ◌++◌, map, length, get_or, slice_get, refl, ap, sym, ◌∙◌, subst, arith}
-use Rattle.std.proofs.lemmas.Bool.{ltb-true, lt-ltb}
+use Rattle.std.proofs.Common.{◌≡◌, ℕ, zero, suc, ◌<◌, true, nat_lt, Some, Ok, List, ◌∷◌, ◌++◌, map, length, get_or, slice_get, refl, ap, sym, ◌∙◌, subst, arith}
+use Rattle.std.proofs.lemmas.Bool.{ltb-true, lt-ltb, and_from}
 use Rattle.std.proofs.lemmas.Option.{slice_get-get_or, slice_get_within, get_or_from_slice_get}
 use Rattle.std.specs.Cmp.{first_so, second_so}
 use Rattle.csp_program.specs.declared.processes.Proc.{Proc}
 use Rattle.csp_program.specs.declared.processes.Proc.TheVariants as proc
 use Rattle.process_steps.specs.StepList.{Move}
 use Rattle.term_pool.proofs.PutLemmas.{at}
-use Rattle.term_pool.proofs.TreeLemmas.{both_so}
 use Rattle.term_pool.specs.Pooled.{IsFront}
 use Rattle.term_pool.specs.Put.{StandAt}
 use Rattle.term_pool.specs.Trees.{all_below, tree_at}
@@ -42,7 +41,7 @@ module _ (old new : List Proc) (front : IsFront old new) where
   pub all_below_stay : (ids : List ProcId) → all_below (length old) ids ≡ true → all_below (length new) ids ≡ true
   all_below_stay [] h = refl
   all_below_stay (id ∷ ids) h =
-      both_so (nat_lt id.0 (length new)) (all_below (length new) ids) (stays_so id (first_so (nat_lt id.0 (length old)) (all_below (length old) ids) h))
+      and_from (nat_lt id.0 (length new)) (all_below (length new) ids) (stays_so id (first_so (nat_lt id.0 (length old)) (all_below (length old) ids) h))
       (all_below_stay ids (second_so (nat_lt id.0 (length old)) (all_below (length old) ids) h))
 
   pub trees_stay : (ids : List ProcId) → all_below (length old) ids ≡ true → map (tree_at new) ids ≡ map (tree_at old) ids
@@ -54,7 +53,7 @@ module _ (old new : List Proc) (front : IsFront old new) where
   pub all_within_stay : (steps : List StepTo) → all_within (length old) steps ≡ true → all_within (length new) steps ≡ true
   all_within_stay [] h = refl
   all_within_stay (s ∷ steps) h =
-      both_so (nat_lt s.to.0 (length new)) (all_within (length new) steps) (stays_so s.to (first_so (nat_lt s.to.0 (length old)) (all_within (length old) steps) h))
+      and_from (nat_lt s.to.0 (length new)) (all_within (length new) steps) (stays_so s.to (first_so (nat_lt s.to.0 (length old)) (all_within (length old) steps) h))
       (all_within_stay steps (second_so (nat_lt s.to.0 (length old)) (all_within (length old) steps) h))
 
   pub seen_stay : (steps : List StepTo) → all_within (length old) steps ≡ true → map (seen new) steps ≡ map (seen old) steps
@@ -71,15 +70,15 @@ module _ (old new : List Proc) (front : IsFront old new) where
 
 -- lists with one more at their end
 pub all_within_push : (count : ℕ) (steps : List StepTo) (s : StepTo) → all_within count steps ≡ true → s.to.0 < count → all_within count (steps ++ s ∷ []) ≡ true
-all_within_push count [] s h lt = both_so (nat_lt s.to.0 count) true (lt-ltb s.to.0 count lt) refl
+all_within_push count [] s h lt = and_from (nat_lt s.to.0 count) true (lt-ltb s.to.0 count lt) refl
 all_within_push count (r ∷ steps) s h lt =
-    both_so (nat_lt r.to.0 count) (all_within count (steps ++ s ∷ [])) (first_so (nat_lt r.to.0 count) (all_within count steps) h)
+    and_from (nat_lt r.to.0 count) (all_within count (steps ++ s ∷ [])) (first_so (nat_lt r.to.0 count) (all_within count steps) h)
     (all_within_push count steps s (second_so (nat_lt r.to.0 count) (all_within count steps) h) lt)
 
 pub all_below_push : (count : ℕ) (ids : List ProcId) (id : ProcId) → all_below count ids ≡ true → id.0 < count → all_below count (ids ++ id ∷ []) ≡ true
-all_below_push count [] id h lt = both_so (nat_lt id.0 count) true (lt-ltb id.0 count lt) refl
+all_below_push count [] id h lt = and_from (nat_lt id.0 count) true (lt-ltb id.0 count lt) refl
 all_below_push count (q ∷ ids) id h lt =
-    both_so (nat_lt q.0 count) (all_below count (ids ++ id ∷ [])) (first_so (nat_lt q.0 count) (all_below count ids) h)
+    and_from (nat_lt q.0 count) (all_below count (ids ++ id ∷ [])) (first_so (nat_lt q.0 count) (all_below count ids) h)
     (all_below_push count ids id (second_so (nat_lt q.0 count) (all_below count ids) h) lt)
 
 seen_push : (trees : List Proc) (steps : List StepTo) (s : StepTo) → map (seen trees) (steps ++ s ∷ []) ≡ map (seen trees) steps ++ seen trees s ∷ []

@@ -1,6 +1,6 @@
 -- Loops that make of the steps of a process those of an operator round it: the next step.
-use Rattle.std.proofs.Common.{◌≡◌, ℕ, ◌+◌, ◌<◌, true, Some, Ok, Err, List, [], ◌∷◌, ◌++◌, map, take, length, get_or, slice_get, refl, sym, ◌∙◌, subst}
-use Rattle.std.proofs.lemmas.Bool.{lt-ltb}
+use Rattle.std.proofs.Common.{◌≡◌, ℕ, ◌+◌, ◌<◌, true, Some, Ok, Err, List, ◌∷◌, ◌++◌, map, take, length, get_or, slice_get, refl, sym, ◌∙◌, subst}
+use Rattle.std.proofs.lemmas.Bool.{lt-ltb, and_from}
 use Rattle.std.proofs.lemmas.Option.{slice_get_within}
 use Rattle.std.specs.Cmp.{first_so, second_so}
 use Rattle.std.specs.Prelude.{IfOk, Result, nat_lt}
@@ -8,9 +8,7 @@ use Rattle.csp_program.specs.Lists.{joined}
 use Rattle.csp_program.specs.declared.processes.Proc.{Proc}
 use Rattle.process_steps.specs.StepList.{Move, in_choice, in_sequence}
 use Rattle.process_steps.specs.declared.label.Label.TheVariants.{Visible}
-use Rattle.step_values.proofs.Lists.{map_join}
 use Rattle.term_pool.proofs.PutLemmas.{at}
-use Rattle.term_pool.proofs.TreeLemmas.{both_so}
 use Rattle.term_pool.specs.Pooled.{IsFront}
 use Rattle.term_pool.specs.Trees.{all_below, tree_at}
 use Rattle.pool_parts.specs.declared.place.ProcId.{ProcId}
@@ -19,6 +17,7 @@ use Rattle.csp_steps.specs.Listed.{seen}
 use Rattle.csp_steps.specs.declared.step.StepTo.{StepTo}
 use Rattle.csp_steps.proofs.Computing.{next_move, next_moves}
 use Rattle.csp_steps.proofs.Places.{all_within_stay, moves_stay, one_move, seen_stay, still_within, tree_stays, trees_stay, within_at}
+use Rattle.std.proofs.lemmas.List.{map-append}
 
 module _ (old mid new : List Proc) (f : IsFront old mid) (g : IsFront mid new) (below : List StepTo) (w : all_within (length old) below ≡ true)
     (i : ℕ) (s : StepTo) (lt : i < length below) (is : s ≡ get_or below i s) where
@@ -70,7 +69,7 @@ module _ (old mid new : List Proc) (f : IsFront old mid) (g : IsFront mid new) (
 all_within_join : (count : ℕ) (xs ys : List StepTo) → all_within count xs ≡ true → all_within count ys ≡ true → all_within count (xs ++ ys) ≡ true
 all_within_join count [] ys h g = g
 all_within_join count (x ∷ xs) ys h g =
-    both_so (nat_lt x.to.0 count) (all_within count (xs ++ ys)) (first_so (nat_lt x.to.0 count) (all_within count xs) h)
+    and_from (nat_lt x.to.0 count) (all_within count (xs ++ ys)) (first_so (nat_lt x.to.0 count) (all_within count xs) h)
     (all_within_join count xs ys (second_so (nat_lt x.to.0 count) (all_within count xs) h) g)
 
 module _ (old new : List Proc) (front : IsFront old new) (steps : List StepTo) (here : all_within (length old) steps ≡ true) where
@@ -89,14 +88,14 @@ module _ (old new : List Proc) (front : IsFront old new) (steps : List StepTo) (
 
   many_within : (to : ProcId) (events : List ℕ) → to.0 < length new → all_within (length new) (map (λ e. record { label = Visible e; to = to }) events) ≡ true
   many_within to [] h = refl
-  many_within to (e ∷ events) h = both_so (nat_lt to.0 (length new)) (all_within (length new) (map (λ d. record { label = Visible d; to = to }) events)) (lt-ltb to.0 (length new) h) (many_within to events h)
+  many_within to (e ∷ events) h = and_from (nat_lt to.0 (length new)) (all_within (length new) (map (λ d. record { label = Visible d; to = to }) events)) (lt-ltb to.0 (length new) h) (many_within to events h)
 
   pub add_many : {E : Type 0} (to : ProcId) (t : Proc) (events : List ℕ) (moves : List Move) (r : Result (List StepTo) E) → moves ≡ map (λ d. (Visible d, t)) events → slice_get new to.0 ≡ Some t
       → IfOk r (λ made. made ≡ steps ++ map (λ e. record { label = Visible e; to = to }) events) → IfOk r (λ made. AreMoves new made (map (seen old) steps ++ moves))
   add_many to t events moves (Ok made) e h is =
       subst (λ (ms : List Move). AreMoves new made (map (seen old) steps ++ ms)) (sym e)
       (subst (λ (all : List StepTo). AreMoves new all (map (seen old) steps ++ map (λ d. (Visible d, t)) events)) (sym is) (record {
-        same = map_join (seen new) steps (map (λ d. record { label = Visible d; to = to }) events) ∙ (λ i. seen_stay old new front steps here i ++ many_seen to t events h i);
+        same = map-append (seen new) steps (map (λ d. record { label = Visible d; to = to }) events) ∙ (λ i. seen_stay old new front steps here i ++ many_seen to t events h i);
         within = all_within_join (length new) steps (map (λ d. record { label = Visible d; to = to }) events) (all_within_stay old new front steps here) (many_within to events (slice_get_within new to.0 t h));
       }))
   add_many to t events moves (Err f) e h is = is

@@ -1,19 +1,13 @@
 -- The steps of a raw table are those that it lists.
-use Rattle.std.proofs.Common.{◌≡◌, ℕ, zero, suc, ◌<◌, Bool, true, ◌&&◌, nat_eq, IsTrue, Some, List, [], ◌∷◌, length, get_or, refl, sym, ap, ◌∙◌, inl, inr}
+use Rattle.std.proofs.Common.{◌≡◌, ℕ, suc, ◌<◌, Bool, true, ◌&&◌, nat_eq, IsTrue, Some, List, ◌∷◌, length, get_or, refl, sym, ap, ◌∙◌, inl, inr}
 use Rattle.std.specs.Prelude.{slice_get}
 use Rattle.std.specs.Cmp.{first_so, second_so}
 use Rattle.std.specs.List.{list_any}
-use Rattle.std.proofs.lemmas.Bool.{eq-eqb, eqb-true, or_cases, or_left, or_right, false≢true}
+use Rattle.std.proofs.lemmas.Bool.{eq-eqb, eqb-true, or_cases, false≢true}
 use Rattle.std.proofs.lemmas.List.Folds.{list_any_at}
 use Rattle.csp_tables.specs.Label.Label.{silent, visible}
 use Rattle.csp_tables.specs.RawTable.{RawTable, RawStep}
 use Rattle.csp_tables.specs.RawForm.{has_silent, has_step}
-
--- an element that stands in a list and passes a test
-pub any_of : {X : Type 0} (test : X → Bool) (xs : List X) (k : ℕ) (y : X) → slice_get xs k ≡ Some y → test y ≡ true → list_any test xs ≡ true
-any_of test [] k y at passes = cc
-any_of test (x ∷ xs) zero y at passes = let e : x ≡ y = cc in or_left (test x) (list_any test xs) (rw e passes)
-any_of test (x ∷ xs) (suc k) y at passes = or_right (test x) (list_any test xs) (any_of test xs k y at passes)
 
 -- a list in which some element passes has such an element in some place
 pub record Passes {X : Type 0} (test : X → Bool) (xs : List X) : Type 0 where
@@ -36,7 +30,7 @@ pub silent_listed : (raw : RawTable) (s t : ℕ) → RawStep raw s silent t → 
 silent_listed raw s t step =
     let first : nat_eq s s ≡ true = same s in
     let second : nat_eq t t ≡ true = same t in
-    any_of (λ (p : ℕ × ℕ). nat_eq s p.0 && nat_eq t p.1) raw.silent step.0 (s, t) step.1 (rw (first, second) refl)
+    any_passes_from_place (λ (p : ℕ × ℕ). nat_eq s p.0 && nat_eq t p.1) raw.silent step.0 (s, t) step.1 (rw (first, second) refl)
 
 -- the pair that a test for it finds
 pair_is : (s t : ℕ) (y : ℕ × ℕ) → (nat_eq s y.0 && nat_eq t y.1) ≡ true → y ≡ (s, t)
@@ -55,7 +49,7 @@ step_listed raw s e t step =
     let first : nat_eq s s ≡ true = same s in
     let second : nat_eq e e ≡ true = same e in
     let third : nat_eq t t ≡ true = same t in
-    any_of (λ (p : ℕ × ℕ × ℕ). nat_eq s p.0 && nat_eq e p.1 && nat_eq t p.2) raw.steps step.0 (s, e, t) step.1 (rw (first, second, third) refl)
+    any_passes_from_place (λ (p : ℕ × ℕ × ℕ). nat_eq s p.0 && nat_eq e p.1 && nat_eq t p.2) raw.steps step.0 (s, e, t) step.1 (rw (first, second, third) refl)
 
 triple_is : (s e t : ℕ) (y : ℕ × ℕ × ℕ) → (nat_eq s y.0 && nat_eq e y.1 && nat_eq t y.2) ≡ true → y ≡ (s, e, t)
 triple_is s e t y passes =

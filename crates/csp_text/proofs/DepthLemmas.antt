@@ -1,5 +1,5 @@
 -- The greatest depth of a list, as far as its members were looked at.
-use Rattle.std.proofs.Common.{◌≡◌, ℕ, suc, ◌+◌, ◌<◌, ◌≤◌, max, List, ◌∷◌, map, length, drop, get_or, drop-cons, add-one, sym, ap, ◌∙◌, arith}
+use Rattle.std.proofs.Common.{◌≡◌, ℕ, ◌+◌, ◌<◌, ◌≤◌, max, List, ◌∷◌, map, length, drop, get_or, sym, ap, ◌∙◌, arith}
 use Rattle.std.proofs.Math.ListN.{drop_of_length-le}
 use Rattle.csp_text.specs.Depth.{capped, event_layer_depth, field_layer_depth, gen_depth, gen_layer_depth, greatest, greatest_of_pairs, part_depth, part_layer_depth, tree_depth, tree_layer_depth}
 use Rattle.csp_text.specs.declared.tree.FieldTree.TheFolds.{fold-roll-Tree}
@@ -8,15 +8,13 @@ use Rattle.csp_text.specs.declared.tree.GenTree.{GenTree}
 use Rattle.csp_text.specs.declared.tree.PartTree.{PartTree}
 use Rattle.csp_text.specs.declared.tree.Tree.{Tree}
 use Rattle.csp_text.specs.declared.tree.Tree.TheVariants as tree
-
-split_at : {X : Type 0} (xs : List X) (i : ℕ) (x : X) → i < length xs → x ≡ get_or xs i x → drop i xs ≡ x ∷ drop (i + 1) xs
-split_at xs i x within is = rw (add-one, drop-cons xs i x) (ap (λ y. y ∷ drop (suc i) xs) (sym is))
+use Rattle.csp_base.proofs.Lists.{drop_read}
 
 -- one more member
 pub deepest_step : {X : Type 0} (f : X → ℕ) (xs : List X) (i : ℕ) (x : X) (deepest here whole : ℕ) → i < length xs → x ≡ get_or xs i x → here ≡ capped (f x)
     → max deepest (capped (greatest (map f (drop i xs)))) ≡ whole → max (max deepest here) (capped (greatest (map f (drop (i + 1) xs)))) ≡ whole
 deepest_step f xs i x deepest here whole within is here_is so_far =
-    let total : greatest (map f (drop i xs)) ≡ max (f x) (greatest (map f (drop (i + 1) xs))) = ap (λ l. greatest (map f l)) (split_at xs i x within is) in
+    let total : greatest (map f (drop i xs)) ≡ max (f x) (greatest (map f (drop (i + 1) xs))) = ap (λ l. greatest (map f l)) (drop_read xs i x within is) in
     omega arith
 
 -- no member is left
@@ -30,7 +28,7 @@ pub deepest_pair_step : {X : Type 0} (f : X → ℕ × ℕ) (xs : List X) (i : �
     → first ≡ capped (f x).0 → second ≡ capped (f x).1
     → max deepest (capped (greatest_of_pairs (map f (drop i xs)))) ≡ whole → max (max deepest (max first second)) (capped (greatest_of_pairs (map f (drop (i + 1) xs)))) ≡ whole
 deepest_pair_step f xs i x deepest first second whole within is first_is second_is so_far =
-    let total : greatest_of_pairs (map f (drop i xs)) ≡ max (max (f x).0 (f x).1) (greatest_of_pairs (map f (drop (i + 1) xs))) = ap (λ l. greatest_of_pairs (map f l)) (split_at xs i x within is) in
+    let total : greatest_of_pairs (map f (drop i xs)) ≡ max (max (f x).0 (f x).1) (greatest_of_pairs (map f (drop (i + 1) xs))) = ap (λ l. greatest_of_pairs (map f l)) (drop_read xs i x within is) in
     omega arith
 
 pub deepest_pair_end : {X : Type 0} (f : X → ℕ × ℕ) (xs : List X) (i deepest whole : ℕ) → length xs ≤ i → max deepest (capped (greatest_of_pairs (map f (drop i xs)))) ≡ whole → deepest ≡ whole

@@ -1,5 +1,5 @@
 -- What a call answers for a form, from what calls answer for its parts.
-use Rattle.std.proofs.Common.{◌≡◌, ℕ, ◌+◌, ◌<◌, Bool, true, false, cond, List, [], ◌∷◌, Some, None, Ok, Err, map, length, refl, ap, sym, subst, ◌∙◌}
+use Rattle.std.proofs.Common.{◌≡◌, ℕ, ◌+◌, ◌<◌, Bool, true, false, cond, List, ◌∷◌, Some, None, Ok, Err, map, length, refl, ap, sym, subst, ◌∙◌}
 use Rattle.std.specs.Prelude.{ℤ, if◌then◌else◌, slice_get, Result}
 use Rattle.std.specs.Result.{IsErrAnd}
 use Rattle.csp_program.specs.Atoms.{all_added, events_from}
@@ -32,6 +32,7 @@ use Rattle.csp_values.specs.Worth.{worth, worths, number_worth, truth_worth, ato
 use Rattle.csp_values.specs.declared.tally.Tally.{Tally}
 use Rattle.csp_values.proofs.Equations as eq
 use Rattle.csp_values.proofs.FieldSteps.{front_scaled}
+use Rattle.csp_program.proofs.Outcomes.{and_then_regroup}
 
 pub same : {A : Type 0} (r : Result A EvalFault) (o o' : Outcome A) → o ≡ o' → Gives r o' → Gives r o
 same r o o' is h = subst (Gives r) (sym is) h
@@ -58,15 +59,10 @@ pub walk_passed : (r : Result Tally EvalFault) (f : EvalFault) (part whole : Out
 walk_passed (Ok x) f part whole is h passes = absurd is
 walk_passed (Err y) f part whole is h passes = rw is (walk_fault f part whole h passes)
 
--- one step after another is one step
-chain : {A B C : Type 0} (o : Outcome A) (f : A → Outcome B) (g : B → Outcome C) → and_then o (λ a. and_then (f a) g) ≡ and_then (and_then o f) g
-chain (Ok a) f g = refl
-chain (Err k) f g = refl
-
 -- two parts, each of which is taken for what it is worth
 module _ {V M C : Type 0} (f : V → Outcome M) (g : M → M → Outcome C) where
   second_part : (o : Outcome M) (b : Outcome V) → and_then o (λ m. and_then b (λ w. and_then (f w) (λ n. g m n))) ≡ and_then o (λ m. and_then (and_then b f) (λ n. g m n))
-  second_part (Ok m) b = chain b f (λ n. g m n)
+  second_part (Ok m) b = and_then_regroup b f (λ n. g m n)
   second_part (Err k) b = refl
 
   both_parts : (a b : Outcome V) → and_then a (λ v. and_then (f v) (λ m. and_then b (λ w. and_then (f w) (λ n. g m n)))) ≡ and_then (and_then a f) (λ m. and_then (and_then b f) (λ n. g m n))
@@ -114,7 +110,7 @@ module _ (p : Content) (n : ℕ) (env : Env) where
   pub worth_if : (e c a b c' a' b' : Expr) → e ≡ expr.If c a b → c' ≡ c → a' ≡ a → b' ≡ b → worth p n env e ≡ chosen (truth_worth p n env c') (worth p n env a') (worth p n env b')
   worth_if e c a b c' a' b' is got_c got_a got_b =
       ap (worth p n env) is ∙ (eq.worth-If p n env c a b ∙ ((λ i. choice (worth p n env (sym got_c i)) (worth p n env (sym got_a i)) (worth p n env (sym got_b i))) ∙
-      (chain (worth p n env c') (λ v. as_truth v) (λ t. if t then worth p n env a' else worth p n env b') ∙
+      (and_then_regroup (worth p n env c') (λ v. as_truth v) (λ t. if t then worth p n env a' else worth p n env b') ∙
       ap (λ o. chosen o (worth p n env a') (worth p n env b')) (truth_is p n env c'))))
 
   pub worth_call : (e : Expr) (d : ℕ) (args args' : List Expr) → e ≡ expr.Call d args → args' ≡ args → worth p n env e ≡ and_then (worths p n env args') (λ vs. use_worth p n d vs)
@@ -170,7 +166,7 @@ datatype_worth p n def args ks ks' o is got came = eq.body-Datatype p n def args
 abbrev found : ℕ → Outcome ℕ
 found k = Ok k
 
-same_found : (m k : ℕ) → found m ≡ found k → m ≡ k
+pub same_found : (m k : ℕ) → found m ≡ found k → m ≡ k
 same_found m k h = cc
 
 pub front_of_sets : (p : Content) (n : ℕ) (env : Env) (c : ℕ) (es : List Expr) (channels : List Channel) (sets : List (List Atom)) (o : Outcome ℕ) → channels ≡ p.channels → sets_of (slice_get channels c) ≡ Some sets
@@ -227,7 +223,7 @@ module _ (p : Content) (n : ℕ) (first : Gen) (gens : List Gen) (items : List E
   walk_from x s o is came =
       ap (λ g. walk_worth p n (g ∷ gens) items parts env state) is ∙
       (eq.walk-From p n x s gens items parts env state ∙
-      (chain (worth p n env s) (λ v. as_set v) (λ atoms. each_worth p n x atoms gens items parts env state) ∙
+      (and_then_regroup (worth p n env s) (λ v. as_set v) (λ atoms. each_worth p n x atoms gens items parts env state) ∙
       ap (λ z. and_then z (λ atoms. each_worth p n x atoms gens items parts env state)) (atoms_are p n env s ∙ came)))
 
   pub walk_cond : (c : Expr) (o : Outcome Bool) → first ≡ generator.Cond c → truth_worth p n env c ≡ o
@@ -235,5 +231,5 @@ module _ (p : Content) (n : ℕ) (first : Gen) (gens : List Gen) (items : List E
   walk_cond c o is came =
       ap (λ g. walk_worth p n (g ∷ gens) items parts env state) is ∙
       (eq.walk-Cond p n c gens items parts env state ∙
-      (chain (worth p n env c) (λ v. as_truth v) (λ b. cond b (walk_worth p n gens items parts env state) (Ok state)) ∙
+      (and_then_regroup (worth p n env c) (λ v. as_truth v) (λ b. cond b (walk_worth p n gens items parts env state) (Ok state)) ∙
       ap (λ z. and_then z (λ b. cond b (walk_worth p n gens items parts env state) (Ok state))) (truth_is p n env c ∙ came)))

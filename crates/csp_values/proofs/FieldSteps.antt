@@ -1,5 +1,5 @@
 -- The fields of an event, one after another, in numbers that count so many for one.
-use Rattle.std.proofs.Common.{◌≡◌, ℕ, zero, suc, ◌+◌, ◌*◌, ◌<◌, List, [], ◌∷◌, Some, Ok, Err, Bool, true, false, cond, length, drop, get_or, refl, ap, sym, ◌∙◌, arith}
+use Rattle.std.proofs.Common.{◌≡◌, ℕ, zero, suc, ◌+◌, ◌*◌, ◌<◌, List, ◌∷◌, Some, Ok, Err, Bool, true, false, cond, length, drop, get_or, refl, ap, sym, ◌∙◌, arith}
 use Rattle.std.specs.Prelude.{nat_eq, slice_get}
 use Rattle.csp_program.specs.EventNumber.{row_count}
 use Rattle.csp_program.specs.Outcome.{Outcome, and_then}
@@ -14,7 +14,9 @@ use Rattle.csp_program.specs.declared.programs.Content.{Content}
 use Rattle.value_operators.specs.Forms.{each_of, scaled}
 use Rattle.csp_values.specs.Worth.{worth, fields_worth, front_worth}
 use Rattle.csp_values.proofs.Equations.{fields-nil, fields-none, fields-cons, front-some}
-use Rattle.csp_values.proofs.Steps.{chain, left_of}
+use Rattle.csp_base.proofs.Lists.{drop_read}
+use Rattle.csp_program.proofs.Outcomes.{and_then_regroup, came_through}
+use Rattle.csp_values.proofs.Arms.{same_found}
 
 -- the number of fields after others, where both count so many for one
 unfoldable pub fields_after : Content → ℕ → Env → List Expr → List (List Atom) → ℕ → ℕ → Outcome ℕ
@@ -54,7 +56,7 @@ fields_end p n env sets each number = refl
 pub fields_too_many : (whole : Outcome ℕ) (p : Content) (n : ℕ) (env : Env) (es : List Expr) (sets : List (List Atom)) (each number i : ℕ) (e : Expr)
     → whole ≡ fields_after p n env (drop i es) sets each number → i < length es → e ≡ get_or es i e → length sets ≡ 0 → whole ≡ Err OutsideChannel
 unfolding fields_after
-fields_too_many whole p n env es [] each number i e w lt is none = w ∙ ap (λ xs. fields_after p n env xs [] each number) (left_of es i e lt is)
+fields_too_many whole p n env es [] each number i e w lt is none = w ∙ ap (λ xs. fields_after p n env xs [] each number) (drop_read es i e lt is)
 fields_too_many whole p n env es (set ∷ sets) each number i e w lt is none = absurd (omega arith)
 
 abbrev fields_next : Content → ℕ → Env → List Expr → List Atom → List (List Atom) → ℕ → ℕ → Outcome Value → Outcome ℕ
@@ -64,14 +66,14 @@ fields_here : (p : Content) (n : ℕ) (env : Env) (es : List Expr) (all : List (
     → i < length es → e ≡ get_or es i e → all ≡ set ∷ others → fields_after p n env (drop i es) all each number ≡ fields_next p n env (drop (i + 1) es) set others each number (worth p n env e)
 unfolding fields_after
 fields_here p n env es all set others each number i e lt is split =
-    ap (λ xs. fields_after p n env xs all each number) (left_of es i e lt is) ∙ ap (λ ss. fields_after p n env (e ∷ drop (i + 1) es) ss each number) split
+    ap (λ xs. fields_after p n env xs all each number) (drop_read es i e lt is) ∙ ap (λ ss. fields_after p n env (e ∷ drop (i + 1) es) ss each number) split
 
 field_then : (whole : Outcome ℕ) (p : Content) (n : ℕ) (env : Env) (es : List Expr) (all : List (List Atom)) (set : List Atom) (others : List (List Atom)) (each number i : ℕ) (e : Expr)
     → whole ≡ fields_after p n env (drop i es) all each number → i < length es → e ≡ get_or es i e → all ≡ set ∷ others
     → whole ≡ and_then (and_then (worth p n env e) (λ v. field_place set v)) (λ place. fields_after p n env (drop (i + 1) es) others each (number * length set + place * each))
 field_then whole p n env es all set others each number i e w lt is split =
     w ∙ (fields_here p n env es all set others each number i e lt is split ∙
-    chain (worth p n env e) (λ v. field_place set v) (λ place. fields_after p n env (drop (i + 1) es) others each (number * length set + place * each)))
+    and_then_regroup (worth p n env e) (λ v. field_place set v) (λ place. fields_after p n env (drop (i + 1) es) others each (number * length set + place * each)))
 
 pub field_refused : (whole : Outcome ℕ) (p : Content) (n : ℕ) (env : Env) (es : List Expr) (all : List (List Atom)) (set : List Atom) (others : List (List Atom)) (each number i : ℕ) (e : Expr) (k : ValueKind)
     → whole ≡ fields_after p n env (drop i es) all each number → i < length es → e ≡ get_or es i e → all ≡ set ∷ others → and_then (worth p n env e) (λ v. field_place set v) ≡ Err k → whole ≡ Err k
@@ -81,9 +83,6 @@ field_refused whole p n env es all set others each number i e k w lt is split ba
 
 abbrev found : ℕ → Outcome ℕ
 found n = Ok n
-
-same_found : (m n : ℕ) → found m ≡ found n → m ≡ n
-same_found m n h = cc
 
 pub field_taken : (whole : Outcome ℕ) (p : Content) (n : ℕ) (env : Env) (es : List Expr) (all : List (List Atom)) (set : List Atom) (others : List (List Atom)) (each number more place i : ℕ) (e : Expr)
     → whole ≡ fields_after p n env (drop i es) all each number → i < length es → e ≡ get_or es i e → all ≡ set ∷ others → and_then (worth p n env e) (λ v. field_place set v) ≡ Ok place
@@ -99,10 +98,6 @@ place_in_some [] (One a) place h none = absurd (cc)
 place_in_some [] (Many atoms) place h none = absurd (cc)
 place_in_some (b ∷ set) v place h none = omega arith
 
-came : {A B : Type 0} (o : Outcome A) (f : A → Outcome B) (b : B) → and_then o f ≡ Ok b → (a : A) × (o ≡ Ok a) × (f a ≡ Ok b)
-came (Ok a) f b h = (a, refl, h)
-came (Err k) f b h = absurd (cc)
-
 other_is_none : (l r : ℕ) → (l ≡ 0 → ⊥) → l * r ≡ 0 → r ≡ 0
 other_is_none zero r some h = absurd (some refl)
 other_is_none (suc l) zero some h = refl
@@ -112,8 +107,8 @@ none_left : (p : Content) (n : ℕ) (env : Env) (es : List Expr) (sets : List (L
 none_left p n env [] sets k m h none = none
 none_left p n env (e ∷ es) [] k m h none = absurd (omega arith)
 none_left p n env (e ∷ es) (set ∷ sets) k m h none =
-    let first = came (worth p n env e) (λ v. and_then (field_place set v) (λ place. fields_worth p n env es sets (k * length set + place))) m (sym (fields-cons p n env e es set sets k) ∙ h) in
-    let second = came (field_place set first.0) (λ place. fields_worth p n env es sets (k * length set + place)) m first.2 in
+    let first = came_through (worth p n env e) (λ v. and_then (field_place set v) (λ place. fields_worth p n env es sets (k * length set + place))) m (sym (fields-cons p n env e es set sets k) ∙ h) in
+    let second = came_through (field_place set first.0) (λ place. fields_worth p n env es sets (k * length set + place)) m first.2 in
     none_left p n env es sets (k * length set + second.0) m second.2
     (other_is_none (length set) (row_count sets) (place_in_some set first.0 second.0 second.1) none)
 

@@ -1,5 +1,5 @@
 -- Lists that are evaluated one element after another: what is left decides together with what has come so far.
-use Rattle.std.proofs.Common.{◌≡◌, ℕ, suc, ◌+◌, ◌<◌, ◌≤◌, List, [], ◌∷◌, ◌++◌, Ok, Err, length, length-drop, drop, get_or, refl, ap, sym, ◌∙◌, arith, add-one, drop-cons, append_assoc, append-nil}
+use Rattle.std.proofs.Common.{◌≡◌, ℕ, suc, ◌+◌, ◌<◌, ◌≤◌, List, ◌∷◌, ◌++◌, Ok, Err, length, drop, get_or, refl, ap, sym, ◌∙◌, add-one, drop-cons, append_assoc, append-nil}
 use Rattle.csp_program.specs.Atoms.{added}
 use Rattle.csp_program.specs.Outcome.{Outcome, and_then}
 use Rattle.csp_program.specs.Value.{Env, Gathered, as_atom}
@@ -13,23 +13,8 @@ use Rattle.csp_program.specs.declared.kinds.ValueKind.{ValueKind}
 use Rattle.csp_program.specs.declared.programs.Content.{Content}
 use Rattle.csp_values.specs.Worth.{worth, worths, with_items, with_front, with_fronts, walk_worth, each_worth}
 use Rattle.csp_values.proofs.Equations.{worths-nil, worths-cons, with_items-cons, fronts-cons, each-cons}
-
--- the list from an element on
-pub left_of : {A : Type 0} (xs : List A) (i : ℕ) (x : A) → i < length xs → x ≡ get_or xs i x → drop i xs ≡ x ∷ drop (i + 1) xs
-left_of xs i x lt is = rw (add-one i) (drop-cons xs i x lt ∙ ap (λ y. y ∷ drop (suc i) xs) (sym is))
-
-pub nothing : {A : Type 0} (xs : List A) → length xs ≡ 0 → xs ≡ []
-nothing [] none = refl
-nothing (x ∷ xs) none = absurd (omega arith)
-
--- the list from its end on
-pub nothing_left : {A : Type 0} (xs : List A) (i : ℕ) → length xs ≤ i → drop i xs ≡ []
-nothing_left xs i past = nothing (drop i xs) (omega (arith, length-drop i xs))
-
--- one step after another is one step
-pub chain : {A B C : Type 0} (o : Outcome A) (f : A → Outcome B) (g : B → Outcome C) → and_then o (λ a. and_then (f a) g) ≡ and_then (and_then o f) g
-chain (Ok a) f g = refl
-chain (Err k) f g = refl
+use Rattle.csp_base.proofs.Lists.{drop_read}
+use Rattle.csp_program.proofs.Outcomes.{and_then_regroup}
 
 -- the values of expressions, after others
 unfoldable pub worths_after : Content → ℕ → Env → List Value → List Expr → Outcome (List Value)
@@ -58,7 +43,7 @@ worths_here : (p : Content) (n : ℕ) (env : Env) (done : List Value) (es : List
     → worths_after p n env done (drop i es) ≡ values_next p n env done (drop (i + 1) es) (worth p n env e)
 unfolding worths_after
 worths_here p n env done es i e lt is =
-    ap (λ xs. and_then (worths p n env xs) (λ vs. Ok (done ++ vs))) (left_of es i e lt is) ∙
+    ap (λ xs. and_then (worths p n env xs) (λ vs. Ok (done ++ vs))) (drop_read es i e lt is) ∙
     ap (λ o. and_then o (λ vs. Ok (done ++ vs))) (worths-cons p n env e (drop (i + 1) es))
 
 pub worths_fault : (whole : Outcome (List Value)) (p : Content) (n : ℕ) (env : Env) (done : List Value) (es : List Expr) (i : ℕ) (e : Expr) (k : ValueKind)
@@ -81,12 +66,12 @@ items_next p n env atoms es o = and_then o (λ v. and_then (as_atom v) (λ a. an
 
 item_last : (o : Outcome Value) (atoms : List Atom) (rest : List Atom → Outcome (List Atom))
     → and_then o (λ v. and_then (as_atom v) (λ a. and_then (added atoms a) (λ more. rest more))) ≡ and_then (and_then o (λ v. item_of v atoms)) (λ more. rest more)
-item_last (Ok v) atoms rest = chain (as_atom v) (λ a. added atoms a) (λ more. rest more)
+item_last (Ok v) atoms rest = and_then_regroup (as_atom v) (λ a. added atoms a) (λ more. rest more)
 item_last (Err k) atoms rest = refl
 
 items_here : (p : Content) (n : ℕ) (env : Env) (atoms : List Atom) (es : List Expr) (i : ℕ) (e : Expr) → i < length es → e ≡ get_or es i e
     → with_items p n env (drop i es) atoms ≡ items_next p n env atoms (drop (i + 1) es) (worth p n env e)
-items_here p n env atoms es i e lt is = ap (λ xs. with_items p n env xs atoms) (left_of es i e lt is) ∙ with_items-cons p n env e (drop (i + 1) es) atoms
+items_here p n env atoms es i e lt is = ap (λ xs. with_items p n env xs atoms) (drop_read es i e lt is) ∙ with_items-cons p n env e (drop (i + 1) es) atoms
 
 items_then : (whole : Outcome (List Atom)) (p : Content) (n : ℕ) (env : Env) (atoms : List Atom) (es : List Expr) (i : ℕ) (e : Expr)
     → whole ≡ with_items p n env (drop i es) atoms → i < length es → e ≡ get_or es i e
@@ -107,7 +92,7 @@ items_taken whole p n env atoms more es i e w lt is taken =
 -- fronts that are added one by one
 fronts_here : (p : Content) (n : ℕ) (env : Env) (atoms : List Atom) (ps : List EventPart) (i : ℕ) (part : EventPart) → i < length ps → part ≡ get_or ps i part
     → with_fronts p n env (drop i ps) atoms ≡ and_then (with_front p n env part atoms) (λ more. with_fronts p n env (drop (i + 1) ps) more)
-fronts_here p n env atoms ps i part lt is = ap (λ xs. with_fronts p n env xs atoms) (left_of ps i part lt is) ∙ fronts-cons p n env part (drop (i + 1) ps) atoms
+fronts_here p n env atoms ps i part lt is = ap (λ xs. with_fronts p n env xs atoms) (drop_read ps i part lt is) ∙ fronts-cons p n env part (drop (i + 1) ps) atoms
 
 pub fronts_fault : (whole : Outcome (List Atom)) (p : Content) (n : ℕ) (env : Env) (atoms : List Atom) (ps : List EventPart) (i : ℕ) (part : EventPart) (k : ValueKind)
     → whole ≡ with_fronts p n env (drop i ps) atoms → i < length ps → part ≡ get_or ps i part → with_front p n env part atoms ≡ Err k → whole ≡ Err k

@@ -1,18 +1,19 @@
 -- Facts that are kept by the places of a lap.
-use Rattle.std.proofs.Common.{◌≡◌, ℕ, ◌<◌, inl, inr, ◌⊎◌, List, [], length, get_or, set, Option, Some, None, Result, Err, IsTrue, sym, ap, subst, ◌∙◌}
+use Rattle.std.proofs.Common.{◌≡◌, ℕ, ◌<◌, inl, inr, ◌⊎◌, List, length, get_or, set, Option, Some, None, Result, Err, IsTrue, sym, ap, subst, ◌∙◌}
 use Rattle.std.proofs.lemmas.Bool.{cases_eq, cases_lt}
 use Rattle.std.proofs.lemmas.List.{get_or-set_same, get_or-set_other, get_or_past, get_or_read}
 use Rattle.csp_tables.specs.Table.{Node, node_at, is_possible}
 use Rattle.csp_tables.specs.Form.{HasForm}
-use Rattle.csp_tables.specs.Part.{Part, part_at}
+use Rattle.csp_tables.specs.Part.{part_at}
 use Rattle.csp_tables.specs.Shape.{Shape}
 use Rattle.observed_runs.specs.Observed.{pair_at}
-use Rattle.observed_runs.proofs.Leading.{listed_step, step_listed, node_form}
+use Rattle.observed_runs.proofs.Leading.{listed_step, step_listed}
 use Rattle.shape_links.specs.Links.{IsOwner}
 use Rattle.cyclic_conditions.specs.Facts.{IsFact, first_at, HasFirst, AreFirsts, IsNoted, Disagree, AreClashing, KeepsFirsts}
 use Rattle.cyclic_conditions.specs.declared.facts.Fact.{Fact}
 use Rattle.cyclic_conditions.specs.declared.facts.FactFault.{FactFault}
 use Rattle.cyclic_conditions.specs.declared.facts.FactFault.TheVariants.{Clash}
+use Rattle.csp_tables.proofs.Runs.{node_form}
 
 same_fact : (f g : Fact) → Some f ≡ Some g → f ≡ g
 same_fact f g h = cc
@@ -105,9 +106,6 @@ pub same_clash : (f g x y : Fact) → failed (Clash f g) ≡ failed (Clash x y) 
 same_clash f g x y h = (cc, cc)
 
 -- ---- what is read of a part
-
-pub part_read : (shape : Shape) (parts : List Part) (i : ℕ) (p : Part) → parts ≡ shape.parts → i < length shape.parts → p ≡ get_or parts i p → p ≡ part_at shape.parts i
-part_read shape parts i p is h at = get_or_read shape.parts i p h (at ∙ ap (λ (ps : List Part). get_or ps i p) is) (record { alphabet = []; table = [] })
 
 pub node_read : (table nodes : List Node) (n : ℕ) (node : Node) → nodes ≡ table → n < length table → node ≡ get_or nodes n node → node ≡ node_at table n
 node_read table nodes n node is h at = get_or_read table n node h (at ∙ ap (λ (ns : List Node). get_or ns n node) is) (record { next = []; accept = [] })

@@ -1,7 +1,7 @@
 -- Acceptances that fall short of a link.
-use Rattle.std.proofs.Common.{◌≡◌, ℕ, ◌<◌, inl, inr, List, [], ◌∷◌, length, get_or, set, Bool, true, false, ◌&&◌, Option, Some, None, IsTrue, nat_eq, nat_le, refl, sym, ap, subst, ◌∙◌, arith, eq-eqb}
+use Rattle.std.proofs.Common.{◌≡◌, ℕ, ◌<◌, inl, inr, List, ◌∷◌, length, get_or, set, true, false, ◌&&◌, Option, Some, None, IsTrue, nat_eq, nat_le, refl, sym, ap, subst, ◌∙◌, arith, eq-eqb}
 use Rattle.std.specs.List.{find}
-use Rattle.std.proofs.lemmas.Bool.{cases_Bool, cases_eq, cond-true, cond-false, and_parts, and_from, or_cases, eqb-true, both_ways, false≢true}
+use Rattle.std.proofs.lemmas.Bool.{cases_Bool, cases_eq, and_parts, and_from, or_cases, eqb-true, both_ways, false≢true}
 use Rattle.std.proofs.lemmas.List.{get_or-set_same, get_or-set_other, get_or_read}
 use Rattle.std.proofs.lemmas.Bool.Decides.{nat_tests}
 use Rattle.csp_base.specs.Members.{has}
@@ -18,6 +18,9 @@ use Rattle.design_rules.proofs.Places.{one_link_at}
 use Rattle.shape_links.specs.Links.{IsOwner}
 use Rattle.cyclic_conditions.specs.Shorts.{IsShort, IsOnOne, IsShortAt, short_at, IsSomeShort, IsMarked, KeepsShorts}
 use Rattle.shape_links.proofs.Links.{owner_end}
+use Rattle.std.proofs.lemmas.Option.{same_Some}
+use Rattle.csp_base.proofs.Listed.{find_has}
+use Rattle.csp_base.proofs.Booleans.{and_second_false}
 
 -- ---- sets
 
@@ -44,30 +47,16 @@ within_subset (y ∷ ys) N w = and_from (has N y) (is_subset_of ys N) (w y (firs
 pub missing : (M N : List ℕ) → is_subset_of M N ≡ false → (e : ℕ) × (has M e ≡ true) × (has N e ≡ false)
 missing [] N h = absurd (false≢true (sym h))
 missing (y ∷ ys) N h = elim (cases_Bool (has N y)) [
-  | inl there ↦ let r = missing ys N (rest (has N y) (is_subset_of ys N) there h) in (r.0, later y ys r.0 r.1, r.2)
+  | inl there ↦ let r = missing ys N (and_second_false (has N y) (is_subset_of ys N) h there) in (r.0, later y ys r.0 r.1, r.2)
   | inr lacks ↦ (y, first y ys, lacks)
 ]
   where
-    rest : (a b : Bool) → a ≡ true → (a && b) ≡ false → b ≡ false
-    rest true b t f = f
-    rest false b t f = absurd (false≢true t)
 
     first : (z : ℕ) (zs : List ℕ) → has (z ∷ zs) z ≡ true
     first z zs = rw (eq-eqb z z refl) refl
 
     later : (z : ℕ) (zs : List ℕ) (e : ℕ) → has zs e ≡ true → has (z ∷ zs) e ≡ true
     later z zs e x = elim (cases_Bool (nat_eq z e)) [ inl k ↦ rw k refl | inr k ↦ rw k x ]
-
--- the first member from 0 on is a member, and there is one where there is any
-find_has : (test : ℕ → Bool) (M : List ℕ) (e : ℕ) → find test M ≡ Some e → has M e ≡ true
-find_has test [] e h = absurd (cc)
-find_has test (x ∷ xs) e h = elim (cases_Bool (test x)) [
-  | inl passes ↦ let same : x ≡ e = some_is x e (sym (cond-true (test x) (Some x) (find test xs) passes) ∙ h) in rw (eq-eqb x e same) refl
-  | inr fails ↦ later x xs e (find_has test xs e (sym (cond-false (test x) (Some x) (find test xs) fails) ∙ h))
-]
-  where
-    some_is : (a b : ℕ) → Some a ≡ Some b → a ≡ b
-    some_is a b k = cc
 
     later : (z : ℕ) (zs : List ℕ) (w : ℕ) → has zs w ≡ true → has (z ∷ zs) w ≡ true
     later z zs w y = elim (cases_Bool (nat_eq z w)) [ inl k ↦ rw k refl | inr k ↦ rw k y ]
@@ -77,13 +66,6 @@ zero_least x = grind (arith, nat_tests)
 
 pub first_found : (M : List ℕ) (e : ℕ) → find (nat_le 0) M ≡ Some e → has M e ≡ true
 first_found M e h = find_has (nat_le 0) M e h
-
-pub none_found : (M : List ℕ) (e : ℕ) → find (nat_le 0) M ≡ None → has M e ≡ true → ⊥
-none_found [] e h x = false≢true x
-none_found (x ∷ xs) e h k = never x (sym (cond-true (nat_le 0 x) (Some x) (find (nat_le 0) xs) (zero_least x)) ∙ h)
-  where
-    never : (a : ℕ) → Some a ≡ None → ⊥
-    never a b = cc
 
 -- ---- short sets
 
@@ -188,12 +170,6 @@ right_whole shape left right l w h marked none s f =
 
 -- ---- marks
 
-some_same : (a b : ℕ) → Some a ≡ Some b → a ≡ b
-some_same a b h = cc
-
-pub some_number : (a b : ℕ) → Some a ≡ Some b → a ≡ b
-some_number a b h = cc
-
 pub mark_keeps : (shorts : List (Option ℕ)) (l n : ℕ) → l < length shorts → KeepsShorts shorts (set shorts l (Some n))
 mark_keeps shorts l n h m x = elim (cases_eq m l) [
   | inl same ↦ (n, subst (λ k. short_at (set shorts l (Some n)) k ≡ Some n) (sym same) (get_or-set_same shorts l (Some n) None h))
@@ -207,7 +183,7 @@ mark_here shorts l n h = (n, get_or-set_same shorts l (Some n) None h)
 pub mark_sound : (P : ℕ → ℕ → Type 0) (shorts : List (Option ℕ)) (l n : ℕ) → l < length shorts → ((m k : ℕ) → short_at shorts m ≡ Some k → P m k) → P l n → (m k : ℕ) → short_at (set shorts l (Some n)) m ≡ Some k → P m k
 mark_sound P shorts l n h all new m k at = elim (cases_eq m l) [
   | inl same ↦
-      let is : n ≡ k = some_same n k (sym (get_or-set_same shorts l (Some n) None h) ∙ subst (λ j. short_at (set shorts l (Some n)) j ≡ Some k) same at) in
+      let is : n ≡ k = same_Some n k (sym (get_or-set_same shorts l (Some n) None h) ∙ subst (λ j. short_at (set shorts l (Some n)) j ≡ Some k) same at) in
       subst (λ j. P j k) (sym same) (subst (P l) is new)
   | inr other ↦ all m k (sym (get_or-set_other shorts l m (Some n) None other) ∙ at)
 ]

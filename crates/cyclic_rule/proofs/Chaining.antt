@@ -1,9 +1,9 @@
 -- Numbers that rise from each link to the next one of a part rise along all orders.
-use Rattle.std.proofs.Common.{◌≡◌, ℕ, zero, suc, ◌+◌, ◌-◌, ◌%◌, ◌<◌, ◌≤◌, inl, inr, ◌⊎◌, List, [], length, get_or, true, false, Some, sym, ap, subst, ◌∙◌, arith}
+use Rattle.std.proofs.Common.{◌≡◌, ℕ, zero, suc, ◌+◌, ◌-◌, ◌%◌, ◌<◌, ◌≤◌, inl, inr, ◌⊎◌, List, length, get_or, true, false, Some, sym, ap, subst, ◌∙◌, arith}
 use Rattle.std.specs.Prelude.{slice_get}
 use Rattle.std.proofs.lemmas.Bool.{cases_Bool, cases_eq, both_ways}
 use Rattle.std.proofs.lemmas.List.{get_or_read}
-use Rattle.std.proofs.lemmas.Option.{slice_get_within, get_or_from_slice_get}
+use Rattle.std.proofs.lemmas.Option.{slice_get_within, get_or_from_slice_get, same_Some}
 use Rattle.std.proofs.lemmas.Nat.{mod_below}
 use Rattle.std.proofs.Math.Nat.{mod-le}
 use Rattle.csp_base.specs.Members.{has}
@@ -17,7 +17,8 @@ use Rattle.design_rules.proofs.Walks.{walk_bound}
 use Rattle.shape_links.specs.Links.{ends_of}
 use Rattle.cyclic_conditions.specs.Orders.{IsOrder, order_at, AreOrders}
 use Rattle.cyclic_rule.specs.Chains.{IsNextIn, IsRestAfter, ComesNext, IsNextAt}
-use Rattle.shape_links.proofs.Links.{ends_sound, ends_complete, place_in, has_place, has_at, some_at}
+use Rattle.shape_links.proofs.Links.{ends_sound, ends_complete, place_in, has_place, some_at}
+use Rattle.csp_base.proofs.Listed.{has_at}
 
 -- ---- orders and numbers
 
@@ -128,9 +129,6 @@ order_all shape orders i n slice row a h same is count k d below =
 pub ends_all : (shape : Shape) (i n : ℕ) (slice : List ℕ) → slice ≡ ends_of shape i → n ≡ length shape.links → (k d : ℕ) → k < length slice → get_or slice k d < n
 ends_all shape i n slice is count k d below = subst (λ m. get_or slice k d < m) (sym count) (subst (λ (xs : List ℕ). k < length xs → get_or xs k d < length shape.links) (sym is) (ends_within shape i k d) below)
 
-some_is : (x y : ℕ) → Some x ≡ Some y → x ≡ y
-some_is x y h = cc
-
 -- an arc from a link that is not in the order
 pub rest_is : (order ends : List ℕ) (j last m k : ℕ) → Some last ≡ slice_get order (length order - 1) → j < length ends → (m ≡ get_or ends j 0) × (k ≡ last) × (has order (get_or ends j 0) ≡ false) → IsRestAfter order ends k m
 rest_is order ends j last m k at below is =
@@ -147,7 +145,7 @@ pub rest_last : (order ends : List ℕ) (last l m : ℕ) → Some last ≡ slice
 rest_last order ends last l m at r =
     let end : length order ≡ r.place + 1 = r.end in
     let same : length order - 1 ≡ r.place = omega arith in
-    some_is last l (at ∙ ap (slice_get order) same ∙ r.last)
+    same_Some last l (at ∙ ap (slice_get order) same ∙ r.last)
 
 -- the arcs of one part more
 pub chains_more : (shape : Shape) (orders : List (List ℕ)) (n : ℕ) (first second ends : List ℕ) (A B D : ℕ → ℕ → Type 0) → first ≡ order_at orders n → second ≡ order_at orders n → ends ≡ ends_of shape n

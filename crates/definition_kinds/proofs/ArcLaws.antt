@@ -12,10 +12,6 @@ use Rattle.script_names.specs.Kinds.{ends_at}
 use Rattle.name_tables.specs.Ends.{rows}
 use Rattle.definition_kinds.specs.Sources.{comes_from, some_from}
 
-pub or_false : (b : Bool) → b ≡ (b || false)
-or_false true = refl
-or_false false = refl
-
 -- one end more
 one_more : (now before first t x e : Bool) → now ≡ (before || (x && e)) → before ≡ (first || (t && e)) → now ≡ (first || ((t || x) && e))
 one_more now before true t x e is so_far = is ∙ ap (λ b. b || (x && e)) so_far

@@ -1,6 +1,6 @@
 -- What definitions are, from what is found of them.
-use Rattle.std.proofs.Common.{◌≡◌, ℕ, zero, suc, ◌+◌, ◌<◌, Bool, false, List, [], ◌∷◌, ◌++◌, ◌⊎◌, inl, inr, length, take, get_or, refl, sym, ap, ◌∙◌, subst, arith}
-use Rattle.std.specs.Prelude.{Some, slice_get, Vec, ◌↔◌, IsTrue, if◌then◌else◌}
+use Rattle.std.proofs.Common.{◌≡◌, ℕ, suc, ◌+◌, ◌<◌, Bool, false, List, ◌∷◌, ◌++◌, ◌⊎◌, inl, inr, length, take, get_or, refl, sym, ap, ◌∙◌, subst, arith}
+use Rattle.std.specs.Prelude.{slice_get, Vec, ◌↔◌, IsTrue, if◌then◌else◌}
 use Rattle.std.specs.List.{flat_map}
 use Rattle.std.specs.declared.alloc.Global.{Global}
 use Rattle.std.proofs.Math.Path.{fun_ext}
@@ -21,24 +21,14 @@ use Rattle.name_tables.specs.Firsts.{SameFirsts}
 use Rattle.definition_kinds.specs.declared.kinds.Found.{Found}
 use Rattle.definition_kinds.specs.Sources.{AreLeading, AreReached, marked}
 use Rattle.definition_kinds.specs.Found.{AreFound, IsFound, class_found, kind_found}
-
--- an element of a list with one more at its end
-snoc_cases : {X : Type 0} (xs : List X) (x : X) (k : ℕ) (y : X) → slice_get (xs ++ x ∷ []) k ≡ Some y → (slice_get xs k ≡ Some y) ⊎ ((k ≡ length xs) × (x ≡ y))
-snoc_cases [] x zero y at = inr (refl, cc)
-snoc_cases [] x (suc k) y at = absurd (cc)
-snoc_cases (z ∷ zs) x zero y at = inl at
-snoc_cases (z ∷ zs) x (suc k) y at =
-    elim (snoc_cases zs x k y at) as (λ _. (slice_get (z ∷ zs) (suc k) ≡ Some y) ⊎ ((suc k ≡ length (z ∷ zs)) × (x ≡ y))) [
-      | inl before ↦ inl before
-      | inr last ↦ inr (ap suc last.0, last.1)
-    ]
+use Rattle.csp_base.proofs.Lists.{push_cases}
 
 pub found_step : (found : Found) (d : ℕ) (kinds new : List Kind) (kind : Kind) → new ≡ kinds ++ kind ∷ [] → kind ≡ kind_found found d → AreFound found d kinds → AreFound found (d + 1) new
 found_step found d kinds new kind new_is is so_far = record {
   one_each = ap length new_is ∙ length-append kinds (kind ∷ []) ∙ ap (λ n. n + 1) so_far.one_each;
   each =
       λ k one at.
-      elim (snoc_cases kinds kind k one (ap (λ (ks : List Kind). slice_get ks k) (sym new_is) ∙ at)) as (λ _. one ≡ kind_found found k) [
+      elim (push_cases kinds kind k one (ap (λ (ks : List Kind). slice_get ks k) (sym new_is) ∙ at)) as (λ _. one ≡ kind_found found k) [
         | inl before ↦ so_far.each k one before
         | inr last ↦ sym last.1 ∙ is ∙ ap (kind_found found) (sym (last.0 ∙ so_far.one_each))
       ];

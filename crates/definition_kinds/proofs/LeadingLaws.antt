@@ -1,5 +1,5 @@
 -- Following ends is walking over arcs that are turned round.
-use Rattle.std.proofs.Common.{◌≡◌, ◌↔◌, ℕ, zero, suc, ◌<◌, true, false, nat_eq, eq-eqb, IsTrue, List, [], ◌∷◌, ◌⊎◌, inl, inr, length, refl, sym, ap, ◌∙◌, subst, arith}
+use Rattle.std.proofs.Common.{◌≡◌, ◌↔◌, ℕ, zero, suc, ◌<◌, true, false, nat_eq, eq-eqb, IsTrue, List, ◌∷◌, ◌⊎◌, inl, inr, length, refl, sym, ap, ◌∙◌, subst, arith}
 use Rattle.std.specs.Prelude.{Some, None, slice_get}
 use Rattle.std.proofs.lemmas.Bool.{or_cases, or_left, eqb-true, false≢true, cases_lt, lt-ltb, ltb-true}
 use Rattle.std.proofs.lemmas.Option.{slice_get_past}
@@ -11,7 +11,8 @@ use Rattle.script_names.specs.declared.kinds.End.{End}
 use Rattle.script_names.specs.declared.kinds.End.TheVariants as end
 use Rattle.script_names.specs.Kinds.{LeadsTo, here, beyond, ends_at}
 use Rattle.definition_kinds.specs.Sources.{AreReached, comes_from, is_last, some_from}
-use Rattle.definition_kinds.proofs.SourceLaws.{at_place, from_last, from_use, place_of, source_cases}
+use Rattle.definition_kinds.proofs.SourceLaws.{from_last, from_use, place_of, source_cases}
+use Rattle.std.proofs.lemmas.Map.Keys.{any_passes_from_place}
 
 only_source : (n s : ℕ) → has (n ∷ []) s ≡ true → s ≡ n
 only_source n s h =
@@ -51,10 +52,10 @@ module _ (g : Digraph) (target : End) (all : List (List End)) (n : ℕ) (count :
   reached : {d : ℕ} → LeadsTo target all d → Reaches (HasArc g) n d
   reached (here d k at) =
       Reaches-arc (HasArc g) n n d (Reaches-itself (HasArc g) n)
-      (arcs n d ∙ at_place (comes_from n target n) (ends_at (slice_get all d)) k target at (from_last n target last))
+      (arcs n d ∙ any_passes_from_place (comes_from n target n) (ends_at (slice_get all d)) k target at (from_last n target last))
   reached (beyond d k next at l) =
       Reaches-arc (HasArc g) n next d (reached l)
-      (arcs next d ∙ at_place (comes_from n target next) (ends_at (slice_get all d)) k (end.Use next) at (from_use n target next (lt-ltb next n (inside l))))
+      (arcs next d ∙ any_passes_from_place (comes_from n target next) (ends_at (slice_get all d)) k (end.Use next) at (from_use n target next (lt-ltb next n (inside l))))
 
   pub are_leading : (found : List ℕ) → ((v : ℕ) → IsTrue (has found v) ↔ ReachesFrom (HasArc g) (n ∷ []) v) → AreReached target all found
   are_leading found members d below = (

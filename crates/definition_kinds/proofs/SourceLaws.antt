@@ -1,8 +1,8 @@
 -- Which vertices ends come from.
-use Rattle.std.proofs.Common.{◌≡◌, ℕ, zero, suc, Bool, true, false, nat_lt, eq-eqb, if◌then◌else◌, List, [], ◌∷◌, ◌⊎◌, inl, inr, refl, sym, ap, ◌∙◌}
+use Rattle.std.proofs.Common.{◌≡◌, ℕ, suc, Bool, true, false, nat_lt, eq-eqb, if◌then◌else◌, List, ◌∷◌, ◌⊎◌, inl, inr, refl, sym, ap, ◌∙◌}
 use Rattle.std.specs.Prelude.{Some, None, slice_get}
 use Rattle.std.specs.List.{list_any}
-use Rattle.std.proofs.lemmas.Bool.{or_cases, or_left, or_right, eqb-true, false≢true}
+use Rattle.std.proofs.lemmas.Bool.{or_cases, eqb-true, false≢true}
 use Rattle.script_names.specs.declared.kinds.End.{End}
 use Rattle.script_names.specs.declared.kinds.End.TheVariants as end
 use Rattle.definition_kinds.specs.Sources.{is_last, is_vertex, comes_from}
@@ -55,8 +55,3 @@ place_of {X} p (x ∷ xs) h =
       | inl here ↦ (0, x, refl, here)
       | inr later ↦ let r = place_of p xs later in (suc r.0, r.1, r.2, r.3)
     ]
-
-pub at_place : {X : Type 0} (p : X → Bool) (xs : List X) (k : ℕ) (x : X) → slice_get xs k ≡ Some x → p x ≡ true → list_any p xs ≡ true
-at_place p [] k x at here = absurd (cc)
-at_place p (y ∷ ys) zero x at here = let same : y ≡ x = cc in or_left (p y) (list_any p ys) (ap p same ∙ here)
-at_place p (y ∷ ys) (suc k) x at here = or_right (p y) (list_any p ys) (at_place p ys k x at here)

@@ -1,5 +1,5 @@
 -- Tests of written-out lists that compute: what passes a test throughout has the property everywhere. For examples.
-use Rattle.std.proofs.Common.{◌≡◌, ℕ, zero, suc, ◌+◌, ◌<◌, ◌≤◌, ◌⊎◌, inl, inr, List, [], ◌∷◌, ◌++◌, length, get_or, Bool, true, false, not, ◌&&◌, cond, nat_eq, refl, sym, ap, subst, ◌∙◌, arith, eqb-true, eq-eqb}
+use Rattle.std.proofs.Common.{◌≡◌, ℕ, zero, suc, ◌+◌, ◌<◌, ◌≤◌, ◌⊎◌, inl, inr, List, ◌∷◌, ◌++◌, length, get_or, Bool, true, false, not, ◌&&◌, cond, nat_eq, refl, sym, ap, subst, ◌∙◌, arith, eqb-true, eq-eqb}
 use Rattle.std.proofs.lemmas.Bool.{cases_Bool, cases_eq, cases_lt, and_parts, and_from, or_cases, or_left, or_right, both_ways, false≢true, cond-true, cond-false}
 use Rattle.csp_base.specs.Members.{has}
 use Rattle.csp_tables.specs.Table.{Node, node_at, is_possible, target, node_after, IsRun, end_of}
@@ -8,7 +8,8 @@ use Rattle.csp_tables.specs.Shape.{Shape}
 use Rattle.design_rules.specs.Counts.{count_in, is_odd}
 use Rattle.design_rules.specs.Assigned.{PartShared}
 use Rattle.design_rules.proofs.Holders.{odd_more, odd_same}
-use Rattle.design_rules.proofs.Runs.{run_induction, end_push}
+use Rattle.design_rules.proofs.Runs.{run_induction}
+use Rattle.csp_tables.proofs.Runs.{end_push}
 
 -- where the first holds, the second does
 abbrev pub implies : Bool → Bool → Bool
@@ -135,14 +136,6 @@ same_truth_is true true h = refl
 same_truth_is true false h = absurd (false≢true h)
 same_truth_is false true h = absurd (false≢true h)
 same_truth_is false false h = refl
-
-pub not_true : (b : Bool) → not b ≡ true → b ≡ false
-not_true true h = absurd (false≢true h)
-not_true false h = refl
-
-pub false_not : (b : Bool) → b ≡ false → not b ≡ true
-false_not true h = sym h
-false_not false h = refl
 
 -- ---- parities, and sets that part what is shared
 

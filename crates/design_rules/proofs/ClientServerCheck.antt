@@ -1,6 +1,6 @@
 -- A test that shows a written-out shape one of clients and servers, with its ranking. For examples.
-use Rattle.std.proofs.Common.{◌≡◌, ℕ, ◌*◌, ◌<◌, inl, inr, pos, ◌-ℤ◌, List, [], ◌∷◌, length, Bool, true, false, not, ◌&&◌, ◌||◌, cond, refl, sym, ap, ◌∙◌}
-use Rattle.std.proofs.lemmas.Bool.{and_parts, and_from, or_cases, both_ways}
+use Rattle.std.proofs.Common.{◌≡◌, ℕ, ◌*◌, ◌<◌, inl, inr, pos, ◌-ℤ◌, List, ◌∷◌, length, Bool, true, false, not, ◌&&◌, ◌||◌, cond, refl, sym, ap, ◌∙◌}
+use Rattle.std.proofs.lemmas.Bool.{and_parts, and_from, or_cases, both_ways, not-true}
 use Rattle.std.specs.Ordering.{int_eq}
 use Rattle.csp_base.specs.Members.{has}
 use Rattle.csp_tables.specs.Table.{end_of}
@@ -13,7 +13,7 @@ use Rattle.digraph.specs.Walk.{IsLongestWalk}
 use Rattle.design_rules.specs.ClientServer.{IsClientOn, has_acknowledgements, is_open, is_request, is_acknowledgement, Serves, KeepRoles}
 use Rattle.design_rules.specs.ClientServerRanking.{IsClientServerRanking}
 use Rattle.design_rules.proofs.Shapes.{turned, first_end}
-use Rattle.design_rules.proofs.Checks.{implies, implied, all_below, below_passes, all_in, member_passes, passes_in, all_steps, step_passes, all_accepted, accepted_passes, same_truth, same_truth_is, not_true, next_parity, parity_told, parts_shared, parts_shared_is}
+use Rattle.design_rules.proofs.Checks.{implies, implied, all_below, below_passes, all_in, member_passes, passes_in, all_steps, step_passes, all_accepted, accepted_passes, same_truth, same_truth_is, next_parity, parity_told, parts_shared, parts_shared_is}
 use Rattle.design_rules.proofs.RankCheck.{parts_fit, fits_is, ranks_equal, all_vertices, vertex_passes, others_zero, others_zero_is, no_laps, no_laps_is}
 
 abbrev sets_of : List RoleSets → ℕ → List (List ℕ)
@@ -31,8 +31,8 @@ is_client : (shape : Shape) (roles : List RoleSets) (l i j : ℕ) → client_tes
 is_client shape roles l i j h = record {
   requests = λ e on. same_truth_is _ _ (and_parts _ _ (and_parts _ _ (member_passes _ (link_at shape l).shared e h on)).0).0;
   acknowledgements = λ e on. same_truth_is _ _ (and_parts _ _ (and_parts _ _ (member_passes _ (link_at shape l).shared e h on)).0).1;
-  no_service = λ e on. let p = and_parts _ _ (and_parts _ _ (and_parts _ _ (member_passes _ (link_at shape l).shared e h on)).1).0 in (not_true _ p.0, not_true _ p.1);
-  no_asking = λ e on. let p = and_parts _ _ (and_parts _ _ (and_parts _ _ (member_passes _ (link_at shape l).shared e h on)).1).1 in (not_true _ p.0, not_true _ p.1);
+  no_service = λ e on. let p = and_parts _ _ (and_parts _ _ (and_parts _ _ (member_passes _ (link_at shape l).shared e h on)).1).0 in (not-true _ p.0, not-true _ p.1);
+  no_asking = λ e on. let p = and_parts _ _ (and_parts _ _ (and_parts _ _ (member_passes _ (link_at shape l).shared e h on)).1).1 in (not-true _ p.0, not-true _ p.1);
 }
 
 -- the link is open at the node of its end
@@ -43,7 +43,7 @@ abbrev apart_test : List ℕ → List ℕ → Bool
 apart_test S M = all_in (λ e. not (has S e)) M
 
 are_apart : (S M : List ℕ) → apart_test S M ≡ true → AreApart M S
-are_apart S M h e m s = both_ways (has S e) (not_true (has S e) (member_passes (λ x. not (has S x)) M e h m)) s
+are_apart S M h e m s = both_ways (has S e) (not-true (has S e) (member_passes (λ x. not (has S x)) M e h m)) s
 
 -- every part and link
 abbrev all_ends : Shape → (ℕ → ℕ → Bool) → Bool
@@ -66,7 +66,7 @@ pub record IsTestedRoles (shape : Shape) (roles : List RoleSets) (told : ℕ →
 open_told : (shape : Shape) (roles : List RoleSets) (told : ℕ → ℕ → ℕ → Bool) → IsTestedRoles shape roles told → (i l : ℕ) (s : List ℕ) → RunsTo shape i s → l < length shape.links → is_open shape roles l s ≡ (has_acknowledgements shape roles l && told i l (end_of (part_at shape.parts i).table 0 s))
 open_told shape roles told c i l s runs h =
     ap (λ b. has_acknowledgements shape roles l && b)
-    (parity_told (part_at shape.parts i).table (link_at shape l).shared (told i l) (sym (not_true (told i l 0) (end_passes shape _ i l c.start runs.part h))) (end_passes shape _ i l c.steps runs.part h) s runs.follows)
+    (parity_told (part_at shape.parts i).table (link_at shape l).shared (told i l) (sym (not-true (told i l 0) (end_passes shape _ i l c.start runs.part h))) (end_passes shape _ i l c.steps runs.part h) s runs.follows)
 
 pub keep_roles : (shape : Shape) (roles : List RoleSets) (told : ℕ → ℕ → ℕ → Bool) → IsTestedRoles shape roles told → KeepRoles shape roles
 keep_roles shape roles told c = record {

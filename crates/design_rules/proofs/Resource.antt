@@ -1,6 +1,6 @@
 -- The ranking of a network of users and resources falls along ungranted requests.
-use Rattle.std.proofs.Common.{◌≡◌, ℕ, zero, suc, ◌+◌, ◌-◌, ◌*◌, ◌<◌, ◌≤◌, ◌⊎◌, inl, inr, ℤ, pos, ◌<ℤ◌, List, [], ◌∷◌, length, Bool, true, false, not, cond, IsTrue, nat_eq, refl, sym, ap, subst, ◌∙◌, arith, eqb-true}
-use Rattle.std.proofs.lemmas.Bool.{cases_Bool, cases_lt, cases_eq, both_ways, false≢true, and_parts, and_from, or_cases, or_left, or_right, cond-true, cond-false}
+use Rattle.std.proofs.Common.{◌≡◌, ℕ, zero, suc, ◌+◌, ◌-◌, ◌*◌, ◌<◌, ◌≤◌, ◌⊎◌, inl, inr, ℤ, pos, ◌<ℤ◌, List, ◌∷◌, length, Bool, true, false, not, cond, IsTrue, refl, sym, ap, subst, ◌∙◌, arith}
+use Rattle.std.proofs.lemmas.Bool.{cases_Bool, cases_lt, cases_eq, both_ways, and_parts, and_from, cond-true, cond-false}
 use Rattle.std.proofs.lemmas.Int.{ints}
 use Rattle.std.specs.List.{list_any}
 use Rattle.csp_base.specs.Members.{has}
@@ -19,16 +19,9 @@ use Rattle.design_rules.proofs.Shapes.{turned, first_end, link_events, own_run, 
 use Rattle.design_rules.proofs.Holders.{Resource, turns, one_link}
 use Rattle.design_rules.proofs.ClientServer.{no_scale}
 use Rattle.design_rules.proofs.Walks.{no_circle}
+use Rattle.csp_base.proofs.Listed.{any_of}
 
 -- ---- what is acquired
-
-any_of : (test : ℕ → Bool) (M : List ℕ) (e : ℕ) → has M e ≡ true → test e ≡ true → list_any test M ≡ true
-any_of test [] e h t = absurd (false≢true h)
-any_of test (x ∷ M) e h t =
-    elim (or_cases (nat_eq x e) (has M e) h) [
-      | inl same ↦ or_left _ _ (subst (λ y. test y ≡ true) (sym (eqb-true x e same)) t)
-      | inr rest ↦ or_right _ _ (any_of test M e rest t)
-    ]
 
 acquires_by : (uses : List UseSets) (M : List ℕ) (j e : ℕ) → (use_at uses j).resource ≡ true → IsTrue (has M e) → IsTrue (has (use_at uses j).acquire e) → IsTrue (acquires uses M j)
 acquires_by uses M j e r h a = and_from _ _ r (any_of (λ x. has (use_at uses j).acquire x) M e h a)
@@ -63,7 +56,7 @@ least_of test number (suc n) =
       ]
     ]
 
-below_top : (uses : List UseSets) (number : ℕ → ℕ) (n j : ℕ) → j < n → (use_at uses j).resource ≡ true → number j ≤ top_number uses number n
+pub below_top : (uses : List UseSets) (number : ℕ → ℕ) (n j : ℕ) → j < n → (use_at uses j).resource ≡ true → number j ≤ top_number uses number n
 below_top uses number zero j h r = absurd (omega arith)
 below_top uses number (suc n) j h r =
     elim (cases_eq j n) [

@@ -1,6 +1,6 @@
 -- A test that shows a written-out shape one of users and resources, with its ranking. For examples.
-use Rattle.std.proofs.Common.{◌≡◌, ℕ, ◌+◌, ◌-◌, ◌*◌, ◌<◌, inl, inr, pos, List, [], ◌∷◌, ◌++◌, length, Option, Some, None, Bool, true, false, not, ◌&&◌, cond, nat_eq, nat_lt, refl, sym, ap, subst, ◌∙◌, eqb-true, eq-eqb, ltb-true}
-use Rattle.std.proofs.lemmas.Bool.{cases_Bool, and_parts, and_from, false≢true, cond-true, cond-false}
+use Rattle.std.proofs.Common.{◌≡◌, ℕ, ◌+◌, ◌-◌, ◌*◌, ◌<◌, inl, inr, pos, List, ◌∷◌, ◌++◌, length, Option, Some, None, Bool, true, false, not, ◌&&◌, cond, nat_eq, nat_lt, refl, sym, ap, subst, ◌∙◌, eqb-true, eq-eqb, ltb-true}
+use Rattle.std.proofs.lemmas.Bool.{cases_Bool, and_parts, and_from, false≢true, cond-true, cond-false, not-true, not_from_false}
 use Rattle.std.specs.Ordering.{int_eq}
 use Rattle.csp_base.specs.Members.{has}
 use Rattle.csp_tables.specs.Table.{end_of}
@@ -13,7 +13,7 @@ use Rattle.design_rules.specs.Counts.{count_in, is_odd}
 use Rattle.design_rules.specs.Resource.{is_held, last_from, IsHolder, holds, KeepUses, acquires, ResourcesRise}
 use Rattle.design_rules.specs.ResourceRanking.{top_number, AreResourceRanks}
 use Rattle.design_rules.proofs.Holders.{last_more, last_same, odd_more, odd_same}
-use Rattle.design_rules.proofs.Checks.{implies, implied, all_below, below_passes, passes_below, all_in, member_passes, all_steps, step_passes, all_accepted, accepted_passes, same_truth, same_truth_is, not_true, false_not, next_parity, parity_told, parts_shared, parts_shared_is, observed}
+use Rattle.design_rules.proofs.Checks.{implies, implied, all_below, below_passes, passes_below, all_in, member_passes, all_steps, step_passes, all_accepted, accepted_passes, same_truth, same_truth_is, next_parity, parity_told, parts_shared, parts_shared_is, observed}
 use Rattle.design_rules.proofs.RankCheck.{parts_fit, fits_is, ranks_equal, all_vertices, vertex_passes, others_zero, others_zero_is, no_laps, no_laps_is}
 
 -- ---- what tells the holder: the last shared event while there was an odd number of them
@@ -146,8 +146,8 @@ holder_told shape uses held parity c i l s r runs odd h =
 pub holds_told : (shape : Shape) (uses : List UseSets) (held : ℕ → ℕ → Option ℕ) (parity : ℕ → ℕ → ℕ → Bool) → IsTestedUses shape uses held parity → (i l : ℕ) (s : List ℕ) → (use_at uses i).resource ≡ false → l < length shape.links → RunsTo shape i s → holds shape l s ≡ parity i l (end_of (part_at shape.parts i).table 0 s)
 holds_told shape uses held parity c i l s u h runs =
     parity_told (part_at shape.parts i).table (link_at shape l).shared (parity i l)
-    (sym (not_true (parity i l 0) (below_passes _ (length shape.links) l (implied _ _ (below_passes _ (length shape.parts) i c.parity_start runs.part) (false_not _ u)) h)))
-    (below_passes _ (length shape.links) l (implied _ _ (below_passes _ (length shape.parts) i c.parity_steps runs.part) (false_not _ u)) h)
+    (sym (not-true (parity i l 0) (below_passes _ (length shape.links) l (implied _ _ (below_passes _ (length shape.parts) i c.parity_start runs.part) (not_from_false _ u)) h)))
+    (below_passes _ (length shape.links) l (implied _ _ (below_passes _ (length shape.parts) i c.parity_steps runs.part) (not_from_false _ u)) h)
     s runs.follows
 
 pub keep_uses : (shape : Shape) (uses : List UseSets) (held : ℕ → ℕ → Option ℕ) (parity : ℕ → ℕ → ℕ → Bool) → IsTestedUses shape uses held parity → KeepUses shape uses
@@ -163,7 +163,7 @@ keep_uses shape uses held parity c = record {
     by_holder = λ l e possible v odd h. implied _ _ (implied _ _ (step_passes _ (part_at shape.parts i).table (end_of (part_at shape.parts i).table 0 s) e (below_passes _ (length shape.links) l (implied _ _ (below_passes _ (length shape.parts) i c.by_holder possible.runs.part) r) h.within) possible.next) (holder_told shape uses held parity c i l s r possible.runs odd h)) v;
   };
   grants = λ i s r. record {
-    when_free = λ k a even e m. member_passes _ (use_at uses i).acquire e (implied _ _ (accepted_passes _ (part_at shape.parts i).table (end_of (part_at shape.parts i).table 0 s) k (implied _ _ (below_passes _ (length shape.parts) i c.when_free a.runs.part) r) a.listed) (false_not _ (sym (is_held_told shape uses held parity c i s r a.runs) ∙ even))) m;
+    when_free = λ k a even e m. member_passes _ (use_at uses i).acquire e (implied _ _ (accepted_passes _ (part_at shape.parts i).table (end_of (part_at shape.parts i).table 0 s) k (implied _ _ (below_passes _ (length shape.parts) i c.when_free a.runs.part) r) a.listed) (not_from_false _ (sym (is_held_told shape uses held parity c i s r a.runs) ∙ even))) m;
     when_held = λ l k e a odd h m on. implied _ _ (member_passes _ (use_at uses i).release e (implied _ _ (accepted_passes _ (part_at shape.parts i).table (end_of (part_at shape.parts i).table 0 s) k (below_passes _ (length shape.links) l (implied _ _ (below_passes _ (length shape.parts) i c.when_held a.runs.part) r) h.within) a.listed) (holder_told shape uses held parity c i l s r a.runs odd h)) m) on;
   };
   turns = λ i s u j l e joins possible on.
@@ -172,10 +172,10 @@ keep_uses shape uses held parity c = record {
       ∙ elim joins.ends [
         | inl x ↦
             subst (λ p. cond (parity i l n) (has (use_at uses p).release e) (has (use_at uses p).acquire e) ≡ true) x.1
-            (implied _ _ (step_passes _ (part_at shape.parts i).table n e (implied _ _ (below_passes _ (length shape.links) l (implied _ _ (below_passes _ (length shape.parts) i c.uses_left possible.runs.part) (false_not _ u)) joins.within) (eq-eqb _ _ x.0)) possible.next) on)
+            (implied _ _ (step_passes _ (part_at shape.parts i).table n e (implied _ _ (below_passes _ (length shape.links) l (implied _ _ (below_passes _ (length shape.parts) i c.uses_left possible.runs.part) (not_from_false _ u)) joins.within) (eq-eqb _ _ x.0)) possible.next) on)
         | inr x ↦
             subst (λ p. cond (parity i l n) (has (use_at uses p).release e) (has (use_at uses p).acquire e) ≡ true) x.0
-            (implied _ _ (step_passes _ (part_at shape.parts i).table n e (implied _ _ (below_passes _ (length shape.links) l (implied _ _ (below_passes _ (length shape.parts) i c.uses_right possible.runs.part) (false_not _ u)) joins.within) (eq-eqb _ _ x.1)) possible.next) on)
+            (implied _ _ (step_passes _ (part_at shape.parts i).table n e (implied _ _ (below_passes _ (length shape.links) l (implied _ _ (below_passes _ (length shape.parts) i c.uses_right possible.runs.part) (not_from_false _ u)) joins.within) (eq-eqb _ _ x.1)) possible.next) on)
       ];
 }
 
@@ -193,7 +193,7 @@ resources_rise shape uses number held parity c h m j x =
     let a = x.accepts in
     let n = end_of (part_at shape.parts x.user).table 0 x.run in
     let both = and_from _ _ x.acquiring (sym (holds_told shape uses held parity c x.user x.link x.run x.is_user x.joins.within a.runs) ∙ x.holding) in
-    let tested = below_passes _ (length shape.parts) j (below_passes _ (length shape.links) x.link (implied _ _ (below_passes _ (length shape.parts) x.user h a.runs.part) (false_not _ x.is_user)) x.joins.within) x.within in
+    let tested = below_passes _ (length shape.parts) j (below_passes _ (length shape.links) x.link (implied _ _ (below_passes _ (length shape.parts) x.user h a.runs.part) (not_from_false _ x.is_user)) x.joins.within) x.within in
     let p = and_parts _ _ (implied _ _ (accepted_passes (rise_test shape uses number parity x.user x.link j) (part_at shape.parts x.user).table n x.place tested a.listed) both) in
     elim x.joins.ends [
       | inl e ↦ subst (λ k. number k < number j) e.1 (ltb-true _ _ (implied _ _ p.0 (eq-eqb _ _ e.0)))
@@ -219,10 +219,10 @@ use_ranks shape uses number top held parity ranking c r = record {
   greatest = eqb-true _ _ r.greatest;
   fits = fits_is shape ranking r.fits;
   scale = ranks_equal _ _ r.scale;
-  free = λ i s k res a even. ranks_equal _ _ (implied _ _ (vertex_passes shape _ i (end_of (part_at shape.parts i).table 0 s) k r.while_free a.accepts.runs.part a.accepts.listed) (and_from _ _ res (false_not _ (sym (is_held_told shape uses held parity c i s res a.accepts.runs) ∙ even))));
+  free = λ i s k res a even. ranks_equal _ _ (implied _ _ (vertex_passes shape _ i (end_of (part_at shape.parts i).table 0 s) k r.while_free a.accepts.runs.part a.accepts.listed) (and_from _ _ res (not_from_false _ (sym (is_held_told shape uses held parity c i s res a.accepts.runs) ∙ even))));
   held = λ i s k res a odd. ranks_equal _ _ (implied _ _ (vertex_passes shape _ i (end_of (part_at shape.parts i).table 0 s) k r.while_held a.accepts.runs.part a.accepts.listed) (and_from _ _ res (sym (is_held_told shape uses held parity c i s res a.accepts.runs) ∙ odd)));
-  acquiring = λ i s k j u a h m least. ranks_equal _ _ (implied _ _ (vertex_passes shape _ i (end_of (part_at shape.parts i).table 0 s) k (below_passes _ (length shape.parts) j r.acquiring h) a.accepts.runs.part a.accepts.listed) (and_from _ _ (false_not _ u) m));
-  not_acquiring = λ i s k u a nothing. ranks_equal _ _ (implied _ _ (vertex_passes shape _ i (end_of (part_at shape.parts i).table 0 s) k r.not_acquiring a.accepts.runs.part a.accepts.listed) (and_from _ _ (false_not _ u) (passes_below _ (length shape.parts) (λ m h. false_not _ (nothing m h)))));
+  acquiring = λ i s k j u a h m least. ranks_equal _ _ (implied _ _ (vertex_passes shape _ i (end_of (part_at shape.parts i).table 0 s) k (below_passes _ (length shape.parts) j r.acquiring h) a.accepts.runs.part a.accepts.listed) (and_from _ _ (not_from_false _ u) m));
+  not_acquiring = λ i s k u a nothing. ranks_equal _ _ (implied _ _ (vertex_passes shape _ i (end_of (part_at shape.parts i).table 0 s) k r.not_acquiring a.accepts.runs.part a.accepts.listed) (and_from _ _ (not_from_false _ u) (passes_below _ (length shape.parts) (λ m h. not_from_false _ (nothing m h)))));
   others = others_zero_is shape ranking r.fits r.others;
   laps = no_laps_is shape ranking r.laps;
 }

@@ -1,24 +1,15 @@
 -- Runs of a table, one event after another at their end.
-use Rattle.std.proofs.Common.{◌≡◌, ℕ, zero, suc, ◌+◌, ◌<◌, ◌≤◌, inl, inr, List, [], ◌∷◌, ◌++◌, length, get_or, Bool, true, false, IsTrue, nat_eq, refl, sym, subst, arith, append_assoc, append-nil}
-use Rattle.std.proofs.lemmas.Bool.{and_from, and_parts, or_cases, eqb-true, false≢true, cases_Bool, cond-true, cond-false, both_ways}
+use Rattle.std.proofs.Common.{◌≡◌, ℕ, ◌+◌, ◌<◌, ◌≤◌, inl, inr, List, ◌∷◌, ◌++◌, length, get_or, Bool, true, false, IsTrue, nat_eq, refl, sym, subst, arith, append_assoc, append-nil}
+use Rattle.std.proofs.lemmas.Bool.{and_parts, or_cases, eqb-true, false≢true, cases_Bool, cond-true, cond-false, both_ways}
 use Rattle.csp_base.specs.Members.{has}
 use Rattle.csp_tables.specs.Table.{Node, node_at, is_possible, target, node_after, is_run, IsRun, end_of}
 use Rattle.csp_tables.specs.Part.{Part}
-use Rattle.csp_tables.specs.Form.{HasForm, NodesHaveForm, StepsHaveForm}
+use Rattle.csp_tables.specs.Form.{HasForm, StepsHaveForm}
 use Rattle.csp_tables.specs.Ranking.{laps_from, lap_of}
+use Rattle.csp_tables.proofs.Runs.{run_push, end_push, node_form}
 
 abbrev pub possible_after : List Node → List ℕ → ℕ → Bool
 possible_after table u e = is_possible (node_at table (end_of table 0 u)).next e
-
-run_push : (table : List Node) (n : ℕ) (u : List ℕ) (e : ℕ) → is_run table n u ≡ true → is_possible (node_at table (end_of table n u)).next e ≡ true → is_run table n (u ++ e ∷ []) ≡ true
-run_push table n [] e h k = and_from _ _ k refl
-run_push table n (x ∷ u) e h k =
-    let p = and_parts (is_possible (node_at table n).next x) (is_run table (node_after table n x) u) h in
-    and_from _ _ p.0 (run_push table (node_after table n x) u e p.1 k)
-
-pub end_push : (table : List Node) (n : ℕ) (u : List ℕ) (e : ℕ) → end_of table n (u ++ e ∷ []) ≡ node_after table (end_of table n u) e
-end_push table n [] e = refl
-end_push table n (x ∷ u) e = end_push table (node_after table n x) u e
 
 pub laps_push : (table : List Node) (laps : List (List ℕ)) (n : ℕ) (u : List ℕ) (e : ℕ) → laps_from table laps n (u ++ e ∷ []) ≡ laps_from table laps n u + lap_of (node_at table (end_of table n u)).next (get_or laps (end_of table n u) []) e
 laps_push table laps n [] e = omega arith
@@ -49,11 +40,6 @@ step_form a m (step ∷ steps) e form h =
   where
     later : nat_eq step.0 e ≡ false → is_possible steps e ≡ true
     later other = elim (or_cases (nat_eq step.0 e) (is_possible steps e) h) [ inl k ↦ absurd (both_ways _ other k) | inr k ↦ k ]
-
-node_form : (a : List ℕ) (m : ℕ) (nodes : List Node) (n : ℕ) → NodesHaveForm a m nodes → StepsHaveForm a m (node_at nodes n).next
-node_form a m [] n form = tt
-node_form a m (node ∷ nodes) zero form = form.0
-node_form a m (node ∷ nodes) (suc n) form = node_form a m nodes n form.2
 
 -- a possible event is of the alphabet
 pub possible_within : (p : Part) (n e : ℕ) → HasForm p → IsTrue (is_possible (node_at p.table n).next e) → IsTrue (has p.alphabet e)

@@ -1,6 +1,6 @@
 -- What a well-formed shape gives: the links of shared events, and what an ungranted request is in it.
-use Rattle.std.proofs.Common.{◌≡◌, ℕ, zero, suc, ◌+◌, ◌<◌, ◌≤◌, inl, inr, List, [], ◌∷◌, length, true, false, IsTrue, nat_eq, sym, subst, arith, eq-eqb}
-use Rattle.std.proofs.lemmas.Bool.{cases_Bool, cases_order, cond-true, cond-false, or_cases, or_left, or_right, eqb-true}
+use Rattle.std.proofs.Common.{◌≡◌, ℕ, zero, suc, ◌+◌, ◌<◌, ◌≤◌, inl, inr, List, ◌∷◌, length, IsTrue, nat_eq, sym, subst, arith, eq-eqb}
+use Rattle.std.proofs.lemmas.Bool.{cases_Bool, cases_order, or_cases, or_left, or_right, eqb-true}
 use Rattle.csp_base.specs.Members.{has}
 use Rattle.design_rules.specs.Counts.{count_in}
 use Rattle.csp_tables.specs.Table.{end_of}
@@ -15,14 +15,9 @@ use Rattle.net_sound.proofs.Sharers.{at_two}
 use Rattle.net_sound.proofs.Within.{acceptance_within, part_form}
 use Rattle.design_rules.proofs.Counts.{count_project}
 use Rattle.design_rules.proofs.Runs.{end_within}
+use Rattle.csp_tables.proofs.Runs.{sharers_own, sharers_other}
 
 -- ---- who shares an event
-
-own : (a : List ℕ) (others : List (List ℕ)) (e : ℕ) → has a e ≡ true → sharers (a ∷ others) e ≡ sharers others e + 1
-own a others e h = cond-true (has a e) (sharers others e + 1) (sharers others e) h
-
-strange : (a : List ℕ) (others : List (List ℕ)) (e : ℕ) → has a e ≡ false → sharers (a ∷ others) e ≡ sharers others e
-strange a others e h = cond-false (has a e) (sharers others e + 1) (sharers others e) h
 
 pub record Sharer (ps : List Part) (e : ℕ) : Type 0 where
   pub place : ℕ
@@ -35,7 +30,7 @@ sharer (p ∷ ps) e h =
     elim (cases_Bool (has p.alphabet e)) [
       | inl k ↦ record { place = 0; within = omega arith; owned = k }
       | inr k ↦
-          let r = sharer ps e (omega (arith, strange p.alphabet (alphabets_of ps) e k)) in
+          let r = sharer ps e (omega (arith, sharers_other p.alphabet (alphabets_of ps) e k)) in
           record { place = suc r.place; within = let l : r.place < length ps = r.within in omega arith; owned = r.owned }
     ]
 
@@ -48,13 +43,13 @@ record Another (ps : List Part) (i e : ℕ) : Type 0 where
 another : (ps : List Part) (i e : ℕ) → i < length ps → IsTrue (has (part_at ps i).alphabet e) → 2 ≤ sharers (alphabets_of ps) e → Another ps i e
 another [] i e h k m = absurd (omega arith)
 another (p ∷ ps) zero e h k m =
-    let r = sharer ps e (omega (arith, own p.alphabet (alphabets_of ps) e k)) in
+    let r = sharer ps e (omega (arith, sharers_own p.alphabet (alphabets_of ps) e k)) in
     record { place = suc r.place; within = let l : r.place < length ps = r.within in omega arith; distinct = λ same. omega arith; owned = r.owned }
 another (p ∷ ps) (suc i) e h k m =
     elim (cases_Bool (has p.alphabet e)) [
       | inl x ↦ record { place = 0; within = omega arith; distinct = λ same. omega arith; owned = x }
       | inr x ↦
-          let r = another ps i e (omega arith) k (omega (arith, strange p.alphabet (alphabets_of ps) e x)) in
+          let r = another ps i e (omega arith) k (omega (arith, sharers_other p.alphabet (alphabets_of ps) e x)) in
           record { place = suc r.place; within = let l : r.place < length ps = r.within in omega arith; distinct = λ same. r.distinct (omega arith); owned = r.owned }
     ]
 

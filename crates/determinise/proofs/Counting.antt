@@ -1,5 +1,5 @@
 -- How many sets traces lead to.
-use Rattle.std.proofs.Common.{◌≡◌, ℕ, zero, suc, ◌+◌, ◌<◌, ◌≤◌, inl, inr, true, false, nat_eq, IsTrue, List, [], ◌∷◌, ◌++◌, length, get_or, refl, sym, ap, subst, ◌∙◌, arith}
+use Rattle.std.proofs.Common.{◌≡◌, ℕ, zero, suc, ◌+◌, ◌<◌, ◌≤◌, inl, inr, true, false, nat_eq, IsTrue, List, ◌∷◌, ◌++◌, length, get_or, refl, sym, ap, subst, ◌∙◌, arith}
 use Rattle.std.specs.Prelude.{map}
 use Rattle.std.specs.List.{list_any, IsDistinct}
 use Rattle.std.specs.List.Sorted.{IsStrictlyIncreasing}
@@ -15,9 +15,9 @@ use Rattle.csp_tables.specs.Table.{Node, end_of}
 use Rattle.determinise.specs.ManySets.{HaveSameStates, ReachesSets}
 use Rattle.determinise.specs.Progress.{set_at, AreReachedSets, AreNodesSoFar}
 use Rattle.term_sets.specs.TermSets.{IsSetAfter}
-use Rattle.determinise.proofs.Groups.{same_tests}
 use Rattle.term_sets.proofs.MoveLists.{any_place}
 use Rattle.determinise.proofs.Runs.{ends_at}
+use Rattle.csp_base.proofs.Booleans.{same_tests}
 
 -- traces to the first sets
 record TracesTo (raw : RawTable) (sets : List (List ℕ)) (n : ℕ) : Type 0 where

@@ -1,5 +1,5 @@
 -- Steps in the order of their events, cut into groups of one event.
-use Rattle.std.proofs.Common.{◌≡◌, ℕ, zero, suc, ◌+◌, ◌-◌, ◌<◌, ◌≤◌, inl, inr, Bool, true, false, not, ◌||◌, nat_eq, List, [], ◌∷◌, length, get_or, take, drop, refl, sym, ap, subst, ◌∙◌, arith, eq-eqb}
+use Rattle.std.proofs.Common.{◌≡◌, ℕ, zero, suc, ◌+◌, ◌-◌, ◌<◌, ◌≤◌, inl, inr, true, not, ◌||◌, nat_eq, List, ◌∷◌, length, get_or, take, drop, refl, sym, ap, subst, ◌∙◌, arith, eq-eqb}
 use Rattle.std.specs.Prelude.{map}
 use Rattle.std.specs.List.{All}
 use Rattle.std.specs.List.Sorted.{IsNonDecreasingBy}
@@ -13,11 +13,7 @@ use Rattle.term_sets.specs.Moves.{has_event, has_move, IsNextSet}
 use Rattle.determinise.specs.Progress.{IsSomeNextSet}
 use Rattle.term_sets.specs.TermSets.{IsSilentClosure}
 use Rattle.term_sets.proofs.MoveLists.{any_place, place_of_move, listed_at}
-
-pub same_tests : (a b : Bool) → (a ≡ true → b ≡ true) → (b ≡ true → a ≡ true) → a ≡ b
-same_tests true b f g = sym (f refl)
-same_tests false true f g = g refl
-same_tests false false f g = refl
+use Rattle.csp_base.proofs.Booleans.{same_tests}
 
 -- the event and the target in a place
 abbrev pub event_at : List (ℕ × ℕ) → ℕ → ℕ

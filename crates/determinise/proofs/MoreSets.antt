@@ -1,5 +1,5 @@
 -- Sets of terms that are added behind others: one more, none, and more after more.
-use Rattle.std.proofs.Common.{◌≡◌, ℕ, suc, ◌+◌, ◌<◌, ◌≤◌, inl, inr, true, false, nat_eq, Some, List, [], ◌∷◌, ◌++◌, length, slice_get, refl, sym, ap, subst, ◌∙◌, arith, eq-eqb}
+use Rattle.std.proofs.Common.{◌≡◌, ℕ, suc, ◌+◌, ◌<◌, ◌≤◌, inl, inr, true, false, nat_eq, Some, List, ◌∷◌, ◌++◌, length, slice_get, refl, sym, ap, subst, ◌∙◌, arith}
 use Rattle.std.specs.Set.{is_member}
 use Rattle.std.specs.Cmp.Lexicographic.{pointwise}
 use Rattle.std.proofs.lemmas.Bool.{cases_Bool, cases_lt, cond-true, cond-false, false≢true}
@@ -10,11 +10,7 @@ use Rattle.std.proofs.Math.Seq.{get_or-append_seam}
 use Rattle.containers.specs.Members.{with_new}
 use Rattle.csp_tables.specs.BreadthFirst.{MeetsInOrder}
 use Rattle.determinise.specs.Progress.{set_at, AreMoreSets}
-
--- a list is equal to itself by the test
-same_list : (xs : List ℕ) → pointwise nat_eq xs xs ≡ true
-same_list [] = refl
-same_list (x ∷ xs) = let first : nat_eq x x ≡ true = eq-eqb x x refl in rw first (same_list xs)
+use Rattle.csp_base.proofs.Lists.{same_list}
 
 -- a set that stands in some place is among the sets
 member_at : (sets : List (List ℕ)) (n : ℕ) (x : List ℕ) → n < length sets → set_at sets n ≡ x → is_member (pointwise nat_eq) sets x ≡ true

@@ -1,5 +1,5 @@
 -- Runs of the table of all sets are the traces of the numbered table, and its acceptances are theirs.
-use Rattle.std.proofs.Common.{◌≡◌, ℕ, ◌<◌, Bool, true, false, ◌&&◌, IsTrue, List, [], ◌∷◌, ◌++◌, length, get_or, refl, sym, subst, ◌∙◌}
+use Rattle.std.proofs.Common.{◌≡◌, ℕ, ◌<◌, true, ◌&&◌, IsTrue, List, ◌∷◌, ◌++◌, length, get_or, refl, sym, subst, ◌∙◌}
 use Rattle.std.specs.Cmp.{first_so, second_so}
 use Rattle.std.specs.List.{All}
 use Rattle.std.proofs.lemmas.List.{append-nil, append_assoc, get_or_default}
@@ -13,10 +13,7 @@ use Rattle.csp_tables.specs.NormalTable.{HasAcceptances, IsRisingNode}
 use Rattle.determinise.specs.Progress.{set_at, AreNodeSteps, IsNodeOf, AreReachedSets, AreNodesSoFar}
 use Rattle.term_sets.specs.TermSets.{IsSetAfter}
 use Rattle.determinise.proofs.Exploring.{move_after, next_after, event_of_move}
-
-both_true : (a b : Bool) → a ≡ true → b ≡ true → (a && b) ≡ true
-both_true true b p q = q
-both_true false b p q = p
+use Rattle.std.proofs.lemmas.Bool.{and_from}
 
 -- ---- acceptances of a set are those after its trace
 module _ (raw : RawTable) (s set : List ℕ) (after : IsSetAfter raw s set) where
@@ -60,7 +57,7 @@ module _ (raw : RawTable) (sets : List (List ℕ)) (nodes : List Node) (so_far :
         run = λ t.
             let m = move_after raw p (set_at sets n) moves after node.steps.1 e w t.0 t.1 in
             let possible : is_possible (node_at nodes n).next e ≡ true = steps.events e ∙ event_of_move moves e m.to m.move in
-            both_true (is_possible (node_at nodes n).next e) (is_run nodes (node_after nodes n e) w) possible ((rest possible).run (subst (IsTrace (RawStep raw) 0) (sym longer) t));
+            and_from (is_possible (node_at nodes n).next e) (is_run nodes (node_after nodes n e) w) possible ((rest possible).run (subst (IsTrace (RawStep raw) 0) (sym longer) t));
         within = λ r. (rest (first_so (is_possible (node_at nodes n).next e) (is_run nodes (node_after nodes n e) w) r)).within (second_so (is_possible (node_at nodes n).next e) (is_run nodes (node_after nodes n e) w) r);
         ends = λ r. subst (λ (x : List ℕ). IsSetAfter raw x (set_at sets (end_of nodes (node_after nodes n e) w))) longer ((rest (first_so (is_possible (node_at nodes n).next e) (is_run nodes (node_after nodes n e) w) r)).ends (second_so (is_possible (node_at nodes n).next e) (is_run nodes (node_after nodes n e) w) r));
       }

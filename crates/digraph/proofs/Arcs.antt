@@ -1,5 +1,5 @@
 -- What an arc that is added changes, and where arcs begin and end.
-use Rattle.std.proofs.Common.{◌≡◌, ℕ, ◌<◌, Bool, true, false, ◌==◌, ◌&&◌, ◌||◌, nat_eq, eq-eqb, [], ◌∷◌, ◌++◌, length, set, get_or, refl, sym, ap, ◌∙◌, inl, inr, get_or-set_same, get_or-set_other}
+use Rattle.std.proofs.Common.{◌≡◌, ℕ, ◌<◌, ◌==◌, ◌&&◌, ◌||◌, nat_eq, eq-eqb, ◌∷◌, ◌++◌, length, set, get_or, refl, sym, ap, ◌∙◌, inl, inr, get_or-set_same, get_or-set_other}
 use Rattle.std.specs.List.{All}
 use Rattle.csp_base.specs.Members.{has}
 use Rattle.std.proofs.lemmas.List.{length-set, get_or_past, get_or_read, get_or_default}
@@ -7,6 +7,7 @@ use Rattle.std.proofs.lemmas.List.Folds.{list_any-append, list_any_at, Any-from_
 use Rattle.std.proofs.lemmas.Bool.{cases_eq, cases_lt, or_cases, and_parts, eqb-true, ne_eqb, false≢true}
 use Rattle.digraph.specs.Digraph.{Digraph, targets_of, has_arc, HasArc, InRange}
 use Rattle.std.proofs.lemmas.Cmp.{nat_eq_equiv}
+use Rattle.std.proofs.Math.Bool.{or-false}
 
 -- an arc begins at a vertex
 pub HasArc-from : (g : Digraph) (v w : ℕ) → HasArc g v w → v < length g
@@ -27,16 +28,12 @@ place_of_arc g v w arc =
     let here = get_or_read (targets_of g v) found.0 found.1 found.2 (sym found.3) 0 in
     (found.0, found.2, sym here ∙ eqb-true found.1 w found.4)
 
-or_false : (b : Bool) → (b || false) ≡ b
-or_false true = refl
-or_false false = refl
-
 -- where arcs lead from, one arc later
 pub has_arc-add : (g : Digraph) (from to : ℕ) → from < length g → (v w : ℕ) → has_arc (set g from (targets_of g from ++ to ∷ [])) v w ≡ (has_arc g v w || (v == from && w == to))
 has_arc-add g from to in_range v w =
     elim (cases_eq v from) as (λ _. has_arc (set g from (targets_of g from ++ to ∷ [])) v w ≡ (has_arc g v w || (v == from && w == to))) [
-      | inl same ↦ rw (same, eq-eqb from from refl, get_or-set_same g from (targets_of g from ++ to ∷ []) [] in_range, list_any-append (λ y. nat_eq y w) (targets_of g from) (to ∷ [])) (ap (λ b. has (targets_of g from) w || b) (or_false (nat_eq to w) ∙ nat_eq_equiv.symm to w))
-      | inr other ↦ rw (get_or-set_other g from v (targets_of g from ++ to ∷ []) [] other, ne_eqb v from other) (sym (or_false (has_arc g v w)))
+      | inl same ↦ rw (same, eq-eqb from from refl, get_or-set_same g from (targets_of g from ++ to ∷ []) [] in_range, list_any-append (λ y. nat_eq y w) (targets_of g from) (to ∷ [])) (ap (λ b. has (targets_of g from) w || b) (or-false (nat_eq to w) ∙ nat_eq_equiv.symm to w))
+      | inr other ↦ rw (get_or-set_other g from v (targets_of g from ++ to ∷ []) [] other, ne_eqb v from other) (sym (or-false (has_arc g v w)))
     ]
 
 pub InRange-add : (g : Digraph) (from to : ℕ) → from < length g → to < length g → InRange g → InRange (set g from (targets_of g from ++ to ∷ []))

@@ -1,10 +1,10 @@
 -- What a search finds from its sources on is what walks reach.
-use Rattle.std.proofs.Common.{◌≡◌, ◌↔◌, ℕ, zero, suc, ◌+◌, ◌<◌, ◌≤◌, Bool, true, false, ◌||◌, nat_eq, IsTrue, List, [], ◌∷◌, ◌++◌, length, take, get_or, refl, sym, ap, subst, ◌∙◌, inl, inr, ◌⊎◌, arith, eq-eqb}
+use Rattle.std.proofs.Common.{◌≡◌, ◌↔◌, ℕ, zero, suc, ◌+◌, ◌<◌, ◌≤◌, Bool, true, false, ◌||◌, nat_eq, IsTrue, List, ◌∷◌, ◌++◌, length, take, get_or, refl, sym, ap, subst, ◌∙◌, inl, inr, ◌⊎◌, arith, eq-eqb}
 use Rattle.std.specs.List.{All, flat_map, IsDistinct}
 use Rattle.std.specs.Set.{is_member}
-use Rattle.std.proofs.lemmas.List.{append-nil, append_assoc, get_or_read, length-append, take-append-le, take_all, take_more}
+use Rattle.std.proofs.lemmas.List.{append-nil, append_assoc, length-append, take-append-le, take_all, take_more}
 use Rattle.std.proofs.lemmas.List.Sums.{fold-append}
-use Rattle.std.proofs.lemmas.List.Folds.{list_any-append, list_any_at, Any-from_list_any}
+use Rattle.std.proofs.lemmas.List.Folds.{list_any-append, list_any_at}
 use Rattle.std.proofs.lemmas.Grind.{flat_map-append}
 use Rattle.std.proofs.lemmas.Bool.{cases_Bool, cond-true, cond-false, or_cases, or_left, or_right, eqb-true}
 use Rattle.std.proofs.lemmas.Cmp.{nat_eq_equiv}
@@ -16,6 +16,8 @@ use Rattle.digraph.specs.Walk.{Walk, ReachesFrom}
 use Rattle.digraph.proofs.Listing.{same_has}
 use Rattle.digraph.proofs.WalkLaws.{Reaches-arc, Reaches-itself}
 use Rattle.digraph.specs.FoundOrder.{found_after, found_over}
+use Rattle.std.proofs.Math.Bool.{or-false, or_assoc}
+use Rattle.csp_base.proofs.Listed.{listed_below}
 
 -- one number more
 with_new-cases : (xs : List ℕ) (x : ℕ) → ((has xs x ≡ true) × (with_new nat_eq xs x ≡ xs)) ⊎ ((has xs x ≡ false) × (with_new nat_eq xs x ≡ xs ++ x ∷ []))
@@ -24,14 +26,6 @@ with_new-cases xs x =
       | inl known ↦ inl (same_has xs x ∙ known, cond-true (is_member nat_eq xs x) xs (xs ++ x ∷ []) known)
       | inr other ↦ inr (same_has xs x ∙ other, cond-false (is_member nat_eq xs x) xs (xs ++ x ∷ []) other)
     ]
-
-or_false : (b : Bool) → (b || false) ≡ b
-or_false true = refl
-or_false false = refl
-
-or_assoc : (a b c : Bool) → ((a || b) || c) ≡ (a || (b || c))
-or_assoc true b c = refl
-or_assoc false b c = refl
 
 or_same : (a b : Bool) → (b ≡ true → a ≡ true) → a ≡ (a || b)
 or_same true b h = refl
@@ -42,11 +36,11 @@ has-with_new : (xs : List ℕ) (x v : ℕ) → has (with_new nat_eq xs x) v ≡ 
 has-with_new xs x v =
     elim (with_new-cases xs x) as (λ _. has (with_new nat_eq xs x) v ≡ (has xs v || nat_eq x v)) [
       | inl p ↦ rw p.1 (or_same (has xs v) (nat_eq x v) (λ e. let same : x ≡ v = eqb-true x v e in rw (← same) p.0))
-      | inr p ↦ rw (p.1, list_any-append (λ y. nat_eq y v) xs (x ∷ []), or_false (nat_eq x v))
+      | inr p ↦ rw (p.1, list_any-append (λ y. nat_eq y v) xs (x ∷ []), or-false (nat_eq x v))
     ]
 
 pub has-found_after : (before xs : List ℕ) (v : ℕ) → has (found_after before xs) v ≡ (has before v || has xs v)
-has-found_after before [] v = sym (or_false (has before v))
+has-found_after before [] v = sym (or-false (has before v))
 has-found_after before (x ∷ xs) v =
     has-found_after (with_new nat_eq before x) xs v ∙ (ap (λ b. b || has xs v) (has-with_new before x v) ∙ or_assoc (has before v) (nat_eq x v) (has xs v))
 
@@ -78,13 +72,6 @@ order_more g sources place old new h order is =
     let targets : flat_map (targets_of g) (take (place + 1) new) ≡ before ++ targets_of g u = ap (flat_map (targets_of g)) front ∙ (flat_map-append (targets_of g) (take place old) (u ∷ []) ∙ ap (λ row. before ++ row) (append-nil (targets_of g u))) in
     let all : sources ++ flat_map (targets_of g) (take (place + 1) new) ≡ (sources ++ before) ++ targets_of g u = ap (λ row. sources ++ row) targets ∙ sym (append_assoc sources before (targets_of g u)) in
     is ∙ sym (ap (found_after []) all ∙ (fold-append (with_new nat_eq) [] (sources ++ before) (targets_of g u) ∙ ap (λ (xs : List ℕ). found_after xs (targets_of g u)) (sym order)))
-
-listed_below : (xs : List ℕ) (n v : ℕ) → All (λ v. v < n) xs → has xs v ≡ true → v < n
-listed_below xs n v all h =
-    let found = Any-from_list_any (λ y. nat_eq y v) xs h in
-    let here = sym (get_or_read xs found.0 found.1 found.2 (sym found.3) 0) in
-    let same : v ≡ found.1 = sym (eqb-true found.1 v found.4) in
-    rw same (rw here at (all found.0 0 found.2))
 
 -- What holds while the search goes on: the vertices before the place were looked at.
 pub record IsSearched (g : Digraph) (sources found : List ℕ) (place : ℕ) : Type 0 where

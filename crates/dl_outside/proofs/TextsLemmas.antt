@@ -1,5 +1,5 @@
 -- A text is put over the one of its name, or at the end where there is none.
-use Rattle.std.proofs.Common.{◌≡◌, ◌≢◌, ℕ, ◌<◌, Bool, true, false, not, List, [], ◌∷◌, ◌++◌, length, get_or, set, refl, sym, ◌∙◌, ap, subst, arith, Some, None}
+use Rattle.std.proofs.Common.{◌≡◌, ◌≢◌, ℕ, ◌<◌, Bool, true, false, not, List, ◌∷◌, ◌++◌, length, get_or, set, refl, sym, ◌∙◌, ap, subst, arith, Some, None}
 use Rattle.std.specs.Prelude.{Option, cond}
 use Rattle.std.specs.List.{find, position, position_or_len}
 use Rattle.std.specs.Option.{option_map, option_or}
@@ -11,6 +11,7 @@ use Rattle.std.proofs.lemmas.Slice.Eq.{bytes_eq-Decides}
 use Rattle.std.proofs.lemmas.Bool.Decides.{nat_tests}
 use Rattle.dl_outside.specs.declared.texts.NamedText.{NamedText}
 use Rattle.dl_outside.specs.Texts.{has_name, PutsText}
+use Rattle.std.proofs.lemmas.Bool.{not-false}
 
 -- where a place is found, it is the first one
 pub place_found : {X : Type 0} (p : X → Bool) (xs : List X) (k : ℕ) → Some k ≡ position p xs → (k < length xs) × (k ≡ position_or_len p xs)
@@ -31,11 +32,6 @@ other_name held name differ =
       | false ↦ λ _. refl
     ] refl
 
--- what the found text is called
-not_false : (b : Bool) → not b ≡ false → b ≡ true
-not_false true is = refl
-not_false false is = cc
-
 pub name_found : (name : List ℕ) (texts : List NamedText) (k : ℕ) (held : NamedText) → Some k ≡ position (has_name name) texts → held ≡ get_or texts k held → held.name ≡ name
 name_found name texts k held is at =
     let found = place_found (has_name name) texts k is in
@@ -44,7 +40,7 @@ name_found name texts k held is at =
     let stops : not (bytes_eq (get_or texts first held).name name) ≡ false = prefix_len_stops (λ x. not (has_name name x)) texts held within in
     let here : held ≡ get_or texts first held = subst (λ (i : ℕ). held ≡ get_or texts i held) found.1 at in
     let same : not (bytes_eq held.name name) ≡ false = subst (λ (h : NamedText). not (bytes_eq h.name name) ≡ false) (sym here) stops in
-    (bytes_eq-Decides held.name name).0 (not_false _ same)
+    (bytes_eq-Decides held.name name).0 (not-false _ same)
 
 -- over the text of its name
 pub PutsText-set : (texts : List NamedText) (name text : List ℕ) (k : ℕ) (held : NamedText) → Some k ≡ position (has_name name) texts → held ≡ get_or texts k held → PutsText texts (set texts k (record { name = held.name; text = text })) name text

@@ -1,5 +1,5 @@
 -- Steps in lists: where they stand, the rows of incoming steps, and steps that are gathered.
-use Rattle.std.proofs.Common.{◌≡◌, ℕ, zero, suc, ◌+◌, ◌<◌, inl, inr, List, [], ◌∷◌, length, get_or, Bool, true, false, ◌||◌, ◌&&◌, nat_eq, refl, sym, ap, ◌∙◌, subst, arith}
+use Rattle.std.proofs.Common.{◌≡◌, ℕ, zero, suc, ◌+◌, ◌<◌, inl, inr, List, ◌∷◌, length, get_or, Bool, true, false, ◌||◌, ◌&&◌, nat_eq, refl, sym, ap, ◌∙◌, subst, arith}
 use Rattle.std.specs.Prelude.{◌↔◌}
 use Rattle.std.specs.List.{All, Contains}
 use Rattle.std.specs.List.Sorted.{IsPermutation}
@@ -9,12 +9,7 @@ use Rattle.csp_tables.specs.Table.{Node, node_at, is_possible, target, node_afte
 use Rattle.equal_futures.specs.Future.{StepsRise, NodesRise}
 use Rattle.equal_futures.specs.Arrows.{has_arrow, AreFrom, AreAdded, AreIncoming}
 use Rattle.equal_futures.proofs.RowLists.{once}
-
-pub bool_from_iff : (a b : Bool) → (a ≡ true → b ≡ true) → (b ≡ true → a ≡ true) → a ≡ b
-bool_from_iff true true f g = refl
-bool_from_iff true false f g = sym (f refl)
-bool_from_iff false true f g = g refl
-bool_from_iff false false f g = refl
+use Rattle.csp_base.proofs.Booleans.{same_tests}
 
 -- where a step stands
 pub step_place : (steps : List (ℕ × ℕ)) (e i : ℕ) → has_arrow steps e i ≡ true → (k : ℕ) × (k < length steps) × ((get_or steps k (0, 0)).0 ≡ e) × ((get_or steps k (0, 0)).1 ≡ i)
@@ -47,7 +42,7 @@ contained (x ∷ xs) e i h = elim (or_cases (nat_eq x.0 e && nat_eq x.1 i) (has_
 
 -- another order has the same steps
 pub permuted : (xs ys : List (ℕ × ℕ)) → IsPermutation xs ys → (e i : ℕ) → has_arrow ys e i ≡ has_arrow xs e i
-permuted xs ys p e i = bool_from_iff (has_arrow ys e i) (has_arrow xs e i)
+permuted xs ys p e i = same_tests (has_arrow ys e i) (has_arrow xs e i)
     (λ h. has_contained xs e i (Contains-permutation ys xs (e, i) (IsPermutation-sym xs ys p) (contained ys e i h)))
     (λ h. has_contained ys e i (Contains-permutation xs ys (e, i) p (contained xs e i h)))
 

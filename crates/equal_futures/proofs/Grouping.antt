@@ -1,5 +1,5 @@
 -- Steps that are sorted by event are taken group by group, each event once.
-use Rattle.std.proofs.Common.{◌≡◌, ℕ, zero, suc, ◌+◌, ◌-◌, ◌<◌, ◌≤◌, inl, inr, List, [], ◌∷◌, length, get_or, take, drop, true, nat_eq, refl, sym, ap, ◌∙◌, subst, arith}
+use Rattle.std.proofs.Common.{◌≡◌, ℕ, zero, suc, ◌+◌, ◌-◌, ◌<◌, ◌≤◌, inl, inr, List, ◌∷◌, length, get_or, take, drop, true, nat_eq, refl, sym, ap, ◌∙◌, subst, arith}
 use Rattle.std.specs.Prelude.{◌↔◌}
 use Rattle.std.specs.List.{All}
 use Rattle.std.specs.List.Sorted.{IsNonDecreasingBy, IsPermutation}
@@ -8,7 +8,8 @@ use Rattle.std.proofs.lemmas.List.{length-take-le, length-drop, get_or-take, get
 use Rattle.equal_futures.specs.Arrows.{IsSplitByEvents, AreFrom, has_arrow, event_at}
 use Rattle.partitions.specs.Blocks.{State, HasBlocks, IsCalm, IsOnward, IsSplit, block_at, is_source}
 use Rattle.partitions.proofs.Splitting.{onward_trans}
-use Rattle.equal_futures.proofs.Gathering.{step_place, step_at, bool_from_iff, permuted, all_sources}
+use Rattle.equal_futures.proofs.Gathering.{step_place, step_at, permuted, all_sources}
+use Rattle.csp_base.proofs.Booleans.{same_tests}
 
 -- the events before a place are done, and don't come again
 pub record AreSplitUpTo (n : ℕ) (s t : State) (steps : List (ℕ × ℕ)) (from : ℕ) : Type 0 where
@@ -70,7 +71,7 @@ module _ (n : ℕ) (s t u : State) (steps : List (ℕ × ℕ)) (from to : ℕ) (
       )
 
   source_same : (i : ℕ) → is_source (part steps from to) i ≡ has_arrow steps (event_at steps from) i
-  source_same i = bool_from_iff (is_source (part steps from to) i) (has_arrow steps (event_at steps from) i)
+  source_same i = same_tests (is_source (part steps from to) i) (has_arrow steps (event_at steps from) i)
       (λ h.
       let w = g.within in
       let p = source_place (part steps from to) i h in
@@ -122,7 +123,7 @@ all_groups n s t steps from over a = record {
       let p = a.exact i j h l in (
         λ e. let r = p.0 e in (
           r.0,
-          λ e. bool_from_iff (has_arrow steps e i) (has_arrow steps e j)
+          λ e. same_tests (has_arrow steps e i) (has_arrow steps e j)
               (λ q. let m = step_place steps e i q in let b = m.1 in subst (λ x. has_arrow steps x j ≡ true) m.2 (sym (r.1 m.0 (omega arith)) ∙ subst (λ x. has_arrow steps x i ≡ true) (sym m.2) q))
               (λ q. let m = step_place steps e j q in let b = m.1 in subst (λ x. has_arrow steps x i ≡ true) m.2 (r.1 m.0 (omega arith) ∙ subst (λ x. has_arrow steps x j ≡ true) (sym m.2) q)),
         ),

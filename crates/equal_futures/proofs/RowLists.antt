@@ -1,11 +1,12 @@
 -- Steps of a node as lists: their keys are equal exactly where the same events are possible and lead to the same classes.
-use Rattle.std.proofs.Common.{◌≡◌, ℕ, zero, suc, get_or, ◌<◌, ◌≤◌, inl, inr, List, [], ◌∷◌, length, Bool, true, false, cond, ◌||◌, nat_eq, refl, sym, ap, ◌∙◌, subst, arith}
+use Rattle.std.proofs.Common.{◌≡◌, ℕ, zero, suc, get_or, ◌<◌, ◌≤◌, inl, inr, List, ◌∷◌, length, Bool, true, false, cond, ◌||◌, nat_eq, refl, sym, ap, ◌∙◌, subst, arith}
 use Rattle.std.specs.Prelude.{slice_index}
 use Rattle.std.proofs.lemmas.Bool.{eqb-true, eq-eqb, ne_eqb, false≢true, or_cases, or_left, cond-true, cond-false, both_ways, cases_eq, false_from_ne_true}
 use Rattle.csp_tables.specs.Form.{BeginsAbove}
 use Rattle.csp_tables.specs.Table.{is_possible, target}
 use Rattle.equal_futures.specs.Future.{StepsRise}
 use Rattle.equal_futures.specs.Rows.{row_of}
+use Rattle.csp_base.proofs.Booleans.{same_or}
 
 -- each possible event is above what the first one is above
 pub above : (n b : ℕ) (steps : List (ℕ × ℕ)) (e : ℕ) → StepsRise n steps → BeginsAbove b steps → is_possible steps e ≡ true → b < e
@@ -40,9 +41,6 @@ step_below n (step ∷ steps) rise (suc k) d h = step_below n steps rise.2 k d (
 pub read_below : (n : ℕ) (steps items : List (ℕ × ℕ)) → items ≡ steps → StepsRise n steps → (k : ℕ) (step : ℕ × ℕ) → k < length items → step ≡ get_or items k step → step.1 < n
 read_below n steps items is rise k step h read =
     subst (λ (s : ℕ × ℕ). s.1 < n) (sym (read ∙ ap (λ (xs : List (ℕ × ℕ)). get_or xs k step) is)) (step_below n steps rise k step (rw is at h))
-
-same_or : (a b c d : Bool) → a ≡ c → b ≡ d → (a || b) ≡ (c || d)
-same_or a b c d p q = λ i. p i || q i
 
 same_choice : (f : ℕ → ℕ) (a c : Bool) (x y u v : ℕ) → a ≡ c → f x ≡ f u → f y ≡ f v → f (cond a x y) ≡ f (cond c u v)
 same_choice f true true x y u v e p q = p

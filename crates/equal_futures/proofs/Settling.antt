@@ -1,8 +1,8 @@
 -- Refinement by splitters: between two splitters the partition is stable under each block that doesn't wait.
-use Rattle.std.proofs.Common.{◌≡◌, ℕ, ◌<◌, inl, inr, List, [], ◌∷◌, length, get_or, Bool, true, false, ◌||◌, ◌&&◌, nat_eq, nat_lt, refl, sym, ap, ◌∙◌, subst}
+use Rattle.std.proofs.Common.{◌≡◌, ℕ, ◌<◌, inl, inr, List, ◌∷◌, length, get_or, true, false, ◌||◌, ◌&&◌, nat_eq, nat_lt, refl, sym, ap, ◌∙◌, subst}
 use Rattle.std.specs.Prelude.{slice_index, slice_index_or, ◌↔◌}
-use Rattle.std.specs.List.{list_any, All}
-use Rattle.std.proofs.lemmas.Bool.{cases_eq, eqb-true, eq-eqb, lt-ltb, ltb-true, and_parts, both_ways, false≢true, or_cases, or_left, or_right}
+use Rattle.std.specs.List.{All}
+use Rattle.std.proofs.lemmas.Bool.{cases_eq, eqb-true, eq-eqb, lt-ltb, ltb-true, and_parts, both_ways}
 use Rattle.std.proofs.lemmas.List.{get_or_default}
 use Rattle.csp_base.specs.Members.{has}
 use Rattle.csp_tables.specs.Table.{Node, node_at, is_possible, node_after}
@@ -13,8 +13,8 @@ use Rattle.equal_futures.specs.Arrows.{IsSplitByEvents, AreMarkSteps, AreIncomin
 use Rattle.partitions.specs.Blocks.{State, HasBlocks, IsCalm, IsWhole, IsTaken, block_at, waits}
 use Rattle.equal_futures.proofs.RowLists.{target_below}
 use Rattle.equal_futures.proofs.Futures.{same_marks, same_events, future_after, AreStable, future_from_stable}
-use Rattle.equal_futures.proofs.Gathering.{bool_from_iff}
-use Rattle.partitions.proofs.Taking.{has_at}
+use Rattle.csp_base.proofs.Booleans.{same_tests}
+use Rattle.csp_base.proofs.Listed.{any_of, has_at, any_member}
 
 pub future_sym : (nodes : List Node) (marks : List ℕ) (i j : ℕ) → HaveEqualFuture nodes marks i j → HaveEqualFuture nodes marks j i
 future_sym nodes marks i j f = record { runs = λ w. sym (f.runs w); ends = λ w r. sym (f.ends w (f.runs w ∙ r)) }
@@ -28,27 +28,13 @@ pub record IsRefined (nodes : List Node) (marks : List ℕ) (s : State) : Type 0
   pub settled : (i j e : ℕ) → i < length nodes → j < length nodes → block_at s i ≡ block_at s j → is_possible (node_at nodes i).next e ≡ true → waits s (block_at s (node_after nodes i e)) ≡ false
       → (is_possible (node_at nodes j).next e ≡ true) × (block_at s (node_after nodes i e) ≡ block_at s (node_after nodes j e))
 
-any_of : (p : ℕ → Bool) (ms : List ℕ) (t : ℕ) → has ms t ≡ true → p t ≡ true → list_any p ms ≡ true
-any_of p [] t h q = absurd (false≢true h)
-any_of p (m ∷ ms) t h q = elim (or_cases (nat_eq m t) (has ms t) h) as (λ _. (p m || list_any p ms) ≡ true) [
-  | inl here ↦ or_left (p m) (list_any p ms) (ap p (eqb-true m t here) ∙ q)
-  | inr later ↦ or_right (p m) (list_any p ms) (any_of p ms t later q)
-]
-
-one_of : (p : ℕ → Bool) (ms : List ℕ) → list_any p ms ≡ true → (t : ℕ) × (has ms t ≡ true) × (p t ≡ true)
-one_of p [] h = absurd (false≢true h)
-one_of p (m ∷ ms) h = elim (or_cases (p m) (list_any p ms) h) as (λ _. (t : ℕ) × ((nat_eq m t || has ms t) ≡ true) × (p t ≡ true)) [
-  | inl here ↦ (m, or_left (nat_eq m m) (has ms m) (eq-eqb m m refl), here)
-  | inr later ↦ let r = one_of p ms later in (r.0, or_right (nat_eq m r.0) (has ms r.0) r.1, r.2)
-]
-
 pub marks_from : (n : ℕ) (marks : List ℕ) (steps : List (ℕ × ℕ)) → length marks ≡ n → AreMarkSteps marks steps → AreFrom n steps
 marks_from n marks steps one_each are e i h = subst (λ m. i < m) one_each (ltb-true i (length marks) (and_parts (nat_lt i (length marks)) (nat_eq (slice_index marks i) e) (sym (are e i) ∙ h)).0)
 
 pub gathered_from : (n k b : ℕ) (s : State) (rows : List (List (ℕ × ℕ))) (members : List ℕ) (steps : List (ℕ × ℕ)) → length rows ≡ n → k ≡ n → AreAllFrom n rows →
     ((i : ℕ) → (has members i ≡ true) ↔ ((i < n) × (block_at s i ≡ b))) → AreGathered rows members steps → AreFrom k steps
 gathered_from n k b s rows members steps count is_k sources are gathered e i h =
-    let r = one_of (λ t. has_arrow (slice_index_or rows t []) e i) members (sym (gathered e i) ∙ h) in
+    let r = any_member (λ t. has_arrow (slice_index_or rows t []) e i) members (sym (gathered e i) ∙ h) in
     subst (λ x. i < x) (sym is_k) (sources r.0 e i (subst (λ x. r.0 < x) (sym count) ((are r.0).0 r.1).0) r.2)
 
 module _ (nodes : List Node) (marks : List ℕ) (rise : NodesRise nodes) (one_each : length marks ≡ length nodes) where
@@ -92,7 +78,7 @@ module _ (nodes : List Node) (marks : List ℕ) (rise : NodesRise nodes) (one_ea
       told = λ i j h l e. a.told i j h l (before i j h l e);
       kept = λ i j h l f. (split.exact i j h l).1 (
         same_block i ∙ a.kept i j h l f ∙ sym (same_block j),
-        λ e. bool_from_iff (has_arrow steps e i) (has_arrow steps e j) (enters_along i j e l f) (enters_along j i e h (future_sym nodes marks i j f)),
+        λ e. same_tests (has_arrow steps e i) (has_arrow steps e j) (enters_along i j e l f) (enters_along j i e h (future_sym nodes marks i j f)),
       );
       settled = λ i j e h l same p w.
           let x = node_after nodes i e in
@@ -111,7 +97,7 @@ module _ (nodes : List Node) (marks : List ℕ) (rise : NodesRise nodes) (one_ea
   pub gathered_enter : (s : State) (b : ℕ) (rows : List (List (ℕ × ℕ))) (members : List ℕ) (steps : List (ℕ × ℕ)) → AreIncoming nodes rows (length nodes) → ((i : ℕ) → (has members i ≡ true) ↔ ((i < length nodes) × (block_at s i ≡ b))) → AreGathered rows members steps → (e i : ℕ) → (has_arrow steps e i ≡ true) ↔ ((i < length nodes) × (is_possible (node_at nodes i).next e ≡ true) × (block_at s (node_after nodes i e) ≡ b))
   gathered_enter s b rows members steps incoming are gathered e i = (
     λ h.
-        let r = one_of (λ t. has_arrow (slice_index_or rows t []) e i) members (sym (gathered e i) ∙ h) in
+        let r = any_member (λ t. has_arrow (slice_index_or rows t []) e i) members (sym (gathered e i) ∙ h) in
         let m = (are r.0).0 r.1 in
         let q = (incoming.exact r.0 e i m.0).0 r.2 in
         (q.0, q.1, ap (λ x. block_at s x) q.2 ∙ m.1),
@@ -127,7 +113,7 @@ module _ (nodes : List Node) (marks : List ℕ) (rise : NodesRise nodes) (one_ea
     told = a.told;
     alike = λ i j h l e. record {
       same = e;
-      possible = λ x. bool_from_iff (is_possible (node_at nodes i).next x) (is_possible (node_at nodes j).next x)
+      possible = λ x. same_tests (is_possible (node_at nodes i).next x) (is_possible (node_at nodes j).next x)
           (λ p. (a.settled i j x h l e p (none (block_at s (node_after nodes i x)))).0)
           (λ p. (a.settled j i x l h (sym e) p (none (block_at s (node_after nodes j x)))).0);
       targets = λ x p. (a.settled i j x h l e p (none (block_at s (node_after nodes i x)))).1;

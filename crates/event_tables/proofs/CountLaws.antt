@@ -7,7 +7,7 @@ use Rattle.csp_program.specs.EventNumber.{row_count}
 use Rattle.event_tables.specs.declared.sets.SharedSets.{SharedSets}
 use Rattle.event_tables.specs.Spread.{spread}
 use Rattle.script_names.specs.Resolved.{all_events}
-use Rattle.name_tables.proofs.DeclaredLemmas.{split_at}
+use Rattle.csp_base.proofs.Lists.{drop_read}
 
 -- a factor may stop before
 pub stops_left : (x y most : ℕ) → min (min x most * y) most ≡ min (x * y) most
@@ -27,7 +27,7 @@ pub count_step : (count next most i : ℕ) (sets : List (List Atom)) (set : List
     → next ≡ min (count * length set) most → min (count * row_count (drop i sets)) most ≡ min whole most → min (next * row_count (drop (i + 1) sets)) most ≡ min whole most
 count_step count next most i sets set whole within is next_is so_far =
     let rest : ℕ = row_count (drop (i + 1) sets) in
-    let here : row_count (drop i sets) ≡ length set * rest = ap row_count (split_at sets i set within is) in
+    let here : row_count (drop i sets) ≡ length set * rest = ap row_count (drop_read sets i set within is) in
     ap (λ n. min (n * rest) most) next_is
     ∙ stops_left (count * length set) rest most
     ∙ ap (λ n. min n most) (omega arith)
@@ -48,5 +48,5 @@ pub events_step : (count next own most i : ℕ) (shared : List SharedSets) (one 
     → min (count + all_events (spread (drop i shared))) most ≡ min whole most → min (next + all_events (spread (drop (i + 1) shared))) most ≡ min whole most
 events_step count next own most i shared one whole within is own_is next_is so_far =
     let here : all_events (spread (drop i shared)) ≡ one.channels * row_count one.sets + all_events (spread (drop (i + 1) shared)) =
-    ap (λ rest. all_events (spread rest)) (split_at shared i one within is) ∙ events_of_copies one.channels one.sets (spread (drop (i + 1) shared)) in
+    ap (λ rest. all_events (spread rest)) (drop_read shared i one within is) ∙ events_of_copies one.channels one.sets (spread (drop (i + 1) shared)) in
     omega arith

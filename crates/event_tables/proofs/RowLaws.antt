@@ -1,13 +1,13 @@
 -- The lists that take one value from each set, made from the first set on.
-use Rattle.std.proofs.Common.{◌≡◌, ℕ, ◌+◌, ◌<◌, ◌≤◌, List, [], ◌∷◌, ◌++◌, length, map, drop, get_or, refl, sym, ap, ◌∙◌, arith, append_assoc}
+use Rattle.std.proofs.Common.{◌≡◌, ℕ, ◌+◌, ◌<◌, ◌≤◌, List, ◌∷◌, ◌++◌, length, map, drop, get_or, refl, sym, ap, ◌∙◌, arith, append_assoc}
 use Rattle.std.proofs.Math.ListN.{drop_of_length-le}
-use Rattle.std.proofs.lemmas.List.{append-nil}
+use Rattle.std.proofs.lemmas.List.{append-nil, map-append}
 use Rattle.csp_atoms.specs.declared.atom.Atom.{Atom}
 use Rattle.csp_program.specs.EventNumber.{row_count}
 use Rattle.csp_program.specs.EventTable.{rows}
 use Rattle.csp_program.specs.Lists.{joined}
 use Rattle.event_tables.specs.Spread.{extended}
-use Rattle.name_tables.proofs.DeclaredLemmas.{split_at}
+use Rattle.csp_base.proofs.Lists.{drop_read}
 
 abbrev Row : Type 0
 Row = List Atom
@@ -19,10 +19,6 @@ under rs rest = joined (map (λ r. map (λ row. r ++ row) rest) rs)
 joined-append : (xs ys : List (List Row)) → joined (xs ++ ys) ≡ joined xs ++ joined ys
 joined-append [] ys = refl
 joined-append (x ∷ xs) ys = ap (λ z. x ++ z) (joined-append xs ys) ∙ sym (append_assoc x (joined xs) (joined ys))
-
-map-append : {X Y : Type 0} (f : X → Y) (xs ys : List X) → map f (xs ++ ys) ≡ map f xs ++ map f ys
-map-append f [] ys = refl
-map-append f (x ∷ xs) ys = ap (λ z. f x ∷ z) (map-append f xs ys)
 
 under-append : (rs more rest : List Row) → under (rs ++ more) rest ≡ under rs rest ++ under more rest
 under-append rs more rest =
@@ -52,7 +48,7 @@ pub rows_step : (made new : List Row) (i : ℕ) (sets : List (List Atom)) (set :
 rows_step made new i sets set whole within is new_is so_far =
     ap (λ rs. under rs (rows (drop (i + 1) sets))) new_is
     ∙ sym (under_step made set (drop (i + 1) sets))
-    ∙ ap (λ rest. under made (rows rest)) (sym (split_at sets i set within is))
+    ∙ ap (λ rest. under made (rows rest)) (sym (drop_read sets i set within is))
     ∙ so_far
 
 under_nothing : (rs : List Row) → under rs ([] ∷ []) ≡ rs

@@ -1,5 +1,5 @@
 -- Field sets, one after another.
-use Rattle.std.proofs.Common.{◌≡◌, ℕ, zero, suc, ◌+◌, ◌<◌, ◌≤◌, List, [], ◌∷◌, ◌++◌, length, drop, get_or, replicate, refl, sym, ap, ◌∙◌, append_assoc, add-one}
+use Rattle.std.proofs.Common.{◌≡◌, ℕ, zero, suc, ◌+◌, ◌<◌, ◌≤◌, List, ◌∷◌, ◌++◌, length, drop, get_or, replicate, refl, sym, ap, ◌∙◌, append_assoc, add-one}
 use Rattle.std.specs.Prelude.{None, Result, Ok, Err, slice_get}
 use Rattle.std.specs.Result.{IsErrAnd}
 use Rattle.std.proofs.Math.ListN.{drop_of_length-le}
@@ -18,8 +18,8 @@ use Rattle.event_tables.specs.Spread.{GivesOneMore, spread}
 use Rattle.value_operators.specs.Gives.{Gives}
 use Rattle.value_operators.specs.declared.fault.EvalFault.{EvalFault}
 use Rattle.value_operators.specs.declared.fault.EvalFault.TheVariants as fault
-use Rattle.name_tables.proofs.DeclaredLemmas.{split_at}
 use Rattle.script_names.specs.Resolved.{field_set, field_sets, with_sets}
+use Rattle.csp_base.proofs.Lists.{drop_read}
 
 -- these sets, and those of the types that are left
 abbrev pub sets_with : List (List Atom) → Outcome (List (List Atom)) → Outcome (List (List Atom))
@@ -41,7 +41,7 @@ moved sets set (Err k) = refl
 module _ (p : Content) (types : List Expr) (i : ℕ) (t : Expr) (within : i < length types) (is : t ≡ get_or types i t) (sets : List (List Atom))
     (so_far : field_sets p types ≡ sets_with sets (field_sets p (drop i types))) where
   at_first : field_sets p types ≡ sets_with sets (with_first (set_at p t) (field_sets p (drop (i + 1) types)))
-  at_first = so_far ∙ ap (λ rest. sets_with sets (field_sets p rest)) (split_at types i t within is) ∙ ap (sets_with sets) (first_then p t (drop (i + 1) types))
+  at_first = so_far ∙ ap (λ rest. sets_with sets (field_sets p rest)) (drop_read types i t within is) ∙ ap (sets_with sets) (first_then p t (drop (i + 1) types))
 
   pub sets_step : (set : List Atom) (new : List (List Atom)) → set_at p t ≡ Ok set → new ≡ sets ++ set ∷ [] → field_sets p types ≡ sets_with new (field_sets p (drop (i + 1) types))
   sets_step set new found grown =
@@ -65,7 +65,7 @@ pub spread_step : (new all whole : List (List (List Atom))) (i : ℕ) (shared : 
 spread_step new all whole i shared one within is new_is so_far =
     ap (λ sets. sets ++ spread (drop (i + 1) shared)) new_is
     ∙ append_assoc all (replicate one.channels one.sets) (spread (drop (i + 1) shared))
-    ∙ ap (λ rest. all ++ spread rest) (sym (split_at shared i one within is))
+    ∙ ap (λ rest. all ++ spread rest) (sym (drop_read shared i one within is))
     ∙ so_far
 
 pub spread_end : (all whole : List (List (List Atom))) (i : ℕ) (shared : List SharedSets) → length shared ≤ i → all ++ spread (drop i shared) ≡ whole → all ≡ whole
@@ -87,7 +87,7 @@ pub table_step : (new events whole : List EventInfo) (c next i : ℕ) (channels 
 table_step new events whole c next i channels channel within is next_is new_is so_far =
     (λ j. new_is j ++ events_from_channel (next_is j) (drop (i + 1) channels))
     ∙ append_assoc events (channel_events c channel.fields) (events_from_channel (c + 1) (drop (i + 1) channels))
-    ∙ ap (λ rest. events ++ events_from_channel c rest) (sym (split_at channels i channel within is))
+    ∙ ap (λ rest. events ++ events_from_channel c rest) (sym (drop_read channels i channel within is))
     ∙ so_far
 
 pub table_end : (events whole : List EventInfo) (c i : ℕ) (channels : List Channel) → length channels ≤ i → events ++ events_from_channel c (drop i channels) ≡ whole → events ≡ whole

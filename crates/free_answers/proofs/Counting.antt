@@ -1,12 +1,12 @@
 -- Counting over lists of parts and of ranks, from the front.
-use Rattle.std.proofs.Common.{◌≡◌, ℕ, suc, ◌+◌, ◌<◌, ℤ, max, List, [], ◌∷◌, ◌++◌, Vec, length, map, take, get_or, refl, sym, ap, ◌∙◌, add-one, append_assoc, arith}
+use Rattle.std.proofs.Common.{◌≡◌, ℕ, ◌+◌, ◌<◌, ℤ, max, List, ◌∷◌, ◌++◌, Vec, length, map, take, get_or, refl, sym, ap, ◌∙◌, add-one, arith}
 use Rattle.std.specs.declared.alloc.Global.{Global}
 use Rattle.std.specs.List.{flat_map}
 use Rattle.std.proofs.Math.Seq.{take-suc}
-use Rattle.std.proofs.lemmas.List.{append-nil}
 use Rattle.csp_tables.specs.Part.{Part}
 use Rattle.csp_tables.specs.Ranking.{PartRanks}
 use Rattle.free_answers.specs.Counts.{greatest_from, node_count, rank_number}
+use Rattle.csp_base.proofs.Lists.{flat_map_push}
 
 one_more_part : (parts : List Part) (part : Part) → node_count (parts ++ part ∷ []) ≡ node_count parts + length part.table
 one_more_part [] part = omega arith
@@ -18,11 +18,6 @@ greatest_append m (x ∷ xs) ys = greatest_append (max m (rank_number x)) xs ys
 
 grown : {A : Type 0} (xs : List A) (i : ℕ) (d : A) → i < length xs → take i xs ++ get_or xs i d ∷ [] ≡ take (i + 1) xs
 grown xs i d within = rw (add-one) (sym (take-suc xs i d within))
-
--- what is joined of a list with one more member
-flat_more : {A B : Type 0} (f : A → List B) (xs : List A) (x : A) → flat_map f (xs ++ x ∷ []) ≡ flat_map f xs ++ f x
-flat_more f [] x = append-nil (f x)
-flat_more f (y ∷ xs) x = ap (λ z. f y ++ z) (flat_more f xs x) ∙ sym (append_assoc (f y) (flat_map f xs) (f x))
 
 -- one more part
 pub one_count : (parts : List Part) (i : ℕ) (part : Part) (count next : ℕ) → i < length parts → part ≡ get_or parts i part → count ≡ node_count (take i parts)
@@ -41,7 +36,7 @@ one_rank m xs i d most next within so_far now =
 one_more : {A : Type 0} (f : A → List ℤ) (m : ℕ) (xs : List A) (i : ℕ) (x : A) (most next : ℕ) → i < length xs → x ≡ get_or xs i x
     → most ≡ greatest_from m (flat_map f (take i xs)) → next ≡ greatest_from most (f x) → next ≡ greatest_from m (flat_map f (take (i + 1) xs))
 one_more f m xs i x most next within is so_far now =
-    now ∙ ap (λ n. greatest_from n (f x)) so_far ∙ sym (greatest_append m (flat_map f (take i xs)) (f x)) ∙ ap (greatest_from m) (sym (flat_more f (take i xs) x))
+    now ∙ ap (λ n. greatest_from n (f x)) so_far ∙ sym (greatest_append m (flat_map f (take i xs)) (f x)) ∙ ap (greatest_from m) (sym (flat_map_push f (take i xs) x))
     ∙ ap (λ ys. greatest_from m (flat_map f ys)) (ap (λ z. take i xs ++ z ∷ []) is ∙ grown xs i x within)
 
 flat_rows : (rows : List (Vec ℤ Global)) → flat_map (λ row. row) (map (λ (row : Vec ℤ Global). row.items) rows) ≡ flat_map (λ (row : Vec ℤ Global). row.items) rows

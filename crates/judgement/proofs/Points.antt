@@ -1,5 +1,5 @@
 -- Each point of a judgement, from what the calls there answer.
-use Rattle.std.proofs.Common.{◌≡◌, ◌≤◌, ◌+◌, ◌⊎◌, arith, ℕ, List, [], ◌∷◌, Result, Ok, Err, IfOk, length, map, inl, inr, refl, sym, ap, subst, ◌∙◌}
+use Rattle.std.proofs.Common.{◌≡◌, ◌≤◌, ◌+◌, ◌⊎◌, arith, ℕ, List, ◌∷◌, Result, Ok, Err, IfOk, length, map, inl, inr, refl, sym, ap, subst, ◌∙◌}
 use Rattle.csp_program.specs.Outcome.{Outcome, and_then}
 use Rattle.csp_program.specs.declared.processes.Proc.{Proc}
 use Rattle.csp_program.specs.declared.programs.Content.{Content}
@@ -50,32 +50,24 @@ use Rattle.network_trees.specs.declared.fault.LayoutFault.TheVariants as layout
 use Rattle.process_steps.specs.ComponentStep.{ProcessStep}
 use Rattle.process_steps.specs.Needed.{all_outcomes}
 use Rattle.report.specs.declared.answer.Answer.{Answer}
-use Rattle.report.specs.declared.answer.Answer.TheVariants as answer
-use Rattle.report.specs.declared.answer.Shortfall.TheVariants as shortfall
-use Rattle.report.specs.declared.answer.TableFault.TheVariants as table
 use Rattle.resource_conditions.specs.Told.{Tells as TellsOfUses}
 use Rattle.resource_conditions.specs.declared.fault.ResourceFault.{ResourceFault}
 use Rattle.script_names.specs.Resolved.{IsProgram, Resolves}
 use Rattle.script_names.specs.declared.fault.ResolveFault.{ResolveFault}
 use Rattle.script_names.specs.declared.fault.ResolveFault.TheVariants as script
-use Rattle.free_answers.specs.Counts.{greatest_rank, node_count}
 use Rattle.free_answers.specs.Told.{IsToldFree}
 use Rattle.judgement.specs.Judged.{AlphabetsAreJudged, IsJudged, IsJudgedBy, IsJudgedClientServer, IsJudgedCyclic, IsJudgedResource, NetworkIsJudged, ProgramIsJudged, RolesAreJudged, ShapeIsJudged, TablesAreJudged, UsesAreJudged}
 use Rattle.judgement.specs.Tells.{TellsBusy, TellsCyclic, TellsNoted, TellsParts, TellsRoles, TellsUses}
-use Rattle.fault_answers.specs.Tells.{TellsComponent, TellsLayout, TellsScript, on_component, texts}
+use Rattle.fault_answers.specs.Tells.{TellsComponent, TellsLayout, TellsScript}
 use Rattle.judgement.specs.Told.{TellsTriple}
 use Rattle.judgement.proofs.Free.{client_server_free, cyclic_free, resource_free}
+use Rattle.std.proofs.lemmas.Result.{IfOk-weaker}
 
 networks_are_small : NetworksAreSmall
 networks_are_small p tree h =
     let made = network_is_tree p tree h in
     let few : 0 + length (leaves tree) ≤ 512 = made.0.few in
     (made.1, omega arith)
-
--- what follows of each answer
-pub if_ok : {A E : Type 0} {P Q : A → Type 0} (r : Result A E) → ((a : A) → P a → Q a) → IfOk r P → IfOk r Q
-if_ok (Ok a) f p = f a p
-if_ok (Err e) f p = tt
 
 -- what each member of a list comes to, is as many
 as_many_more : {A : Type 0} (first : Outcome A) (more : Outcome (List A)) (n : ℕ) (ys : List A) → ((zs : List A) → more ≡ Ok zs → length zs ≡ n)
@@ -120,38 +112,38 @@ module _ (p : Content) (seats : List (Component Proc)) (tables : List ComponentT
       → OfNetwork (λ tree. IfOk r (IsJudgedCyclic p tree shape))
   unfolding IsJudgedCyclic
   cyclic_ok ranking r apart busy cyclic ranks told tree spelled are of_tables is =
-      if_ok r (λ a t. inr (ranking, t.bound, cyclic, ranks, cyclic_free p tree spelled shape ranking t.bound (apart_there tree is apart) is busy cyclic ranks t.exact, t.is))
+      IfOk-weaker r _ _ (λ a t. inr (ranking, t.bound, cyclic, ranks, cyclic_free p tree spelled shape ranking t.bound (apart_there tree is apart) is busy cyclic ranks t.exact, t.is))
       (told_there Cyclic ranking r told tree spelled are of_tables is)
 
   pub cyclic_err : {E : Type 0} (f : CyclicFault) (r : Result Answer E) → Tells shape f → IfOk r (TellsCyclic p shape f) → OfNetwork (λ tree. IfOk r (IsJudgedCyclic p tree shape))
   unfolding IsJudgedCyclic
-  cyclic_err f r tells told tree spelled are of_tables is = if_ok r (λ a t. inl (f, tells, t)) told
+  cyclic_err f r tells told tree spelled are of_tables is = IfOk-weaker r _ _ (λ a t. inl (f, tells, t)) told
 
   pub roles_ok : {E : Type 0} (roles : List RoleSets) (ranking : Ranking) (r : Result Answer E) → TripleDisjoint (alphabets_of shape.parts) → IsBusyShape shape → IsClientServer shape roles
       → IsClientServerRanking shape roles ranking → ((q : Content) → AreTablesOf q seats tables → IfOk r (IsToldFree q seats ClientServer shape ranking))
       → OfNetwork (λ tree. IfOk r (RolesAreJudged p tree shape roles))
   unfolding RolesAreJudged
   roles_ok roles ranking r apart busy kept ranks told tree spelled are of_tables is =
-      if_ok r (λ a t. inr (ranking, t.bound, kept, ranks, client_server_free p tree spelled shape roles ranking t.bound (apart_there tree is apart) is busy kept ranks t.exact, t.is))
+      IfOk-weaker r _ _ (λ a t. inr (ranking, t.bound, kept, ranks, client_server_free p tree spelled shape roles ranking t.bound (apart_there tree is apart) is busy kept ranks t.exact, t.is))
       (told_there ClientServer ranking r told tree spelled are of_tables is)
 
   pub roles_err : {E : Type 0} (roles : List RoleSets) (f : RoleFault) (r : Result Answer E) → TellsOfRoles shape roles f → IfOk r (TellsRoles p f)
       → OfNetwork (λ tree. IfOk r (RolesAreJudged p tree shape roles))
   unfolding RolesAreJudged
-  roles_err roles f r tells told tree spelled are of_tables is = if_ok r (λ a t. inl (f, tells, t)) told
+  roles_err roles f r tells told tree spelled are of_tables is = IfOk-weaker r _ _ (λ a t. inl (f, tells, t)) told
 
   pub uses_ok : {E : Type 0} (uses : List UseSets) (ranking : Ranking) (r : Result Answer E) → TripleDisjoint (alphabets_of shape.parts) → IsBusyShape shape → IsResource shape uses
       → IsResourceRanking shape uses ranking → ((q : Content) → AreTablesOf q seats tables → IfOk r (IsToldFree q seats Resource shape ranking))
       → OfNetwork (λ tree. IfOk r (UsesAreJudged p tree shape uses))
   unfolding UsesAreJudged
   uses_ok uses ranking r apart busy kept ranks told tree spelled are of_tables is =
-      if_ok r (λ a t. inr (ranking, t.bound, kept, ranks, resource_free p tree spelled shape uses ranking t.bound (apart_there tree is apart) is busy kept ranks t.exact, t.is))
+      IfOk-weaker r _ _ (λ a t. inr (ranking, t.bound, kept, ranks, resource_free p tree spelled shape uses ranking t.bound (apart_there tree is apart) is busy kept ranks t.exact, t.is))
       (told_there Resource ranking r told tree spelled are of_tables is)
 
   pub uses_err : {E : Type 0} (uses : List UseSets) (f : ResourceFault) (r : Result Answer E) → TellsOfUses shape uses f → IfOk r (TellsUses p f)
       → OfNetwork (λ tree. IfOk r (UsesAreJudged p tree shape uses))
   unfolding UsesAreJudged
-  uses_err uses f r tells told tree spelled are of_tables is = if_ok r (λ a t. inl (f, tells, t)) told
+  uses_err uses f r tells told tree spelled are of_tables is = IfOk-weaker r _ _ (λ a t. inl (f, tells, t)) told
 
   -- the annotations of the components of the network are those of the seats
   pub client_server_ok : {E : Type 0} (roles slice : List RoleSets) (r : Result Answer E) → all_outcomes (component_roles p) seats ≡ Ok roles → slice ≡ roles
@@ -159,26 +151,26 @@ module _ (p : Content) (seats : List (Component Proc)) (tables : List ComponentT
   unfolding IsJudgedClientServer
   client_server_ok roles slice r told same judged tree spelled are of_tables is =
       let there = subst (λ (cs : List (Component Proc)). all_outcomes (component_roles p) cs ≡ Ok roles) are told in
-      if_ok r (λ a j. inr (slice, there ∙ ap Ok (sym same), j)) (judged tree spelled are of_tables is)
+      IfOk-weaker r _ _ (λ a j. inr (slice, there ∙ ap Ok (sym same), j)) (judged tree spelled are of_tables is)
 
   pub client_server_err : {E : Type 0} (f : NotedFault) (r : Result Answer E) → IsUntold (component_roles p) seats f → IfOk r (TellsNoted f)
       → OfNetwork (λ tree. IfOk r (IsJudgedClientServer p tree shape))
   unfolding IsJudgedClientServer
   client_server_err f r untold told tree spelled are of_tables is =
-      if_ok r (λ a t. inl (f, subst (λ (cs : List (Component Proc)). IsUntold (component_roles p) cs f) are untold, t)) told
+      IfOk-weaker r _ _ (λ a t. inl (f, subst (λ (cs : List (Component Proc)). IsUntold (component_roles p) cs f) are untold, t)) told
 
   pub resource_ok : {E : Type 0} (uses slice : List UseSets) (r : Result Answer E) → all_outcomes (component_uses p) seats ≡ Ok uses → slice ≡ uses
       → OfNetwork (λ tree. IfOk r (UsesAreJudged p tree shape slice)) → OfNetwork (λ tree. IfOk r (IsJudgedResource p tree shape))
   unfolding IsJudgedResource
   resource_ok uses slice r told same judged tree spelled are of_tables is =
       let there = subst (λ (cs : List (Component Proc)). all_outcomes (component_uses p) cs ≡ Ok uses) are told in
-      if_ok r (λ a j. inr (slice, there ∙ ap Ok (sym same), j)) (judged tree spelled are of_tables is)
+      IfOk-weaker r _ _ (λ a j. inr (slice, there ∙ ap Ok (sym same), j)) (judged tree spelled are of_tables is)
 
   pub resource_err : {E : Type 0} (f : NotedFault) (r : Result Answer E) → IsUntold (component_uses p) seats f → IfOk r (TellsNoted f)
       → OfNetwork (λ tree. IfOk r (IsJudgedResource p tree shape))
   unfolding IsJudgedResource
   resource_err f r untold told tree spelled are of_tables is =
-      if_ok r (λ a t. inl (f, subst (λ (cs : List (Component Proc)). IsUntold (component_uses p) cs f) are untold, t)) told
+      IfOk-weaker r _ _ (λ a t. inl (f, subst (λ (cs : List (Component Proc)). IsUntold (component_uses p) cs f) are untold, t)) told
 
   pub by_the_cyclic : {E : Type 0} (rule : Rule) (r : Result Answer E) → rule ≡ Cyclic → OfNetwork (λ tree. IfOk r (IsJudgedCyclic p tree shape))
       → OfNetwork (λ tree. IfOk r (IsJudgedBy p tree rule shape))
@@ -201,7 +193,7 @@ module _ (p : Content) (seats : List (Component Proc)) (tables : List ComponentT
   pub busy_ok : {E : Type 0} (rule : Rule) (r : Result Answer E) → IsBusyShape shape → OfNetwork (λ tree. IfOk r (IsJudgedBy p tree rule shape))
       → OfNetwork (λ tree. IfOk r (ShapeIsJudged p tree rule shape))
   unfolding ShapeIsJudged
-  busy_ok rule r busy judged tree spelled are of_tables is = if_ok r (λ a j. inr (busy, j)) (judged tree spelled are of_tables is)
+  busy_ok rule r busy judged tree spelled are of_tables is = IfOk-weaker r _ _ (λ a j. inr (busy, j)) (judged tree spelled are of_tables is)
 
   pub busy_err : {A E : Type 0} (rule : Rule) (f : BusyFault) (found : Result A BusyFault) (r : Result Answer E)
       → ((i : ℕ) (trace : List ℕ) → found ≡ Err (busy.Stops i trace) → StopsFirst shape i trace) → found ≡ Err f
@@ -227,20 +219,20 @@ module _ (p : Content) (seats : List (Component Proc)) where
       let of_leaves : AreMadeFor (ProcessStep p) (leaves tree) shape.parts =
       subst (λ (ps : List Part). AreMadeFor (ProcessStep p) (leaves tree) ps) (sym same) (subst (λ (cs : List (Component Proc)). AreMadeFor (ProcessStep p) cs parts) are made) in
       let is = made_parts_make_shapes (ProcessStep p) tree shape form of_leaves in
-      if_ok r (λ a j. inr (shape, subst (λ (cs : List (Component Proc)). TripleDisjoint (alphabets cs)) are apart, is, j)) (judged tree spelled are of_tables is)
+      IfOk-weaker r _ _ (λ a j. inr (shape, subst (λ (cs : List (Component Proc)). TripleDisjoint (alphabets cs)) are apart, is, j)) (judged tree spelled are of_tables is)
 
   pub shape_err : {E : Type 0} (rule : Rule) (tables : List ComponentTable) (f : TripleFault) (r : Result Answer E) → IsShared (alphabets seats) f → IfOk r (TellsTriple p f)
       → (tree : Tree Proc) → network_of p ≡ Ok tree → seats ≡ leaves tree → AreTablesOf p seats tables → IfOk r (AlphabetsAreJudged p tree rule)
   unfolding AlphabetsAreJudged
   shape_err rule tables (triple.Shared e parts) r shared told tree spelled are of_tables =
       let there = subst (λ (cs : List (Component Proc)). IsShared (alphabets cs) (triple.Shared e parts)) are shared in
-      if_ok r (λ a t. inl (e, parts.0, parts.1, parts.2, there, t)) told
+      IfOk-weaker r _ _ (λ a t. inl (e, parts.0, parts.1, parts.2, there, t)) told
 
   pub tables_ok : {E : Type 0} (rule : Rule) (tables : List ComponentTable) (r : Result Answer E) → AreTablesOf p seats tables → HaveFewSets tables
       → ((tree : Tree Proc) → network_of p ≡ Ok tree → seats ≡ leaves tree → AreTablesOf p seats tables → IfOk r (AlphabetsAreJudged p tree rule))
       → OfTree (λ tree. IfOk r (TablesAreJudged p tree rule tables))
   unfolding TablesAreJudged
-  tables_ok rule tables r of_tables few judged tree spelled are = if_ok r (λ a j. inr (few, j)) (judged tree spelled are of_tables)
+  tables_ok rule tables r of_tables few judged tree spelled are = IfOk-weaker r _ _ (λ a j. inr (few, j)) (judged tree spelled are of_tables)
 
   pub sets_err : {E : Type 0} (rule : Rule) (tables : List ComponentTable) (f : PartsFault) (r : Result Answer E) → TellsManySets tables f
       → IfOk r (TellsParts f) → OfTree (λ tree. IfOk r (TablesAreJudged p tree rule tables))
@@ -253,13 +245,13 @@ module _ (p : Content) (seats : List (Component Proc)) where
       → OfTree (λ tree. IfOk r (TablesAreJudged p tree rule tables)) → OfTree (λ tree. IfOk r (NetworkIsJudged p tree rule))
   unfolding NetworkIsJudged
   network_ok rule tables r of_tables judged tree spelled are =
-      if_ok r (λ a j. inr (tables, subst (λ (cs : List (Component Proc)). AreTablesOf p cs tables) are of_tables, j)) (judged tree spelled are)
+      IfOk-weaker r _ _ (λ a j. inr (tables, subst (λ (cs : List (Component Proc)). AreTablesOf p cs tables) are of_tables, j)) (judged tree spelled are)
 
   pub network_err : {E : Type 0} (rule : Rule) (f : TableFault) (r : Result Answer E) → TellsTable p seats f → IfOk r (TellsComponent p f)
       → OfTree (λ tree. IfOk r (NetworkIsJudged p tree rule))
   unfolding NetworkIsJudged
   network_err rule f r tells told tree spelled are =
-      if_ok r (λ a t. inl (f, subst (λ (cs : List (Component Proc)). TellsTable p cs f) are tells, t)) told
+      IfOk-weaker r _ _ (λ a t. inl (f, subst (λ (cs : List (Component Proc)). TellsTable p cs f) are tells, t)) told
 
   -- a network has 1 to 512 components
   pub some_seats : AreSeats (network_of p) seats → 1 ≤ length seats
@@ -270,7 +262,7 @@ module _ (p : Content) (seats : List (Component Proc)) where
 
   pub program_ok : {E : Type 0} (rule : Rule) (r : Result Answer E) → AreSeats (network_of p) seats → OfTree (λ tree. IfOk r (NetworkIsJudged p tree rule)) → IfOk r (ProgramIsJudged p rule)
   unfolding ProgramIsJudged
-  program_ok rule r laid judged = if_ok r (λ a j. inr (laid.tree, laid.spelled, j)) (judged laid.tree laid.spelled laid.whole)
+  program_ok rule r laid judged = IfOk-weaker r _ _ (λ a j. inr (laid.tree, laid.spelled, j)) (judged laid.tree laid.spelled laid.whole)
 
 -- the fault of a layout that was told
 pub program_err : {E : Type 0} (p : Content) (rule : Rule) (f : LayoutFault) (r : Result Answer E) → Fails f (network_of p) → IfOk r (TellsLayout p f) → IfOk r (ProgramIsJudged p rule)
@@ -285,7 +277,7 @@ program_err p rule (layout.NetworkDepth found) (Ok a) fails told = inl (layout.N
 
 pub script_ok : {E : Type 0} (s : Script) (p : Content) (rule : Rule) (r : Result Answer E) → IsProgram s p → IfOk r (ProgramIsJudged p rule) → IfOk r (IsJudged s rule)
 unfolding IsJudged
-script_ok s p rule r is judged = if_ok r (λ a j. inr (p, is, j)) judged
+script_ok s p rule r is judged = IfOk-weaker r _ _ (λ a j. inr (p, is, j)) judged
 
 pub script_err : {E : Type 0} (s : Script) (f : ResolveFault) (rule : Rule) (r : Result Answer E) → Resolves s (Err f) → IfOk r (TellsScript f) → IfOk r (IsJudged s rule)
 unfolding IsJudged

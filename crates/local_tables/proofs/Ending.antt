@@ -1,5 +1,5 @@
 -- The table of a component, once all terms are followed.
-use Rattle.std.proofs.Common.{◌≡◌, ℕ, ◌+◌, ◌<◌, ◌≤◌, List, [], ◌∷◌, length, refl, sym, ap, subst, ◌∙◌, arith}
+use Rattle.std.proofs.Common.{◌≡◌, ℕ, ◌+◌, ◌<◌, ◌≤◌, List, ◌∷◌, length, refl, sym, ap, subst, ◌∙◌, arith}
 use Rattle.std.specs.Prelude.{map, min}
 use Rattle.std.proofs.lemmas.Option.{slice_get_within}
 use Rattle.csp_program.specs.Lists.{total}
@@ -19,7 +19,8 @@ use Rattle.local_tables.specs.Stops.{HasEnd}
 use Rattle.local_tables.specs.declared.found.Found.{Found}
 use Rattle.local_tables.specs.declared.local_table.LocalTable.{LocalTable}
 use Rattle.local_tables.specs.declared.local_table.Room.{Room}
-use Rattle.local_tables.proofs.Lists.{length_map, one_at}
+use Rattle.local_tables.proofs.Lists.{one_at}
+use Rattle.std.proofs.lemmas.List.{length-map}
 
 uncapped : (n : ℕ) → capped n < 4294967295 → n ≡ capped n
 uncapped n h = let low : min n 4294967295 < 4294967295 = h in omega arith
@@ -73,7 +74,7 @@ local_table p c room found made up small table nodes steps =
           let before : n < length (terms_at found.pool found.terms) = slice_get_within terms n x h in
           let f = up.followed.before n (let less : n < found.table.count = omega arith in less) in
           record { list = f.list x h; goes_on = f.goes_on x h; shallow = up.within.shallow n x h };
-      few = let ids : length (terms_at found.pool found.terms) ≡ length found.terms = length_map (tree_at found.pool) found.terms in let few : length found.terms ≤ 16384 = up.within.few in omega arith;
+      few = let ids : length (terms_at found.pool found.terms) ≡ length found.terms = length-map found.terms (tree_at found.pool) in let few : length found.terms ≤ 16384 = up.within.few in omega arith;
       nodes = sizes_exact terms (omega arith) ∙ sizes ∙ sym nodes;
       steps = ap step_count table ∙ sym steps;
       room_for_nodes = omega arith;

@@ -1,5 +1,5 @@
 -- A term that is added, with the step by which it was found.
-use Rattle.std.proofs.Common.{◌≡◌, ℕ, ◌+◌, ◌<◌, ◌≤◌, List, [], ◌∷◌, ◌++◌, length, refl, sym, ap, subst, ◌∙◌, arith, inl, inr, true, false, eq-eqb}
+use Rattle.std.proofs.Common.{◌≡◌, ℕ, ◌+◌, ◌<◌, ◌≤◌, List, ◌∷◌, ◌++◌, length, refl, sym, ap, subst, ◌∙◌, arith, inl, inr, true, false, eq-eqb}
 use Rattle.std.specs.Prelude.{map, slice_get, Some}
 use Rattle.std.specs.Set.{is_member}
 use Rattle.std.proofs.lemmas.Bool.{false≢true}
@@ -10,7 +10,6 @@ use Rattle.csp_program.specs.Lists.{total}
 use Rattle.csp_program.specs.declared.processes.Proc.{Proc}
 use Rattle.csp_program.specs.declared.processes.Proc.TheVariants as proc
 use Rattle.csp_program.specs.declared.programs.Content.{Content}
-use Rattle.csp_tables.proofs.Listed.{any_of}
 use Rattle.csp_tables.specs.Label.{Label}
 use Rattle.csp_tables.specs.Label.Label.{silent, visible}
 use Rattle.csp_tables.specs.Path.{Path}
@@ -27,7 +26,10 @@ use Rattle.local_tables.specs.Progress.{AreFound, AreLed, ArePart, HasMoreTerms,
 use Rattle.local_tables.specs.declared.found.Found.{Found}
 use Rattle.local_tables.specs.declared.local_table.Room.{Room}
 use Rattle.local_tables.proofs.Labels.{reached_on}
-use Rattle.local_tables.proofs.Lists.{at_end, inside_still, kept_left, map_push, once_push, push_cases, terms_kept, total_push, under_map}
+use Rattle.local_tables.proofs.Lists.{inside_still, once_push, terms_kept, total_push, under_map}
+use Rattle.csp_base.proofs.Lists.{push_cases, map_push, slice_get_last}
+use Rattle.containers.proofs.MembersLemmas.{slice_get-append_left}
+use Rattle.std.proofs.lemmas.Map.Keys.{any_passes_from_place}
 
 pub same_step : (old new : RawTable) (m n : ℕ) (l : Label) → new.silent ≡ old.silent → new.steps ≡ old.steps → RawStep new m l n → RawStep old m l n
 same_step old new m n silent a b s = (s.0, subst (λ xs. slice_get xs s.0 ≡ Some (m, n)) a s.1)
@@ -37,18 +39,18 @@ pub step_of_more : (p : Content) (c : Component Proc) (terms more : List Proc) (
 step_of_more p c terms more m n l s = record {
   source = s.source;
   goal = s.goal;
-  from = kept_left terms more m s.source s.from;
-  to = kept_left terms more n s.goal s.to;
+  from = slice_get-append_left terms more m s.source s.from;
+  to = slice_get-append_left terms more n s.goal s.to;
   step = s.step;
 }
 
 pub in_table_more : (terms more : List Proc) (old new : RawTable) (m : ℕ) (l : Label) (d : Component Proc) → ((n : ℕ) → RawStep old m l n → RawStep new m l n) → IsInTable terms old m l d → IsInTable (terms ++ more) new m l d
-in_table_more terms more old new m l d kept i = record { number = i.number; listed = kept_left terms more i.number d.term i.listed; step = kept i.number i.step }
+in_table_more terms more old new m l d kept i = record { number = i.number; listed = slice_get-append_left terms more i.number d.term i.listed; step = kept i.number i.step }
 
 module _ (p : Content) (c : Component Proc) where
   led_added : (terms : List Proc) (origins : List Origin) (x source : Proc) (o : Origin) → AreLed p c terms origins → slice_get terms o.0 ≡ Some source → ComponentStep (ProcessStep p) (standing_at c source) (label_of o.1) (standing_at c x) → AreLed p c (terms ++ x ∷ []) (origins ++ o ∷ [])
   led_added terms origins x source o led from step = record {
-    first = kept_left terms (x ∷ []) 0 c.term led.first;
+    first = slice_get-append_left terms (x ∷ []) 0 c.term led.first;
     as_many = length-append terms (x ∷ []) ∙ ap (λ n. n + 1) led.as_many ∙ ap (λ n. n + 1) (sym (length-append origins (o ∷ [])));
     earlier = λ k q h. elim (push_cases origins o k q h) as (λ _. q.0 ≤ k) [
       | inl old ↦ led.earlier k q old
@@ -69,8 +71,8 @@ module _ (p : Content) (c : Component Proc) where
           (record {
             source = source;
             goal = x;
-            from = kept_left terms (x ∷ []) o.0 source from;
-            to = subst (λ n. slice_get (terms ++ x ∷ []) n ≡ Some x) end (at_end terms x);
+            from = slice_get-append_left terms (x ∷ []) o.0 source from;
+            to = subst (λ n. slice_get (terms ++ x ∷ []) n ≡ Some x) end (slice_get_last terms x);
             step = step;
           })
     ];
@@ -132,7 +134,7 @@ module _ (p : Content) (c : Component Proc) where
 -- ---- the same of what was found
 
 member_at : (ids : List ProcId) (to : ProcId) (k : ℕ) → slice_get ids k ≡ Some to → is_member eq_id ids to ≡ true
-member_at ids to k h = any_of (eq_id to) ids k to h (eq-eqb to.0 to.0 refl)
+member_at ids to k h = any_passes_from_place (eq_id to) ids k to h (eq-eqb to.0 to.0 refl)
 
 pub unknown_of : (ids : List ProcId) (to : ProcId) → is_member eq_id ids to ≡ false → (k : ℕ) → slice_get ids k ≡ Some to → ⊥
 unknown_of ids to none k h = false≢true (sym none ∙ member_at ids to k h)

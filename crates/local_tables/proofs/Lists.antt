@@ -1,5 +1,5 @@
 -- Elements of lists at their places, and the terms at places of a pool that grows.
-use Rattle.std.proofs.Common.{◌≡◌, ℕ, zero, suc, ◌+◌, ◌<◌, ◌⊎◌, List, [], ◌∷◌, ◌++◌, length, refl, sym, ap, ◌∙◌, arith, inl, inr}
+use Rattle.std.proofs.Common.{◌≡◌, ℕ, zero, suc, ◌+◌, ◌<◌, ◌⊎◌, List, ◌∷◌, ◌++◌, length, refl, sym, ap, ◌∙◌, arith, inl, inr}
 use Rattle.std.specs.Prelude.{map, slice_get, Some}
 use Rattle.std.proofs.lemmas.Option.{get_or_from_slice_get, slice_get-get_or, slice_get_within}
 use Rattle.csp_program.specs.Lists.{total}
@@ -10,6 +10,7 @@ use Rattle.term_pool.specs.Pooled.{IsFront}
 use Rattle.term_pool.specs.Trees.{tree_at}
 use Rattle.pool_parts.specs.declared.place.ProcId.{ProcId}
 use Rattle.local_tables.specs.Progress.{terms_at}
+use Rattle.csp_base.proofs.Lists.{push_cases}
 
 pub map_at : {X Y : Type 0} (f : X → Y) (xs : List X) (k : ℕ) (x : X) → slice_get xs k ≡ Some x → slice_get (map f xs) k ≡ Some (f x)
 map_at f [] k x h = cc
@@ -27,49 +28,16 @@ under_map f [] k y h = cc
 under_map f (x ∷ xs) zero y h = record { element = x; at = refl; is = cc }
 under_map f (x ∷ xs) (suc k) y h = let r = under_map f xs k y h in record { element = r.element; at = r.at; is = r.is }
 
-pub length_map : {X Y : Type 0} (f : X → Y) (xs : List X) → length (map f xs) ≡ length xs
-length_map f [] = refl
-length_map f (x ∷ xs) = let e : length (map f xs) ≡ length xs = length_map f xs in omega arith
-
 pub nothing_at : {X : Type 0} (xs : List X) (k : ℕ) (x : X) → xs ≡ [] → slice_get xs k ≡ Some x → ⊥
 nothing_at [] k x e h = cc
 nothing_at (y ∷ ys) k x e h = cc
-
-pub map_push : {X Y : Type 0} (f : X → Y) (xs : List X) (x : X) → map f (xs ++ x ∷ []) ≡ map f xs ++ f x ∷ []
-map_push f [] x = refl
-map_push f (y ∷ xs) x = ap (λ zs. f y ∷ zs) (map_push f xs x)
-
-pub map_join : {X Y : Type 0} (f : X → Y) (xs ys : List X) → map f (xs ++ ys) ≡ map f xs ++ map f ys
-map_join f [] ys = refl
-map_join f (x ∷ xs) ys = ap (λ zs. f x ∷ zs) (map_join f xs ys)
 
 pub total_push : (ns : List ℕ) (n : ℕ) → total (ns ++ n ∷ []) ≡ total ns + n
 total_push [] n = omega arith
 total_push (m ∷ ns) n = let e : total (ns ++ n ∷ []) ≡ total ns + n = total_push ns n in omega arith
 
--- an element of a list with one more at its end
-pub push_cases : {X : Type 0} (xs : List X) (x : X) (k : ℕ) (y : X) → slice_get (xs ++ x ∷ []) k ≡ Some y → (slice_get xs k ≡ Some y) ⊎ ((k ≡ length xs) × (x ≡ y))
-push_cases [] x zero y h = inr (refl, cc)
-push_cases [] x (suc k) y h = cc
-push_cases (z ∷ xs) x zero y h = inl h
-push_cases (z ∷ xs) x (suc k) y h = elim (push_cases xs x k y h) [ inl old ↦ inl old | inr last ↦ inr (let e : k ≡ length xs = last.0 in omega arith, last.1) ]
-
-pub at_end : {X : Type 0} (xs : List X) (x : X) → slice_get (xs ++ x ∷ []) (length xs) ≡ Some x
-at_end [] x = refl
-at_end (z ∷ xs) x = at_end xs x
-
-pub kept_left : {X : Type 0} (xs ys : List X) (k : ℕ) (y : X) → slice_get xs k ≡ Some y → slice_get (xs ++ ys) k ≡ Some y
-kept_left [] ys k y h = cc
-kept_left (x ∷ xs) ys zero y h = h
-kept_left (x ∷ xs) ys (suc k) y h = kept_left xs ys k y h
-
 pub one_at : {X : Type 0} (xs : List X) (k : ℕ) (x y : X) → slice_get xs k ≡ Some x → slice_get xs k ≡ Some y → x ≡ y
 one_at xs k x y h g = cc
-
-pub some_at : {X : Type 0} (xs : List X) (k : ℕ) → k < length xs → (x : X) × (slice_get xs k ≡ Some x)
-some_at [] k h = absurd (omega arith)
-some_at (x ∷ xs) zero h = (x, refl)
-some_at (x ∷ xs) (suc k) h = some_at xs k (omega arith)
 
 pub once_push : {X : Type 0} (xs : List X) (x : X) → EachOnce xs → ((k : ℕ) → slice_get xs k ≡ Some x → ⊥) → EachOnce (xs ++ x ∷ [])
 once_push {X} xs x once new j k y h g =

@@ -17,10 +17,6 @@ use Rattle.local_tables.specs.declared.fault.Stop.TheVariants as stop
 use Rattle.local_tables.specs.declared.found.Found.{Found}
 use Rattle.local_tables.specs.declared.local_table.Room.{Room}
 
-pub on_ok3 : {T E : Type 0} (r : Result T E) (P Q R S : Type 0) → OnOk r P → OnOk r Q → OnOk r R → (P → Q → R → S) → OnOk r S
-on_ok3 (Ok x) P Q R S a b d f = f a b d
-on_ok3 (Err e) P Q R S a b d f = tt
-
 pub always : {T E : Type 0} (r : Result T E) (P : Type 0) → P → OnOk r P
 always (Ok x) P h = h
 always (Err e) P h = tt

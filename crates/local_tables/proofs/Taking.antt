@@ -1,5 +1,5 @@
 -- The steps of one term, taken one after another.
-use Rattle.std.proofs.Common.{◌≡◌, ℕ, ◌+◌, ◌<◌, ◌≤◌, ◌⊎◌, Some, List, [], ◌∷◌, ◌++◌, length, refl, sym, ap, subst, ◌∙◌, arith, inl, inr, append-nil}
+use Rattle.std.proofs.Common.{◌≡◌, ℕ, ◌+◌, ◌<◌, ◌≤◌, ◌⊎◌, Some, List, ◌∷◌, ◌++◌, length, refl, sym, ap, subst, ◌∙◌, arith, inl, inr, append-nil}
 use Rattle.std.specs.Prelude.{slice_get}
 use Rattle.std.proofs.lemmas.Bool.{cases_lt}
 use Rattle.std.proofs.lemmas.Option.{slice_get_within}
@@ -24,19 +24,22 @@ use Rattle.local_tables.specs.declared.found.Found.{Found}
 use Rattle.local_tables.specs.declared.local_table.Room.{Room}
 use Rattle.local_tables.proofs.Growing.{found_kept, in_table_more, same_step}
 use Rattle.local_tables.proofs.Labels.{component_step, inside_of, label_is, no_tick, process_step, step_is, step_stands}
-use Rattle.local_tables.proofs.Lists.{at_end, kept_left, map_at, map_join, nothing_at, once_push, one_at, push_cases, some_at, terms_kept, under_map}
+use Rattle.local_tables.proofs.Lists.{map_at, nothing_at, once_push, one_at, terms_kept, under_map}
+use Rattle.std.proofs.lemmas.List.{map-append}
+use Rattle.csp_base.proofs.Lists.{push_cases, slice_get_last, slice_get_some}
+use Rattle.containers.proofs.MembersLemmas.{slice_get-append_left}
 
 -- ---- a step at the end of the table
 
 pub step_new : (old new : RawTable) (m n : ℕ) (l : Label) → HasStepMore old new m l n → RawStep new m l n
-step_new old new m n silent more = (length old.silent, subst (λ (r : RawTable). slice_get r.silent (length old.silent) ≡ Some (m, n)) (sym more) (at_end old.silent (m, n)))
-step_new old new m n (visible e) more = (length old.steps, subst (λ (r : RawTable). slice_get r.steps (length old.steps) ≡ Some (m, e, n)) (sym more) (at_end old.steps (m, e, n)))
+step_new old new m n silent more = (length old.silent, subst (λ (r : RawTable). slice_get r.silent (length old.silent) ≡ Some (m, n)) (sym more) (slice_get_last old.silent (m, n)))
+step_new old new m n (visible e) more = (length old.steps, subst (λ (r : RawTable). slice_get r.steps (length old.steps) ≡ Some (m, e, n)) (sym more) (slice_get_last old.steps (m, e, n)))
 
 pub step_kept : (old new : RawTable) (m n : ℕ) (l : Label) → HasStepMore old new m l n → (a b : ℕ) (k : Label) → RawStep old a k b → RawStep new a k b
-step_kept old new m n silent more a b silent s = (s.0, subst (λ (r : RawTable). slice_get r.silent s.0 ≡ Some (a, b)) (sym more) (kept_left old.silent ((m, n) ∷ []) s.0 (a, b) s.1))
+step_kept old new m n silent more a b silent s = (s.0, subst (λ (r : RawTable). slice_get r.silent s.0 ≡ Some (a, b)) (sym more) (slice_get-append_left old.silent ((m, n) ∷ []) s.0 (a, b) s.1))
 step_kept old new m n silent more a b (visible d) s = (s.0, subst (λ (r : RawTable). slice_get r.steps s.0 ≡ Some (a, d, b)) (sym more) s.1)
 step_kept old new m n (visible e) more a b silent s = (s.0, subst (λ (r : RawTable). slice_get r.silent s.0 ≡ Some (a, b)) (sym more) s.1)
-step_kept old new m n (visible e) more a b (visible d) s = (s.0, subst (λ (r : RawTable). slice_get r.steps s.0 ≡ Some (a, d, b)) (sym more) (kept_left old.steps ((m, e, n) ∷ []) s.0 (a, d, b) s.1))
+step_kept old new m n (visible e) more a b (visible d) s = (s.0, subst (λ (r : RawTable). slice_get r.steps s.0 ≡ Some (a, d, b)) (sym more) (slice_get-append_left old.steps ((m, e, n) ∷ []) s.0 (a, d, b) s.1))
 
 pub step_only : (old new : RawTable) (m n : ℕ) (l : Label) → HasStepMore old new m l n → (a b : ℕ) (k : Label) → RawStep new a k b → RawStep old a k b ⊎ ((a ≡ m) × (k ≡ l) × (b ≡ n))
 step_only old new m n silent more a b silent s =
@@ -101,8 +104,8 @@ module _ (p : Content) (c : Component Proc) where
     where
       before : (x : Proc) → slice_get (terms ++ more) k ≡ Some x → slice_get terms k ≡ Some x
       before x h =
-          let at = some_at terms k inside in
-          at.1 ∙ ap Some (one_at (terms ++ more) k at.0 x (kept_left terms more k at.0 at.1) h)
+          let at = slice_get_some terms k inside in
+          at.1 ∙ ap Some (one_at (terms ++ more) k at.0 x (slice_get-append_left terms more k at.0 at.1) h)
 
   -- ---- the steps of the term with the number `at`, of which the first i are taken
 
@@ -120,10 +123,10 @@ module _ (p : Content) (c : Component Proc) where
 
   module _ (trees : List Proc) (ids : List ProcId) (raw : RawTable) (at : ℕ) (steps : List StepTo) (i : ℕ) (are : AreTaken p c trees ids raw at steps i) (s : StepTo) (now : slice_get steps i ≡ Some s) where
     comes_later : (more : List ProcId) (l : Label) (n : ℕ) → ComesFrom ids steps i l n → ComesFrom (ids ++ more) steps (i + 1) l n
-    comes_later more l n f = record { place = f.place; before = let h : f.place < i = f.before in omega arith; id = f.id; number = kept_left ids more n f.id f.number; step = f.step }
+    comes_later more l n f = record { place = f.place; before = let h : f.place < i = f.before in omega arith; id = f.id; number = slice_get-append_left ids more n f.id f.number; step = f.step }
 
     leads_still : (more : List ProcId) (new : RawTable) (l : Label) (to : ProcId) → ((m n : ℕ) (k : Label) → RawStep raw m k n → RawStep new m k n) → LeadsTo ids raw at l to → LeadsTo (ids ++ more) new at l to
-    leads_still more new l to kept f = record { number = f.number; listed = kept_left ids more f.number to f.listed; step = kept at f.number l f.step }
+    leads_still more new l to kept f = record { number = f.number; listed = slice_get-append_left ids more f.number to f.listed; step = kept at f.number l f.step }
 
     taken_on : (more : List ProcId) (new : RawTable)
         → ((m n : ℕ) (k : Label) → RawStep raw m k n → RawStep new m k n)
@@ -131,7 +134,7 @@ module _ (p : Content) (c : Component Proc) where
         → IsTaken c.alphabet (ids ++ more) new at s
         → AreTaken p c trees (ids ++ more) new at steps (i + 1)
     taken_on more new kept only this =
-        let terms : terms_at trees (ids ++ more) ≡ terms_at trees ids ++ terms_at trees more = map_join (tree_at trees) ids more in
+        let terms : terms_at trees (ids ++ more) ≡ terms_at trees ids ++ terms_at trees more = map-append (tree_at trees) ids more in
         let inside : at < length (terms_at trees ids) = slice_get_within (terms_at trees ids) at are.term are.here in
         record {
           before = λ k h. subst (λ zs. IsFollowed p c zs new k) (sym terms) (followed_more (terms_at trees ids) (terms_at trees more) raw new k (omega arith) kept (are.before k h));
@@ -143,7 +146,7 @@ module _ (p : Content) (c : Component Proc) where
             | inr from ↦ inr from
           ];
           term = are.term;
-          here = subst (λ zs. slice_get zs at ≡ Some are.term) (sym terms) (kept_left (terms_at trees ids) (terms_at trees more) at are.term are.here);
+          here = subst (λ zs. slice_get zs at ≡ Some are.term) (sym terms) (slice_get-append_left (terms_at trees ids) (terms_at trees more) at are.term are.here);
           list = are.list;
           taken = λ j x h g. elim (cases_lt j i) as (λ _. IsTaken c.alphabet (ids ++ more) new at x) [
             | inl old ↦
@@ -252,20 +255,20 @@ module _ (p : Content) (c : Component Proc) where
 
 module _ (p : Content) (c : Component Proc) (old mid : Found) (from : ℕ) (l : Label) (to : ProcId) (more : HasMoreTerms old mid) (step : Steps p c old from l to) (number : ℕ) (there : slice_get mid.terms number ≡ Some to) where
   terms_more : terms_at mid.pool mid.terms ≡ terms_at old.pool old.terms ++ terms_at old.pool more.more
-  terms_more = ap (λ trees. terms_at trees mid.terms) more.pool ∙ ap (λ ids. terms_at old.pool ids) more.terms ∙ map_join (tree_at old.pool) old.terms more.more
+  terms_more = ap (λ trees. terms_at trees mid.terms) more.pool ∙ ap (λ ids. terms_at old.pool ids) more.terms ∙ map-append (tree_at old.pool) old.terms more.more
 
   fresh : IsSoFar p c old → ((n : ℕ) → slice_get old.terms n ≡ Some to → RawStep old.table from l n → ⊥) → RawStep mid.table from l number → ⊥
   fresh found new s =
       let before : RawStep old.table from l number = same_step old.table mid.table from number l more.silent more.steps s in
       let is = found.part.steps.sound from number l before in
       let u = under_map (tree_at old.pool) old.terms number is.goal is.to in
-      let same : u.element ≡ to = one_at mid.terms number u.element to (subst (λ ids. slice_get ids number ≡ Some u.element) (sym more.terms) (kept_left old.terms more.more number u.element u.at)) there in
+      let same : u.element ≡ to = one_at mid.terms number u.element to (subst (λ ids. slice_get ids number ≡ Some u.element) (sym more.terms) (slice_get-append_left old.terms more.more number u.element u.at)) there in
       new number (u.at ∙ ap Some same) before
 
   pub so_far_led : (raw : RawTable) → IsSoFar p c old → IsSoFar p c mid → ((n : ℕ) → slice_get old.terms n ≡ Some to → RawStep old.table from l n → ⊥) → HasStepMore mid.table raw from l number → AreFound p c mid.pool mid.terms mid.origins.items raw mid.nodes
   so_far_led raw before found new added =
       found_stepped p c mid.pool mid.terms mid.origins.items mid.table raw mid.nodes from number l step.source to found added (fresh before new)
-      (subst (λ zs. slice_get zs from ≡ Some step.source) (sym terms_more) (kept_left (terms_at old.pool old.terms) (terms_at old.pool more.more) from step.source step.listed))
+      (subst (λ zs. slice_get zs from ≡ Some step.source) (sym terms_more) (slice_get-append_left (terms_at old.pool old.terms) (terms_at old.pool more.more) from step.source step.listed))
       there
       (subst (λ trees. ComponentStep (ProcessStep p) (standing_at c step.source) l (standing_at c (tree_at trees to))) (sym more.pool) step.step)
 

@@ -1,5 +1,5 @@
 -- Depths by rounds: they are those of the definition, and once a round changes nothing no later one does.
-use Rattle.std.proofs.Common.{◌≡◌, ℕ, zero, suc, ◌+◌, ◌-◌, ◌≤◌, ◌<◌, max, min, Bool, true, IsTrue, ◌↔◌, Option, Some, None, List, [], ◌∷◌, ◌++◌, map, slice_get, slice_index, nat_lt, length, drop, get_or, drop-cons, add-one, append_assoc, refl, sym, ap, ◌∙◌, subst, arith}
+use Rattle.std.proofs.Common.{◌≡◌, ℕ, zero, suc, ◌+◌, ◌-◌, ◌≤◌, ◌<◌, max, min, Bool, true, IsTrue, ◌↔◌, Option, Some, None, List, ◌∷◌, ◌++◌, map, slice_get, slice_index, nat_lt, length, drop, get_or, add-one, append_assoc, refl, sym, ap, ◌∙◌, subst, arith}
 use Rattle.std.proofs.Math.ListN.{drop_of_length-le}
 use Rattle.std.proofs.lemmas.List.{append-nil}
 use Rattle.std.proofs.lemmas.Bool.{lt-ltb, ltb-true, ltb_from_iff}
@@ -15,6 +15,7 @@ use Rattle.name_notes.specs.declared.notes.Body.{Body}
 use Rattle.name_notes.specs.Found.{body_of, greatest_level, level_of, use_of}
 use Rattle.name_notes.specs.Heard.{used}
 use Rattle.name_faults.specs.Depths.{AreDepths, deepest_if, deepest_of, deepest_use, within}
+use Rattle.csp_base.proofs.Lists.{drop_read}
 
 -- what a body says, from what was noted of it
 module _ (f : ℕ → ℕ) where
@@ -159,17 +160,13 @@ unfolding AreDepths
 over_depth n bodies depths d are =
     over_is (depth_within n bodies d) ∙ ap (λ x. nat_lt 800 x) (ap (λ x. min x 801) (sym (depth_is n bodies d)) ∙ sym (are d))
 
--- loops: one more, and no more
-pub split_at : {X : Type 0} (xs : List X) (i : ℕ) (x : X) → i < length xs → x ≡ get_or xs i x → drop i xs ≡ x ∷ drop (i + 1) xs
-split_at xs i x within is = rw (add-one, drop-cons xs i x) (ap (λ y. y ∷ drop (suc i) xs) (sym is))
-
 pub map_step : {X Y : Type 0} (f : X → Y) (new old whole : List Y) (y : Y) (i : ℕ) (xs : List X) (x : X) → i < length xs → x ≡ get_or xs i x → y ≡ f x → new ≡ old ++ y ∷ []
     → old ++ map f (drop i xs) ≡ whole → new ++ map f (drop (i + 1) xs) ≡ whole
 map_step f new old whole y i xs x within is made now so_far =
     (λ j. now j ++ map f (drop (i + 1) xs))
     ∙ append_assoc old (y ∷ []) (map f (drop (i + 1) xs))
     ∙ ap (λ z. old ++ z ∷ map f (drop (i + 1) xs)) made
-    ∙ ap (λ ys. old ++ map f ys) (sym (split_at xs i x within is))
+    ∙ ap (λ ys. old ++ map f ys) (sym (drop_read xs i x within is))
     ∙ so_far
 
 pub map_end : {X Y : Type 0} (f : X → Y) (old whole : List Y) (i : ℕ) (xs : List X) → length xs ≤ i → old ++ map f (drop i xs) ≡ whole → old ≡ whole

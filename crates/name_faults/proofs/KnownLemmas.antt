@@ -1,8 +1,7 @@
 -- What is known of declarations, and what one says after them.
-use Rattle.std.proofs.Common.{◌≡◌, ℕ, suc, ◌+◌, ◌<◌, ◌≤◌, Bool, ◌&&◌, ◌||◌, Option, Some, None, List, [], ◌∷◌, ◌++◌, length, map, take, drop, get_or, slice_get, slice_index, nat_lt, refl, sym, ap, ◌∙◌, append_assoc, drop-cons, add-one, add-zero, subst, arith}
+use Rattle.std.proofs.Common.{◌≡◌, ℕ, ◌+◌, ◌<◌, ◌≤◌, Bool, ◌&&◌, ◌||◌, Option, Some, None, List, ◌∷◌, ◌++◌, length, map, take, drop, get_or, slice_get, slice_index, nat_lt, refl, sym, ap, ◌∙◌, append_assoc, add-zero, subst, arith}
 use Rattle.std.proofs.Math.ListN.{drop_of_length-le}
-use Rattle.std.proofs.Math.Seq.{take-suc}
-use Rattle.std.proofs.lemmas.List.{append-nil}
+use Rattle.std.proofs.lemmas.List.{append-nil, map-append, length_push}
 use Rattle.std.specs.List.{flat_map}
 use Rattle.csp_text.specs.declared.script.Decl.{Decl}
 use Rattle.csp_text.specs.declared.script.Decl.TheVariants as decl
@@ -12,11 +11,11 @@ use Rattle.script_names.specs.declared.kinds.Class.{Class}
 use Rattle.script_names.specs.declared.kinds.Class.TheVariants as class
 use Rattle.script_names.specs.declared.kinds.Kind.{Kind}
 use Rattle.script_names.specs.Faults.{is_constant, kind_class}
-use Rattle.script_names.specs.Names.{Name, Meanings, Entities, Counts, channels_from, constants_from, counted, declared, declared_from, declares as declares_of, first_of, is_among, meanings_of, none_yet}
+use Rattle.script_names.specs.Names.{Name, Meanings, Entities, Counts, channels_from, constants_from, counted, declared, declared_from, declares as declares_of, is_among, meanings_of, none_yet}
 use Rattle.script_names.specs.Occurrence.{Occurrence, declares}
 use Rattle.script_names.specs.Says.{tree_says}
 use Rattle.script_names.specs.Told.{annotation_says, bodies_from, body_place, counts_of, data_place, decl_says, declared_after, expanded_body, fault_in, first_fault, first_there, is_data, is_deep, name_fault, names_declared, next_definition, parameters_after, too_deep, types_say, with_roles, with_uses}
-use Rattle.name_tables.specs.Firsts.{SameFirsts, SameNames}
+use Rattle.name_tables.specs.Firsts.{SameNames}
 use Rattle.name_tables.proofs.NameLemmas.{same_names-append}
 use Rattle.name_notes.specs.declared.notes.Notes.{Notes}
 use Rattle.name_notes.specs.declared.notes.Body.{Body}
@@ -29,9 +28,7 @@ use Rattle.name_faults.specs.declared.known.Known.{Known}
 use Rattle.name_faults.specs.Depths.{AreDepths}
 use Rattle.name_faults.proofs.DepthLemmas.{over_depth}
 use Rattle.name_faults.specs.Known.{IsKnown, IsNext, declared_heard, deep_at, defines, fault_after, fault_from, names_in, nothing_known, parameters_heard, says_after, told}
-
-pub split_at : {X : Type 0} (xs : List X) (i : ℕ) (x : X) → i < length xs → x ≡ get_or xs i x → drop i xs ≡ x ∷ drop (i + 1) xs
-split_at xs i x within is = rw (add-one, drop-cons xs i x) (ap (λ y. y ∷ drop (suc i) xs) (sym is))
+use Rattle.csp_base.proofs.Lists.{drop_read, take_read, flat_map_push}
 
 -- names that are declared after the same ones
 declared_same : (xs ys zs : List Name) → SameNames xs ys → declared_after xs zs ≡ declared_after ys zs
@@ -104,14 +101,6 @@ defined_after : (n : Counts) (earlier : List Decl) (d : Decl) → (counts_of n (
 defined_after n [] d = defines_is n d
 defined_after n (e ∷ earlier) d = defined_after (counted n e) earlier d
 
-length-push : {X : Type 0} (xs : List X) (x : X) → length (xs ++ x ∷ []) ≡ length xs + 1
-length-push [] x = refl
-length-push (y ∷ xs) x = let h : length (xs ++ x ∷ []) ≡ length xs + 1 = length-push xs x in omega arith
-
-flat-push : {X Y : Type 0} (f : X → List Y) (xs : List X) (x : X) → flat_map f (xs ++ x ∷ []) ≡ flat_map f xs ++ f x
-flat-push f [] x = append-nil (f x)
-flat-push f (y ∷ xs) x = ap (λ zs. f y ++ zs) (flat-push f xs x) ∙ sym (append_assoc (f y) (flat_map f xs) (f x))
-
 -- the same names, with more
 more_names : (new old all here whole : List Name) → SameNames new (old ++ here) → SameNames old all → whole ≡ all ++ here → SameNames new whole
 more_names new old all here whole now before is x =
@@ -120,14 +109,14 @@ more_names new old all here whole now before is x =
 pub next_known : (earlier : List Decl) (k new : Known) (d : Decl) (after : Known) → IsKnown earlier k → IsNext k d new
     → after ≡ record new { declarations = new.declarations + 1; definitions = new.definitions + defines d } → IsKnown (earlier ++ d ∷ []) after
 next_known earlier k new d after known next is = record {
-  declarations = ap (λ (a : Known). a.declarations) is ∙ ap (λ n. n + 1) (next.declarations ∙ known.declarations) ∙ sym (length-push earlier d);
+  declarations = ap (λ (a : Known). a.declarations) is ∙ ap (λ n. n + 1) (next.declarations ∙ known.declarations) ∙ sym (length_push earlier d);
   definitions = ap (λ (a : Known). a.definitions) is ∙ ap (λ n. n + defines d) (next.definitions ∙ known.definitions) ∙ sym (defined_after none_yet earlier d);
   declared = more_names after.declared k.declared (names_declared earlier) (names_in d) (names_declared (earlier ++ d ∷ []))
       (λ x. ap (λ (a : Known). is_among a.declared x) is ∙ next.declared x) known.declared (names_after none_yet earlier d);
   roles = more_names after.roles k.roles (flat_map with_roles earlier) (with_roles d) (flat_map with_roles (earlier ++ d ∷ []))
-      (λ x. ap (λ (a : Known). is_among a.roles x) is ∙ next.roles x) known.roles (flat-push with_roles earlier d);
+      (λ x. ap (λ (a : Known). is_among a.roles x) is ∙ next.roles x) known.roles (flat_map_push with_roles earlier d);
   uses = more_names after.uses k.uses (flat_map with_uses earlier) (with_uses d) (flat_map with_uses (earlier ++ d ∷ []))
-      (λ x. ap (λ (a : Known). is_among a.uses x) is ∙ next.uses x) known.uses (flat-push with_uses earlier d);
+      (λ x. ap (λ (a : Known). is_among a.uses x) is ∙ next.uses x) known.uses (flat_map_push with_uses earlier d);
 }
 
 pub nothing_is_known : (k : Known) → k ≡ nothing_known → IsKnown [] k
@@ -160,9 +149,6 @@ only_one (Some f) = refl
 none_first : (p q : Option ResolveFault) → None ≡ p → first_there (p ∷ q ∷ []) ≡ q
 none_first p q h = ap (λ o. first_there (o ∷ q ∷ [])) (sym h) ∙ only_one q
 
-pub take_more : {X : Type 0} (xs : List X) (i : ℕ) (x : X) → i < length xs → x ≡ get_or xs i x → take (i + 1) xs ≡ take i xs ++ x ∷ []
-take_more xs i x within is = rw (add-one, take-suc xs i x within) (ap (λ y. take i xs ++ y ∷ []) (sym is))
-
 module _ (script : List Decl) (kinds : List Kind) (m : Meanings) (same : m ≡ meanings_of script) (depths : List ℕ)
     (deep : (n : ℕ) → is_deep kinds (bodies_from (meanings_of script) kinds 0 script) n ≡ nat_lt 800 (slice_index depths n)) where
   fault_is : (earlier : List Decl) (k : Known) (d : Decl) → IsKnown earlier k → fault_after m kinds depths k d ≡ fault_in script kinds earlier d
@@ -183,7 +169,7 @@ module _ (script : List Decl) (kinds : List Kind) (m : Meanings) (same : m ≡ m
   told_here i k d o f whole within is known so_far some found =
       found_first f (fault_in script kinds (take i script) d) (first_fault script kinds (take i script ++ d ∷ []) (drop (i + 1) script))
       (sym some ∙ found ∙ fault_is (take i script) k d known)
-      ∙ ap (λ ds. first_fault script kinds (take i script) ds) (sym (split_at script i d within is))
+      ∙ ap (λ ds. first_fault script kinds (take i script) ds) (sym (drop_read script i d within is))
       ∙ so_far
 
   -- it has none
@@ -192,9 +178,9 @@ module _ (script : List Decl) (kinds : List Kind) (m : Meanings) (same : m ≡ m
       → o ≡ None → o ≡ fault_after m kinds depths k d → fault_from script kinds (take (i + 1) script) (drop (i + 1) script) ≡ whole
   unfolding fault_from
   passed i k d o whole within is known so_far none found =
-      ap (λ ds. first_fault script kinds ds (drop (i + 1) script)) (take_more script i d within is)
+      ap (λ ds. first_fault script kinds ds (drop (i + 1) script)) (take_read script i d within is)
       ∙ sym (none_first (fault_in script kinds (take i script) d) (first_fault script kinds (take i script ++ d ∷ []) (drop (i + 1) script)) (sym none ∙ found ∙ fault_is (take i script) k d known))
-      ∙ ap (λ ds. first_fault script kinds (take i script) ds) (sym (split_at script i d within is))
+      ∙ ap (λ ds. first_fault script kinds (take i script) ds) (sym (drop_read script i d within is))
       ∙ so_far
 
 -- no declaration is left
@@ -212,10 +198,6 @@ pub deep_so : (script : List Decl) (kinds : List Kind) (m : Meanings) (same : m 
 deep_so script kinds m same depths are n =
     over_depth 801 (bodies_from (meanings_of script) kinds 0 script) depths n
     (subst (λ (k : Meanings). AreDepths 801 (map body_of (bodies_from k kinds 0 script)) depths) same are)
-
--- names that stand for what the script declares
-pub same_meanings : (script : List Decl) (es : Entities) → SameFirsts es (declared script) → first_of es ≡ meanings_of script
-same_meanings script es same = λ i x. same x i
 
 -- the bodies of one more declaration
 pub bodies_split : (m : Meanings) (kinds : List Kind) (n : ℕ) (d : Decl) (rest : List Decl) →
@@ -237,10 +219,6 @@ bodies_count m kinds n (decl.Assert t) = refl
 bodies_count m kinds n (decl.Roles names) = refl
 bodies_count m kinds n (decl.Resource names) = refl
 
-map-append : {X Y : Type 0} (f : X → Y) (xs ys : List X) → map f (xs ++ ys) ≡ map f xs ++ map f ys
-map-append f [] ys = refl
-map-append f (x ∷ xs) ys = ap (λ zs. f x ∷ zs) (map-append f xs ys)
-
 length-both : {X : Type 0} (xs ys : List X) → length (xs ++ ys) ≡ length xs + length ys
 length-both [] ys = omega arith
 length-both (x ∷ xs) ys = let h : length (xs ++ ys) ≡ length xs + length ys = length-both xs ys in omega arith
@@ -257,7 +235,7 @@ bodies_step m kinds decls i d old new whole within is now so_far =
     ∙ append_assoc old (map body_of here) (map body_of (bodies_from m kinds (length old + defines d) rest))
     ∙ ap (λ bs. old ++ bs) (sym (map-append body_of here (bodies_from m kinds (length old + defines d) rest)))
     ∙ ap (λ bs. old ++ map body_of bs) (sym (bodies_split m kinds (length old) d rest))
-    ∙ ap (λ ds. old ++ map body_of (bodies_from m kinds (length old) ds)) (sym (split_at decls i d within is))
+    ∙ ap (λ ds. old ++ map body_of (bodies_from m kinds (length old) ds)) (sym (drop_read decls i d within is))
     ∙ so_far
 
 pub bodies_end : (m : Meanings) (kinds : List Kind) (decls : List Decl) (i : ℕ) (old whole : List Body) → length decls ≤ i
@@ -278,7 +256,7 @@ pub declared_step : (before after : List Name) (n new whole : Notes) (i : ℕ) (
 declared_step before after n new whole i xs x within is same now so_far =
     heard_same after (before ++ x ∷ []) (drop (i + 1) xs) new same
     ∙ ap (λ k. declared_heard (before ++ x ∷ []) k (drop (i + 1) xs)) now
-    ∙ ap (λ ys. declared_heard before n ys) (sym (split_at xs i x within is))
+    ∙ ap (λ ys. declared_heard before n ys) (sym (drop_read xs i x within is))
     ∙ so_far
 
 pub declared_end : (before : List Name) (n whole : Notes) (i : ℕ) (xs : List Name) → length xs ≤ i → declared_heard before n (drop i xs) ≡ whole → n ≡ whole
@@ -288,7 +266,7 @@ pub names_step : (new old whole : List Name) (i : ℕ) (xs : List Name) (x : Nam
     → SameNames (old ++ drop i xs) whole → SameNames (new ++ drop (i + 1) xs) whole
 names_step new old whole i xs x within is now so_far y =
     same_names-append new (old ++ x ∷ []) (drop (i + 1) xs) now y
-    ∙ ap (λ ys. is_among ys y) (append_assoc old (x ∷ []) (drop (i + 1) xs) ∙ ap (λ ys. old ++ ys) (sym (split_at xs i x within is)))
+    ∙ ap (λ ys. is_among ys y) (append_assoc old (x ∷ []) (drop (i + 1) xs) ∙ ap (λ ys. old ++ ys) (sym (drop_read xs i x within is)))
     ∙ so_far y
 
 pub names_end : (old whole : List Name) (i : ℕ) (xs : List Name) → length xs ≤ i → SameNames (old ++ drop i xs) whole → SameNames old whole
@@ -307,7 +285,7 @@ module _ (m : Meanings) where
   parameters_step before after n new whole i xs x within is same now so_far =
       parameters_same after (before ++ x ∷ []) (drop (i + 1) xs) new same
       ∙ ap (λ k. parameters_heard m (before ++ x ∷ []) k (drop (i + 1) xs)) now
-      ∙ ap (λ ys. parameters_heard m before n ys) (sym (split_at xs i x within is))
+      ∙ ap (λ ys. parameters_heard m before n ys) (sym (drop_read xs i x within is))
       ∙ so_far
 
   pub parameters_end : (before : List Name) (n whole : Notes) (i : ℕ) (xs : List Name) → length xs ≤ i → parameters_heard m before n (drop i xs) ≡ whole → n ≡ whole
@@ -319,7 +297,7 @@ module _ (m : Meanings) where
   types_step kinds n new whole i ts t within is now so_far =
       ap (λ k. heard_all m kinds k (types_say m kinds (drop (i + 1) ts))) now
       ∙ sym (heard_all-append m kinds n (tree_says m t data_place []) (types_say m kinds (drop (i + 1) ts)))
-      ∙ ap (λ us. heard_all m kinds n (types_say m kinds us)) (sym (split_at ts i t within is))
+      ∙ ap (λ us. heard_all m kinds n (types_say m kinds us)) (sym (drop_read ts i t within is))
       ∙ so_far
 
   pub types_end : (kinds : List Kind) (n whole : Notes) (i : ℕ) (ts : List Tree) → length ts ≤ i → heard_all m kinds n (types_say m kinds (drop i ts)) ≡ whole → n ≡ whole

@@ -1,5 +1,5 @@
 -- The names that generators and fields bind.
-use Rattle.std.proofs.Common.{◌≡◌, ℕ, zero, suc, Option, Some, None, List, [], ◌∷◌, ◌++◌, length, map, take, drop, get_or, ◌+◌, ◌<◌, ◌≤◌, drop-cons, add-one, append_assoc, refl, ap, sym, ◌∙◌}
+use Rattle.std.proofs.Common.{◌≡◌, ℕ, zero, suc, Option, Some, None, List, ◌∷◌, ◌++◌, length, map, take, drop, get_or, ◌+◌, ◌<◌, ◌≤◌, append_assoc, refl, ap, sym, ◌∙◌}
 use Rattle.std.proofs.Math.ListN.{drop_of_length-le}
 use Rattle.std.proofs.lemmas.List.{append-nil}
 use Rattle.csp_text.specs.declared.tree.FieldTree.{FieldTree}
@@ -15,6 +15,7 @@ use Rattle.csp_text.specs.declared.tree.Tree.{Tree}
 use Rattle.script_names.specs.Names.{Name, Meanings}
 use Rattle.script_names.specs.Says.{Binder, Fields, Said, event_says_of_layer, field_says_of_layer, gen_says_of_layer, part_says_of_layer, tree_says_of_layer}
 use Rattle.name_notes.specs.Told.{field_binder, field_names, gen_binder, gen_names, names_of_field, names_of_gen}
+use Rattle.csp_base.proofs.Lists.{drop_read}
 
 pub gen_names-From : (x : List ℕ) (s : Tree) → gen_names (generator.From x s) ≡ x ∷ []
 unfolding gen_names
@@ -53,16 +54,13 @@ map-take f zero xs = refl
 map-take f (suc n) [] = refl
 map-take f (suc n) (x ∷ xs) = ap (λ ys. f x ∷ ys) (map-take f n xs)
 
-pub split_at : {X : Type 0} (xs : List X) (i : ℕ) (x : X) → i < length xs → x ≡ get_or xs i x → drop i xs ≡ x ∷ drop (i + 1) xs
-split_at xs i x within is = rw (add-one, drop-cons xs i x) (ap (λ y. y ∷ drop (suc i) xs) (sym is))
-
 -- one more name, and no more
 pub bound_step : (new old whole : List Name) (i : ℕ) (xs : List Name) (x : Name) → i < length xs → x ≡ get_or xs i x → new ≡ old ++ x ∷ []
     → old ++ drop i xs ≡ whole → new ++ drop (i + 1) xs ≡ whole
 bound_step new old whole i xs x within is now so_far =
     ap (λ ys. ys ++ drop (i + 1) xs) now
     ∙ append_assoc old (x ∷ []) (drop (i + 1) xs)
-    ∙ ap (λ ys. old ++ ys) (sym (split_at xs i x within is))
+    ∙ ap (λ ys. old ++ ys) (sym (drop_read xs i x within is))
     ∙ so_far
 
 pub bound_end : (old whole : List Name) (i : ℕ) (xs : List Name) → length xs ≤ i → old ++ drop i xs ≡ whole → old ≡ whole

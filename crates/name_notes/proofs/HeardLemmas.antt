@@ -1,5 +1,5 @@
 -- What the notes come to.
-use Rattle.std.proofs.Common.{◌≡◌, ℕ, zero, suc, Bool, true, false, not, ◌||◌, max, Option, Some, None, List, [], ◌∷◌, ◌++◌, refl, sym, ap, ◌∙◌, append_assoc, arith}
+use Rattle.std.proofs.Common.{◌≡◌, ℕ, zero, suc, Bool, not, ◌||◌, max, Option, Some, None, List, ◌∷◌, ◌++◌, refl, sym, ap, ◌∙◌, append_assoc, arith}
 use Rattle.std.proofs.lemmas.List.{append-nil}
 use Rattle.std.specs.List.{flat_map, list_any}
 use Rattle.script_names.specs.declared.kinds.Class.{Class}
@@ -18,24 +18,18 @@ use Rattle.script_names.specs.Told.{first_name, first_there}
 use Rattle.name_notes.specs.declared.notes.Notes.{Notes}
 use Rattle.name_notes.specs.Found.{body_of, findings_of, greatest_level, level_of, use_of}
 use Rattle.name_notes.specs.Heard.{again_heard, clash, first_found, form_heard, heard, heard_all, is_unknown, is_use_inside, is_wrong_count, is_wrong_use, nothing_heard, parallel_heard, use_heard}
+use Rattle.csp_base.proofs.Booleans.{or_none}
+use Rattle.std.proofs.Math.Bool.{or_assoc}
 
 none_more : (o : Option Name) → o ≡ first_found o None
 none_more (Some x) = refl
 none_more None = refl
-
-no_more : (b : Bool) → b ≡ (b || false)
-no_more true = refl
-no_more false = refl
 
 -- a test that finds a name
 found_step : (o : Option Name) (p : Option Name) (rest : List (Option Name)) → first_found (first_found o p) (first_there rest) ≡ first_found o (first_there (p ∷ rest))
 found_step (Some x) p rest = refl
 found_step None (Some y) rest = refl
 found_step None None rest = refl
-
-or_step : (a b c : Bool) → ((a || b) || c) ≡ (a || (b || c))
-or_step true b c = refl
-or_step false b c = refl
 
 zero_max : (n : ℕ) → max 0 n ≡ n
 zero_max n = omega arith
@@ -101,8 +95,8 @@ module _ (m : Meanings) (kinds : List Kind) where
 
   any_along : (of : Notes → Bool) (test : Occurrence → Bool) → ((n : Notes) (o : Occurrence) → of (heard m kinds n o) ≡ (of n || test o))
       → (n : Notes) (os : List Occurrence) → of (heard_all m kinds n os) ≡ (of n || list_any test os)
-  any_along of test step n [] = no_more (of n)
-  any_along of test step n (o ∷ os) = any_along of test step (heard m kinds n o) os ∙ ap (λ b. b || list_any test os) (step n o) ∙ or_step (of n) (test o) (list_any test os)
+  any_along of test step n [] = or_none (of n)
+  any_along of test step n (o ∷ os) = any_along of test step (heard m kinds n o) os ∙ ap (λ b. b || list_any test os) (step n o) ∙ or_assoc (of n) (test o) (list_any test os)
 
   unknown_step : (n : Notes) (o : Occurrence) → (heard m kinds n o).findings.unknown ≡ first_found n.findings.unknown (unknown_name o)
   unfolding again_heard use_heard form_heard parallel_heard
@@ -124,9 +118,9 @@ module _ (m : Meanings) (kinds : List Kind) where
 
   wrong_kind_step : (n : Notes) (o : Occurrence) → (heard m kinds n o).findings.wrong_kind ≡ (n.findings.wrong_kind || is_wrong_kind kinds o)
   unfolding again_heard use_heard form_heard parallel_heard
-  wrong_kind_step n (declares x b) = no_more n.findings.wrong_kind
-  wrong_kind_step n (binds x b) = no_more n.findings.wrong_kind
-  wrong_kind_step n (notes x b) = no_more n.findings.wrong_kind
+  wrong_kind_step n (declares x b) = or_none n.findings.wrong_kind
+  wrong_kind_step n (binds x b) = or_none n.findings.wrong_kind
+  wrong_kind_step n (notes x b) = or_none n.findings.wrong_kind
   wrong_kind_step n (uses x s h) = ap (λ b. n.findings.wrong_kind || b) (wrong_use_is kinds x s h)
   wrong_kind_step n (form c place) = ap (λ b. n.findings.wrong_kind || b) (clash_is kinds c place.need)
   wrong_kind_step n (parallel place) = ap (λ b. n.findings.wrong_kind || b) (clash_is kinds class.Process place.need)
@@ -142,11 +136,11 @@ module _ (m : Meanings) (kinds : List Kind) where
 
   inside_step : (n : Notes) (o : Occurrence) → (heard m kinds n o).findings.inside ≡ (n.findings.inside || is_inside kinds o)
   unfolding again_heard use_heard form_heard parallel_heard
-  inside_step n (declares x b) = no_more n.findings.inside
-  inside_step n (binds x b) = no_more n.findings.inside
-  inside_step n (notes x b) = no_more n.findings.inside
+  inside_step n (declares x b) = or_none n.findings.inside
+  inside_step n (binds x b) = or_none n.findings.inside
+  inside_step n (notes x b) = or_none n.findings.inside
   inside_step n (uses x s h) = ap (λ b. n.findings.inside || b) (inside_is kinds x s h)
-  inside_step n (form c place) = no_more n.findings.inside
+  inside_step n (form c place) = or_none n.findings.inside
   inside_step n (parallel place) = refl
 
   level_step : (n : Notes) (o : Occurrence) → (heard m kinds n o).body.level ≡ max n.body.level (level_of o)

@@ -1,5 +1,5 @@
 -- What is noted after each form of tree, step by step.
-use Rattle.std.proofs.Common.{◌≡◌, ℕ, suc, false, ◌||◌, Some, None, List, [], ◌∷◌, ◌++◌, length, map, refl, ap, sym, ◌∙◌, append_assoc}
+use Rattle.std.proofs.Common.{◌≡◌, ℕ, false, ◌||◌, Some, None, List, ◌∷◌, ◌++◌, length, map, refl, ap, sym, ◌∙◌, append_assoc}
 use Rattle.std.specs.List.{flat_map}
 use Rattle.csp_base.specs.declared.operators.BinOp.{BinOp}
 use Rattle.csp_base.specs.declared.operators.SetOp.{SetOp}
@@ -26,14 +26,11 @@ use Rattle.name_notes.specs.declared.notes.Notes.{Notes}
 use Rattle.name_notes.specs.Heard.{again_heard, form_heard, heard, heard_all, parallel_heard, use_heard}
 use Rattle.name_notes.specs.Told.{event_fields, field_binder, field_names, field_told, fields_told, gen_binder, gen_names, gen_told, gens_told, pair_fields, pair_told, pairs_told, part_fields, part_told, parts_told, tree_told, trees_told}
 use Rattle.name_notes.proofs.Binders.{field_binds, gen_binds}
+use Rattle.std.proofs.lemmas.List.{length-map}
 
 nothing_after : (xs : List Name) → xs ≡ xs ++ []
 nothing_after [] = refl
 nothing_after (x ∷ xs) = ap (λ ys. x ∷ ys) (nothing_after xs)
-
-length-map : {X Y : Type 0} (f : X → Y) (xs : List X) → length (map f xs) ≡ length xs
-length-map f [] = refl
-length-map f (x ∷ xs) = ap (λ n. suc n) (length-map f xs)
 
 module _ (m : Meanings) where
   -- the names that are bound after generators, and after fields
@@ -107,14 +104,14 @@ module _ (m : Meanings) (kinds : List Kind) where
   unfolding tree_told trees_told gens_told parts_told pairs_told
   told-Call f args place names n =
       ap (λ (f : Said). heard_all m kinds n (f place names)) (ap (tree_says m) (sym (tree.rolls-Call f args)) ∙ fold-roll-Tree Binder Binder Said (Fields Binder) (Fields Said) (field_says_of_layer m) (gen_says_of_layer m) (tree_says_of_layer m) (event_says_of_layer m) (part_says_of_layer m) (Tree-F.Call f args))
-      ∙ ap (λ hole. heard_all m kinds (use_heard kinds n f (sense_in m names f) (how.Called hole place)) (all_say (map (tree_says m) args) (data_in place) names)) (length-map (tree_says m) args)
+      ∙ ap (λ hole. heard_all m kinds (use_heard kinds n f (sense_in m names f) (how.Called hole place)) (all_say (map (tree_says m) args) (data_in place) names)) (length-map args (tree_says m))
 
   pub told-Dot : (c : List ℕ) (fields : List Tree) (place : Place) (names : List Name) (n : Notes) →
       tree_told m kinds (tree.Dot c fields) place names n ≡ (trees_told m kinds fields (data_in place) names (use_heard kinds (form_heard n class.Data place) c (sense_in m names c) (how.Dotted (length fields))))
   unfolding tree_told trees_told gens_told parts_told pairs_told
   told-Dot c fields place names n =
       ap (λ (f : Said). heard_all m kinds n (f place names)) (ap (tree_says m) (sym (tree.rolls-Dot c fields)) ∙ fold-roll-Tree Binder Binder Said (Fields Binder) (Fields Said) (field_says_of_layer m) (gen_says_of_layer m) (tree_says_of_layer m) (event_says_of_layer m) (part_says_of_layer m) (Tree-F.«Tree::Dot» c fields))
-      ∙ ap (λ hole. heard_all m kinds (use_heard kinds (form_heard n class.Data place) c (sense_in m names c) (how.Dotted hole)) (all_say (map (tree_says m) fields) (data_in place) names)) (length-map (tree_says m) fields)
+      ∙ ap (λ hole. heard_all m kinds (use_heard kinds (form_heard n class.Data place) c (sense_in m names c) (how.Dotted hole)) (all_say (map (tree_says m) fields) (data_in place) names)) (length-map fields (tree_says m))
 
   pub told-Neg : (a : Tree) (place : Place) (names : List Name) (n : Notes) →
       tree_told m kinds (tree.Neg a) place names n ≡ (tree_told m kinds a (data_in place) names (form_heard n class.Data place))
@@ -274,7 +271,7 @@ module _ (m : Meanings) (kinds : List Kind) where
       ∙ heading (event_fields m event) p place names n
       ∙ ap (λ (e : Fields Binder). tree_told m kinds p (process_in place) (under e.fields names) (heard_all m kinds (use_heard kinds (form_heard n class.Process place) e.name (sense_in m names e.name) (how.Heads (length e.fields))) (in_turn e.fields place names))) (event_is m event)
       ∙ ap (λ hole. tree_told m kinds p (process_in place) hole (heard_all m kinds (use_heard kinds (form_heard n class.Process place) x (sense_in m names x) (how.Heads (length (map (field_binder m) fields)))) (in_turn (map (field_binder m) fields) place names))) (under-fields m fields names)
-      ∙ ap (λ hole. tree_told m kinds p (process_in place) (names ++ flat_map field_names fields) (fields_told m kinds fields place names (use_heard kinds (form_heard n class.Process place) x (sense_in m names x) (how.Heads hole)))) (length-map (field_binder m) fields)
+      ∙ ap (λ hole. tree_told m kinds p (process_in place) (names ++ flat_map field_names fields) (fields_told m kinds fields place names (use_heard kinds (form_heard n class.Process place) x (sense_in m names x) (how.Heads hole)))) (length-map fields (field_binder m))
 
   pub told-field-Dot : (a : Tree) (place : Place) (names : List Name) (n : Notes) → field_told m kinds (field.Dot a) place names n ≡ tree_told m kinds a (data_in place) names n
   unfolding tree_told field_told
@@ -317,7 +314,7 @@ module _ (m : Meanings) (kinds : List Kind) where
       let x = (out-PartTree part).name in
       let fields = (out-PartTree part).fields in
       ap (λ (f : Fields Said). heard_all m kinds n (part_says m f place names)) (part_is m part)
-      ∙ ap (λ hole. trees_told m kinds fields (data_in place) names (use_heard kinds n x (sense_in m names x) (how.Begins hole))) (length-map (tree_says m) fields)
+      ∙ ap (λ hole. trees_told m kinds fields (data_in place) names (use_heard kinds n x (sense_in m names x) (how.Begins hole))) (length-map fields (tree_says m))
 
   pub told-pair : (old new : PartTree) (place : Place) (names : List Name) (n : Notes) →
       pair_told m kinds (old, new) place names n
@@ -331,7 +328,7 @@ module _ (m : Meanings) (kinds : List Kind) where
       let rest : Notes → Notes = λ used. heard_all m kinds used (part_says m (part_fields m old) place names ++ part_says m (part_fields m new) place names) in
       ap (λ (f : Fields Said). rest (use_heard kinds n f.name (sense_in m names f.name) (how.Renamed (length f.fields) (sense_in m names (part_fields m new).name) (length (part_fields m new).fields)))) (part_is m old)
       ∙ ap (λ (f : Fields Said). rest (use_heard kinds n left.name (sense_in m names left.name) (how.Renamed (length (map (tree_says m) left.fields)) (sense_in m names f.name) (length f.fields)))) (part_is m new)
-      ∙ (λ i. rest (use_heard kinds n left.name (sense_in m names left.name) (how.Renamed (length-map (tree_says m) left.fields i) (sense_in m names right.name) (length-map (tree_says m) right.fields i))))
+      ∙ (λ i. rest (use_heard kinds n left.name (sense_in m names left.name) (how.Renamed (length-map left.fields (tree_says m) i) (sense_in m names right.name) (length-map right.fields (tree_says m) i))))
       ∙ heard_all-append (use_heard kinds n left.name (sense_in m names left.name) (how.Renamed (length left.fields) (sense_in m names right.name) (length right.fields)))
       (part_says m (part_fields m old) place names) (part_says m (part_fields m new) place names)
 

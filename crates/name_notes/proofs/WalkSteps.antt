@@ -10,8 +10,8 @@ use Rattle.script_names.specs.declared.kinds.Place.{Place}
 use Rattle.script_names.specs.Names.{Name, Meanings}
 use Rattle.name_notes.specs.declared.notes.Notes.{Notes}
 use Rattle.name_notes.specs.Told.{field_names, field_told, fields_told, gen_names, gen_told, gens_told, pair_told, pairs_told, part_told, parts_told, tree_told, trees_told}
-use Rattle.name_notes.proofs.Binders.{split_at}
 use Rattle.name_notes.proofs.ToldEquations.{fields_told-first, gens_told-first, pairs_told-first, parts_told-first, trees_told-first}
+use Rattle.csp_base.proofs.Lists.{drop_read}
 
 module _ (m : Meanings) (kinds : List Kind) where
   pub trees_told-step : (xs : List (Tree)) (i : ℕ) (x : Tree) (place : Place) (names after : List Name) (n new whole : Notes) → i < length xs → x ≡ get_or xs i x
@@ -20,7 +20,7 @@ module _ (m : Meanings) (kinds : List Kind) where
   trees_told-step xs i x place names after n new whole within is now bound so_far =
       (λ j. trees_told m kinds (drop (i + 1) xs) place (bound j) (now j))
       ∙ sym (trees_told-first m kinds x (drop (i + 1) xs) place names n)
-      ∙ ap (λ ys. trees_told m kinds ys place names n) (sym (split_at xs i x within is))
+      ∙ ap (λ ys. trees_told m kinds ys place names n) (sym (drop_read xs i x within is))
       ∙ so_far
 
   pub trees_told-end : (xs : List (Tree)) (i : ℕ) (place : Place) (names : List Name) (n whole : Notes) → length xs ≤ i → trees_told m kinds (drop i xs) place names n ≡ whole → n ≡ whole
@@ -33,7 +33,7 @@ module _ (m : Meanings) (kinds : List Kind) where
   parts_told-step xs i x place names after n new whole within is now bound so_far =
       (λ j. parts_told m kinds (drop (i + 1) xs) place (bound j) (now j))
       ∙ sym (parts_told-first m kinds x (drop (i + 1) xs) place names n)
-      ∙ ap (λ ys. parts_told m kinds ys place names n) (sym (split_at xs i x within is))
+      ∙ ap (λ ys. parts_told m kinds ys place names n) (sym (drop_read xs i x within is))
       ∙ so_far
 
   pub parts_told-end : (xs : List (PartTree)) (i : ℕ) (place : Place) (names : List Name) (n whole : Notes) → length xs ≤ i → parts_told m kinds (drop i xs) place names n ≡ whole → n ≡ whole
@@ -46,7 +46,7 @@ module _ (m : Meanings) (kinds : List Kind) where
   pairs_told-step xs i x place names after n new whole within is now bound so_far =
       (λ j. pairs_told m kinds (drop (i + 1) xs) place (bound j) (now j))
       ∙ sym (pairs_told-first m kinds x (drop (i + 1) xs) place names n)
-      ∙ ap (λ ys. pairs_told m kinds ys place names n) (sym (split_at xs i x within is))
+      ∙ ap (λ ys. pairs_told m kinds ys place names n) (sym (drop_read xs i x within is))
       ∙ so_far
 
   pub pairs_told-end : (xs : List (PartTree × PartTree)) (i : ℕ) (place : Place) (names : List Name) (n whole : Notes) → length xs ≤ i → pairs_told m kinds (drop i xs) place names n ≡ whole → n ≡ whole
@@ -59,7 +59,7 @@ module _ (m : Meanings) (kinds : List Kind) where
   fields_told-step xs i x place names after n new whole within is now bound so_far =
       (λ j. fields_told m kinds (drop (i + 1) xs) place (bound j) (now j))
       ∙ sym (fields_told-first m kinds x (drop (i + 1) xs) place names n)
-      ∙ ap (λ ys. fields_told m kinds ys place names n) (sym (split_at xs i x within is))
+      ∙ ap (λ ys. fields_told m kinds ys place names n) (sym (drop_read xs i x within is))
       ∙ so_far
 
   pub fields_told-end : (xs : List (FieldTree)) (i : ℕ) (place : Place) (names : List Name) (n whole : Notes) → length xs ≤ i → fields_told m kinds (drop i xs) place names n ≡ whole → n ≡ whole
@@ -72,7 +72,7 @@ module _ (m : Meanings) (kinds : List Kind) where
   gens_told-step xs i x place names after n new whole within is now bound so_far =
       (λ j. gens_told m kinds (drop (i + 1) xs) place (bound j) (now j))
       ∙ sym (gens_told-first m kinds x (drop (i + 1) xs) place names n)
-      ∙ ap (λ ys. gens_told m kinds ys place names n) (sym (split_at xs i x within is))
+      ∙ ap (λ ys. gens_told m kinds ys place names n) (sym (drop_read xs i x within is))
       ∙ so_far
 
   pub gens_told-end : (xs : List (GenTree)) (i : ℕ) (place : Place) (names : List Name) (n whole : Notes) → length xs ≤ i → gens_told m kinds (drop i xs) place names n ≡ whole → n ≡ whole

@@ -1,5 +1,5 @@
 -- Names that are declared one after another.
-use Rattle.std.proofs.Common.{◌≡◌, ℕ, suc, ◌+◌, ◌<◌, ◌≤◌, List, [], ◌∷◌, ◌++◌, length, drop, get_or, drop-cons, add-one, refl, sym, ap, ◌∙◌, append_assoc}
+use Rattle.std.proofs.Common.{◌≡◌, ℕ, ◌+◌, ◌<◌, ◌≤◌, List, ◌∷◌, ◌++◌, length, drop, get_or, sym, ap, ◌∙◌, append_assoc}
 use Rattle.std.proofs.Math.ListN.{drop_of_length-le}
 use Rattle.std.proofs.lemmas.List.{append-nil}
 use Rattle.std.specs.List.{flat_map}
@@ -7,12 +7,10 @@ use Rattle.csp_text.specs.declared.script.Decl.{Decl}
 use Rattle.script_names.specs.Names.{Name, Entities, Counts, channels_from, constants_from, counted, declared_from, declares, first_of}
 use Rattle.script_names.specs.declared.kinds.Entity.TheVariants as entity
 use Rattle.script_names.specs.Contents.{parameters}
-use Rattle.script_names.specs.Typed.{Scope, names_of}
+use Rattle.script_names.specs.Typed.{Scope}
 use Rattle.name_tables.specs.Firsts.{SameFirsts}
 use Rattle.name_tables.proofs.NameLemmas.{same_firsts-append}
-
-pub split_at : {X : Type 0} (xs : List X) (i : ℕ) (x : X) → i < length xs → x ≡ get_or xs i x → drop i xs ≡ x ∷ drop (i + 1) xs
-split_at xs i x within is = rw (add-one, drop-cons xs i x) (ap (λ y. y ∷ drop (suc i) xs) (sym is))
+use Rattle.csp_base.proofs.Lists.{drop_read}
 
 -- what was declared stands in front of what is left
 joined : (new names here more all whole : Entities) → SameFirsts new (names ++ here) → all ≡ here ++ more → SameFirsts (names ++ all) whole → SameFirsts (new ++ more) whole
@@ -26,7 +24,7 @@ pub channels_step : (new names whole : Entities) (n next fields i : ℕ) (xs : L
     → SameFirsts (new ++ channels_from next fields (drop (i + 1) xs)) whole
 channels_step new names whole n next fields i xs x within is next_is now so_far =
     joined new names ((x, entity.Channel n fields) ∷ []) (channels_from next fields (drop (i + 1) xs)) (channels_from n fields (drop i xs)) whole now
-    (ap (channels_from n fields) (split_at xs i x within is) ∙ ap (λ m. (x, entity.Channel n fields) ∷ channels_from m fields (drop (i + 1) xs)) (sym next_is))
+    (ap (channels_from n fields) (drop_read xs i x within is) ∙ ap (λ m. (x, entity.Channel n fields) ∷ channels_from m fields (drop (i + 1) xs)) (sym next_is))
     so_far
 
 pub constants_step : (new names whole : Entities) (n next i : ℕ) (xs : List Name) (x : Name) → i < length xs → x ≡ get_or xs i x → next ≡ n + 1
@@ -34,7 +32,7 @@ pub constants_step : (new names whole : Entities) (n next i : ℕ) (xs : List Na
     → SameFirsts (new ++ constants_from next (drop (i + 1) xs)) whole
 constants_step new names whole n next i xs x within is next_is now so_far =
     joined new names ((x, entity.Constant n) ∷ []) (constants_from next (drop (i + 1) xs)) (constants_from n (drop i xs)) whole now
-    (ap (constants_from n) (split_at xs i x within is) ∙ ap (λ m. (x, entity.Constant n) ∷ constants_from m (drop (i + 1) xs)) (sym next_is))
+    (ap (constants_from n) (drop_read xs i x within is) ∙ ap (λ m. (x, entity.Constant n) ∷ constants_from m (drop (i + 1) xs)) (sym next_is))
     so_far
 
 pub declared_step : (new names whole : Entities) (n next : Counts) (i : ℕ) (decls : List Decl) (d : Decl) → i < length decls → d ≡ get_or decls i d → next ≡ counted n d
@@ -42,7 +40,7 @@ pub declared_step : (new names whole : Entities) (n next : Counts) (i : ℕ) (de
     → SameFirsts (new ++ declared_from next (drop (i + 1) decls)) whole
 declared_step new names whole n next i decls d within is next_is now so_far =
     joined new names (declares n d) (declared_from next (drop (i + 1) decls)) (declared_from n (drop i decls)) whole now
-    (ap (declared_from n) (split_at decls i d within is) ∙ ap (λ m. declares n d ++ declared_from m (drop (i + 1) decls)) (sym next_is))
+    (ap (declared_from n) (drop_read decls i d within is) ∙ ap (λ m. declares n d ++ declared_from m (drop (i + 1) decls)) (sym next_is))
     so_far
 
 -- nothing is left
@@ -63,16 +61,12 @@ pub parameters_step : (new scope whole : Scope) (n next i : ℕ) (xs : List Name
 parameters_step new scope whole n next i xs x within is next_is now so_far =
     ap (λ s. s ++ parameters next (drop (i + 1) xs)) now
     ∙ append_assoc scope ((x, n) ∷ []) (parameters next (drop (i + 1) xs))
-    ∙ ap (λ s. scope ++ s) (ap (λ m. (x, n) ∷ parameters m (drop (i + 1) xs)) next_is ∙ sym (ap (parameters n) (split_at xs i x within is)))
+    ∙ ap (λ s. scope ++ s) (ap (λ m. (x, n) ∷ parameters m (drop (i + 1) xs)) next_is ∙ sym (ap (parameters n) (drop_read xs i x within is)))
     ∙ so_far
 
 pub parameters_end : (scope whole : Scope) (n i : ℕ) (xs : List Name) → length xs ≤ i → scope ++ parameters n (drop i xs) ≡ whole → scope ≡ whole
 parameters_end scope whole n i xs at_end so_far =
     sym (append-nil scope) ∙ ap (λ s. scope ++ s) (sym (ap (parameters n) (drop_of_length-le xs at_end))) ∙ so_far
-
-pub names_of-parameters : (n : ℕ) (xs : List Name) → names_of (parameters n xs) ≡ xs
-names_of-parameters n [] = refl
-names_of-parameters n (x ∷ xs) = ap (λ ys. x ∷ ys) (names_of-parameters (n + 1) xs)
 
 -- one more of a list that is mapped and joined
 pub flat_step : {X Y : Type 0} (f : X → List Y) (new old whole : List Y) (i : ℕ) (xs : List X) (x : X) → i < length xs → x ≡ get_or xs i x
@@ -80,7 +74,7 @@ pub flat_step : {X Y : Type 0} (f : X → List Y) (new old whole : List Y) (i : 
 flat_step f new old whole i xs x within is now so_far =
     ap (λ ys. ys ++ flat_map f (drop (i + 1) xs)) now
     ∙ append_assoc old (f x) (flat_map f (drop (i + 1) xs))
-    ∙ ap (λ ys. old ++ ys) (sym (ap (flat_map f) (split_at xs i x within is)))
+    ∙ ap (λ ys. old ++ ys) (sym (ap (flat_map f) (drop_read xs i x within is)))
     ∙ so_far
 
 pub flat_end : {X Y : Type 0} (f : X → List Y) (old whole : List Y) (i : ℕ) (xs : List X) → length xs ≤ i → old ++ flat_map f (drop i xs) ≡ whole → old ≡ whole

@@ -1,11 +1,13 @@
 -- Names and lists of them.
-use Rattle.std.proofs.Common.{◌≡◌, Bool, true, false, cond, ◌||◌, nat_eq, List, [], ◌∷◌, ◌++◌, Option, Some, None, is_some, refl, sym, ◌∙◌, ap}
+use Rattle.std.proofs.Common.{◌≡◌, Bool, true, false, cond, ◌||◌, nat_eq, List, ◌∷◌, ◌++◌, Option, Some, None, is_some, refl, sym, ◌∙◌, ap}
 use Rattle.std.proofs.lemmas.Bool.{eqb-true, eq-eqb, and_from}
 use Rattle.std.specs.Cmp.Lexicographic.{pointwise}
 use Rattle.containers.specs.Exact.{IsExact-pointwise}
-use Rattle.script_names.specs.Names.{Name, Entities, first_of, is_among, same_name}
+use Rattle.csp_text.specs.declared.script.Decl.{Decl}
+use Rattle.script_names.specs.Names.{Name, Entities, declared, first_of, is_among, meanings_of, same_name}
 use Rattle.script_names.specs.declared.kinds.Entity.{Entity}
 use Rattle.name_tables.specs.Firsts.{SameFirsts, SameNames}
+use Rattle.csp_base.proofs.Booleans.{or_regroup}
 
 pub same_itself : (x : Name) → same_name x x ≡ true
 same_itself [] = refl
@@ -49,14 +51,10 @@ same_firsts_known es x e known y = by (same_name y x) refl ∙ sym (first_of-app
     by true h = first-known (first_of es y) (Some e) (ap (λ z. is_some (first_of es z)) (same_exact y x h) ∙ known)
     by false h = first-none (first_of es y)
 
-among_step : (b c d : Bool) → (b || (c || d)) ≡ ((b || c) || d)
-among_step true c d = refl
-among_step false c d = refl
-
 pub is_among-append : (xs ys : List Name) (y : Name) → is_among (xs ++ ys) y ≡ (is_among xs y || is_among ys y)
 is_among-append [] ys y = refl
 is_among-append (x ∷ xs) ys y =
-    ap (λ b. same_name y x || b) (is_among-append xs ys y) ∙ among_step (same_name y x) (is_among xs y) (is_among ys y)
+    ap (λ b. same_name y x || b) (is_among-append xs ys y) ∙ or_regroup (same_name y x) (is_among xs y) (is_among ys y)
 
 known_or : (b c : Bool) → b ≡ true → b ≡ (b || c)
 known_or true c h = refl
@@ -85,3 +83,6 @@ same_names_longer xs ys e y = ap (λ zs. is_among zs y) e
 pub none_there : (o : Option Entity) → is_some o ≡ false → o ≡ None
 none_there (Some e) h = cc
 none_there None h = refl
+
+pub same_meanings : (script : List Decl) (es : Entities) → SameFirsts es (declared script) → first_of es ≡ meanings_of script
+same_meanings script es same = λ i x. same x i

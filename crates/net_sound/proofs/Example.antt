@@ -1,5 +1,5 @@
 -- The two networks of components that take two events in turn.
-use Rattle.std.proofs.Common.{◌≡◌, ℕ, zero, suc, ◌+◌, ◌<◌, ◌≤◌, inl, inr, List, [], ◌∷◌, length, Bool, true, false, ◌||◌, cond, IsTrue, MatchBool, nat_eq, Some, slice_get, refl, sym, ap, subst, ◌∙◌, arith}
+use Rattle.std.proofs.Common.{◌≡◌, ℕ, zero, suc, ◌+◌, ◌<◌, ◌≤◌, inl, inr, List, ◌∷◌, length, Bool, true, false, ◌||◌, cond, IsTrue, MatchBool, nat_eq, Some, slice_get, refl, sym, ap, subst, ◌∙◌, arith}
 use Rattle.std.proofs.lemmas.Bool.{false≢true, and_from, and_parts, eqb-true, or_cases}
 use Rattle.std.proofs.lemmas.Option.{none-some, same_Some}
 use Rattle.csp_base.specs.Members.{has}
@@ -22,6 +22,7 @@ use Rattle.net_sound.specs.Example.{Turn, TurnStep, both, pair, turns, flat_rank
 use Rattle.net_sound.specs.Example.Turn.{waking, at_zero, at_one}
 use Rattle.net_sound.proofs.Flattening.{forth}
 use Rattle.net_sound.proofs.Soundness.{good_rankings_mean_live, path_alphabet}
+use Rattle.csp_base.proofs.Booleans.{or_none}
 
 abbrev one : Turn → Component Turn
 one x = record { alphabet = both; term = x }
@@ -76,10 +77,6 @@ waking_silence = record {
 
 -- ---- the networks are sound
 
-or_false : (b : Bool) → b ≡ (b || false)
-or_false true = refl
-or_false false = refl
-
 pub two_sharers : (e : ℕ) → sharers (both ∷ both ∷ []) e ≤ 2
 two_sharers e = go (has both e)
   where
@@ -90,7 +87,7 @@ two_sharers e = go (has both e)
 sound_pair : (x y : Turn) (m : ℕ) → IsGreatestSilence (ComponentStep TurnStep) (one x) m → IsGreatestSilence (ComponentStep TurnStep) (one y) 0 → IsSound TurnStep (pair x y) m
 sound_pair x y m g h = record {
   some = omega arith;
-  nested = ((λ e. or_false (has both e)), tt, ((λ e. or_false (has both e)), tt, tt));
+  nested = ((λ e. or_none (has both e)), tt, ((λ e. or_none (has both e)), tt, tt));
   triple = two_sharers;
   silence = (m, 0, g, (0, 0, h, refl, refl), omega arith);
 }

@@ -1,5 +1,5 @@
 -- Silent walks of a component and of its numbered table.
-use Rattle.std.proofs.Common.{◌≡◌, ℕ, zero, suc, ◌<◌, ◌≤◌, List, [], ◌∷◌, Some, slice_get, get_or, length, refl, sym, ap, subst, ◌∙◌, arith, inl, inr}
+use Rattle.std.proofs.Common.{◌≡◌, ℕ, zero, suc, ◌<◌, ◌≤◌, List, ◌∷◌, Some, slice_get, get_or, length, refl, sym, ap, subst, ◌∙◌, arith, inl, inr}
 use Rattle.std.proofs.lemmas.Bool.{cases_lt}
 use Rattle.std.proofs.lemmas.Option.{same_Some, slice_get_within}
 use Rattle.csp_tables.specs.Label.{Label}
@@ -9,6 +9,7 @@ use Rattle.csp_tables.specs.Network.{Component, ComponentStep}
 use Rattle.csp_tables.specs.RawTable.{RawTable, RawStep, standing_at, IsTableOf}
 use Rattle.net_sound.specs.Heights.{HeightsAreExact, HeightsAddUp, greatest, sum_of_greatest}
 use Rattle.net_sound.proofs.FlatLists.{step_alphabet}
+use Rattle.csp_base.proofs.Lists.{slice_get_some}
 
 -- a component with the alphabet of c is c standing at its term
 pub stands : {T : Type 0} (c d : Component T) → c.alphabet ≡ d.alphabet → d ≡ standing_at c d.term
@@ -60,11 +61,6 @@ reaches_greatest : (ns : List ℕ) → 0 < length ns → (i : ℕ) × (i < lengt
 reaches_greatest [] h = absurd (omega arith)
 reaches_greatest (n ∷ ns) h = greatest_is n ns
 
-listed_at : {T : Type 0} (terms : List T) (n : ℕ) → n < length terms → (x : T) × (slice_get terms n ≡ Some x)
-listed_at [] n h = absurd (omega arith)
-listed_at (x ∷ terms) zero h = (x, refl)
-listed_at (x ∷ terms) (suc n) h = listed_at terms n (omega arith)
-
 pub heights_are_exact : {T : Type 0} (Step : T → Label → T → Type 0) → HeightsAreExact Step
 heights_are_exact Step c terms raw heights t hs =
     let some : 0 < length terms = slice_get_within terms 0 c.term t.first in
@@ -72,7 +68,7 @@ heights_are_exact Step c terms raw heights t hs =
     let many : length heights ≡ raw.count = hs.one_each in
     let top = reaches_greatest heights (omega arith) in
     let within : top.0 < length heights = top.1 in
-    let x = listed_at terms top.0 (omega arith) in
+    let x = slice_get_some terms top.0 (omega arith) in
     let h = hs.each top.0 (omega arith) in
     let up = walk_up Step c terms raw (get_or heights top.0 0) top.0 h.end x.0 t x.1 h.attained in
     record {

@@ -1,5 +1,5 @@
 -- Operands for the values of a name, one after another.
-use Rattle.std.proofs.Common.{◌≡◌, ℕ, zero, suc, ◌+◌, ◌<◌, ◌≤◌, Ok, Err, List, [], ◌∷◌, ◌++◌, length, drop, get_or, refl, ap, sym, ◌∙◌, subst, arith, append_assoc, append-nil}
+use Rattle.std.proofs.Common.{◌≡◌, ℕ, ◌+◌, ◌<◌, ◌≤◌, Ok, Err, List, ◌∷◌, ◌++◌, length, drop, get_or, refl, ap, sym, ◌∙◌, append_assoc, append-nil, drop_of_length-le}
 use Rattle.csp_base.specs.Events.{union_of}
 use Rattle.csp_program.specs.Outcome.{Outcome}
 use Rattle.csp_program.specs.Substitution.{expr_with, net_with}
@@ -12,7 +12,6 @@ use Rattle.network_trees.specs.NetworkOf.{Walked, each_operand, goes_on, operand
 use Rattle.network_trees.proofs.Steps.{had}
 use Rattle.network_layout.specs.Lays.{IsLaid, one_operand, operand_walked, operands_each}
 use Rattle.network_layout.proofs.Laid.{first_fault, first_made, grown_by}
-use Rattle.network_layout.proofs.ListSteps.{left_of, nothing_left}
 use Rattle.network_layout.proofs.Together.{joint-append}
 use Rattle.csp_atoms.specs.declared.atom.Atom.{Atom}
 use Rattle.csp_atoms.specs.declared.value.Value.TheVariants.{One}
@@ -21,6 +20,7 @@ use Rattle.csp_program.specs.declared.networks.Net.{Net}
 use Rattle.csp_program.specs.declared.processes.Proc.{Proc}
 use Rattle.csp_program.specs.declared.programs.Content.{Content}
 use Rattle.network_trees.specs.declared.fault.LayoutFault.{LayoutFault}
+use Rattle.csp_base.proofs.Lists.{drop_read}
 
 -- operands, and others after them
 abbrev pub before : Operands Proc → Operands Proc → Operands Proc
@@ -99,7 +99,7 @@ module _ (p : Content) (levels x : ℕ) (a : Expr) (n : Net) where
   unfolding operands_each each
   each_fault vs i v old new events f far lt is bad =
       ap (side_by_side p (walked p levels)) (far.split ∙ ap (λ o. goes_on o (λ os. Ok (before far.so_far os)))
-      (ap (λ ws. each p levels x a n ws (length new)) (left_of vs i v lt is) ∙ one_fault v (drop (i + 1) vs) (length new) f bad))
+      (ap (λ ws. each p levels x a n ws (length new)) (drop_read vs i v lt is) ∙ one_fault v (drop (i + 1) vs) (length new) f bad))
 
   pub each_next : (vs : List Atom) (i : ℕ) (v : Atom) (old mid new : List (Component Proc)) (events next all : List ℕ)
       → EachSoFar (each p levels x a n vs (length old)) (each p levels x a n (drop i vs)) old mid events → i < length vs → v ≡ get_or vs i v
@@ -113,7 +113,7 @@ module _ (p : Content) (levels x : ℕ) (a : Expr) (n : Net) where
       record {
         so_far = so_far;
         split = far.split ∙ (ap (λ o. goes_on o (λ os. Ok (before far.so_far os)))
-            (ap (λ ws. each p levels x a n ws (length mid)) (left_of vs i v lt is) ∙ made.is) ∙
+            (ap (λ ws. each p levels x a n ws (length mid)) (drop_read vs i v lt is) ∙ made.is) ∙
             (one_before (each p levels x a n (drop (i + 1) vs) (length mid + length (leaves laid.tree))) far.so_far made.alphabet laid.tree ∙
             ap (λ k. goes_on (each p levels x a n (drop (i + 1) vs) k) (λ os. Ok (before so_far os))) (sym place)));
         seats = laid.seats ∙ (ap (λ cs. cs ++ leaves laid.tree) far.seats ∙ (append_assoc old (leaves_of_operands far.so_far) (leaves laid.tree) ∙ ap (λ cs. old ++ cs) (sym leaves_so_far)));
@@ -132,7 +132,7 @@ module _ (p : Content) (levels x : ℕ) (a : Expr) (n : Net) where
       record {
         tree = parallel far.so_far;
         made = ap (side_by_side p (walked p levels)) (far.split ∙ (ap (λ o. goes_on o (λ os. Ok (before far.so_far os)))
-            (ap (λ ws. each p levels x a n ws (length new)) (nothing_left vs i past) ∙ none_left (length new)) ∙ ap (λ os. Ok os) (before-none far.so_far)));
+            (ap (λ ws. each p levels x a n ws (length new)) (drop_of_length-le vs past) ∙ none_left (length new)) ∙ ap (λ os. Ok os) (before-none far.so_far)));
         seats = far.seats;
         together = far.together;
       }

@@ -1,7 +1,7 @@
 -- A fault of a part is a fault of the whole.
-use Rattle.std.proofs.Common.{◌≡◌, ℕ, Ok, Err, List, [], ◌∷◌, ◌++◌, ap, subst, sym, ◌∙◌}
+use Rattle.std.proofs.Common.{◌≡◌, ℕ, Ok, Err, List, ◌∷◌, ◌++◌, subst, sym, ◌∙◌}
 use Rattle.std.specs.Prelude.{IfErr, IfOk, Result}
-use Rattle.std.specs.Result.{IsErrAnd, IsOkAnd}
+use Rattle.std.specs.Result.{IsErrAnd}
 use Rattle.csp_program.specs.Outcome.{Outcome}
 use Rattle.csp_program.specs.declared.kinds.ValueKind.{ValueKind}
 use Rattle.csp_program.specs.declared.processes.Proc.{Proc}
@@ -50,8 +50,3 @@ pub lays_last : (r : Result (List ℕ) LayoutFault) (whole : Walked (Tree Proc))
     → IfOk r (λ made. made ≡ events) → IfErr r (λ f. f ≡ fault.NoMemory) → IsLaid whole old new events → Lays r whole old new
 lays_last (Ok made) whole old new events is free laid = subst (λ es. IsLaid whole old new es) (sym is) laid
 lays_last (Err f) whole old new events is free laid = subst (λ g. Fails g whole) (sym free) tt
-
--- what was made was put at the end
-pub put_made : {A E : Type 0} (made : Result A E) (old new : List A) (a : A) → IfOk made (λ x. x ≡ a) → IsOkAnd made (λ x. new ≡ old ++ x ∷ []) → new ≡ old ++ a ∷ []
-put_made (Ok x) old new a is put = put ∙ ap (λ y. old ++ y ∷ []) is
-put_made (Err e) old new a is put = absurd put

@@ -1,23 +1,19 @@
 -- What is told of components, one after another.
-use Rattle.std.proofs.Common.{◌≡◌, ℕ, zero, suc, ◌+◌, ◌<◌, ◌≤◌, Some, None, Ok, Err, List, [], ◌∷◌, ◌++◌, length, take, get_or, refl, ap, sym, ◌∙◌, subst, arith}
-use Rattle.std.specs.Prelude.{Option, slice_get}
+use Rattle.std.proofs.Common.{◌≡◌, ℕ, zero, suc, ◌+◌, ◌<◌, ◌≤◌, Some, Ok, Err, List, ◌∷◌, ◌++◌, length, take, get_or, refl, ap, sym, ◌∙◌, subst, arith}
+use Rattle.std.specs.Prelude.{slice_get}
 use Rattle.csp_program.specs.Outcome.{Outcome, and_then}
 use Rattle.process_steps.specs.Needed.{all_outcomes}
-use Rattle.process_steps.proofs.Equations.{layer-Call}
-use Rattle.network_trees.specs.Annotations.{IsFirstWithout, call_of, call_of_layer}
+use Rattle.network_trees.specs.Annotations.{IsFirstWithout}
 use Rattle.network_layout.specs.Lays.{Lacks}
 use Rattle.network_layout.specs.Told.{IsUntold, Tells}
-use Rattle.network_layout.proofs.ListSteps.{take_more}
 use Rattle.network_layout.specs.declared.told.NotedFault.{NotedFault}
 use Rattle.network_layout.specs.declared.told.NotedFault.TheVariants as noted
 use Rattle.network_trees.specs.declared.fault.LayoutFault.{LayoutFault}
-use Rattle.csp_program.specs.declared.expressions.Expr.{Expr}
 use Rattle.csp_program.specs.declared.kinds.ValueKind.{ValueKind}
 use Rattle.csp_program.specs.declared.processes.Proc.{Proc}
-use Rattle.csp_program.specs.declared.processes.Proc.TheOpen.{Proc-F}
-use Rattle.csp_program.specs.declared.processes.Proc.TheVariants as proc
-use Rattle.csp_program.specs.declared.processes.Proc.TheViews.{out-Proc, roll-Proc, roll-out-Proc}
 use Rattle.csp_tables.specs.Network.{Component}
+use Rattle.csp_base.proofs.Lists.{take_read}
+use Rattle.std.proofs.lemmas.List.{take_all}
 
 -- ---- one component after another
 
@@ -37,7 +33,7 @@ outcomes-last f (z ∷ zs) x =
 pub told_next : {C A : Type 0} (f : C → Outcome A) (xs : List C) (i : ℕ) (x : C) (ys more : List A) (y : A) → all_outcomes f (take i xs) ≡ Ok ys → i < length xs → x ≡ get_or xs i x
     → f x ≡ Ok y → more ≡ ys ++ y ∷ [] → all_outcomes f (take (i + 1) xs) ≡ Ok more
 told_next f xs i x ys more y far lt is found grown =
-    ap (all_outcomes f) (take_more xs i x lt is) ∙ (outcomes-last f (take i xs) x ∙
+    ap (all_outcomes f) (take_read xs i x lt is) ∙ (outcomes-last f (take i xs) x ∙
     (ap (λ o. and_then o (λ zs. and_then (f x) (λ z. Ok (zs ++ z ∷ [])))) far ∙ (ap (λ o. and_then o (λ z. Ok (ys ++ z ∷ []))) found ∙ ap (λ zs. Ok zs) (sym grown))))
 
 -- the front of a list holds what stands there
@@ -93,12 +89,6 @@ untold_first f seats i c ys (noted.Value part k) why far lt is bad tells =
     let lacks : f c ≡ Err k = subst (λ w. Lacks w (f c)) tells.1 bad in
     subst (λ j. IsFirstWithout f seats j k) (sym tells.0) (first_without f seats i c ys k far lt is lacks)
 
-take_all : {A : Type 0} (xs : List A) (i : ℕ) → length xs ≤ i → take i xs ≡ xs
-take_all [] zero past = refl
-take_all [] (suc i) past = refl
-take_all (x ∷ xs) zero past = absurd (omega arith)
-take_all (x ∷ xs) (suc i) past = ap (λ ys. x ∷ ys) (take_all xs i (omega arith))
-
 -- the front of a list that is the whole
 pub told_end : {C A : Type 0} (f : C → Outcome A) (xs : List C) (i : ℕ) (ys : List A) → all_outcomes f (take i xs) ≡ Ok ys → length xs ≤ i → all_outcomes f xs ≡ Ok ys
-told_end f xs i ys far past = ap (all_outcomes f) (sym (take_all xs i past)) ∙ far
+told_end f xs i ys far past = ap (all_outcomes f) (sym (take_all i xs past)) ∙ far

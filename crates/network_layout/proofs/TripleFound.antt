@@ -1,6 +1,6 @@
 -- What the first of the events in three alphabets says.
-use Rattle.std.proofs.Common.{◌≡◌, ℕ, zero, suc, ◌+◌, ◌<◌, ◌≤◌, Bool, true, false, ◌||◌, Some, None, List, [], ◌∷◌, length, take, refl, ap, ap₂, sym, ◌∙◌, subst, arith}
-use Rattle.std.specs.Prelude.{nat_eq, nat_le}
+use Rattle.std.proofs.Common.{◌≡◌, ℕ, suc, ◌+◌, ◌<◌, ◌≤◌, true, false, ◌||◌, Some, None, List, ◌∷◌, length, take, refl, ap, ap₂, sym, ◌∙◌, subst, arith}
+use Rattle.std.specs.Prelude.{nat_le}
 use Rattle.std.specs.List.{find}
 use Rattle.std.specs.List.Sorted.{IsStrictlyIncreasing}
 use Rattle.std.proofs.lemmas.Bool.{eq-eqb, leb-false, leb-true, ne_eqb}
@@ -11,14 +11,11 @@ use Rattle.network_trees.specs.Joint.{first_event}
 use Rattle.network_layout.specs.Triple.{AreCrowded, IsTriple, holders, holders_from}
 use Rattle.network_layout.proofs.FirstEvents.{find-first}
 use Rattle.network_layout.proofs.TripleLemmas.{length-holders}
-
-none_first : (xs : List ℕ) → first_event xs ≡ None → xs ≡ []
-none_first [] h = refl
-none_first (x ∷ xs) h = absurd cc
+use Rattle.network_trees.proofs.JointLemmas.{no_first}
 
 pub apart : (alphabets : List (List ℕ)) (crowded : List ℕ) → AreCrowded alphabets crowded → find (nat_le 0) crowded ≡ None → TripleDisjoint alphabets
 apart alphabets crowded are none e =
-    let empty : crowded ≡ [] = none_first crowded (sym (find-first crowded) ∙ none) in
+    let empty : crowded ≡ [] = no_first crowded (sym (find-first crowded) ∙ none) in
     let few : nat_le 3 (sharers alphabets e) ≡ false = sym (are e) ∙ ap (λ xs. has xs e) empty in
     let low : sharers alphabets e < 3 = leb-false 3 (sharers alphabets e) few in
     omega arith

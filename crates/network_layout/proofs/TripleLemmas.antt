@@ -1,5 +1,5 @@
 -- Events in one, two and three alphabets, and the components that have an event.
-use Rattle.std.proofs.Common.{◌≡◌, ℕ, zero, suc, ◌+◌, ◌<◌, ◌≤◌, Bool, true, false, ◌||◌, ◌&&◌, if◌then◌else◌, List, [], ◌∷◌, ◌++◌, length, drop, take, get_or, map, refl, ap, ap₂, sym, ◌∙◌, subst, arith}
+use Rattle.std.proofs.Common.{◌≡◌, ℕ, ◌+◌, ◌<◌, ◌≤◌, Bool, true, false, ◌||◌, ◌&&◌, if◌then◌else◌, List, ◌∷◌, ◌++◌, length, take, get_or, refl, ap, ap₂, sym, ◌∙◌, subst, arith, drop_of_length-le}
 use Rattle.std.specs.Prelude.{nat_le}
 use Rattle.std.proofs.Math.Dec.{leb}
 use Rattle.std.proofs.lemmas.Bool.{le-leb, lt-leb, leb-true, leb-false}
@@ -10,7 +10,7 @@ use Rattle.std.proofs.lemmas.List.{get_or-map, length-map}
 use Rattle.csp_program.specs.declared.processes.Proc.{Proc}
 use Rattle.csp_tables.specs.Network.{Component}
 use Rattle.network_layout.specs.Triple.{alphabets, holders, holders_from}
-use Rattle.network_layout.proofs.ListSteps.{left_of, nothing_left, take_more}
+use Rattle.csp_base.proofs.Lists.{drop_read, take_read}
 
 -- the sets have the events of one, two and three of the alphabets, or more
 pub record IsCounted (alphabets : List (List ℕ)) (once twice thrice : List ℕ) : Type 0 where
@@ -77,7 +77,7 @@ pub counted_next : (all : List (List ℕ)) (i : ℕ) (a : List ℕ) (once twice 
     → ((e : ℕ) → has thrice' e ≡ (has thrice e || (has twice e && has a e))) → ((e : ℕ) → has twice' e ≡ (has twice e || (has once e && has a e)))
     → ((e : ℕ) → has first' e ≡ (has once e || has a e)) → IsCounted (take (i + 1) all) first' twice' thrice'
 counted_next all i a once twice thrice first' twice' thrice' lt is far thrice_is twice_is once_is =
-    subst (λ rows. IsCounted rows first' twice' thrice') (sym (take_more all i a lt is)) (record {
+    subst (λ rows. IsCounted rows first' twice' thrice') (sym (take_read all i a lt is)) (record {
       one = after_first (take i all) a once first' far.one once_is;
       two = after_more (take i all) a 1 once twice twice' far.one far.two twice_is;
       three = after_more (take i all) a 2 twice thrice thrice' far.two far.three thrice_is;
@@ -96,7 +96,7 @@ length-holders n (a ∷ alphabets) e = by_case (has a e) (length-holders (n + 1)
 
 here : (alphabets : List (List ℕ)) (n e : ℕ) (a : List ℕ) → n < length alphabets → a ≡ get_or alphabets n a
     → holders_from alphabets n e ≡ (if has a e then n ∷ holders_from alphabets (n + 1) e else holders_from alphabets (n + 1) e)
-here alphabets n e a lt is = ap (λ rows. holders n rows e) (left_of alphabets n a lt is)
+here alphabets n e a lt is = ap (λ rows. holders n rows e) (drop_read alphabets n a lt is)
 
 pub holds : (alphabets : List (List ℕ)) (n e : ℕ) (a : List ℕ) → n < length alphabets → a ≡ get_or alphabets n a → has a e ≡ true → holders_from alphabets n e ≡ n ∷ holders_from alphabets (n + 1) e
 holds alphabets n e a lt is h = here alphabets n e a lt is ∙ ap (λ b. if b then n ∷ holders_from alphabets (n + 1) e else holders_from alphabets (n + 1) e) h
@@ -105,7 +105,7 @@ pub lacks : (alphabets : List (List ℕ)) (n e : ℕ) (a : List ℕ) → n < len
 lacks alphabets n e a lt is h = here alphabets n e a lt is ∙ ap (λ b. if b then n ∷ holders_from alphabets (n + 1) e else holders_from alphabets (n + 1) e) h
 
 none_past : (alphabets : List (List ℕ)) (n e : ℕ) → length alphabets ≤ n → holders_from alphabets n e ≡ []
-none_past alphabets n e past = ap (λ rows. holders n rows e) (nothing_left alphabets n past)
+none_past alphabets n e past = ap (λ rows. holders n rows e) (drop_of_length-le alphabets past)
 
 -- where a component is still to come, the place is one of the list
 pub within : (alphabets : List (List ℕ)) (n e : ℕ) → 0 < length (holders_from alphabets n e) → n < length alphabets

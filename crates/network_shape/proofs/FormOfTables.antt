@@ -1,6 +1,6 @@
 -- The normal table of a numbered table has the form that a well-formed shape asks for.
-use Rattle.std.proofs.Common.{◌≡◌, ℕ, suc, ◌+◌, ◌<◌, ◌≤◌, List, [], ◌∷◌, ◌++◌, length, get_or, map, true, IsTrue, nat_eq, refl, sym, subst, arith, inl, inr, eq-eqb}
-use Rattle.std.proofs.lemmas.Bool.{and_from, and_parts, or_left, or_right, false≢true, cases_lt}
+use Rattle.std.proofs.Common.{◌≡◌, ℕ, suc, ◌+◌, ◌<◌, ◌≤◌, List, ◌∷◌, ◌++◌, length, get_or, map, true, IsTrue, nat_eq, refl, sym, subst, arith, inl, inr, eq-eqb}
+use Rattle.std.proofs.lemmas.Bool.{and_parts, or_left, or_right, false≢true, cases_lt}
 use Rattle.std.proofs.Math.ListN.{get_or-eq_default}
 use Rattle.csp_base.specs.Members.{has}
 use Rattle.csp_base.proofs.Rising.{RisesFrom, rises_from_increasing}
@@ -12,6 +12,8 @@ use Rattle.csp_tables.specs.BreadthFirst.{MeetsInOrder, targets_of_steps, target
 use Rattle.csp_tables.specs.NormalTable.{IsNormalTable, IsRisingNode}
 use Rattle.term_sets.proofs.Traces.{After-append, After-event, After-cut, After-first}
 use Rattle.network_shape.specs.Parts.{HasEventsWithin, IsWellFormedPart}
+use Rattle.csp_tables.proofs.Runs.{run_push}
+use Rattle.normal_form.proofs.Meeting.{meets_more}
 
 -- ---- where steps lead
 
@@ -19,15 +21,11 @@ abbrev AllBelow : ℕ → List ℕ → Type 0
 AllBelow m [] = Unit {0}
 AllBelow m (t ∷ ts) = (t < m) × AllBelow m ts
 
-met_more : (n m : ℕ) (ts : List ℕ) → MeetsInOrder n ts m → n ≤ m
-met_more n m [] h = let same : n ≡ m = h in omega arith
-met_more n m (t ∷ ts) h = elim h [ inl k ↦ met_more n m ts k.1 | inr k ↦ let more : suc n ≤ m = met_more (suc n) m ts k.1 in omega arith ]
-
 met_below : (n m : ℕ) (ts : List ℕ) → MeetsInOrder n ts m → AllBelow m ts
 met_below n m [] h = tt
 met_below n m (t ∷ ts) h = elim h [
-  | inl k ↦ let less : t < n = k.0 in let more : n ≤ m = met_more n m ts k.1 in (omega arith, met_below n m ts k.1)
-  | inr k ↦ let same : t ≡ n = k.0 in let more : suc n ≤ m = met_more (suc n) m ts k.1 in (omega arith, met_below (suc n) m ts k.1)
+  | inl k ↦ let less : t < n = k.0 in let more : n ≤ m = meets_more n m ts k.1 in (omega arith, met_below n m ts k.1)
+  | inr k ↦ let same : t ≡ n = k.0 in let more : suc n ≤ m = meets_more (suc n) m ts k.1 in (omega arith, met_below (suc n) m ts k.1)
 ]
 
 record Both (m : ℕ) (xs ys : List ℕ) : Type 0 where
@@ -77,13 +75,6 @@ nodes_have_form a m (node ∷ nodes) events accepts rising below =
 
 -- ---- runs with one more event
 
-run_more : (table : List Node) (n : ℕ) (s : List ℕ) (e : ℕ) → is_run table n s ≡ true → is_possible (node_at table (end_of table n s)).next e ≡ true
-    → is_run table n (s ++ e ∷ []) ≡ true
-run_more table n [] e h k = and_from _ _ k refl
-run_more table n (x ∷ s) e h k =
-    let p = and_parts (is_possible (node_at table n).next x) (is_run table (node_after table n x) s) h in
-    and_from _ _ p.0 (run_more table (node_after table n x) s e p.1 k)
-
 run_last : (table : List Node) (n : ℕ) (s : List ℕ) (e : ℕ) → is_run table n (s ++ e ∷ []) ≡ true → is_possible (node_at table (end_of table n s)).next e ≡ true
 run_last table n [] e h = (and_parts (is_possible (node_at table n).next e) true h).0
 run_last table n (x ∷ s) e h =
@@ -103,7 +94,7 @@ module _ (raw : RawTable) (a : List ℕ) (within : HasEventsWithin raw a) (most 
   event_within : (n e : ℕ) → n < length table → is_possible (node_at table n).next e ≡ true → IsTrue (has a e)
   event_within n e less h =
       let r = normal.reached n less in
-      last_within r.run e ((normal.traces (r.run ++ e ∷ [])).1 (run_more table 0 r.run e r.follows (subst (λ x. is_possible (node_at table x).next e ≡ true) (sym r.leads) h)))
+      last_within r.run e ((normal.traces (r.run ++ e ∷ [])).1 (run_push table 0 r.run e r.follows (subst (λ x. is_possible (node_at table x).next e ≡ true) (sym r.leads) h)))
 
   -- an acceptance of a node is one after the run that leads to the node
   accepted : (n k : ℕ) (r : IsReached table n) → k < length (node_at table n).accept → IsAcceptance (RawStep raw) 0 r.run (get_or (node_at table n).accept k [])
@@ -137,7 +128,7 @@ module _ (raw : RawTable) (a : List ℕ) (within : HasEventsWithin raw a) (most 
   pub well_formed_part : most ≤ 16384 → length table ≤ 2048 → IsWellFormedPart (record { alphabet = a; table = table })
   well_formed_part bound few = record {
     form = record {
-      least = met_more 1 (length table) (targets_of_nodes table) normal.breadth_first.all_met;
+      least = meets_more 1 (length table) (targets_of_nodes table) normal.breadth_first.all_met;
       most = few;
       nodes = nodes_have_form a (length table) table event_within acceptance_within (λ n less. normal.rising n no_node less) (met_below 1 (length table) (targets_of_nodes table) normal.breadth_first.all_met);
     };

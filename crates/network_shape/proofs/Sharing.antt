@@ -1,14 +1,9 @@
 -- An event that two alphabets have is shared by two parts.
-use Rattle.std.proofs.Common.{◌≡◌, ℕ, suc, ◌+◌, ◌<◌, ◌≤◌, inl, inr, List, [], ◌∷◌, length, true, false, IsTrue, arith}
-use Rattle.std.proofs.lemmas.Bool.{cases_Bool, cond-true, cond-false}
+use Rattle.std.proofs.Common.{◌≡◌, ℕ, suc, ◌+◌, ◌<◌, ◌≤◌, inl, inr, List, ◌∷◌, length, IsTrue, arith}
+use Rattle.std.proofs.lemmas.Bool.{cases_Bool}
 use Rattle.csp_base.specs.Members.{has}
 use Rattle.csp_tables.specs.Part.{Part, part_at, alphabets_of, sharers}
-
-own : (a : List ℕ) (others : List (List ℕ)) (e : ℕ) → has a e ≡ true → sharers (a ∷ others) e ≡ sharers others e + 1
-own a others e h = cond-true (has a e) (sharers others e + 1) (sharers others e) h
-
-strange : (a : List ℕ) (others : List (List ℕ)) (e : ℕ) → has a e ≡ false → sharers (a ∷ others) e ≡ sharers others e
-strange a others e h = cond-false (has a e) (sharers others e + 1) (sharers others e) h
+use Rattle.csp_tables.proofs.Runs.{sharers_own, sharers_other}
 
 record Owner (ps : List Part) (e : ℕ) : Type 0 where
   place : ℕ
@@ -21,7 +16,7 @@ owner (p ∷ ps) e h =
     elim (cases_Bool (has p.alphabet e)) [
       | inl k ↦ record { place = 0; within = omega arith; owned = k }
       | inr k ↦
-          let r = owner ps e (omega (arith, strange p.alphabet (alphabets_of ps) e k)) in
+          let r = owner ps e (omega (arith, sharers_other p.alphabet (alphabets_of ps) e k)) in
           record { place = suc r.place; within = let l : r.place < length ps = r.within in omega arith; owned = r.owned }
     ]
 
@@ -38,11 +33,11 @@ two_owners [] e h = absurd (omega arith)
 two_owners (p ∷ ps) e h =
     elim (cases_Bool (has p.alphabet e)) [
       | inl k ↦
-          let r = owner ps e (omega (arith, own p.alphabet (alphabets_of ps) e k)) in
+          let r = owner ps e (omega (arith, sharers_own p.alphabet (alphabets_of ps) e k)) in
           let l : r.place < length ps = r.within in
           record { left = 0; right = suc r.place; ordered = omega arith; within = omega arith; left_owns = k; right_owns = r.owned }
       | inr k ↦
-          let r = two_owners ps e (omega (arith, strange p.alphabet (alphabets_of ps) e k)) in
+          let r = two_owners ps e (omega (arith, sharers_other p.alphabet (alphabets_of ps) e k)) in
           let o : r.left < r.right = r.ordered in
           let l : r.right < length ps = r.within in
           record { left = suc r.left; right = suc r.right; ordered = omega arith; within = omega arith; left_owns = r.left_owns; right_owns = r.right_owns }

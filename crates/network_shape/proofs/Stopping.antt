@@ -1,6 +1,5 @@
 -- Parts without an empty acceptance at a node, and a part with one.
-use Rattle.std.proofs.Common.{◌≡◌, ℕ, ◌+◌, ◌<◌, inl, inr, List, [], ◌∷◌, length, get_or, true, nat_eq, refl, sym, ap, subst, ◌∙◌, arith, eq-eqb}
-use Rattle.std.specs.Prelude.{Result, Ok, Err, IfOk}
+use Rattle.std.proofs.Common.{◌≡◌, ℕ, ◌+◌, ◌<◌, inl, inr, List, ◌∷◌, length, get_or, true, nat_eq, refl, sym, ap, subst, ◌∙◌, arith, eq-eqb}
 use Rattle.std.proofs.lemmas.Bool.{cases_eq, or_left, false≢true}
 use Rattle.std.proofs.lemmas.List.{get_or_read}
 use Rattle.csp_base.specs.Members.{has}
@@ -48,8 +47,3 @@ parts_more parts n part read all before j less = elim (cases_eq j n) [
   | inl here ↦ subst (λ x. IsBusyPart (part_at parts x)) (sym here) (subst IsBusyPart (sym read) (busy_part part all))
   | inr other ↦ before j (omega arith)
 ]
-
--- what is known of a value, where there is one
-pub of_ok : {A E : Type 0} (r : Result A E) (P Q : A → Type 0) → ((x : A) → P x → Q x) → IfOk r P → IfOk r Q
-of_ok (Ok x) P Q f h = f x h
-of_ok (Err e) P Q f h = h

@@ -1,5 +1,5 @@
 -- Parts of components, one after another.
-use Rattle.std.proofs.Common.{◌≡◌, ◌⊎◌, inl, inr, ℕ, ◌+◌, ◌<◌, ◌≤◌, List, [], ◌∷◌, ◌++◌, length, take, get_or, slice_get, Some, refl, sym, ap, subst, ◌∙◌, add-one, arith}
+use Rattle.std.proofs.Common.{◌≡◌, ◌⊎◌, inl, inr, ℕ, ◌+◌, ◌<◌, ◌≤◌, List, ◌∷◌, ◌++◌, length, take, get_or, slice_get, Some, sym, ap, subst, ◌∙◌, add-one, arith}
 use Rattle.std.specs.List.{All}
 use Rattle.std.proofs.Math.Seq.{take-suc}
 use Rattle.std.proofs.lemmas.Bool.{cases_lt}
@@ -20,7 +20,8 @@ use Rattle.network_tables.specs.Tables.{AreTablesOf, HasTable, whole_room}
 use Rattle.network_tables.specs.declared.component_tables.ComponentTable.{ComponentTable}
 use Rattle.network_tables.specs.declared.fault.PartsFault.{PartsFault}
 use Rattle.network_tables.specs.declared.fault.PartsFault.TheVariants as parts
-use Rattle.network_tables.proofs.Rows.{as_many, table_at, take_past}
+use Rattle.network_tables.proofs.Rows.{as_many, table_at}
+use Rattle.std.proofs.lemmas.List.{take_all}
 
 -- the events of a component's table are in its alphabet
 pub stays_within : (p : Content) (c : Component Proc) (t : ComponentTable) → HasTable p c t → HasEventsWithin t.local.table c.alphabet
@@ -113,4 +114,4 @@ module _ (p : Content) (seats : List (Component Proc)) (tables : List ComponentT
       → AreMadeFor (ProcessStep p) seats made × HaveFewSets tables
   all_made are made i done at_end =
       let many = as_many p whole_room seats tables are in
-      (subst (λ cs. AreMadeFor (ProcessStep p) cs made) (take_past seats i at_end) done.so_far, λ j t below at sets. done.few j t (omega (arith, many, at_end, below)) at sets)
+      (subst (λ cs. AreMadeFor (ProcessStep p) cs made) (take_all i seats at_end) done.so_far, λ j t below at sets. done.few j t (omega (arith, many, at_end, below)) at sets)

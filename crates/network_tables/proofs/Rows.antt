@@ -1,5 +1,5 @@
 -- Tables of components, one after another.
-use Rattle.std.proofs.Common.{◌≡◌, ℕ, zero, suc, ◌+◌, ◌<◌, ◌≤◌, ◌-◌, List, [], ◌∷◌, ◌++◌, length, take, get_or, slice_get, Some, refl, sym, ap, subst, ◌∙◌, add-one, arith}
+use Rattle.std.proofs.Common.{◌≡◌, ℕ, zero, suc, ◌+◌, ◌<◌, ◌≤◌, ◌-◌, List, ◌∷◌, ◌++◌, length, take, get_or, slice_get, Some, refl, sym, ap, subst, ◌∙◌, add-one, arith}
 use Rattle.std.proofs.Math.Seq.{take-suc}
 use Rattle.std.proofs.lemmas.Option.{none-some, same_Some, slice_get-get_or}
 use Rattle.csp_program.specs.declared.processes.Proc.{Proc}
@@ -12,6 +12,7 @@ use Rattle.network_tables.specs.Tables.{AreTablesOf, AreTablesWithin, HasTable, 
 use Rattle.network_tables.specs.declared.fault.TableFault.{TableFault}
 use Rattle.network_tables.specs.declared.fault.TableFault.TheVariants as fault
 use Rattle.network_tables.specs.declared.component_tables.ComponentTable.{ComponentTable}
+use Rattle.std.proofs.lemmas.List.{length_push, take_all}
 
 module _ (p : Content) where
   one_more : (room : Room) (cs : List (Component Proc)) (ts : List ComponentTable) (c : Component Proc) (t : ComponentTable) → AreTablesWithin p room cs ts
@@ -69,18 +70,8 @@ pub record AreMade (p : Content) (seats : List (Component Proc)) (made : List Co
   pub nodes : room.nodes ≤ 8388608
   pub steps : room.steps ≤ 1048576
 
-longer : {A : Type 0} (xs : List A) (x : A) → length (xs ++ x ∷ []) ≡ length xs + 1
-longer [] x = omega arith
-longer (y ∷ xs) x = let rest = longer xs x in omega (arith, rest)
-
 less : (a b m : ℕ) → a ≤ m → a - b ≤ m
 less a b m low = omega arith
-
-pub take_past : {A : Type 0} (xs : List A) (i : ℕ) → length xs ≤ i → take i xs ≡ xs
-take_past [] zero past = refl
-take_past [] (suc i) past = refl
-take_past (x ∷ xs) zero past = absurd (let z : ⊥ = omega arith in z)
-take_past (x ∷ xs) (suc i) past = ap (λ ys. x ∷ ys) (take_past xs i (omega arith))
 
 module _ (p : Content) (seats : List (Component Proc)) where
   pub none_made : AreMade p seats [] 0 whole_room
@@ -90,7 +81,7 @@ module _ (p : Content) (seats : List (Component Proc)) where
       → c ≡ get_or seats i c → IsTableWithin p room c t → new ≡ made ++ t ∷ [] → rest ≡ room_after room t.local.used → AreMade p seats new (i + 1) rest
   one_made made new i c t room rest are within is one grew after =
       let all = next_table p seats made i c t room within is are.so_far are.left one in
-      let count = longer made t in
+      let count = length_push made t in
       let same = are.count in
       record {
         so_far = subst (λ ts. AreTablesOf p (take (i + 1) seats) ts) (sym grew) all;
@@ -102,4 +93,4 @@ module _ (p : Content) (seats : List (Component Proc)) where
 
   -- all seats have their tables
   pub all_made : (made : List ComponentTable) (i : ℕ) (room : Room) → AreMade p seats made i room → length seats ≤ i → AreTablesOf p seats made
-  all_made made i room are at_end = subst (λ cs. AreTablesOf p cs made) (take_past seats i at_end) are.so_far
+  all_made made i room are at_end = subst (λ cs. AreTablesOf p cs made) (take_all i seats at_end) are.so_far

@@ -1,5 +1,5 @@
 -- The alphabets of components together.
-use Rattle.std.proofs.Common.{◌≡◌, ℕ, Bool, true, false, not, ◌||◌, ◌&&◌, Some, None, List, [], ◌∷◌, refl, ap, sym, ◌∙◌}
+use Rattle.std.proofs.Common.{◌≡◌, ℕ, Bool, true, false, not, ◌||◌, ◌&&◌, Some, None, List, ◌∷◌, refl, ap, sym, ◌∙◌}
 use Rattle.std.specs.Prelude.{Option}
 use Rattle.csp_base.specs.Events.{has, diff_of}
 use Rattle.csp_base.proofs.SetLaws.{has-diff_of, has-union_of}
@@ -16,7 +16,7 @@ no_lesser None y h = (refl, h)
 no_lesser (Some e) None h = absurd cc
 no_lesser (Some e) (Some d) h = absurd cc
 
-no_first : (xs : List ℕ) → first_event xs ≡ None → xs ≡ []
+pub no_first : (xs : List ℕ) → first_event xs ≡ None → xs ≡ []
 no_first [] h = refl
 no_first (x ∷ xs) h = absurd cc
 

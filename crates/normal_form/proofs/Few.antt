@@ -1,5 +1,5 @@
 -- A node has at most as many acceptances as there are terms: each is what one term offers, and no two are equal.
-use Rattle.std.proofs.Common.{◌≡◌, ℕ, suc, ◌<◌, ◌≤◌, ◌||◌, ◌↔◌, inl, inr, Bool, true, false, nat_eq, IsTrue, List, [], ◌∷◌, ◌++◌, length, get_or, refl, sym, subst, ◌∙◌, arith}
+use Rattle.std.proofs.Common.{◌≡◌, ℕ, suc, ◌<◌, ◌≤◌, ◌||◌, ◌↔◌, inl, inr, Bool, true, false, nat_eq, IsTrue, List, ◌∷◌, ◌++◌, length, get_or, refl, sym, subst, ◌∙◌, arith}
 use Rattle.std.specs.List.{All, AllByRecursion, IsDistinct}
 use Rattle.std.specs.List.Sorted.{IsStrictlyIncreasing, IsStrictlySortedBy}
 use Rattle.std.specs.Cmp.Lexicographic.{slice_cmp}
@@ -24,8 +24,8 @@ use Rattle.csp_tables.specs.RawForm.{HasRawForm}
 use Rattle.csp_tables.specs.Table.{Node, node_at, IsRun, IsReached}
 use Rattle.csp_tables.specs.NormalTable.{HasAcceptances, IsRisingNode}
 use Rattle.csp_tables.proofs.Listed.{silent_listed, step_listed}
-use Rattle.equal_futures.proofs.Gathering.{bool_from_iff}
 use Rattle.normal_form.proofs.SortedSets.{not_below_both}
+use Rattle.csp_base.proofs.Booleans.{same_tests}
 
 -- runs stay among the terms
 path_below : (raw : RawTable) → HasRawForm raw → (ls : List Label) (m n : ℕ) → m < raw.count → Path (RawStep raw) m ls n → n < raw.count
@@ -40,7 +40,7 @@ record IsOfferedBy (raw : RawTable) (M : List ℕ) (x : ℕ) : Type 0 where
   rising : IsStrictlyIncreasing M
 
 one_offer : (raw : RawTable) (M N : List ℕ) (x : ℕ) → IsOfferedBy raw M x → IsOfferedBy raw N x → M ≡ N
-one_offer raw M N x a b = same_members 0 0 M N (rises_from_increasing M a.rising) (rises_from_increasing N b.rising) (λ e. bool_from_iff (has M e) (has N e) (λ h. (b.exact e).1 ((a.exact e).0 h)) (λ h. (a.exact e).1 ((b.exact e).0 h)))
+one_offer raw M N x a b = same_members 0 0 M N (rises_from_increasing M a.rising) (rises_from_increasing N b.rising) (λ e. same_tests (has M e) (has N e) (λ h. (b.exact e).1 ((a.exact e).0 h)) (λ h. (a.exact e).1 ((b.exact e).0 h)))
 
 -- a term for each of the sets
 record HasTerms (raw : RawTable) (sets : List (List ℕ)) : Type 1 where

@@ -1,5 +1,5 @@
 -- Acceptances numbered in the order in which they are first seen: what holds while the nodes are gone through, and at the end.
-use Rattle.std.proofs.Common.{◌≡◌, ◌≢◌, ℕ, ◌+◌, ◌<◌, ◌≤◌, inl, inr, Bool, true, nat_eq, Some, List, [], ◌∷◌, ◌++◌, length, get_or, Result, Ok, Err, refl, sym, ap, ◌∙◌, subst, arith, below_more, eq-eqb}
+use Rattle.std.proofs.Common.{◌≡◌, ◌≢◌, ℕ, ◌+◌, ◌<◌, ◌≤◌, inl, inr, Bool, true, nat_eq, Some, List, ◌∷◌, ◌++◌, length, get_or, Result, Ok, Err, refl, sym, ap, ◌∙◌, subst, arith, below_more}
 use Rattle.std.specs.Prelude.{slice_index, slice_get, IfOk, IsOkAnd, OnOk}
 use Rattle.std.specs.Set.{is_member}
 use Rattle.std.specs.Cmp.Lexicographic.{pointwise}
@@ -11,6 +11,7 @@ use Rattle.std.proofs.Math.Seq.{get_or-append_seam}
 use Rattle.containers.specs.Members.{with_new}
 use Rattle.csp_tables.specs.Table.{Node, node_at}
 use Rattle.normal_form.specs.Marks.{AreMarksOf}
+use Rattle.csp_base.proofs.Lists.{same_list}
 
 -- what was made and pushed, and what holds of it
 pub pushed : {E : Type 0} (made : Result ℕ E) (old new : List ℕ) (L : Type 0) (P : ℕ → Type 0) → IsOkAnd made (λ item. new ≡ old ++ item ∷ []) → OnOk made L → IfOk made P → (item : ℕ) × L × P item × (new ≡ old ++ item ∷ [])
@@ -20,10 +21,6 @@ pushed (Err e) old new L P is l p = absurd is
 -- equality of lists of sets, as a test
 abbrev pub same_sets : List (List ℕ) → List (List ℕ) → Bool
 same_sets = pointwise (pointwise nat_eq)
-
-same_list : (xs : List ℕ) → pointwise nat_eq xs xs ≡ true
-same_list [] = refl
-same_list (x ∷ xs) = and_from (nat_eq x x) (pointwise nat_eq xs xs) (eq-eqb x x refl) (same_list xs)
 
 same_itself : (xs : List (List ℕ)) → same_sets xs xs ≡ true
 same_itself [] = refl

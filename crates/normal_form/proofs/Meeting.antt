@@ -1,5 +1,5 @@
 -- Numbers that are met in their order: along a list, along two lists, and what has been met.
-use Rattle.std.proofs.Common.{◌≡◌, ℕ, zero, suc, ◌+◌, ◌<◌, ◌≤◌, inl, inr, true, false, nat_eq, List, [], ◌∷◌, ◌++◌, length, take, drop, refl, sym, ap, ◌∙◌, subst, arith}
+use Rattle.std.proofs.Common.{◌≡◌, ℕ, zero, suc, ◌+◌, ◌<◌, ◌≤◌, inl, inr, true, false, nat_eq, List, ◌∷◌, ◌++◌, length, take, drop, refl, sym, ap, ◌∙◌, subst, arith}
 use Rattle.std.specs.Prelude.{map}
 use Rattle.std.proofs.lemmas.Bool.{cases_Bool, cases_lt, cond-true, cond-false, false≢true, eq-eqb, ne_eqb, both_ways, or_left, or_right}
 use Rattle.std.proofs.lemmas.List.{append-nil, take-append-drop}
@@ -22,11 +22,6 @@ meets_same n m k (x ∷ xs) (inl a) (inl b) = meets_same n m k xs a.1 b.1
 meets_same n m k (x ∷ xs) (inl a) (inr b) = absurd (omega (arith, a.0, b.0))
 meets_same n m k (x ∷ xs) (inr a) (inl b) = absurd (omega (arith, a.0, b.0))
 meets_same n m k (x ∷ xs) (inr a) (inr b) = meets_same (suc n) m k xs a.1 b.1
-
-pub meets_then : (n m k : ℕ) (xs ys : List ℕ) → MeetsInOrder n xs m → MeetsInOrder m ys k → MeetsInOrder n (xs ++ ys) k
-meets_then n m k [] ys a b = subst (λ (j : ℕ). MeetsInOrder j ys k) (sym a) b
-meets_then n m k (x ∷ xs) ys (inl a) b = inl (a.0, meets_then n m k xs ys a.1 b)
-meets_then n m k (x ∷ xs) ys (inr a) b = inr (a.0, meets_then (suc n) m k xs ys a.1 b)
 
 -- what has been met between two lists
 pub record MetBetween (n : ℕ) (xs ys : List ℕ) (m : ℕ) : Type 0 where

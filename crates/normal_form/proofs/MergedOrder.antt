@@ -1,5 +1,5 @@
 -- A merged table is numbered breadth first where the table is.
-use Rattle.std.proofs.Common.{◌≡◌, ℕ, zero, suc, ◌<◌, ◌≤◌, inl, inr, true, List, [], ◌∷◌, ◌++◌, length, take, sym, ap, ◌∙◌, subst, arith}
+use Rattle.std.proofs.Common.{◌≡◌, ℕ, zero, suc, ◌<◌, ◌≤◌, inl, inr, true, List, ◌∷◌, ◌++◌, length, take, sym, ap, ◌∙◌, subst, arith}
 use Rattle.std.specs.Prelude.{slice_index}
 use Rattle.std.proofs.lemmas.List.{get_or-take, length-take-le}
 use Rattle.std.proofs.Math.Seq.{take-suc, take-length}
@@ -10,8 +10,9 @@ use Rattle.equal_futures.proofs.Futures.{same_events, future_after}
 use Rattle.equal_futures.proofs.RowLists.{target_below}
 use Rattle.normal_form.specs.Merged.{renamed, AreMerged}
 use Rattle.normal_form.proofs.ClassOrder.{first_of, is_first, class_seen, seen_within, seen_most, step_at, seen_at}
-use Rattle.normal_form.proofs.Meeting.{meets_more, meets_then, MetBetween, meets_cut, meets_part, more_targets, EachTarget, each_target, target_is, nodes_met}
+use Rattle.normal_form.proofs.Meeting.{meets_more, MetBetween, meets_cut, meets_part, more_targets, EachTarget, each_target, target_is, nodes_met}
 use Rattle.normal_form.proofs.MergedRuns.{in_classes}
+use Rattle.determinise.proofs.MoreSets.{meets_then}
 
 module _ (nodes : List Node) (marks classes : List ℕ) (count : ℕ) (merged : List Node) (rise : NodesRise nodes) (futures : AreFutureClasses nodes marks classes count) (are : AreMerged nodes classes count merged) where
   abbrev seen : ℕ → ℕ

@@ -1,5 +1,5 @@
 -- Nodes of a determinised table have equal future exactly where the traces that lead to them have the same future.
-use Rattle.std.proofs.Common.{◌≡◌, ◌↔◌, ℕ, ◌<◌, Bool, true, false, ◌&&◌, List, [], ◌∷◌, ◌++◌, length, get_or, refl, sym, ap, ◌∙◌, subst}
+use Rattle.std.proofs.Common.{◌≡◌, ◌↔◌, ℕ, ◌<◌, Bool, true, false, ◌&&◌, List, ◌∷◌, ◌++◌, length, get_or, refl, sym, ap, ◌∙◌, subst}
 use Rattle.std.specs.List.Sorted.{IsStrictlyIncreasing}
 use Rattle.std.proofs.lemmas.Bool.{and_parts}
 use Rattle.csp_base.specs.Members.{has}
@@ -13,6 +13,7 @@ use Rattle.equal_futures.specs.Future.{HaveEqualFuture, NodesRise}
 use Rattle.equal_futures.proofs.RowLists.{target_below}
 use Rattle.normal_form.specs.Marks.{AreMarksOf}
 use Rattle.normal_form.proofs.SortedSets.{same_sorted}
+use Rattle.csp_base.proofs.Booleans.{same_tests}
 
 -- ---- runs one after another
 and_assoc : (a b c : Bool) → ((a && b) && c) ≡ (a && (b && c))
@@ -40,11 +41,6 @@ same_acceptance Step start s M N same a = record {
   };
   least = λ K offer within e h. a.least K offer (λ d k. same d ∙ within d k) e (same e ∙ h);
 }
-
-same_tests : (a b : Bool) → (a ≡ true → b ≡ true) → (b ≡ true → a ≡ true) → a ≡ b
-same_tests true b f g = sym (f refl)
-same_tests false true f g = g refl
-same_tests false false f g = refl
 
 module _ (Step : ℕ → Label → ℕ → Type 0) (start : ℕ) (nodes : List Node) (marks : List ℕ) (some : 0 < length nodes) (rise : NodesRise nodes) (told : AreMarksOf nodes marks) (order : (n : ℕ) → n < length nodes → IsRisingNode (node_at nodes n)) (traces : (s : List ℕ) → IsTrace Step start s ↔ IsRun nodes s) (accepts : HasAcceptances Step start nodes) where
   pub end_within : (w : List ℕ) (j : ℕ) → j < length nodes → is_run nodes j w ≡ true → end_of nodes j w < length nodes

@@ -1,5 +1,5 @@
 -- Pairs that are added while a table is explored.
-use Rattle.std.proofs.Common.{◌≡◌, ℕ, ◌+◌, ◌-◌, ◌<◌, ◌≤◌, List, [], ◌∷◌, ◌++◌, length, get_or, IsTrue, refl, sym, ap, subst, ◌∙◌, arith, inl, inr, append_assoc, append-nil}
+use Rattle.std.proofs.Common.{◌≡◌, ℕ, ◌+◌, ◌-◌, ◌<◌, ◌≤◌, List, ◌∷◌, ◌++◌, length, get_or, IsTrue, refl, sym, ap, subst, ◌∙◌, arith, inl, inr, append_assoc, append-nil}
 use Rattle.std.specs.Prelude.{slice_get, Some}
 use Rattle.std.proofs.lemmas.Bool.{cases_lt}
 use Rattle.std.proofs.lemmas.List.{length-append, get_or_append_left}
@@ -11,7 +11,8 @@ use Rattle.csp_tables.specs.Form.{HasForm}
 use Rattle.observed_runs.specs.Observed.{pair_at}
 use Rattle.observed_runs.specs.Exploration.{StepsTo, AreFound, HaveOrigins}
 use Rattle.observed_runs.specs.Progress.{IsListed, IsAdded, AreMore, AreFollowed}
-use Rattle.observed_runs.proofs.Leading.{step_listed, step_within, listed_step, node_form}
+use Rattle.observed_runs.proofs.Leading.{step_listed, step_within, listed_step}
+use Rattle.csp_tables.proofs.Runs.{node_form}
 
 pub pair_at_left : (xs ys : List (ℕ × ℕ)) (k : ℕ) → k < length xs → pair_at (xs ++ ys) k ≡ pair_at xs k
 pair_at_left xs ys k h = get_or_append_left xs ys (0, 0) k h

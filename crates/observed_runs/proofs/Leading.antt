@@ -1,24 +1,15 @@
 -- Runs that lead to pairs: one more event, and the steps of a node.
-use Rattle.std.proofs.Common.{◌≡◌, ℕ, zero, suc, ◌+◌, ◌-◌, ◌<◌, List, [], ◌∷◌, ◌++◌, length, get_or, true, false, IsTrue, nat_eq, refl, sym, ap, subst, ◌∙◌, arith, inl, inr, eq-eqb}
-use Rattle.std.proofs.lemmas.Bool.{and_from, and_parts, or_cases, or_left, or_right, eqb-true, false≢true, cases_Bool, cond-true, cond-false, both_ways}
-use Rattle.csp_tables.specs.Table.{Node, node_at, is_possible, target, node_after, is_run, end_of}
-use Rattle.csp_tables.specs.Form.{BeginsAbove, StepsHaveForm, NodesHaveForm}
+use Rattle.std.proofs.Common.{◌≡◌, ℕ, zero, suc, ◌+◌, ◌-◌, ◌<◌, List, ◌∷◌, ◌++◌, length, get_or, true, false, IsTrue, nat_eq, refl, sym, ap, subst, ◌∙◌, arith, inl, inr, eq-eqb}
+use Rattle.std.proofs.lemmas.Bool.{or_cases, or_left, or_right, eqb-true, false≢true, cases_Bool, cond-true, cond-false, both_ways}
+use Rattle.csp_tables.specs.Table.{Node, node_at, is_possible, target, node_after}
+use Rattle.csp_tables.specs.Form.{BeginsAbove, StepsHaveForm}
 use Rattle.observed_runs.specs.Observed.{observed, LeadsTo, pair_at}
 use Rattle.std.specs.Prelude.{reverse}
 use Rattle.std.proofs.lemmas.List.{reverse-append, append_assoc}
 use Rattle.observed_runs.specs.Exploration.{AreFound, StepsTo}
+use Rattle.csp_tables.proofs.Runs.{run_push, end_push}
 
-run_push : (table : List Node) (n : ℕ) (u : List ℕ) (e : ℕ) → is_run table n u ≡ true → is_possible (node_at table (end_of table n u)).next e ≡ true → is_run table n (u ++ e ∷ []) ≡ true
-run_push table n [] e h k = and_from _ _ k refl
-run_push table n (x ∷ u) e h k =
-    let p = and_parts (is_possible (node_at table n).next x) (is_run table (node_after table n x) u) h in
-    and_from _ _ p.0 (run_push table (node_after table n x) u e p.1 k)
-
-end_push : (table : List Node) (n : ℕ) (u : List ℕ) (e : ℕ) → end_of table n (u ++ e ∷ []) ≡ node_after table (end_of table n u) e
-end_push table n [] e = refl
-end_push table n (x ∷ u) e = end_push table (node_after table n x) u e
-
-observed_push : (step : ℕ → ℕ → ℕ) (state : ℕ) (u : List ℕ) (e : ℕ) → observed step state (u ++ e ∷ []) ≡ step (observed step state u) e
+pub observed_push : (step : ℕ → ℕ → ℕ) (state : ℕ) (u : List ℕ) (e : ℕ) → observed step state (u ++ e ∷ []) ≡ step (observed step state u) e
 observed_push step state [] e = refl
 observed_push step state (x ∷ u) e = observed_push step (step state x) u e
 
@@ -95,8 +86,3 @@ listed_step (step ∷ steps) e h =
           let rest = listed_step steps e (elim (or_cases (nat_eq step.0 e) (is_possible steps e) h) [ inl k ↦ absurd (both_ways (nat_eq step.0 e) other k) | inr k ↦ k ]) in
           record { place = suc rest.place; within = let l : rest.place < length steps = rest.within in omega arith; event = rest.event; leads = rest.leads ∙ sym (cond-false (nat_eq step.0 e) step.1 (target steps e) other) }
     ]
-
-pub node_form : (a : List ℕ) (m : ℕ) (nodes : List Node) (n : ℕ) → NodesHaveForm a m nodes → StepsHaveForm a m (node_at nodes n).next
-node_form a m [] n form = tt
-node_form a m (node ∷ nodes) zero form = form.0
-node_form a m (node ∷ nodes) (suc n) form = node_form a m nodes n form.2

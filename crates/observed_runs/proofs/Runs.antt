@@ -16,7 +16,3 @@ either_way (Err e) place L Q is none some = tt
 
 pub at_some : {K : Type 0} (place : Option K) (k : K) (P : K → Type 0) → place ≡ Some k → IfSome place P → P k
 at_some place k P is h = subst (λ p. IfSome p P) is h
-
-pub if_both : {T E : Type 0} (r : Result T E) (P Q R : T → Type 0) → IfOk r P → IfOk r Q → ((x : T) → P x → Q x → R x) → IfOk r R
-if_both (Ok x) P Q R p q f = f x p q
-if_both (Err e) P Q R p q f = tt

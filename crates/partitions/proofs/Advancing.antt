@@ -7,10 +7,7 @@ use Rattle.std.proofs.lemmas.List.{length-set}
 use Rattle.partitions.specs.Blocks.{State, HasBlocks, block_at, is_marked, sizes}
 use Rattle.partitions.specs.BlockSteps.{IsAdvanced}
 use Rattle.partitions.proofs.Writes.{by_write, by_two_writes}
-
-or_unless : (a b : Bool) → b ≡ false → (a || b) ≡ a
-or_unless true b h = refl
-or_unless false b h = h
+use Rattle.csp_base.proofs.Booleans.{or_unless}
 
 module _ (n : ℕ) (s t : State) (node : ℕ) (good : HasBlocks n s) (inside : node < n) (unmarked : slice_index s.middles (block_at s node) ≤ slice_index s.places node) (a : IsAdvanced s t node) where
   abbrev pub blk : ℕ

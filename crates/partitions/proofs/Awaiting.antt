@@ -1,13 +1,14 @@
 -- A block waits: what becomes of the partition.
-use Rattle.std.proofs.Common.{◌≡◌, ℕ, ◌+◌, ◌<◌, ◌≤◌, inl, inr, List, [], ◌∷◌, ◌++◌, length, Bool, true, false, nat_lt, refl, sym, ap, ◌∙◌, subst, arith}
+use Rattle.std.proofs.Common.{◌≡◌, ℕ, ◌+◌, ◌<◌, ◌≤◌, inl, inr, List, ◌∷◌, ◌++◌, length, Bool, true, false, nat_lt, refl, sym, ap, ◌∙◌, subst, arith}
 use Rattle.std.specs.Prelude.{slice_index, slice_index_or}
 use Rattle.std.proofs.lemmas.Bool.{cond_both}
 use Rattle.std.proofs.lemmas.List.{length-set, length_push, get_or-set_same}
 use Rattle.csp_base.specs.Members.{has}
 use Rattle.partitions.specs.Blocks.{State, HasBlocks, block_at, is_marked, sizes, waits}
 use Rattle.partitions.specs.BlockSteps.{IsAwaited}
-use Rattle.partitions.proofs.Marking.{has_push, has_more, has_one_of}
+use Rattle.partitions.proofs.Marking.{has_push, has_more}
 use Rattle.partitions.proofs.Writes.{by_write}
+use Rattle.csp_base.proofs.Listed.{has_push}
 
 module _ (n : ℕ) (s t : State) (b : ℕ) (good : HasBlocks n s) (inside : b < length s.firsts) (a : IsAwaited s t b) where
   flag_there : b < length s.flags
@@ -58,7 +59,7 @@ module _ (n : ℕ) (s t : State) (b : ℕ) (good : HasBlocks n s) (inside : b < 
         (subst (λ (xs : List Bool). slice_index_or xs c false ≡ true) a.flags h);
     known = λ c. by_waiting (λ xs. has xs c ≡ true → c < length t.firsts)
         (λ _ h. subst (λ (xs : List ℕ). c < length xs) (sym a.firsts) (good.known c h))
-        (λ h. subst (λ (xs : List ℕ). c < length xs) (sym a.firsts) (elim (has_one_of s.waiting b c h) as (λ _. c < length s.firsts) [ inl old ↦ good.known c old | inr e ↦ subst (λ x. x < length s.firsts) e inside ]));
+        (λ h. subst (λ (xs : List ℕ). c < length xs) (sym a.firsts) (elim (has_push s.waiting b c h) as (λ _. c < length s.firsts) [ inl old ↦ good.known c old | inr e ↦ subst (λ x. x < length s.firsts) e inside ]));
   }
 
   pub blocks_same_awaited : (i : ℕ) → block_at t i ≡ block_at s i

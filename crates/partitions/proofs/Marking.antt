@@ -1,25 +1,20 @@
 -- A node is marked, or was marked before: what is known then.
-use Rattle.std.proofs.Common.{◌≡◌, ℕ, ◌+◌, ◌<◌, ◌≤◌, ◌⊎◌, List, [], ◌∷◌, ◌++◌, length, get_or, ◌^◌, true, false, ◌||◌, nat_eq, refl, sym, ap, ◌∙◌, subst, arith, inl, inr}
+use Rattle.std.proofs.Common.{◌≡◌, ℕ, ◌+◌, ◌<◌, ◌≤◌, ◌⊎◌, List, ◌∷◌, ◌++◌, length, get_or, ◌^◌, true, false, ◌||◌, nat_eq, refl, sym, ap, ◌∙◌, subst, arith, inl, inr}
 use Rattle.std.specs.Prelude.{slice_index}
-use Rattle.std.proofs.lemmas.Bool.{eq-eqb, eqb-true, or_left, or_right, or_cases, false≢true}
+use Rattle.std.proofs.lemmas.Bool.{eq-eqb, or_left, or_right}
 use Rattle.std.proofs.lemmas.List.{get_or_read}
 use Rattle.std.proofs.lemmas.List.Folds.{list_any-append}
 use Rattle.csp_base.specs.Members.{has}
 use Rattle.partitions.specs.Blocks.{State, HasBlocks, IsMarked, AreTouched, block_at}
 use Rattle.partitions.specs.BlockSteps.{IsAdvanced}
 use Rattle.partitions.proofs.Advancing.{blocks_advanced, marked_advanced, middles_then}
+use Rattle.csp_base.proofs.Listed.{has_push}
 
 pub has_push : (xs : List ℕ) (x : ℕ) → has (xs ++ x ∷ []) x ≡ true
 has_push xs x = list_any-append (λ y. nat_eq y x) xs (x ∷ []) ∙ or_right (has xs x) (nat_eq x x || false) (or_left (nat_eq x x) false (eq-eqb x x refl))
 
 pub has_more : (xs : List ℕ) (x y : ℕ) → has xs y ≡ true → has (xs ++ x ∷ []) y ≡ true
 has_more xs x y h = list_any-append (λ z. nat_eq z y) xs (x ∷ []) ∙ or_left (has xs y) (nat_eq x y || false) h
-
-pub has_one_of : (xs : List ℕ) (x y : ℕ) → has (xs ++ x ∷ []) y ≡ true → (has xs y ≡ true) ⊎ (x ≡ y)
-has_one_of xs x y h = elim (or_cases (has xs y) (nat_eq x y || false) (sym (list_any-append (λ z. nat_eq z y) xs (x ∷ [])) ∙ h)) as (λ _. (has xs y ≡ true) ⊎ (x ≡ y)) [
-  | inl old ↦ inl old
-  | inr new ↦ elim (or_cases (nat_eq x y) false new) as (λ _. (has xs y ≡ true) ⊎ (x ≡ y)) [ inl e ↦ inr (eqb-true x y e) | inr none ↦ absurd (false≢true none) ]
-]
 
 module _ (n : ℕ) (s t : State) (node : ℕ) (good : HasBlocks n s) (inside : node < n) (unmarked : slice_index s.middles (block_at s node) ≤ slice_index s.places node) (a : IsAdvanced s t node) where
   pub marked_now : IsMarked n s t node
@@ -48,7 +43,7 @@ module _ (n : ℕ) (s t : State) (node : ℕ) (good : HasBlocks n s) (inside : n
   touched_new touched old =
       touched_now (touched ++ block_at s node ∷ [])
       (λ b h l. has_more touched (block_at s node) b (old.all b h l))
-      (λ b h. elim (has_one_of touched (block_at s node) b h) as (λ _. b < length s.firsts) [ inl before ↦ old.known b before | inr e ↦ subst (λ c. c < length s.firsts) e (good.numbered node inside) ])
+      (λ b h. elim (has_push touched (block_at s node) b h) as (λ _. b < length s.firsts) [ inl before ↦ old.known b before | inr e ↦ subst (λ c. c < length s.firsts) e (good.numbered node inside) ])
       (has_push touched (block_at s node))
 
 -- What the code reads for the node: its block b, its place p, where the marked nodes of the block end, m, and where it begins, f.

@@ -1,11 +1,14 @@
 -- Nodes are marked and blocks are cut, one after the other: blocks are split by the sources of steps.
-use Rattle.std.proofs.Common.{◌≡◌, ℕ, zero, suc, ◌+◌, ◌<◌, ◌≤◌, inl, inr, List, [], ◌∷◌, ◌++◌, length, get_or, take, drop, Bool, true, false, ◌||◌, nat_eq, refl, sym, ap, ◌∙◌, subst, arith}
+use Rattle.std.proofs.Common.{◌≡◌, ℕ, zero, suc, ◌+◌, ◌<◌, ◌≤◌, inl, inr, List, ◌∷◌, ◌++◌, length, get_or, take, drop, Bool, true, false, ◌||◌, nat_eq, refl, sym, ap, ◌∙◌, subst, arith}
 use Rattle.std.specs.Prelude.{slice_index, slice_index_or, ◌↔◌}
-use Rattle.std.proofs.lemmas.Bool.{le-ltb, false≢true, or_cases, or_left, or_right, eqb-true, eq-eqb, ne_eqb, cases_eq}
+use Rattle.std.proofs.lemmas.Bool.{le-ltb, false≢true, or_cases, or_left, or_right, eqb-true, eq-eqb}
 use Rattle.std.proofs.lemmas.List.{take_more, drop_more}
 use Rattle.std.proofs.lemmas.List.Folds.{list_any-append}
 use Rattle.csp_base.specs.Members.{has}
 use Rattle.partitions.specs.Blocks.{State, HasBlocks, HaveSameBlocks, IsMarked, AreMarked, AreTouched, AreTogether, AreCut, IsCut, IsCalm, IsOnward, IsSplit, block_at, is_marked, is_source, waits}
+use Rattle.std.proofs.Math.Bool.{or-false}
+use Rattle.csp_base.proofs.Listed.{same_number}
+use Rattle.csp_base.proofs.Booleans.{same_or}
 
 calm_unmarked : (n : ℕ) (s : State) → HasBlocks n s → IsCalm s → (i : ℕ) → i < n → is_marked s i ≡ false
 calm_unmarked n s good calm i h =
@@ -23,19 +26,6 @@ none_marked n s good calm = record {
   marked = λ i h. calm_unmarked n s good calm i h;
 }
 
-or_none : (a : Bool) → (a || false) ≡ a
-or_none true = refl
-or_none false = refl
-
-eq_comm : (a b : ℕ) → nat_eq a b ≡ nat_eq b a
-eq_comm a b = elim (cases_eq a b) as (λ _. nat_eq a b ≡ nat_eq b a) [
-  | inl e ↦ eq-eqb a b e ∙ sym (eq-eqb b a (sym e))
-  | inr ne ↦ ne_eqb a b ne ∙ sym (ne_eqb b a (λ e. ne (sym e)))
-]
-
-same_or : (a b c d : Bool) → a ≡ c → b ≡ d → (a || b) ≡ (c || d)
-same_or a b c d p q = λ i. p i || q i
-
 pub one_more_marked : (n : ℕ) (s t u : State) (touched touched' : List ℕ) (steps : List (ℕ × ℕ)) (k node : ℕ) (d : ℕ × ℕ) → k < length steps → node ≡ (get_or steps k d).1 → AreMarked n s t touched (take k steps) → IsMarked n t u node → AreTouched u touched' → AreMarked n s u touched' (take (k + 1) steps)
 one_more_marked n s t u touched touched' steps k node d inside read a m touch = record {
   fit = m.fit;
@@ -43,7 +33,7 @@ one_more_marked n s t u touched touched' steps k node d inside read a m touch = 
   found = touch;
   marked = λ i h.
       let more : take (k + 1) steps ≡ take k steps ++ get_or steps k d ∷ [] = take_more steps k d inside in
-      m.marked i h ∙ same_or (is_marked t i) (nat_eq i node) (is_source (take k steps) i) (nat_eq (get_or steps k d).1 i || false) (a.marked i h) (eq_comm i node ∙ ap (λ x. nat_eq x i) read ∙ sym (or_none (nat_eq (get_or steps k d).1 i)))
+      m.marked i h ∙ same_or (is_marked t i) (nat_eq i node) (is_source (take k steps) i) (nat_eq (get_or steps k d).1 i || false) (a.marked i h) (same_number i node ∙ ap (λ x. nat_eq x i) read ∙ sym (or-false (nat_eq (get_or steps k d).1 i)))
       ∙ sym (list_any-append (λ (x : ℕ × ℕ). nat_eq x.1 i) (take k steps) (get_or steps k d ∷ [])) ∙ sym (ap (λ (xs : List (ℕ × ℕ)). is_source xs i) more);
 }
 

@@ -1,16 +1,12 @@
 -- The first partition, the members of a block, and a block that is taken from those that wait.
-use Rattle.std.proofs.Common.{◌≡◌, ℕ, zero, suc, ◌+◌, ◌-◌, ◌<◌, ◌≤◌, ◌⊎◌, inl, inr, List, [], ◌∷◌, ◌++◌, length, set, get_or, take, drop, replicate, ◌^◌, Bool, true, false, nat_eq, refl, sym, ap, ◌∙◌, subst, arith}
+use Rattle.std.proofs.Common.{◌≡◌, ℕ, suc, ◌+◌, ◌-◌, ◌<◌, ◌≤◌, ◌⊎◌, inl, inr, List, ◌∷◌, ◌++◌, length, set, get_or, take, drop, replicate, ◌^◌, Bool, true, false, nat_eq, refl, sym, ap, ◌∙◌, subst, arith}
 use Rattle.std.specs.Prelude.{slice_index, slice_index_or, ◌↔◌}
-use Rattle.std.proofs.lemmas.Bool.{cases_eq, cases_lt, or_cases, or_left, or_right, eqb-true, eq-eqb, false≢true}
+use Rattle.std.proofs.lemmas.Bool.{cases_eq, cases_lt, or_cases, eqb-true, false≢true}
 use Rattle.std.proofs.lemmas.List.{length-set, length_push, length-replicate, get_or-replicate, get_or-set_other, get_or-set_same, get_or-take, get_or-drop, length-take-le, length-drop, get_or_past}
 use Rattle.csp_base.specs.Members.{has}
 use Rattle.partitions.specs.Blocks.{State, HasBlocks, IsWhole, IsTaken, block_at, waits, sizes}
-use Rattle.partitions.proofs.Marking.{has_push, has_more, has_one_of}
-
-pub has_at : (xs : List ℕ) (k : ℕ) → k < length xs → has xs (get_or xs k 0) ≡ true
-has_at [] k h = absurd (omega arith)
-has_at (x ∷ xs) zero h = or_left (nat_eq x x) (has xs x) (eq-eqb x x refl)
-has_at (x ∷ xs) (suc k) h = or_right (nat_eq x (get_or xs k 0)) (has xs (get_or xs k 0)) (has_at xs k (omega arith))
+use Rattle.partitions.proofs.Marking.{has_push, has_more}
+use Rattle.csp_base.proofs.Listed.{has_push, has_at}
 
 pub place_of : (xs : List ℕ) (i : ℕ) → has xs i ≡ true → (k : ℕ) × (k < length xs) × (get_or xs k 0 ≡ i)
 place_of [] i h = absurd (false≢true h)
@@ -94,7 +90,7 @@ module _ (n : ℕ) (s t : State) (b : ℕ) (good : HasBlocks n s) (order : t.ord
       whole = ap (λ (xs : List ℕ). sizes xs t.ends) firsts ∙ ap (λ (xs : List ℕ). sizes s.firsts xs) ends ∙ good.whole;
       listed = λ c h. elim (cases_eq c b) as (λ _. has t.waiting c ≡ true) [
         | inl e ↦ absurd (false≢true (sym waits_not ∙ ap (λ x. waits t x) (sym e) ∙ h))
-        | inr ne ↦ elim (has_one_of t.waiting b c (subst (λ (xs : List ℕ). has xs c ≡ true) waiting (good.listed c (sym (waits_then c ne) ∙ h)))) as (λ _. has t.waiting c ≡ true) [ inl old ↦ old | inr e ↦ absurd (ne (sym e)) ]
+        | inr ne ↦ elim (has_push t.waiting b c (subst (λ (xs : List ℕ). has xs c ≡ true) waiting (good.listed c (sym (waits_then c ne) ∙ h)))) as (λ _. has t.waiting c ≡ true) [ inl old ↦ old | inr e ↦ absurd (ne (sym e)) ]
       ];
       known = λ c h. subst (λ (xs : List ℕ). c < length xs) (sym firsts) (good.known c (subst (λ (xs : List ℕ). has xs c ≡ true) (sym waiting) (has_more t.waiting b c h)));
     };

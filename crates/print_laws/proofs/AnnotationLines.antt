@@ -1,26 +1,26 @@
 -- The line of an annotation is found as its token.
-use Rattle.std.proofs.Common.{◌≡◌, ℕ, suc, ◌+◌, ◌<◌, Bool, true, false, ◌&&◌, List, [], ◌∷◌, ◌++◌, length, take, drop, codes, refl, ap, ◌∙◌, length-append, arith}
-use Rattle.std.proofs.lemmas.Bool.{cond-true, cond-false, false≢true}
+use Rattle.std.proofs.Common.{◌≡◌, ℕ, suc, ◌+◌, ◌<◌, Bool, true, false, ◌&&◌, List, ◌∷◌, ◌++◌, length, take, drop, codes, refl, ap, ◌∙◌, length-append, arith}
+use Rattle.std.proofs.lemmas.Bool.{cond-true, cond-false, false≢true, and_from}
 use Rattle.std.proofs.lemmas.List.Folds.{list_all-append}
 use Rattle.std.proofs.Math.Seq.{take-append_seam, drop-append_seam}
-use Rattle.std.specs.Prelude.{Option, Some, cond, nat_eq, not}
+use Rattle.std.specs.Prelude.{Some, cond, nat_eq, not}
 use Rattle.std.specs.List.{list_all, prefix_len}
 use Rattle.csp_base.specs.declared.place.Place.{Place}
-use Rattle.csp_text.specs.declared.token.Token.{Token}
 use Rattle.csp_text.specs.declared.token.Token.TheVariants as token
 use Rattle.csp_text.specs.declared.token.ResourceNames.{ResourceNames}
 use Rattle.csp_text.specs.declared.token.RolesNames.{RolesNames}
 use Rattle.csp_lexer.specs.Annotations.{after_spaces, after_word, first_word, is_space, line_comment, line_piece, marked_piece, next_name, resource, roles}
 use Rattle.csp_lexer.specs.Comments.{line_len}
 use Rattle.csp_lexer.specs.Front.{front}
-use Rattle.csp_lexer.specs.Pieces.{Piece, one}
-use Rattle.csp_lexer.specs.Words.{is_letter, is_name}
+use Rattle.csp_lexer.specs.Pieces.{one}
+use Rattle.csp_lexer.specs.Words.{is_name}
 use Rattle.script_printer.specs.TokenText.{spaced_names, token_text}
 use Rattle.print_laws.specs.Fits.{AreResource, AreRoles, IsName}
-use Rattle.print_laws.proofs.Cuts.{IsPiece, Stands}
-use Rattle.print_laws.proofs.Names.{begins_with_letter, name_parts, no_empty_name}
-use Rattle.print_laws.proofs.Numbers.{back_is, front_is}
+use Rattle.print_laws.proofs.Cuts.{Stands}
+use Rattle.print_laws.proofs.Names.{begins_with_letter, name_parts, no_empty_name, letter_no_space}
 use Rattle.print_laws.proofs.Quiet.{is_word_byte, name_bytes, weaker}
+use Rattle.csp_base.proofs.Booleans.{and_first, and_second}
+use Rattle.print_laws.proofs.Tokens.{piece_is}
 
 abbrev not_space : ℕ → Bool
 not_space b = not (is_space b)
@@ -36,16 +36,13 @@ pass_step false n m k h e = absurd (false≢true h)
 pub prefix_passes : (p : ℕ → Bool) (x z : List ℕ) → list_all p x ≡ true → prefix_len p (x ++ z) ≡ length x + prefix_len p z
 prefix_passes p [] z h = omega arith
 prefix_passes p (c ∷ x) z h =
-    pass_step (p c) (prefix_len p (x ++ z)) (length x) (prefix_len p z) (front_is (p c) (list_all p x) h) (prefix_passes p x z (back_is (p c) (list_all p x) h))
+    pass_step (p c) (prefix_len p (x ++ z)) (length x) (prefix_len p z) (and_first (p c) (list_all p x) h) (prefix_passes p x z (and_second (p c) (list_all p x) h))
 
 word_byte_no_space : (b : ℕ) → is_word_byte b ≡ true → not_space b ≡ true
 word_byte_no_space b h = grind (arith)
 
 word_byte_no_feed : (b : ℕ) → is_word_byte b ≡ true → not_feed b ≡ true
 word_byte_no_feed b h = grind (arith)
-
-letter_no_space : (c : ℕ) → is_letter c ≡ true → is_space c ≡ false
-letter_no_space c h = grind (arith)
 
 -- a name behind a space
 
@@ -105,11 +102,8 @@ resource_are names h =
 no_feed_in_name : (x : List ℕ) → IsName x → list_all not_feed x ≡ true
 no_feed_in_name x h = weaker is_word_byte not_feed word_byte_no_feed x (name_bytes x h)
 
-both : (t u : Bool) → t ≡ true → u ≡ true → (t && u) ≡ true
-both t u h k = rw (h, k) refl
-
 no_feed_more : (x z : List ℕ) → IsName x → list_all not_feed z ≡ true → list_all not_feed (32 ∷ x ++ z) ≡ true
-no_feed_more x z h e = list_all-append not_feed x z ∙ both _ _ (no_feed_in_name x h) e
+no_feed_more x z h e = list_all-append not_feed x z ∙ and_from _ _ (no_feed_in_name x h) e
 
 roles_no_feed : (names : RolesNames) → AreRoles names → list_all not_feed (token_text (token.Roles names)) ≡ true
 roles_no_feed names h =
@@ -143,9 +137,6 @@ roles_front names at rest = refl
 resource_front : (names : ResourceNames) (at : Place) (rest : List ℕ) → front at (token_text (token.Resource names) ++ rest) ≡ line_comment at (token_text (token.Resource names) ++ rest)
 unfolding front
 resource_front names at rest = refl
-
-piece_is : {result : Option Piece} {t : Token} {at : Place} {rest : List ℕ} → result ≡ Some (one t at rest) → IsPiece result (t ∷ []) rest
-piece_is {t = t} {at = at} {rest = rest} e = record { piece = one t at rest; is = e; tokens_are = refl; rest_is = refl }
 
 behind_text : (c : ℕ) (x rest : List ℕ) → length rest < length (c ∷ x ++ rest)
 behind_text c x rest = omega (arith, length-append x rest)

@@ -1,40 +1,18 @@
 -- The depth of each form of tree, in terms of its parts.
-use Rattle.std.proofs.Common.{◌≡◌, ℕ, ◌+◌, max, Some, List, map, ap, sym, ◌∙◌}
-use Rattle.csp_text.specs.Depth.{event_depth, event_layer_depth, field_depth, field_layer_depth, gen_depth, gen_layer_depth, greatest, greatest_of_pairs, part_depth, part_layer_depth, tree_depth, tree_layer_depth}
+use Rattle.std.proofs.Common.{◌≡◌, ℕ, ◌+◌, max, List, map, ap, sym, ◌∙◌}
+use Rattle.csp_text.specs.Depth.{event_depth, event_layer_depth, field_layer_depth, gen_depth, gen_layer_depth, greatest, greatest_of_pairs, part_depth, part_layer_depth, tree_depth, tree_layer_depth}
 use Rattle.csp_base.specs.declared.operators.BinOp.{BinOp}
 use Rattle.csp_base.specs.declared.operators.SetOp.{SetOp}
-use Rattle.csp_text.specs.declared.tree.FieldTree.TheFolds.{fold-roll-GenTree, fold-roll-Tree, fold-roll-EventTree, fold-roll-PartTree, fold-roll-FieldTree}
-use Rattle.csp_text.specs.declared.tree.FieldTree.TheOpen.{FieldTree-F, GenTree-F, Tree-F}
-use Rattle.csp_text.specs.declared.tree.FieldTree.{FieldTree}
-use Rattle.csp_text.specs.declared.tree.FieldTree.TheVariants as field
+use Rattle.csp_text.specs.declared.tree.FieldTree.TheFolds.{fold-roll-Tree}
+use Rattle.csp_text.specs.declared.tree.FieldTree.TheOpen.{Tree-F}
 use Rattle.csp_text.specs.declared.tree.GenTree.{GenTree}
-use Rattle.csp_text.specs.declared.tree.GenTree.TheVariants as generator
 use Rattle.csp_text.specs.declared.tree.Tree.{Tree}
 use Rattle.csp_text.specs.declared.tree.Tree.TheVariants as tree
 use Rattle.csp_text.specs.declared.tree.EventTree.{EventTree}
 use Rattle.csp_text.specs.declared.tree.PartTree.{PartTree}
-use Rattle.csp_grammar.specs.Grammar.{event_tree, part_tree}
 
 abbrev pub pair_depths : PartTree × PartTree → ℕ × ℕ
 pair_depths pair = (part_depth pair.0, part_depth pair.1)
-
-pub depth-Stop : tree_depth tree.Stop ≡ 1
-depth-Stop = ap tree_depth (sym tree.rolls-Stop) ∙ fold-roll-Tree ℕ ℕ ℕ ℕ ℕ field_layer_depth gen_layer_depth tree_layer_depth event_layer_depth part_layer_depth Tree-F.Stop
-
-pub depth-Skip : tree_depth tree.Skip ≡ 1
-depth-Skip = ap tree_depth (sym tree.rolls-Skip) ∙ fold-roll-Tree ℕ ℕ ℕ ℕ ℕ field_layer_depth gen_layer_depth tree_layer_depth event_layer_depth part_layer_depth Tree-F.Skip
-
-pub depth-Num : (n : ℕ) → tree_depth (tree.Num n) ≡ 1
-depth-Num n = ap tree_depth (sym (tree.rolls-Num n)) ∙ fold-roll-Tree ℕ ℕ ℕ ℕ ℕ field_layer_depth gen_layer_depth tree_layer_depth event_layer_depth part_layer_depth (Tree-F.Num n)
-
-pub depth-True : tree_depth tree.True ≡ 1
-depth-True = ap tree_depth (sym tree.rolls-True) ∙ fold-roll-Tree ℕ ℕ ℕ ℕ ℕ field_layer_depth gen_layer_depth tree_layer_depth event_layer_depth part_layer_depth Tree-F.True
-
-pub depth-False : tree_depth tree.False ≡ 1
-depth-False = ap tree_depth (sym tree.rolls-False) ∙ fold-roll-Tree ℕ ℕ ℕ ℕ ℕ field_layer_depth gen_layer_depth tree_layer_depth event_layer_depth part_layer_depth Tree-F.False
-
-pub depth-Name : (x : List ℕ) → tree_depth (tree.Name x) ≡ 1
-depth-Name x = ap tree_depth (sym (tree.rolls-Name x)) ∙ fold-roll-Tree ℕ ℕ ℕ ℕ ℕ field_layer_depth gen_layer_depth tree_layer_depth event_layer_depth part_layer_depth (Tree-F.Name x)
 
 pub depth-Call : (x : List ℕ) (items : List Tree) → tree_depth (tree.Call x items) ≡ 1 + (greatest (map tree_depth items))
 depth-Call x items = ap tree_depth (sym (tree.rolls-Call x items)) ∙ fold-roll-Tree ℕ ℕ ℕ ℕ ℕ field_layer_depth gen_layer_depth tree_layer_depth event_layer_depth part_layer_depth (Tree-F.Call x items)
@@ -101,24 +79,3 @@ depth-Hide p s = ap tree_depth (sym (tree.rolls-Hide p s)) ∙ fold-roll-Tree �
 
 pub depth-Rename : (p : Tree) (pairs : List (PartTree × PartTree)) (gs : List GenTree) → tree_depth (tree.Rename p pairs gs) ≡ 1 + (max (tree_depth p) (max (greatest_of_pairs (map pair_depths pairs)) (greatest (map gen_depth gs))))
 depth-Rename p pairs gs = ap tree_depth (sym (tree.rolls-Rename p pairs gs)) ∙ fold-roll-Tree ℕ ℕ ℕ ℕ ℕ field_layer_depth gen_layer_depth tree_layer_depth event_layer_depth part_layer_depth (Tree-F.Rename p pairs gs)
-
-pub field_depth-Dot : (a : Tree) → field_depth (field.Dot a) ≡ tree_depth a
-field_depth-Dot a = ap field_depth (sym (field.rolls-Dot a)) ∙ fold-roll-FieldTree ℕ ℕ ℕ ℕ ℕ field_layer_depth gen_layer_depth tree_layer_depth event_layer_depth part_layer_depth (FieldTree-F.«FieldTree::Dot» a)
-
-pub field_depth-Output : (a : Tree) → field_depth (field.Output a) ≡ tree_depth a
-field_depth-Output a = ap field_depth (sym (field.rolls-Output a)) ∙ fold-roll-FieldTree ℕ ℕ ℕ ℕ ℕ field_layer_depth gen_layer_depth tree_layer_depth event_layer_depth part_layer_depth (FieldTree-F.Output a)
-
-pub field_depth-Input : (x : List ℕ) (s : Tree) → field_depth (field.Input x (Some s)) ≡ tree_depth s
-field_depth-Input x s = ap field_depth (sym (field.rolls-Input x (Some s))) ∙ fold-roll-FieldTree ℕ ℕ ℕ ℕ ℕ field_layer_depth gen_layer_depth tree_layer_depth event_layer_depth part_layer_depth (FieldTree-F.Input x (Some s))
-
-pub gen_depth-From : (x : List ℕ) (s : Tree) → gen_depth (generator.From x s) ≡ tree_depth s
-gen_depth-From x s = ap gen_depth (sym (generator.rolls-From x s)) ∙ fold-roll-GenTree ℕ ℕ ℕ ℕ ℕ field_layer_depth gen_layer_depth tree_layer_depth event_layer_depth part_layer_depth (GenTree-F.From x s)
-
-pub gen_depth-Cond : (c : Tree) → gen_depth (generator.Cond c) ≡ tree_depth c
-gen_depth-Cond c = ap gen_depth (sym (generator.rolls-Cond c)) ∙ fold-roll-GenTree ℕ ℕ ℕ ℕ ℕ field_layer_depth gen_layer_depth tree_layer_depth event_layer_depth part_layer_depth (GenTree-F.Cond c)
-
-pub event_depth-is : (c : List ℕ) (fs : List FieldTree) → event_depth (event_tree c fs) ≡ greatest (map field_depth fs)
-event_depth-is c fs = fold-roll-EventTree ℕ ℕ ℕ ℕ ℕ field_layer_depth gen_layer_depth tree_layer_depth event_layer_depth part_layer_depth (record { name = c; fields = fs })
-
-pub part_depth-is : (c : List ℕ) (fields : List Tree) → part_depth (part_tree c fields) ≡ greatest (map tree_depth fields)
-part_depth-is c fields = fold-roll-PartTree ℕ ℕ ℕ ℕ ℕ field_layer_depth gen_layer_depth tree_layer_depth event_layer_depth part_layer_depth (record { name = c; fields = fields })

@@ -1,6 +1,6 @@
 -- Names before a byte that is none of a name's.
-use Rattle.std.proofs.Common.{◌≡◌, ℕ, ◌+◌, ◌<◌, Bool, true, false, ◌&&◌, List, [], ◌∷◌, ◌++◌, length, take, drop, codes, refl, sym, ap, ◌∙◌, arith}
-use Rattle.std.proofs.lemmas.Bool.{and_parts, cond-true, cond-false, eqb-true, false≢true, not-true}
+use Rattle.std.proofs.Common.{◌≡◌, ℕ, ◌+◌, ◌<◌, Bool, true, false, ◌&&◌, List, ◌∷◌, ◌++◌, length, take, drop, codes, refl, sym, ap, ◌∙◌, arith}
+use Rattle.std.proofs.lemmas.Bool.{and_parts, cond-true, cond-false, eqb-true, false≢true, not-true, and_left}
 use Rattle.std.proofs.lemmas.List.{drop-append-le}
 use Rattle.std.proofs.lemmas.List.Sums.{prefix_len-le-length}
 use Rattle.std.proofs.lemmas.Slice.Eq.{bytes_eq-Decides}
@@ -101,7 +101,7 @@ no_empty_name h = false≢true h
 letter_no_blank : (c : ℕ) → is_letter c ≡ true → is_blank c ≡ false
 letter_no_blank c h = grind (arith)
 
-letter_no_space : (c : ℕ) → is_letter c ≡ true → is_space c ≡ false
+pub letter_no_space : (c : ℕ) → is_letter c ≡ true → is_space c ≡ false
 letter_no_space c h = grind (arith)
 
 letter_no_dash : (c : ℕ) → is_letter c ≡ true → nat_eq 45 c ≡ false
@@ -110,14 +110,11 @@ letter_no_dash c h = grind (arith)
 letter_no_brace : (c : ℕ) → is_letter c ≡ true → nat_eq 123 c ≡ false
 letter_no_brace c h = grind (arith)
 
-pub first_off : (t u : Bool) → t ≡ false → (t && u) ≡ false
-first_off t u h = ap (λ v. v && u) h
-
 no_dashes : (c : ℕ) (l : List ℕ) → is_letter c ≡ true → starts_with nat_eq (c ∷ l) (codes "--") ≡ false
-no_dashes c l h = first_off _ _ (letter_no_dash c h)
+no_dashes c l h = and_left _ _ (letter_no_dash c h)
 
 no_comment : (c : ℕ) (l : List ℕ) → is_letter c ≡ true → starts_with nat_eq (c ∷ l) (codes "{-") ≡ false
-no_comment c l h = first_off _ _ (letter_no_brace c h)
+no_comment c l h = and_left _ _ (letter_no_brace c h)
 
 pub name_front : (x : List ℕ) (at : Place) (b : ℕ) (r : List ℕ) → is_name x ≡ true → is_name_byte b ≡ false → is_prime b ≡ false → front at (x ++ b ∷ r) ≡ Some (one (token.Name x) at (b ∷ r))
 unfolding front begins_assertion

@@ -1,6 +1,6 @@
 -- Numbers before a byte that is no digit.
-use Rattle.std.proofs.Common.{◌≡◌, ℕ, ◌+◌, ◌-◌, ◌*◌, ◌≤◌, ◌<◌, Bool, true, false, ◌&&◌, List, [], ◌∷◌, ◌++◌, length, take, codes, refl, ap, ◌∙◌, arith}
-use Rattle.std.proofs.lemmas.Bool.{cond-true, cond-false, false≢true}
+use Rattle.std.proofs.Common.{◌≡◌, ℕ, ◌+◌, ◌-◌, ◌*◌, ◌≤◌, ◌<◌, Bool, true, false, ◌&&◌, List, ◌∷◌, ◌++◌, length, take, codes, refl, ap, ◌∙◌, arith}
+use Rattle.std.proofs.lemmas.Bool.{cond-true, cond-false, and_left}
 use Rattle.std.proofs.lemmas.Fmt.{decimal_is_IsNumeral}
 use Rattle.std.proofs.lemmas.Str.{digit_value_digit}
 use Rattle.std.proofs.lemmas.Str.Parse.{digit_from_value}
@@ -18,7 +18,8 @@ use Rattle.csp_lexer.specs.Tokens.{continued, digits_len, is_digit, number_token
 use Rattle.csp_lexer.specs.Words.{is_letter, word_len}
 use Rattle.csp_lexer.specs.Front.{begins_assertion, front, is_blank}
 use Rattle.csp_lexer.specs.Pieces.{one, one_at}
-use Rattle.print_laws.proofs.Names.{first_off, prefix_stops}
+use Rattle.print_laws.proofs.Names.{prefix_stops}
+use Rattle.csp_base.proofs.Booleans.{and_first, and_second}
 
 -- what is known of the digits of a number
 pub record AreDigits (n : ℕ) (ds : List ℕ) : Type 0 where
@@ -45,20 +46,12 @@ decimal_digits n h =
     let is = decimal_is_IsNumeral n (omega arith) in
     record { long = is.0.0; digits = all_digits (decimal n) is.0.1; value = same_value 0 (decimal n) is.0.1 ∙ is.1 }
 
-pub front_is : (t u : Bool) → (t && u) ≡ true → t ≡ true
-front_is true u h = refl
-front_is false u h = absurd (false≢true h)
-
-pub back_is : (t u : Bool) → (t && u) ≡ true → u ≡ true
-back_is true u h = h
-back_is false u h = absurd (false≢true h)
-
 all_front : (p : ℕ → Bool) (ds : List ℕ) → list_all p ds ≡ true → prefix_len p ds ≡ length ds
 all_front p [] h = refl
 all_front p (c ∷ ds) h =
-    let e : prefix_len p ds ≡ length ds = all_front p ds (back_is (p c) (list_all p ds) h) in
+    let e : prefix_len p ds ≡ length ds = all_front p ds (and_second (p c) (list_all p ds) h) in
     let longer : 1 + prefix_len p ds ≡ length (c ∷ ds) = omega arith in
-    cond-true (p c) (1 + prefix_len p ds) 0 (front_is (p c) (list_all p ds) h) ∙ longer
+    cond-true (p c) (1 + prefix_len p ds) 0 (and_first (p c) (list_all p ds) h) ∙ longer
 
 digit_no_letter : (c : ℕ) → is_digit c ≡ true → is_letter c ≡ false
 digit_no_letter c h = grind (arith)
@@ -84,7 +77,7 @@ positive n h = grind (arith)
 pub number_at : (l : Bool) (n c b : ℕ) (ds r : List ℕ) → AreDigits n (c ∷ ds) → n ≤ 1000000 → is_digit b ≡ false → token_at l (c ∷ ds ++ b ∷ r) ≡ Some (token.Num n, length (c ∷ ds))
 unfolding token_at
 number_at l n c b ds r is small h =
-    let none : word_len (c ∷ ds ++ b ∷ r) ≡ 0 = no_word c (ds ++ b ∷ r) (front_is (is_digit c) (list_all is_digit ds) is.digits) in
+    let none : word_len (c ∷ ds ++ b ∷ r) ≡ 0 = no_word c (ds ++ b ∷ r) (and_first (is_digit c) (list_all is_digit ds) is.digits) in
     let len : digits_len (c ∷ ds ++ b ∷ r) ≡ length (c ∷ ds) = digits_stop c b ds r is.digits h in
     cond-false _ _ _ (ap (nat_lt 0) none)
     ∙ cond-true _ _ _ (ap (nat_lt 0) len ∙ positive (length (c ∷ ds)) is.long)
@@ -112,10 +105,10 @@ digits_front : (n : ℕ) (ds : List ℕ) (at : Place) (b : ℕ) (r : List ℕ) �
 unfolding front
 digits_front n [] at b r is small h = absurd (omega (arith, is.long))
 digits_front n (c ∷ ds) at b r is small h =
-    let digit : is_digit c ≡ true = front_is (is_digit c) (list_all is_digit ds) is.digits in
+    let digit : is_digit c ≡ true = and_first (is_digit c) (list_all is_digit ds) is.digits in
     cond-false _ _ _ (digit_no_blank c digit)
-    ∙ cond-false _ _ _ (first_off _ _ (digit_no_dash c digit))
-    ∙ cond-false _ _ _ (first_off _ _ (digit_no_brace c digit))
+    ∙ cond-false _ _ _ (and_left _ _ (digit_no_dash c digit))
+    ∙ cond-false _ _ _ (and_left _ _ (digit_no_brace c digit))
     ∙ cond-false _ _ _ (no_assertion c (ds ++ b ∷ r) digit)
     ∙ ap (one_at at (c ∷ ds ++ b ∷ r)) (number_at false n c b ds r is small h)
     ∙ ap (λ l. Some (one (token.Num n) at l)) (drop-append_seam (c ∷ ds) (b ∷ r))
@@ -124,7 +117,7 @@ digits_line_front : (n : ℕ) (ds : List ℕ) (at : Place) (b : ℕ) (r : List �
 unfolding line_front
 digits_line_front n [] at b r is small h = absurd (omega (arith, is.long))
 digits_line_front n (c ∷ ds) at b r is small h =
-    cond-false _ _ _ (digit_no_space c (front_is (is_digit c) (list_all is_digit ds) is.digits))
+    cond-false _ _ _ (digit_no_space c (and_first (is_digit c) (list_all is_digit ds) is.digits))
     ∙ ap (one_at at (c ∷ ds ++ b ∷ r)) (number_at true n c b ds r is small h)
     ∙ ap (λ l. Some (one (token.Num n) at l)) (drop-append_seam (c ∷ ds) (b ∷ r))
 

@@ -1,6 +1,6 @@
 -- The rest of an assertion's line: a token before a space or a line feed is part of it.
-use Rattle.std.proofs.Common.{◌≡◌, ℕ, suc, ◌+◌, ◌≤◌, Bool, true, false, ◌||◌, List, [], ◌∷◌, ◌++◌, length, drop, refl, sym, ap, ◌∙◌, arith}
-use Rattle.std.proofs.lemmas.Bool.{cond-true, cond-false}
+use Rattle.std.proofs.Common.{◌≡◌, ℕ, suc, ◌+◌, ◌≤◌, Bool, true, false, ◌||◌, List, ◌∷◌, ◌++◌, length, drop, refl, sym, ap, ◌∙◌, arith}
+use Rattle.std.proofs.lemmas.Bool.{cond-true, cond-false, and_left}
 use Rattle.std.specs.Prelude.{decimal, nat_eq, not, cond}
 use Rattle.std.specs.List.{list_all, prefix_len}
 use Rattle.csp_text.specs.declared.token.Token.{Token}
@@ -15,8 +15,9 @@ use Rattle.csp_lexer.specs.Words.{is_letter, is_name_byte, is_prime, word_len, w
 use Rattle.csp_lexer.specs.Tokens.{is_digit}
 use Rattle.script_printer.specs.TokenText.{token_text}
 use Rattle.print_laws.specs.Fits.{FitsLine, IsName}
-use Rattle.print_laws.proofs.Names.{begins_with_letter, first_off, name_parts}
-use Rattle.print_laws.proofs.Numbers.{back_is, decimal_digits, front_is}
+use Rattle.print_laws.proofs.Names.{begins_with_letter, name_parts}
+use Rattle.print_laws.proofs.Numbers.{decimal_digits}
+use Rattle.csp_base.proofs.Booleans.{and_first, and_second}
 
 -- the byte ends no line, whatever follows it
 abbrev pub is_quiet : ℕ → Bool
@@ -48,20 +49,20 @@ none_of_three : (a b c : Bool) → a ≡ false → b ≡ false → c ≡ false �
 none_of_three a b c h k l = rw (h, k, l) refl
 
 pub quiet_goes_on : (b : ℕ) (text : List ℕ) → is_quiet b ≡ true → ends_line (b ∷ text) ≡ false
-quiet_goes_on b text h = none_of_three _ _ _ (first_off _ _ (no_feed b h)) (first_off _ _ (no_dash b h)) (first_off _ _ (no_brace b h))
+quiet_goes_on b text h = none_of_three _ _ _ (and_left _ _ (no_feed b h)) (and_left _ _ (no_dash b h)) (and_left _ _ (no_brace b h))
 
 pub quiet_rest : (x text : List ℕ) → list_all is_quiet x ≡ true → rest_len (x ++ text) ≡ length x + rest_len text
 quiet_rest [] text h = omega arith
 quiet_rest (b ∷ x) text h =
-    let more = quiet_rest x text (back_is (is_quiet b) (list_all is_quiet x) h) in
-    let here : rest_len (b ∷ x ++ text) ≡ 1 + rest_len (x ++ text) = rest_step b (x ++ text) (quiet_goes_on b (x ++ text) (front_is (is_quiet b) (list_all is_quiet x) h)) in
+    let more = quiet_rest x text (and_second (is_quiet b) (list_all is_quiet x) h) in
+    let here : rest_len (b ∷ x ++ text) ≡ 1 + rest_len (x ++ text) = rest_step b (x ++ text) (quiet_goes_on b (x ++ text) (and_first (is_quiet b) (list_all is_quiet x) h)) in
     omega (arith, here, more)
 
 -- names
 
 pub weaker : (p q : ℕ → Bool) → ((b : ℕ) → p b ≡ true → q b ≡ true) → (x : List ℕ) → list_all p x ≡ true → list_all q x ≡ true
 weaker p q f [] h = refl
-weaker p q f (b ∷ x) h = rw (f b (front_is (p b) (list_all p x) h)) (weaker p q f x (back_is (p b) (list_all p x) h))
+weaker p q f (b ∷ x) h = rw (f b (and_first (p b) (list_all p x) h)) (weaker p q f x (and_second (p b) (list_all p x) h))
 
 -- a byte of a name
 abbrev pub is_word_byte : ℕ → Bool

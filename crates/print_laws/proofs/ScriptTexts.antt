@@ -1,5 +1,5 @@
 -- A script is spelled by its printed tokens.
-use Rattle.std.proofs.Common.{ℕ, ◌≤◌, List, [], ◌∷◌, ◌++◌, sym, subst, append_assoc, arith}
+use Rattle.std.proofs.Common.{ℕ, ◌≤◌, List, ◌∷◌, ◌++◌, sym, subst, append_assoc, arith}
 use Rattle.std.specs.Prelude.{flat_map}
 use Rattle.csp_text.specs.Depth.{tree_depth}
 use Rattle.csp_text.specs.declared.token.Token.{Token}
@@ -17,10 +17,11 @@ use Rattle.script_printer.specs.PrintedTree.{operand_tokens, printed_tokens, sep
 use Rattle.script_printer.specs.PrintedScript.{deadlock_free_tokens, decl_tokens, names_tokens, parameters_tokens, types_tokens}
 use Rattle.print_laws.specs.Made.{MadeTrees, MadeNames, MadeTypes, MadeParameters, MadeDecl, MadeDecls}
 use Rattle.print_laws.specs.Made as m
-use Rattle.print_laws.proofs.Depths.{depth-Call, depth-Name}
+use Rattle.print_laws.proofs.Depths.{depth-Call}
 use Rattle.print_laws.proofs.Onto as onto
 use Rattle.print_laws.proofs.Forms.{Texted}
 use Rattle.print_laws.proofs.Texts.{texted, texted_trees}
+use Rattle.tree_reading.proofs.NodeDepths.{depth-Name}
 
 -- a name by itself
 abbrev pub name_alone : List ℕ → List Token

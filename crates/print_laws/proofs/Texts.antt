@@ -1,5 +1,5 @@
 -- Each tree that the grammar has is spelled by its printed tokens.
-use Rattle.std.proofs.Common.{ℕ, suc, ◌*◌, ◌≤◌, ◌<◌, max, Bool, true, false, Some, None, List, [], ◌∷◌, ◌++◌, length, map, ap, sym, ◌∙◌, subst, arith}
+use Rattle.std.proofs.Common.{ℕ, suc, ◌*◌, ◌≤◌, ◌<◌, max, Bool, true, false, Some, None, List, ◌∷◌, ◌++◌, length, map, ap, sym, ◌∙◌, subst, arith}
 use Rattle.std.specs.Prelude.{flat_map}
 use Rattle.csp_text.specs.Depth.{event_depth, field_depth, gen_depth, greatest, greatest_of_pairs, part_depth, tree_depth}
 use Rattle.csp_text.specs.declared.token.Token.{Token}
@@ -14,7 +14,7 @@ use Rattle.csp_text.specs.declared.tree.FieldTree.{FieldTree}
 use Rattle.csp_text.specs.declared.tree.FieldTree.TheVariants as field
 use Rattle.csp_text.specs.declared.tree.GenTree.{GenTree}
 use Rattle.csp_text.specs.declared.tree.GenTree.TheVariants as generator
-use Rattle.csp_grammar.specs.Grammar.{Choice, choice_sign, choice_of, event_tree, part_tree, TreeText, ClosedChoiceText, OpenText, DottedText, DotsText, FieldsText, ExpressionText, PairsText, PartText, PartsText, ConditionsText, GensText, GenText, ItemText, ItemsText, AtomText}
+use Rattle.csp_grammar.specs.Grammar.{Choice, choice_sign, choice_of, event_tree, part_tree, TreeText, ClosedChoiceText, DottedText, DotsText, FieldsText, PairsText, PartText, PartsText, ConditionsText, GensText, GenText, ItemsText, AtomText}
 use Rattle.csp_grammar.specs.Grammar as g
 use Rattle.csp_grammar.specs.Precedence.Level.{disjunction, negation, sum, minus, renaming}
 use Rattle.script_printer.specs.PrintedTree.{conditions, dotted, field_tokens, gen_tokens, item_tokens, operand_tokens, part_tokens, printed_tokens, renamed_tokens, separated}
@@ -25,6 +25,7 @@ use Rattle.print_laws.proofs.Depths.{pair_depths}
 use Rattle.print_laws.proofs.Depths as depth
 use Rattle.print_laws.proofs.Onto as onto
 use Rattle.print_laws.proofs.Forms.{Texted, at_level, from_level, as_prefix, as_sequence, prefix_tree, expression_tree, open_tree, operator_text, set_operator_text, from_atom, from_leaf, from_dotted, from_compound, with_bracket}
+use Rattle.tree_reading.proofs.NodeDepths.{depth-event, depth-dot, depth-input-from, depth-Output, depth-Cond, depth-From, depth-part, depth-Name, depth-Num, depth-False, depth-True, depth-Skip, depth-Stop}
 
 -- lists of trees and the like
 
@@ -95,7 +96,7 @@ no_fields dot = record { fields = λ n r h. g.fields-none }
 field_dot : (a : Tree) (fs : List FieldTree) → Texted a → TextedFields true fs → TextedFields true (field.Dot a ∷ fs)
 field_dot a fs p ps = record {
   fields = λ n r h.
-      let d = depth.field_depth-Dot a in
+      let d = depth-dot a in
       subst (λ l. FieldsText n true l (field.Dot a ∷ fs) r) (sym (onto.fields-Dot a fs r))
       (g.fields-dot (at_level sum (p.operand n _ (omega arith))) (ps.fields n r (omega arith)));
 }
@@ -103,7 +104,7 @@ field_dot a fs p ps = record {
 field_output : (dot : Bool) (a : Tree) (fs : List FieldTree) → Texted a → TextedFields true fs → TextedFields dot (field.Output a ∷ fs)
 field_output dot a fs p ps = record {
   fields = λ n r h.
-      let d = depth.field_depth-Output a in
+      let d = depth-Output a in
       subst (λ l. FieldsText n dot l (field.Output a ∷ fs) r) (sym (onto.fields-Output a fs r))
       (g.fields-output (at_level sum (p.operand n _ (omega arith))) (ps.fields n r (omega arith)));
 }
@@ -117,7 +118,7 @@ field_input dot x fs ps = record {
 field_input_from : (dot : Bool) (x : List ℕ) (s : Tree) (fs : List FieldTree) → Texted s → TextedFields false fs → TextedFields dot (field.Input x (Some s) ∷ fs)
 field_input_from dot x s fs p ps = record {
   fields = λ n r h.
-      let d = depth.field_depth-Input x s in
+      let d = depth-input-from x s in
       subst (λ l. FieldsText n dot l (field.Input x (Some s) ∷ fs) r) (sym (onto.fields-Input-from x s fs r))
       (g.fields-input-from (p.operand n _ (omega arith)) (ps.fields n r (omega arith)));
 }
@@ -125,7 +126,7 @@ field_input_from dot x s fs p ps = record {
 a_part : (c : List ℕ) (fields : List Tree) → TextedDots fields → TextedPart (part_tree c fields)
 a_part c fields p = record {
   part = λ n r h.
-      let d = depth.part_depth-is c fields in
+      let d = depth-part c fields in
       subst (λ l. PartText n l (part_tree c fields) r) (sym (onto.onto-part c fields r)) (g.part-dots (p.dots n r (omega arith)));
 }
 
@@ -160,14 +161,14 @@ more_pairs c d (e ∷ es) p q ps = record {
 gen_from : (x : List ℕ) (s : Tree) → Texted s → TextedGen (generator.From x s)
 gen_from x s p = record {
   gen = λ n r h.
-      let d = depth.gen_depth-From x s in
+      let d = depth-From x s in
       subst (λ l. GenText n l (generator.From x s) r) (sym (onto.onto-From x s r)) (g.gen-from (p.operand n r (omega arith)));
 }
 
 gen_condition : (c : Tree) → Texted c → TextedGen (generator.Cond c)
 gen_condition c p = record {
   gen = λ n r h.
-      let d = depth.gen_depth-Cond c in
+      let d = depth-Cond c in
       subst (λ l. GenText n l (generator.Cond c) r) (sym (onto.onto-Cond c r)) (g.gen-condition (at_level disjunction (p.operand n r (omega arith))));
 }
 
@@ -261,7 +262,7 @@ a_prefix : (c : List ℕ) (fs : List FieldTree) (p : Tree) → TextedFields true
 a_prefix c fs p fs' p' =
     from_compound _ (max (event_depth (event_tree c fs)) (tree_depth p)) (depth.depth-Prefix (event_tree c fs) p) (equation.shape-Prefix (event_tree c fs) p)
     (λ n r h.
-    let d = depth.event_depth-is c fs in
+    let d = depth-event c fs in
     subst (λ l. TreeText n l (tree.Prefix (event_tree c fs) p) r) (sym (onto.onto-Prefix (event_tree c fs) p r ∙ onto.onto-event c fs _))
     (prefix_tree (g.closed-prefix-event (g.event-fields (fs'.fields n _ (omega arith))) (as_prefix (p'.operand n r (omega arith))))))
 
@@ -326,22 +327,22 @@ a_renaming p pairs gs p' pairs' gs' =
     (expression_tree (from_level renaming (g.expression-rename (at_level renaming (p'.operand (suc n) _ (omega arith))) (pairs'.pairs n _ (omega arith)) (gs'.conditions n _ (omega arith)))))))
 
 a_leaf_stop : Texted tree.Stop
-a_leaf_stop = from_leaf _ depth.depth-Stop equation.shape-Stop (λ n r. subst (λ l. AtomText n l tree.Stop r) (sym (onto.onto-Stop r)) g.atom-stop)
+a_leaf_stop = from_leaf _ depth-Stop equation.shape-Stop (λ n r. subst (λ l. AtomText n l tree.Stop r) (sym (onto.onto-Stop r)) g.atom-stop)
 
 a_leaf_skip : Texted tree.Skip
-a_leaf_skip = from_leaf _ depth.depth-Skip equation.shape-Skip (λ n r. subst (λ l. AtomText n l tree.Skip r) (sym (onto.onto-Skip r)) g.atom-skip)
+a_leaf_skip = from_leaf _ depth-Skip equation.shape-Skip (λ n r. subst (λ l. AtomText n l tree.Skip r) (sym (onto.onto-Skip r)) g.atom-skip)
 
 a_leaf_true : Texted tree.True
-a_leaf_true = from_leaf _ depth.depth-True equation.shape-True (λ n r. subst (λ l. AtomText n l tree.True r) (sym (onto.onto-True r)) g.atom-truth)
+a_leaf_true = from_leaf _ depth-True equation.shape-True (λ n r. subst (λ l. AtomText n l tree.True r) (sym (onto.onto-True r)) g.atom-truth)
 
 a_leaf_false : Texted tree.False
-a_leaf_false = from_leaf _ depth.depth-False equation.shape-False (λ n r. subst (λ l. AtomText n l tree.False r) (sym (onto.onto-False r)) g.atom-falsehood)
+a_leaf_false = from_leaf _ depth-False equation.shape-False (λ n r. subst (λ l. AtomText n l tree.False r) (sym (onto.onto-False r)) g.atom-falsehood)
 
 a_number : (x : ℕ) → Texted (tree.Num x)
-a_number x = from_leaf _ (depth.depth-Num x) (equation.shape-Num x) (λ n r. subst (λ l. AtomText n l (tree.Num x) r) (sym (onto.onto-Num x r)) g.atom-number)
+a_number x = from_leaf _ (depth-Num x) (equation.shape-Num x) (λ n r. subst (λ l. AtomText n l (tree.Num x) r) (sym (onto.onto-Num x r)) g.atom-number)
 
 a_name : (x : List ℕ) → Texted (tree.Name x)
-a_name x = from_leaf _ (depth.depth-Name x) (equation.shape-Name x) (λ n r. subst (λ l. AtomText n l (tree.Name x) r) (sym (onto.onto-Name x r)) g.atom-name)
+a_name x = from_leaf _ (depth-Name x) (equation.shape-Name x) (λ n r. subst (λ l. AtomText n l (tree.Name x) r) (sym (onto.onto-Name x r)) g.atom-name)
 
 mutual
   pub texted : {P : Token → Type 0} {t : Tree} → MadeTree P t → Texted t

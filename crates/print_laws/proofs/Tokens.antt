@@ -1,5 +1,5 @@
 -- Each token that is written before a space or a line feed is found there.
-use Rattle.std.proofs.Common.{◌≡◌, ℕ, ◌<◌, true, List, [], ◌∷◌, ◌++◌, length, refl, sym, ◌∙◌, subst, append_assoc, length-append, lit<, arith}
+use Rattle.std.proofs.Common.{◌≡◌, ℕ, ◌<◌, true, List, ◌∷◌, ◌++◌, length, refl, sym, ◌∙◌, subst, append_assoc, length-append, lit<, arith}
 use Rattle.std.specs.Prelude.{Option, Some, decimal, nat_lt}
 use Rattle.csp_base.specs.declared.place.Place.{Place}
 use Rattle.csp_text.specs.declared.token.Token.{Token}
@@ -25,8 +25,9 @@ use Rattle.print_laws.proofs.Quiet.{Gap}
 use Rattle.print_laws.proofs.Quiet as gap
 use Rattle.print_laws.proofs.Symbols.{symbol_before_line_feed, symbol_before_space, symbol_on_line}
 use Rattle.print_laws.proofs.Words.{word_before_line_feed, word_before_space, word_on_line}
+use Rattle.csp_lexer.proofs.SymbolsLemmas.{symbol_has_byte}
 
-piece_is : {result : Option Piece} {t : Token} {at : Place} {rest : List ℕ} → result ≡ Some (one t at rest) → IsPiece result (t ∷ []) rest
+pub piece_is : {result : Option Piece} {t : Token} {at : Place} {rest : List ℕ} → result ≡ Some (one t at rest) → IsPiece result (t ∷ []) rest
 piece_is {t = t} {at = at} {rest = rest} e = record { piece = one t at rest; is = e; tokens_are = refl; rest_is = refl }
 
 blank_is : {result : Option Piece} {rest : List ℕ} → result ≡ Some (nothing rest) → IsPiece result [] rest
@@ -75,46 +76,6 @@ word_long word.Union = lit< tt
 word_long word.Stop = lit< tt
 word_long word.Skip = lit< tt
 
-symbol_long : (s : Symbol) → 0 < length (symbol_text s)
-symbol_long symbol.Arrow = lit< tt
-symbol_long symbol.ExternalChoice = lit< tt
-symbol_long symbol.InternalChoice = lit< tt
-symbol_long symbol.Parallel = lit< tt
-symbol_long symbol.OpenRename = lit< tt
-symbol_long symbol.CloseRename = lit< tt
-symbol_long symbol.OpenProduct = lit< tt
-symbol_long symbol.CloseProduct = lit< tt
-symbol_long symbol.LeftArrow = lit< tt
-symbol_long symbol.DotDot = lit< tt
-symbol_long symbol.Dot = lit< tt
-symbol_long symbol.Bang = lit< tt
-symbol_long symbol.Question = lit< tt
-symbol_long symbol.Colon = lit< tt
-symbol_long symbol.At = lit< tt
-symbol_long symbol.Defines = lit< tt
-symbol_long symbol.Equal = lit< tt
-symbol_long symbol.NotEqual = lit< tt
-symbol_long symbol.Less = lit< tt
-symbol_long symbol.LessEqual = lit< tt
-symbol_long symbol.Greater = lit< tt
-symbol_long symbol.GreaterEqual = lit< tt
-symbol_long symbol.Plus = lit< tt
-symbol_long symbol.Minus = lit< tt
-symbol_long symbol.Star = lit< tt
-symbol_long symbol.Slash = lit< tt
-symbol_long symbol.Percent = lit< tt
-symbol_long symbol.OpenParen = lit< tt
-symbol_long symbol.CloseParen = lit< tt
-symbol_long symbol.OpenBrace = lit< tt
-symbol_long symbol.CloseBrace = lit< tt
-symbol_long symbol.OpenBracket = lit< tt
-symbol_long symbol.CloseBracket = lit< tt
-symbol_long symbol.Comma = lit< tt
-symbol_long symbol.Ampersand = lit< tt
-symbol_long symbol.Bar = lit< tt
-symbol_long symbol.Backslash = lit< tt
-symbol_long symbol.Semicolon = lit< tt
-
 from_lt : (n : ℕ) → nat_lt 0 n ≡ true → 0 < n
 from_lt n h = grind (arith)
 
@@ -128,8 +89,8 @@ token_stands (token.Num n) f (gap.space {r = r}) = record { stands = λ at. piec
 token_stands (token.Num n) f (gap.feed {r = r}) = record { stands = λ at. piece_is (number_front n at 10 r f refl); shorter = behind_text (decimal n) _ (decimal_digits n f).long }
 token_stands (token.Word w) f (gap.space {r = r}) = record { stands = λ at. piece_is (word_before_space w at r f); shorter = behind_text (word_text w) _ (word_long w) }
 token_stands (token.Word w) f (gap.feed {r = r}) = record { stands = λ at. piece_is (word_before_line_feed w at r f); shorter = behind_text (word_text w) _ (word_long w) }
-token_stands (token.Symbol s) f (gap.space {r = r}) = record { stands = λ at. piece_is (symbol_before_space s at r); shorter = behind_text (symbol_text s) _ (symbol_long s) }
-token_stands (token.Symbol s) f (gap.feed {r = r}) = record { stands = λ at. piece_is (symbol_before_line_feed s at r); shorter = behind_text (symbol_text s) _ (symbol_long s) }
+token_stands (token.Symbol s) f (gap.space {r = r}) = record { stands = λ at. piece_is (symbol_before_space s at r); shorter = behind_text (symbol_text s) _ (symbol_has_byte s) }
+token_stands (token.Symbol s) f (gap.feed {r = r}) = record { stands = λ at. piece_is (symbol_before_line_feed s at r); shorter = behind_text (symbol_text s) _ (symbol_has_byte s) }
 token_stands (token.Roles names) f p = absurd f
 token_stands (token.Resource names) f p = absurd f
 
@@ -137,7 +98,7 @@ line_token_stands : (t : Token) (r : List ℕ) → FitsLine t → Stands line_fr
 line_token_stands (token.Name x) r f = record { stands = λ at. piece_is (name_line_front x at 32 r f refl refl); shorter = behind_text x _ (from_lt _ (name_parts x f).long) }
 line_token_stands (token.Num n) r f = record { stands = λ at. piece_is (number_line_front n at 32 r f refl); shorter = behind_text (decimal n) _ (decimal_digits n f).long }
 line_token_stands (token.Word w) r f = record { stands = λ at. piece_is (word_on_line w at r); shorter = behind_text (word_text w) _ (word_long w) }
-line_token_stands (token.Symbol s) r f = record { stands = λ at. piece_is (symbol_on_line s at r f); shorter = behind_text (symbol_text s) _ (symbol_long s) }
+line_token_stands (token.Symbol s) r f = record { stands = λ at. piece_is (symbol_on_line s at r f); shorter = behind_text (symbol_text s) _ (symbol_has_byte s) }
 line_token_stands (token.Roles names) r f = absurd f
 line_token_stands (token.Resource names) r f = absurd f
 

@@ -1,5 +1,5 @@
 -- In a faultless script no definition of data reaches itself: a circle of uses would be deeper than any depth that is allowed.
-use Rattle.std.proofs.Common.{◌≡◌, ℕ, zero, suc, ◌+◌, ◌<◌, ◌≤◌, Bool, true, false, ◌&&◌, nat_lt, IsTrue, None, List, [], ◌∷◌, ◌++◌, length, refl, sym, ◌∙◌, ap, subst, arith}
+use Rattle.std.proofs.Common.{◌≡◌, ℕ, zero, suc, ◌+◌, ◌<◌, ◌≤◌, Bool, true, false, ◌&&◌, nat_lt, IsTrue, None, List, ◌∷◌, ◌++◌, length, refl, sym, ◌∙◌, ap, subst, arith}
 use Rattle.std.specs.Prelude.{slice_get}
 use Rattle.std.proofs.lemmas.Bool.{false≢true}
 use Rattle.csp_program.specs.Uses.{Reaches, body_uses, def_uses}
@@ -21,7 +21,8 @@ use Rattle.script_names.specs.Typed.{Reading, Scope, names_of, reading}
 use Rattle.resolved_laws.proofs.Faultless.{AllFine, fine_three, fine_two, first_faultless, rest_faultless}
 use Rattle.resolved_laws.proofs.Leading.{Leads, leads}
 use Rattle.resolved_laws.proofs.Making.{made}
-use Rattle.resolved_laws.proofs.Walk.{counts_append, parameters_names}
+use Rattle.resolved_laws.proofs.Walk.{counts_append}
+use Rattle.script_names.proofs.Scopes.{names_of-parameters}
 
 -- definitions that lead on so many times
 abbrev Chain : List Def → ℕ → ℕ → Type 0
@@ -89,11 +90,11 @@ module _ (script : List Decl) (ks : List Kind) where
       (tree_says m t (body_place (slice_get ks (next_definition earlier))) params) known.fine in
       at_first f n.definitions j (expanded_body m ks (kind_class (slice_get ks n.definitions)) (tree_says m t (body_place (slice_get ks n.definitions)) params))
       (subst (λ z. IsUsed f (expanded_body m ks (kind_class (slice_get ks n.definitions)) (tree_says m t (body_place (slice_get ks n.definitions)) z))
-      (is_deep ks bodies n.definitions) j) (parameters_names 0 params)
+      (is_deep ks bodies n.definitions) j) (names_of-parameters 0 params)
       (define_used f m ks (kind_class (slice_get ks n.definitions)) (kind_network (slice_get ks n.definitions)) (tree_says m t) (reading m ks t)
       (parameters 0 params) (length params) (is_deep ks bodies n.definitions)
       (leads f ks m (made m ks t))
-      (subst (λ z. AllFine ks (tree_says m t (body_place (slice_get ks n.definitions)) z)) (sym (parameters_names 0 params))
+      (subst (λ z. AllFine ks (tree_says m t (body_place (slice_get ks n.definitions)) z)) (sym (names_of-parameters 0 params))
       (subst (λ (z : Counts). AllFine ks (tree_says m t (body_place (slice_get ks z.definitions)) params)) is w.2))
       (subst (λ (z : Counts). (is_data (kind_class (slice_get ks z.definitions)) && is_deep ks bodies z.definitions) ≡ false) is known.shallow) j u))
   used f earlier (decl.Define x params t ∷ rest) n is h (suc i) j u =

@@ -1,5 +1,5 @@
 -- What a tree is read as is closed but for the bound names of its scope.
-use Rattle.std.proofs.Common.{◌≡◌, ◌⊎◌, ℕ, ◌+◌, Bool, true, false, not, ◌&&◌, nat_eq, IsTrue, Option, Some, None, List, [], ◌∷◌, map, refl, sym, ◌∙◌, ap, subst, inl, inr}
+use Rattle.std.proofs.Common.{◌≡◌, ◌⊎◌, ℕ, ◌+◌, Bool, true, false, not, ◌&&◌, nat_eq, IsTrue, Option, Some, None, List, ◌∷◌, map, refl, sym, ◌∙◌, ap, subst, inl, inr}
 use Rattle.std.specs.Prelude.{pos, if◌then◌else◌}
 use Rattle.std.proofs.lemmas.Bool.{false≢true, or_cases, eq-eqb, eqb-true}
 use Rattle.csp_program.specs.Free.{Names, nowhere, either, apart_from, any_of, expr_free, expr_free_of_layer, gen_binding, gen_free_of_layer, part_free, part_free_of_layer, head_free, before, pair_free, proc_free, proc_free_of_layer, net_free, net_free_of_layer}
@@ -31,9 +31,9 @@ use Rattle.script_names.specs.declared.kinds.Kind.{Kind}
 use Rattle.script_names.specs.Names.{Name, Meanings, same_name}
 use Rattle.script_names.specs.Says.{Binder, Fields, Said}
 use Rattle.script_names.specs.Typed.{Binding, Front, Reading, Scope, all_bind, bindings, bindings_bind, channel_number, definition_number, exprs, head_of, named, no_expr, number_of, or_else, pairs, pairs_bind, part, parts, parts_bind, procs, under, with}
-use Rattle.resolved_laws.proofs.Formed.{Ends, Reads, AllRead, FieldRead, FieldsRead, EventRead, GenRead, GensRead, PartRead, PartsRead, PairsRead}
+use Rattle.resolved_laws.proofs.Formed.{Ends, Reads, AllRead, FieldRead, FieldsRead, GenRead, GensRead, PartRead, PartsRead, PairsRead}
 use Rattle.resolved_laws.proofs.Formed as f
-use Rattle.resolved_laws.proofs.Booleans.{or_left, or_right}
+use Rattle.csp_base.proofs.Booleans.{is_or_first, is_or_second}
 
 abbrev pub numbers_of : Scope → List ℕ
 numbers_of scope = map (λ b. b.1) scope
@@ -53,8 +53,8 @@ one_more : (scope : Scope) (x : Name) (n y : ℕ) → IsTrue (has_number (number
     → IsTrue (has_number (numbers_of scope) y) ⊎ (nat_eq n y ≡ true)
 one_more [] x n y t = inr (elim (or_cases (nat_eq n y) false t) [ inl l ↦ l | inr r ↦ absurd (false≢true r) ])
 one_more (b ∷ scope) x n y t = elim (or_cases (nat_eq b.1 y) (has_number (numbers_of (with scope x n)) y) t) [
-  | inl l ↦ inl (or_left (nat_eq b.1 y) (has_number (numbers_of scope) y) l)
-  | inr r ↦ elim (one_more scope x n y r) [ inl s ↦ inl (or_right (nat_eq b.1 y) (has_number (numbers_of scope) y) s) | inr s ↦ inr s ]
+  | inl l ↦ inl (is_or_first (nat_eq b.1 y) (has_number (numbers_of scope) y) l)
+  | inr r ↦ elim (one_more scope x n y r) [ inl s ↦ inl (is_or_second (nat_eq b.1 y) (has_number (numbers_of scope) y) s) | inr s ↦ inr s ]
 ]
 
 not_and : (a b : Bool) → IsTrue (not a && b) → a ≡ true → ⊥
@@ -82,8 +82,8 @@ if_some false n k h = absurd (cc)
 pub number_within : (scope : Scope) (x : Name) (k : ℕ) → number_of scope x ≡ Some k → IsTrue (has_number (numbers_of scope) k)
 number_within [] x k h = absurd (cc)
 number_within (b ∷ scope) x k h = elim (or_else_cases (number_of scope x) (if same_name x b.0 then Some b.1 else None) k h) [
-  | inl l ↦ or_right (nat_eq b.1 k) (has_number (numbers_of scope) k) (number_within scope x k l)
-  | inr r ↦ or_left (nat_eq b.1 k) (has_number (numbers_of scope) k) (eq-eqb b.1 k (if_some (same_name x b.0) b.1 k r))
+  | inl l ↦ is_or_second (nat_eq b.1 k) (has_number (numbers_of scope) k) (number_within scope x k l)
+  | inr r ↦ is_or_first (nat_eq b.1 k) (has_number (numbers_of scope) k) (eq-eqb b.1 k (if_some (same_name x b.0) b.1 k r))
 ]
 
 one_within : (scope : Scope) (x : Name) (k : ℕ) → number_of scope x ≡ Some k → IsWithin (λ y. nat_eq k y) scope

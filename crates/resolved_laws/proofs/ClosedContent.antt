@@ -1,8 +1,8 @@
 -- The types and bodies that declarations put into a program are closed but for the parameters.
-use Rattle.std.proofs.Common.{◌≡◌, ℕ, ◌+◌, Bool, true, false, IsTrue, Option, Some, None, List, [], ◌∷◌, ◌++◌, length, map, refl, ap, subst}
+use Rattle.std.proofs.Common.{◌≡◌, ℕ, ◌+◌, Bool, true, false, IsTrue, Option, Some, None, List, ◌∷◌, ◌++◌, length, map, refl, ap, subst}
 use Rattle.std.specs.Prelude.{slice_get}
 use Rattle.std.specs.List.{flat_map}
-use Rattle.std.proofs.lemmas.Bool.{false≢true}
+use Rattle.std.proofs.lemmas.Bool.{false≢true, false_from_ne_true}
 use Rattle.csp_program.specs.Free.{IsClosed, Names, expr_free, net_free}
 use Rattle.csp_program.specs.InOrder.{AllClosed, AllClosedBodies, AllClosedTypes, body_free}
 use Rattle.csp_program.specs.Lists.{has_number}
@@ -21,10 +21,9 @@ use Rattle.script_names.specs.Names.{Counts, Meanings, Name, counted}
 use Rattle.script_names.specs.Typed.{Reading, Scope, exprs, reading}
 use Rattle.resolved_laws.proofs.Closed.{Closed, IsWithin, closed, leaf_stop, numbers_of}
 use Rattle.resolved_laws.proofs.Making.{made}
-use Rattle.resolved_laws.proofs.Booleans.{no_true}
 
 nothing_free : (free : Names) → IsWithin free [] → IsClosed free
-nothing_free free h x = no_true (free x) (λ t. false≢true (h.at x t))
+nothing_free free h x = false_from_ne_true (free x) (λ t. false≢true (h.at x t))
 
 parameters_numbers : (n : ℕ) (xs : List Name) → numbers_of (parameters n xs) ≡ numbers_from n (length xs)
 parameters_numbers n [] = refl

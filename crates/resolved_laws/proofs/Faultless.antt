@@ -1,5 +1,5 @@
 -- What a faultless declaration says: no occurrence in it is at fault, and a definition of data is not too deep.
-use Rattle.std.proofs.Common.{◌≡◌, ℕ, Bool, true, false, Option, Some, None, List, [], ◌∷◌, ◌++◌, length, map, refl, option_map}
+use Rattle.std.proofs.Common.{◌≡◌, ℕ, Bool, true, false, Option, Some, None, List, ◌∷◌, ◌++◌, length, map, refl, option_map}
 use Rattle.std.specs.List.{list_any}
 use Rattle.csp_text.specs.declared.script.Decl.{Decl}
 use Rattle.script_names.specs.declared.fault.ResolveFault.{ResolveFault}
@@ -9,7 +9,7 @@ use Rattle.script_names.specs.Faults.{unknown_name, repeated_name, is_wrong_kind
 use Rattle.script_names.specs.Names.{meanings_of}
 use Rattle.script_names.specs.Occurrence.{Occurrence}
 use Rattle.script_names.specs.Told.{bodies_from, decl_says, fault_in, fault_of, first_fault, first_name, first_there, next_definition, too_deep, when_any}
-use Rattle.resolved_laws.proofs.Booleans.{or_first_false, or_second_false}
+use Rattle.csp_base.proofs.Booleans.{or_first_false, or_second_false}
 
 -- an occurrence that is not at fault
 pub record IsFine (ks : List Kind) (o : Occurrence) : Type 0 where

@@ -2,8 +2,8 @@
 -- name says. What uses of such names come to, where they are not at fault.
 use Rattle.std.proofs.Common.{◌≡◌, ℕ, Bool, true, false, not, ◌&&◌, nat_eq, nat_lt, IsTrue, Option, Some, None, List, length, refl, sym, ◌∙◌, ap, subst}
 use Rattle.std.specs.Prelude.{slice_get}
-use Rattle.std.proofs.lemmas.Bool.{false≢true, eqb-true}
-use Rattle.csp_program.specs.InOrder.{is_component, is_datum, is_process, is_set_name, takes, with_fields, param_count}
+use Rattle.std.proofs.lemmas.Bool.{false≢true, eqb-true, not-false}
+use Rattle.csp_program.specs.InOrder.{is_component, is_datum, is_process, is_set_name, takes, with_fields}
 use Rattle.csp_program.specs.InOrder as order
 use Rattle.csp_program.specs.declared.programs.Body.{Body}
 use Rattle.csp_program.specs.declared.programs.Body.TheVariants as body
@@ -25,7 +25,9 @@ use Rattle.script_names.specs.Occurrence.{uses}
 use Rattle.script_names.specs.Typed.{definition_number}
 use Rattle.resolved_laws.proofs.Faultless.{IsFine}
 use Rattle.resolved_laws.proofs.ScopeNames.{NameIs, is_bound, is_free}
-use Rattle.resolved_laws.proofs.Booleans.{both, not_false, or_none, two}
+use Rattle.resolved_laws.proofs.Booleans.{two}
+use Rattle.std.proofs.Math.Bool.{or-false}
+use Rattle.csp_base.proofs.Booleans.{is_and}
 
 -- a body of this class, and a network definition or not
 abbrev pub is_body_of : Class → Bool → Body → Bool
@@ -46,7 +48,7 @@ when_none true x h = absurd (cc)
 when_none false x h = refl
 
 pub same_count : (n k : ℕ) → not (nat_eq n k) ≡ false → n ≡ k
-same_count n k h = eqb-true n k (not_false (nat_eq n k) h)
+same_count n k h = eqb-true n k (not-false (nat_eq n k) h)
 
 no_network : (b k : Bool) → (b && k) ≡ false → (k && not b) ≡ false → k ≡ false
 no_network true k h g = h
@@ -113,7 +115,7 @@ module _ (p : Content) (ks : List Kind) where
   takes_component : (network : Bool) (n : ℕ) (def : Option Def) → IsTrue (takes (is_body_of class.Process network) n def) → IsTrue (takes is_component n def)
   takes_component network n None h = h
   takes_component network n (Some def) h =
-      both (is_component def.body) (nat_eq (length def.params) n)
+      is_and (is_component def.body) (nat_eq (length def.params) n)
       (component_body network def.body (two (is_body_of class.Process network def.body) (nat_eq (length def.params) n) h).0)
       (two (is_body_of class.Process network def.body) (nat_eq (length def.params) n) h).1
 
@@ -158,7 +160,7 @@ module _ (p : Content) (ks : List Kind) where
   alone_entity x (Some (entity.Constant c)) b l h = absurd (let g = h.kind in cc)
   alone_entity x (Some (entity.Set d)) b l h = absurd (let g = h.kind in cc)
   alone_entity x (Some (entity.Definition d n)) b l h =
-      def_use x d n 0 (process_at b l) (ap (λ t. when t x) (sym (or_none (not (nat_eq n 0)))) ∙ h.count) h.kind h.inside
+      def_use x d n 0 (process_at b l) (ap (λ t. when t x) (sym (or-false (not (nat_eq n 0)))) ∙ h.count) h.kind h.inside
 
   pub called : {m : Meanings} {x : Name} {o : Option ℕ} {s : Sense} → NameIs m x o s → (k : ℕ) (place : Place) → IsFine ks (uses x s (how.Called k place))
       → IsDefUse (m x) s k place

@@ -1,8 +1,8 @@
 -- What a tree without a fault is read as is in order, where the declared names fit the program.
-use Rattle.std.proofs.Common.{◌≡◌, ℕ, zero, suc, ◌-◌, Bool, true, false, not, ◌&&◌, ◌||◌, nat_eq, nat_lt, nat_le, IsTrue, Option, Some, None, List, [], ◌∷◌, length, map, refl, sym, ◌∙◌, ap, subst, arith}
+use Rattle.std.proofs.Common.{◌≡◌, ℕ, zero, suc, ◌-◌, Bool, true, false, not, ◌&&◌, ◌||◌, nat_eq, nat_lt, nat_le, IsTrue, Option, Some, None, List, ◌∷◌, length, map, refl, sym, ◌∙◌, ap, subst, arith}
 use Rattle.std.specs.Prelude.{if◌then◌else◌, slice_get}
 use Rattle.std.proofs.lemmas.Bool.{false≢true, eqb-true, eq-eqb}
-use Rattle.csp_program.specs.InOrder.{expr_in_order, expr_in_order_of_layer, field_count, field_in_order, fields_left, gen_in_order, gen_in_order_of_layer, head_in_order, is_datum, is_process, net_in_order, net_in_order_of_layer, pair_in_order, part_in_order, part_in_order_of_layer, proc_in_order, proc_in_order_of_layer, takes, with_fields}
+use Rattle.csp_program.specs.InOrder.{expr_in_order, expr_in_order_of_layer, field_count, fields_left, gen_in_order, gen_in_order_of_layer, head_in_order, is_process, net_in_order, net_in_order_of_layer, part_in_order, part_in_order_of_layer, proc_in_order, proc_in_order_of_layer, takes, with_fields}
 use Rattle.csp_program.specs.InOrder as order
 use Rattle.csp_program.specs.Lists.{all_true}
 use Rattle.csp_program.specs.declared.expressions.EventPart.{EventPart}
@@ -40,7 +40,9 @@ use Rattle.script_names.specs.Typed.{Reading, Scope, channel_number, head_of, na
 use Rattle.resolved_laws.proofs.Faultless.{AllFine, IsFine}
 use Rattle.resolved_laws.proofs.Fitting.{AllFit, Fits, data_at, process_at, same_count, use_datum, when_none}
 use Rattle.resolved_laws.proofs.ScopeNames.{NameIs, is_bound, is_free}
-use Rattle.resolved_laws.proofs.Booleans.{and, both, or_none, or_second_false}
+use Rattle.resolved_laws.proofs.Booleans.{and}
+use Rattle.std.proofs.Math.Bool.{or-false}
+use Rattle.csp_base.proofs.Booleans.{is_and, or_second_false}
 
 not_both : (b : Bool) → (b && true) ≡ false → not b ≡ false → ⊥
 not_both true h g = false≢true (sym h)
@@ -75,7 +77,7 @@ module _ (p : Content) (ks : List Kind) where
   part_order c es h g =
       subst IsTrue (sym (fold-roll-EventPart Bool Bool Bool (expr_in_order_of_layer p) (gen_in_order_of_layer p) (part_in_order_of_layer p)
       (record { channel = c; fields = es })))
-      (both (with_fields (nat_le (length (map (expr_in_order p) es))) (slice_get p.channels c)) (all_true (map (expr_in_order p) es)) h g)
+      (is_and (with_fields (nat_le (length (map (expr_in_order p) es))) (slice_get p.channels c)) (all_true (map (expr_in_order p) es)) h g)
 
   pub proc_order : (d : Proc-F Proc) (q : Proc) → roll-Proc d ≡ q → IsTrue (proc_in_order_of_layer p (map-Proc Proc Bool (proc_in_order p) d))
       → IsTrue (proc_in_order p q)
@@ -161,7 +163,7 @@ module _ (p : Content) (ks : List Kind) where
       (and (use_datum p ks (Some (entity.Definition d n)) (sense.Declared (entity.Definition d n)) 0 b l h (record {
         number = d;
         is = ap (λ i. Some (entity.Definition d i))
-            (same_count n 0 (when_none (not (nat_eq n 0)) x (ap (λ t. when t x) (sym (or_none (not (nat_eq n 0)))) ∙ fine.count)));
+            (same_count n 0 (when_none (not (nat_eq n 0)) x (ap (λ t. when t x) (sym (or-false (not (nat_eq n 0)))) ∙ fine.count)));
         class = fine.kind;
         inside = fine.inside;
         network = refl;

@@ -1,5 +1,5 @@
 -- The declared names of a script fit a program that holds what the script declares, in the order of their numbers.
-use Rattle.std.proofs.Common.{◌≡◌, ℕ, zero, suc, ◌+◌, Bool, true, false, cond, nat_eq, nat_lt, IsTrue, Option, Some, List, [], ◌∷◌, ◌++◌, length, map, refl, sym, ◌∙◌, ap, subst, arith}
+use Rattle.std.proofs.Common.{◌≡◌, ℕ, zero, suc, ◌+◌, Bool, true, false, cond, nat_eq, nat_lt, IsTrue, Option, Some, List, ◌∷◌, ◌++◌, length, map, refl, sym, ◌∙◌, ap, subst, arith}
 use Rattle.std.specs.Prelude.{slice_get}
 use Rattle.std.specs.List.{flat_map}
 use Rattle.std.specs.Map.{lookup}
@@ -21,7 +21,7 @@ use Rattle.script_names.specs.Names.{Counts, Entities, Meanings, Name, channels_
 use Rattle.script_names.specs.Typed.{Reading, Scope, exprs, reading}
 use Rattle.resolved_laws.proofs.Classes.{IsClass}
 use Rattle.resolved_laws.proofs.Fitting.{AllFit, EntityFits, Fits, is_body_of}
-use Rattle.resolved_laws.proofs.Booleans.{both}
+use Rattle.csp_base.proofs.Booleans.{is_and}
 
 -- each element of a list has the fact at its number, where they are numbered from n on
 abbrev pub EachFrom : {X : Type 0} → (ℕ → X → Type 0) → ℕ → List X → Type 0
@@ -101,7 +101,7 @@ module _ (p : Content) (m : Meanings) (ks : List Kind) where
       → IsTrue (takes (is_body_of c network) (length params) (slice_get p.defs d))
   def_fits d c network x params t h at =
       subst (λ o. IsTrue (takes (is_body_of c network) (length params) o)) (sym at)
-      (both (is_body_of c network (body_of m ks c network (reading m ks t) (length params) (parameters 0 params)))
+      (is_and (is_body_of c network (body_of m ks c network (reading m ks t) (length params) (parameters 0 params)))
       (nat_eq (length (numbers_from 0 (length params))) (length params))
       (body_is c network (reading m ks t) (length params) (parameters 0 params) h)
       (eq-eqb (length (numbers_from 0 (length params))) (length params) (length_numbers 0 (length params))))

@@ -1,6 +1,6 @@
 -- The field sets that the types of channels have are in order, there is one for each field, and the event table of the channels with them is numbered
 -- by its places.
-use Rattle.std.proofs.Common.{◌≡◌, ℕ, zero, suc, ◌+◌, Bool, true, false, ◌&&◌, nat_eq, IsTrue, Some, Ok, Err, List, [], ◌∷◌, ◌++◌, length, map, replicate, refl, sym, ◌∙◌, ap, subst, arith, length-append}
+use Rattle.std.proofs.Common.{◌≡◌, ℕ, zero, suc, ◌+◌, Bool, true, false, ◌&&◌, nat_eq, IsTrue, Some, Ok, Err, List, ◌∷◌, ◌++◌, length, map, replicate, refl, sym, ◌∙◌, ap, subst, arith, length-append}
 use Rattle.std.specs.Prelude.{Result, if◌then◌else◌, slice_get}
 use Rattle.std.specs.List.{flat_map}
 use Rattle.std.proofs.lemmas.Bool.{false≢true, eq-eqb}
@@ -33,7 +33,8 @@ use Rattle.script_names.specs.Typed.{exprs, reading}
 use Rattle.resolved_laws.proofs.Whole.{SameTypes}
 use Rattle.value_laws.proofs.RowNumbers.{length-rows}
 use Rattle.value_laws.proofs.ValuesInOrder.{values_are_in_order}
-use Rattle.resolved_laws.proofs.Booleans.{both, two}
+use Rattle.resolved_laws.proofs.Booleans.{two}
+use Rattle.csp_base.proofs.Booleans.{is_and}
 
 -- ---- outcomes and answers
 
@@ -76,14 +77,14 @@ module _ (p : Content) where
   values_ordered (a ∷ atoms) h g =
       let h' = two (may_be_field a) (all_true (map may_be_field atoms)) h in
       let g' = two (atom_in_order p a) (all_true (map (atom_in_order p) atoms)) g in
-      both (is_field_value p a) (all_true (map (is_field_value p) atoms)) (value_ordered a h'.0 g'.0) (values_ordered atoms h'.1 g'.1)
+      is_and (is_field_value p a) (all_true (map (is_field_value p) atoms)) (value_ordered a h'.0 g'.0) (values_ordered atoms h'.1 g'.1)
 
   set_ordered : (v : Value) (set : List Atom) → field_set v ≡ Ok set → IsTrue (value_in_order p v) → IsTrue (set_in_order p set)
   set_ordered (One a) set h g = absurd (cc)
   set_ordered (Many atoms) set h g =
       let w = if_ok (all_true (map may_be_field atoms)) atoms set Kind h in
       let g' = two (all_true (map (atom_in_order p) atoms)) (is_set atoms) g in
-      subst (λ z. IsTrue (set_in_order p z)) w.1 (both (all_true (map (is_field_value p) atoms)) (is_set atoms) (values_ordered atoms w.0 g'.0) g'.1)
+      subst (λ z. IsTrue (set_in_order p z)) w.1 (is_and (all_true (map (is_field_value p) atoms)) (is_set atoms) (values_ordered atoms w.0 g'.0) g'.1)
 
   pub record AreSets (n : ℕ) (sets : List (List Atom)) : Type 0 where
     pub count : length sets ≡ n
@@ -101,7 +102,7 @@ module _ (p : Content) where
         let r = sets_ordered es c.first o'.1 c.is in
         subst (AreSets (suc (length es))) (ok_same c.after) (record {
           count = ap (λ k. suc k) r.count;
-          ordered = both (set_in_order p b.first) (all_true (map (set_in_order p) c.first))
+          ordered = is_and (set_in_order p b.first) (all_true (map (set_in_order p) c.first))
               (set_ordered a.first b.first b.is (values_are_in_order p whole (length p.defs) t o'.0 [] tt a.first a.is)) r.ordered;
         })
 
@@ -166,9 +167,9 @@ module _ (p : Content) where
       → IsTrue (all_true (map (λ c. sets_in_order p (length c.types) c.fields) (with_sets first cs all)))
   sets_in_place first [] [] h = refl
   sets_in_place first (c ∷ cs) (sets ∷ all) h =
-      both (sets_in_order p (length c.types) (Some sets))
+      is_and (sets_in_order p (length c.types) (Some sets))
       (all_true (map (λ c. sets_in_order p (length c.types) c.fields) (with_sets (first + row_count sets) cs all)))
-      (both (nat_eq (length sets) (length c.types)) (all_true (map (set_in_order p) sets)) (eq-eqb (length sets) (length c.types) h.0.count) h.0.ordered)
+      (is_and (nat_eq (length sets) (length c.types)) (all_true (map (set_in_order p) sets)) (eq-eqb (length sets) (length c.types) h.0.count) h.0.ordered)
       (sets_in_place (first + row_count sets) cs all h.1)
   sets_in_place first [] (sets ∷ all) h = absurd h
   sets_in_place first (c ∷ cs) [] h = absurd h

@@ -1,7 +1,7 @@
 -- What a tree without a fault is read as is in order in each of its roles: the induction by the forms.
-use Rattle.std.proofs.Common.{◌≡◌, ℕ, suc, ◌+◌, Bool, true, false, ◌&&◌, ◌||◌, nat_eq, nat_le, IsTrue, List, [], ◌∷◌, ◌++◌, length, map, refl, ap, subst}
+use Rattle.std.proofs.Common.{◌≡◌, ℕ, suc, ◌+◌, Bool, true, false, ◌&&◌, ◌||◌, nat_eq, nat_le, IsTrue, List, ◌∷◌, ◌++◌, length, map, refl, ap, subst}
 use Rattle.std.specs.Prelude.{pos, slice_get}
-use Rattle.csp_program.specs.InOrder.{expr_in_order, expr_in_order_of_layer, field_count, field_in_order, fields_left, gen_in_order, gen_in_order_of_layer, head_in_order, is_datum, is_process, net_in_order, net_in_order_of_layer, pair_in_order, part_in_order, part_in_order_of_layer, proc_in_order, proc_in_order_of_layer, takes, with_fields}
+use Rattle.csp_program.specs.InOrder.{expr_in_order, field_in_order, fields_left, gen_in_order, head_in_order, is_datum, is_process, pair_in_order, part_in_order, proc_in_order, takes, with_fields}
 use Rattle.csp_program.specs.InOrder as order
 use Rattle.csp_program.specs.Lists.{all_true}
 use Rattle.csp_program.specs.declared.expressions.Expr.{Expr}
@@ -21,16 +21,17 @@ use Rattle.script_names.specs.declared.kinds.Use.TheVariants as how
 use Rattle.script_names.specs.Faults.{is_network}
 use Rattle.script_names.specs.Names.{Name, Meanings, sense_in}
 use Rattle.script_names.specs.Occurrence.{uses}
-use Rattle.script_names.specs.Says.{Binder, Fields, Said, all_say, data_in, in_turn, pair_says, part_says, process_in}
+use Rattle.script_names.specs.Says.{Binder, Fields, Said, all_say, in_turn, pair_says, part_says}
 use Rattle.script_names.specs.Says as says
 use Rattle.script_names.specs.Typed.{Binding, Front, Reading, Scope, all_bind, bindings, bindings_bind, channel_number, definition_number, exprs, head_of, names_of, number_of, pairs, pairs_bind, part, parts, parts_bind, procs, under, with}
 use Rattle.resolved_laws.proofs.Faultless.{AllFine, IsFine, fine_two, fine_three, fine_four}
 use Rattle.resolved_laws.proofs.Fitting.{AllFit, alone, called, data_at, process_at, use_datum, use_network, use_process}
-use Rattle.resolved_laws.proofs.Formed.{Ends, Reads, AllRead, FieldRead, FieldsRead, EventRead, GenRead, GensRead, PartRead, PartsRead, PairsRead}
+use Rattle.resolved_laws.proofs.Formed.{Ends, Reads, AllRead, FieldRead, FieldsRead, GenRead, GensRead, PartRead, PartsRead, PairsRead}
 use Rattle.resolved_laws.proofs.Formed as f
 use Rattle.resolved_laws.proofs.ScopeNames.{renamed, field_names, fields_names, gen_names, gens_names, name_is, names_with}
 use Rattle.resolved_laws.proofs.Order.{Ordered, call_order, condition_order, event_order, expr_order, from_order, front_order, head_order, if_order, leaf_order, named_expr, net_call_order, net_order, of_data, of_network, of_process, renamed_order, sides_order, part_order, proc_order}
-use Rattle.resolved_laws.proofs.Booleans.{and, or_first_false, or_second_false}
+use Rattle.resolved_laws.proofs.Booleans.{and}
+use Rattle.csp_base.proofs.Booleans.{or_first_false, or_second_false}
 
 and_left_false : (b s t : Bool) → (b && (s || t)) ≡ false → (b && s) ≡ false
 and_left_false true s t h = or_first_false s t h

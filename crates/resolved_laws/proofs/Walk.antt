@@ -1,5 +1,5 @@
 -- What the declarations of a faultless script put into a program is in order, one declaration after another.
-use Rattle.std.proofs.Common.{◌≡◌, ℕ, ◌+◌, Bool, true, false, not, ◌&&◌, nat_eq, nat_lt, IsTrue, Option, Some, None, List, [], ◌∷◌, ◌++◌, length, map, refl, sym, ◌∙◌, ap, subst}
+use Rattle.std.proofs.Common.{◌≡◌, ℕ, ◌+◌, Bool, true, false, not, ◌&&◌, nat_eq, nat_lt, IsTrue, Option, Some, None, List, ◌∷◌, ◌++◌, length, map, refl, sym, ◌∙◌, ap, subst}
 use Rattle.std.specs.Prelude.{slice_get}
 use Rattle.std.specs.List.{flat_map}
 use Rattle.std.proofs.lemmas.Bool.{false≢true, eqb-true}
@@ -35,14 +35,11 @@ use Rattle.resolved_laws.proofs.Order.{Ordered, leaf_order, proc_order}
 use Rattle.resolved_laws.proofs.Places.{EachFrom, HasConst, IsDefAt, each_later}
 use Rattle.resolved_laws.proofs.Trees.{ordered}
 use Rattle.resolved_laws.proofs.Booleans.{and, two}
+use Rattle.script_names.proofs.Scopes.{names_of-parameters}
 
 pub counts_append : (n : Counts) (earlier : List Decl) (d : Decl) → counts_of n (earlier ++ d ∷ []) ≡ counted (counts_of n earlier) d
 counts_append n [] d = refl
 counts_append n (e ∷ earlier) d = counts_append (counted n e) earlier d
-
-pub parameters_names : (n : ℕ) (xs : List Name) → names_of (parameters n xs) ≡ xs
-parameters_names n [] = refl
-parameters_names n (x ∷ xs) = ap (λ l. x ∷ l) (parameters_names (n + 1) xs)
 
 and_split : (a b c : Bool) → IsTrue (a && b) → (IsTrue b → IsTrue c) → IsTrue (a && c)
 and_split true b c h g = g h
@@ -153,7 +150,7 @@ module _ (script : List Decl) (ks : List Kind) (p : Content) (fits : AllFit p ks
       (body_order p ks m (kind_class (slice_get ks n.definitions)) (kind_network (slice_get ks n.definitions)) (tree_says m t) (reading m ks t)
       (numbers_from 0 (length params)) (length params) (parameters 0 params)
       hd.0.class (ordered p m ks fits (made m ks t))
-      (subst (λ z. AllFine ks (tree_says m t (body_place (slice_get ks n.definitions)) z)) (sym (parameters_names 0 params))
+      (subst (λ z. AllFine ks (tree_says m t (body_place (slice_get ks n.definitions)) z)) (sym (names_of-parameters 0 params))
       (subst (λ (z : Counts). AllFine ks (tree_says m t (body_place (slice_get ks z.definitions)) params)) is w.2)))
       (defs_order (earlier ++ decl.Define x params t ∷ []) rest (counted n (decl.Define x params t))
       (counts_append none_yet earlier (decl.Define x params t) ∙ ap (λ z. counted z (decl.Define x params t)) is)

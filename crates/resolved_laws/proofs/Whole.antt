@@ -1,6 +1,6 @@
 -- A program that holds what the declarations of a faultless script put into it is in order, whichever event table and field sets it has, as far as
 -- those are in order.
-use Rattle.std.proofs.Common.{◌≡◌, ℕ, zero, suc, ◌+◌, ◌<◌, ◌^◌, nat_eq, IsTrue, Some, None, List, [], ◌∷◌, ◌++◌, length, map, refl, sym, ◌∙◌, ap, subst, inr, is_none, arith}
+use Rattle.std.proofs.Common.{◌≡◌, ℕ, zero, suc, ◌+◌, ◌<◌, ◌^◌, nat_eq, IsTrue, Some, None, List, ◌∷◌, ◌++◌, length, map, refl, sym, ◌∙◌, ap, subst, inr, is_none, arith}
 use Rattle.std.specs.Prelude.{slice_get}
 use Rattle.std.specs.List.{flat_map}
 use Rattle.std.proofs.lemmas.Bool.{eq-eqb, lt-ltb}
@@ -29,7 +29,8 @@ use Rattle.resolved_laws.proofs.ClosedContent.{channels_closed, defs_closed, roo
 use Rattle.resolved_laws.proofs.Fitting.{AllFit}
 use Rattle.resolved_laws.proofs.Places.{EachFrom, HasChannel, HasConst, HoldsAll, IsDefAt, all_fit, each_map, each_place}
 use Rattle.resolved_laws.proofs.Walk.{channels_order, defs_order, have_order, resources_order, roles_order, root_order}
-use Rattle.resolved_laws.proofs.Booleans.{and, both, two}
+use Rattle.resolved_laws.proofs.Booleans.{and, two}
+use Rattle.csp_base.proofs.Booleans.{is_and}
 
 -- channels of the same types
 abbrev pub SameTypes : List Channel → List Channel → Type 0
@@ -177,12 +178,12 @@ module _ (m : Meanings) (ks : List Kind) where
 
 plain_lack : (cs : List Channel) → ArePlain cs → IsTrue (all_true (map lacks_sets cs))
 plain_lack [] h = refl
-plain_lack (c ∷ cs) h = both (lacks_sets c) (all_true (map lacks_sets cs)) (ap is_none h.0) (plain_lack cs h.2)
+plain_lack (c ∷ cs) h = is_and (lacks_sets c) (all_true (map lacks_sets cs)) (ap is_none h.0) (plain_lack cs h.2)
 
 plain_sets : (p : Content) (cs : List Channel) → ArePlain cs → IsTrue (all_true (map (λ c. sets_in_order p (length c.types) c.fields) cs))
 plain_sets p [] h = refl
 plain_sets p (c ∷ cs) h =
-    both (sets_in_order p (length c.types) c.fields) (all_true (map (λ d. sets_in_order p (length d.types) d.fields) cs))
+    is_and (sets_in_order p (length c.types) c.fields) (all_true (map (λ d. sets_in_order p (length d.types) d.fields) cs))
     (ap (sets_in_order p (length c.types)) h.0) (plain_sets p cs h.2)
 
 no_events : (cs : List Channel) (i : ℕ) → ArePlain cs → first_event cs i ≡ 0

@@ -1,5 +1,5 @@
 -- What the state of a resource's holder tells, and the conditions on a resource by tests of its exploration.
-use Rattle.std.proofs.Common.{◌≡◌, ℕ, suc, ◌-◌, ◌<◌, inl, inr, List, [], ◌∷◌, ◌++◌, length, Bool, true, false, not, ◌&&◌, ◌||◌, cond, IsTrue, nat_eq, refl, sym, ap, subst, ◌∙◌, arith, eq-eqb, ne_eqb}
+use Rattle.std.proofs.Common.{◌≡◌, ℕ, suc, ◌-◌, ◌<◌, inl, inr, List, ◌∷◌, ◌++◌, length, Bool, true, false, not, ◌&&◌, ◌||◌, cond, IsTrue, nat_eq, refl, sym, ap, subst, ◌∙◌, arith, eq-eqb, ne_eqb}
 use Rattle.std.specs.Prelude.{slice_index}
 use Rattle.std.proofs.lemmas.Bool.{cases_Bool, cases_eq, cond-true, cond-false, and_parts, and_from, both_ways, false≢true}
 use Rattle.csp_base.specs.Members.{has}
@@ -21,8 +21,9 @@ use Rattle.observed_runs.specs.Exploration.{IsExploration}
 use Rattle.resource_conditions.specs.Setting.{Setting, node_of}
 use Rattle.shape_links.specs.Links.{AreOwners}
 use Rattle.resource_conditions.specs.Tests.{is_turn, are_turns, wanted_in, are_grants}
-use Rattle.shape_links.proofs.Links.{some_number}
 use Rattle.resource_conditions.proofs.Sets.{subset_within, within_subset, in_both, of_both, all_possible, some_possible, all_at, some_at, either_of, neither_of}
+use Rattle.std.proofs.lemmas.Option.{same_Some}
+use Rattle.observed_runs.proofs.Leading.{observed_push}
 
 -- ---- what an exploration shows of runs
 
@@ -38,10 +39,6 @@ pub have_nodes : (g : Setting) (i : ℕ) (step : ℕ → ℕ → ℕ) (pairs : L
 have_nodes g i step pairs w h x k below =
     let r = x.reached k below in
     subst (λ n. n < length (part_at g.shape.parts i).table) r.1.node (end_within (part_at g.shape.parts i) r.0 (part_form g.shape.parts i h w.form) r.1.follows)
-
-observed_push : (step : ℕ → ℕ → ℕ) (state : ℕ) (u : List ℕ) (e : ℕ) → observed step state (u ++ e ∷ []) ≡ step (observed step state u) e
-observed_push step state [] e = refl
-observed_push step state (x ∷ u) e = observed_push step (step state x) u e
 
 -- ---- the state of the holder
 
@@ -115,7 +112,7 @@ module _ (g : Setting) (i : ℕ) (holders : List ℕ) (w : IsWellFormed g.shape)
 
   one_holder : (s : List ℕ) (l m : ℕ) → IsHolder g.shape i s l → IsHolder g.shape i s m → l ≡ m
   one_holder s l m x y =
-      let same : y.event ≡ x.event = some_number y.event x.event (sym y.last ∙ x.last) in
+      let same : y.event ≡ x.event = same_Some y.event x.event (sym y.last ∙ x.last) in
       one_link g.shape i l m x.event w triple h (record { within = x.within; end = x.end; event = x.on }) (record { within = y.within; end = y.end; event = subst (λ e. IsTrue (has (link_at g.shape m).shared e)) same y.on })
 
   -- the holder's state

@@ -9,7 +9,8 @@ use Rattle.csp_tables.specs.Roles.{use_at}
 use Rattle.design_rules.specs.ResourceFaults.{LacksKind}
 use Rattle.resource_conditions.specs.Setting.{Setting, HasLinked, HasParted, KeepKinds}
 use Rattle.resource_conditions.specs.Finding.{IsFirstWithout}
-use Rattle.resource_conditions.proofs.Sets.{subset_within, within_subset, any_member, any_of}
+use Rattle.resource_conditions.proofs.Sets.{subset_within, within_subset}
+use Rattle.csp_base.proofs.Listed.{any_of, any_member}
 
 -- ---- sets
 

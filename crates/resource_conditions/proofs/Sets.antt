@@ -1,5 +1,5 @@
 -- Sets of events, and tests of all members of a list.
-use Rattle.std.proofs.Common.{◌≡◌, ℕ, zero, suc, ◌<◌, inl, inr, List, [], ◌∷◌, length, get_or, Bool, true, false, not, ◌&&◌, ◌||◌, Some, None, nat_eq, nat_le, refl, sym, subst, ◌∙◌, arith, eq-eqb}
+use Rattle.std.proofs.Common.{◌≡◌, ℕ, zero, suc, ◌<◌, inl, inr, List, ◌∷◌, length, get_or, Bool, true, false, not, ◌&&◌, ◌||◌, Some, nat_eq, nat_le, refl, sym, subst, ◌∙◌, arith, eq-eqb}
 use Rattle.std.specs.List.{find, list_all, list_any, filter}
 use Rattle.std.proofs.lemmas.Bool.{cases_Bool, cond-true, cond-false, and_parts, and_from, or_cases, or_left, or_right, eqb-true, false≢true}
 use Rattle.std.proofs.lemmas.List.{get_or_read}
@@ -9,11 +9,10 @@ use Rattle.csp_base.specs.Members.{has}
 use Rattle.csp_base.specs.Events.{is_subset_of, inter_of}
 use Rattle.csp_tables.specs.Table.{is_possible}
 use Rattle.csp_tables.specs.Trace.{IsWithin}
+use Rattle.csp_base.proofs.Listed.{has_first, find_has}
+use Rattle.csp_base.proofs.Booleans.{and_second_false}
 
 -- ---- members
-
-has_first : (z : ℕ) (zs : List ℕ) → has (z ∷ zs) z ≡ true
-has_first z zs = rw (eq-eqb z z refl) refl
 
 has_later : (z : ℕ) (zs : List ℕ) (e : ℕ) → has zs e ≡ true → has (z ∷ zs) e ≡ true
 has_later z zs e x = elim (cases_Bool (nat_eq z e)) [ inl k ↦ rw k refl | inr k ↦ rw k x ]
@@ -30,22 +29,6 @@ subset_within (y ∷ ys) N h e x =
 pub within_subset : (M N : List ℕ) → IsWithin M N → is_subset_of M N ≡ true
 within_subset [] N w = refl
 within_subset (y ∷ ys) N w = and_from (has N y) (is_subset_of ys N) (w y (has_first y ys)) (within_subset ys N (λ e x. w e (has_later y ys e x)))
-
--- a member of both
-pub any_member : (test : ℕ → Bool) (M : List ℕ) → list_any test M ≡ true → (e : ℕ) × (has M e ≡ true) × (test e ≡ true)
-any_member test [] h = absurd (false≢true h)
-any_member test (y ∷ ys) h = elim (or_cases (test y) (list_any test ys) h) [
-  | inl here ↦ (y, has_first y ys, here)
-  | inr later ↦ let r = any_member test ys later in (r.0, has_later y ys r.0 r.1, r.2)
-]
-
-pub any_of : (test : ℕ → Bool) (M : List ℕ) (e : ℕ) → has M e ≡ true → test e ≡ true → list_any test M ≡ true
-any_of test [] e h t = absurd (false≢true h)
-any_of test (x ∷ M) e h t =
-    elim (or_cases (nat_eq x e) (has M e) h) [
-      | inl same ↦ or_left (test x) (list_any test M) (subst (λ y. test y ≡ true) (sym (eqb-true x e same)) t)
-      | inr rest ↦ or_right (test x) (list_any test M) (any_of test M e rest t)
-    ]
 
 -- the members of both
 pub in_both : (M N : List ℕ) (e : ℕ) → has M e ≡ true → has N e ≡ true → has (inter_of M N) e ≡ true
@@ -76,28 +59,11 @@ inter_none (x ∷ M) = inter_none M
 
 -- ---- the first member
 
-find_has : (test : ℕ → Bool) (M : List ℕ) (e : ℕ) → find test M ≡ Some e → has M e ≡ true
-find_has test [] e h = absurd (cc)
-find_has test (x ∷ xs) e h = elim (cases_Bool (test x)) [
-  | inl passes ↦ let same : x ≡ e = some_is x e (sym (cond-true (test x) (Some x) (find test xs) passes) ∙ h) in rw (eq-eqb x e same) refl
-  | inr fails ↦ has_later x xs e (find_has test xs e (sym (cond-false (test x) (Some x) (find test xs) fails) ∙ h))
-]
-  where
-    some_is : (a b : ℕ) → Some a ≡ Some b → a ≡ b
-    some_is a b k = cc
-
 zero_least : (x : ℕ) → nat_le 0 x ≡ true
 zero_least x = grind (arith, nat_tests)
 
 pub first_found : (M : List ℕ) (e : ℕ) → find (nat_le 0) M ≡ Some e → has M e ≡ true
 first_found M e h = find_has (nat_le 0) M e h
-
-pub none_found : (M : List ℕ) (e : ℕ) → find (nat_le 0) M ≡ None → has M e ≡ true → ⊥
-none_found [] e h x = false≢true x
-none_found (x ∷ xs) e h k = never x (sym (cond-true (nat_le 0 x) (Some x) (find (nat_le 0) xs) (zero_least x)) ∙ h)
-  where
-    never : (a : ℕ) → Some a ≡ None → ⊥
-    never a b = cc
 
 -- ---- tests of all
 
@@ -111,15 +77,11 @@ all_possible test (step ∷ steps) e all h =
       | inr later ↦ all_possible test steps e p.1 later
     ]
 
-pub rest : (a b : Bool) → a ≡ true → (a && b) ≡ false → b ≡ false
-rest true b t f = f
-rest false b t f = absurd (false≢true t)
-
 pub some_possible : (test : ℕ → Bool) (next : List (ℕ × ℕ)) → list_all (λ (step : ℕ × ℕ). test step.0) next ≡ false → (e : ℕ) × (is_possible next e ≡ true) × (test e ≡ false)
 some_possible test [] none = absurd (false≢true (sym none))
 some_possible test (step ∷ steps) none = elim (cases_Bool (test step.0)) [
   | inl passes ↦
-      let r = some_possible test steps (rest (test step.0) (list_all (λ (s : ℕ × ℕ). test s.0) steps) passes none) in
+      let r = some_possible test steps (and_second_false (test step.0) (list_all (λ (s : ℕ × ℕ). test s.0) steps) none passes) in
       (r.0, or_right (nat_eq step.0 r.0) (is_possible steps r.0) r.1, r.2)
   | inr fails ↦ (step.0, or_left (nat_eq step.0 step.0) (is_possible steps step.0) (eq-eqb step.0 step.0 refl), fails)
 ]
@@ -133,7 +95,7 @@ all_at test (M ∷ Ms) (suc k) h all = all_at test Ms k (omega arith) (and_parts
 pub some_at : (test : List ℕ → Bool) (Ms : List (List ℕ)) → list_all test Ms ≡ false → (k : ℕ) × (k < length Ms) × (test (get_or Ms k []) ≡ false)
 some_at test [] none = absurd (false≢true (sym none))
 some_at test (M ∷ Ms) none = elim (cases_Bool (test M)) [
-  | inl passes ↦ let r = some_at test Ms (rest (test M) (list_all test Ms) passes none) in (suc r.0, (let h : r.0 < length Ms = r.1 in omega arith), r.2)
+  | inl passes ↦ let r = some_at test Ms (and_second_false (test M) (list_all test Ms) none passes) in (suc r.0, (let h : r.0 < length Ms = r.1 in omega arith), r.2)
   | inr fails ↦ (0, omega arith, fails)
 ]
 

@@ -1,5 +1,5 @@
 -- What a user offers while it holds a resource, and the arcs that this gives.
-use Rattle.std.proofs.Common.{◌≡◌, ℕ, suc, ◌<◌, inl, inr, ◌⊎◌, List, [], ◌∷◌, length, Bool, true, false, ◌&&◌, ◌||◌, cond, nat_eq, refl, sym, subst, ◌∙◌, arith, eq-eqb}
+use Rattle.std.proofs.Common.{◌≡◌, ℕ, suc, ◌<◌, inl, inr, ◌⊎◌, List, ◌∷◌, length, Bool, true, false, ◌&&◌, ◌||◌, cond, nat_eq, refl, sym, subst, ◌∙◌, arith, eq-eqb}
 use Rattle.std.specs.List.{list_any}
 use Rattle.std.proofs.lemmas.Bool.{cases_Bool, cond-true, and_parts, and_from, or_cases, or_left, or_right, eqb-true, false≢true}
 use Rattle.std.proofs.lemmas.List.Folds.{list_any_at}
@@ -16,8 +16,9 @@ use Rattle.observed_runs.specs.Exploration.{Found}
 use Rattle.resource_conditions.specs.Setting.{Setting, IsUser, node_of}
 use Rattle.resource_rule.specs.Uses.{is_offered, is_offered_at, WatchesLink, IsOfferedHolding}
 use Rattle.resource_conditions.proofs.Acquiring.{is_part}
-use Rattle.resource_conditions.proofs.Sets.{subset_within, within_subset, any_member, any_of, any_at}
+use Rattle.resource_conditions.proofs.Sets.{subset_within, within_subset, any_at}
 use Rattle.resource_rule.proofs.Using.{parity_is}
+use Rattle.csp_base.proofs.Listed.{any_of, any_member}
 
 -- ---- events that are collected
 

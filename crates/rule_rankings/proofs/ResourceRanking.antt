@@ -1,7 +1,7 @@
 -- The ranks of a network of users and resources.
-use Rattle.std.proofs.Common.{◌≡◌, ℕ, zero, suc, ◌+◌, ◌-◌, ◌*◌, ◌<◌, ◌≤◌, ◌⊎◌, inl, inr, ℤ, pos, List, [], ◌∷◌, length, get_or, replicate, Bool, true, false, ◌||◌, cond, max, nat_eq, refl, sym, ap, subst, ◌∙◌, arith, eq-eqb}
+use Rattle.std.proofs.Common.{◌≡◌, ℕ, zero, suc, ◌+◌, ◌-◌, ◌*◌, ◌<◌, ◌≤◌, ◌⊎◌, inl, inr, ℤ, pos, List, ◌∷◌, length, get_or, replicate, Bool, true, false, ◌||◌, cond, max, nat_eq, refl, sym, ap, subst, ◌∙◌, arith, eq-eqb}
 use Rattle.std.specs.List.{list_any}
-use Rattle.std.proofs.lemmas.Bool.{cases_Bool, cases_eq, cases_lt, cond-true, cond-false, and_parts, and_from, or_cases, or_left, or_right, both_ways, false≢true}
+use Rattle.std.proofs.lemmas.Bool.{cases_Bool, cases_lt, cond-true, cond-false, and_parts, and_from, or_cases, or_left, or_right, both_ways, false≢true}
 use Rattle.std.proofs.lemmas.List.{get_or_past}
 use Rattle.csp_base.specs.Members.{has}
 use Rattle.csp_tables.specs.Table.{Node, node_at, end_of}
@@ -22,17 +22,10 @@ use Rattle.rule_rankings.proofs.RowsBelow.{no_ranks, as_many, parts_fit}
 use Rattle.rule_rankings.specs.ResourceRanks.{number_by, IsLeastAcquired, IsRank, AreNodeRanks, ArePartRanks, HaveTop}
 use Rattle.rule_rankings.specs.Rows.{AreEach, no_node, AreNoLaps}
 use Rattle.resource_conditions.proofs.Acquiring.{acquire_only}
-use Rattle.resource_conditions.proofs.Sets.{any_member, any_of}
+use Rattle.csp_base.proofs.Listed.{any_of, any_member}
+use Rattle.design_rules.proofs.Resource.{below_top}
 
 -- ---- the greatest number
-
-below_top : (uses : List UseSets) (number : ℕ → ℕ) (n j : ℕ) → j < n → (use_at uses j).resource ≡ true → number j ≤ top_number uses number n
-below_top uses number zero j h r = absurd (omega arith)
-below_top uses number (suc n) j h r =
-    elim (cases_eq j n) [
-      | inl e ↦ let own : cond (use_at uses n).resource (number n) 0 ≡ number n = cond-true (use_at uses n).resource (number n) 0 (subst (λ k. (use_at uses k).resource ≡ true) e r) in let same : number j ≡ number n = ap number e in omega arith
-      | inr ne ↦ let rest : number j ≤ top_number uses number n = below_top uses number n j (omega arith) r in omega arith
-    ]
 
 -- each number is small
 pub small_number : (heights : List ℕ) (count : ℕ) → count ≤ 512 → ((k d : ℕ) → k < length heights → get_or heights k d < count) → (j : ℕ) → number_by heights j ≤ 512

@@ -1,16 +1,10 @@
 -- Lists with one member for each of another, and rankings that fit their shape.
-use Rattle.std.proofs.Common.{◌≡◌, ℕ, suc, ◌+◌, ◌<◌, inl, inr, List, [], ◌∷◌, ◌++◌, length, get_or, Result, Ok, Err, sym, ap, subst, ◌∙◌, arith}
-use Rattle.std.specs.Prelude.{IfOk, IsOkAnd}
+use Rattle.std.proofs.Common.{◌≡◌, ℕ, suc, ◌+◌, ◌<◌, inl, inr, List, ◌∷◌, ◌++◌, length, get_or, sym, ap, subst, ◌∙◌, arith}
 use Rattle.std.proofs.lemmas.Bool.{cases_lt}
 use Rattle.std.proofs.lemmas.List.{length-append, get_or_append_left, get_or_read}
 use Rattle.std.proofs.Math.Seq.{get_or-append_seam}
 use Rattle.csp_tables.specs.Part.{Part, part_at}
 use Rattle.csp_tables.specs.Ranking.{PartRanks, AsMany, RanksFit, LapsFit, PartsFit}
-
--- what was made and pushed, and what holds of it
-pub pushed : {T E : Type 0} (made : Result T E) (old new : List T) (P : T → Type 0) → IsOkAnd made (λ item. new ≡ old ++ item ∷ []) → IfOk made P → (item : T) × P item × (new ≡ old ++ item ∷ [])
-pushed (Ok x) old new P is p = (x, p, is)
-pushed (Err e) old new P is p = absurd is
 
 -- what is known of the first members
 pub record AreEachBelow {A B : Type 0} (a : A) (b : B) (P : A → B → Type 0) (n : ℕ) (xs : List A) (ys : List B) : Type 0 where

@@ -1,5 +1,5 @@
 -- What declarations put into a program, one after another.
-use Rattle.std.proofs.Common.{◌≡◌, ℕ, suc, ◌+◌, ◌-◌, ◌<◌, ◌≤◌, List, [], ◌∷◌, ◌++◌, length, drop, get_or, refl, sym, ap, ◌∙◌, arith, append_assoc}
+use Rattle.std.proofs.Common.{◌≡◌, ℕ, suc, ◌+◌, ◌-◌, ◌<◌, ◌≤◌, List, ◌∷◌, ◌++◌, length, drop, get_or, refl, sym, ap, ◌∙◌, arith, append_assoc}
 use Rattle.std.proofs.Math.ListN.{drop_of_length-le}
 use Rattle.std.proofs.Math.Path.{fun_ext}
 use Rattle.std.proofs.lemmas.List.{append-nil}
@@ -12,13 +12,14 @@ use Rattle.csp_program.specs.declared.programs.Content.{Content}
 use Rattle.csp_program.specs.declared.programs.Def.{Def}
 use Rattle.csp_program.specs.declared.programs.ResourceNote.{ResourceNote}
 use Rattle.csp_program.specs.declared.programs.RolesNote.{RolesNote}
-use Rattle.name_tables.proofs.DeclaredLemmas.{split_at}
 use Rattle.name_tables.specs.Firsts.{SameFirsts}
 use Rattle.script_contents.specs.Plain.{constants_in, resources_in, roles_in}
 use Rattle.script_names.specs.declared.kinds.Kind.{Kind}
 use Rattle.script_names.specs.Contents.{channels_of, constants_of, definitions_from, defined, first_assertion, numbers_from, plain_content, resources_of, roles_of, root_of}
 use Rattle.script_names.specs.Names.{Counts, Entities, Meanings, Name, counted, declared, first_of, meanings_of, none_yet}
 use Rattle.script_names.specs.Typed.{reading}
+use Rattle.csp_base.proofs.Lists.{drop_read}
+use Rattle.name_tables.proofs.NameLemmas.{same_meanings}
 
 pub definitions_step : (meanings : Meanings) (kinds : List Kind) (new old whole : List Def) (n next : Counts) (i : ℕ) (decls : List Decl) (d : Decl)
     → i < length decls → d ≡ get_or decls i d → next ≡ counted n d → new ≡ old ++ defined meanings kinds n d
@@ -26,7 +27,7 @@ pub definitions_step : (meanings : Meanings) (kinds : List Kind) (new old whole 
 definitions_step meanings kinds new old whole n next i decls d within is next_is new_is so_far =
     (λ j. new_is j ++ definitions_from meanings kinds (next_is j) (drop (i + 1) decls))
     ∙ append_assoc old (defined meanings kinds n d) (definitions_from meanings kinds (counted n d) (drop (i + 1) decls))
-    ∙ ap (λ rest. old ++ definitions_from meanings kinds n rest) (sym (split_at decls i d within is))
+    ∙ ap (λ rest. old ++ definitions_from meanings kinds n rest) (sym (drop_read decls i d within is))
     ∙ so_far
 
 pub definitions_end : (meanings : Meanings) (kinds : List Kind) (old whole : List Def) (n : Counts) (i : ℕ) (decls : List Decl) → length decls ≤ i
@@ -70,10 +71,6 @@ all_roles meanings kinds = fun_ext (same_roles meanings kinds)
 pub all_resources : (meanings : Meanings) (kinds : List Kind) → resources_in meanings ≡ resources_of meanings kinds
 all_resources meanings kinds = fun_ext (same_resources meanings kinds)
 
--- names that agree in their first declarations mean the same
-pub same_meanings : (names : Entities) (decls : List Decl) → SameFirsts names (declared decls) → first_of names ≡ meanings_of decls
-same_meanings names decls same = fun_ext same
-
 -- what all declarations put into a program
 pub content_is : (names : Entities) (decls : List Decl) (kinds : List Kind) (root : Tree) (made : Content) → SameFirsts names (declared decls) → first_assertion decls ≡ Some root
     → made.events ≡ [] → made.channels ≡ flat_map (channels_of (first_of names) kinds) decls → made.consts ≡ flat_map constants_in decls
@@ -81,7 +78,7 @@ pub content_is : (names : Entities) (decls : List Decl) (kinds : List Kind) (roo
     → made.resources ≡ flat_map (resources_in (first_of names)) decls → made.root ≡ (reading (first_of names) kinds root).net [] 0
     → made ≡ plain_content decls kinds
 content_is names decls kinds root made same asserted events_is channels_is consts_is defs_is roles_is resources_is root_is =
-    let means : first_of names ≡ meanings_of decls = same_meanings names decls same in
+    let means : first_of names ≡ meanings_of decls = same_meanings decls names same in
     let channels_are = channels_is ∙ ap (λ m. flat_map (channels_of m kinds) decls) means in
     let consts_are = consts_is ∙ ap (λ (f : Decl → List Name). flat_map f decls) (all_constants (meanings_of decls) kinds) in
     let defs_are = defs_is ∙ ap (λ m. definitions_from m kinds none_yet decls) means in

@@ -1,8 +1,8 @@
 -- The link of an event, the links of a part, and what is read of a shape.
-use Rattle.std.proofs.Common.{◌≡◌, ℕ, zero, suc, ◌+◌, ◌<◌, ◌≤◌, inl, inr, ◌⊎◌, List, [], ◌∷◌, ◌++◌, length, get_or, cond, true, false, Some, None, IsTrue, nat_eq, refl, sym, ap, subst, ◌∙◌, arith, eq-eqb}
+use Rattle.std.proofs.Common.{◌≡◌, ℕ, zero, suc, ◌+◌, ◌<◌, ◌≤◌, inl, inr, ◌⊎◌, List, ◌∷◌, ◌++◌, length, get_or, cond, true, false, Some, None, IsTrue, nat_eq, refl, sym, ap, subst, ◌∙◌, arith, eq-eqb}
 use Rattle.std.specs.Prelude.{slice_get, slice_index}
 use Rattle.std.proofs.lemmas.Bool.{cases_Bool, cases_eq, cond-true, cond-false, or_cases, or_left, or_right, eqb-true, both_ways, false≢true}
-use Rattle.std.proofs.lemmas.List.Folds.{list_any-append, list_any_at}
+use Rattle.std.proofs.lemmas.List.Folds.{list_any-append}
 use Rattle.std.proofs.lemmas.Option.{slice_get_within, get_or_from_slice_get}
 use Rattle.std.proofs.lemmas.List.{get_or_read, get_or_past}
 use Rattle.csp_base.specs.Members.{has}
@@ -13,6 +13,7 @@ use Rattle.net_sound.proofs.Sharers.{at_three}
 use Rattle.design_rules.proofs.Holders.{one_link}
 use Rattle.design_rules.proofs.Shapes.{first_end}
 use Rattle.shape_links.specs.Links.{IsOwner, AreOwners, ends_below, ends_of}
+use Rattle.csp_base.proofs.Listed.{has_push}
 
 -- a part that has the event is an end of the link that has it
 pub owner_end : (shape : Shape) (i l e : ℕ) → IsWellFormed shape → TripleDisjoint (alphabets_of shape.parts) → i < length shape.parts → IsTrue (has (part_at shape.parts i).alphabet e) → IsOwner shape l e → IsOn shape i l e
@@ -50,9 +51,6 @@ one_owner shape l m e w triple x y =
 pub record AreOwnersBelow (shape : Shape) (n : ℕ) (owners : List ℕ) : Type 0 where
   pub sound : (e l : ℕ) → slice_index owners e ≡ suc l → (l < n) × IsOwner shape l e
   pub complete : (e l : ℕ) → l < n → IsOwner shape l e → slice_index owners e ≡ suc l
-
-pub some_number : (a b : ℕ) → Some a ≡ Some b → a ≡ b
-some_number a b h = cc
 
 pub no_number : (a : ℕ) → None ≡ Some a → ⊥
 no_number a h = cc
@@ -97,17 +95,11 @@ part_read shape parts i p is h at = get_or_read shape.parts i p h (at ∙ ap (λ
 
 -- ---- the links of a part
 
-has-push : (xs : List ℕ) (x y : ℕ) → has (xs ++ x ∷ []) y ≡ true → (has xs y ≡ true) ⊎ (x ≡ y)
-has-push xs x y h = elim (or_cases (has xs y) (has (x ∷ []) y) (sym (list_any-append (λ z. nat_eq z y) xs (x ∷ [])) ∙ h)) [
-  | inl old ↦ inl old
-  | inr new ↦ elim (or_cases (nat_eq x y) false new) [ inl same ↦ inr (eqb-true x y same) | inr never ↦ absurd (false≢true never) ]
-]
-
 pub ends_sound : (shape : Shape) (i n m : ℕ) → has (ends_below shape i n) m ≡ true → (m < n) × IsTrue (is_end shape i m)
 ends_sound shape i zero m h = absurd (false≢true h)
 ends_sound shape i (suc n) m h =
     elim (cases_Bool (is_end shape i n)) [
-      | inl end ↦ elim (has-push (ends_below shape i n) n m (subst (λ xs. has xs m ≡ true) (cond-true (is_end shape i n) (ends_below shape i n ++ n ∷ []) (ends_below shape i n) end) h)) [
+      | inl end ↦ elim (has_push (ends_below shape i n) n m (subst (λ xs. has xs m ≡ true) (cond-true (is_end shape i n) (ends_below shape i n ++ n ∷ []) (ends_below shape i n) end) h)) [
         | inl old ↦ let r = ends_sound shape i n m old in let less : m < n = r.0 in (omega arith, r.1)
         | inr new ↦ subst (λ k. (k < suc n) × IsTrue (is_end shape i k)) new (omega arith, end)
       ]
@@ -142,9 +134,6 @@ pub has_place : (xs : List ℕ) (k x : ℕ) → slice_get xs k ≡ Some x → ha
 has_place [] k x h = absurd (let below : k < length {A = ℕ} [] = slice_get_within [] k x h in omega arith)
 has_place (y ∷ ys) zero x h = let same : y ≡ x = cc in or_left (nat_eq y x) (has ys x) (eq-eqb y x same)
 has_place (y ∷ ys) (suc k) x h = or_right (nat_eq y x) (has ys x) (has_place ys k x h)
-
-pub has_at : (xs : List ℕ) (k : ℕ) → k < length xs → has xs (get_or xs k 0) ≡ true
-has_at xs k h = list_any_at (λ z. nat_eq z (get_or xs k 0)) xs k 0 h (eq-eqb (get_or xs k 0) (get_or xs k 0) refl)
 
 pub some_at : (xs : List ℕ) (k : ℕ) → k < length xs → (x : ℕ) × (slice_get xs k ≡ Some x)
 some_at [] k h = absurd (omega arith)

@@ -1,29 +1,10 @@
 -- Lists that are made one element after another, and chains of outcomes.
-use Rattle.std.proofs.Common.{◌≡◌, ℕ, zero, suc, ◌+◌, ◌<◌, ◌≤◌, Ok, Err, List, [], ◌∷◌, ◌++◌, map, length, get_or, take, drop, refl, ap, sym, ◌∙◌, arith, append_assoc, append-nil}
-use Rattle.std.proofs.lemmas.List.{take_more}
+use Rattle.std.proofs.Common.{◌≡◌, ℕ, ◌+◌, ◌<◌, ◌≤◌, Ok, Err, List, ◌∷◌, ◌++◌, length, get_or, drop, refl, ap, sym, ◌∙◌, append_assoc, append-nil, drop_of_length-le}
 use Rattle.csp_program.specs.Lists.{joined}
 use Rattle.csp_program.specs.Outcome.{Outcome, and_then}
 use Rattle.csp_program.specs.declared.kinds.ValueKind.{ValueKind}
-use Rattle.csp_values.proofs.Steps.{left_of, nothing_left}
 use Rattle.process_steps.specs.Needed.{each_joined}
-
--- the first elements of a list
-pub taken : {A : Type 0} (xs : List A) (i : ℕ) (x : A) → i < length xs → x ≡ get_or xs i x → take (i + 1) xs ≡ take i xs ++ x ∷ []
-taken xs i x lt is = take_more xs i x lt ∙ ap (λ y. take i xs ++ y ∷ []) (sym is)
-
-pub taken_whole : {A : Type 0} (xs : List A) (i : ℕ) → length xs ≤ i → take i xs ≡ xs
-taken_whole [] zero past = refl
-taken_whole [] (suc i) past = refl
-taken_whole (x ∷ xs) zero past = absurd (omega (arith, past))
-taken_whole (x ∷ xs) (suc i) past = ap (λ ys. x ∷ ys) (taken_whole xs i (omega (arith, past)))
-
-pub map_push : {A B : Type 0} (f : A → B) (xs : List A) (x : A) → map f (xs ++ x ∷ []) ≡ map f xs ++ f x ∷ []
-map_push f [] x = refl
-map_push f (y ∷ ys) x = ap (λ zs. f y ∷ zs) (map_push f ys x)
-
-pub map_join : {A B : Type 0} (f : A → B) (xs ys : List A) → map f (xs ++ ys) ≡ map f xs ++ map f ys
-map_join f [] ys = refl
-map_join f (x ∷ xs) ys = ap (λ zs. f x ∷ zs) (map_join f xs ys)
+use Rattle.csp_base.proofs.Lists.{drop_read}
 
 pub joined_push : {A : Type 0} (xss : List (List A)) (xs : List A) → joined (xss ++ xs ∷ []) ≡ joined xss ++ xs
 joined_push [] xs = append-nil xs
@@ -50,7 +31,7 @@ module _ {A B C : Type 0} (f : ℕ → A → Outcome (List B)) (h : List B → L
   pub left_end : (done : List C) (xs : List A) (k i : ℕ) → length xs ≤ i → left f h done k (drop i xs) ≡ Ok done
   unfolding left
   left_end done xs k i past =
-      ap (λ rest. and_then (each_joined f k rest) (λ ys. Ok (done ++ h ys))) (nothing_left xs i past) ∙
+      ap (λ rest. and_then (each_joined f k rest) (λ ys. Ok (done ++ h ys))) (drop_of_length-le xs i past) ∙
       (ap (λ ys. Ok (done ++ ys)) empty ∙ ap (λ ys. Ok ys) (append-nil done))
 
   ahead : (o : Outcome (List B)) (done : List C) (ys : List B)
@@ -74,12 +55,12 @@ module _ {A B C : Type 0} (f : ℕ → A → Outcome (List B)) (h : List B → L
       → left f h done k (drop i xs) ≡ left f h all (k + 1) (drop (i + 1) xs)
   unfolding left
   left_next done all xs k i x lt is e =
-      ap (λ rest. and_then (each_joined f k rest) (λ ys. Ok (done ++ h ys))) (left_of xs i x lt is) ∙
+      ap (λ rest. and_then (each_joined f k rest) (λ ys. Ok (done ++ h ys))) (drop_read xs i x lt is) ∙
       after_one (f k x) (each_joined f (k + 1) (drop (i + 1) xs)) done all e
 
   pub left_fault : (done : List C) (xs : List A) (k i : ℕ) (x : A) (kind : ValueKind) → i < length xs → x ≡ get_or xs i x → and_then (f k x) (λ ys. Ok (done ++ h ys)) ≡ Err kind
       → left f h done k (drop i xs) ≡ Err kind
   unfolding left
   left_fault done xs k i x kind lt is e =
-      ap (λ rest. and_then (each_joined f k rest) (λ ys. Ok (done ++ h ys))) (left_of xs i x lt is) ∙
+      ap (λ rest. and_then (each_joined f k rest) (λ ys. Ok (done ++ h ys))) (drop_read xs i x lt is) ∙
       fault_of_one (f k x) (each_joined f (k + 1) (drop (i + 1) xs)) done kind e

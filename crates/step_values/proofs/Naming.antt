@@ -1,10 +1,10 @@
 -- The new events that a renaming names for an old one, pair by pair.
-use Rattle.std.proofs.Common.{◌≡◌, ℕ, ◌+◌, ◌<◌, Bool, true, false, cond, Ok, Err, List, [], ◌∷◌, ◌++◌, map, length, get_or, take, refl, ap, sym, ◌∙◌}
+use Rattle.std.proofs.Common.{◌≡◌, ℕ, ◌+◌, ◌<◌, Bool, true, false, cond, Ok, Err, List, ◌∷◌, ◌++◌, map, length, get_or, take, refl, ap, sym, ◌∙◌}
 use Rattle.std.proofs.lemmas.List.Elements.{filter_more}
 use Rattle.std.specs.List.{filter}
 use Rattle.std.specs.Prelude.{nat_eq, IfOk, Result}
 use Rattle.process_steps.specs.Renaming.{Renamed, or_itself}
-use Rattle.step_values.proofs.Lists.{map_join}
+use Rattle.std.proofs.lemmas.List.{map-append}
 
 new_side : (b : Bool) (x : Renamed) → map (λ (r : Renamed). r.1) (cond b (x ∷ []) []) ≡ cond b (x.1 ∷ []) []
 new_side true x = refl
@@ -16,7 +16,7 @@ pub more_named : (e : ℕ) (xs : List Renamed) (i : ℕ) (x : Renamed) → i < l
 more_named e xs i x lt is =
     let before = filter (λ (r : Renamed). nat_eq r.0 e) (take i xs) in
     ap (map (λ (r : Renamed). r.1)) (filter_more (λ (r : Renamed). nat_eq r.0 e) xs i x lt ∙ ap (λ (y : Renamed). before ++ cond (nat_eq y.0 e) (y ∷ []) []) (sym is)) ∙
-    (map_join (λ (r : Renamed). r.1) before (cond (nat_eq x.0 e) (x ∷ []) []) ∙ ap (λ ys. map (λ (r : Renamed). r.1) before ++ ys) (new_side (nat_eq x.0 e) x))
+    (map-append (λ (r : Renamed). r.1) before (cond (nat_eq x.0 e) (x ∷ []) []) ∙ ap (λ ys. map (λ (r : Renamed). r.1) before ++ ys) (new_side (nat_eq x.0 e) x))
 
 pub or_some : (e : ℕ) (xs ys : List ℕ) → ys ≡ xs → (ys ≡ [] → ⊥) → ys ≡ or_itself e xs
 or_some e [] ys same some = absurd (some same)

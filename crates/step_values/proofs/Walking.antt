@@ -1,5 +1,5 @@
 -- A renaming as it is walked: what each list of generators comes to, from what is left of it.
-use Rattle.std.proofs.Common.{◌≡◌, ℕ, ◌+◌, ◌<◌, ◌≤◌, Bool, cond, Ok, Err, List, [], ◌∷◌, length, get_or, drop, map, refl, ap, sym, ◌∙◌, subst}
+use Rattle.std.proofs.Common.{◌≡◌, ℕ, ◌+◌, ◌<◌, ◌≤◌, Bool, cond, Ok, Err, List, ◌∷◌, length, get_or, drop, map, refl, ap, sym, ◌∙◌, subst, drop_of_length-le}
 use Rattle.std.specs.Prelude.{Result}
 use Rattle.std.specs.Result.{IsErrAnd}
 use Rattle.csp_program.specs.Outcome.{Outcome, and_then}
@@ -13,7 +13,6 @@ use Rattle.csp_program.specs.declared.expressions.Gen.TheVariants as generator
 use Rattle.csp_program.specs.declared.kinds.ValueKind.{ValueKind}
 use Rattle.csp_program.specs.declared.programs.Content.{Content}
 use Rattle.csp_values.proofs.Equations.{turn-Cond, turn-From}
-use Rattle.csp_values.proofs.Steps.{left_of, nothing_left}
 use Rattle.csp_values.specs.Worth.{worth}
 use Rattle.process_steps.specs.Renaming.{Gathering, binding_renamed, renaming_in}
 use Rattle.step_values.specs.Walked.{GivesTally, renamed_each, renamed_walk}
@@ -21,6 +20,8 @@ use Rattle.step_values.specs.declared.renaming.Tally.{Tally}
 use Rattle.value_operators.specs.Gives.{Gives}
 use Rattle.value_operators.specs.declared.fault.EvalFault.{EvalFault}
 use Rattle.value_operators.specs.declared.fault.EvalFault.TheVariants as fault
+use Rattle.csp_base.proofs.Lists.{drop_read}
+use Rattle.csp_program.proofs.Outcomes.{and_then_regroup}
 
 -- a fault of a part is a fault of the generators that it stands in
 tally_gone : {A : Type 0} (f : EvalFault) (part : Outcome A) (whole : Outcome Gathering) → Gives {A = A} (Err f) part → ((k : ValueKind) → part ≡ Err k → whole ≡ Err k) → GivesTally (Err f) whole
@@ -53,11 +54,6 @@ value_of_tally {A = A} (Err y) f part whole is h passes = rw is (gone f h)
     gone fault.NoMemory k = tt
     gone (fault.Value kind) k = passes kind k
 
--- two steps, and then a third
-one_then : {A B C : Type 0} (o : Outcome A) (f : A → Outcome B) (g : B → Outcome C) → and_then o (λ a. and_then (f a) g) ≡ and_then (and_then o f) g
-one_then (Ok a) f g = refl
-one_then (Err k) f g = refl
-
 module _ (p : Content) (pairs : List (EventPart × EventPart)) where
   pub walk_none : (gens : List Gen) (env : Env) (state : Gathering) → gens ≡ [] → renamed_walk p pairs gens env state ≡ binding_renamed p pairs env state
   unfolding renamed_walk
@@ -80,13 +76,13 @@ module _ (p : Content) (pairs : List (EventPart × EventPart)) where
       → renamed_walk p pairs (generator.From x s ∷ gens) env state ≡ and_then o (λ atoms. renamed_each p pairs x atoms gens env state)
   walk_from x s gens env state o came =
       walk-From x s gens env state ∙
-      (one_then (worth p (length p.defs) env s) as_set (λ atoms. renamed_each p pairs x atoms gens env state) ∙ ap (λ z. and_then z (λ atoms. renamed_each p pairs x atoms gens env state)) came)
+      (and_then_regroup (worth p (length p.defs) env s) as_set (λ atoms. renamed_each p pairs x atoms gens env state) ∙ ap (λ z. and_then z (λ atoms. renamed_each p pairs x atoms gens env state)) came)
 
   pub walk_cond : (c : Expr) (gens : List Gen) (env : Env) (state : Gathering) (o : Outcome Bool) → and_then (worth p (length p.defs) env c) as_truth ≡ o
       → renamed_walk p pairs (generator.Cond c ∷ gens) env state ≡ and_then o (λ b. cond b (renamed_walk p pairs gens env state) (Ok state))
   walk_cond c gens env state o came =
       walk-Cond c gens env state ∙
-      (one_then (worth p (length p.defs) env c) as_truth (λ b. cond b (renamed_walk p pairs gens env state) (Ok state)) ∙ ap (λ z. and_then z (λ b. cond b (renamed_walk p pairs gens env state) (Ok state))) came)
+      (and_then_regroup (worth p (length p.defs) env c) as_truth (λ b. cond b (renamed_walk p pairs gens env state) (Ok state)) ∙ ap (λ z. and_then z (λ b. cond b (renamed_walk p pairs gens env state) (Ok state))) came)
 
   each_none : (x : ℕ) (gens : List Gen) (env : Env) (state : Gathering) → renamed_each p pairs x [] gens env state ≡ Ok state
   unfolding renamed_each
@@ -98,12 +94,12 @@ module _ (p : Content) (pairs : List (EventPart × EventPart)) where
   each_some x a atoms gens env state = refl
 
   pub each_end : (x : ℕ) (atoms : List Atom) (gens : List Gen) (env : Env) (state : Gathering) (i : ℕ) → length atoms ≤ i → renamed_each p pairs x (drop i atoms) gens env state ≡ Ok state
-  each_end x atoms gens env state i past = ap (λ xs. renamed_each p pairs x xs gens env state) (nothing_left atoms i past) ∙ each_none x gens env state
+  each_end x atoms gens env state i past = ap (λ xs. renamed_each p pairs x xs gens env state) (drop_of_length-le atoms i past) ∙ each_none x gens env state
 
   module _ (x : ℕ) (atoms : List Atom) (gens : List Gen) (env inner : Env) (state : Gathering) (i : ℕ) (a : Atom) (lt : i < length atoms) (is : a ≡ get_or atoms i a) (named : inner ≡ (x, One a) ∷ env) where
     each_here : renamed_each p pairs x (drop i atoms) gens env state ≡ and_then (renamed_walk p pairs gens inner state) (λ next. renamed_each p pairs x (drop (i + 1) atoms) gens env next)
     each_here =
-        ap (λ xs. renamed_each p pairs x xs gens env state) (left_of atoms i a lt is) ∙
+        ap (λ xs. renamed_each p pairs x xs gens env state) (drop_read atoms i a lt is) ∙
         (each_some x a (drop (i + 1) atoms) gens env state ∙ ap (λ e. and_then (renamed_walk p pairs gens e state) (λ next. renamed_each p pairs x (drop (i + 1) atoms) gens env next)) (sym named))
 
     pub each_fault : (k : ValueKind) → renamed_walk p pairs gens inner state ≡ Err k → renamed_each p pairs x (drop i atoms) gens env state ≡ Err k

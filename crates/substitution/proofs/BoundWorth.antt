@@ -1,5 +1,5 @@
 -- An expression with a value put in place of a name is worth what it is worth where the name is bound to the value.
-use Rattle.std.proofs.Common.{◌≡◌, ℕ, suc, ◌+◌, ◌*◌, ◌⊎◌, Bool, true, false, cond, ◌||◌, nat_eq, Option, Some, None, Ok, Err, List, [], ◌∷◌, map, length, drop, refl, ap, sym, ◌∙◌, subst, inl, inr}
+use Rattle.std.proofs.Common.{◌≡◌, ℕ, suc, ◌+◌, ◌*◌, ◌⊎◌, Bool, true, false, cond, ◌||◌, nat_eq, Option, Some, None, Ok, Err, List, ◌∷◌, map, length, drop, refl, ap, sym, ◌∙◌, subst, inl, inr}
 use Rattle.std.specs.Prelude.{is_none, nat_lt, slice_get}
 use Rattle.std.proofs.lemmas.Bool.{false≢true, eq-eqb, eqb-true}
 use Rattle.csp_program.specs.Atoms.{added, all_added, events_from}
@@ -24,10 +24,7 @@ use Rattle.csp_program.specs.declared.programs.Channel.{Channel}
 use Rattle.substitution.specs.Parts.{expr_after, gen_after, part_after, exprs_after, gens_after, parts_after}
 use Rattle.substitution.proofs.ExprEquations as puts
 use Rattle.substitution.proofs.ListEquations.{exprs_bound, gens_bound, parts_bound}
-
-or_false : (b : Bool) → (b || false) ≡ b
-or_false true = refl
-or_false false = refl
+use Rattle.std.proofs.Math.Bool.{or-false}
 
 -- a name is bound by the first of some generators, or by the others
 one_or_rest : (b t u : Bool) → ((b || t) || u) ≡ (b || cond t true u)
@@ -219,13 +216,13 @@ module _ (u : Uses) (channels : List Channel) (x : ℕ) (v : Value) where
   walk_when : (c : Expr) (gens : List Gen) → SameExpr c → ((b : Bool) → Walk gens b) → (b : Bool) → Walk (generator.Cond c ∷ gens) b
   walk_when c gens same rest b g g' h env env' r state =
       ap (λ (t : Turn). walked (t ∷ map T (gens_after x v (b || binds x (generator.Cond c)) gens)) g env state) (when_after b c) ∙
-      (ap (λ (t : Bool). walked (when (M (after b c)) ∷ map T (gens_after x v t gens)) g env state) (ap (λ (t : Bool). b || t) (binds_none x c) ∙ or_false b) ∙
+      (ap (λ (t : Bool). walked (when (M (after b c)) ∷ map T (gens_after x v t gens)) g env state) (ap (λ (t : Bool). b || t) (binds_none x c) ∙ or-false b) ∙
       ((λ i. and_then (same b env env' r i) (λ w. and_then (as_truth w) (λ t. cond t
       (rest b g g' (λ e e' k. h e e' (subst (λ t. Alike t e e') (ap (λ (t : Bool). b || cond t true (any_binds x gens)) (sym (binds_none x c))) k)) env env' r state i) (Ok state)))) ∙
       ap (λ (t : Turn). walked (t ∷ map T gens) g' env' state) (sym (turn_when c))))
 
   walks : (gs : List KnownGen) (b : Bool) → Walk (gens_of gs) b
-  walks [] b = λ g g' h env env' r state. h env env' (subst (λ t. Alike t env env') (sym (or_false b)) r) state
+  walks [] b = λ g g' h env env' r state. h env env' (subst (λ t. Alike t env env') (sym (or-false b)) r) state
   walks (k ∷ gs) b =
       elim k.1 [
         | inl f ↦ subst (λ (g : Gen). Walk (g ∷ gens_of gs) b) (sym f.2) (walk_from f.0 f.1 (gens_of gs) f.3 (walks gs) b)

@@ -1,5 +1,5 @@
 -- An expression in which a name isn't free stays as it is when a value is put in place of that name.
-use Rattle.std.proofs.Common.{◌≡◌, ℕ, Bool, true, false, cond, not, ◌&&◌, ◌||◌, nat_eq, List, [], ◌∷◌, map, refl, ap, sym, ◌∙◌, subst}
+use Rattle.std.proofs.Common.{◌≡◌, ℕ, Bool, true, false, cond, not, ◌&&◌, ◌||◌, nat_eq, List, ◌∷◌, map, refl, ap, sym, ◌∙◌, subst}
 use Rattle.std.proofs.lemmas.Bool.{false≢true}
 use Rattle.csp_program.specs.Free.{Names, Binding, any_of, under, expr_free, gen_binding, part_free, expr_free_of_layer, gen_free_of_layer}
 use Rattle.csp_program.specs.Substitution.{any_binds, binds, layer_binds}
@@ -16,14 +16,7 @@ use Rattle.substitution.specs.Parts.{expr_after, gen_after, part_after, exprs_af
 use Rattle.substitution.proofs.ExprEquations as puts
 use Rattle.substitution.proofs.ExprFree.{expr_rolls, gen_rolls, part_rolls}
 use Rattle.substitution.proofs.ListEquations.{gens_bound, exprs_bound, parts_bound}
-
-pub first_false : (a b : Bool) → (a || b) ≡ false → a ≡ false
-first_false true b h = h
-first_false false b h = refl
-
-pub second_false : (a b : Bool) → (a || b) ≡ false → b ≡ false
-second_false true b h = absurd (false≢true (sym h))
-second_false false b h = h
+use Rattle.csp_base.proofs.Booleans.{or_first_false, or_second_false}
 
 layer_binding : (x : ℕ) (d : Gen-F Expr Gen EventPart) → (gen_free_of_layer (map-Gen Expr Gen EventPart Names Binding Names expr_free gen_binding part_free d)).1 x ≡ layer_binds x d
 layer_binding x (Gen-F.From y s) = refl
@@ -66,8 +59,8 @@ module _ (x : ℕ) (v : Value) where
   exprs_stay : (es : List KnownExpr) → any_of (map expr_free (exprs_of es)) x ≡ false → exprs_after x v false (exprs_of es) ≡ exprs_of es
   exprs_stay [] h = refl
   exprs_stay (e ∷ es) h = λ i.
-      e.1 (first_false (expr_free e.0 x) (any_of (map expr_free (exprs_of es)) x) h) i ∷
-      exprs_stay es (second_false (expr_free e.0 x) (any_of (map expr_free (exprs_of es)) x) h) i
+      e.1 (or_first_false (expr_free e.0 x) (any_of (map expr_free (exprs_of es)) x) h) i ∷
+      exprs_stay es (or_second_false (expr_free e.0 x) (any_of (map expr_free (exprs_of es)) x) h) i
 
   exprs_under : (b : Bool) (es : List KnownExpr) → (b ≡ false → any_of (map expr_free (exprs_of es)) x ≡ false) → exprs_after x v b (exprs_of es) ≡ exprs_of es
   exprs_under true es h = exprs_bound x v (exprs_of es)
@@ -76,8 +69,8 @@ module _ (x : ℕ) (v : Value) where
   parts_stay : (ps : List KnownPart) → any_of (map part_free (parts_of ps)) x ≡ false → parts_after x v false (parts_of ps) ≡ parts_of ps
   parts_stay [] h = refl
   parts_stay (p ∷ ps) h = λ i.
-      p.1 (first_false (part_free p.0 x) (any_of (map part_free (parts_of ps)) x) h) i ∷
-      parts_stay ps (second_false (part_free p.0 x) (any_of (map part_free (parts_of ps)) x) h) i
+      p.1 (or_first_false (part_free p.0 x) (any_of (map part_free (parts_of ps)) x) h) i ∷
+      parts_stay ps (or_second_false (part_free p.0 x) (any_of (map part_free (parts_of ps)) x) h) i
 
   parts_under : (b : Bool) (ps : List KnownPart) → (b ≡ false → any_of (map part_free (parts_of ps)) x ≡ false) → parts_after x v b (parts_of ps) ≡ parts_of ps
   parts_under true ps h = parts_bound x v (parts_of ps)
@@ -90,10 +83,10 @@ module _ (x : ℕ) (v : Value) where
   gens_stay : (gs : List KnownGen) (inner : Names) → under (map gen_binding (gens_of gs)) inner x ≡ false → GensStay false (gens_of gs) inner
   gens_stay [] inner h = (refl, λ e. h)
   gens_stay (g ∷ gs) inner h =
-      let first = g.1 (first_false ((gen_binding g.0).0 x) (not ((gen_binding g.0).1 x) && under (map gen_binding (gens_of gs)) inner x) h) in
+      let first = g.1 (or_first_false ((gen_binding g.0).0 x) (not ((gen_binding g.0).1 x) && under (map gen_binding (gens_of gs)) inner x) h) in
       let behind : (not (binds x g.0) && under (map gen_binding (gens_of gs)) inner x) ≡ false =
       ap (λ b. not b && under (map gen_binding (gens_of gs)) inner x) (sym (binding_is x g.0)) ∙
-      second_false ((gen_binding g.0).0 x) (not ((gen_binding g.0).1 x) && under (map gen_binding (gens_of gs)) inner x) h in
+      or_second_false ((gen_binding g.0).0 x) (not ((gen_binding g.0).1 x) && under (map gen_binding (gens_of gs)) inner x) h in
       let rest : GensStay (binds x g.0) (gens_of gs) inner =
       (elim (binds x g.0) as (λ b. (not b && under (map gen_binding (gens_of gs)) inner x) ≡ false → GensStay b (gens_of gs) inner) [
         | true ↦ λ k. (gens_bound x v (gens_of gs), λ e. absurd (false≢true (sym e)))
@@ -138,12 +131,12 @@ module _ (x : ℕ) (v : Value) where
       (λ h i. expr.Not (a.1 h i))
   expr_layer (Expr-F.Binary o a b) =
       step (expr.Binary o a.0 b.0) (expr.Binary o (expr_after x v a.0) (expr_after x v b.0)) (Expr-F.Binary o a.0 b.0) (expr.rolls-Binary o a.0 b.0) (puts.expr_after-Binary x v o a.0 b.0)
-      (λ h i. expr.Binary o (a.1 (first_false (expr_free a.0 x) (expr_free b.0 x) h) i) (b.1 (second_false (expr_free a.0 x) (expr_free b.0 x) h) i))
+      (λ h i. expr.Binary o (a.1 (or_first_false (expr_free a.0 x) (expr_free b.0 x) h) i) (b.1 (or_second_false (expr_free a.0 x) (expr_free b.0 x) h) i))
   expr_layer (Expr-F.If c a b) =
       step (expr.If c.0 a.0 b.0) (expr.If (expr_after x v c.0) (expr_after x v a.0) (expr_after x v b.0)) (Expr-F.If c.0 a.0 b.0) (expr.rolls-If c.0 a.0 b.0) (puts.expr_after-If x v c.0 a.0 b.0)
-      (λ h i. expr.If (c.1 (first_false (expr_free c.0 x) (expr_free a.0 x || expr_free b.0 x) h) i)
-      (a.1 (first_false (expr_free a.0 x) (expr_free b.0 x) (second_false (expr_free c.0 x) (expr_free a.0 x || expr_free b.0 x) h)) i)
-      (b.1 (second_false (expr_free a.0 x) (expr_free b.0 x) (second_false (expr_free c.0 x) (expr_free a.0 x || expr_free b.0 x) h)) i))
+      (λ h i. expr.If (c.1 (or_first_false (expr_free c.0 x) (expr_free a.0 x || expr_free b.0 x) h) i)
+      (a.1 (or_first_false (expr_free a.0 x) (expr_free b.0 x) (or_second_false (expr_free c.0 x) (expr_free a.0 x || expr_free b.0 x) h)) i)
+      (b.1 (or_second_false (expr_free a.0 x) (expr_free b.0 x) (or_second_false (expr_free c.0 x) (expr_free a.0 x || expr_free b.0 x) h)) i))
   expr_layer (Expr-F.Call d args) =
       step (expr.Call d (exprs_of args)) (expr.Call d (exprs_after x v false (exprs_of args))) (Expr-F.Call d (exprs_of args)) (expr.rolls-Call d (exprs_of args)) (puts.expr_after-Call x v d (exprs_of args))
       (λ h i. expr.Call d (exprs_stay args h i))
@@ -158,7 +151,7 @@ module _ (x : ℕ) (v : Value) where
       (λ h i. expr.Display (exprs_stay items h i))
   expr_layer (Expr-F.Range a b) =
       step (expr.Range a.0 b.0) (expr.Range (expr_after x v a.0) (expr_after x v b.0)) (Expr-F.Range a.0 b.0) (expr.rolls-Range a.0 b.0) (puts.expr_after-Range x v a.0 b.0)
-      (λ h i. expr.Range (a.1 (first_false (expr_free a.0 x) (expr_free b.0 x) h) i) (b.1 (second_false (expr_free a.0 x) (expr_free b.0 x) h) i))
+      (λ h i. expr.Range (a.1 (or_first_false (expr_free a.0 x) (expr_free b.0 x) h) i) (b.1 (or_second_false (expr_free a.0 x) (expr_free b.0 x) h) i))
   expr_layer (Expr-F.Comp items gens) =
       step (expr.Comp (exprs_of items) (gens_of gens)) (expr.Comp (exprs_after x v (any_binds x (gens_of gens)) (exprs_of items)) (gens_after x v false (gens_of gens))) (Expr-F.Comp (exprs_of items) (gens_of gens)) (expr.rolls-Comp (exprs_of items) (gens_of gens)) (puts.expr_after-Comp x v (exprs_of items) (gens_of gens))
       (λ h i. expr.Comp (exprs_under (any_binds x (gens_of gens)) items (gens_stay gens (any_of (map expr_free (exprs_of items))) h).1 i) ((gens_stay gens (any_of (map expr_free (exprs_of items))) h).0 i))
@@ -167,7 +160,7 @@ module _ (x : ℕ) (v : Value) where
       (λ h i. expr.Product (parts_under (any_binds x (gens_of gens)) parts (gens_stay gens (any_of (map part_free (parts_of parts))) h).1 i) ((gens_stay gens (any_of (map part_free (parts_of parts))) h).0 i))
   expr_layer (Expr-F.SetOp o a b) =
       step (expr.SetOp o a.0 b.0) (expr.SetOp o (expr_after x v a.0) (expr_after x v b.0)) (Expr-F.SetOp o a.0 b.0) (expr.rolls-SetOp o a.0 b.0) (puts.expr_after-SetOp x v o a.0 b.0)
-      (λ h i. expr.SetOp o (a.1 (first_false (expr_free a.0 x) (expr_free b.0 x) h) i) (b.1 (second_false (expr_free a.0 x) (expr_free b.0 x) h) i))
+      (λ h i. expr.SetOp o (a.1 (or_first_false (expr_free a.0 x) (expr_free b.0 x) h) i) (b.1 (or_second_false (expr_free a.0 x) (expr_free b.0 x) h) i))
 
   gen_layer : (y : Gen-F KnownExpr KnownGen KnownPart) → StaysGen (roll-Gen (map-Gen KnownExpr KnownGen KnownPart Expr Gen EventPart (λ e. e.0) (λ e. e.0) (λ e. e.0) y))
   gen_layer (Gen-F.From n s) h =

@@ -1,6 +1,6 @@
 -- Lists of parts with a value put in, in the two ways that they are written.
-use Rattle.std.proofs.Common.{◌≡◌, ℕ, suc, ◌+◌, ◌<◌, Bool, true, false, cond, nat_eq, if◌then◌else◌, Some, None, Ok, Err, List, [], ◌∷◌, ◌++◌, map, length, get_or, drop, ap, sym, ◌∙◌, refl, add-one, append_assoc, drop-cons}
-use Rattle.std.specs.Prelude.{IfOk, IsOkAnd, Result}
+use Rattle.std.proofs.Common.{◌≡◌, ℕ, ◌+◌, ◌<◌, Bool, true, false, cond, nat_eq, if◌then◌else◌, Some, None, Ok, Err, List, ◌∷◌, ◌++◌, map, length, get_or, drop, ap, sym, ◌∙◌, refl, append_assoc}
+use Rattle.std.specs.Prelude.{IfOk, Result}
 use Rattle.substitution.specs.Parts.{expr_after, gen_after, part_after, proc_after, exprs_after, gens_after, parts_after, pairs_after, fields_after, procs_after}
 use Rattle.csp_program.specs.Substitution.{expr_with, gen_with, part_with, pair_with, fields_with, proc_with, changed, kept, Twice, all_unless_bound, any_binds, binds, gens_with, gen_twice, pair_twice}
 use Rattle.csp_atoms.specs.declared.value.Value.{Value}
@@ -10,6 +10,7 @@ use Rattle.csp_program.specs.declared.expressions.Gen.{Gen}
 use Rattle.csp_program.specs.declared.processes.Field.{Field}
 use Rattle.csp_program.specs.declared.processes.Field.TheVariants as field
 use Rattle.csp_program.specs.declared.processes.Proc.{Proc}
+use Rattle.csp_base.proofs.Lists.{drop_read}
 
 abbrev pub twice : ℕ → Value → Expr → Twice Expr
 twice x v e = (e, expr_with x v e)
@@ -130,19 +131,10 @@ module _ {E : Type 0} (x : ℕ) (v : Value) where
   pairs_kept b ps (Ok made) e h = h ∙ (sym (pairs_bound x v ps) ∙ ap (λ t. pairs_after x v t ps) (sym e))
   pairs_kept b ps (Err f) e h = h
 
--- one part more is made
-left_of : {A : Type 0} (xs : List A) (i : ℕ) (x : A) → i < length xs → x ≡ get_or xs i x → drop i xs ≡ x ∷ drop (i + 1) xs
-left_of xs i x lt is = rw (add-one i) (drop-cons xs i x lt ∙ ap (λ y. y ∷ drop (suc i) xs) (sym is))
-
 pub next_made : {A B : Type 0} (f : List A → List B) (xs : List A) (i : ℕ) (x : A) (y : B) (tail made more whole : List B) → i < length xs → x ≡ get_or xs i x → f (x ∷ drop (i + 1) xs) ≡ y ∷ tail
     → made ++ f (drop i xs) ≡ whole → more ≡ made ++ y ∷ [] → more ++ tail ≡ whole
 next_made f xs i x y tail made more whole lt is step h grown =
     ap (λ ys. ys ++ tail) grown ∙
     (append_assoc made (y ∷ []) tail ∙
     (ap (λ ys. made ++ ys) (sym step) ∙
-    (ap (λ rest. made ++ f rest) (sym (left_of xs i x lt is)) ∙ h)))
-
--- what was made is put at the end
-pub pushed : {A E : Type 0} (made : Result A E) (value : A) (old new : List A) → IfOk made (λ part. part ≡ value) → IsOkAnd made (λ item. new ≡ old ++ item ∷ []) → new ≡ old ++ value ∷ []
-pushed (Ok part) value old new is put = put ∙ ap (λ item. old ++ item ∷ []) is
-pushed (Err e) value old new is put = elim put [ ]
+    (ap (λ rest. made ++ f rest) (sym (drop_read xs i x lt is)) ∙ h)))

@@ -2,10 +2,7 @@
 use Rattle.std.proofs.Common.{◌≡◌, ℕ, Bool, true, false, cond, not, ◌&&◌, ◌||◌, nat_eq, refl, ap, sym, ◌∙◌}
 use Rattle.std.proofs.lemmas.Bool.{false≢true, eqb-true}
 use Rattle.csp_program.specs.Free.{Names, Binding, nowhere, either, apart_from}
-
-and_false : (b : Bool) → (b && false) ≡ false
-and_false true = refl
-and_false false = refl
+use Rattle.csp_base.proofs.Booleans.{and_false}
 
 distributes : (n p q : Bool) → ((n && p) || (n && q)) ≡ (n && (p || q))
 distributes true p q = refl

@@ -11,9 +11,10 @@ use Rattle.csp_program.specs.declared.networks.Net.TheViews.{roll-Net}
 use Rattle.substitution.specs.Networks.{net_after, net_below}
 use Rattle.substitution.specs.Parts.{expr_after, proc_after, exprs_after}
 use Rattle.substitution.proofs.NetEquations as puts
-use Rattle.substitution.proofs.ExprStays.{expr_stays, first_false, second_false}
+use Rattle.substitution.proofs.ExprStays.{expr_stays}
 use Rattle.substitution.proofs.NetFree.{net_rolls}
 use Rattle.substitution.proofs.ProcStays.{proc_stays, exprs_stay, not_hidden}
+use Rattle.csp_base.proofs.Booleans.{or_first_false, or_second_false}
 
 module _ (x : ℕ) (v : Value) where
   abbrev pub StaysNet : Net → Type 0
@@ -48,18 +49,18 @@ module _ (x : ℕ) (v : Value) where
   layer (Net-F.If c n m) =
       step (net.If c n.0 m.0) (net.If (expr_after x v c) (net_after x v n.0) (net_after x v m.0)) (Net-F.If c n.0 m.0)
       (net.rolls-If c n.0 m.0) (puts.net_after-If x v c n.0 m.0)
-      (λ h i. net.If (expr_stays x v c (first_false (expr_free c x) (net_free n.0 x || net_free m.0 x) h) i) (n.1 (first_false (net_free n.0 x) (net_free m.0 x) (second_false (expr_free c x) (net_free n.0 x || net_free m.0 x) h)) i) (m.1 (second_false (net_free n.0 x) (net_free m.0 x) (second_false (expr_free c x) (net_free n.0 x || net_free m.0 x) h)) i))
+      (λ h i. net.If (expr_stays x v c (or_first_false (expr_free c x) (net_free n.0 x || net_free m.0 x) h) i) (n.1 (or_first_false (net_free n.0 x) (net_free m.0 x) (or_second_false (expr_free c x) (net_free n.0 x || net_free m.0 x) h)) i) (m.1 (or_second_false (net_free n.0 x) (net_free m.0 x) (or_second_false (expr_free c x) (net_free n.0 x || net_free m.0 x) h)) i))
   layer (Net-F.Pair n a b m) =
       step (net.Pair n.0 a b m.0) (net.Pair (net_after x v n.0) (expr_after x v a) (expr_after x v b) (net_after x v m.0)) (Net-F.Pair n.0 a b m.0)
       (net.rolls-Pair n.0 a b m.0) (puts.net_after-Pair x v n.0 a b m.0)
-      (λ h i. net.Pair (n.1 (first_false (net_free n.0 x) (expr_free a x || (expr_free b x || net_free m.0 x)) h) i) (expr_stays x v a (first_false (expr_free a x) (expr_free b x || net_free m.0 x) (second_false (net_free n.0 x) (expr_free a x || (expr_free b x || net_free m.0 x)) h)) i)
-      (expr_stays x v b (first_false (expr_free b x) (net_free m.0 x) (second_false (expr_free a x) (expr_free b x || net_free m.0 x) (second_false (net_free n.0 x) (expr_free a x || (expr_free b x || net_free m.0 x)) h))) i) (m.1 (second_false (expr_free b x) (net_free m.0 x) (second_false (expr_free a x) (expr_free b x || net_free m.0 x) (second_false (net_free n.0 x) (expr_free a x || (expr_free b x || net_free m.0 x)) h))) i))
+      (λ h i. net.Pair (n.1 (or_first_false (net_free n.0 x) (expr_free a x || (expr_free b x || net_free m.0 x)) h) i) (expr_stays x v a (or_first_false (expr_free a x) (expr_free b x || net_free m.0 x) (or_second_false (net_free n.0 x) (expr_free a x || (expr_free b x || net_free m.0 x)) h)) i)
+      (expr_stays x v b (or_first_false (expr_free b x) (net_free m.0 x) (or_second_false (expr_free a x) (expr_free b x || net_free m.0 x) (or_second_false (net_free n.0 x) (expr_free a x || (expr_free b x || net_free m.0 x)) h))) i) (m.1 (or_second_false (expr_free b x) (net_free m.0 x) (or_second_false (expr_free a x) (expr_free b x || net_free m.0 x) (or_second_false (net_free n.0 x) (expr_free a x || (expr_free b x || net_free m.0 x)) h))) i))
   layer (Net-F.Each y s a n) =
       step (net.Each y s a n.0) (net.Each y (expr_after x v s) (cond (nat_eq y x) a (expr_after x v a)) (net_below x v (nat_eq y x) n.0)) (Net-F.Each y s a n.0)
       (net.rolls-Each y s a n.0) (puts.net_after-Each x v y s a n.0)
-      (λ h i. net.Each y (expr_stays x v s (first_false (expr_free s x) (not (nat_eq y x) && (expr_free a x || net_free n.0 x)) h) i)
-      (alphabet (nat_eq y x) a (λ z. first_false (expr_free a x) (net_free n.0 x) (not_hidden x v (nat_eq y x) (expr_free a x || net_free n.0 x) (second_false (expr_free s x) (not (nat_eq y x) && (expr_free a x || net_free n.0 x)) h) z)) i)
-      (below (nat_eq y x) n (λ z. second_false (expr_free a x) (net_free n.0 x) (not_hidden x v (nat_eq y x) (expr_free a x || net_free n.0 x) (second_false (expr_free s x) (not (nat_eq y x) && (expr_free a x || net_free n.0 x)) h) z)) i))
+      (λ h i. net.Each y (expr_stays x v s (or_first_false (expr_free s x) (not (nat_eq y x) && (expr_free a x || net_free n.0 x)) h) i)
+      (alphabet (nat_eq y x) a (λ z. or_first_false (expr_free a x) (net_free n.0 x) (not_hidden x v (nat_eq y x) (expr_free a x || net_free n.0 x) (or_second_false (expr_free s x) (not (nat_eq y x) && (expr_free a x || net_free n.0 x)) h) z)) i)
+      (below (nat_eq y x) n (λ z. or_second_false (expr_free a x) (net_free n.0 x) (not_hidden x v (nat_eq y x) (expr_free a x || net_free n.0 x) (or_second_false (expr_free s x) (not (nat_eq y x) && (expr_free a x || net_free n.0 x)) h) z)) i))
 
   pub net_stays : (n : Net) → StaysNet n
   net_stays = ind-Net StaysNet (λ z y e. subst (λ w. StaysNet (roll-Net w)) e (layer y))

@@ -1,6 +1,6 @@
 -- What a process becomes where another one takes the place of its first sub-process.
-use Rattle.std.proofs.Common.{◌≡◌, ℕ, ◌<◌, true, nat_lt, List, [], ◌∷◌, map, length, refl, ap, sym, ◌∙◌, subst, arith}
-use Rattle.std.proofs.lemmas.Bool.{lt-ltb}
+use Rattle.std.proofs.Common.{◌≡◌, ℕ, ◌<◌, true, nat_lt, List, ◌∷◌, map, length, refl, ap, sym, ◌∙◌, subst, arith}
+use Rattle.std.proofs.lemmas.Bool.{lt-ltb, and_from}
 use Rattle.std.specs.Cmp.{second_so}
 use Rattle.csp_program.specs.declared.expressions.EventPart.{EventPart}
 use Rattle.csp_program.specs.declared.expressions.Expr.{Expr}
@@ -12,7 +12,7 @@ use Rattle.csp_program.specs.declared.processes.Proc.TheOpen.{Proc-F}
 use Rattle.csp_program.specs.declared.processes.Proc.TheVariants as proc
 use Rattle.csp_program.specs.declared.processes.Proc.TheViews.{out-Proc, out-roll-Proc}
 use Rattle.term_pool.proofs.NodeLemmas.{layer_of, layer_out}
-use Rattle.term_pool.proofs.TreeLemmas.{all_below_more, both_so}
+use Rattle.term_pool.proofs.TreeLemmas.{all_below_more}
 use Rattle.term_pool.specs.First.{layer_with_first, node_with_first, other_first, with_first}
 use Rattle.term_pool.specs.Trees.{tree_at, layer_tree, layer_ids, all_below, layer_below}
 use Rattle.term_pool.specs.Layers.{Layer}
@@ -102,7 +102,7 @@ first_at ts n q = ap (λ (l : Proc-F Proc). layer_with_first l (tree_at ts q)) (
 
 others_below : (b : ℕ) (ps : List ProcId) (q : ProcId) → all_below b ps ≡ true → nat_lt q.0 b ≡ true → all_below b (other_first ps q) ≡ true
 others_below b [] q h g = refl
-others_below b (p ∷ ps) q h g = both_so (nat_lt q.0 b) (all_below b ps) g (second_so (nat_lt p.0 b) (all_below b ps) h)
+others_below b (p ∷ ps) q h g = and_from (nat_lt q.0 b) (all_below b ps) g (second_so (nat_lt p.0 b) (all_below b ps) h)
 
 first_places : (n : Layer) (q : ProcId) → layer_ids (node_with_first n q) ≡ other_first (layer_ids n) q
 first_places Layer.Stop q = refl

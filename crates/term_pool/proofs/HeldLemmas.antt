@@ -1,5 +1,5 @@
 -- What follows from how a pool keeps its processes.
-use Rattle.std.proofs.Common.{◌≡◌, ◌⊎◌, inl, inr, ℕ, zero, suc, ◌+◌, ◌<◌, ◌≤◌, true, nat_lt, Some, List, [], ◌∷◌, ◌++◌, map, length, get_or, slice_get, refl, ap, sym, ◌∙◌, subst, arith}
+use Rattle.std.proofs.Common.{◌≡◌, ◌⊎◌, inl, inr, ℕ, zero, suc, ◌+◌, ◌<◌, ◌≤◌, true, nat_lt, Some, List, ◌∷◌, ◌++◌, map, length, get_or, slice_get, refl, ap, sym, ◌∙◌, subst, arith}
 use Rattle.std.proofs.lemmas.Bool.{ltb-true, false≢true}
 use Rattle.std.proofs.lemmas.List.{map-append, length-map}
 use Rattle.std.proofs.lemmas.Option.{slice_get_within, slice_get-get_or, get_or_from_slice_get}
@@ -21,6 +21,7 @@ use Rattle.term_pool.specs.Within.{AddsOne}
 use Rattle.pool_parts.specs.declared.measure.Measure.{Measure}
 use Rattle.term_pool.specs.Layers.{Layer}
 use Rattle.pool_parts.specs.declared.place.ProcId.{ProcId}
+use Rattle.csp_base.proofs.Lists.{push_cases}
 
 abbrev id_at : ℕ → ProcId
 id_at k = record { 0 = k }
@@ -100,19 +101,8 @@ module _ (ns : List Layer) (smaller : fall 0 ns ≡ true) (distinct : AreOnce ns
       let m_n : m ≡ n = same_node (trees_of ns) (length ns) (differ (length ns) (omega arith)) m n m_below below same in
       (has.0, m_is ∙ ap (λ (x : Layer). Some x) m_n)
 
--- what stands in a list with one element more
-pub last_or : {T : Type 0} (ns : List T) (n : T) (k : ℕ) (x : T) → slice_get (ns ++ n ∷ []) k ≡ Some x → (slice_get ns k ≡ Some x) ⊎ ((k ≡ length ns) × (n ≡ x))
-last_or [] n zero x h = let e : n ≡ x = cc in inr (refl, e)
-last_or [] n (suc k) x h = cc
-last_or (m ∷ ns) n zero x h = inl h
-last_or (m ∷ ns) n (suc k) x h = last_later (last_or ns n k x h)
-  where
-    last_later : (slice_get ns k ≡ Some x) ⊎ ((k ≡ length ns) × (n ≡ x)) → (slice_get ns k ≡ Some x) ⊎ ((suc k ≡ suc (length ns)) × (n ≡ x))
-    last_later (inl g) = inl g
-    last_later (inr g) = inr (ap suc g.0, g.1)
-
 once_push : (ns : List Layer) (n : Layer) → AreOnce ns → IsAbsent ns n → AreOnce (ns ++ n ∷ [])
-once_push ns n once absent i j x h g = either (last_or ns n i x h) (last_or ns n j x g)
+once_push ns n once absent i j x h g = either (push_cases ns n i x h) (push_cases ns n j x g)
   where
     either : (slice_get ns i ≡ Some x) ⊎ ((i ≡ length ns) × (n ≡ x)) → (slice_get ns j ≡ Some x) ⊎ ((j ≡ length ns) × (n ≡ x)) → i ≡ j
     either (inl a) (inl b) = once i j x a b

@@ -1,5 +1,5 @@
 -- What follows from how a pool keeps its nodes as entries.
-use Rattle.std.proofs.Common.{◌≡◌, ◌⊎◌, inl, inr, ℕ, zero, suc, ◌<◌, Bool, true, false, None, Some, Option, List, [], ◌∷◌, ◌++◌, length, get_or, slice_get, refl, ap, sym, ◌∙◌, subst, arith}
+use Rattle.std.proofs.Common.{◌≡◌, ◌⊎◌, inl, inr, ℕ, zero, suc, ◌<◌, Bool, true, false, None, Some, Option, List, ◌∷◌, ◌++◌, length, get_or, slice_get, refl, ap, sym, ◌∙◌, subst, arith}
 use Rattle.std.proofs.lemmas.List.{map-append, length-map, length_push, same_from_push}
 use Rattle.std.proofs.lemmas.Option.{slice_get-map, slice_get-get_or}
 use Rattle.std.specs.Prelude.{Result, Ok, Err, IsErr, MatchOption, OnErr, not, option_map}
@@ -7,7 +7,7 @@ use Rattle.std.specs.Set.{is_member}
 use Rattle.csp_program.specs.declared.processes.Proc.{Proc}
 use Rattle.csp_program.specs.declared.processes.Proc.TheVariants as proc
 use Rattle.term_pool.proofs.EntryLemmas.{fits_more, layer_stays, same_entry, has_parts}
-use Rattle.term_pool.proofs.HeldLemmas.{below_measures, held_push, is_known, last_or, places_fall, puts_known, puts_new, puts_none, tree_stands, trees_length, unknown_push}
+use Rattle.term_pool.proofs.HeldLemmas.{below_measures, held_push, is_known, places_fall, puts_known, puts_new, puts_none, tree_stands, trees_length, unknown_push}
 use Rattle.pool_parts.proofs.StoreLemmas.{is_absent}
 use Rattle.term_pool.specs.Entries.{entry_layer, layers, ArePartsOnce, Fits, HasParts, PartsStart, StandsAs}
 use Rattle.term_pool.specs.ExactEntry.{eq_entry}
@@ -23,6 +23,7 @@ use Rattle.term_pool.specs.declared.entry.Entry.{Entry}
 use Rattle.pool_parts.specs.declared.measure.Measure.{Measure}
 use Rattle.pool_parts.specs.declared.place.ProcId.{ProcId}
 use Rattle.term_pool.specs.declared.own_parts.OwnParts.{OwnParts}
+use Rattle.csp_base.proofs.Lists.{push_cases}
 
 abbrev id_at : ℕ → ProcId
 id_at k = record { 0 = k }
@@ -86,7 +87,7 @@ module _ (parts : OwnParts) (es : List Entry) (ms : List Measure) (kept : IsKept
     pub kept_push : is_member eq_entry es e ≡ false → (m : Measure) → m.depth ≡ node_depth ms (entry_layer parts e) → m.size ≡ node_size ms (entry_layer parts e)
         → IsKept parts (es ++ e ∷ []) (ms ++ m ∷ [])
     kept_push unknown m d s = record {
-      fits = λ k x g. all_fit k x (last_or es e k x g);
+      fits = λ k x g. all_fit k x (push_cases es e k x g);
       once = kept.once;
       held = subst (λ (ns : List Layer). IsHeld ns (ms ++ m ∷ [])) (sym more) (held_push (layers parts es) ms kept.held (entry_layer parts e) below_layers (absent unknown) m d s);
     }

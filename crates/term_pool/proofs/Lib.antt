@@ -11,6 +11,5 @@ pub mod StandsLemmas
 pub mod TreeLemmas
 pub mod WithinLemmas
 pub mod LowLemmas
-pub mod MapLemmas
 pub mod TreeLow
 pub mod ValuesLemmas

@@ -1,6 +1,5 @@
 -- The layer of a process over the places of its sub-processes.
 use Rattle.std.proofs.Common.{◌≡◌, ℕ, Some, List, slice_get, ap, sym, ◌∙◌}
-use Rattle.std.specs.Prelude.{Result, Ok, Err, IfOk}
 use Rattle.csp_program.specs.declared.expressions.EventPart.{EventPart}
 use Rattle.csp_program.specs.declared.expressions.Expr.{Expr}
 use Rattle.csp_program.specs.declared.expressions.Gen.{Gen}
@@ -131,12 +130,3 @@ module _ (trees : List Proc) (t : Proc) where
   pub below_Ended : t ≡ proc.Ended → (b : Below) → StandsFor trees (layer_over t b) t
   below_Ended is b =
       lemmas.stands_by trees (layer_over t b) Layer.Ended t proc.Ended (ap (λ (u : Proc). layer_over u b) is ∙ over_Ended b) is (lemmas.stands_Ended trees)
-
--- what is so of each value that comes of a call
-pub if_ok : {T E : Type 0} (r : Result T E) (P Q : T → Type 0) → ((x : T) → P x → Q x) → IfOk r P → IfOk r Q
-if_ok (Ok x) P Q f h = f x h
-if_ok (Err e) P Q f h = tt
-
-pub if_both : {T E : Type 0} (r : Result T E) (P Q R : T → Type 0) → ((x : T) → P x → Q x → R x) → IfOk r P → IfOk r Q → IfOk r R
-if_both (Ok x) P Q R f h g = f x h g
-if_both (Err e) P Q R f h g = tt

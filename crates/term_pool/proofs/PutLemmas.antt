@@ -1,6 +1,6 @@
 -- Lemmas on lists that grow as processes are put into them, and on nodes that stand for processes.
-use Rattle.std.proofs.Common.{◌≡◌, ◌⊎◌, inl, inr, ℕ, ◌+◌, ◌<◌, true, nat_lt, Some, List, [], ◌∷◌, ◌++◌, map, length, get_or, slice_get, take, drop, refl, ap, sym, ◌∙◌, subst}
-use Rattle.std.proofs.lemmas.Bool.{lt-ltb}
+use Rattle.std.proofs.Common.{◌≡◌, ◌⊎◌, inl, inr, ℕ, ◌+◌, ◌<◌, true, nat_lt, Some, List, ◌∷◌, ◌++◌, map, length, get_or, slice_get, take, drop, refl, ap, sym, ◌∙◌, subst}
+use Rattle.std.proofs.lemmas.Bool.{lt-ltb, and_from}
 use Rattle.std.proofs.lemmas.List.{take_more, take-append-drop}
 use Rattle.std.proofs.lemmas.Option.{slice_get_within, get_or_from_slice_get}
 use Rattle.csp_program.specs.declared.expressions.Expr.{Expr}
@@ -12,7 +12,6 @@ use Rattle.csp_program.specs.declared.processes.Proc.{Proc}
 use Rattle.csp_program.specs.declared.processes.Proc.TheVariants as proc
 use Rattle.csp_program.specs.declared.processes.Proc.TheOpen.{Proc-F}
 use Rattle.csp_program.specs.declared.processes.Proc.TheViews.{out-Proc, out-roll-Proc}
-use Rattle.term_pool.proofs.TreeLemmas.{both_so}
 use Rattle.term_pool.proofs.WithinLemmas.{in_left, in_right, in_whole, is_whole}
 use Rattle.term_pool.specs.Pooled.{Has, IsFront, PartsStandBelow, StandBelow, layer_parts, parts}
 use Rattle.term_pool.specs.Put.{Grows, HasAll, StandAt, StandsFor}
@@ -89,16 +88,16 @@ pub at : (trees : List Proc) (p : ProcId) (t : Proc) → slice_get trees p.0 ≡
 at trees p t h = get_or_from_slice_get trees p.0 t proc.Stop h
 
 pub one_below : (trees : List Proc) (p : ProcId) (t : Proc) → slice_get trees p.0 ≡ Some t → all_below (length trees) (p ∷ []) ≡ true
-one_below trees p t h = both_so (nat_lt p.0 (length trees)) true (within trees p t h) refl
+one_below trees p t h = and_from (nat_lt p.0 (length trees)) true (within trees p t h) refl
 
 pub two_below : (trees : List Proc) (p : ProcId) (t : Proc) (q : ProcId) (u : Proc) → slice_get trees p.0 ≡ Some t → slice_get trees q.0 ≡ Some u → all_below (length trees) (p ∷ q ∷ []) ≡ true
-two_below trees p t q u h g = both_so (nat_lt p.0 (length trees)) (all_below (length trees) (q ∷ [])) (within trees p t h) (one_below trees q u g)
+two_below trees p t q u h g = and_from (nat_lt p.0 (length trees)) (all_below (length trees) (q ∷ [])) (within trees p t h) (one_below trees q u g)
 
 pub stand_below : (trees : List Proc) (ids : List ProcId) (ts : List Proc) → StandAt trees ids ts → all_below (length trees) ids ≡ true
 stand_below trees [] [] h = refl
 stand_below trees [] (t ∷ ts) h = absurd h
 stand_below trees (id ∷ ids) [] h = absurd h
-stand_below trees (id ∷ ids) (t ∷ ts) h = both_so (nat_lt id.0 (length trees)) (all_below (length trees) ids) (within trees id t h.0) (stand_below trees ids ts h.1)
+stand_below trees (id ∷ ids) (t ∷ ts) h = and_from (nat_lt id.0 (length trees)) (all_below (length trees) ids) (within trees id t h.0) (stand_below trees ids ts h.1)
 
 pub stand_trees : (trees : List Proc) (ids : List ProcId) (ts : List Proc) → StandAt trees ids ts → map (tree_at trees) ids ≡ ts
 stand_trees trees [] [] h = refl

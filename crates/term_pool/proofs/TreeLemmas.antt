@@ -1,6 +1,6 @@
 -- The trees of a list of nodes: how they grow, and what stands at each place.
-use Rattle.std.proofs.Common.{◌≡◌, ℕ, zero, suc, ◌+◌, ◌<◌, ◌≤◌, Bool, true, ◌&&◌, nat_lt, Some, List, [], ◌∷◌, ◌++◌, length, get_or, slice_get, refl, ap, sym, ◌∙◌, subst, arith, length-append, append_assoc}
-use Rattle.std.proofs.lemmas.Bool.{ltb-true, lt-ltb}
+use Rattle.std.proofs.Common.{◌≡◌, ℕ, zero, suc, ◌+◌, ◌<◌, ◌≤◌, true, ◌&&◌, nat_lt, Some, List, ◌∷◌, ◌++◌, length, get_or, slice_get, refl, ap, sym, ◌∙◌, subst, arith, length-append, append_assoc}
+use Rattle.std.proofs.lemmas.Bool.{ltb-true, lt-ltb, and_from}
 use Rattle.std.proofs.lemmas.List.{append-nil, get_or_append_left}
 use Rattle.std.proofs.Math.Seq.{get_or-append_seam}
 use Rattle.std.specs.Cmp.{first_so, second_so}
@@ -11,15 +11,12 @@ use Rattle.term_pool.specs.Trees.{layer_tree, all_below, layer_below, grown, fal
 use Rattle.term_pool.specs.Layers.{Layer}
 use Rattle.pool_parts.specs.declared.place.ProcId.{ProcId}
 
-pub both_so : (a b : Bool) → a ≡ true → b ≡ true → (a && b) ≡ true
-both_so a b h g = subst (λ (x : Bool). (x && b) ≡ true) (sym h) g
-
 -- a larger bound serves as well
 pub all_below_more : (b c : ℕ) → b ≤ c → (ids : List ProcId) → all_below b ids ≡ true → all_below c ids ≡ true
 all_below_more b c le [] h = refl
 all_below_more b c le (id ∷ ids) h =
     let lt : id.0 < b = ltb-true id.0 b (first_so (nat_lt id.0 b) (all_below b ids) h) in
-    both_so (nat_lt id.0 c) (all_below c ids) (lt-ltb id.0 c (omega arith)) (all_below_more b c le ids (second_so (nat_lt id.0 b) (all_below b ids) h))
+    and_from (nat_lt id.0 c) (all_below c ids) (lt-ltb id.0 c (omega arith)) (all_below_more b c le ids (second_so (nat_lt id.0 b) (all_below b ids) h))
 
 -- a node's tree stays the same when the list grows at its end
 pub of_front : (ts more : List Proc) (n : Layer) → layer_below (length ts) n ≡ true → layer_tree (ts ++ more) n ≡ layer_tree ts n
@@ -86,9 +83,9 @@ fall_at b (m ∷ ns) h (suc k) n g =
 pub fall_push : (b : ℕ) (ns : List Layer) (n : Layer) → fall b ns ≡ true → layer_below (b + length ns) n ≡ true → fall b (ns ++ n ∷ []) ≡ true
 fall_push b [] n h g =
     let z : b + 0 ≡ b = omega arith in
-    both_so (layer_below b n) true (subst (λ (c : ℕ). layer_below c n ≡ true) z g) refl
+    and_from (layer_below b n) true (subst (λ (c : ℕ). layer_below c n ≡ true) z g) refl
 fall_push b (m ∷ ns) n h g =
     let z : b + suc (length ns) ≡ b + 1 + length ns = omega arith in
-    both_so (layer_below b m) (fall (b + 1) (ns ++ n ∷ []))
+    and_from (layer_below b m) (fall (b + 1) (ns ++ n ∷ []))
     (first_so (layer_below b m) (fall (b + 1) ns) h)
     (fall_push (b + 1) ns n (second_so (layer_below b m) (fall (b + 1) ns) h) (subst (λ (c : ℕ). layer_below c n ≡ true) z g))

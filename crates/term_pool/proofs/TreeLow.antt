@@ -1,5 +1,5 @@
 -- A process stays as it is where the name that gets a value is below the numbers of its own parts and of its places.
-use Rattle.std.proofs.Common.{◌≡◌, ◌⊎◌, inl, inr, ℕ, zero, suc, ◌<◌, ◌≤◌, Bool, true, false, cond, ◌||◌, nat_eq, nat_lt, Some, None, List, [], ◌∷◌, ◌++◌, map, length, get_or, slice_get, refl, ap, sym, ◌∙◌, subst, arith}
+use Rattle.std.proofs.Common.{◌≡◌, ◌⊎◌, inl, inr, ℕ, zero, suc, ◌<◌, ◌≤◌, Bool, true, false, cond, ◌||◌, nat_eq, nat_lt, Some, None, List, ◌∷◌, ◌++◌, map, length, get_or, slice_get, refl, ap, sym, ◌∙◌, subst, arith}
 use Rattle.std.specs.Prelude.{Result, Ok, Err, OnOk, OnErr}
 use Rattle.std.proofs.lemmas.Bool.{eqb-true, ltb-true}
 use Rattle.std.proofs.lemmas.Option.{slice_get-get_or, get_or_from_slice_get}
@@ -17,7 +17,6 @@ use Rattle.csp_program.specs.declared.processes.Proc.TheVariants as proc
 use Rattle.substitution.proofs.ListEquations as lists
 use Rattle.substitution.specs.Several.{with_values}
 use Rattle.substitution.specs.Parts.{expr_after, part_after, pair_after, pairs_after, fields_after}
-use Rattle.term_pool.proofs.HeldLemmas.{last_or}
 use Rattle.pool_parts.proofs.LowLemmas.{either_way, exprs_stay, gens_stay}
 use Rattle.term_pool.proofs.SubstituteLemmas as made
 use Rattle.term_pool.specs.Layers.{Layer}
@@ -30,6 +29,7 @@ use Rattle.pool_parts.specs.declared.measure.Measure.{Measure}
 use Rattle.pool_parts.specs.declared.place.ProcId.{ProcId}
 use Rattle.term_pool.specs.declared.entry.Entry.{Entry}
 use Rattle.term_pool.specs.declared.own_parts.OwnParts.{OwnParts}
+use Rattle.csp_base.proofs.Lists.{push_cases}
 
 module _ (m : ℕ) (x : ℕ) (v : Value) (l : x < m) where
   pairs_stay : (ps : List (EventPart × EventPart)) → AllLow PairLow m ps → (b : Bool) → pairs_after x v b ps ≡ ps
@@ -146,7 +146,7 @@ low_front old new leasts front are k least g =
 
 -- one place more has a number
 pub low_push : (trees : List Proc) (leasts : List ℕ) (least : ℕ) → AreLow trees leasts → length leasts < length trees → ProcLow least (get_or trees (length leasts) proc.Stop) → AreLow trees (leasts ++ least ∷ [])
-low_push trees leasts least are within low k other g = either (last_or leasts least k other g)
+low_push trees leasts least are within low k other g = either (push_cases leasts least k other g)
   where
     either : (slice_get leasts k ≡ Some other) ⊎ ((k ≡ length leasts) × (least ≡ other)) → IsLow trees k other
     either (inl h) = are k other h

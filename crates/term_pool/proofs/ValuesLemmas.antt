@@ -1,7 +1,7 @@
 -- What a node becomes where several values are put in, one after another: the names that it doesn't bind get theirs in what stands at its places.
-use Rattle.std.proofs.Common.{◌≡◌, ℕ, zero, suc, ◌+◌, ◌<◌, Bool, true, false, cond, ◌||◌, nat_lt, nat_eq, Some, None, Option, List, [], ◌∷◌, ◌++◌, map, length, get_or, slice_get, take, refl, ap, sym, ◌∙◌, subst, arith}
-use Rattle.std.proofs.lemmas.Bool.{eqb-true, ltb-true, false≢true}
-use Rattle.std.proofs.lemmas.List.{append-nil, map_more, take-map}
+use Rattle.std.proofs.Common.{◌≡◌, ℕ, zero, suc, ◌+◌, ◌<◌, Bool, true, false, cond, ◌||◌, nat_lt, nat_eq, Some, None, Option, List, ◌∷◌, ◌++◌, map, length, get_or, slice_get, take, refl, ap, sym, ◌∙◌, subst, arith}
+use Rattle.std.proofs.lemmas.Bool.{eqb-true, ltb-true}
+use Rattle.std.proofs.lemmas.List.{append-nil, map_more, take-map, nil_from_length}
 use Rattle.std.proofs.lemmas.Option.{slice_get-get_or, slice_get_within, get_or_from_slice_get}
 use Rattle.std.specs.Cmp.{first_so, second_so}
 use Rattle.std.specs.HashMap.{HashMap, get, IsEmpty, Updates}
@@ -26,6 +26,7 @@ use Rattle.term_pool.specs.Trees.{all_below, layer_ids, tree_at, layer_tree}
 use Rattle.term_pool.specs.Within.{AddsOne}
 use Rattle.term_pool.specs.declared.under.Unbound.{Unbound}
 use Rattle.term_pool.specs.declared.under.Under.{Under}
+use Rattle.csp_base.proofs.Booleans.{or_first_false, or_second_false}
 
 -- each of some places that are all smaller than b is
 item_below : (b : ℕ) (ids : List ProcId) (i : ℕ) → i < length ids → all_below b ids ≡ true → (id_or ids i).0 < b
@@ -106,21 +107,12 @@ places_own_all [] vs n = refl
 places_own_all (x ∷ xs) [] n = refl
 places_own_all (x ∷ xs) (v ∷ vs) n = places_own_all xs vs (own_with x v n) ∙ places_own x v n
 
--- where the node binds none of the names all of them get their values below it
-either_left : (a b : Bool) → (a || b) ≡ false → a ≡ false
-either_left true b h = h
-either_left false b h = refl
-
-either_right : (a b : Bool) → (a || b) ≡ false → b ≡ false
-either_right true b h = absurd (false≢true (sym h))
-either_right false b h = h
-
 none_bound : (xs : List ℕ) (vs : List Value) (n : Layer) → binds_any n xs ≡ false → (q : Proc) → with_values (names_below n xs vs) (values_below n xs vs) q ≡ with_values xs vs q
 none_bound [] vs n h q = refl
 none_bound (x ∷ xs) [] n h q = refl
 none_bound (x ∷ xs) (v ∷ vs) n h q =
-    ap (λ (b : Bool). with_values (cond b (names_below n xs vs) (x ∷ names_below n xs vs)) (cond b (values_below n xs vs) (v ∷ values_below n xs vs)) q) (either_left (binds_below x n) (binds_any n xs) h) ∙
-    none_bound xs vs n (either_right (binds_below x n) (binds_any n xs) h) (proc_with x v q)
+    ap (λ (b : Bool). with_values (cond b (names_below n xs vs) (x ∷ names_below n xs vs)) (cond b (values_below n xs vs) (v ∷ values_below n xs vs)) q) (or_first_false (binds_below x n) (binds_any n xs) h) ∙
+    none_bound xs vs n (or_second_false (binds_below x n) (binds_any n xs) h) (proc_with x v q)
 
 stop_with : (xs : List ℕ) (vs : List Value) → with_values xs vs proc.Stop ≡ proc.Stop
 stop_with [] vs = refl
@@ -195,7 +187,7 @@ module _ (xs : List ℕ) (vs : List Value) where
   -- nothing has been visited at first
   pub none_made : {S : Type 0} (trees : List Proc) (visited : HashMap ℕ ProcId S) → IsEmpty visited → AreMade xs vs trees visited
   none_made trees visited empty q made g =
-      let nothing : None ≡ Some made = sym (ap (λ (entries : List (ℕ × ProcId)). lookup (nat_eq q) entries) empty) ∙ g in
+      let nil_from_length : None ≡ Some made = sym (ap (λ (entries : List (ℕ × ProcId)). lookup (nat_eq q) entries) empty) ∙ g in
       cc
 
   -- one place more has been visited
@@ -275,32 +267,27 @@ module _ (xs : List ℕ) (vs : List Value) where
       lemmas.grows_whole old mid new (with_values xs vs (tree_at old id)) g front
       (subst (λ (t : Proc). Has mid (with_values xs vs t) → new ≡ mid) same known) (subst (λ (t : Proc). AddsOne mid new (with_values xs vs t)) same only)
 
--- one name more, and none
-nothing : {T : Type 0} (xs : List T) → length xs ≡ 0 → xs ≡ []
-nothing [] h = refl
-nothing (x ∷ xs) h = absurd (omega (arith, h))
-
 pub own_no_names : (xs : List ℕ) → length xs ≡ 0 → (vs : List Value) (n : Layer) → n ≡ own_with_all xs vs n
-own_no_names xs h vs n = ap (λ (ys : List ℕ). own_with_all ys vs n) (sym (nothing xs h))
+own_no_names xs h vs n = ap (λ (ys : List ℕ). own_with_all ys vs n) (sym (nil_from_length xs h))
 
 pub own_no_values : (xs ys : List ℕ) (x : ℕ) → xs ≡ x ∷ ys → (vs : List Value) → length vs ≡ 0 → (n : Layer) → n ≡ own_with_all xs vs n
-own_no_values xs ys x e vs h n = λ i. own_with_all (sym e i) (sym (nothing vs h) i) n
+own_no_values xs ys x e vs h n = λ i. own_with_all (sym e i) (sym (nil_from_length vs h) i) n
 
 pub own_next : (xs ys : List ℕ) (x : ℕ) → xs ≡ x ∷ ys → (vs ws : List Value) (v : Value) → vs ≡ v ∷ ws → (n : Layer) → own_with_all ys ws (own_with x v n) ≡ own_with_all xs vs n
 own_next xs ys x e vs ws v f n = λ i. own_with_all (sym e i) (sym f i) n
 
 module _ (n : Layer) where
   pub names_no_names : (front xs : List ℕ) → length xs ≡ 0 → (vs : List Value) → front ≡ front ++ names_below n xs vs
-  names_no_names front xs h vs = sym (append-nil front) ∙ ap (λ (ys : List ℕ). front ++ names_below n ys vs) (sym (nothing xs h))
+  names_no_names front xs h vs = sym (append-nil front) ∙ ap (λ (ys : List ℕ). front ++ names_below n ys vs) (sym (nil_from_length xs h))
 
   pub names_no_values : (front xs ys : List ℕ) (x : ℕ) → xs ≡ x ∷ ys → (vs : List Value) → length vs ≡ 0 → front ≡ front ++ names_below n xs vs
-  names_no_values front xs ys x e vs h = sym (append-nil front) ∙ (λ i. front ++ names_below n (sym e i) (sym (nothing vs h) i))
+  names_no_values front xs ys x e vs h = sym (append-nil front) ∙ (λ i. front ++ names_below n (sym e i) (sym (nil_from_length vs h) i))
 
   pub values_no_names : (front : List Value) (xs : List ℕ) → length xs ≡ 0 → (vs : List Value) → front ≡ front ++ values_below n xs vs
-  values_no_names front xs h vs = sym (append-nil front) ∙ ap (λ (ys : List ℕ). front ++ values_below n ys vs) (sym (nothing xs h))
+  values_no_names front xs h vs = sym (append-nil front) ∙ ap (λ (ys : List ℕ). front ++ values_below n ys vs) (sym (nil_from_length xs h))
 
   pub values_no_values : (front : List Value) (xs ys : List ℕ) (x : ℕ) → xs ≡ x ∷ ys → (vs : List Value) → length vs ≡ 0 → front ≡ front ++ values_below n xs vs
-  values_no_values front xs ys x e vs h = sym (append-nil front) ∙ (λ i. front ++ values_below n (sym e i) (sym (nothing vs h) i))
+  values_no_values front xs ys x e vs h = sym (append-nil front) ∙ (λ i. front ++ values_below n (sym e i) (sym (nil_from_length vs h) i))
 
 -- one value alone
 pub one_value : (xs : List ℕ) (x : ℕ) → xs ≡ x ∷ [] → (vs : List Value) (v : Value) → vs ≡ v ∷ [] → (t : Proc) → with_values xs vs t ≡ proc_with x v t

@@ -1,5 +1,5 @@
 -- Lists of steps: one step more in a row, the rows of some terms, and the same steps in another order.
-use Rattle.std.proofs.Common.{◌≡◌, ℕ, suc, ◌+◌, ◌<◌, inl, inr, Bool, true, false, ◌&&◌, ◌||◌, nat_eq, List, [], ◌∷◌, ◌++◌, length, get_or, set, take, refl, sym, ap, subst, ◌∙◌, arith, eq-eqb}
+use Rattle.std.proofs.Common.{◌≡◌, ℕ, suc, ◌+◌, ◌<◌, inl, inr, Bool, true, false, ◌&&◌, ◌||◌, nat_eq, List, ◌∷◌, ◌++◌, length, get_or, set, take, refl, sym, ap, subst, ◌∙◌, arith, eq-eqb}
 use Rattle.std.specs.List.{list_any, flat_map, All}
 use Rattle.std.specs.List.Sorted.{IsPermutation}
 use Rattle.std.specs.Cmp.{first_so, second_so}
@@ -11,10 +11,7 @@ use Rattle.csp_base.specs.Members.{has}
 use Rattle.csp_tables.specs.RawTable.{RawTable}
 use Rattle.csp_tables.specs.RawForm.{HasRawForm}
 use Rattle.term_sets.specs.Moves.{has_move, AreMoveRows, AreMovesOf}
-
-or_false : (b : Bool) → (b || false) ≡ b
-or_false true = refl
-or_false false = refl
+use Rattle.std.proofs.Math.Bool.{or-false}
 
 -- a row with one more step at its end
 row_more : (rows : List (List (ℕ × ℕ))) (from event to s e t : ℕ) → from < length rows → has_move (get_or (set rows from (get_or rows from [] ++ (event, to) ∷ [])) s []) e t ≡ (has_move (get_or rows s []) e t || (nat_eq s from && nat_eq e event && nat_eq t to))
@@ -27,11 +24,11 @@ row_more rows from event to s e t below =
       | inr other ↦
           let read : get_or (set rows from (get_or rows from [] ++ (event, to) ∷ [])) s [] ≡ get_or rows s [] = get_or-set_other rows from s (get_or rows from [] ++ (event, to) ∷ []) [] other in
           let test : nat_eq s from ≡ false = ne_eqb s from other in
-          rw (read, test) (sym (or_false (has_move (get_or rows s []) e t)))
+          rw (read, test) (sym (or-false (has_move (get_or rows s []) e t)))
     ]
   where
     has_more : (row : List (ℕ × ℕ)) (event to e t : ℕ) → has_move (row ++ (event, to) ∷ []) e t ≡ (has_move row e t || (nat_eq e event && nat_eq t to))
-    has_more row event to e t = list_any-append (λ (step : ℕ × ℕ). nat_eq e step.0 && nat_eq t step.1) row ((event, to) ∷ []) ∙ ap (λ (b : Bool). has_move row e t || b) (or_false (nat_eq e event && nat_eq t to))
+    has_more row event to e t = list_any-append (λ (step : ℕ × ℕ). nat_eq e step.0 && nat_eq t step.1) row ((event, to) ∷ []) ∙ ap (λ (b : Bool). has_move row e t || b) (or-false (nat_eq e event && nat_eq t to))
 
 -- one more step of the table, as the loop over the steps takes it
 pub moves_more : (rows new : List (List (ℕ × ℕ))) (xs : List (ℕ × ℕ × ℕ)) (i : ℕ) (x : ℕ × ℕ × ℕ) → i < length xs → x ≡ get_or xs i x → x.0 < length rows → new ≡ set rows x.0 (get_or rows x.0 [] ++ (x.1, x.2) ∷ []) → (s e t : ℕ) → has_move (get_or rows s []) e t ≡ list_any (λ step. nat_eq s step.0 && nat_eq e step.1 && nat_eq t step.2) (take i xs) → has_move (get_or new s []) e t ≡ list_any (λ step. nat_eq s step.0 && nat_eq e step.1 && nat_eq t step.2) (take (i + 1) xs)

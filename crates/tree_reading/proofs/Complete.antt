@@ -1,5 +1,5 @@
 -- What the grammar has within the limits, the readers give, in front of every rest that does not go on with the tree.
-use Rattle.std.proofs.Common.{◌≡◌, ℕ, suc, ◌+◌, ◌≤◌, max, Bool, true, nat_le, None, List, [], ◌∷◌, map, refl, ap, ◌∙◌, arith}
+use Rattle.std.proofs.Common.{◌≡◌, ℕ, suc, ◌+◌, ◌≤◌, max, Bool, true, nat_le, None, List, ◌∷◌, map, refl, ap, ◌∙◌, arith}
 use Rattle.csp_text.specs.Depth.{field_depth, gen_depth, greatest, part_depth, tree_depth}
 use Rattle.csp_text.specs.declared.token.Token.{Token}
 use Rattle.csp_text.specs.declared.token.Token.TheVariants as token
@@ -12,7 +12,7 @@ use Rattle.csp_base.specs.declared.operators.SetOp.TheVariants as set_op
 use Rattle.csp_text.specs.declared.tree.FieldTree.{FieldTree}
 use Rattle.csp_text.specs.declared.tree.GenTree.{GenTree}
 use Rattle.csp_text.specs.declared.tree.PartTree.{PartTree}
-use Rattle.csp_grammar.specs.Grammar.{Choice, choice_of, event_tree, part_tree, TreeText, SideText, ClosedSideText, HidingText, ClosedChoiceText, OpenChoiceText, ClosedSequenceText, OpenSequenceText, ClosedPrefixText, OpenPrefixText, OpenText, FieldsText, DotsText, ExpressionText, PairsText, PartText, PartsText, ConditionsText, GensText, GenText, ItemText, ItemsText, AtomText}
+use Rattle.csp_grammar.specs.Grammar.{Choice, choice_of, event_tree, TreeText, SideText, ClosedSideText, HidingText, ClosedChoiceText, OpenChoiceText, ClosedSequenceText, OpenSequenceText, ClosedPrefixText, OpenPrefixText, OpenText, FieldsText, DotsText, ExpressionText, PairsText, PartText, PartsText, ConditionsText, GensText, GenText, ItemText, ItemsText, AtomText}
 use Rattle.csp_grammar.specs.Grammar as g
 use Rattle.csp_grammar.specs.Precedence.{Level, IsLeftOperator, IsComparison}
 use Rattle.csp_grammar.specs.Precedence as table
@@ -31,6 +31,7 @@ use Rattle.tree_reading.proofs.Levels.{Reads, follow, next_follow, pairs_depth, 
 use Rattle.tree_reading.proofs.NodeDepths as depths
 use Rattle.tree_reading.proofs.Parts.{Bounded, chain_of, chosen_depth, looser, one_of_two, still_closed, dots_begin, fields_begin, fields_no_colon, dots_more, AreDots, no_dots, more_dots, conditions_begin, into_guard, prefix_alone, sequence_alone, side_alone, tree_alone, choice_stops, last_choice, more_choices, side_of_choices, bound_alone}
 use Rattle.tree_reading.proofs.Starts.{no_event, no_arrow, plain, atom_operand, items_no_brace}
+use Rattle.csp_text.proofs.DepthLemmas.{rename_depth}
 
 arrow_ends : (us : List Token) → EndsFields (token.Symbol symbol.Arrow ∷ us)
 arrow_ends us = record { no_dot = refl; no_bang = refl; no_question = refl; no_colon = refl; event = refl }
@@ -298,7 +299,7 @@ mutual
   expression_read (g.expression-negative {a = a'} a) d fits s = read_negative fits (expression_read a (less d) (parts d (depths.depth-Neg a') fits) s) s
   expression_read (g.expression-rename {p = p'} {pairs = pairs'} {vs = vs} {gs = gs'} p pairs conditions) d fits s =
       let begin = conditions_begin conditions refl refl in
-      let within : max (tree_depth p') (max (pairs_depth pairs') (greatest (map gen_depth gs'))) ≤ less d = parts d (depths.depth-Rename p' pairs' gs') fits in
+      let within : max (tree_depth p') (max (pairs_depth pairs') (greatest (map gen_depth gs'))) ≤ less d = parts d (rename_depth p' pairs' gs') fits in
       let behind : max (pairs_depth pairs') (greatest (map gen_depth gs')) ≤ less d = right _ _ within in
       read_rename fits (expression_read p d (up d (left _ _ within)) refl) (pairs_read pairs (less d) (left _ _ behind) (more 1 10 vs refl begin.0) begin.1)
       (conditions_read conditions (less d) (right _ _ behind) refl refl refl)

@@ -5,6 +5,7 @@ use Rattle.csp_text.specs.declared.tree.Tree.{Tree}
 use Rattle.csp_grammar.specs.Reader.{and_then, case}
 use Rattle.tree_reading.specs.Nesting.{around, bracketed, inside, limits, sure}
 use Rattle.tree_reading.specs.declared.limits.Limits.{Limits}
+use Rattle.std.proofs.lemmas.Option.{same_Some, none-some}
 
 pub data Holds {A : Type 0} (P : A → Type 0) : Option A → Type 0 where
   none : Holds P None
@@ -57,13 +58,7 @@ pub itself : {A : Type 0} (o : Option A) → Holds (λ x. o ≡ Some x) o
 itself None = none
 itself (Some x) = some refl
 
-in_some : {A : Type 0} (x y : A) → ◌≡◌ {A = Option A} (Some x) (Some y) → x ≡ y
-in_some x y e = cc
-
-pub nothing_there : {A : Type 0} (a : A) → ◌≡◌ {A = Option A} None (Some a) → ⊥
-nothing_there a e = cc
-
 -- what holds of a reading, holds of what it read
 pub of_read : {A : Type 0} {P : A → Type 0} {o : Option A} (x : A) → Holds P o → o ≡ Some x → P x
-of_read x none e = absurd (nothing_there x e)
-of_read {P = P} x (some {x = y} p) e = subst P (in_some y x e) p
+of_read x none e = absurd (none-some x e)
+of_read {P = P} x (some {x = y} p) e = subst P (same_Some y x e) p

@@ -1,5 +1,5 @@
 -- The levels of expressions as numbers, and how an expression is read whatever level the reading began at.
-use Rattle.std.proofs.Common.{◌≡◌, ℕ, suc, ◌≤◌, max, Bool, true, false, ◌&&◌, nat_lt, nat_le, if◌then◌else◌, Option, Some, None, List, [], ◌∷◌, map, refl, ap, arith}
+use Rattle.std.proofs.Common.{◌≡◌, ℕ, suc, ◌≤◌, max, Bool, true, false, ◌&&◌, nat_lt, nat_le, if◌then◌else◌, Option, Some, None, List, ◌∷◌, map, refl, ap, arith}
 use Rattle.csp_text.specs.Depth.{gen_depth, greatest, greatest_of_pairs, part_depth, tree_depth}
 use Rattle.csp_text.specs.declared.token.Token.{Token}
 use Rattle.csp_text.specs.declared.token.Token.TheVariants as token
@@ -29,9 +29,10 @@ use Rattle.tree_reading.proofs.Gives.{Gives}
 use Rattle.tree_reading.proofs.Follow.{Stops}
 use Rattle.tree_reading.proofs.Holds.{Holds}
 use Rattle.tree_reading.proofs.Looks as look
-use Rattle.tree_reading.proofs.Looks.{IsOperator, IsSign, binding_of, token_signs}
+use Rattle.tree_reading.proofs.Looks.{IsSign, binding_of, token_signs}
 use Rattle.tree_reading.proofs.NodeDepths as depths
 use Rattle.tree_reading.proofs.Starts.{IsOperand}
+use Rattle.csp_text.proofs.DepthLemmas.{rename_depth}
 
 abbrev pub tightness : Level → ℕ
 tightness l = number (binding_of l)
@@ -233,7 +234,7 @@ read_rename {n} {d} {ts} {p} {us} {pairs} {vs} {gs} {r} fits front given conditi
   tight = refl;
   reads = λ level x le h.
       front.reads level x le (later (there _ _ (found (nat_le (number level) 18) (nat_le 18 (number front.k)) _ le front.tight)
-      (bind _ (about d p _ (depths.depth-Rename p pairs gs)
+      (bind _ (about d p _ (rename_depth p pairs gs)
       (first_part (tree_depth p) (max (pairs_depth pairs) (greatest (map gen_depth gs)))) fits
       (bind _ (bind _ given (bind _ conditions now)) now)) h)));
 }

@@ -1,5 +1,5 @@
 -- What a look at the tokens tells, where something is there.
-use Rattle.std.proofs.Common.{◌≡◌, ℕ, zero, suc, Bool, true, false, ◌&&◌, nat_eq, if◌then◌else◌, Option, Some, None, List, [], ◌∷◌, refl, sym, ap, ◌∙◌, arith}
+use Rattle.std.proofs.Common.{◌≡◌, ℕ, zero, suc, Bool, true, false, ◌&&◌, nat_eq, if◌then◌else◌, Option, Some, None, List, ◌∷◌, refl, sym, ap, ◌∙◌, arith}
 use Rattle.csp_text.specs.declared.token.Token.{Token}
 use Rattle.csp_text.specs.declared.token.Token.TheVariants as token
 use Rattle.csp_text.specs.declared.token.Word.{Word}
@@ -21,6 +21,8 @@ use Rattle.tree_reading.specs.declared.read.Binding.{Binding}
 use Rattle.tree_reading.specs.declared.read.Binding.TheVariants as binding
 use Rattle.tree_reading.proofs.Holds.{Holds, by_case, by_then}
 use Rattle.tree_reading.proofs.Holds.Holds.{none, some}
+use Rattle.std.proofs.lemmas.Option.{same_Some}
+use Rattle.csp_base.proofs.Booleans.{and_first, and_second}
 
 symbols : List Symbol
 symbols = symbol.Arrow ∷ symbol.ExternalChoice ∷ symbol.InternalChoice ∷ symbol.Parallel ∷ symbol.OpenRename ∷ symbol.CloseRename ∷ symbol.OpenProduct ∷ symbol.CloseProduct ∷ symbol.LeftArrow ∷ symbol.DotDot ∷ symbol.Dot ∷ symbol.Bang ∷ symbol.Question ∷ symbol.Colon ∷ symbol.At ∷ symbol.Defines ∷ symbol.Equal ∷ symbol.NotEqual ∷ symbol.Less ∷ symbol.LessEqual ∷ symbol.Greater ∷ symbol.GreaterEqual ∷ symbol.Plus ∷ symbol.Minus ∷ symbol.Star ∷ symbol.Slash ∷ symbol.Percent ∷ symbol.OpenParen ∷ symbol.CloseParen ∷ symbol.OpenBrace ∷ symbol.CloseBrace ∷ symbol.OpenBracket ∷ symbol.CloseBracket ∷ symbol.Comma ∷ symbol.Ampersand ∷ symbol.Bar ∷ symbol.Backslash ∷ symbol.Semicolon ∷ []
@@ -95,9 +97,6 @@ word_at word.Union = refl
 word_at word.Stop = refl
 word_at word.Skip = refl
 
-inside : {A : Type 0} (x y : A) → ◌≡◌ {A = Option A} (Some x) (Some y) → x ≡ y
-inside x y e = cc
-
 second_half : (b : Bool) (p q : ℕ) → (b && nat_eq p q) ≡ true → p ≡ q
 second_half b p q h = grind (arith)
 
@@ -106,10 +105,10 @@ eq_places p q h = grind (arith)
 
 symbol_same : (s u : Symbol) → is_symbol s u ≡ true → u ≡ s
 symbol_same s u h =
-    inside u s (sym (symbol_at u) ∙ ap (at symbols) (second_half (nat_eq (symbol_binding u) (symbol_binding s)) (symbol_place u) (symbol_place s) h) ∙ symbol_at s)
+    same_Some u s (sym (symbol_at u) ∙ ap (at symbols) (second_half (nat_eq (symbol_binding u) (symbol_binding s)) (symbol_place u) (symbol_place s) h) ∙ symbol_at s)
 
 word_same : (w u : Word) → nat_eq (word_place u) (word_place w) ≡ true → u ≡ w
-word_same w u h = inside u w (sym (word_at u) ∙ ap (at words) (eq_places (word_place u) (word_place w) h) ∙ word_at w)
+word_same w u h = same_Some u w (sym (word_at u) ∙ ap (at words) (eq_places (word_place u) (word_place w) h) ∙ word_at w)
 
 when_true : {A : Type 0} {P : A → Type 0} (b : Bool) (x : A) → (b ≡ true → P x) → Holds P (if b then Some x else None)
 when_true false x f = none
@@ -254,12 +253,6 @@ impossible h = grind (arith)
 elim_false : {A : Type 0} → false ≡ true → A
 elim_false h = absurd (impossible h)
 
-first_half : (b c : Bool) → (b && c) ≡ true → b ≡ true
-first_half b c h = grind (arith)
-
-last_half : (b c : Bool) → (b && c) ≡ true → c ≡ true
-last_half b c h = grind (arith)
-
 pair : (x y : ℕ) (xs ys : List ℕ) → nat_eq x y ≡ true → xs ≡ ys → ◌≡◌ {A = List ℕ} (x ∷ xs) (y ∷ ys)
 pair x y xs ys h e = ap (λ z. z ∷ xs) (eq_places x y h) ∙ ap (λ zs. y ∷ zs) e
 
@@ -267,4 +260,4 @@ pub texts : (xs ys : List ℕ) → is_text xs ys ≡ true → xs ≡ ys
 texts [] [] h = refl
 texts [] (y ∷ ys) h = elim_false h
 texts (x ∷ xs) [] h = elim_false h
-texts (x ∷ xs) (y ∷ ys) h = pair x y xs ys (first_half (nat_eq x y) (is_text xs ys) h) (texts xs ys (last_half (nat_eq x y) (is_text xs ys) h))
+texts (x ∷ xs) (y ∷ ys) h = pair x y xs ys (and_first (nat_eq x y) (is_text xs ys) h) (texts xs ys (and_second (nat_eq x y) (is_text xs ys) h))

@@ -1,6 +1,6 @@
 -- The depth of each form by those of its parts.
 use Rattle.std.proofs.Common.{◌≡◌, ℕ, ◌+◌, max, false, nat_le, Some, None, List, map, sym, ap, ◌∙◌, arith}
-use Rattle.csp_text.specs.Depth.{event_depth, event_layer_depth, field_depth, field_layer_depth, gen_depth, gen_layer_depth, greatest, greatest_of_pairs, part_depth, part_layer_depth, tree_depth, tree_layer_depth}
+use Rattle.csp_text.specs.Depth.{event_depth, event_layer_depth, field_depth, field_layer_depth, gen_depth, gen_layer_depth, greatest, part_depth, part_layer_depth, tree_depth, tree_layer_depth}
 use Rattle.csp_text.specs.declared.tree.FieldTree.TheFolds.{fold-roll-Tree, fold-roll-FieldTree, fold-roll-GenTree, fold-roll-EventTree, fold-roll-PartTree, fold_out-Tree}
 use Rattle.csp_text.specs.declared.tree.FieldTree.TheOpen.{Tree-F, FieldTree-F, GenTree-F}
 use Rattle.csp_text.specs.declared.tree.FieldTree.{FieldTree}
@@ -13,7 +13,6 @@ use Rattle.csp_base.specs.declared.operators.BinOp.{BinOp}
 use Rattle.csp_base.specs.declared.operators.SetOp.{SetOp}
 use Rattle.csp_text.specs.declared.tree.Tree.{Tree}
 use Rattle.csp_text.specs.declared.tree.Tree.TheVariants as tree
-use Rattle.csp_text.proofs.DepthLemmas.{rename_depth}
 use Rattle.csp_grammar.specs.Grammar.{event_tree, part_tree}
 
 pub depth-Call : (f : List ℕ) (items : List Tree) → tree_depth (tree.Call f items) ≡ 1 + greatest (map tree_depth items)
@@ -120,10 +119,6 @@ pub depth-Prefix : (event : EventTree) (p : Tree) → tree_depth (tree.Prefix ev
 depth-Prefix event p =
     ap tree_depth (sym (tree.rolls-Prefix event p))
     ∙ fold-roll-Tree ℕ ℕ ℕ ℕ ℕ field_layer_depth gen_layer_depth tree_layer_depth event_layer_depth part_layer_depth (Tree-F.Prefix event p)
-
-pub depth-Rename : (p : Tree) (pairs : List (PartTree × PartTree)) (gens : List GenTree)
-    → tree_depth (tree.Rename p pairs gens) ≡ 1 + max (tree_depth p) (max (greatest_of_pairs (map (λ pair. (part_depth pair.0, part_depth pair.1)) pairs)) (greatest (map gen_depth gens)))
-depth-Rename p pairs gens = rename_depth p pairs gens
 
 pub depth-part : (c : List ℕ) (fields : List Tree) → part_depth (part_tree c fields) ≡ greatest (map tree_depth fields)
 depth-part c fields = fold-roll-PartTree ℕ ℕ ℕ ℕ ℕ field_layer_depth gen_layer_depth tree_layer_depth event_layer_depth part_layer_depth (record { name = c; fields = fields })

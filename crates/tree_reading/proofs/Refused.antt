@@ -1,5 +1,5 @@
 -- Texts that have no tree: the reader reads something else in them, or nothing.
-use Rattle.std.proofs.Common.{◌≡◌, ℕ, zero, suc, ◌≤◌, max, Option, Some, None, List, [], ◌∷◌, refl, sym, ap, ◌∙◌, arith}
+use Rattle.std.proofs.Common.{◌≡◌, ℕ, zero, suc, ◌≤◌, max, None, List, ◌∷◌, refl, sym, ap, ◌∙◌, arith}
 use Rattle.csp_text.specs.Depth.{tree_depth}
 use Rattle.csp_text.specs.declared.token.Token.{Token}
 use Rattle.csp_text.specs.declared.token.Token.TheVariants.{Name, Symbol}
@@ -23,6 +23,7 @@ use Rattle.tree_reading.proofs.Gives.{Gives}
 use Rattle.tree_reading.proofs.NodeDepths as depths
 use Rattle.tree_reading.proofs.Parts.{one_of_two, side_of_choices}
 use Rattle.tree_reading.proofs.Settling.{bind, granted, later, not_there, now, one_answer, same}
+use Rattle.std.proofs.lemmas.Option.{none-some}
 
 max_left : (a b : ℕ) → a ≤ max a b
 max_left a b = grind (arith)
@@ -37,12 +38,9 @@ left_over sign r e = cc
 not_all : {n d : ℕ} {ts : List Token} {t u : Tree} {sign : Token} {r : List Token} → Gives (λ L. L.tree (limits n d) ts) (t, sign ∷ r) → Gives (λ L. L.tree (limits n d) ts) (u, []) → ⊥
 not_all {sign = sign} {r = r} g h = left_over sign r (ap (λ x. x.1) (same g h))
 
-nothing_there : {A : Type 0} (a : A) → ◌≡◌ {A = Option A} None (Some a) → ⊥
-nothing_there a e = cc
-
 -- what is nothing is no tree
 none_read : {n d : ℕ} {ts : List Token} {t : Tree} → Settles (λ L. L.tree (limits n d) ts) None → Gives (λ L. L.tree (limits n d) ts) (t, []) → ⊥
-none_read {t = t} s h = nothing_there (t, []) (one_answer s h)
+none_read {t = t} s h = none-some (t, []) (one_answer s h)
 
 -- p [] q, with a rest that goes on with neither
 choice_read : (n d : ℕ) (p q : Tree) {ts us : List Token} (sign : Token) (r : List Token) → tree_depth (tree.External (p ∷ q ∷ [])) ≤ d → ClosedSequenceText n ts p (Symbol ExternalChoice ∷ us) →
@@ -125,7 +123,7 @@ dot_front n (suc d) a x p f = refl
 pub dot_behind_question : NoDotBehindQuestion
 dot_behind_question n a x p t h =
     let read = tree_read h (tree_depth t) (no_more (tree_depth t)) refl in
-    nothing_there (t, []) (sym (dot_front n (tree_depth t) a x p read.enough) ∙ read.settles (ten_more read.enough) (omega arith))
+    none-some (t, []) (sym (dot_front n (tree_depth t) a x p read.enough) ∙ read.settles (ten_more read.enough) (omega arith))
 
 bracket_none : (d : ℕ) (ts : List Token) (f : ℕ) → (limited (ten_more f)).tree (limits 0 d) (Symbol OpenParen ∷ ts) ≡ None
 unfolding limited
@@ -134,7 +132,7 @@ bracket_none d ts f = refl
 pub bracket : NoBracketBeyondTheLimit
 bracket ts t h =
     let read = tree_read h (tree_depth t) (no_more (tree_depth t)) refl in
-    nothing_there (t, []) (sym (bracket_none (tree_depth t) ts read.enough) ∙ read.settles (ten_more read.enough) (omega arith))
+    none-some (t, []) (sym (bracket_none (tree_depth t) ts read.enough) ∙ read.settles (ten_more read.enough) (omega arith))
 
 set_none : (d f : ℕ) → (limited (ten_more f)).tree (limits 0 d) (Symbol OpenBrace ∷ Symbol CloseBrace ∷ []) ≡ None
 unfolding limited
@@ -143,4 +141,4 @@ set_none d f = refl
 pub empty_set : NoEmptySetBeyondTheLimit
 empty_set t h =
     let read = tree_read h (tree_depth t) (no_more (tree_depth t)) refl in
-    nothing_there (t, []) (sym (set_none (tree_depth t) read.enough) ∙ read.settles (ten_more read.enough) (omega arith))
+    none-some (t, []) (sym (set_none (tree_depth t) read.enough) ∙ read.settles (ten_more read.enough) (omega arith))

@@ -4,6 +4,7 @@ use Rattle.csp_grammar.specs.Reader.{and_then, case}
 use Rattle.tree_reading.specs.Limited.{Limited, limited, next_limited}
 use Rattle.tree_reading.specs.Nesting.{sure}
 use Rattle.tree_reading.specs.Settled.{Settles}
+use Rattle.std.proofs.lemmas.Option.{same_Some}
 
 pub limited_next : (f : ℕ) → limited (suc f) ≡ next_limited (limited f)
 unfolding limited
@@ -60,12 +61,9 @@ first {B} {b} {o} G N e s = record { enough = s.enough; settles = λ f le. ap (�
 pub second : {B : Type 0} {b : Bool} {o : Option B} (G N : Limited → Option B) → b ≡ false → Settles N o → Settles (λ L. if b then G L else N L) o
 second {B} {b} {o} G N e s = record { enough = s.enough; settles = λ f le. ap (λ c. if c then G (limited f) else N (limited f)) e ∙ s.settles f le }
 
-inside_some : {A : Type 0} (x y : A) → ◌≡◌ {A = Option A} (Some x) (Some y) → x ≡ y
-inside_some x y e = cc
-
 -- a reading settles on one answer
 pub one_answer : {A : Type 0} {F : Limited → Option A} {o p : Option A} → Settles F o → Settles F p → o ≡ p
 one_answer {A} {F} {o} {p} s t = sym (s.settles (s.enough + t.enough) (omega arith)) ∙ t.settles (s.enough + t.enough) (omega arith)
 
 pub same : {A : Type 0} {F : Limited → Option A} {x y : A} → Settles F (Some x) → Settles F (Some y) → x ≡ y
-same {A} {F} {x} {y} s t = inside_some x y (one_answer s t)
+same {A} {F} {x} {y} s t = same_Some x y (one_answer s t)

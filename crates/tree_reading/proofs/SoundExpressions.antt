@@ -1,5 +1,5 @@
 -- What is read of expressions and sets, the grammar has.
-use Rattle.std.proofs.Common.{◌≡◌, ℕ, suc, ◌≤◌, max, Bool, true, ◌&&◌, nat_le, Option, Some, None, List, [], ◌∷◌, map, refl, sym, ap, subst, ◌∙◌, arith}
+use Rattle.std.proofs.Common.{◌≡◌, ℕ, suc, ◌≤◌, max, Bool, true, ◌&&◌, nat_le, Option, Some, None, List, ◌∷◌, map, refl, sym, ap, subst, ◌∙◌, arith}
 use Rattle.csp_text.specs.Depth.{field_depth, gen_depth, greatest, part_depth, tree_depth}
 use Rattle.csp_text.specs.declared.token.Token.{Token}
 use Rattle.csp_text.specs.declared.token.Token.TheVariants.{Name, Num, Word, Symbol}
@@ -37,18 +37,14 @@ use Rattle.tree_reading.proofs.Holds.{Holds, by_then, by_case, by_sure, by_if, b
 use Rattle.tree_reading.proofs.Holds.Holds.{none, some}
 use Rattle.tree_reading.proofs.Levels.{pairs_depth}
 use Rattle.tree_reading.proofs.Looks as look
-use Rattle.tree_reading.proofs.Looks.{IsOperator, IsSign, GoesOn}
+use Rattle.tree_reading.proofs.Looks.{IsOperator, IsSign}
 use Rattle.tree_reading.proofs.Meaning.{Sound, Expressions, ExpressionRead, ItemRead, ItemsRead, OperatorsRead, not_so_tight, loosen, of_atom}
 use Rattle.tree_reading.proofs.NodeDepths as depths
+use Rattle.csp_base.proofs.Booleans.{and_first, and_second}
+use Rattle.csp_text.proofs.DepthLemmas.{rename_depth}
 
 head_same : (x y : Tree) → ◌≡◌ {A = List Tree} (x ∷ []) (y ∷ []) → x ≡ y
 head_same x y e = cc
-
-first_half : (b c : Bool) → (b && c) ≡ true → b ≡ true
-first_half b c h = grind (arith)
-
-last_half : (b c : Bool) → (b && c) ≡ true → c ≡ true
-last_half b c h = grind (arith)
 
 pub as_deep : {x a d : ℕ} → x ≡ a → a ≤ d → x ≤ d
 as_deep {x} {a} {d} e h = omega arith
@@ -371,7 +367,7 @@ module _ (L : Limited) (S : Sound L) where
       Holds (λ p. ((us : List Token) → ExpressionText n renaming us t (Symbol symbol.OpenRename ∷ ts) → ExpressionText n renaming us p.0 p.1) × (tree_depth p.0 ≤ d)) (read_renaming L (limits n e) t ts)
   rename n d e t ts deep fits =
       by_bracketed n e _ λ m within. by_then _ (S.pairs m e ts) λ p ps. by_then _ (conditions m e p.1) λ q cs. by_then _ (look.skips symbol.CloseRename q.1) λ vs f.
-      some ((λ us front. renamed within front ps.0 (subst (λ z. ConditionsText m p.1 q.0 z) f cs.0)), node (depths.depth-Rename t p.0 q.0) deep (both fits (both ps.1 cs.1)))
+      some ((λ us front. renamed within front ps.0 (subst (λ z. ConditionsText m p.1 q.0 z) f cs.0)), node (rename_depth t p.0 q.0) deep (both fits (both ps.1 cs.1)))
 
   -- the sign with what it takes to its right
   joins : (n d : ℕ) (k : Binding) (t : Tree) (first : Token) (s : Sign) (ts : List Token) → IsSign first s → nat_le (number (left_operand (sign_binding s))) (number k) ≡ true →
@@ -386,9 +382,9 @@ module _ (L : Limited) (S : Sound L) where
   pub operators : (n d : ℕ) (m k : Binding) (t : Tree) (ts : List Token) → Holds (OperatorsRead n d m k t ts) (read_operators L (limits n d) m k t ts)
   operators n d m k t ts =
       by_case _ _ (look.signs m k ts)
-      (λ s on. by_then _ (joins n d k t on.first s.0 s.1 on.is (last_half (at_least m (sign_binding s.0)) (at_least (left_operand (sign_binding s.0)) k) on.may)) λ p w.
+      (λ s on. by_then _ (joins n d k t on.first s.0 s.1 on.is (and_second (at_least m (sign_binding s.0)) (at_least (left_operand (sign_binding s.0)) k) on.may)) λ p w.
       mapped (λ x r us le ex fits. r us
-      (subst (λ z. number m ≤ number z) (sym w.bound) (is_le (number m) (number (sign_binding s.0)) (first_half (at_least m (sign_binding s.0)) (at_least (left_operand (sign_binding s.0)) k) on.may)))
+      (subst (λ z. number m ≤ number z) (sym w.bound) (is_le (number m) (number (sign_binding s.0)) (and_first (at_least m (sign_binding s.0)) (at_least (left_operand (sign_binding s.0)) k) on.may)))
       (w.is us (subst (λ z. Expressions n (number k) us t z) on.split ex)) w.fits) (S.operators n d m p.0 p.1 p.2))
       (some (λ us le e fits. record { above = le; is = e; fits = fits }))
 

@@ -24,7 +24,7 @@ use Rattle.tree_reading.specs.declared.read.Binding.TheVariants as bound
 use Rattle.tree_reading.proofs.Complete.{prefix_depth}
 use Rattle.tree_reading.proofs.DotFields as fields
 use Rattle.tree_reading.proofs.Fitting.{both, node}
-use Rattle.tree_reading.proofs.Holds.{Holds, by_then, by_case, by_sure, by_if, by_bracketed, by_inside, by_around, is_le, itself, mapped, nothing_there}
+use Rattle.tree_reading.proofs.Holds.{Holds, by_then, by_case, by_sure, by_if, by_bracketed, by_inside, by_around, is_le, itself, mapped}
 use Rattle.tree_reading.proofs.Holds.Holds.{some}
 use Rattle.tree_reading.proofs.Looks as look
 use Rattle.tree_reading.proofs.Meaning.{Sound, Expressions, PrefixRead, SequenceRead, SideRead, ChoicesRead, Hideable, HiddenRead, HidingsRead, not_so_tight, loosen}
@@ -33,6 +33,7 @@ use Rattle.tree_reading.proofs.NodeDepths as depths
 use Rattle.tree_reading.proofs.Parts.{chosen_depth}
 use Rattle.tree_reading.proofs.SoundExpressions.{alone, dotted_read}
 use Rattle.tree_reading.proofs.Tests.{open_one, closed_two, one_or_two, not_zero, at_least_one, none_or_more}
+use Rattle.std.proofs.lemmas.Option.{none-some}
 
 not_one : {A : Type 0} (k : ℕ) → 2 ≤ k → k ≡ 1 → A
 not_one k h e = absurd (omega arith)
@@ -161,7 +162,7 @@ both_deep x a b c e h = grind (arith)
 of_first : {n : ℕ} {ts us : List Token} {r : List Token} {x deep : ℕ} (a : Tree) (o : Option (List Tree)) (ds : List Tree) → with_first a o ≡ Some ds →
     ((es : List Tree) → o ≡ Some es → DotsText n us es r × (greatest (map tree_depth es) ≤ deep)) → ExpressionText n sum ts a us → x ≡ tree_depth a →
     DotsText n (Symbol symbol.Dot ∷ ts) ds r × (greatest (map tree_depth ds) ≤ max x deep)
-of_first a None ds e f t is = absurd (nothing_there ds e)
+of_first a None ds e f t is = absurd (none-some ds e)
 of_first {n} {ts} {us} {r} {x} {deep} a (Some es) ds e f t is =
     let rest = f es refl in
     subst (λ z. DotsText n (Symbol symbol.Dot ∷ ts) z r × (greatest (map tree_depth z) ≤ max x deep)) (in_some e)
@@ -175,9 +176,9 @@ dots_of : {n : ℕ} {dot : Bool} {ts : List Token} {fs : List FieldTree} {r : Li
 dots_of {n = n} {ts = ts} ds g.fields-none e = subst (λ z. DotsText n ts z ts × (greatest (map tree_depth z) ≤ 0)) (in_some e) (g.dots-none, omega arith)
 dots_of ds (g.fields-dot {a = a'} {fs = fs'} a fs) e =
     of_first a' (dot_fields fs') ds (sym (fields.dots_more a' fs') ∙ e) (λ es f. dots_of es fs f) a (depths.depth-dot a')
-dots_of ds (g.fields-output {a = a'} {fs = fs'} a fs) e = absurd (nothing_there ds (sym (fields.no_dots (field.Output a') fs' (fields.output_is a')) ∙ e))
-dots_of ds (g.fields-input {x = x} {fs = fs'} fs) e = absurd (nothing_there ds (sym (fields.no_dots (field.Input x None) fs' (fields.input_is x None)) ∙ e))
-dots_of ds (g.fields-input-from {x = x} {s = s'} {fs = fs'} a fs) e = absurd (nothing_there ds (sym (fields.no_dots (field.Input x (Some s')) fs' (fields.input_is x (Some s'))) ∙ e))
+dots_of ds (g.fields-output {a = a'} {fs = fs'} a fs) e = absurd (none-some ds (sym (fields.no_dots (field.Output a') fs' (fields.output_is a')) ∙ e))
+dots_of ds (g.fields-input {x = x} {fs = fs'} fs) e = absurd (none-some ds (sym (fields.no_dots (field.Input x None) fs' (fields.input_is x None)) ∙ e))
+dots_of ds (g.fields-input-from {x = x} {s = s'} {fs = fs'} a fs) e = absurd (none-some ds (sym (fields.no_dots (field.Input x (Some s')) fs' (fields.input_is x (Some s'))) ∙ e))
 
 module _ (L : Limited) (S : Sound L) where
   prefixed_event : (n d e : ℕ) (ts : List Token) (c : List ℕ) (fs : List FieldTree) (us : List Token) → d ≡ suc e → EventText n ts (event_tree c fs) (Symbol symbol.Arrow ∷ us) →

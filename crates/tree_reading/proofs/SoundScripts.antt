@@ -1,5 +1,5 @@
 -- What is read of declarations, the grammar has; and so of all that the readers read.
-use Rattle.std.proofs.Common.{◌≡◌, ◌⊎◌, inl, inr, ℕ, zero, suc, ◌≤◌, Bool, true, false, ◌||◌, Some, List, [], ◌∷◌, codes, refl, sym, ap, subst, ◌∙◌, arith}
+use Rattle.std.proofs.Common.{◌≡◌, ◌⊎◌, inl, inr, ℕ, zero, suc, ◌≤◌, Bool, true, false, ◌||◌, Some, List, ◌∷◌, codes, refl, sym, ap, subst, ◌∙◌, arith}
 use Rattle.csp_text.specs.Depth.{tree_depth}
 use Rattle.csp_base.specs.declared.operators.SetOp.TheVariants as set_op
 use Rattle.csp_text.specs.declared.token.Token.{Token}
@@ -21,12 +21,13 @@ use Rattle.tree_reading.specs.Asserted.{deadlock_free, ending, is_model, model, 
 use Rattle.tree_reading.specs.Limited.{Limited, limited, next_limited, nothing_limited, read_names, read_types, read_channel, read_datatype, read_nametype, read_parameters, read_definition, read_asserted, read_assertion, read_word_declaration, read_declaration, read_declarations}
 use Rattle.tree_reading.specs.Nesting.{limits}
 use Rattle.tree_reading.specs.Starts.{named}
-use Rattle.tree_reading.proofs.Holds.{Holds, by_then, by_case, by_sure, itself, mapped, nothing_there, of_read}
+use Rattle.tree_reading.proofs.Holds.{Holds, by_then, by_case, by_sure, itself, mapped, of_read}
 use Rattle.tree_reading.proofs.Holds.Holds.{none, some}
 use Rattle.tree_reading.proofs.Looks as look
 use Rattle.tree_reading.proofs.Meaning.{Sound}
 use Rattle.tree_reading.proofs.SoundExpressions as expressions
 use Rattle.tree_reading.proofs.SoundProcesses as processes
+use Rattle.std.proofs.lemmas.Option.{none-some}
 
 either : (b c : Bool) → (b || c) ≡ true → (b ≡ true) ⊎ (c ≡ true)
 either true c h = inl refl
@@ -39,22 +40,22 @@ one_less n e = omega arith
 
 -- an atom that begins with a name is what may be asserted
 asserted_of : {n : ℕ} {us : List Token} {t : Tree} {r : List Token} {y : List ℕ × List Token} → n ≡ 400 → AtomText n us t r → named us ≡ Some y → AssertedText us t r
-asserted_of {y = y} e g.atom-stop f = absurd (nothing_there y f)
-asserted_of {y = y} e g.atom-skip f = absurd (nothing_there y f)
-asserted_of {y = y} e g.atom-truth f = absurd (nothing_there y f)
-asserted_of {y = y} e g.atom-falsehood f = absurd (nothing_there y f)
-asserted_of {y = y} e g.atom-number f = absurd (nothing_there y f)
+asserted_of {y = y} e g.atom-stop f = absurd (none-some y f)
+asserted_of {y = y} e g.atom-skip f = absurd (none-some y f)
+asserted_of {y = y} e g.atom-truth f = absurd (none-some y f)
+asserted_of {y = y} e g.atom-falsehood f = absurd (none-some y f)
+asserted_of {y = y} e g.atom-number f = absurd (none-some y f)
 asserted_of e g.atom-name f = d.name
 asserted_of {r = r} e (g.atom-call {n = n} {ts = ts} {items = items'} items) f = d.call (subst (λ z. ItemsText z ts items' (token.Symbol symbol.CloseParen ∷ r)) (one_less n e) items)
-asserted_of {y = y} e (g.atom-parentheses t) f = absurd (nothing_there y f)
-asserted_of {y = y} e g.atom-empty f = absurd (nothing_there y f)
-asserted_of {y = y} e (g.atom-display items) f = absurd (nothing_there y f)
-asserted_of {y = y} e (g.atom-range a b) f = absurd (nothing_there y f)
-asserted_of {y = y} e (g.atom-comprehension items gs) f = absurd (nothing_there y f)
-asserted_of {y = y} e (g.atom-production cs gs) f = absurd (nothing_there y f)
-asserted_of {y = y} e (g.atom-set-operator {op = set_op.Union} a b) f = absurd (nothing_there y f)
-asserted_of {y = y} e (g.atom-set-operator {op = set_op.Inter} a b) f = absurd (nothing_there y f)
-asserted_of {y = y} e (g.atom-set-operator {op = set_op.Diff} a b) f = absurd (nothing_there y f)
+asserted_of {y = y} e (g.atom-parentheses t) f = absurd (none-some y f)
+asserted_of {y = y} e g.atom-empty f = absurd (none-some y f)
+asserted_of {y = y} e (g.atom-display items) f = absurd (none-some y f)
+asserted_of {y = y} e (g.atom-range a b) f = absurd (none-some y f)
+asserted_of {y = y} e (g.atom-comprehension items gs) f = absurd (none-some y f)
+asserted_of {y = y} e (g.atom-production cs gs) f = absurd (none-some y f)
+asserted_of {y = y} e (g.atom-set-operator {op = set_op.Union} a b) f = absurd (none-some y f)
+asserted_of {y = y} e (g.atom-set-operator {op = set_op.Inter} a b) f = absurd (none-some y f)
+asserted_of {y = y} e (g.atom-set-operator {op = set_op.Diff} a b) f = absurd (none-some y f)
 
 bracketed : (m : List ℕ) (r : List Token) → (m ≡ codes "F") ⊎ (m ≡ codes "FD") → ModelText (token.Symbol symbol.OpenBracket ∷ Name m ∷ token.Symbol symbol.CloseBracket ∷ r) r
 bracketed m r h = elim h [

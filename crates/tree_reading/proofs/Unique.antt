@@ -1,5 +1,5 @@
 -- What is read is one, so the grammar has one; and a reading decides what a text is.
-use Rattle.std.proofs.Common.{◌≡◌, ℕ, ◌≤◌, max, Option, Some, None, List, refl, ap, arith}
+use Rattle.std.proofs.Common.{◌≡◌, ℕ, ◌≤◌, max, List, refl, ap, arith}
 use Rattle.csp_text.specs.Depth.{tree_depth}
 use Rattle.csp_text.specs.declared.script.Decl.{Decl}
 use Rattle.csp_text.specs.declared.script.Script.{Script}
@@ -9,6 +9,7 @@ use Rattle.tree_reading.proofs.Follow.{below_stops}
 use Rattle.tree_reading.proofs.Scripts.{declarations_read}
 use Rattle.tree_reading.proofs.Settling.{one_answer, same}
 use Rattle.tree_reading.proofs.SoundScripts.{script_sound, tree_sound}
+use Rattle.std.proofs.lemmas.Option.{none-some}
 
 max_left : (a b : ℕ) → a ≤ max a b
 max_left a b = grind (arith)
@@ -43,11 +44,8 @@ sound_trees = tree_sound
 pub settled_script : SettledScriptIsOne
 settled_script tokens s h = script_sound h.enough tokens s.decls (h.settles h.enough (omega arith))
 
-nothing_there : {A : Type 0} (a : A) → ◌≡◌ {A = Option A} None (Some a) → ⊥
-nothing_there a e = cc
-
 pub settled_nothing : SettledNothingIsNone
-settled_nothing tokens s h p = nothing_there s.decls (one_answer h (declarations_read p))
+settled_nothing tokens s h p = none-some s.decls (one_answer h (declarations_read p))
 
 pub scripts_settle : ScriptsSettle
 scripts_settle tokens s p = declarations_read p

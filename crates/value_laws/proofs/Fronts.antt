@@ -1,5 +1,5 @@
 -- The events that the fronts of a production add.
-use Rattle.std.proofs.Common.{◌≡◌, ℕ, zero, suc, ◌+◌, ◌<◌, ◌≤◌, ◌⊎◌, IsTrue, Option, Some, None, Ok, List, [], ◌∷◌, refl, sym, ◌∙◌, ap, inl, inr, arith}
+use Rattle.std.proofs.Common.{◌≡◌, ℕ, zero, suc, ◌+◌, ◌<◌, ◌≤◌, ◌⊎◌, IsTrue, Option, Some, None, Ok, List, ◌∷◌, refl, sym, ◌∙◌, ap, inl, inr, arith}
 use Rattle.std.specs.Prelude.{◌↔◌, slice_get}
 use Rattle.std.proofs.lemmas.Bool.{false≢true, cases_eq}
 use Rattle.csp_atoms.specs.Sets.{has_atom}
@@ -9,7 +9,7 @@ use Rattle.csp_program.specs.Outcome.{and_then}
 use Rattle.csp_program.specs.Value.{Env, Front, Meaning, Turn, comprehension, events_each, first_of, front_count, front_number, fronts_added, sets_of}
 use Rattle.value_laws.specs.Bindings.{BeginsWith, BeginsWithOne, IsBinding, IsSetValue}
 use Rattle.value_laws.specs.EventNumbers.{computed_number}
-use Rattle.value_laws.proofs.Lists.{came_through, same_outcome}
+use Rattle.value_laws.proofs.Lists.{same_outcome}
 use Rattle.value_laws.proofs.RowNumbers.{numbered}
 use Rattle.value_laws.proofs.TablePlaces.{as_summed, computed, beginners_stand_together}
 use Rattle.value_laws.proofs.Walks.{Grows, grows_by_one, has_here, has_after, has_cases, same_growth, no_growth, two_growths, comprehension_holds}
@@ -19,6 +19,7 @@ use Rattle.csp_atoms.specs.declared.value.Value.{Value}
 use Rattle.csp_atoms.specs.declared.value.Value.TheVariants.{Many}
 use Rattle.csp_program.specs.declared.programs.Channel.{Channel}
 use Rattle.csp_program.specs.declared.programs.Content.{Content}
+use Rattle.csp_program.proofs.Outcomes.{came_through}
 
 -- a list of atoms that are added one by one
 pub all_grow : (atoms new more : List Atom) → all_added atoms new ≡ Ok more → Grows atoms more (λ z. IsTrue (has_atom new z))

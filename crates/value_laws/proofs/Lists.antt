@@ -1,15 +1,10 @@
 -- Places in lists, and steps that came to a value.
-use Rattle.std.proofs.Common.{◌≡◌, ℕ, zero, suc, ◌+◌, ◌-◌, ◌*◌, ◌<◌, Some, Ok, Err, List, [], ◌∷◌, ◌++◌, map, length, refl, sym, ◌∙◌, ap, inl, inr, arith}
+use Rattle.std.proofs.Common.{◌≡◌, ℕ, zero, suc, ◌+◌, ◌-◌, ◌*◌, ◌<◌, Some, Ok, List, ◌∷◌, ◌++◌, map, length, refl, sym, ◌∙◌, ap, inl, inr, arith}
 use Rattle.std.specs.Prelude.{slice_get}
 use Rattle.std.proofs.lemmas.Bool.{cases_lt}
 use Rattle.std.proofs.lemmas.List.{length-append}
 use Rattle.csp_program.specs.Lists.{joined}
-use Rattle.csp_program.specs.Outcome.{Outcome, and_then}
-
--- a step that follows one came to a value only where the first did
-pub came_through : {A B : Type 0} (o : Outcome A) (next : A → Outcome B) (b : B) → and_then o next ≡ Ok b → (a : A) × (o ≡ Ok a) × (next a ≡ Ok b)
-came_through (Ok a) next b h = (a, refl, h)
-came_through (Err k) next b h = absurd (cc)
+use Rattle.csp_program.specs.Outcome.{Outcome}
 
 pub same_outcome : {A : Type 0} {a b : A} → ◌≡◌ {A = Outcome A} (Ok a) (Ok b) → a ≡ b
 same_outcome h = cc

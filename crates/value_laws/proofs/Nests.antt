@@ -1,8 +1,8 @@
 -- Uses in a program in order nest no deeper than there are definitions: along a way of uses each definition comes once.
-use Rattle.std.proofs.Common.{◌≡◌, ℕ, zero, suc, ◌+◌, ◌<◌, ◌≤◌, Bool, true, false, ◌||◌, eqb, nat_eq, IsTrue, Option, Some, None, List, [], ◌∷◌, map, length, refl, sym, ap, subst, inl, inr, arith}
+use Rattle.std.proofs.Common.{◌≡◌, ℕ, zero, suc, ◌+◌, ◌<◌, ◌≤◌, Bool, true, false, ◌||◌, eqb, nat_eq, IsTrue, Option, Some, None, List, ◌∷◌, map, length, refl, sym, ap, subst, inl, inr, arith}
 use Rattle.std.specs.Prelude.{slice_get}
 use Rattle.std.specs.List.{AllByRecursion, IsDistinct, list_any}
-use Rattle.std.proofs.lemmas.Bool.{false≢true, or_cases, eqb-true}
+use Rattle.std.proofs.lemmas.Bool.{false≢true, or_cases, eqb-true, false_from_ne_true, or_left, or_right}
 use Rattle.std.proofs.lemmas.Map.Steps.{length-le_from_distinct_below}
 use Rattle.csp_program.specs.InOrder.{IsInOrder, body_in_order, def_in_order, expr_in_order}
 use Rattle.csp_program.specs.Lists.{all_true}
@@ -11,33 +11,22 @@ use Rattle.csp_program.specs.Uses.{Reaches, body_uses, def_uses, expr_uses}
 use Rattle.csp_program.specs.Uses.Reaches.{by_use, by_way}
 use Rattle.csp_program.proofs.UsesWithin.{value_within_same}
 use Rattle.value_laws.specs.EnoughUses.{DefinitionsAreEnough, MoreUsesChangeNothing, UsesNestWithinDefinitions}
-use Rattle.value_laws.proofs.UsesInRange.{and_first, and_second, uses_in_range}
+use Rattle.value_laws.proofs.UsesInRange.{uses_in_range}
 use Rattle.csp_program.specs.declared.expressions.Expr.{Expr}
 use Rattle.csp_program.specs.declared.programs.Body.{Body}
 use Rattle.csp_program.specs.declared.programs.Body.TheVariants as body
 use Rattle.csp_program.specs.declared.programs.Content.{Content}
 use Rattle.csp_program.specs.declared.programs.Def.{Def}
-
-no_true : (b : Bool) → (b ≡ true → ⊥) → b ≡ false
-no_true true h = absurd (h refl)
-no_true false h = refl
-
-or_first : (a b : Bool) → a ≡ true → (a || b) ≡ true
-or_first true b t = refl
-or_first false b t = absurd (false≢true t)
-
-or_second : (a b : Bool) → b ≡ true → (a || b) ≡ true
-or_second true b t = refl
-or_second false b t = t
+use Rattle.csp_base.proofs.Booleans.{is_first, is_second}
 
 apart : (d : ℕ) (seen : List ℕ) → (list_any (eqb d) seen ≡ true → ⊥) → AllByRecursion (λ y. eqb d y ≡ false) seen
 apart d [] h = tt
-apart d (y ∷ seen) h = (no_true (eqb d y) (λ e. h (or_first (eqb d y) (list_any (eqb d) seen) e)), apart d seen (λ e. h (or_second (eqb d y) (list_any (eqb d) seen) e)))
+apart d (y ∷ seen) h = (false_from_ne_true (eqb d y) (λ e. h (or_left (eqb d y) (list_any (eqb d) seen) e)), apart d seen (λ e. h (or_right (eqb d y) (list_any (eqb d) seen) e)))
 
 pub all_at : (order : Def → Bool) (defs : List Def) (d : ℕ) (def : Def) → IsTrue (all_true (map order defs)) → slice_get defs d ≡ Some def → IsTrue (order def)
 all_at order [] d def all h = absurd (cc)
-all_at order (first ∷ defs) zero def all h = let e : first ≡ def = cc in subst (λ (x : Def). IsTrue (order x)) e (and_first (order first) (all_true (map order defs)) all)
-all_at order (first ∷ defs) (suc d) def all h = all_at order defs d def (and_second (order first) (all_true (map order defs)) all) h
+all_at order (first ∷ defs) zero def all h = let e : first ≡ def = cc in subst (λ (x : Def). IsTrue (order x)) e (is_first (order first) (all_true (map order defs)) all)
+all_at order (first ∷ defs) (suc d) def all h = all_at order defs d def (is_second (order first) (all_true (map order defs)) all) h
 
 -- one use more at the end
 way_on : (defs : List Def) (i j k : ℕ) → Reaches defs i j → IsTrue (def_uses (slice_get defs j) k) → Reaches defs i k
@@ -52,7 +41,7 @@ module _ (p : Content) where
   body_nests : (within : Expr → Type 0) (params : List ℕ) (b : Body)
       → ((e : Expr) → IsTrue (expr_in_order p e) → ((j : ℕ) → IsTrue (expr_uses e j) → IsTrue (body_uses b j)) → within e) → IsTrue (body_in_order p params b) → BodyNests within b
   body_nests within params (body.Datum e) h o = h e o (λ j t. t)
-  body_nests within params (body.Nametype e) h o = h e (and_second (nat_eq (length params) 0) (expr_in_order p e) o) (λ j t. t)
+  body_nests within params (body.Nametype e) h o = h e (is_second (nat_eq (length params) 0) (expr_in_order p e) o) (λ j t. t)
   body_nests within params (body.Datatype ks) h o = tt
   body_nests within params (body.Process q) h o = tt
   body_nests within params (body.Network n) h o = tt
@@ -86,7 +75,7 @@ module _ (p : Content) where
   pub nests : IsInOrder p → (n : ℕ) (seen : List ℕ) → n + length seen ≡ length p.defs → (e : Expr) → IsTrue (expr_in_order p e) → Way seen e → NestsWithin p.defs n e
   unfolding IsDistinct
   nests ordered zero seen count e o w =
-      λ d. no_true (expr_uses e d)
+      λ d. false_from_ne_true (expr_uses e d)
       (λ t. let l = uses_in_range p e o d t in
       let most : length (d ∷ seen) ≤ length p.defs = length-le_from_distinct_below (d ∷ seen) (length p.defs) (apart d seen (new_use ordered.no_circle seen e w d t), w.distinct) (below_then seen e w d l) in
       omega arith)

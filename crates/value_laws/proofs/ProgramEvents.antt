@@ -1,5 +1,5 @@
 -- The values of events in a program in order.
-use Rattle.std.proofs.Common.{◌≡◌, ℕ, zero, suc, Bool, nat_eq, IsTrue, Option, Some, Ok, List, [], ◌∷◌, map, length, refl, sym, ◌∙◌, ap, subst, inl, inr}
+use Rattle.std.proofs.Common.{◌≡◌, ℕ, zero, suc, Bool, nat_eq, IsTrue, Option, Some, Ok, List, ◌∷◌, map, length, refl, sym, ◌∙◌, ap, subst, inl, inr}
 use Rattle.std.specs.Prelude.{is_none, slice_get}
 use Rattle.std.proofs.lemmas.Bool.{false≢true, eqb-true}
 use Rattle.std.proofs.lemmas.List.{length-map}
@@ -12,9 +12,8 @@ use Rattle.value_laws.specs.EventNumbers.{HasSets, HaveValues, StandsAt, compute
 use Rattle.value_laws.specs.ProgramEvents.{IsEventAt, PlacesAreValues, ValuesArePlaces}
 use Rattle.value_laws.proofs.AtExpressions.{events_are_worth_their_numbers}
 use Rattle.value_laws.proofs.Fronts.{has_sets}
-use Rattle.value_laws.proofs.Lists.{came_through, same_outcome}
+use Rattle.value_laws.proofs.Lists.{same_outcome}
 use Rattle.value_laws.proofs.TablePlaces.{numbers_are_places, places_are_numbers}
-use Rattle.value_laws.proofs.UsesInRange.{and_first, and_second}
 use Rattle.csp_atoms.specs.declared.atom.Atom.{Atom}
 use Rattle.csp_atoms.specs.declared.atom.Atom.TheVariants as atom
 use Rattle.csp_atoms.specs.declared.value.Value.{Value}
@@ -26,12 +25,14 @@ use Rattle.csp_program.specs.declared.expressions.Expr.TheVariants as expr
 use Rattle.csp_program.specs.declared.programs.Channel.{Channel}
 use Rattle.csp_program.specs.declared.programs.Content.{Content}
 use Rattle.csp_program.specs.declared.programs.EventInfo.{EventInfo}
+use Rattle.csp_program.proofs.Outcomes.{came_through}
+use Rattle.csp_base.proofs.Booleans.{is_first, is_second}
 
 none_lacks : (channels : List Channel) (c : ℕ) (sets : List (List Atom)) → IsTrue (all_true (map lacks_sets channels)) → HasSets channels c sets → ⊥
 none_lacks [] c sets all h = absurd (cc)
 none_lacks (channel ∷ channels) zero sets all h =
-    false≢true (ap is_none (sym h) ∙ and_first (lacks_sets channel) (all_true (map lacks_sets channels)) all)
-none_lacks (channel ∷ channels) (suc c) sets all h = none_lacks channels c sets (and_second (lacks_sets channel) (all_true (map lacks_sets channels)) all) h
+    false≢true (ap is_none (sym h) ∙ is_first (lacks_sets channel) (all_true (map lacks_sets channels)) all)
+none_lacks (channel ∷ channels) (suc c) sets all h = none_lacks channels c sets (is_second (lacks_sets channel) (all_true (map lacks_sets channels)) all) h
 
 -- the table of a program is that of its channels, where one of them has its sets
 pub table_from_sets : (p : Content) → IsEventTable p → (c : ℕ) (sets : List (List Atom)) → HasSets p.channels c sets → p.events ≡ event_table p.channels
@@ -54,19 +55,19 @@ module _ (p : Content) where
       → IsTrue (with_fields (λ n. nat_eq n count) (slice_get channels c)) → count ≡ length sets
   as_many [] c sets count all h asked = absurd (cc)
   as_many (channel ∷ channels) zero sets count all h asked =
-      let own = and_second (all_true (map (expr_in_order p) channel.types)) (sets_in_order p (length channel.types) channel.fields)
-      (and_first (channel_in_order p channel) (all_true (map (channel_in_order p) channels)) all) in
+      let own = is_second (all_true (map (expr_in_order p) channel.types)) (sets_in_order p (length channel.types) channel.fields)
+      (is_first (channel_in_order p channel) (all_true (map (channel_in_order p) channels)) all) in
       let sets_fit = subst (λ (o : Option (List (List Atom))). IsTrue (sets_in_order p (length channel.types) o)) h own in
-      let same_sets : length sets ≡ length channel.types = eqb-true (length sets) (length channel.types) (and_first (nat_eq (length sets) (length channel.types)) (all_true (map (set_in_order p) sets)) sets_fit) in
+      let same_sets : length sets ≡ length channel.types = eqb-true (length sets) (length channel.types) (is_first (nat_eq (length sets) (length channel.types)) (all_true (map (set_in_order p) sets)) sets_fit) in
       sym (same_sets ∙ eqb-true (length channel.types) count asked)
   as_many (channel ∷ channels) (suc c) sets count all h asked =
-      as_many channels c sets count (and_second (channel_in_order p channel) (all_true (map (channel_in_order p) channels)) all) h asked
+      as_many channels c sets count (is_second (channel_in_order p channel) (all_true (map (channel_in_order p) channels)) all) h asked
 
   -- an expression of an event that is in order has as many fields as its channel
   asks : (c : ℕ) (fields : List Expr) → IsTrue (expr_in_order p (expr.Event c fields)) → IsTrue (with_fields (λ n. nat_eq n (length (map (expr_in_order p) fields))) (slice_get p.channels c))
   asks c fields o =
       let rolls = fold-roll-Expr Bool Bool Bool (expr_in_order_of_layer p) (gen_in_order_of_layer p) (part_in_order_of_layer p) (Expr-F.Event c fields) in
-      and_first (with_fields (λ n. nat_eq n (length (map (expr_in_order p) fields))) (slice_get p.channels c)) (all_true (map (expr_in_order p) fields))
+      is_first (with_fields (λ n. nat_eq n (length (map (expr_in_order p) fields))) (slice_get p.channels c)) (all_true (map (expr_in_order p) fields))
       (sym rolls ∙ ap (expr_in_order p) (expr.rolls-Event c fields) ∙ o)
 
   lit_meaning : (n : ℕ) (v : Value) → meaning (uses_within p n) p.channels (expr.Lit v) ≡ meaning_of_layer (uses_within p n) p.channels (Expr-F.Lit v)

@@ -1,13 +1,13 @@
 -- The values of the fields of a program in order rise.
-use Rattle.std.proofs.Common.{ℕ, IsTrue, Bool, nat_eq, Option, Some, None, List, [], ◌∷◌, map, length}
+use Rattle.std.proofs.Common.{ℕ, IsTrue, nat_eq, Option, Some, None, List, ◌∷◌, map, length}
 use Rattle.csp_atoms.specs.Sets.{IsRising, is_set}
 use Rattle.csp_atoms.proofs.SetTest.{IsAtomSet-from}
-use Rattle.csp_program.specs.InOrder.{IsInOrder, channel_in_order, expr_in_order, is_field_value, set_in_order, sets_in_order}
+use Rattle.csp_program.specs.InOrder.{channel_in_order, expr_in_order, is_field_value, set_in_order, sets_in_order}
 use Rattle.csp_program.specs.Lists.{all_true}
-use Rattle.value_laws.proofs.UsesInRange.{and_first, and_second}
 use Rattle.csp_atoms.specs.declared.atom.Atom.{Atom}
 use Rattle.csp_program.specs.declared.programs.Channel.{Channel}
 use Rattle.csp_program.specs.declared.programs.Content.{Content}
+use Rattle.csp_base.proofs.Booleans.{is_first, is_second}
 
 -- each list of values rises
 abbrev pub AllRise : List (List Atom) → Type 0
@@ -27,19 +27,19 @@ module _ (p : Content) where
   all_rise : (sets : List (List Atom)) → IsTrue (all_true (map (set_in_order p) sets)) → AllRise sets
   all_rise [] o = tt
   all_rise (set ∷ sets) o = (
-    (IsAtomSet-from set (and_second (all_true (map (is_field_value p) set)) (is_set set) (and_first (set_in_order p set) (all_true (map (set_in_order p) sets)) o))).0,
-    all_rise sets (and_second (set_in_order p set) (all_true (map (set_in_order p) sets)) o),
+    (IsAtomSet-from set (is_second (all_true (map (is_field_value p) set)) (is_set set) (is_first (set_in_order p set) (all_true (map (set_in_order p) sets)) o))).0,
+    all_rise sets (is_second (set_in_order p set) (all_true (map (set_in_order p) sets)) o),
   )
 
   fields_rise : (count : ℕ) (o : Option (List (List Atom))) → IsTrue (sets_in_order p count o) → FieldsRise o
   fields_rise count None o = tt
-  fields_rise count (Some sets) o = all_rise sets (and_second (nat_eq (length sets) count) (all_true (map (set_in_order p) sets)) o)
+  fields_rise count (Some sets) o = all_rise sets (is_second (nat_eq (length sets) count) (all_true (map (set_in_order p) sets)) o)
 
   pub field_sets_rise : (channels : List Channel) → IsTrue (all_true (map (channel_in_order p) channels)) → FieldSetsRise channels
   field_sets_rise [] o = tt
   field_sets_rise (channel ∷ channels) o = (
     fields_rise (length channel.types) channel.fields
-        (and_second (all_true (map (expr_in_order p) channel.types)) (sets_in_order p (length channel.types) channel.fields)
-        (and_first (channel_in_order p channel) (all_true (map (channel_in_order p) channels)) o)),
-    field_sets_rise channels (and_second (channel_in_order p channel) (all_true (map (channel_in_order p) channels)) o),
+        (is_second (all_true (map (expr_in_order p) channel.types)) (sets_in_order p (length channel.types) channel.fields)
+        (is_first (channel_in_order p channel) (all_true (map (channel_in_order p) channels)) o)),
+    field_sets_rise channels (is_second (channel_in_order p channel) (all_true (map (channel_in_order p) channels)) o),
   )

@@ -1,5 +1,5 @@
 -- The number of the first fields of an event, and the rows that begin with them.
-use Rattle.std.proofs.Common.{◌≡◌, ℕ, zero, suc, ◌+◌, ◌*◌, Bool, true, false, cond, Option, Some, None, Ok, List, [], ◌∷◌, ◌++◌, map, length, take, drop, refl, sym, ◌∙◌, ap, subst, arith}
+use Rattle.std.proofs.Common.{◌≡◌, ℕ, zero, suc, ◌+◌, ◌*◌, Bool, true, false, cond, Option, Some, None, Ok, List, ◌∷◌, ◌++◌, map, length, take, drop, refl, sym, ◌∙◌, ap, subst, arith}
 use Rattle.std.specs.Prelude.{slice_get}
 use Rattle.std.specs.Option.{option_map}
 use Rattle.std.proofs.lemmas.List.{length-map}
@@ -13,10 +13,11 @@ use Rattle.csp_program.specs.Outcome.{and_then}
 use Rattle.csp_program.specs.Value.{Env, Meaning, events_each, field_place, fields_number, found_place, values_of}
 use Rattle.value_laws.specs.EventNumbers.{HaveValues}
 use Rattle.value_laws.proofs.Rises.{AllRise}
-use Rattle.value_laws.proofs.Lists.{came_through, same_outcome, length-joined, get_joined, from_joined}
+use Rattle.value_laws.proofs.Lists.{same_outcome, length-joined, get_joined, from_joined}
 use Rattle.csp_atoms.specs.declared.atom.Atom.{Atom}
 use Rattle.csp_atoms.specs.declared.value.Value.{Value}
 use Rattle.csp_atoms.specs.declared.value.Value.TheVariants.{One, Many}
+use Rattle.csp_program.proofs.Outcomes.{came_through}
 
 -- ---- the place of a value among the values of a field
 

@@ -1,5 +1,5 @@
 -- Where the events of a channel stand in the event table.
-use Rattle.std.proofs.Common.{◌≡◌, ℕ, zero, suc, ◌+◌, ◌-◌, ◌*◌, ◌<◌, ◌≤◌, Option, Some, None, Ok, List, [], ◌∷◌, ◌++◌, map, length, take, drop, refl, sym, ◌∙◌, ap, subst, inl, inr, arith}
+use Rattle.std.proofs.Common.{◌≡◌, ℕ, zero, suc, ◌+◌, ◌-◌, ◌*◌, ◌<◌, ◌≤◌, Option, Some, None, Ok, List, ◌∷◌, ◌++◌, map, length, take, drop, refl, sym, ◌∙◌, ap, subst, inl, inr, arith}
 use Rattle.std.specs.Prelude.{slice_get}
 use Rattle.std.specs.Option.{option_map}
 use Rattle.std.proofs.lemmas.Bool.{cases_lt}
@@ -8,18 +8,17 @@ use Rattle.std.proofs.lemmas.Option.{slice_get-map, slice_get_within}
 use Rattle.std.proofs.Math.Seq.{drop-length}
 use Rattle.csp_program.specs.EventNumber.{KeepFirsts, event_count, first_event, row_count}
 use Rattle.csp_program.specs.EventTable.{event_of, events_from_channel, channel_events, rows}
-use Rattle.csp_program.specs.InOrder.{IsInOrder}
 use Rattle.csp_program.specs.Outcome.{Outcome, and_then}
 use Rattle.csp_program.specs.Value.{Env, Meaning, events_each, fields_number, first_of, front_number, sets_of}
 use Rattle.value_laws.specs.EventNumbers.{HasSets, HaveValues, StandsAt, computed_number, NumbersArePlaces, PlacesAreNumbers, BeginnersStandTogether}
-use Rattle.value_laws.proofs.Lists.{came_through, get_left, get_right, same_outcome}
+use Rattle.value_laws.proofs.Lists.{get_left, get_right, same_outcome}
 use Rattle.value_laws.proofs.Rises.{AllRise, FieldsRise, FieldSetsRise, field_sets_rise}
 use Rattle.value_laws.proofs.RowNumbers.{length-rows, no_fields, numbered, placed}
 use Rattle.csp_atoms.specs.declared.atom.Atom.{Atom}
 use Rattle.csp_atoms.specs.declared.value.Value.TheVariants.{One}
 use Rattle.csp_program.specs.declared.programs.Channel.{Channel}
-use Rattle.csp_program.specs.declared.programs.Content.{Content}
 use Rattle.csp_program.specs.declared.programs.EventInfo.{EventInfo}
+use Rattle.csp_program.proofs.Outcomes.{came_through}
 
 -- the number that is computed where the channels before are counted
 abbrev pub summed_number : List Channel → ℕ → List Meaning → Env → Outcome ℕ

@@ -1,5 +1,5 @@
 -- Evaluation without a bound, in a program in order.
-use Rattle.std.proofs.Common.{◌≡◌, ℕ, zero, suc, IsTrue, Option, Some, None, List, [], length, refl, sym, ◌∙◌, arith}
+use Rattle.std.proofs.Common.{◌≡◌, ℕ, zero, suc, IsTrue, Option, Some, None, List, length, refl, sym, ◌∙◌, arith}
 use Rattle.std.specs.Prelude.{nat_eq, slice_get}
 use Rattle.std.proofs.lemmas.Bool.{false≢true}
 use Rattle.csp_program.specs.InOrder.{IsInOrder, body_in_order, def_in_order, expr_in_order}
@@ -8,12 +8,12 @@ use Rattle.csp_program.specs.Value.{Meaning, body_value, bound_to, def_value, us
 use Rattle.csp_program.proofs.UsesWithin.{meaning_same}
 use Rattle.value_laws.specs.EnoughUses.{IsUnbounded, UnboundedIsWorth, WorthIsUnbounded, uses_by}
 use Rattle.value_laws.proofs.Nests.{all_at, definitions_are_enough, uses_nest_within_definitions}
-use Rattle.value_laws.proofs.UsesInRange.{and_second}
 use Rattle.csp_program.specs.declared.expressions.Expr.{Expr}
 use Rattle.csp_program.specs.declared.programs.Body.{Body}
 use Rattle.csp_program.specs.declared.programs.Body.TheVariants as body
 use Rattle.csp_program.specs.declared.programs.Content.{Content}
 use Rattle.csp_program.specs.declared.programs.Def.{Def}
+use Rattle.csp_base.proofs.Booleans.{is_second}
 
 pub worth_is_unbounded : WorthIsUnbounded
 worth_is_unbounded p ordered e o env = sym (definitions_are_enough p ordered e o (suc (length p.defs)) (omega arith) env)
@@ -22,7 +22,7 @@ worth_is_unbounded p ordered e o env = sym (definitions_are_enough p ordered e o
 module _ (p : Content) (f g : Expr → Meaning) (within : Expr → Type 0) (agree : (e : Expr) → IsTrue (expr_in_order p e) → within e → f e ≡ g e) where
   bodies_agree : (params : List ℕ) (b : Body) → IsTrue (body_in_order p params b) → BodyNests within b → body_value f params b ≡ body_value g params b
   bodies_agree params (body.Datum e) o h = λ i args. agree e o h i (bound_to params args)
-  bodies_agree params (body.Nametype e) o h = λ i args. agree e (and_second (nat_eq (length params) 0) (expr_in_order p e) o) h i []
+  bodies_agree params (body.Nametype e) o h = λ i args. agree e (is_second (nat_eq (length params) 0) (expr_in_order p e) o) h i []
   bodies_agree params (body.Datatype ks) o h = refl
   bodies_agree params (body.Process q) o h = refl
   bodies_agree params (body.Network n) o h = refl

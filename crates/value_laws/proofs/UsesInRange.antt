@@ -1,5 +1,5 @@
 -- An expression in order uses definitions that are there.
-use Rattle.std.proofs.Common.{◌≡◌, ℕ, zero, suc, ◌<◌, Bool, true, false, ◌&&◌, nat_eq, IsTrue, List, [], ◌∷◌, map, length, refl, sym, ◌∙◌, ap, subst, inl, inr, arith}
+use Rattle.std.proofs.Common.{◌≡◌, ℕ, zero, suc, ◌<◌, Bool, true, ◌&&◌, nat_eq, IsTrue, List, ◌∷◌, map, length, sym, ◌∙◌, ap, subst, inl, inr, arith}
 use Rattle.std.specs.Prelude.{slice_get}
 use Rattle.std.proofs.lemmas.Bool.{false≢true, or_cases, eqb-true}
 use Rattle.csp_program.specs.Free.{Names, nowhere, either, any_of}
@@ -15,14 +15,7 @@ use Rattle.csp_program.specs.declared.expressions.Gen.{Gen}
 use Rattle.csp_program.specs.declared.programs.Body.{Body}
 use Rattle.csp_program.specs.declared.programs.Content.{Content}
 use Rattle.csp_program.specs.declared.programs.Def.{Def}
-
-pub and_first : (a b : Bool) → IsTrue (a && b) → IsTrue a
-and_first true b t = refl
-and_first false b t = absurd (false≢true t)
-
-pub and_second : (a b : Bool) → IsTrue (a && b) → IsTrue b
-and_second true b t = t
-and_second false b t = absurd (false≢true t)
+use Rattle.csp_base.proofs.Booleans.{is_first, is_second}
 
 abbrev gen_uses : Gen → Names
 gen_uses = fold-Gen Names Names Names expr_uses_of_layer gen_uses_of_layer part_uses_of_layer
@@ -44,10 +37,10 @@ module _ (p : Content) where
   nothing ordered o d t = absurd (false≢true t)
 
   both : (a b : Bool) (f g : Names) → InRange a f → InRange b g → InRange (a && b) (either f g)
-  both a b f g h k o d t = elim (or_cases (f d) (g d) t) [ inl l ↦ h (and_first a b o) d l | inr r ↦ k (and_second a b o) d r ]
+  both a b f g h k o d t = elim (or_cases (f d) (g d) t) [ inl l ↦ h (is_first a b o) d l | inr r ↦ k (is_second a b o) d r ]
 
   beside : (a b : Bool) (f : Names) → InRange b f → InRange (a && b) f
-  beside a b f h o d t = h (and_second a b o) d t
+  beside a b f h o d t = h (is_second a b o) d t
 
   one_use : (of_class : Body → Bool) (count d : ℕ) → InRange (takes of_class count (slice_get p.defs d)) (λ j. nat_eq d j)
   one_use of_class count d o j t = subst (λ k. k < length p.defs) (eqb-true d j t) (taken_within of_class count p.defs d o)
@@ -156,7 +149,7 @@ module _ (p : Content) where
       moved (part_in_order p (roll-EventPart d)) ordered (part_uses (roll-EventPart d)) used
       (fold-roll-EventPart Bool Bool Bool (expr_in_order_of_layer p) (gen_in_order_of_layer p) (part_in_order_of_layer p) d)
       (fold-roll-EventPart Names Names Names expr_uses_of_layer gen_uses_of_layer part_uses_of_layer d)
-      (λ o j t. exprs_range y.fields (and_second _ (all_true (map (expr_in_order p) (map (λ e. e.0) y.fields))) o) j t)
+      (λ o j t. exprs_range y.fields (is_second _ (all_true (map (expr_in_order p) (map (λ e. e.0) y.fields))) o) j t)
 
   pub uses_in_range : (e : Expr) → RangeExpr e
   uses_in_range = ind-Expr RangeExpr RangeGen RangePart

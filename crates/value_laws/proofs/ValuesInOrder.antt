@@ -1,21 +1,21 @@
 -- The value of an expression in order, over a program in order, is in order.
-use Rattle.std.proofs.Common.{◌≡◌, ℕ, zero, suc, ◌<◌, Bool, true, false, cond, ◌&&◌, not, IsTrue, Option, Some, None, Ok, Err, List, [], ◌∷◌, map, length, refl, sym, ◌∙◌, ap, subst, inl, inr, arith}
+use Rattle.std.proofs.Common.{◌≡◌, ℕ, zero, suc, ◌<◌, Bool, true, false, cond, ◌&&◌, not, IsTrue, Option, Some, None, Ok, Err, List, ◌∷◌, map, length, refl, sym, ◌∙◌, subst, inl, inr, arith}
 use Rattle.std.specs.Prelude.{ℤ, pos, negsuc, ◌+ℤ◌, ◌<ℤ◌, ◌-ℤ◌, ◌*ℤ◌, neg_ℤ, int_lt, int_le, nat_lt, nat_eq, slice_get}
 use Rattle.std.proofs.lemmas.Bool.{false≢true, lt-ltb, or_cases}
 use Rattle.std.proofs.lemmas.Int.{ints}
 use Rattle.std.proofs.lemmas.List.{length-map}
 use Rattle.std.proofs.lemmas.Option.{slice_get_within}
-use Rattle.csp_atoms.specs.Order.{less, same_kind}
+use Rattle.csp_atoms.specs.Order.{same_kind}
 use Rattle.csp_atoms.specs.Sets.{AllAbove, AllOfKind, IsAtomSet, IsRising, alike, diff_of, has_atom, inter_of, is_set, union_of}
 use Rattle.csp_atoms.proofs.ListLaws.{one_kind}
 use Rattle.csp_atoms.proofs.MemberLaws.{has-diff_of, has-inter_of, has-union_of}
 use Rattle.csp_atoms.proofs.SetLaws.{IsAtomSet-filter, IsAtomSet-union_of}
 use Rattle.csp_atoms.proofs.SetTest.{IsAtomSet-from, is_set-when}
 use Rattle.csp_program.specs.Atoms.{all_added, limited, numbers_from}
-use Rattle.csp_program.specs.InOrder.{IsInOrder, atom_in_order, body_in_order, channel_in_order, def_in_order, expr_in_order, expr_in_order_of_layer, gen_in_order, gen_in_order_of_layer, is_datum, is_set_name, part_in_order, part_in_order_of_layer, takes, value_in_order, with_fields}
+use Rattle.csp_program.specs.InOrder.{IsInOrder, atom_in_order, body_in_order, def_in_order, expr_in_order, expr_in_order_of_layer, gen_in_order, gen_in_order_of_layer, is_datum, part_in_order, part_in_order_of_layer, takes, value_in_order, with_fields}
 use Rattle.csp_program.specs.Lists.{all_true}
 use Rattle.csp_program.specs.Outcome.{Outcome, and_then}
-use Rattle.csp_program.specs.Value.{Env, Front, Meaning, Turn, Uses, as_atom, as_number, as_set, as_truth, binary, body_value, bound_to, bound_value, comprehension, def_value, divided, first_of, from, front, front_number, front_of_layer, fronts_added, in_range, items_added, lack_sets, many, meaning, meaning_of_layer, number, on_numbers, on_truths, on_atoms, quotient, remainder, set_binary, sets_of, truth, turn, turn_of_layer, uses_within, value_within, values_of, when}
+use Rattle.csp_program.specs.Value.{Env, Front, Meaning, Turn, Uses, as_atom, as_number, as_set, as_truth, binary, body_value, bound_to, bound_value, def_value, divided, first_of, from, front, front_number, front_of_layer, in_range, items_added, lack_sets, many, meaning, meaning_of_layer, number, on_numbers, on_truths, on_atoms, quotient, remainder, set_binary, sets_of, truth, turn, turn_of_layer, uses_within, value_within, values_of, when}
 use Rattle.csp_program.specs.Value as meant
 use Rattle.value_laws.specs.Bindings.{BeginsWithOne, IsBinding, IsItem}
 use Rattle.csp_program.specs.EventTable.{event_of}
@@ -23,11 +23,10 @@ use Rattle.value_laws.specs.EventNumbers.{HasSets, StandsAt}
 use Rattle.value_laws.specs.ValuesInOrder.{EnvIsInOrder, ValuesAreInOrder}
 use Rattle.value_laws.proofs.AtExpressions.{with_sets}
 use Rattle.value_laws.proofs.Fronts.{all_grow, events_held, has_sets}
-use Rattle.value_laws.proofs.Lists.{came_through, same_outcome}
+use Rattle.value_laws.proofs.Lists.{same_outcome}
 use Rattle.value_laws.proofs.Nests.{all_at}
 use Rattle.value_laws.proofs.ProgramEvents.{as_many, stands_in, table_from_sets}
 use Rattle.value_laws.proofs.TablePlaces.{numbers_are_places, of_table}
-use Rattle.value_laws.proofs.UsesInRange.{and_first, and_second}
 use Rattle.value_laws.proofs.Walks.{has_after, has_cases, has_here, held, items_grow, items_held, limit_back, passed}
 use Rattle.csp_atoms.specs.declared.atom.Atom.{Atom}
 use Rattle.csp_atoms.specs.declared.atom.Atom.TheVariants as atom
@@ -38,27 +37,22 @@ use Rattle.csp_base.specs.declared.operators.BinOp.TheVariants as op
 use Rattle.csp_base.specs.declared.operators.SetOp.{SetOp}
 use Rattle.csp_base.specs.declared.operators.SetOp.TheVariants as set_op
 use Rattle.csp_program.specs.declared.expressions.Expr.{Expr}
-use Rattle.csp_program.specs.declared.expressions.Expr.TheFolds.{fold-Gen, fold-EventPart, fold-roll-Expr, fold-roll-Gen, fold-roll-EventPart, ind-Expr, map-Expr, map-Gen, map-EventPart}
-use Rattle.csp_program.specs.declared.expressions.Expr.TheOpen.{Expr-F, Gen-F, EventPart-F}
-use Rattle.csp_program.specs.declared.expressions.Expr.TheViews.{roll-Expr, roll-Gen, roll-EventPart}
+use Rattle.csp_program.specs.declared.expressions.Expr.TheFolds.{fold-roll-Expr, fold-roll-Gen, ind-Expr, map-Expr, map-Gen}
+use Rattle.csp_program.specs.declared.expressions.Expr.TheOpen.{Expr-F, Gen-F}
+use Rattle.csp_program.specs.declared.expressions.Expr.TheViews.{roll-Expr, roll-Gen}
 use Rattle.csp_program.specs.declared.expressions.EventPart.{EventPart}
 use Rattle.csp_program.specs.declared.expressions.Gen.{Gen}
 use Rattle.csp_program.specs.declared.kinds.ValueKind.{ValueKind}
-use Rattle.csp_program.specs.declared.kinds.ValueKind.TheVariants.{Range, Division, Kind, SetLimit}
+use Rattle.csp_program.specs.declared.kinds.ValueKind.TheVariants.{Range, Division, Kind}
 use Rattle.csp_program.specs.declared.programs.Body.{Body}
 use Rattle.csp_program.specs.declared.programs.Body.TheVariants as body
 use Rattle.csp_program.specs.declared.programs.Content.{Content}
 use Rattle.csp_program.specs.declared.programs.Def.{Def}
-
-both : (a b : Bool) → IsTrue a → IsTrue b → IsTrue (a && b)
-both true b s t = t
-both false b s t = absurd (false≢true s)
+use Rattle.csp_base.proofs.Booleans.{is_and, is_first, is_second}
+use Rattle.csp_program.proofs.Outcomes.{came_through}
+use Rattle.csp_atoms.proofs.OrderLaws.{less_number}
 
 -- ---- numbers in a row
-
-less_number : (m n : ℤ) → m <ℤ n → less (atom.Num m) (atom.Num n) ≡ true
-unfolding less
-less_number m n h = grind (arith, ints)
 
 above_numbers : (x m : ℤ) (k : ℕ) → x <ℤ m → AllAbove (atom.Num x) (numbers_from m k)
 above_numbers x m zero h = tt
@@ -147,25 +141,25 @@ module _ (p : Content) where
   all_in : (set : List Atom) → AllIn set → IsTrue (all_true (map (atom_in_order p) set))
   all_in [] f = refl
   all_in (a ∷ rest) f =
-      both (atom_in_order p a) (all_true (map (atom_in_order p) rest)) (f a (has_here a rest a refl)) (all_in rest (λ z h. f z (has_after a rest z h)))
+      is_and (atom_in_order p a) (all_true (map (atom_in_order p) rest)) (f a (has_here a rest a refl)) (all_in rest (λ z h. f z (has_after a rest z h)))
 
   in_all : (set : List Atom) → IsTrue (all_true (map (atom_in_order p) set)) → AllIn set
   in_all [] t z h = absurd (false≢true h)
   in_all (a ∷ rest) t z h =
       elim (has_cases a rest z h) [
-        | inl e ↦ subst (λ (y : Atom). IsTrue (atom_in_order p y)) e (and_first (atom_in_order p a) (all_true (map (atom_in_order p) rest)) t)
-        | inr r ↦ in_all rest (and_second (atom_in_order p a) (all_true (map (atom_in_order p) rest)) t) z r
+        | inl e ↦ subst (λ (y : Atom). IsTrue (atom_in_order p y)) e (is_first (atom_in_order p a) (all_true (map (atom_in_order p) rest)) t)
+        | inr r ↦ in_all rest (is_second (atom_in_order p a) (all_true (map (atom_in_order p) rest)) t) z r
       ]
 
   abbrev SetFine : List Atom → Type 0
   SetFine set = AllIn set × IsAtomSet set
 
   set_value : (set : List Atom) → SetFine set → IsTrue (value_in_order p (Many set))
-  set_value set s = both (all_true (map (atom_in_order p) set)) (is_set set) (all_in set s.0) (is_set-when set s.1)
+  set_value set s = is_and (all_true (map (atom_in_order p) set)) (is_set set) (all_in set s.0) (is_set-when set s.1)
 
   value_set : (set : List Atom) → IsTrue (value_in_order p (Many set)) → SetFine set
   value_set set t =
-      (in_all set (and_first (all_true (map (atom_in_order p) set)) (is_set set) t), IsAtomSet-from set (and_second (all_true (map (atom_in_order p) set)) (is_set set) t))
+      (in_all set (is_first (all_true (map (atom_in_order p) set)) (is_set set) t), IsAtomSet-from set (is_second (all_true (map (atom_in_order p) set)) (is_set set) t))
 
   abbrev FineSet : Outcome (List Atom) → Type 0
   FineSet o = (set : List Atom) → o ≡ Ok set → SetFine set
@@ -185,10 +179,10 @@ module _ (p : Content) where
       set (passed (alike xs ys) (limited (union_of xs ys)) Kind set h)
   fine_set_binary set_op.Inter xs ys s r set h =
       fine_limited (inter_of xs ys)
-      (λ z m. s.0 z (and_first (has_atom xs z) (has_atom ys z) (sym (has-inter_of xs ys z) ∙ m)), IsAtomSet-filter (has_atom ys) xs s.1) set h
+      (λ z m. s.0 z (is_first (has_atom xs z) (has_atom ys z) (sym (has-inter_of xs ys z) ∙ m)), IsAtomSet-filter (has_atom ys) xs s.1) set h
   fine_set_binary set_op.Diff xs ys s r set h =
       fine_limited (diff_of xs ys)
-      (λ z m. s.0 z (and_first (has_atom xs z) (not (has_atom ys z)) (sym (has-diff_of xs ys z) ∙ m)), IsAtomSet-filter (λ a. not (has_atom ys a)) xs s.1) set h
+      (λ z m. s.0 z (is_first (has_atom xs z) (not (has_atom ys z)) (sym (has-diff_of xs ys z) ∙ m)), IsAtomSet-filter (λ a. not (has_atom ys a)) xs s.1) set h
 
   all_numbers : (m : ℤ) (k : ℕ) → AllIn (numbers_from m k)
   all_numbers m zero z h = absurd (false≢true h)
@@ -226,8 +220,8 @@ module _ (p : Content) where
   const_fine [] o z h = absurd (false≢true h)
   const_fine (k ∷ ks) o z h =
       elim (has_cases (atom.Const k) (map (λ k. atom.Const k) ks) z h) [
-        | inl e ↦ subst (λ (y : Atom). IsTrue (atom_in_order p y)) e (and_first (nat_lt k (length p.consts)) (all_true (map (λ k. nat_lt k (length p.consts)) ks)) o)
-        | inr r ↦ const_fine ks (and_second (nat_lt k (length p.consts)) (all_true (map (λ k. nat_lt k (length p.consts)) ks)) o) z r
+        | inl e ↦ subst (λ (y : Atom). IsTrue (atom_in_order p y)) e (is_first (nat_lt k (length p.consts)) (all_true (map (λ k. nat_lt k (length p.consts)) ks)) o)
+        | inr r ↦ const_fine ks (is_second (nat_lt k (length p.consts)) (all_true (map (λ k. nat_lt k (length p.consts)) ks)) o) z r
       ]
 
   module _ (ordered : IsInOrder p) where
@@ -300,15 +294,15 @@ module _ (p : Content) where
           let first = came_through (M e.0 env) (λ w. and_then (values_of (map M (exprs_of es)) env) (λ ws. Ok (w ∷ ws))) vs h in
           let second = came_through (values_of (map M (exprs_of es)) env) (λ ws. Ok (first.0 ∷ ws)) vs first.2 in
           let all : AllOrdered (first.0 ∷ second.0) = (
-            e.1 (and_first (expr_in_order p e.0) (all_exprs es) o) env r first.0 first.1,
-            values_fine es (and_second (expr_in_order p e.0) (all_exprs es) o) env r second.0 second.1,
+            e.1 (is_first (expr_in_order p e.0) (all_exprs es) o) env r first.0 first.1,
+            values_fine es (is_second (expr_in_order p e.0) (all_exprs es) o) env r second.0 second.1,
           ) in
           subst AllOrdered (same_outcome second.2) all
 
       item_fine : (es : List KnownExpr) → IsTrue (all_exprs es) → (env : Env) → EnvIsInOrder p env → (a : Atom) → IsItem (map M (exprs_of es)) env a → IsTrue (atom_in_order p a)
       item_fine [] o env r a n = absurd n
-      item_fine (e ∷ es) o env r a (inl h) = e.1 (and_first (expr_in_order p e.0) (all_exprs es) o) env r (One a) h
-      item_fine (e ∷ es) o env r a (inr n) = item_fine es (and_second (expr_in_order p e.0) (all_exprs es) o) env r a n
+      item_fine (e ∷ es) o env r a (inl h) = e.1 (is_first (expr_in_order p e.0) (all_exprs es) o) env r (One a) h
+      item_fine (e ∷ es) o env r a (inr n) = item_fine es (is_second (expr_in_order p e.0) (all_exprs es) o) env r a n
 
       one_turn : (t : Turn) (turns : List Turn) → FineTurn t → ((env bound : Env) → EnvIsInOrder p env → IsBinding turns env bound → EnvIsInOrder p bound)
           → (env bound : Env) → EnvIsInOrder p env → IsBinding (t ∷ turns) env bound → EnvIsInOrder p bound
@@ -319,8 +313,8 @@ module _ (p : Content) where
       binding_fine : (gs : List KnownGen) → IsTrue (all_gens gs) → (env bound : Env) → EnvIsInOrder p env → IsBinding (map T (gens_of gs)) env bound → EnvIsInOrder p bound
       binding_fine [] o env bound r n = subst (EnvIsInOrder p) n r
       binding_fine (g ∷ gs) o env bound r n =
-          one_turn (T g.0) (map T (gens_of gs)) (g.1 (and_first (gen_in_order p g.0) (all_gens gs) o))
-          (binding_fine gs (and_second (gen_in_order p g.0) (all_gens gs) o)) env bound r n
+          one_turn (T g.0) (map T (gens_of gs)) (g.1 (is_first (gen_in_order p g.0) (all_gens gs) o))
+          (binding_fine gs (is_second (gen_in_order p g.0) (all_gens gs) o)) env bound r n
 
       abbrev bare : Expr-F KnownExpr KnownGen KnownPart → Expr-F Expr Gen EventPart
       bare y = map-Expr KnownExpr KnownGen KnownPart Expr Gen EventPart (λ e. e.0) (λ e. e.0) (λ e. e.0) y
@@ -344,7 +338,7 @@ module _ (p : Content) where
           (λ e g.
           let s = has_sets (first_of (slice_get p.channels c)) (sets_of (slice_get p.channels c)) ms env e g in
           let long : length ms ≡ count = length-map (exprs_of fields) M ∙ sym (length-map (exprs_of fields) (expr_in_order p)) in
-          let asked = and_first (with_fields (λ n. nat_eq n count) (slice_get p.channels c)) (all_exprs fields) o in
+          let asked = is_first (with_fields (λ n. nat_eq n count) (slice_get p.channels c)) (all_exprs fields) o in
           let found = numbers_are_places p ordered c s.0 ms env e s.1 (long ∙ as_many p p.channels c s.0 count ordered.channels_used s.1 asked) g in
           fine_ok (One (atom.Event e)) (event_there c e found.0 s.0 s.1 found.2))
 
@@ -355,7 +349,7 @@ module _ (p : Content) where
           (set_value c.0 (
             λ z m.
                 let f = (c.3 z).0 m in
-                item_fine items (and_first (all_exprs items) (all_gens gens) o) f.0 (binding_fine gens (and_second (all_exprs items) (all_gens gens) o) env f.0 r f.1) z f.2,
+                item_fine items (is_first (all_exprs items) (all_gens gens) o) f.0 (binding_fine gens (is_second (all_exprs items) (all_gens gens) o) env f.0 r f.1) z f.2,
             c.2.0,
           ))
 
@@ -391,16 +385,16 @@ module _ (p : Content) where
           (λ xs f. fine_then (M b.0 env) (λ w. and_then (as_set w) (λ ys. many (set_binary q xs ys)))
           (λ w g. fine_then (as_set w) (λ ys. many (set_binary q xs ys))
           (λ ys h. fine_many (set_binary q xs ys) (fine_set_binary q xs ys
-          (fine_as_set v (a.1 (and_first (expr_in_order p a.0) (expr_in_order p b.0) o) env r v e) xs f)
-          (fine_as_set w (b.1 (and_second (expr_in_order p a.0) (expr_in_order p b.0) o) env r w g) ys h))))))
+          (fine_as_set v (a.1 (is_first (expr_in_order p a.0) (expr_in_order p b.0) o) env r v e) xs f)
+          (fine_as_set w (b.1 (is_second (expr_in_order p a.0) (expr_in_order p b.0) o) env r w g) ys h))))))
 
       if_fine : (c a b : KnownExpr) → IsTrue (expr_in_order p c.0 && (expr_in_order p a.0 && expr_in_order p b.0)) → FineMeaning (layer_of (Expr-F.If c.0 a.0 b.0))
       if_fine c a b o env r =
-          let two = and_second (expr_in_order p c.0) (expr_in_order p a.0 && expr_in_order p b.0) o in
+          let two = is_second (expr_in_order p c.0) (expr_in_order p a.0 && expr_in_order p b.0) o in
           fine_then (M c.0 env) (λ v. and_then (as_truth v) (λ t. cond t (M a.0 env) (M b.0 env)))
           (λ v e. fine_then (as_truth v) (λ t. cond t (M a.0 env) (M b.0 env))
           (λ t f. fine_if t (M a.0 env) (M b.0 env)
-          (a.1 (and_first (expr_in_order p a.0) (expr_in_order p b.0) two) env r) (b.1 (and_second (expr_in_order p a.0) (expr_in_order p b.0) two) env r)))
+          (a.1 (is_first (expr_in_order p a.0) (expr_in_order p b.0) two) env r) (b.1 (is_second (expr_in_order p a.0) (expr_in_order p b.0) two) env r)))
 
       expr_layer : (y : Expr-F KnownExpr KnownGen KnownPart) → FineExpr (roll-Expr (bare y))
       expr_layer (Expr-F.Num n) = layer (Expr-F.Num n) (λ o env r. fine_number n)
@@ -419,7 +413,7 @@ module _ (p : Content) where
       expr_layer (Expr-F.Call d args) = layer (Expr-F.Call d (exprs_of args))
           (λ o env r. fine_then (values_of (map M (exprs_of args)) env) (λ vs. u d vs)
           (λ vs e. uses_fine d vs (values_fine args
-          (and_second (takes is_datum (length (map (expr_in_order p) (exprs_of args))) (slice_get p.defs d)) (all_exprs args) o) env r vs e)))
+          (is_second (takes is_datum (length (map (expr_in_order p) (exprs_of args))) (slice_get p.defs d)) (all_exprs args) o) env r vs e)))
       expr_layer (Expr-F.SetName d) = layer (Expr-F.SetName d)
           (λ o env r. fine_then (u d []) (λ v. many (as_set v)) (λ v e. fine_many (as_set v) (fine_as_set v (uses_fine d [] tt v e))))
       expr_layer (Expr-F.Event c fields) = layer (Expr-F.Event c (exprs_of fields)) (event_fine c fields)
@@ -447,9 +441,9 @@ module _ (p : Content) where
 
       body_fine : (params : List ℕ) (b : Body) → IsTrue (body_in_order p params b) → (args : List Value) → AllOrdered args → Fine (body_value M params b args)
       body_fine params (body.Datum e) o args a = expr_fine e o (bound_to params args) (bound_to_fine params args a)
-      body_fine params (body.Nametype e) o args a = expr_fine e (and_second (nat_eq (length params) 0) (expr_in_order p e) o) [] tt
+      body_fine params (body.Nametype e) o args a = expr_fine e (is_second (nat_eq (length params) 0) (expr_in_order p e) o) [] tt
       body_fine params (body.Datatype ks) o args a =
-          let known = and_second (nat_eq (length params) 0) (all_true (map (λ k. nat_lt k (length p.consts)) ks)) o in
+          let known = is_second (nat_eq (length params) 0) (all_true (map (λ k. nat_lt k (length p.consts)) ks)) o in
           fine_many (all_added [] (map (λ k. atom.Const k) ks))
           (λ set h.
           let g = all_grow [] (map (λ k. atom.Const k) ks) set h in

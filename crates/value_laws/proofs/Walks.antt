@@ -1,5 +1,5 @@
 -- What the walk over all bindings gathers.
-use Rattle.std.proofs.Common.{◌≡◌, ◌+◌, ◌≤◌, ◌⊎◌, Bool, true, false, cond, ◌||◌, IsTrue, Ok, Err, List, [], ◌∷◌, length, refl, sym, ◌∙◌, ap, subst, inl, inr, arith}
+use Rattle.std.proofs.Common.{◌≡◌, ◌+◌, ◌≤◌, ◌⊎◌, Bool, true, false, cond, ◌||◌, IsTrue, Ok, Err, List, ◌∷◌, length, refl, sym, ◌∙◌, ap, subst, inl, inr, arith}
 use Rattle.std.specs.Prelude.{◌↔◌, nat_le, nat_lt}
 use Rattle.std.proofs.lemmas.Bool.{false≢true, leb-true, or_cases}
 use Rattle.csp_atoms.specs.Order.{same}
@@ -11,13 +11,15 @@ use Rattle.csp_program.specs.Atoms.{added, limited}
 use Rattle.csp_program.specs.Outcome.{Outcome, and_then}
 use Rattle.csp_program.specs.Value.{Env, Gathered, Meaning, Turn, as_atom, comprehension, gathered, items_added, over, as_set, truth, as_truth, walked}
 use Rattle.value_laws.specs.Bindings.{IsBinding, IsItem, IsSetValue}
-use Rattle.value_laws.proofs.Lists.{came_through, same_outcome}
+use Rattle.value_laws.proofs.Lists.{same_outcome}
 use Rattle.csp_atoms.specs.declared.atom.Atom.{Atom}
 use Rattle.csp_atoms.specs.declared.atom.Atom.TheVariants as atom
 use Rattle.csp_atoms.specs.declared.value.Value.{Value}
 use Rattle.csp_atoms.specs.declared.value.Value.TheVariants.{One, Many}
 use Rattle.csp_program.specs.declared.kinds.ValueKind.{ValueKind}
 use Rattle.csp_program.specs.declared.kinds.ValueKind.TheVariants.{Kind, SetLimit}
+use Rattle.csp_base.proofs.Booleans.{is_or_first, is_or_second}
+use Rattle.csp_program.proofs.Outcomes.{came_through}
 
 -- ---- kinds that were found
 
@@ -62,19 +64,11 @@ held false o k a h = absurd (cc)
 abbrev pub Grows : List Atom → List Atom → (Atom → Type 0) → Type 0
 Grows atoms more New = (IsSetValue atoms → IsSetValue more) × ((z : Atom) → IsTrue (has_atom more z) ↔ (IsTrue (has_atom atoms z) ⊎ New z))
 
-or_first : (a b : Bool) → IsTrue a → IsTrue (a || b)
-or_first true b t = refl
-or_first false b t = absurd (false≢true t)
-
-or_second : (a b : Bool) → IsTrue b → IsTrue (a || b)
-or_second true b t = refl
-or_second false b t = t
-
 pub has_here : (a : Atom) (rest : List Atom) (z : Atom) → a ≡ z → IsTrue (has_atom (a ∷ rest) z)
-has_here a rest z e = or_first (same a z) (has_atom rest z) (subst (λ y. same a y ≡ true) e (same_itself a))
+has_here a rest z e = is_or_first (same a z) (has_atom rest z) (subst (λ y. same a y ≡ true) e (same_itself a))
 
 pub has_after : (a : Atom) (rest : List Atom) (z : Atom) → IsTrue (has_atom rest z) → IsTrue (has_atom (a ∷ rest) z)
-has_after a rest z h = or_second (same a z) (has_atom rest z) h
+has_after a rest z h = is_or_second (same a z) (has_atom rest z) h
 
 pub has_cases : (a : Atom) (rest : List Atom) (z : Atom) → IsTrue (has_atom (a ∷ rest) z) → (a ≡ z) ⊎ IsTrue (has_atom rest z)
 has_cases a rest z h = elim (or_cases (same a z) (has_atom rest z) h) [ inl e ↦ inl (same_exact a z e) | inr r ↦ inr r ]

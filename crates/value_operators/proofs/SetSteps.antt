@@ -1,5 +1,5 @@
 -- Sets of atoms that grow step by step.
-use Rattle.std.proofs.Common.{◌≡◌, ℕ, zero, suc, ◌+◌, ◌-◌, ◌<◌, ◌≤◌, List, [], ◌∷◌, Ok, Err, true, false, length, refl, ap, subst, sym, ◌∙◌, arith, cond, drop, get_or, drop-cons, add-one, map}
+use Rattle.std.proofs.Common.{◌≡◌, ℕ, zero, suc, ◌+◌, ◌-◌, ◌<◌, ◌≤◌, List, ◌∷◌, Ok, Err, true, false, length, refl, ap, subst, sym, ◌∙◌, arith, cond, drop, get_or, drop-cons, add-one, map}
 use Rattle.std.specs.Prelude.{ℤ, pos, negsuc, ◌+ℤ◌, ◌-ℤ◌, ◌≤ℤ◌, ◌<ℤ◌, nat_le, Result}
 use Rattle.std.specs.Result.{IsErrAnd}
 use Rattle.std.proofs.lemmas.Int.{ints}
@@ -15,6 +15,7 @@ use Rattle.csp_program.specs.declared.kinds.ValueKind.TheVariants.{Kind, SetLimi
 use Rattle.value_operators.specs.Gives.{Gives}
 use Rattle.value_operators.specs.declared.fault.EvalFault.{EvalFault}
 use Rattle.value_operators.proofs.Faults.{passed}
+use Rattle.csp_atoms.proofs.OrderLaws.{less_number}
 
 -- the atoms of a list, the first of which is added
 abbrev more_of : Outcome (List Atom) → List Atom → Outcome (List Atom)
@@ -38,11 +39,6 @@ events_left e i n one lt is =
 
 pub constants_left : (ks : List ℕ) (i : ℕ) → i < length ks → map (λ k. atom.Const k) (drop i ks) ≡ atom.Const (get_or ks i 0) ∷ map (λ k. atom.Const k) (drop (i + 1) ks)
 constants_left ks i lt = rw (add-one i) (ap (map (λ k. atom.Const k)) (drop-cons ks i 0 lt))
-
--- the numbers in a row
-less_number : (m n : ℤ) → m <ℤ n → less (atom.Num m) (atom.Num n) ≡ true
-unfolding less
-less_number m n h = grind (arith, ints)
 
 not_less_number : (m n : ℤ) → m <ℤ n → less (atom.Num n) (atom.Num m) ≡ false
 unfolding less

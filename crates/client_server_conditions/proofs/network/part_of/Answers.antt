@@ -1,8 +1,8 @@
 use Rattle.std.proofs.Common.{sym, subst}
 use Rattle.csp_tables.specs.Form.{HasForm}
 use Rattle.net_sound.proofs.Within.{part_form}
-use Rattle.client_server_conditions.proofs.Reading.{part_read}
 use Rattle.client_server_conditions.proofs.network.part_of.Goals as goal
+use Rattle.shape_links.proofs.Links.{part_read}
 
 pub returns-clause-form : goal.returns-clause-form
 returns-clause-form c =

@@ -1,7 +1,8 @@
 use Rattle.std.proofs.Common.{ℕ, List, Option, Some, None, subst}
 use Rattle.client_server_conditions.specs.Conditions.{IsDecided, Keeps, KeepsLinks, KeepsWhole}
-use Rattle.client_server_conditions.proofs.Deciding.{keeps_whole, decided_links, if_ok_more}
+use Rattle.client_server_conditions.proofs.Deciding.{keeps_whole, decided_links}
 use Rattle.client_server_conditions.proofs.runs.part_run.Goals as goal
+use Rattle.std.proofs.lemmas.Result.{IfOk-weaker}
 
 pub returns-in-Some : goal.returns-in-Some
 returns-in-Some c =
@@ -13,5 +14,5 @@ pub returns-in-None : goal.returns-in-None
 returns-in-None c =
     let network = c.args.network.now in
     let d : IsDecided c.args.network.now.shape c.args.part (KeepsWhole c.args.network.now c.args.condition c.args.part) None = subst (λ (run : Option (List ℕ)). IsDecided c.args.network.now.shape c.args.part (KeepsWhole c.args.network.now c.args.condition c.args.part) run) c.in-None.is c.in_ok-run.ensures in
-    if_ok_more c.links_run.result (λ run. IsDecided c.args.network.now.shape c.args.part (KeepsLinks c.args.network.now c.args.condition c.args.part) run) (λ run. IsDecided c.args.network.now.shape c.args.part (Keeps c.args.network.now c.args.condition c.args.part) run)
+    IfOk-weaker c.links_run.result (λ run. IsDecided c.args.network.now.shape c.args.part (KeepsLinks c.args.network.now c.args.condition c.args.part) run) (λ run. IsDecided c.args.network.now.shape c.args.part (Keeps c.args.network.now c.args.condition c.args.part) run)
     (λ run x. decided_links network c.args.condition c.args.part run d x) c.links_run.ensures

@@ -1,13 +1,13 @@
-use Rattle.std.proofs.Common.{List, [], refl, sym, subst, arith}
+use Rattle.std.proofs.Common.{List, refl, sym, subst, arith}
 use Rattle.process_steps.specs.StepList.{in_sequence}
 use Rattle.term_pool.specs.Trees.{tree_at}
 use Rattle.csp_steps.specs.Computed.{AreMoves}
 use Rattle.csp_steps.specs.declared.step.StepTo.{StepTo}
 use Rattle.csp_steps.proofs.Computing.{whole_moves}
-use Rattle.csp_steps.proofs.Made.{made_then}
 use Rattle.csp_steps.proofs.Places.{front_both, front_same, still_within}
 use Rattle.csp_steps.proofs.Rounds.{sequence_next, step_in}
 use Rattle.csp_steps.proofs.around.sequence.Goals as goal
+use Rattle.csp_base.proofs.Results.{made_then}
 
 pub loop-step-init : goal.loop-step-init
 loop-step-init c = record {

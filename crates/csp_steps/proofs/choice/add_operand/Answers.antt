@@ -3,10 +3,10 @@ use Rattle.process_steps.specs.StepList.{in_choice}
 use Rattle.term_pool.specs.Trees.{tree_at}
 use Rattle.csp_steps.specs.Listed.{seen}
 use Rattle.csp_steps.proofs.Computing.{whole_moves}
-use Rattle.csp_steps.proofs.Made.{made_then}
 use Rattle.csp_steps.proofs.Places.{all_below_stay, front_both, front_same}
 use Rattle.csp_steps.proofs.Rounds.{choice_next, step_in}
 use Rattle.csp_steps.proofs.choice.add_operand.Goals as goal
+use Rattle.csp_base.proofs.Results.{made_then}
 
 pub loop-step-init : goal.loop-step-init
 loop-step-init c = record {

@@ -1,8 +1,7 @@
-use Rattle.std.proofs.Common.{◌≡◌, ◌<◌, Bool, false, Ok, List, [], ◌∷◌, length, map, ap, sym, ◌∙◌, subst, arith}
+use Rattle.std.proofs.Common.{◌≡◌, ◌<◌, Bool, false, Ok, List, ◌∷◌, length, map, ap, sym, ◌∙◌, subst, arith}
 use Rattle.std.proofs.lemmas.Bool.{eqb-true}
 use Rattle.std.specs.Prelude.{Result, nat_eq}
 use Rattle.csp_atoms.specs.declared.atom.Atom.{Atom}
-use Rattle.csp_values.proofs.Steps.{nothing}
 use Rattle.process_steps.specs.declared.label.Label.TheVariants.{Silent}
 use Rattle.term_pool.specs.Trees.{tree_at}
 use Rattle.pool_parts.specs.declared.place.ProcId.{ProcId}
@@ -14,6 +13,7 @@ use Rattle.csp_steps.proofs.Computing.{look_passed}
 use Rattle.csp_steps.proofs.Forms.{each_internal, each_internal_fault, each_internal_none}
 use Rattle.csp_steps.specs.declared.step.StepTo.{StepTo}
 use Rattle.csp_steps.proofs.look.look_each_internal.Goals as goal
+use Rattle.std.proofs.lemmas.List.{nil_from_length}
 
 some_there : (atoms : List Atom) (b : Bool) → b ≡ nat_eq (length atoms) 0 → b ≡ false → 0 < length atoms
 some_there [] b h e = cc
@@ -31,7 +31,7 @@ pub returns-then-is_empty-clause-look : goal.returns-then-is_empty-clause-look
 returns-then-is_empty-clause-look c =
     λ p s h. each_internal_none p c.args.name s (tree_at c.args.pool.now c.args.id) c.as_slice-atoms.result.now
     (subst (λ (r : Result (List Atom) EvalFault). Gives r (set_in p s)) c.in_ok-set.was h ∙ ap (λ xs. Ok xs) (sym c.as_slice-atoms.ensures.members))
-    (nothing c.as_slice-atoms.result.now (eqb-true (length c.as_slice-atoms.result.now) 0 (sym c.is_empty.ensures ∙ c.if-is_empty.true)))
+    (nil_from_length c.as_slice-atoms.result.now (eqb-true (length c.as_slice-atoms.result.now) 0 (sym c.is_empty.ensures ∙ c.if-is_empty.true)))
 
 pub returns-clause-look : goal.returns-clause-look
 unfolding to_id

@@ -1,6 +1,6 @@
 use Rattle.std.proofs.Common.{arith, ◌∙◌}
 use Rattle.csp_steps.proofs.Doubles.{kept_next, made_once, only_next}
-use Rattle.csp_steps.proofs.Made.{if_ok}
+use Rattle.std.proofs.lemmas.Result.{IfOk-weaker}
 use Rattle.csp_steps.proofs.once.once.Goals as goal
 
 pub loop-step-preserved : goal.loop-step-preserved
@@ -11,6 +11,7 @@ loop-step-preserved c = record {
 
 pub returns : goal.returns
 returns c =
-    if_ok c.from_slice.result _ _ c.from_slice.ensures.items
+    IfOk-weaker c.from_slice.result _ _
     (λ made same. made_once c.args.steps.now c.loop-step.numbered made.items c.loop-step.step-index (omega arith) c.loop-step.invariant.kept c.loop-step.invariant.only c.as_slice.ensures.distinct
     (same ∙ c.as_slice.ensures.value))
+    c.from_slice.ensures.items

@@ -1,4 +1,4 @@
-use Rattle.std.proofs.Common.{◌≡◌, cond, Ok, Err, ap, refl, sym, ◌∙◌, arith, to_z, of_z, w64}
+use Rattle.std.proofs.Common.{◌≡◌, cond, Ok, Err, ap, refl, sym, ◌∙◌, arith, to_z, of_z, w64, drop_of_length-le}
 use Rattle.std.proofs.lemmas.Int.{ints}
 use Rattle.csp_program.specs.Outcome.{and_then}
 use Rattle.csp_program.specs.Atoms.{added}
@@ -11,9 +11,10 @@ use Rattle.csp_values.proofs.Arms.{lacking, not_lacking, same, same_tally, part_
 use Rattle.csp_values.proofs.Equations.{body-Nametype, body-Process, body-Network, use-none_left, use-unknown, use-known, fronts-nil, with_items-nil, binding-full, walk-nil, each-nil}
 use Rattle.csp_values.proofs.Falls.{weight_neg, weight_not, weight_binary, weight_if, weight_call, weight_set_name, weight_event, weight_display, weight_range, weight_set_op, weight_comp, weight_product, weight_from, weight_cond, weight_gens, weight_part, use_falls}
 use Rattle.csp_values.proofs.FieldSteps.{fields_after, fields_begin, fields_end, fields_too_many, field_refused, field_taken}
-use Rattle.csp_values.proofs.Steps.{nothing, nothing_left, worths_after, worths_begin, worths_end, worths_fault, worths_next, items_refused, items_taken, fronts_fault, fronts_next, each_fault, each_step}
+use Rattle.csp_values.proofs.Steps.{worths_after, worths_begin, worths_end, worths_fault, worths_next, items_refused, items_taken, fronts_fault, fronts_next, each_fault, each_step}
 use Rattle.csp_values.proofs.Weights.{weights-nil, weight_in, part_weight_in}
 use Rattle.csp_values.proofs.evaluation.+eval.Goals as goal
+use Rattle.std.proofs.lemmas.List.{nil_from_length}
 
 pub add_front-eval_front-requires : goal.add_front-eval_front-requires
 add_front-eval_front-requires t c = (omega (arith, weight_part c.args.part.now c.as_slice.result.now c.as_slice.ensures), tt)
@@ -34,7 +35,7 @@ pub add_fronts-loop-part-preserved : goal.add_fronts-loop-part-preserved
 add_fronts-loop-part-preserved t c = fronts_next _ c.args.scope.now.content.now c.args.scope.now.uses (env_in c.args.names.now) c.loop-part.atoms c.in_ok-atoms.atoms c.args.parts.now c.loop-part.part-index c.part-item.result c.loop-part.invariant (omega arith) c.part-item.is c.in_ok-atoms.ensures
 
 pub add_fronts-returns : goal.add_fronts-returns
-add_fronts-returns t c = c.loop-part.invariant ∙ (ap (λ ps. with_fronts c.args.scope.now.content.now c.args.scope.now.uses (env_in c.args.names.now) ps c.loop-part.atoms) (nothing_left c.args.parts.now c.loop-part.part-index (omega arith)) ∙ fronts-nil c.args.scope.now.content.now c.args.scope.now.uses (env_in c.args.names.now) c.loop-part.atoms)
+add_fronts-returns t c = c.loop-part.invariant ∙ (ap (λ ps. with_fronts c.args.scope.now.content.now c.args.scope.now.uses (env_in c.args.names.now) ps c.loop-part.atoms) (drop_of_length-le c.args.parts.now (omega arith)) ∙ fronts-nil c.args.scope.now.content.now c.args.scope.now.uses (env_in c.args.names.now) c.loop-part.atoms)
 
 pub add_items-add_item-requires : goal.add_items-add_item-requires
 add_items-add_item-requires t c = let lighter = weight_in c.args.items.now c.loop-item.item-index c.item-item.result (omega arith) c.item-item.is in (omega (arith, lighter), tt)
@@ -52,7 +53,7 @@ pub add_item-returns : goal.add_item-returns
 add_item-returns t c = same _ _ _ (ap (λ o. and_then o (λ v. and_then (as_atom v) (λ a. added c.args.atoms a))) c.in_ok-value.ensures) c.with_item.ensures
 
 pub add_items-returns : goal.add_items-returns
-add_items-returns t c = c.loop-item.invariant ∙ (ap (λ es. with_items c.args.scope.now.content.now c.args.scope.now.uses (env_in c.args.names.now) es c.loop-item.atoms) (nothing_left c.args.items.now c.loop-item.item-index (omega arith)) ∙ with_items-nil c.args.scope.now.content.now c.args.scope.now.uses (env_in c.args.names.now) c.loop-item.atoms)
+add_items-returns t c = c.loop-item.invariant ∙ (ap (λ es. with_items c.args.scope.now.content.now c.args.scope.now.uses (env_in c.args.names.now) es c.loop-item.atoms) (drop_of_length-le c.args.items.now (omega arith)) ∙ with_items-nil c.args.scope.now.content.now c.args.scope.now.uses (env_in c.args.names.now) c.loop-item.atoms)
 
 pub eval_all-loop-expr-init : goal.eval_all-loop-expr-init
 eval_all-loop-expr-init t c = worths_begin c.args.scope.now.content.now c.args.scope.now.uses (env_in c.args.names.now) c.args.exprs.now ∙ ap (λ vs. worths_after c.args.scope.now.content.now c.args.scope.now.uses (env_in c.args.names.now) vs c.args.exprs.now) (sym c.new-values.ensures)
@@ -67,7 +68,7 @@ pub eval_all-loop-expr-preserved : goal.eval_all-loop-expr-preserved
 eval_all-loop-expr-preserved t c = worths_next _ c.args.scope.now.content.now c.args.scope.now.uses (env_in c.args.names.now) c.loop-expr.values c.push.new.self c.args.exprs.now c.loop-expr.expr-index c.expr-item.result c.in_ok-value.value c.loop-expr.invariant (omega arith) c.expr-item.is c.in_ok-value.ensures c.in_ok-push.ensures.ok
 
 pub eval_all-returns : goal.eval_all-returns
-eval_all-returns t c = c.loop-expr.invariant ∙ (ap (worths_after c.args.scope.now.content.now c.args.scope.now.uses (env_in c.args.names.now) c.loop-expr.values) (nothing_left c.args.exprs.now c.loop-expr.expr-index (omega arith)) ∙ worths_end c.args.scope.now.content.now c.args.scope.now.uses (env_in c.args.names.now) c.loop-expr.values)
+eval_all-returns t c = c.loop-expr.invariant ∙ (ap (worths_after c.args.scope.now.content.now c.args.scope.now.uses (env_in c.args.names.now) c.loop-expr.values) (drop_of_length-le c.args.exprs.now (omega arith)) ∙ worths_end c.args.scope.now.content.now c.args.scope.now.uses (env_in c.args.names.now) c.loop-expr.values)
 
 pub eval_body-returns-in-Datum : goal.eval_body-returns-in-Datum
 eval_body-returns-in-Datum t c = same _ _ _ (datum_worth c.args.scope.now.content.now c.args.scope.now.uses c.args.def.now c.args.args.now c.as_slice.result.now c.in-Datum.expr c.in-Datum.is c.as_slice.ensures) c.eval_expr.ensures
@@ -214,7 +215,7 @@ pub eval_choice-returns : goal.eval_choice-returns
 eval_choice-returns t c = same _ _ _ (counted_over _ _ c.in_ok-each.each c.in_ok-each.ensures) c.eval_fields.ensures
 
 pub eval_fields-returns : goal.eval_fields-returns
-eval_fields-returns t c = c.loop-field.invariant ∙ (ap (λ es. fields_after c.args.scope.now.content.now c.args.scope.now.uses (env_in c.args.names.now) es c.loop-field.rest.now c.args.each c.loop-field.number) (nothing_left c.args.fields.now c.loop-field.field-index (omega arith)) ∙ fields_end c.args.scope.now.content.now c.args.scope.now.uses (env_in c.args.names.now) c.loop-field.rest.now c.args.each c.loop-field.number)
+eval_fields-returns t c = c.loop-field.invariant ∙ (ap (λ es. fields_after c.args.scope.now.content.now c.args.scope.now.uses (env_in c.args.names.now) es c.loop-field.rest.now c.args.each c.loop-field.number) (drop_of_length-le c.args.fields.now (omega arith)) ∙ fields_end c.args.scope.now.content.now c.args.scope.now.uses (env_in c.args.names.now) c.loop-field.rest.now c.args.each c.loop-field.number)
 
 pub eval_front-returns-in_err-place-in-Some : goal.eval_front-returns-in_err-place-in-Some
 eval_front-returns-in_err-place-in-Some t c = passed _ _ _ _ c.from_residual.ensures.1 c.in_err-place-in-Some.ensures (λ k e. front_of_sets c.args.scope.now.content.now c.args.scope.now.uses (env_in c.args.names.now) c.args.channel c.args.fields.now c.as_slice-channels.result.now c.in-Some.sets.now (Err k) c.as_slice-channels.ensures c.in-Some.ensures e)
@@ -307,7 +308,7 @@ pub walk-walk_first-requires : goal.walk-walk_first-requires
 walk-walk_first-requires t c = (omega (arith, weight_gens c.args.gens.now c.in-Some.first.now c.in-Some.rest.now c.in-Some.ensures.cases.0), tt)
 
 pub walk-returns-in-None : goal.walk-returns-in-None
-walk-returns-in-None t c = same_tally _ _ _ (ap (λ gs. walk_worth c.args.scope.now.content.now c.args.scope.now.uses gs c.args.yields.now.items.now c.args.yields.now.parts.now (env_in c.args.names.now) (gathered_of c.args.tally)) (nothing c.args.gens.now c.in-None.ensures.cases) ∙ walk-nil c.args.scope.now.content.now c.args.scope.now.uses c.args.yields.now.items.now c.args.yields.now.parts.now (env_in c.args.names.now) (gathered_of c.args.tally)) c.gather.ensures
+walk-returns-in-None t c = same_tally _ _ _ (ap (λ gs. walk_worth c.args.scope.now.content.now c.args.scope.now.uses gs c.args.yields.now.items.now c.args.yields.now.parts.now (env_in c.args.names.now) (gathered_of c.args.tally)) (nil_from_length c.args.gens.now c.in-None.ensures.cases) ∙ walk-nil c.args.scope.now.content.now c.args.scope.now.uses c.args.yields.now.items.now c.args.yields.now.parts.now (env_in c.args.names.now) (gathered_of c.args.tally)) c.gather.ensures
 
 pub walk_each-returns-in_err-tally : goal.walk_each-returns-in_err-tally
 walk_each-returns-in_err-tally t c = walk_passed _ _ _ _ c.from_residual.ensures.1 c.in_err-tally.ensures (λ k e. each_fault _ c.args.scope.now.content.now c.args.scope.now.uses c.args.slot c.args.atoms.now c.args.rest.now c.args.yields.now.items.now c.args.yields.now.parts.now (env_in c.args.names.now) _ (gathered_of c.loop-atom.tally) c.loop-atom.atom-index c.atom-item.result c.atom-item.result k c.loop-atom.invariant (omega arith) c.atom-item.is refl e)
@@ -319,7 +320,7 @@ pub walk_one-returns : goal.walk_one-returns
 walk_one-returns t c = same_tally _ _ _ (ap (λ env. walk_worth c.args.scope.now.content.now c.args.scope.now.uses c.args.rest.now c.args.yields.now.items.now c.args.yields.now.parts.now env (gathered_of c.args.tally)) (sym (ap (λ bs. with_bound bs (bound_to c.args.names.now.params.now c.args.names.now.args.now)) (c.as_slice.ensures.value ∙ c.in_ok-bound.ensures) ∙ with_bound-last c.args.names.now.bound.now (c.args.slot, c.args.atom) (bound_to c.args.names.now.params.now c.args.names.now.args.now)))) c.walk.ensures
 
 pub walk_each-returns : goal.walk_each-returns
-walk_each-returns t c = c.loop-atom.invariant ∙ (ap (λ xs. each_worth c.args.scope.now.content.now c.args.scope.now.uses c.args.slot xs c.args.rest.now c.args.yields.now.items.now c.args.yields.now.parts.now (env_in c.args.names.now) (gathered_of c.loop-atom.tally)) (nothing_left c.args.atoms.now c.loop-atom.atom-index (omega arith)) ∙ each-nil c.args.scope.now.content.now c.args.scope.now.uses c.args.slot c.args.rest.now c.args.yields.now.items.now c.args.yields.now.parts.now (env_in c.args.names.now) (gathered_of c.loop-atom.tally))
+walk_each-returns t c = c.loop-atom.invariant ∙ (ap (λ xs. each_worth c.args.scope.now.content.now c.args.scope.now.uses c.args.slot xs c.args.rest.now c.args.yields.now.items.now c.args.yields.now.parts.now (env_in c.args.names.now) (gathered_of c.loop-atom.tally)) (drop_of_length-le c.args.atoms.now (omega arith)) ∙ each-nil c.args.scope.now.content.now c.args.scope.now.uses c.args.slot c.args.rest.now c.args.yields.now.items.now c.args.yields.now.parts.now (env_in c.args.names.now) (gathered_of c.loop-atom.tally))
 
 pub eval_product-eval_comprehension-requires : goal.eval_product-eval_comprehension-requires
 eval_product-eval_comprehension-requires t c = (omega (arith, weights-nil), tt)

@@ -4,9 +4,9 @@ use Rattle.csp_tables.specs.Table.{Node}
 use Rattle.csp_tables.specs.Part.{Part}
 use Rattle.csp_tables.specs.Shape.{Shape}
 use Rattle.cyclic_conditions.specs.Shorts.{IsShortAt, IsMarked}
-use Rattle.cyclic_conditions.proofs.Noting.{part_read}
 use Rattle.cyclic_conditions.proofs.Shortness.{marked_still, keeps_both}
 use Rattle.cyclic_conditions.proofs.whole.mark_part.Goals as goal
+use Rattle.shape_links.proofs.Links.{part_read}
 
 pub mark_node-requires-clause-node : goal.mark_node-requires-clause-node
 mark_node-requires-clause-node c =

@@ -4,8 +4,10 @@ use Rattle.csp_base.specs.Events.{is_subset_of}
 use Rattle.csp_tables.specs.Shape.{Link, Shape, link_at}
 use Rattle.cyclic_conditions.specs.Shorts.{IsShort}
 use Rattle.shape_links.proofs.Links.{link_read}
-use Rattle.cyclic_conditions.proofs.Shortness.{short_set, short_subset, short_owner, short_lacks, none_found, first_found, vocabulary_owner, nothing, some_number}
+use Rattle.cyclic_conditions.proofs.Shortness.{short_set, short_subset, short_owner, short_lacks, first_found, vocabulary_owner, nothing}
 use Rattle.cyclic_conditions.proofs.whole.short_link.Goals as goal
+use Rattle.std.proofs.lemmas.Option.{same_Some}
+use Rattle.csp_base.proofs.Listed.{none_found}
 
 pub returns-then-not-is_subset-clause-all : goal.returns-then-not-is_subset-clause-all
 returns-then-not-is_subset-clause-all c l one s =
@@ -45,7 +47,7 @@ returns-clause-short c l h =
     let is = link_read shape c.links.result.now c.in_ok-link.link c.index-links-link.result links within c.index-links-link.is in
     let shared : c.shared.result.now ≡ (link_at c.args.prepared.now c.in_ok-link.link).shared = c.shared.ensures ∙ sym (ap (λ (k : Link). k.shared) is) in
     let subset = sym (c.is_subset.ensures ∙ ap (is_subset_of c.args.set.now) (c.vocabulary.ensures ∙ ap (λ (x : Shape). x.vocabulary) c.shape-shape.ensures.value)) ∙ c.if-not-is_subset.false in
-    subst (λ (k : ℕ). IsShort shape k c.args.set.now) (some_number c.in_ok-link.link l h)
+    subst (λ (k : ℕ). IsShort shape k c.args.set.now) (same_Some c.in_ok-link.link l h)
     (short_set shape c.in_ok-link.link c.in_ok-event.event c.args.set.now subset (sym c.in_ok-event.ensures.least) o (sym (c.is_subset-2.ensures ∙ ap (λ (xs : List ℕ). is_subset_of xs c.args.set.now) shared) ∙ c.if-is_subset.false))
 
 pub returns-clause-all : goal.returns-clause-all

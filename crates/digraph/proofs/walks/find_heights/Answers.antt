@@ -1,6 +1,6 @@
-use Rattle.digraph.proofs.Results.{on_ok2}
 use Rattle.digraph.proofs.Ending.{heights_found, heights_below}
 use Rattle.digraph.proofs.walks.find_heights.Goals as goal
+use Rattle.csp_base.proofs.Results.{on_ok2}
 
 pub returns-clause-heights : goal.returns-clause-heights
 returns-clause-heights c = let e = c.walk_all.ensures in on_ok2 c.walk_all.result _ _ _ e.ok e.all_met (heights_found _ _ _ _)

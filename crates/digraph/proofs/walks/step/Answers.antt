@@ -2,13 +2,14 @@ use Rattle.std.proofs.Common.{◌≡◌, ℕ, refl, sym, arith, rules}
 use Rattle.digraph.specs.declared.walks.Mark.TheVariants.{New, Done}
 use Rattle.digraph.specs.Search.{mark_at}
 use Rattle.digraph.proofs.Writes.{done_count-le}
-use Rattle.digraph.proofs.Results.{err_same, on_ok3}
+use Rattle.digraph.proofs.Results.{err_same}
 use Rattle.digraph.proofs.Entering.{search_entering, less_work_entering}
 use Rattle.digraph.proofs.Raising.{search_raising}
 use Rattle.digraph.proofs.Finishing.{search_finishing}
 use Rattle.digraph.proofs.Looking.{top_open, top_follows, top_back}
 use Rattle.digraph.proofs.Turning.{circle_on_trail}
 use Rattle.digraph.proofs.walks.step.Goals as goal
+use Rattle.csp_base.proofs.Results.{on_ok3}
 
 pub returns-then-left-eq0-clause-ok : goal.returns-then-left-eq0-clause-ok
 returns-then-left-eq0-clause-ok c =

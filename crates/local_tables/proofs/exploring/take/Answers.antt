@@ -6,9 +6,9 @@ use Rattle.csp_tables.specs.Label.Label.{silent, visible}
 use Rattle.csp_steps.specs.declared.step.StepTo.{StepTo}
 use Rattle.local_tables.specs.Component.{component}
 use Rattle.local_tables.specs.Progress.{HasMore, IsAt, IsSoFar, IsWithin}
-use Rattle.local_tables.proofs.Results.{on_ok3}
 use Rattle.local_tables.proofs.Taking.{at_led, at_new, at_outside, at_steps, at_tick}
 use Rattle.local_tables.proofs.exploring.take.Goals as goal
+use Rattle.csp_base.proofs.Results.{on_ok3}
 
 stands : (steps : List StepTo) (place : _) (x : StepTo) → place < length steps → slice_get steps place ≡ Some (slice_index_or steps place x)
 stands steps place x inside = slice_get-get_or steps place x inside

@@ -1,9 +1,11 @@
-use Rattle.std.proofs.Common.{◌≡◌, [], List, take, refl, sym, subst, arith}
+use Rattle.std.proofs.Common.{◌≡◌, List, take, refl, sym, subst, arith}
 use Rattle.csp_text.specs.declared.script.Decl.{Decl}
 use Rattle.script_names.specs.Names.{first_of, meanings_of}
 use Rattle.name_faults.specs.Known.{IsKnown, fault_from}
-use Rattle.name_faults.proofs.KnownLemmas.{deep_so, next_known, none_told, nothing_is_known, passed, same_meanings, take_more, told_here}
+use Rattle.name_faults.proofs.KnownLemmas.{deep_so, next_known, none_told, nothing_is_known, passed, told_here}
 use Rattle.name_faults.proofs.fault.first_after.Goals as goal
+use Rattle.csp_base.proofs.Lists.{take_read}
+use Rattle.name_tables.proofs.NameLemmas.{same_meanings}
 
 pub loop-decl-init : goal.loop-decl-init
 loop-decl-init c = record { known = nothing_is_known c.args.known.now c.requires.known; so_far = refl }
@@ -25,7 +27,7 @@ loop-decl-preserved c =
     let m = first_of c.args.names.now in
     let same : m ≡ meanings_of decls = same_meanings decls c.args.names.now c.requires.names in
     record {
-      known = subst (λ (ds : List Decl). IsKnown ds c.count.new.self) (sym (take_more decls c.loop-decl.decl-index c.decl-item.result c.loop-decl-test.true c.decl-item.is))
+      known = subst (λ (ds : List Decl). IsKnown ds c.count.new.self) (sym (take_read decls c.loop-decl.decl-index c.decl-item.result c.loop-decl-test.true c.decl-item.is))
           (next_known (take c.loop-decl.decl-index decls) c.loop-decl.known c.fault_in.new.known c.decl-item.result c.count.new.self c.loop-decl.invariant.known
           c.in_ok-fault.ensures.known c.in_ok-count-in-None.ensures);
       so_far = passed decls kinds m same c.args.depths.now (deep_so decls kinds m same c.args.depths.now c.requires.depths)

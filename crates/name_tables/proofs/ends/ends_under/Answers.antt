@@ -1,8 +1,8 @@
 use Rattle.std.proofs.Common.{◌≡◌, ◌++◌, ◌∙◌, ap}
 use Rattle.script_names.specs.Contents.{parameters}
 use Rattle.script_names.specs.Typed.{Scope, names_of}
-use Rattle.name_tables.proofs.DeclaredLemmas.{names_of-parameters}
 use Rattle.name_tables.proofs.ends.ends_under.Goals as goal
+use Rattle.script_names.proofs.Scopes.{names_of-parameters}
 
 pub returns : goal.returns
 returns c =

@@ -2,8 +2,8 @@ use Rattle.std.proofs.Common.{ℕ, List, subst}
 use Rattle.csp_tables.specs.Part.{Part, part_at}
 use Rattle.observed_runs.specs.Exploration.{AreFound, Found, IsExploration}
 use Rattle.observed_runs.specs.Observers.{holder_step}
-use Rattle.observed_runs.proofs.Runs.{if_both}
 use Rattle.resource_conditions.proofs.turns.held.Goals as goal
+use Rattle.csp_base.proofs.Results.{if_both}
 
 pub returns : goal.returns
 returns c =

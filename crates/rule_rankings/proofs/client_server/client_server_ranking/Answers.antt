@@ -6,13 +6,14 @@ use Rattle.design_rules.specs.ClientServerRanking.{IsClientServerRanking}
 use Rattle.rule_rankings.specs.ClientServerRanks.{ArePartRanks}
 use Rattle.rule_rankings.proofs.ClientServerRanking.{role_ranking}
 use Rattle.csp_tables.specs.Ranking.{PartRanks}
-use Rattle.rule_rankings.proofs.RowsBelow.{parts_more, pushed}
+use Rattle.rule_rankings.proofs.RowsBelow.{parts_more}
 use Rattle.rule_rankings.proofs.client_server.client_server_ranking.Goals as goal
+use Rattle.csp_base.proofs.Results.{was_made}
 
 pub loop-part-preserved : goal.loop-part-preserved
 loop-part-preserved c =
-    let w = pushed c.part_ranks.result c.loop-part.parts c.push_made.new.self _ c.in_ok-push_made.ensures.ok c.part_ranks.ensures in
-    let more = parts_more (ArePartRanks c.args.network.now (slice_index c.args.heights.now)) c.loop-part.part c.loop-part.parts w.0 c.push_made.new.self c.loop-part.invariant.count c.loop-part.invariant.each w.1 w.2 in
+    let w = was_made c.part_ranks.result _ _ c.in_ok-push_made.ensures.ok c.part_ranks.ensures in
+    let more = parts_more (ArePartRanks c.args.network.now (slice_index c.args.heights.now)) c.loop-part.part c.loop-part.parts w.0 c.push_made.new.self c.loop-part.invariant.count c.loop-part.invariant.each w.2 w.1 in
     record { count = more.0; each = more.1 }
 
 pub returns : goal.returns

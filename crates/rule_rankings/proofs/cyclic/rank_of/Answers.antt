@@ -4,8 +4,9 @@ use Rattle.std.specs.Prelude.{slice_index}
 use Rattle.std.proofs.lemmas.Bool.{false≢true}
 use Rattle.csp_base.specs.Events.{is_subset_of}
 use Rattle.csp_tables.specs.Shape.{Shape}
-use Rattle.cyclic_conditions.proofs.Shortness.{first_found, none_found, subset_within, within_subset, vocabulary_owner, nothing}
+use Rattle.cyclic_conditions.proofs.Shortness.{first_found, subset_within, within_subset, vocabulary_owner, nothing}
 use Rattle.rule_rankings.proofs.cyclic.rank_of.Goals as goal
+use Rattle.csp_base.proofs.Listed.{none_found}
 
 pub returns-then-not-is_subset : goal.returns-then-not-is_subset
 returns-then-not-is_subset c =

@@ -1,15 +1,16 @@
-use Rattle.std.proofs.Common.{◌∙◌, ℕ, [], ◌∷◌, List, map, pos, ap, subst}
+use Rattle.std.proofs.Common.{◌∙◌, ℕ, ◌∷◌, List, map, pos, ap, subst}
 use Rattle.std.specs.Prelude.{slice_index}
 use Rattle.std.proofs.lemmas.List.{map-append}
 use Rattle.rule_rankings.specs.CyclicRanks.{AreNodeRanks, IsRank}
 use Rattle.rule_rankings.specs.Rows.{AreEach, no_node}
-use Rattle.rule_rankings.proofs.RowsBelow.{below_more, pushed}
+use Rattle.rule_rankings.proofs.RowsBelow.{below_more}
 use Rattle.rule_rankings.proofs.cyclic.rank_rows.Goals as goal
+use Rattle.csp_base.proofs.Results.{was_made}
 
 pub loop-node-preserved : goal.loop-node-preserved
 loop-node-preserved c =
-    let w = pushed c.rank_row.result c.loop-node.rows c.push_made.new.self _ c.in_ok-push_made.ensures.ok c.rank_row.ensures in
-    let more = ap (map (λ row. row.items)) w.2 ∙ map-append (λ row. row.items) c.loop-node.rows (w.0 ∷ []) in
-    let row = w.1 in
+    let w = was_made c.rank_row.result _ _ c.in_ok-push_made.ensures.ok c.rank_row.ensures in
+    let more = ap (map (λ row. row.items)) w.1 ∙ map-append (λ row. row.items) c.loop-node.rows (w.0 ∷ []) in
+    let row = w.2 in
     let at = c.accept.ensures in
     below_more no_node [] (AreNodeRanks c.args.prepared.now (slice_index c.args.numbers.now)) c.loop-node.node-index c.args.nodes.now (map (λ row. row.items) c.loop-node.rows) (map (λ row. row.items) c.push_made.new.self) c.node-item.result w.0.items c.loop-node.invariant c.loop-node-test.true c.node-item.is (subst (λ (Ms : List (List ℕ)). AreEach [] (pos 0) (IsRank c.args.prepared.now (slice_index c.args.numbers.now)) Ms w.0.items) at row) more

@@ -6,9 +6,10 @@ use Rattle.csp_base.specs.Events.{is_subset_of}
 use Rattle.csp_tables.specs.Shape.{Shape}
 use Rattle.csp_tables.specs.Roles.{UseSets}
 use Rattle.rule_rankings.specs.ResourceRanks.{number_by}
-use Rattle.resource_conditions.proofs.Sets.{first_found, none_found, subset_within, within_subset}
+use Rattle.resource_conditions.proofs.Sets.{first_found, subset_within, within_subset}
 use Rattle.rule_rankings.proofs.ResourceRanking.{rank_outside, rank_empty, user_is, free_is, held_is}
 use Rattle.rule_rankings.proofs.resource.rank_of.Goals as goal
+use Rattle.csp_base.proofs.Listed.{none_found}
 
 pub returns-then-not-is_subset : goal.returns-then-not-is_subset
 returns-then-not-is_subset c =

@@ -1,10 +1,10 @@
 use Rattle.std.proofs.Common.{◌≡◌, ◌-◌, ◌∙◌, suc, sym, arith}
-use Rattle.shape_links.proofs.Links.{some_number}
 use Rattle.shape_links.proofs.owners.link_of.Goals as goal
+use Rattle.std.proofs.lemmas.Option.{same_Some}
 
 pub returns-clause-found : goal.returns-clause-found
 returns-clause-found c shape l are h =
-    let is : c.owner_at-owner.result - 1 ≡ l = some_number (c.owner_at-owner.result - 1) l h in
+    let is : c.owner_at-owner.result - 1 ≡ l = same_Some (c.owner_at-owner.result - 1) l h in
     let some = c.if-owner-eq0.false in
     let next : c.owner_at-owner.result ≡ suc l = omega arith in
     are.sound c.args.event l (sym c.owner_at-owner.ensures ∙ next)

@@ -1,11 +1,11 @@
-use Rattle.std.proofs.Common.{ℕ, List, [], ◌∷◌, cond, ◌++◌, ap, sym, ◌∙◌, arith}
+use Rattle.std.proofs.Common.{ℕ, List, ◌∷◌, cond, ◌++◌, ap, sym, ◌∙◌, arith}
 use Rattle.std.specs.Prelude.{nat_eq}
 use Rattle.std.specs.Map.{lookup}
 use Rattle.process_steps.specs.Renaming.{or_itself}
 use Rattle.step_values.specs.Images.{events_or_none, named_for}
-use Rattle.step_values.proofs.Lists.{taken_whole}
 use Rattle.step_values.proofs.Naming.{more_named}
 use Rattle.step_values.proofs.images.images_by_event.Goals as goal
+use Rattle.std.proofs.lemmas.List.{take_all}
 
 pub loop-pair-init : goal.loop-pair-init
 loop-pair-init c = λ e. ap (λ (entries : List (ℕ × List ℕ)). events_or_none (lookup (nat_eq e) entries)) c.new.ensures.empty
@@ -16,4 +16,4 @@ loop-pair-preserved c =
     (ap (λ (xs : List ℕ). xs ++ cond (nat_eq c.pair-item.result.0 e) (c.pair-item.result.1 ∷ []) []) (c.loop-pair.invariant e) ∙ sym (more_named e c.args.renamed.now c.loop-pair.pair-index c.pair-item.result (omega arith) c.pair-item.is))
 
 pub returns : goal.returns
-returns c = λ e. ap (or_itself e) (c.loop-pair.invariant e ∙ ap (λ xs. named_for xs e) (taken_whole c.args.renamed.now c.loop-pair.pair-index (omega arith)))
+returns c = λ e. ap (or_itself e) (c.loop-pair.invariant e ∙ ap (λ xs. named_for xs e) (take_all c.loop-pair.pair-index c.args.renamed.now (omega arith)))

@@ -1,16 +1,16 @@
-use Rattle.std.proofs.Common.{[], ◌∷◌, true, false, Ok, Err, refl, ap, sym, ◌∙◌, subst, arith}
+use Rattle.std.proofs.Common.{◌∷◌, true, false, Ok, Err, refl, ap, sym, ◌∙◌, subst, arith}
 use Rattle.csp_program.specs.Value.{Env}
 use Rattle.csp_program.specs.declared.expressions.Gen.{Gen}
-use Rattle.csp_values.proofs.Steps.{nothing}
 use Rattle.value_operators.specs.Env.{with_bound}
 use Rattle.value_operators.proofs.NameLaws.{with_bound-last}
 use Rattle.step_values.proofs.Walking.{each_end, each_fault, each_step, part_passed, same_tally, walk_cond, walk_from, walk_none, walk_passed}
 use Rattle.step_values.specs.Walked.{gathering_of, renamed_walk, GivesTally}
 use Rattle.step_values.proofs.renaming.+walk.Goals as goal
+use Rattle.std.proofs.lemmas.List.{nil_from_length}
 
 pub walk-returns-in-None : goal.walk-returns-in-None
 walk-returns-in-None t c =
-    same_tally _ _ _ (walk_none c.args.scope.now.program.now c.args.scope.now.pairs.now c.args.gens.now (with_bound c.args.bound.now []) (gathering_of c.args.tally) (nothing c.args.gens.now c.in-None.ensures.cases))
+    same_tally _ _ _ (walk_none c.args.scope.now.program.now c.args.scope.now.pairs.now c.args.gens.now (with_bound c.args.bound.now []) (gathering_of c.args.tally) (nil_from_length c.args.gens.now c.in-None.ensures.cases))
     c.gather.ensures
 
 pub walk_each-returns-in_err-tally : goal.walk_each-returns-in_err-tally

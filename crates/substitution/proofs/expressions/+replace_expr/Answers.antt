@@ -1,8 +1,9 @@
 use Rattle.std.proofs.Common.{◌+◌, ◌∷◌, Bool, cond, drop, false, refl, ap, sym, arith}
 use Rattle.substitution.specs.Parts.{expr_after, exprs_after, gen_after, gens_after, part_after, parts_after}
 use Rattle.substitution.proofs.ExprEquations.{expr_after-Bound, expr_after-Binary, expr_after-If, expr_after-Range, expr_after-Comp, expr_after-Product, expr_after-SetOp, expr_forms, part_forms}
-use Rattle.substitution.proofs.ListEquations.{exprs_kept, next_made, pushed, parts_kept}
+use Rattle.substitution.proofs.ListEquations.{exprs_kept, next_made, parts_kept}
 use Rattle.substitution.proofs.expressions.+replace_expr.Goals as goal
+use Rattle.csp_base.proofs.Results.{pushed}
 
 pub replace_expr-returns-in-Bound : goal.replace_expr-returns-in-Bound
 replace_expr-returns-in-Bound t c = rw (c.in-Bound.is, expr_after-Bound) c.replace_name.ensures

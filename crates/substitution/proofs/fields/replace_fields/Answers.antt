@@ -1,7 +1,8 @@
 use Rattle.std.proofs.Common.{◌+◌, ◌∷◌, Bool, cond, drop, false, ap, sym, arith}
 use Rattle.substitution.specs.Parts.{field_after, fields_after}
-use Rattle.substitution.proofs.ListEquations.{next_made, pushed}
+use Rattle.substitution.proofs.ListEquations.{next_made}
 use Rattle.substitution.proofs.fields.replace_fields.Goals as goal
+use Rattle.csp_base.proofs.Results.{pushed}
 
 pub loop-field-preserved : goal.loop-field-preserved
 loop-field-preserved c =

@@ -1,7 +1,8 @@
 use Rattle.std.proofs.Common.{◌+◌, drop, false, refl, arith}
 use Rattle.substitution.specs.Parts.{pair_after, pairs_after}
-use Rattle.substitution.proofs.ListEquations.{next_made, pushed, pairs_kept}
+use Rattle.substitution.proofs.ListEquations.{next_made, pairs_kept}
 use Rattle.substitution.proofs.fields.replace_pairs.Goals as goal
+use Rattle.csp_base.proofs.Results.{pushed}
 
 pub returns-then-bound : goal.returns-then-bound
 returns-then-bound c = pairs_kept c.args.name c.args.value.now c.args.bound c.args.pairs.now c.copy_pairs.result c.if-bound.true c.copy_pairs.ensures

@@ -1,8 +1,9 @@
 use Rattle.std.proofs.Common.{◌+◌, drop, refl, arith}
 use Rattle.substitution.specs.Parts.{proc_after, procs_after}
-use Rattle.substitution.proofs.ListEquations.{next_made, pushed}
+use Rattle.substitution.proofs.ListEquations.{next_made}
 use Rattle.substitution.proofs.ProcEquations.{proc_after-Prefix, proc_after-Guard, proc_after-If, proc_after-EachExternal, proc_after-EachInternal, proc_after-Hide, proc_after-Rename, proc_after-Seq, proc_forms}
 use Rattle.substitution.proofs.processes.+replace_proc.Goals as goal
+use Rattle.csp_base.proofs.Results.{pushed}
 
 pub replace_proc-returns-in-Prefix : goal.replace_proc-returns-in-Prefix
 replace_proc-returns-in-Prefix t c = rw (c.in-Prefix.is, proc_after-Prefix) c.prefix.ensures

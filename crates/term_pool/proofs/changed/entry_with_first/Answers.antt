@@ -1,11 +1,11 @@
 use Rattle.std.proofs.Common.{rules, refl, subst}
 use Rattle.term_pool.proofs.EntryLemmas.{starts_same}
-use Rattle.term_pool.proofs.MapLemmas.{if_map}
 use Rattle.term_pool.proofs.StandsLemmas.{stands_External, stands_Internal}
 use Rattle.term_pool.specs.Entries.{Fits}
 use Rattle.term_pool.specs.declared.entry.Entry.{Entry}
 use Rattle.term_pool.specs.declared.entry.Entry.TheVariants as entry
 use Rattle.term_pool.proofs.changed.entry_with_first.Goals as goal
+use Rattle.csp_base.proofs.Results.{if_map}
 
 pub returns-in-External-clause-entry : goal.returns-in-External-clause-entry
 returns-in-External-clause-entry c = rw c.in-External.is (if_map c.choice_with_first.result _ c.map.result (λ k. entry.External k) _ _ c.map.ensures.cases (λ x y r. search rules) (λ k. stands_External c.choice_with_first.new.parts k _) c.choice_with_first.ensures.made)

@@ -3,10 +3,10 @@ use Rattle.term_pool.specs.Entries.{expr_at, fields_at, gens_at, head_at, pairs_
 use Rattle.term_pool.specs.Layers.{Layer}
 use Rattle.term_pool.specs.declared.entry.Entry.{Entry}
 use Rattle.term_pool.proofs.EntryLemmas.{starts_same}
-use Rattle.term_pool.proofs.MapLemmas.{if_map}
 use Rattle.term_pool.proofs.StandsLemmas.{stands_External, stands_Internal}
 use Rattle.term_pool.specs.declared.entry.Entry.TheVariants as entry
 use Rattle.term_pool.proofs.changed.with_places.Goals as goal
+use Rattle.csp_base.proofs.Results.{if_map}
 
 pub returns-in-External-clause-entry : goal.returns-in-External-clause-entry
 returns-in-External-clause-entry c = rw c.in-External.is (if_map c.keep_choice.result _ c.map.result (λ k. entry.External k) _ _ c.map.ensures.cases (λ x y r. search rules) (λ k. stands_External c.keep_choice.new.parts k _) c.keep_choice.ensures.place)

@@ -1,10 +1,10 @@
 -- Each form by its lemma.
 use Rattle.std.proofs.Common.{rules, refl}
 use Rattle.term_pool.proofs.EntryLemmas.{starts_same}
-use Rattle.term_pool.proofs.MapLemmas.{err_map, if_map, if_map_both}
 use Rattle.term_pool.proofs.StandsLemmas.{stands_Guard, stands_If, stands_EachExternal, stands_EachInternal, stands_Hide, stands_Call, stands_External, stands_Internal, stands_Prefix, stands_Rename}
 use Rattle.term_pool.specs.declared.entry.Entry.TheVariants as entry
 use Rattle.term_pool.proofs.own_parts.keep_node.Goals as goal
+use Rattle.csp_base.proofs.Results.{if_map, if_map_both, err_map}
 
 pub returns-in-Guard-clause-entry : goal.returns-in-Guard-clause-entry
 returns-in-Guard-clause-entry c = rw c.in-Guard.is (if_map c.keep_expr.result _ c.map-in-Guard.result (λ k. entry.Guard k c.in-Guard.p) _ _ c.map-in-Guard.ensures.cases (λ x y r. search rules) (λ k. stands_Guard c.keep_expr.new.parts k _ c.in-Guard.p) c.keep_expr.ensures.place)

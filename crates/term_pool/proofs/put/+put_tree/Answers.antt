@@ -1,5 +1,5 @@
 -- The list grows by the sub-processes of each form, and the layer over their places stands for it.
-use Rattle.std.proofs.Common.{◌≡◌, ◌+◌, List, [], ◌∷◌, Some, take, slice_get, sym, ap, ◌∙◌, subst}
+use Rattle.std.proofs.Common.{◌≡◌, ◌+◌, List, ◌∷◌, Some, take, slice_get, sym, ap, ◌∙◌, subst}
 use Rattle.std.specs.Prelude.{IfOk}
 use Rattle.csp_program.specs.declared.processes.Proc.{Proc}
 use Rattle.csp_program.specs.declared.processes.Proc.TheVariants as proc
@@ -10,8 +10,9 @@ use Rattle.term_pool.specs.Over.{layer_over}
 use Rattle.term_pool.specs.Put.{StandAt, StandsFor}
 use Rattle.pool_parts.specs.declared.place.ProcId.{ProcId}
 use Rattle.term_pool.specs.declared.below.Below.{Below}
-use Rattle.term_pool.proofs.MapLemmas.{was_made}
 use Rattle.term_pool.proofs.put.+put_tree.Goals as goal
+use Rattle.std.proofs.lemmas.Result.{IfOk-weaker}
+use Rattle.csp_base.proofs.Results.{was_made, if_both}
 
 pub put_below-returns-in-Prefix-clause-grows : goal.put_below-returns-in-Prefix-clause-grows
 put_below-returns-in-Prefix-clause-grows t c =
@@ -19,7 +20,7 @@ put_below-returns-in-Prefix-clause-grows t c =
 
 pub put_below-returns-in-Prefix-clause-node : goal.put_below-returns-in-Prefix-clause-node
 put_below-returns-in-Prefix-clause-node t c =
-    over.if_ok c.put_one.result (λ b. slice_get c.put_one.new.pool b.first.0 ≡ Some c.get.result.now) (λ b. StandsFor c.put_one.new.pool (layer_over c.args.proc.now b) c.args.proc.now)
+    IfOk-weaker c.put_one.result (λ b. slice_get c.put_one.new.pool b.first.0 ≡ Some c.get.result.now) (λ b. StandsFor c.put_one.new.pool (layer_over c.args.proc.now b) c.args.proc.now)
     (λ b h. over.below_Prefix c.put_one.new.pool c.args.proc.now c.in-Prefix.field-0 c.in-Prefix.field-1 c.in-Prefix.p c.in-Prefix.is b (h ∙ ap (λ (q : Proc). Some q) c.get.ensures)) c.put_one.ensures.first
 
 pub put_below-returns-in-Guard-clause-grows : goal.put_below-returns-in-Guard-clause-grows
@@ -28,7 +29,7 @@ put_below-returns-in-Guard-clause-grows t c =
 
 pub put_below-returns-in-Guard-clause-node : goal.put_below-returns-in-Guard-clause-node
 put_below-returns-in-Guard-clause-node t c =
-    over.if_ok c.put_one-in-Guard.result (λ b. slice_get c.put_one-in-Guard.new.pool b.first.0 ≡ Some c.get-in-Guard.result.now) (λ b. StandsFor c.put_one-in-Guard.new.pool (layer_over c.args.proc.now b) c.args.proc.now)
+    IfOk-weaker c.put_one-in-Guard.result (λ b. slice_get c.put_one-in-Guard.new.pool b.first.0 ≡ Some c.get-in-Guard.result.now) (λ b. StandsFor c.put_one-in-Guard.new.pool (layer_over c.args.proc.now b) c.args.proc.now)
     (λ b h. over.below_Guard c.put_one-in-Guard.new.pool c.args.proc.now c.in-Guard.field-0 c.in-Guard.p c.in-Guard.is b (h ∙ ap (λ (q : Proc). Some q) c.get-in-Guard.ensures)) c.put_one-in-Guard.ensures.first
 
 pub put_below-returns-in-EachExternal-clause-grows : goal.put_below-returns-in-EachExternal-clause-grows
@@ -37,7 +38,7 @@ put_below-returns-in-EachExternal-clause-grows t c =
 
 pub put_below-returns-in-EachExternal-clause-node : goal.put_below-returns-in-EachExternal-clause-node
 put_below-returns-in-EachExternal-clause-node t c =
-    over.if_ok c.put_one-in-EachExternal.result (λ b. slice_get c.put_one-in-EachExternal.new.pool b.first.0 ≡ Some c.get-in-EachExternal.result.now) (λ b. StandsFor c.put_one-in-EachExternal.new.pool (layer_over c.args.proc.now b) c.args.proc.now)
+    IfOk-weaker c.put_one-in-EachExternal.result (λ b. slice_get c.put_one-in-EachExternal.new.pool b.first.0 ≡ Some c.get-in-EachExternal.result.now) (λ b. StandsFor c.put_one-in-EachExternal.new.pool (layer_over c.args.proc.now b) c.args.proc.now)
     (λ b h. over.below_EachExternal c.put_one-in-EachExternal.new.pool c.args.proc.now c.in-EachExternal.field-0 c.in-EachExternal.field-1 c.in-EachExternal.p c.in-EachExternal.is b (h ∙ ap (λ (q : Proc). Some q) c.get-in-EachExternal.ensures)) c.put_one-in-EachExternal.ensures.first
 
 pub put_below-returns-in-EachInternal-clause-grows : goal.put_below-returns-in-EachInternal-clause-grows
@@ -46,7 +47,7 @@ put_below-returns-in-EachInternal-clause-grows t c =
 
 pub put_below-returns-in-EachInternal-clause-node : goal.put_below-returns-in-EachInternal-clause-node
 put_below-returns-in-EachInternal-clause-node t c =
-    over.if_ok c.put_one-in-EachInternal.result (λ b. slice_get c.put_one-in-EachInternal.new.pool b.first.0 ≡ Some c.get-in-EachInternal.result.now) (λ b. StandsFor c.put_one-in-EachInternal.new.pool (layer_over c.args.proc.now b) c.args.proc.now)
+    IfOk-weaker c.put_one-in-EachInternal.result (λ b. slice_get c.put_one-in-EachInternal.new.pool b.first.0 ≡ Some c.get-in-EachInternal.result.now) (λ b. StandsFor c.put_one-in-EachInternal.new.pool (layer_over c.args.proc.now b) c.args.proc.now)
     (λ b h. over.below_EachInternal c.put_one-in-EachInternal.new.pool c.args.proc.now c.in-EachInternal.field-0 c.in-EachInternal.field-1 c.in-EachInternal.p c.in-EachInternal.is b (h ∙ ap (λ (q : Proc). Some q) c.get-in-EachInternal.ensures)) c.put_one-in-EachInternal.ensures.first
 
 pub put_below-returns-in-Hide-clause-grows : goal.put_below-returns-in-Hide-clause-grows
@@ -55,7 +56,7 @@ put_below-returns-in-Hide-clause-grows t c =
 
 pub put_below-returns-in-Hide-clause-node : goal.put_below-returns-in-Hide-clause-node
 put_below-returns-in-Hide-clause-node t c =
-    over.if_ok c.put_one-in-Hide.result (λ b. slice_get c.put_one-in-Hide.new.pool b.first.0 ≡ Some c.get-in-Hide.result.now) (λ b. StandsFor c.put_one-in-Hide.new.pool (layer_over c.args.proc.now b) c.args.proc.now)
+    IfOk-weaker c.put_one-in-Hide.result (λ b. slice_get c.put_one-in-Hide.new.pool b.first.0 ≡ Some c.get-in-Hide.result.now) (λ b. StandsFor c.put_one-in-Hide.new.pool (layer_over c.args.proc.now b) c.args.proc.now)
     (λ b h. over.below_Hide c.put_one-in-Hide.new.pool c.args.proc.now c.in-Hide.p c.in-Hide.field-1 c.in-Hide.is b (h ∙ ap (λ (q : Proc). Some q) c.get-in-Hide.ensures)) c.put_one-in-Hide.ensures.first
 
 pub put_below-returns-in-Rename-clause-grows : goal.put_below-returns-in-Rename-clause-grows
@@ -64,7 +65,7 @@ put_below-returns-in-Rename-clause-grows t c =
 
 pub put_below-returns-in-Rename-clause-node : goal.put_below-returns-in-Rename-clause-node
 put_below-returns-in-Rename-clause-node t c =
-    over.if_ok c.put_one-in-Rename.result (λ b. slice_get c.put_one-in-Rename.new.pool b.first.0 ≡ Some c.get-in-Rename.result.now) (λ b. StandsFor c.put_one-in-Rename.new.pool (layer_over c.args.proc.now b) c.args.proc.now)
+    IfOk-weaker c.put_one-in-Rename.result (λ b. slice_get c.put_one-in-Rename.new.pool b.first.0 ≡ Some c.get-in-Rename.result.now) (λ b. StandsFor c.put_one-in-Rename.new.pool (layer_over c.args.proc.now b) c.args.proc.now)
     (λ b h. over.below_Rename c.put_one-in-Rename.new.pool c.args.proc.now c.in-Rename.p c.in-Rename.field-1 c.in-Rename.field-2 c.in-Rename.is b (h ∙ ap (λ (q : Proc). Some q) c.get-in-Rename.ensures)) c.put_one-in-Rename.ensures.first
 
 pub put_below-returns-in-If-clause-grows : goal.put_below-returns-in-If-clause-grows
@@ -73,9 +74,9 @@ put_below-returns-in-If-clause-grows t c =
 
 pub put_below-returns-in-If-clause-node : goal.put_below-returns-in-If-clause-node
 put_below-returns-in-If-clause-node t c =
-    over.if_both c.put_two.result _ _ _
+    if_both c.put_two.result _ _ _ c.put_two.ensures.first c.put_two.ensures.second
     (λ (b : Below) (h : slice_get c.put_two.new.pool b.first.0 ≡ Some c.get-in-If.result.now) (k : slice_get c.put_two.new.pool b.second.0 ≡ Some c.get-in-If-2.result.now).
-    over.below_If c.put_two.new.pool c.args.proc.now c.in-If.field-0 c.in-If.p c.in-If.q c.in-If.is b (h ∙ ap (λ (r : Proc). Some r) c.get-in-If.ensures) (k ∙ ap (λ (r : Proc). Some r) c.get-in-If-2.ensures)) c.put_two.ensures.first c.put_two.ensures.second
+    over.below_If c.put_two.new.pool c.args.proc.now c.in-If.field-0 c.in-If.p c.in-If.q c.in-If.is b (h ∙ ap (λ (r : Proc). Some r) c.get-in-If.ensures) (k ∙ ap (λ (r : Proc). Some r) c.get-in-If-2.ensures))
 
 pub put_below-returns-in-Seq-clause-grows : goal.put_below-returns-in-Seq-clause-grows
 put_below-returns-in-Seq-clause-grows t c =
@@ -83,9 +84,9 @@ put_below-returns-in-Seq-clause-grows t c =
 
 pub put_below-returns-in-Seq-clause-node : goal.put_below-returns-in-Seq-clause-node
 put_below-returns-in-Seq-clause-node t c =
-    over.if_both c.put_two-in-Seq.result _ _ _
+    if_both c.put_two-in-Seq.result _ _ _ c.put_two-in-Seq.ensures.first c.put_two-in-Seq.ensures.second
     (λ (b : Below) (h : slice_get c.put_two-in-Seq.new.pool b.first.0 ≡ Some c.get-in-Seq.result.now) (k : slice_get c.put_two-in-Seq.new.pool b.second.0 ≡ Some c.get-in-Seq-2.result.now).
-    over.below_Seq c.put_two-in-Seq.new.pool c.args.proc.now c.in-Seq.p c.in-Seq.q c.in-Seq.is b (h ∙ ap (λ (r : Proc). Some r) c.get-in-Seq.ensures) (k ∙ ap (λ (r : Proc). Some r) c.get-in-Seq-2.ensures)) c.put_two-in-Seq.ensures.first c.put_two-in-Seq.ensures.second
+    over.below_Seq c.put_two-in-Seq.new.pool c.args.proc.now c.in-Seq.p c.in-Seq.q c.in-Seq.is b (h ∙ ap (λ (r : Proc). Some r) c.get-in-Seq.ensures) (k ∙ ap (λ (r : Proc). Some r) c.get-in-Seq-2.ensures))
 
 pub put_two-returns-in_err-first-clause-grows : goal.put_two-returns-in_err-first-clause-grows
 put_two-returns-in_err-first-clause-grows t c = lemmas.grows_less c.args.pool.now c.put_tree.new.pool (c.args.p.now ∷ []) (c.args.q.now ∷ []) c.in_err-first.ensures.grows
@@ -109,7 +110,7 @@ put_below-returns-in-External-clause-grows t c =
 
 pub put_below-returns-in-External-clause-node : goal.put_below-returns-in-External-clause-node
 put_below-returns-in-External-clause-node t c =
-    over.if_ok c.put_choice.result (λ b. StandAt c.put_choice.new.pool b.all c.as_slice.result.now) (λ b. StandsFor c.put_choice.new.pool (layer_over c.args.proc.now b) c.args.proc.now)
+    IfOk-weaker c.put_choice.result (λ b. StandAt c.put_choice.new.pool b.all c.as_slice.result.now) (λ b. StandsFor c.put_choice.new.pool (layer_over c.args.proc.now b) c.args.proc.now)
     (λ b h. over.below_External c.put_choice.new.pool c.args.proc.now c.in-External.procs c.in-External.is b (subst (λ (ps : List Proc). StandAt c.put_choice.new.pool b.all ps) c.as_slice.ensures h)) c.put_choice.ensures.all
 
 pub put_below-returns-in-Internal-clause-grows : goal.put_below-returns-in-Internal-clause-grows
@@ -118,7 +119,7 @@ put_below-returns-in-Internal-clause-grows t c =
 
 pub put_below-returns-in-Internal-clause-node : goal.put_below-returns-in-Internal-clause-node
 put_below-returns-in-Internal-clause-node t c =
-    over.if_ok c.put_choice-in-Internal.result (λ b. StandAt c.put_choice-in-Internal.new.pool b.all c.as_slice-in-Internal.result.now) (λ b. StandsFor c.put_choice-in-Internal.new.pool (layer_over c.args.proc.now b) c.args.proc.now)
+    IfOk-weaker c.put_choice-in-Internal.result (λ b. StandAt c.put_choice-in-Internal.new.pool b.all c.as_slice-in-Internal.result.now) (λ b. StandsFor c.put_choice-in-Internal.new.pool (layer_over c.args.proc.now b) c.args.proc.now)
     (λ b h. over.below_Internal c.put_choice-in-Internal.new.pool c.args.proc.now c.in-Internal.procs c.in-Internal.is b (subst (λ (ps : List Proc). StandAt c.put_choice-in-Internal.new.pool b.all ps) c.as_slice-in-Internal.ensures h)) c.put_choice-in-Internal.ensures.all
 
 pub put_below-returns-in-Stop-clause-node : goal.put_below-returns-in-Stop-clause-node

@@ -12,8 +12,8 @@ use Rattle.term_pool.specs.Put.{Grows, StandAt}
 use Rattle.term_pool.specs.Substituted.{all_with}
 use Rattle.term_pool.specs.Trees.{tree_at}
 use Rattle.pool_parts.specs.declared.place.ProcId.{ProcId}
-use Rattle.term_pool.proofs.MapLemmas.{was_made}
 use Rattle.term_pool.proofs.substitute.+substitute_at.Goals as goal
+use Rattle.csp_base.proofs.Results.{was_made}
 
 pub put_all-substitute_at-requires : goal.put_all-substitute_at-requires
 put_all-substitute_at-requires t c =

@@ -8,9 +8,9 @@ use Rattle.csp_tables.specs.Path.{Stable}
 use Rattle.csp_tables.specs.Offer.{IsMinimalOffer}
 use Rattle.csp_tables.specs.Behaviour.{OffersAcceptance}
 use Rattle.csp_tables.specs.NormalTable.{IsListed}
-use Rattle.acceptances.proofs.Sorting.{if_ok_with}
 use Rattle.acceptances.proofs.SmallestSets.{Found, found, sound, complete, covered, rising, ordered}
 use Rattle.acceptances.proofs.offers.Offers.minimal.Goals as goal
+use Rattle.csp_base.proofs.Results.{if_ok_with}
 
 pub returns-clause-sound : goal.returns-clause-sound
 returns-clause-sound c =

@@ -1,0 +1,60 @@
+-- Results: what follows from what several calls say of one, and what is made of it.
+use Rattle.std.proofs.Common.{◌≡◌, Result, Ok, Err, List, ◌∷◌, ◌++◌, ap, sym, subst, ◌∙◌}
+use Rattle.std.specs.Prelude.{IfOk, IsOkAnd, MatchResult, OnOk, OnErr}
+
+-- ---- several facts of each success
+
+pub on_ok2 : {T E : Type 0} (r : Result T E) (P Q R : Type 0) → OnOk r P → OnOk r Q → (P → Q → R) → OnOk r R
+on_ok2 (Ok x) P Q R p q f = f p q
+on_ok2 (Err e) P Q R p q f = tt
+
+pub on_ok3 : {T E : Type 0} (r : Result T E) (P Q R S : Type 0) → OnOk r P → OnOk r Q → OnOk r R → (P → Q → R → S) → OnOk r S
+on_ok3 (Ok x) P Q R S p q r f = f p q r
+on_ok3 (Err e) P Q R S p q r f = tt
+
+pub if_both : {T E : Type 0} (r : Result T E) (P Q R : T → Type 0) → IfOk r P → IfOk r Q → ((x : T) → P x → Q x → R x) → IfOk r R
+if_both (Ok x) P Q R p q f = f x p q
+if_both (Err e) P Q R p q f = tt
+
+pub if_ok_with : {T E : Type 0} (r : Result T E) (P : Type 0) (Q R : T → Type 0) → OnOk r P → IfOk r Q → ((x : T) → P → Q x → R x) → IfOk r R
+if_ok_with (Ok x) P Q R p q f = f x p q
+if_ok_with (Err e) P Q R p q f = tt
+
+-- ---- what was made, and put at the end
+
+-- what follows from all that is known of what was made
+pub made_then : {T E : Type 0} (made : Result T E) (P Q : T → Type 0) (G : Type 0) → IfOk made P → IsOkAnd made Q → ((x : T) → P x → Q x → G) → G
+made_then (Ok x) P Q G p q f = f x p q
+made_then (Err e) P Q G p q f = absurd q
+
+-- what was made, with what holds of it
+pub was_made : {T E : Type 0} (made : Result T E) (P Q : T → Type 0) → IsOkAnd made P → IfOk made Q → (x : T) × P x × Q x
+was_made (Ok x) P Q p q = (x, p, q)
+was_made (Err e) P Q p q = absurd p
+
+pub pushed : {T E : Type 0} (made : Result T E) (value : T) (old new : List T) → IfOk made (λ x. x ≡ value) → IsOkAnd made (λ x. new ≡ old ++ x ∷ []) → new ≡ old ++ value ∷ []
+pushed (Ok x) value old new is put = put ∙ ap (λ y. old ++ y ∷ []) is
+pushed (Err e) value old new is put = absurd put
+
+-- ---- what is made of a result by a function of what was made
+
+-- whatever is made comes of what was made, and an error is handed on
+abbrev pub Comes : {T U E : Type 0} → Result T E → (T → U → Type 0) → Result U E → Type 0
+Comes made R result = MatchResult made (λ x. IsOkAnd result (R x)) (λ e. result ≡ Err e)
+
+pub if_map : {T U E : Type 0} (made : Result T E) (R : T → U → Type 0) (result : Result U E) (f : T → U) (P : T → Type 0) (Q : U → Type 0)
+    → Comes made R result → ((x : T) (y : U) → R x y → y ≡ f x) → ((x : T) → P x → Q (f x)) → IfOk made P → IfOk result Q
+if_map (Ok x) R (Ok y) f P Q comes is step p = subst Q (sym (is x y comes)) (step x p)
+if_map (Ok x) R (Err e) f P Q comes is step p = absurd comes
+if_map (Err e) R r f P Q comes is step p = subst (λ z. IfOk z Q) (sym comes) tt
+
+pub if_map_both : {T U E : Type 0} (made : Result T E) (R : T → U → Type 0) (result : Result U E) (f : T → U) (P O : T → Type 0) (Q : U → Type 0)
+    → Comes made R result → ((x : T) (y : U) → R x y → y ≡ f x) → ((x : T) → P x → O x → Q (f x)) → IfOk made P → IfOk made O → IfOk result Q
+if_map_both (Ok x) R (Ok y) f P O Q comes is step p o = subst Q (sym (is x y comes)) (step x p o)
+if_map_both (Ok x) R (Err e) f P O Q comes is step p o = absurd comes
+if_map_both (Err e) R r f P O Q comes is step p o = subst (λ z. IfOk z Q) (sym comes) tt
+
+pub err_map : {T U E : Type 0} (made : Result T E) (R : T → U → Type 0) (result : Result U E) (P : Type 0) → Comes made R result → OnErr made P → OnErr result P
+err_map (Ok x) R (Ok y) P comes p = tt
+err_map (Ok x) R (Err e) P comes p = absurd comes
+err_map (Err e) R r P comes p = subst (λ z. OnErr z P) (sym comes) p
