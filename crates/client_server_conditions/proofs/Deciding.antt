@@ -1,5 +1,5 @@
 -- From what holds at the pairs of an exploration to what holds after runs, and from links to parts.
-use Rattle.std.proofs.Common.{◌≡◌, ℕ, ◌<◌, ◌≤◌, ◌+◌, List, ◌∷◌, Bool, true, false, not, ◌&&◌, Option, Some, None, length, refl, sym, ap, subst, ◌∙◌, arith, inl, inr}
+use Rattle.std.proofs.Common.{◌≡◌, ℕ, ◌<◌, ◌≤◌, ◌+◌, List, [], ◌∷◌, Bool, true, false, not, ◌&&◌, Option, Some, None, length, refl, sym, ap, subst, ◌∙◌, arith, inl, inr}
 use Rattle.std.proofs.lemmas.Bool.{and_parts, both_ways, false≢true, cond-true, cond-false, and_from, cases_lt}
 use Rattle.csp_base.specs.Members.{has}
 use Rattle.csp_tables.specs.Table.{node_at, end_of}

@@ -1,5 +1,5 @@
 -- What is read of a shape.
-use Rattle.std.proofs.Common.{◌≡◌, ℕ, ◌<◌, List, Bool, length, get_or, sym, ap, ◌∙◌, arith}
+use Rattle.std.proofs.Common.{◌≡◌, ℕ, ◌<◌, List, [], Bool, length, get_or, sym, ap, ◌∙◌, arith}
 use Rattle.std.proofs.lemmas.List.{get_or_read}
 use Rattle.csp_tables.specs.Roles.{RoleSets, role_at}
 use Rattle.csp_tables.specs.Shape.{IsWellFormed, Link, Shape, link_at}

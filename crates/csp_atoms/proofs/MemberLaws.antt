@@ -1,5 +1,5 @@
 -- The members of the results of operations on sets of atoms.
-use Rattle.std.proofs.Common.{◌≡◌, Bool, true, false, not, cond, ◌&&◌, ◌||◌, refl, sym, ◌∙◌, ap, subst, inl, inr, List, ◌∷◌}
+use Rattle.std.proofs.Common.{◌≡◌, Bool, true, false, not, cond, ◌&&◌, ◌||◌, refl, sym, ◌∙◌, ap, subst, inl, inr, List, [], ◌∷◌}
 use Rattle.std.specs.List.{filter}
 use Rattle.std.proofs.lemmas.Bool.{false≢true, true≢false}
 use Rattle.csp_atoms.specs.Order.{same}

@@ -1,5 +1,5 @@
 -- The test for a set says what is true of each set.
-use Rattle.std.proofs.Common.{◌&&◌, IsTrue, List, ◌∷◌, refl, sym}
+use Rattle.std.proofs.Common.{◌&&◌, IsTrue, List, [], ◌∷◌, refl, sym}
 use Rattle.std.proofs.lemmas.Bool.{eq-eqb, eqb-true}
 use Rattle.csp_atoms.specs.Order.{kind_of, less, same_kind}
 use Rattle.csp_atoms.specs.Sets.{AllAbove, AllOfKind, IsAtomSet, is_set, leads}

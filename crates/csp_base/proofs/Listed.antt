@@ -1,5 +1,5 @@
 -- Lists of numbers by their members: which are listed, and which pass a test.
-use Rattle.std.proofs.Common.{◌≡◌, ℕ, zero, suc, ◌<◌, Bool, true, false, nat_eq, nat_le, List, ◌∷◌, ◌++◌, length, get_or, Some, None, refl, sym, ap, inl, inr, ◌∙◌, arith, eq-eqb, ne_eqb, eqb-true, le-leb}
+use Rattle.std.proofs.Common.{◌≡◌, ℕ, zero, suc, ◌<◌, Bool, true, false, nat_eq, nat_le, List, [], ◌∷◌, ◌++◌, length, get_or, Some, None, refl, sym, ap, inl, inr, ◌∙◌, arith, eq-eqb, ne_eqb, eqb-true, le-leb}
 use Rattle.std.specs.Prelude.{◌⊎◌}
 use Rattle.std.specs.List.{All, find, list_any}
 use Rattle.std.proofs.lemmas.Bool.{cases_Bool, cond-true, cond-false, false≢true, or_cases, or_left, or_right}

@@ -1,5 +1,5 @@
 -- The order of two sets as lists, by the first event in which they differ.
-use Rattle.std.proofs.Common.{◌≡◌, ℕ, zero, suc, ◌+◌, ◌-◌, ◌*◌, ◌/◌, ◌%◌, ◌^◌, ◌<◌, ◌≤◌, Bool, true, false, not, cond, ◌||◌, eqb, ltb, List, ◌∷◌, ◌++◌, length, take, drop, get_or, min, refl, sym, ap, inl, inr, le_refl, ◌∙◌, subst, arith}
+use Rattle.std.proofs.Common.{◌≡◌, ℕ, zero, suc, ◌+◌, ◌-◌, ◌*◌, ◌/◌, ◌%◌, ◌^◌, ◌<◌, ◌≤◌, Bool, true, false, not, cond, ◌||◌, eqb, ltb, List, [], ◌∷◌, ◌++◌, length, take, drop, get_or, min, refl, sym, ap, inl, inr, le_refl, ◌∙◌, subst, arith}
 use Rattle.std.proofs.lemmas.Bool.{cases_eq, cases_lt, cases_order, eq-eqb, ne_eqb, eqb-true, eqb-false, lt-ltb, le-ltb, false≢true, true≢false, not-true, not-false, ltb-true, ltb-false}
 use Rattle.std.proofs.lemmas.Nat.Bits.{bit_at-zero, bit_at_xor, bit_at-lt, bit_at_above, bit_at-trailing_zeros, same_from_bits}
 use Rattle.std.proofs.lemmas.List.{take-append-drop}

@@ -1,5 +1,5 @@
 -- Results: what follows from what several calls say of one, and what is made of it.
-use Rattle.std.proofs.Common.{◌≡◌, Result, Ok, Err, List, ◌∷◌, ◌++◌, ap, sym, subst, ◌∙◌}
+use Rattle.std.proofs.Common.{◌≡◌, Result, Ok, Err, List, [], ◌∷◌, ◌++◌, ap, sym, subst, ◌∙◌}
 use Rattle.std.specs.Prelude.{IfOk, IsOkAnd, MatchResult, OnOk, OnErr}
 
 -- ---- several facts of each success

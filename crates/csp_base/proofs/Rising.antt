@@ -1,5 +1,5 @@
 -- Facts on strictly rising lists of numbers, by their members.
-use Rattle.std.proofs.Common.{◌≡◌, ℕ, zero, suc, ◌+◌, ◌<◌, ◌≤◌, Bool, true, false, not, cond, ◌&&◌, ◌||◌, eqb, ltb, leb, List, ◌∷◌, ◌++◌, refl, sym, ap, inl, inr, le_refl, ◌∙◌, subst, add-one, arith, Some, None}
+use Rattle.std.proofs.Common.{◌≡◌, ℕ, zero, suc, ◌+◌, ◌<◌, ◌≤◌, Bool, true, false, not, cond, ◌&&◌, ◌||◌, eqb, ltb, leb, List, [], ◌∷◌, ◌++◌, refl, sym, ap, inl, inr, le_refl, ◌∙◌, subst, add-one, arith, Some, None}
 use Rattle.std.proofs.lemmas.Bool.{cases_eq, cases_lt, cases_order, or_right, or_left, or_from, or_cases, or_parts, and_from, and_left, and_right, and_parts, ltb-true, ltb-false, eqb-false, ne_eqb, le-leb, lt-leb, eqb-true, false≢true, true≢false}
 use Rattle.std.specs.List.Sorted.{IsStrictlyIncreasing}
 use Rattle.std.specs.List.{filter, find}

@@ -1,5 +1,5 @@
 -- The steps of an operand of a choice.
-use Rattle.std.proofs.Common.{◌≡◌, ℕ, ◌+◌, ◌<◌, ◌≤◌, true, nat_lt, zero, suc, Ok, Err, Some, List, ◌∷◌, ◌++◌, map, length, get_or, slice_get, slice_set, take, drop, refl, ap, sym, ◌∙◌, subst, arith}
+use Rattle.std.proofs.Common.{◌≡◌, ℕ, ◌+◌, ◌<◌, ◌≤◌, true, nat_lt, zero, suc, Ok, Err, Some, List, [], ◌∷◌, ◌++◌, map, length, get_or, slice_get, slice_set, take, drop, refl, ap, sym, ◌∙◌, subst, arith}
 use Rattle.std.proofs.lemmas.Bool.{lt-ltb, and_from}
 use Rattle.std.proofs.lemmas.List.{get_or-map, length-map, map-set}
 use Rattle.std.proofs.lemmas.Option.{slice_get_within}

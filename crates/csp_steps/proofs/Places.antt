@@ -1,5 +1,5 @@
 -- What stays where the list of processes of a pool grows at its end.
-use Rattle.std.proofs.Common.{◌≡◌, ℕ, zero, suc, ◌<◌, true, nat_lt, Some, Ok, List, ◌∷◌, ◌++◌, map, length, get_or, slice_get, refl, ap, sym, ◌∙◌, subst, arith}
+use Rattle.std.proofs.Common.{◌≡◌, ℕ, zero, suc, ◌<◌, true, nat_lt, Some, Ok, List, [], ◌∷◌, ◌++◌, map, length, get_or, slice_get, refl, ap, sym, ◌∙◌, subst, arith}
 use Rattle.std.proofs.lemmas.Bool.{ltb-true, lt-ltb, and_from}
 use Rattle.std.proofs.lemmas.Option.{slice_get-get_or, slice_get_within, get_or_from_slice_get}
 use Rattle.std.specs.Cmp.{first_so, second_so}

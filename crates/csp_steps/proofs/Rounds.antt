@@ -1,5 +1,5 @@
 -- Loops that make of the steps of a process those of an operator round it: the next step.
-use Rattle.std.proofs.Common.{◌≡◌, ℕ, ◌+◌, ◌<◌, true, Some, Ok, Err, List, ◌∷◌, ◌++◌, map, take, length, get_or, slice_get, refl, sym, ◌∙◌, subst}
+use Rattle.std.proofs.Common.{◌≡◌, ℕ, ◌+◌, ◌<◌, true, Some, Ok, Err, List, [], ◌∷◌, ◌++◌, map, take, length, get_or, slice_get, refl, sym, ◌∙◌, subst}
 use Rattle.std.proofs.lemmas.Bool.{lt-ltb, and_from}
 use Rattle.std.proofs.lemmas.Option.{slice_get_within}
 use Rattle.std.specs.Cmp.{first_so, second_so}

@@ -1,5 +1,5 @@
 -- The fields of an event, one after another, in numbers that count so many for one.
-use Rattle.std.proofs.Common.{◌≡◌, ℕ, zero, suc, ◌+◌, ◌*◌, ◌<◌, List, ◌∷◌, Some, Ok, Err, Bool, true, false, cond, length, drop, get_or, refl, ap, sym, ◌∙◌, arith}
+use Rattle.std.proofs.Common.{◌≡◌, ℕ, zero, suc, ◌+◌, ◌*◌, ◌<◌, List, [], ◌∷◌, Some, Ok, Err, Bool, true, false, cond, length, drop, get_or, refl, ap, sym, ◌∙◌, arith}
 use Rattle.std.specs.Prelude.{nat_eq, slice_get}
 use Rattle.csp_program.specs.EventNumber.{row_count}
 use Rattle.csp_program.specs.Outcome.{Outcome, and_then}

@@ -1,5 +1,5 @@
 -- Acceptances that fall short of a link.
-use Rattle.std.proofs.Common.{◌≡◌, ℕ, ◌<◌, inl, inr, List, ◌∷◌, length, get_or, set, true, false, ◌&&◌, Option, Some, None, IsTrue, nat_eq, nat_le, refl, sym, ap, subst, ◌∙◌, arith, eq-eqb}
+use Rattle.std.proofs.Common.{◌≡◌, ℕ, ◌<◌, inl, inr, List, [], ◌∷◌, length, get_or, set, true, false, ◌&&◌, Option, Some, None, IsTrue, nat_eq, nat_le, refl, sym, ap, subst, ◌∙◌, arith, eq-eqb}
 use Rattle.std.specs.List.{find}
 use Rattle.std.proofs.lemmas.Bool.{cases_Bool, cases_eq, and_parts, and_from, or_cases, eqb-true, both_ways, false≢true}
 use Rattle.std.proofs.lemmas.List.{get_or-set_same, get_or-set_other, get_or_read}

@@ -1,5 +1,5 @@
 -- A test that shows a written-out shape one of clients and servers, with its ranking. For examples.
-use Rattle.std.proofs.Common.{◌≡◌, ℕ, ◌*◌, ◌<◌, inl, inr, pos, ◌-ℤ◌, List, ◌∷◌, length, Bool, true, false, not, ◌&&◌, ◌||◌, cond, refl, sym, ap, ◌∙◌}
+use Rattle.std.proofs.Common.{◌≡◌, ℕ, ◌*◌, ◌<◌, inl, inr, pos, ◌-ℤ◌, List, [], ◌∷◌, length, Bool, true, false, not, ◌&&◌, ◌||◌, cond, refl, sym, ap, ◌∙◌}
 use Rattle.std.proofs.lemmas.Bool.{and_parts, and_from, or_cases, both_ways, not-true}
 use Rattle.std.specs.Ordering.{int_eq}
 use Rattle.csp_base.specs.Members.{has}

@@ -1,5 +1,5 @@
 -- Runs of a table, one event after another at their end.
-use Rattle.std.proofs.Common.{◌≡◌, ℕ, ◌+◌, ◌<◌, ◌≤◌, inl, inr, List, ◌∷◌, ◌++◌, length, get_or, Bool, true, false, IsTrue, nat_eq, refl, sym, subst, arith, append_assoc, append-nil}
+use Rattle.std.proofs.Common.{◌≡◌, ℕ, ◌+◌, ◌<◌, ◌≤◌, inl, inr, List, [], ◌∷◌, ◌++◌, length, get_or, Bool, true, false, IsTrue, nat_eq, refl, sym, subst, arith, append_assoc, append-nil}
 use Rattle.std.proofs.lemmas.Bool.{and_parts, or_cases, eqb-true, false≢true, cases_Bool, cond-true, cond-false, both_ways}
 use Rattle.csp_base.specs.Members.{has}
 use Rattle.csp_tables.specs.Table.{Node, node_at, is_possible, target, node_after, is_run, IsRun, end_of}

@@ -1,5 +1,5 @@
 -- Each point of a judgement, from what the calls there answer.
-use Rattle.std.proofs.Common.{◌≡◌, ◌≤◌, ◌+◌, ◌⊎◌, arith, ℕ, List, ◌∷◌, Result, Ok, Err, IfOk, length, map, inl, inr, refl, sym, ap, subst, ◌∙◌}
+use Rattle.std.proofs.Common.{◌≡◌, ◌≤◌, ◌+◌, ◌⊎◌, arith, ℕ, List, [], ◌∷◌, Result, Ok, Err, IfOk, length, map, inl, inr, refl, sym, ap, subst, ◌∙◌}
 use Rattle.csp_program.specs.Outcome.{Outcome, and_then}
 use Rattle.csp_program.specs.declared.processes.Proc.{Proc}
 use Rattle.csp_program.specs.declared.programs.Content.{Content}

@@ -1,5 +1,5 @@
 -- What is known of declarations, and what one says after them.
-use Rattle.std.proofs.Common.{◌≡◌, ℕ, ◌+◌, ◌<◌, ◌≤◌, Bool, ◌&&◌, ◌||◌, Option, Some, None, List, ◌∷◌, ◌++◌, length, map, take, drop, get_or, slice_get, slice_index, nat_lt, refl, sym, ap, ◌∙◌, append_assoc, add-zero, subst, arith}
+use Rattle.std.proofs.Common.{◌≡◌, ℕ, ◌+◌, ◌<◌, ◌≤◌, Bool, ◌&&◌, ◌||◌, Option, Some, None, List, [], ◌∷◌, ◌++◌, length, map, take, drop, get_or, slice_get, slice_index, nat_lt, refl, sym, ap, ◌∙◌, append_assoc, add-zero, subst, arith}
 use Rattle.std.proofs.Math.ListN.{drop_of_length-le}
 use Rattle.std.proofs.lemmas.List.{append-nil, map-append, length_push}
 use Rattle.std.specs.List.{flat_map}

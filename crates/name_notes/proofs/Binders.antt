@@ -1,5 +1,5 @@
 -- The names that generators and fields bind.
-use Rattle.std.proofs.Common.{◌≡◌, ℕ, zero, suc, Option, Some, None, List, ◌∷◌, ◌++◌, length, map, take, drop, get_or, ◌+◌, ◌<◌, ◌≤◌, append_assoc, refl, ap, sym, ◌∙◌}
+use Rattle.std.proofs.Common.{◌≡◌, ℕ, zero, suc, Option, Some, None, List, [], ◌∷◌, ◌++◌, length, map, take, drop, get_or, ◌+◌, ◌<◌, ◌≤◌, append_assoc, refl, ap, sym, ◌∙◌}
 use Rattle.std.proofs.Math.ListN.{drop_of_length-le}
 use Rattle.std.proofs.lemmas.List.{append-nil}
 use Rattle.csp_text.specs.declared.tree.FieldTree.{FieldTree}

@@ -1,5 +1,5 @@
 -- What is noted after each form of tree, step by step.
-use Rattle.std.proofs.Common.{◌≡◌, ℕ, false, ◌||◌, Some, None, List, ◌∷◌, ◌++◌, length, map, refl, ap, sym, ◌∙◌, append_assoc}
+use Rattle.std.proofs.Common.{◌≡◌, ℕ, false, ◌||◌, Some, None, List, [], ◌∷◌, ◌++◌, length, map, refl, ap, sym, ◌∙◌, append_assoc}
 use Rattle.std.specs.List.{flat_map}
 use Rattle.csp_base.specs.declared.operators.BinOp.{BinOp}
 use Rattle.csp_base.specs.declared.operators.SetOp.{SetOp}

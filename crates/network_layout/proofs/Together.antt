@@ -1,5 +1,5 @@
 -- The alphabets of some components and of others, together.
-use Rattle.std.proofs.Common.{◌≡◌, ℕ, ◌||◌, List, ◌∷◌, ◌++◌, refl, ap, sym, ◌∙◌}
+use Rattle.std.proofs.Common.{◌≡◌, ℕ, ◌||◌, List, [], ◌∷◌, ◌++◌, refl, ap, sym, ◌∙◌}
 use Rattle.std.specs.List.Sorted.{IsStrictlyIncreasing}
 use Rattle.csp_base.specs.Events.{has, union_of}
 use Rattle.csp_base.proofs.SetLaws.{has-union_of, increasing-set_of, increasing-union_of, same_set}

@@ -1,5 +1,5 @@
 -- The alphabets of components together.
-use Rattle.std.proofs.Common.{◌≡◌, ℕ, Bool, true, false, not, ◌||◌, ◌&&◌, Some, None, List, ◌∷◌, refl, ap, sym, ◌∙◌}
+use Rattle.std.proofs.Common.{◌≡◌, ℕ, Bool, true, false, not, ◌||◌, ◌&&◌, Some, None, List, [], ◌∷◌, refl, ap, sym, ◌∙◌}
 use Rattle.std.specs.Prelude.{Option}
 use Rattle.csp_base.specs.Events.{has, diff_of}
 use Rattle.csp_base.proofs.SetLaws.{has-diff_of, has-union_of}

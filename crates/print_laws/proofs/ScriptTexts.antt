@@ -1,5 +1,5 @@
 -- A script is spelled by its printed tokens.
-use Rattle.std.proofs.Common.{ℕ, ◌≤◌, List, ◌∷◌, ◌++◌, sym, subst, append_assoc, arith}
+use Rattle.std.proofs.Common.{ℕ, ◌≤◌, List, [], ◌∷◌, ◌++◌, sym, subst, append_assoc, arith}
 use Rattle.std.specs.Prelude.{flat_map}
 use Rattle.csp_text.specs.Depth.{tree_depth}
 use Rattle.csp_text.specs.declared.token.Token.{Token}

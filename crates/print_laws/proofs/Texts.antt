@@ -1,5 +1,5 @@
 -- Each tree that the grammar has is spelled by its printed tokens.
-use Rattle.std.proofs.Common.{ℕ, suc, ◌*◌, ◌≤◌, ◌<◌, max, Bool, true, false, Some, None, List, ◌∷◌, ◌++◌, length, map, ap, sym, ◌∙◌, subst, arith}
+use Rattle.std.proofs.Common.{ℕ, suc, ◌*◌, ◌≤◌, ◌<◌, max, Bool, true, false, Some, None, List, [], ◌∷◌, ◌++◌, length, map, ap, sym, ◌∙◌, subst, arith}
 use Rattle.std.specs.Prelude.{flat_map}
 use Rattle.csp_text.specs.Depth.{event_depth, field_depth, gen_depth, greatest, greatest_of_pairs, part_depth, tree_depth}
 use Rattle.csp_text.specs.declared.token.Token.{Token}

@@ -1,5 +1,5 @@
 -- Each token that is written before a space or a line feed is found there.
-use Rattle.std.proofs.Common.{◌≡◌, ℕ, ◌<◌, true, List, ◌∷◌, ◌++◌, length, refl, sym, ◌∙◌, subst, append_assoc, length-append, lit<, arith}
+use Rattle.std.proofs.Common.{◌≡◌, ℕ, ◌<◌, true, List, [], ◌∷◌, ◌++◌, length, refl, sym, ◌∙◌, subst, append_assoc, length-append, lit<, arith}
 use Rattle.std.specs.Prelude.{Option, Some, decimal, nat_lt}
 use Rattle.csp_base.specs.declared.place.Place.{Place}
 use Rattle.csp_text.specs.declared.token.Token.{Token}

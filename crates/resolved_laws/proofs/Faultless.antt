@@ -1,5 +1,5 @@
 -- What a faultless declaration says: no occurrence in it is at fault, and a definition of data is not too deep.
-use Rattle.std.proofs.Common.{◌≡◌, ℕ, Bool, true, false, Option, Some, None, List, ◌∷◌, ◌++◌, length, map, refl, option_map}
+use Rattle.std.proofs.Common.{◌≡◌, ℕ, Bool, true, false, Option, Some, None, List, [], ◌∷◌, ◌++◌, length, map, refl, option_map}
 use Rattle.std.specs.List.{list_any}
 use Rattle.csp_text.specs.declared.script.Decl.{Decl}
 use Rattle.script_names.specs.declared.fault.ResolveFault.{ResolveFault}

@@ -1,5 +1,5 @@
 -- What a tree without a fault is read as is in order, where the declared names fit the program.
-use Rattle.std.proofs.Common.{◌≡◌, ℕ, zero, suc, ◌-◌, Bool, true, false, not, ◌&&◌, ◌||◌, nat_eq, nat_lt, nat_le, IsTrue, Option, Some, None, List, ◌∷◌, length, map, refl, sym, ◌∙◌, ap, subst, arith}
+use Rattle.std.proofs.Common.{◌≡◌, ℕ, zero, suc, ◌-◌, Bool, true, false, not, ◌&&◌, ◌||◌, nat_eq, nat_lt, nat_le, IsTrue, Option, Some, None, List, [], ◌∷◌, length, map, refl, sym, ◌∙◌, ap, subst, arith}
 use Rattle.std.specs.Prelude.{if◌then◌else◌, slice_get}
 use Rattle.std.proofs.lemmas.Bool.{false≢true, eqb-true, eq-eqb}
 use Rattle.csp_program.specs.InOrder.{expr_in_order, expr_in_order_of_layer, field_count, fields_left, gen_in_order, gen_in_order_of_layer, head_in_order, is_process, net_in_order, net_in_order_of_layer, part_in_order, part_in_order_of_layer, proc_in_order, proc_in_order_of_layer, takes, with_fields}

@@ -1,5 +1,5 @@
 -- What a tree without a fault is read as is in order in each of its roles: the induction by the forms.
-use Rattle.std.proofs.Common.{◌≡◌, ℕ, suc, ◌+◌, Bool, true, false, ◌&&◌, ◌||◌, nat_eq, nat_le, IsTrue, List, ◌∷◌, ◌++◌, length, map, refl, ap, subst}
+use Rattle.std.proofs.Common.{◌≡◌, ℕ, suc, ◌+◌, Bool, true, false, ◌&&◌, ◌||◌, nat_eq, nat_le, IsTrue, List, [], ◌∷◌, ◌++◌, length, map, refl, ap, subst}
 use Rattle.std.specs.Prelude.{pos, slice_get}
 use Rattle.csp_program.specs.InOrder.{expr_in_order, field_in_order, fields_left, gen_in_order, head_in_order, is_datum, is_process, pair_in_order, part_in_order, proc_in_order, takes, with_fields}
 use Rattle.csp_program.specs.InOrder as order

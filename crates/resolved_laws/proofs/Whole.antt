@@ -1,6 +1,6 @@
 -- A program that holds what the declarations of a faultless script put into it is in order, whichever event table and field sets it has, as far as
 -- those are in order.
-use Rattle.std.proofs.Common.{◌≡◌, ℕ, zero, suc, ◌+◌, ◌<◌, ◌^◌, nat_eq, IsTrue, Some, None, List, ◌∷◌, ◌++◌, length, map, refl, sym, ◌∙◌, ap, subst, inr, is_none, arith}
+use Rattle.std.proofs.Common.{◌≡◌, ℕ, zero, suc, ◌+◌, ◌<◌, ◌^◌, nat_eq, IsTrue, Some, None, List, [], ◌∷◌, ◌++◌, length, map, refl, sym, ◌∙◌, ap, subst, inr, is_none, arith}
 use Rattle.std.specs.Prelude.{slice_get}
 use Rattle.std.specs.List.{flat_map}
 use Rattle.std.proofs.lemmas.Bool.{eq-eqb, lt-ltb}

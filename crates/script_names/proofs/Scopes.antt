@@ -1,5 +1,5 @@
 -- The names of a scope of parameters.
-use Rattle.std.proofs.Common.{◌≡◌, ℕ, ◌+◌, List, ◌∷◌, refl, ap}
+use Rattle.std.proofs.Common.{◌≡◌, ℕ, ◌+◌, List, [], ◌∷◌, refl, ap}
 use Rattle.script_names.specs.Contents.{parameters}
 use Rattle.script_names.specs.Names.{Name}
 use Rattle.script_names.specs.Typed.{names_of}

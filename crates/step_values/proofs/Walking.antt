@@ -1,5 +1,5 @@
 -- A renaming as it is walked: what each list of generators comes to, from what is left of it.
-use Rattle.std.proofs.Common.{◌≡◌, ℕ, ◌+◌, ◌<◌, ◌≤◌, Bool, cond, Ok, Err, List, ◌∷◌, length, get_or, drop, map, refl, ap, sym, ◌∙◌, subst, drop_of_length-le}
+use Rattle.std.proofs.Common.{◌≡◌, ℕ, ◌+◌, ◌<◌, ◌≤◌, Bool, cond, Ok, Err, List, [], ◌∷◌, length, get_or, drop, map, refl, ap, sym, ◌∙◌, subst, drop_of_length-le}
 use Rattle.std.specs.Prelude.{Result}
 use Rattle.std.specs.Result.{IsErrAnd}
 use Rattle.csp_program.specs.Outcome.{Outcome, and_then}

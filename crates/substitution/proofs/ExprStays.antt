@@ -1,5 +1,5 @@
 -- An expression in which a name isn't free stays as it is when a value is put in place of that name.
-use Rattle.std.proofs.Common.{◌≡◌, ℕ, Bool, true, false, cond, not, ◌&&◌, ◌||◌, nat_eq, List, ◌∷◌, map, refl, ap, sym, ◌∙◌, subst}
+use Rattle.std.proofs.Common.{◌≡◌, ℕ, Bool, true, false, cond, not, ◌&&◌, ◌||◌, nat_eq, List, [], ◌∷◌, map, refl, ap, sym, ◌∙◌, subst}
 use Rattle.std.proofs.lemmas.Bool.{false≢true}
 use Rattle.csp_program.specs.Free.{Names, Binding, any_of, under, expr_free, gen_binding, part_free, expr_free_of_layer, gen_free_of_layer}
 use Rattle.csp_program.specs.Substitution.{any_binds, binds, layer_binds}

@@ -1,5 +1,5 @@
 -- Lists of parts with a value put in, in the two ways that they are written.
-use Rattle.std.proofs.Common.{◌≡◌, ℕ, ◌+◌, ◌<◌, Bool, true, false, cond, nat_eq, if◌then◌else◌, Some, None, Ok, Err, List, ◌∷◌, ◌++◌, map, length, get_or, drop, ap, sym, ◌∙◌, refl, append_assoc}
+use Rattle.std.proofs.Common.{◌≡◌, ℕ, ◌+◌, ◌<◌, Bool, true, false, cond, nat_eq, if◌then◌else◌, Some, None, Ok, Err, List, [], ◌∷◌, ◌++◌, map, length, get_or, drop, ap, sym, ◌∙◌, refl, append_assoc}
 use Rattle.std.specs.Prelude.{IfOk, Result}
 use Rattle.substitution.specs.Parts.{expr_after, gen_after, part_after, proc_after, exprs_after, gens_after, parts_after, pairs_after, fields_after, procs_after}
 use Rattle.csp_program.specs.Substitution.{expr_with, gen_with, part_with, pair_with, fields_with, proc_with, changed, kept, Twice, all_unless_bound, any_binds, binds, gens_with, gen_twice, pair_twice}

@@ -1,5 +1,5 @@
 -- A process in which a name isn't free stays as it is when a value is put in place of that name.
-use Rattle.std.proofs.Common.{◌≡◌, ℕ, Bool, true, false, cond, not, ◌&&◌, ◌||◌, nat_eq, Some, None, List, ◌∷◌, map, refl, ap, sym, ◌∙◌, subst}
+use Rattle.std.proofs.Common.{◌≡◌, ℕ, Bool, true, false, cond, not, ◌&&◌, ◌||◌, nat_eq, Some, None, List, [], ◌∷◌, map, refl, ap, sym, ◌∙◌, subst}
 use Rattle.std.proofs.lemmas.Bool.{false≢true}
 use Rattle.csp_program.specs.Free.{Names, any_of, under, before, expr_free, gen_binding, part_free, pair_free, head_free, proc_free, proc_free_of_layer}
 use Rattle.csp_program.specs.Substitution.{head_with, any_binds, any_gets, binds}

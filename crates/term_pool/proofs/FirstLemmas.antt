@@ -1,5 +1,5 @@
 -- What a process becomes where another one takes the place of its first sub-process.
-use Rattle.std.proofs.Common.{◌≡◌, ℕ, ◌<◌, true, nat_lt, List, ◌∷◌, map, length, refl, ap, sym, ◌∙◌, subst, arith}
+use Rattle.std.proofs.Common.{◌≡◌, ℕ, ◌<◌, true, nat_lt, List, [], ◌∷◌, map, length, refl, ap, sym, ◌∙◌, subst, arith}
 use Rattle.std.proofs.lemmas.Bool.{lt-ltb, and_from}
 use Rattle.std.specs.Cmp.{second_so}
 use Rattle.csp_program.specs.declared.expressions.EventPart.{EventPart}

@@ -1,5 +1,5 @@
 -- What a node becomes where several values are put in, one after another: the names that it doesn't bind get theirs in what stands at its places.
-use Rattle.std.proofs.Common.{◌≡◌, ℕ, zero, suc, ◌+◌, ◌<◌, Bool, true, false, cond, ◌||◌, nat_lt, nat_eq, Some, None, Option, List, ◌∷◌, ◌++◌, map, length, get_or, slice_get, take, refl, ap, sym, ◌∙◌, subst, arith}
+use Rattle.std.proofs.Common.{◌≡◌, ℕ, zero, suc, ◌+◌, ◌<◌, Bool, true, false, cond, ◌||◌, nat_lt, nat_eq, Some, None, Option, List, [], ◌∷◌, ◌++◌, map, length, get_or, slice_get, take, refl, ap, sym, ◌∙◌, subst, arith}
 use Rattle.std.proofs.lemmas.Bool.{eqb-true, ltb-true}
 use Rattle.std.proofs.lemmas.List.{append-nil, map_more, take-map, nil_from_length}
 use Rattle.std.proofs.lemmas.Option.{slice_get-get_or, slice_get_within, get_or_from_slice_get}

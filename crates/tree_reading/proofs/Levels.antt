@@ -1,5 +1,5 @@
 -- The levels of expressions as numbers, and how an expression is read whatever level the reading began at.
-use Rattle.std.proofs.Common.{◌≡◌, ℕ, suc, ◌≤◌, max, Bool, true, false, ◌&&◌, nat_lt, nat_le, if◌then◌else◌, Option, Some, None, List, ◌∷◌, map, refl, ap, arith}
+use Rattle.std.proofs.Common.{◌≡◌, ℕ, suc, ◌≤◌, max, Bool, true, false, ◌&&◌, nat_lt, nat_le, if◌then◌else◌, Option, Some, None, List, [], ◌∷◌, map, refl, ap, arith}
 use Rattle.csp_text.specs.Depth.{gen_depth, greatest, greatest_of_pairs, part_depth, tree_depth}
 use Rattle.csp_text.specs.declared.token.Token.{Token}
 use Rattle.csp_text.specs.declared.token.Token.TheVariants as token

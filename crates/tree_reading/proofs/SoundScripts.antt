@@ -1,5 +1,5 @@
 -- What is read of declarations, the grammar has; and so of all that the readers read.
-use Rattle.std.proofs.Common.{◌≡◌, ◌⊎◌, inl, inr, ℕ, zero, suc, ◌≤◌, Bool, true, false, ◌||◌, Some, List, ◌∷◌, codes, refl, sym, ap, subst, ◌∙◌, arith}
+use Rattle.std.proofs.Common.{◌≡◌, ◌⊎◌, inl, inr, ℕ, zero, suc, ◌≤◌, Bool, true, false, ◌||◌, Some, List, [], ◌∷◌, codes, refl, sym, ap, subst, ◌∙◌, arith}
 use Rattle.csp_text.specs.Depth.{tree_depth}
 use Rattle.csp_base.specs.declared.operators.SetOp.TheVariants as set_op
 use Rattle.csp_text.specs.declared.token.Token.{Token}

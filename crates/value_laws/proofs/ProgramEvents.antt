@@ -1,5 +1,5 @@
 -- The values of events in a program in order.
-use Rattle.std.proofs.Common.{◌≡◌, ℕ, zero, suc, Bool, nat_eq, IsTrue, Option, Some, Ok, List, ◌∷◌, map, length, refl, sym, ◌∙◌, ap, subst, inl, inr}
+use Rattle.std.proofs.Common.{◌≡◌, ℕ, zero, suc, Bool, nat_eq, IsTrue, Option, Some, Ok, List, [], ◌∷◌, map, length, refl, sym, ◌∙◌, ap, subst, inl, inr}
 use Rattle.std.specs.Prelude.{is_none, slice_get}
 use Rattle.std.proofs.lemmas.Bool.{false≢true, eqb-true}
 use Rattle.std.proofs.lemmas.List.{length-map}

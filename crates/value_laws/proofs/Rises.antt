@@ -1,5 +1,5 @@
 -- The values of the fields of a program in order rise.
-use Rattle.std.proofs.Common.{ℕ, IsTrue, nat_eq, Option, Some, None, List, ◌∷◌, map, length}
+use Rattle.std.proofs.Common.{ℕ, IsTrue, nat_eq, Option, Some, None, List, [], ◌∷◌, map, length}
 use Rattle.csp_atoms.specs.Sets.{IsRising, is_set}
 use Rattle.csp_atoms.proofs.SetTest.{IsAtomSet-from}
 use Rattle.csp_program.specs.InOrder.{channel_in_order, expr_in_order, is_field_value, set_in_order, sets_in_order}

@@ -1,5 +1,5 @@
 -- Evaluation without a bound, in a program in order.
-use Rattle.std.proofs.Common.{◌≡◌, ℕ, zero, suc, IsTrue, Option, Some, None, List, length, refl, sym, ◌∙◌, arith}
+use Rattle.std.proofs.Common.{◌≡◌, ℕ, zero, suc, IsTrue, Option, Some, None, List, [], length, refl, sym, ◌∙◌, arith}
 use Rattle.std.specs.Prelude.{nat_eq, slice_get}
 use Rattle.std.proofs.lemmas.Bool.{false≢true}
 use Rattle.csp_program.specs.InOrder.{IsInOrder, body_in_order, def_in_order, expr_in_order}

@@ -1,5 +1,5 @@
 -- The value of an expression in order, over a program in order, is in order.
-use Rattle.std.proofs.Common.{◌≡◌, ℕ, zero, suc, ◌<◌, Bool, true, false, cond, ◌&&◌, not, IsTrue, Option, Some, None, Ok, Err, List, ◌∷◌, map, length, refl, sym, ◌∙◌, subst, inl, inr, arith}
+use Rattle.std.proofs.Common.{◌≡◌, ℕ, zero, suc, ◌<◌, Bool, true, false, cond, ◌&&◌, not, IsTrue, Option, Some, None, Ok, Err, List, [], ◌∷◌, map, length, refl, sym, ◌∙◌, subst, inl, inr, arith}
 use Rattle.std.specs.Prelude.{ℤ, pos, negsuc, ◌+ℤ◌, ◌<ℤ◌, ◌-ℤ◌, ◌*ℤ◌, neg_ℤ, int_lt, int_le, nat_lt, nat_eq, slice_get}
 use Rattle.std.proofs.lemmas.Bool.{false≢true, lt-ltb, or_cases}
 use Rattle.std.proofs.lemmas.Int.{ints}

@@ -1,4 +1,4 @@
-use Rattle.std.proofs.Common.{List, refl, sym, subst, arith}
+use Rattle.std.proofs.Common.{List, [], refl, sym, subst, arith}
 use Rattle.term_pool.specs.Trees.{tree_at}
 use Rattle.csp_steps.specs.Computed.{hidden_move, AreMoves}
 use Rattle.csp_steps.specs.declared.step.StepTo.{StepTo}

@@ -1,4 +1,4 @@
-use Rattle.std.proofs.Common.{◌≡◌, List, take, refl, sym, subst, arith}
+use Rattle.std.proofs.Common.{◌≡◌, List, [], take, refl, sym, subst, arith}
 use Rattle.csp_text.specs.declared.script.Decl.{Decl}
 use Rattle.script_names.specs.Names.{first_of, meanings_of}
 use Rattle.name_faults.specs.Known.{IsKnown, fault_from}

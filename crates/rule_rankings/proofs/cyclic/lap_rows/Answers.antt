@@ -1,4 +1,4 @@
-use Rattle.std.proofs.Common.{◌∙◌, ℕ, ◌∷◌, List, map, ap, subst}
+use Rattle.std.proofs.Common.{◌∙◌, ℕ, ◌∷◌, List, [], map, ap, subst}
 use Rattle.std.specs.Prelude.{slice_index}
 use Rattle.std.proofs.lemmas.List.{map-append}
 use Rattle.rule_rankings.specs.CyclicRanks.{AreNodeLaps, IsLap}

@@ -1,4 +1,4 @@
-use Rattle.std.proofs.Common.{◌∷◌, true, false, Ok, Err, refl, ap, sym, ◌∙◌, subst, arith}
+use Rattle.std.proofs.Common.{◌∷◌, true, false, Ok, Err, refl, ap, sym, ◌∙◌, subst, arith, []}
 use Rattle.csp_program.specs.Value.{Env}
 use Rattle.csp_program.specs.declared.expressions.Gen.{Gen}
 use Rattle.value_operators.specs.Env.{with_bound}

@@ -1,5 +1,5 @@
 -- The list grows by the sub-processes of each form, and the layer over their places stands for it.
-use Rattle.std.proofs.Common.{◌≡◌, ◌+◌, List, ◌∷◌, Some, take, slice_get, sym, ap, ◌∙◌, subst}
+use Rattle.std.proofs.Common.{◌≡◌, ◌+◌, List, [], ◌∷◌, Some, take, slice_get, sym, ap, ◌∙◌, subst}
 use Rattle.std.specs.Prelude.{IfOk}
 use Rattle.csp_program.specs.declared.processes.Proc.{Proc}
 use Rattle.csp_program.specs.declared.processes.Proc.TheVariants as proc
