@@ -4,12 +4,13 @@ use Rattle.std.specs.List.{filter}
 use Rattle.std.proofs.lemmas.List.{append-nil}
 use Rattle.csp_atoms.specs.Order.{less, same}
 use Rattle.csp_atoms.specs.Sets.{AllAbove, IsRising, has_atom, with_atom, union_of}
-use Rattle.csp_atoms.specs.Merge.{result_of, keeps, least_of, begins_with, rest_after, with_last}
+use Rattle.csp_atoms.specs.Merge.{result_of, least_of, begins_with, rest_after, with_last}
 use Rattle.csp_atoms.specs.declared.atom.Atom.{Atom}
-use Rattle.csp_atoms.specs.declared.sorted.Operation.{Operation}
-use Rattle.csp_atoms.specs.declared.sorted.Operation.TheVariants.{Union, Inter, Diff}
+use Rattle.csp_base.specs.declared.operators.SetOp.{SetOp}
+use Rattle.csp_base.specs.declared.operators.SetOp.TheVariants.{Union, Inter, Diff}
 use Rattle.csp_atoms.proofs.OrderLaws.{same_itself, less_itself, before_from_less, cases_atoms}
 use Rattle.csp_atoms.proofs.ListLaws.{AllAbove-trans, has_not_before, with_first, AllAbove-union_of}
+use Rattle.csp_base.specs.Operations.{keeps}
 
 -- ---- what a first atom of the second list adds to a union
 
@@ -36,22 +37,22 @@ keep_without f a (x ∷ xs) ys r =
 -- ---- the step
 
 -- what is left to do after the atom a was taken from both
-abbrev pub Step : Operation → Atom → List Atom → List Atom → Type 0
+abbrev pub Step : SetOp → Atom → List Atom → List Atom → Type 0
 Step op a xs ys =
     result_of op xs ys ≡ cond (keeps op (begins_with xs a) (begins_with ys a)) (a ∷ result_of op (rest_after xs a) (rest_after ys a)) (result_of op (rest_after xs a) (rest_after ys a))
 
 -- a is less than all of the second list
-step_left : (op : Operation) (a : Atom) (xs ys : List Atom) → AllAbove a xs → AllAbove a ys → result_of op (a ∷ xs) ys ≡ cond (keeps op true false) (a ∷ result_of op xs ys) (result_of op xs ys)
+step_left : (op : SetOp) (a : Atom) (xs ys : List Atom) → AllAbove a xs → AllAbove a ys → result_of op (a ∷ xs) ys ≡ cond (keeps op true false) (a ∷ result_of op xs ys) (result_of op xs ys)
 step_left Union a xs ys r s = union_with_first a xs ys r s
 step_left Inter a xs ys r s = rw (has_not_before a ys s)
 step_left Diff a xs ys r s = rw (has_not_before a ys s)
 
-step_right : (op : Operation) (a : Atom) (xs ys : List Atom) → AllAbove a xs → result_of op xs (a ∷ ys) ≡ cond (keeps op false true) (a ∷ result_of op xs ys) (result_of op xs ys)
+step_right : (op : SetOp) (a : Atom) (xs ys : List Atom) → AllAbove a xs → result_of op xs (a ∷ ys) ≡ cond (keeps op false true) (a ∷ result_of op xs ys) (result_of op xs ys)
 step_right Union a xs ys r = union_with_second a xs ys r
 step_right Inter a xs ys r = keep_without (λ t. t) a xs ys r
 step_right Diff a xs ys r = keep_without not a xs ys r
 
-step_both : (op : Operation) (a : Atom) (xs ys : List Atom) → AllAbove a xs → result_of op (a ∷ xs) (a ∷ ys) ≡ cond (keeps op true true) (a ∷ result_of op xs ys) (result_of op xs ys)
+step_both : (op : SetOp) (a : Atom) (xs ys : List Atom) → AllAbove a xs → result_of op (a ∷ xs) (a ∷ ys) ≡ cond (keeps op true true) (a ∷ result_of op xs ys) (result_of op xs ys)
 step_both Union a xs ys r = union_with_both a xs ys r
 step_both Inter a xs ys r = rw (same_itself a) (ap (λ l. a ∷ l) (keep_without (λ t. t) a xs ys r))
 step_both Diff a xs ys r = rw (same_itself a) (keep_without not a xs ys r)
@@ -61,20 +62,20 @@ rest_before : (a : Atom) (ys : List Atom) → AllAbove a ys → (begins_with ys 
 rest_before a [] r = (refl, refl)
 rest_before a (y ∷ ys) r = let b = before_from_less a y r.0 in (b.not_same_back, rw b.not_same_back)
 
-step_first : (op : Operation) (a : Atom) (xs ys : List Atom) → AllAbove a xs → AllAbove a ys → Step op a (a ∷ xs) ys
+step_first : (op : SetOp) (a : Atom) (xs ys : List Atom) → AllAbove a xs → AllAbove a ys → Step op a (a ∷ xs) ys
 step_first op a xs ys r s =
     let t = rest_before a ys s in
     rw (same_itself a, t.0, t.1) (step_left op a xs ys r s)
 
-step_second : (op : Operation) (a : Atom) (xs ys : List Atom) → AllAbove a xs → Step op a xs (a ∷ ys)
+step_second : (op : SetOp) (a : Atom) (xs ys : List Atom) → AllAbove a xs → Step op a xs (a ∷ ys)
 step_second op a xs ys r =
     let t = rest_before a xs r in
     rw (same_itself a, t.0, t.1) (step_right op a xs ys r)
 
-step_equal : (op : Operation) (a : Atom) (xs ys : List Atom) → AllAbove a xs → Step op a (a ∷ xs) (a ∷ ys)
+step_equal : (op : SetOp) (a : Atom) (xs ys : List Atom) → AllAbove a xs → Step op a (a ∷ xs) (a ∷ ys)
 step_equal op a xs ys r = rw (same_itself a) (step_both op a xs ys r)
 
-pub step : (op : Operation) (a : Atom) (xs ys : List Atom) → IsRising xs → IsRising ys → least_of xs ys ≡ Some a → Step op a xs ys
+pub step : (op : SetOp) (a : Atom) (xs ys : List Atom) → IsRising xs → IsRising ys → least_of xs ys ≡ Some a → Step op a xs ys
 step op a [] [] r s e = absurd (cc)
 step op a [] (y ∷ ys) r s e =
     let is : y ≡ a = cc in
@@ -101,7 +102,7 @@ step op a (x ∷ xs) (y ∷ ys) r s e =
       ]
     ]
 
-pub no_step : (op : Operation) (xs ys : List Atom) → least_of xs ys ≡ None → result_of op xs ys ≡ []
+pub no_step : (op : SetOp) (xs ys : List Atom) → least_of xs ys ≡ None → result_of op xs ys ≡ []
 no_step Union [] [] e = refl
 no_step Inter [] [] e = refl
 no_step Diff [] [] e = refl
@@ -148,10 +149,10 @@ push_moves : (made xs : List Atom) (t : Bool) (a : Atom) → with_last made t a 
 push_moves made xs true a = append_assoc made (a ∷ []) xs
 push_moves made xs false a = refl
 
-pub loop_step : (op : Operation) (a : Atom) (made xs ys whole : List Atom) → IsRising xs → IsRising ys → least_of xs ys ≡ Some a → made ++ result_of op xs ys ≡ whole → with_last made (keeps op (begins_with xs a) (begins_with ys a)) a ++ result_of op (rest_after xs a) (rest_after ys a) ≡ whole
+pub loop_step : (op : SetOp) (a : Atom) (made xs ys whole : List Atom) → IsRising xs → IsRising ys → least_of xs ys ≡ Some a → made ++ result_of op xs ys ≡ whole → with_last made (keeps op (begins_with xs a) (begins_with ys a)) a ++ result_of op (rest_after xs a) (rest_after ys a) ≡ whole
 loop_step op a made xs ys whole r s e h =
     push_moves made (result_of op (rest_after xs a) (rest_after ys a)) (keeps op (begins_with xs a) (begins_with ys a)) a
     ∙ ap (λ l. made ++ l) (sym (step op a xs ys r s e)) ∙ h
 
-pub loop_end : (op : Operation) (made xs ys whole : List Atom) → least_of xs ys ≡ None → made ++ result_of op xs ys ≡ whole → made ≡ whole
+pub loop_end : (op : SetOp) (made xs ys whole : List Atom) → least_of xs ys ≡ None → made ++ result_of op xs ys ≡ whole → made ≡ whole
 loop_end op made xs ys whole e h = sym (append-nil made) ∙ ap (λ l. made ++ l) (sym (no_step op xs ys e)) ∙ h

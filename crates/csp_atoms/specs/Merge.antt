@@ -1,22 +1,16 @@
 -- Two rising lists of atoms merged step by step: each step takes the least atom that is left from both.
-use Rattle.std.specs.Prelude.{Bool, ◌&&◌, ◌||◌, not, false, if◌then◌else◌, Option, Some, None, List, [], ◌∷◌, ◌++◌}
+use Rattle.std.specs.Prelude.{Bool, ◌&&◌, ◌||◌, false, if◌then◌else◌, Option, Some, None, List, [], ◌∷◌, ◌++◌}
 use Rattle.csp_atoms.specs.Order.{less, same}
 use Rattle.csp_atoms.specs.Sets.{union_of, inter_of, diff_of}
 use Rattle.csp_atoms.specs.declared.atom.Atom.{Atom}
-use Rattle.csp_atoms.specs.declared.sorted.Operation.{Operation}
-use Rattle.csp_atoms.specs.declared.sorted.Operation.TheVariants.{Union, Inter, Diff}
+use Rattle.csp_base.specs.declared.operators.SetOp.{SetOp}
+use Rattle.csp_base.specs.declared.operators.SetOp.TheVariants.{Union, Inter, Diff}
 
 -- the result of an operation
-abbrev pub result_of : Operation → List Atom → List Atom → List Atom
+abbrev pub result_of : SetOp → List Atom → List Atom → List Atom
 result_of Union xs ys = union_of xs ys
 result_of Inter xs ys = inter_of xs ys
 result_of Diff xs ys = diff_of xs ys
-
--- whether an atom is in the result, by whether it is in both
-abbrev pub keeps : Operation → Bool → Bool → Bool
-keeps Union left right = left || right
-keeps Inter left right = left && right
-keeps Diff left right = left && not right
 
 -- the least atom that is left
 abbrev pub least_of : List Atom → List Atom → Option Atom

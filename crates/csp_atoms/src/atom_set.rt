@@ -9,9 +9,8 @@ ghost use Rattle.csp_atoms.specs.Sets.{IsAtomSet, IsRising, IsOneKind, alike, di
 use crate::atom::Atom;
 use crate::error::AtomSetError;
 use crate::sorted;
-use crate::sorted::Operation;
 use containers::Items;
-use csp_base::{EventSet, NoMemory};
+use csp_base::{EventSet, NoMemory, SetOp};
 use std::alloc::Global;
 use std::marker::Model;
 
@@ -144,7 +143,7 @@ impl AtomSet {
         }
         let atoms = sorted::merged(
             alloc,
-            Operation::Union,
+            SetOp::Union,
             self.atoms.as_slice(),
             other.atoms.as_slice(),
         )?;
@@ -161,7 +160,7 @@ impl AtomSet {
     {
         let atoms = sorted::merged(
             alloc,
-            Operation::Inter,
+            SetOp::Inter,
             self.atoms.as_slice(),
             other.atoms.as_slice(),
         )?;
@@ -178,7 +177,7 @@ impl AtomSet {
     {
         let atoms = sorted::merged(
             alloc,
-            Operation::Diff,
+            SetOp::Diff,
             self.atoms.as_slice(),
             other.atoms.as_slice(),
         )?;

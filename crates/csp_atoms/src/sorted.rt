@@ -4,21 +4,14 @@ ghost use Rattle.std.specs.Prelude.{◌≡◌, ◌+◌, ◌<◌, length, slice_g
 ghost use Rattle.std.specs.Option.{option_map};
 ghost use Rattle.csp_atoms.specs.Order.{less, same};
 ghost use Rattle.csp_atoms.specs.Sets.{IsRising, alike, event_atoms, event_number, event_numbers, fits, has_atom, place_of, with_atom};
-ghost use Rattle.csp_atoms.specs.Merge.{result_of, keeps, least_of, begins_with, rest_after, with_last};
+ghost use Rattle.csp_atoms.specs.Merge.{result_of, least_of, begins_with, rest_after, with_last};
 ghost use Rattle.csp_atoms.specs.Search.{count_before, stands_at};
+ghost use Rattle.csp_base.specs.Operations.{keeps};
 
 use crate::atom::{Atom, equal, precedes};
 use containers::Items;
-use csp_base::{Event, EventSet, NoMemory};
+use csp_base::{Event, EventSet, NoMemory, SetOp};
 use std::alloc::Global;
-
-/// An operation on two sets.
-#[derive(Clone, Copy)]
-pub(crate) enum Operation {
-    Union,
-    Inter,
-    Diff,
-}
 
 // How many atoms come before the given one, by binary search.
 fn lower_bound(atoms: &[Atom], atom: &Atom) -> usize
@@ -137,13 +130,13 @@ fn past_front<'a>(atoms: &'a [Atom], atom: &Atom) -> &'a [Atom]
 }
 
 // Whether an atom is in the result, by whether it is in both sets.
-fn is_kept(operation: Operation, left: bool, right: bool) -> bool
+fn is_kept(operation: SetOp, left: bool, right: bool) -> bool
     ensures { result ≡ keeps operation left right }
 {
     match operation {
-        Operation::Union => left || right,
-        Operation::Inter => left && right,
-        Operation::Diff => left && !right,
+        SetOp::Union => left || right,
+        SetOp::Inter => left && right,
+        SetOp::Diff => left && !right,
     }
 }
 
@@ -161,7 +154,7 @@ fn push_if(made: &mut Vec<Atom>, kept: bool, atom: &Atom) -> Result<(), NoMemory
 /// The operation on both lists, in a walk over both.
 pub(crate) fn merged(
     alloc: Global,
-    operation: Operation,
+    operation: SetOp,
     left: &[Atom],
     right: &[Atom],
 ) -> Result<Vec<Atom>, NoMemory>

@@ -25,8 +25,8 @@ has_at [] k h = absurd (omega arith)
 has_at (x ∷ xs) zero h = has_first x xs
 has_at (x ∷ xs) (suc k) h = or_right (nat_eq x (get_or xs k 0)) (has xs (get_or xs k 0)) (has_at xs k (omega arith))
 
-pub has_push : (xs : List ℕ) (x y : ℕ) → has (xs ++ x ∷ []) y ≡ true → (has xs y ≡ true) ⊎ (x ≡ y)
-has_push xs x y h = elim (or_cases (has xs y) (has (x ∷ []) y) (sym (list_any-append (λ z. nat_eq z y) xs (x ∷ [])) ∙ h)) [
+pub has_push_cases : (xs : List ℕ) (x y : ℕ) → has (xs ++ x ∷ []) y ≡ true → (has xs y ≡ true) ⊎ (x ≡ y)
+has_push_cases xs x y h = elim (or_cases (has xs y) (has (x ∷ []) y) (sym (list_any-append (λ z. nat_eq z y) xs (x ∷ [])) ∙ h)) [
   | inl old ↦ inl old
   | inr new ↦ elim (or_cases (nat_eq x y) false new) [ inl same ↦ inr (eqb-true x y same) | inr never ↦ absurd (false≢true never) ]
 ]

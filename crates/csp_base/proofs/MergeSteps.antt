@@ -5,8 +5,8 @@ use Rattle.std.proofs.lemmas.Nat.Bits.{bit_at_and, bit_at_or, bit_at_not, bit_at
 use Rattle.std.proofs.lemmas.Nat.{or_lt, and_le_l}
 use Rattle.std.specs.Int.{bit_at, bit_not, trailing_zeros, w64}
 use Rattle.std.specs.Prelude.{◌==◌, bit_and, bit_or}
-use Rattle.csp_base.specs.declared.blocks.Operation.{Operation}
-use Rattle.csp_base.specs.declared.blocks.Operation.TheVariants.{Union, Inter, Diff}
+use Rattle.csp_base.specs.declared.operators.SetOp.{SetOp}
+use Rattle.csp_base.specs.declared.operators.SetOp.TheVariants.{Union, Inter, Diff}
 use Rattle.csp_base.specs.Blocks.{has_bit, word_at, AreBlocksFrom, events_of}
 use Rattle.csp_base.specs.Events.{has}
 use Rattle.csp_base.specs.Operations.{combined_of, keeps, least_of, first_word, rest_after, with_word, end_from}
@@ -44,17 +44,17 @@ has_bit-and v w k = ap (λ n. n == 1) (bit_at_and v w k) ∙ is_one_min (bit_at 
 pub has_bit-not : (w k : ℕ) → w < 2 ^ 64 → k < 64 → has_bit (bit_not w64 w) k ≡ not (has_bit w k)
 has_bit-not w k l m = ap (λ n. n == 1) (bit_at_not w64 w k l m) ∙ is_one_not (bit_at w k) (bit_at-lt w k)
 
-pub has_bit-combined_of : (op : Operation) (v w k : ℕ) → w < 2 ^ 64 → k < 64 → has_bit (combined_of op v w) k ≡ keeps op (has_bit v k) (has_bit w k)
+pub has_bit-combined_of : (op : SetOp) (v w k : ℕ) → w < 2 ^ 64 → k < 64 → has_bit (combined_of op v w) k ≡ keeps op (has_bit v k) (has_bit w k)
 has_bit-combined_of Union v w k l m = has_bit-or v w k
 has_bit-combined_of Inter v w k l m = has_bit-and v w k
 has_bit-combined_of Diff v w k l m = has_bit-and v (bit_not w64 w) k ∙ ap (λ b. has_bit v k && b) (has_bit-not w k l m)
 
-combined_of-zero : (op : Operation) → combined_of op 0 0 ≡ 0
+combined_of-zero : (op : SetOp) → combined_of op 0 0 ≡ 0
 combined_of-zero Union = refl
 combined_of-zero Inter = refl
 combined_of-zero Diff = refl
 
-combined_of-lt : (op : Operation) (v w : ℕ) → v < 2 ^ 64 → w < 2 ^ 64 → combined_of op v w < 2 ^ 64
+combined_of-lt : (op : SetOp) (v w : ℕ) → v < 2 ^ 64 → w < 2 ^ 64 → combined_of op v w < 2 ^ 64
 combined_of-lt Union v w l m = or_lt 64 v w l m
 combined_of-lt Inter v w l m = omega (arith, and_le_l v w)
 combined_of-lt Diff v w l m = omega (arith, and_le_l v (bit_not w64 w))
@@ -135,13 +135,13 @@ word_at-with_word ps n w b =
 -- ---- the walk
 
 -- `out` is done, `ps` and `qs` are left of `left` and `right`
-pub record IsMerging (op : Operation) (left right out ps qs : List (ℕ × ℕ)) : Type 0 where
+pub record IsMerging (op : SetOp) (left right out ps qs : List (ℕ × ℕ)) : Type 0 where
   pub done : AreBlocksFrom 0 out
   pub first_ahead : AreBlocksFrom (end_from 0 out) ps
   pub second_ahead : AreBlocksFrom (end_from 0 out) qs
   pub words : (b : ℕ) → word_at out b + combined_of op (word_at ps b) (word_at qs b) ≡ combined_of op (word_at left b) (word_at right b)
 
-step_words : (op : Operation) (out ps qs : List (ℕ × ℕ)) (n b : ℕ) → AreBlocksFrom n ps → AreBlocksFrom n qs
+step_words : (op : SetOp) (out ps qs : List (ℕ × ℕ)) (n b : ℕ) → AreBlocksFrom n ps → AreBlocksFrom n qs
     → word_at (with_word out n (combined_of op (first_word ps n) (first_word qs n))) b + combined_of op (word_at (rest_after ps n) b) (word_at (rest_after qs n) b)
     ≡ word_at out b + combined_of op (word_at ps b) (word_at qs b)
 step_words op out ps qs n b r s =
@@ -152,7 +152,7 @@ step_words op out ps qs n b r s =
       | inr ne ↦ rw (ne_eqb n b ne, word_at-rest_after n ps b ne, word_at-rest_after n qs b ne) (omega arith)
     ])
 
-pub IsMerging-step : (op : Operation) (left right out ps qs : List (ℕ × ℕ)) → IsMerging op left right out ps qs → 0 < length ps + length qs
+pub IsMerging-step : (op : SetOp) (left right out ps qs : List (ℕ × ℕ)) → IsMerging op left right out ps qs → 0 < length ps + length qs
     → IsMerging op left right (with_word out (least_of ps qs) (combined_of op (first_word ps (least_of ps qs)) (first_word qs (least_of ps qs)))) (rest_after ps (least_of ps qs)) (rest_after qs (least_of ps qs))
 IsMerging-step op left right out ps qs m l =
     let n : ℕ = least_of ps qs in
@@ -170,7 +170,7 @@ IsMerging-step op left right out ps qs m l =
 
 -- ---- what the words say of the members
 
-pub keeps-members : (op : Operation) (ps qs rs : List (ℕ × ℕ)) → AreBlocksFrom 0 ps → AreBlocksFrom 0 qs → AreBlocksFrom 0 rs
+pub keeps-members : (op : SetOp) (ps qs rs : List (ℕ × ℕ)) → AreBlocksFrom 0 ps → AreBlocksFrom 0 qs → AreBlocksFrom 0 rs
     → ((b : ℕ) → word_at rs b ≡ combined_of op (word_at ps b) (word_at qs b))
     → (x : ℕ) → has (events_of rs) x ≡ keeps op (has (events_of ps) x) (has (events_of qs) x)
 keeps-members op ps qs rs r s t words x =
@@ -178,13 +178,13 @@ keeps-members op ps qs rs r s t words x =
     (has_bit-combined_of op (word_at ps (x / 64)) (word_at qs (x / 64)) (x % 64) (word_at-lt 0 qs (x / 64) s) (omega arith))
 
 -- at the end of the walk
-pub IsMerging-words : (op : Operation) (left right out ps qs : List (ℕ × ℕ)) → IsMerging op left right out ps qs → length ps + length qs ≡ 0
+pub IsMerging-words : (op : SetOp) (left right out ps qs : List (ℕ × ℕ)) → IsMerging op left right out ps qs → length ps + length qs ≡ 0
     → (b : ℕ) → word_at out b ≡ combined_of op (word_at left b) (word_at right b)
 IsMerging-words op left right out [] [] m l b = let h : word_at out b + 0 ≡ combined_of op (word_at left b) (word_at right b) = rw combined_of-zero at (m.words b) in omega arith
 IsMerging-words op left right out (p ∷ ps) qs m l b = absurd (omega arith)
 IsMerging-words op left right out [] (q ∷ qs) m l b = absurd (omega arith)
 
-pub IsMerging-members : (op : Operation) (left right out ps qs : List (ℕ × ℕ)) → AreBlocksFrom 0 left → AreBlocksFrom 0 right → IsMerging op left right out ps qs → length ps + length qs ≡ 0
+pub IsMerging-members : (op : SetOp) (left right out ps qs : List (ℕ × ℕ)) → AreBlocksFrom 0 left → AreBlocksFrom 0 right → IsMerging op left right out ps qs → length ps + length qs ≡ 0
     → (x : ℕ) → has (events_of out) x ≡ keeps op (has (events_of left) x) (has (events_of right) x)
 IsMerging-members op left right out ps qs r s m l = keeps-members op left right out r s m.done (IsMerging-words op left right out ps qs m l)
 
@@ -194,7 +194,7 @@ bit_of_word w ne l =
     let lowest = bit_at-trailing_zeros w64 w (omega arith) l in
     (trailing_zeros w64 w, lowest.0, eq-eqb (bit_at w (trailing_zeros w64 w)) 1 lowest.1)
 
-member_of_word : (op : Operation) (ps qs : List (ℕ × ℕ)) (b : ℕ) → AreBlocksFrom 0 ps → AreBlocksFrom 0 qs → (combined_of op (word_at ps b) (word_at qs b) ≡ 0 → ⊥)
+member_of_word : (op : SetOp) (ps qs : List (ℕ × ℕ)) (b : ℕ) → AreBlocksFrom 0 ps → AreBlocksFrom 0 qs → (combined_of op (word_at ps b) (word_at qs b) ≡ 0 → ⊥)
     → (x : ℕ) × (keeps op (has (events_of ps) x) (has (events_of qs) x) ≡ true)
 member_of_word op ps qs b r s ne =
     let bit = bit_of_word (combined_of op (word_at ps b) (word_at qs b)) ne (combined_of-lt op (word_at ps b) (word_at qs b) (word_at-lt 0 ps b r) (word_at-lt 0 qs b s)) in (
@@ -204,7 +204,7 @@ member_of_word op ps qs b r s ne =
     )
 
 -- a word of the operation that is not 0, at the least number, where none was found before
-pub IsMerging-found : (op : Operation) (left right ps qs : List (ℕ × ℕ)) → AreBlocksFrom 0 left → AreBlocksFrom 0 right → IsMerging op left right [] ps qs → 0 < length ps + length qs
+pub IsMerging-found : (op : SetOp) (left right ps qs : List (ℕ × ℕ)) → AreBlocksFrom 0 left → AreBlocksFrom 0 right → IsMerging op left right [] ps qs → 0 < length ps + length qs
     → (combined_of op (first_word ps (least_of ps qs)) (first_word qs (least_of ps qs)) ≡ 0 → ⊥)
     → (x : ℕ) × (keeps op (has (events_of left) x) (has (events_of right) x) ≡ true)
 IsMerging-found op left right ps qs r s m l ne =
@@ -214,7 +214,7 @@ IsMerging-found op left right ps qs r s m l ne =
     (λ z. ne (ap (λ w. combined_of op w (first_word qs n)) (first_word-word_at n ps ahead.2) ∙ ap (combined_of op (word_at ps n)) (first_word-word_at n qs ahead.3)
     ∙ (let h : 0 + combined_of op (word_at ps n) (word_at qs n) ≡ combined_of op (word_at left n) (word_at right n) = m.words n in omega arith)))
 
-pub IsMerging-next : (op : Operation) (left right ps qs : List (ℕ × ℕ)) → IsMerging op left right [] ps qs → 0 < length ps + length qs
+pub IsMerging-next : (op : SetOp) (left right ps qs : List (ℕ × ℕ)) → IsMerging op left right [] ps qs → 0 < length ps + length qs
     → combined_of op (first_word ps (least_of ps qs)) (first_word qs (least_of ps qs)) ≡ 0
     → IsMerging op left right [] (rest_after ps (least_of ps qs)) (rest_after qs (least_of ps qs))
 IsMerging-next op left right ps qs m l z =
@@ -222,6 +222,6 @@ IsMerging-next op left right ps qs m l z =
     (ap (λ b. cond b [] ((least_of ps qs, combined_of op (first_word ps (least_of ps qs)) (first_word qs (least_of ps qs))) ∷ [])) (eq-eqb _ 0 z))
     (IsMerging-step op left right [] ps qs m l)
 
-pub IsMerging-none : (op : Operation) (left right ps qs : List (ℕ × ℕ)) → AreBlocksFrom 0 left → AreBlocksFrom 0 right → IsMerging op left right [] ps qs → length ps + length qs ≡ 0
+pub IsMerging-none : (op : SetOp) (left right ps qs : List (ℕ × ℕ)) → AreBlocksFrom 0 left → AreBlocksFrom 0 right → IsMerging op left right [] ps qs → length ps + length qs ≡ 0
     → (x : ℕ) → keeps op (has (events_of left) x) (has (events_of right) x) ≡ false
 IsMerging-none op left right ps qs r s m l x = sym (IsMerging-members op left right [] ps qs r s m l x)

@@ -1,17 +1,17 @@
 -- Operations on two sets, word by word.
 use Rattle.std.specs.Prelude.{ℕ, ◌+◌, ◌==◌, nat_lt, bit_and, bit_or, Bool, ◌&&◌, ◌||◌, not, if◌then◌else◌, List, [], ◌∷◌, ◌++◌}
 use Rattle.std.specs.Int.{bit_not, w64}
-use Rattle.csp_base.specs.declared.blocks.Operation.{Operation}
-use Rattle.csp_base.specs.declared.blocks.Operation.TheVariants.{Union, Inter, Diff}
+use Rattle.csp_base.specs.declared.operators.SetOp.{SetOp}
+use Rattle.csp_base.specs.declared.operators.SetOp.TheVariants.{Union, Inter, Diff}
 
 -- the word of the result, from the words of both
-abbrev pub combined_of : Operation → ℕ → ℕ → ℕ
+abbrev pub combined_of : SetOp → ℕ → ℕ → ℕ
 combined_of Union left right = bit_or left right
 combined_of Inter left right = bit_and left right
 combined_of Diff left right = bit_and left (bit_not w64 right)
 
 -- whether an event is in the result, by whether it is in both
-abbrev pub keeps : Operation → Bool → Bool → Bool
+abbrev pub keeps : SetOp → Bool → Bool → Bool
 keeps Union left right = left || right
 keeps Inter left right = left && right
 keeps Diff left right = left && not right

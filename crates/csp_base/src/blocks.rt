@@ -10,24 +10,17 @@ ghost use Rattle.csp_base.specs.Operations.{combined_of, keeps, least_of, first_
 
 use crate::NoMemory;
 use crate::event_set::Event;
+use crate::operators::SetOp;
 use std::alloc::Global;
 
-/// An operation on two sets.
-#[derive(Clone, Copy)]
-pub(crate) enum Operation {
-    Union,
-    Inter,
-    Diff,
-}
-
 /// The word of the result at one block, from the words of both sets there.
-fn combined(operation: Operation, left: u64, right: u64) -> u64
+fn combined(operation: SetOp, left: u64, right: u64) -> u64
     ensures { result ≡ combined_of operation left right }
 {
     match operation {
-        Operation::Union => left | right,
-        Operation::Inter => left & right,
-        Operation::Diff => left & !right,
+        SetOp::Union => left | right,
+        SetOp::Inter => left & right,
+        SetOp::Diff => left & !right,
     }
 }
 
@@ -81,7 +74,7 @@ fn push_word(blocks: &mut Vec<(u32, u64)>, number: u32, word: u64) -> Result<(),
 /// The blocks of the operation on both, in a walk over both.
 pub(crate) fn merged(
     alloc: Global,
-    operation: Operation,
+    operation: SetOp,
     left: &[(u32, u64)],
     right: &[(u32, u64)],
 ) -> Result<Vec<(u32, u64)>, NoMemory>
@@ -108,7 +101,7 @@ pub(crate) fn merged(
 }
 
 /// Whether the operation on both has a member: a walk over both that ends at the first.
-fn gives_any(operation: Operation, left: &[(u32, u64)], right: &[(u32, u64)]) -> bool
+fn gives_any(operation: SetOp, left: &[(u32, u64)], right: &[(u32, u64)]) -> bool
     requires left_blocks { AreBlocks left.now }
     requires right_blocks { AreBlocks right.now }
     ensures found { OnTrue result ((x : ℕ) × (keeps operation (has (events_of left.now) x) (has (events_of right.now) x) ≡ true)) }
@@ -138,7 +131,7 @@ pub(crate) fn is_subset(left: &[(u32, u64)], right: &[(u32, u64)]) -> bool
     requires right_blocks { AreBlocks right.now }
     ensures { result ≡ is_subset_of (events_of left.now) (events_of right.now) }
 {
-    !gives_any(Operation::Diff, left, right)
+    !gives_any(SetOp::Diff, left, right)
 }
 
 /// Whether an event of the first is one of the second.
@@ -147,7 +140,7 @@ pub(crate) fn meets(left: &[(u32, u64)], right: &[(u32, u64)]) -> bool
     requires right_blocks { AreBlocks right.now }
     ensures { result ≡ meets_of (events_of left.now) (events_of right.now) }
 {
-    gives_any(Operation::Inter, left, right)
+    gives_any(SetOp::Inter, left, right)
 }
 
 /// The first place whose block has that number or a higher one, by binary search.

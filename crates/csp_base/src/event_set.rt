@@ -13,8 +13,8 @@ ghost use Rattle.csp_base.specs.Blocks.{AreBlocks, events_of, has_bit, word_at};
 ghost use Rattle.csp_base.specs.SetHash.{set_writes};
 ghost use Rattle.csp_base.specs.Events.{has, with_member, union_of, set_of, inter_of, diff_of, is_subset_of, meets_of};
 
-use crate::blocks::Operation;
 use crate::members::Members;
+use crate::operators::SetOp;
 use crate::{NoMemory, block_order, blocks};
 use std::alloc::Global;
 use std::cmp::Ordering;
@@ -150,7 +150,7 @@ impl EventSet {
         ensures members { IfOk result (λ made. (x : ℕ) → has made x ≡ (has self.now x || has other.now x)) }
         ensures rising { IfOk result IsStrictlyIncreasing }
     {
-        let blocks = blocks::merged(alloc, Operation::Union, &self.blocks, &other.blocks)?;
+        let blocks = blocks::merged(alloc, SetOp::Union, &self.blocks, &other.blocks)?;
         Ok(EventSet { blocks })
     }
 
@@ -160,7 +160,7 @@ impl EventSet {
         ensures members { IfOk result (λ made. (x : ℕ) → has made x ≡ (has self.now x && has other.now x)) }
         ensures rising { IfOk result IsStrictlyIncreasing }
     {
-        let blocks = blocks::merged(alloc, Operation::Inter, &self.blocks, &other.blocks)?;
+        let blocks = blocks::merged(alloc, SetOp::Inter, &self.blocks, &other.blocks)?;
         Ok(EventSet { blocks })
     }
 
@@ -170,7 +170,7 @@ impl EventSet {
         ensures members { IfOk result (λ made. (x : ℕ) → has made x ≡ (has self.now x && not (has other.now x))) }
         ensures rising { IfOk result IsStrictlyIncreasing }
     {
-        let blocks = blocks::merged(alloc, Operation::Diff, &self.blocks, &other.blocks)?;
+        let blocks = blocks::merged(alloc, SetOp::Diff, &self.blocks, &other.blocks)?;
         Ok(EventSet { blocks })
     }
 

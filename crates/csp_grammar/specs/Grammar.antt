@@ -13,7 +13,6 @@ use Rattle.csp_text.specs.declared.tree.Tree.{Tree}
 use Rattle.csp_text.specs.declared.tree.Tree.TheVariants as tree
 use Rattle.csp_base.specs.declared.operators.BinOp.{BinOp}
 use Rattle.csp_base.specs.declared.operators.SetOp.{SetOp}
-use Rattle.csp_base.specs.declared.operators.SetOp.TheVariants as set_op
 use Rattle.csp_text.specs.declared.tree.EventTree.{EventTree, roll-EventTree}
 use Rattle.csp_text.specs.declared.tree.PartTree.{PartTree, roll-PartTree}
 use Rattle.csp_text.specs.declared.tree.FieldTree.{FieldTree}
@@ -22,6 +21,7 @@ use Rattle.csp_text.specs.declared.tree.GenTree.{GenTree}
 use Rattle.csp_text.specs.declared.tree.GenTree.TheVariants as generator
 use Rattle.csp_grammar.specs.Precedence.{Level, IsNext, IsLeftOperator, IsComparison}
 use Rattle.csp_grammar.specs.Precedence.Level.{disjunction, negation, comparison, sum, minus, renaming}
+use Rattle.csp_text.specs.Written.{set_op_word}
 
 -- the two choices, which are written in the same way
 pub data Choice : Type 0 where
@@ -41,12 +41,6 @@ event_tree c fields = roll-EventTree (record { name = c; fields = fields })
 
 abbrev pub part_tree : List ℕ → List Tree → PartTree
 part_tree c fields = roll-PartTree (record { name = c; fields = fields })
-
--- how an operator on sets is written
-abbrev pub set_op_word : SetOp → Token
-set_op_word set_op.Union = Word word.Union
-set_op_word set_op.Inter = Word word.Inter
-set_op_word set_op.Diff = Word word.Diff
 
 mutual
   -- A tree: a dotted event, a process or an expression, or two processes in parallel.

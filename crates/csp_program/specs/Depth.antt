@@ -1,7 +1,6 @@
 -- The depth of an expression or a process: 1 without parts, else one more than the greatest depth among its processes and expressions, those in
 -- fields, pairs and generators included. A value that was put in has depth 1, and a head counts nothing.
 use Rattle.std.specs.Prelude.{ℕ, ◌+◌, max, Some, None, map}
-use Rattle.csp_program.specs.Lists.{greatest}
 use Rattle.csp_program.specs.declared.expressions.Expr.{Expr, fold-Expr}
 use Rattle.csp_program.specs.declared.expressions.Expr.TheFolds.{fold-Gen, fold-EventPart}
 use Rattle.csp_program.specs.declared.expressions.Expr.TheOpen.{Expr-F, Gen-F, EventPart-F}
@@ -11,6 +10,7 @@ use Rattle.csp_program.specs.declared.processes.Field.{Field}
 use Rattle.csp_program.specs.declared.processes.Field.TheVariants as field
 use Rattle.csp_program.specs.declared.processes.Proc.{Proc, fold-Proc}
 use Rattle.csp_program.specs.declared.processes.Proc.TheOpen.{Proc-F}
+use Rattle.csp_base.specs.Lists.{greatest}
 
 -- one layer of an expression, with the depths of its parts in their places
 abbrev pub expr_depth_of_layer : Expr-F ℕ ℕ ℕ → ℕ

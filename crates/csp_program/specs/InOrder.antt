@@ -6,7 +6,7 @@ use Rattle.csp_atoms.specs.Sets.{is_set}
 use Rattle.csp_program.specs.EventNumber.{KeepFirsts}
 use Rattle.csp_program.specs.EventTable.{event_table}
 use Rattle.csp_program.specs.Free.{Names, IsClosed, expr_free, proc_free, net_free}
-use Rattle.csp_program.specs.Lists.{all_true, has_number}
+use Rattle.csp_program.specs.Lists.{all_true}
 use Rattle.csp_program.specs.Uses.{Reaches}
 use Rattle.csp_atoms.specs.declared.atom.Atom.{Atom}
 use Rattle.csp_atoms.specs.declared.atom.Atom.TheVariants as atom
@@ -32,6 +32,7 @@ use Rattle.csp_program.specs.declared.programs.Content.{Content}
 use Rattle.csp_program.specs.declared.programs.Def.{Def}
 use Rattle.csp_program.specs.declared.programs.ResourceNote.{ResourceNote}
 use Rattle.csp_program.specs.declared.programs.RolesNote.{RolesNote}
+use Rattle.csp_base.specs.Members.{has}
 
 -- The classes of definitions.
 abbrev pub is_datum : Body → Bool
@@ -224,7 +225,7 @@ body_free (body.Network n) = net_free n
 
 -- no name is free in the body but the parameters
 abbrev pub IsClosedBody : Def → Type 0
-IsClosedBody def = (x : ℕ) → IsTrue (body_free def.body x) → IsTrue (has_number def.params x)
+IsClosedBody def = (x : ℕ) → IsTrue (body_free def.body x) → IsTrue (has def.params x)
 
 abbrev pub AllClosed : List Expr → Type 0
 AllClosed [] = Unit {0}

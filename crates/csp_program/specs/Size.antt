@@ -1,7 +1,6 @@
 -- The size of an expression or a process: 1 for each process, expression, field, pair and generator in it, and 1 more for each element of a set
 -- that was put in. The front of an event and a head count nothing beside their expressions.
 use Rattle.std.specs.Prelude.{ℕ, ◌+◌, Some, None, map, length}
-use Rattle.csp_program.specs.Lists.{total}
 use Rattle.csp_atoms.specs.declared.value.Value.{Value}
 use Rattle.csp_atoms.specs.declared.value.Value.TheVariants.{One, Many}
 use Rattle.csp_program.specs.declared.expressions.Expr.{Expr, fold-Expr}
@@ -13,6 +12,7 @@ use Rattle.csp_program.specs.declared.processes.Field.{Field}
 use Rattle.csp_program.specs.declared.processes.Field.TheVariants as field
 use Rattle.csp_program.specs.declared.processes.Proc.{Proc, fold-Proc}
 use Rattle.csp_program.specs.declared.processes.Proc.TheOpen.{Proc-F}
+use Rattle.csp_base.specs.Lists.{total}
 
 -- how many elements of sets a value has
 abbrev pub elements_of : Value → ℕ

@@ -312,3 +312,7 @@ value_within p n e env = meaning (uses_within p n) p.channels e env
 -- definitions.
 abbrev pub value_of : Content → Expr → Outcome Value
 value_of p e = value_within p (length p.defs) e []
+
+-- what expressions mean where n uses may still be entered
+abbrev pub meanings : Content → ℕ → List Expr → List Meaning
+meanings p n es = map (meaning (uses_within p n) p.channels) es

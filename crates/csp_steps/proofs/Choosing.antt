@@ -5,7 +5,6 @@ use Rattle.std.proofs.lemmas.List.{get_or-map, length-map, map-set}
 use Rattle.std.proofs.lemmas.Option.{slice_get_within}
 use Rattle.std.specs.Cmp.{first_so, second_so}
 use Rattle.csp_program.specs.Depth.{proc_depth}
-use Rattle.csp_program.specs.Lists.{greatest}
 use Rattle.csp_program.specs.Outcome.{Outcome, and_then}
 use Rattle.csp_program.specs.Substitution.{proc_with}
 use Rattle.csp_program.specs.declared.kinds.ValueKind.{ValueKind}
@@ -25,6 +24,7 @@ use Rattle.csp_steps.specs.declared.step.StepTo.{StepTo}
 use Rattle.step_values.proofs.Lists.{left, left_fault, left_next, taken_whole}
 use Rattle.csp_steps.proofs.Places.{at_stay, below_at, front_both, one_place, seen_stay, still_within, tree_stays, trees_stay}
 use Rattle.csp_base.proofs.Lists.{take_read, map_push}
+use Rattle.csp_base.specs.Lists.{greatest}
 
 abbrev pub of_operand : Content → List Proc → ℕ → Proc → Outcome (List Move)
 of_operand p qs k q = and_then (steps_of p q) (λ moves. Ok (map (λ m. in_choice qs k m.0 m.1) moves))

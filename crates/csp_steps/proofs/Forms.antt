@@ -4,7 +4,6 @@ use Rattle.std.proofs.lemmas.Bool.{ltb-true, lt-ltb, and_from}
 use Rattle.std.specs.Cmp.{first_so, second_so}
 use Rattle.std.specs.Prelude.{Result, nat_lt}
 use Rattle.csp_program.specs.Depth.{proc_depth}
-use Rattle.csp_program.specs.Lists.{greatest}
 use Rattle.csp_program.specs.Outcome.{and_then}
 use Rattle.csp_atoms.specs.declared.atom.Atom.{Atom}
 use Rattle.csp_atoms.specs.declared.value.Value.{Value}
@@ -37,6 +36,7 @@ use Rattle.csp_steps.specs.Listed.{seen}
 use Rattle.csp_steps.specs.declared.look.Look.{Look}
 use Rattle.csp_steps.specs.declared.step.StepTo.{StepTo}
 use Rattle.term_pool.proofs.TreeLemmas.{all_below_more}
+use Rattle.csp_base.specs.Lists.{greatest}
 
 depth_of : (t : Proc) (d : Proc-F Proc) → out-Proc t ≡ d → proc_depth t ≡ layer_depth d
 depth_of t d e = depth_of_out t ∙ ap layer_depth e

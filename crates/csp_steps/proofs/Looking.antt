@@ -5,7 +5,6 @@ use Rattle.csp_program.specs.Outcome.{Outcome, and_then}
 use Rattle.csp_program.specs.declared.kinds.ValueKind.{ValueKind}
 use Rattle.csp_program.specs.declared.processes.Proc.{Proc}
 use Rattle.csp_program.specs.declared.programs.Content.{Content}
-use Rattle.csp_program.specs.Lists.{greatest}
 use Rattle.process_steps.specs.StepList.{Move, steps_of, steps_of_choice}
 use Rattle.term_pool.specs.Trees.{all_below, tree_at, tree_of}
 use Rattle.pool_parts.specs.declared.place.ProcId.{ProcId}
@@ -26,6 +25,7 @@ use Rattle.csp_steps.specs.Listed.{seen}
 use Rattle.csp_steps.specs.declared.look.Look.{Look}
 use Rattle.csp_steps.specs.declared.look.Look.TheVariants as look
 use Rattle.csp_steps.specs.declared.step.StepTo.{StepTo}
+use Rattle.csp_base.specs.Lists.{greatest}
 
 module _ (p : Content) (trees : List Proc) (t : Proc) (found : Look) (h : IsLook p trees found t) where
   pub these : (steps : List StepTo) → found ≡ look.Steps steps → IsListing trees steps (steps_of p t)

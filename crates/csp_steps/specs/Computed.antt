@@ -8,7 +8,7 @@ use Rattle.process_steps.specs.StepList.{Move, in_hiding, in_renaming, in_sequen
 use Rattle.term_pool.specs.First.{with_first}
 use Rattle.term_pool.specs.Trees.{all_below, tree_at}
 use Rattle.csp_program.specs.Depth.{proc_depth}
-use Rattle.csp_program.specs.Lists.{greatest, joined}
+use Rattle.csp_program.specs.Lists.{joined}
 use Rattle.csp_program.specs.Outcome.{Outcome, and_then}
 use Rattle.csp_program.specs.declared.processes.Proc.{Proc}
 use Rattle.csp_program.specs.declared.processes.Proc.TheOpen.{Proc-F}
@@ -24,6 +24,7 @@ use Rattle.process_steps.specs.declared.label.Label.TheVariants.{Silent, Visible
 use Rattle.pool_parts.specs.declared.place.ProcId.{ProcId}
 use Rattle.value_operators.specs.declared.fault.EvalFault.{EvalFault}
 use Rattle.value_operators.specs.declared.fault.EvalFault.TheVariants as fault
+use Rattle.csp_base.specs.Lists.{greatest}
 
 -- whether each of the steps leads to one of the first so many places
 abbrev pub all_within : ℕ → List StepTo → Bool

@@ -4,6 +4,7 @@ use Rattle.csp_tables.specs.Label.{Label}
 use Rattle.csp_tables.specs.Label.Label.{silent, visible}
 use Rattle.csp_tables.specs.Path.{Reached}
 use Rattle.csp_tables.specs.Network.{Component, ComponentStep}
+use Rattle.csp_base.specs.Lists.{EachOnce}
 
 -- silent steps from a term to a term, and steps from a term by an event to a term
 pub record RawTable : Type 0 where
@@ -15,10 +16,6 @@ pub record RawTable : Type 0 where
 abbrev pub RawStep : RawTable → ℕ → Label → ℕ → Type 0
 RawStep raw m silent n = (k : ℕ) × (slice_get raw.silent k ≡ Some (m, n))
 RawStep raw m (visible e) n = (k : ℕ) × (slice_get raw.steps k ≡ Some (m, e, n))
-
--- no value stands twice in the list
-abbrev pub EachOnce : {A : Type 0} → List A → Type 0
-EachOnce {A} xs = (j k : ℕ) (x : A) → slice_get xs j ≡ Some x → slice_get xs k ≡ Some x → j ≡ k
 
 -- the component with another term in place of its own
 abbrev pub standing_at : {T : Type 0} → Component T → T → Component T

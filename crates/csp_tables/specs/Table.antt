@@ -6,9 +6,12 @@ pub record Node : Type 0 where
   pub next : List (ℕ × ℕ)
   pub accept : List (List ℕ)
 
--- past the table's end stands a node without events and without acceptances
+-- a node without events and without acceptances, which stands past a table's end
+abbrev pub no_node : Node
+no_node = record { next = []; accept = [] }
+
 abbrev pub node_at : List Node → ℕ → Node
-node_at table n = get_or table n (record { next = []; accept = [] })
+node_at table n = get_or table n no_node
 
 -- whether the event is possible
 abbrev pub is_possible : List (ℕ × ℕ) → ℕ → Bool

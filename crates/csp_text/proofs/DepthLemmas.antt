@@ -1,7 +1,7 @@
 -- The greatest depth of a list, as far as its members were looked at.
 use Rattle.std.proofs.Common.{◌≡◌, ℕ, ◌+◌, ◌<◌, ◌≤◌, max, List, ◌∷◌, map, length, drop, get_or, sym, ap, ◌∙◌, arith}
 use Rattle.std.proofs.Math.ListN.{drop_of_length-le}
-use Rattle.csp_text.specs.Depth.{capped, event_layer_depth, field_layer_depth, gen_depth, gen_layer_depth, greatest, greatest_of_pairs, part_depth, part_layer_depth, tree_depth, tree_layer_depth}
+use Rattle.csp_text.specs.Depth.{capped, event_layer_depth, field_layer_depth, gen_depth, gen_layer_depth, greatest_of_pairs, part_depth, part_layer_depth, tree_depth, tree_layer_depth}
 use Rattle.csp_text.specs.declared.tree.FieldTree.TheFolds.{fold-roll-Tree}
 use Rattle.csp_text.specs.declared.tree.FieldTree.TheOpen.{Tree-F}
 use Rattle.csp_text.specs.declared.tree.GenTree.{GenTree}
@@ -9,6 +9,7 @@ use Rattle.csp_text.specs.declared.tree.PartTree.{PartTree}
 use Rattle.csp_text.specs.declared.tree.Tree.{Tree}
 use Rattle.csp_text.specs.declared.tree.Tree.TheVariants as tree
 use Rattle.csp_base.proofs.Lists.{drop_read}
+use Rattle.csp_base.specs.Lists.{greatest}
 
 -- one more member
 pub deepest_step : {X : Type 0} (f : X → ℕ) (xs : List X) (i : ℕ) (x : X) (deepest here whole : ℕ) → i < length xs → x ≡ get_or xs i x → here ≡ capped (f x)

@@ -8,11 +8,7 @@ use Rattle.csp_text.specs.declared.tree.GenTree.{GenTree}
 use Rattle.csp_text.specs.declared.tree.Tree.{Tree}
 use Rattle.csp_text.specs.declared.tree.EventTree.{EventTree}
 use Rattle.csp_text.specs.declared.tree.PartTree.{PartTree}
-
--- the greatest number of a list, 0 for none
-abbrev pub greatest : List ℕ → ℕ
-greatest [] = 0
-greatest (n ∷ ns) = max n (greatest ns)
+use Rattle.csp_base.specs.Lists.{greatest}
 
 -- the greatest number of a list of pairs
 abbrev pub greatest_of_pairs : List (ℕ × ℕ) → ℕ

@@ -1,5 +1,9 @@
 -- How the reserved words and the symbols of the language are written.
 use Rattle.std.specs.Prelude.{ℕ, List, [], ◌∷◌, codes}
+use Rattle.csp_base.specs.declared.operators.SetOp.{SetOp}
+use Rattle.csp_base.specs.declared.operators.SetOp.TheVariants as set_op
+use Rattle.csp_text.specs.declared.token.Token.{Token}
+use Rattle.csp_text.specs.declared.token.Token.TheVariants as token
 use Rattle.csp_text.specs.declared.token.Word.{Word}
 use Rattle.csp_text.specs.declared.token.Word.TheVariants.{And, Assert, Channel, Datatype, Diff, Else, False, If, Inter, Nametype, Not, Or, Then, True, Union, Stop, Skip}
 use Rattle.csp_text.specs.declared.token.Symbol.{Symbol}
@@ -63,3 +67,9 @@ symbol_text Ampersand = codes "&"
 symbol_text Bar = codes "|"
 symbol_text Backslash = 92 ∷ []
 symbol_text Semicolon = codes ";"
+
+-- the word of an operation on two sets
+abbrev pub set_op_word : SetOp → Token
+set_op_word set_op.Union = token.Word Union
+set_op_word set_op.Inter = token.Word Inter
+set_op_word set_op.Diff = token.Word Diff

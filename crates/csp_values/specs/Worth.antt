@@ -2,7 +2,7 @@
 -- of an expression, applied to trees.
 use Rattle.std.specs.Prelude.{◌≡◌, ℕ, ℤ, Bool, if◌then◌else◌, Result, Ok, Err, Some, List, [], ◌∷◌, map, slice_get}
 use Rattle.csp_program.specs.Outcome.{Outcome, and_then}
-use Rattle.csp_program.specs.Value.{first_of, as_number, as_truth, as_set, many, range, set_binary, Env, Meaning, Gathered, meaning, turn, front, values_of, items_added, fields_number, front_number, fronts_added, sets_of, over, walked, gathered, uses_within, def_value, value_within}
+use Rattle.csp_program.specs.Value.{first_of, as_number, as_truth, as_set, many, range, set_binary, Env, Gathered, meaning, turn, front, values_of, items_added, fields_number, front_number, fronts_added, sets_of, over, walked, gathered, uses_within, def_value, value_within, meanings}
 use Rattle.csp_atoms.specs.declared.atom.Atom.{Atom}
 use Rattle.csp_atoms.specs.declared.value.Value.{Value}
 use Rattle.csp_atoms.specs.declared.value.Value.TheVariants.{One}
@@ -39,9 +39,6 @@ range_of a b = and_then a (λ m. and_then b (λ n. many (range m n)))
 
 abbrev pub set_of : SetOp → Outcome (List Atom) → Outcome (List Atom) → Outcome Value
 set_of op a b = and_then a (λ xs. and_then b (λ ys. many (set_binary op xs ys)))
-
-abbrev pub meanings : Content → ℕ → List Expr → List Meaning
-meanings p n es = map (meaning (uses_within p n) p.channels) es
 
 -- a list of expressions
 unfoldable pub worths : Content → ℕ → Env → List Expr → Outcome (List Value)

@@ -12,7 +12,7 @@ use Rattle.csp_tables.specs.Part.{part_at, Meet}
 use Rattle.csp_tables.specs.Trace.{IsWithin}
 use Rattle.csp_tables.specs.Shape.{Shape, Joins, link_at, is_end, IsWellFormed}
 use Rattle.csp_tables.specs.Standing.{RunsTo, IsPossible, Accepts, accepted, IsOn}
-use Rattle.design_rules.specs.Cyclic.{links_of, IsWholeEnd, HasWholeEnd}
+use Rattle.design_rules.specs.Cyclic.{links_of, IsWholeEnd, HasWholeEnd, place_after}
 use Rattle.design_rules.specs.CyclicNumbered.{IsNext, KeepsOrder, ReachedLinksDiffer}
 use Rattle.design_rules.specs.CyclicRanking.{place_of, AreCyclicRanks, ends_lap}
 use Rattle.csp_tables.specs.Ranking.{Ranking, part_ranks, rank_after, laps_from}
@@ -47,9 +47,6 @@ places_differ shape number i l m h k x y ne same =
     ]
 
 -- ---- events of a link and laps, along runs of a part
-
-abbrev shared_in : Shape → List ℕ → ℕ
-shared_in shape u = count_in shape.vocabulary u
 
 -- one where the place comes before the next one
 abbrev passed : ℕ → ℕ → ℕ
@@ -133,9 +130,9 @@ next_link shape number i u e o possible v =
     (l.0, l.1, o.order i l.0 u e possible l.1)
 
 abbrev BalancedAt : Shape → (ℕ → ℕ) → ℕ → ℕ → List ℕ → Type 0
-BalancedAt shape number i l u = IsBalanced (count_in (link_at shape l).shared u) (shared_in shape u) (links_of shape i) (place_of shape number i l)
+BalancedAt shape number i l u = IsBalanced (count_in (link_at shape l).shared u) (place_after shape u) (links_of shape i) (place_of shape number i l)
 
-balanced_pushed : (shape : Shape) (number : ℕ → ℕ) (i l : ℕ) (u : List ℕ) (e c t : ℕ) → count_in (link_at shape l).shared (u ++ e ∷ []) ≡ c → shared_in shape (u ++ e ∷ []) ≡ t → IsBalanced c t (links_of shape i) (place_of shape number i l) → BalancedAt shape number i l (u ++ e ∷ [])
+balanced_pushed : (shape : Shape) (number : ℕ → ℕ) (i l : ℕ) (u : List ℕ) (e c t : ℕ) → count_in (link_at shape l).shared (u ++ e ∷ []) ≡ c → place_after shape (u ++ e ∷ []) ≡ t → IsBalanced c t (links_of shape i) (place_of shape number i l) → BalancedAt shape number i l (u ++ e ∷ [])
 balanced_pushed shape number i l u e c t a b h = a ∙ h ∙ ap (λ x. x / links_of shape i + passed (place_of shape number i l) (x % links_of shape i)) (sym b)
 
 balanced_step : (shape : Shape) (number : ℕ → ℕ) (i l : ℕ) → Ordered shape number → l < length shape.links → IsTrue (is_end shape i l) → (u : List ℕ) (e : ℕ) → IsPossible shape i u e → BalancedAt shape number i l u → BalancedAt shape number i l (u ++ e ∷ [])
@@ -144,17 +141,17 @@ balanced_step shape number i l o h end u e possible b =
     let below = place_below shape number i l h end in
     elim (cases_Bool (has S e)) [
       | inl on ↦
-          balanced_pushed shape number i l u e (count_in S u + 1) (shared_in shape u + 1) (count_push_more S u e on) (count_push_more shape.vocabulary u e (link_shared shape l o.form h e on))
-          (balanced_on (count_in S u) (shared_in shape u) (links_of shape i) (place_of shape number i l) below (o.order i l u e possible (record { within = h; end = end; event = on })) b)
+          balanced_pushed shape number i l u e (count_in S u + 1) (place_after shape u + 1) (count_push_more S u e on) (count_push_more shape.vocabulary u e (link_shared shape l o.form h e on))
+          (balanced_on (count_in S u) (place_after shape u) (links_of shape i) (place_of shape number i l) below (o.order i l u e possible (record { within = h; end = end; event = on })) b)
       | inr off ↦ elim (cases_Bool (has shape.vocabulary e)) [
         | inl v ↦
             let n = next_link shape number i u e o possible v in
             let other = λ (same : n.0 ≡ l). both_ways (has S e) off (subst (λ m. IsTrue (has (link_at shape m).shared e)) same n.1.event) in
-            let differs = λ (same : place_of shape number i l ≡ shared_in shape u % links_of shape i). places_differ shape number i n.0 l n.1.within h n.1.end end (o.differ i n.0 l u e possible n.1 h end other) (n.2 ∙ sym same) in
-            balanced_pushed shape number i l u e (count_in S u) (shared_in shape u + 1) (count_push_same S u e off) (count_push_more shape.vocabulary u e v)
-            (balanced_off (count_in S u) (shared_in shape u) (links_of shape i) (place_of shape number i l) below (mod_below (shared_in shape u) (links_of shape i) (omega arith)) differs b)
+            let differs = λ (same : place_of shape number i l ≡ place_after shape u % links_of shape i). places_differ shape number i n.0 l n.1.within h n.1.end end (o.differ i n.0 l u e possible n.1 h end other) (n.2 ∙ sym same) in
+            balanced_pushed shape number i l u e (count_in S u) (place_after shape u + 1) (count_push_same S u e off) (count_push_more shape.vocabulary u e v)
+            (balanced_off (count_in S u) (place_after shape u) (links_of shape i) (place_of shape number i l) below (mod_below (place_after shape u) (links_of shape i) (omega arith)) differs b)
         | inr hidden ↦
-            balanced_pushed shape number i l u e (count_in S u) (shared_in shape u) (count_push_same S u e off) (count_push_same shape.vocabulary u e hidden) b
+            balanced_pushed shape number i l u e (count_in S u) (place_after shape u) (count_push_same S u e off) (count_push_same shape.vocabulary u e hidden) b
       ]
     ]
 
@@ -184,7 +181,7 @@ abbrev laps_in : Shape → Ranking → ℕ → List ℕ → ℕ
 laps_in shape ranking i u = laps_from (part_at shape.parts i).table (part_ranks ranking i).laps 0 u
 
 abbrev LapsAt : Shape → Ranking → ℕ → List ℕ → Type 0
-LapsAt shape ranking i u = laps_in shape ranking i u ≡ shared_in shape u / links_of shape i
+LapsAt shape ranking i u = laps_in shape ranking i u ≡ place_after shape u / links_of shape i
 
 laps_step : (shape : Shape) (number : ℕ → ℕ) (ranking : Ranking) (i : ℕ) → Ordered shape number → AreCyclicRanks shape number ranking → 0 < links_of shape i → (u : List ℕ) (e : ℕ) → IsPossible shape i u e → LapsAt shape ranking i u → LapsAt shape ranking i (u ++ e ∷ [])
 laps_step shape number ranking i o r some u e possible b =
@@ -195,7 +192,7 @@ laps_step shape number ranking i o r some u e possible b =
           let x = next_link shape number i u e o possible v in
           let lap = r.laps i n e x.0 possible.runs.part possible.next x.1 in
           push ∙ ap (λ y. laps_in shape ranking i u + y) lap
-          ∙ lap_step (laps_in shape ranking i u) (shared_in shape u) (links_of shape i) (place_of shape number i x.0) x.2 (mod_below (shared_in shape u) (links_of shape i) some) b
+          ∙ lap_step (laps_in shape ranking i u) (place_after shape u) (links_of shape i) (place_of shape number i x.0) x.2 (mod_below (place_after shape u) (links_of shape i) some) b
           ∙ ap (λ y. y / links_of shape i) (sym (count_push_more shape.vocabulary u e v))
       | inr hidden ↦
           let lap = r.no_laps i n e possible.runs.part hidden in
@@ -262,7 +259,7 @@ with_ranks x y c d m n top a b e h =
 
 -- the numbers of a request: the laps of both ends, and whether the asked part is past the link in its lap
 record Numbers (shape : Shape) (number : ℕ → ℕ) (ranking : Ranking) (s : List ℕ) (i j l : ℕ) : Type 0 where
-  behind : laps_in shape ranking i (own_run shape s i) ≡ laps_in shape ranking j (own_run shape s j) + passed (place_of shape number j l) (shared_in shape (own_run shape s j) % links_of shape j)
+  behind : laps_in shape ranking i (own_run shape s i) ≡ laps_in shape ranking j (own_run shape s j) + passed (place_of shape number j l) (place_after shape (own_run shape s j) % links_of shape j)
 
 numbers : (shape : Shape) (number : ℕ → ℕ) (ranking : Ranking) (s : List ℕ) (i j l : ℕ) → Ordered shape number → AreCyclicRanks shape number ranking → Joins shape i j l → RunsTo shape i (own_run shape s i) → RunsTo shape j (own_run shape s j) → IsNext shape number i (own_run shape s i) l → Numbers shape number ranking s i j l
 numbers shape number ranking s i j l o r joins ri rj next =
@@ -271,11 +268,11 @@ numbers shape number ranking s i j l o r joins ri rj next =
     let ej = first_end shape j i l (turned shape i j l joins) in
     let pi : place_of shape number i l < links_of shape i = place_below shape number i l h ei in
     let pj : place_of shape number j l < links_of shape j = place_below shape number j l h ej in
-    let bi : count_in (link_at shape l).shared (own_run shape s i) ≡ shared_in shape (own_run shape s i) / links_of shape i + passed (place_of shape number i l) (shared_in shape (own_run shape s i) % links_of shape i) = balanced shape number i l o h ei (own_run shape s i) ri in
-    let bj : count_in (link_at shape l).shared (own_run shape s j) ≡ shared_in shape (own_run shape s j) / links_of shape j + passed (place_of shape number j l) (shared_in shape (own_run shape s j) % links_of shape j) = balanced shape number j l o h ej (own_run shape s j) rj in
-    let li : laps_in shape ranking i (own_run shape s i) ≡ shared_in shape (own_run shape s i) / links_of shape i = laps_are shape number ranking i o r (omega arith) (own_run shape s i) ri in
-    let lj : laps_in shape ranking j (own_run shape s j) ≡ shared_in shape (own_run shape s j) / links_of shape j = laps_are shape number ranking j o r (omega arith) (own_run shape s j) rj in
-    let none : passed (place_of shape number i l) (shared_in shape (own_run shape s i) % links_of shape i) ≡ 0 = passed_no (place_of shape number i l) (shared_in shape (own_run shape s i) % links_of shape i) (omega arith) in
+    let bi : count_in (link_at shape l).shared (own_run shape s i) ≡ place_after shape (own_run shape s i) / links_of shape i + passed (place_of shape number i l) (place_after shape (own_run shape s i) % links_of shape i) = balanced shape number i l o h ei (own_run shape s i) ri in
+    let bj : count_in (link_at shape l).shared (own_run shape s j) ≡ place_after shape (own_run shape s j) / links_of shape j + passed (place_of shape number j l) (place_after shape (own_run shape s j) % links_of shape j) = balanced shape number j l o h ej (own_run shape s j) rj in
+    let li : laps_in shape ranking i (own_run shape s i) ≡ place_after shape (own_run shape s i) / links_of shape i = laps_are shape number ranking i o r (omega arith) (own_run shape s i) ri in
+    let lj : laps_in shape ranking j (own_run shape s j) ≡ place_after shape (own_run shape s j) / links_of shape j = laps_are shape number ranking j o r (omega arith) (own_run shape s j) rj in
+    let none : passed (place_of shape number i l) (place_after shape (own_run shape s i) % links_of shape i) ≡ 0 = passed_no (place_of shape number i l) (place_after shape (own_run shape s i) % links_of shape i) (omega arith) in
     record { behind = omega (arith, bi, bj, li, lj, none, link_events shape i l s o.form h ei, link_events shape j l s o.form h ej) }
 
 pub ordered_ranks_fall : (shape : Shape) (number : ℕ → ℕ) (ranking : Ranking) → Ordered shape number → AreCyclicRanks shape number ranking → Falls shape.parts ranking
@@ -304,11 +301,11 @@ ordered_ranks_fall shape number ranking o ranks s i j k l u =
           | inr order ↦ elim order [
             | inl less ↦
                 let p : place_of shape number j m < place_of shape number j l = earlier_place shape number j m l g y less in
-                let not_yet : passed (place_of shape number j l) (shared_in shape (own_run shape s j) % links_of shape j) ≡ 0 = passed_no (place_of shape number j l) (shared_in shape (own_run shape s j) % links_of shape j) (omega (arith, next, p)) in
+                let not_yet : passed (place_of shape number j l) (place_after shape (own_run shape s j) % links_of shape j) ≡ 0 = passed_no (place_of shape number j l) (place_after shape (own_run shape s j) % links_of shape j) (omega (arith, next, p)) in
                 same_lap (number l) (number m) (above_all number (length shape.links)) (laps_in shape ranking i (own_run shape s i)) (laps_in shape ranking j (own_run shape s j)) less (omega (arith, n.behind, not_yet))
             | inr more ↦
                 let p : place_of shape number j l < place_of shape number j m = earlier_place shape number j l m h x more in
-                let past : passed (place_of shape number j l) (shared_in shape (own_run shape s j) % links_of shape j) ≡ 1 = passed_yes (place_of shape number j l) (shared_in shape (own_run shape s j) % links_of shape j) (omega (arith, next, p)) in
+                let past : passed (place_of shape number j l) (place_after shape (own_run shape s j) % links_of shape j) ≡ 1 = passed_yes (place_of shape number j l) (place_after shape (own_run shape s j) % links_of shape j) (omega (arith, next, p)) in
                 lap_ahead (number l) (number m) (above_all number (length shape.links)) (laps_in shape ranking i (own_run shape s i)) (laps_in shape ranking j (own_run shape s j)) above (omega (arith, n.behind, past))
           ]
         ]

@@ -7,10 +7,10 @@ use Rattle.csp_tables.specs.declared.rule.Rule.TheVariants.{ClientServer, Cyclic
 use Rattle.net_maker.specs.Families.{family_name, family_text}
 use Rattle.net_maker.specs.declared.families.Family.{Family}
 use Rattle.net_maker.specs.declared.families.Family.TheVariants.{Chain, Forks, Mesh}
-use Rattle.report.specs.Lines.{line}
 use Rattle.report.specs.Report.{report_text, status}
 use Rattle.report.specs.declared.answer.Answer.{Answer}
 use Rattle.dl_top.specs.declared.reply.Reply.{Reply}
+use Rattle.csp_base.specs.Texts.{line}
 
 -- the script of a trial, and the rule by which it is judged
 abbrev pub trial_text : Trial → List ℕ

@@ -5,8 +5,9 @@ use Rattle.std.specs.List.{flat_map}
 use Rattle.std.proofs.Math.Seq.{take-suc}
 use Rattle.csp_tables.specs.Part.{Part}
 use Rattle.csp_tables.specs.Ranking.{PartRanks}
-use Rattle.free_answers.specs.Counts.{greatest_from, node_count, rank_number}
+use Rattle.free_answers.specs.Counts.{greatest_from, node_count}
 use Rattle.csp_base.proofs.Lists.{flat_map_push}
+use Rattle.csp_program.specs.Value.{natural}
 
 one_more_part : (parts : List Part) (part : Part) → node_count (parts ++ part ∷ []) ≡ node_count parts + length part.table
 one_more_part [] part = omega arith
@@ -14,7 +15,7 @@ one_more_part (p ∷ parts) part = let rest = one_more_part parts part in omega 
 
 greatest_append : (m : ℕ) (xs ys : List ℤ) → greatest_from m (xs ++ ys) ≡ greatest_from (greatest_from m xs) ys
 greatest_append m [] ys = refl
-greatest_append m (x ∷ xs) ys = greatest_append (max m (rank_number x)) xs ys
+greatest_append m (x ∷ xs) ys = greatest_append (max m (natural x)) xs ys
 
 grown : {A : Type 0} (xs : List A) (i : ℕ) (d : A) → i < length xs → take i xs ++ get_or xs i d ∷ [] ≡ take (i + 1) xs
 grown xs i d within = rw (add-one) (sym (take-suc xs i d within))
@@ -27,10 +28,10 @@ one_count parts i part count next within is so_far now =
     ∙ ap node_count (ap (λ x. take i parts ++ x ∷ []) is ∙ grown parts i part within)
 
 -- one more rank
-pub one_rank : (m : ℕ) (xs : List ℤ) (i : ℕ) (d : ℤ) (most next : ℕ) → i < length xs → most ≡ greatest_from m (take i xs) → next ≡ max most (rank_number (get_or xs i d))
+pub one_rank : (m : ℕ) (xs : List ℤ) (i : ℕ) (d : ℤ) (most next : ℕ) → i < length xs → most ≡ greatest_from m (take i xs) → next ≡ max most (natural (get_or xs i d))
     → next ≡ greatest_from m (take (i + 1) xs)
 one_rank m xs i d most next within so_far now =
-    now ∙ ap (λ n. max n (rank_number (get_or xs i d))) so_far ∙ sym (greatest_append m (take i xs) (get_or xs i d ∷ [])) ∙ ap (greatest_from m) (grown xs i d within)
+    now ∙ ap (λ n. max n (natural (get_or xs i d))) so_far ∙ sym (greatest_append m (take i xs) (get_or xs i d ∷ [])) ∙ ap (greatest_from m) (grown xs i d within)
 
 -- the ranks of one more member of a list
 one_more : {A : Type 0} (f : A → List ℤ) (m : ℕ) (xs : List A) (i : ℕ) (x : A) (most next : ℕ) → i < length xs → x ≡ get_or xs i x

@@ -1,22 +1,18 @@
 -- What the report of a network counts: the nodes of all normal tables, and the greatest rank.
-use Rattle.std.specs.Prelude.{ℕ, ◌+◌, ℤ, pos, negsuc, max, List, [], ◌∷◌, length}
+use Rattle.std.specs.Prelude.{ℕ, ◌+◌, ℤ, pos, max, List, [], ◌∷◌, length}
 use Rattle.std.specs.List.{flat_map}
 use Rattle.csp_tables.specs.Part.{Part}
 use Rattle.csp_tables.specs.Ranking.{Ranking}
+use Rattle.csp_program.specs.Value.{natural}
 
 abbrev pub node_count : List Part → ℕ
 node_count [] = 0
 node_count (part ∷ parts) = length part.table + node_count parts
 
--- no rank of a rule is below 0
-abbrev pub rank_number : ℤ → ℕ
-rank_number (pos n) = n
-rank_number (negsuc n) = 0
-
 -- the greatest of the number m and these
 abbrev pub greatest_from : ℕ → List ℤ → ℕ
 greatest_from m [] = m
-greatest_from m (r ∷ rs) = greatest_from (max m (rank_number r)) rs
+greatest_from m (r ∷ rs) = greatest_from (max m (natural r)) rs
 
 -- all ranks of a ranking, one after another
 abbrev pub all_ranks : Ranking → List ℤ

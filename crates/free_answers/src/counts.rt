@@ -2,7 +2,8 @@
 
 ghost use Rattle.std.specs.Prelude.{◌≡◌, ◌+◌, IfOk, length, map, max};
 ghost use Rattle.std.specs.List.{flat_map};
-ghost use Rattle.free_answers.specs.Counts.{greatest_from, greatest_rank, node_count, rank_number};
+ghost use Rattle.free_answers.specs.Counts.{greatest_from, greatest_rank, node_count};
+ghost use Rattle.csp_program.specs.Value.{natural};
 
 use csp_base::NoMemory;
 use csp_tables::{Part, PartRanks, Ranking};
@@ -33,7 +34,7 @@ pub(crate) fn count_nodes(parts: &[Part]) -> Result<u32, NoMemory>
 
 // The rank as a number, 0 where it is below 0.
 fn rank_number(rank: i64) -> u64
-    ensures { result ≡ rank_number rank }
+    ensures { result ≡ natural rank }
 {
     if rank < 0 {
         return 0;
@@ -43,7 +44,7 @@ fn rank_number(rank: i64) -> u64
 
 // The larger of a number and a rank.
 fn larger(most: u64, rank: &i64) -> u64
-    ensures { result ≡ max most (rank_number rank.now) }
+    ensures { result ≡ max most (natural rank.now) }
 {
     let rank = rank_number(*rank);
     if most < rank { rank } else { most }

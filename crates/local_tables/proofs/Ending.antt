@@ -2,7 +2,6 @@
 use Rattle.std.proofs.Common.{◌≡◌, ℕ, ◌+◌, ◌<◌, ◌≤◌, List, [], ◌∷◌, length, refl, sym, ap, subst, ◌∙◌, arith}
 use Rattle.std.specs.Prelude.{map, min}
 use Rattle.std.proofs.lemmas.Option.{slice_get_within}
-use Rattle.csp_program.specs.Lists.{total}
 use Rattle.csp_program.specs.Size.{proc_size}
 use Rattle.csp_program.specs.declared.processes.Proc.{Proc}
 use Rattle.csp_program.specs.declared.programs.Content.{Content}
@@ -21,6 +20,7 @@ use Rattle.local_tables.specs.declared.local_table.LocalTable.{LocalTable}
 use Rattle.local_tables.specs.declared.local_table.Room.{Room}
 use Rattle.local_tables.proofs.Lists.{one_at}
 use Rattle.std.proofs.lemmas.List.{length-map}
+use Rattle.csp_base.specs.Lists.{total}
 
 uncapped : (n : ℕ) → capped n < 4294967295 → n ≡ capped n
 uncapped n h = let low : min n 4294967295 < 4294967295 = h in omega arith

@@ -2,7 +2,6 @@
 use Rattle.std.proofs.Common.{◌≡◌, ℕ, ◌+◌, ◌<◌, ◌≤◌, Ok, Err, List, [], ◌∷◌, length, refl, sym, ap, subst, ◌∙◌, arith}
 use Rattle.std.specs.Prelude.{map, min, slice_get, Some}
 use Rattle.csp_program.specs.Depth.{proc_depth}
-use Rattle.csp_program.specs.Lists.{total}
 use Rattle.csp_program.specs.Size.{proc_size}
 use Rattle.csp_program.specs.declared.processes.Proc.{Proc}
 use Rattle.csp_program.specs.declared.programs.Content.{Content}
@@ -20,6 +19,7 @@ use Rattle.local_tables.proofs.Injecting.{Partner, no_heavier, no_longer}
 use Rattle.local_tables.proofs.Lists.{one_at}
 use Rattle.net_sound.proofs.FlatLists.{step_alphabet}
 use Rattle.net_sound.proofs.Heights.{stands}
+use Rattle.csp_base.specs.Lists.{total}
 
 module _ (p : Content) (c : Component Proc) (terms : List Proc) (raw : RawTable) (table : IsTableOf (ProcessStep p) c terms raw) where
   -- a term that is reached has a number

@@ -6,7 +6,6 @@ use Rattle.std.proofs.lemmas.Bool.{false≢true}
 use Rattle.std.proofs.lemmas.List.{length-append}
 use Rattle.std.proofs.lemmas.Option.{slice_get-get_or, slice_get_within}
 use Rattle.csp_program.specs.Depth.{proc_depth}
-use Rattle.csp_program.specs.Lists.{total}
 use Rattle.csp_program.specs.declared.processes.Proc.{Proc}
 use Rattle.csp_program.specs.declared.processes.Proc.TheVariants as proc
 use Rattle.csp_program.specs.declared.programs.Content.{Content}
@@ -14,7 +13,7 @@ use Rattle.csp_tables.specs.Label.{Label}
 use Rattle.csp_tables.specs.Label.Label.{silent, visible}
 use Rattle.csp_tables.specs.Path.{Path}
 use Rattle.csp_tables.specs.Network.{Component, ComponentStep}
-use Rattle.csp_tables.specs.RawTable.{EachOnce, IsInTable, IsStepOf, RawStep, RawTable, standing_at}
+use Rattle.csp_tables.specs.RawTable.{IsInTable, IsStepOf, RawStep, RawTable, standing_at}
 use Rattle.process_steps.specs.ComponentStep.{ProcessStep}
 use Rattle.pool_parts.specs.ExactId.{eq_id}
 use Rattle.term_pool.specs.Pooled.{AreDifferent, IsFront}
@@ -30,6 +29,7 @@ use Rattle.local_tables.proofs.Lists.{inside_still, once_push, terms_kept, total
 use Rattle.csp_base.proofs.Lists.{push_cases, map_push, slice_get_last}
 use Rattle.containers.proofs.MembersLemmas.{slice_get-append_left}
 use Rattle.std.proofs.lemmas.Map.Keys.{any_passes_from_place}
+use Rattle.csp_base.specs.Lists.{total, EachOnce}
 
 pub same_step : (old new : RawTable) (m n : ℕ) (l : Label) → new.silent ≡ old.silent → new.steps ≡ old.steps → RawStep new m l n → RawStep old m l n
 same_step old new m n silent a b s = (s.0, subst (λ xs. slice_get xs s.0 ≡ Some (m, n)) a s.1)

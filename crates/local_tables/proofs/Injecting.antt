@@ -1,9 +1,8 @@
 -- A list whose elements have partners in another list, no two the same one, is no longer and no heavier than that.
 use Rattle.std.proofs.Common.{◌≡◌, ℕ, zero, suc, ◌+◌, ◌≤◌, List, [], ◌∷◌, length, refl, ap, subst, arith}
 use Rattle.std.specs.Prelude.{map, slice_get, Some}
-use Rattle.csp_program.specs.Lists.{total}
-use Rattle.csp_tables.specs.RawTable.{EachOnce}
 use Rattle.local_tables.proofs.Lists.{one_at}
+use Rattle.csp_base.specs.Lists.{total, EachOnce}
 
 -- the list without the element in a place
 without : {X : Type 0} → ℕ → List X → List X

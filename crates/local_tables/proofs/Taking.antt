@@ -10,7 +10,7 @@ use Rattle.csp_steps.specs.declared.step.StepTo.{StepTo}
 use Rattle.csp_tables.specs.Label.{Label}
 use Rattle.csp_tables.specs.Label.Label.{silent, visible}
 use Rattle.csp_tables.specs.Network.{Component, ComponentStep}
-use Rattle.csp_tables.specs.RawTable.{EachOnce, IsInTable, IsStepOf, RawStep, RawTable, standing_at}
+use Rattle.csp_tables.specs.RawTable.{IsInTable, IsStepOf, RawStep, RawTable, standing_at}
 use Rattle.process_steps.specs.ComponentStep.{ProcessStep, Ticks}
 use Rattle.process_steps.specs.Step.{Step}
 use Rattle.process_steps.specs.declared.label.Label.TheVariants.{Tick}
@@ -28,6 +28,7 @@ use Rattle.local_tables.proofs.Lists.{map_at, nothing_at, once_push, one_at, ter
 use Rattle.std.proofs.lemmas.List.{map-append}
 use Rattle.csp_base.proofs.Lists.{push_cases, slice_get_last, slice_get_some}
 use Rattle.containers.proofs.MembersLemmas.{slice_get-append_left}
+use Rattle.csp_base.specs.Lists.{EachOnce}
 
 -- ---- a step at the end of the table
 

@@ -5,8 +5,9 @@ use Rattle.csp_program.specs.declared.programs.Content.{Content}
 use Rattle.csp_tables.specs.Label.{Label}
 use Rattle.csp_tables.specs.Path.{Reached}
 use Rattle.csp_tables.specs.Network.{Component, ComponentStep}
-use Rattle.csp_tables.specs.RawTable.{EachOnce, IsStepOf, RawStep, RawTable, standing_at}
+use Rattle.csp_tables.specs.RawTable.{IsStepOf, RawStep, RawTable, standing_at}
 use Rattle.process_steps.specs.StepList.{Move, steps_of}
+use Rattle.csp_base.specs.Lists.{EachOnce}
 
 abbrev pub component : List ℕ → Proc → Component Proc
 component alphabet term = record { alphabet = alphabet; term = term }

@@ -1,7 +1,6 @@
 -- What each fault tells of a component.
 use Rattle.std.specs.Prelude.{◌≡◌, ℕ, ◌<◌, Err, List, length, map}
 use Rattle.csp_program.specs.Depth.{proc_depth}
-use Rattle.csp_program.specs.Lists.{total}
 use Rattle.csp_program.specs.Size.{proc_size}
 use Rattle.csp_program.specs.declared.kinds.ValueKind.{ValueKind}
 use Rattle.csp_program.specs.declared.processes.Proc.{Proc}
@@ -17,6 +16,7 @@ use Rattle.local_tables.specs.Component.{AreSteps, AreTerms, step_count}
 use Rattle.local_tables.specs.declared.fault.LocalFault.{LocalFault}
 use Rattle.local_tables.specs.declared.fault.LocalFault.TheVariants.{NoMemory, StepCount, TermCount, TermDepth, TermTotal, Terminates, Value}
 use Rattle.local_tables.specs.declared.local_table.Room.{Room}
+use Rattle.csp_base.specs.Lists.{total}
 
 -- the size of a term, whose counting stops at 4,294,967,295
 abbrev pub counted_size : Proc → ℕ

@@ -1,7 +1,6 @@
 -- The table of a component of a program, within the limits.
 use Rattle.std.specs.Prelude.{◌≡◌, ℕ, ◌≤◌, Some, List, length, map, slice_get}
 use Rattle.csp_program.specs.Depth.{proc_depth}
-use Rattle.csp_program.specs.Lists.{total}
 use Rattle.csp_program.specs.Size.{proc_size}
 use Rattle.csp_program.specs.declared.processes.Proc.{Proc}
 use Rattle.csp_program.specs.declared.programs.Content.{Content}
@@ -11,6 +10,7 @@ use Rattle.process_steps.specs.ComponentStep.{ProcessStep, Ticks}
 use Rattle.local_tables.specs.Component.{HasList, step_count}
 use Rattle.local_tables.specs.declared.local_table.LocalTable.{LocalTable}
 use Rattle.local_tables.specs.declared.local_table.Room.{Room}
+use Rattle.csp_base.specs.Lists.{total}
 
 -- The steps of the term are there, it cannot end, and it is not too deep.
 pub record IsFit (p : Content) (x : Proc) : Type 0 where

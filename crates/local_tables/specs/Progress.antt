@@ -2,7 +2,6 @@
 use Rattle.std.specs.Prelude.{◌≡◌, ◌⊎◌, ℕ, ◌+◌, ◌<◌, ◌≤◌, IsTrue, Option, Some, None, List, [], ◌∷◌, ◌++◌, length, map, slice_get}
 use Rattle.csp_base.specs.Members.{has}
 use Rattle.csp_program.specs.Depth.{proc_depth}
-use Rattle.csp_program.specs.Lists.{total}
 use Rattle.csp_program.specs.declared.processes.Proc.{Proc}
 use Rattle.csp_program.specs.declared.programs.Content.{Content}
 use Rattle.csp_steps.specs.Listed.{AreStepsOf}
@@ -21,6 +20,7 @@ use Rattle.local_tables.specs.Component.{AreSteps, AreTerms, HasList, step_count
 use Rattle.local_tables.specs.Faults.{counted_size}
 use Rattle.local_tables.specs.declared.found.Found.{Found}
 use Rattle.local_tables.specs.declared.local_table.Room.{Room}
+use Rattle.csp_base.specs.Lists.{total}
 
 -- the number of a term, with the event of a step from it, if it has one
 abbrev pub Origin : Type 0

@@ -3,10 +3,7 @@ use Rattle.std.specs.Prelude.{ℕ, List, [], ◌∷◌, ◌++◌, codes}
 use Rattle.std.specs.Fmt.{decimal}
 use Rattle.net_maker.specs.declared.families.Family.{Family}
 use Rattle.net_maker.specs.declared.families.Family.TheVariants.{Forks, Chain, Mesh}
-
--- a line ends with a line feed
-abbrev pub line : List ℕ → List ℕ
-line text = text ++ 10 ∷ []
+use Rattle.csp_base.specs.Texts.{line}
 
 -- Dining philosophers round a table, of whom one takes the forks in the other order (Dijkstra 1971). Forks are resources.
 abbrev pub forks : List ℕ

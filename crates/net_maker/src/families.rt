@@ -2,7 +2,8 @@
 
 ghost use Rattle.std.specs.Prelude.{◌≡◌, ◌++◌, IfOk, codes};
 ghost use Rattle.std.specs.Fmt.{decimal};
-ghost use Rattle.net_maker.specs.Families.{family_name, family_text, greatest, least, line, lines_of};
+ghost use Rattle.net_maker.specs.Families.{family_name, family_text, greatest, least, lines_of};
+ghost use Rattle.csp_base.specs.Texts.{line};
 
 use csp_base::{Bytes, NoMemory};
 use std::alloc::Global;

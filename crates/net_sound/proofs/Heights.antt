@@ -7,9 +7,10 @@ use Rattle.csp_tables.specs.Label.Label.{silent}
 use Rattle.csp_tables.specs.Path.{Path, Silently}
 use Rattle.csp_tables.specs.Network.{Component, ComponentStep}
 use Rattle.csp_tables.specs.RawTable.{RawTable, RawStep, standing_at, IsTableOf}
-use Rattle.net_sound.specs.Heights.{HeightsAreExact, HeightsAddUp, greatest, sum_of_greatest}
+use Rattle.net_sound.specs.Heights.{HeightsAreExact, HeightsAddUp, sum_of_greatest}
 use Rattle.net_sound.proofs.FlatLists.{step_alphabet}
 use Rattle.csp_base.proofs.Lists.{slice_get_some}
+use Rattle.csp_base.specs.Lists.{greatest}
 
 -- a component with the alphabet of c is c standing at its term
 pub stands : {T : Type 0} (c d : Component T) → c.alphabet ≡ d.alphabet → d ≡ standing_at c d.term

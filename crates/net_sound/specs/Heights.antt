@@ -1,21 +1,17 @@
 -- The greatest silent height of a component's numbered table is the component's greatest number of silent steps in a row,
 -- exactly: a silent walk in the table is one of the component from a state that it reaches, and the other way round.
-use Rattle.std.specs.Prelude.{◌+◌, ℕ, List, [], ◌∷◌, max}
+use Rattle.std.specs.Prelude.{◌+◌, ℕ, List, [], ◌∷◌}
 use Rattle.digraph.specs.Walk.{AreHeights}
 use Rattle.csp_tables.specs.Label.{Label}
 use Rattle.csp_tables.specs.Path.{SilentStep}
 use Rattle.csp_tables.specs.Network.{Component, ComponentStep}
 use Rattle.csp_tables.specs.SilentBound.{IsGreatestSilence, IsSilentBound}
 use Rattle.csp_tables.specs.RawTable.{RawTable, RawStep, IsTableOf}
+use Rattle.csp_base.specs.Lists.{greatest}
 
 -- one number for each term of the table, the greatest number of silent steps that follow one another from it
 abbrev pub AreSilentHeights : RawTable → List ℕ → Type 0
 AreSilentHeights raw heights = AreHeights (SilentStep (RawStep raw)) raw.count heights
-
--- the greatest of the numbers, 0 if there is none
-abbrev pub greatest : List ℕ → ℕ
-greatest [] = 0
-greatest (n ∷ ns) = max n (greatest ns)
 
 abbrev pub HeightsAreExact : {T : Type 0} → (T → Label → T → Type 0) → Type 0
 HeightsAreExact {T} Step = (c : Component T) (terms : List T) (raw : RawTable) (heights : List ℕ) → IsTableOf Step c terms raw → AreSilentHeights raw heights → IsGreatestSilence (ComponentStep Step) c (greatest heights)

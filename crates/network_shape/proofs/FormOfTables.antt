@@ -5,7 +5,7 @@ use Rattle.std.proofs.Math.ListN.{get_or-eq_default}
 use Rattle.csp_base.specs.Members.{has}
 use Rattle.csp_base.proofs.Rising.{RisesFrom, rises_from_increasing}
 use Rattle.csp_tables.specs.RawTable.{RawTable, RawStep}
-use Rattle.csp_tables.specs.Table.{Node, node_at, is_possible, node_after, is_run, end_of, IsReached}
+use Rattle.csp_tables.specs.Table.{Node, node_at, is_possible, node_after, is_run, end_of, IsReached, no_node}
 use Rattle.csp_tables.specs.Trace.{IsTrace, IsAcceptance, IsWithin}
 use Rattle.csp_tables.specs.Form.{BeginsAbove, StepsHaveForm, AreWithin, NodesHaveForm}
 use Rattle.csp_tables.specs.BreadthFirst.{MeetsInOrder, targets_of_steps, targets_of_nodes}
@@ -55,9 +55,6 @@ steps_have_form a m n (step ∷ steps) events below rises = (
 are_within : (a : List ℕ) (Ms : List (List ℕ)) → ((k : ℕ) → k < length Ms → IsWithin (get_or Ms k []) a) → AreWithin a Ms
 are_within a [] h = tt
 are_within a (M ∷ Ms) h = (h 0 (omega arith), are_within a Ms (λ k less. h (suc k) (omega arith)))
-
-abbrev no_node : Node
-no_node = record { next = []; accept = [] }
 
 nodes_have_form : (a : List ℕ) (m : ℕ) (nodes : List Node)
     → ((n e : ℕ) → n < length nodes → is_possible (node_at nodes n).next e ≡ true → IsTrue (has a e))

@@ -9,10 +9,11 @@ use Rattle.csp_tables.specs.Form.{HaveForm}
 use Rattle.csp_tables.specs.Shape.{Link, IsWellFormed, LinksAreOrdered}
 use Rattle.net_sound.proofs.Sharers.{at_two}
 use Rattle.network_shape.specs.Parts.{IsWellFormedPart}
-use Rattle.network_shape.specs.Rows.{pair_at, row_at, AreRows, has_event, any_has_event, AreLinksBefore, IsVocabulary}
+use Rattle.network_shape.specs.Rows.{row_at, AreRows, has_event, any_has_event, AreLinksBefore, IsVocabulary}
 use Rattle.network_shape.proofs.Sharing.{two_owners}
 use Rattle.network_shape.proofs.Linking.{pair_of, of_pair}
 use Rattle.network_shape.proofs.Counting.{few_links}
+use Rattle.observed_runs.specs.Observed.{pair_at}
 
 abbrev no_part : Part
 no_part = record { alphabet = []; table = [] }

@@ -8,7 +8,8 @@ use Rattle.std.proofs.Math.Seq.{get_or-append_seam}
 use Rattle.csp_base.specs.Members.{has}
 use Rattle.csp_tables.specs.Part.{Part, part_at, Meet}
 use Rattle.csp_tables.specs.Shape.{Link, JoinsTwo, IsBelow}
-use Rattle.network_shape.specs.Rows.{pair_at, IsSharedBy, IsInRow, IsRow, has_event, link_in, IsLinked, Precedes, AreLinksBefore}
+use Rattle.network_shape.specs.Rows.{IsSharedBy, IsInRow, IsRow, has_event, link_in, IsLinked, Precedes, AreLinksBefore}
+use Rattle.observed_runs.specs.Observed.{pair_at}
 
 -- ---- the events of pairs
 

@@ -6,8 +6,9 @@ use Rattle.csp_base.specs.Members.{has}
 use Rattle.csp_base.specs.Events.{with_member}
 use Rattle.csp_base.proofs.Rising.{has-with_member}
 use Rattle.csp_tables.specs.Part.{Part, part_at}
-use Rattle.network_shape.specs.Rows.{pair_at, row_at, joints, AreOwners, AreRows, has_event}
+use Rattle.network_shape.specs.Rows.{row_at, joints, AreOwners, AreRows, has_event}
 use Rattle.network_shape.proofs.Joining.{rows_more}
+use Rattle.observed_runs.specs.Observed.{pair_at}
 
 -- the part of a place, as it is read from a list
 pub part_read : (parts items : List Part) (k : ℕ) (part : Part) → items ≡ parts → k < length items → part ≡ get_or items k part → part_at parts k ≡ part

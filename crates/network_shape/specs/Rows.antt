@@ -4,6 +4,7 @@ use Rattle.std.specs.List.{flat_map, list_any}
 use Rattle.csp_base.specs.Members.{has}
 use Rattle.csp_tables.specs.Part.{Part, part_at, alphabets_of, sharers, Meet}
 use Rattle.csp_tables.specs.Shape.{Link, JoinsTwo, IsBelow}
+use Rattle.observed_runs.specs.Observed.{pair_at}
 
 -- ---- for each event a part that has it
 
@@ -17,9 +18,6 @@ pub record AreOwners (parts : List Part) (n : ℕ) (owners : List (Option ℕ)) 
       → IsTrue (has (part_at parts i).alphabet e) → IsTrue (has (part_at parts j).alphabet e) → owner_of owners e ≡ Some i
 
 -- ---- rows of pairs: a later part, and an event that it shares
-
-abbrev pub pair_at : List (ℕ × ℕ) → ℕ → ℕ × ℕ
-pair_at row k = get_or row k (0, 0)
 
 abbrev pub row_at : List (List (ℕ × ℕ)) → ℕ → List (ℕ × ℕ)
 row_at rows i = slice_index_or rows i []

@@ -3,7 +3,8 @@
 ghost use Rattle.std.specs.Prelude.{◌≡◌, ◌≢◌, ◌<◌, ◌≤◌, ◌+◌, ◌||◌, ◌++◌, ◌∷◌, [], ℕ, List, IfOk, OnOk, length};
 ghost use Rattle.csp_base.specs.Members.{has};
 ghost use Rattle.csp_tables.specs.Part.{Part};
-ghost use Rattle.network_shape.specs.Rows.{AreLinksBefore, AreRows, IsRow, IsVocabulary, any_has_event, has_event, pair_at};
+ghost use Rattle.network_shape.specs.Rows.{AreLinksBefore, AreRows, IsRow, IsVocabulary, any_has_event, has_event};
+ghost use Rattle.observed_runs.specs.Observed.{pair_at};
 
 use containers::Items;
 use csp_base::{Event, EventSet, NoMemory};

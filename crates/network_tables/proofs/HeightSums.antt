@@ -1,16 +1,17 @@
 -- The silent bound from the heights of tables.
-use Rattle.std.proofs.Common.{◌≡◌, ℕ, suc, ◌+◌, ◌<◌, length, take, get_or, add-one, List, [], ◌∷◌, ◌++◌, map, max, Result, Ok, Err, IfOk, refl, sym, ap, subst, ◌∙◌, arith}
+use Rattle.std.proofs.Common.{◌≡◌, ℕ, ◌+◌, ◌<◌, length, take, get_or, add-one, List, [], ◌∷◌, ◌++◌, map, max, Result, Ok, Err, IfOk, sym, ap, subst, ◌∙◌, arith}
 use Rattle.std.proofs.Math.Seq.{take-suc}
 use Rattle.csp_program.specs.declared.processes.Proc.{Proc}
 use Rattle.csp_program.specs.declared.programs.Content.{Content}
 use Rattle.csp_tables.specs.Network.{Component}
 use Rattle.csp_tables.specs.SilentBound.{IsSilentBound}
 use Rattle.local_tables.specs.declared.local_table.Room.{Room}
-use Rattle.net_sound.specs.Heights.{HaveHeights, greatest, sum_of_greatest}
+use Rattle.net_sound.specs.Heights.{HaveHeights, sum_of_greatest}
 use Rattle.net_sound.proofs.Heights.{heights_add_up}
 use Rattle.process_steps.specs.ComponentStep.{ProcessStep}
 use Rattle.network_tables.specs.Tables.{AreTablesOf, AreTablesWithin, room_after, whole_room}
 use Rattle.network_tables.specs.declared.component_tables.ComponentTable.{ComponentTable}
+use Rattle.csp_base.specs.Lists.{greatest}
 
 abbrev pub all_heights : List ComponentTable → List (List ℕ)
 all_heights ts = map (λ (t : ComponentTable). t.heights) ts

@@ -5,9 +5,10 @@ ghost use Rattle.csp_program.specs.declared.processes.Proc.{Proc};
 ghost use Rattle.csp_program.specs.declared.programs.Content.{Content};
 ghost use Rattle.csp_tables.specs.Network.{Component};
 ghost use Rattle.csp_tables.specs.SilentBound.{IsSilentBound};
-ghost use Rattle.net_sound.specs.Heights.{greatest, sum_of_greatest};
+ghost use Rattle.net_sound.specs.Heights.{sum_of_greatest};
 ghost use Rattle.process_steps.specs.ComponentStep.{ProcessStep};
 ghost use Rattle.network_tables.specs.Tables.{AreTablesOf};
+ghost use Rattle.csp_base.specs.Lists.{greatest};
 
 use crate::component_tables::ComponentTable;
 use csp_base::NoMemory;

@@ -8,7 +8,7 @@ use Rattle.partitions.specs.Blocks.{State, HasBlocks, block_at, is_marked, sizes
 use Rattle.partitions.specs.BlockSteps.{IsAwaited}
 use Rattle.partitions.proofs.Marking.{has_push, has_more}
 use Rattle.partitions.proofs.Writes.{by_write}
-use Rattle.csp_base.proofs.Listed.{has_push}
+use Rattle.csp_base.proofs.Listed.{has_push_cases}
 
 module _ (n : ℕ) (s t : State) (b : ℕ) (good : HasBlocks n s) (inside : b < length s.firsts) (a : IsAwaited s t b) where
   flag_there : b < length s.flags
@@ -59,7 +59,7 @@ module _ (n : ℕ) (s t : State) (b : ℕ) (good : HasBlocks n s) (inside : b < 
         (subst (λ (xs : List Bool). slice_index_or xs c false ≡ true) a.flags h);
     known = λ c. by_waiting (λ xs. has xs c ≡ true → c < length t.firsts)
         (λ _ h. subst (λ (xs : List ℕ). c < length xs) (sym a.firsts) (good.known c h))
-        (λ h. subst (λ (xs : List ℕ). c < length xs) (sym a.firsts) (elim (has_push s.waiting b c h) as (λ _. c < length s.firsts) [ inl old ↦ good.known c old | inr e ↦ subst (λ x. x < length s.firsts) e inside ]));
+        (λ h. subst (λ (xs : List ℕ). c < length xs) (sym a.firsts) (elim (has_push_cases s.waiting b c h) as (λ _. c < length s.firsts) [ inl old ↦ good.known c old | inr e ↦ subst (λ x. x < length s.firsts) e inside ]));
   }
 
   pub blocks_same_awaited : (i : ℕ) → block_at t i ≡ block_at s i

@@ -8,7 +8,7 @@ use Rattle.csp_base.specs.Members.{has}
 use Rattle.partitions.specs.Blocks.{State, HasBlocks, IsMarked, AreTouched, block_at}
 use Rattle.partitions.specs.BlockSteps.{IsAdvanced}
 use Rattle.partitions.proofs.Advancing.{blocks_advanced, marked_advanced, middles_then}
-use Rattle.csp_base.proofs.Listed.{has_push}
+use Rattle.csp_base.proofs.Listed.{has_push_cases}
 
 pub has_push : (xs : List ℕ) (x : ℕ) → has (xs ++ x ∷ []) x ≡ true
 has_push xs x = list_any-append (λ y. nat_eq y x) xs (x ∷ []) ∙ or_right (has xs x) (nat_eq x x || false) (or_left (nat_eq x x) false (eq-eqb x x refl))
@@ -43,7 +43,7 @@ module _ (n : ℕ) (s t : State) (node : ℕ) (good : HasBlocks n s) (inside : n
   touched_new touched old =
       touched_now (touched ++ block_at s node ∷ [])
       (λ b h l. has_more touched (block_at s node) b (old.all b h l))
-      (λ b h. elim (has_push touched (block_at s node) b h) as (λ _. b < length s.firsts) [ inl before ↦ old.known b before | inr e ↦ subst (λ c. c < length s.firsts) e (good.numbered node inside) ])
+      (λ b h. elim (has_push_cases touched (block_at s node) b h) as (λ _. b < length s.firsts) [ inl before ↦ old.known b before | inr e ↦ subst (λ c. c < length s.firsts) e (good.numbered node inside) ])
       (has_push touched (block_at s node))
 
 -- What the code reads for the node: its block b, its place p, where the marked nodes of the block end, m, and where it begins, f.

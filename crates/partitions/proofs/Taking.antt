@@ -6,7 +6,7 @@ use Rattle.std.proofs.lemmas.List.{length-set, length_push, length-replicate, ge
 use Rattle.csp_base.specs.Members.{has}
 use Rattle.partitions.specs.Blocks.{State, HasBlocks, IsWhole, IsTaken, block_at, waits, sizes}
 use Rattle.partitions.proofs.Marking.{has_push, has_more}
-use Rattle.csp_base.proofs.Listed.{has_push, has_at}
+use Rattle.csp_base.proofs.Listed.{has_push_cases, has_at}
 
 pub place_of : (xs : List ℕ) (i : ℕ) → has xs i ≡ true → (k : ℕ) × (k < length xs) × (get_or xs k 0 ≡ i)
 place_of [] i h = absurd (false≢true h)
@@ -90,7 +90,7 @@ module _ (n : ℕ) (s t : State) (b : ℕ) (good : HasBlocks n s) (order : t.ord
       whole = ap (λ (xs : List ℕ). sizes xs t.ends) firsts ∙ ap (λ (xs : List ℕ). sizes s.firsts xs) ends ∙ good.whole;
       listed = λ c h. elim (cases_eq c b) as (λ _. has t.waiting c ≡ true) [
         | inl e ↦ absurd (false≢true (sym waits_not ∙ ap (λ x. waits t x) (sym e) ∙ h))
-        | inr ne ↦ elim (has_push t.waiting b c (subst (λ (xs : List ℕ). has xs c ≡ true) waiting (good.listed c (sym (waits_then c ne) ∙ h)))) as (λ _. has t.waiting c ≡ true) [ inl old ↦ old | inr e ↦ absurd (ne (sym e)) ]
+        | inr ne ↦ elim (has_push_cases t.waiting b c (subst (λ (xs : List ℕ). has xs c ≡ true) waiting (good.listed c (sym (waits_then c ne) ∙ h)))) as (λ _. has t.waiting c ≡ true) [ inl old ↦ old | inr e ↦ absurd (ne (sym e)) ]
       ];
       known = λ c h. subst (λ (xs : List ℕ). c < length xs) (sym firsts) (good.known c (subst (λ (xs : List ℕ). has xs c ≡ true) (sym waiting) (has_more t.waiting b c h)));
     };

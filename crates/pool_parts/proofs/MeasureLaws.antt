@@ -1,6 +1,5 @@
 -- What the depth and the size of each form of an expression and of a process are, in terms of its parts.
 use Rattle.std.proofs.Common.{◌≡◌, ℕ, ◌+◌, max, ℤ, Bool, List, map, ap, sym, ◌∙◌, arith}
-use Rattle.csp_program.specs.Lists.{greatest, total}
 use Rattle.csp_program.specs.Depth.{expr_depth, gen_depth, part_depth, pair_depth, field_depth, proc_depth, expr_depth_of_layer, gen_depth_of_layer, part_depth_of_layer, proc_depth_of_layer}
 use Rattle.csp_program.specs.Size.{elements_of, expr_size, gen_size, part_size, pair_size, field_size, proc_size, expr_size_of_layer, gen_size_of_layer, part_size_of_layer, proc_size_of_layer}
 use Rattle.csp_atoms.specs.declared.value.Value.{Value}
@@ -22,6 +21,7 @@ use Rattle.csp_program.specs.declared.processes.Proc.TheFolds.{fold-roll-Proc}
 use Rattle.csp_program.specs.declared.processes.Proc.TheOpen.{Proc-F}
 use Rattle.pool_parts.specs.Counting.{capped}
 use Rattle.pool_parts.specs.declared.measure.Measure.{Measure}
+use Rattle.csp_base.specs.Lists.{greatest, total}
 
 pub expr_depth-Num : (n : ℤ) → expr_depth (expr.Num n) ≡ 1
 expr_depth-Num n = ap expr_depth (sym (expr.rolls-Num n)) ∙ fold-roll-Expr ℕ ℕ ℕ expr_depth_of_layer gen_depth_of_layer part_depth_of_layer (Expr-F.Num n)

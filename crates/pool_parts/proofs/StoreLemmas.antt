@@ -8,8 +8,9 @@ use Rattle.std.specs.Prelude.{is_some, IfSome, MatchOption, Result, Ok, Err, OnO
 use Rattle.std.specs.Set.{is_member}
 use Rattle.containers.proofs.MembersLemmas.{slice_get-append_left}
 use Rattle.containers.specs.Members.{with_new}
-use Rattle.pool_parts.specs.Stored.{AreNoted, AreOnce, IsAbsent, IsNote, IsStart}
+use Rattle.pool_parts.specs.Stored.{AreNoted, IsAbsent, IsNote, IsStart}
 use Rattle.pool_parts.specs.declared.store.Note.{Note}
+use Rattle.csp_base.specs.Lists.{EachOnce}
 
 every_at : {T : Type 0} (P : T → Type 0) (xs : List T) → AllByRecursion P xs → (k : ℕ) (x : T) → slice_get xs k ≡ Some x → P x
 every_at P [] h k x g = cc
@@ -24,7 +25,7 @@ module _ {T : Type 0} (eq : T → T → Bool) (same : (x : T) → eq x x ≡ tru
       false≢true (sym differs ∙ equal)
 
   -- what stands once by an equality test stands once
-  pub are_once : (xs : List T) → IsDistinct eq xs → AreOnce xs
+  pub are_once : (xs : List T) → IsDistinct eq xs → EachOnce xs
   are_once [] d i j x h g = cc
   are_once (y ∷ ys) d zero zero x h g = refl
   are_once (y ∷ ys) d zero (suc j) x h g = let e : y ≡ x = cc in absurd (once_at y ys (IsDistinct-head eq y ys d) j x g e)

@@ -15,10 +15,6 @@ AreNoted depth_of size_of low_of [] xs = Unit {0}
 AreNoted depth_of size_of low_of (note ∷ notes) [] = ⊥
 AreNoted depth_of size_of low_of (note ∷ notes) (x ∷ xs) = IsNote depth_of size_of low_of x note × AreNoted depth_of size_of low_of notes xs
 
--- nothing stands at two places
-abbrev pub AreOnce : {T : Type 0} → List T → Type 0
-AreOnce {T} xs = (i j : ℕ) (x : T) → slice_get xs i ≡ Some x → slice_get xs j ≡ Some x → i ≡ j
-
 -- x stands nowhere in the list
 abbrev pub IsAbsent : {T : Type 0} → List T → T → Type 0
 IsAbsent xs x = (k : ℕ) → slice_get xs k ≡ Some x → ⊥

@@ -2,9 +2,9 @@
 
 ghost use Rattle.std.specs.Prelude.{◌≡◌, ◌+◌, max, map};
 ghost use Rattle.csp_program.specs.Depth.{expr_depth, gen_depth, part_depth, pair_depth, field_depth, proc_depth};
-ghost use Rattle.csp_program.specs.Lists.{greatest, total};
 ghost use Rattle.csp_program.specs.Size.{elements_of, expr_size, gen_size, part_size, pair_size, field_size, proc_size};
 ghost use Rattle.pool_parts.specs.Counting.{capped};
+ghost use Rattle.csp_base.specs.Lists.{greatest, total};
 
 use crate::measure::{Measure, counted, elements, node, nothing, together};
 use containers::{Boxed, Items};

@@ -2,9 +2,9 @@
 
 ghost use Rattle.std.specs.Prelude.{map};
 ghost use Rattle.csp_program.specs.Depth.{expr_depth, field_depth, gen_depth, pair_depth};
-ghost use Rattle.csp_program.specs.Lists.{greatest, total};
 ghost use Rattle.csp_program.specs.Size.{expr_size, field_size, gen_size, pair_size};
 ghost use Rattle.pool_parts.specs.Low.{AllLow, ExprLow, FieldLow, GenLow, HeadLow, PairLow};
+ghost use Rattle.csp_base.specs.Lists.{greatest, total};
 
 use crate::least::{
     least_of_expr, least_of_exprs, least_of_fields, least_of_gens, least_of_head, least_of_pairs,

@@ -2,8 +2,9 @@
 
 ghost use Rattle.std.specs.Prelude.{◌≡◌, ℕ, ◌<◌, [], length, slice_get, slice_index_or, IfOk, IsTrue, List, MatchOption, OnErr, Some};
 ghost use Rattle.pool_parts.specs.Counting.{capped};
-ghost use Rattle.pool_parts.specs.Stored.{AreNoted, AreOnce, IsAbsent, IsNote, IsStart};
+ghost use Rattle.pool_parts.specs.Stored.{AreNoted, IsAbsent, IsNote, IsStart};
 ghost use Rattle.pool_parts.specs.declared.store.Note.{Note};
+ghost use Rattle.csp_base.specs.Lists.{EachOnce};
 
 use crate::measure::Measure;
 use containers::{Exact, Items, Numbering};
@@ -93,7 +94,7 @@ impl<T: Part> Store<T> {
     /// The parts in the order of their numbers.
     pub fn as_slice(&self) -> &[T]
         ensures value { result.now ≡ self.now }
-        ensures once { AreOnce self.now }
+        ensures once { EachOnce self.now }
     {
         slice_of(&self.parts)
     }
@@ -127,7 +128,7 @@ impl<T: Part> Store<T> {
     pub fn keep(&mut self, alloc: Global, part: &T) -> Result<u32, NoMemory>
         ensures place { IfOk result (λ place. slice_get self.new place ≡ Some part.now) }
         ensures start { IsStart self.old self.new }
-        ensures once { AreOnce self.new }
+        ensures once { EachOnce self.new }
         ensures err_only_new { OnErr result (IsAbsent self.old part.now) }
     {
         let place = keep_in(&mut self.parts, &mut self.notes, self.latest, alloc, part)?;
@@ -139,7 +140,7 @@ impl<T: Part> Store<T> {
     pub fn keep_made(&mut self, made: Result<T, NoMemory>) -> Result<u32, NoMemory>
         ensures place { (part : T) → IfOk made (λ it. it ≡ part) → IfOk result (λ place. slice_get self.new place ≡ Some part) }
         ensures start { IsStart self.old self.new }
-        ensures once { AreOnce self.new }
+        ensures once { EachOnce self.new }
         ensures err_only_new { OnErr result (IfOk made (λ part. IsAbsent self.old part)) }
     {
         keep_made_in(&mut self.parts, &mut self.notes, made)
@@ -149,7 +150,7 @@ impl<T: Part> Store<T> {
 // The parts in the order of their numbers. Its contract says that none stands twice.
 fn slice_of<T: Part>(parts: &Numbering<T>) -> &[T]
     ensures value { result.now ≡ parts.now }
-    ensures once { AreOnce parts.now }
+    ensures once { EachOnce parts.now }
 {
     parts.as_slice()
 }
@@ -220,7 +221,7 @@ fn keep_in<T: Part>(
     ensures noted { AreNoted T.depth T.size T.low notes.new parts.new }
     ensures place { IfOk result (λ place. slice_get parts.new place ≡ Some part.now) }
     ensures start { IsStart parts.old parts.new }
-    ensures once { AreOnce parts.new }
+    ensures once { EachOnce parts.new }
     ensures err_only_new { OnErr result (IsAbsent parts.old part.now) }
 {
     let _ = slice_of(parts);
@@ -240,7 +241,7 @@ fn keep_made_in<T: Part>(
     ensures noted { AreNoted T.depth T.size T.low notes.new parts.new }
     ensures place { (part : T) → IfOk made (λ it. it ≡ part) → IfOk result (λ place. slice_get parts.new place ≡ Some part) }
     ensures start { IsStart parts.old parts.new }
-    ensures once { AreOnce parts.new }
+    ensures once { EachOnce parts.new }
     ensures err_only_new { OnErr result (IfOk made (λ part. IsAbsent parts.old part)) }
 {
     let _ = slice_of(parts);
@@ -258,7 +259,7 @@ fn keep_own_in<T: Part>(
     ensures noted { AreNoted T.depth T.size T.low notes.new parts.new }
     ensures place { IfOk result (λ place. slice_get parts.new place ≡ Some part) }
     ensures start { IsStart parts.old parts.new }
-    ensures once { AreOnce parts.new }
+    ensures once { EachOnce parts.new }
     ensures err_only_new { OnErr result (IsAbsent parts.old part) }
 {
     let place = number(parts, part)?;
@@ -270,7 +271,7 @@ fn keep_own_in<T: Part>(
 fn number<T: Part>(parts: &mut Numbering<T>, part: T) -> Result<u32, NoMemory>
     ensures place { IfOk result (λ place. slice_get parts.new place ≡ Some part) }
     ensures start { IsStart parts.old parts.new }
-    ensures once { AreOnce parts.new }
+    ensures once { EachOnce parts.new }
     ensures noted { (notes : List Note) → AreNoted T.depth T.size T.low notes parts.old → AreNoted T.depth T.size T.low notes parts.new }
     ensures err_only_new { OnErr result (IsAbsent parts.old part) }
 {

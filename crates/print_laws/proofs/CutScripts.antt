@@ -33,6 +33,7 @@ use Rattle.print_laws.proofs.Onto as onto
 use Rattle.print_laws.proofs.Parentheses.{close_passed, last_close_passed, open_passed, other_none, other_on_line, other_plain, own_none, own_plain, passed_over}
 use Rattle.print_laws.proofs.Quiet.{rest_ends, rest_step, token_rest}
 use Rattle.print_laws.proofs.Tokens.{cuts_line, cuts_on_line, feed_stands, gap_behind, line_is, no_spaced, spaced_more}
+use Rattle.print_laws.proofs.ScriptTexts.{name_alone}
 
 -- tokens of trees outside assertions
 
@@ -64,9 +65,6 @@ without_rest : (ts : List Token) → Every Plain (ts ++ []) → Every Plain ts
 without_rest ts h = subst (Every Plain) (append-nil ts) h
 
 -- declarations
-
-abbrev name_alone : List ℕ → List Token
-name_alone x = Name x ∷ []
 
 plain_names : (sign : Token) {xs : List (List ℕ)} (r : List Token) → Plain sign → MadeNames Fits xs → Every Plain r → Every Plain (separated name_alone sign xs ++ r)
 plain_names sign r s (m.made-one-name {x = x} p) g = subst (Every Plain) (sym (onto.separated_one name_alone sign x r)) (p, g)

@@ -1,6 +1,6 @@
 -- The depth of each form of tree, in terms of its parts.
 use Rattle.std.proofs.Common.{◌≡◌, ℕ, ◌+◌, max, List, map, ap, sym, ◌∙◌}
-use Rattle.csp_text.specs.Depth.{event_depth, event_layer_depth, field_layer_depth, gen_depth, gen_layer_depth, greatest, greatest_of_pairs, part_depth, part_layer_depth, tree_depth, tree_layer_depth}
+use Rattle.csp_text.specs.Depth.{event_depth, event_layer_depth, field_layer_depth, gen_depth, gen_layer_depth, greatest_of_pairs, part_depth, part_layer_depth, tree_depth, tree_layer_depth}
 use Rattle.csp_base.specs.declared.operators.BinOp.{BinOp}
 use Rattle.csp_base.specs.declared.operators.SetOp.{SetOp}
 use Rattle.csp_text.specs.declared.tree.FieldTree.TheFolds.{fold-roll-Tree}
@@ -10,6 +10,7 @@ use Rattle.csp_text.specs.declared.tree.Tree.{Tree}
 use Rattle.csp_text.specs.declared.tree.Tree.TheVariants as tree
 use Rattle.csp_text.specs.declared.tree.EventTree.{EventTree}
 use Rattle.csp_text.specs.declared.tree.PartTree.{PartTree}
+use Rattle.csp_base.specs.Lists.{greatest}
 
 abbrev pub pair_depths : PartTree × PartTree → ℕ × ℕ
 pair_depths pair = (part_depth pair.0, part_depth pair.1)

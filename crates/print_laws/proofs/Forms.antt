@@ -18,7 +18,8 @@ use Rattle.csp_grammar.specs.Precedence as table
 use Rattle.csp_grammar.specs.Precedence.IsNext.{disjunction-conjunction, conjunction-negation, negation-comparison, comparison-sum, sum-product, product-minus, minus-renaming}
 use Rattle.csp_grammar.specs.Precedence.Level.{disjunction, conjunction, negation, comparison, sum, product, minus, renaming}
 use Rattle.script_printer.specs.declared.shape.Shape.TheVariants.{Atom, Dotted, Compound}
-use Rattle.script_printer.specs.PrintedTree.{as_item, as_operand, in_parentheses, item_tokens, operand_tokens, operator_token, printed_tokens, set_op_token, shape_of}
+use Rattle.script_printer.specs.PrintedTree.{as_item, as_operand, in_parentheses, item_tokens, operand_tokens, operator_token, printed_tokens, shape_of}
+use Rattle.csp_text.specs.Written.{set_op_word}
 
 -- from an atom upwards
 
@@ -90,7 +91,7 @@ operator_text op.Div a b = from_level product (g.expression-left-operator produc
 operator_text op.Rem a b = from_level product (g.expression-left-operator product-minus table.percent (at_level product a) (at_level minus b))
 
 pub set_operator_text : {n : ℕ} {ts : List Token} {a : Tree} {us : List Token} {b : Tree} {r : List Token} → (o : SetOp) →
-    ItemText n ts a (Symbol Comma ∷ us) → ItemText n us b (Symbol CloseParen ∷ r) → AtomText (suc n) (set_op_token o ∷ Symbol OpenParen ∷ ts) (tree.SetOp o a b) r
+    ItemText n ts a (Symbol Comma ∷ us) → ItemText n us b (Symbol CloseParen ∷ r) → AtomText (suc n) (set_op_word o ∷ Symbol OpenParen ∷ ts) (tree.SetOp o a b) r
 set_operator_text set_op.Union a b = g.atom-set-operator {op = set_op.Union} a b
 set_operator_text set_op.Inter a b = g.atom-set-operator {op = set_op.Inter} a b
 set_operator_text set_op.Diff a b = g.atom-set-operator {op = set_op.Diff} a b

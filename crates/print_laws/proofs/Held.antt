@@ -6,7 +6,7 @@ use Rattle.csp_text.specs.declared.token.Token.TheVariants as token
 use Rattle.csp_text.specs.declared.token.Token.TheVariants.{Name, Num, Word, Symbol}
 use Rattle.csp_text.specs.declared.token.Word.TheVariants as word
 use Rattle.csp_text.specs.declared.token.Symbol.TheVariants as symbol
-use Rattle.csp_text.specs.declared.token.Symbol.TheVariants.{Arrow, ExternalChoice, InternalChoice, Parallel, OpenRename, CloseRename, OpenProduct, CloseProduct, LeftArrow, DotDot, Dot, Bang, Question, Colon, At, Minus, OpenParen, CloseParen, OpenBrace, CloseBrace, OpenBracket, CloseBracket, Comma, Ampersand, Bar, Backslash, Semicolon}
+use Rattle.csp_text.specs.declared.token.Symbol.TheVariants.{Arrow, ExternalChoice, InternalChoice, Parallel, OpenRename, CloseRename, OpenProduct, CloseProduct, DotDot, Dot, Colon, At, Minus, OpenParen, CloseParen, OpenBrace, CloseBrace, OpenBracket, CloseBracket, Comma, Ampersand, Bar, Backslash, Semicolon}
 use Rattle.csp_text.specs.declared.tree.Tree.{Tree}
 use Rattle.csp_text.specs.declared.tree.Tree.TheVariants as tree
 use Rattle.csp_base.specs.declared.operators.BinOp.{BinOp}
@@ -16,16 +16,17 @@ use Rattle.csp_base.specs.declared.operators.SetOp.TheVariants as set_op
 use Rattle.csp_text.specs.declared.tree.PartTree.{PartTree}
 use Rattle.csp_text.specs.declared.tree.FieldTree.{FieldTree}
 use Rattle.csp_text.specs.declared.tree.GenTree.{GenTree}
-use Rattle.csp_grammar.specs.Grammar.{Choice, choice_sign, choice_of, event_tree, part_tree}
+use Rattle.csp_grammar.specs.Grammar.{Choice, choice_sign, choice_of, event_tree}
 use Rattle.csp_grammar.specs.Grammar as grammar
 use Rattle.script_printer.specs.declared.shape.Shape.{Shape}
 use Rattle.script_printer.specs.declared.shape.Shape.TheVariants.{Atom, Dotted, Compound}
-use Rattle.script_printer.specs.PrintedTree.{as_item, as_operand, conditions, dotted, field_tokens, gen_tokens, in_parentheses, item_tokens, operand_tokens, operator_token, part_tokens, printed_tokens, renamed_tokens, separated, set_op_token, shape_of}
+use Rattle.script_printer.specs.PrintedTree.{as_item, as_operand, conditions, dotted, field_tokens, gen_tokens, in_parentheses, item_tokens, operand_tokens, operator_token, part_tokens, printed_tokens, renamed_tokens, separated, shape_of}
 use Rattle.print_laws.specs.Fits.{is_common}
 use Rattle.print_laws.specs.Made.{MadeTree, MadeTrees, MadeDots, MadeFields, MadePart, MadeParts, MadePairs, MadeGen, MadeGens, MadeConditions}
 use Rattle.print_laws.specs.Made as m
 use Rattle.print_laws.proofs.Forms.{item_is, operand_is}
 use Rattle.print_laws.proofs.Onto as onto
+use Rattle.csp_text.specs.Written.{set_op_word}
 
 -- a token of which something is known in a tree
 abbrev pub is_own : Token → Bool
@@ -70,7 +71,7 @@ operator_other op.Mul = refl
 operator_other op.Div = refl
 operator_other op.Rem = refl
 
-set_op_other : (o : SetOp) → is_other (set_op_token o) ≡ true
+set_op_other : (o : SetOp) → is_other (set_op_word o) ≡ true
 set_op_other set_op.Union = refl
 set_op_other set_op.Inter = refl
 set_op_other set_op.Diff = refl
@@ -164,7 +165,7 @@ module _ (P : Token → Type 0) (G : ℕ → List Token → Type 0)
     held_tree (m.made-range {a = a} {b = b} a' b') = held (tree.Range a b) (λ k r g. subst (G k) (sym (onto.onto-Range a b r)) (goes {t = Symbol OpenBrace} refl ((held_tree a').operand _ _ (goes {t = Symbol DotDot} refl ((held_tree b').operand _ _ (goes {t = Symbol CloseBrace} refl g))))))
     held_tree (m.made-comprehension {items = items} {gs = gs} is gs') = held (tree.Comp items gs) (λ k r g. subst (G k) (sym (onto.onto-Comp items gs r)) (goes {t = Symbol OpenBrace} refl (held_items is _ _ (goes {t = Symbol Bar} refl (held_gens gs' _ _ (goes {t = Symbol CloseBrace} refl g))))))
     held_tree (m.made-production {parts = parts} {gs = gs} ps gs') = held (tree.Product parts gs) (λ k r g. subst (G k) (sym (onto.onto-Product parts gs r)) (goes {t = Symbol OpenProduct} refl (held_parts ps _ _ (held_conditions gs' _ _ (goes {t = Symbol CloseProduct} refl g)))))
-    held_tree (m.made-set-operator {op = o} {a = a} {b = b} a' b') = held (tree.SetOp o a b) (λ k r g. subst (G k) (sym (onto.onto-SetOp o a b r)) (goes {t = set_op_token o} (set_op_other o) (opened ((held_tree a').item _ _ (goes {t = Symbol Comma} refl ((held_tree b').item _ _ (shut g)))))))
+    held_tree (m.made-set-operator {op = o} {a = a} {b = b} a' b') = held (tree.SetOp o a b) (λ k r g. subst (G k) (sym (onto.onto-SetOp o a b r)) (goes {t = set_op_word o} (set_op_other o) (opened ((held_tree a').item _ _ (goes {t = Symbol Comma} refl ((held_tree b').item _ _ (shut g)))))))
     held_tree (m.made-prefix {c = c} {fs = fs} {p = p} y fs' p') = held (tree.Prefix (event_tree c fs) p) (λ k r g. subst (G k) (sym (onto.onto-Prefix (event_tree c fs) p r ∙ onto.onto-event c fs _)) (kept {t = Name c} refl y (held_fields fs' _ _ (goes {t = Symbol Arrow} refl ((held_tree p').operand _ _ g)))))
     held_tree (m.made-guard {c = c} {p = p} c' p') = held (tree.Guard c p) (λ k r g. subst (G k) (sym (onto.onto-Guard c p r)) ((held_tree c').operand _ _ (goes {t = Symbol Ampersand} refl ((held_tree p').operand _ _ g))))
     held_tree (m.made-each-external {x = x} {s = s} {p = p} y z s' p') = held (tree.EachExternal x s p) (λ k r g. subst (G k) (sym (onto.onto-EachExternal x s p r)) (kept {t = Symbol ExternalChoice} refl y (kept {t = Name x} refl z (goes {t = Symbol Colon} refl ((held_tree s').operand _ _ (goes {t = Symbol At} refl ((held_tree p').bare _ _ g)))))))

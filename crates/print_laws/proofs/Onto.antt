@@ -18,8 +18,9 @@ use Rattle.csp_text.specs.declared.tree.Tree.TheVariants as tree
 use Rattle.csp_text.specs.declared.tree.EventTree.{EventTree}
 use Rattle.csp_text.specs.declared.tree.PartTree.{PartTree}
 use Rattle.csp_grammar.specs.Grammar.{event_tree, part_tree}
-use Rattle.script_printer.specs.PrintedTree.{Printed, operand, operator_token, set_op_token, separated, dotted, conditions, printed, printed_tokens, shape_of, operand_tokens, item_tokens, field_tokens, gen_tokens, event_tokens, part_tokens, renamed_tokens, tree_layer_printed, field_layer_printed, gen_layer_printed, event_layer_printed, part_layer_printed}
+use Rattle.script_printer.specs.PrintedTree.{Printed, operand, operator_token, separated, dotted, conditions, printed, printed_tokens, shape_of, operand_tokens, item_tokens, field_tokens, gen_tokens, event_tokens, part_tokens, renamed_tokens, tree_layer_printed, field_layer_printed, gen_layer_printed, event_layer_printed, part_layer_printed}
 use Rattle.script_printer.proofs.PrintedEquations as equation
+use Rattle.csp_text.specs.Written.{set_op_word}
 
 two : (a b r : List Token) → a ++ b ++ r ≡ a ++ (b ++ r)
 two a b r = append_assoc a b r
@@ -97,9 +98,9 @@ pub onto-Product : (parts : List PartTree) (gs : List GenTree) (r : List Token) 
 onto-Product parts gs r = ap (λ l. l ++ r) (equation.tokens-Product parts gs)
     ∙ three (Symbol OpenProduct ∷ separated part_tokens (Symbol Comma) parts) (conditions gen_tokens gs) (Symbol CloseProduct ∷ []) r
 
-pub onto-SetOp : (op : SetOp) (a : Tree) (b : Tree) (r : List Token) → printed_tokens (tree.SetOp op a b) ++ r ≡ set_op_token op ∷ (Symbol OpenParen ∷ (item_tokens a ++ (Symbol Comma ∷ (item_tokens b ++ (Symbol CloseParen ∷ r)))))
+pub onto-SetOp : (op : SetOp) (a : Tree) (b : Tree) (r : List Token) → printed_tokens (tree.SetOp op a b) ++ r ≡ set_op_word op ∷ (Symbol OpenParen ∷ (item_tokens a ++ (Symbol Comma ∷ (item_tokens b ++ (Symbol CloseParen ∷ r)))))
 onto-SetOp op a b r = ap (λ l. l ++ r) (equation.tokens-SetOp op a b)
-    ∙ three (set_op_token op ∷ Symbol OpenParen ∷ item_tokens a) (Symbol Comma ∷ item_tokens b) (Symbol CloseParen ∷ []) r
+    ∙ three (set_op_word op ∷ Symbol OpenParen ∷ item_tokens a) (Symbol Comma ∷ item_tokens b) (Symbol CloseParen ∷ []) r
 
 pub onto-Prefix : (event : EventTree) (p : Tree) (r : List Token) → printed_tokens (tree.Prefix event p) ++ r ≡ event_tokens event ++ (Symbol Arrow ∷ (operand_tokens p ++ r))
 onto-Prefix event p r = ap (λ l. l ++ r) (equation.tokens-Prefix event p)

@@ -1,7 +1,7 @@
 -- Each tree that the grammar has is spelled by its printed tokens.
 use Rattle.std.proofs.Common.{ℕ, suc, ◌*◌, ◌≤◌, ◌<◌, max, Bool, true, false, Some, None, List, [], ◌∷◌, ◌++◌, length, map, ap, sym, ◌∙◌, subst, arith}
 use Rattle.std.specs.Prelude.{flat_map}
-use Rattle.csp_text.specs.Depth.{event_depth, field_depth, gen_depth, greatest, greatest_of_pairs, part_depth, tree_depth}
+use Rattle.csp_text.specs.Depth.{event_depth, field_depth, gen_depth, greatest_of_pairs, part_depth, tree_depth}
 use Rattle.csp_text.specs.declared.token.Token.{Token}
 use Rattle.csp_text.specs.declared.token.Token.TheVariants.{Name, Symbol}
 use Rattle.csp_text.specs.declared.token.Symbol.TheVariants.{ExternalChoice, InternalChoice, Comma}
@@ -26,6 +26,7 @@ use Rattle.print_laws.proofs.Depths as depth
 use Rattle.print_laws.proofs.Onto as onto
 use Rattle.print_laws.proofs.Forms.{Texted, at_level, from_level, as_prefix, as_sequence, prefix_tree, expression_tree, open_tree, operator_text, set_operator_text, from_atom, from_leaf, from_dotted, from_compound, with_bracket}
 use Rattle.tree_reading.proofs.NodeDepths.{depth-event, depth-dot, depth-input-from, depth-Output, depth-Cond, depth-From, depth-part, depth-Name, depth-Num, depth-False, depth-True, depth-Skip, depth-Stop}
+use Rattle.csp_base.specs.Lists.{greatest}
 
 -- lists of trees and the like
 

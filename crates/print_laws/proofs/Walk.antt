@@ -12,13 +12,14 @@ use Rattle.csp_base.specs.declared.operators.SetOp.TheVariants as set_op
 use Rattle.csp_text.specs.declared.tree.PartTree.{PartTree}
 use Rattle.csp_text.specs.declared.tree.FieldTree.{FieldTree}
 use Rattle.csp_text.specs.declared.tree.GenTree.{GenTree}
-use Rattle.csp_grammar.specs.Grammar.{Choice, choice_sign, choice_of, set_op_word, TreeText, SideText, ClosedSideText, HidingText, ClosedChoiceText, OpenChoiceText, ClosedSequenceText, OpenSequenceText, ClosedPrefixText, OpenPrefixText, OpenText, FieldsText, DottedText, DotsText, ExpressionText, PairsText, PartText, PartsText, ConditionsText, GensText, GenText, ItemText, ItemsText, AtomText}
+use Rattle.csp_grammar.specs.Grammar.{Choice, choice_sign, TreeText, SideText, ClosedSideText, HidingText, ClosedChoiceText, OpenChoiceText, ClosedSequenceText, OpenSequenceText, ClosedPrefixText, OpenPrefixText, OpenText, FieldsText, DottedText, DotsText, ExpressionText, PairsText, PartText, PartsText, ConditionsText, GensText, GenText, ItemText, ItemsText, AtomText}
 use Rattle.csp_grammar.specs.Grammar as g
 use Rattle.csp_grammar.specs.Precedence.{Level, IsLeftOperator, IsComparison}
 use Rattle.csp_grammar.specs.Precedence as table
 use Rattle.print_laws.specs.Fits.{is_common}
 use Rattle.print_laws.specs.Made.{MadeTree, MadeTrees, MadeDots, MadeFields, MadePart, MadeParts, MadePairs, MadeGen, MadeGens, MadeConditions}
 use Rattle.print_laws.specs.Made as m
+use Rattle.csp_text.specs.Written.{set_op_word}
 
 -- a parenthesis, or the word of an assertion
 abbrev pub is_special : Token → Bool

@@ -1,7 +1,6 @@
 -- How deep the processes below a process are, and that the steps of a process do not depend on how much more depth is left.
 use Rattle.std.proofs.Common.{◌≡◌, ℕ, zero, suc, ◌+◌, ◌<◌, ◌≤◌, if◌then◌else◌, Ok, List, [], ◌∷◌, ◌++◌, map, refl, ap, sym, ◌∙◌, arith}
 use Rattle.csp_program.specs.Depth.{proc_depth, proc_depth_of_layer}
-use Rattle.csp_program.specs.Lists.{greatest}
 use Rattle.csp_program.specs.Outcome.{Outcome, and_then}
 use Rattle.csp_program.specs.Substitution.{proc_with}
 use Rattle.process_steps.specs.Needed.{each_joined, events_in, set_in, truth_in}
@@ -18,6 +17,7 @@ use Rattle.csp_program.specs.declared.processes.Proc.TheFolds.{fold-roll-Proc, m
 use Rattle.csp_program.specs.declared.processes.Proc.TheOpen.{Proc-F}
 use Rattle.csp_program.specs.declared.processes.Proc.TheViews.{out-Proc, roll-out-Proc}
 use Rattle.csp_program.specs.declared.programs.Content.{Content}
+use Rattle.csp_base.specs.Lists.{greatest}
 
 -- the depth of a layer over the processes below
 unfoldable pub layer_depth : Proc-F Proc → ℕ

@@ -3,6 +3,7 @@ use Rattle.std.proofs.Common.{◌≡◌, ◌⊎◌, ℕ, zero, suc, ◌+◌, Som
 use Rattle.csp_program.specs.Lists.{joined}
 use Rattle.csp_program.specs.Outcome.{Outcome, and_then}
 use Rattle.process_steps.specs.Needed.{each_joined}
+use Rattle.csp_base.specs.Lists.{StandsIn}
 
 abbrev pub Among : {A : Type 0} → List A → A → Type 0
 Among [] x = ⊥
@@ -19,11 +20,7 @@ at_place [] k x h = absurd cc
 at_place (y ∷ ys) zero x h = inl cc
 at_place (y ∷ ys) (suc k) x h = inr (at_place ys k x h)
 
--- a place of the list where x stands
-abbrev pub Placed : {A : Type 0} → List A → A → Type 0
-Placed xs x = (k : ℕ) × (slice_get xs k ≡ Some x)
-
-pub placed : {A : Type 0} (xs : List A) (x : A) → Among xs x → Placed xs x
+pub placed : {A : Type 0} (xs : List A) (x : A) → Among xs x → StandsIn xs x
 placed [] x h = absurd h
 placed (y ∷ ys) x (inl e) = (zero, ap (λ z. Some z) e)
 placed (y ∷ ys) x (inr h) = let found = placed ys x h in (suc found.0, found.1)

@@ -3,9 +3,9 @@ use Rattle.std.proofs.Common.{◌≡◌, ℕ, List, [], ◌∷◌, ◌++◌, ref
 use Rattle.std.specs.List.{flat_map}
 use Rattle.std.specs.Prelude.{codes}
 use Rattle.std.proofs.lemmas.List.{append-nil}
-use Rattle.report.specs.Lines.{line}
 use Rattle.report.specs.Parts.{part_text, parts_text, text_and}
 use Rattle.report.specs.declared.lines.Part.{Part}
+use Rattle.csp_base.specs.Texts.{line}
 
 after : (text : List ℕ) (ps : List Part) → text ++ flat_map part_text ps ≡ text_and text ps
 after text [] = append-nil text

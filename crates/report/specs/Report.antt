@@ -4,12 +4,13 @@ use Rattle.std.specs.List.{flat_map}
 use Rattle.std.specs.Fmt.{decimal, signed_decimal}
 use Rattle.csp_tables.specs.declared.rule.Rule.{Rule}
 use Rattle.csp_tables.specs.declared.rule.Rule.TheVariants.{Cyclic, ClientServer, Resource}
-use Rattle.report.specs.Lines.{line, set_text}
+use Rattle.report.specs.Lines.{set_text}
 use Rattle.report.specs.Refusals.{refusal_text}
 use Rattle.report.specs.Shortfalls.{shortfall_text}
 use Rattle.report.specs.declared.answer.Answer.{Answer}
 use Rattle.report.specs.declared.answer.Answer.TheVariants as answer
 use Rattle.report.specs.declared.answer.PrintedNode.{PrintedNode}
+use Rattle.csp_base.specs.Texts.{line}
 
 -- how a rule is written on a command line and in reports
 abbrev pub rule_text : Rule → List ℕ

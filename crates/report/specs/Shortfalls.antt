@@ -2,9 +2,10 @@
 use Rattle.std.specs.Prelude.{ℕ, List, ◌++◌, codes}
 use Rattle.std.specs.List.{flat_map}
 use Rattle.std.specs.Fmt.{decimal}
-use Rattle.report.specs.Lines.{line, trace_text, numbers_text}
+use Rattle.report.specs.Lines.{trace_text, numbers_text}
 use Rattle.report.specs.declared.answer.Shortfall.{Shortfall}
 use Rattle.report.specs.declared.answer.Shortfall.TheVariants as shortfall
+use Rattle.csp_base.specs.Texts.{line}
 
 abbrev pub after_text : ℕ → List (List ℕ) → List ℕ
 after_text i trace = codes "component " ++ decimal i ++ codes " after " ++ trace_text trace

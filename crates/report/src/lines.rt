@@ -3,8 +3,9 @@
 ghost use Rattle.std.specs.Prelude.{◌≡◌, ◌++◌, ◌∷◌, [], IfOk, OnOk, codes};
 ghost use Rattle.std.specs.List.{flat_map};
 ghost use Rattle.std.specs.Fmt.{decimal, signed_decimal};
-ghost use Rattle.report.specs.Lines.{comma_list, line, numbers_text};
+ghost use Rattle.report.specs.Lines.{comma_list, numbers_text};
 ghost use Rattle.report.specs.Parts.{part_text, parts_text};
+ghost use Rattle.csp_base.specs.Texts.{line};
 
 use csp_base::{Bytes, NoMemory};
 use std::alloc::Global;

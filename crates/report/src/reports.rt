@@ -3,10 +3,10 @@
 ghost use Rattle.std.specs.Prelude.{◌≡◌, ◌+◌, ◌++◌, IfOk, OnOk, codes};
 ghost use Rattle.std.specs.List.{flat_map};
 ghost use Rattle.std.specs.Fmt.{decimal};
-ghost use Rattle.report.specs.Lines.{line};
 ghost use Rattle.report.specs.Refusals.{refusal_text};
 ghost use Rattle.report.specs.Shortfalls.{shortfall_text};
 ghost use Rattle.report.specs.Report.{accept_text, deadlock_free_text, next_text, node_text, nodes_text, report_text, status, table_text};
+ghost use Rattle.csp_base.specs.Texts.{line};
 
 use crate::answer::{Answer, PrintedNode, Refusal, Shortfall};
 use crate::lines::{Part, push_line, written, written_line};

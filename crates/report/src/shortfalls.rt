@@ -3,8 +3,9 @@
 ghost use Rattle.std.specs.Prelude.{◌≡◌, ◌++◌, IfOk, OnOk, codes};
 ghost use Rattle.std.specs.List.{flat_map};
 ghost use Rattle.std.specs.Fmt.{decimal};
-ghost use Rattle.report.specs.Lines.{line, numbers_text, trace_text};
+ghost use Rattle.report.specs.Lines.{numbers_text, trace_text};
 ghost use Rattle.report.specs.Shortfalls.{after_text, link_text, shortfall_text};
+ghost use Rattle.csp_base.specs.Texts.{line};
 
 use crate::answer::Shortfall;
 use crate::lines::{Part, push_line, written_line};

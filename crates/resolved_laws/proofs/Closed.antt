@@ -4,7 +4,6 @@ use Rattle.std.specs.Prelude.{pos, if◌then◌else◌}
 use Rattle.std.proofs.lemmas.Bool.{false≢true, or_cases, eq-eqb, eqb-true}
 use Rattle.csp_program.specs.Free.{Names, nowhere, either, apart_from, any_of, expr_free, expr_free_of_layer, gen_binding, gen_free_of_layer, part_free, part_free_of_layer, head_free, before, pair_free, proc_free, proc_free_of_layer, net_free, net_free_of_layer}
 use Rattle.csp_program.specs.Free as free
-use Rattle.csp_program.specs.Lists.{has_number}
 use Rattle.csp_program.specs.declared.expressions.EventPart.{EventPart}
 use Rattle.csp_program.specs.declared.expressions.Expr.{Expr}
 use Rattle.csp_program.specs.declared.expressions.Expr.TheFolds.{fold-roll-Expr, fold-roll-Gen, fold-roll-EventPart, map-Expr}
@@ -34,13 +33,14 @@ use Rattle.script_names.specs.Typed.{Binding, Front, Reading, Scope, all_bind, b
 use Rattle.resolved_laws.proofs.Formed.{Ends, Reads, AllRead, FieldRead, FieldsRead, GenRead, GensRead, PartRead, PartsRead, PairsRead}
 use Rattle.resolved_laws.proofs.Formed as f
 use Rattle.csp_base.proofs.Booleans.{is_or_first, is_or_second}
+use Rattle.csp_base.specs.Members.{has}
 
 abbrev pub numbers_of : Scope → List ℕ
 numbers_of scope = map (λ b. b.1) scope
 
 -- each of these names is a bound name of the scope
 pub record IsWithin (names : Names) (scope : Scope) : Type 0 where
-  pub at : (x : ℕ) → IsTrue (names x) → IsTrue (has_number (numbers_of scope) x)
+  pub at : (x : ℕ) → IsTrue (names x) → IsTrue (has (numbers_of scope) x)
 
 nowhere_within : (scope : Scope) → IsWithin nowhere scope
 nowhere_within scope = record { at = λ x t. absurd (false≢true t) }
@@ -49,12 +49,12 @@ either_within : {a b : Names} {scope : Scope} → IsWithin a scope → IsWithin 
 either_within {a} {b} g h = record { at = λ x t. elim (or_cases (a x) (b x) t) [ inl l ↦ g.at x l | inr r ↦ h.at x r ] }
 
 -- a name of a scope with one more is that one, or one of the scope
-one_more : (scope : Scope) (x : Name) (n y : ℕ) → IsTrue (has_number (numbers_of (with scope x n)) y)
-    → IsTrue (has_number (numbers_of scope) y) ⊎ (nat_eq n y ≡ true)
+one_more : (scope : Scope) (x : Name) (n y : ℕ) → IsTrue (has (numbers_of (with scope x n)) y)
+    → IsTrue (has (numbers_of scope) y) ⊎ (nat_eq n y ≡ true)
 one_more [] x n y t = inr (elim (or_cases (nat_eq n y) false t) [ inl l ↦ l | inr r ↦ absurd (false≢true r) ])
-one_more (b ∷ scope) x n y t = elim (or_cases (nat_eq b.1 y) (has_number (numbers_of (with scope x n)) y) t) [
-  | inl l ↦ inl (is_or_first (nat_eq b.1 y) (has_number (numbers_of scope) y) l)
-  | inr r ↦ elim (one_more scope x n y r) [ inl s ↦ inl (is_or_second (nat_eq b.1 y) (has_number (numbers_of scope) y) s) | inr s ↦ inr s ]
+one_more (b ∷ scope) x n y t = elim (or_cases (nat_eq b.1 y) (has (numbers_of (with scope x n)) y) t) [
+  | inl l ↦ inl (is_or_first (nat_eq b.1 y) (has (numbers_of scope) y) l)
+  | inr r ↦ elim (one_more scope x n y r) [ inl s ↦ inl (is_or_second (nat_eq b.1 y) (has (numbers_of scope) y) s) | inr s ↦ inr s ]
 ]
 
 not_and : (a b : Bool) → IsTrue (not a && b) → a ≡ true → ⊥
@@ -79,15 +79,15 @@ if_some : (b : Bool) (n k : ℕ) → (if b then Some n else None) ≡ Some k →
 if_some true n k h = cc
 if_some false n k h = absurd (cc)
 
-pub number_within : (scope : Scope) (x : Name) (k : ℕ) → number_of scope x ≡ Some k → IsTrue (has_number (numbers_of scope) k)
+pub number_within : (scope : Scope) (x : Name) (k : ℕ) → number_of scope x ≡ Some k → IsTrue (has (numbers_of scope) k)
 number_within [] x k h = absurd (cc)
 number_within (b ∷ scope) x k h = elim (or_else_cases (number_of scope x) (if same_name x b.0 then Some b.1 else None) k h) [
-  | inl l ↦ is_or_second (nat_eq b.1 k) (has_number (numbers_of scope) k) (number_within scope x k l)
-  | inr r ↦ is_or_first (nat_eq b.1 k) (has_number (numbers_of scope) k) (eq-eqb b.1 k (if_some (same_name x b.0) b.1 k r))
+  | inl l ↦ is_or_second (nat_eq b.1 k) (has (numbers_of scope) k) (number_within scope x k l)
+  | inr r ↦ is_or_first (nat_eq b.1 k) (has (numbers_of scope) k) (eq-eqb b.1 k (if_some (same_name x b.0) b.1 k r))
 ]
 
 one_within : (scope : Scope) (x : Name) (k : ℕ) → number_of scope x ≡ Some k → IsWithin (λ y. nat_eq k y) scope
-one_within scope x k h = record { at = λ y t. subst (λ z. IsTrue (has_number (numbers_of scope) z)) (eqb-true k y t) (number_within scope x k h) }
+one_within scope x k h = record { at = λ y t. subst (λ z. IsTrue (has (numbers_of scope) z)) (eqb-true k y t) (number_within scope x k h) }
 
 -- ---- one layer
 

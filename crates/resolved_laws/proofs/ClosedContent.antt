@@ -5,7 +5,6 @@ use Rattle.std.specs.List.{flat_map}
 use Rattle.std.proofs.lemmas.Bool.{false≢true, false_from_ne_true}
 use Rattle.csp_program.specs.Free.{IsClosed, Names, expr_free, net_free}
 use Rattle.csp_program.specs.InOrder.{AllClosed, AllClosedBodies, AllClosedTypes, body_free}
-use Rattle.csp_program.specs.Lists.{has_number}
 use Rattle.csp_program.specs.declared.networks.Net.TheVariants as net
 use Rattle.csp_program.specs.declared.processes.Proc.TheVariants as proc
 use Rattle.csp_program.specs.declared.programs.Channel.{Channel}
@@ -21,6 +20,7 @@ use Rattle.script_names.specs.Names.{Counts, Meanings, Name, counted}
 use Rattle.script_names.specs.Typed.{Reading, Scope, exprs, reading}
 use Rattle.resolved_laws.proofs.Closed.{Closed, IsWithin, closed, leaf_stop, numbers_of}
 use Rattle.resolved_laws.proofs.Making.{made}
+use Rattle.csp_base.specs.Members.{has}
 
 nothing_free : (free : Names) → IsWithin free [] → IsClosed free
 nothing_free free h x = false_from_ne_true (free x) (λ t. false≢true (h.at x t))
@@ -60,7 +60,7 @@ module _ (m : Meanings) (ks : List Kind) where
   pub defs_closed : (n : Counts) (decls : List Decl) → AllClosedBodies (definitions_from m ks n decls)
   defs_closed n [] = tt
   defs_closed n (decl.Define x params t ∷ decls) = (
-    λ y free. subst (λ l. IsTrue (has_number l y)) (parameters_numbers 0 params)
+    λ y free. subst (λ l. IsTrue (has l y)) (parameters_numbers 0 params)
         ((body_closed (kind_class (slice_get ks n.definitions)) (kind_network (slice_get ks n.definitions)) (reading m ks t) (length params)
         (parameters 0 params) (closed m ks (made m ks t))).at y free),
     defs_closed (counted n (decl.Define x params t)) decls,

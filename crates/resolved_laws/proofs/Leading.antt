@@ -6,7 +6,7 @@ use Rattle.csp_program.specs.Free.{Names, nowhere, either, any_of}
 use Rattle.csp_program.specs.Uses.{expr_uses, expr_uses_of_layer, gen_uses_of_layer, part_uses_of_layer}
 use Rattle.csp_program.specs.declared.expressions.EventPart.{EventPart}
 use Rattle.csp_program.specs.declared.expressions.Expr.{Expr}
-use Rattle.csp_program.specs.declared.expressions.Expr.TheFolds.{fold-Gen, fold-EventPart, fold-roll-Expr, fold-roll-Gen, fold-roll-EventPart, map-Expr}
+use Rattle.csp_program.specs.declared.expressions.Expr.TheFolds.{fold-roll-Expr, fold-roll-Gen, fold-roll-EventPart, map-Expr}
 use Rattle.csp_program.specs.declared.expressions.Expr.TheOpen.{Expr-F, Gen-F}
 use Rattle.csp_program.specs.declared.expressions.Expr.TheViews.{roll-Expr, roll-EventPart}
 use Rattle.csp_program.specs.declared.expressions.Expr.TheVariants as expr
@@ -30,12 +30,7 @@ use Rattle.resolved_laws.proofs.Fitting.{data_at}
 use Rattle.resolved_laws.proofs.Formed.{Ends, Reads, AllRead, GenRead, GensRead, PartRead, PartsRead}
 use Rattle.resolved_laws.proofs.Formed as f
 use Rattle.resolved_laws.proofs.ScopeNames.{renamed, NameIs, gen_names, gens_names, is_bound, is_free, name_is}
-
-abbrev gen_uses : Gen → Names
-gen_uses = fold-Gen Names Names Names expr_uses_of_layer gen_uses_of_layer part_uses_of_layer
-
-abbrev part_uses : EventPart → Names
-part_uses = fold-EventPart Names Names Names expr_uses_of_layer gen_uses_of_layer part_uses_of_layer
+use Rattle.csp_program.proofs.UsesWithin.{gen_uses, part_uses}
 
 above_first : (k a b : ℕ) → k < a → k < max a b
 above_first k a b h = omega arith

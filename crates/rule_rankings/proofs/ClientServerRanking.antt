@@ -6,7 +6,7 @@ use Rattle.std.proofs.lemmas.List.{get_or_past}
 use Rattle.csp_base.specs.Members.{has}
 use Rattle.csp_base.specs.Events.{is_subset_of, meets_of}
 use Rattle.csp_base.proofs.SetLaws.{common_member, member_of_superset, is_subset_of_from_members, meets_of_from_member}
-use Rattle.csp_tables.specs.Table.{Node, node_at}
+use Rattle.csp_tables.specs.Table.{Node, node_at, no_node}
 use Rattle.csp_tables.specs.Part.{part_at, IsNonEmpty}
 use Rattle.csp_tables.specs.Shape.{acceptance_at}
 use Rattle.csp_tables.specs.Roles.{role_at}
@@ -18,7 +18,7 @@ use Rattle.design_rules.specs.Vertices.{IsVertex}
 use Rattle.client_server_conditions.specs.Network.{Network}
 use Rattle.rule_rankings.proofs.RowsBelow.{no_ranks, as_many, parts_fit}
 use Rattle.rule_rankings.specs.ClientServerRanks.{IsRank, AreNodeRanks, ArePartRanks, serving_rank}
-use Rattle.rule_rankings.specs.Rows.{AreEach, no_node, AreNoLaps}
+use Rattle.rule_rankings.specs.Rows.{AreEach, AreNoLaps}
 
 -- ---- how the ranking fits
 

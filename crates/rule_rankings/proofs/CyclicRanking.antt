@@ -4,7 +4,7 @@ use Rattle.std.proofs.lemmas.Bool.{cases_Bool, cases_eq, cases_lt, cond-true, co
 use Rattle.std.proofs.lemmas.List.{get_or_past}
 use Rattle.std.proofs.lemmas.Option.{get_or_from_slice_get, slice_get_within}
 use Rattle.csp_base.specs.Members.{has}
-use Rattle.csp_tables.specs.Table.{Node, node_at, is_possible}
+use Rattle.csp_tables.specs.Table.{Node, node_at, is_possible, no_node}
 use Rattle.csp_tables.specs.Part.{part_at, alphabets_of, TripleDisjoint, Meet}
 use Rattle.csp_tables.specs.Shape.{Shape, is_end, link_at, acceptance_at, IsWellFormed}
 use Rattle.csp_tables.specs.Standing.{IsOn}
@@ -20,7 +20,7 @@ use Rattle.design_rules.proofs.Cyclic.{earlier_place, place_below}
 use Rattle.shape_links.specs.Links.{IsOwner, ends_of}
 use Rattle.rule_rankings.proofs.RowsBelow.{no_ranks, as_many, parts_fit}
 use Rattle.rule_rankings.specs.CyclicRanks.{IsRank, IsGreatest, AreNodeRanks, AreNodeLaps, ArePartRanks}
-use Rattle.rule_rankings.specs.Rows.{AreEach, no_node}
+use Rattle.rule_rankings.specs.Rows.{AreEach}
 use Rattle.shape_links.proofs.Links.{ends_sound, ends_complete, has_place, place_in, some_at}
 use Rattle.cyclic_conditions.proofs.Shortness.{on_one}
 

@@ -4,7 +4,7 @@ use Rattle.std.specs.List.{list_any}
 use Rattle.std.proofs.lemmas.Bool.{cases_Bool, cases_lt, cond-true, cond-false, and_parts, and_from, or_cases, or_left, or_right, both_ways, false≢true}
 use Rattle.std.proofs.lemmas.List.{get_or_past}
 use Rattle.csp_base.specs.Members.{has}
-use Rattle.csp_tables.specs.Table.{Node, node_at, end_of}
+use Rattle.csp_tables.specs.Table.{Node, node_at, end_of, no_node}
 use Rattle.csp_tables.specs.Part.{part_at, IsNonEmpty, AreApart}
 use Rattle.csp_tables.specs.Trace.{IsWithin}
 use Rattle.csp_tables.specs.Shape.{acceptance_at, IsWellFormed}
@@ -20,7 +20,7 @@ use Rattle.resource_conditions.specs.Setting.{Setting}
 use Rattle.resource_conditions.specs.Acquired.{is_acquired_by}
 use Rattle.rule_rankings.proofs.RowsBelow.{no_ranks, as_many, parts_fit}
 use Rattle.rule_rankings.specs.ResourceRanks.{number_by, IsLeastAcquired, IsRank, AreNodeRanks, ArePartRanks, HaveTop}
-use Rattle.rule_rankings.specs.Rows.{AreEach, no_node, AreNoLaps}
+use Rattle.rule_rankings.specs.Rows.{AreEach, AreNoLaps}
 use Rattle.resource_conditions.proofs.Acquiring.{acquire_only}
 use Rattle.csp_base.proofs.Listed.{any_of, any_member}
 use Rattle.design_rules.proofs.Resource.{below_top}

@@ -2,13 +2,13 @@
 use Rattle.std.specs.Prelude.{◌≡◌, ◌<◌, ◌≤◌, ℕ, ℤ, pos, List, [], IsTrue, length, nat_eq, if◌then◌else◌}
 use Rattle.csp_base.specs.Members.{has}
 use Rattle.csp_tables.specs.Part.{part_at, IsNonEmpty, Meet}
-use Rattle.csp_tables.specs.Table.{Node}
+use Rattle.csp_tables.specs.Table.{Node, no_node}
 use Rattle.csp_tables.specs.Trace.{IsWithin}
 use Rattle.csp_tables.specs.Shape.{Shape, link_at}
 use Rattle.csp_tables.specs.Ranking.{PartRanks}
 use Rattle.shape_links.specs.Links.{IsOwner, ends_of}
 use Rattle.cyclic_conditions.specs.Shorts.{IsOnOne}
-use Rattle.rule_rankings.specs.Rows.{AreEach, no_node}
+use Rattle.rule_rankings.specs.Rows.{AreEach}
 
 -- the rank of an acceptance: the number of the link on which it lies, and 0 where it is empty or not in the vocabulary
 pub record IsRank (shape : Shape) (number : ℕ → ℕ) (M : List ℕ) (rank : ℤ) : Type 0 where

@@ -1,14 +1,14 @@
 -- The ranks and laps of a part. (No rule's decider cites this.)
 use Rattle.std.specs.Prelude.{◌≡◌, ◌<◌, ◌≤◌, ◌⊎◌, ◌+◌, ◌-◌, ◌*◌, ℕ, ℤ, pos, List, [], false, IsTrue, length, slice_index}
 use Rattle.csp_tables.specs.Part.{part_at, IsNonEmpty, AreApart}
-use Rattle.csp_tables.specs.Table.{Node}
+use Rattle.csp_tables.specs.Table.{Node, no_node}
 use Rattle.csp_tables.specs.Trace.{IsWithin}
 use Rattle.csp_tables.specs.Ranking.{PartRanks}
 use Rattle.csp_tables.specs.Roles.{use_at}
 use Rattle.design_rules.specs.Resource.{acquires}
 use Rattle.design_rules.specs.ResourceRanking.{top_number}
 use Rattle.resource_conditions.specs.Setting.{Setting, IsResourcePart, IsUser}
-use Rattle.rule_rankings.specs.Rows.{AreEach, AreNoLaps, no_node}
+use Rattle.rule_rankings.specs.Rows.{AreEach, AreNoLaps}
 
 -- a resource's number is one more than its height
 abbrev pub number_by : List ℕ → ℕ → ℕ

@@ -7,7 +7,8 @@ ghost use Rattle.design_rules.specs.ClientServer.{Serves};
 ghost use Rattle.design_rules.specs.ClientServerRanking.{IsClientServerRanking};
 ghost use Rattle.digraph.specs.Walk.{AreHeights};
 ghost use Rattle.rule_rankings.specs.ClientServerRanks.{AreNodeRanks, ArePartRanks, IsRank, serving_rank};
-ghost use Rattle.rule_rankings.specs.Rows.{AreEach, no_node};
+ghost use Rattle.rule_rankings.specs.Rows.{AreEach};
+ghost use Rattle.csp_tables.specs.Table.{no_node};
 
 use crate::rows::no_laps;
 use client_server_conditions::{Network, part_of};

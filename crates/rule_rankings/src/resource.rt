@@ -6,8 +6,9 @@ ghost use Rattle.design_rules.specs.Resource.{KeepUses};
 ghost use Rattle.design_rules.specs.ResourceRanking.{AreResourceRanks, top_number};
 ghost use Rattle.resource_conditions.specs.Acquired.{is_acquired_by};
 ghost use Rattle.rule_rankings.specs.ResourceRanks.{AreNodeRanks, ArePartRanks, HaveTop, IsLeastAcquired, IsRank, number_by};
-ghost use Rattle.rule_rankings.specs.Rows.{AreEach, no_node};
+ghost use Rattle.rule_rankings.specs.Rows.{AreEach};
 ghost use Rattle.resource_conditions.specs.Setting.{KeepKinds};
+ghost use Rattle.csp_tables.specs.Table.{no_node};
 
 use crate::rows::no_laps;
 use containers::Items;

@@ -1,7 +1,8 @@
 //! Rows that the rankings have alike.
 
 ghost use Rattle.std.specs.Prelude.{[], IfOk, map};
-ghost use Rattle.rule_rankings.specs.Rows.{AreEach, AreNoLaps, no_node};
+ghost use Rattle.rule_rankings.specs.Rows.{AreEach, AreNoLaps};
+ghost use Rattle.csp_tables.specs.Table.{no_node};
 
 use containers::Items;
 use csp_base::NoMemory;

@@ -19,7 +19,8 @@ use Rattle.csp_text.specs.declared.tree.Tree.TheVariants as tree
 use Rattle.csp_text.specs.declared.tree.EventTree.{EventTree}
 use Rattle.csp_text.specs.declared.tree.PartTree.{PartTree}
 use Rattle.script_printer.specs.declared.shape.Shape.TheVariants.{Atom, Dotted, Compound}
-use Rattle.script_printer.specs.PrintedTree.{Printed, operand, item, operator_token, set_op_token, separated, dotted, conditions, bound_in, pair_tokens, renamed_tokens, printed, printed_tokens, shape_of, operand_tokens, item_tokens, field_tokens, gen_tokens, event_tokens, part_tokens, tree_layer_printed, field_layer_printed, gen_layer_printed, event_layer_printed, part_layer_printed}
+use Rattle.script_printer.specs.PrintedTree.{Printed, operand, item, operator_token, separated, dotted, conditions, bound_in, pair_tokens, renamed_tokens, printed, printed_tokens, shape_of, operand_tokens, item_tokens, field_tokens, gen_tokens, event_tokens, part_tokens, tree_layer_printed, field_layer_printed, gen_layer_printed, event_layer_printed, part_layer_printed}
+use Rattle.csp_text.specs.Written.{set_op_word}
 
 separated_map : {X Y : Type 0} (shown : Y → List Token) (f : X → Y) (sign : Token) (xs : List X) → separated shown sign (map f xs) ≡ separated (λ x. shown (f x)) sign xs
 separated_map shown f sign [] = refl
@@ -234,7 +235,7 @@ shape-SetOp op a b =
     ap (λ t. (printed t).shape) (sym (tree.rolls-SetOp op a b))
     ∙ ap (λ p. p.shape) (fold-roll-Tree (List Token) (List Token) Printed (List Token) (List Token) field_layer_printed gen_layer_printed tree_layer_printed event_layer_printed part_layer_printed (Tree-F.SetOp op a b))
 
-pub tokens-SetOp : (op : SetOp) (a : Tree) (b : Tree) → printed_tokens (tree.SetOp op a b) ≡ set_op_token op ∷ Symbol OpenParen ∷ item_tokens a ++ Symbol Comma ∷ item_tokens b ++ Symbol CloseParen ∷ []
+pub tokens-SetOp : (op : SetOp) (a : Tree) (b : Tree) → printed_tokens (tree.SetOp op a b) ≡ set_op_word op ∷ Symbol OpenParen ∷ item_tokens a ++ Symbol Comma ∷ item_tokens b ++ Symbol CloseParen ∷ []
 unfolding printed_tokens operand_tokens item_tokens shape_of printed gen_tokens part_tokens event_tokens renamed_tokens
 tokens-SetOp op a b =
     ap (λ t. (printed t).tokens) (sym (tree.rolls-SetOp op a b))

@@ -14,7 +14,6 @@ use Rattle.csp_text.specs.declared.token.Symbol.TheVariants.{Arrow, ExternalChoi
 use Rattle.csp_base.specs.declared.operators.BinOp.{BinOp}
 use Rattle.csp_base.specs.declared.operators.BinOp.TheVariants as op
 use Rattle.csp_base.specs.declared.operators.SetOp.{SetOp}
-use Rattle.csp_base.specs.declared.operators.SetOp.TheVariants as set_op
 use Rattle.csp_text.specs.declared.tree.FieldTree.TheFolds.{fold-GenTree, fold-Tree, fold-EventTree, fold-PartTree}
 use Rattle.csp_text.specs.declared.tree.FieldTree.TheOpen.{FieldTree-F, GenTree-F, Tree-F, EventTree-F, PartTree-F}
 use Rattle.csp_text.specs.declared.tree.FieldTree.{FieldTree, fold-FieldTree}
@@ -24,6 +23,7 @@ use Rattle.csp_text.specs.declared.tree.EventTree.{EventTree}
 use Rattle.csp_text.specs.declared.tree.PartTree.{PartTree}
 use Rattle.script_printer.specs.declared.shape.Shape.{Shape}
 use Rattle.script_printer.specs.declared.shape.Shape.TheVariants.{Atom, Dotted, Compound}
+use Rattle.csp_text.specs.Written.{set_op_word}
 
 -- a printed tree: its tokens, and whether they need parentheses
 pub record Printed : Type 0 where
@@ -66,12 +66,6 @@ operator_token op.Sub = Symbol symbol.Minus
 operator_token op.Mul = Symbol symbol.Star
 operator_token op.Div = Symbol symbol.Slash
 operator_token op.Rem = Symbol symbol.Percent
-
--- how an operator on two sets is written
-abbrev pub set_op_token : SetOp → Token
-set_op_token set_op.Union = Word word.Union
-set_op_token set_op.Inter = Word word.Inter
-set_op_token set_op.Diff = Word word.Diff
 
 -- what is shown of each, with a sign between two
 abbrev pub separated : {X : Type 0} → (X → List Token) → Token → List X → List Token
@@ -127,7 +121,7 @@ tree_layer_printed (Tree-F.Product parts gens) =
     atom (Symbol OpenProduct ∷ separated (λ tokens. tokens) (Symbol Comma) parts
     ++ conditions (λ tokens. tokens) gens ++ Symbol CloseProduct ∷ [])
 tree_layer_printed (Tree-F.SetOp op a b) =
-    atom (set_op_token op ∷ Symbol OpenParen ∷ item a ++ Symbol Comma ∷ item b ++ Symbol CloseParen ∷ [])
+    atom (set_op_word op ∷ Symbol OpenParen ∷ item a ++ Symbol Comma ∷ item b ++ Symbol CloseParen ∷ [])
 tree_layer_printed (Tree-F.Prefix event p) = compound (event ++ Symbol Arrow ∷ operand p)
 tree_layer_printed (Tree-F.Guard c p) = compound (operand c ++ Symbol Ampersand ∷ operand p)
 tree_layer_printed (Tree-F.External ps) = compound (separated operand (Symbol ExternalChoice) ps)

@@ -3,7 +3,8 @@
 ghost use Rattle.std.specs.Prelude.{◌≡◌, ◌++◌, [], ◌∷◌, OnOk};
 ghost use Rattle.csp_text.specs.declared.token.Token.TheVariants as token;
 ghost use Rattle.script_printer.specs.TokenText.{before_place, spaced, token_text};
-ghost use Rattle.script_printer.specs.PrintedTree.{operator_token, set_op_token};
+ghost use Rattle.script_printer.specs.PrintedTree.{operator_token};
+ghost use Rattle.csp_text.specs.Written.{set_op_word};
 
 use crate::numbers::put_decimal;
 use csp_base::{BinOp, Bytes, Name, NoMemory, SetOp};
@@ -94,7 +95,7 @@ pub(crate) fn put_operator(text: &mut Bytes, op: BinOp) -> Result<(), NoMemory>
 
 // Adds the name of an operator on sets.
 pub(crate) fn put_set_op(text: &mut Bytes, op: SetOp) -> Result<(), NoMemory>
-    ensures { OnOk result (text.new ≡ text.old ++ spaced (set_op_token op ∷ [])) }
+    ensures { OnOk result (text.new ≡ text.old ++ spaced (set_op_word op ∷ [])) }
 {
     match op {
         SetOp::Union => put_word(text, Word::Union),

@@ -13,7 +13,7 @@ use Rattle.net_sound.proofs.Sharers.{at_three}
 use Rattle.design_rules.proofs.Holders.{one_link}
 use Rattle.design_rules.proofs.Shapes.{first_end}
 use Rattle.shape_links.specs.Links.{IsOwner, AreOwners, ends_below, ends_of}
-use Rattle.csp_base.proofs.Listed.{has_push}
+use Rattle.csp_base.proofs.Listed.{has_push_cases}
 
 -- a part that has the event is an end of the link that has it
 pub owner_end : (shape : Shape) (i l e : ℕ) → IsWellFormed shape → TripleDisjoint (alphabets_of shape.parts) → i < length shape.parts → IsTrue (has (part_at shape.parts i).alphabet e) → IsOwner shape l e → IsOn shape i l e
@@ -99,7 +99,7 @@ pub ends_sound : (shape : Shape) (i n m : ℕ) → has (ends_below shape i n) m 
 ends_sound shape i zero m h = absurd (false≢true h)
 ends_sound shape i (suc n) m h =
     elim (cases_Bool (is_end shape i n)) [
-      | inl end ↦ elim (has_push (ends_below shape i n) n m (subst (λ xs. has xs m ≡ true) (cond-true (is_end shape i n) (ends_below shape i n ++ n ∷ []) (ends_below shape i n) end) h)) [
+      | inl end ↦ elim (has_push_cases (ends_below shape i n) n m (subst (λ xs. has xs m ≡ true) (cond-true (is_end shape i n) (ends_below shape i n ++ n ∷ []) (ends_below shape i n) end) h)) [
         | inl old ↦ let r = ends_sound shape i n m old in let less : m < n = r.0 in (omega arith, r.1)
         | inr new ↦ subst (λ k. (k < suc n) × IsTrue (is_end shape i k)) new (omega arith, end)
       ]

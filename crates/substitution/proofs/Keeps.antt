@@ -1,7 +1,7 @@
 -- A substitution keeps the depth of a process, and whether it is in order.
 use Rattle.std.proofs.Common.{◌≡◌, ℕ, ◌+◌, ◌-◌, max, Bool, true, false, cond, ◌&&◌, nat_eq, Some, None, map, length, refl, ap, ◌∙◌}
 use Rattle.std.specs.Prelude.{slice_get}
-use Rattle.csp_program.specs.Lists.{greatest, all_true}
+use Rattle.csp_program.specs.Lists.{all_true}
 use Rattle.csp_program.specs.Depth.{expr_depth, gen_depth, field_depth, pair_depth, proc_depth, proc_depth_of_layer}
 use Rattle.csp_program.specs.InOrder.{value_in_order, expr_in_order, gen_in_order, head_in_order, field_in_order, pair_in_order, fields_left, field_count, proc_in_order, proc_in_order_of_layer, takes, is_process}
 use Rattle.csp_program.specs.Substitution.{head_with, any_binds}
@@ -22,6 +22,7 @@ use Rattle.substitution.specs.Parts.{expr_after, gen_after, part_after, pair_aft
 use Rattle.substitution.proofs.ExprEquations.{part_after-is}
 use Rattle.substitution.proofs.ProcFolds.{proc_fold_keeps}
 use Rattle.substitution.proofs.KeptParts.{exprs_keep, pairs_keep, gens_keep, fields_keep, exprs_length, fields_length}
+use Rattle.csp_base.specs.Lists.{greatest}
 
 module _ (x : ℕ) (v : Value) where
   field_keeps_depth : (f : Field) → field_depth (field_after x v f) ≡ field_depth f

@@ -5,10 +5,11 @@ use Rattle.csp_program.specs.declared.expressions.Expr.TheVariants as expr
 use Rattle.csp_program.specs.declared.processes.Head.TheVariants as head
 use Rattle.term_pool.specs.Entries.{head_at, fields_at, expr_at, arguments_at, pairs_at, gens_at, choice_at, entry_layer, ArePartsOnce, Fits, HasParts, PartsStart, StandsAs}
 use Rattle.term_pool.specs.Layers.{Layer}
-use Rattle.pool_parts.specs.Stored.{AreOnce, IsStart}
+use Rattle.pool_parts.specs.Stored.{IsStart}
 use Rattle.term_pool.specs.declared.entry.Entry.{Entry}
 use Rattle.term_pool.specs.declared.entry.Entry.TheVariants as entry
 use Rattle.term_pool.specs.declared.own_parts.OwnParts.{OwnParts}
+use Rattle.csp_base.specs.Lists.{EachOnce}
 
 -- a number of the old list is one of the new one, with the same part
 there : {T : Type 0} (old new : List T) → IsStart old new → (k : ℕ) (other : T) → k < length old → slice_get new k ≡ Some (get_or old k other)
@@ -21,7 +22,7 @@ stays : {T : Type 0} (old new : List T) → IsStart old new → (k : ℕ) (other
 stays old new start k other h = get_or_from_slice_get new k (get_or old k other) other (there old new start k other h)
 
 -- one part has one number
-one_number : {T : Type 0} (xs : List T) → AreOnce xs → (j k : ℕ) (other : T) → j < length xs → k < length xs → get_or xs j other ≡ get_or xs k other → j ≡ k
+one_number : {T : Type 0} (xs : List T) → EachOnce xs → (j k : ℕ) (other : T) → j < length xs → k < length xs → get_or xs j other ≡ get_or xs k other → j ≡ k
 one_number xs once j k other h g e = once j k (get_or xs j other) (slice_get-get_or xs j other h) (slice_get-get_or xs k other g ∙ ap (λ x. Some x) (sym e))
 
 pub starts_same : (parts : OwnParts) → PartsStart parts parts

@@ -15,13 +15,14 @@ use Rattle.term_pool.proofs.WithinLemmas.{has_push}
 use Rattle.term_pool.specs.Held.{IsHeld, Puts}
 use Rattle.term_pool.specs.Measured.{measured, node_depth, node_size}
 use Rattle.term_pool.specs.Pooled.{AreDifferent, Has, IsFront, PartsStandBelow, StandBelow, parts}
-use Rattle.pool_parts.specs.Stored.{AreOnce, IsAbsent}
+use Rattle.pool_parts.specs.Stored.{IsAbsent}
 use Rattle.term_pool.specs.Trees.{tree_at, layer_tree, layer_ids, all_below, layer_below, trees_of, fall}
 use Rattle.term_pool.specs.Within.{AddsOne}
 use Rattle.pool_parts.specs.declared.measure.Measure.{Measure}
 use Rattle.term_pool.specs.Layers.{Layer}
 use Rattle.pool_parts.specs.declared.place.ProcId.{ProcId}
 use Rattle.csp_base.proofs.Lists.{push_cases}
+use Rattle.csp_base.specs.Lists.{EachOnce}
 
 abbrev id_at : ℕ → ProcId
 id_at k = record { 0 = k }
@@ -67,7 +68,7 @@ module _ (ns : List Layer) (smaller : fall 0 ns ≡ true) where
       (subst (λ (ps : List Proc). StandBelow (trees_of ns) k ps) (sym (parts_at (trees_of ns) n))
       (parts_below k (omega arith) (layer_ids n) (places_fall k n n_is)))
 
-module _ (ns : List Layer) (smaller : fall 0 ns ≡ true) (distinct : AreOnce ns) where
+module _ (ns : List Layer) (smaller : fall 0 ns ≡ true) (distinct : EachOnce ns) where
   differ : (b : ℕ) → b ≤ length ns → (i j : ℕ) → i < b → j < b → tree_at (trees_of ns) (id_at i) ≡ tree_at (trees_of ns) (id_at j) → i ≡ j
   differ zero le i j h g e = absurd (omega (arith, h))
   differ (suc b) le i j h g e =
@@ -101,7 +102,7 @@ module _ (ns : List Layer) (smaller : fall 0 ns ≡ true) (distinct : AreOnce ns
       let m_n : m ≡ n = same_node (trees_of ns) (length ns) (differ (length ns) (omega arith)) m n m_below below same in
       (has.0, m_is ∙ ap (λ (x : Layer). Some x) m_n)
 
-once_push : (ns : List Layer) (n : Layer) → AreOnce ns → IsAbsent ns n → AreOnce (ns ++ n ∷ [])
+once_push : (ns : List Layer) (n : Layer) → EachOnce ns → IsAbsent ns n → EachOnce (ns ++ n ∷ [])
 once_push ns n once absent i j x h g = either (push_cases ns n i x h) (push_cases ns n j x g)
   where
     either : (slice_get ns i ≡ Some x) ⊎ ((i ≡ length ns) × (n ≡ x)) → (slice_get ns j ≡ Some x) ⊎ ((j ≡ length ns) × (n ≡ x)) → i ≡ j

@@ -3,7 +3,6 @@ use Rattle.std.proofs.Common.{◌≡◌, ℕ, ◌+◌, ◌<◌, max, true, nat_l
 use Rattle.std.proofs.lemmas.Bool.{ltb-true}
 use Rattle.std.proofs.lemmas.List.{get_or-map, length-map}
 use Rattle.std.specs.Cmp.{first_so, second_so}
-use Rattle.csp_program.specs.Lists.{greatest, total}
 use Rattle.csp_program.specs.Depth.{proc_depth}
 use Rattle.csp_program.specs.Size.{proc_size}
 use Rattle.csp_program.specs.declared.processes.Proc.{Proc}
@@ -15,6 +14,7 @@ use Rattle.term_pool.specs.Trees.{tree_at, layer_tree, layer_ids, all_below, lay
 use Rattle.pool_parts.specs.declared.measure.Measure.{Measure}
 use Rattle.term_pool.specs.Layers.{Layer}
 use Rattle.pool_parts.specs.declared.place.ProcId.{ProcId}
+use Rattle.csp_base.specs.Lists.{greatest, total}
 
 pub tree_depth : (ts : List Proc) (n : Layer) → proc_depth (layer_tree ts n) ≡ 1 + max (own_depth n) (greatest (map proc_depth (map (tree_at ts) (layer_ids n))))
 tree_depth ts Layer.Stop = omega (arith, laws.proc_depth-Stop)

@@ -1,5 +1,5 @@
 -- How a pool keeps nodes: as entries, whose own parts are numbers in stores.
-use Rattle.std.specs.Prelude.{◌≡◌, ℕ, ◌<◌, Some, List, [], length, map, slice_get, slice_index_or}
+use Rattle.std.specs.Prelude.{◌≡◌, ℕ, ◌<◌, List, [], length, map, slice_index_or}
 use Rattle.csp_program.specs.declared.expressions.EventPart.{EventPart}
 use Rattle.csp_program.specs.declared.expressions.Expr.{Expr}
 use Rattle.csp_program.specs.declared.expressions.Expr.TheVariants as expr
@@ -8,11 +8,12 @@ use Rattle.csp_program.specs.declared.processes.Field.{Field}
 use Rattle.csp_program.specs.declared.processes.Head.{Head}
 use Rattle.csp_program.specs.declared.processes.Head.TheVariants as head
 use Rattle.term_pool.specs.Layers.{Layer}
-use Rattle.pool_parts.specs.Stored.{AreOnce, IsStart}
+use Rattle.pool_parts.specs.Stored.{IsStart}
 use Rattle.term_pool.specs.declared.entry.Entry.{Entry}
 use Rattle.term_pool.specs.declared.entry.Entry.TheVariants as entry
 use Rattle.pool_parts.specs.declared.place.ProcId.{ProcId}
 use Rattle.term_pool.specs.declared.own_parts.OwnParts.{OwnParts}
+use Rattle.csp_base.specs.Lists.{EachOnce, StandsIn}
 
 -- the part with a number, where there is one
 abbrev pub head_at : OwnParts → ℕ → Head
@@ -78,36 +79,32 @@ pub record StandsAs (parts : OwnParts) (e : Entry) (n : Layer) : Type 0 where
   pub fits : Fits parts e
   pub is : entry_layer parts e ≡ n
 
--- x stands in the list
-abbrev pub Holds : {T : Type 0} → List T → T → Type 0
-Holds xs x = (k : ℕ) × (slice_get xs k ≡ Some x)
-
 -- the own parts of a layer are kept
 abbrev pub HasParts : OwnParts → Layer → Type 0
 HasParts parts Layer.Stop = Unit {0}
-HasParts parts (Layer.Prefix h fields p) = Holds parts.heads h × Holds parts.fields fields
-HasParts parts (Layer.Guard c p) = Holds parts.exprs c
-HasParts parts (Layer.If c p q) = Holds parts.exprs c
-HasParts parts (Layer.External ps) = Holds parts.choices ps
-HasParts parts (Layer.Internal ps) = Holds parts.choices ps
-HasParts parts (Layer.EachExternal x s p) = Holds parts.exprs s
-HasParts parts (Layer.EachInternal x s p) = Holds parts.exprs s
-HasParts parts (Layer.Hide p s) = Holds parts.exprs s
-HasParts parts (Layer.Rename p pairs gens) = Holds parts.pairs pairs × Holds parts.gens gens
-HasParts parts (Layer.Call d args) = Holds parts.arguments args
+HasParts parts (Layer.Prefix h fields p) = StandsIn parts.heads h × StandsIn parts.fields fields
+HasParts parts (Layer.Guard c p) = StandsIn parts.exprs c
+HasParts parts (Layer.If c p q) = StandsIn parts.exprs c
+HasParts parts (Layer.External ps) = StandsIn parts.choices ps
+HasParts parts (Layer.Internal ps) = StandsIn parts.choices ps
+HasParts parts (Layer.EachExternal x s p) = StandsIn parts.exprs s
+HasParts parts (Layer.EachInternal x s p) = StandsIn parts.exprs s
+HasParts parts (Layer.Hide p s) = StandsIn parts.exprs s
+HasParts parts (Layer.Rename p pairs gens) = StandsIn parts.pairs pairs × StandsIn parts.gens gens
+HasParts parts (Layer.Call d args) = StandsIn parts.arguments args
 HasParts parts Layer.Skip = Unit {0}
 HasParts parts (Layer.Seq p q) = Unit {0}
 HasParts parts Layer.Ended = Unit {0}
 
 -- each part stands once
 pub record ArePartsOnce (parts : OwnParts) : Type 0 where
-  pub heads : AreOnce parts.heads
-  pub fields : AreOnce parts.fields
-  pub exprs : AreOnce parts.exprs
-  pub arguments : AreOnce parts.arguments
-  pub pairs : AreOnce parts.pairs
-  pub gens : AreOnce parts.gens
-  pub choices : AreOnce parts.choices
+  pub heads : EachOnce parts.heads
+  pub fields : EachOnce parts.fields
+  pub exprs : EachOnce parts.exprs
+  pub arguments : EachOnce parts.arguments
+  pub pairs : EachOnce parts.pairs
+  pub gens : EachOnce parts.gens
+  pub choices : EachOnce parts.choices
 
 -- each part keeps its number
 pub record PartsStart (old : OwnParts) (new : OwnParts) : Type 0 where

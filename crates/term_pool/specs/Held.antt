@@ -5,17 +5,17 @@ use Rattle.term_pool.specs.Entries.{layers, ArePartsOnce, Fits}
 use Rattle.term_pool.specs.Layers.{Layer}
 use Rattle.term_pool.specs.Measured.{measured}
 use Rattle.term_pool.specs.Pooled.{Has, IsFront}
-use Rattle.pool_parts.specs.Stored.{AreOnce}
 use Rattle.term_pool.specs.Trees.{fall, trees_of}
 use Rattle.term_pool.specs.Within.{AddsOne}
 use Rattle.term_pool.specs.declared.entry.Entry.{Entry}
 use Rattle.pool_parts.specs.declared.measure.Measure.{Measure}
 use Rattle.pool_parts.specs.declared.place.ProcId.{ProcId}
 use Rattle.term_pool.specs.declared.own_parts.OwnParts.{OwnParts}
+use Rattle.csp_base.specs.Lists.{EachOnce}
 
 pub record IsHeld (nodes : List Layer) (measures : List Measure) : Type 0 where
   pub smaller : fall 0 nodes ≡ true
-  pub distinct : AreOnce nodes
+  pub distinct : EachOnce nodes
   pub exact : measures ≡ map measured (trees_of nodes)
 
 -- the same of entries, whose own parts stand in stores

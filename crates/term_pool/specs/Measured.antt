@@ -2,7 +2,6 @@
 -- its places.
 use Rattle.std.specs.Prelude.{ℕ, ◌+◌, max, List, map, slice_index_or}
 use Rattle.csp_program.specs.Depth.{expr_depth, field_depth, gen_depth, pair_depth, proc_depth}
-use Rattle.csp_program.specs.Lists.{greatest, total}
 use Rattle.csp_program.specs.Size.{expr_size, field_size, gen_size, pair_size, proc_size}
 use Rattle.csp_program.specs.declared.processes.Proc.{Proc}
 use Rattle.pool_parts.specs.Counting.{capped}
@@ -10,6 +9,7 @@ use Rattle.term_pool.specs.Trees.{layer_ids}
 use Rattle.pool_parts.specs.declared.measure.Measure.{Measure}
 use Rattle.term_pool.specs.Layers.{Layer}
 use Rattle.pool_parts.specs.declared.place.ProcId.{ProcId}
+use Rattle.csp_base.specs.Lists.{greatest, total}
 
 -- the depth and the size of a process
 abbrev pub measured : Proc → Measure

@@ -1,8 +1,9 @@
 //! The own parts of the nodes of a pool.
 
 ghost use Rattle.std.specs.Prelude.{◌≡◌, [], slice_get, IfOk, OnErr, Some};
-ghost use Rattle.term_pool.specs.Entries.{entry_layer, ArePartsOnce, Fits, HasParts, Holds, PartsStart, StandsAs};
+ghost use Rattle.term_pool.specs.Entries.{entry_layer, ArePartsOnce, Fits, HasParts, PartsStart, StandsAs};
 ghost use Rattle.term_pool.specs.Layers.{shown};
+ghost use Rattle.csp_base.specs.Lists.{StandsIn};
 
 use crate::entry::Entry;
 use crate::node::Node;
@@ -77,7 +78,7 @@ pub(crate) fn parts_once(parts: &OwnParts)
 fn keep_expr(parts: &mut OwnParts, alloc: Global, part: &Expr) -> Result<u32, NoMemory>
     ensures start { PartsStart parts.old parts.new }
     ensures place { IfOk result (λ place. slice_get parts.new.exprs place ≡ Some part.now) }
-    ensures err_only_new { OnErr result (Holds parts.old.exprs part.now → ⊥) }
+    ensures err_only_new { OnErr result (StandsIn parts.old.exprs part.now → ⊥) }
 {
     parts.exprs.keep(alloc, part)
 }
@@ -86,7 +87,7 @@ fn keep_expr(parts: &mut OwnParts, alloc: Global, part: &Expr) -> Result<u32, No
 fn keep_arguments(parts: &mut OwnParts, alloc: Global, part: &Items<Expr>) -> Result<u32, NoMemory>
     ensures start { PartsStart parts.old parts.new }
     ensures place { IfOk result (λ place. slice_get parts.new.arguments place ≡ Some part.now) }
-    ensures err_only_new { OnErr result (Holds parts.old.arguments part.now → ⊥) }
+    ensures err_only_new { OnErr result (StandsIn parts.old.arguments part.now → ⊥) }
 {
     parts.arguments.keep(alloc, part)
 }
@@ -99,7 +100,7 @@ pub(crate) fn keep_choice(
 ) -> Result<u32, NoMemory>
     ensures start { PartsStart parts.old parts.new }
     ensures place { IfOk result (λ place. slice_get parts.new.choices place ≡ Some part.now) }
-    ensures err_only_new { OnErr result (Holds parts.old.choices part.now → ⊥) }
+    ensures err_only_new { OnErr result (StandsIn parts.old.choices part.now → ⊥) }
 {
     parts.choices.keep(alloc, part)
 }
@@ -114,7 +115,7 @@ fn keep_prefix(
     ensures start { PartsStart parts.old parts.new }
     ensures heads { IfOk result (λ own. slice_get parts.new.heads own.0 ≡ Some head.now) }
     ensures fields { IfOk result (λ own. slice_get parts.new.fields own.1 ≡ Some fields.now) }
-    ensures err_only_new { OnErr result (Holds parts.old.heads head.now × Holds parts.old.fields fields.now → ⊥) }
+    ensures err_only_new { OnErr result (StandsIn parts.old.heads head.now × StandsIn parts.old.fields fields.now → ⊥) }
 {
     let head = parts.heads.keep(alloc, head)?;
     let fields = parts.fields.keep(alloc, fields)?;
@@ -131,7 +132,7 @@ fn keep_renaming(
     ensures start { PartsStart parts.old parts.new }
     ensures pairs { IfOk result (λ own. slice_get parts.new.pairs own.0 ≡ Some pairs.now) }
     ensures gens { IfOk result (λ own. slice_get parts.new.gens own.1 ≡ Some gens.now) }
-    ensures err_only_new { OnErr result (Holds parts.old.pairs pairs.now × Holds parts.old.gens gens.now → ⊥) }
+    ensures err_only_new { OnErr result (StandsIn parts.old.pairs pairs.now × StandsIn parts.old.gens gens.now → ⊥) }
 {
     let pairs = parts.pairs.keep(alloc, pairs)?;
     let gens = parts.gens.keep(alloc, gens)?;

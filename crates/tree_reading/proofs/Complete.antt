@@ -1,6 +1,6 @@
 -- What the grammar has within the limits, the readers give, in front of every rest that does not go on with the tree.
 use Rattle.std.proofs.Common.{◌≡◌, ℕ, suc, ◌+◌, ◌≤◌, max, Bool, true, nat_le, None, List, [], ◌∷◌, map, refl, ap, ◌∙◌, arith}
-use Rattle.csp_text.specs.Depth.{field_depth, gen_depth, greatest, part_depth, tree_depth}
+use Rattle.csp_text.specs.Depth.{field_depth, gen_depth, part_depth, tree_depth}
 use Rattle.csp_text.specs.declared.token.Token.{Token}
 use Rattle.csp_text.specs.declared.token.Token.TheVariants as token
 use Rattle.csp_text.specs.declared.token.Symbol.TheVariants as symbol
@@ -32,6 +32,8 @@ use Rattle.tree_reading.proofs.NodeDepths as depths
 use Rattle.tree_reading.proofs.Parts.{Bounded, chain_of, chosen_depth, looser, one_of_two, still_closed, dots_begin, fields_begin, fields_no_colon, dots_more, AreDots, no_dots, more_dots, conditions_begin, into_guard, prefix_alone, sequence_alone, side_alone, tree_alone, choice_stops, last_choice, more_choices, side_of_choices, bound_alone}
 use Rattle.tree_reading.proofs.Starts.{no_event, no_arrow, plain, atom_operand, items_no_brace}
 use Rattle.csp_text.proofs.DepthLemmas.{rename_depth}
+use Rattle.csp_base.specs.Lists.{greatest}
+use Rattle.csp_text.specs.Written.{set_op_word}
 
 arrow_ends : (us : List Token) → EndsFields (token.Symbol symbol.Arrow ∷ us)
 arrow_ends us = record { no_dot = refl; no_bang = refl; no_question = refl; no_colon = refl; event = refl }
@@ -93,7 +95,7 @@ condition_first (token.Resource _ ∷ ts) e h = h
 
 set_operator_starts : {n d : ℕ} {x : Tree × List Token} (op : SetOp) {ts : List Token} →
     Gives (λ L. and_then (inside (limits n d)) λ e. read_set_operator L e op (token.Symbol symbol.OpenParen ∷ ts)) x →
-    Gives (λ L. L.atom (limits (suc n) d) (g.set_op_word op ∷ token.Symbol symbol.OpenParen ∷ ts)) x
+    Gives (λ L. L.atom (limits (suc n) d) (set_op_word op ∷ token.Symbol symbol.OpenParen ∷ ts)) x
 set_operator_starts set_op.Union h = later h
 set_operator_starts set_op.Inter h = later h
 set_operator_starts set_op.Diff h = later h

@@ -1,6 +1,6 @@
 -- The levels of expressions as numbers, and how an expression is read whatever level the reading began at.
 use Rattle.std.proofs.Common.{◌≡◌, ℕ, suc, ◌≤◌, max, Bool, true, false, ◌&&◌, nat_lt, nat_le, if◌then◌else◌, Option, Some, None, List, [], ◌∷◌, map, refl, ap, arith}
-use Rattle.csp_text.specs.Depth.{gen_depth, greatest, greatest_of_pairs, part_depth, tree_depth}
+use Rattle.csp_text.specs.Depth.{gen_depth, greatest_of_pairs, part_depth, tree_depth}
 use Rattle.csp_text.specs.declared.token.Token.{Token}
 use Rattle.csp_text.specs.declared.token.Token.TheVariants as token
 use Rattle.csp_text.specs.declared.token.Word.TheVariants as word
@@ -33,6 +33,7 @@ use Rattle.tree_reading.proofs.Looks.{IsSign, binding_of, token_signs}
 use Rattle.tree_reading.proofs.NodeDepths as depths
 use Rattle.tree_reading.proofs.Starts.{IsOperand}
 use Rattle.csp_text.proofs.DepthLemmas.{rename_depth}
+use Rattle.csp_base.specs.Lists.{greatest}
 
 abbrev pub tightness : Level → ℕ
 tightness l = number (binding_of l)

@@ -1,6 +1,6 @@
 -- What the answer of each reader means.
 use Rattle.std.proofs.Common.{◌≡◌, ℕ, ◌≤◌, Bool, List, [], ◌∷◌, map, arith}
-use Rattle.csp_text.specs.Depth.{field_depth, gen_depth, greatest, part_depth, tree_depth}
+use Rattle.csp_text.specs.Depth.{field_depth, gen_depth, part_depth, tree_depth}
 use Rattle.csp_text.specs.declared.token.Token.{Token}
 use Rattle.csp_text.specs.declared.token.Symbol.{Symbol}
 use Rattle.csp_text.specs.declared.tree.Tree.{Tree}
@@ -18,6 +18,7 @@ use Rattle.tree_reading.specs.declared.look.Chain.{Chain}
 use Rattle.tree_reading.specs.declared.read.Binding.{Binding}
 use Rattle.tree_reading.proofs.Holds.{Holds}
 use Rattle.tree_reading.proofs.Levels.{pairs_depth, tightness}
+use Rattle.csp_base.specs.Lists.{greatest}
 
 -- an expression at each level up to the number
 abbrev pub Expressions : ℕ → ℕ → List Token → Tree → List Token → Type 0

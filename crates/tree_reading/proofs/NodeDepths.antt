@@ -1,6 +1,6 @@
 -- The depth of each form by those of its parts.
 use Rattle.std.proofs.Common.{◌≡◌, ℕ, ◌+◌, max, false, nat_le, Some, None, List, map, sym, ap, ◌∙◌, arith}
-use Rattle.csp_text.specs.Depth.{event_depth, event_layer_depth, field_depth, field_layer_depth, gen_depth, gen_layer_depth, greatest, part_depth, part_layer_depth, tree_depth, tree_layer_depth}
+use Rattle.csp_text.specs.Depth.{event_depth, event_layer_depth, field_depth, field_layer_depth, gen_depth, gen_layer_depth, part_depth, part_layer_depth, tree_depth, tree_layer_depth}
 use Rattle.csp_text.specs.declared.tree.FieldTree.TheFolds.{fold-roll-Tree, fold-roll-FieldTree, fold-roll-GenTree, fold-roll-EventTree, fold-roll-PartTree, fold_out-Tree}
 use Rattle.csp_text.specs.declared.tree.FieldTree.TheOpen.{Tree-F, FieldTree-F, GenTree-F}
 use Rattle.csp_text.specs.declared.tree.FieldTree.{FieldTree}
@@ -14,6 +14,7 @@ use Rattle.csp_base.specs.declared.operators.SetOp.{SetOp}
 use Rattle.csp_text.specs.declared.tree.Tree.{Tree}
 use Rattle.csp_text.specs.declared.tree.Tree.TheVariants as tree
 use Rattle.csp_grammar.specs.Grammar.{event_tree, part_tree}
+use Rattle.csp_base.specs.Lists.{greatest}
 
 pub depth-Call : (f : List ℕ) (items : List Tree) → tree_depth (tree.Call f items) ≡ 1 + greatest (map tree_depth items)
 depth-Call f items =

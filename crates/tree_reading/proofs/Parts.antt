@@ -1,6 +1,6 @@
 -- The readers' steps from a part to a whole, and lists behind one another.
 use Rattle.std.proofs.Common.{◌≡◌, ℕ, ◌+◌, ◌≤◌, max, Bool, true, false, nat_eq, nat_le, if◌then◌else◌, Option, Some, None, List, [], ◌∷◌, map, refl, sym, ap, subst, ◌∙◌, arith}
-use Rattle.csp_text.specs.Depth.{greatest, tree_depth}
+use Rattle.csp_text.specs.Depth.{tree_depth}
 use Rattle.csp_text.specs.declared.token.Token.{Token}
 use Rattle.csp_text.specs.declared.token.Token.TheVariants as token
 use Rattle.csp_text.specs.declared.token.Symbol.TheVariants as symbol
@@ -32,6 +32,7 @@ use Rattle.tree_reading.proofs.Levels.{Reads, read_at, tightness}
 use Rattle.tree_reading.proofs.Looks.{binding_of}
 use Rattle.tree_reading.proofs.NodeDepths as depths
 use Rattle.tree_reading.proofs.Starts.{IsPlain}
+use Rattle.csp_base.specs.Lists.{greatest}
 
 -- what is read is bound at least as tightly as the binding
 pub record Bounded {A : Type 0} (least : Binding) (F : Limited → Found A) (a : A) (r : List Token) : Type 0 where

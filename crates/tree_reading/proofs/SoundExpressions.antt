@@ -1,6 +1,6 @@
 -- What is read of expressions and sets, the grammar has.
 use Rattle.std.proofs.Common.{◌≡◌, ℕ, suc, ◌≤◌, max, Bool, true, ◌&&◌, nat_le, Option, Some, None, List, [], ◌∷◌, map, refl, sym, ap, subst, ◌∙◌, arith}
-use Rattle.csp_text.specs.Depth.{field_depth, gen_depth, greatest, part_depth, tree_depth}
+use Rattle.csp_text.specs.Depth.{field_depth, gen_depth, part_depth, tree_depth}
 use Rattle.csp_text.specs.declared.token.Token.{Token}
 use Rattle.csp_text.specs.declared.token.Token.TheVariants.{Name, Num, Word, Symbol}
 use Rattle.csp_text.specs.declared.token.Token.TheVariants as token
@@ -18,7 +18,7 @@ use Rattle.csp_text.specs.declared.tree.GenTree.{GenTree}
 use Rattle.csp_text.specs.declared.tree.GenTree.TheVariants as generator
 use Rattle.csp_text.specs.declared.tree.FieldTree.{FieldTree}
 use Rattle.csp_text.specs.declared.tree.FieldTree.TheVariants as field
-use Rattle.csp_grammar.specs.Grammar.{TreeText, FieldsText, DottedText, DotsText, ExpressionText, PairsText, PartText, PartsText, ConditionsText, GensText, GenText, ItemText, ItemsText, AtomText, set_op_word, part_tree}
+use Rattle.csp_grammar.specs.Grammar.{TreeText, FieldsText, DottedText, DotsText, ExpressionText, PairsText, PartText, PartsText, ConditionsText, GensText, GenText, ItemText, ItemsText, AtomText, part_tree}
 use Rattle.csp_grammar.specs.Grammar as g
 use Rattle.csp_grammar.specs.Precedence as table
 use Rattle.csp_grammar.specs.Precedence.Level.{disjunction, conjunction, negation, comparison, sum, product, minus, renaming}
@@ -42,6 +42,8 @@ use Rattle.tree_reading.proofs.Meaning.{Sound, Expressions, ExpressionRead, Item
 use Rattle.tree_reading.proofs.NodeDepths as depths
 use Rattle.csp_base.proofs.Booleans.{and_first, and_second}
 use Rattle.csp_text.proofs.DepthLemmas.{rename_depth}
+use Rattle.csp_base.specs.Lists.{greatest}
+use Rattle.csp_text.specs.Written.{set_op_word}
 
 head_same : (x y : Tree) → ◌≡◌ {A = List Tree} (x ∷ []) (y ∷ []) → x ≡ y
 head_same x y e = cc

@@ -1,6 +1,6 @@
 -- What is read of processes, the grammar has.
 use Rattle.std.proofs.Common.{◌≡◌, inl, inr, ℕ, suc, ◌+◌, ◌≤◌, max, Bool, true, nat_le, Option, Some, None, List, ◌∷◌, map, refl, sym, ap, subst, ◌∙◌, arith}
-use Rattle.csp_text.specs.Depth.{field_depth, greatest, tree_depth}
+use Rattle.csp_text.specs.Depth.{field_depth, tree_depth}
 use Rattle.csp_text.specs.declared.token.Token.{Token}
 use Rattle.csp_text.specs.declared.token.Token.TheVariants.{Name, Word, Symbol}
 use Rattle.csp_text.specs.declared.token.Word.TheVariants as word
@@ -34,6 +34,7 @@ use Rattle.tree_reading.proofs.Parts.{chosen_depth}
 use Rattle.tree_reading.proofs.SoundExpressions.{alone, dotted_read}
 use Rattle.tree_reading.proofs.Tests.{open_one, closed_two, one_or_two, not_zero, at_least_one, none_or_more}
 use Rattle.std.proofs.lemmas.Option.{none-some}
+use Rattle.csp_base.specs.Lists.{greatest}
 
 not_one : {A : Type 0} (k : ℕ) → 2 ≤ k → k ≡ 1 → A
 not_one k h e = absurd (omega arith)

@@ -14,7 +14,8 @@ use Rattle.csp_text.specs.declared.tree.PartTree.{PartTree}
 use Rattle.csp_text.specs.declared.tree.Tree.{Tree}
 use Rattle.csp_text.specs.declared.tree.Tree.TheVariants as tree
 use Rattle.script_names.specs.Names.{Name}
-use Rattle.typed_trees.specs.Tokens.{total, total_of_pairs, tokens, field_tokens, set_tokens, gen_tokens, event_tokens, part_tokens, tokens_of_layer, field_tokens_of_layer, gen_tokens_of_layer, event_tokens_of_layer, part_tokens_of_layer, all_tokens, fields_tokens, gens_tokens, parts_tokens, pairs_tokens}
+use Rattle.typed_trees.specs.Tokens.{total_of_pairs, tokens, field_tokens, set_tokens, gen_tokens, event_tokens, part_tokens, tokens_of_layer, field_tokens_of_layer, gen_tokens_of_layer, event_tokens_of_layer, part_tokens_of_layer, all_tokens, fields_tokens, gens_tokens, parts_tokens, pairs_tokens}
+use Rattle.csp_base.specs.Lists.{total}
 
 pub all_are : (ts : List Tree) → total (map tokens ts) ≡ all_tokens ts
 all_are [] = refl

@@ -8,10 +8,7 @@ use Rattle.csp_text.specs.declared.tree.GenTree.{GenTree}
 use Rattle.csp_text.specs.declared.tree.Tree.{Tree}
 use Rattle.csp_text.specs.declared.tree.EventTree.{EventTree}
 use Rattle.csp_text.specs.declared.tree.PartTree.{PartTree}
-
-abbrev pub total : List ℕ → ℕ
-total [] = 0
-total (n ∷ ns) = n + total ns
+use Rattle.csp_base.specs.Lists.{total}
 
 abbrev pub total_of_pairs : List (ℕ × ℕ) → ℕ
 total_of_pairs [] = 0

@@ -7,8 +7,8 @@ use Rattle.csp_program.specs.EventTable.{event_table}
 use Rattle.csp_program.specs.InOrder.{IsEventTable, channel_in_order, expr_in_order, expr_in_order_of_layer, gen_in_order_of_layer, part_in_order_of_layer, lacks_sets, set_in_order, sets_in_order, with_fields}
 use Rattle.csp_program.specs.Lists.{all_true}
 use Rattle.csp_program.specs.Outcome.{and_then}
-use Rattle.csp_program.specs.Value.{Env, Front, Meaning, Turn, first_of, front_of_layer, meaning, meaning_of_layer, sets_of, turn_of_layer, uses_within, value_within}
-use Rattle.value_laws.specs.EventNumbers.{HasSets, HaveValues, StandsAt, computed_number, meanings_within}
+use Rattle.csp_program.specs.Value.{Env, Front, Meaning, Turn, first_of, front_of_layer, meaning, meaning_of_layer, sets_of, turn_of_layer, uses_within, value_within, meanings}
+use Rattle.value_laws.specs.EventNumbers.{HasSets, HaveValues, StandsAt, computed_number}
 use Rattle.value_laws.specs.ProgramEvents.{IsEventAt, PlacesAreValues, ValuesArePlaces}
 use Rattle.value_laws.proofs.AtExpressions.{events_are_worth_their_numbers}
 use Rattle.value_laws.proofs.Fronts.{has_sets}
@@ -75,7 +75,7 @@ module _ (p : Content) where
       ap (meaning (uses_within p n) p.channels) (sym (expr.rolls-Lit v)) ∙
       fold-roll-Expr Meaning Turn Front (meaning_of_layer (uses_within p n) p.channels) (turn_of_layer (uses_within p n) p.channels) (front_of_layer (uses_within p n) p.channels) (Expr-F.Lit v)
 
-  put_values : (n : ℕ) (row : List Atom) (env : Env) → HaveValues (meanings_within p n (map (λ a. expr.Lit (One a)) row)) env row
+  put_values : (n : ℕ) (row : List Atom) (env : Env) → HaveValues (meanings p n (map (λ a. expr.Lit (One a)) row)) env row
   put_values n [] env = refl
   put_values n (a ∷ row) env =
       let first : value_within p n (expr.Lit (One a)) env ≡ Ok (One a) = ap (λ (m : Meaning). m env) (lit_meaning n (One a)) in
@@ -84,7 +84,7 @@ module _ (p : Content) where
 
 pub values_are_places : ValuesArePlaces
 values_are_places p ordered n c fields env v o h =
-    let ms = meanings_within p n fields in
+    let ms = meanings p n fields in
     let through = came_through (computed_number p.channels c ms env) (λ number. Ok (One (atom.Event number))) v (sym (events_are_worth_their_numbers p n c fields env) ∙ h) in
     let s = has_sets (first_of (slice_get p.channels c)) (sets_of (slice_get p.channels c)) ms env through.0 through.1 in
     let same_length : length ms ≡ length (map (expr_in_order p) fields) = length-map fields (meaning (uses_within p n) p.channels) ∙ sym (length-map fields (expr_in_order p)) in
@@ -98,4 +98,4 @@ places_are_values p ordered n place c row env h =
     let stands = ap (λ (l : List EventInfo). slice_get l place) (sym table) ∙ h in
     events_are_worth_their_numbers p n c (map (λ a. expr.Lit (One a)) row) env ∙
     ap (λ o. and_then o (λ number. Ok (One (atom.Event number))))
-    (places_are_numbers p ordered c place row stands (meanings_within p n (map (λ a. expr.Lit (One a)) row)) env (put_values p n row env))
+    (places_are_numbers p ordered c place row stands (meanings p n (map (λ a. expr.Lit (One a)) row)) env (put_values p n row env))

@@ -7,7 +7,7 @@ use Rattle.csp_program.specs.InOrder.{is_datum, is_set_name, takes, with_fields,
 use Rattle.csp_program.specs.Lists.{all_true}
 use Rattle.csp_program.specs.Uses.{expr_uses, expr_uses_of_layer, gen_uses_of_layer, part_uses_of_layer}
 use Rattle.csp_program.specs.declared.expressions.Expr.{Expr}
-use Rattle.csp_program.specs.declared.expressions.Expr.TheFolds.{fold-Gen, fold-EventPart, fold-roll-Expr, fold-roll-Gen, fold-roll-EventPart, ind-Expr, map-Expr, map-Gen, map-EventPart}
+use Rattle.csp_program.specs.declared.expressions.Expr.TheFolds.{fold-roll-Expr, fold-roll-Gen, fold-roll-EventPart, ind-Expr, map-Expr, map-Gen, map-EventPart}
 use Rattle.csp_program.specs.declared.expressions.Expr.TheOpen.{Expr-F, Gen-F, EventPart-F}
 use Rattle.csp_program.specs.declared.expressions.Expr.TheViews.{roll-Expr, roll-Gen, roll-EventPart}
 use Rattle.csp_program.specs.declared.expressions.EventPart.{EventPart}
@@ -16,12 +16,7 @@ use Rattle.csp_program.specs.declared.programs.Body.{Body}
 use Rattle.csp_program.specs.declared.programs.Content.{Content}
 use Rattle.csp_program.specs.declared.programs.Def.{Def}
 use Rattle.csp_base.proofs.Booleans.{is_first, is_second}
-
-abbrev gen_uses : Gen → Names
-gen_uses = fold-Gen Names Names Names expr_uses_of_layer gen_uses_of_layer part_uses_of_layer
-
-abbrev part_uses : EventPart → Names
-part_uses = fold-EventPart Names Names Names expr_uses_of_layer gen_uses_of_layer part_uses_of_layer
+use Rattle.csp_program.proofs.UsesWithin.{gen_uses, part_uses}
 
 taken_within : (of_class : Body → Bool) (count : ℕ) (defs : List Def) (d : ℕ) → IsTrue (takes of_class count (slice_get defs d)) → d < length defs
 taken_within of_class count [] d t = absurd (false≢true t)

@@ -2,8 +2,8 @@
 use Rattle.std.specs.Prelude.{◌≡◌, ◌⊎◌, ◌↔◌, ℕ, ◌≤◌, true, IsTrue, Ok, List, [], ◌∷◌, ◌++◌, map, length}
 use Rattle.csp_atoms.specs.Sets.{IsAtomSet, has_atom}
 use Rattle.csp_program.specs.InOrder.{IsInOrder}
-use Rattle.csp_program.specs.Value.{Env, Front, Meaning, Turn, front, truth, turn, uses_within, value_within}
-use Rattle.value_laws.specs.EventNumbers.{HaveValues, StandsAt, meanings_within}
+use Rattle.csp_program.specs.Value.{Env, Front, Meaning, Turn, front, truth, turn, uses_within, value_within, meanings}
+use Rattle.value_laws.specs.EventNumbers.{HaveValues, StandsAt}
 use Rattle.csp_atoms.specs.declared.atom.Atom.{Atom}
 use Rattle.csp_atoms.specs.declared.atom.Atom.TheVariants as atom
 use Rattle.csp_atoms.specs.declared.value.Value.{Value}
@@ -52,7 +52,7 @@ abbrev pub ComprehensionsHoldTheirItems : Type 0
 ComprehensionsHoldTheirItems =
     (p : Content) (n : ℕ) (items : List Expr) (gens : List Gen) (env : Env) (v : Value) → value_within p n (expr.Comp items gens) env ≡ Ok v →
     (set : List Atom) × (v ≡ Many set) × IsSetValue set × ((a : Atom) → IsTrue (has_atom set a) ↔
-    ((bound : Env) × IsBinding (turns_within p n gens) env bound × IsItem (meanings_within p n items) bound a))
+    ((bound : Env) × IsBinding (turns_within p n gens) env bound × IsItem (meanings p n items) bound a))
 
 -- where a production has a value, it is the set of the events that begin with one of its parts under some binding
 abbrev pub ProductionsHoldWhatBegins : Type 0

@@ -1,10 +1,10 @@
 -- In a program in order, the number that is computed for an event from the values of its fields is the place of the event in the event table of the
 -- program's channels. The events that begin with given values stand there one after another.
-use Rattle.std.specs.Prelude.{◌≡◌, ◌↔◌, ℕ, ◌+◌, ◌<◌, ◌≤◌, Some, Ok, List, [], ◌∷◌, ◌++◌, map, length, slice_get}
+use Rattle.std.specs.Prelude.{◌≡◌, ◌↔◌, ℕ, ◌+◌, ◌<◌, ◌≤◌, Some, Ok, List, ◌∷◌, ◌++◌, map, length, slice_get}
 use Rattle.csp_program.specs.EventTable.{event_of, event_table}
 use Rattle.csp_program.specs.InOrder.{IsInOrder}
 use Rattle.csp_program.specs.Outcome.{Outcome, and_then}
-use Rattle.csp_program.specs.Value.{Env, Meaning, events_each, first_of, front_number, meaning, sets_of, uses_within, value_within, values_of}
+use Rattle.csp_program.specs.Value.{Env, Meaning, events_each, first_of, front_number, sets_of, value_within, values_of, meanings}
 use Rattle.csp_atoms.specs.declared.atom.Atom.{Atom}
 use Rattle.csp_atoms.specs.declared.atom.Atom.TheVariants as atom
 use Rattle.csp_atoms.specs.declared.value.Value.TheVariants.{One}
@@ -29,15 +29,11 @@ computed_number channels c fields env = front_number (first_of (slice_get channe
 abbrev pub StandsAt : List Channel → ℕ → ℕ → List Atom → Type 0
 StandsAt channels place c row = slice_get (event_table channels) place ≡ Some (event_of c row)
 
--- what expressions mean where n uses may still be entered
-abbrev pub meanings_within : Content → ℕ → List Expr → List Meaning
-meanings_within p n es = map (meaning (uses_within p n) p.channels) es
-
 -- an event is worth the number that is computed for it
 abbrev pub EventsAreWorthTheirNumbers : Type 0
 EventsAreWorthTheirNumbers =
     (p : Content) (n c : ℕ) (fields : List Expr) (env : Env) →
-    value_within p n (expr.Event c fields) env ≡ and_then (computed_number p.channels c (meanings_within p n fields) env) (λ number. Ok (One (atom.Event number)))
+    value_within p n (expr.Event c fields) env ≡ and_then (computed_number p.channels c (meanings p n fields) env) (λ number. Ok (One (atom.Event number)))
 
 -- where a number is computed for an event with all of its fields, the fields have values, and the event stands at that place
 abbrev pub NumbersArePlaces : Type 0

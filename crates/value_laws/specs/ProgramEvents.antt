@@ -3,8 +3,8 @@
 use Rattle.std.specs.Prelude.{◌≡◌, ℕ, IsTrue, Some, Ok, List, map, slice_get}
 use Rattle.csp_program.specs.EventTable.{event_of}
 use Rattle.csp_program.specs.InOrder.{IsInOrder, expr_in_order}
-use Rattle.csp_program.specs.Value.{Env, value_within}
-use Rattle.value_laws.specs.EventNumbers.{HaveValues, meanings_within}
+use Rattle.csp_program.specs.Value.{Env, value_within, meanings}
+use Rattle.value_laws.specs.EventNumbers.{HaveValues}
 use Rattle.csp_atoms.specs.declared.atom.Atom.{Atom}
 use Rattle.csp_atoms.specs.declared.atom.Atom.TheVariants as atom
 use Rattle.csp_atoms.specs.declared.value.Value.{Value}
@@ -22,7 +22,7 @@ abbrev pub ValuesArePlaces : Type 0
 ValuesArePlaces =
     (p : Content) → IsInOrder p → (n c : ℕ) (fields : List Expr) (env : Env) (v : Value) → IsTrue (expr_in_order p (expr.Event c fields)) →
     value_within p n (expr.Event c fields) env ≡ Ok v →
-    (place : ℕ) × (row : List Atom) × (v ≡ One (atom.Event place)) × HaveValues (meanings_within p n fields) env row × IsEventAt p place c row
+    (place : ℕ) × (row : List Atom) × (v ≡ One (atom.Event place)) × HaveValues (meanings p n fields) env row × IsEventAt p place c row
 
 -- the expression of an event, with its values put in
 abbrev pub event_expression : ℕ → List Atom → Expr

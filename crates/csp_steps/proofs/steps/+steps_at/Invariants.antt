@@ -1,6 +1,5 @@
 use Rattle.std.proofs.Common.{◌≡◌, ◌+◌, ◌*◌, true, drop, length, map}
 use Rattle.csp_program.specs.Depth.{proc_depth}
-use Rattle.csp_program.specs.Lists.{greatest}
 use Rattle.process_steps.specs.StepList.{steps_of, steps_of_choice}
 use Rattle.term_pool.specs.Pooled.{IsFront}
 use Rattle.term_pool.specs.Trees.{tree_at}
@@ -10,6 +9,7 @@ use Rattle.csp_steps.specs.Listed.{seen}
 use Rattle.csp_steps.proofs.Choosing.{of_operand}
 use Rattle.step_values.proofs.Lists.{left}
 use Rattle.csp_steps.proofs.steps.+steps_at.Given as goal
+use Rattle.csp_base.specs.Lists.{greatest}
 
 -- each call goes to a process that is less deep, or from the operands of a choice to one that is no deeper than the deepest
 abbrev pub decreases-steps_at : goal.decreases-steps_at

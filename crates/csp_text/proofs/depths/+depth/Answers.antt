@@ -1,7 +1,8 @@
 use Rattle.std.proofs.Common.{map, ap, ◌∙◌}
-use Rattle.csp_text.specs.Depth.{capped, gen_depth, greatest, greatest_of_pairs, part_depth, tree_depth}
+use Rattle.csp_text.specs.Depth.{capped, gen_depth, greatest_of_pairs, part_depth, tree_depth}
 use Rattle.csp_text.proofs.DepthLemmas.{one_more_than_three, rename_depth}
 use Rattle.csp_text.proofs.depths.+depth.Goals as goal
+use Rattle.csp_base.specs.Lists.{greatest}
 
 pub depth-returns-in-Rename : goal.depth-returns-in-Rename
 depth-returns-in-Rename t c =

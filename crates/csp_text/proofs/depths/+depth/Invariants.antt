@@ -1,6 +1,7 @@
 use Rattle.std.proofs.Common.{◌≡◌, max, map, drop}
-use Rattle.csp_text.specs.Depth.{capped, field_depth, gen_depth, greatest, greatest_of_pairs, part_depth, tree_depth}
+use Rattle.csp_text.specs.Depth.{capped, field_depth, gen_depth, greatest_of_pairs, part_depth, tree_depth}
 use Rattle.csp_text.proofs.depths.+depth.Given as goal
+use Rattle.csp_base.specs.Lists.{greatest}
 
 -- the deepest so far and those that are left have the greatest depth of all
 abbrev pub invariant-items_depth-loop-item : goal.invariant-items_depth-loop-item

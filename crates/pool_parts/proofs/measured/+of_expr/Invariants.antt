@@ -2,11 +2,11 @@ use Rattle.std.proofs.Common.{◌≡◌, ◌+◌, ◌*◌, ◌≤◌, max, map, 
 use denote.Param.Weighed as weighed
 use Rattle.csp_program.proofs.expressions.Expr.TheLaws.{the_size}
 use Rattle.csp_program.proofs.expressions.Gen.TheLaws as generator
-use Rattle.csp_program.specs.Lists.{greatest, total}
 use Rattle.csp_program.specs.Depth.{expr_depth, gen_depth, part_depth}
 use Rattle.csp_program.specs.Size.{expr_size, gen_size, part_size}
 use Rattle.pool_parts.specs.Counting.{capped}
 use Rattle.pool_parts.proofs.measured.+of_expr.Given as goal
+use Rattle.csp_base.specs.Lists.{greatest, total}
 
 -- what is measured so far, together with the rest, is all
 abbrev pub invariant-of_exprs-loop-expr : goal.invariant-of_exprs-loop-expr

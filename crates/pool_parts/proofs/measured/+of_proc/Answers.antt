@@ -2,12 +2,12 @@
 use Rattle.std.proofs.Common.{List, map, ap, ◌∙◌, arith}
 use Rattle.std.proofs.lemmas.Grind.{common_steps}
 use Rattle.csp_program.specs.Depth.{expr_depth, proc_depth}
-use Rattle.csp_program.specs.Lists.{greatest, total}
 use Rattle.csp_program.specs.Size.{expr_size, proc_size}
 use Rattle.csp_program.specs.declared.expressions.Expr.{Expr}
 use Rattle.pool_parts.proofs.MeasureLaws as laws
 use Rattle.pool_parts.specs.Counting.{capped}
 use Rattle.pool_parts.proofs.measured.+of_proc.Goals as goal
+use Rattle.csp_base.specs.Lists.{greatest, total}
 
 pub of_parts_of_proc-returns-in-Stop : goal.of_parts_of_proc-returns-in-Stop
 of_parts_of_proc-returns-in-Stop t c = laws.proc_parts c.nothing.result _ _ 0 0 c.in-Stop.is laws.proc_depth-Stop laws.proc_size-Stop c.nothing.ensures.depth c.nothing.ensures.size

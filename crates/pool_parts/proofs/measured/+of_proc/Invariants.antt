@@ -1,10 +1,10 @@
 use Rattle.std.proofs.Common.{◌≡◌, ◌+◌, ◌*◌, ◌≤◌, max, map, drop}
 use Rattle.csp_program.proofs.processes.Proc.TheLaws.{the_size}
-use Rattle.csp_program.specs.Lists.{greatest, total}
 use Rattle.csp_program.specs.Depth.{proc_depth}
 use Rattle.csp_program.specs.Size.{proc_size}
 use Rattle.pool_parts.specs.Counting.{capped}
 use Rattle.pool_parts.proofs.measured.+of_proc.Given as goal
+use Rattle.csp_base.specs.Lists.{greatest, total}
 
 -- what is measured so far, together with the rest, is all
 abbrev pub invariant-of_procs-loop-proc : goal.invariant-of_procs-loop-proc

@@ -1,9 +1,9 @@
 use Rattle.std.proofs.Common.{◌≡◌, ◌+◌, ◌≤◌, max, map, drop}
-use Rattle.csp_program.specs.Lists.{greatest, total}
 use Rattle.csp_program.specs.Depth.{field_depth}
 use Rattle.csp_program.specs.Size.{field_size}
 use Rattle.pool_parts.specs.Counting.{capped}
 use Rattle.pool_parts.proofs.measured.of_fields.Given as goal
+use Rattle.csp_base.specs.Lists.{greatest, total}
 
 -- what is measured so far, together with the rest, is all
 abbrev pub invariant-loop-field : goal.invariant-loop-field

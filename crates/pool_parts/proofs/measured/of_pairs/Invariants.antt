@@ -1,9 +1,9 @@
 use Rattle.std.proofs.Common.{◌≡◌, ◌+◌, ◌≤◌, max, map, drop}
-use Rattle.csp_program.specs.Lists.{greatest, total}
 use Rattle.csp_program.specs.Depth.{pair_depth}
 use Rattle.csp_program.specs.Size.{pair_size}
 use Rattle.pool_parts.specs.Counting.{capped}
 use Rattle.pool_parts.proofs.measured.of_pairs.Given as goal
+use Rattle.csp_base.specs.Lists.{greatest, total}
 
 -- what is measured so far, together with the rest, is all
 abbrev pub invariant-loop-pair : goal.invariant-loop-pair

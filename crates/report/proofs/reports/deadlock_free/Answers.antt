@@ -2,9 +2,9 @@ use Rattle.std.proofs.Common.{◌≡◌, List, ℕ, ℤ, ◌++◌, ◌∙◌, ar
 use Rattle.std.proofs.lemmas.Int.{ints}
 use Rattle.std.specs.Prelude.{codes}
 use Rattle.std.specs.Fmt.{decimal, signed_decimal}
-use Rattle.report.specs.Lines.{line}
 use Rattle.report.proofs.PartsText.{proved_lines}
 use Rattle.report.proofs.reports.deadlock_free.Goals as goal
+use Rattle.csp_base.specs.Texts.{line}
 
 pub returns : goal.returns
 returns c =

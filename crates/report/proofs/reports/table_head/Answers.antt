@@ -1,9 +1,9 @@
 use Rattle.std.proofs.Common.{ℕ, ◌++◌, ◌∙◌}
 use Rattle.std.specs.Prelude.{codes}
 use Rattle.std.specs.Fmt.{decimal}
-use Rattle.report.specs.Lines.{line}
 use Rattle.report.proofs.PartsText.{one_more}
 use Rattle.report.proofs.reports.table_head.Goals as goal
+use Rattle.csp_base.specs.Texts.{line}
 
 pub returns : goal.returns
 returns c =

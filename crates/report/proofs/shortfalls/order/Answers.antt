@@ -1,8 +1,9 @@
 use Rattle.std.proofs.Common.{◌++◌, ◌∙◌, ap}
 use Rattle.std.specs.Prelude.{codes}
 use Rattle.std.specs.Fmt.{decimal}
-use Rattle.report.specs.Lines.{line, trace_text}
+use Rattle.report.specs.Lines.{trace_text}
 use Rattle.report.proofs.shortfalls.order.Goals as goal
+use Rattle.csp_base.specs.Texts.{line}
 
 pub returns : goal.returns
 returns c =

@@ -2,10 +2,11 @@ use Rattle.std.proofs.Common.{◌∙◌, ℕ, ◌∷◌, List, [], map, pos, ap,
 use Rattle.std.specs.Prelude.{slice_index}
 use Rattle.std.proofs.lemmas.List.{map-append}
 use Rattle.rule_rankings.specs.CyclicRanks.{AreNodeRanks, IsRank}
-use Rattle.rule_rankings.specs.Rows.{AreEach, no_node}
+use Rattle.rule_rankings.specs.Rows.{AreEach}
 use Rattle.rule_rankings.proofs.RowsBelow.{below_more}
 use Rattle.rule_rankings.proofs.cyclic.rank_rows.Goals as goal
 use Rattle.csp_base.proofs.Results.{was_made}
+use Rattle.csp_tables.specs.Table.{no_node}
 
 pub loop-node-preserved : goal.loop-node-preserved
 loop-node-preserved c =

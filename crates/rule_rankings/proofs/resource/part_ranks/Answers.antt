@@ -1,8 +1,8 @@
 use Rattle.std.proofs.Common.{◌∙◌, List, [], map, ap, sym, subst}
-use Rattle.csp_tables.specs.Table.{Node}
+use Rattle.csp_tables.specs.Table.{Node, no_node}
 use Rattle.csp_tables.specs.Part.{Part}
 use Rattle.rule_rankings.specs.ResourceRanks.{AreNodeRanks, ArePartRanks, number_by}
-use Rattle.rule_rankings.specs.Rows.{AreEach, AreNoLaps, no_node}
+use Rattle.rule_rankings.specs.Rows.{AreEach, AreNoLaps}
 use Rattle.rule_rankings.proofs.resource.part_ranks.Goals as goal
 
 pub returns : goal.returns

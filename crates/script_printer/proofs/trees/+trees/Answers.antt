@@ -6,10 +6,11 @@ use Rattle.csp_text.specs.declared.token.Token.TheVariants.{Name, Symbol, Word}
 use Rattle.csp_text.specs.declared.token.Symbol.TheVariants.{Arrow, ExternalChoice, InternalChoice, Parallel, OpenRename, CloseRename, OpenProduct, CloseProduct, LeftArrow, DotDot, Dot, Minus, Question, Colon, At, OpenParen, CloseParen, OpenBrace, CloseBrace, OpenBracket, CloseBracket, Comma, Bar}
 use Rattle.csp_text.specs.declared.token.Word.TheVariants as word
 use Rattle.script_printer.specs.TokenText.{spaced}
-use Rattle.script_printer.specs.PrintedTree.{bound_in, conditions, dotted, event_tokens, field_tokens, gen_tokens, item_tokens, operand_tokens, operator_token, part_tokens, printed_tokens, renamed_tokens, separated, set_op_token}
+use Rattle.script_printer.specs.PrintedTree.{bound_in, conditions, dotted, event_tokens, field_tokens, gen_tokens, item_tokens, operand_tokens, operator_token, part_tokens, printed_tokens, renamed_tokens, separated}
 use Rattle.script_printer.proofs.PrintedEquations.{tokens-Binary, tokens-Call, tokens-Comp, tokens-Display, tokens-Dot, tokens-EachExternal, tokens-EachInternal, tokens-EachParallel, tokens-External, tokens-False, tokens-Guard, tokens-Hide, tokens-If, tokens-Internal, tokens-Name, tokens-Neg, tokens-Not, tokens-Num, tokens-Parallel, tokens-Prefix, tokens-Product, tokens-Range, tokens-Rename, tokens-Seq, tokens-SetOp, tokens-Skip, tokens-Stop, tokens-True, field-Dot, field-Output, field-Input, field-Input-from, gen-From, gen-Cond, event-is, part-is}
 use Rattle.script_printer.proofs.Written.{last, more, written_as, separated_begin, separated_step, separated_end, each_step, each_end, none_shown, some_shown}
 use Rattle.script_printer.proofs.trees.+trees.Goals as goal
+use Rattle.csp_text.specs.Written.{set_op_word}
 
 pub put_after-returns : goal.put_after-returns
 put_after-returns t c =
@@ -266,8 +267,8 @@ put_production-returns t c =
 pub put_set_operation-returns : goal.put_set_operation-returns
 put_set_operation-returns t c =
     written_as c.args.text.now c.put_symbol.new.text _ _ c.put_symbol.result
-    (tokens-SetOp c.args.op c.args.a.now c.args.b.now ∙ append_assoc (set_op_token c.args.op ∷ Symbol OpenParen ∷ item_tokens c.args.a.now) (Symbol Comma ∷ item_tokens c.args.b.now) (Symbol CloseParen ∷ []))
-    (last c.args.text.now c.put_set_op.new.text c.put_symbol.new.text (set_op_token c.args.op ∷ []) ((Symbol OpenParen ∷ item_tokens c.args.a.now) ++ ((Symbol Comma ∷ item_tokens c.args.b.now) ++ (Symbol CloseParen ∷ []))) c.put_symbol.result
+    (tokens-SetOp c.args.op c.args.a.now c.args.b.now ∙ append_assoc (set_op_word c.args.op ∷ Symbol OpenParen ∷ item_tokens c.args.a.now) (Symbol Comma ∷ item_tokens c.args.b.now) (Symbol CloseParen ∷ []))
+    (last c.args.text.now c.put_set_op.new.text c.put_symbol.new.text (set_op_word c.args.op ∷ []) ((Symbol OpenParen ∷ item_tokens c.args.a.now) ++ ((Symbol Comma ∷ item_tokens c.args.b.now) ++ (Symbol CloseParen ∷ []))) c.put_symbol.result
     c.in_ok-put_set_op.ensures (last c.put_set_op.new.text c.put_item_after.new.text c.put_symbol.new.text (Symbol OpenParen ∷ item_tokens c.args.a.now) ((Symbol Comma ∷ item_tokens c.args.b.now) ++ (Symbol CloseParen ∷ [])) c.put_symbol.result
     c.in_ok-put_item_after.ensures (last c.put_item_after.new.text c.put_item_after-2.new.text c.put_symbol.new.text (Symbol Comma ∷ item_tokens c.args.b.now) (Symbol CloseParen ∷ []) c.put_symbol.result
     c.in_ok-put_item_after-2.ensures c.put_symbol.ensures)))

@@ -1,0 +1,20 @@
+-- What is said of lists: the greatest number and the sum, what stands in a list, and that nothing stands in it twice.
+use Rattle.std.specs.Prelude.{◌≡◌, ℕ, ◌+◌, max, Some, List, [], ◌∷◌, slice_get}
+
+-- the greatest number of a list, 0 for none
+abbrev pub greatest : List ℕ → ℕ
+greatest [] = 0
+greatest (n ∷ ns) = max n (greatest ns)
+
+-- the sum of a list
+abbrev pub total : List ℕ → ℕ
+total [] = 0
+total (n ∷ ns) = n + total ns
+
+-- x stands in the list
+abbrev pub StandsIn : {X : Type 0} → List X → X → Type 0
+StandsIn xs x = (k : ℕ) × (slice_get xs k ≡ Some x)
+
+-- no value stands twice in the list
+abbrev pub EachOnce : {X : Type 0} → List X → Type 0
+EachOnce {X} xs = (j k : ℕ) (x : X) → slice_get xs j ≡ Some x → slice_get xs k ≡ Some x → j ≡ k
