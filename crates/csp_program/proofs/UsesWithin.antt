@@ -21,10 +21,10 @@ use Rattle.csp_program.specs.declared.programs.Content.{Content}
 use Rattle.csp_program.specs.declared.programs.Def.{Def}
 use Rattle.csp_base.proofs.Booleans.{is_or_first, is_or_second}
 
-abbrev gen_uses : Gen → Names
+abbrev pub gen_uses : Gen → Names
 gen_uses = fold-Gen Names Names Names expr_uses_of_layer gen_uses_of_layer part_uses_of_layer
 
-abbrev part_uses : EventPart → Names
+abbrev pub part_uses : EventPart → Names
 part_uses = fold-EventPart Names Names Names expr_uses_of_layer gen_uses_of_layer part_uses_of_layer
 
 abbrev called : List Meaning → (List Value → Outcome Value) → Meaning

@@ -1,7 +1,7 @@
 -- The steps of an operand of a choice.
 use Rattle.std.proofs.Common.{◌≡◌, ℕ, ◌+◌, ◌<◌, ◌≤◌, true, nat_lt, zero, suc, Ok, Err, Some, List, [], ◌∷◌, ◌++◌, map, length, get_or, slice_get, slice_set, take, drop, refl, ap, sym, ◌∙◌, subst, arith}
 use Rattle.std.proofs.lemmas.Bool.{lt-ltb, and_from}
-use Rattle.std.proofs.lemmas.List.{get_or-map, length-map, map-set}
+use Rattle.std.proofs.lemmas.List.{get_or-map, length-map, map-set, take_all}
 use Rattle.std.proofs.lemmas.Option.{slice_get_within}
 use Rattle.std.specs.Cmp.{first_so, second_so}
 use Rattle.csp_program.specs.Depth.{proc_depth}
@@ -21,7 +21,7 @@ use Rattle.pool_parts.specs.declared.place.ProcId.{ProcId}
 use Rattle.csp_steps.specs.Computed.{all_within, AreAt, IsMove}
 use Rattle.csp_steps.specs.Listed.{seen}
 use Rattle.csp_steps.specs.declared.step.StepTo.{StepTo}
-use Rattle.step_values.proofs.Lists.{left, left_fault, left_next, taken_whole}
+use Rattle.step_values.proofs.Lists.{left, left_fault, left_next}
 use Rattle.csp_steps.proofs.Places.{at_stay, below_at, front_both, one_place, seen_stay, still_within, tree_stays, trees_stay}
 use Rattle.csp_base.proofs.Lists.{take_read, map_push}
 use Rattle.csp_base.specs.Lists.{greatest}
@@ -43,7 +43,7 @@ module _ (old mid new : List Proc) (f : IsFront old mid) (g : IsFront mid new) (
       (subst (λ (ts : List Proc). AreAt new (ids ++ made ∷ []) ts) (sym all) (one_place new ids (each_put x (take i atoms) q) made (proc_with x (One a) q) (at_stay mid new g ids (each_put x (take i atoms) q) h) here))
 
 pub all_put : (new : List Proc) (x : ℕ) (atoms : List Atom) (q : Proc) (ids : List ProcId) (i : ℕ) → length atoms ≤ i → AreAt new ids (each_put x (take i atoms) q) → AreAt new ids (each_put x atoms q)
-all_put new x atoms q ids i past h = subst (λ (xs : List Atom). AreAt new ids (each_put x xs q)) (taken_whole atoms i past) h
+all_put new x atoms q ids i past h = subst (λ (xs : List Atom). AreAt new ids (each_put x xs q)) (take_all i atoms past) h
 
 -- a step to a place at which the process stands
 pub as_move : (trees : List Proc) (s : StepTo) (m : Move) → s.label ≡ m.0 → slice_get trees s.to.0 ≡ Some m.1 → IsMove trees s m

@@ -16,9 +16,10 @@ use Rattle.csp_steps.specs.Computed.{AreMoves, GivesLook, GivesMoves, GivesPlace
 use Rattle.csp_steps.specs.Listed.{FaultIs, seen}
 use Rattle.csp_steps.specs.declared.look.Look.{Look}
 use Rattle.csp_steps.specs.declared.step.StepTo.{StepTo}
-use Rattle.step_values.proofs.Lists.{joined_push, taken_whole}
+use Rattle.step_values.proofs.Lists.{joined_push}
 use Rattle.csp_steps.proofs.Places.{moves_stay, one_move}
 use Rattle.csp_base.proofs.Lists.{take_read, map_push}
+use Rattle.std.proofs.lemmas.List.{take_all}
 
 -- steps that are these moves, where the outcome is the moves
 pub listing : (trees : List Proc) (steps : List StepTo) (moves : List Move) (o : Outcome (List Move)) → o ≡ Ok moves → AreMoves trees steps moves → IsListing trees steps o
@@ -122,8 +123,8 @@ module _ (old mid new : List Proc) (front : IsFront mid new) (below : List StepT
 -- all of the steps
 pub whole_moves : (old new : List Proc) (f : Move → Move) (before : List Move) (below steps : List StepTo) (i : ℕ) → length below ≤ i
     → AreMoves new steps (before ++ map f (map (seen old) (take i below))) → AreMoves new steps (before ++ map f (map (seen old) below))
-whole_moves old new f before below steps i past h = subst (λ xs. AreMoves new steps (before ++ map f (map (seen old) xs))) (taken_whole below i past) h
+whole_moves old new f before below steps i past h = subst (λ xs. AreMoves new steps (before ++ map f (map (seen old) xs))) (take_all i below past) h
 
 pub whole_joined : (old new : List Proc) (f : Move → List Move) (below steps : List StepTo) (i : ℕ) → length below ≤ i
     → AreMoves new steps (joined (map f (map (seen old) (take i below)))) → AreMoves new steps (joined (map f (map (seen old) below)))
-whole_joined old new f below steps i past h = subst (λ xs. AreMoves new steps (joined (map f (map (seen old) xs)))) (taken_whole below i past) h
+whole_joined old new f below steps i past h = subst (λ xs. AreMoves new steps (joined (map f (map (seen old) xs)))) (take_all i below past) h

@@ -16,10 +16,10 @@ use Rattle.csp_steps.specs.Listed.{AreStepsOf, seen}
 use Rattle.csp_steps.specs.Once.{IsOnce}
 use Rattle.csp_steps.specs.contracts.step.StepToEq.TheImpl.Laws.{laws-law}
 use Rattle.csp_steps.specs.declared.step.StepTo.{StepTo}
-use Rattle.step_values.proofs.Lists.{taken_whole}
 use Rattle.csp_steps.proofs.Places.{within_of}
 use Rattle.csp_base.proofs.Lists.{take_read}
 use Rattle.csp_base.specs.Lists.{StandsIn}
+use Rattle.std.proofs.lemmas.List.{take_all}
 
 -- what stands in a list with one more at its end
 stands_earlier : {X : Type 0} (y z x : X) (xs : List X) → StandsIn xs x ⊎ (y ≡ x) → StandsIn (z ∷ xs) x ⊎ (y ≡ x)
@@ -90,8 +90,8 @@ pub made_once : (xs numbered made : List StepTo) (i : ℕ) → length xs ≤ i �
     → IsDistinct eq_step numbered → made ≡ numbered → IsOnce xs made
 made_once xs numbered made i past kept only distinct e =
     subst (λ ys. IsOnce xs ys) (sym e) (record {
-      kept = λ x h. kept x (subst (λ ys. StandsIn ys x) (sym (taken_whole xs i past)) h);
-      only = λ x h. subst (λ ys. StandsIn ys x) (taken_whole xs i past) (only x h);
+      kept = λ x h. kept x (subst (λ ys. StandsIn ys x) (sym (take_all i xs past)) h);
+      only = λ x h. subst (λ ys. StandsIn ys x) (take_all i xs past) (only x h);
       once = step_once numbered distinct;
     })
 
