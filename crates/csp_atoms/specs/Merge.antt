@@ -1,5 +1,5 @@
 -- Two rising lists of atoms merged step by step: each step takes the least atom that is left from both.
-use Rattle.std.specs.Prelude.{Bool, ◌&&◌, ◌||◌, false, if◌then◌else◌, Option, Some, None, List, [], ◌∷◌, ◌++◌}
+use Rattle.std.specs.Prelude.{Bool, false, if◌then◌else◌, Option, Some, None, List, [], ◌∷◌, ◌++◌}
 use Rattle.csp_atoms.specs.Order.{less, same}
 use Rattle.csp_atoms.specs.Sets.{union_of, inter_of, diff_of}
 use Rattle.csp_atoms.specs.declared.atom.Atom.{Atom}
