@@ -8,20 +8,9 @@ ghost use Rattle.name_notes.specs.Heard.{again_heard, use_heard};
 use crate::bound::BoundNames;
 use crate::notes::Notes;
 use csp_base::{Name, NoMemory};
-use name_tables::Dictionary;
-use script_names::{Entity, Kind, Use};
+use name_tables::{Dictionary, Meanings};
+use script_names::{Entity, Use};
 use std::alloc::Global;
-
-/// What names stand for where nothing binds them.
-#[derive(Drop)]
-pub(crate) struct Meanings<'a> {
-    /// Where memory comes from.
-    pub(crate) alloc: Global,
-    /// What they are declared as.
-    pub(crate) names: &'a Dictionary,
-    /// What the definitions are.
-    pub(crate) kinds: &'a [Kind],
-}
 
 /// Notes the use of a name.
 pub(crate) fn note_name(

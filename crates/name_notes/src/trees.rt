@@ -6,12 +6,11 @@ ghost use Rattle.script_names.specs.Says.{tree_says};
 ghost use Rattle.name_notes.specs.Heard.{heard_all};
 
 use crate::bound::{BoundNames, bind_all};
-use crate::named::Meanings;
 use crate::notes::Notes;
 use crate::walk::walk;
 use csp_base::{Name, NoMemory};
 use csp_text::Tree;
-use name_tables::Dictionary;
+use name_tables::{Dictionary, Meanings};
 use script_names::{Kind, Place};
 use std::alloc::Global;
 

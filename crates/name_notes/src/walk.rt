@@ -10,11 +10,12 @@ ghost use Rattle.name_notes.specs.Told.{field_names, field_told, fields_told, ge
 
 use crate::bound::{BoundNames, bind_gens};
 use crate::inner::{Places, data_in, places_in};
-use crate::named::{Meanings, note_bound, note_name};
+use crate::named::{note_bound, note_name};
 use crate::notes::Notes;
 use containers::{Boxed, Items};
 use csp_base::{Name, NoMemory};
 use csp_text::{EventTree, FieldTree, GenTree, PartTree, Tree};
+use name_tables::Meanings;
 use script_names::{Class, Place, Use};
 
 /// Notes what a tree says at a place, under the names that are bound there.

@@ -4,11 +4,13 @@
 pub mod declared;
 pub mod dictionary;
 pub mod ends;
+pub mod meanings;
 pub mod name_set;
 mod numbers;
 pub mod scope;
 
 pub use declared::dictionary_of;
 pub use dictionary::Dictionary;
+pub use meanings::Meanings;
 pub use name_set::NameSet;
 pub use scope::Scope;

@@ -3,21 +3,8 @@
 ghost use Rattle.std.specs.Prelude.{◌≡◌, ◌+◌, take, IfOk, OnOk};
 
 use csp_base::NoMemory;
+use name_tables::Scope;
 use name_tables::declared::next;
-use name_tables::{Dictionary, Scope};
-use script_names::Kind;
-use std::alloc::Global;
-
-/// What names stand for where nothing binds them.
-#[derive(Drop)]
-pub(crate) struct Meanings<'a> {
-    /// Where memory comes from.
-    pub(crate) alloc: Global,
-    /// What they are declared as.
-    pub(crate) names: &'a Dictionary,
-    /// What the definitions are.
-    pub(crate) kinds: &'a [Kind],
-}
 
 /// The bound names at a place, and the number of the next binding token.
 #[derive(Drop)]

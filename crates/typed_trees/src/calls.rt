@@ -5,7 +5,7 @@ ghost use Rattle.script_names.specs.declared.kinds.Kind.{Kind};
 ghost use Rattle.script_names.specs.Names.{Entities, first_of};
 ghost use Rattle.script_names.specs.Typed.{all_bind, exprs, reading};
 
-use crate::binders::{Binders, Meanings};
+use crate::binders::Binders;
 use crate::counts::{after, count_tree};
 use crate::expressions::{expression, expressions};
 use crate::networks::network;
@@ -14,7 +14,7 @@ use containers::Items;
 use csp_base::NoMemory;
 use csp_program::{Expr, Net, Proc};
 use csp_text::Tree;
-use name_tables::{Dictionary, Scope};
+use name_tables::{Dictionary, Meanings, Scope};
 use script_names::Kind;
 use std::alloc::Global;
 use std::mem::replace;

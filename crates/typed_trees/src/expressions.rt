@@ -7,13 +7,14 @@ ghost use Rattle.typed_trees.specs.Tokens.{all_tokens, gen_tokens, gens_tokens, 
 ghost use Rattle.typed_trees.specs.Words.{expr_of, exprs_of, gen_of, gen_scope, gens_of, gens_scope, part_of, parts_of};
 ghost use Rattle.typed_trees.specs.Scopes.{Keeps};
 
-use crate::binders::{Binders, Meanings, leave, take_number};
+use crate::binders::{Binders, leave, take_number};
 use crate::counts::{after, count_parts, count_tree, count_trees};
 use crate::names::{channel_number, definition_number, name};
 use containers::{Boxed, Items};
 use csp_base::{Name, NoMemory};
 use csp_program::{EventPart, Expr, Gen};
 use csp_text::{GenTree, PartTree, Tree};
+use name_tables::Meanings;
 
 // What stands for a process where an expression is needed, which it never is in a script without faults.
 fn no_expression(binders: &mut Binders, tree: &Tree) -> Result<Expr, NoMemory>

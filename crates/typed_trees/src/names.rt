@@ -5,11 +5,10 @@ ghost use Rattle.script_names.specs.Names.{first_of};
 ghost use Rattle.script_names.specs.Typed.{number_of};
 ghost use Rattle.script_names.specs.Typed as typed;
 
-use crate::binders::Meanings;
 use containers::Items;
 use csp_base::Name;
 use csp_program::{Expr, Head};
-use name_tables::Scope;
+use name_tables::{Meanings, Scope};
 use script_names::Entity;
 use std::alloc::Global;
 

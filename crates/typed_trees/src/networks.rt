@@ -8,7 +8,7 @@ ghost use Rattle.script_names.specs.Typed as typed;
 ghost use Rattle.typed_trees.specs.Tokens.{all_tokens, tokens};
 ghost use Rattle.typed_trees.specs.Words.{expr_of, exprs_of, net_of, networked_in, proc_of};
 
-use crate::binders::{Binders, Meanings, leave};
+use crate::binders::{Binders, leave};
 use crate::expressions::{bind_over, boxed as boxed_expr, expressions, two};
 use crate::names::definition_number;
 use crate::processes::process;
@@ -16,8 +16,8 @@ use containers::{Boxed, Items};
 use csp_base::{Name, NoMemory};
 use csp_program::{Expr, Net};
 use csp_text::Tree;
-use name_tables::Scope;
 use name_tables::ends::sense_in;
+use name_tables::{Meanings, Scope};
 use script_names::{Entity, Kind, Sense};
 
 // Whether what a name stands for is a network definition.

@@ -6,7 +6,7 @@ ghost use Rattle.typed_trees.specs.Scopes.{Keeps};
 ghost use Rattle.typed_trees.specs.Tokens.{all_tokens, field_tokens, fields_tokens, gens_tokens, pairs_tokens, part_tokens, set_tokens, tokens};
 ghost use Rattle.typed_trees.specs.Words.{expr_of, field_of, field_scope, fields_of, fields_scope, gens_of, gens_scope, pairs_of, part_of, proc_of, procs_of, set_of};
 
-use crate::binders::{Binders, Meanings, leave, take_number};
+use crate::binders::{Binders, leave, take_number};
 use crate::counts::{after, count_pairs, count_tree};
 use crate::expressions::{
     bind_over, boxed as boxed_expr, expression, expressions, front, generators_after,
@@ -16,6 +16,7 @@ use containers::{Boxed, Items};
 use csp_base::{Name, NoMemory};
 use csp_program::{EventPart, Expr, Field, Gen, Proc};
 use csp_text::{EventTree, FieldTree, GenTree, PartTree, Tree};
+use name_tables::Meanings;
 
 // The set of an input, where it has one.
 fn input_set(
