@@ -51,7 +51,6 @@ missing (y ∷ ys) N h = elim (cases_Bool (has N y)) [
   | inr lacks ↦ (y, first y ys, lacks)
 ]
   where
-
     first : (z : ℕ) (zs : List ℕ) → has (z ∷ zs) z ≡ true
     first z zs = rw (eq-eqb z z refl) refl
 
