@@ -15,10 +15,10 @@ use csp_program::{Content, Expr};
 use csp_text::Decl;
 use csp_values::EvalFault;
 use event_tables::{SharedSets, event_count, field_sets, fill_events};
-use name_tables::Dictionary;
+use name_tables::Meanings;
 use name_tables::declared::{next, short};
 use script_contents::types_of;
-use script_names::{Kind, ResolveFault};
+use script_names::ResolveFault;
 use std::alloc::Global;
 
 // The greatest number of events.
@@ -26,18 +26,16 @@ const MOST_EVENTS: u64 = 16_384;
 
 /// The field sets of the channels of declarations. A type that has no value that fits is told in its declaration.
 pub fn channel_sets(
-    alloc: Global,
+    meanings: &Meanings<'_>,
     content: &Content,
-    names: &Dictionary,
-    kinds: &[Kind],
     decls: &[Decl],
 ) -> Result<Vec<SharedSets>, ResolveFault>
-    ensures { Answers (λ shared. spread shared.items) result (meant.channel_sets content.now (types_read (first_of names.now) kinds.now) 0 decls.now) }
+    ensures { Answers (λ shared. spread shared.items) result (meant.channel_sets content.now (types_read (first_of meanings.now.names.now) meanings.now.kinds.now) 0 decls.now) }
 {
-    let mut shared = Vec::new(alloc);
+    let mut shared = Vec::new(meanings.alloc);
     let mut i: u32 = 0;
     for decl in decls {
-        add_sets(alloc, content, names, kinds, &mut shared, i, decl)?;
+        add_sets(meanings, content, &mut shared, i, decl)?;
         i = next(i)?;
     }
     Ok(shared)
@@ -45,20 +43,18 @@ pub fn channel_sets(
 
 // Adds the field sets of the channels of the declaration with the number `i`.
 fn add_sets(
-    alloc: Global,
+    meanings: &Meanings<'_>,
     content: &Content,
-    names: &Dictionary,
-    kinds: &[Kind],
     shared: &mut Vec<SharedSets>,
     i: u32,
     decl: &Decl,
 ) -> Result<(), ResolveFault>
-    ensures { Grows result shared.old.items shared.new.items (sets_of content.now (types_read (first_of names.now) kinds.now) i decl.now) }
+    ensures { Grows result shared.old.items shared.new.items (sets_of content.now (types_read (first_of meanings.now.names.now) meanings.now.kinds.now) i decl.now) }
 {
     match decl {
         Decl::Channel(xs, types) => {
-            let types = types_of(alloc, names, kinds, types.as_slice())?;
-            let one = shared_in(alloc, content, i, xs.len(), types.as_slice())?;
+            let types = types_of(meanings, types.as_slice())?;
+            let one = shared_in(meanings.alloc, content, i, xs.len(), types.as_slice())?;
             push_shared(shared, one)?;
             Ok(())
         }

@@ -21,10 +21,10 @@ use csp_text::{Decl, Script, Tree};
 use definition_kinds::kinds_of;
 use name_faults::name_fault;
 use name_tables::declared::short;
-use name_tables::{Dictionary, dictionary_of};
+use name_tables::{Dictionary, Meanings, dictionary_of};
 use resolved_laws::programs_are_in_order;
 use script_contents::plain_content;
-use script_names::{Kind, ResolveFault};
+use script_names::ResolveFault;
 use std::alloc::Global;
 
 // The program on the heap, where it ends in a function of its own.
@@ -54,29 +54,29 @@ fn content_of(alloc: Global, script: &Script, names: &Dictionary) -> Result<Cont
     programs_are_in_order();
     let decls = script.decls.as_slice();
     let kinds = kinds_of(alloc, decls, names)?;
-    let content = resolved(alloc, decls, names, kinds.as_slice())?;
+    let meanings = Meanings {
+        alloc,
+        names,
+        kinds: kinds.as_slice(),
+    };
+    let content = resolved(&meanings, decls)?;
     Ok(content)
 }
 
-// What the program of declarations holds whose definitions are of these kinds.
-fn resolved(
-    alloc: Global,
-    decls: &[Decl],
-    names: &Dictionary,
-    kinds: &[Kind],
-) -> Result<Content, ResolveFault>
-    requires names { SameFirsts names.now (declared decls.now) }
-    ensures answer { Answers (λ (p : Content). p) result (meant.resolved decls.now kinds.now) }
-    ensures few { OnOk result (HasFew (contents.plain_content decls.now kinds.now)) }
+// What the program of declarations holds whose names and definitions mean what `meanings` says.
+fn resolved(meanings: &Meanings<'_>, decls: &[Decl]) -> Result<Content, ResolveFault>
+    requires names { SameFirsts meanings.now.names.now (declared decls.now) }
+    ensures answer { Answers (λ (p : Content). p) result (meant.resolved decls.now meanings.now.kinds.now) }
+    ensures few { OnOk result (HasFew (contents.plain_content decls.now meanings.now.kinds.now)) }
 {
     let Some(root) = first_assertion(decls) else {
         return Err(ResolveFault::NoAssert);
     };
-    match name_fault(alloc, decls, names, kinds)? {
+    match name_fault(meanings, decls)? {
         Some(fault) => Err(fault),
         None => {
-            let content = plain_content(alloc, decls, names, kinds, root)?;
-            with_events(alloc, decls, names, kinds, content)
+            let content = plain_content(meanings, decls, root)?;
+            with_events(meanings, decls, content)
         }
     }
 }
@@ -95,17 +95,15 @@ fn first_assertion(decls: &[Decl]) -> Option<&Tree>
 
 // What a program holds, with the field sets of its channels and its event table.
 fn with_events(
-    alloc: Global,
+    meanings: &Meanings<'_>,
     decls: &[Decl],
-    names: &Dictionary,
-    kinds: &[Kind],
     mut content: Content,
 ) -> Result<Content, ResolveFault>
     ensures answer { Answers (λ (p : Content). p) result
-        (and_next (meant.channel_sets content (types_read (first_of names.now) kinds.now) 0 decls.now) (λ all. meant.with_table content all)) }
+        (and_next (meant.channel_sets content (types_read (first_of meanings.now.names.now) meanings.now.kinds.now) 0 decls.now) (λ all. meant.with_table content all)) }
     ensures few { OnOk result (HasFew content) }
 {
-    match put_events(alloc, decls, names, kinds, &mut content) {
+    match put_events(meanings, decls, &mut content) {
         Ok(()) => Ok(content),
         Err(fault) => {
             let_go(content);
@@ -116,19 +114,17 @@ fn with_events(
 
 // Gives the channels of a program their field sets, and makes its event table.
 fn put_events(
-    alloc: Global,
+    meanings: &Meanings<'_>,
     decls: &[Decl],
-    names: &Dictionary,
-    kinds: &[Kind],
     content: &mut Content,
 ) -> Result<(), ResolveFault>
     ensures answer { Answers (λ (done : Unit {0}). content.new) result
-        (and_next (meant.channel_sets content.old (types_read (first_of names.now) kinds.now) 0 decls.now) (λ all. meant.with_table content.old all)) }
+        (and_next (meant.channel_sets content.old (types_read (first_of meanings.now.names.now) meanings.now.kinds.now) 0 decls.now) (λ all. meant.with_table content.old all)) }
     ensures few { OnOk result (HasFew content.old) }
 {
     expect_few(content)?;
-    let shared = channel_sets(alloc, content, names, kinds, decls)?;
-    fill_table(alloc, content, shared.as_slice())?;
+    let shared = channel_sets(meanings, content, decls)?;
+    fill_table(meanings.alloc, content, shared.as_slice())?;
     Ok(())
 }
 

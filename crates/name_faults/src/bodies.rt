@@ -12,69 +12,53 @@ use containers::Items;
 use csp_base::{Name, NoMemory};
 use csp_text::{Decl, Tree};
 use name_notes::{Body, Notes, note_tree};
-use name_tables::Dictionary;
-use script_names::{Class, Kind, Place};
-use std::alloc::Global;
+use name_tables::Meanings;
+use script_names::{Class, Place};
 
 /// How deep the body of each definition reaches, as far as it is expanded where the definition is used.
-pub(crate) fn bodies_of(
-    alloc: Global,
-    names: &Dictionary,
-    kinds: &[Kind],
-    decls: &[Decl],
-) -> Result<Items<Body>, NoMemory>
-    ensures { IfOk result (λ bodies. bodies ≡ map found.body_of (bodies_from (first_of names.now) kinds.now 0 decls.now)) }
+pub(crate) fn bodies_of(meanings: &Meanings<'_>, decls: &[Decl]) -> Result<Items<Body>, NoMemory>
+    ensures { IfOk result (λ bodies. bodies ≡ map found.body_of (bodies_from (first_of meanings.now.names.now) meanings.now.kinds.now 0 decls.now)) }
 {
-    let mut bodies = Items::new(alloc);
+    let mut bodies = Items::new(meanings.alloc);
     for decl in decls {
-        add_body(alloc, names, kinds, &mut bodies, decl)?;
+        add_body(meanings, &mut bodies, decl)?;
     }
     Ok(bodies)
 }
 
 // Adds how deep the body of a definition reaches.
-fn add_body(
-    alloc: Global,
-    names: &Dictionary,
-    kinds: &[Kind],
-    bodies: &mut Items<Body>,
-    decl: &Decl,
-) -> Result<(), NoMemory>
-    ensures { OnOk result (bodies.new ≡ bodies.old ++ map found.body_of (bodies_from (first_of names.now) kinds.now (length bodies.old) (decl.now ∷ []))) }
+fn add_body(meanings: &Meanings<'_>, bodies: &mut Items<Body>, decl: &Decl) -> Result<(), NoMemory>
+    ensures { OnOk result (bodies.new ≡ bodies.old ++ map found.body_of (bodies_from (first_of meanings.now.names.now) meanings.now.kinds.now (length bodies.old) (decl.now ∷ []))) }
 {
     match decl {
         Decl::Define(_, params, tree) => {
             let d = bodies.len();
-            bodies.push_made(expanded_body(alloc, names, kinds, d, params.as_slice(), tree))
+            bodies.push_made(expanded_body(meanings, d, params.as_slice(), tree))
         }
         Decl::Nametype(_, tree) => {
-            bodies.push_made(body_at(alloc, names, kinds, &[], places::data_place(), tree))
+            bodies.push_made(body_at(meanings, &[], places::data_place(), tree))
         }
-        Decl::Datatype(_, _) => bodies.push(Notes::new(alloc).into_body()),
+        Decl::Datatype(_, _) => bodies.push(Notes::new(meanings.alloc).into_body()),
         Decl::Channel(_, _) | Decl::Assert(_) | Decl::Roles(_) | Decl::Resource(_) => Ok(()),
     }
 }
 
 // How deep the body of a definition reaches. That of a process is not expanded.
 fn expanded_body(
-    alloc: Global,
-    names: &Dictionary,
-    kinds: &[Kind],
+    meanings: &Meanings<'_>,
     d: usize,
     params: &[Name],
     tree: &Tree,
 ) -> Result<Body, NoMemory>
-    ensures { IfOk result (λ body. body ≡ found.body_of (expanded_body (first_of names.now) kinds.now (kind_class (slice_get kinds.now d)) (tree_says (first_of names.now) tree.now (body_place (slice_get kinds.now d)) params.now))) }
+    ensures { IfOk result (λ body. body ≡ found.body_of (expanded_body (first_of meanings.now.names.now) meanings.now.kinds.now (kind_class (slice_get meanings.now.kinds.now d)) (tree_says (first_of meanings.now.names.now) tree.now (body_place (slice_get meanings.now.kinds.now d)) params.now))) }
 {
-    match places::class_at(kinds, d) {
-        Class::Process => Ok(Notes::new(alloc).into_body()),
+    match places::class_at(meanings.kinds, d) {
+        Class::Process => Ok(Notes::new(meanings.alloc).into_body()),
         Class::Data | Class::Unknown => {
             body_at(
-                alloc,
-                names,
-                kinds,
+                meanings,
                 params,
-                places::body_place(kinds, d),
+                places::body_place(meanings.kinds, d),
                 tree,
             )
         }
@@ -83,17 +67,15 @@ fn expanded_body(
 
 // How deep a tree reaches.
 fn body_at(
-    alloc: Global,
-    names: &Dictionary,
-    kinds: &[Kind],
+    meanings: &Meanings<'_>,
     params: &[Name],
     place: Place,
     tree: &Tree,
 ) -> Result<Body, NoMemory>
-    ensures { IfOk result (λ body. body ≡ found.body_of (tree_says (first_of names.now) tree.now place params.now)) }
+    ensures { IfOk result (λ body. body ≡ found.body_of (tree_says (first_of meanings.now.names.now) tree.now place params.now)) }
 {
-    let mut notes = Notes::new(alloc);
-    match note_tree(alloc, names, kinds, &mut notes, params, place, tree) {
+    let mut notes = Notes::new(meanings.alloc);
+    match note_tree(meanings, &mut notes, params, place, tree) {
         Ok(()) => Ok(notes.into_body()),
         Err(fault) => {
             drop(notes);

@@ -15,20 +15,18 @@ use crate::places;
 use csp_base::{Name, NoMemory};
 use csp_text::{Decl, ResourceNames, RolesNames, Tree};
 use name_notes::{Notes, note_bound, note_tree};
-use name_tables::{Dictionary, NameSet};
-use script_names::{Kind, Place, Sense, Use};
+use name_tables::{Dictionary, Meanings, NameSet};
+use script_names::{Place, Sense, Use};
 use std::alloc::Global;
 
 /// Notes what a declaration says that comes after those that are known.
 pub(crate) fn note_decl(
-    alloc: Global,
-    names: &Dictionary,
-    kinds: &[Kind],
+    meanings: &Meanings<'_>,
     known: &mut Known,
     notes: &mut Notes,
     decl: &Decl,
 ) -> Result<(), NoMemory>
-    ensures notes { OnOk result (notes.new ≡ heard_all (first_of names.now) kinds.now notes.old (says_after (first_of names.now) kinds.now known.old decl.now)) }
+    ensures notes { OnOk result (notes.new ≡ heard_all (first_of meanings.now.names.now) meanings.now.kinds.now notes.old (says_after (first_of meanings.now.names.now) meanings.now.kinds.now known.old decl.now)) }
     ensures declared { OnOk result (SameNames known.new.declared (known.old.declared ++ names_in decl.now)) }
     ensures roles { OnOk result (SameNames known.new.roles (known.old.roles ++ with_roles decl.now)) }
     ensures uses { OnOk result (SameNames known.new.uses (known.old.uses ++ with_uses decl.now)) }
@@ -38,25 +36,25 @@ pub(crate) fn note_decl(
     match decl {
         Decl::Channel(xs, types) => {
             note_channel(
-                alloc,
-                names,
-                kinds,
+                meanings,
                 notes,
                 &mut known.declared,
                 xs.as_slice(),
                 types.as_slice(),
             )
         }
-        Decl::Datatype(x, ks) => note_datatype(alloc, notes, &mut known.declared, x, ks.as_slice()),
-        Decl::Nametype(x, tree) => {
-            note_nametype(alloc, names, kinds, notes, &mut known.declared, x, tree)
-        }
+        Decl::Datatype(x, ks) => note_datatype(
+            meanings.alloc,
+            notes,
+            &mut known.declared,
+            x,
+            ks.as_slice(),
+        ),
+        Decl::Nametype(x, tree) => { note_nametype(meanings, notes, &mut known.declared, x, tree) }
         Decl::Define(x, params, tree) => {
-            let place = places::body_place(kinds, known.definitions as usize);
+            let place = places::body_place(meanings.kinds, known.definitions as usize);
             note_definition(
-                alloc,
-                names,
-                kinds,
+                meanings,
                 notes,
                 &mut known.declared,
                 place,
@@ -65,31 +63,25 @@ pub(crate) fn note_decl(
                 tree,
             )
         }
-        Decl::Assert(tree) => {
-            note_tree(alloc, names, kinds, notes, &[], places::root_place(), tree)
-        }
-        Decl::Roles(roles) => note_roles(alloc, names, kinds, notes, &mut known.roles, roles),
-        Decl::Resource(resource) => {
-            note_resource(alloc, names, kinds, notes, &mut known.uses, resource)
-        }
+        Decl::Assert(tree) => { note_tree(meanings, notes, &[], places::root_place(), tree) }
+        Decl::Roles(roles) => note_roles(meanings, notes, &mut known.roles, roles),
+        Decl::Resource(resource) => { note_resource(meanings, notes, &mut known.uses, resource) }
     }
 }
 
 // Notes the names and the types of channels.
 fn note_channel(
-    alloc: Global,
-    names: &Dictionary,
-    kinds: &[Kind],
+    meanings: &Meanings<'_>,
     notes: &mut Notes,
     declared: &mut NameSet,
     xs: &[Name],
     types: &[Tree],
 ) -> Result<(), NoMemory>
-    ensures notes { OnOk result (notes.new ≡ heard_all (first_of names.now) kinds.now (declared_heard declared.old notes.old xs.now) (types_say (first_of names.now) kinds.now types.now)) }
+    ensures notes { OnOk result (notes.new ≡ heard_all (first_of meanings.now.names.now) meanings.now.kinds.now (declared_heard declared.old notes.old xs.now) (types_say (first_of meanings.now.names.now) meanings.now.kinds.now types.now)) }
     ensures declared { OnOk result (SameNames declared.new (declared.old ++ xs.now)) }
 {
-    note_declared(alloc, notes, declared, xs)?;
-    note_types(alloc, names, kinds, notes, types)
+    note_declared(meanings.alloc, notes, declared, xs)?;
+    note_types(meanings, notes, types)
 }
 
 // Notes the names of a datatype and of its constants.
@@ -109,26 +101,22 @@ fn note_datatype(
 
 // Notes the name and the set of a nametype.
 fn note_nametype(
-    alloc: Global,
-    names: &Dictionary,
-    kinds: &[Kind],
+    meanings: &Meanings<'_>,
     notes: &mut Notes,
     declared: &mut NameSet,
     x: &Name,
     tree: &Tree,
 ) -> Result<(), NoMemory>
-    ensures notes { OnOk result (notes.new ≡ heard_all (first_of names.now) kinds.now (again_heard notes.old x.now (is_among declared.old x.now)) (tree_says (first_of names.now) tree.now data_place [])) }
+    ensures notes { OnOk result (notes.new ≡ heard_all (first_of meanings.now.names.now) meanings.now.kinds.now (again_heard notes.old x.now (is_among declared.old x.now)) (tree_says (first_of meanings.now.names.now) tree.now data_place [])) }
     ensures declared { OnOk result (SameNames declared.new (declared.old ++ x.now ∷ [])) }
 {
-    note_name(alloc, notes, declared, x)?;
-    note_tree(alloc, names, kinds, notes, &[], places::data_place(), tree)
+    note_name(meanings.alloc, notes, declared, x)?;
+    note_tree(meanings, notes, &[], places::data_place(), tree)
 }
 
 // Notes the name, the parameters and the body of a definition.
 fn note_definition(
-    alloc: Global,
-    names: &Dictionary,
-    kinds: &[Kind],
+    meanings: &Meanings<'_>,
     notes: &mut Notes,
     declared: &mut NameSet,
     place: Place,
@@ -136,53 +124,41 @@ fn note_definition(
     params: &[Name],
     tree: &Tree,
 ) -> Result<(), NoMemory>
-    ensures notes { OnOk result (notes.new ≡ heard_all (first_of names.now) kinds.now (parameters_heard (first_of names.now) [] (again_heard notes.old x.now (is_among declared.old x.now)) params.now) (tree_says (first_of names.now) tree.now place params.now)) }
+    ensures notes { OnOk result (notes.new ≡ heard_all (first_of meanings.now.names.now) meanings.now.kinds.now (parameters_heard (first_of meanings.now.names.now) [] (again_heard notes.old x.now (is_among declared.old x.now)) params.now) (tree_says (first_of meanings.now.names.now) tree.now place params.now)) }
     ensures declared { OnOk result (SameNames declared.new (declared.old ++ x.now ∷ [])) }
 {
-    note_name(alloc, notes, declared, x)?;
-    note_parameters(alloc, names, notes, params)?;
-    note_tree(alloc, names, kinds, notes, params, place, tree)
+    note_name(meanings.alloc, notes, declared, x)?;
+    note_parameters(meanings.alloc, meanings.names, notes, params)?;
+    note_tree(meanings, notes, params, place, tree)
 }
 
 // Notes an annotation of roles.
 fn note_roles(
-    alloc: Global,
-    names: &Dictionary,
-    kinds: &[Kind],
+    meanings: &Meanings<'_>,
     notes: &mut Notes,
     annotated: &mut NameSet,
     roles: &RolesNames,
 ) -> Result<(), NoMemory>
-    ensures notes { OnOk result (notes.new ≡ heard_all (first_of names.now) kinds.now notes.old (roles_said (first_of names.now) kinds.now annotated.old roles.now)) }
+    ensures notes { OnOk result (notes.new ≡ heard_all (first_of meanings.now.names.now) meanings.now.kinds.now notes.old (roles_said (first_of meanings.now.names.now) meanings.now.kinds.now annotated.old roles.now)) }
     ensures annotated { OnOk result (SameNames annotated.new (annotated.old ++ roles.now.process ∷ [])) }
 {
-    let sense = note_annotated(alloc, names, kinds, notes, annotated, &roles.process)?;
-    note_sets(alloc, names, kinds, notes, sense, &roles.creq, &roles.cack)?;
-    note_sets(alloc, names, kinds, notes, sense, &roles.sreq, &roles.sack)
+    let sense = note_annotated(meanings, notes, annotated, &roles.process)?;
+    note_sets(meanings, notes, sense, &roles.creq, &roles.cack)?;
+    note_sets(meanings, notes, sense, &roles.sreq, &roles.sack)
 }
 
 // Notes an annotation of a resource.
 fn note_resource(
-    alloc: Global,
-    names: &Dictionary,
-    kinds: &[Kind],
+    meanings: &Meanings<'_>,
     notes: &mut Notes,
     annotated: &mut NameSet,
     resource: &ResourceNames,
 ) -> Result<(), NoMemory>
-    ensures notes { OnOk result (notes.new ≡ heard_all (first_of names.now) kinds.now notes.old (resource_said (first_of names.now) kinds.now annotated.old resource.now)) }
+    ensures notes { OnOk result (notes.new ≡ heard_all (first_of meanings.now.names.now) meanings.now.kinds.now notes.old (resource_said (first_of meanings.now.names.now) meanings.now.kinds.now annotated.old resource.now)) }
     ensures annotated { OnOk result (SameNames annotated.new (annotated.old ++ resource.now.process ∷ [])) }
 {
-    let sense = note_annotated(alloc, names, kinds, notes, annotated, &resource.process)?;
-    note_sets(
-        alloc,
-        names,
-        kinds,
-        notes,
-        sense,
-        &resource.acquire,
-        &resource.release,
-    )
+    let sense = note_annotated(meanings, notes, annotated, &resource.process)?;
+    note_sets(meanings, notes, sense, &resource.acquire, &resource.release)
 }
 
 // Notes a name that is declared.
@@ -250,17 +226,11 @@ fn note_each(
 }
 
 // Notes the types of a channel.
-fn note_types(
-    alloc: Global,
-    names: &Dictionary,
-    kinds: &[Kind],
-    notes: &mut Notes,
-    types: &[Tree],
-) -> Result<(), NoMemory>
-    ensures { OnOk result (notes.new ≡ heard_all (first_of names.now) kinds.now notes.old (types_say (first_of names.now) kinds.now types.now)) }
+fn note_types(meanings: &Meanings<'_>, notes: &mut Notes, types: &[Tree]) -> Result<(), NoMemory>
+    ensures { OnOk result (notes.new ≡ heard_all (first_of meanings.now.names.now) meanings.now.kinds.now notes.old (types_say (first_of meanings.now.names.now) meanings.now.kinds.now types.now)) }
 {
     for tree in types {
-        note_tree(alloc, names, kinds, notes, &[], places::data_place(), tree)?;
+        note_tree(meanings, notes, &[], places::data_place(), tree)?;
     }
     Ok(())
 }
@@ -277,50 +247,50 @@ fn sense_of(names: &Dictionary, x: &Name) -> Sense
 
 // Notes the process of an annotation, and tells what it stands for.
 fn note_annotated(
-    alloc: Global,
-    names: &Dictionary,
-    kinds: &[Kind],
+    meanings: &Meanings<'_>,
     notes: &mut Notes,
     annotated: &mut NameSet,
     x: &Name,
 ) -> Result<Sense, NoMemory>
-    ensures sense { IfOk result (λ sense. sense ≡ sense_in (first_of names.now) [] x.now) }
-    ensures notes { OnOk result (notes.new ≡ use_heard kinds.now (again_heard notes.old x.now (is_among annotated.old x.now)) x.now (sense_in (first_of names.now) [] x.now) how.Annotated) }
+    ensures sense { IfOk result (λ sense. sense ≡ sense_in (first_of meanings.now.names.now) [] x.now) }
+    ensures notes { OnOk result (notes.new ≡ use_heard meanings.now.kinds.now (again_heard notes.old x.now (is_among annotated.old x.now)) x.now (sense_in (first_of meanings.now.names.now) [] x.now) how.Annotated) }
     ensures annotated { OnOk result (SameNames annotated.new (annotated.old ++ x.now ∷ [])) }
 {
-    note_name(alloc, notes, annotated, x)?;
-    let sense = sense_of(names, x);
-    notes.note_use(alloc, kinds, x, sense, Use::Annotated)?;
+    note_name(meanings.alloc, notes, annotated, x)?;
+    let sense = sense_of(meanings.names, x);
+    notes.note_use(meanings.alloc, meanings.kinds, x, sense, Use::Annotated)?;
     Ok(sense)
 }
 
 // Notes two sets of the annotation of a process that stands for this.
 fn note_sets(
-    alloc: Global,
-    names: &Dictionary,
-    kinds: &[Kind],
+    meanings: &Meanings<'_>,
     notes: &mut Notes,
     process: Sense,
     first: &Name,
     second: &Name,
 ) -> Result<(), NoMemory>
-    ensures { OnOk result (notes.new ≡ use_heard kinds.now (use_heard kinds.now notes.old first.now (sense_in (first_of names.now) [] first.now) (how.Annotates process)) second.now (sense_in (first_of names.now) [] second.now) (how.Annotates process)) }
+    ensures { OnOk result (notes.new ≡ use_heard meanings.now.kinds.now (use_heard meanings.now.kinds.now notes.old first.now (sense_in (first_of meanings.now.names.now) [] first.now) (how.Annotates process)) second.now (sense_in (first_of meanings.now.names.now) [] second.now) (how.Annotates process)) }
 {
-    note_set(alloc, names, kinds, notes, process, first)?;
-    note_set(alloc, names, kinds, notes, process, second)
+    note_set(meanings, notes, process, first)?;
+    note_set(meanings, notes, process, second)
 }
 
 // Notes a set of the annotation of a process that stands for this.
 fn note_set(
-    alloc: Global,
-    names: &Dictionary,
-    kinds: &[Kind],
+    meanings: &Meanings<'_>,
     notes: &mut Notes,
     process: Sense,
     x: &Name,
 ) -> Result<(), NoMemory>
-    ensures { OnOk result (notes.new ≡ use_heard kinds.now notes.old x.now (sense_in (first_of names.now) [] x.now) (how.Annotates process)) }
+    ensures { OnOk result (notes.new ≡ use_heard meanings.now.kinds.now notes.old x.now (sense_in (first_of meanings.now.names.now) [] x.now) (how.Annotates process)) }
 {
-    let sense = sense_of(names, x);
-    notes.note_use(alloc, kinds, x, sense, Use::Annotates(process))
+    let sense = sense_of(meanings.names, x);
+    notes.note_use(
+        meanings.alloc,
+        meanings.kinds,
+        x,
+        sense,
+        Use::Annotates(process),
+    )
 }

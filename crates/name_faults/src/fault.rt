@@ -16,61 +16,51 @@ use crate::places;
 use csp_base::NoMemory;
 use csp_text::Decl;
 use name_notes::{Findings, Notes};
-use name_tables::Dictionary;
+use name_tables::Meanings;
 use script_names::{Class, Kind, ResolveFault};
-use std::alloc::Global;
 
-/// The name fault of a script with these declarations, whose names stand for what `names` says and whose definitions are of these kinds.
+/// The name fault of a script with these declarations, whose names and definitions mean what `meanings` says.
 #[tactic(auto, using(crate::proofs::DepthLemmas::depths_along, crate::proofs::KnownLemmas::whole_fault))]
-pub fn name_fault(
-    alloc: Global,
-    decls: &[Decl],
-    names: &Dictionary,
-    kinds: &[Kind],
-) -> Result<Option<ResolveFault>, NoMemory>
-    requires names { SameFirsts names.now (declared decls.now) }
-    ensures { IfOk result (λ fault. fault ≡ meant.name_fault decls.now kinds.now) }
+pub fn name_fault(meanings: &Meanings<'_>, decls: &[Decl]) -> Result<Option<ResolveFault>, NoMemory>
+    requires names { SameFirsts meanings.now.names.now (declared decls.now) }
+    ensures { IfOk result (λ fault. fault ≡ meant.name_fault decls.now meanings.now.kinds.now) }
 {
-    let bodies = bodies_of(alloc, names, kinds, decls)?;
-    let depths = depths_of(alloc, bodies.as_slice())?;
-    let fault = first_fault(alloc, decls, names, kinds, depths.as_slice())?;
+    let bodies = bodies_of(meanings, decls)?;
+    let depths = depths_of(meanings.alloc, bodies.as_slice())?;
+    let fault = first_fault(meanings, decls, depths.as_slice())?;
     Ok(fault)
 }
 
 // The first fault of the declarations.
 fn first_fault(
-    alloc: Global,
+    meanings: &Meanings<'_>,
     decls: &[Decl],
-    names: &Dictionary,
-    kinds: &[Kind],
     depths: &[u32],
 ) -> Result<Option<ResolveFault>, NoMemory>
-    requires names { SameFirsts names.now (declared decls.now) }
-    requires depths { AreDepths 801 (map body_of (meant.bodies_from (first_of names.now) kinds.now 0 decls.now)) depths.now }
-    ensures { IfOk result (λ fault. fault ≡ fault_from decls.now kinds.now [] decls.now) }
+    requires names { SameFirsts meanings.now.names.now (declared decls.now) }
+    requires depths { AreDepths 801 (map body_of (meant.bodies_from (first_of meanings.now.names.now) meanings.now.kinds.now 0 decls.now)) depths.now }
+    ensures { IfOk result (λ fault. fault ≡ fault_from decls.now meanings.now.kinds.now [] decls.now) }
 {
-    let mut known = Known::new(alloc);
-    let fault = first_after(alloc, decls, names, kinds, depths, &mut known);
+    let mut known = Known::new(meanings.alloc);
+    let fault = first_after(meanings, decls, depths, &mut known);
     drop(known);
     fault
 }
 
 // The first fault of the declarations, of which none is known yet.
 fn first_after(
-    alloc: Global,
+    meanings: &Meanings<'_>,
     decls: &[Decl],
-    names: &Dictionary,
-    kinds: &[Kind],
     depths: &[u32],
     known: &mut Known,
 ) -> Result<Option<ResolveFault>, NoMemory>
     requires known { known.old ≡ nothing_known }
-    requires names { SameFirsts names.now (declared decls.now) }
-    requires depths { AreDepths 801 (map body_of (meant.bodies_from (first_of names.now) kinds.now 0 decls.now)) depths.now }
-    ensures { IfOk result (λ fault. fault ≡ fault_from decls.now kinds.now [] decls.now) }
+    requires names { SameFirsts meanings.now.names.now (declared decls.now) }
+    requires depths { AreDepths 801 (map body_of (meant.bodies_from (first_of meanings.now.names.now) meanings.now.kinds.now 0 decls.now)) depths.now }
+    ensures { IfOk result (λ fault. fault ≡ fault_from decls.now meanings.now.kinds.now [] decls.now) }
 {
     for decl in decls {
-        match fault_in(alloc, names, kinds, depths, known, decl)? {
+        match fault_in(meanings, depths, known, decl)? {
             Some(fault) => return Ok(Some(fault)),
             None => known.count(decl)?,
         }
@@ -80,20 +70,18 @@ fn first_after(
 
 // The fault of a declaration that comes after those that are known.
 fn fault_in(
-    alloc: Global,
-    names: &Dictionary,
-    kinds: &[Kind],
+    meanings: &Meanings<'_>,
     depths: &[u32],
     known: &mut Known,
     decl: &Decl,
 ) -> Result<Option<ResolveFault>, NoMemory>
-    ensures told { IfOk result (λ fault. fault ≡ fault_after (first_of names.now) kinds.now depths.now known.old decl.now) }
+    ensures told { IfOk result (λ fault. fault ≡ fault_after (first_of meanings.now.names.now) meanings.now.kinds.now depths.now known.old decl.now) }
     ensures known { OnOk result (IsNext known.old decl.now known.new) }
 {
-    let mut notes = Notes::new(alloc);
-    match note_decl(alloc, names, kinds, known, &mut notes, decl) {
+    let mut notes = Notes::new(meanings.alloc);
+    match note_decl(meanings, known, &mut notes, decl) {
         Ok(()) => {
-            let deep = is_deep(kinds, depths, known.definitions, decl);
+            let deep = is_deep(meanings.kinds, depths, known.definitions, decl);
             Ok(fault_of(known.declarations, notes.into_findings(), deep))
         }
         Err(fault) => {

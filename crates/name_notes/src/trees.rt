@@ -10,29 +10,21 @@ use crate::notes::Notes;
 use crate::walk::walk;
 use csp_base::{Name, NoMemory};
 use csp_text::Tree;
-use name_tables::{Dictionary, Meanings};
-use script_names::{Kind, Place};
-use std::alloc::Global;
+use name_tables::Meanings;
+use script_names::Place;
 
 /// Notes what a tree says at a place, under bound names.
 pub fn note_tree(
-    alloc: Global,
-    names: &Dictionary,
-    kinds: &[Kind],
+    meanings: &Meanings<'_>,
     notes: &mut Notes,
     params: &[Name],
     place: Place,
     tree: &Tree,
 ) -> Result<(), NoMemory>
-    ensures { OnOk result (notes.new ≡ heard_all (first_of names.now) kinds.now notes.old (tree_says (first_of names.now) tree.now place params.now)) }
+    ensures { OnOk result (notes.new ≡ heard_all (first_of meanings.now.names.now) meanings.now.kinds.now notes.old (tree_says (first_of meanings.now.names.now) tree.now place params.now)) }
 {
-    let meanings = Meanings {
-        alloc,
-        names,
-        kinds,
-    };
-    let mut bound = BoundNames::new(alloc);
-    note_under(&meanings, notes, &mut bound, params, place, tree)
+    let mut bound = BoundNames::new(meanings.alloc);
+    note_under(meanings, notes, &mut bound, params, place, tree)
 }
 
 // Notes what a tree says at a place, under the bound names and more of them.

@@ -12,71 +12,56 @@ use csp_base::{Name, NoMemory};
 use csp_program::copies::copy_exprs;
 use csp_program::{Channel, Expr};
 use csp_text::{Decl, Tree};
-use name_tables::{Dictionary, Scope};
-use script_names::Kind;
+use name_tables::{Meanings, Scope};
 use std::alloc::Global;
 use typed_trees::typed_exprs;
 
 /// The types of a channel's fields.
-pub fn types_of(
-    alloc: Global,
-    names: &Dictionary,
-    kinds: &[Kind],
-    types: &[Tree],
-) -> Result<Items<Expr>, NoMemory>
-    ensures { IfOk result (λ typed. typed ≡ exprs (map (reading (first_of names.now) kinds.now) types.now) [] 0) }
+pub fn types_of(meanings: &Meanings<'_>, types: &[Tree]) -> Result<Items<Expr>, NoMemory>
+    ensures { IfOk result (λ typed. typed ≡ exprs (map (reading (first_of meanings.now.names.now) meanings.now.kinds.now) types.now) [] 0) }
 {
-    let mut scope = Scope::new(alloc);
+    let mut scope = Scope::new(meanings.alloc);
     let mut next: u32 = 0;
-    let typed = typed_exprs(alloc, names, kinds, &mut scope, &mut next, types)?;
+    let typed = typed_exprs(meanings, &mut scope, &mut next, types)?;
     Ok(typed)
 }
 
 /// The channels and the names of the constants of a script.
 pub fn channels_and_constants(
-    alloc: Global,
-    names: &Dictionary,
-    kinds: &[Kind],
+    meanings: &Meanings<'_>,
     decls: &[Decl],
 ) -> Result<(Items<Channel>, Items<Name>), NoMemory>
-    ensures channels { IfOk result (λ made. made.0 ≡ flat_map (meant.channels_of (first_of names.now) kinds.now) decls.now) }
+    ensures channels { IfOk result (λ made. made.0 ≡ flat_map (meant.channels_of (first_of meanings.now.names.now) meanings.now.kinds.now) decls.now) }
     ensures constants { IfOk result (λ made. made.1 ≡ flat_map constants_in decls.now) }
 {
-    let channels = channels(alloc, names, kinds, decls)?;
-    let constants = constants(alloc, decls)?;
+    let channels = channels(meanings, decls)?;
+    let constants = constants(meanings.alloc, decls)?;
     Ok((channels, constants))
 }
 
 // The channels of a script.
-fn channels(
-    alloc: Global,
-    names: &Dictionary,
-    kinds: &[Kind],
-    decls: &[Decl],
-) -> Result<Items<Channel>, NoMemory>
-    ensures { IfOk result (λ made. made ≡ flat_map (meant.channels_of (first_of names.now) kinds.now) decls.now) }
+fn channels(meanings: &Meanings<'_>, decls: &[Decl]) -> Result<Items<Channel>, NoMemory>
+    ensures { IfOk result (λ made. made ≡ flat_map (meant.channels_of (first_of meanings.now.names.now) meanings.now.kinds.now) decls.now) }
 {
-    let mut made = Items::new(alloc);
+    let mut made = Items::new(meanings.alloc);
     for decl in decls {
-        add_channels(alloc, names, kinds, &mut made, decl)?;
+        add_channels(meanings, &mut made, decl)?;
     }
     Ok(made)
 }
 
 // Adds the channels that a declaration declares.
 fn add_channels(
-    alloc: Global,
-    names: &Dictionary,
-    kinds: &[Kind],
+    meanings: &Meanings<'_>,
     made: &mut Items<Channel>,
     decl: &Decl,
 ) -> Result<(), NoMemory>
-    ensures { OnOk result (made.new ≡ made.old ++ meant.channels_of (first_of names.now) kinds.now decl.now) }
+    ensures { OnOk result (made.new ≡ made.old ++ meant.channels_of (first_of meanings.now.names.now) meanings.now.kinds.now decl.now) }
 {
     match decl {
         Decl::Channel(xs, types) => {
-            let types = types_of(alloc, names, kinds, types.as_slice())?;
-            add_named(alloc, made, xs.as_slice(), types.as_slice())
+            let types = types_of(meanings, types.as_slice())?;
+            add_named(meanings.alloc, made, xs.as_slice(), types.as_slice())
         }
         Decl::Datatype(_, _)
         | Decl::Nametype(_, _)

@@ -13,28 +13,24 @@ use containers::Items;
 use csp_base::NoMemory;
 use csp_program::{Content, Def, Net};
 use csp_text::{Decl, Tree};
-use name_tables::{Dictionary, Scope};
-use script_names::Kind;
-use std::alloc::Global;
+use name_tables::{Meanings, Scope};
 use typed_trees::typed_net;
 
 /// What the declarations of a script put into its program, whose asserted network is `root`, while its channels have no field sets yet.
 pub fn plain_content(
-    alloc: Global,
+    meanings: &Meanings<'_>,
     decls: &[Decl],
-    names: &Dictionary,
-    kinds: &[Kind],
     root: &Tree,
 ) -> Result<Content, NoMemory>
-    requires names { SameFirsts names.now (declared decls.now) }
+    requires names { SameFirsts meanings.now.names.now (declared decls.now) }
     requires root { meant.first_assertion decls.now ≡ Some root.now }
-    ensures { IfOk result (λ content. content ≡ meant.plain_content decls.now kinds.now) }
+    ensures { IfOk result (λ content. content ≡ meant.plain_content decls.now meanings.now.kinds.now) }
 {
-    let (channels, consts) = channels_and_constants(alloc, names, kinds, decls)?;
-    let (roles, resources) = annotations(alloc, names, decls)?;
-    let (defs, root) = definitions_and_root(alloc, names, kinds, decls, root)?;
+    let (channels, consts) = channels_and_constants(meanings, decls)?;
+    let (roles, resources) = annotations(meanings.alloc, meanings.names, decls)?;
+    let (defs, root) = definitions_and_root(meanings, decls, root)?;
     Ok(Content {
-        events: Items::new(alloc),
+        events: Items::new(meanings.alloc),
         channels,
         consts,
         defs,
@@ -46,26 +42,24 @@ pub fn plain_content(
 
 // The definitions of a script, and the network that is asserted.
 fn definitions_and_root(
-    alloc: Global,
-    names: &Dictionary,
-    kinds: &[Kind],
+    meanings: &Meanings<'_>,
     decls: &[Decl],
     root: &Tree,
 ) -> Result<(Items<Def>, Net), NoMemory>
-    ensures definitions { IfOk result (λ made. made.0 ≡ meant.definitions_from (first_of names.now) kinds.now none_yet decls.now) }
-    ensures root { IfOk result (λ made. made.1 ≡ (reading (first_of names.now) kinds.now root.now).net [] 0) }
+    ensures definitions { IfOk result (λ made. made.0 ≡ meant.definitions_from (first_of meanings.now.names.now) meanings.now.kinds.now none_yet decls.now) }
+    ensures root { IfOk result (λ made. made.1 ≡ (reading (first_of meanings.now.names.now) meanings.now.kinds.now root.now).net [] 0) }
 {
-    let defs = definitions(alloc, names, kinds, decls)?;
-    let root = asserted(alloc, names, kinds, root)?;
+    let defs = definitions(meanings, decls)?;
+    let root = asserted(meanings, root)?;
     Ok((defs, root))
 }
 
 // The network that is asserted.
-fn asserted(alloc: Global, names: &Dictionary, kinds: &[Kind], root: &Tree) -> Result<Net, NoMemory>
-    ensures { IfOk result (λ net. net ≡ (reading (first_of names.now) kinds.now root.now).net [] 0) }
+fn asserted(meanings: &Meanings<'_>, root: &Tree) -> Result<Net, NoMemory>
+    ensures { IfOk result (λ net. net ≡ (reading (first_of meanings.now.names.now) meanings.now.kinds.now root.now).net [] 0) }
 {
-    let mut scope = Scope::new(alloc);
+    let mut scope = Scope::new(meanings.alloc);
     let mut next: u32 = 0;
-    let net = typed_net(alloc, names, kinds, &mut scope, &mut next, root)?;
+    let net = typed_net(meanings, &mut scope, &mut next, root)?;
     Ok(net)
 }

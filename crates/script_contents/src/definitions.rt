@@ -15,28 +15,23 @@ use csp_program::{Body, Def};
 use csp_text::{Decl, Tree};
 use name_tables::declared::{Numbers, next, short};
 use name_tables::ends::bind_all;
-use name_tables::{Dictionary, Scope};
+use name_tables::{Meanings, Scope};
 use script_names::{Class, Kind};
 use std::alloc::Global;
 use typed_trees::{typed_expr, typed_net, typed_proc};
 
 /// The definitions of a script.
-pub fn definitions(
-    alloc: Global,
-    names: &Dictionary,
-    kinds: &[Kind],
-    decls: &[Decl],
-) -> Result<Items<Def>, NoMemory>
-    ensures { IfOk result (λ made. made ≡ meant.definitions_from (first_of names.now) kinds.now none_yet decls.now) }
+pub fn definitions(meanings: &Meanings<'_>, decls: &[Decl]) -> Result<Items<Def>, NoMemory>
+    ensures { IfOk result (λ made. made ≡ meant.definitions_from (first_of meanings.now.names.now) meanings.now.kinds.now none_yet decls.now) }
 {
-    let mut made = Items::new(alloc);
+    let mut made = Items::new(meanings.alloc);
     let mut numbers = Numbers {
         channels: 0,
         constants: 0,
         definitions: 0,
     };
     for decl in decls {
-        add_definition(alloc, names, kinds, &mut made, numbers, decl)?;
+        add_definition(meanings, &mut made, numbers, decl)?;
         numbers = count(numbers, decl)?;
     }
     Ok(made)
@@ -83,41 +78,39 @@ fn sum(n: u32, m: usize) -> Result<u32, NoMemory>
 
 // Adds what a declaration defines, after so many of each kind.
 fn add_definition(
-    alloc: Global,
-    names: &Dictionary,
-    kinds: &[Kind],
+    meanings: &Meanings<'_>,
     made: &mut Items<Def>,
     numbers: Numbers,
     decl: &Decl,
 ) -> Result<(), NoMemory>
-    ensures { OnOk result (made.new ≡ made.old ++ meant.defined (first_of names.now) kinds.now (counts numbers) decl.now) }
+    ensures { OnOk result (made.new ≡ made.old ++ meant.defined (first_of meanings.now.names.now) meanings.now.kinds.now (counts numbers) decl.now) }
 {
     match decl {
         Decl::Define(x, params, tree) => {
             let d = numbers.definitions;
-            made.push_made(define(alloc, names, kinds, d, x, params.as_slice(), tree))
+            made.push_made(define(meanings, d, x, params.as_slice(), tree))
         }
-        Decl::Nametype(x, tree) => made.push_made(nametype(alloc, names, kinds, x, tree)),
-        Decl::Datatype(x, ks) => { made.push_made(datatype(alloc, x, numbers.constants, ks.len())) }
+        Decl::Nametype(x, tree) => made.push_made(nametype(meanings, x, tree)),
+        Decl::Datatype(x, ks) => {
+            made.push_made(datatype(meanings.alloc, x, numbers.constants, ks.len()))
+        }
         Decl::Channel(_, _) | Decl::Assert(_) | Decl::Roles(_) | Decl::Resource(_) => Ok(()),
     }
 }
 
 // The definition with the number `d`.
 fn define(
-    alloc: Global,
-    names: &Dictionary,
-    kinds: &[Kind],
+    meanings: &Meanings<'_>,
     d: u32,
     x: &Name,
     params: &[Name],
     tree: &Tree,
 ) -> Result<Def, NoMemory>
-    ensures { IfOk result (λ def. def ≡ definition_at (first_of names.now) kinds.now d x.now params.now tree.now) }
+    ensures { IfOk result (λ def. def ≡ definition_at (first_of meanings.now.names.now) meanings.now.kinds.now d x.now params.now tree.now) }
 {
-    let name = x.try_clone(alloc)?;
-    let numbers = numbers_from(alloc, 0, params.len())?;
-    body_of(alloc, names, kinds, d, params, tree).map(|body| Def {
+    let name = x.try_clone(meanings.alloc)?;
+    let numbers = numbers_from(meanings.alloc, 0, params.len())?;
+    body_of(meanings, d, params, tree).map(|body| Def {
         name,
         params: numbers,
         body,
@@ -125,61 +118,48 @@ fn define(
 }
 
 // The body of the definition with the number `d`, which has these parameters.
-fn body_of(
-    alloc: Global,
-    names: &Dictionary,
-    kinds: &[Kind],
-    d: u32,
-    params: &[Name],
-    tree: &Tree,
-) -> Result<Body, NoMemory>
-    ensures { IfOk result (λ body. body ≡ body_at (first_of names.now) kinds.now d tree.now (length params.now) (meant.parameters 0 params.now)) }
+fn body_of(meanings: &Meanings<'_>, d: u32, params: &[Name], tree: &Tree) -> Result<Body, NoMemory>
+    ensures { IfOk result (λ body. body ≡ body_at (first_of meanings.now.names.now) meanings.now.kinds.now d tree.now (length params.now) (meant.parameters 0 params.now)) }
 {
     let n = short(params.len())?;
-    let mut scope = Scope::new(alloc);
+    let mut scope = Scope::new(meanings.alloc);
     bind_all(&mut scope, params)?;
-    body_under(alloc, names, kinds, d, &mut scope, n, tree)
+    body_under(meanings, d, &mut scope, n, tree)
 }
 
 // The body of the definition with the number `d`, whose first binding token has the number `n`.
 fn body_under(
-    alloc: Global,
-    names: &Dictionary,
-    kinds: &[Kind],
+    meanings: &Meanings<'_>,
     d: u32,
     scope: &mut Scope,
     n: u32,
     tree: &Tree,
 ) -> Result<Body, NoMemory>
-    ensures { IfOk result (λ body. body ≡ body_at (first_of names.now) kinds.now d tree.now n scope.old) }
+    ensures { IfOk result (λ body. body ≡ body_at (first_of meanings.now.names.now) meanings.now.kinds.now d tree.now n scope.old) }
 {
     let mut next = n;
-    let kind = kind_at(kinds, d);
+    let kind = kind_at(meanings.kinds, d);
     match kind.class {
-        Class::Data => typed_expr(alloc, names, kinds, scope, &mut next, tree).map(Body::Datum),
-        Class::Process | Class::Unknown => {
-            process_under(alloc, names, kinds, kind.network, scope, n, tree)
-        }
+        Class::Data => typed_expr(meanings, scope, &mut next, tree).map(Body::Datum),
+        Class::Process | Class::Unknown => { process_under(meanings, kind.network, scope, n, tree) }
     }
 }
 
 // The body of a process or of a network definition.
 fn process_under(
-    alloc: Global,
-    names: &Dictionary,
-    kinds: &[Kind],
+    meanings: &Meanings<'_>,
     network: bool,
     scope: &mut Scope,
     n: u32,
     tree: &Tree,
 ) -> Result<Body, NoMemory>
-    ensures { IfOk result (λ body. body ≡ process_body network (reading (first_of names.now) kinds.now tree.now) n scope.old) }
+    ensures { IfOk result (λ body. body ≡ process_body network (reading (first_of meanings.now.names.now) meanings.now.kinds.now tree.now) n scope.old) }
 {
     let mut next = n;
     if network {
-        typed_net(alloc, names, kinds, scope, &mut next, tree).map(Body::Network)
+        typed_net(meanings, scope, &mut next, tree).map(Body::Network)
     } else {
-        typed_proc(alloc, names, kinds, scope, &mut next, tree).map(Body::Process)
+        typed_proc(meanings, scope, &mut next, tree).map(Body::Process)
     }
 }
 
@@ -198,19 +178,14 @@ fn kind_at(kinds: &[Kind], d: u32) -> Kind
 }
 
 // A nametype.
-fn nametype(
-    alloc: Global,
-    names: &Dictionary,
-    kinds: &[Kind],
-    x: &Name,
-    tree: &Tree,
-) -> Result<Def, NoMemory>
-    ensures { IfOk result (λ def. def ≡ nametype_of (first_of names.now) kinds.now x.now tree.now) }
+fn nametype(meanings: &Meanings<'_>, x: &Name, tree: &Tree) -> Result<Def, NoMemory>
+    ensures { IfOk result (λ def. def ≡ nametype_of (first_of meanings.now.names.now) meanings.now.kinds.now x.now tree.now) }
 {
+    let alloc = meanings.alloc;
     let name = x.try_clone(alloc)?;
     let mut scope = Scope::new(alloc);
     let mut next: u32 = 0;
-    typed_expr(alloc, names, kinds, &mut scope, &mut next, tree).map(|expr| Def {
+    typed_expr(meanings, &mut scope, &mut next, tree).map(|expr| Def {
         name,
         params: Items::new(alloc),
         body: Body::Nametype(expr),

@@ -14,8 +14,7 @@ use containers::Items;
 use csp_base::NoMemory;
 use csp_program::{Expr, Net, Proc};
 use csp_text::Tree;
-use name_tables::{Dictionary, Meanings, Scope};
-use script_names::Kind;
+use name_tables::{Meanings, Scope};
 use std::alloc::Global;
 use std::mem::replace;
 
@@ -48,48 +47,34 @@ fn put_back(binders: Binders, scope: &mut Scope, next: &mut u32)
 /// A tree as an expression, under the bound names `scope`. Its binding tokens have the numbers from `next` on.
 #[tactic(auto, unfolding(crate::specs::Words::expr_of))]
 pub fn typed_expr(
-    alloc: Global,
-    names: &Dictionary,
-    kinds: &[Kind],
+    meanings: &Meanings<'_>,
     scope: &mut Scope,
     next: &mut u32,
     tree: &Tree,
 ) -> Result<Expr, NoMemory>
-    ensures made { IfOk result (λ made. made ≡ (reading (first_of names.now) kinds.now tree.now).expr scope.old next.old) }
-    ensures next { OnOk result (next.new ≡ next.old + (reading (first_of names.now) kinds.now tree.now).binds) }
+    ensures made { IfOk result (λ made. made ≡ (reading (first_of meanings.now.names.now) meanings.now.kinds.now tree.now).expr scope.old next.old) }
+    ensures next { OnOk result (next.new ≡ next.old + (reading (first_of meanings.now.names.now) meanings.now.kinds.now tree.now).binds) }
     ensures scope { OnOk result (scope.new ≡ scope.old) }
 {
-    let meanings = Meanings {
-        alloc,
-        names,
-        kinds,
-    };
-    let mut binders = taken(alloc, scope, *next);
-    let made = expression(&meanings, &mut binders, tree);
+    let mut binders = taken(meanings.alloc, scope, *next);
+    let made = expression(meanings, &mut binders, tree);
     put_back(binders, scope, next);
     made
 }
 
 /// Trees as expressions, numbered one after another.
 pub fn typed_exprs(
-    alloc: Global,
-    names: &Dictionary,
-    kinds: &[Kind],
+    meanings: &Meanings<'_>,
     scope: &mut Scope,
     next: &mut u32,
     trees: &[Tree],
 ) -> Result<Items<Expr>, NoMemory>
-    ensures made { IfOk result (λ made. made ≡ exprs (map (reading (first_of names.now) kinds.now) trees.now) scope.old next.old) }
-    ensures next { OnOk result (next.new ≡ next.old + all_bind (map (reading (first_of names.now) kinds.now) trees.now)) }
+    ensures made { IfOk result (λ made. made ≡ exprs (map (reading (first_of meanings.now.names.now) meanings.now.kinds.now) trees.now) scope.old next.old) }
+    ensures next { OnOk result (next.new ≡ next.old + all_bind (map (reading (first_of meanings.now.names.now) meanings.now.kinds.now) trees.now)) }
     ensures scope { OnOk result (scope.new ≡ scope.old) }
 {
-    let meanings = Meanings {
-        alloc,
-        names,
-        kinds,
-    };
-    let mut binders = taken(alloc, scope, *next);
-    let made = expressions(&meanings, &mut binders, trees);
+    let mut binders = taken(meanings.alloc, scope, *next);
+    let made = expressions(meanings, &mut binders, trees);
     put_back(binders, scope, next);
     made
 }
@@ -97,24 +82,17 @@ pub fn typed_exprs(
 /// A tree as a process, under the bound names `scope`. Its binding tokens have the numbers from `next` on.
 #[tactic(auto, unfolding(crate::specs::Words::proc_of))]
 pub fn typed_proc(
-    alloc: Global,
-    names: &Dictionary,
-    kinds: &[Kind],
+    meanings: &Meanings<'_>,
     scope: &mut Scope,
     next: &mut u32,
     tree: &Tree,
 ) -> Result<Proc, NoMemory>
-    ensures made { IfOk result (λ made. made ≡ (reading (first_of names.now) kinds.now tree.now).proc scope.old next.old) }
-    ensures next { OnOk result (next.new ≡ next.old + (reading (first_of names.now) kinds.now tree.now).binds) }
+    ensures made { IfOk result (λ made. made ≡ (reading (first_of meanings.now.names.now) meanings.now.kinds.now tree.now).proc scope.old next.old) }
+    ensures next { OnOk result (next.new ≡ next.old + (reading (first_of meanings.now.names.now) meanings.now.kinds.now tree.now).binds) }
     ensures scope { OnOk result (scope.new ≡ scope.old) }
 {
-    let meanings = Meanings {
-        alloc,
-        names,
-        kinds,
-    };
-    let mut binders = taken(alloc, scope, *next);
-    let made = process(&meanings, &mut binders, tree);
+    let mut binders = taken(meanings.alloc, scope, *next);
+    let made = process(meanings, &mut binders, tree);
     put_back(binders, scope, next);
     made
 }
@@ -123,24 +101,17 @@ pub fn typed_proc(
 /// a network definition is a component.
 #[tactic(auto, unfolding(crate::specs::Words::net_of))]
 pub fn typed_net(
-    alloc: Global,
-    names: &Dictionary,
-    kinds: &[Kind],
+    meanings: &Meanings<'_>,
     scope: &mut Scope,
     next: &mut u32,
     tree: &Tree,
 ) -> Result<Net, NoMemory>
-    ensures made { IfOk result (λ made. made ≡ (reading (first_of names.now) kinds.now tree.now).net scope.old next.old) }
-    ensures next { OnOk result (next.new ≡ next.old + (reading (first_of names.now) kinds.now tree.now).binds) }
+    ensures made { IfOk result (λ made. made ≡ (reading (first_of meanings.now.names.now) meanings.now.kinds.now tree.now).net scope.old next.old) }
+    ensures next { OnOk result (next.new ≡ next.old + (reading (first_of meanings.now.names.now) meanings.now.kinds.now tree.now).binds) }
     ensures scope { OnOk result (scope.new ≡ scope.old) }
 {
-    let meanings = Meanings {
-        alloc,
-        names,
-        kinds,
-    };
-    let mut binders = taken(alloc, scope, *next);
-    let made = network(&meanings, &mut binders, tree);
+    let mut binders = taken(meanings.alloc, scope, *next);
+    let made = network(meanings, &mut binders, tree);
     put_back(binders, scope, next);
     made
 }

@@ -10,7 +10,7 @@ use Rattle.csp_resolve.proofs.events.add_sets.Goals as goal
 pub returns-in_ok-push_shared-in-Channel : goal.returns-in_ok-push_shared-in-Channel
 returns-in_ok-push_shared-in-Channel c =
     let p = c.args.content.now in
-    let types_of = types_read (first_of c.args.names.now) c.args.kinds.now in
+    let types_of = types_read (first_of c.args.meanings.now.names.now) c.args.meanings.now.kinds.now in
     let read : c.as_slice-in-Channel.result.now ≡ types_of c.in-Channel.types =
     c.as_slice-in-Channel.ensures ∙ c.in_ok-types-in-Channel.ensures ∙ ap types_of c.as_slice.ensures in
     subst (λ (d : Decl). GrowsBy c.args.shared.now.items c.push_shared.new.shared.items (sets_of p types_of c.args.i d)) (sym c.in-Channel.is)

@@ -8,5 +8,5 @@ use Rattle.csp_resolve.proofs.events.channel_sets.Given as goal
 
 abbrev pub invariant-loop-decl : goal.invariant-loop-decl
 invariant-loop-decl l =
-    meant.channel_sets l.content (types_read (first_of l.names) l.kinds) 0 l.decls
-    ≡ sets_with (spread l.shared.items) (meant.channel_sets l.content (types_read (first_of l.names) l.kinds) l.i (drop l.decl-index l.decls))
+    meant.channel_sets l.content (types_read (first_of l.meanings.names.now) l.meanings.kinds.now) 0 l.decls
+    ≡ sets_with (spread l.shared.items) (meant.channel_sets l.content (types_read (first_of l.meanings.names.now) l.meanings.kinds.now) l.i (drop l.decl-index l.decls))

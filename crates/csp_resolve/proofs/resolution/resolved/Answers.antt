@@ -8,6 +8,6 @@ use Rattle.csp_resolve.proofs.resolution.resolved.Goals as goal
 pub returns-in_ok-content-in-None-clause-answer : goal.returns-in_ok-content-in-None-clause-answer
 returns-in_ok-content-in-None-clause-answer c =
     subst (λ (whole : Answer Content). Answers (λ (p : Content). p) c.with_events.result whole)
-    (sym (faultless c.args.decls.now c.args.kinds.now c.in-Some.root.now c.args.names.now c.in_ok-content-in-None.content c.requires.names (sym c.in-Some.ensures) (sym c.in_ok-fault.ensures ∙ c.in-None.is)
+    (sym (faultless c.args.decls.now c.args.meanings.now.kinds.now c.in-Some.root.now c.args.meanings.now.names.now c.in_ok-content-in-None.content c.requires.names (sym c.in-Some.ensures) (sym c.in_ok-fault.ensures ∙ c.in-None.is)
     c.in_ok-content-in-None.ensures))
     c.with_events.ensures.answer

@@ -6,5 +6,5 @@ use Rattle.name_faults.proofs.bodies.bodies_of.Given as goal
 
 abbrev pub invariant-loop-decl : goal.invariant-loop-decl
 invariant-loop-decl l =
-    l.bodies ++ map body_of (bodies_from (first_of l.names) l.kinds (length l.bodies) (drop l.decl-index l.decls))
-    ≡ map body_of (bodies_from (first_of l.names) l.kinds 0 l.decls)
+    l.bodies ++ map body_of (bodies_from (first_of l.meanings.names.now) l.meanings.kinds.now (length l.bodies) (drop l.decl-index l.decls))
+    ≡ map body_of (bodies_from (first_of l.meanings.names.now) l.meanings.kinds.now 0 l.decls)

@@ -8,8 +8,8 @@ use Rattle.name_faults.proofs.bodies.body_at.Goals as goal
 
 pub returns-in-Ok : goal.returns-in-Ok
 returns-in-Ok c =
-    let m = first_of c.args.names.now in
+    let m = first_of c.args.meanings.now.names.now in
     let os = tree_says m c.args.tree.now c.args.place c.args.params.now in
     c.into_body.ensures
-    ∙ ap (λ (n : Notes). n.body) (c.in-Ok.ensures ∙ ap (λ (n : Notes). heard_all m c.args.kinds.now n os) c.new-notes.ensures)
-    ∙ body_heard m c.args.kinds.now os
+    ∙ ap (λ (n : Notes). n.body) (c.in-Ok.ensures ∙ ap (λ (n : Notes). heard_all m c.args.meanings.now.kinds.now n os) c.new-notes.ensures)
+    ∙ body_heard m c.args.meanings.now.kinds.now os

@@ -8,14 +8,14 @@ use Rattle.name_faults.proofs.declarations.note_types.Goals as goal
 
 pub loop-tree-preserved : goal.loop-tree-preserved
 loop-tree-preserved c =
-    let m = first_of c.args.names.now in
-    types_step m c.args.kinds.now c.loop-tree.notes c.note_tree.new.notes (heard_all m c.args.kinds.now c.args.notes.now (types_say m c.args.kinds.now c.args.types.now))
+    let m = first_of c.args.meanings.now.names.now in
+    types_step m c.args.meanings.now.kinds.now c.loop-tree.notes c.note_tree.new.notes (heard_all m c.args.meanings.now.kinds.now c.args.notes.now (types_say m c.args.meanings.now.kinds.now c.args.types.now))
     c.loop-tree.tree-index c.args.types.now c.tree-item.result c.loop-tree-test.true c.tree-item.is
-    (c.in_ok-note_tree.ensures ∙ ap (λ place. heard_all m c.args.kinds.now c.loop-tree.notes (tree_says m c.tree-item.result place [])) c.data_place.ensures)
+    (c.in_ok-note_tree.ensures ∙ ap (λ place. heard_all m c.args.meanings.now.kinds.now c.loop-tree.notes (tree_says m c.tree-item.result place [])) c.data_place.ensures)
     c.loop-tree.invariant
 
 pub returns : goal.returns
 returns c =
-    let m = first_of c.args.names.now in
-    types_end m c.args.kinds.now c.loop-tree.notes (heard_all m c.args.kinds.now c.args.notes.now (types_say m c.args.kinds.now c.args.types.now))
+    let m = first_of c.args.meanings.now.names.now in
+    types_end m c.args.meanings.now.kinds.now c.loop-tree.notes (heard_all m c.args.meanings.now.kinds.now c.args.notes.now (types_say m c.args.meanings.now.kinds.now c.args.types.now))
     c.loop-tree.tree-index c.args.types.now (omega arith) c.loop-tree.invariant

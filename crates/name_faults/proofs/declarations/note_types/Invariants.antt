@@ -6,5 +6,5 @@ use Rattle.name_faults.proofs.declarations.note_types.Given as goal
 
 abbrev pub invariant-loop-tree : goal.invariant-loop-tree
 invariant-loop-tree l =
-    heard_all (first_of l.names) l.kinds l.notes (types_say (first_of l.names) l.kinds (drop l.tree-index l.types))
-    ≡ heard_all (first_of l.names) l.kinds l.initial.notes (types_say (first_of l.names) l.kinds l.types)
+    heard_all (first_of l.meanings.names.now) l.meanings.kinds.now l.notes (types_say (first_of l.meanings.names.now) l.meanings.kinds.now (drop l.tree-index l.types))
+    ≡ heard_all (first_of l.meanings.names.now) l.meanings.kinds.now l.initial.notes (types_say (first_of l.meanings.names.now) l.meanings.kinds.now l.types)

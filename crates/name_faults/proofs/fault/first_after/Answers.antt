@@ -13,9 +13,9 @@ loop-decl-init c = record { known = nothing_is_known c.args.known.now c.requires
 pub returns-in-Some : goal.returns-in-Some
 returns-in-Some c =
     let decls = c.args.decls.now in
-    let kinds = c.args.kinds.now in
-    let m = first_of c.args.names.now in
-    let same : m ≡ meanings_of decls = same_meanings decls c.args.names.now c.requires.names in
+    let kinds = c.args.meanings.now.kinds.now in
+    let m = first_of c.args.meanings.now.names.now in
+    let same : m ≡ meanings_of decls = same_meanings decls c.args.meanings.now.names.now c.requires.names in
     told_here decls kinds m same c.args.depths.now (deep_so decls kinds m same c.args.depths.now c.requires.depths)
     c.loop-decl.decl-index c.loop-decl.known c.decl-item.result c.in_ok-fault.field-0 c.in-Some.fault (fault_from decls kinds [] decls)
     c.loop-decl-test.true c.decl-item.is c.loop-decl.invariant.known c.loop-decl.invariant.so_far c.in-Some.is c.in_ok-fault.ensures.told
@@ -23,9 +23,9 @@ returns-in-Some c =
 pub loop-decl-preserved : goal.loop-decl-preserved
 loop-decl-preserved c =
     let decls = c.args.decls.now in
-    let kinds = c.args.kinds.now in
-    let m = first_of c.args.names.now in
-    let same : m ≡ meanings_of decls = same_meanings decls c.args.names.now c.requires.names in
+    let kinds = c.args.meanings.now.kinds.now in
+    let m = first_of c.args.meanings.now.names.now in
+    let same : m ≡ meanings_of decls = same_meanings decls c.args.meanings.now.names.now c.requires.names in
     record {
       known = subst (λ (ds : List Decl). IsKnown ds c.count.new.self) (sym (take_read decls c.loop-decl.decl-index c.decl-item.result c.loop-decl-test.true c.decl-item.is))
           (next_known (take c.loop-decl.decl-index decls) c.loop-decl.known c.fault_in.new.known c.decl-item.result c.count.new.self c.loop-decl.invariant.known
@@ -37,4 +37,4 @@ loop-decl-preserved c =
 
 pub returns : goal.returns
 returns c =
-    none_told c.args.decls.now c.args.kinds.now c.loop-decl.decl-index (fault_from c.args.decls.now c.args.kinds.now [] c.args.decls.now) (omega arith) c.loop-decl.invariant.so_far
+    none_told c.args.decls.now c.args.meanings.now.kinds.now c.loop-decl.decl-index (fault_from c.args.decls.now c.args.meanings.now.kinds.now [] c.args.decls.now) (omega arith) c.loop-decl.invariant.so_far

@@ -5,5 +5,5 @@ use Rattle.name_faults.proofs.fault.first_after.Given as goal
 abbrev pub invariant-loop-decl : goal.invariant-loop-decl
 invariant-loop-decl l = record {
   known : IsKnown (take l.decl-index l.decls) l.known;
-  so_far : fault_from l.decls l.kinds (take l.decl-index l.decls) (drop l.decl-index l.decls) ≡ fault_from l.decls l.kinds [] l.decls;
+  so_far : fault_from l.decls l.meanings.kinds.now (take l.decl-index l.decls) (drop l.decl-index l.decls) ≡ fault_from l.decls l.meanings.kinds.now [] l.decls;
 }

@@ -7,8 +7,8 @@ use Rattle.script_contents.proofs.channels.channels.Goals as goal
 
 pub loop-decl-preserved : goal.loop-decl-preserved
 loop-decl-preserved c =
-    flat_step (channels_of (first_of c.args.names.now) c.args.kinds.now) c.add_channels.new.made c.loop-decl.made (flat_map (channels_of (first_of c.args.names.now) c.args.kinds.now) c.args.decls.now) c.loop-decl.decl-index c.args.decls.now c.decl-item.result
+    flat_step (channels_of (first_of c.args.meanings.now.names.now) c.args.meanings.now.kinds.now) c.add_channels.new.made c.loop-decl.made (flat_map (channels_of (first_of c.args.meanings.now.names.now) c.args.meanings.now.kinds.now) c.args.decls.now) c.loop-decl.decl-index c.args.decls.now c.decl-item.result
     c.loop-decl-test.true c.decl-item.is c.in_ok-add_channels.ensures c.loop-decl.invariant
 
 pub returns : goal.returns
-returns c = flat_end (channels_of (first_of c.args.names.now) c.args.kinds.now) c.loop-decl.made (flat_map (channels_of (first_of c.args.names.now) c.args.kinds.now) c.args.decls.now) c.loop-decl.decl-index c.args.decls.now (omega arith) c.loop-decl.invariant
+returns c = flat_end (channels_of (first_of c.args.meanings.now.names.now) c.args.meanings.now.kinds.now) c.loop-decl.made (flat_map (channels_of (first_of c.args.meanings.now.names.now) c.args.meanings.now.kinds.now) c.args.decls.now) c.loop-decl.decl-index c.args.decls.now (omega arith) c.loop-decl.invariant

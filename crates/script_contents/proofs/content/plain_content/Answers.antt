@@ -3,7 +3,7 @@ use Rattle.script_contents.proofs.content.plain_content.Goals as goal
 
 pub returns : goal.returns
 returns c =
-    content_is c.args.names.now c.args.decls.now c.args.kinds.now c.args.root.now
+    content_is c.args.meanings.now.names.now c.args.decls.now c.args.meanings.now.kinds.now c.args.root.now
     (record {
       events = c.new.result;
       channels = c.in_ok-channels.channels;

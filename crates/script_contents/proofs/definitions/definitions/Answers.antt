@@ -7,11 +7,11 @@ use Rattle.script_contents.proofs.definitions.definitions.Goals as goal
 
 pub loop-decl-preserved : goal.loop-decl-preserved
 loop-decl-preserved c =
-    definitions_step (first_of c.args.names.now) c.args.kinds.now c.add_definition.new.made c.loop-decl.made (definitions_from (first_of c.args.names.now) c.args.kinds.now none_yet c.args.decls.now)
+    definitions_step (first_of c.args.meanings.now.names.now) c.args.meanings.now.kinds.now c.add_definition.new.made c.loop-decl.made (definitions_from (first_of c.args.meanings.now.names.now) c.args.meanings.now.kinds.now none_yet c.args.decls.now)
     (counts c.loop-decl.numbers) (counts c.in_ok-numbers.numbers) c.loop-decl.decl-index c.args.decls.now c.decl-item.result c.loop-decl-test.true c.decl-item.is
     c.in_ok-numbers.ensures c.in_ok-add_definition.ensures c.loop-decl.invariant
 
 pub returns : goal.returns
 returns c =
-    definitions_end (first_of c.args.names.now) c.args.kinds.now c.loop-decl.made (definitions_from (first_of c.args.names.now) c.args.kinds.now none_yet c.args.decls.now)
+    definitions_end (first_of c.args.meanings.now.names.now) c.args.meanings.now.kinds.now c.loop-decl.made (definitions_from (first_of c.args.meanings.now.names.now) c.args.meanings.now.kinds.now none_yet c.args.decls.now)
     (counts c.loop-decl.numbers) c.loop-decl.decl-index c.args.decls.now (omega arith) c.loop-decl.invariant

@@ -6,4 +6,4 @@ use Rattle.script_contents.proofs.definitions.definitions.Given as goal
 
 abbrev pub invariant-loop-decl : goal.invariant-loop-decl
 invariant-loop-decl l =
-    l.made ++ definitions_from (first_of l.names) l.kinds (counts l.numbers) (drop l.decl-index l.decls) ≡ definitions_from (first_of l.names) l.kinds none_yet l.decls
+    l.made ++ definitions_from (first_of l.meanings.names.now) l.meanings.kinds.now (counts l.numbers) (drop l.decl-index l.decls) ≡ definitions_from (first_of l.meanings.names.now) l.meanings.kinds.now none_yet l.decls
