@@ -7,7 +7,6 @@ use Rattle.command_words.specs.declared.command.Trial.{Trial}
 use Rattle.csp_tables.specs.declared.rule.Rule.{Rule}
 use Rattle.dl_outside.specs.declared.texts.NamedText.{NamedText}
 use Rattle.dl_outside.specs.Load.{LoadAnswers}
-use Rattle.report.specs.declared.answer.Answer.{Answer}
 use Rattle.dl_top.specs.Cause.{MayGive, ShelfSigns, TrialCallsFor, script_limit}
 use Rattle.dl_top.specs.Judgement.{TextCallsFor}
 use Rattle.dl_top.specs.Reply.{rule_of, trial_text}

@@ -8,7 +8,7 @@ use Rattle.report.specs.declared.answer.Answer.{Answer}
 use Rattle.report.specs.declared.answer.Answer.TheVariants.{Refused, ScriptNotFound, ScriptNotRead, Usage}
 use Rattle.report.specs.declared.answer.Refusal.TheVariants.{ScriptTooLong}
 use Rattle.dl_top.proofs.Holding.{not_four, script_not_four, text_not_four}
-use Rattle.dl_top.specs.Cause.{CallsFor, MayGive, NamedCallsFor, ShelfSigns, TrialCallsFor, UntoldCallsFor}
+use Rattle.dl_top.specs.Cause.{MayGive, NamedCallsFor, ShelfSigns, TrialCallsFor, UntoldCallsFor}
 use Rattle.dl_top.specs.Ending.{Ends, EndsInShelfFault, GrowsByFront, SinkSigns}
 use Rattle.dl_top.specs.Printing.{Prints}
 use Rattle.dl_top.specs.Reply.{plain, reply_status, reply_text, rule_of, trial_text}

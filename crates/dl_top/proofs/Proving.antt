@@ -1,13 +1,12 @@
 -- Status 0 has one cause under each command: the text spells exactly one network, which is free of deadlock; or exactly one script, which is shown; or
 -- the table of a component of exactly one network.
 use Rattle.std.proofs.Common.{◌≡◌, ℕ, List, ◌++◌, Option, None, Some, IfSome, inl, inr, sym, ◌∙◌, ap, subst}
-use Rattle.command_words.specs.Command.{Asks, AsksForCheck, AsksForShow, AsksForSomeTrial, AsksForTable, AsksForTrial}
+use Rattle.command_words.specs.Command.{AsksForCheck, AsksForShow, AsksForSomeTrial, AsksForTable}
 use Rattle.command_words.specs.declared.command.Command.TheVariants.{Check, Show, Table}
 use Rattle.command_words.specs.declared.command.Trial.{Trial}
 use Rattle.csp_tables.specs.declared.rule.Rule.{Rule}
 use Rattle.csp_text.specs.declared.script.Script.{Script}
 use Rattle.dl_outside.specs.declared.texts.NamedText.{NamedText}
-use Rattle.dl_outside.specs.Texts.{text_of}
 use Rattle.dl_outside.specs.Write.{GrowsBy}
 use Rattle.judgement.proofs.OneNetwork.{one_network}
 use Rattle.judgement.proofs.Status.{IsJudgedFree, judged_status}
@@ -24,7 +23,7 @@ use Rattle.tabulation.specs.Whole.{IsTabulatedWhole}
 use Rattle.tabulation.proofs.Status.{tabulated_status}
 use Rattle.dl_top.proofs.OneCommand.{check_or_show, check_or_table, command_or_trial, show_or_table}
 use Rattle.dl_top.specs.Cause.{CallsFor, MayGive, NamedCallsFor, ScriptCallsFor, ShelfSigns, TrialCallsFor}
-use Rattle.dl_top.specs.Judgement.{SpellsNetwork, SpellsOnlyScript, TextCallsFor}
+use Rattle.dl_top.specs.Judgement.{SpellsOnlyScript, TextCallsFor}
 use Rattle.dl_top.specs.Proved.{IsProved, IsShown, IsTold, IsTried, SpellsDeadlockFree, SpellsOnlyNetwork}
 use Rattle.dl_top.specs.Reply.{heading_text, plain, reply_status, reply_text, rule_of, trial_text}
 use Rattle.dl_top.specs.declared.reply.Reply.{Reply}

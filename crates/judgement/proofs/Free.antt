@@ -21,7 +21,6 @@ use Rattle.design_rules.proofs.Live.{client_server_means_live, cyclic_means_live
 use Rattle.net_sound.specs.Soundness.{IsSound}
 use Rattle.net_sound.proofs.ShapeOf.{shapes_are_busy, shapes_behave}
 use Rattle.network_layout.specs.Triple.{alphabets}
-use Rattle.network_trees.specs.Laws.{NetworksAreSmall, NetworksAreWellNested}
 use Rattle.network_trees.specs.NetworkOf.{network_of}
 use Rattle.network_trees.proofs.InOrder.{network_is_tree}
 use Rattle.process_steps.specs.ComponentStep.{ProcessStep}

@@ -1,5 +1,5 @@
 -- The class of a definition follows one way of ends, which leads to one end; so each definition has one kind.
-use Rattle.std.proofs.Common.{◌≡◌, ℕ, zero, suc, ◌<◌, Bool, true, false, IsTrue, ◌↔◌, Option, Some, None, List, [], ◌∷◌, length, map, take, slice_get, refl, sym, ap, subst, ◌∙◌, arith}
+use Rattle.std.proofs.Common.{◌≡◌, ℕ, zero, suc, ◌<◌, Bool, true, false, IsTrue, ◌↔◌, Option, Some, None, List, [], ◌∷◌, length, take, slice_get, refl, sym, ap, subst, ◌∙◌, arith}
 use Rattle.std.specs.Option.{option_map}
 use Rattle.std.proofs.lemmas.Option.{slice_get-map}
 use Rattle.csp_text.specs.declared.script.Decl.{Decl}
@@ -8,7 +8,7 @@ use Rattle.script_names.specs.declared.kinds.Class.TheVariants as class
 use Rattle.script_names.specs.declared.kinds.End.{End}
 use Rattle.script_names.specs.declared.kinds.End.TheVariants as end
 use Rattle.script_names.specs.declared.kinds.Kind.{Kind}
-use Rattle.script_names.specs.Kinds.{LeadsTo, here, beyond, ends_at, first_ends, HasClass, IsKind, AreKindsOf, AreKinds, script_ends}
+use Rattle.script_names.specs.Kinds.{LeadsTo, here, beyond, ends_at, first_ends, HasClass, IsKind, AreKinds, script_ends}
 
 -- a list cut after its first member has at most one
 one_of : (es : List End) (j k : ℕ) (x y : End) → slice_get (take 1 es) j ≡ Some x → slice_get (take 1 es) k ≡ Some y → x ≡ y

@@ -1,5 +1,5 @@
 -- A script has one program, and a program one network.
-use Rattle.std.proofs.Common.{◌≡◌, Ok, Err, refl, sym, ap, subst, ◌∙◌}
+use Rattle.std.proofs.Common.{◌≡◌, Ok, ap, ◌∙◌}
 use Rattle.csp_program.specs.declared.processes.Proc.{Proc}
 use Rattle.csp_program.specs.declared.programs.Content.{Content}
 use Rattle.csp_tables.specs.Network.{Tree}
@@ -7,7 +7,6 @@ use Rattle.csp_text.specs.declared.script.Script.{Script}
 use Rattle.network_trees.specs.NetworkOf.{Walked, network_of}
 use Rattle.script_names.specs.Resolved.{Answer, IsProgram, resolved}
 use Rattle.judgement.specs.Laws.{EachScriptHasOneNetwork}
-use Rattle.judgement.specs.Networks.{IsNetworkOf, Network}
 use Rattle.judgement.proofs.KindsUnique.{kinds_are_unique}
 
 same_ok : (p q : Content) (x y : Answer Content) → x ≡ y → x ≡ Ok p → y ≡ Ok q → p ≡ q

@@ -1,11 +1,11 @@
 -- What the walk has laid out, from what it has laid out below.
-use Rattle.std.proofs.Common.{◌≡◌, ℕ, zero, suc, ◌+◌, ◌-◌, ◌<◌, ◌≤◌, Bool, true, false, if◌then◌else◌, Some, None, Ok, Err, List, [], ◌∷◌, ◌++◌, length, refl, ap, sym, ◌∙◌, subst, arith, append_assoc, append-nil}
-use Rattle.std.specs.Prelude.{Option, Result, nat_lt}
+use Rattle.std.proofs.Common.{◌≡◌, ℕ, ◌+◌, ◌-◌, ◌<◌, ◌≤◌, if◌then◌else◌, None, Ok, Err, List, [], ◌∷◌, ◌++◌, length, ap, sym, ◌∙◌, subst, arith, append_assoc, append-nil}
+use Rattle.std.specs.Prelude.{Option, Result}
 use Rattle.std.specs.Result.{IsErrAnd}
 use Rattle.std.proofs.lemmas.Bool.{lt-ltb, le-ltb}
 use Rattle.std.proofs.lemmas.List.{length-append}
 use Rattle.csp_base.specs.Events.{union_of}
-use Rattle.csp_tables.specs.Network.{Component, Tree, Operands, leaves, leaves_of_operands}
+use Rattle.csp_tables.specs.Network.{Component, Tree, Operands, leaves}
 use Rattle.csp_tables.specs.Network.Tree.{leaf, parallel}
 use Rattle.csp_tables.specs.Network.Operands.{none, operand}
 use Rattle.network_trees.specs.Joint.{joint, odd_event}

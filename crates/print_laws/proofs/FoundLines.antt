@@ -23,7 +23,7 @@ use Rattle.csp_lexer.specs.Placed.{PlacedTokens, tokens_of}
 use Rattle.csp_lexer.specs.Places.{beginning, behind_all}
 use Rattle.csp_lexer.specs.Tokens.{token_at}
 use Rattle.print_laws.specs.Fits.{Every, Fits, FitsLine}
-use Rattle.print_laws.specs.Lines.{Lines, Position, is_assert}
+use Rattle.print_laws.specs.Lines.{Lines, is_assert}
 use Rattle.print_laws.specs.Lines as position
 use Rattle.print_laws.proofs.FoundTokens.{IsQuietToken, IsToken, Of, line_token_fits, of_if, resource_fits, roles_fit, token_fits}
 

@@ -7,7 +7,7 @@ use Rattle.csp_text.specs.declared.token.Symbol.{Symbol}
 use Rattle.csp_text.specs.declared.token.Symbol.TheVariants as symbol
 use Rattle.csp_text.specs.declared.tree.Tree.{Tree}
 use Rattle.csp_text.specs.declared.script.Decl.{Decl}
-use Rattle.csp_grammar.specs.Declarations.{NamesText, TypesText, ParametersText, AssertedText, ModelText, DeclarationText, DeclarationsText}
+use Rattle.csp_grammar.specs.Declarations.{NamesText, TypesText, ParametersText, ModelText, DeclarationText, DeclarationsText}
 use Rattle.csp_grammar.specs.Declarations as g
 use Rattle.print_laws.specs.Made.{MadeNames, MadeTypes, MadeParameters, MadeDecl, MadeDecls}
 use Rattle.print_laws.specs.Made as m

@@ -1,14 +1,10 @@
 -- What is searched for, and found or not. (No rule's decider cites this.)
-use Rattle.std.specs.Prelude.{◌≡◌, ◌<◌, ◌≤◌, ℕ, List, Bool, true, false, Option, Some, None, IsTrue, length, if◌then◌else◌}
-use Rattle.csp_base.specs.Members.{has}
+use Rattle.std.specs.Prelude.{◌≡◌, ◌<◌, ◌≤◌, ℕ, List, Bool, true, false, Option, Some, None, length, if◌then◌else◌}
 use Rattle.csp_tables.specs.Part.{part_at}
-use Rattle.csp_tables.specs.Shape.{link_at}
-use Rattle.csp_tables.specs.Standing.{RunsTo, IsPossible, Accepts, accepted}
-use Rattle.csp_tables.specs.Roles.{use_at}
+use Rattle.csp_tables.specs.Standing.{RunsTo}
 use Rattle.observed_runs.specs.Observed.{pair_at}
-use Rattle.observed_runs.specs.Observers.{holder_step, parity_step}
+use Rattle.observed_runs.specs.Observers.{holder_step}
 use Rattle.observed_runs.specs.Exploration.{Found, AreFound, IsExploration}
-use Rattle.design_rules.specs.Resource.{holds}
 use Rattle.resource_conditions.specs.Setting.{Setting}
 use Rattle.shape_links.specs.Links.{AreOwners}
 

@@ -1,7 +1,7 @@
 -- U2 and U3 as tests of a node and of a state that an observer has there. (No rule's decider cites
 -- this.)
 use Rattle.std.specs.Prelude.{◌-◌, ℕ, List, Bool, true, not, ◌&&◌, ◌||◌, nat_eq, if◌then◌else◌}
-use Rattle.std.specs.List.{list_all, list_any}
+use Rattle.std.specs.List.{list_all}
 use Rattle.csp_base.specs.Members.{has}
 use Rattle.csp_base.specs.Events.{is_subset_of, inter_of}
 use Rattle.csp_tables.specs.Roles.{use_at}

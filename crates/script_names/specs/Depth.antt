@@ -5,7 +5,6 @@ use Rattle.script_names.specs.declared.kinds.Sense.{Sense}
 use Rattle.script_names.specs.declared.kinds.Use.TheVariants as how
 use Rattle.std.specs.Prelude.{ℕ, zero, suc, ◌+◌, max, Option, Some, None, List, [], ◌∷◌, slice_get}
 use Rattle.script_names.specs.declared.kinds.Entity.TheVariants as entity
-use Rattle.script_names.specs.Names.{}
 use Rattle.script_names.specs.Occurrence.{Occurrence, uses, form, parallel}
 
 module _ (depth_of : ℕ → ℕ) where

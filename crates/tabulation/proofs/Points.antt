@@ -7,7 +7,6 @@ use Rattle.csp_program.specs.declared.processes.Proc.{Proc}
 use Rattle.csp_program.specs.declared.programs.Content.{Content}
 use Rattle.csp_tables.specs.Network.{Component, Tree, leaves}
 use Rattle.csp_tables.specs.Part.{Part, part_at}
-use Rattle.csp_tables.specs.ShapeOf.{IsPartOf}
 use Rattle.csp_text.specs.declared.script.Script.{Script}
 use Rattle.fault_answers.specs.Tells.{TellsLayout, TellsScript, on_component}
 use Rattle.network_layout.specs.Lays.{AreSeats, Fails}

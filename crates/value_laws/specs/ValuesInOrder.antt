@@ -1,5 +1,5 @@
 -- The values of a program in order are in order: each number in them is one of the program, and each set rises and is of one kind.
-use Rattle.std.specs.Prelude.{◌≡◌, ℕ, IsTrue, Ok, List, [], ◌∷◌}
+use Rattle.std.specs.Prelude.{◌≡◌, ℕ, IsTrue, Ok, [], ◌∷◌}
 use Rattle.csp_program.specs.InOrder.{IsInOrder, expr_in_order, value_in_order}
 use Rattle.csp_program.specs.Value.{Env, value_within}
 use Rattle.csp_atoms.specs.declared.value.Value.{Value}

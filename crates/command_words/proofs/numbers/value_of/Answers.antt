@@ -1,4 +1,4 @@
-use Rattle.std.proofs.Common.{◌≡◌, ℕ, ◌<◌, ◌≤◌, List, drop, sym, subst, arith}
+use Rattle.std.proofs.Common.{◌≡◌, ℕ, ◌<◌, ◌≤◌, List, drop, arith}
 use Rattle.csp_lexer.specs.Tokens.{continued}
 use Rattle.csp_lexer.proofs.NumbersLemmas.{continued_grows}
 use Rattle.command_words.proofs.numbers.value_of.Goals as goal

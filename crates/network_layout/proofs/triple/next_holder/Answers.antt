@@ -1,4 +1,4 @@
-use Rattle.std.proofs.Common.{◌≡◌, true, false, ap, length, sym, ◌∙◌, arith}
+use Rattle.std.proofs.Common.{◌≡◌, true, false, ap, sym, ◌∙◌}
 use Rattle.csp_base.specs.Members.{has}
 use Rattle.network_layout.specs.Triple.{alphabets}
 use Rattle.network_layout.proofs.TripleLemmas.{at_seat, holds, lacks, still_within}

@@ -1,4 +1,3 @@
-use Rattle.std.proofs.Common.{refl, arith}
 use Rattle.network_tables.proofs.HeightSums.{one_sum}
 use Rattle.network_tables.proofs.bound.sum.Goals as goal
 

@@ -1,6 +1,6 @@
 use Rattle.std.proofs.Common.{sym, ◌∙◌, subst}
 use Rattle.network_shape.specs.Parts.{HasEventsWithin}
-use Rattle.network_tables.proofs.MadeParts.{few_terms, made_for, stays_within}
+use Rattle.network_tables.proofs.MadeParts.{few_terms, stays_within}
 use Rattle.network_tables.proofs.component_parts.part_of.Goals as goal
 
 pub part-requires-clause-events : goal.part-requires-clause-events

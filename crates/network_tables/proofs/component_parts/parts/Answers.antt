@@ -1,4 +1,4 @@
-use Rattle.network_tables.proofs.MadeParts.{all_made, first_many, none_made, one_made, placed, still_within}
+use Rattle.network_tables.proofs.MadeParts.{all_made, first_many, one_made, placed, still_within}
 use Rattle.network_tables.proofs.component_parts.parts.Goals as goal
 
 pub bounds-tables-place : goal.bounds-tables-place

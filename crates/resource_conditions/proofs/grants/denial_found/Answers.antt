@@ -1,6 +1,5 @@
-use Rattle.std.proofs.Common.{◌≡◌, ◌<◌, ◌∙◌, ℕ, List, true, false, length, ap, sym, subst}
+use Rattle.std.proofs.Common.{◌≡◌, ◌<◌, ◌∙◌, ℕ, List, false, sym, subst}
 use Rattle.csp_tables.specs.Part.{part_at}
-use Rattle.csp_tables.specs.Roles.{UseSets}
 use Rattle.observed_runs.specs.Observed.{pair_at}
 use Rattle.observed_runs.proofs.Runs.{either_way}
 use Rattle.observed_runs.specs.Observers.{holder_step}

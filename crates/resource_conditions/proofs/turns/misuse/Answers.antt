@@ -1,4 +1,4 @@
-use Rattle.std.proofs.Common.{◌≡◌, ◌<◌, ◌∙◌, ℕ, List, true, false, length, ap, sym, subst}
+use Rattle.std.proofs.Common.{◌≡◌, ◌<◌, ◌∙◌, ℕ, List, false, ap, sym, subst}
 use Rattle.csp_tables.specs.Part.{part_at}
 use Rattle.csp_tables.specs.Roles.{UseSets}
 use Rattle.observed_runs.specs.Observed.{pair_at}
