@@ -31,7 +31,7 @@ use Rattle.value_operators.specs.declared.fault.EvalFault.TheVariants as fault
 use Rattle.csp_values.specs.Worth.{worth, worths, number_worth, truth_worth, atoms_worth, chosen, range_of, set_of, use_worth, body_worth, with_items, fields_worth, front_worth, with_front, with_fronts, one_more_binding, walk_worth, each_worth, GivesTally}
 use Rattle.csp_values.specs.declared.tally.Tally.{Tally}
 use Rattle.csp_values.proofs.Equations as eq
-use Rattle.csp_values.proofs.FieldSteps.{front_scaled}
+use Rattle.csp_values.proofs.FieldSteps.{front_scaled, same_found}
 use Rattle.csp_program.proofs.Outcomes.{and_then_regroup}
 
 pub same : {A : Type 0} (r : Result A EvalFault) (o o' : Outcome A) → o ≡ o' → Gives r o' → Gives r o
@@ -165,9 +165,6 @@ datatype_worth p n def args ks ks' o is got came = eq.body-Datatype p n def args
 -- numbers of events
 abbrev found : ℕ → Outcome ℕ
 found k = Ok k
-
-pub same_found : (m k : ℕ) → found m ≡ found k → m ≡ k
-same_found m k h = cc
 
 pub front_of_sets : (p : Content) (n : ℕ) (env : Env) (c : ℕ) (es : List Expr) (channels : List Channel) (sets : List (List Atom)) (o : Outcome ℕ) → channels ≡ p.channels → sets_of (slice_get channels c) ≡ Some sets
     → scaled (fields_worth p n env es sets 0) (each_of sets (length es)) ≡ o → front_worth p n env c es ≡ and_then o (λ place. Ok (first_of (slice_get channels c) + place))

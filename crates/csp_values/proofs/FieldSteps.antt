@@ -16,7 +16,6 @@ use Rattle.csp_values.specs.Worth.{worth, fields_worth, front_worth}
 use Rattle.csp_values.proofs.Equations.{fields-nil, fields-none, fields-cons, front-some}
 use Rattle.csp_base.proofs.Lists.{drop_read}
 use Rattle.csp_program.proofs.Outcomes.{and_then_regroup, came_through}
-use Rattle.csp_values.proofs.Arms.{same_found}
 
 -- the number of fields after others, where both count so many for one
 unfoldable pub fields_after : Content → ℕ → Env → List Expr → List (List Atom) → ℕ → ℕ → Outcome ℕ
@@ -83,6 +82,9 @@ field_refused whole p n env es all set others each number i e k w lt is split ba
 
 abbrev found : ℕ → Outcome ℕ
 found n = Ok n
+
+pub same_found : (m k : ℕ) → found m ≡ found k → m ≡ k
+same_found m k h = cc
 
 pub field_taken : (whole : Outcome ℕ) (p : Content) (n : ℕ) (env : Env) (es : List Expr) (all : List (List Atom)) (set : List Atom) (others : List (List Atom)) (each number more place i : ℕ) (e : Expr)
     → whole ≡ fields_after p n env (drop i es) all each number → i < length es → e ≡ get_or es i e → all ≡ set ∷ others → and_then (worth p n env e) (λ v. field_place set v) ≡ Ok place

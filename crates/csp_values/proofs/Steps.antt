@@ -1,5 +1,5 @@
 -- Lists that are evaluated one element after another: what is left decides together with what has come so far.
-use Rattle.std.proofs.Common.{◌≡◌, ℕ, suc, ◌+◌, ◌<◌, ◌≤◌, List, [], ◌∷◌, ◌++◌, Ok, Err, length, drop, get_or, refl, ap, sym, ◌∙◌, add-one, drop-cons, append_assoc, append-nil}
+use Rattle.std.proofs.Common.{◌≡◌, ℕ, suc, ◌+◌, ◌<◌, List, [], ◌∷◌, ◌++◌, Ok, Err, length, drop, get_or, refl, ap, sym, ◌∙◌, add-one, drop-cons, append_assoc, append-nil}
 use Rattle.csp_program.specs.Atoms.{added}
 use Rattle.csp_program.specs.Outcome.{Outcome, and_then}
 use Rattle.csp_program.specs.Value.{Env, Gathered, as_atom}
