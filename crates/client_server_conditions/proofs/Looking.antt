@@ -11,6 +11,7 @@ use Rattle.csp_tables.specs.Trace.{IsWithin}
 use Rattle.csp_tables.specs.Roles.{RoleSets}
 use Rattle.client_server_conditions.specs.Nodes.{is_in_turn, AreInTurn, EachShared, HasAllOrNone, splits, takes, refuses, is_out_of_turn}
 use Rattle.csp_base.proofs.Booleans.{and_second_false}
+use Rattle.csp_base.proofs.Rising.{member_of_superset, is_subset_of_from_members}
 
 -- ---- steps
 
@@ -51,27 +52,21 @@ each_some P V test breaks (M ∷ Ms) h each = elim (or_cases (test M) (list_any 
   | inr later ↦ each_some P V test breaks Ms later (λ k below within. each (suc k) (omega arith) within)
 ]
 
-within_subset : (M V : List ℕ) → IsWithin M V → is_subset_of M V ≡ true
-within_subset M V w = is_subset_of_from_members M V w
-
-subset_within : (M V : List ℕ) → is_subset_of M V ≡ true → IsWithin M V
-subset_within M V h e x = member_of_superset M V h e x
-
 takes_none : (V R M : List ℕ) → takes V R M ≡ false → IsWithin M V → AreApart M R
-takes_none V R M h within e m r = both_ways (meets_of M R) (and_second_false (is_subset_of M V) (meets_of M R) h (within_subset M V within)) (meets_of_from_member M R e m r)
+takes_none V R M h within e m r = both_ways (meets_of M R) (and_second_false (is_subset_of M V) (meets_of M R) h (is_subset_of_from_members M V within)) (meets_of_from_member M R e m r)
 
 takes_some : (V R M : List ℕ) → takes V R M ≡ true → IsWithin M V × (AreApart M R → ⊥)
 takes_some V R M h =
     let p = and_parts (is_subset_of M V) (meets_of M R) h in
     let x = common_member M R p.1 in
-    (subset_within M V p.0, λ apart. apart x.0 x.1 x.2)
+    (member_of_superset M V p.0, λ apart. apart x.0 x.1 x.2)
 
 splits_none : (V R M : List ℕ) → splits V R M ≡ false → IsWithin M V → HasAllOrNone R M
 splits_none V R M h within =
-    let rest = and_second_false (is_subset_of M V) (meets_of M R && not (is_subset_of R M)) h (within_subset M V within) in
+    let rest = and_second_false (is_subset_of M V) (meets_of M R && not (is_subset_of R M)) h (is_subset_of_from_members M V within) in
     elim (cases_Bool (meets_of M R)) [
       | inl meets ↦ elim (cases_Bool (is_subset_of R M)) [
-        | inl all ↦ inl (subset_within R M all)
+        | inl all ↦ inl (member_of_superset R M all)
         | inr lacks ↦ absurd (both_ways (meets_of M R && not (is_subset_of R M)) rest (and_from (meets_of M R) (not (is_subset_of R M)) meets (ap not lacks)))
       ]
       | inr apart ↦ inr (λ e m r. both_ways (meets_of M R) apart (meets_of_from_member M R e m r))
@@ -82,23 +77,23 @@ splits_some V R M h =
     let p = and_parts (is_subset_of M V) (meets_of M R && not (is_subset_of R M)) h in
     let q = and_parts (meets_of M R) (not (is_subset_of R M)) p.1 in
     let x = common_member M R q.0 in (
-      subset_within M V p.0,
+      member_of_superset M V p.0,
       λ either. elim either [
-        | inl all ↦ both_ways (is_subset_of R M) (not-true (is_subset_of R M) q.1) (within_subset R M all)
+        | inl all ↦ both_ways (is_subset_of R M) (not-true (is_subset_of R M) q.1) (is_subset_of_from_members R M all)
         | inr apart ↦ apart x.0 x.1 x.2
       ],
     )
 
 refuses_none : (V A M : List ℕ) → refuses V A M ≡ false → IsWithin M V → IsWithin A M
 refuses_none V A M h within = elim (cases_Bool (is_subset_of A M)) [
-  | inl all ↦ subset_within A M all
-  | inr lacks ↦ absurd (both_ways (not (is_subset_of A M)) (and_second_false (is_subset_of M V) (not (is_subset_of A M)) h (within_subset M V within)) (ap not lacks))
+  | inl all ↦ member_of_superset A M all
+  | inr lacks ↦ absurd (both_ways (not (is_subset_of A M)) (and_second_false (is_subset_of M V) (not (is_subset_of A M)) h (is_subset_of_from_members M V within)) (ap not lacks))
 ]
 
 refuses_some : (V A M : List ℕ) → refuses V A M ≡ true → IsWithin M V × (IsWithin A M → ⊥)
 refuses_some V A M h =
     let p = and_parts (is_subset_of M V) (not (is_subset_of A M)) h in
-    (subset_within M V p.0, λ all. both_ways (is_subset_of A M) (not-true (is_subset_of A M) p.1) (within_subset A M all))
+    (member_of_superset M V p.0, λ all. both_ways (is_subset_of A M) (not-true (is_subset_of A M) p.1) (is_subset_of_from_members A M all))
 
 -- ---- all acceptances of a node
 

@@ -1,14 +1,13 @@
 -- Acceptances that fall short of a link.
-use Rattle.std.proofs.Common.{◌≡◌, ℕ, ◌<◌, inl, inr, List, [], ◌∷◌, length, get_or, set, true, false, ◌&&◌, Option, Some, None, IsTrue, nat_eq, nat_le, refl, sym, ap, subst, ◌∙◌, arith, eq-eqb}
+use Rattle.std.proofs.Common.{◌≡◌, ℕ, ◌<◌, inl, inr, List, [], ◌∷◌, length, get_or, set, true, false, ◌&&◌, Option, Some, None, IsTrue, nat_eq, nat_le, refl, sym, ap, subst, ◌∙◌, arith}
 use Rattle.std.specs.List.{find}
-use Rattle.std.proofs.lemmas.Bool.{cases_Bool, cases_eq, and_parts, and_from, or_cases, eqb-true, both_ways, false≢true}
+use Rattle.std.proofs.lemmas.Bool.{cases_Bool, cases_eq, or_cases, eqb-true, both_ways, false≢true, or_right}
 use Rattle.std.proofs.lemmas.List.{get_or-set_same, get_or-set_other, get_or_read}
 use Rattle.std.proofs.lemmas.Bool.Decides.{nat_tests}
 use Rattle.csp_base.specs.Members.{has}
 use Rattle.csp_base.specs.Events.{is_subset_of}
 use Rattle.csp_tables.specs.Table.{node_at, is_possible, IsRun, end_of}
 use Rattle.csp_tables.specs.Part.{Part, part_at, alphabets_of, TripleDisjoint}
-use Rattle.csp_tables.specs.Trace.{IsWithin}
 use Rattle.csp_tables.specs.Shape.{Shape, is_end, link_at, acceptance_at, IsWellFormed}
 use Rattle.net_sound.proofs.Within.{part_form}
 use Rattle.design_rules.specs.Cyclic.{AllKeepPlaces, FallsShort, IsWholeEnd, ReachesLink}
@@ -19,46 +18,19 @@ use Rattle.shape_links.specs.Links.{IsOwner}
 use Rattle.cyclic_conditions.specs.Shorts.{IsShort, IsOnOne, IsShortAt, short_at, IsSomeShort, IsMarked, KeepsShorts}
 use Rattle.shape_links.proofs.Links.{owner_end}
 use Rattle.std.proofs.lemmas.Option.{same_Some}
-use Rattle.csp_base.proofs.Listed.{find_has}
+use Rattle.csp_base.proofs.Listed.{find_has, has_first}
 use Rattle.csp_base.proofs.Booleans.{and_second_false}
+use Rattle.csp_base.proofs.Rising.{member_of_superset, is_subset_of_from_members}
 
 -- ---- sets
-
-pub subset_within : (M N : List ℕ) → is_subset_of M N ≡ true → IsWithin M N
-subset_within [] N h e x = absurd (false≢true x)
-subset_within (y ∷ ys) N h e x =
-    let p = and_parts (has N y) (is_subset_of ys N) h in
-    elim (or_cases (nat_eq y e) (has ys e) x) [
-      | inl same ↦ subst (λ z. has N z ≡ true) (eqb-true y e same) p.0
-      | inr later ↦ subset_within ys N p.1 e later
-    ]
-
-pub within_subset : (M N : List ℕ) → IsWithin M N → is_subset_of M N ≡ true
-within_subset [] N w = refl
-within_subset (y ∷ ys) N w = and_from (has N y) (is_subset_of ys N) (w y (first y ys)) (within_subset ys N (λ e x. w e (later y ys e x)))
-  where
-    first : (z : ℕ) (zs : List ℕ) → has (z ∷ zs) z ≡ true
-    first z zs = rw (eq-eqb z z refl) refl
-
-    later : (z : ℕ) (zs : List ℕ) (e : ℕ) → has zs e ≡ true → has (z ∷ zs) e ≡ true
-    later z zs e x = elim (cases_Bool (nat_eq z e)) [ inl k ↦ rw k refl | inr k ↦ rw k x ]
 
 -- a member that is missing
 pub missing : (M N : List ℕ) → is_subset_of M N ≡ false → (e : ℕ) × (has M e ≡ true) × (has N e ≡ false)
 missing [] N h = absurd (false≢true (sym h))
 missing (y ∷ ys) N h = elim (cases_Bool (has N y)) [
-  | inl there ↦ let r = missing ys N (and_second_false (has N y) (is_subset_of ys N) h there) in (r.0, later y ys r.0 r.1, r.2)
-  | inr lacks ↦ (y, first y ys, lacks)
+  | inl there ↦ let r = missing ys N (and_second_false (has N y) (is_subset_of ys N) h there) in (r.0, or_right (nat_eq y r.0) (has ys r.0) r.1, r.2)
+  | inr lacks ↦ (y, has_first y ys, lacks)
 ]
-  where
-    first : (z : ℕ) (zs : List ℕ) → has (z ∷ zs) z ≡ true
-    first z zs = rw (eq-eqb z z refl) refl
-
-    later : (z : ℕ) (zs : List ℕ) (e : ℕ) → has zs e ≡ true → has (z ∷ zs) e ≡ true
-    later z zs e x = elim (cases_Bool (nat_eq z e)) [ inl k ↦ rw k refl | inr k ↦ rw k x ]
-
-    later : (z : ℕ) (zs : List ℕ) (w : ℕ) → has zs w ≡ true → has (z ∷ zs) w ≡ true
-    later z zs w y = elim (cases_Bool (nat_eq z w)) [ inl k ↦ rw k refl | inr k ↦ rw k y ]
 
 zero_least : (x : ℕ) → nat_le 0 x ≡ true
 zero_least x = grind (arith, nat_tests)
@@ -102,7 +74,7 @@ short_set shape l e M within first o lacks =
     let x = missing (link_at shape l).shared M lacks in
     record {
       link = o.within;
-      shared = subset_within M shape.vocabulary within;
+      shared = member_of_superset M shape.vocabulary within;
       meets = record { event = e; first = first_found M e first; second = o.event };
       missing = x.0;
       on = x.1;
@@ -110,13 +82,13 @@ short_set shape l e M within first o lacks =
     }
 
 pub short_subset : (shape : Shape) (l : ℕ) (M : List ℕ) → IsShort shape l M → is_subset_of M shape.vocabulary ≡ true
-short_subset shape l M s = within_subset M shape.vocabulary s.shared
+short_subset shape l M s = is_subset_of_from_members M shape.vocabulary s.shared
 
 pub short_owner : (shape : Shape) (l m e : ℕ) (M : List ℕ) → IsOnOne shape M → IsShort shape l M → find (nat_le 0) M ≡ Some e → IsOwner shape m e → l ≡ m
 short_owner shape l m e M one s first o = one l m s.meets.event e s.link o.within s.meets.first (first_found M e first) s.meets.second o.event
 
 pub short_lacks : (shape : Shape) (l : ℕ) (M : List ℕ) → IsShort shape l M → is_subset_of (link_at shape l).shared M ≡ true → ⊥
-short_lacks shape l M s h = both_ways (has M s.missing) s.lacks (subset_within (link_at shape l).shared M h s.missing s.on)
+short_lacks shape l M s h = both_ways (has M s.missing) s.lacks (member_of_superset (link_at shape l).shared M h s.missing s.on)
 
 -- ---- ends that fall short
 

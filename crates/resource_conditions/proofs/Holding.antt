@@ -21,9 +21,10 @@ use Rattle.observed_runs.specs.Exploration.{IsExploration}
 use Rattle.resource_conditions.specs.Setting.{Setting, node_of}
 use Rattle.shape_links.specs.Links.{AreOwners}
 use Rattle.resource_conditions.specs.Tests.{is_turn, are_turns, wanted_in, are_grants}
-use Rattle.resource_conditions.proofs.Sets.{subset_within, within_subset, in_both, of_both, all_possible, some_possible, all_at, some_at, either_of, neither_of}
+use Rattle.resource_conditions.proofs.Sets.{in_both, of_both, all_possible, some_possible, all_at, some_at, either_of, neither_of}
 use Rattle.std.proofs.lemmas.Option.{same_Some}
 use Rattle.observed_runs.proofs.Leading.{observed_push}
+use Rattle.csp_base.proofs.Rising.{member_of_superset, is_subset_of_from_members}
 
 -- ---- what an exploration shows of runs
 
@@ -204,21 +205,21 @@ module _ (g : Setting) (i : ℕ) (holders : List ℕ) (w : IsWellFormed g.shape)
           let M = accepted g.shape i s k in
           let wanted = wanted_in g i (state_of s) in
           let t = all_at (granted (wanted_in g i (state_of s))) (acceptances_after (part_at g.shape.parts i).table s) k accepts.listed (all s accepts.runs.follows) in
-          subset_within (wanted_in g i (state_of s)) (accepted g.shape i s k) (either_of (is_subset_of (accepted g.shape i s k) g.shape.vocabulary) (is_subset_of (wanted_in g i (state_of s)) (accepted g.shape i s k)) t (within_subset (accepted g.shape i s k) g.shape.vocabulary accepts.shared))
+          member_of_superset (wanted_in g i (state_of s)) (accepted g.shape i s k) (either_of (is_subset_of (accepted g.shape i s k) g.shape.vocabulary) (is_subset_of (wanted_in g i (state_of s)) (accepted g.shape i s k)) t (is_subset_of_from_members (accepted g.shape i s k) g.shape.vocabulary accepts.shared))
 
   pub not_all_granted : (s : List ℕ) → IsRun (part_at g.shape.parts i).table s → are_grants g i (end_of (part_at g.shape.parts i).table 0 s, observed (holder_step holders) 0 s) ≡ false → GrantsAll g.shape g.uses i s → ⊥
   not_all_granted s run broken grants =
       let x = some_at (granted (wanted_in g i (state_of s))) (acceptances_after (part_at g.shape.parts i).table s) broken in
       let k = x.0 in
       let n = neither_of (is_subset_of (accepted g.shape i s x.0) g.shape.vocabulary) (is_subset_of (wanted_in g i (state_of s)) (accepted g.shape i s x.0)) x.2 in
-      let accepts : Accepts g.shape i s x.0 = record { runs = record { part = h; follows = run }; listed = x.1; shared = subset_within (accepted g.shape i s x.0) g.shape.vocabulary n.0 } in
+      let accepts : Accepts g.shape i s x.0 = record { runs = record { part = h; follows = run }; listed = x.1; shared = member_of_superset (accepted g.shape i s x.0) g.shape.vocabulary n.0 } in
       let st = state_is s run in
       elim (cases_Bool (is_held g.shape s)) [
         | inl held ↦
             let r = st.held held in
             let all = subst (λ M. IsWithin M (accepted g.shape i s x.0)) (sym (held_wanted (state_of s) r.0 r.2)) (λ (e : ℕ) (m : IsTrue (has (inter_of (use_at g.uses i).release (link_at g.shape r.0).shared) e)). let b = of_both (use_at g.uses i).release (link_at g.shape r.0).shared e m in grants.when_held r.0 x.0 e accepts held r.1 b.0 b.1) in
-            both_ways (is_subset_of (wanted_in g i (state_of s)) (accepted g.shape i s x.0)) n.1 (within_subset (wanted_in g i (state_of s)) (accepted g.shape i s x.0) all)
+            both_ways (is_subset_of (wanted_in g i (state_of s)) (accepted g.shape i s x.0)) n.1 (is_subset_of_from_members (wanted_in g i (state_of s)) (accepted g.shape i s x.0) all)
         | inr free ↦
             let all = subst (λ M. IsWithin M (accepted g.shape i s x.0)) (sym (free_wanted (state_of s) (st.free free))) (grants.when_free x.0 accepts free) in
-            both_ways (is_subset_of (wanted_in g i (state_of s)) (accepted g.shape i s x.0)) n.1 (within_subset (wanted_in g i (state_of s)) (accepted g.shape i s x.0) all)
+            both_ways (is_subset_of (wanted_in g i (state_of s)) (accepted g.shape i s x.0)) n.1 (is_subset_of_from_members (wanted_in g i (state_of s)) (accepted g.shape i s x.0) all)
       ]

@@ -9,8 +9,8 @@ use Rattle.csp_tables.specs.Roles.{use_at}
 use Rattle.design_rules.specs.ResourceFaults.{LacksKind}
 use Rattle.resource_conditions.specs.Setting.{Setting, HasLinked, HasParted, KeepKinds}
 use Rattle.resource_conditions.specs.Finding.{IsFirstWithout}
-use Rattle.resource_conditions.proofs.Sets.{subset_within, within_subset}
 use Rattle.csp_base.proofs.Listed.{any_of, any_member}
+use Rattle.csp_base.proofs.Rising.{member_of_superset, is_subset_of_from_members}
 
 -- ---- sets
 
@@ -62,17 +62,17 @@ module _ (g : Setting) (i : ℕ) (told shared : List ℕ) (told_is : (e : ℕ) �
   parted apart within all _ e =
       one_of (has acquire e) (has release e) (is_shared e)
       (λ a b. both_ways (meets_of (use_at g.uses i).acquire (use_at g.uses i).release) apart (any_of (has release) acquire e a b))
-      (λ a. sym (shared_is e) ∙ subset_within told shared within e (told_is e ∙ or_left (has acquire e) (has release e) a))
-      (λ b. sym (shared_is e) ∙ subset_within told shared within e (told_is e ∙ or_right (has acquire e) (has release e) b))
-      (λ s. sym (told_is e) ∙ subset_within shared told all e (shared_is e ∙ s))
+      (λ a. sym (shared_is e) ∙ member_of_superset told shared within e (told_is e ∙ or_left (has acquire e) (has release e) a))
+      (λ b. sym (shared_is e) ∙ member_of_superset told shared within e (told_is e ∙ or_right (has acquire e) (has release e) b))
+      (λ s. sym (told_is e) ∙ member_of_superset shared told all e (shared_is e ∙ s))
 
   pub not_within : (use_at g.uses i).resource ≡ true → is_subset_of told shared ≡ false → HasParted g i → ⊥
   not_within resource lacks parts =
-      both_ways (is_subset_of told shared) lacks (within_subset told shared (λ e x. shared_is e ∙ either_shared (has acquire e) (has release e) (is_shared e) (sym (told_is e) ∙ x) (parts resource e)))
+      both_ways (is_subset_of told shared) lacks (is_subset_of_from_members told shared (λ e x. shared_is e ∙ either_shared (has acquire e) (has release e) (is_shared e) (sym (told_is e) ∙ x) (parts resource e)))
 
   pub not_all : (use_at g.uses i).resource ≡ true → is_subset_of shared told ≡ false → HasParted g i → ⊥
   not_all resource lacks parts =
-      both_ways (is_subset_of shared told) lacks (within_subset shared told (λ e x. told_is e ∙ shared_either (has acquire e) (has release e) (is_shared e) (sym (shared_is e) ∙ x) (parts resource e)))
+      both_ways (is_subset_of shared told) lacks (is_subset_of_from_members shared told (λ e x. told_is e ∙ shared_either (has acquire e) (has release e) (is_shared e) (sym (shared_is e) ∙ x) (parts resource e)))
 
 -- ---- both
 

@@ -1,34 +1,20 @@
 -- Sets of events, and tests of all members of a list.
 use Rattle.std.proofs.Common.{◌≡◌, ℕ, zero, suc, ◌<◌, inl, inr, List, [], ◌∷◌, length, get_or, Bool, true, false, not, ◌&&◌, ◌||◌, Some, nat_eq, nat_le, refl, sym, subst, ◌∙◌, arith, eq-eqb}
 use Rattle.std.specs.List.{find, list_all, list_any, filter}
-use Rattle.std.proofs.lemmas.Bool.{cases_Bool, cond-true, cond-false, and_parts, and_from, or_cases, or_left, or_right, eqb-true, false≢true}
+use Rattle.std.proofs.lemmas.Bool.{cases_Bool, cond-true, cond-false, and_parts, or_cases, or_left, or_right, eqb-true, false≢true}
 use Rattle.std.proofs.lemmas.List.{get_or_read}
 use Rattle.std.proofs.lemmas.List.Folds.{list_all_at}
 use Rattle.std.proofs.lemmas.Bool.Decides.{nat_tests}
 use Rattle.csp_base.specs.Members.{has}
-use Rattle.csp_base.specs.Events.{is_subset_of, inter_of}
+use Rattle.csp_base.specs.Events.{inter_of}
 use Rattle.csp_tables.specs.Table.{is_possible}
-use Rattle.csp_tables.specs.Trace.{IsWithin}
-use Rattle.csp_base.proofs.Listed.{has_first, find_has}
+use Rattle.csp_base.proofs.Listed.{find_has}
 use Rattle.csp_base.proofs.Booleans.{and_second_false}
 
 -- ---- members
 
 has_later : (z : ℕ) (zs : List ℕ) (e : ℕ) → has zs e ≡ true → has (z ∷ zs) e ≡ true
 has_later z zs e x = elim (cases_Bool (nat_eq z e)) [ inl k ↦ rw k refl | inr k ↦ rw k x ]
-
-pub subset_within : (M N : List ℕ) → is_subset_of M N ≡ true → IsWithin M N
-subset_within [] N h e x = absurd (false≢true x)
-subset_within (y ∷ ys) N h e x =
-    let p = and_parts (has N y) (is_subset_of ys N) h in
-    elim (or_cases (nat_eq y e) (has ys e) x) [
-      | inl same ↦ subst (λ z. has N z ≡ true) (eqb-true y e same) p.0
-      | inr later ↦ subset_within ys N p.1 e later
-    ]
-
-pub within_subset : (M N : List ℕ) → IsWithin M N → is_subset_of M N ≡ true
-within_subset [] N w = refl
-within_subset (y ∷ ys) N w = and_from (has N y) (is_subset_of ys N) (w y (has_first y ys)) (within_subset ys N (λ e x. w e (has_later y ys e x)))
 
 -- the members of both
 pub in_both : (M N : List ℕ) (e : ℕ) → has M e ≡ true → has N e ≡ true → has (inter_of M N) e ≡ true

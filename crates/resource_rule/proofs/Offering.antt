@@ -16,16 +16,17 @@ use Rattle.observed_runs.specs.Exploration.{Found}
 use Rattle.resource_conditions.specs.Setting.{Setting, IsUser, node_of}
 use Rattle.resource_rule.specs.Uses.{is_offered, is_offered_at, WatchesLink, IsOfferedHolding}
 use Rattle.resource_conditions.proofs.Acquiring.{is_part}
-use Rattle.resource_conditions.proofs.Sets.{subset_within, within_subset, any_at}
+use Rattle.resource_conditions.proofs.Sets.{any_at}
 use Rattle.resource_rule.proofs.Using.{parity_is}
 use Rattle.csp_base.proofs.Listed.{any_of, any_member}
+use Rattle.csp_base.proofs.Rising.{member_of_superset, is_subset_of_from_members}
 
 -- ---- events that are collected
 
 -- a set that is within another adds nothing to it
 pub absorbed : (M N : List ℕ) (b : Bool) (e : ℕ) → is_subset_of M N ≡ true → has N e ≡ (has N e || (b && has M e))
 absorbed M N b e within = elim (cases_Bool (has M e)) [
-  | inl there ↦ let x = subset_within M N within e there in x ∙ sym (or_left (has N e) (b && has M e) x)
+  | inl there ↦ let x = member_of_superset M N within e there in x ∙ sym (or_left (has N e) (b && has M e) x)
   | inr lacks ↦ nothing (has N e) b (has M e) lacks
 ]
   where
@@ -62,7 +63,7 @@ module _ (g : Setting) (i l : ℕ) (found : Found) (h : i < length g.shape.parts
       record {
         run = s.0;
         place = place.0;
-        accepts = record { runs = record { part = h; follows = s.1.follows }; listed = place.1; shared = subset_within (accepted g.shape i s.0 place.0) g.shape.vocabulary both.0 };
+        accepts = record { runs = record { part = h; follows = s.1.follows }; listed = place.1; shared = member_of_superset (accepted g.shape i s.0 place.0) g.shape.vocabulary both.0 };
         holding = one_is (holds g.shape l s.0) (sym (parity_is g l s.0) ∙ s.1.state ∙ eqb-true (pair_at found.pairs k.0).1 1 p.0);
         offered = both.1;
       }
@@ -71,7 +72,7 @@ module _ (g : Setting) (i l : ℕ) (found : Found) (h : i < length g.shape.parts
   offered_complete e o =
       let p = x.explored.listed o.run o.accepts.runs.follows in
       let here = list_any_at (λ M. is_subset_of M g.shape.vocabulary && has M e) (acceptances_after (part_at g.shape.parts i).table o.run) o.place [] o.accepts.listed
-      (and_from (is_subset_of (accepted g.shape i o.run o.place) g.shape.vocabulary) (has (accepted g.shape i o.run o.place) e) (within_subset (accepted g.shape i o.run o.place) g.shape.vocabulary o.accepts.shared) o.offered) in
+      (and_from (is_subset_of (accepted g.shape i o.run o.place) g.shape.vocabulary) (has (accepted g.shape i o.run o.place) e) (is_subset_of_from_members (accepted g.shape i o.run o.place) g.shape.vocabulary o.accepts.shared) o.offered) in
       let there = subst (λ n. offers n e ≡ true) p.2.node here in
       let one = sym p.2.state ∙ parity_is g l o.run ∙ cond-true (holds g.shape l o.run) 1 0 o.holding in
       list_any_at (λ (pair : ℕ × ℕ). nat_eq pair.1 1 && offers pair.0 e) found.pairs p.0 (0, 0) p.1 (and_from (nat_eq (pair_at found.pairs p.0).1 1) (offers (pair_at found.pairs p.0).0 e) (eq-eqb (pair_at found.pairs p.0).1 1 one) there)

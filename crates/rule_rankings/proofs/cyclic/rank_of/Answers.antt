@@ -4,15 +4,16 @@ use Rattle.std.specs.Prelude.{slice_index}
 use Rattle.std.proofs.lemmas.Bool.{false≢true}
 use Rattle.csp_base.specs.Events.{is_subset_of}
 use Rattle.csp_tables.specs.Shape.{Shape}
-use Rattle.cyclic_conditions.proofs.Shortness.{first_found, subset_within, within_subset, vocabulary_owner, nothing}
+use Rattle.cyclic_conditions.proofs.Shortness.{first_found, vocabulary_owner, nothing}
 use Rattle.rule_rankings.proofs.cyclic.rank_of.Goals as goal
 use Rattle.csp_base.proofs.Listed.{none_found}
+use Rattle.csp_base.proofs.Rising.{member_of_superset, is_subset_of_from_members}
 
 pub returns-then-not-is_subset : goal.returns-then-not-is_subset
 returns-then-not-is_subset c =
     let subset = sym c.if-not-is_subset.true ∙ (c.is_subset.ensures ∙ ap (is_subset_of c.args.set.now) (c.vocabulary.ensures ∙ ap (λ (x : Shape). x.vocabulary) c.shape.ensures.value)) in
     record {
-      on_link = λ l one within h m. absurd (false≢true (subset ∙ within_subset c.args.set.now c.args.prepared.now.vocabulary within));
+      on_link = λ l one within h m. absurd (false≢true (subset ∙ is_subset_of_from_members c.args.set.now c.args.prepared.now.vocabulary within));
       other = λ _. refl;
     }
 
@@ -43,5 +44,5 @@ returns c =
     let rank : to_z w64 (of_z w64 c.signed.result) ≡ pos (slice_index c.args.numbers.now c.in-Some-owner.link) = same ∙ c.signed.ensures ∙ ap pos (c.from.ensures ∙ c.of.ensures) in
     record {
       on_link = λ l one within h m. rank ∙ ap (λ (k : ℕ). pos (slice_index c.args.numbers.now k)) (one c.in-Some-owner.link l c.in-Some.event m.event o.within h member m.first o.event m.second);
-      other = λ none. absurd (none (subset_within c.args.set.now c.args.prepared.now.vocabulary subset) (c.in-Some.event, member));
+      other = λ none. absurd (none (member_of_superset c.args.set.now c.args.prepared.now.vocabulary subset) (c.in-Some.event, member));
     }
