@@ -1,9 +1,8 @@
 -- Acceptances that fall short of a link.
-use Rattle.std.proofs.Common.{◌≡◌, ℕ, ◌<◌, inl, inr, List, [], ◌∷◌, length, get_or, set, true, false, ◌&&◌, Option, Some, None, IsTrue, nat_eq, nat_le, refl, sym, ap, subst, ◌∙◌, arith}
+use Rattle.std.proofs.Common.{◌≡◌, ℕ, ◌<◌, inl, inr, List, [], ◌∷◌, length, get_or, set, true, false, Option, Some, None, IsTrue, nat_eq, nat_le, refl, sym, ap, subst, ◌∙◌, arith}
 use Rattle.std.specs.List.{find}
 use Rattle.std.proofs.lemmas.Bool.{cases_Bool, cases_eq, or_cases, eqb-true, both_ways, false≢true, or_right}
 use Rattle.std.proofs.lemmas.List.{get_or-set_same, get_or-set_other, get_or_read}
-use Rattle.std.proofs.lemmas.Bool.Decides.{nat_tests}
 use Rattle.csp_base.specs.Members.{has}
 use Rattle.csp_base.specs.Events.{is_subset_of}
 use Rattle.csp_tables.specs.Table.{node_at, is_possible, IsRun, end_of}
@@ -31,9 +30,6 @@ missing (y ∷ ys) N h = elim (cases_Bool (has N y)) [
   | inl there ↦ let r = missing ys N (and_second_false (has N y) (is_subset_of ys N) h there) in (r.0, or_right (nat_eq y r.0) (has ys r.0) r.1, r.2)
   | inr lacks ↦ (y, has_first y ys, lacks)
 ]
-
-zero_least : (x : ℕ) → nat_le 0 x ≡ true
-zero_least x = grind (arith, nat_tests)
 
 pub first_found : (M : List ℕ) (e : ℕ) → find (nat_le 0) M ≡ Some e → has M e ≡ true
 first_found M e h = find_has (nat_le 0) M e h

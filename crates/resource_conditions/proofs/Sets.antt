@@ -4,7 +4,6 @@ use Rattle.std.specs.List.{find, list_all, list_any, filter}
 use Rattle.std.proofs.lemmas.Bool.{cases_Bool, cond-true, cond-false, and_parts, or_cases, or_left, or_right, eqb-true, false≢true}
 use Rattle.std.proofs.lemmas.List.{get_or_read}
 use Rattle.std.proofs.lemmas.List.Folds.{list_all_at}
-use Rattle.std.proofs.lemmas.Bool.Decides.{nat_tests}
 use Rattle.csp_base.specs.Members.{has}
 use Rattle.csp_base.specs.Events.{inter_of}
 use Rattle.csp_tables.specs.Table.{is_possible}
@@ -44,9 +43,6 @@ inter_none [] = refl
 inter_none (x ∷ M) = inter_none M
 
 -- ---- the first member
-
-zero_least : (x : ℕ) → nat_le 0 x ≡ true
-zero_least x = grind (arith, nat_tests)
 
 pub first_found : (M : List ℕ) (e : ℕ) → find (nat_le 0) M ≡ Some e → has M e ≡ true
 first_found M e h = find_has (nat_le 0) M e h

@@ -31,7 +31,7 @@ module _ {A B C : Type 0} (f : ℕ → A → Outcome (List B)) (h : List B → L
   pub left_end : (done : List C) (xs : List A) (k i : ℕ) → length xs ≤ i → left f h done k (drop i xs) ≡ Ok done
   unfolding left
   left_end done xs k i past =
-      ap (λ rest. and_then (each_joined f k rest) (λ ys. Ok (done ++ h ys))) (drop_of_length-le xs i past) ∙
+      ap (λ rest. and_then (each_joined f k rest) (λ ys. Ok (done ++ h ys))) (drop_of_length-le xs past) ∙
       (ap (λ ys. Ok (done ++ ys)) empty ∙ ap (λ ys. Ok ys) (append-nil done))
 
   ahead : (o : Outcome (List B)) (done : List C) (ys : List B)

@@ -94,7 +94,7 @@ module _ (p : Content) (pairs : List (EventPart × EventPart)) where
   each_some x a atoms gens env state = refl
 
   pub each_end : (x : ℕ) (atoms : List Atom) (gens : List Gen) (env : Env) (state : Gathering) (i : ℕ) → length atoms ≤ i → renamed_each p pairs x (drop i atoms) gens env state ≡ Ok state
-  each_end x atoms gens env state i past = ap (λ xs. renamed_each p pairs x xs gens env state) (drop_of_length-le atoms i past) ∙ each_none x gens env state
+  each_end x atoms gens env state i past = ap (λ xs. renamed_each p pairs x xs gens env state) (drop_of_length-le atoms past) ∙ each_none x gens env state
 
   module _ (x : ℕ) (atoms : List Atom) (gens : List Gen) (env inner : Env) (state : Gathering) (i : ℕ) (a : Atom) (lt : i < length atoms) (is : a ≡ get_or atoms i a) (named : inner ≡ (x, One a) ∷ env) where
     each_here : renamed_each p pairs x (drop i atoms) gens env state ≡ and_then (renamed_walk p pairs gens inner state) (λ next. renamed_each p pairs x (drop (i + 1) atoms) gens env next)
