@@ -93,11 +93,14 @@ impl<T> Items<T> {
 }
 
 impl<T: Drop> Items<T> {
-    /// Puts `item` at the end. Where there is no memory for it, it is dropped.
+    /// Puts `item` at the end. Where there is no memory for it, it is dropped. The first item gets room for itself alone, since most lists hold one.
     pub fn push(&mut self, item: T) -> Result<(), AllocError>
         ensures ok { OnOk result (self.new ≡ self.old ++ item ∷ []) }
         ensures err { OnErr result (self.new ≡ self.old) }
     {
+        if self.items.is_empty() {
+            self.items.reserve_exact(1)?;
+        }
         self.items.push(item)?;
         Ok(())
     }
@@ -108,8 +111,7 @@ impl<T: Drop> Items<T> {
         ensures err { OnErr result (self.new ≡ self.old) }
     {
         let item = made?;
-        self.items.push(item)?;
-        Ok(())
+        self.push(item)
     }
 
     /// Puts `item` at `place`, before the items that were there. Where there is no memory for it, it is dropped.
