@@ -106,7 +106,8 @@ pub(crate) fn read<'t>(
     ensures answered { Answered result seen form limits tokens.now }
     ensures falls { IfOk result (λ r. found_weight r.rest.now < pending_weight form tokens.now) }
 {
-    let mut frames = Items::new(alloc);
+    // room for a few frames, since nearly every form has more than one
+    let mut frames = Items::from_vec(Vec::with_capacity(alloc, 4)?);
     let mut step = begin(alloc, form, limits, tokens)?;
     loop {
         match turn(alloc, &mut frames, step)? {
