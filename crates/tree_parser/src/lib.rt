@@ -4,7 +4,6 @@
 
 mod calls;
 mod reading;
-mod turn;
 
 pub use calls::{atom, tree};
 pub use tree_reading::{Limits, Read, ReadFault};

@@ -5,9 +5,9 @@ use Rattle.tree_parser.proofs.Turns.{Leads}
 use Rattle.tree_parser.proofs.reading.read.Given as goal
 
 -- what the reading comes to so far is what the whole comes to, and it weighs less
-abbrev pub invariant-loop-frames : goal.invariant-loop-frames
-invariant-loop-frames l =
+abbrev pub invariant-loop-step : goal.invariant-loop-step
+invariant-loop-step l =
     Leads l.fn.form l.fn.limits l.fn.tokens (moved l.step) l.frames × (reading_weight (moved l.step) l.frames < pending_weight l.fn.form l.fn.tokens)
 
-abbrev pub decreases-loop-frames : goal.decreases-loop-frames
-decreases-loop-frames l = reading_weight (moved l.step) l.frames
+abbrev pub decreases-loop-step : goal.decreases-loop-step
+decreases-loop-step l = reading_weight (moved l.step) l.frames
