@@ -1,7 +1,7 @@
 -- The reading goes on as the step in it does: each turn keeps what the whole comes to.
-use Rattle.std.proofs.Common.{◌≡◌, ℕ, ◌+◌, ◌*◌, ◌<◌, Option, Some, None, List, [], ◌∷◌, ◌++◌, length, Ok, Err, refl, sym, ap, subst, ◌∙◌, arith}
+use Rattle.std.proofs.Common.{◌≡◌, ℕ, ◌+◌, ◌*◌, ◌<◌, ◌≤◌, Option, Some, None, List, [], ◌∷◌, ◌++◌, length, Ok, Err, refl, sym, ap, subst, ◌∙◌, arith}
 use Rattle.std.proofs.lemmas.List.{length-append}
-use Rattle.std.specs.Prelude.{Result}
+use Rattle.std.specs.Prelude.{IfOk, Result}
 use Rattle.std.specs.Result.{IsErrAnd}
 use Rattle.csp_text.specs.declared.token.Token.{Token}
 use Rattle.csp_text.specs.declared.tree.Tree.{Tree}
@@ -14,21 +14,18 @@ use Rattle.tree_steps.specs.Machine.{begin, resume}
 use Rattle.tree_parser.specs.Meaning.{FormGives, FrameGives, MoveGives}
 use Rattle.expression_steps.specs.Moved.{FoundTree, Moved, moved, pending_weight, seen, weight}
 use Rattle.expression_steps.specs.Moved.Moved.{found, inner, next}
-use Rattle.tree_parser.specs.Stack.{Answered, Waiting, reading_weight, stacked, whole}
+use Rattle.tree_parser.specs.Stack.{Answered, Begun, Waiting, first_part, reading_weight, stacked, waiting_for, whole}
 use Rattle.tree_parser.specs.Then.{Outcome}
 use Rattle.expression_steps.specs.declared.form.Form.{Form}
+use Rattle.expression_steps.specs.declared.form.Form.TheVariants as form
 use Rattle.expression_steps.specs.declared.frame.Frame.{Frame}
 use Rattle.expression_steps.specs.declared.step.Step.{Step}
 use Rattle.tree_parser.proofs.Combining.{StepGives}
 use Rattle.tree_parser.proofs.Steps.{begun, resumed}
 
-stacked_one : (frames : List Frame) (w : Frame) (K : FoundTree → Outcome → Type 0) (p : FoundTree) (s : Outcome) →
-    stacked (frames ++ w ∷ []) K p s ≡ FrameGives w p (stacked frames K) s
-stacked_one [] w K p s = refl
-stacked_one (v ∷ frames) w K p s = stacked_one frames w (λ p s. FrameGives v p K s) p s
-
-waiting_one : (frames : List Frame) (w : Frame) → Waiting (frames ++ w ∷ []) ≡ (λ p s. FrameGives w p (Waiting frames) s)
-waiting_one frames w = λ i p s. stacked_one frames w whole p s i
+stacked_more : (frames more : List Frame) (K : FoundTree → Outcome → Type 0) → stacked (frames ++ more) K ≡ stacked more (stacked frames K)
+stacked_more [] more K = refl
+stacked_more (w ∷ frames) more K = stacked_more frames more (λ p s. FrameGives w p K s)
 
 -- what a step comes to, from what it gives
 step_gives : (o : Option Moved) (m : Moved) (K : FoundTree → Outcome → Type 0) (s : Outcome) → o ≡ Some m → MoveGives m K s → StepGives o K s
@@ -37,98 +34,131 @@ step_gives o m K s e h = subst (λ x. StepGives x K s) (sym e) h
 step_stops : (o : Option Moved) (K : FoundTree → Outcome → Type 0) → o ≡ None → StepGives o K None
 step_stops o K e = subst (λ x. StepGives x K None) (sym e) refl
 
--- the last frame has its part
-last_resumed : (before after : List Frame) (w : Frame) (p : FoundTree) (s : Outcome) → before ≡ after ++ w ∷ [] → StepGives (resume w p) (Waiting after) s → MoveGives (found p) (Waiting before) s
-last_resumed before after w p s e h = subst (λ fs. Waiting fs p s) (sym e) (subst (λ X. X) (sym (stacked_one after w whole p s)) (resumed (Waiting after) s w p h))
+-- what waits for the first part of a form goes on with it
+descended : (f : Form) (l : Limits) (ts : List Token) (K : FoundTree → Outcome → Type 0) (s : Outcome) → FormGives (first_part f) l ts (stacked (waiting_for f l) K) s → FormGives f l ts K s
+descended form.Tree l ts K s h = begun K s form.Tree l ts (begun _ s form.Side l ts (begun _ s form.Sequence l ts h))
+descended form.Side l ts K s h = begun K s form.Side l ts (begun _ s form.Sequence l ts h)
+descended form.Sequence l ts K s h = begun K s form.Sequence l ts h
+descended form.Prefix l ts K s h = h
+descended (form.Expression level) l ts K s h = h
+descended form.Atom l ts K s h = h
+descended form.Item l ts K s h = h
+descended (form.Fields name fields may_dot) l ts K s h = h
+descended (form.Part of) l ts K s h = h
+descended (form.Generators of generators) l ts K s h = h
 
--- a form is begun while one frame more waits
-entered : (before after : List Frame) (w : Frame) (f : Form) (l : Limits) (ts : List Token) (s : Outcome) → after ≡ before ++ w ∷ [] → StepGives (begin f l ts) (Waiting after) s →
-    MoveGives (inner w f l ts) (Waiting before) s
-entered before after w f l ts s e h = subst (λ K. FormGives f l ts K s) (ap Waiting e ∙ waiting_one before w) (begun (Waiting after) s f l ts h)
+-- a form's first part weighs less, with what waits for it
+part_lighter : (f : Form) (l : Limits) (ts : List Token) → pending_weight (first_part f) ts + 2 * length (waiting_for f l) ≤ pending_weight f ts
+part_lighter form.Tree l ts = omega arith
+part_lighter form.Side l ts = omega arith
+part_lighter form.Sequence l ts = omega arith
+part_lighter form.Prefix l ts = omega arith
+part_lighter (form.Expression level) l ts = omega arith
+part_lighter form.Atom l ts = omega arith
+part_lighter form.Item l ts = omega arith
+part_lighter (form.Fields name fields may_dot) l ts = omega arith
+part_lighter (form.Part of) l ts = omega arith
+part_lighter (form.Generators of generators) l ts = omega arith
+
+-- a form is begun at its first part
+module _ (before after : List Frame) (f first : Form) (l : Limits) (ts : List Token) (lie : after ≡ before ++ waiting_for f l) (is : first ≡ first_part f) where
+  begun_within : (s : Outcome) → StepGives (begin first l ts) (Waiting after) s → FormGives f l ts (Waiting before) s
+  begun_within s h =
+      let first_gives : FormGives first l ts (Waiting after) s = begun (Waiting after) s first l ts h in
+      descended f l ts (Waiting before) s (subst (λ K. FormGives (first_part f) l ts K s) (ap Waiting lie ∙ stacked_more before (waiting_for f l) whole) (subst (λ g. FormGives g l ts (Waiting after) s) is first_gives))
+
+  pub begins : (r : Result Step ReadFault) → Gives r moved (begin first l ts) → Begun r after f l ts before
+  begins (Ok m) e = λ s h. begun_within s (step_gives (begin first l ts) (moved m) (Waiting after) s e h)
+  begins (Err fault.NoMemory) e = tt
+  begins (Err (fault.NoText left)) e = begun_within None (step_stops (begin first l ts) (Waiting after) e)
+
+  pub falls : (r : Result Step ReadFault) → IfOk r (λ m. weight (moved m) < pending_weight first ts) → IfOk r (λ m. reading_weight (moved m) after < pending_weight f ts + 2 * length before)
+  falls (Ok m) h =
+      let light = part_lighter f l ts in
+      let same : pending_weight first ts ≡ pending_weight (first_part f) ts = ap (λ g. pending_weight g ts) is in
+      let long : length after ≡ length before + length (waiting_for f l) = ap length lie ∙ length-append before (waiting_for f l) in
+      omega (arith, h, light, same, long)
+  falls (Err y) h = tt
 
 -- what the whole form, whose reading began with f, l and ts, comes to follows from what the step m comes to, while these frames wait
 abbrev pub Leads : Form → Limits → List Token → Moved → List Frame → Type 0
 Leads f l ts m frames = (s : Outcome) → MoveGives m (Waiting frames) s → FormGives f l ts whole s
 
--- a first step that stops, and a later one
-fault_answered : (r : ReadFault) (f : Form) (l : Limits) (ts : List Token) (o : Option Moved) → Gives {A = Step} (Err r) moved o → (o ≡ None → FormGives f l ts whole None) →
-    Answered {A = BoundRead Tree} (Err r) seen f l ts
-fault_answered fault.NoMemory f l ts o h k = tt
-fault_answered (fault.NoText left) f l ts o h k = k h
+pub leads_first : (f : Form) (l : Limits) (ts : List Token) (m : Step) (before after : List Frame) → before ≡ [] → Begun (Ok m) after f l ts before → Leads f l ts (moved m) after
+leads_first f l ts m before after none h = λ s k. subst (λ fs. FormGives f l ts (Waiting fs) s) none (h s k)
 
-stops : (x : Result (BoundRead Tree) ReadFault) (r : ReadFault) (f : Form) (l : Limits) (ts : List Token) (o : Option Moved) → IsErrAnd x (λ y. y ≡ r) → Gives {A = Step} (Err r) moved o →
-    (o ≡ None → FormGives f l ts whole None) → Answered x seen f l ts
-stops (Ok b) r f l ts o is h k = absurd is
-stops (Err y) r f l ts o is h k = subst (λ e. Answered {A = BoundRead Tree} (Err e) seen f l ts) (sym is) (fault_answered r f l ts o h k)
+pub falls_first : (before : List Frame) (n w : ℕ) → before ≡ [] → n < w + 2 * length before → n < w
+falls_first before n w none h = let empty : length before ≡ 0 = ap length none in omega (arith, h, empty)
 
-pub stops_first : (x : Result (BoundRead Tree) ReadFault) (r : ReadFault) (f : Form) (l : Limits) (ts : List Token) → IsErrAnd x (λ y. y ≡ r) →
-    Gives {A = Step} (Err r) moved (begin f l ts) → Answered x seen f l ts
-stops_first x r f l ts is h = stops x r f l ts (begin f l ts) is h (λ e. begun whole None f l ts (step_stops (begin f l ts) whole e))
+-- a fault in a turn is one of the whole form
+stops : (x : Result (BoundRead Tree) ReadFault) (r : ReadFault) (f g : Form) (l k : Limits) (ts us : List Token) (before after : List Frame) → IsErrAnd x (λ y. y ≡ r) →
+    Begun (Err r) after g k us before → (FormGives g k us (Waiting before) None → FormGives f l ts whole None) → Answered x seen f l ts
+stops (Ok b) r f g l k ts us before after err h go = absurd err
+stops (Err fault.NoMemory) r f g l k ts us before after err h go = tt
+stops (Err (fault.NoText left)) r f g l k ts us before after err h go = go (subst (λ e. Begun (Err e) after g k us before) (sym err) h)
 
-pub leads_first : (f : Form) (l : Limits) (ts : List Token) (m : Moved) (frames : List Frame) → begin f l ts ≡ Some m → frames ≡ [] → Leads f l ts m frames
-leads_first f l ts m frames e n s h = begun whole s f l ts (step_gives (begin f l ts) m whole s e (subst (λ fs. MoveGives m (Waiting fs) s) n h))
+pub stops_first : (x : Result (BoundRead Tree) ReadFault) (r : ReadFault) (f : Form) (l : Limits) (ts : List Token) (before after : List Frame) → before ≡ [] → IsErrAnd x (λ y. y ≡ r) →
+    Begun (Err r) after f l ts before → Answered x seen f l ts
+stops_first x r f l ts before after none err h = stops x r f f l l ts ts before after err h (λ g. subst (λ fs. FormGives f l ts (Waiting fs) None) none g)
 
--- the turns of the reading of a whole form, while it weighs less than at first: x is the step of a turn, and m the one that comes of it
-module _ (f : Form) (l : Limits) (ts : List Token) (x : Moved) where
+-- The turns of the reading of a whole form: x is the step of a turn, while the frames before it wait, and m the one that comes of it.
+module _ (f : Form) (l : Limits) (ts : List Token) (x : Moved) (before : List Frame) where
   -- nothing waits for what is found
-  pub ends : (frames : List Frame) (p : FoundTree) → x ≡ found p → frames ≡ [] → Leads f l ts x frames → FormGives f l ts whole (Some p)
-  ends frames p is e h = h (Some p) (subst (λ y. MoveGives y (Waiting frames) (Some p)) (sym is) (subst (λ fs. Waiting fs p (Some p)) (sym e) refl))
+  pub ends : (p : FoundTree) → x ≡ found p → before ≡ [] → Leads f l ts x before → FormGives f l ts whole (Some p)
+  ends p is none h = h (Some p) (subst (λ y. MoveGives y (Waiting before) (Some p)) (sym is) (subst (λ fs. Waiting fs p (Some p)) (sym none) refl))
 
   -- the last frame has its part
-  back_gives : (before after : List Frame) (w : Frame) (p : FoundTree) (s : Outcome) → x ≡ found p → before ≡ after ++ w ∷ [] → StepGives (resume w p) (Waiting after) s → MoveGives x (Waiting before) s
-  back_gives before after w p s is e h = subst (λ y. MoveGives y (Waiting before) s) (sym is) (last_resumed before after w p s e h)
+  module _ (after : List Frame) (w : Frame) (p : FoundTree) (is : x ≡ found p) (lie : before ≡ after ++ w ∷ []) where
+    goes_back : (s : Outcome) → StepGives (resume w p) (Waiting after) s → MoveGives x (Waiting before) s
+    goes_back s h =
+        subst (λ y. MoveGives y (Waiting before) s) (sym is) (subst (λ K. K p s) (sym (ap Waiting lie ∙ stacked_more after (w ∷ []) whole)) (resumed (Waiting after) s w p h))
 
-  pub leads_back : (before after : List Frame) (w : Frame) (p : FoundTree) (m : Moved) → x ≡ found p → before ≡ after ++ w ∷ [] → resume w p ≡ Some m → Leads f l ts x before → Leads f l ts m after
-  leads_back before after w p m is e g h = λ s k. h s (back_gives before after w p s is e (step_gives (resume w p) m (Waiting after) s g k))
+    pub leads_back : (m : Moved) → resume w p ≡ Some m → Leads f l ts x before → Leads f l ts m after
+    leads_back m g h = λ s k. h s (goes_back s (step_gives (resume w p) m (Waiting after) s g k))
 
-  pub stops_back : (r : Result (BoundRead Tree) ReadFault) (y : ReadFault) (before after : List Frame) (w : Frame) (p : FoundTree) → x ≡ found p → before ≡ after ++ w ∷ [] → IsErrAnd r (λ z. z ≡ y) →
-      Gives {A = Step} (Err y) moved (resume w p) → Leads f l ts x before → Answered r seen f l ts
-  stops_back r y before after w p is e err g h =
-      stops r y f l ts (resume w p) err g (λ n. h None (back_gives before after w p None is e (step_stops (resume w p) (Waiting after) n)))
+    fault_back : (r : ReadFault) → Gives {A = Step} (Err r) moved (resume w p) → Leads f l ts x before → Answered {A = BoundRead Tree} (Err r) seen f l ts
+    fault_back fault.NoMemory g h = tt
+    fault_back (fault.NoText left) g h = h None (goes_back None (step_stops (resume w p) (Waiting after) g))
 
-  pub falls_back : (before after : List Frame) (w : Frame) (p : FoundTree) (m : Moved) → x ≡ found p → before ≡ after ++ w ∷ [] → weight m < 32 * length p.2 + 34 →
-      reading_weight m after < reading_weight x before
-  falls_back before after w p m is e h =
-      let weighs : weight x ≡ 32 * length p.2 + 32 = ap weight is in
-      let long : length before ≡ length after + 1 = ap length e ∙ length-append after (w ∷ []) in
-      omega (arith, h, weighs, long)
+    pub stops_back : (r : Result (BoundRead Tree) ReadFault) (y : ReadFault) → IsErrAnd r (λ z. z ≡ y) → Gives {A = Step} (Err y) moved (resume w p) → Leads f l ts x before → Answered r seen f l ts
+    stops_back (Ok b) y err g h = absurd err
+    stops_back (Err z) y err g h = subst (λ e. Answered {A = BoundRead Tree} (Err e) seen f l ts) (sym err) (fault_back y g h)
+
+    pub falls_back : (m : Moved) → weight m < 32 * length p.2 + 34 → reading_weight m after < reading_weight x before
+    falls_back m h =
+        let weighs : weight x ≡ 32 * length p.2 + 32 = ap weight is in
+        let long : length before ≡ length after + 1 = ap length lie ∙ length-append after (w ∷ []) in
+        omega (arith, h, weighs, long)
 
   -- a part is begun, while one frame more waits
-  in_gives : (before after : List Frame) (w : Frame) (g : Form) (k : Limits) (us : List Token) (s : Outcome) → x ≡ inner w g k us → after ≡ before ++ w ∷ [] → StepGives (begin g k us) (Waiting after) s →
-      MoveGives x (Waiting before) s
-  in_gives before after w g k us s is e h = subst (λ y. MoveGives y (Waiting before) s) (sym is) (entered before after w g k us s e h)
+  module _ (between after : List Frame) (w : Frame) (g : Form) (k : Limits) (us : List Token) (is : x ≡ inner w g k us) (lie : between ≡ before ++ w ∷ []) where
+    goes_in : (s : Outcome) → FormGives g k us (Waiting between) s → MoveGives x (Waiting before) s
+    goes_in s h = subst (λ y. MoveGives y (Waiting before) s) (sym is) (subst (λ K. FormGives g k us K s) (ap Waiting lie ∙ stacked_more before (w ∷ []) whole) h)
 
-  pub leads_in : (before after : List Frame) (w : Frame) (g : Form) (k : Limits) (us : List Token) (m : Moved) → x ≡ inner w g k us → after ≡ before ++ w ∷ [] → begin g k us ≡ Some m →
-      Leads f l ts x before → Leads f l ts m after
-  leads_in before after w g k us m is e b h = λ s v. h s (in_gives before after w g k us s is e (step_gives (begin g k us) m (Waiting after) s b v))
+    pub leads_in : (m : Step) → Begun (Ok m) after g k us between → Leads f l ts x before → Leads f l ts (moved m) after
+    leads_in m b h = λ s v. h s (goes_in s (b s v))
 
-  pub stops_in : (r : Result (BoundRead Tree) ReadFault) (y : ReadFault) (before after : List Frame) (w : Frame) (g : Form) (k : Limits) (us : List Token) → x ≡ inner w g k us →
-      after ≡ before ++ w ∷ [] → IsErrAnd r (λ z. z ≡ y) → Gives {A = Step} (Err y) moved (begin g k us) → Leads f l ts x before → Answered r seen f l ts
-  stops_in r y before after w g k us is e err b h =
-      stops r y f l ts (begin g k us) err b (λ n. h None (in_gives before after w g k us None is e (step_stops (begin g k us) (Waiting after) n)))
+    pub stops_in : (r : Result (BoundRead Tree) ReadFault) (y : ReadFault) → IsErrAnd r (λ z. z ≡ y) → Begun (Err y) after g k us between → Leads f l ts x before → Answered r seen f l ts
+    stops_in r y err b h = stops r y f g l k ts us between after err b (λ n. h None (goes_in None n))
 
-  pub falls_in : (before after : List Frame) (w : Frame) (g : Form) (k : Limits) (us : List Token) (m : Moved) → x ≡ inner w g k us → after ≡ before ++ w ∷ [] →
-      weight m < pending_weight g us → reading_weight m after < reading_weight x before
-  falls_in before after w g k us m is e h =
-      let weighs : weight x ≡ pending_weight g us + 2 = ap weight is in
-      let long : length after ≡ length before + 1 = ap length e ∙ length-append before (w ∷ []) in
-      omega (arith, h, weighs, long)
+    pub falls_in : (m : Moved) → reading_weight m after < pending_weight g us + 2 * length between → reading_weight m after < reading_weight x before
+    falls_in m h =
+        let weighs : weight x ≡ pending_weight g us + 2 = ap weight is in
+        let long : length between ≡ length before + 1 = ap length lie ∙ length-append before (w ∷ []) in
+        omega (arith, h, weighs, long)
 
   -- what is left is begun
-  on_gives : (frames : List Frame) (g : Form) (k : Limits) (us : List Token) (s : Outcome) → x ≡ next g k us → StepGives (begin g k us) (Waiting frames) s → MoveGives x (Waiting frames) s
-  on_gives frames g k us s is h = subst (λ y. MoveGives y (Waiting frames) s) (sym is) (begun (Waiting frames) s g k us h)
+  module _ (after : List Frame) (g : Form) (k : Limits) (us : List Token) (is : x ≡ next g k us) where
+    goes_on : (s : Outcome) → FormGives g k us (Waiting before) s → MoveGives x (Waiting before) s
+    goes_on s h = subst (λ y. MoveGives y (Waiting before) s) (sym is) h
 
-  pub leads_on : (frames : List Frame) (g : Form) (k : Limits) (us : List Token) (m : Moved) → x ≡ next g k us → begin g k us ≡ Some m → Leads f l ts x frames → Leads f l ts m frames
-  leads_on frames g k us m is b h = λ s v. h s (on_gives frames g k us s is (step_gives (begin g k us) m (Waiting frames) s b v))
+    pub leads_on : (m : Step) → Begun (Ok m) after g k us before → Leads f l ts x before → Leads f l ts (moved m) after
+    leads_on m b h = λ s v. h s (goes_on s (b s v))
 
-  pub stops_on : (r : Result (BoundRead Tree) ReadFault) (y : ReadFault) (frames : List Frame) (g : Form) (k : Limits) (us : List Token) → x ≡ next g k us → IsErrAnd r (λ z. z ≡ y) →
-      Gives {A = Step} (Err y) moved (begin g k us) → Leads f l ts x frames → Answered r seen f l ts
-  stops_on r y frames g k us is err b h = stops r y f l ts (begin g k us) err b (λ n. h None (on_gives frames g k us None is (step_stops (begin g k us) (Waiting frames) n)))
+    pub stops_on : (r : Result (BoundRead Tree) ReadFault) (y : ReadFault) → IsErrAnd r (λ z. z ≡ y) → Begun (Err y) after g k us before → Leads f l ts x before → Answered r seen f l ts
+    stops_on r y err b h = stops r y f g l k ts us before after err b (λ n. h None (goes_on None n))
 
-  pub falls_on : (frames : List Frame) (g : Form) (k : Limits) (us : List Token) (m : Moved) → x ≡ next g k us → weight m < pending_weight g us → reading_weight m frames < reading_weight x frames
-  falls_on frames g k us m is h =
-      let weighs : weight x ≡ pending_weight g us = ap weight is in
-      omega (arith, h, weighs)
-
-pub first_weight : (m : Moved) (frames : List Frame) (w : ℕ) → frames ≡ [] → weight m < w → reading_weight m frames < w
-first_weight m frames w e h = subst (λ fs. reading_weight m fs < w) (sym e) (omega (arith, h))
+    pub falls_on : (m : Moved) → reading_weight m after < pending_weight g us + 2 * length before → reading_weight m after < reading_weight x before
+    falls_on m h =
+        let weighs : weight x ≡ pending_weight g us = ap weight is in
+        omega (arith, h, weighs)
