@@ -78,12 +78,20 @@ pub(crate) fn read<'t>(
             Step::Inner(frame, pending) => {
                 frames.push(frame)?;
                 begin_within(
- alloc, &mut frames, pending.form, pending.limits, pending.tokens,
-)?
+                    alloc,
+                    &mut frames,
+                    pending.form,
+                    pending.limits,
+                    pending.tokens,
+                )?
             }
             Step::Next(pending) => begin_within(
- alloc, &mut frames, pending.form, pending.limits, pending.tokens,
-)?,
+                alloc,
+                &mut frames,
+                pending.form,
+                pending.limits,
+                pending.tokens,
+            )?,
         };
     }
 }
