@@ -72,6 +72,40 @@ fn alone(byte: u8) -> Option<Symbol>
     }
 }
 
+// The symbol that two bytes begin with, where longer symbols begin with the first of them.
+#[tactic(auto, unfolding(crate::specs::Symbols::longest_symbol))]
+fn paired(first: u8, second: u8) -> Option<Symbol>
+    ensures { IfSome result (λ symbol. (rest : List ℕ) → longest_symbol (first ∷ second ∷ rest) ≡ Some symbol) }
+{
+    match (first, second) {
+        (b'=', b'=') => Some(Symbol::Equal),
+        (b'=', _) => Some(Symbol::Defines),
+        (b'.', b'.') => Some(Symbol::DotDot),
+        (b'.', _) => Some(Symbol::Dot),
+        (b'-', b'>') => Some(Symbol::Arrow),
+        (b'-', _) => Some(Symbol::Minus),
+        (b'!', b'=') => Some(Symbol::NotEqual),
+        (b'!', _) => Some(Symbol::Bang),
+        (b'<', b'-') => Some(Symbol::LeftArrow),
+        (b'<', b'=') => Some(Symbol::LessEqual),
+        (b'<', _) => Some(Symbol::Less),
+        (b'>', b'=') => Some(Symbol::GreaterEqual),
+        (b'>', _) => Some(Symbol::Greater),
+        (b'[', b']') => Some(Symbol::ExternalChoice),
+        (b'[', b'[') => Some(Symbol::OpenRename),
+        (b'[', _) => Some(Symbol::OpenBracket),
+        (b']', b']') => Some(Symbol::CloseRename),
+        (b']', _) => Some(Symbol::CloseBracket),
+        (b'{', b'|') => Some(Symbol::OpenProduct),
+        (b'{', _) => Some(Symbol::OpenBrace),
+        (b'|', b'|') => Some(Symbol::Parallel),
+        (b'|', b'}') => Some(Symbol::CloseProduct),
+        (b'|', b'~') => None,
+        (b'|', _) => Some(Symbol::Bar),
+        _ => None,
+    }
+}
+
 // The first symbol of the list that the text begins with.
 fn first_symbol(text: &[u8]) -> Option<Symbol>
     ensures { result ≡ longest_symbol text.now }
@@ -86,9 +120,12 @@ fn first_symbol(text: &[u8]) -> Option<Symbol>
 fn symbol_in_front(text: &[u8]) -> Option<Symbol>
     ensures { result ≡ longest_symbol text.now }
 {
-    let by_itself = match text.first() {
-        Some(byte) => alone(*byte),
-        None => None,
+    let by_itself = match text {
+        [first, second, ..] => match alone(*first) {
+            Some(symbol) => Some(symbol),
+            None => paired(*first, *second),
+        },
+        _ => None,
     };
     match by_itself {
         Some(symbol) => Some(symbol),

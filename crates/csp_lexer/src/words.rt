@@ -1,6 +1,6 @@
 //! Words of a text: how long the one at the front is, and which of them are reserved.
 
-ghost use Rattle.std.specs.Prelude.{◌≡◌, ◌≤◌, length};
+ghost use Rattle.std.specs.Prelude.{◌≡◌, ◌≤◌, ℕ, List, ◌∷◌, None, false, length, IsTrue};
 ghost use Rattle.std.specs.Option.{option_copied};
 ghost use Rattle.csp_lexer.specs.Words.{is_foreign, is_name, reserved_word, word_len, word_rest_len};
 
@@ -28,8 +28,43 @@ pub(crate) fn word_len(text: &[u8]) -> usize
     }
 }
 
-// No reserved word is shorter, and many names are.
-const SHORTEST_WORD: usize = 2;
+// Whether a word that this or a larger language reserves may begin with these two bytes.
+#[tactic(auto, unfolding(crate::specs::Words::reserved_word, crate::specs::Words::is_foreign))]
+fn may_begin_word(first: u8, second: u8) -> bool
+    ensures reserved { (result ≡ false) → (rest : List ℕ) → reserved_word (first ∷ second ∷ rest) ≡ None }
+    ensures foreign { (result ≡ false) → (rest : List ℕ) → is_foreign (first ∷ second ∷ rest) ≡ false }
+{
+    match first {
+        b'a' => matches!(second, b'n' | b's'),
+        b'c' => second == b'h',
+        b'd' => matches!(second, b'a' | b'i'),
+        b'e' => matches!(second, b'l' | b'x'),
+        b'f' => second == b'a',
+        b'i' => matches!(second, b'f' | b'n'),
+        b'l' => matches!(second, b'a' | b'e'),
+        b'm' => second == b'o',
+        b'n' => matches!(second, b'a' | b'o'),
+        b'o' => second == b'r',
+        b'p' => second == b'r',
+        b's' => second == b'u',
+        b't' => matches!(second, b'h' | b'i' | b'r'),
+        b'u' => second == b'n',
+        b'w' => second == b'i',
+        b'S' => matches!(second, b'T' | b'K'),
+        _ => false,
+    }
+}
+
+// Whether two bytes at the front tell that the word is a name, as they mostly do: no reserved word is shorter.
+fn is_plain(word: &[u8]) -> bool
+    ensures reserved { IsTrue result → reserved_word word.now ≡ None }
+    ensures foreign { IsTrue result → is_foreign word.now ≡ false }
+{
+    match word {
+        [first, second, ..] => !may_begin_word(*first, *second),
+        _ => true,
+    }
+}
 
 // The words that the language reserves.
 const WORDS: [Word; 17] = [
@@ -56,7 +91,7 @@ const WORDS: [Word; 17] = [
 pub(crate) fn reserved_word(bytes: &[u8]) -> Option<Word>
     ensures { result ≡ reserved_word bytes.now }
 {
-    if bytes.len() < SHORTEST_WORD {
+    if is_plain(bytes) {
         return None;
     }
     WORDS
@@ -83,7 +118,7 @@ const FOREIGN_WORDS: [&[u8]; 10] = [
 pub(crate) fn is_foreign(word: &[u8]) -> bool
     ensures { result ≡ is_foreign word.now }
 {
-    if word.len() < SHORTEST_WORD {
+    if is_plain(word) {
         return false;
     }
     FOREIGN_WORDS.iter().any(|foreign| word == *foreign)

@@ -1,14 +1,10 @@
-use Rattle.std.proofs.Common.{sym, rules, tests}
+use Rattle.std.proofs.Common.{rules, tests}
 use Rattle.std.proofs.lemmas.Iterator.{YieldsList-from_slice}
 use Rattle.std.proofs.lemmas.Iterator.Search.{any_from_yields_List}
 use Rattle.std.specs.Str.{bytes_eq}
-use Rattle.csp_lexer.proofs.WordsLemmas.{short_not_foreign}
 use Rattle.csp_lexer.specs.Words.{is_foreign}
 use Rattle.csp_lexer.proofs.words.is_foreign.Goals as goal
 
 pub returns : goal.returns
 unfolding is_foreign
 returns c = any_from_yields_List (λ foreign. bytes_eq c.args.word.now foreign.now) _ _ _ c.any.ensures.ran (YieldsList-from_slice _ c.iter.ensures.rest) (λ x b q k. search (rules, tests))
-
-pub returns-then-word-lt-SHORTEST_WORD : goal.returns-then-word-lt-SHORTEST_WORD
-returns-then-word-lt-SHORTEST_WORD c = sym (short_not_foreign c.args.word.now c.if-word-lt-SHORTEST_WORD.true)

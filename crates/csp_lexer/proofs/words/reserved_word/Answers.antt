@@ -1,15 +1,11 @@
-use Rattle.std.proofs.Common.{◌∙◌, sym, rules, tests}
+use Rattle.std.proofs.Common.{◌∙◌, rules, tests}
 use Rattle.std.proofs.lemmas.Iterator.{YieldsList-from_slice}
 use Rattle.std.proofs.lemmas.Iterator.Search.{find_from_yields_List}
 use Rattle.std.specs.Str.{bytes_eq}
 use Rattle.csp_text.specs.Written.{word_text}
-use Rattle.csp_lexer.proofs.WordsLemmas.{short_not_reserved}
 use Rattle.csp_lexer.specs.Words.{reserved_word}
 use Rattle.csp_lexer.proofs.words.reserved_word.Goals as goal
 
 pub returns : goal.returns
 unfolding reserved_word
 returns c = c.copied.ensures ∙ find_from_yields_List (λ word. bytes_eq c.args.bytes.now (word_text word)) _ _ _ c.find.ensures.ran (YieldsList-from_slice _ c.iter.ensures.rest) (λ x b q k. search (rules, tests))
-
-pub returns-then-bytes-lt-SHORTEST_WORD : goal.returns-then-bytes-lt-SHORTEST_WORD
-returns-then-bytes-lt-SHORTEST_WORD c = sym (short_not_reserved c.args.bytes.now c.if-bytes-lt-SHORTEST_WORD.true)
