@@ -8,6 +8,7 @@ ghost use Rattle.std.specs.Hash as fed;
 ghost use Rattle.std.specs.Hash.{same_Alike};
 
 use crate::NoMemory;
+use smallvec::SmallVec;
 use std::alloc::Global;
 use std::hash::{Hash, Hasher};
 use std::marker::Model;
@@ -97,9 +98,9 @@ impl Bytes {
     }
 }
 
-/// A name of a script: its bytes as they stand in the text.
+/// A name of a script: its bytes as they stand in the text. One of at most 16 bytes needs no memory of its own.
 pub struct Name {
-    bytes: Bytes,
+    bytes: SmallVec<u8, 16>,
 }
 
 // By hand, so that a crate that ends one calls this and proves no end of its own.
@@ -114,7 +115,7 @@ impl Model for Name {
 
     ghost Value = { List ℕ };
 
-    ghost view = { λ n. n.bytes };
+    ghost view = { λ n. n.bytes.items };
 }
 
 impl Name {
@@ -122,7 +123,7 @@ impl Name {
     pub fn from_slice(alloc: Global, bytes: &[u8]) -> Result<Self, NoMemory>
         ensures { IfOk result (λ name. name ≡ bytes.now) }
     {
-        let bytes = Bytes::from_slice(alloc, bytes)?;
+        let bytes = SmallVec::from_slice(alloc, bytes)?;
         Ok(Name { bytes })
     }
 
