@@ -66,8 +66,8 @@ pub(crate) fn read<'t>(
     ensures answered { Answered result seen form limits tokens.now }
     ensures falls { IfOk result (λ r. found_weight r.rest.now < pending_weight form tokens.now) }
 {
-    // room for a few frames, since nearly every form has more than one
-    let mut frames = Items::from_vec(Vec::with_capacity(alloc, 4)?);
+    // room for as many frames as most forms have at once
+    let mut frames = Items::from_vec(Vec::with_capacity(alloc, 8)?);
     let mut step = begin_within(alloc, &mut frames, form, limits, tokens)?;
     loop {
         step = match step {
