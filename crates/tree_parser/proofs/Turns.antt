@@ -103,10 +103,6 @@ stops_first x r f l ts before after none err h = stops x r f f l l ts ts before 
 
 -- The turns of the reading of a whole form: x is the step of a turn, while the frames before it wait, and m the one that comes of it.
 module _ (f : Form) (l : Limits) (ts : List Token) (x : Moved) (before : List Frame) where
-  -- nothing waits for what is found
-  pub ends : (p : FoundTree) → x ≡ found p → before ≡ [] → Leads f l ts x before → FormGives f l ts whole (Some p)
-  ends p is none h = h (Some p) (subst (λ y. MoveGives y (Waiting before) (Some p)) (sym is) (subst (λ fs. Waiting fs p (Some p)) (sym none) refl))
-
   -- the last frame has its part
   module _ (after : List Frame) (w : Frame) (p : FoundTree) (is : x ≡ found p) (lie : before ≡ after ++ w ∷ []) where
     goes_back : (s : Outcome) → StepGives (resume w p) (Waiting after) s → MoveGives x (Waiting before) s
