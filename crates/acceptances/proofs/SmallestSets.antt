@@ -1,5 +1,5 @@
 -- Of some sets those that contain no smaller one, and that each set contains one of them.
-use Rattle.std.proofs.Common.{◌≡◌, ◌↔◌, ℕ, ◌<◌, ◌⊎◌, inl, inr, Bool, true, false, not, ◌&&◌, IsTrue, List, [], ◌∷◌, get_or, refl, sym, ap, subst, ◌∙◌}
+use Rattle.std.proofs.Common.{◌≡◌, ◌↔◌, ℕ, ◌<◌, ◌⊎◌, inl, inr, Bool, true, false, not, IsTrue, List, [], ◌∷◌, get_or, refl, sym, ap, subst, ◌∙◌}
 use Rattle.std.specs.List.{All, Contains, filter}
 use Rattle.std.specs.List.Sorted.{IsStrictlyIncreasing, IsStrictlySortedBy}
 use Rattle.std.specs.Cmp.{first_so, second_so}
@@ -15,7 +15,7 @@ use Rattle.csp_tables.specs.RawTable.{RawTable, RawStep}
 use Rattle.csp_tables.specs.Offer.{IsOfferOf, IsMinimalOffer}
 use Rattle.csp_tables.specs.Behaviour.{OffersAcceptance}
 use Rattle.csp_tables.specs.NormalTable.{IsListed}
-use Rattle.acceptances.specs.OfferTests.{can_do, AreMarks, AreOffers, offers_at, has_smaller}
+use Rattle.acceptances.specs.OfferTests.{can_do, AreMarks, AreOffers, offers_at, has_smaller, is_smaller}
 use Rattle.acceptances.proofs.Member.{Member, member_from_contains, contains_from_member, stands, all_of_members, member_of_filter, member_from_filter, any_of_member, member_of_any}
 use Rattle.acceptances.proofs.Terms.{stable_by_test, test_by_stable, offers_by_test, test_by_offers, Source, source, listed_offer, within_of}
 use Rattle.csp_base.proofs.Booleans.{same_tests}
@@ -25,7 +25,7 @@ is_least sets M = not (has_smaller sets M)
 
 -- the test of one set against another
 abbrev is_below : List ℕ → List ℕ → Bool
-is_below M N = is_subset_of N M && not (is_subset_of M N)
+is_below M N = is_smaller N M
 
 within_by_test : (M N : List ℕ) → is_subset_of M N ≡ true → IsWithin M N
 within_by_test M N test e h = member_of_superset M N test e h

@@ -1,1 +1,2 @@
 pub mod OfferTests
+pub mod EventRows

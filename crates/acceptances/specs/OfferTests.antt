@@ -32,6 +32,10 @@ offer_at unstable sets n = if slice_index_or unstable n false then [] else slice
 abbrev pub offers_at : List Bool → List (List ℕ) → List ℕ → List (List ℕ)
 offers_at unstable sets terms = flat_map (offer_at unstable sets) terms
 
+-- whether N lies within M, and M not within it
+abbrev pub is_smaller : List ℕ → List ℕ → Bool
+is_smaller N M = is_subset_of N M && not (is_subset_of M N)
+
 -- whether one of the sets lies within M, and M not within it
 abbrev pub has_smaller : List (List ℕ) → List ℕ → Bool
-has_smaller sets M = list_any (λ N. is_subset_of N M && not (is_subset_of M N)) sets
+has_smaller sets M = list_any (λ N. is_smaller N M) sets

@@ -3,5 +3,6 @@
 
 mod least;
 mod offers;
+mod rows;
 
 pub use offers::{Offers, minimal};

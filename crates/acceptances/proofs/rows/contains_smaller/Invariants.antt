@@ -1,0 +1,8 @@
+use Rattle.std.proofs.Common.{◌≡◌, ◌⊎◌, ◌%◌, ℕ, true, false, [], length, get_or}
+use Rattle.std.specs.List.{list_any}
+use Rattle.csp_base.specs.Members.{has}
+use Rattle.acceptances.specs.OfferTests.{is_smaller}
+use Rattle.acceptances.proofs.rows.contains_smaller.Given as goal
+
+abbrev pub invariant-loop-event : goal.invariant-loop-event
+invariant-loop-event l = (e : ℕ) → has l.set e ≡ true → (has l.event-iterator e ≡ true) ⊎ (list_any (λ p. is_smaller (get_or l.sets p []) l.set) (get_or l.rows (e % length l.rows) []) ≡ false)

@@ -1,0 +1,7 @@
+use Rattle.std.proofs.Common.{◌≡◌, false, [], take, get_or}
+use Rattle.std.specs.List.{list_any}
+use Rattle.acceptances.specs.OfferTests.{is_smaller}
+use Rattle.acceptances.proofs.rows.row_has_smaller.Given as goal
+
+abbrev pub invariant-loop-place : goal.invariant-loop-place
+invariant-loop-place l = list_any (λ p. is_smaller (get_or l.sets p []) l.set) (take l.place-index l.row) ≡ false

@@ -1,0 +1,121 @@
+//! Event sets in rows, each in the row of one of its events, so that those within a set are found among few.
+
+ghost use Rattle.std.specs.Prelude.{◌≡◌, ℕ, ◌⊎◌, ◌<◌, ◌+◌, ◌%◌, ◌∷◌, ◌++◌, [], Some, All, OnOk, IfOk, length, replicate, slice_index_or, slice_set};
+ghost use Rattle.std.specs.List.{list_any};
+ghost use Rattle.acceptances.specs.OfferTests.{has_smaller, is_smaller as is_smaller_set};
+ghost use Rattle.acceptances.specs.EventRows.{AreEventRows, IsRowFor};
+
+use containers::Items;
+use csp_base::{Event, EventSet, NoMemory};
+use std::alloc::Global;
+
+// The places of the sets in rows. A set stands in the row of one of its events, the empty one in row 0.
+pub(crate) fn event_rows(alloc: Global, sets: &[EventSet]) -> Result<Vec<Items<usize>>, NoMemory>
+    ensures { IfOk result (λ rows. AreEventRows sets.now rows.items) }
+{
+    let mut rows = empty_rows(alloc, sets.len())?;
+    for (place, set) in sets.iter().enumerate() {
+        let row = shortest_row(&rows, set);
+        push_at(&mut rows, row, place)?;
+    }
+    Ok(rows)
+}
+
+// As many empty rows as `count` says, and one more.
+fn empty_rows(alloc: Global, count: usize) -> Result<Vec<Items<usize>>, NoMemory>
+    ensures { IfOk result (λ rows. rows.items ≡ replicate (count + 1) []) }
+{
+    let mut rows = vec![in alloc; Items::new(alloc)]?;
+    for _ in 0..count {
+        rows.push(Items::new(alloc))?;
+    }
+    Ok(rows)
+}
+
+// The shortest of the rows of the set's events, or 0 where it has none.
+fn shortest_row(rows: &[Items<usize>], set: &EventSet) -> usize
+    requires { 0 < length rows.now }
+    ensures within { result < length rows.now }
+    ensures row { IsRowFor (length rows.now) set.now result }
+{
+    let mut shortest = None;
+    for event in set.iter() {
+        shortest = Some(shorter_row(rows, shortest, row_of(rows, event)));
+    }
+    match shortest {
+        Some(row) => row,
+        None => 0,
+    }
+}
+
+// The shorter one of two rows, or the one that there is.
+fn shorter_row(rows: &[Items<usize>], first: Option<usize>, second: usize) -> usize
+    requires first { (row : ℕ) → first ≡ Some row → row < length rows.now }
+    requires second { second < length rows.now }
+    ensures { (first ≡ Some result) ⊎ (result ≡ second) }
+{
+    match first {
+        None => second,
+        Some(row) => {
+            if rows[row].len() <= rows[second].len() {
+                row
+            } else {
+                second
+            }
+        }
+    }
+}
+
+// The row of an event.
+fn row_of(rows: &[Items<usize>], event: Event) -> usize
+    requires { 0 < length rows.now }
+    ensures row { result ≡ event % length rows.now }
+    ensures within { result < length rows.now }
+{
+    event.0 as usize % rows.len()
+}
+
+// Adds a place to a row.
+fn push_at(rows: &mut Vec<Items<usize>>, row: usize, place: usize) -> Result<(), NoMemory>
+    requires { row < length rows.old.items }
+    ensures { OnOk result (rows.new.items ≡ slice_set rows.old.items row (slice_index_or rows.old.items row [] ++ place ∷ [])) }
+{
+    rows[row].push(place)?;
+    Ok(())
+}
+
+// Whether one of the sets lies within the given one, and is not the same.
+pub(crate) fn contains_smaller(sets: &[EventSet], rows: &[Items<usize>], set: &EventSet) -> bool
+    requires { AreEventRows sets.now rows.now }
+    ensures { result ≡ has_smaller sets.now set.now }
+{
+    if row_has_smaller(sets, rows[0].as_slice(), set) {
+        return true;
+    }
+    for event in set.iter() {
+        if row_has_smaller(sets, rows[row_of(rows, event)].as_slice(), set) {
+            return true;
+        }
+    }
+    false
+}
+
+// Whether one of the sets in a row lies within the given one, and is not the same.
+fn row_has_smaller(sets: &[EventSet], row: &[usize], set: &EventSet) -> bool
+    requires { All (λ place. place < length sets.now) row.now }
+    ensures { result ≡ list_any (λ place. is_smaller_set (slice_index_or sets.now place []) set.now) row.now }
+{
+    for place in row {
+        if is_smaller(&sets[*place], set) {
+            return true;
+        }
+    }
+    false
+}
+
+// Whether the first set lies within the second, and is not the same.
+fn is_smaller(first: &EventSet, second: &EventSet) -> bool
+    ensures { result ≡ is_smaller_set first.now second.now }
+{
+    first.is_subset(second) && !second.is_subset(first)
+}
