@@ -4,3 +4,4 @@ pub mod NodeSteps
 pub mod Exploring
 pub mod Runs
 pub mod Counting
+pub mod KnownSets

@@ -1,3 +1,4 @@
 pub mod Determinised
 pub mod ManySets
 pub mod Progress
+pub mod Known

@@ -3,6 +3,7 @@
 
 mod explore;
 mod fault;
+mod known;
 mod node;
 mod sets;
 mod table;

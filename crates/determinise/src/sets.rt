@@ -4,9 +4,12 @@ ghost use Rattle.std.specs.Prelude.{◌≡◌, ◌+◌, ◌<◌, ◌≤◌, ℕ,
 ghost use Rattle.std.specs.List.Sorted.{IsNonDecreasingBy};
 ghost use Rattle.csp_tables.specs.BreadthFirst.{MeetsInOrder, targets_of_steps};
 ghost use Rattle.determinise.specs.Progress.{AreMoreSets, AreNodeSteps, IsSomeNextSet, set_at};
+ghost use Rattle.determinise.specs.Known.{AreKnown};
+ghost use Rattle.term_sets.specs.Marks.{IsUnmarked};
 ghost use Rattle.term_sets.specs.TermSets.{IsSilentClosure};
 
 use crate::fault::SetFault;
+use crate::known::Known;
 use containers::{Items, Numbering};
 use csp_base::{Event, NoMemory};
 use std::alloc::Global;
@@ -32,8 +35,9 @@ pub(crate) fn next_steps(
     ensures few { OnOk result (length sets.new ≤ 2048) }
     ensures limit { (found : ℕ) → result ≡ Err (SetFault.SubsetLimit found) → (found ≡ 2049) × (length sets.new ≡ 2049) }
 {
+    let mut known = Known::new(alloc, table)?;
     let mut next = Vec::new(alloc);
-    add_steps(alloc, table, moves, sets, &mut next)?;
+    add_steps(alloc, table, moves, sets, &mut known, &mut next)?;
     Ok(next)
 }
 
@@ -43,11 +47,14 @@ fn add_steps(
     table: &Prepared<'_>,
     moves: &[(Event, u32)],
     sets: &mut Numbering<Items<u32>>,
+    known: &mut Known,
     next: &mut Vec<(Event, u32)>,
 ) -> Result<(), SetFault>
     requires order { IsNonDecreasingBy (λ step. step.0) moves.now }
     requires within { All (λ step. step.1 < table.now.count) moves.now }
     requires few { length sets.old ≤ 2048 }
+    requires known { AreKnown table.now sets.old known.old.starts known.old.numbers.items }
+    requires unmarked { IsUnmarked table.now.count known.old.marks.items }
     requires none { next.old.items ≡ [] }
     ensures steps { OnOk result (AreNodeSteps table.now moves.now sets.new next.new.items) }
     ensures order { OnOk result (MeetsInOrder (length sets.old) (targets_of_steps next.new.items) (length sets.new)) }
@@ -59,7 +66,7 @@ fn add_steps(
     while at < moves.len() {
         let event = moves[at].0;
         let end = group_end(moves, at);
-        let number = number_of_next(alloc, table, &moves[at..end], sets)?;
+        let number = number_of_next(alloc, table, &moves[at..end], sets, known)?;
         push(next, event, number)?;
         at = end;
     }
@@ -89,17 +96,50 @@ fn number_of_next(
     table: &Prepared<'_>,
     moves: &[(Event, u32)],
     sets: &mut Numbering<Items<u32>>,
+    known: &mut Known,
 ) -> Result<u32, SetFault>
     requires within { All (λ step. step.1 < table.now.count) moves.now }
     requires few { length sets.old ≤ 2048 }
+    requires known { AreKnown table.now sets.old known.old.starts known.old.numbers.items }
+    requires unmarked { IsUnmarked table.now.count known.old.marks.items }
     ensures number { IfOk result (λ n. n < length sets.new) }
     ensures set { IfOk result (λ n. IsSilentClosure table.now (targets_of_steps moves.now) (set_at sets.new n)) }
     ensures order { IfOk result (λ n. MeetsInOrder (length sets.old) (n ∷ []) (length sets.new)) }
     ensures more { AreMoreSets (IsSilentClosure table.now (targets_of_steps moves.now)) sets.old sets.new }
     ensures few { OnOk result (length sets.new ≤ 2048) }
+    ensures known { OnOk result (AreKnown table.now sets.new known.new.starts known.new.numbers.items) }
+    ensures unmarked { OnOk result (IsUnmarked table.now.count known.new.marks.items) }
     ensures limit { (found : ℕ) → result ≡ Err (SetFault.SubsetLimit found) → (found ≡ 2049) × (length sets.new ≡ 2049) }
 {
-    let set = next_set(alloc, table, moves)?;
+    let starts = targets(alloc, moves)?;
+    if let Some(number) = known.find(&starts) {
+        return Ok(number);
+    }
+    let number = number_of_closure(alloc, table, starts.as_slice(), sets, &mut known.marks)?;
+    known.add(starts, number)?;
+    Ok(number)
+}
+
+// The number of the set to which silent steps lead from the starts.
+fn number_of_closure(
+    alloc: Global,
+    table: &Prepared<'_>,
+    starts: &[u32],
+    sets: &mut Numbering<Items<u32>>,
+    marks: &mut Vec<bool>,
+) -> Result<u32, SetFault>
+    requires within { All (λ t. t < table.now.count) starts.now }
+    requires few { length sets.old ≤ 2048 }
+    requires unmarked { IsUnmarked table.now.count marks.old.items }
+    ensures number { IfOk result (λ n. n < length sets.new) }
+    ensures set { IfOk result (λ n. IsSilentClosure table.now starts.now (set_at sets.new n)) }
+    ensures order { IfOk result (λ n. MeetsInOrder (length sets.old) (n ∷ []) (length sets.new)) }
+    ensures more { AreMoreSets (IsSilentClosure table.now starts.now) sets.old sets.new }
+    ensures few { OnOk result (length sets.new ≤ 2048) }
+    ensures unmarked { OnOk result (IsUnmarked table.now.count marks.new.items) }
+    ensures limit { (found : ℕ) → result ≡ Err (SetFault.SubsetLimit found) → (found ≡ 2049) × (length sets.new ≡ 2049) }
+{
+    let set = table.closed(alloc, starts, marks)?;
     let number = sets.number(set)?;
     if sets.len() > SET_LIMIT {
         return Err(SetFault::SubsetLimit {
@@ -109,25 +149,12 @@ fn number_of_next(
     Ok(number)
 }
 
-// The set to which these steps lead, with silent steps behind them.
-fn next_set(
-    alloc: Global,
-    table: &Prepared<'_>,
-    moves: &[(Event, u32)],
-) -> Result<Items<u32>, NoMemory>
-    requires { All (λ step. step.1 < table.now.count) moves.now }
-    ensures { IfOk result (IsSilentClosure table.now (targets_of_steps moves.now)) }
-{
-    let starts = targets(alloc, moves)?;
-    let set = table.closed(alloc, &starts)?;
-    Ok(set)
-}
-
 // The terms to which the steps lead.
-fn targets(alloc: Global, moves: &[(Event, u32)]) -> Result<Vec<u32>, NoMemory>
-    ensures { IfOk result (λ found. found.items ≡ targets_of_steps moves.now) }
+fn targets(alloc: Global, moves: &[(Event, u32)]) -> Result<Items<u32>, NoMemory>
+    ensures { IfOk result (λ found. found ≡ targets_of_steps moves.now) }
 {
-    moves.iter().map(|step| step.1).collect(alloc)
+    let found = moves.iter().map(|step| step.1).collect(alloc)?;
+    Ok(Items::from_vec(found))
 }
 
 // Adds a step at the end.

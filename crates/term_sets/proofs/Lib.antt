@@ -1,5 +1,6 @@
 pub mod Closures
 pub mod First
+pub mod JoinedLists
 pub mod MoveLists
 pub mod Silence
 pub mod Traces

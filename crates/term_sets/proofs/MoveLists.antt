@@ -1,16 +1,14 @@
 -- Lists of steps: one step more in a row, the rows of some terms, and the same steps in another order.
 use Rattle.std.proofs.Common.{◌≡◌, ℕ, suc, ◌+◌, ◌<◌, inl, inr, Bool, true, false, ◌&&◌, ◌||◌, nat_eq, List, [], ◌∷◌, ◌++◌, length, get_or, set, take, refl, sym, ap, subst, ◌∙◌, arith, eq-eqb}
 use Rattle.std.specs.List.{list_any, flat_map, All}
-use Rattle.std.specs.List.Sorted.{IsPermutation}
 use Rattle.std.specs.Cmp.{first_so, second_so}
 use Rattle.std.proofs.lemmas.Bool.{cases_eq, or_cases, or_left, or_right, eqb-true, ne_eqb, false≢true}
 use Rattle.std.proofs.lemmas.List.{get_or-set_same, get_or-set_other, get_or_default, length-set}
 use Rattle.std.proofs.lemmas.List.Folds.{list_any-append, list_any_more, list_any_at}
-use Rattle.std.proofs.lemmas.List.Sorted.{list_any-IsPermutation}
 use Rattle.csp_base.specs.Members.{has}
 use Rattle.csp_tables.specs.RawTable.{RawTable}
 use Rattle.csp_tables.specs.RawForm.{HasRawForm}
-use Rattle.term_sets.specs.Moves.{has_move, AreMoveRows, AreMovesOf}
+use Rattle.term_sets.specs.Moves.{has_move, AreMoveRows, AreMovesOf, HaveSameMoves}
 use Rattle.std.proofs.Math.Bool.{or-false}
 
 -- a row with one more step at its end
@@ -60,9 +58,9 @@ module _ (rows : List (List (ℕ × ℕ))) where
         | inr rest ↦ or_right (has_move (get_or rows n []) e u) (has_move (flat_map (λ n. get_or rows n []) ns) e u) (into_rows ns x e u rest move)
       ]
 
-  pub moves_of_terms : (raw : RawTable) (terms : List ℕ) (gathered sorted : List (ℕ × ℕ)) → AreMoveRows raw rows → gathered ≡ flat_map (λ n. get_or rows n []) terms → IsPermutation gathered sorted → AreMovesOf raw terms sorted
+  pub moves_of_terms : (raw : RawTable) (terms : List ℕ) (gathered sorted : List (ℕ × ℕ)) → AreMoveRows raw rows → gathered ≡ flat_map (λ n. get_or rows n []) terms → HaveSameMoves sorted gathered → AreMovesOf raw terms sorted
   moves_of_terms raw terms gathered sorted are is moved =
-      let same : (e u : ℕ) → has_move sorted e u ≡ has_move (flat_map (λ n. get_or rows n []) terms) e u = λ e u. sym (list_any-IsPermutation (λ (step : ℕ × ℕ). nat_eq e step.0 && nat_eq u step.1) gathered sorted moved) ∙ ap (λ (ps : List (ℕ × ℕ)). has_move ps e u) is in
+      let same : (e u : ℕ) → has_move sorted e u ≡ has_move (flat_map (λ n. get_or rows n []) terms) e u = λ e u. moved e u ∙ ap (λ (ps : List (ℕ × ℕ)). has_move ps e u) is in
       record {
         sound = λ e u h. let r = from_rows terms e u (sym (same e u) ∙ h) in (r.0, r.1, sym (are.same r.0 e u) ∙ r.2);
         complete = λ x e u h step. same e u ∙ into_rows terms x e u h (are.same x e u ∙ step);

@@ -13,6 +13,14 @@ has_event steps e = list_any (λ step. nat_eq e step.0) steps
 abbrev pub has_move : List (ℕ × ℕ) → ℕ → ℕ → Bool
 has_move steps e t = list_any (λ step. nat_eq e step.0 && nat_eq t step.1) steps
 
+-- the two lists have the same steps
+abbrev pub HaveSameMoves : List (ℕ × ℕ) → List (ℕ × ℕ) → Type 0
+HaveSameMoves steps others = (e t : ℕ) → has_move steps e t ≡ has_move others e t
+
+-- for each event the list of the targets of its steps
+abbrev pub AreTargetLists : List (ℕ × ℕ) → List (List ℕ) → Type 0
+AreTargetLists steps lists = (e t : ℕ) → has (get_or lists e []) t ≡ has_move steps e t
+
 -- for each term the list of its steps by events
 pub record AreMoveRows (raw : RawTable) (rows : List (List (ℕ × ℕ))) : Type 0 where
   pub size : length rows ≡ raw.count

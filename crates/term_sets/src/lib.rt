@@ -3,6 +3,7 @@
 #![tactic(auto)]
 
 mod closed;
+mod order;
 mod prepared;
 mod rows;
 

@@ -1,13 +1,15 @@
 //! A raw table whose steps are sorted out once, so that each question costs what its answer needs.
 
-ghost use Rattle.std.specs.Prelude.{◌≡◌, ◌<◌, ◌↔◌, [], ℕ, All, IsTrue, IfOk};
+ghost use Rattle.std.specs.Prelude.{◌≡◌, ◌<◌, ◌↔◌, [], ℕ, All, IsTrue, IfOk, OnOk};
 ghost use Rattle.std.specs.List.Sorted.{IsNonDecreasingBy};
 ghost use Rattle.csp_base.specs.Members.{has};
 ghost use Rattle.tau_order.specs.SilentRows.{AreSilentRows};
+ghost use Rattle.term_sets.specs.Marks.{IsUnmarked};
 ghost use Rattle.term_sets.specs.Moves.{AreMoveRows, AreMovesOf, IsSilentlyReached};
 ghost use Rattle.term_sets.specs.TermSets.{AreMinimalOffers, IsSetAfter, IsTermSet};
 
 use crate::closed::closed_from;
+use crate::order::in_order;
 use crate::rows::{move_rows, moves_of};
 use acceptances::Offers;
 use containers::Items;
@@ -54,13 +56,27 @@ impl<'a> Prepared<'a> {
         })
     }
 
-    /// The terms to which silent steps lead from one of the starts, in rising order.
-    pub fn closed(&self, alloc: Global, starts: &[u32]) -> Result<Items<u32>, NoMemory>
-        requires { All (λ t. t < self.now.count) starts.now }
+    /// A mark for each term, of which none is set.
+    pub fn no_marks(&self, alloc: Global) -> Result<Vec<bool>, NoMemory>
+        ensures { IfOk result (λ marks. IsUnmarked self.now.count marks.items) }
+    {
+        vec![in alloc; false; self.silent.len()]
+    }
+
+    /// The terms to which silent steps lead from one of the starts, in rising order. No term is marked before, and none after.
+    pub fn closed(
+        &self,
+        alloc: Global,
+        starts: &[u32],
+        marks: &mut Vec<bool>,
+    ) -> Result<Items<u32>, NoMemory>
+        requires starts { All (λ t. t < self.now.count) starts.now }
+        requires unmarked { IsUnmarked self.now.count marks.old.items }
         ensures members { IfOk result (λ set. (t : ℕ) → IsTrue (has set t) ↔ IsSilentlyReached self.now starts.now t) }
         ensures form { IfOk result (λ set. IsTermSet self.now set) }
+        ensures unmarked { OnOk result (IsUnmarked self.now.count marks.new.items) }
     {
-        let terms = closed_from(alloc, &self.silent, starts)?;
+        let terms = closed_from(alloc, &self.silent, starts, marks)?;
         Ok(Items::from_vec(terms))
     }
 
@@ -69,7 +85,8 @@ impl<'a> Prepared<'a> {
         ensures after { IfOk result (λ set. IsSetAfter self.now [] set) }
         ensures form { IfOk result (λ set. IsTermSet self.now set) }
     {
-        let terms = closed_from(alloc, &self.silent, &[0])?;
+        let mut marks = self.no_marks(alloc)?;
+        let terms = closed_from(alloc, &self.silent, &[0], &mut marks)?;
         Ok(Items::from_vec(terms))
     }
 
@@ -80,9 +97,8 @@ impl<'a> Prepared<'a> {
         ensures order { IfOk result (λ moves. IsNonDecreasingBy (λ step. step.0) moves.items) }
         ensures within { IfOk result (λ moves. All (λ step. step.1 < self.now.count) moves.items) }
     {
-        let mut moves = moves_of(alloc, &self.moves, terms)?;
-        moves.sort_unstable_by_key(|step| step.0.0);
-        Ok(moves)
+        let moves = moves_of(alloc, &self.moves, terms)?;
+        in_order(alloc, moves)
     }
 
     /// Of the sets of events that the stable ones among these terms offer, those that contain no smaller one.

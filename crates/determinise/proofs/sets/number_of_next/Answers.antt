@@ -1,22 +1,28 @@
-use Rattle.std.proofs.Common.{[], sym, subst}
-use Rattle.std.proofs.lemmas.Option.{slice_get_within, get_or_from_slice_get}
-use Rattle.csp_tables.specs.BreadthFirst.{targets_of_steps}
+use Rattle.std.proofs.Common.{◌<◌, ◌∙◌, ℕ, List, inl, refl, sym, subst}
+use Rattle.std.specs.List.{All}
 use Rattle.term_sets.specs.TermSets.{IsSilentClosure}
-use Rattle.determinise.proofs.MoreSets.{numbered_more, numbered_in_order}
+use Rattle.determinise.specs.Progress.{set_at}
+use Rattle.determinise.proofs.Groups.{targets_below}
+use Rattle.determinise.proofs.KnownSets.{known_kept}
 use Rattle.determinise.proofs.sets.number_of_next.Goals as goal
 
-pub returns-then-len-gt-SET_LIMIT-clause-more : goal.returns-then-len-gt-SET_LIMIT-clause-more
-returns-then-len-gt-SET_LIMIT-clause-more c = numbered_more (IsSilentClosure c.args.table.now (targets_of_steps c.args.moves.now)) c.args.sets.now c.number.new.self c.in_ok-set.set c.in_ok-set.ensures c.in_ok-number.ensures.list
+pub returns-in-Some-clause-number : goal.returns-in-Some-clause-number
+returns-in-Some-clause-number c = c.in-Some.ensures.within c.args.table.now c.args.sets.now c.requires.known
 
-pub returns-clause-number : goal.returns-clause-number
-returns-clause-number c = slice_get_within c.number.new.self c.in_ok-number.number c.in_ok-set.set c.in_ok-number.ensures.place
+pub returns-in-Some-clause-set : goal.returns-in-Some-clause-set
+returns-in-Some-clause-set c = subst (λ (ts : List ℕ). IsSilentClosure c.args.table.now ts (set_at c.args.sets.now c.in-Some.number)) c.in_ok-starts.ensures (c.in-Some.ensures.set c.args.table.now c.args.sets.now c.requires.known)
 
-pub returns-clause-set : goal.returns-clause-set
-returns-clause-set c =
-    subst (IsSilentClosure c.args.table.now (targets_of_steps c.args.moves.now)) (sym (get_or_from_slice_get c.number.new.self c.in_ok-number.number c.in_ok-set.set [] c.in_ok-number.ensures.place)) c.in_ok-set.ensures
+pub returns-in-Some-clause-order : goal.returns-in-Some-clause-order
+returns-in-Some-clause-order c = inl (c.in-Some.ensures.within c.args.table.now c.args.sets.now c.requires.known, refl)
 
-pub returns-clause-order : goal.returns-clause-order
-returns-clause-order c = numbered_in_order c.args.sets.now c.number.new.self c.in_ok-set.set c.in_ok-number.number c.in_ok-number.ensures.list c.in_ok-number.ensures.place
+pub number_of_closure-requires-clause-within : goal.number_of_closure-requires-clause-within
+number_of_closure-requires-clause-within c = subst (All (λ t. t < c.args.table.now.count)) (sym (c.as_slice.ensures ∙ c.in_ok-starts.ensures)) (targets_below c.args.table.now.count c.args.moves.now c.requires.within)
 
-pub returns-clause-more : goal.returns-clause-more
-returns-clause-more c = numbered_more (IsSilentClosure c.args.table.now (targets_of_steps c.args.moves.now)) c.args.sets.now c.number.new.self c.in_ok-set.set c.in_ok-set.ensures c.in_ok-number.ensures.list
+pub returns-clause-known : goal.returns-clause-known
+returns-clause-known c =
+    let raw = c.args.table.now in
+    let new = c.number_of_closure.new.sets in
+    c.in_ok-add.ensures.known raw new
+    (known_kept raw c.args.known.now.starts c.args.known.now.numbers.items (IsSilentClosure raw c.as_slice.result.now) c.args.sets.now new c.number_of_closure.ensures.more c.requires.known)
+    c.in_ok-number.ensures.number
+    (subst (λ (ts : List ℕ). IsSilentClosure raw ts (set_at new c.in_ok-number.number)) c.as_slice.ensures c.in_ok-number.ensures.set)

@@ -1,0 +1,61 @@
+//! Lists of terms, with the numbers of the sets to which silent steps lead from them.
+
+ghost use Rattle.std.specs.Prelude.{◌≡◌, ◌<◌, [], ℕ, List, IfOk, IfSome, OnOk, length};
+ghost use Rattle.csp_tables.specs.RawTable.{RawTable as RawSteps};
+ghost use Rattle.determinise.specs.Known.{AreKnown};
+ghost use Rattle.determinise.specs.Progress.{set_at};
+ghost use Rattle.term_sets.specs.Marks.{IsUnmarked};
+ghost use Rattle.term_sets.specs.TermSets.{IsSilentClosure};
+
+use containers::{Items, Numbering};
+use csp_base::NoMemory;
+use std::alloc::Global;
+use term_sets::Prepared;
+
+// Lists of terms, each with the number of the set to which silent steps lead from it, and marks for the search for more.
+#[derive(Drop)]
+pub(crate) struct Known {
+    starts: Numbering<Items<u32>>,
+    numbers: Vec<u32>,
+    pub(crate) marks: Vec<bool>,
+}
+
+impl Known {
+    // No list is known.
+    pub(crate) fn new(alloc: Global, table: &Prepared<'_>) -> Result<Known, NoMemory>
+        ensures starts { IfOk result (λ known. known.starts ≡ []) }
+        ensures numbers { IfOk result (λ known. known.numbers.items ≡ []) }
+        ensures unmarked { IfOk result (λ known. IsUnmarked table.now.count known.marks.items) }
+    {
+        let marks = table.no_marks(alloc)?;
+        Ok(Known {
+            starts: Numbering::new(alloc),
+            numbers: Vec::new(alloc),
+            marks,
+        })
+    }
+
+    // The number of the set of a list, where it is known.
+    pub(crate) fn find(&self, starts: &Items<u32>) -> Option<u32>
+        requires { length self.now.numbers.items ≡ length self.now.starts }
+        ensures within { (raw : RawSteps) (sets : List (List ℕ)) → AreKnown raw sets self.now.starts self.now.numbers.items → IfSome result (λ n. n < length sets) }
+        ensures set { (raw : RawSteps) (sets : List (List ℕ)) → AreKnown raw sets self.now.starts self.now.numbers.items → IfSome result (λ n. IsSilentClosure raw starts.now (set_at sets n)) }
+    {
+        match self.starts.find(starts) {
+            Some(place) => Some(self.numbers[place as usize]),
+            None => None,
+        }
+    }
+
+    // Keeps the number of the set of a list, unless the list is known.
+    pub(crate) fn add(&mut self, starts: Items<u32>, number: u32) -> Result<(), NoMemory>
+        ensures known { (raw : RawSteps) (sets : List (List ℕ)) → AreKnown raw sets self.old.starts self.old.numbers.items → number < length sets → IsSilentClosure raw starts (set_at sets number) → OnOk result (AreKnown raw sets self.new.starts self.new.numbers.items) }
+        ensures marks { self.new.marks ≡ self.old.marks }
+    {
+        let (_, is_new) = self.starts.insert_full(starts)?;
+        if is_new {
+            self.numbers.push(number)?;
+        }
+        Ok(())
+    }
+}
