@@ -1,10 +1,15 @@
 -- Field sets, one after another.
-use Rattle.std.proofs.Common.{◌≡◌, ℕ, zero, suc, ◌+◌, ◌<◌, ◌≤◌, List, [], ◌∷◌, ◌++◌, length, drop, get_or, replicate, refl, sym, ap, ◌∙◌, append_assoc, add-one}
-use Rattle.std.specs.Prelude.{None, Result, Ok, Err, slice_get}
+use Rattle.std.proofs.Common.{◌≡◌, ℕ, zero, suc, ◌+◌, ◌<◌, ◌≤◌, List, [], ◌∷◌, ◌++◌, length, drop, get_or, replicate, refl, sym, ap, ◌∙◌, append_assoc, add-one, arith}
+use Rattle.std.specs.Prelude.{Option, Some, None, Result, Ok, Err, IfOk, OnOk, slice_get}
+use Rattle.std.specs.Borrow.{Bor}
+use Rattle.std.specs.Option.{option_copied}
 use Rattle.std.specs.Result.{IsErrAnd}
+use Rattle.std.specs.Slice.{IsItemAt}
 use Rattle.std.proofs.Math.ListN.{drop_of_length-le}
 use Rattle.std.proofs.lemmas.List.{append-nil}
+use Rattle.std.proofs.lemmas.Option.{get_or_from_slice_get, slice_get_past, slice_get_read, slice_get_within}
 use Rattle.csp_atoms.specs.declared.atom.Atom.{Atom}
+use Rattle.csp_program.specs.EventNumber.{row_count}
 use Rattle.csp_program.specs.EventTable.{channel_events, events_from_channel}
 use Rattle.csp_program.specs.Outcome.{Outcome, and_then}
 use Rattle.csp_program.specs.Value.{value_of}
@@ -14,7 +19,7 @@ use Rattle.csp_program.specs.declared.programs.Channel.{Channel}
 use Rattle.csp_program.specs.declared.programs.Content.{Content}
 use Rattle.csp_program.specs.declared.programs.EventInfo.{EventInfo}
 use Rattle.event_tables.specs.declared.sets.SharedSets.{SharedSets}
-use Rattle.event_tables.specs.Spread.{GivesOneMore, spread}
+use Rattle.event_tables.specs.Spread.{GivesOneMore, lent, spread}
 use Rattle.value_operators.specs.Gives.{Gives}
 use Rattle.value_operators.specs.declared.fault.EvalFault.{EvalFault}
 use Rattle.value_operators.specs.declared.fault.EvalFault.TheVariants as fault
@@ -80,6 +85,22 @@ pub copies_step : (new all first : List (List (List Atom))) (n : ℕ) (sets : Li
 copies_step new all first n sets new_is so_far =
     new_is ∙ ap (λ xs. xs ++ sets ∷ []) so_far ∙ append_assoc first (replicate n sets) (sets ∷ []) ∙ ap (λ xs. first ++ xs) (sym (replicate-snoc n sets) ∙ ap (λ k. replicate k sets) (sym (add-one n)))
 
+-- one more that are lent
+pub lent_longer : (all : List (Bor (List (List Atom)))) (sets : Bor (List (List Atom))) → lent (all ++ sets ∷ []) ≡ lent all ++ sets.now ∷ []
+lent_longer [] sets = refl
+lent_longer (one ∷ all) sets = ap (λ rest. one.now ∷ rest) (lent_longer all sets)
+
+-- what a slice has at a place
+pub got_at : {X : Type 0} (r : Option (Bor X)) (xs : List X) (i : ℕ) → IsItemAt xs i r → option_copied r ≡ slice_get xs i
+got_at None xs i h = sym (slice_get_past xs i h.3)
+got_at (Some x) xs i h = sym (slice_get_read xs (length xs) i x.now refl h.3.0 h.1)
+
+pub lent_at : (all : List (Bor (List (List Atom)))) (c : ℕ) → option_copied (slice_get all c) ≡ slice_get (lent all) c
+lent_at [] zero = refl
+lent_at [] (suc c) = refl
+lent_at (one ∷ all) zero = refl
+lent_at (one ∷ all) (suc c) = lent_at all c
+
 -- the events of one more channel
 pub table_step : (new events whole : List EventInfo) (c next i : ℕ) (channels : List Channel) (channel : Channel) → i < length channels → channel ≡ get_or channels i channel
     → next ≡ c + 1 → new ≡ events ++ channel_events c channel.fields → events ++ events_from_channel c (drop i channels) ≡ whole
@@ -110,6 +131,29 @@ fill_none made channels channel first all at =
     let rest = drop_none all (length made) at in
     ap (λ sets. made ++ with_sets first channels sets) rest ∙ ap (λ xs. made ++ xs) (none_left first channels)
     ∙ ap (λ sets. made ++ with_sets first (channel ∷ channels) sets) (sym rest)
+
+length_longer : {X : Type 0} (xs : List X) (x : X) → length (xs ++ x ∷ []) ≡ length xs + 1
+length_longer [] x = refl
+length_longer (y ∷ xs) x = let e : length (xs ++ x ∷ []) ≡ length xs + 1 = length_longer xs x in omega arith
+
+fill_some : (made new channels : List Channel) (channel : Channel) (first next : ℕ) (all : List (List (List Atom))) (sets : List (List Atom))
+    → slice_get all (length made) ≡ Some sets → next ≡ first + row_count sets → new ≡ made ++ record channel { fields = Some sets; first = first } ∷ []
+    → new ++ with_sets next channels (drop (length new) all) ≡ made ++ with_sets first (channel ∷ channels) (drop (length made) all)
+fill_some made new channels channel first next all sets at next_is new_is =
+    let one : Channel = record channel { fields = Some sets; first = first } in
+    let longer : length new ≡ length made + 1 = ap length new_is ∙ length_longer made one in
+    let here : drop (length made) all ≡ sets ∷ drop (length made + 1) all =
+    drop_read all (length made) sets (slice_get_within all (length made) sets at) (sym (get_or_from_slice_get all (length made) sets sets at)) in
+    (λ j. new_is j ++ with_sets (next_is j) channels (drop (longer j) all))
+    ∙ append_assoc made (one ∷ []) (with_sets (first + row_count sets) channels (drop (length made + 1) all))
+    ∙ ap (λ rest. made ++ with_sets first (channel ∷ channels) rest) (sym here)
+
+-- one more channel has its field sets
+pub fill_ok : {E : Type 0} (r : Result ℕ E) (made new : List Channel) (channel : Channel) (first : ℕ) (all : List (List (List Atom))) (sets : List (List Atom))
+    → slice_get all (length made) ≡ Some sets → IfOk r (λ next. next ≡ first + row_count sets) → OnOk r (new ≡ made ++ record channel { fields = Some sets; first = first } ∷ [])
+    → IfOk r (λ next. (channels : List Channel) → new ++ with_sets next channels (drop (length new) all) ≡ made ++ with_sets first (channel ∷ channels) (drop (length made) all))
+fill_ok (Ok next) made new channel first all sets at next_is new_is = λ channels. fill_some made new channels channel first next all sets at next_is new_is
+fill_ok (Err e) made new channel first all sets at next_is new_is = tt
 
 -- an error of one type is the error of all
 stop_fault : (e : EvalFault) (old new : List (List Atom)) (outcome : Outcome (List Atom)) (whole : Outcome (List (List Atom)))

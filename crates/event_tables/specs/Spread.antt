@@ -1,6 +1,7 @@
 -- The field sets of channels while a program is put together: those of a declaration are kept once for all of its channels. Contracts of the crate
 -- that resolves scripts cite it.
 use Rattle.std.specs.Prelude.{◌≡◌, Result, Ok, Err, List, [], ◌∷◌, ◌++◌, map, replicate}
+use Rattle.std.specs.Borrow.{Bor}
 use Rattle.csp_atoms.specs.declared.atom.Atom.{Atom}
 use Rattle.csp_program.specs.Lists.{joined}
 use Rattle.csp_program.specs.Outcome.{Outcome}
@@ -12,6 +13,10 @@ use Rattle.event_tables.specs.declared.sets.SharedSets.{SharedSets}
 abbrev pub spread : List SharedSets → List (List (List Atom))
 spread [] = []
 spread (one ∷ shared) = replicate one.channels one.sets ++ spread shared
+
+-- field sets that are lent
+abbrev pub lent : List (Bor (List (List Atom))) → List (List (List Atom))
+lent all = map (λ sets. sets.now) all
 
 -- each list with each value of the set at its end
 abbrev pub extended : List (List Atom) → List Atom → List (List Atom)

@@ -3,11 +3,11 @@
 ghost use Rattle.std.specs.Prelude.{◌≡◌, ◌+◌, [], ◌∷◌, ◌++◌, Some, List, drop, length, IfOk, OnOk};
 ghost use Rattle.csp_program.specs.EventNumber.{row_count};
 ghost use Rattle.csp_program.specs.declared.programs.Channel.{Channel};
-ghost use Rattle.event_tables.specs.Spread.{spread};
+ghost use Rattle.event_tables.specs.Spread.{lent, spread};
 ghost use Rattle.script_names.specs.Resolved as meant;
 
 use crate::counts::after;
-use crate::sets::{SharedSets, copy_sets, spread_sets};
+use crate::sets::{SharedSets, copy_sets, sets_at, spread_sets};
 use crate::table::event_table;
 use containers::Items;
 use csp_atoms::AtomSet;
@@ -47,9 +47,9 @@ fn filled(
 fn with_sets(
     alloc: Global,
     channels: Items<Channel>,
-    all: &[Items<AtomSet>],
+    all: &[&[AtomSet]],
 ) -> Result<Items<Channel>, NoMemory>
-    ensures { IfOk result (λ made. made ≡ meant.with_sets 0 channels all.now) }
+    ensures { IfOk result (λ made. made ≡ meant.with_sets 0 channels (lent all.now)) }
 {
     let mut made = Items::new(alloc);
     let mut first: u32 = 0;
@@ -65,23 +65,37 @@ fn add_channel(
     made: &mut Items<Channel>,
     first: u32,
     channel: Channel,
-    all: &[Items<AtomSet>],
+    all: &[&[AtomSet]],
 ) -> Result<u32, NoMemory>
     ensures { IfOk result (λ next. (channels : List Channel) →
-        made.new ++ meant.with_sets next channels (drop (length made.new) all.now)
-        ≡ made.old ++ meant.with_sets first (channel ∷ channels) (drop (length made.old) all.now)) }
+        made.new ++ meant.with_sets next channels (drop (length made.new) (lent all.now))
+        ≡ made.old ++ meant.with_sets first (channel ∷ channels) (drop (length made.old) (lent all.now))) }
 {
-    match all.get(made.len()) {
-        Some(sets) => match filling(alloc, first, sets.as_slice()) {
-            Ok((fields, next)) => push_filled(made, first, channel, fields).map(|()| next),
-            Err(error) => {
-                let_go(channel);
-                Err(error)
-            }
-        },
+    match sets_at(all, made.len()) {
+        Some(sets) => add_filled(alloc, made, first, channel, sets),
         None => {
             let_go(channel);
             Ok(first)
+        }
+    }
+}
+
+// Adds a channel with these field sets, and answers the number of the first event after its own.
+fn add_filled(
+    alloc: Global,
+    made: &mut Items<Channel>,
+    first: u32,
+    channel: Channel,
+    sets: &[AtomSet],
+) -> Result<u32, NoMemory>
+    ensures next { IfOk result (λ next. next ≡ first + row_count sets.now) }
+    ensures made { OnOk result (made.new ≡ made.old ++ record channel { fields = Some sets.now; first = first } ∷ []) }
+{
+    match filling(alloc, first, sets) {
+        Ok((fields, next)) => push_filled(made, first, channel, fields).map(|()| next),
+        Err(error) => {
+            let_go(channel);
+            Err(error)
         }
     }
 }

@@ -1,10 +1,11 @@
 //! The field sets of channels.
 
-ghost use Rattle.std.specs.Prelude.{◌≡◌, ◌++◌, map, IfOk, OnOk, replicate};
+ghost use Rattle.std.specs.Prelude.{◌≡◌, ◌++◌, map, IfOk, OnOk, replicate, slice_get};
+ghost use Rattle.std.specs.Option.{option_copied};
 ghost use Rattle.csp_program.specs.Lists.{all_true};
 ghost use Rattle.csp_program.specs.Outcome.{and_then};
 ghost use Rattle.csp_program.specs.Value.{value_of};
-ghost use Rattle.event_tables.specs.Spread.{GivesOneMore, spread};
+ghost use Rattle.event_tables.specs.Spread.{GivesOneMore, lent, spread};
 ghost use Rattle.script_names.specs.Resolved as meant;
 ghost use Rattle.value_operators.specs.Gives.{Gives};
 
@@ -98,27 +99,33 @@ pub fn copy_sets(alloc: Global, sets: &[AtomSet]) -> Result<Items<AtomSet>, NoMe
     Ok(copies)
 }
 
-/// The field sets of each channel, one after another.
-pub fn spread_sets(alloc: Global, shared: &[SharedSets]) -> Result<Vec<Items<AtomSet>>, NoMemory>
-    ensures { IfOk result (λ all. all.items ≡ spread shared.now) }
+/// The field sets of each channel, one after another. The channels of a declaration share them.
+pub fn spread_sets<'a>(
+    alloc: Global,
+    shared: &'a [SharedSets],
+) -> Result<Vec<&'a [AtomSet]>, NoMemory>
+    ensures { IfOk result (λ all. lent all.items ≡ spread shared.now) }
 {
     let mut all = Vec::new(alloc);
     for one in shared {
-        add_copies(alloc, &mut all, one)?;
+        add_lent(&mut all, one)?;
     }
     Ok(all)
 }
 
-// Puts the field sets of the channels of a declaration at the end.
-fn add_copies(
-    alloc: Global,
-    all: &mut Vec<Items<AtomSet>>,
-    one: &SharedSets,
-) -> Result<(), NoMemory>
-    ensures { OnOk result (all.new.items ≡ all.old.items ++ replicate one.now.channels one.now.sets) }
+// Puts the field sets of each channel of a declaration at the end.
+fn add_lent<'a>(all: &mut Vec<&'a [AtomSet]>, one: &'a SharedSets) -> Result<(), NoMemory>
+    ensures { OnOk result (lent all.new.items ≡ lent all.old.items ++ replicate one.now.channels one.now.sets) }
 {
     for _channel in 0..one.channels {
-        all.push(copy_sets(alloc, one.sets.as_slice())?)?;
+        all.push(one.sets.as_slice())?;
     }
     Ok(())
+}
+
+/// The field sets of the channel with the number `c`, if there are any.
+pub fn sets_at<'a>(all: &[&'a [AtomSet]], c: usize) -> Option<&'a [AtomSet]>
+    ensures { option_copied result ≡ slice_get (lent all.now) c }
+{
+    all.get(c).copied()
 }

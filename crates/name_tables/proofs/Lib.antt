@@ -1,3 +1,4 @@
 pub mod NameLemmas
+pub mod SpellingLemmas
 pub mod ScopeLemmas
 pub mod DeclaredLemmas

@@ -1,10 +1,11 @@
 -- Scopes that grow and shrink at their end.
 use Rattle.std.proofs.Common.{◌≡◌, ℕ, zero, suc, take, Bool, true, false, cond, ◌||◌, List, [], ◌∷◌, ◌++◌, map, Option, Some, None, is_some, refl, sym, ◌∙◌, ap, subst, append_assoc}
-use Rattle.indexmap.specs.IndexMap.{IndexMap, get, Updates}
+use Rattle.std.specs.BTreeMap.{BTreeMap}
 use Rattle.script_names.specs.Names.{Name, is_among, same_name}
 use Rattle.script_names.specs.Typed.{Scope, names_of, number_of, or_else}
 use Rattle.name_tables.specs.declared.scope.Binding.{Binding}
 use Rattle.name_tables.specs.Hidden.{shown, KeepHidden, HasNumbers, Writes}
+use Rattle.name_tables.specs.Spelling.{Spelling, at_name}
 use Rattle.name_tables.proofs.NameLemmas.{same_itself, same_exact}
 
 -- the last binding of a spelling counts
@@ -44,7 +45,7 @@ pub map-push : (bs : List Binding) (b : Binding) → map shown (bs ++ b ∷ []) 
 map-push [] b = refl
 map-push (c ∷ bs) b = ap (λ t. shown c ∷ t) (map-push bs b)
 
-module _ {S : Type 0} (old new : IndexMap Name ℕ S) where
+module _ (old new : BTreeMap Spelling ℕ) where
   -- once a name is bound, the map has the numbers of the longer scope
   pub numbers-push : (scope : Scope) (x : Name) (n : ℕ) → HasNumbers old scope → Writes old new x (Some n) → HasNumbers new (scope ++ (x, n) ∷ [])
   numbers-push scope x n has wrote y =
@@ -58,25 +59,11 @@ module _ {S : Type 0} (old new : IndexMap Name ℕ S) where
       by true h = kept ∙ ap (number_of scope) (sym (same_exact y x h))
       by false h = refl
 
-  symmetric : (x y : Name) → same_name y x ≡ true → same_name x y ≡ true
-  symmetric x y h = subst (λ z. same_name x z ≡ true) (sym (same_exact y x h)) (same_itself x)
-
-  false_back : (x y : Name) (b : Bool) → same_name x y ≡ b → same_name y x ≡ false → b ≡ false
-  false_back x y true h k = sym (symmetric y x h) ∙ k
-  false_back x y false h k = refl
-
-  pub writes_updates : (x : Name) (w : Option ℕ) → Updates same_name old new x w → Writes old new x w
-  writes_updates x w up y = by (same_name y x) refl
-    where
-      by : (b : Bool) → same_name y x ≡ b → get same_name new y ≡ cond b w (get same_name old y)
-      by true h = ap (get same_name new) (same_exact y x h) ∙ up.1
-      by false h = up.2 y (false_back x y (same_name x y) refl h)
-
 -- what is kept of bindings with one more, and what the map has then
 pub bound-kept : (bs new : List Binding) (b : Binding) → new ≡ bs ++ b ∷ [] → KeepHidden [] bs → b.hidden ≡ number_of (map shown bs) b.name → KeepHidden [] new
 bound-kept bs new b e kept h = subst (KeepHidden []) (sym e) (keep_hidden-push [] bs b kept h)
 
-pub bound-numbers : {S : Type 0} (old after : IndexMap Name ℕ S) (bs new : List Binding) (b : Binding) → new ≡ bs ++ b ∷ [] → HasNumbers old (map shown bs) → Writes old after b.name (Some b.number) → HasNumbers after (map shown new)
+pub bound-numbers : (old after : BTreeMap Spelling ℕ) (bs new : List Binding) (b : Binding) → new ≡ bs ++ b ∷ [] → HasNumbers old (map shown bs) → Writes old after b.name (Some b.number) → HasNumbers after (map shown new)
 bound-numbers old after bs new b e has wrote =
     subst (HasNumbers after) (sym (ap (map shown) e ∙ map-push bs b)) (numbers-push old after (map shown bs) b.name b.number has wrote)
 
@@ -84,7 +71,7 @@ bound-numbers old after bs new b e has wrote =
 pub unbound-kept : (bs new : List Binding) (b : Binding) → bs ≡ new ++ b ∷ [] → KeepHidden [] bs → KeepHidden [] new
 unbound-kept bs new b e kept = kept-front [] new b (subst (KeepHidden []) e kept)
 
-pub unbound-numbers : {S : Type 0} (old after : IndexMap Name ℕ S) (bs new : List Binding) (b : Binding) → bs ≡ new ++ b ∷ [] → KeepHidden [] bs → HasNumbers old (map shown bs) → Writes old after b.name b.hidden → HasNumbers after (map shown new)
+pub unbound-numbers : (old after : BTreeMap Spelling ℕ) (bs new : List Binding) (b : Binding) → bs ≡ new ++ b ∷ [] → KeepHidden [] bs → HasNumbers old (map shown bs) → Writes old after b.name b.hidden → HasNumbers after (map shown new)
 unbound-numbers old after bs new b e kept has wrote =
     numbers-pop old after (map shown new) b.name b.number b.hidden
     (subst (HasNumbers old) (ap (map shown) e ∙ map-push new b) has)
@@ -95,7 +82,7 @@ some_first : (b : Bool) (n : ℕ) (o : Option ℕ) → b ≡ true → is_some (c
 some_first true n o h = refl
 some_first false n o h = cc
 
-pub bound-found : {S : Type 0} (old : IndexMap Name ℕ S) (bs new : List Binding) (b : Binding) → bs ≡ new ++ b ∷ [] → HasNumbers old (map shown bs) → is_some (get same_name old b.name) ≡ true
+pub bound-found : (old : BTreeMap Spelling ℕ) (bs new : List Binding) (b : Binding) → bs ≡ new ++ b ∷ [] → HasNumbers old (map shown bs) → is_some (at_name old b.name) ≡ true
 bound-found old bs new b e has =
     ap is_some (has b.name ∙ ap (λ s. number_of s b.name) (ap (map shown) e ∙ map-push new b) ∙ number_of-push (map shown new) b.name b.number b.name)
     ∙ some_first (same_name b.name b.name) b.number (number_of (map shown new) b.name) (same_itself b.name)

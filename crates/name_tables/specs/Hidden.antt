@@ -1,9 +1,10 @@
 -- What a scope keeps of the names that it has bound.
 use Rattle.std.specs.Prelude.{◌≡◌, ℕ, if◌then◌else◌, Option, List, [], ◌∷◌, ◌++◌}
-use Rattle.indexmap.specs.IndexMap.{IndexMap, get}
+use Rattle.std.specs.BTreeMap.{BTreeMap}
 use Rattle.script_names.specs.Names.{Name, same_name}
 use Rattle.script_names.specs.Typed.{Scope, number_of}
 use Rattle.name_tables.specs.declared.scope.Binding.{Binding}
+use Rattle.name_tables.specs.Spelling.{Spelling, at_name}
 
 -- a bound name with its number
 abbrev pub shown : Binding → Name × ℕ
@@ -15,9 +16,9 @@ KeepHidden front [] = Unit {0}
 KeepHidden front (b ∷ bs) = (b.hidden ≡ number_of front b.name) × KeepHidden (front ++ shown b ∷ []) bs
 
 -- the map has the number of each bound name
-abbrev pub HasNumbers : {S : Type 0} → IndexMap Name ℕ S → Scope → Type 0
-HasNumbers last scope = (x : Name) → get same_name last x ≡ number_of scope x
+abbrev pub HasNumbers : BTreeMap Spelling ℕ → Scope → Type 0
+HasNumbers last scope = (x : Name) → at_name last x ≡ number_of scope x
 
 -- the map has this number for the name x, and for all others what it had
-abbrev pub Writes : {S : Type 0} → IndexMap Name ℕ S → IndexMap Name ℕ S → Name → Option ℕ → Type 0
-Writes old new x number = (y : Name) → get same_name new y ≡ (if same_name y x then number else get same_name old y)
+abbrev pub Writes : BTreeMap Spelling ℕ → BTreeMap Spelling ℕ → Name → Option ℕ → Type 0
+Writes old new x number = (y : Name) → at_name new y ≡ (if same_name y x then number else at_name old y)

@@ -2,3 +2,4 @@ pub mod Firsts
 pub mod Hidden
 pub mod Counted
 pub mod Ends
+pub mod Spelling

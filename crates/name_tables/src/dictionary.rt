@@ -2,26 +2,30 @@
 
 ghost use Rattle.std.specs.Prelude.{◌≡◌, false, [], ◌∷◌, ◌++◌, is_some, OnOk};
 ghost use Rattle.name_tables.specs.Firsts.{SameFirsts};
+ghost use Rattle.name_tables.specs.Spelling.{spelled_entries};
 ghost use Rattle.script_names.specs.Names.{first_of};
 
+use crate::numbers::spelling_of;
 use csp_base::{Name, NoMemory};
-use indexmap::IndexMap;
 use script_names::Entity;
 use std::alloc::Global;
+use std::collections::BTreeMap;
 use std::marker::Model;
 
-/// Declared names with what their first declarations make them. A name is found by its hash.
+/// Declared names with what their first declarations make them. A name is found by its place in the order of names, so that no choice of names makes
+/// that slow.
 #[derive(Drop)]
 pub struct Dictionary {
-    entities: IndexMap<Name, Entity>,
+    entities: BTreeMap<Vec<u8>, Entity>,
 }
 
 impl Model for Dictionary {
     ghost use Rattle.script_names.specs.Names.{Entities};
+    ghost use Rattle.name_tables.specs.Spelling.{spelled_entries};
 
     ghost Value = { Entities };
 
-    ghost view = { λ d. d.entities.entries };
+    ghost view = { λ d. spelled_entries d.entities.entries };
 }
 
 impl Dictionary {
@@ -30,7 +34,7 @@ impl Dictionary {
         ensures { result ≡ [] }
     {
         Dictionary {
-            entities: IndexMap::new(alloc),
+            entities: BTreeMap::new(alloc),
         }
     }
 
@@ -38,31 +42,49 @@ impl Dictionary {
     pub fn find(&self, name: &Name) -> Option<Entity>
         ensures { result ≡ first_of self.now name.now }
     {
-        self.entities.get(name).copied()
+        found_in(&self.entities, name)
     }
 
     /// One more declaration. It changes nothing where the name is declared already.
-    #[tactic(auto, using(crate::proofs::NameLemmas::same_firsts_known, crate::proofs::NameLemmas::same_firsts_longer))]
     pub fn declare(&mut self, name: &Name, alloc: Global, entity: Entity) -> Result<(), NoMemory>
         ensures { OnOk result (SameFirsts self.new (self.old ++ (name.now, entity) ∷ [])) }
     {
-        if self.find(name).is_some() {
-            return Ok(());
-        }
-        let name = name.try_clone(alloc)?;
-        put_last(&mut self.entities, name, entity)
+        declare_in(alloc, &mut self.entities, name, entity)
     }
 }
 
-// Puts a name that is not there at the end.
-fn put_last(
-    entities: &mut IndexMap<Name, Entity>,
-    name: Name,
+// What the map has for the name.
+fn found_in(entities: &BTreeMap<Vec<u8>, Entity>, name: &Name) -> Option<Entity>
+    ensures { result ≡ first_of (spelled_entries entities.now.entries) name.now }
+{
+    entities.get(name.as_slice()).copied()
+}
+
+// One more declaration, which changes nothing where the name is there already.
+fn declare_in(
+    alloc: Global,
+    entities: &mut BTreeMap<Vec<u8>, Entity>,
+    name: &Name,
     entity: Entity,
 ) -> Result<(), NoMemory>
-    requires { is_some (first_of entities.old.entries name) ≡ false }
-    ensures { OnOk result (entities.new.entries ≡ entities.old.entries ++ (name, entity) ∷ []) }
+    ensures { OnOk result (SameFirsts (spelled_entries entities.new.entries) (spelled_entries entities.old.entries ++ (name.now, entity) ∷ [])) }
 {
-    entities.insert(name, entity)?;
+    if found_in(entities, name).is_some() {
+        return Ok(());
+    }
+    let spelling = spelling_of(alloc, name)?;
+    put_new(entities, spelling, entity)
+}
+
+// Puts a name in that is not there.
+fn put_new(
+    entities: &mut BTreeMap<Vec<u8>, Entity>,
+    spelling: Vec<u8>,
+    entity: Entity,
+) -> Result<(), NoMemory>
+    requires { is_some (first_of (spelled_entries entities.old.entries) spelling.items) ≡ false }
+    ensures { OnOk result (SameFirsts (spelled_entries entities.new.entries) (spelled_entries entities.old.entries ++ (spelling.items, entity) ∷ [])) }
+{
+    entities.insert(spelling, entity)?;
     Ok(())
 }

@@ -1,4 +1,4 @@
-//! What the names of a script stand for, found by their hashes: declared names, bound names, and where the bodies of definitions end.
+//! What the names of a script stand for: declared names, bound names, and where the bodies of definitions end. Names are found by their order.
 #![tactic(auto)]
 
 pub mod declared;

@@ -1,27 +1,30 @@
 //! Sets of names.
 
-ghost use Rattle.std.specs.Prelude.{◌≡◌, false, [], ◌∷◌, ◌++◌, IfOk, OnOk};
+ghost use Rattle.std.specs.Prelude.{◌≡◌, [], ◌∷◌, ◌++◌, not, IfOk, OnOk};
 ghost use Rattle.name_tables.specs.Firsts.{SameNames};
+ghost use Rattle.name_tables.specs.Spelling.{spelled};
 ghost use Rattle.script_names.specs.Names.{is_among};
 
+use crate::numbers::spelling_of;
 use csp_base::{Name, NoMemory};
-use indexmap::IndexSet;
 use std::alloc::Global;
+use std::collections::BTreeSet;
 use std::marker::Model;
 
-/// A set of names. A name is found by its hash.
+/// A set of names. A name is found by its place in the order of names.
 #[derive(Drop)]
 pub struct NameSet {
-    names: IndexSet<Name>,
+    names: BTreeSet<Vec<u8>>,
 }
 
 impl Model for NameSet {
     ghost use Rattle.std.specs.Prelude.{List};
     ghost use Rattle.script_names.specs.Names.{Name};
+    ghost use Rattle.name_tables.specs.Spelling.{spelled};
 
     ghost Value = { List Name };
 
-    ghost view = { λ s. s.names.keys };
+    ghost view = { λ s. spelled s.names.keys };
 }
 
 impl NameSet {
@@ -30,7 +33,7 @@ impl NameSet {
         ensures { result ≡ [] }
     {
         NameSet {
-            names: IndexSet::new(alloc),
+            names: BTreeSet::new(alloc),
         }
     }
 
@@ -38,29 +41,32 @@ impl NameSet {
     pub fn contains(&self, name: &Name) -> bool
         ensures { result ≡ is_among self.now name.now }
     {
-        self.names.contains(name)
+        is_in(&self.names, name)
     }
 
     /// Puts the name in, and says whether it was there before.
-    #[tactic(auto, using(crate::proofs::NameLemmas::same_names_known, crate::proofs::NameLemmas::same_names_longer))]
     pub fn add(&mut self, alloc: Global, name: &Name) -> Result<bool, NoMemory>
         ensures told { IfOk result (λ before. before ≡ is_among self.old name.now) }
         ensures names { OnOk result (SameNames self.new (self.old ++ name.now ∷ [])) }
     {
-        if self.contains(name) {
-            return Ok(true);
-        }
-        let name = name.try_clone(alloc)?;
-        put_last(&mut self.names, name)?;
-        Ok(false)
+        let spelling = spelling_of(alloc, name)?;
+        let is_new = put_in(&mut self.names, spelling)?;
+        Ok(!is_new)
     }
 }
 
-// Puts a name that is not there at the end.
-fn put_last(names: &mut IndexSet<Name>, name: Name) -> Result<(), NoMemory>
-    requires { is_among names.old.keys name ≡ false }
-    ensures { OnOk result (names.new.keys ≡ names.old.keys ++ name ∷ []) }
+// Whether the set has the name.
+fn is_in(names: &BTreeSet<Vec<u8>>, name: &Name) -> bool
+    ensures { result ≡ is_among (spelled names.now.keys) name.now }
 {
-    names.insert(name)?;
-    Ok(())
+    names.contains(name.as_slice())
+}
+
+// Puts a name in, and says whether it is new.
+fn put_in(names: &mut BTreeSet<Vec<u8>>, spelling: Vec<u8>) -> Result<bool, NoMemory>
+    ensures told { IfOk result (λ new. new ≡ not (is_among (spelled names.old.keys) spelling.items)) }
+    ensures names { OnOk result (SameNames (spelled names.new.keys) (spelled names.old.keys ++ spelling.items ∷ [])) }
+{
+    let is_new = names.insert(spelling)?;
+    Ok(is_new)
 }

@@ -1,15 +1,14 @@
 //! Bound names with their numbers.
 
 ghost use Rattle.std.specs.Prelude.{◌≡◌, ◌<◌, ◌≤◌, ◌-◌, true, [], ◌∷◌, ◌++◌, is_some, length, map, take, OnOk};
-ghost use Rattle.indexmap.specs.IndexMap.{get};
-ghost use Rattle.script_names.specs.Names.{same_name};
+ghost use Rattle.name_tables.specs.Spelling.{at_name};
 ghost use Rattle.name_tables.specs.Hidden.{shown, KeepHidden, HasNumbers, Writes};
 ghost use Rattle.script_names.specs.Typed.{number_of};
 
-use crate::numbers::{forget, rewrite, write, written};
+use crate::numbers::{forget, rewrite, spelling_of, write, written};
 use csp_base::{Name, NoMemory};
-use indexmap::IndexMap;
 use std::alloc::Global;
+use std::collections::BTreeMap;
 use std::marker::Model;
 
 /// A bound name, and what it hides.
@@ -31,11 +30,12 @@ impl Drop for Binding {
     }
 }
 
-/// The bound names at a place with their numbers, in the order in which they were bound. The last one of a spelling is found by its hash.
+/// The bound names at a place with their numbers, in the order in which they were bound. The last one of a spelling is found
+/// by its place in the order of names.
 pub struct Scope {
     alloc: Global,
     bindings: Vec<Binding>,
-    last: IndexMap<Name, u32>,
+    last: BTreeMap<Vec<u8>, u32>,
 }
 
 // By hand, so that a crate that ends one calls this and proves no end of its own.
@@ -69,7 +69,7 @@ impl Scope {
         Scope {
             alloc,
             bindings: Vec::new(alloc),
-            last: IndexMap::new(alloc),
+            last: BTreeMap::new(alloc),
         }
     }
 
@@ -91,9 +91,9 @@ impl Scope {
     pub fn bind(&mut self, name: &Name, number: u32) -> Result<(), NoMemory>
         ensures { OnOk result (self.new ≡ self.old ++ (name.now, number) ∷ []) }
     {
-        let key = name.try_clone(self.alloc)?;
+        let spelling = spelling_of(self.alloc, name)?;
         let name = name.try_clone(self.alloc)?;
-        bind_in(&mut self.bindings, &mut self.last, name, key, number)
+        bind_in(&mut self.bindings, &mut self.last, name, spelling, number)
     }
 
     /// Leaves the first names alone, so many of them.
@@ -108,14 +108,14 @@ impl Scope {
 // Binds one more name.
 fn bind_in(
     bindings: &mut Vec<Binding>,
-    last: &mut IndexMap<Name, u32>,
+    last: &mut BTreeMap<Vec<u8>, u32>,
     name: Name,
-    key: Name,
+    spelling: Vec<u8>,
     number: u32,
 ) -> Result<(), NoMemory>
     requires kept { KeepHidden [] bindings.old.items }
     requires numbers { HasNumbers last.old (map shown bindings.old.items) }
-    requires same { key ≡ name }
+    requires same { spelling.items ≡ name }
     ensures ok { OnOk result (map shown bindings.new.items ≡ map shown bindings.old.items ++ (name, number) ∷ []) }
     ensures kept { KeepHidden [] bindings.new.items }
     ensures numbers { HasNumbers last.new (map shown bindings.new.items) }
@@ -127,7 +127,7 @@ fn bind_in(
         hidden,
     };
     bindings.push(binding)?;
-    match write(last, key, number) {
+    match write(last, spelling, number) {
         Ok(_) => Ok(()),
         Err(error) => {
             bindings.pop();
@@ -137,8 +137,8 @@ fn bind_in(
 }
 
 // Gives a name back the number that was hidden.
-fn restore(last: &mut IndexMap<Name, u32>, name: &Name, hidden: Option<u32>)
-    requires { is_some (get same_name last.old name.now) ≡ true }
+fn restore(last: &mut BTreeMap<Vec<u8>, u32>, name: &Name, hidden: Option<u32>)
+    requires { is_some (at_name last.old name.now) ≡ true }
     ensures { Writes last.old last.new name.now hidden }
 {
     match hidden {
@@ -148,7 +148,7 @@ fn restore(last: &mut IndexMap<Name, u32>, name: &Name, hidden: Option<u32>)
 }
 
 // Takes the last name out.
-fn unbind_in(bindings: &mut Vec<Binding>, last: &mut IndexMap<Name, u32>)
+fn unbind_in(bindings: &mut Vec<Binding>, last: &mut BTreeMap<Vec<u8>, u32>)
     requires some { 0 < length bindings.old.items }
     requires kept { KeepHidden [] bindings.old.items }
     requires numbers { HasNumbers last.old (map shown bindings.old.items) }
@@ -162,7 +162,7 @@ fn unbind_in(bindings: &mut Vec<Binding>, last: &mut IndexMap<Name, u32>)
 }
 
 // Leaves the first names alone, so many of them.
-fn leave_in(bindings: &mut Vec<Binding>, last: &mut IndexMap<Name, u32>, count: usize)
+fn leave_in(bindings: &mut Vec<Binding>, last: &mut BTreeMap<Vec<u8>, u32>, count: usize)
     requires count { count ≤ length bindings.old.items }
     requires kept { KeepHidden [] bindings.old.items }
     requires numbers { HasNumbers last.old (map shown bindings.old.items) }

@@ -1,6 +1,6 @@
 use Rattle.std.proofs.Common.{◌≡◌, ◌++◌, drop}
-use Rattle.event_tables.specs.Spread.{spread}
+use Rattle.event_tables.specs.Spread.{lent, spread}
 use Rattle.event_tables.proofs.sets.spread_sets.Given as goal
 
 abbrev pub invariant-loop-one : goal.invariant-loop-one
-invariant-loop-one l = l.all.items ++ spread (drop l.one-index l.shared) ≡ spread l.shared
+invariant-loop-one l = lent l.all.items ++ spread (drop l.one-index l.shared) ≡ spread l.shared

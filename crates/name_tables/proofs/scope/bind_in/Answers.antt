@@ -1,15 +1,14 @@
 use Rattle.std.proofs.Common.{◌≡◌, ◌∙◌, Some, map, subst}
-use Rattle.indexmap.specs.IndexMap.{get}
-use Rattle.script_names.specs.Names.{same_name}
 use Rattle.script_names.specs.Typed.{number_of}
 use Rattle.name_tables.specs.Hidden.{shown, Writes}
+use Rattle.name_tables.specs.Spelling.{at_name}
 use Rattle.name_tables.proofs.ScopeLemmas.{bound-kept, bound-numbers}
 use Rattle.name_tables.proofs.scope.bind_in.Goals as goal
 
 pub returns-in-Ok-clause-kept : goal.returns-in-Ok-clause-kept
 returns-in-Ok-clause-kept c =
     let bs = c.args.bindings.now.items in
-    let e : c.written-hidden.result ≡ get same_name c.args.last.now c.args.name = c.written-hidden.ensures in
+    let e : c.written-hidden.result ≡ at_name c.args.last.now c.args.name = c.written-hidden.ensures in
     let h : c.written-hidden.result ≡ number_of (map shown bs) c.args.name = e ∙ c.requires.numbers c.args.name in
     bound-kept bs c.push.new.self.items (record { name = c.args.name; number = c.args.number; hidden = c.written-hidden.result }) c.in_ok-push.ensures.items c.requires.kept h
 
