@@ -84,10 +84,6 @@ one_more_binding p n items parts env state = gathered (yielded p n items parts) 
 unfoldable pub walk_worth : Content → ℕ → List Gen → List Expr → List EventPart → Env → Gathered → Outcome Gathered
 walk_worth p n gens items parts env state = walked (map (turn (uses_within p n) p.channels) gens) (gathered (yielded p n items parts)) env state
 
--- the bindings of generators for each atom that the name x takes
-unfoldable pub each_worth : Content → ℕ → ℕ → List Atom → List Gen → List Expr → List EventPart → Env → Gathered → Outcome Gathered
-each_worth p n x atoms gens items parts env state = over atoms (λ a. walk_worth p n gens items parts ((x, One a) ∷ env)) state
-
 abbrev pub gathered_of : Tally → Gathered
 gathered_of tally = record { bindings = tally.bindings; atoms = tally.atoms }
 

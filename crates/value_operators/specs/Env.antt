@@ -11,5 +11,9 @@ abbrev pub with_bound : List (ℕ × Atom) → Env → Env
 with_bound [] env = env
 with_bound (b ∷ bs) env = with_bound bs ((b.0, One b.1) ∷ env)
 
+-- the parameters with the values of the arguments
+abbrev pub parameters : Names → Env
+parameters names = bound_to names.params.now names.args.now
+
 abbrev pub env_in : Names → Env
-env_in names = with_bound names.bound.now (bound_to names.params.now names.args.now)
+env_in names = with_bound names.bound.now (parameters names)

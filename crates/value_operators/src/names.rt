@@ -1,13 +1,12 @@
 //! The values of bound names.
 
-ghost use Rattle.std.specs.Prelude.{◌≡◌, ◌∷◌, ◌++◌, [], Ok, IfOk};
+ghost use Rattle.std.specs.Prelude.{◌≡◌, Ok};
 ghost use Rattle.csp_program.specs.Value.{bound_value, bound_to};
 ghost use Rattle.value_operators.specs.Env.{env_in};
 ghost use Rattle.value_operators.specs.Gives.{Gives};
 
 use crate::fault::EvalFault;
 use csp_atoms::{Atom, Value};
-use csp_base::NoMemory;
 use csp_program::ValueKind;
 use std::alloc::Global;
 
@@ -64,18 +63,4 @@ pub fn named(alloc: Global, names: &Names<'_>, slot: u32) -> Result<Value, EvalF
         rest = front;
     }
     argument(alloc, names.params, names.args, slot)
-}
-
-/// The names of generators with one more.
-pub fn with_name(
-    alloc: Global,
-    bound: &[(u32, Atom)],
-    slot: u32,
-    atom: Atom,
-) -> Result<Vec<(u32, Atom)>, NoMemory>
-    ensures { IfOk result (λ more. more.items ≡ bound.now ++ (slot, atom) ∷ []) }
-{
-    let mut more = Vec::from_slice(alloc, bound)?;
-    more.push((slot, atom))?;
-    Ok(more)
 }
