@@ -1,5 +1,5 @@
 -- What a call answers for a form, from what calls answer for its parts.
-use Rattle.std.proofs.Common.{◌≡◌, ℕ, ◌+◌, ◌<◌, Bool, true, false, cond, List, [], ◌∷◌, Some, None, Ok, Err, map, length, refl, ap, sym, subst, ◌∙◌}
+use Rattle.std.proofs.Common.{◌≡◌, ℕ, ◌+◌, ◌<◌, Bool, true, false, List, [], Some, None, Ok, Err, map, length, refl, ap, sym, subst, ◌∙◌}
 use Rattle.std.specs.Prelude.{ℤ, if◌then◌else◌, slice_get, Result}
 use Rattle.std.specs.Result.{IsErrAnd}
 use Rattle.csp_program.specs.Atoms.{all_added, events_from}
@@ -16,7 +16,6 @@ use Rattle.csp_program.specs.declared.expressions.Expr.{Expr}
 use Rattle.csp_program.specs.declared.expressions.Expr.TheVariants as expr
 use Rattle.csp_program.specs.declared.expressions.Expr.TheViews.{out-EventPart}
 use Rattle.csp_program.specs.declared.expressions.Gen.{Gen}
-use Rattle.csp_program.specs.declared.expressions.Gen.TheVariants as generator
 use Rattle.csp_program.specs.declared.kinds.ValueKind.{ValueKind}
 use Rattle.csp_program.specs.declared.kinds.ValueKind.TheVariants.{Kind}
 use Rattle.csp_program.specs.declared.programs.Body.TheVariants as body

@@ -4,7 +4,7 @@ use Rattle.std.specs.Prelude.{ℤ, ◌||◌, is_none, nat_lt, slice_get, Option}
 use Rattle.csp_program.specs.Atoms.{added, all_added, events_from}
 use Rattle.csp_program.specs.EventNumber.{row_count}
 use Rattle.csp_program.specs.Outcome.{Outcome, and_then}
-use Rattle.csp_program.specs.Value.{lack_sets, first_of, Env, Meaning, Turn, Front, value_of, value_within, Gathered, from, when, meaning, turn, front, meaning_of_layer, turn_of_layer, front_of_layer, uses_within, number, truth, bound_value, as_truth, as_set, as_atom, items_added, walked, gathered, sets_of, field_place, bound_to, many, body_value, def_value, front_count, front_number, fronts_added, meanings}
+use Rattle.csp_program.specs.Value.{lack_sets, first_of, Env, Meaning, Turn, Front, value_of, value_within, Gathered, from, when, meaning, turn, front, meaning_of_layer, turn_of_layer, front_of_layer, uses_within, number, truth, bound_value, as_atom, items_added, walked, gathered, sets_of, field_place, bound_to, many, body_value, def_value, front_count, front_number, fronts_added, meanings}
 use Rattle.csp_atoms.specs.declared.atom.Atom.{Atom}
 use Rattle.csp_atoms.specs.declared.atom.Atom.TheVariants as atom
 use Rattle.csp_atoms.specs.declared.value.Value.{Value}

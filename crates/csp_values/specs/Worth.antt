@@ -2,10 +2,9 @@
 -- of an expression, applied to trees.
 use Rattle.std.specs.Prelude.{◌≡◌, ℕ, ℤ, Bool, if◌then◌else◌, Result, Ok, Err, Some, List, [], ◌∷◌, map, slice_get}
 use Rattle.csp_program.specs.Outcome.{Outcome, and_then}
-use Rattle.csp_program.specs.Value.{first_of, as_number, as_truth, as_set, many, range, set_binary, Env, Gathered, meaning, turn, front, values_of, items_added, fields_number, front_number, fronts_added, sets_of, over, walked, gathered, uses_within, def_value, value_within, meanings}
+use Rattle.csp_program.specs.Value.{first_of, as_number, as_truth, as_set, many, range, set_binary, Env, Gathered, meaning, turn, front, values_of, items_added, fields_number, front_number, fronts_added, sets_of, walked, gathered, uses_within, def_value, value_within, meanings}
 use Rattle.csp_atoms.specs.declared.atom.Atom.{Atom}
 use Rattle.csp_atoms.specs.declared.value.Value.{Value}
-use Rattle.csp_atoms.specs.declared.value.Value.TheVariants.{One}
 use Rattle.csp_base.specs.declared.operators.SetOp.{SetOp}
 use Rattle.csp_program.specs.declared.expressions.EventPart.{EventPart}
 use Rattle.csp_program.specs.declared.expressions.Expr.{Expr}

@@ -20,7 +20,7 @@ use csp_base::{BinOp, SetOp};
 use csp_program::{Body, Content, Def, EventPart, Expr, Gen, Program, ValueKind};
 use std::alloc::Global;
 use value_operators::EvalFault;
-use value_operators::names::{Names, copied, named};
+use value_operators::names::{Names, copied, named, names_in};
 use value_operators::numbers::{
     count_with, each_of, event_at, field_sets, lack_sets, place_in, with_field,
 };
@@ -83,6 +83,7 @@ pub fn eval_in(alloc: Global, content: &Content, expr: &Expr) -> Result<Value, E
     let names = Names {
         params: &[],
         args: &[],
+        placed: &[],
         bound: &[],
     };
     eval_expr(&scope, &names, expr)
@@ -114,6 +115,7 @@ pub fn eval_under(
     let names = Names {
         params: &[],
         args: &[],
+        placed: &[],
         bound,
     };
     eval_expr(&scope, &names, expr)
@@ -137,6 +139,7 @@ pub fn eval_all_under(
     let names = Names {
         params: &[],
         args: &[],
+        placed: &[],
         bound,
     };
     eval_all(&scope, &names, exprs)
@@ -161,6 +164,7 @@ pub fn front_under(
     let names = Names {
         params: &[],
         args: &[],
+        placed: &[],
         bound,
     };
     eval_front(&scope, &names, channel, fields)
@@ -185,6 +189,7 @@ pub fn binding_under(
     let names = Names {
         params: &[],
         args: &[],
+        placed: &[],
         bound: &[],
     };
     find_binding(&scope, &names, gens, walk)
@@ -494,17 +499,14 @@ fn eval_body(scope: &Scope<'_>, def: &Def, args: &[Value]) -> Result<Value, Eval
 {
     match &def.body {
         Body::Datum(expr) => {
-            let names = Names {
-                params: def.params.as_slice(),
-                args,
-                bound: &[],
-            };
+            let names = names_in(def.params.as_slice(), args);
             eval_expr(scope, &names, expr)
         }
         Body::Nametype(expr) => {
             let names = Names {
                 params: &[],
                 args: &[],
+                placed: &[],
                 bound: &[],
             };
             eval_expr(scope, &names, expr)
@@ -715,6 +717,7 @@ fn enter(
     let inner = Names {
         params: names.params,
         args: names.args,
+        placed: names.placed,
         bound: walk.bound(),
     };
     match gens.get(place) {
@@ -772,6 +775,7 @@ fn gather_all(
         let inner = Names {
             params: names.params,
             args: names.args,
+            placed: names.placed,
             bound: walk.bound(),
         };
         tally = gather(scope, &inner, yields, tally)?;

@@ -1,6 +1,6 @@
 //! Where a walk over the bindings of generators stands, with a stack of its own: no number of generators costs stack of the program.
 
-ghost use Rattle.std.specs.Prelude.{◌≡◌, [], None, IfOk, OnOk};
+ghost use Rattle.std.specs.Prelude.{◌≡◌, None, IfOk, OnOk};
 ghost use Rattle.csp_values.specs.Course.{IsPopped, begun, taken};
 
 use containers::Items;

@@ -1,5 +1,5 @@
 -- A renaming as it is walked: what is left of it at each binding.
-use Rattle.std.proofs.Common.{◌≡◌, ℕ, Ok, Err, List, [], length, map, refl, ap, sym, ◌∙◌}
+use Rattle.std.proofs.Common.{◌≡◌, ℕ, Ok, Err, List, [], length, map, ap, sym, ◌∙◌}
 use Rattle.std.specs.Prelude.{Result}
 use Rattle.std.specs.Result.{IsErrAnd}
 use Rattle.csp_program.specs.Outcome.{Outcome, and_then}

@@ -1,14 +1,13 @@
 use Rattle.std.specs.Prelude.{slice_get}
 use Rattle.std.proofs.lemmas.Option.{slice_get_read}
-use Rattle.std.proofs.Common.{◌≡◌, ◌+◌, length, cond, Some, Ok, Err, ap, refl, sym, ◌∙◌, arith, to_z, of_z, w64, drop_of_length-le}
+use Rattle.std.proofs.Common.{◌≡◌, ◌+◌, length, Some, Ok, Err, ap, refl, sym, ◌∙◌, arith, to_z, of_z, w64, drop_of_length-le}
 use Rattle.std.proofs.lemmas.Int.{ints}
 use Rattle.csp_program.specs.Outcome.{and_then}
 use Rattle.csp_program.specs.Atoms.{added}
-use Rattle.csp_program.specs.Value.{as_atom, as_number, as_set, as_truth, bound_to, field_place, many, range}
+use Rattle.csp_program.specs.Value.{as_atom, as_number, as_set, as_truth, field_place, many, range}
 use Rattle.value_operators.specs.Env.{env_in, parameters, with_bound}
 use Rattle.value_operators.proofs.Faults.{passed}
-use Rattle.value_operators.proofs.NameLaws.{with_bound-last}
-use Rattle.csp_values.specs.Worth.{number_worth, truth_worth, atoms_worth, range_of, set_of, use_worth, with_items, with_fronts, gathered_of, one_more_binding}
+use Rattle.csp_values.specs.Worth.{worth, number_worth, truth_worth, atoms_worth, range_of, set_of, use_worth, with_items, with_fronts, gathered_of, one_more_binding}
 use Rattle.csp_values.proofs.Arms.{binding_passed, lacking, not_lacking, same, part_passed, walk_passed, worth_num, worth_truth, worth_const, worth_bound, worth_lit, worth_neg, worth_not, worth_binary, worth_if, worth_call, worth_set_name, worth_event, worth_display, worth_range, worth_set_op, worth_comp, worth_product, datum_worth, datatype_worth, counted_over, front_of_sets, front_without_sets, front_fault, front_added, binding_item_fault, binding_with_items}
 use Rattle.csp_values.proofs.Equations.{body-Nametype, body-Process, body-Network, use-none_left, use-unknown, use-known, fronts-nil, with_items-nil, binding-full}
 use Rattle.csp_values.proofs.Courses.{begun_under, binding_found, binding_less, condition_fails, condition_fault, condition_holds, ends, gathering_begun, gathering_fault, gathering_next, goes_on, goes_under, over_end, over_fault, set_entered, set_fault, step_less, step_passed}
@@ -19,7 +18,6 @@ use Rattle.csp_values.proofs.Weights.{weights-nil, weight_in, part_weight_in}
 use Rattle.csp_values.proofs.evaluation.+eval.Goals as goal
 use Rattle.csp_values.proofs.evaluation.+eval.Goals.{enter-then-holds, enter-else-holds}
 use Rattle.csp_program.specs.declared.expressions.Gen.TheVariants as generator
-use Rattle.std.proofs.lemmas.List.{nil_from_length}
 
 pub add_front-eval_front-requires : goal.add_front-eval_front-requires
 add_front-eval_front-requires t c = (omega (arith, weight_part c.args.part.now c.as_slice.result.now c.as_slice.ensures), tt)
@@ -76,7 +74,7 @@ pub eval_all-returns : goal.eval_all-returns
 eval_all-returns t c = c.loop-expr.invariant ∙ (ap (worths_after c.args.scope.now.content.now c.args.scope.now.uses (env_in c.args.names.now) c.loop-expr.values) (drop_of_length-le c.args.exprs.now (omega arith)) ∙ worths_end c.args.scope.now.content.now c.args.scope.now.uses (env_in c.args.names.now) c.loop-expr.values)
 
 pub eval_body-returns-in-Datum : goal.eval_body-returns-in-Datum
-eval_body-returns-in-Datum t c = same _ _ _ (datum_worth c.args.scope.now.content.now c.args.scope.now.uses c.args.def.now c.args.args.now c.as_slice.result.now c.in-Datum.expr c.in-Datum.is c.as_slice.ensures) c.eval_expr.ensures
+eval_body-returns-in-Datum t c = same _ _ _ (datum_worth c.args.scope.now.content.now c.args.scope.now.uses c.args.def.now c.args.args.now c.as_slice.result.now c.in-Datum.expr c.in-Datum.is c.as_slice.ensures ∙ ap (λ env. worth c.args.scope.now.content.now c.args.scope.now.uses env c.in-Datum.expr) (sym c.names_in-names.ensures)) c.eval_expr.ensures
 
 pub eval_body-returns-in-Nametype : goal.eval_body-returns-in-Nametype
 eval_body-returns-in-Nametype t c = same _ _ _ (body-Nametype c.args.scope.now.content.now c.args.scope.now.uses c.args.def.now c.args.args.now c.in-Nametype.expr c.in-Nametype.is) c.eval_expr-in-Nametype.ensures
