@@ -1,5 +1,5 @@
 -- What a call answers for a form, from what calls answer for its parts.
-use Rattle.std.proofs.Common.{◌≡◌, ℕ, ◌+◌, ◌<◌, Bool, true, false, cond, List, [], ◌∷◌, Some, None, Ok, Err, map, length, refl, ap, sym, subst, ◌∙◌}
+use Rattle.std.proofs.Common.{◌≡◌, ℕ, ◌+◌, ◌<◌, Bool, true, false, List, [], Some, None, Ok, Err, map, length, refl, ap, sym, subst, ◌∙◌}
 use Rattle.std.specs.Prelude.{ℤ, if◌then◌else◌, slice_get, Result}
 use Rattle.std.specs.Result.{IsErrAnd}
 use Rattle.csp_program.specs.Atoms.{all_added, events_from}
@@ -16,7 +16,6 @@ use Rattle.csp_program.specs.declared.expressions.Expr.{Expr}
 use Rattle.csp_program.specs.declared.expressions.Expr.TheVariants as expr
 use Rattle.csp_program.specs.declared.expressions.Expr.TheViews.{out-EventPart}
 use Rattle.csp_program.specs.declared.expressions.Gen.{Gen}
-use Rattle.csp_program.specs.declared.expressions.Gen.TheVariants as generator
 use Rattle.csp_program.specs.declared.kinds.ValueKind.{ValueKind}
 use Rattle.csp_program.specs.declared.kinds.ValueKind.TheVariants.{Kind}
 use Rattle.csp_program.specs.declared.programs.Body.TheVariants as body
@@ -28,17 +27,16 @@ use Rattle.value_operators.specs.Forms.{negative, inverse, operation, choice, na
 use Rattle.value_operators.specs.Gives.{Gives}
 use Rattle.value_operators.specs.declared.fault.EvalFault.{EvalFault}
 use Rattle.value_operators.specs.declared.fault.EvalFault.TheVariants as fault
-use Rattle.csp_values.specs.Worth.{worth, worths, number_worth, truth_worth, atoms_worth, chosen, range_of, set_of, use_worth, body_worth, with_items, fields_worth, front_worth, with_front, with_fronts, one_more_binding, walk_worth, each_worth, GivesTally}
+use Rattle.csp_values.specs.Worth.{worth, worths, number_worth, truth_worth, atoms_worth, chosen, range_of, set_of, use_worth, body_worth, with_items, fields_worth, front_worth, with_front, with_fronts, one_more_binding, walk_worth, GivesTally}
+use Rattle.csp_values.specs.Course.{Course, GivesBinding, faulty, skipped}
 use Rattle.csp_values.specs.declared.tally.Tally.{Tally}
+use Rattle.csp_values.specs.declared.walk.Walk.{Walk}
 use Rattle.csp_values.proofs.Equations as eq
 use Rattle.csp_values.proofs.FieldSteps.{front_scaled, same_found}
 use Rattle.csp_program.proofs.Outcomes.{and_then_regroup}
 
 pub same : {A : Type 0} (r : Result A EvalFault) (o o' : Outcome A) → o ≡ o' → Gives r o' → Gives r o
 same r o o' is h = subst (Gives r) (sym is) h
-
-pub same_tally : (r : Result Tally EvalFault) (o o' : Outcome Gathered) → o ≡ o' → GivesTally r o' → GivesTally r o
-same_tally r o o' is h = subst (GivesTally r) (sym is) h
 
 -- a fault of a part is a fault of the generators that it stands in
 tally_fault : {A : Type 0} (f : EvalFault) (part : Outcome A) (whole : Outcome Gathered) → Gives {A = A} (Err f) part → ((k : ValueKind) → part ≡ Err k → whole ≡ Err k) → GivesTally (Err f) whole
@@ -58,6 +56,17 @@ pub walk_passed : (r : Result Tally EvalFault) (f : EvalFault) (part whole : Out
     → IsErrAnd r (λ y. y ≡ f) → GivesTally (Err f) part → ((k : ValueKind) → part ≡ Err k → whole ≡ Err k) → GivesTally r whole
 walk_passed (Ok x) f part whole is h passes = absurd is
 walk_passed (Err y) f part whole is h passes = rw is (walk_fault f part whole h passes)
+
+-- a fault of a walk is a fault of what is gathered
+binding_fault : (f : EvalFault) (before left : Course) (params : Env) (around : List (ℕ × Atom)) (walk : Walk) (whole : Outcome Gathered) → GivesBinding (Err f) before left params around walk
+    → ((k : ValueKind) → skipped before ≡ faulty k → whole ≡ Err k) → GivesTally (Err f) whole
+binding_fault fault.NoMemory before left params around walk whole h passes = tt
+binding_fault (fault.Value kind) before left params around walk whole h passes = passes kind h
+
+pub binding_passed : (r : Result Tally EvalFault) (f : EvalFault) (before left : Course) (params : Env) (around : List (ℕ × Atom)) (walk : Walk) (whole : Outcome Gathered)
+    → IsErrAnd r (λ y. y ≡ f) → GivesBinding (Err f) before left params around walk → ((k : ValueKind) → skipped before ≡ faulty k → whole ≡ Err k) → GivesTally r whole
+binding_passed (Ok x) f before left params around walk whole is h passes = absurd is
+binding_passed (Err y) f before left params around walk whole is h passes = rw is (binding_fault f before left params around walk whole h passes)
 
 -- two parts, each of which is taken for what it is worth
 module _ {V M C : Type 0} (f : V → Outcome M) (g : M → M → Outcome C) where
@@ -212,21 +221,3 @@ module _ (p : Content) (n : ℕ) (items : List Expr) (parts : List EventPart) (e
       eq.binding-room p n items parts env state room ∙
       (ap (λ z. and_then (and_then z (λ all. with_fronts p n env parts all)) (λ atoms. Ok (record { bindings = state.bindings + 1; atoms = atoms }))) good ∙
       ap (λ z. and_then z (λ atoms. Ok (record { bindings = state.bindings + 1; atoms = atoms }))) came)
-
--- generators
-module _ (p : Content) (n : ℕ) (first : Gen) (gens : List Gen) (items : List Expr) (parts : List EventPart) (env : Env) (state : Gathered) where
-  pub walk_from : (x : ℕ) (s : Expr) (o : Outcome (List Atom)) → first ≡ generator.From x s → atoms_worth p n env s ≡ o
-      → walk_worth p n (first ∷ gens) items parts env state ≡ and_then o (λ atoms. each_worth p n x atoms gens items parts env state)
-  walk_from x s o is came =
-      ap (λ g. walk_worth p n (g ∷ gens) items parts env state) is ∙
-      (eq.walk-From p n x s gens items parts env state ∙
-      (and_then_regroup (worth p n env s) (λ v. as_set v) (λ atoms. each_worth p n x atoms gens items parts env state) ∙
-      ap (λ z. and_then z (λ atoms. each_worth p n x atoms gens items parts env state)) (atoms_are p n env s ∙ came)))
-
-  pub walk_cond : (c : Expr) (o : Outcome Bool) → first ≡ generator.Cond c → truth_worth p n env c ≡ o
-      → walk_worth p n (first ∷ gens) items parts env state ≡ and_then o (λ b. cond b (walk_worth p n gens items parts env state) (Ok state))
-  walk_cond c o is came =
-      ap (λ g. walk_worth p n (g ∷ gens) items parts env state) is ∙
-      (eq.walk-Cond p n c gens items parts env state ∙
-      (and_then_regroup (worth p n env c) (λ v. as_truth v) (λ b. cond b (walk_worth p n gens items parts env state) (Ok state)) ∙
-      ap (λ z. and_then z (λ b. cond b (walk_worth p n gens items parts env state) (Ok state))) (truth_is p n env c ∙ came)))

@@ -4,7 +4,7 @@ use Rattle.std.specs.Prelude.{ℤ, ◌||◌, is_none, nat_lt, slice_get, Option}
 use Rattle.csp_program.specs.Atoms.{added, all_added, events_from}
 use Rattle.csp_program.specs.EventNumber.{row_count}
 use Rattle.csp_program.specs.Outcome.{Outcome, and_then}
-use Rattle.csp_program.specs.Value.{lack_sets, first_of, Env, Meaning, Turn, Front, value_of, value_within, Gathered, from, when, meaning, turn, front, meaning_of_layer, turn_of_layer, front_of_layer, uses_within, number, truth, bound_value, as_truth, as_set, as_atom, items_added, walked, gathered, sets_of, field_place, bound_to, many, body_value, def_value, front_count, front_number, fronts_added, meanings}
+use Rattle.csp_program.specs.Value.{lack_sets, first_of, Env, Meaning, Turn, Front, value_of, value_within, Gathered, from, when, meaning, turn, front, meaning_of_layer, turn_of_layer, front_of_layer, uses_within, number, truth, bound_value, as_atom, items_added, walked, gathered, sets_of, field_place, bound_to, many, body_value, def_value, front_count, front_number, fronts_added, meanings}
 use Rattle.csp_atoms.specs.declared.atom.Atom.{Atom}
 use Rattle.csp_atoms.specs.declared.atom.Atom.TheVariants as atom
 use Rattle.csp_atoms.specs.declared.value.Value.{Value}
@@ -27,7 +27,7 @@ use Rattle.csp_program.specs.declared.networks.Net.{Net}
 use Rattle.csp_program.specs.declared.processes.Proc.{Proc}
 use Rattle.value_operators.specs.Forms.{negative, inverse, operation, choice, named_set, an_event, a_set, a_range, set_operation, gathered_set, nothing_yet, count_with, produced}
 use Rattle.value_operators.specs.Forms as form
-use Rattle.csp_values.specs.Worth.{worth, worths, use_worth, body_worth, with_items, fields_worth, front_worth, with_front, with_fronts, yielded, one_more_binding, walk_worth, each_worth}
+use Rattle.csp_values.specs.Worth.{worth, worths, use_worth, body_worth, with_items, fields_worth, front_worth, with_front, with_fronts, yielded, one_more_binding, walk_worth}
 
 at : (p : Content) (n : ℕ) (env : Env) (e : Expr) (d : Expr-F Expr Gen EventPart) → roll-Expr d ≡ e
     → meaning (uses_within p n) p.channels e env ≡ meaning_of_layer (uses_within p n) p.channels (map-Expr Expr Gen EventPart Meaning Turn Front (meaning (uses_within p n) p.channels) (turn (uses_within p n) p.channels) (front (uses_within p n) p.channels) d) env
@@ -201,13 +201,6 @@ use-known p (suc n) d args def lt h =
     let less : suc n - 1 ≡ n = omega arith in
     ap (λ found. def_value (meaning (uses_within p n) p.channels) found args) h ∙ ap (λ m. def_value (meaning (uses_within p m) p.channels) (Some def) args) (sym less)
 
-pub walk-nil : (p : Content) (n : ℕ) (items : List Expr) (parts : List EventPart) (env : Env) (state : Gathered) → walk_worth p n [] items parts env state ≡ one_more_binding p n items parts env state
-unfolding walk_worth one_more_binding
-walk-nil p n items parts env state = refl
-
-abbrev walk_turn : Content → ℕ → Turn → List Gen → List Expr → List EventPart → Env → Gathered → Outcome Gathered
-walk_turn p n t gens items parts env state = walked (t ∷ map (turn (uses_within p n) p.channels) gens) (gathered (yielded p n items parts)) env state
-
 pub turn-From : (p : Content) (n x : ℕ) (s : Expr) → turn (uses_within p n) p.channels (generator.From x s) ≡ from x (meaning (uses_within p n) p.channels s)
 turn-From p n x s =
     ap (turn (uses_within p n) p.channels) (sym (generator.rolls-From x s)) ∙
@@ -217,25 +210,6 @@ pub turn-Cond : (p : Content) (n : ℕ) (c : Expr) → turn (uses_within p n) p.
 turn-Cond p n c =
     ap (turn (uses_within p n) p.channels) (sym (generator.rolls-Cond c)) ∙
     fold-roll-Gen Meaning Turn Front (meaning_of_layer (uses_within p n) p.channels) (turn_of_layer (uses_within p n) p.channels) (front_of_layer (uses_within p n) p.channels) (Gen-F.Cond c)
-
-pub walk-From : (p : Content) (n x : ℕ) (s : Expr) (gens : List Gen) (items : List Expr) (parts : List EventPart) (env : Env) (state : Gathered)
-    → walk_worth p n (generator.From x s ∷ gens) items parts env state ≡ and_then (worth p n env s) (λ v. and_then (as_set v) (λ atoms. each_worth p n x atoms gens items parts env state))
-unfolding walk_worth each_worth worth
-walk-From p n x s gens items parts env state = ap (λ t. walk_turn p n t gens items parts env state) (turn-From p n x s)
-
-pub walk-Cond : (p : Content) (n : ℕ) (c : Expr) (gens : List Gen) (items : List Expr) (parts : List EventPart) (env : Env) (state : Gathered)
-    → walk_worth p n (generator.Cond c ∷ gens) items parts env state ≡ and_then (worth p n env c) (λ v. and_then (as_truth v) (λ b. cond b (walk_worth p n gens items parts env state) (Ok state)))
-unfolding walk_worth worth
-walk-Cond p n c gens items parts env state = ap (λ t. walk_turn p n t gens items parts env state) (turn-Cond p n c)
-
-pub each-nil : (p : Content) (n x : ℕ) (gens : List Gen) (items : List Expr) (parts : List EventPart) (env : Env) (state : Gathered) → each_worth p n x [] gens items parts env state ≡ Ok state
-unfolding each_worth
-each-nil p n x gens items parts env state = refl
-
-pub each-cons : (p : Content) (n x : ℕ) (a : Atom) (atoms : List Atom) (gens : List Gen) (items : List Expr) (parts : List EventPart) (env : Env) (state : Gathered)
-    → each_worth p n x (a ∷ atoms) gens items parts env state ≡ and_then (walk_worth p n gens items parts ((x, One a) ∷ env) state) (λ next. each_worth p n x atoms gens items parts env next)
-unfolding each_worth
-each-cons p n x a atoms gens items parts env state = refl
 
 pub same_count : (o : Option (List (List Atom))) (p : Content) (n : ℕ) (es : List Expr) → front_count o (meanings p n es) ≡ count_with o (length es)
 same_count None p n es = refl

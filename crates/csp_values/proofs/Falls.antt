@@ -1,5 +1,5 @@
 -- What the parts of a form weigh, and what a use of a definition costs.
-use Rattle.std.proofs.Common.{◌≡◌, ℕ, ◌+◌, ◌-◌, ◌<◌, List, [], ◌∷◌, Some, ap, sym, ◌∙◌, arith}
+use Rattle.std.proofs.Common.{◌≡◌, ℕ, zero, suc, ◌+◌, ◌-◌, ◌<◌, ◌≤◌, List, [], ◌∷◌, Some, ap, sym, ◌∙◌, arith}
 use Rattle.std.specs.Prelude.{slice_get}
 use Rattle.csp_base.specs.declared.operators.BinOp.{BinOp}
 use Rattle.csp_base.specs.declared.operators.SetOp.{SetOp}
@@ -58,15 +58,6 @@ weight_product e parts parts' gens gens' is got_parts got_gens =
     let whole : weight e ≡ part_weights parts' + gen_weights gens' + 7 = ap weight is ∙ (w.weight-Product parts gens ∙ (λ i. part_weights (sym got_parts i) + gen_weights (sym got_gens i) + 7)) in
     omega arith
 
-pub weight_from : (g : Gen) (x : ℕ) (s : Expr) → g ≡ generator.From x s → gen_weight g ≡ weight s + 5
-weight_from g x s is = ap gen_weight is ∙ w.weight-From x s
-
-pub weight_cond : (g : Gen) (c : Expr) → g ≡ generator.Cond c → gen_weight g ≡ weight c + 5
-weight_cond g c is = ap gen_weight is ∙ w.weight-Cond c
-
-pub weight_gens : (gens : List Gen) (first : Gen) (rest : List Gen) → gens ≡ first ∷ rest → gen_weights gens ≡ gen_weight first + gen_weights rest
-weight_gens gens first rest is = ap gen_weights is ∙ w.gen_weights-cons first rest
-
 pub weight_part : (part : EventPart) (fields : List Expr) → fields ≡ (out-EventPart part).fields → part_weight part ≡ weights fields + 5
 weight_part part fields got = w.part_weight-is part ∙ ap (λ x. weights x + 5) (sym got)
 
@@ -78,3 +69,14 @@ weight_nametype b e is = ap body_weight is
 
 pub use_falls : (p : Content) (n d : ℕ) (def : Def) → (n ≡ 0 → ⊥) → Some def ≡ slice_get p.defs d → cost p (n - 1) + body_weight def.body + 1 < cost p n
 use_falls p n d def some is = w.cost-less p n (body_weight def.body) (omega arith) (w.body_in p.defs d def (sym is))
+
+gen_in : (gens : List Gen) (place : ℕ) (g : Gen) → slice_get gens place ≡ Some g → gen_weight g ≤ gen_weights gens
+gen_in [] place g is = absurd (cc)
+gen_in (h ∷ gens) zero g is = let same : h ≡ g = cc in let same_weight : gen_weight h ≡ gen_weight g = ap gen_weight same in omega (arith, w.gen_weights-cons h gens)
+gen_in (h ∷ gens) (suc place) g is = let below : gen_weight g ≤ gen_weights gens = gen_in gens place g is in omega (arith, w.gen_weights-cons h gens)
+
+pub set_falls : (gens : List Gen) (place x : ℕ) (s : Expr) → slice_get gens place ≡ Some (generator.From x s) → weight s + 5 ≤ gen_weights gens
+set_falls gens place x s is = let below : gen_weight (generator.From x s) ≤ gen_weights gens = gen_in gens place (generator.From x s) is in omega (arith, w.weight-From x s)
+
+pub condition_falls : (gens : List Gen) (place : ℕ) (c : Expr) → slice_get gens place ≡ Some (generator.Cond c) → weight c + 5 ≤ gen_weights gens
+condition_falls gens place c is = let below : gen_weight (generator.Cond c) ≤ gen_weights gens = gen_in gens place (generator.Cond c) is in omega (arith, w.weight-Cond c)

@@ -1,4 +1,5 @@
 pub mod Arms
+pub mod Courses
 pub mod Equations
 pub mod Falls
 pub mod FieldSteps

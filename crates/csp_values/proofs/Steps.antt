@@ -1,18 +1,16 @@
 -- Lists that are evaluated one element after another: what is left decides together with what has come so far.
-use Rattle.std.proofs.Common.{◌≡◌, ℕ, suc, ◌+◌, ◌<◌, List, [], ◌∷◌, ◌++◌, Ok, Err, length, drop, get_or, refl, ap, sym, ◌∙◌, add-one, drop-cons, append_assoc, append-nil}
+use Rattle.std.proofs.Common.{◌≡◌, ℕ, ◌+◌, ◌<◌, List, [], ◌∷◌, ◌++◌, Ok, Err, length, drop, get_or, refl, ap, sym, ◌∙◌, append_assoc, append-nil}
 use Rattle.csp_program.specs.Atoms.{added}
 use Rattle.csp_program.specs.Outcome.{Outcome, and_then}
-use Rattle.csp_program.specs.Value.{Env, Gathered, as_atom}
+use Rattle.csp_program.specs.Value.{Env, as_atom}
 use Rattle.csp_atoms.specs.declared.atom.Atom.{Atom}
 use Rattle.csp_atoms.specs.declared.value.Value.{Value}
-use Rattle.csp_atoms.specs.declared.value.Value.TheVariants.{One}
 use Rattle.csp_program.specs.declared.expressions.EventPart.{EventPart}
 use Rattle.csp_program.specs.declared.expressions.Expr.{Expr}
-use Rattle.csp_program.specs.declared.expressions.Gen.{Gen}
 use Rattle.csp_program.specs.declared.kinds.ValueKind.{ValueKind}
 use Rattle.csp_program.specs.declared.programs.Content.{Content}
-use Rattle.csp_values.specs.Worth.{worth, worths, with_items, with_front, with_fronts, walk_worth, each_worth}
-use Rattle.csp_values.proofs.Equations.{worths-nil, worths-cons, with_items-cons, fronts-cons, each-cons}
+use Rattle.csp_values.specs.Worth.{worth, worths, with_items, with_front, with_fronts}
+use Rattle.csp_values.proofs.Equations.{worths-nil, worths-cons, with_items-cons, fronts-cons}
 use Rattle.csp_base.proofs.Lists.{drop_read}
 use Rattle.csp_program.proofs.Outcomes.{and_then_regroup}
 
@@ -103,26 +101,3 @@ pub fronts_next : (whole : Outcome (List Atom)) (p : Content) (n : ℕ) (env : E
     → whole ≡ with_fronts p n env (drop i ps) atoms → i < length ps → part ≡ get_or ps i part → with_front p n env part atoms ≡ Ok more → whole ≡ with_fronts p n env (drop (i + 1) ps) more
 fronts_next whole p n env atoms more ps i part w lt is good =
     w ∙ (fronts_here p n env atoms ps i part lt is ∙ ap (λ o. and_then o (λ all. with_fronts p n env (drop (i + 1) ps) all)) good)
-
--- what a name takes, one after another
-abbrev each_next : Content → ℕ → ℕ → List Atom → List Gen → List Expr → List EventPart → Env → Outcome Gathered → Outcome Gathered
-each_next p n x atoms gens items parts env o = and_then o (λ next. each_worth p n x atoms gens items parts env next)
-
-each_here : (p : Content) (n x : ℕ) (atoms : List Atom) (gens : List Gen) (items : List Expr) (parts : List EventPart) (env : Env) (state : Gathered) (i : ℕ) (a d : Atom) → i < length atoms → a ≡ get_or atoms i d
-    → each_worth p n x (drop i atoms) gens items parts env state ≡ each_next p n x (drop (i + 1) atoms) gens items parts env (walk_worth p n gens items parts ((x, One a) ∷ env) state)
-each_here p n x atoms gens items parts env state i a d lt is =
-    let left : drop i atoms ≡ a ∷ drop (i + 1) atoms = rw (add-one i) (drop-cons atoms i d lt ∙ ap (λ y. y ∷ drop (suc i) atoms) (sym is)) in
-    ap (λ xs. each_worth p n x xs gens items parts env state) left ∙ each-cons p n x a (drop (i + 1) atoms) gens items parts env state
-
-pub each_fault : (whole : Outcome Gathered) (p : Content) (n x : ℕ) (atoms : List Atom) (gens : List Gen) (items : List Expr) (parts : List EventPart) (env inner : Env) (state : Gathered) (i : ℕ) (a d : Atom) (k : ValueKind)
-    → whole ≡ each_worth p n x (drop i atoms) gens items parts env state → i < length atoms → a ≡ get_or atoms i d → inner ≡ (x, One a) ∷ env → walk_worth p n gens items parts inner state ≡ Err k → whole ≡ Err k
-each_fault whole p n x atoms gens items parts env inner state i a d k w lt is named bad =
-    w ∙ (each_here p n x atoms gens items parts env state i a d lt is ∙
-    ap (each_next p n x (drop (i + 1) atoms) gens items parts env) (ap (λ e. walk_worth p n gens items parts e state) (sym named) ∙ bad))
-
-pub each_step : (whole : Outcome Gathered) (p : Content) (n x : ℕ) (atoms : List Atom) (gens : List Gen) (items : List Expr) (parts : List EventPart) (env inner : Env) (state next : Gathered) (i : ℕ) (a d : Atom)
-    → whole ≡ each_worth p n x (drop i atoms) gens items parts env state → i < length atoms → a ≡ get_or atoms i d → inner ≡ (x, One a) ∷ env → walk_worth p n gens items parts inner state ≡ Ok next
-    → whole ≡ each_worth p n x (drop (i + 1) atoms) gens items parts env next
-each_step whole p n x atoms gens items parts env inner state next i a d w lt is named good =
-    w ∙ (each_here p n x atoms gens items parts env state i a d lt is ∙
-    ap (each_next p n x (drop (i + 1) atoms) gens items parts env) (ap (λ e. walk_worth p n gens items parts e state) (sym named) ∙ good))

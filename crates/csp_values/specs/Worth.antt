@@ -2,10 +2,9 @@
 -- of an expression, applied to trees.
 use Rattle.std.specs.Prelude.{◌≡◌, ℕ, ℤ, Bool, if◌then◌else◌, Result, Ok, Err, Some, List, [], ◌∷◌, map, slice_get}
 use Rattle.csp_program.specs.Outcome.{Outcome, and_then}
-use Rattle.csp_program.specs.Value.{first_of, as_number, as_truth, as_set, many, range, set_binary, Env, Gathered, meaning, turn, front, values_of, items_added, fields_number, front_number, fronts_added, sets_of, over, walked, gathered, uses_within, def_value, value_within, meanings}
+use Rattle.csp_program.specs.Value.{first_of, as_number, as_truth, as_set, many, range, set_binary, Env, Gathered, meaning, turn, front, values_of, items_added, fields_number, front_number, fronts_added, sets_of, walked, gathered, uses_within, def_value, value_within, meanings}
 use Rattle.csp_atoms.specs.declared.atom.Atom.{Atom}
 use Rattle.csp_atoms.specs.declared.value.Value.{Value}
-use Rattle.csp_atoms.specs.declared.value.Value.TheVariants.{One}
 use Rattle.csp_base.specs.declared.operators.SetOp.{SetOp}
 use Rattle.csp_program.specs.declared.expressions.EventPart.{EventPart}
 use Rattle.csp_program.specs.declared.expressions.Expr.{Expr}
@@ -83,10 +82,6 @@ one_more_binding p n items parts env state = gathered (yielded p n items parts) 
 -- the bindings of generators
 unfoldable pub walk_worth : Content → ℕ → List Gen → List Expr → List EventPart → Env → Gathered → Outcome Gathered
 walk_worth p n gens items parts env state = walked (map (turn (uses_within p n) p.channels) gens) (gathered (yielded p n items parts)) env state
-
--- the bindings of generators for each atom that the name x takes
-unfoldable pub each_worth : Content → ℕ → ℕ → List Atom → List Gen → List Expr → List EventPart → Env → Gathered → Outcome Gathered
-each_worth p n x atoms gens items parts env state = over atoms (λ a. walk_worth p n gens items parts ((x, One a) ∷ env)) state
 
 abbrev pub gathered_of : Tally → Gathered
 gathered_of tally = record { bindings = tally.bindings; atoms = tally.atoms }

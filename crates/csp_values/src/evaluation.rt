@@ -1,24 +1,26 @@
 //! Evaluation, from the left.
 
-ghost use Rattle.std.specs.Prelude.{◌≡◌, if◌then◌else◌, Ok, [], ◌∷◌, length, map};
+ghost use Rattle.std.specs.Prelude.{◌≡◌, Ok, Some, [], length, map};
 ghost use Rattle.csp_atoms.specs.declared.atom.Atom.TheVariants as atom;
 ghost use Rattle.csp_program.specs.Atoms.{added, all_added};
 ghost use Rattle.csp_program.specs.Outcome.{and_then};
 ghost use Rattle.csp_program.specs.Value.{as_atom, as_set, binary, field_place, value_of};
 ghost use Rattle.csp_program.specs.Value as meant;
-ghost use Rattle.value_operators.specs.Env.{env_in, with_bound};
+ghost use Rattle.value_operators.specs.Env.{env_in, parameters, with_bound};
 ghost use Rattle.value_operators.specs.Gives.{Gives};
 ghost use Rattle.value_operators.specs.Forms as form;
-ghost use Rattle.csp_values.specs.Worth.{worth, worths, number_worth, truth_worth, atoms_worth, chosen, range_of, set_of, use_worth, body_worth, with_items, fields_worth, front_worth, with_front, with_fronts, one_more_binding, walk_worth, each_worth, gathered_of, GivesTally};
+ghost use Rattle.csp_values.specs.Worth.{worth, worths, number_worth, truth_worth, atoms_worth, chosen, range_of, set_of, use_worth, body_worth, with_items, fields_worth, front_worth, with_front, with_fronts, one_more_binding, walk_worth, gathered_of, GivesTally};
+ghost use Rattle.csp_values.specs.Course.{GivesBinding, GivesStep, IsUnder, course, course_under};
 
 use crate::tally::Tally;
+use crate::walk::{Step, Walk, pop, take};
 use containers::Items;
 use csp_atoms::{Atom, AtomSet, Value};
 use csp_base::{BinOp, SetOp};
 use csp_program::{Body, Content, Def, EventPart, Expr, Gen, Program, ValueKind};
 use std::alloc::Global;
 use value_operators::EvalFault;
-use value_operators::names::{Names, copied, named, with_name};
+use value_operators::names::{Names, copied, named, names_in};
 use value_operators::numbers::{
     count_with, each_of, event_at, field_sets, lack_sets, place_in, with_field,
 };
@@ -81,6 +83,7 @@ pub fn eval_in(alloc: Global, content: &Content, expr: &Expr) -> Result<Value, E
     let names = Names {
         params: &[],
         args: &[],
+        placed: &[],
         bound: &[],
     };
     eval_expr(&scope, &names, expr)
@@ -112,6 +115,7 @@ pub fn eval_under(
     let names = Names {
         params: &[],
         args: &[],
+        placed: &[],
         bound,
     };
     eval_expr(&scope, &names, expr)
@@ -135,6 +139,7 @@ pub fn eval_all_under(
     let names = Names {
         params: &[],
         args: &[],
+        placed: &[],
         bound,
     };
     eval_all(&scope, &names, exprs)
@@ -159,9 +164,35 @@ pub fn front_under(
     let names = Names {
         params: &[],
         args: &[],
+        placed: &[],
         bound,
     };
     eval_front(&scope, &names, channel, fields)
+}
+
+/// Whether generators of a program have one more binding, under which the walk over them then stands. Faults are those of `eval`, of the generators from the left.
+pub fn binding_under(
+    alloc: Global,
+    program: &Program,
+    gens: &[Gen],
+    walk: &mut Walk,
+) -> Result<bool, EvalFault>
+    requires { IsUnder [] walk.old }
+    ensures { GivesBinding result (course_under program.now gens.now walk.old) (course_under program.now gens.now walk.new) [] [] walk.new }
+{
+    let content = program.content();
+    let scope = Scope {
+        alloc,
+        content,
+        uses: content.defs.len(),
+    };
+    let names = Names {
+        params: &[],
+        args: &[],
+        placed: &[],
+        bound: &[],
+    };
+    find_binding(&scope, &names, gens, walk)
 }
 
 // The value of an expression.
@@ -425,7 +456,7 @@ fn eval_comprehension(
         atoms: AtomSet::new(scope.alloc),
     };
     let yields = Yield { items, parts };
-    let Tally { bindings: _, atoms } = walk(scope, names, gens, &yields, start)?;
+    let Tally { bindings: _, atoms } = gather_all(scope, names, gens, &yields, start)?;
     Ok(Value::Many(atoms))
 }
 
@@ -468,17 +499,14 @@ fn eval_body(scope: &Scope<'_>, def: &Def, args: &[Value]) -> Result<Value, Eval
 {
     match &def.body {
         Body::Datum(expr) => {
-            let names = Names {
-                params: def.params.as_slice(),
-                args,
-                bound: &[],
-            };
+            let names = names_in(def.params.as_slice(), args);
             eval_expr(scope, &names, expr)
         }
         Body::Nametype(expr) => {
             let names = Names {
                 params: &[],
                 args: &[],
+                placed: &[],
                 bound: &[],
             };
             eval_expr(scope, &names, expr)
@@ -650,9 +678,89 @@ fn gather(
     })
 }
 
-// The bindings of generators, walked in nested loops.
+// One step of a walk over generators, under the names around them.
 #[cycle(eval)]
-fn walk(
+fn advance(
+    scope: &Scope<'_>,
+    names: &Names<'_>,
+    gens: &[Gen],
+    walk: &mut Walk,
+) -> Result<Step, EvalFault>
+    requires { IsUnder names.now.bound.now walk.old }
+    ensures { GivesStep result (course scope.now.content.now scope.now.uses gens.now names.now walk.old) (course scope.now.content.now scope.now.uses gens.now names.now walk.new) (parameters names.now) names.now.bound.now walk.new }
+{
+    match walk.turn {
+        Some(place) => enter(scope, names, gens, place, walk),
+        None => {
+            let Some(frame) = pop(walk) else {
+                return Ok(Step::End);
+            };
+            take(walk, frame.name.0, frame.atoms, frame.next, frame.rest)?;
+            Ok(Step::On)
+        }
+    }
+}
+
+// The step of a walk at a generator, or past all of them.
+#[cycle(eval)]
+fn enter(
+    scope: &Scope<'_>,
+    names: &Names<'_>,
+    gens: &[Gen],
+    place: usize,
+    walk: &mut Walk,
+) -> Result<Step, EvalFault>
+    requires under { IsUnder names.now.bound.now walk.old }
+    requires turn { walk.old.turn ≡ Some place }
+    ensures { GivesStep result (course scope.now.content.now scope.now.uses gens.now names.now walk.old) (course scope.now.content.now scope.now.uses gens.now names.now walk.new) (parameters names.now) names.now.bound.now walk.new }
+{
+    let inner = Names {
+        params: names.params,
+        args: names.args,
+        placed: names.placed,
+        bound: walk.bound(),
+    };
+    match gens.get(place) {
+        Some(Gen::From(slot, set)) => {
+            let atoms = eval_atoms(scope, &inner, set)?;
+            take(walk, *slot, atoms, 0, place + 1)?;
+            Ok(Step::On)
+        }
+        Some(Gen::Cond(condition)) => {
+            let holds = eval_truth(scope, &inner, condition)?;
+            walk.turn = if holds { Some(place + 1) } else { None };
+            Ok(Step::On)
+        }
+        None => {
+            walk.turn = None;
+            Ok(Step::Binding)
+        }
+    }
+}
+
+// Whether there is one more binding, under which the walk then stands.
+#[cycle(eval)]
+fn find_binding(
+    scope: &Scope<'_>,
+    names: &Names<'_>,
+    gens: &[Gen],
+    walk: &mut Walk,
+) -> Result<bool, EvalFault>
+    requires { IsUnder names.now.bound.now walk.old }
+    ensures { GivesBinding result (course scope.now.content.now scope.now.uses gens.now names.now walk.old) (course scope.now.content.now scope.now.uses gens.now names.now walk.new) (parameters names.now) names.now.bound.now walk.new }
+{
+    'steps: loop {
+        match advance(scope, names, gens, walk)? {
+            Step::On => {}
+            Step::Binding => return Ok(true),
+            Step::End => return Ok(false),
+        }
+    }
+}
+
+// What all bindings of generators add.
+#[cycle(eval)]
+fn gather_all(
     scope: &Scope<'_>,
     names: &Names<'_>,
     gens: &[Gen],
@@ -661,105 +769,16 @@ fn walk(
 ) -> Result<Tally, EvalFault>
     ensures { GivesTally result (walk_worth scope.now.content.now scope.now.uses gens.now yields.now.items.now yields.now.parts.now (env_in names.now) (gathered_of tally)) }
 {
-    match gens.split_first() {
-        Some((first, rest)) => walk_first(scope, names, first, rest, yields, tally),
-        None => gather(scope, names, yields, tally),
-    }
-}
-
-// The bindings of a generator, and under each of them those of the others.
-#[cycle(eval)]
-fn walk_first(
-    scope: &Scope<'_>,
-    names: &Names<'_>,
-    first: &Gen,
-    rest: &[Gen],
-    yields: &Yield<'_>,
-    tally: Tally,
-) -> Result<Tally, EvalFault>
-    ensures { GivesTally result (walk_worth scope.now.content.now scope.now.uses (first.now ∷ rest.now) yields.now.items.now yields.now.parts.now (env_in names.now) (gathered_of tally)) }
-{
-    match first {
-        Gen::From(slot, set) => walk_over(scope, names, *slot, set, rest, yields, tally),
-        Gen::Cond(condition) => walk_where(scope, names, condition, rest, yields, tally),
-    }
-}
-
-// The bindings of generators for each atom of a set that a name takes.
-#[cycle(eval)]
-fn walk_over(
-    scope: &Scope<'_>,
-    names: &Names<'_>,
-    slot: u32,
-    set: &Expr,
-    rest: &[Gen],
-    yields: &Yield<'_>,
-    tally: Tally,
-) -> Result<Tally, EvalFault>
-    ensures { GivesTally result (and_then (atoms_worth scope.now.content.now scope.now.uses (env_in names.now) set.now) (λ atoms. each_worth scope.now.content.now scope.now.uses slot atoms rest.now yields.now.items.now yields.now.parts.now (env_in names.now) (gathered_of tally))) }
-{
-    let atoms = eval_atoms(scope, names, set)?;
-    walk_each(scope, names, slot, atoms.as_slice(), rest, yields, tally)
-}
-
-// The bindings of generators where a condition holds, and none where it doesn't.
-#[cycle(eval)]
-fn walk_where(
-    scope: &Scope<'_>,
-    names: &Names<'_>,
-    condition: &Expr,
-    rest: &[Gen],
-    yields: &Yield<'_>,
-    tally: Tally,
-) -> Result<Tally, EvalFault>
-    ensures { GivesTally result (and_then (truth_worth scope.now.content.now scope.now.uses (env_in names.now) condition.now) (λ b. if b then walk_worth scope.now.content.now scope.now.uses rest.now yields.now.items.now yields.now.parts.now (env_in names.now) (gathered_of tally) else Ok (gathered_of tally))) }
-{
-    let holds = eval_truth(scope, names, condition)?;
-    if holds {
-        walk(scope, names, rest, yields, tally)
-    } else {
-        Ok(tally)
-    }
-}
-
-// The bindings of generators for each atom that a name takes, in rising order.
-#[cycle(eval)]
-fn walk_each(
-    scope: &Scope<'_>,
-    names: &Names<'_>,
-    slot: u32,
-    atoms: &[Atom],
-    rest: &[Gen],
-    yields: &Yield<'_>,
-    tally: Tally,
-) -> Result<Tally, EvalFault>
-    ensures { GivesTally result (each_worth scope.now.content.now scope.now.uses slot atoms.now rest.now yields.now.items.now yields.now.parts.now (env_in names.now) (gathered_of tally)) }
-{
+    let mut walk = Walk::new(scope.alloc, names.bound)?;
     let mut tally = tally;
-    for atom in atoms {
-        tally = walk_one(scope, names, slot, *atom, rest, yields, tally)?;
+    'bindings: while find_binding(scope, names, gens, &mut walk)? {
+        let inner = Names {
+            params: names.params,
+            args: names.args,
+            placed: names.placed,
+            bound: walk.bound(),
+        };
+        tally = gather(scope, &inner, yields, tally)?;
     }
     Ok(tally)
-}
-
-// The bindings of generators for one atom that a name takes.
-#[cycle(eval)]
-fn walk_one(
-    scope: &Scope<'_>,
-    names: &Names<'_>,
-    slot: u32,
-    atom: Atom,
-    rest: &[Gen],
-    yields: &Yield<'_>,
-    tally: Tally,
-) -> Result<Tally, EvalFault>
-    ensures { GivesTally result (walk_worth scope.now.content.now scope.now.uses rest.now yields.now.items.now yields.now.parts.now ((slot, Value.One atom) ∷ env_in names.now) (gathered_of tally)) }
-{
-    let bound = with_name(scope.alloc, names.bound, slot, atom)?;
-    let inner = Names {
-        params: names.params,
-        args: names.args,
-        bound: bound.as_slice(),
-    };
-    walk(scope, &inner, rest, yields, tally)
 }

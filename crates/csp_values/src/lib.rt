@@ -3,6 +3,10 @@
 
 mod evaluation;
 mod tally;
+mod walk;
 
-pub use evaluation::{eval, eval_all_under, eval_in, eval_set, eval_under, front_under};
+pub use evaluation::{
+    binding_under, eval, eval_all_under, eval_in, eval_set, eval_under, front_under,
+};
 pub use value_operators::EvalFault;
+pub use walk::Walk;

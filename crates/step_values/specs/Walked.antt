@@ -1,7 +1,7 @@
 -- What a renaming comes to as it is evaluated, for the contracts of the functions that do so.
-use Rattle.std.specs.Prelude.{◌≡◌, ◌∷◌, ◌++◌, ℕ, Result, Ok, Err, List, map, length, slice_get}
+use Rattle.std.specs.Prelude.{◌≡◌, ◌++◌, ℕ, Result, Ok, Err, List, map, length, slice_get}
 use Rattle.csp_program.specs.Outcome.{Outcome}
-use Rattle.csp_program.specs.Value.{Env, first_of, over, sets_of, turn, uses_within, walked}
+use Rattle.csp_program.specs.Value.{Env, first_of, sets_of, turn, uses_within, walked}
 use Rattle.process_steps.specs.Renaming.{Gathering, binding_renamed, event_with}
 use Rattle.csp_atoms.specs.declared.atom.Atom.{Atom}
 use Rattle.csp_atoms.specs.declared.value.Value.{Value}
@@ -25,10 +25,6 @@ GivesTally (Err (fault.Value kind)) outcome = outcome ≡ Err kind
 -- the bindings of generators
 unfoldable pub renamed_walk : Content → List (EventPart × EventPart) → List Gen → Env → Gathering → Outcome Gathering
 renamed_walk p pairs gens env state = walked (map (turn (uses_within p (length p.defs)) p.channels) gens) (binding_renamed p pairs) env state
-
--- the bindings of generators for each atom that the name x takes
-unfoldable pub renamed_each : Content → List (EventPart × EventPart) → ℕ → List Atom → List Gen → Env → Gathering → Outcome Gathering
-renamed_each p pairs x atoms gens env state = over atoms (λ a. renamed_walk p pairs gens ((x, One a) ∷ env)) state
 
 -- the event of a channel that has these values as its first fields and these atoms after them
 abbrev pub new_event : Content → ℕ → List Value → List Atom → Outcome ℕ

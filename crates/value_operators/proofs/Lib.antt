@@ -1,4 +1,5 @@
 pub mod EventSteps
 pub mod Faults
+pub mod Held
 pub mod NameLaws
 pub mod SetSteps

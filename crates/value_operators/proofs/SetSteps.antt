@@ -63,7 +63,7 @@ pub length_numbers : (m : ℤ) (k : ℕ) → length (numbers_from m k) ≡ k
 length_numbers m zero = refl
 length_numbers m (suc k) = ap suc (length_numbers (m +ℤ pos 1) k)
 
-limited_few : (atoms : List Atom) → length atoms ≤ 16384 → limited atoms ≡ Ok atoms
+pub limited_few : (atoms : List Atom) → length atoms ≤ 16384 → limited atoms ≡ Ok atoms
 limited_few atoms h = let t : nat_le (length atoms) 16384 ≡ true = grind arith in ap (λ b. cond b (Ok atoms) (Err SetLimit)) t
 
 limited_many : (atoms : List Atom) → 16384 < length atoms → limited atoms ≡ Err SetLimit

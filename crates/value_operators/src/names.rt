@@ -1,13 +1,12 @@
 //! The values of bound names.
 
-ghost use Rattle.std.specs.Prelude.{◌≡◌, ◌∷◌, ◌++◌, [], Ok, IfOk};
+ghost use Rattle.std.specs.Prelude.{◌≡◌, ◌++◌, Ok, IsTrue};
 ghost use Rattle.csp_program.specs.Value.{bound_value, bound_to};
-ghost use Rattle.value_operators.specs.Env.{env_in};
+ghost use Rattle.value_operators.specs.Env.{ArePlaces, env_in, numbered_from};
 ghost use Rattle.value_operators.specs.Gives.{Gives};
 
 use crate::fault::EvalFault;
 use csp_atoms::{Atom, Value};
-use csp_base::NoMemory;
 use csp_program::ValueKind;
 use std::alloc::Global;
 
@@ -22,6 +21,8 @@ pub struct Names<'a> {
     pub params: &'a [u32],
     /// The values of its arguments.
     pub args: &'a [Value],
+    /// The values of its arguments in place of these two, where the number of each parameter is its place.
+    pub placed: &'a [Value],
     /// The names that generators bind, the last one bound at the end.
     pub bound: &'a [(u32, Atom)],
 }
@@ -33,15 +34,73 @@ pub fn copied(alloc: Global, value: &Value) -> Result<Value, EvalFault>
     Ok(value.try_clone(alloc)?)
 }
 
+// Whether the number of each parameter is its place.
+fn are_places(params: &[u32]) -> bool
+    ensures { IsTrue result → ArePlaces params.now }
+{
+    for (place, param) in params.iter().enumerate() {
+        if *param as usize != place {
+            return false;
+        }
+    }
+    true
+}
+
+// Whether the number of each argument's parameter is its place.
+fn are_placed(params: &[u32], args: &[Value]) -> bool
+    ensures { IsTrue result → bound_to params.now args.now ≡ numbered_from 0 args.now }
+{
+    if args.len() != params.len() {
+        return false;
+    }
+    are_places(params)
+}
+
+/// The names that the body of a definition may read, with the values of its arguments.
+pub fn names_in<'a>(params: &'a [u32], args: &'a [Value]) -> Names<'a>
+    ensures { env_in result ≡ bound_to params.now args.now }
+{
+    if are_placed(params, args) {
+        return Names {
+            params: &[],
+            args: &[],
+            placed: args,
+            bound: &[],
+        };
+    }
+    Names {
+        params,
+        args,
+        placed: &[],
+        bound: &[],
+    }
+}
+
+// The value of a parameter whose number is its place.
+fn at_place(alloc: Global, placed: &[Value], slot: u32) -> Result<Value, EvalFault>
+    ensures { Gives result (bound_value (numbered_from 0 placed.now) slot) }
+{
+    match placed.get(slot as usize) {
+        Some(value) => copied(alloc, value),
+        None => Err(KIND),
+    }
+}
+
 // The value of a parameter.
-fn argument(alloc: Global, params: &[u32], args: &[Value], slot: u32) -> Result<Value, EvalFault>
-    ensures { Gives result (bound_value (bound_to params.now args.now) slot) }
+fn argument(
+    alloc: Global,
+    params: &[u32],
+    args: &[Value],
+    placed: &[Value],
+    slot: u32,
+) -> Result<Value, EvalFault>
+    ensures { Gives result (bound_value (bound_to params.now args.now ++ numbered_from 0 placed.now) slot) }
 {
     let mut params = params;
     let mut args = args;
     while let Some((param, other_params)) = params.split_first() {
         let Some((arg, other_args)) = args.split_first() else {
-            return Err(KIND);
+            return at_place(alloc, placed, slot);
         };
         if *param == slot {
             return copied(alloc, arg);
@@ -49,7 +108,7 @@ fn argument(alloc: Global, params: &[u32], args: &[Value], slot: u32) -> Result<
         params = other_params;
         args = other_args;
     }
-    Err(KIND)
+    at_place(alloc, placed, slot)
 }
 
 /// The value of the name with the number `slot`.
@@ -63,19 +122,5 @@ pub fn named(alloc: Global, names: &Names<'_>, slot: u32) -> Result<Value, EvalF
         }
         rest = front;
     }
-    argument(alloc, names.params, names.args, slot)
-}
-
-/// The names of generators with one more.
-pub fn with_name(
-    alloc: Global,
-    bound: &[(u32, Atom)],
-    slot: u32,
-    atom: Atom,
-) -> Result<Vec<(u32, Atom)>, NoMemory>
-    ensures { IfOk result (λ more. more.items ≡ bound.now ++ (slot, atom) ∷ []) }
-{
-    let mut more = Vec::from_slice(alloc, bound)?;
-    more.push((slot, atom))?;
-    Ok(more)
+    argument(alloc, names.params, names.args, names.placed, slot)
 }

@@ -1,6 +1,7 @@
 //! Sets that grow while an expression is evaluated.
 
-ghost use Rattle.std.specs.Prelude.{◌≡◌, ◌+◌, ◌<◌, ◌≤◌, ◌^◌, Ok, [], map, pos, ◌+ℤ◌, ◌-ℤ◌, ◌≤ℤ◌, ◌<ℤ◌, MatchOption};
+ghost use Rattle.std.specs.Prelude.{◌≡◌, ℕ, ◌+◌, ◌<◌, ◌≤◌, ◌^◌, Ok, Some, [], map, pos, ◌+ℤ◌, ◌-ℤ◌, ◌≤ℤ◌, ◌<ℤ◌, IsTrue, MatchOption};
+ghost use Rattle.csp_atoms.specs.Sets.{place_of};
 ghost use Rattle.csp_atoms.specs.declared.atom.Atom.TheVariants as atom;
 ghost use Rattle.csp_program.specs.Atoms.{added, all_added, events_from, limited, numbers_from};
 ghost use Rattle.csp_program.specs.Outcome.{and_then};
@@ -86,10 +87,45 @@ pub fn numbered(number: u64) -> Result<Atom, EvalFault>
     }
 }
 
+// Whether the second atom stands so many places after the first.
+fn stands_after(atoms: &AtomSet, first: Atom, last: Atom, distance: u64) -> bool
+    ensures { IsTrue result → (p : ℕ) × (place_of atoms.now first ≡ Some p) × (place_of atoms.now last ≡ Some (p + distance)) }
+{
+    let Some(low) = atoms.place_of(first) else {
+        return false;
+    };
+    let Some(high) = atoms.place_of(last) else {
+        return false;
+    };
+    low <= high && (high - low) as u64 == distance
+}
+
+// Whether the set, which is within the limit, holds the events from `first` on, so many of them: the last then stands as far after the first as their
+// numbers are apart.
+fn holds_events(atoms: &AtomSet, first: u64, count: u64) -> bool
+    ensures { IsTrue result → all_added atoms.now (events_from first count) ≡ Ok atoms.now }
+{
+    if count < 2 || atoms.len() > MOST_ELEMENTS {
+        return false;
+    }
+    // Its contract says that the atoms rise and are of one kind.
+    let _ = atoms.as_slice();
+    let Ok(lowest) = event(first, 0) else {
+        return false;
+    };
+    let Ok(highest) = event(first, count - 1) else {
+        return false;
+    };
+    stands_after(atoms, lowest, highest, count - 1)
+}
+
 /// The set with the events from `first` on, so many of them.
 pub fn with_events(atoms: AtomSet, first: u64, count: u64) -> Result<AtomSet, EvalFault>
     ensures { Gives result (all_added atoms (events_from first count)) }
 {
+    if holds_events(&atoms, first, count) {
+        return Ok(atoms);
+    }
     let mut atoms = atoms;
     for place in 0..count {
         let one = event(first, place)?;

@@ -1,20 +1,23 @@
-use Rattle.std.proofs.Common.{◌≡◌, cond, Ok, Err, ap, refl, sym, ◌∙◌, arith, to_z, of_z, w64, drop_of_length-le}
+use Rattle.std.specs.Prelude.{slice_get}
+use Rattle.std.proofs.lemmas.Option.{slice_get_read}
+use Rattle.std.proofs.Common.{◌≡◌, ◌+◌, length, Some, Ok, Err, ap, refl, sym, ◌∙◌, arith, to_z, of_z, w64, drop_of_length-le}
 use Rattle.std.proofs.lemmas.Int.{ints}
 use Rattle.csp_program.specs.Outcome.{and_then}
 use Rattle.csp_program.specs.Atoms.{added}
-use Rattle.csp_program.specs.Value.{as_atom, as_number, as_set, as_truth, bound_to, field_place, many, range}
-use Rattle.value_operators.specs.Env.{env_in, with_bound}
+use Rattle.csp_program.specs.Value.{as_atom, as_number, as_set, as_truth, field_place, many, range}
+use Rattle.value_operators.specs.Env.{env_in, parameters, with_bound}
 use Rattle.value_operators.proofs.Faults.{passed}
-use Rattle.value_operators.proofs.NameLaws.{with_bound-last}
-use Rattle.csp_values.specs.Worth.{number_worth, truth_worth, atoms_worth, range_of, set_of, use_worth, with_items, with_fronts, walk_worth, each_worth, gathered_of}
-use Rattle.csp_values.proofs.Arms.{lacking, not_lacking, same, same_tally, part_passed, walk_passed, worth_num, worth_truth, worth_const, worth_bound, worth_lit, worth_neg, worth_not, worth_binary, worth_if, worth_call, worth_set_name, worth_event, worth_display, worth_range, worth_set_op, worth_comp, worth_product, datum_worth, datatype_worth, counted_over, front_of_sets, front_without_sets, front_fault, front_added, binding_item_fault, binding_with_items, walk_from, walk_cond}
-use Rattle.csp_values.proofs.Equations.{body-Nametype, body-Process, body-Network, use-none_left, use-unknown, use-known, fronts-nil, with_items-nil, binding-full, walk-nil, each-nil}
-use Rattle.csp_values.proofs.Falls.{weight_neg, weight_not, weight_binary, weight_if, weight_call, weight_set_name, weight_event, weight_display, weight_range, weight_set_op, weight_comp, weight_product, weight_from, weight_cond, weight_gens, weight_part, use_falls}
+use Rattle.csp_values.specs.Worth.{worth, number_worth, truth_worth, atoms_worth, range_of, set_of, use_worth, with_items, with_fronts, gathered_of, one_more_binding}
+use Rattle.csp_values.proofs.Arms.{binding_passed, lacking, not_lacking, same, part_passed, walk_passed, worth_num, worth_truth, worth_const, worth_bound, worth_lit, worth_neg, worth_not, worth_binary, worth_if, worth_call, worth_set_name, worth_event, worth_display, worth_range, worth_set_op, worth_comp, worth_product, datum_worth, datatype_worth, counted_over, front_of_sets, front_without_sets, front_fault, front_added, binding_item_fault, binding_with_items}
+use Rattle.csp_values.proofs.Equations.{body-Nametype, body-Process, body-Network, use-none_left, use-unknown, use-known, fronts-nil, with_items-nil, binding-full}
+use Rattle.csp_values.proofs.Courses.{begun_under, binding_found, binding_less, condition_fails, condition_fault, condition_holds, ends, gathering_begun, gathering_fault, gathering_next, goes_on, goes_under, over_end, over_fault, set_entered, set_fault, step_less, step_passed}
+use Rattle.csp_values.proofs.Falls.{condition_falls, set_falls, weight_neg, weight_not, weight_binary, weight_if, weight_call, weight_set_name, weight_event, weight_display, weight_range, weight_set_op, weight_comp, weight_product, weight_part, use_falls}
 use Rattle.csp_values.proofs.FieldSteps.{fields_after, fields_begin, fields_end, fields_too_many, field_refused, field_taken}
-use Rattle.csp_values.proofs.Steps.{worths_after, worths_begin, worths_end, worths_fault, worths_next, items_refused, items_taken, fronts_fault, fronts_next, each_fault, each_step}
+use Rattle.csp_values.proofs.Steps.{worths_after, worths_begin, worths_end, worths_fault, worths_next, items_refused, items_taken, fronts_fault, fronts_next}
 use Rattle.csp_values.proofs.Weights.{weights-nil, weight_in, part_weight_in}
 use Rattle.csp_values.proofs.evaluation.+eval.Goals as goal
-use Rattle.std.proofs.lemmas.List.{nil_from_length}
+use Rattle.csp_values.proofs.evaluation.+eval.Goals.{enter-then-holds, enter-else-holds}
+use Rattle.csp_program.specs.declared.expressions.Gen.TheVariants as generator
 
 pub add_front-eval_front-requires : goal.add_front-eval_front-requires
 add_front-eval_front-requires t c = (omega (arith, weight_part c.args.part.now c.as_slice.result.now c.as_slice.ensures), tt)
@@ -71,7 +74,7 @@ pub eval_all-returns : goal.eval_all-returns
 eval_all-returns t c = c.loop-expr.invariant ∙ (ap (worths_after c.args.scope.now.content.now c.args.scope.now.uses (env_in c.args.names.now) c.loop-expr.values) (drop_of_length-le c.args.exprs.now (omega arith)) ∙ worths_end c.args.scope.now.content.now c.args.scope.now.uses (env_in c.args.names.now) c.loop-expr.values)
 
 pub eval_body-returns-in-Datum : goal.eval_body-returns-in-Datum
-eval_body-returns-in-Datum t c = same _ _ _ (datum_worth c.args.scope.now.content.now c.args.scope.now.uses c.args.def.now c.args.args.now c.as_slice.result.now c.in-Datum.expr c.in-Datum.is c.as_slice.ensures) c.eval_expr.ensures
+eval_body-returns-in-Datum t c = same _ _ _ (datum_worth c.args.scope.now.content.now c.args.scope.now.uses c.args.def.now c.args.args.now c.as_slice.result.now c.in-Datum.expr c.in-Datum.is c.as_slice.ensures ∙ ap (λ env. worth c.args.scope.now.content.now c.args.scope.now.uses env c.in-Datum.expr) (sym c.names_in-names.ensures)) c.eval_expr.ensures
 
 pub eval_body-returns-in-Nametype : goal.eval_body-returns-in-Nametype
 eval_body-returns-in-Nametype t c = same _ _ _ (body-Nametype c.args.scope.now.content.now c.args.scope.now.uses c.args.def.now c.args.args.now c.in-Nametype.expr c.in-Nametype.is) c.eval_expr-in-Nametype.ensures
@@ -250,33 +253,6 @@ gather-returns-in_err-atoms-2 t c = part_passed _ _ _ _ c.from_residual-in_err-a
 pub gather-returns : goal.gather-returns
 gather-returns t c = binding_with_items c.args.scope.now.content.now c.args.scope.now.uses c.args.yields.now.items.now c.args.yields.now.parts.now (env_in c.args.names.now) (gathered_of c.args.tally) (omega arith) c.in_ok-atoms.atoms (Ok c.in_ok-atoms-2.atoms) c.in_ok-atoms.ensures c.in_ok-atoms-2.ensures
 
-pub walk_first-walk_over-requires : goal.walk_first-walk_over-requires
-walk_first-walk_over-requires t c = (omega (arith, weight_from c.args.first.now c.in-From.slot c.in-From.set c.in-From.is), tt)
-
-pub walk_first-walk_where-requires : goal.walk_first-walk_where-requires
-walk_first-walk_where-requires t c = (omega (arith, weight_cond c.args.first.now c.in-Cond.condition c.in-Cond.is), tt)
-
-pub walk_over-returns-in_err-atoms : goal.walk_over-returns-in_err-atoms
-walk_over-returns-in_err-atoms t c = part_passed _ _ _ _ c.from_residual.ensures.1 c.in_err-atoms.ensures (λ k e. ap (λ o. and_then o (λ atoms. each_worth c.args.scope.now.content.now c.args.scope.now.uses c.args.slot atoms c.args.rest.now c.args.yields.now.items.now c.args.yields.now.parts.now (env_in c.args.names.now) (gathered_of c.args.tally))) e)
-
-pub walk_over-returns : goal.walk_over-returns
-walk_over-returns t c = same_tally _ _ _ (ap (λ o. and_then o (λ atoms. each_worth c.args.scope.now.content.now c.args.scope.now.uses c.args.slot atoms c.args.rest.now c.args.yields.now.items.now c.args.yields.now.parts.now (env_in c.args.names.now) (gathered_of c.args.tally))) (c.in_ok-atoms.ensures ∙ ap (λ l. Ok l) (sym c.as_slice.ensures.members))) c.walk_each.ensures
-
-pub walk_first-returns-in-From : goal.walk_first-returns-in-From
-walk_first-returns-in-From t c = same_tally _ _ _ (walk_from c.args.scope.now.content.now c.args.scope.now.uses c.args.first.now c.args.rest.now c.args.yields.now.items.now c.args.yields.now.parts.now (env_in c.args.names.now) (gathered_of c.args.tally) c.in-From.slot c.in-From.set _ c.in-From.is refl) c.walk_over.ensures
-
-pub walk_where-returns-in_err-holds : goal.walk_where-returns-in_err-holds
-walk_where-returns-in_err-holds t c = part_passed _ _ _ _ c.from_residual.ensures.1 c.in_err-holds.ensures (λ k e. ap (λ o. and_then o (λ b. cond b (walk_worth c.args.scope.now.content.now c.args.scope.now.uses c.args.rest.now c.args.yields.now.items.now c.args.yields.now.parts.now (env_in c.args.names.now) (gathered_of c.args.tally)) (Ok (gathered_of c.args.tally)))) e)
-
-pub walk_where-returns-then-holds : goal.walk_where-returns-then-holds
-walk_where-returns-then-holds t c = same_tally _ _ _ (ap (λ o. and_then o (λ b. cond b (walk_worth c.args.scope.now.content.now c.args.scope.now.uses c.args.rest.now c.args.yields.now.items.now c.args.yields.now.parts.now (env_in c.args.names.now) (gathered_of c.args.tally)) (Ok (gathered_of c.args.tally)))) (c.in_ok-holds.ensures ∙ ap (λ b. Ok b) c.if-holds.true)) c.walk.ensures
-
-pub walk_where-returns-else-holds : goal.walk_where-returns-else-holds
-walk_where-returns-else-holds t c = ap (λ o. and_then o (λ b. cond b (walk_worth c.args.scope.now.content.now c.args.scope.now.uses c.args.rest.now c.args.yields.now.items.now c.args.yields.now.parts.now (env_in c.args.names.now) (gathered_of c.args.tally)) (Ok (gathered_of c.args.tally)))) (c.in_ok-holds.ensures ∙ ap (λ b. Ok b) c.if-holds.false)
-
-pub walk_first-returns-in-Cond : goal.walk_first-returns-in-Cond
-walk_first-returns-in-Cond t c = same_tally _ _ _ (walk_cond c.args.scope.now.content.now c.args.scope.now.uses c.args.first.now c.args.rest.now c.args.yields.now.items.now c.args.yields.now.parts.now (env_in c.args.names.now) (gathered_of c.args.tally) c.in-Cond.condition _ c.in-Cond.is refl) c.walk_where.ensures
-
 pub eval_expr-returns-in-Lit : goal.eval_expr-returns-in-Lit
 eval_expr-returns-in-Lit t c = same _ _ _ (worth_lit c.args.scope.now.content.now c.args.scope.now.uses (env_in c.args.names.now) c.args.expr.now c.in-Lit.value c.in-Lit.value c.in-Lit.is refl) c.copied.ensures
 
@@ -304,24 +280,6 @@ pub eval_atoms-returns : goal.eval_atoms-returns
 unfolding atoms_worth
 eval_atoms-returns t c = same _ _ _ (ap (λ o. and_then o (λ v. as_set v)) c.in_ok-value.ensures) c.to_set.ensures
 
-pub walk-walk_first-requires : goal.walk-walk_first-requires
-walk-walk_first-requires t c = (omega (arith, weight_gens c.args.gens.now c.in-Some.first.now c.in-Some.rest.now c.in-Some.ensures.cases.0), tt)
-
-pub walk-returns-in-None : goal.walk-returns-in-None
-walk-returns-in-None t c = same_tally _ _ _ (ap (λ gs. walk_worth c.args.scope.now.content.now c.args.scope.now.uses gs c.args.yields.now.items.now c.args.yields.now.parts.now (env_in c.args.names.now) (gathered_of c.args.tally)) (nil_from_length c.args.gens.now c.in-None.ensures.cases) ∙ walk-nil c.args.scope.now.content.now c.args.scope.now.uses c.args.yields.now.items.now c.args.yields.now.parts.now (env_in c.args.names.now) (gathered_of c.args.tally)) c.gather.ensures
-
-pub walk_each-returns-in_err-tally : goal.walk_each-returns-in_err-tally
-walk_each-returns-in_err-tally t c = walk_passed _ _ _ _ c.from_residual.ensures.1 c.in_err-tally.ensures (λ k e. each_fault _ c.args.scope.now.content.now c.args.scope.now.uses c.args.slot c.args.atoms.now c.args.rest.now c.args.yields.now.items.now c.args.yields.now.parts.now (env_in c.args.names.now) _ (gathered_of c.loop-atom.tally) c.loop-atom.atom-index c.atom-item.result c.atom-item.result k c.loop-atom.invariant (omega arith) c.atom-item.is refl e)
-
-pub walk_each-loop-atom-preserved : goal.walk_each-loop-atom-preserved
-walk_each-loop-atom-preserved t c = each_step _ c.args.scope.now.content.now c.args.scope.now.uses c.args.slot c.args.atoms.now c.args.rest.now c.args.yields.now.items.now c.args.yields.now.parts.now (env_in c.args.names.now) _ (gathered_of c.loop-atom.tally) (gathered_of c.in_ok-tally.tally) c.loop-atom.atom-index c.atom-item.result c.atom-item.result c.loop-atom.invariant (omega arith) c.atom-item.is refl c.in_ok-tally.ensures
-
-pub walk_one-returns : goal.walk_one-returns
-walk_one-returns t c = same_tally _ _ _ (ap (λ env. walk_worth c.args.scope.now.content.now c.args.scope.now.uses c.args.rest.now c.args.yields.now.items.now c.args.yields.now.parts.now env (gathered_of c.args.tally)) (sym (ap (λ bs. with_bound bs (bound_to c.args.names.now.params.now c.args.names.now.args.now)) (c.as_slice.ensures.value ∙ c.in_ok-bound.ensures) ∙ with_bound-last c.args.names.now.bound.now (c.args.slot, c.args.atom) (bound_to c.args.names.now.params.now c.args.names.now.args.now)))) c.walk.ensures
-
-pub walk_each-returns : goal.walk_each-returns
-walk_each-returns t c = c.loop-atom.invariant ∙ (ap (λ xs. each_worth c.args.scope.now.content.now c.args.scope.now.uses c.args.slot xs c.args.rest.now c.args.yields.now.items.now c.args.yields.now.parts.now (env_in c.args.names.now) (gathered_of c.loop-atom.tally)) (drop_of_length-le c.args.atoms.now (omega arith)) ∙ each-nil c.args.scope.now.content.now c.args.scope.now.uses c.args.slot c.args.rest.now c.args.yields.now.items.now c.args.yields.now.parts.now (env_in c.args.names.now) (gathered_of c.loop-atom.tally))
-
 pub eval_product-eval_comprehension-requires : goal.eval_product-eval_comprehension-requires
 eval_product-eval_comprehension-requires t c = (omega (arith, weights-nil), tt)
 
@@ -331,3 +289,117 @@ eval_product-returns-then-lack_sets t c = lacking c.args.scope.now.content.now c
 pub eval_product-returns : goal.eval_product-returns
 eval_product-returns t c =
     same _ _ _ (not_lacking c.args.scope.now.content.now c.as_slice.result.now c.args.parts.now c.lack_sets.result _ c.as_slice.ensures c.lack_sets.ensures c.if-lack_sets.false) c.eval_comprehension.ensures
+
+pub advance-returns-in_default : goal.advance-returns-in_default
+advance-returns-in_default t c = ends c.args.scope.now.content.now c.args.scope.now.uses c.args.gens.now c.args.names.now.bound.now (parameters c.args.names.now) c.args.walk.now c.in-None.is c.in_default.ensures
+
+pub advance-returns-in_ok-take-in-None : goal.advance-returns-in_ok-take-in-None
+advance-returns-in_ok-take-in-None t c = (
+  goes_on c.args.scope.now.content.now c.args.scope.now.uses c.args.gens.now c.args.names.now.bound.now (parameters c.args.names.now) c.args.walk.now c.pop.new.walk c.take.new.walk c.in-Some-pop.frame c.requires c.in-None.is c.in-Some-pop.ensures.0
+      c.in-Some-pop.ensures.1 c.in_ok-take-in-None.ensures,
+  goes_under c.args.names.now.bound.now c.args.walk.now c.pop.new.walk c.take.new.walk c.in-Some-pop.frame.name.0 c.in-Some-pop.frame.atoms c.in-Some-pop.frame.next c.in-Some-pop.frame.rest c.requires c.in-Some-pop.ensures.1
+      c.in_ok-take-in-None.ensures,
+)
+
+pub enter-eval_atoms-requires : goal.enter-eval_atoms-requires
+enter-eval_atoms-requires t c =
+    let at : slice_get c.args.gens.now c.args.place ≡ Some c.in-Some-From.field-0.now =
+    slice_get_read c.args.gens.now (length c.args.gens.now) c.args.place c.in-Some-From.field-0.now refl c.in-Some-From.ensures.lookup.3.0 c.in-Some-From.ensures.lookup.1 in
+    let h : slice_get c.args.gens.now c.args.place ≡ Some (generator.From c.in-Some-From.slot c.in-Some-From.set) = cc (c.in-Some-From.field-0-is) in
+    (omega (arith, set_falls c.args.gens.now c.args.place c.in-Some-From.slot c.in-Some-From.set h), tt)
+
+pub enter-returns-in_err-atoms-in-Some-From : goal.enter-returns-in_err-atoms-in-Some-From
+enter-returns-in_err-atoms-in-Some-From t c =
+    let at : slice_get c.args.gens.now c.args.place ≡ Some c.in-Some-From.field-0.now =
+    slice_get_read c.args.gens.now (length c.args.gens.now) c.args.place c.in-Some-From.field-0.now refl c.in-Some-From.ensures.lookup.3.0 c.in-Some-From.ensures.lookup.1 in
+    let h : slice_get c.args.gens.now c.args.place ≡ Some (generator.From c.in-Some-From.slot c.in-Some-From.set) = cc (c.in-Some-From.field-0-is) in
+    step_passed _ _ _ _ _ _ _ _ c.from_residual.ensures.1 c.in_err-atoms-in-Some-From.ensures
+    (λ k e. set_fault c.args.scope.now.content.now c.args.scope.now.uses c.args.gens.now c.args.names.now.bound.now (parameters c.args.names.now) c.args.walk.now c.requires.under c.args.place c.requires.turn
+    c.in-Some-From.slot c.in-Some-From.set c.bound.result.now k h c.bound.ensures e)
+
+pub enter-returns-in_ok-take-in-Some-From : goal.enter-returns-in_ok-take-in-Some-From
+enter-returns-in_ok-take-in-Some-From t c =
+    let at : slice_get c.args.gens.now c.args.place ≡ Some c.in-Some-From.field-0.now =
+    slice_get_read c.args.gens.now (length c.args.gens.now) c.args.place c.in-Some-From.field-0.now refl c.in-Some-From.ensures.lookup.3.0 c.in-Some-From.ensures.lookup.1 in
+    let h : slice_get c.args.gens.now c.args.place ≡ Some (generator.From c.in-Some-From.slot c.in-Some-From.set) = cc (c.in-Some-From.field-0-is) in (
+      set_entered c.args.scope.now.content.now c.args.scope.now.uses c.args.gens.now c.args.names.now.bound.now (parameters c.args.names.now) c.args.walk.now c.requires.under c.args.place c.requires.turn
+          c.in-Some-From.slot c.in-Some-From.set c.bound.result.now c.in_ok-atoms-in-Some-From.atoms c.take.new.walk h c.bound.ensures c.in_ok-atoms-in-Some-From.ensures c.in_ok-take-in-Some-From.ensures,
+      goes_under c.args.names.now.bound.now c.args.walk.now c.args.walk.now c.take.new.walk c.in-Some-From.slot c.in_ok-atoms-in-Some-From.atoms 0 (c.args.place + 1) c.requires.under (λ names under. under) c.in_ok-take-in-Some-From.ensures,
+    )
+
+pub enter-eval_truth-requires : goal.enter-eval_truth-requires
+enter-eval_truth-requires t c =
+    let at : slice_get c.args.gens.now c.args.place ≡ Some c.in-Some-Cond.field-0.now =
+    slice_get_read c.args.gens.now (length c.args.gens.now) c.args.place c.in-Some-Cond.field-0.now refl c.in-Some-Cond.ensures.lookup.3.0 c.in-Some-Cond.ensures.lookup.1 in
+    let h : slice_get c.args.gens.now c.args.place ≡ Some (generator.Cond c.in-Some-Cond.condition) = cc (c.in-Some-Cond.field-0-is) in
+    (omega (arith, condition_falls c.args.gens.now c.args.place c.in-Some-Cond.condition h), tt)
+
+pub enter-returns-in_err-holds-in-Some-Cond : goal.enter-returns-in_err-holds-in-Some-Cond
+enter-returns-in_err-holds-in-Some-Cond t c =
+    let at : slice_get c.args.gens.now c.args.place ≡ Some c.in-Some-Cond.field-0.now =
+    slice_get_read c.args.gens.now (length c.args.gens.now) c.args.place c.in-Some-Cond.field-0.now refl c.in-Some-Cond.ensures.lookup.3.0 c.in-Some-Cond.ensures.lookup.1 in
+    let h : slice_get c.args.gens.now c.args.place ≡ Some (generator.Cond c.in-Some-Cond.condition) = cc (c.in-Some-Cond.field-0-is) in
+    step_passed _ _ _ _ _ _ _ _ c.from_residual-in_err-holds-in-Some-Cond.ensures.1 c.in_err-holds-in-Some-Cond.ensures
+    (λ k e. condition_fault c.args.scope.now.content.now c.args.scope.now.uses c.args.gens.now c.args.names.now.bound.now (parameters c.args.names.now) c.args.walk.now c.requires.under c.args.place c.requires.turn
+    c.in-Some-Cond.condition c.bound.result.now k h c.bound.ensures e)
+
+pub enter-returns-after-holds : goal.enter-returns-after-holds
+enter-returns-after-holds t c =
+    let at : slice_get c.args.gens.now c.args.place ≡ Some c.in-Some-Cond.field-0.now =
+    slice_get_read c.args.gens.now (length c.args.gens.now) c.args.place c.in-Some-Cond.field-0.now refl c.in-Some-Cond.ensures.lookup.3.0 c.in-Some-Cond.ensures.lookup.1 in
+    let h : slice_get c.args.gens.now c.args.place ≡ Some (generator.Cond c.in-Some-Cond.condition) = cc (c.in-Some-Cond.field-0-is) in
+    elim c.if-holds.branch [
+      | enter-then-holds w ↦ (
+        condition_holds c.args.scope.now.content.now c.args.scope.now.uses c.args.gens.now c.args.names.now.bound.now (parameters c.args.names.now) c.args.walk.now c.requires.under c.args.place c.requires.turn
+            c.in-Some-Cond.condition c.bound.result.now c.in_ok-holds-in-Some-Cond.holds c.if-holds.walk h c.bound.ensures c.in_ok-holds-in-Some-Cond.ensures w.if-holds.true w.walk-is,
+        c.requires.under,
+      )
+      | enter-else-holds w ↦ (
+        condition_fails c.args.scope.now.content.now c.args.scope.now.uses c.args.gens.now c.args.names.now.bound.now (parameters c.args.names.now) c.args.walk.now c.requires.under c.args.place c.requires.turn
+            c.in-Some-Cond.condition c.bound.result.now c.in_ok-holds-in-Some-Cond.holds c.if-holds.walk h c.bound.ensures c.in_ok-holds-in-Some-Cond.ensures w.if-holds.false w.walk-is,
+        c.requires.under,
+      )
+    ]
+
+pub enter-returns-in-None : goal.enter-returns-in-None
+enter-returns-in-None t c = (
+  binding_found c.args.scope.now.content.now c.args.scope.now.uses c.args.gens.now c.args.names.now.bound.now (parameters c.args.names.now) c.args.walk.now c.requires.under c.args.place c.requires.turn c.in-None.ensures.lookup.3,
+  c.requires.under,
+)
+
+pub find_binding-steps-smaller : goal.find_binding-steps-smaller
+find_binding-steps-smaller t c = let went = rw c.in-On.is at c.in_ok-advance.ensures in step_less _ _ went.0
+
+pub gather_all-bindings-init : goal.gather_all-bindings-init
+gather_all-bindings-init t c = record {
+  same = gathering_begun c.args.scope.now.content.now c.args.scope.now.uses c.args.gens.now c.args.yields.now.items.now c.args.yields.now.parts.now c.args.names.now.bound.now (parameters c.args.names.now) c.in_ok-walk.walk (gathered_of c.args.tally) c.in_ok-walk.ensures;
+  under = begun_under c.args.names.now.bound.now c.in_ok-walk.walk c.in_ok-walk.ensures;
+}
+
+pub gather_all-returns-in_err-find_binding : goal.gather_all-returns-in_err-find_binding
+gather_all-returns-in_err-find_binding t c =
+    binding_passed _ _ _ _ _ _ _ _ c.from_residual-in_err-find_binding.ensures.1 c.in_err-find_binding.ensures
+    (λ k e. c.bindings.invariant.same ∙ over_fault (one_more_binding c.args.scope.now.content.now c.args.scope.now.uses c.args.yields.now.items.now c.args.yields.now.parts.now) _ (gathered_of c.bindings.tally) k e)
+
+pub gather_all-returns-in_err-tally : goal.gather_all-returns-in_err-tally
+gather_all-returns-in_err-tally t c =
+    let found = rw c.if-branch.true at c.in_ok-find_binding.ensures in
+    walk_passed _ _ _ _ c.from_residual-in_err-tally.ensures.1 c.in_err-tally.ensures
+    (λ k e. gathering_fault (one_more_binding c.args.scope.now.content.now c.args.scope.now.uses c.args.yields.now.items.now c.args.yields.now.parts.now) _ _ _ _ _ (gathered_of c.bindings.tally) k c.bindings.invariant.same found.0 (ap (λ bs. with_bound bs (parameters c.args.names.now)) c.bound.ensures) e)
+
+pub gather_all-bindings-smaller : goal.gather_all-bindings-smaller
+gather_all-bindings-smaller t c = let found = rw c.if-branch.true at c.in_ok-find_binding.ensures in binding_less _ _ _ found.0
+
+pub gather_all-bindings-preserved : goal.gather_all-bindings-preserved
+gather_all-bindings-preserved t c =
+    let found = rw c.if-branch.true at c.in_ok-find_binding.ensures in
+    record {
+      same = gathering_next (one_more_binding c.args.scope.now.content.now c.args.scope.now.uses c.args.yields.now.items.now c.args.yields.now.parts.now) _ _ _ _ _ (gathered_of c.bindings.tally) (gathered_of c.in_ok-tally.tally) c.bindings.invariant.same found.0
+          (ap (λ bs. with_bound bs (parameters c.args.names.now)) c.bound.ensures) c.in_ok-tally.ensures;
+      under = found.1;
+    }
+
+pub gather_all-returns : goal.gather_all-returns
+gather_all-returns t c =
+    let ended = rw c.if-branch.false at c.in_ok-find_binding.ensures in
+    c.bindings.invariant.same ∙ over_end (one_more_binding c.args.scope.now.content.now c.args.scope.now.uses c.args.yields.now.items.now c.args.yields.now.parts.now) _ (gathered_of c.bindings.tally) ended

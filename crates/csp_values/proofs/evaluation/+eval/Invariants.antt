@@ -1,10 +1,12 @@
 use Rattle.std.proofs.Common.{◌≡◌, ◌+◌, drop}
 use Rattle.value_operators.specs.Env.{env_in}
 use Rattle.value_operators.specs.Forms.{scaled}
-use Rattle.csp_values.specs.Worth.{worths, with_items, with_fronts, fields_worth, each_worth, gathered_of}
+use Rattle.csp_values.specs.Course.{IsUnder, course, skipped}
+use Rattle.csp_values.specs.Worth.{worths, with_items, with_fronts, fields_worth, gathered_of, one_more_binding, walk_worth}
+use Rattle.csp_values.proofs.Courses.{over_course, size}
 use Rattle.csp_values.proofs.FieldSteps.{fields_after}
 use Rattle.csp_values.proofs.Steps.{worths_after}
-use Rattle.csp_values.proofs.Weights.{weight, weights, gen_weight, gen_weights, part_weight, part_weights, body_weight, cost}
+use Rattle.csp_values.proofs.Weights.{weight, weights, gen_weights, part_weight, part_weights, body_weight, cost}
 use Rattle.csp_values.proofs.evaluation.+eval.Given as goal
 
 abbrev pub decreases-eval_expr : goal.decreases-eval_expr
@@ -94,23 +96,17 @@ decreases-add_fronts l = cost l.scope.now.content.now l.scope.now.uses + (part_w
 abbrev pub decreases-gather : goal.decreases-gather
 decreases-gather l = cost l.scope.now.content.now l.scope.now.uses + (weights l.yields.now.items.now + part_weights l.yields.now.parts.now + 3)
 
-abbrev pub decreases-walk : goal.decreases-walk
-decreases-walk l = cost l.scope.now.content.now l.scope.now.uses + (weights l.yields.now.items.now + part_weights l.yields.now.parts.now + gen_weights l.gens.now + 4)
+abbrev pub decreases-gather_all : goal.decreases-gather_all
+decreases-gather_all l = cost l.scope.now.content.now l.scope.now.uses + (weights l.yields.now.items.now + part_weights l.yields.now.parts.now + gen_weights l.gens.now + 4)
 
-abbrev pub decreases-walk_first : goal.decreases-walk_first
-decreases-walk_first l = cost l.scope.now.content.now l.scope.now.uses + (weights l.yields.now.items.now + part_weights l.yields.now.parts.now + gen_weight l.first.now + gen_weights l.rest.now + 3)
+abbrev pub decreases-find_binding : goal.decreases-find_binding
+decreases-find_binding l = cost l.scope.now.content.now l.scope.now.uses + (gen_weights l.gens.now + 3)
 
-abbrev pub decreases-walk_each : goal.decreases-walk_each
-decreases-walk_each l = cost l.scope.now.content.now l.scope.now.uses + (weights l.yields.now.items.now + part_weights l.yields.now.parts.now + gen_weights l.rest.now + 6)
+abbrev pub decreases-advance : goal.decreases-advance
+decreases-advance l = cost l.scope.now.content.now l.scope.now.uses + (gen_weights l.gens.now + 2)
 
-abbrev pub decreases-walk_one : goal.decreases-walk_one
-decreases-walk_one l = cost l.scope.now.content.now l.scope.now.uses + (weights l.yields.now.items.now + part_weights l.yields.now.parts.now + gen_weights l.rest.now + 5)
-
-abbrev pub decreases-walk_over : goal.decreases-walk_over
-decreases-walk_over l = cost l.scope.now.content.now l.scope.now.uses + (weights l.yields.now.items.now + part_weights l.yields.now.parts.now + weight l.set.now + gen_weights l.rest.now + 7)
-
-abbrev pub decreases-walk_where : goal.decreases-walk_where
-decreases-walk_where l = cost l.scope.now.content.now l.scope.now.uses + (weights l.yields.now.items.now + part_weights l.yields.now.parts.now + weight l.condition.now + gen_weights l.rest.now + 5)
+abbrev pub decreases-enter : goal.decreases-enter
+decreases-enter l = cost l.scope.now.content.now l.scope.now.uses + (gen_weights l.gens.now + 1)
 
 -- the expressions that are left are still to be evaluated
 abbrev pub invariant-eval_all-loop-expr : goal.invariant-eval_all-loop-expr
@@ -132,8 +128,24 @@ abbrev pub invariant-add_fronts-loop-part : goal.invariant-add_fronts-loop-part
 invariant-add_fronts-loop-part l =
     with_fronts l.scope.content.now l.scope.uses (env_in l.names) l.parts l.fn.atoms ≡ with_fronts l.scope.content.now l.scope.uses (env_in l.names) (drop l.part-index l.parts) l.atoms
 
--- the atoms that are left are still to be walked
-abbrev pub invariant-walk_each-loop-atom : goal.invariant-walk_each-loop-atom
-invariant-walk_each-loop-atom l =
-    each_worth l.scope.content.now l.scope.uses l.slot l.atoms l.rest l.yields.items.now l.yields.parts.now (env_in l.names) (gathered_of l.fn.tally) ≡
-    each_worth l.scope.content.now l.scope.uses l.slot (drop l.atom-index l.atoms) l.rest l.yields.items.now l.yields.parts.now (env_in l.names) (gathered_of l.tally)
+-- what the walk comes to is still to come
+abbrev pub invariant-find_binding-steps : goal.invariant-find_binding-steps
+invariant-find_binding-steps l = record {
+  same : skipped (course l.scope.content.now l.scope.uses l.gens l.names l.fn.walk) ≡ skipped (course l.scope.content.now l.scope.uses l.gens l.names l.walk);
+  under : IsUnder l.names.bound.now l.walk;
+}
+
+abbrev pub decreases-find_binding-steps : goal.decreases-find_binding-steps
+decreases-find_binding-steps l = size (course l.scope.content.now l.scope.uses l.gens l.names l.walk)
+
+-- the bindings that are left are still to be gathered
+abbrev pub invariant-gather_all-bindings : goal.invariant-gather_all-bindings
+invariant-gather_all-bindings l = record {
+  same :
+      walk_worth l.scope.content.now l.scope.uses l.gens l.yields.items.now l.yields.parts.now (env_in l.names) (gathered_of l.fn.tally) ≡
+      over_course (course l.scope.content.now l.scope.uses l.gens l.names l.walk) (one_more_binding l.scope.content.now l.scope.uses l.yields.items.now l.yields.parts.now) (gathered_of l.tally);
+  under : IsUnder l.names.bound.now l.walk;
+}
+
+abbrev pub decreases-gather_all-bindings : goal.decreases-gather_all-bindings
+decreases-gather_all-bindings l = size (course l.scope.content.now l.scope.uses l.gens l.names l.walk)

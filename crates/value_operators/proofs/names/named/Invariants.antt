@@ -1,11 +1,11 @@
 use Rattle.std.proofs.Common.{◌≡◌, length}
-use Rattle.csp_program.specs.Value.{bound_value, bound_to}
-use Rattle.value_operators.specs.Env.{with_bound, env_in}
+use Rattle.csp_program.specs.Value.{bound_value}
+use Rattle.value_operators.specs.Env.{env_in, parameters, with_bound}
 use Rattle.value_operators.proofs.names.named.Given as goal
 
 -- the name stands for what it stands for without the names after those that are left
 abbrev pub invariant-loop-last : goal.invariant-loop-last
-invariant-loop-last l = bound_value (env_in l.names) l.slot ≡ bound_value (with_bound l.rest (bound_to l.names.params.now l.names.args.now)) l.slot
+invariant-loop-last l = bound_value (env_in l.names) l.slot ≡ bound_value (with_bound l.rest (parameters l.names)) l.slot
 
 abbrev pub decreases-loop-last : goal.decreases-loop-last
 decreases-loop-last l = length l.rest
