@@ -1,7 +1,7 @@
 -- The steps of a process, each once, from those of the processes below, each once: only what stands in a list counts, and not how often.
-use Rattle.std.proofs.Common.{◌≡◌, ◌⊎◌, inl, inr, ℕ, ◌<◌, true, Ok, Err, List, [], ◌∷◌, ◌++◌, map, length, refl, ap, sym, ◌∙◌, subst}
+use Rattle.std.proofs.Common.{◌≡◌, ◌⊎◌, inl, inr, ℕ, ◌<◌, true, Some, Ok, Err, List, [], ◌∷◌, ◌++◌, map, length, refl, ap, sym, ◌∙◌, subst}
 use Rattle.std.proofs.lemmas.Bool.{and_from, lt-ltb}
-use Rattle.std.specs.Prelude.{IfOk, nat_lt, Result}
+use Rattle.std.specs.Prelude.{IfOk, IfSome, nat_lt, OnOk, Option, Result}
 use Rattle.std.specs.Result.{IsErrAnd}
 use Rattle.csp_base.specs.Lists.{StandsIn}
 use Rattle.csp_program.specs.Lists.{joined}
@@ -192,6 +192,18 @@ module _ (p : Content) (t u : Proc) (whole : Outcome (List Move)) (moves : List 
   pub around_passed : (r : Result (List StepTo) EvalFault) (f : EvalFault) → IsErrAnd r (λ y. y ≡ f) → GivesMoves trees (Err f) (around p u (map (seen mid) slice)) → GivesEach trees r whole
   around_passed (Ok x) f is_err h = absurd is_err
   around_passed (Err y) f is_err h = rw is_err (around_gone f h)
+
+-- the steps of a choice, in other words
+pub choice_each : (trees : List Proc) (steps slice : List StepTo) (o u w : Outcome (List Move)) → o ≡ u → slice ≡ steps → w ≡ o → AreEach trees steps u → AreEach trees slice w
+choice_each trees steps slice o u w e is same h = subst (λ (ss : List StepTo). AreEach trees ss w) (sym is) (subst (λ (z : Outcome (List Move)). AreEach trees steps z) (sym (same ∙ e)) h)
+
+-- steps that are known
+pub known_each : (trees : List Proc) (o : Outcome (List Move)) (found : Option (List StepTo)) (steps : List StepTo) → found ≡ Some steps → IfSome found (λ ss. AreEach trees ss o) → AreEach trees steps o
+known_each trees o found steps e h = subst (λ (f : Option (List StepTo)). IfSome f (λ ss. AreEach trees ss o)) e h
+
+-- what is said of a success
+pub on_ok_of : {A E : Type 0} (r : Result A E) (x : A) (P : Type 0) → r ≡ Ok x → OnOk r P → P
+on_ok_of {E = E} r x P e h = subst (λ (z : Result _ E). OnOk z P) e h
 
 -- ---- faults that are handed on
 

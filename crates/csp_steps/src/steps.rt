@@ -10,7 +10,7 @@ ghost use Rattle.csp_steps.specs.Listed.{AreStepsOf, FaultIs};
 
 use crate::around::around;
 use crate::choice::of_operand;
-use crate::evaluated::Evaluated;
+use crate::evaluated::{Evaluated, keep_steps, known_steps};
 use crate::look::{Look, look_at};
 use crate::once::{add_each, numbered_steps, once};
 use crate::step::StepTo;
@@ -35,6 +35,9 @@ fn steps_at(
     ensures front { IsFront pool.old pool.new }
     ensures fits { OnOk result (Fits program.now pool.new evaluated.new) }
 {
+    if let Some(steps) = known_steps(alloc, evaluated, id)? {
+        return Ok(steps);
+    }
     let found = look_at(alloc, program, pool, evaluated, id)?;
     match found {
         Look::Steps(steps) => {
@@ -42,7 +45,11 @@ fn steps_at(
             Ok(steps)
         }
         Look::Same(same) => steps_at(alloc, program, pool, evaluated, same),
-        Look::Choice(ids) => { steps_of_operands(alloc, program, pool, evaluated, ids.as_slice()) },
+        Look::Choice(ids) => {
+            let steps = steps_of_operands(alloc, program, pool, evaluated, ids.as_slice())?;
+            keep_steps(alloc, evaluated, id, steps.as_slice())?;
+            Ok(steps)
+        }
         Look::Around(below) => {
             let below = steps_at(alloc, program, pool, evaluated, below)?;
             let steps = around(alloc, program, pool, evaluated, id, below.as_slice())?;

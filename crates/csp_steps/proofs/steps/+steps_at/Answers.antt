@@ -1,19 +1,19 @@
-use Rattle.std.proofs.Common.{map, length, ap, ◌∙◌, arith}
+use Rattle.std.proofs.Common.{map, length, refl, ap, ◌∙◌, arith}
 use Rattle.std.proofs.lemmas.List.{length-map}
 use Rattle.process_steps.specs.StepList.{steps_of}
 use Rattle.term_pool.specs.Trees.{tree_at}
 use Rattle.csp_steps.specs.Computed.{all_within}
 use Rattle.term_pool.specs.Moved.{id_or}
-use Rattle.csp_steps.proofs.Alike.{around_each, around_passed, each_passed, looks_passed, same_each, these_each}
+use Rattle.csp_steps.proofs.Alike.{around_each, around_passed, choice_each, each_passed, known_each, looks_passed, on_ok_of, same_each, these_each}
 use Rattle.csp_steps.proofs.Choosing.{at_any, choice_begin, choice_end, operand_fault, operand_in, operand_less, operand_next}
 use Rattle.csp_steps.proofs.Looking.{around_is, choice_below, choice_steps, less_around, less_choice, less_same, made_of, of_choice, these, those}
 use Rattle.csp_steps.proofs.Noting.{fits_stay}
-use Rattle.csp_steps.proofs.Places.{all_below_stay, front_both, front_same, tree_stays}
+use Rattle.csp_steps.proofs.Places.{all_below_stay, front_both, front_same, still_within, tree_stays}
 use Rattle.csp_steps.proofs.steps.+steps_at.Goals as goal
 
 pub steps_at-returns-in_err-found-clause-steps : goal.steps_at-returns-in_err-found-clause-steps
 steps_at-returns-in_err-found-clause-steps t c =
-    looks_passed c.args.program.now c.look_at.new.pool c.look_at.new.pool (tree_at c.args.pool.now c.args.id) _ _ c.from_residual.ensures.1 c.in_err-found.ensures.look
+    looks_passed c.args.program.now c.look_at.new.pool c.look_at.new.pool (tree_at c.args.pool.now c.args.id) _ _ c.from_residual-in_err-found.ensures.1 c.in_err-found.ensures.look
 
 pub steps_at-returns-in_ok-steps-in-Steps-clause-steps : goal.steps_at-returns-in_ok-steps-in-Steps-clause-steps
 steps_at-returns-in_ok-steps-in-Steps-clause-steps t c =
@@ -36,11 +36,6 @@ steps_at-steps_of_operands-requires t c =
     let is = of_choice c.args.program.now c.look_at.new.pool (tree_at c.args.pool.now c.args.id) c.in_ok-found.found c.in_ok-found.ensures.look c.in-Choice.ids c.in-Choice.is in
     let less = less_choice c.args.program.now c.look_at.new.pool c.in-Choice.ids c.as_slice.result.now (tree_at c.args.pool.now c.args.id) is c.as_slice.ensures in
     (omega (arith, less), (choice_below c.args.program.now c.look_at.new.pool c.in-Choice.ids c.as_slice.result.now (tree_at c.args.pool.now c.args.id) is c.as_slice.ensures, c.in_ok-found.ensures.fits))
-
-pub steps_at-returns-in-Choice-clause-steps : goal.steps_at-returns-in-Choice-clause-steps
-steps_at-returns-in-Choice-clause-steps t c =
-    let is = of_choice c.args.program.now c.look_at.new.pool (tree_at c.args.pool.now c.args.id) c.in_ok-found.found c.in_ok-found.ensures.look c.in-Choice.ids c.in-Choice.is in
-    same_each _ _ _ _ (choice_steps c.args.program.now c.look_at.new.pool c.in-Choice.ids c.as_slice.result.now (tree_at c.args.pool.now c.args.id) is c.as_slice.ensures) c.steps_of_operands.ensures.steps
 
 pub steps_at-steps_at-requires-in-Around : goal.steps_at-steps_at-requires-in-Around
 steps_at-steps_at-requires-in-Around t c =
@@ -118,3 +113,35 @@ steps_at-returns-in_ok-steps-in-Around-2-clause-steps t c =
     (tree_stays c.args.pool.now c.steps_at-in-Around.new.pool
     (front_both c.args.pool.now c.look_at.new.pool c.steps_at-in-Around.new.pool c.in_ok-found.ensures.front c.in_ok-below-in-Around.ensures.front) c.args.id c.requires.within)
     c.in_ok-steps-in-Around.steps c.in_ok-steps-in-Around-2.steps c.in_ok-steps-in-Around.ensures.steps c.in_ok-steps-in-Around-2.ensures
+
+pub steps_at-returns-in-Some-clause-steps : goal.steps_at-returns-in-Some-clause-steps
+steps_at-returns-in-Some-clause-steps t c =
+    known_each c.args.pool.now (steps_of c.args.program.now (tree_at c.args.pool.now c.args.id)) c.in_ok-steps.field-0 c.in-Some.steps c.in-Some.is (c.in_ok-steps.ensures c.args.program.now c.args.pool.now c.requires.fits)
+
+pub steps_at-around-requires-clause-within : goal.steps_at-around-requires-clause-within
+steps_at-around-requires-clause-within t c =
+    still_within c.args.pool.now c.steps_at-in-Around.new.pool (front_both c.args.pool.now c.look_at.new.pool c.steps_at-in-Around.new.pool c.in_ok-found.ensures.front c.in_ok-below-in-Around.ensures.front) c.args.id c.requires.within
+
+pub steps_at-returns-in_ok-keep_steps-in-Choice-clause-fits : goal.steps_at-returns-in_ok-keep_steps-in-Choice-clause-fits
+steps_at-returns-in_ok-keep_steps-in-Choice-clause-fits t c =
+    let is = of_choice c.args.program.now c.look_at.new.pool (tree_at c.args.pool.now c.args.id) c.in_ok-found.found c.in_ok-found.ensures.look c.in-Choice.ids c.in-Choice.is in
+    let front = front_both c.args.pool.now c.look_at.new.pool c.steps_of_operands.new.pool c.in_ok-found.ensures.front c.in_ok-steps-in-Choice.ensures.front in
+    let each = choice_each c.steps_of_operands.new.pool c.in_ok-steps-in-Choice.steps c.as_slice-in-Choice.result.now (steps_of c.args.program.now (tree_at c.args.pool.now c.args.id)) _
+    (steps_of c.args.program.now (tree_at c.steps_of_operands.new.pool c.args.id))
+    (choice_steps c.args.program.now c.look_at.new.pool c.in-Choice.ids c.as_slice.result.now (tree_at c.args.pool.now c.args.id) is c.as_slice.ensures) c.as_slice-in-Choice.ensures
+    (ap (steps_of c.args.program.now) (tree_stays c.args.pool.now c.steps_of_operands.new.pool front c.args.id c.requires.within)) c.in_ok-steps-in-Choice.ensures.steps in
+    let kept = c.keep_steps.ensures c.args.program.now c.steps_of_operands.new.pool c.in_ok-steps-in-Choice.ensures.fits (still_within c.args.pool.now c.steps_of_operands.new.pool front c.args.id c.requires.within) each in
+    on_ok_of c.keep_steps.result c.in_ok-keep_steps-in-Choice.field-0 _ c.in_ok-keep_steps-in-Choice.was kept
+
+pub steps_at-returns-in_ok-keep_steps-in-Choice-clause-steps : goal.steps_at-returns-in_ok-keep_steps-in-Choice-clause-steps
+steps_at-returns-in_ok-keep_steps-in-Choice-clause-steps t c =
+    let is = of_choice c.args.program.now c.look_at.new.pool (tree_at c.args.pool.now c.args.id) c.in_ok-found.found c.in_ok-found.ensures.look c.in-Choice.ids c.in-Choice.is in
+    choice_each c.steps_of_operands.new.pool c.in_ok-steps-in-Choice.steps c.in_ok-steps-in-Choice.steps (steps_of c.args.program.now (tree_at c.args.pool.now c.args.id)) _
+    (steps_of c.args.program.now (tree_at c.args.pool.now c.args.id))
+    (choice_steps c.args.program.now c.look_at.new.pool c.in-Choice.ids c.as_slice.result.now (tree_at c.args.pool.now c.args.id) is c.as_slice.ensures) refl refl c.in_ok-steps-in-Choice.ensures.steps
+
+pub steps_at-returns-in_err-steps-in-Choice-clause-steps : goal.steps_at-returns-in_err-steps-in-Choice-clause-steps
+steps_at-returns-in_err-steps-in-Choice-clause-steps t c =
+    let is = of_choice c.args.program.now c.look_at.new.pool (tree_at c.args.pool.now c.args.id) c.in_ok-found.found c.in_ok-found.ensures.look c.in-Choice.ids c.in-Choice.is in
+    each_passed c.steps_of_operands.new.pool c.steps_of_operands.new.pool _ _ _ _ c.from_residual-in_err-steps-in-Choice.ensures.1 c.in_err-steps-in-Choice.ensures.steps
+    (λ k e. choice_steps c.args.program.now c.look_at.new.pool c.in-Choice.ids c.as_slice.result.now (tree_at c.args.pool.now c.args.id) is c.as_slice.ensures ∙ e)
