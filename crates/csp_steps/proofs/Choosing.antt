@@ -13,21 +13,47 @@ use Rattle.csp_atoms.specs.declared.value.Value.TheVariants.{One}
 use Rattle.csp_program.specs.declared.processes.Proc.{Proc}
 use Rattle.csp_program.specs.declared.programs.Content.{Content}
 use Rattle.process_steps.specs.Step.{each_put}
-use Rattle.process_steps.specs.StepList.{Move, in_choice, steps_of}
+use Rattle.process_steps.specs.StepList.{Move, in_choice, steps_of, steps_of_choice}
 use Rattle.term_pool.proofs.PutLemmas.{at}
 use Rattle.term_pool.specs.Pooled.{IsFront}
 use Rattle.term_pool.specs.Trees.{all_below, tree_at}
 use Rattle.pool_parts.specs.declared.place.ProcId.{ProcId}
-use Rattle.csp_steps.specs.Computed.{all_within, AreAt, IsMove}
+use Rattle.csp_steps.specs.Computed.{all_within, AreAt, AreEach, AreMoves, IsMove}
 use Rattle.csp_steps.specs.Listed.{seen}
+use Rattle.csp_steps.specs.Once.{AreJoined, HaveSame, IsOnce}
 use Rattle.csp_steps.specs.declared.step.StepTo.{StepTo}
-use Rattle.step_values.proofs.Lists.{left, left_fault, left_next}
-use Rattle.csp_steps.proofs.Places.{at_stay, below_at, front_both, one_place, seen_stay, still_within, tree_stays, trees_stay}
+use Rattle.step_values.proofs.Lists.{left, left_all, left_end, left_fault, left_next}
+use Rattle.csp_steps.proofs.Alike.{joined_within, once_within, same_joining, same_map, same_same, same_then}
+use Rattle.csp_steps.proofs.Places.{all_within_stay, at_stay, below_at, front_both, one_place, seen_stay, still_within, tree_stays, trees_stay}
 use Rattle.csp_base.proofs.Lists.{take_read, map_push}
 use Rattle.csp_base.specs.Lists.{greatest}
 
 abbrev pub of_operand : Content → List Proc → ℕ → Proc → Outcome (List Move)
 of_operand p qs k q = and_then (steps_of p q) (λ moves. Ok (map (λ m. in_choice qs k m.0 m.1) moves))
+
+-- What the operands before the place i make of the choice.
+pub record IsChoiceSoFar (p : Content) (qs trees : List Proc) (numbered : List StepTo) (i : ℕ) : Type 0 where
+  pub moves : List Move
+  pub rest : steps_of_choice p (steps_of p) qs ≡ left (of_operand p qs) (λ ms. ms) moves i (drop i qs)
+  pub within : all_within (length trees) numbered ≡ true
+  pub same : HaveSame moves (map (seen trees) numbered)
+
+pub choice_begin : (p : Content) (qs trees : List Proc) (numbered : List StepTo) → numbered ≡ [] → IsChoiceSoFar p qs trees numbered 0
+choice_begin p qs trees numbered e = subst (λ (ss : List StepTo). IsChoiceSoFar p qs trees ss 0) (sym e) (record {
+  moves = [];
+  rest = left_all (of_operand p qs) 0 qs;
+  within = refl;
+  same = same_same [];
+})
+
+pub choice_end : (p : Content) (qs trees : List Proc) (numbered made : List StepTo) (i : ℕ) → length qs ≤ i → IsChoiceSoFar p qs trees numbered i → IsOnce numbered made → AreEach trees made (steps_of_choice p (steps_of p) qs)
+choice_end p qs trees numbered made i past h once = record {
+  moves = h.moves;
+  has = h.rest ∙ left_end (of_operand p qs) (λ ms. ms) refl (λ xs ys. refl) h.moves qs i i past;
+  within = once_within (length trees) numbered made h.within once.same;
+  same = same_then h.moves (map (seen trees) numbered) (map (seen trees) made) h.same (same_map (seen trees) numbered made once.same);
+  once = once.once;
+}
 
 -- the processes with one more value put in
 module _ (old mid new : List Proc) (f : IsFront old mid) (g : IsFront mid new) (id : ProcId) (within : id.0 < length old) where
@@ -85,24 +111,33 @@ module _ (p : Content) (old mid now new : List Proc) (f : IsFront old mid) (g : 
   at_place : tree_at old id ≡ get_or qs k (tree_at old id)
   at_place = operand_at old ids k id is lt
 
-  pub operand_fault : (steps : List StepTo) (kind : ValueKind) → steps_of p (tree_at mid id) ≡ Err kind
-      → left (of_operand p qs) (λ ms. ms) (map (seen mid) steps) k (drop k qs) ≡ Err kind
-  operand_fault steps kind e =
-      left_fault (of_operand p qs) (λ ms. ms) refl (λ xs ys. refl) (map (seen mid) steps) qs k k (tree_at old id) kind (omega (arith, lt, length-map ids (tree_at old))) at_place
-      (ap (λ (o : Outcome (List Move)). and_then (and_then o (λ moves. Ok (map (λ m. in_choice qs k m.0 m.1) moves))) (λ ys. Ok (map (seen mid) steps ++ ys)))
+  pub operand_fault : (moves : List Move) (kind : ValueKind) → steps_of p (tree_at mid id) ≡ Err kind → left (of_operand p qs) (λ ms. ms) moves k (drop k qs) ≡ Err kind
+  operand_fault moves kind e =
+      left_fault (of_operand p qs) (λ ms. ms) refl (λ xs ys. refl) moves qs k k (tree_at old id) kind (omega (arith, lt, length-map ids (tree_at old))) at_place
+      (ap (λ (o : Outcome (List Move)). and_then (and_then o (λ ms. Ok (map (λ m. in_choice qs k m.0 m.1) ms))) (λ ys. Ok (moves ++ ys)))
       (ap (steps_of p) (sym (tree_stays old mid f id id_within)) ∙ e))
 
-  pub operand_next : (steps made found : List StepTo) → all_within (length mid) steps ≡ true → all_within (length now) found ≡ true → steps_of p (tree_at mid id) ≡ Ok (map (seen now) found)
-      → map (seen new) made ≡ map (seen now) steps ++ map (λ m. in_choice (map (tree_at now) ids) k m.0 m.1) (map (seen now) found)
-      → left (of_operand p qs) (λ ms. ms) (map (seen mid) steps) k (drop k qs) ≡ left (of_operand p qs) (λ ms. ms) (map (seen new) made) (k + 1) (drop (k + 1) qs)
-  operand_next steps made found w _ e h =
-      let whole : IsFront old now = front_both old mid now f g in
-      let seen_is : map (seen mid) steps ≡ map (seen now) steps = sym (seen_stay mid now g steps w) in
-      let trees_are : map (tree_at old) ids ≡ map (tree_at now) ids = sym (trees_stay old now whole ids below) in
-      left_next (of_operand p qs) (λ ms. ms) refl (λ xs ys. refl) (map (seen mid) steps) (map (seen new) made) qs k k (tree_at old id) (omega (arith, lt, length-map ids (tree_at old))) at_place
-      (ap (λ (o : Outcome (List Move)). and_then (and_then o (λ moves. Ok (map (λ m. in_choice qs k m.0 m.1) moves))) (λ ys. Ok (map (seen mid) steps ++ ys)))
-      (ap (steps_of p) (sym (tree_stays old mid f id id_within)) ∙ e) ∙
-      ap (λ ms. Ok ms) ((λ i. seen_is i ++ map (λ m. in_choice (trees_are i) k m.0 m.1) (map (seen now) found)) ∙ sym h))
+  -- what stands once the operands before the next one are there
+  pub operand_next : (numbered : List StepTo) → IsChoiceSoFar p qs mid numbered k → (found made more : List StepTo) → AreEach now found (steps_of p (tree_at mid id))
+      → (slice : List StepTo) → slice ≡ found → IsFront now new → AreMoves new made (map (λ m. in_choice (map (tree_at now) ids) k m.0 m.1) (map (seen now) slice))
+      → (added : List StepTo) → added ≡ made → AreJoined numbered added more → IsChoiceSoFar p qs new more (k + 1)
+  operand_next numbered h found made more each slice alike front moves added is_made joined =
+      let trees_are : map (tree_at now) ids ≡ qs = trees_stay old now (front_both old mid now f g) ids below in
+      let whole : IsFront mid new = front_both mid now new g front in
+      let here : map (seen new) numbered ≡ map (seen mid) numbered = seen_stay mid new whole numbered h.within in
+      let mine : map (seen new) added ≡ map (λ m. in_choice qs k m.0 m.1) (map (seen now) found) =
+      ap (map (seen new)) is_made ∙ (moves.same ∙ (λ i. map (λ m. in_choice (trees_are i) k m.0 m.1) (map (seen now) (alike i)))) in
+      record {
+        moves = h.moves ++ map (λ m. in_choice qs k m.0 m.1) each.moves;
+        rest = h.rest ∙
+            left_next (of_operand p qs) (λ ms. ms) refl (λ xs ys. refl) h.moves (h.moves ++ map (λ m. in_choice qs k m.0 m.1) each.moves) qs k k (tree_at old id) (omega (arith, lt, length-map ids (tree_at old))) at_place
+            (ap (λ (o : Outcome (List Move)). and_then (and_then o (λ ms. Ok (map (λ m. in_choice qs k m.0 m.1) ms))) (λ ys. Ok (h.moves ++ ys)))
+            (ap (steps_of p) (sym (tree_stays old mid f id id_within)) ∙ each.has));
+        within = joined_within (length new) numbered added more joined (all_within_stay mid new whole numbered h.within) (ap (all_within (length new)) is_made ∙ moves.within);
+        same = same_joining (seen new) h.moves (map (λ m. in_choice qs k m.0 m.1) each.moves) numbered added more joined
+            (subst (λ ms. HaveSame h.moves ms) (sym here) h.same)
+            (subst (λ ms. HaveSame (map (λ m. in_choice qs k m.0 m.1) each.moves) ms) (sym mine) (same_map (λ m. in_choice qs k m.0 m.1) each.moves (map (seen now) found) each.same));
+      }
 
   -- an operand is no deeper than the deepest
   pub operand_less : proc_depth (tree_at mid id) ≤ greatest (map proc_depth qs)

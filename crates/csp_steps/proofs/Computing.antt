@@ -1,5 +1,5 @@
 -- What a call answers for a whole, from what calls answer for its parts.
-use Rattle.std.proofs.Common.{◌≡◌, ℕ, ◌+◌, ◌<◌, ◌≤◌, Ok, Err, List, [], ◌∷◌, ◌++◌, map, take, length, get_or, refl, ap, sym, ◌∙◌, subst, append_assoc}
+use Rattle.std.proofs.Common.{◌≡◌, ℕ, ◌+◌, ◌<◌, ◌≤◌, Ok, Err, List, [], ◌∷◌, ◌++◌, map, take, length, get_or, ap, sym, ◌∙◌, subst, append_assoc}
 use Rattle.std.specs.Prelude.{Result}
 use Rattle.std.specs.Result.{IsErrAnd}
 use Rattle.csp_program.specs.Lists.{joined}
@@ -13,7 +13,7 @@ use Rattle.value_operators.specs.Gives.{Gives}
 use Rattle.value_operators.specs.declared.fault.EvalFault.{EvalFault}
 use Rattle.value_operators.specs.declared.fault.EvalFault.TheVariants as fault
 use Rattle.csp_steps.specs.Computed.{AreMoves, GivesLook, GivesMoves, GivesPlace, IsListing, IsMove}
-use Rattle.csp_steps.specs.Listed.{FaultIs, seen}
+use Rattle.csp_steps.specs.Listed.{seen}
 use Rattle.csp_steps.specs.declared.look.Look.{Look}
 use Rattle.csp_steps.specs.declared.step.StepTo.{StepTo}
 use Rattle.step_values.proofs.Lists.{joined_push}
@@ -78,24 +78,6 @@ pub place_passed : (p : Content) (trees mid : List Proc) (t : Proc) (r : Result 
     → IsErrAnd r (λ y. y ≡ f) → GivesPlace mid (Err f) part → ((k : ValueKind) → part ≡ Err k → steps_of p t ≡ Err k) → GivesLook p trees r t
 place_passed p trees mid t (Ok x) f part is h passes = absurd is
 place_passed p trees mid t (Err y) f part is h passes = rw is (place_gone p trees mid t f part h passes)
-
--- a look that has failed says the same of a process that has the steps of the first one, whatever the list
-looks_gone : (p : Content) (trees mid : List Proc) (t u : Proc) (f : EvalFault) → GivesLook p mid (Err f) u → steps_of p t ≡ steps_of p u → GivesMoves trees (Err f) (steps_of p t)
-looks_gone p trees mid t u fault.NoMemory h e = tt
-looks_gone p trees mid t u (fault.Value kind) h e = e ∙ h
-
-pub looks_passed : (p : Content) (trees mid : List Proc) (t : Proc) (r : Result (List StepTo) EvalFault) (f : EvalFault)
-    → IsErrAnd r (λ y. y ≡ f) → GivesLook p mid (Err f) t → GivesMoves trees r (steps_of p t)
-looks_passed p trees mid t (Ok x) f is h = absurd is
-looks_passed p trees mid t (Err y) f is h = rw is (looks_gone p trees mid t t f h refl)
-
-fault_gone : (A : Type 0) (mid : List Proc) (f : EvalFault) (o : Outcome (List Move)) → GivesMoves mid (Err f) o → FaultIs {A = A} (Err f) o
-fault_gone A mid fault.NoMemory o h = tt
-fault_gone A mid (fault.Value kind) o h = h
-
-pub fault_passed : {A : Type 0} (mid : List Proc) (r : Result A EvalFault) (f : EvalFault) (o : Outcome (List Move)) → IsErrAnd r (λ y. y ≡ f) → GivesMoves mid (Err f) o → FaultIs r o
-fault_passed {A = A} mid (Ok x) f o is h = absurd is
-fault_passed {A = A} mid (Err y) f o is h = rw is (fault_gone A mid f o h)
 
 -- the next of some steps, in a list that has grown
 module _ (old mid new : List Proc) (front : IsFront mid new) (below : List StepTo) (i : ℕ) (s : StepTo) (lt : i < length below) (is : s ≡ get_or below i s) where

@@ -1,3 +1,4 @@
+pub mod Alike
 pub mod Choosing
 pub mod Computing
 pub mod Doubles

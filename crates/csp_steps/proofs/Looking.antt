@@ -21,7 +21,6 @@ use Rattle.step_values.specs.Starts.{GivesStart}
 use Rattle.value_operators.specs.declared.fault.EvalFault.{EvalFault}
 use Rattle.value_operators.specs.declared.fault.EvalFault.TheVariants as fault
 use Rattle.csp_steps.specs.Computed.{around, around_layer, AreAround, AreOfChoice, AreThoseAt, GivesLook, GivesMoves, IsListing, IsLook}
-use Rattle.csp_steps.specs.Listed.{seen}
 use Rattle.csp_steps.specs.declared.look.Look.{Look}
 use Rattle.csp_steps.specs.declared.look.Look.TheVariants as look
 use Rattle.csp_steps.specs.declared.step.StepTo.{StepTo}
@@ -61,10 +60,8 @@ choice_below p trees ids slice t h e = ap (all_below (length trees)) e ∙ h.wit
 pub around_fault : (p : Content) (trees : List Proc) (id : ProcId) (t : Proc) (k : ValueKind) → AreAround p trees id t → steps_of p (tree_at trees id) ≡ Err k → steps_of p t ≡ Err k
 around_fault p trees id t k h e = h.same ∙ ap (λ o. and_then o (around p t)) e
 
-pub around_steps : (p : Content) (trees mid : List Proc) (id : ProcId) (t u : Proc) (below slice : List StepTo) → AreAround p trees id t → IsListing mid below (steps_of p (tree_at trees id)) → slice ≡ below → u ≡ t
-    → steps_of p t ≡ around p u (map (seen mid) slice)
-around_steps p trees mid id t u below slice h is e same =
-    h.same ∙ (ap (λ o. and_then o (around p t)) is.same ∙ ((λ i. around p (sym same i) (map (seen mid) (sym e i)))))
+pub around_is : (p : Content) (trees : List Proc) (id : ProcId) (t : Proc) (moves : List Move) → AreAround p trees id t → steps_of p (tree_at trees id) ≡ Ok moves → steps_of p t ≡ around p t moves
+around_is p trees id t moves is e = is.same ∙ ap (λ o. and_then o (around p t)) e
 
 -- an operator round the process of a node
 pub around_node : (p : Content) (trees new : List Proc) (r : Result (List StepTo) EvalFault) (n m : Node) (t : Proc) (moves : List Move) → tree_of trees n ≡ t → n ≡ m

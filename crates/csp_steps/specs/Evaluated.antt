@@ -1,5 +1,5 @@
 -- What is kept of evaluations: the events that hidings hide and what renamings rename, by their places in a pool, and the places of the bodies of
--- definitions.
+-- definitions; and the steps of choices.
 use Rattle.std.specs.Prelude.{◌≡◌, ◌⊎◌, ℕ, nat_eq, Option, Some, None, Result, Ok, Err, List, slice_get}
 use Rattle.std.specs.HashMap.{HashMap, get}
 use Rattle.process_steps.specs.Needed.{events_in}
@@ -15,6 +15,8 @@ use Rattle.csp_program.specs.declared.programs.Content.{Content}
 use Rattle.csp_program.specs.declared.programs.Def.{Def}
 use Rattle.step_values.specs.Images.{KeepsOutcome}
 use Rattle.step_values.specs.declared.images.Images.{Images}
+use Rattle.process_steps.specs.StepList.{steps_of}
+use Rattle.csp_steps.specs.Computed.{AreEach}
 use Rattle.csp_steps.specs.declared.evaluated.Evaluated.{Evaluated}
 use Rattle.csp_steps.specs.declared.step.StepTo.{StepTo}
 use Rattle.process_steps.specs.declared.label.Label.TheVariants.{Tick}
@@ -68,11 +70,16 @@ Renames p d images = KeepsOutcome images (renamed_by p d)
 abbrev pub AreBodies : {S : Type 0} → Content → List Proc → HashMap ℕ ℕ S → Type 0
 AreBodies p trees bodies = (d q : ℕ) → get nat_eq bodies d ≡ Some q → StandsAs trees q (λ t. body_of (slice_get p.defs d) ≡ Some t)
 
+-- at each place that has a number stands a process with these steps, each once
+abbrev pub AreStepped : {S : Type 0} → Content → List Proc → List (List StepTo) → HashMap ℕ ℕ S → Type 0
+AreStepped p trees lists numbers = (q k : ℕ) → get nat_eq numbers q ≡ Some k → HasValue lists k (λ steps. StandsAs trees q (λ t. AreEach trees steps (steps_of p t)))
+
 -- What is kept is true of the program and of the processes of the pool.
 pub record Fits (p : Content) (trees : List Proc) (kept : Evaluated) : Type 0 where
   pub hidings : AreNoted (Hides p) trees kept.sets kept.hidings
   pub renamings : AreNoted (Renames p) trees kept.images kept.renamings
   pub bodies : AreBodies p trees kept.bodies
+  pub choices : AreStepped p trees kept.lists kept.choices
 
 -- This holds of the value with the number k, and what is kept is true.
 pub record IsNumbered {T : Type 0} (p : Content) (trees : List Proc) (kept : Evaluated) (values : List T) (k : ℕ) (Holds : T → Type 0) : Type 0 where

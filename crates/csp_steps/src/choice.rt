@@ -112,23 +112,21 @@ fn in_choice(
     }
 }
 
-/// Steps, and after them what those of the operand at an index make of the choice.
-pub(crate) fn add_operand(
+/// What the steps of the operand at an index make of the choice.
+pub(crate) fn of_operand(
     alloc: Global,
     pool: &mut Pool,
     ids: &[ProcId],
     index: usize,
     below: &[StepTo],
-    steps: Items<StepTo>,
 ) -> Result<Items<StepTo>, NoMemory>
     requires operands { all_below (length pool.old) ids.now ≡ true }
     requires index { index < length ids.now }
     requires below { all_within (length pool.old) below.now ≡ true }
-    requires steps { all_within (length pool.old) steps ≡ true }
-    ensures steps { IfOk result (λ made. AreMoves pool.new made (map (seen pool.old) steps ++ map (λ m. lists.in_choice (map (tree_at pool.old) ids.now) index m.0 m.1) (map (seen pool.old) below.now))) }
+    ensures steps { IfOk result (λ made. AreMoves pool.new made (map (λ m. lists.in_choice (map (tree_at pool.old) ids.now) index m.0 m.1) (map (seen pool.old) below.now))) }
     ensures front { IsFront pool.old pool.new }
 {
-    let mut steps = steps;
+    let mut steps = Items::new(alloc);
     for step in below {
         steps.push_made(in_choice(alloc, pool, ids, index, *step))?;
     }

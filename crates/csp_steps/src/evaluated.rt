@@ -1,14 +1,16 @@
 //! What was evaluated for the processes of a pool, so that it is evaluated once.
 
-ghost use Rattle.std.specs.Prelude.{◌≡◌, ◌<◌, ℕ, [], ◌∷◌, ◌++◌, length, List, nat_eq, slice_get, IfOk, OnOk, OnErr, Ok, Some};
+ghost use Rattle.std.specs.Prelude.{◌≡◌, ◌<◌, ℕ, [], ◌∷◌, ◌++◌, length, List, nat_eq, slice_get, IfOk, IfSome, OnOk, OnErr, Ok, Some};
 ghost use Rattle.std.specs.HashMap.{get, IsUnchanged, Updates};
 ghost use Rattle.csp_program.specs.declared.processes.Proc.{Proc as Process};
 ghost use Rattle.csp_program.specs.declared.processes.Proc.TheViews.{out-Proc};
 ghost use Rattle.csp_program.specs.declared.programs.Content.{Content};
 ghost use Rattle.process_steps.specs.Needed as meant;
 ghost use Rattle.process_steps.specs.Renaming as renaming;
+ghost use Rattle.process_steps.specs.StepList.{steps_of};
 ghost use Rattle.term_pool.specs.Pooled.{IsFront};
 ghost use Rattle.term_pool.specs.Trees.{tree_at};
+ghost use Rattle.csp_steps.specs.Computed.{AreEach};
 ghost use Rattle.csp_steps.specs.Evaluated.{body_of, hidden_by, renamed_by, AreBodies, Fits, GivesImages, GivesNumber, HasMoreNumbers};
 ghost use Rattle.step_values.specs.Images.{KeepsOutcome};
 
@@ -23,8 +25,11 @@ use std::collections::HashMap;
 use step_values::{Images, events_in, images_by_event, renaming_in};
 use term_pool::{Pool, ProcId};
 
-/// What was evaluated for the processes of a pool: the events that hidings hide, what events become by renamings, and the places of the bodies of
-/// definitions.
+// So many steps of choices are kept at most, unless one choice has more.
+const MOST_KEPT: usize = 1_048_576;
+
+/// What was evaluated for the processes of a pool: the events that hidings hide, what events become by renamings, the places of the bodies of
+/// definitions; and the steps of choices.
 #[derive(Drop)]
 pub struct Evaluated {
     /// Sets of hidden events.
@@ -37,6 +42,12 @@ pub struct Evaluated {
     pub(crate) renamings: HashMap<u32, u32>,
     /// The place of its body, for the number of a definition.
     pub(crate) bodies: HashMap<u32, u32>,
+    /// Steps of choices.
+    pub(crate) lists: Items<Items<StepTo>>,
+    /// The number of its steps, for the place of a choice.
+    pub(crate) choices: HashMap<u32, u32>,
+    /// How many steps of choices are kept.
+    pub(crate) kept: usize,
 }
 
 impl Evaluated {
@@ -50,6 +61,9 @@ impl Evaluated {
             images: Items::new(alloc),
             renamings: HashMap::new(alloc),
             bodies: HashMap::new(alloc),
+            lists: Items::new(alloc),
+            choices: HashMap::new(alloc),
+            kept: 0,
         }
     }
 }
@@ -193,4 +207,51 @@ pub(crate) fn body_place(
     let id = pool.put(body)?;
     keep(bodies, number, id.0)?;
     Ok(id)
+}
+
+/// The steps of the choice at a place, where they are kept.
+pub(crate) fn known_steps(
+    alloc: Global,
+    evaluated: &Evaluated,
+    id: ProcId,
+) -> Result<Option<Items<StepTo>>, NoMemory>
+    ensures { (p : Content) → (trees : List Process) → Fits p trees evaluated.now → IfOk result (λ found. IfSome found (λ steps. AreEach trees steps (steps_of p (tree_at trees id)))) }
+{
+    let Some(number) = known(&evaluated.choices, id.0) else {
+        return Ok(None);
+    };
+    let Some(steps) = evaluated.lists.get(number as usize) else {
+        return Ok(None);
+    };
+    let copy = Items::from_slice(alloc, steps.as_slice())?;
+    Ok(Some(copy))
+}
+
+// Lets the steps of choices go where there would be too many with so many more.
+fn make_room(alloc: Global, evaluated: &mut Evaluated, more: usize)
+    ensures { (p : Content) → (trees : List Process) → Fits p trees evaluated.old → Fits p trees evaluated.new }
+{
+    let kept = evaluated.kept.saturating_add(more);
+    if kept <= MOST_KEPT {
+        evaluated.kept = kept;
+        return;
+    }
+    evaluated.lists = Items::new(alloc);
+    evaluated.choices = HashMap::new(alloc);
+    evaluated.kept = more;
+}
+
+/// Keeps the steps of the choice at a place.
+pub(crate) fn keep_steps(
+    alloc: Global,
+    evaluated: &mut Evaluated,
+    id: ProcId,
+    steps: &[StepTo],
+) -> Result<(), NoMemory>
+    ensures { (p : Content) → (trees : List Process) → Fits p trees evaluated.old → id.0 < length trees → AreEach trees steps.now (steps_of p (tree_at trees id)) → OnOk result (Fits p trees evaluated.new) }
+{
+    make_room(alloc, evaluated, steps.len());
+    let copy = Items::from_slice(alloc, steps)?;
+    put_value(&mut evaluated.lists, &mut evaluated.choices, id.0, copy)?;
+    Ok(())
 }

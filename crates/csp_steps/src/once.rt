@@ -1,20 +1,41 @@
 //! Each step once.
 
-ghost use Rattle.std.specs.Prelude.{◌≡◌, ◌↔◌, ℕ, slice_get, IfOk, Some};
-ghost use Rattle.csp_steps.specs.Once.{IsOnce};
+ghost use Rattle.std.specs.Prelude.{◌≡◌, ◌↔◌, ℕ, slice_get, IfOk, OnOk, Some};
+ghost use Rattle.csp_steps.specs.Once.{IsOnce, AreJoined};
 
 use crate::step::StepTo;
-use containers::Numbering;
+use containers::{Items, Numbering};
 use csp_base::NoMemory;
 use std::alloc::Global;
 
-/// The steps of the list, each once.
-pub(crate) fn once(alloc: Global, steps: &[StepTo]) -> Result<Vec<StepTo>, NoMemory>
-    ensures { IfOk result (λ made. IsOnce steps.now made.items) }
+/// Adds steps to others, each of which stands once.
+pub(crate) fn add_each(numbered: &mut Numbering<StepTo>, steps: &[StepTo]) -> Result<(), NoMemory>
+    ensures { OnOk result (AreJoined numbered.old steps.now numbered.new) }
 {
-    let mut numbered = Numbering::new(alloc);
     for step in steps {
         numbered.number(*step)?;
     }
-    Vec::from_slice(alloc, numbered.as_slice())
+    Ok(())
+}
+
+/// The steps that are numbered.
+pub(crate) fn numbered_steps(
+    alloc: Global,
+    numbered: &Numbering<StepTo>,
+) -> Result<Items<StepTo>, NoMemory>
+    ensures { IfOk result (λ made. IsOnce numbered.now made) }
+{
+    Items::from_slice(alloc, numbered.as_slice())
+}
+
+/// The steps of the list, each once.
+pub(crate) fn once(alloc: Global, steps: Items<StepTo>) -> Result<Items<StepTo>, NoMemory>
+    ensures { IfOk result (λ made. IsOnce steps made) }
+{
+    if steps.len() < 2 {
+        return Ok(steps);
+    }
+    let mut numbered = Numbering::new(alloc);
+    add_each(&mut numbered, steps.as_slice())?;
+    numbered_steps(alloc, &numbered)
 }

@@ -4,23 +4,23 @@ ghost use Rattle.std.specs.Prelude.{◌≡◌, ◌<◌, true, length, map, IfOk,
 ghost use Rattle.process_steps.specs.StepList.{steps_of, steps_of_choice};
 ghost use Rattle.term_pool.specs.Pooled.{IsFront};
 ghost use Rattle.term_pool.specs.Trees.{all_below, tree_at};
-ghost use Rattle.csp_steps.specs.Computed.{GivesMoves};
+ghost use Rattle.csp_steps.specs.Computed.{GivesEach};
 ghost use Rattle.csp_steps.specs.Evaluated.{Fits};
 ghost use Rattle.csp_steps.specs.Listed.{AreStepsOf, FaultIs};
 
 use crate::around::around;
-use crate::choice::add_operand;
-use crate::evaluated::Evaluated;
+use crate::choice::of_operand;
+use crate::evaluated::{Evaluated, keep_steps, known_steps};
 use crate::look::{Look, look_at};
-use crate::once::once;
+use crate::once::{add_each, numbered_steps, once};
 use crate::step::StepTo;
-use containers::Items;
+use containers::{Items, Numbering};
 use csp_program::Program;
 use csp_values::EvalFault;
 use std::alloc::Global;
 use term_pool::{Pool, ProcId};
 
-// The steps of the process at a place, with doubles.
+// The steps of the process at a place, each once.
 #[cycle(steps_at)]
 fn steps_at(
     alloc: Global,
@@ -31,23 +31,35 @@ fn steps_at(
 ) -> Result<Items<StepTo>, EvalFault>
     requires within { id.0 < length pool.old }
     requires fits { Fits program.now pool.old evaluated.old }
-    ensures steps { GivesMoves pool.new result (steps_of program.now (tree_at pool.old id)) }
+    ensures steps { GivesEach pool.new result (steps_of program.now (tree_at pool.old id)) }
     ensures front { IsFront pool.old pool.new }
     ensures fits { OnOk result (Fits program.now pool.new evaluated.new) }
 {
+    if let Some(steps) = known_steps(alloc, evaluated, id)? {
+        return Ok(steps);
+    }
     let found = look_at(alloc, program, pool, evaluated, id)?;
     match found {
-        Look::Steps(steps) => Ok(steps),
+        Look::Steps(steps) => {
+            let steps = once(alloc, steps)?;
+            Ok(steps)
+        }
         Look::Same(same) => steps_at(alloc, program, pool, evaluated, same),
-        Look::Choice(ids) => { steps_of_operands(alloc, program, pool, evaluated, ids.as_slice()) },
+        Look::Choice(ids) => {
+            let steps = steps_of_operands(alloc, program, pool, evaluated, ids.as_slice())?;
+            keep_steps(alloc, evaluated, id, steps.as_slice())?;
+            Ok(steps)
+        }
         Look::Around(below) => {
             let below = steps_at(alloc, program, pool, evaluated, below)?;
-            around(alloc, program, pool, evaluated, id, below.as_slice())
+            let steps = around(alloc, program, pool, evaluated, id, below.as_slice())?;
+            let steps = once(alloc, steps)?;
+            Ok(steps)
         }
     }
 }
 
-// The steps of the choice between the processes at the places.
+// The steps of the choice between the processes at the places, each once.
 #[cycle(steps_at)]
 fn steps_of_operands(
     alloc: Global,
@@ -58,15 +70,17 @@ fn steps_of_operands(
 ) -> Result<Items<StepTo>, EvalFault>
     requires within { all_below (length pool.old) ids.now ≡ true }
     requires fits { Fits program.now pool.old evaluated.old }
-    ensures steps { GivesMoves pool.new result (steps_of_choice program.now (steps_of program.now) (map (tree_at pool.old) ids.now)) }
+    ensures steps { GivesEach pool.new result (steps_of_choice program.now (steps_of program.now) (map (tree_at pool.old) ids.now)) }
     ensures front { IsFront pool.old pool.new }
     ensures fits { OnOk result (Fits program.now pool.new evaluated.new) }
 {
-    let mut steps = Items::new(alloc);
+    let mut numbered = Numbering::new(alloc);
     for (index, id) in ids.iter().enumerate() {
         let below = steps_at(alloc, program, pool, evaluated, *id)?;
-        steps = add_operand(alloc, pool, ids, index, below.as_slice(), steps)?;
+        let made = of_operand(alloc, pool, ids, index, below.as_slice())?;
+        add_each(&mut numbered, made.as_slice())?;
     }
+    let steps = numbered_steps(alloc, &numbered)?;
     Ok(steps)
 }
 
@@ -79,15 +93,13 @@ pub fn steps_in(
     pool: &mut Pool,
     evaluated: &mut Evaluated,
     id: ProcId,
-) -> Result<Vec<StepTo>, EvalFault>
+) -> Result<Items<StepTo>, EvalFault>
     requires within { id.0 < length pool.old }
     requires fits { Fits program.now pool.old evaluated.old }
-    ensures steps { IfOk result (λ steps. AreStepsOf program.now pool.new (tree_at pool.old id) steps.items) }
+    ensures steps { IfOk result (λ steps. AreStepsOf program.now pool.new (tree_at pool.old id) steps) }
     ensures front { IsFront pool.old pool.new }
     ensures fits { OnOk result (Fits program.now pool.new evaluated.new) }
     ensures fault { FaultIs result (steps_of program.now (tree_at pool.old id)) }
 {
-    let listed = steps_at(alloc, program, pool, evaluated, id)?;
-    let steps = once(alloc, listed.as_slice())?;
-    Ok(steps)
+    steps_at(alloc, program, pool, evaluated, id)
 }

@@ -167,7 +167,7 @@ fn follow(
 {
     let id = found.terms.as_slice()[at as usize];
     let steps = steps_in(alloc, task.program, &mut found.pool, evaluated, id)?;
-    take_all(task, found, at, &steps)
+    take_all(task, found, at, steps.as_slice())
 }
 
 // Takes the steps of the term with the number `at` into the table.

@@ -34,6 +34,6 @@ take_all-requires-clause-at c =
     let d = component c.args.task.now.alphabet.now c.args.task.now.start.now in
     let found = c.args.found.now in
     let id : ProcId = slice_index_or c.as_slice.result.now c.args.at (record { 0 = 0 }) in
-    subst (λ (steps : List StepTo). IsAt p d c.args.task.now.room (record found { pool = c.steps_in.new.pool }) c.args.at steps 0) (sym c.deref.ensures.value)
-    (begin_at p d c.args.task.now.room found (record found { pool = c.steps_in.new.pool }) c.args.at c.in_ok-steps.steps.items id c.requires.up_to c.in_ok-steps.ensures.front refl refl refl refl
+    subst (λ (steps : List StepTo). IsAt p d c.args.task.now.room (record found { pool = c.steps_in.new.pool }) c.args.at steps 0) (sym c.as_slice-2.ensures)
+    (begin_at p d c.args.task.now.room found (record found { pool = c.steps_in.new.pool }) c.args.at c.in_ok-steps.steps id c.requires.up_to c.in_ok-steps.ensures.front refl refl refl refl
     (there c.as_slice.result.now found.terms c.args.at c.as_slice.ensures.value c.requires.here) c.in_ok-steps.ensures.steps)
