@@ -16,7 +16,7 @@ use Rattle.csp_program.specs.declared.processes.Head.{Head}
 use Rattle.csp_program.specs.declared.processes.Head.TheVariants as head
 use Rattle.csp_program.specs.declared.processes.Proc.{Proc}
 use Rattle.csp_program.specs.declared.processes.Proc.TheVariants as proc
-use Rattle.substitution.specs.Bindings.{all_less, apart, expr_put, field_put, fields_put, gen_put, gens_put, head_put, pair_put, part_put, passed, past, past_all, proc_put}
+use Rattle.substitution.specs.Bindings.{all_less, apart, expr_put, fields_put, gen_put, gens_put, head_put, pair_put, part_put, passed, past, past_all, proc_put}
 use Rattle.substitution.specs.Parts.{gets}
 use Rattle.term_pool.proofs.SubstituteLemmas.{place_with, put_layer}
 use Rattle.term_pool.specs.Layers.{Layer}
