@@ -40,10 +40,10 @@ found_or : (t : Bool) (w : Value) (o o' : Outcome Value) → (t ≡ false → o 
 found_or true w o o' h = refl
 found_or false w o o' h = h refl
 
-binds_from : (x y : ℕ) (s : Expr) → binds x (generator.From y s) ≡ nat_eq y x
+pub binds_from : (x y : ℕ) (s : Expr) → binds x (generator.From y s) ≡ nat_eq y x
 binds_from x y s = ap (λ (g : Gen). layer_binds x (out-Gen g)) (sym (generator.rolls-From y s)) ∙ ap (λ (d : Gen-F Expr Gen EventPart). layer_binds x d) (out-roll-Gen (Gen-F.From y s))
 
-binds_none : (x : ℕ) (c : Expr) → binds x (generator.Cond c) ≡ false
+pub binds_none : (x : ℕ) (c : Expr) → binds x (generator.Cond c) ≡ false
 binds_none x c = ap (λ (g : Gen). layer_binds x (out-Gen g)) (sym (generator.rolls-Cond c)) ∙ ap (λ (d : Gen-F Expr Gen EventPart). layer_binds x d) (out-roll-Gen (Gen-F.Cond c))
 
 module _ (u : Uses) (channels : List Channel) (x : ℕ) (v : Value) where

@@ -1,93 +1,70 @@
-//! A value in place of a name in expressions.
+//! Values in place of names in expressions.
 
-ghost use Rattle.std.specs.Prelude.{◌≡◌, ◌||◌, false, nat_eq, if◌then◌else◌, IfOk};
-ghost use Rattle.csp_program.specs.Substitution.{any_binds, binds};
-ghost use Rattle.substitution.specs.Parts.{expr_after, exprs_after, gen_after, gens_after, part_after, parts_after};
+ghost use Rattle.std.specs.Prelude.{◌≡◌, map, IfOk, OnOk};
+ghost use Rattle.substitution.specs.Bindings.{expr_put, gen_put, gens_put, named, part_put, past, past_all, value_in};
 
+use crate::values::Values;
 use containers::{Boxed, Items};
 use csp_base::{BinOp, NoMemory, SetOp};
-use csp_program::copies::{copy_exprs, copy_gen, copy_parts, copy_value};
-use csp_program::{EventPart, Expr, Gen, Value};
+use csp_program::copies::copy_value;
+use csp_program::{EventPart, Expr, Gen};
 use std::alloc::Global;
 
 // The use of a bound name.
-fn replace_name(alloc: Global, other: u32, name: u32, value: &Value) -> Result<Expr, NoMemory>
-    ensures { IfOk result (λ made. made ≡ (if nat_eq other name then Expr.Lit value.now else Expr.Bound other)) }
+fn replace_name(alloc: Global, name: u32, values: &Values<'_>) -> Result<Expr, NoMemory>
+    ensures { IfOk result (λ made. made ≡ named name (value_in values.now name)) }
 {
-    if other == name {
-        return copy_value(alloc, value).map(Expr::Lit);
+    match values.find(name) {
+        Some(value) => copy_value(alloc, value).map(Expr::Lit),
+        None => Ok(Expr::Bound(name)),
     }
-    Ok(Expr::Bound(other))
 }
 
-// Whether the generator binds the name.
-fn binds_name(generator: &Gen, name: u32) -> bool
-    ensures { result ≡ binds name generator.now }
+/// Takes the value of the name away that the generator binds.
+pub(crate) fn pass(values: &mut Values<'_>, generator: &Gen) -> Result<(), NoMemory>
+    ensures { OnOk result (values.new ≡ past generator.now values.old) }
 {
     match generator {
-        Gen::From(other, _) => *other == name,
-        Gen::Cond(_) => false,
+        Gen::From(name, _) => values.hide(*name),
+        Gen::Cond(_) => Ok(()),
     }
 }
 
-// Whether the name is bound once this generator has been passed.
-fn still_bound(bound: bool, generator: &Gen, name: u32) -> bool
-    ensures { result ≡ (bound || binds name generator.now) }
-{
-    if bound {
-        return true;
-    }
-    binds_name(generator, name)
-}
-
-/// Whether one of the generators binds the name.
-pub fn any_binds_name(gens: &[Gen], name: u32) -> bool
-    ensures { result ≡ any_binds name gens.now }
-{
-    for generator in gens {
-        if binds_name(generator, name) {
-            return true;
-        }
-    }
-    false
-}
-
-#[tactic(auto, using(crate::proofs::ExprEquations::expr_forms))]
+#[tactic(auto, using(crate::proofs::ExprPut::expr_forms))]
 #[cycle(replace_expr)]
 pub(crate) fn replace_expr(
     alloc: Global,
     expr: &Expr,
-    name: u32,
-    value: &Value,
+    values: &Values<'_>,
 ) -> Result<Expr, NoMemory>
-    ensures { IfOk result (λ made. made ≡ expr_after name value.now expr.now) }
+    ensures { IfOk result (λ made. made ≡ expr_put values.now expr.now) }
 {
     match expr {
         Expr::Num(number) => Ok(Expr::Num(*number)),
         Expr::Truth(truth) => Ok(Expr::Truth(*truth)),
         Expr::Const(number) => Ok(Expr::Const(*number)),
-        Expr::Bound(other) => replace_name(alloc, *other, name, value),
+        Expr::Bound(other) => replace_name(alloc, *other, values),
         Expr::Lit(kept) => copy_value(alloc, kept).map(Expr::Lit),
-        Expr::Neg(a) => replace_boxed_expr(alloc, a, name, value).map(Expr::Neg),
-        Expr::Not(a) => replace_boxed_expr(alloc, a, name, value).map(Expr::Not),
-        Expr::Binary(op, a, b) => binary(alloc, *op, a, b, name, value),
-        Expr::If(c, a, b) => choice(alloc, c, a, b, name, value),
+        Expr::Neg(a) => replace_boxed_expr(alloc, a, values).map(Expr::Neg),
+        Expr::Not(a) => replace_boxed_expr(alloc, a, values).map(Expr::Not),
+        Expr::Binary(op, a, b) => binary(alloc, *op, a, b, values),
+        Expr::If(c, a, b) => choice(alloc, c, a, b, values),
         Expr::Call(def, args) => {
-            let args = replace_exprs(alloc, false, args.as_slice(), name, value);
+            let args = replace_exprs(alloc, args.as_slice(), values);
             args.map(|args| Expr::Call(*def, args))
         }
         Expr::SetName(def) => Ok(Expr::SetName(*def)),
         Expr::Event(channel, fields) => {
-            let fields = replace_exprs(alloc, false, fields.as_slice(), name, value);
+            let fields = replace_exprs(alloc, fields.as_slice(), values);
             fields.map(|fields| Expr::Event(*channel, fields))
         }
         Expr::Display(items) => {
-            replace_exprs(alloc, false, items.as_slice(), name, value).map(Expr::Display)
+            replace_exprs(alloc, items.as_slice(), values).map(Expr::Display)
         }
-        Expr::Range(a, b) => range(alloc, a, b, name, value),
-        Expr::Comp(items, gens) => comprehension(alloc, items, gens, name, value),
-        Expr::Product(parts, gens) => product(alloc, parts, gens, name, value),
-        Expr::SetOp(op, a, b) => set_operation(alloc, *op, a, b, name, value),
+        Expr::Range(a, b) => range(alloc, a, b, values),
+        Expr::Comp(items, gens) => comprehension(alloc, items, gens, values),
+        Expr::Product(parts, gens) => product(alloc, parts, gens, values),
+        Expr::SetOp(op, a, b) => set_operation(alloc, *op, a, b, values),
     }
 }
 
@@ -98,12 +75,11 @@ fn binary(
     op: BinOp,
     a: &Boxed<Expr>,
     b: &Boxed<Expr>,
-    name: u32,
-    value: &Value,
+    values: &Values<'_>,
 ) -> Result<Expr, NoMemory>
-    ensures { IfOk result (λ made. made ≡ Expr.Binary op (expr_after name value.now a.now) (expr_after name value.now b.now)) }
+    ensures { IfOk result (λ made. made ≡ Expr.Binary op (expr_put values.now a.now) (expr_put values.now b.now)) }
 {
-    replace_two(alloc, a, b, name, value).map(|(a, b)| Expr::Binary(op, a, b))
+    replace_two(alloc, a, b, values).map(|(a, b)| Expr::Binary(op, a, b))
 }
 
 // One of two expressions.
@@ -113,13 +89,12 @@ fn choice(
     c: &Boxed<Expr>,
     a: &Boxed<Expr>,
     b: &Boxed<Expr>,
-    name: u32,
-    value: &Value,
+    values: &Values<'_>,
 ) -> Result<Expr, NoMemory>
-    ensures { IfOk result (λ made. made ≡ Expr.If (expr_after name value.now c.now) (expr_after name value.now a.now) (expr_after name value.now b.now)) }
+    ensures { IfOk result (λ made. made ≡ Expr.If (expr_put values.now c.now) (expr_put values.now a.now) (expr_put values.now b.now)) }
 {
-    let c = replace_boxed_expr(alloc, c, name, value)?;
-    let (a, b) = replace_two(alloc, a, b, name, value)?;
+    let c = replace_boxed_expr(alloc, c, values)?;
+    let (a, b) = replace_two(alloc, a, b, values)?;
     Ok(Expr::If(c, a, b))
 }
 
@@ -129,12 +104,11 @@ fn range(
     alloc: Global,
     a: &Boxed<Expr>,
     b: &Boxed<Expr>,
-    name: u32,
-    value: &Value,
+    values: &Values<'_>,
 ) -> Result<Expr, NoMemory>
-    ensures { IfOk result (λ made. made ≡ Expr.Range (expr_after name value.now a.now) (expr_after name value.now b.now)) }
+    ensures { IfOk result (λ made. made ≡ Expr.Range (expr_put values.now a.now) (expr_put values.now b.now)) }
 {
-    replace_two(alloc, a, b, name, value).map(|(a, b)| Expr::Range(a, b))
+    replace_two(alloc, a, b, values).map(|(a, b)| Expr::Range(a, b))
 }
 
 // An operator between two sets.
@@ -144,12 +118,11 @@ fn set_operation(
     op: SetOp,
     a: &Boxed<Expr>,
     b: &Boxed<Expr>,
-    name: u32,
-    value: &Value,
+    values: &Values<'_>,
 ) -> Result<Expr, NoMemory>
-    ensures { IfOk result (λ made. made ≡ Expr.SetOp op (expr_after name value.now a.now) (expr_after name value.now b.now)) }
+    ensures { IfOk result (λ made. made ≡ Expr.SetOp op (expr_put values.now a.now) (expr_put values.now b.now)) }
 {
-    replace_two(alloc, a, b, name, value).map(|(a, b)| Expr::SetOp(op, a, b))
+    replace_two(alloc, a, b, values).map(|(a, b)| Expr::SetOp(op, a, b))
 }
 
 // The set of some expressions under generators.
@@ -158,14 +131,13 @@ fn comprehension(
     alloc: Global,
     items: &Items<Expr>,
     gens: &Items<Gen>,
-    name: u32,
-    value: &Value,
+    values: &Values<'_>,
 ) -> Result<Expr, NoMemory>
-    ensures { IfOk result (λ made. made ≡ Expr.Comp (exprs_after name value.now (any_binds name gens.now) items.now) (gens_after name value.now false gens.now)) }
+    ensures { IfOk result (λ made. made ≡ Expr.Comp (map (expr_put (past_all gens.now values.now)) items.now) (gens_put values.now gens.now)) }
 {
-    let bound = any_binds_name(gens.as_slice(), name);
-    let items = replace_exprs(alloc, bound, items.as_slice(), name, value)?;
-    let gens = replace_gens(alloc, gens.as_slice(), name, value)?;
+    let mut here = values.copy(alloc)?;
+    let gens = replace_gens(alloc, gens.as_slice(), &mut here)?;
+    let items = replace_exprs(alloc, items.as_slice(), &here)?;
     Ok(Expr::Comp(items, gens))
 }
 
@@ -175,14 +147,13 @@ fn product(
     alloc: Global,
     parts: &Items<EventPart>,
     gens: &Items<Gen>,
-    name: u32,
-    value: &Value,
+    values: &Values<'_>,
 ) -> Result<Expr, NoMemory>
-    ensures { IfOk result (λ made. made ≡ Expr.Product (parts_after name value.now (any_binds name gens.now) parts.now) (gens_after name value.now false gens.now)) }
+    ensures { IfOk result (λ made. made ≡ Expr.Product (map (part_put (past_all gens.now values.now)) parts.now) (gens_put values.now gens.now)) }
 {
-    let bound = any_binds_name(gens.as_slice(), name);
-    let parts = replace_parts(alloc, bound, parts.as_slice(), name, value)?;
-    let gens = replace_gens(alloc, gens.as_slice(), name, value)?;
+    let mut here = values.copy(alloc)?;
+    let gens = replace_gens(alloc, gens.as_slice(), &mut here)?;
+    let parts = replace_parts(alloc, parts.as_slice(), &here)?;
     Ok(Expr::Product(parts, gens))
 }
 
@@ -191,12 +162,11 @@ fn product(
 fn replace_boxed_expr(
     alloc: Global,
     expr: &Boxed<Expr>,
-    name: u32,
-    value: &Value,
+    values: &Values<'_>,
 ) -> Result<Boxed<Expr>, NoMemory>
-    ensures { IfOk result (λ made. made ≡ expr_after name value.now expr.now) }
+    ensures { IfOk result (λ made. made ≡ expr_put values.now expr.now) }
 {
-    replace_expr(alloc, expr.get(), name, value).and_then(|expr| Boxed::new(alloc, expr))
+    replace_expr(alloc, expr.get(), values).and_then(|expr| Boxed::new(alloc, expr))
 }
 
 // Two expressions on the heap.
@@ -205,120 +175,90 @@ fn replace_two(
     alloc: Global,
     a: &Boxed<Expr>,
     b: &Boxed<Expr>,
-    name: u32,
-    value: &Value,
+    values: &Values<'_>,
 ) -> Result<(Boxed<Expr>, Boxed<Expr>), NoMemory>
-    ensures { IfOk result (λ made. (made.0 ≡ expr_after name value.now a.now) × (made.1 ≡ expr_after name value.now b.now)) }
+    ensures { IfOk result (λ made. (made.0 ≡ expr_put values.now a.now) × (made.1 ≡ expr_put values.now b.now)) }
 {
-    let a = replace_boxed_expr(alloc, a, name, value)?;
-    let b = replace_boxed_expr(alloc, b, name, value)?;
+    let a = replace_boxed_expr(alloc, a, values)?;
+    let b = replace_boxed_expr(alloc, b, values)?;
     Ok((a, b))
 }
 
-/// Expressions, kept where the name is bound.
+/// Expressions.
 #[cycle(replace_expr)]
 pub(crate) fn replace_exprs(
     alloc: Global,
-    bound: bool,
     exprs: &[Expr],
-    name: u32,
-    value: &Value,
+    values: &Values<'_>,
 ) -> Result<Items<Expr>, NoMemory>
-    ensures { IfOk result (λ made. made ≡ exprs_after name value.now bound exprs.now) }
+    ensures { IfOk result (λ made. made ≡ map (expr_put values.now) exprs.now) }
 {
-    if bound {
-        return copy_exprs(alloc, exprs);
-    }
     let mut made = Items::new(alloc);
     for expr in exprs {
-        made.push_made(replace_expr(alloc, expr, name, value))?;
+        made.push_made(replace_expr(alloc, expr, values))?;
     }
     Ok(made)
 }
 
-#[tactic(auto, using(crate::proofs::ExprEquations::gen_forms))]
+#[tactic(auto, using(crate::proofs::ExprPut::gen_forms))]
 #[cycle(replace_expr)]
-fn replace_gen(alloc: Global, generator: &Gen, name: u32, value: &Value) -> Result<Gen, NoMemory>
-    ensures { IfOk result (λ made. made ≡ gen_after name value.now generator.now) }
+fn replace_gen(alloc: Global, generator: &Gen, values: &Values<'_>) -> Result<Gen, NoMemory>
+    ensures { IfOk result (λ made. made ≡ gen_put values.now generator.now) }
 {
     match generator {
-        Gen::From(other, set) => {
-            replace_expr(alloc, set, name, value).map(|set| Gen::From(*other, set))
+        Gen::From(name, set) => {
+            replace_expr(alloc, set, values).map(|set| Gen::From(*name, set))
         }
-        Gen::Cond(condition) => replace_expr(alloc, condition, name, value).map(Gen::Cond),
+        Gen::Cond(condition) => replace_expr(alloc, condition, values).map(Gen::Cond),
     }
 }
 
-// A generator, kept where the name is bound.
-#[cycle(replace_expr)]
-fn replace_gen_unless(
-    alloc: Global,
-    bound: bool,
-    generator: &Gen,
-    name: u32,
-    value: &Value,
-) -> Result<Gen, NoMemory>
-    ensures { IfOk result (λ made. made ≡ (if bound then generator.now else gen_after name value.now generator.now)) }
-{
-    if bound {
-        return copy_gen(alloc, generator);
-    }
-    replace_gen(alloc, generator, name, value)
-}
-
-/// Generators. Those after the one that binds the name are kept.
+/// Generators, each with the values of the names that those before it don't bind. The values that are left are those of the names that none of them binds.
 #[cycle(replace_expr)]
 pub(crate) fn replace_gens(
     alloc: Global,
     gens: &[Gen],
-    name: u32,
-    value: &Value,
+    values: &mut Values<'_>,
 ) -> Result<Items<Gen>, NoMemory>
-    ensures { IfOk result (λ made. made ≡ gens_after name value.now false gens.now) }
+    ensures made { IfOk result (λ made. made ≡ gens_put values.old gens.now) }
+    ensures left { OnOk result (values.new ≡ past_all gens.now values.old) }
 {
     let mut made = Items::new(alloc);
-    let mut bound = false;
     for generator in gens {
-        made.push_made(replace_gen_unless(alloc, bound, generator, name, value))?;
-        bound = still_bound(bound, generator, name);
+        made.push_made(replace_gen(alloc, generator, values))?;
+        pass(values, generator)?;
     }
     Ok(made)
 }
 
-#[tactic(auto, using(crate::proofs::ExprEquations::part_forms))]
+#[tactic(auto, using(crate::proofs::ExprPut::part_forms))]
 #[cycle(replace_expr)]
 pub(crate) fn replace_part(
     alloc: Global,
     part: &EventPart,
-    name: u32,
-    value: &Value,
+    values: &Values<'_>,
 ) -> Result<EventPart, NoMemory>
-    ensures { IfOk result (λ made. made ≡ part_after name value.now part.now) }
+    ensures { IfOk result (λ made. made ≡ part_put values.now part.now) }
 {
-    let fields = replace_exprs(alloc, false, part.fields.as_slice(), name, value)?;
+    let fields = replace_exprs(alloc, part.fields.as_slice(), values)?;
     Ok(EventPart {
         channel: part.channel,
         fields,
     })
 }
 
-// The fronts of events, kept where the name is bound.
+// The fronts of events.
 #[cycle(replace_expr)]
 fn replace_parts(
     alloc: Global,
-    bound: bool,
     parts: &[EventPart],
-    name: u32,
-    value: &Value,
+    values: &Values<'_>,
 ) -> Result<Items<EventPart>, NoMemory>
-    ensures { IfOk result (λ made. made ≡ parts_after name value.now bound parts.now) }
+    ensures { IfOk result (λ made. made ≡ map (part_put values.now) parts.now) }
 {
-    if bound {
-        return copy_parts(alloc, parts);
-    }
     let mut made = Items::new(alloc);
     for part in parts {
-        made.push_made(replace_part(alloc, part, name, value))?;
+        made.push_made(replace_part(alloc, part, values))?;
     }
     Ok(made)
 }

@@ -1,34 +1,37 @@
-//! A value in place of a name in what a prefix and a renaming hold.
+//! Values in place of names in what a prefix and a renaming hold.
 #![tactic(auto)]
 
-ghost use Rattle.std.specs.Prelude.{◌≡◌, ◌||◌, false, nat_eq, if◌then◌else◌, IfOk};
-ghost use Rattle.csp_program.specs.Substitution.{any_gets, head_with};
-ghost use Rattle.substitution.specs.Parts.{field_after, fields_after, gets, pair_after, pairs_after};
+ghost use Rattle.std.specs.Prelude.{◌≡◌, false, map, IfOk, OnOk};
+ghost use Rattle.csp_program.specs.Substitution.{any_gets};
+ghost use Rattle.substitution.specs.Bindings.{field_put, fields_put, gens_put, head_named, head_put, pair_put, passed, passed_all, past_all, value_in};
+ghost use Rattle.substitution.specs.Parts.{gets};
 
-use crate::expressions::{replace_expr, replace_part};
+use crate::expressions::{pass, replace_expr, replace_gens, replace_part};
+use crate::values::Values;
 use containers::Items;
 use csp_base::NoMemory;
-use csp_program::copies::{copy_field, copy_pairs, copy_value};
-use csp_program::{EventPart, Field, Head, Value};
+use csp_program::copies::copy_value;
+use csp_program::{EventPart, Field, Gen, Head};
 use std::alloc::Global;
 
-/// The head with the value in place of the bound name with this number, if it is that name.
-pub fn substitute_head(
-    alloc: Global,
-    head: &Head,
-    name: u32,
-    value: &Value,
-) -> Result<Head, NoMemory>
-    ensures { IfOk result (λ made. made ≡ head_with name value.now head.now) }
+// The head that is a bound name.
+fn replace_head_name(alloc: Global, name: u32, values: &Values<'_>) -> Result<Head, NoMemory>
+    ensures { IfOk result (λ made. made ≡ head_named name (value_in values.now name)) }
+{
+    match values.find(name) {
+        Some(value) => copy_value(alloc, value).map(Head::Put),
+        None => Ok(Head::Bound(name)),
+    }
+}
+
+/// The head with the value of the bound name in its place, if it is one that gets a value.
+#[tactic(auto, using(crate::proofs::ProcPut::head_forms))]
+pub fn put_head(alloc: Global, head: &Head, values: &Values<'_>) -> Result<Head, NoMemory>
+    ensures { IfOk result (λ made. made ≡ head_put values.now head.now) }
 {
     match head {
         Head::Channel(channel) => Ok(Head::Channel(*channel)),
-        Head::Bound(other) => {
-            if *other == name {
-                return copy_value(alloc, value).map(Head::Put);
-            }
-            Ok(Head::Bound(*other))
-        }
+        Head::Bound(name) => replace_head_name(alloc, *name, values),
         Head::Put(kept) => copy_value(alloc, kept).map(Head::Put),
     }
 }
@@ -43,16 +46,6 @@ fn gets_name(field: &Field, name: u32) -> bool
     }
 }
 
-// Whether the name is bound once this field has been passed.
-fn still_got(bound: bool, field: &Field, name: u32) -> bool
-    ensures { result ≡ (bound || gets name field.now) }
-{
-    if bound {
-        return true;
-    }
-    gets_name(field, name)
-}
-
 /// Whether one of the fields of a prefix binds the name.
 pub fn any_gets_name(fields: &[Field], name: u32) -> bool
     ensures { result ≡ any_gets name fields.now }
@@ -65,49 +58,74 @@ pub fn any_gets_name(fields: &[Field], name: u32) -> bool
     false
 }
 
-fn replace_field(alloc: Global, field: &Field, name: u32, value: &Value) -> Result<Field, NoMemory>
-    ensures { IfOk result (λ made. made ≡ field_after name value.now field.now) }
+// Whether the field binds one of the names.
+fn field_binds(field: &Field, values: &Values<'_>) -> bool
+    ensures { result ≡ false → passed field.now values.now ≡ values.now }
 {
     match field {
-        Field::Put(expr) => replace_expr(alloc, expr, name, value).map(Field::Put),
-        Field::Get(other, None) => Ok(Field::Get(*other, None)),
-        Field::Get(other, Some(set)) => replace_expr(alloc, set, name, value).map(|set| Field::Get(
-            *other,
-            Some(set),
-        )),
+        Field::Put(_) => false,
+        Field::Get(name, _) => values.has(*name),
     }
 }
 
-// A field, kept where the name is bound.
-fn replace_field_unless(
-    alloc: Global,
-    bound: bool,
-    field: &Field,
-    name: u32,
-    value: &Value,
-) -> Result<Field, NoMemory>
-    ensures { IfOk result (λ made. made ≡ (if bound then field.now else field_after name value.now field.now)) }
+/// Whether one of the fields binds one of the names.
+pub fn any_field_binds(fields: &[Field], values: &Values<'_>) -> bool
+    ensures { result ≡ false → passed_all fields.now values.now ≡ values.now }
 {
-    if bound {
-        return copy_field(alloc, field);
+    for field in fields {
+        if field_binds(field, values) {
+            return true;
+        }
     }
-    replace_field(alloc, field, name, value)
+    false
 }
 
-/// Fields. Those after the one that binds the name are kept.
+// Takes the value of the name away that the field binds.
+fn pass_field(values: &mut Values<'_>, field: &Field) -> Result<(), NoMemory>
+    ensures { OnOk result (values.new ≡ passed field.now values.old) }
+{
+    match field {
+        Field::Put(_) => Ok(()),
+        Field::Get(name, _) => values.hide(*name),
+    }
+}
+
+/// Takes the values of the names away that the fields bind.
+pub fn pass_fields(values: &mut Values<'_>, fields: &[Field]) -> Result<(), NoMemory>
+    ensures { OnOk result (values.new ≡ passed_all fields.now values.old) }
+{
+    for field in fields {
+        pass_field(values, field)?;
+    }
+    Ok(())
+}
+
+fn replace_field(alloc: Global, field: &Field, values: &Values<'_>) -> Result<Field, NoMemory>
+    ensures { IfOk result (λ made. made ≡ field_put values.now field.now) }
+{
+    match field {
+        Field::Put(expr) => replace_expr(alloc, expr, values).map(Field::Put),
+        Field::Get(name, None) => Ok(Field::Get(*name, None)),
+        Field::Get(name, Some(set)) => {
+            replace_expr(alloc, set, values).map(|set| Field::Get(*name, Some(set)))
+        }
+    }
+}
+
+/// The fields of a prefix, each with the values of the names that those before it don't bind. The values that are left are those of the names that none
+/// of them binds.
 pub(crate) fn replace_fields(
     alloc: Global,
     fields: &[Field],
-    name: u32,
-    value: &Value,
+    values: &mut Values<'_>,
 ) -> Result<Items<Field>, NoMemory>
-    ensures { IfOk result (λ made. made ≡ fields_after name value.now false fields.now) }
+    ensures made { IfOk result (λ made. made ≡ fields_put values.old fields.now) }
+    ensures left { OnOk result (values.new ≡ passed_all fields.now values.old) }
 {
     let mut made = Items::new(alloc);
-    let mut bound = false;
     for field in fields {
-        made.push_made(replace_field_unless(alloc, bound, field, name, value))?;
-        bound = still_got(bound, field, name);
+        made.push_made(replace_field(alloc, field, values))?;
+        pass_field(values, field)?;
     }
     Ok(made)
 }
@@ -115,32 +133,72 @@ pub(crate) fn replace_fields(
 fn replace_pair(
     alloc: Global,
     pair: &(EventPart, EventPart),
-    name: u32,
-    value: &Value,
+    values: &Values<'_>,
 ) -> Result<(EventPart, EventPart), NoMemory>
-    ensures { IfOk result (λ made. made ≡ pair_after name value.now pair.now) }
+    ensures { IfOk result (λ made. made ≡ pair_put values.now pair.now) }
 {
-    let old = replace_part(alloc, &pair.0, name, value)?;
-    let new = replace_part(alloc, &pair.1, name, value)?;
+    let old = replace_part(alloc, &pair.0, values)?;
+    let new = replace_part(alloc, &pair.1, values)?;
     Ok((old, new))
 }
 
-/// The pairs of a renaming, kept where the name is bound.
-pub(crate) fn replace_pairs(
+// The pairs of a renaming.
+fn replace_pairs(
     alloc: Global,
-    bound: bool,
     pairs: &[(EventPart, EventPart)],
-    name: u32,
-    value: &Value,
+    values: &Values<'_>,
 ) -> Result<Items<(EventPart, EventPart)>, NoMemory>
-    ensures { IfOk result (λ made. made ≡ pairs_after name value.now bound pairs.now) }
+    ensures { IfOk result (λ made. made ≡ map (pair_put values.now) pairs.now) }
 {
-    if bound {
-        return copy_pairs(alloc, pairs);
-    }
     let mut made = Items::new(alloc);
     for pair in pairs {
-        made.push_made(replace_pair(alloc, pair, name, value))?;
+        made.push_made(replace_pair(alloc, pair, values))?;
     }
     Ok(made)
+}
+
+// Takes the values of the names away that the generators bind.
+fn pass_gens(values: &mut Values<'_>, gens: &[Gen]) -> Result<(), NoMemory>
+    ensures { OnOk result (values.new ≡ past_all gens.now values.old) }
+{
+    for generator in gens {
+        pass(values, generator)?;
+    }
+    Ok(())
+}
+
+/// The fields of a prefix, each with the values of the names that those before it don't bind.
+pub fn put_fields(
+    alloc: Global,
+    fields: &[Field],
+    values: &Values<'_>,
+) -> Result<Items<Field>, NoMemory>
+    ensures { IfOk result (λ made. made ≡ fields_put values.now fields.now) }
+{
+    let mut left = values.copy(alloc)?;
+    let made = replace_fields(alloc, fields, &mut left)?;
+    Ok(made)
+}
+
+/// Generators, each with the values of the names that those before it don't bind.
+pub fn put_gens(alloc: Global, gens: &[Gen], values: &Values<'_>) -> Result<Items<Gen>, NoMemory>
+    ensures { IfOk result (λ made. made ≡ gens_put values.now gens.now) }
+{
+    let mut left = values.copy(alloc)?;
+    let made = replace_gens(alloc, gens, &mut left)?;
+    Ok(made)
+}
+
+/// The pairs of a renaming with these generators, with the values of the names that no generator binds.
+pub fn put_pairs(
+    alloc: Global,
+    pairs: &[(EventPart, EventPart)],
+    gens: &[Gen],
+    values: &Values<'_>,
+) -> Result<Items<(EventPart, EventPart)>, NoMemory>
+    ensures { IfOk result (λ made. made ≡ map (pair_put (past_all gens.now values.now)) pairs.now) }
+{
+    let mut left = values.copy(alloc)?;
+    pass_gens(&mut left, gens)?;
+    replace_pairs(alloc, pairs, &left)
 }

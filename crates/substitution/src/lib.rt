@@ -1,4 +1,4 @@
-//! A value in place of a bound name, in expressions, processes and networks.
+//! Values in place of bound names in expressions, processes and networks.
 #![tactic(auto)]
 
 pub mod calls;
@@ -7,10 +7,12 @@ mod fields;
 pub mod laws;
 mod networks;
 mod processes;
+mod values;
 
 pub use calls::{
-    substitute, substitute_expr, substitute_exprs, substitute_fields, substitute_gens,
-    substitute_net, substitute_pairs,
+    put_expr, put_exprs, put_net, substitute, substitute_expr, substitute_fields, substitute_net,
 };
-pub use expressions::any_binds_name;
-pub use fields::{any_gets_name, substitute_head};
+pub use fields::{
+    any_field_binds, any_gets_name, pass_fields, put_fields, put_gens, put_head, put_pairs,
+};
+pub use values::Values;

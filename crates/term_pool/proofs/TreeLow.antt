@@ -1,29 +1,29 @@
--- A process stays as it is where the name that gets a value is below the numbers of its own parts and of its places.
-use Rattle.std.proofs.Common.{◌≡◌, ◌⊎◌, inl, inr, ℕ, zero, suc, ◌<◌, ◌≤◌, Bool, true, false, cond, ◌||◌, nat_eq, nat_lt, Some, None, List, [], ◌∷◌, ◌++◌, map, length, get_or, slice_get, refl, ap, sym, ◌∙◌, subst, arith}
+-- A process stays as it is where the names that get values are below the numbers of its own parts and of its places.
+use Rattle.std.proofs.Common.{◌≡◌, ◌⊎◌, inl, inr, ℕ, zero, suc, ◌<◌, ◌≤◌, Bool, true, false, cond, ◌&&◌, nat_eq, nat_lt, Some, None, List, [], ◌∷◌, ◌++◌, map, length, get_or, slice_get, refl, ap, sym, ◌∙◌, subst, arith}
 use Rattle.std.specs.Prelude.{Result, Ok, Err, OnOk, OnErr}
-use Rattle.std.proofs.lemmas.Bool.{eqb-true, ltb-true}
+use Rattle.std.proofs.lemmas.Bool.{eqb-true, lt-ltb, ltb-true}
 use Rattle.std.proofs.lemmas.Option.{slice_get-get_or, get_or_from_slice_get}
 use Rattle.std.specs.Cmp.{first_so, second_so}
 use Rattle.csp_atoms.specs.declared.value.Value.{Value}
-use Rattle.csp_program.specs.Substitution.{any_binds, fields_with, head_with, proc_with, expr_with, gens_with, gen_twice, pair_twice, all_unless_bound}
+use Rattle.csp_program.specs.Substitution.{any_binds, any_gets, binds, head_with, proc_with}
+use Rattle.csp_program.specs.Value.{Env}
 use Rattle.csp_program.specs.declared.expressions.EventPart.{EventPart}
 use Rattle.csp_program.specs.declared.expressions.Expr.{Expr}
+use Rattle.csp_program.specs.declared.expressions.Gen.{Gen}
 use Rattle.csp_program.specs.declared.processes.Field.{Field}
 use Rattle.csp_program.specs.declared.processes.Field.TheVariants as field
 use Rattle.csp_program.specs.declared.processes.Head.{Head}
 use Rattle.csp_program.specs.declared.processes.Head.TheVariants as head
 use Rattle.csp_program.specs.declared.processes.Proc.{Proc}
 use Rattle.csp_program.specs.declared.processes.Proc.TheVariants as proc
-use Rattle.substitution.proofs.ListEquations as lists
-use Rattle.substitution.specs.Several.{with_values}
-use Rattle.substitution.specs.Parts.{expr_after, part_after, pair_after, pairs_after, fields_after}
-use Rattle.pool_parts.proofs.LowLemmas.{either_way, exprs_stay, gens_stay}
-use Rattle.term_pool.proofs.SubstituteLemmas as made
+use Rattle.substitution.specs.Bindings.{all_less, apart, expr_put, fields_put, gen_put, gens_put, head_put, pair_put, part_put, passed, past, past_all, proc_put}
+use Rattle.substitution.specs.Parts.{gets}
+use Rattle.term_pool.proofs.SubstituteLemmas.{place_with, put_layer}
 use Rattle.term_pool.specs.Layers.{Layer}
-use Rattle.pool_parts.specs.Low.{AllLow, ExprLow, FieldLow, HeadLow, PairLow, PartLow}
+use Rattle.pool_parts.specs.Low.{AllLow, ExprLow, FieldLow, GenLow, HeadLow, PairLow, PartLow}
 use Rattle.term_pool.specs.Low.{AreLow, IsLow, IsNoted, OwnLow, PlaceLow, ProcLow}
 use Rattle.term_pool.specs.Pooled.{IsFront}
-use Rattle.term_pool.specs.Substituted.{all_less, binds_below, own_with}
+use Rattle.term_pool.specs.Substituted.{all_put, left_below, own_put}
 use Rattle.term_pool.specs.Trees.{layer_ids, layer_tree, tree_at}
 use Rattle.pool_parts.specs.declared.measure.Measure.{Measure}
 use Rattle.pool_parts.specs.declared.place.ProcId.{ProcId}
@@ -31,108 +31,161 @@ use Rattle.term_pool.specs.declared.entry.Entry.{Entry}
 use Rattle.term_pool.specs.declared.own_parts.OwnParts.{OwnParts}
 use Rattle.csp_base.proofs.Lists.{push_cases}
 
-module _ (m : ℕ) (x : ℕ) (v : Value) (l : x < m) where
-  pairs_stay : (ps : List (EventPart × EventPart)) → AllLow PairLow m ps → (b : Bool) → pairs_after x v b ps ≡ ps
-  unfolding PartLow part_after
-  pairs_stay [] low b = refl
-  pairs_stay (p ∷ ps) low b = λ i. either_way b p (pair_after x v p) (λ j. (low.0.0 x v l j, low.0.1 x v l j)) i ∷ pairs_stay ps low.1 b i
+module _ (m : ℕ) where
+  first_less : (b : ℕ × Value) (env : Env) → all_less m (b ∷ env) ≡ true → b.0 < m
+  first_less b env h = ltb-true b.0 m (first_so (nat_lt b.0 m) (all_less m env) h)
 
-  fields_kept : (fs : List Field) → AllLow FieldLow m fs → (b : Bool) → fields_after x v b fs ≡ fs
-  unfolding ExprLow expr_after
-  fields_kept [] low b = refl
-  fields_kept (field.Put e ∷ fs) low b = λ i. either_way b (field.Put e) (field.Put (expr_after x v e)) (λ j. field.Put (low.0 x v l j)) i ∷ fields_kept fs low.1 (b || false) i
-  fields_kept (field.Get y (Some s) ∷ fs) low b = λ i. either_way b (field.Get y (Some s)) (field.Get y (Some (expr_after x v s))) (λ j. field.Get y (Some (low.0 x v l j))) i ∷ fields_kept fs low.1 (b || nat_eq y x) i
-  fields_kept (field.Get y None ∷ fs) low b = λ i. either_way b (field.Get y None) (field.Get y None) refl i ∷ fields_kept fs low.1 (b || nat_eq y x) i
+  rest_less : (b : ℕ × Value) (env : Env) → all_less m (b ∷ env) ≡ true → all_less m env ≡ true
+  rest_less b env h = second_so (nat_lt b.0 m) (all_less m env) h
 
-  fields_stay : (fs : List Field) → AllLow FieldLow m fs → fields_with x v fs ≡ fs
-  fields_stay fs low = lists.fields_with_from x v fs ∙ fields_kept fs low false
+  one_less : (x : ℕ) (v : Value) → x < m → all_less m ((x, v) ∷ []) ≡ true
+  one_less x v l = λ i. lt-ltb x m l i && true
 
-  other_name : (y : ℕ) → m ≤ y → (b : Bool) → nat_eq y x ≡ b → cond b (head.Put v) (head.Bound y) ≡ head.Bound y
-  other_name y h true e = let same = eqb-true y x e in absurd (omega (arith, same, l, h))
-  other_name y h false e = refl
+  -- what is left of names below the number is below it
+  less_step : (b : ℕ × Value) (env left : Env) (bound : Bool) → all_less m (b ∷ env) ≡ true → all_less m left ≡ true → all_less m (cond bound left (b ∷ left)) ≡ true
+  less_step b env left true h more = more
+  less_step b env left false h more = let here : nat_lt b.0 m ≡ true = first_so (nat_lt b.0 m) (all_less m env) h in (λ i. here i && all_less m left) ∙ more
 
-  head_stays : (h : Head) → HeadLow m h → head_with x v h ≡ h
-  head_stays (head.Channel c) low = refl
-  head_stays (head.Bound y) low = other_name y low (nat_eq y x) refl
-  head_stays (head.Put w) low = refl
+  less_apart : (p : ℕ → Bool) (env : Env) → all_less m env ≡ true → all_less m (apart p env) ≡ true
+  less_apart p [] h = refl
+  less_apart p (b ∷ env) h = less_step b env (apart p env) (p b.0) h (less_apart p env (rest_less b env h))
 
-  expr_stays : (e : Expr) → ExprLow m e → expr_with x v e ≡ e
-  unfolding ExprLow
-  expr_stays e low = low x v l
+  -- what reads no name so low stays as it is
+  expr_stays : (env : Env) → all_less m env ≡ true → (e : Expr) → ExprLow m e → expr_put env e ≡ e
+  unfolding expr_put ExprLow
+  expr_stays [] h e low = refl
+  expr_stays (b ∷ env) h e low = ap (expr_put env) (low b.0 b.1 (first_less b env h)) ∙ expr_stays env (rest_less b env h) e low
 
-  pub own_stays : (n : Layer) → OwnLow m n → own_with x v n ≡ n
-  own_stays Layer.Stop low = refl
-  own_stays (Layer.Prefix k fields p) low = λ i. Layer.Prefix (head_stays k low.0 i) (fields_stay fields low.1 i) p
-  own_stays (Layer.Guard c p) low = λ i. Layer.Guard (expr_stays c low i) p
-  own_stays (Layer.If c p q) low = λ i. Layer.If (expr_stays c low i) p q
-  own_stays (Layer.External ps) low = refl
-  own_stays (Layer.Internal ps) low = refl
-  own_stays (Layer.EachExternal y s p) low = λ i. Layer.EachExternal y (expr_stays s low i) p
-  own_stays (Layer.EachInternal y s p) low = λ i. Layer.EachInternal y (expr_stays s low i) p
-  own_stays (Layer.Hide p s) low = λ i. Layer.Hide p (expr_stays s low i)
-  own_stays (Layer.Rename p pairs gens) low =
-      let all : all_unless_bound (any_binds x gens) (map (pair_twice x v) pairs) ≡ pairs = lists.pairs_unless x v gens pairs ∙ pairs_stay pairs low.0 (any_binds x gens) in
-      let bound : gens_with x (map (gen_twice x v) gens) ≡ gens = lists.gens_changed x v gens ∙ gens_stay m gens low.1 x v l false in
-      λ i. Layer.Rename p (all i) (bound i)
-  own_stays (Layer.Call d args) low = ap (λ (es : List Expr). Layer.Call d es) (lists.args_changed x v args ∙ exprs_stay m args low x v l false)
-  own_stays Layer.Skip low = refl
-  own_stays (Layer.Seq p q) low = refl
-  own_stays Layer.Ended low = refl
+  gen_stays : (env : Env) → all_less m env ≡ true → (g : Gen) → GenLow m g → gen_put env g ≡ g
+  unfolding gen_put GenLow
+  gen_stays [] h g low = refl
+  gen_stays (b ∷ env) h g low = ap (gen_put env) (low b.0 b.1 (first_less b env h)) ∙ gen_stays env (rest_less b env h) g low
+
+  part_stays : (env : Env) → all_less m env ≡ true → (p : EventPart) → PartLow m p → part_put env p ≡ p
+  unfolding part_put PartLow
+  part_stays [] h p low = refl
+  part_stays (b ∷ env) h p low = ap (part_put env) (low b.0 b.1 (first_less b env h)) ∙ part_stays env (rest_less b env h) p low
+
+  pub proc_stays : (env : Env) → all_less m env ≡ true → (p : Proc) → ProcLow m p → proc_put env p ≡ p
+  unfolding proc_put
+  proc_stays [] h p low = refl
+  proc_stays (b ∷ env) h p low = ap (proc_put env) (low b.0 b.1 (first_less b env h)) ∙ proc_stays env (rest_less b env h) p low
+
+  other_name : (x : ℕ) (v : Value) → x < m → (y : ℕ) → m ≤ y → (b : Bool) → nat_eq y x ≡ b → cond b (head.Put v) (head.Bound y) ≡ head.Bound y
+  other_name x v l y h true e = let same = eqb-true y x e in absurd (omega (arith, same, l, h))
+  other_name x v l y h false e = refl
+
+  head_same : (x : ℕ) (v : Value) → x < m → (h : Head) → HeadLow m h → head_with x v h ≡ h
+  head_same x v l (head.Channel c) low = refl
+  head_same x v l (head.Bound y) low = other_name x v l y low (nat_eq y x) refl
+  head_same x v l (head.Put w) low = refl
+
+  head_stays : (env : Env) → all_less m env ≡ true → (h : Head) → HeadLow m h → head_put env h ≡ h
+  unfolding head_put
+  head_stays [] less h low = refl
+  head_stays (b ∷ env) less h low = ap (head_put env) (head_same b.0 b.1 (first_less b env less) h low) ∙ head_stays env (rest_less b env less) h low
+
+  exprs_stay : (env : Env) → all_less m env ≡ true → (es : List Expr) → AllLow ExprLow m es → map (expr_put env) es ≡ es
+  exprs_stay env h [] low = refl
+  exprs_stay env h (e ∷ es) low = λ i. expr_stays env h e low.0 i ∷ exprs_stay env h es low.1 i
+
+  pairs_stay : (env : Env) → all_less m env ≡ true → (ps : List (EventPart × EventPart)) → AllLow PairLow m ps → map (pair_put env) ps ≡ ps
+  pairs_stay env h [] low = refl
+  pairs_stay env h (p ∷ ps) low = λ i. (part_stays env h p.0 low.0.0 i, part_stays env h p.1 low.0.1 i) ∷ pairs_stay env h ps low.1 i
+
+  gens_stay : (env : Env) → all_less m env ≡ true → (gs : List Gen) → AllLow GenLow m gs → gens_put env gs ≡ gs
+  gens_stay env h [] low = refl
+  gens_stay env h (g ∷ gs) low = λ i. gen_stays env h g low.0 i ∷ gens_stay (past g env) (less_apart (λ x. binds x g) env h) gs low.1 i
+
+  fields_stay : (env : Env) → all_less m env ≡ true → (fs : List Field) → AllLow FieldLow m fs → fields_put env fs ≡ fs
+  fields_stay env h [] low = refl
+  fields_stay env h (field.Put e ∷ fs) low = λ i. field.Put (expr_stays env h e low.0 i) ∷ fields_stay (passed (field.Put e) env) (less_apart (λ x. gets x (field.Put e)) env h) fs low.1 i
+  fields_stay env h (field.Get y (Some s) ∷ fs) low =
+      λ i. field.Get y (Some (expr_stays env h s low.0 i)) ∷ fields_stay (passed (field.Get y (Some s)) env) (less_apart (λ x. gets x (field.Get y (Some s))) env h) fs low.1 i
+  fields_stay env h (field.Get y None ∷ fs) low = λ i. field.Get y None ∷ fields_stay (passed (field.Get y None) env) (less_apart (λ x. gets x (field.Get y None)) env h) fs low.1 i
+
+  pub own_stays : (env : Env) → all_less m env ≡ true → (n : Layer) → OwnLow m n → own_put env n ≡ n
+  own_stays env h Layer.Stop low = refl
+  own_stays env h (Layer.Prefix k fields p) low = λ i. Layer.Prefix (head_stays env h k low.0 i) (fields_stay env h fields low.1 i) p
+  own_stays env h (Layer.Guard c p) low = λ i. Layer.Guard (expr_stays env h c low i) p
+  own_stays env h (Layer.If c p q) low = λ i. Layer.If (expr_stays env h c low i) p q
+  own_stays env h (Layer.External ps) low = refl
+  own_stays env h (Layer.Internal ps) low = refl
+  own_stays env h (Layer.EachExternal y s p) low = λ i. Layer.EachExternal y (expr_stays env h s low i) p
+  own_stays env h (Layer.EachInternal y s p) low = λ i. Layer.EachInternal y (expr_stays env h s low i) p
+  own_stays env h (Layer.Hide p s) low = λ i. Layer.Hide p (expr_stays env h s low i)
+  own_stays env h (Layer.Rename p pairs gens) low =
+      λ i. Layer.Rename p (pairs_stay (past_all gens env) (less_apart (λ x. any_binds x gens) env h) pairs low.0 i) (gens_stay env h gens low.1 i)
+  own_stays env h (Layer.Call d args) low = ap (λ (es : List Expr). Layer.Call d es) (exprs_stay env h args low)
+  own_stays env h Layer.Skip low = refl
+  own_stays env h (Layer.Seq p q) low = refl
+  own_stays env h Layer.Ended low = refl
+
+  left_less : (env : Env) → all_less m env ≡ true → (n : Layer) → all_less m (left_below n env) ≡ true
+  left_less env h Layer.Stop = h
+  left_less env h (Layer.Prefix k fields p) = less_apart (λ x. any_gets x fields) env h
+  left_less env h (Layer.Guard c p) = h
+  left_less env h (Layer.If c p q) = h
+  left_less env h (Layer.External ps) = h
+  left_less env h (Layer.Internal ps) = h
+  left_less env h (Layer.EachExternal y s p) = less_apart (nat_eq y) env h
+  left_less env h (Layer.EachInternal y s p) = less_apart (nat_eq y) env h
+  left_less env h (Layer.Hide p s) = h
+  left_less env h (Layer.Rename p pairs gens) = h
+  left_less env h (Layer.Call d args) = h
+  left_less env h Layer.Skip = h
+  left_less env h (Layer.Seq p q) = h
+  left_less env h Layer.Ended = h
 
   module _ (trees : List Proc) (leasts : List ℕ) (are : AreLow trees leasts) where
-    found : (xs : List ℕ) (k : ℕ) → x < get_or xs k 0 → slice_get xs k ≡ Some (get_or xs k 0)
-    found [] k h = absurd (omega (arith, h))
-    found (y ∷ ys) zero h = refl
-    found (y ∷ ys) (suc k) h = found ys k h
+    found : (x : ℕ) (xs : List ℕ) (k : ℕ) → x < get_or xs k 0 → slice_get xs k ≡ Some (get_or xs k 0)
+    found x [] k h = absurd (omega (arith, h))
+    found x (y ∷ ys) zero h = refl
+    found x (y ∷ ys) (suc k) h = found x ys k h
 
-    pub place_stays : (id : ProcId) → PlaceLow leasts m id → proc_with x v (tree_at trees id) ≡ tree_at trees id
-    place_stays id low =
+    place_stays : (id : ProcId) → PlaceLow leasts m id → ProcLow m (tree_at trees id)
+    place_stays id low x v l =
         let less : x < get_or leasts id.0 0 = omega (arith, l, low) in
-        let is : IsLow trees id.0 (get_or leasts id.0 0) = are id.0 (get_or leasts id.0 0) (found leasts id.0 less) in
+        let is : IsLow trees id.0 (get_or leasts id.0 0) = are id.0 (get_or leasts id.0 0) (found x leasts id.0 less) in
         let same : tree_at trees id ≡ is.process = get_or_from_slice_get trees id.0 is.process proc.Stop is.at in
         ap (proc_with x v) same ∙ (is.low x v less ∙ sym same)
 
-    place_same : (id : ProcId) → PlaceLow leasts m id → tree_at (made.each_with x v trees) id ≡ tree_at trees id
-    place_same id low = sym (made.substitute_at x v trees id) ∙ place_stays id low
+    module _ (env : Env) (less : all_less m env ≡ true) where
+      place_same : (id : ProcId) → PlaceLow leasts m id → tree_at (all_put env trees) id ≡ tree_at trees id
+      place_same id low = sym (place_with env trees id) ∙ proc_stays env less (tree_at trees id) (place_stays id low)
 
-    places_same : (ids : List ProcId) → AllLow (PlaceLow leasts) m ids → map (tree_at (made.each_with x v trees)) ids ≡ map (tree_at trees) ids
-    places_same [] low = refl
-    places_same (id ∷ ids) low = λ i. place_same id low.0 i ∷ places_same ids low.1 i
+      places_same : (ids : List ProcId) → AllLow (PlaceLow leasts) m ids → map (tree_at (all_put env trees)) ids ≡ map (tree_at trees) ids
+      places_same [] low = refl
+      places_same (id ∷ ids) low = λ i. place_same id low.0 i ∷ places_same ids low.1 i
 
-    layer_same : (n : Layer) → AllLow (PlaceLow leasts) m (layer_ids n) → layer_tree (made.each_with x v trees) n ≡ layer_tree trees n
-    layer_same Layer.Stop low = refl
-    layer_same (Layer.Prefix k fields p) low = λ i. proc.Prefix k fields (place_same p low.0 i)
-    layer_same (Layer.Guard c p) low = λ i. proc.Guard c (place_same p low.0 i)
-    layer_same (Layer.If c p q) low = λ i. proc.If c (place_same p low.0 i) (place_same q low.1.0 i)
-    layer_same (Layer.External ps) low = λ i. proc.External (places_same ps low i)
-    layer_same (Layer.Internal ps) low = λ i. proc.Internal (places_same ps low i)
-    layer_same (Layer.EachExternal y s p) low = λ i. proc.EachExternal y s (place_same p low.0 i)
-    layer_same (Layer.EachInternal y s p) low = λ i. proc.EachInternal y s (place_same p low.0 i)
-    layer_same (Layer.Hide p s) low = λ i. proc.Hide (place_same p low.0 i) s
-    layer_same (Layer.Rename p pairs gens) low = λ i. proc.Rename (place_same p low.0 i) pairs gens
-    layer_same (Layer.Call d args) low = refl
-    layer_same Layer.Skip low = refl
-    layer_same (Layer.Seq p q) low = λ i. proc.Seq (place_same p low.0 i) (place_same q low.1.0 i)
-    layer_same Layer.Ended low = refl
+      layer_same : (n : Layer) → AllLow (PlaceLow leasts) m (layer_ids n) → layer_tree (all_put env trees) n ≡ layer_tree trees n
+      layer_same Layer.Stop low = refl
+      layer_same (Layer.Prefix k fields p) low = λ i. proc.Prefix k fields (place_same p low.0 i)
+      layer_same (Layer.Guard c p) low = λ i. proc.Guard c (place_same p low.0 i)
+      layer_same (Layer.If c p q) low = λ i. proc.If c (place_same p low.0 i) (place_same q low.1.0 i)
+      layer_same (Layer.External ps) low = λ i. proc.External (places_same ps low i)
+      layer_same (Layer.Internal ps) low = λ i. proc.Internal (places_same ps low i)
+      layer_same (Layer.EachExternal y s p) low = λ i. proc.EachExternal y s (place_same p low.0 i)
+      layer_same (Layer.EachInternal y s p) low = λ i. proc.EachInternal y s (place_same p low.0 i)
+      layer_same (Layer.Hide p s) low = λ i. proc.Hide (place_same p low.0 i) s
+      layer_same (Layer.Rename p pairs gens) low = λ i. proc.Rename (place_same p low.0 i) pairs gens
+      layer_same (Layer.Call d args) low = refl
+      layer_same Layer.Skip low = refl
+      layer_same (Layer.Seq p q) low = λ i. proc.Seq (place_same p low.0 i) (place_same q low.1.0 i)
+      layer_same Layer.Ended low = refl
 
-    layer_stays : (n : Layer) → OwnLow m n → AllLow (PlaceLow leasts) m (layer_ids n) → (b : Bool) → binds_below x n ≡ b → proc_with x v (layer_tree trees n) ≡ layer_tree trees n
-    layer_stays n own low true e = made.put_bound x v trees n e ∙ ap (layer_tree trees) (own_stays n own)
-    layer_stays n own low false e = made.put_open x v trees n e ∙ (ap (layer_tree (made.each_with x v trees)) (own_stays n own) ∙ layer_same n low)
+    layer_stays : (env : Env) → all_less m env ≡ true → (n : Layer) → OwnLow m n → AllLow (PlaceLow leasts) m (layer_ids n) → proc_put env (layer_tree trees n) ≡ layer_tree trees n
+    layer_stays env h n own low =
+        put_layer env trees n ∙ (ap (layer_tree (all_put (left_below n env) trees)) (own_stays env h n own) ∙ layer_same (left_below n env) (left_less env h n) n low)
 
 -- the process of a node reads no name below the number of the node
 pub tree_low : (trees : List Proc) (leasts : List ℕ) → AreLow trees leasts → (m : ℕ) (n : Layer) → OwnLow m n → AllLow (PlaceLow leasts) m (layer_ids n) → ProcLow m (layer_tree trees n)
-tree_low trees leasts are m n own low x v l = layer_stays m x v l trees leasts are n own low (binds_below x n) refl
+unfolding proc_put
+tree_low trees leasts are m n own low x v l = layer_stays m trees leasts are ((x, v) ∷ []) (one_less m x v l) n own low
 
 -- nor does the process at a place one below the number kept for it
 pub place_low : (trees : List Proc) (leasts : List ℕ) → AreLow trees leasts → (m : ℕ) (id : ProcId) → PlaceLow leasts m id → ProcLow m (tree_at trees id)
-place_low trees leasts are m id low x v l = place_stays m x v l trees leasts are id low
-
--- nor does any value of any of the names change it, where all of them are below the number
-pub low_values : (m : ℕ) (p : Proc) → ProcLow m p → (xs : List ℕ) → all_less m xs ≡ true → (vs : List Value) → with_values xs vs p ≡ p
-low_values m p low [] less vs = refl
-low_values m p low (x ∷ xs) less [] = refl
-low_values m p low (x ∷ xs) less (v ∷ vs) =
-    ap (with_values xs vs) (low x v (ltb-true x m (first_so (nat_lt x m) (all_less m xs) less))) ∙ low_values m p low xs (second_so (nat_lt x m) (all_less m xs) less) vs
+place_low trees leasts are m id low = place_stays m trees leasts are id low
 
 -- what is kept holds where the list grows
 pub low_front : (old new : List Proc) (leasts : List ℕ) → IsFront old new → AreLow old leasts → AreLow new leasts

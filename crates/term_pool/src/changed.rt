@@ -1,24 +1,20 @@
-//! Entries with other places, or with a value in their own parts.
+//! Entries with other places, or with values in their own parts.
 
 ghost use Rattle.std.specs.Prelude.{◌≡◌, ◌<◌, [], length, map, slice_get, IfOk, Some};
-ghost use Rattle.csp_program.specs.Substitution.{all_unless_bound, any_binds, expr_with, fields_with, gen_twice, gens_with, head_with, pair_twice};
+ghost use Rattle.substitution.specs.Bindings.{expr_put, fields_put, gens_put, head_put, pair_put, past_all};
 ghost use Rattle.term_pool.specs.Entries.{arguments_at, choice_at, entry_layer, expr_at, fields_at, gens_at, head_at, pairs_at, Fits, PartsStart, StandsAs};
 ghost use Rattle.term_pool.specs.First.{node_with_first, other_first};
 ghost use Rattle.term_pool.specs.Moved.{id_or, moved};
-ghost use Rattle.term_pool.specs.Substituted.{own_with, own_with_all};
+ghost use Rattle.term_pool.specs.Substituted.{own_put};
 
 use crate::entry::Entry;
 use crate::node_least::least_of_own;
 use crate::own_parts::{OwnParts, keep_choice};
 use containers::Items;
 use csp_base::NoMemory;
-use csp_program::Value;
 use pool_parts::ProcId;
 use std::alloc::Global;
-use substitution::{
-    substitute_expr, substitute_exprs, substitute_fields, substitute_gens, substitute_head,
-    substitute_pairs,
-};
+use substitution::{Values, put_expr, put_exprs, put_fields, put_gens, put_head, put_pairs};
 
 // The places with another first one.
 fn with_other_first(alloc: Global, ids: &[ProcId], below: ProcId) -> Result<Items<ProcId>, NoMemory>
@@ -115,129 +111,102 @@ fn with_places(
     }
 }
 
-// The number of an expression with the value put in.
-fn put_expr(
+// The number of an expression with the values put in.
+fn put_expr_in(
     parts: &mut OwnParts,
     alloc: Global,
     place: u32,
-    name: u32,
-    value: &Value,
+    values: &Values<'_>,
 ) -> Result<u32, NoMemory>
     requires within { place < length parts.old.exprs }
     ensures start { PartsStart parts.old parts.new }
-    ensures made { IfOk result (λ made. slice_get parts.new.exprs made ≡ Some (expr_with name value.now (expr_at parts.old place))) }
+    ensures made { IfOk result (λ made. slice_get parts.new.exprs made ≡ Some (expr_put values.now (expr_at parts.old place))) }
 {
-    let made = substitute_expr(alloc, parts.exprs.get(place), name, value);
+    let made = put_expr(alloc, parts.exprs.get(place), values);
     parts.exprs.keep_made(made)
 }
 
-// The number of arguments with the value put in.
+// The number of arguments with the values put in.
 fn put_arguments(
     parts: &mut OwnParts,
     alloc: Global,
     place: u32,
-    name: u32,
-    value: &Value,
+    values: &Values<'_>,
 ) -> Result<u32, NoMemory>
     requires within { place < length parts.old.arguments }
     ensures start { PartsStart parts.old parts.new }
-    ensures made { IfOk result (λ made. slice_get parts.new.arguments made ≡ Some (map (expr_with name value.now) (arguments_at parts.old place))) }
+    ensures made { IfOk result (λ made. slice_get parts.new.arguments made ≡ Some (map (expr_put values.now) (arguments_at parts.old place))) }
 {
-    let made = substitute_exprs(alloc, parts.arguments.get(place).as_slice(), name, value);
+    let made = put_exprs(alloc, parts.arguments.get(place).as_slice(), values);
     parts.arguments.keep_made(made)
 }
 
-/// The entry with the values in its own parts, one after another, and with these places in place of its own, as many.
+/// The entry with the values in its own parts, and with these places in place of its own, as many.
 pub(crate) fn made_entry(
     parts: &mut OwnParts,
     alloc: Global,
     entry: Entry,
     ids: &Items<ProcId>,
-    names: &[u32],
-    values: &[Value],
+    values: &Values<'_>,
 ) -> Result<Entry, NoMemory>
     requires fits { Fits parts.old entry }
     ensures start { PartsStart parts.old parts.new }
-    ensures entry { IfOk result (λ made. StandsAs parts.new made (moved (own_with_all names.now values.now (entry_layer parts.old entry)) ids.now)) }
+    ensures entry { IfOk result (λ made. StandsAs parts.new made (moved (own_put values.now (entry_layer parts.old entry)) ids.now)) }
 {
-    let entry = put_owns(parts, alloc, entry, names, values)?;
+    let entry = put_where_read(parts, alloc, entry, values)?;
     with_places(parts, alloc, entry, ids)
 }
 
-// The entry with the values in its own parts, one after another.
-fn put_owns(
-    parts: &mut OwnParts,
-    alloc: Global,
-    entry: Entry,
-    names: &[u32],
-    values: &[Value],
-) -> Result<Entry, NoMemory>
-    requires fits { Fits parts.old entry }
-    ensures start { PartsStart parts.old parts.new }
-    ensures entry { IfOk result (λ made. StandsAs parts.new made (own_with_all names.now values.now (entry_layer parts.old entry))) }
-{
-    let Some((name, other_names)) = names.split_first() else {
-        return Ok(entry);
-    };
-    let Some((value, other_values)) = values.split_first() else {
-        return Ok(entry);
-    };
-    let next = put_where_read(parts, alloc, entry, *name, value)?;
-    put_owns(parts, alloc, next, other_names, other_values)
-}
-
-// The entry with the value in its own parts. Where they read no name so low it is the same entry.
+// The entry with the values in its own parts. Where they read no name so low it is the same entry.
 fn put_where_read(
     parts: &mut OwnParts,
     alloc: Global,
     entry: Entry,
-    name: u32,
-    value: &Value,
+    values: &Values<'_>,
 ) -> Result<Entry, NoMemory>
     requires fits { Fits parts.old entry }
     ensures start { PartsStart parts.old parts.new }
-    ensures entry { IfOk result (λ made. StandsAs parts.new made (own_with name value.now (entry_layer parts.old entry))) }
+    ensures entry { IfOk result (λ made. StandsAs parts.new made (own_put values.now (entry_layer parts.old entry))) }
 {
-    if name < least_of_own(parts, entry) {
+    if values.are_below(least_of_own(parts, entry)) {
         return Ok(entry);
     }
-    put_own(parts, alloc, entry, name, value)
+    put_own(parts, alloc, entry, values)
 }
 
-// The entry with the value in its own parts, each of which is kept.
+// The entry with the values in its own parts, each of which is kept.
 fn put_own(
     parts: &mut OwnParts,
     alloc: Global,
     entry: Entry,
-    name: u32,
-    value: &Value,
+    values: &Values<'_>,
 ) -> Result<Entry, NoMemory>
     requires fits { Fits parts.old entry }
     ensures start { PartsStart parts.old parts.new }
-    ensures entry { IfOk result (λ made. StandsAs parts.new made (own_with name value.now (entry_layer parts.old entry))) }
+    ensures entry { IfOk result (λ made. StandsAs parts.new made (own_put values.now (entry_layer parts.old entry))) }
 {
     match entry {
         Entry::Prefix(head, fields, p) => {
-            let own = put_prefix(parts, alloc, head, fields, name, value);
+            let own = put_prefix(parts, alloc, head, fields, values);
             own.map(|(head, fields)| Entry::Prefix(head, fields, p))
         }
-        Entry::Guard(c, p) => { put_expr(parts, alloc, c, name, value).map(|c| Entry::Guard(c, p)) }
-        Entry::If(c, p, q) => { put_expr(parts, alloc, c, name, value).map(|c| Entry::If(c, p, q)) }
+        Entry::Guard(c, p) => { put_expr_in(parts, alloc, c, values).map(|c| Entry::Guard(c, p)) }
+        Entry::If(c, p, q) => { put_expr_in(parts, alloc, c, values).map(|c| Entry::If(c, p, q)) }
         Entry::EachExternal(slot, set, p) => {
-            put_expr(parts, alloc, set, name, value).map(|set| Entry::EachExternal(slot, set, p))
+            put_expr_in(parts, alloc, set, values).map(|set| Entry::EachExternal(slot, set, p))
         }
         Entry::EachInternal(slot, set, p) => {
-            put_expr(parts, alloc, set, name, value).map(|set| Entry::EachInternal(slot, set, p))
+            put_expr_in(parts, alloc, set, values).map(|set| Entry::EachInternal(slot, set, p))
         }
         Entry::Hide(p, set) => {
-            put_expr(parts, alloc, set, name, value).map(|set| Entry::Hide(p, set))
+            put_expr_in(parts, alloc, set, values).map(|set| Entry::Hide(p, set))
         }
         Entry::Rename(p, pairs, gens) => {
-            let own = put_renaming(parts, alloc, pairs, gens, name, value);
+            let own = put_renaming(parts, alloc, pairs, gens, values);
             own.map(|(pairs, gens)| Entry::Rename(p, pairs, gens))
         }
         Entry::Call(definition, args) => {
-            put_arguments(parts, alloc, args, name, value).map(|args| Entry::Call(definition, args))
+            put_arguments(parts, alloc, args, values).map(|args| Entry::Call(definition, args))
         }
         Entry::Stop => Ok(entry),
         Entry::External(_) => Ok(entry),
@@ -248,48 +217,46 @@ fn put_own(
     }
 }
 
-// The numbers of a head and of fields with the value put in.
+// The numbers of a head and of fields with the values put in.
 fn put_prefix(
     parts: &mut OwnParts,
     alloc: Global,
     head: u32,
     fields: u32,
-    name: u32,
-    value: &Value,
+    values: &Values<'_>,
 ) -> Result<(u32, u32), NoMemory>
     requires head { head < length parts.old.heads }
     requires fields { fields < length parts.old.fields }
     ensures start { PartsStart parts.old parts.new }
-    ensures heads { IfOk result (λ own. slice_get parts.new.heads own.0 ≡ Some (head_with name value.now (head_at parts.old head))) }
-    ensures fields { IfOk result (λ own. slice_get parts.new.fields own.1 ≡ Some (fields_with name value.now (fields_at parts.old fields))) }
+    ensures heads { IfOk result (λ own. slice_get parts.new.heads own.0 ≡ Some (head_put values.now (head_at parts.old head))) }
+    ensures fields { IfOk result (λ own. slice_get parts.new.fields own.1 ≡ Some (fields_put values.now (fields_at parts.old fields))) }
 {
-    let made = substitute_head(alloc, parts.heads.get(head), name, value);
+    let made = put_head(alloc, parts.heads.get(head), values);
     let head = parts.heads.keep_made(made)?;
-    let made = substitute_fields(alloc, parts.fields.get(fields).as_slice(), name, value);
+    let made = put_fields(alloc, parts.fields.get(fields).as_slice(), values);
     let fields = parts.fields.keep_made(made)?;
     Ok((head, fields))
 }
 
-// The numbers of pairs and of generators with the value put in.
+// The numbers of pairs and of generators with the values put in.
 fn put_renaming(
     parts: &mut OwnParts,
     alloc: Global,
     pairs: u32,
     gens: u32,
-    name: u32,
-    value: &Value,
+    values: &Values<'_>,
 ) -> Result<(u32, u32), NoMemory>
     requires pairs { pairs < length parts.old.pairs }
     requires gens { gens < length parts.old.gens }
     ensures start { PartsStart parts.old parts.new }
-    ensures pairs { IfOk result (λ own. slice_get parts.new.pairs own.0 ≡ Some (all_unless_bound (any_binds name (gens_at parts.old gens)) (map (pair_twice name value.now) (pairs_at parts.old pairs)))) }
-    ensures gens { IfOk result (λ own. slice_get parts.new.gens own.1 ≡ Some (gens_with name (map (gen_twice name value.now) (gens_at parts.old gens)))) }
+    ensures pairs { IfOk result (λ own. slice_get parts.new.pairs own.0 ≡ Some (map (pair_put (past_all (gens_at parts.old gens) values.now)) (pairs_at parts.old pairs))) }
+    ensures gens { IfOk result (λ own. slice_get parts.new.gens own.1 ≡ Some (gens_put values.now (gens_at parts.old gens))) }
 {
     let old_pairs = parts.pairs.get(pairs).as_slice();
     let old_gens = parts.gens.get(gens).as_slice();
-    let made = substitute_pairs(alloc, old_pairs, old_gens, name, value);
+    let made = put_pairs(alloc, old_pairs, old_gens, values);
     let pairs = parts.pairs.keep_made(made)?;
-    let made = substitute_gens(alloc, parts.gens.get(gens).as_slice(), name, value);
+    let made = put_gens(alloc, parts.gens.get(gens).as_slice(), values);
     let gens = parts.gens.keep_made(made)?;
     Ok((pairs, gens))
 }

@@ -1,7 +1,7 @@
 //! The nodes of a pool: entries, their own parts, and what each measures.
 
 ghost use Rattle.std.specs.Prelude.{◌≡◌, ◌<◌, ◌++◌, ◌∷◌, [], true, false, length, slice_get, IfOk, OnErr, OnOk, Some};
-ghost use Rattle.substitution.specs.Several.{with_values};
+ghost use Rattle.substitution.specs.Bindings.{proc_put};
 ghost use Rattle.term_pool.specs.Entries.{entry_layer, Fits};
 ghost use Rattle.term_pool.specs.First.{with_first};
 ghost use Rattle.term_pool.specs.Held.{processes, IsKept, Puts};
@@ -17,9 +17,9 @@ use crate::node_measures::of_entry;
 use crate::own_parts::{OwnParts, keep_node, parts_once};
 use containers::{Items, Numbering};
 use csp_base::NoMemory;
-use csp_program::Value;
 use pool_parts::{Measure, ProcId};
 use std::alloc::Global;
+use substitution::Values;
 
 /// The entry at a place.
 pub(crate) fn entry_at(
@@ -115,17 +115,16 @@ pub(crate) fn put_made_in(
     alloc: Global,
     id: ProcId,
     ids: &Items<ProcId>,
-    names: &[u32],
-    values: &[Value],
+    values: &Values<'_>,
 ) -> Result<ProcId, NoMemory>
     requires kept { IsKept parts.old entries.old measures.old }
     requires within { id.0 < length (processes parts.old entries.old) }
-    requires made { StandAt (processes parts.old entries.old) ids.now (pooled.parts (with_values names.now values.now (tree_at (processes parts.old entries.old) id))) }
+    requires made { StandAt (processes parts.old entries.old) ids.now (pooled.parts (proc_put values.now (tree_at (processes parts.old entries.old) id))) }
     ensures kept { IsKept parts.new entries.new measures.new }
-    ensures puts { Puts (processes parts.old entries.old) (processes parts.new entries.new) result (with_values names.now values.now (tree_at (processes parts.old entries.old) id)) }
+    ensures puts { Puts (processes parts.old entries.old) (processes parts.new entries.new) result (proc_put values.now (tree_at (processes parts.old entries.old) id)) }
 {
     let entry = entry_at(parts, entries, measures, id);
-    let made = made_entry(parts, alloc, entry, ids, names, values);
+    let made = made_entry(parts, alloc, entry, ids, values);
     parts_once(parts);
     let entry = made?;
     put_entry(parts, entries, measures, entry)

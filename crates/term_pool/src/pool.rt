@@ -5,6 +5,7 @@ ghost use Rattle.csp_program.specs.Depth.{proc_depth};
 ghost use Rattle.csp_program.specs.Size.{proc_size};
 ghost use Rattle.csp_program.specs.Substitution.{proc_with};
 ghost use Rattle.pool_parts.specs.Counting.{capped};
+ghost use Rattle.substitution.specs.Bindings.{proc_put};
 ghost use Rattle.substitution.specs.Several.{with_values};
 ghost use Rattle.term_pool.specs.First.{with_first};
 ghost use Rattle.term_pool.specs.Low.{ProcLow};
@@ -29,6 +30,7 @@ use std::alloc::Global;
 use std::collections::HashMap;
 use std::marker::Model;
 use std::slice::from_ref;
+use substitution::Values;
 
 /// A list of processes, fewer than 2^32 of them and all different. It keeps the allocator.
 ///
@@ -188,15 +190,14 @@ impl Pool {
         &mut self,
         id: ProcId,
         ids: &Items<ProcId>,
-        names: &[u32],
-        values: &[Value],
+        values: &Values<'_>,
     ) -> Result<ProcId, NoMemory>
         requires within { id.0 < length self.old }
-        requires made { StandAt self.old ids.now (parts (with_values names.now values.now (tree_at self.old id))) }
-        ensures process { IfOk result (λ made. slice_get self.new made.0 ≡ Some (with_values names.now values.now (tree_at self.old id))) }
+        requires made { StandAt self.old ids.now (parts (proc_put values.now (tree_at self.old id))) }
+        ensures process { IfOk result (λ made. slice_get self.new made.0 ≡ Some (proc_put values.now (tree_at self.old id))) }
         ensures front { IsFront self.old self.new }
-        ensures known { Has self.old (with_values names.now values.now (tree_at self.old id)) → self.new ≡ self.old }
-        ensures only { AddsOne self.old self.new (with_values names.now values.now (tree_at self.old id)) }
+        ensures known { Has self.old (proc_put values.now (tree_at self.old id)) → self.new ≡ self.old }
+        ensures only { AddsOne self.old self.new (proc_put values.now (tree_at self.old id)) }
     {
         let made = put_made_in(
             &mut self.parts,
@@ -205,7 +206,6 @@ impl Pool {
             self.alloc,
             id,
             ids,
-            names,
             values,
         );
         note_least(&self.parts, &self.entries, &self.measures, &mut self.leasts);
@@ -249,9 +249,18 @@ impl Pool {
         ensures known { Has self.old (with_values names.now values.now (tree_at self.old id)) → self.new ≡ self.old }
         ensures only { AddsParts self.old self.new (with_values names.now values.now (tree_at self.old id)) }
     {
+        let Some(_) = names.split_first() else {
+            return Ok(id);
+        };
         let alloc = self.alloc();
         let mut visited = HashMap::new(alloc);
-        substitute_at(self, &mut visited, alloc, &id, names, values)
+        substitute_at(
+            self,
+            &mut visited,
+            alloc,
+            &id,
+            &Values::new(alloc, names, values),
+        )
     }
 
     // The allocator.

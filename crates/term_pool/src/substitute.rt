@@ -1,22 +1,21 @@
 //! Putting values for names into a process of a pool.
 
-ghost use Rattle.std.specs.Prelude.{◌≡◌, ◌<◌, [], ◌∷◌, true, length, map, nat_eq, slice_get, IfOk, List, OnOk, OnErr, Some};
+ghost use Rattle.std.specs.Prelude.{◌≡◌, ◌<◌, [], ◌∷◌, true, length, map, nat_eq, slice_get, IfOk, OnOk, OnErr, Some};
 ghost use Rattle.std.specs.HashMap.{get, IsUnchanged, Updates};
-ghost use Rattle.csp_atoms.specs.declared.value.Value.{Value};
-ghost use Rattle.substitution.specs.Several.{with_values};
+ghost use Rattle.substitution.specs.Bindings.{proc_put};
 ghost use Rattle.term_pool.specs.Pooled.{parts};
 ghost use Rattle.term_pool.specs.Put.{Grows, StandAt};
-ghost use Rattle.term_pool.specs.Substituted.{all_less, all_with, AreMade, IsUnder};
+ghost use Rattle.term_pool.specs.Substituted.{all_put, AreMade, IsUnder};
 ghost use Rattle.term_pool.specs.Trees.{all_below, tree_at};
 
 use crate::pool::Pool;
 use crate::under::{Under, under_node};
 use containers::Items;
 use csp_base::NoMemory;
-use csp_program::Value;
 use pool_parts::ProcId;
 use std::alloc::Global;
 use std::collections::HashMap;
+use substitution::Values;
 
 // What a place became, if it has been visited.
 fn known(visited: &HashMap<u32, ProcId>, id: &ProcId) -> Option<ProcId>
@@ -36,48 +35,35 @@ fn remember(visited: &mut HashMap<u32, ProcId>, id: ProcId, made: ProcId) -> Res
     }
 }
 
-// Whether all of the names are below the number.
-fn are_below(names: &[u32], least: u32) -> bool
-    ensures { result ≡ all_less least names.now }
+// Whether the process at the place stays as it is, because it reads no name so low.
+fn stays(pool: &Pool, id: ProcId, values: &Values<'_>) -> bool
+    ensures { result ≡ true → proc_put values.now (tree_at pool.now id) ≡ tree_at pool.now id }
 {
-    for name in names {
-        if *name >= least {
-            return false;
-        }
-    }
-    true
+    values.are_below(pool.least(id))
 }
 
-// Whether the process at the place stays as it is, whatever values the names get, because it reads no name so low.
-fn stays(pool: &Pool, id: ProcId, names: &[u32]) -> bool
-    ensures { result ≡ true → (values : List Value) → with_values names.now values (tree_at pool.now id) ≡ tree_at pool.now id }
-{
-    are_below(names, pool.least(id))
-}
-
-/// The place of what the process at `id` is with the values in place of the names, one after another. `visited` says what became of the places seen so far.
+/// The place of what the process at `id` is with the values in place of the names. `visited` says what became of the places seen so far.
 #[cycle(substitute_at)]
 pub(crate) fn substitute_at(
     pool: &mut Pool,
     visited: &mut HashMap<u32, ProcId>,
     alloc: Global,
     id: &ProcId,
-    names: &[u32],
-    values: &[Value],
+    values: &Values<'_>,
 ) -> Result<ProcId, NoMemory>
     requires within { id.now.0 < length pool.old }
-    requires visited { AreMade names.now values.now pool.old visited.old }
-    ensures process { IfOk result (λ made. slice_get pool.new made.0 ≡ Some (with_values names.now values.now (tree_at pool.old id.now))) }
-    ensures grows { Grows pool.old pool.new (with_values names.now values.now (tree_at pool.old id.now) ∷ []) }
-    ensures visited { AreMade names.now values.now pool.new visited.new }
+    requires visited { AreMade values.now pool.old visited.old }
+    ensures process { IfOk result (λ made. slice_get pool.new made.0 ≡ Some (proc_put values.now (tree_at pool.old id.now))) }
+    ensures grows { Grows pool.old pool.new (proc_put values.now (tree_at pool.old id.now) ∷ []) }
+    ensures visited { AreMade values.now pool.new visited.new }
 {
-    if stays(pool, *id, names) {
+    if stays(pool, *id, values) {
         return Ok(*id);
     }
     if let Some(made) = known(visited, id) {
         return Ok(made);
     }
-    let made = put_layer(pool, visited, alloc, *id, names, values)?;
+    let made = put_layer(pool, visited, alloc, *id, values)?;
     remember(visited, *id, made)?;
     Ok(made)
 }
@@ -89,37 +75,35 @@ fn put_layer(
     visited: &mut HashMap<u32, ProcId>,
     alloc: Global,
     id: ProcId,
-    names: &[u32],
-    values: &[Value],
+    values: &Values<'_>,
 ) -> Result<ProcId, NoMemory>
     requires within { id.0 < length pool.old }
-    requires visited { AreMade names.now values.now pool.old visited.old }
-    ensures process { IfOk result (λ made. slice_get pool.new made.0 ≡ Some (with_values names.now values.now (tree_at pool.old id))) }
-    ensures grows { Grows pool.old pool.new (with_values names.now values.now (tree_at pool.old id) ∷ []) }
-    ensures visited { AreMade names.now values.now pool.new visited.new }
+    requires visited { AreMade values.now pool.old visited.old }
+    ensures process { IfOk result (λ made. slice_get pool.new made.0 ≡ Some (proc_put values.now (tree_at pool.old id))) }
+    ensures grows { Grows pool.old pool.new (proc_put values.now (tree_at pool.old id) ∷ []) }
+    ensures visited { AreMade values.now pool.new visited.new }
 {
-    let ids = put_below(pool, visited, alloc, id, names, values)?;
-    pool.put_made(id, &ids, names, values)
+    let ids = put_below(pool, visited, alloc, id, values)?;
+    pool.put_made(id, &ids, values)
 }
 
-// The places of what the sub-processes of the process at `id` become. Where it binds some of the names, the others alone get their values there.
+// The places of what the sub-processes of the process at `id` become. Where it binds some of the names, the values of the others alone are left there.
 #[cycle(substitute_at)]
 fn put_below(
     pool: &mut Pool,
     visited: &mut HashMap<u32, ProcId>,
     alloc: Global,
     id: ProcId,
-    names: &[u32],
-    values: &[Value],
+    values: &Values<'_>,
 ) -> Result<Items<ProcId>, NoMemory>
     requires within { id.0 < length pool.old }
-    requires visited { AreMade names.now values.now pool.old visited.old }
-    ensures places { IfOk result (λ made. StandAt pool.new made (parts (with_values names.now values.now (tree_at pool.old id)))) }
-    ensures grows { Grows pool.old pool.new (parts (with_values names.now values.now (tree_at pool.old id))) }
-    ensures visited { AreMade names.now values.now pool.new visited.new }
+    requires visited { AreMade values.now pool.old visited.old }
+    ensures places { IfOk result (λ made. StandAt pool.new made (parts (proc_put values.now (tree_at pool.old id)))) }
+    ensures grows { Grows pool.old pool.new (parts (proc_put values.now (tree_at pool.old id))) }
+    ensures visited { AreMade values.now pool.new visited.new }
 {
-    let under = under_node(pool, alloc, id, names, values)?;
-    put_under(pool, visited, alloc, id, &under, names, values)
+    let under = under_node(pool, alloc, id, values)?;
+    put_under(pool, visited, alloc, id, &under, values)
 }
 
 // The same, where this is what stands below the node.
@@ -129,25 +113,20 @@ fn put_under(
     visited: &mut HashMap<u32, ProcId>,
     alloc: Global,
     id: ProcId,
-    under: &Under,
-    names: &[u32],
-    values: &[Value],
+    under: &Under<'_>,
+    values: &Values<'_>,
 ) -> Result<Items<ProcId>, NoMemory>
     requires within { id.0 < length pool.old }
-    requires visited { AreMade names.now values.now pool.old visited.old }
-    requires under { IsUnder names.now values.now pool.old id under.now }
-    ensures places { IfOk result (λ made. StandAt pool.new made (parts (with_values names.now values.now (tree_at pool.old id)))) }
-    ensures grows { Grows pool.old pool.new (parts (with_values names.now values.now (tree_at pool.old id))) }
-    ensures visited { AreMade names.now values.now pool.new visited.new }
+    requires visited { AreMade values.now pool.old visited.old }
+    requires under { IsUnder values.now pool.old id under.now }
+    ensures places { IfOk result (λ made. StandAt pool.new made (parts (proc_put values.now (tree_at pool.old id)))) }
+    ensures grows { Grows pool.old pool.new (parts (proc_put values.now (tree_at pool.old id))) }
+    ensures visited { AreMade values.now pool.new visited.new }
 {
     let places = under.ids.as_slice();
-    match &under.unbound {
-        None => put_all(pool, visited, alloc, id, places, names, values),
-        Some(others) => {
-            let other_names = others.names.as_slice();
-            let other_values = others.values.as_slice();
-            put_anew(pool, alloc, id, places, other_names, other_values)
-        }
+    match &under.left {
+        None => put_all(pool, visited, alloc, id, places, values),
+        Some(left) => put_anew(pool, alloc, id, places, left),
     }
 }
 
@@ -158,16 +137,15 @@ fn put_anew(
     alloc: Global,
     id: ProcId,
     ids: &[ProcId],
-    names: &[u32],
-    values: &[Value],
+    values: &Values<'_>,
 ) -> Result<Items<ProcId>, NoMemory>
     requires within { id.0 < length pool.old }
     requires places { all_below id.0 ids.now ≡ true }
-    ensures places { IfOk result (λ made. StandAt pool.new made (map (tree_at (all_with names.now values.now pool.old)) ids.now)) }
-    ensures grows { Grows pool.old pool.new (map (tree_at (all_with names.now values.now pool.old)) ids.now) }
+    ensures places { IfOk result (λ made. StandAt pool.new made (map (tree_at (all_put values.now pool.old)) ids.now)) }
+    ensures grows { Grows pool.old pool.new (map (tree_at (all_put values.now pool.old)) ids.now) }
 {
     let mut visited = HashMap::new(alloc);
-    put_all(pool, &mut visited, alloc, id, ids, names, values)
+    put_all(pool, &mut visited, alloc, id, ids, values)
 }
 
 // What becomes of the places, which are smaller than `id`.
@@ -178,19 +156,18 @@ fn put_all(
     alloc: Global,
     id: ProcId,
     ids: &[ProcId],
-    names: &[u32],
-    values: &[Value],
+    values: &Values<'_>,
 ) -> Result<Items<ProcId>, NoMemory>
     requires within { id.0 < length pool.old }
     requires places { all_below id.0 ids.now ≡ true }
-    requires visited { AreMade names.now values.now pool.old visited.old }
-    ensures places { IfOk result (λ made. StandAt pool.new made (map (tree_at (all_with names.now values.now pool.old)) ids.now)) }
-    ensures grows { Grows pool.old pool.new (map (tree_at (all_with names.now values.now pool.old)) ids.now) }
-    ensures visited { AreMade names.now values.now pool.new visited.new }
+    requires visited { AreMade values.now pool.old visited.old }
+    ensures places { IfOk result (λ made. StandAt pool.new made (map (tree_at (all_put values.now pool.old)) ids.now)) }
+    ensures grows { Grows pool.old pool.new (map (tree_at (all_put values.now pool.old)) ids.now) }
+    ensures visited { AreMade values.now pool.new visited.new }
 {
     let mut made = Items::new(alloc);
     for p in ids {
-        made.push_made(substitute_at(pool, visited, alloc, p, names, values))?;
+        made.push_made(substitute_at(pool, visited, alloc, p, values))?;
     }
     Ok(made)
 }

@@ -1,36 +1,25 @@
-//! What stands below a node of a pool, and which names get their values there.
+//! What stands below a node of a pool, and which of the values are left there.
 
-ghost use Rattle.std.specs.Prelude.{◌≡◌, ◌<◌, ◌++◌, [], ◌∷◌, length, IfOk, OnOk};
+ghost use Rattle.std.specs.Prelude.{◌≡◌, ◌<◌, [], ◌∷◌, false, length, IfOk, OnOk};
 ghost use Rattle.term_pool.specs.Layers.{shown};
-ghost use Rattle.term_pool.specs.Substituted.{binds_any, binds_below, names_below, values_below, IsUnbound, IsUnder};
+ghost use Rattle.term_pool.specs.Substituted.{left_below, IsLeft, IsUnder};
 ghost use Rattle.term_pool.specs.Trees.{places};
 
 use crate::node::Node;
 use crate::pool::Pool;
 use containers::Items;
 use csp_base::NoMemory;
-use csp_program::Value;
-use csp_program::copies::copy_value;
 use pool_parts::ProcId;
 use std::alloc::Global;
-use substitution::any_gets_name;
-
-/// Names, and the values that they get.
-#[derive(Drop)]
-pub(crate) struct Unbound {
-    /// The names.
-    pub names: Items<u32>,
-    /// The value of each, in the same order.
-    pub values: Items<Value>,
-}
+use substitution::{Values, any_field_binds, pass_fields};
 
 /// What stands below a node.
 #[derive(Drop)]
-pub(crate) struct Under {
+pub(crate) struct Under<'a> {
     /// The places of the sub-processes.
     pub ids: Items<ProcId>,
-    /// The names that the node doesn't bind, with their values; `None` where it binds none of the names.
-    pub unbound: Option<Unbound>,
+    /// The values that are left there; `None` where the node binds none of the names.
+    pub left: Option<Values<'a>>,
 }
 
 fn one(alloc: Global, p: ProcId) -> Result<Items<ProcId>, NoMemory>
@@ -78,14 +67,14 @@ fn places_of(alloc: Global, node: Node<'_>) -> Result<Items<ProcId>, NoMemory>
     }
 }
 
-// Whether the node binds the name in its sub-processes.
-fn binds_name(node: Node<'_>, name: u32) -> bool
-    ensures { result ≡ binds_below name (shown node.entry) }
+// Whether the node binds one of the names in its sub-processes.
+fn binds_one(node: Node<'_>, values: &Values<'_>) -> bool
+    ensures { result ≡ false → left_below (shown node.entry) values.now ≡ values.now }
 {
     match node {
-        Node::Prefix(_, fields, _) => any_gets_name(fields.as_slice(), name),
-        Node::EachExternal(other, _, _) => other == name,
-        Node::EachInternal(other, _, _) => other == name,
+        Node::Prefix(_, fields, _) => any_field_binds(fields.as_slice(), values),
+        Node::EachExternal(name, _, _) => values.has(name),
+        Node::EachInternal(name, _, _) => values.has(name),
         Node::Stop => false,
         Node::Guard(_, _) => false,
         Node::If(_, _, _) => false,
@@ -100,92 +89,56 @@ fn binds_name(node: Node<'_>, name: u32) -> bool
     }
 }
 
-// Whether the node binds one of the names in its sub-processes.
-fn binds_one(node: Node<'_>, names: &[u32]) -> bool
-    ensures { result ≡ binds_any (shown node.entry) names.now }
+// Takes the values of the names away that the node binds in its sub-processes.
+fn pass_node(node: Node<'_>, values: &mut Values<'_>) -> Result<(), NoMemory>
+    ensures { OnOk result (values.new ≡ left_below (shown node.entry) values.old) }
 {
-    for name in names {
-        if binds_name(node, *name) {
-            return true;
-        }
+    match node {
+        Node::Prefix(_, fields, _) => pass_fields(values, fields.as_slice()),
+        Node::EachExternal(name, _, _) => values.hide(name),
+        Node::EachInternal(name, _, _) => values.hide(name),
+        Node::Stop => Ok(()),
+        Node::Guard(_, _) => Ok(()),
+        Node::If(_, _, _) => Ok(()),
+        Node::External(_) => Ok(()),
+        Node::Internal(_) => Ok(()),
+        Node::Hide(_, _) => Ok(()),
+        Node::Rename(_, _, _) => Ok(()),
+        Node::Call(_, _) => Ok(()),
+        Node::Skip => Ok(()),
+        Node::Seq(_, _) => Ok(()),
+        Node::Ended => Ok(()),
     }
-    false
 }
 
-// Adds the name and its value, unless the node binds the name in its sub-processes.
-fn add_unbound(
+// The values that are left below the node; `None` where it binds none of the names.
+fn left_at<'a>(
     alloc: Global,
     node: Node<'_>,
-    name: u32,
-    value: &Value,
-    unbound: &mut Unbound,
-) -> Result<(), NoMemory>
-    ensures names { OnOk result (unbound.new.names ≡ unbound.old.names ++ names_below (shown node.entry) (name ∷ []) (value.now ∷ [])) }
-    ensures values { OnOk result (unbound.new.values ≡ unbound.old.values ++ values_below (shown node.entry) (name ∷ []) (value.now ∷ [])) }
+    values: &Values<'a>,
+) -> Result<Option<Values<'a>>, NoMemory>
+    ensures { IfOk result (IsLeft (shown node.entry) values.now) }
 {
-    if binds_name(node, name) {
-        return Ok(());
-    }
-    unbound.names.push(name)?;
-    let value = copy_value(alloc, value)?;
-    unbound.values.push(value)?;
-    Ok(())
-}
-
-// Adds the names and their values, apart from the names that the node binds in its sub-processes.
-fn add_all_unbound(
-    alloc: Global,
-    node: Node<'_>,
-    names: &[u32],
-    values: &[Value],
-    unbound: &mut Unbound,
-) -> Result<(), NoMemory>
-    ensures names { OnOk result (unbound.new.names ≡ unbound.old.names ++ names_below (shown node.entry) names.now values.now) }
-    ensures values { OnOk result (unbound.new.values ≡ unbound.old.values ++ values_below (shown node.entry) names.now values.now) }
-{
-    let Some((name, other_names)) = names.split_first() else {
-        return Ok(());
-    };
-    let Some((value, other_values)) = values.split_first() else {
-        return Ok(());
-    };
-    add_unbound(alloc, node, *name, value, unbound)?;
-    add_all_unbound(alloc, node, other_names, other_values, unbound)
-}
-
-// The names that the node doesn't bind in its sub-processes, with their values; `None` where it binds none.
-fn unbound_below(
-    alloc: Global,
-    node: Node<'_>,
-    names: &[u32],
-    values: &[Value],
-) -> Result<Option<Unbound>, NoMemory>
-    ensures { IfOk result (IsUnbound names.now values.now (shown node.entry)) }
-{
-    if !binds_one(node, names) {
+    if !binds_one(node, values) {
         return Ok(None);
     }
-    let mut unbound = Unbound {
-        names: Items::new(alloc),
-        values: Items::new(alloc),
-    };
-    add_all_unbound(alloc, node, names, values, &mut unbound)?;
-    Ok(Some(unbound))
+    let mut left = values.copy(alloc)?;
+    pass_node(node, &mut left)?;
+    Ok(Some(left))
 }
 
-/// What stands below the node at a place, and which of the names get their values there.
-pub(crate) fn under_node(
+/// What stands below the node at a place, and which of the values are left there.
+pub(crate) fn under_node<'a>(
     pool: &Pool,
     alloc: Global,
     id: ProcId,
-    names: &[u32],
-    values: &[Value],
-) -> Result<Under, NoMemory>
+    values: &Values<'a>,
+) -> Result<Under<'a>, NoMemory>
     requires { id.0 < length pool.now }
-    ensures { IfOk result (IsUnder names.now values.now pool.now id) }
+    ensures { IfOk result (IsUnder values.now pool.now id) }
 {
     let node = pool.node(id);
     let ids = places_of(alloc, node)?;
-    let unbound = unbound_below(alloc, node, names, values)?;
-    Ok(Under { ids, unbound })
+    let left = left_at(alloc, node, values)?;
+    Ok(Under { ids, left })
 }

@@ -1,21 +1,21 @@
-use Rattle.std.proofs.Common.{◌≡◌, ◌+◌, ◌*◌, ◌++◌, drop, false, max}
+use Rattle.std.proofs.Common.{◌≡◌, ◌+◌, ◌*◌, ◌++◌, drop, map, max}
 use denote.Param.Weighed as weighed
 use Rattle.csp_program.proofs.expressions.Expr.TheLaws.{the_size}
 use Rattle.csp_program.proofs.expressions.Gen.TheLaws as generator
-use Rattle.substitution.specs.Parts.{exprs_after, gens_after, parts_after}
+use Rattle.substitution.specs.Bindings.{expr_put, gens_put, part_put, past_all}
 use Rattle.substitution.proofs.expressions.+replace_expr.Given as goal
 
 -- what is made so far, followed by what is made of the rest, is what is made of all
 abbrev pub invariant-replace_exprs-loop-expr : goal.invariant-replace_exprs-loop-expr
-invariant-replace_exprs-loop-expr l = l.made ++ exprs_after l.name l.value false (drop l.expr-index l.exprs) ≡ exprs_after l.name l.value false l.exprs
+invariant-replace_exprs-loop-expr l = l.made ++ map (expr_put l.values) (drop l.expr-index l.exprs) ≡ map (expr_put l.values) l.exprs
 
--- what is made so far, followed by what is made of the rest, is what is made of all
+-- the same; and what the rest leaves of the values is what all leave
 abbrev pub invariant-replace_gens-loop-generator : goal.invariant-replace_gens-loop-generator
-invariant-replace_gens-loop-generator l = l.made ++ gens_after l.name l.value l.bound (drop l.generator-index l.gens) ≡ gens_after l.name l.value false l.gens
+invariant-replace_gens-loop-generator l = (l.made ++ gens_put l.values (drop l.generator-index l.gens) ≡ gens_put l.fn.values l.gens) × (past_all (drop l.generator-index l.gens) l.values ≡ past_all l.gens l.fn.values)
 
 -- what is made so far, followed by what is made of the rest, is what is made of all
 abbrev pub invariant-replace_parts-loop-part : goal.invariant-replace_parts-loop-part
-invariant-replace_parts-loop-part l = l.made ++ parts_after l.name l.value false (drop l.part-index l.parts) ≡ parts_after l.name l.value false l.parts
+invariant-replace_parts-loop-part l = l.made ++ map (part_put l.values) (drop l.part-index l.parts) ≡ map (part_put l.values) l.parts
 
 -- how deep what is left is, four for each level: what may be kept comes above what stands in it, a list above that, and a form above those
 abbrev pub decreases-replace_expr : goal.decreases-replace_expr
@@ -29,9 +29,6 @@ decreases-replace_part l = 4 * goal.size-replace_part l
 
 abbrev pub decreases-replace_boxed_expr : goal.decreases-replace_boxed_expr
 decreases-replace_boxed_expr l = 4 * the_size l.expr.now + 1
-
-abbrev pub decreases-replace_gen_unless : goal.decreases-replace_gen_unless
-decreases-replace_gen_unless l = 4 * goal.size-replace_gen_unless l + 1
 
 abbrev pub decreases-replace_exprs : goal.decreases-replace_exprs
 decreases-replace_exprs l = 4 * goal.size-replace_exprs l + 2

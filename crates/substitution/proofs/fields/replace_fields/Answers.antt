@@ -1,14 +1,22 @@
-use Rattle.std.proofs.Common.{◌+◌, ◌∷◌, Bool, cond, drop, false, ap, sym, arith}
-use Rattle.substitution.specs.Parts.{field_after, fields_after}
+use Rattle.std.proofs.Common.{◌+◌, ◌∷◌, drop, ap, sym, ◌∙◌, arith}
+use Rattle.csp_program.specs.Value.{Env}
+use Rattle.substitution.specs.Bindings.{field_put, fields_put, passed_all}
 use Rattle.substitution.proofs.ListEquations.{next_made}
+use Rattle.substitution.proofs.ValuesFound.{left_last, next_left, nothing_bound, passed_more}
 use Rattle.substitution.proofs.fields.replace_fields.Goals as goal
 use Rattle.csp_base.proofs.Results.{pushed}
 
 pub loop-field-preserved : goal.loop-field-preserved
 loop-field-preserved c =
-    let kept = cond c.loop-field.bound c.field-item.result (field_after c.args.name c.args.value.now c.field-item.result) in
-    next_made (fields_after c.args.name c.args.value.now c.loop-field.bound) c.args.fields.now c.loop-field.field-index c.field-item.result kept
-    (fields_after c.args.name c.args.value.now c.still_got-bound.result (drop (c.loop-field.field-index + 1) c.args.fields.now)) c.loop-field.made c.push_made.new.self (fields_after c.args.name c.args.value.now false c.args.fields.now)
-    (omega arith) c.field-item.is
-    (ap (λ (b : Bool). kept ∷ fields_after c.args.name c.args.value.now b (drop (c.loop-field.field-index + 1) c.args.fields.now)) (sym c.still_got-bound.ensures))
-    c.loop-field.invariant (pushed _ _ _ _ c.replace_field_unless.ensures c.in_ok-push_made.ensures.ok)
+    let rest = drop (c.loop-field.field-index + 1) c.args.fields.now in (
+      next_made (fields_put c.loop-field.values) c.args.fields.now c.loop-field.field-index c.field-item.result (field_put c.loop-field.values c.field-item.result)
+          (fields_put c.pass_field.new.values rest) c.loop-field.made c.push_made.new.self (fields_put c.args.values.now c.args.fields.now) (omega arith) c.field-item.is
+          (ap (λ (env : Env). field_put c.loop-field.values c.field-item.result ∷ fields_put env rest) (sym c.in_ok-pass_field.ensures)) c.loop-field.invariant.0
+          (pushed _ _ _ _ c.replace_field.ensures c.in_ok-push_made.ensures.ok),
+      next_left passed_all c.args.fields.now c.loop-field.field-index c.field-item.result c.loop-field.values c.pass_field.new.values (passed_all c.args.fields.now c.args.values.now) (omega arith) c.field-item.is
+          (ap (passed_all rest) c.in_ok-pass_field.ensures ∙ passed_more c.field-item.result rest c.loop-field.values) c.loop-field.invariant.1,
+    )
+
+pub returns-clause-left : goal.returns-clause-left
+returns-clause-left c =
+    left_last passed_all c.args.fields.now c.loop-field.field-index c.loop-field.values (passed_all c.args.fields.now c.args.values.now) c.loop-field-test.false (nothing_bound c.loop-field.values) c.loop-field.invariant.1

@@ -1,11 +1,11 @@
-use Rattle.std.proofs.Common.{◌≡◌, ◌+◌, ◌*◌, ◌++◌, drop, max}
+use Rattle.std.proofs.Common.{◌≡◌, ◌+◌, ◌*◌, ◌++◌, drop, map, max}
 use Rattle.csp_program.proofs.processes.Proc.TheLaws.{the_size}
-use Rattle.substitution.specs.Parts.{procs_after}
+use Rattle.substitution.specs.Bindings.{proc_put}
 use Rattle.substitution.proofs.processes.+replace_proc.Given as goal
 
 -- what is made so far, followed by what is made of the rest, is what is made of all
 abbrev pub invariant-replace_procs-loop-proc : goal.invariant-replace_procs-loop-proc
-invariant-replace_procs-loop-proc l = l.made ++ procs_after l.name l.value (drop l.proc-index l.procs) ≡ procs_after l.name l.value l.procs
+invariant-replace_procs-loop-proc l = l.made ++ map (proc_put l.values) (drop l.proc-index l.procs) ≡ map (proc_put l.values) l.procs
 
 -- how deep what is left is, four for each level: a list or a process on the heap comes above what stands in it, two of them above one, and a form above those
 abbrev pub decreases-replace_proc : goal.decreases-replace_proc

@@ -9,19 +9,19 @@ use Rattle.term_pool.proofs.changed.put_own.Goals as goal
 use Rattle.csp_base.proofs.Results.{if_map, if_map_both}
 
 pub returns-in-Guard-clause-entry : goal.returns-in-Guard-clause-entry
-returns-in-Guard-clause-entry c = rw c.in-Guard.is (if_map c.put_expr.result _ c.map-in-Guard.result (λ k. entry.Guard k c.in-Guard.p) _ _ c.map-in-Guard.ensures.cases (λ x y r. search rules) (λ k. stands_Guard c.put_expr.new.parts k _ c.in-Guard.p) c.put_expr.ensures.made)
+returns-in-Guard-clause-entry c = rw c.in-Guard.is (if_map c.put_expr_in.result _ c.map-in-Guard.result (λ k. entry.Guard k c.in-Guard.p) _ _ c.map-in-Guard.ensures.cases (λ x y r. search rules) (λ k. stands_Guard c.put_expr_in.new.parts k _ c.in-Guard.p) c.put_expr_in.ensures.made)
 
 pub returns-in-If-clause-entry : goal.returns-in-If-clause-entry
-returns-in-If-clause-entry c = rw c.in-If.is (if_map c.put_expr-in-If.result _ c.map-in-If.result (λ k. entry.If k c.in-If.p c.in-If.q) _ _ c.map-in-If.ensures.cases (λ x y r. search rules) (λ k. stands_If c.put_expr-in-If.new.parts k _ c.in-If.p c.in-If.q) c.put_expr-in-If.ensures.made)
+returns-in-If-clause-entry c = rw c.in-If.is (if_map c.put_expr_in-in-If.result _ c.map-in-If.result (λ k. entry.If k c.in-If.p c.in-If.q) _ _ c.map-in-If.ensures.cases (λ x y r. search rules) (λ k. stands_If c.put_expr_in-in-If.new.parts k _ c.in-If.p c.in-If.q) c.put_expr_in-in-If.ensures.made)
 
 pub returns-in-EachExternal-clause-entry : goal.returns-in-EachExternal-clause-entry
-returns-in-EachExternal-clause-entry c = rw c.in-EachExternal.is (if_map c.put_expr-in-EachExternal.result _ c.map-in-EachExternal.result (λ k. entry.EachExternal c.in-EachExternal.slot k c.in-EachExternal.p) _ _ c.map-in-EachExternal.ensures.cases (λ x y r. search rules) (λ k. stands_EachExternal c.put_expr-in-EachExternal.new.parts c.in-EachExternal.slot k _ c.in-EachExternal.p) c.put_expr-in-EachExternal.ensures.made)
+returns-in-EachExternal-clause-entry c = rw c.in-EachExternal.is (if_map c.put_expr_in-in-EachExternal.result _ c.map-in-EachExternal.result (λ k. entry.EachExternal c.in-EachExternal.slot k c.in-EachExternal.p) _ _ c.map-in-EachExternal.ensures.cases (λ x y r. search rules) (λ k. stands_EachExternal c.put_expr_in-in-EachExternal.new.parts c.in-EachExternal.slot k _ c.in-EachExternal.p) c.put_expr_in-in-EachExternal.ensures.made)
 
 pub returns-in-EachInternal-clause-entry : goal.returns-in-EachInternal-clause-entry
-returns-in-EachInternal-clause-entry c = rw c.in-EachInternal.is (if_map c.put_expr-in-EachInternal.result _ c.map-in-EachInternal.result (λ k. entry.EachInternal c.in-EachInternal.slot k c.in-EachInternal.p) _ _ c.map-in-EachInternal.ensures.cases (λ x y r. search rules) (λ k. stands_EachInternal c.put_expr-in-EachInternal.new.parts c.in-EachInternal.slot k _ c.in-EachInternal.p) c.put_expr-in-EachInternal.ensures.made)
+returns-in-EachInternal-clause-entry c = rw c.in-EachInternal.is (if_map c.put_expr_in-in-EachInternal.result _ c.map-in-EachInternal.result (λ k. entry.EachInternal c.in-EachInternal.slot k c.in-EachInternal.p) _ _ c.map-in-EachInternal.ensures.cases (λ x y r. search rules) (λ k. stands_EachInternal c.put_expr_in-in-EachInternal.new.parts c.in-EachInternal.slot k _ c.in-EachInternal.p) c.put_expr_in-in-EachInternal.ensures.made)
 
 pub returns-in-Hide-clause-entry : goal.returns-in-Hide-clause-entry
-returns-in-Hide-clause-entry c = rw c.in-Hide.is (if_map c.put_expr-in-Hide.result _ c.map-in-Hide.result (λ k. entry.Hide c.in-Hide.p k) _ _ c.map-in-Hide.ensures.cases (λ x y r. search rules) (λ k. stands_Hide c.put_expr-in-Hide.new.parts c.in-Hide.p k _) c.put_expr-in-Hide.ensures.made)
+returns-in-Hide-clause-entry c = rw c.in-Hide.is (if_map c.put_expr_in-in-Hide.result _ c.map-in-Hide.result (λ k. entry.Hide c.in-Hide.p k) _ _ c.map-in-Hide.ensures.cases (λ x y r. search rules) (λ k. stands_Hide c.put_expr_in-in-Hide.new.parts c.in-Hide.p k _) c.put_expr_in-in-Hide.ensures.made)
 
 pub returns-in-Call-clause-entry : goal.returns-in-Call-clause-entry
 returns-in-Call-clause-entry c = rw c.in-Call.is (if_map c.put_arguments.result _ c.map-in-Call.result (λ k. entry.Call c.in-Call.definition k) _ _ c.map-in-Call.ensures.cases (λ x y r. search rules) (λ k. stands_Call c.put_arguments.new.parts c.in-Call.definition k _) c.put_arguments.ensures.made)

@@ -1,6 +1,6 @@
 use Rattle.std.proofs.Common.{◌+◌, ◌*◌, map, take}
 use Rattle.term_pool.specs.Put.{Grows, StandAt}
-use Rattle.term_pool.specs.Substituted.{all_with, AreMade}
+use Rattle.term_pool.specs.Substituted.{all_put, AreMade}
 use Rattle.term_pool.specs.Trees.{tree_at}
 use Rattle.term_pool.proofs.substitute.+substitute_at.Given as goal
 
@@ -26,7 +26,7 @@ decreases-put_all l = l.id.0 * 6
 -- the places so far are made
 abbrev pub invariant-put_all-loop-p : goal.invariant-put_all-loop-p
 invariant-put_all-loop-p l = record {
-  places : StandAt l.pool l.made (map (tree_at (all_with l.names l.values l.initial.pool)) (take l.p-index l.ids));
-  grows : Grows l.initial.pool l.pool (map (tree_at (all_with l.names l.values l.initial.pool)) (take l.p-index l.ids));
-  visited : AreMade l.names l.values l.pool l.visited;
+  places : StandAt l.pool l.made (map (tree_at (all_put l.values l.initial.pool)) (take l.p-index l.ids));
+  grows : Grows l.initial.pool l.pool (map (tree_at (all_put l.values l.initial.pool)) (take l.p-index l.ids));
+  visited : AreMade l.values l.pool l.visited;
 }

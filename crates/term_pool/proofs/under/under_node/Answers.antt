@@ -8,5 +8,5 @@ returns c = record {
   below = c.node-node.ensures.places;
   tree = c.node-node.ensures.process;
   listed = c.in_ok-ids.ensures;
-  free = c.in_ok-unbound.ensures;
+  free = c.in_ok-left.ensures;
 }
