@@ -15,11 +15,12 @@ use Rattle.design_rules.proofs.Shapes.{turned, first_end, link_within, link_shar
 use Rattle.observed_runs.specs.Observed.{LeadsTo, pair_at}
 use Rattle.observed_runs.specs.Exploration.{IsExploration}
 use Rattle.observed_runs.specs.Observers.{parity_step}
+use Rattle.design_rules.specs.ClientServerFaults.{BreaksRoles}
 use Rattle.client_server_conditions.specs.Network.{Network, IsLinked, Asks, Grants}
 use Rattle.client_server_conditions.specs.Nodes.{EachShared, HasAllOrNone}
-use Rattle.client_server_conditions.specs.Conditions.{Keeps, KeepsAt, KeepsOn, KeepsLinks, KeepsWhole, IsDecided, is_asked_of, is_open_at, node_in}
-use Rattle.client_server_conditions.specs.declared.conditions.Condition.{Condition}
-use Rattle.client_server_conditions.specs.declared.conditions.Condition.TheVariants.{Turns, Service, Answers}
+use Rattle.client_server_conditions.specs.Conditions.{Keeps, KeepsAt, KeepsOn, KeepsLinks, KeepsWhole, IsDecided, is_asked_of, is_open_at, node_in, KeepLesser, condition_of}
+use Rattle.client_server_conditions.specs.declared.conditions.RunCondition.{RunCondition}
+use Rattle.client_server_conditions.specs.declared.conditions.RunCondition.TheVariants.{Turns, Service, Answers}
 use Rattle.client_server_conditions.proofs.Opening.{opened_is, HasSide}
 
 -- ---- explorations
@@ -35,7 +36,7 @@ Explores network i l pairs = IsExploration (part_at network.shape.parts i).table
 abbrev pub LeadsOn : Network → ℕ → ℕ → List ℕ → ℕ × ℕ → Type 0
 LeadsOn network i l s pair = LeadsTo (part_at network.shape.parts i).table (parity_step (link_at network.shape l).shared) 0 s pair
 
-module _ (network : Network) (condition : Condition) (i l : ℕ) where
+module _ (network : Network) (condition : RunCondition) (i l : ℕ) where
   pub keeps_each : (acknowledged : Bool) (pairs : List (ℕ × ℕ)) → acknowledged ≡ has_acknowledgements network.shape network.roles l → Explores network i l pairs → ((k : ℕ) → k < length pairs → KeepsAt network condition i l (pair_at pairs k).0 (is_open_at acknowledged (pair_at pairs k).1)) → (s : List ℕ) → KeepsOn network condition i l s
   keeps_each acknowledged pairs is x each s runs =
       let k = x.listed s runs.follows in
@@ -89,7 +90,7 @@ one_side network i l linked h a g =
 closed : (network : Network) (l : ℕ) (s : List ℕ) → has_acknowledgements network.shape network.roles l ≡ false → is_open network.shape network.roles l s ≡ true → ⊥
 closed network l s none o = both_ways (has_acknowledgements network.shape network.roles l) none (and_parts (has_acknowledgements network.shape network.roles l) (is_odd (count_in (link_at network.shape l).shared s)) o).0
 
-pub not_asked : (network : Network) (i l : ℕ) (condition : Condition) (asks acknowledged : Bool) → IsLinked network → i < length network.shape.parts → HasSide network i l asks → acknowledged ≡ has_acknowledgements network.shape network.roles l → is_asked_of condition asks acknowledged ≡ false → (s : List ℕ) → KeepsOn network condition i l s
+pub not_asked : (network : Network) (i l : ℕ) (condition : RunCondition) (asks acknowledged : Bool) → IsLinked network → i < length network.shape.parts → HasSide network i l asks → acknowledged ≡ has_acknowledgements network.shape network.roles l → is_asked_of condition asks acknowledged ≡ false → (s : List ℕ) → KeepsOn network condition i l s
 not_asked network i l Turns asks acknowledged linked h side is not s runs = absurd (false≢true (sym not))
 not_asked network i l Service true acknowledged linked h side is not s runs = λ o g. absurd (one_side network i l linked h (side.client refl) g)
 not_asked network i l Service false acknowledged linked h side is not s runs = λ o g. absurd (closed network l s (sym is ∙ not) o)
@@ -99,7 +100,7 @@ not_asked network i l Answers false acknowledged linked h side is not s runs = �
 -- ---- from links to parts
 
 module _ (network : Network) (i : ℕ) (s : List ℕ) where
-  pub keeps_all : (condition : Condition) → KeepsWhole network condition i s → KeepsLinks network condition i s → Keeps network condition i s
+  pub keeps_all : (condition : RunCondition) → KeepsWhole network condition i s → KeepsLinks network condition i s → Keeps network condition i s
   keeps_all Turns whole links = λ l e possible on. links l on.within on.end possible.runs e possible.next on.event
   keeps_all Service whole links = record {
     all_or_none = λ k a. whole a.runs k a.listed a.shared;
@@ -107,35 +108,41 @@ module _ (network : Network) (i : ℕ) (s : List ℕ) where
   }
   keeps_all Answers whole links = λ j l k e a joins client o on ack. links l joins.within (first_end network.shape i j l joins) a.runs o (record { server = j; joins = joins; client = client }) k a.listed a.shared e on ack
 
-  pub keeps_links : (condition : Condition) → Keeps network condition i s → KeepsLinks network condition i s
+  pub keeps_links : (condition : RunCondition) → Keeps network condition i s → KeepsLinks network condition i s
   keeps_links Turns keeps = λ l h end runs e possible on. keeps l e (record { runs = runs; next = possible }) (record { within = h; end = end; event = on })
   keeps_links Service keeps = λ l h end runs o g k below within. keeps.none_while_open g.asker l k (record { runs = runs; listed = below; shared = within }) g.joins g.client o
   keeps_links Answers keeps = λ l h end runs o a k below within e on ack. keeps a.server l k e (record { runs = runs; listed = below; shared = within }) a.joins a.client o on ack
 
-  pub keeps_whole : (condition : Condition) → Keeps network condition i s → KeepsWhole network condition i s
+  pub keeps_whole : (condition : RunCondition) → Keeps network condition i s → KeepsWhole network condition i s
   keeps_whole Turns keeps = tt
   keeps_whole Service keeps = λ runs k below within. keeps.all_or_none k (record { runs = runs; listed = below; shared = within })
   keeps_whole Answers keeps = tt
 
-  no_whole : (condition : Condition) → (RunsTo network.shape i s → ⊥) → KeepsWhole network condition i s
+  no_whole : (condition : RunCondition) → (RunsTo network.shape i s → ⊥) → KeepsWhole network condition i s
   no_whole Turns none = tt
   no_whole Service none = λ runs. absurd (none runs)
   no_whole Answers none = tt
 
   -- what has no runs keeps each condition
-  pub keeps_beyond : (condition : Condition) → (RunsTo network.shape i s → ⊥) → Keeps network condition i s
+  pub keeps_beyond : (condition : RunCondition) → (RunsTo network.shape i s → ⊥) → Keeps network condition i s
   keeps_beyond condition none = keeps_all condition (no_whole condition none) (λ l h end runs. absurd (none runs))
 
 -- a decision on the links, where nothing else is asked, is one on the part
-pub decided_links : (network : Network) (condition : Condition) (i : ℕ) (run : Option (List ℕ)) → ((s : List ℕ) → KeepsWhole network condition i s) → IsDecided network.shape i (KeepsLinks network condition i) run → IsDecided network.shape i (Keeps network condition i) run
+pub decided_links : (network : Network) (condition : RunCondition) (i : ℕ) (run : Option (List ℕ)) → ((s : List ℕ) → KeepsWhole network condition i s) → IsDecided network.shape i (KeepsLinks network condition i) run → IsDecided network.shape i (Keeps network condition i) run
 decided_links network condition i None whole d = λ s. keeps_all network i s condition (whole s) (d s)
 decided_links network condition i (Some s) whole d = (d.0, λ keeps. d.1 (keeps_links network i s condition keeps))
 
-pub all_parts : (network : Network) (condition : Condition) (n : ℕ) → length network.shape.parts ≤ n → ((i : ℕ) (s : List ℕ) → i < n → Keeps network condition i s) → (i : ℕ) (s : List ℕ) → Keeps network condition i s
+pub all_parts : (network : Network) (condition : RunCondition) (n : ℕ) → length network.shape.parts ≤ n → ((i : ℕ) (s : List ℕ) → i < n → Keeps network condition i s) → (i : ℕ) (s : List ℕ) → Keeps network condition i s
 all_parts network condition n all each i s = elim (cases_lt i n) [
   | inl below ↦ each i s below
   | inr past ↦ keeps_beyond network i s condition (λ runs. let h : i < length network.shape.parts = runs.part in omega arith)
 ]
+
+-- the first part that breaks the condition, where the lesser ones hold
+pub breaks_condition : (network : Network) (condition : RunCondition) (i : ℕ) (s : List ℕ) → IsLinked network → KeepLesser network condition → RunsTo network.shape i s → (Keeps network condition i s → ⊥) → ((j : ℕ) (t : List ℕ) → j < i → Keeps network condition j t) → BreaksRoles network.shape network.roles (condition_of condition) i s
+breaks_condition network Turns i s linked lesser runs broken first = (record { parted = linked.parted; linked = linked.linked }, record { runs = runs; broken = broken; first = first })
+breaks_condition network Service i s linked lesser runs broken first = (record { parted = linked.parted; linked = linked.linked }, lesser, record { runs = runs; broken = broken; first = first })
+breaks_condition network Answers i s linked lesser runs broken first = (record { parted = linked.parted; linked = linked.linked }, lesser.0, lesser.1, record { runs = runs; broken = broken; first = first })
 
 -- ---- what an exploration gives
 

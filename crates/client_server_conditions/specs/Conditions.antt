@@ -9,19 +9,20 @@ use Rattle.csp_tables.specs.Roles.{role_at}
 use Rattle.design_rules.specs.ClientServer.{TakesTurns, ServesAll, TakesAnswers, is_acknowledgement, is_open}
 use Rattle.client_server_conditions.specs.Network.{Network, Asks, Grants}
 use Rattle.client_server_conditions.specs.Nodes.{AreInTurn, EachShared, HasAllOrNone}
-use Rattle.client_server_conditions.specs.declared.conditions.Condition.{Condition}
-use Rattle.client_server_conditions.specs.declared.conditions.Condition.TheVariants.{Turns, Service, Answers}
-use Rattle.client_server_conditions.specs.declared.fault.RoleFault.{RoleFault}
-use Rattle.client_server_conditions.specs.declared.fault.RoleFault.TheVariants.{NoMemory, BreaksRole, ClientsCircle}
+use Rattle.client_server_conditions.specs.declared.conditions.RunCondition.{RunCondition}
+use Rattle.client_server_conditions.specs.declared.conditions.RunCondition.TheVariants.{Turns, Service, Answers}
+use Rattle.design_rules.specs.FirstBroken.{AllKeep}
+use Rattle.design_rules.specs.declared.condition.Condition.{Condition}
+use Rattle.design_rules.specs.declared.condition.Condition.TheVariants as condition
 
--- which of the conditions it is
-abbrev pub condition_number : Condition → ℕ
-condition_number Turns = 3
-condition_number Service = 4
-condition_number Answers = 5
+-- which of the rule's conditions it is
+abbrev pub condition_of : RunCondition → Condition
+condition_of Turns = condition.Turns
+condition_of Service = condition.Service
+condition_of Answers = condition.Answers
 
 -- the part keeps the condition after the run
-abbrev pub Keeps : Network → Condition → ℕ → List ℕ → Type 0
+abbrev pub Keeps : Network → RunCondition → ℕ → List ℕ → Type 0
 Keeps network Turns i s = TakesTurns network.shape network.roles i s
 Keeps network Service i s = ServesAll network.shape network.roles i s
 Keeps network Answers i s = TakesAnswers network.shape network.roles i s
@@ -38,21 +39,21 @@ abbrev pub HasAnswers : Network → ℕ → ℕ → List ℕ → Type 0
 HasAnswers network i l M = (e : ℕ) → IsTrue (has (link_at network.shape l).shared e) → IsTrue (has (role_at network.roles i).cack e) → IsTrue (has M e)
 
 -- what the condition asks of the part on the link, at the node, where the link is open or not
-abbrev pub KeepsAt : Network → Condition → ℕ → ℕ → ℕ → Bool → Type 0
+abbrev pub KeepsAt : Network → RunCondition → ℕ → ℕ → ℕ → Bool → Type 0
 KeepsAt network Turns i l n opened = AreInTurn (node_in network i n).next (link_at network.shape l).shared (role_at network.roles i) opened
 KeepsAt network Service i l n opened = opened ≡ true → Grants network i l → EachShared (λ M. AreApart M (role_at network.roles i).sreq) network.shape.vocabulary (node_in network i n).accept
 KeepsAt network Answers i l n opened = opened ≡ true → Asks network i l → EachShared (HasAnswers network i l) network.shape.vocabulary (node_in network i n).accept
 
 -- after the run
-abbrev pub KeepsOn : Network → Condition → ℕ → ℕ → List ℕ → Type 0
+abbrev pub KeepsOn : Network → RunCondition → ℕ → ℕ → List ℕ → Type 0
 KeepsOn network condition i l s = RunsTo network.shape i s → KeepsAt network condition i l (node_to network i s) (is_open network.shape network.roles l s)
 
 -- on each link of the part
-abbrev pub KeepsLinks : Network → Condition → ℕ → List ℕ → Type 0
+abbrev pub KeepsLinks : Network → RunCondition → ℕ → List ℕ → Type 0
 KeepsLinks network condition i s = (l : ℕ) → l < length network.shape.links → IsTrue (is_end network.shape i l) → KeepsOn network condition i l s
 
 -- what the condition asks of the part whatever the link
-abbrev pub KeepsWhole : Network → Condition → ℕ → List ℕ → Type 0
+abbrev pub KeepsWhole : Network → RunCondition → ℕ → List ℕ → Type 0
 KeepsWhole network Turns i s = Unit {0}
 KeepsWhole network Service i s = RunsTo network.shape i s → EachShared (HasAllOrNone (role_at network.roles i).sreq) network.shape.vocabulary (node_in network i (node_to network i s)).accept
 KeepsWhole network Answers i s = Unit {0}
@@ -67,13 +68,13 @@ abbrev pub AreAcknowledgements : Network → ℕ → ℕ → List ℕ → Type 0
 AreAcknowledgements network i l events = (e : ℕ) → has events e ≡ (has (link_at network.shape l).shared e && is_acknowledgement network.roles i e)
 
 -- whether the condition asks anything of an end of a link: of which side it is, and whether the link has acknowledgements
-abbrev pub is_asked_of : Condition → Bool → Bool → Bool
+abbrev pub is_asked_of : RunCondition → Bool → Bool → Bool
 is_asked_of Turns asks acknowledged = true
 is_asked_of Service asks acknowledged = not asks && acknowledged
 is_asked_of Answers asks acknowledged = asks && acknowledged
 
 -- the side of which the condition asks
-abbrev pub IsOnSide : Network → Condition → ℕ → ℕ → Type 0
+abbrev pub IsOnSide : Network → RunCondition → ℕ → ℕ → Type 0
 IsOnSide network Turns i l = Unit {0}
 IsOnSide network Service i l = Grants network i l
 IsOnSide network Answers i l = Asks network i l
@@ -82,14 +83,8 @@ IsOnSide network Answers i l = Asks network i l
 abbrev pub is_open_at : Bool → ℕ → Bool
 is_open_at acknowledged state = acknowledged && nat_eq state 1
 
--- the first part that breaks the condition
-pub record IsFirstBroken (network : Network) (condition : Condition) (i : ℕ) (s : List ℕ) : Type 0 where
-  pub runs : RunsTo network.shape i s
-  pub broken : Keeps network condition i s → ⊥
-  pub first : (j : ℕ) (t : List ℕ) → j < i → Keeps network condition j t
-
--- the fault tells it
-abbrev pub TellsBroken : Network → Condition → RoleFault → Type 0
-TellsBroken network condition NoMemory = Unit {0}
-TellsBroken network condition (BreaksRole number part trace) = (number ≡ condition_number condition) × IsFirstBroken network condition part trace
-TellsBroken network condition (ClientsCircle clients) = ⊥
+-- the lesser ones of S3 and S4 hold
+abbrev pub KeepLesser : Network → RunCondition → Type 0
+KeepLesser network Turns = Unit {0}
+KeepLesser network Service = AllKeep (Keeps network Turns)
+KeepLesser network Answers = AllKeep (Keeps network Turns) × AllKeep (Keeps network Service)

@@ -2,4 +2,3 @@ pub mod Conditions
 pub mod Network
 pub mod Nodes
 pub mod Sides
-pub mod Told

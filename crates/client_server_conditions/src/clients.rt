@@ -5,11 +5,11 @@ ghost use Rattle.csp_tables.specs.Roles.{role_at};
 ghost use Rattle.csp_tables.specs.Shape.{IsWellFormed, link_at};
 ghost use Rattle.design_rules.specs.ClientServer.{HasRoles};
 ghost use Rattle.client_server_conditions.specs.Sides.{AgreeOn, AreSides, HaveNoOther, IsClient, IsSide, IsSideOrNone};
-ghost use Rattle.client_server_conditions.specs.Told.{Tells};
+ghost use Rattle.design_rules.specs.Rules.{BreaksClientServer};
 
-use crate::fault::RoleFault;
 use csp_base::{EventSet, NoMemory, Trace};
 use csp_tables::{RoleSets, Shape};
+use design_rules::{Condition, RuleFault};
 use std::alloc::Global;
 
 // For each link whether its left end is the client; the right end is it elsewhere. Or the first link that has no client.
@@ -17,18 +17,18 @@ pub(crate) fn sides(
     alloc: Global,
     shape: &Shape,
     roles: &[RoleSets],
-) -> Result<Vec<bool>, RoleFault>
+) -> Result<Vec<bool>, RuleFault>
     requires form { IsWellFormed shape.now }
     requires roles { length roles.now ≡ length shape.now.parts }
     requires parted { (i : ℕ) → i < length shape.now.parts → HasRoles shape.now roles.now i }
     ensures sides { IfOk result (λ sides. AreSides shape.now roles.now (length shape.now.links) sides.items) }
-    ensures fault { IfErr result (λ fault. Tells shape.now roles.now fault) }
+    ensures fault { IfErr result (λ fault. BreaksClientServer shape.now roles.now fault) }
 {
     let mut sides = Vec::new(alloc);
     for link in 0..shape.links().len() {
         let left_asks = known_side(alloc, shape, roles, link as u32)?;
         let Ok(()) = sides.push(left_asks) else {
-            return Err(RoleFault::NoMemory);
+            return Err(RuleFault::NoMemory);
         };
     }
     Ok(sides)
@@ -40,13 +40,13 @@ fn known_side(
     shape: &Shape,
     roles: &[RoleSets],
     link: u32,
-) -> Result<bool, RoleFault>
+) -> Result<bool, RuleFault>
     requires form { IsWellFormed shape.now }
     requires roles { length roles.now ≡ length shape.now.parts }
     requires link { link < length shape.now.links }
     ensures side { IfOk result (IsSide shape.now roles.now link) }
-    ensures fault { IfErr result (λ fault. (fault ≡ RoleFault.NoMemory)
-        ⊎ ((fault ≡ RoleFault.BreaksRole 2 (link_at shape.now link).left []) × IsSideOrNone shape.now roles.now link None)) }
+    ensures fault { IfErr result (λ fault. (fault ≡ RuleFault.NoMemory)
+        ⊎ ((fault ≡ RuleFault.Broken Condition.Clients (link_at shape.now link).left []) × IsSideOrNone shape.now roles.now link None)) }
 {
     match side(alloc, shape, roles, link)? {
         Some(left_asks) => Ok(left_asks),
@@ -55,13 +55,13 @@ fn known_side(
 }
 
 // The link has no client.
-fn no_client(alloc: Global, shape: &Shape, link: u32) -> RoleFault
+fn no_client(alloc: Global, shape: &Shape, link: u32) -> RuleFault
     requires { link < length shape.now.links }
-    ensures { result ≡ RoleFault.BreaksRole 2 (link_at shape.now link).left [] }
+    ensures { result ≡ RuleFault.Broken Condition.Clients (link_at shape.now link).left [] }
 {
     let trace = Trace::new(alloc);
-    RoleFault::BreaksRole {
-        condition: 2,
+    RuleFault::Broken {
+        condition: Condition::Clients,
         part: shape.links()[link as usize].left(),
         trace,
     }

@@ -3,15 +3,16 @@
 ghost use Rattle.std.specs.Prelude.{◌≡◌, ◌<◌, ℕ, None, true, false, IfSome, length};
 ghost use Rattle.csp_tables.specs.Part.{part_at};
 ghost use Rattle.observed_runs.specs.Observed.{pair_at};
-ghost use Rattle.client_server_conditions.specs.Conditions.{AreAcknowledgements, IsOnSide, KeepsAt, is_asked_of, is_open_at, condition_number};
+ghost use Rattle.client_server_conditions.specs.Conditions.{AreAcknowledgements, IsOnSide, KeepsAt, is_asked_of, is_open_at, condition_of};
 
 use crate::network::{Network, link_of, node_of};
 use crate::nodes::{some_out_of_turn, some_refuses, some_takes};
 use csp_base::EventSet;
+use design_rules::Condition;
 
 /// Three conditions on the runs of a component: S3, S4 and S5.
 #[derive(Clone, Copy)]
-pub enum Condition {
+pub enum RunCondition {
     /// Requests and acknowledgements take turns on each link.
     Turns,
     /// Requests are taken all together, and none while a link to a client is open.
@@ -20,15 +21,15 @@ pub enum Condition {
     Answers,
 }
 
-impl Condition {
-    // Which of the conditions it is.
-    pub(crate) fn number(self) -> u32
-        ensures { result ≡ condition_number self }
+impl RunCondition {
+    // Which of the rule's conditions it is.
+    pub(crate) fn condition(self) -> Condition
+        ensures { result ≡ condition_of self }
     {
         match self {
-            Condition::Turns => 3,
-            Condition::Service => 4,
-            Condition::Answers => 5,
+            RunCondition::Turns => Condition::Turns,
+            RunCondition::Service => Condition::Service,
+            RunCondition::Answers => Condition::Answers,
         }
     }
 
@@ -37,9 +38,9 @@ impl Condition {
         ensures { result ≡ is_asked_of self asks acknowledged }
     {
         match self {
-            Condition::Turns => true,
-            Condition::Service => !asks && acknowledged,
-            Condition::Answers => asks && acknowledged,
+            RunCondition::Turns => true,
+            RunCondition::Service => !asks && acknowledged,
+            RunCondition::Answers => asks && acknowledged,
         }
     }
 }
@@ -47,7 +48,7 @@ impl Condition {
 // The place of a pair at which the part breaks the condition on the link.
 pub(crate) fn broken_pair(
     network: &Network<'_>,
-    condition: Condition,
+    condition: RunCondition,
     part: u32,
     link: u32,
     acknowledgements: &EventSet,
@@ -83,7 +84,7 @@ pub(crate) fn broken_pair(
 // Whether the part breaks the condition on the link at the node.
 fn is_broken(
     network: &Network<'_>,
-    condition: Condition,
+    condition: RunCondition,
     part: u32,
     link: u32,
     acknowledgements: &EventSet,
@@ -102,14 +103,13 @@ fn is_broken(
     let roles = network.roles(part);
     let at = node_of(shape, part, node);
     match condition {
-        Condition::Turns => some_out_of_turn(
-            at.next(),
-            link_of(shape, link).shared(),
-            roles,
-            opened,
-        ),
-        Condition::Service => opened && some_takes(at.accept(), shape.vocabulary(), roles.sreq()),
-        Condition::Answers => {
+        RunCondition::Turns => {
+            let steps = network.prepared().steps(part, node);
+            some_out_of_turn(steps, link_of(shape, link).shared(), roles, opened)
+        }
+        RunCondition::Service => opened
+            && some_takes(at.accept(), shape.vocabulary(), roles.sreq()),
+        RunCondition::Answers => {
             opened && some_refuses(at.accept(), shape.vocabulary(), acknowledgements)
         }
     }

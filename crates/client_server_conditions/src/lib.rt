@@ -4,13 +4,11 @@
 
 mod clients;
 mod conditions;
-mod fault;
 mod network;
 mod nodes;
 mod parted;
 mod runs;
 
-pub use conditions::Condition;
-pub use fault::RoleFault;
-pub use network::{Network, link_of, part_of};
+pub use conditions::RunCondition;
+pub use network::{Network, link_of};
 pub use runs::check;

@@ -1,45 +1,41 @@
 //! A shape with the roles of its components, once each link is known to have a client.
 
 ghost use Rattle.std.specs.Prelude.{◌≡◌, ◌<◌, true, false, IsTrue, IfErr, IfOk, length};
-ghost use Rattle.csp_tables.specs.Form.{HasForm};
-ghost use Rattle.csp_tables.specs.Part.{part_at};
+ghost use Rattle.csp_tables.specs.Part.{TripleDisjoint, alphabets_of, part_at};
 ghost use Rattle.csp_tables.specs.Roles.{role_at};
 ghost use Rattle.csp_tables.specs.Shape.{IsWellFormed, is_end, link_at};
 ghost use Rattle.csp_tables.specs.Table.{node_at};
-ghost use Rattle.shape_links.specs.Links.{AreEnds, ends_of};
+ghost use Rattle.shape_links.specs.Links.{ends_of};
 ghost use Rattle.client_server_conditions.specs.Network.{Asks, Grants, IsLinked};
-ghost use Rattle.client_server_conditions.specs.Told.{Tells};
+ghost use Rattle.design_rules.specs.Rules.{BreaksClientServer};
 
 use crate::clients::sides;
-use crate::fault::RoleFault;
 use crate::parted::check_parted;
-use containers::Items;
-use csp_tables::{Link, NormNode, Part, RoleSets, Shape};
-use shape_links::links_of_parts;
+use csp_tables::{Link, NormNode, RoleSets, Shape};
+use design_rules::RuleFault;
+use shape_links::Prepared;
 use std::alloc::Global;
 use std::marker::Model;
 
-/// A shape with its roles, in which S1 and S2 hold, with the links of each part and the client of each link. Contracts see
-/// it as the shape and the roles.
+/// A shape with its roles, in which S1 and S2 hold, sorted out, with the client of each link. Contracts see it as the shape and the
+/// roles.
 #[derive(Drop)]
 pub struct Network<'a> {
-    shape: &'a Shape,
+    prepared: Prepared<'a>,
     roles: &'a [RoleSets],
-    ends: Vec<Items<u32>>,
     sides: Vec<bool>,
 }
 
 impl<'a> Model for Network<'a> {
     ghost use Rattle.std.specs.Prelude.{length};
-    ghost use Rattle.shape_links.specs.Links.{AreEnds};
     ghost use Rattle.client_server_conditions.specs.Network.{Network as NetworkValue, IsLinked};
     ghost use Rattle.client_server_conditions.specs.Sides.{AreSides};
 
     ghost Value = { NetworkValue };
 
-    ghost view = { λ n. record { shape = n.shape.now; roles = n.roles.now } };
+    ghost view = { λ n. record { shape = n.prepared; roles = n.roles.now } };
 
-    ghost invariant = { λ n. IsLinked (record { shape = n.shape.now; roles = n.roles.now }) × AreEnds n.shape.now (length n.shape.now.links) n.ends.items × AreSides n.shape.now n.roles.now (length n.shape.now.links) n.sides.items };
+    ghost invariant = { λ n. IsLinked (record { shape = n.prepared; roles = n.roles.now }) × AreSides n.prepared n.roles.now (length n.prepared.links) n.sides.items };
 }
 
 impl<'a> Network<'a> {
@@ -48,23 +44,30 @@ impl<'a> Network<'a> {
         alloc: Global,
         shape: &'a Shape,
         roles: &'a [RoleSets],
-    ) -> Result<Network<'a>, RoleFault>
+    ) -> Result<Network<'a>, RuleFault>
         requires form { IsWellFormed shape.now }
+        requires apart { TripleDisjoint (alphabets_of shape.now.parts) }
         requires roles { length roles.now ≡ length shape.now.parts }
         ensures network { IfOk result (λ network. network ≡ record { shape = shape.now; roles = roles.now }) }
-        ensures fault { IfErr result (λ fault. Tells shape.now roles.now fault) }
+        ensures fault { IfErr result (λ fault. BreaksClientServer shape.now roles.now fault) }
     {
         check_parted(alloc, shape, roles)?;
         let sides = sides(alloc, shape, roles)?;
-        let Ok(ends) = links_of_parts(alloc, shape) else {
-            return Err(RoleFault::NoMemory);
+        let Ok(prepared) = Prepared::new(alloc, shape) else {
+            return Err(RuleFault::NoMemory);
         };
         Ok(Network {
-            shape,
+            prepared,
             roles,
-            ends,
             sides,
         })
+    }
+
+    /// The shape, sorted out.
+    pub fn prepared(&self) -> &Prepared<'a>
+        ensures { result.now ≡ self.now.shape }
+    {
+        &self.prepared
     }
 
     /// The shape.
@@ -72,7 +75,7 @@ impl<'a> Network<'a> {
         ensures value { result.now ≡ self.now.shape }
         ensures linked { IsLinked self.now }
     {
-        self.shape
+        self.prepared.shape()
     }
 
     /// The roles of the part in this place.
@@ -88,7 +91,7 @@ impl<'a> Network<'a> {
         requires { part < length self.now.shape.parts }
         ensures { result.now ≡ ends_of self.now.shape part }
     {
-        self.ends[part as usize].as_slice()
+        self.prepared.links(part)
     }
 
     /// Whether the part is the client on the link; it is the server elsewhere.
@@ -98,18 +101,8 @@ impl<'a> Network<'a> {
         ensures client { result ≡ true → Asks self.now part link }
         ensures server { result ≡ false → Grants self.now part link }
     {
-        (self.shape.links()[link as usize].left() == part) == self.sides[link as usize]
+        (self.prepared.shape().links()[link as usize].left() == part) == self.sides[link as usize]
     }
-}
-
-/// The part in this place.
-pub fn part_of<'a>(shape: &'a Shape, part: u32) -> &'a Part
-    requires part { part < length shape.now.parts }
-    requires form { IsWellFormed shape.now }
-    ensures value { result.now ≡ part_at shape.now.parts part }
-    ensures form { HasForm result.now }
-{
-    &shape.parts()[part as usize]
 }
 
 /// The link in this place.

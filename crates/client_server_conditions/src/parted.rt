@@ -7,11 +7,11 @@ ghost use Rattle.csp_tables.specs.Roles.{role_at};
 ghost use Rattle.csp_tables.specs.Shape.{IsWellFormed};
 ghost use Rattle.design_rules.specs.ClientServer.{HasRoles};
 ghost use Rattle.client_server_conditions.specs.Sides.{PartOwn};
-ghost use Rattle.client_server_conditions.specs.Told.{Tells};
+ghost use Rattle.design_rules.specs.Rules.{BreaksClientServer};
 
-use crate::fault::RoleFault;
 use csp_base::{EventSet, NoMemory, Trace};
 use csp_tables::{RoleSets, Shape};
+use design_rules::{Condition, RuleFault};
 use std::alloc::Global;
 
 // Succeeds where each component's sets part what it shares, and else tells the first whose sets do not.
@@ -19,16 +19,16 @@ pub(crate) fn check_parted(
     alloc: Global,
     shape: &Shape,
     roles: &[RoleSets],
-) -> Result<(), RoleFault>
+) -> Result<(), RuleFault>
     requires { length roles.now ≡ length shape.now.parts }
     ensures parted { OnOk result ((i : ℕ) → i < length shape.now.parts → HasRoles shape.now roles.now i) }
-    ensures fault { IfErr result (λ fault. Tells shape.now roles.now fault) }
+    ensures fault { IfErr result (λ fault. BreaksClientServer shape.now roles.now fault) }
 {
     for part in 0..shape.parts().len() {
         if !part_has_roles(alloc, shape, roles, part as u32)? {
             let trace = Trace::new(alloc);
-            return Err(RoleFault::BreaksRole {
-                condition: 1,
+            return Err(RuleFault::Broken {
+                condition: Condition::Roles,
                 part: part as u32,
                 trace,
             });

@@ -2,35 +2,38 @@
 
 ghost use Rattle.std.specs.Prelude.{◌≡◌, ◌<◌, ℕ, List, None, true, false, IsTrue, IfErr, IfOk, IfSome, OnOk, length};
 ghost use Rattle.csp_tables.specs.Part.{part_at};
-ghost use Rattle.csp_tables.specs.Shape.{IsWellFormed, is_end, link_at};
+ghost use Rattle.csp_tables.specs.Shape.{is_end, link_at};
 ghost use Rattle.design_rules.specs.ClientServer.{has_acknowledgements};
 ghost use Rattle.observed_runs.specs.Exploration.{AreFound, IsExploration};
 ghost use Rattle.csp_tables.specs.Table.{node_at};
 ghost use Rattle.observed_runs.specs.Observed.{pair_at};
 ghost use Rattle.observed_runs.specs.Observers.{parity_step};
-ghost use Rattle.client_server_conditions.specs.Conditions.{AreAcknowledgements, IsDecided, IsOnSide, Keeps, KeepsLinks, KeepsOn, KeepsWhole, TellsBroken};
+ghost use Rattle.client_server_conditions.specs.Conditions.{AreAcknowledgements, IsDecided, IsOnSide, Keeps, KeepLesser, KeepsLinks, KeepsOn, KeepsWhole};
+ghost use Rattle.design_rules.specs.Rules.{BreaksClientServer};
 ghost use Rattle.client_server_conditions.specs.Network.{Asks, Grants};
 ghost use Rattle.client_server_conditions.specs.Nodes.{EachShared, HasAllOrNone};
 
-use crate::conditions::{Condition, broken_pair};
-use crate::fault::RoleFault;
-use crate::network::{Network, link_of, node_of, part_of};
+use crate::conditions::{RunCondition, broken_pair};
+use crate::network::{Network, link_of, node_of};
 use crate::nodes::some_splits;
 use csp_base::{EventSet, NoMemory, Trace};
 use csp_tables::Shape;
-use observed_runs::{Explored, Parity, Unwatched, explore};
+use design_rules::RuleFault;
+use observed_runs::{Explored, Parity, Unwatched};
+use shape_links::explored;
 use std::alloc::Global;
 
 /// Succeeds where each component keeps the condition after each of its runs, and else tells the first that does not.
-pub fn check(alloc: Global, network: &Network<'_>, condition: Condition) -> Result<(), RoleFault>
+pub fn check(alloc: Global, network: &Network<'_>, condition: RunCondition) -> Result<(), RuleFault>
+    requires lesser { KeepLesser network.now condition }
     ensures keeps { OnOk result ((i : ℕ) (s : List ℕ) → Keeps network.now condition i s) }
-    ensures fault { IfErr result (λ fault. TellsBroken network.now condition fault) }
+    ensures fault { IfErr result (λ fault. BreaksClientServer network.now.shape network.now.roles fault) }
 {
     for part in 0..network.shape().parts().len() {
         let run = part_run(alloc, network, condition, part as u32)?;
         if let Some(trace) = run {
-            return Err(RoleFault::BreaksRole {
-                condition: condition.number(),
+            return Err(RuleFault::Broken {
+                condition: condition.condition(),
                 part: part as u32,
                 trace,
             });
@@ -43,7 +46,7 @@ pub fn check(alloc: Global, network: &Network<'_>, condition: Condition) -> Resu
 fn part_run(
     alloc: Global,
     network: &Network<'_>,
-    condition: Condition,
+    condition: RunCondition,
     part: u32,
 ) -> Result<Option<Trace>, NoMemory>
     requires { part < length network.now.shape.parts }
@@ -60,25 +63,25 @@ fn part_run(
 fn whole_run(
     alloc: Global,
     network: &Network<'_>,
-    condition: Condition,
+    condition: RunCondition,
     part: u32,
 ) -> Result<Option<Trace>, NoMemory>
     requires { part < length network.now.shape.parts }
     ensures { IfOk result (λ run. IsDecided network.now.shape part (KeepsWhole network.now condition part) run) }
 {
     match condition {
-        Condition::Service => split_run(alloc, network, part),
-        Condition::Turns | Condition::Answers => Ok(None),
+        RunCondition::Service => split_run(alloc, network, part),
+        RunCondition::Turns | RunCondition::Answers => Ok(None),
     }
 }
 
 // A run after which an acceptance has some requests to the part and not all.
 fn split_run(alloc: Global, network: &Network<'_>, part: u32) -> Result<Option<Trace>, NoMemory>
     requires { part < length network.now.shape.parts }
-    ensures { IfOk result (λ run. IsDecided network.now.shape part (KeepsWhole network.now Condition.Service part) run) }
+    ensures { IfOk result (λ run. IsDecided network.now.shape part (KeepsWhole network.now RunCondition.Service part) run) }
 {
     let shape = network.shape();
-    let explored = explore(alloc, part_of(shape, part), &Unwatched)?;
+    let explored = explored(alloc, network.prepared(), part, &Unwatched)?;
     let requests = network.roles(part).sreq();
     explored.run_if_any(alloc, split_pair(shape, part, requests, explored.pairs()))
 }
@@ -87,7 +90,7 @@ fn split_run(alloc: Global, network: &Network<'_>, part: u32) -> Result<Option<T
 fn links_run(
     alloc: Global,
     network: &Network<'_>,
-    condition: Condition,
+    condition: RunCondition,
     part: u32,
 ) -> Result<Option<Trace>, NoMemory>
     requires { part < length network.now.shape.parts }
@@ -106,7 +109,7 @@ fn links_run(
 fn link_run(
     alloc: Global,
     network: &Network<'_>,
-    condition: Condition,
+    condition: RunCondition,
     part: u32,
     link: u32,
 ) -> Result<Option<Trace>, NoMemory>
@@ -151,7 +154,7 @@ fn acknowledgements(
 fn broken_run(
     alloc: Global,
     network: &Network<'_>,
-    condition: Condition,
+    condition: RunCondition,
     part: u32,
     link: u32,
     events: &EventSet,
@@ -164,22 +167,28 @@ fn broken_run(
     requires acknowledged { acknowledged ≡ has_acknowledgements network.now.shape network.now.roles link }
     ensures { IfOk result (λ run. IsDecided network.now.shape part (KeepsOn network.now condition part link) run) }
 {
-    let explored = explored_link(alloc, network.shape(), part, link)?;
+    let _linked = network.shape();
+    let explored = explored_link(alloc, network, part, link)?;
     let pairs = explored.pairs();
     let place = broken_pair(network, condition, part, link, events, acknowledged, pairs);
     explored.run_if_any(alloc, place)
 }
 
 // The exploration of a part with the parity of the link's events.
-fn explored_link(alloc: Global, shape: &Shape, part: u32, link: u32) -> Result<Explored, NoMemory>
-    requires form { IsWellFormed shape.now }
-    requires part { part < length shape.now.parts }
-    requires link { link < length shape.now.links }
-    ensures pairs { IfOk result (λ explored. IsExploration (part_at shape.now.parts part).table (parity_step (link_at shape.now link).shared) 0 explored.pairs) }
-    ensures found { IfOk result (λ explored. AreFound (part_at shape.now.parts part).table (parity_step (link_at shape.now link).shared) 0 explored) }
+fn explored_link(
+    alloc: Global,
+    network: &Network<'_>,
+    part: u32,
+    link: u32,
+) -> Result<Explored, NoMemory>
+    requires part { part < length network.now.shape.parts }
+    requires link { link < length network.now.shape.links }
+    ensures pairs { IfOk result (λ explored. IsExploration (part_at network.now.shape.parts part).table (parity_step (link_at network.now.shape link).shared) 0 explored.pairs) }
+    ensures found { IfOk result (λ explored. AreFound (part_at network.now.shape.parts part).table (parity_step (link_at network.now.shape link).shared) 0 explored) }
 {
+    let shape = network.shape();
     let parity = Parity::new(link_of(shape, link).shared());
-    explore(alloc, part_of(shape, part), &parity)
+    explored(alloc, network.prepared(), part, &parity)
 }
 
 // The place of a pair at which an acceptance has some of the requests and not all.

@@ -6,37 +6,38 @@ ghost use Rattle.digraph.specs.Circle.{HasNoCircle};
 ghost use Rattle.digraph.specs.Digraph.{HasArc};
 ghost use Rattle.digraph.specs.Walk.{AreHeights};
 ghost use Rattle.client_server_rule.specs.Serving.{ServesBelow, ServesOn};
-ghost use Rattle.client_server_conditions.specs.Told.{Tells};
+ghost use Rattle.design_rules.specs.Rules.{BreaksClientServer};
 
-use client_server_conditions::{Network, RoleFault, link_of};
+use client_server_conditions::{Network, link_of};
 use containers::Items;
 use csp_base::NoMemory;
+use design_rules::RuleFault;
 use digraph::{Fault, Heights, Rows, longest_walks};
 use std::alloc::Global;
 
 // For each part the greatest number of arcs in a walk from it to servers.
-pub(crate) fn heights(alloc: Global, network: &Network<'_>) -> Result<Heights, RoleFault>
+pub(crate) fn heights(alloc: Global, network: &Network<'_>) -> Result<Heights, RuleFault>
     requires { KeepRoles network.now.shape network.now.roles }
     ensures heights { IfOk result (λ heights. AreHeights (Serves network.now.shape network.now.roles) (length network.now.shape.parts) heights) }
     ensures below { IfOk result (λ heights. All (λ height. height < length network.now.shape.parts) heights) }
     ensures no_circle { OnOk result (HasNoCircle (Serves network.now.shape network.now.roles)) }
-    ensures fault { IfErr result (λ fault. Tells network.now.shape network.now.roles fault) }
+    ensures fault { IfErr result (λ fault. BreaksClientServer network.now.shape network.now.roles fault) }
 {
     let rows = arcs(alloc, network)?;
     match longest_walks(alloc, &rows) {
         Ok(heights) => Ok(heights),
         Err(Fault::Circle(circle)) => Err(told(alloc, circle.members())),
-        Err(Fault::NoMemory) => Err(RoleFault::NoMemory),
+        Err(Fault::NoMemory) => Err(RuleFault::NoMemory),
     }
 }
 
 // The circle of clients, or that memory ran out.
-fn told(alloc: Global, circle: &[u32]) -> RoleFault
-    ensures { (result ≡ RoleFault.NoMemory) ⊎ (result ≡ RoleFault.ClientsCircle circle.now) }
+fn told(alloc: Global, circle: &[u32]) -> RuleFault
+    ensures { (result ≡ RuleFault.NoMemory) ⊎ (result ≡ RuleFault.Circle circle.now) }
 {
     match Items::from_slice(alloc, circle) {
-        Ok(clients) => RoleFault::ClientsCircle { clients },
-        Err(_) => RoleFault::NoMemory,
+        Ok(members) => RuleFault::Circle { members },
+        Err(_) => RuleFault::NoMemory,
     }
 }
 

@@ -4,5 +4,4 @@
 mod arcs;
 mod rule;
 
-pub use client_server_conditions::RoleFault;
 pub use rule::client_server;

@@ -1,11 +1,14 @@
 -- Facts that are kept by the places of a lap.
-use Rattle.std.proofs.Common.{◌≡◌, ℕ, ◌<◌, inl, inr, ◌⊎◌, List, [], length, get_or, set, Option, Some, None, Result, Err, IsTrue, sym, ap, subst, ◌∙◌}
+use Rattle.std.proofs.Common.{◌≡◌, ℕ, ◌<◌, inl, inr, ◌⊎◌, List, [], length, get_or, set, Option, Some, None, Result, Err, IsTrue, true, sym, ap, subst, ◌∙◌}
 use Rattle.std.proofs.lemmas.Bool.{cases_eq, cases_lt}
 use Rattle.std.proofs.lemmas.List.{get_or-set_same, get_or-set_other, get_or_past, get_or_read}
 use Rattle.csp_tables.specs.Table.{Node, node_at, is_possible}
 use Rattle.csp_tables.specs.Form.{HasForm}
 use Rattle.csp_tables.specs.Part.{part_at}
-use Rattle.csp_tables.specs.Shape.{Shape}
+use Rattle.csp_base.specs.Members.{has}
+use Rattle.csp_tables.specs.Shape.{Shape, IsWellFormed}
+use Rattle.design_rules.proofs.Shapes.{link_shared}
+use Rattle.observed_runs.specs.Enough.{AreEnough}
 use Rattle.observed_runs.specs.Observed.{pair_at}
 use Rattle.observed_runs.proofs.Leading.{listed_step, step_listed}
 use Rattle.shape_links.specs.Links.{IsOwner}
@@ -82,12 +85,21 @@ clashing shape i pairs firsts place fact f g a is k = record {
 pub noted_still : (shape : Shape) (i : ℕ) (pairs : List (ℕ × ℕ)) (old new : List (Option Fact)) (p : ℕ) → KeepsFirsts old new → IsNoted shape i pairs old p → IsNoted shape i pairs new p
 noted_still shape i pairs old new p keeps noted e l possible o = keeps (pair_at pairs p).1 l (noted e l possible o)
 
--- where each step of the node is noted, all that is possible is
-pub all_noted : (shape : Shape) (i : ℕ) (pairs : List (ℕ × ℕ)) (firsts : List (Option Fact)) (p : ℕ) (next : List (ℕ × ℕ)) → next ≡ (node_at (part_at shape.parts i).table (pair_at pairs p).0).next → ((k l : ℕ) → k < length next → IsOwner shape l (get_or next k (0, 0)).0 → HasFirst firsts (pair_at pairs p).1 l) → IsNoted shape i pairs firsts p
-all_noted shape i pairs firsts p next is all e l possible o =
+-- where each of enough steps of the node is noted, all that is possible is
+pub all_noted : (shape : Shape) (i : ℕ) (pairs : List (ℕ × ℕ)) (firsts : List (Option Fact)) (p : ℕ) (some : List (ℕ × ℕ)) → IsWellFormed shape → AreEnough shape.vocabulary (node_at (part_at shape.parts i).table (pair_at pairs p).0).next some → ((k l : ℕ) → k < length some → IsOwner shape l (pair_at some k).0 → HasFirst firsts (pair_at pairs p).1 l) → IsNoted shape i pairs firsts p
+all_noted shape i pairs firsts p some w enough all e l possible o =
     let s = listed_step (node_at (part_at shape.parts i).table (pair_at pairs p).0).next e possible in
-    all s.place l (subst (λ zs. s.place < length zs) (sym is) s.within)
-    (subst (IsOwner shape l) (sym s.event ∙ ap (λ (zs : List (ℕ × ℕ)). (get_or zs s.place (0, 0)).0) (sym is)) o)
+    let seen : has shape.vocabulary e ≡ true = link_shared shape l w o.within e o.event in
+    let x = enough.seen s.place s.within (subst (λ j. has shape.vocabulary j ≡ true) (sym s.event) seen) in
+    all x.place l x.within (subst (IsOwner shape l) (sym (ap (λ (y : ℕ × ℕ). y.0) x.is ∙ s.event)) o)
+
+-- each of enough steps is possible
+pub enough_possible : (shape : Shape) (i n : ℕ) (some : List (ℕ × ℕ)) → HasForm (part_at shape.parts i) → AreEnough shape.vocabulary (node_at (part_at shape.parts i).table n).next some → (k : ℕ) → k < length some → IsTrue (is_possible (node_at (part_at shape.parts i).table n).next (pair_at some k).0)
+enough_possible shape i n some has_form enough k h =
+    let form = node_form (part_at shape.parts i).alphabet (length (part_at shape.parts i).table) (part_at shape.parts i).table n has_form.nodes in
+    let l = enough.sound k h in
+    let s = step_listed (part_at shape.parts i).alphabet (length (part_at shape.parts i).table) (node_at (part_at shape.parts i).table n).next l.place form l.within in
+    subst (λ (y : ℕ × ℕ). IsTrue (is_possible (node_at (part_at shape.parts i).table n).next y.0)) l.is s.possible
 
 abbrev pub failed : FactFault → Result (Unit {0}) FactFault
 failed fault = Err fault
@@ -109,11 +121,3 @@ same_clash f g x y h = (cc, cc)
 
 pub node_read : (table nodes : List Node) (n : ℕ) (node : Node) → nodes ≡ table → n < length table → node ≡ get_or nodes n node → node ≡ node_at table n
 node_read table nodes n node is h at = get_or_read table n node h (at ∙ ap (λ (ns : List Node). get_or ns n node) is) (record { next = []; accept = [] })
-
-pub step_possible : (shape : Shape) (i n : ℕ) (next : List (ℕ × ℕ)) (k : ℕ) (x : ℕ × ℕ) → HasForm (part_at shape.parts i) → next ≡ (node_at (part_at shape.parts i).table n).next → k < length next → x ≡ get_or next k x → (x ≡ get_or next k (0, 0)) × IsTrue (is_possible (node_at (part_at shape.parts i).table n).next x.0)
-step_possible shape i n next k x has is below at =
-    let p = part_at shape.parts i in
-    let form = node_form (part_at shape.parts i).alphabet (length (part_at shape.parts i).table) (part_at shape.parts i).table n has.nodes in
-    let s = step_listed (part_at shape.parts i).alphabet (length (part_at shape.parts i).table) (node_at (part_at shape.parts i).table n).next k form (subst (λ (zs : List (ℕ × ℕ)). k < length zs) is below) in
-    let same : x ≡ get_or next k (0, 0) = get_or_read next k x below at (0, 0) in
-    (same, subst (λ (y : ℕ × ℕ). IsTrue (is_possible (node_at (part_at shape.parts i).table n).next y.0)) (sym (same ∙ ap (λ (zs : List (ℕ × ℕ)). get_or zs k (0, 0)) is)) s.possible)

@@ -7,10 +7,10 @@ ghost use Rattle.observed_runs.specs.Observed.{pair_at};
 ghost use Rattle.cyclic_conditions.specs.Facts.{Disagree, AreClashing, AreFirsts, AreNoted, HasFirst, IsFact, IsNoted, KeepsFirsts, first_at, is_of_link, links_in_order};
 ghost use Rattle.shape_links.specs.Links.{IsOwner};
 
-use crate::fault::CyclicFault;
-use crate::prepared::Prepared;
 use containers::Items;
 use csp_base::{Event, NoMemory};
+use design_rules::RuleFault;
+use shape_links::Prepared;
 use std::alloc::Global;
 
 // At a pair of an exploration an event of a link is possible.
@@ -99,10 +99,34 @@ fn note_all(
     ensures noted { OnOk result (IsNoted prepared.now part pairs.now firsts.new pair) }
     ensures clash { (f g : Fact) → result ≡ Err (FactFault.Clash f g) → AreClashing prepared.now part pairs.now f g }
 {
-    let at = pairs[pair];
-    let nodes = prepared.component(part).table().nodes();
-    for step in nodes[at.0 as usize].next() {
-        note_event(prepared, part, pairs, pair, at.1, step.0, firsts)?;
+    let _form = prepared.shape();
+    let (node, place) = pairs[pair];
+    let steps = prepared.steps(part, node);
+    note_steps(prepared, part, pairs, pair, place, steps, firsts)
+}
+
+// Notes each link that has an event of these steps, which are possible at the pair.
+fn note_steps(
+    prepared: &Prepared<'_>,
+    part: u32,
+    pairs: &[(u32, u32)],
+    pair: usize,
+    place: u32,
+    steps: &[(Event, u32)],
+    firsts: &mut [Option<Fact>],
+) -> Result<(), FactFault>
+    requires within { pair < length pairs.now }
+    requires is_place { (pair_at pairs.now pair).1 ≡ place }
+    requires place { place < length firsts.old }
+    requires possible { (k : ℕ) → k < length steps.now → IsTrue (is_possible (node_at (part_at prepared.now.parts part).table (pair_at pairs.now pair).0).next (pair_at steps.now k).0) }
+    requires firsts { AreFirsts prepared.now part pairs.now firsts.old }
+    ensures firsts { OnOk result (AreFirsts prepared.now part pairs.now firsts.new) }
+    ensures keeps { OnOk result (KeepsFirsts firsts.old firsts.new) }
+    ensures noted { OnOk result ((k l : ℕ) → k < length steps.now → IsOwner prepared.now l (pair_at steps.now k).0 → HasFirst firsts.new place l) }
+    ensures clash { (f g : Fact) → result ≡ Err (FactFault.Clash f g) → AreClashing prepared.now part pairs.now f g }
+{
+    for (event, _) in steps {
+        note_event(prepared, part, pairs, pair, place, *event, firsts)?;
     }
     Ok(())
 }
@@ -183,9 +207,9 @@ fn is_of(first: &Option<Fact>, link: u32) -> bool
 }
 
 // The links in the order of their places, up to the first place without one.
-pub(crate) fn in_order(alloc: Global, firsts: &[Option<Fact>]) -> Result<Items<u32>, CyclicFault>
+pub(crate) fn in_order(alloc: Global, firsts: &[Option<Fact>]) -> Result<Items<u32>, RuleFault>
     ensures links { IfOk result (λ links. links ≡ links_in_order firsts.now) }
-    ensures fault { IfErr result (λ fault. fault ≡ CyclicFault.NoMemory) }
+    ensures fault { IfErr result (λ fault. fault ≡ RuleFault.NoMemory) }
 {
     let mut links = Items::new(alloc);
     for first in firsts {

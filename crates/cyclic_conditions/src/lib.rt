@@ -3,12 +3,8 @@
 #![tactic(auto)]
 
 mod facts;
-mod fault;
 mod orders;
-mod prepared;
 mod whole;
 
-pub use fault::CyclicFault;
 pub use orders::link_orders;
-pub use prepared::Prepared;
 pub use whole::check_ends;

@@ -7,22 +7,23 @@ ghost use Rattle.observed_runs.specs.Exploration.{AreFound, IsExploration};
 ghost use Rattle.observed_runs.specs.Observers.{lap_step};
 ghost use Rattle.cyclic_conditions.specs.Facts.{AreClashing};
 ghost use Rattle.cyclic_conditions.specs.Orders.{AreOrders, IsOrder};
-ghost use Rattle.cyclic_conditions.specs.Told.{IsBrokenOrder, Tells};
+ghost use Rattle.cyclic_conditions.specs.Told.{IsBrokenOrder};
+ghost use Rattle.design_rules.specs.Rules.{BreaksCyclic};
 
 use crate::facts::{Fact, FactFault, facts, in_order};
-use crate::fault::CyclicFault;
-use crate::prepared::Prepared;
 use containers::Items;
 use csp_base::{Event, NoMemory, Trace};
-use observed_runs::{Explored, Lap, explore};
+use design_rules::RuleFault;
+use observed_runs::{Explored, Lap};
+use shape_links::{Prepared, explored};
 use std::alloc::Global;
 
 /// For each part the links that it reaches, in the order in which it comes to them; or the first part that goes through them in
 /// no fixed order.
-pub fn link_orders(alloc: Global, prepared: &Prepared<'_>) -> Result<Vec<Items<u32>>, CyclicFault>
+pub fn link_orders(alloc: Global, prepared: &Prepared<'_>) -> Result<Vec<Items<u32>>, RuleFault>
     ensures keep { OnOk result (AllKeepPlaces prepared.now) }
     ensures orders { IfOk result (λ orders. AreOrders prepared.now orders.items) }
-    ensures fault { IfErr result (λ fault. Tells prepared.now fault) }
+    ensures fault { IfErr result (λ fault. BreaksCyclic prepared.now fault) }
 {
     let count = prepared.shape().parts().len();
     let mut orders = Vec::new(alloc);
@@ -38,7 +39,7 @@ fn add_order(
     prepared: &Prepared<'_>,
     part: u32,
     orders: &mut Vec<Items<u32>>,
-) -> Result<(), CyclicFault>
+) -> Result<(), RuleFault>
     requires { part < length prepared.now.parts }
     ensures keeps { OnOk result (KeepsPlaces prepared.now part) }
     ensures order { OnOk result ((order : List ℕ) × IsOrder prepared.now part order × (orders.new.items ≡ orders.old.items ++ order ∷ [])) }
@@ -46,13 +47,13 @@ fn add_order(
 {
     let order = order_of(alloc, prepared, part)?;
     let Ok(()) = orders.push(order) else {
-        return Err(CyclicFault::NoMemory);
+        return Err(RuleFault::NoMemory);
     };
     Ok(())
 }
 
 // The links that the part reaches, in the order in which it comes to them.
-fn order_of(alloc: Global, prepared: &Prepared<'_>, part: u32) -> Result<Items<u32>, CyclicFault>
+fn order_of(alloc: Global, prepared: &Prepared<'_>, part: u32) -> Result<Items<u32>, RuleFault>
     requires { part < length prepared.now.parts }
     ensures keeps { OnOk result (KeepsPlaces prepared.now part) }
     ensures order { IfOk result (λ order. IsOrder prepared.now part order) }
@@ -74,7 +75,7 @@ fn order_found(
     part: u32,
     count: u32,
     explored: &Explored,
-) -> Result<Items<u32>, CyclicFault>
+) -> Result<Items<u32>, RuleFault>
     requires part { part < length prepared.now.parts }
     requires links { count ≡ links_of prepared.now part }
     requires some { 0 < count }
@@ -90,7 +91,7 @@ fn order_found(
         Err(FactFault::Clash(here, there)) => {
             Err(told(alloc, prepared, part, explored, here, there))
         }
-        Err(FactFault::NoMemory) => Err(CyclicFault::NoMemory),
+        Err(FactFault::NoMemory) => Err(RuleFault::NoMemory),
     }
 }
 
@@ -108,7 +109,7 @@ fn explored_part(
     ensures found { IfOk result (λ explored. AreFound (part_at prepared.now.parts part).table (lap_step prepared.now.vocabulary (links_of prepared.now part - 1)) 0 explored) }
 {
     let lap = Lap::new(prepared.shape().vocabulary(), count);
-    explore(alloc, prepared.component(part), &lap)
+    explored(alloc, prepared, part, &lap)
 }
 
 // What two facts tell that no order allows: the one whose run is not the shorter one.
@@ -119,7 +120,7 @@ fn told(
     explored: &Explored,
     here: Fact,
     there: Fact,
-) -> CyclicFault
+) -> RuleFault
     requires part { part < length prepared.now.parts }
     requires links { 0 < links_of prepared.now part }
     requires found { AreFound (part_at prepared.now.parts part).table (lap_step prepared.now.vocabulary (links_of prepared.now part - 1)) 0 explored.now }
@@ -128,27 +129,27 @@ fn told(
 {
     let _form = prepared.shape();
     let Ok(first) = explored.run_to(alloc, here.pair) else {
-        return CyclicFault::NoMemory;
+        return RuleFault::NoMemory;
     };
     let Ok(second) = explored.run_to(alloc, there.pair) else {
-        return CyclicFault::NoMemory;
+        return RuleFault::NoMemory;
     };
     no_order(part, first, second, here.event, there.event)
 }
 
 // The fault with the run that is not the shorter one, and the event after it.
-fn no_order(part: u32, first: Trace, second: Trace, here: Event, there: Event) -> CyclicFault
-    ensures first { length second ≤ length first → result ≡ CyclicFault.NoOrder part first here }
-    ensures second { length first < length second → result ≡ CyclicFault.NoOrder part second there }
+fn no_order(part: u32, first: Trace, second: Trace, here: Event, there: Event) -> RuleFault
+    ensures first { length second ≤ length first → result ≡ RuleFault.NoOrder part first here }
+    ensures second { length first < length second → result ≡ RuleFault.NoOrder part second there }
 {
     if second.len() <= first.len() {
-        return CyclicFault::NoOrder {
+        return RuleFault::NoOrder {
             part,
             trace: first,
             event: here,
         };
     }
-    CyclicFault::NoOrder {
+    RuleFault::NoOrder {
         part,
         trace: second,
         event: there,

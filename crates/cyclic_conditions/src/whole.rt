@@ -7,20 +7,20 @@ ghost use Rattle.csp_tables.specs.Table.{IsRun, end_of, node_at};
 ghost use Rattle.design_rules.specs.Cyclic.{AllKeepPlaces, CanBeNumbered, FallsShort, HasWholeEnd, IsWholeEnd};
 ghost use Rattle.observed_runs.specs.Observed.{pair_at};
 ghost use Rattle.cyclic_conditions.specs.Shorts.{AreShorts, IsMarked, IsOnOne, IsShort, IsShortAt, KeepsShorts, short_at};
-ghost use Rattle.cyclic_conditions.specs.Told.{Tells};
+ghost use Rattle.design_rules.specs.Rules.{BreaksCyclic};
 
-use crate::fault::CyclicFault;
-use crate::prepared::Prepared;
-use csp_base::{Event, EventSet, NoMemory, Trace};
-use observed_runs::{Unwatched, explore};
+use csp_base::{Event, EventSet, NoMemory};
+use design_rules::RuleFault;
+use observed_runs::run_to_node;
+use shape_links::Prepared;
 use std::alloc::Global;
 
 /// Succeeds where each link has a whole end, and else tells the first that has none.
-pub fn check_ends(alloc: Global, prepared: &Prepared<'_>) -> Result<(), CyclicFault>
+pub fn check_ends(alloc: Global, prepared: &Prepared<'_>) -> Result<(), RuleFault>
     requires keep { AllKeepPlaces prepared.now }
     requires numbered { CanBeNumbered prepared.now }
     ensures whole { OnOk result ((l : ℕ) → l < length prepared.now.links → HasWholeEnd prepared.now l) }
-    ensures fault { IfErr result (λ fault. Tells prepared.now fault) }
+    ensures fault { IfErr result (λ fault. BreaksCyclic prepared.now fault) }
 {
     let count = prepared.shape().links().len();
     let (mut left, mut right) = unmarked(alloc, count)?;
@@ -43,7 +43,7 @@ fn mark_and_check(
     prepared: &Prepared<'_>,
     left: &mut [Option<u32>],
     right: &mut [Option<u32>],
-) -> Result<(), CyclicFault>
+) -> Result<(), RuleFault>
     requires keep { AllKeepPlaces prepared.now }
     requires numbered { CanBeNumbered prepared.now }
     requires left { length left.old ≡ length prepared.now.links }
@@ -51,7 +51,7 @@ fn mark_and_check(
     requires none_left { (l : ℕ) → short_at left.old l ≡ None }
     requires none_right { (l : ℕ) → short_at right.old l ≡ None }
     ensures whole { OnOk result ((l : ℕ) → l < length prepared.now.links → HasWholeEnd prepared.now l) }
-    ensures fault { IfErr result (λ fault. Tells prepared.now fault) }
+    ensures fault { IfErr result (λ fault. BreaksCyclic prepared.now fault) }
 {
     mark_all(prepared, left, right);
     check_marks(alloc, prepared, left, right)
@@ -63,7 +63,7 @@ fn check_marks(
     prepared: &Prepared<'_>,
     left: &[Option<u32>],
     right: &[Option<u32>],
-) -> Result<(), CyclicFault>
+) -> Result<(), RuleFault>
     requires keep { AllKeepPlaces prepared.now }
     requires numbered { CanBeNumbered prepared.now }
     requires left { length left.now ≡ length prepared.now.links }
@@ -71,7 +71,7 @@ fn check_marks(
     requires shorts { AreShorts prepared.now left.now right.now }
     requires marked { (i l n : ℕ) → i < length prepared.now.parts → IsShortAt prepared.now i l n → IsMarked prepared.now left.now right.now i l }
     ensures whole { OnOk result ((l : ℕ) → l < length prepared.now.links → HasWholeEnd prepared.now l) }
-    ensures fault { IfErr result (λ fault. Tells prepared.now fault) }
+    ensures fault { IfErr result (λ fault. BreaksCyclic prepared.now fault) }
 {
     let _form = prepared.shape();
     let _order = _form.links();
@@ -88,7 +88,7 @@ fn check_link(
     link: u32,
     left: Option<u32>,
     right: Option<u32>,
-) -> Result<(), CyclicFault>
+) -> Result<(), RuleFault>
     requires keep { AllKeepPlaces prepared.now }
     requires numbered { CanBeNumbered prepared.now }
     requires link { link < length prepared.now.links }
@@ -98,7 +98,7 @@ fn check_link(
     requires right_whole { right ≡ None → IsWholeEnd prepared.now link (link_at prepared.now link).right }
     requires first { (m : ℕ) → m < link → HasWholeEnd prepared.now m }
     ensures whole { OnOk result (HasWholeEnd prepared.now link) }
-    ensures fault { IfErr result (λ fault. Tells prepared.now fault) }
+    ensures fault { IfErr result (λ fault. BreaksCyclic prepared.now fault) }
 {
     let Some(left_node) = left else {
         return Ok(());
@@ -116,54 +116,24 @@ fn told(
     link: u32,
     left_node: u32,
     right_node: u32,
-) -> CyclicFault
+) -> RuleFault
     requires link { link < length prepared.now.links }
     requires left { IsShortAt prepared.now (link_at prepared.now link).left link left_node }
     requires right { IsShortAt prepared.now (link_at prepared.now link).right link right_node }
     requires keep { AllKeepPlaces prepared.now }
     requires numbered { CanBeNumbered prepared.now }
     requires first { (m : ℕ) → m < link → HasWholeEnd prepared.now m }
-    ensures { Tells prepared.now result }
+    ensures { BreaksCyclic prepared.now result }
 {
     let shape = prepared.shape();
     let ends = &shape.links()[link as usize];
-    let Ok(left) = run_to_node(alloc, prepared, ends.left(), left_node) else {
-        return CyclicFault::NoMemory;
+    let Ok(left) = run_to_node(alloc, prepared.component(ends.left()), left_node) else {
+        return RuleFault::NoMemory;
     };
-    let Ok(right) = run_to_node(alloc, prepared, ends.right(), right_node) else {
-        return CyclicFault::NoMemory;
+    let Ok(right) = run_to_node(alloc, prepared.component(ends.right()), right_node) else {
+        return RuleFault::NoMemory;
     };
-    CyclicFault::NoWholeEnd { link, left, right }
-}
-
-// A run of the part's table that leads to the node.
-fn run_to_node(
-    alloc: Global,
-    prepared: &Prepared<'_>,
-    part: u32,
-    node: u32,
-) -> Result<Trace, NoMemory>
-    requires part { part < length prepared.now.parts }
-    requires reached { IsReached (part_at prepared.now.parts part).table node }
-    ensures { IfOk result (λ run. IsRun (part_at prepared.now.parts part).table run × (end_of (part_at prepared.now.parts part).table 0 run ≡ node)) }
-{
-    let explored = explore(alloc, prepared.component(part), &Unwatched)?;
-    let place = node_place(explored.pairs(), node);
-    explored.run_to(alloc, place)
-}
-
-// The place of a pair with the node.
-fn node_place(pairs: &[(u32, u32)], node: u32) -> usize
-    requires { (k : ℕ) × (k < length pairs.now) × ((pair_at pairs.now k).0 ≡ node) }
-    ensures within { result < length pairs.now }
-    ensures found { (pair_at pairs.now result).0 ≡ node }
-{
-    for (place, (other, _)) in pairs.iter().enumerate() {
-        if *other == node {
-            return place;
-        }
-    }
-    unreachable!()
+    RuleFault::NoWholeEnd { link, left, right }
 }
 
 // Marks for each link the ends that fall short, each with a node where it does.

@@ -4,5 +4,4 @@
 mod numbers;
 mod rule;
 
-pub use cyclic_conditions::CyclicFault;
 pub use rule::cyclic;

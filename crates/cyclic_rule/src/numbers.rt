@@ -9,13 +9,13 @@ ghost use Rattle.cyclic_rule.specs.Chains.{ComesNext, IsNextAt, IsNextIn, IsRest
 ghost use Rattle.shape_links.specs.Links.{ends_of};
 ghost use Rattle.shape_links.specs.Turned.{turned_circle};
 ghost use Rattle.cyclic_conditions.specs.Orders.{AreOrders};
-ghost use Rattle.cyclic_conditions.specs.Told.{Tells};
+ghost use Rattle.design_rules.specs.Rules.{BreaksCyclic};
 
 use containers::Items;
 use csp_base::NoMemory;
-use cyclic_conditions::{CyclicFault, Prepared};
+use design_rules::RuleFault;
 use digraph::{Fault, Heights, Rows, longest_walks};
-use shape_links::turned;
+use shape_links::{Prepared, turned};
 use std::alloc::Global;
 
 // For each link the greatest number of links that must come before it in a chain.
@@ -23,31 +23,31 @@ pub(crate) fn numbers(
     alloc: Global,
     prepared: &Prepared<'_>,
     orders: &[Items<u32>],
-) -> Result<Heights, CyclicFault>
+) -> Result<Heights, RuleFault>
     requires keep { AllKeepPlaces prepared.now }
     requires orders { AreOrders prepared.now orders.now }
     ensures count { IfOk result (λ numbers. length numbers ≡ length prepared.now.links) }
     ensures chains { IfOk result (λ numbers. AreChainNumbers prepared.now (slice_index numbers)) }
     ensures rise { IfOk result (λ numbers. NumbersRise prepared.now (slice_index numbers)) }
-    ensures fault { IfErr result (λ fault. Tells prepared.now fault) }
+    ensures fault { IfErr result (λ fault. BreaksCyclic prepared.now fault) }
 {
     let _form = prepared.shape();
     let rows = chains(alloc, prepared, orders)?;
     match longest_walks(alloc, &rows) {
         Ok(heights) => Ok(heights),
         Err(Fault::Circle(circle)) => Err(told(alloc, circle.members())),
-        Err(Fault::NoMemory) => Err(CyclicFault::NoMemory),
+        Err(Fault::NoMemory) => Err(RuleFault::NoMemory),
     }
 }
 
 // The circle in the other direction, or that memory ran out.
-fn told(alloc: Global, circle: &[u32]) -> CyclicFault
+fn told(alloc: Global, circle: &[u32]) -> RuleFault
     requires { 0 < length circle.now }
-    ensures { (result ≡ CyclicFault.NoMemory) ⊎ (result ≡ CyclicFault.Circle (turned_circle circle.now)) }
+    ensures { (result ≡ RuleFault.NoMemory) ⊎ (result ≡ RuleFault.Circle (turned_circle circle.now)) }
 {
     match turned(alloc, circle) {
-        Ok(links) => CyclicFault::Circle { links },
-        Err(_) => CyclicFault::NoMemory,
+        Ok(members) => RuleFault::Circle { members },
+        Err(_) => RuleFault::NoMemory,
     }
 }
 

@@ -3,37 +3,36 @@
 ghost use Rattle.std.specs.Prelude.{◌≡◌, ◌<◌, ℕ, IfErr, IfOk, OnOk, length, slice_index};
 ghost use Rattle.csp_tables.specs.Part.{TripleDisjoint, alphabets_of};
 ghost use Rattle.csp_tables.specs.Shape.{IsWellFormed};
-ghost use Rattle.csp_tables.specs.Standing.{IsBusyShape};
 ghost use Rattle.design_rules.specs.Cyclic.{AllKeepPlaces, HasWholeEnd, IsCyclic, NumbersRise};
 ghost use Rattle.design_rules.specs.CyclicRanking.{AreChainNumbers, IsCyclicRanking};
-ghost use Rattle.cyclic_conditions.specs.Told.{Tells};
+ghost use Rattle.design_rules.specs.Rules.{BreaksCyclic};
 
 use crate::numbers::numbers;
 use csp_tables::{Ranking, Shape};
-use cyclic_conditions::{CyclicFault, Prepared, check_ends, link_orders};
+use cyclic_conditions::{check_ends, link_orders};
+use design_rules::RuleFault;
 use digraph::Heights;
 use rule_rankings::cyclic_ranking;
+use shape_links::Prepared;
 use std::alloc::Global;
 
 /// The ranking of a cyclic network, or what breaks the rule.
-pub fn cyclic(alloc: Global, shape: &Shape) -> Result<Ranking, CyclicFault>
+pub fn cyclic(alloc: Global, shape: &Shape) -> Result<Ranking, RuleFault>
     requires form { IsWellFormed shape.now }
     requires apart { TripleDisjoint (alphabets_of shape.now.parts) }
-    requires busy { IsBusyShape shape.now }
     ensures cyclic { OnOk result (IsCyclic shape.now) }
     ensures ranking { IfOk result (λ ranking. IsCyclicRanking shape.now ranking) }
-    // Each fault breaks the rule (design_rules).
-    ensures fault { IfErr result (λ fault. Tells shape.now fault) }
+    ensures fault { IfErr result (λ fault. BreaksCyclic shape.now fault) }
 {
     let prepared = Prepared::new(alloc, shape)?;
     ranked(alloc, &prepared)
 }
 
 // The same of a shape that is prepared.
-fn ranked(alloc: Global, prepared: &Prepared<'_>) -> Result<Ranking, CyclicFault>
+fn ranked(alloc: Global, prepared: &Prepared<'_>) -> Result<Ranking, RuleFault>
     ensures cyclic { OnOk result (IsCyclic prepared.now) }
     ensures ranking { IfOk result (λ ranking. IsCyclicRanking prepared.now ranking) }
-    ensures fault { IfErr result (λ fault. Tells prepared.now fault) }
+    ensures fault { IfErr result (λ fault. BreaksCyclic prepared.now fault) }
 {
     let numbers = checked_numbers(alloc, prepared)?;
     let ranking = cyclic_ranking(alloc, prepared, &numbers)?;
@@ -41,13 +40,13 @@ fn ranked(alloc: Global, prepared: &Prepared<'_>) -> Result<Ranking, CyclicFault
 }
 
 // The numbers of the links, where the rule holds, and else what breaks it.
-fn checked_numbers(alloc: Global, prepared: &Prepared<'_>) -> Result<Heights, CyclicFault>
+fn checked_numbers(alloc: Global, prepared: &Prepared<'_>) -> Result<Heights, RuleFault>
     ensures keep { OnOk result (AllKeepPlaces prepared.now) }
     ensures count { IfOk result (λ numbers. length numbers ≡ length prepared.now.links) }
     ensures chains { IfOk result (λ numbers. AreChainNumbers prepared.now (slice_index numbers)) }
     ensures rise { IfOk result (λ numbers. NumbersRise prepared.now (slice_index numbers)) }
     ensures whole { OnOk result ((l : ℕ) → l < length prepared.now.links → HasWholeEnd prepared.now l) }
-    ensures fault { IfErr result (λ fault. Tells prepared.now fault) }
+    ensures fault { IfErr result (λ fault. BreaksCyclic prepared.now fault) }
 {
     let orders = link_orders(alloc, prepared)?;
     let numbers = numbers(alloc, prepared, &orders)?;

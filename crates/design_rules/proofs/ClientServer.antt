@@ -15,7 +15,7 @@ use Rattle.design_rules.specs.ClientServerRanking.{IsClientServerRanking}
 use Rattle.csp_tables.specs.Ranking.{Ranking, rank_after}
 use Rattle.csp_tables.specs.Falls.{lead}
 use Rattle.net_sound.proofs.Finite.{search_list}
-use Rattle.design_rules.specs.ClientServerLaws.{ClientServerRanksFall, ClientServerFaultsRefute}
+use Rattle.design_rules.specs.ClientServerLaws.{ClientServerRanksFall}
 use Rattle.design_rules.proofs.Walks.{Graph, falls, height_below}
 use Rattle.design_rules.proofs.Shapes.{turned, first_end, link_events, own_run, own_end, Side, Request, request}
 
@@ -148,18 +148,3 @@ client_server_ranks_fall shape roles ranking w rule ranks s i j k l u =
           (falls (Serves shape roles) ranks.height (length shape.parts) g j i r.there.part (record { link = r.link; joins = turned shape i j r.link r.joins; client = client }))
           (ri.when_meets (offers_requests shape roles s i j k l w c r client)) (either_rank shape roles ranks.height s j l y rj)
     ])
-
-pub client_server_faults_refute : ClientServerFaultsRefute
-client_server_faults_refute = record {
-  breaks_roles = λ shape roles condition i s rule fault. elim fault [
-    | inl a ↦ a.2.broken (rule.keep_roles.parted i a.2.within)
-    | inr f ↦ elim f [
-      | inl b ↦ b.2.broken (rule.keep_roles.linked b.2.link b.2.within)
-      | inr g ↦ elim g [
-        | inl c ↦ c.1.broken (rule.keep_roles.turns i s)
-        | inr h ↦ elim h [ inl d ↦ d.1.broken (rule.keep_roles.serving i s) | inr e ↦ e.1.broken (rule.keep_roles.answers i s) ]
-      ]
-    ]
-  ];
-  clients_in_circle = λ shape roles clients rule fault. rule.no_circle clients fault.circle.circle;
-}

@@ -9,11 +9,10 @@ use Rattle.csp_tables.specs.Table.{end_of}
 use Rattle.csp_tables.specs.Part.{part_at}
 use Rattle.csp_tables.specs.Shape.{Shape, is_end, link_at, IsWellFormed}
 use Rattle.csp_tables.specs.Standing.{IsPossible, accepted, IsBusyShape}
-use Rattle.design_rules.proofs.Walks.{no_circle}
-use Rattle.design_rules.specs.Cyclic.{KeepsPlaces, links_of, ReachesLink, place_after, AllKeepPlaces, MustPrecede, NumbersRise, IsWholeEnd, HasWholeEnd, IsCyclic}
+use Rattle.design_rules.specs.Cyclic.{KeepsPlaces, links_of, ReachesLink, place_after, AllKeepPlaces, NumbersRise, IsWholeEnd, HasWholeEnd, IsCyclic}
 use Rattle.design_rules.specs.CyclicNumbered.{LinksDiffer, KeepsOrder, IsFullEnd, HasFullEnds, HasOrder, IsNumberedCyclic}
 use Rattle.design_rules.specs.CyclicRanking.{place_of, AreChainNumbers, ComesAfter}
-use Rattle.design_rules.specs.CyclicLaws.{CyclicRanksFall, NumberedRanksFall, ReachedRanksFall, CyclicFaultsRefute, IsRuleByNumbers}
+use Rattle.design_rules.specs.CyclicLaws.{CyclicRanksFall, NumberedRanksFall, ReachedRanksFall, IsRuleByNumbers}
 use Rattle.design_rules.proofs.Cyclic.{place_below, places_differ, earlier_place, Ordered, next_link, whole_has, ordered_ranks_fall}
 use Rattle.design_rules.proofs.Places.{Keeping, earlier, place_is, reached_differ}
 
@@ -45,13 +44,6 @@ pub cyclic_ranks_fall : CyclicRanksFall
 cyclic_ranks_fall shape ranking w rule r = ordered_ranks_fall shape r.number ranking (ordered shape r.number w rule.order (chains_rise shape r.number r.numbers) rule.whole) r.ranks
 
 -- ---- faults
-
-pub cyclic_faults_refute : CyclicFaultsRefute
-cyclic_faults_refute = record {
-  no_order = λ shape i s e rule fault. rule.order i fault.breaks.reaches.possible.runs.part s e fault.breaks;
-  orders_disagree = λ shape links rule fault. no_circle (MustPrecede shape) rule.numbered.number rule.numbered.rise links fault.circle.circle;
-  no_whole_end = λ shape l s t rule fault. elim (rule.whole l fault.within) [ inl left ↦ left s fault.left | inr right ↦ right t fault.right ];
-}
 
 -- ---- from the rule to numbers
 

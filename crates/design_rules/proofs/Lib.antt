@@ -11,6 +11,7 @@ pub mod Holders
 pub mod Live
 pub mod OneOrder
 pub mod Places
+pub mod Refuting
 pub mod RankCheck
 pub mod Resource
 pub mod ResourceCheck

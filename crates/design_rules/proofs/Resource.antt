@@ -1,5 +1,5 @@
 -- The ranking of a network of users and resources falls along ungranted requests.
-use Rattle.std.proofs.Common.{◌≡◌, ℕ, zero, suc, ◌+◌, ◌-◌, ◌*◌, ◌<◌, ◌≤◌, ◌⊎◌, inl, inr, ℤ, pos, ◌<ℤ◌, List, ◌∷◌, length, Bool, true, false, not, cond, IsTrue, refl, sym, ap, subst, ◌∙◌, arith}
+use Rattle.std.proofs.Common.{◌≡◌, ℕ, zero, suc, ◌+◌, ◌-◌, ◌*◌, ◌<◌, ◌≤◌, ◌⊎◌, inl, inr, ℤ, pos, ◌<ℤ◌, List, length, Bool, true, false, not, cond, IsTrue, refl, sym, ap, subst, ◌∙◌, arith}
 use Rattle.std.proofs.lemmas.Bool.{cases_Bool, cases_lt, cases_eq, both_ways, and_parts, and_from, cond-true, cond-false}
 use Rattle.std.proofs.lemmas.Int.{ints}
 use Rattle.std.specs.List.{list_any}
@@ -14,11 +14,10 @@ use Rattle.design_rules.specs.ResourceRanking.{AreResourceNumbers, top_number, r
 use Rattle.csp_tables.specs.Ranking.{Ranking, rank_after}
 use Rattle.csp_tables.specs.Falls.{lead}
 use Rattle.net_sound.proofs.Finite.{below_suc}
-use Rattle.design_rules.specs.ResourceLaws.{ResourceRanksFall, OrderedRanksFall, ResourceFaultsRefute}
+use Rattle.design_rules.specs.ResourceLaws.{ResourceRanksFall, OrderedRanksFall}
 use Rattle.design_rules.proofs.Shapes.{turned, first_end, link_events, own_run, Side, Request, request}
 use Rattle.design_rules.proofs.Holders.{Resource, turns, one_link}
 use Rattle.design_rules.proofs.ClientServer.{no_scale}
-use Rattle.design_rules.proofs.Walks.{no_circle}
 use Rattle.csp_base.proofs.Listed.{any_of}
 
 -- ---- what is acquired
@@ -256,15 +255,3 @@ resource_ranks_fall shape uses ranking w triple rule r =
     r.ranks
 
 -- ---- faults
-
-pub resource_faults_refute : ResourceFaultsRefute
-resource_faults_refute = record {
-  breaks_uses = λ shape uses condition i s rule fault. elim fault [
-    | inl a ↦ a.2.broken (record { linked = λ l h left. rule.keep_uses.kinds.linked l h; parted = rule.keep_uses.kinds.parted i a.2.within })
-    | inr f ↦ elim f [
-      | inl b ↦ b.1.broken (rule.keep_uses.used i s b.1.resource)
-      | inr g ↦ elim g [ inl c ↦ c.1.broken (rule.keep_uses.grants i s c.1.resource) | inr d ↦ d.1.broken (rule.keep_uses.turns i s d.1.user) ]
-    ]
-  ];
-  resources_in_circle = λ shape uses resources rule fault. no_circle (IsHeldWhile shape uses) rule.ordered.number rule.ordered.rise resources fault.circle.circle;
-}

@@ -1,5 +1,5 @@
 -- What a well-formed shape gives: the links of shared events, and what an ungranted request is in it.
-use Rattle.std.proofs.Common.{◌≡◌, ℕ, zero, suc, ◌+◌, ◌<◌, ◌≤◌, inl, inr, List, [], ◌∷◌, length, IsTrue, nat_eq, sym, subst, arith, eq-eqb}
+use Rattle.std.proofs.Common.{◌≡◌, ℕ, zero, suc, ◌<◌, ◌≤◌, inl, inr, List, [], ◌∷◌, length, IsTrue, nat_eq, sym, subst, arith, eq-eqb}
 use Rattle.std.proofs.lemmas.Bool.{cases_Bool, cases_order, or_cases, or_left, or_right, eqb-true}
 use Rattle.csp_base.specs.Members.{has}
 use Rattle.design_rules.specs.Counts.{count_in}

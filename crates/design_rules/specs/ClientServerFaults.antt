@@ -1,11 +1,13 @@
 -- What is told where a network is none of clients and servers: the least condition of S1 to S5 that is broken, with the first
 -- component that breaks it, and a run after which it does; or a circle of clients.
-use Rattle.std.specs.Prelude.{◌≡◌, ◌<◌, ◌⊎◌, ℕ, List, [], length}
+use Rattle.std.specs.Prelude.{◌≡◌, ◌<◌, ℕ, List, [], length}
 use Rattle.csp_tables.specs.Shape.{Shape, link_at}
-use Rattle.csp_tables.specs.Standing.{RunsTo}
 use Rattle.csp_tables.specs.Roles.{RoleSets}
 use Rattle.digraph.specs.Circle.{IsLeastCircle}
 use Rattle.design_rules.specs.ClientServer.{HasRoles, HasClient, TakesTurns, ServesAll, TakesAnswers, Serves, KeepRoles}
+use Rattle.design_rules.specs.FirstBroken.{AllKeep, IsFirstBroken}
+use Rattle.design_rules.specs.declared.condition.Condition.{Condition}
+use Rattle.design_rules.specs.declared.condition.Condition.TheVariants as condition
 
 -- S1 is broken
 pub record LacksRoles (shape : Shape) (roles : List RoleSets) (i : ℕ) : Type 0 where
@@ -22,41 +24,19 @@ pub record LacksClient (shape : Shape) (roles : List RoleSets) (i : ℕ) : Type 
   pub first : (m : ℕ) → m < link → HasClient shape roles m
   pub left : (link_at shape link).left ≡ i
 
--- S3 is broken
-pub record BreaksTurns (shape : Shape) (roles : List RoleSets) (i : ℕ) (s : List ℕ) : Type 0 where
-  pub parted : (j : ℕ) → j < length shape.parts → HasRoles shape roles j
+-- S1 and S2
+pub record HaveClients (shape : Shape) (roles : List RoleSets) : Type 0 where
+  pub parted : (i : ℕ) → i < length shape.parts → HasRoles shape roles i
   pub linked : (l : ℕ) → l < length shape.links → HasClient shape roles l
-  pub runs : RunsTo shape i s
-  pub broken : TakesTurns shape roles i s → ⊥
-  pub first : (j : ℕ) (t : List ℕ) → j < i → TakesTurns shape roles j t
 
--- S4 is broken
-pub record BreaksService (shape : Shape) (roles : List RoleSets) (i : ℕ) (s : List ℕ) : Type 0 where
-  pub parted : (j : ℕ) → j < length shape.parts → HasRoles shape roles j
-  pub linked : (l : ℕ) → l < length shape.links → HasClient shape roles l
-  pub turns : (j : ℕ) (t : List ℕ) → TakesTurns shape roles j t
-  pub runs : RunsTo shape i s
-  pub broken : ServesAll shape roles i s → ⊥
-  pub first : (j : ℕ) (t : List ℕ) → j < i → ServesAll shape roles j t
-
--- S5 is broken
-pub record RefusesAnswers (shape : Shape) (roles : List RoleSets) (i : ℕ) (s : List ℕ) : Type 0 where
-  pub parted : (j : ℕ) → j < length shape.parts → HasRoles shape roles j
-  pub linked : (l : ℕ) → l < length shape.links → HasClient shape roles l
-  pub turns : (j : ℕ) (t : List ℕ) → TakesTurns shape roles j t
-  pub serving : (j : ℕ) (t : List ℕ) → ServesAll shape roles j t
-  pub runs : RunsTo shape i s
-  pub broken : TakesAnswers shape roles i s → ⊥
-  pub first : (j : ℕ) (t : List ℕ) → j < i → TakesAnswers shape roles j t
-
--- The condition with this number is the least that is broken, by the part i after the run s. For S1 and S2 the run is empty.
-abbrev pub BreaksRoles : Shape → List RoleSets → ℕ → ℕ → List ℕ → Type 0
-BreaksRoles shape roles condition i s =
-    ((condition ≡ 1) × (s ≡ []) × LacksRoles shape roles i)
-    ⊎ ((condition ≡ 2) × (s ≡ []) × LacksClient shape roles i)
-    ⊎ ((condition ≡ 3) × BreaksTurns shape roles i s)
-    ⊎ ((condition ≡ 4) × BreaksService shape roles i s)
-    ⊎ ((condition ≡ 5) × RefusesAnswers shape roles i s)
+-- The condition is the least that is broken, by the part i after the run s. For S1 and S2 the run is empty.
+abbrev pub BreaksRoles : Shape → List RoleSets → Condition → ℕ → List ℕ → Type 0
+BreaksRoles shape roles condition.Roles i s = (s ≡ []) × LacksRoles shape roles i
+BreaksRoles shape roles condition.Clients i s = (s ≡ []) × LacksClient shape roles i
+BreaksRoles shape roles condition.Turns i s = HaveClients shape roles × IsFirstBroken shape (TakesTurns shape roles) i s
+BreaksRoles shape roles condition.Service i s = HaveClients shape roles × AllKeep (TakesTurns shape roles) × IsFirstBroken shape (ServesAll shape roles) i s
+BreaksRoles shape roles condition.Answers i s = HaveClients shape roles × AllKeep (TakesTurns shape roles) × AllKeep (ServesAll shape roles) × IsFirstBroken shape (TakesAnswers shape roles) i s
+BreaksRoles shape roles _ i s = ⊥
 
 -- S6 alone is broken: each component is a client of the next, and the last is one of the first
 pub record ClientsInCircle (shape : Shape) (roles : List RoleSets) (clients : List ℕ) : Type 0 where

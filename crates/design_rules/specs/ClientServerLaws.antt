@@ -1,22 +1,17 @@
--- The ranking of a client-server network is good, and each fault breaks the rule.
+-- The ranking of a client-server network is good.
 --
 -- Let i ask j for an event of their link, and let nothing of it be granted. If i is the client, j stands higher in the walk to
 -- servers. It takes no requests: where the link is closed, i asks for a request, and j would take all of them if it took
 -- any; where the link is open, j takes none. So its rank is its height, which is below both ranks that i may have. If i is the
 -- server and the link is closed, i offers to take requests, so its rank is above the rank that any of its clients may have.
 -- If the link is open, i offers an acknowledgement, and the client takes all of them: a contradiction.
-use Rattle.std.specs.Prelude.{ℕ, List}
+use Rattle.std.specs.Prelude.{List}
 use Rattle.csp_tables.specs.Shape.{Shape, IsWellFormed}
 use Rattle.csp_tables.specs.Roles.{RoleSets}
 use Rattle.csp_tables.specs.Ranking.{Ranking}
 use Rattle.csp_tables.specs.Falls.{Falls}
 use Rattle.design_rules.specs.ClientServer.{IsClientServer}
-use Rattle.design_rules.specs.ClientServerFaults.{BreaksRoles, ClientsInCircle}
 use Rattle.design_rules.specs.ClientServerRanking.{IsClientServerRanking}
 
 abbrev pub ClientServerRanksFall : Type 0
 ClientServerRanksFall = (shape : Shape) (roles : List RoleSets) (ranking : Ranking) → IsWellFormed shape → IsClientServer shape roles → IsClientServerRanking shape roles ranking → Falls shape.parts ranking
-
-pub record ClientServerFaultsRefute : Type 0 where
-  pub breaks_roles : (shape : Shape) (roles : List RoleSets) (condition i : ℕ) (s : List ℕ) → IsClientServer shape roles → BreaksRoles shape roles condition i s → ⊥
-  pub clients_in_circle : (shape : Shape) (roles : List RoleSets) (clients : List ℕ) → IsClientServer shape roles → ClientsInCircle shape roles clients → ⊥

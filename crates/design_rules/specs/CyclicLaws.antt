@@ -1,4 +1,4 @@
--- A cyclic network's ranking is good, each fault breaks the rule, and the rule can be said by numbers.
+-- A cyclic network's ranking is good, and the rule can be said by numbers.
 --
 -- Why the ranking falls: a component comes to each link that it reaches at one place of its lap, which is also how many of its
 -- links have smaller numbers. So let a component have k links, and let it have done t shared events. It has done t / k laps,
@@ -7,13 +7,12 @@
 -- too, both acceptances meet L, and one of the two has all events of L: a contradiction. If j's next link has a lower number,
 -- j has done with L in this lap and both have as many laps, and the rank falls. If it has a higher number, j is a lap behind,
 -- and the scale is above all ranks.
-use Rattle.std.specs.Prelude.{ℕ, List}
+use Rattle.std.specs.Prelude.{ℕ}
 use Rattle.csp_tables.specs.Shape.{Shape, IsWellFormed}
 use Rattle.csp_tables.specs.Standing.{IsBusyShape}
 use Rattle.csp_tables.specs.Ranking.{Ranking}
 use Rattle.csp_tables.specs.Falls.{Falls}
 use Rattle.design_rules.specs.Cyclic.{KeepsPlaces, IsCyclic}
-use Rattle.design_rules.specs.CyclicFaults.{HasNoOrder, OrdersDisagree, HasNoWholeEnd}
 use Rattle.design_rules.specs.CyclicNumbered.{ReachedLinksDiffer, KeepsOrder, HasFullEnds, HasOrder, IsNumberedCyclic}
 use Rattle.design_rules.specs.CyclicRanking.{AreCyclicRanks, IsCyclicRanking}
 
@@ -27,12 +26,6 @@ NumberedRanksFall = (shape : Shape) (rule : IsNumberedCyclic shape) (ranking : R
 -- and where links that a component never reaches share a number
 abbrev pub ReachedRanksFall : Type 0
 ReachedRanksFall = (shape : Shape) (number : ℕ → ℕ) (ranking : Ranking) → IsWellFormed shape → ReachedLinksDiffer shape number → KeepsOrder shape number → HasFullEnds shape number → AreCyclicRanks shape number ranking → Falls shape.parts ranking
-
--- each fault breaks the rule
-pub record CyclicFaultsRefute : Type 0 where
-  pub no_order : (shape : Shape) (i : ℕ) (s : List ℕ) (e : ℕ) → IsCyclic shape → HasNoOrder shape i s e → ⊥
-  pub orders_disagree : (shape : Shape) (links : List ℕ) → IsCyclic shape → OrdersDisagree shape links → ⊥
-  pub no_whole_end : (shape : Shape) (l : ℕ) (s t : List ℕ) → IsCyclic shape → HasNoWholeEnd shape l s t → ⊥
 
 -- A component keeps places exactly where its links have an order that it keeps. (To find the order one has to search for the
 -- links that it never reaches; that there is none is refuted without.)

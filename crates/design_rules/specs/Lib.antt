@@ -10,9 +10,11 @@ pub mod CyclicLaws
 pub mod CyclicNumbered
 pub mod CyclicRanking
 pub mod Example
+pub mod FirstBroken
 pub mod Live
 pub mod Resource
 pub mod ResourceFaults
 pub mod ResourceLaws
 pub mod ResourceRanking
+pub mod Rules
 pub mod Vertices

@@ -1,4 +1,4 @@
--- The ranking of a network of users and resources is good, and each fault breaks the rule.
+-- The ranking of a network of users and resources is good.
 --
 -- A resource's shared events are, in turn, to be acquired on some link and to be released on the same one. So a link has had an
 -- odd number of events exactly where the resource is held on it. Let i ask j for an event of their link, and let nothing of it
@@ -13,7 +13,6 @@ use Rattle.csp_tables.specs.Roles.{UseSets, use_at}
 use Rattle.csp_tables.specs.Ranking.{Ranking}
 use Rattle.csp_tables.specs.Falls.{Falls}
 use Rattle.design_rules.specs.Resource.{KeepUses, ResourcesRise, IsResource}
-use Rattle.design_rules.specs.ResourceFaults.{BreaksUses, ResourcesInCircle}
 use Rattle.design_rules.specs.ResourceRanking.{AreResourceRanks, IsResourceRanking}
 
 abbrev pub ResourceRanksFall : Type 0
@@ -24,7 +23,3 @@ abbrev pub OrderedRanksFall : Type 0
 OrderedRanksFall =
     (shape : Shape) (uses : List UseSets) (number : ℕ → ℕ) (top : ℕ) (ranking : Ranking) → IsWellFormed shape → TripleDisjoint (alphabets_of shape.parts) → KeepUses shape uses → ResourcesRise shape uses number →
     ((i : ℕ) → i < length shape.parts → (use_at uses i).resource ≡ true → 1 ≤ number i) → AreResourceRanks shape uses number top ranking → Falls shape.parts ranking
-
-pub record ResourceFaultsRefute : Type 0 where
-  pub breaks_uses : (shape : Shape) (uses : List UseSets) (condition i : ℕ) (s : List ℕ) → IsResource shape uses → BreaksUses shape uses condition i s → ⊥
-  pub resources_in_circle : (shape : Shape) (uses : List UseSets) (resources : List ℕ) → IsResource shape uses → ResourcesInCircle shape uses resources → ⊥

@@ -1,24 +1,27 @@
-//! The rankings of the three rules are good: each falls along every ungranted request.
+//! The three rules, and what breaks them. Their rankings are good: each falls along every ungranted request.
 #![tactic(auto)]
 
-ghost use Rattle.design_rules.specs.ClientServerLaws.{ClientServerFaultsRefute, ClientServerRanksFall};
-ghost use Rattle.design_rules.specs.CyclicLaws.{CyclicFaultsRefute, CyclicRanksFall, IsRuleByNumbers, NumberedRanksFall, PlacesAreOrders, ReachedRanksFall};
-ghost use Rattle.design_rules.specs.Example.{PairIsClientServer, RowIsCyclic, TwoUsersAreResource};
-ghost use Rattle.design_rules.specs.Live.{CyclicMeansLive, ClientServerMeansLive, ResourceMeansLive};
-ghost use Rattle.design_rules.specs.ResourceLaws.{OrderedRanksFall, ResourceFaultsRefute, ResourceRanksFall};
+mod condition;
+mod noted_rule;
+mod rule_fault;
 
+ghost use Rattle.design_rules.specs.ClientServerLaws.{ClientServerRanksFall};
+ghost use Rattle.design_rules.specs.CyclicLaws.{CyclicRanksFall, IsRuleByNumbers, NumberedRanksFall, PlacesAreOrders, ReachedRanksFall};
+ghost use Rattle.design_rules.specs.Example.{PairIsClientServer, RowIsCyclic, TwoUsersAreResource};
+ghost use Rattle.design_rules.specs.Live.{MetRulesMeanLive};
+ghost use Rattle.design_rules.specs.ResourceLaws.{OrderedRanksFall, ResourceRanksFall};
+ghost use Rattle.design_rules.specs.Rules.{FaultsRefute};
+
+pub use condition::Condition;
 use net_sound::Transitions;
+pub use noted_rule::NotedRule;
+pub use rule_fault::RuleFault;
 
 /// The ranking of a cyclic network falls: the one with the smallest numbers, and any other by which the rule can be said.
 pub fn cyclic_ranks_fall()
     ensures chains { CyclicRanksFall }
     ensures numbered { NumberedRanksFall }
     ensures reached { ReachedRanksFall }
-{}
-
-/// Each fault that is told of a network breaks the cyclic rule.
-pub fn cyclic_faults_refute()
-    ensures { CyclicFaultsRefute }
 {}
 
 /// The cyclic rule can be said by numbers of the links, for one component and for a network.
@@ -32,27 +35,20 @@ pub fn client_server_ranks_fall()
     ensures { ClientServerRanksFall }
 {}
 
-/// Each fault that is told of a network breaks the rule of clients and servers.
-pub fn client_server_faults_refute()
-    ensures { ClientServerFaultsRefute }
-{}
-
 /// The ranking of a network of users and resources falls: the one with the smallest numbers, and any other that rises.
 pub fn resource_ranks_fall()
     ensures chains { ResourceRanksFall }
     ensures ordered { OrderedRanksFall }
 {}
 
-/// Each fault that is told of a network breaks the rule of users and resources.
-pub fn resource_faults_refute()
-    ensures { ResourceFaultsRefute }
+/// Each fault that is told of a network, but for want of memory, refutes the rule.
+pub fn faults_refute()
+    ensures { FaultsRefute }
 {}
 
 /// A network whose shape meets one of the three rules is live, with its silent bound.
 pub fn rules_mean_live<S: Transitions>()
-    ensures cyclic { CyclicMeansLive S.step }
-    ensures client_server { ClientServerMeansLive S.step }
-    ensures resource { ResourceMeansLive S.step }
+    ensures { MetRulesMeanLive S.step }
 {}
 
 /// Shapes that meet the rules, with their rankings.

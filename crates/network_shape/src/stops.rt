@@ -5,14 +5,13 @@ ghost use Rattle.csp_tables.specs.Form.{HasForm};
 ghost use Rattle.csp_tables.specs.Part.{IsNonEmpty};
 ghost use Rattle.csp_tables.specs.Shape.{IsWellFormed};
 ghost use Rattle.csp_tables.specs.Standing.{IsBusyShape};
-ghost use Rattle.csp_tables.specs.Table.{IsReached, IsRun, end_of, node_at};
-ghost use Rattle.observed_runs.specs.Observed.{pair_at};
+ghost use Rattle.csp_tables.specs.Table.{IsReached, node_at};
 ghost use Rattle.network_shape.specs.Stops.{HasEmpty, StopsFirst};
 
 use crate::fault::BusyFault;
-use csp_base::{EventSet, NoMemory, Trace};
+use csp_base::EventSet;
 use csp_tables::{Part, Shape};
-use observed_runs::{Unwatched, explore};
+use observed_runs::run_to_node;
 use std::alloc::Global;
 
 /// Whether no part of the shape has an empty acceptance after a run. Where one has, the first such part is told, with such a
@@ -58,35 +57,4 @@ fn has_empty(sets: &[EventSet]) -> bool
         }
     }
     false
-}
-
-// A run of the part's table that leads to the node.
-fn run_to_node(alloc: Global, part: &Part, node: u32) -> Result<Trace, NoMemory>
-    requires form { HasForm part.now }
-    requires reached { IsReached part.now.table node }
-    ensures follows { IfOk result (λ run. IsRun part.now.table run) }
-    ensures leads { IfOk result (λ run. end_of part.now.table 0 run ≡ node) }
-{
-    let explored = explore(alloc, part, &Unwatched)?;
-    let place = node_place(explored.pairs(), node);
-    let run = explored.run_to(alloc, place);
-    let_go(explored);
-    run
-}
-
-// Ends a value here.
-fn let_go<T: Drop>(_value: T) {}
-
-// The place of a pair with the node.
-fn node_place(pairs: &[(u32, u32)], node: u32) -> usize
-    requires { (k : ℕ) × (k < length pairs.now) × ((pair_at pairs.now k).0 ≡ node) }
-    ensures within { result < length pairs.now }
-    ensures found { (pair_at pairs.now result).0 ≡ node }
-{
-    for (place, (other, _)) in pairs.iter().enumerate() {
-        if *other == node {
-            return place;
-        }
-    }
-    unreachable!()
 }

@@ -6,7 +6,8 @@ use Rattle.std.proofs.lemmas.Option.{get_or_from_slice_get, slice_get_within}
 use Rattle.csp_tables.specs.Table.{Node, node_at, node_after, is_possible, is_run, IsRun, end_of}
 use Rattle.observed_runs.specs.Observed.{observed, LeadsTo, pair_at}
 use Rattle.observed_runs.specs.Exploration.{Found, StepsTo, AreFound, HaveOrigins, IsExploration}
-use Rattle.observed_runs.specs.Progress.{IsListed, AreFollowed}
+use Rattle.observed_runs.specs.Enough.{IsListed}
+use Rattle.observed_runs.specs.Progress.{AreFollowed}
 use Rattle.observed_runs.proofs.Leading.{leads_on, leads_nowhere}
 
 module _ (table : List Node) (step : ℕ → ℕ → ℕ) (start : ℕ) where

@@ -1,7 +1,8 @@
 -- Pairs that are added while a table is explored.
-use Rattle.std.proofs.Common.{◌≡◌, ℕ, ◌+◌, ◌-◌, ◌<◌, ◌≤◌, List, [], ◌∷◌, ◌++◌, length, get_or, IsTrue, refl, sym, ap, subst, ◌∙◌, arith, inl, inr, append_assoc, append-nil}
+use Rattle.std.proofs.Common.{◌≡◌, ℕ, ◌+◌, ◌-◌, ◌<◌, ◌≤◌, List, [], ◌∷◌, ◌++◌, length, true, false, IsTrue, refl, sym, ap, subst, ◌∙◌, arith, inl, inr, append_assoc, append-nil}
 use Rattle.std.specs.Prelude.{slice_get, Some}
-use Rattle.std.proofs.lemmas.Bool.{cases_lt}
+use Rattle.std.proofs.lemmas.Bool.{cases_Bool, cases_lt}
+use Rattle.csp_base.specs.Members.{has}
 use Rattle.std.proofs.lemmas.List.{length-append, get_or_append_left}
 use Rattle.std.proofs.Math.Seq.{get_or-append_right}
 use Rattle.containers.proofs.MembersLemmas.{slice_get-append_left}
@@ -10,7 +11,8 @@ use Rattle.csp_tables.specs.Part.{Part}
 use Rattle.csp_tables.specs.Form.{HasForm}
 use Rattle.observed_runs.specs.Observed.{pair_at}
 use Rattle.observed_runs.specs.Exploration.{StepsTo, AreFound, HaveOrigins}
-use Rattle.observed_runs.specs.Progress.{IsListed, IsAdded, AreMore, AreFollowed}
+use Rattle.observed_runs.specs.Enough.{IsListed, AreEnough, SeesOnly}
+use Rattle.observed_runs.specs.Progress.{IsAdded, AreMore, AreFollowed}
 use Rattle.observed_runs.proofs.Leading.{step_listed, step_within, listed_step}
 use Rattle.csp_tables.proofs.Runs.{node_form}
 
@@ -82,23 +84,33 @@ module _ (part : Part) (step : ℕ → ℕ → ℕ) (pairs origins : List (ℕ �
   more_added ps os pair origin qs us (inr more) m from steps node = subst (λ zs. AreMore part step pairs origins place zs us) (sym more.0) (subst (λ zs. AreMore part step pairs origins place (ps ++ pair ∷ []) zs) (sym more.1) (one_more ps os pair origin m from steps node))
 
   -- one step of the pair's node
-  pub more_followed : HasForm part → (steps : List (ℕ × ℕ)) → steps ≡ (node_at part.table (pair_at pairs place).0).next → (ps os qs us : List (ℕ × ℕ)) (k : ℕ) (x : ℕ × ℕ) (next : ℕ) → k < length steps → x ≡ get_or steps k (0, 0) → next ≡ step (pair_at pairs place).1 x.0 → IsAdded ps os (x.1, next) (place, x.0) qs us → AreMore part step pairs origins place ps os → AreMore part step pairs origins place qs us
-  more_followed form steps is ps os qs us k x next h at state added m =
+  pub more_followed : HasForm part → (ps os qs us : List (ℕ × ℕ)) (x : ℕ × ℕ) (next : ℕ) → IsListed (node_at part.table (pair_at pairs place).0).next x → next ≡ step (pair_at pairs place).1 x.0 → IsAdded ps os (x.1, next) (place, x.0) qs us → AreMore part step pairs origins place ps os → AreMore part step pairs origins place qs us
+  more_followed form ps os qs us x next at state added m =
       let formed = node_form part.alphabet (length part.table) part.table (pair_at pairs place).0 form.nodes in
-      let here : k < length (node_at part.table (pair_at pairs place).0).next = subst (λ zs. k < length zs) is h in
-      let found : x ≡ get_or (node_at part.table (pair_at pairs place).0).next k (0, 0) = at ∙ ap (λ zs. get_or zs k (0, 0)) is in
-      let s = step_listed part.alphabet (length part.table) (node_at part.table (pair_at pairs place).0).next k formed here in
-      let within = step_within part.alphabet (length part.table) (node_at part.table (pair_at pairs place).0).next k formed here in
+      let s = step_listed part.alphabet (length part.table) (node_at part.table (pair_at pairs place).0).next at.place formed at.within in
+      let within = step_within part.alphabet (length part.table) (node_at part.table (pair_at pairs place).0).next at.place formed at.within in
       more_added ps os (x.1, next) (place, x.0) qs us added m refl
-      (subst (λ (y : ℕ × ℕ). next ≡ step (pair_at pairs place).1 y.0 → StepsTo part.table step (pair_at pairs place) y.0 (y.1, next)) (sym found)
+      (subst (λ (y : ℕ × ℕ). next ≡ step (pair_at pairs place).1 y.0 → StepsTo part.table step (pair_at pairs place) y.0 (y.1, next)) at.is
       (λ state. record { possible = s.possible; node = sym s.leads; state = state }) state)
-      (subst (λ (y : ℕ × ℕ). y.1 < length part.table) (sym found) within)
+      (subst (λ (y : ℕ × ℕ). y.1 < length part.table) at.is within)
 
--- where each step was listed, each event that is possible is followed
-pub all_followed : (table : List Node) (step : ℕ → ℕ → ℕ) (pair : ℕ × ℕ) (ps : List (ℕ × ℕ)) → ((k : ℕ) → k < length (node_at table pair.0).next → IsListed ps ((get_or (node_at table pair.0).next k (0, 0)).1, step pair.1 (get_or (node_at table pair.0).next k (0, 0)).0)) → (e : ℕ) → IsTrue (is_possible (node_at table pair.0).next e) → IsListed ps (node_after table pair.0 e, step pair.1 e)
-all_followed table step pair ps all e possible =
+same_two : (a b c d : ℕ) → a ≡ c → b ≡ d → let x : ℕ × ℕ = (a, b) in let y : ℕ × ℕ = (c, d) in x ≡ y
+same_two a b c d p q = cc
+
+-- where enough steps were listed, each event that is possible is followed
+pub all_followed : (table : List Node) (step : ℕ → ℕ → ℕ) (events : List ℕ) (pair : ℕ × ℕ) (some ps : List (ℕ × ℕ)) → SeesOnly events step → AreEnough events (node_at table pair.0).next some → ((k : ℕ) → k < length some → IsListed ps ((pair_at some k).1, step pair.1 (pair_at some k).0)) → (e : ℕ) → IsTrue (is_possible (node_at table pair.0).next e) → IsListed ps (node_after table pair.0 e, step pair.1 e)
+all_followed table step events pair some ps only enough all e possible =
     let l = listed_step (node_at table pair.0).next e possible in
-    subst (λ t. IsListed ps (t, step pair.1 e)) l.leads (subst (λ x. IsListed ps ((get_or (node_at table pair.0).next l.place (0, 0)).1, step pair.1 x)) l.event (all l.place l.within))
+    elim (cases_Bool (has events e)) [
+      | inl seen ↦
+          let x = enough.seen l.place l.within (subst (λ i. has events i ≡ true) (sym l.event) seen) in
+          let node : (pair_at some x.place).1 ≡ node_after table pair.0 e = ap (λ (p : ℕ × ℕ). p.1) x.is ∙ l.leads in
+          let event : (pair_at some x.place).0 ≡ e = ap (λ (p : ℕ × ℕ). p.0) x.is ∙ l.event in
+          subst (IsListed ps) (same_two (pair_at some x.place).1 (step pair.1 (pair_at some x.place).0) (node_after table pair.0 e) (step pair.1 e) node (ap (step pair.1) event)) (all x.place x.within)
+      | inr unseen ↦
+          let x = enough.others l.place l.within (subst (λ i. has events i ≡ false) (sym l.event) unseen) in
+          subst (IsListed ps) (same_two (pair_at some x.place).1 (step pair.1 (pair_at some x.place).0) (node_after table pair.0 e) (step pair.1 e) (x.leads ∙ l.leads) (only pair.1 (pair_at some x.place).0 x.unseen ∙ sym (only pair.1 e unseen))) (all x.place x.within)
+    ]
 
 -- ---- more pairs in all
 

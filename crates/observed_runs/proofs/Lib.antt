@@ -1,4 +1,5 @@
 pub mod Finding
 pub mod Growing
+pub mod Keeping
 pub mod Leading
 pub mod Runs

@@ -1,3 +1,4 @@
+pub mod Enough
 pub mod Exploration
 pub mod Observed
 pub mod Observers

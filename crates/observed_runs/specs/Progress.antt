@@ -1,14 +1,11 @@
 -- What stands while a table is explored. (No public contract cites this.)
-use Rattle.std.specs.Prelude.{◌≡◌, ◌<◌, ◌⊎◌, ◌++◌, ◌∷◌, [], ℕ, List, length, IsTrue}
+use Rattle.std.specs.Prelude.{◌≡◌, ◌<◌, ◌≤◌, ◌⊎◌, ◌++◌, ◌∷◌, [], ℕ, List, true, false, length, slice_index, slice_set, IsTrue}
+use Rattle.csp_base.specs.Members.{has}
 use Rattle.csp_tables.specs.Table.{Node, node_at, node_after, is_possible}
 use Rattle.csp_tables.specs.Part.{Part}
 use Rattle.observed_runs.specs.Observed.{pair_at}
 use Rattle.observed_runs.specs.Exploration.{StepsTo}
-
-pub record IsListed (pairs : List (ℕ × ℕ)) (pair : ℕ × ℕ) : Type 0 where
-  pub place : ℕ
-  pub within : place < length pairs
-  pub is : pair_at pairs place ≡ pair
+use Rattle.observed_runs.specs.Enough.{IsListed, HasOther}
 
 -- the pair is known, or it comes to the end with its origin
 abbrev pub IsAdded : List (ℕ × ℕ) → List (ℕ × ℕ) → ℕ × ℕ → ℕ × ℕ → List (ℕ × ℕ) → List (ℕ × ℕ) → Type 0
@@ -30,3 +27,18 @@ pub record AreMore (part : Part) (step : ℕ → ℕ → ℕ) (pairs origins : L
 -- each event that is possible at the pair in this place leads to a pair that is listed
 abbrev pub AreFollowed : List Node → (ℕ → ℕ → ℕ) → List (ℕ × ℕ) → ℕ → Type 0
 AreFollowed table step pairs place = (e : ℕ) → IsTrue (is_possible (node_at table (pair_at pairs place).0).next e) → IsListed pairs (node_after table (pair_at pairs place).0 e, step (pair_at pairs place).1 e)
+
+-- A step is kept if it is by an event of the set, or if its node is not marked yet; then it is.
+abbrev pub IsKept : List ℕ → ℕ → ℕ × ℕ → List (ℕ × ℕ) → List ℕ → List (ℕ × ℕ) → List ℕ → Type 0
+IsKept events mark step some marks more_some more_marks =
+    ((has events step.0 ≡ true) × (more_some ≡ some ++ step ∷ []) × (more_marks ≡ marks))
+    ⊎ ((has events step.0 ≡ false) × (slice_index marks step.1 ≡ mark) × (more_some ≡ some) × (more_marks ≡ marks))
+    ⊎ ((has events step.0 ≡ false) × (more_some ≡ some ++ step ∷ []) × (more_marks ≡ slice_set marks step.1 mark))
+
+-- of the first n steps enough are kept, and each node that has this mark has a step that is
+pub record AreEnoughSoFar (events : List ℕ) (mark : ℕ) (next : List (ℕ × ℕ)) (n : ℕ) (some : List (ℕ × ℕ)) (marks : List ℕ) : Type 0 where
+  pub sound : (k : ℕ) → k < length some → IsListed next (pair_at some k)
+  pub seen : (j : ℕ) → j < n → IsTrue (has events (pair_at next j).0) → IsListed some (pair_at next j)
+  pub others : (j : ℕ) → j < n → has events (pair_at next j).0 ≡ false → HasOther events some (pair_at next j).1
+  pub marked : (node : ℕ) → slice_index marks node ≡ mark → HasOther events some node
+  pub most : (node : ℕ) → slice_index marks node ≤ mark

@@ -1,41 +1,50 @@
 //! The exploration of a table with an observer.
 
-ghost use Rattle.std.specs.Prelude.{◌≡◌, ◌<◌, ◌^◌, ◌⊎◌, ◌++◌, ◌∷◌, [], ℕ, List, IfOk, OnOk, length};
+ghost use Rattle.std.specs.Prelude.{◌≡◌, ◌<◌, ◌^◌, ◌⊎◌, ◌++◌, ◌∷◌, [], ℕ, List, IfOk, OnOk, get_or, length};
 ghost use Rattle.csp_tables.specs.Form.{HasForm};
-ghost use Rattle.csp_tables.specs.Table.{node_at};
 ghost use Rattle.observed_runs.specs.Exploration.{AreFound, HaveOrigins, IsExploration};
 ghost use Rattle.observed_runs.specs.Observed.{pair_at};
-ghost use Rattle.observed_runs.specs.Progress.{AreFollowed, AreMore, IsAdded, IsListed};
+ghost use Rattle.observed_runs.specs.Enough.{IsListed, SeesEnough};
+ghost use Rattle.observed_runs.specs.Progress.{AreFollowed, AreMore, IsAdded};
 
 use crate::explored::Explored;
 use crate::observer::Observer;
-use containers::Numbering;
+use containers::{Items, Numbering};
 use csp_base::{Event, NoMemory};
 use csp_tables::Part;
 use std::alloc::Global;
 
 /// The pairs of a node and a state to which runs of the part's table lead, from its first node and the observer's first state.
+/// The rows are enough of each node's steps for the observer (`steps_of`).
 ///
-/// It takes time in proportion to the pairs and the events that are possible at them.
-pub fn explore<O: Observer>(alloc: Global, part: &Part, observer: &O) -> Result<Explored, NoMemory>
-    requires { HasForm part.now }
+/// It takes time in proportion to the pairs and the steps in the rows of their nodes.
+pub fn explore<O: Observer>(
+    alloc: Global,
+    part: &Part,
+    rows: &[Items<(Event, u32)>],
+    observer: &O,
+) -> Result<Explored, NoMemory>
+    requires form { HasForm part.now }
+    requires enough { SeesEnough (O.step observer.now) part.now.table rows.now }
     ensures pairs { IfOk result (λ made. IsExploration part.now.table (O.step observer.now) (O.start_state observer.now) made.pairs) }
     ensures found { IfOk result (λ made. AreFound part.now.table (O.step observer.now) (O.start_state observer.now) made) }
 {
     let mut pairs = Numbering::new(alloc);
     let mut origins = Vec::new(alloc);
-    find(part, observer, &mut pairs, &mut origins)?;
+    find(part, rows, observer, &mut pairs, &mut origins)?;
     Ok(Explored::new(pairs, origins))
 }
 
 // Lists the pairs with their origins, where none is listed yet.
 fn find<O: Observer>(
     part: &Part,
+    rows: &[Items<(Event, u32)>],
     observer: &O,
     pairs: &mut Numbering<(u32, u32)>,
     origins: &mut Vec<(u32, Event)>,
 ) -> Result<(), NoMemory>
     requires form { HasForm part.now }
+    requires enough { SeesEnough (O.step observer.now) part.now.table rows.now }
     requires no_pairs { pairs.old ≡ [] }
     requires no_origins { origins.old.items ≡ [] }
     ensures pairs { OnOk result (IsExploration part.now.table (O.step observer.now) (O.start_state observer.now) pairs.new) }
@@ -43,17 +52,19 @@ fn find<O: Observer>(
     ensures origins { OnOk result (HaveOrigins (record { pairs = pairs.new; origins = origins.new.items })) }
 {
     pairs.number((0, observer.start()))?;
-    follow_all(part, observer, pairs, origins)
+    follow_all(part, rows, observer, pairs, origins)
 }
 
 // Follows each pair that is listed, from the first one on.
 fn follow_all<O: Observer>(
     part: &Part,
+    rows: &[Items<(Event, u32)>],
     observer: &O,
     pairs: &mut Numbering<(u32, u32)>,
     origins: &mut Vec<(u32, Event)>,
 ) -> Result<(), NoMemory>
     requires form { HasForm part.now }
+    requires enough { SeesEnough (O.step observer.now) part.now.table rows.now }
     requires first { pairs.old ≡ (0, O.start_state observer.now) ∷ [] }
     requires no_origins { origins.old.items ≡ [] }
     ensures pairs { OnOk result (IsExploration part.now.table (O.step observer.now) (O.start_state observer.now) pairs.new) }
@@ -62,7 +73,7 @@ fn follow_all<O: Observer>(
 {
     let mut place = 0;
     while place < pairs.as_slice().len() {
-        follow(part, observer, pairs, origins, place as u32)?;
+        follow(part, rows, observer, pairs, origins, place as u32)?;
         place += 1;
     }
     Ok(())
@@ -71,37 +82,39 @@ fn follow_all<O: Observer>(
 // Lists the pairs to which events lead from the pair in a place.
 fn follow<O: Observer>(
     part: &Part,
+    rows: &[Items<(Event, u32)>],
     observer: &O,
     pairs: &mut Numbering<(u32, u32)>,
     origins: &mut Vec<(u32, Event)>,
     place: u32,
 ) -> Result<(), NoMemory>
     requires form { HasForm part.now }
+    requires enough { SeesEnough (O.step observer.now) part.now.table rows.now }
     requires place { place < length pairs.old }
     requires node { (pair_at pairs.old place).0 < length part.now.table }
     ensures more { OnOk result (AreMore part.now (O.step observer.now) pairs.old origins.old.items place pairs.new origins.new.items) }
     ensures followed { OnOk result (AreFollowed part.now.table (O.step observer.now) pairs.new place) }
 {
-    let (steps, state) = steps_from(part, pairs, place);
+    let (steps, state) = steps_from(rows, pairs, place);
     for step in steps {
         add_target(observer, pairs, origins, place, state, *step)?;
     }
     Ok(())
 }
 
-// The steps from the node of the pair in a place, and the pair's state.
+// The steps to follow from the node of the pair in a place, and the pair's state.
 fn steps_from<'a>(
-    part: &'a Part,
+    rows: &'a [Items<(Event, u32)>],
     pairs: &Numbering<(u32, u32)>,
     place: u32,
 ) -> (&'a [(Event, u32)], u32)
     requires place { place < length pairs.now }
-    requires node { (pair_at pairs.now place).0 < length part.now.table }
-    ensures steps { result.0.now ≡ (node_at part.now.table (pair_at pairs.now place).0).next }
+    requires node { (pair_at pairs.now place).0 < length rows.now }
+    ensures steps { result.0.now ≡ get_or rows.now (pair_at pairs.now place).0 [] }
     ensures state { result.1 ≡ (pair_at pairs.now place).1 }
 {
     let (node, state) = pairs.as_slice()[place as usize];
-    (part.table().nodes()[node as usize].next(), state)
+    (rows[node as usize].as_slice(), state)
 }
 
 // Lists the pair to which the step leads from the pair in a place with this state.

@@ -4,10 +4,14 @@
 
 mod explored;
 mod exploring;
+mod nodes;
 mod observer;
 mod observers;
+mod steps;
 
 pub use explored::Explored;
 pub use exploring::explore;
+pub use nodes::run_to_node;
 pub use observer::Observer;
 pub use observers::{Holder, Lap, Parity, Unwatched};
+pub use steps::steps_of;

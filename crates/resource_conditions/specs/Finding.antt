@@ -1,5 +1,5 @@
 -- What is searched for, and found or not. (No rule's decider cites this.)
-use Rattle.std.specs.Prelude.{◌≡◌, ◌<◌, ◌≤◌, ℕ, List, Bool, true, false, Option, Some, None, length, if◌then◌else◌}
+use Rattle.std.specs.Prelude.{◌≡◌, ◌<◌, ◌≤◌, ℕ, List, Bool, true, false, Option, Some, None, length}
 use Rattle.csp_tables.specs.Part.{part_at}
 use Rattle.csp_tables.specs.Standing.{RunsTo}
 use Rattle.observed_runs.specs.Observed.{pair_at}

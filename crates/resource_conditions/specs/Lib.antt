@@ -2,4 +2,3 @@ pub mod Acquired
 pub mod Finding
 pub mod Setting
 pub mod Tests
-pub mod Told

@@ -5,15 +5,15 @@ use Rattle.csp_tables.specs.Roles.{UseSets, use_at}
 use Rattle.csp_tables.specs.Table.{Node, node_at}
 use Rattle.csp_tables.specs.Part.{part_at}
 use Rattle.design_rules.specs.Resource.{JoinsKinds, HasUses, HaveKinds, IsUsedInTurn, GrantsAll, UsesInTurn}
-use Rattle.resource_conditions.specs.declared.fault.ResourceFault.{ResourceFault}
-use Rattle.resource_conditions.specs.Told.{Tells}
+use Rattle.design_rules.specs.Rules.{BreaksResource}
+use Rattle.design_rules.specs.declared.rule_fault.RuleFault.{RuleFault}
 
 pub record Setting : Type 0 where
   pub shape : Shape
   pub uses : List UseSets
 
-abbrev pub TellsOf : Setting → ResourceFault → Type 0
-TellsOf g fault = Tells g.shape g.uses fault
+abbrev pub Breaks : Setting → RuleFault → Type 0
+Breaks g fault = BreaksResource g.shape g.uses fault
 
 abbrev pub IsResourcePart : Setting → ℕ → Type 0
 IsResourcePart g i = (use_at g.uses i).resource ≡ true

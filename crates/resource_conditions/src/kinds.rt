@@ -2,25 +2,25 @@
 
 ghost use Rattle.std.specs.Prelude.{◌≡◌, ◌<◌, IfErr, IfOk, MatchBool, OnOk, length, min};
 ghost use Rattle.resource_conditions.specs.Finding.{IsFirstWithout};
-ghost use Rattle.resource_conditions.specs.Setting.{AreOtherKinds, HasLinked, HasParted, KeepKinds, TellsOf};
+ghost use Rattle.resource_conditions.specs.Setting.{AreOtherKinds, HasLinked, HasParted, KeepKinds, Breaks};
 
-use crate::fault::ResourceFault;
-use crate::prepared::Prepared;
+use crate::setting::Setting;
 use csp_base::{NoMemory, Trace};
+use design_rules::{Condition, RuleFault};
 use std::alloc::Global;
 
 /// Succeeds where U1 holds, and else tells the first part that breaks it.
-pub fn check_kinds(alloc: Global, prepared: &Prepared<'_>) -> Result<(), ResourceFault>
-    ensures kinds { OnOk result (KeepKinds prepared.now) }
-    ensures fault { IfErr result (λ fault. TellsOf prepared.now fault) }
+pub fn check_kinds(alloc: Global, setting: &Setting<'_>) -> Result<(), RuleFault>
+    ensures kinds { OnOk result (KeepKinds setting.now) }
+    ensures fault { IfErr result (λ fault. Breaks setting.now fault) }
 {
-    let _form = prepared.shape();
-    let unlinked = first_unlinked(prepared);
-    let unparted = first_unparted(alloc, prepared)?;
+    let _form = setting.shape();
+    let unlinked = first_unlinked(setting);
+    let unparted = first_unparted(alloc, setting)?;
     let part = smaller(unlinked, unparted);
-    if part < prepared.count() {
-        return Err(ResourceFault::BreaksUse {
-            condition: 1,
+    if part < setting.count() {
+        return Err(RuleFault::Broken {
+            condition: Condition::Kinds,
             part,
             trace: Trace::new(alloc),
         });
@@ -36,46 +36,46 @@ fn smaller(a: u32, b: u32) -> u32
 }
 
 // The first part that is the left end of a link that does not join a user and a resource.
-fn first_unlinked(prepared: &Prepared<'_>) -> u32
-    ensures { IsFirstWithout (HasLinked prepared.now) (length prepared.now.shape.parts) result }
+fn first_unlinked(setting: &Setting<'_>) -> u32
+    ensures { IsFirstWithout (HasLinked setting.now) (length setting.now.shape.parts) result }
 {
-    let shape = prepared.shape();
+    let shape = setting.shape();
     for link in shape.links() {
-        if !joins_kinds(prepared, link.left(), link.right()) {
+        if !joins_kinds(setting, link.left(), link.right()) {
             return link.left();
         }
     }
-    prepared.count()
+    setting.count()
 }
 
 // Whether one of the two parts is a resource and the other a user.
-fn joins_kinds(prepared: &Prepared<'_>, left: u32, right: u32) -> bool
-    requires left { left < length prepared.now.shape.parts }
-    requires right { right < length prepared.now.shape.parts }
-    ensures { MatchBool result (AreOtherKinds prepared.now left right) (AreOtherKinds prepared.now left right → ⊥) }
+fn joins_kinds(setting: &Setting<'_>, left: u32, right: u32) -> bool
+    requires left { left < length setting.now.shape.parts }
+    requires right { right < length setting.now.shape.parts }
+    ensures { MatchBool result (AreOtherKinds setting.now left right) (AreOtherKinds setting.now left right → ⊥) }
 {
-    prepared.uses(left).is_resource() != prepared.uses(right).is_resource()
+    setting.uses(left).is_resource() != setting.uses(right).is_resource()
 }
 
 // The first resource whose sets do not part what it shares.
-fn first_unparted(alloc: Global, prepared: &Prepared<'_>) -> Result<u32, NoMemory>
-    ensures { IfOk result (IsFirstWithout (HasParted prepared.now) (length prepared.now.shape.parts)) }
+fn first_unparted(alloc: Global, setting: &Setting<'_>) -> Result<u32, NoMemory>
+    ensures { IfOk result (IsFirstWithout (HasParted setting.now) (length setting.now.shape.parts)) }
 {
-    for part in 0..prepared.count() {
-        let parted = is_parted(alloc, prepared, part)?;
+    for part in 0..setting.count() {
+        let parted = is_parted(alloc, setting, part)?;
         if !parted {
             return Ok(part);
         }
     }
-    Ok(prepared.count())
+    Ok(setting.count())
 }
 
 // Whether the part is a user, or its sets part what it shares.
-fn is_parted(alloc: Global, prepared: &Prepared<'_>, part: u32) -> Result<bool, NoMemory>
-    requires { part < length prepared.now.shape.parts }
-    ensures { IfOk result (λ parted. MatchBool parted (HasParted prepared.now part) (HasParted prepared.now part → ⊥)) }
+fn is_parted(alloc: Global, setting: &Setting<'_>, part: u32) -> Result<bool, NoMemory>
+    requires { part < length setting.now.shape.parts }
+    ensures { IfOk result (λ parted. MatchBool parted (HasParted setting.now part) (HasParted setting.now part → ⊥)) }
 {
-    let uses = prepared.uses(part);
+    let uses = setting.uses(part);
     if !uses.is_resource() {
         return Ok(true);
     }
@@ -83,8 +83,8 @@ fn is_parted(alloc: Global, prepared: &Prepared<'_>, part: u32) -> Result<bool, 
         return Ok(false);
     }
     let told = uses.acquire().union(alloc, uses.release())?;
-    let alphabet = prepared.component(part).alphabet();
-    let shared = alphabet.inter(alloc, prepared.shape().vocabulary())?;
+    let alphabet = setting.prepared().component(part).alphabet();
+    let shared = alphabet.inter(alloc, setting.shape().vocabulary())?;
     if !told.is_subset(&shared) {
         return Ok(false);
     }

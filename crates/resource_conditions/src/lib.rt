@@ -3,15 +3,13 @@
 #![tactic(auto)]
 
 mod acquisition;
-mod fault;
 mod grants;
 mod kinds;
-mod prepared;
+mod setting;
 mod turns;
 
 pub use acquisition::acquired;
-pub use fault::ResourceFault;
 pub use grants::check_grants;
 pub use kinds::check_kinds;
-pub use prepared::Prepared;
+pub use setting::Setting;
 pub use turns::check_turns;

@@ -6,5 +6,4 @@ mod offers;
 mod rule;
 mod users;
 
-pub use resource_conditions::ResourceFault;
 pub use rule::resource;

@@ -13,45 +13,45 @@ ghost use Rattle.resource_rule.specs.Uses.{is_offered, is_offered_at};
 
 use csp_base::{Event, EventSet, NoMemory};
 use digraph::Rows;
-use resource_conditions::{Prepared, acquired};
+use resource_conditions::{Setting, acquired};
 use std::alloc::Global;
 
 // An arc from each resource that the part offers to acquire at the pairs with the state 1 to the one that is held.
 pub(crate) fn add_offered(
     alloc: Global,
-    prepared: &Prepared<'_>,
+    setting: &Setting<'_>,
     part: u32,
     pairs: &[(u32, u32)],
     held: u32,
     rows: &mut Rows,
 ) -> Result<(), NoMemory>
-    requires part { part < length prepared.now.shape.parts }
-    requires nodes { HaveNodes prepared.now part pairs.now }
-    requires kinds { KeepKinds prepared.now }
-    requires count { length rows.old ≡ length prepared.now.shape.parts }
+    requires part { part < length setting.now.shape.parts }
+    requires nodes { HaveNodes setting.now part pairs.now }
+    requires kinds { KeepKinds setting.now }
+    requires count { length rows.old ≡ length setting.now.shape.parts }
     requires held { held < length rows.old }
     ensures count { length rows.new ≡ length rows.old }
-    ensures arcs { OnOk result ((events : List ℕ) × ((e : ℕ) → has events e ≡ is_offered_at prepared.now part pairs.now e)
-        × ((j m : ℕ) → has_arc rows.new j m ≡ (has_arc rows.old j m || (acquires prepared.now.uses events j && nat_eq held m)))) }
+    ensures arcs { OnOk result ((events : List ℕ) × ((e : ℕ) → has events e ≡ is_offered_at setting.now part pairs.now e)
+        × ((j m : ℕ) → has_arc rows.new j m ≡ (has_arc rows.old j m || (acquires setting.now.uses events j && nat_eq held m)))) }
 {
-    let events = offered(alloc, prepared, part, pairs)?;
-    add_arcs(prepared, rows, held, &events)
+    let events = offered(alloc, setting, part, pairs)?;
+    add_arcs(setting, rows, held, &events)
 }
 
 // The events of the acceptances in the vocabulary at the pairs with the state 1.
 fn offered(
     alloc: Global,
-    prepared: &Prepared<'_>,
+    setting: &Setting<'_>,
     part: u32,
     pairs: &[(u32, u32)],
 ) -> Result<EventSet, NoMemory>
-    requires part { part < length prepared.now.shape.parts }
-    requires nodes { HaveNodes prepared.now part pairs.now }
-    ensures { IfOk result (λ events. (e : ℕ) → has events e ≡ is_offered_at prepared.now part pairs.now e) }
+    requires part { part < length setting.now.shape.parts }
+    requires nodes { HaveNodes setting.now part pairs.now }
+    ensures { IfOk result (λ events. (e : ℕ) → has events e ≡ is_offered_at setting.now part pairs.now e) }
 {
     let mut events = EventSet::new(alloc);
     for place in 0..pairs.len() {
-        events = with_pair(alloc, prepared, part, pairs[place], events)?;
+        events = with_pair(alloc, setting, part, pairs[place], events)?;
     }
     Ok(events)
 }
@@ -59,21 +59,21 @@ fn offered(
 // The events, and what is offered at the pair if its state is 1.
 fn with_pair(
     alloc: Global,
-    prepared: &Prepared<'_>,
+    setting: &Setting<'_>,
     part: u32,
     pair: (u32, u32),
     events: EventSet,
 ) -> Result<EventSet, NoMemory>
-    requires part { part < length prepared.now.shape.parts }
-    requires node { pair.0 < length (part_at prepared.now.shape.parts part).table }
-    ensures { IfOk result (λ made. (e : ℕ) → has made e ≡ (has events e || (nat_eq pair.1 1 && is_offered prepared.now.shape.vocabulary (node_of prepared.now part pair.0).accept e))) }
+    requires part { part < length setting.now.shape.parts }
+    requires node { pair.0 < length (part_at setting.now.shape.parts part).table }
+    ensures { IfOk result (λ made. (e : ℕ) → has made e ≡ (has events e || (nat_eq pair.1 1 && is_offered setting.now.shape.vocabulary (node_of setting.now part pair.0).accept e))) }
 {
     let (node, state) = pair;
     if state != 1 {
         return Ok(events);
     }
-    let accept = prepared.node(part, node).accept();
-    with_offers(alloc, prepared.shape().vocabulary(), accept, events)
+    let accept = setting.node(part, node).accept();
+    with_offers(alloc, setting.shape().vocabulary(), accept, events)
 }
 
 // The events, and those of the acceptances that lie in the vocabulary.
@@ -112,37 +112,32 @@ fn with_set(
 
 // An arc from each resource that the events acquire to the one that is held.
 fn add_arcs(
-    prepared: &Prepared<'_>,
+    setting: &Setting<'_>,
     rows: &mut Rows,
     held: u32,
     events: &EventSet,
 ) -> Result<(), NoMemory>
-    requires kinds { KeepKinds prepared.now }
-    requires count { length rows.old ≡ length prepared.now.shape.parts }
+    requires kinds { KeepKinds setting.now }
+    requires count { length rows.old ≡ length setting.now.shape.parts }
     requires held { held < length rows.old }
     ensures count { length rows.new ≡ length rows.old }
-    ensures arcs { OnOk result ((j m : ℕ) → has_arc rows.new j m ≡ (has_arc rows.old j m || (acquires prepared.now.uses events.now j && nat_eq held m))) }
+    ensures arcs { OnOk result ((j m : ℕ) → has_arc rows.new j m ≡ (has_arc rows.old j m || (acquires setting.now.uses events.now j && nat_eq held m))) }
 {
     for event in events.iter() {
-        add_arc(prepared, rows, held, event)?;
+        add_arc(setting, rows, held, event)?;
     }
     Ok(())
 }
 
 // An arc from the resource that the event acquires to the one that is held.
-fn add_arc(
-    prepared: &Prepared<'_>,
-    rows: &mut Rows,
-    held: u32,
-    event: Event,
-) -> Result<(), NoMemory>
-    requires kinds { KeepKinds prepared.now }
-    requires count { length rows.old ≡ length prepared.now.shape.parts }
+fn add_arc(setting: &Setting<'_>, rows: &mut Rows, held: u32, event: Event) -> Result<(), NoMemory>
+    requires kinds { KeepKinds setting.now }
+    requires count { length rows.old ≡ length setting.now.shape.parts }
     requires held { held < length rows.old }
     ensures count { length rows.new ≡ length rows.old }
-    ensures arcs { OnOk result ((j m : ℕ) → has_arc rows.new j m ≡ (has_arc rows.old j m || (is_acquired_by prepared.now j event && nat_eq held m))) }
+    ensures arcs { OnOk result ((j m : ℕ) → has_arc rows.new j m ≡ (has_arc rows.old j m || (is_acquired_by setting.now j event && nat_eq held m))) }
 {
-    let Some(resource) = acquired(prepared, event) else {
+    let Some(resource) = acquired(setting, event) else {
         return Ok(());
     };
     rows.add_arc(resource, held)?;

@@ -11,7 +11,7 @@ ghost use Rattle.rule_rankings.specs.Rows.{AreEach};
 ghost use Rattle.csp_tables.specs.Table.{no_node};
 
 use crate::rows::no_laps;
-use client_server_conditions::{Network, part_of};
+use client_server_conditions::Network;
 use containers::Items;
 use csp_base::{EventSet, NoMemory};
 use csp_tables::{NormNode, PartRanks, Ranking, Shape};
@@ -56,7 +56,7 @@ fn part_ranks(
 {
     let shape = network.shape();
     let levels = levels_of(shape, heights, part);
-    let nodes = part_of(shape, part).table().nodes();
+    let nodes = network.prepared().component(part).table().nodes();
     let requests = network.roles(part).sreq();
     let ranks = rank_rows(alloc, shape.vocabulary(), requests, levels, nodes)?;
     let laps = no_laps(alloc, nodes)?;

@@ -14,8 +14,8 @@ ghost use Rattle.rule_rankings.specs.Rows.{AreEach};
 use containers::Items;
 use csp_base::{Event, EventSet, NoMemory};
 use csp_tables::{NormNode, PartRanks, Ranking};
-use cyclic_conditions::Prepared;
 use digraph::Heights;
+use shape_links::Prepared;
 use std::alloc::Global;
 
 /// The ranking with these numbers of the links.

@@ -15,38 +15,38 @@ use containers::Items;
 use csp_base::{Event, EventSet, NoMemory};
 use csp_tables::{NormNode, PartRanks, Ranking};
 use digraph::Heights;
-use resource_conditions::{Prepared, acquired};
+use resource_conditions::{Setting, acquired};
 use std::alloc::Global;
 
 /// The ranking with the numbers that these heights of the resources give.
 pub fn resource_ranking(
     alloc: Global,
-    prepared: &Prepared<'_>,
+    setting: &Setting<'_>,
     heights: &Heights,
 ) -> Result<Ranking, NoMemory>
-    requires keep { KeepUses prepared.now.shape prepared.now.uses }
-    requires count { length heights.now ≡ length prepared.now.shape.parts }
-    requires below { All (λ height. height < length prepared.now.shape.parts) heights.now }
-    ensures { IfOk result (λ ranking. AreResourceRanks prepared.now.shape prepared.now.uses (number_by heights.now) (top_number prepared.now.uses (number_by heights.now) (length prepared.now.shape.parts)) ranking) }
+    requires keep { KeepUses setting.now.shape setting.now.uses }
+    requires count { length heights.now ≡ length setting.now.shape.parts }
+    requires below { All (λ height. height < length setting.now.shape.parts) heights.now }
+    ensures { IfOk result (λ ranking. AreResourceRanks setting.now.shape setting.now.uses (number_by heights.now) (top_number setting.now.uses (number_by heights.now) (length setting.now.shape.parts)) ranking) }
 {
-    let _form = prepared.shape();
-    let top = top(prepared, heights);
+    let _form = setting.shape();
+    let top = top(setting, heights);
     let mut parts = Items::new(alloc);
-    for part in 0..prepared.count() {
-        parts.push_made(part_ranks(alloc, prepared, heights, top, part))?;
+    for part in 0..setting.count() {
+        parts.push_made(part_ranks(alloc, setting, heights, top, part))?;
     }
     Ok(Ranking::new(0, parts.into_vec()))
 }
 
 // The greatest number of a resource, 0 if there is none.
-fn top(prepared: &Prepared<'_>, heights: &Heights) -> u32
-    requires count { length heights.now ≡ length prepared.now.shape.parts }
-    requires below { All (λ height. height < length prepared.now.shape.parts) heights.now }
-    ensures { HaveTop prepared.now heights.now result }
+fn top(setting: &Setting<'_>, heights: &Heights) -> u32
+    requires count { length heights.now ≡ length setting.now.shape.parts }
+    requires below { All (λ height. height < length setting.now.shape.parts) heights.now }
+    ensures { HaveTop setting.now heights.now result }
 {
     let mut top = 0;
-    for part in 0..prepared.count() {
-        let number = number_if(prepared, heights, part);
+    for part in 0..setting.count() {
+        let number = number_if(setting, heights, part);
         top = larger(number, top);
     }
     top
@@ -67,13 +67,13 @@ fn smaller(a: u32, b: u32) -> u32
 }
 
 // The number of a resource, 0 for a user.
-fn number_if(prepared: &Prepared<'_>, heights: &Heights, part: u32) -> u32
-    requires part { part < length prepared.now.shape.parts }
-    requires count { length heights.now ≡ length prepared.now.shape.parts }
+fn number_if(setting: &Setting<'_>, heights: &Heights, part: u32) -> u32
+    requires part { part < length setting.now.shape.parts }
+    requires count { length heights.now ≡ length setting.now.shape.parts }
     requires small { number_by heights.now part ≤ 512 }
-    ensures { result ≡ (if (use_at prepared.now.uses part).resource then number_by heights.now part else 0) }
+    ensures { result ≡ (if (use_at setting.now.uses part).resource then number_by heights.now part else 0) }
 {
-    if prepared.uses(part).is_resource() {
+    if setting.uses(part).is_resource() {
         return number(heights, part);
     }
     0
@@ -91,18 +91,18 @@ fn number(heights: &Heights, part: u32) -> u32
 // The ranks and the laps of a part.
 fn part_ranks(
     alloc: Global,
-    prepared: &Prepared<'_>,
+    setting: &Setting<'_>,
     heights: &Heights,
     top: u32,
     part: u32,
 ) -> Result<PartRanks, NoMemory>
-    requires kinds { KeepKinds prepared.now }
-    requires top { HaveTop prepared.now heights.now top }
-    requires part { part < length prepared.now.shape.parts }
-    ensures { IfOk result (λ ranks. ArePartRanks prepared.now (number_by heights.now) top part ranks) }
+    requires kinds { KeepKinds setting.now }
+    requires top { HaveTop setting.now heights.now top }
+    requires part { part < length setting.now.shape.parts }
+    ensures { IfOk result (λ ranks. ArePartRanks setting.now (number_by heights.now) top part ranks) }
 {
-    let nodes = prepared.component(part).table().nodes();
-    let ranks = rank_rows(alloc, prepared, heights, top, part, nodes)?;
+    let nodes = setting.prepared().component(part).table().nodes();
+    let ranks = rank_rows(alloc, setting, heights, top, part, nodes)?;
     let laps = no_laps(alloc, nodes)?;
     Ok(PartRanks::new(ranks, laps))
 }
@@ -110,20 +110,20 @@ fn part_ranks(
 // For each node the ranks of its acceptances.
 fn rank_rows(
     alloc: Global,
-    prepared: &Prepared<'_>,
+    setting: &Setting<'_>,
     heights: &Heights,
     top: u32,
     part: u32,
     nodes: &[NormNode],
 ) -> Result<Vec<Vec<i64>>, NoMemory>
-    requires kinds { KeepKinds prepared.now }
-    requires top { HaveTop prepared.now heights.now top }
-    requires part { part < length prepared.now.shape.parts }
-    ensures { IfOk result (λ rows. AreEach no_node [] (AreNodeRanks prepared.now (number_by heights.now) top part) nodes.now (map (λ row. row.items) rows.items)) }
+    requires kinds { KeepKinds setting.now }
+    requires top { HaveTop setting.now heights.now top }
+    requires part { part < length setting.now.shape.parts }
+    ensures { IfOk result (λ rows. AreEach no_node [] (AreNodeRanks setting.now (number_by heights.now) top part) nodes.now (map (λ row. row.items) rows.items)) }
 {
     let mut rows = Items::new(alloc);
     for node in nodes {
-        rows.push_made(rank_row(alloc, prepared, heights, top, part, node.accept()))?;
+        rows.push_made(rank_row(alloc, setting, heights, top, part, node.accept()))?;
     }
     Ok(rows.into_vec())
 }
@@ -131,40 +131,40 @@ fn rank_rows(
 // The ranks of some acceptances.
 fn rank_row(
     alloc: Global,
-    prepared: &Prepared<'_>,
+    setting: &Setting<'_>,
     heights: &Heights,
     top: u32,
     part: u32,
     accept: &[EventSet],
 ) -> Result<Vec<i64>, NoMemory>
-    requires kinds { KeepKinds prepared.now }
-    requires top { HaveTop prepared.now heights.now top }
-    requires part { part < length prepared.now.shape.parts }
-    ensures { IfOk result (λ row. AreEach [] (pos 0) (IsRank prepared.now (number_by heights.now) top part) accept.now row.items) }
+    requires kinds { KeepKinds setting.now }
+    requires top { HaveTop setting.now heights.now top }
+    requires part { part < length setting.now.shape.parts }
+    ensures { IfOk result (λ row. AreEach [] (pos 0) (IsRank setting.now (number_by heights.now) top part) accept.now row.items) }
 {
     let mut row = Vec::new(alloc);
     for set in accept {
-        row.push(rank_of(prepared, heights, top, part, set))?;
+        row.push(rank_of(setting, heights, top, part, set))?;
     }
     Ok(row)
 }
 
 // The rank of an acceptance of the part.
-fn rank_of(prepared: &Prepared<'_>, heights: &Heights, top: u32, part: u32, set: &EventSet) -> i64
-    requires kinds { KeepKinds prepared.now }
-    requires top { HaveTop prepared.now heights.now top }
-    requires part { part < length prepared.now.shape.parts }
-    ensures { IsRank prepared.now (number_by heights.now) top part set.now result }
+fn rank_of(setting: &Setting<'_>, heights: &Heights, top: u32, part: u32, set: &EventSet) -> i64
+    requires kinds { KeepKinds setting.now }
+    requires top { HaveTop setting.now heights.now top }
+    requires part { part < length setting.now.shape.parts }
+    ensures { IsRank setting.now (number_by heights.now) top part set.now result }
 {
-    if !set.is_subset(prepared.shape().vocabulary()) {
+    if !set.is_subset(setting.shape().vocabulary()) {
         return 0;
     }
     let Some(event) = set.first_from(Event(0)) else {
         return 0;
     };
-    let uses = prepared.uses(part);
+    let uses = setting.uses(part);
     if !uses.is_resource() {
-        let least = least_acquired(prepared, heights, top, set);
+        let least = least_acquired(setting, heights, top, set);
         return user_rank(top, least);
     }
     if uses.acquire().contains(event) {
@@ -196,28 +196,28 @@ fn rank(height: u32, more: u32) -> i64
 }
 
 // The least number of a resource that the set acquires, one more than the greatest number if there is none.
-fn least_acquired(prepared: &Prepared<'_>, heights: &Heights, top: u32, set: &EventSet) -> u32
-    requires kinds { KeepKinds prepared.now }
-    requires top { HaveTop prepared.now heights.now top }
-    ensures { IsLeastAcquired prepared.now (number_by heights.now) top set.now result }
+fn least_acquired(setting: &Setting<'_>, heights: &Heights, top: u32, set: &EventSet) -> u32
+    requires kinds { KeepKinds setting.now }
+    requires top { HaveTop setting.now heights.now top }
+    ensures { IsLeastAcquired setting.now (number_by heights.now) top set.now result }
 {
     let mut least = top + 1;
     for event in set.iter() {
-        least = with_event(prepared, heights, least, event);
+        least = with_event(setting, heights, least, event);
     }
     least
 }
 
 // The smaller of the number and that of the resource that the event acquires.
-fn with_event(prepared: &Prepared<'_>, heights: &Heights, least: u32, event: Event) -> u32
-    requires kinds { KeepKinds prepared.now }
-    requires count { length heights.now ≡ length prepared.now.shape.parts }
+fn with_event(setting: &Setting<'_>, heights: &Heights, least: u32, event: Event) -> u32
+    requires kinds { KeepKinds setting.now }
+    requires count { length heights.now ≡ length setting.now.shape.parts }
     requires small { (j : ℕ) → number_by heights.now j ≤ 512 }
     ensures less { result ≤ least }
-    ensures below { (j : ℕ) → is_acquired_by prepared.now j event ≡ true → result ≤ number_by heights.now j }
-    ensures attained { (result ≡ least) ⊎ ((j : ℕ) × (j < length prepared.now.shape.parts) × (is_acquired_by prepared.now j event ≡ true) × (number_by heights.now j ≡ result)) }
+    ensures below { (j : ℕ) → is_acquired_by setting.now j event ≡ true → result ≤ number_by heights.now j }
+    ensures attained { (result ≡ least) ⊎ ((j : ℕ) × (j < length setting.now.shape.parts) × (is_acquired_by setting.now j event ≡ true) × (number_by heights.now j ≡ result)) }
 {
-    let Some(resource) = acquired(prepared, event) else {
+    let Some(resource) = acquired(setting, event) else {
         return least;
     };
     smaller(number(heights, resource), least)

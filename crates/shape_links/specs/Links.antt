@@ -1,7 +1,9 @@
--- The link of an event, and the links of a part.
+-- The link of an event, the links of a part, and the steps of a part that runs have to follow.
 use Rattle.std.specs.Prelude.{◌≡◌, ◌<◌, ℕ, zero, suc, List, [], ◌∷◌, ◌++◌, IsTrue, length, slice_index, slice_index_or, if◌then◌else◌}
 use Rattle.csp_base.specs.Members.{has}
+use Rattle.csp_tables.specs.Part.{part_at}
 use Rattle.csp_tables.specs.Shape.{Shape, is_end, link_at}
+use Rattle.observed_runs.specs.Enough.{HaveEnough}
 
 -- the event is one of the link's
 pub record IsOwner (shape : Shape) (l e : ℕ) : Type 0 where
@@ -25,3 +27,8 @@ ends_of shape i = ends_below shape i (length shape.links)
 pub record AreEnds (shape : Shape) (n : ℕ) (ends : List (List ℕ)) : Type 0 where
   pub count : length ends ≡ length shape.parts
   pub each : (i : ℕ) → i < length shape.parts → slice_index_or ends i [] ≡ ends_below shape i n
+
+-- for each of the first n parts enough of its steps for an observer of shared events
+pub record AreSteps (shape : Shape) (n : ℕ) (steps : List (List (List (ℕ × ℕ)))) : Type 0 where
+  pub count : length steps ≡ n
+  pub each : (i : ℕ) → i < n → HaveEnough shape.vocabulary (part_at shape.parts i).table (slice_index_or steps i [])

@@ -1,11 +1,14 @@
-//! The links of a shape, sorted out once: those of each part, and the one that has each event; and circles, passed the other
-//! way round.
+//! A shape, sorted out once: the links of each part, the link that has each event, and the steps that its runs have to follow;
+//! and circles, passed the other way round.
 #![tactic(auto)]
 
 mod circle;
 mod ends;
+mod exploring;
 mod owners;
+mod prepared;
+mod steps;
 
 pub use circle::turned;
-pub use ends::links_of_parts;
-pub use owners::{link_of, links_of_events};
+pub use exploring::explored;
+pub use prepared::Prepared;

@@ -1,31 +1,33 @@
 use Rattle.std.proofs.Common.{◌∙◌, ℕ, List, refl, ap, subst, true, false}
 use Rattle.std.specs.List.{list_any}
-use Rattle.csp_tables.specs.Table.{Node}
+use Rattle.csp_tables.specs.Part.{part_at}
+use Rattle.csp_tables.specs.Table.{Node, node_at}
+use Rattle.observed_runs.specs.Enough.{AreEnough}
 use Rattle.csp_tables.specs.Shape.{Link, Shape, link_at}
 use Rattle.csp_tables.specs.Roles.{RoleSets, role_at}
 use Rattle.client_server_conditions.specs.Conditions.{node_in, IsOnSide}
 use Rattle.client_server_conditions.specs.Nodes.{is_out_of_turn, takes, refuses}
-use Rattle.client_server_conditions.proofs.Keeping.{node_is, keeps_turns, breaks_turns, keeps_service, breaks_service, keeps_answers, breaks_answers}
+use Rattle.client_server_conditions.proofs.Keeping.{node_is, turns_enough, keeps_turns, breaks_turns, keeps_service, breaks_service, keeps_answers, breaks_answers}
 use Rattle.client_server_conditions.proofs.Reading.{read_three}
 use Rattle.client_server_conditions.proofs.conditions.is_broken.Goals as goal
 
 pub returns-in-Turns-clause-keeps : goal.returns-in-Turns-clause-keeps
 returns-in-Turns-clause-keeps c h =
     let network = c.args.network.now in
-    let at = node_is network c.args.part c.args.link c.args.node c.shape-shape.result.now c.node_of-at.result.now c.shape-shape.ensures.value c.node_of-at.ensures in
     let shared = c.shared.ensures ∙ ap (λ (k : Link). k.shared) (c.link_of.ensures ∙ ap (λ (s : Shape). link_at s c.args.link) c.shape-shape.ensures.value) in
-    let next = c.next.ensures ∙ ap (λ (x : Node). x.next) at in
+    let enough = subst (λ (s : Shape). AreEnough s.vocabulary (node_at (part_at s.parts c.args.part).table c.args.node).next c.steps-steps.result.now) c.prepared.ensures c.steps-steps.ensures in
     keeps_turns network c.args.part c.args.link c.args.node c.args.condition c.args.opened c.in-Turns.is
-    (read_three (λ (x : List ℕ) (y : RoleSets) (z : List (ℕ × ℕ)). list_any (is_out_of_turn x y c.args.opened) z) c.shared.result.now (link_at c.args.network.now.shape c.args.link).shared c.roles-roles.result.now (role_at c.args.network.now.roles c.args.part) c.next.result.now (node_in c.args.network.now c.args.part c.args.node).next c.some_out_of_turn.result false c.some_out_of_turn.ensures shared c.roles-roles.ensures next h)
+    (turns_enough network c.args.part c.args.link c.args.node c.args.opened c.steps-steps.result.now false c.shape-shape.ensures.linked.form c.requires.link enough
+    (read_three (λ (x : List ℕ) (y : RoleSets) (z : List (ℕ × ℕ)). list_any (is_out_of_turn x y c.args.opened) z) c.shared.result.now (link_at c.args.network.now.shape c.args.link).shared c.roles-roles.result.now (role_at c.args.network.now.roles c.args.part) c.steps-steps.result.now c.steps-steps.result.now c.some_out_of_turn.result false c.some_out_of_turn.ensures shared c.roles-roles.ensures refl h))
 
 pub returns-in-Turns-clause-breaks : goal.returns-in-Turns-clause-breaks
 returns-in-Turns-clause-breaks c h k =
     let network = c.args.network.now in
-    let at = node_is network c.args.part c.args.link c.args.node c.shape-shape.result.now c.node_of-at.result.now c.shape-shape.ensures.value c.node_of-at.ensures in
     let shared = c.shared.ensures ∙ ap (λ (k : Link). k.shared) (c.link_of.ensures ∙ ap (λ (s : Shape). link_at s c.args.link) c.shape-shape.ensures.value) in
-    let next = c.next.ensures ∙ ap (λ (x : Node). x.next) at in
+    let enough = subst (λ (s : Shape). AreEnough s.vocabulary (node_at (part_at s.parts c.args.part).table c.args.node).next c.steps-steps.result.now) c.prepared.ensures c.steps-steps.ensures in
     breaks_turns network c.args.part c.args.link c.args.node c.args.condition c.args.opened c.in-Turns.is
-    (read_three (λ (x : List ℕ) (y : RoleSets) (z : List (ℕ × ℕ)). list_any (is_out_of_turn x y c.args.opened) z) c.shared.result.now (link_at c.args.network.now.shape c.args.link).shared c.roles-roles.result.now (role_at c.args.network.now.roles c.args.part) c.next.result.now (node_in c.args.network.now c.args.part c.args.node).next c.some_out_of_turn.result true c.some_out_of_turn.ensures shared c.roles-roles.ensures next h)
+    (turns_enough network c.args.part c.args.link c.args.node c.args.opened c.steps-steps.result.now true c.shape-shape.ensures.linked.form c.requires.link enough
+    (read_three (λ (x : List ℕ) (y : RoleSets) (z : List (ℕ × ℕ)). list_any (is_out_of_turn x y c.args.opened) z) c.shared.result.now (link_at c.args.network.now.shape c.args.link).shared c.roles-roles.result.now (role_at c.args.network.now.roles c.args.part) c.steps-steps.result.now c.steps-steps.result.now c.some_out_of_turn.result true c.some_out_of_turn.ensures shared c.roles-roles.ensures refl h))
     k
 
 pub returns-then-opened-clause-keeps : goal.returns-then-opened-clause-keeps

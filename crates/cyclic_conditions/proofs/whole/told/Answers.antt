@@ -1,5 +1,4 @@
-use Rattle.std.proofs.Common.{◌≡◌, ◌<◌, ◌∙◌, List, length, ap, refl, sym, subst, arith}
-use Rattle.csp_tables.specs.Part.{part_at}
+use Rattle.std.proofs.Common.{◌≡◌, ◌<◌, ◌∙◌, List, length, ap, sym, subst, arith}
 use Rattle.csp_tables.specs.Shape.{Link, Shape, link_at}
 use Rattle.shape_links.proofs.Links.{link_read}
 use Rattle.cyclic_conditions.proofs.Shortness.{read_falls}
@@ -22,7 +21,7 @@ returns c =
       order = c.requires.keep;
       numbered = c.requires.numbered;
       within = c.requires.link;
-      left = read_falls shape (link_at shape c.args.link).left c.args.link c.args.left_node c.left.result c.in-Ok.left (part_at shape.parts c.left.result) (omega arith) left refl c.requires.left c.in-Ok.ensures;
-      right = read_falls shape (link_at shape c.args.link).right c.args.link c.args.right_node c.right.result c.in-Ok-run_to_node.right (part_at shape.parts c.right.result) inside right refl c.requires.right c.in-Ok-run_to_node.ensures;
+      left = read_falls shape (link_at shape c.args.link).left c.args.link c.args.left_node c.left.result c.in-Ok.left c.component.result.now (omega arith) left c.component.ensures.value c.requires.left (c.in-Ok.ensures.follows, c.in-Ok.ensures.leads);
+      right = read_falls shape (link_at shape c.args.link).right c.args.link c.args.right_node c.right.result c.in-Ok-run_to_node.right c.component-2.result.now inside right c.component-2.ensures.value c.requires.right (c.in-Ok-run_to_node.ensures.follows, c.in-Ok-run_to_node.ensures.leads);
       first = c.requires.first;
     }

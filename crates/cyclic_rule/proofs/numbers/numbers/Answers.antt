@@ -4,8 +4,8 @@ use Rattle.digraph.specs.Digraph.{HasArc}
 use Rattle.digraph.specs.Circle.{IsLeastCircle}
 use Rattle.design_rules.specs.Cyclic.{MustPrecede}
 use Rattle.shape_links.specs.Turned.{turned_circle}
-use Rattle.cyclic_conditions.specs.Told.{Tells}
-use Rattle.cyclic_conditions.specs.declared.fault.CyclicFault.TheVariants.{Circle}
+use Rattle.design_rules.specs.Rules.{BreaksCyclic}
+use Rattle.design_rules.specs.declared.rule_fault.RuleFault.TheVariants.{Circle}
 use Rattle.cyclic_rule.proofs.Chaining.{next_precedes, all_rise, chain_numbers}
 use Rattle.shape_links.proofs.Circles.{turned_least, circle_some}
 use Rattle.cyclic_rule.proofs.numbers.numbers.Goals as goal
@@ -30,12 +30,12 @@ told-requires c =
 pub returns-in-Err-Circle-clause-fault : goal.returns-in-Err-Circle-clause-fault
 returns-in-Err-Circle-clause-fault c =
     let it = c.in-Err-Circle.ensures.circle c.in-Err-Circle.circle (ap Err c.in-Err-Circle.field-0-is) in
-    let disagree : Tells c.args.prepared.now (Circle (turned_circle c.members.result.now)) = record {
+    let disagree : BreaksCyclic c.args.prepared.now (Circle (turned_circle c.members.result.now)) = record {
       order = c.requires.keep;
       circle = subst (IsLeastCircle (MustPrecede c.args.prepared.now)) (sym (ap turned_circle c.members.ensures))
           (turned_least (HasArc c.in_ok-rows.rows) (MustPrecede c.args.prepared.now) (λ m l arc. next_precedes c.args.prepared.now c.args.orders.now c.shape-form.ensures.form c.requires.keep c.requires.orders l m (c.in_ok-rows.ensures.sound m l arc)) c.in-Err-Circle.circle it);
     } in
-    elim c.told.ensures as (λ _. Tells c.args.prepared.now c.told.result) [
-      | inl want ↦ subst (Tells c.args.prepared.now) (sym want) tt
-      | inr is ↦ subst (Tells c.args.prepared.now) (sym is) disagree
+    elim c.told.ensures as (λ _. BreaksCyclic c.args.prepared.now c.told.result) [
+      | inl want ↦ subst (BreaksCyclic c.args.prepared.now) (sym want) tt
+      | inr is ↦ subst (BreaksCyclic c.args.prepared.now) (sym is) disagree
     ]

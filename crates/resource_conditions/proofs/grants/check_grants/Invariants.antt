@@ -4,4 +4,4 @@ use Rattle.resource_conditions.specs.Setting.{IsResourcePart}
 use Rattle.resource_conditions.proofs.grants.check_grants.Given as goal
 
 abbrev pub invariant-loop-part : goal.invariant-loop-part
-invariant-loop-part l = (j : ℕ) (t : List ℕ) → j < l.part → IsResourcePart l.prepared j → GrantsAll l.prepared.shape l.prepared.uses j t
+invariant-loop-part l = (j : ℕ) (t : List ℕ) → j < l.part → IsResourcePart l.setting j → GrantsAll l.setting.shape l.setting.uses j t

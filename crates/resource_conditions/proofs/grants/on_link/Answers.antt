@@ -10,4 +10,4 @@ pub returns-in-None : goal.returns-in-None
 returns-in-None c =
     let links = c.links.ensures.value ∙ ap (λ (s : Shape). s.links) c.shape.ensures.value in
     let past : length c.links.result.now ≤ c.args.link = elim (cases_lt c.args.link (length c.links.result.now)) [ inl less ↦ absurd (false≢true (c.in-None.ensures.lookup.2 less)) | inr more ↦ more ] in
-    c.new.ensures ∙ sym (ap (λ (k : Link). inter_of c.args.events.now k.shared) (link_past c.args.prepared.now.shape c.args.link c.links.result.now links past) ∙ inter_none c.args.events.now)
+    c.new.ensures ∙ sym (ap (λ (k : Link). inter_of c.args.events.now k.shared) (link_past c.args.setting.now.shape c.args.link c.links.result.now links past) ∙ inter_none c.args.events.now)

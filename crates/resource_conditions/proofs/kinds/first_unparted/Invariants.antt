@@ -3,4 +3,4 @@ use Rattle.resource_conditions.specs.Setting.{HasParted}
 use Rattle.resource_conditions.proofs.kinds.first_unparted.Given as goal
 
 abbrev pub invariant-loop-part : goal.invariant-loop-part
-invariant-loop-part l = (j : ℕ) → j < l.part → HasParted l.prepared j
+invariant-loop-part l = (j : ℕ) → j < l.part → HasParted l.setting j

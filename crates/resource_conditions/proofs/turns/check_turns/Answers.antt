@@ -8,16 +8,16 @@ use Rattle.resource_conditions.proofs.turns.check_turns.Goals as goal
 
 pub loop-part-preserved : goal.loop-part-preserved
 loop-part-preserved c j t less resource =
-    let g = c.args.prepared.now in
-    let run = subst (FindsRun g c.loop-part.part (λ s. IsResourcePart c.args.prepared.now c.loop-part.part → IsUsedInTurn c.args.prepared.now.shape c.args.prepared.now.uses c.loop-part.part s)) c.in_default.is c.in_ok-trace.ensures in
-    elim (cases_lt j c.loop-part.part) as (λ _. IsUsedInTurn c.args.prepared.now.shape c.args.prepared.now.uses j t) [
+    let g = c.args.setting.now in
+    let run = subst (FindsRun g c.loop-part.part (λ s. IsResourcePart c.args.setting.now c.loop-part.part → IsUsedInTurn c.args.setting.now.shape c.args.setting.now.uses c.loop-part.part s)) c.in_default.is c.in_ok-trace.ensures in
+    elim (cases_lt j c.loop-part.part) as (λ _. IsUsedInTurn c.args.setting.now.shape c.args.setting.now.uses j t) [
       | inl old ↦ c.loop-part.invariant j t old resource
       | inr now ↦
           let same : c.loop-part.part ≡ j = omega arith in
-          subst (λ (x : ℕ). IsUsedInTurn c.args.prepared.now.shape c.args.prepared.now.uses x t) same (run t (subst (λ (x : ℕ). IsResourcePart c.args.prepared.now x) (sym same) resource))
+          subst (λ (x : ℕ). IsUsedInTurn c.args.setting.now.shape c.args.setting.now.uses x t) same (run t (subst (λ (x : ℕ). IsResourcePart c.args.setting.now x) (sym same) resource))
     ]
 
 pub returns-clause-turns : goal.returns-clause-turns
 returns-clause-turns c i s resource =
-    let inside : i < length c.args.prepared.now.shape.parts = is_part c.args.prepared.now i c.shape-form.ensures.uses resource in
+    let inside : i < length c.args.setting.now.shape.parts = is_part c.args.setting.now i c.shape-form.ensures.uses resource in
     c.loop-part.invariant i s (omega arith) resource

@@ -1,18 +1,26 @@
-use Rattle.std.proofs.Common.{ℕ, List, subst}
-use Rattle.csp_tables.specs.Part.{Part, part_at}
+use Rattle.std.proofs.Common.{ℕ, List, subst, sym}
+use Rattle.csp_base.proofs.Results.{if_both}
+use Rattle.csp_tables.specs.Part.{part_at}
+use Rattle.csp_tables.specs.Shape.{Shape}
+use Rattle.observed_runs.specs.Enough.{SeesOnly}
 use Rattle.observed_runs.specs.Exploration.{AreFound, Found, IsExploration}
 use Rattle.observed_runs.specs.Observers.{holder_step}
+use Rattle.shape_links.specs.Links.{AreOwners}
+use Rattle.shape_links.proofs.Watching.{holder_only}
 use Rattle.resource_conditions.proofs.turns.held.Goals as goal
-use Rattle.csp_base.proofs.Results.{if_both}
+
+pub explored-requires-clause-only : goal.explored-requires-clause-only
+explored-requires-clause-only c =
+    let shape = c.prepared-prepared.result.now in
+    subst (λ (H : List ℕ). SeesOnly c.prepared-prepared.result.now.vocabulary (holder_step H)) (sym c.new-holder.ensures) (holder_only shape c.owners.result.now c.shape-form.ensures.form c.owners.ensures)
 
 pub returns : goal.returns
 returns c =
-    let table = (part_at c.args.prepared.now.shape.parts c.args.part).table in
-    let mine = holder_step c.new-holder.result.holders.now in
-    if_both c.explore.result _ _ _ c.explore.ensures.pairs c.explore.ensures.found
+    let mine = c.new-holder.result.holders.now in
+    if_both c.explored.result _ _ _ c.explored.ensures.pairs c.explored.ensures.found
     (λ (made : Found) pairs found. record {
-      holders = c.holders.result.now;
-      are = c.holders.ensures;
-      explored = subst (λ (H : List ℕ). IsExploration table (holder_step H) 0 made.pairs) c.new-holder.ensures (subst (λ (q : Part). IsExploration q.table mine 0 made.pairs) c.component.ensures.value pairs);
-      origins_are = subst (λ (H : List ℕ). AreFound table (holder_step H) 0 made) c.new-holder.ensures (subst (λ (q : Part). AreFound q.table mine 0 made) c.component.ensures.value found);
+      holders = c.owners.result.now;
+      are = subst (λ (s : Shape). AreOwners s c.owners.result.now) c.prepared-prepared.ensures c.owners.ensures;
+      explored = subst (λ (H : List ℕ). IsExploration (part_at c.args.setting.now.shape.parts c.args.part).table (holder_step H) 0 made.pairs) c.new-holder.ensures (subst (λ (s : Shape). IsExploration (part_at s.parts c.args.part).table (holder_step mine) 0 made.pairs) c.prepared-prepared.ensures pairs);
+      origins_are = subst (λ (H : List ℕ). AreFound (part_at c.args.setting.now.shape.parts c.args.part).table (holder_step H) 0 made) c.new-holder.ensures (subst (λ (s : Shape). AreFound (part_at s.parts c.args.part).table (holder_step mine) 0 made) c.prepared-prepared.ensures found);
     })

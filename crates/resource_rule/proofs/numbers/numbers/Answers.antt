@@ -7,13 +7,13 @@ use Rattle.design_rules.specs.Resource.{IsHeldWhile}
 use Rattle.design_rules.specs.ResourceRanking.{StandsAbove}
 use Rattle.shape_links.specs.Turned.{turned_circle}
 use Rattle.shape_links.proofs.Circles.{turned_least, circle_some}
-use Rattle.resource_conditions.specs.Setting.{TellsOf}
-use Rattle.resource_conditions.specs.declared.fault.ResourceFault.TheVariants.{ResourcesCircle}
+use Rattle.resource_conditions.specs.Setting.{Breaks}
+use Rattle.design_rules.specs.declared.rule_fault.RuleFault.TheVariants.{Circle}
 use Rattle.resource_rule.proofs.numbers.numbers.Goals as goal
 
 pub returns-in-Ok-clause-numbers : goal.returns-in-Ok-clause-numbers
 returns-in-Ok-clause-numbers c j h _ =
-    let g = c.args.prepared.now in
+    let g = c.args.setting.now in
     let below : j < length c.args.rows.now = subst (λ (n : ℕ). j < n) (sym c.requires.count) h in
     record {
       below = slice_index c.in-Ok.heights j;
@@ -33,14 +33,14 @@ told-requires c =
 
 pub returns-in-Err-Circle-clause-fault : goal.returns-in-Err-Circle-clause-fault
 returns-in-Err-Circle-clause-fault c =
-    let g = c.args.prepared.now in
+    let g = c.args.setting.now in
     let it = c.in-Err-Circle.ensures.circle c.in-Err-Circle.circle (ap Err c.in-Err-Circle.field-0-is) in
-    let in_circle : TellsOf g (ResourcesCircle (turned_circle c.members.result.now)) = record {
+    let in_circle : Breaks g (Circle (turned_circle c.members.result.now)) = record {
       keep_uses = c.requires.keep;
       circle = subst (IsLeastCircle (IsHeldWhile g.shape g.uses)) (sym (ap turned_circle c.members.ensures))
           (turned_least (HasArc c.args.rows.now) (IsHeldWhile g.shape g.uses) (λ (x y : ℕ) arc. c.requires.sound x y arc) c.in-Err-Circle.circle it);
     } in
-    elim c.told.ensures as (λ _. TellsOf g c.told.result) [
-      | inl want ↦ subst (TellsOf g) (sym want) tt
-      | inr is ↦ subst (TellsOf g) (sym is) in_circle
+    elim c.told.ensures as (λ _. Breaks g c.told.result) [
+      | inl want ↦ subst (Breaks g) (sym want) tt
+      | inr is ↦ subst (Breaks g) (sym is) in_circle
     ]

@@ -15,6 +15,6 @@ returns-clause-ranking c =
     record {
       number = number_by c.in_ok-heights.heights;
       numbers = c.in_ok-heights.ensures.numbers;
-      top = top_number c.args.prepared.now.uses (number_by c.in_ok-heights.heights) (length c.args.prepared.now.shape.parts);
+      top = top_number c.args.setting.now.uses (number_by c.in_ok-heights.heights) (length c.args.setting.now.shape.parts);
       ranks = c.in_ok-ranking.ensures;
     }

@@ -10,8 +10,8 @@ use Rattle.resource_rule.proofs.users.follow_user.Given as goal
 abbrev pub invariant-loop-link : goal.invariant-loop-link
 invariant-loop-link l = record {
   count : length l.rows ≡ length l.initial.rows;
-  uses_are : (k n j : ℕ) (s : List ℕ) → k < l.link-index → slice_get (ends_of l.prepared.shape l.part) k ≡ Some n → Joins l.prepared.shape l.part j n → UsesLink l.prepared l.part n j s;
-  sound : (j m : ℕ) → HasArc l.rows j m → HasArc l.initial.rows j m ⊎ IsHeldWhile l.prepared.shape l.prepared.uses m j;
+  uses_are : (k n j : ℕ) (s : List ℕ) → k < l.link-index → slice_get (ends_of l.setting.shape l.part) k ≡ Some n → Joins l.setting.shape l.part j n → UsesLink l.setting l.part n j s;
+  sound : (j m : ℕ) → HasArc l.rows j m → HasArc l.initial.rows j m ⊎ IsHeldWhile l.setting.shape l.setting.uses m j;
   kept : (j m : ℕ) → HasArc l.initial.rows j m → HasArc l.rows j m;
-  complete : (k j m : ℕ) (h : IsHeldWhile l.prepared.shape l.prepared.uses m j) → k < l.link-index → slice_get (ends_of l.prepared.shape l.part) k ≡ Some h.link → h.user ≡ l.part → HasArc l.rows j m;
+  complete : (k j m : ℕ) (h : IsHeldWhile l.setting.shape l.setting.uses m j) → k < l.link-index → slice_get (ends_of l.setting.shape l.part) k ≡ Some h.link → h.user ≡ l.part → HasArc l.rows j m;
 }

@@ -1,14 +1,14 @@
-use Rattle.std.proofs.Common.{◌≡◌, ◌∙◌, ℕ, List, false, ap, sym, subst}
-use Rattle.std.specs.List.{list_all}
-use Rattle.csp_tables.specs.Table.{Node}
+use Rattle.std.proofs.Common.{◌∙◌, ℕ}
+use Rattle.std.proofs.lemmas.Bool.{cond-false}
+use Rattle.csp_base.specs.Members.{has}
+use Rattle.csp_tables.specs.Shape.{link_at}
+use Rattle.resource_conditions.specs.Setting.{node_of}
 use Rattle.resource_rule.specs.Uses.{is_use}
-use Rattle.resource_conditions.proofs.Sets.{fails_here}
+use Rattle.shape_links.proofs.Watching.{all_enough, off_link}
 use Rattle.resource_rule.proofs.users.uses_at.Goals as goal
 
-pub returns-then-not-use_in_turn : goal.returns-then-not-use_in_turn
-returns-then-not-use_in_turn c =
-    let test = is_use c.args.prepared.now c.args.link c.args.other c.args.pair.1 in
-    let items = c.next-event-items.result.now in
-    let steps = c.next-event-items.ensures ∙ ap (λ (n : Node). n.next) c.node.ensures in
-    sym (subst (λ (xs : List (ℕ × ℕ)). list_all (λ (step : ℕ × ℕ). is_use c.args.prepared.now c.args.link c.args.other c.args.pair.1 step.0) xs ≡ false) steps
-    (fails_here test items c.loop-event.event-index c.loop-event-item.result c.loop-event-test.true c.loop-event-item.is (sym c.use_in_turn.ensures ∙ c.if-not-use_in_turn.true)))
+pub returns : goal.returns
+returns c =
+    let g = c.args.setting.now in
+    c.all_uses.ensures ∙ all_enough g.shape.vocabulary (node_of g c.args.part c.args.pair.0).next c.steps.result.now (λ (step : ℕ × ℕ). is_use g c.args.link c.args.other c.args.pair.1 step.0) c.steps.ensures
+    (λ x out. cond-false (has (link_at g.shape c.args.link).shared x.0) _ _ (off_link g.shape c.args.link x.0 c.shape-form.ensures.form c.requires.link out))

@@ -5,7 +5,7 @@ use Rattle.rule_rankings.proofs.resource.least_acquired.Goals as goal
 
 pub loop-event-preserved : goal.loop-event-preserved
 loop-event-preserved c =
-    let g = c.args.prepared.now in
+    let g = c.args.setting.now in
     let number = number_by c.args.heights.now in
     let set = c.args.set.now in
     let e = c.with_event-least.ensures in
@@ -13,7 +13,7 @@ loop-event-preserved c =
 
 pub returns : goal.returns
 returns c =
-    let g = c.args.prepared.now in
+    let g = c.args.setting.now in
     let number = number_by c.args.heights.now in
     let set = c.args.set.now in
     least_end g number c.args.top set c.loop-event.least (subst (λ (xs : List ℕ). IsLeastSoFar g number c.args.top set xs c.loop-event.least) c.in-None.ensures.steps.0 c.loop-event.invariant)

@@ -14,16 +14,16 @@ use Rattle.csp_base.proofs.Rising.{member_of_superset, is_subset_of_from_members
 
 pub returns-then-not-is_subset : goal.returns-then-not-is_subset
 returns-then-not-is_subset c =
-    let g = c.args.prepared.now in
+    let g = c.args.setting.now in
     let subset = sym c.if-not-is_subset.true ∙ (c.is_subset.ensures ∙ ap (is_subset_of c.args.set.now) (c.vocabulary.ensures ∙ ap (λ (x : Shape). x.vocabulary) c.shape.ensures.value)) in
     rank_outside g (number_by c.args.heights.now) c.args.top c.args.part c.args.set.now (λ within. false≢true (subset ∙ is_subset_of_from_members c.args.set.now g.shape.vocabulary within))
 
 pub returns-in_default : goal.returns-in_default
-returns-in_default c = rank_empty c.args.prepared.now (number_by c.args.heights.now) c.args.top c.args.part c.args.set.now (λ e member. none_found c.args.set.now e (sym c.in_default.ensures.least) member)
+returns-in_default c = rank_empty c.args.setting.now (number_by c.args.heights.now) c.args.top c.args.part c.args.set.now (λ e member. none_found c.args.set.now e (sym c.in_default.ensures.least) member)
 
 pub returns-then-not-is_resource : goal.returns-then-not-is_resource
 returns-then-not-is_resource c =
-    let g = c.args.prepared.now in
+    let g = c.args.setting.now in
     let number = number_by c.args.heights.now in
     let top = c.requires.top in
     let subset = sym (c.is_subset.ensures ∙ ap (is_subset_of c.args.set.now) (c.vocabulary.ensures ∙ ap (λ (x : Shape). x.vocabulary) c.shape.ensures.value)) ∙ c.if-not-is_subset.false in
@@ -34,7 +34,7 @@ returns-then-not-is_resource c =
 
 pub returns-then-contains : goal.returns-then-contains
 returns-then-contains c =
-    let g = c.args.prepared.now in
+    let g = c.args.setting.now in
     let number = number_by c.args.heights.now in
     let subset = sym (c.is_subset.ensures ∙ ap (is_subset_of c.args.set.now) (c.vocabulary.ensures ∙ ap (λ (x : Shape). x.vocabulary) c.shape.ensures.value)) ∙ c.if-not-is_subset.false in
     let resource = sym (c.is_resource.ensures ∙ ap (λ (u : UseSets). u.resource) c.uses-uses.ensures) ∙ c.if-not-is_resource.false in
@@ -44,7 +44,7 @@ returns-then-contains c =
 
 pub returns : goal.returns
 returns c =
-    let g = c.args.prepared.now in
+    let g = c.args.setting.now in
     let number = number_by c.args.heights.now in
     let subset = sym (c.is_subset.ensures ∙ ap (is_subset_of c.args.set.now) (c.vocabulary.ensures ∙ ap (λ (x : Shape). x.vocabulary) c.shape.ensures.value)) ∙ c.if-not-is_subset.false in
     let resource = sym (c.is_resource.ensures ∙ ap (λ (u : UseSets). u.resource) c.uses-uses.ensures) ∙ c.if-not-is_resource.false in

@@ -4,4 +4,4 @@ use Rattle.rule_rankings.proofs.RowsBelow.{AreEachBelow}
 use Rattle.rule_rankings.proofs.resource.rank_row.Given as goal
 
 abbrev pub invariant-loop-set : goal.invariant-loop-set
-invariant-loop-set l = AreEachBelow [] (pos 0) (IsRank l.prepared (number_by l.heights) l.top l.part) l.set-index l.accept l.row.items
+invariant-loop-set l = AreEachBelow [] (pos 0) (IsRank l.setting (number_by l.heights) l.top l.part) l.set-index l.accept l.row.items

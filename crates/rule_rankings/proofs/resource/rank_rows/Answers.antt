@@ -9,7 +9,7 @@ use Rattle.csp_tables.specs.Table.{no_node}
 
 pub loop-node-preserved : goal.loop-node-preserved
 loop-node-preserved c =
-    let g = c.args.prepared.now in
+    let g = c.args.setting.now in
     let number = number_by c.args.heights.now in
     let w = was_made c.rank_row.result _ _ c.in_ok-push_made.ensures.ok c.rank_row.ensures in
     let more = ap (map (λ row. row.items)) w.1 ∙ map-append (λ row. row.items) c.loop-node.rows (w.0 ∷ []) in

@@ -5,6 +5,6 @@ use Rattle.rule_rankings.proofs.resource.top.Given as goal
 
 abbrev pub invariant-loop-part : goal.invariant-loop-part
 invariant-loop-part l = record {
-  is : l.top ≡ top_number l.prepared.uses (number_by l.heights) l.part;
+  is : l.top ≡ top_number l.setting.uses (number_by l.heights) l.part;
   few : l.top ≤ 512;
 }

@@ -1,0 +1,133 @@
+//! A shape with its resources.
+
+ghost use Rattle.std.specs.Prelude.{◌≡◌, ◌<◌, ◌≤◌, ℕ, Some, IfOk, length};
+ghost use Rattle.csp_tables.specs.Part.{TripleDisjoint, alphabets_of, part_at};
+ghost use Rattle.csp_tables.specs.Roles.{use_at};
+ghost use Rattle.csp_tables.specs.Shape.{IsWellFormed, link_at};
+ghost use Rattle.observed_runs.specs.Enough.{AreEnough};
+ghost use Rattle.shape_links.specs.Links.{IsOwner, ends_of};
+ghost use Rattle.resource_conditions.specs.Setting.{node_of};
+
+use csp_base::{Event, NoMemory};
+use csp_tables::{Link, NormNode, Shape, UseSets};
+use shape_links::Prepared;
+use std::alloc::Global;
+use std::marker::Model;
+
+/// A shape, sorted out, with what is noted of each part's use as a resource. Contracts see it as the shape and what is noted.
+#[derive(Drop)]
+pub struct Setting<'a> {
+    prepared: Prepared<'a>,
+    uses: &'a [UseSets],
+}
+
+impl<'a> Model for Setting<'a> {
+    ghost use Rattle.std.specs.Prelude.{◌≡◌, length};
+    ghost use Rattle.resource_conditions.specs.Setting.{Setting as SettingValue};
+
+    ghost Value = { SettingValue };
+
+    ghost view = { λ s. record { shape = s.prepared; uses = s.uses.now } };
+
+    ghost invariant = { λ s. length s.uses.now ≡ length s.prepared.parts };
+}
+
+impl<'a> Setting<'a> {
+    /// The shape, sorted out, with these uses of its parts.
+    pub fn new(
+        alloc: Global,
+        shape: &'a Shape,
+        uses: &'a [UseSets],
+    ) -> Result<Setting<'a>, NoMemory>
+        requires form { IsWellFormed shape.now }
+        requires apart { TripleDisjoint (alphabets_of shape.now.parts) }
+        requires uses { length uses.now ≡ length shape.now.parts }
+        ensures { IfOk result (λ setting. setting ≡ record { shape = shape.now; uses = uses.now }) }
+    {
+        let prepared = Prepared::new(alloc, shape)?;
+        Ok(Setting { prepared, uses })
+    }
+
+    /// The shape, sorted out.
+    pub fn prepared(&self) -> &Prepared<'a>
+        ensures { result.now ≡ self.now.shape }
+    {
+        &self.prepared
+    }
+
+    /// The shape.
+    pub fn shape(&self) -> &'a Shape
+        ensures value { result.now ≡ self.now.shape }
+        ensures form { IsWellFormed self.now.shape }
+        ensures apart { TripleDisjoint (alphabets_of self.now.shape.parts) }
+        ensures uses { length self.now.uses ≡ length self.now.shape.parts }
+    {
+        self.prepared.shape()
+    }
+
+    // What is noted of each part.
+    fn noted(&self) -> &'a [UseSets]
+        ensures value { result.now ≡ self.now.uses }
+        ensures count { length self.now.uses ≡ length self.now.shape.parts }
+    {
+        self.uses
+    }
+
+    /// How many parts there are.
+    pub fn count(&self) -> u32
+        ensures value { result ≡ length self.now.shape.parts }
+        ensures few { result ≤ 512 }
+    {
+        self.shape().parts().len() as u32
+    }
+
+    /// The node of the part.
+    pub fn node(&self, part: u32, node: u32) -> &'a NormNode
+        requires part { part < length self.now.shape.parts }
+        requires node { node < length (part_at self.now.shape.parts part).table }
+        ensures { result.now ≡ node_of self.now part node }
+    {
+        self.prepared.node(part, node)
+    }
+
+    /// The steps of the node that an observer of shared events has to follow.
+    pub fn steps(&self, part: u32, node: u32) -> &[(Event, u32)]
+        requires part { part < length self.now.shape.parts }
+        requires node { node < length (part_at self.now.shape.parts part).table }
+        ensures { AreEnough self.now.shape.vocabulary (node_of self.now part node).next result.now }
+    {
+        self.prepared.steps(part, node)
+    }
+
+    /// What is noted of the part.
+    pub fn uses(&self, part: u32) -> &UseSets
+        requires { part < length self.now.shape.parts }
+        ensures { result.now ≡ use_at self.now.uses part }
+    {
+        &self.noted()[part as usize]
+    }
+
+    /// The link in this place.
+    pub fn link(&self, link: u32) -> &'a Link
+        requires { link < length self.now.shape.links }
+        ensures { result.now ≡ link_at self.now.shape link }
+    {
+        self.prepared.link(link)
+    }
+
+    /// The link that has the event.
+    pub fn owner(&self, event: Event) -> Option<u32>
+        ensures found { (l : ℕ) → result ≡ Some l → IsOwner self.now.shape l event }
+        ensures owned { (l : ℕ) → IsOwner self.now.shape l event → result ≡ Some l }
+    {
+        self.prepared.owner(event)
+    }
+
+    /// The links of the part in this place, in rising order.
+    pub fn links(&self, part: u32) -> &[u32]
+        requires { part < length self.now.shape.parts }
+        ensures { result.now ≡ ends_of self.now.shape part }
+    {
+        self.prepared.links(part)
+    }
+}
