@@ -5,25 +5,54 @@
 use csp_base::NoMemory;
 use dl_outside::{FileShelf, StdSink};
 use dl_top::{Words, dl_main};
+use std::env::FillError;
 use std::process::ExitCode;
 use std::rt::Env;
-use std::{env, io};
 
 /// The exit status where there is no memory for a word.
 const NO_MEMORY: u8 = 5;
 
-/// The words of the command line, without the program's own name. Where one of them is no text there are none, which is
-/// no command.
+/// The room for a word at first, in bytes.
+const FIRST_ROOM: usize = 256;
+
+/// The word at this place of the command line, read into so much room.
+fn read_word_into<R: Env + AllocGlobal>(
+    rt: &R,
+    place: usize,
+    room: usize,
+) -> Result<Result<Vec<u8>, FillError>, NoMemory> {
+    let mut word = Vec::new(rt.alloc());
+    word.resize(room, 0u8)?;
+    match rt.arg(place, word.as_mut_slice()) {
+        Ok(len) => {
+            word.truncate(len);
+            Ok(Ok(word))
+        }
+        Err(error) => Ok(Err(error)),
+    }
+}
+
+/// The word at this place of the command line, if there is one. It need not be text: a file may have any name.
+fn read_word<R: Env + AllocGlobal>(rt: &R, place: usize) -> Result<Option<Vec<u8>>, NoMemory> {
+    let mut room = FIRST_ROOM;
+    for _ in 0..usize::BITS {
+        match read_word_into(rt, place, room)? {
+            Ok(word) => return Ok(Some(word)),
+            Err(FillError::NotPresent) => return Ok(None),
+            Err(FillError::TooLong) => room = room.saturating_add(room),
+        }
+    }
+    Err(NoMemory)
+}
+
+/// The words of the command line, without the program's own name.
 fn read_words<R: Env + AllocGlobal>(rt: &R) -> Result<Words, NoMemory> {
     let mut words = Words::new(rt.alloc());
-    match env::args(rt) {
-        Ok(args) => {
-            for word in args.skip(1) {
-                words.push(word.as_bytes())?;
-            }
-        }
-        Err(error) if error.kind() == io::ErrorKind::OutOfMemory => return Err(NoMemory),
-        Err(_) => {}
+    for place in 1..usize::MAX {
+        let Some(word) = read_word(rt, place)? else {
+            break;
+        };
+        words.push(word.as_slice())?;
     }
     Ok(words)
 }

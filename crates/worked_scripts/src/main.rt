@@ -3,12 +3,14 @@
 //! The file TEXTS holds texts, each below a line that begins with `=== ` and says what the text is an example of. Each is shown, what was shown is
 //! shown again, and each is judged. Of the text in the file SCRIPT, each front is shown, and judged by the rule of users and resources. The file ROWS
 //! holds texts too, each below a line that begins with `=== ` and has the words of a command, with SCRIPT for the text, then a colon, and what the text
-//! is an example of. Last comes what is answered over devices that fail.
+//! is an example of. Last comes what is answered to texts at the limit of length and over devices that fail.
 #![tactic(auto)]
 
+mod bounds;
 mod devices;
 mod system;
 
+use crate::bounds::push_bounds;
 use crate::devices::push_devices;
 use crate::system::push_system;
 use csp_base::{Bytes, NoMemory};
@@ -243,7 +245,8 @@ fn answers(rt: &HostRuntime, texts: &[u8], script: &[u8], rows: &[u8]) -> Result
     push_title(&mut lines, b"each front of the script")?;
     push_fronts(alloc, &mut lines, script)?;
     push_rows(alloc, &mut lines, rows)?;
-    push_devices(alloc, &mut lines)?;
+    push_bounds(alloc, &mut lines)?;
+    push_devices(alloc, &mut lines, script)?;
     push_system(rt, &mut lines)?;
     Ok(lines)
 }
