@@ -12,6 +12,9 @@ use csp_base::NoMemory;
 use std::alloc::Global;
 use term_sets::Prepared;
 
+// From how many terms on a set is kept.
+const MANY_TERMS: usize = 32;
+
 // Lists of terms, each with the number of the set to which silent steps lead from it, and marks for the search for more.
 #[derive(Drop)]
 pub(crate) struct Known {
@@ -47,11 +50,19 @@ impl Known {
         }
     }
 
-    // Keeps the number of the set of a list, unless the list is known.
-    pub(crate) fn add(&mut self, starts: Items<u32>, number: u32) -> Result<(), NoMemory>
+    // Keeps the number of the set of a list, unless the list is known or the set, of so many terms, soon found again.
+    pub(crate) fn add(
+        &mut self,
+        starts: Items<u32>,
+        number: u32,
+        terms: usize,
+    ) -> Result<(), NoMemory>
         ensures known { (raw : RawSteps) (sets : List (List ℕ)) → AreKnown raw sets self.old.starts self.old.numbers.items → number < length sets → IsSilentClosure raw starts (set_at sets number) → OnOk result (AreKnown raw sets self.new.starts self.new.numbers.items) }
         ensures marks { self.new.marks ≡ self.old.marks }
     {
+        if terms < MANY_TERMS {
+            return Ok(());
+        }
         let (_, is_new) = self.starts.insert_full(starts)?;
         if is_new {
             self.numbers.push(number)?;

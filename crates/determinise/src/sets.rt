@@ -116,7 +116,7 @@ fn number_of_next(
         return Ok(number);
     }
     let number = number_of_closure(alloc, table, starts.as_slice(), sets, &mut known.marks)?;
-    known.add(starts, number)?;
+    known.add(starts, number, sets.as_slice()[number as usize].len())?;
     Ok(number)
 }
 
