@@ -1,5 +1,5 @@
 -- What is kept of evaluations stays true where the pool grows, and where more is kept.
-use Rattle.std.proofs.Common.{◌≡◌, ◌⊎◌, ℕ, zero, suc, ◌<◌, Bool, true, false, cond, nat_eq, Option, Some, None, Ok, Err, List, [], ◌∷◌, ◌++◌, map, length, get_or, slice_get, refl, ap, sym, ◌∙◌, subst, inl, inr}
+use Rattle.std.proofs.Common.{◌≡◌, ◌⊎◌, ℕ, zero, suc, ◌<◌, Bool, true, false, cond, nat_eq, Option, Some, None, Ok, Err, List, [], ◌∷◌, ◌++◌, length, get_or, slice_get, refl, ap, sym, ◌∙◌, subst, inl, inr}
 use Rattle.std.proofs.lemmas.Bool.{eqb-true}
 use Rattle.std.proofs.lemmas.Option.{slice_get-get_or}
 use Rattle.std.specs.HashMap.{HashMap, get, IsEmpty, Updates}
@@ -21,7 +21,6 @@ use Rattle.term_pool.specs.Pooled.{IsFront}
 use Rattle.term_pool.specs.Trees.{tree_at}
 use Rattle.pool_parts.specs.declared.place.ProcId.{ProcId}
 use Rattle.csp_steps.specs.Computed.{AreEach}
-use Rattle.csp_steps.specs.Listed.{seen}
 use Rattle.csp_steps.specs.Once.{HaveSame}
 use Rattle.csp_steps.specs.Evaluated.{body_of, AreBodies, AreNoted, AreStepped, Fits, HasMoreNumbers, HasValue, Hides, IsNumbered, LeadOn, Renames, StandsAs, hidden_by, renamed_by}
 use Rattle.csp_steps.specs.declared.evaluated.Evaluated.{Evaluated}
