@@ -4,6 +4,7 @@ ghost use Rattle.std.specs.Prelude.{◌≡◌, IfOk, Ok, slice_get};
 ghost use Rattle.csp_atoms.specs.declared.value.Value.TheVariants.{One};
 ghost use Rattle.csp_program.specs.Outcome.{and_then};
 ghost use Rattle.csp_program.specs.Substitution.{expr_with, net_with};
+ghost use Rattle.substitution.specs.Bindings.{net_put};
 ghost use Rattle.process_steps.specs.Needed.{arguments_in, events_in};
 ghost use Rattle.network_trees.specs.NetworkOf.{network_called, network_with};
 ghost use Rattle.network_layout.specs.Lays.{Finds};
@@ -12,11 +13,10 @@ use crate::values::{KIND, Scope, arguments, events_at};
 use containers::Boxed;
 use csp_atoms::{Atom, Value};
 use csp_base::{EventSet, NoMemory};
-use csp_program::net_copies::copy_boxed_net;
 use csp_program::{Body, Expr, Net};
 use network_trees::LayoutFault;
 use std::alloc::Global;
-use substitution::substitute_net;
+use substitution::{Values, put_net, substitute_net};
 
 // A network with a value in place of a name.
 fn with_value(alloc: Global, net: &Net, name: u32, value: &Value) -> Result<Boxed<Net>, NoMemory>
@@ -47,6 +47,13 @@ pub(crate) fn operand_at(
     Ok((events, body))
 }
 
+// A network with values in place of names, on the heap.
+fn put_boxed(alloc: Global, net: &Net, values: &Values<'_>) -> Result<Boxed<Net>, NoMemory>
+    ensures { IfOk result (λ made. made ≡ net_put values.now net.now) }
+{
+    Ok(Boxed::new(alloc, put_net(alloc, net, values)?)?)
+}
+
 // A network with values in place of parameters.
 fn with_values(
     alloc: Global,
@@ -56,16 +63,7 @@ fn with_values(
 ) -> Result<Boxed<Net>, NoMemory>
     ensures { IfOk result (λ made. made ≡ network_with params.now values.now net.now) }
 {
-    let mut made = copy_boxed_net(alloc, net)?;
-    let mut rest = values;
-    for param in params {
-        let Some((value, others)) = rest.split_first() else {
-            return Ok(made);
-        };
-        made = with_value(alloc, made.get(), *param, value)?;
-        rest = others;
-    }
-    Ok(made)
+    put_boxed(alloc, net, &Values::new(alloc, params, values))
 }
 
 // The network of a definition, with these values.
