@@ -1,6 +1,7 @@
 -- The token that a text begins with: a word, a number or a symbol, the longest that fits.
 use Rattle.std.specs.Prelude.{ℕ, ◌+◌, ◌-◌, ◌*◌, Bool, ◌&&◌, nat_le, nat_lt, if◌then◌else◌, List, length, take, fold, Option, Some, None}
 use Rattle.std.specs.List.{prefix_len}
+use Rattle.limits.specs.declared.TheConstants.{GREATEST_NUMBER}
 use Rattle.csp_text.specs.declared.token.Symbol.{Symbol}
 use Rattle.csp_text.specs.declared.token.Token.{Token}
 use Rattle.csp_text.specs.declared.token.Token.TheVariants as token
@@ -21,7 +22,7 @@ continued n digits = fold (λ m digit. m * 10 + (digit - 48)) n digits
 
 -- the number that the digits are, where it is at most a million
 unfoldable pub number_token : List ℕ → Option Token
-number_token digits = if nat_le (continued 0 digits) 1000000 then Some (token.Num (continued 0 digits)) else None
+number_token digits = if nat_le (continued 0 digits) GREATEST_NUMBER then Some (token.Num (continued 0 digits)) else None
 
 -- a token with its length
 abbrev pub with_len : ℕ → Option Token → Option (Token × ℕ)

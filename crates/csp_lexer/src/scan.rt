@@ -9,10 +9,8 @@ use crate::symbols::symbol_at;
 use crate::words::{is_foreign, reserved_word, word_len};
 use csp_base::{Name, NoMemory};
 use csp_text::{Token, symbol_text};
+use limits::GREATEST_NUMBER;
 use std::alloc::Global;
-
-// The greatest number that a script may have.
-const GREATEST_NUMBER: u32 = 1_000_000;
 
 // The number that the digits are, or `None` where it is too great.
 fn number_token(digits: &[u8]) -> Option<Token>

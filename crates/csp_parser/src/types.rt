@@ -8,14 +8,15 @@ ghost use Rattle.tree_reading.specs.Settled.{Settles};
 
 use containers::Items;
 use csp_text::{Symbol, Token, Tree};
+use limits::{MOST_BRACKETS, MOST_TREE_DEPTH};
 use std::alloc::Global;
 use tree_parser::{Limits, Read, ReadFault, atom};
 use tree_reading::look::skip;
 
-/// The limits of a tree that stands in no other: 400 open brackets, and a depth of 200.
+/// The limits of a tree that stands in no other.
 pub(crate) const WHOLE: Limits = Limits {
-    brackets: 400,
-    depth: 200,
+    brackets: MOST_BRACKETS,
+    depth: MOST_TREE_DEPTH,
 };
 
 // Adds the type at the front, and gives what follows it.

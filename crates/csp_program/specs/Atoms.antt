@@ -1,5 +1,6 @@
 -- Sets of atoms that grow while an expression is evaluated: at most 16,384 elements, of one kind.
 use Rattle.std.specs.Prelude.{ℕ, zero, suc, ◌+◌, ℤ, pos, ◌+ℤ◌, nat_le, if◌then◌else◌, Ok, Err, List, [], ◌∷◌, length}
+use Rattle.limits.specs.declared.TheConstants.{MOST_ELEMENTS}
 use Rattle.csp_atoms.specs.declared.atom.Atom.{Atom}
 use Rattle.csp_atoms.specs.declared.atom.Atom.TheVariants as atom
 use Rattle.csp_atoms.specs.Sets.{fits, with_atom}
@@ -8,7 +9,7 @@ use Rattle.csp_program.specs.declared.kinds.ValueKind.TheVariants.{Kind, SetLimi
 
 -- a set of at most 16,384 elements
 abbrev pub limited : List Atom → Outcome (List Atom)
-limited atoms = if nat_le (length atoms) 16384 then Ok atoms else Err SetLimit
+limited atoms = if nat_le (length atoms) MOST_ELEMENTS then Ok atoms else Err SetLimit
 
 -- the set with one more atom: a mix of kinds or too many elements is a fault
 abbrev pub added : List Atom → Atom → Outcome (List Atom)

@@ -3,6 +3,7 @@
 -- An operand's kind is looked at as soon as the operand has its value. Names of definitions are worth what their bodies are, with the values of the
 -- arguments; the number of uses that may still be entered goes down by one with each. Bound names have their values in an environment.
 use Rattle.std.specs.Prelude.{ℕ, zero, suc, ◌+◌, ◌-◌, ◌*◌, ◌/◌, ◌%◌, ℤ, pos, negsuc, neg_ℤ, ◌+ℤ◌, ◌-ℤ◌, ◌*ℤ◌, int_lt, int_le, Bool, true, false, not, ◌&&◌, ◌||◌, is_none, nat_eq, nat_lt, if◌then◌else◌, Option, Some, None, Ok, Err, List, [], ◌∷◌, map, length, drop, slice_get}
+use Rattle.limits.specs.declared.TheConstants.{GREATEST_NUMBER, MOST_BINDINGS}
 use Rattle.csp_atoms.specs.Order.{same, same_kind}
 use Rattle.csp_atoms.specs.Sets.{alike, diff_of, inter_of, place_of, union_of}
 use Rattle.csp_program.specs.Atoms.{added, all_added, events_from, limited, numbers_from}
@@ -79,7 +80,7 @@ many found = and_then found (λ atoms. Ok (Many atoms))
 
 -- a number from -1,000,000 to 1,000,000
 abbrev pub in_range : ℤ → Outcome Value
-in_range n = if int_le (neg_ℤ (pos 1000000)) n && int_le n (pos 1000000) then Ok (number n) else Err Range
+in_range n = if int_le (neg_ℤ (pos GREATEST_NUMBER)) n && int_le n (pos GREATEST_NUMBER) then Ok (number n) else Err Range
 
 -- the quotient rounded towards the lower number, and the remainder, for a divisor of at least 1
 abbrev pub quotient : ℤ → ℕ → ℤ
@@ -234,7 +235,7 @@ pub record Gathered : Type 0 where
 -- one more binding, and what it adds
 abbrev pub gathered : (Env → List Atom → Outcome (List Atom)) → Env → Gathered → Outcome Gathered
 gathered adds env state =
-    if nat_lt state.bindings 1048576
+    if nat_lt state.bindings MOST_BINDINGS
     then and_then (adds env state.atoms) (λ atoms. Ok (record { bindings = state.bindings + 1; atoms = atoms }))
     else Err SetLimit
 

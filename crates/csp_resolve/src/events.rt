@@ -15,14 +15,12 @@ use csp_program::{Content, Expr};
 use csp_text::Decl;
 use csp_values::EvalFault;
 use event_tables::{SharedSets, event_count, field_sets, fill_events};
+use limits::MOST_EVENTS;
 use name_tables::Meanings;
 use name_tables::declared::{next, short};
 use script_contents::types_of;
 use script_names::ResolveFault;
 use std::alloc::Global;
-
-// The greatest number of events.
-const MOST_EVENTS: u64 = 16_384;
 
 /// The field sets of the channels of declarations. A type that has no value that fits is told in its declaration.
 pub fn channel_sets(

@@ -1,5 +1,6 @@
 -- The form of a table over an alphabet.
 use Rattle.std.specs.Prelude.{◌<◌, ◌≤◌, ℕ, List, [], ◌∷◌, length, IsTrue}
+use Rattle.limits.specs.declared.TheConstants.{MOST_SETS}
 use Rattle.csp_base.specs.Members.{has}
 use Rattle.csp_tables.specs.Trace.{IsWithin}
 use Rattle.csp_tables.specs.Table.{Node}
@@ -27,7 +28,7 @@ NodesHaveForm alphabet nodes (n ∷ ns) = StepsHaveForm alphabet nodes n.next ×
 -- There are 1 to 2,048 nodes, and each has its form.
 pub record HasForm (p : Part) : Type 0 where
   pub least : 1 ≤ length p.table
-  pub most : length p.table ≤ 2048
+  pub most : length p.table ≤ MOST_SETS
   pub nodes : NodesHaveForm p.alphabet (length p.table) p.table
 
 abbrev pub HaveForm : List Part → Type 0

@@ -1,6 +1,7 @@
 -- The shape of a network: its parts, the links that join two parts which share events, and the vocabulary, the events that
 -- two parts or more have.
 use Rattle.std.specs.Prelude.{◌≡◌, ◌<◌, ◌≤◌, ◌↔◌, ◌⊎◌, ◌^◌, ℕ, List, [], Bool, ◌||◌, nat_eq, IsTrue, length, get_or}
+use Rattle.limits.specs.declared.TheConstants.{MOST_COMPONENTS, MOST_TERMS}
 use Rattle.csp_base.specs.Members.{has}
 use Rattle.csp_tables.specs.Table.{node_at, is_possible}
 pub use Rattle.csp_tables.specs.Table.{IsReached}
@@ -65,9 +66,9 @@ acceptance_at p n k = get_or (node_at p.table n).accept k []
 -- its node, and the links and the vocabulary are those of the parts.
 pub record IsWellFormed (shape : Shape) : Type 0 where
   pub least : 1 ≤ length shape.parts
-  pub most : length shape.parts ≤ 512
+  pub most : length shape.parts ≤ MOST_COMPONENTS
   pub form : HaveForm shape.parts
-  pub few : (i n : ℕ) → i < length shape.parts → length (node_at (part_at shape.parts i).table n).accept ≤ 16384
+  pub few : (i n : ℕ) → i < length shape.parts → length (node_at (part_at shape.parts i).table n).accept ≤ MOST_TERMS
   pub possible : (i n k e : ℕ) → i < length shape.parts → IsTrue (has (acceptance_at (part_at shape.parts i) n k) e) → IsTrue (is_possible (node_at (part_at shape.parts i).table n).next e)
   pub reached : (i n : ℕ) → i < length shape.parts → n < length (part_at shape.parts i).table → IsReached (part_at shape.parts i).table n
   pub links : (l : ℕ) → l < length shape.links → JoinsTwo shape.parts (link_at shape l)

@@ -1,5 +1,6 @@
 -- The shape of a network of components: each part is a component's alphabet with its normal table.
 use Rattle.std.specs.Prelude.{◌≡◌, ◌↔◌, ℕ, List, [], ◌∷◌, Some, slice_get}
+use Rattle.limits.specs.declared.TheConstants.{MOST_TERMS}
 use Rattle.csp_tables.specs.Label.{Label}
 use Rattle.csp_tables.specs.Network.{Component, ComponentStep, Tree, leaves}
 use Rattle.csp_tables.specs.Trace.{IsBusy}
@@ -11,7 +12,7 @@ use Rattle.csp_tables.specs.Standing.{IsBusyShape}
 -- the component's alphabet and its normal table, with at most 16,384 acceptances at a node
 pub record IsPartOf {T : Type 0} (Step : T → Label → T → Type 0) (c : Component T) (p : Part) : Type 0 where
   pub alphabet : c.alphabet ≡ p.alphabet
-  pub table : IsNormalTable (ComponentStep Step) c 16384 p.table
+  pub table : IsNormalTable (ComponentStep Step) c MOST_TERMS p.table
 
 -- one part for each component, in the same order
 abbrev pub ArePartsOf : {T : Type 0} → (T → Label → T → Type 0) → List (Component T) → List Part → Type 0

@@ -18,6 +18,7 @@ use containers::Items;
 use csp_atoms::{Atom, AtomSet, Value};
 use csp_base::{BinOp, SetOp};
 use csp_program::{Body, Content, Def, EventPart, Expr, Gen, Program, ValueKind};
+use limits::MOST_BINDINGS;
 use std::alloc::Global;
 use value_operators::EvalFault;
 use value_operators::names::{Names, copied, named, names_in};
@@ -28,9 +29,6 @@ use value_operators::operators::{
     applied, decided, inverted, negated, to_number, to_set, to_truth,
 };
 use value_operators::sets::{combined, constants, numbered, numbers, with_events, with_item};
-
-// The greatest number of bindings of a list of generators.
-const MOST_BINDINGS: u32 = 1_048_576;
 
 const KIND: EvalFault = EvalFault::Value {
     kind: ValueKind::Kind,

@@ -1,6 +1,7 @@
 //! The subset construction.
 
 ghost use Rattle.std.specs.Prelude.{◌≡◌, ◌↔◌, ◌+◌, ◌<◌, ◌≤◌, ◌++◌, ◌∷◌, [], ℕ, List, All, IsTrue, IfOk, OnOk, length};
+ghost use Rattle.limits.specs.declared.TheConstants.{MOST_SETS};
 ghost use Rattle.csp_tables.specs.RawTable.{RawStep};
 ghost use Rattle.csp_tables.specs.BreadthFirst.{IsBreadthFirst};
 ghost use Rattle.determinise.specs.Determinised.{FollowsTraces, AreDifferentSets};
@@ -28,11 +29,11 @@ pub fn determinise(alloc: Global, table: &RawTable) -> Result<SetTable, SetFault
     ensures acceptances { IfOk result (λ made. HasAcceptances (RawStep table.now) 0 made.nodes) }
     ensures in_order { IfOk result (λ made. All IsRisingNode made.nodes) }
     ensures breadth_first { IfOk result (λ made. IsBreadthFirst made.nodes) }
-    ensures few { IfOk result (λ made. length made.nodes ≤ 2048) }
+    ensures few { IfOk result (λ made. length made.nodes ≤ MOST_SETS) }
 
     // It succeeds only where no more sets are reached, and the limit is told only where they are.
-    ensures within_limit { OnOk result (ReachesSets (RawStep table.now) 0 2049 → ⊥) }
-    ensures limit { (found : ℕ) → result ≡ Err (SetFault.SubsetLimit found) → (found ≡ 2049) × ReachesSets (RawStep table.now) 0 2049 }
+    ensures within_limit { OnOk result (ReachesSets (RawStep table.now) 0 (MOST_SETS + 1) → ⊥) }
+    ensures limit { (found : ℕ) → result ≡ Err (SetFault.SubsetLimit found) → (found ≡ MOST_SETS + 1) × ReachesSets (RawStep table.now) 0 (MOST_SETS + 1) }
 {
     let prepared = Prepared::new(alloc, table)?;
     set_table(alloc, &prepared)
@@ -45,9 +46,9 @@ fn set_table(alloc: Global, table: &Prepared<'_>) -> Result<SetTable, SetFault>
     ensures acceptances { IfOk result (λ made. HasAcceptances (RawStep table.now) 0 made.nodes) }
     ensures in_order { IfOk result (λ made. All IsRisingNode made.nodes) }
     ensures breadth_first { IfOk result (λ made. IsBreadthFirst made.nodes) }
-    ensures few { IfOk result (λ made. length made.nodes ≤ 2048) }
-    ensures within_limit { OnOk result (ReachesSets (RawStep table.now) 0 2049 → ⊥) }
-    ensures limit { (found : ℕ) → result ≡ Err (SetFault.SubsetLimit found) → (found ≡ 2049) × ReachesSets (RawStep table.now) 0 2049 }
+    ensures few { IfOk result (λ made. length made.nodes ≤ MOST_SETS) }
+    ensures within_limit { OnOk result (ReachesSets (RawStep table.now) 0 (MOST_SETS + 1) → ⊥) }
+    ensures limit { (found : ℕ) → result ≡ Err (SetFault.SubsetLimit found) → (found ≡ MOST_SETS + 1) × ReachesSets (RawStep table.now) 0 (MOST_SETS + 1) }
 {
     let mut sets = first_sets(alloc, table)?;
     match explore(alloc, table, &mut sets) {
@@ -77,9 +78,9 @@ fn explore(
     requires one { length sets.old ≡ 1 }
     ensures nodes { IfOk result (λ nodes. AreNodesSoFar table.now sets.new nodes.items) }
     ensures all { IfOk result (λ nodes. length nodes.items ≡ length sets.new) }
-    ensures few { OnOk result (length sets.new ≤ 2048) }
+    ensures few { OnOk result (length sets.new ≤ MOST_SETS) }
     ensures reached { AreReachedSets table.now sets.new }
-    ensures limit { (found : ℕ) → result ≡ Err (SetFault.SubsetLimit found) → (found ≡ 2049) × (length sets.new ≡ 2049) }
+    ensures limit { (found : ℕ) → result ≡ Err (SetFault.SubsetLimit found) → (found ≡ MOST_SETS + 1) × (length sets.new ≡ MOST_SETS + 1) }
 {
     let mut nodes = Vec::new(alloc);
     match add_nodes(alloc, table, sets, &mut nodes) {
@@ -100,9 +101,9 @@ fn add_nodes(
     requires none { nodes.old.items ≡ [] }
     ensures nodes { OnOk result (AreNodesSoFar table.now sets.new nodes.new.items) }
     ensures all { OnOk result (length nodes.new.items ≡ length sets.new) }
-    ensures few { OnOk result (length sets.new ≤ 2048) }
+    ensures few { OnOk result (length sets.new ≤ MOST_SETS) }
     ensures reached { AreReachedSets table.now sets.new }
-    ensures limit { (found : ℕ) → result ≡ Err (SetFault.SubsetLimit found) → (found ≡ 2049) × (length sets.new ≡ 2049) }
+    ensures limit { (found : ℕ) → result ≡ Err (SetFault.SubsetLimit found) → (found ≡ MOST_SETS + 1) × (length sets.new ≡ MOST_SETS + 1) }
 {
     while nodes.len() < sets.len() {
         let node = node_of(alloc, table, sets, nodes.len())?;

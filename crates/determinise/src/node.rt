@@ -1,6 +1,7 @@
 //! The node of a set of terms.
 
-ghost use Rattle.std.specs.Prelude.{◌≡◌, ◌<◌, ◌≤◌, ℕ, IfOk, OnOk, length};
+ghost use Rattle.std.specs.Prelude.{◌≡◌, ◌+◌, ◌<◌, ◌≤◌, ℕ, IfOk, OnOk, length};
+ghost use Rattle.limits.specs.declared.TheConstants.{MOST_SETS};
 ghost use Rattle.csp_tables.specs.BreadthFirst.{MeetsInOrder, targets_of_steps};
 ghost use Rattle.determinise.specs.Progress.{AreMoreSets, AreStepsOf, IsNodeOf, IsReachedFromSet, set_at};
 ghost use Rattle.term_sets.specs.TermSets.{AreMinimalOffers, IsTermSet};
@@ -22,12 +23,12 @@ pub(crate) fn node_of(
 ) -> Result<NormNode, SetFault>
     requires place { place < length sets.old }
     requires form { IsTermSet table.now (set_at sets.old place) }
-    requires few { length sets.old ≤ 2048 }
+    requires few { length sets.old ≤ MOST_SETS }
     ensures node { IfOk result (λ node. IsNodeOf table.now sets.new (set_at sets.old place) node) }
     ensures order { IfOk result (λ node. MeetsInOrder (length sets.old) (targets_of_steps node.next) (length sets.new)) }
     ensures more { AreMoreSets (IsReachedFromSet table.now (set_at sets.old place)) sets.old sets.new }
-    ensures few { OnOk result (length sets.new ≤ 2048) }
-    ensures limit { (found : ℕ) → result ≡ Err (SetFault.SubsetLimit found) → (found ≡ 2049) × (length sets.new ≡ 2049) }
+    ensures few { OnOk result (length sets.new ≤ MOST_SETS) }
+    ensures limit { (found : ℕ) → result ≡ Err (SetFault.SubsetLimit found) → (found ≡ MOST_SETS + 1) × (length sets.new ≡ MOST_SETS + 1) }
 {
     let accept = accept_at(alloc, table, sets, place)?;
     let next = next_at(alloc, table, sets, place)?;
@@ -59,12 +60,12 @@ fn next_at(
 ) -> Result<Vec<(Event, u32)>, SetFault>
     requires place { place < length sets.old }
     requires form { IsTermSet table.now (set_at sets.old place) }
-    requires few { length sets.old ≤ 2048 }
+    requires few { length sets.old ≤ MOST_SETS }
     ensures steps { IfOk result (λ next. AreStepsOf table.now sets.new (set_at sets.old place) next.items) }
     ensures order { IfOk result (λ next. MeetsInOrder (length sets.old) (targets_of_steps next.items) (length sets.new)) }
     ensures more { AreMoreSets (IsReachedFromSet table.now (set_at sets.old place)) sets.old sets.new }
-    ensures few { OnOk result (length sets.new ≤ 2048) }
-    ensures limit { (found : ℕ) → result ≡ Err (SetFault.SubsetLimit found) → (found ≡ 2049) × (length sets.new ≡ 2049) }
+    ensures few { OnOk result (length sets.new ≤ MOST_SETS) }
+    ensures limit { (found : ℕ) → result ≡ Err (SetFault.SubsetLimit found) → (found ≡ MOST_SETS + 1) × (length sets.new ≡ MOST_SETS + 1) }
 {
     let terms = sets.as_slice()[place].as_slice();
     let moves = table.moves(alloc, terms)?;

@@ -1,6 +1,7 @@
 //! The sets of terms to which events lead, numbered as they are met.
 
 ghost use Rattle.std.specs.Prelude.{◌≡◌, ◌+◌, ◌<◌, ◌≤◌, ℕ, [], ◌∷◌, ◌++◌, All, IfOk, OnOk, length, slice_index_or};
+ghost use Rattle.limits.specs.declared.TheConstants.{MOST_SETS};
 ghost use Rattle.std.specs.List.Sorted.{IsNonDecreasingBy};
 ghost use Rattle.csp_tables.specs.BreadthFirst.{MeetsInOrder, targets_of_steps};
 ghost use Rattle.determinise.specs.Progress.{AreMoreSets, AreNodeSteps, IsSomeNextSet, set_at};
@@ -12,11 +13,9 @@ use crate::fault::SetFault;
 use crate::known::Known;
 use containers::{Items, Numbering};
 use csp_base::{Event, NoMemory};
+use limits::MOST_SETS;
 use std::alloc::Global;
 use term_sets::Prepared;
-
-// How many sets there may be.
-const SET_LIMIT: usize = 2048;
 
 // The events of these steps, in rising order, each with the number of the set to which it leads. A set without a number
 // gets the next one.
@@ -28,12 +27,12 @@ pub(crate) fn next_steps(
 ) -> Result<Vec<(Event, u32)>, SetFault>
     requires order { IsNonDecreasingBy (λ step. step.0) moves.now }
     requires within { All (λ step. step.1 < table.now.count) moves.now }
-    requires few { length sets.old ≤ 2048 }
+    requires few { length sets.old ≤ MOST_SETS }
     ensures steps { IfOk result (λ next. AreNodeSteps table.now moves.now sets.new next.items) }
     ensures order { IfOk result (λ next. MeetsInOrder (length sets.old) (targets_of_steps next.items) (length sets.new)) }
     ensures more { AreMoreSets (IsSomeNextSet table.now moves.now) sets.old sets.new }
-    ensures few { OnOk result (length sets.new ≤ 2048) }
-    ensures limit { (found : ℕ) → result ≡ Err (SetFault.SubsetLimit found) → (found ≡ 2049) × (length sets.new ≡ 2049) }
+    ensures few { OnOk result (length sets.new ≤ MOST_SETS) }
+    ensures limit { (found : ℕ) → result ≡ Err (SetFault.SubsetLimit found) → (found ≡ MOST_SETS + 1) × (length sets.new ≡ MOST_SETS + 1) }
 {
     let mut known = Known::new(alloc, table)?;
     let mut next = Vec::new(alloc);
@@ -52,15 +51,15 @@ fn add_steps(
 ) -> Result<(), SetFault>
     requires order { IsNonDecreasingBy (λ step. step.0) moves.now }
     requires within { All (λ step. step.1 < table.now.count) moves.now }
-    requires few { length sets.old ≤ 2048 }
+    requires few { length sets.old ≤ MOST_SETS }
     requires known { AreKnown table.now sets.old known.old.starts known.old.numbers.items }
     requires unmarked { IsUnmarked table.now.count known.old.marks.items }
     requires none { next.old.items ≡ [] }
     ensures steps { OnOk result (AreNodeSteps table.now moves.now sets.new next.new.items) }
     ensures order { OnOk result (MeetsInOrder (length sets.old) (targets_of_steps next.new.items) (length sets.new)) }
     ensures more { AreMoreSets (IsSomeNextSet table.now moves.now) sets.old sets.new }
-    ensures few { OnOk result (length sets.new ≤ 2048) }
-    ensures limit { (found : ℕ) → result ≡ Err (SetFault.SubsetLimit found) → (found ≡ 2049) × (length sets.new ≡ 2049) }
+    ensures few { OnOk result (length sets.new ≤ MOST_SETS) }
+    ensures limit { (found : ℕ) → result ≡ Err (SetFault.SubsetLimit found) → (found ≡ MOST_SETS + 1) × (length sets.new ≡ MOST_SETS + 1) }
 {
     let mut at = 0;
     while at < moves.len() {
@@ -99,17 +98,17 @@ fn number_of_next(
     known: &mut Known,
 ) -> Result<u32, SetFault>
     requires within { All (λ step. step.1 < table.now.count) moves.now }
-    requires few { length sets.old ≤ 2048 }
+    requires few { length sets.old ≤ MOST_SETS }
     requires known { AreKnown table.now sets.old known.old.starts known.old.numbers.items }
     requires unmarked { IsUnmarked table.now.count known.old.marks.items }
     ensures number { IfOk result (λ n. n < length sets.new) }
     ensures set { IfOk result (λ n. IsSilentClosure table.now (targets_of_steps moves.now) (set_at sets.new n)) }
     ensures order { IfOk result (λ n. MeetsInOrder (length sets.old) (n ∷ []) (length sets.new)) }
     ensures more { AreMoreSets (IsSilentClosure table.now (targets_of_steps moves.now)) sets.old sets.new }
-    ensures few { OnOk result (length sets.new ≤ 2048) }
+    ensures few { OnOk result (length sets.new ≤ MOST_SETS) }
     ensures known { OnOk result (AreKnown table.now sets.new known.new.starts known.new.numbers.items) }
     ensures unmarked { OnOk result (IsUnmarked table.now.count known.new.marks.items) }
-    ensures limit { (found : ℕ) → result ≡ Err (SetFault.SubsetLimit found) → (found ≡ 2049) × (length sets.new ≡ 2049) }
+    ensures limit { (found : ℕ) → result ≡ Err (SetFault.SubsetLimit found) → (found ≡ MOST_SETS + 1) × (length sets.new ≡ MOST_SETS + 1) }
 {
     let starts = targets(alloc, moves)?;
     if let Some(number) = known.find(&starts) {
@@ -129,19 +128,19 @@ fn number_of_closure(
     marks: &mut Vec<bool>,
 ) -> Result<u32, SetFault>
     requires within { All (λ t. t < table.now.count) starts.now }
-    requires few { length sets.old ≤ 2048 }
+    requires few { length sets.old ≤ MOST_SETS }
     requires unmarked { IsUnmarked table.now.count marks.old.items }
     ensures number { IfOk result (λ n. n < length sets.new) }
     ensures set { IfOk result (λ n. IsSilentClosure table.now starts.now (set_at sets.new n)) }
     ensures order { IfOk result (λ n. MeetsInOrder (length sets.old) (n ∷ []) (length sets.new)) }
     ensures more { AreMoreSets (IsSilentClosure table.now starts.now) sets.old sets.new }
-    ensures few { OnOk result (length sets.new ≤ 2048) }
+    ensures few { OnOk result (length sets.new ≤ MOST_SETS) }
     ensures unmarked { OnOk result (IsUnmarked table.now.count marks.new.items) }
-    ensures limit { (found : ℕ) → result ≡ Err (SetFault.SubsetLimit found) → (found ≡ 2049) × (length sets.new ≡ 2049) }
+    ensures limit { (found : ℕ) → result ≡ Err (SetFault.SubsetLimit found) → (found ≡ MOST_SETS + 1) × (length sets.new ≡ MOST_SETS + 1) }
 {
     let set = table.closed(alloc, starts, marks)?;
     let number = sets.number(set)?;
-    if sets.len() > SET_LIMIT {
+    if sets.len() > MOST_SETS {
         return Err(SetFault::SubsetLimit {
             found: sets.len() as u32,
         });

@@ -1,5 +1,6 @@
 -- What each fault tells of a component.
 use Rattle.std.specs.Prelude.{◌≡◌, ℕ, ◌<◌, Err, List, length, map}
+use Rattle.limits.specs.declared.TheConstants.{MOST_TERMS, MOST_TERM_DEPTH}
 use Rattle.csp_program.specs.Depth.{proc_depth}
 use Rattle.csp_program.specs.Size.{proc_size}
 use Rattle.csp_program.specs.declared.kinds.ValueKind.{ValueKind}
@@ -68,8 +69,8 @@ module _ (p : Content) (c : Component Proc) where
 abbrev pub Tells : Content → Component Proc → Room → LocalFault → Type 0
 Tells p c room NoMemory = Unit {0}
 Tells p c room (Value kind) = LacksValue p c kind
-Tells p c room (TermCount found) = (16384 < found) × HasTerms p c found
-Tells p c room (TermDepth found) = (800 < found) × HasDepth p c found
+Tells p c room (TermCount found) = (MOST_TERMS < found) × HasTerms p c found
+Tells p c room (TermDepth found) = (MOST_TERM_DEPTH < found) × HasDepth p c found
 Tells p c room (TermTotal found) = (room.nodes < found) × HasSizes p c found
 Tells p c room (StepCount found) = (room.steps < found) × HasSteps p c found
 Tells p c room (Terminates trace) = CanEnd p c trace

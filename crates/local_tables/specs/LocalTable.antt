@@ -1,5 +1,6 @@
 -- The table of a component of a program, within the limits.
 use Rattle.std.specs.Prelude.{◌≡◌, ℕ, ◌≤◌, Some, List, length, map, slice_get}
+use Rattle.limits.specs.declared.TheConstants.{MOST_TERMS, MOST_TERM_DEPTH}
 use Rattle.csp_program.specs.Depth.{proc_depth}
 use Rattle.csp_program.specs.Size.{proc_size}
 use Rattle.csp_program.specs.declared.processes.Proc.{Proc}
@@ -16,7 +17,7 @@ use Rattle.csp_base.specs.Lists.{total}
 pub record IsFit (p : Content) (x : Proc) : Type 0 where
   pub list : HasList p x
   pub goes_on : Ticks p x → ⊥
-  pub shallow : proc_depth x ≤ 800
+  pub shallow : proc_depth x ≤ MOST_TERM_DEPTH
 
 -- The terms and steps are exactly those of the component, and each term is fit. They are within the limits and the room, and the room that they
 -- take is told.
@@ -24,7 +25,7 @@ pub record IsLocalTable (p : Content) (c : Component Proc) (room : Room) (made :
   pub terms : List Proc
   pub table : IsTableOf (ProcessStep p) c terms made.table
   pub fit : (n : ℕ) (x : Proc) → slice_get terms n ≡ Some x → IsFit p x
-  pub few : length terms ≤ 16384
+  pub few : length terms ≤ MOST_TERMS
   pub nodes : total (map proc_size terms) ≡ made.used.nodes
   pub steps : step_count made.table ≡ made.used.steps
   pub room_for_nodes : made.used.nodes ≤ room.nodes

@@ -1,5 +1,6 @@
 -- What stands while a component is explored. (No public contract cites this.)
 use Rattle.std.specs.Prelude.{◌≡◌, ◌⊎◌, ℕ, ◌+◌, ◌<◌, ◌≤◌, IsTrue, Option, Some, None, List, [], ◌∷◌, ◌++◌, length, map, slice_get}
+use Rattle.limits.specs.declared.TheConstants.{MOST_TERMS, MOST_TERM_DEPTH}
 use Rattle.csp_base.specs.Members.{has}
 use Rattle.csp_program.specs.Depth.{proc_depth}
 use Rattle.csp_program.specs.declared.processes.Proc.{Proc}
@@ -72,8 +73,8 @@ CanBePassed room = (room.nodes < 4294967295) × (room.steps < 4294967295)
 
 -- it is within the limits and the room
 pub record IsWithin (room : Room) (found : Found) : Type 0 where
-  pub few : length found.terms ≤ 16384
-  pub shallow : (n : ℕ) (x : Proc) → slice_get (terms_at found.pool found.terms) n ≡ Some x → proc_depth x ≤ 800
+  pub few : length found.terms ≤ MOST_TERMS
+  pub shallow : (n : ℕ) (x : Proc) → slice_get (terms_at found.pool found.terms) n ≡ Some x → proc_depth x ≤ MOST_TERM_DEPTH
   pub nodes : found.nodes ≤ room.nodes
   pub steps : step_count found.table ≤ room.steps
 
@@ -145,8 +146,8 @@ pub record IsAdded (old new : Found) (origin : Origin) (to : ProcId) : Type 0 wh
 
 -- The newest term is not too deep, and the terms are not too many or too large.
 pub record IsFitting (room : Room) (found : Found) (newest : ProcId) : Type 0 where
-  pub few : length found.terms ≤ 16384
-  pub shallow : proc_depth (tree_at found.pool newest) ≤ 800
+  pub few : length found.terms ≤ MOST_TERMS
+  pub shallow : proc_depth (tree_at found.pool newest) ≤ MOST_TERM_DEPTH
   pub nodes : found.nodes ≤ room.nodes
 
 -- There are more terms, and no more steps.

@@ -1,5 +1,6 @@
 -- Why an exploration stops, with what it has found by then. (No public contract cites this.)
 use Rattle.std.specs.Prelude.{◌≡◌, ℕ, ◌<◌, Some, slice_get}
+use Rattle.limits.specs.declared.TheConstants.{MOST_TERMS, MOST_TERM_DEPTH}
 use Rattle.csp_program.specs.declared.processes.Proc.{Proc}
 use Rattle.csp_program.specs.declared.programs.Content.{Content}
 use Rattle.csp_tables.specs.Network.{Component}
@@ -25,8 +26,8 @@ pub record HasEnd (p : Content) (c : Component Proc) (found : Found) (number : �
 abbrev pub StopsAt : Content → Component Proc → Room → Found → Stop → Type 0
 StopsAt p c room found NoMemory = Unit {0}
 StopsAt p c room found (Value kind) = LacksValue p c kind
-StopsAt p c room found (TermCount n) = (16384 < n) × HasTerms p c n
-StopsAt p c room found (TermDepth n) = (800 < n) × HasDepth p c n
+StopsAt p c room found (TermCount n) = (MOST_TERMS < n) × HasTerms p c n
+StopsAt p c room found (TermDepth n) = (MOST_TERM_DEPTH < n) × HasDepth p c n
 StopsAt p c room found (TermTotal n) = (room.nodes < n) × HasSizes p c n
 StopsAt p c room found (StepCount n) = (room.steps < n) × HasSteps p c n
 StopsAt p c room found (Ends number) = HasEnd p c found number

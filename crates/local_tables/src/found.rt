@@ -1,6 +1,7 @@
 //! What an exploration has found so far, and the terms that come to it.
 
 ghost use Rattle.std.specs.Prelude.{◌≡◌, ◌<◌, ◌≤◌, ◌^◌, ℕ, Some, [], length, slice_get, IfOk, IfErr, OnOk};
+ghost use Rattle.limits.specs.declared.TheConstants.{MOST_TERMS};
 ghost use Rattle.term_pool.specs.Pooled.{AreDifferent};
 ghost use Rattle.local_tables.specs.Component.{component};
 ghost use Rattle.local_tables.specs.Progress.{CanBePassed, HasMoreTerms, IsAdded, IsFitting, IsSoFar, IsWithin, Steps, label_of};
@@ -12,12 +13,9 @@ use containers::Numbering;
 use csp_base::{Event, EventSet, NoMemory};
 use csp_program::{Proc, Program};
 use csp_tables::RawTable;
+use limits::{MOST_TERM_DEPTH, MOST_TERMS};
 use std::alloc::Global;
 use term_pool::{Pool, ProcId};
-
-const MOST_TERMS: usize = 16384;
-
-const MOST_DEPTH: u32 = 800;
 
 // A component of a program, and the room for its table.
 #[derive(Drop)]
@@ -125,7 +123,7 @@ fn admit(
 
 // Takes a new term in, with the step by which it was found.
 fn add(found: &mut Found, origin: (u32, Option<Event>), to: ProcId) -> Result<u32, NoMemory>
-    requires few { length found.old.terms ≤ 16384 }
+    requires few { length found.old.terms ≤ MOST_TERMS }
     requires count { found.old.table.count ≡ length found.old.terms }
     requires nodes { found.old.nodes < 2 ^ 32 }
     requires inside { to.0 < length found.old.pool }
@@ -157,7 +155,7 @@ fn check(task: &Task<'_>, found: &Found, newest: ProcId) -> Result<(), Stop>
         });
     }
     let depth = found.pool.depth(newest);
-    if depth > MOST_DEPTH {
+    if depth > MOST_TERM_DEPTH {
         return Err(Stop::TermDepth { found: depth });
     }
     if found.nodes > u64::from(task.room.nodes) {

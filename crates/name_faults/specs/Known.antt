@@ -2,6 +2,7 @@
 use Rattle.std.specs.Prelude.{◌≡◌, ℕ, Bool, false, ◌&&◌, ◌||◌, nat_lt, Option, List, [], ◌∷◌, ◌++◌, length, slice_get, slice_index}
 use Rattle.std.specs.List.{flat_map}
 use Rattle.std.specs.Option.{option_map}
+use Rattle.limits.specs.declared.TheConstants.{MOST_DATA_DEPTH}
 use Rattle.csp_text.specs.declared.script.Decl.{Decl}
 use Rattle.csp_text.specs.declared.script.Decl.TheVariants as decl
 use Rattle.csp_text.specs.declared.token.ResourceNames.{ResourceNames}
@@ -87,10 +88,10 @@ module _ (meanings : Meanings) (kinds : List Kind) where
   says_after k (decl.Roles names) = roles_said k.roles names
   says_after k (decl.Resource names) = resource_said k.uses names
 
--- whether a declaration is a definition of data with the number n that is over 800 deep
+-- whether a declaration is a definition of data with the number n that is over MOST_DATA_DEPTH deep
 abbrev pub deep_at : List Kind → List ℕ → ℕ → Decl → Bool
-deep_at kinds depths n (decl.Define x params t) = is_data (kind_class (slice_get kinds n)) && nat_lt 800 (slice_index depths n)
-deep_at kinds depths n (decl.Nametype x t) = nat_lt 800 (slice_index depths n)
+deep_at kinds depths n (decl.Define x params t) = is_data (kind_class (slice_get kinds n)) && nat_lt MOST_DATA_DEPTH (slice_index depths n)
+deep_at kinds depths n (decl.Nametype x t) = nat_lt MOST_DATA_DEPTH (slice_index depths n)
 deep_at kinds depths n _ = false
 
 -- the fault of the declaration with the number i in which this was found

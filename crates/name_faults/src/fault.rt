@@ -1,6 +1,7 @@
 //! The name fault of a script.
 
 ghost use Rattle.std.specs.Prelude.{◌≡◌, [], ◌∷◌, Some, map, slice_index, nat_lt, IfOk, OnOk};
+ghost use Rattle.limits.specs.declared.TheConstants.{MOST_DATA_DEPTH};
 ghost use Rattle.script_names.specs.Names.{declared, first_of};
 ghost use Rattle.script_names.specs.Told as meant;
 ghost use Rattle.name_tables.specs.Firsts.{SameFirsts, SameNames};
@@ -15,6 +16,7 @@ use crate::known::Known;
 use crate::places;
 use csp_base::NoMemory;
 use csp_text::Decl;
+use limits::MOST_DATA_DEPTH;
 use name_notes::{Findings, Notes};
 use name_tables::Meanings;
 use script_names::{Class, Kind, ResolveFault};
@@ -111,10 +113,10 @@ fn is_deep(kinds: &[Kind], depths: &[u32], d: u32, decl: &Decl) -> bool
 
 // Whether a definition is over 800 deep.
 fn is_over(depths: &[u32], d: u32) -> bool
-    ensures { result ≡ nat_lt 800 (slice_index depths.now d) }
+    ensures { result ≡ nat_lt MOST_DATA_DEPTH (slice_index depths.now d) }
 {
     match depths.get(d as usize) {
-        Some(depth) => *depth > 800,
+        Some(depth) => *depth > MOST_DATA_DEPTH,
         None => false,
     }
 }

@@ -1,6 +1,7 @@
 //! The layout of a program's network.
 
 ghost use Rattle.std.specs.Prelude.{◌≡◌, ◌≤◌, IfErr, IfOk, length};
+ghost use Rattle.limits.specs.declared.TheConstants.{MOST_COMPONENTS, MOST_NETWORK_DEPTH};
 ghost use Rattle.std.specs.List.{range_with_len};
 ghost use Rattle.network_trees.specs.NetworkOf.{all_events, network_of, walked};
 ghost use Rattle.network_layout.specs.Lays.{AreSeats, Fails};
@@ -12,11 +13,9 @@ use crate::walk::walk;
 use containers::Items;
 use csp_base::{Event, EventSet, NoMemory};
 use csp_program::Program;
+use limits::MOST_NETWORK_DEPTH;
 use network_trees::LayoutFault;
 use std::alloc::Global;
-
-// The greatest number of nodes that stand one inside another.
-const MOST_LEVELS: u32 = 800;
 
 // The first `count` events.
 fn first_events(alloc: Global, count: u32) -> Result<EventSet, NoMemory>
@@ -39,16 +38,16 @@ fn all_events(alloc: Global, program: &Program) -> Result<EventSet, NoMemory>
 
 // The components that the walk of a program's network meets.
 fn seats_of(alloc: Global, program: &Program) -> Result<Items<Seat>, LayoutFault>
-    ensures seats { IfOk result (AreSeats (walked program.now 800 0 (all_events program.now) program.now.root)) }
-    ensures few { IfOk result (λ seats. length seats ≤ 512) }
-    ensures fault { IfErr result (λ fault. Fails fault (walked program.now 800 0 (all_events program.now) program.now.root)) }
+    ensures seats { IfOk result (AreSeats (walked program.now MOST_NETWORK_DEPTH 0 (all_events program.now) program.now.root)) }
+    ensures few { IfOk result (λ seats. length seats ≤ MOST_COMPONENTS) }
+    ensures fault { IfErr result (λ fault. Fails fault (walked program.now MOST_NETWORK_DEPTH 0 (all_events program.now) program.now.root)) }
 {
     let events = all_events(alloc, program)?;
     let scope = Scope { alloc, program };
     let mut seats = Items::new(alloc);
     walk(
         &scope,
-        MOST_LEVELS,
+        MOST_NETWORK_DEPTH,
         &program.content().root,
         &events,
         &mut seats,

@@ -1,6 +1,7 @@
 //! Seats: a component of a network with its alphabet.
 
 ghost use Rattle.std.specs.Prelude.{◌≡◌, ◌≤◌, ◌&&◌, ◌||◌, ℕ, IfOk, OnOk, length};
+ghost use Rattle.limits.specs.declared.TheConstants.{MOST_COMPONENTS};
 ghost use Rattle.csp_base.specs.Members.{has};
 ghost use Rattle.network_layout.specs.Triple.{AreCrowded, alphabets};
 
@@ -83,13 +84,13 @@ impl Model for Layout {
 
     ghost view = { λ l. l.seats };
 
-    ghost invariant = { λ l. (length l.seats ≤ 512) × AreCrowded (alphabets l.seats) l.crowded };
+    ghost invariant = { λ l. (length l.seats ≤ MOST_COMPONENTS) × AreCrowded (alphabets l.seats) l.crowded };
 }
 
 impl Layout {
     /// The components of the list, which are at most 512.
     pub fn new(alloc: Global, seats: Items<Seat>) -> Result<Layout, NoMemory>
-        requires few { length seats ≤ 512 }
+        requires few { length seats ≤ MOST_COMPONENTS }
         ensures { IfOk result (λ made. made ≡ seats) }
     {
         let crowded = crowded(alloc, seats.as_slice())?;
@@ -99,7 +100,7 @@ impl Layout {
     /// The components.
     pub fn seats(&self) -> &[Seat]
         ensures seats { result.now ≡ self.now }
-        ensures few { length self.now ≤ 512 }
+        ensures few { length self.now ≤ MOST_COMPONENTS }
     {
         self.seats.as_slice()
     }

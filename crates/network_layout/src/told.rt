@@ -1,6 +1,7 @@
 //! The sets that a program tells of its components.
 
 ghost use Rattle.std.specs.Prelude.{◌≡◌, ◌≤◌, [], false, length, IfErr, IfOk, Ok, Some};
+ghost use Rattle.limits.specs.declared.TheConstants.{MOST_COMPONENTS};
 ghost use Rattle.std.specs.Option.{option_copied};
 ghost use Rattle.process_steps.specs.Needed.{all_outcomes};
 ghost use Rattle.network_trees.specs.Annotations.{component_roles, component_uses, resource_note, roles_note, told_roles, told_set, told_uses};
@@ -151,7 +152,7 @@ fn untold(fault: LayoutFault, part: u32) -> NotedFault
 
 // What is told of each of the components.
 fn all_roles(scope: &Scope<'_>, seats: &[Seat]) -> Result<Items<RoleSets>, NotedFault>
-    requires { length seats.now ≤ 512 }
+    requires { length seats.now ≤ MOST_COMPONENTS }
     ensures told { IfOk result (λ told. all_outcomes (component_roles scope.now.program.now) seats.now ≡ Ok told) }
     ensures fault { IfErr result (IsUntold (component_roles scope.now.program.now) seats.now) }
 {
@@ -182,7 +183,7 @@ pub fn roles_of(
 
 // What is told of each of the components.
 fn all_uses(scope: &Scope<'_>, seats: &[Seat]) -> Result<Items<UseSets>, NotedFault>
-    requires { length seats.now ≤ 512 }
+    requires { length seats.now ≤ MOST_COMPONENTS }
     ensures told { IfOk result (λ told. all_outcomes (component_uses scope.now.program.now) seats.now ≡ Ok told) }
     ensures fault { IfErr result (IsUntold (component_uses scope.now.program.now) seats.now) }
 {

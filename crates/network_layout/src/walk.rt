@@ -16,11 +16,9 @@ use csp_atoms::Atom;
 use csp_base::{EventSet, NoMemory};
 use csp_program::proc_copies::copy_boxed_proc;
 use csp_program::{Expr, Net, Proc};
+use limits::MOST_COMPONENTS;
 use network_trees::LayoutFault;
 use std::alloc::Global;
-
-// The greatest number of components.
-const MOST_COMPONENTS: usize = 512;
 
 const TOO_DEEP: LayoutFault = LayoutFault::NetworkDepth { found: 801 };
 

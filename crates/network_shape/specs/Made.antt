@@ -1,5 +1,6 @@
 -- Parts that are made from the numbered tables of a network's components, and what they make.
 use Rattle.std.specs.Prelude.{◌≡◌, ℕ, List, [], ◌∷◌, ◌++◌, Some, length, map, slice_get}
+use Rattle.limits.specs.declared.TheConstants.{MOST_TERMS}
 use Rattle.csp_tables.specs.Label.{Label}
 use Rattle.csp_tables.specs.Network.{Component, Tree, leaves}
 use Rattle.csp_tables.specs.RawTable.{RawTable, RawStep, IsTableOf}
@@ -15,7 +16,7 @@ pub record IsMadeFor {T : Type 0} (Step : T → Label → T → Type 0) (c : Com
   pub raw : RawTable
   pub numbered : IsTableOf Step c terms raw
   pub alphabet : c.alphabet ≡ p.alphabet
-  pub normal : IsNormalTable (RawStep raw) 0 16384 p.table
+  pub normal : IsNormalTable (RawStep raw) 0 MOST_TERMS p.table
 
 -- one part for each component, in the same order
 pub record AreMadeFor {T : Type 0} (Step : T → Label → T → Type 0) (cs : List (Component T)) (ps : List Part) : Type 0 where

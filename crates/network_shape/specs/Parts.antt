@@ -1,5 +1,6 @@
 -- The parts of a network, one by one: what a well-formed shape says of each.
 use Rattle.std.specs.Prelude.{◌<◌, ◌≤◌, ℕ, List, length, IsTrue}
+use Rattle.limits.specs.declared.TheConstants.{MOST_TERMS}
 use Rattle.csp_base.specs.Members.{has}
 use Rattle.csp_tables.specs.Label.Label.{visible}
 use Rattle.csp_tables.specs.RawTable.{RawTable, RawStep}
@@ -16,6 +17,6 @@ HasEventsWithin raw alphabet = (m e n : ℕ) → RawStep raw m (visible e) n →
 -- acceptance is possible at its node.
 pub record IsWellFormedPart (p : Part) : Type 0 where
   pub form : HasForm p
-  pub few : (n : ℕ) → length (node_at p.table n).accept ≤ 16384
+  pub few : (n : ℕ) → length (node_at p.table n).accept ≤ MOST_TERMS
   pub possible : (n k e : ℕ) → IsTrue (has (acceptance_at p n k) e) → IsTrue (is_possible (node_at p.table n).next e)
   pub reached : (n : ℕ) → n < length p.table → IsReached p.table n

@@ -1,6 +1,7 @@
 //! The links between parts, from the events that the parts share.
 
 ghost use Rattle.std.specs.Prelude.{◌≡◌, ◌≢◌, ◌<◌, ◌≤◌, ◌+◌, ◌||◌, ◌++◌, ◌∷◌, [], ℕ, List, IfOk, OnOk, length};
+ghost use Rattle.limits.specs.declared.TheConstants.{MOST_COMPONENTS};
 ghost use Rattle.csp_base.specs.Members.{has};
 ghost use Rattle.csp_tables.specs.Part.{Part};
 ghost use Rattle.network_shape.specs.Rows.{AreLinksBefore, AreRows, IsRow, IsVocabulary, any_has_event, has_event};
@@ -16,7 +17,7 @@ pub(crate) fn linked(
     alloc: Global,
     rows: &[Items<(u32, Event)>],
 ) -> Result<(Vec<Link>, EventSet), NoMemory>
-    requires few { length rows.now ≤ 512 }
+    requires few { length rows.now ≤ MOST_COMPONENTS }
     requires rows { (parts : List Part) × AreRows parts (length parts) rows.now }
     ensures links { (parts : List Part) → AreRows parts (length parts) rows.now
         → IfOk result (λ made. AreLinksBefore parts (length parts) 0 made.0.items) }
@@ -29,7 +30,7 @@ pub(crate) fn linked(
 
 // The links of the parts whose rows these are.
 fn links_of(alloc: Global, rows: &[Items<(u32, Event)>]) -> Result<Vec<Link>, NoMemory>
-    requires few { length rows.now ≤ 512 }
+    requires few { length rows.now ≤ MOST_COMPONENTS }
     requires rows { (parts : List Part) × AreRows parts (length parts) rows.now }
     ensures { (parts : List Part) → AreRows parts (length parts) rows.now
         → IfOk result (λ made. AreLinksBefore parts (length parts) 0 made.items) }

@@ -1,6 +1,7 @@
 //! A part of a network from the numbered table of its component.
 
 ghost use Rattle.std.specs.Prelude.{◌≡◌, ◌≤◌, ℕ, IfOk, OnOk};
+ghost use Rattle.limits.specs.declared.TheConstants.{MOST_TERMS};
 ghost use Rattle.csp_tables.specs.NormalTable.{IsNormalTable};
 ghost use Rattle.csp_tables.specs.Path.{SilentStep};
 ghost use Rattle.csp_tables.specs.RawTable.{RawStep};
@@ -26,10 +27,10 @@ pub fn part(
     heights: &Heights,
 ) -> Result<Part, PartFault>
     requires heights { AreHeights (SilentStep (RawStep table.now)) table.now.count heights.now }
-    requires few { table.now.count ≤ 16384 }
+    requires few { table.now.count ≤ MOST_TERMS }
     requires events { HasEventsWithin table.now alphabet }
     ensures alphabet { IfOk result (λ made. made.alphabet ≡ alphabet) }
-    ensures normal { IfOk result (λ made. IsNormalTable (RawStep table.now) 0 16384 made.table) }
+    ensures normal { IfOk result (λ made. IsNormalTable (RawStep table.now) 0 MOST_TERMS made.table) }
     ensures form { IfOk result IsWellFormedPart }
 
     // It succeeds only where no more sets are reached, and the limit is told only where they are.

@@ -1,6 +1,7 @@
 //! The events that parts share, sorted out by the left one of the parts.
 
 ghost use Rattle.std.specs.Prelude.{◌≡◌, ◌<◌, ◌≤◌, ◌==◌, ◌++◌, ◌∷◌, [], ℕ, Some, IfOk, OnOk, length, replicate, slice_set, if◌then◌else◌};
+ghost use Rattle.limits.specs.declared.TheConstants.{MOST_COMPONENTS};
 ghost use Rattle.csp_base.specs.Members.{has};
 ghost use Rattle.csp_tables.specs.Part.{TripleDisjoint, alphabets_of};
 ghost use Rattle.network_shape.specs.Rows.{AreOwners, AreRows, joint, joints, owner_of, row_at};
@@ -15,7 +16,7 @@ pub(crate) fn shared_rows(
     alloc: Global,
     parts: &[Part],
 ) -> Result<Vec<Items<(u32, Event)>>, NoMemory>
-    requires most { length parts.now ≤ 512 }
+    requires most { length parts.now ≤ MOST_COMPONENTS }
     requires apart { TripleDisjoint (alphabets_of parts.now) }
     ensures { IfOk result (λ rows. AreRows parts.now (length parts.now) rows.items) }
 {
@@ -31,7 +32,7 @@ fn join_parts(
     rows: &mut Vec<Items<(u32, Event)>>,
     parts: &[Part],
 ) -> Result<(), NoMemory>
-    requires most { length parts.now ≤ 512 }
+    requires most { length parts.now ≤ MOST_COMPONENTS }
     requires apart { TripleDisjoint (alphabets_of parts.now) }
     requires owners { AreOwners parts.now 0 owners.old.items }
     requires rows { AreRows parts.now 0 rows.old.items }

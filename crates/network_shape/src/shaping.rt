@@ -1,6 +1,7 @@
 //! The shape of a network from its parts.
 
 ghost use Rattle.std.specs.Prelude.{◌≡◌, ◌≤◌, All, IfOk, length};
+ghost use Rattle.limits.specs.declared.TheConstants.{MOST_COMPONENTS};
 ghost use Rattle.csp_tables.specs.Part.{TripleDisjoint, alphabets_of};
 ghost use Rattle.csp_tables.specs.Shape.{IsWellFormed};
 ghost use Rattle.network_shape.specs.Parts.{IsWellFormedPart};
@@ -17,7 +18,7 @@ use std::alloc::Global;
 /// It takes time in proportion to the sizes of the alphabets and the number of the greatest event.
 pub fn shape(alloc: Global, parts: Vec<Part>) -> Result<Shape, NoMemory>
     requires least { 1 ≤ length parts.items }
-    requires most { length parts.items ≤ 512 }
+    requires most { length parts.items ≤ MOST_COMPONENTS }
     requires form { All IsWellFormedPart parts.items }
     requires apart { TripleDisjoint (alphabets_of parts.items) }
     ensures parts { IfOk result (λ made. made.parts ≡ parts.items) }
@@ -29,7 +30,7 @@ pub fn shape(alloc: Global, parts: Vec<Part>) -> Result<Shape, NoMemory>
 
 // The links of the parts, and their vocabulary.
 fn joined(alloc: Global, parts: &[Part]) -> Result<(Vec<Link>, EventSet), NoMemory>
-    requires most { length parts.now ≤ 512 }
+    requires most { length parts.now ≤ MOST_COMPONENTS }
     requires apart { TripleDisjoint (alphabets_of parts.now) }
     ensures links { IfOk result (λ made. AreLinksBefore parts.now (length parts.now) 0 made.0.items) }
     ensures vocabulary { IfOk result (λ made. IsVocabulary parts.now made.1) }

@@ -1,5 +1,6 @@
 -- The tables of the components of a network, each within the room that those before it leave.
 use Rattle.std.specs.Prelude.{◌-◌, List, [], ◌∷◌}
+use Rattle.limits.specs.declared.TheConstants.{MOST_NODES, MOST_STEPS}
 use Rattle.csp_program.specs.declared.processes.Proc.{Proc}
 use Rattle.csp_program.specs.declared.programs.Content.{Content}
 use Rattle.csp_tables.specs.Network.{Component}
@@ -10,7 +11,7 @@ use Rattle.network_tables.specs.declared.component_tables.ComponentTable.{Compon
 
 -- the room of all components together
 abbrev pub whole_room : Room
-whole_room = record { nodes = 8388608; steps = 1048576 }
+whole_room = record { nodes = MOST_NODES; steps = MOST_STEPS }
 
 -- the room that is left after some is used
 abbrev pub room_after : Room → Room → Room

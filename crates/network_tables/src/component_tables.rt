@@ -11,6 +11,7 @@ use crate::fault::TableFault;
 use csp_base::NoMemory;
 use csp_program::Program;
 use digraph::Heights;
+use limits::{MOST_NODES, MOST_STEPS};
 use local_tables::{LocalTable, Room, explore};
 use network_layout::Seat;
 use std::alloc::Global;
@@ -39,8 +40,8 @@ fn whole() -> Room
     ensures { result ≡ whole_room }
 {
     Room {
-        nodes: 8_388_608,
-        steps: 1_048_576,
+        nodes: MOST_NODES,
+        steps: MOST_STEPS,
     }
 }
 

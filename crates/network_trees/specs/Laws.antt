@@ -1,5 +1,6 @@
 -- What is true of the network of a program.
 use Rattle.std.specs.Prelude.{◌≡◌, ◌≤◌, Ok, length}
+use Rattle.limits.specs.declared.TheConstants.{MOST_COMPONENTS}
 use Rattle.csp_tables.specs.Network.{Tree, leaves}
 use Rattle.csp_tables.specs.WellNested.{WellNested}
 use Rattle.network_trees.specs.NetworkOf.{network_of}
@@ -10,6 +11,6 @@ use Rattle.csp_program.specs.declared.programs.Content.{Content}
 abbrev pub NetworksAreWellNested : Type 0
 NetworksAreWellNested = (p : Content) (tree : Tree Proc) → network_of p ≡ Ok tree → WellNested tree
 
--- there are 1 to 512 components
+-- there are 1 to MOST_COMPONENTS components
 abbrev pub NetworksAreSmall : Type 0
-NetworksAreSmall = (p : Content) (tree : Tree Proc) → network_of p ≡ Ok tree → (1 ≤ length (leaves tree)) × (length (leaves tree) ≤ 512)
+NetworksAreSmall = (p : Content) (tree : Tree Proc) → network_of p ≡ Ok tree → (1 ≤ length (leaves tree)) × (length (leaves tree) ≤ MOST_COMPONENTS)

@@ -9,6 +9,7 @@
 -- A leaf is no nested node, however deep it stands. A node that stands too deep is told before anything in it is evaluated.
 use Rattle.std.specs.Prelude.{ℕ, zero, suc, ◌+◌, nat_lt, if◌then◌else◌, Option, Some, None, Result, Ok, Err, List, [], ◌∷◌, length, slice_get}
 use Rattle.std.specs.List.{range_with_len}
+use Rattle.limits.specs.declared.TheConstants.{MOST_COMPONENTS, MOST_NETWORK_DEPTH}
 use Rattle.csp_program.specs.Outcome.{Outcome}
 use Rattle.csp_program.specs.Substitution.{expr_with, net_with}
 use Rattle.csp_tables.specs.Network.{Component, Tree, Operands, leaves}
@@ -46,9 +47,9 @@ abbrev pub with_value : {A B : Type 0} → Outcome A → (A → Walked B) → Wa
 with_value (Ok a) next = next a
 with_value (Err why) next = Err (fault.Value why)
 
--- a component, which so many others come before: there are at most 512
+-- a component, which so many others come before: there are at most MOST_COMPONENTS
 abbrev pub component : ℕ → List ℕ → Proc → Walked (Tree Proc)
-component k alphabet q = if nat_lt k 512 then Ok (leaf (record { alphabet = alphabet; term = q })) else Err (fault.ComponentLimit 513)
+component k alphabet q = if nat_lt k MOST_COMPONENTS then Ok (leaf (record { alphabet = alphabet; term = q })) else Err (fault.ComponentLimit (MOST_COMPONENTS + 1))
 
 -- the tree of an operand, the first component of which has the number k, unless an event is in its alphabet or in those of its components alone
 abbrev pub agreed : ℕ → Tree Proc → Option ℕ → Walked (Tree Proc)
@@ -127,6 +128,6 @@ abbrev pub some_components : Tree Proc → List (Component Proc) → Walked (Tre
 some_components tree [] = Err fault.EmptyNetwork
 some_components tree (c ∷ cs) = Ok tree
 
--- The network of a program. At most 800 nodes stand one inside another.
+-- The network of a program. At most MOST_NETWORK_DEPTH nodes stand one inside another.
 abbrev pub network_of : Content → Walked (Tree Proc)
-network_of p = goes_on (walked p 800 0 (all_events p) p.root) (λ tree. some_components tree (leaves tree))
+network_of p = goes_on (walked p MOST_NETWORK_DEPTH 0 (all_events p) p.root) (λ tree. some_components tree (leaves tree))

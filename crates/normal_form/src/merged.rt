@@ -1,6 +1,7 @@
 //! The nodes of a table merged by equal future.
 
 ghost use Rattle.std.specs.Prelude.{◌≡◌, ◌<◌, ◌≤◌, ◌^◌, IfOk, length};
+ghost use Rattle.limits.specs.declared.TheConstants.{MOST_SETS};
 ghost use Rattle.equal_futures.specs.Future.{NodesRise};
 ghost use Rattle.normal_form.specs.Merged.{IsMergedTable};
 
@@ -14,7 +15,7 @@ use std::alloc::Global;
 // One node for each class of nodes with equal future.
 pub(crate) fn merged_nodes(alloc: Global, nodes: &[NormNode]) -> Result<NormTable, NoMemory>
     requires rising { NodesRise nodes.now }
-    requires few { length nodes.now ≤ 2048 }
+    requires few { length nodes.now ≤ MOST_SETS }
     ensures { IfOk result (λ merged. IsMergedTable nodes.now merged) }
 {
     let marks = accept_marks(alloc, nodes)?;

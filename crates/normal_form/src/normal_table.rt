@@ -1,6 +1,7 @@
 //! The normal table of a raw table.
 
 ghost use Rattle.std.specs.Prelude.{◌≡◌, ◌<◌, ◌≤◌, ℕ, All, IfOk, OnOk, length};
+ghost use Rattle.limits.specs.declared.TheConstants.{MOST_SETS};
 ghost use Rattle.csp_tables.specs.RawTable.{RawStep};
 ghost use Rattle.csp_tables.specs.Path.{SilentStep};
 ghost use Rattle.digraph.specs.Walk.{AreHeights};
@@ -25,7 +26,7 @@ use tau_order::Heights;
 pub fn normalise(alloc: Global, table: &RawTable, heights: &Heights) -> Result<NormTable, NormFault>
     requires heights { AreHeights (SilentStep (RawStep table.now)) table.now.count heights.now }
     ensures normal { IfOk result (IsNormalTable (RawStep table.now) 0 table.now.count) }
-    ensures few { IfOk result (λ made. length made ≤ 2048) }
+    ensures few { IfOk result (λ made. length made ≤ MOST_SETS) }
 
     // It succeeds only where no more sets are reached, and the limit is told only where they are.
     ensures within_limit { OnOk result (ReachesSets (RawStep table.now) 0 2049 → ⊥) }
@@ -45,7 +46,7 @@ fn sets_of(alloc: Global, table: &RawTable) -> Result<SetTable, NormFault>
     ensures acceptances { IfOk result (λ made. HasAcceptances (RawStep table.now) 0 made.nodes) }
     ensures in_order { IfOk result (λ made. All IsRisingNode made.nodes) }
     ensures breadth_first { IfOk result (λ made. IsBreadthFirst made.nodes) }
-    ensures few { IfOk result (λ made. length made.nodes ≤ 2048) }
+    ensures few { IfOk result (λ made. length made.nodes ≤ MOST_SETS) }
     ensures within_limit { OnOk result (ReachesSets (RawStep table.now) 0 2049 → ⊥) }
     ensures limit { (found : ℕ) → result ≡ Err (NormFault.SubsetLimit found) → (found ≡ 2049) × ReachesSets (RawStep table.now) 0 2049 }
 {

@@ -9,6 +9,7 @@ use Rattle.csp_text.specs.declared.token.Word.TheVariants.{Assert}
 use Rattle.csp_text.specs.declared.token.ResourceNames.{ResourceNames}
 use Rattle.csp_text.specs.declared.token.RolesNames.{RolesNames}
 use Rattle.csp_lexer.specs.Words.{is_name}
+use Rattle.limits.specs.declared.TheConstants.{GREATEST_NUMBER}
 
 -- each of the tokens has the fact
 abbrev pub Every : (Token → Type 0) → List Token → Type 0
@@ -34,7 +35,7 @@ pub record AreResource (names : ResourceNames) : Type 0 where
 -- a token of a text
 abbrev pub Fits : Token → Type 0
 Fits (token.Name x) = IsName x
-Fits (token.Num n) = n ≤ 1000000
+Fits (token.Num n) = n ≤ GREATEST_NUMBER
 Fits (token.Word w) = Unit {0}
 Fits (token.Symbol s) = Unit {0}
 Fits (token.Roles names) = AreRoles names
@@ -50,7 +51,7 @@ is_single _ = true
 -- a token on the line of an assertion
 abbrev pub FitsLine : Token → Type 0
 FitsLine (token.Name x) = IsName x
-FitsLine (token.Num n) = n ≤ 1000000
+FitsLine (token.Num n) = n ≤ GREATEST_NUMBER
 FitsLine (token.Word w) = Unit {0}
 FitsLine (token.Symbol s) = is_single s ≡ true
 FitsLine (token.Roles names) = ⊥

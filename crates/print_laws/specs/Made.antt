@@ -21,6 +21,7 @@ use Rattle.csp_text.specs.declared.tree.FieldTree.TheVariants as field
 use Rattle.csp_text.specs.declared.tree.GenTree.{GenTree}
 use Rattle.csp_text.specs.declared.tree.GenTree.TheVariants as generator
 use Rattle.csp_grammar.specs.Grammar.{Choice, choice_sign, choice_of, event_tree, part_tree}
+use Rattle.limits.specs.declared.TheConstants.{MOST_TREE_DEPTH}
 
 mutual
   pub data MadeTree (P : Token → Type 0) : Tree → Type 0 where
@@ -107,8 +108,8 @@ pub data MadeNames (P : Token → Type 0) : List (List ℕ) → Type 0 where
 
 -- types, one or more
 pub data MadeTypes (P : Token → Type 0) : List Tree → Type 0 where
-  made-one-type : {a : Tree} → MadeTree P a → tree_depth a ≤ 200 → MadeTypes P (a ∷ [])
-  made-more-types : {a : Tree} {types : List Tree} → MadeTree P a → tree_depth a ≤ 200 → MadeTypes P types → MadeTypes P (a ∷ types)
+  made-one-type : {a : Tree} → MadeTree P a → tree_depth a ≤ MOST_TREE_DEPTH → MadeTypes P (a ∷ [])
+  made-more-types : {a : Tree} {types : List Tree} → MadeTree P a → tree_depth a ≤ MOST_TREE_DEPTH → MadeTypes P types → MadeTypes P (a ∷ types)
 
 pub data MadeParameters (P : Token → Type 0) : List (List ℕ) → Type 0 where
   made-no-parameters : MadeParameters P []
@@ -119,10 +120,10 @@ pub data MadeDecl (P Q : Token → Type 0) : Decl → Type 0 where
   made-channel : {cs : List (List ℕ)} → MadeNames P cs → MadeDecl P Q (decl.Channel cs [])
   made-channel-of : {cs : List (List ℕ)} {types : List Tree} → MadeNames P cs → MadeTypes P types → MadeDecl P Q (decl.Channel cs types)
   made-datatype : {d : List ℕ} {xs : List (List ℕ)} → P (Name d) → MadeNames P xs → MadeDecl P Q (decl.Datatype d xs)
-  made-nametype : {x : List ℕ} {s : Tree} → P (Name x) → MadeTree P s → tree_depth s ≤ 200 → MadeDecl P Q (decl.Nametype x s)
-  made-define : {f : List ℕ} {xs : List (List ℕ)} {t : Tree} → P (Name f) → MadeParameters P xs → MadeTree P t → tree_depth t ≤ 200 → MadeDecl P Q (decl.Define f xs t)
+  made-nametype : {x : List ℕ} {s : Tree} → P (Name x) → MadeTree P s → tree_depth s ≤ MOST_TREE_DEPTH → MadeDecl P Q (decl.Nametype x s)
+  made-define : {f : List ℕ} {xs : List (List ℕ)} {t : Tree} → P (Name f) → MadeParameters P xs → MadeTree P t → tree_depth t ≤ MOST_TREE_DEPTH → MadeDecl P Q (decl.Define f xs t)
   made-assert-name : {x : List ℕ} → P (Name x) → MadeDecl P Q (decl.Assert (tree.Name x))
-  made-assert-call : {x : List ℕ} {items : List Tree} → P (Name x) → MadeTrees Q items → tree_depth (tree.Call x items) ≤ 200 → MadeDecl P Q (decl.Assert (tree.Call x items))
+  made-assert-call : {x : List ℕ} {items : List Tree} → P (Name x) → MadeTrees Q items → tree_depth (tree.Call x items) ≤ MOST_TREE_DEPTH → MadeDecl P Q (decl.Assert (tree.Call x items))
   made-roles : {names : RolesNames} → P (token.Roles names) → MadeDecl P Q (decl.Roles names)
   made-resource : {names : ResourceNames} → P (token.Resource names) → MadeDecl P Q (decl.Resource names)
 

@@ -3,6 +3,7 @@
 -- that no pair names stays itself.
 use Rattle.std.specs.Prelude.{ℕ, ◌+◌, ◌*◌, nat_eq, nat_lt, if◌then◌else◌, Option, Some, None, Ok, Err, List, [], ◌∷◌, ◌++◌, map, length, drop, take, slice_get}
 use Rattle.std.specs.List.{filter}
+use Rattle.limits.specs.declared.TheConstants.{MOST_BINDINGS}
 use Rattle.csp_program.specs.Outcome.{Outcome, and_then}
 use Rattle.csp_program.specs.Value.{Env, Meaning, field_place, first_of, front_count, front_number, meaning, sets_of, turn, uses_within, values_of, walked}
 use Rattle.process_steps.specs.Needed.{each_joined}
@@ -63,7 +64,7 @@ module _ (p : Content) where
   -- one more binding, of at most 1,048,576
   abbrev pub binding_renamed : List (EventPart × EventPart) → Env → Gathering → Outcome Gathering
   binding_renamed pairs env state =
-      if nat_lt state.bindings 1048576
+      if nat_lt state.bindings MOST_BINDINGS
       then and_then (pairs_renamed env pairs) (λ more. Ok (record { bindings = state.bindings + 1; renamed = state.renamed ++ more }))
       else Err SetLimit
 

@@ -1,6 +1,7 @@
 -- The program of a script, or why it has none. In this order: no deadlock assertion is in the script; a declaration has a name fault; the type of a
 -- channel's field has no value that fits; there are too many events.
 use Rattle.std.specs.Prelude.{◌≡◌, ℕ, ◌+◌, ◌-◌, ◌^◌, min, Bool, true, false, nat_le, if◌then◌else◌, Option, Some, None, Result, Ok, Err, List, [], ◌∷◌, ◌++◌, length, sum, map, replicate}
+use Rattle.limits.specs.declared.TheConstants.{MOST_EVENTS}
 use Rattle.csp_atoms.specs.declared.atom.Atom.{Atom}
 use Rattle.csp_atoms.specs.declared.atom.Atom.TheVariants as atom
 use Rattle.csp_atoms.specs.declared.value.Value.{Value}
@@ -81,7 +82,7 @@ with_events p channels = record p { channels = channels; events = event_table ch
 -- at most 16,384 events; counting stops at the end of 64 bits
 abbrev pub with_table : Content → List (List (List Atom)) → Answer Content
 with_table p all =
-    if nat_le (all_events all) 16384
+    if nat_le (all_events all) MOST_EVENTS
     then Ok (with_events p (with_sets 0 p.channels all))
     else Err (fault.EventLimit (min (all_events all) (2 ^ 64 - 1)))
 

@@ -1,5 +1,6 @@
 -- The name fault of a script: that of the first declaration which has one, there the one with the least number, there at the first name.
 use Rattle.script_names.specs.declared.kinds.Need.TheVariants as need
+use Rattle.limits.specs.declared.TheConstants.{MOST_DATA_DEPTH}
 use Rattle.script_names.specs.declared.kinds.Need.{Need}
 use Rattle.script_names.specs.declared.kinds.Use.TheVariants as how
 use Rattle.script_names.specs.declared.kinds.Place.{Place}
@@ -118,10 +119,10 @@ first_name test os = first_there (map test os)
 abbrev pub when_any : Bool → ResolveFault → Option ResolveFault
 when_any b f = if b then Some f else None
 
--- a definition of data is over 800 deep with all of its uses expanded, or without an end: with 801 uses entered one inside another it is over 800
+-- a definition of data is deeper than may be with all of its uses expanded, or without an end: with one use more entered one inside another it is too deep
 -- in either case
 abbrev pub is_deep : List Kind → List (List Occurrence) → ℕ → Bool
-is_deep kinds bodies d = nat_lt 800 (depth_within 801 bodies d)
+is_deep kinds bodies d = nat_lt MOST_DATA_DEPTH (depth_within (MOST_DATA_DEPTH + 1) bodies d)
 
 abbrev pub is_data : Class → Bool
 is_data class.Data = true

@@ -13,10 +13,8 @@ use csp_atoms::Atom;
 use csp_base::Event;
 use csp_program::{EventPart, Gen, Program, ValueKind};
 use csp_values::{EvalFault, Walk, binding_under};
+use limits::MOST_BINDINGS;
 use std::alloc::Global;
-
-// The greatest number of bindings of a renaming.
-const MOST_BINDINGS: u32 = 1_048_576;
 
 const SET_LIMIT: EvalFault = EvalFault::Value {
     kind: ValueKind::SetLimit,

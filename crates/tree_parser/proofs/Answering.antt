@@ -14,12 +14,12 @@ use Rattle.tree_reading.specs.declared.limits.Limits.{Limits}
 use Rattle.tree_reading.specs.declared.read.Binding.{Binding}
 use Rattle.tree_reading.proofs.SoundScripts.{atom_sound, tree_sound}
 use Rattle.tree_parser.specs.Meaning.{FormGives, bound}
-use Rattle.expression_steps.specs.Moved.{FoundTree}
+use Rattle.parser_expression_steps.specs.Moved.{FoundTree}
 use Rattle.tree_parser.specs.Stack.{Answered, whole}
 use Rattle.tree_parser.specs.Then.{Then}
 use Rattle.tree_parser.specs.Then.Then.{nothing, something}
-use Rattle.expression_steps.specs.declared.form.Form.{Form}
-use Rattle.expression_steps.specs.declared.form.Form.TheVariants as form
+use Rattle.parser_expression_steps.specs.declared.form.Form.{Form}
+use Rattle.parser_expression_steps.specs.declared.form.Form.TheVariants as form
 
 no_some : {A : Type 0} {a : A} → ◌≡◌ {A = Option A} (Some a) None → ⊥
 no_some e = cc

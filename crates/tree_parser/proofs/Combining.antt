@@ -4,7 +4,7 @@ use Rattle.csp_grammar.specs.Reader.{and_then, case}
 use Rattle.tree_reading.specs.Limited.{Limited}
 use Rattle.tree_reading.specs.Nesting.{inside}
 use Rattle.tree_reading.specs.declared.limits.Limits.{Limits}
-use Rattle.expression_steps.specs.Moved.{Moved, FoundTree}
+use Rattle.parser_expression_steps.specs.Moved.{Moved, FoundTree}
 use Rattle.tree_parser.specs.Meaning.{MoveGives}
 use Rattle.tree_parser.specs.Then.{Outcome, Then}
 use Rattle.tree_parser.proofs.Then.{stop, done}

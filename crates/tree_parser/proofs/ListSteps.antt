@@ -16,20 +16,20 @@ use Rattle.tree_reading.specs.Starts.{named}
 use Rattle.tree_reading.specs.declared.limits.Limits.{Limits}
 use Rattle.tree_reading.specs.declared.read.Binding.{Binding}
 use Rattle.tree_reading.specs.declared.read.Binding.TheVariants as binding
-use Rattle.expression_steps.specs.Moved.{FoundTree}
-use Rattle.expression_steps.specs.declared.form.Form.TheVariants as form
-use Rattle.expression_steps.specs.declared.form.GeneratorsOf.{GeneratorsOf}
-use Rattle.expression_steps.specs.declared.form.GeneratorsOf.TheVariants as generators_of
-use Rattle.expression_steps.specs.declared.form.PartOf.{PartOf}
-use Rattle.expression_steps.specs.declared.form.PartOf.TheVariants as part_of
-use Rattle.expression_steps.specs.declared.form.Renaming.{Renaming}
-use Rattle.expression_steps.specs.declared.frame.ListFrame.{ListFrame}
-use Rattle.expression_steps.specs.declared.frame.ListFrame.TheVariants as waiting
+use Rattle.parser_expression_steps.specs.Moved.{FoundTree}
+use Rattle.parser_expression_steps.specs.declared.form.Form.TheVariants as form
+use Rattle.parser_expression_steps.specs.declared.form.GeneratorsOf.{GeneratorsOf}
+use Rattle.parser_expression_steps.specs.declared.form.GeneratorsOf.TheVariants as generators_of
+use Rattle.parser_expression_steps.specs.declared.form.PartOf.{PartOf}
+use Rattle.parser_expression_steps.specs.declared.form.PartOf.TheVariants as part_of
+use Rattle.parser_expression_steps.specs.declared.form.Renaming.{Renaming}
+use Rattle.parser_expression_steps.specs.declared.frame.ListFrame.{ListFrame}
+use Rattle.parser_expression_steps.specs.declared.frame.ListFrame.TheVariants as waiting
 use Rattle.tree_reading.specs.declared.look.Sign.{Sign}
 use Rattle.tree_reading.specs.declared.look.Sign.TheVariants as sign
 use Rattle.tree_reading.specs.Starts.{sign_behind}
-use Rattle.expression_steps.specs.Expressions.{move_operators, move_sign, renaming_of}
-use Rattle.expression_steps.specs.Lists.{end_generators, end_pair, end_part, end_product_part, move_conditions, move_dots, move_generator, move_generators, move_part, resume_list, with_pair}
+use Rattle.parser_expression_steps.specs.Expressions.{move_operators, move_sign, renaming_of}
+use Rattle.parser_expression_steps.specs.Lists.{end_generators, end_pair, end_part, end_product_part, move_conditions, move_dots, move_generator, move_generators, move_part, resume_list, with_pair}
 use Rattle.tree_parser.proofs.Combining.{StepGives, by_case, by_found, by_look, split}
 use Rattle.tree_parser.specs.Meaning.{ConditionsEnd, FormGives, GeneratorsEnd, ListGives, PairEnd, PartEnd, generators_after, parts_after, with_pairs}
 use Rattle.tree_parser.specs.Then.{Outcome, Then}

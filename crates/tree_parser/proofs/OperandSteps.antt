@@ -14,10 +14,10 @@ use Rattle.tree_reading.specs.declared.look.AtomStart.{AtomStart}
 use Rattle.tree_reading.specs.declared.look.AtomStart.TheVariants as start
 use Rattle.tree_reading.specs.declared.read.Binding.{Binding}
 use Rattle.tree_reading.specs.declared.read.Binding.TheVariants as binding
-use Rattle.expression_steps.specs.Expressions.{move_operand, move_plain, wait_expression}
-use Rattle.expression_steps.specs.Moved.{FoundTree, Moved}
-use Rattle.expression_steps.specs.declared.form.Form.TheVariants as form
-use Rattle.expression_steps.specs.declared.frame.ExpressionFrame.TheVariants as expression
+use Rattle.parser_expression_steps.specs.Expressions.{move_operand, move_plain, wait_expression}
+use Rattle.parser_expression_steps.specs.Moved.{FoundTree, Moved}
+use Rattle.parser_expression_steps.specs.declared.form.Form.TheVariants as form
+use Rattle.parser_expression_steps.specs.declared.frame.ExpressionFrame.TheVariants as expression
 use Rattle.tree_parser.proofs.Combining.{StepGives, by_look}
 use Rattle.tree_parser.proofs.ListSteps.{operators_step}
 use Rattle.tree_parser.proofs.Then.{assoc, done, later}

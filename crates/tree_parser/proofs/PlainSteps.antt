@@ -17,10 +17,10 @@ use Rattle.tree_reading.specs.Starts.{is_symbol_token}
 use Rattle.tree_reading.specs.declared.limits.Limits.{Limits}
 use Rattle.tree_reading.specs.declared.read.Binding.{Binding}
 use Rattle.tree_reading.specs.declared.read.Binding.TheVariants as binding
-use Rattle.expression_steps.specs.Moved.{FoundTree}
-use Rattle.expression_steps.specs.Plain.{plain_item, plain_items, plain_tree, plain_within}
-use Rattle.expression_steps.specs.declared.form.Form.TheVariants as form
-use Rattle.expression_steps.specs.declared.frame.AtomFrame.TheVariants as atom
+use Rattle.parser_expression_steps.specs.Moved.{FoundTree}
+use Rattle.parser_expression_steps.specs.Plain.{plain_item, plain_items, plain_tree, plain_within}
+use Rattle.parser_expression_steps.specs.declared.form.Form.TheVariants as form
+use Rattle.parser_expression_steps.specs.declared.frame.AtomFrame.TheVariants as atom
 use Rattle.tree_parser.specs.Meaning.{AtomGives, CallEnd, FormGives, SetEnd}
 use Rattle.tree_parser.specs.Then.{Outcome, Then}
 use Rattle.tree_parser.proofs.ListSteps.{one_longer}

@@ -16,26 +16,26 @@ use Rattle.tree_reading.specs.Starts.{chain_symbol, choice as choice_sign, dotte
 use Rattle.tree_reading.specs.declared.limits.Limits.{Limits}
 use Rattle.tree_reading.specs.declared.look.Chain.{Chain}
 use Rattle.tree_reading.specs.declared.read.Binding.TheVariants as binding
-use Rattle.expression_steps.specs.declared.frame.ParallelFrame.{ParallelFrame}
-use Rattle.expression_steps.specs.declared.frame.ParallelFrame.TheVariants as parallel
-use Rattle.expression_steps.specs.declared.frame.ChoiceFrame.{ChoiceFrame}
-use Rattle.expression_steps.specs.declared.frame.ChoiceFrame.TheVariants as choice
-use Rattle.expression_steps.specs.declared.frame.ProcessFrame.{ProcessFrame}
-use Rattle.expression_steps.specs.declared.frame.ProcessFrame.TheVariants as process
-use Rattle.expression_steps.specs.declared.frame.Replication.{Replication}
-use Rattle.expression_steps.specs.declared.frame.Replication.TheVariants as replication
-use Rattle.expression_steps.specs.declared.frame.ReplicatedFrame.{ReplicatedFrame}
-use Rattle.expression_steps.specs.declared.frame.ReplicatedFrame.TheVariants as replicated
-use Rattle.expression_steps.specs.declared.frame.EventFrame.{EventFrame}
-use Rattle.expression_steps.specs.declared.frame.EventFrame.TheVariants as event
-use Rattle.expression_steps.specs.Moved.{FoundTree}
+use Rattle.parser_expression_steps.specs.declared.frame.ParallelFrame.{ParallelFrame}
+use Rattle.parser_expression_steps.specs.declared.frame.ParallelFrame.TheVariants as parallel
+use Rattle.parser_expression_steps.specs.declared.frame.ChoiceFrame.{ChoiceFrame}
+use Rattle.parser_expression_steps.specs.declared.frame.ChoiceFrame.TheVariants as choice
+use Rattle.parser_expression_steps.specs.declared.frame.ProcessFrame.{ProcessFrame}
+use Rattle.parser_expression_steps.specs.declared.frame.ProcessFrame.TheVariants as process
+use Rattle.parser_expression_steps.specs.declared.frame.Replication.{Replication}
+use Rattle.parser_expression_steps.specs.declared.frame.Replication.TheVariants as replication
+use Rattle.parser_expression_steps.specs.declared.frame.ReplicatedFrame.{ReplicatedFrame}
+use Rattle.parser_expression_steps.specs.declared.frame.ReplicatedFrame.TheVariants as replicated
+use Rattle.parser_expression_steps.specs.declared.frame.EventFrame.{EventFrame}
+use Rattle.parser_expression_steps.specs.declared.frame.EventFrame.TheVariants as event
+use Rattle.parser_expression_steps.specs.Moved.{FoundTree}
 use Rattle.tree_parser.proofs.Combining.{StepGives, by_case, by_found, by_look, split}
 use Rattle.tree_parser.specs.Then.{Outcome, Then}
 use Rattle.tree_parser.proofs.Then.{assoc, change, done, later, put}
-use Rattle.event_steps.specs.Events.{move_event, move_fields, move_input, resume_event}
-use Rattle.expression_steps.specs.Nesting.{operand_limits}
-use Rattle.tree_steps.specs.Processes.{move_hidden, move_operand, resume_choice, resume_parallel, resume_process}
-use Rattle.tree_steps.specs.Replicated.{move_ranged, move_replicated, resume_replicated}
+use Rattle.parser_event_steps.specs.Events.{move_event, move_fields, move_input, resume_event}
+use Rattle.parser_expression_steps.specs.Nesting.{operand_limits}
+use Rattle.parser_tree_steps.specs.Processes.{move_hidden, move_operand, resume_choice, resume_parallel, resume_process}
+use Rattle.parser_tree_steps.specs.Replicated.{move_ranged, move_replicated, resume_replicated}
 use Rattle.tree_parser.proofs.ListSteps.{no_longer, one_longer}
 use Rattle.tree_parser.specs.Meaning.{ChoiceGives, EventEnd, EventGives, ParallelGives, ProcessGives, ReplicatedGives, operands_after, ranged}
 

@@ -18,22 +18,22 @@ use Rattle.tree_reading.specs.declared.look.PrefixStart.{PrefixStart}
 use Rattle.tree_reading.specs.declared.look.PrefixStart.TheVariants as opening
 use Rattle.tree_reading.specs.declared.read.Binding.{Binding}
 use Rattle.tree_reading.specs.declared.read.Binding.TheVariants as binding
-use Rattle.expression_steps.specs.declared.form.Form.{Form}
-use Rattle.expression_steps.specs.declared.form.Form.TheVariants as form
-use Rattle.expression_steps.specs.declared.frame.Frame.{Frame}
-use Rattle.expression_steps.specs.declared.frame.Frame.TheVariants as frame
-use Rattle.expression_steps.specs.declared.frame.Replication.TheVariants as replication
-use Rattle.expression_steps.specs.declared.frame.ExpressionFrame.{ExpressionFrame}
-use Rattle.expression_steps.specs.declared.frame.ExpressionFrame.TheVariants as expression
-use Rattle.expression_steps.specs.declared.frame.AtomFrame.{AtomFrame}
-use Rattle.expression_steps.specs.declared.frame.AtomFrame.TheVariants as atom
-use Rattle.expression_steps.specs.Moved.{FoundTree}
+use Rattle.parser_expression_steps.specs.declared.form.Form.{Form}
+use Rattle.parser_expression_steps.specs.declared.form.Form.TheVariants as form
+use Rattle.parser_expression_steps.specs.declared.frame.Frame.{Frame}
+use Rattle.parser_expression_steps.specs.declared.frame.Frame.TheVariants as frame
+use Rattle.parser_expression_steps.specs.declared.frame.Replication.TheVariants as replication
+use Rattle.parser_expression_steps.specs.declared.frame.ExpressionFrame.{ExpressionFrame}
+use Rattle.parser_expression_steps.specs.declared.frame.ExpressionFrame.TheVariants as expression
+use Rattle.parser_expression_steps.specs.declared.frame.AtomFrame.{AtomFrame}
+use Rattle.parser_expression_steps.specs.declared.frame.AtomFrame.TheVariants as atom
+use Rattle.parser_expression_steps.specs.Moved.{FoundTree}
 use Rattle.tree_parser.proofs.Combining.{StepGives, by_case, by_look, by_opened, by_test}
 use Rattle.tree_parser.specs.Then.{Outcome, Then}
 use Rattle.tree_parser.proofs.Then.{assoc, change, done, later}
-use Rattle.expression_steps.specs.Atoms.{move_arguments, move_atom_rest, move_elements, resume_atom}
-use Rattle.expression_steps.specs.Expressions.{move_expression, resume_expression}
-use Rattle.tree_steps.specs.Machine.{begin, begin_item, begin_opened, resume}
+use Rattle.parser_expression_steps.specs.Atoms.{move_arguments, move_atom_rest, move_elements, resume_atom}
+use Rattle.parser_expression_steps.specs.Expressions.{move_expression, resume_expression}
+use Rattle.parser_tree_steps.specs.Machine.{begin, begin_item, begin_opened, resume}
 use Rattle.tree_parser.proofs.ListSteps.{generators_step, list_resumed, operators_step, part_step, product_read}
 use Rattle.tree_parser.proofs.OperandSteps.{operand_step}
 use Rattle.tree_parser.proofs.PlainSteps.{arguments_more, arguments_read, elements_more, elements_read}

@@ -10,16 +10,16 @@ use Rattle.tree_reading.specs.declared.fault.ReadFault.{ReadFault}
 use Rattle.tree_reading.specs.declared.fault.ReadFault.TheVariants as fault
 use Rattle.tree_reading.specs.declared.limits.Limits.{Limits}
 use Rattle.tree_reading.specs.declared.read.BoundRead.{BoundRead}
-use Rattle.tree_steps.specs.Machine.{begin, resume}
+use Rattle.parser_tree_steps.specs.Machine.{begin, resume}
 use Rattle.tree_parser.specs.Meaning.{FormGives, FrameGives, MoveGives}
-use Rattle.expression_steps.specs.Moved.{FoundTree, Moved, moved, pending_weight, seen, weight}
-use Rattle.expression_steps.specs.Moved.Moved.{found, inner, next}
+use Rattle.parser_expression_steps.specs.Moved.{FoundTree, Moved, moved, pending_weight, seen, weight}
+use Rattle.parser_expression_steps.specs.Moved.Moved.{found, inner, next}
 use Rattle.tree_parser.specs.Stack.{Answered, Begun, Waiting, first_part, reading_weight, stacked, waiting_for, whole}
 use Rattle.tree_parser.specs.Then.{Outcome}
-use Rattle.expression_steps.specs.declared.form.Form.{Form}
-use Rattle.expression_steps.specs.declared.form.Form.TheVariants as form
-use Rattle.expression_steps.specs.declared.frame.Frame.{Frame}
-use Rattle.expression_steps.specs.declared.step.Step.{Step}
+use Rattle.parser_expression_steps.specs.declared.form.Form.{Form}
+use Rattle.parser_expression_steps.specs.declared.form.Form.TheVariants as form
+use Rattle.parser_expression_steps.specs.declared.frame.Frame.{Frame}
+use Rattle.parser_expression_steps.specs.declared.step.Step.{Step}
 use Rattle.tree_parser.proofs.Combining.{StepGives}
 use Rattle.tree_parser.proofs.Steps.{begun, resumed}
 

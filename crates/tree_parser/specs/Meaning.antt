@@ -20,36 +20,36 @@ use Rattle.tree_reading.specs.declared.limits.Limits.{Limits}
 use Rattle.tree_reading.specs.declared.look.Chain.{Chain}
 use Rattle.tree_reading.specs.declared.read.Binding.{Binding}
 use Rattle.tree_reading.specs.declared.read.Binding.TheVariants as binding
-use Rattle.event_steps.specs.Events.{field_of, may_dot_after}
-use Rattle.expression_steps.specs.Moved.{Moved, FoundTree}
-use Rattle.expression_steps.specs.Moved.Moved.{found, inner, next}
-use Rattle.expression_steps.specs.declared.form.Form.{Form}
-use Rattle.expression_steps.specs.declared.form.Form.TheVariants as form
-use Rattle.expression_steps.specs.declared.form.GeneratorsOf.{GeneratorsOf}
-use Rattle.expression_steps.specs.declared.form.GeneratorsOf.TheVariants as generators_of
-use Rattle.expression_steps.specs.declared.form.PartOf.{PartOf}
-use Rattle.expression_steps.specs.declared.form.PartOf.TheVariants as part_of
-use Rattle.expression_steps.specs.declared.form.Renaming.{Renaming}
-use Rattle.expression_steps.specs.declared.frame.Frame.{Frame}
-use Rattle.expression_steps.specs.declared.frame.Frame.TheVariants as frame
-use Rattle.expression_steps.specs.declared.frame.ParallelFrame.{ParallelFrame}
-use Rattle.expression_steps.specs.declared.frame.ParallelFrame.TheVariants as parallel
-use Rattle.expression_steps.specs.declared.frame.ChoiceFrame.{ChoiceFrame}
-use Rattle.expression_steps.specs.declared.frame.ChoiceFrame.TheVariants as choice
-use Rattle.expression_steps.specs.declared.frame.ProcessFrame.{ProcessFrame}
-use Rattle.expression_steps.specs.declared.frame.ProcessFrame.TheVariants as process
-use Rattle.expression_steps.specs.declared.frame.Replication.{Replication}
-use Rattle.expression_steps.specs.declared.frame.Replication.TheVariants as replication
-use Rattle.expression_steps.specs.declared.frame.ReplicatedFrame.{ReplicatedFrame}
-use Rattle.expression_steps.specs.declared.frame.ReplicatedFrame.TheVariants as replicated
-use Rattle.expression_steps.specs.declared.frame.EventFrame.{EventFrame}
-use Rattle.expression_steps.specs.declared.frame.EventFrame.TheVariants as event
-use Rattle.expression_steps.specs.declared.frame.ExpressionFrame.{ExpressionFrame}
-use Rattle.expression_steps.specs.declared.frame.ExpressionFrame.TheVariants as expression
-use Rattle.expression_steps.specs.declared.frame.AtomFrame.{AtomFrame}
-use Rattle.expression_steps.specs.declared.frame.AtomFrame.TheVariants as atom
-use Rattle.expression_steps.specs.declared.frame.ListFrame.{ListFrame}
-use Rattle.expression_steps.specs.declared.frame.ListFrame.TheVariants as waiting
+use Rattle.parser_event_steps.specs.Events.{field_of, may_dot_after}
+use Rattle.parser_expression_steps.specs.Moved.{Moved, FoundTree}
+use Rattle.parser_expression_steps.specs.Moved.Moved.{found, inner, next}
+use Rattle.parser_expression_steps.specs.declared.form.Form.{Form}
+use Rattle.parser_expression_steps.specs.declared.form.Form.TheVariants as form
+use Rattle.parser_expression_steps.specs.declared.form.GeneratorsOf.{GeneratorsOf}
+use Rattle.parser_expression_steps.specs.declared.form.GeneratorsOf.TheVariants as generators_of
+use Rattle.parser_expression_steps.specs.declared.form.PartOf.{PartOf}
+use Rattle.parser_expression_steps.specs.declared.form.PartOf.TheVariants as part_of
+use Rattle.parser_expression_steps.specs.declared.form.Renaming.{Renaming}
+use Rattle.parser_expression_steps.specs.declared.frame.Frame.{Frame}
+use Rattle.parser_expression_steps.specs.declared.frame.Frame.TheVariants as frame
+use Rattle.parser_expression_steps.specs.declared.frame.ParallelFrame.{ParallelFrame}
+use Rattle.parser_expression_steps.specs.declared.frame.ParallelFrame.TheVariants as parallel
+use Rattle.parser_expression_steps.specs.declared.frame.ChoiceFrame.{ChoiceFrame}
+use Rattle.parser_expression_steps.specs.declared.frame.ChoiceFrame.TheVariants as choice
+use Rattle.parser_expression_steps.specs.declared.frame.ProcessFrame.{ProcessFrame}
+use Rattle.parser_expression_steps.specs.declared.frame.ProcessFrame.TheVariants as process
+use Rattle.parser_expression_steps.specs.declared.frame.Replication.{Replication}
+use Rattle.parser_expression_steps.specs.declared.frame.Replication.TheVariants as replication
+use Rattle.parser_expression_steps.specs.declared.frame.ReplicatedFrame.{ReplicatedFrame}
+use Rattle.parser_expression_steps.specs.declared.frame.ReplicatedFrame.TheVariants as replicated
+use Rattle.parser_expression_steps.specs.declared.frame.EventFrame.{EventFrame}
+use Rattle.parser_expression_steps.specs.declared.frame.EventFrame.TheVariants as event
+use Rattle.parser_expression_steps.specs.declared.frame.ExpressionFrame.{ExpressionFrame}
+use Rattle.parser_expression_steps.specs.declared.frame.ExpressionFrame.TheVariants as expression
+use Rattle.parser_expression_steps.specs.declared.frame.AtomFrame.{AtomFrame}
+use Rattle.parser_expression_steps.specs.declared.frame.AtomFrame.TheVariants as atom
+use Rattle.parser_expression_steps.specs.declared.frame.ListFrame.{ListFrame}
+use Rattle.parser_expression_steps.specs.declared.frame.ListFrame.TheVariants as waiting
 use Rattle.tree_parser.specs.Then.{Outcome, Then}
 
 -- what follows a tree that is bound like this

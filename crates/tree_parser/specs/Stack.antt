@@ -5,16 +5,16 @@ use Rattle.tree_reading.specs.declared.fault.ReadFault.TheVariants as fault
 use Rattle.tree_reading.specs.declared.limits.Limits.{Limits}
 use Rattle.csp_text.specs.declared.token.Token.{Token}
 use Rattle.tree_parser.specs.Meaning.{FormGives, FrameGives, MoveGives}
-use Rattle.expression_steps.specs.Moved.{FoundTree, Moved, moved, weight}
+use Rattle.parser_expression_steps.specs.Moved.{FoundTree, Moved, moved, weight}
 use Rattle.tree_parser.specs.Then.{Outcome}
-use Rattle.expression_steps.specs.declared.form.Form.{Form}
-use Rattle.expression_steps.specs.declared.form.Form.TheVariants as form
-use Rattle.expression_steps.specs.declared.frame.Frame.{Frame}
-use Rattle.expression_steps.specs.declared.frame.Frame.TheVariants as frame
-use Rattle.expression_steps.specs.declared.frame.ParallelFrame.TheVariants as parallel
-use Rattle.expression_steps.specs.declared.frame.ChoiceFrame.TheVariants as choice
-use Rattle.expression_steps.specs.declared.frame.ProcessFrame.TheVariants as process
-use Rattle.expression_steps.specs.declared.step.Step.{Step}
+use Rattle.parser_expression_steps.specs.declared.form.Form.{Form}
+use Rattle.parser_expression_steps.specs.declared.form.Form.TheVariants as form
+use Rattle.parser_expression_steps.specs.declared.frame.Frame.{Frame}
+use Rattle.parser_expression_steps.specs.declared.frame.Frame.TheVariants as frame
+use Rattle.parser_expression_steps.specs.declared.frame.ParallelFrame.TheVariants as parallel
+use Rattle.parser_expression_steps.specs.declared.frame.ChoiceFrame.TheVariants as choice
+use Rattle.parser_expression_steps.specs.declared.frame.ProcessFrame.TheVariants as process
+use Rattle.parser_expression_steps.specs.declared.step.Step.{Step}
 
 -- what follows the whole: it is the outcome
 abbrev pub whole : FoundTree → Outcome → Type 0

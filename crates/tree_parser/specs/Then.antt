@@ -2,7 +2,7 @@
 use Rattle.std.specs.Prelude.{◌≡◌, Option, Some, None}
 use Rattle.tree_reading.specs.Limited.{Limited}
 use Rattle.tree_reading.specs.Settled.{Settles}
-use Rattle.expression_steps.specs.Moved.{FoundTree}
+use Rattle.parser_expression_steps.specs.Moved.{FoundTree}
 
 -- a tree with its binding and what is left of the tokens, or nothing
 abbrev pub Outcome : Type 0

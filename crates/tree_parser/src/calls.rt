@@ -7,7 +7,7 @@ ghost use Rattle.tree_reading.specs.Settled.{Settles};
 
 use crate::reading::read;
 use csp_text::{Token, Tree};
-use expression_steps::form::Form;
+use parser_expression_steps::form::Form;
 use std::alloc::Global;
 use tree_reading::fault::ReadFault;
 use tree_reading::limits::Limits;

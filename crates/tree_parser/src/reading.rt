@@ -1,20 +1,20 @@
 //! The reading of a form, step by step.
 
 ghost use Rattle.std.specs.Prelude.{◌≡◌, ◌+◌, ◌*◌, ◌<◌, ◌++◌, length, IfOk};
-ghost use Rattle.expression_steps.specs.Moved.{found_weight, moved, pending_weight, seen};
+ghost use Rattle.parser_expression_steps.specs.Moved.{found_weight, moved, pending_weight, seen};
 ghost use Rattle.tree_parser.specs.Stack.{Answered, Begun, first_part, reading_weight, waiting_for};
 
 use containers::{Boxed, Items};
 use csp_base::NoMemory;
 use csp_text::{Token, Tree};
-use expression_steps::form::Form;
-use expression_steps::frame::{ChoiceFrame, Frame, ParallelFrame, ProcessFrame};
-use expression_steps::step::Step;
+use parser_expression_steps::form::Form;
+use parser_expression_steps::frame::{ChoiceFrame, Frame, ParallelFrame, ProcessFrame};
+use parser_expression_steps::step::Step;
+use parser_tree_steps::machine::{begin, resume};
 use std::alloc::Global;
 use tree_reading::fault::ReadFault;
 use tree_reading::limits::Limits;
 use tree_reading::read::BoundRead;
-use tree_steps::machine::{begin, resume};
 
 // Puts on the stack what waits for the first part of a form, of that part and so on, down to a prefix. The result is what is begun then.
 fn descend(frames: &mut Items<Frame>, form: Form, limits: Limits) -> Result<Form, NoMemory>

@@ -1,5 +1,6 @@
 -- What a comprehension and a production hold, in the words of bindings: a choice of a value for the name of each generator.
 use Rattle.std.specs.Prelude.{◌≡◌, ◌⊎◌, ◌↔◌, ℕ, ◌≤◌, true, IsTrue, Ok, List, [], ◌∷◌, ◌++◌, map, length}
+use Rattle.limits.specs.declared.TheConstants.{MOST_ELEMENTS}
 use Rattle.csp_atoms.specs.Sets.{IsAtomSet, has_atom}
 use Rattle.csp_program.specs.InOrder.{IsInOrder}
 use Rattle.csp_program.specs.Value.{Env, Front, Meaning, Turn, front, truth, turn, uses_within, value_within, meanings}
@@ -45,7 +46,7 @@ BeginsWithOne channels (f ∷ fronts) env place = BeginsWith channels f env plac
 
 -- a set of at most 16,384 atoms of one kind
 abbrev pub IsSetValue : List Atom → Type 0
-IsSetValue set = IsAtomSet set × (length set ≤ 16384)
+IsSetValue set = IsAtomSet set × (length set ≤ MOST_ELEMENTS)
 
 -- where a comprehension has a value, it is the set of the atoms that an item has as its value under some binding
 abbrev pub ComprehensionsHoldTheirItems : Type 0

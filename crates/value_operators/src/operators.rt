@@ -12,9 +12,10 @@ use crate::fault::EvalFault;
 use csp_atoms::{Atom, AtomSet, Value, atom};
 use csp_base::BinOp;
 use csp_program::ValueKind;
+use limits::GREATEST_NUMBER;
 
 // The greatest number that arithmetic may come to; the least is its negative.
-const GREATEST: i64 = 1_000_000;
+const GREATEST: i64 = GREATEST_NUMBER as i64;
 
 const KIND: EvalFault = EvalFault::Value {
     kind: ValueKind::Kind,

@@ -1,6 +1,7 @@
 //! Sets that grow while an expression is evaluated.
 
 ghost use Rattle.std.specs.Prelude.{◌≡◌, ℕ, ◌+◌, ◌<◌, ◌≤◌, ◌^◌, Ok, Some, [], map, pos, ◌+ℤ◌, ◌-ℤ◌, ◌≤ℤ◌, ◌<ℤ◌, IsTrue, MatchOption};
+ghost use Rattle.limits.specs.declared.TheConstants.{MOST_ELEMENTS};
 ghost use Rattle.csp_atoms.specs.Sets.{place_of};
 ghost use Rattle.csp_atoms.specs.declared.atom.Atom.TheVariants as atom;
 ghost use Rattle.csp_program.specs.Atoms.{added, all_added, events_from, limited, numbers_from};
@@ -14,10 +15,8 @@ use crate::operators::to_atom;
 use csp_atoms::{Atom, AtomSet, AtomSetError, Value};
 use csp_base::{Event, SetOp};
 use csp_program::ValueKind;
+use limits::MOST_ELEMENTS;
 use std::alloc::Global;
-
-// The greatest number of elements of a set.
-const MOST_ELEMENTS: usize = 16_384;
 
 const KIND: EvalFault = EvalFault::Value {
     kind: ValueKind::Kind,
@@ -171,7 +170,7 @@ fn number_at(first: i64, place: u16) -> Atom
 
 // So many numbers from `first` on, few enough for a set.
 fn numbers_on(alloc: Global, first: i64, count: u16) -> Result<AtomSet, EvalFault>
-    requires few { count ≤ 16384 }
+    requires few { count ≤ MOST_ELEMENTS }
     requires fit { (first +ℤ pos count) ≤ℤ pos (2 ^ 63) }
     ensures { Gives result (Ok (numbers_from first count)) }
 {
@@ -186,7 +185,7 @@ fn numbers_on(alloc: Global, first: i64, count: u16) -> Result<AtomSet, EvalFaul
 // How far `last` is from `first`, if that is not too far for a set.
 fn distance(first: i64, last: i64) -> Option<u16>
     requires { first ≤ℤ last }
-    ensures { MatchOption result (pos 16384 ≤ℤ (last -ℤ first)) (λ d. ((first +ℤ pos d) ≡ last) × (d < 16384)) }
+    ensures { MatchOption result (pos MOST_ELEMENTS ≤ℤ (last -ℤ first)) (λ d. ((first +ℤ pos d) ≡ last) × (d < MOST_ELEMENTS)) }
 {
     match last.checked_sub(first) {
         Some(distance) => {

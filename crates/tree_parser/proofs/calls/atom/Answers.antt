@@ -1,4 +1,4 @@
-use Rattle.expression_steps.specs.Moved.{seen}
+use Rattle.parser_expression_steps.specs.Moved.{seen}
 use Rattle.tree_parser.proofs.Answering.{no_atom, atom_is_read, atom_is_within}
 use Rattle.tree_parser.proofs.calls.atom.Goals as goal
 

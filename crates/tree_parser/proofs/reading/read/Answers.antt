@@ -1,5 +1,5 @@
 use Rattle.std.proofs.Common.{◌∙◌, ap, arith}
-use Rattle.expression_steps.specs.Moved.{moved}
+use Rattle.parser_expression_steps.specs.Moved.{moved}
 use Rattle.tree_parser.proofs.Turns.{falls_back, falls_first, falls_in, falls_on, leads_back, leads_first, leads_in, leads_on, stops_back, stops_first, stops_in, stops_on}
 use Rattle.tree_parser.proofs.reading.read.Goals as goal
 

@@ -1,5 +1,5 @@
 use Rattle.std.proofs.Common.{◌<◌}
-use Rattle.expression_steps.specs.Moved.{moved, pending_weight}
+use Rattle.parser_expression_steps.specs.Moved.{moved, pending_weight}
 use Rattle.tree_parser.specs.Stack.{reading_weight}
 use Rattle.tree_parser.proofs.Turns.{Leads}
 use Rattle.tree_parser.proofs.reading.read.Given as goal
