@@ -18,7 +18,7 @@ use Rattle.csp_text.specs.declared.script.Decl.TheVariants as decl
 use Rattle.csp_text.specs.declared.script.Script.{Script}
 use Rattle.csp_text.specs.Depth.{tree_depth}
 use Rattle.csp_grammar.specs.Grammar.{TreeText, AtomText, ItemsText}
-use Rattle.limits.specs.declared.TheConstants.{MOST_BRACKETS, MOST_TREE_DEPTH}
+use Rattle.dl_limits.specs.declared.TheConstants.{MOST_BRACKETS, MOST_TREE_DEPTH}
 
 -- a, b, c: one name or more, with the sign between them
 pub data NamesText (sign : Symbol) : List Token → List (List ℕ) → List Token → Type 0 where

@@ -1,7 +1,7 @@
 -- The token that a text begins with: a word, a number or a symbol, the longest that fits.
 use Rattle.std.specs.Prelude.{ℕ, ◌+◌, ◌-◌, ◌*◌, Bool, ◌&&◌, nat_le, nat_lt, if◌then◌else◌, List, length, take, fold, Option, Some, None}
 use Rattle.std.specs.List.{prefix_len}
-use Rattle.limits.specs.declared.TheConstants.{GREATEST_NUMBER}
+use Rattle.dl_limits.specs.declared.TheConstants.{GREATEST_NUMBER}
 use Rattle.csp_text.specs.declared.token.Symbol.{Symbol}
 use Rattle.csp_text.specs.declared.token.Token.{Token}
 use Rattle.csp_text.specs.declared.token.Token.TheVariants as token

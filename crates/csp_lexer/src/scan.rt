@@ -9,7 +9,7 @@ use crate::symbols::symbol_at;
 use crate::words::{is_foreign, reserved_word, word_len};
 use csp_base::{Name, NoMemory};
 use csp_text::{Token, symbol_text};
-use limits::GREATEST_NUMBER;
+use dl_limits::GREATEST_NUMBER;
 use std::alloc::Global;
 
 // The number that the digits are, or `None` where it is too great.

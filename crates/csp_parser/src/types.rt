@@ -8,7 +8,7 @@ ghost use Rattle.tree_reading.specs.Settled.{Settles};
 
 use containers::Items;
 use csp_text::{Symbol, Token, Tree};
-use limits::{MOST_BRACKETS, MOST_TREE_DEPTH};
+use dl_limits::{MOST_BRACKETS, MOST_TREE_DEPTH};
 use std::alloc::Global;
 use tree_parser::{Limits, Read, ReadFault, atom};
 use tree_reading::look::skip;

@@ -1,6 +1,6 @@
 -- Sets of atoms that grow while an expression is evaluated: at most 16,384 elements, of one kind.
 use Rattle.std.specs.Prelude.{ℕ, zero, suc, ◌+◌, ℤ, pos, ◌+ℤ◌, nat_le, if◌then◌else◌, Ok, Err, List, [], ◌∷◌, length}
-use Rattle.limits.specs.declared.TheConstants.{MOST_ELEMENTS}
+use Rattle.dl_limits.specs.declared.TheConstants.{MOST_ELEMENTS}
 use Rattle.csp_atoms.specs.declared.atom.Atom.{Atom}
 use Rattle.csp_atoms.specs.declared.atom.Atom.TheVariants as atom
 use Rattle.csp_atoms.specs.Sets.{fits, with_atom}

@@ -3,7 +3,7 @@
 -- An operand's kind is looked at as soon as the operand has its value. Names of definitions are worth what their bodies are, with the values of the
 -- arguments; the number of uses that may still be entered goes down by one with each. Bound names have their values in an environment.
 use Rattle.std.specs.Prelude.{ℕ, zero, suc, ◌+◌, ◌-◌, ◌*◌, ◌/◌, ◌%◌, ℤ, pos, negsuc, neg_ℤ, ◌+ℤ◌, ◌-ℤ◌, ◌*ℤ◌, int_lt, int_le, Bool, true, false, not, ◌&&◌, ◌||◌, is_none, nat_eq, nat_lt, if◌then◌else◌, Option, Some, None, Ok, Err, List, [], ◌∷◌, map, length, drop, slice_get}
-use Rattle.limits.specs.declared.TheConstants.{GREATEST_NUMBER, MOST_BINDINGS}
+use Rattle.dl_limits.specs.declared.TheConstants.{GREATEST_NUMBER, MOST_BINDINGS}
 use Rattle.csp_atoms.specs.Order.{same, same_kind}
 use Rattle.csp_atoms.specs.Sets.{alike, diff_of, inter_of, place_of, union_of}
 use Rattle.csp_program.specs.Atoms.{added, all_added, events_from, limited, numbers_from}

@@ -1,6 +1,6 @@
 -- The form of a table over an alphabet.
 use Rattle.std.specs.Prelude.{◌<◌, ◌≤◌, ℕ, List, [], ◌∷◌, length, IsTrue}
-use Rattle.limits.specs.declared.TheConstants.{MOST_SETS}
+use Rattle.dl_limits.specs.declared.TheConstants.{MOST_SETS}
 use Rattle.csp_base.specs.Members.{has}
 use Rattle.csp_tables.specs.Trace.{IsWithin}
 use Rattle.csp_tables.specs.Table.{Node}

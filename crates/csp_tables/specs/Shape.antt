@@ -1,7 +1,7 @@
 -- The shape of a network: its parts, the links that join two parts which share events, and the vocabulary, the events that
 -- two parts or more have.
 use Rattle.std.specs.Prelude.{◌≡◌, ◌<◌, ◌≤◌, ◌↔◌, ◌⊎◌, ◌^◌, ℕ, List, [], Bool, ◌||◌, nat_eq, IsTrue, length, get_or}
-use Rattle.limits.specs.declared.TheConstants.{MOST_COMPONENTS, MOST_TERMS}
+use Rattle.dl_limits.specs.declared.TheConstants.{MOST_COMPONENTS, MOST_TERMS}
 use Rattle.csp_base.specs.Members.{has}
 use Rattle.csp_tables.specs.Table.{node_at, is_possible}
 pub use Rattle.csp_tables.specs.Table.{IsReached}

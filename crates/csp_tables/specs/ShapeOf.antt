@@ -1,6 +1,6 @@
 -- The shape of a network of components: each part is a component's alphabet with its normal table.
 use Rattle.std.specs.Prelude.{◌≡◌, ◌↔◌, ℕ, List, [], ◌∷◌, Some, slice_get}
-use Rattle.limits.specs.declared.TheConstants.{MOST_TERMS}
+use Rattle.dl_limits.specs.declared.TheConstants.{MOST_TERMS}
 use Rattle.csp_tables.specs.Label.{Label}
 use Rattle.csp_tables.specs.Network.{Component, ComponentStep, Tree, leaves}
 use Rattle.csp_tables.specs.Trace.{IsBusy}

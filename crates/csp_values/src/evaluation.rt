@@ -18,7 +18,7 @@ use containers::Items;
 use csp_atoms::{Atom, AtomSet, Value};
 use csp_base::{BinOp, SetOp};
 use csp_program::{Body, Content, Def, EventPart, Expr, Gen, Program, ValueKind};
-use limits::MOST_BINDINGS;
+use dl_limits::MOST_BINDINGS;
 use std::alloc::Global;
 use value_operators::EvalFault;
 use value_operators::names::{Names, copied, named, names_in};

@@ -1,7 +1,7 @@
 //! The subset construction.
 
 ghost use Rattle.std.specs.Prelude.{◌≡◌, ◌↔◌, ◌+◌, ◌<◌, ◌≤◌, ◌++◌, ◌∷◌, [], ℕ, List, All, IsTrue, IfOk, OnOk, length};
-ghost use Rattle.limits.specs.declared.TheConstants.{MOST_SETS};
+ghost use Rattle.dl_limits.specs.declared.TheConstants.{MOST_SETS};
 ghost use Rattle.csp_tables.specs.RawTable.{RawStep};
 ghost use Rattle.csp_tables.specs.BreadthFirst.{IsBreadthFirst};
 ghost use Rattle.determinise.specs.Determinised.{FollowsTraces, AreDifferentSets};

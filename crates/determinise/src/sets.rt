@@ -1,7 +1,7 @@
 //! The sets of terms to which events lead, numbered as they are met.
 
 ghost use Rattle.std.specs.Prelude.{◌≡◌, ◌+◌, ◌<◌, ◌≤◌, ℕ, [], ◌∷◌, ◌++◌, All, IfOk, OnOk, length, slice_index_or};
-ghost use Rattle.limits.specs.declared.TheConstants.{MOST_SETS};
+ghost use Rattle.dl_limits.specs.declared.TheConstants.{MOST_SETS};
 ghost use Rattle.std.specs.List.Sorted.{IsNonDecreasingBy};
 ghost use Rattle.csp_tables.specs.BreadthFirst.{MeetsInOrder, targets_of_steps};
 ghost use Rattle.determinise.specs.Progress.{AreMoreSets, AreNodeSteps, IsSomeNextSet, set_at};
@@ -13,7 +13,7 @@ use crate::fault::SetFault;
 use crate::known::Known;
 use containers::{Items, Numbering};
 use csp_base::{Event, NoMemory};
-use limits::MOST_SETS;
+use dl_limits::MOST_SETS;
 use std::alloc::Global;
 use term_sets::Prepared;
 

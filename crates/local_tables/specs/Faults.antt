@@ -1,6 +1,6 @@
 -- What each fault tells of a component.
 use Rattle.std.specs.Prelude.{◌≡◌, ℕ, ◌<◌, Err, List, length, map}
-use Rattle.limits.specs.declared.TheConstants.{MOST_TERMS, MOST_TERM_DEPTH}
+use Rattle.dl_limits.specs.declared.TheConstants.{MOST_TERMS, MOST_TERM_DEPTH}
 use Rattle.csp_program.specs.Depth.{proc_depth}
 use Rattle.csp_program.specs.Size.{proc_size}
 use Rattle.csp_program.specs.declared.kinds.ValueKind.{ValueKind}

@@ -1,6 +1,6 @@
 -- The table of a component of a program, within the limits.
 use Rattle.std.specs.Prelude.{◌≡◌, ℕ, ◌≤◌, Some, List, length, map, slice_get}
-use Rattle.limits.specs.declared.TheConstants.{MOST_TERMS, MOST_TERM_DEPTH}
+use Rattle.dl_limits.specs.declared.TheConstants.{MOST_TERMS, MOST_TERM_DEPTH}
 use Rattle.csp_program.specs.Depth.{proc_depth}
 use Rattle.csp_program.specs.Size.{proc_size}
 use Rattle.csp_program.specs.declared.processes.Proc.{Proc}

@@ -1,6 +1,6 @@
 -- What stands while a component is explored. (No public contract cites this.)
 use Rattle.std.specs.Prelude.{◌≡◌, ◌⊎◌, ℕ, ◌+◌, ◌<◌, ◌≤◌, IsTrue, Option, Some, None, List, [], ◌∷◌, ◌++◌, length, map, slice_get}
-use Rattle.limits.specs.declared.TheConstants.{MOST_TERMS, MOST_TERM_DEPTH}
+use Rattle.dl_limits.specs.declared.TheConstants.{MOST_TERMS, MOST_TERM_DEPTH}
 use Rattle.csp_base.specs.Members.{has}
 use Rattle.csp_program.specs.Depth.{proc_depth}
 use Rattle.csp_program.specs.declared.processes.Proc.{Proc}

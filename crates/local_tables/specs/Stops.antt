@@ -1,6 +1,6 @@
 -- Why an exploration stops, with what it has found by then. (No public contract cites this.)
 use Rattle.std.specs.Prelude.{◌≡◌, ℕ, ◌<◌, Some, slice_get}
-use Rattle.limits.specs.declared.TheConstants.{MOST_TERMS, MOST_TERM_DEPTH}
+use Rattle.dl_limits.specs.declared.TheConstants.{MOST_TERMS, MOST_TERM_DEPTH}
 use Rattle.csp_program.specs.declared.processes.Proc.{Proc}
 use Rattle.csp_program.specs.declared.programs.Content.{Content}
 use Rattle.csp_tables.specs.Network.{Component}

@@ -1,7 +1,7 @@
 //! What an exploration has found so far, and the terms that come to it.
 
 ghost use Rattle.std.specs.Prelude.{◌≡◌, ◌<◌, ◌≤◌, ◌^◌, ℕ, Some, [], length, slice_get, IfOk, IfErr, OnOk};
-ghost use Rattle.limits.specs.declared.TheConstants.{MOST_TERMS};
+ghost use Rattle.dl_limits.specs.declared.TheConstants.{MOST_TERMS};
 ghost use Rattle.term_pool.specs.Pooled.{AreDifferent};
 ghost use Rattle.local_tables.specs.Component.{component};
 ghost use Rattle.local_tables.specs.Progress.{CanBePassed, HasMoreTerms, IsAdded, IsFitting, IsSoFar, IsWithin, Steps, label_of};
@@ -13,7 +13,7 @@ use containers::Numbering;
 use csp_base::{Event, EventSet, NoMemory};
 use csp_program::{Proc, Program};
 use csp_tables::RawTable;
-use limits::{MOST_TERM_DEPTH, MOST_TERMS};
+use dl_limits::{MOST_TERM_DEPTH, MOST_TERMS};
 use std::alloc::Global;
 use term_pool::{Pool, ProcId};
 

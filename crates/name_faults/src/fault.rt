@@ -1,7 +1,7 @@
 //! The name fault of a script.
 
 ghost use Rattle.std.specs.Prelude.{◌≡◌, [], ◌∷◌, Some, map, slice_index, nat_lt, IfOk, OnOk};
-ghost use Rattle.limits.specs.declared.TheConstants.{MOST_DATA_DEPTH};
+ghost use Rattle.dl_limits.specs.declared.TheConstants.{MOST_DATA_DEPTH};
 ghost use Rattle.script_names.specs.Names.{declared, first_of};
 ghost use Rattle.script_names.specs.Told as meant;
 ghost use Rattle.name_tables.specs.Firsts.{SameFirsts, SameNames};
@@ -16,7 +16,7 @@ use crate::known::Known;
 use crate::places;
 use csp_base::NoMemory;
 use csp_text::Decl;
-use limits::MOST_DATA_DEPTH;
+use dl_limits::MOST_DATA_DEPTH;
 use name_notes::{Findings, Notes};
 use name_tables::Meanings;
 use script_names::{Class, Kind, ResolveFault};

@@ -1,7 +1,7 @@
 //! The layout of a program's network.
 
 ghost use Rattle.std.specs.Prelude.{◌≡◌, ◌≤◌, IfErr, IfOk, length};
-ghost use Rattle.limits.specs.declared.TheConstants.{MOST_COMPONENTS, MOST_NETWORK_DEPTH};
+ghost use Rattle.dl_limits.specs.declared.TheConstants.{MOST_COMPONENTS, MOST_NETWORK_DEPTH};
 ghost use Rattle.std.specs.List.{range_with_len};
 ghost use Rattle.network_trees.specs.NetworkOf.{all_events, network_of, walked};
 ghost use Rattle.network_layout.specs.Lays.{AreSeats, Fails};
@@ -13,7 +13,7 @@ use crate::walk::walk;
 use containers::Items;
 use csp_base::{Event, EventSet, NoMemory};
 use csp_program::Program;
-use limits::MOST_NETWORK_DEPTH;
+use dl_limits::MOST_NETWORK_DEPTH;
 use network_trees::LayoutFault;
 use std::alloc::Global;
 

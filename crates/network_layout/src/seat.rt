@@ -1,7 +1,7 @@
 //! Seats: a component of a network with its alphabet.
 
 ghost use Rattle.std.specs.Prelude.{◌≡◌, ◌≤◌, ◌&&◌, ◌||◌, ℕ, IfOk, OnOk, length};
-ghost use Rattle.limits.specs.declared.TheConstants.{MOST_COMPONENTS};
+ghost use Rattle.dl_limits.specs.declared.TheConstants.{MOST_COMPONENTS};
 ghost use Rattle.csp_base.specs.Members.{has};
 ghost use Rattle.network_layout.specs.Triple.{AreCrowded, alphabets};
 

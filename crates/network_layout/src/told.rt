@@ -1,7 +1,7 @@
 //! The sets that a program tells of its components.
 
 ghost use Rattle.std.specs.Prelude.{◌≡◌, ◌≤◌, [], false, length, IfErr, IfOk, Ok, Some};
-ghost use Rattle.limits.specs.declared.TheConstants.{MOST_COMPONENTS};
+ghost use Rattle.dl_limits.specs.declared.TheConstants.{MOST_COMPONENTS};
 ghost use Rattle.std.specs.Option.{option_copied};
 ghost use Rattle.process_steps.specs.Needed.{all_outcomes};
 ghost use Rattle.network_trees.specs.Annotations.{component_roles, component_uses, resource_note, roles_note, told_roles, told_set, told_uses};

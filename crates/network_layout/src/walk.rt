@@ -16,7 +16,7 @@ use csp_atoms::Atom;
 use csp_base::{EventSet, NoMemory};
 use csp_program::proc_copies::copy_boxed_proc;
 use csp_program::{Expr, Net, Proc};
-use limits::MOST_COMPONENTS;
+use dl_limits::MOST_COMPONENTS;
 use network_trees::LayoutFault;
 use std::alloc::Global;
 

@@ -1,6 +1,6 @@
 -- Parts that are made from the numbered tables of a network's components, and what they make.
 use Rattle.std.specs.Prelude.{◌≡◌, ℕ, List, [], ◌∷◌, ◌++◌, Some, length, map, slice_get}
-use Rattle.limits.specs.declared.TheConstants.{MOST_TERMS}
+use Rattle.dl_limits.specs.declared.TheConstants.{MOST_TERMS}
 use Rattle.csp_tables.specs.Label.{Label}
 use Rattle.csp_tables.specs.Network.{Component, Tree, leaves}
 use Rattle.csp_tables.specs.RawTable.{RawTable, RawStep, IsTableOf}

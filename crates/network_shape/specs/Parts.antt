@@ -1,6 +1,6 @@
 -- The parts of a network, one by one: what a well-formed shape says of each.
 use Rattle.std.specs.Prelude.{◌<◌, ◌≤◌, ℕ, List, length, IsTrue}
-use Rattle.limits.specs.declared.TheConstants.{MOST_TERMS}
+use Rattle.dl_limits.specs.declared.TheConstants.{MOST_TERMS}
 use Rattle.csp_base.specs.Members.{has}
 use Rattle.csp_tables.specs.Label.Label.{visible}
 use Rattle.csp_tables.specs.RawTable.{RawTable, RawStep}

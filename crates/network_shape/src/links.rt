@@ -1,7 +1,7 @@
 //! The links between parts, from the events that the parts share.
 
 ghost use Rattle.std.specs.Prelude.{◌≡◌, ◌≢◌, ◌<◌, ◌≤◌, ◌+◌, ◌||◌, ◌++◌, ◌∷◌, [], ℕ, List, IfOk, OnOk, length};
-ghost use Rattle.limits.specs.declared.TheConstants.{MOST_COMPONENTS};
+ghost use Rattle.dl_limits.specs.declared.TheConstants.{MOST_COMPONENTS};
 ghost use Rattle.csp_base.specs.Members.{has};
 ghost use Rattle.csp_tables.specs.Part.{Part};
 ghost use Rattle.network_shape.specs.Rows.{AreLinksBefore, AreRows, IsRow, IsVocabulary, any_has_event, has_event};

@@ -1,7 +1,7 @@
 //! A part of a network from the numbered table of its component.
 
 ghost use Rattle.std.specs.Prelude.{◌≡◌, ◌≤◌, ℕ, IfOk, OnOk};
-ghost use Rattle.limits.specs.declared.TheConstants.{MOST_TERMS};
+ghost use Rattle.dl_limits.specs.declared.TheConstants.{MOST_TERMS};
 ghost use Rattle.csp_tables.specs.NormalTable.{IsNormalTable};
 ghost use Rattle.csp_tables.specs.Path.{SilentStep};
 ghost use Rattle.csp_tables.specs.RawTable.{RawStep};

@@ -1,7 +1,7 @@
 //! The events that parts share, sorted out by the left one of the parts.
 
 ghost use Rattle.std.specs.Prelude.{◌≡◌, ◌<◌, ◌≤◌, ◌==◌, ◌++◌, ◌∷◌, [], ℕ, Some, IfOk, OnOk, length, replicate, slice_set, if◌then◌else◌};
-ghost use Rattle.limits.specs.declared.TheConstants.{MOST_COMPONENTS};
+ghost use Rattle.dl_limits.specs.declared.TheConstants.{MOST_COMPONENTS};
 ghost use Rattle.csp_base.specs.Members.{has};
 ghost use Rattle.csp_tables.specs.Part.{TripleDisjoint, alphabets_of};
 ghost use Rattle.network_shape.specs.Rows.{AreOwners, AreRows, joint, joints, owner_of, row_at};

@@ -1,7 +1,7 @@
 //! The shape of a network from its parts.
 
 ghost use Rattle.std.specs.Prelude.{◌≡◌, ◌≤◌, All, IfOk, length};
-ghost use Rattle.limits.specs.declared.TheConstants.{MOST_COMPONENTS};
+ghost use Rattle.dl_limits.specs.declared.TheConstants.{MOST_COMPONENTS};
 ghost use Rattle.csp_tables.specs.Part.{TripleDisjoint, alphabets_of};
 ghost use Rattle.csp_tables.specs.Shape.{IsWellFormed};
 ghost use Rattle.network_shape.specs.Parts.{IsWellFormedPart};

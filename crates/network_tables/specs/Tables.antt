@@ -1,6 +1,6 @@
 -- The tables of the components of a network, each within the room that those before it leave.
 use Rattle.std.specs.Prelude.{◌-◌, List, [], ◌∷◌}
-use Rattle.limits.specs.declared.TheConstants.{MOST_NODES, MOST_STEPS}
+use Rattle.dl_limits.specs.declared.TheConstants.{MOST_NODES, MOST_STEPS}
 use Rattle.csp_program.specs.declared.processes.Proc.{Proc}
 use Rattle.csp_program.specs.declared.programs.Content.{Content}
 use Rattle.csp_tables.specs.Network.{Component}

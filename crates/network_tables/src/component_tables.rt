@@ -11,7 +11,7 @@ use crate::fault::TableFault;
 use csp_base::NoMemory;
 use csp_program::Program;
 use digraph::Heights;
-use limits::{MOST_NODES, MOST_STEPS};
+use dl_limits::{MOST_NODES, MOST_STEPS};
 use local_tables::{LocalTable, Room, explore};
 use network_layout::Seat;
 use std::alloc::Global;

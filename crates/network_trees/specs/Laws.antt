@@ -1,6 +1,6 @@
 -- What is true of the network of a program.
 use Rattle.std.specs.Prelude.{◌≡◌, ◌≤◌, Ok, length}
-use Rattle.limits.specs.declared.TheConstants.{MOST_COMPONENTS}
+use Rattle.dl_limits.specs.declared.TheConstants.{MOST_COMPONENTS}
 use Rattle.csp_tables.specs.Network.{Tree, leaves}
 use Rattle.csp_tables.specs.WellNested.{WellNested}
 use Rattle.network_trees.specs.NetworkOf.{network_of}

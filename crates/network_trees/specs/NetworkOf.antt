@@ -9,7 +9,7 @@
 -- A leaf is no nested node, however deep it stands. A node that stands too deep is told before anything in it is evaluated.
 use Rattle.std.specs.Prelude.{ℕ, zero, suc, ◌+◌, nat_lt, if◌then◌else◌, Option, Some, None, Result, Ok, Err, List, [], ◌∷◌, length, slice_get}
 use Rattle.std.specs.List.{range_with_len}
-use Rattle.limits.specs.declared.TheConstants.{MOST_COMPONENTS, MOST_NETWORK_DEPTH}
+use Rattle.dl_limits.specs.declared.TheConstants.{MOST_COMPONENTS, MOST_NETWORK_DEPTH}
 use Rattle.csp_program.specs.Outcome.{Outcome}
 use Rattle.csp_program.specs.Substitution.{expr_with, net_with}
 use Rattle.csp_tables.specs.Network.{Component, Tree, Operands, leaves}

@@ -1,7 +1,7 @@
 //! The normal table of a raw table.
 
 ghost use Rattle.std.specs.Prelude.{◌≡◌, ◌<◌, ◌≤◌, ℕ, All, IfOk, OnOk, length};
-ghost use Rattle.limits.specs.declared.TheConstants.{MOST_SETS};
+ghost use Rattle.dl_limits.specs.declared.TheConstants.{MOST_SETS};
 ghost use Rattle.csp_tables.specs.RawTable.{RawStep};
 ghost use Rattle.csp_tables.specs.Path.{SilentStep};
 ghost use Rattle.digraph.specs.Walk.{AreHeights};

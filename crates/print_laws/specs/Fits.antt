@@ -9,7 +9,7 @@ use Rattle.csp_text.specs.declared.token.Word.TheVariants.{Assert}
 use Rattle.csp_text.specs.declared.token.ResourceNames.{ResourceNames}
 use Rattle.csp_text.specs.declared.token.RolesNames.{RolesNames}
 use Rattle.csp_lexer.specs.Words.{is_name}
-use Rattle.limits.specs.declared.TheConstants.{GREATEST_NUMBER}
+use Rattle.dl_limits.specs.declared.TheConstants.{GREATEST_NUMBER}
 
 -- each of the tokens has the fact
 abbrev pub Every : (Token → Type 0) → List Token → Type 0

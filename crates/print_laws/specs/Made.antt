@@ -21,7 +21,7 @@ use Rattle.csp_text.specs.declared.tree.FieldTree.TheVariants as field
 use Rattle.csp_text.specs.declared.tree.GenTree.{GenTree}
 use Rattle.csp_text.specs.declared.tree.GenTree.TheVariants as generator
 use Rattle.csp_grammar.specs.Grammar.{Choice, choice_sign, choice_of, event_tree, part_tree}
-use Rattle.limits.specs.declared.TheConstants.{MOST_TREE_DEPTH}
+use Rattle.dl_limits.specs.declared.TheConstants.{MOST_TREE_DEPTH}
 
 mutual
   pub data MadeTree (P : Token → Type 0) : Tree → Type 0 where

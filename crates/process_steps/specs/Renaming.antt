@@ -3,7 +3,7 @@
 -- that no pair names stays itself.
 use Rattle.std.specs.Prelude.{ℕ, ◌+◌, ◌*◌, nat_eq, nat_lt, if◌then◌else◌, Option, Some, None, Ok, Err, List, [], ◌∷◌, ◌++◌, map, length, drop, take, slice_get}
 use Rattle.std.specs.List.{filter}
-use Rattle.limits.specs.declared.TheConstants.{MOST_BINDINGS}
+use Rattle.dl_limits.specs.declared.TheConstants.{MOST_BINDINGS}
 use Rattle.csp_program.specs.Outcome.{Outcome, and_then}
 use Rattle.csp_program.specs.Value.{Env, Meaning, field_place, first_of, front_count, front_number, meaning, sets_of, turn, uses_within, values_of, walked}
 use Rattle.process_steps.specs.Needed.{each_joined}

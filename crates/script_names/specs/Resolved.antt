@@ -1,7 +1,7 @@
 -- The program of a script, or why it has none. In this order: no deadlock assertion is in the script; a declaration has a name fault; the type of a
 -- channel's field has no value that fits; there are too many events.
 use Rattle.std.specs.Prelude.{◌≡◌, ℕ, ◌+◌, ◌-◌, ◌^◌, min, Bool, true, false, nat_le, if◌then◌else◌, Option, Some, None, Result, Ok, Err, List, [], ◌∷◌, ◌++◌, length, sum, map, replicate}
-use Rattle.limits.specs.declared.TheConstants.{MOST_EVENTS}
+use Rattle.dl_limits.specs.declared.TheConstants.{MOST_EVENTS}
 use Rattle.csp_atoms.specs.declared.atom.Atom.{Atom}
 use Rattle.csp_atoms.specs.declared.atom.Atom.TheVariants as atom
 use Rattle.csp_atoms.specs.declared.value.Value.{Value}

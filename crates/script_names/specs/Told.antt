@@ -1,6 +1,6 @@
 -- The name fault of a script: that of the first declaration which has one, there the one with the least number, there at the first name.
 use Rattle.script_names.specs.declared.kinds.Need.TheVariants as need
-use Rattle.limits.specs.declared.TheConstants.{MOST_DATA_DEPTH}
+use Rattle.dl_limits.specs.declared.TheConstants.{MOST_DATA_DEPTH}
 use Rattle.script_names.specs.declared.kinds.Need.{Need}
 use Rattle.script_names.specs.declared.kinds.Use.TheVariants as how
 use Rattle.script_names.specs.declared.kinds.Place.{Place}

@@ -13,7 +13,7 @@ use csp_atoms::Atom;
 use csp_base::Event;
 use csp_program::{EventPart, Gen, Program, ValueKind};
 use csp_values::{EvalFault, Walk, binding_under};
-use limits::MOST_BINDINGS;
+use dl_limits::MOST_BINDINGS;
 use std::alloc::Global;
 
 const SET_LIMIT: EvalFault = EvalFault::Value {

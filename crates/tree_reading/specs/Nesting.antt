@@ -4,7 +4,7 @@ use Rattle.csp_text.specs.declared.tree.Tree.{Tree}
 use Rattle.csp_text.specs.Depth.{tree_depth}
 use Rattle.csp_grammar.specs.Reader.{and_then}
 use Rattle.tree_reading.specs.declared.limits.Limits.{Limits}
-use Rattle.limits.specs.declared.TheConstants.{MOST_BRACKETS, MOST_TREE_DEPTH}
+use Rattle.dl_limits.specs.declared.TheConstants.{MOST_BRACKETS, MOST_TREE_DEPTH}
 
 -- goes on only where the test holds
 abbrev pub sure : Bool → Option (Unit {0})

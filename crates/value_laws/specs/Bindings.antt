@@ -1,6 +1,6 @@
 -- What a comprehension and a production hold, in the words of bindings: a choice of a value for the name of each generator.
 use Rattle.std.specs.Prelude.{◌≡◌, ◌⊎◌, ◌↔◌, ℕ, ◌≤◌, true, IsTrue, Ok, List, [], ◌∷◌, ◌++◌, map, length}
-use Rattle.limits.specs.declared.TheConstants.{MOST_ELEMENTS}
+use Rattle.dl_limits.specs.declared.TheConstants.{MOST_ELEMENTS}
 use Rattle.csp_atoms.specs.Sets.{IsAtomSet, has_atom}
 use Rattle.csp_program.specs.InOrder.{IsInOrder}
 use Rattle.csp_program.specs.Value.{Env, Front, Meaning, Turn, front, truth, turn, uses_within, value_within, meanings}

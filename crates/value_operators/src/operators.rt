@@ -12,7 +12,7 @@ use crate::fault::EvalFault;
 use csp_atoms::{Atom, AtomSet, Value, atom};
 use csp_base::BinOp;
 use csp_program::ValueKind;
-use limits::GREATEST_NUMBER;
+use dl_limits::GREATEST_NUMBER;
 
 // The greatest number that arithmetic may come to; the least is its negative.
 const GREATEST: i64 = GREATEST_NUMBER as i64;

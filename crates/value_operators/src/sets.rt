@@ -1,7 +1,7 @@
 //! Sets that grow while an expression is evaluated.
 
 ghost use Rattle.std.specs.Prelude.{◌≡◌, ℕ, ◌+◌, ◌<◌, ◌≤◌, ◌^◌, Ok, Some, [], map, pos, ◌+ℤ◌, ◌-ℤ◌, ◌≤ℤ◌, ◌<ℤ◌, IsTrue, MatchOption};
-ghost use Rattle.limits.specs.declared.TheConstants.{MOST_ELEMENTS};
+ghost use Rattle.dl_limits.specs.declared.TheConstants.{MOST_ELEMENTS};
 ghost use Rattle.csp_atoms.specs.Sets.{place_of};
 ghost use Rattle.csp_atoms.specs.declared.atom.Atom.TheVariants as atom;
 ghost use Rattle.csp_program.specs.Atoms.{added, all_added, events_from, limited, numbers_from};
@@ -15,7 +15,7 @@ use crate::operators::to_atom;
 use csp_atoms::{Atom, AtomSet, AtomSetError, Value};
 use csp_base::{Event, SetOp};
 use csp_program::ValueKind;
-use limits::MOST_ELEMENTS;
+use dl_limits::MOST_ELEMENTS;
 use std::alloc::Global;
 
 const KIND: EvalFault = EvalFault::Value {
