@@ -8,6 +8,6 @@ pub mod look;
 pub mod nodes;
 pub mod read;
 
-pub use dl_limits::Limits;
 pub use fault::ReadFault;
+pub use limits::Limits;
 pub use read::{Binding, BoundRead, Read};
