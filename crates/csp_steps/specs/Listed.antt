@@ -1,6 +1,6 @@
 -- The steps of a process of a pool: labels, and the places of the processes after them.
 use Rattle.std.specs.Prelude.{◌≡◌, ◌↔◌, ◌<◌, ℕ, Result, Some, Ok, Err, List, map, length, slice_get}
-use Rattle.process_steps.specs.StepList.{IsListed, Move, steps_of}
+use Rattle.process_steps.specs.StepList.{ListsMove, Move, steps_of}
 use Rattle.term_pool.specs.Trees.{tree_at}
 use Rattle.csp_program.specs.Outcome.{Outcome}
 use Rattle.csp_program.specs.declared.processes.Proc.{Proc}
@@ -19,7 +19,7 @@ pub record AreStepsOf (p : Content) (trees : List Proc) (t : Proc) (steps : List
   pub moves : List Move
   pub has : steps_of p t ≡ Ok moves
   pub within : (k : ℕ) (s : StepTo) → slice_get steps k ≡ Some s → s.to.0 < length trees
-  pub same : (l : Label) (u : Proc) → IsListed moves l u ↔ IsListed (map (seen trees) steps) l u
+  pub same : (l : Label) (u : Proc) → ListsMove moves l u ↔ ListsMove (map (seen trees) steps) l u
   pub once : (i j : ℕ) (s : StepTo) → slice_get steps i ≡ Some s → slice_get steps j ≡ Some s → i ≡ j
 
 -- a fault of kind Value is the one that the outcome is; want of memory is free

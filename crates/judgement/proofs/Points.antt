@@ -26,7 +26,7 @@ use Rattle.design_rules.specs.Resource.{IsResource}
 use Rattle.design_rules.specs.ResourceRanking.{IsResourceRanking}
 use Rattle.network_layout.specs.Lays.{AreSeats, Fails}
 use Rattle.network_layout.specs.Told.{IsUntold}
-use Rattle.network_layout.specs.Triple.{IsShared, alphabets}
+use Rattle.network_layout.specs.Triple.{SharesEvent, alphabets}
 use Rattle.network_layout.specs.declared.told.NotedFault.{NotedFault}
 use Rattle.network_layout.specs.declared.triple.TripleFault.{TripleFault}
 use Rattle.network_layout.specs.declared.triple.TripleFault.TheVariants as triple
@@ -221,11 +221,11 @@ module _ (p : Content) (seats : List (Component Proc)) where
       let is = made_parts_make_shapes (ProcessStep p) tree shape form of_leaves in
       IfOk-weaker r _ _ (λ a j. inr (shape, subst (λ (cs : List (Component Proc)). TripleDisjoint (alphabets cs)) are apart, is, j)) (judged tree spelled are of_tables is)
 
-  pub shape_err : {E : Type 0} (rule : Rule) (tables : List ComponentTable) (f : TripleFault) (r : Result Answer E) → IsShared (alphabets seats) f → IfOk r (TellsTriple p f)
+  pub shape_err : {E : Type 0} (rule : Rule) (tables : List ComponentTable) (f : TripleFault) (r : Result Answer E) → SharesEvent (alphabets seats) f → IfOk r (TellsTriple p f)
       → (tree : Tree Proc) → network_of p ≡ Ok tree → seats ≡ leaves tree → AreTablesOf p seats tables → IfOk r (AlphabetsAreJudged p tree rule)
   unfolding AlphabetsAreJudged
   shape_err rule tables (triple.Shared e parts) r shared told tree spelled are of_tables =
-      let there = subst (λ (cs : List (Component Proc)). IsShared (alphabets cs) (triple.Shared e parts)) are shared in
+      let there = subst (λ (cs : List (Component Proc)). SharesEvent (alphabets cs) (triple.Shared e parts)) are shared in
       IfOk-weaker r _ _ (λ a t. inl (e, parts.0, parts.1, parts.2, there, t)) told
 
   pub tables_ok : {E : Type 0} (rule : Rule) (tables : List ComponentTable) (r : Result Answer E) → AreTablesOf p seats tables → HaveFewSets tables

@@ -66,11 +66,11 @@ module _ (p : Content) (c : Component Proc) where
     pub after : After (ComponentStep (ProcessStep p)) c trace (standing_at c term)
     pub ends : Ticks p term
 
-abbrev pub Tells : Content → Component Proc → Room → LocalFault → Type 0
-Tells p c room NoMemory = Unit {0}
-Tells p c room (Value kind) = LacksValue p c kind
-Tells p c room (TermCount found) = (MOST_TERMS < found) × HasTerms p c found
-Tells p c room (TermDepth found) = (MOST_TERM_DEPTH < found) × HasDepth p c found
-Tells p c room (TermTotal found) = (room.nodes < found) × HasSizes p c found
-Tells p c room (StepCount found) = (room.steps < found) × HasSteps p c found
-Tells p c room (Terminates trace) = CanEnd p c trace
+abbrev pub LacksTable : Content → Component Proc → Room → LocalFault → Type 0
+LacksTable p c room NoMemory = Unit {0}
+LacksTable p c room (Value kind) = LacksValue p c kind
+LacksTable p c room (TermCount found) = (MOST_TERMS < found) × HasTerms p c found
+LacksTable p c room (TermDepth found) = (MOST_TERM_DEPTH < found) × HasDepth p c found
+LacksTable p c room (TermTotal found) = (room.nodes < found) × HasSizes p c found
+LacksTable p c room (StepCount found) = (room.steps < found) × HasSteps p c found
+LacksTable p c room (Terminates trace) = CanEnd p c trace

@@ -3,7 +3,7 @@ use Rattle.std.specs.Prelude.{◌≡◌}
 use Rattle.csp_program.specs.declared.processes.Proc.{Proc}
 use Rattle.csp_program.specs.declared.programs.Content.{Content}
 use Rattle.csp_tables.specs.Network.{Component}
-use Rattle.local_tables.specs.Faults.{Tells}
+use Rattle.local_tables.specs.Faults.{LacksTable}
 use Rattle.local_tables.specs.LocalTable.{IsLocalTable}
 use Rattle.local_tables.specs.declared.fault.LocalFault.{LocalFault}
 use Rattle.local_tables.specs.declared.fault.LocalFault.TheVariants.{NoMemory}
@@ -11,4 +11,4 @@ use Rattle.local_tables.specs.declared.local_table.LocalTable.{LocalTable}
 use Rattle.local_tables.specs.declared.local_table.Room.{Room}
 
 abbrev pub FaultsExcludeTables : Type 0
-FaultsExcludeTables = (p : Content) (c : Component Proc) (room : Room) (made : LocalTable) (fault : LocalFault) → IsLocalTable p c room made → Tells p c room fault → fault ≡ NoMemory
+FaultsExcludeTables = (p : Content) (c : Component Proc) (room : Room) (made : LocalTable) (fault : LocalFault) → IsLocalTable p c room made → LacksTable p c room fault → fault ≡ NoMemory

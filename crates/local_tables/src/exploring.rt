@@ -4,7 +4,7 @@ ghost use Rattle.std.specs.Prelude.{[], ◌≡◌, ◌+◌, ◌<◌, ◌≤◌, 
 ghost use Rattle.csp_steps.specs.Evaluated.{Fits};
 ghost use Rattle.csp_tables.specs.RawTable.{RawStep};
 ghost use Rattle.local_tables.specs.Component.{component, step_count};
-ghost use Rattle.local_tables.specs.Faults.{Tells};
+ghost use Rattle.local_tables.specs.Faults.{LacksTable};
 ghost use Rattle.local_tables.specs.LocalTable.{IsLocalTable};
 ghost use Rattle.local_tables.specs.Progress.{CanBePassed, HasMore, HasStepMore, IsAt, IsSoFar, IsUpTo, IsWithin, Steps, label_of};
 ghost use Rattle.local_tables.specs.Stops.{PassesSteps, StopsAt};
@@ -36,7 +36,7 @@ pub fn explore(
     requires nodes { room.nodes < 4294967295 }
     requires steps { room.steps < 4294967295 }
     ensures table { IfOk result (IsLocalTable program.now (component alphabet.now start.now) room) }
-    ensures fault { IfErr result (Tells program.now (component alphabet.now start.now) room) }
+    ensures fault { IfErr result (LacksTable program.now (component alphabet.now start.now) room) }
 {
     let task = Task {
         program,
@@ -51,7 +51,7 @@ pub fn explore(
 fn table_of(alloc: Global, task: &Task<'_>) -> Result<LocalTable, LocalFault>
     requires room { CanBePassed task.now.room }
     ensures table { IfOk result (IsLocalTable task.now.program.now (component task.now.alphabet.now task.now.start.now) task.now.room) }
-    ensures fault { IfErr result (Tells task.now.program.now (component task.now.alphabet.now task.now.start.now) task.now.room) }
+    ensures fault { IfErr result (LacksTable task.now.program.now (component task.now.alphabet.now task.now.start.now) task.now.room) }
 {
     let mut found = Found::new(alloc);
     let table = explored(alloc, task, &mut found);
@@ -67,7 +67,7 @@ fn explored(alloc: Global, task: &Task<'_>, found: &mut Found) -> Result<LocalTa
     requires origins { found.old.origins.items ≡ [] }
     requires table { found.old.table ≡ record { silent = []; steps = []; count = 1 } }
     ensures table { IfOk result (IsLocalTable task.now.program.now (component task.now.alphabet.now task.now.start.now) task.now.room) }
-    ensures fault { IfErr result (Tells task.now.program.now (component task.now.alphabet.now task.now.start.now) task.now.room) }
+    ensures fault { IfErr result (LacksTable task.now.program.now (component task.now.alphabet.now task.now.start.now) task.now.room) }
 {
     match fill(alloc, task, found) {
         Ok(()) => Ok(finished(alloc, found)),
@@ -97,7 +97,7 @@ fn finished(alloc: Global, found: &mut Found) -> LocalTable
 // The fault for which the exploration stopped.
 fn told(alloc: Global, task: &Task<'_>, found: &Found, stop: Stop) -> LocalFault
     requires { StopsAt task.now.program.now (component task.now.alphabet.now task.now.start.now) task.now.room found.now stop }
-    ensures { Tells task.now.program.now (component task.now.alphabet.now task.now.start.now) task.now.room result }
+    ensures { LacksTable task.now.program.now (component task.now.alphabet.now task.now.start.now) task.now.room result }
 {
     match stop {
         Stop::NoMemory => LocalFault::NoMemory,

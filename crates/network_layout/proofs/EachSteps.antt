@@ -8,7 +8,7 @@ use Rattle.csp_tables.specs.Network.Tree.{parallel}
 use Rattle.csp_tables.specs.Network.Operands.{none, operand}
 use Rattle.process_steps.specs.Needed.{events_in}
 use Rattle.network_trees.specs.Joint.{joint}
-use Rattle.network_trees.specs.NetworkOf.{Walked, each_operand, goes_on, operand_first, side_by_side, walked, with_value}
+use Rattle.network_trees.specs.NetworkOf.{Walked, each_operand, goes_on, operand_first, side_by_side, tree_within, with_value}
 use Rattle.network_trees.proofs.Steps.{had}
 use Rattle.network_layout.specs.Lays.{IsLaid, one_operand, operand_walked, operands_each}
 use Rattle.network_layout.proofs.Laid.{first_fault, first_made, grown_by}
@@ -65,7 +65,7 @@ same_fault (Err why) g h f passes is = cc
 
 -- the operands for values of the name x
 pub each : Content → ℕ → ℕ → Expr → Net → List Atom → ℕ → Walked (Operands Proc)
-each p levels x a n vs k = each_operand p (walked p levels) x a n vs k
+each p levels x a n vs k = each_operand p (tree_within p levels) x a n vs k
 
 module _ (p : Content) (levels x : ℕ) (a : Expr) (n : Net) where
   pub each_begin : (vs : List Atom) (old : List (Component Proc)) (events : List ℕ) → events ≡ [] → EachSoFar (each p levels x a n vs (length old)) (each p levels x a n vs) old old events
@@ -75,7 +75,7 @@ module _ (p : Content) (levels x : ℕ) (a : Expr) (n : Net) where
   unfolding one_operand each
   one_fault v vs k f is =
       same_fault (events_in p (expr_with x (One v) a)) (λ alphabet. operand_walked p levels k alphabet (net_with x (One v) n))
-      (λ alphabet. operand_first p (walked p levels) k alphabet (net_with x (One v) n) (each p levels x a n vs)) f
+      (λ alphabet. operand_first p (tree_within p levels) k alphabet (net_with x (One v) n) (each p levels x a n vs)) f
       (λ alphabet h. first_fault p levels k alphabet (net_with x (One v) n) (each p levels x a n vs) f h) is
 
   -- the first operand was made
@@ -89,7 +89,7 @@ module _ (p : Content) (levels x : ℕ) (a : Expr) (n : Net) where
       let found = had (events_in p (expr_with x (One v) a)) (λ alphabet. operand_walked p levels k alphabet (net_with x (One v) n)) tree is in
       record {
         alphabet = found.value;
-        is = ap (λ o. with_value o (λ alphabet. operand_first p (walked p levels) k alphabet (net_with x (One v) n) (each p levels x a n vs))) found.is ∙
+        is = ap (λ o. with_value o (λ alphabet. operand_first p (tree_within p levels) k alphabet (net_with x (One v) n) (each p levels x a n vs))) found.is ∙
             first_made p levels k found.value (net_with x (One v) n) (each p levels x a n vs) tree found.rest;
       }
 
@@ -98,7 +98,7 @@ module _ (p : Content) (levels x : ℕ) (a : Expr) (n : Net) where
       → operands_each p levels (length old) x a n vs ≡ Err f
   unfolding operands_each each
   each_fault vs i v old new events f far lt is bad =
-      ap (side_by_side p (walked p levels)) (far.split ∙ ap (λ o. goes_on o (λ os. Ok (before far.so_far os)))
+      ap (side_by_side p (tree_within p levels)) (far.split ∙ ap (λ o. goes_on o (λ os. Ok (before far.so_far os)))
       (ap (λ ws. each p levels x a n ws (length new)) (drop_read vs i v lt is) ∙ one_fault v (drop (i + 1) vs) (length new) f bad))
 
   pub each_next : (vs : List Atom) (i : ℕ) (v : Atom) (old mid new : List (Component Proc)) (events next all : List ℕ)
@@ -131,7 +131,7 @@ module _ (p : Content) (levels x : ℕ) (a : Expr) (n : Net) where
   each_end vs i old new events far past =
       record {
         tree = parallel far.so_far;
-        made = ap (side_by_side p (walked p levels)) (far.split ∙ (ap (λ o. goes_on o (λ os. Ok (before far.so_far os)))
+        made = ap (side_by_side p (tree_within p levels)) (far.split ∙ (ap (λ o. goes_on o (λ os. Ok (before far.so_far os)))
             (ap (λ ws. each p levels x a n ws (length new)) (drop_of_length-le vs past) ∙ none_left (length new)) ∙ ap (λ os. Ok os) (before-none far.so_far)));
         seats = far.seats;
         together = far.together;

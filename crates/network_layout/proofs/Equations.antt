@@ -4,7 +4,7 @@ use Rattle.std.specs.Prelude.{slice_get}
 use Rattle.csp_program.specs.Outcome.{Outcome, and_then}
 use Rattle.csp_program.specs.Substitution.{expr_with, net_with}
 use Rattle.process_steps.specs.Needed.{arguments_in, events_in, set_in, truth_in}
-use Rattle.network_trees.specs.NetworkOf.{Walked, component, goes_on, nested, network_called, walked, walked_leaf, walked_node, with_value}
+use Rattle.network_trees.specs.NetworkOf.{Walked, next_component, goes_on, nested, network_called, tree_within, walked_leaf, walked_node, with_value}
 use Rattle.network_layout.specs.Lays.{node, one_operand, operand_walked, operands_each, two}
 use Rattle.csp_atoms.specs.declared.atom.Atom.{Atom}
 use Rattle.csp_atoms.specs.declared.value.Value.{Value}
@@ -38,18 +38,18 @@ layer-Each x s a n = ap out-Net (sym (net.rolls-Each x s a n)) ∙ out-roll-Net 
 -- ---- a network by its layer
 
 module _ (p : Content) (k : ℕ) (alphabet : List ℕ) (n : Net) where
-  pub at_end : (layer : Net-F Net) → out-Net n ≡ layer → walked p 0 k alphabet n ≡ walked_leaf k alphabet layer
-  unfolding walked
+  pub at_end : (layer : Net-F Net) → out-Net n ≡ layer → tree_within p 0 k alphabet n ≡ walked_leaf k alphabet layer
+  unfolding tree_within
   at_end layer is = ap (walked_leaf k alphabet) is
 
-  inside : (below : ℕ) (layer : Net-F Net) → out-Net n ≡ layer → walked p (suc below) k alphabet n ≡ node p below k alphabet layer
-  unfolding walked node
-  inside below layer is = ap (walked_node p (walked p below) k alphabet) is
+  inside : (below : ℕ) (layer : Net-F Net) → out-Net n ≡ layer → tree_within p (suc below) k alphabet n ≡ node p below k alphabet layer
+  unfolding tree_within node
+  inside below layer is = ap (walked_node p (tree_within p below) k alphabet) is
 
-  pub entered : (levels below : ℕ) (layer : Net-F Net) → levels ≡ suc below → out-Net n ≡ layer → walked p levels k alphabet n ≡ node p below k alphabet layer
-  entered levels below layer is form = ap (λ l. walked p l k alphabet n) is ∙ inside below layer form
+  pub entered : (levels below : ℕ) (layer : Net-F Net) → levels ≡ suc below → out-Net n ≡ layer → tree_within p levels k alphabet n ≡ node p below k alphabet layer
+  entered levels below layer is form = ap (λ l. tree_within p l k alphabet n) is ∙ inside below layer form
 
-pub node-Leaf : (p : Content) (levels k : ℕ) (alphabet : List ℕ) (q : Proc) → node p levels k alphabet (Net-F.Leaf q) ≡ component k alphabet q
+pub node-Leaf : (p : Content) (levels k : ℕ) (alphabet : List ℕ) (q : Proc) → node p levels k alphabet (Net-F.Leaf q) ≡ next_component k alphabet q
 unfolding node
 node-Leaf p levels k alphabet q = refl
 
@@ -72,29 +72,29 @@ then_with (Err why) b g = refl
 -- ---- a call
 
 call_is : (p : Content) (levels k : ℕ) (alphabet : List ℕ) (d : ℕ) (args : List Expr)
-    → node p levels k alphabet (Net-F.Call d args) ≡ with_value (and_then (arguments_in p args) (network_called (slice_get p.defs d))) (walked p levels k alphabet)
+    → node p levels k alphabet (Net-F.Call d args) ≡ with_value (and_then (arguments_in p args) (network_called (slice_get p.defs d))) (tree_within p levels k alphabet)
 unfolding node
-call_is p levels k alphabet d args = then_value (arguments_in p args) (network_called (slice_get p.defs d)) (walked p levels k alphabet)
+call_is p levels k alphabet d args = then_value (arguments_in p args) (network_called (slice_get p.defs d)) (tree_within p levels k alphabet)
 
 pub call_goes : (p : Content) (levels k : ℕ) (alphabet : List ℕ) (d : ℕ) (args : List Expr) (n : Net)
-    → and_then (arguments_in p args) (network_called (slice_get p.defs d)) ≡ Ok n → node p levels k alphabet (Net-F.Call d args) ≡ walked p levels k alphabet n
-call_goes p levels k alphabet d args n is = call_is p levels k alphabet d args ∙ ap (λ o. with_value o (walked p levels k alphabet)) is
+    → and_then (arguments_in p args) (network_called (slice_get p.defs d)) ≡ Ok n → node p levels k alphabet (Net-F.Call d args) ≡ tree_within p levels k alphabet n
+call_goes p levels k alphabet d args n is = call_is p levels k alphabet d args ∙ ap (λ o. with_value o (tree_within p levels k alphabet)) is
 
 pub call_lacks : (p : Content) (levels k : ℕ) (alphabet : List ℕ) (d : ℕ) (args : List Expr) (why : ValueKind)
     → and_then (arguments_in p args) (network_called (slice_get p.defs d)) ≡ Err why → node p levels k alphabet (Net-F.Call d args) ≡ Err (fault.Value why)
-call_lacks p levels k alphabet d args why is = call_is p levels k alphabet d args ∙ ap (λ o. with_value o (walked p levels k alphabet)) is
+call_lacks p levels k alphabet d args why is = call_is p levels k alphabet d args ∙ ap (λ o. with_value o (tree_within p levels k alphabet)) is
 
 -- ---- a choice
 
 pub if_goes : (p : Content) (levels k : ℕ) (alphabet : List ℕ) (c : Expr) (n m : Net) (b : Bool)
-    → truth_in p c ≡ Ok b → node p levels k alphabet (Net-F.If c n m) ≡ walked p levels k alphabet (if b then n else m)
+    → truth_in p c ≡ Ok b → node p levels k alphabet (Net-F.If c n m) ≡ tree_within p levels k alphabet (if b then n else m)
 unfolding node
-if_goes p levels k alphabet c n m b is = ap (λ o. with_value o (λ t. walked p levels k alphabet (if t then n else m))) is
+if_goes p levels k alphabet c n m b is = ap (λ o. with_value o (λ t. tree_within p levels k alphabet (if t then n else m))) is
 
 pub if_lacks : (p : Content) (levels k : ℕ) (alphabet : List ℕ) (c : Expr) (n m : Net) (why : ValueKind)
     → truth_in p c ≡ Err why → node p levels k alphabet (Net-F.If c n m) ≡ Err (fault.Value why)
 unfolding node
-if_lacks p levels k alphabet c n m why is = ap (λ o. with_value o (λ t. walked p levels k alphabet (if t then n else m))) is
+if_lacks p levels k alphabet c n m why is = ap (λ o. with_value o (λ t. tree_within p levels k alphabet (if t then n else m))) is
 
 -- ---- operands
 
@@ -122,7 +122,7 @@ pub one_lacks : (p : Content) (levels k x : ℕ) (a : Expr) (n : Net) (v : Atom)
     → and_then {B = List ℕ × Net} (events_in p (expr_with x (One v) a)) (λ events. Ok (events, net_with x (One v) n)) ≡ Err why → one_operand p levels k x a n v ≡ Err (fault.Value why)
 one_lacks p levels k x a n v why is = one_is p levels k x a n v ∙ ap (λ (o : Outcome (List ℕ × Net)). with_value o (λ part. operand_walked p levels k part.0 part.1)) is
 
-pub operand_fault : (p : Content) (levels k : ℕ) (alphabet : List ℕ) (n : Net) (f : LayoutFault) → walked p levels k alphabet n ≡ Err f → operand_walked p levels k alphabet n ≡ Err f
+pub operand_fault : (p : Content) (levels k : ℕ) (alphabet : List ℕ) (n : Net) (f : LayoutFault) → tree_within p levels k alphabet n ≡ Err f → operand_walked p levels k alphabet n ≡ Err f
 unfolding operand_walked
 operand_fault p levels k alphabet n f is = ap (λ o. goes_on o (nested k alphabet)) is
 

@@ -5,7 +5,7 @@ use Rattle.csp_program.specs.Outcome.{Outcome, and_then}
 use Rattle.process_steps.specs.Needed.{all_outcomes}
 use Rattle.network_trees.specs.Annotations.{IsFirstWithout}
 use Rattle.network_layout.specs.Lays.{Lacks}
-use Rattle.network_layout.specs.Told.{IsUntold, Tells}
+use Rattle.network_layout.specs.Told.{IsUntold, TellsNoted}
 use Rattle.network_layout.specs.declared.told.NotedFault.{NotedFault}
 use Rattle.network_layout.specs.declared.told.NotedFault.TheVariants as noted
 use Rattle.network_trees.specs.declared.fault.LayoutFault.{LayoutFault}
@@ -83,7 +83,7 @@ first_without f seats i c ys why far lt is bad =
 
 -- the fault of the first component without
 pub untold_first : {A : Type 0} (f : Component Proc → Outcome A) (seats : List (Component Proc)) (i : ℕ) (c : Component Proc) (ys : List A) (r : NotedFault) (why : LayoutFault)
-    → all_outcomes f (take i seats) ≡ Ok ys → i < length seats → c ≡ get_or seats i c → Lacks why (f c) → Tells r why i → IsUntold f seats r
+    → all_outcomes f (take i seats) ≡ Ok ys → i < length seats → c ≡ get_or seats i c → Lacks why (f c) → TellsNoted r why i → IsUntold f seats r
 untold_first f seats i c ys noted.NoMemory why far lt is bad tells = tt
 untold_first f seats i c ys (noted.Value part k) why far lt is bad tells =
     let lacks : f c ≡ Err k = subst (λ w. Lacks w (f c)) tells.1 bad in

@@ -5,7 +5,7 @@ use Rattle.csp_program.specs.Substitution.{expr_with, net_with}
 use Rattle.csp_tables.specs.Network.{Component, Tree, leaves}
 use Rattle.process_steps.specs.Needed.{events_in}
 use Rattle.network_trees.specs.Joint.{joint}
-use Rattle.network_trees.specs.NetworkOf.{Walked, each_operand, goes_on, nested, side_by_side, two_operands, walked, walked_node, with_value}
+use Rattle.network_trees.specs.NetworkOf.{Walked, each_operand, goes_on, nested, side_by_side, two_operands, tree_within, walked_node, with_value}
 use Rattle.csp_atoms.specs.declared.atom.Atom.{Atom}
 use Rattle.csp_atoms.specs.declared.value.Value.TheVariants.{One}
 use Rattle.csp_program.specs.declared.expressions.Expr.{Expr}
@@ -72,15 +72,15 @@ Agrees (Err f) first count odd = Differs f first count odd
 
 -- a node
 unfoldable pub node : Content → ℕ → ℕ → List ℕ → Net-F Net → Walked (Tree Proc)
-node p levels k alphabet n = walked_node p (walked p levels) k alphabet n
+node p levels k alphabet n = walked_node p (tree_within p levels) k alphabet n
 
 -- an operand
 unfoldable pub operand_walked : Content → ℕ → ℕ → List ℕ → Net → Walked (Tree Proc)
-operand_walked p levels k alphabet n = goes_on (walked p levels k alphabet n) (nested k alphabet)
+operand_walked p levels k alphabet n = goes_on (tree_within p levels k alphabet n) (nested k alphabet)
 
 -- two operands
 unfoldable pub two : Content → ℕ → ℕ → List ℕ → Net → List ℕ → Net → Walked (Tree Proc)
-two p levels k left n right m = side_by_side p (walked p levels) (two_operands p (walked p levels) k left n right m)
+two p levels k left n right m = side_by_side p (tree_within p levels) (two_operands p (tree_within p levels) k left n right m)
 
 -- the operand for one value of the name x
 unfoldable pub one_operand : Content → ℕ → ℕ → ℕ → Expr → Net → Atom → Walked (Tree Proc)
@@ -89,4 +89,4 @@ one_operand p levels k x a n v =
 
 -- the operands for values of the name x
 unfoldable pub operands_each : Content → ℕ → ℕ → ℕ → Expr → Net → List Atom → Walked (Tree Proc)
-operands_each p levels k x a n vs = side_by_side p (walked p levels) (each_operand p (walked p levels) x a n vs k)
+operands_each p levels k x a n vs = side_by_side p (tree_within p levels) (each_operand p (tree_within p levels) x a n vs k)

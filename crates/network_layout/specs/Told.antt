@@ -15,6 +15,6 @@ IsUntold told components fault.NoMemory = Unit {0}
 IsUntold told components (fault.Value part why) = IsFirstWithout told components part why
 
 -- the fault of a component (for a private call)
-abbrev pub Tells : NotedFault → LayoutFault → ℕ → Type 0
-Tells fault.NoMemory f part = Unit {0}
-Tells (fault.Value i why) f part = (i ≡ part) × (f ≡ layout.Value why)
+abbrev pub TellsNoted : NotedFault → LayoutFault → ℕ → Type 0
+TellsNoted fault.NoMemory f part = Unit {0}
+TellsNoted (fault.Value i why) f part = (i ≡ part) × (f ≡ layout.Value why)

@@ -28,5 +28,5 @@ pub record IsTriple (alphabets : List (List ℕ)) (e i j k : ℕ) : Type 0 where
   pub least : (d : ℕ) → d < e → sharers alphabets d ≤ 2
   pub first : take 3 (holders 0 alphabets e) ≡ i ∷ j ∷ k ∷ []
 
-abbrev pub IsShared : List (List ℕ) → TripleFault → Type 0
-IsShared alphabets (fault.Shared e parts) = IsTriple alphabets e parts.0 parts.1 parts.2
+abbrev pub SharesEvent : List (List ℕ) → TripleFault → Type 0
+SharesEvent alphabets (fault.Shared e parts) = IsTriple alphabets e parts.0 parts.1 parts.2

@@ -3,7 +3,7 @@
 ghost use Rattle.std.specs.Prelude.{◌≡◌, ◌≤◌, IfErr, IfOk, length};
 ghost use Rattle.dl_limits.specs.declared.TheConstants.{MOST_COMPONENTS, MOST_NETWORK_DEPTH};
 ghost use Rattle.std.specs.List.{range_with_len};
-ghost use Rattle.network_trees.specs.NetworkOf.{all_events, network_of, walked};
+ghost use Rattle.network_trees.specs.NetworkOf.{all_events, network_of, tree_within};
 ghost use Rattle.network_layout.specs.Lays.{AreSeats, Fails};
 
 use crate::nesting::short;
@@ -38,9 +38,9 @@ fn all_events(alloc: Global, program: &Program) -> Result<EventSet, NoMemory>
 
 // The components that the walk of a program's network meets.
 fn seats_of(alloc: Global, program: &Program) -> Result<Items<Seat>, LayoutFault>
-    ensures seats { IfOk result (AreSeats (walked program.now MOST_NETWORK_DEPTH 0 (all_events program.now) program.now.root)) }
+    ensures seats { IfOk result (AreSeats (tree_within program.now MOST_NETWORK_DEPTH 0 (all_events program.now) program.now.root)) }
     ensures few { IfOk result (λ seats. length seats ≤ MOST_COMPONENTS) }
-    ensures fault { IfErr result (λ fault. Fails fault (walked program.now MOST_NETWORK_DEPTH 0 (all_events program.now) program.now.root)) }
+    ensures fault { IfErr result (λ fault. Fails fault (tree_within program.now MOST_NETWORK_DEPTH 0 (all_events program.now) program.now.root)) }
 {
     let events = all_events(alloc, program)?;
     let scope = Scope { alloc, program };

@@ -6,7 +6,7 @@ ghost use Rattle.std.specs.Option.{option_copied};
 ghost use Rattle.process_steps.specs.Needed.{all_outcomes};
 ghost use Rattle.network_trees.specs.Annotations.{component_roles, component_uses, resource_note, roles_note, told_roles, told_set, told_uses};
 ghost use Rattle.network_layout.specs.Lays.{Finds};
-ghost use Rattle.network_layout.specs.Told.{IsUntold, Tells};
+ghost use Rattle.network_layout.specs.Told.{IsUntold, TellsNoted};
 
 use crate::seat::{Layout, Seat};
 use crate::values::{Scope, events};
@@ -142,7 +142,7 @@ fn seat_uses(scope: &Scope<'_>, seat: &Seat) -> Result<UseSets, LayoutFault>
 
 // The fault of a component.
 fn untold(fault: LayoutFault, part: u32) -> NotedFault
-    ensures { Tells result fault part }
+    ensures { TellsNoted result fault part }
 {
     match fault {
         LayoutFault::Value { kind } => NotedFault::Value { part, kind },

@@ -2,7 +2,7 @@
 
 ghost use Rattle.std.specs.Prelude.{◌≡◌, ◌<◌, ◌≤◌, ◌+◌, ◌∷◌, IfErr, OnOk, length};
 ghost use Rattle.csp_tables.specs.Part.{TripleDisjoint};
-ghost use Rattle.network_layout.specs.Triple.{IsShared, alphabets, holders_from};
+ghost use Rattle.network_layout.specs.Triple.{SharesEvent, alphabets, holders_from};
 
 use crate::seat::{Layout, Seat};
 use csp_base::Event;
@@ -36,7 +36,7 @@ fn next_holder(seats: &[Seat], from: usize, event: Event) -> usize
 /// Whether no event is in three alphabets. Else the least such event is told, with the first three components that have it.
 pub fn triple_disjoint(layout: &Layout) -> Result<(), TripleFault>
     ensures ok { OnOk result (TripleDisjoint (alphabets layout.now)) }
-    ensures shared { IfErr result (IsShared (alphabets layout.now)) }
+    ensures shared { IfErr result (SharesEvent (alphabets layout.now)) }
 {
     let Some(event) = layout.crowded().first_from(Event(0)) else {
         return Ok(());

@@ -3,7 +3,7 @@
 ghost use Rattle.std.specs.Prelude.{◌≡◌, [], IfErr, IfOk, length};
 ghost use Rattle.csp_base.specs.Events.{union_of};
 ghost use Rattle.csp_program.specs.declared.networks.Net.TheOpen.{Net-F};
-ghost use Rattle.network_trees.specs.NetworkOf.{component, walked};
+ghost use Rattle.network_trees.specs.NetworkOf.{next_component, tree_within};
 ghost use Rattle.network_trees.specs.declared.fault.LayoutFault.TheVariants.{NoMemory as OutOfMemory};
 ghost use Rattle.network_layout.specs.Lays.{Lays, node, one_operand, operand_walked, operands_each, two};
 
@@ -47,7 +47,7 @@ fn sit(
     alphabet: &EventSet,
     seats: &mut Items<Seat>,
 ) -> Result<EventSet, LayoutFault>
-    ensures { Lays result (component (length seats.old) alphabet.now process.now) seats.old seats.new }
+    ensures { Lays result (next_component (length seats.old) alphabet.now process.now) seats.old seats.new }
 {
     if seats.len() >= MOST_COMPONENTS {
         return Err(LayoutFault::ComponentLimit { found: 513 });
@@ -63,7 +63,7 @@ fn walk_leaf(
     alphabet: &EventSet,
     seats: &mut Items<Seat>,
 ) -> Result<EventSet, LayoutFault>
-    ensures { Lays result (walked scope.now.program.now 0 (length seats.old) alphabet.now net.now) seats.old seats.new }
+    ensures { Lays result (tree_within scope.now.program.now 0 (length seats.old) alphabet.now net.now) seats.old seats.new }
 {
     match net {
         Net::Leaf(process) => sit(scope, process, alphabet, seats),
@@ -83,7 +83,7 @@ pub(crate) fn walk(
     alphabet: &EventSet,
     seats: &mut Items<Seat>,
 ) -> Result<EventSet, LayoutFault>
-    ensures { Lays result (walked scope.now.program.now levels (length seats.old) alphabet.now net.now) seats.old seats.new }
+    ensures { Lays result (tree_within scope.now.program.now levels (length seats.old) alphabet.now net.now) seats.old seats.new }
 {
     if levels == 0 {
         return walk_leaf(scope, net, alphabet, seats);

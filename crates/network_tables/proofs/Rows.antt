@@ -6,7 +6,7 @@ use Rattle.csp_program.specs.declared.processes.Proc.{Proc}
 use Rattle.csp_program.specs.declared.programs.Content.{Content}
 use Rattle.csp_tables.specs.Network.{Component}
 use Rattle.local_tables.specs.declared.local_table.Room.{Room}
-use Rattle.local_tables.specs.Faults.{Tells}
+use Rattle.local_tables.specs.Faults.{LacksTable}
 use Rattle.network_tables.specs.Faults.{GoesRound, TellsHere, TellsTable}
 use Rattle.network_tables.specs.Tables.{AreTablesOf, AreTablesWithin, HasTable, IsTableWithin, room_after, room_left, whole_room}
 use Rattle.network_tables.specs.declared.fault.TableFault.{TableFault}
@@ -52,7 +52,7 @@ module _ (p : Content) where
   first_fault seats made i n c room (fault.Local j local) within is so_far left count number tells =
       let at : slice_get seats i ≡ Some c = slice_get-get_or seats i c within ∙ ap Some (sym is) in
       let place : i ≡ j = sym (number ∙ count) ∙ sym tells.0 in
-      subst (λ k. TellsTable p seats (fault.Local k local)) place (record { tables = made; earlier = so_far; component = c; at = at; has = subst (λ r. Tells p c r local) left tells.1 })
+      subst (λ k. TellsTable p seats (fault.Local k local)) place (record { tables = made; earlier = so_far; component = c; at = at; has = subst (λ r. LacksTable p c r local) left tells.1 })
   first_fault seats made i n c room (fault.Diverges j circle) within is so_far left count number tells =
       let at : slice_get seats i ≡ Some c = slice_get-get_or seats i c within ∙ ap Some (sym is) in
       let place : i ≡ j = sym (number ∙ count) ∙ sym tells.0 in

@@ -7,7 +7,7 @@ use Rattle.csp_tables.specs.Path.{SilentStep}
 use Rattle.csp_tables.specs.RawTable.{RawStep}
 use Rattle.determinise.specs.ManySets.{ReachesSets}
 use Rattle.digraph.specs.Circle.{IsLeastCircle}
-use Rattle.local_tables.specs.Faults.{Tells}
+use Rattle.local_tables.specs.Faults.{LacksTable}
 use Rattle.local_tables.specs.LocalTable.{IsLocalTable}
 use Rattle.local_tables.specs.declared.local_table.LocalTable.{LocalTable}
 use Rattle.local_tables.specs.declared.local_table.Room.{Room}
@@ -34,7 +34,7 @@ pub record GoesRound (p : Content) (circle : List ℕ) (room : Room) (c : Compon
 
 abbrev pub TellsTable : Content → List (Component Proc) → TableFault → Type 0
 TellsTable p cs fault.NoMemory = Unit {0}
-TellsTable p cs (fault.Local i local) = IsFirst p cs i (λ room c. Tells p c room local)
+TellsTable p cs (fault.Local i local) = IsFirst p cs i (λ room c. LacksTable p c room local)
 TellsTable p cs (fault.Diverges i circle) = IsFirst p cs i (GoesRound p circle)
 
 -- traces lead to more than 2,048 sets of the table's terms
@@ -63,7 +63,7 @@ TellsParts ts (parts.SubsetLimit i found) = (found ≡ 2049) × IsFirstWithManyS
 -- What a fault tells of a component with the number i, within a room. (No public contract cites the rest.)
 abbrev pub TellsHere : Content → ℕ → Room → Component Proc → TableFault → Type 0
 TellsHere p i room c fault.NoMemory = Unit {0}
-TellsHere p i room c (fault.Local j local) = (j ≡ i) × Tells p c room local
+TellsHere p i room c (fault.Local j local) = (j ≡ i) × LacksTable p c room local
 TellsHere p i room c (fault.Diverges j circle) = (j ≡ i) × GoesRound p circle room c
 
 -- that the table of the component with the number i goes round

@@ -10,7 +10,7 @@ use Rattle.csp_tables.specs.Network.Operands.{none, operand}
 use Rattle.csp_tables.specs.WellNested.{WellNested, OperandsWellNested}
 use Rattle.process_steps.specs.Needed.{arguments_in, events_in, set_in, truth_in}
 use Rattle.network_trees.specs.Joint.{joint, odd_event}
-use Rattle.network_trees.specs.NetworkOf.{Walked, agreed, all_events, component, each_operand, goes_on, nested, network_called, network_of, operand_first, side_by_side, some_components, two_operands, walked, walked_leaf, walked_node, with_value}
+use Rattle.network_trees.specs.NetworkOf.{Walked, agreed, all_events, next_component, each_operand, goes_on, nested, network_called, network_of, operand_first, side_by_side, some_components, two_operands, tree_within, walked_leaf, walked_node, with_value}
 use Rattle.network_trees.proofs.JointLemmas.{has-joint, same_members}
 use Rattle.network_trees.proofs.Steps.{chosen, had, went}
 use Rattle.csp_atoms.specs.declared.atom.Atom.{Atom}
@@ -41,7 +41,7 @@ MakesOperands walk = (k : ℕ) (os : Operands Proc) → k ≤ 512 → walk k ≡
 one_leaf : (k : ℕ) (alphabet : List ℕ) (q : Proc) → k < 512 → IsTree k (leaf (record { alphabet = alphabet; term = q }))
 one_leaf k alphabet q lt = record { nesting = tt; few = omega arith }
 
-makes_component : (alphabet : List ℕ) (q : Proc) → MakesTree (λ k. component k alphabet q)
+makes_component : (alphabet : List ℕ) (q : Proc) → MakesTree (λ k. next_component k alphabet q)
 makes_component alphabet q k tree fits h =
     let made = chosen (nat_lt k 512) (leaf (record { alphabet = alphabet; term = q })) tree (fault.ComponentLimit 513) h in
     subst (IsTree k) made.1 (one_leaf k alphabet q (ltb-true k 512 made.0))
@@ -121,10 +121,10 @@ makes_leaf alphabet (Net-F.If c n m) k tree fits h = absurd cc
 makes_leaf alphabet (Net-F.Pair n a b m) k tree fits h = absurd cc
 makes_leaf alphabet (Net-F.Each x s a n) k tree fits h = absurd cc
 
-pub makes_tree : (p : Content) (levels : ℕ) (alphabet : List ℕ) (n : Net) → MakesTree (λ k. walked p levels k alphabet n)
-unfolding walked
+pub makes_tree : (p : Content) (levels : ℕ) (alphabet : List ℕ) (n : Net) → MakesTree (λ k. tree_within p levels k alphabet n)
+unfolding tree_within
 makes_tree p zero alphabet n k tree fits h = makes_leaf alphabet (out-Net n) k tree fits h
-makes_tree p (suc levels) alphabet n k tree fits h = makes_node p (walked p levels) (makes_tree p levels) alphabet (out-Net n) k tree fits h
+makes_tree p (suc levels) alphabet n k tree fits h = makes_node p (tree_within p levels) (makes_tree p levels) alphabet (out-Net n) k tree fits h
 
 -- a network has a component
 has_some : (tree made : Tree Proc) (cs : List (Component Proc)) → some_components tree cs ≡ Ok made → (tree ≡ made) × (1 ≤ length cs)
@@ -133,7 +133,7 @@ has_some tree made (c ∷ cs) h = (cc, omega arith)
 
 pub network_is_tree : (p : Content) (tree : Tree Proc) → network_of p ≡ Ok tree → IsTree 0 tree × (1 ≤ length (leaves tree))
 network_is_tree p tree h =
-    let walk = went (walked p 800 0 (all_events p) p.root) (λ t. some_components t (leaves t)) tree h in
+    let walk = went (tree_within p 800 0 (all_events p) p.root) (λ t. some_components t (leaves t)) tree h in
     let some = has_some walk.value tree (leaves walk.value) walk.rest in
     let made = makes_tree p 800 (all_events p) p.root 0 walk.value (omega arith) walk.is in
     (subst (IsTree 0) some.0 made, subst (λ t. 1 ≤ length (leaves t)) some.0 some.1)

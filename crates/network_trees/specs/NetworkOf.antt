@@ -48,8 +48,8 @@ with_value (Ok a) next = next a
 with_value (Err why) next = Err (fault.Value why)
 
 -- a component, which so many others come before: there are at most MOST_COMPONENTS
-abbrev pub component : ℕ → List ℕ → Proc → Walked (Tree Proc)
-component k alphabet q = if nat_lt k MOST_COMPONENTS then Ok (leaf (record { alphabet = alphabet; term = q })) else Err (fault.ComponentLimit (MOST_COMPONENTS + 1))
+abbrev pub next_component : ℕ → List ℕ → Proc → Walked (Tree Proc)
+next_component k alphabet q = if nat_lt k MOST_COMPONENTS then Ok (leaf (record { alphabet = alphabet; term = q })) else Err (fault.ComponentLimit (MOST_COMPONENTS + 1))
 
 -- the tree of an operand, the first component of which has the number k, unless an event is in its alphabet or in those of its components alone
 abbrev pub agreed : ℕ → Tree Proc → Option ℕ → Walked (Tree Proc)
@@ -98,7 +98,7 @@ module _ (p : Content) (below : ℕ → List ℕ → Net → Walked (Tree Proc))
   side_by_side operands = goes_on operands (λ os. Ok (parallel os))
 
   abbrev pub walked_node : ℕ → List ℕ → Net-F Net → Walked (Tree Proc)
-  walked_node k alphabet (Net-F.Leaf q) = component k alphabet q
+  walked_node k alphabet (Net-F.Leaf q) = next_component k alphabet q
   walked_node k alphabet (Net-F.Call d args) =
       with_value (arguments_in p args) (λ vs. with_value (network_called (slice_get p.defs d) vs) (λ n. below k alphabet n))
   walked_node k alphabet (Net-F.If c n m) = with_value (truth_in p c) (λ b. below k alphabet (if b then n else m))
@@ -108,16 +108,16 @@ module _ (p : Content) (below : ℕ → List ℕ → Net → Walked (Tree Proc))
 
 -- where no more nodes may be entered, one inside another
 abbrev pub walked_leaf : ℕ → List ℕ → Net-F Net → Walked (Tree Proc)
-walked_leaf k alphabet (Net-F.Leaf q) = component k alphabet q
+walked_leaf k alphabet (Net-F.Leaf q) = next_component k alphabet q
 walked_leaf k alphabet (Net-F.Call d args) = Err (fault.NetworkDepth 801)
 walked_leaf k alphabet (Net-F.If c n m) = Err (fault.NetworkDepth 801)
 walked_leaf k alphabet (Net-F.Pair n a b m) = Err (fault.NetworkDepth 801)
 walked_leaf k alphabet (Net-F.Each x s a n) = Err (fault.NetworkDepth 801)
 
 -- the walk of a network, where so many nodes may still be entered, one inside another
-unfoldable pub walked : Content → ℕ → ℕ → List ℕ → Net → Walked (Tree Proc)
-walked p zero k alphabet n = walked_leaf k alphabet (out-Net n)
-walked p (suc levels) k alphabet n = walked_node p (walked p levels) k alphabet (out-Net n)
+unfoldable pub tree_within : Content → ℕ → ℕ → List ℕ → Net → Walked (Tree Proc)
+tree_within p zero k alphabet n = walked_leaf k alphabet (out-Net n)
+tree_within p (suc levels) k alphabet n = walked_node p (tree_within p levels) k alphabet (out-Net n)
 
 -- the numbers of the events of the program
 abbrev pub all_events : Content → List ℕ
@@ -130,4 +130,4 @@ some_components tree (c ∷ cs) = Ok tree
 
 -- The network of a program. At most MOST_NETWORK_DEPTH nodes stand one inside another.
 abbrev pub network_of : Content → Walked (Tree Proc)
-network_of p = goes_on (walked p MOST_NETWORK_DEPTH 0 (all_events p) p.root) (λ tree. some_components tree (leaves tree))
+network_of p = goes_on (tree_within p MOST_NETWORK_DEPTH 0 (all_events p) p.root) (λ tree. some_components tree (leaves tree))

@@ -6,7 +6,7 @@ use Rattle.std.proofs.lemmas.Option.{get_or_from_slice_get, slice_get_within}
 use Rattle.csp_tables.specs.Table.{Node, node_at, node_after, is_possible, is_run, IsRun, end_of}
 use Rattle.observed_runs.specs.Observed.{observed, LeadsTo, pair_at}
 use Rattle.observed_runs.specs.Exploration.{Found, StepsTo, AreFound, HaveOrigins, IsExploration}
-use Rattle.observed_runs.specs.Enough.{IsListed}
+use Rattle.observed_runs.specs.Enough.{HasPair}
 use Rattle.observed_runs.specs.Progress.{AreFollowed}
 use Rattle.observed_runs.proofs.Leading.{leads_on, leads_nowhere}
 
@@ -26,14 +26,14 @@ module _ (table : List Node) (step : ℕ → ℕ → ℕ) (start : ℕ) where
       (rest.0 ++ (pair_at found.origins k).1 ∷ [], leads_on table step start rest.0 (pair_at found.pairs (pair_at found.origins k).0) (pair_at found.pairs (suc k)) (pair_at found.origins k).1 rest.1 (subst (λ j. StepsTo table step (pair_at found.pairs (pair_at found.origins k).0) (pair_at found.origins k).1 (pair_at found.pairs j)) e (f.later k here)))
 
   -- from a pair that is listed each run leads to one that is listed
-  along : (pairs : List (ℕ × ℕ)) → ((k : ℕ) → k < length pairs → AreFollowed table step pairs k) → (s : List ℕ) (pair : ℕ × ℕ) → IsListed pairs pair → is_run table pair.0 s ≡ true → IsListed pairs (end_of table pair.0 s, observed step pair.1 s)
+  along : (pairs : List (ℕ × ℕ)) → ((k : ℕ) → k < length pairs → AreFollowed table step pairs k) → (s : List ℕ) (pair : ℕ × ℕ) → HasPair pairs pair → is_run table pair.0 s ≡ true → HasPair pairs (end_of table pair.0 s, observed step pair.1 s)
   along pairs closed [] pair l h = record { place = l.place; within = l.within; is = l.is }
   along pairs closed (e ∷ s) pair l h =
       let p = and_parts (is_possible (node_at table pair.0).next e) (is_run table (node_after table pair.0 e) s) h in
-      let next = subst (λ (q : ℕ × ℕ). (x : ℕ) → IsTrue (is_possible (node_at table q.0).next x) → IsListed pairs (node_after table q.0 x, step q.1 x)) l.is (closed l.place l.within) in
+      let next = subst (λ (q : ℕ × ℕ). (x : ℕ) → IsTrue (is_possible (node_at table q.0).next x) → HasPair pairs (node_after table q.0 x, step q.1 x)) l.is (closed l.place l.within) in
       along pairs closed s (node_after table pair.0 e, step pair.1 e) (next e p.0) p.1
 
-  all_listed : (pairs : List (ℕ × ℕ)) → IsListed pairs (0, start) → ((k : ℕ) → k < length pairs → AreFollowed table step pairs k) → (s : List ℕ) → IsRun table s → (k : ℕ) × (k < length pairs) × LeadsTo table step start s (pair_at pairs k)
+  all_listed : (pairs : List (ℕ × ℕ)) → HasPair pairs (0, start) → ((k : ℕ) → k < length pairs → AreFollowed table step pairs k) → (s : List ℕ) → IsRun table s → (k : ℕ) × (k < length pairs) × LeadsTo table step start s (pair_at pairs k)
   all_listed pairs first closed s run =
       let l = along pairs closed s (0, start) first run in
       (l.place, l.within, record { follows = run; node = ap (λ (p : ℕ × ℕ). p.0) (sym l.is); state = ap (λ (p : ℕ × ℕ). p.1) (sym l.is) })

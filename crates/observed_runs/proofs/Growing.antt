@@ -11,7 +11,7 @@ use Rattle.csp_tables.specs.Part.{Part}
 use Rattle.csp_tables.specs.Form.{HasForm}
 use Rattle.observed_runs.specs.Observed.{pair_at}
 use Rattle.observed_runs.specs.Exploration.{StepsTo, AreFound, HaveOrigins}
-use Rattle.observed_runs.specs.Enough.{IsListed, AreEnough, SeesOnly}
+use Rattle.observed_runs.specs.Enough.{HasPair, AreEnough, SeesOnly}
 use Rattle.observed_runs.specs.Progress.{IsAdded, AreMore, AreFollowed}
 use Rattle.observed_runs.proofs.Leading.{step_listed, step_within, listed_step}
 use Rattle.csp_tables.proofs.Runs.{node_form}
@@ -22,12 +22,12 @@ pair_at_left xs ys k h = get_or_append_left xs ys (0, 0) k h
 pub pair_at_right : (xs ys : List (ℕ × ℕ)) (k : ℕ) → length xs ≤ k → pair_at (xs ++ ys) k ≡ pair_at ys (k - length xs)
 pair_at_right xs ys k h = get_or-append_right xs ys k (0, 0) h
 
-pub listed_left : (xs ys : List (ℕ × ℕ)) (pair : ℕ × ℕ) → IsListed xs pair → IsListed (xs ++ ys) pair
+pub listed_left : (xs ys : List (ℕ × ℕ)) (pair : ℕ × ℕ) → HasPair xs pair → HasPair (xs ++ ys) pair
 listed_left xs ys pair l = record { place = l.place; within = let h : l.place < length xs = l.within in omega (arith, length-append xs ys); is = pair_at_left xs ys l.place l.within ∙ l.is }
 
-pub listed_added : (xs os : List (ℕ × ℕ)) (pair origin : ℕ × ℕ) (ys ps : List (ℕ × ℕ)) (q : ℕ × ℕ) → IsAdded xs os pair origin ys ps → IsListed xs q → IsListed ys q
-listed_added xs os pair origin ys ps q (inl same) l = subst (λ zs. IsListed zs q) (sym same.0) l
-listed_added xs os pair origin ys ps q (inr more) l = subst (λ zs. IsListed zs q) (sym more.0) (listed_left xs (pair ∷ []) q l)
+pub listed_added : (xs os : List (ℕ × ℕ)) (pair origin : ℕ × ℕ) (ys ps : List (ℕ × ℕ)) (q : ℕ × ℕ) → IsAdded xs os pair origin ys ps → HasPair xs q → HasPair ys q
+listed_added xs os pair origin ys ps q (inl same) l = subst (λ zs. HasPair zs q) (sym same.0) l
+listed_added xs os pair origin ys ps q (inr more) l = subst (λ zs. HasPair zs q) (sym more.0) (listed_left xs (pair ∷ []) q l)
 
 -- ---- more from one pair
 
@@ -84,7 +84,7 @@ module _ (part : Part) (step : ℕ → ℕ → ℕ) (pairs origins : List (ℕ �
   more_added ps os pair origin qs us (inr more) m from steps node = subst (λ zs. AreMore part step pairs origins place zs us) (sym more.0) (subst (λ zs. AreMore part step pairs origins place (ps ++ pair ∷ []) zs) (sym more.1) (one_more ps os pair origin m from steps node))
 
   -- one step of the pair's node
-  pub more_followed : HasForm part → (ps os qs us : List (ℕ × ℕ)) (x : ℕ × ℕ) (next : ℕ) → IsListed (node_at part.table (pair_at pairs place).0).next x → next ≡ step (pair_at pairs place).1 x.0 → IsAdded ps os (x.1, next) (place, x.0) qs us → AreMore part step pairs origins place ps os → AreMore part step pairs origins place qs us
+  pub more_followed : HasForm part → (ps os qs us : List (ℕ × ℕ)) (x : ℕ × ℕ) (next : ℕ) → HasPair (node_at part.table (pair_at pairs place).0).next x → next ≡ step (pair_at pairs place).1 x.0 → IsAdded ps os (x.1, next) (place, x.0) qs us → AreMore part step pairs origins place ps os → AreMore part step pairs origins place qs us
   more_followed form ps os qs us x next at state added m =
       let formed = node_form part.alphabet (length part.table) part.table (pair_at pairs place).0 form.nodes in
       let s = step_listed part.alphabet (length part.table) (node_at part.table (pair_at pairs place).0).next at.place formed at.within in
@@ -98,7 +98,7 @@ same_two : (a b c d : ℕ) → a ≡ c → b ≡ d → let x : ℕ × ℕ = (a, 
 same_two a b c d p q = cc
 
 -- where enough steps were listed, each event that is possible is followed
-pub all_followed : (table : List Node) (step : ℕ → ℕ → ℕ) (events : List ℕ) (pair : ℕ × ℕ) (some ps : List (ℕ × ℕ)) → SeesOnly events step → AreEnough events (node_at table pair.0).next some → ((k : ℕ) → k < length some → IsListed ps ((pair_at some k).1, step pair.1 (pair_at some k).0)) → (e : ℕ) → IsTrue (is_possible (node_at table pair.0).next e) → IsListed ps (node_after table pair.0 e, step pair.1 e)
+pub all_followed : (table : List Node) (step : ℕ → ℕ → ℕ) (events : List ℕ) (pair : ℕ × ℕ) (some ps : List (ℕ × ℕ)) → SeesOnly events step → AreEnough events (node_at table pair.0).next some → ((k : ℕ) → k < length some → HasPair ps ((pair_at some k).1, step pair.1 (pair_at some k).0)) → (e : ℕ) → IsTrue (is_possible (node_at table pair.0).next e) → HasPair ps (node_after table pair.0 e, step pair.1 e)
 all_followed table step events pair some ps only enough all e possible =
     let l = listed_step (node_at table pair.0).next e possible in
     elim (cases_Bool (has events e)) [
@@ -106,10 +106,10 @@ all_followed table step events pair some ps only enough all e possible =
           let x = enough.seen l.place l.within (subst (λ i. has events i ≡ true) (sym l.event) seen) in
           let node : (pair_at some x.place).1 ≡ node_after table pair.0 e = ap (λ (p : ℕ × ℕ). p.1) x.is ∙ l.leads in
           let event : (pair_at some x.place).0 ≡ e = ap (λ (p : ℕ × ℕ). p.0) x.is ∙ l.event in
-          subst (IsListed ps) (same_two (pair_at some x.place).1 (step pair.1 (pair_at some x.place).0) (node_after table pair.0 e) (step pair.1 e) node (ap (step pair.1) event)) (all x.place x.within)
+          subst (HasPair ps) (same_two (pair_at some x.place).1 (step pair.1 (pair_at some x.place).0) (node_after table pair.0 e) (step pair.1 e) node (ap (step pair.1) event)) (all x.place x.within)
       | inr unseen ↦
           let x = enough.others l.place l.within (subst (λ i. has events i ≡ false) (sym l.event) unseen) in
-          subst (IsListed ps) (same_two (pair_at some x.place).1 (step pair.1 (pair_at some x.place).0) (node_after table pair.0 e) (step pair.1 e) (x.leads ∙ l.leads) (only pair.1 (pair_at some x.place).0 x.unseen ∙ sym (only pair.1 e unseen))) (all x.place x.within)
+          subst (HasPair ps) (same_two (pair_at some x.place).1 (step pair.1 (pair_at some x.place).0) (node_after table pair.0 e) (step pair.1 e) (x.leads ∙ l.leads) (only pair.1 (pair_at some x.place).0 x.unseen ∙ sym (only pair.1 e unseen))) (all x.place x.within)
     ]
 
 -- ---- more pairs in all
@@ -127,8 +127,8 @@ module _ (part : Part) (step : ℕ → ℕ → ℕ) (start : ℕ) (pairs origins
   -- what was followed is followed
   pub followed_still : AreMore part step pairs origins place ps os → (k : ℕ) → k < length pairs → AreFollowed part.table step pairs k → AreFollowed part.table step ps k
   followed_still m k h f =
-      subst (λ (p : ℕ × ℕ). (e : ℕ) → IsTrue (is_possible (node_at part.table p.0).next e) → IsListed ps (node_after part.table p.0 e, step p.1 e)) (sym (same_pair k m h))
-      (λ e possible. subst (λ zs. IsListed zs (node_after part.table (pair_at pairs k).0 e, step (pair_at pairs k).1 e)) (sym m.pairs_grow) (listed_left pairs m.new_pairs _ (f e possible)))
+      subst (λ (p : ℕ × ℕ). (e : ℕ) → IsTrue (is_possible (node_at part.table p.0).next e) → HasPair ps (node_after part.table p.0 e, step p.1 e)) (sym (same_pair k m h))
+      (λ e possible. subst (λ zs. HasPair zs (node_after part.table (pair_at pairs k).0 e, step (pair_at pairs k).1 e)) (sym m.pairs_grow) (listed_left pairs m.new_pairs _ (f e possible)))
 
   pub explored_more : AreExplored part step start pairs origins → place < length pairs → AreMore part step pairs origins place ps os → AreExplored part step start ps os
   explored_more x here m = record {

@@ -10,7 +10,7 @@ use Rattle.csp_tables.specs.Part.{Part}
 use Rattle.csp_tables.specs.Form.{HasForm}
 use Rattle.csp_tables.proofs.Runs.{node_form}
 use Rattle.observed_runs.specs.Observed.{pair_at}
-use Rattle.observed_runs.specs.Enough.{IsListed, HasOther, AreEnough}
+use Rattle.observed_runs.specs.Enough.{HasPair, HasOther, AreEnough}
 use Rattle.observed_runs.specs.Progress.{IsKept, AreEnoughSoFar}
 use Rattle.observed_runs.proofs.Leading.{step_within}
 use Rattle.observed_runs.proofs.Growing.{pair_at_left, pair_at_right, listed_left}
@@ -18,7 +18,7 @@ use Rattle.observed_runs.proofs.Growing.{pair_at_left, pair_at_right, listed_lef
 pub last_is : (xs : List (ℕ × ℕ)) (x : ℕ × ℕ) → pair_at (xs ++ x ∷ []) (length xs) ≡ x
 last_is xs x = pair_at_right xs (x ∷ []) (length xs) (omega arith) ∙ ap (pair_at (x ∷ [])) (let e : length xs - length xs ≡ 0 = omega arith in e)
 
-listed_last : (xs : List (ℕ × ℕ)) (x : ℕ × ℕ) → IsListed (xs ++ x ∷ []) x
+listed_last : (xs : List (ℕ × ℕ)) (x : ℕ × ℕ) → HasPair (xs ++ x ∷ []) x
 listed_last xs x = record { place = length xs; within = omega (arith, length-append xs (x ∷ [])); is = last_is xs x }
 
 module _ (events : List ℕ) where
@@ -52,14 +52,14 @@ module _ (events : List ℕ) where
     with_step : (more_marks : List ℕ) → ((node : ℕ) → slice_index more_marks node ≡ mark → HasOther events (some ++ x ∷ []) node) → ((node : ℕ) → slice_index more_marks node ≤ mark) → AreEnoughSoFar events mark next (n + 1) (some ++ x ∷ []) more_marks
     with_step more_marks marked most = record {
       sound = λ k h. elim (cases_lt k (length some)) [
-        | inl old ↦ subst (IsListed next) (sym (pair_at_left some (x ∷ []) k old)) (f.sound k old)
+        | inl old ↦ subst (HasPair next) (sym (pair_at_left some (x ∷ []) k old)) (f.sound k old)
         | inr new ↦
             let e : length some ≡ k = omega (arith, length-append some (x ∷ [])) in
-            subst (λ j. IsListed next (pair_at (some ++ x ∷ []) j)) e (subst (IsListed next) (sym (last_is some x)) (record { place = n; within = here; is = sym at }))
+            subst (λ j. HasPair next (pair_at (some ++ x ∷ []) j)) e (subst (HasPair next) (sym (last_is some x)) (record { place = n; within = here; is = sym at }))
       ];
       seen = λ j h is. elim (cases_lt j n) [
         | inl old ↦ listed_left some (x ∷ []) (pair_at next j) (f.seen j old is)
-        | inr new ↦ let e : n ≡ j = omega arith in subst (IsListed (some ++ x ∷ [])) (at ∙ ap (pair_at next) e) (listed_last some x)
+        | inr new ↦ let e : n ≡ j = omega arith in subst (HasPair (some ++ x ∷ [])) (at ∙ ap (pair_at next) e) (listed_last some x)
       ];
       others = λ j h unseen. elim (cases_lt j n) [
         | inl old ↦ other_left some x (pair_at next j).1 (f.others j old unseen)

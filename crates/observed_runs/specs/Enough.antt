@@ -5,7 +5,7 @@ use Rattle.csp_tables.specs.Table.{Node, node_at}
 use Rattle.observed_runs.specs.Observed.{pair_at}
 
 -- the pair is in the list
-pub record IsListed (pairs : List (ℕ × ℕ)) (pair : ℕ × ℕ) : Type 0 where
+pub record HasPair (pairs : List (ℕ × ℕ)) (pair : ℕ × ℕ) : Type 0 where
   pub place : ℕ
   pub within : place < length pairs
   pub is : pair_at pairs place ≡ pair
@@ -19,8 +19,8 @@ pub record HasOther (events : List ℕ) (steps : List (ℕ × ℕ)) (node : ℕ)
 
 -- Some of a node's steps: each by an event of the set, and for each other step one to the same node.
 pub record AreEnough (events : List ℕ) (next some : List (ℕ × ℕ)) : Type 0 where
-  pub sound : (k : ℕ) → k < length some → IsListed next (pair_at some k)
-  pub seen : (j : ℕ) → j < length next → IsTrue (has events (pair_at next j).0) → IsListed some (pair_at next j)
+  pub sound : (k : ℕ) → k < length some → HasPair next (pair_at some k)
+  pub seen : (j : ℕ) → j < length next → IsTrue (has events (pair_at next j).0) → HasPair some (pair_at next j)
   pub others : (j : ℕ) → j < length next → has events (pair_at next j).0 ≡ false → HasOther events some (pair_at next j).1
 
 -- such steps of each node

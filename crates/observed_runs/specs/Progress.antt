@@ -5,7 +5,7 @@ use Rattle.csp_tables.specs.Table.{Node, node_at, node_after, is_possible}
 use Rattle.csp_tables.specs.Part.{Part}
 use Rattle.observed_runs.specs.Observed.{pair_at}
 use Rattle.observed_runs.specs.Exploration.{StepsTo}
-use Rattle.observed_runs.specs.Enough.{IsListed, HasOther}
+use Rattle.observed_runs.specs.Enough.{HasPair, HasOther}
 
 -- the pair is known, or it comes to the end with its origin
 abbrev pub IsAdded : List (ℕ × ℕ) → List (ℕ × ℕ) → ℕ × ℕ → ℕ × ℕ → List (ℕ × ℕ) → List (ℕ × ℕ) → Type 0
@@ -26,7 +26,7 @@ pub record AreMore (part : Part) (step : ℕ → ℕ → ℕ) (pairs origins : L
 
 -- each event that is possible at the pair in this place leads to a pair that is listed
 abbrev pub AreFollowed : List Node → (ℕ → ℕ → ℕ) → List (ℕ × ℕ) → ℕ → Type 0
-AreFollowed table step pairs place = (e : ℕ) → IsTrue (is_possible (node_at table (pair_at pairs place).0).next e) → IsListed pairs (node_after table (pair_at pairs place).0 e, step (pair_at pairs place).1 e)
+AreFollowed table step pairs place = (e : ℕ) → IsTrue (is_possible (node_at table (pair_at pairs place).0).next e) → HasPair pairs (node_after table (pair_at pairs place).0 e, step (pair_at pairs place).1 e)
 
 -- A step is kept if it is by an event of the set, or if its node is not marked yet; then it is.
 abbrev pub IsKept : List ℕ → ℕ → ℕ × ℕ → List (ℕ × ℕ) → List ℕ → List (ℕ × ℕ) → List ℕ → Type 0
@@ -37,8 +37,8 @@ IsKept events mark step some marks more_some more_marks =
 
 -- of the first n steps enough are kept, and each node that has this mark has a step that is
 pub record AreEnoughSoFar (events : List ℕ) (mark : ℕ) (next : List (ℕ × ℕ)) (n : ℕ) (some : List (ℕ × ℕ)) (marks : List ℕ) : Type 0 where
-  pub sound : (k : ℕ) → k < length some → IsListed next (pair_at some k)
-  pub seen : (j : ℕ) → j < n → IsTrue (has events (pair_at next j).0) → IsListed some (pair_at next j)
+  pub sound : (k : ℕ) → k < length some → HasPair next (pair_at some k)
+  pub seen : (j : ℕ) → j < n → IsTrue (has events (pair_at next j).0) → HasPair some (pair_at next j)
   pub others : (j : ℕ) → j < n → has events (pair_at next j).0 ≡ false → HasOther events some (pair_at next j).1
   pub marked : (node : ℕ) → slice_index marks node ≡ mark → HasOther events some node
   pub most : (node : ℕ) → slice_index marks node ≤ mark

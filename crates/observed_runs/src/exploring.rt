@@ -4,7 +4,7 @@ ghost use Rattle.std.specs.Prelude.{◌≡◌, ◌<◌, ◌^◌, ◌⊎◌, ◌+
 ghost use Rattle.csp_tables.specs.Form.{HasForm};
 ghost use Rattle.observed_runs.specs.Exploration.{AreFound, HaveOrigins, IsExploration};
 ghost use Rattle.observed_runs.specs.Observed.{pair_at};
-ghost use Rattle.observed_runs.specs.Enough.{IsListed, SeesEnough};
+ghost use Rattle.observed_runs.specs.Enough.{HasPair, SeesEnough};
 ghost use Rattle.observed_runs.specs.Progress.{AreFollowed, AreMore, IsAdded};
 
 use crate::explored::Explored;
@@ -127,7 +127,7 @@ fn add_target<O: Observer>(
     step: (Event, u32),
 ) -> Result<(), NoMemory>
     ensures added { OnOk result (IsAdded pairs.old origins.old.items (step.1, O.step observer.now state step.0) (place, step.0) pairs.new origins.new.items) }
-    ensures listed { OnOk result (IsListed pairs.new (step.1, O.step observer.now state step.0)) }
+    ensures listed { OnOk result (HasPair pairs.new (step.1, O.step observer.now state step.0)) }
 {
     let (event, target) = step;
     let next = observer.next(state, event);
@@ -142,7 +142,7 @@ fn add(
     origin: (u32, Event),
 ) -> Result<(), NoMemory>
     ensures added { OnOk result (IsAdded pairs.old origins.old.items pair origin pairs.new origins.new.items) }
-    ensures listed { OnOk result (IsListed pairs.new pair) }
+    ensures listed { OnOk result (HasPair pairs.new pair) }
 {
     let known = pairs.len();
     pairs.number(pair)?;

@@ -26,8 +26,8 @@ abbrev pub Move : Type 0
 Move = Label × Proc
 
 -- the step stands in the list
-abbrev pub IsListed : List Move → Label → Proc → Type 0
-IsListed moves l u = (k : ℕ) × (slice_get moves k ≡ Some (l, u))
+abbrev pub ListsMove : List Move → Label → Proc → Type 0
+ListsMove moves l u = (k : ℕ) × (slice_get moves k ≡ Some (l, u))
 
 -- What a step of a part makes of the whole: of a sequence with r as its second part,
 abbrev pub in_sequence : Proc → Label → Proc → Move

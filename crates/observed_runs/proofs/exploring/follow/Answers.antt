@@ -3,7 +3,7 @@ use Rattle.std.proofs.lemmas.Bool.{cases_lt}
 use Rattle.std.proofs.lemmas.List.{get_or_read}
 use Rattle.csp_tables.specs.Table.{node_at}
 use Rattle.observed_runs.specs.Observed.{pair_at}
-use Rattle.observed_runs.specs.Enough.{IsListed}
+use Rattle.observed_runs.specs.Enough.{HasPair}
 use Rattle.observed_runs.proofs.Growing.{none_more, more_followed, all_followed, listed_added, same_pair}
 use Rattle.observed_runs.proofs.exploring.follow.Goals as goal
 
@@ -27,7 +27,7 @@ loop-step-preserved g c =
     let x = c.step-item.result in
     let at : c.step-item.result ≡ pair_at (get_or c.args.rows.now (pair_at c.args.pairs.now c.args.place).0 []) c.loop-step.step-index = get_or_read c.steps_from-state.result.0.now k x here c.step-item.is (0, 0) ∙ ap (λ (zs : List (ℕ × ℕ)). pair_at zs k) steps in
     let enough = c.requires.enough.rows_are.each node c.requires.node in
-    let listed = subst (IsListed (node_at c.args.part.now.table (pair_at c.args.pairs.now c.args.place).0).next) (sym at) (enough.sound k (subst (λ (zs : List (ℕ × ℕ)). k < length zs) steps here)) in
+    let listed = subst (HasPair (node_at c.args.part.now.table (pair_at c.args.pairs.now c.args.place).0).next) (sym at) (enough.sound k (subst (λ (zs : List (ℕ × ℕ)). k < length zs) steps here)) in
     let next = step c.steps_from-state.result.1 x.0 in
     let state : g.O.Observer.step c.args.observer.now c.steps_from-state.result.1 c.step-item.result.0 ≡ g.O.Observer.step c.args.observer.now (pair_at c.args.pairs.now c.args.place).1 c.step-item.result.0 = ap (λ (s : ℕ). g.O.Observer.step c.args.observer.now s c.step-item.result.0) c.steps_from-state.ensures.state in
     record {
@@ -36,9 +36,9 @@ loop-step-preserved g c =
         | inl old ↦ listed_added c.loop-step.pairs c.loop-step.origins.items (x.1, next) (place, x.0) c.add_target.new.pairs c.add_target.new.origins.items _ c.in_ok-add_target.ensures.added (c.loop-step.invariant.followed j old)
         | inr new ↦
             let same : k ≡ j = omega arith in
-            subst (λ i. IsListed c.add_target.new.pairs ((pair_at row i).1, step (pair_at pairs place).1 (pair_at row i).0)) same
-            (subst (λ (y : ℕ × ℕ). IsListed c.add_target.new.pairs (y.1, step (pair_at pairs place).1 y.0)) at
-            (subst (λ s. IsListed c.add_target.new.pairs (x.1, s)) state c.in_ok-add_target.ensures.listed))
+            subst (λ i. HasPair c.add_target.new.pairs ((pair_at row i).1, step (pair_at pairs place).1 (pair_at row i).0)) same
+            (subst (λ (y : ℕ × ℕ). HasPair c.add_target.new.pairs (y.1, step (pair_at pairs place).1 y.0)) at
+            (subst (λ s. HasPair c.add_target.new.pairs (x.1, s)) state c.in_ok-add_target.ensures.listed))
       ];
     }
 
