@@ -3,13 +3,11 @@
 use csp_base::NoMemory;
 
 /// The errors of operations that put atoms together.
-#[derive(Clone, Copy, Debug, PartialEq, Eq, Drop, thiserror::Error)]
+#[derive(Clone, Copy, Drop)]
 pub enum AtomSetError {
     /// An atom of another kind than the set's.
-    #[error("atoms of two kinds")]
     MixedKinds,
     /// Want of memory.
-    #[error("out of memory")]
     NoMemory,
 }
 

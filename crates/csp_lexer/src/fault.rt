@@ -3,13 +3,11 @@
 use csp_base::{NoMemory, Place};
 
 /// Why a text has no tokens, or none were found.
-#[derive(Clone, Copy, Debug, PartialEq, Eq, Drop, thiserror::Error)]
+#[derive(Clone, Copy, Drop)]
 pub enum LexFault {
     /// Memory ran out.
-    #[error("out of memory")]
     NoMemory,
     /// The text is no script: here the first piece begins that is no token, blank, comment or skipped assertion.
-    #[error("no script near line {} column {}", at.line, at.column)]
     NoScript { at: Place },
 }
 

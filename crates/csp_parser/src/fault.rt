@@ -3,13 +3,11 @@
 use csp_base::{NoMemory, Place};
 
 /// Why there is no script, or none was found.
-#[derive(Debug, Drop, thiserror::Error)]
+#[derive(Drop)]
 pub enum ParseFault {
     /// Memory ran out.
-    #[error("out of memory")]
     NoMemory,
     /// The text is no script: this is the place at which it turned out to be none.
-    #[error("no script near line {} column {}", at.line, at.column)]
     NoScript { at: Place },
 }
 

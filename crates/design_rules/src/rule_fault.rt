@@ -3,28 +3,24 @@ use containers::Items;
 use csp_base::{Event, NoMemory, Trace};
 
 /// Why a network does not meet a rule, or no answer was found.
-#[derive(Debug, Drop, thiserror::Error)]
+#[derive(Drop)]
 pub enum RuleFault {
     /// Memory ran out.
-    #[error("out of memory")]
     NoMemory,
     /// A component goes through its links in no fixed order: the event is possible after the trace, and it clashes with one
     /// that is possible after a trace that is not longer.
-    #[error("a component has no order of its links")]
     NoOrder {
         part: u32,
         trace: Trace,
         event: Event,
     },
     /// On a link each end, after its trace, accepts some of the link's events and not all.
-    #[error("a link has no end that accepts all of its events")]
     NoWholeEnd {
         link: u32,
         left: Trace,
         right: Trace,
     },
     /// The least condition of the rule that is broken, the first component that breaks it, and a run after which it does.
-    #[error("a component breaks a condition of the rule")]
     Broken {
         condition: Condition,
         part: u32,
@@ -32,7 +28,6 @@ pub enum RuleFault {
     },
     /// Links that must come before one another, components that are clients of one another, or resources that are held while
     /// the next are offered: each of the next one, and the last of the first.
-    #[error("links, clients or resources are in a circle")]
     Circle {
         members: Items<u32>,
     },

@@ -33,7 +33,7 @@ pub fn determinise(alloc: Global, table: &RawTable) -> Result<SetTable, SetFault
 
     // It succeeds only where no more sets are reached, and the limit is told only where they are.
     ensures within_limit { OnOk result (ReachesSets (RawStep table.now) 0 (MOST_SETS + 1) → ⊥) }
-    ensures limit { (found : ℕ) → result ≡ Err (SetFault.SubsetLimit found) → (found ≡ MOST_SETS + 1) × ReachesSets (RawStep table.now) 0 (MOST_SETS + 1) }
+    ensures limit { result ≡ Err SetFault.SubsetLimit → ReachesSets (RawStep table.now) 0 (MOST_SETS + 1) }
 {
     let prepared = Prepared::new(alloc, table)?;
     set_table(alloc, &prepared)
@@ -48,7 +48,7 @@ fn set_table(alloc: Global, table: &Prepared<'_>) -> Result<SetTable, SetFault>
     ensures breadth_first { IfOk result (λ made. IsBreadthFirst made.nodes) }
     ensures few { IfOk result (λ made. length made.nodes ≤ MOST_SETS) }
     ensures within_limit { OnOk result (ReachesSets (RawStep table.now) 0 (MOST_SETS + 1) → ⊥) }
-    ensures limit { (found : ℕ) → result ≡ Err (SetFault.SubsetLimit found) → (found ≡ MOST_SETS + 1) × ReachesSets (RawStep table.now) 0 (MOST_SETS + 1) }
+    ensures limit { result ≡ Err SetFault.SubsetLimit → ReachesSets (RawStep table.now) 0 (MOST_SETS + 1) }
 {
     let mut sets = first_sets(alloc, table)?;
     match explore(alloc, table, &mut sets) {
@@ -80,7 +80,7 @@ fn explore(
     ensures all { IfOk result (λ nodes. length nodes.items ≡ length sets.new) }
     ensures few { OnOk result (length sets.new ≤ MOST_SETS) }
     ensures reached { AreReachedSets table.now sets.new }
-    ensures limit { (found : ℕ) → result ≡ Err (SetFault.SubsetLimit found) → (found ≡ MOST_SETS + 1) × (length sets.new ≡ MOST_SETS + 1) }
+    ensures limit { result ≡ Err SetFault.SubsetLimit → length sets.new ≡ MOST_SETS + 1 }
 {
     let mut nodes = Vec::new(alloc);
     match add_nodes(alloc, table, sets, &mut nodes) {
@@ -103,7 +103,7 @@ fn add_nodes(
     ensures all { OnOk result (length nodes.new.items ≡ length sets.new) }
     ensures few { OnOk result (length sets.new ≤ MOST_SETS) }
     ensures reached { AreReachedSets table.now sets.new }
-    ensures limit { (found : ℕ) → result ≡ Err (SetFault.SubsetLimit found) → (found ≡ MOST_SETS + 1) × (length sets.new ≡ MOST_SETS + 1) }
+    ensures limit { result ≡ Err SetFault.SubsetLimit → length sets.new ≡ MOST_SETS + 1 }
 {
     while nodes.len() < sets.len() {
         let node = node_of(alloc, table, sets, nodes.len())?;

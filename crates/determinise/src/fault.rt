@@ -1,14 +1,12 @@
 use csp_base::NoMemory;
 
 /// Why a table has no determinised table, or none was found.
-#[derive(Debug, Drop, thiserror::Error)]
+#[derive(Drop)]
 pub enum SetFault {
     /// Memory ran out.
-    #[error("out of memory")]
     NoMemory,
-    /// Traces lead to more than 2,048 sets of terms. The number is the first one past the limit.
-    #[error("more than 2048 sets of terms are reached")]
-    SubsetLimit { found: u32 },
+    /// Traces lead to more than 2,048 sets of terms.
+    SubsetLimit,
 }
 
 impl From<NoMemory> for SetFault {

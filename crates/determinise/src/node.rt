@@ -28,7 +28,7 @@ pub(crate) fn node_of(
     ensures order { IfOk result (λ node. MeetsInOrder (length sets.old) (targets_of_steps node.next) (length sets.new)) }
     ensures more { AreMoreSets (IsReachedFromSet table.now (set_at sets.old place)) sets.old sets.new }
     ensures few { OnOk result (length sets.new ≤ MOST_SETS) }
-    ensures limit { (found : ℕ) → result ≡ Err (SetFault.SubsetLimit found) → (found ≡ MOST_SETS + 1) × (length sets.new ≡ MOST_SETS + 1) }
+    ensures limit { result ≡ Err SetFault.SubsetLimit → length sets.new ≡ MOST_SETS + 1 }
 {
     let accept = accept_at(alloc, table, sets, place)?;
     let next = next_at(alloc, table, sets, place)?;
@@ -65,7 +65,7 @@ fn next_at(
     ensures order { IfOk result (λ next. MeetsInOrder (length sets.old) (targets_of_steps next.items) (length sets.new)) }
     ensures more { AreMoreSets (IsReachedFromSet table.now (set_at sets.old place)) sets.old sets.new }
     ensures few { OnOk result (length sets.new ≤ MOST_SETS) }
-    ensures limit { (found : ℕ) → result ≡ Err (SetFault.SubsetLimit found) → (found ≡ MOST_SETS + 1) × (length sets.new ≡ MOST_SETS + 1) }
+    ensures limit { result ≡ Err SetFault.SubsetLimit → length sets.new ≡ MOST_SETS + 1 }
 {
     let terms = sets.as_slice()[place].as_slice();
     let moves = table.moves(alloc, terms)?;

@@ -32,7 +32,7 @@ pub(crate) fn next_steps(
     ensures order { IfOk result (λ next. MeetsInOrder (length sets.old) (targets_of_steps next.items) (length sets.new)) }
     ensures more { AreMoreSets (IsSomeNextSet table.now moves.now) sets.old sets.new }
     ensures few { OnOk result (length sets.new ≤ MOST_SETS) }
-    ensures limit { (found : ℕ) → result ≡ Err (SetFault.SubsetLimit found) → (found ≡ MOST_SETS + 1) × (length sets.new ≡ MOST_SETS + 1) }
+    ensures limit { result ≡ Err SetFault.SubsetLimit → length sets.new ≡ MOST_SETS + 1 }
 {
     let mut known = Known::new(alloc, table)?;
     let mut next = Vec::new(alloc);
@@ -59,7 +59,7 @@ fn add_steps(
     ensures order { OnOk result (MeetsInOrder (length sets.old) (targets_of_steps next.new.items) (length sets.new)) }
     ensures more { AreMoreSets (IsSomeNextSet table.now moves.now) sets.old sets.new }
     ensures few { OnOk result (length sets.new ≤ MOST_SETS) }
-    ensures limit { (found : ℕ) → result ≡ Err (SetFault.SubsetLimit found) → (found ≡ MOST_SETS + 1) × (length sets.new ≡ MOST_SETS + 1) }
+    ensures limit { result ≡ Err SetFault.SubsetLimit → length sets.new ≡ MOST_SETS + 1 }
 {
     let mut at = 0;
     while at < moves.len() {
@@ -108,7 +108,7 @@ fn number_of_next(
     ensures few { OnOk result (length sets.new ≤ MOST_SETS) }
     ensures known { OnOk result (AreKnown table.now sets.new known.new.starts known.new.numbers.items) }
     ensures unmarked { OnOk result (IsUnmarked table.now.count known.new.marks.items) }
-    ensures limit { (found : ℕ) → result ≡ Err (SetFault.SubsetLimit found) → (found ≡ MOST_SETS + 1) × (length sets.new ≡ MOST_SETS + 1) }
+    ensures limit { result ≡ Err SetFault.SubsetLimit → length sets.new ≡ MOST_SETS + 1 }
 {
     let starts = targets(alloc, moves)?;
     if let Some(number) = known.find(&starts) {
@@ -136,14 +136,12 @@ fn number_of_closure(
     ensures more { AreMoreSets (IsSilentClosure table.now starts.now) sets.old sets.new }
     ensures few { OnOk result (length sets.new ≤ MOST_SETS) }
     ensures unmarked { OnOk result (IsUnmarked table.now.count marks.new.items) }
-    ensures limit { (found : ℕ) → result ≡ Err (SetFault.SubsetLimit found) → (found ≡ MOST_SETS + 1) × (length sets.new ≡ MOST_SETS + 1) }
+    ensures limit { result ≡ Err SetFault.SubsetLimit → length sets.new ≡ MOST_SETS + 1 }
 {
     let set = table.closed(alloc, starts, marks)?;
     let number = sets.number(set)?;
     if sets.len() > MOST_SETS {
-        return Err(SetFault::SubsetLimit {
-            found: sets.len() as u32,
-        });
+        return Err(SetFault::SubsetLimit);
     }
     Ok(number)
 }

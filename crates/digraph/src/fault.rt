@@ -2,13 +2,11 @@ use circles::Circle;
 use std::alloc::AllocError;
 
 /// Why a digraph has no heights, or none were found.
-#[derive(Debug, Drop, thiserror::Error)]
+#[derive(Drop)]
 pub enum Fault {
     /// Memory ran out.
-    #[error("out of memory")]
     NoMemory,
     /// Walks can go round a circle, so some have no end.
-    #[error("the arcs go round in a circle")]
     Circle(Circle),
 }
 

@@ -22,11 +22,11 @@ use Rattle.network_trees.specs.declared.fault.LayoutFault.TheVariants as fault
 
 -- ---- a component
 
-pub too_many : (k : ℕ) (alphabet : List ℕ) (q : Proc) → 512 ≤ k → next_component k alphabet q ≡ Err (fault.ComponentLimit 513)
-too_many k alphabet q past = ap (λ b. if b then Ok (leaf (record { alphabet = alphabet; term = q })) else Err (fault.ComponentLimit 513)) (le-ltb k 512 past)
+pub too_many : (k : ℕ) (alphabet : List ℕ) (q : Proc) → 512 ≤ k → next_component k alphabet q ≡ Err fault.ComponentLimit
+too_many k alphabet q past = ap (λ b. if b then Ok (leaf (record { alphabet = alphabet; term = q })) else Err fault.ComponentLimit) (le-ltb k 512 past)
 
 seat_made : (k : ℕ) (alphabet : List ℕ) (q : Proc) → k < 512 → next_component k alphabet q ≡ Ok (leaf (record { alphabet = alphabet; term = q }))
-seat_made k alphabet q lt = ap (λ b. if b then Ok (leaf (record { alphabet = alphabet; term = q })) else Err (fault.ComponentLimit 513)) (lt-ltb k 512 lt)
+seat_made k alphabet q lt = ap (λ b. if b then Ok (leaf (record { alphabet = alphabet; term = q })) else Err fault.ComponentLimit) (lt-ltb k 512 lt)
 
 pub seated : (old new : List (Component Proc)) (alphabet : List ℕ) (q : Proc) (events : List ℕ) → length old < 512
     → new ≡ old ++ record { alphabet = alphabet; term = q } ∷ [] → events ≡ union_of alphabet [] → IsLaid (next_component (length old) alphabet q) old new events
@@ -67,8 +67,8 @@ bad_nesting k tree count odd (fault.Value why) is h = absurd h
 bad_nesting k tree count odd (fault.BadNesting j n e) is h =
     ap (agreed k tree) h.2 ∙ (ap (λ c. Err (fault.BadNesting k c e)) (sym (h.1 ∙ is)) ∙ ap (λ i. Err (fault.BadNesting i n e)) (sym h.0))
 bad_nesting k tree count odd fault.EmptyNetwork is h = absurd h
-bad_nesting k tree count odd (fault.ComponentLimit found) is h = absurd h
-bad_nesting k tree count odd (fault.NetworkDepth found) is h = absurd h
+bad_nesting k tree count odd fault.ComponentLimit is h = absurd h
+bad_nesting k tree count odd fault.NetworkDepth is h = absurd h
 
 pub operand_differs : (r : Result (List ℕ) LayoutFault) (f : LayoutFault) (p : Content) (levels : ℕ) (alphabet : List ℕ) (n : Net) (old new : List (Component Proc)) (events : List ℕ) (first end : ℕ)
     → IsErrAnd r (λ y. y ≡ f) → IsLaid (tree_within p levels (length old) alphabet n) old new events → first ≡ length old → end ≡ length new

@@ -16,16 +16,16 @@ fails_on fault.NoMemory part whole h passes = tt
 fails_on (fault.Value why) part whole h passes = passes (fault.Value why) h
 fails_on (fault.BadNesting first count e) part whole h passes = passes (fault.BadNesting first count e) h
 fails_on fault.EmptyNetwork part whole h passes = passes fault.EmptyNetwork h
-fails_on (fault.ComponentLimit found) part whole h passes = passes (fault.ComponentLimit found) h
-fails_on (fault.NetworkDepth found) part whole h passes = passes (fault.NetworkDepth found) h
+fails_on fault.ComponentLimit part whole h passes = passes fault.ComponentLimit h
+fails_on fault.NetworkDepth part whole h passes = passes fault.NetworkDepth h
 
 lacks_on : {A B : Type 0} (f : LayoutFault) (part : Outcome A) (whole : Walked B) → Lacks f part → ((k : ValueKind) → part ≡ Err k → whole ≡ Err (fault.Value k)) → Fails f whole
 lacks_on fault.NoMemory part whole h passes = tt
 lacks_on (fault.Value why) part whole h passes = passes why h
 lacks_on (fault.BadNesting first count e) part whole h passes = absurd h
 lacks_on fault.EmptyNetwork part whole h passes = absurd h
-lacks_on (fault.ComponentLimit found) part whole h passes = absurd h
-lacks_on (fault.NetworkDepth found) part whole h passes = absurd h
+lacks_on fault.ComponentLimit part whole h passes = absurd h
+lacks_on fault.NetworkDepth part whole h passes = absurd h
 
 pub lays_fault : (r : Result (List ℕ) LayoutFault) (f : LayoutFault) (whole : Walked (Tree Proc)) (old new : List (Component Proc))
     → IsErrAnd r (λ y. y ≡ f) → Fails f whole → Lays r whole old new

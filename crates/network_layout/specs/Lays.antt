@@ -22,8 +22,8 @@ Fails fault.NoMemory outcome = Unit {0}
 Fails (fault.Value why) outcome = outcome ≡ Err (fault.Value why)
 Fails (fault.BadNesting first count e) outcome = outcome ≡ Err (fault.BadNesting first count e)
 Fails fault.EmptyNetwork outcome = outcome ≡ Err fault.EmptyNetwork
-Fails (fault.ComponentLimit found) outcome = outcome ≡ Err (fault.ComponentLimit found)
-Fails (fault.NetworkDepth found) outcome = outcome ≡ Err (fault.NetworkDepth found)
+Fails fault.ComponentLimit outcome = outcome ≡ Err fault.ComponentLimit
+Fails fault.NetworkDepth outcome = outcome ≡ Err fault.NetworkDepth
 
 -- a value that the walk needs, or why there is none
 abbrev pub Lacks : {A : Type 0} → LayoutFault → Outcome A → Type 0
@@ -31,8 +31,8 @@ Lacks fault.NoMemory outcome = Unit {0}
 Lacks (fault.Value why) outcome = outcome ≡ Err why
 Lacks (fault.BadNesting first count e) outcome = ⊥
 Lacks fault.EmptyNetwork outcome = ⊥
-Lacks (fault.ComponentLimit found) outcome = ⊥
-Lacks (fault.NetworkDepth found) outcome = ⊥
+Lacks fault.ComponentLimit outcome = ⊥
+Lacks fault.NetworkDepth outcome = ⊥
 
 abbrev pub Finds : {A : Type 0} → Result A LayoutFault → Outcome A → Type 0
 Finds (Ok a) outcome = outcome ≡ Ok a
@@ -61,8 +61,8 @@ Differs fault.NoMemory first count odd = Unit {0}
 Differs (fault.Value why) first count odd = ⊥
 Differs (fault.BadNesting k n e) first count odd = (k ≡ first) × (n ≡ count) × (odd ≡ Some e)
 Differs fault.EmptyNetwork first count odd = ⊥
-Differs (fault.ComponentLimit found) first count odd = ⊥
-Differs (fault.NetworkDepth found) first count odd = ⊥
+Differs fault.ComponentLimit first count odd = ⊥
+Differs fault.NetworkDepth first count odd = ⊥
 
 abbrev pub Agrees : {A : Type 0} → Result A LayoutFault → ℕ → ℕ → Option ℕ → Type 0
 Agrees (Ok a) first count odd = odd ≡ None

@@ -19,13 +19,11 @@ use network_trees::LayoutFault;
 use std::alloc::Global;
 
 /// Why there are no sets of the components, or no answer was found.
-#[derive(Clone, Copy, Debug, PartialEq, Eq, Drop, thiserror::Error)]
+#[derive(Clone, Copy, Drop)]
 pub enum NotedFault {
     /// Want of memory.
-    #[error("out of memory")]
     NoMemory,
     /// A set that is told of a component has no value, or holds something that is no event.
-    #[error("an annotated set has no value")]
     Value {
         /// The first such component.
         part: u32,

@@ -8,10 +8,9 @@ use crate::seat::{Layout, Seat};
 use csp_base::Event;
 
 /// Why a network isn't triple-disjoint.
-#[derive(Clone, Copy, Debug, PartialEq, Eq, Drop, thiserror::Error)]
+#[derive(Clone, Copy, Drop)]
 pub enum TripleFault {
     /// The event is in three alphabets or more.
-    #[error("an event is in three alphabets")]
     Shared {
         /// The least such event.
         event: Event,

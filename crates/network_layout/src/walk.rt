@@ -20,7 +20,7 @@ use dl_limits::MOST_COMPONENTS;
 use network_trees::LayoutFault;
 use std::alloc::Global;
 
-const TOO_DEEP: LayoutFault = LayoutFault::NetworkDepth { found: 801 };
+const TOO_DEEP: LayoutFault = LayoutFault::NetworkDepth;
 
 // A component.
 fn seat_of(alloc: Global, process: &Proc, alphabet: &EventSet) -> Result<Seat, NoMemory>
@@ -50,7 +50,7 @@ fn sit(
     ensures { Lays result (next_component (length seats.old) alphabet.now process.now) seats.old seats.new }
 {
     if seats.len() >= MOST_COMPONENTS {
-        return Err(LayoutFault::ComponentLimit { found: 513 });
+        return Err(LayoutFault::ComponentLimit);
     }
     seats.push_made(seat_of(scope.alloc, process, alphabet))?;
     both(scope, alphabet, &EventSet::new(scope.alloc))

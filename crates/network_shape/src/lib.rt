@@ -9,7 +9,7 @@ mod rows;
 mod shaping;
 mod stops;
 
-pub use fault::{BusyFault, PartFault};
+pub use fault::BusyFault;
 pub use laws::{made_parts_make_shapes, stops_are_true, stops_refute};
 pub use parts::part;
 pub use shaping::shape;

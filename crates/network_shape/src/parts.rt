@@ -1,7 +1,7 @@
 //! A part of a network from the numbered table of its component.
 
-ghost use Rattle.std.specs.Prelude.{◌≡◌, ◌≤◌, ℕ, IfOk, OnOk};
-ghost use Rattle.dl_limits.specs.declared.TheConstants.{MOST_TERMS};
+ghost use Rattle.std.specs.Prelude.{◌≡◌, ◌+◌, ◌≤◌, IfOk, OnOk};
+ghost use Rattle.dl_limits.specs.declared.TheConstants.{MOST_SETS, MOST_TERMS};
 ghost use Rattle.csp_tables.specs.NormalTable.{IsNormalTable};
 ghost use Rattle.csp_tables.specs.Path.{SilentStep};
 ghost use Rattle.csp_tables.specs.RawTable.{RawStep};
@@ -9,10 +9,9 @@ ghost use Rattle.determinise.specs.ManySets.{ReachesSets};
 ghost use Rattle.digraph.specs.Walk.{AreHeights};
 ghost use Rattle.network_shape.specs.Parts.{HasEventsWithin, IsWellFormedPart};
 
-use crate::fault::PartFault;
 use csp_base::EventSet;
 use csp_tables::{Part, RawTable};
-use normal_form::{NormFault, normalise};
+use normal_form::{SetFault, normalise};
 use std::alloc::Global;
 use tau_order::Heights;
 
@@ -25,7 +24,7 @@ pub fn part(
     alphabet: EventSet,
     table: &RawTable,
     heights: &Heights,
-) -> Result<Part, PartFault>
+) -> Result<Part, SetFault>
     requires heights { AreHeights (SilentStep (RawStep table.now)) table.now.count heights.now }
     requires few { table.now.count ≤ MOST_TERMS }
     requires events { HasEventsWithin table.now alphabet }
@@ -34,12 +33,9 @@ pub fn part(
     ensures form { IfOk result IsWellFormedPart }
 
     // It succeeds only where no more sets are reached, and the limit is told only where they are.
-    ensures within_limit { OnOk result (ReachesSets (RawStep table.now) 0 2049 → ⊥) }
-    ensures limit { (found : ℕ) → result ≡ Err (PartFault.SubsetLimit found) → (found ≡ 2049) × ReachesSets (RawStep table.now) 0 2049 }
+    ensures within_limit { OnOk result (ReachesSets (RawStep table.now) 0 (MOST_SETS + 1) → ⊥) }
+    ensures limit { result ≡ Err SetFault.SubsetLimit → ReachesSets (RawStep table.now) 0 (MOST_SETS + 1) }
 {
-    match normalise(alloc, table, heights) {
-        Ok(made) => Ok(Part::new(alphabet, made)),
-        Err(NormFault::NoMemory) => Err(PartFault::NoMemory),
-        Err(NormFault::SubsetLimit { found }) => Err(PartFault::SubsetLimit { found }),
-    }
+    let made = normalise(alloc, table, heights)?;
+    Ok(Part::new(alphabet, made))
 }

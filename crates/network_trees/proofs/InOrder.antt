@@ -43,7 +43,7 @@ one_leaf k alphabet q lt = record { nesting = tt; few = omega arith }
 
 makes_component : (alphabet : List ℕ) (q : Proc) → MakesTree (λ k. next_component k alphabet q)
 makes_component alphabet q k tree fits h =
-    let made = chosen (nat_lt k 512) (leaf (record { alphabet = alphabet; term = q })) tree (fault.ComponentLimit 513) h in
+    let made = chosen (nat_lt k 512) (leaf (record { alphabet = alphabet; term = q })) tree fault.ComponentLimit h in
     subst (IsTree k) made.1 (one_leaf k alphabet q (ltb-true k 512 made.0))
 
 -- the operand was found to agree with its alphabet

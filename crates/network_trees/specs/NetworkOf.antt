@@ -49,7 +49,7 @@ with_value (Err why) next = Err (fault.Value why)
 
 -- a component, which so many others come before: there are at most MOST_COMPONENTS
 abbrev pub next_component : ℕ → List ℕ → Proc → Walked (Tree Proc)
-next_component k alphabet q = if nat_lt k MOST_COMPONENTS then Ok (leaf (record { alphabet = alphabet; term = q })) else Err (fault.ComponentLimit (MOST_COMPONENTS + 1))
+next_component k alphabet q = if nat_lt k MOST_COMPONENTS then Ok (leaf (record { alphabet = alphabet; term = q })) else Err fault.ComponentLimit
 
 -- the tree of an operand, the first component of which has the number k, unless an event is in its alphabet or in those of its components alone
 abbrev pub agreed : ℕ → Tree Proc → Option ℕ → Walked (Tree Proc)
@@ -109,10 +109,10 @@ module _ (p : Content) (below : ℕ → List ℕ → Net → Walked (Tree Proc))
 -- where no more nodes may be entered, one inside another
 abbrev pub walked_leaf : ℕ → List ℕ → Net-F Net → Walked (Tree Proc)
 walked_leaf k alphabet (Net-F.Leaf q) = next_component k alphabet q
-walked_leaf k alphabet (Net-F.Call d args) = Err (fault.NetworkDepth 801)
-walked_leaf k alphabet (Net-F.If c n m) = Err (fault.NetworkDepth 801)
-walked_leaf k alphabet (Net-F.Pair n a b m) = Err (fault.NetworkDepth 801)
-walked_leaf k alphabet (Net-F.Each x s a n) = Err (fault.NetworkDepth 801)
+walked_leaf k alphabet (Net-F.Call d args) = Err fault.NetworkDepth
+walked_leaf k alphabet (Net-F.If c n m) = Err fault.NetworkDepth
+walked_leaf k alphabet (Net-F.Pair n a b m) = Err fault.NetworkDepth
+walked_leaf k alphabet (Net-F.Each x s a n) = Err fault.NetworkDepth
 
 -- the walk of a network, where so many nodes may still be entered, one inside another
 unfoldable pub tree_within : Content → ℕ → ℕ → List ℕ → Net → Walked (Tree Proc)

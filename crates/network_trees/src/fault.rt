@@ -26,15 +26,9 @@ pub enum LayoutFault {
     /// The network has no components.
     EmptyNetwork,
     /// The network has too many components.
-    ComponentLimit {
-        /// The number of them at which the walk ended.
-        found: u32,
-    },
+    ComponentLimit,
     /// The network is nested too deep.
-    NetworkDepth {
-        /// The depth at which the walk ended.
-        found: u32,
-    },
+    NetworkDepth,
 }
 
 impl From<NoMemory> for LayoutFault {

@@ -1,11 +1,10 @@
 //! The normal table of a component: one node for each class of traces with equal future.
 #![tactic(auto)]
 
-mod fault;
 mod marks;
 mod merge;
 mod merged;
 mod normal_table;
 
-pub use fault::NormFault;
+pub use determinise::SetFault;
 pub use normal_table::normalise;

@@ -1,19 +1,16 @@
 //! The normal table of a raw table.
 
-ghost use Rattle.std.specs.Prelude.{◌≡◌, ◌<◌, ◌≤◌, ℕ, All, IfOk, OnOk, length};
+ghost use Rattle.std.specs.Prelude.{◌≡◌, ◌+◌, ◌≤◌, IfOk, OnOk, length};
 ghost use Rattle.dl_limits.specs.declared.TheConstants.{MOST_SETS};
 ghost use Rattle.csp_tables.specs.RawTable.{RawStep};
 ghost use Rattle.csp_tables.specs.Path.{SilentStep};
 ghost use Rattle.digraph.specs.Walk.{AreHeights};
-ghost use Rattle.csp_tables.specs.NormalTable.{IsNormalTable, HasAcceptances, IsRisingNode};
-ghost use Rattle.csp_tables.specs.BreadthFirst.{IsBreadthFirst};
-ghost use Rattle.determinise.specs.Determinised.{FollowsTraces};
+ghost use Rattle.csp_tables.specs.NormalTable.{IsNormalTable};
 ghost use Rattle.determinise.specs.ManySets.{ReachesSets};
 
-use crate::fault::NormFault;
 use crate::merged::merged_nodes;
 use csp_tables::{NormTable, RawTable};
-use determinise::{SetFault, SetTable, determinise};
+use determinise::{SetFault, determinise};
 use std::alloc::Global;
 use tau_order::Heights;
 
@@ -23,36 +20,17 @@ use tau_order::Heights;
 /// Nodes are numbered breadth first from the one of the empty trace, events in rising order; each is reached by a run. The
 /// acceptances of a node stand in the order of lists. Where traces lead to more than 2,048 sets of terms, the answer is
 /// `SubsetLimit`.
-pub fn normalise(alloc: Global, table: &RawTable, heights: &Heights) -> Result<NormTable, NormFault>
+pub fn normalise(alloc: Global, table: &RawTable, heights: &Heights) -> Result<NormTable, SetFault>
     requires heights { AreHeights (SilentStep (RawStep table.now)) table.now.count heights.now }
     ensures normal { IfOk result (IsNormalTable (RawStep table.now) 0 table.now.count) }
     ensures few { IfOk result (λ made. length made ≤ MOST_SETS) }
 
     // It succeeds only where no more sets are reached, and the limit is told only where they are.
-    ensures within_limit { OnOk result (ReachesSets (RawStep table.now) 0 2049 → ⊥) }
-    ensures limit { (found : ℕ) → result ≡ Err (NormFault.SubsetLimit found) → (found ≡ 2049) × ReachesSets (RawStep table.now) 0 2049 }
+    ensures within_limit { OnOk result (ReachesSets (RawStep table.now) 0 (MOST_SETS + 1) → ⊥) }
+    ensures limit { result ≡ Err SetFault.SubsetLimit → ReachesSets (RawStep table.now) 0 (MOST_SETS + 1) }
 {
     let _count = table.count();
-    let sets = sets_of(alloc, table)?;
-    let Ok(made) = merged_nodes(alloc, sets.nodes()) else {
-        return Err(NormFault::NoMemory);
-    };
+    let sets = determinise(alloc, table)?;
+    let made = merged_nodes(alloc, sets.nodes())?;
     Ok(made)
-}
-
-// The determinised table.
-fn sets_of(alloc: Global, table: &RawTable) -> Result<SetTable, NormFault>
-    ensures traces { IfOk result (λ made. FollowsTraces (RawStep table.now) 0 made) }
-    ensures acceptances { IfOk result (λ made. HasAcceptances (RawStep table.now) 0 made.nodes) }
-    ensures in_order { IfOk result (λ made. All IsRisingNode made.nodes) }
-    ensures breadth_first { IfOk result (λ made. IsBreadthFirst made.nodes) }
-    ensures few { IfOk result (λ made. length made.nodes ≤ MOST_SETS) }
-    ensures within_limit { OnOk result (ReachesSets (RawStep table.now) 0 2049 → ⊥) }
-    ensures limit { (found : ℕ) → result ≡ Err (NormFault.SubsetLimit found) → (found ≡ 2049) × ReachesSets (RawStep table.now) 0 2049 }
-{
-    match determinise(alloc, table) {
-        Ok(sets) => Ok(sets),
-        Err(SetFault::NoMemory) => Err(NormFault::NoMemory),
-        Err(SetFault::SubsetLimit { found }) => Err(NormFault::SubsetLimit { found }),
-    }
 }

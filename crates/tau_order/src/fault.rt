@@ -2,13 +2,11 @@ use csp_base::NoMemory;
 use digraph::Circle;
 
 /// Why a table has no heights, or none were found.
-#[derive(Debug, Drop, thiserror::Error)]
+#[derive(Drop)]
 pub enum HeightFault {
     /// Memory ran out.
-    #[error("out of memory")]
     NoMemory,
     /// Silent steps lead round a circle, so some run of them has no end.
-    #[error("the silent steps go round in a circle")]
     Diverges { circle: Circle },
 }
 

@@ -9,13 +9,11 @@ use csp_base::NoMemory;
 use csp_text::Token;
 
 /// Why nothing was read.
-#[derive(Debug, Drop, thiserror::Error)]
+#[derive(Drop)]
 pub enum ReadFault {
     /// Memory ran out.
-    #[error("out of memory")]
     NoMemory,
     /// No text of what was to be read, within the limits, is in front.
-    #[error("no text with {left} tokens left")]
     NoText {
         /// How many tokens are left where the reading stopped.
         left: usize,

@@ -4,13 +4,11 @@ use csp_base::NoMemory;
 use csp_program::ValueKind;
 
 /// The errors of evaluation.
-#[derive(Clone, Copy, Debug, PartialEq, Eq, Drop, thiserror::Error)]
+#[derive(Clone, Copy, Drop)]
 pub enum EvalFault {
     /// Want of memory.
-    #[error("out of memory")]
     NoMemory,
     /// The expression has no value, for this reason, the first from the left.
-    #[error("no value")]
     Value {
         /// The kind of fault.
         kind: ValueKind,

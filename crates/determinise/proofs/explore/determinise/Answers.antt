@@ -16,4 +16,4 @@ pub returns-clause-within_limit : goal.returns-clause-within_limit
 returns-clause-within_limit c = subst (λ (r : RawTable). OnOk c.set_table.result (ReachesSets (RawStep r) 0 2049 → ⊥)) c.in_ok-prepared.ensures c.set_table.ensures.within_limit
 
 pub returns-clause-limit : goal.returns-clause-limit
-returns-clause-limit c number is = subst (λ (r : RawTable). (number ≡ 2049) × ReachesSets (RawStep r) 0 2049) c.in_ok-prepared.ensures (c.set_table.ensures.limit number is)
+returns-clause-limit c is = subst (λ (r : RawTable). ReachesSets (RawStep r) 0 2049) c.in_ok-prepared.ensures (c.set_table.ensures.limit is)

@@ -47,8 +47,7 @@ returns-in-Ok-clause-within_limit c many =
     no_more_sets raw c.explore.new.sets c.in-Ok.nodes.items 2049 found.nodes found.all found.reached few many
 
 pub returns-in-Err-clause-limit : goal.returns-in-Err-clause-limit
-returns-in-Err-clause-limit c number is =
+returns-in-Err-clause-limit c is =
     let raw : RawTable = c.args.table.now in
-    let same : c.in-Err.fault ≡ SubsetLimit number = cc in
-    let limit = c.in-Err.ensures.limit number (ap Err same) in
-    (limit.0, many_sets raw c.explore.new.sets 2049 c.in-Err.ensures.reached limit.1)
+    let same : c.in-Err.fault ≡ SubsetLimit = cc in
+    many_sets raw c.explore.new.sets 2049 c.in-Err.ensures.reached (c.in-Err.ensures.limit (ap Err same))

@@ -5,7 +5,7 @@ pub merged_nodes-requires-clause-rising : goal.merged_nodes-requires-clause-risi
 merged_nodes-requires-clause-rising c = rises c.in_ok-sets.sets c.nodes.result.now c.nodes.ensures c.in_ok-sets.ensures.in_order c.in_ok-sets.ensures.breadth_first
 
 pub returns-clause-normal : goal.returns-clause-normal
-returns-clause-normal c = normal_of_raw c.args.table.now c.in_ok-sets.sets c.nodes.result.now c.in-Ok.made c.count-count.ensures.form c.nodes.ensures c.in_ok-sets.ensures.traces c.in_ok-sets.ensures.acceptances c.in_ok-sets.ensures.in_order c.in_ok-sets.ensures.breadth_first c.in-Ok.ensures
+returns-clause-normal c = normal_of_raw c.args.table.now c.in_ok-sets.sets c.nodes.result.now c.in_ok-made.made c.count-count.ensures.form c.nodes.ensures c.in_ok-sets.ensures.traces c.in_ok-sets.ensures.acceptances c.in_ok-sets.ensures.in_order c.in_ok-sets.ensures.breadth_first c.in_ok-made.ensures
 
 pub returns-clause-few : goal.returns-clause-few
-returns-clause-few c = few_nodes c.args.table.now c.in_ok-sets.sets c.nodes.result.now c.in-Ok.made c.nodes.ensures c.in_ok-sets.ensures.traces c.in_ok-sets.ensures.acceptances c.in_ok-sets.ensures.in_order c.in_ok-sets.ensures.breadth_first c.in_ok-sets.ensures.few c.in-Ok.ensures
+returns-clause-few c = few_nodes c.args.table.now c.in_ok-sets.sets c.nodes.result.now c.in_ok-made.made c.nodes.ensures c.in_ok-sets.ensures.traces c.in_ok-sets.ensures.acceptances c.in_ok-sets.ensures.in_order c.in_ok-sets.ensures.breadth_first c.in_ok-sets.ensures.few c.in_ok-made.ensures
