@@ -1,11 +1,10 @@
-//! The answers that tell what breaks a rule.
+//! What is told where a rule is broken, or an annotated set has no value.
 
 ghost use Rattle.std.specs.Prelude.{◌≡◌, IfOk};
-ghost use Rattle.fault_answers.specs.Tells.{texts};
+ghost use Rattle.network_stages.specs.Tells.{texts};
 ghost use Rattle.report.specs.EventText.{event_text};
-ghost use Rattle.report.specs.declared.answer.Answer.TheVariants as answer;
 ghost use Rattle.report.specs.declared.answer.Shortfall.TheVariants as shortfall;
-ghost use Rattle.judgement.specs.Tells.{TellsBusy, TellsCyclic, TellsNoted, TellsParts, TellsRoles, TellsUses};
+ghost use Rattle.judgement.specs.Tells.{TellsCyclic, TellsNoted, TellsRoles, TellsUses};
 
 use crate::ends::{all_ends, ends};
 use client_server_rule::RoleFault;
@@ -13,73 +12,71 @@ use csp_base::{Event, NoMemory};
 use csp_program::Program;
 use csp_tables::Shape;
 use cyclic_rule::CyclicFault;
-use fault_answers::{component_answer, event_texts};
 use network_layout::NotedFault;
-use network_shape::BusyFault;
-use network_tables::PartsFault;
-use report::{Answer, Refusal, Shortfall, Site, TableFault, event_text};
+use network_stages::event_texts;
+use report::{Refusal, Shortfall, Site, event_text};
 use resource_rule::ResourceFault;
 use std::alloc::Global;
 
-// The answer that tells how a component breaks its order.
-fn order_answer(
+// How a component breaks its order.
+fn order_shortfall(
     alloc: Global,
     program: &Program,
     component: u32,
     trace: &[Event],
     event: Event,
-) -> Result<Answer, NoMemory>
-    ensures { IfOk result (λ a. a ≡ answer.NotProved (shortfall.BreaksOrder component (texts program.now trace.now) (event_text program.now event))) }
+) -> Result<Shortfall, NoMemory>
+    ensures { IfOk result (λ told. told ≡ shortfall.BreaksOrder component (texts program.now trace.now) (event_text program.now event)) }
 {
     let trace = event_texts(alloc, program, trace)?;
     let event = event_text(alloc, program, event)?;
-    Ok(Answer::NotProved(Shortfall::BreaksOrder {
+    Ok(Shortfall::BreaksOrder {
         component,
         trace,
         event,
-    }))
+    })
 }
 
-// The answer that tells a link without a full end.
-fn ends_answer(
+// A link without a full end.
+fn ends_shortfall(
     alloc: Global,
     program: &Program,
     ends: (u32, u32),
     left: &[Event],
     right: &[Event],
-) -> Result<Answer, NoMemory>
-    ensures { IfOk result (λ a. a ≡ answer.NotProved (shortfall.NoFullEnd ends.0 ends.1 (texts program.now left.now) (texts program.now right.now))) }
+) -> Result<Shortfall, NoMemory>
+    ensures { IfOk result (λ told. told ≡ shortfall.NoFullEnd ends.0 ends.1 (texts program.now left.now) (texts program.now right.now)) }
 {
     let left_trace = event_texts(alloc, program, left)?;
     let right_trace = event_texts(alloc, program, right)?;
-    Ok(Answer::NotProved(Shortfall::NoFullEnd {
+    Ok(Shortfall::NoFullEnd {
         left: ends.0,
         right: ends.1,
         left_trace,
         right_trace,
-    }))
+    })
 }
 
-// The answer that tells what breaks the cyclic rule.
-pub(crate) fn cyclic_answer(
+// What breaks the cyclic rule.
+pub(crate) fn cyclic_shortfall(
     alloc: Global,
     program: &Program,
     shape: &Shape,
     fault: CyclicFault,
-) -> Result<Answer, NoMemory>
+) -> Result<Shortfall, NoMemory>
     ensures { IfOk result (TellsCyclic program.now shape.now fault) }
 {
     match fault {
         CyclicFault::NoMemory => Err(NoMemory),
         CyclicFault::NoOrder { part, trace, event } => {
-            order_answer(alloc, program, part, trace.as_slice(), event)
+            order_shortfall(alloc, program, part, trace.as_slice(), event)
         }
         CyclicFault::Circle { links } => {
             let links = all_ends(alloc, shape, links.as_slice())?;
-            Ok(Answer::NotProved(Shortfall::LinksCircle { links }))
+            Ok(Shortfall::LinksCircle { links })
         }
         CyclicFault::NoWholeEnd { link, left, right } => {
-            ends_answer(
+            ends_shortfall(
                 alloc,
                 program,
                 ends(shape, link),
@@ -90,25 +87,25 @@ pub(crate) fn cyclic_answer(
     }
 }
 
-// The answer that tells a component of which an annotated set has no value.
-pub(crate) fn noted_answer(fault: NotedFault) -> Result<Answer, NoMemory>
+// A component of which an annotated set has no value.
+pub(crate) fn noted_refusal(fault: NotedFault) -> Result<Refusal, NoMemory>
     ensures { IfOk result (TellsNoted fault) }
 {
     match fault {
         NotedFault::NoMemory => Err(NoMemory),
-        NotedFault::Value { part, kind } => Ok(Answer::Refused(Refusal::Value {
+        NotedFault::Value { part, kind } => Ok(Refusal::Value {
             kind,
             site: Site::Annotation(part),
-        })),
+        }),
     }
 }
 
-// The answer that tells what breaks the rule of clients and servers.
-pub(crate) fn role_answer(
+// What breaks the rule of clients and servers.
+pub(crate) fn role_shortfall(
     alloc: Global,
     program: &Program,
     fault: RoleFault,
-) -> Result<Answer, NoMemory>
+) -> Result<Shortfall, NoMemory>
     ensures { IfOk result (TellsRoles program.now fault) }
 {
     match fault {
@@ -119,24 +116,24 @@ pub(crate) fn role_answer(
             trace,
         } => {
             let trace = event_texts(alloc, program, trace.as_slice())?;
-            Ok(Answer::NotProved(Shortfall::BreaksRole {
+            Ok(Shortfall::BreaksRole {
                 condition,
                 component: part,
                 trace,
-            }))
+            })
         }
-        RoleFault::ClientsCircle { clients } => Ok(Answer::NotProved(Shortfall::ClientsCircle {
+        RoleFault::ClientsCircle { clients } => Ok(Shortfall::ClientsCircle {
             components: clients,
-        })),
+        }),
     }
 }
 
-// The answer that tells what breaks the rule of users and resources.
-pub(crate) fn use_answer(
+// What breaks the rule of users and resources.
+pub(crate) fn use_shortfall(
     alloc: Global,
     program: &Program,
     fault: ResourceFault,
-) -> Result<Answer, NoMemory>
+) -> Result<Shortfall, NoMemory>
     ensures { IfOk result (TellsUses program.now fault) }
 {
     match fault {
@@ -147,48 +144,16 @@ pub(crate) fn use_answer(
             trace,
         } => {
             let trace = event_texts(alloc, program, trace.as_slice())?;
-            Ok(Answer::NotProved(Shortfall::BreaksUse {
+            Ok(Shortfall::BreaksUse {
                 condition,
                 component: part,
                 trace,
-            }))
+            })
         }
         ResourceFault::ResourcesCircle { resources } => {
-            Ok(Answer::NotProved(Shortfall::ResourcesCircle {
+            Ok(Shortfall::ResourcesCircle {
                 components: resources,
-            }))
-        }
-    }
-}
-
-// The answer that tells that traces of a component lead to too many sets of terms.
-pub(crate) fn sets_answer(fault: PartsFault) -> Result<Answer, NoMemory>
-    ensures { IfOk result (TellsParts fault) }
-{
-    match fault {
-        PartsFault::NoMemory => Err(NoMemory),
-        PartsFault::SubsetLimit { part, found: _ } => {
-            Ok(component_answer(part, TableFault::SubsetLimit))
-        }
-    }
-}
-
-// The answer that tells that a component can stop.
-pub(crate) fn stop_answer(
-    alloc: Global,
-    program: &Program,
-    fault: BusyFault,
-) -> Result<Answer, NoMemory>
-    ensures { IfOk result (TellsBusy program.now fault) }
-{
-    match fault {
-        BusyFault::NoMemory => Err(NoMemory),
-        BusyFault::Stops { part, trace } => {
-            let trace = event_texts(alloc, program, trace.as_slice())?;
-            Ok(Answer::NotProved(Shortfall::Stops {
-                component: part,
-                trace,
-            }))
+            })
         }
     }
 }

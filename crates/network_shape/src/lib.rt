@@ -9,8 +9,9 @@ mod rows;
 mod shaping;
 mod stops;
 
-pub use fault::{BusyFault, PartFault};
+pub use fault::BusyFault;
 pub use laws::{made_parts_make_shapes, stops_are_true, stops_refute};
+pub use normal_form::NormFault;
 pub use parts::part;
 pub use shaping::shape;
 pub use stops::busy;

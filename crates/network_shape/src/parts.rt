@@ -8,7 +8,6 @@ ghost use Rattle.determinise.specs.ManySets.{ReachesSets};
 ghost use Rattle.digraph.specs.Walk.{AreHeights};
 ghost use Rattle.network_shape.specs.Parts.{HasEventsWithin, IsWellFormedPart};
 
-use crate::fault::PartFault;
 use csp_base::EventSet;
 use csp_tables::{Part, RawTable};
 use normal_form::{NormFault, normalise};
@@ -24,7 +23,7 @@ pub fn part(
     alphabet: EventSet,
     table: &RawTable,
     heights: &Heights,
-) -> Result<Part, PartFault>
+) -> Result<Part, NormFault>
     requires heights { AreHeights (SilentStep (RawStep table.now)) table.now.count heights.now }
     requires few { table.now.count ≤ 16384 }
     requires events { HasEventsWithin table.now alphabet }
@@ -34,11 +33,8 @@ pub fn part(
 
     // It succeeds only where no more sets are reached, and the limit is told only where they are.
     ensures within_limit { OnOk result (ReachesSets (RawStep table.now) 0 2049 → ⊥) }
-    ensures limit { (found : ℕ) → result ≡ Err (PartFault.SubsetLimit found) → (found ≡ 2049) × ReachesSets (RawStep table.now) 0 2049 }
+    ensures limit { (found : ℕ) → result ≡ Err (NormFault.SubsetLimit found) → (found ≡ 2049) × ReachesSets (RawStep table.now) 0 2049 }
 {
-    match normalise(alloc, table, heights) {
-        Ok(made) => Ok(Part::new(alphabet, made)),
-        Err(NormFault::NoMemory) => Err(PartFault::NoMemory),
-        Err(NormFault::SubsetLimit { found }) => Err(PartFault::SubsetLimit { found }),
-    }
+    let made = normalise(alloc, table, heights)?;
+    Ok(Part::new(alphabet, made))
 }

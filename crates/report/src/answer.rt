@@ -333,18 +333,8 @@ impl Drop for PrintedNode {
     }
 }
 
-/// The answer to the words of a command line, with the values that its report prints.
-pub enum Answer {
-    /// The words are no command.
-    Usage,
-    /// The shelf holds no script of the name.
-    ScriptNotFound,
-    /// The script could not be read.
-    ScriptNotRead,
-    /// The script is refused.
-    Refused(Refusal),
-    /// The network is not proved.
-    NotProved(Shortfall),
+/// What a walk did that came to its end.
+pub enum Done {
     /// The script is shown.
     Shown {
         /// Its printed text.
@@ -375,27 +365,58 @@ pub enum Answer {
 }
 
 // By hand, so that a crate that ends one calls this and proves no end of its own.
-impl Drop for Answer {
+impl Drop for Done {
     fn drop(self) {
         match self {
-            Answer::Usage => {}
-            Answer::ScriptNotFound => {}
-            Answer::ScriptNotRead => {}
-            Answer::Refused(_first) => {}
-            Answer::NotProved(_first) => {}
-            Answer::Shown { text: _text } => {}
-            Answer::Table {
+            Done::Shown { text: _text } => {}
+            Done::Table {
                 component: _component,
                 count: _count,
                 nodes: _nodes,
             } => {}
-            Answer::DeadlockFree {
+            Done::DeadlockFree {
                 rule: _rule,
                 components: _components,
                 nodes: _nodes,
                 bound: _bound,
                 greatest_rank: _greatest_rank,
             } => {}
+        }
+    }
+}
+
+/// A fault of the shelf.
+#[derive(Clone, Copy)]
+pub enum OutsideFault {
+    /// It holds no script of the name.
+    ScriptNotFound,
+    /// The script could not be read.
+    ScriptNotRead,
+}
+
+/// The answer to the words of a command line, with the values that its report prints.
+pub enum Answer {
+    /// The words are no command.
+    Usage,
+    /// A script could not be had.
+    Outside(OutsideFault),
+    /// The script is refused.
+    Refused(Refusal),
+    /// The network is not proved.
+    NotProved(Shortfall),
+    /// What was asked for is done.
+    Done(Done),
+}
+
+// By hand, so that a crate that ends one calls this and proves no end of its own.
+impl Drop for Answer {
+    fn drop(self) {
+        match self {
+            Answer::Usage => {}
+            Answer::Outside(_first) => {}
+            Answer::Refused(_first) => {}
+            Answer::NotProved(_first) => {}
+            Answer::Done(_first) => {}
         }
     }
 }

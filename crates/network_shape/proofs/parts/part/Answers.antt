@@ -6,12 +6,12 @@ use Rattle.network_shape.specs.Parts.{IsWellFormedPart}
 use Rattle.network_shape.proofs.FormOfTables.{well_formed_part, with_more}
 use Rattle.network_shape.proofs.parts.part.Goals as goal
 
-pub returns-in-Ok-clause-normal : goal.returns-in-Ok-clause-normal
-returns-in-Ok-clause-normal c =
+pub returns-clause-normal : goal.returns-clause-normal
+returns-clause-normal c =
     subst (λ (p : Part). IsNormalTable (RawStep c.args.table.now) 0 16384 p.table) (sym c.new.ensures)
-    (with_more c.args.table.now c.args.alphabet c.requires.events c.args.table.now.count c.in-Ok.made c.in-Ok.ensures.normal 16384 c.requires.few)
+    (with_more c.args.table.now c.args.alphabet c.requires.events c.args.table.now.count c.in_ok-made.made c.in_ok-made.ensures.normal 16384 c.requires.few)
 
-pub returns-in-Ok-clause-form : goal.returns-in-Ok-clause-form
-returns-in-Ok-clause-form c =
+pub returns-clause-form : goal.returns-clause-form
+returns-clause-form c =
     subst IsWellFormedPart (sym c.new.ensures)
-    (well_formed_part c.args.table.now c.args.alphabet c.requires.events c.args.table.now.count c.in-Ok.made c.in-Ok.ensures.normal c.requires.few c.in-Ok.ensures.few)
+    (well_formed_part c.args.table.now c.args.alphabet c.requires.events c.args.table.now.count c.in_ok-made.made c.in_ok-made.ensures.normal c.requires.few c.in_ok-made.ensures.few)
