@@ -1,5 +1,5 @@
 -- What was read of a text decides what the text calls for, and with which status.
-use Rattle.std.proofs.Common.{◌≡◌, ℕ, List, Result, Ok, Err, IfOk, refl, sym, ap, subst, ◌∙◌}
+use Rattle.std.proofs.Common.{◌≡◌, ℕ, List, Result, Ok, Err, IfOk, refl, sym, ap, ◌∙◌}
 use Rattle.csp_text.specs.declared.script.Script.{Script}
 use Rattle.csp_parser.specs.Fault.{IfNoScript}
 use Rattle.csp_parser.specs.declared.fault.ParseFault.{ParseFault}
@@ -8,7 +8,6 @@ use Rattle.csp_parser.specs.Places.{IsPlaceOf}
 use Rattle.csp_parser.specs.Spells.{EachTextSpellsOneScript, Spells}
 use Rattle.command_words.specs.declared.request.Job.{Job}
 use Rattle.command_words.specs.declared.request.Job.TheVariants.{Check, Show, Table}
-use Rattle.csp_tables.specs.declared.rule.Rule.{Rule}
 use Rattle.judgement.proofs.Cases.{judged_cases}
 use Rattle.report.proofs.Points.{refused_or}
 use Rattle.report.specs.Points.Point.{passed, told}

@@ -12,7 +12,6 @@ use Rattle.dl_outside.specs.declared.shelf.LoadFault.TheVariants.{Missing, TooLo
 use Rattle.dl_outside.specs.declared.texts.NamedText.{NamedText}
 use Rattle.dl_outside.specs.Load.{AnswersTold}
 use Rattle.dl_outside.specs.Texts.{text_of}
-use Rattle.report.specs.Points.{Point}
 use Rattle.report.specs.Points.Point.{passed, told}
 use Rattle.report.specs.Report.{status}
 use Rattle.report.specs.declared.answer.Answer.{Answer}

@@ -1,5 +1,5 @@
 -- What is printed of a reply, and how a call ends that sends it.
-use Rattle.std.proofs.Common.{◌≡◌, ◌⊎◌, ℕ, List, Option, None, Some, Result, Ok, Err, IfOk, IfSome, inl, inr, refl, sym, ◌∙◌, ap, subst}
+use Rattle.std.proofs.Common.{◌≡◌, ℕ, List, Option, None, Some, Result, Ok, Err, IfOk, IfSome, inl, inr, refl, sym, ◌∙◌, subst}
 use Rattle.dl_outside.specs.Write.{GrowsBy}
 use Rattle.dl_outside.specs.declared.shelf.LoadFault.{LoadFault}
 use Rattle.dl_outside.specs.declared.texts.NamedText.{NamedText}

@@ -10,7 +10,7 @@ use Rattle.csp_text.specs.declared.script.Script.{Script}
 use Rattle.dl_outside.specs.declared.texts.NamedText.{NamedText}
 use Rattle.dl_outside.specs.Write.{GrowsBy}
 use Rattle.free_answers.specs.Counts.{greatest_rank, node_count}
-use Rattle.judgement.proofs.Cases.{IsJudgedFree, judged_cases}
+use Rattle.judgement.proofs.Cases.{judged_cases}
 use Rattle.judgement.proofs.OneNetwork.{one_network}
 use Rattle.judgement.specs.Judged.{IsJudged}
 use Rattle.network_stages.specs.Networks.{IsNetworkOf, Network}
@@ -24,11 +24,10 @@ use Rattle.report.specs.declared.answer.Done.TheVariants.{Shown}
 use Rattle.report.specs.declared.answer.Refusal.{Refusal}
 use Rattle.script_printer.specs.PrintedScript.{script_text}
 use Rattle.tabulation.proofs.Status.{tabulated_cases}
-use Rattle.tabulation.specs.Tabulated.{IsTabulated}
 use Rattle.tabulation.specs.Whole.{IsTabulatedWhole}
-use Rattle.dl_top.proofs.Loading.{Held, held_script, only}
+use Rattle.dl_top.proofs.Loading.{held_script, only}
 use Rattle.dl_top.specs.Cause.{MayGive, ShelfSigns, loads}
-use Rattle.dl_top.specs.Judgement.{ScriptDecides, SpellsOnlyScript, TextCallsFor}
+use Rattle.dl_top.specs.Judgement.{SpellsOnlyScript, TextCallsFor}
 use Rattle.dl_top.specs.Printing.{Prints}
 use Rattle.dl_top.specs.Proved.{IsProved, IsShown, IsTold, IsTried, SpellsDeadlockFree, SpellsOnlyNetwork}
 use Rattle.dl_top.specs.Reply.{heading_text, reply_status, reply_text, rule_of, trial_text}

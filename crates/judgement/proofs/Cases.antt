@@ -1,5 +1,4 @@
 -- A judgement is refused, or falls short, or the network is free of deadlock.
-use Rattle.std.proofs.Common.{◌≡◌}
 use Rattle.csp_tables.specs.Ranking.{Ranking}
 use Rattle.csp_tables.specs.Shape.{Shape}
 use Rattle.csp_tables.specs.declared.rule.Rule.{Rule}

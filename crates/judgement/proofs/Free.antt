@@ -4,7 +4,7 @@ use Rattle.csp_program.specs.Outcome.{Outcome, and_then}
 use Rattle.csp_program.specs.declared.processes.Proc.{Proc}
 use Rattle.csp_program.specs.declared.programs.Content.{Content}
 use Rattle.csp_tables.specs.Label.{Label}
-use Rattle.csp_tables.specs.Network.{Component, NetworkStep, leaves}
+use Rattle.csp_tables.specs.Network.{Component, NetworkStep}
 use Rattle.csp_tables.specs.Live.{Live}
 use Rattle.csp_tables.specs.Part.{Part, TripleDisjoint}
 use Rattle.csp_tables.specs.Ranking.{Ranking}

@@ -1,5 +1,5 @@
 -- The walk of a judgement: what it answers at each of its exits.
-use Rattle.std.proofs.Common.{◌≡◌, ℕ, List, Result, Ok, Err, Some, refl, sym, ap, subst, ◌∙◌}
+use Rattle.std.proofs.Common.{◌≡◌, List, Result, Ok, ap, subst}
 use Rattle.std.specs.Result.{IsErrAnd}
 use Rattle.csp_program.specs.declared.processes.Proc.{Proc}
 use Rattle.csp_program.specs.declared.programs.Content.{Content}
@@ -24,7 +24,6 @@ use Rattle.network_tables.specs.declared.component_tables.ComponentTable.{Compon
 use Rattle.network_trees.specs.NetworkOf.{network_of}
 use Rattle.process_steps.specs.ComponentStep.{ProcessStep}
 use Rattle.report.proofs.Points.{goes_on}
-use Rattle.report.specs.Points.{RefusedOr, UnprovedOr}
 use Rattle.report.specs.Stops.{Answers, Tells, refused, unproved}
 use Rattle.report.specs.declared.answer.Answer.{Answer}
 use Rattle.report.specs.declared.answer.Answer.TheVariants as answer

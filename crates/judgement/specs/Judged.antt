@@ -1,6 +1,6 @@
 -- The answer to a script that is judged by a rule: the points at which it is refused or not proved, in their order, and then that its network is free
 -- of deadlock.
-use Rattle.std.specs.Prelude.{◌≡◌, ℕ, List, length}
+use Rattle.std.specs.Prelude.{◌≡◌, ℕ, length}
 use Rattle.csp_tables.specs.Network.{leaves}
 use Rattle.csp_tables.specs.Part.{TripleDisjoint}
 use Rattle.csp_tables.specs.Ranking.{Ranking}

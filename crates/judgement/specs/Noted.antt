@@ -1,5 +1,5 @@
 -- A rule with what a script notes for it of each component: what it comes to over the shape of a network.
-use Rattle.std.specs.Prelude.{◌≡◌, ℕ, Ok, List, length}
+use Rattle.std.specs.Prelude.{◌≡◌, Ok, List, length}
 use Rattle.client_server_conditions.specs.Told.{Tells as TellsOfRoles}
 use Rattle.client_server_conditions.specs.declared.fault.RoleFault.{RoleFault}
 use Rattle.csp_program.specs.declared.processes.Proc.{Proc}

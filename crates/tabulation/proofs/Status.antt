@@ -1,5 +1,5 @@
 -- A tabulation is refused, or the table is shown.
-use Rattle.std.proofs.Common.{◌≡◌, ℕ}
+use Rattle.std.proofs.Common.{ℕ}
 use Rattle.csp_text.specs.declared.script.Script.{Script}
 use Rattle.report.proofs.Points.{refused_or}
 use Rattle.report.specs.declared.answer.Answer.{Answer}

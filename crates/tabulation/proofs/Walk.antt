@@ -1,5 +1,5 @@
 -- The walk to a table: what it answers at each of its exits.
-use Rattle.std.proofs.Common.{◌≡◌, ◌<◌, ℕ, List, [], ◌∷◌, get_or, Result, Some, length, map, slice_get, refl, sym, ap, subst, ◌∙◌, arith}
+use Rattle.std.proofs.Common.{◌≡◌, ℕ, List, [], ◌∷◌, get_or, Result, Some, length, map, slice_get, sym, ap, subst, ◌∙◌, arith}
 use Rattle.std.specs.Result.{IsErrAnd}
 use Rattle.csp_program.specs.declared.processes.Proc.{Proc}
 use Rattle.csp_program.specs.declared.programs.Content.{Content}
@@ -16,7 +16,6 @@ use Rattle.network_tables.specs.Tables.{AreTablesOf}
 use Rattle.network_tables.specs.declared.component_tables.ComponentTable.{ComponentTable}
 use Rattle.report.proofs.Points.{goes_on}
 use Rattle.report.specs.Points.{RefusedOr}
-use Rattle.report.specs.Points.Point.{passed}
 use Rattle.report.specs.Stops.{Answers, Tells, refused}
 use Rattle.report.specs.declared.answer.Answer.{Answer}
 use Rattle.report.specs.declared.answer.Answer.TheVariants as answer
@@ -27,7 +26,6 @@ use Rattle.report.specs.declared.answer.Refusal.{Refusal}
 use Rattle.report.specs.declared.stop.Stop.{Stop}
 use Rattle.tabulation.specs.Printed.{printed_node}
 use Rattle.tabulation.specs.Tabulated.{ComponentIsTabulated, HasNoComponent, IsTable, IsTabulated}
-use Rattle.std.proofs.lemmas.List.{get_or_read}
 
 -- the only part of a list
 pub only_part : (parts : List Part) (part : Part) → 1 ≡ length parts → part ≡ get_or parts 0 part → parts ≡ part ∷ []

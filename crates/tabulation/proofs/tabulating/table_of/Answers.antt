@@ -1,4 +1,4 @@
-use Rattle.std.proofs.Common.{Ok, ap, length, arith, sym, ◌∙◌}
+use Rattle.std.proofs.Common.{Ok, ap, length, sym, ◌∙◌}
 use Rattle.tabulation.proofs.Walk.{at_end, at_network, at_parts, at_seat, at_tables, is_table, only_part, tables_here}
 use Rattle.network_stages.proofs.Exits.{at_want}
 use Rattle.report.specs.declared.answer.Done.TheVariants as done
