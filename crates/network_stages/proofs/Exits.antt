@@ -1,5 +1,5 @@
 -- What a walk answers that stops at a `?`: a step told why it stops, or memory ran out.
-use Rattle.std.proofs.Common.{◌≡◌, Result, Ok, Err, subst, sym}
+use Rattle.std.proofs.Common.{◌≡◌, Result, subst, sym}
 use Rattle.std.specs.Result.{IsErrAnd}
 use Rattle.std.proofs.lemmas.Result.{err_from_is_err_and}
 use Rattle.report.proofs.Points.{falls_short, refuses}

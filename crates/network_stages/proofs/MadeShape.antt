@@ -1,8 +1,8 @@
 -- The shape that parts make is the network's.
-use Rattle.std.proofs.Common.{◌≡◌, List, length, map, refl, sym, ap, subst, ◌∙◌}
+use Rattle.std.proofs.Common.{◌≡◌, List, sym, subst}
 use Rattle.csp_program.specs.declared.processes.Proc.{Proc}
 use Rattle.csp_program.specs.declared.programs.Content.{Content}
-use Rattle.csp_tables.specs.Network.{Component, leaves}
+use Rattle.csp_tables.specs.Network.{Component}
 use Rattle.csp_tables.specs.Part.{Part, TripleDisjoint, alphabets_of}
 use Rattle.csp_tables.specs.Shape.{IsWellFormed, Shape}
 use Rattle.csp_tables.specs.ShapeOf.{IsShapeOf}

@@ -1,4 +1,4 @@
-use Rattle.std.proofs.Common.{◌≡◌, ◌≤◌, List, length, sym, subst, arith}
+use Rattle.std.proofs.Common.{◌≤◌, List, sym, subst}
 use Rattle.csp_program.specs.declared.processes.Proc.{Proc}
 use Rattle.csp_tables.specs.Network.{Component}
 use Rattle.csp_tables.specs.Part.{Part, TripleDisjoint, alphabets_of}
