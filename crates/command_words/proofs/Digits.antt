@@ -1,14 +1,18 @@
 -- Digits that are read from the left.
-use Rattle.std.proofs.Common.{◌≡◌, ℕ, zero, suc, ◌+◌, ◌-◌, ◌*◌, ◌^◌, ◌<◌, ◌≤◌, List, ◌∷◌, length, get_or, refl, sym, ap, ◌∙◌, arith}
+use Rattle.std.proofs.Common.{◌≡◌, ℕ, zero, suc, ◌+◌, ◌-◌, ◌*◌, ◌^◌, ◌<◌, ◌≤◌, List, [], ◌∷◌, length, get_or, refl, sym, ap, ◌∙◌, arith}
 use Rattle.std.specs.Fmt.{decimal}
 use Rattle.std.specs.Int.{IsInRange}
 use Rattle.std.proofs.lemmas.Fmt.{decimal-digits_value, digits_decimal, digits_value-decimal, first_decimal, decimal_nonempty, length-decimal-le, decimal_digit}
 use Rattle.std.proofs.lemmas.Str.Parse.{FoldsDigits, IsNumeralModel, digits_value_short, numerals_by_fold, tells_by_index}
-use Rattle.csp_lexer.specs.Tokens.{continued}
-use Rattle.command_words.specs.Numerals.{IsShortNumeral, numeral_value}
+use Rattle.command_words.specs.Numerals.{IsShortNumeral, continued, numeral_value}
 
 abbrev AreDigits : List ℕ → Type 0
 AreDigits ds = (i : ℕ) → i < length ds → IsInRange 48 57 (get_or ds i 0)
+
+-- digits never make a number smaller
+pub continued_grows : (n : ℕ) (digits : List ℕ) → n ≤ continued n digits
+continued_grows n [] = omega arith
+continued_grows n (d ∷ digits) = let more = continued_grows (n * 10 + (d - 48)) digits in omega arith
 
 folds : FoldsDigits continued
 folds = record { empty = λ n. refl; more = λ n c cs h. refl }

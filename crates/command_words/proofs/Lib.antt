@@ -1,2 +1,4 @@
+pub mod AskOnce
 pub mod Digits
 pub mod Items
+pub mod Names

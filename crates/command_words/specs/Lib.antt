@@ -1,3 +1,3 @@
-pub mod Command
 pub mod Named
 pub mod Numerals
+pub mod Request

@@ -1,7 +1,11 @@
 -- Numbers as one to six decimal digits. (For private contracts: no public one cites this.)
-use Rattle.std.specs.Prelude.{◌≡◌, ◌<◌, ◌≤◌, ℕ, List, EachIndex, length, slice_index}
+use Rattle.std.specs.Prelude.{◌≡◌, ◌+◌, ◌-◌, ◌*◌, ◌<◌, ◌≤◌, ℕ, List, [], ◌∷◌, EachIndex, length, slice_index}
 use Rattle.std.specs.Int.{IsInRange}
-use Rattle.csp_lexer.specs.Tokens.{continued}
+
+-- the number that n becomes where these digits follow its own
+abbrev pub continued : ℕ → List ℕ → ℕ
+continued n [] = n
+continued n (digit ∷ digits) = continued (n * 10 + (digit - 48)) digits
 
 -- the number that the digits are
 abbrev pub numeral_value : List ℕ → ℕ

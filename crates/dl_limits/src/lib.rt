@@ -38,7 +38,7 @@ pub const MOST_TERMS: usize = 16_384;
 pub const MOST_TERM_DEPTH: u32 = 800;
 
 /// The most nodes of all terms that the components of a network reach, added up (10).
-pub const MOST_NODES: u64 = 8_388_608;
+pub const MOST_NODES: u32 = 8_388_608;
 
 /// The most steps of all terms that the components of a network reach (11).
 pub const MOST_STEPS: u32 = 1_048_576;

@@ -1,147 +1,94 @@
--- Status 0 has one cause under each command: the text spells exactly one network, which is free of deadlock; or exactly one script, which is shown; or
+-- Status 0 has one cause under each request: the text spells exactly one network, which is free of deadlock; or exactly one script, which is shown; or
 -- the table of a component of exactly one network.
-use Rattle.std.proofs.Common.{◌≡◌, ℕ, List, ◌++◌, Option, None, Some, IfSome, inl, inr, sym, ◌∙◌, ap, subst}
-use Rattle.command_words.specs.Command.{AsksForCheck, AsksForShow, AsksForSomeTrial, AsksForTable}
-use Rattle.command_words.specs.declared.command.Command.TheVariants.{Check, Show, Table}
-use Rattle.command_words.specs.declared.command.Trial.{Trial}
+use Rattle.std.proofs.Common.{◌≡◌, ℕ, List, ◌++◌, Option, None, Some, IfSome, sym, ◌∙◌, ap, subst}
+use Rattle.command_words.specs.Request.{AsksForCheck, AsksForShow, AsksForTable, AsksForTrial}
+use Rattle.command_words.specs.declared.request.Job.TheVariants.{Check, Show, Table}
+use Rattle.command_words.specs.declared.request.Request.TheVariants as request
+use Rattle.command_words.specs.declared.request.Trial.{Trial}
 use Rattle.csp_tables.specs.declared.rule.Rule.{Rule}
 use Rattle.csp_text.specs.declared.script.Script.{Script}
 use Rattle.dl_outside.specs.declared.texts.NamedText.{NamedText}
 use Rattle.dl_outside.specs.Write.{GrowsBy}
+use Rattle.free_answers.specs.Counts.{greatest_rank, node_count}
+use Rattle.judgement.proofs.Cases.{judged_cases}
 use Rattle.judgement.proofs.OneNetwork.{one_network}
-use Rattle.judgement.proofs.Status.{IsJudgedFree, judged_status}
 use Rattle.judgement.specs.Judged.{IsJudged}
-use Rattle.judgement.specs.Networks.{IsNetworkOf, Network}
+use Rattle.network_stages.specs.Networks.{IsNetworkOf, Network}
 use Rattle.print_laws.specs.Laws.{PrintedTextSpellsNoOther, PrintedTextSpellsTheScript}
+use Rattle.report.proofs.Points.{refused_or}
+use Rattle.report.specs.Points.{RefusedOr}
 use Rattle.report.specs.Report.{report_text, status}
 use Rattle.report.specs.declared.answer.Answer.{Answer}
-use Rattle.report.specs.declared.answer.Answer.TheVariants.{Refused, ScriptNotFound, ScriptNotRead, Shown, Usage}
-use Rattle.report.specs.declared.answer.Refusal.TheVariants.{NoScript, ScriptTooLong}
+use Rattle.report.specs.declared.answer.Answer.TheVariants as answer
+use Rattle.report.specs.declared.answer.Done.TheVariants.{Shown}
+use Rattle.report.specs.declared.answer.Refusal.{Refusal}
 use Rattle.script_printer.specs.PrintedScript.{script_text}
-use Rattle.tabulation.specs.Tabulated.{IsTabulated}
+use Rattle.tabulation.proofs.Status.{tabulated_cases}
 use Rattle.tabulation.specs.Whole.{IsTabulatedWhole}
-use Rattle.tabulation.proofs.Status.{tabulated_status}
-use Rattle.dl_top.proofs.OneCommand.{check_or_show, check_or_table, command_or_trial, show_or_table}
-use Rattle.dl_top.specs.Cause.{CallsFor, MayGive, NamedCallsFor, ScriptCallsFor, ShelfSigns, TrialCallsFor}
+use Rattle.dl_top.proofs.Loading.{held_script, only}
+use Rattle.dl_top.specs.Cause.{MayGive, ShelfSigns, loads}
 use Rattle.dl_top.specs.Judgement.{SpellsOnlyScript, TextCallsFor}
+use Rattle.dl_top.specs.Printing.{Prints}
 use Rattle.dl_top.specs.Proved.{IsProved, IsShown, IsTold, IsTried, SpellsDeadlockFree, SpellsOnlyNetwork}
-use Rattle.dl_top.specs.Reply.{heading_text, plain, reply_status, reply_text, rule_of, trial_text}
+use Rattle.dl_top.specs.Reply.{heading_text, reply_status, reply_text, rule_of, trial_text}
+use Rattle.dl_top.specs.declared.reply.Printed.{Printed}
 use Rattle.dl_top.specs.declared.reply.Reply.{Reply}
 
--- the status of the answer x isn't 0
-not_zero : (answer x : Answer) → answer ≡ x → status answer ≡ 0 → (status x ≡ 0 → ⊥) → ⊥
-not_zero answer x is zero never = never (sym (ap status is) ∙ zero)
+-- a property of answers with status 0
+abbrev IfZero : (Answer → Type 0) → Answer → Type 0
+IfZero P a = status a ≡ 0 → P a
 
-not_zero_reply : (reply : Reply) (x : Answer) → reply ≡ plain x → reply_status reply ≡ 0 → (status x ≡ 0 → ⊥) → ⊥
-not_zero_reply reply x is zero never = not_zero reply.answer x (ap (λ (r : Reply). r.answer) is) zero never
+refused : (P : Answer → Type 0) (r : Refusal) → IfZero P (answer.Refused r)
+refused P r zero = absurd (let no : 2 ≡ 0 = zero in cc)
 
--- the report of a reply that is of no trial
-plain_report : (reply : Reply) (old new : Option (List ℕ)) → reply.trial ≡ None → GrowsBy old new (reply_text reply) → GrowsBy old new (report_text reply.answer)
-plain_report reply old new is grew = subst (λ (trial : Option Trial). GrowsBy old new (heading_text trial ++ report_text reply.answer)) is grew
-
--- a judgement with status 0
-judged_free : (script : Script) (rule : Rule) (answer : Answer) → IsJudged script rule answer → status answer ≡ 0 → IsJudgedFree script rule answer
-judged_free script rule answer judged zero =
-    elim (judged_status script rule answer judged) as (λ _. IsJudgedFree script rule answer) [
-      | inl one ↦ absurd (let clash : 1 ≡ 0 = sym one ∙ zero in cc)
-      | inr (inl two) ↦ absurd (let clash : 2 ≡ 0 = sym two ∙ zero in cc)
-      | inr (inr free) ↦ free
-    ]
+-- the script of a text that decides with status 0
+deciding : (text : List ℕ) (P : Answer → Type 0) (Decides : Script → Answer → Type 0) (Fails : Refusal → Type 0) → ((s : Script) (a : Answer) → SpellsOnlyScript text s → Decides s a → status a ≡ 0 → P a)
+    → (a : Answer) → RefusedOr Fails (SpellsOnlyScript text) Decides a → status a ≡ 0 → P a
+deciding text P Decides Fails is a calls = refused_or Fails (SpellsOnlyScript text) Decides (IfZero P) (refused P) (λ s b spells decides. is s b spells decides) a calls
 
 -- the network of the only script that a text spells is the only one
 only_network : (text : List ℕ) (script : Script) (network : Network) → SpellsOnlyScript text script → IsNetworkOf script network → SpellsOnlyNetwork text network
-only_network text script network only is = record {
-  spelled = record { script = script; spelled = only.spelled; is = is };
-  only = λ other spells.
-      one_network script other network (subst (λ (s : Script). IsNetworkOf s other) (only.only spells.script spells.spelled) spells.is) is;
+only_network text script network spells is = record {
+  spelled = record { script = script; spelled = spells.spelled; is = is };
+  only = λ other spells'.
+      one_network script other network (subst (λ (s : Script). IsNetworkOf s other) (spells.only spells'.script spells'.spelled) spells'.is) is;
 }
 
-text_free : (text : List ℕ) (rule : Rule) (answer : Answer) → TextCallsFor text (Check rule) answer → status answer ≡ 0 → SpellsDeadlockFree text rule (report_text answer)
-text_free text rule answer (inl none) zero = absurd (not_zero answer (Refused (NoScript none.0)) none.3 zero (λ e. cc))
-text_free text rule answer (inr (script, only, judged)) zero =
-    let free = judged_free script rule answer judged zero in
-    record {
+judged_free : (text : List ℕ) (rule : Rule) (script : Script) (a : Answer) → SpellsOnlyScript text script → IsJudged script rule a → status a ≡ 0 → SpellsDeadlockFree text rule (report_text a)
+judged_free text rule script a spells judged =
+    judged_cases script rule (IfZero (λ b. SpellsDeadlockFree text rule (report_text b))) (refused (λ b. SpellsDeadlockFree text rule (report_text b))) (λ s zero. absurd (let no : 1 ≡ 0 = zero in cc)) (λ b free zero. record {
       network = free.network;
-      spells = only_network text script free.network only free.spelled;
-      bound = free.bound;
-      live = free.live;
-      exact = free.exact;
-      nodes = free.nodes;
-      greatest_rank = free.rank;
-      is = ap report_text free.is;
-    }
+      spells = only_network text script free.network spells free.spelled;
+      bound = free.free.bound;
+      live = free.free.live;
+      exact = free.free.exact;
+      nodes = node_count free.shape.parts;
+      greatest_rank = greatest_rank free.ranking;
+      is = ap report_text free.free.is;
+    }) a judged
 
-script_free : (text : List ℕ) (rule : Rule) (answer : Answer) → ScriptCallsFor text (Check rule) answer → status answer ≡ 0 → SpellsDeadlockFree text rule (report_text answer)
-script_free text rule answer (inl long) zero = absurd (not_zero answer (Refused ScriptTooLong) long.1 zero (λ e. cc))
-script_free text rule answer (inr (short, calls)) zero = text_free text rule answer calls zero
+text_free : (text : List ℕ) (rule : Rule) (a : Answer) → TextCallsFor text (Check rule) a → status a ≡ 0 → SpellsDeadlockFree text rule (report_text a)
+text_free text rule a calls = deciding text (λ b. SpellsDeadlockFree text rule (report_text b)) _ _ (λ s b spells judged. judged_free text rule s b spells judged) a calls
 
--- what a text that is shown with status 0 calls for
-text_shown : (text : List ℕ) (answer : Answer) → ScriptCallsFor text Show answer → status answer ≡ 0
-    → (script : Script) × SpellsOnlyScript text script × (answer ≡ Shown (script_text script))
-text_shown text answer (inl long) zero = absurd (not_zero answer (Refused ScriptTooLong) long.1 zero (λ e. cc))
-text_shown text answer (inr (short, inl nothing)) zero = absurd (not_zero answer (Refused (NoScript nothing.0)) nothing.3 zero (λ e. cc))
-text_shown text answer (inr (short, inr shown)) zero = shown
+-- a script that is shown
+record IsShownBy (text : List ℕ) (a : Answer) : Type 0 where
+  script : Script
+  spells : SpellsOnlyScript text script
+  is : a ≡ answer.Done (Shown (script_text script))
 
--- what a text calls for of which a table is printed with status 0
-tabulated_whole : (script : Script) (i : ℕ) (answer : Answer) → IsTabulated script i answer → status answer ≡ 0 → IsTabulatedWhole script i answer
-tabulated_whole script i answer tabulated zero =
-    elim (tabulated_status script i answer tabulated) as (λ _. IsTabulatedWhole script i answer) [
-      | inl two ↦ absurd (let clash : 2 ≡ 0 = sym two ∙ zero in cc)
-      | inr whole ↦ whole
-    ]
+text_shown : (text : List ℕ) (a : Answer) → TextCallsFor text Show a → status a ≡ 0 → IsShownBy text a
+text_shown text a calls = deciding text (IsShownBy text) _ _ (λ s b spells is zero. record { script = s; spells = spells; is = is }) a calls
 
-text_told : (text : List ℕ) (i : ℕ) (answer : Answer) → ScriptCallsFor text (Table i) answer → status answer ≡ 0
-    → (script : Script) × SpellsOnlyScript text script × IsTabulatedWhole script i answer
-text_told text i answer (inl long) zero = absurd (not_zero answer (Refused ScriptTooLong) long.1 zero (λ e. cc))
-text_told text i answer (inr (short, inl nothing)) zero = absurd (not_zero answer (Refused (NoScript nothing.0)) nothing.3 zero (λ e. cc))
-text_told text i answer (inr (short, inr (script, only, tabulated))) zero = (script, only, tabulated_whole script i answer tabulated zero)
+-- a table that is shown
+record IsToldBy (text : List ℕ) (i : ℕ) (a : Answer) : Type 0 where
+  script : Script
+  spells : SpellsOnlyScript text script
+  whole : IsTabulatedWhole script i a
 
-module _ (texts : List NamedText) (words : List (List ℕ)) (old new : Option (List ℕ)) where
-  named_proved : (answer : Answer) → AsksForCheck words → NamedCallsFor texts words answer → status answer ≡ 0 → GrowsBy old new (report_text answer) → IsProved texts words old new
-  named_proved answer check (command, name, asks, inl missing) zero grew = absurd (not_zero answer ScriptNotFound missing.1 zero (λ e. cc))
-  named_proved answer check (Show, name, asks, inr (text, held, calls)) zero grew = absurd (check_or_show words check.0 check.1 name check.2 asks)
-  named_proved answer check (Table i, name, asks, inr (text, held, calls)) zero grew = absurd (check_or_table words check.0 i check.1 name check.2 asks)
-  named_proved answer check (Check rule, name, asks, inr (text, held, calls)) zero grew = record {
-    rule = rule;
-    name = name;
-    asked = asks;
-    text = text;
-    held = held;
-    report = report_text answer;
-    free = script_free text rule answer calls zero;
-    printed = grew;
-  }
-
-  called_proved : (reply : Reply) → AsksForCheck words → CallsFor texts words reply → reply_status reply ≡ 0 → GrowsBy old new (reply_text reply) → IsProved texts words old new
-  called_proved reply check (inl none) zero grew = absurd (not_zero_reply reply Usage none.1 zero (λ e. cc))
-  called_proved reply check (inr (inl trial)) zero grew = absurd (command_or_trial words (Check check.0) check.1 trial.trial check.2 trial.asked)
-  called_proved reply check (inr (inr (is, calls))) zero grew = named_proved reply.answer check calls zero (plain_report reply old new is grew)
-
-  named_told : (answer : Answer) → AsksForTable words → NamedCallsFor texts words answer → status answer ≡ 0 → GrowsBy old new (report_text answer) → IsTold texts words old new
-  named_told answer table (command, name, asks, inl missing) zero grew = absurd (not_zero answer ScriptNotFound missing.1 zero (λ e. cc))
-  named_told answer table (Show, name, asks, inr (text, held, calls)) zero grew = absurd (show_or_table words table.0 name table.1 asks table.2)
-  named_told answer table (Check rule, name, asks, inr (text, held, calls)) zero grew = absurd (check_or_table words rule table.0 name table.1 asks table.2)
-  named_told answer table (Table i, name, asks, inr (text, held, calls)) zero grew =
-      let told = text_told text i answer calls zero in
-      record {
-        i = i;
-        name = name;
-        asked = asks;
-        text = text;
-        held = held;
-        network = record { program = told.2.program; tree = told.2.tree };
-        spells = only_network text told.0 (record { program = told.2.program; tree = told.2.tree }) told.1 (record { program = told.2.spelled; tree = told.2.network });
-        component = told.2.component;
-        there = told.2.at;
-        part = told.2.part;
-        normal = told.2.normal;
-        printed = subst (λ (a : Answer). GrowsBy old new (report_text a)) told.2.is grew;
-      }
-
-  called_told : (reply : Reply) → AsksForTable words → CallsFor texts words reply → reply_status reply ≡ 0 → GrowsBy old new (reply_text reply) → IsTold texts words old new
-  called_told reply table (inl none) zero grew = absurd (not_zero_reply reply Usage none.1 zero (λ e. cc))
-  called_told reply table (inr (inl trial)) zero grew = absurd (command_or_trial words (Table table.0) table.1 trial.trial table.2 trial.asked)
-  called_told reply table (inr (inr (is, calls))) zero grew = named_told reply.answer table calls zero (plain_report reply old new is grew)
+text_told : (text : List ℕ) (i : ℕ) (a : Answer) → TextCallsFor text (Table i) a → status a ≡ 0 → IsToldBy text i a
+text_told text i a calls =
+    deciding text (IsToldBy text i) _ _ (λ s b spells tabulated.
+    tabulated_cases s i (IfZero (IsToldBy text i)) (refused (IsToldBy text i)) (λ d whole zero. record { script = s; spells = spells; whole = whole }) b tabulated) a calls
 
 -- the printed text of a script that a text spells
 printed_again : (text : List ℕ) (script : Script) → PrintedTextSpellsTheScript → PrintedTextSpellsNoOther → SpellsOnlyScript text script
@@ -154,87 +101,96 @@ printed_again text script same other spells =
       only = λ t spelled. other text first.found script first.cut first.spelled spelled.found t spelled.cut spelled.spelled;
     }
 
-module _ (texts : List NamedText) (words : List (List ℕ)) (old new : Option (List ℕ)) (same : PrintedTextSpellsTheScript) (other : PrintedTextSpellsNoOther) where
-  named_shown : (answer : Answer) → AsksForShow words → NamedCallsFor texts words answer → status answer ≡ 0 → GrowsBy old new (report_text answer) → IsShown texts words old new
-  named_shown answer show (command, name, asks, inl missing) zero grew = absurd (not_zero answer ScriptNotFound missing.1 zero (λ e. cc))
-  named_shown answer show (Check rule, name, asks, inr (text, held, calls)) zero grew = absurd (check_or_show words rule name show.0 asks show.1)
-  named_shown answer show (Table i, name, asks, inr (text, held, calls)) zero grew = absurd (show_or_table words i show.0 name show.1 asks)
-  named_shown answer show (Show, name, asks, inr (text, held, calls)) zero grew =
-      let shown = text_shown text answer calls zero in
+module _ (old new : Option (List ℕ)) (reply : Reply) where
+  -- the report of a reply, with the heading of its trial
+  headed : (trial : Option Trial) → reply.trial ≡ trial → GrowsBy old new (reply_text reply) → GrowsBy old new (heading_text trial ++ report_text reply.answer)
+  headed trial is grew = subst (λ (t : Option Trial). GrowsBy old new (heading_text t ++ report_text reply.answer)) is grew
+
+  -- where the report is known
+  reported : (a : Answer) → reply.trial ≡ None → reply.answer ≡ a → GrowsBy old new (reply_text reply) → GrowsBy old new (report_text a)
+  reported a none is grew = subst (λ (b : Answer). GrowsBy old new (report_text b)) is (headed None none grew)
+
+  module _ (texts : List NamedText) (words : List (List ℕ)) (signs : ShelfSigns) (cause : MayGive (Some texts) words signs reply) (zero : reply_status reply ≡ 0)
+      (grew : GrowsBy old new (reply_text reply)) where
+    is_proved : AsksForCheck words → IsProved texts words old new
+    is_proved (rule, name, asks) =
+        let there = held_script texts words signs (Check rule) name reply asks cause zero in
+        record {
+          rule = rule;
+          name = name;
+          asked = asks;
+          text = there.1.text;
+          held = there.1.held;
+          report = report_text reply.answer;
+          free = text_free there.1.text rule reply.answer there.1.calls zero;
+          printed = headed None there.0 grew;
+        }
+
+    is_shown : PrintedTextSpellsTheScript → PrintedTextSpellsNoOther → AsksForShow words → IsShown texts words old new
+    is_shown same other (name, asks) =
+        let there = held_script texts words signs Show name reply asks cause zero in
+        let shown = text_shown there.1.text reply.answer there.1.calls zero in
+        record {
+          name = name;
+          asked = asks;
+          text = there.1.text;
+          held = there.1.held;
+          script = shown.script;
+          spelled = shown.spells.spelled;
+          only = shown.spells.only;
+          printed = reported (answer.Done (Shown (script_text shown.script))) there.0 shown.is grew;
+          again = printed_again there.1.text shown.script same other shown.spells;
+        }
+
+    is_told : AsksForTable words → IsTold texts words old new
+    is_told (i, name, asks) =
+        let there = held_script texts words signs (Table i) name reply asks cause zero in
+        let told = text_told there.1.text i reply.answer there.1.calls zero in
+        record {
+          i = i;
+          name = name;
+          asked = asks;
+          text = there.1.text;
+          held = there.1.held;
+          network = told.whole.network;
+          spells = only_network there.1.text told.script told.whole.network told.spells told.whole.spelled;
+          component = told.whole.component;
+          there = told.whole.at;
+          part = told.whole.part;
+          normal = told.whole.normal;
+          printed = reported _ there.0 told.whole.is grew;
+        }
+
+  is_tried : (texts : Option (List NamedText)) (words : List (List ℕ)) (signs : ShelfSigns) → MayGive texts words signs reply → reply_status reply ≡ 0
+      → GrowsBy old new (reply_text reply) → AsksForTrial words → IsTried words old new
+  is_tried texts words signs cause zero grew (trial, asks) =
+      let replies = only (loads texts signs) words (request.Trial trial) reply asks cause in
       record {
-        name = name;
+        trial = trial;
         asked = asks;
-        text = text;
-        held = held;
-        script = shown.0;
-        spelled = shown.1.spelled;
-        only = shown.1.only;
-        printed = subst (λ (a : Answer). GrowsBy old new (report_text a)) shown.2 grew;
-        again = printed_again text shown.0 same other shown.1;
+        report = report_text reply.answer;
+        free = text_free (trial_text trial) (rule_of trial.family) reply.answer replies.calls zero;
+        printed = headed (Some trial) replies.trial grew;
       }
 
-  called_shown : (reply : Reply) → AsksForShow words → CallsFor texts words reply → reply_status reply ≡ 0 → GrowsBy old new (reply_text reply) → IsShown texts words old new
-  called_shown reply show (inl none) zero grew = absurd (not_zero_reply reply Usage none.1 zero (λ e. cc))
-  called_shown reply show (inr (inl trial)) zero grew = absurd (command_or_trial words Show show.0 trial.trial show.1 trial.asked)
-  called_shown reply show (inr (inr (is, calls))) zero grew = named_shown reply.answer show calls zero (plain_report reply old new is grew)
+module _ (texts : Option (List NamedText)) (words : List (List ℕ)) (signs : ShelfSigns) (old new : Option (List ℕ)) (printed : Printed) (is : Prints (MayGive texts words signs) printed)
+    (slice : List ℕ) (read : slice ≡ printed.text) (grew : GrowsBy old new slice) (zero : printed.status ≡ 0) where
+  -- what a call sends that ends well
+  whole : GrowsBy old new (reply_text is.reply)
+  whole = subst (λ (sent : List ℕ). GrowsBy old new sent) (read ∙ is.text) grew
 
--- a trial with status 0
-trial_tried : (words : List (List ℕ)) (old new : Option (List ℕ)) (reply : Reply) → TrialCallsFor words reply → reply_status reply ≡ 0 → GrowsBy old new (reply_text reply) → IsTried words old new
-trial_tried words old new reply calls zero grew = record {
-  trial = calls.trial;
-  asked = calls.asked;
-  report = report_text reply.answer;
-  free = text_free (trial_text calls.trial) (rule_of calls.trial.family) reply.answer calls.calls zero;
-  printed = subst (λ (trial : Option Trial). GrowsBy old new (heading_text trial ++ report_text reply.answer)) calls.is grew;
-}
+  pub tried : AsksForTrial words → IsTried words old new
+  tried asks = is_tried old new is.reply texts words signs is.cause (sym is.status ∙ zero) whole asks
 
--- A fault of the shelf has no status 0.
-settled_zero : (texts : List NamedText) (words : List (List ℕ)) (signs : ShelfSigns) (reply : Reply) → MayGive (Some texts) words signs reply → reply_status reply ≡ 0
-    → CallsFor texts words reply
-settled_zero texts words signs reply (inl calls) zero = calls
-settled_zero texts words signs reply (inr (rose, command, name, asks, fault)) zero = absurd (not_zero_reply reply ScriptNotRead fault zero (λ e. cc))
+  module _ (P : List NamedText → Type 0) where
+    held : ((held : List NamedText) → MayGive (Some held) words signs is.reply → P held) → IfSome texts P
+    held rest = elim texts as (λ ts. MayGive ts words signs is.reply → IfSome ts P) [ None ↦ λ cause. tt | Some ts ↦ λ cause. rest ts cause ] is.cause
 
--- words that ask for a trial call for one, whatever the shelf tells
-only_trial : (texts : Option (List NamedText)) (words : List (List ℕ)) (signs : ShelfSigns) (reply : Reply) → AsksForSomeTrial words → MayGive texts words signs reply
-    → reply_status reply ≡ 0 → TrialCallsFor words reply
-only_trial None words signs reply asks (inl none) zero = absurd (not_zero_reply reply Usage none.1 zero (λ e. cc))
-only_trial None words signs reply asks (inr (inl trial)) zero = trial
-only_trial None words signs reply asks (inr (inr (is, (command, name, named, calls)))) zero = absurd (command_or_trial words command name asks.0 named asks.1)
-only_trial (Some texts) words signs reply asks (inl (inl none)) zero = absurd (not_zero_reply reply Usage none.1 zero (λ e. cc))
-only_trial (Some texts) words signs reply asks (inl (inr (inl trial))) zero = trial
-only_trial (Some texts) words signs reply asks (inl (inr (inr (is, (command, name, named, calls))))) zero = absurd (command_or_trial words command name asks.0 named asks.1)
-only_trial (Some texts) words signs reply asks (inr (rose, command, name, named, fault)) zero = absurd (command_or_trial words command name asks.0 named asks.1)
+  pub proved : AsksForCheck words → IfSome texts (λ ts. IsProved ts words old new)
+  proved asks = held (λ ts. IsProved ts words old new) (λ ts cause. is_proved old new is.reply ts words signs cause (sym is.status ∙ zero) whole asks)
 
-module _ (texts : Option (List NamedText)) (words : List (List ℕ)) (signs : ShelfSigns) (old new : Option (List ℕ)) (reply : Reply) (slice text : List ℕ) (result : ℕ) where
-  -- what a call that ends well sends
-  whole : GrowsBy old new slice → slice ≡ text → text ≡ reply_text reply → GrowsBy old new (reply_text reply)
-  whole grew read made = subst (λ (sent : List ℕ). GrowsBy old new sent) (read ∙ made) grew
+  pub told : AsksForTable words → IfSome texts (λ ts. IsTold ts words old new)
+  told asks = held (λ ts. IsTold ts words old new) (λ ts cause. is_told old new is.reply ts words signs cause (sym is.status ∙ zero) whole asks)
 
-  pub tried : MayGive texts words signs reply → GrowsBy old new slice → slice ≡ text → text ≡ reply_text reply → result ≡ reply_status reply
-      → AsksForSomeTrial words → result ≡ 0 → IsTried words old new
-  tried cause grew read made is asks zero =
-      trial_tried words old new reply (only_trial texts words signs reply asks cause (sym is ∙ zero)) (sym is ∙ zero) (whole grew read made)
-
-pub proved : (texts : Option (List NamedText)) (words : List (List ℕ)) (signs : ShelfSigns) (old new : Option (List ℕ)) (reply : Reply) (slice text : List ℕ) (result : ℕ)
-    → MayGive texts words signs reply → GrowsBy old new slice → slice ≡ text → text ≡ reply_text reply → result ≡ reply_status reply
-    → AsksForCheck words → result ≡ 0 → IfSome texts (λ held. IsProved held words old new)
-proved None words signs old new reply slice text result cause grew read made is check zero = tt
-proved (Some texts) words signs old new reply slice text result cause grew read made is check zero =
-    called_proved texts words old new reply check (settled_zero texts words signs reply cause (sym is ∙ zero)) (sym is ∙ zero)
-    (whole (Some texts) words signs old new reply slice text result grew read made)
-
-pub told : (texts : Option (List NamedText)) (words : List (List ℕ)) (signs : ShelfSigns) (old new : Option (List ℕ)) (reply : Reply) (slice text : List ℕ) (result : ℕ)
-    → MayGive texts words signs reply → GrowsBy old new slice → slice ≡ text → text ≡ reply_text reply → result ≡ reply_status reply
-    → AsksForTable words → result ≡ 0 → IfSome texts (λ held. IsTold held words old new)
-told None words signs old new reply slice text result cause grew read made is table zero = tt
-told (Some texts) words signs old new reply slice text result cause grew read made is table zero =
-    called_told texts words old new reply table (settled_zero texts words signs reply cause (sym is ∙ zero)) (sym is ∙ zero)
-    (whole (Some texts) words signs old new reply slice text result grew read made)
-
-pub shown : (texts : Option (List NamedText)) (words : List (List ℕ)) (signs : ShelfSigns) (old new : Option (List ℕ)) (reply : Reply) (slice text : List ℕ) (result : ℕ)
-    → PrintedTextSpellsTheScript → PrintedTextSpellsNoOther → MayGive texts words signs reply → GrowsBy old new slice → slice ≡ text → text ≡ reply_text reply → result ≡ reply_status reply
-    → AsksForShow words → result ≡ 0 → IfSome texts (λ held. IsShown held words old new)
-shown None words signs old new reply slice text result same other cause grew read made is show zero = tt
-shown (Some texts) words signs old new reply slice text result same other cause grew read made is show zero =
-    called_shown texts words old new same other reply show (settled_zero texts words signs reply cause (sym is ∙ zero)) (sym is ∙ zero)
-    (whole (Some texts) words signs old new reply slice text result grew read made)
+  pub shown : PrintedTextSpellsTheScript → PrintedTextSpellsNoOther → AsksForShow words → IfSome texts (λ ts. IsShown ts words old new)
+  shown same other asks = held (λ ts. IsShown ts words old new) (λ ts cause. is_shown old new is.reply ts words signs cause (sym is.status ∙ zero) whole same other asks)

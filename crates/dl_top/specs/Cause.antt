@@ -1,52 +1,60 @@
--- Which reply comes when: the points at which a command is refused, in their order, and then what its script calls for.
-use Rattle.std.specs.Prelude.{◌≡◌, ◌⊎◌, ℕ, ◌+◌, ◌<◌, ◌≤◌, List, length, Option, None, Some}
+-- Which reply comes when: what the words ask for, the texts that it is for, and then what these call for.
+use Rattle.std.specs.Prelude.{◌≡◌, ◌⊎◌, ℕ, ◌+◌, ◌<◌, List, [], ◌∷◌, Option, Some, Result, Ok, Err}
+use Rattle.dl_limits.specs.declared.TheConstants.{MOST_BYTES}
+use Rattle.dl_outside.specs.declared.shelf.LoadFault.{LoadFault}
+use Rattle.dl_outside.specs.declared.shelf.LoadFault.TheVariants.{Missing, TooLong, Failed, NoMemory}
 use Rattle.dl_outside.specs.declared.texts.NamedText.{NamedText}
 use Rattle.dl_outside.specs.Count.{HasRisen}
+use Rattle.dl_outside.specs.Load.{AnswersTold, LoadAnswers}
 use Rattle.dl_outside.specs.Texts.{text_of}
-use Rattle.command_words.specs.declared.command.Command.{Command}
-use Rattle.command_words.specs.declared.command.Command.TheVariants.{Check}
-use Rattle.command_words.specs.declared.command.Trial.{Trial}
+use Rattle.command_words.specs.declared.request.Job.TheVariants.{Check}
+use Rattle.command_words.specs.declared.request.Request.{Request}
+use Rattle.command_words.specs.declared.request.Request.TheVariants as request
+use Rattle.command_words.specs.Request.{Asks, IsNoRequest, names, trial_of}
+use Rattle.report.specs.Points.{Point}
 use Rattle.report.specs.declared.answer.Answer.{Answer}
-use Rattle.report.specs.declared.answer.Answer.TheVariants.{Refused, Usage, ScriptNotFound, ScriptNotRead}
+use Rattle.report.specs.declared.answer.Answer.TheVariants.{Outside, Refused, Usage}
+use Rattle.report.specs.declared.answer.OutsideFault.TheVariants.{ScriptNotFound, ScriptNotRead}
 use Rattle.report.specs.declared.answer.Refusal.TheVariants.{ScriptTooLong}
-use Rattle.command_words.specs.Command.{Asks, AsksForTrial, IsNoCommand}
 use Rattle.dl_top.specs.Judgement.{TextCallsFor}
 use Rattle.dl_top.specs.Reply.{plain, rule_of, trial_text}
 use Rattle.dl_top.specs.declared.reply.Reply.{Reply}
 
--- the greatest number of bytes of a script
-abbrev pub script_limit : ℕ
-script_limit = 1048576
+-- how it is told that a text can't be loaded
+abbrev pub TellsLoad : LoadFault → Answer → Type 0
+TellsLoad Missing answer = answer ≡ Outside ScriptNotFound
+TellsLoad TooLong answer = answer ≡ Refused ScriptTooLong
+TellsLoad Failed answer = answer ≡ Outside ScriptNotRead
+TellsLoad NoMemory answer = ⊥
 
--- A text that was loaded: too long, or within the limit.
-abbrev pub ScriptCallsFor : List ℕ → Command → Answer → Type 0
-ScriptCallsFor text command answer =
-    ((script_limit < length text) × (answer ≡ Refused ScriptTooLong))
-    ⊎ ((length text ≤ script_limit) × TextCallsFor text command answer)
+-- Texts are loaded by their names, one after another, where a load of a name may give this. A text that can't be loaded is told; else the texts decide.
+abbrev pub Loaded : (List ℕ → Result (List ℕ) LoadFault → Type 0) → List (List ℕ) → (List (List ℕ) → Answer → Type 0) → Answer → Type 0
+Loaded Loads [] Then = Then []
+Loaded Loads (name ∷ more) Then =
+    Point (λ f. Loads name (Err f)) TellsLoad (λ text. Loads name (Ok text)) (λ text. Loaded Loads more (λ texts. Then (text ∷ texts)))
 
--- The words ask for a trial: the answer is that of the family's script, judged by the family's rule.
-pub record TrialCallsFor (words : List (List ℕ)) (reply : Reply) : Type 0 where
-  pub trial : Trial
-  pub asked : AsksForTrial words trial
-  pub is : reply.trial ≡ Some trial
-  pub calls : TextCallsFor (trial_text trial) (Check (rule_of trial.family)) reply.answer
+-- what the texts of a request call for
+abbrev pub TextsCallFor : Request → List (List ℕ) → Answer → Type 0
+TextsCallFor (request.Script job name) [] answer = ⊥
+TextsCallFor (request.Script job name) (text ∷ []) answer = TextCallsFor text job answer
+TextsCallFor (request.Script job name) (text ∷ other ∷ more) answer = ⊥
+TextsCallFor (request.Trial trial) [] answer = TextCallsFor (trial_text trial) (Check (rule_of trial.family)) answer
+TextsCallFor (request.Trial trial) (text ∷ more) answer = ⊥
 
--- The words name a script, where the shelf holds these texts.
-abbrev pub NamedCallsFor : List NamedText → List (List ℕ) → Answer → Type 0
-NamedCallsFor texts words answer =
-    (command : Command) × (name : List ℕ) × Asks words command name × (
-    -- the script isn't there
-    ((text_of texts name ≡ None) × (answer ≡ ScriptNotFound))
-    -- it is
-    ⊎ ((text : List ℕ) × (text_of texts name ≡ Some text) × ScriptCallsFor text command answer))
+-- the reply to a request, where a load of a name may give this
+pub record Replies (Loads : List ℕ → Result (List ℕ) LoadFault → Type 0) (request : Request) (reply : Reply) : Type 0 where
+  pub trial : reply.trial ≡ trial_of request
+  pub calls : Loaded Loads (names request) (TextsCallFor request) reply.answer
 
--- Where the shelf holds these texts and neither it nor the sink has a fault, this is the reply: to words that are no command, that ask for a
--- trial, or that name a script.
+-- the reply to words: they are no command, or ask for something
+abbrev pub Gives : (List ℕ → Result (List ℕ) LoadFault → Type 0) → List (List ℕ) → Reply → Type 0
+Gives Loads words reply =
+    (IsNoRequest words × (reply ≡ plain Usage))
+    ⊎ ((request : Request) × Asks words request × Replies Loads request reply)
+
+-- Where the shelf holds these texts and neither it nor the sink has a fault, this is the reply.
 abbrev pub CallsFor : List NamedText → List (List ℕ) → Reply → Type 0
-CallsFor texts words reply =
-    (IsNoCommand words × (reply ≡ plain Usage))
-    ⊎ TrialCallsFor words reply
-    ⊎ ((reply.trial ≡ None) × NamedCallsFor texts words reply.answer)
+CallsFor texts words reply = Gives (λ name. AnswersTold texts name MOST_BYTES ⊥) words reply
 
 -- What the shelf did in the call: whether its count of faults rose, and whether it took more bytes than the limit of a script.
 pub record ShelfSigns : Type 1 where
@@ -57,35 +65,21 @@ pub record ShelfSigns : Type 1 where
 abbrev pub shelf_signs : (faults_before faults_after taken_before taken_after : ℕ) → ShelfSigns
 shelf_signs faults_before faults_after taken_before taken_after = record {
   rose = HasRisen faults_before faults_after;
-  took_more = taken_before + script_limit < taken_after;
+  took_more = taken_before + MOST_BYTES < taken_after;
 }
 
--- Where the shelf holds these texts: the reply that they call for; or a fault of the shelf, whose count then rose.
-abbrev pub TextsMayGive : List NamedText → List (List ℕ) → ShelfSigns → Reply → Type 0
-TextsMayGive texts words signs reply =
-    CallsFor texts words reply
-    ⊎ (signs.rose × (command : Command) × (name : List ℕ) × Asks words command name × (reply ≡ plain ScriptNotRead))
+-- what a load of a name may give, where the shelf holds these texts or tells none
+abbrev pub loads : Option (List NamedText) → ShelfSigns → List ℕ → Result (List ℕ) LoadFault → Type 0
+loads texts signs name = LoadAnswers texts name MOST_BYTES signs.rose signs.took_more
 
--- The words name a script, where the shelf tells no texts: a fault shows in its counts, and any other answer is what some text calls for.
-abbrev pub UntoldCallsFor : List (List ℕ) → ShelfSigns → Answer → Type 0
-UntoldCallsFor words signs answer =
-    (command : Command) × (name : List ℕ) × Asks words command name × (
-    (signs.rose × (answer ≡ ScriptNotFound))
-    ⊎ (signs.rose × (answer ≡ ScriptNotRead))
-    ⊎ (signs.took_more × (answer ≡ Refused ScriptTooLong))
-    ⊎ ((text : List ℕ) × (length text ≤ script_limit) × TextCallsFor text command answer))
-
-abbrev pub UntoldMayGive : List (List ℕ) → ShelfSigns → Reply → Type 0
-UntoldMayGive words signs reply =
-    (IsNoCommand words × (reply ≡ plain Usage))
-    ⊎ TrialCallsFor words reply
-    ⊎ ((reply.trial ≡ None) × UntoldCallsFor words signs reply.answer)
-
--- The causes of a reply.
+-- The causes of a reply: a fault of the shelf shows in its counts. Where the shelf tells no texts, any other answer is what some texts call for.
 abbrev pub MayGive : Option (List NamedText) → List (List ℕ) → ShelfSigns → Reply → Type 0
-MayGive (Some texts) words signs reply = TextsMayGive texts words signs reply
-MayGive None words signs reply = UntoldMayGive words signs reply
+MayGive texts words signs reply = Gives (loads texts signs) words reply
 
--- The texts hold every one that the words name.
+-- The texts hold those of all names, and every one that the words name.
+abbrev pub HoldsAll : List NamedText → List (List ℕ) → Type 0
+HoldsAll texts [] = Unit {0}
+HoldsAll texts (name ∷ more) = ((text : List ℕ) × (text_of texts name ≡ Some text)) × HoldsAll texts more
+
 abbrev pub HoldsAllNamed : List NamedText → List (List ℕ) → Type 0
-HoldsAllNamed texts words = (command : Command) (name : List ℕ) → Asks words command name → (text : List ℕ) × (text_of texts name ≡ Some text)
+HoldsAllNamed texts words = (request : Request) → Asks words request → HoldsAll texts (names request)

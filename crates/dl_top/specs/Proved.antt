@@ -1,8 +1,9 @@
 -- What status 0 promises.
 use Rattle.std.specs.Prelude.{◌≡◌, ℕ, ℤ, List, ◌++◌, length, map, Option, Some, slice_get}
-use Rattle.command_words.specs.Command.{Asks, AsksForTrial}
-use Rattle.command_words.specs.declared.command.Command.TheVariants.{Check, Show, Table}
-use Rattle.command_words.specs.declared.command.Trial.{Trial}
+use Rattle.command_words.specs.Request.{Asks}
+use Rattle.command_words.specs.declared.request.Job.TheVariants.{Check, Show, Table}
+use Rattle.command_words.specs.declared.request.Request.TheVariants as request
+use Rattle.command_words.specs.declared.request.Trial.{Trial}
 use Rattle.csp_parser.specs.Spells.{Spells}
 use Rattle.csp_program.specs.declared.processes.Proc.{Proc}
 use Rattle.csp_tables.specs.Network.{Component, leaves}
@@ -13,7 +14,7 @@ use Rattle.csp_text.specs.declared.script.Script.{Script}
 use Rattle.dl_outside.specs.declared.texts.NamedText.{NamedText}
 use Rattle.dl_outside.specs.Texts.{text_of}
 use Rattle.dl_outside.specs.Write.{GrowsBy}
-use Rattle.judgement.specs.Networks.{HasSilentBound, IsLive, Network}
+use Rattle.network_stages.specs.Networks.{HasSilentBound, IsLive, Network}
 use Rattle.process_steps.specs.ComponentStep.{ProcessStep}
 use Rattle.report.specs.Report.{deadlock_free_text, table_text}
 use Rattle.script_printer.specs.PrintedScript.{script_text}
@@ -43,7 +44,7 @@ pub record SpellsDeadlockFree (text : List ℕ) (rule : Rule) (report : List ℕ
 pub record IsProved (texts : List NamedText) (words : List (List ℕ)) (old new : Option (List ℕ)) : Type 0 where
   pub rule : Rule
   pub name : List ℕ
-  pub asked : Asks words (Check rule) name
+  pub asked : Asks words (request.Script (Check rule) name)
   pub text : List ℕ
   pub held : text_of texts name ≡ Some text
   pub report : List ℕ
@@ -53,7 +54,7 @@ pub record IsProved (texts : List NamedText) (words : List (List ℕ)) (old new 
 -- The words ask for a trial, and the text of its family spells a network free of deadlock. The sink, where it tells, grew by exactly the report.
 pub record IsTried (words : List (List ℕ)) (old new : Option (List ℕ)) : Type 0 where
   pub trial : Trial
-  pub asked : AsksForTrial words trial
+  pub asked : Asks words (request.Trial trial)
   pub report : List ℕ
   pub free : SpellsDeadlockFree (trial_text trial) (rule_of trial.family) report
   pub printed : GrowsBy old new (heading_text (Some trial) ++ report)
@@ -62,7 +63,7 @@ pub record IsTried (words : List (List ℕ)) (old new : Option (List ℕ)) : Typ
 -- the script, and this text spells the same script again, and no other.
 pub record IsShown (texts : List NamedText) (words : List (List ℕ)) (old new : Option (List ℕ)) : Type 0 where
   pub name : List ℕ
-  pub asked : Asks words Show name
+  pub asked : Asks words (request.Script Show name)
   pub text : List ℕ
   pub held : text_of texts name ≡ Some text
   pub script : Script
@@ -76,7 +77,7 @@ pub record IsShown (texts : List NamedText) (words : List (List ℕ)) (old new :
 pub record IsTold (texts : List NamedText) (words : List (List ℕ)) (old new : Option (List ℕ)) : Type 0 where
   pub i : ℕ
   pub name : List ℕ
-  pub asked : Asks words (Table i) name
+  pub asked : Asks words (request.Script (Table i) name)
   pub text : List ℕ
   pub held : text_of texts name ≡ Some text
   pub network : Network

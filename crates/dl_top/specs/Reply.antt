@@ -1,7 +1,7 @@
 -- What is sent for the words: the report of an answer, and for a trial a line before it that names the trial.
 use Rattle.std.specs.Prelude.{ℕ, Option, None, Some, List, [], ◌++◌, codes}
 use Rattle.std.specs.Fmt.{decimal}
-use Rattle.command_words.specs.declared.command.Trial.{Trial}
+use Rattle.command_words.specs.declared.request.Trial.{Trial}
 use Rattle.csp_tables.specs.declared.rule.Rule.{Rule}
 use Rattle.csp_tables.specs.declared.rule.Rule.TheVariants.{ClientServer, Cyclic, Resource}
 use Rattle.net_maker.specs.Families.{family_name, family_text}

@@ -1,35 +1,36 @@
 //! The answer to the text of a script.
 
 ghost use Rattle.std.specs.Prelude.{IfOk};
-ghost use Rattle.dl_top.specs.Judgement.{ScriptDecides, Tells, TextCallsFor};
+ghost use Rattle.dl_top.specs.Judgement.{ScriptDecides, TextCallsFor};
+ghost use Rattle.dl_top.specs.Printing.{TellsFault};
 
-use command_words::Command;
+use command_words::Job;
 use csp_base::NoMemory;
 use csp_parser::{ParseFault, each_text_spells_one_script, read};
 use csp_text::Script;
 use judgement::judged;
-use report::{Answer, Refusal};
+use report::{Answer, Done, Refusal};
 use script_printer::print_script;
 use std::alloc::Global;
 use tabulation::tabulated;
 
-// The answer that a script calls for under the command.
-fn answered(alloc: Global, command: Command, script: &Script) -> Result<Answer, NoMemory>
-    ensures { IfOk result (ScriptDecides command script.now) }
+// The answer that a script calls for, with which this is to be done.
+fn answered(alloc: Global, job: Job, script: &Script) -> Result<Answer, NoMemory>
+    ensures { IfOk result (ScriptDecides job script.now) }
 {
-    match command {
-        Command::Check(rule) => judged(alloc, rule, script),
-        Command::Table(index) => tabulated(alloc, script, index),
-        Command::Show => {
+    match job {
+        Job::Check(rule) => judged(alloc, rule, script),
+        Job::Table(index) => tabulated(alloc, script, index),
+        Job::Show => {
             let text = print_script(alloc, script)?;
-            Ok(Answer::Shown { text })
+            Ok(Answer::Done(Done::Shown { text }))
         }
     }
 }
 
-// The answer that tells the fault of a text.
-fn fault_answer(fault: ParseFault) -> Result<Answer, NoMemory>
-    ensures { IfOk result (Tells fault) }
+// The answer where a text is no script.
+fn unread(fault: ParseFault) -> Result<Answer, NoMemory>
+    ensures { IfOk result (TellsFault fault) }
 {
     match fault {
         ParseFault::NoScript { at } => Ok(Answer::Refused(Refusal::NoScript { at })),
@@ -37,15 +38,15 @@ fn fault_answer(fault: ParseFault) -> Result<Answer, NoMemory>
     }
 }
 
-/// The answer that the text of a script calls for.
-pub fn judge(alloc: Global, command: Command, text: &[u8]) -> Result<Answer, NoMemory>
-    ensures { IfOk result (TextCallsFor text.now command) }
+/// The answer that the text of a script calls for, with which this is to be done.
+pub fn judge(alloc: Global, job: Job, text: &[u8]) -> Result<Answer, NoMemory>
+    ensures { IfOk result (TextCallsFor text.now job) }
 {
     match read(alloc, text) {
         Ok(script) => {
             each_text_spells_one_script();
-            answered(alloc, command, &script)
+            answered(alloc, job, &script)
         }
-        Err(fault) => fault_answer(fault),
+        Err(fault) => unread(fault),
     }
 }

@@ -1,24 +1,25 @@
 //! From the words to the reply: the script is loaded, or made for a trial, and judged.
 
-ghost use Rattle.std.specs.Prelude.{◌≡◌, ◌≤◌, ℕ, List, IfOk};
-ghost use Rattle.command_words.specs.Command.{AsksForTrial, NamesNoScript};
-ghost use Rattle.dl_top.specs.Cause.{MayGive, TrialCallsFor, shelf_signs};
+ghost use Rattle.std.specs.Prelude.{◌≡◌, ◌≤◌, [], None, Some, IfOk};
+ghost use Rattle.command_words.specs.declared.request.Job.TheVariants.{Check};
+ghost use Rattle.command_words.specs.declared.request.Request.TheVariants as asking;
+ghost use Rattle.command_words.specs.Request.{NamesNoScript, names};
+ghost use Rattle.dl_top.specs.Cause.{MayGive, Replies, TellsLoad, loads, shelf_signs};
 ghost use Rattle.dl_top.specs.Judgement.{TextCallsFor};
 ghost use Rattle.dl_top.specs.Printing.{Prints};
+ghost use Rattle.dl_top.specs.Reply.{rule_of as family_rule, trial_text};
 
 use crate::judge::judge;
 use crate::reply::{Printed, Reply, print, rule_of};
-use command_words::{Command, Trial, Words, asked, asked_trial};
+use command_words::{Job, Request, Trial, Words, asked};
 use csp_base::NoMemory;
+use dl_limits::MOST_BYTES;
 use dl_outside::{LoadFault, Shelf};
 use net_maker::family_script;
-use report::{Answer, Refusal};
+use report::{Answer, OutsideFault, Refusal};
 use std::alloc::Global;
 
-/// The greatest number of bytes of a script.
-pub const SCRIPT_LIMIT: u32 = 1_048_576;
-
-// The answer that is of no trial.
+// An answer that is of no trial.
 fn plain(answer: Answer) -> Reply
     ensures { result ≡ record { trial = None; answer = answer } }
 {
@@ -28,32 +29,73 @@ fn plain(answer: Answer) -> Reply
     }
 }
 
-// The reply that the text of a script calls for.
-fn replied(
-    alloc: Global,
-    trial: Option<Trial>,
-    command: Command,
-    text: &[u8],
-) -> Result<Reply, NoMemory>
-    ensures { IfOk result (λ reply. (reply.trial ≡ trial) × TextCallsFor text.now command reply.answer) }
+// The reply where a script can't be loaded.
+fn unloaded(fault: LoadFault) -> Result<Reply, NoMemory>
+    ensures { IfOk result (λ reply. (reply.trial ≡ None) × TellsLoad fault reply.answer) }
 {
-    match judge(alloc, command, text) {
+    match fault {
+        LoadFault::Missing => Ok(plain(Answer::Outside(OutsideFault::ScriptNotFound))),
+        LoadFault::TooLong => Ok(plain(Answer::Refused(Refusal::ScriptTooLong))),
+        LoadFault::Failed => Ok(plain(Answer::Outside(OutsideFault::ScriptNotRead))),
+        LoadFault::NoMemory => Err(NoMemory),
+    }
+}
+
+// The reply that the text of a script calls for.
+fn replied(alloc: Global, trial: Option<Trial>, job: Job, text: &[u8]) -> Result<Reply, NoMemory>
+    ensures { IfOk result (λ reply. (reply.trial ≡ trial) × TextCallsFor text.now job reply.answer) }
+{
+    match judge(alloc, job, text) {
         Ok(answer) => Ok(Reply { trial, answer }),
         Err(fault) => Err(fault),
     }
 }
 
-// The reply to words that ask for a trial.
+// The reply to a trial.
 fn tried(alloc: Global, trial: Trial) -> Result<Reply, NoMemory>
-    ensures { (words : List (List ℕ)) → AsksForTrial words trial → IfOk result (TrialCallsFor words) }
+    ensures { IfOk result (λ reply. (reply.trial ≡ Some trial) × TextCallsFor (trial_text trial) (Check (family_rule trial.family)) reply.answer) }
 {
     let text = family_script(alloc, trial.family, trial.size)?;
     replied(
         alloc,
         Some(trial),
-        Command::Check(rule_of(trial.family)),
+        Job::Check(rule_of(trial.family)),
         text.as_slice(),
     )
+}
+
+// The reply to a request for the script of this name.
+fn scripted<S: Shelf>(
+    alloc: Global,
+    job: Job,
+    name: &[u8],
+    shelf: &mut S,
+) -> Result<Reply, NoMemory>
+    ensures cause { IfOk result (Replies (loads (S.texts shelf.old)
+        (shelf_signs (S.faults shelf.old) (S.faults shelf.new) (S.taken shelf.old) (S.taken shelf.new))) (asking.Script job name.now)) }
+    ensures texts_stay { S.texts shelf.new ≡ S.texts shelf.old }
+    ensures faults_never_fall { S.faults shelf.old ≤ S.faults shelf.new }
+    ensures taken_never_falls { S.taken shelf.old ≤ S.taken shelf.new }
+{
+    match shelf.load(alloc, name, MOST_BYTES) {
+        Ok(text) => replied(alloc, None, job, text.as_slice()),
+        Err(fault) => unloaded(fault),
+    }
+}
+
+// The reply to a request. Nothing is loaded where it names no script.
+fn requested<S: Shelf>(alloc: Global, request: Request, shelf: &mut S) -> Result<Reply, NoMemory>
+    ensures cause { IfOk result (Replies (loads (S.texts shelf.old)
+        (shelf_signs (S.faults shelf.old) (S.faults shelf.new) (S.taken shelf.old) (S.taken shelf.new))) request) }
+    ensures untouched { names request ≡ [] → shelf.new ≡ shelf.old }
+    ensures texts_stay { S.texts shelf.new ≡ S.texts shelf.old }
+    ensures faults_never_fall { S.faults shelf.old ≤ S.faults shelf.new }
+    ensures taken_never_falls { S.taken shelf.old ≤ S.taken shelf.new }
+{
+    match request {
+        Request::Trial(trial) => tried(alloc, trial),
+        Request::Script(job, name) => scripted(alloc, job, name.as_slice(), shelf),
+    }
 }
 
 // The reply to the words. Nothing is loaded where they name no script.
@@ -65,18 +107,10 @@ fn reply_to<S: Shelf>(alloc: Global, words: &Words, shelf: &mut S) -> Result<Rep
     ensures faults_never_fall { S.faults shelf.old ≤ S.faults shelf.new }
     ensures taken_never_falls { S.taken shelf.old ≤ S.taken shelf.new }
 {
-    let Some((command, name)) = asked(words) else {
-        let Some(trial) = asked_trial(words) else {
-            return Ok(plain(Answer::Usage));
-        };
-        return tried(alloc, trial);
-    };
-    match shelf.load(alloc, name, SCRIPT_LIMIT) {
-        Ok(text) => replied(alloc, None, command, text.as_slice()),
-        Err(LoadFault::Missing) => Ok(plain(Answer::ScriptNotFound)),
-        Err(LoadFault::TooLong) => Ok(plain(Answer::Refused(Refusal::ScriptTooLong))),
-        Err(LoadFault::Failed) => Ok(plain(Answer::ScriptNotRead)),
-        Err(LoadFault::NoMemory) => Err(NoMemory),
+    let found = asked(alloc, words)?;
+    match found {
+        None => Ok(plain(Answer::Usage)),
+        Some(request) => requested(alloc, request, shelf),
     }
 }
 

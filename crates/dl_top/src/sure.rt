@@ -2,7 +2,7 @@
 
 ghost use Rattle.std.specs.Prelude.{◌≡◌, ◌≢◌, Some};
 ghost use Rattle.dl_top.specs.Cause.{CallsFor, HoldsAllNamed, MayGive, shelf_signs};
-ghost use Rattle.command_words.specs.Command.{AsksForCheck, AsksForShow, AsksForSomeTrial, AsksForTable};
+ghost use Rattle.command_words.specs.Request.{AsksForCheck, AsksForShow, AsksForTable, AsksForTrial};
 ghost use Rattle.dl_top.specs.Ending.{Ends, EndsWhole, sink_signs};
 ghost use Rattle.dl_top.specs.Proved.{IsProved, IsShown, IsTold, IsTried};
 
@@ -15,7 +15,7 @@ use std::alloc::Global;
 /// is not 4.
 pub fn dl_sure(alloc: Global, words: &Words, shelf: &mut SureShelf, out: &mut SureSink) -> u8
     ensures proved { AsksForCheck words.now → result ≡ 0 → IsProved shelf.old words.now (Some out.old.sent) (Some out.new.sent) }
-    ensures tried { AsksForSomeTrial words.now → result ≡ 0 → IsTried words.now (Some out.old.sent) (Some out.new.sent) }
+    ensures tried { AsksForTrial words.now → result ≡ 0 → IsTried words.now (Some out.old.sent) (Some out.new.sent) }
     ensures told { AsksForTable words.now → result ≡ 0 → IsTold shelf.old words.now (Some out.old.sent) (Some out.new.sent) }
     ensures shown { AsksForShow words.now → result ≡ 0 → IsShown shelf.old words.now (Some out.old.sent) (Some out.new.sent) }
     ensures ends { Ends (MayGive (Some shelf.old) words.now (shelf_signs 0 0 0 0))

@@ -3,7 +3,7 @@
 ghost use Rattle.std.specs.Prelude.{◌≡◌, ◌≢◌, ◌≤◌, IfSome};
 ghost use Rattle.dl_outside.specs.Count.{HasRisen};
 ghost use Rattle.dl_top.specs.Cause.{CallsFor, MayGive, shelf_signs};
-ghost use Rattle.command_words.specs.Command.{AsksForCheck, AsksForShow, AsksForSomeTrial, AsksForTable, NamesNoScript};
+ghost use Rattle.command_words.specs.Request.{AsksForCheck, AsksForShow, AsksForTable, AsksForTrial, NamesNoScript};
 ghost use Rattle.dl_top.specs.Ending.{Ends, EndsInShelfFault, EndsWhole, sink_signs};
 ghost use Rattle.dl_top.specs.Proved.{IsProved, IsShown, IsTold, IsTried};
 
@@ -27,7 +27,7 @@ pub fn dl_main<S: Shelf, O: Sink>(alloc: Global, words: &Words, shelf: &mut S, o
     ensures proved { AsksForCheck words.now → result ≡ 0 → IfSome (S.texts shelf.old) (λ texts. IsProved texts words.now (O.sent out.old) (O.sent out.new)) }
 
     // The same of the script of a family, where a trial ends with status 0.
-    ensures tried { AsksForSomeTrial words.now → result ≡ 0 → IsTried words.now (O.sent out.old) (O.sent out.new) }
+    ensures tried { AsksForTrial words.now → result ≡ 0 → IsTried words.now (O.sent out.old) (O.sent out.new) }
 
     // Where a script is shown with status 0, its text spells exactly one script, and what was sent is the printed text of that, which
     // spells it again and no other.

@@ -1,4 +1,4 @@
--- What an answer tells of a network that is free of deadlock.
+-- What is told of a network that is free of deadlock.
 use Rattle.std.specs.Prelude.{◌≡◌, ℕ, List, length}
 use Rattle.csp_program.specs.declared.processes.Proc.{Proc}
 use Rattle.csp_program.specs.declared.programs.Content.{Content}
@@ -8,12 +8,12 @@ use Rattle.csp_tables.specs.Shape.{Shape}
 use Rattle.csp_tables.specs.SilentBound.{IsSilentBound}
 use Rattle.csp_tables.specs.declared.rule.Rule.{Rule}
 use Rattle.process_steps.specs.ComponentStep.{ProcessStep}
-use Rattle.report.specs.declared.answer.Answer.{Answer}
-use Rattle.report.specs.declared.answer.Answer.TheVariants as answer
+use Rattle.report.specs.declared.answer.Done.{Done}
+use Rattle.report.specs.declared.answer.Done.TheVariants as done
 use Rattle.free_answers.specs.Counts.{greatest_rank, node_count}
 
 -- the counts of the report are those of the components, the shape and the ranking
-pub record IsToldFree (p : Content) (cs : List (Component Proc)) (rule : Rule) (shape : Shape) (ranking : Ranking) (a : Answer) : Type 0 where
+pub record IsToldFree (p : Content) (cs : List (Component Proc)) (rule : Rule) (shape : Shape) (ranking : Ranking) (what : Done) : Type 0 where
   pub bound : ℕ
   pub exact : IsSilentBound (ProcessStep p) cs bound
-  pub is : a ≡ answer.DeadlockFree rule (length cs) (node_count shape.parts) bound (greatest_rank ranking)
+  pub is : what ≡ done.DeadlockFree rule (length cs) (node_count shape.parts) bound (greatest_rank ranking)

@@ -4,4 +4,4 @@
 mod counts;
 mod free;
 
-pub use free::free_answer;
+pub use free::deadlock_free;

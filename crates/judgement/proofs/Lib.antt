@@ -1,5 +1,5 @@
+pub mod Cases
 pub mod Free
 pub mod KindsUnique
 pub mod OneNetwork
-pub mod Points
-pub mod Status
+pub mod Walk

@@ -1,5 +1,4 @@
 pub mod Judged
 pub mod Laws
-pub mod Networks
+pub mod Noted
 pub mod Tells
-pub mod Told

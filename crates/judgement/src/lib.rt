@@ -1,7 +1,6 @@
-//! The judgement of a script: from the script to the answer, through its program, its network, the tables of its components and its shape.
+//! The judgement of a script: from the script to the answer, through its network, the tables of its components and its shape.
 #![tactic(auto)]
 
-mod annotated;
 mod ends;
 mod judging;
 mod laws;

@@ -1,91 +1,60 @@
-//! What the rules say of a network.
+//! The rules, with what a script notes of each component.
 
-ghost use Rattle.std.specs.Prelude.{◌≡◌, IfOk, Ok, length};
-ghost use Rattle.csp_program.specs.declared.processes.Proc.{Proc};
-ghost use Rattle.csp_program.specs.declared.programs.Content.{Content};
-ghost use Rattle.csp_tables.specs.Network.{Tree, leaves};
+ghost use Rattle.std.specs.Prelude.{IfErr, IfOk};
 ghost use Rattle.csp_tables.specs.Part.{TripleDisjoint, alphabets_of};
 ghost use Rattle.csp_tables.specs.Shape.{IsWellFormed};
-ghost use Rattle.csp_tables.specs.ShapeOf.{IsShapeOf};
-ghost use Rattle.csp_tables.specs.Standing.{IsBusyShape};
-ghost use Rattle.network_tables.specs.Tables.{AreTablesOf};
-ghost use Rattle.network_trees.specs.NetworkOf.{network_of};
-ghost use Rattle.process_steps.specs.ComponentStep.{ProcessStep};
-ghost use Rattle.judgement.specs.Judged.{IsJudgedBy, IsJudgedCyclic, ShapeIsJudged};
+ghost use Rattle.design_rules.specs.Rules.{HasNotes};
+ghost use Rattle.network_stages.specs.Networks.{components_at};
+ghost use Rattle.report.specs.Stops.{Tells};
+ghost use Rattle.judgement.specs.Noted.{BreaksRule, HasUntold, IsRanked, Notes};
 
-use crate::annotated::{by_client_server_rule, by_resource_rule};
-use crate::telling::{cyclic_answer, stop_answer};
-use csp_base::NoMemory;
+use crate::telling::{noted_refusal, rule_shortfall};
 use csp_program::Program;
-use csp_tables::{Rule, Shape};
-use cyclic_rule::cyclic;
-use free_answers::free_answer;
-use network_layout::Layout;
-use network_shape::busy;
-use network_tables::ComponentTable;
-use report::Answer;
+use csp_tables::{Ranking, Rule, Shape};
+use design_rules::NotedRule;
+use network_layout::{roles_of, uses_of};
+use network_stages::Spelled;
+use report::{Refusal, Shortfall, Stop, stopped};
+use rule_decider::decided;
 use std::alloc::Global;
 
-// What the cyclic rule says.
-fn by_cyclic_rule(
-    alloc: Global,
-    program: &Program,
-    layout: &Layout,
-    tables: &[ComponentTable],
-    shape: &Shape,
-) -> Result<Answer, NoMemory>
-    requires form { IsWellFormed shape.now }
-    requires apart { TripleDisjoint (alphabets_of shape.now.parts) }
-    requires busy { IsBusyShape shape.now }
-    ensures { (tree : Tree Proc) → network_of program.now ≡ Ok tree → layout.now ≡ leaves tree → AreTablesOf program.now layout.now tables.now
-        → IsShapeOf (ProcessStep program.now) tree shape.now → IfOk result (IsJudgedCyclic program.now tree shape.now) }
-{
-    match cyclic(alloc, shape) {
-        Ok(ranking) => free_answer(Rule::Cyclic, layout, tables, shape, &ranking),
-        Err(fault) => cyclic_answer(alloc, program, shape, fault),
-    }
-}
-
-// What the rule says.
-fn by_rule(
+// The rule with what the script of the network notes for it.
+pub(crate) fn noted(
     alloc: Global,
     rule: Rule,
-    program: &Program,
-    layout: &Layout,
-    tables: &[ComponentTable],
-    shape: &Shape,
-) -> Result<Answer, NoMemory>
-    requires form { IsWellFormed shape.now }
-    requires apart { TripleDisjoint (alphabets_of shape.now.parts) }
-    requires busy { IsBusyShape shape.now }
-    requires parts { length layout.now ≡ length shape.now.parts }
-    ensures { (tree : Tree Proc) → network_of program.now ≡ Ok tree → layout.now ≡ leaves tree → AreTablesOf program.now layout.now tables.now
-        → IsShapeOf (ProcessStep program.now) tree shape.now → IfOk result (IsJudgedBy program.now tree rule shape.now) }
+    network: &Spelled,
+) -> Result<NotedRule, Stop<Refusal>>
+    ensures ok { IfOk result (Notes network.now (components_at network.now) rule) }
+    ensures told { IfErr result (Tells (HasUntold network.now (components_at network.now) rule)) }
 {
     match rule {
-        Rule::Cyclic => by_cyclic_rule(alloc, program, layout, tables, shape),
-        Rule::ClientServer => by_client_server_rule(alloc, program, layout, tables, shape),
-        Rule::Resource => by_resource_rule(alloc, program, layout, tables, shape),
+        Rule::Cyclic => Ok(NotedRule::Cyclic),
+        Rule::ClientServer => match roles_of(alloc, network.program(), network.layout()) {
+            Ok(roles) => Ok(NotedRule::ClientServer(roles)),
+            Err(fault) => Err(stopped(noted_refusal(fault))),
+        },
+        Rule::Resource => match uses_of(alloc, network.program(), network.layout()) {
+            Ok(uses) => Ok(NotedRule::Resource(uses)),
+            Err(fault) => Err(stopped(noted_refusal(fault))),
+        },
     }
 }
 
-// What is said of a network by its shape.
-pub(crate) fn by_shape(
+// The ranking that the rule gives to a network of this shape, or what breaks the rule.
+pub(crate) fn ranked(
     alloc: Global,
-    rule: Rule,
     program: &Program,
-    layout: &Layout,
-    tables: &[ComponentTable],
+    rule: &NotedRule,
     shape: &Shape,
-) -> Result<Answer, NoMemory>
+) -> Result<Ranking, Stop<Shortfall>>
     requires form { IsWellFormed shape.now }
     requires apart { TripleDisjoint (alphabets_of shape.now.parts) }
-    requires parts { length layout.now ≡ length shape.now.parts }
-    ensures { (tree : Tree Proc) → network_of program.now ≡ Ok tree → layout.now ≡ leaves tree → AreTablesOf program.now layout.now tables.now
-        → IsShapeOf (ProcessStep program.now) tree shape.now → IfOk result (ShapeIsJudged program.now tree rule shape.now) }
+    requires notes { HasNotes rule.now shape.now }
+    ensures ok { IfOk result (IsRanked rule.now shape.now) }
+    ensures told { IfErr result (Tells (BreaksRule program.now rule.now shape.now)) }
 {
-    match busy(alloc, shape) {
-        Ok(()) => by_rule(alloc, rule, program, layout, tables, shape),
-        Err(fault) => stop_answer(alloc, program, fault),
+    match decided(alloc, rule, shape) {
+        Ok(ranking) => Ok(ranking),
+        Err(fault) => Err(stopped(rule_shortfall(alloc, program, rule, shape, fault))),
     }
 }

@@ -11,6 +11,7 @@ mod stops;
 
 pub use fault::BusyFault;
 pub use laws::{made_parts_make_shapes, stops_are_true, stops_refute};
+pub use normal_form::SetFault;
 pub use parts::part;
 pub use shaping::shape;
 pub use stops::busy;

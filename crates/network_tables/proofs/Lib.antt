@@ -1,3 +1,2 @@
 pub mod HeightSums
-pub mod MadeParts
 pub mod Rows

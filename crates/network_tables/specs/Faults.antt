@@ -1,19 +1,16 @@
 -- What each fault tells of the components of a network: which one is the first that has no table, and why.
-use Rattle.std.specs.Prelude.{◌≡◌, ℕ, ◌<◌, Some, List, length, slice_get, take}
+use Rattle.std.specs.Prelude.{◌≡◌, ℕ, Some, List, slice_get, take}
 use Rattle.csp_program.specs.declared.processes.Proc.{Proc}
 use Rattle.csp_program.specs.declared.programs.Content.{Content}
 use Rattle.csp_tables.specs.Network.{Component}
 use Rattle.csp_tables.specs.Path.{SilentStep}
 use Rattle.csp_tables.specs.RawTable.{RawStep}
-use Rattle.determinise.specs.ManySets.{ReachesSets}
 use Rattle.digraph.specs.Circle.{IsLeastCircle}
 use Rattle.local_tables.specs.Faults.{LacksTable}
 use Rattle.local_tables.specs.LocalTable.{IsLocalTable}
 use Rattle.local_tables.specs.declared.local_table.LocalTable.{LocalTable}
 use Rattle.local_tables.specs.declared.local_table.Room.{Room}
 use Rattle.network_tables.specs.Tables.{AreTablesOf, room_left, whole_room}
-use Rattle.network_tables.specs.declared.fault.PartsFault.{PartsFault}
-use Rattle.network_tables.specs.declared.fault.PartsFault.TheVariants as parts
 use Rattle.network_tables.specs.declared.fault.TableFault.{TableFault}
 use Rattle.network_tables.specs.declared.fault.TableFault.TheVariants as fault
 use Rattle.network_tables.specs.declared.component_tables.ComponentTable.{ComponentTable}
@@ -37,29 +34,6 @@ TellsTable p cs fault.NoMemory = Unit {0}
 TellsTable p cs (fault.Local i local) = IsFirst p cs i (λ room c. LacksTable p c room local)
 TellsTable p cs (fault.Diverges i circle) = IsFirst p cs i (GoesRound p circle)
 
--- traces lead to more than 2,048 sets of the table's terms
-abbrev pub HasManySets : ComponentTable → Type 0
-HasManySets t = ReachesSets (RawStep t.local.table) 0 2049
-
--- no table before the place i has
-abbrev pub HaveFewSetsBefore : ℕ → List ComponentTable → Type 0
-HaveFewSetsBefore i ts = (j : ℕ) (t : ComponentTable) → j < i → slice_get ts j ≡ Some t → HasManySets t → ⊥
-
--- no table has
-abbrev pub HaveFewSets : List ComponentTable → Type 0
-HaveFewSets ts = HaveFewSetsBefore (length ts) ts
-
--- the table with the number i is the first that has
-pub record IsFirstWithManySets (ts : List ComponentTable) (i : ℕ) : Type 0 where
-  pub table : ComponentTable
-  pub at : slice_get ts i ≡ Some table
-  pub many : HasManySets table
-  pub earlier : HaveFewSetsBefore i ts
-
-abbrev pub TellsParts : List ComponentTable → PartsFault → Type 0
-TellsParts ts parts.NoMemory = Unit {0}
-TellsParts ts (parts.SubsetLimit i found) = (found ≡ 2049) × IsFirstWithManySets ts i
-
 -- What a fault tells of a component with the number i, within a room. (No public contract cites the rest.)
 abbrev pub TellsHere : Content → ℕ → Room → Component Proc → TableFault → Type 0
 TellsHere p i room c fault.NoMemory = Unit {0}
@@ -71,8 +45,3 @@ abbrev pub TellsRound : ℕ → LocalTable → TableFault → Type 0
 TellsRound i made fault.NoMemory = Unit {0}
 TellsRound i made (fault.Local j local) = ⊥
 TellsRound i made (fault.Diverges j circle) = (j ≡ i) × IsLeastCircle (SilentStep (RawStep made.table)) circle
-
--- that traces lead to more than 2,048 sets of terms of the table with the number i
-abbrev pub TellsSets : ℕ → ComponentTable → PartsFault → Type 0
-TellsSets i t parts.NoMemory = Unit {0}
-TellsSets i t (parts.SubsetLimit j found) = (j ≡ i) × (found ≡ 2049) × HasManySets t

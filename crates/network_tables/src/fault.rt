@@ -1,4 +1,4 @@
-//! Why the components of a network have no tables, or no parts.
+//! Why the components of a network have no tables.
 
 use csp_base::NoMemory;
 use digraph::Circle;
@@ -25,20 +25,6 @@ pub enum TableFault {
     },
 }
 
-/// Why a component has no part.
-#[derive(Clone, Copy, Drop)]
-pub enum PartsFault {
-    /// Memory ran out.
-    NoMemory,
-    /// Traces lead to more than 2,048 sets of terms; the first such component is told.
-    SubsetLimit {
-        /// The component.
-        part: u32,
-        /// How many sets were found.
-        found: u32,
-    },
-}
-
 impl From<NoMemory> for TableFault {
     ghost use Rattle.std.specs.Prelude.{◌≡◌};
     ghost use Rattle.network_tables.specs.declared.fault.TableFault.TheVariants.{NoMemory as OutOfMemory};
@@ -47,16 +33,5 @@ impl From<NoMemory> for TableFault {
 
     fn from(_error: NoMemory) -> TableFault {
         TableFault::NoMemory
-    }
-}
-
-impl From<NoMemory> for PartsFault {
-    ghost use Rattle.std.specs.Prelude.{◌≡◌};
-    ghost use Rattle.network_tables.specs.declared.fault.PartsFault.TheVariants.{NoMemory as OutOfMemory};
-
-    ghost from_gives = { λ _ fault. fault ≡ OutOfMemory };
-
-    fn from(_error: NoMemory) -> PartsFault {
-        PartsFault::NoMemory
     }
 }

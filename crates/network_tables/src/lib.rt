@@ -1,12 +1,10 @@
-//! The tables of all components of a network, its silent bound, and the parts of its shape.
+//! The tables of all components of a network, and its silent bound.
 #![tactic(auto)]
 
 mod bound;
-mod component_parts;
 mod component_tables;
 mod fault;
 
 pub use bound::silent_bound;
-pub use component_parts::parts;
 pub use component_tables::{ComponentTable, tables};
-pub use fault::{PartsFault, TableFault};
+pub use fault::TableFault;

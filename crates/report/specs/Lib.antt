@@ -4,3 +4,5 @@ pub mod EventText
 pub mod Refusals
 pub mod Shortfalls
 pub mod Report
+pub mod Points
+pub mod Stops

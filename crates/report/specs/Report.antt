@@ -9,6 +9,10 @@ use Rattle.report.specs.Refusals.{refusal_text}
 use Rattle.report.specs.Shortfalls.{shortfall_text}
 use Rattle.report.specs.declared.answer.Answer.{Answer}
 use Rattle.report.specs.declared.answer.Answer.TheVariants as answer
+use Rattle.report.specs.declared.answer.Done.{Done}
+use Rattle.report.specs.declared.answer.Done.TheVariants as done
+use Rattle.report.specs.declared.answer.OutsideFault.{OutsideFault}
+use Rattle.report.specs.declared.answer.OutsideFault.TheVariants as outside
 use Rattle.report.specs.declared.answer.PrintedNode.{PrintedNode}
 use Rattle.csp_base.specs.Texts.{line}
 
@@ -47,23 +51,26 @@ deadlock_free_text rule components nodes bound greatest_rank =
     ++ line (codes "silent bound " ++ decimal bound)
     ++ line (codes "greatest rank " ++ signed_decimal greatest_rank)
 
+abbrev pub outside_text : OutsideFault → List ℕ
+outside_text outside.ScriptNotFound = codes "outside fault: script not found"
+outside_text outside.ScriptNotRead = codes "outside fault: script not read"
+
+abbrev pub done_text : Done → List ℕ
+done_text (done.Shown text) = text
+done_text (done.Table i count nodes) = table_text i count nodes
+done_text (done.DeadlockFree rule components nodes bound rank) = deadlock_free_text rule components nodes bound rank
+
 abbrev pub report_text : Answer → List ℕ
 report_text answer.Usage = line (codes "usage: dlcheck check RULE SCRIPT | show SCRIPT | table SCRIPT INDEX | trial FAMILY N")
-report_text answer.ScriptNotFound = line (codes "outside fault: script not found")
-report_text answer.ScriptNotRead = line (codes "outside fault: script not read")
+report_text (answer.Outside fault) = line (outside_text fault)
 report_text (answer.Refused refusal) = line (codes "refused") ++ line (refusal_text refusal)
 report_text (answer.NotProved shortfall) = line (codes "not proved") ++ shortfall_text shortfall
-report_text (answer.Shown text) = text
-report_text (answer.Table i count nodes) = table_text i count nodes
-report_text (answer.DeadlockFree rule components nodes bound rank) = deadlock_free_text rule components nodes bound rank
+report_text (answer.Done what) = done_text what
 
--- 0 proved or shown, 1 not proved, 2 refused, 3 no command, 4 a fault outside
+-- 0 done, 1 not proved, 2 refused, 3 no command, 4 a fault outside
 abbrev pub status : Answer → ℕ
 status answer.Usage = 3
-status answer.ScriptNotFound = 4
-status answer.ScriptNotRead = 4
+status (answer.Outside fault) = 4
 status (answer.Refused refusal) = 2
 status (answer.NotProved shortfall) = 1
-status (answer.Shown text) = 0
-status (answer.Table i count nodes) = 0
-status (answer.DeadlockFree rule components nodes bound rank) = 0
+status (answer.Done what) = 0

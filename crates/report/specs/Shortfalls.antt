@@ -2,6 +2,8 @@
 use Rattle.std.specs.Prelude.{ℕ, List, ◌++◌, codes}
 use Rattle.std.specs.List.{flat_map}
 use Rattle.std.specs.Fmt.{decimal}
+use Rattle.design_rules.specs.declared.condition.Condition.{Condition}
+use Rattle.design_rules.specs.declared.condition.Condition.TheVariants.{Roles, Clients, Turns, Service, Answers, Kinds, Holders, Grants, Uses}
 use Rattle.report.specs.Lines.{trace_text, numbers_text}
 use Rattle.report.specs.declared.answer.Shortfall.{Shortfall}
 use Rattle.report.specs.declared.answer.Shortfall.TheVariants as shortfall
@@ -13,10 +15,33 @@ after_text i trace = codes "component " ++ decimal i ++ codes " after " ++ trace
 abbrev pub link_text : ℕ × ℕ → List ℕ
 link_text link = codes "link " ++ decimal link.0 ++ codes " " ++ decimal link.1
 
+-- the number under which it is told that a condition is broken: of clients and servers, or of users and resources
+abbrev pub condition_number : Condition → List ℕ
+condition_number Roles = codes "26"
+condition_number Clients = codes "26"
+condition_number Turns = codes "26"
+condition_number Service = codes "26"
+condition_number Answers = codes "26"
+condition_number Kinds = codes "28"
+condition_number Holders = codes "28"
+condition_number Grants = codes "28"
+condition_number Uses = codes "28"
+
+abbrev pub condition_name : Condition → List ℕ
+condition_name Roles = codes "S1"
+condition_name Clients = codes "S2"
+condition_name Turns = codes "S3"
+condition_name Service = codes "S4"
+condition_name Answers = codes "S5"
+condition_name Kinds = codes "U1"
+condition_name Holders = codes "U2"
+condition_name Grants = codes "U3"
+condition_name Uses = codes "U4"
+
 -- a condition of a rule, with the component that breaks it
-abbrev pub condition_text : List ℕ → ℕ → List ℕ → ℕ → List (List ℕ) → List ℕ
-condition_text number i letter k trace =
-    number ++ codes " component " ++ decimal i ++ codes " breaks " ++ letter ++ decimal k ++ codes " after " ++ trace_text trace
+abbrev pub condition_text : Condition → ℕ → List (List ℕ) → List ℕ
+condition_text k i trace =
+    condition_number k ++ codes " component " ++ decimal i ++ codes " breaks " ++ condition_name k ++ codes " after " ++ trace_text trace
 
 abbrev pub shortfall_text : Shortfall → List ℕ
 shortfall_text (shortfall.NotTripleDisjoint event components) = line (codes "20 event " ++ event ++ codes " is in alphabets" ++ numbers_text components)
@@ -27,7 +52,6 @@ shortfall_text (shortfall.LinksCircle links) = line (codes "24 links in a circle
 shortfall_text (shortfall.NoFullEnd left right left_trace right_trace) =
     line (codes "25 link " ++ decimal left ++ codes " " ++ decimal right ++ codes " has no full end")
     ++ line (after_text left left_trace) ++ line (after_text right right_trace)
-shortfall_text (shortfall.BreaksRole k i trace) = line (condition_text (codes "26") i (codes "S") k trace)
+shortfall_text (shortfall.Broken k i trace) = line (condition_text k i trace)
 shortfall_text (shortfall.ClientsCircle components) = line (codes "27 clients in a circle" ++ numbers_text components)
-shortfall_text (shortfall.BreaksUse k i trace) = line (condition_text (codes "28") i (codes "U") k trace)
 shortfall_text (shortfall.ResourcesCircle components) = line (codes "29 resources in a circle" ++ numbers_text components)

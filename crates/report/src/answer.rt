@@ -4,6 +4,7 @@ use containers::Items;
 use csp_base::{Bytes, Name, Place};
 use csp_program::ValueKind;
 use csp_tables::Rule;
+use design_rules::Condition;
 
 /// Where a value is needed.
 #[derive(Clone, Copy)]
@@ -241,10 +242,10 @@ pub enum Shortfall {
         /// Events after which the right one doesn't.
         right_trace: Items<Bytes>,
     },
-    /// A condition of the client-server rule is broken (26).
-    BreaksRole {
-        /// The condition, from 1 to 5.
-        condition: u32,
+    /// A condition of a rule is broken (26 clients and servers, 28 users and resources).
+    Broken {
+        /// The condition.
+        condition: Condition,
         /// The component that breaks it.
         component: u32,
         /// Events after which it does.
@@ -254,15 +255,6 @@ pub enum Shortfall {
     ClientsCircle {
         /// The components.
         components: Items<u32>,
-    },
-    /// A condition of the resource rule is broken (28).
-    BreaksUse {
-        /// The condition, from 1 to 4.
-        condition: u32,
-        /// The component that breaks it.
-        component: u32,
-        /// Events after which it does.
-        trace: Items<Bytes>,
     },
     /// Resources of which each is held somewhere while the next is wanted, and the last one while the first is (29).
     ResourcesCircle {
@@ -295,18 +287,13 @@ impl Drop for Shortfall {
                 left_trace: _left_trace,
                 right_trace: _right_trace,
             } => {}
-            Shortfall::BreaksRole {
+            Shortfall::Broken {
                 condition: _condition,
                 component: _component,
                 trace: _trace,
             } => {}
             Shortfall::ClientsCircle {
                 components: _components,
-            } => {}
-            Shortfall::BreaksUse {
-                condition: _condition,
-                component: _component,
-                trace: _trace,
             } => {}
             Shortfall::ResourcesCircle {
                 components: _components,
@@ -333,18 +320,8 @@ impl Drop for PrintedNode {
     }
 }
 
-/// The answer to the words of a command line, with the values that its report prints.
-pub enum Answer {
-    /// The words are no command.
-    Usage,
-    /// The shelf holds no script of the name.
-    ScriptNotFound,
-    /// The script could not be read.
-    ScriptNotRead,
-    /// The script is refused.
-    Refused(Refusal),
-    /// The network is not proved.
-    NotProved(Shortfall),
+/// What a walk did that came to its end.
+pub enum Done {
     /// The script is shown.
     Shown {
         /// Its printed text.
@@ -375,27 +352,58 @@ pub enum Answer {
 }
 
 // By hand, so that a crate that ends one calls this and proves no end of its own.
-impl Drop for Answer {
+impl Drop for Done {
     fn drop(self) {
         match self {
-            Answer::Usage => {}
-            Answer::ScriptNotFound => {}
-            Answer::ScriptNotRead => {}
-            Answer::Refused(_first) => {}
-            Answer::NotProved(_first) => {}
-            Answer::Shown { text: _text } => {}
-            Answer::Table {
+            Done::Shown { text: _text } => {}
+            Done::Table {
                 component: _component,
                 count: _count,
                 nodes: _nodes,
             } => {}
-            Answer::DeadlockFree {
+            Done::DeadlockFree {
                 rule: _rule,
                 components: _components,
                 nodes: _nodes,
                 bound: _bound,
                 greatest_rank: _greatest_rank,
             } => {}
+        }
+    }
+}
+
+/// A fault of the shelf.
+#[derive(Clone, Copy)]
+pub enum OutsideFault {
+    /// It holds no script of the name.
+    ScriptNotFound,
+    /// The script could not be read.
+    ScriptNotRead,
+}
+
+/// The answer to the words of a command line, with the values that its report prints.
+pub enum Answer {
+    /// The words are no command.
+    Usage,
+    /// A script could not be had.
+    Outside(OutsideFault),
+    /// The script is refused.
+    Refused(Refusal),
+    /// The network is not proved.
+    NotProved(Shortfall),
+    /// What was asked for is done.
+    Done(Done),
+}
+
+// By hand, so that a crate that ends one calls this and proves no end of its own.
+impl Drop for Answer {
+    fn drop(self) {
+        match self {
+            Answer::Usage => {}
+            Answer::Outside(_first) => {}
+            Answer::Refused(_first) => {}
+            Answer::NotProved(_first) => {}
+            Answer::Done(_first) => {}
         }
     }
 }

@@ -8,10 +8,13 @@ mod printed;
 mod refusals;
 pub mod reports;
 mod shortfalls;
+mod stop;
 
 pub use answer::{
-    Answer, NameFault, NetworkFault, PrintedNode, Refusal, Shortfall, Site, TableFault,
+    Answer, Done, NameFault, NetworkFault, OutsideFault, PrintedNode, Refusal, Shortfall, Site,
+    TableFault,
 };
 pub use events::event_text;
 pub use printed::rule_name;
 pub use reports::{report_of, status_of};
+pub use stop::{Stop, finished, stopped};

@@ -5,10 +5,10 @@ ghost use Rattle.std.specs.List.{flat_map};
 ghost use Rattle.std.specs.Fmt.{decimal};
 ghost use Rattle.report.specs.Refusals.{refusal_text};
 ghost use Rattle.report.specs.Shortfalls.{shortfall_text};
-ghost use Rattle.report.specs.Report.{accept_text, deadlock_free_text, next_text, node_text, nodes_text, report_text, status, table_text};
+ghost use Rattle.report.specs.Report.{accept_text, deadlock_free_text, done_text, next_text, node_text, nodes_text, outside_text, report_text, status, table_text};
 ghost use Rattle.csp_base.specs.Texts.{line};
 
-use crate::answer::{Answer, PrintedNode, Refusal, Shortfall};
+use crate::answer::{Answer, Done, OutsideFault, PrintedNode, Refusal, Shortfall};
 use crate::lines::{Part, push_line, written, written_line};
 use crate::printed::rule_name;
 use crate::refusals::refusal_line;
@@ -18,16 +18,16 @@ use csp_base::{Bytes, NoMemory};
 use csp_tables::Rule;
 use std::alloc::Global;
 
-/// The exit status of an answer: 0 proved or shown, 1 not proved, 2 refused, 3 no command, 4 a fault outside.
+/// The exit status of an answer: 0 done, 1 not proved, 2 refused, 3 no command, 4 a fault outside.
 pub fn status_of(answer: &Answer) -> u8
     ensures { result ≡ status answer.now }
 {
     match answer {
-        Answer::DeadlockFree { .. } | Answer::Shown { .. } | Answer::Table { .. } => 0,
+        Answer::Done(_) => 0,
         Answer::NotProved(_) => 1,
         Answer::Refused(_) => 2,
         Answer::Usage => 3,
-        Answer::ScriptNotFound | Answer::ScriptNotRead => 4,
+        Answer::Outside(_) => 4,
     }
 }
 
@@ -228,6 +228,37 @@ fn not_proved(alloc: Global, shortfall: &Shortfall) -> Result<Bytes, NoMemory>
     )
 }
 
+// The report of a fault of the shelf.
+fn outside(alloc: Global, fault: OutsideFault) -> Result<Bytes, NoMemory>
+    ensures { IfOk result (λ made. made ≡ line (outside_text fault)) }
+{
+    match fault {
+        OutsideFault::ScriptNotFound => one_line(alloc, b"outside fault: script not found"),
+        OutsideFault::ScriptNotRead => one_line(alloc, b"outside fault: script not read"),
+    }
+}
+
+// The report of what was done.
+fn done(alloc: Global, done: &Done) -> Result<Bytes, NoMemory>
+    ensures { IfOk result (λ report. report ≡ done_text done.now) }
+{
+    match done {
+        Done::Shown { text } => text.try_clone(alloc),
+        Done::Table {
+            component,
+            count,
+            nodes,
+        } => table(alloc, *component, *count, nodes.as_slice()),
+        Done::DeadlockFree {
+            rule,
+            components,
+            nodes,
+            bound,
+            greatest_rank,
+        } => deadlock_free(alloc, *rule, *components, *nodes, *bound, *greatest_rank),
+    }
+}
+
 /// The report of an answer, each line with a line feed at its end.
 pub fn report_of(alloc: Global, answer: &Answer) -> Result<Bytes, NoMemory>
     ensures { IfOk result (λ report. report ≡ report_text answer.now) }
@@ -237,22 +268,9 @@ pub fn report_of(alloc: Global, answer: &Answer) -> Result<Bytes, NoMemory>
             alloc,
             b"usage: dlcheck check RULE SCRIPT | show SCRIPT | table SCRIPT INDEX | trial FAMILY N",
         ),
-        Answer::ScriptNotFound => one_line(alloc, b"outside fault: script not found"),
-        Answer::ScriptNotRead => one_line(alloc, b"outside fault: script not read"),
+        Answer::Outside(fault) => outside(alloc, *fault),
         Answer::Refused(refusal) => refused(alloc, refusal),
         Answer::NotProved(shortfall) => not_proved(alloc, shortfall),
-        Answer::Shown { text } => text.try_clone(alloc),
-        Answer::Table {
-            component,
-            count,
-            nodes,
-        } => table(alloc, *component, *count, nodes.as_slice()),
-        Answer::DeadlockFree {
-            rule,
-            components,
-            nodes,
-            bound,
-            greatest_rank,
-        } => deadlock_free(alloc, *rule, *components, *nodes, *bound, *greatest_rank),
+        Answer::Done(what) => done(alloc, what),
     }
 }

@@ -4,12 +4,13 @@ ghost use Rattle.std.specs.Prelude.{◌≡◌, ◌++◌, IfOk, OnOk, codes};
 ghost use Rattle.std.specs.List.{flat_map};
 ghost use Rattle.std.specs.Fmt.{decimal};
 ghost use Rattle.report.specs.Lines.{numbers_text, trace_text};
-ghost use Rattle.report.specs.Shortfalls.{after_text, link_text, shortfall_text};
+ghost use Rattle.report.specs.Shortfalls.{after_text, condition_name, condition_number, condition_text, link_text, shortfall_text};
 ghost use Rattle.csp_base.specs.Texts.{line};
 
 use crate::answer::Shortfall;
 use crate::lines::{Part, push_line, written_line};
 use csp_base::{Bytes, NoMemory};
+use design_rules::Condition;
 use std::alloc::Global;
 
 // A line of a text and numbers.
@@ -170,25 +171,54 @@ fn both_ends(
     Ok(made)
 }
 
+// The number under which it is told that a condition is broken.
+fn condition_number(condition: Condition) -> &'static [u8]
+    ensures { result.now ≡ condition_number condition }
+{
+    match condition {
+        Condition::Roles
+        | Condition::Clients
+        | Condition::Turns
+        | Condition::Service
+        | Condition::Answers => b"26",
+        Condition::Kinds | Condition::Holders | Condition::Grants | Condition::Uses => b"28",
+    }
+}
+
+// The name of a condition.
+fn condition_name(condition: Condition) -> &'static [u8]
+    ensures { result.now ≡ condition_name condition }
+{
+    match condition {
+        Condition::Roles => b"S1",
+        Condition::Clients => b"S2",
+        Condition::Turns => b"S3",
+        Condition::Service => b"S4",
+        Condition::Answers => b"S5",
+        Condition::Kinds => b"U1",
+        Condition::Holders => b"U2",
+        Condition::Grants => b"U3",
+        Condition::Uses => b"U4",
+    }
+}
+
 // The line of a condition that a component breaks.
-fn condition<'a>(
+fn broken<'a>(
     alloc: Global,
-    before: &'a [u8],
+    condition: Condition,
     component: u32,
-    between: &'a [u8],
-    condition: u32,
     trace: &'a [Bytes],
 ) -> Result<Bytes, NoMemory>
-    ensures { IfOk result (λ made. made
-        ≡ line (before.now ++ decimal component ++ between.now ++ decimal condition ++ codes " after " ++ trace_text trace.now)) }
+    ensures { IfOk result (λ made. made ≡ line (condition_text condition component trace.now)) }
 {
     written_line(
         alloc,
         &[
-            Part::Text(before),
+            Part::Text(condition_number(condition)),
+            Part::Text(b" component "),
             Part::Number(u64::from(component)),
-            Part::Text(between),
-            Part::Number(u64::from(condition)),
+            Part::Text(b" breaks "),
+            Part::Text(condition_name(condition)),
             Part::Text(b" after "),
             Part::Trace(trace),
         ],
@@ -228,33 +258,14 @@ pub(crate) fn shortfall_lines(alloc: Global, shortfall: &Shortfall) -> Result<By
             left_trace.as_slice(),
             right_trace.as_slice(),
         ),
-        Shortfall::BreaksRole {
-            condition: number,
+        Shortfall::Broken {
+            condition,
             component,
             trace,
-        } => condition(
-            alloc,
-            b"26 component ",
-            *component,
-            b" breaks S",
-            *number,
-            trace.as_slice(),
-        ),
+        } => broken(alloc, *condition, *component, trace.as_slice()),
         Shortfall::ClientsCircle { components } => {
             circle(alloc, b"27 clients in a circle", components.as_slice())
         }
-        Shortfall::BreaksUse {
-            condition: number,
-            component,
-            trace,
-        } => condition(
-            alloc,
-            b"28 component ",
-            *component,
-            b" breaks U",
-            *number,
-            trace.as_slice(),
-        ),
         Shortfall::ResourcesCircle { components } => {
             circle(alloc, b"29 resources in a circle", components.as_slice())
         }

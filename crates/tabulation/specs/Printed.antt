@@ -2,7 +2,7 @@
 use Rattle.std.specs.Prelude.{ℕ, List, map}
 use Rattle.csp_program.specs.declared.programs.Content.{Content}
 use Rattle.csp_tables.specs.Table.{Node}
-use Rattle.fault_answers.specs.Tells.{texts}
+use Rattle.network_stages.specs.Tells.{texts}
 use Rattle.report.specs.EventText.{event_text}
 use Rattle.report.specs.declared.answer.PrintedNode.{PrintedNode}
 

@@ -1,6 +1,6 @@
 use Rattle.std.proofs.Common.{◌≡◌, ℕ, ◌<◌, ◌≤◌, List, drop, arith}
-use Rattle.csp_lexer.specs.Tokens.{continued}
-use Rattle.csp_lexer.proofs.NumbersLemmas.{continued_grows}
+use Rattle.command_words.specs.Numerals.{continued}
+use Rattle.command_words.proofs.Digits.{continued_grows}
 use Rattle.command_words.proofs.numbers.value_of.Goals as goal
 
 -- the number so far is small

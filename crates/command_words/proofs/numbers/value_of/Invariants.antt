@@ -1,5 +1,5 @@
 use Rattle.std.proofs.Common.{◌≡◌, drop}
-use Rattle.csp_lexer.specs.Tokens.{continued}
+use Rattle.command_words.specs.Numerals.{continued}
 use Rattle.command_words.proofs.numbers.value_of.Given as goal
 
 abbrev pub invariant-loop-digit : goal.invariant-loop-digit

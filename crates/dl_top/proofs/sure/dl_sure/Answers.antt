@@ -1,6 +1,6 @@
 use Rattle.std.proofs.Common.{◌≡◌, ◌≢◌, ℕ, sym, ◌∙◌, arith}
 use Rattle.dl_outside.specs.Count.{HasRisen}
-use Rattle.dl_top.proofs.Holding.{held_not_four}
+use Rattle.dl_top.proofs.Loading.{held_not_four}
 use Rattle.dl_top.proofs.sure.dl_sure.Goals as goal
 
 -- a count that stays 0 hasn't risen

@@ -1,96 +1,70 @@
 use Rattle.std.proofs.Common.{Err, ap, ◌∙◌}
-use Rattle.dl_top.specs.Cause.{MayGive, shelf_signs}
+use Rattle.dl_top.specs.Cause.{MayGive, loads, shelf_signs}
 use Rattle.dl_top.specs.Ending.{sink_signs}
-use Rattle.dl_top.proofs.Printing.{ends_broken, ends_in_shelf_fault, ends_short, ends_whole}
+use Rattle.dl_top.proofs.Printing.{ends_broken, ends_in_shelf_fault, ends_short, ends_whole, settled}
 use Rattle.dl_top.proofs.Proving.{proved, shown, told, tried}
-use Rattle.dl_top.proofs.Settling.{settled}
 use Rattle.dl_top.proofs.top.dl_main.Goals as goal
 
 pub returns-in-Ok-send-clause-proved : goal.returns-in-Ok-send-clause-proved
-returns-in-Ok-send-clause-proved g c check zero =
+returns-in-Ok-send-clause-proved g c asks zero =
     let shelf = g.S.Shelf in
     let sink = g.O.Sink in
-    let is = c.in-Ok.ensures.prints in
-    proved (shelf.texts c.args.shelf.now) c.args.words.now
-    (shelf_signs (shelf.faults c.args.shelf.now) (shelf.faults c.printed_reply.new.shelf) (shelf.taken c.args.shelf.now) (shelf.taken c.printed_reply.new.shelf))
-    (sink.sent c.args.out.now) (sink.sent c.send.new.out)
-    is.reply c.as_slice.result.now c.in-Ok.printed.text c.in-Ok.printed.status
-    is.cause c.in-Ok-send.ensures.ok c.as_slice.ensures is.text is.status check zero
+    proved (shelf.texts c.args.shelf.now) c.args.words.now (shelf_signs (shelf.faults c.args.shelf.now) (shelf.faults c.printed_reply.new.shelf) (shelf.taken c.args.shelf.now) (shelf.taken c.printed_reply.new.shelf))
+    (sink.sent c.args.out.now) (sink.sent c.send.new.out) c.in-Ok.printed c.in-Ok.ensures.prints c.as_slice.result.now c.as_slice.ensures c.in-Ok-send.ensures.ok zero asks
 
 pub returns-in-Ok-send-clause-tried : goal.returns-in-Ok-send-clause-tried
 returns-in-Ok-send-clause-tried g c asks zero =
     let shelf = g.S.Shelf in
     let sink = g.O.Sink in
-    let is = c.in-Ok.ensures.prints in
-    tried (shelf.texts c.args.shelf.now) c.args.words.now
-    (shelf_signs (shelf.faults c.args.shelf.now) (shelf.faults c.printed_reply.new.shelf) (shelf.taken c.args.shelf.now) (shelf.taken c.printed_reply.new.shelf))
-    (sink.sent c.args.out.now) (sink.sent c.send.new.out)
-    is.reply c.as_slice.result.now c.in-Ok.printed.text c.in-Ok.printed.status
-    is.cause c.in-Ok-send.ensures.ok c.as_slice.ensures is.text is.status asks zero
+    tried (shelf.texts c.args.shelf.now) c.args.words.now (shelf_signs (shelf.faults c.args.shelf.now) (shelf.faults c.printed_reply.new.shelf) (shelf.taken c.args.shelf.now) (shelf.taken c.printed_reply.new.shelf))
+    (sink.sent c.args.out.now) (sink.sent c.send.new.out) c.in-Ok.printed c.in-Ok.ensures.prints c.as_slice.result.now c.as_slice.ensures c.in-Ok-send.ensures.ok zero asks
 
 pub returns-in-Ok-send-clause-told : goal.returns-in-Ok-send-clause-told
-returns-in-Ok-send-clause-told g c table zero =
+returns-in-Ok-send-clause-told g c asks zero =
     let shelf = g.S.Shelf in
     let sink = g.O.Sink in
-    let is = c.in-Ok.ensures.prints in
-    told (shelf.texts c.args.shelf.now) c.args.words.now
-    (shelf_signs (shelf.faults c.args.shelf.now) (shelf.faults c.printed_reply.new.shelf) (shelf.taken c.args.shelf.now) (shelf.taken c.printed_reply.new.shelf))
-    (sink.sent c.args.out.now) (sink.sent c.send.new.out)
-    is.reply c.as_slice.result.now c.in-Ok.printed.text c.in-Ok.printed.status
-    is.cause c.in-Ok-send.ensures.ok c.as_slice.ensures is.text is.status table zero
+    told (shelf.texts c.args.shelf.now) c.args.words.now (shelf_signs (shelf.faults c.args.shelf.now) (shelf.faults c.printed_reply.new.shelf) (shelf.taken c.args.shelf.now) (shelf.taken c.printed_reply.new.shelf))
+    (sink.sent c.args.out.now) (sink.sent c.send.new.out) c.in-Ok.printed c.in-Ok.ensures.prints c.as_slice.result.now c.as_slice.ensures c.in-Ok-send.ensures.ok zero asks
 
 pub returns-in-Ok-send-clause-shown : goal.returns-in-Ok-send-clause-shown
-returns-in-Ok-send-clause-shown g c show zero =
+returns-in-Ok-send-clause-shown g c asks zero =
     let shelf = g.S.Shelf in
     let sink = g.O.Sink in
-    let is = c.in-Ok.ensures.prints in
-    shown (shelf.texts c.args.shelf.now) c.args.words.now
-    (shelf_signs (shelf.faults c.args.shelf.now) (shelf.faults c.printed_reply.new.shelf) (shelf.taken c.args.shelf.now) (shelf.taken c.printed_reply.new.shelf))
-    (sink.sent c.args.out.now) (sink.sent c.send.new.out)
-    is.reply c.as_slice.result.now c.in-Ok.printed.text c.in-Ok.printed.status
-    c.printed_text_spells_the_script.ensures.same c.printed_text_spells_the_script.ensures.only
-    is.cause c.in-Ok-send.ensures.ok c.as_slice.ensures is.text is.status show zero
+    shown (shelf.texts c.args.shelf.now) c.args.words.now (shelf_signs (shelf.faults c.args.shelf.now) (shelf.faults c.printed_reply.new.shelf) (shelf.taken c.args.shelf.now) (shelf.taken c.printed_reply.new.shelf))
+    (sink.sent c.args.out.now) (sink.sent c.send.new.out) c.in-Ok.printed c.in-Ok.ensures.prints c.as_slice.result.now c.as_slice.ensures c.in-Ok-send.ensures.ok zero c.printed_text_spells_the_script.ensures.same c.printed_text_spells_the_script.ensures.only asks
 
 pub returns-in-Ok-send-clause-settled : goal.returns-in-Ok-send-clause-settled
 returns-in-Ok-send-clause-settled g c memory shelf_quiet sink_quiet =
     let shelf = g.S.Shelf in
     let sink = g.O.Sink in
-    let is = c.in-Ok.ensures.prints in
-    settled (shelf.texts c.args.shelf.now) c.args.words.now
-    (shelf_signs (shelf.faults c.args.shelf.now) (shelf.faults c.printed_reply.new.shelf) (shelf.taken c.args.shelf.now) (shelf.taken c.printed_reply.new.shelf))
-    (sink_signs (sink.sent c.args.out.now) (sink.sent c.send.new.out) (sink.faults c.args.out.now) (sink.faults c.send.new.out))
-    is.reply c.as_slice.result.now c.in-Ok.printed.text c.in-Ok.printed.status
-    is.cause shelf_quiet c.in-Ok-send.ensures.ok c.as_slice.ensures is.text is.status
+    settled (shelf.texts c.args.shelf.now) c.args.words.now (shelf_signs (shelf.faults c.args.shelf.now) (shelf.faults c.printed_reply.new.shelf) (shelf.taken c.args.shelf.now) (shelf.taken c.printed_reply.new.shelf))
+    (sink_signs (sink.sent c.args.out.now) (sink.sent c.send.new.out) (sink.faults c.args.out.now) (sink.faults c.send.new.out)) c.in-Ok.printed c.in-Ok.ensures.prints c.as_slice.result.now c.as_slice.ensures c.in-Ok-send.ensures.ok shelf_quiet
 
 pub returns-in-Ok-send-clause-ends : goal.returns-in-Ok-send-clause-ends
 returns-in-Ok-send-clause-ends g c =
     let shelf = g.S.Shelf in
     let sink = g.O.Sink in
-    let is = c.in-Ok.ensures.prints in
     ends_whole (MayGive (shelf.texts c.args.shelf.now) c.args.words.now (shelf_signs (shelf.faults c.args.shelf.now) (shelf.faults c.printed_reply.new.shelf) (shelf.taken c.args.shelf.now) (shelf.taken c.printed_reply.new.shelf)))
-    (sink_signs (sink.sent c.args.out.now) (sink.sent c.send.new.out) (sink.faults c.args.out.now) (sink.faults c.send.new.out)) c.in-Ok.printed is c.as_slice.result.now c.as_slice.ensures c.in-Ok-send.ensures.ok
+    (sink_signs (sink.sent c.args.out.now) (sink.sent c.send.new.out) (sink.faults c.args.out.now) (sink.faults c.send.new.out)) c.in-Ok.printed c.in-Ok.ensures.prints c.as_slice.result.now c.as_slice.ensures c.in-Ok-send.ensures.ok
 
 pub returns-in-Ok-send-clause-shelf_fault : goal.returns-in-Ok-send-clause-shelf_fault
 returns-in-Ok-send-clause-shelf_fault g c four quiet =
     let shelf = g.S.Shelf in
     let sink = g.O.Sink in
-    let is = c.in-Ok.ensures.prints in
-    ends_in_shelf_fault (shelf.texts c.args.shelf.now) c.args.words.now (shelf_signs (shelf.faults c.args.shelf.now) (shelf.faults c.printed_reply.new.shelf) (shelf.taken c.args.shelf.now) (shelf.taken c.printed_reply.new.shelf))
-    (sink_signs (sink.sent c.args.out.now) (sink.sent c.send.new.out) (sink.faults c.args.out.now) (sink.faults c.send.new.out)) c.in-Ok.printed is c.as_slice.result.now c.as_slice.ensures c.in-Ok-send.ensures.ok four
+    ends_in_shelf_fault (loads (shelf.texts c.args.shelf.now) (shelf_signs (shelf.faults c.args.shelf.now) (shelf.faults c.printed_reply.new.shelf) (shelf.taken c.args.shelf.now) (shelf.taken c.printed_reply.new.shelf))) c.args.words.now
+    (sink_signs (sink.sent c.args.out.now) (sink.sent c.send.new.out) (sink.faults c.args.out.now) (sink.faults c.send.new.out)) c.in-Ok.printed c.in-Ok.ensures.prints c.as_slice.result.now c.as_slice.ensures c.in-Ok-send.ensures.ok four
 
 pub returns-in-Err-Failed-clause-ends : goal.returns-in-Err-Failed-clause-ends
 returns-in-Err-Failed-clause-ends g c =
     let shelf = g.S.Shelf in
     let sink = g.O.Sink in
-    let is = c.in-Ok.ensures.prints in
     ends_broken (MayGive (shelf.texts c.args.shelf.now) c.args.words.now (shelf_signs (shelf.faults c.args.shelf.now) (shelf.faults c.printed_reply.new.shelf) (shelf.taken c.args.shelf.now) (shelf.taken c.printed_reply.new.shelf)))
-    (sink_signs (sink.sent c.args.out.now) (sink.sent c.send.new.out) (sink.faults c.args.out.now) (sink.faults c.send.new.out)) c.in-Ok.printed is c.as_slice.result.now c.as_slice.ensures
+    (sink_signs (sink.sent c.args.out.now) (sink.sent c.send.new.out) (sink.faults c.args.out.now) (sink.faults c.send.new.out)) c.in-Ok.printed c.in-Ok.ensures.prints c.as_slice.result.now c.as_slice.ensures
     (c.send.ensures.failed (c.in-Err-Failed.is ∙ ap Err c.in-Err-Failed.field-0-is)) c.in-Err-Failed.ensures.err
 
 pub returns-clause-ends : goal.returns-clause-ends
 returns-clause-ends g c =
     let shelf = g.S.Shelf in
     let sink = g.O.Sink in
-    let is = c.in-Ok.ensures.prints in
     ends_short (MayGive (shelf.texts c.args.shelf.now) c.args.words.now (shelf_signs (shelf.faults c.args.shelf.now) (shelf.faults c.printed_reply.new.shelf) (shelf.taken c.args.shelf.now) (shelf.taken c.printed_reply.new.shelf)))
-    (sink_signs (sink.sent c.args.out.now) (sink.sent c.send.new.out) (sink.faults c.args.out.now) (sink.faults c.send.new.out)) c.in-Ok.printed is c.as_slice.result.now c.as_slice.ensures c.in-Err-NoMemory.ensures.err
+    (sink_signs (sink.sent c.args.out.now) (sink.sent c.send.new.out) (sink.faults c.args.out.now) (sink.faults c.send.new.out)) c.in-Ok.printed c.in-Ok.ensures.prints c.as_slice.result.now c.as_slice.ensures c.in-Err-NoMemory.ensures.err

@@ -1,5 +1,5 @@
 use Rattle.std.proofs.Common.{◌≡◌, map, take}
-use Rattle.fault_answers.specs.Tells.{texts}
+use Rattle.network_stages.specs.Tells.{texts}
 use Rattle.tabulation.proofs.printed.printed_sets.Given as goal
 
 abbrev pub invariant-loop-set : goal.invariant-loop-set

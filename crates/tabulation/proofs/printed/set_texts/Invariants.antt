@@ -1,5 +1,5 @@
 use Rattle.std.proofs.Common.{◌≡◌, ◌++◌}
-use Rattle.fault_answers.specs.Tells.{texts}
+use Rattle.network_stages.specs.Tells.{texts}
 use Rattle.tabulation.proofs.printed.set_texts.Given as goal
 
 abbrev pub invariant-loop-event : goal.invariant-loop-event

@@ -1,0 +1,61 @@
+-- No words ask for two things: the first word tells which request it is, and the others what it is for.
+use Rattle.std.proofs.Common.{◌≡◌, ℕ, ◌<◌, ◌≤◌, List, [], ◌∷◌, get_or, sym, ap, ◌∙◌, arith}
+use Rattle.csp_tables.specs.declared.rule.Rule.{Rule}
+use Rattle.net_maker.specs.Families.{greatest}
+use Rattle.net_maker.specs.declared.families.Family.{Family}
+use Rattle.net_maker.specs.declared.families.Family.TheVariants.{Chain, Forks, Mesh}
+use Rattle.command_words.specs.Request.{IsWithin, WordsAskOnce, written}
+use Rattle.command_words.specs.declared.request.Job.TheVariants.{Check, Show, Table}
+use Rattle.command_words.specs.declared.request.Request.{Request}
+use Rattle.command_words.specs.declared.request.Request.TheVariants.{Script, Trial as trial}
+use Rattle.command_words.specs.declared.request.Trial.{Trial}
+use Rattle.command_words.proofs.Digits.{same_number}
+use Rattle.command_words.proofs.Names.{apart, same_family, same_rule}
+
+-- the word in a place
+word : (k : ℕ) (xs ys : List (List ℕ)) → xs ≡ ys → get_or xs k [] ≡ get_or ys k []
+word k xs ys is = ap (λ (ws : List (List ℕ)). get_or ws k []) is
+
+-- first words with different letters in this place
+differ : (k : ℕ) (xs ys : List (List ℕ)) → xs ≡ ys → (get_or (get_or xs 0 []) k 0 ≡ get_or (get_or ys 0 []) k 0 → ⊥) → ⊥
+differ k xs ys is never = apart k _ _ (word 0 xs ys is) never
+
+pub few : (f : Family) → greatest f ≤ 512
+few Forks = omega arith
+few Chain = omega arith
+few Mesh = omega arith
+
+same_trial : (t u : Trial) → t.family ≡ u.family → t.size ≡ u.size → t ≡ u
+same_trial t u families sizes =
+    let first : t ≡ record { family = u.family; size = t.size } = ap (λ (f : Family). record { family = f; size = t.size }) families in
+    first ∙ ap (λ (n : ℕ). record { family = u.family; size = n }) sizes
+
+one_request : (r s : Request) → IsWithin r → IsWithin s → written r ≡ written s → r ≡ s
+one_request (Script (Check rule) name) (Script (Check other) more) a b is =
+    let rules : rule ≡ other = same_rule rule other (word 1 _ _ is) in
+    let scripts : name ≡ more = word 2 _ _ is in cc
+one_request (Script (Check rule) name) (Script Show more) a b is = absurd (differ 0 _ _ is (λ e. omega (arith, e)))
+one_request (Script (Check rule) name) (Script (Table i) more) a b is = absurd (differ 0 _ _ is (λ e. omega (arith, e)))
+one_request (Script (Check rule) name) (trial t) a b is = absurd (differ 0 _ _ is (λ e. omega (arith, e)))
+one_request (Script Show name) (Script (Check other) more) a b is = absurd (differ 0 _ _ is (λ e. omega (arith, e)))
+one_request (Script Show name) (Script Show more) a b is = ap (Script Show) (word 1 _ _ is)
+one_request (Script Show name) (Script (Table i) more) a b is = absurd (differ 0 _ _ is (λ e. omega (arith, e)))
+one_request (Script Show name) (trial t) a b is = absurd (differ 0 _ _ is (λ e. omega (arith, e)))
+one_request (Script (Table i) name) (Script (Check other) more) a b is = absurd (differ 0 _ _ is (λ e. omega (arith, e)))
+one_request (Script (Table i) name) (Script Show more) a b is = absurd (differ 0 _ _ is (λ e. omega (arith, e)))
+one_request (Script (Table i) name) (Script (Table j) more) a b is =
+    let indices : i ≡ j = same_number i j a b (word 2 _ _ is) in
+    let scripts : name ≡ more = word 1 _ _ is in cc
+one_request (Script (Table i) name) (trial t) a b is = absurd (differ 1 _ _ is (λ e. omega (arith, e)))
+one_request (trial t) (Script (Check other) more) a b is = absurd (differ 0 _ _ is (λ e. omega (arith, e)))
+one_request (trial t) (Script Show more) a b is = absurd (differ 0 _ _ is (λ e. omega (arith, e)))
+one_request (trial t) (Script (Table i) more) a b is = absurd (differ 1 _ _ is (λ e. omega (arith, e)))
+one_request (trial t) (trial u) a b is =
+    let families = same_family t.family u.family (word 1 _ _ is) in
+    let low = few t.family in
+    let high = few u.family in
+    let sizes = same_number t.size u.size (let top = a.1 in omega arith) (let top = b.1 in omega arith) (word 2 _ _ is) in
+    ap trial (same_trial t u families sizes)
+
+pub words_ask_once : WordsAskOnce
+words_ask_once words r s a b = one_request r s a.within b.within (sym a.are ∙ b.are)

@@ -1,0 +1,66 @@
+-- What the words of a command line ask for.
+use Rattle.std.specs.Prelude.{◌≡◌, ◌<◌, ◌≤◌, ℕ, Option, None, Some, List, [], ◌∷◌, codes}
+use Rattle.std.specs.Fmt.{decimal}
+use Rattle.csp_tables.specs.declared.rule.Rule.{Rule}
+use Rattle.net_maker.specs.Families.{family_name, greatest, least}
+use Rattle.report.specs.Report.{rule_text}
+use Rattle.command_words.specs.declared.request.Job.{Job}
+use Rattle.command_words.specs.declared.request.Job.TheVariants.{Check, Show, Table}
+use Rattle.command_words.specs.declared.request.Request.{Request}
+use Rattle.command_words.specs.declared.request.Request.TheVariants as request
+use Rattle.command_words.specs.declared.request.Trial.{Trial}
+
+-- how a request is written: `check RULE SCRIPT`, `show SCRIPT`, `table SCRIPT INDEX` or `trial FAMILY N`
+abbrev pub written : Request → List (List ℕ)
+written (request.Script (Check rule) name) = codes "check" ∷ rule_text rule ∷ name ∷ []
+written (request.Script Show name) = codes "show" ∷ name ∷ []
+written (request.Script (Table i) name) = codes "table" ∷ name ∷ decimal i ∷ []
+written (request.Trial trial) = codes "trial" ∷ family_name trial.family ∷ decimal trial.size ∷ []
+
+-- an index has one to six digits, and a size is one that the family has
+abbrev pub IsWithin : Request → Type 0
+IsWithin (request.Script (Check rule) name) = Unit {0}
+IsWithin (request.Script Show name) = Unit {0}
+IsWithin (request.Script (Table i) name) = i < 1000000
+IsWithin (request.Trial trial) = (least trial.family ≤ trial.size) × (trial.size ≤ greatest trial.family)
+
+pub record Asks (words : List (List ℕ)) (request : Request) : Type 0 where
+  pub within : IsWithin request
+  pub are : words ≡ written request
+
+-- the names of the scripts that a request is for
+abbrev pub names : Request → List (List ℕ)
+names (request.Script job name) = name ∷ []
+names (request.Trial trial) = []
+
+abbrev pub trial_of : Request → Option Trial
+trial_of (request.Script job name) = None
+trial_of (request.Trial trial) = Some trial
+
+-- The words are no command.
+abbrev pub IsNoRequest : List (List ℕ) → Type 0
+IsNoRequest words = (request : Request) → Asks words request → ⊥
+
+-- The words name no script.
+abbrev pub NamesNoScript : List (List ℕ) → Type 0
+NamesNoScript words = (request : Request) → Asks words request → names request ≡ []
+
+-- The words ask for the judgement of a script.
+abbrev pub AsksForCheck : List (List ℕ) → Type 0
+AsksForCheck words = (rule : Rule) × (script : List ℕ) × Asks words (request.Script (Check rule) script)
+
+-- The words ask for a script to be shown.
+abbrev pub AsksForShow : List (List ℕ) → Type 0
+AsksForShow words = (script : List ℕ) × Asks words (request.Script Show script)
+
+-- The words ask for the table of a component.
+abbrev pub AsksForTable : List (List ℕ) → Type 0
+AsksForTable words = (i : ℕ) × (script : List ℕ) × Asks words (request.Script (Table i) script)
+
+-- The words ask for a trial.
+abbrev pub AsksForTrial : List (List ℕ) → Type 0
+AsksForTrial words = (trial : Trial) × Asks words (request.Trial trial)
+
+-- Words ask for one request at most.
+abbrev pub WordsAskOnce : Type 0
+WordsAskOnce = (words : List (List ℕ)) (request other : Request) → Asks words request → Asks words other → request ≡ other

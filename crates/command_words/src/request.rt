@@ -1,0 +1,204 @@
+//! What the words of a command line ask for.
+
+ghost use Rattle.std.specs.Prelude.{◌≡◌, ◌<◌, ◌≤◌, List, ℕ, IfNone, IfOk, IfSome};
+ghost use Rattle.csp_tables.specs.declared.rule.Rule.{Rule as RuleValue};
+ghost use Rattle.net_maker.specs.declared.families.Family.{Family as FamilyValue};
+ghost use Rattle.net_maker.specs.Families.{family_name, greatest, least};
+ghost use Rattle.report.specs.Report.{rule_text};
+ghost use Rattle.command_words.specs.declared.request.Job.{Job as JobValue};
+ghost use Rattle.command_words.specs.declared.request.Job.TheVariants.{Check, Show, Table};
+ghost use Rattle.command_words.specs.declared.request.Request.TheVariants as request;
+ghost use Rattle.command_words.specs.declared.request.Trial.{Trial as TrialValue};
+ghost use Rattle.command_words.specs.Request.{Asks, IsNoRequest, written};
+ghost use Rattle.command_words.specs.Named.{IsNamed};
+
+use crate::numbers::spelled_number;
+use crate::words::Words;
+use csp_base::{Bytes, NoMemory};
+use csp_tables::Rule;
+use net_maker::{Family, greatest_size, least_size, name_of};
+use report::rule_name;
+use std::alloc::Global;
+
+const CHECK: &[u8] = b"check";
+
+const SHOW: &[u8] = b"show";
+
+const TABLE: &[u8] = b"table";
+
+const TRIAL: &[u8] = b"trial";
+
+/// What is to be done with a script.
+#[derive(Clone, Copy)]
+pub enum Job {
+    /// Its network is judged by a rule.
+    Check(Rule),
+    /// It is printed again.
+    Show,
+    /// The normal table of the component with this number is printed.
+    Table(u32),
+}
+
+/// A network of a family, to be judged by the family's rule.
+#[derive(Clone, Copy)]
+pub struct Trial {
+    /// The family.
+    pub family: Family,
+    /// The size, from the least to the greatest of the family.
+    pub size: u32,
+}
+
+/// What the words ask for.
+#[derive(Drop)]
+pub enum Request {
+    /// A job is to be done with the script of this name.
+    Script(Job, Bytes),
+    /// A network of a family is to be tried.
+    Trial(Trial),
+}
+
+// The rule of this name.
+fn rule_named(name: &[u8]) -> Option<Rule>
+    ensures named { IfSome result (λ rule. name.now ≡ rule_text rule) }
+    ensures none { IfNone result ((rule : RuleValue) → name.now ≡ rule_text rule → ⊥) }
+{
+    if name == rule_name(Rule::Cyclic) {
+        return Some(Rule::Cyclic);
+    }
+    if name == rule_name(Rule::ClientServer) {
+        return Some(Rule::ClientServer);
+    }
+    if name == rule_name(Rule::Resource) {
+        return Some(Rule::Resource);
+    }
+    None
+}
+
+// The family of this name.
+fn family_named(name: &[u8]) -> Option<Family>
+    ensures named { IfSome result (λ family. name.now ≡ family_name family) }
+    ensures none { IfNone result ((family : FamilyValue) → name.now ≡ family_name family → ⊥) }
+{
+    if name == name_of(Family::Forks) {
+        return Some(Family::Forks);
+    }
+    if name == name_of(Family::Chain) {
+        return Some(Family::Chain);
+    }
+    if name == name_of(Family::Mesh) {
+        return Some(Family::Mesh);
+    }
+    None
+}
+
+// The rule and the script's name of the words `check RULE SCRIPT`.
+fn asked_check(words: &[Bytes]) -> Option<(Rule, &[u8])>
+    ensures asks { IfSome result (λ asked. words.now ≡ written (request.Script (Check asked.0) asked.1.now)) }
+    ensures none { IfNone result ((rule : RuleValue) (script : List ℕ) → words.now ≡ written (request.Script (Check rule) script) → ⊥) }
+{
+    match words {
+        [check, rule, script] if check.as_slice() == CHECK => match rule_named(rule.as_slice()) {
+            Some(rule) => Some((rule, script.as_slice())),
+            None => None,
+        },
+        _ => None,
+    }
+}
+
+// The script's name of the words `show SCRIPT`.
+fn asked_show(words: &[Bytes]) -> Option<&[u8]>
+    ensures asks { IfSome result (λ script. words.now ≡ written (request.Script Show script.now)) }
+    ensures none { IfNone result ((script : List ℕ) → words.now ≡ written (request.Script Show script) → ⊥) }
+{
+    match words {
+        [show, script] if show.as_slice() == SHOW => Some(script.as_slice()),
+        _ => None,
+    }
+}
+
+// The component and the script's name of the words `table SCRIPT INDEX`.
+fn asked_table(words: &[Bytes]) -> Option<(u32, &[u8])>
+    ensures asks { IfSome result (λ asked. (asked.0 < 1000000) × (words.now ≡ written (request.Script (Table asked.0) asked.1.now))) }
+    ensures none { IfNone result ((i : ℕ) (script : List ℕ) → i < 1000000 → words.now ≡ written (request.Script (Table i) script) → ⊥) }
+{
+    match words {
+        [table, script, index] if table.as_slice() == TABLE => match spelled_number(
+            index.as_slice(),
+        ) {
+            Some(index) => Some((index, script.as_slice())),
+            None => None,
+        },
+        _ => None,
+    }
+}
+
+// What the words ask for a script, and the script's name.
+fn asked_job(words: &[Bytes]) -> Option<(Job, &[u8])>
+    ensures asks { IfSome result (λ asked. Asks words.now (request.Script asked.0 asked.1.now)) }
+    ensures none { IfNone result ((job : JobValue) (script : List ℕ) → Asks words.now (request.Script job script) → ⊥) }
+{
+    if let Some((rule, script)) = asked_check(words) {
+        return Some((Job::Check(rule), script));
+    }
+    if let Some((index, script)) = asked_table(words) {
+        return Some((Job::Table(index), script));
+    }
+    let Some(script) = asked_show(words) else {
+        return None;
+    };
+    Some((Job::Show, script))
+}
+
+// The trial of a family, where the family has the size.
+fn trial_of(family: Family, size: u32) -> Option<Trial>
+    ensures trial { IfSome result (λ trial. (trial ≡ record { family = family; size = size }) × (least family ≤ size) × (size ≤ greatest family)) }
+    ensures none { IfNone result (least family ≤ size → size ≤ greatest family → ⊥) }
+{
+    if size < least_size(family) || greatest_size(family) < size {
+        return None;
+    }
+    Some(Trial { family, size })
+}
+
+// The trial of the words after `trial`.
+fn named_trial(family: &[u8], size: &[u8]) -> Option<Trial>
+    ensures named { IfSome result (IsNamed family.now size.now) }
+    ensures none { IfNone result ((trial : TrialValue) → IsNamed family.now size.now trial → ⊥) }
+{
+    let Some(family) = family_named(family) else {
+        return None;
+    };
+    let Some(size) = spelled_number(size) else {
+        return None;
+    };
+    trial_of(family, size)
+}
+
+// The trial of the words `trial FAMILY N`.
+fn asked_trial(words: &[Bytes]) -> Option<Trial>
+    ensures asks { IfSome result (λ trial. Asks words.now (request.Trial trial)) }
+    ensures none { IfNone result ((trial : TrialValue) → Asks words.now (request.Trial trial) → ⊥) }
+{
+    match words {
+        [trial, family, size] if trial.as_slice() == TRIAL => {
+            named_trial(family.as_slice(), size.as_slice())
+        }
+        _ => None,
+    }
+}
+
+/// What the words ask for, if they ask for something.
+pub fn asked(alloc: Global, words: &Words) -> Result<Option<Request>, NoMemory>
+    ensures asks { IfOk result (λ found. IfSome found (Asks words.now)) }
+    ensures none { IfOk result (λ found. IfNone found (IsNoRequest words.now)) }
+{
+    let words = words.as_slice();
+    if let Some(trial) = asked_trial(words) {
+        return Ok(Some(Request::Trial(trial)));
+    }
+    let Some((job, script)) = asked_job(words) else {
+        return Ok(None);
+    };
+    let name = Bytes::from_slice(alloc, script)?;
+    Ok(Some(Request::Script(job, name)))
+}

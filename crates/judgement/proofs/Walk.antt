@@ -1,0 +1,118 @@
+-- The walk of a judgement: what it answers at each of its exits.
+use Rattle.std.proofs.Common.{◌≡◌, List, Result, Ok, ap, subst}
+use Rattle.std.specs.Result.{IsErrAnd}
+use Rattle.csp_program.specs.declared.processes.Proc.{Proc}
+use Rattle.csp_program.specs.declared.programs.Content.{Content}
+use Rattle.csp_tables.specs.Network.{Component}
+use Rattle.csp_tables.specs.Part.{Part, TripleDisjoint}
+use Rattle.csp_tables.specs.Ranking.{Ranking}
+use Rattle.csp_tables.specs.Shape.{Shape}
+use Rattle.csp_tables.specs.ShapeOf.{IsShapeOf}
+use Rattle.csp_tables.specs.Standing.{IsBusyShape}
+use Rattle.csp_tables.specs.declared.rule.Rule.{Rule}
+use Rattle.csp_text.specs.declared.script.Script.{Script}
+use Rattle.free_answers.specs.Told.{IsToldFree}
+use Rattle.network_layout.specs.Triple.{alphabets}
+use Rattle.network_stages.proofs.Exits.{at_refusal, at_shortfall}
+use Rattle.network_stages.specs.Networks.{IsNetworkOf, components_at, network_at, tree_at}
+use Rattle.network_stages.specs.Sets.{ArePartsBy}
+use Rattle.network_stages.specs.Stages.{CanStop, HasNoNetwork, HaveNoParts, HaveNoTables, ShareEvent}
+use Rattle.network_stages.specs.Tables.{Tables}
+use Rattle.network_shape.specs.Made.{AreMadeFor}
+use Rattle.network_tables.specs.Tables.{AreTablesOf}
+use Rattle.network_tables.specs.declared.component_tables.ComponentTable.{ComponentTable}
+use Rattle.network_trees.specs.NetworkOf.{network_of}
+use Rattle.process_steps.specs.ComponentStep.{ProcessStep}
+use Rattle.report.proofs.Points.{goes_on}
+use Rattle.report.specs.Stops.{Answers, Tells, refused, unproved}
+use Rattle.report.specs.declared.answer.Answer.{Answer}
+use Rattle.report.specs.declared.answer.Answer.TheVariants as answer
+use Rattle.report.specs.declared.answer.Done.{Done}
+use Rattle.report.specs.declared.answer.Refusal.{Refusal}
+use Rattle.report.specs.declared.answer.Shortfall.{Shortfall}
+use Rattle.report.specs.declared.stop.Stop.{Stop}
+use Rattle.judgement.proofs.Free.{free}
+use Rattle.judgement.specs.Judged.{IsApart, IsDeadlockFree, IsJudged, RuleDecides}
+use Rattle.judgement.specs.Noted.{BreaksRule, HasUntold, IsRanked, Notes}
+use Rattle.design_rules.specs.declared.noted_rule.NotedRule.{NotedRule}
+
+-- what was made of a program that is p, and of components that are those of its network
+pub tables_here : (p q : Content) (cs : List (Component Proc)) (ts : List ComponentTable) → q ≡ p → cs ≡ components_at p → AreTablesOf q cs ts → AreTablesOf p (components_at p) ts
+tables_here p q cs ts programs components are =
+    subst (λ (x : Content). AreTablesOf x (components_at p) ts) programs (subst (λ (ds : List (Component Proc)). AreTablesOf q ds ts) components are)
+
+pub parts_here : (p q : Content) (cs : List (Component Proc)) (ts : List ComponentTable) (parts : List Part) → q ≡ p → cs ≡ components_at p → ArePartsBy q ts cs parts
+    → ArePartsBy p ts (components_at p) parts
+parts_here p q cs ts parts programs components are =
+    subst (λ (x : Content). ArePartsBy x ts (components_at p) parts) programs (subst (λ (ds : List (Component Proc)). ArePartsBy q ts ds parts) components are)
+
+pub made_here : (p q : Content) (cs : List (Component Proc)) (parts : List Part) → q ≡ p → cs ≡ components_at p → AreMadeFor (ProcessStep q) cs parts
+    → AreMadeFor (ProcessStep p) (components_at p) parts
+made_here p q cs parts programs components are =
+    subst (λ (x : Content). AreMadeFor (ProcessStep x) (components_at p) parts) programs (subst (λ (ds : List (Component Proc)). AreMadeFor (ProcessStep q) ds parts) components are)
+
+module _ (s : Script) (rule : Rule) (r : Result Done (Stop Answer)) where
+  pub at_network : (why : Stop Refusal) → IsErrAnd r (λ t. t ≡ refused why) → Tells (HasNoNetwork s) why → Answers (IsJudged s rule) r
+  unfolding IsJudged
+  at_network why exit tells = at_refusal r _ _ _ why exit tells
+
+  module _ (p : Content) (is : IsNetworkOf s (network_at p)) where
+    pub at_tables : (q : Content) (cs : List (Component Proc)) → q ≡ p → cs ≡ components_at p → (why : Stop Refusal) → IsErrAnd r (λ t. t ≡ refused why)
+        → Tells (HaveNoTables q 0 cs) why → Answers (IsJudged s rule) r
+    unfolding IsJudged
+    at_tables q cs same one why exit tells =
+        let there : Tells (HaveNoTables p 0 (components_at p)) why =
+        subst (λ (x : Content). Tells (HaveNoTables x 0 (components_at p)) why) same (subst (λ (ds : List (Component Proc)). Tells (HaveNoTables q 0 ds) why) one tells) in
+        goes_on _ _ _ _ (network_at p) is r (at_refusal r _ _ _ why exit there)
+
+    module _ (t : Tables) (are : AreTablesOf p (components_at p) t.tables) where
+      pub at_parts : (why : Stop Refusal) → IsErrAnd r (λ x. x ≡ refused why) → Tells (HaveNoParts 0 t.tables) why → Answers (IsJudged s rule) r
+      unfolding IsJudged
+      at_parts why exit tells = goes_on _ _ _ _ (network_at p) is r (goes_on _ _ _ _ t.tables are r (at_refusal r _ _ _ why exit tells))
+
+      module _ (parts : List Part) (by : ArePartsBy p t.tables (components_at p) parts) where
+        pub at_shape : (why : Stop Shortfall) → IsErrAnd r (λ x. x ≡ unproved why) → Tells (ShareEvent p (components_at p)) why → Answers (IsJudged s rule) r
+        unfolding IsJudged
+        at_shape why exit tells =
+            goes_on _ _ _ _ (network_at p) is r (goes_on _ _ _ _ t.tables are r (goes_on _ _ _ _ parts by r (at_shortfall r _ _ _ why exit tells)))
+
+        module _ (shape : Shape) (apart : IsApart (network_at p) shape) where
+          pub at_busy : (why : Stop Shortfall) → IsErrAnd r (λ x. x ≡ unproved why) → Tells (CanStop p shape) why → Answers (IsJudged s rule) r
+          unfolding IsJudged
+          at_busy why exit tells =
+              goes_on _ _ _ _ (network_at p) is r (goes_on _ _ _ _ t.tables are r (goes_on _ _ _ _ parts by r (goes_on _ _ _ _ shape apart r (at_shortfall r _ _ _ why exit tells))))
+
+          pub at_rule : IsBusyShape shape → Answers (RuleDecides (network_at p) rule shape) r → Answers (IsJudged s rule) r
+          unfolding IsJudged
+          at_rule busy rest =
+              goes_on _ _ _ _ (network_at p) is r (goes_on _ _ _ _ t.tables are r (goes_on _ _ _ _ parts by r (goes_on _ _ _ _ shape apart r (goes_on _ _ _ _ tt busy r rest))))
+
+module _ (p : Content) (rule : Rule) (shape : Shape) (r : Result Done (Stop Answer)) where
+  pub at_notes : (why : Stop Refusal) → IsErrAnd r (λ x. x ≡ refused why) → Tells (HasUntold p (components_at p) rule) why → Answers (RuleDecides (network_at p) rule shape) r
+  unfolding RuleDecides
+  at_notes why exit tells = at_refusal r _ _ _ why exit tells
+
+  module _ (notes : NotedRule) (are : Notes p (components_at p) rule notes) where
+    pub at_ranking : (q : Content) → q ≡ p → (why : Stop Shortfall) → IsErrAnd r (λ x. x ≡ unproved why) → Tells (BreaksRule q notes shape) why → Answers (RuleDecides (network_at p) rule shape) r
+    unfolding RuleDecides
+    at_ranking q same why exit tells =
+        goes_on _ _ _ _ notes are r (at_shortfall r _ _ _ why exit (subst (λ (x : Content). Tells (BreaksRule x notes shape) why) same tells))
+
+    pub at_free : (ranking : Ranking) → IsRanked notes shape ranking → Answers (IsDeadlockFree (network_at p) rule shape ranking) r → Answers (RuleDecides (network_at p) rule shape) r
+    unfolding RuleDecides
+    at_free ranking ranked rest = goes_on _ _ _ _ notes are r (goes_on _ _ _ _ ranking ranked r rest)
+
+-- what was told of a network free of deadlock
+pub is_free : (p : Content) (spelled : network_of p ≡ Ok (tree_at p)) (rule : Rule) (notes : NotedRule) (shape : Shape) (ranking : Ranking) (q : Content) (cs : List (Component Proc)) (what : Done)
+    → q ≡ p → cs ≡ components_at p → TripleDisjoint (alphabets (components_at p)) → IsShapeOf (ProcessStep p) (tree_at p) shape → IsBusyShape shape → IsRanked notes shape ranking
+    → IsToldFree q cs rule shape ranking what → IsDeadlockFree (network_at p) rule shape ranking (answer.Done what)
+is_free p spelled rule notes shape ranking q cs what programs components apart is busy ranked told =
+    let there : IsToldFree p (components_at p) rule shape ranking what =
+    subst (λ (x : Content). IsToldFree x (components_at p) rule shape ranking what) programs
+    (subst (λ (ds : List (Component Proc)). IsToldFree q ds rule shape ranking what) components told) in
+    record {
+      bound = there.bound;
+      exact = there.exact;
+      live = free p spelled shape apart is busy notes ranking there.bound ranked there.exact;
+      is = ap answer.Done there.is;
+    }

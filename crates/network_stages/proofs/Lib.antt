@@ -1,0 +1,5 @@
+pub mod Exits
+pub mod MadeParts
+pub mod MadeShape
+pub mod Networks
+pub mod ToldFaults

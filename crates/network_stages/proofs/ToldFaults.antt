@@ -1,0 +1,70 @@
+-- A fault that was told is the one that is there.
+use Rattle.std.proofs.Common.{◌≡◌, ℕ, List, Result, Ok, Err, IfErr, IfOk, inl, inr}
+use Rattle.std.proofs.lemmas.Result.{IfOk-weaker}
+use Rattle.csp_program.specs.declared.processes.Proc.{Proc}
+use Rattle.csp_program.specs.declared.programs.Content.{Content}
+use Rattle.csp_tables.specs.Network.{Component}
+use Rattle.csp_tables.specs.Shape.{Shape}
+use Rattle.csp_text.specs.declared.script.Script.{Script}
+use Rattle.network_layout.specs.Lays.{Fails}
+use Rattle.network_layout.specs.Triple.{SharesEvent, alphabets}
+use Rattle.network_layout.specs.declared.triple.TripleFault.{TripleFault}
+use Rattle.network_layout.specs.declared.triple.TripleFault.TheVariants as triple
+use Rattle.network_shape.specs.Stops.{StopsFirst}
+use Rattle.network_shape.specs.declared.fault.BusyFault.{BusyFault}
+use Rattle.network_shape.specs.declared.fault.BusyFault.TheVariants as busy
+use Rattle.network_trees.specs.NetworkOf.{network_of}
+use Rattle.network_trees.specs.declared.fault.LayoutFault.{LayoutFault}
+use Rattle.network_trees.specs.declared.fault.LayoutFault.TheVariants as layout
+use Rattle.report.specs.Stops.{Tells}
+use Rattle.report.specs.declared.answer.Refusal.{Refusal}
+use Rattle.report.specs.declared.answer.Shortfall.{Shortfall}
+use Rattle.report.specs.declared.stop.Stop.{Stop}
+use Rattle.report.specs.declared.stop.Stop.TheVariants as stop
+use Rattle.script_names.specs.Resolved.{IsProgram, IsRefused, Resolves}
+use Rattle.script_names.specs.declared.fault.ResolveFault.{ResolveFault}
+use Rattle.script_names.specs.declared.fault.ResolveFault.TheVariants as script
+use Rattle.network_stages.specs.Shortfalls.{TellsBusy, TellsTriple}
+use Rattle.network_stages.specs.Stages.{CanStop, HasNoNetwork, ShareEvent, SpellsNone}
+use Rattle.network_stages.specs.Tells.{TellsLayout, TellsScript}
+
+layout_fails : (p : Content) (f : LayoutFault) (r : Refusal) → Fails f (network_of p) → TellsLayout p f r → network_of p ≡ Err f
+layout_fails p layout.NoMemory r fails told = absurd told
+layout_fails p (layout.Value why) r fails told = fails
+layout_fails p (layout.BadNesting first count e) r fails told = fails
+layout_fails p layout.EmptyNetwork r fails told = fails
+layout_fails p layout.ComponentLimit r fails told = fails
+layout_fails p layout.NetworkDepth r fails told = fails
+
+pub spells_none : {E : Type 0} (p : Content) (f : LayoutFault) (told : Result Refusal E) → Fails f (network_of p) → IfOk told (TellsLayout p f) → IfOk told (SpellsNone p)
+spells_none p f told fails tells = IfOk-weaker told _ _ (λ r t. (f, layout_fails p f r fails t, t)) tells
+
+is_refused : (s : Script) (f : ResolveFault) (r : Refusal) → Resolves s (Err f) → TellsScript f r → IsRefused s f
+is_refused s script.NoMemory r is told = absurd told
+is_refused s script.NoAssert r is told = is
+is_refused s (script.Unknown i x) r is told = is
+is_refused s (script.Twice i x) r is told = is
+is_refused s (script.WrongKind i) r is told = is
+is_refused s (script.WrongCount i x) r is told = is
+is_refused s (script.ParallelInside i) r is told = is
+is_refused s (script.EventLimit n) r is told = is
+is_refused s (script.DataDepth i) r is told = is
+is_refused s (script.Value i why) r is told = is
+
+pub has_no_program : {E : Type 0} (s : Script) (f : ResolveFault) (told : Result Refusal E) → Resolves s (Err f) → IfOk told (TellsScript f) → IfOk told (HasNoNetwork s)
+has_no_program s f told is tells = IfOk-weaker told _ _ (λ r t. inl (f, is_refused s f r is t, t)) tells
+
+pub has_no_network : {A : Type 0} (s : Script) (p : Content) (made : Result A (Stop Refusal)) → IsProgram s p → IfErr made (Tells (SpellsNone p)) → IfErr made (Tells (HasNoNetwork s))
+has_no_network s p (Ok a) is tells = tt
+has_no_network s p (Err stop.NoMemory) is tells = tt
+has_no_network s p (Err (stop.Told r)) is tells = inr (p, is, tells)
+
+pub shares : {E : Type 0} (p : Content) (cs : List (Component Proc)) (f : TripleFault) (told : Result Shortfall E) → SharesEvent (alphabets cs) f → IfOk told (TellsTriple p f)
+    → IfOk told (ShareEvent p cs)
+shares p cs (triple.Shared e parts) told shared tells = IfOk-weaker told _ _ (λ s t. (e, parts.0, parts.1, parts.2, shared, t)) tells
+
+pub can_stop : {A E : Type 0} (p : Content) (shape : Shape) (f : BusyFault) (found : Result A BusyFault) (told : Result Shortfall E)
+    → ((i : ℕ) (trace : List ℕ) → found ≡ Err (busy.Stops i trace) → StopsFirst shape i trace) → found ≡ Err f → IfOk told (TellsBusy p f) → IfOk told (CanStop p shape)
+can_stop p shape f found (Err e) stops is tells = tt
+can_stop p shape busy.NoMemory found (Ok s) stops is tells = absurd tells
+can_stop p shape (busy.Stops i trace) found (Ok s) stops is tells = (i, trace, stops i trace is, tells)

@@ -1,0 +1,6 @@
+pub mod Networks
+pub mod Sets
+pub mod Shortfalls
+pub mod Stages
+pub mod Tables
+pub mod Tells

@@ -1,0 +1,52 @@
+-- Why a walk stops at each of its stages: the fault that is there, as it is told.
+use Rattle.std.specs.Prelude.{◌≡◌, ◌⊎◌, ℕ, ◌+◌, Err, List, [], ◌∷◌}
+use Rattle.csp_program.specs.declared.processes.Proc.{Proc}
+use Rattle.csp_program.specs.declared.programs.Content.{Content}
+use Rattle.csp_tables.specs.Network.{Component}
+use Rattle.csp_tables.specs.Shape.{Shape}
+use Rattle.csp_text.specs.declared.script.Script.{Script}
+use Rattle.network_layout.specs.Triple.{IsTriple, alphabets}
+use Rattle.network_shape.specs.Stops.{StopsFirst}
+use Rattle.network_tables.specs.Faults.{TellsTable}
+use Rattle.network_tables.specs.declared.component_tables.ComponentTable.{ComponentTable}
+use Rattle.network_tables.specs.declared.fault.TableFault.{TableFault}
+use Rattle.network_trees.specs.NetworkOf.{network_of}
+use Rattle.network_trees.specs.declared.fault.LayoutFault.{LayoutFault}
+use Rattle.report.specs.EventText.{event_text}
+use Rattle.report.specs.declared.answer.Refusal.{Refusal}
+use Rattle.report.specs.declared.answer.Refusal.TheVariants as refusal
+use Rattle.report.specs.declared.answer.Shortfall.{Shortfall}
+use Rattle.report.specs.declared.answer.Shortfall.TheVariants as shortfall
+use Rattle.report.specs.declared.answer.TableFault.TheVariants as table
+use Rattle.script_names.specs.Resolved.{IsProgram, IsRefused}
+use Rattle.script_names.specs.declared.fault.ResolveFault.{ResolveFault}
+use Rattle.network_stages.specs.Sets.{IsFirstWithManySets}
+use Rattle.network_stages.specs.Tells.{TellsComponent, TellsLayout, TellsScript, texts}
+
+-- the program spells no network
+abbrev pub SpellsNone : Content → Refusal → Type 0
+SpellsNone p r = (f : LayoutFault) × (network_of p ≡ Err f) × TellsLayout p f r
+
+-- the script has no program, or its program spells no network
+abbrev pub HasNoNetwork : Script → Refusal → Type 0
+HasNoNetwork script r =
+    ((f : ResolveFault) × IsRefused script f × TellsScript f r)
+    ⊎ ((p : Content) × IsProgram script p × SpellsNone p r)
+
+-- one of the components has no table; the first of them has the number n in its network
+abbrev pub HaveNoTables : Content → ℕ → List (Component Proc) → Refusal → Type 0
+HaveNoTables p n cs r = (f : TableFault) × TellsTable p cs f × TellsComponent p n f r
+
+-- traces of one of the components with these tables lead to too many sets of terms
+abbrev pub HaveNoParts : ℕ → List ComponentTable → Refusal → Type 0
+HaveNoParts n ts r = (i : ℕ) × IsFirstWithManySets ts i × (r ≡ refusal.Component (n + i) table.SubsetLimit)
+
+-- an event is in the alphabets of three components
+abbrev pub ShareEvent : Content → List (Component Proc) → Shortfall → Type 0
+ShareEvent p cs s =
+    (e : ℕ) × (i : ℕ) × (j : ℕ) × (k : ℕ) × IsTriple (alphabets cs) e i j k
+    × (s ≡ shortfall.NotTripleDisjoint (event_text p e) (i ∷ j ∷ k ∷ []))
+
+-- a component can stop
+abbrev pub CanStop : Content → Shape → Shortfall → Type 0
+CanStop p shape s = (i : ℕ) × (trace : List ℕ) × StopsFirst shape i trace × (s ≡ shortfall.Stops i (texts p trace))

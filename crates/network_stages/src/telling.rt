@@ -1,0 +1,155 @@
+//! What is told where a script, a program or a component is refused.
+
+ghost use Rattle.std.specs.Prelude.{◌≡◌, ◌+◌, IfOk};
+ghost use Rattle.report.specs.declared.answer.Refusal.TheVariants as refusal;
+ghost use Rattle.report.specs.declared.answer.TableFault.TheVariants as table;
+ghost use Rattle.network_stages.specs.Tells.{TellsComponent, TellsLayout, TellsLocal, TellsScript};
+
+use crate::texts::event_texts;
+use csp_base::NoMemory;
+use csp_program::{Program, ValueKind};
+use local_tables::LocalFault;
+use network_tables::TableFault;
+use network_trees::LayoutFault;
+use report::{NameFault, NetworkFault, Refusal, Site, event_text};
+use script_names::ResolveFault;
+use std::alloc::Global;
+
+// A fault of a declaration.
+fn declared(inside: u32, fault: NameFault) -> Refusal
+    ensures { result ≡ refusal.Declaration inside fault }
+{
+    Refusal::Declaration { inside, fault }
+}
+
+// A value that there isn't.
+fn valueless(kind: ValueKind, site: Site) -> Refusal
+    ensures { result ≡ refusal.Value kind site }
+{
+    Refusal::Value { kind, site }
+}
+
+// Why a script has no program.
+pub(crate) fn script_refusal(fault: ResolveFault) -> Result<Refusal, NoMemory>
+    ensures { IfOk result (TellsScript fault) }
+{
+    match fault {
+        ResolveFault::NoMemory => Err(NoMemory),
+        ResolveFault::NoAssert => Ok(Refusal::NoAssert),
+        ResolveFault::Unknown { inside, name } => Ok(declared(inside, NameFault::Unknown { name })),
+        ResolveFault::Twice { inside, name } => Ok(declared(inside, NameFault::Twice { name })),
+        ResolveFault::WrongKind { inside } => Ok(declared(inside, NameFault::WrongKind)),
+        ResolveFault::WrongCount { inside, name } => {
+            Ok(declared(inside, NameFault::WrongCount { name }))
+        }
+        ResolveFault::ParallelInside { inside } => Ok(declared(inside, NameFault::ParallelInside)),
+        ResolveFault::EventLimit { count } => Ok(Refusal::EventLimit { count }),
+        ResolveFault::DataDepth { inside } => Ok(declared(inside, NameFault::DataDepth)),
+        ResolveFault::Value { inside, kind } => Ok(valueless(kind, Site::Declaration(inside))),
+    }
+}
+
+// Why a program spells no network.
+pub(crate) fn layout_refusal(
+    alloc: Global,
+    program: &Program,
+    fault: LayoutFault,
+) -> Result<Refusal, NoMemory>
+    ensures { IfOk result (TellsLayout program.now fault) }
+{
+    match fault {
+        LayoutFault::NoMemory => Err(NoMemory),
+        LayoutFault::Value { kind } => Ok(valueless(kind, Site::Network)),
+        LayoutFault::BadNesting {
+            first,
+            count,
+            event,
+        } => {
+            let event = event_text(alloc, program, event)?;
+            Ok(Refusal::Network(NetworkFault::BadNesting {
+                first,
+                count,
+                event,
+            }))
+        }
+        LayoutFault::EmptyNetwork => Ok(Refusal::Network(NetworkFault::EmptyNetwork)),
+        LayoutFault::ComponentLimit => { Ok(Refusal::Network(NetworkFault::ComponentLimit)) }
+        LayoutFault::NetworkDepth => Ok(Refusal::Network(NetworkFault::NetworkDepth)),
+    }
+}
+
+// A fault of a component.
+fn on_component(component: u32, fault: report::TableFault) -> Refusal
+    ensures { result ≡ refusal.Component component fault }
+{
+    Refusal::Component { component, fault }
+}
+
+// Why a component has no table.
+fn local_refusal(
+    alloc: Global,
+    program: &Program,
+    component: u32,
+    fault: LocalFault,
+) -> Result<Refusal, NoMemory>
+    ensures { IfOk result (TellsLocal program.now component fault) }
+{
+    match fault {
+        LocalFault::NoMemory => Err(NoMemory),
+        LocalFault::Value { kind } => Ok(valueless(kind, Site::Component(component))),
+        LocalFault::TermCount { found: _ } => {
+            Ok(on_component(component, report::TableFault::TermCount))
+        }
+        LocalFault::TermDepth { found: _ } => {
+            Ok(on_component(component, report::TableFault::TermDepth))
+        }
+        LocalFault::TermTotal { found: _ } => {
+            Ok(on_component(component, report::TableFault::TermTotal))
+        }
+        LocalFault::StepCount { found: _ } => {
+            Ok(on_component(component, report::TableFault::StepCount))
+        }
+        LocalFault::Terminates { trace } => {
+            let trace = event_texts(alloc, program, trace.as_slice())?;
+            Ok(on_component(component, report::TableFault::Terminates { trace }))
+        }
+    }
+}
+
+// The number of the component in the place `place` of a list of which the first has the number `first`. One that its type does not hold is refused
+// like want of memory.
+fn number(first: u32, place: u32) -> Result<u32, NoMemory>
+    ensures { IfOk result (λ n. n ≡ first + place) }
+{
+    match first.checked_add(place) {
+        Some(number) => Ok(number),
+        None => Err(NoMemory),
+    }
+}
+
+// Why components have no tables, of which the first has the number `first`.
+pub(crate) fn tables_refusal(
+    alloc: Global,
+    program: &Program,
+    first: u32,
+    fault: TableFault,
+) -> Result<Refusal, NoMemory>
+    ensures { IfOk result (TellsComponent program.now first fault) }
+{
+    match fault {
+        TableFault::NoMemory => Err(NoMemory),
+        TableFault::Local { part, fault } => {
+            local_refusal(alloc, program, number(first, part)?, fault)
+        }
+        TableFault::Diverges { part, circle: _ } => {
+            Ok(on_component(number(first, part)?, report::TableFault::Diverges))
+        }
+    }
+}
+
+// Traces of the component in this place lead to too many sets of terms.
+pub(crate) fn sets_refusal(first: u32, place: u32) -> Result<Refusal, NoMemory>
+    ensures { IfOk result (λ told. told ≡ refusal.Component (first + place) table.SubsetLimit) }
+{
+    Ok(on_component(number(first, place)?, report::TableFault::SubsetLimit))
+}

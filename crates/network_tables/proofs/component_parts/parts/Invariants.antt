@@ -1,5 +1,0 @@
-use Rattle.network_tables.proofs.MadeParts.{AreMade}
-use Rattle.network_tables.proofs.component_parts.parts.Given as goal
-
-abbrev pub invariant-loop-place : goal.invariant-loop-place
-invariant-loop-place l = AreMade l.program l.seats l.tables l.made.items l.place

@@ -1,0 +1,75 @@
+//! Why a step of a walk to an answer is not done.
+
+ghost use Rattle.std.specs.Prelude.{◌≡◌, IfOk};
+ghost use Rattle.report.specs.Stops.{IsAnswer, stop_of};
+
+use crate::answer::{Answer, Done, Refusal, Shortfall};
+use csp_base::NoMemory;
+
+/// Why a step of a walk is not done.
+pub enum Stop<F> {
+    /// Memory ran out.
+    NoMemory,
+    /// This is told.
+    Told(F),
+}
+
+impl<F> From<NoMemory> for Stop<F> {
+    ghost use Rattle.std.specs.Prelude.{◌≡◌};
+    ghost use Rattle.report.specs.declared.stop.Stop.TheVariants as stop;
+
+    ghost from_gives = { λ _ s. s ≡ stop.NoMemory };
+
+    fn from(_error: NoMemory) -> Stop<F> {
+        Stop::NoMemory
+    }
+}
+
+impl From<Stop<Refusal>> for Stop<Answer> {
+    ghost use Rattle.std.specs.Prelude.{◌≡◌};
+    ghost use Rattle.report.specs.Stops.{refused};
+
+    ghost from_gives = { λ s t. t ≡ refused s };
+
+    fn from(stop: Stop<Refusal>) -> Stop<Answer> {
+        match stop {
+            Stop::NoMemory => Stop::NoMemory,
+            Stop::Told(refusal) => Stop::Told(Answer::Refused(refusal)),
+        }
+    }
+}
+
+impl From<Stop<Shortfall>> for Stop<Answer> {
+    ghost use Rattle.std.specs.Prelude.{◌≡◌};
+    ghost use Rattle.report.specs.Stops.{unproved};
+
+    ghost from_gives = { λ s t. t ≡ unproved s };
+
+    fn from(stop: Stop<Shortfall>) -> Stop<Answer> {
+        match stop {
+            Stop::NoMemory => Stop::NoMemory,
+            Stop::Told(shortfall) => Stop::Told(Answer::NotProved(shortfall)),
+        }
+    }
+}
+
+/// Why a step stops whose fault is told so, unless memory runs out for that.
+pub fn stopped<F>(told: Result<F, NoMemory>) -> Stop<F>
+    ensures { result ≡ stop_of told }
+{
+    match told {
+        Ok(fault) => Stop::Told(fault),
+        Err(_) => Stop::NoMemory,
+    }
+}
+
+/// The answer to which a walk comes, unless memory runs out.
+pub fn finished(walk: Result<Done, Stop<Answer>>) -> Result<Answer, NoMemory>
+    ensures { IfOk result (IsAnswer walk) }
+{
+    match walk {
+        Ok(done) => Ok(Answer::Done(done)),
+        Err(Stop::Told(answer)) => Ok(answer),
+        Err(Stop::NoMemory) => Err(NoMemory),
+    }
+}
