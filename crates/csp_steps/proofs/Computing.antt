@@ -29,16 +29,6 @@ pub same_moves : (trees : List Proc) (r : Result (List StepTo) EvalFault) (o o' 
 same_moves trees r o o' e h = subst (GivesMoves trees r) (sym e) h
 
 -- A fault of a part is a fault of the whole.
-moves_fault : {A : Type 0} (trees : List Proc) (f : EvalFault) (part : Outcome A) (whole : Outcome (List Move)) → Gives {A = A} (Err f) part
-    → ((k : ValueKind) → part ≡ Err k → whole ≡ Err k) → GivesMoves trees (Err f) whole
-moves_fault trees fault.NoMemory part whole h passes = tt
-moves_fault trees (fault.Value kind) part whole h passes = passes kind h
-
-pub passed_moves : {A : Type 0} (trees : List Proc) (r : Result (List StepTo) EvalFault) (f : EvalFault) (part : Outcome A) (whole : Outcome (List Move))
-    → IsErrAnd r (λ y. y ≡ f) → Gives {A = A} (Err f) part → ((k : ValueKind) → part ≡ Err k → whole ≡ Err k) → GivesMoves trees r whole
-passed_moves trees (Ok x) f part whole is h passes = absurd is
-passed_moves trees (Err y) f part whole is h passes = rw is (moves_fault trees f part whole h passes)
-
 moves_gone : (trees mid : List Proc) (f : EvalFault) (part whole : Outcome (List Move)) → GivesMoves mid (Err f) part
     → ((k : ValueKind) → part ≡ Err k → whole ≡ Err k) → GivesMoves trees (Err f) whole
 moves_gone trees mid fault.NoMemory part whole h passes = tt

@@ -8,5 +8,6 @@ pub mod Forms
 pub mod Looking
 pub mod Noting
 pub mod Own
+pub mod Passing
 pub mod Places
 pub mod Rounds

@@ -4,3 +4,4 @@ pub mod ExactStep
 pub mod Inputs
 pub mod Listed
 pub mod Once
+pub mod Rests

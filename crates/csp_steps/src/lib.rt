@@ -5,6 +5,7 @@ mod around;
 mod choice;
 mod entered;
 mod evaluated;
+mod fields;
 mod look;
 mod once;
 mod prefix;
