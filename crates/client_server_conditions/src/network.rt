@@ -78,12 +78,20 @@ impl<'a> Network<'a> {
         self.prepared.shape()
     }
 
+    /// The roles of each part.
+    pub fn all_roles(&self) -> &'a [RoleSets]
+        ensures value { result.now ≡ self.now.roles }
+        ensures count { length self.now.roles ≡ length self.now.shape.parts }
+    {
+        self.roles
+    }
+
     /// The roles of the part in this place.
     pub fn roles(&self, part: u32) -> &'a RoleSets
         requires { part < length self.now.shape.parts }
         ensures { result.now ≡ role_at self.now.roles part }
     {
-        &self.roles[part as usize]
+        &self.all_roles()[part as usize]
     }
 
     /// The links of the part in this place, in rising order.

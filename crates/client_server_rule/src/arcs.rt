@@ -13,6 +13,7 @@ use containers::Items;
 use csp_base::NoMemory;
 use design_rules::RuleFault;
 use digraph::{Fault, Heights, Rows, longest_walks};
+use shape_links::circle_fault;
 use std::alloc::Global;
 
 // For each part the greatest number of arcs in a walk from it to servers.
@@ -26,18 +27,10 @@ pub(crate) fn heights(alloc: Global, network: &Network<'_>) -> Result<Heights, R
     let rows = arcs(alloc, network)?;
     match longest_walks(alloc, &rows) {
         Ok(heights) => Ok(heights),
-        Err(Fault::Circle(circle)) => Err(told(alloc, circle.members())),
+        Err(Fault::Circle(circle)) => {
+            Err(circle_fault(Items::from_slice(alloc, circle.members())))
+        }
         Err(Fault::NoMemory) => Err(RuleFault::NoMemory),
-    }
-}
-
-// The circle of clients, or that memory ran out.
-fn told(alloc: Global, circle: &[u32]) -> RuleFault
-    ensures { (result ≡ RuleFault.NoMemory) ⊎ (result ≡ RuleFault.Circle circle.now) }
-{
-    match Items::from_slice(alloc, circle) {
-        Ok(members) => RuleFault::Circle { members },
-        Err(_) => RuleFault::NoMemory,
     }
 }
 

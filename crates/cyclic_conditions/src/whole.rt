@@ -6,7 +6,8 @@ ghost use Rattle.csp_tables.specs.Shape.{IsReached, is_end, link_at};
 ghost use Rattle.csp_tables.specs.Table.{IsRun, end_of, node_at};
 ghost use Rattle.design_rules.specs.Cyclic.{AllKeepPlaces, CanBeNumbered, FallsShort, HasWholeEnd, IsWholeEnd};
 ghost use Rattle.observed_runs.specs.Observed.{pair_at};
-ghost use Rattle.cyclic_conditions.specs.Shorts.{AreShorts, IsMarked, IsOnOne, IsShort, IsShortAt, KeepsShorts, short_at};
+ghost use Rattle.cyclic_conditions.specs.Shorts.{AreShorts, IsMarked, IsShort, IsShortAt, KeepsShorts, short_at};
+ghost use Rattle.shape_links.specs.Links.{IsOnOne};
 ghost use Rattle.design_rules.specs.Rules.{BreaksCyclic};
 
 use csp_base::{Event, EventSet, NoMemory};

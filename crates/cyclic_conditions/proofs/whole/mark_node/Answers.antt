@@ -3,11 +3,12 @@ use Rattle.std.proofs.lemmas.Bool.{cases_lt}
 use Rattle.csp_tables.specs.Table.{Node}
 use Rattle.csp_tables.specs.Part.{Part, part_at}
 use Rattle.csp_tables.specs.Shape.{Shape, acceptance_at}
-use Rattle.cyclic_conditions.specs.Shorts.{IsShort, IsOnOne, IsMarked}
+use Rattle.cyclic_conditions.specs.Shorts.{IsShort, IsMarked}
+use Rattle.shape_links.specs.Links.{IsOnOne}
 use Rattle.cyclic_conditions.proofs.Noting.{node_read}
-use Rattle.cyclic_conditions.proofs.Shortness.{accept_read, on_one, short_end, marked_still, keeps_both}
+use Rattle.cyclic_conditions.proofs.Shortness.{accept_read, short_end, marked_still, keeps_both}
 use Rattle.cyclic_conditions.proofs.whole.mark_node.Goals as goal
-use Rattle.shape_links.proofs.Links.{part_read}
+use Rattle.shape_links.proofs.Links.{on_one, part_read}
 
 pub mark_set-requires-clause-one : goal.mark_set-requires-clause-one
 mark_set-requires-clause-one c =

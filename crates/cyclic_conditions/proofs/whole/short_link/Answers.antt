@@ -1,13 +1,13 @@
-use Rattle.std.proofs.Common.{◌≡◌, ◌<◌, ◌∙◌, ℕ, List, Some, length, ap, sym, subst, refl}
+use Rattle.std.proofs.Common.{◌≡◌, ◌<◌, ◌∙◌, ℕ, List, Some, length, nat_le, ap, sym, subst, refl}
 use Rattle.std.proofs.lemmas.Bool.{false≢true}
 use Rattle.csp_base.specs.Events.{is_subset_of}
 use Rattle.csp_tables.specs.Shape.{Link, Shape, link_at}
 use Rattle.cyclic_conditions.specs.Shorts.{IsShort}
-use Rattle.shape_links.proofs.Links.{link_read}
-use Rattle.cyclic_conditions.proofs.Shortness.{short_set, short_subset, short_owner, short_lacks, first_found, vocabulary_owner, nothing}
+use Rattle.shape_links.proofs.Links.{link_read, no_number, vocabulary_owner}
+use Rattle.cyclic_conditions.proofs.Shortness.{short_set, short_subset, short_owner, short_lacks}
 use Rattle.cyclic_conditions.proofs.whole.short_link.Goals as goal
 use Rattle.std.proofs.lemmas.Option.{same_Some}
-use Rattle.csp_base.proofs.Listed.{none_found}
+use Rattle.csp_base.proofs.Listed.{find_has, none_found}
 
 pub returns-then-not-is_subset-clause-all : goal.returns-then-not-is_subset-clause-all
 returns-then-not-is_subset-clause-all c l one s =
@@ -19,8 +19,8 @@ returns-in_err-event-clause-all c l one s = absurd (none_found c.args.set.now s.
 pub returns-in_err-link-clause-all : goal.returns-in_err-link-clause-all
 returns-in_err-link-clause-all c l one s =
     let e = c.in_ok-event.event in
-    let o = vocabulary_owner c.args.prepared.now e c.shape-shape.ensures.form (s.shared e (first_found c.args.set.now e (sym c.in_ok-event.ensures.least))) in
-    absurd (nothing (c.in_err-link.ensures.owned o.0 o.1))
+    let o = vocabulary_owner c.args.prepared.now e c.shape-shape.ensures.form (s.shared e (find_has (nat_le 0) c.args.set.now e (sym c.in_ok-event.ensures.least))) in
+    absurd (no_number o.0 (c.in_err-link.ensures.owned o.0 o.1))
 
 pub bounds-links-link : goal.bounds-links-link
 bounds-links-link c =
