@@ -8,7 +8,7 @@ ghost use Rattle.digraph.specs.Walk.{AreHeights};
 ghost use Rattle.client_server_rule.specs.Serving.{ServesBelow, ServesOn};
 ghost use Rattle.design_rules.specs.Rules.{BreaksClientServer};
 
-use client_server_conditions::{Network, link_of};
+use client_server_conditions::Network;
 use containers::Items;
 use csp_base::NoMemory;
 use design_rules::RuleFault;
@@ -57,7 +57,8 @@ fn arc(rows: &mut Rows, network: &Network<'_>, link: u32) -> Result<(), NoMemory
     ensures kept { OnOk result ((i j : ℕ) → HasArc rows.old i j → HasArc rows.new i j) }
     ensures complete { OnOk result ((i j : ℕ) → ServesOn network.now link i j → HasArc rows.new i j) }
 {
-    let ends = link_of(network.shape(), link);
+    let _linked = network.shape();
+    let ends = network.prepared().link(link);
     let (left, right) = (ends.left(), ends.right());
     if network.asks(left, link) {
         rows.add_arc(left, right)?;
