@@ -5,7 +5,7 @@ ghost use Rattle.csp_tables.specs.Part.{part_at};
 ghost use Rattle.observed_runs.specs.Observed.{pair_at};
 ghost use Rattle.client_server_conditions.specs.Conditions.{AreAcknowledgements, IsOnSide, KeepsAt, is_asked_of, is_open_at, condition_of};
 
-use crate::network::{Network, link_of, node_of};
+use crate::network::Network;
 use crate::nodes::{some_out_of_turn, some_refuses, some_takes};
 use csp_base::EventSet;
 use design_rules::Condition;
@@ -100,12 +100,13 @@ fn is_broken(
     ensures breaks { result ≡ true → KeepsAt network.now condition part link node opened → ⊥ }
 {
     let shape = network.shape();
+    let prepared = network.prepared();
     let roles = network.roles(part);
-    let at = node_of(shape, part, node);
+    let at = prepared.node(part, node);
     match condition {
         RunCondition::Turns => {
-            let steps = network.prepared().steps(part, node);
-            some_out_of_turn(steps, link_of(shape, link).shared(), roles, opened)
+            let steps = prepared.steps(part, node);
+            some_out_of_turn(steps, prepared.link(link).shared(), roles, opened)
         }
         RunCondition::Service => opened
             && some_takes(at.accept(), shape.vocabulary(), roles.sreq()),

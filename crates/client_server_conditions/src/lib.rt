@@ -10,5 +10,5 @@ mod parted;
 mod runs;
 
 pub use conditions::RunCondition;
-pub use network::{Network, link_of};
+pub use network::Network;
 pub use runs::check;

@@ -1,17 +1,16 @@
 //! A shape with the roles of its components, once each link is known to have a client.
 
 ghost use Rattle.std.specs.Prelude.{◌≡◌, ◌<◌, true, false, IsTrue, IfErr, IfOk, length};
-ghost use Rattle.csp_tables.specs.Part.{TripleDisjoint, alphabets_of, part_at};
+ghost use Rattle.csp_tables.specs.Part.{TripleDisjoint, alphabets_of};
 ghost use Rattle.csp_tables.specs.Roles.{role_at};
-ghost use Rattle.csp_tables.specs.Shape.{IsWellFormed, is_end, link_at};
-ghost use Rattle.csp_tables.specs.Table.{node_at};
+ghost use Rattle.csp_tables.specs.Shape.{IsWellFormed, is_end};
 ghost use Rattle.shape_links.specs.Links.{ends_of};
 ghost use Rattle.client_server_conditions.specs.Network.{Asks, Grants, IsLinked};
 ghost use Rattle.design_rules.specs.Rules.{BreaksClientServer};
 
 use crate::clients::sides;
 use crate::parted::check_parted;
-use csp_tables::{Link, NormNode, RoleSets, Shape};
+use csp_tables::{RoleSets, Shape};
 use design_rules::RuleFault;
 use shape_links::Prepared;
 use std::alloc::Global;
@@ -78,12 +77,20 @@ impl<'a> Network<'a> {
         self.prepared.shape()
     }
 
+    /// The roles of each part.
+    pub fn all_roles(&self) -> &'a [RoleSets]
+        ensures value { result.now ≡ self.now.roles }
+        ensures count { length self.now.roles ≡ length self.now.shape.parts }
+    {
+        self.roles
+    }
+
     /// The roles of the part in this place.
     pub fn roles(&self, part: u32) -> &'a RoleSets
         requires { part < length self.now.shape.parts }
         ensures { result.now ≡ role_at self.now.roles part }
     {
-        &self.roles[part as usize]
+        &self.all_roles()[part as usize]
     }
 
     /// The links of the part in this place, in rising order.
@@ -103,21 +110,4 @@ impl<'a> Network<'a> {
     {
         (self.prepared.shape().links()[link as usize].left() == part) == self.sides[link as usize]
     }
-}
-
-/// The link in this place.
-pub fn link_of<'a>(shape: &'a Shape, link: u32) -> &'a Link
-    requires { link < length shape.now.links }
-    ensures { result.now ≡ link_at shape.now link }
-{
-    &shape.links()[link as usize]
-}
-
-// The node of the part in this place.
-pub(crate) fn node_of<'a>(shape: &'a Shape, part: u32, node: u32) -> &'a NormNode
-    requires part { part < length shape.now.parts }
-    requires node { node < length (part_at shape.now.parts part).table }
-    ensures { result.now ≡ node_at (part_at shape.now.parts part).table node }
-{
-    &shape.parts()[part as usize].table().nodes()[node as usize]
 }

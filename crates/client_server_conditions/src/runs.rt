@@ -14,13 +14,12 @@ ghost use Rattle.client_server_conditions.specs.Network.{Asks, Grants};
 ghost use Rattle.client_server_conditions.specs.Nodes.{EachShared, HasAllOrNone};
 
 use crate::conditions::{RunCondition, broken_pair};
-use crate::network::{Network, link_of, node_of};
+use crate::network::Network;
 use crate::nodes::some_splits;
 use csp_base::{EventSet, NoMemory, Trace};
-use csp_tables::Shape;
 use design_rules::RuleFault;
 use observed_runs::{Explored, Parity, Unwatched};
-use shape_links::explored;
+use shape_links::{Prepared, explored};
 use std::alloc::Global;
 
 /// Succeeds where each component keeps the condition after each of its runs, and else tells the first that does not.
@@ -80,10 +79,14 @@ fn split_run(alloc: Global, network: &Network<'_>, part: u32) -> Result<Option<T
     requires { part < length network.now.shape.parts }
     ensures { IfOk result (λ run. IsDecided network.now.shape part (KeepsWhole network.now RunCondition.Service part) run) }
 {
-    let shape = network.shape();
-    let explored = explored(alloc, network.prepared(), part, &Unwatched)?;
+    let _linked = network.shape();
+    let prepared = network.prepared();
+    let explored = explored(alloc, prepared, part, &Unwatched)?;
     let requests = network.roles(part).sreq();
-    explored.run_if_any(alloc, split_pair(shape, part, requests, explored.pairs()))
+    explored.run_if_any(
+        alloc,
+        split_pair(prepared, part, requests, explored.pairs()),
+    )
 }
 
 // A run after which the part breaks what the condition asks on one of its links.
@@ -142,7 +145,7 @@ fn acknowledgements(
     requires server { asks ≡ false → Grants network.now part link }
     ensures { IfOk result (λ events. AreAcknowledgements network.now part link events) }
 {
-    let shared = link_of(network.shape(), link).shared();
+    let shared = network.prepared().link(link).shared();
     let roles = network.roles(part);
     if asks {
         return shared.inter(alloc, roles.cack());
@@ -186,22 +189,28 @@ fn explored_link(
     ensures pairs { IfOk result (λ explored. IsExploration (part_at network.now.shape.parts part).table (parity_step (link_at network.now.shape link).shared) 0 explored.pairs) }
     ensures found { IfOk result (λ explored. AreFound (part_at network.now.shape.parts part).table (parity_step (link_at network.now.shape link).shared) 0 explored) }
 {
-    let shape = network.shape();
-    let parity = Parity::new(link_of(shape, link).shared());
-    explored(alloc, network.prepared(), part, &parity)
+    let _linked = network.shape();
+    let prepared = network.prepared();
+    let parity = Parity::new(prepared.link(link).shared());
+    explored(alloc, prepared, part, &parity)
 }
 
 // The place of a pair at which an acceptance has some of the requests and not all.
-fn split_pair(shape: &Shape, part: u32, requests: &EventSet, pairs: &[(u32, u32)]) -> Option<usize>
-    requires part { part < length shape.now.parts }
-    requires nodes { (k : ℕ) → k < length pairs.now → (pair_at pairs.now k).0 < length (part_at shape.now.parts part).table }
-    ensures none { result ≡ None → (k : ℕ) → k < length pairs.now → EachShared (HasAllOrNone requests.now) shape.now.vocabulary (node_at (part_at shape.now.parts part).table (pair_at pairs.now k).0).accept }
+fn split_pair(
+    prepared: &Prepared<'_>,
+    part: u32,
+    requests: &EventSet,
+    pairs: &[(u32, u32)],
+) -> Option<usize>
+    requires part { part < length prepared.now.parts }
+    requires nodes { (k : ℕ) → k < length pairs.now → (pair_at pairs.now k).0 < length (part_at prepared.now.parts part).table }
+    ensures none { result ≡ None → (k : ℕ) → k < length pairs.now → EachShared (HasAllOrNone requests.now) prepared.now.vocabulary (node_at (part_at prepared.now.parts part).table (pair_at pairs.now k).0).accept }
     ensures within { IfSome result (λ k. k < length pairs.now) }
-    ensures broken { IfSome result (λ k. EachShared (HasAllOrNone requests.now) shape.now.vocabulary (node_at (part_at shape.now.parts part).table (pair_at pairs.now k).0).accept → ⊥) }
+    ensures broken { IfSome result (λ k. EachShared (HasAllOrNone requests.now) prepared.now.vocabulary (node_at (part_at prepared.now.parts part).table (pair_at pairs.now k).0).accept → ⊥) }
 {
     for (place, (node, _)) in pairs.iter().enumerate() {
-        let accept = node_of(shape, part, *node).accept();
-        if some_splits(accept, shape.vocabulary(), requests) {
+        let accept = prepared.node(part, *node).accept();
+        if some_splits(accept, prepared.shape().vocabulary(), requests) {
             return Some(place);
         }
     }

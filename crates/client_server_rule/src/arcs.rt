@@ -8,11 +8,12 @@ ghost use Rattle.digraph.specs.Walk.{AreHeights};
 ghost use Rattle.client_server_rule.specs.Serving.{ServesBelow, ServesOn};
 ghost use Rattle.design_rules.specs.Rules.{BreaksClientServer};
 
-use client_server_conditions::{Network, link_of};
+use client_server_conditions::Network;
 use containers::Items;
 use csp_base::NoMemory;
 use design_rules::RuleFault;
 use digraph::{Fault, Heights, Rows, longest_walks};
+use shape_links::circle_fault;
 use std::alloc::Global;
 
 // For each part the greatest number of arcs in a walk from it to servers.
@@ -26,18 +27,10 @@ pub(crate) fn heights(alloc: Global, network: &Network<'_>) -> Result<Heights, R
     let rows = arcs(alloc, network)?;
     match longest_walks(alloc, &rows) {
         Ok(heights) => Ok(heights),
-        Err(Fault::Circle(circle)) => Err(told(alloc, circle.members())),
+        Err(Fault::Circle(circle)) => {
+            Err(circle_fault(Items::from_slice(alloc, circle.members())))
+        }
         Err(Fault::NoMemory) => Err(RuleFault::NoMemory),
-    }
-}
-
-// The circle of clients, or that memory ran out.
-fn told(alloc: Global, circle: &[u32]) -> RuleFault
-    ensures { (result ≡ RuleFault.NoMemory) ⊎ (result ≡ RuleFault.Circle circle.now) }
-{
-    match Items::from_slice(alloc, circle) {
-        Ok(members) => RuleFault::Circle { members },
-        Err(_) => RuleFault::NoMemory,
     }
 }
 
@@ -64,7 +57,8 @@ fn arc(rows: &mut Rows, network: &Network<'_>, link: u32) -> Result<(), NoMemory
     ensures kept { OnOk result ((i j : ℕ) → HasArc rows.old i j → HasArc rows.new i j) }
     ensures complete { OnOk result ((i j : ℕ) → ServesOn network.now link i j → HasArc rows.new i j) }
 {
-    let ends = link_of(network.shape(), link);
+    let _linked = network.shape();
+    let ends = network.prepared().link(link);
     let (left, right) = (ends.left(), ends.right());
     if network.asks(left, link) {
         rows.add_arc(left, right)?;

@@ -37,7 +37,7 @@ fn ranked(alloc: Global, network: &Network<'_>) -> Result<Ranking, RuleFault>
     ensures fault { IfErr result (λ fault. BreaksClientServer network.now.shape network.now.roles fault) }
 {
     let heights = checked_heights(alloc, network)?;
-    let ranking = client_server_ranking(alloc, network, &heights)?;
+    let ranking = client_server_ranking(alloc, network.prepared(), network.all_roles(), &heights)?;
     Ok(ranking)
 }
 

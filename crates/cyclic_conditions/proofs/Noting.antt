@@ -1,8 +1,8 @@
 -- Facts that are kept by the places of a lap.
-use Rattle.std.proofs.Common.{◌≡◌, ℕ, ◌<◌, inl, inr, ◌⊎◌, List, [], length, get_or, set, Option, Some, None, Result, Err, IsTrue, true, sym, ap, subst, ◌∙◌}
+use Rattle.std.proofs.Common.{◌≡◌, ℕ, ◌<◌, inl, inr, ◌⊎◌, List, length, set, Option, Some, None, Result, Err, IsTrue, true, sym, ap, subst, ◌∙◌}
 use Rattle.std.proofs.lemmas.Bool.{cases_eq, cases_lt}
-use Rattle.std.proofs.lemmas.List.{get_or-set_same, get_or-set_other, get_or_past, get_or_read}
-use Rattle.csp_tables.specs.Table.{Node, node_at, is_possible}
+use Rattle.std.proofs.lemmas.List.{get_or-set_same, get_or-set_other, get_or_past}
+use Rattle.csp_tables.specs.Table.{node_at, is_possible}
 use Rattle.csp_tables.specs.Form.{HasForm}
 use Rattle.csp_tables.specs.Part.{part_at}
 use Rattle.csp_base.specs.Members.{has}
@@ -116,8 +116,3 @@ err_on r x y h k = cc
 -- two faults that are one tell the same facts
 pub same_clash : (f g x y : Fact) → failed (Clash f g) ≡ failed (Clash x y) → (x ≡ f) × (y ≡ g)
 same_clash f g x y h = (cc, cc)
-
--- ---- what is read of a part
-
-pub node_read : (table nodes : List Node) (n : ℕ) (node : Node) → nodes ≡ table → n < length table → node ≡ get_or nodes n node → node ≡ node_at table n
-node_read table nodes n node is h at = get_or_read table n node h (at ∙ ap (λ (ns : List Node). get_or ns n node) is) (record { next = []; accept = [] })

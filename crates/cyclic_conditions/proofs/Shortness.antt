@@ -1,20 +1,18 @@
 -- Acceptances that fall short of a link.
-use Rattle.std.proofs.Common.{◌≡◌, ℕ, ◌<◌, inl, inr, List, [], ◌∷◌, length, get_or, set, true, false, Option, Some, None, IsTrue, nat_eq, nat_le, refl, sym, ap, subst, ◌∙◌, arith}
+use Rattle.std.proofs.Common.{◌≡◌, ℕ, ◌<◌, inl, inr, List, [], ◌∷◌, length, get_or, set, true, false, Option, Some, None, IsTrue, nat_eq, nat_le, refl, sym, ap, subst, ◌∙◌}
 use Rattle.std.specs.List.{find}
 use Rattle.std.proofs.lemmas.Bool.{cases_Bool, cases_eq, or_cases, eqb-true, both_ways, false≢true, or_right}
 use Rattle.std.proofs.lemmas.List.{get_or-set_same, get_or-set_other, get_or_read}
 use Rattle.csp_base.specs.Members.{has}
 use Rattle.csp_base.specs.Events.{is_subset_of}
-use Rattle.csp_tables.specs.Table.{node_at, is_possible, IsRun, end_of}
+use Rattle.csp_tables.specs.Table.{node_at, IsRun, end_of}
 use Rattle.csp_tables.specs.Part.{Part, part_at, alphabets_of, TripleDisjoint}
 use Rattle.csp_tables.specs.Shape.{Shape, is_end, link_at, acceptance_at, IsWellFormed}
 use Rattle.net_sound.proofs.Within.{part_form}
-use Rattle.design_rules.specs.Cyclic.{AllKeepPlaces, FallsShort, IsWholeEnd, ReachesLink}
+use Rattle.design_rules.specs.Cyclic.{FallsShort, IsWholeEnd}
 use Rattle.design_rules.proofs.Runs.{possible_within, end_within}
-use Rattle.design_rules.proofs.Shapes.{sharer, some_link}
-use Rattle.design_rules.proofs.Places.{one_link_at}
-use Rattle.shape_links.specs.Links.{IsOwner}
-use Rattle.cyclic_conditions.specs.Shorts.{IsShort, IsOnOne, IsShortAt, short_at, IsSomeShort, IsMarked, KeepsShorts}
+use Rattle.shape_links.specs.Links.{IsOwner, IsOnOne}
+use Rattle.cyclic_conditions.specs.Shorts.{IsShort, IsShortAt, short_at, IsSomeShort, IsMarked, KeepsShorts}
 use Rattle.shape_links.proofs.Links.{owner_end}
 use Rattle.std.proofs.lemmas.Option.{same_Some}
 use Rattle.csp_base.proofs.Listed.{find_has, has_first}
@@ -31,33 +29,7 @@ missing (y ∷ ys) N h = elim (cases_Bool (has N y)) [
   | inr lacks ↦ (y, has_first y ys, lacks)
 ]
 
-pub first_found : (M : List ℕ) (e : ℕ) → find (nat_le 0) M ≡ Some e → has M e ≡ true
-first_found M e h = find_has (nat_le 0) M e h
-
 -- ---- short sets
-
--- an event of the vocabulary has a link
-pub vocabulary_owner : (shape : Shape) (e : ℕ) → IsWellFormed shape → IsTrue (has shape.vocabulary e) → (l : ℕ) × IsOwner shape l e
-vocabulary_owner shape e w v =
-    let two = (w.vocabulary e).0 v in
-    let s = sharer shape.parts e (omega arith) in
-    let l = some_link shape s.place e w s.within s.owned v in
-    (l.0, record { within = l.1.within; event = l.1.event })
-
--- all events of an acceptance lie on one link
-pub on_one : (shape : Shape) (i n k : ℕ) → IsWellFormed shape → TripleDisjoint (alphabets_of shape.parts) → AllKeepPlaces shape → i < length shape.parts → n < length (part_at shape.parts i).table → IsOnOne shape (acceptance_at (part_at shape.parts i) n k)
-on_one shape i n k w triple keep h below l m e f hl hm xe xf le mf =
-    let r = w.reached i n h below in
-    one_link_at shape i l m r.run r.run e f (keep i h) (reach l e hl xe le) (reach m f hm xf mf) refl
-  where
-    reach : (p x : ℕ) → p < length shape.links → IsTrue (has (acceptance_at (part_at shape.parts i) n k) x) → IsTrue (has (link_at shape p).shared x) → ReachesLink shape i p (w.reached i n h below).run x
-    reach p x hp member on =
-        let r = w.reached i n h below in
-        let possible = w.possible i n k x h member in
-        record {
-          possible = record { runs = record { part = h; follows = r.follows }; next = subst (λ j. IsTrue (is_possible (node_at (part_at shape.parts i).table j).next x)) (sym r.leads) possible };
-          on = owner_end shape i p x w triple h (possible_within (part_at shape.parts i) n x (part_form shape.parts i h w.form) possible) (record { within = hp; event = on });
-        }
 
 -- the part is an end of the link of which an acceptance falls short
 pub short_end : (shape : Shape) (i n k l : ℕ) → IsWellFormed shape → TripleDisjoint (alphabets_of shape.parts) → i < length shape.parts → IsShort shape l (acceptance_at (part_at shape.parts i) n k) → IsTrue (is_end shape i l)
@@ -71,7 +43,7 @@ short_set shape l e M within first o lacks =
     record {
       link = o.within;
       shared = member_of_superset M shape.vocabulary within;
-      meets = record { event = e; first = first_found M e first; second = o.event };
+      meets = record { event = e; first = find_has (nat_le 0) M e first; second = o.event };
       missing = x.0;
       on = x.1;
       lacks = x.2;
@@ -81,7 +53,7 @@ pub short_subset : (shape : Shape) (l : ℕ) (M : List ℕ) → IsShort shape l 
 short_subset shape l M s = is_subset_of_from_members M shape.vocabulary s.shared
 
 pub short_owner : (shape : Shape) (l m e : ℕ) (M : List ℕ) → IsOnOne shape M → IsShort shape l M → find (nat_le 0) M ≡ Some e → IsOwner shape m e → l ≡ m
-short_owner shape l m e M one s first o = one l m s.meets.event e s.link o.within s.meets.first (first_found M e first) s.meets.second o.event
+short_owner shape l m e M one s first o = one l m s.meets.event e s.link o.within s.meets.first (find_has (nat_le 0) M e first) s.meets.second o.event
 
 pub short_lacks : (shape : Shape) (l : ℕ) (M : List ℕ) → IsShort shape l M → is_subset_of (link_at shape l).shared M ≡ true → ⊥
 short_lacks shape l M s h = both_ways (has M s.missing) s.lacks (member_of_superset (link_at shape l).shared M h s.missing s.on)
@@ -115,9 +87,6 @@ falls_short_at shape i l s w h f = record {
   listed = f.accepts.listed;
   short = record { link = h; shared = f.accepts.shared; meets = f.meets; missing = f.missing; on = f.on; lacks = f.lacks };
 }
-
-pub nothing : {n : ℕ} → None ≡ Some n → ⊥
-nothing h = cc
 
 no_mark : {n : ℕ} → Some n ≡ None → ⊥
 no_mark h = cc

@@ -15,10 +15,6 @@ pub record IsShort (shape : Shape) (l : ℕ) (M : List ℕ) : Type 0 where
   pub on : IsTrue (has (link_at shape l).shared missing)
   pub lacks : has M missing ≡ false
 
--- all events of the set lie on one link
-abbrev pub IsOnOne : Shape → List ℕ → Type 0
-IsOnOne shape M = (l m e f : ℕ) → l < length shape.links → m < length shape.links → IsTrue (has M e) → IsTrue (has M f) → IsTrue (has (link_at shape l).shared e) → IsTrue (has (link_at shape m).shared f) → l ≡ m
-
 -- an acceptance of the node n of the part i falls short of the link
 pub record IsShortAt (shape : Shape) (i l n : ℕ) : Type 0 where
   pub node : n < length (part_at shape.parts i).table

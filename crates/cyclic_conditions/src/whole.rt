@@ -6,7 +6,8 @@ ghost use Rattle.csp_tables.specs.Shape.{IsReached, is_end, link_at};
 ghost use Rattle.csp_tables.specs.Table.{IsRun, end_of, node_at};
 ghost use Rattle.design_rules.specs.Cyclic.{AllKeepPlaces, CanBeNumbered, FallsShort, HasWholeEnd, IsWholeEnd};
 ghost use Rattle.observed_runs.specs.Observed.{pair_at};
-ghost use Rattle.cyclic_conditions.specs.Shorts.{AreShorts, IsMarked, IsOnOne, IsShort, IsShortAt, KeepsShorts, short_at};
+ghost use Rattle.cyclic_conditions.specs.Shorts.{AreShorts, IsMarked, IsShort, IsShortAt, KeepsShorts, short_at};
+ghost use Rattle.shape_links.specs.Links.{IsOnOne};
 ghost use Rattle.design_rules.specs.Rules.{BreaksCyclic};
 
 use csp_base::{Event, EventSet, NoMemory};
@@ -125,8 +126,8 @@ fn told(
     requires first { (m : ℕ) → m < link → HasWholeEnd prepared.now m }
     ensures { BreaksCyclic prepared.now result }
 {
-    let shape = prepared.shape();
-    let ends = &shape.links()[link as usize];
+    let _form = prepared.shape();
+    let ends = prepared.link(link);
     let Ok(left) = run_to_node(alloc, prepared.component(ends.left()), left_node) else {
         return RuleFault::NoMemory;
     };
@@ -168,7 +169,7 @@ fn mark_part(
     ensures keeps_right { KeepsShorts right.old right.new }
     ensures marked { (l n : ℕ) → IsShortAt prepared.now part l n → IsMarked prepared.now left.new right.new part l }
 {
-    let nodes = prepared.shape().parts()[part as usize].table().nodes();
+    let nodes = prepared.component(part).table().nodes();
     for node in 0..nodes.len() {
         mark_node(prepared, part, node as u32, left, right);
     }
@@ -193,7 +194,8 @@ fn mark_node(
     ensures keeps_right { KeepsShorts right.old right.new }
     ensures marked { (l : ℕ) → IsShortAt prepared.now part l node → IsMarked prepared.now left.new right.new part l }
 {
-    let accept = prepared.shape().parts()[part as usize].table().nodes()[node as usize].accept();
+    let _form = prepared.shape();
+    let accept = prepared.node(part, node).accept();
     for set in accept {
         mark_set(prepared, part, node, set, left, right);
     }
@@ -245,7 +247,9 @@ fn mark(
     ensures keeps_right { KeepsShorts right.old right.new }
     ensures marked { IsMarked prepared.now left.new right.new part link }
 {
-    if prepared.shape().links()[link as usize].left() == part {
+    let _form = prepared.shape();
+    let ends = prepared.link(link);
+    if ends.left() == part {
         left[link as usize] = Some(node);
     } else {
         right[link as usize] = Some(node);
@@ -263,7 +267,7 @@ fn short_link(prepared: &Prepared<'_>, set: &EventSet) -> Option<u32>
     }
     let event = set.first_from(Event(0))?;
     let link = prepared.owner(event)?;
-    if shape.links()[link as usize].shared().is_subset(set) {
+    if prepared.link(link).shared().is_subset(set) {
         return None;
     }
     Some(link)

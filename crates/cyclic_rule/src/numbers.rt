@@ -7,7 +7,6 @@ ghost use Rattle.design_rules.specs.Cyclic.{AllKeepPlaces, NumbersRise};
 ghost use Rattle.design_rules.specs.CyclicRanking.{AreChainNumbers};
 ghost use Rattle.cyclic_rule.specs.Chains.{ComesNext, IsNextAt, IsNextIn, IsRestAfter};
 ghost use Rattle.shape_links.specs.Links.{ends_of};
-ghost use Rattle.shape_links.specs.Turned.{turned_circle};
 ghost use Rattle.cyclic_conditions.specs.Orders.{AreOrders};
 ghost use Rattle.design_rules.specs.Rules.{BreaksCyclic};
 
@@ -15,7 +14,7 @@ use containers::Items;
 use csp_base::NoMemory;
 use design_rules::RuleFault;
 use digraph::{Fault, Heights, Rows, longest_walks};
-use shape_links::{Prepared, turned};
+use shape_links::{Prepared, circle_fault, turned};
 use std::alloc::Global;
 
 // For each link the greatest number of links that must come before it in a chain.
@@ -35,19 +34,8 @@ pub(crate) fn numbers(
     let rows = chains(alloc, prepared, orders)?;
     match longest_walks(alloc, &rows) {
         Ok(heights) => Ok(heights),
-        Err(Fault::Circle(circle)) => Err(told(alloc, circle.members())),
+        Err(Fault::Circle(circle)) => Err(circle_fault(turned(alloc, circle.members()))),
         Err(Fault::NoMemory) => Err(RuleFault::NoMemory),
-    }
-}
-
-// The circle in the other direction, or that memory ran out.
-fn told(alloc: Global, circle: &[u32]) -> RuleFault
-    requires { 0 < length circle.now }
-    ensures { (result ≡ RuleFault.NoMemory) ⊎ (result ≡ RuleFault.Circle (turned_circle circle.now)) }
-{
-    match turned(alloc, circle) {
-        Ok(members) => RuleFault::Circle { members },
-        Err(_) => RuleFault::NoMemory,
     }
 }
 

@@ -18,7 +18,7 @@ use Rattle.design_rules.proofs.Shapes.{some_link, link_shared}
 use Rattle.observed_runs.specs.Observed.{observed, LeadsTo, pair_at}
 use Rattle.observed_runs.specs.Observers.{holder_step}
 use Rattle.observed_runs.specs.Exploration.{IsExploration}
-use Rattle.resource_conditions.specs.Setting.{Setting, node_of}
+use Rattle.shape_links.specs.Setting.{Setting, node_of}
 use Rattle.shape_links.specs.Links.{AreOwners}
 use Rattle.resource_conditions.specs.Tests.{is_turn, are_turns, wanted_in, are_grants}
 use Rattle.resource_conditions.proofs.Sets.{in_both, of_both, all_possible, some_possible, all_at, some_at, either_of, neither_of}

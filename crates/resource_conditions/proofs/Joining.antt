@@ -7,7 +7,8 @@ use Rattle.csp_tables.specs.Part.{part_at}
 use Rattle.csp_tables.specs.Shape.{link_at, IsWellFormed}
 use Rattle.csp_tables.specs.Roles.{use_at}
 use Rattle.design_rules.specs.ResourceFaults.{LacksKind}
-use Rattle.resource_conditions.specs.Setting.{Setting, HasLinked, HasParted, KeepKinds}
+use Rattle.shape_links.specs.Setting.{Setting, KeepKinds}
+use Rattle.resource_conditions.specs.Setting.{HasLinked, HasParted}
 use Rattle.resource_conditions.specs.Finding.{IsFirstWithout}
 use Rattle.csp_base.proofs.Listed.{any_of, any_member}
 use Rattle.csp_base.proofs.Rising.{member_of_superset, is_subset_of_from_members}

@@ -1,4 +1,3 @@
-pub mod Acquiring
 pub mod Holding
 pub mod Joining
 pub mod Sets

@@ -1,13 +1,12 @@
 -- Sets of events, and tests of all members of a list.
-use Rattle.std.proofs.Common.{◌≡◌, ℕ, zero, suc, ◌<◌, inl, inr, List, [], ◌∷◌, length, get_or, Bool, true, false, not, ◌||◌, Some, nat_eq, nat_le, refl, sym, subst, arith, eq-eqb}
-use Rattle.std.specs.List.{find, list_all, list_any, filter}
+use Rattle.std.proofs.Common.{◌≡◌, ℕ, zero, suc, ◌<◌, inl, inr, List, [], ◌∷◌, length, get_or, Bool, true, false, not, ◌||◌, nat_eq, refl, sym, subst, arith, eq-eqb}
+use Rattle.std.specs.List.{list_all, list_any, filter}
 use Rattle.std.proofs.lemmas.Bool.{cases_Bool, cond-true, cond-false, and_parts, or_cases, or_left, or_right, eqb-true, false≢true}
 use Rattle.std.proofs.lemmas.List.{get_or_read}
 use Rattle.std.proofs.lemmas.List.Folds.{list_all_at}
 use Rattle.csp_base.specs.Members.{has}
 use Rattle.csp_base.specs.Events.{inter_of}
 use Rattle.csp_tables.specs.Table.{is_possible}
-use Rattle.csp_base.proofs.Listed.{find_has}
 use Rattle.csp_base.proofs.Booleans.{and_second_false}
 
 -- ---- members
@@ -41,11 +40,6 @@ of_both (z ∷ zs) N e x = elim (cases_Bool (has N z)) [
 pub inter_none : (M : List ℕ) → inter_of M [] ≡ []
 inter_none [] = refl
 inter_none (x ∷ M) = inter_none M
-
--- ---- the first member
-
-pub first_found : (M : List ℕ) (e : ℕ) → find (nat_le 0) M ≡ Some e → has M e ≡ true
-first_found M e h = find_has (nat_le 0) M e h
 
 -- ---- tests of all
 

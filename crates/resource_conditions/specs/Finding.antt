@@ -5,7 +5,7 @@ use Rattle.csp_tables.specs.Standing.{RunsTo}
 use Rattle.observed_runs.specs.Observed.{pair_at}
 use Rattle.observed_runs.specs.Observers.{holder_step}
 use Rattle.observed_runs.specs.Exploration.{Found, AreFound, IsExploration}
-use Rattle.resource_conditions.specs.Setting.{Setting}
+use Rattle.shape_links.specs.Setting.{Setting}
 use Rattle.shape_links.specs.Links.{AreOwners}
 
 -- n is the first number below the count of which P does not hold, or the count where there is none

@@ -1,4 +1,3 @@
-pub mod Acquired
 pub mod Finding
 pub mod Setting
 pub mod Tests

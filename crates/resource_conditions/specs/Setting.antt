@@ -1,29 +1,14 @@
--- A shape, and what is told of its resources. (No rule's decider cites this.)
-use Rattle.std.specs.Prelude.{◌≡◌, ◌<◌, ℕ, List, true, false, not, length}
-use Rattle.csp_tables.specs.Shape.{Shape, link_at}
-use Rattle.csp_tables.specs.Roles.{UseSets, use_at}
-use Rattle.csp_tables.specs.Table.{Node, node_at}
-use Rattle.csp_tables.specs.Part.{part_at}
-use Rattle.design_rules.specs.Resource.{JoinsKinds, HasUses, HaveKinds, IsUsedInTurn, GrantsAll, UsesInTurn}
+-- What is told of a shape with its resources. (No rule's decider cites this.)
+use Rattle.std.specs.Prelude.{◌≡◌, ◌<◌, ℕ, List, not, length}
+use Rattle.csp_tables.specs.Shape.{link_at}
+use Rattle.csp_tables.specs.Roles.{use_at}
+use Rattle.design_rules.specs.Resource.{JoinsKinds, HasUses, IsUsedInTurn, GrantsAll, UsesInTurn}
 use Rattle.design_rules.specs.Rules.{BreaksResource}
 use Rattle.design_rules.specs.declared.rule_fault.RuleFault.{RuleFault}
-
-pub record Setting : Type 0 where
-  pub shape : Shape
-  pub uses : List UseSets
+use Rattle.shape_links.specs.Setting.{Setting, IsResourcePart, IsUser}
 
 abbrev pub Breaks : Setting → RuleFault → Type 0
 Breaks g fault = BreaksResource g.shape g.uses fault
-
-abbrev pub IsResourcePart : Setting → ℕ → Type 0
-IsResourcePart g i = (use_at g.uses i).resource ≡ true
-
-abbrev pub IsUser : Setting → ℕ → Type 0
-IsUser g i = (use_at g.uses i).resource ≡ false
-
--- the node n of the part i
-abbrev pub node_of : Setting → ℕ → ℕ → Node
-node_of g i n = node_at (part_at g.shape.parts i).table n
 
 -- what U1 asks of the links with this left end, and of the sets of this part
 abbrev pub HasLinked : Setting → ℕ → Type 0
@@ -32,10 +17,7 @@ HasLinked g i = (l : ℕ) → l < length g.shape.links → (link_at g.shape l).l
 abbrev pub HasParted : Setting → ℕ → Type 0
 HasParted g i = HasUses g.shape g.uses i
 
--- U1, U2, U3 and U4
-abbrev pub KeepKinds : Setting → Type 0
-KeepKinds g = HaveKinds g.shape g.uses
-
+-- U2, U3 and U4
 abbrev pub KeepTurns : Setting → Type 0
 KeepTurns g = (i : ℕ) (s : List ℕ) → IsResourcePart g i → IsUsedInTurn g.shape g.uses i s
 

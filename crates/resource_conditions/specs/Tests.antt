@@ -6,7 +6,7 @@ use Rattle.csp_base.specs.Members.{has}
 use Rattle.csp_base.specs.Events.{is_subset_of, inter_of}
 use Rattle.csp_tables.specs.Roles.{use_at}
 use Rattle.csp_tables.specs.Shape.{link_at}
-use Rattle.resource_conditions.specs.Setting.{Setting, node_of}
+use Rattle.shape_links.specs.Setting.{Setting, node_of}
 
 -- U2: whether an event that is possible in the resource i is in turn, in the state of its holder: 0 where it is free, else
 -- 1 + the holder's link

@@ -6,14 +6,15 @@ ghost use Rattle.csp_tables.specs.Part.{part_at};
 ghost use Rattle.csp_tables.specs.Shape.{link_at};
 ghost use Rattle.design_rules.specs.Resource.{GrantsAll};
 ghost use Rattle.resource_conditions.specs.Finding.{FindsBroken, FindsRun, HaveNodes, WatchesHolder};
-ghost use Rattle.resource_conditions.specs.Setting.{IsResourcePart, KeepGrants, KeepKinds, KeepTurns, Breaks};
+ghost use Rattle.shape_links.specs.Setting.{IsResourcePart, KeepKinds};
+ghost use Rattle.resource_conditions.specs.Setting.{KeepGrants, KeepTurns, Breaks};
 ghost use Rattle.resource_conditions.specs.Tests.{are_granted, are_grants};
 
-use crate::setting::Setting;
 use crate::turns::held;
 use csp_base::{EventSet, NoMemory, Trace};
 use design_rules::{Condition, RuleFault};
 use observed_runs::Explored;
+use shape_links::Setting;
 use std::alloc::Global;
 
 /// Succeeds where U3 holds, and else tells the first resource that breaks it.

@@ -2,11 +2,12 @@
 
 ghost use Rattle.std.specs.Prelude.{◌≡◌, ◌<◌, IfErr, IfOk, MatchBool, OnOk, length, min};
 ghost use Rattle.resource_conditions.specs.Finding.{IsFirstWithout};
-ghost use Rattle.resource_conditions.specs.Setting.{AreOtherKinds, HasLinked, HasParted, KeepKinds, Breaks};
+ghost use Rattle.shape_links.specs.Setting.{KeepKinds};
+ghost use Rattle.resource_conditions.specs.Setting.{AreOtherKinds, HasLinked, HasParted, Breaks};
 
-use crate::setting::Setting;
 use csp_base::{NoMemory, Trace};
 use design_rules::{Condition, RuleFault};
+use shape_links::Setting;
 use std::alloc::Global;
 
 /// Succeeds where U1 holds, and else tells the first part that breaks it.

@@ -2,14 +2,10 @@
 //! that each resource is acquired and released in turn, and U3, that it grants what is asked.
 #![tactic(auto)]
 
-mod acquisition;
 mod grants;
 mod kinds;
-mod setting;
 mod turns;
 
-pub use acquisition::acquired;
 pub use grants::check_grants;
 pub use kinds::check_kinds;
-pub use setting::Setting;
 pub use turns::check_turns;

@@ -5,14 +5,14 @@ ghost use Rattle.std.specs.Prelude.{◌≡◌, ◌<◌, ℕ, IfErr, IfOk, OnOk, 
 ghost use Rattle.csp_tables.specs.Part.{part_at};
 ghost use Rattle.design_rules.specs.Resource.{IsUsedInTurn};
 ghost use Rattle.resource_conditions.specs.Finding.{FindsBroken, FindsRun, HaveNodes, WatchesHolder};
-ghost use Rattle.resource_conditions.specs.Setting.{IsResourcePart, KeepKinds, KeepTurns, Breaks};
+ghost use Rattle.shape_links.specs.Setting.{IsResourcePart, KeepKinds};
+ghost use Rattle.resource_conditions.specs.Setting.{KeepTurns, Breaks};
 ghost use Rattle.resource_conditions.specs.Tests.{are_turns, is_turn};
 
-use crate::setting::Setting;
 use csp_base::{Event, NoMemory, Trace};
 use design_rules::{Condition, RuleFault};
 use observed_runs::{Explored, Holder};
-use shape_links::explored;
+use shape_links::{Setting, explored};
 use std::alloc::Global;
 
 /// Succeeds where U2 holds, and else tells the first resource that breaks it.

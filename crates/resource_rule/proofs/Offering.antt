@@ -13,9 +13,9 @@ use Rattle.csp_tables.specs.Roles.{use_at}
 use Rattle.design_rules.specs.Resource.{holds, acquires, IsHeldWhile}
 use Rattle.observed_runs.specs.Observed.{pair_at}
 use Rattle.observed_runs.specs.Exploration.{Found}
-use Rattle.resource_conditions.specs.Setting.{Setting, IsUser, node_of}
+use Rattle.shape_links.specs.Setting.{Setting, IsUser, node_of}
 use Rattle.resource_rule.specs.Uses.{is_offered, is_offered_at, WatchesLink, IsOfferedHolding}
-use Rattle.resource_conditions.proofs.Acquiring.{is_part}
+use Rattle.shape_links.proofs.Acquiring.{is_part}
 use Rattle.resource_conditions.proofs.Sets.{any_at}
 use Rattle.resource_rule.proofs.Using.{parity_is}
 use Rattle.csp_base.proofs.Listed.{any_of, any_member}

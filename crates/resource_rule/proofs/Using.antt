@@ -10,7 +10,7 @@ use Rattle.design_rules.specs.Counts.{count_in, is_odd}
 use Rattle.design_rules.specs.Resource.{holds}
 use Rattle.observed_runs.specs.Observed.{observed}
 use Rattle.observed_runs.specs.Observers.{parity_step}
-use Rattle.resource_conditions.specs.Setting.{Setting, node_of}
+use Rattle.shape_links.specs.Setting.{Setting, node_of}
 use Rattle.resource_rule.specs.Uses.{is_use, are_uses, UsesLink}
 use Rattle.resource_conditions.proofs.Sets.{all_possible, some_possible}
 

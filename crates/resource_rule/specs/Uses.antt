@@ -11,7 +11,7 @@ use Rattle.csp_tables.specs.Standing.{IsPossible, Accepts, accepted}
 use Rattle.observed_runs.specs.Observers.{parity_step}
 use Rattle.observed_runs.specs.Exploration.{Found, AreFound, IsExploration}
 use Rattle.design_rules.specs.Resource.{holds}
-use Rattle.resource_conditions.specs.Setting.{Setting, node_of}
+use Rattle.shape_links.specs.Setting.{Setting, node_of}
 
 -- the exploration of the part i with the parity of the link l
 pub record WatchesLink (g : Setting) (i l : ℕ) (found : Found) : Type 0 where

@@ -1,17 +1,15 @@
 //! The numbers of the resources: how many must be acquired before each, in a chain.
 
-ghost use Rattle.std.specs.Prelude.{◌≡◌, ◌<◌, ◌⊎◌, ℕ, All, IfErr, IfOk, length};
+ghost use Rattle.std.specs.Prelude.{◌≡◌, ◌<◌, ℕ, All, IfErr, IfOk, length};
 ghost use Rattle.design_rules.specs.Resource.{IsHeldWhile, KeepUses, ResourcesRise};
 ghost use Rattle.design_rules.specs.ResourceRanking.{AreResourceNumbers};
 ghost use Rattle.digraph.specs.Digraph.{HasArc};
 ghost use Rattle.rule_rankings.specs.ResourceRanks.{number_by};
 ghost use Rattle.resource_conditions.specs.Setting.{Breaks};
-ghost use Rattle.shape_links.specs.Turned.{turned_circle};
 
 use design_rules::RuleFault;
 use digraph::{Fault, Heights, Rows, longest_walks};
-use resource_conditions::Setting;
-use shape_links::turned;
+use shape_links::{Setting, circle_fault, turned};
 use std::alloc::Global;
 
 // For each resource the greatest number of resources that must be numbered below it in a chain.
@@ -33,18 +31,7 @@ pub(crate) fn numbers(
     let _form = setting.shape();
     match longest_walks(alloc, rows) {
         Ok(heights) => Ok(heights),
-        Err(Fault::Circle(circle)) => Err(told(alloc, circle.members())),
+        Err(Fault::Circle(circle)) => Err(circle_fault(turned(alloc, circle.members()))),
         Err(Fault::NoMemory) => Err(RuleFault::NoMemory),
-    }
-}
-
-// The circle in the other direction, or that memory ran out.
-fn told(alloc: Global, circle: &[u32]) -> RuleFault
-    requires { 0 < length circle.now }
-    ensures { (result ≡ RuleFault.NoMemory) ⊎ (result ≡ RuleFault.Circle (turned_circle circle.now)) }
-{
-    match turned(alloc, circle) {
-        Ok(members) => RuleFault::Circle { members },
-        Err(_) => RuleFault::NoMemory,
     }
 }

@@ -7,13 +7,13 @@ ghost use Rattle.csp_tables.specs.Part.{part_at};
 ghost use Rattle.design_rules.specs.Resource.{acquires};
 ghost use Rattle.digraph.specs.Digraph.{has_arc};
 ghost use Rattle.resource_conditions.specs.Finding.{HaveNodes};
-ghost use Rattle.resource_conditions.specs.Acquired.{is_acquired_by};
-ghost use Rattle.resource_conditions.specs.Setting.{KeepKinds, node_of};
+ghost use Rattle.shape_links.specs.Acquired.{is_acquired_by};
+ghost use Rattle.shape_links.specs.Setting.{KeepKinds, node_of};
 ghost use Rattle.resource_rule.specs.Uses.{is_offered, is_offered_at};
 
 use csp_base::{Event, EventSet, NoMemory};
 use digraph::Rows;
-use resource_conditions::{Setting, acquired};
+use shape_links::{Setting, acquired};
 use std::alloc::Global;
 
 // An arc from each resource that the part offers to acquire at the pairs with the state 1 to the one that is held.

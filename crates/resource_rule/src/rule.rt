@@ -5,7 +5,8 @@ ghost use Rattle.csp_tables.specs.Part.{TripleDisjoint, alphabets_of};
 ghost use Rattle.csp_tables.specs.Shape.{IsWellFormed};
 ghost use Rattle.design_rules.specs.Resource.{IsResource, KeepUses, ResourcesRise};
 ghost use Rattle.design_rules.specs.ResourceRanking.{AreResourceNumbers, IsResourceRanking};
-ghost use Rattle.resource_conditions.specs.Setting.{KeepGrants, KeepKinds, KeepTurns, Breaks};
+ghost use Rattle.shape_links.specs.Setting.{KeepKinds};
+ghost use Rattle.resource_conditions.specs.Setting.{KeepGrants, KeepTurns, Breaks};
 ghost use Rattle.design_rules.specs.Rules.{BreaksResource};
 ghost use Rattle.rule_rankings.specs.ResourceRanks.{number_by};
 
@@ -14,8 +15,9 @@ use crate::users::holdings;
 use csp_tables::{Ranking, Shape, UseSets};
 use design_rules::RuleFault;
 use digraph::Heights;
-use resource_conditions::{Setting, check_grants, check_kinds, check_turns};
+use resource_conditions::{check_grants, check_kinds, check_turns};
 use rule_rankings::resource_ranking;
+use shape_links::Setting;
 use std::alloc::Global;
 
 /// The ranking of a network of users and resources, or what breaks the rule.

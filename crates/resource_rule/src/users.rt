@@ -8,15 +8,15 @@ ghost use Rattle.design_rules.specs.Resource.{IsHeldWhile, UsesInTurn};
 ghost use Rattle.digraph.specs.Digraph.{HasArc};
 ghost use Rattle.resource_conditions.specs.Finding.{FindsBroken, FindsRun, HaveNodes};
 ghost use Rattle.resource_rule.specs.Uses.{UsesLink, WatchesLink, are_uses, is_use};
-ghost use Rattle.resource_conditions.specs.Setting.{IsUser, KeepGrants, KeepKinds, KeepTurns, Breaks, UsersKeepTurns};
+ghost use Rattle.shape_links.specs.Setting.{IsUser, KeepKinds};
+ghost use Rattle.resource_conditions.specs.Setting.{KeepGrants, KeepTurns, Breaks, UsersKeepTurns};
 
 use crate::offers::add_offered;
 use csp_base::{Event, NoMemory, Trace};
 use design_rules::{Condition, RuleFault};
 use digraph::Rows;
 use observed_runs::{Explored, Parity};
-use resource_conditions::Setting;
-use shape_links::explored;
+use shape_links::{Setting, explored};
 use std::alloc::Global;
 
 // An arc from each resource to each one that a user holds while it offers to acquire the first; or the first user that does

@@ -1,5 +1,5 @@
 -- The ranks and the laps of a cyclic network.
-use Rattle.std.proofs.Common.{◌≡◌, ℕ, zero, suc, ◌+◌, ◌<◌, ◌≤◌, inl, inr, ℤ, pos, List, [], ◌∷◌, length, get_or, Bool, true, false, ◌&&◌, ◌||◌, cond, max, IsTrue, nat_eq, nat_lt, refl, sym, ap, subst, ◌∙◌, arith, eq-eqb, ne_eqb, lt-ltb}
+use Rattle.std.proofs.Common.{◌≡◌, ℕ, zero, suc, ◌+◌, ◌<◌, ◌≤◌, inl, inr, pos, List, [], ◌∷◌, length, get_or, Bool, true, false, ◌&&◌, ◌||◌, cond, max, IsTrue, nat_eq, nat_lt, refl, sym, ap, subst, ◌∙◌, arith, eq-eqb, ne_eqb, lt-ltb}
 use Rattle.std.proofs.lemmas.Bool.{cases_Bool, cases_eq, cases_lt, cond-true, cond-false, and_from, or_cases, eqb-true, both_ways, false≢true}
 use Rattle.std.proofs.lemmas.List.{get_or_past}
 use Rattle.std.proofs.lemmas.Option.{get_or_from_slice_get, slice_get_within}
@@ -8,7 +8,7 @@ use Rattle.csp_tables.specs.Table.{Node, node_at, is_possible, no_node}
 use Rattle.csp_tables.specs.Part.{part_at, alphabets_of, TripleDisjoint, Meet}
 use Rattle.csp_tables.specs.Shape.{Shape, is_end, link_at, acceptance_at, IsWellFormed}
 use Rattle.csp_tables.specs.Standing.{IsOn}
-use Rattle.csp_tables.specs.Ranking.{Ranking, PartRanks, AtMostOne, RanksFit, LapsFit, rank_at, lap_of}
+use Rattle.csp_tables.specs.Ranking.{Ranking, PartRanks, AtMostOne, LapsFit, rank_at, lap_of}
 use Rattle.design_rules.specs.Counts.{count_below, above_all}
 use Rattle.design_rules.specs.Vertices.{IsVertex}
 use Rattle.design_rules.specs.Cyclic.{links_of, ReachesLink, AllKeepPlaces, NumbersRise}
@@ -18,11 +18,10 @@ use Rattle.design_rules.proofs.Shapes.{link_shared}
 use Rattle.design_rules.proofs.Places.{reached_differ}
 use Rattle.design_rules.proofs.Cyclic.{earlier_place, place_below}
 use Rattle.shape_links.specs.Links.{IsOwner, ends_of}
-use Rattle.rule_rankings.proofs.RowsBelow.{no_ranks, as_many, parts_fit}
-use Rattle.rule_rankings.specs.CyclicRanks.{IsRank, IsGreatest, AreNodeRanks, AreNodeLaps, ArePartRanks}
+use Rattle.rule_rankings.proofs.RowsBelow.{no_ranks, as_many, other_rank, parts_fit, ranks_fit}
+use Rattle.rule_rankings.specs.CyclicRanks.{IsRank, IsGreatest, AreNodeLaps, ArePartRanks}
 use Rattle.rule_rankings.specs.Rows.{AreEach}
-use Rattle.shape_links.proofs.Links.{ends_sound, ends_complete, has_place, place_in, some_at}
-use Rattle.cyclic_conditions.proofs.Shortness.{on_one}
+use Rattle.shape_links.proofs.Links.{ends_sound, ends_complete, has_place, place_in, some_at, on_one}
 
 -- ---- the greatest number
 
@@ -126,15 +125,6 @@ module _ (shape : Shape) (number : ℕ → ℕ) (w : IsWellFormed shape) (triple
   pub vertex_rank : (i n k l : ℕ) (r : PartRanks) → ArePartRanks shape number i r → IsVertex shape i n k → l < length shape.links → Meet (acceptance_at (part_at shape.parts i) n k) (link_at shape l).shared → rank_at r.ranks n k ≡ pos (number l)
   vertex_rank i n k l r a v h m = (rank_row i n k r a v.node v.listed).on_link l (on_one shape i n k w triple keep v.part v.node) v.shared h m
 
-  pub other_rank : (i n k : ℕ) (r : PartRanks) → i < length shape.parts → ArePartRanks shape number i r → (IsVertex shape i n k → ⊥) → rank_at r.ranks n k ≡ pos 0
-  other_rank i n k r h a none = elim (cases_lt n (length (part_at shape.parts i).table)) [
-    | inl node ↦ elim (cases_lt k (length (node_at (part_at shape.parts i).table n).accept)) [
-      | inl listed ↦ (rank_row i n k r a node listed).other (λ within some. none (record { part = h; node = node; listed = listed; some = some; shared = within }))
-      | inr past ↦ get_or_past (get_or r.ranks n []) k (pos 0) (let many : length (node_at (part_at shape.parts i).table n).accept ≡ length (get_or r.ranks n []) = ((a.ranks_are).each n node).as_many in omega arith)
-    ]
-    | inr past ↦ ap (λ (row : List ℤ). get_or row k (pos 0)) (get_or_past r.ranks n [] (let many : length (part_at shape.parts i).table ≡ length r.ranks = a.ranks_are.as_many in omega arith))
-  ]
-
   -- the lap of an event that is possible stands at the event's place
   lap_found : (next : List (ℕ × ℕ)) (laps : List ℕ) (e : ℕ) → length next ≡ length laps → is_possible next e ≡ true → (k : ℕ) × (k < length next) × ((get_or next k (0, 0)).0 ≡ e) × (lap_of next laps e ≡ get_or laps k 0)
   lap_found [] laps e many h = absurd (false≢true h)
@@ -192,14 +182,6 @@ at_most_one : (ys : List ℕ) → ((k : ℕ) → k < length ys → get_or ys k 0
 at_most_one [] h = tt
 at_most_one (y ∷ ys) h = (h 0 (omega arith), at_most_one ys (λ k l. h (suc k) (omega arith)))
 
-ranks_fit : (shape : Shape) (number : ℕ → ℕ) (table : List Node) (rows : List (List ℤ)) → AreEach no_node [] (AreNodeRanks shape number) table rows → RanksFit table rows
-ranks_fit shape number [] [] e = tt
-ranks_fit shape number [] (r ∷ rs) e = absurd (let many : length {A = Node} [] ≡ length (r ∷ rs) = e.as_many in omega arith)
-ranks_fit shape number (n ∷ ns) [] e = absurd (let many : length (n ∷ ns) ≡ length {A = List ℤ} [] = e.as_many in omega arith)
-ranks_fit shape number (n ∷ ns) (r ∷ rs) e =
-    let many : length (n ∷ ns) ≡ length (r ∷ rs) = e.as_many in
-    (as_many n.accept r (e.each 0 (omega arith)).as_many, ranks_fit shape number ns rs (record { as_many = omega arith; each = λ k h. e.each (suc k) (omega arith) }))
-
 laps_fit : (shape : Shape) (number : ℕ → ℕ) (top : ℕ) (table : List Node) (rows : List (List ℕ)) → AreEach no_node [] (AreNodeLaps shape number top) table rows → LapsFit table rows
 laps_fit shape number top [] [] e = tt
 laps_fit shape number top [] (r ∷ rs) e = absurd (let many : length {A = Node} [] ≡ length (r ∷ rs) = e.as_many in omega arith)
@@ -212,10 +194,10 @@ laps_fit shape number top (n ∷ ns) (r ∷ rs) e =
 
 pub cyclic_ranks : (shape : Shape) (number : ℕ → ℕ) (ranking : Ranking) → IsWellFormed shape → TripleDisjoint (alphabets_of shape.parts) → AllKeepPlaces shape → NumbersRise shape number → length ranking.parts ≡ length shape.parts → ((i : ℕ) → i < length shape.parts → ArePartRanks shape number i (get_or ranking.parts i no_ranks)) → ranking.scale ≡ pos (above_all number (length shape.links)) → AreCyclicRanks shape number ranking
 cyclic_ranks shape number ranking w triple keep rise count each scale = record {
-  fits = parts_fit shape.parts ranking.parts count (λ i h. (ranks_fit shape number (part_at shape.parts i).table (get_or ranking.parts i no_ranks).ranks (each i h).ranks_are, laps_fit shape number (each i h).top (part_at shape.parts i).table (get_or ranking.parts i no_ranks).laps (each i h).laps_are));
+  fits = parts_fit shape.parts ranking.parts count (λ i h. (ranks_fit (IsRank shape number) (part_at shape.parts i).table (get_or ranking.parts i no_ranks).ranks (each i h).ranks_are, laps_fit shape number (each i h).top (part_at shape.parts i).table (get_or ranking.parts i no_ranks).laps (each i h).laps_are));
   scale = scale;
   ranks = λ i n k l v h end m. vertex_rank shape number w triple keep rise i n k l (get_or ranking.parts i no_ranks) (each i v.part) v h m;
-  others = λ i n k h none. other_rank shape number w triple keep rise i n k (get_or ranking.parts i no_ranks) h (each i h) none;
+  others = λ i n k h none. other_rank (IsRank shape number) shape i n k (get_or ranking.parts i no_ranks).ranks h (each i h).ranks_are (λ M rank r. r.other) none;
   laps = λ i n e l h possible on. shared_lap shape number w triple keep rise i n e l (get_or ranking.parts i no_ranks) h (each i h) possible on;
   no_laps = λ i n e h hidden. hidden_lap shape number w triple keep rise i n e (get_or ranking.parts i no_ranks) h (each i h) hidden;
 }

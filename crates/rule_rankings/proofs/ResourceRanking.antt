@@ -1,27 +1,25 @@
 -- The ranks of a network of users and resources.
-use Rattle.std.proofs.Common.{◌≡◌, ℕ, zero, suc, ◌+◌, ◌-◌, ◌*◌, ◌<◌, ◌≤◌, ◌⊎◌, inl, inr, ℤ, pos, List, [], ◌∷◌, length, get_or, replicate, Bool, true, false, ◌||◌, cond, max, nat_eq, refl, sym, ap, subst, ◌∙◌, arith, eq-eqb}
+use Rattle.std.proofs.Common.{◌≡◌, ℕ, suc, ◌+◌, ◌-◌, ◌*◌, ◌<◌, ◌≤◌, ◌⊎◌, inl, inr, ℤ, pos, List, [], ◌∷◌, length, get_or, Bool, true, false, ◌||◌, cond, max, nat_eq, refl, sym, ap, subst, ◌∙◌, arith, eq-eqb}
 use Rattle.std.specs.List.{list_any}
-use Rattle.std.proofs.lemmas.Bool.{cases_Bool, cases_lt, cond-true, cond-false, and_parts, and_from, or_cases, or_left, or_right, both_ways, false≢true}
+use Rattle.std.proofs.lemmas.Bool.{cases_lt, cond-true, cond-false, and_parts, and_from, or_cases, or_left, or_right, both_ways, false≢true}
 use Rattle.std.proofs.lemmas.List.{get_or_past}
 use Rattle.csp_base.specs.Members.{has}
-use Rattle.csp_tables.specs.Table.{Node, node_at, end_of, no_node}
+use Rattle.csp_tables.specs.Table.{node_at, end_of}
 use Rattle.csp_tables.specs.Part.{part_at, IsNonEmpty, AreApart}
 use Rattle.csp_tables.specs.Trace.{IsWithin}
 use Rattle.csp_tables.specs.Shape.{acceptance_at, IsWellFormed}
 use Rattle.csp_tables.specs.Standing.{IsPossible, Accepts, accepted}
 use Rattle.csp_tables.specs.Roles.{UseSets, use_at}
-use Rattle.csp_tables.specs.Ranking.{Ranking, PartRanks, AsMany, AtMostOne, RanksFit, LapsFit, rank_at, lap_of}
+use Rattle.csp_tables.specs.Ranking.{Ranking, PartRanks, rank_at}
 use Rattle.net_sound.proofs.Within.{part_form}
-use Rattle.design_rules.specs.Vertices.{IsVertex}
 use Rattle.design_rules.specs.Resource.{is_held, acquires, KeepUses}
 use Rattle.design_rules.specs.ResourceRanking.{top_number, AreResourceRanks}
 use Rattle.design_rules.proofs.Runs.{end_within}
-use Rattle.resource_conditions.specs.Setting.{Setting}
-use Rattle.resource_conditions.specs.Acquired.{is_acquired_by}
-use Rattle.rule_rankings.proofs.RowsBelow.{no_ranks, as_many, parts_fit}
-use Rattle.rule_rankings.specs.ResourceRanks.{number_by, IsLeastAcquired, IsRank, AreNodeRanks, ArePartRanks, HaveTop}
-use Rattle.rule_rankings.specs.Rows.{AreEach, AreNoLaps}
-use Rattle.resource_conditions.proofs.Acquiring.{acquire_only}
+use Rattle.shape_links.specs.Setting.{Setting}
+use Rattle.shape_links.specs.Acquired.{is_acquired_by}
+use Rattle.rule_rankings.proofs.RowsBelow.{no_ranks, no_lap, no_laps_fit, other_rank, parts_fit, ranks_fit}
+use Rattle.rule_rankings.specs.ResourceRanks.{number_by, IsLeastAcquired, IsRank, ArePartRanks, HaveTop}
+use Rattle.shape_links.proofs.Acquiring.{acquire_only}
 use Rattle.csp_base.proofs.Listed.{any_of, any_member}
 use Rattle.design_rules.proofs.Resource.{below_top}
 
@@ -157,44 +155,7 @@ held_is g number top i e M rank resource within member a is = record {
   not_acquiring = λ user. absurd (both_ways (use_at g.uses i).resource user resource);
 }
 
--- ---- how the ranking fits
-
-ranks_fit : (g : Setting) (number : ℕ → ℕ) (top i : ℕ) (table : List Node) (rows : List (List ℤ)) → AreEach no_node [] (AreNodeRanks g number top i) table rows → RanksFit table rows
-ranks_fit g number top i [] [] e = tt
-ranks_fit g number top i [] (r ∷ rs) e = absurd (let many : length {A = Node} [] ≡ length (r ∷ rs) = e.as_many in omega arith)
-ranks_fit g number top i (n ∷ ns) [] e = absurd (let many : length (n ∷ ns) ≡ length {A = List ℤ} [] = e.as_many in omega arith)
-ranks_fit g number top i (n ∷ ns) (r ∷ rs) e =
-    let many : length (n ∷ ns) ≡ length (r ∷ rs) = e.as_many in
-    (as_many n.accept r (e.each 0 (omega arith)).as_many, ranks_fit g number top i ns rs (record { as_many = omega arith; each = λ k h. e.each (suc k) (omega arith) }))
-
-no_laps_at_most : (n : ℕ) → AtMostOne (replicate n 0)
-no_laps_at_most zero = tt
-no_laps_at_most (suc n) = (omega arith, no_laps_at_most n)
-
-no_laps_as_many : {A : Type 0} (xs : List A) → AsMany {B = ℕ} xs (replicate (length xs) 0)
-no_laps_as_many [] = tt
-no_laps_as_many (x ∷ xs) = no_laps_as_many xs
-
-laps_fit : (table : List Node) (rows : List (List ℕ)) → AreEach no_node [] AreNoLaps table rows → LapsFit table rows
-laps_fit [] [] e = tt
-laps_fit [] (r ∷ rs) e = absurd (let many : length {A = Node} [] ≡ length (r ∷ rs) = e.as_many in omega arith)
-laps_fit (n ∷ ns) [] e = absurd (let many : length (n ∷ ns) ≡ length {A = List ℕ} [] = e.as_many in omega arith)
-laps_fit (n ∷ ns) (r ∷ rs) e =
-    let many : length (n ∷ ns) ≡ length (r ∷ rs) = e.as_many in
-    let is : r ≡ replicate (length n.next) 0 = e.each 0 (omega arith) in
-    (subst (AsMany n.next) (sym is) (no_laps_as_many n.next), subst AtMostOne (sym is) (no_laps_at_most (length n.next)), laps_fit ns rs (record { as_many = omega arith; each = λ k h. e.each (suc k) (omega arith) }))
-
-lap_none : (next : List (ℕ × ℕ)) (n e : ℕ) → lap_of next (replicate n 0) e ≡ 0
-lap_none [] n e = refl
-lap_none (x ∷ xs) zero e = refl
-lap_none (x ∷ xs) (suc n) e = elim (cases_Bool (nat_eq x.0 e)) [
-  | inl here ↦ cond-true (nat_eq x.0 e) 0 (lap_of xs (replicate n 0) e) here
-  | inr later ↦ cond-false (nat_eq x.0 e) 0 (lap_of xs (replicate n 0) e) later ∙ lap_none xs n e
-]
-
-lap_nowhere : (next : List (ℕ × ℕ)) (e : ℕ) → lap_of next [] e ≡ 0
-lap_nowhere [] e = refl
-lap_nowhere (x ∷ xs) e = refl
+-- ---- the ranking
 
 module _ (g : Setting) (number : ℕ → ℕ) (top : ℕ) (w : IsWellFormed g.shape) (keep : KeepUses g.shape g.uses) where
   rank_row : (i n k : ℕ) (r : PartRanks) → ArePartRanks g number top i r → n < length (part_at g.shape.parts i).table → k < length (node_at (part_at g.shape.parts i).table n).accept → IsRank g number top i (acceptance_at (part_at g.shape.parts i) n k) (rank_at r.ranks n k)
@@ -217,30 +178,15 @@ module _ (g : Setting) (number : ℕ → ℕ) (top : ℕ) (w : IsWellFormed g.sh
       let release = sym (cond-true (is_held g.shape s) (has (use_at g.uses i).release e) (has (use_at g.uses i).acquire e) held) ∙ (keep.used i s resource).turn e (possible_of i k e s accepts x) (accepts.shared e x) in
       both_ways (has (use_at g.uses i).release e) (acquire_only g i e keep.kinds accepts.runs.part resource a).2 release
 
-  other_rank : (i n k : ℕ) (r : PartRanks) → i < length g.shape.parts → ArePartRanks g number top i r → (IsVertex g.shape i n k → ⊥) → rank_at r.ranks n k ≡ pos 0
-  other_rank i n k r h a none = elim (cases_lt n (length (part_at g.shape.parts i).table)) [
-    | inl node ↦ elim (cases_lt k (length (node_at (part_at g.shape.parts i).table n).accept)) [
-      | inl listed ↦ (rank_row i n k r a node listed).other (λ within some. none (record { part = h; node = node; listed = listed; some = some; shared = within }))
-      | inr past ↦ get_or_past (get_or r.ranks n []) k (pos 0) (let many : length (node_at (part_at g.shape.parts i).table n).accept ≡ length (get_or r.ranks n []) = ((a.ranks_are).each n node).as_many in omega arith)
-    ]
-    | inr past ↦ ap (λ (row : List ℤ). get_or row k (pos 0)) (get_or_past r.ranks n [] (let many : length (part_at g.shape.parts i).table ≡ length r.ranks = a.ranks_are.as_many in omega arith))
-  ]
-
-  no_lap : (i n e : ℕ) (r : PartRanks) → ArePartRanks g number top i r → lap_of (node_at (part_at g.shape.parts i).table n).next (get_or r.laps n []) e ≡ 0
-  no_lap i n e r a = elim (cases_lt n (length (part_at g.shape.parts i).table)) [
-    | inl node ↦ ap (λ row. lap_of (node_at (part_at g.shape.parts i).table n).next row e) ((a.laps_are).each n node) ∙ lap_none (node_at (part_at g.shape.parts i).table n).next (length (node_at (part_at g.shape.parts i).table n).next) e
-    | inr past ↦ ap (λ row. lap_of (node_at (part_at g.shape.parts i).table n).next row e) (get_or_past r.laps n [] (let many : length (part_at g.shape.parts i).table ≡ length r.laps = a.laps_are.as_many in omega arith)) ∙ lap_nowhere (node_at (part_at g.shape.parts i).table n).next e
-  ]
-
   pub resource_ranks : (ranking : Ranking) → top ≡ top_number g.uses number (length g.shape.parts) → length ranking.parts ≡ length g.shape.parts → ((i : ℕ) → i < length g.shape.parts → ArePartRanks g number top i (get_or ranking.parts i no_ranks)) → ranking.scale ≡ pos 0 → AreResourceRanks g.shape g.uses number top ranking
   resource_ranks ranking is count each scale = record {
     greatest = is;
-    fits = parts_fit g.shape.parts ranking.parts count (λ i h. (ranks_fit g number top i (part_at g.shape.parts i).table (get_or ranking.parts i no_ranks).ranks (each i h).ranks_are, laps_fit (part_at g.shape.parts i).table (get_or ranking.parts i no_ranks).laps (each i h).laps_are));
+    fits = parts_fit g.shape.parts ranking.parts count (λ i h. (ranks_fit (IsRank g number top i) (part_at g.shape.parts i).table (get_or ranking.parts i no_ranks).ranks (each i h).ranks_are, no_laps_fit (part_at g.shape.parts i).table (get_or ranking.parts i no_ranks).laps (each i h).laps_are));
     scale = scale;
     free = λ i s k resource a free. (rank_here i k s (get_or ranking.parts i no_ranks) (each i a.accepts.runs.part) a.accepts).free resource a.accepts.shared a.some (free_acquires i k s resource a.accepts free);
     held = λ i s k resource a held. (rank_here i k s (get_or ranking.parts i no_ranks) (each i a.accepts.runs.part) a.accepts).held resource a.accepts.shared a.some (held_releases i k s resource a.accepts held);
     acquiring = λ i s k j user a below acquired least. (rank_here i k s (get_or ranking.parts i no_ranks) (each i a.accepts.runs.part) a.accepts).acquiring j user a.accepts.shared below acquired least;
     not_acquiring = λ i s k user a nothing. (rank_here i k s (get_or ranking.parts i no_ranks) (each i a.accepts.runs.part) a.accepts).not_acquiring user nothing;
-    others = λ i n k h none. other_rank i n k (get_or ranking.parts i no_ranks) h (each i h) none;
-    laps = λ i n e h. no_lap i n e (get_or ranking.parts i no_ranks) (each i h);
+    others = λ i n k h none. other_rank (IsRank g number top i) g.shape i n k (get_or ranking.parts i no_ranks).ranks h (each i h).ranks_are (λ M rank r. r.other) none;
+    laps = λ i n e h. no_lap (part_at g.shape.parts i).table (get_or ranking.parts i no_ranks).laps n e (each i h).laps_are;
   }

@@ -3,9 +3,9 @@ use Rattle.std.specs.Prelude.{◌≡◌, ◌*◌, ℕ, ℤ, pos, ◌-ℤ◌, Lis
 use Rattle.csp_tables.specs.Part.{part_at, IsNonEmpty, Meet, AreApart}
 use Rattle.csp_tables.specs.Table.{Node, no_node}
 use Rattle.csp_tables.specs.Trace.{IsWithin}
-use Rattle.csp_tables.specs.Roles.{role_at}
+use Rattle.csp_tables.specs.Roles.{RoleSets, role_at}
+use Rattle.csp_tables.specs.Shape.{Shape}
 use Rattle.csp_tables.specs.Ranking.{PartRanks}
-use Rattle.client_server_conditions.specs.Network.{Network}
 use Rattle.rule_rankings.specs.Rows.{AreEach, AreNoLaps}
 
 -- The rank of an acceptance: the one where it has requests, and the other where it has none; 0 where it is empty or not in the
@@ -23,6 +23,6 @@ abbrev pub serving_rank : ℕ → ℕ → ℤ
 serving_rank n height = pos (2 * n) -ℤ pos height
 
 -- the ranks and the laps of the part in place i, which stands at this height
-pub record ArePartRanks (network : Network) (height : ℕ → ℕ) (i : ℕ) (ranks : PartRanks) : Type 0 where
-  pub ranks_are : AreEach no_node [] (AreNodeRanks network.shape.vocabulary (role_at network.roles i).sreq (serving_rank (length network.shape.parts) (height i)) (pos (height i))) (part_at network.shape.parts i).table ranks.ranks
-  pub laps_are : AreEach no_node [] AreNoLaps (part_at network.shape.parts i).table ranks.laps
+pub record ArePartRanks (shape : Shape) (roles : List RoleSets) (height : ℕ → ℕ) (i : ℕ) (ranks : PartRanks) : Type 0 where
+  pub ranks_are : AreEach no_node [] (AreNodeRanks shape.vocabulary (role_at roles i).sreq (serving_rank (length shape.parts) (height i)) (pos (height i))) (part_at shape.parts i).table ranks.ranks
+  pub laps_are : AreEach no_node [] AreNoLaps (part_at shape.parts i).table ranks.laps

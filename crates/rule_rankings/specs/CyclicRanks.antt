@@ -6,8 +6,7 @@ use Rattle.csp_tables.specs.Table.{Node, no_node}
 use Rattle.csp_tables.specs.Trace.{IsWithin}
 use Rattle.csp_tables.specs.Shape.{Shape, link_at}
 use Rattle.csp_tables.specs.Ranking.{PartRanks}
-use Rattle.shape_links.specs.Links.{IsOwner, ends_of}
-use Rattle.cyclic_conditions.specs.Shorts.{IsOnOne}
+use Rattle.shape_links.specs.Links.{IsOwner, IsOnOne, ends_of}
 use Rattle.rule_rankings.specs.Rows.{AreEach}
 
 -- the rank of an acceptance: the number of the link on which it lies, and 0 where it is empty or not in the vocabulary

@@ -7,7 +7,7 @@ use Rattle.csp_tables.specs.Ranking.{PartRanks}
 use Rattle.csp_tables.specs.Roles.{use_at}
 use Rattle.design_rules.specs.Resource.{acquires}
 use Rattle.design_rules.specs.ResourceRanking.{top_number}
-use Rattle.resource_conditions.specs.Setting.{Setting, IsResourcePart, IsUser}
+use Rattle.shape_links.specs.Setting.{Setting, IsResourcePart, IsUser}
 use Rattle.rule_rankings.specs.Rows.{AreEach, AreNoLaps}
 
 -- a resource's number is one more than its height

@@ -2,6 +2,7 @@
 
 ghost use Rattle.std.specs.Prelude.{◌≡◌, ◌<◌, ◌≤◌, ◌^◌, ◌*◌, ◌++◌, ◌∷◌, [], ℕ, List, All, pos, IfOk, OnOk, length, map, replicate, slice_index};
 ghost use Rattle.csp_tables.specs.Part.{part_at};
+ghost use Rattle.csp_tables.specs.Roles.{role_at};
 ghost use Rattle.csp_tables.specs.Shape.{IsWellFormed};
 ghost use Rattle.design_rules.specs.ClientServer.{Serves};
 ghost use Rattle.design_rules.specs.ClientServerRanking.{IsClientServerRanking};
@@ -11,11 +12,11 @@ ghost use Rattle.rule_rankings.specs.Rows.{AreEach};
 ghost use Rattle.csp_tables.specs.Table.{no_node};
 
 use crate::rows::no_laps;
-use client_server_conditions::Network;
 use containers::Items;
 use csp_base::{EventSet, NoMemory};
-use csp_tables::{NormNode, PartRanks, Ranking, Shape};
+use csp_tables::{NormNode, PartRanks, Ranking, RoleSets, Shape};
 use digraph::Heights;
+use shape_links::Prepared;
 use std::alloc::Global;
 
 // The ranks of acceptances with requests to the component as a server, and of others.
@@ -28,16 +29,18 @@ struct Levels {
 /// The ranking with these heights of the parts.
 pub fn client_server_ranking(
     alloc: Global,
-    network: &Network<'_>,
+    prepared: &Prepared<'_>,
+    roles: &[RoleSets],
     heights: &Heights,
 ) -> Result<Ranking, NoMemory>
-    requires heights { AreHeights (Serves network.now.shape network.now.roles) (length network.now.shape.parts) heights.now }
-    requires below { All (λ height. height < length network.now.shape.parts) heights.now }
-    ensures { IfOk result (λ ranking. IsClientServerRanking network.now.shape network.now.roles ranking) }
+    requires roles { length roles.now ≡ length prepared.now.parts }
+    requires heights { AreHeights (Serves prepared.now roles.now) (length prepared.now.parts) heights.now }
+    requires below { All (λ height. height < length prepared.now.parts) heights.now }
+    ensures { IfOk result (λ ranking. IsClientServerRanking prepared.now roles.now ranking) }
 {
     let mut parts = Items::new(alloc);
-    for part in 0..network.shape().parts().len() {
-        parts.push_made(part_ranks(alloc, network, heights, part as u32))?;
+    for part in 0..prepared.shape().parts().len() {
+        parts.push_made(part_ranks(alloc, prepared, roles, heights, part as u32))?;
     }
     Ok(Ranking::new(0, parts.into_vec()))
 }
@@ -45,22 +48,32 @@ pub fn client_server_ranking(
 // The ranks and the laps of a part.
 fn part_ranks(
     alloc: Global,
-    network: &Network<'_>,
+    prepared: &Prepared<'_>,
+    roles: &[RoleSets],
     heights: &Heights,
     part: u32,
 ) -> Result<PartRanks, NoMemory>
-    requires part { part < length network.now.shape.parts }
-    requires count { length heights.now ≡ length network.now.shape.parts }
-    requires below { slice_index heights.now part < length network.now.shape.parts }
-    ensures { IfOk result (λ ranks. ArePartRanks network.now (slice_index heights.now) part ranks) }
+    requires part { part < length prepared.now.parts }
+    requires roles { length roles.now ≡ length prepared.now.parts }
+    requires count { length heights.now ≡ length prepared.now.parts }
+    requires below { slice_index heights.now part < length prepared.now.parts }
+    ensures { IfOk result (λ ranks. ArePartRanks prepared.now roles.now (slice_index heights.now) part ranks) }
 {
-    let shape = network.shape();
+    let shape = prepared.shape();
     let levels = levels_of(shape, heights, part);
-    let nodes = network.prepared().component(part).table().nodes();
-    let requests = network.roles(part).sreq();
+    let nodes = prepared.component(part).table().nodes();
+    let requests = requests_of(roles, part);
     let ranks = rank_rows(alloc, shape.vocabulary(), requests, levels, nodes)?;
     let laps = no_laps(alloc, nodes)?;
     Ok(PartRanks::new(ranks, laps))
+}
+
+// The requests to the part as a server.
+fn requests_of(roles: &[RoleSets], part: u32) -> &EventSet
+    requires { part < length roles.now }
+    ensures { result.now ≡ (role_at roles.now part).sreq }
+{
+    roles[part as usize].sreq()
 }
 
 // The ranks of a part of the shape, by its height.

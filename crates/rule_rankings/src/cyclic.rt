@@ -11,6 +11,7 @@ ghost use Rattle.shape_links.specs.Links.{ends_of};
 ghost use Rattle.rule_rankings.specs.CyclicRanks.{AreNodeLaps, AreNodeRanks, ArePartRanks, IsGreatest, IsLap, IsRank};
 ghost use Rattle.rule_rankings.specs.Rows.{AreEach};
 
+use crate::rows::larger;
 use containers::Items;
 use csp_base::{Event, EventSet, NoMemory};
 use csp_tables::{NormNode, PartRanks, Ranking};
@@ -60,13 +61,6 @@ fn signed(number: u64) -> i64
     ensures { result ≡ pos number }
 {
     number as i64
-}
-
-// The greater of the two.
-fn larger(a: u32, b: u32) -> u32
-    ensures { result ≡ max a b }
-{
-    if a < b { b } else { a }
 }
 
 // The ranks and the laps of a part.

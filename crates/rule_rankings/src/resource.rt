@@ -1,21 +1,21 @@
 //! The ranking of a network of users and resources.
 
-ghost use Rattle.std.specs.Prelude.{◌≡◌, ◌<◌, ◌≤◌, ◌⊎◌, ◌+◌, ◌-◌, ◌*◌, if◌then◌else◌, ◌++◌, ◌∷◌, [], ℕ, true, pos, min, All, IfOk, OnOk, length, map, max};
+ghost use Rattle.std.specs.Prelude.{◌≡◌, ◌<◌, ◌≤◌, ◌⊎◌, ◌+◌, ◌-◌, ◌*◌, if◌then◌else◌, ◌++◌, ◌∷◌, [], ℕ, true, pos, min, All, IfOk, OnOk, length, map};
 ghost use Rattle.csp_tables.specs.Roles.{use_at};
 ghost use Rattle.design_rules.specs.Resource.{KeepUses};
 ghost use Rattle.design_rules.specs.ResourceRanking.{AreResourceRanks, top_number};
-ghost use Rattle.resource_conditions.specs.Acquired.{is_acquired_by};
+ghost use Rattle.shape_links.specs.Acquired.{is_acquired_by};
 ghost use Rattle.rule_rankings.specs.ResourceRanks.{AreNodeRanks, ArePartRanks, HaveTop, IsLeastAcquired, IsRank, number_by};
 ghost use Rattle.rule_rankings.specs.Rows.{AreEach};
-ghost use Rattle.resource_conditions.specs.Setting.{KeepKinds};
+ghost use Rattle.shape_links.specs.Setting.{KeepKinds};
 ghost use Rattle.csp_tables.specs.Table.{no_node};
 
-use crate::rows::no_laps;
+use crate::rows::{larger, no_laps};
 use containers::Items;
 use csp_base::{Event, EventSet, NoMemory};
 use csp_tables::{NormNode, PartRanks, Ranking};
 use digraph::Heights;
-use resource_conditions::{Setting, acquired};
+use shape_links::{Setting, acquired};
 use std::alloc::Global;
 
 /// The ranking with the numbers that these heights of the resources give.
@@ -50,13 +50,6 @@ fn top(setting: &Setting<'_>, heights: &Heights) -> u32
         top = larger(number, top);
     }
     top
-}
-
-// The greater of the two.
-fn larger(a: u32, b: u32) -> u32
-    ensures { result ≡ max a b }
-{
-    if a < b { b } else { a }
 }
 
 // The smaller of the two.

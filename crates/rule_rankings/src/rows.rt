@@ -1,6 +1,6 @@
-//! Rows that the rankings have alike.
+//! What the rankings have alike: rows without laps, and the greater of two numbers.
 
-ghost use Rattle.std.specs.Prelude.{[], IfOk, map};
+ghost use Rattle.std.specs.Prelude.{◌≡◌, [], IfOk, map, max};
 ghost use Rattle.rule_rankings.specs.Rows.{AreEach, AreNoLaps};
 ghost use Rattle.csp_tables.specs.Table.{no_node};
 
@@ -18,4 +18,11 @@ pub(crate) fn no_laps(alloc: Global, nodes: &[NormNode]) -> Result<Vec<Vec<u8>>,
         rows.push_made(vec![in alloc; 0; node.next().len()])?;
     }
     Ok(rows.into_vec())
+}
+
+// The greater of the two.
+pub(crate) fn larger(a: u32, b: u32) -> u32
+    ensures { result ≡ max a b }
+{
+    if a < b { b } else { a }
 }

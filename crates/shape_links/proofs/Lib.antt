@@ -1,3 +1,4 @@
+pub mod Acquiring
 pub mod Circles
 pub mod Links
 pub mod Watching

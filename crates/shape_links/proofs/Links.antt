@@ -7,12 +7,17 @@ use Rattle.std.proofs.lemmas.Option.{slice_get_within, get_or_from_slice_get}
 use Rattle.std.proofs.lemmas.List.{get_or_read, get_or_past}
 use Rattle.csp_base.specs.Members.{has}
 use Rattle.csp_tables.specs.Part.{Part, part_at, alphabets_of, sharers, TripleDisjoint}
-use Rattle.csp_tables.specs.Shape.{Link, Shape, Joins, is_end, link_at, IsWellFormed}
+use Rattle.csp_tables.specs.Table.{node_at, is_possible}
+use Rattle.csp_tables.specs.Shape.{Link, Shape, Joins, is_end, link_at, acceptance_at, IsWellFormed}
 use Rattle.csp_tables.specs.Standing.{IsOn}
 use Rattle.net_sound.proofs.Sharers.{at_three}
+use Rattle.net_sound.proofs.Within.{part_form}
+use Rattle.design_rules.specs.Cyclic.{AllKeepPlaces, ReachesLink}
 use Rattle.design_rules.proofs.Holders.{one_link}
-use Rattle.design_rules.proofs.Shapes.{first_end}
-use Rattle.shape_links.specs.Links.{IsOwner, AreOwners, ends_below, ends_of}
+use Rattle.design_rules.proofs.Places.{one_link_at}
+use Rattle.design_rules.proofs.Runs.{possible_within}
+use Rattle.design_rules.proofs.Shapes.{first_end, sharer, some_link}
+use Rattle.shape_links.specs.Links.{IsOwner, IsOnOne, AreOwners, ends_below, ends_of}
 use Rattle.csp_base.proofs.Listed.{has_push_cases}
 
 -- a part that has the event is an end of the link that has it
@@ -44,6 +49,29 @@ one_owner shape l m e w triple x y =
     let within : (link_at shape l).right < length shape.parts = t.within in
     let h : (link_at shape l).left < length shape.parts = omega arith in
     one_link shape (link_at shape l).left l m e w triple h (owner_end shape (link_at shape l).left l e w triple h mine x) (owner_end shape (link_at shape l).left m e w triple h mine y)
+
+-- an event of the vocabulary has a link
+pub vocabulary_owner : (shape : Shape) (e : ℕ) → IsWellFormed shape → IsTrue (has shape.vocabulary e) → (l : ℕ) × IsOwner shape l e
+vocabulary_owner shape e w v =
+    let two = (w.vocabulary e).0 v in
+    let s = sharer shape.parts e (omega arith) in
+    let l = some_link shape s.place e w s.within s.owned v in
+    (l.0, record { within = l.1.within; event = l.1.event })
+
+-- all events of an acceptance lie on one link
+pub on_one : (shape : Shape) (i n k : ℕ) → IsWellFormed shape → TripleDisjoint (alphabets_of shape.parts) → AllKeepPlaces shape → i < length shape.parts → n < length (part_at shape.parts i).table → IsOnOne shape (acceptance_at (part_at shape.parts i) n k)
+on_one shape i n k w triple keep h below l m e f hl hm xe xf le mf =
+    let r = w.reached i n h below in
+    one_link_at shape i l m r.run r.run e f (keep i h) (reach l e hl xe le) (reach m f hm xf mf) refl
+  where
+    reach : (p x : ℕ) → p < length shape.links → IsTrue (has (acceptance_at (part_at shape.parts i) n k) x) → IsTrue (has (link_at shape p).shared x) → ReachesLink shape i p (w.reached i n h below).run x
+    reach p x hp member on =
+        let r = w.reached i n h below in
+        let possible = w.possible i n k x h member in
+        record {
+          possible = record { runs = record { part = h; follows = r.follows }; next = subst (λ j. IsTrue (is_possible (node_at (part_at shape.parts i).table j).next x)) (sym r.leads) possible };
+          on = owner_end shape i p x w triple h (possible_within (part_at shape.parts i) n x (part_form shape.parts i h w.form) possible) (record { within = hp; event = on });
+        }
 
 -- ---- for each event its link
 

@@ -1,2 +1,4 @@
+pub mod Acquired
 pub mod Links
+pub mod Setting
 pub mod Turned

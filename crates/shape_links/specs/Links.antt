@@ -10,6 +10,10 @@ pub record IsOwner (shape : Shape) (l e : ℕ) : Type 0 where
   pub within : l < length shape.links
   pub event : IsTrue (has (link_at shape l).shared e)
 
+-- all events of the set lie on one link
+abbrev pub IsOnOne : Shape → List ℕ → Type 0
+IsOnOne shape M = (l m e f : ℕ) → l < length shape.links → m < length shape.links → IsTrue (has M e) → IsTrue (has M f) → IsTrue (has (link_at shape l).shared e) → IsTrue (has (link_at shape m).shared f) → l ≡ m
+
 -- for each event 1 + the link that has it, 0 where none has
 pub record AreOwners (shape : Shape) (owners : List ℕ) : Type 0 where
   pub sound : (e l : ℕ) → slice_index owners e ≡ suc l → IsOwner shape l e

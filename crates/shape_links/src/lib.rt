@@ -1,14 +1,18 @@
 //! A shape, sorted out once: the links of each part, the link that has each event, and the steps that its runs have to follow;
-//! and circles, passed the other way round.
+//! the same with its resources, and which of them an event acquires; and circles, passed the other way round and told.
 #![tactic(auto)]
 
+mod acquisition;
 mod circle;
 mod ends;
 mod exploring;
 mod owners;
 mod prepared;
+mod setting;
 mod steps;
 
-pub use circle::turned;
+pub use acquisition::acquired;
+pub use circle::{circle_fault, turned};
 pub use exploring::explored;
 pub use prepared::Prepared;
+pub use setting::Setting;

@@ -14,8 +14,8 @@ use Rattle.client_server_conditions.proofs.conditions.is_broken.Goals as goal
 pub returns-in-Turns-clause-keeps : goal.returns-in-Turns-clause-keeps
 returns-in-Turns-clause-keeps c h =
     let network = c.args.network.now in
-    let shared = c.shared.ensures ∙ ap (λ (k : Link). k.shared) (c.link_of.ensures ∙ ap (λ (s : Shape). link_at s c.args.link) c.shape-shape.ensures.value) in
-    let enough = subst (λ (s : Shape). AreEnough s.vocabulary (node_at (part_at s.parts c.args.part).table c.args.node).next c.steps-steps.result.now) c.prepared.ensures c.steps-steps.ensures in
+    let shared = c.shared.ensures ∙ ap (λ (k : Link). k.shared) (c.link.ensures ∙ ap (λ (s : Shape). link_at s c.args.link) c.prepared-prepared.ensures) in
+    let enough = subst (λ (s : Shape). AreEnough s.vocabulary (node_at (part_at s.parts c.args.part).table c.args.node).next c.steps-steps.result.now) c.prepared-prepared.ensures c.steps-steps.ensures in
     keeps_turns network c.args.part c.args.link c.args.node c.args.condition c.args.opened c.in-Turns.is
     (turns_enough network c.args.part c.args.link c.args.node c.args.opened c.steps-steps.result.now false c.shape-shape.ensures.linked.form c.requires.link enough
     (read_three (λ (x : List ℕ) (y : RoleSets) (z : List (ℕ × ℕ)). list_any (is_out_of_turn x y c.args.opened) z) c.shared.result.now (link_at c.args.network.now.shape c.args.link).shared c.roles-roles.result.now (role_at c.args.network.now.roles c.args.part) c.steps-steps.result.now c.steps-steps.result.now c.some_out_of_turn.result false c.some_out_of_turn.ensures shared c.roles-roles.ensures refl h))
@@ -23,8 +23,8 @@ returns-in-Turns-clause-keeps c h =
 pub returns-in-Turns-clause-breaks : goal.returns-in-Turns-clause-breaks
 returns-in-Turns-clause-breaks c h k =
     let network = c.args.network.now in
-    let shared = c.shared.ensures ∙ ap (λ (k : Link). k.shared) (c.link_of.ensures ∙ ap (λ (s : Shape). link_at s c.args.link) c.shape-shape.ensures.value) in
-    let enough = subst (λ (s : Shape). AreEnough s.vocabulary (node_at (part_at s.parts c.args.part).table c.args.node).next c.steps-steps.result.now) c.prepared.ensures c.steps-steps.ensures in
+    let shared = c.shared.ensures ∙ ap (λ (k : Link). k.shared) (c.link.ensures ∙ ap (λ (s : Shape). link_at s c.args.link) c.prepared-prepared.ensures) in
+    let enough = subst (λ (s : Shape). AreEnough s.vocabulary (node_at (part_at s.parts c.args.part).table c.args.node).next c.steps-steps.result.now) c.prepared-prepared.ensures c.steps-steps.ensures in
     breaks_turns network c.args.part c.args.link c.args.node c.args.condition c.args.opened c.in-Turns.is
     (turns_enough network c.args.part c.args.link c.args.node c.args.opened c.steps-steps.result.now true c.shape-shape.ensures.linked.form c.requires.link enough
     (read_three (λ (x : List ℕ) (y : RoleSets) (z : List (ℕ × ℕ)). list_any (is_out_of_turn x y c.args.opened) z) c.shared.result.now (link_at c.args.network.now.shape c.args.link).shared c.roles-roles.result.now (role_at c.args.network.now.roles c.args.part) c.steps-steps.result.now c.steps-steps.result.now c.some_out_of_turn.result true c.some_out_of_turn.ensures shared c.roles-roles.ensures refl h))
@@ -33,7 +33,7 @@ returns-in-Turns-clause-breaks c h k =
 pub returns-then-opened-clause-keeps : goal.returns-then-opened-clause-keeps
 returns-then-opened-clause-keeps c h =
     let network = c.args.network.now in
-    let at = node_is network c.args.part c.args.link c.args.node c.shape-shape.result.now c.node_of-at.result.now c.shape-shape.ensures.value c.node_of-at.ensures in
+    let at = node_is network c.args.part c.args.link c.args.node c.prepared-prepared.result.now c.node-at.result.now c.prepared-prepared.ensures c.node-at.ensures in
     let vocabulary = c.vocabulary.ensures ∙ ap (λ (s : Shape). s.vocabulary) c.shape-shape.ensures.value in
     let requests = c.sreq.ensures ∙ ap (λ (r : RoleSets). r.sreq) c.roles-roles.ensures in
     let accept = c.accept.ensures ∙ ap (λ (x : Node). x.accept) at in
@@ -43,7 +43,7 @@ returns-then-opened-clause-keeps c h =
 pub returns-then-opened-clause-breaks : goal.returns-then-opened-clause-breaks
 returns-then-opened-clause-breaks c h k =
     let network = c.args.network.now in
-    let at = node_is network c.args.part c.args.link c.args.node c.shape-shape.result.now c.node_of-at.result.now c.shape-shape.ensures.value c.node_of-at.ensures in
+    let at = node_is network c.args.part c.args.link c.args.node c.prepared-prepared.result.now c.node-at.result.now c.prepared-prepared.ensures c.node-at.ensures in
     let vocabulary = c.vocabulary.ensures ∙ ap (λ (s : Shape). s.vocabulary) c.shape-shape.ensures.value in
     let requests = c.sreq.ensures ∙ ap (λ (r : RoleSets). r.sreq) c.roles-roles.ensures in
     let accept = c.accept.ensures ∙ ap (λ (x : Node). x.accept) at in
@@ -54,7 +54,7 @@ returns-then-opened-clause-breaks c h k =
 pub returns-then-opened-2-clause-keeps : goal.returns-then-opened-2-clause-keeps
 returns-then-opened-2-clause-keeps c h =
     let network = c.args.network.now in
-    let at = node_is network c.args.part c.args.link c.args.node c.shape-shape.result.now c.node_of-at.result.now c.shape-shape.ensures.value c.node_of-at.ensures in
+    let at = node_is network c.args.part c.args.link c.args.node c.prepared-prepared.result.now c.node-at.result.now c.prepared-prepared.ensures c.node-at.ensures in
     let vocabulary = c.vocabulary-then-opened-2.ensures ∙ ap (λ (s : Shape). s.vocabulary) c.shape-shape.ensures.value in
     let accept = c.accept-then-opened-2.ensures ∙ ap (λ (x : Node). x.accept) at in
     keeps_answers network c.args.part c.args.link c.args.node c.args.condition c.args.opened c.args.acknowledgements.now c.in-Answers.is c.requires.acknowledgements
@@ -63,7 +63,7 @@ returns-then-opened-2-clause-keeps c h =
 pub returns-then-opened-2-clause-breaks : goal.returns-then-opened-2-clause-breaks
 returns-then-opened-2-clause-breaks c h k =
     let network = c.args.network.now in
-    let at = node_is network c.args.part c.args.link c.args.node c.shape-shape.result.now c.node_of-at.result.now c.shape-shape.ensures.value c.node_of-at.ensures in
+    let at = node_is network c.args.part c.args.link c.args.node c.prepared-prepared.result.now c.node-at.result.now c.prepared-prepared.ensures c.node-at.ensures in
     let vocabulary = c.vocabulary-then-opened-2.ensures ∙ ap (λ (s : Shape). s.vocabulary) c.shape-shape.ensures.value in
     let accept = c.accept-then-opened-2.ensures ∙ ap (λ (x : Node). x.accept) at in
     breaks_answers network c.args.part c.args.link c.args.node c.args.condition c.args.opened c.args.acknowledgements.now c.in-Answers.is c.if-opened-2.true c.requires.acknowledgements (subst (λ x. IsOnSide network x c.args.part c.args.link) c.in-Answers.is c.requires.side)

@@ -2,6 +2,7 @@ use Rattle.std.proofs.Common.{◌∙◌, ◌≤◌, ℕ, List, refl, ap, true, f
 use Rattle.std.specs.List.{list_any}
 use Rattle.csp_tables.specs.Part.{part_at}
 use Rattle.csp_tables.specs.Table.{Node, node_at}
+use Rattle.csp_tables.specs.Shape.{Shape}
 use Rattle.observed_runs.specs.Observed.{pair_at}
 use Rattle.client_server_conditions.specs.Nodes.{splits}
 use Rattle.client_server_conditions.proofs.Looking.{none_splits, one_splits}
@@ -10,17 +11,17 @@ use Rattle.client_server_conditions.proofs.runs.split_pair.Goals as goal
 
 pub returns-then-some_splits-clause-broken : goal.returns-then-some_splits-clause-broken
 returns-then-some_splits-clause-broken c each =
-    let accept = c.accept-accept.ensures ∙ ap (λ (x : Node). x.accept) c.node_of.ensures in
-    one_splits c.args.shape.now.vocabulary c.args.requests.now (node_at (part_at c.args.shape.now.parts c.args.part).table (pair_at c.args.pairs.now c.loop-place.place).0).accept
-    (read_three (λ (x y : List ℕ) (z : List (List ℕ)). list_any (splits x y) z) c.vocabulary.result.now c.args.shape.now.vocabulary c.args.requests.now c.args.requests.now c.accept-accept.result.now (node_at (part_at c.args.shape.now.parts c.args.part).table (pair_at c.args.pairs.now c.loop-place.place).0).accept c.some_splits.result true c.some_splits.ensures c.vocabulary.ensures refl accept c.if-some_splits.true)
+    let accept = c.accept-accept.ensures ∙ ap (λ (x : Node). x.accept) c.node.ensures in
+    one_splits c.args.prepared.now.vocabulary c.args.requests.now (node_at (part_at c.args.prepared.now.parts c.args.part).table (pair_at c.args.pairs.now c.loop-place.place).0).accept
+    (read_three (λ (x y : List ℕ) (z : List (List ℕ)). list_any (splits x y) z) c.vocabulary.result.now c.args.prepared.now.vocabulary c.args.requests.now c.args.requests.now c.accept-accept.result.now (node_at (part_at c.args.prepared.now.parts c.args.part).table (pair_at c.args.pairs.now c.loop-place.place).0).accept c.some_splits.result true c.some_splits.ensures (c.vocabulary.ensures ∙ ap (λ (s : Shape). s.vocabulary) c.shape.ensures.value) refl accept c.if-some_splits.true)
     each
 
 pub loop-place-preserved : goal.loop-place-preserved
 loop-place-preserved c =
-    let accept = c.accept-accept.ensures ∙ ap (λ (x : Node). x.accept) c.node_of.ensures in
+    let accept = c.accept-accept.ensures ∙ ap (λ (x : Node). x.accept) c.node.ensures in
     below_more _ _ c.loop-place.invariant
-    (none_splits c.args.shape.now.vocabulary c.args.requests.now (node_at (part_at c.args.shape.now.parts c.args.part).table (pair_at c.args.pairs.now c.loop-place.place).0).accept
-    (read_three (λ (x y : List ℕ) (z : List (List ℕ)). list_any (splits x y) z) c.vocabulary.result.now c.args.shape.now.vocabulary c.args.requests.now c.args.requests.now c.accept-accept.result.now (node_at (part_at c.args.shape.now.parts c.args.part).table (pair_at c.args.pairs.now c.loop-place.place).0).accept c.some_splits.result false c.some_splits.ensures c.vocabulary.ensures refl accept c.if-some_splits.false))
+    (none_splits c.args.prepared.now.vocabulary c.args.requests.now (node_at (part_at c.args.prepared.now.parts c.args.part).table (pair_at c.args.pairs.now c.loop-place.place).0).accept
+    (read_three (λ (x y : List ℕ) (z : List (List ℕ)). list_any (splits x y) z) c.vocabulary.result.now c.args.prepared.now.vocabulary c.args.requests.now c.args.requests.now c.accept-accept.result.now (node_at (part_at c.args.prepared.now.parts c.args.part).table (pair_at c.args.pairs.now c.loop-place.place).0).accept c.some_splits.result false c.some_splits.ensures (c.vocabulary.ensures ∙ ap (λ (s : Shape). s.vocabulary) c.shape.ensures.value) refl accept c.if-some_splits.false))
 
 pub returns-clause-none : goal.returns-clause-none
 returns-clause-none c _ k h =

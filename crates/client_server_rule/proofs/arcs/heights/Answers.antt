@@ -27,7 +27,7 @@ returns-in-Err-Circle-clause-fault c =
       circle = subst (IsLeastCircle (Serves c.args.network.now.shape c.args.network.now.roles)) (sym c.members.ensures)
           (same_least_circle (HasArc c.in_ok-rows.rows) (Serves c.args.network.now.shape c.args.network.now.roles) c.in_ok-rows.ensures.sound c.in-Err-Circle.circle it);
     } in
-    elim c.told.ensures as (λ _. BreaksClientServer shape roles c.told.result) [
+    elim (c.circle_fault.ensures c.members.result.now c.from_slice.ensures) as (λ _. BreaksClientServer shape roles c.circle_fault.result) [
       | inl want ↦ subst (BreaksClientServer shape roles) (sym want) tt
       | inr is ↦ subst (BreaksClientServer shape roles) (sym is) in_circle
     ]

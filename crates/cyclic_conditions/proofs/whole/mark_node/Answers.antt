@@ -1,44 +1,38 @@
 use Rattle.std.proofs.Common.{◌≡◌, ◌<◌, ◌≤◌, ◌∙◌, ℕ, List, length, ap, sym, subst, arith, inl, inr}
 use Rattle.std.proofs.lemmas.Bool.{cases_lt}
 use Rattle.csp_tables.specs.Table.{Node}
-use Rattle.csp_tables.specs.Part.{Part, part_at}
-use Rattle.csp_tables.specs.Shape.{Shape, acceptance_at}
-use Rattle.cyclic_conditions.specs.Shorts.{IsShort, IsOnOne, IsMarked}
-use Rattle.cyclic_conditions.proofs.Noting.{node_read}
-use Rattle.cyclic_conditions.proofs.Shortness.{accept_read, on_one, short_end, marked_still, keeps_both}
+use Rattle.csp_tables.specs.Part.{part_at}
+use Rattle.csp_tables.specs.Shape.{acceptance_at}
+use Rattle.cyclic_conditions.specs.Shorts.{IsShort, IsMarked}
+use Rattle.shape_links.specs.Links.{IsOnOne}
+use Rattle.cyclic_conditions.proofs.Shortness.{accept_read, short_end, marked_still, keeps_both}
 use Rattle.cyclic_conditions.proofs.whole.mark_node.Goals as goal
-use Rattle.shape_links.proofs.Links.{part_read}
+use Rattle.shape_links.proofs.Links.{on_one}
 
 pub mark_set-requires-clause-one : goal.mark_set-requires-clause-one
 mark_set-requires-clause-one c =
     let shape = c.args.prepared.now in
     let i = c.args.part in
     let n = c.args.node in
-    let p = part_read shape c.parts.result.now c.args.part c.index-parts-part.result (c.parts.ensures.value ∙ ap (λ (s : Shape). s.parts) c.shape.ensures.value) c.requires.part c.index-parts-part.is in
-    let node = node_read (part_at shape.parts c.args.part).table c.nodes.result.now c.args.node c.index-nodes-node.result (c.nodes.ensures.value ∙ c.table.ensures ∙ ap (λ (q : Part). q.table) p) c.requires.node c.index-nodes-node.is in
-    let accept = c.accept-accept.ensures ∙ ap (λ (m : Node). m.accept) node in
+    let accept = c.accept-accept.ensures ∙ ap (λ (m : Node). m.accept) c.node.ensures in
     let item = accept_read shape c.args.part c.args.node c.loop-set.set-index c.accept-accept.result.now c.set-item.result accept c.loop-set-test.true c.set-item.is in
-    subst (IsOnOne shape) (sym item.0) (on_one shape i n c.loop-set.set-index c.shape.ensures.form c.shape.ensures.apart c.requires.keep c.requires.part c.requires.node)
+    subst (IsOnOne shape) (sym item.0) (on_one shape i n c.loop-set.set-index c.shape-form.ensures.form c.shape-form.ensures.apart c.requires.keep c.requires.part c.requires.node)
 
 pub mark_set-requires-clause-end : goal.mark_set-requires-clause-end
 mark_set-requires-clause-end c l s =
     let shape = c.args.prepared.now in
     let i = c.args.part in
     let n = c.args.node in
-    let p = part_read shape c.parts.result.now c.args.part c.index-parts-part.result (c.parts.ensures.value ∙ ap (λ (s : Shape). s.parts) c.shape.ensures.value) c.requires.part c.index-parts-part.is in
-    let node = node_read (part_at shape.parts c.args.part).table c.nodes.result.now c.args.node c.index-nodes-node.result (c.nodes.ensures.value ∙ c.table.ensures ∙ ap (λ (q : Part). q.table) p) c.requires.node c.index-nodes-node.is in
-    let accept = c.accept-accept.ensures ∙ ap (λ (m : Node). m.accept) node in
+    let accept = c.accept-accept.ensures ∙ ap (λ (m : Node). m.accept) c.node.ensures in
     let item = accept_read shape c.args.part c.args.node c.loop-set.set-index c.accept-accept.result.now c.set-item.result accept c.loop-set-test.true c.set-item.is in
-    short_end shape i n c.loop-set.set-index l c.shape.ensures.form c.shape.ensures.apart c.requires.part (subst (IsShort shape l) item.0 s)
+    short_end shape i n c.loop-set.set-index l c.shape-form.ensures.form c.shape-form.ensures.apart c.requires.part (subst (IsShort shape l) item.0 s)
 
 pub mark_set-requires-clause-short : goal.mark_set-requires-clause-short
 mark_set-requires-clause-short c l s =
     let shape = c.args.prepared.now in
     let i = c.args.part in
     let n = c.args.node in
-    let p = part_read shape c.parts.result.now c.args.part c.index-parts-part.result (c.parts.ensures.value ∙ ap (λ (s : Shape). s.parts) c.shape.ensures.value) c.requires.part c.index-parts-part.is in
-    let node = node_read (part_at shape.parts c.args.part).table c.nodes.result.now c.args.node c.index-nodes-node.result (c.nodes.ensures.value ∙ c.table.ensures ∙ ap (λ (q : Part). q.table) p) c.requires.node c.index-nodes-node.is in
-    let accept = c.accept-accept.ensures ∙ ap (λ (m : Node). m.accept) node in
+    let accept = c.accept-accept.ensures ∙ ap (λ (m : Node). m.accept) c.node.ensures in
     let item = accept_read shape c.args.part c.args.node c.loop-set.set-index c.accept-accept.result.now c.set-item.result accept c.loop-set-test.true c.set-item.is in
     record { node = c.requires.node; place = c.loop-set.set-index; listed = item.1; short = subst (IsShort shape l) item.0 s }
 
@@ -47,9 +41,7 @@ loop-set-preserved c =
     let shape = c.args.prepared.now in
     let i = c.args.part in
     let n = c.args.node in
-    let p = part_read shape c.parts.result.now c.args.part c.index-parts-part.result (c.parts.ensures.value ∙ ap (λ (s : Shape). s.parts) c.shape.ensures.value) c.requires.part c.index-parts-part.is in
-    let node = node_read (part_at shape.parts c.args.part).table c.nodes.result.now c.args.node c.index-nodes-node.result (c.nodes.ensures.value ∙ c.table.ensures ∙ ap (λ (q : Part). q.table) p) c.requires.node c.index-nodes-node.is in
-    let accept = c.accept-accept.ensures ∙ ap (λ (m : Node). m.accept) node in
+    let accept = c.accept-accept.ensures ∙ ap (λ (m : Node). m.accept) c.node.ensures in
     let item = accept_read shape c.args.part c.args.node c.loop-set.set-index c.accept-accept.result.now c.set-item.result accept c.loop-set-test.true c.set-item.is in
     let v = c.loop-set.invariant in
     let e = c.mark_set.ensures in
@@ -70,8 +62,6 @@ returns-clause-marked c l s =
     let shape = c.args.prepared.now in
     let i = c.args.part in
     let n = c.args.node in
-    let p = part_read shape c.parts.result.now c.args.part c.index-parts-part.result (c.parts.ensures.value ∙ ap (λ (s : Shape). s.parts) c.shape.ensures.value) c.requires.part c.index-parts-part.is in
-    let node = node_read (part_at shape.parts c.args.part).table c.nodes.result.now c.args.node c.index-nodes-node.result (c.nodes.ensures.value ∙ c.table.ensures ∙ ap (λ (q : Part). q.table) p) c.requires.node c.index-nodes-node.is in
-    let accept = c.accept-accept.ensures ∙ ap (λ (m : Node). m.accept) node in
+    let accept = c.accept-accept.ensures ∙ ap (λ (m : Node). m.accept) c.node.ensures in
     let end : length c.accept-accept.result.now ≤ c.loop-set.set-index = c.loop-set-test.false in
     c.loop-set.invariant.marked s.place l (let below : s.place < length c.accept-accept.result.now = subst (λ (Ms : List (List ℕ)). s.place < length Ms) (sym accept) s.listed in omega arith) s.short

@@ -2,15 +2,13 @@ use Rattle.std.proofs.Common.{◌≡◌, ◌<◌, ◌≤◌, ◌∙◌, List, le
 use Rattle.std.proofs.lemmas.Bool.{cases_lt}
 use Rattle.csp_tables.specs.Table.{Node}
 use Rattle.csp_tables.specs.Part.{Part}
-use Rattle.csp_tables.specs.Shape.{Shape}
 use Rattle.cyclic_conditions.specs.Shorts.{IsShortAt, IsMarked}
 use Rattle.cyclic_conditions.proofs.Shortness.{marked_still, keeps_both}
 use Rattle.cyclic_conditions.proofs.whole.mark_part.Goals as goal
-use Rattle.shape_links.proofs.Links.{part_read}
 
 pub mark_node-requires-clause-node : goal.mark_node-requires-clause-node
 mark_node-requires-clause-node c =
-    let p = part_read c.args.prepared.now c.parts.result.now c.args.part c.index-parts-part.result (c.parts.ensures.value ∙ ap (λ (s : Shape). s.parts) c.shape.ensures.value) c.requires.part c.index-parts-part.is in
+    let p = c.component.ensures.value in
     subst (λ (ns : List Node). c.loop-node.node < length ns) (c.nodes-nodes.ensures.value ∙ c.table.ensures ∙ ap (λ (q : Part). q.table) p) c.loop-node-test.true
 
 pub loop-node-preserved : goal.loop-node-preserved
@@ -31,6 +29,6 @@ loop-node-preserved c =
 
 pub returns-clause-marked : goal.returns-clause-marked
 returns-clause-marked c l n s =
-    let p = part_read c.args.prepared.now c.parts.result.now c.args.part c.index-parts-part.result (c.parts.ensures.value ∙ ap (λ (x : Shape). x.parts) c.shape.ensures.value) c.requires.part c.index-parts-part.is in
+    let p = c.component.ensures.value in
     let end : length c.nodes-nodes.result.now ≤ c.loop-node.node = c.loop-node-test.false in
     c.loop-node.invariant.marked l n (let below : n < length c.nodes-nodes.result.now = subst (λ (ns : List Node). n < length ns) (sym (c.nodes-nodes.ensures.value ∙ c.table.ensures ∙ ap (λ (q : Part). q.table) p)) s.node in omega arith) s

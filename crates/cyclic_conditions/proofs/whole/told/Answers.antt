@@ -1,21 +1,17 @@
-use Rattle.std.proofs.Common.{◌≡◌, ◌<◌, ◌∙◌, List, length, ap, sym, subst, arith}
-use Rattle.csp_tables.specs.Shape.{Link, Shape, link_at}
-use Rattle.shape_links.proofs.Links.{link_read}
+use Rattle.std.proofs.Common.{◌≡◌, ◌<◌, ◌∙◌, length, ap, arith}
+use Rattle.csp_tables.specs.Shape.{Link, link_at}
 use Rattle.cyclic_conditions.proofs.Shortness.{read_falls}
 use Rattle.cyclic_conditions.proofs.whole.told.Goals as goal
 
 pub returns : goal.returns
 returns c =
     let shape = c.args.prepared.now in
-    let links = c.links.ensures.value ∙ ap (λ (s : Shape). s.links) c.shape-shape.ensures.value in
-    let within : c.args.link < length c.links.result.now = subst (λ (ls : List Link). c.args.link < length ls) (sym links) c.requires.link in
-    let is = link_read shape c.links.result.now c.args.link c.index-links-link.result links within c.index-links-link.is in
-    let joins = c.shape-shape.ensures.form.links c.args.link c.requires.link in
+    let joins = c.shape-form.ensures.form.links c.args.link c.requires.link in
     let order : (link_at c.args.prepared.now c.args.link).left < (link_at c.args.prepared.now c.args.link).right = joins.ordered in
     let inside : (link_at c.args.prepared.now c.args.link).right < length c.args.prepared.now.parts = joins.within in
-    let left : c.left.result ≡ (link_at c.args.prepared.now c.args.link).left = c.left.ensures.value ∙ sym (ap (λ (k : Link). k.left) is) in
+    let left : c.left.result ≡ (link_at c.args.prepared.now c.args.link).left = c.left.ensures.value ∙ ap (λ (k : Link). k.left) c.link-ends.ensures in
     let left_below : c.left.result < length c.args.prepared.now.parts = omega arith in
-    let right : c.right.result ≡ (link_at c.args.prepared.now c.args.link).right = c.right.ensures.value ∙ sym (ap (λ (k : Link). k.right) is) in
+    let right : c.right.result ≡ (link_at c.args.prepared.now c.args.link).right = c.right.ensures.value ∙ ap (λ (k : Link). k.right) c.link-ends.ensures in
     let right_below : c.right.result < length c.args.prepared.now.parts = omega arith in
     record {
       order = c.requires.keep;

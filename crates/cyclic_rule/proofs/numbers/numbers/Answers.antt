@@ -22,8 +22,8 @@ returns-in-Ok-clause-chains c =
 pub returns-in-Ok-clause-rise : goal.returns-in-Ok-clause-rise
 returns-in-Ok-clause-rise c = all_rise c.args.prepared.now c.args.orders.now c.shape-form.ensures.form c.requires.keep c.requires.orders (slice_index c.in-Ok.heights) (λ l m x. c.in-Ok.ensures.falls m l (c.in_ok-rows.ensures.complete m l x))
 
-pub told-requires : goal.told-requires
-told-requires c =
+pub turned-requires : goal.turned-requires
+turned-requires c =
     let it = c.in-Err-Circle.ensures.circle c.in-Err-Circle.circle (ap Err c.in-Err-Circle.field-0-is) in
     subst (λ (vs : List ℕ). 0 < length vs) (sym c.members.ensures) (circle_some (HasArc c.in_ok-rows.rows) c.in-Err-Circle.circle it)
 
@@ -35,7 +35,7 @@ returns-in-Err-Circle-clause-fault c =
       circle = subst (IsLeastCircle (MustPrecede c.args.prepared.now)) (sym (ap turned_circle c.members.ensures))
           (turned_least (HasArc c.in_ok-rows.rows) (MustPrecede c.args.prepared.now) (λ m l arc. next_precedes c.args.prepared.now c.args.orders.now c.shape-form.ensures.form c.requires.keep c.requires.orders l m (c.in_ok-rows.ensures.sound m l arc)) c.in-Err-Circle.circle it);
     } in
-    elim c.told.ensures as (λ _. BreaksCyclic c.args.prepared.now c.told.result) [
+    elim (c.circle_fault.ensures (turned_circle c.members.result.now) c.turned.ensures) as (λ _. BreaksCyclic c.args.prepared.now c.circle_fault.result) [
       | inl want ↦ subst (BreaksCyclic c.args.prepared.now) (sym want) tt
       | inr is ↦ subst (BreaksCyclic c.args.prepared.now) (sym is) disagree
     ]

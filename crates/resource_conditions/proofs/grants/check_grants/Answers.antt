@@ -1,9 +1,9 @@
 use Rattle.std.proofs.Common.{◌≡◌, ◌<◌, ℕ, length, inl, inr, subst, arith, sym}
 use Rattle.std.proofs.lemmas.Bool.{cases_lt}
 use Rattle.design_rules.specs.Resource.{GrantsAll}
-use Rattle.resource_conditions.specs.Setting.{IsResourcePart}
+use Rattle.shape_links.specs.Setting.{IsResourcePart}
 use Rattle.resource_conditions.specs.Finding.{FindsRun}
-use Rattle.resource_conditions.proofs.Acquiring.{is_part}
+use Rattle.shape_links.proofs.Acquiring.{is_part}
 use Rattle.resource_conditions.proofs.grants.check_grants.Goals as goal
 
 pub loop-part-preserved : goal.loop-part-preserved

@@ -1,6 +1,6 @@
 use Rattle.std.proofs.Common.{◌<◌, ℕ, List}
 use Rattle.design_rules.specs.Resource.{IsUsedInTurn}
-use Rattle.resource_conditions.specs.Setting.{IsResourcePart}
+use Rattle.shape_links.specs.Setting.{IsResourcePart}
 use Rattle.resource_conditions.proofs.turns.check_turns.Given as goal
 
 abbrev pub invariant-loop-part : goal.invariant-loop-part

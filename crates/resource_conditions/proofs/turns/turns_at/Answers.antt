@@ -1,7 +1,7 @@
 use Rattle.std.proofs.Common.{◌∙◌, ℕ}
 use Rattle.std.proofs.lemmas.Bool.{cond-false}
 use Rattle.csp_base.specs.Members.{has}
-use Rattle.resource_conditions.specs.Setting.{node_of}
+use Rattle.shape_links.specs.Setting.{node_of}
 use Rattle.resource_conditions.specs.Tests.{is_turn}
 use Rattle.shape_links.proofs.Watching.{all_enough}
 use Rattle.resource_conditions.proofs.turns.turns_at.Goals as goal

@@ -26,8 +26,8 @@ returns-in-Ok-clause-rise c m j held =
     let falls : slice_index c.in-Ok.heights m < slice_index c.in-Ok.heights j = c.in-Ok.ensures.falls j m (c.requires.complete j m held) in
     omega arith
 
-pub told-requires : goal.told-requires
-told-requires c =
+pub turned-requires : goal.turned-requires
+turned-requires c =
     let it = c.in-Err-Circle.ensures.circle c.in-Err-Circle.circle (ap Err c.in-Err-Circle.field-0-is) in
     subst (λ (vs : List ℕ). 0 < length vs) (sym c.members.ensures) (circle_some (HasArc c.args.rows.now) c.in-Err-Circle.circle it)
 
@@ -40,7 +40,7 @@ returns-in-Err-Circle-clause-fault c =
       circle = subst (IsLeastCircle (IsHeldWhile g.shape g.uses)) (sym (ap turned_circle c.members.ensures))
           (turned_least (HasArc c.args.rows.now) (IsHeldWhile g.shape g.uses) (λ (x y : ℕ) arc. c.requires.sound x y arc) c.in-Err-Circle.circle it);
     } in
-    elim c.told.ensures as (λ _. Breaks g c.told.result) [
+    elim (c.circle_fault.ensures (turned_circle c.members.result.now) c.turned.ensures) as (λ _. Breaks g c.circle_fault.result) [
       | inl want ↦ subst (Breaks g) (sym want) tt
       | inr is ↦ subst (Breaks g) (sym is) in_circle
     ]

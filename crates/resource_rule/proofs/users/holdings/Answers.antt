@@ -2,7 +2,7 @@ use Rattle.std.proofs.Common.{◌≡◌, ◌<◌, ◌∙◌, ℕ, Ok, length, in
 use Rattle.std.proofs.lemmas.Bool.{cases_lt}
 use Rattle.digraph.specs.Digraph.{HasArc}
 use Rattle.design_rules.specs.Resource.{UsesInTurn}
-use Rattle.resource_conditions.specs.Setting.{IsUser}
+use Rattle.shape_links.specs.Setting.{IsUser}
 use Rattle.resource_conditions.specs.Finding.{FindsRun}
 use Rattle.resource_rule.proofs.users.holdings.Goals as goal
 

@@ -1,7 +1,7 @@
 use Rattle.std.proofs.Common.{◌≡◌, ◌<◌, ℕ, List, length}
 use Rattle.digraph.specs.Digraph.{HasArc}
 use Rattle.design_rules.specs.Resource.{IsHeldWhile, UsesInTurn}
-use Rattle.resource_conditions.specs.Setting.{IsUser}
+use Rattle.shape_links.specs.Setting.{IsUser}
 use Rattle.resource_rule.proofs.users.holdings.Given as goal
 
 abbrev pub invariant-loop-part : goal.invariant-loop-part

@@ -2,7 +2,7 @@ use Rattle.std.proofs.Common.{◌∙◌, ℕ}
 use Rattle.std.proofs.lemmas.Bool.{cond-false}
 use Rattle.csp_base.specs.Members.{has}
 use Rattle.csp_tables.specs.Shape.{link_at}
-use Rattle.resource_conditions.specs.Setting.{node_of}
+use Rattle.shape_links.specs.Setting.{node_of}
 use Rattle.resource_rule.specs.Uses.{is_use}
 use Rattle.shape_links.proofs.Watching.{all_enough, off_link}
 use Rattle.resource_rule.proofs.users.uses_at.Goals as goal

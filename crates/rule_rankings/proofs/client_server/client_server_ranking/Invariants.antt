@@ -7,5 +7,5 @@ use Rattle.rule_rankings.proofs.client_server.client_server_ranking.Given as goa
 abbrev pub invariant-loop-part : goal.invariant-loop-part
 invariant-loop-part l = record {
   count : length l.parts ≡ l.part;
-  each : (i : ℕ) → i < l.part → ArePartRanks l.network (slice_index l.heights) i (get_or l.parts i no_ranks);
+  each : (i : ℕ) → i < l.part → ArePartRanks l.prepared l.roles (slice_index l.heights) i (get_or l.parts i no_ranks);
 }

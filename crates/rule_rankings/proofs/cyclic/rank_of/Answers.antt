@@ -1,12 +1,12 @@
-use Rattle.std.proofs.Common.{◌≡◌, ◌∙◌, ◌<◌, ℕ, pos, ap, sym, subst, refl, arith, to_z, of_z, w64}
+use Rattle.std.proofs.Common.{◌≡◌, ◌∙◌, ◌<◌, ℕ, pos, nat_le, ap, sym, subst, refl, arith, to_z, of_z, w64}
 use Rattle.std.proofs.lemmas.Int.{ints}
 use Rattle.std.specs.Prelude.{slice_index}
 use Rattle.std.proofs.lemmas.Bool.{false≢true}
 use Rattle.csp_base.specs.Events.{is_subset_of}
 use Rattle.csp_tables.specs.Shape.{Shape}
-use Rattle.cyclic_conditions.proofs.Shortness.{first_found, vocabulary_owner, nothing}
+use Rattle.shape_links.proofs.Links.{no_number, vocabulary_owner}
 use Rattle.rule_rankings.proofs.cyclic.rank_of.Goals as goal
-use Rattle.csp_base.proofs.Listed.{none_found}
+use Rattle.csp_base.proofs.Listed.{find_has, none_found}
 use Rattle.csp_base.proofs.Rising.{member_of_superset, is_subset_of_from_members}
 
 pub returns-then-not-is_subset : goal.returns-then-not-is_subset
@@ -26,8 +26,8 @@ returns-in_default c = record {
 pub returns-in_default-owner : goal.returns-in_default-owner
 returns-in_default-owner c = record {
   on_link = λ l one within h m.
-      let o = vocabulary_owner c.args.prepared.now c.in-Some.event c.shape.ensures.form (within c.in-Some.event (first_found c.args.set.now c.in-Some.event (sym c.in-Some.ensures.least))) in
-      absurd (nothing (c.in_default-owner.ensures.owned o.0 o.1));
+      let o = vocabulary_owner c.args.prepared.now c.in-Some.event c.shape.ensures.form (within c.in-Some.event (find_has (nat_le 0) c.args.set.now c.in-Some.event (sym c.in-Some.ensures.least))) in
+      absurd (no_number o.0 (c.in_default-owner.ensures.owned o.0 o.1));
   other = λ _. refl;
 }
 
@@ -38,7 +38,7 @@ pub returns : goal.returns
 returns c =
     let o = c.in-Some-owner.ensures.found c.in-Some-owner.link refl in
     let e = c.in-Some.event in
-    let member = first_found c.args.set.now c.in-Some.event (sym c.in-Some.ensures.least) in
+    let member = find_has (nat_le 0) c.args.set.now c.in-Some.event (sym c.in-Some.ensures.least) in
     let subset = sym (c.is_subset.ensures ∙ ap (is_subset_of c.args.set.now) (c.vocabulary.ensures ∙ ap (λ (x : Shape). x.vocabulary) c.shape.ensures.value)) ∙ c.if-not-is_subset.false in
     let same : to_z w64 (of_z w64 c.signed.result) ≡ c.signed.result = omega (arith, ints) in
     let rank : to_z w64 (of_z w64 c.signed.result) ≡ pos (slice_index c.args.numbers.now c.in-Some-owner.link) = same ∙ c.signed.ensures ∙ ap pos (c.from.ensures ∙ c.of.ensures) in

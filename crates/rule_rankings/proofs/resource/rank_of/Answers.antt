@@ -1,4 +1,4 @@
-use Rattle.std.proofs.Common.{◌≡◌, ◌∙◌, ◌+◌, ◌-◌, ◌*◌, List, ℕ, pos, ap, sym, arith, to_z, of_z, w64}
+use Rattle.std.proofs.Common.{◌≡◌, ◌∙◌, ◌+◌, ◌-◌, ◌*◌, List, ℕ, pos, nat_le, ap, sym, arith, to_z, of_z, w64}
 use Rattle.std.proofs.lemmas.Bool.{false≢true}
 use Rattle.std.proofs.lemmas.Int.{ints}
 use Rattle.csp_base.specs.Members.{has}
@@ -6,10 +6,9 @@ use Rattle.csp_base.specs.Events.{is_subset_of}
 use Rattle.csp_tables.specs.Shape.{Shape}
 use Rattle.csp_tables.specs.Roles.{UseSets}
 use Rattle.rule_rankings.specs.ResourceRanks.{number_by}
-use Rattle.resource_conditions.proofs.Sets.{first_found}
 use Rattle.rule_rankings.proofs.ResourceRanking.{rank_outside, rank_empty, user_is, free_is, held_is}
 use Rattle.rule_rankings.proofs.resource.rank_of.Goals as goal
-use Rattle.csp_base.proofs.Listed.{none_found}
+use Rattle.csp_base.proofs.Listed.{find_has, none_found}
 use Rattle.csp_base.proofs.Rising.{member_of_superset, is_subset_of_from_members}
 
 pub returns-then-not-is_subset : goal.returns-then-not-is_subset
@@ -29,7 +28,7 @@ returns-then-not-is_resource c =
     let subset = sym (c.is_subset.ensures ∙ ap (is_subset_of c.args.set.now) (c.vocabulary.ensures ∙ ap (λ (x : Shape). x.vocabulary) c.shape.ensures.value)) ∙ c.if-not-is_subset.false in
     let user = sym (c.is_resource.ensures ∙ ap (λ (u : UseSets). u.resource) c.uses-uses.ensures) ∙ c.if-not-is_resource.true in
     let same : to_z w64 (of_z w64 c.user_rank.result) ≡ c.user_rank.result = omega (arith, ints) in
-    user_is g number c.args.top c.args.part c.least_acquired-least.result c.args.set.now (to_z w64 (of_z w64 c.user_rank.result)) user c.least_acquired-least.ensures (c.in-Some.event, first_found c.args.set.now c.in-Some.event (sym c.in-Some.ensures.least)) (member_of_superset c.args.set.now g.shape.vocabulary subset) top.above
+    user_is g number c.args.top c.args.part c.least_acquired-least.result c.args.set.now (to_z w64 (of_z w64 c.user_rank.result)) user c.least_acquired-least.ensures (c.in-Some.event, find_has (nat_le 0) c.args.set.now c.in-Some.event (sym c.in-Some.ensures.least)) (member_of_superset c.args.set.now g.shape.vocabulary subset) top.above
     (λ low. same ∙ c.user_rank.ensures.some low) (λ high. same ∙ c.user_rank.ensures.none high)
 
 pub returns-then-contains : goal.returns-then-contains
@@ -40,7 +39,7 @@ returns-then-contains c =
     let resource = sym (c.is_resource.ensures ∙ ap (λ (u : UseSets). u.resource) c.uses-uses.ensures) ∙ c.if-not-is_resource.false in
     let acquire = sym (c.contains.ensures.member ∙ ap (λ (xs : List ℕ). has xs c.in-Some.event) (c.acquire.ensures ∙ ap (λ (u : UseSets). u.acquire) c.uses-uses.ensures)) ∙ c.if-contains.true in
     let same : to_z w64 (of_z w64 c.rank.result) ≡ c.rank.result = omega (arith, ints) in
-    free_is g number c.args.top c.args.part c.in-Some.event c.args.set.now (to_z w64 (of_z w64 c.rank.result)) resource (member_of_superset c.args.set.now g.shape.vocabulary subset) (first_found c.args.set.now c.in-Some.event (sym c.in-Some.ensures.least)) acquire (same ∙ c.rank.ensures)
+    free_is g number c.args.top c.args.part c.in-Some.event c.args.set.now (to_z w64 (of_z w64 c.rank.result)) resource (member_of_superset c.args.set.now g.shape.vocabulary subset) (find_has (nat_le 0) c.args.set.now c.in-Some.event (sym c.in-Some.ensures.least)) acquire (same ∙ c.rank.ensures)
 
 pub returns : goal.returns
 returns c =
@@ -50,5 +49,5 @@ returns c =
     let resource = sym (c.is_resource.ensures ∙ ap (λ (u : UseSets). u.resource) c.uses-uses.ensures) ∙ c.if-not-is_resource.false in
     let acquire = sym (c.contains.ensures.member ∙ ap (λ (xs : List ℕ). has xs c.in-Some.event) (c.acquire.ensures ∙ ap (λ (u : UseSets). u.acquire) c.uses-uses.ensures)) ∙ c.if-contains.false in
     let same : to_z w64 (of_z w64 c.rank-2.result) ≡ c.rank-2.result = omega (arith, ints) in
-    held_is g number c.args.top c.args.part c.in-Some.event c.args.set.now (to_z w64 (of_z w64 c.rank-2.result)) resource (member_of_superset c.args.set.now g.shape.vocabulary subset) (first_found c.args.set.now c.in-Some.event (sym c.in-Some.ensures.least)) acquire
+    held_is g number c.args.top c.args.part c.in-Some.event c.args.set.now (to_z w64 (of_z w64 c.rank-2.result)) resource (member_of_superset c.args.set.now g.shape.vocabulary subset) (find_has (nat_le 0) c.args.set.now c.in-Some.event (sym c.in-Some.ensures.least)) acquire
     (same ∙ (c.rank-2.ensures ∙ ap (λ (n : ℕ). pos (2 * (c.args.top - n) + 1)) c.number-number.ensures))

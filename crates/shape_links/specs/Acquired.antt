@@ -2,7 +2,7 @@
 use Rattle.std.specs.Prelude.{ℕ, Bool, ◌&&◌}
 use Rattle.csp_base.specs.Members.{has}
 use Rattle.csp_tables.specs.Roles.{use_at}
-use Rattle.resource_conditions.specs.Setting.{Setting}
+use Rattle.shape_links.specs.Setting.{Setting}
 
 -- whether the event acquires the resource j
 abbrev pub is_acquired_by : Setting → ℕ → ℕ → Bool

@@ -1,7 +1,7 @@
 use Rattle.std.proofs.Common.{subst}
-use Rattle.resource_conditions.specs.Setting.{Setting}
+use Rattle.shape_links.specs.Setting.{Setting}
 use Rattle.shape_links.specs.Links.{IsOwner}
-use Rattle.resource_conditions.proofs.setting.Setting.owner.Goals as goal
+use Rattle.shape_links.proofs.setting.Setting.owner.Goals as goal
 
 pub returns-clause-found : goal.returns-clause-found
 returns-clause-found c l h = subst (λ (g : Setting). IsOwner g.shape l c.args.event) c.self.view_is (c.owner.ensures.found l h)

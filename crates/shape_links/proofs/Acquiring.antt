@@ -7,9 +7,9 @@ use Rattle.csp_tables.specs.Part.{part_at, alphabets_of, TripleDisjoint}
 use Rattle.csp_tables.specs.Shape.{is_end, link_at, IsWellFormed}
 use Rattle.csp_tables.specs.Roles.{UseSets, use_at}
 use Rattle.design_rules.proofs.Shapes.{some_link}
-use Rattle.resource_conditions.specs.Setting.{Setting, KeepKinds}
+use Rattle.shape_links.specs.Setting.{Setting, KeepKinds}
 use Rattle.shape_links.specs.Links.{IsOwner}
-use Rattle.resource_conditions.specs.Acquired.{is_acquired_by}
+use Rattle.shape_links.specs.Acquired.{is_acquired_by}
 use Rattle.shape_links.proofs.Links.{one_owner}
 
 pub is_part : (g : Setting) (j : ℕ) → length g.uses ≡ length g.shape.parts → (use_at g.uses j).resource ≡ true → j < length g.shape.parts

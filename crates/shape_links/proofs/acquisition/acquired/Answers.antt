@@ -1,9 +1,9 @@
 use Rattle.std.proofs.Common.{◌≡◌, ◌∙◌, Some, true, false, ap, sym, subst, refl}
 use Rattle.csp_tables.specs.Shape.{Link}
-use Rattle.resource_conditions.specs.Acquired.{is_acquired_by}
+use Rattle.shape_links.specs.Acquired.{is_acquired_by}
 use Rattle.shape_links.proofs.Links.{no_number}
-use Rattle.resource_conditions.proofs.Acquiring.{acquired_link, at_left, at_right, at_none}
-use Rattle.resource_conditions.proofs.acquisition.acquired.Goals as goal
+use Rattle.shape_links.proofs.Acquiring.{acquired_link, at_left, at_right, at_none}
+use Rattle.shape_links.proofs.acquisition.acquired.Goals as goal
 
 pub returns-in_err-link-clause-owned : goal.returns-in_err-link-clause-owned
 returns-in_err-link-clause-owned c j a =

@@ -6,11 +6,11 @@ ghost use Rattle.csp_tables.specs.Roles.{use_at};
 ghost use Rattle.csp_tables.specs.Shape.{IsWellFormed, link_at};
 ghost use Rattle.observed_runs.specs.Enough.{AreEnough};
 ghost use Rattle.shape_links.specs.Links.{IsOwner, ends_of};
-ghost use Rattle.resource_conditions.specs.Setting.{node_of};
+ghost use Rattle.shape_links.specs.Setting.{node_of};
 
+use crate::prepared::Prepared;
 use csp_base::{Event, NoMemory};
 use csp_tables::{Link, NormNode, Shape, UseSets};
-use shape_links::Prepared;
 use std::alloc::Global;
 use std::marker::Model;
 
@@ -23,7 +23,7 @@ pub struct Setting<'a> {
 
 impl<'a> Model for Setting<'a> {
     ghost use Rattle.std.specs.Prelude.{◌≡◌, length};
-    ghost use Rattle.resource_conditions.specs.Setting.{Setting as SettingValue};
+    ghost use Rattle.shape_links.specs.Setting.{Setting as SettingValue};
 
     ghost Value = { SettingValue };
 

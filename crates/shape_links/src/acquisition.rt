@@ -1,8 +1,8 @@
 //! Which resource an event acquires.
 
 ghost use Rattle.std.specs.Prelude.{◌≡◌, ◌<◌, ℕ, Some, true, length};
-ghost use Rattle.resource_conditions.specs.Acquired.{is_acquired_by};
-ghost use Rattle.resource_conditions.specs.Setting.{KeepKinds};
+ghost use Rattle.shape_links.specs.Acquired.{is_acquired_by};
+ghost use Rattle.shape_links.specs.Setting.{KeepKinds};
 
 use crate::setting::Setting;
 use csp_base::Event;
