@@ -12,7 +12,7 @@ use crate::clients::sides;
 use crate::parted::check_parted;
 use csp_tables::{RoleSets, Shape};
 use design_rules::RuleFault;
-use shape_links::Prepared;
+use shape_links::SortedShape;
 use std::alloc::Global;
 use std::marker::Model;
 
@@ -20,7 +20,7 @@ use std::marker::Model;
 /// roles.
 #[derive(Drop)]
 pub struct Network<'a> {
-    prepared: Prepared<'a>,
+    prepared: SortedShape<'a>,
     roles: &'a [RoleSets],
     sides: Vec<bool>,
 }
@@ -52,7 +52,7 @@ impl<'a> Network<'a> {
     {
         check_parted(alloc, shape, roles)?;
         let sides = sides(alloc, shape, roles)?;
-        let Ok(prepared) = Prepared::new(alloc, shape) else {
+        let Ok(prepared) = SortedShape::new(alloc, shape) else {
             return Err(RuleFault::NoMemory);
         };
         Ok(Network {
@@ -63,7 +63,7 @@ impl<'a> Network<'a> {
     }
 
     /// The shape, sorted out.
-    pub fn prepared(&self) -> &Prepared<'a>
+    pub fn prepared(&self) -> &SortedShape<'a>
         ensures { result.now ≡ self.now.shape }
     {
         &self.prepared

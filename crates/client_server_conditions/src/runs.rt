@@ -19,7 +19,7 @@ use crate::nodes::some_splits;
 use csp_base::{EventSet, NoMemory, Trace};
 use design_rules::RuleFault;
 use observed_runs::{Explored, Parity, Unwatched};
-use shape_links::{Prepared, explored};
+use shape_links::{SortedShape, explored};
 use std::alloc::Global;
 
 /// Succeeds where each component keeps the condition after each of its runs, and else tells the first that does not.
@@ -197,7 +197,7 @@ fn explored_link(
 
 // The place of a pair at which an acceptance has some of the requests and not all.
 fn split_pair(
-    prepared: &Prepared<'_>,
+    prepared: &SortedShape<'_>,
     part: u32,
     requests: &EventSet,
     pairs: &[(u32, u32)],

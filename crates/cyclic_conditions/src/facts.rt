@@ -10,7 +10,7 @@ ghost use Rattle.shape_links.specs.Links.{IsOwner};
 use containers::Items;
 use csp_base::{Event, NoMemory};
 use design_rules::RuleFault;
-use shape_links::Prepared;
+use shape_links::SortedShape;
 use std::alloc::Global;
 
 // At a pair of an exploration an event of a link is possible.
@@ -42,7 +42,7 @@ impl From<NoMemory> for FactFault {
 // For each place of the lap of `count` places a fact, if there is one.
 pub(crate) fn facts(
     alloc: Global,
-    prepared: &Prepared<'_>,
+    prepared: &SortedShape<'_>,
     part: u32,
     pairs: &[(u32, u32)],
     count: u32,
@@ -62,7 +62,7 @@ pub(crate) fn facts(
 
 // Notes each link of which an event is possible at one of the pairs.
 fn note_pairs(
-    prepared: &Prepared<'_>,
+    prepared: &SortedShape<'_>,
     part: u32,
     pairs: &[(u32, u32)],
     firsts: &mut [Option<Fact>],
@@ -83,7 +83,7 @@ fn note_pairs(
 
 // Notes each link of which an event is possible at the pair.
 fn note_all(
-    prepared: &Prepared<'_>,
+    prepared: &SortedShape<'_>,
     part: u32,
     pairs: &[(u32, u32)],
     pair: usize,
@@ -107,7 +107,7 @@ fn note_all(
 
 // Notes each link that has an event of these steps, which are possible at the pair.
 fn note_steps(
-    prepared: &Prepared<'_>,
+    prepared: &SortedShape<'_>,
     part: u32,
     pairs: &[(u32, u32)],
     pair: usize,
@@ -133,7 +133,7 @@ fn note_steps(
 
 // Notes the link of the event, which is possible at the pair, if it has one.
 fn note_event(
-    prepared: &Prepared<'_>,
+    prepared: &SortedShape<'_>,
     part: u32,
     pairs: &[(u32, u32)],
     pair: usize,

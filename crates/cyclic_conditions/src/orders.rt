@@ -15,12 +15,12 @@ use containers::Items;
 use csp_base::{Event, NoMemory, Trace};
 use design_rules::RuleFault;
 use observed_runs::{Explored, Lap};
-use shape_links::{Prepared, explored};
+use shape_links::{SortedShape, explored};
 use std::alloc::Global;
 
 /// For each part the links that it reaches, in the order in which it comes to them; or the first part that goes through them in
 /// no fixed order.
-pub fn link_orders(alloc: Global, prepared: &Prepared<'_>) -> Result<Vec<Items<u32>>, RuleFault>
+pub fn link_orders(alloc: Global, prepared: &SortedShape<'_>) -> Result<Vec<Items<u32>>, RuleFault>
     ensures keep { OnOk result (AllKeepPlaces prepared.now) }
     ensures orders { IfOk result (λ orders. AreOrders prepared.now orders.items) }
     ensures fault { IfErr result (λ fault. BreaksCyclic prepared.now fault) }
@@ -36,7 +36,7 @@ pub fn link_orders(alloc: Global, prepared: &Prepared<'_>) -> Result<Vec<Items<u
 // Adds the order of a part at the end.
 fn add_order(
     alloc: Global,
-    prepared: &Prepared<'_>,
+    prepared: &SortedShape<'_>,
     part: u32,
     orders: &mut Vec<Items<u32>>,
 ) -> Result<(), RuleFault>
@@ -53,7 +53,7 @@ fn add_order(
 }
 
 // The links that the part reaches, in the order in which it comes to them.
-fn order_of(alloc: Global, prepared: &Prepared<'_>, part: u32) -> Result<Items<u32>, RuleFault>
+fn order_of(alloc: Global, prepared: &SortedShape<'_>, part: u32) -> Result<Items<u32>, RuleFault>
     requires { part < length prepared.now.parts }
     ensures keeps { OnOk result (KeepsPlaces prepared.now part) }
     ensures order { IfOk result (λ order. IsOrder prepared.now part order) }
@@ -71,7 +71,7 @@ fn order_of(alloc: Global, prepared: &Prepared<'_>, part: u32) -> Result<Items<u
 // The same of a part with so many links, by what an exploration of it found.
 fn order_found(
     alloc: Global,
-    prepared: &Prepared<'_>,
+    prepared: &SortedShape<'_>,
     part: u32,
     count: u32,
     explored: &Explored,
@@ -98,7 +98,7 @@ fn order_found(
 // The exploration of a part with the places of its lap.
 fn explored_part(
     alloc: Global,
-    prepared: &Prepared<'_>,
+    prepared: &SortedShape<'_>,
     part: u32,
     count: u32,
 ) -> Result<Explored, NoMemory>
@@ -115,7 +115,7 @@ fn explored_part(
 // What two facts tell that no order allows: the one whose run is not the shorter one.
 fn told(
     alloc: Global,
-    prepared: &Prepared<'_>,
+    prepared: &SortedShape<'_>,
     part: u32,
     explored: &Explored,
     here: Fact,

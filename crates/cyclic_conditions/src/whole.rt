@@ -13,11 +13,11 @@ ghost use Rattle.design_rules.specs.Rules.{BreaksCyclic};
 use csp_base::{Event, EventSet, NoMemory};
 use design_rules::RuleFault;
 use observed_runs::run_to_node;
-use shape_links::Prepared;
+use shape_links::SortedShape;
 use std::alloc::Global;
 
 /// Succeeds where each link has a whole end, and else tells the first that has none.
-pub fn check_ends(alloc: Global, prepared: &Prepared<'_>) -> Result<(), RuleFault>
+pub fn check_ends(alloc: Global, prepared: &SortedShape<'_>) -> Result<(), RuleFault>
     requires keep { AllKeepPlaces prepared.now }
     requires numbered { CanBeNumbered prepared.now }
     ensures whole { OnOk result ((l : ℕ) → l < length prepared.now.links → HasWholeEnd prepared.now l) }
@@ -41,7 +41,7 @@ fn unmarked(alloc: Global, count: usize) -> Result<(Vec<Option<u32>>, Vec<Option
 // Marks the ends that fall short, and tells the first link that has no whole end.
 fn mark_and_check(
     alloc: Global,
-    prepared: &Prepared<'_>,
+    prepared: &SortedShape<'_>,
     left: &mut [Option<u32>],
     right: &mut [Option<u32>],
 ) -> Result<(), RuleFault>
@@ -61,7 +61,7 @@ fn mark_and_check(
 // Tells the first link of which both ends are marked.
 fn check_marks(
     alloc: Global,
-    prepared: &Prepared<'_>,
+    prepared: &SortedShape<'_>,
     left: &[Option<u32>],
     right: &[Option<u32>],
 ) -> Result<(), RuleFault>
@@ -85,7 +85,7 @@ fn check_marks(
 // Tells the link, if both ends are marked.
 fn check_link(
     alloc: Global,
-    prepared: &Prepared<'_>,
+    prepared: &SortedShape<'_>,
     link: u32,
     left: Option<u32>,
     right: Option<u32>,
@@ -113,7 +113,7 @@ fn check_link(
 // The link, with a run at either end after which it falls short.
 fn told(
     alloc: Global,
-    prepared: &Prepared<'_>,
+    prepared: &SortedShape<'_>,
     link: u32,
     left_node: u32,
     right_node: u32,
@@ -138,7 +138,7 @@ fn told(
 }
 
 // Marks for each link the ends that fall short, each with a node where it does.
-fn mark_all(prepared: &Prepared<'_>, left: &mut [Option<u32>], right: &mut [Option<u32>])
+fn mark_all(prepared: &SortedShape<'_>, left: &mut [Option<u32>], right: &mut [Option<u32>])
     requires keep { AllKeepPlaces prepared.now }
     requires left { length left.old ≡ length prepared.now.links }
     requires right { length right.old ≡ length prepared.now.links }
@@ -154,7 +154,7 @@ fn mark_all(prepared: &Prepared<'_>, left: &mut [Option<u32>], right: &mut [Opti
 
 // Marks the links of which the part falls short.
 fn mark_part(
-    prepared: &Prepared<'_>,
+    prepared: &SortedShape<'_>,
     part: u32,
     left: &mut [Option<u32>],
     right: &mut [Option<u32>],
@@ -177,7 +177,7 @@ fn mark_part(
 
 // Marks the links of which an acceptance of the node falls short.
 fn mark_node(
-    prepared: &Prepared<'_>,
+    prepared: &SortedShape<'_>,
     part: u32,
     node: u32,
     left: &mut [Option<u32>],
@@ -203,7 +203,7 @@ fn mark_node(
 
 // Marks the link of which the acceptance falls short, if there is one.
 fn mark_set(
-    prepared: &Prepared<'_>,
+    prepared: &SortedShape<'_>,
     part: u32,
     node: u32,
     set: &EventSet,
@@ -229,7 +229,7 @@ fn mark_set(
 
 // Marks the end of the link that the part is.
 fn mark(
-    prepared: &Prepared<'_>,
+    prepared: &SortedShape<'_>,
     part: u32,
     node: u32,
     link: u32,
@@ -257,7 +257,7 @@ fn mark(
 }
 
 // The link of which the set has some events and not all, where the set lies in the vocabulary.
-fn short_link(prepared: &Prepared<'_>, set: &EventSet) -> Option<u32>
+fn short_link(prepared: &SortedShape<'_>, set: &EventSet) -> Option<u32>
     ensures short { (l : ℕ) → result ≡ Some l → IsShort prepared.now l set.now }
     ensures all { (l : ℕ) → IsOnOne prepared.now set.now → IsShort prepared.now l set.now → result ≡ Some l }
 {

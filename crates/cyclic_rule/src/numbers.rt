@@ -14,13 +14,13 @@ use containers::Items;
 use csp_base::NoMemory;
 use design_rules::RuleFault;
 use digraph::{Fault, Heights, Rows, longest_walks};
-use shape_links::{Prepared, circle_fault, turned};
+use shape_links::{SortedShape, circle_fault, turned};
 use std::alloc::Global;
 
 // For each link the greatest number of links that must come before it in a chain.
 pub(crate) fn numbers(
     alloc: Global,
-    prepared: &Prepared<'_>,
+    prepared: &SortedShape<'_>,
     orders: &[Items<u32>],
 ) -> Result<Heights, RuleFault>
     requires keep { AllKeepPlaces prepared.now }
@@ -40,7 +40,11 @@ pub(crate) fn numbers(
 }
 
 // From each link an arc to the one that comes before it in the order of a part.
-fn chains(alloc: Global, prepared: &Prepared<'_>, orders: &[Items<u32>]) -> Result<Rows, NoMemory>
+fn chains(
+    alloc: Global,
+    prepared: &SortedShape<'_>,
+    orders: &[Items<u32>],
+) -> Result<Rows, NoMemory>
     requires { AreOrders prepared.now orders.now }
     ensures count { IfOk result (λ rows. length rows ≡ length prepared.now.links) }
     ensures sound { IfOk result (λ rows. (m l : ℕ) → HasArc rows m l → IsNextAt prepared.now orders.now (length prepared.now.parts) l m) }

@@ -13,7 +13,7 @@ use cyclic_conditions::{check_ends, link_orders};
 use design_rules::RuleFault;
 use digraph::Heights;
 use rule_rankings::cyclic_ranking;
-use shape_links::Prepared;
+use shape_links::SortedShape;
 use std::alloc::Global;
 
 /// The ranking of a cyclic network, or what breaks the rule.
@@ -24,12 +24,12 @@ pub fn cyclic(alloc: Global, shape: &Shape) -> Result<Ranking, RuleFault>
     ensures ranking { IfOk result (λ ranking. IsCyclicRanking shape.now ranking) }
     ensures fault { IfErr result (λ fault. BreaksCyclic shape.now fault) }
 {
-    let prepared = Prepared::new(alloc, shape)?;
+    let prepared = SortedShape::new(alloc, shape)?;
     ranked(alloc, &prepared)
 }
 
 // The same of a shape that is prepared.
-fn ranked(alloc: Global, prepared: &Prepared<'_>) -> Result<Ranking, RuleFault>
+fn ranked(alloc: Global, prepared: &SortedShape<'_>) -> Result<Ranking, RuleFault>
     ensures cyclic { OnOk result (IsCyclic prepared.now) }
     ensures ranking { IfOk result (λ ranking. IsCyclicRanking prepared.now ranking) }
     ensures fault { IfErr result (λ fault. BreaksCyclic prepared.now fault) }
@@ -40,7 +40,7 @@ fn ranked(alloc: Global, prepared: &Prepared<'_>) -> Result<Ranking, RuleFault>
 }
 
 // The numbers of the links, where the rule holds, and else what breaks it.
-fn checked_numbers(alloc: Global, prepared: &Prepared<'_>) -> Result<Heights, RuleFault>
+fn checked_numbers(alloc: Global, prepared: &SortedShape<'_>) -> Result<Heights, RuleFault>
     ensures keep { OnOk result (AllKeepPlaces prepared.now) }
     ensures count { IfOk result (λ numbers. length numbers ≡ length prepared.now.links) }
     ensures chains { IfOk result (λ numbers. AreChainNumbers prepared.now (slice_index numbers)) }

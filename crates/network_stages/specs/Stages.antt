@@ -17,7 +17,7 @@ use Rattle.report.specs.declared.answer.Refusal.{Refusal}
 use Rattle.report.specs.declared.answer.Refusal.TheVariants as refusal
 use Rattle.report.specs.declared.answer.Shortfall.{Shortfall}
 use Rattle.report.specs.declared.answer.Shortfall.TheVariants as shortfall
-use Rattle.report.specs.declared.answer.TableFault.TheVariants as table
+use Rattle.report.specs.declared.answer.ComponentFault.TheVariants as table
 use Rattle.script_names.specs.Resolved.{IsProgram, IsRefused}
 use Rattle.script_names.specs.declared.fault.ResolveFault.{ResolveFault}
 use Rattle.network_stages.specs.Sets.{IsFirstWithManySets}

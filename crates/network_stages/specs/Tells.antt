@@ -13,7 +13,7 @@ use Rattle.report.specs.declared.answer.NetworkFault.TheVariants as network
 use Rattle.report.specs.declared.answer.Refusal.{Refusal}
 use Rattle.report.specs.declared.answer.Refusal.TheVariants as refusal
 use Rattle.report.specs.declared.answer.Site.TheVariants as site
-use Rattle.report.specs.declared.answer.TableFault.TheVariants as table
+use Rattle.report.specs.declared.answer.ComponentFault.TheVariants as table
 use Rattle.script_names.specs.declared.fault.ResolveFault.{ResolveFault}
 use Rattle.script_names.specs.declared.fault.ResolveFault.TheVariants as script
 

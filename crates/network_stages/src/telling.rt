@@ -2,7 +2,7 @@
 
 ghost use Rattle.std.specs.Prelude.{◌≡◌, ◌+◌, IfOk};
 ghost use Rattle.report.specs.declared.answer.Refusal.TheVariants as refusal;
-ghost use Rattle.report.specs.declared.answer.TableFault.TheVariants as table;
+ghost use Rattle.report.specs.declared.answer.ComponentFault.TheVariants as table;
 ghost use Rattle.network_stages.specs.Tells.{TellsComponent, TellsLayout, TellsLocal, TellsScript};
 
 use crate::texts::event_texts;
@@ -79,7 +79,7 @@ pub(crate) fn layout_refusal(
 }
 
 // A fault of a component.
-fn on_component(component: u32, fault: report::TableFault) -> Refusal
+fn on_component(component: u32, fault: report::ComponentFault) -> Refusal
     ensures { result ≡ refusal.Component component fault }
 {
     Refusal::Component { component, fault }
@@ -98,20 +98,20 @@ fn local_refusal(
         LocalFault::NoMemory => Err(NoMemory),
         LocalFault::Value { kind } => Ok(valueless(kind, Site::Component(component))),
         LocalFault::TermCount { found: _ } => {
-            Ok(on_component(component, report::TableFault::TermCount))
+            Ok(on_component(component, report::ComponentFault::TermCount))
         }
         LocalFault::TermDepth { found: _ } => {
-            Ok(on_component(component, report::TableFault::TermDepth))
+            Ok(on_component(component, report::ComponentFault::TermDepth))
         }
         LocalFault::TermTotal { found: _ } => {
-            Ok(on_component(component, report::TableFault::TermTotal))
+            Ok(on_component(component, report::ComponentFault::TermTotal))
         }
         LocalFault::StepCount { found: _ } => {
-            Ok(on_component(component, report::TableFault::StepCount))
+            Ok(on_component(component, report::ComponentFault::StepCount))
         }
         LocalFault::Terminates { trace } => {
             let trace = event_texts(alloc, program, trace.as_slice())?;
-            Ok(on_component(component, report::TableFault::Terminates { trace }))
+            Ok(on_component(component, report::ComponentFault::Terminates { trace }))
         }
     }
 }
@@ -142,7 +142,7 @@ pub(crate) fn tables_refusal(
             local_refusal(alloc, program, number(first, part)?, fault)
         }
         TableFault::Diverges { part, circle: _ } => {
-            Ok(on_component(number(first, part)?, report::TableFault::Diverges))
+            Ok(on_component(number(first, part)?, report::ComponentFault::Diverges))
         }
     }
 }
@@ -151,5 +151,5 @@ pub(crate) fn tables_refusal(
 pub(crate) fn sets_refusal(first: u32, place: u32) -> Result<Refusal, NoMemory>
     ensures { IfOk result (λ told. told ≡ refusal.Component (first + place) table.SubsetLimit) }
 {
-    Ok(on_component(number(first, place)?, report::TableFault::SubsetLimit))
+    Ok(on_component(number(first, place)?, report::ComponentFault::SubsetLimit))
 }

@@ -8,8 +8,8 @@ use Rattle.report.specs.declared.answer.NameFault.{NameFault}
 use Rattle.report.specs.declared.answer.NameFault.TheVariants as name
 use Rattle.report.specs.declared.answer.NetworkFault.{NetworkFault}
 use Rattle.report.specs.declared.answer.NetworkFault.TheVariants as network
-use Rattle.report.specs.declared.answer.TableFault.{TableFault}
-use Rattle.report.specs.declared.answer.TableFault.TheVariants as table
+use Rattle.report.specs.declared.answer.ComponentFault.{ComponentFault}
+use Rattle.report.specs.declared.answer.ComponentFault.TheVariants as table
 use Rattle.report.specs.declared.answer.Refusal.{Refusal}
 use Rattle.report.specs.declared.answer.Refusal.TheVariants as refusal
 use Rattle.report.specs.declared.answer.Site.{Site}
@@ -45,7 +45,7 @@ declaration_text d name.ParallelInside = codes "8 parallel inside a component in
 declaration_text d name.DataDepth = codes "33 data too deep in declaration " ++ decimal d
 
 -- why the component with the number i has no normal table
-abbrev pub component_text : ℕ → TableFault → List ℕ
+abbrev pub component_text : ℕ → ComponentFault → List ℕ
 component_text i table.TermCount = codes "10 component " ++ decimal i ++ codes " has more than 16384 terms"
 component_text i table.TermDepth = codes "10 component " ++ decimal i ++ codes " has a term of depth over 800"
 component_text i table.TermTotal = codes "10 component " ++ decimal i ++ codes " has terms that are too large"

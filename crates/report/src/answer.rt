@@ -59,7 +59,7 @@ impl Drop for NameFault {
 }
 
 /// Why a component has no normal table.
-pub enum TableFault {
+pub enum ComponentFault {
     /// It has more than 16,384 terms (10).
     TermCount,
     /// It has a term of a depth over 800 (10).
@@ -80,16 +80,16 @@ pub enum TableFault {
 }
 
 // By hand, so that a crate that ends one calls this and proves no end of its own.
-impl Drop for TableFault {
+impl Drop for ComponentFault {
     fn drop(self) {
         match self {
-            TableFault::TermCount => {}
-            TableFault::TermDepth => {}
-            TableFault::TermTotal => {}
-            TableFault::StepCount => {}
-            TableFault::Diverges => {}
-            TableFault::SubsetLimit => {}
-            TableFault::Terminates { trace: _trace } => {}
+            ComponentFault::TermCount => {}
+            ComponentFault::TermDepth => {}
+            ComponentFault::TermTotal => {}
+            ComponentFault::StepCount => {}
+            ComponentFault::Diverges => {}
+            ComponentFault::SubsetLimit => {}
+            ComponentFault::Terminates { trace: _trace } => {}
         }
     }
 }
@@ -166,7 +166,7 @@ pub enum Refusal {
         /// The component.
         component: u32,
         /// Why it has none.
-        fault: TableFault,
+        fault: ComponentFault,
     },
     /// No component has the number that was asked for (35).
     NoComponent {

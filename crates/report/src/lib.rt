@@ -11,8 +11,8 @@ mod shortfalls;
 mod stop;
 
 pub use answer::{
-    Answer, Done, NameFault, NetworkFault, OutsideFault, PrintedNode, Refusal, Shortfall, Site,
-    TableFault,
+    Answer, ComponentFault, Done, NameFault, NetworkFault, OutsideFault, PrintedNode, Refusal,
+    Shortfall, Site,
 };
 pub use events::event_text;
 pub use printed::rule_name;

@@ -5,7 +5,7 @@ ghost use Rattle.std.specs.Fmt.{decimal};
 ghost use Rattle.report.specs.Lines.{trace_text};
 ghost use Rattle.report.specs.Refusals.{component_text, declaration_text, kind_text, nesting_text, network_text, refusal_text, site_text};
 
-use crate::answer::{NameFault, NetworkFault, Refusal, Site, TableFault};
+use crate::answer::{ComponentFault, NameFault, NetworkFault, Refusal, Site};
 use crate::lines::{Part, written};
 use crate::printed::{kind_name, site};
 use csp_base::{Bytes, NoMemory, Place};
@@ -162,33 +162,38 @@ fn terminates(alloc: Global, component: u64, trace: &[Bytes]) -> Result<Bytes, N
 }
 
 // Why a component has no normal table.
-fn component(alloc: Global, component: u32, fault: &TableFault) -> Result<Bytes, NoMemory>
+fn component(alloc: Global, component: u32, fault: &ComponentFault) -> Result<Bytes, NoMemory>
     ensures { IfOk result (λ made. made ≡ component_text component fault.now) }
 {
     let i = u64::from(component);
     match fault {
-        TableFault::TermCount => between(alloc, b"10 component ", i, b" has more than 16384 terms"),
-        TableFault::TermDepth => between(
+        ComponentFault::TermCount => between(
+            alloc,
+            b"10 component ",
+            i,
+            b" has more than 16384 terms",
+        ),
+        ComponentFault::TermDepth => between(
             alloc,
             b"10 component ",
             i,
             b" has a term of depth over 800",
         ),
-        TableFault::TermTotal => between(
+        ComponentFault::TermTotal => between(
             alloc,
             b"10 component ",
             i,
             b" has terms that are too large",
         ),
-        TableFault::StepCount => between(alloc, b"11 component ", i, b" has too many steps"),
-        TableFault::Diverges => between(alloc, b"12 component ", i, b" diverges"),
-        TableFault::SubsetLimit => between(
+        ComponentFault::StepCount => between(alloc, b"11 component ", i, b" has too many steps"),
+        ComponentFault::Diverges => between(alloc, b"12 component ", i, b" diverges"),
+        ComponentFault::SubsetLimit => between(
             alloc,
             b"13 component ",
             i,
             b" has more than 2048 sets of terms",
         ),
-        TableFault::Terminates { trace } => terminates(alloc, i, trace.as_slice()),
+        ComponentFault::Terminates { trace } => terminates(alloc, i, trace.as_slice()),
     }
 }
 

@@ -16,7 +16,7 @@ use containers::Items;
 use csp_base::{EventSet, NoMemory};
 use csp_tables::{NormNode, PartRanks, Ranking, RoleSets, Shape};
 use digraph::Heights;
-use shape_links::Prepared;
+use shape_links::SortedShape;
 use std::alloc::Global;
 
 // The ranks of acceptances with requests to the component as a server, and of others.
@@ -29,7 +29,7 @@ struct Levels {
 /// The ranking with these heights of the parts.
 pub fn client_server_ranking(
     alloc: Global,
-    prepared: &Prepared<'_>,
+    prepared: &SortedShape<'_>,
     roles: &[RoleSets],
     heights: &Heights,
 ) -> Result<Ranking, NoMemory>
@@ -48,7 +48,7 @@ pub fn client_server_ranking(
 // The ranks and the laps of a part.
 fn part_ranks(
     alloc: Global,
-    prepared: &Prepared<'_>,
+    prepared: &SortedShape<'_>,
     roles: &[RoleSets],
     heights: &Heights,
     part: u32,

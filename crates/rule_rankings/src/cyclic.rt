@@ -16,13 +16,13 @@ use containers::Items;
 use csp_base::{Event, EventSet, NoMemory};
 use csp_tables::{NormNode, PartRanks, Ranking};
 use digraph::Heights;
-use shape_links::Prepared;
+use shape_links::SortedShape;
 use std::alloc::Global;
 
 /// The ranking with these numbers of the links.
 pub fn cyclic_ranking(
     alloc: Global,
-    prepared: &Prepared<'_>,
+    prepared: &SortedShape<'_>,
     numbers: &Heights,
 ) -> Result<Ranking, NoMemory>
     requires count { length numbers.now ≡ length prepared.now.links }
@@ -66,7 +66,7 @@ fn signed(number: u64) -> i64
 // The ranks and the laps of a part.
 fn part_ranks(
     alloc: Global,
-    prepared: &Prepared<'_>,
+    prepared: &SortedShape<'_>,
     numbers: &Heights,
     part: u32,
 ) -> Result<PartRanks, NoMemory>
@@ -96,7 +96,7 @@ fn greatest(numbers: &Heights, links: &[u32]) -> u32
 // For each node the ranks of its acceptances.
 fn rank_rows(
     alloc: Global,
-    prepared: &Prepared<'_>,
+    prepared: &SortedShape<'_>,
     numbers: &Heights,
     nodes: &[NormNode],
 ) -> Result<Vec<Vec<i64>>, NoMemory>
@@ -113,7 +113,7 @@ fn rank_rows(
 // The ranks of some acceptances.
 fn rank_row(
     alloc: Global,
-    prepared: &Prepared<'_>,
+    prepared: &SortedShape<'_>,
     numbers: &Heights,
     accept: &[EventSet],
 ) -> Result<Vec<i64>, NoMemory>
@@ -128,7 +128,7 @@ fn rank_row(
 }
 
 // The rank of an acceptance: the number of the link on which it lies.
-fn rank_of(prepared: &Prepared<'_>, numbers: &Heights, set: &EventSet) -> i64
+fn rank_of(prepared: &SortedShape<'_>, numbers: &Heights, set: &EventSet) -> i64
     requires { length numbers.now ≡ length prepared.now.links }
     ensures { IsRank prepared.now (slice_index numbers.now) set.now result }
 {
@@ -147,7 +147,7 @@ fn rank_of(prepared: &Prepared<'_>, numbers: &Heights, set: &EventSet) -> i64
 // For each node the laps of its events.
 fn lap_rows(
     alloc: Global,
-    prepared: &Prepared<'_>,
+    prepared: &SortedShape<'_>,
     numbers: &Heights,
     top: u32,
     nodes: &[NormNode],
@@ -165,7 +165,7 @@ fn lap_rows(
 // The laps of some events.
 fn lap_row(
     alloc: Global,
-    prepared: &Prepared<'_>,
+    prepared: &SortedShape<'_>,
     numbers: &Heights,
     top: u32,
     steps: &[(Event, u32)],
@@ -181,7 +181,7 @@ fn lap_row(
 }
 
 // The lap of an event: 1 where it lies on the link with the greatest number.
-fn lap_of(prepared: &Prepared<'_>, numbers: &Heights, top: u32, event: Event) -> u8
+fn lap_of(prepared: &SortedShape<'_>, numbers: &Heights, top: u32, event: Event) -> u8
     requires { length numbers.now ≡ length prepared.now.links }
     ensures { IsLap prepared.now (slice_index numbers.now) top event result }
 {

@@ -5,7 +5,7 @@ ghost use Rattle.csp_tables.specs.Part.{part_at};
 ghost use Rattle.observed_runs.specs.Enough.{SeesOnly};
 ghost use Rattle.observed_runs.specs.Exploration.{AreFound, IsExploration};
 
-use crate::prepared::Prepared;
+use crate::prepared::SortedShape;
 use csp_base::NoMemory;
 use observed_runs::{Explored, Observer, explore};
 use std::alloc::Global;
@@ -13,7 +13,7 @@ use std::alloc::Global;
 /// The pairs of a node and a state to which runs of the part lead, where the observer sees shared events alone.
 pub fn explored<O: Observer>(
     alloc: Global,
-    prepared: &Prepared<'_>,
+    prepared: &SortedShape<'_>,
     part: u32,
     observer: &O,
 ) -> Result<Explored, NoMemory>

@@ -14,5 +14,5 @@ mod steps;
 pub use acquisition::acquired;
 pub use circle::{circle_fault, turned};
 pub use exploring::explored;
-pub use prepared::Prepared;
+pub use prepared::SortedShape;
 pub use setting::Setting;

@@ -20,14 +20,14 @@ use std::marker::Model;
 /// A well-formed shape in which no event is in three alphabets, with the link of each event, the links of each part, and of the
 /// steps of each node those that an observer of links has to follow. Contracts see it as the shape.
 #[derive(Drop)]
-pub struct Prepared<'a> {
+pub struct SortedShape<'a> {
     shape: &'a Shape,
     owners: Vec<u32>,
     ends: Vec<Items<u32>>,
     steps: Vec<Items<Items<(Event, u32)>>>,
 }
 
-impl<'a> Model for Prepared<'a> {
+impl<'a> Model for SortedShape<'a> {
     ghost use Rattle.std.specs.Prelude.{length};
     ghost use Rattle.csp_tables.specs.Part.{TripleDisjoint, alphabets_of};
     ghost use Rattle.csp_tables.specs.Shape.{Shape as ShapeValue, IsWellFormed};
@@ -40,9 +40,9 @@ impl<'a> Model for Prepared<'a> {
     ghost invariant = { λ p. IsWellFormed p.shape.now × TripleDisjoint (alphabets_of p.shape.now.parts) × AreOwners p.shape.now p.owners.items × AreEnds p.shape.now (length p.shape.now.links) p.ends.items × AreSteps p.shape.now (length p.shape.now.parts) p.steps.items };
 }
 
-impl<'a> Prepared<'a> {
+impl<'a> SortedShape<'a> {
     /// The shape, sorted out. It goes over each event of each link and each step of each table once.
-    pub fn new(alloc: Global, shape: &'a Shape) -> Result<Prepared<'a>, NoMemory>
+    pub fn new(alloc: Global, shape: &'a Shape) -> Result<SortedShape<'a>, NoMemory>
         requires form { IsWellFormed shape.now }
         requires apart { TripleDisjoint (alphabets_of shape.now.parts) }
         ensures { IfOk result (λ prepared. prepared ≡ shape.now) }
@@ -50,7 +50,7 @@ impl<'a> Prepared<'a> {
         let owners = links_of_events(alloc, shape)?;
         let ends = links_of_parts(alloc, shape)?;
         let steps = steps_of_parts(alloc, shape)?;
-        Ok(Prepared {
+        Ok(SortedShape {
             shape,
             owners,
             ends,

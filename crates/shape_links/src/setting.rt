@@ -8,7 +8,7 @@ ghost use Rattle.observed_runs.specs.Enough.{AreEnough};
 ghost use Rattle.shape_links.specs.Links.{IsOwner, ends_of};
 ghost use Rattle.shape_links.specs.Setting.{node_of};
 
-use crate::prepared::Prepared;
+use crate::prepared::SortedShape;
 use csp_base::{Event, NoMemory};
 use csp_tables::{Link, NormNode, Shape, UseSets};
 use std::alloc::Global;
@@ -17,7 +17,7 @@ use std::marker::Model;
 /// A shape, sorted out, with what is noted of each part's use as a resource. Contracts see it as the shape and what is noted.
 #[derive(Drop)]
 pub struct Setting<'a> {
-    prepared: Prepared<'a>,
+    prepared: SortedShape<'a>,
     uses: &'a [UseSets],
 }
 
@@ -44,12 +44,12 @@ impl<'a> Setting<'a> {
         requires uses { length uses.now ≡ length shape.now.parts }
         ensures { IfOk result (λ setting. setting ≡ record { shape = shape.now; uses = uses.now }) }
     {
-        let prepared = Prepared::new(alloc, shape)?;
+        let prepared = SortedShape::new(alloc, shape)?;
         Ok(Setting { prepared, uses })
     }
 
     /// The shape, sorted out.
-    pub fn prepared(&self) -> &Prepared<'a>
+    pub fn prepared(&self) -> &SortedShape<'a>
         ensures { result.now ≡ self.now.shape }
     {
         &self.prepared

@@ -3,7 +3,7 @@ use Rattle.csp_tables.specs.Form.{HasForm}
 use Rattle.csp_tables.specs.Shape.{Shape}
 use Rattle.net_sound.proofs.Within.{part_form}
 use Rattle.shape_links.proofs.Links.{part_read}
-use Rattle.shape_links.proofs.prepared.Prepared.component.Goals as goal
+use Rattle.shape_links.proofs.prepared.SortedShape.component.Goals as goal
 
 pub returns-clause-form : goal.returns-clause-form
 returns-clause-form c =
