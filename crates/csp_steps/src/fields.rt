@@ -1,6 +1,7 @@
 //! Fields of a prefix that can be filled in one way, one after another.
 
 ghost use Rattle.std.specs.Prelude.{◌≡◌, ◌<◌, ◌≤◌, ◌+◌, ◌*◌, ◌∷◌, [], if◌then◌else◌, length, Ok, IfOk, MatchOption};
+ghost use Rattle.std.specs.List.{list_all};
 ghost use Rattle.csp_atoms.specs.declared.value.Value.TheVariants as value;
 ghost use Rattle.csp_program.specs.Outcome.{and_then};
 ghost use Rattle.csp_program.specs.Substitution.{any_gets, proc_with};
@@ -14,13 +15,14 @@ ghost use Rattle.term_pool.specs.Trees.{tree_at};
 ghost use Rattle.csp_steps.specs.Computed.{IsPlaceOf};
 ghost use Rattle.csp_steps.specs.Inputs.{ways_with};
 ghost use Rattle.csp_steps.specs.Listed.{FaultIs};
-ghost use Rattle.csp_steps.specs.Rests.{next_count, next_ways, rest_ways, IsRest};
+ghost use Rattle.csp_steps.specs.Rests.{is_input, next_count, next_ways, rest_ways, IsFirst, IsRest};
 ghost use Rattle.value_operators.specs.Gives.{Gives};
 
 use crate::choice::put_atom;
 use containers::Items;
 use csp_atoms::{Atom, AtomSet, Value};
 use csp_base::NoMemory;
+use csp_program::copies::copy_fields;
 use csp_program::{Expr, Field, Program, ValueKind};
 use csp_values::{EvalFault, eval};
 use std::alloc::Global;
@@ -59,6 +61,21 @@ pub(crate) struct Input<'s, 'f> {
     pub later: &'f [Field],
     /// The number of the fields before it.
     pub number: u64,
+}
+
+/// An input without a set, whose field has one value.
+#[derive(Clone, Copy)]
+struct PlainInput<'s, 'f> {
+    /// The values of its field.
+    set: &'s AtomSet,
+    /// The value.
+    atom: &'s Atom,
+    /// The values of each field after it.
+    rest: &'s [AtomSet],
+    /// Its name.
+    name: u32,
+    /// The fields after it.
+    later: &'f [Field],
 }
 
 /// What comes after the outputs at the front of some fields.
@@ -275,7 +292,87 @@ pub(crate) fn past_input<'s>(
     Ok(Some(rest))
 }
 
-// The same of fields that are left.
+// Whether the field is an input without a set. A value in place of a name leaves it as it is.
+fn is_plain(field: &Field) -> bool
+    ensures { result ≡ is_input field.now }
+{
+    match field {
+        Field::Get(_, None) => true,
+        Field::Get(_, Some(_)) => false,
+        Field::Put(_) => false,
+    }
+}
+
+// Whether all of the fields are inputs without a set.
+fn are_plain(fields: &[Field]) -> bool
+    ensures { result ≡ list_all is_input fields.now }
+{
+    fields.iter().all(|field| is_plain(field))
+}
+
+// The first of the fields, where it is an input without a set and can take one value.
+fn first_plain<'s, 'f>(sets: &'s [AtomSet], fields: &'f [Field]) -> Option<PlainInput<'s, 'f>>
+    ensures { MatchOption result (Unit {0}) (λ input. IsFirst sets.now fields.now input) }
+{
+    let Some((set, rest)) = sets.split_first() else {
+        return None;
+    };
+    let Some((field, later)) = fields.split_first() else {
+        return None;
+    };
+    let Field::Get(name, None) = field else {
+        return None;
+    };
+    let Some(atom) = only_atom(set) else {
+        return None;
+    };
+    Some(PlainInput {
+        set,
+        atom,
+        rest,
+        name: *name,
+        later,
+    })
+}
+
+// What is left after the inputs at the front that take one value, where all fields are inputs without a set and at least one is passed.
+fn past_plain<'s>(
+    alloc: Global,
+    pool: &mut Pool,
+    rest: &Rest<'s>,
+) -> Result<Option<Rest<'s>>, EvalFault>
+    requires within { rest.now.to.0 < length pool.old }
+    ensures rest { (p : Content) → IfOk result (λ past. MatchOption past (Unit {0}) (λ made. IsRest p pool.new made (rest_ways p rest.now (tree_at pool.old rest.now.to)))) }
+    ensures fault { (p : Content) → FaultIs result (rest_ways p rest.now (tree_at pool.old rest.now.to)) }
+    ensures fewer { IfOk result (λ past. MatchOption past (Unit {0}) (λ made. length made.sets.now < length rest.now.sets.now)) }
+    ensures front { IsFront pool.old pool.new }
+{
+    let mut sets = rest.sets;
+    let mut fields = rest.fields.as_slice();
+    let mut to = rest.to;
+    let mut number = rest.number;
+    if !are_plain(fields) {
+        return Ok(None);
+    }
+    while let Some(input) = first_plain(sets, fields) {
+        number = number_after(number, input.set, 0)?;
+        to = later_process(pool, input.name, *input.atom, input.later, to)?;
+        sets = input.rest;
+        fields = input.later;
+    }
+    if sets.len() == rest.sets.len() {
+        return Ok(None);
+    }
+    let fields = copy_fields(alloc, fields)?;
+    Ok(Some(Rest {
+        sets,
+        fields,
+        to,
+        number,
+    }))
+}
+
+// What is left of fields after some at their front that take one value.
 fn past_one<'s>(
     filling: &Filling<'_>,
     pool: &mut Pool,
@@ -287,6 +384,9 @@ fn past_one<'s>(
     ensures fewer { IfOk result (λ past. MatchOption past (Unit {0}) (λ made. length made.sets.now < length rest.now.sets.now)) }
     ensures front { IsFront pool.old pool.new }
 {
+    if let Some(made) = past_plain(filling.alloc, pool, rest)? {
+        return Ok(Some(made));
+    }
     let next = next_of(filling, rest.sets, rest.fields.as_slice(), rest.number)?;
     let past = past_input(filling, pool, &next, rest.to)?;
     Ok(past)
