@@ -1,5 +1,4 @@
 pub mod Deciding
-pub mod Ends
 pub mod Keeping
 pub mod Looking
 pub mod Opening
