@@ -78,9 +78,9 @@ module _ {T S : Type 0} (Is : Proc-F Proc → T → Type 0) where
       by_case j m (inl before) = h j m before
       by_case j m (inr (same, led)) = record { value = x; listed = ap (slice_get values) same ∙ there; holds = all j led }
 
--- the steps of choices
-none_stepped : {S : Type 0} (p : Content) (trees : List Proc) (lists : List (List StepTo)) (choices : HashMap ℕ ℕ S) → IsEmpty choices → AreStepped p trees lists choices
-none_stepped p trees lists choices h = no_key (λ q k. HasValue lists k (λ steps. StandsAs trees q (λ t. AreEach trees steps (steps_of p t)))) choices h
+-- the steps that are kept
+none_stepped : {S : Type 0} (p : Content) (trees : List Proc) (lists : List (List StepTo)) (stepped : HashMap ℕ ℕ S) → IsEmpty stepped → AreStepped p trees lists stepped
+none_stepped p trees lists stepped h = no_key (λ q k. HasValue lists k (λ steps. StandsAs trees q (λ t. AreEach trees steps (steps_of p t)))) stepped h
 
 each_stay : (old new : List Proc) → IsFront old new → (steps : List StepTo) (o : Outcome (List Move)) → AreEach old steps o → AreEach new steps o
 each_stay old new front steps o h = record {
@@ -91,17 +91,17 @@ each_stay old new front steps o h = record {
   once = h.once;
 }
 
-stepped_stay : {S : Type 0} (p : Content) (old new : List Proc) → IsFront old new → (lists : List (List StepTo)) (choices : HashMap ℕ ℕ S) → AreStepped p old lists choices → AreStepped p new lists choices
-stepped_stay p old new front lists choices h q k g =
+stepped_stay : {S : Type 0} (p : Content) (old new : List Proc) → IsFront old new → (lists : List (List StepTo)) (stepped : HashMap ℕ ℕ S) → AreStepped p old lists stepped → AreStepped p new lists stepped
+stepped_stay p old new front lists stepped h q k g =
     let v = h q k g in
     let s = v.holds in
     record { value = v.value; listed = v.listed; holds = record { process = s.process; stands = front q s.process s.stands; holds = each_stay old new front v.value (steps_of p s.process) s.holds } }
 
 -- the steps that are kept for a place
-pub stepped_at : (p : Content) (trees : List Proc) (kept : Evaluated) (id : ProcId) (k : ℕ) (steps copy : List StepTo) → Fits p trees kept → get nat_eq kept.choices id.0 ≡ Some k → slice_get kept.lists k ≡ Some steps → copy ≡ steps
+pub stepped_at : (p : Content) (trees : List Proc) (kept : Evaluated) (id : ProcId) (k : ℕ) (steps copy : List StepTo) → Fits p trees kept → get nat_eq kept.stepped id.0 ≡ Some k → slice_get kept.lists k ≡ Some steps → copy ≡ steps
     → AreEach trees copy (steps_of p (tree_at trees id))
 stepped_at p trees kept id k steps copy h g listed e =
-    let v = h.choices id.0 k g in
+    let v = h.stepped id.0 k g in
     let same : v.value ≡ copy = some_same v.value steps (sym v.listed ∙ listed) ∙ sym e in
     subst (λ (t : Proc). AreEach trees copy (steps_of p t)) (sym (at trees id v.holds.process v.holds.stands))
     (subst (λ (ss : List StepTo). AreEach trees ss (steps_of p v.holds.process)) same v.holds.holds)
@@ -110,12 +110,12 @@ stepped_at p trees kept id k steps copy h g listed e =
     some_same xs ys h = cc
 
 -- nothing is kept at first
-pub fits_new : (p : Content) (trees : List Proc) (kept : Evaluated) → IsEmpty kept.hidings → IsEmpty kept.renamings → IsEmpty kept.bodies → IsEmpty kept.choices → Fits p trees kept
+pub fits_new : (p : Content) (trees : List Proc) (kept : Evaluated) → IsEmpty kept.hidings → IsEmpty kept.renamings → IsEmpty kept.bodies → IsEmpty kept.stepped → Fits p trees kept
 fits_new p trees kept h r b s = record {
   hidings = no_key (λ q k. HasValue kept.sets k (λ x. StandsAs trees q (λ t. Hides p (out-Proc t) x))) kept.hidings h;
   renamings = no_key (λ q k. HasValue kept.images k (λ x. StandsAs trees q (λ t. Renames p (out-Proc t) x))) kept.renamings r;
   bodies = no_key (λ d q. StandsAs trees q (λ t. body_of (slice_get p.defs d) ≡ Some t)) kept.bodies b;
-  choices = none_stepped p trees kept.lists kept.choices s;
+  stepped = none_stepped p trees kept.lists kept.stepped s;
 }
 
 pub bodies_stay : {S : Type 0} (p : Content) (old new : List Proc) → IsFront old new → (bodies : HashMap ℕ ℕ S) → AreBodies p old bodies → AreBodies p new bodies
@@ -127,7 +127,7 @@ fits_stay p old new kept front h = record {
   hidings = noted_stay (Hides p) old new front kept.sets kept.hidings h.hidings;
   renamings = noted_stay (Renames p) old new front kept.images kept.renamings h.renamings;
   bodies = bodies_stay p old new front kept.bodies h.bodies;
-  choices = stepped_stay p old new front kept.lists kept.choices h.choices;
+  stepped = stepped_stay p old new front kept.lists kept.stepped h.stepped;
 }
 
 pub fits_then : {A E : Type 0} (p : Content) (old new : List Proc) (kept : Evaluated) (r : Result A E) → IsFront old new → Fits p old kept → OnOk r (Fits p new kept)
@@ -138,7 +138,7 @@ fits_then p old new kept (Err f) front h = tt
 pub fits_bodies : (p : Content) (old mid new : List Proc) (kept : Evaluated) (bodies : HashMap ℕ ℕ _) → IsFront old mid → IsFront mid new → Fits p old kept → AreBodies p mid bodies → Fits p new (record kept { bodies = bodies })
 fits_bodies p old mid new kept bodies first second h are =
     let stays = fits_stay p old new kept (front_both old mid new first second) h in
-    record { hidings = stays.hidings; renamings = stays.renamings; bodies = bodies_stay p mid new second bodies are; choices = stays.choices }
+    record { hidings = stays.hidings; renamings = stays.renamings; bodies = bodies_stay p mid new second bodies are; stepped = stays.stepped }
 
 -- the body of a definition, at the place that is kept for it
 pub body_at : (p : Content) (trees : List Proc) (d q : ℕ) (body : Proc) → StandsAs trees q (λ t. body_of (slice_get p.defs d) ≡ Some t) → body_of (slice_get p.defs d) ≡ Some body → slice_get trees q ≡ Some body
@@ -181,7 +181,7 @@ module _ (p : Content) (trees : List Proc) (kept : Evaluated) (h : Fits p trees 
         hidings = noted_push (Hides p) trees kept.sets sets hidden kept.hidings hidings id.0 k h.hidings (comes_to (hidden_by p) (λ u x. u ≡ Ok x) trees id o hidden within same is) grown last updates;
         renamings = h.renamings;
         bodies = h.bodies;
-        choices = h.choices;
+        stepped = h.stepped;
       };
       has = record { value = hidden; listed = pushed_at kept.sets sets hidden k grown last; holds = is };
     }
@@ -193,7 +193,7 @@ module _ (p : Content) (trees : List Proc) (kept : Evaluated) (h : Fits p trees 
         hidings = h.hidings;
         renamings = noted_push (Renames p) trees kept.images images new kept.renamings renamings id.0 k h.renamings (comes_to (renamed_by p) (λ u x. KeepsOutcome x u) trees id o new within same is) grown last updates;
         bodies = h.bodies;
-        choices = h.choices;
+        stepped = h.stepped;
       };
       has = record { value = new; listed = pushed_at kept.images images new k grown last; holds = is };
     }
@@ -226,25 +226,25 @@ more_and_more old mid new k steps i s lt is f g q n h = by_case (g q n h)
         let only = alone s q led in
         inr (same, record { place = i; step = s; listed = slice_get-get_or steps i s lt ∙ ap (λ (x : StepTo). Some x) (sym is); to = only.0; goes_on = only.1 })
 
--- the steps of choices are let go, and those of one more are kept
-pub fits_emptied : (p : Content) (trees : List Proc) (kept : Evaluated) (lists : List (List StepTo)) (choices : HashMap ℕ ℕ _) (count : ℕ) → IsEmpty choices → Fits p trees kept → Fits p trees (record kept { lists = lists; choices = choices; kept = count })
-fits_emptied p trees kept lists choices count empty h = record {
+-- the steps that are kept are let go, and those at one more place are kept
+pub fits_emptied : (p : Content) (trees : List Proc) (kept : Evaluated) (lists : List (List StepTo)) (stepped : HashMap ℕ ℕ _) (count : ℕ) → IsEmpty stepped → Fits p trees kept → Fits p trees (record kept { lists = lists; stepped = stepped; kept = count })
+fits_emptied p trees kept lists stepped count empty h = record {
   hidings = h.hidings;
   renamings = h.renamings;
   bodies = h.bodies;
-  choices = none_stepped p trees lists choices empty;
+  stepped = none_stepped p trees lists stepped empty;
 }
 
-pub fits_stepped : (p : Content) (trees : List Proc) (kept : Evaluated) (id : ProcId) (k : ℕ) (steps copy : List StepTo) (lists : List (List StepTo)) (choices : HashMap ℕ ℕ _) → Fits p trees kept → id.0 < length trees
-    → AreEach trees steps (steps_of p (tree_at trees id)) → copy ≡ steps → k ≡ length kept.lists → lists ≡ kept.lists ++ copy ∷ [] → Updates nat_eq kept.choices choices id.0 (Some k)
-    → Fits p trees (record kept { lists = lists; choices = choices })
-fits_stepped p trees kept id k steps copy lists choices h within each e last grown updates = record {
+pub fits_stepped : (p : Content) (trees : List Proc) (kept : Evaluated) (id : ProcId) (k : ℕ) (steps copy : List StepTo) (lists : List (List StepTo)) (stepped : HashMap ℕ ℕ _) → Fits p trees kept → id.0 < length trees
+    → AreEach trees steps (steps_of p (tree_at trees id)) → copy ≡ steps → k ≡ length kept.lists → lists ≡ kept.lists ++ copy ∷ [] → Updates nat_eq kept.stepped stepped id.0 (Some k)
+    → Fits p trees (record kept { lists = lists; stepped = stepped })
+fits_stepped p trees kept id k steps copy lists stepped h within each e last grown updates = record {
   hidings = h.hidings;
   renamings = h.renamings;
   bodies = h.bodies;
-  choices =
-      one_key (λ q n. HasValue lists n (λ ss. StandsAs trees q (λ t. AreEach trees ss (steps_of p t)))) kept.choices choices id.0 k
-      (λ q n g. let v = h.choices q n g in record { value = v.value; listed = ap (λ (xs : List (List StepTo)). slice_get xs n) grown ∙ slice_get-append_left kept.lists (copy ∷ []) n v.value v.listed; holds = v.holds })
+  stepped =
+      one_key (λ q n. HasValue lists n (λ ss. StandsAs trees q (λ t. AreEach trees ss (steps_of p t)))) kept.stepped stepped id.0 k
+      (λ q n g. let v = h.stepped q n g in record { value = v.value; listed = ap (λ (xs : List (List StepTo)). slice_get xs n) grown ∙ slice_get-append_left kept.lists (copy ∷ []) n v.value v.listed; holds = v.holds })
       (record {
         value = copy;
         listed = pushed_at kept.lists lists copy k grown last;

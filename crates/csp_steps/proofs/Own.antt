@@ -221,7 +221,7 @@ module _ (p : Content) (old new : List Proc) (front : IsFront old new) (kept : E
         hidings = noted_more (Hides p) new kept.sets hidden kept.hidings hidings k made stays.hidings there (hidings_lead p t new hidden moves made is are) more;
         renamings = stays.renamings;
         bodies = stays.bodies;
-        choices = stays.choices;
+        stepped = stays.stepped;
       }
 
   pub rename_fits : (images : Images) (renamings : HashMap ℕ ℕ _) → slice_get kept.images k ≡ Some images → Renames p (out-Proc t) images → AreMoves new made (joined (map (λ m. renamed_moves (becomes images) t m.0 m.1) moves))
@@ -232,7 +232,7 @@ module _ (p : Content) (old new : List Proc) (front : IsFront old new) (kept : E
         hidings = stays.hidings;
         renamings = noted_more (Renames p) new kept.images images kept.renamings renamings k made stays.renamings there (renamings_lead p t images is new moves made are) more;
         bodies = stays.bodies;
-        choices = stays.choices;
+        stepped = stays.stepped;
       }
 
 -- A fault where a number is looked for is one of the whole.

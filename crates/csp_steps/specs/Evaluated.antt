@@ -1,5 +1,5 @@
 -- What is kept of evaluations: the events that hidings hide and what renamings rename, by their places in a pool, and the places of the bodies of
--- definitions; and the steps of choices.
+-- definitions; and steps.
 use Rattle.std.specs.Prelude.{◌≡◌, ◌⊎◌, ℕ, nat_eq, Option, Some, None, Result, Ok, Err, List, slice_get}
 use Rattle.std.specs.HashMap.{HashMap, get}
 use Rattle.process_steps.specs.Needed.{events_in}
@@ -79,7 +79,7 @@ pub record Fits (p : Content) (trees : List Proc) (kept : Evaluated) : Type 0 wh
   pub hidings : AreNoted (Hides p) trees kept.sets kept.hidings
   pub renamings : AreNoted (Renames p) trees kept.images kept.renamings
   pub bodies : AreBodies p trees kept.bodies
-  pub choices : AreStepped p trees kept.lists kept.choices
+  pub stepped : AreStepped p trees kept.lists kept.stepped
 
 -- This holds of the value with the number k, and what is kept is true.
 pub record IsNumbered {T : Type 0} (p : Content) (trees : List Proc) (kept : Evaluated) (values : List T) (k : ℕ) (Holds : T → Type 0) : Type 0 where

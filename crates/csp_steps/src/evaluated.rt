@@ -25,11 +25,11 @@ use std::collections::HashMap;
 use step_values::{Images, events_in, images_by_event, renaming_in};
 use term_pool::{Pool, ProcId};
 
-// So many steps of choices are kept at most, unless one choice has more.
+// So many steps are kept at most, unless there are more at one place.
 const MOST_KEPT: usize = 1_048_576;
 
 /// What was evaluated for the processes of a pool: the events that hidings hide, what events become by renamings, the places of the bodies of
-/// definitions; and the steps of choices.
+/// definitions; and steps.
 #[derive(Drop)]
 pub struct Evaluated {
     /// Sets of hidden events.
@@ -42,11 +42,11 @@ pub struct Evaluated {
     pub(crate) renamings: HashMap<u32, u32>,
     /// The place of its body, for the number of a definition.
     pub(crate) bodies: HashMap<u32, u32>,
-    /// Steps of choices.
+    /// The steps of choices, hidings, renamings and sequences.
     pub(crate) lists: Items<Items<StepTo>>,
-    /// The number of its steps, for the place of a choice.
-    pub(crate) choices: HashMap<u32, u32>,
-    /// How many steps of choices are kept.
+    /// The number of its steps, for the place of each of them.
+    pub(crate) stepped: HashMap<u32, u32>,
+    /// How many steps are kept.
     pub(crate) kept: usize,
 }
 
@@ -62,7 +62,7 @@ impl Evaluated {
             renamings: HashMap::new(alloc),
             bodies: HashMap::new(alloc),
             lists: Items::new(alloc),
-            choices: HashMap::new(alloc),
+            stepped: HashMap::new(alloc),
             kept: 0,
         }
     }
@@ -209,7 +209,7 @@ pub(crate) fn body_place(
     Ok(id)
 }
 
-/// The steps of the choice at a place, where they are kept.
+/// The steps of the process at a place, where they are kept.
 pub(crate) fn known_steps(
     alloc: Global,
     evaluated: &Evaluated,
@@ -217,7 +217,7 @@ pub(crate) fn known_steps(
 ) -> Result<Option<Items<StepTo>>, NoMemory>
     ensures { (p : Content) → (trees : List Process) → Fits p trees evaluated.now → IfOk result (λ found. IfSome found (λ steps. AreEach trees steps (steps_of p (tree_at trees id)))) }
 {
-    let Some(number) = known(&evaluated.choices, id.0) else {
+    let Some(number) = known(&evaluated.stepped, id.0) else {
         return Ok(None);
     };
     let Some(steps) = evaluated.lists.get(number as usize) else {
@@ -227,7 +227,7 @@ pub(crate) fn known_steps(
     Ok(Some(copy))
 }
 
-// Lets the steps of choices go where there would be too many with so many more.
+// Lets the steps go that are kept, where there would be too many with so many more.
 fn make_room(alloc: Global, evaluated: &mut Evaluated, more: usize)
     ensures { (p : Content) → (trees : List Process) → Fits p trees evaluated.old → Fits p trees evaluated.new }
 {
@@ -237,11 +237,11 @@ fn make_room(alloc: Global, evaluated: &mut Evaluated, more: usize)
         return;
     }
     evaluated.lists = Items::new(alloc);
-    evaluated.choices = HashMap::new(alloc);
+    evaluated.stepped = HashMap::new(alloc);
     evaluated.kept = more;
 }
 
-/// Keeps the steps of the choice at a place.
+/// Keeps the steps of the process at a place.
 pub(crate) fn keep_steps(
     alloc: Global,
     evaluated: &mut Evaluated,
@@ -252,6 +252,6 @@ pub(crate) fn keep_steps(
 {
     make_room(alloc, evaluated, steps.len());
     let copy = Items::from_slice(alloc, steps)?;
-    put_value(&mut evaluated.lists, &mut evaluated.choices, id.0, copy)?;
+    put_value(&mut evaluated.lists, &mut evaluated.stepped, id.0, copy)?;
     Ok(())
 }

@@ -54,6 +54,7 @@ fn steps_at(
             let below = steps_at(alloc, program, pool, evaluated, below)?;
             let steps = around(alloc, program, pool, evaluated, id, below.as_slice())?;
             let steps = once(alloc, steps)?;
+            keep_steps(alloc, evaluated, id, steps.as_slice())?;
             Ok(steps)
         }
     }

@@ -75,6 +75,7 @@ impl Model for Layout {
     ghost use Rattle.std.specs.Prelude.{◌≤◌, List, length};
     ghost use Rattle.csp_program.specs.contracts.processes.Proc as process;
     ghost use Rattle.csp_program.specs.declared.processes.Proc.{Proc};
+    ghost use Rattle.dl_limits.specs.declared.TheConstants.{MOST_COMPONENTS};
     ghost use Rattle.csp_tables.specs.Network.{Component};
     ghost use Rattle.network_layout.specs.Triple.{AreCrowded, alphabets};
 

@@ -103,8 +103,8 @@ steps_at-returns-in_err-steps-in-Around-clause-steps t c =
     (front_both c.args.pool.now c.look_at.new.pool c.steps_at-in-Around.new.pool c.in_ok-found.ensures.front c.in_ok-below-in-Around.ensures.front) c.args.id c.requires.within)
     _ _ c.from_residual-in_err-steps-in-Around.ensures.1 c.in_err-steps-in-Around.ensures.steps
 
-pub steps_at-returns-in_ok-steps-in-Around-2-clause-steps : goal.steps_at-returns-in_ok-steps-in-Around-2-clause-steps
-steps_at-returns-in_ok-steps-in-Around-2-clause-steps t c =
+pub steps_at-returns-in_ok-keep_steps-in-Around-clause-steps : goal.steps_at-returns-in_ok-keep_steps-in-Around-clause-steps
+steps_at-returns-in_ok-keep_steps-in-Around-clause-steps t c =
     let is = made_of c.args.program.now c.look_at.new.pool (tree_at c.args.pool.now c.args.id) c.in_ok-found.found c.in_ok-found.ensures.look c.in-Around.below c.in-Around.is in
     let each = c.in_ok-below-in-Around.ensures.steps in
     around_each c.args.program.now (tree_at c.args.pool.now c.args.id) (tree_at c.steps_at-in-Around.new.pool c.args.id) (steps_of c.args.program.now (tree_at c.args.pool.now c.args.id)) each.moves
@@ -145,3 +145,20 @@ steps_at-returns-in_err-steps-in-Choice-clause-steps t c =
     let is = of_choice c.args.program.now c.look_at.new.pool (tree_at c.args.pool.now c.args.id) c.in_ok-found.found c.in_ok-found.ensures.look c.in-Choice.ids c.in-Choice.is in
     each_passed c.steps_of_operands.new.pool c.steps_of_operands.new.pool _ _ _ _ c.from_residual-in_err-steps-in-Choice.ensures.1 c.in_err-steps-in-Choice.ensures.steps
     (λ k e. choice_steps c.args.program.now c.look_at.new.pool c.in-Choice.ids c.as_slice.result.now (tree_at c.args.pool.now c.args.id) is c.as_slice.ensures ∙ e)
+
+pub steps_at-returns-in_ok-keep_steps-in-Around-clause-fits : goal.steps_at-returns-in_ok-keep_steps-in-Around-clause-fits
+steps_at-returns-in_ok-keep_steps-in-Around-clause-fits t c =
+    let is = made_of c.args.program.now c.look_at.new.pool (tree_at c.args.pool.now c.args.id) c.in_ok-found.found c.in_ok-found.ensures.look c.in-Around.below c.in-Around.is in
+    let below = c.in_ok-below-in-Around.ensures.steps in
+    let deep = front_both c.args.pool.now c.look_at.new.pool c.steps_at-in-Around.new.pool c.in_ok-found.ensures.front c.in_ok-below-in-Around.ensures.front in
+    let front = front_both c.args.pool.now c.steps_at-in-Around.new.pool c.around.new.pool deep c.in_ok-steps-in-Around.ensures.front in
+    let steps = around_each c.args.program.now (tree_at c.args.pool.now c.args.id) (tree_at c.steps_at-in-Around.new.pool c.args.id) (steps_of c.args.program.now (tree_at c.args.pool.now c.args.id)) below.moves
+    c.steps_at-in-Around.new.pool c.around.new.pool c.in_ok-below-in-Around.below c.as_slice-in-Around.result.now
+    (around_is c.args.program.now c.look_at.new.pool c.in-Around.below (tree_at c.args.pool.now c.args.id) below.moves is below.has) below.same c.as_slice-in-Around.ensures
+    (tree_stays c.args.pool.now c.steps_at-in-Around.new.pool deep c.args.id c.requires.within)
+    c.in_ok-steps-in-Around.steps c.in_ok-steps-in-Around-2.steps c.in_ok-steps-in-Around.ensures.steps c.in_ok-steps-in-Around-2.ensures in
+    let each = choice_each c.around.new.pool c.in_ok-steps-in-Around-2.steps c.as_slice-in-Around-2.result.now (steps_of c.args.program.now (tree_at c.args.pool.now c.args.id)) _
+    (steps_of c.args.program.now (tree_at c.around.new.pool c.args.id)) refl c.as_slice-in-Around-2.ensures
+    (ap (steps_of c.args.program.now) (tree_stays c.args.pool.now c.around.new.pool front c.args.id c.requires.within)) steps in
+    let kept = c.keep_steps-in-Around.ensures c.args.program.now c.around.new.pool c.in_ok-steps-in-Around.ensures.fits (still_within c.args.pool.now c.around.new.pool front c.args.id c.requires.within) each in
+    on_ok_of c.keep_steps-in-Around.result c.in_ok-keep_steps-in-Around.field-0 _ c.in_ok-keep_steps-in-Around.was kept

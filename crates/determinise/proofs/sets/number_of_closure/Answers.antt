@@ -4,8 +4,8 @@ use Rattle.term_sets.specs.TermSets.{IsSilentClosure}
 use Rattle.determinise.proofs.MoreSets.{numbered_more, numbered_in_order}
 use Rattle.determinise.proofs.sets.number_of_closure.Goals as goal
 
-pub returns-then-len-gt-SET_LIMIT-clause-more : goal.returns-then-len-gt-SET_LIMIT-clause-more
-returns-then-len-gt-SET_LIMIT-clause-more c = numbered_more (IsSilentClosure c.args.table.now c.args.starts.now) c.args.sets.now c.number.new.self c.in_ok-set.set (record { members = c.in_ok-set.ensures.members; form = c.in_ok-set.ensures.form }) c.in_ok-number.ensures.list
+pub returns-then-len-gt-MOST_SETS-clause-more : goal.returns-then-len-gt-MOST_SETS-clause-more
+returns-then-len-gt-MOST_SETS-clause-more c = numbered_more (IsSilentClosure c.args.table.now c.args.starts.now) c.args.sets.now c.number.new.self c.in_ok-set.set (record { members = c.in_ok-set.ensures.members; form = c.in_ok-set.ensures.form }) c.in_ok-number.ensures.list
 
 pub returns-clause-number : goal.returns-clause-number
 returns-clause-number c = slice_get_within c.number.new.self c.in_ok-number.number c.in_ok-set.set c.in_ok-number.ensures.place
