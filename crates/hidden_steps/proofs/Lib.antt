@@ -1,0 +1,4 @@
+pub mod Moves
+pub mod Own
+pub mod Counting
+pub mod Bounding
