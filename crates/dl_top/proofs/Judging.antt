@@ -16,6 +16,7 @@ use Rattle.report.specs.declared.answer.Answer.{Answer}
 use Rattle.report.specs.declared.answer.Answer.TheVariants as answer
 use Rattle.report.specs.declared.answer.Refusal.{Refusal}
 use Rattle.report.specs.declared.answer.Refusal.TheVariants.{NoScript}
+use Rattle.report.specs.declared.answer.Side.TheVariants as side
 use Rattle.tabulation.proofs.Status.{tabulated_cases}
 use Rattle.dl_top.specs.Judgement.{ScriptDecides, SpellsOnlyScript, TextCallsFor}
 use Rattle.dl_top.specs.Printing.{TellsFault}
@@ -43,7 +44,7 @@ clash a x is four never = never (sym (ap status is) ∙ four)
 abbrev pub IsInside : Answer → Type 0
 IsInside a = status a ≡ 4 → ⊥
 
-refused_inside : (r : Refusal) → IsInside (answer.Refused r)
+refused_inside : (r : Refusal) → IsInside (answer.Refused side.Script r)
 refused_inside r four = let no : 2 ≡ 4 = four in cc
 
 decided_inside : (job : Job) (s : Script) (a : Answer) → ScriptDecides job s a → IsInside a
@@ -53,4 +54,4 @@ decided_inside Show s a is = λ four. clash a _ is four (λ e. cc)
 decided_inside (Table i) s a tabulated = tabulated_cases s i IsInside refused_inside (λ b whole four. clash b _ whole.is four (λ e. cc)) a tabulated
 
 pub text_inside : (text : List ℕ) (job : Job) (a : Answer) → TextCallsFor text job a → IsInside a
-text_inside text job a calls = refused_or _ _ _ IsInside refused_inside (λ s b only decides. decided_inside job s b decides) a calls
+text_inside text job a calls = refused_or _ _ _ _ IsInside refused_inside (λ s b only decides. decided_inside job s b decides) a calls

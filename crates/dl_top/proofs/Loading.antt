@@ -18,6 +18,8 @@ use Rattle.report.specs.Report.{status}
 use Rattle.report.specs.declared.answer.Answer.{Answer}
 use Rattle.report.specs.declared.answer.Answer.TheVariants as answer
 use Rattle.report.specs.declared.answer.OutsideFault.{OutsideFault}
+use Rattle.report.specs.declared.answer.Side.{Side}
+use Rattle.report.specs.declared.answer.Side.TheVariants as side
 use Rattle.dl_top.proofs.Judging.{IsInside, text_inside}
 use Rattle.dl_top.specs.Cause.{CallsFor, Gives, HoldsAll, HoldsAllNamed, Loaded, MayGive, Replies, ShelfSigns, TellsLoad, TextsCallFor, loads}
 use Rattle.dl_top.specs.Judgement.{TextCallsFor}
@@ -33,7 +35,7 @@ loaded May job name text slice (Ok reply) load same calls =
 
 -- one that was not
 pub unloaded : {E : Type 0} (May : List ℕ → Result (List ℕ) LoadFault → Type 0) (job : Job) (name : List ℕ) (f : LoadFault) (made : Result Reply E) → May name (Err f)
-    → IfOk made (λ reply. (reply.trial ≡ None) × TellsLoad f reply.answer) → IfOk made (Replies May (request.Script job name))
+    → IfOk made (λ reply. (reply.trial ≡ None) × TellsLoad side.Script f reply.answer) → IfOk made (Replies May (request.Script job name))
 unloaded May job name f (Err e) load tells = tt
 unloaded May job name f (Ok reply) load tells = record { trial = tells.0; calls = told f load tells.1 }
 
@@ -75,11 +77,11 @@ only May words r reply asked (inl none) = absurd (none.0 r asked)
 only May words r reply asked (inr (s, asked', replies)) = subst (λ (q : Request). Replies May q reply) (words_ask_once words s r asked' asked) replies
 
 -- a text that can't be loaded has no status 0
-tells_zero : (f : LoadFault) (a : Answer) → TellsLoad f a → status a ≡ 0 → ⊥
-tells_zero Missing a is zero = let no : 4 ≡ 0 = sym (ap status is) ∙ zero in cc
-tells_zero TooLong a is zero = let no : 2 ≡ 0 = sym (ap status is) ∙ zero in cc
-tells_zero Failed a is zero = let no : 4 ≡ 0 = sym (ap status is) ∙ zero in cc
-tells_zero NoMemory a is zero = absurd is
+tells_zero : (s : Side) (f : LoadFault) (a : Answer) → TellsLoad s f a → status a ≡ 0 → ⊥
+tells_zero s Missing a is zero = let no : 4 ≡ 0 = sym (ap status is) ∙ zero in cc
+tells_zero s TooLong a is zero = let no : 2 ≡ 0 = sym (ap status is) ∙ zero in cc
+tells_zero s Failed a is zero = let no : 4 ≡ 0 = sym (ap status is) ∙ zero in cc
+tells_zero s NoMemory a is zero = absurd is
 
 -- the text of a name, which decides with status 0
 pub record Held (texts : List NamedText) (name : List ℕ) (job : Job) (a : Answer) : Type 0 where
@@ -88,8 +90,8 @@ pub record Held (texts : List NamedText) (name : List ℕ) (job : Job) (a : Answ
   pub calls : TextCallsFor text job a
 
 held_text : (texts : List NamedText) (signs : ShelfSigns) (name : List ℕ) (job : Job) (a : Answer)
-    → Loaded (loads (Some texts) signs) (name ∷ []) (TextsCallFor (request.Script job name)) a → status a ≡ 0 → Held texts name job a
-held_text texts signs name job a (told f load tells) zero = absurd (tells_zero f a tells zero)
+    → Loaded side.Script (loads (Some texts) signs) (name ∷ []) (TextsCallFor (request.Script job name)) a → status a ≡ 0 → Held texts name job a
+held_text texts signs name job a (told f load tells) zero = absurd (tells_zero side.Script f a tells zero)
 held_text texts signs name job a (passed text load calls) zero = record { text = text; held = load.0; calls = calls }
 
 pub held_script : (texts : List NamedText) (words : List (List ℕ)) (signs : ShelfSigns) (job : Job) (name : List ℕ) (reply : Reply) → Asks words (request.Script job name)
@@ -101,10 +103,10 @@ held_script texts words signs job name reply asked given zero =
 -- ---- faults outside
 
 -- status 4 is that of a fault outside
-outside : (a : Answer) → status a ≡ 4 → (f : OutsideFault) × (a ≡ answer.Outside f)
+outside : (a : Answer) → status a ≡ 4 → (s : Side) × (f : OutsideFault) × (a ≡ answer.Outside s f)
 outside answer.Usage four = absurd (let no : 3 ≡ 4 = four in cc)
-outside (answer.Outside f) four = (f, refl)
-outside (answer.Refused r) four = absurd (let no : 2 ≡ 4 = four in cc)
+outside (answer.Outside s f) four = (s, f, refl)
+outside (answer.Refused s r) four = absurd (let no : 2 ≡ 4 = four in cc)
 outside (answer.NotProved s) four = absurd (let no : 1 ≡ 4 = four in cc)
 outside (answer.Done what) four = absurd (let no : 0 ≡ 4 = four in cc)
 
@@ -115,20 +117,20 @@ plain_is reply x none is =
     trials ∙ answers
 
 replies_fault : (May : List ℕ → Result (List ℕ) LoadFault → Type 0) (r : Request) (reply : Reply) → Replies May r reply → reply_status reply ≡ 4
-    → (f : OutsideFault) × (reply ≡ plain (answer.Outside f))
+    → (s : Side) × (f : OutsideFault) × (reply ≡ plain (answer.Outside s f))
 replies_fault May (request.Script job name) reply replies four =
     let fault = outside reply.answer four in
-    (fault.0, plain_is reply (answer.Outside fault.0) replies.trial fault.1)
+    (fault.0, fault.1, plain_is reply (answer.Outside fault.0 fault.1) replies.trial fault.2)
 replies_fault May (request.Trial trial) reply replies four = absurd (text_inside (trial_text trial) (Check (rule_of trial.family)) reply.answer replies.calls four)
 
 pub shelf_fault : (May : List ℕ → Result (List ℕ) LoadFault → Type 0) (words : List (List ℕ)) (reply : Reply) → Gives May words reply → reply_status reply ≡ 4
-    → (f : OutsideFault) × (reply ≡ plain (answer.Outside f))
+    → (s : Side) × (f : OutsideFault) × (reply ≡ plain (answer.Outside s f))
 shelf_fault May words reply (inl none) four = absurd (let no : 3 ≡ 4 = sym (ap reply_status none.1) ∙ four in cc)
 shelf_fault May words reply (inr (r, asked, replies)) four = replies_fault May r reply replies four
 
 -- where a text is held, it is no fault of the shelf
 held_text_inside : (texts : List NamedText) (job : Job) (name : List ℕ) (a : Answer) → HoldsAll texts (name ∷ [])
-    → Loaded (λ n. AnswersTold texts n MOST_BYTES ⊥) (name ∷ []) (TextsCallFor (request.Script job name)) a → IsInside a
+    → Loaded side.Script (λ n. AnswersTold texts n MOST_BYTES ⊥) (name ∷ []) (TextsCallFor (request.Script job name)) a → IsInside a
 held_text_inside texts job name a held (told Missing load tells) four = let no : None ≡ Some held.0.0 = sym load.0 ∙ held.0.1 in cc
 held_text_inside texts job name a held (told TooLong load tells) four = let no : 2 ≡ 4 = sym (ap status tells) ∙ four in cc
 held_text_inside texts job name a held (told Failed load tells) four = absurd load
@@ -154,11 +156,11 @@ quiet_load texts signs name (Err Failed) quiet load = absurd (quiet load)
 quiet_load texts signs name (Err NoMemory) quiet load = tt
 
 other_loads : (May Might : List ℕ → Result (List ℕ) LoadFault → Type 0) → ((name : List ℕ) (answered : Result (List ℕ) LoadFault) → May name answered → Might name answered)
-    → (ns : List (List ℕ)) (Then : List (List ℕ) → Answer → Type 0) (a : Answer) → Loaded May ns Then a → Loaded Might ns Then a
-other_loads May Might might [] Then a calls = calls
-other_loads May Might might (name ∷ ns) Then a (told f load tells) = told f (might name (Err f) load) tells
-other_loads May Might might (name ∷ ns) Then a (passed text load calls) =
-    passed text (might name (Ok text) load) (other_loads May Might might ns (λ texts. Then (text ∷ texts)) a calls)
+    → (s : Side) (ns : List (List ℕ)) (Then : List (List ℕ) → Answer → Type 0) (a : Answer) → Loaded s May ns Then a → Loaded s Might ns Then a
+other_loads May Might might s [] Then a calls = calls
+other_loads May Might might s (name ∷ ns) Then a (told f load tells) = told f (might name (Err f) load) tells
+other_loads May Might might s (name ∷ ns) Then a (passed text load calls) =
+    passed text (might name (Ok text) load) (other_loads May Might might side.Specification ns (λ texts. Then (text ∷ texts)) a calls)
 
 pub quiet_gives : (texts : List NamedText) (words : List (List ℕ)) (signs : ShelfSigns) (reply : Reply) → ¬ signs.rose → MayGive (Some texts) words signs reply → CallsFor texts words reply
 quiet_gives texts words signs reply quiet (inl none) = inl none
@@ -168,7 +170,7 @@ quiet_gives texts words signs reply quiet (inr (r, asked, replies)) = inr (
   record {
     trial = replies.trial;
     calls =
-        other_loads (loads (Some texts) signs) (λ n. AnswersTold texts n MOST_BYTES ⊥) (λ name answered load. quiet_load texts signs name answered quiet load) (names r) (TextsCallFor r)
+        other_loads (loads (Some texts) signs) (λ n. AnswersTold texts n MOST_BYTES ⊥) (λ name answered load. quiet_load texts signs name answered quiet load) side.Script (names r) (TextsCallFor r)
         reply.answer replies.calls;
   },
 )

@@ -2,7 +2,7 @@
 use Rattle.std.specs.Prelude.{◌≡◌, ◌⊎◌, ℕ, ◌+◌, ◌<◌, List, [], ◌∷◌, Option, Some, Result, Ok, Err}
 use Rattle.dl_limits.specs.declared.TheConstants.{MOST_BYTES}
 use Rattle.dl_outside.specs.declared.shelf.LoadFault.{LoadFault}
-use Rattle.dl_outside.specs.declared.shelf.LoadFault.TheVariants.{Missing, TooLong, Failed, NoMemory}
+use Rattle.dl_outside.specs.declared.shelf.LoadFault.TheVariants as load
 use Rattle.dl_outside.specs.declared.texts.NamedText.{NamedText}
 use Rattle.dl_outside.specs.Count.{HasRisen}
 use Rattle.dl_outside.specs.Load.{AnswersTold, LoadAnswers}
@@ -14,24 +14,27 @@ use Rattle.command_words.specs.Request.{Asks, IsNoRequest, names, trial_of}
 use Rattle.report.specs.Points.{Point}
 use Rattle.report.specs.declared.answer.Answer.{Answer}
 use Rattle.report.specs.declared.answer.Answer.TheVariants.{Outside, Refused, Usage}
-use Rattle.report.specs.declared.answer.OutsideFault.TheVariants.{ScriptNotFound, ScriptNotRead}
-use Rattle.report.specs.declared.answer.Refusal.TheVariants.{ScriptTooLong}
+use Rattle.report.specs.declared.answer.OutsideFault.TheVariants.{NotFound, NotRead}
+use Rattle.report.specs.declared.answer.Refusal.TheVariants.{TooLong}
+use Rattle.report.specs.declared.answer.Side.{Side}
+use Rattle.report.specs.declared.answer.Side.TheVariants as side
 use Rattle.dl_top.specs.Judgement.{TextCallsFor}
 use Rattle.dl_top.specs.Reply.{plain, rule_of, trial_text}
 use Rattle.dl_top.specs.declared.reply.Reply.{Reply}
 
--- how it is told that a text can't be loaded
-abbrev pub TellsLoad : LoadFault → Answer → Type 0
-TellsLoad Missing answer = answer ≡ Outside ScriptNotFound
-TellsLoad TooLong answer = answer ≡ Refused ScriptTooLong
-TellsLoad Failed answer = answer ≡ Outside ScriptNotRead
-TellsLoad NoMemory answer = ⊥
+-- how it is told that the text of this side can't be loaded
+abbrev pub TellsLoad : Side → LoadFault → Answer → Type 0
+TellsLoad side load.Missing answer = answer ≡ Outside side NotFound
+TellsLoad side load.TooLong answer = answer ≡ Refused side TooLong
+TellsLoad side load.Failed answer = answer ≡ Outside side NotRead
+TellsLoad side load.NoMemory answer = ⊥
 
--- Texts are loaded by their names, one after another, where a load of a name may give this. A text that can't be loaded is told; else the texts decide.
-abbrev pub Loaded : (List ℕ → Result (List ℕ) LoadFault → Type 0) → List (List ℕ) → (List (List ℕ) → Answer → Type 0) → Answer → Type 0
-Loaded Loads [] Then = Then []
-Loaded Loads (name ∷ more) Then =
-    Point (λ f. Loads name (Err f)) TellsLoad (λ text. Loads name (Ok text)) (λ text. Loaded Loads more (λ texts. Then (text ∷ texts)))
+-- Texts are loaded by their names, one after another, where a load of a name may give this. The first is of this side, each other the specification. A
+-- text that can't be loaded is told; else the texts decide.
+abbrev pub Loaded : Side → (List ℕ → Result (List ℕ) LoadFault → Type 0) → List (List ℕ) → (List (List ℕ) → Answer → Type 0) → Answer → Type 0
+Loaded first Loads [] Then = Then []
+Loaded first Loads (name ∷ more) Then =
+    Point (λ f. Loads name (Err f)) (TellsLoad first) (λ text. Loads name (Ok text)) (λ text. Loaded side.Specification Loads more (λ texts. Then (text ∷ texts)))
 
 -- what the texts of a request call for
 abbrev pub TextsCallFor : Request → List (List ℕ) → Answer → Type 0
@@ -44,7 +47,7 @@ TextsCallFor (request.Trial trial) (text ∷ more) answer = ⊥
 -- the reply to a request, where a load of a name may give this
 pub record Replies (Loads : List ℕ → Result (List ℕ) LoadFault → Type 0) (request : Request) (reply : Reply) : Type 0 where
   pub trial : reply.trial ≡ trial_of request
-  pub calls : Loaded Loads (names request) (TextsCallFor request) reply.answer
+  pub calls : Loaded side.Script Loads (names request) (TextsCallFor request) reply.answer
 
 -- the reply to words: they are no command, or ask for something
 abbrev pub Gives : (List ℕ → Result (List ℕ) LoadFault → Type 0) → List (List ℕ) → Reply → Type 0

@@ -5,6 +5,7 @@ use Rattle.csp_parser.specs.declared.fault.ParseFault.TheVariants as fault
 use Rattle.report.specs.declared.answer.Answer.{Answer}
 use Rattle.report.specs.declared.answer.Answer.TheVariants.{Refused}
 use Rattle.report.specs.declared.answer.Refusal.TheVariants.{NoScript}
+use Rattle.report.specs.declared.answer.Side.TheVariants as side
 use Rattle.dl_top.specs.Reply.{reply_status, reply_text}
 use Rattle.dl_top.specs.declared.reply.Printed.{Printed}
 use Rattle.dl_top.specs.declared.reply.Reply.{Reply}
@@ -17,4 +18,4 @@ pub record Prints (Cause : Reply → Type 0) (printed : Printed) : Type 0 where
 
 abbrev pub TellsFault : ParseFault → Answer → Type 0
 TellsFault fault.NoMemory answer = ⊥
-TellsFault (fault.NoScript at) answer = answer ≡ Refused (NoScript at)
+TellsFault (fault.NoScript at) answer = answer ≡ Refused side.Script (NoScript at)

@@ -9,7 +9,7 @@ use csp_base::NoMemory;
 use csp_parser::{ParseFault, each_text_spells_one_script, read};
 use csp_text::Script;
 use judgement::judged;
-use report::{Answer, Done, Refusal};
+use report::{Answer, Done, Refusal, Side};
 use script_printer::print_script;
 use std::alloc::Global;
 use tabulation::tabulated;
@@ -33,7 +33,7 @@ fn unread(fault: ParseFault) -> Result<Answer, NoMemory>
     ensures { IfOk result (TellsFault fault) }
 {
     match fault {
-        ParseFault::NoScript { at } => Ok(Answer::Refused(Refusal::NoScript { at })),
+        ParseFault::NoScript { at } => Ok(Answer::Refused(Side::Script, Refusal::NoScript { at })),
         ParseFault::NoMemory => Err(NoMemory),
     }
 }

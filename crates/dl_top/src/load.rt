@@ -16,7 +16,7 @@ use csp_base::NoMemory;
 use dl_limits::MOST_BYTES;
 use dl_outside::{LoadFault, Shelf};
 use net_maker::family_script;
-use report::{Answer, OutsideFault, Refusal};
+use report::{Answer, OutsideFault, Refusal, Side};
 use std::alloc::Global;
 
 // An answer that is of no trial.
@@ -29,14 +29,14 @@ fn plain(answer: Answer) -> Reply
     }
 }
 
-// The reply where a script can't be loaded.
-fn unloaded(fault: LoadFault) -> Result<Reply, NoMemory>
-    ensures { IfOk result (λ reply. (reply.trial ≡ None) × TellsLoad fault reply.answer) }
+// The reply where the text of this side can't be loaded.
+fn unloaded(side: Side, fault: LoadFault) -> Result<Reply, NoMemory>
+    ensures { IfOk result (λ reply. (reply.trial ≡ None) × TellsLoad side fault reply.answer) }
 {
     match fault {
-        LoadFault::Missing => Ok(plain(Answer::Outside(OutsideFault::ScriptNotFound))),
-        LoadFault::TooLong => Ok(plain(Answer::Refused(Refusal::ScriptTooLong))),
-        LoadFault::Failed => Ok(plain(Answer::Outside(OutsideFault::ScriptNotRead))),
+        LoadFault::Missing => Ok(plain(Answer::Outside(side, OutsideFault::NotFound))),
+        LoadFault::TooLong => Ok(plain(Answer::Refused(side, Refusal::TooLong))),
+        LoadFault::Failed => Ok(plain(Answer::Outside(side, OutsideFault::NotRead))),
         LoadFault::NoMemory => Err(NoMemory),
     }
 }
@@ -79,7 +79,7 @@ fn scripted<S: Shelf>(
 {
     match shelf.load(alloc, name, MOST_BYTES) {
         Ok(text) => replied(alloc, None, job, text.as_slice()),
-        Err(fault) => unloaded(fault),
+        Err(fault) => unloaded(Side::Script, fault),
     }
 }
 
