@@ -1,3 +1,4 @@
+pub mod Accepting
 pub mod Acknowledging
 pub mod Checks
 pub mod ClientServer
@@ -11,8 +12,8 @@ pub mod Holders
 pub mod Live
 pub mod OneOrder
 pub mod Places
-pub mod Refuting
 pub mod RankCheck
+pub mod Refuting
 pub mod Resource
 pub mod ResourceCheck
 pub mod RowOfThree
