@@ -13,11 +13,13 @@ pub mod Live
 pub mod OneOrder
 pub mod Places
 pub mod RankCheck
+pub mod Readings
 pub mod Refuting
 pub mod Resource
 pub mod ResourceCheck
 pub mod RowOfThree
 pub mod Runs
 pub mod Shapes
+pub mod Transport
 pub mod TwoUsers
 pub mod Walks

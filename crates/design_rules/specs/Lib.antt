@@ -1,3 +1,4 @@
+pub mod Agreement
 pub mod Assigned
 pub mod Behaviours
 pub mod ByTables
