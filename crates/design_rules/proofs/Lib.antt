@@ -9,8 +9,10 @@ pub mod CyclicCheck
 pub mod CyclicRule
 pub mod FormCheck
 pub mod Holders
+pub mod Linking
 pub mod Live
 pub mod OneOrder
+pub mod Outlines
 pub mod Places
 pub mod RankCheck
 pub mod Readings

@@ -20,6 +20,7 @@ pub mod Example
 pub mod FirstBroken
 pub mod Live
 pub mod NotedRules
+pub mod Outline
 pub mod Resource
 pub mod ResourceFaults
 pub mod ResourceLaws

@@ -1,8 +1,11 @@
--- A rule with its notes: what it is for a network to meet it, and what each fault tells.
+-- A rule with its notes: what it is to meet it, and what each fault tells; then of a network: of its outline, and of its components by their own steps.
 use Rattle.std.specs.Prelude.{List}
-use Rattle.csp_tables.specs.Shape.{Shape}
+use Rattle.csp_tables.specs.Label.{Label}
+use Rattle.csp_tables.specs.Network.{Component}
 use Rattle.csp_tables.specs.Roles.{RoleSets, UseSets}
-use Rattle.design_rules.specs.Behaviours.{Behaviours}
+use Rattle.csp_tables.specs.Shape.{Shape}
+use Rattle.design_rules.specs.Behaviours.{Behaviours, by_steps}
+use Rattle.design_rules.specs.Outline.{outline}
 use Rattle.design_rules.specs.CyclicRule.{IsCyclic}
 use Rattle.design_rules.specs.CyclicRuleFaults.{HasNoOrder, OrdersDisagree, HasNoWholeEnd}
 use Rattle.design_rules.specs.ClientServerRule.{IsClientServer}
@@ -46,3 +49,11 @@ abbrev pub BreaksRule : NotedRule → Shape → Behaviours → RuleFault → Typ
 BreaksRule Cyclic shape b fault = BreaksCyclicRule shape b fault
 BreaksRule (ClientServer roles) shape b fault = BreaksClientServerRule shape b roles fault
 BreaksRule (Resource uses) shape b fault = BreaksResourceRule shape b uses fault
+
+-- the network of these components meets the rule
+abbrev pub NetworkMeets : {T : Type 0} → (T → Label → T → Type 0) → List (Component T) → NotedRule → Type 0
+NetworkMeets Step cs rule = MeetsRule rule (outline cs) (by_steps Step cs (outline cs).vocabulary)
+
+-- what a fault tells of the network
+abbrev pub NetworkBreaks : {T : Type 0} → (T → Label → T → Type 0) → List (Component T) → NotedRule → RuleFault → Type 0
+NetworkBreaks Step cs rule fault = BreaksRule rule (outline cs) (by_steps Step cs (outline cs).vocabulary) fault

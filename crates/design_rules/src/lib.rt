@@ -5,7 +5,7 @@ mod condition;
 mod noted_rule;
 mod rule_fault;
 
-ghost use Rattle.design_rules.specs.Agreement.{NetworkFaultsRefute, NetworksBreak, NetworksMeet, ReadingsAgree};
+ghost use Rattle.design_rules.specs.Agreement.{NetworkFaultsRefute, NetworksBreak, NetworksMeet, OutlinesAgree, ReadingsAgree};
 ghost use Rattle.design_rules.specs.ClientServerLaws.{ClientServerRanksFall};
 ghost use Rattle.design_rules.specs.CyclicLaws.{CyclicRanksFall, IsRuleByNumbers, NumberedRanksFall, PlacesAreOrders, ReachedRanksFall};
 ghost use Rattle.design_rules.specs.Example.{PairIsClientServer, RowIsCyclic, TwoUsersAreResource};
@@ -47,8 +47,10 @@ pub fn faults_refute()
     ensures { FaultsRefute }
 {}
 
-/// A network meets a rule by its own steps exactly where its shape does by its tables, and a fault is true of the one exactly where it is true of the other.
+/// A network meets a rule, by its alphabets and by its own steps, exactly where its shape does by its tables; and a fault is true of the one exactly where
+/// it is true of the other.
 pub fn rules_speak_of_networks<S: Transitions>()
+    ensures outlines { OutlinesAgree S.step }
     ensures readings { ReadingsAgree S.step }
     ensures met { NetworksMeet S.step }
     ensures broken { NetworksBreak S.step }
