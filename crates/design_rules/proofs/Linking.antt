@@ -1,6 +1,6 @@
 -- The outline of a well-formed shape is what its alphabets say. The links of either rise strictly and join exactly the pairs of parts that share events; two
 -- lists that rise strictly and have the same pairs are the same, place by place.
-use Rattle.std.proofs.Common.{◌≡◌, ℕ, zero, suc, ◌+◌, ◌<◌, ◌≤◌, ◌⊎◌, inl, inr, List, [], ◌∷◌, ◌++◌, length, map, get_or, Bool, true, false, ◌&&◌, cond, nat_le, IsTrue, refl, sym, ap, subst, ◌∙◌, arith}
+use Rattle.std.proofs.Common.{◌≡◌, ℕ, zero, suc, ◌+◌, ◌<◌, ◌≤◌, ◌⊎◌, inl, inr, List, [], ◌∷◌, ◌++◌, length, map, get_or, true, ◌&&◌, nat_le, IsTrue, refl, sym, ap, subst, ◌∙◌, arith}
 use Rattle.std.specs.List.{flat_map}
 use Rattle.std.proofs.lemmas.Bool.{cases_Bool, cases_eq, and_parts, and_from, cond-true, cond-false, or_left, or_right, le-leb, leb-true}
 use Rattle.csp_base.specs.Members.{has}
@@ -9,7 +9,7 @@ use Rattle.csp_base.proofs.Booleans.{same_tests}
 use Rattle.csp_base.proofs.Listed.{any_member}
 use Rattle.csp_base.proofs.Rising.{has-append, has-filter, meets_of_from_member}
 use Rattle.csp_base.proofs.SetLaws.{has-inter_of}
-use Rattle.csp_tables.proofs.Runs.{sharers_own, sharers_other}
+use Rattle.csp_tables.proofs.Runs.{sharers_other}
 use Rattle.csp_tables.specs.Part.{Part, part_at, alphabets_of, sharers, Meet}
 use Rattle.csp_tables.specs.Shape.{Link, Shape, IsBelow, link_at, IsWellFormed}
 use Rattle.design_rules.specs.Agreement.{SameOutline}
@@ -132,13 +132,12 @@ same_pairs [] [] a b f g = tt
 same_pairs [] (y ∷ ys) a b f g = g y.left y.right (inl (refl, refl))
 same_pairs (x ∷ xs) [] a b f g = f x.left x.right (inl (refl, refl))
 same_pairs (x ∷ xs) (y ∷ ys) a b f g =
-    let head = same_head x y xs ys a.0 b.0 (f x.left x.right (inl (refl, refl))) (g y.left y.right (inl (refl, refl))) in
-    (
+    let head = same_head x y xs ys a.0 b.0 (f x.left x.right (inl (refl, refl))) (g y.left y.right (inl (refl, refl))) in (
       head.0,
       head.1,
       same_pairs xs ys a.1 b.1
-      (λ i j m. in_tail x y xs ys a.0 head.0 head.1 i j m (f i j (inr m)))
-      (λ i j m. in_tail y x ys xs b.0 (sym head.0) (sym head.1) i j m (g i j (inr m))),
+          (λ i j m. in_tail x y xs ys a.0 head.0 head.1 i j m (f i j (inr m)))
+          (λ i j m. in_tail y x ys xs b.0 (sym head.0) (sym head.1) i j m (g i j (inr m))),
     )
 
 same_length : (xs ys : List Link) → SamePairs xs ys → length xs ≡ length ys
@@ -216,13 +215,13 @@ module _ (at : ℕ → List ℕ) where
   with_sound n i a j (b ∷ bs) own are count less =
       each_append (IsLinkOf n) (link_between i a j b) (links_with i a (suc j) bs)
       (between_each (IsLinkOf n) i a j b (λ meets.
-          let e = any_member (has b) a meets in
-          record {
-            ordered = less;
-            within = omega arith;
-            shared = λ x. has-inter_of a b x ∙ ap (λ z. has z x && has b x) own ∙ ap (λ z. has (at i) x && has z x) are.0;
-            meet = record { event = e.0; first = subst (λ z. IsTrue (has z e.0)) own e.1; second = subst (λ z. IsTrue (has z e.0)) are.0 e.2 };
-          }))
+      let e = any_member (has b) a meets in
+      record {
+        ordered = less;
+        within = omega arith;
+        shared = λ x. has-inter_of a b x ∙ ap (λ z. has z x && has b x) own ∙ ap (λ z. has (at i) x && has z x) are.0;
+        meet = record { event = e.0; first = subst (λ z. IsTrue (has z e.0)) own e.1; second = subst (λ z. IsTrue (has z e.0)) are.0 e.2 };
+      }))
       (with_sound n i a (suc j) bs own are.1 (omega arith) (omega arith))
 
   with_rises : (i : ℕ) (a : List ℕ) (j : ℕ) (bs : List (List ℕ)) → Rises (links_with i a j bs)
@@ -230,8 +229,8 @@ module _ (at : ℕ → List ℕ) where
   with_rises i a j (b ∷ bs) =
       rises_append (link_between i a j b) (links_with i a (suc j) bs) (between_rises i a j b) (with_rises i a (suc j) bs)
       (between_each (λ x. Each (IsBelow x) (links_with i a (suc j) bs)) i a j b (λ _.
-          each_also (λ x. (x.left ≡ i) × (suc j ≤ x.right)) (IsBelow (record { left = i; right = j; shared = inter_of a b })) (λ x h. inr (sym h.0, let more : suc j ≤ x.right = h.1 in omega arith))
-          (links_with i a (suc j) bs) (with_ends i a (suc j) bs)))
+      each_also (λ x. (x.left ≡ i) × (suc j ≤ x.right)) (IsBelow (record { left = i; right = j; shared = inter_of a b })) (λ x h. inr (sym h.0, let more : suc j ≤ x.right = h.1 in omega arith))
+      (links_with i a (suc j) bs) (with_ends i a (suc j) bs)))
 
   with_complete : (n i : ℕ) (a : List ℕ) (j : ℕ) (bs : List (List ℕ)) (r : ℕ) → a ≡ at i → Are j bs → j + length bs ≡ n → j ≤ r → r < n → Meet (at i) (at r) → Among (links_with i a j bs) i r
   with_complete n i a j [] r own are count from within meet = absurd (omega arith)
@@ -349,16 +348,16 @@ module _ (shape : Shape) (w : IsWellFormed shape) where
   pairs =
       same_pairs shape.links (links_from 0 (alphabets_of shape.parts)) (rises_place shape.links w.links_rise) (from_rises (alphabet_in shape) 0 (alphabets_of shape.parts))
       (λ i j m.
-          let x = linked (IsLinkOf (alphabet_in shape) (length shape.parts)) shape.links i j shape_links m in
-          let l = x.holds in
-          let at = from_complete (alphabet_in shape) (length shape.parts) 0 (alphabets_of shape.parts) x.link.left x.link.right own_alphabets count (omega arith) l.ordered l.within l.meet in
-          subst (λ n. Among (links_from 0 (alphabets_of shape.parts)) i n) x.right (subst (λ n. Among (links_from 0 (alphabets_of shape.parts)) n x.link.right) x.left at))
+      let x = linked (IsLinkOf (alphabet_in shape) (length shape.parts)) shape.links i j shape_links m in
+      let l = x.holds in
+      let at = from_complete (alphabet_in shape) (length shape.parts) 0 (alphabets_of shape.parts) x.link.left x.link.right own_alphabets count (omega arith) l.ordered l.within l.meet in
+      subst (λ n. Among (links_from 0 (alphabets_of shape.parts)) i n) x.right (subst (λ n. Among (links_from 0 (alphabets_of shape.parts)) n x.link.right) x.left at))
       (λ i j m.
-          let x = linked (IsLinkOf (alphabet_in shape) (length shape.parts)) (links_from 0 (alphabets_of shape.parts)) i j told_links m in
-          let l = x.holds in
-          let joined = w.all_links x.link.left x.link.right l.ordered l.within l.meet in
-          let at = among_place shape.links joined.link joined.within in
-          subst (λ n. Among shape.links i n) (joined.right ∙ x.right) (subst (λ n. Among shape.links n (link_at shape joined.link).right) (joined.left ∙ x.left) at))
+      let x = linked (IsLinkOf (alphabet_in shape) (length shape.parts)) (links_from 0 (alphabets_of shape.parts)) i j told_links m in
+      let l = x.holds in
+      let joined = w.all_links x.link.left x.link.right l.ordered l.within l.meet in
+      let at = among_place shape.links joined.link joined.within in
+      subst (λ n. Among shape.links i n) (joined.right ∙ x.right) (subst (λ n. Among shape.links n (link_at shape joined.link).right) (joined.left ∙ x.left) at))
 
   pub shape_outline : SameOutline shape (outline_of (alphabets_of shape.parts))
   unfolding outline_of

@@ -1,10 +1,10 @@
 -- What is said of an outline looks at members of sets alone, so it is the same of two outlines with the same alphabets, links and vocabulary.
-use Rattle.std.proofs.Common.{◌≡◌, ℕ, zero, suc, ◌+◌, ◌%◌, ◌<◌, ◌⊎◌, inl, inr, List, [], ◌∷◌, length, Option, Some, None, Bool, true, false, not, ◌&&◌, ◌||◌, cond, IsTrue, nat_eq, refl, sym, ap, subst, ◌∙◌}
+use Rattle.std.proofs.Common.{◌≡◌, ℕ, zero, suc, ◌+◌, ◌%◌, ◌<◌, inl, inr, List, [], ◌∷◌, length, Option, Some, None, Bool, not, ◌&&◌, ◌||◌, cond, nat_eq, refl, sym, ap, subst, ◌∙◌}
 use Rattle.std.specs.List.{list_any}
 use Rattle.csp_base.specs.Members.{has}
 use Rattle.csp_base.proofs.Booleans.{same_tests}
 use Rattle.csp_base.proofs.Listed.{any_of, any_member}
-use Rattle.csp_tables.specs.Part.{part_at, sharers}
+use Rattle.csp_tables.specs.Part.{part_at}
 use Rattle.csp_tables.specs.Roles.{RoleSets, UseSets, role_at, use_at}
 use Rattle.csp_tables.specs.Shape.{Shape, Joins, is_end, link_at}
 use Rattle.csp_tables.specs.Standing.{IsOn}

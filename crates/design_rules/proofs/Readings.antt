@@ -1,18 +1,18 @@
 -- Over the shape of a network, the components' own steps and the parts' tables tell the same traces, the same events after each, and the same acceptances.
-use Rattle.std.proofs.Common.{◌≡◌, ◌↔◌, ℕ, zero, suc, ◌<◌, List, [], ◌∷◌, ◌++◌, Some, slice_get, get_or, length, map, IsTrue, true, refl, sym, ap, subst, ◌∙◌, arith}
+use Rattle.std.proofs.Common.{◌≡◌, ℕ, zero, suc, ◌<◌, List, [], ◌∷◌, ◌++◌, Some, slice_get, length, map, true, refl, sym, ap, subst, ◌∙◌, arith}
 use Rattle.std.proofs.lemmas.Bool.{and_parts, and_from}
 use Rattle.std.proofs.lemmas.Option.{none-some, same_Some}
 use Rattle.csp_base.specs.Members.{has}
 use Rattle.csp_tables.specs.Label.{Label}
 use Rattle.csp_tables.specs.Network.{Component, ComponentStep, Tree, leaves}
 use Rattle.csp_tables.specs.Trace.{IsAcceptance}
-use Rattle.csp_tables.specs.Table.{Node, node_at, node_after, is_possible, is_run, end_of, acceptances_after}
+use Rattle.csp_tables.specs.Table.{Node, node_at, node_after, is_possible, is_run, end_of}
 use Rattle.csp_tables.specs.Part.{Part, part_at, alphabets_of}
 use Rattle.csp_tables.specs.Shape.{Shape}
 use Rattle.csp_tables.specs.ShapeOf.{IsPartOf, ArePartsOf, IsShapeOf}
 use Rattle.csp_tables.specs.Standing.{RunsTo, IsPossible, Accepts, accepted}
 use Rattle.csp_tables.proofs.Runs.{run_push}
-use Rattle.design_rules.specs.Agreement.{SameOutline, Agree, AcceptsSame, OutlinesAgree, ReadingsAgree, NetworksMeet, NetworksBreak, NetworkFaultsRefute}
+use Rattle.design_rules.specs.Agreement.{SameOutline, AcceptsSame, OutlinesAgree, ReadingsAgree, NetworksMeet, NetworksBreak, NetworkFaultsRefute}
 use Rattle.design_rules.specs.Behaviours.{HasTrace, HasAcceptance, by_steps}
 use Rattle.design_rules.specs.ByTables.{AcceptsSet, by_tables}
 use Rattle.design_rules.proofs.Accepting.{at_place, set_shared}
@@ -60,7 +60,7 @@ same_alphabets {T} Step (c ∷ cs) (p ∷ ps) parts =
 
 -- of a vocabulary the members count
 module _ {T : Type 0} (Step : T → Label → T → Type 0) (cs : List (Component T)) (shape : Shape) (parts : ArePartsOf Step cs shape.parts) (vocabulary : List ℕ)
-  (same : (e : ℕ) → has shape.vocabulary e ≡ has vocabulary e) where
+    (same : (e : ℕ) → has shape.vocabulary e ≡ has vocabulary e) where
   trace_of_run : (i : ℕ) (s : List ℕ) → RunsTo shape i s → HasTrace Step cs i s
   trace_of_run i s r =
       let c = component_of Step cs shape.parts parts i r.part in
@@ -112,13 +112,13 @@ readings_agree Step tree shape is =
     let same : (e : ℕ) → has shape.vocabulary e ≡ has vocabulary e = (outlines_agree Step tree shape is).vocabulary in
     record {
       traces = λ i s. (
-          trace_of_run Step (leaves tree) shape is.parts vocabulary same i s,
-          run_of_trace Step (leaves tree) shape is.parts vocabulary same i s,
-        );
+        trace_of_run Step (leaves tree) shape is.parts vocabulary same i s,
+        run_of_trace Step (leaves tree) shape is.parts vocabulary same i s,
+      );
       possible = λ i s e. (
-          goes_on Step (leaves tree) shape is.parts vocabulary same i s e,
-          is_possible_there Step (leaves tree) shape is.parts vocabulary same i s e,
-        );
+        goes_on Step (leaves tree) shape is.parts vocabulary same i s e,
+        is_possible_there Step (leaves tree) shape is.parts vocabulary same i s e,
+      );
       accepted = acceptance_of Step (leaves tree) shape is.parts vocabulary same;
       accepts = set_of_acceptance Step (leaves tree) shape is.parts vocabulary same;
     }

@@ -1,16 +1,15 @@
 -- Networks that are alike meet the same rules and break them in the same way: their outlines are the same, and their components behave alike. Each condition
 -- is made of traces, possible events and acceptances by "for each" and "there is", so it is carried over part by part; where it stands behind an
 -- arrow, it is carried the other way. Of an acceptance the members alone are looked at.
-use Rattle.std.proofs.Common.{◌≡◌, ℕ, ◌<◌, inl, inr, ◌⊎◌, List, [], length, cond, IsTrue, sym, ap, subst, ◌∙◌, arith}
+use Rattle.std.proofs.Common.{◌≡◌, ℕ, ◌<◌, inl, inr, ◌⊎◌, List, cond, IsTrue, sym, ap, subst, ◌∙◌}
 use Rattle.std.proofs.lemmas.Bool.{and_parts, and_from}
 use Rattle.std.specs.List.{list_any}
 use Rattle.csp_base.specs.Members.{has}
 use Rattle.csp_base.proofs.Listed.{any_of, any_member}
-use Rattle.csp_tables.specs.Part.{AreApart, Meet}
 use Rattle.csp_tables.specs.Shape.{Shape, link_at}
-use Rattle.csp_tables.specs.Roles.{RoleSets, UseSets, role_at, use_at}
+use Rattle.csp_tables.specs.Roles.{RoleSets, UseSets, use_at}
 use Rattle.digraph.proofs.WalkLaws.{same_least_circle}
-use Rattle.design_rules.specs.Agreement.{SameOutline, Agree, AcceptsSame}
+use Rattle.design_rules.specs.Agreement.{SameOutline, Agree}
 use Rattle.design_rules.specs.Behaviours.{Behaviours}
 use Rattle.design_rules.specs.CyclicRule.{place_after, ReachesLink, BreaksOrder, KeepsPlaces, AllKeepPlaces, MustPrecede, CanBeNumbered, FallsShort, IsWholeEnd, HasWholeEnd, IsCyclic}
 use Rattle.design_rules.specs.ClientServerRule.{is_acknowledgement, is_request, TakesTurns, ServesAll, TakesAnswers, Serves, KeepRoles, IsClientServer}
