@@ -98,7 +98,7 @@ class Reader:
 def pages():
     """The page of answers: in the repository, or where it is installed."""
     here = pathlib.Path(__file__).resolve().parent
-    for place in (here.parent / "docs", here.parent.parent / "share/doc/dlcheck", here.parent / "doc/dlcheck"):
+    for place in (here.parent / "docs", here.parent.parent / "doc/dlcheck/docs"):
         if (place / "ANSWERS.md").is_file():
             return place / "ANSWERS.md"
     return None
