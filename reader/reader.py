@@ -173,6 +173,8 @@ def tell_part(reader, part, told, annotation=None):
         tell_stand(reader, part, table, told)
     if annotation:
         tell_annotation(reader, part, annotation)
+    if told.condition in ("S4", "S5") and part in told.traces and node_after(table, told.traces[part]) is not None:
+        tell_waiting(reader, part, table, told)
 
 
 def tell_stand(reader, part, table, told):
@@ -239,6 +241,29 @@ def tell_annotation(reader, part, kind):
                 say(f"  {what}: {listed(reader.script.texts(events))}")
     except (NoScript, ValueError, TypeError, KeyError, IndexError):
         pass
+
+
+def tell_waiting(reader, part, table, told):
+    """Of a server that is choosy, or of a client that doesn't take every answer: what is missing in what it waits for."""
+    try:
+        sets = [set(reader.script.texts(events)) for _, events in reader.script.noted(reader.components[part], "roles")]
+        requests_made, answers_got, requests_taken, _ = sets
+    except (NoScript, ValueError, TypeError, KeyError, IndexError):
+        return
+    trace = told.traces[part]
+    offers = [offer for offer in table.nodes[node_after(table, trace)].accepts if set(offer) <= set().union(*sets)]
+    for offer in offers:
+        if told.condition == "S4":
+            missing = [event for event in reader.alphabet(part) if event in requests_taken - set(offer)]
+            if missing and set(offer) & requests_taken:
+                say(f"  where it waits for {listed(offer)}, it doesn't take the requests {listed(missing)}")
+            continue
+        for other in range(table.count):
+            shared = set(reader.alphabet(part)) & partners(reader, other)
+            events = [event for event in trace if event in shared & (requests_made | answers_got)]
+            missing = sorted(shared & answers_got - set(offer))
+            if other != part and events and events[-1] in requests_made and missing:
+                say(f"  where it waits for {listed(offer)}, it has asked {reader.short(other)} by {events[-1]} and doesn't take the answers {listed(missing)}")
 
 
 def tell_links(reader, links, head, circle=False):

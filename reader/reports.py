@@ -53,22 +53,15 @@ def node_after(table, trace):
     return at
 
 
-# What a report tells, beyond its number: components in order, links, traces by component, an event, a declaration, a place.
-Told = collections.namedtuple("Told", "number parts links traces event declaration place circle")
-
-ONE_PART = {
-    "10": r"10 component (\d+) has",
-    "11": r"11 component (\d+) has",
-    "12": r"12 component (\d+) diverges",
-    "13": r"13 component (\d+) has",
-}
+# What a report tells, beyond its number: components in order, links, traces by component, an event, a declaration, a place, a condition that is broken.
+Told = collections.namedtuple("Told", "number parts links traces event declaration place circle condition")
 
 
 def told_by(report):
     """What the lines of a report of `check` or `table` tell."""
     lines = text_of(report).splitlines()
     if report.status in (0, 3, 4, 5) or len(lines) < 2:
-        return Told(f"Status {report.status}", [], [], {}, None, None, None, False)
+        return Told(f"Status {report.status}", [], [], {}, None, None, None, False, None)
     line = lines[1]
     number = line.split()[0]
     parts, links, traces, event, declaration, place, circle = [], [], {}, None, None, None, number in ("24", "27", "29")
@@ -105,4 +98,5 @@ def told_by(report):
         if found:
             traces[int(found[1])] = events_in(found[2])
     parts = parts or list(dict.fromkeys(part for link in links for part in link))
-    return Told(number, parts, links, traces, event, declaration, place, circle)
+    condition = re.search(r" breaks (\w\d) ", lines[1])
+    return Told(number, parts, links, traces, event, declaration, place, circle, condition[1] if condition else None)
