@@ -430,3 +430,6 @@ if __name__ == "__main__":
         sys.exit(main(sys.argv[1:]))
     except BrokenPipeError:
         sys.exit(4)
+    except OSError as fault:
+        print(f"dlcheck-reader: {fault}", file=sys.stderr)
+        sys.exit(70)

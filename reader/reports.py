@@ -10,7 +10,8 @@ Node = collections.namedtuple("Node", "steps accepts")
 def ask(program, words, quiet=False):
     """Runs a command of the program: its status, and its standard output as it is."""
     done = subprocess.run([*program, *words], stdin=subprocess.DEVNULL, stdout=subprocess.PIPE, stderr=subprocess.DEVNULL if quiet else None)
-    return Report(done.returncode, done.stdout)
+    # a signal is told as a shell tells it
+    return Report(done.returncode if done.returncode >= 0 else 128 - done.returncode, done.stdout)
 
 
 def text_of(report):
@@ -60,7 +61,7 @@ Told = collections.namedtuple("Told", "number parts links traces event declarati
 def told_by(report):
     """What the lines of a report of `check` or `table` tell."""
     lines = text_of(report).splitlines()
-    if report.status in (0, 3, 4, 5) or len(lines) < 2:
+    if report.status not in (1, 2) or len(lines) < 2:
         return Told(f"Status {report.status}", [], [], {}, None, None, None, False, None)
     line = lines[1]
     number = line.split()[0]
