@@ -95,18 +95,18 @@ class Reader:
         return self.script.names.get(own) if own else None
 
 
-def pages():
-    """The page of answers: in the repository, or where it is installed."""
+def page_named(name):
+    """A page: in the repository, or where it is installed."""
     here = pathlib.Path(__file__).resolve().parent
     for place in (here.parent / "docs", here.parent.parent / "doc/dlcheck/docs"):
-        if (place / "ANSWERS.md").is_file():
-            return place / "ANSWERS.md"
+        if (place / name).is_file():
+            return place / name
     return None
 
 
 def section(number):
     """The section of the page of answers on a number or a status."""
-    page = pages()
+    page = page_named("ANSWERS.md")
     if not page:
         return None
     kept, inside = [], False
@@ -148,6 +148,45 @@ def tell_place(reader, told):
             say("", f"Line {line}, column {column}:", "", "  " + lines[line - 1].replace("\t", " "), "  " + " " * len(front) + "^")
     if told.declaration is not None and told.declaration < len(reader.shown):
         say("", f"{reader.place(told.declaration).capitalize()}:", "", *("  " + line for line in reader.text(told.declaration)))
+
+
+# What in a line of the source leads to a row of the page on the language, by the row's first word or words.
+SIGNS = (
+    (r"\|\|\|", "interleaving"), (r"\[\|.*\|>", "interrupt"), (r"\[\|", "parallel over"), (r"<->", "linked parallel"), (r"\blet\b|\bwithin\b", "local definitions"),
+    (r"^\s*\w+\([^)]*\b\d+\b[^)]*\)\s*=", "definitions by cases"), (r"<\s*>|<\w+(,\s*\w+)*>|\^|#", "sequences"), (r"\?_", "an input"), (r"\?\w+\.", "several fields"),
+    (r"datatype.*\.", "fields in a datatype"), (r"\b(union|inter|diff)\(.*\bif\b", "an if within"), (r"/\\|\[>", "interrupt"), (r"\(\s*\w+\s*,\s*\w+\s*\)\s*\)", "tuples"), (r"\{-", "negative numbers"),
+    (r"\binclude\b|\bprint\b", "files and print"), (r"[^\x00-\x7f]", "signs that are no ASCII"), (r"\[\].*\|~\||\|~\|.*\[\]", "mixed choices"), (r"\].*\[.*\|\|", "three in one"),
+)
+
+
+def language_rows():
+    """The table of the page on the language: groups of rows, each with what it is about."""
+    page = page_named("LANGUAGE.md")
+    table = re.search(r"<!-- begin: rows -->\n(.*?)<!-- end -->", page.read_text(), re.S) if page else None
+    groups = [group.split("\n") for group in table[1].split("\n\n")] if table else []
+    head = groups[0][0] if groups else ""
+    return head[4:], [[line[4:] for line in group] for group in groups[1:]]
+
+
+def tell_language(reader, told):
+    """The rows of the page on the language that may be about what is refused."""
+    head, groups = language_rows()
+    if told.number not in ("1", "4", "5", "6", "7", "8", "10", "14", "19") or not groups:
+        return
+    at, kept = head.index("told"), []
+    line = reader.source.split("\n")[told.place[0] - 1 : told.place[0]] if told.place else []
+    for group in groups:
+        about = group[0][3:]
+        if told.number == "1":
+            fits = any(about.startswith(word) and re.search(sign, text) for text in line for sign, word in SIGNS)
+        elif told.number == "4":
+            fits = any(re.search(rf"\b{re.escape(told.event)}\b", row[:at]) for row in group[1:])
+        else:
+            fits = any(row[at:].startswith(told.number + " ") for row in group[1:])
+        if fits and any(row[at:].startswith(told.number + " ") for row in group[1:]):
+            kept += ["  " + row for row in group]
+    if kept:
+        say("", "LANGUAGE.md, as you know it and as it is written here:", "", *kept)
 
 
 def tell_part(reader, part, told, annotation=None):
@@ -322,6 +361,7 @@ def explain_report(program, rule, script):
         return report.status
     reader = Reader(program, script)
     tell_place(reader, told)
+    tell_language(reader, told)
     if told.number == "14":
         tell_alphabets(reader, told)
     annotation = NOTES.get(rule) if told.number in ("26", "28") or "annotation" in text_of(report) else None
@@ -348,7 +388,9 @@ def explain_script(program, script):
         say("", TOP_LINE)
         told = told_by(first)
         tell_page(told)
-        tell_place(Reader(program, script), told)
+        reader = Reader(program, script)
+        tell_place(reader, told)
+        tell_language(reader, told)
         return first.status
     reader = Reader(program, script)
     reader.tables[0] = table

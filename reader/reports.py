@@ -54,7 +54,8 @@ def node_after(table, trace):
     return at
 
 
-# What a report tells, beyond its number: components in order, links, traces by component, an event, a declaration, a place, a condition that is broken.
+# What a report tells, beyond its number: components in order, links, traces by component, an event or a name, a declaration, a place, a
+# condition that is broken.
 Told = collections.namedtuple("Told", "number parts links traces event declaration place circle condition")
 
 
@@ -72,6 +73,9 @@ def told_by(report):
     found = re.match(r"1 no script near line (\d+) column (\d+)", line)
     if found:
         place = int(found[1]), int(found[2])
+    found = re.match(r"4 unknown name (\S+) in", line)
+    if found:
+        event = found[1]
     found = re.match(r"14 components (\d+) to (\d+) differ from their alphabet at (\S+)", line)
     if found:
         parts, event = list(range(int(found[1]), int(found[2]) + 1)), found[3]
