@@ -40,10 +40,10 @@ class Script:
         elif line.startswith("assert "):
             self.asserted = self.asserted or line[7:].rsplit(" : [ deadlock free ]", 1)[0]
         else:
-            head, _, body = line.removeprefix("nametype ").partition(" = ")
+            head, _, body = (line[9:] if line.startswith("nametype ") else line).partition(" = ")
             name, _, parameters = head.partition(" ( ")
             self.names[name] = number
-            self.definitions[name] = ([p for p in parameters.removesuffix(" )").split(" , ") if p], body)
+            self.definitions[name] = ([p for p in parameters.split(" )")[0].split(" , ") if p], body)
 
     def body_of(self, name):
         """The parameters and the tree of a definition."""
