@@ -1,8 +1,13 @@
 //! The answer to the text of a script.
 
-ghost use Rattle.std.specs.Prelude.{IfOk};
+ghost use Rattle.std.specs.Prelude.{◌≡◌, IfOk};
+ghost use Rattle.command_words.specs.declared.request.Job.TheVariants.{Check};
+ghost use Rattle.csp_tables.specs.declared.rule.Rule.{Rule as RuleValue};
+ghost use Rattle.dl_top.specs.Complete.{SpellsPassing};
 ghost use Rattle.dl_top.specs.Judgement.{ScriptDecides, TextCallsFor};
 ghost use Rattle.dl_top.specs.Printing.{TellsFault};
+ghost use Rattle.dl_top.specs.Proved.{SpellsDeadlockFree};
+ghost use Rattle.report.specs.Report.{report_text, status};
 
 use command_words::Job;
 use csp_base::NoMemory;
@@ -38,8 +43,8 @@ fn unread(fault: ParseFault) -> Result<Answer, NoMemory>
     }
 }
 
-/// The answer that the text of a script calls for, with which this is to be done.
-pub fn judge(alloc: Global, job: Job, text: &[u8]) -> Result<Answer, NoMemory>
+// The answer that the text of a script calls for, with which this is to be done.
+fn called_for(alloc: Global, job: Job, text: &[u8]) -> Result<Answer, NoMemory>
     ensures { IfOk result (TextCallsFor text.now job) }
 {
     match read(alloc, text) {
@@ -49,4 +54,18 @@ pub fn judge(alloc: Global, job: Job, text: &[u8]) -> Result<Answer, NoMemory>
         }
         Err(fault) => unread(fault),
     }
+}
+
+/// The answer that the text of a script calls for, with which this is to be done. It is what `dl_main` reports of a text that it loaded, for whoever
+/// has a way of his own to read files.
+pub fn judge(alloc: Global, job: Job, text: &[u8]) -> Result<Answer, NoMemory>
+    ensures answer { IfOk result (TextCallsFor text.now job) }
+
+    // The theorem: where a script is judged with status 0, its text spells exactly one network, which is free of deadlock.
+    ensures free { IfOk result (λ answer. (rule : RuleValue) → job ≡ Check rule → status answer ≡ 0 → SpellsDeadlockFree text.now rule (report_text answer)) }
+
+    // Completeness: a network within the limits that meets the rule is judged with status 0.
+    ensures complete { IfOk result (λ answer. (rule : RuleValue) → job ≡ Check rule → SpellsPassing text.now rule → status answer ≡ 0) }
+{
+    called_for(alloc, job, text)
 }
