@@ -8,10 +8,8 @@ use Rattle.command_words.specs.declared.request.Job.TheVariants.{Check}
 use Rattle.command_words.specs.declared.request.Request.TheVariants as request
 use Rattle.csp_tables.specs.declared.rule.Rule.{Rule}
 use Rattle.csp_text.specs.declared.script.Script.{Script}
-use Rattle.dl_outside.specs.declared.shelf.LoadFault.{LoadFault}
 use Rattle.dl_outside.specs.declared.shelf.LoadFault.TheVariants.{Missing, TooLong, Failed, NoMemory}
 use Rattle.dl_outside.specs.declared.texts.NamedText.{NamedText}
-use Rattle.dl_outside.specs.Load.{AnswersTold}
 use Rattle.dl_outside.specs.Texts.{text_of}
 use Rattle.judgement_laws.proofs.Complete.{complete, goes_past}
 use Rattle.judgement_laws.specs.Complete.{Passes}
@@ -19,9 +17,10 @@ use Rattle.network_stages.specs.Networks.{IsNetworkOf, Network}
 use Rattle.report.specs.Points.Point.{passed, told}
 use Rattle.report.specs.Report.{report_text, status}
 use Rattle.report.specs.declared.answer.Answer.{Answer}
+use Rattle.report.specs.declared.answer.Side.TheVariants as side
 use Rattle.dl_top.proofs.Loading.{only}
 use Rattle.dl_top.proofs.Proving.{text_free}
-use Rattle.dl_top.specs.Cause.{CallsFor, Loaded, TextsCallFor}
+use Rattle.dl_top.specs.Cause.{CallsFor, Loaded, TextsCallFor, quiet}
 use Rattle.dl_top.specs.Complete.{AsksForPassing, SpellsPassing}
 use Rattle.dl_top.specs.Ending.{EndsWhole, SinkSigns}
 use Rattle.dl_top.specs.Judgement.{TextCallsFor}
@@ -35,7 +34,7 @@ text_completes text rule a spells calls =
     complete s spells.network rule a (subst (λ (x : Script). IsNetworkOf x spells.network) same there.is) spells.passes decides) calls
 
 held_completes : (texts : List NamedText) (rule : Rule) (name text : List ℕ) (a : Answer) → text_of texts name ≡ Some text → length text ≤ MOST_BYTES → SpellsPassing text rule
-    → Loaded (λ n. AnswersTold texts n MOST_BYTES ⊥) (name ∷ []) (TextsCallFor (request.Script (Check rule) name)) a → status a ≡ 0
+    → Loaded side.Script (Some texts) quiet (name ∷ []) (TextsCallFor (request.Script (Check rule) name)) a → status a ≡ 0
 held_completes texts rule name text a held within spells (told Missing load tells) = absurd (let no : None ≡ Some text = sym load.0 ∙ held in cc)
 held_completes texts rule name text a held within spells (told TooLong load tells) =
     let long = load.0 in
@@ -51,7 +50,7 @@ held_completes texts rule name text a held within spells (passed other load call
 
 passes : (texts : List NamedText) (words : List (List ℕ)) (sink : SinkSigns) (result : ℕ) → EndsWhole (CallsFor texts words) sink result → AsksForPassing texts words → result ≡ 0
 passes texts words sink result (reply, cause, grew, is) asks =
-    let replies = only (λ n. AnswersTold texts n MOST_BYTES ⊥) words (request.Script (Check asks.rule) asks.name) reply asks.asked cause in
+    let replies = only (Some texts) quiet words (request.Script (Check asks.rule) asks.name) reply asks.asked cause in
     is ∙ held_completes texts asks.rule asks.name asks.text reply.answer asks.held asks.within asks.spells replies.calls
 
 -- where the call settled

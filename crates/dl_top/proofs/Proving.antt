@@ -21,11 +21,12 @@ use Rattle.report.specs.declared.answer.Answer.{Answer}
 use Rattle.report.specs.declared.answer.Answer.TheVariants as answer
 use Rattle.report.specs.declared.answer.Done.TheVariants.{Shown}
 use Rattle.report.specs.declared.answer.Refusal.{Refusal}
+use Rattle.report.specs.declared.answer.Side.TheVariants as side
 use Rattle.script_printer.specs.PrintedScript.{script_text}
 use Rattle.tabulation.proofs.Status.{tabulated_cases}
 use Rattle.tabulation.specs.Whole.{IsTabulatedWhole}
 use Rattle.dl_top.proofs.Loading.{held_script, only}
-use Rattle.dl_top.specs.Cause.{MayGive, ShelfSigns, loads}
+use Rattle.dl_top.specs.Cause.{MayGive, ShelfSigns}
 use Rattle.dl_top.specs.Judgement.{SpellsOnlyScript, TextCallsFor}
 use Rattle.dl_top.specs.Printing.{Prints}
 use Rattle.dl_top.specs.Proved.{IsProved, IsShown, IsTold, IsTried, SpellsDeadlockFree, SpellsOnlyNetwork}
@@ -38,13 +39,13 @@ use Rattle.dl_top.specs.declared.reply.Reply.{Reply}
 abbrev IfZero : (Answer → Type 0) → Answer → Type 0
 IfZero P a = status a ≡ 0 → P a
 
-refused : (P : Answer → Type 0) (r : Refusal) → IfZero P (answer.Refused r)
+refused : (P : Answer → Type 0) (r : Refusal) → IfZero P (answer.Refused side.Script r)
 refused P r zero = absurd (let no : 2 ≡ 0 = zero in cc)
 
 -- the script of a text that decides with status 0
 deciding : (text : List ℕ) (P : Answer → Type 0) (Decides : Script → Answer → Type 0) (Fails : Refusal → Type 0) → ((s : Script) (a : Answer) → SpellsOnlyScript text s → Decides s a → status a ≡ 0 → P a)
-    → (a : Answer) → RefusedOr Fails (SpellsOnlyScript text) Decides a → status a ≡ 0 → P a
-deciding text P Decides Fails is a calls = refused_or Fails (SpellsOnlyScript text) Decides (IfZero P) (refused P) (λ s b spells decides. is s b spells decides) a calls
+    → (a : Answer) → RefusedOr side.Script Fails (SpellsOnlyScript text) Decides a → status a ≡ 0 → P a
+deciding text P Decides Fails is a calls = refused_or side.Script Fails (SpellsOnlyScript text) Decides (IfZero P) (refused P) (λ s b spells decides. is s b spells decides) a calls
 
 -- the network of the only script that a text spells is the only one
 only_network : (text : List ℕ) (script : Script) (network : Network) → SpellsOnlyScript text script → IsNetworkOf script network → SpellsOnlyNetwork text network
@@ -200,7 +201,7 @@ module _ (old new : Option (List ℕ)) (reply : Reply) where
   is_tried : (texts : Option (List NamedText)) (words : List (List ℕ)) (signs : ShelfSigns) → MayGive texts words signs reply → reply_status reply ≡ 0
       → GrowsBy old new (reply_text reply) → AsksForTrial words → IsTried words old new
   is_tried texts words signs cause zero grew (trial, asks) =
-      let replies = only (loads texts signs) words (request.Trial trial) reply asks cause in
+      let replies = only texts signs words (request.Trial trial) reply asks cause in
       record {
         trial = trial;
         asked = asks;
@@ -212,7 +213,7 @@ module _ (old new : Option (List ℕ)) (reply : Reply) where
   is_tried_ranked : (texts : Option (List NamedText)) (words : List (List ℕ)) (signs : ShelfSigns) → MayGive texts words signs reply → reply_status reply ≡ 0
       → GrowsBy old new (reply_text reply) → AsksForTrial words → IsTriedRanked words old new
   is_tried_ranked texts words signs cause zero grew (trial, asks) =
-      let replies = only (loads texts signs) words (request.Trial trial) reply asks cause in
+      let replies = only texts signs words (request.Trial trial) reply asks cause in
       record {
         trial = trial;
         asked = asks;

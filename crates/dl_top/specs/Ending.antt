@@ -4,6 +4,7 @@ use Rattle.dl_outside.specs.Count.{HasRisen}
 use Rattle.dl_outside.specs.Write.{GrowsBy}
 use Rattle.report.specs.declared.answer.Answer.TheVariants.{Outside}
 use Rattle.report.specs.declared.answer.OutsideFault.{OutsideFault}
+use Rattle.report.specs.declared.answer.Side.{Side}
 use Rattle.dl_top.specs.Reply.{plain, reply_status, reply_text}
 use Rattle.dl_top.specs.declared.reply.Reply.{Reply}
 
@@ -42,4 +43,4 @@ Ends Cause sink result = EndsWhole Cause sink result ⊎ EndsBroken Cause sink r
 -- The whole line of a fault of the shelf.
 abbrev pub EndsInShelfFault : (Reply → Type 0) → SinkSigns → Type 0
 EndsInShelfFault Cause sink =
-    (reply : Reply) × ((fault : OutsideFault) × (reply ≡ plain (Outside fault))) × Cause reply × GrowsBy sink.old sink.new (reply_text reply)
+    (reply : Reply) × ((side : Side) × (fault : OutsideFault) × (reply ≡ plain (Outside side fault))) × Cause reply × GrowsBy sink.old sink.new (reply_text reply)

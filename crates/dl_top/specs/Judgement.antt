@@ -16,6 +16,7 @@ use Rattle.report.specs.declared.answer.Answer.TheVariants.{Done}
 use Rattle.report.specs.declared.answer.Done.TheVariants.{Shown}
 use Rattle.report.specs.declared.answer.Refusal.{Refusal}
 use Rattle.report.specs.declared.answer.Refusal.TheVariants.{NoScript}
+use Rattle.report.specs.declared.answer.Side.TheVariants as side
 
 -- The text spells the network: the network of a script that it spells.
 pub record SpellsNetwork (text : List ℕ) (network : Network) : Type 0 where
@@ -40,4 +41,4 @@ ScriptDecides (Table i) script answer = IsTabulated script i answer
 
 -- A text is refused where it spells no script; else it spells exactly one, which decides.
 abbrev pub TextCallsFor : List ℕ → Job → Answer → Type 0
-TextCallsFor text job answer = RefusedOr (HasNoScript text) (SpellsOnlyScript text) (ScriptDecides job) answer
+TextCallsFor text job answer = RefusedOr side.Script (HasNoScript text) (SpellsOnlyScript text) (ScriptDecides job) answer

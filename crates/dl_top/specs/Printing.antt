@@ -2,9 +2,10 @@
 use Rattle.std.specs.Prelude.{◌≡◌}
 use Rattle.csp_parser.specs.declared.fault.ParseFault.{ParseFault}
 use Rattle.csp_parser.specs.declared.fault.ParseFault.TheVariants as fault
-use Rattle.report.specs.declared.answer.Answer.{Answer}
-use Rattle.report.specs.declared.answer.Answer.TheVariants.{Refused}
-use Rattle.report.specs.declared.answer.Refusal.TheVariants.{NoScript}
+use Rattle.report.specs.declared.answer.Refusal.{Refusal}
+use Rattle.report.specs.declared.answer.Refusal.TheVariants as refusal
+use Rattle.report.specs.declared.stop.Stop.{Stop}
+use Rattle.report.specs.declared.stop.Stop.TheVariants as stop
 use Rattle.dl_top.specs.Reply.{reply_status, reply_text}
 use Rattle.dl_top.specs.declared.reply.Printed.{Printed}
 use Rattle.dl_top.specs.declared.reply.Reply.{Reply}
@@ -15,6 +16,7 @@ pub record Prints (Cause : Reply → Type 0) (printed : Printed) : Type 0 where
   pub text : printed.text ≡ reply_text reply
   pub status : printed.status ≡ reply_status reply
 
-abbrev pub TellsFault : ParseFault → Answer → Type 0
-TellsFault fault.NoMemory answer = ⊥
-TellsFault (fault.NoScript at) answer = answer ≡ Refused (NoScript at)
+-- why a walk stops at a text that is no script
+abbrev pub no_script : ParseFault → Stop Refusal
+no_script fault.NoMemory = stop.NoMemory
+no_script (fault.NoScript at) = stop.Told (refusal.NoScript at)

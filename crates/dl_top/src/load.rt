@@ -4,7 +4,7 @@ ghost use Rattle.std.specs.Prelude.{◌≡◌, ◌≤◌, [], None, Some, IfOk};
 ghost use Rattle.command_words.specs.declared.request.Job.TheVariants.{Check};
 ghost use Rattle.command_words.specs.declared.request.Request.TheVariants as asking;
 ghost use Rattle.command_words.specs.Request.{NamesNoScript, names};
-ghost use Rattle.dl_top.specs.Cause.{MayGive, Replies, TellsLoad, loads, shelf_signs};
+ghost use Rattle.dl_top.specs.Cause.{MayGive, Replies, TellsLoad, shelf_signs};
 ghost use Rattle.dl_top.specs.Judgement.{TextCallsFor};
 ghost use Rattle.dl_top.specs.Printing.{Prints};
 ghost use Rattle.dl_top.specs.Reply.{rule_of as family_rule, trial_text};
@@ -16,7 +16,7 @@ use csp_base::NoMemory;
 use dl_limits::MOST_BYTES;
 use dl_outside::{LoadFault, Shelf};
 use net_maker::family_script;
-use report::{Answer, OutsideFault, Refusal};
+use report::{Answer, OutsideFault, Refusal, Side};
 use std::alloc::Global;
 
 // An answer that is of no trial.
@@ -29,14 +29,14 @@ fn plain(answer: Answer) -> Reply
     }
 }
 
-// The reply where a script can't be loaded.
-fn unloaded(fault: LoadFault) -> Result<Reply, NoMemory>
-    ensures { IfOk result (λ reply. (reply.trial ≡ None) × TellsLoad fault reply.answer) }
+// The reply where the text of this side can't be loaded.
+fn unloaded(side: Side, fault: LoadFault) -> Result<Reply, NoMemory>
+    ensures { IfOk result (λ reply. (reply.trial ≡ None) × TellsLoad side fault reply.answer) }
 {
     match fault {
-        LoadFault::Missing => Ok(plain(Answer::Outside(OutsideFault::ScriptNotFound))),
-        LoadFault::TooLong => Ok(plain(Answer::Refused(Refusal::ScriptTooLong))),
-        LoadFault::Failed => Ok(plain(Answer::Outside(OutsideFault::ScriptNotRead))),
+        LoadFault::Missing => Ok(plain(Answer::Outside(side, OutsideFault::NotFound))),
+        LoadFault::TooLong => Ok(plain(Answer::Refused(side, Refusal::TooLong))),
+        LoadFault::Failed => Ok(plain(Answer::Outside(side, OutsideFault::NotRead))),
         LoadFault::NoMemory => Err(NoMemory),
     }
 }
@@ -71,22 +71,22 @@ fn scripted<S: Shelf>(
     name: &[u8],
     shelf: &mut S,
 ) -> Result<Reply, NoMemory>
-    ensures cause { IfOk result (Replies (loads (S.texts shelf.old)
-        (shelf_signs (S.faults shelf.old) (S.faults shelf.new) (S.taken shelf.old) (S.taken shelf.new))) (asking.Script job name.now)) }
+    ensures cause { IfOk result (Replies (S.texts shelf.old)
+        (shelf_signs (S.faults shelf.old) (S.faults shelf.new) (S.taken shelf.old) (S.taken shelf.new)) (asking.Script job name.now)) }
     ensures texts_stay { S.texts shelf.new ≡ S.texts shelf.old }
     ensures faults_never_fall { S.faults shelf.old ≤ S.faults shelf.new }
     ensures taken_never_falls { S.taken shelf.old ≤ S.taken shelf.new }
 {
     match shelf.load(alloc, name, MOST_BYTES) {
         Ok(text) => replied(alloc, None, job, text.as_slice()),
-        Err(fault) => unloaded(fault),
+        Err(fault) => unloaded(Side::Script, fault),
     }
 }
 
 // The reply to a request. Nothing is loaded where it names no script.
 fn requested<S: Shelf>(alloc: Global, request: Request, shelf: &mut S) -> Result<Reply, NoMemory>
-    ensures cause { IfOk result (Replies (loads (S.texts shelf.old)
-        (shelf_signs (S.faults shelf.old) (S.faults shelf.new) (S.taken shelf.old) (S.taken shelf.new))) request) }
+    ensures cause { IfOk result (Replies (S.texts shelf.old)
+        (shelf_signs (S.faults shelf.old) (S.faults shelf.new) (S.taken shelf.old) (S.taken shelf.new)) request) }
     ensures untouched { names request ≡ [] → shelf.new ≡ shelf.old }
     ensures texts_stay { S.texts shelf.new ≡ S.texts shelf.old }
     ensures faults_never_fall { S.faults shelf.old ≤ S.faults shelf.new }

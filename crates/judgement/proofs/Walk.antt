@@ -30,6 +30,7 @@ use Rattle.report.specs.declared.answer.Answer.TheVariants as answer
 use Rattle.report.specs.declared.answer.Done.{Done}
 use Rattle.report.specs.declared.answer.Refusal.{Refusal}
 use Rattle.report.specs.declared.answer.Shortfall.{Shortfall}
+use Rattle.report.specs.declared.answer.Side.TheVariants as side
 use Rattle.report.specs.declared.stop.Stop.{Stop}
 use Rattle.judgement.proofs.Free.{free}
 use Rattle.judgement.specs.Judged.{IsApart, IsDeadlockFree, IsJudged, RuleDecides}
@@ -52,23 +53,23 @@ made_here p q cs parts programs components are =
     subst (λ (x : Content). AreMadeFor (ProcessStep x) (components_at p) parts) programs (subst (λ (ds : List (Component Proc)). AreMadeFor (ProcessStep q) ds parts) components are)
 
 module _ (s : Script) (rule : Rule) (r : Result Done (Stop Answer)) where
-  pub at_network : (why : Stop Refusal) → IsErrAnd r (λ t. t ≡ refused why) → Tells (HasNoNetwork s) why → Answers (IsJudged s rule) r
+  pub at_network : (why : Stop Refusal) → IsErrAnd r (λ t. t ≡ refused side.Script why) → Tells (HasNoNetwork s) why → Answers (IsJudged s rule) r
   unfolding IsJudged
-  at_network why exit tells = at_refusal r _ _ _ why exit tells
+  at_network why exit tells = at_refusal r _ _ _ _ why exit tells
 
   module _ (p : Content) (is : IsNetworkOf s (network_at p)) where
-    pub at_tables : (q : Content) (cs : List (Component Proc)) → q ≡ p → cs ≡ components_at p → (why : Stop Refusal) → IsErrAnd r (λ t. t ≡ refused why)
+    pub at_tables : (q : Content) (cs : List (Component Proc)) → q ≡ p → cs ≡ components_at p → (why : Stop Refusal) → IsErrAnd r (λ t. t ≡ refused side.Script why)
         → Tells (HaveNoTables q 0 cs) why → Answers (IsJudged s rule) r
     unfolding IsJudged
     at_tables q cs same one why exit tells =
         let there : Tells (HaveNoTables p 0 (components_at p)) why =
         subst (λ (x : Content). Tells (HaveNoTables x 0 (components_at p)) why) same (subst (λ (ds : List (Component Proc)). Tells (HaveNoTables q 0 ds) why) one tells) in
-        goes_on _ _ _ _ (network_at p) is r (at_refusal r _ _ _ why exit there)
+        goes_on _ _ _ _ (network_at p) is r (at_refusal r _ _ _ _ why exit there)
 
     module _ (t : Tables) (are : AreTablesOf p (components_at p) t.tables) where
-      pub at_parts : (why : Stop Refusal) → IsErrAnd r (λ x. x ≡ refused why) → Tells (HaveNoParts 0 t.tables) why → Answers (IsJudged s rule) r
+      pub at_parts : (why : Stop Refusal) → IsErrAnd r (λ x. x ≡ refused side.Script why) → Tells (HaveNoParts 0 t.tables) why → Answers (IsJudged s rule) r
       unfolding IsJudged
-      at_parts why exit tells = goes_on _ _ _ _ (network_at p) is r (goes_on _ _ _ _ t.tables are r (at_refusal r _ _ _ why exit tells))
+      at_parts why exit tells = goes_on _ _ _ _ (network_at p) is r (goes_on _ _ _ _ t.tables are r (at_refusal r _ _ _ _ why exit tells))
 
       module _ (parts : List Part) (by : ArePartsBy p t.tables (components_at p) parts) where
         pub at_shape : (why : Stop Shortfall) → IsErrAnd r (λ x. x ≡ unproved why) → Tells (ShareEvent p (components_at p)) why → Answers (IsJudged s rule) r
@@ -88,9 +89,9 @@ module _ (s : Script) (rule : Rule) (r : Result Done (Stop Answer)) where
               goes_on _ _ _ _ (network_at p) is r (goes_on _ _ _ _ t.tables are r (goes_on _ _ _ _ parts by r (goes_on _ _ _ _ shape apart r (goes_on _ _ _ _ tt busy r rest))))
 
 module _ (p : Content) (rule : Rule) (shape : Shape) (r : Result Done (Stop Answer)) where
-  pub at_notes : (why : Stop Refusal) → IsErrAnd r (λ x. x ≡ refused why) → Tells (HasUntold p (components_at p) rule) why → Answers (RuleDecides (network_at p) rule shape) r
+  pub at_notes : (why : Stop Refusal) → IsErrAnd r (λ x. x ≡ refused side.Script why) → Tells (HasUntold p (components_at p) rule) why → Answers (RuleDecides (network_at p) rule shape) r
   unfolding RuleDecides
-  at_notes why exit tells = at_refusal r _ _ _ why exit tells
+  at_notes why exit tells = at_refusal r _ _ _ _ why exit tells
 
   module _ (notes : NotedRule) (are : Notes p (components_at p) rule notes) where
     pub at_ranking : (q : Content) → q ≡ p → (why : Stop Shortfall) → IsErrAnd r (λ x. x ≡ unproved why) → Tells (BreaksRule q notes shape) why → Answers (RuleDecides (network_at p) rule shape) r

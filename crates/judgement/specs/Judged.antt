@@ -20,6 +20,7 @@ use Rattle.report.specs.Points.{RefusedOr, UnprovedOr}
 use Rattle.report.specs.declared.answer.Answer.{Answer}
 use Rattle.report.specs.declared.answer.Answer.TheVariants as answer
 use Rattle.report.specs.declared.answer.Done.TheVariants as done
+use Rattle.report.specs.declared.answer.Side.TheVariants as side
 use Rattle.judgement.specs.Noted.{BreaksRule, HasUntold, IsRanked, Notes}
 
 -- The network is live, with exactly its silent bound, and the answer says so.
@@ -32,7 +33,7 @@ pub record IsDeadlockFree (network : Network) (rule : Rule) (shape : Shape) (ran
 -- an annotated set has no value; the rule is broken
 unfoldable pub RuleDecides : Network → Rule → Shape → Answer → Type 0
 RuleDecides network rule shape =
-    RefusedOr (HasUntold network.program (leaves network.tree) rule) (Notes network.program (leaves network.tree) rule) (λ noted.
+    RefusedOr side.Script (HasUntold network.program (leaves network.tree) rule) (Notes network.program (leaves network.tree) rule) (λ noted.
     UnprovedOr (BreaksRule network.program noted shape) (IsRanked noted shape) (λ ranking.
     IsDeadlockFree network rule shape ranking))
 
@@ -44,9 +45,9 @@ pub record IsApart (network : Network) (shape : Shape) : Type 0 where
 -- the script has no network; a component has no table; it has too many sets of terms; an event is in three alphabets; a component can stop
 unfoldable pub IsJudged : Script → Rule → Answer → Type 0
 IsJudged script rule =
-    RefusedOr (HasNoNetwork script) (IsNetworkOf script) (λ network.
-    RefusedOr (HaveNoTables network.program 0 (leaves network.tree)) (AreTablesOf network.program (leaves network.tree)) (λ tables.
-    RefusedOr (HaveNoParts 0 tables) (ArePartsBy network.program tables (leaves network.tree)) (λ parts.
+    RefusedOr side.Script (HasNoNetwork script) (IsNetworkOf script) (λ network.
+    RefusedOr side.Script (HaveNoTables network.program 0 (leaves network.tree)) (AreTablesOf network.program (leaves network.tree)) (λ tables.
+    RefusedOr side.Script (HaveNoParts 0 tables) (ArePartsBy network.program tables (leaves network.tree)) (λ parts.
     UnprovedOr (ShareEvent network.program (leaves network.tree)) (IsApart network) (λ shape.
     UnprovedOr (CanStop network.program shape) (λ (busy : Unit {0}). IsBusyShape shape) (λ busy.
     RuleDecides network rule shape)))))

@@ -1,6 +1,6 @@
 //! The judgement of a script by a rule.
 
-ghost use Rattle.std.specs.Prelude.{◌≡◌, IfOk};
+ghost use Rattle.std.specs.Prelude.{◌≡◌};
 ghost use Rattle.csp_tables.specs.Part.{TripleDisjoint, alphabets_of};
 ghost use Rattle.csp_tables.specs.ShapeOf.{IsShapeOf};
 ghost use Rattle.csp_tables.specs.Standing.{IsBusyShape};
@@ -11,14 +11,13 @@ ghost use Rattle.report.specs.Stops.{Answers};
 ghost use Rattle.judgement.specs.Judged.{IsJudged, RuleDecides};
 
 use crate::rules::{noted, ranked};
-use csp_base::NoMemory;
 use csp_tables::{Rule, Shape};
 use csp_text::Script;
 use free_answers::deadlock_free;
 use network_stages::{
     Spelled, Tabled, check_busy, make_parts, make_shape, make_tables, spell_network,
 };
-use report::{Answer, Done, Stop, finished};
+use report::{Answer, Done, Stop};
 use std::alloc::Global;
 
 // What the rule says of a network with these tables and this shape.
@@ -43,8 +42,8 @@ fn ruled(
     Ok(done)
 }
 
-// What the rule says of the network of a script.
-fn proved(alloc: Global, rule: Rule, script: &Script) -> Result<Done, Stop<Answer>>
+/// The answer to a script that is judged by a rule.
+pub fn judged(alloc: Global, rule: Rule, script: &Script) -> Result<Done, Stop<Answer>>
     ensures { Answers (IsJudged script.now rule) result }
 {
     let network = spell_network(alloc, script)?;
@@ -53,11 +52,4 @@ fn proved(alloc: Global, rule: Rule, script: &Script) -> Result<Done, Stop<Answe
     let shape = make_shape(alloc, &network, parts)?;
     check_busy(alloc, &network, &shape)?;
     ruled(alloc, rule, &network, &tables, &shape)
-}
-
-/// The answer to a script that is judged by a rule.
-pub fn judged(alloc: Global, rule: Rule, script: &Script) -> Result<Answer, NoMemory>
-    ensures { IfOk result (IsJudged script.now rule) }
-{
-    finished(proved(alloc, rule, script))
 }

@@ -37,9 +37,9 @@ rankings_mean_live p tree seats tables shape ranking laid is =
     let made = network_is_tree p tree laid.spelled in
     let apart : TripleDisjoint (alphabets (leaves tree)) = subst (λ (cs : List (Component Proc)). TripleDisjoint (alphabets cs)) laid.laid is.apart in
     let busy : AreBusy (ProcessStep p) (leaves tree) = subst (λ (cs : List (Component Proc)). AreBusy (ProcessStep p) cs) laid.laid is.busy in
-    let have : AreTablesOf p (leaves tree) tables = subst (λ (cs : List (Component Proc)). AreTablesOf p cs tables) laid.laid laid.tables in
+    let have : AreTablesOf p (leaves tree) tables = subst (λ (cs : List (Component Proc)). AreTablesOf p cs tables) laid.laid laid.tabled in
     let exact = silent_bound p (leaves tree) tables have in
     let sound : IsSound (ProcessStep p) tree (bound_of tables) = record { some = made.1; nested = made.0.nesting; triple = apart; silence = exact } in
     let good : IsGoodRanking (ProcessStep p) (leaves tree) shape.parts ranking =
-    record { form = laid.shape.form.form; behaviours = shapes_behave (ProcessStep p) tree shape laid.shape busy; fits = is.fits; falls = is.falls } in
+    record { form = laid.shaped.form.form; behaviours = shapes_behave (ProcessStep p) tree shape laid.shaped busy; fits = is.fits; falls = is.falls } in
     record { live = good_rankings_mean_live (ProcessStep p) tree (bound_of tables) shape.parts ranking sound good; exact = exact; flat = is_flat p tree laid.spelled }

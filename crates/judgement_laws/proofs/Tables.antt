@@ -26,7 +26,7 @@ use Rattle.local_tables.specs.declared.local_table.LocalTable.{LocalTable}
 use Rattle.local_tables.specs.declared.local_table.Room.{Room}
 use Rattle.local_tables.proofs.Excluding.{excluded}
 use Rattle.net_sound.proofs.Heights.{heights_are_exact, stands}
-use Rattle.net_sound.proofs.Local.{path_alphabet}
+use Rattle.net_sound.proofs.Soundness.{path_alphabet}
 use Rattle.network_stages.specs.Stages.{HaveNoTables}
 use Rattle.network_stages.specs.Tells.{TellsComponent}
 use Rattle.network_tables.specs.Faults.{GoesRound, TellsTable}
@@ -45,7 +45,7 @@ module _ (p : Content) where
       → (t : ComponentTable) × HasTable p c t
   table_of room [] ts are i c at = absurd (none-some c at)
   table_of room (d ∷ cs) [] are i c at = absurd are
-  table_of room (d ∷ cs) (t ∷ ts) are zero c at = (t, room, subst (λ x. IsTableWithin p room x t) (same_Some d c at) are.0)
+  table_of room (d ∷ cs) (t ∷ ts) are zero c at = (t, (room, subst (λ x. IsTableWithin p room x t) (same_Some d c at) are.0))
   table_of room (d ∷ cs) (t ∷ ts) are (suc i) c at = table_of (room_after room t.local.used) cs ts are.1 i c at
 
   -- ---- what a component reaches goes on

@@ -16,6 +16,7 @@ use Rattle.report.proofs.Points.{refused_or, unproved_or}
 use Rattle.report.specs.declared.answer.Answer.{Answer}
 use Rattle.report.specs.declared.answer.Answer.TheVariants as answer
 use Rattle.report.specs.declared.answer.Refusal.{Refusal}
+use Rattle.report.specs.declared.answer.Side.TheVariants as side
 use Rattle.report.specs.declared.answer.Shortfall.{Shortfall}
 use Rattle.judgement.specs.Judged.{IsDeadlockFree, IsJudged, RuleDecides}
 use Rattle.judgement.specs.Noted.{IsRanked, Notes}
@@ -39,16 +40,16 @@ pub record IsJudgedWhole (script : Script) (rule : Rule) (a : Answer) : Type 0 w
   pub free : IsDeadlockFree network rule shape ranking a
 
 -- What holds of each refusal, of each reason why a network is not proved, and where all was found, holds of the answer.
-pub judged_whole : (script : Script) (rule : Rule) (Q : Answer → Type 0) → ((r : Refusal) → Q (answer.Refused r)) → ((s : Shortfall) → Q (answer.NotProved s))
+pub judged_whole : (script : Script) (rule : Rule) (Q : Answer → Type 0) → ((r : Refusal) → Q (answer.Refused side.Script r)) → ((s : Shortfall) → Q (answer.NotProved s))
     → ((a : Answer) → IsJudgedWhole script rule a → Q a) → (a : Answer) → IsJudged script rule a → Q a
 unfolding IsJudged RuleDecides
 judged_whole script rule Q refused short whole =
-    refused_or _ _ _ Q refused (λ network a spelled.
-    refused_or _ _ _ Q refused (λ tables b are.
-    refused_or _ _ _ Q refused (λ parts c by.
+    refused_or _ _ _ _ Q refused (λ network a spelled.
+    refused_or _ _ _ _ Q refused (λ tables b are.
+    refused_or _ _ _ _ Q refused (λ parts c by.
     unproved_or _ _ _ Q short (λ shape d apart.
     unproved_or _ _ _ Q short (λ busy e is_busy.
-    refused_or _ _ _ Q refused (λ notes f noted.
+    refused_or _ _ _ _ Q refused (λ notes f noted.
     unproved_or _ _ _ Q short (λ ranking g ranked free.
     whole g (record {
       network = network;

@@ -35,8 +35,8 @@ pub record IsFlat (p : Content) (tree : Tree Proc) : Type 0 where
 pub record IsLaidOut (p : Content) (tree : Tree Proc) (seats : List (Component Proc)) (tables : List ComponentTable) (shape : Shape) : Type 0 where
   pub spelled : network_of p ≡ Ok tree
   pub laid : seats ≡ leaves tree
-  pub tables : AreTablesOf p seats tables
-  pub shape : IsShapeOf (ProcessStep p) tree shape
+  pub tabled : AreTablesOf p seats tables
+  pub shaped : IsShapeOf (ProcessStep p) tree shape
 
 -- no event is in three alphabets, each component is busy, and the ranking has the numbers that the tables ask for, and falls
 pub record IsGood (p : Content) (seats : List (Component Proc)) (shape : Shape) (ranking : Ranking) : Type 0 where

@@ -9,6 +9,7 @@ use Rattle.report.specs.declared.answer.Answer.{Answer}
 use Rattle.report.specs.declared.answer.Done.{Done}
 use Rattle.report.specs.declared.answer.Refusal.{Refusal}
 use Rattle.report.specs.declared.answer.Shortfall.{Shortfall}
+use Rattle.report.specs.declared.answer.Side.{Side}
 use Rattle.report.specs.declared.stop.Stop.{Stop}
 use Rattle.report.specs.declared.stop.Stop.TheVariants as stop
 
@@ -19,9 +20,9 @@ module _ (r : Result Done (Stop Answer)) where
       let p = err_from_is_err_and r exit in
       subst (Answers Is) (sym p.1) (subst (Tells Is) (sym p.2) tells)
 
-  pub at_refusal : {X : Type 0} (Fails : Refusal → Type 0) (Is : X → Type 0) (Then : X → Answer → Type 0) (s : Stop Refusal) → IsErrAnd r (λ t. t ≡ refused s) → Tells Fails s
-      → Answers (RefusedOr Fails Is Then) r
-  at_refusal Fails Is Then s exit tells = at_stop (RefusedOr Fails Is Then) (refused s) exit (refuses Fails Is Then s tells)
+  pub at_refusal : {X : Type 0} (side : Side) (Fails : Refusal → Type 0) (Is : X → Type 0) (Then : X → Answer → Type 0) (s : Stop Refusal) → IsErrAnd r (λ t. t ≡ refused side s) → Tells Fails s
+      → Answers (RefusedOr side Fails Is Then) r
+  at_refusal side Fails Is Then s exit tells = at_stop (RefusedOr side Fails Is Then) (refused side s) exit (refuses side Fails Is Then s tells)
 
   pub at_shortfall : {X : Type 0} (Fails : Shortfall → Type 0) (Is : X → Type 0) (Then : X → Answer → Type 0) (s : Stop Shortfall) → IsErrAnd r (λ t. t ≡ unproved s) → Tells Fails s
       → Answers (UnprovedOr Fails Is Then) r

@@ -1,5 +1,5 @@
 -- Walks and their points. A walk that stops at a point tells what the point tells; one that goes on answers what the rest answers.
-use Rattle.std.proofs.Common.{◌≡◌, Result, Ok, Err, IfOk, refl, sym, subst}
+use Rattle.std.proofs.Common.{Result, Ok, Err, IfOk, refl, sym, subst}
 use Rattle.report.specs.Points.{Point, RefusedOr, UnprovedOr}
 use Rattle.report.specs.Points.Point.{passed, told}
 use Rattle.report.specs.Stops.{Answers, IsAnswer, Tells, refused, stop_of, unproved}
@@ -8,6 +8,7 @@ use Rattle.report.specs.declared.answer.Answer.TheVariants as answer
 use Rattle.report.specs.declared.answer.Done.{Done}
 use Rattle.report.specs.declared.answer.Refusal.{Refusal}
 use Rattle.report.specs.declared.answer.Shortfall.{Shortfall}
+use Rattle.report.specs.declared.answer.Side.{Side}
 use Rattle.report.specs.declared.stop.Stop.{Stop}
 use Rattle.report.specs.declared.stop.Stop.TheVariants as stop
 
@@ -22,9 +23,10 @@ tells_stop Is (Ok f) is = is
 tells_stop Is (Err e) is = tt
 
 -- a step refuses
-pub refuses : {X : Type 0} (Fails : Refusal → Type 0) (Is : X → Type 0) (Then : X → Answer → Type 0) (s : Stop Refusal) → Tells Fails s → Tells (RefusedOr Fails Is Then) (refused s)
-refuses Fails Is Then stop.NoMemory tells = tt
-refuses Fails Is Then (stop.Told r) tells = told r tells refl
+pub refuses : {X : Type 0} (side : Side) (Fails : Refusal → Type 0) (Is : X → Type 0) (Then : X → Answer → Type 0) (s : Stop Refusal) → Tells Fails s
+    → Tells (RefusedOr side Fails Is Then) (refused side s)
+refuses side Fails Is Then stop.NoMemory tells = tt
+refuses side Fails Is Then (stop.Told r) tells = told r tells refl
 
 -- a step falls short
 pub falls_short : {X : Type 0} (Fails : Shortfall → Type 0) (Is : X → Type 0) (Then : X → Answer → Type 0) (s : Stop Shortfall) → Tells Fails s → Tells (UnprovedOr Fails Is Then) (unproved s)
@@ -49,10 +51,10 @@ finishes Is (Err stop.NoMemory) (Ok a) answers same = absurd same
 finishes Is walk (Err e) answers same = tt
 
 -- What holds of each fault, and of what follows, holds of the answer.
-pub refused_or : {X : Type 0} (Fails : Refusal → Type 0) (Is : X → Type 0) (Then : X → Answer → Type 0) (Q : Answer → Type 0) → ((r : Refusal) → Q (answer.Refused r))
-    → ((x : X) (a : Answer) → Is x → Then x a → Q a) → (a : Answer) → RefusedOr Fails Is Then a → Q a
-refused_or Fails Is Then Q of rest a (told r fails same) = subst Q (sym same) (of r)
-refused_or Fails Is Then Q of rest a (passed x is next) = rest x a is next
+pub refused_or : {X : Type 0} (side : Side) (Fails : Refusal → Type 0) (Is : X → Type 0) (Then : X → Answer → Type 0) (Q : Answer → Type 0) → ((r : Refusal) → Q (answer.Refused side r))
+    → ((x : X) (a : Answer) → Is x → Then x a → Q a) → (a : Answer) → RefusedOr side Fails Is Then a → Q a
+refused_or side Fails Is Then Q of rest a (told r fails same) = subst Q (sym same) (of r)
+refused_or side Fails Is Then Q of rest a (passed x is next) = rest x a is next
 
 pub unproved_or : {X : Type 0} (Fails : Shortfall → Type 0) (Is : X → Type 0) (Then : X → Answer → Type 0) (Q : Answer → Type 0) → ((s : Shortfall) → Q (answer.NotProved s))
     → ((x : X) (a : Answer) → Is x → Then x a → Q a) → (a : Answer) → UnprovedOr Fails Is Then a → Q a

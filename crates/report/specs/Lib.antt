@@ -3,6 +3,7 @@ pub mod Parts
 pub mod EventText
 pub mod Refusals
 pub mod Shortfalls
+pub mod Sides
 pub mod Report
 pub mod Points
 pub mod Stops

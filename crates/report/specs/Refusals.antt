@@ -1,9 +1,10 @@
--- The line of each refusal of a script.
+-- The line of each refusal of a text.
 use Rattle.std.specs.Prelude.{ℕ, zero, suc, ◌+◌, List, ◌++◌, codes}
 use Rattle.std.specs.Fmt.{decimal}
 use Rattle.csp_program.specs.declared.kinds.ValueKind.{ValueKind}
 use Rattle.csp_program.specs.declared.kinds.ValueKind.TheVariants as kind
 use Rattle.report.specs.Lines.{trace_text}
+use Rattle.report.specs.Sides.{side_name}
 use Rattle.report.specs.declared.answer.NameFault.{NameFault}
 use Rattle.report.specs.declared.answer.NameFault.TheVariants as name
 use Rattle.report.specs.declared.answer.NetworkFault.{NetworkFault}
@@ -12,6 +13,7 @@ use Rattle.report.specs.declared.answer.ComponentFault.{ComponentFault}
 use Rattle.report.specs.declared.answer.ComponentFault.TheVariants as table
 use Rattle.report.specs.declared.answer.Refusal.{Refusal}
 use Rattle.report.specs.declared.answer.Refusal.TheVariants as refusal
+use Rattle.report.specs.declared.answer.Side.{Side}
 use Rattle.report.specs.declared.answer.Site.{Site}
 use Rattle.report.specs.declared.answer.Site.TheVariants as site
 
@@ -60,13 +62,14 @@ network_text network.EmptyNetwork = codes "15 the network has no components"
 network_text network.ComponentLimit = codes "16 more than 512 components"
 network_text network.NetworkDepth = codes "34 the network is nested deeper than 800"
 
-abbrev pub refusal_text : Refusal → List ℕ
-refusal_text (refusal.NoScript at) = codes "1 no script near line " ++ decimal at.line ++ codes " column " ++ decimal at.column
-refusal_text (refusal.Value k s) = codes "2 value fault " ++ kind_text k ++ site_text s
-refusal_text refusal.NoAssert = codes "3 no deadlock assertion"
-refusal_text (refusal.Declaration d fault) = declaration_text d fault
-refusal_text (refusal.EventLimit n) = codes "9 there are " ++ decimal n ++ codes " events"
-refusal_text (refusal.Network fault) = network_text fault
-refusal_text (refusal.Component i fault) = component_text i fault
-refusal_text (refusal.NoComponent n) = codes "35 there are " ++ decimal n ++ codes " components"
-refusal_text refusal.ScriptTooLong = codes "36 script is too long"
+-- of the text of a side
+abbrev pub refusal_text : Side → Refusal → List ℕ
+refusal_text s (refusal.NoScript at) = codes "1 no script near line " ++ decimal at.line ++ codes " column " ++ decimal at.column
+refusal_text s (refusal.Value k at) = codes "2 value fault " ++ kind_text k ++ site_text at
+refusal_text s refusal.NoAssert = codes "3 no deadlock assertion"
+refusal_text s (refusal.Declaration d fault) = declaration_text d fault
+refusal_text s (refusal.EventLimit n) = codes "9 there are " ++ decimal n ++ codes " events"
+refusal_text s (refusal.Network fault) = network_text fault
+refusal_text s (refusal.Component i fault) = component_text i fault
+refusal_text s (refusal.NoComponent n) = codes "35 there are " ++ decimal n ++ codes " components"
+refusal_text s refusal.TooLong = codes "36 " ++ side_name s ++ codes " is too long"

@@ -7,6 +7,7 @@ use Rattle.csp_tables.specs.declared.rule.Rule.TheVariants.{Cyclic, ClientServer
 use Rattle.report.specs.Lines.{set_text}
 use Rattle.report.specs.Refusals.{refusal_text}
 use Rattle.report.specs.Shortfalls.{shortfall_text}
+use Rattle.report.specs.Sides.{side_line, side_name}
 use Rattle.report.specs.declared.answer.Answer.{Answer}
 use Rattle.report.specs.declared.answer.Answer.TheVariants as answer
 use Rattle.report.specs.declared.answer.Done.{Done}
@@ -14,6 +15,7 @@ use Rattle.report.specs.declared.answer.Done.TheVariants as done
 use Rattle.report.specs.declared.answer.OutsideFault.{OutsideFault}
 use Rattle.report.specs.declared.answer.OutsideFault.TheVariants as outside
 use Rattle.report.specs.declared.answer.PrintedNode.{PrintedNode}
+use Rattle.report.specs.declared.answer.Side.{Side}
 use Rattle.csp_base.specs.Texts.{line}
 
 -- how a rule is written on a command line and in reports
@@ -51,9 +53,9 @@ deadlock_free_text rule components nodes bound greatest_rank =
     ++ line (codes "silent bound " ++ decimal bound)
     ++ line (codes "greatest rank " ++ signed_decimal greatest_rank)
 
-abbrev pub outside_text : OutsideFault → List ℕ
-outside_text outside.ScriptNotFound = codes "outside fault: script not found"
-outside_text outside.ScriptNotRead = codes "outside fault: script not read"
+abbrev pub outside_text : Side → OutsideFault → List ℕ
+outside_text side outside.NotFound = codes "outside fault: " ++ side_name side ++ codes " not found"
+outside_text side outside.NotRead = codes "outside fault: " ++ side_name side ++ codes " not read"
 
 abbrev pub done_text : Done → List ℕ
 done_text (done.Shown text) = text
@@ -62,15 +64,15 @@ done_text (done.DeadlockFree rule components nodes bound rank) = deadlock_free_t
 
 abbrev pub report_text : Answer → List ℕ
 report_text answer.Usage = line (codes "usage: dlcheck check RULE SCRIPT | show SCRIPT | table SCRIPT INDEX | trial FAMILY N")
-report_text (answer.Outside fault) = line (outside_text fault)
-report_text (answer.Refused refusal) = line (codes "refused") ++ line (refusal_text refusal)
+report_text (answer.Outside side fault) = line (outside_text side fault)
+report_text (answer.Refused side refusal) = line (codes "refused") ++ side_line side ++ line (refusal_text side refusal)
 report_text (answer.NotProved shortfall) = line (codes "not proved") ++ shortfall_text shortfall
 report_text (answer.Done what) = done_text what
 
 -- 0 done, 1 not proved, 2 refused, 3 no command, 4 a fault outside
 abbrev pub status : Answer → ℕ
 status answer.Usage = 3
-status (answer.Outside fault) = 4
-status (answer.Refused refusal) = 2
+status (answer.Outside side fault) = 4
+status (answer.Refused side refusal) = 2
 status (answer.NotProved shortfall) = 1
 status (answer.Done what) = 0

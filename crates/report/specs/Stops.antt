@@ -5,6 +5,7 @@ use Rattle.report.specs.declared.answer.Answer.TheVariants as answer
 use Rattle.report.specs.declared.answer.Done.{Done}
 use Rattle.report.specs.declared.answer.Refusal.{Refusal}
 use Rattle.report.specs.declared.answer.Shortfall.{Shortfall}
+use Rattle.report.specs.declared.answer.Side.{Side}
 use Rattle.report.specs.declared.stop.Stop.{Stop}
 use Rattle.report.specs.declared.stop.Stop.TheVariants as stop
 
@@ -23,10 +24,10 @@ abbrev pub Answers : (Answer → Type 0) → Result Done (Stop Answer) → Type 
 Answers Is (Ok what) = Is (answer.Done what)
 Answers Is (Err why) = Tells Is why
 
--- a stop that is a refusal, and one that is a shortfall
-abbrev pub refused : Stop Refusal → Stop Answer
-refused stop.NoMemory = stop.NoMemory
-refused (stop.Told r) = stop.Told (answer.Refused r)
+-- a stop that is a refusal of the text of a side, and one that is a shortfall
+abbrev pub refused : Side → Stop Refusal → Stop Answer
+refused side stop.NoMemory = stop.NoMemory
+refused side (stop.Told r) = stop.Told (answer.Refused side r)
 
 abbrev pub unproved : Stop Shortfall → Stop Answer
 unproved stop.NoMemory = stop.NoMemory

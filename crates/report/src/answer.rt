@@ -129,10 +129,19 @@ impl Drop for NetworkFault {
     }
 }
 
-/// Why a script is refused.
+/// Which of the texts that a request names is meant.
+#[derive(Clone, Copy)]
+pub enum Side {
+    /// The script that is asked about: the first text.
+    Script,
+    /// The specification that it is compared with: the second text.
+    Specification,
+}
+
+/// Why a script or a specification is refused.
 pub enum Refusal {
-    /// The script has more than 1,048,576 bytes (36).
-    ScriptTooLong,
+    /// It has more than 1,048,576 bytes (36).
+    TooLong,
     /// The text spells no script (1).
     NoScript {
         /// Where its first piece begins that is no token; where there is none, the place of a token or of its end.
@@ -179,7 +188,7 @@ pub enum Refusal {
 impl Drop for Refusal {
     fn drop(self) {
         match self {
-            Refusal::ScriptTooLong => {}
+            Refusal::TooLong => {}
             Refusal::NoScript { at: _at } => {}
             Refusal::Value {
                 kind: _kind,
@@ -375,20 +384,20 @@ impl Drop for Done {
 /// A fault of the shelf.
 #[derive(Clone, Copy)]
 pub enum OutsideFault {
-    /// It holds no script of the name.
-    ScriptNotFound,
-    /// The script could not be read.
-    ScriptNotRead,
+    /// It holds no text of the name.
+    NotFound,
+    /// The text could not be read.
+    NotRead,
 }
 
 /// The answer to the words of a command line, with the values that its report prints.
 pub enum Answer {
     /// The words are no command.
     Usage,
-    /// A script could not be had.
-    Outside(OutsideFault),
-    /// The script is refused.
-    Refused(Refusal),
+    /// The text of this side could not be had.
+    Outside(Side, OutsideFault),
+    /// The text of this side is refused.
+    Refused(Side, Refusal),
     /// The network is not proved.
     NotProved(Shortfall),
     /// What was asked for is done.
@@ -400,8 +409,8 @@ impl Drop for Answer {
     fn drop(self) {
         match self {
             Answer::Usage => {}
-            Answer::Outside(_first) => {}
-            Answer::Refused(_first) => {}
+            Answer::Outside(_side, _fault) => {}
+            Answer::Refused(_side, _refusal) => {}
             Answer::NotProved(_first) => {}
             Answer::Done(_first) => {}
         }

@@ -12,9 +12,9 @@ mod stop;
 
 pub use answer::{
     Answer, ComponentFault, Done, NameFault, NetworkFault, OutsideFault, PrintedNode, Refusal,
-    Shortfall, Site,
+    Shortfall, Side, Site,
 };
 pub use events::event_text;
 pub use printed::rule_name;
 pub use reports::{report_of, status_of};
-pub use stop::{Stop, finished, stopped};
+pub use stop::{Stop, finished, refused, stopped};

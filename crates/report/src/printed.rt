@@ -1,10 +1,11 @@
-//! How rules, kinds of fault and sites are written.
+//! How rules, sides, kinds of fault and sites are written.
 
 ghost use Rattle.std.specs.Prelude.{◌≡◌, IfOk};
 ghost use Rattle.report.specs.Refusals.{kind_text, site_text};
 ghost use Rattle.report.specs.Report.{rule_text};
+ghost use Rattle.report.specs.Sides.{side_line, side_name};
 
-use crate::answer::Site;
+use crate::answer::{Side, Site};
 use crate::lines::{Part, written};
 use csp_base::{Bytes, NoMemory};
 use csp_program::ValueKind;
@@ -19,6 +20,26 @@ pub fn rule_name(rule: Rule) -> &'static [u8]
         Rule::Cyclic => b"cyclic",
         Rule::ClientServer => b"client-server",
         Rule::Resource => b"resource",
+    }
+}
+
+// How a side is named in reports.
+pub(crate) fn side_name(side: Side) -> &'static [u8]
+    ensures { result.now ≡ side_name side }
+{
+    match side {
+        Side::Script => b"script",
+        Side::Specification => b"specification",
+    }
+}
+
+// The line that names the side of a refusal; of a script there is none.
+pub(crate) fn side_line(side: Side) -> &'static [u8]
+    ensures { result.now ≡ side_line side }
+{
+    match side {
+        Side::Script => b"",
+        Side::Specification => b"in the specification\n",
     }
 }
 

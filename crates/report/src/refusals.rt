@@ -3,11 +3,12 @@
 ghost use Rattle.std.specs.Prelude.{◌≡◌, ◌+◌, ◌++◌, IfOk, codes};
 ghost use Rattle.std.specs.Fmt.{decimal};
 ghost use Rattle.report.specs.Lines.{trace_text};
+ghost use Rattle.report.specs.Sides.{side_name};
 ghost use Rattle.report.specs.Refusals.{component_text, declaration_text, kind_text, nesting_text, network_text, refusal_text, site_text};
 
-use crate::answer::{ComponentFault, NameFault, NetworkFault, Refusal, Site};
+use crate::answer::{ComponentFault, NameFault, NetworkFault, Refusal, Side, Site};
 use crate::lines::{Part, written};
-use crate::printed::{kind_name, site};
+use crate::printed::{kind_name, side_name, site};
 use csp_base::{Bytes, NoMemory, Place};
 use csp_program::ValueKind;
 use std::alloc::Global;
@@ -231,9 +232,23 @@ fn no_script(alloc: Global, at: &Place) -> Result<Bytes, NoMemory>
     )
 }
 
-// The line of a refusal, without its end.
-pub(crate) fn refusal_line(alloc: Global, refusal: &Refusal) -> Result<Bytes, NoMemory>
-    ensures { IfOk result (λ made. made ≡ refusal_text refusal.now) }
+// A text that is too long.
+fn too_long(alloc: Global, side: Side) -> Result<Bytes, NoMemory>
+    ensures { IfOk result (λ made. made ≡ codes "36 " ++ side_name side ++ codes " is too long") }
+{
+    written(
+        alloc,
+        &[
+            Part::Text(b"36 "),
+            Part::Text(side_name(side)),
+            Part::Text(b" is too long"),
+        ],
+    )
+}
+
+// The line of a refusal of this side, without its end.
+pub(crate) fn refusal_line(alloc: Global, side: Side, refusal: &Refusal) -> Result<Bytes, NoMemory>
+    ensures { IfOk result (λ made. made ≡ refusal_text side refusal.now) }
 {
     match refusal {
         Refusal::NoScript { at } => no_script(alloc, at),
@@ -249,6 +264,6 @@ pub(crate) fn refusal_line(alloc: Global, refusal: &Refusal) -> Result<Bytes, No
         Refusal::NoComponent { count } => {
             between(alloc, b"35 there are ", u64::from(*count), b" components")
         }
-        Refusal::ScriptTooLong => Bytes::from_slice(alloc, b"36 script is too long"),
+        Refusal::TooLong => too_long(alloc, side),
     }
 }

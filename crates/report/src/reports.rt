@@ -4,13 +4,14 @@ ghost use Rattle.std.specs.Prelude.{◌≡◌, ◌+◌, ◌++◌, IfOk, OnOk, co
 ghost use Rattle.std.specs.List.{flat_map};
 ghost use Rattle.std.specs.Fmt.{decimal};
 ghost use Rattle.report.specs.Refusals.{refusal_text};
+ghost use Rattle.report.specs.Sides.{side_line};
 ghost use Rattle.report.specs.Shortfalls.{shortfall_text};
 ghost use Rattle.report.specs.Report.{accept_text, deadlock_free_text, done_text, next_text, node_text, nodes_text, outside_text, report_text, status, table_text};
 ghost use Rattle.csp_base.specs.Texts.{line};
 
-use crate::answer::{Answer, Done, OutsideFault, PrintedNode, Refusal, Shortfall};
+use crate::answer::{Answer, Done, OutsideFault, PrintedNode, Refusal, Shortfall, Side};
 use crate::lines::{Part, push_line, written, written_line};
-use crate::printed::rule_name;
+use crate::printed::{rule_name, side_line, side_name};
 use crate::refusals::refusal_line;
 use crate::shortfalls::shortfall_lines;
 use containers::Items;
@@ -25,9 +26,9 @@ pub fn status_of(answer: &Answer) -> u8
     match answer {
         Answer::Done(_) => 0,
         Answer::NotProved(_) => 1,
-        Answer::Refused(_) => 2,
+        Answer::Refused(_, _) => 2,
         Answer::Usage => 3,
-        Answer::Outside(_) => 4,
+        Answer::Outside(_, _) => 4,
     }
 }
 
@@ -206,14 +207,18 @@ fn deadlock_free(
     Ok(made)
 }
 
-// The report of a script that is refused.
-fn refused(alloc: Global, refusal: &Refusal) -> Result<Bytes, NoMemory>
-    ensures { IfOk result (λ made. made ≡ line (codes "refused") ++ line (refusal_text refusal.now)) }
+// The report where the text of this side is refused.
+fn refused(alloc: Global, side: Side, refusal: &Refusal) -> Result<Bytes, NoMemory>
+    ensures { IfOk result (λ made. made ≡ line (codes "refused") ++ side_line side ++ line (refusal_text side refusal.now)) }
 {
-    let reason = refusal_line(alloc, refusal)?;
+    let reason = refusal_line(alloc, side, refusal)?;
     written_line(
         alloc,
-        &[Part::Text(b"refused\n"), Part::Text(reason.as_slice())],
+        &[
+            Part::Text(b"refused\n"),
+            Part::Text(side_line(side)),
+            Part::Text(reason.as_slice()),
+        ],
     )
 }
 
@@ -229,12 +234,26 @@ fn not_proved(alloc: Global, shortfall: &Shortfall) -> Result<Bytes, NoMemory>
 }
 
 // The report of a fault of the shelf.
-fn outside(alloc: Global, fault: OutsideFault) -> Result<Bytes, NoMemory>
-    ensures { IfOk result (λ made. made ≡ line (outside_text fault)) }
+fn outside(alloc: Global, side: Side, fault: OutsideFault) -> Result<Bytes, NoMemory>
+    ensures { IfOk result (λ made. made ≡ line (outside_text side fault)) }
 {
     match fault {
-        OutsideFault::ScriptNotFound => one_line(alloc, b"outside fault: script not found"),
-        OutsideFault::ScriptNotRead => one_line(alloc, b"outside fault: script not read"),
+        OutsideFault::NotFound => written_line(
+            alloc,
+            &[
+                Part::Text(b"outside fault: "),
+                Part::Text(side_name(side)),
+                Part::Text(b" not found"),
+            ],
+        ),
+        OutsideFault::NotRead => written_line(
+            alloc,
+            &[
+                Part::Text(b"outside fault: "),
+                Part::Text(side_name(side)),
+                Part::Text(b" not read"),
+            ],
+        ),
     }
 }
 
@@ -268,8 +287,8 @@ pub fn report_of(alloc: Global, answer: &Answer) -> Result<Bytes, NoMemory>
             alloc,
             b"usage: dlcheck check RULE SCRIPT | show SCRIPT | table SCRIPT INDEX | trial FAMILY N",
         ),
-        Answer::Outside(fault) => outside(alloc, *fault),
-        Answer::Refused(refusal) => refused(alloc, refusal),
+        Answer::Outside(side, fault) => outside(alloc, *side, *fault),
+        Answer::Refused(side, refusal) => refused(alloc, *side, refusal),
         Answer::NotProved(shortfall) => not_proved(alloc, shortfall),
         Answer::Done(what) => done(alloc, what),
     }

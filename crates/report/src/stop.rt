@@ -1,9 +1,9 @@
 //! Why a step of a walk to an answer is not done.
 
 ghost use Rattle.std.specs.Prelude.{◌≡◌, IfOk};
-ghost use Rattle.report.specs.Stops.{IsAnswer, stop_of};
+ghost use Rattle.report.specs.Stops.{IsAnswer, refused, stop_of};
 
-use crate::answer::{Answer, Done, Refusal, Shortfall};
+use crate::answer::{Answer, Done, Refusal, Shortfall, Side};
 use csp_base::NoMemory;
 
 /// Why a step of a walk is not done.
@@ -28,14 +28,13 @@ impl<F> From<NoMemory> for Stop<F> {
 impl From<Stop<Refusal>> for Stop<Answer> {
     ghost use Rattle.std.specs.Prelude.{◌≡◌};
     ghost use Rattle.report.specs.Stops.{refused};
+    ghost use Rattle.report.specs.declared.answer.Side.TheVariants as side;
 
-    ghost from_gives = { λ s t. t ≡ refused s };
+    // That of the script.
+    ghost from_gives = { λ s t. t ≡ refused side.Script s };
 
     fn from(stop: Stop<Refusal>) -> Stop<Answer> {
-        match stop {
-            Stop::NoMemory => Stop::NoMemory,
-            Stop::Told(refusal) => Stop::Told(Answer::Refused(refusal)),
-        }
+        refused(Side::Script, stop)
     }
 }
 
@@ -50,6 +49,16 @@ impl From<Stop<Shortfall>> for Stop<Answer> {
             Stop::NoMemory => Stop::NoMemory,
             Stop::Told(shortfall) => Stop::Told(Answer::NotProved(shortfall)),
         }
+    }
+}
+
+/// Why a walk to an answer stops where the text of this side is refused. A `?` tells the refusal of the script.
+pub fn refused(side: Side, stop: Stop<Refusal>) -> Stop<Answer>
+    ensures { result ≡ refused side stop }
+{
+    match stop {
+        Stop::NoMemory => Stop::NoMemory,
+        Stop::Told(refusal) => Stop::Told(Answer::Refused(side, refusal)),
     }
 }
 

@@ -23,6 +23,7 @@ use Rattle.report.specs.declared.answer.Done.{Done}
 use Rattle.report.specs.declared.answer.Done.TheVariants as done
 use Rattle.report.specs.declared.answer.PrintedNode.{PrintedNode}
 use Rattle.report.specs.declared.answer.Refusal.{Refusal}
+use Rattle.report.specs.declared.answer.Side.TheVariants as side
 use Rattle.report.specs.declared.stop.Stop.{Stop}
 use Rattle.tabulation.specs.Printed.{printed_node}
 use Rattle.tabulation.specs.Tabulated.{ComponentIsTabulated, HasNoComponent, IsTable, IsTabulated}
@@ -47,38 +48,38 @@ is_table p q i seats nodes part slice programs are printed read =
     ap (λ n. answer.Done (done.Table i n nodes)) (ap length are) ∙ ap (λ (ns : List PrintedNode). answer.Done (done.Table i (length (components_at p)) ns)) same
 
 module _ (s : Script) (i : ℕ) (r : Result Done (Stop Answer)) where
-  pub at_network : (why : Stop Refusal) → IsErrAnd r (λ t. t ≡ refused why) → Tells (HasNoNetwork s) why → Answers (IsTabulated s i) r
+  pub at_network : (why : Stop Refusal) → IsErrAnd r (λ t. t ≡ refused side.Script why) → Tells (HasNoNetwork s) why → Answers (IsTabulated s i) r
   unfolding IsTabulated
-  at_network why exit tells = at_refusal r _ _ _ why exit tells
+  at_network why exit tells = at_refusal r _ _ _ _ why exit tells
 
   module _ (p : Content) (is : IsNetworkOf s (network_at p)) where
     -- a component of this number in the network
     abbrev IsAt : Component Proc → Type 0
     IsAt c = slice_get (components_at p) i ≡ Some c
 
-    in_network : Answers (RefusedOr (HasNoComponent (components_at p) i) IsAt (ComponentIsTabulated (network_at p) i)) r → Answers (IsTabulated s i) r
+    in_network : Answers (RefusedOr side.Script (HasNoComponent (components_at p) i) IsAt (ComponentIsTabulated (network_at p) i)) r → Answers (IsTabulated s i) r
     unfolding IsTabulated
     in_network rest = goes_on _ _ _ _ (network_at p) is r rest
 
-    pub at_seat : (why : Stop Refusal) → IsErrAnd r (λ t. t ≡ refused why) → Tells (HasNoComponent (components_at p) i) why → Answers (IsTabulated s i) r
-    at_seat why exit tells = in_network (at_refusal r _ _ _ why exit tells)
+    pub at_seat : (why : Stop Refusal) → IsErrAnd r (λ t. t ≡ refused side.Script why) → Tells (HasNoComponent (components_at p) i) why → Answers (IsTabulated s i) r
+    at_seat why exit tells = in_network (at_refusal r _ _ _ _ why exit tells)
 
     module _ (c : Component Proc) (at : slice_get (components_at p) i ≡ Some c) where
       in_component : Answers (ComponentIsTabulated (network_at p) i c) r → Answers (IsTabulated s i) r
       in_component rest = in_network (goes_on _ _ _ _ c at r rest)
 
-      pub at_tables : (q : Content) (cs : List (Component Proc)) → q ≡ p → cs ≡ c ∷ [] → (why : Stop Refusal) → IsErrAnd r (λ t. t ≡ refused why) → Tells (HaveNoTables q i cs) why
+      pub at_tables : (q : Content) (cs : List (Component Proc)) → q ≡ p → cs ≡ c ∷ [] → (why : Stop Refusal) → IsErrAnd r (λ t. t ≡ refused side.Script why) → Tells (HaveNoTables q i cs) why
           → Answers (IsTabulated s i) r
       unfolding ComponentIsTabulated
       at_tables q cs same one why exit tells =
           let there : Tells (HaveNoTables p i (c ∷ [])) why =
           subst (λ (x : Content). Tells (HaveNoTables x i (c ∷ [])) why) same (subst (λ (ds : List (Component Proc)). Tells (HaveNoTables q i ds) why) one tells) in
-          in_component (at_refusal r _ _ _ why exit there)
+          in_component (at_refusal r _ _ _ _ why exit there)
 
       module _ (t : Tables) (same : t.program ≡ p) (one : t.components ≡ c ∷ []) (are : AreTablesOf p (c ∷ []) t.tables) where
-        pub at_parts : (why : Stop Refusal) → IsErrAnd r (λ x. x ≡ refused why) → Tells (HaveNoParts i t.tables) why → Answers (IsTabulated s i) r
+        pub at_parts : (why : Stop Refusal) → IsErrAnd r (λ x. x ≡ refused side.Script why) → Tells (HaveNoParts i t.tables) why → Answers (IsTabulated s i) r
         unfolding ComponentIsTabulated
-        at_parts why exit tells = in_component (goes_on _ _ _ _ t.tables are r (at_refusal r _ _ _ why exit tells))
+        at_parts why exit tells = in_component (goes_on _ _ _ _ t.tables are r (at_refusal r _ _ _ _ why exit tells))
 
         pub at_end : (parts : List Part) (part : Part) → ArePartsBy t.program t.tables t.components parts → parts ≡ part ∷ [] → Answers (IsTable (network_at p) i part) r → Answers (IsTabulated s i) r
         unfolding ComponentIsTabulated

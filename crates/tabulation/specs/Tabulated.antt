@@ -14,6 +14,7 @@ use Rattle.report.specs.declared.answer.Answer.TheVariants as answer
 use Rattle.report.specs.declared.answer.Done.TheVariants as done
 use Rattle.report.specs.declared.answer.Refusal.{Refusal}
 use Rattle.report.specs.declared.answer.Refusal.TheVariants as refusal
+use Rattle.report.specs.declared.answer.Side.TheVariants as side
 use Rattle.tabulation.specs.Printed.{printed_node}
 
 -- no component has the number
@@ -27,12 +28,12 @@ IsTable network i part a = a ≡ answer.Done (done.Table i (length (leaves netwo
 -- the component with the number i, alone with the whole room for it
 unfoldable pub ComponentIsTabulated : Network → ℕ → Component Proc → Answer → Type 0
 ComponentIsTabulated network i c =
-    RefusedOr (HaveNoTables network.program i (c ∷ [])) (AreTablesOf network.program (c ∷ [])) (λ tables.
-    RefusedOr (HaveNoParts i tables) (λ part. ArePartsBy network.program tables (c ∷ []) (part ∷ [])) (λ part.
+    RefusedOr side.Script (HaveNoTables network.program i (c ∷ [])) (AreTablesOf network.program (c ∷ [])) (λ tables.
+    RefusedOr side.Script (HaveNoParts i tables) (λ part. ArePartsBy network.program tables (c ∷ []) (part ∷ [])) (λ part.
     IsTable network i part))
 
 unfoldable pub IsTabulated : Script → ℕ → Answer → Type 0
 IsTabulated script i =
-    RefusedOr (HasNoNetwork script) (IsNetworkOf script) (λ network.
-    RefusedOr (HasNoComponent (leaves network.tree) i) (λ c. slice_get (leaves network.tree) i ≡ Some c) (λ c.
+    RefusedOr side.Script (HasNoNetwork script) (IsNetworkOf script) (λ network.
+    RefusedOr side.Script (HasNoComponent (leaves network.tree) i) (λ c. slice_get (leaves network.tree) i ≡ Some c) (λ c.
     ComponentIsTabulated network i c))

@@ -6,11 +6,10 @@ ghost use Rattle.report.specs.Stops.{Answers, Tells};
 ghost use Rattle.tabulation.specs.Tabulated.{HasNoComponent, IsTabulated};
 
 use crate::printed::printed_nodes;
-use csp_base::NoMemory;
 use csp_text::Script;
 use network_layout::Seat;
 use network_stages::{Spelled, make_parts, make_tables, spell_network};
-use report::{Answer, Done, Refusal, Stop, finished};
+use report::{Answer, Done, Refusal, Stop};
 use std::alloc::Global;
 use std::slice;
 
@@ -28,8 +27,8 @@ fn seat_at(network: &Spelled, index: u32) -> Result<&Seat, Stop<Refusal>>
     }
 }
 
-// The normal table of the component with the number `index`, which has the whole room for itself.
-fn table_of(alloc: Global, script: &Script, index: u32) -> Result<Done, Stop<Answer>>
+/// The answer to a script of which the normal table of the component with the number `index` is asked. The component has the whole room for itself.
+pub fn tabulated(alloc: Global, script: &Script, index: u32) -> Result<Done, Stop<Answer>>
     ensures { Answers (IsTabulated script.now index) result }
 {
     let network = spell_network(alloc, script)?;
@@ -42,11 +41,4 @@ fn table_of(alloc: Global, script: &Script, index: u32) -> Result<Done, Stop<Ans
         count: network.seats().len() as u32,
         nodes,
     })
-}
-
-/// The answer to a script of which the normal table of the component with the number `index` is asked.
-pub fn tabulated(alloc: Global, script: &Script, index: u32) -> Result<Answer, NoMemory>
-    ensures { IfOk result (IsTabulated script.now index) }
-{
-    finished(table_of(alloc, script, index))
 }

@@ -3,7 +3,7 @@ use Rattle.tabulation.proofs.Walk.{at_end, at_network, at_parts, at_seat, at_tab
 use Rattle.network_stages.proofs.Exits.{at_want}
 use Rattle.report.specs.declared.answer.Done.TheVariants as done
 use Rattle.tabulation.specs.Tabulated.{IsTabulated}
-use Rattle.tabulation.proofs.tabulating.table_of.Goals as goal
+use Rattle.tabulation.proofs.tabulating.tabulated.Goals as goal
 
 pub returns-in_err-network : goal.returns-in_err-network
 returns-in_err-network c = at_network c.args.script.now c.args.index c.from_residual.result _ c.from_residual.ensures.1 c.in_err-network.ensures.told

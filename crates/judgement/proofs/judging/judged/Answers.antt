@@ -1,6 +1,6 @@
 use Rattle.std.proofs.Common.{◌≤◌, length, ap, subst, sym, ◌∙◌}
 use Rattle.judgement.proofs.Walk.{at_busy, at_network, at_parts, at_rule, at_shape, at_tables, made_here, parts_here, tables_here}
-use Rattle.judgement.proofs.judging.proved.Goals as goal
+use Rattle.judgement.proofs.judging.judged.Goals as goal
 
 pub returns-in_err-network : goal.returns-in_err-network
 returns-in_err-network c =

@@ -1,0 +1,6 @@
+use Rattle.network_stages.proofs.Exits.{at_want}
+use Rattle.dl_top.specs.Judgement.{ScriptDecides}
+use Rattle.dl_top.proofs.judge.decided.Goals as goal
+
+pub returns-in_err-text : goal.returns-in_err-text
+returns-in_err-text c = at_want c.from_residual.result (ScriptDecides c.args.job c.args.script.now) c.from_residual.ensures.1
