@@ -29,7 +29,7 @@ use Rattle.dl_top.specs.Proved.{SpellsDeadlockFree}
 text_completes : (text : List ℕ) (rule : Rule) (a : Answer) → SpellsPassing text rule → TextCallsFor text (Check rule) a → status a ≡ 0
 text_completes text rule a spells calls =
     let there = spells.spelled in
-    goes_past _ _ _ _ (status a ≡ 0) a (λ r fails tells. fails.1.0 there.script there.spelled) (λ s only_one decides.
+    goes_past _ _ _ _ (status a ≡ 0) a (λ r fails tells. fails.1 there.script there.spelled) (λ s only_one decides.
     let same : there.script ≡ s = only_one.only there.script there.spelled in
     complete s spells.network rule a (subst (λ (x : Script). IsNetworkOf x spells.network) same there.is) spells.passes decides) calls
 
@@ -38,9 +38,9 @@ held_completes : (texts : List NamedText) (rule : Rule) (name text : List ℕ) (
 held_completes texts rule name text a held within spells (told Missing load tells) = absurd (let no : None ≡ Some text = sym load.0 ∙ held in cc)
 held_completes texts rule name text a held within spells (told TooLong load tells) =
     let long = load.0 in
-    let same : long.0 ≡ text = same_Some long.0 text (sym long.1.0 ∙ held) in
+    let same : long.0 ≡ text = same_Some long.0 text (sym long.1 ∙ held) in
     let few : length long.0 ≤ MOST_BYTES = subst (λ (t : List ℕ). length t ≤ MOST_BYTES) (sym same) within in
-    let many = long.1.1 in
+    let many = long.2 in
     absurd (omega (arith, few, many))
 held_completes texts rule name text a held within spells (told Failed load tells) = absurd load
 held_completes texts rule name text a held within spells (told NoMemory load tells) = absurd tells

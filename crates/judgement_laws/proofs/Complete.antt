@@ -14,35 +14,37 @@ use Rattle.csp_tables.specs.ShapeOf.{AreBusy, IsShapeOf}
 use Rattle.csp_tables.specs.declared.rule.Rule.{Rule}
 use Rattle.csp_tables.specs.declared.rule.Rule.TheVariants as rule
 use Rattle.csp_text.specs.declared.script.Script.{Script}
-use Rattle.design_rules.proofs.Refuting.{faults_refute}
-use Rattle.design_rules.specs.Rules.{Meets}
+use Rattle.design_rules.proofs.Readings.{network_faults_refute}
+use Rattle.design_rules.specs.NotedRules.{NetworkMeets}
+use Rattle.design_rules.specs.Outline.{outline}
 use Rattle.design_rules.specs.declared.noted_rule.NotedRule.{NotedRule}
 use Rattle.design_rules.specs.declared.noted_rule.NotedRule.TheVariants as noted
 use Rattle.design_rules.specs.declared.rule_fault.RuleFault.{RuleFault}
-use Rattle.net_sound.proofs.ShapeOf.{shapes_are_busy}
 use Rattle.network_layout.proofs.TripleLemmas.{length-holders}
 use Rattle.network_layout.specs.Told.{IsUntold}
 use Rattle.network_layout.specs.Triple.{alphabets, holders}
 use Rattle.network_layout.specs.declared.told.NotedFault.{NotedFault}
 use Rattle.network_layout.specs.declared.told.NotedFault.TheVariants as untold
-use Rattle.network_shape.proofs.Stopping.{stops_refute}
 use Rattle.network_stages.specs.Networks.{IsNetworkOf, Network}
-use Rattle.network_stages.specs.Sets.{HaveFewSets}
-use Rattle.network_stages.specs.Stages.{CanStop, HaveNoParts, ShareEvent}
+use Rattle.network_stages.specs.Sets.{ArePartsBy, HaveFewSets}
+use Rattle.network_stages.specs.Stages.{CanStop, HaveNoParts, HaveNoTables, ShareEvent}
+use Rattle.network_tables.specs.Tables.{AreTablesOf}
 use Rattle.network_tables.specs.declared.component_tables.ComponentTable.{ComponentTable}
 use Rattle.process_steps.specs.ComponentStep.{ProcessStep}
 use Rattle.process_steps.specs.Needed.{all_outcomes}
-use Rattle.report.specs.Points.{Point}
+use Rattle.report.specs.Points.{Point, RefusedOr, UnprovedOr}
 use Rattle.report.specs.Points.Point.{passed, told}
 use Rattle.report.specs.Report.{status}
 use Rattle.report.specs.declared.answer.Answer.{Answer}
+use Rattle.report.specs.declared.answer.Answer.TheVariants as answer
 use Rattle.report.specs.declared.answer.Refusal.{Refusal}
 use Rattle.report.specs.declared.answer.Shortfall.{Shortfall}
+use Rattle.report.specs.declared.answer.Side.TheVariants as side
 use Rattle.judgement.proofs.OneNetwork.{one_network}
-use Rattle.judgement.specs.Judged.{IsJudged, RuleDecides}
-use Rattle.judgement.specs.Noted.{BreaksRule, HasUntold, Notes}
+use Rattle.judgement.specs.Judged.{IsApart, IsDeadlockFree, IsJudged, RuleDecides}
+use Rattle.judgement.specs.Noted.{BreaksRule, HasUntold, IsRanked, Notes}
 use Rattle.judgement.specs.Tells.{TellsNoted, TellsRule}
-use Rattle.judgement_laws.specs.Complete.{JudgementIsComplete, Passes}
+use Rattle.judgement_laws.specs.Complete.{EachScriptHasOneStatus, JudgementIsComplete, Passes}
 use Rattle.judgement_laws.proofs.Networks.{faults_exclude_networks}
 use Rattle.judgement_laws.proofs.Tables.{faults_exclude_tables}
 
@@ -54,8 +56,8 @@ goes_past Fails Tells Is Then Q a never rest (passed x is next) = rest x is next
 
 -- ---- each of the faults
 
-few_sets : (ts : List ComponentTable) (r : Refusal) → HaveFewSets ts → HaveNoParts 0 ts r → ⊥
-few_sets ts r few (i, first, is) = few i first.table (slice_get_within ts i first.table first.at) first.at first.many
+few_sets : (p : Content) (cs : List (Component Proc)) (r : Refusal) → HaveFewSets p cs → HaveNoParts p 0 cs r → ⊥
+few_sets p cs r few (i, first, is) = few i first.component (slice_get_within cs i first.component first.at) first.at first.many
 
 none_shared : (p : Content) (cs : List (Component Proc)) (s : Shortfall) → TripleDisjoint (alphabets cs) → ShareEvent p cs s → ⊥
 none_shared p cs s apart (e, i, j, k, triple, is) =
@@ -65,10 +67,8 @@ none_shared p cs s apart (e, i, j, k, triple, is) =
     let few : sharers (alphabets cs) e ≤ 2 = apart e in
     omega (arith, many, taken, all, few)
 
-none_stops : (network : Network) (shape : Shape) (s : Shortfall) → IsShapeOf (ProcessStep network.program) network.tree shape → AreBusy (ProcessStep network.program) (leaves network.tree)
-    → CanStop network.program shape s → ⊥
-none_stops network shape s is busy (i, trace, stops, tells) =
-    stops_refute shape i trace stops ((shapes_are_busy (ProcessStep network.program) network.tree shape is).1 busy)
+none_stops : (p : Content) (cs : List (Component Proc)) (s : Shortfall) → AreBusy (ProcessStep p) cs → CanStop p cs s → ⊥
+none_stops p cs s busy (i, trace, stops, tells) = busy i stops.component stops.listed trace stops.stops
 
 later_told : {C A : Type 0} (f : C → Outcome A) (xs : List C) (first : Outcome A) (more : Outcome (List A)) (ys : List A) → more ≡ all_outcomes f xs
     → and_then first (λ y. and_then more (λ zs. Ok (y ∷ zs))) ≡ Ok ys → ((y : A) × (first ≡ Ok y)) × ((zs : List A) × (all_outcomes f xs ≡ Ok zs))
@@ -122,11 +122,13 @@ one_note p cs rule.Resource (noted.Resource uses) noted.Cyclic a b = absurd b
 one_note p cs rule.Resource (noted.Resource uses) (noted.ClientServer roles) a b = absurd b
 one_note p cs rule.Resource (noted.Resource uses) (noted.Resource others) a b = ap noted.Resource (same_ok _ uses others a b)
 
-not_broken : (p : Content) (notes : NotedRule) (shape : Shape) (s : Shortfall) → Meets notes shape → BreaksRule p notes shape s → ⊥
-not_broken p notes shape s meets (f, breaks, tells) =
-    subst (λ (g : RuleFault). TellsRule p notes shape g s) (faults_refute notes shape f meets breaks) tells
+not_broken : (network : Network) (notes : NotedRule) (shape : Shape) (s : Shortfall) → IsShapeOf (ProcessStep network.program) network.tree shape
+    → NetworkMeets (ProcessStep network.program) (leaves network.tree) notes → BreaksRule network.program (leaves network.tree) notes s → ⊥
+not_broken network notes shape s is meets (f, breaks, tells) =
+    subst (λ (g : RuleFault). TellsRule network.program notes (outline (leaves network.tree)) g s)
+    (network_faults_refute (ProcessStep network.program) network.tree shape is notes f meets breaks) tells
 
--- ---- joined
+-- ---- a network that passes
 
 passes_here : (network : Network) (rule : Rule) (a : Answer) (script : Script) → IsNetworkOf script network → Passes network rule → IsJudged script rule a → status a ≡ 0
 unfolding IsJudged RuleDecides
@@ -134,14 +136,75 @@ passes_here network rule a script is passes judged =
     goes_past _ _ _ _ (status a ≡ 0) a (λ r fails tells. faults_exclude_networks script network r is fails) (λ other spelled judged'.
     let same = one_network script other network spelled is in
     let here : Passes other rule = subst (λ (n : Network). Passes n rule) (sym same) passes in
-    goes_past _ _ _ _ (status a ≡ 0) a (λ r fails tells. faults_exclude_tables other.program (leaves other.tree) here.tables 0 r here.are fails) (λ tables are judged1.
-    goes_past _ _ _ _ (status a ≡ 0) a (λ r fails tells. few_sets tables r (here.few tables are) fails) (λ parts by judged2.
-    goes_past _ _ _ _ (status a ≡ 0) a (λ s fails tells. none_shared other.program (leaves other.tree) s here.apart fails) (λ shape apart judged3.
-    goes_past _ _ _ _ (status a ≡ 0) a (λ s fails tells. none_stops other shape s apart.is here.busy fails) (λ unit busy judged4.
-    goes_past _ _ _ _ (status a ≡ 0) a (λ r fails tells. all_told other.program (leaves other.tree) rule here.notes r here.noted fails) (λ notes noted judged5.
-    goes_past _ _ _ _ (status a ≡ 0) a (λ s fails tells. not_broken other.program notes shape s
-    (subst (λ (n : NotedRule). Meets n shape) (one_note other.program (leaves other.tree) rule here.notes notes here.noted noted) (here.meets shape apart.is)) fails)
+    let p = other.program in
+    let cs = leaves other.tree in
+    goes_past _ _ _ _ (status a ≡ 0) a (λ r fails tells. faults_exclude_tables p cs here.tables 0 r here.are fails) (λ tables are judged1.
+    goes_past _ _ _ _ (status a ≡ 0) a (λ r fails tells. few_sets p cs r here.few fails) (λ parts by judged2.
+    goes_past _ _ _ _ (status a ≡ 0) a (λ s fails tells. none_shared p cs s here.apart fails) (λ shape apart judged3.
+    goes_past _ _ _ _ (status a ≡ 0) a (λ s fails tells. none_stops p cs s here.busy fails) (λ unit busy judged4.
+    goes_past _ _ _ _ (status a ≡ 0) a (λ r fails tells. all_told p cs rule here.notes r here.noted fails) (λ notes noted judged5.
+    goes_past _ _ _ _ (status a ≡ 0) a (λ s fails tells. not_broken other notes shape s apart.is
+    (subst (λ (n : NotedRule). NetworkMeets (ProcessStep p) cs n) (one_note p cs rule here.notes notes here.noted noted) here.meets) fails)
     (λ ranking ranked free. ap status free.is) judged5) judged4) judged3) judged2) judged1) judged') judged
 
 pub complete : JudgementIsComplete
 complete script network rule a is passes judged = passes_here network rule a script is passes judged
+
+-- ---- two answers
+
+-- Two answers at one point, where no fault is told of what stands there, and each that is told has the same status.
+both_here : {F X : Type 0} (Fails : F → Type 0) (Tells : F → Answer → Type 0) (Is Other : X → Type 0) (Then Next : X → Answer → Type 0) (n : ℕ) (a b : Answer)
+    → ((f : F) (c : Answer) → Tells f c → status c ≡ n) → ((f : F) (x : X) → Fails f → Is x → ⊥) → ((f : F) (x : X) → Fails f → Other x → ⊥)
+    → ((x y : X) → Is x → Other y → Then x a → Next y b → status a ≡ status b) → Point Fails Tells Is Then a → Point Fails Tells Other Next b → status a ≡ status b
+both_here Fails Tells Is Other Then Next n a b as_told never never' rest (told f fails tells) (told g fails' tells') = as_told f a tells ∙ sym (as_told g b tells')
+both_here Fails Tells Is Other Then Next n a b as_told never never' rest (told f fails tells) (passed y is' next') = absurd (never' f y fails is')
+both_here Fails Tells Is Other Then Next n a b as_told never never' rest (passed x is next) (told g fails' tells') = absurd (never g x fails' is)
+both_here Fails Tells Is Other Then Next n a b as_told never never' rest (passed x is next) (passed y is' next') = rest x y is is' next next'
+
+refused_two : (r : Refusal) (c : Answer) → c ≡ answer.Refused side.Script r → status c ≡ 2
+refused_two r c is = ap status is
+
+unproved_one : (s : Shortfall) (c : Answer) → c ≡ answer.NotProved s → status c ≡ 1
+unproved_one s c is = ap status is
+
+module _ (network : Network) (rule : Rule) (shape other : Shape) (is : IsShapeOf (ProcessStep network.program) network.tree shape)
+    (is' : IsShapeOf (ProcessStep network.program) network.tree other) (a b : Answer) where
+  rules_agree : RuleDecides network rule shape a → RuleDecides network rule other b → status a ≡ status b
+  unfolding RuleDecides
+  rules_agree decides decides' =
+      let p = network.program in
+      let cs = leaves network.tree in
+      both_here _ _ _ _ _ _ 2 a b refused_two (λ r notes fails noted. all_told p cs rule notes r noted fails) (λ r notes fails noted. all_told p cs rule notes r noted fails)
+      (λ notes others noted noted' next next'.
+      both_here _ _ _ _ _ _ 1 a b unproved_one
+      (λ s ranking fails ranked. not_broken network notes shape s is ranked.0 fails)
+      (λ s ranking fails ranked. not_broken network notes shape s is ranked.0 fails)
+      (λ ranking ranking' ranked ranked' free free'. ap status free.is ∙ sym (ap status free'.is))
+      next (subst (λ (n : NotedRule). UnprovedOr (BreaksRule p cs n) (IsRanked p cs n other) (λ ranking. IsDeadlockFree network rule other ranking) b)
+      (sym (one_note p cs rule notes others noted noted')) next')) decides decides'
+
+one_status : (script : Script) (rule : Rule) (a b : Answer) → IsJudged script rule a → IsJudged script rule b → status a ≡ status b
+unfolding IsJudged
+one_status script rule a b judged judged' =
+    both_here _ _ _ _ _ _ 2 a b refused_two (λ r n fails is. faults_exclude_networks script n r is fails) (λ r n fails is. faults_exclude_networks script n r is fails)
+    (λ network other is is' next next'.
+    let p = network.program in
+    let cs = leaves network.tree in
+    both_here _ _ _ _ _ _ 2 a b refused_two (λ r ts fails are. faults_exclude_tables p cs ts 0 r are fails) (λ r ts fails are. faults_exclude_tables p cs ts 0 r are fails)
+    (λ ts us are are' next1 next1'.
+    both_here _ _ _ _ _ _ 2 a b refused_two (λ r ps fails by. few_sets p cs r by.few fails) (λ r ps fails by. few_sets p cs r by.few fails)
+    (λ ps qs by by' next2 next2'.
+    both_here _ _ _ _ _ _ 1 a b unproved_one (λ s shape fails apart. none_shared p cs s apart.apart fails) (λ s shape fails apart. none_shared p cs s apart.apart fails)
+    (λ shape shape' apart apart' next3 next3'.
+    both_here _ _ _ _ _ _ 1 a b unproved_one (λ s u fails busy. none_stops p cs s busy fails) (λ s u fails busy. none_stops p cs s busy fails)
+    (λ u u' busy busy' next4 next4'. rules_agree network rule shape shape' apart.is apart'.is a b next4 next4')
+    next3 next3') next2 next2') next1 next1') next
+    (subst (λ (n : Network).
+    RefusedOr side.Script (HaveNoTables n.program 0 (leaves n.tree)) (AreTablesOf n.program (leaves n.tree)) (λ tables.
+    RefusedOr side.Script (HaveNoParts n.program 0 (leaves n.tree)) (ArePartsBy n.program (leaves n.tree)) (λ parts.
+    UnprovedOr (ShareEvent n.program (leaves n.tree)) (IsApart n) (λ shape.
+    UnprovedOr (CanStop n.program (leaves n.tree)) (λ (busy : Unit {0}). AreBusy (ProcessStep n.program) (leaves n.tree)) (λ busy.
+    RuleDecides n rule shape)))) b) (sym (one_network script network other is is')) next')) judged judged'
+
+pub each_script_has_one_status : EachScriptHasOneStatus
+each_script_has_one_status script rule a b judged judged' = one_status script rule a b judged judged'

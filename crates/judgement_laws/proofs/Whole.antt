@@ -36,7 +36,7 @@ pub record IsJudgedWhole (script : Script) (rule : Rule) (a : Answer) : Type 0 w
   pub notes : NotedRule
   pub noted : Notes network.program (leaves network.tree) rule notes
   pub ranking : Ranking
-  pub ranked : IsRanked notes shape ranking
+  pub ranked : IsRanked network.program (leaves network.tree) notes shape ranking
   pub free : IsDeadlockFree network rule shape ranking a
 
 -- What holds of each refusal, of each reason why a network is not proved, and where all was found, holds of the answer.

@@ -2,11 +2,10 @@
 use Rattle.std.specs.Prelude.{◌≡◌, List}
 use Rattle.csp_tables.specs.Network.{leaves}
 use Rattle.csp_tables.specs.Part.{TripleDisjoint}
-use Rattle.csp_tables.specs.Shape.{Shape}
-use Rattle.csp_tables.specs.ShapeOf.{AreBusy, IsShapeOf}
+use Rattle.csp_tables.specs.ShapeOf.{AreBusy}
 use Rattle.csp_tables.specs.declared.rule.Rule.{Rule}
 use Rattle.csp_text.specs.declared.script.Script.{Script}
-use Rattle.design_rules.specs.Rules.{Meets}
+use Rattle.design_rules.specs.NotedRules.{NetworkMeets}
 use Rattle.design_rules.specs.declared.noted_rule.NotedRule.{NotedRule}
 use Rattle.judgement.specs.Judged.{IsJudged}
 use Rattle.judgement.specs.Noted.{Notes}
@@ -25,12 +24,16 @@ use Rattle.report.specs.declared.answer.Answer.{Answer}
 pub record Passes (network : Network) (rule : Rule) : Type 0 where
   pub tables : List ComponentTable
   pub are : AreTablesOf network.program (leaves network.tree) tables
-  pub few : (ts : List ComponentTable) → AreTablesOf network.program (leaves network.tree) ts → HaveFewSets ts
+  pub few : HaveFewSets network.program (leaves network.tree)
   pub apart : TripleDisjoint (alphabets (leaves network.tree))
   pub busy : AreBusy (ProcessStep network.program) (leaves network.tree)
   pub notes : NotedRule
   pub noted : Notes network.program (leaves network.tree) rule notes
-  pub meets : (shape : Shape) → IsShapeOf (ProcessStep network.program) network.tree shape → Meets notes shape
+  pub meets : NetworkMeets (ProcessStep network.program) (leaves network.tree) notes
+
+-- Two answers to one script by one rule have the same status. (Where a definition leaves a choice, as of a trace, it is among answers of one status.)
+abbrev pub EachScriptHasOneStatus : Type 0
+EachScriptHasOneStatus = (script : Script) (rule : Rule) (a b : Answer) → IsJudged script rule a → IsJudged script rule b → status a ≡ status b
 
 -- the answer to a script whose network passes has the status 0
 abbrev pub JudgementIsComplete : Type 0
