@@ -61,8 +61,8 @@ module _ (p : Content) where
         excluded p c room made (local.Terminates (visible_events r.0)) table (record { term = x; after = (r.0, r.1, refl); ends = ticks }) in
         cc;
     whole = list_of x (steps_of p x) refl (λ why none.
-    let clash : local.Value why ≡ local.NoMemory = excluded p c room made (local.Value why) table (record { term = x; reached = r; none = none }) in
-    cc);
+        let clash : local.Value why ≡ local.NoMemory = excluded p c room made (local.Value why) table (record { term = x; reached = r; none = none }) in
+        cc);
   }
 
   pub all_go_on : (cs : List (Component Proc)) (ts : List ComponentTable) → AreTablesOf p cs ts → AllGoOn p cs
