@@ -1,3 +1,4 @@
+pub mod Completing
 pub mod Judging
 pub mod Loading
 pub mod Printing

@@ -10,7 +10,6 @@ use Rattle.command_words.specs.declared.request.Trial.{Trial}
 use Rattle.dl_outside.specs.declared.shelf.LoadFault.{LoadFault}
 use Rattle.dl_outside.specs.declared.shelf.LoadFault.TheVariants.{Missing, TooLong, Failed, NoMemory}
 use Rattle.dl_outside.specs.declared.texts.NamedText.{NamedText}
-use Rattle.dl_outside.specs.Texts.{text_of}
 use Rattle.report.specs.Points.Point.{passed, told}
 use Rattle.report.specs.Report.{status}
 use Rattle.report.specs.declared.answer.Answer.{Answer}
@@ -21,6 +20,7 @@ use Rattle.report.specs.declared.answer.Side.TheVariants as side
 use Rattle.dl_top.proofs.Judging.{IsInside, text_inside}
 use Rattle.dl_top.specs.Cause.{CallsFor, HoldsAll, HoldsAllNamed, Loaded, MayGive, Replies, ShelfSigns, TellsLoad, TextsCallFor, loads, quiet}
 use Rattle.dl_top.specs.Judgement.{TextCallsFor}
+use Rattle.dl_top.specs.Proved.{IsTextOf}
 use Rattle.dl_top.specs.Reply.{plain, reply_status, rule_of, trial_text}
 use Rattle.dl_top.specs.declared.reply.Reply.{Reply}
 
@@ -81,21 +81,26 @@ tells_zero s TooLong a is zero = let no : 2 ≡ 0 = sym (ap status is) ∙ zero 
 tells_zero s Failed a is zero = let no : 4 ≡ 0 = sym (ap status is) ∙ zero in cc
 tells_zero s NoMemory a is zero = absurd is
 
+-- a text that may be loaded may be that of the name
+is_text : (texts : Option (List NamedText)) (signs : ShelfSigns) (name text : List ℕ) → loads texts signs name (Ok text) → IsTextOf texts name text
+is_text (Some held) signs name text load = (load.0, load.1)
+is_text None signs name text load = load
+
 -- the text of a name, which decides with status 0
-pub record Held (texts : List NamedText) (name : List ℕ) (job : Job) (a : Answer) : Type 0 where
+pub record Held (texts : Option (List NamedText)) (name : List ℕ) (job : Job) (a : Answer) : Type 0 where
   pub text : List ℕ
-  pub held : text_of texts name ≡ Some text
+  pub held : IsTextOf texts name text
   pub calls : TextCallsFor text job a
 
-held_text : (texts : List NamedText) (signs : ShelfSigns) (name : List ℕ) (job : Job) (a : Answer)
-    → Loaded side.Script (Some texts) signs (name ∷ []) (TextsCallFor (request.Script job name)) a → status a ≡ 0 → Held texts name job a
+held_text : (texts : Option (List NamedText)) (signs : ShelfSigns) (name : List ℕ) (job : Job) (a : Answer)
+    → Loaded side.Script texts signs (name ∷ []) (TextsCallFor (request.Script job name)) a → status a ≡ 0 → Held texts name job a
 held_text texts signs name job a (told f load tells) zero = absurd (tells_zero side.Script f a tells zero)
-held_text texts signs name job a (passed text load calls) zero = record { text = text; held = load.0; calls = calls }
+held_text texts signs name job a (passed text load calls) zero = record { text = text; held = is_text texts signs name text load; calls = calls }
 
-pub held_script : (texts : List NamedText) (words : List (List ℕ)) (signs : ShelfSigns) (job : Job) (name : List ℕ) (reply : Reply) → Asks words (request.Script job name)
-    → MayGive (Some texts) words signs reply → reply_status reply ≡ 0 → (reply.trial ≡ None) × Held texts name job reply.answer
+pub held_script : (texts : Option (List NamedText)) (words : List (List ℕ)) (signs : ShelfSigns) (job : Job) (name : List ℕ) (reply : Reply) → Asks words (request.Script job name)
+    → MayGive texts words signs reply → reply_status reply ≡ 0 → (reply.trial ≡ None) × Held texts name job reply.answer
 held_script texts words signs job name reply asked given zero =
-    let replies = only (Some texts) signs words (request.Script job name) reply asked given in
+    let replies = only texts signs words (request.Script job name) reply asked given in
     (replies.trial, held_text texts signs name job reply.answer replies.calls zero)
 
 -- ---- faults outside
