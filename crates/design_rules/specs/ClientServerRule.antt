@@ -2,7 +2,7 @@
 -- the project's own). On each link one end is the client and the other the server. The client requests; where the link has
 -- acknowledgements, the server acknowledges before the next request. A server that takes requests takes all of them, and it
 -- takes none while it owes an acknowledgement; a client that awaits an acknowledgement takes each. No component is its own
--- client, by however many others.
+-- client, by however many others. (What is read of the shape is its alphabets, links and vocabulary alone.)
 use Rattle.std.specs.Prelude.{◌≡◌, ◌<◌, ◌⊎◌, ℕ, List, [], ◌∷◌, Bool, true, false, ◌||◌, ◌&&◌, IsTrue, length, if◌then◌else◌}
 use Rattle.std.specs.List.{list_any}
 use Rattle.csp_base.specs.Members.{has}
@@ -16,11 +16,11 @@ use Rattle.digraph.specs.Circle.{HasNoCircle}
 use Rattle.design_rules.specs.Assigned.{PartShared}
 use Rattle.design_rules.specs.Behaviours.{Behaviours}
 
--- S1: the part's four sets part the events that it shares
+-- S1: the four sets of the component part the events that it shares
 abbrev pub HasRoles : Shape → List RoleSets → ℕ → Type 0
 HasRoles shape roles i = PartShared shape i ((role_at roles i).creq ∷ (role_at roles i).cack ∷ (role_at roles i).sreq ∷ (role_at roles i).sack ∷ [])
 
--- On the link l the part i is the client and the part j the server: both tell the same requests and the same
+-- On the link l the component i is the client and the component j the server: both tell the same requests and the same
 -- acknowledgements, and of the other roles nothing is on the link.
 pub record IsClientOn (shape : Shape) (roles : List RoleSets) (l i j : ℕ) : Type 0 where
   pub requests : (e : ℕ) → IsTrue (has (link_at shape l).shared e) → has (role_at roles i).creq e ≡ has (role_at roles j).sreq e
@@ -46,18 +46,18 @@ is_request roles i e = has (role_at roles i).creq e || has (role_at roles i).sre
 abbrev pub is_acknowledgement : List RoleSets → ℕ → ℕ → Bool
 is_acknowledgement roles i e = has (role_at roles i).cack e || has (role_at roles i).sack e
 
--- S3: after the trace s, what is possible on a link of the part is a request where the link is closed, and an acknowledgement
+-- S3: after the trace s, what is possible on a link of the component is a request where the link is closed, and an acknowledgement
 -- where it is open
 abbrev pub TakesTurns : Shape → Behaviours → List RoleSets → ℕ → List ℕ → Type 0
 TakesTurns shape b roles i s = (l e : ℕ) → b.possible i s e → IsOn shape i l e → IsTrue (if is_open shape roles l s then is_acknowledgement roles i e else is_request roles i e)
 
--- S4: after the trace s, an acceptance in the vocabulary has all requests to the part or none of them, and none while a link on
--- which the part is the server is open
+-- S4: after the trace s, an acceptance in the vocabulary has all requests to the component or none of them, and none while a link on
+-- which the component is the server is open
 pub record ServesAll (shape : Shape) (b : Behaviours) (roles : List RoleSets) (i : ℕ) (s : List ℕ) : Type 0 where
   pub all_or_none : (M : List ℕ) → b.accepts i s M → IsWithin (role_at roles i).sreq M ⊎ AreApart M (role_at roles i).sreq
   pub none_while_open : (j l : ℕ) (M : List ℕ) → b.accepts i s M → Joins shape j i l → IsClientOn shape roles l j i → is_open shape roles l s ≡ true → AreApart M (role_at roles i).sreq
 
--- S5: after the trace s, while a link on which the part is the client is open, an acceptance in the vocabulary has all
+-- S5: after the trace s, while a link on which the component is the client is open, an acceptance in the vocabulary has all
 -- acknowledgements of that link
 abbrev pub TakesAnswers : Shape → Behaviours → List RoleSets → ℕ → List ℕ → Type 0
 TakesAnswers shape b roles i s = (j l : ℕ) (M : List ℕ) (e : ℕ) → b.accepts i s M → Joins shape i j l → IsClientOn shape roles l i j → is_open shape roles l s ≡ true → IsTrue (has (link_at shape l).shared e) → IsTrue (has (role_at roles i).cack e) → IsTrue (has M e)

@@ -16,7 +16,7 @@ pub record LacksRoles (shape : Shape) (roles : List RoleSets) (i : ℕ) : Type 0
   pub broken : HasRoles shape roles i → ⊥
   pub first : (j : ℕ) → j < i → HasRoles shape roles j
 
--- S2 is broken; the part is the left end of the first link that has no client
+-- S2 is broken; the component is the left end of the first link that has no client
 pub record LacksClient (shape : Shape) (roles : List RoleSets) (i : ℕ) : Type 0 where
   pub parted : (j : ℕ) → j < length shape.parts → HasRoles shape roles j
   pub link : ℕ
@@ -30,7 +30,7 @@ pub record HaveClients (shape : Shape) (roles : List RoleSets) : Type 0 where
   pub parted : (i : ℕ) → i < length shape.parts → HasRoles shape roles i
   pub linked : (l : ℕ) → l < length shape.links → HasClient shape roles l
 
--- The condition is the least that is broken, by the part i after the trace s. For S1 and S2 the trace is empty.
+-- The condition is the least that is broken, by the component i after the trace s. For S1 and S2 the trace is empty.
 abbrev pub BreaksRoles : Shape → Behaviours → List RoleSets → Condition → ℕ → List ℕ → Type 0
 BreaksRoles shape b roles condition.Roles i s = (s ≡ []) × LacksRoles shape roles i
 BreaksRoles shape b roles condition.Clients i s = (s ≡ []) × LacksClient shape roles i

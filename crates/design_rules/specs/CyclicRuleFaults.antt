@@ -6,12 +6,12 @@ use Rattle.digraph.specs.Circle.{IsLeastCircle}
 use Rattle.design_rules.specs.Behaviours.{Behaviours}
 use Rattle.design_rules.specs.CyclicRule.{BreaksOrder, KeepsPlaces, AllKeepPlaces, MustPrecede, CanBeNumbered, FallsShort, HasWholeEnd}
 
--- The part i is the first that goes through its links in no fixed order: the event e after the trace s shows it.
+-- The component i is the first that goes through its links in no fixed order: the event e after the trace s shows it.
 pub record HasNoOrder (shape : Shape) (b : Behaviours) (i : ℕ) (s : List ℕ) (e : ℕ) : Type 0 where
   pub breaks : BreaksOrder shape b i s e
   pub first : (j : ℕ) → j < i → KeepsPlaces shape b j
 
--- Each part has its order, and the orders disagree: each of the links must come before the next, and the last before the
+-- Each component has its order, and the orders disagree: each of the links must come before the next, and the last before the
 -- first.
 pub record OrdersDisagree (shape : Shape) (b : Behaviours) (links : List ℕ) : Type 0 where
   pub order : AllKeepPlaces shape b

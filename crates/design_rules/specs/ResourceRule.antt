@@ -1,7 +1,7 @@
 -- The rule of users and resources (after Martin 1996 and chapter 13 of Roscoe 1997; this exact form is the project's own). Each
 -- link joins a user and a resource. A resource that is free can be acquired by any of its users, and one that is held can be
 -- released by the user that holds it. A user acquires and releases each of its resources in turn. The resources can be
--- numbered so that users acquire in rising order.
+-- numbered so that users acquire in rising order. (What is read of the shape is its alphabets, links and vocabulary alone.)
 use Rattle.std.specs.Prelude.{◌≡◌, ◌<◌, ℕ, List, [], ◌∷◌, Bool, true, false, not, ◌&&◌, IsTrue, Option, Some, None, length, if◌then◌else◌}
 use Rattle.std.specs.List.{list_any}
 use Rattle.csp_base.specs.Members.{has}

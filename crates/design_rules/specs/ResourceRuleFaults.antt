@@ -10,7 +10,7 @@ use Rattle.design_rules.specs.declared.condition.Condition.{Condition}
 use Rattle.design_rules.specs.declared.condition.Condition.TheVariants as condition
 use Rattle.design_rules.specs.ResourceRule.{JoinsKinds, HasUses, HaveKinds, IsUsedInTurn, GrantsAll, UsesInTurn, KeepUses, IsHeldWhile}
 
--- What U1 asks of one part: a link counts as its left end, and a resource's sets as the resource.
+-- What U1 asks of one component: a link counts as its left end, and a resource's sets as the resource.
 pub record HasKind (shape : Shape) (uses : List UseSets) (i : ℕ) : Type 0 where
   pub linked : (l : ℕ) → l < length shape.links → (link_at shape l).left ≡ i → JoinsKinds shape uses l
   pub parted : HasUses shape uses i
@@ -21,7 +21,7 @@ pub record LacksKind (shape : Shape) (uses : List UseSets) (i : ℕ) : Type 0 wh
   pub broken : HasKind shape uses i → ⊥
   pub first : (j : ℕ) → j < i → HasKind shape uses j
 
--- U2, U3 and U4, of one part after one run
+-- U2, U3 and U4, of one component after one trace
 abbrev pub KeepsHolder : Shape → Behaviours → List UseSets → ℕ → List ℕ → Type 0
 KeepsHolder shape b uses i s = (use_at uses i).resource ≡ true → IsUsedInTurn shape b uses i s
 
@@ -31,7 +31,7 @@ KeepsGrants shape b uses i s = (use_at uses i).resource ≡ true → GrantsAll s
 abbrev pub KeepsTurns : Shape → Behaviours → List UseSets → ℕ → List ℕ → Type 0
 KeepsTurns shape b uses i s = (use_at uses i).resource ≡ false → UsesInTurn shape b uses i s
 
--- The condition is the least that is broken, by the part i after the trace s. For U1 the trace is empty.
+-- The condition is the least that is broken, by the component i after the trace s. For U1 the trace is empty.
 abbrev pub BreaksUses : Shape → Behaviours → List UseSets → Condition → ℕ → List ℕ → Type 0
 BreaksUses shape b uses condition.Kinds i s = (s ≡ []) × LacksKind shape uses i
 BreaksUses shape b uses condition.Holders i s = HaveKinds shape uses × IsFirstBroken b (KeepsHolder shape b uses) i s
