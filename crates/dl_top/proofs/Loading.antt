@@ -1,6 +1,5 @@
 -- Texts that are loaded, and the reply for which they call.
 use Rattle.std.proofs.Common.{◌≡◌, ℕ, List, [], ◌∷◌, Option, None, Some, Result, Ok, Err, IfNone, IfOk, IfSome, inl, inr, refl, sym, ap, subst, ◌∙◌}
-use Rattle.dl_limits.specs.declared.TheConstants.{MOST_BYTES}
 use Rattle.command_words.specs.Request.{Asks, IsNoRequest, names}
 use Rattle.command_words.proofs.AskOnce.{words_ask_once}
 use Rattle.command_words.specs.declared.request.Job.{Job}
@@ -11,7 +10,6 @@ use Rattle.command_words.specs.declared.request.Trial.{Trial}
 use Rattle.dl_outside.specs.declared.shelf.LoadFault.{LoadFault}
 use Rattle.dl_outside.specs.declared.shelf.LoadFault.TheVariants.{Missing, TooLong, Failed, NoMemory}
 use Rattle.dl_outside.specs.declared.texts.NamedText.{NamedText}
-use Rattle.dl_outside.specs.Load.{AnswersTold}
 use Rattle.dl_outside.specs.Texts.{text_of}
 use Rattle.report.specs.Points.Point.{passed, told}
 use Rattle.report.specs.Report.{status}
@@ -21,38 +19,38 @@ use Rattle.report.specs.declared.answer.OutsideFault.{OutsideFault}
 use Rattle.report.specs.declared.answer.Side.{Side}
 use Rattle.report.specs.declared.answer.Side.TheVariants as side
 use Rattle.dl_top.proofs.Judging.{IsInside, text_inside}
-use Rattle.dl_top.specs.Cause.{CallsFor, Gives, HoldsAll, HoldsAllNamed, Loaded, MayGive, Replies, ShelfSigns, TellsLoad, TextsCallFor, loads}
+use Rattle.dl_top.specs.Cause.{CallsFor, HoldsAll, HoldsAllNamed, Loaded, MayGive, Replies, ShelfSigns, TellsLoad, TextsCallFor, loads, quiet}
 use Rattle.dl_top.specs.Judgement.{TextCallsFor}
 use Rattle.dl_top.specs.Reply.{plain, reply_status, rule_of, trial_text}
 use Rattle.dl_top.specs.declared.reply.Reply.{Reply}
 
 -- a text that was loaded
-pub loaded : {E : Type 0} (May : List ℕ → Result (List ℕ) LoadFault → Type 0) (job : Job) (name text slice : List ℕ) (made : Result Reply E) → May name (Ok text) → slice ≡ text
-    → IfOk made (λ reply. (reply.trial ≡ None) × TextCallsFor slice job reply.answer) → IfOk made (Replies May (request.Script job name))
-loaded May job name text slice (Err e) load same calls = tt
-loaded May job name text slice (Ok reply) load same calls =
+pub loaded : {E : Type 0} (texts : Option (List NamedText)) (signs : ShelfSigns) (job : Job) (name text slice : List ℕ) (made : Result Reply E) → loads texts signs name (Ok text) → slice ≡ text
+    → IfOk made (λ reply. (reply.trial ≡ None) × TextCallsFor slice job reply.answer) → IfOk made (Replies texts signs (request.Script job name))
+loaded texts signs job name text slice (Err e) load same calls = tt
+loaded texts signs job name text slice (Ok reply) load same calls =
     record { trial = calls.0; calls = passed text load (subst (λ (t : List ℕ). TextCallsFor t job reply.answer) same calls.1) }
 
 -- one that was not
-pub unloaded : {E : Type 0} (May : List ℕ → Result (List ℕ) LoadFault → Type 0) (job : Job) (name : List ℕ) (f : LoadFault) (made : Result Reply E) → May name (Err f)
-    → IfOk made (λ reply. (reply.trial ≡ None) × TellsLoad side.Script f reply.answer) → IfOk made (Replies May (request.Script job name))
-unloaded May job name f (Err e) load tells = tt
-unloaded May job name f (Ok reply) load tells = record { trial = tells.0; calls = told f load tells.1 }
+pub unloaded : {E : Type 0} (texts : Option (List NamedText)) (signs : ShelfSigns) (job : Job) (name : List ℕ) (f : LoadFault) (made : Result Reply E) → loads texts signs name (Err f)
+    → IfOk made (λ reply. (reply.trial ≡ None) × TellsLoad side.Script f reply.answer) → IfOk made (Replies texts signs (request.Script job name))
+unloaded texts signs job name f (Err e) load tells = tt
+unloaded texts signs job name f (Ok reply) load tells = record { trial = tells.0; calls = told f load tells.1 }
 
 -- the reply to a request
-pub script_replies : {E : Type 0} (May : List ℕ → Result (List ℕ) LoadFault → Type 0) (r : Request) (job : Job) (name slice : List ℕ) (made : Result Reply E) → r ≡ request.Script job name → slice ≡ name
-    → IfOk made (Replies May (request.Script job slice)) → IfOk made (Replies May r)
-script_replies May r job name slice made is same replies =
-    subst (λ (q : Request). IfOk made (Replies May q)) (sym is) (subst (λ (n : List ℕ). IfOk made (Replies May (request.Script job n))) same replies)
+pub script_replies : {E : Type 0} (texts : Option (List NamedText)) (signs : ShelfSigns) (r : Request) (job : Job) (name slice : List ℕ) (made : Result Reply E) → r ≡ request.Script job name → slice ≡ name
+    → IfOk made (Replies texts signs (request.Script job slice)) → IfOk made (Replies texts signs r)
+script_replies texts signs r job name slice made is same replies =
+    subst (λ (q : Request). IfOk made (Replies texts signs q)) (sym is) (subst (λ (n : List ℕ). IfOk made (Replies texts signs (request.Script job n))) same replies)
 
-trial_is : {E : Type 0} (May : List ℕ → Result (List ℕ) LoadFault → Type 0) (trial : Trial) (made : Result Reply E)
-    → IfOk made (λ reply. (reply.trial ≡ Some trial) × TextCallsFor (trial_text trial) (Check (rule_of trial.family)) reply.answer) → IfOk made (Replies May (request.Trial trial))
-trial_is May trial (Err e) replies = tt
-trial_is May trial (Ok reply) replies = record { trial = replies.0; calls = replies.1 }
+trial_is : {E : Type 0} (texts : Option (List NamedText)) (signs : ShelfSigns) (trial : Trial) (made : Result Reply E)
+    → IfOk made (λ reply. (reply.trial ≡ Some trial) × TextCallsFor (trial_text trial) (Check (rule_of trial.family)) reply.answer) → IfOk made (Replies texts signs (request.Trial trial))
+trial_is texts signs trial (Err e) replies = tt
+trial_is texts signs trial (Ok reply) replies = record { trial = replies.0; calls = replies.1 }
 
-pub trial_replies : {E : Type 0} (May : List ℕ → Result (List ℕ) LoadFault → Type 0) (r : Request) (trial : Trial) (made : Result Reply E) → r ≡ request.Trial trial
-    → IfOk made (λ reply. (reply.trial ≡ Some trial) × TextCallsFor (trial_text trial) (Check (rule_of trial.family)) reply.answer) → IfOk made (Replies May r)
-trial_replies May r trial made is replies = subst (λ (q : Request). IfOk made (Replies May q)) (sym is) (trial_is May trial made replies)
+pub trial_replies : {E : Type 0} (texts : Option (List NamedText)) (signs : ShelfSigns) (r : Request) (trial : Trial) (made : Result Reply E) → r ≡ request.Trial trial
+    → IfOk made (λ reply. (reply.trial ≡ Some trial) × TextCallsFor (trial_text trial) (Check (rule_of trial.family)) reply.answer) → IfOk made (Replies texts signs r)
+trial_replies texts signs r trial made is replies = subst (λ (q : Request). IfOk made (Replies texts signs q)) (sym is) (trial_is texts signs trial made replies)
 
 pub names_one : (r : Request) (job : Job) (name : List ℕ) → r ≡ request.Script job name → names r ≡ [] → ⊥
 names_one r job name is none = let no : name ∷ [] ≡ [] = sym (ap names is) ∙ none in cc
@@ -61,20 +59,20 @@ names_one r job name is none = let no : name ∷ [] ≡ [] = sym (ap names is) �
 pub asks : (words : List (List ℕ)) (found : Option Request) (r : Request) → found ≡ Some r → IfSome found (Asks words) → Asks words r
 asks words found r is asked = subst (λ (o : Option Request). IfSome o (Asks words)) is asked
 
-pub gives : {E : Type 0} (May : List ℕ → Result (List ℕ) LoadFault → Type 0) (words : List (List ℕ)) (r : Request) (made : Result Reply E) → Asks words r
-    → IfOk made (Replies May r) → IfOk made (Gives May words)
-gives May words r (Err e) asked replies = tt
-gives May words r (Ok reply) asked replies = inr (r, asked, replies)
+pub gives : {E : Type 0} (texts : Option (List NamedText)) (signs : ShelfSigns) (words : List (List ℕ)) (r : Request) (made : Result Reply E) → Asks words r
+    → IfOk made (Replies texts signs r) → IfOk made (MayGive texts words signs)
+gives texts signs words r (Err e) asked replies = tt
+gives texts signs words r (Ok reply) asked replies = inr (r, asked, replies)
 
-pub gives_usage : (May : List ℕ → Result (List ℕ) LoadFault → Type 0) (words : List (List ℕ)) (found : Option Request) (reply : Reply) → found ≡ None
-    → IfNone found (IsNoRequest words) → reply ≡ plain answer.Usage → Gives May words reply
-gives_usage May words found reply is none same = inl (subst (λ (o : Option Request). IfNone o (IsNoRequest words)) is none, same)
+pub gives_usage : (texts : Option (List NamedText)) (signs : ShelfSigns) (words : List (List ℕ)) (found : Option Request) (reply : Reply) → found ≡ None
+    → IfNone found (IsNoRequest words) → reply ≡ plain answer.Usage → MayGive texts words signs reply
+gives_usage texts signs words found reply is none same = inl (subst (λ (o : Option Request). IfNone o (IsNoRequest words)) is none, same)
 
 -- ---- what the words ask for is the only request
 
-pub only : (May : List ℕ → Result (List ℕ) LoadFault → Type 0) (words : List (List ℕ)) (r : Request) (reply : Reply) → Asks words r → Gives May words reply → Replies May r reply
-only May words r reply asked (inl none) = absurd (none.0 r asked)
-only May words r reply asked (inr (s, asked', replies)) = subst (λ (q : Request). Replies May q reply) (words_ask_once words s r asked' asked) replies
+pub only : (texts : Option (List NamedText)) (signs : ShelfSigns) (words : List (List ℕ)) (r : Request) (reply : Reply) → Asks words r → MayGive texts words signs reply → Replies texts signs r reply
+only texts signs words r reply asked (inl none) = absurd (none.0 r asked)
+only texts signs words r reply asked (inr (s, asked', replies)) = subst (λ (q : Request). Replies texts signs q reply) (words_ask_once words s r asked' asked) replies
 
 -- a text that can't be loaded has no status 0
 tells_zero : (s : Side) (f : LoadFault) (a : Answer) → TellsLoad s f a → status a ≡ 0 → ⊥
@@ -90,14 +88,14 @@ pub record Held (texts : List NamedText) (name : List ℕ) (job : Job) (a : Answ
   pub calls : TextCallsFor text job a
 
 held_text : (texts : List NamedText) (signs : ShelfSigns) (name : List ℕ) (job : Job) (a : Answer)
-    → Loaded side.Script (loads (Some texts) signs) (name ∷ []) (TextsCallFor (request.Script job name)) a → status a ≡ 0 → Held texts name job a
+    → Loaded side.Script (Some texts) signs (name ∷ []) (TextsCallFor (request.Script job name)) a → status a ≡ 0 → Held texts name job a
 held_text texts signs name job a (told f load tells) zero = absurd (tells_zero side.Script f a tells zero)
 held_text texts signs name job a (passed text load calls) zero = record { text = text; held = load.0; calls = calls }
 
 pub held_script : (texts : List NamedText) (words : List (List ℕ)) (signs : ShelfSigns) (job : Job) (name : List ℕ) (reply : Reply) → Asks words (request.Script job name)
     → MayGive (Some texts) words signs reply → reply_status reply ≡ 0 → (reply.trial ≡ None) × Held texts name job reply.answer
 held_script texts words signs job name reply asked given zero =
-    let replies = only (loads (Some texts) signs) words (request.Script job name) reply asked given in
+    let replies = only (Some texts) signs words (request.Script job name) reply asked given in
     (replies.trial, held_text texts signs name job reply.answer replies.calls zero)
 
 -- ---- faults outside
@@ -116,28 +114,28 @@ plain_is reply x none is =
     let answers : record { trial = None; answer = reply.answer } ≡ plain x = ap (λ (a : Answer). record { trial = None; answer = a }) is in
     trials ∙ answers
 
-replies_fault : (May : List ℕ → Result (List ℕ) LoadFault → Type 0) (r : Request) (reply : Reply) → Replies May r reply → reply_status reply ≡ 4
+replies_fault : (texts : Option (List NamedText)) (signs : ShelfSigns) (r : Request) (reply : Reply) → Replies texts signs r reply → reply_status reply ≡ 4
     → (s : Side) × (f : OutsideFault) × (reply ≡ plain (answer.Outside s f))
-replies_fault May (request.Script job name) reply replies four =
+replies_fault texts signs (request.Script job name) reply replies four =
     let fault = outside reply.answer four in
     (fault.0, fault.1, plain_is reply (answer.Outside fault.0 fault.1) replies.trial fault.2)
-replies_fault May (request.Trial trial) reply replies four = absurd (text_inside (trial_text trial) (Check (rule_of trial.family)) reply.answer replies.calls four)
+replies_fault texts signs (request.Trial trial) reply replies four = absurd (text_inside (trial_text trial) (Check (rule_of trial.family)) reply.answer replies.calls four)
 
-pub shelf_fault : (May : List ℕ → Result (List ℕ) LoadFault → Type 0) (words : List (List ℕ)) (reply : Reply) → Gives May words reply → reply_status reply ≡ 4
+pub shelf_fault : (texts : Option (List NamedText)) (signs : ShelfSigns) (words : List (List ℕ)) (reply : Reply) → MayGive texts words signs reply → reply_status reply ≡ 4
     → (s : Side) × (f : OutsideFault) × (reply ≡ plain (answer.Outside s f))
-shelf_fault May words reply (inl none) four = absurd (let no : 3 ≡ 4 = sym (ap reply_status none.1) ∙ four in cc)
-shelf_fault May words reply (inr (r, asked, replies)) four = replies_fault May r reply replies four
+shelf_fault texts signs words reply (inl none) four = absurd (let no : 3 ≡ 4 = sym (ap reply_status none.1) ∙ four in cc)
+shelf_fault texts signs words reply (inr (r, asked, replies)) four = replies_fault texts signs r reply replies four
 
 -- where a text is held, it is no fault of the shelf
 held_text_inside : (texts : List NamedText) (job : Job) (name : List ℕ) (a : Answer) → HoldsAll texts (name ∷ [])
-    → Loaded side.Script (λ n. AnswersTold texts n MOST_BYTES ⊥) (name ∷ []) (TextsCallFor (request.Script job name)) a → IsInside a
+    → Loaded side.Script (Some texts) quiet (name ∷ []) (TextsCallFor (request.Script job name)) a → IsInside a
 held_text_inside texts job name a held (told Missing load tells) four = let no : None ≡ Some held.0.0 = sym load.0 ∙ held.0.1 in cc
 held_text_inside texts job name a held (told TooLong load tells) four = let no : 2 ≡ 4 = sym (ap status tells) ∙ four in cc
 held_text_inside texts job name a held (told Failed load tells) four = absurd load
 held_text_inside texts job name a held (told NoMemory load tells) four = absurd tells
 held_text_inside texts job name a held (passed text load calls) four = text_inside text job a calls four
 
-replies_inside : (texts : List NamedText) (r : Request) (reply : Reply) → HoldsAll texts (names r) → Replies (λ n. AnswersTold texts n MOST_BYTES ⊥) r reply → IsInside reply.answer
+replies_inside : (texts : List NamedText) (r : Request) (reply : Reply) → HoldsAll texts (names r) → Replies (Some texts) quiet r reply → IsInside reply.answer
 replies_inside texts (request.Script job name) reply held replies four = held_text_inside texts job name reply.answer held replies.calls four
 replies_inside texts (request.Trial trial) reply held replies four = text_inside (trial_text trial) (Check (rule_of trial.family)) reply.answer replies.calls four
 
@@ -148,29 +146,26 @@ held_not_four texts words reply held (inr (r, asked, replies)) four = replies_in
 -- ---- where no count rose, the reply is the one that the texts call for
 
 quiet_load : (texts : List NamedText) (signs : ShelfSigns) (name : List ℕ) (answered : Result (List ℕ) LoadFault) → ¬ signs.rose → loads (Some texts) signs name answered
-    → AnswersTold texts name MOST_BYTES ⊥ answered
-quiet_load texts signs name (Ok text) quiet load = (load.0, load.1, λ no. no)
-quiet_load texts signs name (Err Missing) quiet load = (load.0, λ no. no)
-quiet_load texts signs name (Err TooLong) quiet load = (load.0, λ no. no)
-quiet_load texts signs name (Err Failed) quiet load = absurd (quiet load)
-quiet_load texts signs name (Err NoMemory) quiet load = tt
+    → loads (Some texts) quiet name answered
+quiet_load texts signs name (Ok text) still load = (load.0, load.1, λ no. no)
+quiet_load texts signs name (Err Missing) still load = (load.0, λ no. no)
+quiet_load texts signs name (Err TooLong) still load = (load.0, λ no. no)
+quiet_load texts signs name (Err Failed) still load = absurd (still load)
+quiet_load texts signs name (Err NoMemory) still load = tt
 
-other_loads : (May Might : List ℕ → Result (List ℕ) LoadFault → Type 0) → ((name : List ℕ) (answered : Result (List ℕ) LoadFault) → May name answered → Might name answered)
-    → (s : Side) (ns : List (List ℕ)) (Then : List (List ℕ) → Answer → Type 0) (a : Answer) → Loaded s May ns Then a → Loaded s Might ns Then a
-other_loads May Might might s [] Then a calls = calls
-other_loads May Might might s (name ∷ ns) Then a (told f load tells) = told f (might name (Err f) load) tells
-other_loads May Might might s (name ∷ ns) Then a (passed text load calls) =
-    passed text (might name (Ok text) load) (other_loads May Might might side.Specification ns (λ texts. Then (text ∷ texts)) a calls)
+quiet_loads : (texts : List NamedText) (signs : ShelfSigns) → ¬ signs.rose → (s : Side) (ns : List (List ℕ)) (Then : List (List ℕ) → Answer → Type 0) (a : Answer)
+    → Loaded s (Some texts) signs ns Then a → Loaded s (Some texts) quiet ns Then a
+quiet_loads texts signs still s [] Then a calls = calls
+quiet_loads texts signs still s (name ∷ []) Then a (told f load tells) = told f (quiet_load texts signs name (Err f) still load) tells
+quiet_loads texts signs still s (name ∷ []) Then a (passed text load calls) = passed text (quiet_load texts signs name (Ok text) still load) calls
+quiet_loads texts signs still s (name ∷ next ∷ ns) Then a (told f load tells) = told f (quiet_load texts signs name (Err f) still load) tells
+quiet_loads texts signs still s (name ∷ next ∷ ns) Then a (passed text load calls) =
+    passed text load (quiet_loads texts signs still side.Specification (next ∷ ns) (λ others. Then (text ∷ others)) a calls)
 
 pub quiet_gives : (texts : List NamedText) (words : List (List ℕ)) (signs : ShelfSigns) (reply : Reply) → ¬ signs.rose → MayGive (Some texts) words signs reply → CallsFor texts words reply
-quiet_gives texts words signs reply quiet (inl none) = inl none
-quiet_gives texts words signs reply quiet (inr (r, asked, replies)) = inr (
+quiet_gives texts words signs reply still (inl none) = inl none
+quiet_gives texts words signs reply still (inr (r, asked, replies)) = inr (
   r,
   asked,
-  record {
-    trial = replies.trial;
-    calls =
-        other_loads (loads (Some texts) signs) (λ n. AnswersTold texts n MOST_BYTES ⊥) (λ name answered load. quiet_load texts signs name answered quiet load) side.Script (names r) (TextsCallFor r)
-        reply.answer replies.calls;
-  },
+  record { trial = replies.trial; calls = quiet_loads texts signs still side.Script (names r) (TextsCallFor r) reply.answer replies.calls },
 )

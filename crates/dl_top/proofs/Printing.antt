@@ -1,10 +1,9 @@
 -- What is printed of a reply, and how a call ends that sends it.
 use Rattle.std.proofs.Common.{◌≡◌, ℕ, List, Option, None, Some, Result, Ok, Err, IfOk, IfSome, inl, inr, refl, sym, ◌∙◌, subst}
 use Rattle.dl_outside.specs.Write.{GrowsBy}
-use Rattle.dl_outside.specs.declared.shelf.LoadFault.{LoadFault}
 use Rattle.dl_outside.specs.declared.texts.NamedText.{NamedText}
 use Rattle.dl_top.proofs.Loading.{quiet_gives, shelf_fault}
-use Rattle.dl_top.specs.Cause.{CallsFor, Gives, MayGive, ShelfSigns}
+use Rattle.dl_top.specs.Cause.{CallsFor, MayGive, ShelfSigns}
 use Rattle.dl_top.specs.Ending.{Ends, EndsInShelfFault, EndsWhole, GrowsByFront, SinkSigns}
 use Rattle.dl_top.specs.Printing.{Prints}
 use Rattle.dl_top.specs.Reply.{reply_status, reply_text}
@@ -33,10 +32,11 @@ module _ (Cause : Reply → Type 0) (sink : SinkSigns) (printed : Printed) (is :
   ends_short grew = inr (inr (inr (is.reply, is.cause, front grew), refl))
 
 -- the whole line of a fault of the shelf
-pub ends_in_shelf_fault : (May : List ℕ → Result (List ℕ) LoadFault → Type 0) (words : List (List ℕ)) (sink : SinkSigns) (printed : Printed) (is : Prints (Gives May words) printed)
-    (slice : List ℕ) → slice ≡ printed.text → GrowsBy sink.old sink.new slice → printed.status ≡ 4 → EndsInShelfFault (Gives May words) sink
-ends_in_shelf_fault May words sink printed is slice read grew four =
-    (is.reply, shelf_fault May words is.reply is.cause (sym is.status ∙ four), is.cause, whole (Gives May words) sink printed is slice read grew)
+pub ends_in_shelf_fault : (texts : Option (List NamedText)) (words : List (List ℕ)) (signs : ShelfSigns) (sink : SinkSigns) (printed : Printed)
+    (is : Prints (MayGive texts words signs) printed) (slice : List ℕ) → slice ≡ printed.text → GrowsBy sink.old sink.new slice → printed.status ≡ 4
+    → EndsInShelfFault (MayGive texts words signs) sink
+ends_in_shelf_fault texts words signs sink printed is slice read grew four =
+    (is.reply, shelf_fault texts signs words is.reply is.cause (sym is.status ∙ four), is.cause, whole (MayGive texts words signs) sink printed is slice read grew)
 
 -- Where no count rose, and the whole report was sent, it is that of the reply for which the texts call.
 pub settled : (texts : Option (List NamedText)) (words : List (List ℕ)) (signs : ShelfSigns) (sink : SinkSigns) (printed : Printed) (is : Prints (MayGive texts words signs) printed)

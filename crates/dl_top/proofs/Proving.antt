@@ -27,7 +27,7 @@ use Rattle.script_printer.specs.PrintedScript.{script_text}
 use Rattle.tabulation.proofs.Status.{tabulated_cases}
 use Rattle.tabulation.specs.Whole.{IsTabulatedWhole}
 use Rattle.dl_top.proofs.Loading.{held_script, only}
-use Rattle.dl_top.specs.Cause.{MayGive, ShelfSigns, loads}
+use Rattle.dl_top.specs.Cause.{MayGive, ShelfSigns}
 use Rattle.dl_top.specs.Judgement.{SpellsOnlyScript, TextCallsFor}
 use Rattle.dl_top.specs.Printing.{Prints}
 use Rattle.dl_top.specs.Proved.{IsProved, IsShown, IsTold, IsTried, SpellsDeadlockFree, SpellsOnlyNetwork}
@@ -165,7 +165,7 @@ module _ (old new : Option (List ℕ)) (reply : Reply) where
   is_tried : (texts : Option (List NamedText)) (words : List (List ℕ)) (signs : ShelfSigns) → MayGive texts words signs reply → reply_status reply ≡ 0
       → GrowsBy old new (reply_text reply) → AsksForTrial words → IsTried words old new
   is_tried texts words signs cause zero grew (trial, asks) =
-      let replies = only (loads texts signs) words (request.Trial trial) reply asks cause in
+      let replies = only texts signs words (request.Trial trial) reply asks cause in
       record {
         trial = trial;
         asked = asks;

@@ -5,7 +5,7 @@ use Rattle.dl_outside.specs.declared.shelf.LoadFault.{LoadFault}
 use Rattle.dl_outside.specs.declared.shelf.LoadFault.TheVariants as load
 use Rattle.dl_outside.specs.declared.texts.NamedText.{NamedText}
 use Rattle.dl_outside.specs.Count.{HasRisen}
-use Rattle.dl_outside.specs.Load.{AnswersTold, LoadAnswers}
+use Rattle.dl_outside.specs.Load.{LoadAnswers}
 use Rattle.dl_outside.specs.Texts.{text_of}
 use Rattle.command_words.specs.declared.request.Job.TheVariants.{Check}
 use Rattle.command_words.specs.declared.request.Request.{Request}
@@ -29,36 +29,6 @@ TellsLoad side load.TooLong answer = answer ≡ Refused side TooLong
 TellsLoad side load.Failed answer = answer ≡ Outside side NotRead
 TellsLoad side load.NoMemory answer = ⊥
 
--- Texts are loaded by their names, one after another, where a load of a name may give this. The first is of this side, each other the specification. A
--- text that can't be loaded is told; else the texts decide.
-abbrev pub Loaded : Side → (List ℕ → Result (List ℕ) LoadFault → Type 0) → List (List ℕ) → (List (List ℕ) → Answer → Type 0) → Answer → Type 0
-Loaded first Loads [] Then = Then []
-Loaded first Loads (name ∷ more) Then =
-    Point (λ f. Loads name (Err f)) (TellsLoad first) (λ text. Loads name (Ok text)) (λ text. Loaded side.Specification Loads more (λ texts. Then (text ∷ texts)))
-
--- what the texts of a request call for
-abbrev pub TextsCallFor : Request → List (List ℕ) → Answer → Type 0
-TextsCallFor (request.Script job name) [] answer = ⊥
-TextsCallFor (request.Script job name) (text ∷ []) answer = TextCallsFor text job answer
-TextsCallFor (request.Script job name) (text ∷ other ∷ more) answer = ⊥
-TextsCallFor (request.Trial trial) [] answer = TextCallsFor (trial_text trial) (Check (rule_of trial.family)) answer
-TextsCallFor (request.Trial trial) (text ∷ more) answer = ⊥
-
--- the reply to a request, where a load of a name may give this
-pub record Replies (Loads : List ℕ → Result (List ℕ) LoadFault → Type 0) (request : Request) (reply : Reply) : Type 0 where
-  pub trial : reply.trial ≡ trial_of request
-  pub calls : Loaded side.Script Loads (names request) (TextsCallFor request) reply.answer
-
--- the reply to words: they are no command, or ask for something
-abbrev pub Gives : (List ℕ → Result (List ℕ) LoadFault → Type 0) → List (List ℕ) → Reply → Type 0
-Gives Loads words reply =
-    (IsNoRequest words × (reply ≡ plain Usage))
-    ⊎ ((request : Request) × Asks words request × Replies Loads request reply)
-
--- Where the shelf holds these texts and neither it nor the sink has a fault, this is the reply.
-abbrev pub CallsFor : List NamedText → List (List ℕ) → Reply → Type 0
-CallsFor texts words reply = Gives (λ name. AnswersTold texts name MOST_BYTES ⊥) words reply
-
 -- What the shelf did in the call: whether its count of faults rose, and whether it took more bytes than the limit of a script.
 pub record ShelfSigns : Type 1 where
   pub rose : Type 0
@@ -71,13 +41,47 @@ shelf_signs faults_before faults_after taken_before taken_after = record {
   took_more = taken_before + MOST_BYTES < taken_after;
 }
 
+-- nothing rose
+abbrev pub quiet : ShelfSigns
+quiet = record { rose = ⊥; took_more = ⊥ }
+
 -- what a load of a name may give, where the shelf holds these texts or tells none
 abbrev pub loads : Option (List NamedText) → ShelfSigns → List ℕ → Result (List ℕ) LoadFault → Type 0
 loads texts signs name = LoadAnswers texts name MOST_BYTES signs.rose signs.took_more
 
--- The causes of a reply: a fault of the shelf shows in its counts. Where the shelf tells no texts, any other answer is what some texts call for.
+-- Texts are loaded by their names, one after another. The first is of this side, each other the specification. A text that can't be loaded is told; else
+-- the texts decide. What rose in the call rose at the last of its loads.
+abbrev pub Loaded : Side → Option (List NamedText) → ShelfSigns → List (List ℕ) → (List (List ℕ) → Answer → Type 0) → Answer → Type 0
+Loaded first texts signs [] Then = Then []
+Loaded first texts signs (name ∷ []) Then =
+    Point (λ f. loads texts signs name (Err f)) (TellsLoad first) (λ text. loads texts signs name (Ok text)) (λ text. Then (text ∷ []))
+Loaded first texts signs (name ∷ next ∷ more) Then =
+    Point (λ f. loads texts signs name (Err f)) (TellsLoad first) (λ text. loads texts quiet name (Ok text)) (λ text.
+    Loaded side.Specification texts signs (next ∷ more) (λ others. Then (text ∷ others)))
+
+-- what the texts of a request call for
+abbrev pub TextsCallFor : Request → List (List ℕ) → Answer → Type 0
+TextsCallFor (request.Script job name) [] answer = ⊥
+TextsCallFor (request.Script job name) (text ∷ []) answer = TextCallsFor text job answer
+TextsCallFor (request.Script job name) (text ∷ other ∷ more) answer = ⊥
+TextsCallFor (request.Trial trial) [] answer = TextCallsFor (trial_text trial) (Check (rule_of trial.family)) answer
+TextsCallFor (request.Trial trial) (text ∷ more) answer = ⊥
+
+-- the reply to a request
+pub record Replies (texts : Option (List NamedText)) (signs : ShelfSigns) (request : Request) (reply : Reply) : Type 0 where
+  pub trial : reply.trial ≡ trial_of request
+  pub calls : Loaded side.Script texts signs (names request) (TextsCallFor request) reply.answer
+
+-- The causes of a reply to words: they are no command, or ask for something. A fault of the shelf shows in its counts. Where the shelf tells no texts, any
+-- other answer is what some texts call for.
 abbrev pub MayGive : Option (List NamedText) → List (List ℕ) → ShelfSigns → Reply → Type 0
-MayGive texts words signs reply = Gives (loads texts signs) words reply
+MayGive texts words signs reply =
+    (IsNoRequest words × (reply ≡ plain Usage))
+    ⊎ ((request : Request) × Asks words request × Replies texts signs request reply)
+
+-- Where the shelf holds these texts and neither it nor the sink has a fault, this is the reply.
+abbrev pub CallsFor : List NamedText → List (List ℕ) → Reply → Type 0
+CallsFor texts words reply = MayGive (Some texts) words quiet reply
 
 -- The texts hold those of all names, and every one that the words name.
 abbrev pub HoldsAll : List NamedText → List (List ℕ) → Type 0

@@ -4,7 +4,7 @@ ghost use Rattle.std.specs.Prelude.{◌≡◌, ◌≤◌, [], None, Some, IfOk};
 ghost use Rattle.command_words.specs.declared.request.Job.TheVariants.{Check};
 ghost use Rattle.command_words.specs.declared.request.Request.TheVariants as asking;
 ghost use Rattle.command_words.specs.Request.{NamesNoScript, names};
-ghost use Rattle.dl_top.specs.Cause.{MayGive, Replies, TellsLoad, loads, shelf_signs};
+ghost use Rattle.dl_top.specs.Cause.{MayGive, Replies, TellsLoad, shelf_signs};
 ghost use Rattle.dl_top.specs.Judgement.{TextCallsFor};
 ghost use Rattle.dl_top.specs.Printing.{Prints};
 ghost use Rattle.dl_top.specs.Reply.{rule_of as family_rule, trial_text};
@@ -71,8 +71,8 @@ fn scripted<S: Shelf>(
     name: &[u8],
     shelf: &mut S,
 ) -> Result<Reply, NoMemory>
-    ensures cause { IfOk result (Replies (loads (S.texts shelf.old)
-        (shelf_signs (S.faults shelf.old) (S.faults shelf.new) (S.taken shelf.old) (S.taken shelf.new))) (asking.Script job name.now)) }
+    ensures cause { IfOk result (Replies (S.texts shelf.old)
+        (shelf_signs (S.faults shelf.old) (S.faults shelf.new) (S.taken shelf.old) (S.taken shelf.new)) (asking.Script job name.now)) }
     ensures texts_stay { S.texts shelf.new ≡ S.texts shelf.old }
     ensures faults_never_fall { S.faults shelf.old ≤ S.faults shelf.new }
     ensures taken_never_falls { S.taken shelf.old ≤ S.taken shelf.new }
@@ -85,8 +85,8 @@ fn scripted<S: Shelf>(
 
 // The reply to a request. Nothing is loaded where it names no script.
 fn requested<S: Shelf>(alloc: Global, request: Request, shelf: &mut S) -> Result<Reply, NoMemory>
-    ensures cause { IfOk result (Replies (loads (S.texts shelf.old)
-        (shelf_signs (S.faults shelf.old) (S.faults shelf.new) (S.taken shelf.old) (S.taken shelf.new))) request) }
+    ensures cause { IfOk result (Replies (S.texts shelf.old)
+        (shelf_signs (S.faults shelf.old) (S.faults shelf.new) (S.taken shelf.old) (S.taken shelf.new)) request) }
     ensures untouched { names request ≡ [] → shelf.new ≡ shelf.old }
     ensures texts_stay { S.texts shelf.new ≡ S.texts shelf.old }
     ensures faults_never_fall { S.faults shelf.old ≤ S.faults shelf.new }

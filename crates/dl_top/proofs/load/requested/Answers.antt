@@ -1,14 +1,14 @@
-use Rattle.dl_top.specs.Cause.{loads, shelf_signs}
+use Rattle.dl_top.specs.Cause.{shelf_signs}
 use Rattle.dl_top.proofs.Loading.{names_one, script_replies, trial_replies}
 use Rattle.dl_top.proofs.load.requested.Goals as goal
 
 pub returns-in-Trial-clause-cause : goal.returns-in-Trial-clause-cause
-returns-in-Trial-clause-cause g c = trial_replies _ c.args.request c.in-Trial.trial c.tried.result c.in-Trial.is c.tried.ensures
+returns-in-Trial-clause-cause g c = trial_replies _ _ c.args.request c.in-Trial.trial c.tried.result c.in-Trial.is c.tried.ensures
 
 pub returns-in-Script-clause-cause : goal.returns-in-Script-clause-cause
 returns-in-Script-clause-cause g c =
     let shelf = g.S.Shelf in
-    script_replies (loads (shelf.texts c.args.shelf.now) (shelf_signs (shelf.faults c.args.shelf.now) (shelf.faults c.scripted.new.shelf) (shelf.taken c.args.shelf.now) (shelf.taken c.scripted.new.shelf)))
+    script_replies (shelf.texts c.args.shelf.now) (shelf_signs (shelf.faults c.args.shelf.now) (shelf.faults c.scripted.new.shelf) (shelf.taken c.args.shelf.now) (shelf.taken c.scripted.new.shelf))
     c.args.request c.in-Script.job c.in-Script.name c.as_slice.result.now c.scripted.result c.in-Script.is c.as_slice.ensures c.scripted.ensures.cause
 
 pub returns-in-Script-clause-untouched : goal.returns-in-Script-clause-untouched

@@ -1,5 +1,5 @@
 use Rattle.std.proofs.Common.{Err, ap, ◌∙◌}
-use Rattle.dl_top.specs.Cause.{MayGive, loads, shelf_signs}
+use Rattle.dl_top.specs.Cause.{MayGive, shelf_signs}
 use Rattle.dl_top.specs.Ending.{sink_signs}
 use Rattle.dl_top.proofs.Printing.{ends_broken, ends_in_shelf_fault, ends_short, ends_whole, settled}
 use Rattle.dl_top.proofs.Proving.{proved, shown, told, tried}
@@ -51,7 +51,7 @@ pub returns-in-Ok-send-clause-shelf_fault : goal.returns-in-Ok-send-clause-shelf
 returns-in-Ok-send-clause-shelf_fault g c four quiet =
     let shelf = g.S.Shelf in
     let sink = g.O.Sink in
-    ends_in_shelf_fault (loads (shelf.texts c.args.shelf.now) (shelf_signs (shelf.faults c.args.shelf.now) (shelf.faults c.printed_reply.new.shelf) (shelf.taken c.args.shelf.now) (shelf.taken c.printed_reply.new.shelf))) c.args.words.now
+    ends_in_shelf_fault (shelf.texts c.args.shelf.now) c.args.words.now (shelf_signs (shelf.faults c.args.shelf.now) (shelf.faults c.printed_reply.new.shelf) (shelf.taken c.args.shelf.now) (shelf.taken c.printed_reply.new.shelf))
     (sink_signs (sink.sent c.args.out.now) (sink.sent c.send.new.out) (sink.faults c.args.out.now) (sink.faults c.send.new.out)) c.in-Ok.printed c.in-Ok.ensures.prints c.as_slice.result.now c.as_slice.ensures c.in-Ok-send.ensures.ok four
 
 pub returns-in-Err-Failed-clause-ends : goal.returns-in-Err-Failed-clause-ends
