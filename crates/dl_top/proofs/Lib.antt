@@ -1,5 +1,6 @@
 pub mod Judging
 pub mod Loading
+pub mod Pairs
 pub mod Printing
 pub mod Proving
 pub mod Sending
