@@ -7,7 +7,7 @@ use Rattle.net_maker.specs.declared.families.Family.TheVariants.{Chain, Forks, M
 use Rattle.command_words.specs.Request.{IsWithin, WordsAskOnce, written}
 use Rattle.command_words.specs.declared.request.Job.TheVariants.{Check, Show, Table}
 use Rattle.command_words.specs.declared.request.Request.{Request}
-use Rattle.command_words.specs.declared.request.Request.TheVariants.{Script, Trial as trial}
+use Rattle.command_words.specs.declared.request.Request.TheVariants.{Conform, Script, Trial as trial}
 use Rattle.command_words.specs.declared.request.Trial.{Trial}
 use Rattle.command_words.proofs.Digits.{same_number}
 use Rattle.command_words.proofs.Names.{apart, same_family, same_rule}
@@ -56,6 +56,17 @@ one_request (trial t) (trial u) a b is =
     let high = few u.family in
     let sizes = same_number t.size u.size (let top = a.1 in omega arith) (let top = b.1 in omega arith) (word 2 _ _ is) in
     ap trial (same_trial t u families sizes)
+one_request (Script (Check rule) name) (Conform script specification) a b is = absurd (differ 1 _ _ is (λ e. omega (arith, e)))
+one_request (Script Show name) (Conform script specification) a b is = absurd (differ 0 _ _ is (λ e. omega (arith, e)))
+one_request (Script (Table i) name) (Conform script specification) a b is = absurd (differ 0 _ _ is (λ e. omega (arith, e)))
+one_request (trial t) (Conform script specification) a b is = absurd (differ 0 _ _ is (λ e. omega (arith, e)))
+one_request (Conform script specification) (Script (Check rule) name) a b is = absurd (differ 1 _ _ is (λ e. omega (arith, e)))
+one_request (Conform script specification) (Script Show name) a b is = absurd (differ 0 _ _ is (λ e. omega (arith, e)))
+one_request (Conform script specification) (Script (Table i) name) a b is = absurd (differ 0 _ _ is (λ e. omega (arith, e)))
+one_request (Conform script specification) (trial t) a b is = absurd (differ 0 _ _ is (λ e. omega (arith, e)))
+one_request (Conform script specification) (Conform more other) a b is =
+    let scripts : script ≡ more = word 1 _ _ is in
+    let specifications : specification ≡ other = word 2 _ _ is in cc
 
 pub words_ask_once : WordsAskOnce
 words_ask_once words r s a b = one_request r s a.within b.within (sym a.are ∙ b.are)

@@ -10,12 +10,13 @@ use Rattle.command_words.specs.declared.request.Request.{Request}
 use Rattle.command_words.specs.declared.request.Request.TheVariants as request
 use Rattle.command_words.specs.declared.request.Trial.{Trial}
 
--- how a request is written: `check RULE SCRIPT`, `show SCRIPT`, `table SCRIPT INDEX` or `trial FAMILY N`
+-- how a request is written: `check RULE SCRIPT`, `show SCRIPT`, `table SCRIPT INDEX`, `trial FAMILY N` or `conform SCRIPT SPEC`
 abbrev pub written : Request → List (List ℕ)
 written (request.Script (Check rule) name) = codes "check" ∷ rule_text rule ∷ name ∷ []
 written (request.Script Show name) = codes "show" ∷ name ∷ []
 written (request.Script (Table i) name) = codes "table" ∷ name ∷ decimal i ∷ []
 written (request.Trial trial) = codes "trial" ∷ family_name trial.family ∷ decimal trial.size ∷ []
+written (request.Conform script specification) = codes "conform" ∷ script ∷ specification ∷ []
 
 -- an index has one to six digits, and a size is one that the family has
 abbrev pub IsWithin : Request → Type 0
@@ -23,6 +24,7 @@ IsWithin (request.Script (Check rule) name) = Unit {0}
 IsWithin (request.Script Show name) = Unit {0}
 IsWithin (request.Script (Table i) name) = i < 1000000
 IsWithin (request.Trial trial) = (least trial.family ≤ trial.size) × (trial.size ≤ greatest trial.family)
+IsWithin (request.Conform script specification) = Unit {0}
 
 pub record Asks (words : List (List ℕ)) (request : Request) : Type 0 where
   pub within : IsWithin request
@@ -32,10 +34,12 @@ pub record Asks (words : List (List ℕ)) (request : Request) : Type 0 where
 abbrev pub names : Request → List (List ℕ)
 names (request.Script job name) = name ∷ []
 names (request.Trial trial) = []
+names (request.Conform script specification) = script ∷ specification ∷ []
 
 abbrev pub trial_of : Request → Option Trial
 trial_of (request.Script job name) = None
 trial_of (request.Trial trial) = Some trial
+trial_of (request.Conform script specification) = None
 
 -- The words are no command.
 abbrev pub IsNoRequest : List (List ℕ) → Type 0
@@ -60,6 +64,10 @@ AsksForTable words = (i : ℕ) × (script : List ℕ) × Asks words (request.Scr
 -- The words ask for a trial.
 abbrev pub AsksForTrial : List (List ℕ) → Type 0
 AsksForTrial words = (trial : Trial) × Asks words (request.Trial trial)
+
+-- The words ask for a script to be held against its specification.
+abbrev pub AsksForConform : List (List ℕ) → Type 0
+AsksForConform words = (script : List ℕ) × (specification : List ℕ) × Asks words (request.Conform script specification)
 
 -- Words ask for one request at most.
 abbrev pub WordsAskOnce : Type 0

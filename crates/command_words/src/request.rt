@@ -28,6 +28,8 @@ const TABLE: &[u8] = b"table";
 
 const TRIAL: &[u8] = b"trial";
 
+const CONFORM: &[u8] = b"conform";
+
 /// What is to be done with a script.
 #[derive(Clone, Copy)]
 pub enum Job {
@@ -55,6 +57,8 @@ pub enum Request {
     Script(Job, Bytes),
     /// A network of a family is to be tried.
     Trial(Trial),
+    /// The network of the script of the first name is held against that of the second, its specification.
+    Conform(Bytes, Bytes),
 }
 
 // The rule of this name.
@@ -187,6 +191,28 @@ fn asked_trial(words: &[Bytes]) -> Option<Trial>
     }
 }
 
+// The names of the words `conform SCRIPT SPEC`.
+fn asked_conform(words: &[Bytes]) -> Option<(&[u8], &[u8])>
+    ensures asks { IfSome result (λ asked. Asks words.now (request.Conform asked.0.now asked.1.now)) }
+    ensures none { IfNone result ((script specification : List ℕ) → Asks words.now (request.Conform script specification) → ⊥) }
+{
+    match words {
+        [conform, script, specification] if conform.as_slice() == CONFORM => {
+            Some((script.as_slice(), specification.as_slice()))
+        }
+        _ => None,
+    }
+}
+
+// The request to hold the script of the first name against that of the second.
+fn conform_of(alloc: Global, script: &[u8], specification: &[u8]) -> Result<Request, NoMemory>
+    ensures { IfOk result (λ made. made ≡ request.Conform script.now specification.now) }
+{
+    let script = Bytes::from_slice(alloc, script)?;
+    let specification = Bytes::from_slice(alloc, specification)?;
+    Ok(Request::Conform(script, specification))
+}
+
 /// What the words ask for, if they ask for something.
 pub fn asked(alloc: Global, words: &Words) -> Result<Option<Request>, NoMemory>
     ensures asks { IfOk result (λ found. IfSome found (Asks words.now)) }
@@ -195,6 +221,10 @@ pub fn asked(alloc: Global, words: &Words) -> Result<Option<Request>, NoMemory>
     let words = words.as_slice();
     if let Some(trial) = asked_trial(words) {
         return Ok(Some(Request::Trial(trial)));
+    }
+    if let Some((script, specification)) = asked_conform(words) {
+        let request = conform_of(alloc, script, specification)?;
+        return Ok(Some(request));
     }
     let Some((job, script)) = asked_job(words) else {
         return Ok(None);

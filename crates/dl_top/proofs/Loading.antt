@@ -18,6 +18,7 @@ use Rattle.report.specs.declared.answer.OutsideFault.{OutsideFault}
 use Rattle.report.specs.declared.answer.Side.{Side}
 use Rattle.report.specs.declared.answer.Side.TheVariants as side
 use Rattle.dl_top.proofs.Judging.{IsInside, text_inside}
+use Rattle.dl_top.proofs.Pairs.{HeldBoth, held_both, held_pair_inside, is_text, tells_zero}
 use Rattle.dl_top.specs.Cause.{CallsFor, HoldsAll, HoldsAllNamed, Loaded, MayGive, Replies, ShelfSigns, TellsLoad, TextsCallFor, loads, quiet}
 use Rattle.dl_top.specs.Judgement.{TextCallsFor}
 use Rattle.dl_top.specs.Proved.{IsTextOf}
@@ -74,18 +75,6 @@ pub only : (texts : Option (List NamedText)) (signs : ShelfSigns) (words : List 
 only texts signs words r reply asked (inl none) = absurd (none.0 r asked)
 only texts signs words r reply asked (inr (s, asked', replies)) = subst (λ (q : Request). Replies texts signs q reply) (words_ask_once words s r asked' asked) replies
 
--- a text that can't be loaded has no status 0
-tells_zero : (s : Side) (f : LoadFault) (a : Answer) → TellsLoad s f a → status a ≡ 0 → ⊥
-tells_zero s Missing a is zero = let no : 4 ≡ 0 = sym (ap status is) ∙ zero in cc
-tells_zero s TooLong a is zero = let no : 2 ≡ 0 = sym (ap status is) ∙ zero in cc
-tells_zero s Failed a is zero = let no : 4 ≡ 0 = sym (ap status is) ∙ zero in cc
-tells_zero s NoMemory a is zero = absurd is
-
--- a text that may be loaded may be that of the name
-is_text : (texts : Option (List NamedText)) (signs : ShelfSigns) (name text : List ℕ) → loads texts signs name (Ok text) → IsTextOf texts name text
-is_text (Some held) signs name text load = (load.0, load.1)
-is_text None signs name text load = load
-
 -- the text of a name, which decides with status 0
 pub record Held (texts : Option (List NamedText)) (name : List ℕ) (job : Job) (a : Answer) : Type 0 where
   pub text : List ℕ
@@ -102,6 +91,12 @@ pub held_script : (texts : Option (List NamedText)) (words : List (List ℕ)) (s
 held_script texts words signs job name reply asked given zero =
     let replies = only texts signs words (request.Script job name) reply asked given in
     (replies.trial, held_text texts signs name job reply.answer replies.calls zero)
+
+pub held_scripts : (texts : Option (List NamedText)) (words : List (List ℕ)) (signs : ShelfSigns) (script specification : List ℕ) (reply : Reply) → Asks words (request.Conform script specification)
+    → MayGive texts words signs reply → reply_status reply ≡ 0 → (reply.trial ≡ None) × HeldBoth texts script specification reply.answer
+held_scripts texts words signs script specification reply asked given zero =
+    let replies = only texts signs words (request.Conform script specification) reply asked given in
+    (replies.trial, held_both texts signs script specification reply.answer replies.calls zero)
 
 -- ---- faults outside
 
@@ -124,6 +119,9 @@ replies_fault : (texts : Option (List NamedText)) (signs : ShelfSigns) (r : Requ
 replies_fault texts signs (request.Script job name) reply replies four =
     let fault = outside reply.answer four in
     (fault.0, fault.1, plain_is reply (answer.Outside fault.0 fault.1) replies.trial fault.2)
+replies_fault texts signs (request.Conform script specification) reply replies four =
+    let fault = outside reply.answer four in
+    (fault.0, fault.1, plain_is reply (answer.Outside fault.0 fault.1) replies.trial fault.2)
 replies_fault texts signs (request.Trial trial) reply replies four = absurd (text_inside (trial_text trial) (Check (rule_of trial.family)) reply.answer replies.calls four)
 
 pub shelf_fault : (texts : Option (List NamedText)) (signs : ShelfSigns) (words : List (List ℕ)) (reply : Reply) → MayGive texts words signs reply → reply_status reply ≡ 4
@@ -142,6 +140,7 @@ held_text_inside texts job name a held (passed text load calls) four = text_insi
 
 replies_inside : (texts : List NamedText) (r : Request) (reply : Reply) → HoldsAll texts (names r) → Replies (Some texts) quiet r reply → IsInside reply.answer
 replies_inside texts (request.Script job name) reply held replies four = held_text_inside texts job name reply.answer held replies.calls four
+replies_inside texts (request.Conform script specification) reply held replies four = held_pair_inside texts script specification reply.answer held replies.calls four
 replies_inside texts (request.Trial trial) reply held replies four = text_inside (trial_text trial) (Check (rule_of trial.family)) reply.answer replies.calls four
 
 pub held_not_four : (texts : List NamedText) (words : List (List ℕ)) (reply : Reply) → HoldsAllNamed texts words → CallsFor texts words reply → reply_status reply ≡ 4 → ⊥

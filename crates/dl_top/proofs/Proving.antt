@@ -1,7 +1,7 @@
 -- Status 0 has one cause under each request: the text spells exactly one network, which is free of deadlock; or exactly one script, which is shown; or
 -- the table of a component of exactly one network.
 use Rattle.std.proofs.Common.{◌≡◌, ℕ, List, ◌++◌, Option, None, Some, sym, ◌∙◌, ap, subst}
-use Rattle.command_words.specs.Request.{AsksForCheck, AsksForShow, AsksForTable, AsksForTrial}
+use Rattle.command_words.specs.Request.{AsksForCheck, AsksForConform, AsksForShow, AsksForTable, AsksForTrial}
 use Rattle.command_words.specs.declared.request.Job.TheVariants.{Check, Show, Table}
 use Rattle.command_words.specs.declared.request.Request.TheVariants as request
 use Rattle.command_words.specs.declared.request.Trial.{Trial}
@@ -25,11 +25,12 @@ use Rattle.report.specs.declared.answer.Side.TheVariants as side
 use Rattle.script_printer.specs.PrintedScript.{script_text}
 use Rattle.tabulation.proofs.Status.{tabulated_cases}
 use Rattle.tabulation.specs.Whole.{IsTabulatedWhole}
-use Rattle.dl_top.proofs.Loading.{held_script, only}
+use Rattle.dl_top.proofs.Loading.{held_script, held_scripts, only}
+use Rattle.dl_top.proofs.Pairs.{texts_cases}
 use Rattle.dl_top.specs.Cause.{MayGive, ShelfSigns}
-use Rattle.dl_top.specs.Judgement.{SpellsOnlyScript, TextCallsFor}
+use Rattle.dl_top.specs.Judgement.{HasNetwork, SpellsOnlyScript, TextCallsFor, TextsCompare}
 use Rattle.dl_top.specs.Printing.{Prints}
-use Rattle.dl_top.specs.Proved.{IsProved, IsShown, IsTold, IsTried, SpellsDeadlockFree, SpellsOnlyNetwork}
+use Rattle.dl_top.specs.Proved.{IsConformed, IsProved, IsShown, IsTold, IsTried, SpellsConforming, SpellsDeadlockFree, SpellsOnlyNetwork}
 use Rattle.dl_top.specs.Ranked.{IsRanked, IsTriedRanked, TellsRank}
 use Rattle.dl_top.specs.Reply.{heading_text, reply_status, reply_text, rule_of, trial_text}
 use Rattle.dl_top.specs.declared.reply.Printed.{Printed}
@@ -113,6 +114,25 @@ text_told text i a calls =
     deciding text (IsToldBy text i) _ _ (λ s b spells tabulated.
     tabulated_cases s i (IfZero (IsToldBy text i)) (refused (IsToldBy text i)) (λ d whole zero. record { script = s; spells = spells; whole = whole }) b tabulated) a calls
 
+-- the networks of two texts that were compared
+has_only_network : (text : List ℕ) (network : Network) → HasNetwork text network → SpellsOnlyNetwork text network
+has_only_network text network has = only_network text has.script network has.only has.is
+
+texts_conform : (text specification : List ℕ) (a : Answer) → TextsCompare text specification a → status a ≡ 0 → SpellsConforming text specification (report_text a)
+texts_conform text specification a compare zero =
+    texts_cases text specification (IfZero (λ b. SpellsConforming text specification (report_text b))) (λ s r zero. absurd (let no : 2 ≡ 0 = zero in cc)) (λ s zero. absurd (let no : 1 ≡ 0 = zero in cc)) (λ b whole zero. record {
+      network = whole.network;
+      spells = has_only_network text whole.network whole.has;
+      specified = whole.specified;
+      specifies = has_only_network specification whole.specified whole.specified_has;
+      events = whole.whole.events;
+      conform = whole.whole.conform;
+      bound = whole.whole.is.bound;
+      exact = whole.whole.is.exact;
+      inherits = whole.whole.is.inherits;
+      is = ap report_text whole.whole.is.is;
+    }) a compare zero
+
 -- the printed text of a script that a text spells
 printed_again : (text : List ℕ) (script : Script) → PrintedTextSpellsTheScript → PrintedTextSpellsNoOther → SpellsOnlyScript text script
     → SpellsOnlyScript (script_text script) script
@@ -179,6 +199,22 @@ module _ (old new : Option (List ℕ)) (reply : Reply) where
           again = printed_again there.1.text shown.script same other shown.spells;
         }
 
+    is_conformed : AsksForConform words → IsConformed texts words old new
+    is_conformed (script, specification, asks) =
+        let there = held_scripts texts words signs script specification reply asks cause zero in
+        record {
+          script = script;
+          specification = specification;
+          asked = asks;
+          text = there.1.text;
+          held = there.1.held;
+          specification_text = there.1.other;
+          specification_held = there.1.other_held;
+          report = report_text reply.answer;
+          conforming = texts_conform there.1.text there.1.other reply.answer there.1.compare zero;
+          printed = headed None there.0 grew;
+        }
+
     is_told : AsksForTable words → IsTold texts words old new
     is_told (i, name, asks) =
         let there = held_script texts words signs (Table i) name reply asks cause zero in
@@ -239,6 +275,9 @@ module _ (texts : Option (List NamedText)) (words : List (List ℕ)) (signs : Sh
 
   pub ranked : AsksForCheck words → IsRanked texts words old new
   ranked asks = is_ranked old new is.reply texts words signs is.cause (sym is.status ∙ zero) whole asks
+
+  pub conformed : AsksForConform words → IsConformed texts words old new
+  conformed asks = is_conformed old new is.reply texts words signs is.cause (sym is.status ∙ zero) whole asks
 
   pub told : AsksForTable words → IsTold texts words old new
   told asks = is_told old new is.reply texts words signs is.cause (sym is.status ∙ zero) whole asks

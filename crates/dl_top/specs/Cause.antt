@@ -18,7 +18,7 @@ use Rattle.report.specs.declared.answer.OutsideFault.TheVariants.{NotFound, NotR
 use Rattle.report.specs.declared.answer.Refusal.TheVariants.{TooLong}
 use Rattle.report.specs.declared.answer.Side.{Side}
 use Rattle.report.specs.declared.answer.Side.TheVariants as side
-use Rattle.dl_top.specs.Judgement.{TextCallsFor}
+use Rattle.dl_top.specs.Judgement.{TextCallsFor, TextsCompare}
 use Rattle.dl_top.specs.Reply.{plain, rule_of, trial_text}
 use Rattle.dl_top.specs.declared.reply.Reply.{Reply}
 
@@ -66,6 +66,10 @@ TextsCallFor (request.Script job name) (text ∷ []) answer = TextCallsFor text 
 TextsCallFor (request.Script job name) (text ∷ other ∷ more) answer = ⊥
 TextsCallFor (request.Trial trial) [] answer = TextCallsFor (trial_text trial) (Check (rule_of trial.family)) answer
 TextsCallFor (request.Trial trial) (text ∷ more) answer = ⊥
+TextsCallFor (request.Conform script specification) [] answer = ⊥
+TextsCallFor (request.Conform script specification) (text ∷ []) answer = ⊥
+TextsCallFor (request.Conform script specification) (text ∷ other ∷ []) answer = TextsCompare text other answer
+TextsCallFor (request.Conform script specification) (text ∷ other ∷ third ∷ more) answer = ⊥
 
 -- the reply to a request
 pub record Replies (texts : Option (List NamedText)) (signs : ShelfSigns) (request : Request) (reply : Reply) : Type 0 where

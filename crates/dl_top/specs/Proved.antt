@@ -2,6 +2,8 @@
 use Rattle.std.specs.Prelude.{◌≡◌, ◌≤◌, ℕ, ℤ, List, ◌++◌, length, map, Option, Some, None, slice_get}
 use Rattle.dl_limits.specs.declared.TheConstants.{MOST_BYTES}
 use Rattle.command_words.specs.Request.{Asks}
+use Rattle.comparison.specs.Agreement.{printed_events}
+use Rattle.comparison.specs.Conforming.{ComponentsConform}
 use Rattle.command_words.specs.declared.request.Job.TheVariants.{Check, Show, Table}
 use Rattle.command_words.specs.declared.request.Request.TheVariants as request
 use Rattle.command_words.specs.declared.request.Trial.{Trial}
@@ -19,7 +21,7 @@ use Rattle.judgement_laws.specs.Classes.{HaveClasses}
 use Rattle.judgement_laws.specs.Lasting.{AllGoOn}
 use Rattle.network_stages.specs.Networks.{HasSilentBound, IsLive, Network}
 use Rattle.process_steps.specs.ComponentStep.{ProcessStep}
-use Rattle.report.specs.Report.{deadlock_free_text, table_text}
+use Rattle.report.specs.Report.{conforms_text, deadlock_free_text, table_text}
 use Rattle.script_printer.specs.PrintedScript.{script_text}
 use Rattle.tabulation.specs.Printed.{printed_node}
 use Rattle.dl_top.specs.Judgement.{SpellsNetwork, SpellsOnlyScript}
@@ -98,3 +100,31 @@ pub record IsTold (texts : Option (List NamedText)) (words : List (List ℕ)) (o
   pub part : Part
   pub normal : IsPartOf (ProcessStep network.program) component part
   pub printed : GrowsBy old new (table_text i (length (leaves network.tree)) (map (printed_node network.program) part.table))
+
+-- Each of the two texts spells exactly one network. Both have the same list of printed events, and each component of the first conforms to the one in
+-- its place in the second. If the second network is live with some number, the first is live with the bound that the report prints, which is exactly its
+-- silent bound. (Where the second text was checked with status 0, its network is live.)
+pub record SpellsConforming (text specification report : List ℕ) : Type 0 where
+  pub network : Network
+  pub spells : SpellsOnlyNetwork text network
+  pub specified : Network
+  pub specifies : SpellsOnlyNetwork specification specified
+  pub events : printed_events network.program ≡ printed_events specified.program
+  pub conform : ComponentsConform network specified
+  pub bound : ℕ
+  pub exact : HasSilentBound network bound
+  pub inherits : (some : ℕ) → IsLive specified some → IsLive network bound
+  pub is : report ≡ conforms_text (length (leaves network.tree)) bound
+
+-- The words ask for a script to be held against its specification, and the texts of both are such. The sink, where it tells, grew by exactly the report.
+pub record IsConformed (texts : Option (List NamedText)) (words : List (List ℕ)) (old new : Option (List ℕ)) : Type 0 where
+  pub script : List ℕ
+  pub specification : List ℕ
+  pub asked : Asks words (request.Conform script specification)
+  pub text : List ℕ
+  pub held : IsTextOf texts script text
+  pub specification_text : List ℕ
+  pub specification_held : IsTextOf texts specification specification_text
+  pub report : List ℕ
+  pub conforming : SpellsConforming text specification_text report
+  pub printed : GrowsBy old new report

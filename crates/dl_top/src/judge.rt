@@ -3,19 +3,22 @@
 ghost use Rattle.std.specs.Prelude.{◌≡◌, IfErr, IfOk};
 ghost use Rattle.command_words.specs.declared.request.Job.TheVariants.{Check};
 ghost use Rattle.csp_tables.specs.declared.rule.Rule.{Rule as RuleValue};
+ghost use Rattle.network_stages.specs.Networks.{network_at};
 ghost use Rattle.report.specs.Report.{report_text, status};
 ghost use Rattle.report.specs.Stops.{Answers, Tells};
 ghost use Rattle.dl_top.specs.Complete.{SpellsPassing};
-ghost use Rattle.dl_top.specs.Judgement.{HasNoScript, ScriptDecides, SpellsOnlyScript, TextCallsFor};
-ghost use Rattle.dl_top.specs.Printing.{no_script};
+ghost use Rattle.dl_top.specs.Judgement.{HasNetwork, HasNoScript, ScriptDecides, SpellsNoNetwork, SpellsOnlyScript, TextCallsFor, TextsCompare};
+ghost use Rattle.dl_top.specs.Printing.{SpecificationSpellsNoNetwork, no_script};
 ghost use Rattle.dl_top.specs.Proved.{SpellsDeadlockFree};
 
 use command_words::Job;
+use comparison::compared;
 use csp_base::NoMemory;
 use csp_parser::{ParseFault, each_text_spells_one_script, read};
 use csp_text::Script;
 use judgement::judged;
-use report::{Answer, Done, Refusal, Stop, finished};
+use network_stages::{Spelled, spell_network};
+use report::{Answer, Done, Refusal, Side, Stop, finished, refused};
 use script_printer::print_script;
 use std::alloc::Global;
 use tabulation::tabulated;
@@ -84,4 +87,40 @@ pub fn judge(alloc: Global, job: Job, text: &[u8]) -> Result<Answer, NoMemory>
     ensures complete { IfOk result (λ answer. (rule : RuleValue) → job ≡ Check rule → SpellsPassing text.now rule → status answer ≡ 0) }
 {
     called_for(alloc, job, text)
+}
+
+// The network of the script that a text spells.
+fn spell(alloc: Global, text: &[u8]) -> Result<Spelled, Stop<Refusal>>
+    ensures ok { IfOk result (λ network. HasNetwork text.now (network_at network)) }
+    ensures told { IfErr result (Tells (SpellsNoNetwork text.now)) }
+{
+    let script = spell_script(alloc, text)?;
+    spell_network(alloc, &script)
+}
+
+// The network of the specification that a text spells.
+fn spell_specification(alloc: Global, text: &[u8]) -> Result<Spelled, Stop<Answer>>
+    ensures ok { IfOk result (λ network. HasNetwork text.now (network_at network)) }
+    ensures told { IfErr result (Tells (SpecificationSpellsNoNetwork text.now)) }
+{
+    match spell(alloc, text) {
+        Ok(network) => Ok(network),
+        Err(stop) => Err(refused(Side::Specification, stop)),
+    }
+}
+
+// The walk from the texts of a script and its specification to their answer.
+fn compared_texts(alloc: Global, text: &[u8], specification: &[u8]) -> Result<Done, Stop<Answer>>
+    ensures { Answers (TextsCompare text.now specification.now) result }
+{
+    let network = spell(alloc, text)?;
+    let specified = spell_specification(alloc, specification)?;
+    compared(alloc, &network, &specified)
+}
+
+/// The answer that the texts of a script and of its specification call for.
+pub fn judge_pair(alloc: Global, text: &[u8], specification: &[u8]) -> Result<Answer, NoMemory>
+    ensures { IfOk result (TextsCompare text.now specification.now) }
+{
+    finished(compared_texts(alloc, text, specification))
 }

@@ -5,11 +5,11 @@ ghost use Rattle.command_words.specs.declared.request.Job.TheVariants.{Check};
 ghost use Rattle.command_words.specs.declared.request.Request.TheVariants as asking;
 ghost use Rattle.command_words.specs.Request.{NamesNoScript, names};
 ghost use Rattle.dl_top.specs.Cause.{MayGive, Replies, TellsLoad, shelf_signs};
-ghost use Rattle.dl_top.specs.Judgement.{TextCallsFor};
-ghost use Rattle.dl_top.specs.Printing.{Prints};
+ghost use Rattle.dl_top.specs.Judgement.{TextCallsFor, TextsCompare};
+ghost use Rattle.dl_top.specs.Printing.{AnswersLast, Prints};
 ghost use Rattle.dl_top.specs.Reply.{rule_of as family_rule, trial_text};
 
-use crate::judge::judge;
+use crate::judge::{judge, judge_pair};
 use crate::reply::{Printed, Reply, print, rule_of};
 use command_words::{Job, Request, Trial, Words, asked};
 use csp_base::NoMemory;
@@ -83,6 +83,52 @@ fn scripted<S: Shelf>(
     }
 }
 
+// The reply for which the texts of a script and its specification call.
+fn compared_reply(alloc: Global, text: &[u8], specification: &[u8]) -> Result<Reply, NoMemory>
+    ensures { IfOk result (λ reply. (reply.trial ≡ None) × TextsCompare text.now specification.now reply.answer) }
+{
+    let answer = judge_pair(alloc, text, specification)?;
+    Ok(plain(answer))
+}
+
+// The reply to a request for the script of the first name and the specification of the second.
+fn conforming<S: Shelf>(
+    alloc: Global,
+    script: &[u8],
+    specification: &[u8],
+    shelf: &mut S,
+) -> Result<Reply, NoMemory>
+    ensures cause { IfOk result (Replies (S.texts shelf.old)
+        (shelf_signs (S.faults shelf.old) (S.faults shelf.new) (S.taken shelf.old) (S.taken shelf.new)) (asking.Conform script.now specification.now)) }
+    ensures texts_stay { S.texts shelf.new ≡ S.texts shelf.old }
+    ensures faults_never_fall { S.faults shelf.old ≤ S.faults shelf.new }
+    ensures taken_never_falls { S.taken shelf.old ≤ S.taken shelf.new }
+{
+    match shelf.load(alloc, script, MOST_BYTES) {
+        Ok(text) => against(alloc, text.as_slice(), specification, shelf),
+        Err(fault) => unloaded(Side::Script, fault),
+    }
+}
+
+// The same, where the text of the script is there.
+fn against<S: Shelf>(
+    alloc: Global,
+    text: &[u8],
+    specification: &[u8],
+    shelf: &mut S,
+) -> Result<Reply, NoMemory>
+    ensures cause { IfOk result (AnswersLast (S.texts shelf.old)
+        (shelf_signs (S.faults shelf.old) (S.faults shelf.new) (S.taken shelf.old) (S.taken shelf.new)) specification.now (TextsCompare text.now)) }
+    ensures texts_stay { S.texts shelf.new ≡ S.texts shelf.old }
+    ensures faults_never_fall { S.faults shelf.old ≤ S.faults shelf.new }
+    ensures taken_never_falls { S.taken shelf.old ≤ S.taken shelf.new }
+{
+    match shelf.load(alloc, specification, MOST_BYTES) {
+        Ok(other) => compared_reply(alloc, text, other.as_slice()),
+        Err(fault) => unloaded(Side::Specification, fault),
+    }
+}
+
 // The reply to a request. Nothing is loaded where it names no script.
 fn requested<S: Shelf>(alloc: Global, request: Request, shelf: &mut S) -> Result<Reply, NoMemory>
     ensures cause { IfOk result (Replies (S.texts shelf.old)
@@ -95,6 +141,9 @@ fn requested<S: Shelf>(alloc: Global, request: Request, shelf: &mut S) -> Result
     match request {
         Request::Trial(trial) => tried(alloc, trial),
         Request::Script(job, name) => scripted(alloc, job, name.as_slice(), shelf),
+        Request::Conform(script, specification) => {
+            conforming(alloc, script.as_slice(), specification.as_slice(), shelf)
+        }
     }
 }
 

@@ -3,10 +3,10 @@
 ghost use Rattle.std.specs.Prelude.{◌≡◌, ◌≢◌, ◌≤◌, IfSome};
 ghost use Rattle.dl_outside.specs.Count.{HasRisen};
 ghost use Rattle.dl_top.specs.Cause.{CallsFor, MayGive, shelf_signs};
-ghost use Rattle.command_words.specs.Request.{AsksForCheck, AsksForShow, AsksForTable, AsksForTrial, NamesNoScript};
+ghost use Rattle.command_words.specs.Request.{AsksForCheck, AsksForConform, AsksForShow, AsksForTable, AsksForTrial, NamesNoScript};
 ghost use Rattle.dl_top.specs.Ending.{Ends, EndsInShelfFault, EndsWhole, sink_signs};
 ghost use Rattle.dl_top.specs.Complete.{AsksForPassing};
-ghost use Rattle.dl_top.specs.Proved.{IsProved, IsShown, IsTold, IsTried};
+ghost use Rattle.dl_top.specs.Proved.{IsConformed, IsProved, IsShown, IsTold, IsTried};
 ghost use Rattle.dl_top.specs.Ranked.{IsRanked, IsTriedRanked};
 
 use crate::load::printed_reply;
@@ -46,6 +46,10 @@ pub fn dl_main<S: Shelf, O: Sink>(alloc: Global, words: &Words, shelf: &mut S, o
 
     // Where the table of a component is printed with status 0, it is exactly the component's normal table.
     ensures told { AsksForTable words.now → result ≡ 0 → IsTold (S.texts shelf.old) words.now (O.sent out.old) (O.sent out.new) }
+
+    // Where a script is held against its specification with status 0, each component of its network conforms to the one in its place in that of the
+    // specification, and if that is live, so is the network.
+    ensures conformed { AsksForConform words.now → result ≡ 0 → IsConformed (S.texts shelf.old) words.now (O.sent out.old) (O.sent out.new) }
 
     // Each reply has its cause. A front of a report is sent only where the sink has a fault or memory runs out.
     ensures ends { Ends

@@ -73,3 +73,5 @@ refusal_text s (refusal.Network fault) = network_text fault
 refusal_text s (refusal.Component i fault) = component_text i fault
 refusal_text s (refusal.NoComponent n) = codes "35 there are " ++ decimal n ++ codes " components"
 refusal_text s refusal.TooLong = codes "36 " ++ side_name s ++ codes " is too long"
+refusal_text s (refusal.DifferentEvents n) = codes "41 the events differ at number " ++ decimal n
+refusal_text s (refusal.DifferentComponents i) = codes "42 components differ at " ++ decimal i

@@ -57,13 +57,18 @@ abbrev pub outside_text : Side → OutsideFault → List ℕ
 outside_text side outside.NotFound = codes "outside fault: " ++ side_name side ++ codes " not found"
 outside_text side outside.NotRead = codes "outside fault: " ++ side_name side ++ codes " not read"
 
+-- the report of a network whose components conform to its specification
+abbrev pub conforms_text : (components bound : ℕ) → List ℕ
+conforms_text components bound = line (codes "conforms") ++ line (codes "components " ++ decimal components) ++ line (codes "silent bound " ++ decimal bound)
+
 abbrev pub done_text : Done → List ℕ
 done_text (done.Shown text) = text
 done_text (done.Table i count nodes) = table_text i count nodes
 done_text (done.DeadlockFree rule components nodes bound rank) = deadlock_free_text rule components nodes bound rank
+done_text (done.Conforms components bound) = conforms_text components bound
 
 abbrev pub report_text : Answer → List ℕ
-report_text answer.Usage = line (codes "usage: dlcheck check RULE SCRIPT | show SCRIPT | table SCRIPT INDEX | trial FAMILY N")
+report_text answer.Usage = line (codes "usage: dlcheck check RULE SCRIPT | show SCRIPT | table SCRIPT INDEX | trial FAMILY N | conform SCRIPT SPEC")
 report_text (answer.Outside side fault) = line (outside_text side fault)
 report_text (answer.Refused side refusal) = line (codes "refused") ++ side_line side ++ line (refusal_text side refusal)
 report_text (answer.NotProved shortfall) = line (codes "not proved") ++ shortfall_text shortfall

@@ -55,3 +55,5 @@ shortfall_text (shortfall.NoFullEnd left right left_trace right_trace) =
 shortfall_text (shortfall.Broken k i trace) = line (condition_text k i trace)
 shortfall_text (shortfall.ClientsCircle components) = line (codes "27 clients in a circle" ++ numbers_text components)
 shortfall_text (shortfall.ResourcesCircle components) = line (codes "29 resources in a circle" ++ numbers_text components)
+shortfall_text (shortfall.Outside i trace) = line (codes "43 component " ++ decimal i ++ codes " does " ++ trace_text trace ++ codes " outside its specification")
+shortfall_text (shortfall.Refuses i trace) = line (codes "44 component " ++ decimal i ++ codes " refuses too much after " ++ trace_text trace)

@@ -182,6 +182,16 @@ pub enum Refusal {
         /// How many components there are.
         count: u32,
     },
+    /// The events of a script and of its specification differ (41).
+    DifferentEvents {
+        /// The least number at which the lists of their printed events differ.
+        number: u32,
+    },
+    /// A component is in one network only, or has not the alphabet of the one in its place (42).
+    DifferentComponents {
+        /// The least such component.
+        component: u32,
+    },
 }
 
 // By hand, so that a crate that ends one calls this and proves no end of its own.
@@ -206,6 +216,10 @@ impl Drop for Refusal {
                 fault: _fault,
             } => {}
             Refusal::NoComponent { count: _count } => {}
+            Refusal::DifferentEvents { number: _number } => {}
+            Refusal::DifferentComponents {
+                component: _component,
+            } => {}
         }
     }
 }
@@ -270,6 +284,20 @@ pub enum Shortfall {
         /// The resources.
         components: Items<u32>,
     },
+    /// A component does what its specification does not (43).
+    Outside {
+        /// The component.
+        component: u32,
+        /// What it does; without the last event its specification does it too.
+        trace: Items<Bytes>,
+    },
+    /// A component can come to offer less than its specification has to (44).
+    Refuses {
+        /// The component.
+        component: u32,
+        /// Events after which it can.
+        trace: Items<Bytes>,
+    },
 }
 
 // By hand, so that a crate that ends one calls this and proves no end of its own.
@@ -306,6 +334,14 @@ impl Drop for Shortfall {
             } => {}
             Shortfall::ResourcesCircle {
                 components: _components,
+            } => {}
+            Shortfall::Outside {
+                component: _component,
+                trace: _trace,
+            } => {}
+            Shortfall::Refuses {
+                component: _component,
+                trace: _trace,
             } => {}
         }
     }
@@ -358,6 +394,13 @@ pub enum Done {
         /// The greatest rank, 0 where there is none.
         greatest_rank: i64,
     },
+    /// Each component of the network conforms to the one in its place in the specification.
+    Conforms {
+        /// How many components the network has.
+        components: u32,
+        /// The greatest number of silent steps of the network in a row.
+        bound: u32,
+    },
 }
 
 // By hand, so that a crate that ends one calls this and proves no end of its own.
@@ -376,6 +419,10 @@ impl Drop for Done {
                 nodes: _nodes,
                 bound: _bound,
                 greatest_rank: _greatest_rank,
+            } => {}
+            Done::Conforms {
+                components: _components,
+                bound: _bound,
             } => {}
         }
     }

@@ -265,5 +265,11 @@ pub(crate) fn refusal_line(alloc: Global, side: Side, refusal: &Refusal) -> Resu
             between(alloc, b"35 there are ", u64::from(*count), b" components")
         }
         Refusal::TooLong => too_long(alloc, side),
+        Refusal::DifferentEvents { number } => {
+            numbered(alloc, b"41 the events differ at number ", *number)
+        }
+        Refusal::DifferentComponents { component } => {
+            numbered(alloc, b"42 components differ at ", *component)
+        }
     }
 }

@@ -6,7 +6,7 @@ ghost use Rattle.std.specs.Fmt.{decimal};
 ghost use Rattle.report.specs.Refusals.{refusal_text};
 ghost use Rattle.report.specs.Sides.{side_line};
 ghost use Rattle.report.specs.Shortfalls.{shortfall_text};
-ghost use Rattle.report.specs.Report.{accept_text, deadlock_free_text, done_text, next_text, node_text, nodes_text, outside_text, report_text, status, table_text};
+ghost use Rattle.report.specs.Report.{accept_text, conforms_text, deadlock_free_text, done_text, next_text, node_text, nodes_text, outside_text, report_text, status, table_text};
 ghost use Rattle.csp_base.specs.Texts.{line};
 
 use crate::answer::{Answer, Done, OutsideFault, PrintedNode, Refusal, Shortfall, Side};
@@ -207,6 +207,22 @@ fn deadlock_free(
     Ok(made)
 }
 
+// The report of a network whose components conform to its specification.
+fn conforms(alloc: Global, components: u32, bound: u32) -> Result<Bytes, NoMemory>
+    ensures { IfOk result (λ made. made ≡ conforms_text components bound) }
+{
+    let made = written_line(
+        alloc,
+        &[
+            Part::Text(b"conforms\ncomponents "),
+            Part::Number(u64::from(components)),
+            Part::Text(b"\nsilent bound "),
+            Part::Number(u64::from(bound)),
+        ],
+    )?;
+    Ok(made)
+}
+
 // The report where the text of this side is refused.
 fn refused(alloc: Global, side: Side, refusal: &Refusal) -> Result<Bytes, NoMemory>
     ensures { IfOk result (λ made. made ≡ line (codes "refused") ++ side_line side ++ line (refusal_text side refusal.now)) }
@@ -275,6 +291,7 @@ fn done(alloc: Global, done: &Done) -> Result<Bytes, NoMemory>
             bound,
             greatest_rank,
         } => deadlock_free(alloc, *rule, *components, *nodes, *bound, *greatest_rank),
+        Done::Conforms { components, bound } => conforms(alloc, *components, *bound),
     }
 }
 
@@ -285,7 +302,7 @@ pub fn report_of(alloc: Global, answer: &Answer) -> Result<Bytes, NoMemory>
     match answer {
         Answer::Usage => one_line(
             alloc,
-            b"usage: dlcheck check RULE SCRIPT | show SCRIPT | table SCRIPT INDEX | trial FAMILY N",
+            b"usage: dlcheck check RULE SCRIPT | show SCRIPT | table SCRIPT INDEX | trial FAMILY N | conform SCRIPT SPEC",
         ),
         Answer::Outside(side, fault) => outside(alloc, *side, *fault),
         Answer::Refused(side, refusal) => refused(alloc, *side, refusal),

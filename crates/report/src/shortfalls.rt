@@ -80,6 +80,23 @@ fn order<'a>(
     Ok(made)
 }
 
+// The line of a component that does what its specification does not.
+fn outside<'a>(alloc: Global, component: u32, trace: &'a [Bytes]) -> Result<Bytes, NoMemory>
+    ensures { IfOk result (λ made. made
+        ≡ line (codes "43 component " ++ decimal component ++ codes " does " ++ trace_text trace.now ++ codes " outside its specification")) }
+{
+    written_line(
+        alloc,
+        &[
+            Part::Text(b"43 component "),
+            Part::Number(u64::from(component)),
+            Part::Text(b" does "),
+            Part::Trace(trace),
+            Part::Text(b" outside its specification"),
+        ],
+    )
+}
+
 // Adds the line of a link.
 fn push_link(alloc: Global, report: &mut Bytes, link: &(u32, u32)) -> Result<(), NoMemory>
     ensures { OnOk result (report.new ≡ report.old ++ line (link_text link.now)) }
@@ -269,5 +286,13 @@ pub(crate) fn shortfall_lines(alloc: Global, shortfall: &Shortfall) -> Result<By
         Shortfall::ResourcesCircle { components } => {
             circle(alloc, b"29 resources in a circle", components.as_slice())
         }
+        Shortfall::Outside { component, trace } => outside(alloc, *component, trace.as_slice()),
+        Shortfall::Refuses { component, trace } => after(
+            alloc,
+            b"44 component ",
+            *component,
+            b" refuses too much after ",
+            trace.as_slice(),
+        ),
     }
 }

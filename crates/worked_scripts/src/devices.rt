@@ -23,6 +23,12 @@ const GREAT_MESH: [&[u8]; 3] = [b"trial", b"mesh", b"23"];
 
 const SHOW: [&[u8]; 2] = [b"show", b"one.csp"];
 
+const CONFORM: [&[u8]; 3] = [b"conform", b"one.csp", b"one.csp"];
+
+const CONFORM_TO_NONE: [&[u8]; 3] = [b"conform", b"one.csp", b"none.csp"];
+
+const CONFORM_NONE: [&[u8]; 3] = [b"conform", b"none.csp", b"none.csp"];
+
 /// A shelf that holds this text and fails at these calls.
 fn failing_shelf(alloc: Global, text: &[u8], failing: &[u32]) -> Result<MemoryShelf, NoMemory> {
     let mut shelf = MemoryShelf::new(alloc, failing.to_vec(alloc)?);
@@ -222,9 +228,50 @@ fn push_no_commands(alloc: Global, lines: &mut Bytes) -> Result<(), NoMemory> {
     )
 }
 
+/// Adds what is answered where a script is held against its specification, and one of the two can't be had.
+fn push_conforming(alloc: Global, lines: &mut Bytes) -> Result<(), NoMemory> {
+    push_failing_shelf(alloc, lines, b"conform where no load fails", &CONFORM, &[])?;
+    push_failing_shelf(
+        alloc,
+        lines,
+        b"conform where the first load fails",
+        &CONFORM,
+        &[1],
+    )?;
+    push_failing_shelf(
+        alloc,
+        lines,
+        b"conform where the second load fails",
+        &CONFORM,
+        &[2],
+    )?;
+    push_failing_shelf(
+        alloc,
+        lines,
+        b"conform where both loads fail",
+        &CONFORM,
+        &[1, 2],
+    )?;
+    push_failing_shelf(
+        alloc,
+        lines,
+        b"conform to a specification that is not there",
+        &CONFORM_TO_NONE,
+        &[],
+    )?;
+    push_failing_shelf(
+        alloc,
+        lines,
+        b"conform of a script that is not there",
+        &CONFORM_NONE,
+        &[],
+    )
+}
+
 /// Adds what is answered over shelves and over sinks. The text is one of users and resources.
 pub fn push_devices(alloc: Global, lines: &mut Bytes, text: &[u8]) -> Result<(), NoMemory> {
     push_failing_shelves(alloc, lines)?;
+    push_conforming(alloc, lines)?;
     push_no_commands(alloc, lines)?;
     push_quiet_shelf(
         alloc,

@@ -1,9 +1,10 @@
-//! Runs the commands on texts that stand in files, and prints what they answer: `worked_scripts TEXTS SCRIPT ROWS`.
+//! Runs the commands on texts that stand in files, and prints what they answer: `worked_scripts TEXTS SCRIPT ROWS PAIRS`.
 //!
 //! The file TEXTS holds texts, each below a line that begins with `=== ` and says what the text is an example of. Each is shown, what was shown is
 //! shown again, and each is judged. Of the text in the file SCRIPT, each front is shown, and judged by the rule of users and resources. The file ROWS
 //! holds texts too, each below a line that begins with `=== ` and has the words of a command, with SCRIPT for the text, then a colon, and what the text
-//! is an example of. Last comes what is answered to texts at the limit of length and over devices that fail.
+//! is an example of. So does the file PAIRS, where each text is that of a script, the line `--- specification`, and that of its specification, for which
+//! SPEC stands. Last comes what is answered to texts at the limit of length and over devices that fail.
 #![tactic(auto)]
 
 mod bounds;
@@ -24,6 +25,9 @@ use std::rt::Env;
 
 /// What stands between two texts, before the line that the second stands below.
 const BETWEEN: &[u8] = b"\n=== ";
+
+/// What stands between the text of a script and that of its specification.
+const SPECIFICATION: &[u8] = b"\n--- specification\n";
 
 /// The greatest number of bytes of a file.
 const FILE_LIMIT: u32 = 1_048_576;
@@ -147,13 +151,15 @@ fn push_all_answers(alloc: Global, lines: &mut Bytes, file: &[u8]) -> Result<(),
     push_answers(alloc, lines, rest)
 }
 
-/// The word, with the name of the text in place of SCRIPT.
+/// The word, with the name of the text in place of SCRIPT and that of its specification in place of SPEC.
 fn word_or_text(word: &[u8]) -> &[u8] {
     if word == b"SCRIPT".as_slice() {
-        b"text"
-    } else {
-        word
+        return b"text";
     }
+    if word == b"SPEC".as_slice() {
+        return b"specification";
+    }
+    word
 }
 
 /// The words of a command, which blanks separate.
@@ -171,11 +177,26 @@ fn words_of(alloc: Global, line: &[u8]) -> Result<Words, NoMemory> {
     Ok(asked)
 }
 
+/// The shelf that holds the text of a row, and that of its specification where the row has one.
+fn row_shelf(alloc: Global, text: &[u8]) -> Result<SureShelf, NoMemory> {
+    let mut shelf = SureShelf::new(alloc);
+    let Some((script, specification)) = cut_at(text, SPECIFICATION) else {
+        shelf.put_text(b"text", text)?;
+        return Ok(shelf);
+    };
+    shelf.put_text(b"text", script)?;
+    shelf.put_text(b"specification", specification)?;
+    Ok(shelf)
+}
+
 /// The status of the command of the row for the text, and what is sent.
 fn answered_row(alloc: Global, title: &[u8], text: &[u8]) -> Result<(u8, SureSink), NoMemory> {
     let (command, _) = cut_at(title, b" : ").unwrap_or((title, b""));
     let asked = words_of(alloc, command)?;
-    answered_words(alloc, &asked, text)
+    let mut shelf = row_shelf(alloc, text)?;
+    let mut out = SureSink::new(alloc, u32::MAX);
+    let status = dl_sure(alloc, &asked, &mut shelf, &mut out);
+    Ok((status, out))
 }
 
 /// Adds the line that a row stands below, and what the command of the row answers.
@@ -238,31 +259,39 @@ fn push_fronts(alloc: Global, lines: &mut Bytes, text: &[u8]) -> Result<(), NoMe
 }
 
 /// The lines for the texts of the files, and for devices that fail.
-fn answers(rt: &HostRuntime, texts: &[u8], script: &[u8], rows: &[u8]) -> Result<Bytes, NoMemory> {
+fn answers(
+    rt: &HostRuntime,
+    texts: &[u8],
+    script: &[u8],
+    rows: &[u8],
+    pairs: &[u8],
+) -> Result<Bytes, NoMemory> {
     let alloc = rt.alloc();
     let mut lines = Bytes::new(alloc);
     push_all_answers(alloc, &mut lines, texts)?;
     push_title(&mut lines, b"each front of the script")?;
     push_fronts(alloc, &mut lines, script)?;
     push_rows(alloc, &mut lines, rows)?;
+    push_rows(alloc, &mut lines, pairs)?;
     push_bounds(alloc, &mut lines)?;
     push_devices(alloc, &mut lines, script)?;
     push_system(rt, &mut lines)?;
     Ok(lines)
 }
 
-/// The names of the three files, from the words of the command line.
-fn file_names<R: Env + AllocGlobal>(rt: &R) -> Option<(String, String, String)> {
+/// The names of the four files, from the words of the command line.
+fn file_names<R: Env + AllocGlobal>(rt: &R) -> Option<(String, String, String, String)> {
     let mut words = env::args(rt).ok()?.skip(1);
     let texts = words.next()?;
     let script = words.next()?;
     let rows = words.next()?;
-    Some((texts, script, rows))
+    let pairs = words.next()?;
+    Some((texts, script, rows, pairs))
 }
 
 fn main(rt: HostRuntime) -> ExitCode {
     let alloc = rt.alloc();
-    let Some((texts, script, rows)) = file_names(&rt) else {
+    let Some((texts, script, rows, pairs)) = file_names(&rt) else {
         return ExitCode::from(3);
     };
     let mut shelf = FileShelf::new(&rt);
@@ -275,7 +304,16 @@ fn main(rt: HostRuntime) -> ExitCode {
     let Ok(rows) = shelf.load(alloc, rows.as_bytes(), FILE_LIMIT) else {
         return ExitCode::from(4);
     };
-    let Ok(lines) = answers(&rt, texts.as_slice(), script.as_slice(), rows.as_slice()) else {
+    let Ok(pairs) = shelf.load(alloc, pairs.as_bytes(), FILE_LIMIT) else {
+        return ExitCode::from(4);
+    };
+    let Ok(lines) = answers(
+        &rt,
+        texts.as_slice(),
+        script.as_slice(),
+        rows.as_slice(),
+        pairs.as_slice(),
+    ) else {
         return ExitCode::from(5);
     };
     match send(&mut StdSink::new(&rt), lines.as_slice()) {

@@ -1,5 +1,6 @@
 use Rattle.dl_top.specs.Cause.{shelf_signs}
 use Rattle.dl_top.proofs.Loading.{names_one, script_replies, trial_replies}
+use Rattle.dl_top.proofs.Pairs.{conform_replies, names_two}
 use Rattle.dl_top.proofs.load.requested.Goals as goal
 
 pub returns-in-Trial-clause-cause : goal.returns-in-Trial-clause-cause
@@ -13,3 +14,12 @@ returns-in-Script-clause-cause g c =
 
 pub returns-in-Script-clause-untouched : goal.returns-in-Script-clause-untouched
 returns-in-Script-clause-untouched g c none = absurd (names_one c.args.request c.in-Script.job c.in-Script.name c.in-Script.is none)
+
+pub returns-in-Conform-clause-cause : goal.returns-in-Conform-clause-cause
+returns-in-Conform-clause-cause g c =
+    let shelf = g.S.Shelf in
+    conform_replies (shelf.texts c.args.shelf.now) (shelf_signs (shelf.faults c.args.shelf.now) (shelf.faults c.conforming.new.shelf) (shelf.taken c.args.shelf.now) (shelf.taken c.conforming.new.shelf))
+    c.args.request c.in-Conform.script c.in-Conform.specification c.as_slice.result.now c.as_slice-2.result.now c.conforming.result c.in-Conform.is c.as_slice.ensures c.as_slice-2.ensures c.conforming.ensures.cause
+
+pub returns-in-Conform-clause-untouched : goal.returns-in-Conform-clause-untouched
+returns-in-Conform-clause-untouched g c none = absurd (names_two c.args.request c.in-Conform.script c.in-Conform.specification c.in-Conform.is none)

@@ -3,7 +3,7 @@ use Rattle.dl_top.specs.Cause.{MayGive, shelf_signs}
 use Rattle.dl_top.specs.Ending.{sink_signs}
 use Rattle.dl_top.proofs.Printing.{ends_broken, ends_in_shelf_fault, ends_short, ends_whole, settled}
 use Rattle.dl_top.proofs.Completing.{completes}
-use Rattle.dl_top.proofs.Proving.{proved, ranked, shown, told, tried, tried_ranked}
+use Rattle.dl_top.proofs.Proving.{conformed, proved, ranked, shown, told, tried, tried_ranked}
 use Rattle.dl_top.proofs.top.dl_main.Goals as goal
 
 pub returns-in-Ok-send-clause-proved : goal.returns-in-Ok-send-clause-proved
@@ -25,6 +25,13 @@ returns-in-Ok-send-clause-told g c asks zero =
     let shelf = g.S.Shelf in
     let sink = g.O.Sink in
     told (shelf.texts c.args.shelf.now) c.args.words.now (shelf_signs (shelf.faults c.args.shelf.now) (shelf.faults c.printed_reply.new.shelf) (shelf.taken c.args.shelf.now) (shelf.taken c.printed_reply.new.shelf))
+    (sink.sent c.args.out.now) (sink.sent c.send.new.out) c.in-Ok.printed c.in-Ok.ensures.prints c.as_slice.result.now c.as_slice.ensures c.in-Ok-send.ensures.ok zero asks
+
+pub returns-in-Ok-send-clause-conformed : goal.returns-in-Ok-send-clause-conformed
+returns-in-Ok-send-clause-conformed g c asks zero =
+    let shelf = g.S.Shelf in
+    let sink = g.O.Sink in
+    conformed (shelf.texts c.args.shelf.now) c.args.words.now (shelf_signs (shelf.faults c.args.shelf.now) (shelf.faults c.printed_reply.new.shelf) (shelf.taken c.args.shelf.now) (shelf.taken c.printed_reply.new.shelf))
     (sink.sent c.args.out.now) (sink.sent c.send.new.out) c.in-Ok.printed c.in-Ok.ensures.prints c.as_slice.result.now c.as_slice.ensures c.in-Ok-send.ensures.ok zero asks
 
 pub returns-in-Ok-send-clause-shown : goal.returns-in-Ok-send-clause-shown

@@ -1,0 +1,4 @@
+pub mod Cases
+pub mod Components
+pub mod Lists
+pub mod Walk

@@ -1,0 +1,62 @@
+-- Lists that agree or differ at some place.
+use Rattle.std.proofs.Common.{◌≡◌, ℕ, suc, zero, ◌+◌, ◌<◌, ◌≤◌, inl, inr, List, [], ◌∷◌, length, Option, Some, None, refl, sym, ap, ap₂, subst, ◌∙◌, arith}
+use Rattle.std.specs.Prelude.{map, slice_get}
+use Rattle.std.proofs.lemmas.Bool.{cases_lt}
+use Rattle.std.proofs.lemmas.List.{length-map}
+use Rattle.std.proofs.lemmas.Option.{same_Some, slice_get-map, slice_get_cases, slice_get_past}
+use Rattle.csp_program.specs.declared.processes.Proc.{Proc}
+use Rattle.csp_program.specs.declared.programs.Content.{Content}
+use Rattle.csp_program.specs.declared.programs.EventInfo.{EventInfo}
+use Rattle.csp_tables.specs.Network.{Component}
+use Rattle.network_layout.specs.Triple.{alphabets}
+use Rattle.report.specs.EventText.{event_text, info_text}
+use Rattle.comparison.specs.Agreement.{printed_events}
+
+-- lists that agree at each place are the same
+pub same_everywhere : {X : Type 0} (xs ys : List X) → ((k : ℕ) → slice_get xs k ≡ slice_get ys k) → xs ≡ ys
+same_everywhere [] [] same = refl
+same_everywhere [] (y ∷ ys) same = absurd (let no : ◌≡◌ {A = Option _} None (Some y) = same 0 in cc)
+same_everywhere (x ∷ xs) [] same = absurd (let no : ◌≡◌ {A = Option _} (Some x) None = same 0 in cc)
+same_everywhere (x ∷ xs) (y ∷ ys) same = ap₂ (λ z zs. z ∷ zs) (same_Some x y (same 0)) (same_everywhere xs ys (λ k. same (suc k)))
+
+-- the same, where both end before the place n
+pub same_before : {X : Type 0} (xs ys : List X) (n : ℕ) → length xs ≤ n → length ys ≤ n → ((k : ℕ) → k < n → slice_get xs k ≡ slice_get ys k) → xs ≡ ys
+same_before xs ys n few others same = same_everywhere xs ys (λ k. elim (cases_lt k n) [
+  | inl before ↦ same k before
+  | inr after ↦ slice_get_past xs k (omega arith) ∙ sym (slice_get_past ys k (omega arith))
+])
+
+-- one place more
+pub same_one_more : {X : Type 0} (xs ys : List X) (n : ℕ) → ((k : ℕ) → k < n → slice_get xs k ≡ slice_get ys k) → slice_get xs n ≡ slice_get ys n → (k : ℕ) → k < n + 1 → slice_get xs k ≡ slice_get ys k
+same_one_more xs ys n same here k less = elim (cases_lt k n) [
+  | inl before ↦ same k before
+  | inr after ↦ let at : k ≡ n = omega arith in subst (λ j. slice_get xs j ≡ slice_get ys j) (sym at) here
+]
+
+-- ---- events
+
+pub as_many_events : (p : Content) → length (printed_events p) ≡ length p.events
+as_many_events p = length-map _ p.events
+
+pub printed_there : (p : Content) (k : ℕ) → k < length p.events → Some (event_text p k) ≡ slice_get (printed_events p) k
+printed_there p k h = elim (slice_get_cases p.events k).1 [
+  | inl x ↦
+      ap (λ (t : Option EventInfo). Some (info_text p t)) x.2.1 ∙ sym (slice_get-map (λ info. info_text p (Some info)) p.events k ∙ ap (λ (t : Option EventInfo). elim t as (λ _. Option (List ℕ)) [ None ↦ None | Some info ↦ Some (info_text p (Some info)) ]) x.2.1)
+  | inr past ↦ absurd (let less : length p.events ≤ k = past.0 in omega arith)
+]
+
+pub printed_past : (p : Content) (k : ℕ) → length p.events ≤ k → None ≡ slice_get (printed_events p) k
+printed_past p k past = let few = as_many_events p in sym (slice_get_past (printed_events p) k (omega arith))
+
+-- ---- alphabets
+
+pub as_many_alphabets : (cs : List (Component Proc)) → length (alphabets cs) ≡ length cs
+as_many_alphabets cs = length-map _ cs
+
+pub alphabet_there : (cs : List (Component Proc)) (k : ℕ) (c : Component Proc) → slice_get cs k ≡ Some c → slice_get (alphabets cs) k ≡ Some c.alphabet
+alphabet_there [] k c at = absurd (let no : ◌≡◌ {A = Option (Component Proc)} None (Some c) = sym (slice_get_past [] k (omega arith)) ∙ at in cc)
+alphabet_there (d ∷ cs) zero c at = ap (λ (x : Component Proc). Some x.alphabet) (same_Some d c at)
+alphabet_there (d ∷ cs) (suc k) c at = alphabet_there cs k c at
+
+pub alphabet_past : (cs : List (Component Proc)) (k : ℕ) → length cs ≤ k → slice_get (alphabets cs) k ≡ None
+alphabet_past cs k past = let few = as_many_alphabets cs in slice_get_past (alphabets cs) k (omega arith)

@@ -1,0 +1,152 @@
+-- The walk of a comparison: what it answers at each of its exits.
+use Rattle.std.proofs.Common.{◌≡◌, ℕ, List, Result, Ok, Err, inl, inr, refl, sym, ap, subst, ◌∙◌, length, arith}
+use Rattle.std.specs.Result.{IsErrAnd}
+use Rattle.csp_program.specs.declared.processes.Proc.{Proc}
+use Rattle.csp_program.specs.declared.programs.Content.{Content}
+use Rattle.csp_tables.specs.Network.{Component, leaves}
+use Rattle.csp_tables.specs.Part.{Part}
+use Rattle.network_layout.specs.Triple.{alphabets}
+use Rattle.network_stages.proofs.Exits.{at_refusal, at_shortfall, at_stop}
+use Rattle.network_stages.specs.Networks.{Network, components_at, network_at, tree_at}
+use Rattle.network_stages.specs.Sets.{ArePartsBy}
+use Rattle.network_stages.specs.Stages.{HaveNoParts, HaveNoTables}
+use Rattle.network_tables.specs.Tables.{AreTablesOf}
+use Rattle.network_tables.specs.declared.component_tables.ComponentTable.{ComponentTable}
+use Rattle.network_trees.specs.NetworkOf.{network_of}
+use Rattle.process_steps.specs.ComponentStep.{ProcessStep}
+use Rattle.report.proofs.Points.{goes_on, weaker}
+use Rattle.report.specs.Points.Point.{passed, told}
+use Rattle.report.specs.Stops.{Answers, Tells, refused, unproved}
+use Rattle.report.specs.declared.answer.Answer.{Answer}
+use Rattle.report.specs.declared.answer.Answer.TheVariants as answer
+use Rattle.report.specs.declared.answer.Done.{Done}
+use Rattle.report.specs.declared.answer.Refusal.{Refusal}
+use Rattle.report.specs.declared.answer.Shortfall.{Shortfall}
+use Rattle.report.specs.declared.answer.Side.TheVariants as side
+use Rattle.report.specs.declared.stop.Stop.{Stop}
+use Rattle.report.specs.declared.stop.Stop.TheVariants as stop
+use Rattle.comparison.specs.Agreement.{HaveOtherEvents, HaveOtherShape, printed_events}
+use Rattle.comparison.specs.Compared.{ConformanceDecides, IsCompared, IsConforming, PartsOr}
+use Rattle.comparison.specs.Conforming.{ComponentsConform, FailsToConform}
+use Rattle.comparison.specs.Walk.{HasNoParts, HasParts, IsToldConforming, PartFails, PartsConformBefore, SpecificationHasNoParts}
+use Rattle.comparison.proofs.Components.{all_conform, as_many_parts, inherits, part_fails}
+use Rattle.comparison.proofs.Lists.{as_many_alphabets}
+
+-- ---- of one network
+
+-- what was made of a program that is p, and of components that are those of its network
+pub tables_here : (p q : Content) (cs : List (Component Proc)) (ts : List ComponentTable) → q ≡ p → cs ≡ components_at p → AreTablesOf q cs ts → AreTablesOf p (components_at p) ts
+tables_here p q cs ts programs components are =
+    subst (λ (x : Content). AreTablesOf x (components_at p) ts) programs (subst (λ (ds : List (Component Proc)). AreTablesOf q ds ts) components are)
+
+pub parts_here : (p q : Content) (cs : List (Component Proc)) (ts : List ComponentTable) (parts : List Part) → q ≡ p → cs ≡ components_at p → ArePartsBy q ts cs parts
+    → ArePartsBy p ts (components_at p) parts
+parts_here p q cs ts parts programs components are =
+    subst (λ (x : Content). ArePartsBy x ts (components_at p) parts) programs (subst (λ (ds : List (Component Proc)). ArePartsBy q ts ds parts) components are)
+
+pub no_tables_here : (p q : Content) (cs : List (Component Proc)) (why : Stop Refusal) → q ≡ p → cs ≡ components_at p → Tells (HaveNoTables q 0 cs) why → Tells (HaveNoTables p 0 (components_at p)) why
+no_tables_here p q cs why programs components tells =
+    subst (λ (x : Content). Tells (HaveNoTables x 0 (components_at p)) why) programs (subst (λ (ds : List (Component Proc)). Tells (HaveNoTables q 0 ds) why) components tells)
+
+-- a network has no parts where it has no tables, or its tables give none
+pub no_parts_first : (network : Network) (why : Stop Refusal) → Tells (HaveNoTables network.program 0 (leaves network.tree)) why → Tells (HasNoParts network) why
+no_parts_first network stop.NoMemory tells = tt
+no_parts_first network (stop.Told r) tells = inl tells
+
+pub no_parts_then : (network : Network) (tables : List ComponentTable) (why : Stop Refusal) → AreTablesOf network.program (leaves network.tree) tables → Tells (HaveNoParts 0 tables) why → Tells (HasNoParts network) why
+no_parts_then network tables stop.NoMemory are tells = tt
+no_parts_then network tables (stop.Told r) are tells = inr (tables, are, tells)
+
+pub specification_refused : (network : Network) (why : Stop Refusal) → Tells (HasNoParts network) why → Tells (SpecificationHasNoParts network) (refused side.Specification why)
+specification_refused network stop.NoMemory tells = tt
+specification_refused network (stop.Told r) tells = (r, tells, refl)
+
+-- ---- of both
+
+module _ (network specified : Network) (r : Result Done (Stop Answer)) where
+  pub at_events : (why : Stop Refusal) → IsErrAnd r (λ t. t ≡ refused side.Script why) → Tells (HaveOtherEvents network.program specified.program) why → Answers (IsCompared network specified) r
+  unfolding IsCompared
+  at_events why exit tells = at_refusal r _ _ _ _ why exit tells
+
+  module _ (events : printed_events network.program ≡ printed_events specified.program) where
+    pub at_shape : (why : Stop Refusal) → IsErrAnd r (λ t. t ≡ refused side.Script why) → Tells (HaveOtherShape (leaves network.tree) (leaves specified.tree)) why → Answers (IsCompared network specified) r
+    unfolding IsCompared
+    at_shape why exit tells = goes_on _ _ _ _ tt events r (at_refusal r _ _ _ _ why exit tells)
+
+    pub at_parts : alphabets (leaves network.tree) ≡ alphabets (leaves specified.tree)
+        → Answers (PartsOr side.Script network (PartsOr side.Specification specified (ConformanceDecides network specified))) r → Answers (IsCompared network specified) r
+    unfolding IsCompared
+    at_parts shape rest = goes_on _ _ _ _ tt events r (goes_on _ _ _ _ tt shape r rest)
+
+module _ (network : Network) (Then : Answer → Type 0) (r : Result Done (Stop Answer)) where
+  pub at_tables : (why : Stop Refusal) → IsErrAnd r (λ t. t ≡ refused side.Script why) → Tells (HaveNoTables network.program 0 (leaves network.tree)) why → Answers (PartsOr side.Script network Then) r
+  unfolding PartsOr
+  at_tables why exit tells = at_refusal r _ _ _ _ why exit tells
+
+  module _ (tables : List ComponentTable) (are : AreTablesOf network.program (leaves network.tree) tables) where
+    pub at_sets : (why : Stop Refusal) → IsErrAnd r (λ t. t ≡ refused side.Script why) → Tells (HaveNoParts 0 tables) why → Answers (PartsOr side.Script network Then) r
+    unfolding PartsOr
+    at_sets why exit tells = goes_on _ _ _ _ tables are r (at_refusal r _ _ _ _ why exit tells)
+
+    pub at_then : (parts : List Part) → ArePartsBy network.program tables (leaves network.tree) parts → Answers Then r → Answers (PartsOr side.Script network Then) r
+    unfolding PartsOr
+    at_then parts by rest = goes_on _ _ _ _ tables are r (goes_on _ _ _ _ parts by r rest)
+
+specification_told : (network : Network) (Then : Answer → Type 0) (a : Answer) → SpecificationHasNoParts network a → PartsOr side.Specification network Then a
+unfolding PartsOr
+specification_told network Then a (r, inl fails, is) = told r fails is
+specification_told network Then a (r, inr (tables, are, fails), is) = passed tables are (told r fails is)
+
+module _ (network : Network) (Then : Answer → Type 0) (r : Result Done (Stop Answer)) where
+  pub at_specification : (why : Stop Answer) → IsErrAnd r (λ t. t ≡ why) → Tells (SpecificationHasNoParts network) why → Answers (PartsOr side.Specification network Then) r
+  at_specification why exit tells =
+      at_stop r (PartsOr side.Specification network Then) why exit (weaker (SpecificationHasNoParts network) (PartsOr side.Specification network Then) (specification_told network Then) why tells)
+
+  pub after_specification : (parts : List Part) → HasParts network parts → Answers Then r → Answers (PartsOr side.Specification network Then) r
+  unfolding PartsOr
+  after_specification parts has rest = goes_on _ _ _ _ has.tables has.are r (goes_on _ _ _ _ parts has.by r rest)
+
+-- ---- the components
+
+fails_weaker : (network specified : Network) (why : Stop Shortfall) (ps qs : List Part) → ((s : Shortfall) → PartFails network.program ps qs s → FailsToConform network specified s)
+    → Tells (PartFails network.program ps qs) why → Tells (FailsToConform network specified) why
+fails_weaker network specified stop.NoMemory ps qs weak tells = tt
+fails_weaker network specified (stop.Told s) ps qs weak tells = weak s tells
+
+module _ (p q : Content) (ps qs : List Part) (has : HasParts (network_at p) ps) (others : HasParts (network_at q) qs) (same : alphabets (components_at p) ≡ alphabets (components_at q)) where
+  pub as_many : length ps ≡ length qs
+  as_many =
+      let a = as_many_parts (ProcessStep p) (components_at p) ps has.by.are in
+      let b = as_many_parts (ProcessStep q) (components_at q) qs others.by.are in
+      let c : length (alphabets (components_at p)) ≡ length (alphabets (components_at q)) = ap length same in
+      omega (arith, a, b, c, as_many_alphabets (components_at p), as_many_alphabets (components_at q))
+
+  pub fails : (x : Content) → x ≡ p → (why : Stop Shortfall) → Tells (PartFails x ps qs) why → Tells (FailsToConform (network_at p) (network_at q)) why
+  fails x is why tells =
+      fails_weaker (network_at p) (network_at q) why ps qs (part_fails p q (network_at p) (network_at q) refl ps qs has.by.are others.by.are same as_many)
+      (subst (λ (y : Content). Tells (PartFails y ps qs) why) is tells)
+
+  pub conform : PartsConformBefore ps qs (length ps) → ComponentsConform (network_at p) (network_at q)
+  conform each = all_conform p q (components_at p) (components_at q) ps qs has.by.are others.by.are same each
+
+  module _ (r : Result Done (Stop Answer)) where
+    pub at_failure : (why : Stop Shortfall) → IsErrAnd r (λ t. t ≡ unproved why) → Tells (FailsToConform (network_at p) (network_at q)) why → Answers (ConformanceDecides (network_at p) (network_at q)) r
+    unfolding ConformanceDecides
+    at_failure why exit tells = at_shortfall r _ _ _ why exit tells
+
+    pub at_end : ComponentsConform (network_at p) (network_at q) → Answers (IsConforming (network_at p) (network_at q)) r → Answers (ConformanceDecides (network_at p) (network_at q)) r
+    unfolding ConformanceDecides
+    at_end each rest = goes_on _ _ _ _ tt each r rest
+
+  -- what is told in the end
+  pub is_conforming : network_of p ≡ Ok (tree_at p) → network_of q ≡ Ok (tree_at q) → ComponentsConform (network_at p) (network_at q) → (x : Content) (cs : List (Component Proc)) (what : Done)
+      → x ≡ p → cs ≡ components_at p → IsToldConforming x cs what → IsConforming (network_at p) (network_at q) (answer.Done what)
+  is_conforming spelled other each x cs what programs components told =
+      let there : IsToldConforming p (components_at p) what =
+      subst (λ (y : Content). IsToldConforming y (components_at p) what) programs (subst (λ (ds : List (Component Proc)). IsToldConforming x ds what) components told) in
+      record {
+        bound = there.bound;
+        exact = there.exact;
+        inherits = inherits p q spelled other ps has.by.are each there.bound there.exact;
+        is = ap answer.Done there.is;
+      }

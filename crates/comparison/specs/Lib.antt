@@ -1,0 +1,4 @@
+pub mod Agreement
+pub mod Compared
+pub mod Conforming
+pub mod Walk

@@ -1,0 +1,81 @@
+//! Whether two programs have the same events.
+
+ghost use Rattle.std.specs.Prelude.{◌≡◌, ◌≤◌, ◌<◌, ◌^◌, ℕ, IfErr, IfNone, IfOk, IfSome, MatchBool, OnOk, length, slice_get};
+ghost use Rattle.report.specs.Stops.{Tells};
+ghost use Rattle.comparison.specs.Agreement.{DifferFirstAt, HaveOtherEvents, printed_events};
+
+use csp_base::{Bytes, Event, NoMemory};
+use csp_program::Program;
+use report::{Refusal, Stop, event_text};
+use std::alloc::Global;
+
+/// Succeeds where both programs have the same list of printed events; else the least number at which the lists differ is told (41).
+pub fn same_events(alloc: Global, program: &Program, other: &Program) -> Result<(), Stop<Refusal>>
+    ensures same { OnOk result (printed_events program.now ≡ printed_events other.now) }
+    ensures told { IfErr result (Tells (HaveOtherEvents program.now other.now)) }
+{
+    match first_other(alloc, program, other)? {
+        Some(number) => Err(Stop::Told(Refusal::DifferentEvents { number })),
+        None => Ok(()),
+    }
+}
+
+// The least number at which the printed events of the programs differ, if they do.
+fn first_other(alloc: Global, program: &Program, other: &Program) -> Result<Option<u32>, NoMemory>
+    ensures differ { IfOk result (λ found. IfSome found (DifferFirstAt (printed_events program.now) (printed_events other.now))) }
+    ensures same { IfOk result (λ found. IfNone found (printed_events program.now ≡ printed_events other.now)) }
+{
+    for number in 0..most_events(program, other) {
+        if !same_event(alloc, program, other, number)? {
+            return Ok(Some(number));
+        }
+    }
+    Ok(None)
+}
+
+// How many events the program has that has more.
+fn most_events(program: &Program, other: &Program) -> u32
+    ensures first { length program.now.events ≤ result }
+    ensures second { length other.now.events ≤ result }
+{
+    let count = program.content().events.len() as u32;
+    let others = other.content().events.len() as u32;
+    if count < others { others } else { count }
+}
+
+// Whether both programs have an event with this number that is printed alike, or neither has one.
+fn same_event(
+    alloc: Global,
+    program: &Program,
+    other: &Program,
+    number: u32,
+) -> Result<bool, NoMemory>
+    ensures { IfOk result (λ same. MatchBool same (slice_get (printed_events program.now) number ≡ slice_get (printed_events other.now) number)
+        (slice_get (printed_events program.now) number ≡ slice_get (printed_events other.now) number → ⊥)) }
+{
+    let text = printed(alloc, program, number)?;
+    let other_text = printed(alloc, other, number)?;
+    Ok(same_text(&text, &other_text))
+}
+
+// Whether both are the same text, or none.
+fn same_text(text: &Option<Bytes>, other: &Option<Bytes>) -> bool
+    ensures { MatchBool result (text.now ≡ other.now) (text.now ≡ other.now → ⊥) }
+{
+    match (text, other) {
+        (Some(text), Some(other)) => text.as_slice() == other.as_slice(),
+        (None, None) => true,
+        (Some(_), None) | (None, Some(_)) => false,
+    }
+}
+
+// The printed text of the event with this number, if there is one.
+fn printed(alloc: Global, program: &Program, number: u32) -> Result<Option<Bytes>, NoMemory>
+    ensures { IfOk result (λ text. text ≡ slice_get (printed_events program.now) number) }
+{
+    if number as usize >= program.content().events.len() {
+        return Ok(None);
+    }
+    let text = event_text(alloc, program, Event(number))?;
+    Ok(Some(text))
+}

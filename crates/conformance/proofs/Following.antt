@@ -1,0 +1,175 @@
+-- A table that follows the runs of another one: where it stands, and what the pairs to which runs lead say of both.
+use Rattle.std.proofs.Common.{◌≡◌, ℕ, zero, suc, ◌<◌, ◌≤◌, inl, inr, List, [], ◌∷◌, ◌++◌, length, get_or, true, false, IsTrue, Option, Some, None, refl, sym, ap, subst, ◌∙◌, arith, append_assoc, append-nil}
+use Rattle.std.specs.Prelude.{slice_get}
+use Rattle.std.proofs.lemmas.Bool.{and_from, and_parts, cases_Bool, cond-true, cond-false, false≢true}
+use Rattle.std.proofs.lemmas.List.{get_or_past}
+use Rattle.std.proofs.lemmas.Option.{get_or_from_slice_get, slice_get_cases}
+use Rattle.csp_base.specs.Members.{has}
+use Rattle.csp_tables.specs.Form.{HasForm, StepsHaveForm}
+use Rattle.csp_tables.specs.Part.{Part}
+use Rattle.csp_tables.specs.Table.{Node, IsRun, acceptances_after, end_of, is_possible, is_run, no_node, node_after, node_at}
+use Rattle.csp_tables.proofs.Runs.{end_push, node_form, run_push}
+use Rattle.observed_runs.specs.Exploration.{Found, IsExploration}
+use Rattle.observed_runs.specs.Observed.{LeadsTo, observed, pair_at}
+use Rattle.observed_runs.proofs.Leading.{listed_step, observed_push, step_within}
+use Rattle.conformance.specs.Conforming.{HasWithin, RefusesAfter, RunsOutside, TableConforms}
+use Rattle.conformance.specs.Finding.{AcceptsAt, LeavesAt, RefusesAt, StaysAt}
+use Rattle.conformance.specs.Following.{follow_step}
+
+-- ---- nodes
+
+pub past_end : (table : List Node) (n : ℕ) → slice_get table n ≡ None → length table ≤ n
+past_end table n none = elim (slice_get_cases table n).1 [ inl x ↦ absurd (let no : ◌≡◌ {A = Option Node} None (Some x.0) = sym none ∙ x.2 in cc) | inr x ↦ x.0 ]
+
+pub steps_form : (p : Part) (n : ℕ) (node : Node) → HasForm p → slice_get p.table n ≡ Some node → StepsHaveForm p.alphabet (length p.table) node.next
+steps_form p n node form at = subst (λ (x : Node). StepsHaveForm p.alphabet (length p.table) x.next) (get_or_from_slice_get p.table n node no_node at) (node_form p.alphabet (length p.table) p.table n form.nodes)
+
+step_known : (a : List ℕ) (m : ℕ) (steps : List (ℕ × ℕ)) (k : ℕ) → StepsHaveForm a m steps → k < length steps → IsTrue (has a (get_or steps k (0, 0)).0)
+step_known a m [] k form h = absurd (omega arith)
+step_known a m (step ∷ steps) zero form h = form.0
+step_known a m (step ∷ steps) (suc k) form h = step_known a m steps k form.3 (omega arith)
+
+module _ (p : Part) (form : HasForm p) where
+  of_form : (n : ℕ) → StepsHaveForm p.alphabet (length p.table) (node_at p.table n).next
+  of_form n = node_form p.alphabet (length p.table) p.table n form.nodes
+
+  possible_known : (n e : ℕ) → is_possible (node_at p.table n).next e ≡ true → has p.alphabet e ≡ true
+  possible_known n e h =
+      let at = listed_step (node_at p.table n).next e h in
+      subst (λ x. has p.alphabet x ≡ true) at.event (step_known p.alphabet (length p.table) (node_at p.table n).next at.place (of_form n) at.within)
+
+  after_within : (n e : ℕ) → is_possible (node_at p.table n).next e ≡ true → node_after p.table n e < length p.table
+  after_within n e h =
+      let at = listed_step (node_at p.table n).next e h in
+      subst (λ x. x < length p.table) at.leads (step_within p.alphabet (length p.table) (node_at p.table n).next at.place (of_form n) at.within)
+
+  first_within : 0 < length p.table
+  first_within = let l : 1 ≤ length p.table = form.least in omega arith
+
+run_last : (table : List Node) (n : ℕ) (s : List ℕ) (e : ℕ) → is_run table n (s ++ e ∷ []) ≡ true → is_possible (node_at table (end_of table n s)).next e ≡ true
+run_last table n [] e h = (and_parts (is_possible (node_at table n).next e) true h).0
+run_last table n (x ∷ s) e h = run_last table (node_after table n x) s e (and_parts (is_possible (node_at table n).next x) (is_run table (node_after table n x) (s ++ e ∷ [])) h).1
+
+-- ---- the follower
+
+module _ (p q : Part) (form : HasForm p) (other : HasForm q) where
+  step_on : (n m e : ℕ) → is_possible (node_at p.table n).next e ≡ true → is_possible (node_at q.table m).next e ≡ true → follow_step p.alphabet q.table m e ≡ node_after q.table m e
+  step_on n m e here there =
+      cond-true (has p.alphabet e) _ _ (possible_known p form n e here) ∙ cond-true (is_possible (node_at q.table m).next e) _ _ there
+
+  step_out : (n m e : ℕ) → is_possible (node_at p.table n).next e ≡ true → is_possible (node_at q.table m).next e ≡ false → follow_step p.alphabet q.table m e ≡ length q.table
+  step_out n m e here there =
+      cond-true (has p.alphabet e) _ _ (possible_known p form n e here) ∙ cond-false (is_possible (node_at q.table m).next e) _ _ there
+
+  -- past the end there is no way back
+  step_past : (e : ℕ) → follow_step p.alphabet q.table (length q.table) e ≡ length q.table
+  step_past e =
+      let none : is_possible (node_at q.table (length q.table)).next e ≡ false = ap (λ (node : Node). is_possible node.next e) (get_or_past q.table (length q.table) no_node (omega arith)) in
+      elim (cases_Bool (has p.alphabet e)) [
+        | inl known ↦ cond-true (has p.alphabet e) _ _ known ∙ cond-false (is_possible (node_at q.table (length q.table)).next e) _ _ none
+        | inr unknown ↦ cond-false (has p.alphabet e) _ _ unknown
+      ]
+
+  stays_past : (s : List ℕ) → observed (follow_step p.alphabet q.table) (length q.table) s ≡ length q.table
+  stays_past [] = refl
+  stays_past (e ∷ s) = ap (λ state. observed (follow_step p.alphabet q.table) state s) (step_past e) ∙ stays_past s
+
+  -- a run of both leads to the node of the follower
+  ends : (n m : ℕ) (s : List ℕ) → is_run p.table n s ≡ true → is_run q.table m s ≡ true → observed (follow_step p.alphabet q.table) m s ≡ end_of q.table m s
+  ends n m [] here there = refl
+  ends n m (e ∷ s) here there =
+      let a = and_parts (is_possible (node_at p.table n).next e) (is_run p.table (node_after p.table n e) s) here in
+      let b = and_parts (is_possible (node_at q.table m).next e) (is_run q.table (node_after q.table m e) s) there in
+      ap (λ state. observed (follow_step p.alphabet q.table) state s) (step_on n m e a.0 b.0) ∙ ends (node_after p.table n e) (node_after q.table m e) s a.1 b.1
+
+  -- where the follower stands at a node of its own, the run is one of its table
+  inside : (n m : ℕ) (s : List ℕ) → is_run p.table n s ≡ true → observed (follow_step p.alphabet q.table) m s < length q.table → is_run q.table m s ≡ true
+  inside n m [] here less = refl
+  inside n m (e ∷ s) here less =
+      let a = and_parts (is_possible (node_at p.table n).next e) (is_run p.table (node_after p.table n e) s) here in
+      elim (cases_Bool (is_possible (node_at q.table m).next e)) [
+        | inl there ↦
+            and_from _ _ there (inside (node_after p.table n e) (node_after q.table m e) s a.1
+            (subst (λ state. observed (follow_step p.alphabet q.table) state s < length q.table) (step_on n m e a.0 there) less))
+        | inr not_there ↦
+            let out : observed (follow_step p.alphabet q.table) m (e ∷ s) ≡ length q.table =
+            ap (λ state. observed (follow_step p.alphabet q.table) state s) (step_out n m e a.0 not_there) ∙ stays_past s in
+            absurd (omega (arith, out, less))
+      ]
+
+  end_inside : (m : ℕ) (s : List ℕ) → m < length q.table → is_run q.table m s ≡ true → end_of q.table m s < length q.table
+  end_inside m [] h run = h
+  end_inside m (e ∷ s) h run =
+      let b = and_parts (is_possible (node_at q.table m).next e) (is_run q.table (node_after q.table m e) s) run in
+      end_inside (node_after q.table m e) s (after_within q other m e b.0) b.1
+
+  -- ---- what a pair says
+
+  pub leaves_outside : (run : List ℕ) (pair : ℕ × ℕ) (e : ℕ) → LeadsTo p.table (follow_step p.alphabet q.table) 0 run pair → LeavesAt p.table q.table pair e → RunsOutside p.table q.table (run ++ e ∷ [])
+  leaves_outside run pair e l leaves =
+      let front : IsRun q.table run = inside 0 0 run l.follows (subst (λ n. n < length q.table) (sym l.state) leaves.there) in
+      let at : end_of q.table 0 run ≡ pair.1 = sym (ends 0 0 run l.follows front) ∙ l.state in
+      record {
+        front = run;
+        last = e;
+        is = refl;
+        inside = front;
+        runs = run_push p.table 0 run e l.follows (subst (λ n. is_possible (node_at p.table n).next e ≡ true) (sym l.node) leaves.lacking.possible);
+        outside = λ h. false≢true (sym leaves.lacking.not_there ∙ subst (λ n. is_possible (node_at q.table n).next e ≡ true) at (run_last q.table 0 run e h));
+      }
+
+  module _ (found : Found) (explored : IsExploration p.table (follow_step p.alphabet q.table) 0 found.pairs) where
+    -- one event more
+    stays_on : ((k : ℕ) → k < length found.pairs → StaysAt p.table q.table (pair_at found.pairs k)) → (u : List ℕ) (e : ℕ) → IsRun p.table u → observed (follow_step p.alphabet q.table) 0 u < length q.table
+        → is_possible (node_at p.table (end_of p.table 0 u)).next e ≡ true → observed (follow_step p.alphabet q.table) 0 (u ++ e ∷ []) < length q.table
+    stays_on all u e run less possible =
+        let l = explored.listed u run in
+        let pair = pair_at found.pairs l.0 in
+        let state : observed (follow_step p.alphabet q.table) 0 u ≡ pair.1 = l.2.state in
+        let node : end_of p.table 0 u ≡ pair.0 = l.2.node in
+        let there : is_possible (node_at q.table pair.1).next e ≡ true = all l.0 l.1 (subst (λ n. n < length q.table) state less) e (subst (λ n. is_possible (node_at p.table n).next e ≡ true) node possible) in
+        let here : is_possible (node_at q.table (observed (follow_step p.alphabet q.table) 0 u)).next e ≡ true = subst (λ n. is_possible (node_at q.table n).next e ≡ true) (sym state) there in
+        subst (λ n. n < length q.table) (sym (observed_push (follow_step p.alphabet q.table) 0 u e ∙ step_on (end_of p.table 0 u) (observed (follow_step p.alphabet q.table) 0 u) e possible here))
+        (after_within q other (observed (follow_step p.alphabet q.table) 0 u) e here)
+
+    stays_along : ((k : ℕ) → k < length found.pairs → StaysAt p.table q.table (pair_at found.pairs k)) → (u s : List ℕ) → IsRun p.table u → observed (follow_step p.alphabet q.table) 0 u < length q.table
+        → is_run p.table (end_of p.table 0 u) s ≡ true → observed (follow_step p.alphabet q.table) 0 (u ++ s) < length q.table
+    stays_along all u [] run less h = subst (λ v. observed (follow_step p.alphabet q.table) 0 v < length q.table) (sym (append-nil u)) less
+    stays_along all u (e ∷ s) run less h =
+        let a = and_parts (is_possible (node_at p.table (end_of p.table 0 u)).next e) (is_run p.table (node_after p.table (end_of p.table 0 u) e) s) h in
+        subst (λ v. observed (follow_step p.alphabet q.table) 0 v < length q.table) (append_assoc u (e ∷ []) s)
+        (stays_along all (u ++ e ∷ []) s (run_push p.table 0 u e run a.0) (stays_on all u e run less a.0) (subst (λ n. is_run p.table n s ≡ true) (sym (end_push p.table 0 u e)) a.1))
+
+    pub all_inside : ((k : ℕ) → k < length found.pairs → StaysAt p.table q.table (pair_at found.pairs k)) → (s : List ℕ) → IsRun p.table s → IsRun q.table s
+    all_inside all s run = inside 0 0 s run (stays_along all [] s refl (first_within q other) run)
+
+    -- where a run of both leads
+    pair_of_run : (s : List ℕ) (pair : ℕ × ℕ) → LeadsTo p.table (follow_step p.alphabet q.table) 0 s pair → IsRun q.table s → end_of q.table 0 s ≡ pair.1
+    pair_of_run s pair l there = sym (ends 0 0 s l.follows there) ∙ l.state
+
+    pub conforms : ((s : List ℕ) → IsRun p.table s → IsRun q.table s) → ((k : ℕ) → k < length found.pairs → AcceptsAt p.table q.table (pair_at found.pairs k)) → TableConforms p.table q.table
+    conforms runs all = record {
+      runs = runs;
+      acceptances = λ s k run h.
+          let l = explored.listed s run in
+          let pair = pair_at found.pairs l.0 in
+          let there : end_of q.table 0 s ≡ pair.1 = pair_of_run s pair l.2 (runs s run) in
+          let here : end_of p.table 0 s ≡ pair.0 = l.2.node in
+          let less : pair.1 < length q.table = subst (λ n. n < length q.table) there (end_inside 0 s (first_within q other) (runs s run)) in
+          let accepts = all l.0 l.1 less k (subst (λ n. k < length (node_at p.table n).accept) here h) in
+          subst (λ n. HasWithin (acceptances_after q.table s) (get_or (node_at p.table n).accept k [])) (sym here)
+          (subst (λ n. HasWithin (node_at q.table n).accept (get_or (node_at p.table pair.0).accept k [])) (sym there) accepts);
+    }
+
+    pub refuses_after : ((s : List ℕ) → IsRun p.table s → IsRun q.table s) → (run : List ℕ) (pair : ℕ × ℕ) → LeadsTo p.table (follow_step p.alphabet q.table) 0 run pair → RefusesAt p.table q.table pair → RefusesAfter p.table q.table run
+    refuses_after runs run pair l refuses =
+        let there : end_of q.table 0 run ≡ pair.1 = pair_of_run run pair l (runs run l.follows) in
+        record {
+          inside = runs;
+          runs = l.follows;
+          place = refuses.refuses.place;
+          within = subst (λ n. refuses.refuses.place < length (node_at p.table n).accept) (sym l.node) refuses.refuses.within;
+          refuses = λ h. refuses.refuses.refuses
+              (subst (λ n. HasWithin (node_at q.table pair.1).accept (get_or (node_at p.table n).accept refuses.refuses.place [])) l.node
+              (subst (λ n. HasWithin (node_at q.table n).accept (get_or (acceptances_after p.table run) refuses.refuses.place [])) there h));
+        }

@@ -1,0 +1,5 @@
+pub mod Conforming
+pub mod Failing
+pub mod Finding
+pub mod Following
+pub mod Told

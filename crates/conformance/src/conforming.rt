@@ -1,0 +1,157 @@
+//! Whether the table of a component conforms to that of its specification.
+
+ghost use Rattle.std.specs.Prelude.{◌≡◌, ◌<◌, ◌++◌, ◌∷◌, [], ℕ, List, IfErr, IfNone, IfOk, IfSome, MatchBool, OnOk, length};
+ghost use Rattle.csp_tables.specs.Form.{HasForm};
+ghost use Rattle.csp_tables.specs.Table.{IsRun, Node};
+ghost use Rattle.observed_runs.specs.Exploration.{AreFound};
+ghost use Rattle.observed_runs.specs.Observed.{LeadsTo, pair_at};
+ghost use Rattle.conformance.specs.Conforming.{RefusesAfter, RunsOutside, TableConforms};
+ghost use Rattle.conformance.specs.Finding.{AcceptsAt, Follows, LeavesAt, RefusesAt, StaysAt};
+ghost use Rattle.conformance.specs.Told.{Fails};
+
+use crate::fault::ConformFault;
+use crate::follower::Follower;
+use crate::nodes::node_of;
+use crate::steps::{lacking, refuses};
+use csp_base::{Event, NoMemory, Trace};
+use csp_tables::Part;
+use observed_runs::{Explored, explore, steps_of};
+use std::alloc::Global;
+
+/// Succeeds where each run of `part` is one of `specified`, and after it each acceptance of the first contains one of the second.
+///
+/// It takes time in proportion to the pairs of nodes to which runs lead, with the steps of the first and the logarithm of those of the second.
+pub fn conform_part(alloc: Global, part: &Part, specified: &Part) -> Result<(), ConformFault>
+    requires form { HasForm part.now }
+    requires specified_form { HasForm specified.now }
+    ensures conforms { OnOk result (TableConforms part.now.table specified.now.table) }
+    ensures fails { IfErr result (Fails part.now.table specified.now.table) }
+{
+    let explored = followed(alloc, part, specified)?;
+    if let Some(trace) = outside_trace(alloc, part, specified, &explored)? {
+        return Err(ConformFault::Outside { trace });
+    }
+    if let Some(trace) = refusing_trace(alloc, part, specified, &explored)? {
+        return Err(ConformFault::Refuses { trace });
+    }
+    Ok(())
+}
+
+// The pairs of nodes to which runs of the part lead, in its table and in that of its specification.
+fn followed(alloc: Global, part: &Part, specified: &Part) -> Result<Explored, NoMemory>
+    requires form { HasForm part.now }
+    requires specified_form { HasForm specified.now }
+    ensures { IfOk result (Follows part.now specified.now) }
+{
+    let rows = steps_of(alloc, part, part.alphabet())?;
+    let follower = Follower::new(part.alphabet(), specified);
+    explore(alloc, part, rows.as_slice(), &follower)
+}
+
+// A run of the part that is none of its specification, but for its last event.
+fn outside_trace(
+    alloc: Global,
+    part: &Part,
+    specified: &Part,
+    explored: &Explored,
+) -> Result<Option<Trace>, NoMemory>
+    requires form { HasForm part.now }
+    requires specified_form { HasForm specified.now }
+    requires follows { Follows part.now specified.now explored.now }
+    ensures outside { IfOk result (λ found. IfSome found (RunsOutside part.now.table specified.now.table)) }
+    ensures none { IfOk result (λ found. IfNone found ((s : List ℕ) → IsRun part.now.table s → IsRun specified.now.table s)) }
+{
+    match outside_place(part, specified, explored.pairs()) {
+        Some(departure) => {
+            let trace = run_and(alloc, explored, departure)?;
+            Ok(Some(trace))
+        }
+        None => Ok(None),
+    }
+}
+
+// A run to the pair in this place, and the event after it.
+fn run_and(alloc: Global, explored: &Explored, departure: (usize, Event)) -> Result<Trace, NoMemory>
+    requires { departure.0 < length explored.now.pairs }
+    ensures { (table : List Node) (step : ℕ → ℕ → ℕ) (start : ℕ) → AreFound table step start explored.now
+        → IfOk result (λ made. (run : List ℕ) × LeadsTo table step start run (pair_at explored.now.pairs departure.0) × (made ≡ run ++ departure.1 ∷ [])) }
+{
+    let mut trace = explored.run_to(alloc, departure.0)?;
+    trace.push(departure.1)?;
+    Ok(trace)
+}
+
+// The place of a pair with an event that is possible at its first node and not at its second, if it has a second.
+fn outside_place(part: &Part, specified: &Part, pairs: &[(u32, u32)]) -> Option<(usize, Event)>
+    requires { HasForm specified.now }
+    ensures within { IfSome result (λ found. found.0 < length pairs.now) }
+    ensures leaves { IfSome result (λ found. LeavesAt part.now.table specified.now.table (pair_at pairs.now found.0) found.1) }
+    ensures none { IfNone result ((k : ℕ) → k < length pairs.now → StaysAt part.now.table specified.now.table (pair_at pairs.now k)) }
+{
+    for place in 0..pairs.len() {
+        if let Some(event) = outside_event(part, specified, pairs[place]) {
+            return Some((place, event));
+        }
+    }
+    None
+}
+
+// An event that is possible at the pair's first node and not at its second, if it has a second.
+fn outside_event(part: &Part, specified: &Part, pair: (u32, u32)) -> Option<Event>
+    requires { HasForm specified.now }
+    ensures leaves { IfSome result (LeavesAt part.now.table specified.now.table pair) }
+    ensures none { IfNone result (StaysAt part.now.table specified.now.table pair) }
+{
+    let Some(node) = node_of(part, pair.0) else {
+        return None;
+    };
+    let Some(other) = node_of(specified, pair.1) else {
+        return None;
+    };
+    lacking(node.next(), other.next())
+}
+
+// A run of the part after which an acceptance contains none of its specification.
+fn refusing_trace(
+    alloc: Global,
+    part: &Part,
+    specified: &Part,
+    explored: &Explored,
+) -> Result<Option<Trace>, NoMemory>
+    requires form { HasForm part.now }
+    requires specified_form { HasForm specified.now }
+    requires follows { Follows part.now specified.now explored.now }
+    requires inside { (s : List ℕ) → IsRun part.now.table s → IsRun specified.now.table s }
+    ensures refuses { IfOk result (λ found. IfSome found (RefusesAfter part.now.table specified.now.table)) }
+    ensures none { IfOk result (λ found. IfNone found (TableConforms part.now.table specified.now.table)) }
+{
+    let place = refusing_place(part, specified, explored.pairs());
+    explored.run_if_any(alloc, place)
+}
+
+// The place of a pair whose first node has an acceptance that contains none of the second, if it has a second.
+fn refusing_place(part: &Part, specified: &Part, pairs: &[(u32, u32)]) -> Option<usize>
+    ensures within { IfSome result (λ k. k < length pairs.now) }
+    ensures refuses { IfSome result (λ k. RefusesAt part.now.table specified.now.table (pair_at pairs.now k)) }
+    ensures none { IfNone result ((k : ℕ) → k < length pairs.now → AcceptsAt part.now.table specified.now.table (pair_at pairs.now k)) }
+{
+    for place in 0..pairs.len() {
+        if refuses_at(part, specified, pairs[place]) {
+            return Some(place);
+        }
+    }
+    None
+}
+
+// Whether an acceptance of the pair's first node contains none of its second, if it has a second.
+fn refuses_at(part: &Part, specified: &Part, pair: (u32, u32)) -> bool
+    ensures { MatchBool result (RefusesAt part.now.table specified.now.table pair) (AcceptsAt part.now.table specified.now.table pair) }
+{
+    let Some(node) = node_of(part, pair.0) else {
+        return false;
+    };
+    let Some(other) = node_of(specified, pair.1) else {
+        return false;
+    };
+    refuses(node.accept(), other.accept())
+}

@@ -1,0 +1,15 @@
+//! What the tables of components tell of the components.
+
+ghost use Rattle.conformance.specs.Failing.{FaultsRefute, TablesTell};
+
+use net_sound::Transitions;
+
+/// What is found out about normal tables is true of the components whose tables they are.
+pub fn tables_tell_conformance<S: Transitions, O: Transitions>()
+    ensures { TablesTell S.step O.step }
+{}
+
+/// A component that conforms to its specification has no fault that may be told of it, and none has both.
+pub fn faults_refute_conformance<S: Transitions, O: Transitions>()
+    ensures { FaultsRefute S.step O.step }
+{}

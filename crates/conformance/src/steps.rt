@@ -1,0 +1,88 @@
+//! Steps and acceptances of one node against those of another.
+
+ghost use Rattle.std.specs.Prelude.{◌≡◌, ℕ, List, None, Some, IsTrue, IfNone, IfSome, MatchBool, if◌then◌else◌};
+ghost use Rattle.csp_tables.specs.Form.{StepsHaveForm};
+ghost use Rattle.csp_tables.specs.Table.{is_possible, target};
+ghost use Rattle.conformance.specs.Conforming.{HasWithin};
+ghost use Rattle.conformance.specs.Finding.{AllContain, IsLacking, LacksNone, Refuses};
+
+use csp_base::{Event, EventSet};
+
+// The node to which the event leads, if it is possible by the steps, whose events rise.
+pub(crate) fn target_of(steps: &[(Event, u32)], event: Event) -> Option<u32>
+    requires { (alphabet : List ℕ) × (nodes : ℕ) × StepsHaveForm alphabet nodes steps.now }
+    ensures { result ≡ (if is_possible steps.now event then Some (target steps.now event) else None) }
+{
+    match steps.binary_search_by_key(&event.0, |step| step.0.0) {
+        Ok(place) => Some(steps[place].1),
+        Err(_) => None,
+    }
+}
+
+// Whether the event is possible by the steps, whose events rise.
+fn is_possible(steps: &[(Event, u32)], event: Event) -> bool
+    requires { (alphabet : List ℕ) × (nodes : ℕ) × StepsHaveForm alphabet nodes steps.now }
+    ensures { result ≡ is_possible steps.now event }
+{
+    match target_of(steps, event) {
+        Some(_) => true,
+        None => false,
+    }
+}
+
+// An event that is possible by the steps and not by the others, whose events rise.
+pub(crate) fn lacking(steps: &[(Event, u32)], others: &[(Event, u32)]) -> Option<Event>
+    requires { (alphabet : List ℕ) × (nodes : ℕ) × StepsHaveForm alphabet nodes others.now }
+    ensures lacks { IfSome result (IsLacking steps.now others.now) }
+    ensures none { IfNone result (LacksNone steps.now others.now) }
+{
+    for step in steps {
+        if !is_possible(others, step.0) {
+            return Some(step.0);
+        }
+    }
+    None
+}
+
+// How many sets are looked through one by one before it is worth while to look for an equal one first.
+const FEW: usize = 8;
+
+// Whether the set is found among the others, if these are many. They mostly rise.
+fn is_found(set: &EventSet, others: &[EventSet]) -> bool
+    ensures { IsTrue result → HasWithin others.now set.now }
+{
+    if others.len() <= FEW {
+        return false;
+    }
+    match others.binary_search(set) {
+        Ok(_) => true,
+        Err(_) => false,
+    }
+}
+
+// Whether the set contains one of the others. Where these are many, an equal one is looked for first.
+fn contains_one(set: &EventSet, others: &[EventSet]) -> bool
+    ensures { MatchBool result (HasWithin others.now set.now) (HasWithin others.now set.now → ⊥) }
+{
+    if is_found(set, others) {
+        return true;
+    }
+    for other in others {
+        if other.is_subset(set) {
+            return true;
+        }
+    }
+    false
+}
+
+// Whether one of the sets contains none of the others.
+pub(crate) fn refuses(sets: &[EventSet], others: &[EventSet]) -> bool
+    ensures { MatchBool result (Refuses sets.now others.now) (AllContain sets.now others.now) }
+{
+    for set in sets {
+        if !contains_one(set, others) {
+            return true;
+        }
+    }
+    false
+}

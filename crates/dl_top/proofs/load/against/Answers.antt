@@ -1,0 +1,15 @@
+use Rattle.dl_top.specs.Cause.{shelf_signs}
+use Rattle.dl_top.proofs.Pairs.{last_loaded, last_unloaded}
+use Rattle.dl_top.proofs.load.against.Goals as goal
+
+pub returns-in-Ok-clause-cause : goal.returns-in-Ok-clause-cause
+returns-in-Ok-clause-cause g c =
+    let shelf = g.S.Shelf in
+    last_loaded (shelf.texts c.args.shelf.now) (shelf_signs (shelf.faults c.args.shelf.now) (shelf.faults c.load.new.self) (shelf.taken c.args.shelf.now) (shelf.taken c.load.new.self))
+    c.args.specification.now c.in-Ok.other c.as_slice.result.now c.args.text.now c.compared_reply.result c.in-Ok.ensures.answer c.as_slice.ensures c.compared_reply.ensures
+
+pub returns-in-Err-clause-cause : goal.returns-in-Err-clause-cause
+returns-in-Err-clause-cause g c =
+    let shelf = g.S.Shelf in
+    last_unloaded (shelf.texts c.args.shelf.now) (shelf_signs (shelf.faults c.args.shelf.now) (shelf.faults c.load.new.self) (shelf.taken c.args.shelf.now) (shelf.taken c.load.new.self))
+    c.args.specification.now c.args.text.now c.in-Err.fault c.unloaded.result c.in-Err.ensures.answer c.unloaded.ensures
