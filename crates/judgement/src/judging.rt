@@ -1,10 +1,11 @@
 //! The judgement of a script by a rule.
 
-ghost use Rattle.std.specs.Prelude.{◌≡◌};
+ghost use Rattle.std.specs.Prelude.{◌≡◌, Ok};
 ghost use Rattle.csp_tables.specs.Part.{TripleDisjoint, alphabets_of};
 ghost use Rattle.csp_tables.specs.ShapeOf.{AreBusy, IsShapeOf};
 ghost use Rattle.network_layout.specs.Triple.{alphabets};
 ghost use Rattle.network_stages.specs.Networks.{components_at, network_at, tree_at};
+ghost use Rattle.network_trees.specs.NetworkOf.{network_of};
 ghost use Rattle.process_steps.specs.ComponentStep.{ProcessStep};
 ghost use Rattle.report.specs.Stops.{Answers};
 ghost use Rattle.judgement.specs.Judged.{IsJudged, RuleDecides};
@@ -27,6 +28,7 @@ fn ruled(
     tables: &Tabled<'_>,
     shape: &Shape,
 ) -> Result<Done, Stop<Answer>>
+    requires spelled { network_of network.now ≡ Ok (tree_at network.now) }
     requires program { tables.now.program ≡ network.now }
     requires components { tables.now.components ≡ components_at network.now }
     requires shape { IsShapeOf (ProcessStep network.now) (tree_at network.now) shape.now }

@@ -55,12 +55,6 @@ pub(crate) fn ranked(
 {
     match decided(alloc, rule, shape) {
         Ok(ranking) => Ok(ranking),
-        Err(fault) => Err(stopped(rule_shortfall(
-            alloc,
-            network.program(),
-            rule,
-            shape,
-            fault,
-        ))),
+        Err(fault) => Err(stopped(rule_shortfall(alloc, network.program(), rule, shape, fault))),
     }
 }

@@ -72,9 +72,9 @@ module _ {T : Type 0} (Step : T → Label → T → Type 0) (c : Component T) (t
     count = r.count;
     each = λ k below. trace_up Step c terms raw (get_or r.traces k []) t (r.each k below);
     apart = λ j k less below same. r.apart j k less below (λ m. (
-        under (get_or r.traces j []) (get_or r.traces k []) (λ d. (same d).0) m,
-        under (get_or r.traces k []) (get_or r.traces j []) (λ d. (same d).1) m,
-      ));
+      under (get_or r.traces j []) (get_or r.traces k []) (λ d. (same d).0) m,
+      under (get_or r.traces k []) (get_or r.traces j []) (λ d. (same d).1) m,
+    ));
   }
 
   pub sets_of_table : (n : ℕ) → ReachesSets (ComponentStep Step) c n → ReachesSets (RawStep raw) 0 n
@@ -83,9 +83,9 @@ module _ {T : Type 0} (Step : T → Label → T → Type 0) (c : Component T) (t
     count = r.count;
     each = λ k below. trace_down Step c terms raw (get_or r.traces k []) t (r.each k below);
     apart = λ j k less below same. r.apart j k less below (λ d. (
-        over (get_or r.traces j []) (get_or r.traces k []) (λ m. (same m).0) d,
-        over (get_or r.traces k []) (get_or r.traces j []) (λ m. (same m).1) d,
-      ));
+      over (get_or r.traces j []) (get_or r.traces k []) (λ m. (same m).0) d,
+      over (get_or r.traces k []) (get_or r.traces j []) (λ m. (same m).1) d,
+    ));
   }
 
 -- a component whose table has few sets has few

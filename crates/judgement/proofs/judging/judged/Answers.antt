@@ -44,6 +44,9 @@ returns-in_err-check_busy c =
     c.in_ok-shape.shape (record { apart = c.in_ok-shape.ensures.apart; is = c.in_ok-shape.ensures.shape })
     _ c.from_residual-in_err-check_busy.ensures.1 c.in_err-check_busy.ensures.told
 
+pub ruled-requires-clause-spelled : goal.ruled-requires-clause-spelled
+ruled-requires-clause-spelled c = c.program.ensures.spelled
+
 pub ruled-requires-clause-program : goal.ruled-requires-clause-program
 ruled-requires-clause-program c = c.in_ok-tables.ensures.program ∙ c.program.ensures.program
 

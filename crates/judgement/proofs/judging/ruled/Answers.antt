@@ -24,5 +24,5 @@ returns-in_err-done c = at_want c.from_residual-in_err-done.result (RuleDecides 
 pub returns : goal.returns
 returns c =
     at_free c.args.network.now c.args.rule c.args.shape.now (Ok c.in_ok-done.done) c.in_ok-notes.notes c.in_ok-notes.ensures.ok c.in_ok-ranking.ranking c.in_ok-ranking.ensures.ok
-    (is_free c.args.network.now c.program.ensures.spelled c.args.rule c.in_ok-notes.notes c.args.shape.now c.in_ok-ranking.ranking _ _ c.in_ok-done.done c.requires.program
+    (is_free c.args.network.now c.requires.spelled c.args.rule c.in_ok-notes.notes c.args.shape.now c.in_ok-ranking.ranking _ _ c.in_ok-done.done c.requires.program
     c.requires.components c.requires.apart c.requires.shape c.requires.busy c.in_ok-ranking.ensures.ok c.in_ok-done.ensures)

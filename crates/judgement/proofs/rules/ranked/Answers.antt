@@ -13,11 +13,10 @@ pub decided-requires-clause-form : goal.decided-requires-clause-form
 decided-requires-clause-form c = c.requires.shape.form
 
 pub returns-in-Ok-clause-ok : goal.returns-in-Ok-clause-ok
-returns-in-Ok-clause-ok c =
-    (
-      (networks_meet (ProcessStep c.args.network.now) (tree_at c.args.network.now) c.args.shape.now c.requires.shape c.args.rule.now).0 c.in-Ok.ensures.met,
-      c.in-Ok.ensures.ranking,
-    )
+returns-in-Ok-clause-ok c = (
+  (networks_meet (ProcessStep c.args.network.now) (tree_at c.args.network.now) c.args.shape.now c.requires.shape c.args.rule.now).0 c.in-Ok.ensures.met,
+  c.in-Ok.ensures.ranking,
+)
 
 pub returns-in-Err-clause-told : goal.returns-in-Err-clause-told
 returns-in-Err-clause-told c =
@@ -25,5 +24,5 @@ returns-in-Err-clause-told c =
     let tells : IfOk c.rule_shortfall.result (TellsRule c.args.network.now c.args.rule.now c.args.shape.now c.in-Err.fault) =
     subst (λ (q : Content). IfOk c.rule_shortfall.result (TellsRule q c.args.rule.now c.args.shape.now c.in-Err.fault)) c.program.ensures.program c.rule_shortfall.ensures in
     rw c.stopped.ensures
-        (tells_stop (BreaksRule p (components_at p) c.args.rule.now) c.rule_shortfall.result
-        (network_broken p (tree_at p) c.args.shape.now c.requires.shape c.args.rule.now c.in-Err.fault c.rule_shortfall.result c.in-Err.ensures.fault tells))
+    (tells_stop (BreaksRule p (components_at p) c.args.rule.now) c.rule_shortfall.result
+    (network_broken p (tree_at p) c.args.shape.now c.requires.shape c.args.rule.now c.in-Err.fault c.rule_shortfall.result c.in-Err.ensures.fault tells))

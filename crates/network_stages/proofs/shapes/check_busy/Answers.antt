@@ -23,5 +23,5 @@ returns-in-Err-clause-told c =
     let tells : IfOk c.stops.result (TellsBusy c.args.network.now c.in-Err.fault) =
     subst (λ (q : Content). IfOk c.stops.result (TellsBusy q c.in-Err.fault)) c.program.ensures.program c.stops.ensures in
     rw c.stopped.ensures
-        (tells_stop (CanStop p (components_at p)) c.stops.result
-        (can_stop p (tree_at p) c.args.shape.now c.in-Err.fault _ c.stops.result c.requires c.busy.ensures.stops c.in-Err.is tells))
+    (tells_stop (CanStop p (components_at p)) c.stops.result
+    (can_stop p (tree_at p) c.args.shape.now c.in-Err.fault _ c.stops.result c.requires c.busy.ensures.stops c.in-Err.is tells))
