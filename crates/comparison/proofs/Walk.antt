@@ -48,6 +48,10 @@ pub no_tables_here : (p q : Content) (cs : List (Component Proc)) (why : Stop Re
 no_tables_here p q cs why programs components tells =
     subst (λ (x : Content). Tells (HaveNoTables x 0 (components_at p)) why) programs (subst (λ (ds : List (Component Proc)). Tells (HaveNoTables q 0 ds) why) components tells)
 
+pub other_events_here : (p q x y : Content) (why : Stop Refusal) → x ≡ p → y ≡ q → Tells (HaveOtherEvents x y) why → Tells (HaveOtherEvents p q) why
+other_events_here p q x y why same other tells =
+    subst (λ (z : Content). Tells (HaveOtherEvents z q) why) same (subst (λ (z : Content). Tells (HaveOtherEvents x z) why) other tells)
+
 -- a network has no parts where it has no tables, or its tables give none
 pub no_parts_first : (network : Network) (why : Stop Refusal) → Tells (HaveNoTables network.program 0 (leaves network.tree)) why → Tells (HasNoParts network) why
 no_parts_first network stop.NoMemory tells = tt
@@ -141,9 +145,9 @@ module _ (p q : Content) (ps qs : List Part) (has : HasParts (network_at p) ps) 
   -- what is told in the end
   pub is_conforming : network_of p ≡ Ok (tree_at p) → network_of q ≡ Ok (tree_at q) → ComponentsConform (network_at p) (network_at q) → (x : Content) (cs : List (Component Proc)) (what : Done)
       → x ≡ p → cs ≡ components_at p → IsToldConforming x cs what → IsConforming (network_at p) (network_at q) (answer.Done what)
-  is_conforming spelled other each x cs what programs components told =
+  is_conforming spelled other each x cs what programs components tells =
       let there : IsToldConforming p (components_at p) what =
-      subst (λ (y : Content). IsToldConforming y (components_at p) what) programs (subst (λ (ds : List (Component Proc)). IsToldConforming x ds what) components told) in
+      subst (λ (y : Content). IsToldConforming y (components_at p) what) programs (subst (λ (ds : List (Component Proc)). IsToldConforming x ds what) components tells) in
       record {
         bound = there.bound;
         exact = there.exact;
