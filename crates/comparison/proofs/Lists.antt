@@ -1,9 +1,10 @@
 -- Lists that agree or differ at some place.
-use Rattle.std.proofs.Common.{◌≡◌, ℕ, suc, zero, ◌+◌, ◌<◌, ◌≤◌, inl, inr, List, [], ◌∷◌, length, Option, Some, None, refl, sym, ap, ap₂, subst, ◌∙◌, arith}
+use Rattle.std.proofs.Common.{◌≡◌, ℕ, suc, zero, ◌+◌, ◌<◌, ◌≤◌, inl, inr, List, [], ◌∷◌, length, Bool, true, false, MatchBool, nat_eq, Option, Some, None, refl, sym, ap, ap₂, subst, ◌∙◌, arith}
 use Rattle.std.specs.Prelude.{map, slice_get}
-use Rattle.std.proofs.lemmas.Bool.{cases_lt}
+use Rattle.std.specs.Cmp.Lexicographic.{bytes_decides, pointwise}
+use Rattle.std.proofs.lemmas.Bool.{cases_lt, false≢true}
 use Rattle.std.proofs.lemmas.List.{length-map}
-use Rattle.std.proofs.lemmas.Option.{same_Some, slice_get-map, slice_get_cases, slice_get_past}
+use Rattle.std.proofs.lemmas.Option.{same_Some, slice_get_past}
 use Rattle.csp_program.specs.declared.processes.Proc.{Proc}
 use Rattle.csp_program.specs.declared.programs.Content.{Content}
 use Rattle.csp_program.specs.declared.programs.EventInfo.{EventInfo}
@@ -36,14 +37,15 @@ same_one_more xs ys n same here k less = elim (cases_lt k n) [
 -- ---- events
 
 pub as_many_events : (p : Content) → length (printed_events p) ≡ length p.events
-as_many_events p = length-map _ p.events
+as_many_events p = length-map p.events _
+
+printed_at : (p : Content) (infos : List EventInfo) (k : ℕ) → k < length infos → slice_get (map (λ info. info_text p (Some info)) infos) k ≡ Some (info_text p (slice_get infos k))
+printed_at p [] k h = absurd (omega arith)
+printed_at p (info ∷ infos) zero h = refl
+printed_at p (info ∷ infos) (suc k) h = printed_at p infos k (omega arith)
 
 pub printed_there : (p : Content) (k : ℕ) → k < length p.events → Some (event_text p k) ≡ slice_get (printed_events p) k
-printed_there p k h = elim (slice_get_cases p.events k).1 [
-  | inl x ↦
-      ap (λ (t : Option EventInfo). Some (info_text p t)) x.2.1 ∙ sym (slice_get-map (λ info. info_text p (Some info)) p.events k ∙ ap (λ (t : Option EventInfo). elim t as (λ _. Option (List ℕ)) [ None ↦ None | Some info ↦ Some (info_text p (Some info)) ]) x.2.1)
-  | inr past ↦ absurd (let less : length p.events ≤ k = past.0 in omega arith)
-]
+printed_there p k h = sym (printed_at p p.events k h)
 
 pub printed_past : (p : Content) (k : ℕ) → length p.events ≤ k → None ≡ slice_get (printed_events p) k
 printed_past p k past = let few = as_many_events p in sym (slice_get_past (printed_events p) k (omega arith))
@@ -51,7 +53,7 @@ printed_past p k past = let few = as_many_events p in sym (slice_get_past (print
 -- ---- alphabets
 
 pub as_many_alphabets : (cs : List (Component Proc)) → length (alphabets cs) ≡ length cs
-as_many_alphabets cs = length-map _ cs
+as_many_alphabets cs = length-map cs _
 
 pub alphabet_there : (cs : List (Component Proc)) (k : ℕ) (c : Component Proc) → slice_get cs k ≡ Some c → slice_get (alphabets cs) k ≡ Some c.alphabet
 alphabet_there [] k c at = absurd (let no : ◌≡◌ {A = Option (Component Proc)} None (Some c) = sym (slice_get_past [] k (omega arith)) ∙ at in cc)
@@ -60,3 +62,11 @@ alphabet_there (d ∷ cs) (suc k) c at = alphabet_there cs k c at
 
 pub alphabet_past : (cs : List (Component Proc)) (k : ℕ) → length cs ≤ k → slice_get (alphabets cs) k ≡ None
 alphabet_past cs k past = let few = as_many_alphabets cs in slice_get_past (alphabets cs) k (omega arith)
+
+-- whether two components that are there have the same alphabet
+pub alphabets_match : (cs ds : List (Component Proc)) (k : ℕ) (c d : Component Proc) (same : Bool) → slice_get cs k ≡ Some c → slice_get ds k ≡ Some d → same ≡ pointwise nat_eq c.alphabet d.alphabet
+    → MatchBool same (slice_get (alphabets cs) k ≡ slice_get (alphabets ds) k) (slice_get (alphabets cs) k ≡ slice_get (alphabets ds) k → ⊥)
+alphabets_match cs ds k c d true here there is =
+    alphabet_there cs k c here ∙ ap (λ (a : List ℕ). Some a) ((bytes_decides c.alphabet d.alphabet).0 (sym is)) ∙ sym (alphabet_there ds k d there)
+alphabets_match cs ds k c d false here there is = λ same.
+    false≢true (is ∙ (bytes_decides c.alphabet d.alphabet).1 (same_Some c.alphabet d.alphabet (sym (alphabet_there cs k c here) ∙ same ∙ alphabet_there ds k d there)))

@@ -70,7 +70,7 @@ fn conform_parts(
     requires other_form { All IsWellFormedPart others.now }
     ensures { Answers (ConformanceDecides (network_at network.now) (network_at specified.now)) result }
 {
-    let _ = specified;
+    let _spelled = specified.program();
     check_parts(alloc, network.program(), parts, others)?;
     let done = told_conforming(tables)?;
     Ok(done)

@@ -29,21 +29,25 @@ pub(crate) fn check_parts(
 {
     for place in 0..parts.len() {
         if let Err(fault) = conform_part(alloc, &parts[place], &specified[place]) {
-            return Err(stopped(failure(alloc, program, place as u32, fault)));
+            return Err(stopped(failure(alloc, program, place, fault)));
         }
     }
     Ok(())
 }
 
-// How it is told that the component with this number does not conform to its specification.
+// How it is told that the component in this place does not conform to its specification. A place that its type does not hold is refused like want of
+// memory.
 fn failure(
     alloc: Global,
     program: &Program,
-    component: u32,
+    place: usize,
     fault: ConformFault,
 ) -> Result<Shortfall, NoMemory>
-    ensures { IfOk result (TellsFault program.now component fault) }
+    ensures { IfOk result (TellsFault program.now place fault) }
 {
+    let Ok(component) = u32::try_from(place) else {
+        return Err(NoMemory);
+    };
     match fault {
         ConformFault::NoMemory => Err(NoMemory),
         ConformFault::Outside { trace } => {

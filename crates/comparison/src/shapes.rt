@@ -1,6 +1,6 @@
 //! Whether two networks have the same components, by their alphabets.
 
-ghost use Rattle.std.specs.Prelude.{◌≡◌, ◌≤◌, ◌<◌, ℕ, IfErr, IfNone, IfSome, MatchBool, OnOk, length, slice_get};
+ghost use Rattle.std.specs.Prelude.{◌≡◌, ◌≤◌, ◌<◌, ℕ, IfErr, IfNone, IfSome, MatchBool, OnOk, Some, length, slice_get};
 ghost use Rattle.dl_limits.specs.declared.TheConstants.{MOST_COMPONENTS};
 ghost use Rattle.network_layout.specs.Triple.{alphabets};
 ghost use Rattle.comparison.specs.Agreement.{DifferFirstAt, HaveOtherShape};
@@ -52,11 +52,22 @@ fn same_alphabet(seats: &[Seat], others: &[Seat], component: u32) -> bool
     ensures { MatchBool result (slice_get (alphabets seats.now) component ≡ slice_get (alphabets others.now) component)
         (slice_get (alphabets seats.now) component ≡ slice_get (alphabets others.now) component → ⊥) }
 {
-    let Some(seat) = seats.get(component as usize) else {
+    let Some(seat) = seat_at(seats, component) else {
         return others.get(component as usize).is_none();
     };
-    let Some(other) = others.get(component as usize) else {
+    let Some(other) = seat_at(others, component) else {
         return false;
     };
     seat.alphabet() == other.alphabet()
+}
+
+// The component with this number, if there is one.
+fn seat_at(seats: &[Seat], component: u32) -> Option<&Seat>
+    ensures there { IfSome result (λ seat. slice_get seats.now component ≡ Some seat.now) }
+    ensures past { IfNone result (length seats.now ≤ component) }
+{
+    match seats.get(component as usize) {
+        Some(seat) => Some(seat),
+        None => None,
+    }
 }

@@ -1,11 +1,13 @@
 -- Two texts that are loaded one after another and compared.
-use Rattle.std.proofs.Common.{◌≡◌, ℕ, ◌+◌, ◌<◌, ◌≤◌, List, [], ◌∷◌, Option, None, Some, Result, Ok, Err, IfOk, inl, inr, refl, sym, ap, subst, ◌∙◌, arith}
+use Rattle.std.proofs.Common.{◌≡◌, ℕ, ◌+◌, ◌<◌, ◌≤◌, List, [], ◌∷◌, Option, None, Some, Result, Ok, Err, IfErr, IfOk, inl, inr, refl, sym, ap, subst, ◌∙◌, arith}
 use Rattle.std.specs.Result.{IsErrAnd}
+use Rattle.std.proofs.lemmas.Result.{IfOk-weaker, err_from_is_err_and}
 use Rattle.command_words.specs.declared.request.Request.{Request}
 use Rattle.command_words.specs.declared.request.Request.TheVariants as request
 use Rattle.command_words.specs.Request.{names}
 use Rattle.comparison.specs.Compared.{IsCompared}
 use Rattle.comparison.proofs.Cases.{IsComparedWhole, compared_cases}
+use Rattle.csp_program.specs.declared.programs.Content.{Content}
 use Rattle.csp_text.specs.declared.script.Script.{Script}
 use Rattle.dl_limits.specs.declared.TheConstants.{MOST_BYTES}
 use Rattle.dl_outside.specs.Count.{HasRisen}
@@ -14,7 +16,7 @@ use Rattle.dl_outside.specs.declared.shelf.LoadFault.{LoadFault}
 use Rattle.dl_outside.specs.declared.shelf.LoadFault.TheVariants.{Missing, TooLong, Failed, NoMemory}
 use Rattle.dl_outside.specs.declared.texts.NamedText.{NamedText}
 use Rattle.network_stages.proofs.Exits.{at_refusal, at_stop}
-use Rattle.network_stages.specs.Networks.{IsNetworkOf, Network}
+use Rattle.network_stages.specs.Networks.{IsNetworkOf, Network, network_at}
 use Rattle.network_stages.specs.Stages.{HasNoNetwork}
 use Rattle.report.proofs.Points.{goes_on, refused_or, weaker}
 use Rattle.report.specs.Points.Point.{passed, told}
@@ -48,6 +50,18 @@ no_network_there text script (stop.Told r) only tells = inr (script, only, tells
 pub specification_told : (text : List ℕ) (why : Stop Refusal) → Tells (SpellsNoNetwork text) why → Tells (SpecificationSpellsNoNetwork text) (refused side.Specification why)
 specification_told text stop.NoMemory tells = tt
 specification_told text (stop.Told r) tells = (r, tells, refl)
+
+pub has_network : {E : Type 0} (text : List ℕ) (script : Script) (made : Result Content E) → SpellsOnlyScript text script → IfOk made (λ p. IsNetworkOf script (network_at p)) → IfOk made (λ p. HasNetwork text (network_at p))
+has_network text script made only is = IfOk-weaker made _ _ (λ p h. record { script = script; only = only; is = h }) is
+
+pub no_network : {A : Type 0} (text : List ℕ) (script : Script) (made : Result A (Stop Refusal)) → SpellsOnlyScript text script → IfErr made (Tells (HasNoNetwork script)) → IfErr made (Tells (SpellsNoNetwork text))
+no_network text script (Ok a) only tells = tt
+no_network text script (Err why) only tells = no_network_there text script why only tells
+
+pub no_script_exit : {A : Type 0} (text : List ℕ) (r : Result A (Stop Refusal)) (why : Stop Refusal) → IsErrAnd r (λ t. t ≡ why) → Tells (HasNoScript text) why → IfErr r (Tells (SpellsNoNetwork text))
+no_script_exit text r why exit tells =
+    let p = err_from_is_err_and r exit in
+    subst (λ (x : Result _ (Stop Refusal)). IfErr x (Tells (SpellsNoNetwork text))) (sym p.1) (subst (Tells (SpellsNoNetwork text)) (sym p.2) (no_script_there text why tells))
 
 module _ (text specification : List ℕ) (r : Result Done (Stop Answer)) where
   pub at_script_network : (why : Stop Refusal) → IsErrAnd r (λ t. t ≡ refused side.Script why) → Tells (SpellsNoNetwork text) why → Answers (TextsCompare text specification) r

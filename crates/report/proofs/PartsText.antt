@@ -39,3 +39,10 @@ proved_lines rule components nodes bound rank =
     ∙ ap (λ t. t ++ line (codes "silent bound " ++ bound)) (one_more counted (codes "nodes ") nodes
     ∙ ap (λ t. t ++ line (codes "nodes " ++ nodes)) (one_more ruled (codes "components ") components
     ∙ ap (λ t. t ++ line (codes "components " ++ components)) (one_more (codes "deadlock-free") (codes "rule ") rule))))
+
+pub conforming_lines : (components bound : List ℕ) → line (codes "conforms\ncomponents " ++ components ++ codes "\nsilent bound " ++ bound)
+    ≡ line (codes "conforms") ++ line (codes "components " ++ components) ++ line (codes "silent bound " ++ bound)
+conforming_lines components bound =
+    let counted = codes "conforms\ncomponents " ++ components in
+    one_more counted (codes "silent bound ") bound
+    ∙ ap (λ t. t ++ line (codes "silent bound " ++ bound)) (one_more (codes "conforms") (codes "components ") components)
