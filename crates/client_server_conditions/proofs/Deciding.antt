@@ -1,9 +1,10 @@
 -- From what holds at the pairs of an exploration to what holds after runs, and from links to parts.
-use Rattle.std.proofs.Common.{◌≡◌, ℕ, ◌<◌, ◌≤◌, ◌+◌, List, [], ◌∷◌, Bool, true, false, not, ◌&&◌, Option, Some, None, length, refl, sym, ap, subst, ◌∙◌, arith, inl, inr}
+use Rattle.std.proofs.Common.{◌≡◌, ℕ, ◌<◌, ◌≤◌, ◌+◌, List, [], ◌∷◌, Bool, true, false, not, ◌&&◌, Option, Some, None, length, refl, sym, ap, subst, ◌∙◌, arith, inl, inr, ◌⊎◌, IsTrue}
 use Rattle.std.proofs.lemmas.Bool.{and_parts, both_ways, false≢true, cond-true, cond-false, and_from, cases_lt}
 use Rattle.csp_base.specs.Members.{has}
 use Rattle.csp_tables.specs.Table.{node_at, end_of}
-use Rattle.csp_tables.specs.Part.{Part, part_at, sharers}
+use Rattle.csp_tables.specs.Part.{Part, part_at, sharers, AreApart}
+use Rattle.csp_tables.specs.Trace.{IsWithin}
 use Rattle.csp_tables.specs.Shape.{Shape, link_at, IsWellFormed}
 use Rattle.csp_tables.specs.Standing.{RunsTo}
 use Rattle.csp_tables.specs.Roles.{role_at}
@@ -22,6 +23,7 @@ use Rattle.client_server_conditions.specs.Conditions.{Keeps, KeepsAt, KeepsOn, K
 use Rattle.client_server_conditions.specs.declared.conditions.RunCondition.{RunCondition}
 use Rattle.client_server_conditions.specs.declared.conditions.RunCondition.TheVariants.{Turns, Service, Answers}
 use Rattle.client_server_conditions.proofs.Opening.{opened_is, HasSide}
+use Rattle.design_rules.proofs.Accepting.{at_place, each_set}
 
 -- ---- explorations
 
@@ -103,19 +105,19 @@ module _ (network : Network) (i : ℕ) (s : List ℕ) where
   pub keeps_all : (condition : RunCondition) → KeepsWhole network condition i s → KeepsLinks network condition i s → Keeps network condition i s
   keeps_all Turns whole links = λ l e possible on. links l on.within on.end possible.runs e possible.next on.event
   keeps_all Service whole links = record {
-    all_or_none = λ k a. whole a.runs k a.listed a.shared;
-    none_while_open = λ j l k a joins client o. links l joins.within (first_end network.shape i j l (turned network.shape j i l joins)) a.runs o (record { asker = j; joins = joins; client = client }) k a.listed a.shared;
+    all_or_none = each_set network.shape i s (λ M. IsWithin (role_at network.roles i).sreq M ⊎ AreApart M (role_at network.roles i).sreq) (λ k a. whole a.runs k a.listed a.shared);
+    none_while_open = λ j l M set joins client o. each_set network.shape i s (λ N. AreApart N (role_at network.roles i).sreq) (λ k a. links l joins.within (first_end network.shape i j l (turned network.shape j i l joins)) a.runs o (record { asker = j; joins = joins; client = client }) k a.listed a.shared) M set;
   }
-  keeps_all Answers whole links = λ j l k e a joins client o on ack. links l joins.within (first_end network.shape i j l joins) a.runs o (record { server = j; joins = joins; client = client }) k a.listed a.shared e on ack
+  keeps_all Answers whole links = λ j l M e set joins client o on ack. each_set network.shape i s (λ N. IsTrue (has N e)) (λ k a. links l joins.within (first_end network.shape i j l joins) a.runs o (record { server = j; joins = joins; client = client }) k a.listed a.shared e on ack) M set
 
   pub keeps_links : (condition : RunCondition) → Keeps network condition i s → KeepsLinks network condition i s
   keeps_links Turns keeps = λ l h end runs e possible on. keeps l e (record { runs = runs; next = possible }) (record { within = h; end = end; event = on })
-  keeps_links Service keeps = λ l h end runs o g k below within. keeps.none_while_open g.asker l k (record { runs = runs; listed = below; shared = within }) g.joins g.client o
-  keeps_links Answers keeps = λ l h end runs o a k below within e on ack. keeps a.server l k e (record { runs = runs; listed = below; shared = within }) a.joins a.client o on ack
+  keeps_links Service keeps = λ l h end runs o g k below within. keeps.none_while_open g.asker l _ (at_place network.shape i s k (record { runs = runs; listed = below; shared = within })) g.joins g.client o
+  keeps_links Answers keeps = λ l h end runs o a k below within e on ack. keeps a.server l _ e (at_place network.shape i s k (record { runs = runs; listed = below; shared = within })) a.joins a.client o on ack
 
   pub keeps_whole : (condition : RunCondition) → Keeps network condition i s → KeepsWhole network condition i s
   keeps_whole Turns keeps = tt
-  keeps_whole Service keeps = λ runs k below within. keeps.all_or_none k (record { runs = runs; listed = below; shared = within })
+  keeps_whole Service keeps = λ runs k below within. keeps.all_or_none _ (at_place network.shape i s k (record { runs = runs; listed = below; shared = within }))
   keeps_whole Answers keeps = tt
 
   no_whole : (condition : RunCondition) → (RunsTo network.shape i s → ⊥) → KeepsWhole network condition i s

@@ -39,10 +39,13 @@ pub tables_here : (p q : Content) (cs : List (Component Proc)) (ts : List Compon
 tables_here p q cs ts programs components are =
     subst (λ (x : Content). AreTablesOf x (components_at p) ts) programs (subst (λ (ds : List (Component Proc)). AreTablesOf q ds ts) components are)
 
-pub parts_here : (p q : Content) (cs : List (Component Proc)) (ts : List ComponentTable) (parts : List Part) → q ≡ p → cs ≡ components_at p → ArePartsBy q ts cs parts
-    → ArePartsBy p ts (components_at p) parts
-parts_here p q cs ts parts programs components are =
-    subst (λ (x : Content). ArePartsBy x ts (components_at p) parts) programs (subst (λ (ds : List (Component Proc)). ArePartsBy q ts ds parts) components are)
+pub parts_here : (p q : Content) (cs : List (Component Proc)) (parts : List Part) → q ≡ p → cs ≡ components_at p → ArePartsBy q cs parts → ArePartsBy p (components_at p) parts
+parts_here p q cs parts programs components are =
+    subst (λ (x : Content). ArePartsBy x (components_at p) parts) programs (subst (λ (ds : List (Component Proc)). ArePartsBy q ds parts) components are)
+
+pub no_parts_here : (p q : Content) (cs : List (Component Proc)) (why : Stop Refusal) → q ≡ p → cs ≡ components_at p → Tells (HaveNoParts q 0 cs) why → Tells (HaveNoParts p 0 (components_at p)) why
+no_parts_here p q cs why programs components tells =
+    subst (λ (x : Content). Tells (HaveNoParts x 0 (components_at p)) why) programs (subst (λ (ds : List (Component Proc)). Tells (HaveNoParts q 0 ds) why) components tells)
 
 pub no_tables_here : (p q : Content) (cs : List (Component Proc)) (why : Stop Refusal) → q ≡ p → cs ≡ components_at p → Tells (HaveNoTables q 0 cs) why → Tells (HaveNoTables p 0 (components_at p)) why
 no_tables_here p q cs why programs components tells =
@@ -57,7 +60,7 @@ pub no_parts_first : (network : Network) (why : Stop Refusal) → Tells (HaveNoT
 no_parts_first network stop.NoMemory tells = tt
 no_parts_first network (stop.Told r) tells = inl tells
 
-pub no_parts_then : (network : Network) (tables : List ComponentTable) (why : Stop Refusal) → AreTablesOf network.program (leaves network.tree) tables → Tells (HaveNoParts 0 tables) why → Tells (HasNoParts network) why
+pub no_parts_then : (network : Network) (tables : List ComponentTable) (why : Stop Refusal) → AreTablesOf network.program (leaves network.tree) tables → Tells (HaveNoParts network.program 0 (leaves network.tree)) why → Tells (HasNoParts network) why
 no_parts_then network tables stop.NoMemory are tells = tt
 no_parts_then network tables (stop.Told r) are tells = inr (tables, are, tells)
 
@@ -88,11 +91,11 @@ module _ (network : Network) (Then : Answer → Type 0) (r : Result Done (Stop A
   at_tables why exit tells = at_refusal r _ _ _ _ why exit tells
 
   module _ (tables : List ComponentTable) (are : AreTablesOf network.program (leaves network.tree) tables) where
-    pub at_sets : (why : Stop Refusal) → IsErrAnd r (λ t. t ≡ refused side.Script why) → Tells (HaveNoParts 0 tables) why → Answers (PartsOr side.Script network Then) r
+    pub at_sets : (why : Stop Refusal) → IsErrAnd r (λ t. t ≡ refused side.Script why) → Tells (HaveNoParts network.program 0 (leaves network.tree)) why → Answers (PartsOr side.Script network Then) r
     unfolding PartsOr
     at_sets why exit tells = goes_on _ _ _ _ tables are r (at_refusal r _ _ _ _ why exit tells)
 
-    pub at_then : (parts : List Part) → ArePartsBy network.program tables (leaves network.tree) parts → Answers Then r → Answers (PartsOr side.Script network Then) r
+    pub at_then : (parts : List Part) → ArePartsBy network.program (leaves network.tree) parts → Answers Then r → Answers (PartsOr side.Script network Then) r
     unfolding PartsOr
     at_then parts by rest = goes_on _ _ _ _ tables are r (goes_on _ _ _ _ parts by r rest)
 

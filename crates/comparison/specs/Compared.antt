@@ -27,7 +27,7 @@ pub record IsConforming (network specified : Network) (a : Answer) : Type 0 wher
 unfoldable pub PartsOr : Side → Network → (Answer → Type 0) → Answer → Type 0
 PartsOr side network Then =
     RefusedOr side (HaveNoTables network.program 0 (leaves network.tree)) (AreTablesOf network.program (leaves network.tree)) (λ tables.
-    RefusedOr side (HaveNoParts 0 tables) (ArePartsBy network.program tables (leaves network.tree)) (λ parts.
+    RefusedOr side (HaveNoParts network.program 0 (leaves network.tree)) (ArePartsBy network.program (leaves network.tree)) (λ parts.
     Then))
 
 -- a component does not conform

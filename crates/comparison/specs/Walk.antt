@@ -30,13 +30,13 @@ use Rattle.report.specs.declared.answer.Side.TheVariants as side
 pub record HasParts (network : Network) (parts : List Part) : Type 0 where
   pub tables : List ComponentTable
   pub are : AreTablesOf network.program (leaves network.tree) tables
-  pub by : ArePartsBy network.program tables (leaves network.tree) parts
+  pub by : ArePartsBy network.program (leaves network.tree) parts
 
 -- a component has no table, or too many sets of terms
 abbrev pub HasNoParts : Network → Refusal → Type 0
 HasNoParts network r =
     HaveNoTables network.program 0 (leaves network.tree) r
-    ⊎ ((tables : List ComponentTable) × AreTablesOf network.program (leaves network.tree) tables × HaveNoParts 0 tables r)
+    ⊎ ((tables : List ComponentTable) × AreTablesOf network.program (leaves network.tree) tables × HaveNoParts network.program 0 (leaves network.tree) r)
 
 -- the same of a specification, as it is answered
 abbrev pub SpecificationHasNoParts : Network → Answer → Type 0

@@ -3,11 +3,11 @@ pub mod Choosing
 pub mod Computing
 pub mod Doubles
 pub mod Entering
-pub mod Filling
 pub mod Forms
 pub mod Looking
 pub mod Noting
 pub mod Own
-pub mod Passing
 pub mod Places
 pub mod Rounds
+pub mod Under
+pub mod Walking

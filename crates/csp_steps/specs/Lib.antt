@@ -1,7 +1,6 @@
 pub mod Computed
 pub mod Evaluated
 pub mod ExactStep
-pub mod Inputs
 pub mod Listed
 pub mod Once
-pub mod Rests
+pub mod Walked

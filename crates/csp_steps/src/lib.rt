@@ -11,6 +11,7 @@ mod once;
 mod prefix;
 mod step;
 mod steps;
+mod walk;
 
 pub use evaluated::Evaluated;
 pub use step::StepTo;

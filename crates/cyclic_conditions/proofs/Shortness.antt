@@ -18,6 +18,7 @@ use Rattle.std.proofs.lemmas.Option.{same_Some}
 use Rattle.csp_base.proofs.Listed.{find_has, has_first}
 use Rattle.csp_base.proofs.Booleans.{and_second_false}
 use Rattle.csp_base.proofs.Rising.{member_of_superset, is_subset_of_from_members}
+use Rattle.design_rules.proofs.Accepting.{at_place, set_shared}
 
 -- ---- sets
 
@@ -64,8 +65,8 @@ pub short_falls : (shape : Shape) (i l n : ℕ) (s : List ℕ) → i < length sh
 short_falls shape i l n s h x run leads =
     subst (λ m. IsShortAt shape i l m → FallsShort shape l i s) leads
     (λ y. record {
-      place = y.place;
-      accepts = record { runs = record { part = h; follows = run }; listed = y.listed; shared = y.short.shared };
+      acceptance = acceptance_at (part_at shape.parts i) (end_of (part_at shape.parts i).table 0 s) y.place;
+      accepts = at_place shape i s y.place (record { runs = record { part = h; follows = run }; listed = y.listed; shared = y.short.shared });
       meets = y.short.meets;
       missing = y.short.missing;
       on = y.short.on;
@@ -82,10 +83,10 @@ read_falls shape i l n j s p h same is x run =
 
 pub falls_short_at : (shape : Shape) (i l : ℕ) (s : List ℕ) → IsWellFormed shape → l < length shape.links → FallsShort shape l i s → IsShortAt shape i l (end_of (part_at shape.parts i).table 0 s)
 falls_short_at shape i l s w h f = record {
-  node = end_within (part_at shape.parts i) s (part_form shape.parts i f.accepts.runs.part w.form) f.accepts.runs.follows;
-  place = f.place;
-  listed = f.accepts.listed;
-  short = record { link = h; shared = f.accepts.shared; meets = f.meets; missing = f.missing; on = f.on; lacks = f.lacks };
+  node = end_within (part_at shape.parts i) s (part_form shape.parts i f.accepts.at.runs.part w.form) f.accepts.at.runs.follows;
+  place = f.accepts.place;
+  listed = f.accepts.at.listed;
+  short = subst (IsShort shape l) (sym f.accepts.is) (record { link = h; shared = set_shared shape i s f.acceptance f.accepts; meets = f.meets; missing = f.missing; on = f.on; lacks = f.lacks });
 }
 
 no_mark : {n : ℕ} → Some n ≡ None → ⊥
@@ -94,13 +95,13 @@ no_mark h = cc
 -- an end that is not marked is whole
 pub left_whole : (shape : Shape) (left right : List (Option ℕ)) (l : ℕ) → IsWellFormed shape → l < length shape.links → ((i m n : ℕ) → i < length shape.parts → IsShortAt shape i m n → IsMarked shape left right i m) → short_at left l ≡ None → IsWholeEnd shape l (link_at shape l).left
 left_whole shape left right l w h marked none s f =
-    let m = marked (link_at shape l).left l (end_of (part_at shape.parts (link_at shape l).left).table 0 s) f.accepts.runs.part (falls_short_at shape (link_at shape l).left l s w h f) in
+    let m = marked (link_at shape l).left l (end_of (part_at shape.parts (link_at shape l).left).table 0 s) f.accepts.at.runs.part (falls_short_at shape (link_at shape l).left l s w h f) in
     let x = m.at_left refl in
     no_mark (sym x.1 ∙ none)
 
 pub right_whole : (shape : Shape) (left right : List (Option ℕ)) (l : ℕ) → IsWellFormed shape → l < length shape.links → ((i m n : ℕ) → i < length shape.parts → IsShortAt shape i m n → IsMarked shape left right i m) → short_at right l ≡ None → IsWholeEnd shape l (link_at shape l).right
 right_whole shape left right l w h marked none s f =
-    let m = marked (link_at shape l).right l (end_of (part_at shape.parts (link_at shape l).right).table 0 s) f.accepts.runs.part (falls_short_at shape (link_at shape l).right l s w h f) in
+    let m = marked (link_at shape l).right l (end_of (part_at shape.parts (link_at shape l).right).table 0 s) f.accepts.at.runs.part (falls_short_at shape (link_at shape l).right l s w h f) in
     let x = m.at_right refl in
     no_mark (sym x.1 ∙ none)
 

@@ -18,6 +18,7 @@ use Rattle.net_sound.proofs.Finite.{search_list}
 use Rattle.design_rules.specs.ClientServerLaws.{ClientServerRanksFall}
 use Rattle.design_rules.proofs.Walks.{Graph, falls, height_below}
 use Rattle.design_rules.proofs.Shapes.{turned, first_end, link_events, own_run, own_end, Side, Request, request}
+use Rattle.design_rules.proofs.Accepting.{at_place}
 
 meet_or_apart : (M N : List ℕ) → Meet M N ⊎ AreApart M N
 meet_or_apart M N =
@@ -85,10 +86,10 @@ open_acknowledges shape roles i l s e c possible on opened = sym (cond-true (is_
 takes_none : (shape : Shape) (roles : List RoleSets) (s : List ℕ) (i j k l : ℕ) → IsWellFormed shape → KeepRoles shape roles → (r : Request shape s i j k l) → IsClientOn shape roles r.link i j → AreApart (accepted shape j (own_run shape s j) l) (role_at roles j).sreq
 takes_none shape roles s i j k l w c r client =
     elim (cases_Bool (is_open shape roles r.link (own_run shape s i))) [
-      | inl opened ↦ (c.serving j (own_run shape s j)).none_while_open i r.link l r.there.accepts r.joins client (sym (same_open shape roles s i j r.link w r.joins) ∙ opened)
+      | inl opened ↦ (c.serving j (own_run shape s j)).none_while_open i r.link _ (at_place shape j (own_run shape s j) l r.there.accepts) r.joins client (sym (same_open shape roles s i j r.link w r.joins) ∙ opened)
       | inr closed ↦
           elim (or_cases (has (role_at roles i).creq r.event) (has (role_at roles i).sreq r.event) (closed_requests shape roles i r.link (own_run shape s i) r.event c (r.here.possible r.event r.asked) r.on_here closed)) [
-            | inl asks ↦ elim ((c.serving j (own_run shape s j)).all_or_none l r.there.accepts) [
+            | inl asks ↦ elim ((c.serving j (own_run shape s j)).all_or_none _ (at_place shape j (own_run shape s j) l r.there.accepts)) [
               | inl all ↦ absurd (r.apart r.event r.asked (all r.event (sym (client.requests r.event r.on_here.event) ∙ asks)))
               | inr none ↦ none
             ]
@@ -104,7 +105,7 @@ offers_requests shape roles s i j k l w c r client =
           elim (or_cases (has (role_at roles i).cack r.event) (has (role_at roles i).sack r.event) (open_acknowledges shape roles i r.link (own_run shape s i) r.event c (r.here.possible r.event r.asked) r.on_here opened)) [
             | inl asks ↦ absurd (both_ways (has (role_at roles i).cack r.event) (client.no_asking r.event r.on_here.event).1 asks)
             | inr answers ↦
-                absurd (r.apart r.event r.asked (c.answers j (own_run shape s j) i r.link l r.event r.there.accepts (turned shape i j r.link r.joins) client (sym (same_open shape roles s i j r.link w r.joins) ∙ opened) r.on_here.event (client.acknowledgements r.event r.on_here.event ∙ answers)))
+                absurd (r.apart r.event r.asked (c.answers j (own_run shape s j) i r.link _ r.event (at_place shape j (own_run shape s j) l r.there.accepts) (turned shape i j r.link r.joins) client (sym (same_open shape roles s i j r.link w r.joins) ∙ opened) r.on_here.event (client.acknowledgements r.event r.on_here.event ∙ answers)))
           ]
       | inr closed ↦
           elim (or_cases (has (role_at roles i).creq r.event) (has (role_at roles i).sreq r.event) (closed_requests shape roles i r.link (own_run shape s i) r.event c (r.here.possible r.event r.asked) r.on_here closed)) [

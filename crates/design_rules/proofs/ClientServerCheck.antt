@@ -1,5 +1,5 @@
 -- A test that shows a written-out shape one of clients and servers, with its ranking. For examples.
-use Rattle.std.proofs.Common.{◌≡◌, ℕ, ◌*◌, ◌<◌, inl, inr, pos, ◌-ℤ◌, List, [], ◌∷◌, length, Bool, true, false, not, ◌&&◌, ◌||◌, cond, refl, sym, ap, ◌∙◌}
+use Rattle.std.proofs.Common.{◌≡◌, ℕ, ◌*◌, ◌<◌, inl, inr, pos, ◌-ℤ◌, List, [], ◌∷◌, length, Bool, true, false, not, ◌&&◌, ◌||◌, cond, refl, sym, ap, ◌∙◌, IsTrue, ◌⊎◌}
 use Rattle.std.proofs.lemmas.Bool.{and_parts, and_from, or_cases, both_ways, not-true}
 use Rattle.std.specs.Ordering.{int_eq}
 use Rattle.csp_base.specs.Members.{has}
@@ -15,6 +15,8 @@ use Rattle.design_rules.specs.ClientServerRanking.{IsClientServerRanking}
 use Rattle.design_rules.proofs.Shapes.{turned, first_end}
 use Rattle.design_rules.proofs.Checks.{implies, implied, all_below, below_passes, all_in, member_passes, passes_in, all_steps, step_passes, all_accepted, accepted_passes, same_truth, same_truth_is, next_parity, parity_told, parts_shared, parts_shared_is}
 use Rattle.design_rules.proofs.RankCheck.{parts_fit, fits_is, ranks_equal, all_vertices, vertex_passes, others_zero, others_zero_is, no_laps, no_laps_is}
+use Rattle.design_rules.proofs.Accepting.{each_set}
+use Rattle.csp_tables.specs.Trace.{IsWithin}
 
 abbrev sets_of : List RoleSets → ℕ → List (List ℕ)
 sets_of roles i = (role_at roles i).creq ∷ (role_at roles i).cack ∷ (role_at roles i).sreq ∷ (role_at roles i).sack ∷ []
@@ -77,16 +79,16 @@ keep_roles shape roles told c = record {
       ap (λ b. cond b (is_acknowledgement roles i e) (is_request roles i e)) (open_told shape roles told c i l s possible.runs on.within)
       ∙ implied _ _ (step_passes _ (part_at shape.parts i).table (end_of (part_at shape.parts i).table 0 s) e (end_passes shape _ i l c.turns possible.runs.part on.within) possible.next) own;
   serving = λ i s. record {
-    all_or_none = λ k a.
+    all_or_none = each_set shape i s (λ M. IsWithin (role_at roles i).sreq M ⊎ AreApart M (role_at roles i).sreq) (λ k a.
         let n = end_of (part_at shape.parts i).table 0 s in
-        elim (or_cases _ _ (accepted_passes _ (part_at shape.parts i).table n k (below_passes _ (length shape.parts) i c.all_or_none a.runs.part) a.listed)) [ inl all ↦ inl (λ e m. member_passes _ (role_at roles i).sreq e all m) | inr none ↦ inr (are_apart (role_at roles i).sreq (acceptance_at (part_at shape.parts i) n k) none) ];
-    none_while_open = λ j l k a joins client is.
+        elim (or_cases _ _ (accepted_passes _ (part_at shape.parts i).table n k (below_passes _ (length shape.parts) i c.all_or_none a.runs.part) a.listed)) [ inl all ↦ inl (λ e m. member_passes _ (role_at roles i).sreq e all m) | inr none ↦ inr (are_apart (role_at roles i).sreq (acceptance_at (part_at shape.parts i) n k) none) ]);
+    none_while_open = λ j l M b joins client is. each_set shape i s (λ N. AreApart N (role_at roles i).sreq) (λ k a.
         let n = end_of (part_at shape.parts i).table 0 s in
-        are_apart (role_at roles i).sreq (acceptance_at (part_at shape.parts i) n k) (implied _ _ (accepted_passes _ (part_at shape.parts i).table n k (end_passes shape _ i l c.none_while_open a.runs.part joins.within) a.listed) (and_from _ _ (first_end shape i j l (turned shape j i l joins)) (sym (open_told shape roles told c i l s a.runs joins.within) ∙ is)));
+        are_apart (role_at roles i).sreq (acceptance_at (part_at shape.parts i) n k) (implied _ _ (accepted_passes _ (part_at shape.parts i).table n k (end_passes shape _ i l c.none_while_open a.runs.part joins.within) a.listed) (and_from _ _ (first_end shape i j l (turned shape j i l joins)) (sym (open_told shape roles told c i l s a.runs joins.within) ∙ is)))) M b;
   };
-  answers = λ i s j l k e a joins client is on asks.
+  answers = λ i s j l M e b joins client is on asks. each_set shape i s (λ N. IsTrue (has N e)) (λ k a.
       let n = end_of (part_at shape.parts i).table 0 s in
-      implied _ _ (member_passes _ (link_at shape l).shared e (implied _ _ (accepted_passes _ (part_at shape.parts i).table n k (end_passes shape _ i l c.answers a.runs.part joins.within) a.listed) (and_from _ _ (first_end shape i j l joins) (sym (open_told shape roles told c i l s a.runs joins.within) ∙ is))) on) asks;
+      implied _ _ (member_passes _ (link_at shape l).shared e (implied _ _ (accepted_passes _ (part_at shape.parts i).table n k (end_passes shape _ i l c.answers a.runs.part joins.within) a.listed) (and_from _ _ (first_end shape i j l joins) (sym (open_told shape roles told c i l s a.runs joins.within) ∙ is))) on) asks) M b;
 }
 
 pub record IsTestedRoleRanking (shape : Shape) (roles : List RoleSets) (height : ℕ → ℕ) (ranking : Ranking) : Type 0 where

@@ -21,6 +21,7 @@ use Rattle.net_sound.proofs.Within.{part_form}
 use Rattle.design_rules.proofs.Counts.{count_strict, below_all, count_push_more, count_push_same, lap_over, lap_on}
 use Rattle.design_rules.proofs.Runs.{possible_after, run_induction, laps_push, possible_within}
 use Rattle.design_rules.proofs.Shapes.{turned, first_end, link_shared, some_link, link_events, own_run, own_end, Request, request}
+use Rattle.design_rules.proofs.Accepting.{at_place}
 
 -- ---- places
 
@@ -214,7 +215,7 @@ pub whole_has : (shape : Shape) (l i : ℕ) (s : List ℕ) (k : ℕ) → IsWhole
 whole_has shape l i s k whole a meets e on =
     elim (cases_Bool (has (accepted shape i s k) e)) [
       | inl there ↦ there
-      | inr lacks ↦ absurd (whole s (record { place = k; accepts = a; meets = meets; missing = e; on = on; lacks = lacks }))
+      | inr lacks ↦ absurd (whole s (record { acceptance = accepted shape i s k; accepts = at_place shape i s k a; meets = meets; missing = e; on = on; lacks = lacks }))
     ]
 
 -- where both acceptances meet the link, one has all its events

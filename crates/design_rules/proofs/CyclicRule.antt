@@ -6,7 +6,7 @@ use Rattle.std.proofs.Math.Nat.{mod-eq_of_lt, mod-le}
 use Rattle.csp_base.specs.Members.{has}
 use Rattle.digraph.specs.Walk.{Walk}
 use Rattle.csp_tables.specs.Table.{end_of}
-use Rattle.csp_tables.specs.Part.{part_at}
+use Rattle.csp_tables.specs.Part.{part_at, Meet}
 use Rattle.csp_tables.specs.Shape.{Shape, is_end, link_at, IsWellFormed}
 use Rattle.csp_tables.specs.Standing.{IsPossible, accepted, IsBusyShape}
 use Rattle.design_rules.specs.Cyclic.{KeepsPlaces, links_of, ReachesLink, place_after, AllKeepPlaces, NumbersRise, IsWholeEnd, HasWholeEnd, IsCyclic}
@@ -143,9 +143,12 @@ numbered_rise shape w rule l m before =
 -- a full end is whole: an acceptance that meets the link has an event of it that is possible, so the link is next
 numbered_whole : (shape : Shape) (number : ℕ → ℕ) (l i : ℕ) → IsWellFormed shape → KeepsOrder shape number → l < length shape.links → IsTrue (is_end shape i l) → IsFullEnd shape number l i → IsWholeEnd shape l i
 numbered_whole shape number l i w order h end full s short =
-    let possible : IsPossible shape i s short.meets.event = record { runs = short.accepts.runs; next = w.possible i (end_of (part_at shape.parts i).table 0 s) short.place short.meets.event short.accepts.runs.part short.meets.first } in
+    let k = short.accepts.place in
+    let a = short.accepts.at in
+    let meets : Meet (accepted shape i s k) (link_at shape l).shared = subst (λ (M : List ℕ). Meet M (link_at shape l).shared) (sym short.accepts.is) short.meets in
+    let possible : IsPossible shape i s short.meets.event = record { runs = a.runs; next = w.possible i (end_of (part_at shape.parts i).table 0 s) k meets.event a.runs.part meets.first } in
     let next = order i l s short.meets.event possible (record { within = h; end = end; event = short.meets.second }) in
-    both_ways (has (accepted shape i s short.place) short.missing) short.lacks (full s short.place short.accepts next short.missing short.on)
+    both_ways (has short.acceptance short.missing) short.lacks (subst (λ (M : List ℕ). IsTrue (has M short.missing)) short.accepts.is (full s k a next short.missing short.on))
 
 numbered_wholes : (shape : Shape) (number : ℕ → ℕ) → IsWellFormed shape → KeepsOrder shape number → HasFullEnds shape number → (l : ℕ) → l < length shape.links → HasWholeEnd shape l
 numbered_wholes shape number w order full l h =

@@ -1,3 +1,4 @@
+pub mod Accepting
 pub mod Acknowledging
 pub mod Checks
 pub mod ClientServer
@@ -8,15 +9,19 @@ pub mod CyclicCheck
 pub mod CyclicRule
 pub mod FormCheck
 pub mod Holders
+pub mod Linking
 pub mod Live
 pub mod OneOrder
+pub mod Outlines
 pub mod Places
-pub mod Refuting
 pub mod RankCheck
+pub mod Readings
+pub mod Refuting
 pub mod Resource
 pub mod ResourceCheck
 pub mod RowOfThree
 pub mod Runs
 pub mod Shapes
+pub mod Transport
 pub mod TwoUsers
 pub mod Walks

@@ -19,6 +19,7 @@ use Rattle.design_rules.proofs.Shapes.{turned, first_end, link_events, own_run, 
 use Rattle.design_rules.proofs.Holders.{Resource, turns, one_link}
 use Rattle.design_rules.proofs.ClientServer.{no_scale}
 use Rattle.csp_base.proofs.Listed.{any_of}
+use Rattle.design_rules.proofs.Accepting.{at_place}
 
 -- ---- what is acquired
 
@@ -126,7 +127,7 @@ acquire_falls shape uses number top ranking s i j k l g r user resource a =
             | inl q ↦ let least : number q.part ≤ number j = q.least j r.there.part wanted in by_numbers x y (2 * (top - number q.part) + 2) (2 * (top - number j) + 1) q.rank_is (g.ranks.held j (own_run shape s j) l resource (accepts_some shape s j l r.there) held) (omega arith)
             | inr q ↦ absurd (both_ways (acquires uses (accepted shape i (own_run shape s i) k) j) (q.nothing j r.there.part) wanted)
           ]
-      | inr free ↦ absurd (r.apart r.event r.asked ((g.uses_are.grants j (own_run shape s j) resource).when_free l r.there.accepts free r.event a))
+      | inr free ↦ absurd (r.apart r.event r.asked ((g.uses_are.grants j (own_run shape s j) resource).when_free _ (at_place shape j (own_run shape s j) l r.there.accepts) free r.event a))
     ]
 
 -- a user asks to release: the resource grants it
@@ -139,7 +140,7 @@ release_granted shape uses number top ranking s i j k l g r resource odd a =
           let h = t.held held in
           let x = h.0 in
           let on = sym (h.1 r.link r.joins.within end) ∙ odd in
-          r.apart r.event r.asked ((g.uses_are.grants j (own_run shape s j) resource).when_held r.link l r.event r.there.accepts held (record { within = r.joins.within; end = end; event = x.event; last = x.is; on = on }) a r.on_there.event)
+          r.apart r.event r.asked ((g.uses_are.grants j (own_run shape s j) resource).when_held r.link _ r.event (at_place shape j (own_run shape s j) l r.there.accepts) held (record { within = r.joins.within; end = end; event = x.event; last = x.is; on = on }) a r.on_there.event)
       | inr free ↦ both_ways (holds shape r.link (own_run shape s j)) (t.free free r.link r.joins.within end) odd
     ]
 
@@ -179,7 +180,7 @@ held_falls shape uses number top ranking s i j k l g r resource user held =
       | inl q ↦
           let bounds = number_within shape uses number top ranking q.part g q.within (acquired_resource uses (accepted shape j (own_run shape s j) l) q.part q.acquired) in
           let most : number q.part ≤ top = bounds.1 in
-          let above : number i < number q.part = g.rise i q.part (record { user = j; link = r.link; run = own_run shape s j; place = l; is_user = user; accepts = r.there.accepts; within = q.within; acquiring = q.acquired; joins = turned shape i j r.link r.joins; holding = odd }) in
+          let above : number i < number q.part = g.rise i q.part (record { user = j; link = r.link; run = own_run shape s j; acceptance = accepted shape j (own_run shape s j) l; is_user = user; accepts = at_place shape j (own_run shape s j) l r.there.accepts; within = q.within; acquiring = q.acquired; joins = turned shape i j r.link r.joins; holding = odd }) in
           by_numbers x y (2 * (top - number i) + 1) (2 * (top - number q.part) + 2) high q.rank_is (omega arith)
       | inr q ↦ by_numbers x y (2 * (top - number i) + 1) 0 high q.rank_is (omega arith)
     ]
@@ -242,7 +243,7 @@ pub chains_rise : (shape : Shape) (uses : List UseSets) (number : ℕ → ℕ) �
 chains_rise shape uses number w a numbers m j h =
     let held = held_within shape uses m j w a h in
     let low = numbers m held.0 held.1 in
-    let high = numbers j h.within (acquired_resource uses (accepted shape h.user h.run h.place) j h.acquiring) in
+    let high = numbers j h.within (acquired_resource uses h.acceptance j h.acquiring) in
     let more : suc low.below ≤ high.below = high.longest.most (suc low.below) low.longest.end (m, h, low.longest.attained) in
     let x : number m ≡ low.below + 1 = low.number in
     let y : number j ≡ high.below + 1 = high.number in

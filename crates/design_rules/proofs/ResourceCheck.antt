@@ -1,5 +1,5 @@
 -- A test that shows a written-out shape one of users and resources, with its ranking. For examples.
-use Rattle.std.proofs.Common.{◌≡◌, ℕ, ◌+◌, ◌-◌, ◌*◌, ◌<◌, inl, inr, pos, List, [], ◌∷◌, ◌++◌, length, Option, Some, None, Bool, true, false, not, ◌&&◌, cond, nat_eq, nat_lt, refl, sym, ap, subst, ◌∙◌, eqb-true, eq-eqb, ltb-true}
+use Rattle.std.proofs.Common.{◌≡◌, ℕ, ◌+◌, ◌-◌, ◌*◌, ◌<◌, inl, inr, pos, List, [], ◌∷◌, ◌++◌, length, Option, Some, None, Bool, true, false, not, ◌&&◌, cond, nat_eq, nat_lt, refl, sym, ap, subst, ◌∙◌, eqb-true, eq-eqb, ltb-true, IsTrue}
 use Rattle.std.proofs.lemmas.Bool.{cases_Bool, and_parts, and_from, false≢true, cond-true, cond-false, not-true, not_from_false}
 use Rattle.std.specs.Ordering.{int_eq}
 use Rattle.csp_base.specs.Members.{has}
@@ -15,6 +15,7 @@ use Rattle.design_rules.specs.ResourceRanking.{top_number, AreResourceRanks}
 use Rattle.design_rules.proofs.Holders.{last_more, last_same, odd_more, odd_same}
 use Rattle.design_rules.proofs.Checks.{implies, implied, all_below, below_passes, passes_below, all_in, member_passes, all_steps, step_passes, all_accepted, accepted_passes, same_truth, same_truth_is, next_parity, parity_told, parts_shared, parts_shared_is, observed}
 use Rattle.design_rules.proofs.RankCheck.{parts_fit, fits_is, ranks_equal, all_vertices, vertex_passes, others_zero, others_zero_is, no_laps, no_laps_is}
+use Rattle.design_rules.proofs.Accepting.{each_set}
 
 -- ---- what tells the holder: the last shared event while there was an odd number of them
 
@@ -163,8 +164,8 @@ keep_uses shape uses held parity c = record {
     by_holder = λ l e possible v odd h. implied _ _ (implied _ _ (step_passes _ (part_at shape.parts i).table (end_of (part_at shape.parts i).table 0 s) e (below_passes _ (length shape.links) l (implied _ _ (below_passes _ (length shape.parts) i c.by_holder possible.runs.part) r) h.within) possible.next) (holder_told shape uses held parity c i l s r possible.runs odd h)) v;
   };
   grants = λ i s r. record {
-    when_free = λ k a even e m. member_passes _ (use_at uses i).acquire e (implied _ _ (accepted_passes _ (part_at shape.parts i).table (end_of (part_at shape.parts i).table 0 s) k (implied _ _ (below_passes _ (length shape.parts) i c.when_free a.runs.part) r) a.listed) (not_from_false _ (sym (is_held_told shape uses held parity c i s r a.runs) ∙ even))) m;
-    when_held = λ l k e a odd h m on. implied _ _ (member_passes _ (use_at uses i).release e (implied _ _ (accepted_passes _ (part_at shape.parts i).table (end_of (part_at shape.parts i).table 0 s) k (below_passes _ (length shape.links) l (implied _ _ (below_passes _ (length shape.parts) i c.when_held a.runs.part) r) h.within) a.listed) (holder_told shape uses held parity c i l s r a.runs odd h)) m) on;
+    when_free = λ M b even e m. each_set shape i s (λ N. IsTrue (has N e)) (λ k a. member_passes _ (use_at uses i).acquire e (implied _ _ (accepted_passes _ (part_at shape.parts i).table (end_of (part_at shape.parts i).table 0 s) k (implied _ _ (below_passes _ (length shape.parts) i c.when_free a.runs.part) r) a.listed) (not_from_false _ (sym (is_held_told shape uses held parity c i s r a.runs) ∙ even))) m) M b;
+    when_held = λ l M e b odd h m on. each_set shape i s (λ N. IsTrue (has N e)) (λ k a. implied _ _ (member_passes _ (use_at uses i).release e (implied _ _ (accepted_passes _ (part_at shape.parts i).table (end_of (part_at shape.parts i).table 0 s) k (below_passes _ (length shape.links) l (implied _ _ (below_passes _ (length shape.parts) i c.when_held a.runs.part) r) h.within) a.listed) (holder_told shape uses held parity c i l s r a.runs odd h)) m) on) M b;
   };
   turns = λ i s u j l e joins possible on.
       let n = end_of (part_at shape.parts i).table 0 s in
@@ -190,11 +191,11 @@ rises shape uses number parity = all_parts shape (λ i. implies (not (use_at use
 
 pub resources_rise : (shape : Shape) (uses : List UseSets) (number : ℕ → ℕ) (held : ℕ → ℕ → Option ℕ) (parity : ℕ → ℕ → ℕ → Bool) → IsTestedUses shape uses held parity → rises shape uses number parity ≡ true → ResourcesRise shape uses number
 resources_rise shape uses number held parity c h m j x =
-    let a = x.accepts in
+    let a = x.accepts.at in
     let n = end_of (part_at shape.parts x.user).table 0 x.run in
-    let both = and_from _ _ x.acquiring (sym (holds_told shape uses held parity c x.user x.link x.run x.is_user x.joins.within a.runs) ∙ x.holding) in
+    let both = and_from _ _ (subst (λ N. IsTrue (acquires uses N j)) (sym x.accepts.is) x.acquiring) (sym (holds_told shape uses held parity c x.user x.link x.run x.is_user x.joins.within a.runs) ∙ x.holding) in
     let tested = below_passes _ (length shape.parts) j (below_passes _ (length shape.links) x.link (implied _ _ (below_passes _ (length shape.parts) x.user h a.runs.part) (not_from_false _ x.is_user)) x.joins.within) x.within in
-    let p = and_parts _ _ (implied _ _ (accepted_passes (rise_test shape uses number parity x.user x.link j) (part_at shape.parts x.user).table n x.place tested a.listed) both) in
+    let p = and_parts _ _ (implied _ _ (accepted_passes (rise_test shape uses number parity x.user x.link j) (part_at shape.parts x.user).table n x.accepts.place tested a.listed) both) in
     elim x.joins.ends [
       | inl e ↦ subst (λ k. number k < number j) e.1 (ltb-true _ _ (implied _ _ p.0 (eq-eqb _ _ e.0)))
       | inr e ↦ subst (λ k. number k < number j) e.0 (ltb-true _ _ (implied _ _ p.1 (eq-eqb _ _ e.1)))

@@ -83,9 +83,9 @@ held_first = record {
   user = 0;
   link = 0;
   run = 0 ∷ [];
-  place = 0;
+  acceptance = 4 ∷ [];
   is_user = refl;
-  accepts = record { runs = record { part = omega arith; follows = refl }; listed = omega arith; shared = λ e h. shared e h };
+  accepts = record { place = 0; at = record { runs = record { part = omega arith; follows = refl }; listed = omega arith; shared = λ e h. shared e h }; is = refl };
   within = omega arith;
   acquiring = refl;
   joins = record { within = omega arith; ends = inl (refl, refl) };

@@ -1,81 +1,22 @@
--- The rule of clients and servers (after Martin 1996, Martin and Jassim 1997 and chapter 13 of Roscoe 1997; this exact form is
--- the project's own). On each link one end is the client and the other the server. The client requests; where the link has
--- acknowledgements, the server acknowledges before the next request. A server that takes requests takes all of them, and it
--- takes none while it owes an acknowledgement; a client that awaits an acknowledgement takes each. No component is its own
--- client, by however many others.
-use Rattle.std.specs.Prelude.{◌≡◌, ◌<◌, ◌⊎◌, ℕ, List, [], ◌∷◌, Bool, true, false, ◌||◌, ◌&&◌, IsTrue, length, if◌then◌else◌}
-use Rattle.std.specs.List.{list_any}
-use Rattle.csp_base.specs.Members.{has}
-use Rattle.csp_tables.specs.Part.{AreApart}
-use Rattle.csp_tables.specs.Trace.{IsWithin}
-use Rattle.csp_tables.specs.Shape.{Shape, Joins, link_at}
-use Rattle.csp_tables.specs.Standing.{IsPossible, Accepts, accepted, IsOn}
-use Rattle.csp_tables.specs.Roles.{RoleSets, role_at}
-use Rattle.design_rules.specs.Counts.{count_in, is_odd}
-use Rattle.digraph.specs.Circle.{HasNoCircle}
-use Rattle.design_rules.specs.Assigned.{PartShared}
+-- The rule of clients and servers, read by the tables of a shape: what its decider decides.
+use Rattle.std.specs.Prelude.{ℕ, List}
+use Rattle.csp_tables.specs.Shape.{Shape}
+use Rattle.csp_tables.specs.Roles.{RoleSets}
+use Rattle.design_rules.specs.ByTables.{by_tables}
+pub use Rattle.design_rules.specs.ClientServerRule.{HasRoles, IsClientOn, HasClient, has_acknowledgements, is_open, is_request, is_acknowledgement, Serves}
+use Rattle.design_rules.specs.ClientServerRule as rule
 
--- S1: the part's four sets part the events that it shares
-abbrev pub HasRoles : Shape → List RoleSets → ℕ → Type 0
-HasRoles shape roles i = PartShared shape i ((role_at roles i).creq ∷ (role_at roles i).cack ∷ (role_at roles i).sreq ∷ (role_at roles i).sack ∷ [])
-
--- On the link l the part i is the client and the part j the server: both tell the same requests and the same
--- acknowledgements, and of the other roles nothing is on the link.
-pub record IsClientOn (shape : Shape) (roles : List RoleSets) (l i j : ℕ) : Type 0 where
-  pub requests : (e : ℕ) → IsTrue (has (link_at shape l).shared e) → has (role_at roles i).creq e ≡ has (role_at roles j).sreq e
-  pub acknowledgements : (e : ℕ) → IsTrue (has (link_at shape l).shared e) → has (role_at roles i).cack e ≡ has (role_at roles j).sack e
-  pub no_service : (e : ℕ) → IsTrue (has (link_at shape l).shared e) → (has (role_at roles i).sreq e ≡ false) × (has (role_at roles i).sack e ≡ false)
-  pub no_asking : (e : ℕ) → IsTrue (has (link_at shape l).shared e) → (has (role_at roles j).creq e ≡ false) × (has (role_at roles j).cack e ≡ false)
-
--- S2: one end of the link is the client, and the other the server
-abbrev pub HasClient : Shape → List RoleSets → ℕ → Type 0
-HasClient shape roles l = IsClientOn shape roles l (link_at shape l).left (link_at shape l).right ⊎ IsClientOn shape roles l (link_at shape l).right (link_at shape l).left
-
--- whether the link has acknowledgements: one of its events is an acknowledgement for the client
-abbrev pub has_acknowledgements : Shape → List RoleSets → ℕ → Bool
-has_acknowledgements shape roles l = list_any (λ e. has (role_at roles (link_at shape l).left).cack e || has (role_at roles (link_at shape l).right).cack e) (link_at shape l).shared
-
--- A link with acknowledgements is open after an odd number of its events. A link without is never open.
-abbrev pub is_open : Shape → List RoleSets → ℕ → List ℕ → Bool
-is_open shape roles l s = has_acknowledgements shape roles l && is_odd (count_in (link_at shape l).shared s)
-
-abbrev pub is_request : List RoleSets → ℕ → ℕ → Bool
-is_request roles i e = has (role_at roles i).creq e || has (role_at roles i).sreq e
-
-abbrev pub is_acknowledgement : List RoleSets → ℕ → ℕ → Bool
-is_acknowledgement roles i e = has (role_at roles i).cack e || has (role_at roles i).sack e
-
--- S3: after the run s, what is possible on a link of the part is a request where the link is closed, and an acknowledgement
--- where it is open
 abbrev pub TakesTurns : Shape → List RoleSets → ℕ → List ℕ → Type 0
-TakesTurns shape roles i s = (l e : ℕ) → IsPossible shape i s e → IsOn shape i l e → IsTrue (if is_open shape roles l s then is_acknowledgement roles i e else is_request roles i e)
+TakesTurns shape = rule.TakesTurns shape (by_tables shape)
 
--- S4: after the run s, an acceptance in the vocabulary has all requests to the part or none of them, and none while a link on
--- which the part is the server is open
-pub record ServesAll (shape : Shape) (roles : List RoleSets) (i : ℕ) (s : List ℕ) : Type 0 where
-  pub all_or_none : (k : ℕ) → Accepts shape i s k → IsWithin (role_at roles i).sreq (accepted shape i s k) ⊎ AreApart (accepted shape i s k) (role_at roles i).sreq
-  pub none_while_open : (j l k : ℕ) → Accepts shape i s k → Joins shape j i l → IsClientOn shape roles l j i → is_open shape roles l s ≡ true → AreApart (accepted shape i s k) (role_at roles i).sreq
+abbrev pub ServesAll : Shape → List RoleSets → ℕ → List ℕ → Type 0
+ServesAll shape = rule.ServesAll shape (by_tables shape)
 
--- S5: after the run s, while a link on which the part is the client is open, an acceptance in the vocabulary has all
--- acknowledgements of that link
 abbrev pub TakesAnswers : Shape → List RoleSets → ℕ → List ℕ → Type 0
-TakesAnswers shape roles i s = (j l k e : ℕ) → Accepts shape i s k → Joins shape i j l → IsClientOn shape roles l i j → is_open shape roles l s ≡ true → IsTrue (has (link_at shape l).shared e) → IsTrue (has (role_at roles i).cack e) → IsTrue (has (accepted shape i s k) e)
+TakesAnswers shape = rule.TakesAnswers shape (by_tables shape)
 
--- an arc leads from each client to its servers
-pub record Serves (shape : Shape) (roles : List RoleSets) (i j : ℕ) : Type 0 where
-  pub link : ℕ
-  pub joins : Joins shape i j link
-  pub client : IsClientOn shape roles link i j
+abbrev pub KeepRoles : Shape → List RoleSets → Type 0
+KeepRoles shape = rule.KeepRoles shape (by_tables shape)
 
--- S1 to S5
-pub record KeepRoles (shape : Shape) (roles : List RoleSets) : Type 0 where
-  pub parted : (i : ℕ) → i < length shape.parts → HasRoles shape roles i
-  pub linked : (l : ℕ) → l < length shape.links → HasClient shape roles l
-  pub turns : (i : ℕ) (s : List ℕ) → TakesTurns shape roles i s
-  pub serving : (i : ℕ) (s : List ℕ) → ServesAll shape roles i s
-  pub answers : (i : ℕ) (s : List ℕ) → TakesAnswers shape roles i s
-
-pub record IsClientServer (shape : Shape) (roles : List RoleSets) : Type 0 where
-  pub keep_roles : KeepRoles shape roles
-  -- S6: the arcs from clients to their servers make no circle
-  pub no_circle : HasNoCircle (Serves shape roles)
+abbrev pub IsClientServer : Shape → List RoleSets → Type 0
+IsClientServer shape = rule.IsClientServer shape (by_tables shape)

@@ -1,44 +1,14 @@
--- What is told where a network is none of clients and servers: the least condition of S1 to S5 that is broken, with the first
--- component that breaks it, and a run after which it does; or a circle of clients.
-use Rattle.std.specs.Prelude.{◌≡◌, ◌<◌, ℕ, List, [], length}
-use Rattle.csp_tables.specs.Shape.{Shape, link_at}
+-- What is told where a network is none of clients and servers, read by the tables of its shape.
+use Rattle.std.specs.Prelude.{ℕ, List}
+use Rattle.csp_tables.specs.Shape.{Shape}
 use Rattle.csp_tables.specs.Roles.{RoleSets}
-use Rattle.digraph.specs.Circle.{IsLeastCircle}
-use Rattle.design_rules.specs.ClientServer.{HasRoles, HasClient, TakesTurns, ServesAll, TakesAnswers, Serves, KeepRoles}
-use Rattle.design_rules.specs.FirstBroken.{AllKeep, IsFirstBroken}
 use Rattle.design_rules.specs.declared.condition.Condition.{Condition}
-use Rattle.design_rules.specs.declared.condition.Condition.TheVariants as condition
+use Rattle.design_rules.specs.ByTables.{by_tables}
+pub use Rattle.design_rules.specs.ClientServerRuleFaults.{LacksRoles, LacksClient, HaveClients}
+use Rattle.design_rules.specs.ClientServerRuleFaults as rule
 
--- S1 is broken
-pub record LacksRoles (shape : Shape) (roles : List RoleSets) (i : ℕ) : Type 0 where
-  pub within : i < length shape.parts
-  pub broken : HasRoles shape roles i → ⊥
-  pub first : (j : ℕ) → j < i → HasRoles shape roles j
-
--- S2 is broken; the part is the left end of the first link that has no client
-pub record LacksClient (shape : Shape) (roles : List RoleSets) (i : ℕ) : Type 0 where
-  pub parted : (j : ℕ) → j < length shape.parts → HasRoles shape roles j
-  pub link : ℕ
-  pub within : link < length shape.links
-  pub broken : HasClient shape roles link → ⊥
-  pub first : (m : ℕ) → m < link → HasClient shape roles m
-  pub left : (link_at shape link).left ≡ i
-
--- S1 and S2
-pub record HaveClients (shape : Shape) (roles : List RoleSets) : Type 0 where
-  pub parted : (i : ℕ) → i < length shape.parts → HasRoles shape roles i
-  pub linked : (l : ℕ) → l < length shape.links → HasClient shape roles l
-
--- The condition is the least that is broken, by the part i after the run s. For S1 and S2 the run is empty.
 abbrev pub BreaksRoles : Shape → List RoleSets → Condition → ℕ → List ℕ → Type 0
-BreaksRoles shape roles condition.Roles i s = (s ≡ []) × LacksRoles shape roles i
-BreaksRoles shape roles condition.Clients i s = (s ≡ []) × LacksClient shape roles i
-BreaksRoles shape roles condition.Turns i s = HaveClients shape roles × IsFirstBroken shape (TakesTurns shape roles) i s
-BreaksRoles shape roles condition.Service i s = HaveClients shape roles × AllKeep (TakesTurns shape roles) × IsFirstBroken shape (ServesAll shape roles) i s
-BreaksRoles shape roles condition.Answers i s = HaveClients shape roles × AllKeep (TakesTurns shape roles) × AllKeep (ServesAll shape roles) × IsFirstBroken shape (TakesAnswers shape roles) i s
-BreaksRoles shape roles _ i s = ⊥
+BreaksRoles shape = rule.BreaksRoles shape (by_tables shape)
 
--- S6 alone is broken: each component is a client of the next, and the last is one of the first
-pub record ClientsInCircle (shape : Shape) (roles : List RoleSets) (clients : List ℕ) : Type 0 where
-  pub keep_roles : KeepRoles shape roles
-  pub circle : IsLeastCircle (Serves shape roles) clients
+abbrev pub ClientsInCircle : Shape → List RoleSets → List ℕ → Type 0
+ClientsInCircle shape = rule.ClientsInCircle shape (by_tables shape)

@@ -1,95 +1,39 @@
--- The rule of cyclic networks (after Roscoe and Dathi 1987, Martin 1996 and chapter 13 of Roscoe 1997; this exact form is the
--- project's own): each component goes through its links in a fixed order, again and again, these orders agree, and on each
--- link one end at least never offers some of the link's events without the others.
---
--- The order of a component is said by places. The place of an event is the number of shared events that were done before. A
--- component with k links goes through them in a fixed order where two of its events lie on one link exactly where their
--- places agree modulo k. The orders agree where the links of the network can be numbered so that they rise along each order.
-use Rattle.std.specs.Prelude.{◌≡◌, ◌<◌, ◌≤◌, ◌%◌, ◌⊎◌, ℕ, List, IsTrue, false, length}
-use Rattle.csp_base.specs.Members.{has}
-use Rattle.csp_tables.specs.Part.{Meet}
-use Rattle.csp_tables.specs.Shape.{Shape, is_end, link_at}
-use Rattle.csp_tables.specs.Standing.{IsPossible, Accepts, accepted, IsOn}
-use Rattle.design_rules.specs.Counts.{count_below, count_in}
+-- The rule of cyclic networks, read by the tables of a shape: what its decider decides.
+use Rattle.std.specs.Prelude.{ℕ, List}
+use Rattle.csp_tables.specs.Shape.{Shape}
+use Rattle.design_rules.specs.ByTables.{by_tables}
+pub use Rattle.design_rules.specs.CyclicRule.{links_of, place_after, SamePlace, Clash}
+use Rattle.design_rules.specs.CyclicRule as rule
 
--- how many links the part in place i has
-abbrev pub links_of : Shape → ℕ → ℕ
-links_of shape i = count_below (λ l. is_end shape i l) (length shape.links)
+abbrev pub ReachesLink : Shape → ℕ → ℕ → List ℕ → ℕ → Type 0
+ReachesLink shape = rule.ReachesLink shape (by_tables shape)
 
--- The part i reaches its link l: the event e of the link is possible after the run s.
-pub record ReachesLink (shape : Shape) (i l : ℕ) (s : List ℕ) (e : ℕ) : Type 0 where
-  pub possible : IsPossible shape i s e
-  pub on : IsOn shape i l e
+abbrev pub BreaksOrder : Shape → ℕ → List ℕ → ℕ → Type 0
+BreaksOrder shape = rule.BreaksOrder shape (by_tables shape)
 
--- the place of what is possible after the run s
-abbrev pub place_after : Shape → List ℕ → ℕ
-place_after shape s = count_in shape.vocabulary s
-
--- what is possible after s and what is possible after t stand at the same place of the part's lap
-abbrev pub SamePlace : Shape → ℕ → List ℕ → List ℕ → Type 0
-SamePlace shape i s t = place_after shape s % links_of shape i ≡ place_after shape t % links_of shape i
-
--- An event on the link l after the run s and one on the link m after the run t clash: they lie on different links at the
--- same place, or on the same link at different places.
-abbrev pub Clash : Shape → ℕ → ℕ → List ℕ → ℕ → List ℕ → Type 0
-Clash shape i l s m t = ((l ≡ m → ⊥) × SamePlace shape i s t) ⊎ ((l ≡ m) × (SamePlace shape i s t → ⊥))
-
--- C1 is broken by the part i after the run s: the shared event e is possible, and it clashes with one that is possible after
--- a run that is not longer.
-pub record BreaksOrder (shape : Shape) (i : ℕ) (s : List ℕ) (e : ℕ) : Type 0 where
-  pub link : ℕ
-  pub reaches : ReachesLink shape i link s e
-  pub other_run : List ℕ
-  pub other_event : ℕ
-  pub other_link : ℕ
-  pub other_reaches : ReachesLink shape i other_link other_run other_event
-  pub not_longer : length other_run ≤ length s
-  pub clash : Clash shape i link s other_link other_run
-
--- C1: the part goes through its links in a fixed order
 abbrev pub KeepsPlaces : Shape → ℕ → Type 0
-KeepsPlaces shape i = (s : List ℕ) (e : ℕ) → BreaksOrder shape i s e → ⊥
+KeepsPlaces shape = rule.KeepsPlaces shape (by_tables shape)
 
 abbrev pub AllKeepPlaces : Shape → Type 0
-AllKeepPlaces shape = (i : ℕ) → i < length shape.parts → KeepsPlaces shape i
+AllKeepPlaces shape = rule.AllKeepPlaces shape (by_tables shape)
 
--- The link l must come before the link m: some part that has both reaches l, and reaches m at later places alone, or never.
--- (So it first reaches l at an earlier place than m, or it reaches l and never m.)
-pub record MustPrecede (shape : Shape) (l m : ℕ) : Type 0 where
-  pub part : ℕ
-  pub run : List ℕ
-  pub event : ℕ
-  pub reaches : ReachesLink shape part l run event
-  pub within : m < length shape.links
-  pub end : IsTrue (is_end shape part m)
-  pub later : (s : List ℕ) (e : ℕ) → ReachesLink shape part m s e → place_after shape run < place_after shape s
+abbrev pub MustPrecede : Shape → ℕ → ℕ → Type 0
+MustPrecede shape = rule.MustPrecede shape (by_tables shape)
 
--- the numbers of the links rise along the order of each part
 abbrev pub NumbersRise : Shape → (ℕ → ℕ) → Type 0
-NumbersRise shape number = (l m : ℕ) → MustPrecede shape l m → number l < number m
+NumbersRise shape = rule.NumbersRise shape (by_tables shape)
 
-pub record CanBeNumbered (shape : Shape) : Type 0 where
-  pub number : ℕ → ℕ
-  pub rise : NumbersRise shape number
+abbrev pub CanBeNumbered : Shape → Type 0
+CanBeNumbered shape = rule.CanBeNumbered shape (by_tables shape)
 
--- The part i, an end of the link l, falls short after the run s: an acceptance that lies in the vocabulary has an event of the
--- link and lacks another.
-pub record FallsShort (shape : Shape) (l i : ℕ) (s : List ℕ) : Type 0 where
-  pub place : ℕ
-  pub accepts : Accepts shape i s place
-  pub meets : Meet (accepted shape i s place) (link_at shape l).shared
-  pub missing : ℕ
-  pub on : IsTrue (has (link_at shape l).shared missing)
-  pub lacks : has (accepted shape i s place) missing ≡ false
+abbrev pub FallsShort : Shape → ℕ → ℕ → List ℕ → Type 0
+FallsShort shape = rule.FallsShort shape (by_tables shape)
 
 abbrev pub IsWholeEnd : Shape → ℕ → ℕ → Type 0
-IsWholeEnd shape l i = (s : List ℕ) → FallsShort shape l i s → ⊥
+IsWholeEnd shape = rule.IsWholeEnd shape (by_tables shape)
 
--- C2: one end of the link at least never falls short
 abbrev pub HasWholeEnd : Shape → ℕ → Type 0
-HasWholeEnd shape l = IsWholeEnd shape l (link_at shape l).left ⊎ IsWholeEnd shape l (link_at shape l).right
+HasWholeEnd shape = rule.HasWholeEnd shape (by_tables shape)
 
-pub record IsCyclic (shape : Shape) : Type 0 where
-  pub order : AllKeepPlaces shape
-  pub numbered : CanBeNumbered shape
-  pub whole : (l : ℕ) → l < length shape.links → HasWholeEnd shape l
+abbrev pub IsCyclic : Shape → Type 0
+IsCyclic shape = rule.IsCyclic shape (by_tables shape)

@@ -1,44 +1,23 @@
--- What is told where a network is none of users and resources: the least condition of U1 to U4 that is broken, with the first
--- component that breaks it, and a run after which it does; or a circle of resources.
-use Rattle.std.specs.Prelude.{◌≡◌, ◌<◌, ℕ, List, [], true, false, length}
-use Rattle.csp_tables.specs.Shape.{Shape, link_at}
-use Rattle.csp_tables.specs.Roles.{UseSets, use_at}
-use Rattle.digraph.specs.Circle.{IsLeastCircle}
-use Rattle.design_rules.specs.FirstBroken.{AllKeep, IsFirstBroken}
+-- What is told where a network is none of users and resources, read by the tables of its shape.
+use Rattle.std.specs.Prelude.{ℕ, List}
+use Rattle.csp_tables.specs.Shape.{Shape}
+use Rattle.csp_tables.specs.Roles.{UseSets}
 use Rattle.design_rules.specs.declared.condition.Condition.{Condition}
-use Rattle.design_rules.specs.declared.condition.Condition.TheVariants as condition
-use Rattle.design_rules.specs.Resource.{JoinsKinds, HasUses, HaveKinds, IsUsedInTurn, GrantsAll, UsesInTurn, KeepUses, IsHeldWhile}
+use Rattle.design_rules.specs.ByTables.{by_tables}
+pub use Rattle.design_rules.specs.ResourceRuleFaults.{HasKind, LacksKind}
+use Rattle.design_rules.specs.ResourceRuleFaults as rule
 
--- What U1 asks of one part: a link counts as its left end, and a resource's sets as the resource.
-pub record HasKind (shape : Shape) (uses : List UseSets) (i : ℕ) : Type 0 where
-  pub linked : (l : ℕ) → l < length shape.links → (link_at shape l).left ≡ i → JoinsKinds shape uses l
-  pub parted : HasUses shape uses i
-
--- U1 is broken
-pub record LacksKind (shape : Shape) (uses : List UseSets) (i : ℕ) : Type 0 where
-  pub within : i < length shape.parts
-  pub broken : HasKind shape uses i → ⊥
-  pub first : (j : ℕ) → j < i → HasKind shape uses j
-
--- U2, U3 and U4, of one part after one run
 abbrev pub KeepsHolder : Shape → List UseSets → ℕ → List ℕ → Type 0
-KeepsHolder shape uses i s = (use_at uses i).resource ≡ true → IsUsedInTurn shape uses i s
+KeepsHolder shape = rule.KeepsHolder shape (by_tables shape)
 
 abbrev pub KeepsGrants : Shape → List UseSets → ℕ → List ℕ → Type 0
-KeepsGrants shape uses i s = (use_at uses i).resource ≡ true → GrantsAll shape uses i s
+KeepsGrants shape = rule.KeepsGrants shape (by_tables shape)
 
 abbrev pub KeepsTurns : Shape → List UseSets → ℕ → List ℕ → Type 0
-KeepsTurns shape uses i s = (use_at uses i).resource ≡ false → UsesInTurn shape uses i s
+KeepsTurns shape = rule.KeepsTurns shape (by_tables shape)
 
--- The condition is the least that is broken, by the part i after the run s. For U1 the run is empty.
 abbrev pub BreaksUses : Shape → List UseSets → Condition → ℕ → List ℕ → Type 0
-BreaksUses shape uses condition.Kinds i s = (s ≡ []) × LacksKind shape uses i
-BreaksUses shape uses condition.Holders i s = HaveKinds shape uses × IsFirstBroken shape (KeepsHolder shape uses) i s
-BreaksUses shape uses condition.Grants i s = HaveKinds shape uses × AllKeep (KeepsHolder shape uses) × IsFirstBroken shape (KeepsGrants shape uses) i s
-BreaksUses shape uses condition.Uses i s = HaveKinds shape uses × AllKeep (KeepsHolder shape uses) × AllKeep (KeepsGrants shape uses) × IsFirstBroken shape (KeepsTurns shape uses) i s
-BreaksUses shape uses _ i s = ⊥
+BreaksUses shape = rule.BreaksUses shape (by_tables shape)
 
--- U5 alone is broken: each of the resources is held while the next is offered for acquisition, and the last while the first is
-pub record ResourcesInCircle (shape : Shape) (uses : List UseSets) (resources : List ℕ) : Type 0 where
-  pub keep_uses : KeepUses shape uses
-  pub circle : IsLeastCircle (IsHeldWhile shape uses) resources
+abbrev pub ResourcesInCircle : Shape → List UseSets → List ℕ → Type 0
+ResourcesInCircle shape = rule.ResourcesInCircle shape (by_tables shape)

@@ -5,6 +5,7 @@ mod condition;
 mod noted_rule;
 mod rule_fault;
 
+ghost use Rattle.design_rules.specs.Agreement.{NetworkFaultsRefute, NetworksBreak, NetworksMeet, OutlinesAgree, ReadingsAgree};
 ghost use Rattle.design_rules.specs.ClientServerLaws.{ClientServerRanksFall};
 ghost use Rattle.design_rules.specs.CyclicLaws.{CyclicRanksFall, IsRuleByNumbers, NumberedRanksFall, PlacesAreOrders, ReachedRanksFall};
 ghost use Rattle.design_rules.specs.Example.{PairIsClientServer, RowIsCyclic, TwoUsersAreResource};
@@ -44,6 +45,16 @@ pub fn resource_ranks_fall()
 /// Each fault that is told of a network, but for want of memory, refutes the rule.
 pub fn faults_refute()
     ensures { FaultsRefute }
+{}
+
+/// A network meets a rule, by its alphabets and by its own steps, exactly where its shape does by its tables; and a fault is true of the one exactly where
+/// it is true of the other.
+pub fn rules_speak_of_networks<S: Transitions>()
+    ensures outlines { OutlinesAgree S.step }
+    ensures readings { ReadingsAgree S.step }
+    ensures met { NetworksMeet S.step }
+    ensures broken { NetworksBreak S.step }
+    ensures refuted { NetworkFaultsRefute S.step }
 {}
 
 /// A network whose shape meets one of the three rules is live, with its silent bound.

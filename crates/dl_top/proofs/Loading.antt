@@ -10,7 +10,6 @@ use Rattle.command_words.specs.declared.request.Trial.{Trial}
 use Rattle.dl_outside.specs.declared.shelf.LoadFault.{LoadFault}
 use Rattle.dl_outside.specs.declared.shelf.LoadFault.TheVariants.{Missing, TooLong, Failed, NoMemory}
 use Rattle.dl_outside.specs.declared.texts.NamedText.{NamedText}
-use Rattle.dl_outside.specs.Texts.{text_of}
 use Rattle.report.specs.Points.Point.{passed, told}
 use Rattle.report.specs.Report.{status}
 use Rattle.report.specs.declared.answer.Answer.{Answer}
@@ -19,9 +18,10 @@ use Rattle.report.specs.declared.answer.OutsideFault.{OutsideFault}
 use Rattle.report.specs.declared.answer.Side.{Side}
 use Rattle.report.specs.declared.answer.Side.TheVariants as side
 use Rattle.dl_top.proofs.Judging.{IsInside, text_inside}
-use Rattle.dl_top.proofs.Pairs.{HeldBoth, held_both, held_pair_inside, tells_zero}
+use Rattle.dl_top.proofs.Pairs.{HeldBoth, held_both, held_pair_inside, is_text, tells_zero}
 use Rattle.dl_top.specs.Cause.{CallsFor, HoldsAll, HoldsAllNamed, Loaded, MayGive, Replies, ShelfSigns, TellsLoad, TextsCallFor, loads, quiet}
 use Rattle.dl_top.specs.Judgement.{TextCallsFor}
+use Rattle.dl_top.specs.Proved.{IsTextOf}
 use Rattle.dl_top.specs.Reply.{plain, reply_status, rule_of, trial_text}
 use Rattle.dl_top.specs.declared.reply.Reply.{Reply}
 
@@ -76,26 +76,26 @@ only texts signs words r reply asked (inl none) = absurd (none.0 r asked)
 only texts signs words r reply asked (inr (s, asked', replies)) = subst (λ (q : Request). Replies texts signs q reply) (words_ask_once words s r asked' asked) replies
 
 -- the text of a name, which decides with status 0
-pub record Held (texts : List NamedText) (name : List ℕ) (job : Job) (a : Answer) : Type 0 where
+pub record Held (texts : Option (List NamedText)) (name : List ℕ) (job : Job) (a : Answer) : Type 0 where
   pub text : List ℕ
-  pub held : text_of texts name ≡ Some text
+  pub held : IsTextOf texts name text
   pub calls : TextCallsFor text job a
 
-held_text : (texts : List NamedText) (signs : ShelfSigns) (name : List ℕ) (job : Job) (a : Answer)
-    → Loaded side.Script (Some texts) signs (name ∷ []) (TextsCallFor (request.Script job name)) a → status a ≡ 0 → Held texts name job a
+held_text : (texts : Option (List NamedText)) (signs : ShelfSigns) (name : List ℕ) (job : Job) (a : Answer)
+    → Loaded side.Script texts signs (name ∷ []) (TextsCallFor (request.Script job name)) a → status a ≡ 0 → Held texts name job a
 held_text texts signs name job a (told f load tells) zero = absurd (tells_zero side.Script f a tells zero)
-held_text texts signs name job a (passed text load calls) zero = record { text = text; held = load.0; calls = calls }
+held_text texts signs name job a (passed text load calls) zero = record { text = text; held = is_text texts signs name text load; calls = calls }
 
-pub held_script : (texts : List NamedText) (words : List (List ℕ)) (signs : ShelfSigns) (job : Job) (name : List ℕ) (reply : Reply) → Asks words (request.Script job name)
-    → MayGive (Some texts) words signs reply → reply_status reply ≡ 0 → (reply.trial ≡ None) × Held texts name job reply.answer
+pub held_script : (texts : Option (List NamedText)) (words : List (List ℕ)) (signs : ShelfSigns) (job : Job) (name : List ℕ) (reply : Reply) → Asks words (request.Script job name)
+    → MayGive texts words signs reply → reply_status reply ≡ 0 → (reply.trial ≡ None) × Held texts name job reply.answer
 held_script texts words signs job name reply asked given zero =
-    let replies = only (Some texts) signs words (request.Script job name) reply asked given in
+    let replies = only texts signs words (request.Script job name) reply asked given in
     (replies.trial, held_text texts signs name job reply.answer replies.calls zero)
 
-pub held_scripts : (texts : List NamedText) (words : List (List ℕ)) (signs : ShelfSigns) (script specification : List ℕ) (reply : Reply) → Asks words (request.Conform script specification)
-    → MayGive (Some texts) words signs reply → reply_status reply ≡ 0 → (reply.trial ≡ None) × HeldBoth texts script specification reply.answer
+pub held_scripts : (texts : Option (List NamedText)) (words : List (List ℕ)) (signs : ShelfSigns) (script specification : List ℕ) (reply : Reply) → Asks words (request.Conform script specification)
+    → MayGive texts words signs reply → reply_status reply ≡ 0 → (reply.trial ≡ None) × HeldBoth texts script specification reply.answer
 held_scripts texts words signs script specification reply asked given zero =
-    let replies = only (Some texts) signs words (request.Conform script specification) reply asked given in
+    let replies = only texts signs words (request.Conform script specification) reply asked given in
     (replies.trial, held_both texts signs script specification reply.answer replies.calls zero)
 
 -- ---- faults outside

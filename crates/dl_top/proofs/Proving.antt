@@ -1,6 +1,6 @@
 -- Status 0 has one cause under each request: the text spells exactly one network, which is free of deadlock; or exactly one script, which is shown; or
 -- the table of a component of exactly one network.
-use Rattle.std.proofs.Common.{◌≡◌, ℕ, List, ◌++◌, Option, None, Some, IfSome, sym, ◌∙◌, ap, subst}
+use Rattle.std.proofs.Common.{◌≡◌, ℕ, List, ◌++◌, Option, None, Some, sym, ◌∙◌, ap, subst}
 use Rattle.command_words.specs.Request.{AsksForCheck, AsksForConform, AsksForShow, AsksForTable, AsksForTrial}
 use Rattle.command_words.specs.declared.request.Job.TheVariants.{Check, Show, Table}
 use Rattle.command_words.specs.declared.request.Request.TheVariants as request
@@ -10,9 +10,8 @@ use Rattle.csp_text.specs.declared.script.Script.{Script}
 use Rattle.dl_outside.specs.declared.texts.NamedText.{NamedText}
 use Rattle.dl_outside.specs.Write.{GrowsBy}
 use Rattle.free_answers.specs.Counts.{greatest_rank, node_count}
-use Rattle.judgement.proofs.Cases.{judged_cases}
 use Rattle.judgement.proofs.OneNetwork.{one_network}
-use Rattle.judgement.specs.Judged.{IsJudged}
+use Rattle.judgement_laws.proofs.Whole.{IsJudgedWhole, classes, goes_on, has_greatest_rank, judged_whole}
 use Rattle.network_stages.specs.Networks.{IsNetworkOf, Network}
 use Rattle.print_laws.specs.Laws.{PrintedTextSpellsNoOther, PrintedTextSpellsTheScript}
 use Rattle.report.proofs.Points.{refused_or}
@@ -32,6 +31,7 @@ use Rattle.dl_top.specs.Cause.{MayGive, ShelfSigns}
 use Rattle.dl_top.specs.Judgement.{HasNetwork, SpellsOnlyScript, TextCallsFor, TextsCompare}
 use Rattle.dl_top.specs.Printing.{Prints}
 use Rattle.dl_top.specs.Proved.{IsConformed, IsProved, IsShown, IsTold, IsTried, SpellsConforming, SpellsDeadlockFree, SpellsOnlyNetwork}
+use Rattle.dl_top.specs.Ranked.{IsRanked, IsTriedRanked, TellsRank}
 use Rattle.dl_top.specs.Reply.{heading_text, reply_status, reply_text, rule_of, trial_text}
 use Rattle.dl_top.specs.declared.reply.Printed.{Printed}
 use Rattle.dl_top.specs.declared.reply.Reply.{Reply}
@@ -56,21 +56,43 @@ only_network text script network spells is = record {
       one_network script other network (subst (λ (s : Script). IsNetworkOf s other) (spells.only spells'.script spells'.spelled) spells'.is) is;
 }
 
-judged_free : (text : List ℕ) (rule : Rule) (script : Script) (a : Answer) → SpellsOnlyScript text script → IsJudged script rule a → status a ≡ 0 → SpellsDeadlockFree text rule (report_text a)
-judged_free text rule script a spells judged =
-    judged_cases script rule (IfZero (λ b. SpellsDeadlockFree text rule (report_text b))) (refused (λ b. SpellsDeadlockFree text rule (report_text b))) (λ s zero. absurd (let no : 1 ≡ 0 = zero in cc)) (λ b free zero. record {
-      network = free.network;
-      spells = only_network text script free.network spells free.spelled;
-      bound = free.free.bound;
-      live = free.free.live;
-      exact = free.free.exact;
-      nodes = node_count free.shape.parts;
-      greatest_rank = greatest_rank free.ranking;
-      is = ap report_text free.free.is;
-    }) a judged
+judged_free : (text : List ℕ) (rule : Rule) (script : Script) (a : Answer) → SpellsOnlyScript text script → IsJudgedWhole script rule a → SpellsDeadlockFree text rule (report_text a)
+judged_free text rule script a spells whole = record {
+  network = whole.network;
+  spells = only_network text script whole.network spells whole.spelled;
+  bound = whole.free.bound;
+  live = whole.free.live;
+  exact = whole.free.exact;
+  lasting = goes_on script rule a whole;
+  nodes = node_count whole.shape.parts;
+  classes = classes script rule a whole;
+  greatest_rank = greatest_rank whole.ranking;
+  is = ap report_text whole.free.is;
+}
 
-text_free : (text : List ℕ) (rule : Rule) (a : Answer) → TextCallsFor text (Check rule) a → status a ≡ 0 → SpellsDeadlockFree text rule (report_text a)
-text_free text rule a calls = deciding text (λ b. SpellsDeadlockFree text rule (report_text b)) _ _ (λ s b spells judged. judged_free text rule s b spells judged) a calls
+judged_ranked : (text : List ℕ) (rule : Rule) (script : Script) (a : Answer) → SpellsOnlyScript text script → IsJudgedWhole script rule a → TellsRank text rule (report_text a)
+judged_ranked text rule script a spells whole = record {
+  network = whole.network;
+  spelled = record { script = script; spelled = spells.spelled; is = whole.spelled };
+  rank = greatest_rank whole.ranking;
+  greatest = has_greatest_rank script rule a whole;
+  nodes = node_count whole.shape.parts;
+  bound = whole.free.bound;
+  is = ap report_text whole.free.is;
+}
+
+-- what follows from all that a walk found, where a text is judged with status 0
+text_judged : (text : List ℕ) (rule : Rule) (P : Answer → Type 0) → ((s : Script) (a : Answer) → SpellsOnlyScript text s → IsJudgedWhole s rule a → P a)
+    → (a : Answer) → TextCallsFor text (Check rule) a → status a ≡ 0 → P a
+text_judged text rule P is a calls =
+    deciding text P _ _ (λ s b spells judged.
+    judged_whole s rule (IfZero P) (refused P) (λ why zero. absurd (let no : 1 ≡ 0 = zero in cc)) (λ d whole zero. is s d spells whole) b judged) a calls
+
+pub text_free : (text : List ℕ) (rule : Rule) (a : Answer) → TextCallsFor text (Check rule) a → status a ≡ 0 → SpellsDeadlockFree text rule (report_text a)
+text_free text rule a calls = text_judged text rule (λ b. SpellsDeadlockFree text rule (report_text b)) (λ s b spells whole. judged_free text rule s b spells whole) a calls
+
+pub text_ranked : (text : List ℕ) (rule : Rule) (a : Answer) → TextCallsFor text (Check rule) a → status a ≡ 0 → TellsRank text rule (report_text a)
+text_ranked text rule a calls = text_judged text rule (λ b. TellsRank text rule (report_text b)) (λ s b spells whole. judged_ranked text rule s b spells whole) a calls
 
 -- a script that is shown
 record IsShownBy (text : List ℕ) (a : Answer) : Type 0 where
@@ -131,7 +153,7 @@ module _ (old new : Option (List ℕ)) (reply : Reply) where
   reported : (a : Answer) → reply.trial ≡ None → reply.answer ≡ a → GrowsBy old new (reply_text reply) → GrowsBy old new (report_text a)
   reported a none is grew = subst (λ (b : Answer). GrowsBy old new (report_text b)) is (headed None none grew)
 
-  module _ (texts : List NamedText) (words : List (List ℕ)) (signs : ShelfSigns) (cause : MayGive (Some texts) words signs reply) (zero : reply_status reply ≡ 0)
+  module _ (texts : Option (List NamedText)) (words : List (List ℕ)) (signs : ShelfSigns) (cause : MayGive texts words signs reply) (zero : reply_status reply ≡ 0)
       (grew : GrowsBy old new (reply_text reply)) where
     is_proved : AsksForCheck words → IsProved texts words old new
     is_proved (rule, name, asks) =
@@ -144,6 +166,20 @@ module _ (old new : Option (List ℕ)) (reply : Reply) where
           held = there.1.held;
           report = report_text reply.answer;
           free = text_free there.1.text rule reply.answer there.1.calls zero;
+          printed = headed None there.0 grew;
+        }
+
+    is_ranked : AsksForCheck words → IsRanked texts words old new
+    is_ranked (rule, name, asks) =
+        let there = held_script texts words signs (Check rule) name reply asks cause zero in
+        record {
+          rule = rule;
+          name = name;
+          asked = asks;
+          text = there.1.text;
+          held = there.1.held;
+          report = report_text reply.answer;
+          ranked = text_ranked there.1.text rule reply.answer there.1.calls zero;
           printed = headed None there.0 grew;
         }
 
@@ -210,6 +246,18 @@ module _ (old new : Option (List ℕ)) (reply : Reply) where
         printed = headed (Some trial) replies.trial grew;
       }
 
+  is_tried_ranked : (texts : Option (List NamedText)) (words : List (List ℕ)) (signs : ShelfSigns) → MayGive texts words signs reply → reply_status reply ≡ 0
+      → GrowsBy old new (reply_text reply) → AsksForTrial words → IsTriedRanked words old new
+  is_tried_ranked texts words signs cause zero grew (trial, asks) =
+      let replies = only texts signs words (request.Trial trial) reply asks cause in
+      record {
+        trial = trial;
+        asked = asks;
+        report = report_text reply.answer;
+        ranked = text_ranked (trial_text trial) (rule_of trial.family) reply.answer replies.calls zero;
+        printed = headed (Some trial) replies.trial grew;
+      }
+
 module _ (texts : Option (List NamedText)) (words : List (List ℕ)) (signs : ShelfSigns) (old new : Option (List ℕ)) (printed : Printed) (is : Prints (MayGive texts words signs) printed)
     (slice : List ℕ) (read : slice ≡ printed.text) (grew : GrowsBy old new slice) (zero : printed.status ≡ 0) where
   -- what a call sends that ends well
@@ -219,18 +267,20 @@ module _ (texts : Option (List NamedText)) (words : List (List ℕ)) (signs : Sh
   pub tried : AsksForTrial words → IsTried words old new
   tried asks = is_tried old new is.reply texts words signs is.cause (sym is.status ∙ zero) whole asks
 
-  module _ (P : List NamedText → Type 0) where
-    held : ((held : List NamedText) → MayGive (Some held) words signs is.reply → P held) → IfSome texts P
-    held rest = elim texts as (λ ts. MayGive ts words signs is.reply → IfSome ts P) [ None ↦ λ cause. tt | Some ts ↦ λ cause. rest ts cause ] is.cause
+  pub tried_ranked : AsksForTrial words → IsTriedRanked words old new
+  tried_ranked asks = is_tried_ranked old new is.reply texts words signs is.cause (sym is.status ∙ zero) whole asks
 
-  pub proved : AsksForCheck words → IfSome texts (λ ts. IsProved ts words old new)
-  proved asks = held (λ ts. IsProved ts words old new) (λ ts cause. is_proved old new is.reply ts words signs cause (sym is.status ∙ zero) whole asks)
+  pub proved : AsksForCheck words → IsProved texts words old new
+  proved asks = is_proved old new is.reply texts words signs is.cause (sym is.status ∙ zero) whole asks
 
-  pub conformed : AsksForConform words → IfSome texts (λ ts. IsConformed ts words old new)
-  conformed asks = held (λ ts. IsConformed ts words old new) (λ ts cause. is_conformed old new is.reply ts words signs cause (sym is.status ∙ zero) whole asks)
+  pub conformed : AsksForConform words → IsConformed texts words old new
+  conformed asks = is_conformed old new is.reply texts words signs is.cause (sym is.status ∙ zero) whole asks
 
-  pub told : AsksForTable words → IfSome texts (λ ts. IsTold ts words old new)
-  told asks = held (λ ts. IsTold ts words old new) (λ ts cause. is_told old new is.reply ts words signs cause (sym is.status ∙ zero) whole asks)
+  pub ranked : AsksForCheck words → IsRanked texts words old new
+  ranked asks = is_ranked old new is.reply texts words signs is.cause (sym is.status ∙ zero) whole asks
 
-  pub shown : PrintedTextSpellsTheScript → PrintedTextSpellsNoOther → AsksForShow words → IfSome texts (λ ts. IsShown ts words old new)
-  shown same other asks = held (λ ts. IsShown ts words old new) (λ ts cause. is_shown old new is.reply ts words signs cause (sym is.status ∙ zero) whole same other asks)
+  pub told : AsksForTable words → IsTold texts words old new
+  told asks = is_told old new is.reply texts words signs is.cause (sym is.status ∙ zero) whole asks
+
+  pub shown : PrintedTextSpellsTheScript → PrintedTextSpellsNoOther → AsksForShow words → IsShown texts words old new
+  shown same other asks = is_shown old new is.reply texts words signs is.cause (sym is.status ∙ zero) whole same other asks

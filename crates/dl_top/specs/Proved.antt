@@ -1,5 +1,6 @@
 -- What status 0 promises.
-use Rattle.std.specs.Prelude.{◌≡◌, ℕ, ℤ, List, ◌++◌, length, map, Option, Some, slice_get}
+use Rattle.std.specs.Prelude.{◌≡◌, ◌≤◌, ℕ, ℤ, List, ◌++◌, length, map, Option, Some, None, slice_get}
+use Rattle.dl_limits.specs.declared.TheConstants.{MOST_BYTES}
 use Rattle.command_words.specs.Request.{Asks}
 use Rattle.comparison.specs.Agreement.{printed_events}
 use Rattle.comparison.specs.Conforming.{ComponentsConform}
@@ -16,6 +17,8 @@ use Rattle.csp_text.specs.declared.script.Script.{Script}
 use Rattle.dl_outside.specs.declared.texts.NamedText.{NamedText}
 use Rattle.dl_outside.specs.Texts.{text_of}
 use Rattle.dl_outside.specs.Write.{GrowsBy}
+use Rattle.judgement_laws.specs.Classes.{HaveClasses}
+use Rattle.judgement_laws.specs.Lasting.{AllGoOn}
 use Rattle.network_stages.specs.Networks.{HasSilentBound, IsLive, Network}
 use Rattle.process_steps.specs.ComponentStep.{ProcessStep}
 use Rattle.report.specs.Report.{conforms_text, deadlock_free_text, table_text}
@@ -30,25 +33,33 @@ pub record SpellsOnlyNetwork (text : List ℕ) (network : Network) : Type 0 wher
   pub only : (other : Network) → SpellsNetwork text other → other ≡ network
 
 -- The text spells exactly one network. From every state that some run of the network reaches, at most `bound` silent steps follow one another, and
--- a state without a silent step has an event; and `bound` is exactly the network's silent bound. The report prints it, beside what was counted on
--- the way.
+-- a state without a silent step has an event; and `bound` is exactly the network's silent bound. No term that a component reaches can end or lacks a
+-- value that its steps need. `nodes` is the number of classes into which the traces of the components fall where those with the same future are one
+-- class. The report prints the rule, the number of components and these numbers, and a greatest rank.
 pub record SpellsDeadlockFree (text : List ℕ) (rule : Rule) (report : List ℕ) : Type 0 where
   pub network : Network
   pub spells : SpellsOnlyNetwork text network
   pub bound : ℕ
   pub live : IsLive network bound
   pub exact : HasSilentBound network bound
+  pub lasting : AllGoOn network.program (leaves network.tree)
   pub nodes : ℕ
+  pub classes : HaveClasses (ProcessStep network.program) (leaves network.tree) nodes
   pub greatest_rank : ℤ
   pub is : report ≡ deadlock_free_text rule (length (leaves network.tree)) nodes bound greatest_rank
 
+-- The text may be that of this name: the one that the shelf holds, where it tells its texts; of no more bytes than a script may have.
+abbrev pub IsTextOf : Option (List NamedText) → List ℕ → List ℕ → Type 0
+IsTextOf (Some texts) name text = (text_of texts name ≡ Some text) × (length text ≤ MOST_BYTES)
+IsTextOf None name text = length text ≤ MOST_BYTES
+
 -- The words ask for the judgement of a script, whose text spells a network free of deadlock. The sink, where it tells, grew by exactly the report.
-pub record IsProved (texts : List NamedText) (words : List (List ℕ)) (old new : Option (List ℕ)) : Type 0 where
+pub record IsProved (texts : Option (List NamedText)) (words : List (List ℕ)) (old new : Option (List ℕ)) : Type 0 where
   pub rule : Rule
   pub name : List ℕ
   pub asked : Asks words (request.Script (Check rule) name)
   pub text : List ℕ
-  pub held : text_of texts name ≡ Some text
+  pub held : IsTextOf texts name text
   pub report : List ℕ
   pub free : SpellsDeadlockFree text rule report
   pub printed : GrowsBy old new report
@@ -63,11 +74,11 @@ pub record IsTried (words : List (List ℕ)) (old new : Option (List ℕ)) : Typ
 
 -- The words ask for a script to be shown. Its text spells this script and no other. The sink, where it tells, grew by exactly the printed text of
 -- the script, and this text spells the same script again, and no other.
-pub record IsShown (texts : List NamedText) (words : List (List ℕ)) (old new : Option (List ℕ)) : Type 0 where
+pub record IsShown (texts : Option (List NamedText)) (words : List (List ℕ)) (old new : Option (List ℕ)) : Type 0 where
   pub name : List ℕ
   pub asked : Asks words (request.Script Show name)
   pub text : List ℕ
-  pub held : text_of texts name ≡ Some text
+  pub held : IsTextOf texts name text
   pub script : Script
   pub spelled : Spells text script
   pub only : (other : Script) → Spells text other → other ≡ script
@@ -76,12 +87,12 @@ pub record IsShown (texts : List NamedText) (words : List (List ℕ)) (old new :
 
 -- The words ask for the table of a component. The text spells exactly one network, of which this is the component in the place i. The sink, where it
 -- tells, grew by exactly the component's normal table, printed.
-pub record IsTold (texts : List NamedText) (words : List (List ℕ)) (old new : Option (List ℕ)) : Type 0 where
+pub record IsTold (texts : Option (List NamedText)) (words : List (List ℕ)) (old new : Option (List ℕ)) : Type 0 where
   pub i : ℕ
   pub name : List ℕ
   pub asked : Asks words (request.Script (Table i) name)
   pub text : List ℕ
-  pub held : text_of texts name ≡ Some text
+  pub held : IsTextOf texts name text
   pub network : Network
   pub spells : SpellsOnlyNetwork text network
   pub component : Component Proc
@@ -106,14 +117,14 @@ pub record SpellsConforming (text specification report : List ℕ) : Type 0 wher
   pub is : report ≡ conforms_text (length (leaves network.tree)) bound
 
 -- The words ask for a script to be held against its specification, and the texts of both are such. The sink, where it tells, grew by exactly the report.
-pub record IsConformed (texts : List NamedText) (words : List (List ℕ)) (old new : Option (List ℕ)) : Type 0 where
+pub record IsConformed (texts : Option (List NamedText)) (words : List (List ℕ)) (old new : Option (List ℕ)) : Type 0 where
   pub script : List ℕ
   pub specification : List ℕ
   pub asked : Asks words (request.Conform script specification)
   pub text : List ℕ
-  pub held : text_of texts script ≡ Some text
+  pub held : IsTextOf texts script text
   pub specification_text : List ℕ
-  pub specification_held : text_of texts specification ≡ Some specification_text
+  pub specification_held : IsTextOf texts specification specification_text
   pub report : List ℕ
   pub conforming : SpellsConforming text specification_text report
   pub printed : GrowsBy old new report

@@ -1,10 +1,15 @@
 //! The answer to the text of a script.
 
 ghost use Rattle.std.specs.Prelude.{◌≡◌, IfErr, IfOk};
+ghost use Rattle.command_words.specs.declared.request.Job.TheVariants.{Check};
+ghost use Rattle.csp_tables.specs.declared.rule.Rule.{Rule as RuleValue};
 ghost use Rattle.network_stages.specs.Networks.{network_at};
+ghost use Rattle.report.specs.Report.{report_text, status};
 ghost use Rattle.report.specs.Stops.{Answers, Tells};
+ghost use Rattle.dl_top.specs.Complete.{SpellsPassing};
 ghost use Rattle.dl_top.specs.Judgement.{HasNetwork, HasNoScript, ScriptDecides, SpellsNoNetwork, SpellsOnlyScript, TextCallsFor, TextsCompare};
 ghost use Rattle.dl_top.specs.Printing.{SpecificationSpellsNoNetwork, no_script};
+ghost use Rattle.dl_top.specs.Proved.{SpellsDeadlockFree};
 
 use command_words::Job;
 use comparison::compared;
@@ -64,11 +69,24 @@ fn walked(alloc: Global, job: Job, text: &[u8]) -> Result<Done, Stop<Answer>>
     decided(alloc, job, &script)
 }
 
-/// The answer that the text of a script calls for, with which this is to be done.
-pub fn judge(alloc: Global, job: Job, text: &[u8]) -> Result<Answer, NoMemory>
+// The answer to which that walk comes.
+fn called_for(alloc: Global, job: Job, text: &[u8]) -> Result<Answer, NoMemory>
     ensures { IfOk result (TextCallsFor text.now job) }
 {
     finished(walked(alloc, job, text))
+}
+
+/// The answer that the text of a script calls for, with which this is to be done: what `dl_main` reports of a text that it loaded.
+pub fn judge(alloc: Global, job: Job, text: &[u8]) -> Result<Answer, NoMemory>
+    ensures answer { IfOk result (TextCallsFor text.now job) }
+
+    // The theorem: where a script is judged with status 0, its text spells exactly one network, which is free of deadlock.
+    ensures free { IfOk result (λ answer. (rule : RuleValue) → job ≡ Check rule → status answer ≡ 0 → SpellsDeadlockFree text.now rule (report_text answer)) }
+
+    // Completeness: a network within the limits that meets the rule is judged with status 0.
+    ensures complete { IfOk result (λ answer. (rule : RuleValue) → job ≡ Check rule → SpellsPassing text.now rule → status answer ≡ 0) }
+{
+    called_for(alloc, job, text)
 }
 
 // The network of the script that a text spells.

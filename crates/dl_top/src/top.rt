@@ -5,7 +5,9 @@ ghost use Rattle.dl_outside.specs.Count.{HasRisen};
 ghost use Rattle.dl_top.specs.Cause.{CallsFor, MayGive, shelf_signs};
 ghost use Rattle.command_words.specs.Request.{AsksForCheck, AsksForConform, AsksForShow, AsksForTable, AsksForTrial, NamesNoScript};
 ghost use Rattle.dl_top.specs.Ending.{Ends, EndsInShelfFault, EndsWhole, sink_signs};
+ghost use Rattle.dl_top.specs.Complete.{AsksForMatching, AsksForPassing};
 ghost use Rattle.dl_top.specs.Proved.{IsConformed, IsProved, IsShown, IsTold, IsTried};
+ghost use Rattle.dl_top.specs.Ranked.{IsRanked, IsTriedRanked};
 
 use crate::load::printed_reply;
 use crate::send::send;
@@ -23,22 +25,35 @@ const OUTSIDE_FAULT: u8 = 4;
 /// Does what the words ask for, sends the report, and answers the exit status: 0 proved or shown, 1 not proved, 2 refused, 3 no command, 4 a
 /// fault of the shelf or the sink, 5 want of memory.
 pub fn dl_main<S: Shelf, O: Sink>(alloc: Global, words: &Words, shelf: &mut S, out: &mut O) -> u8
-    // The theorem: where a script is judged with status 0, its text spells exactly one network, which is free of deadlock.
-    ensures proved { AsksForCheck words.now → result ≡ 0 → IfSome (S.texts shelf.old) (λ texts. IsProved texts words.now (O.sent out.old) (O.sent out.new)) }
+    // The theorem: where a script is judged with status 0, its text spells exactly one network, which is free of deadlock. Where the shelf tells no
+    // texts, this holds of some text within the limit.
+    ensures proved { AsksForCheck words.now → result ≡ 0 → IsProved (S.texts shelf.old) words.now (O.sent out.old) (O.sent out.new) }
 
     // The same of the script of a family, where a trial ends with status 0.
     ensures tried { AsksForTrial words.now → result ≡ 0 → IsTried words.now (O.sent out.old) (O.sent out.new) }
 
+    // The greatest rank in the report is that of the rule's ranking of the network; in a trial too.
+    ensures ranked { AsksForCheck words.now → result ≡ 0 → IsRanked (S.texts shelf.old) words.now (O.sent out.old) (O.sent out.new) }
+    ensures tried_ranked { AsksForTrial words.now → result ≡ 0 → IsTriedRanked words.now (O.sent out.old) (O.sent out.new) }
+
+    // Completeness: a network within the limits that meets the rule is judged with status 0, without a fault and with memory enough.
+    ensures complete { result ≢ 5 → ¬ HasRisen (S.faults shelf.old) (S.faults shelf.new) → ¬ HasRisen (O.faults out.old) (O.faults out.new)
+        → IfSome (S.texts shelf.old) (λ texts. AsksForPassing texts words.now → result ≡ 0) }
+
     // Where a script is shown with status 0, its text spells exactly one script, and what was sent is the printed text of that, which
     // spells it again and no other.
-    ensures shown { AsksForShow words.now → result ≡ 0 → IfSome (S.texts shelf.old) (λ texts. IsShown texts words.now (O.sent out.old) (O.sent out.new)) }
+    ensures shown { AsksForShow words.now → result ≡ 0 → IsShown (S.texts shelf.old) words.now (O.sent out.old) (O.sent out.new) }
 
     // Where the table of a component is printed with status 0, it is exactly the component's normal table.
-    ensures told { AsksForTable words.now → result ≡ 0 → IfSome (S.texts shelf.old) (λ texts. IsTold texts words.now (O.sent out.old) (O.sent out.new)) }
+    ensures told { AsksForTable words.now → result ≡ 0 → IsTold (S.texts shelf.old) words.now (O.sent out.old) (O.sent out.new) }
 
     // Where a script is held against its specification with status 0, each component of its network conforms to the one in its place in that of the
     // specification, and if that is live, so is the network.
-    ensures conformed { AsksForConform words.now → result ≡ 0 → IfSome (S.texts shelf.old) (λ texts. IsConformed texts words.now (O.sent out.old) (O.sent out.new)) }
+    ensures conformed { AsksForConform words.now → result ≡ 0 → IsConformed (S.texts shelf.old) words.now (O.sent out.old) (O.sent out.new) }
+
+    // And this comes wherever both networks are within the limits and match, without a fault and with memory enough.
+    ensures matching { result ≢ 5 → ¬ HasRisen (S.faults shelf.old) (S.faults shelf.new) → ¬ HasRisen (O.faults out.old) (O.faults out.new)
+        → IfSome (S.texts shelf.old) (λ texts. AsksForMatching texts words.now → result ≡ 0) }
 
     // Each reply has its cause. A front of a report is sent only where the sink has a fault or memory runs out.
     ensures ends { Ends

@@ -9,15 +9,15 @@ use Rattle.csp_tables.specs.Live.{Live}
 use Rattle.csp_tables.specs.Part.{Part, TripleDisjoint}
 use Rattle.csp_tables.specs.Ranking.{Ranking}
 use Rattle.csp_tables.specs.Shape.{Shape}
-use Rattle.csp_tables.specs.ShapeOf.{ArePartsOf, IsShapeOf}
+use Rattle.csp_tables.specs.ShapeOf.{AreBusy, ArePartsOf, IsShapeOf}
 use Rattle.csp_tables.specs.SilentBound.{IsSilentBound}
-use Rattle.csp_tables.specs.Standing.{IsBusyShape}
 use Rattle.csp_tables.specs.declared.rule.Rule.{Rule}
 use Rattle.csp_tables.specs.declared.rule.Rule.TheVariants as rule
 use Rattle.design_rules.proofs.Live.{met_rules_mean_live}
+use Rattle.design_rules.proofs.Readings.{networks_meet}
 use Rattle.design_rules.specs.Rules.{HasNotes}
 use Rattle.net_sound.specs.Soundness.{IsSound}
-use Rattle.net_sound.proofs.ShapeOf.{shapes_are_busy, shapes_behave}
+use Rattle.net_sound.proofs.ShapeOf.{shapes_behave}
 use Rattle.network_layout.specs.Triple.{alphabets}
 use Rattle.network_stages.specs.Networks.{components_at, tree_at}
 use Rattle.network_trees.specs.NetworkOf.{network_of}
@@ -29,14 +29,14 @@ use Rattle.design_rules.specs.declared.noted_rule.NotedRule.{NotedRule}
 use Rattle.design_rules.specs.declared.noted_rule.NotedRule.TheVariants as noted
 
 module _ (p : Content) (spelled : network_of p ≡ Ok (tree_at p)) (shape : Shape) (apart : TripleDisjoint (alphabets (components_at p)))
-    (is : IsShapeOf (ProcessStep p) (tree_at p) shape) (busy : IsBusyShape shape) where
-  pub free : (rule : NotedRule) (ranking : Ranking) (bound : ℕ) → IsRanked rule shape ranking → IsSilentBound (ProcessStep p) (components_at p) bound
+    (is : IsShapeOf (ProcessStep p) (tree_at p) shape) (busy : AreBusy (ProcessStep p) (components_at p)) where
+  pub free : (rule : NotedRule) (ranking : Ranking) (bound : ℕ) → IsRanked p (components_at p) rule shape ranking → IsSilentBound (ProcessStep p) (components_at p) bound
       → Live (NetworkStep (ProcessStep p)) (tree_at p) bound
   free rule ranking bound ranked exact =
       let made = network_is_tree p (tree_at p) spelled in
       let sound : IsSound (ProcessStep p) (tree_at p) bound = record { some = made.1; nested = made.0.nesting; triple = apart; silence = exact } in
-      let behave = shapes_behave (ProcessStep p) (tree_at p) shape is ((shapes_are_busy (ProcessStep p) (tree_at p) shape is).0 busy) in
-      met_rules_mean_live (ProcessStep p) (tree_at p) bound shape rule ranking sound is.form behave ranked.0 ranked.1
+      let behave = shapes_behave (ProcessStep p) (tree_at p) shape is busy in
+      met_rules_mean_live (ProcessStep p) (tree_at p) bound shape rule ranking sound is.form behave ((networks_meet (ProcessStep p) (tree_at p) shape is rule).1 ranked.0) ranked.1
 
 -- what each member of a list comes to, is as many
 as_many_more : {A : Type 0} (first : Outcome A) (more : Outcome (List A)) (n : ℕ) (ys : List A) → ((zs : List A) → more ≡ Ok zs → length zs ≡ n)

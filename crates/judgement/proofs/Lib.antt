@@ -1,3 +1,4 @@
+pub mod Broken
 pub mod Cases
 pub mod Free
 pub mod KindsUnique

@@ -7,8 +7,7 @@ use Rattle.csp_tables.specs.Network.{Component}
 use Rattle.csp_tables.specs.Part.{Part, TripleDisjoint}
 use Rattle.csp_tables.specs.Ranking.{Ranking}
 use Rattle.csp_tables.specs.Shape.{Shape}
-use Rattle.csp_tables.specs.ShapeOf.{IsShapeOf}
-use Rattle.csp_tables.specs.Standing.{IsBusyShape}
+use Rattle.csp_tables.specs.ShapeOf.{AreBusy, IsShapeOf}
 use Rattle.csp_tables.specs.declared.rule.Rule.{Rule}
 use Rattle.csp_text.specs.declared.script.Script.{Script}
 use Rattle.free_answers.specs.Told.{IsToldFree}
@@ -42,10 +41,10 @@ pub tables_here : (p q : Content) (cs : List (Component Proc)) (ts : List Compon
 tables_here p q cs ts programs components are =
     subst (λ (x : Content). AreTablesOf x (components_at p) ts) programs (subst (λ (ds : List (Component Proc)). AreTablesOf q ds ts) components are)
 
-pub parts_here : (p q : Content) (cs : List (Component Proc)) (ts : List ComponentTable) (parts : List Part) → q ≡ p → cs ≡ components_at p → ArePartsBy q ts cs parts
-    → ArePartsBy p ts (components_at p) parts
-parts_here p q cs ts parts programs components are =
-    subst (λ (x : Content). ArePartsBy x ts (components_at p) parts) programs (subst (λ (ds : List (Component Proc)). ArePartsBy q ts ds parts) components are)
+pub parts_here : (p q : Content) (cs : List (Component Proc)) (parts : List Part) → q ≡ p → cs ≡ components_at p → ArePartsBy q cs parts
+    → ArePartsBy p (components_at p) parts
+parts_here p q cs parts programs components are =
+    subst (λ (x : Content). ArePartsBy x (components_at p) parts) programs (subst (λ (ds : List (Component Proc)). ArePartsBy q ds parts) components are)
 
 pub made_here : (p q : Content) (cs : List (Component Proc)) (parts : List Part) → q ≡ p → cs ≡ components_at p → AreMadeFor (ProcessStep q) cs parts
     → AreMadeFor (ProcessStep p) (components_at p) parts
@@ -67,23 +66,27 @@ module _ (s : Script) (rule : Rule) (r : Result Done (Stop Answer)) where
         goes_on _ _ _ _ (network_at p) is r (at_refusal r _ _ _ _ why exit there)
 
     module _ (t : Tables) (are : AreTablesOf p (components_at p) t.tables) where
-      pub at_parts : (why : Stop Refusal) → IsErrAnd r (λ x. x ≡ refused side.Script why) → Tells (HaveNoParts 0 t.tables) why → Answers (IsJudged s rule) r
+      pub at_parts : (q : Content) (cs : List (Component Proc)) → q ≡ p → cs ≡ components_at p → (why : Stop Refusal) → IsErrAnd r (λ x. x ≡ refused side.Script why)
+          → Tells (HaveNoParts q 0 cs) why → Answers (IsJudged s rule) r
       unfolding IsJudged
-      at_parts why exit tells = goes_on _ _ _ _ (network_at p) is r (goes_on _ _ _ _ t.tables are r (at_refusal r _ _ _ _ why exit tells))
+      at_parts q cs same one why exit tells =
+          let there : Tells (HaveNoParts p 0 (components_at p)) why =
+          subst (λ (x : Content). Tells (HaveNoParts x 0 (components_at p)) why) same (subst (λ (ds : List (Component Proc)). Tells (HaveNoParts q 0 ds) why) one tells) in
+          goes_on _ _ _ _ (network_at p) is r (goes_on _ _ _ _ t.tables are r (at_refusal r _ _ _ _ why exit there))
 
-      module _ (parts : List Part) (by : ArePartsBy p t.tables (components_at p) parts) where
+      module _ (parts : List Part) (by : ArePartsBy p (components_at p) parts) where
         pub at_shape : (why : Stop Shortfall) → IsErrAnd r (λ x. x ≡ unproved why) → Tells (ShareEvent p (components_at p)) why → Answers (IsJudged s rule) r
         unfolding IsJudged
         at_shape why exit tells =
             goes_on _ _ _ _ (network_at p) is r (goes_on _ _ _ _ t.tables are r (goes_on _ _ _ _ parts by r (at_shortfall r _ _ _ why exit tells)))
 
         module _ (shape : Shape) (apart : IsApart (network_at p) shape) where
-          pub at_busy : (why : Stop Shortfall) → IsErrAnd r (λ x. x ≡ unproved why) → Tells (CanStop p shape) why → Answers (IsJudged s rule) r
+          pub at_busy : (why : Stop Shortfall) → IsErrAnd r (λ x. x ≡ unproved why) → Tells (CanStop p (components_at p)) why → Answers (IsJudged s rule) r
           unfolding IsJudged
           at_busy why exit tells =
               goes_on _ _ _ _ (network_at p) is r (goes_on _ _ _ _ t.tables are r (goes_on _ _ _ _ parts by r (goes_on _ _ _ _ shape apart r (at_shortfall r _ _ _ why exit tells))))
 
-          pub at_rule : IsBusyShape shape → Answers (RuleDecides (network_at p) rule shape) r → Answers (IsJudged s rule) r
+          pub at_rule : AreBusy (ProcessStep p) (components_at p) → Answers (RuleDecides (network_at p) rule shape) r → Answers (IsJudged s rule) r
           unfolding IsJudged
           at_rule busy rest =
               goes_on _ _ _ _ (network_at p) is r (goes_on _ _ _ _ t.tables are r (goes_on _ _ _ _ parts by r (goes_on _ _ _ _ shape apart r (goes_on _ _ _ _ tt busy r rest))))
@@ -94,18 +97,18 @@ module _ (p : Content) (rule : Rule) (shape : Shape) (r : Result Done (Stop Answ
   at_notes why exit tells = at_refusal r _ _ _ _ why exit tells
 
   module _ (notes : NotedRule) (are : Notes p (components_at p) rule notes) where
-    pub at_ranking : (q : Content) → q ≡ p → (why : Stop Shortfall) → IsErrAnd r (λ x. x ≡ unproved why) → Tells (BreaksRule q notes shape) why → Answers (RuleDecides (network_at p) rule shape) r
+    pub at_ranking : (why : Stop Shortfall) → IsErrAnd r (λ x. x ≡ unproved why) → Tells (BreaksRule p (components_at p) notes) why → Answers (RuleDecides (network_at p) rule shape) r
     unfolding RuleDecides
-    at_ranking q same why exit tells =
-        goes_on _ _ _ _ notes are r (at_shortfall r _ _ _ why exit (subst (λ (x : Content). Tells (BreaksRule x notes shape) why) same tells))
+    at_ranking why exit tells = goes_on _ _ _ _ notes are r (at_shortfall r _ _ _ why exit tells)
 
-    pub at_free : (ranking : Ranking) → IsRanked notes shape ranking → Answers (IsDeadlockFree (network_at p) rule shape ranking) r → Answers (RuleDecides (network_at p) rule shape) r
+    pub at_free : (ranking : Ranking) → IsRanked p (components_at p) notes shape ranking → Answers (IsDeadlockFree (network_at p) rule shape ranking) r → Answers (RuleDecides (network_at p) rule shape) r
     unfolding RuleDecides
     at_free ranking ranked rest = goes_on _ _ _ _ notes are r (goes_on _ _ _ _ ranking ranked r rest)
 
 -- what was told of a network free of deadlock
 pub is_free : (p : Content) (spelled : network_of p ≡ Ok (tree_at p)) (rule : Rule) (notes : NotedRule) (shape : Shape) (ranking : Ranking) (q : Content) (cs : List (Component Proc)) (what : Done)
-    → q ≡ p → cs ≡ components_at p → TripleDisjoint (alphabets (components_at p)) → IsShapeOf (ProcessStep p) (tree_at p) shape → IsBusyShape shape → IsRanked notes shape ranking
+    → q ≡ p → cs ≡ components_at p → TripleDisjoint (alphabets (components_at p)) → IsShapeOf (ProcessStep p) (tree_at p) shape → AreBusy (ProcessStep p) (components_at p)
+    → IsRanked p (components_at p) notes shape ranking
     → IsToldFree q cs rule shape ranking what → IsDeadlockFree (network_at p) rule shape ranking (answer.Done what)
 is_free p spelled rule notes shape ranking q cs what programs components apart is busy ranked told =
     let there : IsToldFree p (components_at p) rule shape ranking what =

@@ -5,8 +5,7 @@ use Rattle.csp_tables.specs.Network.{leaves}
 use Rattle.csp_tables.specs.Part.{TripleDisjoint}
 use Rattle.csp_tables.specs.Ranking.{Ranking}
 use Rattle.csp_tables.specs.Shape.{Shape}
-use Rattle.csp_tables.specs.ShapeOf.{IsShapeOf}
-use Rattle.csp_tables.specs.Standing.{IsBusyShape}
+use Rattle.csp_tables.specs.ShapeOf.{AreBusy, IsShapeOf}
 use Rattle.csp_tables.specs.declared.rule.Rule.{Rule}
 use Rattle.csp_text.specs.declared.script.Script.{Script}
 use Rattle.free_answers.specs.Counts.{greatest_rank, node_count}
@@ -34,7 +33,7 @@ pub record IsDeadlockFree (network : Network) (rule : Rule) (shape : Shape) (ran
 unfoldable pub RuleDecides : Network → Rule → Shape → Answer → Type 0
 RuleDecides network rule shape =
     RefusedOr side.Script (HasUntold network.program (leaves network.tree) rule) (Notes network.program (leaves network.tree) rule) (λ noted.
-    UnprovedOr (BreaksRule network.program noted shape) (IsRanked noted shape) (λ ranking.
+    UnprovedOr (BreaksRule network.program (leaves network.tree) noted) (IsRanked network.program (leaves network.tree) noted shape) (λ ranking.
     IsDeadlockFree network rule shape ranking))
 
 -- the shape of a network in which no event is in three alphabets
@@ -47,7 +46,7 @@ unfoldable pub IsJudged : Script → Rule → Answer → Type 0
 IsJudged script rule =
     RefusedOr side.Script (HasNoNetwork script) (IsNetworkOf script) (λ network.
     RefusedOr side.Script (HaveNoTables network.program 0 (leaves network.tree)) (AreTablesOf network.program (leaves network.tree)) (λ tables.
-    RefusedOr side.Script (HaveNoParts 0 tables) (ArePartsBy network.program tables (leaves network.tree)) (λ parts.
+    RefusedOr side.Script (HaveNoParts network.program 0 (leaves network.tree)) (ArePartsBy network.program (leaves network.tree)) (λ parts.
     UnprovedOr (ShareEvent network.program (leaves network.tree)) (IsApart network) (λ shape.
-    UnprovedOr (CanStop network.program shape) (λ (busy : Unit {0}). IsBusyShape shape) (λ busy.
+    UnprovedOr (CanStop network.program (leaves network.tree)) (λ (busy : Unit {0}). AreBusy (ProcessStep network.program) (leaves network.tree)) (λ busy.
     RuleDecides network rule shape)))))

@@ -1,4 +1,4 @@
--- A rule with what a script notes for it of each component: what it comes to over the shape of a network.
+-- A rule with what a script notes for it of each component: what it comes to for a network.
 use Rattle.std.specs.Prelude.{◌≡◌, Ok, List}
 use Rattle.csp_program.specs.declared.processes.Proc.{Proc}
 use Rattle.csp_program.specs.declared.programs.Content.{Content}
@@ -7,13 +7,16 @@ use Rattle.csp_tables.specs.Ranking.{Ranking}
 use Rattle.csp_tables.specs.Shape.{Shape}
 use Rattle.csp_tables.specs.declared.rule.Rule.{Rule}
 use Rattle.csp_tables.specs.declared.rule.Rule.TheVariants.{ClientServer, Cyclic, Resource}
-use Rattle.design_rules.specs.Rules.{Breaks, Meets, Ranks}
+use Rattle.design_rules.specs.NotedRules.{NetworkBreaks, NetworkMeets}
+use Rattle.design_rules.specs.Outline.{outline}
+use Rattle.design_rules.specs.Rules.{Ranks}
 use Rattle.design_rules.specs.declared.noted_rule.NotedRule.{NotedRule}
 use Rattle.design_rules.specs.declared.noted_rule.NotedRule.TheVariants as noted
 use Rattle.design_rules.specs.declared.rule_fault.RuleFault.{RuleFault}
 use Rattle.network_layout.specs.Told.{IsUntold}
 use Rattle.network_layout.specs.declared.told.NotedFault.{NotedFault}
 use Rattle.network_trees.specs.Annotations.{component_roles, component_uses}
+use Rattle.process_steps.specs.ComponentStep.{ProcessStep}
 use Rattle.process_steps.specs.Needed.{all_outcomes}
 use Rattle.report.specs.declared.answer.Refusal.{Refusal}
 use Rattle.report.specs.declared.answer.Shortfall.{Shortfall}
@@ -37,10 +40,10 @@ HasUntold p cs Cyclic r = ⊥
 HasUntold p cs ClientServer r = (f : NotedFault) × IsUntold (component_roles p) cs f × TellsNoted f r
 HasUntold p cs Resource r = (f : NotedFault) × IsUntold (component_uses p) cs f × TellsNoted f r
 
--- the shape meets the rule, which gives it this ranking
-abbrev pub IsRanked : NotedRule → Shape → Ranking → Type 0
-IsRanked rule shape ranking = Meets rule shape × Ranks rule shape ranking
+-- the network of these components meets the rule, which gives its shape this ranking
+abbrev pub IsRanked : Content → List (Component Proc) → NotedRule → Shape → Ranking → Type 0
+IsRanked p cs rule shape ranking = NetworkMeets (ProcessStep p) cs rule × Ranks rule shape ranking
 
--- the shape breaks the rule
-abbrev pub BreaksRule : Content → NotedRule → Shape → Shortfall → Type 0
-BreaksRule p rule shape s = (f : RuleFault) × Breaks rule shape f × TellsRule p rule shape f s
+-- the network breaks the rule
+abbrev pub BreaksRule : Content → List (Component Proc) → NotedRule → Shortfall → Type 0
+BreaksRule p cs rule s = (f : RuleFault) × NetworkBreaks (ProcessStep p) cs rule f × TellsRule p rule (outline cs) f s

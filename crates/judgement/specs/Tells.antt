@@ -1,4 +1,4 @@
--- How it is told that an annotated set has no value, or what breaks a rule. Want of memory is not told.
+-- How it is told that an annotated set has no value, or what breaks a rule: a link is told by its two components. Want of memory is not told.
 use Rattle.std.specs.Prelude.{◌≡◌, ℕ, List, map}
 use Rattle.csp_program.specs.declared.programs.Content.{Content}
 use Rattle.csp_tables.specs.Shape.{Shape, link_at}

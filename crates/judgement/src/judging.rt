@@ -1,11 +1,11 @@
 //! The judgement of a script by a rule.
 
-ghost use Rattle.std.specs.Prelude.{◌≡◌};
+ghost use Rattle.std.specs.Prelude.{◌≡◌, Ok};
 ghost use Rattle.csp_tables.specs.Part.{TripleDisjoint, alphabets_of};
-ghost use Rattle.csp_tables.specs.ShapeOf.{IsShapeOf};
-ghost use Rattle.csp_tables.specs.Standing.{IsBusyShape};
+ghost use Rattle.csp_tables.specs.ShapeOf.{AreBusy, IsShapeOf};
 ghost use Rattle.network_layout.specs.Triple.{alphabets};
 ghost use Rattle.network_stages.specs.Networks.{components_at, network_at, tree_at};
+ghost use Rattle.network_trees.specs.NetworkOf.{network_of};
 ghost use Rattle.process_steps.specs.ComponentStep.{ProcessStep};
 ghost use Rattle.report.specs.Stops.{Answers};
 ghost use Rattle.judgement.specs.Judged.{IsJudged, RuleDecides};
@@ -28,16 +28,17 @@ fn ruled(
     tables: &Tabled<'_>,
     shape: &Shape,
 ) -> Result<Done, Stop<Answer>>
+    requires spelled { network_of network.now ≡ Ok (tree_at network.now) }
     requires program { tables.now.program ≡ network.now }
     requires components { tables.now.components ≡ components_at network.now }
     requires shape { IsShapeOf (ProcessStep network.now) (tree_at network.now) shape.now }
     requires apart { TripleDisjoint (alphabets (components_at network.now)) }
     requires parts_apart { TripleDisjoint (alphabets_of shape.now.parts) }
-    requires busy { IsBusyShape shape.now }
+    requires busy { AreBusy (ProcessStep network.now) (components_at network.now) }
     ensures { Answers (RuleDecides (network_at network.now) rule shape.now) result }
 {
     let notes = noted(alloc, rule, network)?;
-    let ranking = ranked(alloc, network.program(), &notes, shape)?;
+    let ranking = ranked(alloc, network, &notes, shape)?;
     let done = deadlock_free(rule, tables, shape, &ranking)?;
     Ok(done)
 }

@@ -2,14 +2,14 @@
 
 ghost use Rattle.std.specs.Prelude.{IfErr, IfOk};
 ghost use Rattle.csp_tables.specs.Part.{TripleDisjoint, alphabets_of};
-ghost use Rattle.csp_tables.specs.Shape.{IsWellFormed};
+ghost use Rattle.csp_tables.specs.ShapeOf.{IsShapeOf};
 ghost use Rattle.design_rules.specs.Rules.{HasNotes};
-ghost use Rattle.network_stages.specs.Networks.{components_at};
+ghost use Rattle.network_stages.specs.Networks.{components_at, tree_at};
+ghost use Rattle.process_steps.specs.ComponentStep.{ProcessStep};
 ghost use Rattle.report.specs.Stops.{Tells};
 ghost use Rattle.judgement.specs.Noted.{BreaksRule, HasUntold, IsRanked, Notes};
 
 use crate::telling::{noted_refusal, rule_shortfall};
-use csp_program::Program;
 use csp_tables::{Ranking, Rule, Shape};
 use design_rules::NotedRule;
 use network_layout::{roles_of, uses_of};
@@ -43,18 +43,18 @@ pub(crate) fn noted(
 // The ranking that the rule gives to a network of this shape, or what breaks the rule.
 pub(crate) fn ranked(
     alloc: Global,
-    program: &Program,
+    network: &Spelled,
     rule: &NotedRule,
     shape: &Shape,
 ) -> Result<Ranking, Stop<Shortfall>>
-    requires form { IsWellFormed shape.now }
+    requires shape { IsShapeOf (ProcessStep network.now) (tree_at network.now) shape.now }
     requires apart { TripleDisjoint (alphabets_of shape.now.parts) }
     requires notes { HasNotes rule.now shape.now }
-    ensures ok { IfOk result (IsRanked rule.now shape.now) }
-    ensures told { IfErr result (Tells (BreaksRule program.now rule.now shape.now)) }
+    ensures ok { IfOk result (IsRanked network.now (components_at network.now) rule.now shape.now) }
+    ensures told { IfErr result (Tells (BreaksRule network.now (components_at network.now) rule.now)) }
 {
     match decided(alloc, rule, shape) {
         Ok(ranking) => Ok(ranking),
-        Err(fault) => Err(stopped(rule_shortfall(alloc, program, rule, shape, fault))),
+        Err(fault) => Err(stopped(rule_shortfall(alloc, network.program(), rule, shape, fault))),
     }
 }

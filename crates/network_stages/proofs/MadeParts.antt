@@ -67,56 +67,53 @@ split j i low = elim (cases_lt j i) as (λ _. (j < i) ⊎ (j ≡ i)) [
   | inr not ↦ inr (omega arith)
 ]
 
-module _ (tables : List ComponentTable) (i : ℕ) (t : ComponentTable) (within : i < length tables) (is : t ≡ get_or tables i t) where
-  here : slice_get tables i ≡ Some t
-  here = slice_get-get_or tables i t within ∙ ap Some (sym is)
+module _ (p : Content) (seats : List (Component Proc)) (i : ℕ) (c : Component Proc) (within : i < length seats) (is : c ≡ get_or seats i c) where
+  here : slice_get seats i ≡ Some c
+  here = slice_get-get_or seats i c within ∙ ap Some (sym is)
 
-  -- one more table has few sets
-  pub next_few : HaveFewSetsBefore i tables → (HasManySets t → ⊥) → HaveFewSetsBefore (i + 1) tables
-  next_few before few j u below at many =
+  -- one more component has few sets
+  pub next_few : HaveFewSetsBefore p i seats → (HasManySets p c → ⊥) → HaveFewSetsBefore p (i + 1) seats
+  next_few before few j d below at many =
       elim (split j i (omega arith)) as (λ _. ⊥) [
-        | inl earlier ↦ before j u earlier at many
+        | inl earlier ↦ before j d earlier at many
         | inr same ↦
-            let at' : slice_get tables i ≡ Some u = subst (λ k. slice_get tables k ≡ Some u) same at in
-            few (subst HasManySets (sym (same_Some t u (sym here ∙ at'))) many)
+            let at' : slice_get seats i ≡ Some d = subst (λ k. slice_get seats k ≡ Some d) same at in
+            few (subst (HasManySets p) (sym (same_Some c d (sym here ∙ at'))) many)
       ]
 
-  -- the first table with many sets
-  pub first_many : HaveFewSetsBefore i tables → HasManySets t → IsFirstWithManySets tables i
-  first_many before many = record { table = t; at = here; many = many; earlier = before }
+  -- the first component with many sets
+  pub first_many : HaveFewSetsBefore p i seats → HasManySets p c → IsFirstWithManySets p seats i
+  first_many before many = record { component = c; at = here; many = many; earlier = before }
 
--- what stands while parts are made: the first seats have theirs, and their tables few sets
-pub record AreMade (p : Content) (seats : List (Component Proc)) (tables : List ComponentTable) (made : List Part) (i : ℕ) : Type 0 where
+-- what stands while parts are made: the first seats have theirs, and few sets
+pub record AreMade (p : Content) (seats : List (Component Proc)) (made : List Part) (i : ℕ) : Type 0 where
   pub so_far : AreMadeFor (ProcessStep p) (take i seats) made
   pub form : All IsWellFormedPart made
-  pub few : HaveFewSetsBefore i tables
+  pub few : HaveFewSetsBefore p i seats
 
-module _ (p : Content) (seats : List (Component Proc)) (tables : List ComponentTable) where
-  pub none_made : AreMade p seats tables [] 0
+module _ (p : Content) (seats : List (Component Proc)) where
+  pub none_made : AreMade p seats [] 0
   none_made = record {
     so_far = (made_parts_grow (ProcessStep p)).none;
     form = λ k d below. absurd (let z : ⊥ = omega arith in z);
     few = λ j t below. absurd (let z : ⊥ = omega arith in z);
   }
 
-  pub one_made : (made new : List Part) (i : ℕ) (c : Component Proc) (t : ComponentTable) (part : Part) → AreMade p seats tables made i → i < length seats → i < length tables
-      → c ≡ get_or seats i c → t ≡ get_or tables i t → IsMadeFor (ProcessStep p) c part → IsWellFormedPart part → (HasManySets t → ⊥) → new ≡ made ++ part ∷ []
-      → AreMade p seats tables new (i + 1)
-  one_made made new i c t part are within within' is is' one form few grew = record {
+  pub one_made : (made new : List Part) (i : ℕ) (c : Component Proc) (part : Part) → AreMade p seats made i → i < length seats → c ≡ get_or seats i c
+      → IsMadeFor (ProcessStep p) c part → IsWellFormedPart part → (HasManySets p c → ⊥) → new ≡ made ++ part ∷ [] → AreMade p seats new (i + 1)
+  one_made made new i c part are within is one form few grew = record {
     so_far = subst (λ ps. AreMadeFor (ProcessStep p) (take (i + 1) seats) ps) (sym grew) (next_part p seats made i c part within is are.so_far one);
     form = subst (λ ps. All IsWellFormedPart ps) (sym grew) (All-push IsWellFormedPart made part are.form form);
-    few = next_few tables i t within' is' are.few few;
+    few = next_few p seats i c within is are.few few;
   }
 
-  pub all_made : (are : AreTablesOf p seats tables) (made : List Part) (i : ℕ) → AreMade p seats tables made i → length seats ≤ i
-      → AreMadeFor (ProcessStep p) seats made × HaveFewSets tables
-  all_made are made i done at_end =
-      let many = as_many p whole_room seats tables are in
-      (subst (λ cs. AreMadeFor (ProcessStep p) cs made) (take_all i seats at_end) done.so_far, λ j t below at sets. done.few j t (omega (arith, many, at_end, below)) at sets)
+  pub all_made : (made : List Part) (i : ℕ) → AreMade p seats made i → length seats ≤ i → AreMadeFor (ProcessStep p) seats made × HaveFewSets p seats
+  all_made made i done at_end =
+      (subst (λ cs. AreMadeFor (ProcessStep p) cs made) (take_all i seats at_end) done.so_far, λ j c below at sets. done.few j c (omega (arith, at_end, below)) at sets)
 
--- a table that is told to have many sets
-pub many_told : {A : Type 0} (t : ComponentTable) (r : Result A SetFault) (f : SetFault) → r ≡ Err f → f ≡ fault.SubsetLimit → IfErr r (TellsSets t) → HasManySets t
-many_told t r f is what tells = subst (λ (x : SetFault). TellsSets t x) what (subst (λ (x : Result _ SetFault). IfErr x (TellsSets t)) is tells)
+-- a component that is told to have many sets
+pub many_told : {A : Type 0} (p : Content) (c : Component Proc) (r : Result A SetFault) (f : SetFault) → r ≡ Err f → f ≡ fault.SubsetLimit → IfErr r (TellsSets p c) → HasManySets p c
+many_told p c r f is what tells = subst (λ (x : SetFault). TellsSets p c x) what (subst (λ (x : Result _ SetFault). IfErr x (TellsSets p c)) is tells)
 
 -- ---- the parts that were made are the components'
 
@@ -132,11 +129,10 @@ are_parts p [] (q ∷ qs) made = absurd (let no : 0 ≡ length (q ∷ qs) = made
 are_parts p (c ∷ cs) [] made = absurd (let no : length (c ∷ cs) ≡ 0 = made.one_each in omega arith)
 are_parts p (c ∷ cs) (q ∷ qs) made = (made_parts_are_parts (ProcessStep p) c q (made.each 0 c refl), are_parts p cs qs (made_rest p c cs q qs made))
 
--- what was made of tables that have few sets
-pub parts_by : (p q : Content) (cs ds : List (Component Proc)) (ts us : List ComponentTable) (parts : List Part) → q ≡ p → ds ≡ cs → us ≡ ts → AreMadeFor (ProcessStep q) ds parts
-    → HaveFewSets us → ArePartsBy p ts cs parts
-parts_by p q cs ds ts us parts programs components tables made few = record {
-  few = subst HaveFewSets tables few;
+-- what was made of components that have few sets
+pub parts_by : (p q : Content) (cs ds : List (Component Proc)) (parts : List Part) → q ≡ p → ds ≡ cs → AreMadeFor (ProcessStep q) ds parts → HaveFewSets q ds → ArePartsBy p cs parts
+parts_by p q cs ds parts programs components made few = record {
+  few = subst (HaveFewSets p) components (subst (λ (x : Content). HaveFewSets x ds) programs few);
   are =
       subst (λ (xs : List (Component Proc)). ArePartsOf (ProcessStep p) xs parts) components
       (subst (λ (x : Content). ArePartsOf (ProcessStep x) ds parts) programs (are_parts q ds parts made));

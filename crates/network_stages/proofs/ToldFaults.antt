@@ -3,14 +3,17 @@ use Rattle.std.proofs.Common.{◌≡◌, ℕ, List, Result, Ok, Err, IfErr, IfOk
 use Rattle.std.proofs.lemmas.Result.{IfOk-weaker}
 use Rattle.csp_program.specs.declared.processes.Proc.{Proc}
 use Rattle.csp_program.specs.declared.programs.Content.{Content}
-use Rattle.csp_tables.specs.Network.{Component}
+use Rattle.csp_tables.specs.Network.{Component, Tree, leaves}
 use Rattle.csp_tables.specs.Shape.{Shape}
+use Rattle.csp_tables.specs.ShapeOf.{IsShapeOf}
 use Rattle.csp_text.specs.declared.script.Script.{Script}
 use Rattle.network_layout.specs.Lays.{Fails}
 use Rattle.network_layout.specs.Triple.{SharesEvent, alphabets}
 use Rattle.network_layout.specs.declared.triple.TripleFault.{TripleFault}
 use Rattle.network_layout.specs.declared.triple.TripleFault.TheVariants as triple
+use Rattle.network_shape.proofs.TrueStops.{stops_are_true}
 use Rattle.network_shape.specs.Stops.{StopsFirst}
+use Rattle.process_steps.specs.ComponentStep.{ProcessStep}
 use Rattle.network_shape.specs.declared.fault.BusyFault.{BusyFault}
 use Rattle.network_shape.specs.declared.fault.BusyFault.TheVariants as busy
 use Rattle.network_trees.specs.NetworkOf.{network_of}
@@ -63,8 +66,8 @@ pub shares : {E : Type 0} (p : Content) (cs : List (Component Proc)) (f : Triple
     → IfOk told (ShareEvent p cs)
 shares p cs (triple.Shared e parts) told shared tells = IfOk-weaker told _ _ (λ s t. (e, parts.0, parts.1, parts.2, shared, t)) tells
 
-pub can_stop : {A E : Type 0} (p : Content) (shape : Shape) (f : BusyFault) (found : Result A BusyFault) (told : Result Shortfall E)
-    → ((i : ℕ) (trace : List ℕ) → found ≡ Err (busy.Stops i trace) → StopsFirst shape i trace) → found ≡ Err f → IfOk told (TellsBusy p f) → IfOk told (CanStop p shape)
-can_stop p shape f found (Err e) stops is tells = tt
-can_stop p shape busy.NoMemory found (Ok s) stops is tells = absurd tells
-can_stop p shape (busy.Stops i trace) found (Ok s) stops is tells = (i, trace, stops i trace is, tells)
+pub can_stop : {A E : Type 0} (p : Content) (tree : Tree Proc) (shape : Shape) (f : BusyFault) (found : Result A BusyFault) (told : Result Shortfall E) → IsShapeOf (ProcessStep p) tree shape
+    → ((i : ℕ) (trace : List ℕ) → found ≡ Err (busy.Stops i trace) → StopsFirst shape i trace) → found ≡ Err f → IfOk told (TellsBusy p f) → IfOk told (CanStop p (leaves tree))
+can_stop p tree shape f found (Err e) made stops is tells = tt
+can_stop p tree shape busy.NoMemory found (Ok s) made stops is tells = absurd tells
+can_stop p tree shape (busy.Stops i trace) found (Ok s) made stops is tells = (i, trace, stops_are_true (ProcessStep p) tree shape i trace made (stops i trace is), tells)

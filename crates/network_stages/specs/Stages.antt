@@ -3,15 +3,14 @@ use Rattle.std.specs.Prelude.{◌≡◌, ◌⊎◌, ℕ, ◌+◌, Err, List, [],
 use Rattle.csp_program.specs.declared.processes.Proc.{Proc}
 use Rattle.csp_program.specs.declared.programs.Content.{Content}
 use Rattle.csp_tables.specs.Network.{Component}
-use Rattle.csp_tables.specs.Shape.{Shape}
 use Rattle.csp_text.specs.declared.script.Script.{Script}
 use Rattle.network_layout.specs.Triple.{IsTriple, alphabets}
-use Rattle.network_shape.specs.Stops.{StopsFirst}
+use Rattle.network_shape.specs.Stops.{StopsFirstIn}
 use Rattle.network_tables.specs.Faults.{TellsTable}
-use Rattle.network_tables.specs.declared.component_tables.ComponentTable.{ComponentTable}
 use Rattle.network_tables.specs.declared.fault.TableFault.{TableFault}
 use Rattle.network_trees.specs.NetworkOf.{network_of}
 use Rattle.network_trees.specs.declared.fault.LayoutFault.{LayoutFault}
+use Rattle.process_steps.specs.ComponentStep.{ProcessStep}
 use Rattle.report.specs.EventText.{event_text}
 use Rattle.report.specs.declared.answer.Refusal.{Refusal}
 use Rattle.report.specs.declared.answer.Refusal.TheVariants as refusal
@@ -37,9 +36,9 @@ HasNoNetwork script r =
 abbrev pub HaveNoTables : Content → ℕ → List (Component Proc) → Refusal → Type 0
 HaveNoTables p n cs r = (f : TableFault) × TellsTable p cs f × TellsComponent p n f r
 
--- traces of one of the components with these tables lead to too many sets of terms
-abbrev pub HaveNoParts : ℕ → List ComponentTable → Refusal → Type 0
-HaveNoParts n ts r = (i : ℕ) × IsFirstWithManySets ts i × (r ≡ refusal.Component (n + i) table.SubsetLimit)
+-- traces of one of the components lead to too many sets of terms; the first of them has the number n in its network
+abbrev pub HaveNoParts : Content → ℕ → List (Component Proc) → Refusal → Type 0
+HaveNoParts p n cs r = (i : ℕ) × IsFirstWithManySets p cs i × (r ≡ refusal.Component (n + i) table.SubsetLimit)
 
 -- an event is in the alphabets of three components
 abbrev pub ShareEvent : Content → List (Component Proc) → Shortfall → Type 0
@@ -48,5 +47,5 @@ ShareEvent p cs s =
     × (s ≡ shortfall.NotTripleDisjoint (event_text p e) (i ∷ j ∷ k ∷ []))
 
 -- a component can stop
-abbrev pub CanStop : Content → Shape → Shortfall → Type 0
-CanStop p shape s = (i : ℕ) × (trace : List ℕ) × StopsFirst shape i trace × (s ≡ shortfall.Stops i (texts p trace))
+abbrev pub CanStop : Content → List (Component Proc) → Shortfall → Type 0
+CanStop p cs s = (i : ℕ) × (trace : List ℕ) × StopsFirstIn (ProcessStep p) cs i trace × (s ≡ shortfall.Stops i (texts p trace))

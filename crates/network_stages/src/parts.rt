@@ -31,8 +31,8 @@ fn part_of(
     requires table { HasTable program.now seat.now table.now }
     ensures made { IfOk result (IsMadeFor (ProcessStep program.now) seat.now) }
     ensures form { IfOk result IsWellFormedPart }
-    ensures few { IfOk result (λ _. HasManySets table.now → ⊥) }
-    ensures fault { IfErr result (TellsSets table.now) }
+    ensures few { IfOk result (λ _. HasManySets program.now seat.now → ⊥) }
+    ensures fault { IfErr result (TellsSets program.now seat.now) }
 {
     let alphabet = seat.alphabet().try_clone(alloc)?;
     part(alloc, alphabet, &table.local.table, &table.heights)
@@ -57,8 +57,8 @@ fn all_parts(
     requires most { length seats.now ≤ MOST_COMPONENTS }
     ensures parts { IfOk result (λ parts. AreMadeFor (ProcessStep program.now) seats.now parts.items) }
     ensures form { IfOk result (λ parts. All IsWellFormedPart parts.items) }
-    ensures few { IfOk result (λ _. HaveFewSets tables.now) }
-    ensures told { IfErr result (Tells (IsFirstWithManySets tables.now)) }
+    ensures few { IfOk result (λ _. HaveFewSets program.now seats.now) }
+    ensures told { IfErr result (Tells (IsFirstWithManySets program.now seats.now)) }
 {
     let mut made = Vec::new(alloc);
     for place in 0..seats.len() {
@@ -81,8 +81,8 @@ pub fn make_parts(
     requires most { length tabled.now.components ≤ MOST_COMPONENTS }
     ensures parts { IfOk result (λ parts. AreMadeFor (ProcessStep tabled.now.program) tabled.now.components parts.items) }
     ensures form { IfOk result (λ parts. All IsWellFormedPart parts.items) }
-    ensures made_by { IfOk result (λ parts. ArePartsBy tabled.now.program tabled.now.tables tabled.now.components parts.items) }
-    ensures told { IfErr result (Tells (HaveNoParts first tabled.now.tables)) }
+    ensures made_by { IfOk result (λ parts. ArePartsBy tabled.now.program tabled.now.components parts.items) }
+    ensures told { IfErr result (Tells (HaveNoParts tabled.now.program first tabled.now.components)) }
 {
     match all_parts(alloc, tabled.program(), tabled.seats(), tabled.tables()) {
         Ok(parts) => Ok(parts),

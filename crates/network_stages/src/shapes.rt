@@ -2,9 +2,7 @@
 
 ghost use Rattle.std.specs.Prelude.{◌≡◌, ◌≤◌, All, IfErr, IfOk, OnOk, length};
 ghost use Rattle.csp_tables.specs.Part.{TripleDisjoint, alphabets_of};
-ghost use Rattle.csp_tables.specs.Shape.{IsWellFormed};
-ghost use Rattle.csp_tables.specs.ShapeOf.{IsShapeOf};
-ghost use Rattle.csp_tables.specs.Standing.{IsBusyShape};
+ghost use Rattle.csp_tables.specs.ShapeOf.{AreBusy, IsShapeOf};
 ghost use Rattle.network_layout.specs.Triple.{alphabets};
 ghost use Rattle.network_shape.specs.Made.{AreMadeFor};
 ghost use Rattle.network_shape.specs.Parts.{IsWellFormedPart};
@@ -79,9 +77,9 @@ pub fn make_shape(
 
 /// That no component can stop; or the first one that can.
 pub fn check_busy(alloc: Global, network: &Spelled, shape: &Shape) -> Result<(), Stop<Shortfall>>
-    requires { IsWellFormed shape.now }
-    ensures busy { OnOk result (IsBusyShape shape.now) }
-    ensures told { IfErr result (Tells (CanStop network.now shape.now)) }
+    requires { IsShapeOf (ProcessStep network.now) (tree_at network.now) shape.now }
+    ensures busy { OnOk result (AreBusy (ProcessStep network.now) (components_at network.now)) }
+    ensures told { IfErr result (Tells (CanStop network.now (components_at network.now))) }
 {
     match busy(alloc, shape) {
         Ok(()) => Ok(()),

@@ -25,6 +25,7 @@ use Rattle.resource_conditions.proofs.Sets.{in_both, of_both, all_possible, some
 use Rattle.std.proofs.lemmas.Option.{same_Some}
 use Rattle.observed_runs.proofs.Leading.{observed_push}
 use Rattle.csp_base.proofs.Rising.{member_of_superset, is_subset_of_from_members}
+use Rattle.design_rules.proofs.Accepting.{at_place, each_set}
 
 -- ---- what an exploration shows of runs
 
@@ -194,10 +195,11 @@ module _ (g : Setting) (i : ℕ) (holders : List ℕ) (w : IsWellFormed g.shape)
 
   pub grants_all : ((s : List ℕ) → IsRun (part_at g.shape.parts i).table s → are_grants g i (end_of (part_at g.shape.parts i).table 0 s, observed (holder_step holders) 0 s) ≡ true) → (s : List ℕ) → GrantsAll g.shape g.uses i s
   grants_all all s = record {
-    when_free = λ k accepts free. subst (λ M. IsWithin M (accepted g.shape i s k)) (free_wanted (state_of s) ((state_is s accepts.runs.follows).free free)) (has_all k accepts);
-    when_held = λ l k e accepts held holder release on.
-        subst (λ M. IsWithin M (accepted g.shape i s k)) (held_wanted (state_of s) l (held_by s l accepts.runs.follows held holder)) (has_all k accepts) e
-        (in_both (use_at g.uses i).release (link_at g.shape l).shared e release on);
+    when_free = λ M set free. each_set g.shape i s (λ N. IsWithin (use_at g.uses i).acquire N) (λ k accepts.
+        subst (λ N. IsWithin N (accepted g.shape i s k)) (free_wanted (state_of s) ((state_is s accepts.runs.follows).free free)) (has_all k accepts)) M set;
+    when_held = λ l M e set held holder release on. each_set g.shape i s (λ N. IsTrue (has N e)) (λ k accepts.
+        subst (λ N. IsWithin N (accepted g.shape i s k)) (held_wanted (state_of s) l (held_by s l accepts.runs.follows held holder)) (has_all k accepts) e
+        (in_both (use_at g.uses i).release (link_at g.shape l).shared e release on)) M set;
   }
     where
       has_all : (k : ℕ) → Accepts g.shape i s k → IsWithin (wanted_in g i (state_of s)) (accepted g.shape i s k)
@@ -217,9 +219,9 @@ module _ (g : Setting) (i : ℕ) (holders : List ℕ) (w : IsWellFormed g.shape)
       elim (cases_Bool (is_held g.shape s)) [
         | inl held ↦
             let r = st.held held in
-            let all = subst (λ M. IsWithin M (accepted g.shape i s x.0)) (sym (held_wanted (state_of s) r.0 r.2)) (λ (e : ℕ) (m : IsTrue (has (inter_of (use_at g.uses i).release (link_at g.shape r.0).shared) e)). let b = of_both (use_at g.uses i).release (link_at g.shape r.0).shared e m in grants.when_held r.0 x.0 e accepts held r.1 b.0 b.1) in
+            let all = subst (λ M. IsWithin M (accepted g.shape i s x.0)) (sym (held_wanted (state_of s) r.0 r.2)) (λ (e : ℕ) (m : IsTrue (has (inter_of (use_at g.uses i).release (link_at g.shape r.0).shared) e)). let b = of_both (use_at g.uses i).release (link_at g.shape r.0).shared e m in grants.when_held r.0 _ e (at_place g.shape i s x.0 accepts) held r.1 b.0 b.1) in
             both_ways (is_subset_of (wanted_in g i (state_of s)) (accepted g.shape i s x.0)) n.1 (is_subset_of_from_members (wanted_in g i (state_of s)) (accepted g.shape i s x.0) all)
         | inr free ↦
-            let all = subst (λ M. IsWithin M (accepted g.shape i s x.0)) (sym (free_wanted (state_of s) (st.free free))) (grants.when_free x.0 accepts free) in
+            let all = subst (λ M. IsWithin M (accepted g.shape i s x.0)) (sym (free_wanted (state_of s) (st.free free))) (grants.when_free _ (at_place g.shape i s x.0 accepts) free) in
             both_ways (is_subset_of (wanted_in g i (state_of s)) (accepted g.shape i s x.0)) n.1 (is_subset_of_from_members (wanted_in g i (state_of s)) (accepted g.shape i s x.0) all)
       ]

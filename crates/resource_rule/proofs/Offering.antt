@@ -20,6 +20,7 @@ use Rattle.resource_conditions.proofs.Sets.{any_at}
 use Rattle.resource_rule.proofs.Using.{parity_is}
 use Rattle.csp_base.proofs.Listed.{any_of, any_member}
 use Rattle.csp_base.proofs.Rising.{member_of_superset, is_subset_of_from_members}
+use Rattle.design_rules.proofs.Accepting.{at_place}
 
 -- ---- events that are collected
 
@@ -92,9 +93,9 @@ module _ (g : Setting) (i l : ℕ) (found : Found) (h : i < length g.shape.parts
             user = i;
             link = l;
             run = o.run;
-            place = o.place;
+            acceptance = accepted g.shape i o.run o.place;
             is_user = user;
-            accepts = o.accepts;
+            accepts = at_place g.shape i o.run o.place o.accepts;
             within = is_part g j count q.0;
             acquiring = and_from (use_at g.uses j).resource (list_any (λ e. has (use_at g.uses j).acquire e) (accepted g.shape i o.run o.place)) q.0 (any_of (λ e. has (use_at g.uses j).acquire e) (accepted g.shape i o.run o.place) e.0 o.offered e.2);
             joins = subst (λ n. Joins g.shape i n l) (eqb-true other m p.1) joins;
@@ -104,9 +105,9 @@ module _ (g : Setting) (i l : ℕ) (found : Found) (h : i < length g.shape.parts
 
     pub arc_complete : (j m : ℕ) (k : IsHeldWhile g.shape g.uses m j) → k.user ≡ i → k.link ≡ l → new j m ≡ true
     arc_complete j m k same_user same_link =
-        let q = and_parts (use_at g.uses j).resource (list_any (λ e. has (use_at g.uses j).acquire e) (accepted g.shape k.user k.run k.place)) k.acquiring in
-        let e = any_member (λ e. has (use_at g.uses j).acquire e) (accepted g.shape k.user k.run k.place) q.1 in
-        let o : IsOfferedHolding g k.user k.link e.0 = record { run = k.run; place = k.place; accepts = k.accepts; holding = k.holding; offered = e.1 } in
+        let q = and_parts (use_at g.uses j).resource (list_any (λ e. has (use_at g.uses j).acquire e) k.acceptance) k.acquiring in
+        let e = any_member (λ e. has (use_at g.uses j).acquire e) k.acceptance q.1 in
+        let o : IsOfferedHolding g k.user k.link e.0 = record { run = k.run; place = k.accepts.place; accepts = k.accepts.at; holding = k.holding; offered = subst (λ M. has M e.0 ≡ true) (sym k.accepts.is) e.1 } in
         let here = subst (λ n. IsOfferedHolding g i n e.0) same_link (subst (λ n. IsOfferedHolding g n k.link e.0) same_user o) in
         let there = subst (λ n. Joins g.shape i m n) same_link (subst (λ n. Joins g.shape n m k.link) same_user k.joins) in
         let listed = are e.0 ∙ offered_complete e.0 here in

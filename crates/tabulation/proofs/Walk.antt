@@ -77,14 +77,17 @@ module _ (s : Script) (i : ℕ) (r : Result Done (Stop Answer)) where
           in_component (at_refusal r _ _ _ _ why exit there)
 
       module _ (t : Tables) (same : t.program ≡ p) (one : t.components ≡ c ∷ []) (are : AreTablesOf p (c ∷ []) t.tables) where
-        pub at_parts : (why : Stop Refusal) → IsErrAnd r (λ x. x ≡ refused side.Script why) → Tells (HaveNoParts i t.tables) why → Answers (IsTabulated s i) r
+        pub at_parts : (why : Stop Refusal) → IsErrAnd r (λ x. x ≡ refused side.Script why) → Tells (HaveNoParts t.program i t.components) why → Answers (IsTabulated s i) r
         unfolding ComponentIsTabulated
-        at_parts why exit tells = in_component (goes_on _ _ _ _ t.tables are r (at_refusal r _ _ _ _ why exit tells))
+        at_parts why exit tells =
+            let there : Tells (HaveNoParts p i (c ∷ [])) why =
+            subst (λ (x : Content). Tells (HaveNoParts x i (c ∷ [])) why) same (subst (λ (ds : List (Component Proc)). Tells (HaveNoParts t.program i ds) why) one tells) in
+            in_component (goes_on _ _ _ _ t.tables are r (at_refusal r _ _ _ _ why exit there))
 
-        pub at_end : (parts : List Part) (part : Part) → ArePartsBy t.program t.tables t.components parts → parts ≡ part ∷ [] → Answers (IsTable (network_at p) i part) r → Answers (IsTabulated s i) r
+        pub at_end : (parts : List Part) (part : Part) → ArePartsBy t.program t.components parts → parts ≡ part ∷ [] → Answers (IsTable (network_at p) i part) r → Answers (IsTabulated s i) r
         unfolding ComponentIsTabulated
         at_end parts part by only rest =
-            let here : ArePartsBy p t.tables (c ∷ []) (part ∷ []) =
-            subst (λ (x : Content). ArePartsBy x t.tables (c ∷ []) (part ∷ [])) same
-            (subst (λ (ds : List (Component Proc)). ArePartsBy t.program t.tables ds (part ∷ [])) one (subst (λ (ps : List Part). ArePartsBy t.program t.tables t.components ps) only by)) in
+            let here : ArePartsBy p (c ∷ []) (part ∷ []) =
+            subst (λ (x : Content). ArePartsBy x (c ∷ []) (part ∷ [])) same
+            (subst (λ (ds : List (Component Proc)). ArePartsBy t.program ds (part ∷ [])) one (subst (λ (ps : List Part). ArePartsBy t.program t.components ps) only by)) in
             in_component (goes_on _ _ _ _ t.tables are r (goes_on _ _ _ _ part here r rest))

@@ -29,7 +29,7 @@ IsTable network i part a = a ≡ answer.Done (done.Table i (length (leaves netwo
 unfoldable pub ComponentIsTabulated : Network → ℕ → Component Proc → Answer → Type 0
 ComponentIsTabulated network i c =
     RefusedOr side.Script (HaveNoTables network.program i (c ∷ [])) (AreTablesOf network.program (c ∷ [])) (λ tables.
-    RefusedOr side.Script (HaveNoParts i tables) (λ part. ArePartsBy network.program tables (c ∷ []) (part ∷ [])) (λ part.
+    RefusedOr side.Script (HaveNoParts network.program i (c ∷ [])) (λ part. ArePartsBy network.program (c ∷ []) (part ∷ [])) (λ part.
     IsTable network i part))
 
 unfoldable pub IsTabulated : Script → ℕ → Answer → Type 0

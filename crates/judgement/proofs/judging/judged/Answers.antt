@@ -19,7 +19,7 @@ pub returns-in_err-parts : goal.returns-in_err-parts
 returns-in_err-parts c =
     at_parts c.args.script.now c.args.rule c.from_residual-in_err-parts.result c.in_ok-network.network c.in_ok-network.ensures.ok c.in_ok-tables.tables
     (tables_here c.in_ok-network.network c.program.result.now c.seats.result.now c.in_ok-tables.tables.tables c.program.ensures.program c.seats.ensures.seats c.in_ok-tables.ensures.ok)
-    _ c.from_residual-in_err-parts.ensures.1 c.in_err-parts.ensures.told
+    _ _ (c.in_ok-tables.ensures.program ∙ c.program.ensures.program) (c.in_ok-tables.ensures.components ∙ c.seats.ensures.seats) _ c.from_residual-in_err-parts.ensures.1 c.in_err-parts.ensures.told
 
 pub make_shape-requires-clause-made : goal.make_shape-requires-clause-made
 make_shape-requires-clause-made c =
@@ -29,20 +29,23 @@ pub returns-in_err-shape : goal.returns-in_err-shape
 returns-in_err-shape c =
     at_shape c.args.script.now c.args.rule c.from_residual-in_err-shape.result c.in_ok-network.network c.in_ok-network.ensures.ok c.in_ok-tables.tables
     (tables_here c.in_ok-network.network c.program.result.now c.seats.result.now c.in_ok-tables.tables.tables c.program.ensures.program c.seats.ensures.seats c.in_ok-tables.ensures.ok)
-    c.in_ok-parts.parts.items (parts_here c.in_ok-network.network _ _ c.in_ok-tables.tables.tables c.in_ok-parts.parts.items (c.in_ok-tables.ensures.program ∙ c.program.ensures.program) (c.in_ok-tables.ensures.components ∙ c.seats.ensures.seats) c.in_ok-parts.ensures.made_by)
+    c.in_ok-parts.parts.items (parts_here c.in_ok-network.network _ _ c.in_ok-parts.parts.items (c.in_ok-tables.ensures.program ∙ c.program.ensures.program) (c.in_ok-tables.ensures.components ∙ c.seats.ensures.seats) c.in_ok-parts.ensures.made_by)
     _ c.from_residual-in_err-shape.ensures.1 c.in_err-shape.ensures.told
 
 pub check_busy-requires : goal.check_busy-requires
 check_busy-requires c =
-    c.in_ok-shape.ensures.shape.form
+    c.in_ok-shape.ensures.shape
 
 pub returns-in_err-check_busy : goal.returns-in_err-check_busy
 returns-in_err-check_busy c =
     at_busy c.args.script.now c.args.rule c.from_residual-in_err-check_busy.result c.in_ok-network.network c.in_ok-network.ensures.ok c.in_ok-tables.tables
     (tables_here c.in_ok-network.network c.program.result.now c.seats.result.now c.in_ok-tables.tables.tables c.program.ensures.program c.seats.ensures.seats c.in_ok-tables.ensures.ok)
-    c.in_ok-parts.parts.items (parts_here c.in_ok-network.network _ _ c.in_ok-tables.tables.tables c.in_ok-parts.parts.items (c.in_ok-tables.ensures.program ∙ c.program.ensures.program) (c.in_ok-tables.ensures.components ∙ c.seats.ensures.seats) c.in_ok-parts.ensures.made_by)
+    c.in_ok-parts.parts.items (parts_here c.in_ok-network.network _ _ c.in_ok-parts.parts.items (c.in_ok-tables.ensures.program ∙ c.program.ensures.program) (c.in_ok-tables.ensures.components ∙ c.seats.ensures.seats) c.in_ok-parts.ensures.made_by)
     c.in_ok-shape.shape (record { apart = c.in_ok-shape.ensures.apart; is = c.in_ok-shape.ensures.shape })
     _ c.from_residual-in_err-check_busy.ensures.1 c.in_err-check_busy.ensures.told
+
+pub ruled-requires-clause-spelled : goal.ruled-requires-clause-spelled
+ruled-requires-clause-spelled c = c.program.ensures.spelled
 
 pub ruled-requires-clause-program : goal.ruled-requires-clause-program
 ruled-requires-clause-program c = c.in_ok-tables.ensures.program ∙ c.program.ensures.program
@@ -54,6 +57,6 @@ pub returns : goal.returns
 returns c =
     at_rule c.args.script.now c.args.rule c.ruled.result c.in_ok-network.network c.in_ok-network.ensures.ok c.in_ok-tables.tables
     (tables_here c.in_ok-network.network c.program.result.now c.seats.result.now c.in_ok-tables.tables.tables c.program.ensures.program c.seats.ensures.seats c.in_ok-tables.ensures.ok)
-    c.in_ok-parts.parts.items (parts_here c.in_ok-network.network _ _ c.in_ok-tables.tables.tables c.in_ok-parts.parts.items (c.in_ok-tables.ensures.program ∙ c.program.ensures.program) (c.in_ok-tables.ensures.components ∙ c.seats.ensures.seats) c.in_ok-parts.ensures.made_by)
+    c.in_ok-parts.parts.items (parts_here c.in_ok-network.network _ _ c.in_ok-parts.parts.items (c.in_ok-tables.ensures.program ∙ c.program.ensures.program) (c.in_ok-tables.ensures.components ∙ c.seats.ensures.seats) c.in_ok-parts.ensures.made_by)
     c.in_ok-shape.shape (record { apart = c.in_ok-shape.ensures.apart; is = c.in_ok-shape.ensures.shape })
     c.in_ok-check_busy.ensures.busy c.ruled.ensures

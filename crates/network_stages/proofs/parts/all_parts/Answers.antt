@@ -11,18 +11,16 @@ part_of-requires c = record {
 
 pub loop-place-preserved : goal.loop-place-preserved
 loop-place-preserved c =
-    one_made c.args.program.now c.args.seats.now c.args.tables.now _ _ _ _ _ _ c.loop-place.invariant c.loop-place-test.true
-    (still_within c.args.program.now c.args.seats.now c.args.tables.now c.requires.tables _ c.loop-place-test.true)
-    c.index-seats-place.is c.index-tables-place.is c.in-Ok.ensures.made c.in-Ok.ensures.form c.in-Ok.ensures.few c.in_ok-add-in-Ok.ensures
+    one_made c.args.program.now c.args.seats.now _ _ _ _ _ c.loop-place.invariant c.loop-place-test.true c.index-seats-place.is c.in-Ok.ensures.made c.in-Ok.ensures.form
+    c.in-Ok.ensures.few c.in_ok-add-in-Ok.ensures
 
 pub returns-in-Err-SubsetLimit-clause-told : goal.returns-in-Err-SubsetLimit-clause-told
 returns-in-Err-SubsetLimit-clause-told c =
-    first_many c.args.tables.now _ _ (still_within c.args.program.now c.args.seats.now c.args.tables.now c.requires.tables _ c.loop-place-test.true)
-    c.index-tables-place.is c.loop-place.invariant.few
-    (many_told c.index-tables-place.result c.part_of.result _ c.in-Err-SubsetLimit.is c.in-Err-SubsetLimit.field-0-is c.part_of.ensures.fault)
+    first_many c.args.program.now c.args.seats.now _ _ c.loop-place-test.true c.index-seats-place.is c.loop-place.invariant.few
+    (many_told c.args.program.now c.index-seats-place.result c.part_of.result _ c.in-Err-SubsetLimit.is c.in-Err-SubsetLimit.field-0-is c.part_of.ensures.fault)
 
 pub returns-clause-few : goal.returns-clause-few
-returns-clause-few c = (all_made c.args.program.now c.args.seats.now c.args.tables.now c.requires.tables _ _ c.loop-place.invariant c.loop-place-test.false).1
+returns-clause-few c = (all_made c.args.program.now c.args.seats.now _ _ c.loop-place.invariant c.loop-place-test.false).1
 
 pub returns-clause-parts : goal.returns-clause-parts
-returns-clause-parts c = (all_made c.args.program.now c.args.seats.now c.args.tables.now c.requires.tables _ _ c.loop-place.invariant c.loop-place-test.false).0
+returns-clause-parts c = (all_made c.args.program.now c.args.seats.now _ _ c.loop-place.invariant c.loop-place-test.false).0

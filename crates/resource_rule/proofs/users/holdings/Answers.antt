@@ -30,5 +30,5 @@ loop-part-preserved c =
 
 pub returns-clause-complete : goal.returns-clause-complete
 returns-clause-complete c j m h =
-    let inside : h.user < length c.args.setting.now.shape.parts = h.accepts.runs.part in
+    let inside : h.user < length c.args.setting.now.shape.parts = h.accepts.at.runs.part in
     c.loop-part.invariant.complete j m h (omega arith)

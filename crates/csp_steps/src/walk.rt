@@ -1,0 +1,88 @@
+//! Where a walk over the ways to fill the fields of a prefix stands, with a stack of its own: no number of inputs costs stack of the program.
+
+ghost use Rattle.std.specs.Prelude.{◌≡◌, [], OnOk};
+ghost use Rattle.csp_steps.specs.Walked.{IsBegun, IsPopped};
+
+use crate::step::StepTo;
+use containers::Items;
+use csp_atoms::{Atom, AtomSet};
+use csp_program::Field;
+use std::alloc::Global;
+use term_pool::ProcId;
+
+/// The fields that come next.
+#[derive(Clone, Copy)]
+pub(crate) struct Turn<'a> {
+    /// The values of each of them.
+    pub sets: &'a [AtomSet],
+    /// The fields.
+    pub fields: &'a [Field],
+    /// The number of the fields before them.
+    pub number: u64,
+    /// The place of the process after them, which has the values of the inputs before them.
+    pub to: ProcId,
+}
+
+/// An input.
+#[derive(Drop)]
+pub(crate) struct Input<'a> {
+    /// Its name.
+    pub name: u32,
+    /// The values of its field.
+    pub set: &'a AtomSet,
+    /// Those that it may take, where a set is given.
+    pub given: Option<AtomSet>,
+    /// The values of each field after it.
+    pub sets: &'a [AtomSet],
+    /// The fields after it.
+    pub fields: &'a [Field],
+    /// The number of the fields before it.
+    pub number: u64,
+    /// The place of the process after all fields, which has the values of the inputs before it.
+    pub to: ProcId,
+}
+
+/// An input under which a walk stands.
+#[derive(Drop)]
+pub(crate) struct Frame<'a> {
+    /// The input.
+    pub input: Input<'a>,
+    /// Its value that is on turn.
+    pub atom: Atom,
+    /// The place of the value that comes after it.
+    pub next: usize,
+}
+
+/// A walk over the ways to fill fields, in nested loops.
+#[derive(Drop)]
+pub(crate) struct Walk<'a> {
+    /// The names that are bound with their values, the last one bound at the end.
+    pub bound: Items<(u32, Atom)>,
+    /// The inputs that bind them.
+    pub frames: Items<Frame<'a>>,
+    /// The fields that come next; none where the last input goes on.
+    pub turn: Option<Turn<'a>>,
+    /// A step for each way that was found.
+    pub steps: Items<StepTo>,
+}
+
+/// A walk that begins.
+pub(crate) fn begun<'a>(alloc: Global, turn: Turn<'a>) -> Walk<'a>
+    ensures { IsBegun turn.entry result }
+{
+    Walk {
+        bound: Items::new(alloc),
+        frames: Items::new(alloc),
+        turn: Some(turn),
+        steps: Items::new(alloc),
+    }
+}
+
+/// The last input under which the walk stands; it is taken away, and its value.
+pub(crate) fn pop<'a>(walk: &mut Walk<'a>) -> Option<Frame<'a>>
+    ensures { IsPopped walk.old walk.new result }
+{
+    let frame = walk.frames.pop()?;
+    walk.bound.pop();
+    Some(frame)
+}

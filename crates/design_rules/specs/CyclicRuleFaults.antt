@@ -1,0 +1,27 @@
+-- What is told where a network is not cyclic: a component without an order, orders that disagree, or a link without a whole
+-- end. Of these the first that stands is told.
+use Rattle.std.specs.Prelude.{◌<◌, ℕ, List, length}
+use Rattle.csp_tables.specs.Shape.{Shape, link_at}
+use Rattle.digraph.specs.Circle.{IsLeastCircle}
+use Rattle.design_rules.specs.Behaviours.{Behaviours}
+use Rattle.design_rules.specs.CyclicRule.{BreaksOrder, KeepsPlaces, AllKeepPlaces, MustPrecede, CanBeNumbered, FallsShort, HasWholeEnd}
+
+-- The component i is the first that goes through its links in no fixed order: the event e after the trace s shows it.
+pub record HasNoOrder (shape : Shape) (b : Behaviours) (i : ℕ) (s : List ℕ) (e : ℕ) : Type 0 where
+  pub breaks : BreaksOrder shape b i s e
+  pub first : (j : ℕ) → j < i → KeepsPlaces shape b j
+
+-- Each component has its order, and the orders disagree: each of the links must come before the next, and the last before the
+-- first.
+pub record OrdersDisagree (shape : Shape) (b : Behaviours) (links : List ℕ) : Type 0 where
+  pub order : AllKeepPlaces shape b
+  pub circle : IsLeastCircle (MustPrecede shape b) links
+
+-- The orders agree, and the link l is the first of which both ends fall short, the left one after s and the right one after t.
+pub record HasNoWholeEnd (shape : Shape) (b : Behaviours) (l : ℕ) (s t : List ℕ) : Type 0 where
+  pub order : AllKeepPlaces shape b
+  pub numbered : CanBeNumbered shape b
+  pub within : l < length shape.links
+  pub left : FallsShort shape b l (link_at shape l).left s
+  pub right : FallsShort shape b l (link_at shape l).right t
+  pub first : (m : ℕ) → m < l → HasWholeEnd shape b m

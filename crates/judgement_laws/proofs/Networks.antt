@@ -1,0 +1,20 @@
+-- A script that has a network has no reason why it should have none.
+use Rattle.std.proofs.Common.{◌≡◌, Result, Ok, Err, inl, inr, sym, ap, ◌∙◌}
+use Rattle.csp_tables.specs.Network.{Tree}
+use Rattle.csp_program.specs.declared.processes.Proc.{Proc}
+use Rattle.csp_program.specs.declared.programs.Content.{Content}
+use Rattle.script_names.specs.Resolved.{resolved}
+use Rattle.network_trees.specs.NetworkOf.{network_of}
+use Rattle.judgement.proofs.KindsUnique.{kinds_are_unique}
+use Rattle.judgement.proofs.OneNetwork.{one_program}
+use Rattle.judgement_laws.specs.Laws.{FaultsExcludeNetworks}
+
+apart : {A E : Type 0} (r s : Result A E) (a : A) (e : E) → r ≡ s → r ≡ Ok a → s ≡ Err e → ⊥
+apart r s a e same ok err = let no : Ok a ≡ Err e = sym ok ∙ same ∙ err in cc
+
+pub faults_exclude_networks : FaultsExcludeNetworks
+faults_exclude_networks script network r is (inl (f, refused, tells)) =
+    apart (resolved script.decls is.program.kinds) (resolved script.decls refused.kinds) network.program f
+    (ap (resolved script.decls) (kinds_are_unique script.decls is.program.kinds refused.kinds is.program.are refused.are)) is.program.is refused.is
+faults_exclude_networks script network r is (inr (p, program, (f, fails, tells))) =
+    apart (network_of network.program) (network_of p) network.tree f (ap network_of (one_program script network.program p is.program program)) is.tree fails

@@ -1,0 +1,27 @@
+//! Laws of networks of programs and of the answers about them: what a script decides, it decides alone; and why "deadlock-free" is true of programs.
+#![tactic(auto)]
+
+ghost use Rattle.judgement_laws.specs.Complete.{EachScriptHasOneStatus, JudgementIsComplete};
+ghost use Rattle.judgement_laws.specs.Heart.{GoodRankingsMeanLive};
+ghost use Rattle.judgement_laws.specs.Laws.{FaultsExcludeAllTables, FaultsExcludeNetworks};
+
+/// A network of a program over whose tables a ranking falls is live, with its silent bound, and its steps are those of its components.
+pub fn good_rankings_mean_live()
+    ensures { GoodRankingsMeanLive }
+{}
+
+/// No script that has a network, and no components that have tables, have what a refusal tells of them.
+pub fn faults_exclude_networks()
+    ensures network { FaultsExcludeNetworks }
+    ensures tables { FaultsExcludeAllTables }
+{}
+
+/// A script whose network is within the limits and meets the rule is answered with status 0.
+pub fn judgement_is_complete()
+    ensures { JudgementIsComplete }
+{}
+
+/// All answers to a script by a rule have one status.
+pub fn each_script_has_one_status()
+    ensures { EachScriptHasOneStatus }
+{}
