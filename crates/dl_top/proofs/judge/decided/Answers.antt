@@ -2,5 +2,5 @@ use Rattle.network_stages.proofs.Exits.{at_want}
 use Rattle.dl_top.specs.Judgement.{ScriptDecides}
 use Rattle.dl_top.proofs.judge.decided.Goals as goal
 
-pub returns-in_err-text : goal.returns-in_err-text
-returns-in_err-text c = at_want c.from_residual.result (ScriptDecides c.args.job c.args.script.now) c.from_residual.ensures.1
+pub returns-in_err-text-in-Show : goal.returns-in_err-text-in-Show
+returns-in_err-text-in-Show c = at_want c.from_residual.result (ScriptDecides c.args.job c.args.script.now) c.from_residual.ensures.1
