@@ -1,4 +1,5 @@
 pub mod Agreement
 pub mod Compared
+pub mod Complete
 pub mod Conforming
 pub mod Walk

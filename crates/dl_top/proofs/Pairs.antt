@@ -203,6 +203,13 @@ held_pair_inside texts script specification a held (told f load tells) = held_in
 held_pair_inside texts script specification a held (passed text load (told f fails tells)) = held_inside texts side.Specification specification f a held.1.0 fails tells
 held_pair_inside texts script specification a held (passed text load (passed other there compare)) = texts_inside text other a compare
 
+-- a text that can't be loaded has no status 0
+pub tells_zero : (s : Side) (f : LoadFault) (a : Answer) → TellsLoad s f a → status a ≡ 0 → ⊥
+tells_zero s Missing a is zero = let no : 4 ≡ 0 = sym (ap status is) ∙ zero in cc
+tells_zero s TooLong a is zero = let no : 2 ≡ 0 = sym (ap status is) ∙ zero in cc
+tells_zero s Failed a is zero = let no : 4 ≡ 0 = sym (ap status is) ∙ zero in cc
+tells_zero s NoMemory a is zero = absurd is
+
 -- a text that may be loaded may be that of the name
 pub is_text : (texts : Option (List NamedText)) (signs : ShelfSigns) (name text : List ℕ) → loads texts signs name (Ok text) → IsTextOf texts name text
 is_text (Some held) signs name text load = (load.0, load.1)
@@ -216,15 +223,9 @@ pub record HeldBoth (texts : Option (List NamedText)) (script specification : Li
   pub other_held : IsTextOf texts specification other
   pub compare : TextsCompare text other a
 
--- a text that can't be loaded has no status 0
-pub tells_zero : (s : Side) (f : LoadFault) (a : Answer) → TellsLoad s f a → status a ≡ 0 → ⊥
-tells_zero s Missing a is zero = let no : 4 ≡ 0 = sym (ap status is) ∙ zero in cc
-tells_zero s TooLong a is zero = let no : 2 ≡ 0 = sym (ap status is) ∙ zero in cc
-tells_zero s Failed a is zero = let no : 4 ≡ 0 = sym (ap status is) ∙ zero in cc
-tells_zero s NoMemory a is zero = absurd is
-
 pub held_both : (texts : Option (List NamedText)) (signs : ShelfSigns) (script specification : List ℕ) (a : Answer)
     → Loaded side.Script texts signs (script ∷ specification ∷ []) (TextsCallFor (request.Conform script specification)) a → status a ≡ 0 → HeldBoth texts script specification a
 held_both texts signs script specification a (told f load tells) zero = absurd (tells_zero side.Script f a tells zero)
 held_both texts signs script specification a (passed text load (told f fails tells)) zero = absurd (tells_zero side.Specification f a tells zero)
-held_both texts signs script specification a (passed text load (passed other there compare)) zero = record { text = text; held = is_text texts signs script text load; other = other; other_held = is_text texts signs specification other there; compare = compare }
+held_both texts signs script specification a (passed text load (passed other there compare)) zero =
+    record { text = text; held = is_text texts quiet script text load; other = other; other_held = is_text texts signs specification other there; compare = compare }

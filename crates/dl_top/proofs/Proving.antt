@@ -273,11 +273,11 @@ module _ (texts : Option (List NamedText)) (words : List (List ℕ)) (signs : Sh
   pub proved : AsksForCheck words → IsProved texts words old new
   proved asks = is_proved old new is.reply texts words signs is.cause (sym is.status ∙ zero) whole asks
 
-  pub ranked : AsksForCheck words → IsRanked texts words old new
-  ranked asks = is_ranked old new is.reply texts words signs is.cause (sym is.status ∙ zero) whole asks
-
   pub conformed : AsksForConform words → IsConformed texts words old new
   conformed asks = is_conformed old new is.reply texts words signs is.cause (sym is.status ∙ zero) whole asks
+
+  pub ranked : AsksForCheck words → IsRanked texts words old new
+  ranked asks = is_ranked old new is.reply texts words signs is.cause (sym is.status ∙ zero) whole asks
 
   pub told : AsksForTable words → IsTold texts words old new
   told asks = is_told old new is.reply texts words signs is.cause (sym is.status ∙ zero) whole asks

@@ -4,7 +4,7 @@ ghost use Rattle.std.specs.Prelude.{◌≡◌, ◌≢◌, Some};
 ghost use Rattle.dl_top.specs.Cause.{CallsFor, HoldsAllNamed, MayGive, shelf_signs};
 ghost use Rattle.command_words.specs.Request.{AsksForCheck, AsksForConform, AsksForShow, AsksForTable, AsksForTrial};
 ghost use Rattle.dl_top.specs.Ending.{Ends, EndsWhole, sink_signs};
-ghost use Rattle.dl_top.specs.Complete.{AsksForPassing};
+ghost use Rattle.dl_top.specs.Complete.{AsksForMatching, AsksForPassing};
 ghost use Rattle.dl_top.specs.Ranked.{IsRanked};
 ghost use Rattle.dl_top.specs.Proved.{IsConformed, IsProved, IsShown, IsTold, IsTried};
 
@@ -22,6 +22,7 @@ pub fn dl_sure(alloc: Global, words: &Words, shelf: &mut SureShelf, out: &mut Su
     ensures complete { result ≢ 5 → AsksForPassing shelf.old words.now → result ≡ 0 }
     ensures told { AsksForTable words.now → result ≡ 0 → IsTold (Some shelf.old) words.now (Some out.old.sent) (Some out.new.sent) }
     ensures shown { AsksForShow words.now → result ≡ 0 → IsShown (Some shelf.old) words.now (Some out.old.sent) (Some out.new.sent) }
+    ensures matching { result ≢ 5 → AsksForMatching shelf.old words.now → result ≡ 0 }
     ensures conformed { AsksForConform words.now → result ≡ 0 → IsConformed (Some shelf.old) words.now (Some out.old.sent) (Some out.new.sent) }
     ensures ends { Ends (MayGive (Some shelf.old) words.now (shelf_signs 0 0 0 0))
         (sink_signs (Some out.old.sent) (Some out.new.sent) 0 0) result }

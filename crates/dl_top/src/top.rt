@@ -5,7 +5,7 @@ ghost use Rattle.dl_outside.specs.Count.{HasRisen};
 ghost use Rattle.dl_top.specs.Cause.{CallsFor, MayGive, shelf_signs};
 ghost use Rattle.command_words.specs.Request.{AsksForCheck, AsksForConform, AsksForShow, AsksForTable, AsksForTrial, NamesNoScript};
 ghost use Rattle.dl_top.specs.Ending.{Ends, EndsInShelfFault, EndsWhole, sink_signs};
-ghost use Rattle.dl_top.specs.Complete.{AsksForPassing};
+ghost use Rattle.dl_top.specs.Complete.{AsksForMatching, AsksForPassing};
 ghost use Rattle.dl_top.specs.Proved.{IsConformed, IsProved, IsShown, IsTold, IsTried};
 ghost use Rattle.dl_top.specs.Ranked.{IsRanked, IsTriedRanked};
 
@@ -50,6 +50,10 @@ pub fn dl_main<S: Shelf, O: Sink>(alloc: Global, words: &Words, shelf: &mut S, o
     // Where a script is held against its specification with status 0, each component of its network conforms to the one in its place in that of the
     // specification, and if that is live, so is the network.
     ensures conformed { AsksForConform words.now → result ≡ 0 → IsConformed (S.texts shelf.old) words.now (O.sent out.old) (O.sent out.new) }
+
+    // And this comes wherever both networks are within the limits and match, without a fault and with memory enough.
+    ensures matching { result ≢ 5 → ¬ HasRisen (S.faults shelf.old) (S.faults shelf.new) → ¬ HasRisen (O.faults out.old) (O.faults out.new)
+        → IfSome (S.texts shelf.old) (λ texts. AsksForMatching texts words.now → result ≡ 0) }
 
     // Each reply has its cause. A front of a report is sent only where the sink has a fault or memory runs out.
     ensures ends { Ends

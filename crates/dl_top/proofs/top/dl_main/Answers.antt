@@ -3,6 +3,7 @@ use Rattle.dl_top.specs.Cause.{MayGive, shelf_signs}
 use Rattle.dl_top.specs.Ending.{sink_signs}
 use Rattle.dl_top.proofs.Printing.{ends_broken, ends_in_shelf_fault, ends_short, ends_whole, settled}
 use Rattle.dl_top.proofs.Completing.{completes}
+use Rattle.dl_top.proofs.Matching.{matching_completes}
 use Rattle.dl_top.proofs.Proving.{conformed, proved, ranked, shown, told, tried, tried_ranked}
 use Rattle.dl_top.proofs.top.dl_main.Goals as goal
 
@@ -60,6 +61,14 @@ returns-in-Ok-send-clause-complete g c memory shelf_quiet sink_quiet =
     let shelf = g.S.Shelf in
     let sink = g.O.Sink in
     completes (shelf.texts c.args.shelf.now) c.args.words.now (sink_signs (sink.sent c.args.out.now) (sink.sent c.send.new.out) (sink.faults c.args.out.now) (sink.faults c.send.new.out)) c.in-Ok.printed.status
+    (settled (shelf.texts c.args.shelf.now) c.args.words.now (shelf_signs (shelf.faults c.args.shelf.now) (shelf.faults c.printed_reply.new.shelf) (shelf.taken c.args.shelf.now) (shelf.taken c.printed_reply.new.shelf))
+    (sink_signs (sink.sent c.args.out.now) (sink.sent c.send.new.out) (sink.faults c.args.out.now) (sink.faults c.send.new.out)) c.in-Ok.printed c.in-Ok.ensures.prints c.as_slice.result.now c.as_slice.ensures c.in-Ok-send.ensures.ok shelf_quiet)
+
+pub returns-in-Ok-send-clause-matching : goal.returns-in-Ok-send-clause-matching
+returns-in-Ok-send-clause-matching g c memory shelf_quiet sink_quiet =
+    let shelf = g.S.Shelf in
+    let sink = g.O.Sink in
+    matching_completes (shelf.texts c.args.shelf.now) c.args.words.now (sink_signs (sink.sent c.args.out.now) (sink.sent c.send.new.out) (sink.faults c.args.out.now) (sink.faults c.send.new.out)) c.in-Ok.printed.status
     (settled (shelf.texts c.args.shelf.now) c.args.words.now (shelf_signs (shelf.faults c.args.shelf.now) (shelf.faults c.printed_reply.new.shelf) (shelf.taken c.args.shelf.now) (shelf.taken c.printed_reply.new.shelf))
     (sink_signs (sink.sent c.args.out.now) (sink.sent c.send.new.out) (sink.faults c.args.out.now) (sink.faults c.send.new.out)) c.in-Ok.printed c.in-Ok.ensures.prints c.as_slice.result.now c.as_slice.ensures c.in-Ok-send.ensures.ok shelf_quiet)
 
