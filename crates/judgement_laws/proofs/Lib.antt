@@ -1,6 +1,6 @@
 mod Classes
 pub mod Complete
 mod Heart
-mod Networks
-mod Tables
+pub mod Networks
+pub mod Tables
 pub mod Whole
