@@ -19,6 +19,7 @@ use Rattle.network_stages.proofs.Exits.{at_refusal, at_stop}
 use Rattle.network_stages.specs.Networks.{IsNetworkOf, Network, network_at}
 use Rattle.network_stages.specs.Stages.{HasNoNetwork}
 use Rattle.report.proofs.Points.{goes_on, refused_or, weaker}
+use Rattle.report.specs.Points.{RefusedOr}
 use Rattle.report.specs.Points.Point.{passed, told}
 use Rattle.report.specs.Report.{status}
 use Rattle.report.specs.Stops.{Answers, Tells, refused}
@@ -63,6 +64,13 @@ no_script_exit text r why exit tells =
     let p = err_from_is_err_and r exit in
     subst (λ (x : Result _ (Stop Refusal)). IfErr x (Tells (SpellsNoNetwork text))) (sym p.1) (subst (Tells (SpellsNoNetwork text)) (sym p.2) (no_script_there text why tells))
 
+-- what the text of a specification comes to, where the script has a network
+abbrev SpecificationDecides : List ℕ → Network → Answer → Type 0
+SpecificationDecides specification network = RefusedOr side.Specification (SpellsNoNetwork specification) (HasNetwork specification) (λ specified. IsCompared network specified)
+
+specification_answered : (specification : List ℕ) (network : Network) (a : Answer) → SpecificationSpellsNoNetwork specification a → SpecificationDecides specification network a
+specification_answered specification network a (r, fails, is) = told r fails is
+
 module _ (text specification : List ℕ) (r : Result Done (Stop Answer)) where
   pub at_script_network : (why : Stop Refusal) → IsErrAnd r (λ t. t ≡ refused side.Script why) → Tells (SpellsNoNetwork text) why → Answers (TextsCompare text specification) r
   unfolding TextsCompare
@@ -72,7 +80,9 @@ module _ (text specification : List ℕ) (r : Result Done (Stop Answer)) where
     pub at_specified_network : (why : Stop Answer) → IsErrAnd r (λ t. t ≡ why) → Tells (SpecificationSpellsNoNetwork specification) why → Answers (TextsCompare text specification) r
     unfolding TextsCompare
     at_specified_network why exit tells =
-        goes_on _ _ _ _ network has r (at_stop r _ why exit (weaker (SpecificationSpellsNoNetwork specification) _ (λ a fails. told fails.0 fails.1 fails.2) why tells))
+        goes_on _ _ _ _ network has r
+        (at_stop r (SpecificationDecides specification network) why exit
+        (weaker (SpecificationSpellsNoNetwork specification) (SpecificationDecides specification network) (specification_answered specification network) why tells))
 
     pub at_compared : (specified : Network) → HasNetwork specification specified → Answers (IsCompared network specified) r → Answers (TextsCompare text specification) r
     unfolding TextsCompare

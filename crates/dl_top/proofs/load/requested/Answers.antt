@@ -19,7 +19,7 @@ pub returns-in-Conform-clause-cause : goal.returns-in-Conform-clause-cause
 returns-in-Conform-clause-cause g c =
     let shelf = g.S.Shelf in
     conform_replies (shelf.texts c.args.shelf.now) (shelf_signs (shelf.faults c.args.shelf.now) (shelf.faults c.conforming.new.shelf) (shelf.taken c.args.shelf.now) (shelf.taken c.conforming.new.shelf))
-    c.args.request c.in-Conform.script c.in-Conform.specification c.as_slice.result.now c.as_slice-2.result.now c.conforming.result c.in-Conform.is c.as_slice.ensures c.as_slice-2.ensures c.conforming.ensures.cause
+    c.args.request c.in-Conform.script c.in-Conform.specification c.as_slice-in-Conform.result.now c.as_slice-in-Conform-2.result.now c.conforming.result c.in-Conform.is c.as_slice-in-Conform.ensures c.as_slice-in-Conform-2.ensures c.conforming.ensures.cause
 
 pub returns-in-Conform-clause-untouched : goal.returns-in-Conform-clause-untouched
 returns-in-Conform-clause-untouched g c none = absurd (names_two c.args.request c.in-Conform.script c.in-Conform.specification c.in-Conform.is none)
