@@ -1,0 +1,15 @@
+use Rattle.std.proofs.Common.{◌≡◌, ◌<◌, List, [], length, ap, sym, arith, ◌∙◌}
+use Rattle.std.proofs.lemmas.Option.{slice_get-get_or}
+use Rattle.hidden_steps.specs.Order.{hidden_bound}
+use Rattle.hidden_bounds.proofs.Sums.{bounds_further, sum_further, whole_sum}
+use Rattle.hidden_bounds.proofs.Taken.{none_taken}
+use Rattle.hidden_bounds.proofs.bounding.add_up.Goals as goal
+
+pub loop-place-init : goal.loop-place-init
+loop-place-init c =
+    let none = c.new-bounds.ensures.items in
+    record {
+      as_many = ap length none;
+      bounds = λ k p below at. absurd (let few : length c.new-bounds.result.items ≡ 0 = ap length none in omega (arith, few, below));
+      total = ap hidden_bound (sym (none_taken c.args.scope.now.hidden.now c.args.scope.now.seats.now));
+    }

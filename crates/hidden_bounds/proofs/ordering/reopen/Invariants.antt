@@ -1,0 +1,12 @@
+use Rattle.std.proofs.Common.{◌≡◌, ◌≤◌, ◌<◌, ℕ, length}
+use Rattle.csp_base.specs.Events.{meets_of}
+use Rattle.hidden_bounds.specs.Standings.{reopened_to, standing_at}
+use Rattle.hidden_bounds.specs.Taking.{alphabet_at}
+use Rattle.hidden_bounds.proofs.ordering.reopen.Given as goal
+
+abbrev pub invariant-loop-part : goal.invariant-loop-part
+invariant-loop-part l = record {
+  as_many : length l.standings ≡ length l.initial.standings;
+  done : (i : ℕ) → i < l.part → standing_at l.standings i ≡ reopened_to (standing_at l.initial.standings i) (meets_of (alphabet_at l.scope.seats.now i) l.events);
+  rest : (i : ℕ) → l.part ≤ i → standing_at l.standings i ≡ standing_at l.initial.standings i;
+}

@@ -1,0 +1,6 @@
+use Rattle.std.proofs.Common.{◌≡◌, take}
+use Rattle.hidden_bounds.specs.Standings.{left_from}
+use Rattle.hidden_bounds.proofs.standings.left_over.Given as goal
+
+abbrev pub invariant-loop-part : goal.invariant-loop-part
+invariant-loop-part l = l.parts.items ≡ left_from 0 (take l.part l.standings)

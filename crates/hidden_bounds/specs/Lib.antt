@@ -1,0 +1,4 @@
+pub mod Taking
+pub mod Found
+pub mod Standings
+pub mod Sums
