@@ -1,0 +1,12 @@
+use Rattle.std.proofs.Common.{◌≡◌, ◌+◌, ◌/◌, ◌*◌, ◌<◌, List, ℕ, Bool, false, replicate, arith, sym, subst}
+use Rattle.counted_marks.specs.Blocks.{AreBlockCounts}
+use Rattle.counted_marks.specs.Marks.{mark_count}
+use Rattle.counted_marks.proofs.Counting.{block_to, none_counted, none_marked}
+use Rattle.counted_marks.proofs.marks.CountedMarks.new.Goals as goal
+
+pub invariant_of-result : goal.invariant_of-result
+invariant_of-result c =
+    let marks = c.in_ok-marks.ensures.items_if_clones_equal (λ y e. e) in
+    let counts = c.in_ok-counts.ensures.items_if_clones_equal (λ y e. e) in
+    let to = block_to c.args.bound in
+    rw (marks, counts) (none_counted c.args.bound (c.args.bound / 64 + 1) (omega (arith, to)), sym (none_marked c.args.bound))

@@ -1,0 +1,6 @@
+use Rattle.std.proofs.Common.{◌≡◌, sym, subst}
+use Rattle.numbered_walks.specs.Numbered.{Numbered, OwnsItsSteps}
+use Rattle.numbered_walks.proofs.mover.Mover.alphabet.Goals as goal
+
+pub returns-clause-own : goal.returns-clause-own
+returns-clause-own c = subst (λ (m : Numbered). OwnsItsSteps m.alphabet m.table) c.self.view_is c.self.invariant.1

@@ -1,0 +1,7 @@
+use Rattle.std.proofs.Common.{◌≡◌, ℕ, [], get_or, length, take}
+use Rattle.counted_marks.specs.Marks.{marked}
+use Rattle.numbered_walks.specs.Agreements.{owner_marks}
+use Rattle.numbered_walks.proofs.owners.add_owners.Given as goal
+
+abbrev pub invariant-loop-place : goal.invariant-loop-place
+invariant-loop-place l = record { rows : (e : ℕ) → get_or l.rows.items e [] ≡ marked (owner_marks e (take l.place l.movers)); one_each : length l.rows.items ≡ length l.initial.rows.items }

@@ -1,0 +1,36 @@
+use Rattle.std.proofs.Common.{◌≡◌, ◌<◌, ℕ, Bool, List, get_or, length, MatchBool, refl, sym, ap, subst, ◌∙◌, arith}
+use Rattle.std.proofs.lemmas.List.{take_all}
+use Rattle.csp_base.specs.Members.{has}
+use Rattle.csp_tables.specs.Label.Label.{visible}
+use Rattle.csp_tables.specs.RawTable.{RawStep}
+use Rattle.numbered_walks.proofs.Stepping.{all_done, none_done, one_done, owner_can, owner_has, owner_within, owners_have, owners_rise, still_there}
+use Rattle.numbered_walks.specs.Agreements.{component_at}
+use Rattle.numbered_walks.specs.Numbered.{Can}
+use Rattle.numbered_walks.proofs.standing.do_together.Goals as goal
+
+pub do_event-requires-clause-place : goal.do_event-requires-clause-place
+do_event-requires-clause-place c = owner_within c.args.movers.now c.args.event c.args.owners.now c.loop-place.place-index c.requires.owners c.loop-place-test.true
+
+pub do_event-requires-clause-can : goal.do_event-requires-clause-can
+do_event-requires-clause-can c =
+    let within = owner_within c.args.movers.now c.args.event c.args.owners.now c.loop-place.place-index c.requires.owners c.loop-place-test.true in
+    subst (λ (n : ℕ). Can (visible c.args.event) (component_at c.args.movers.now (get_or c.args.owners.now c.loop-place.place-index 0)) n)
+    (sym (still_there c.args.movers.now c.args.event c.args.owners.now c.args.standing.now.terms.items c.loop-place.standing.terms.items c.loop-place.standing.terms.items c.loop-place.place-index (get_or c.args.owners.now c.loop-place.place-index 0) c.loop-place-test.true refl (owners_rise c.args.movers.now c.args.event c.args.owners.now c.loop-place.place-index c.requires.owners c.loop-place-test.true) c.loop-place.invariant.done within))
+    (owner_can c.args.event c.args.movers.now c.args.standing.now.terms.items (get_or c.args.owners.now c.loop-place.place-index 0) c.requires.can within (owner_has c.args.movers.now c.args.event c.args.owners.now c.loop-place.place-index c.requires.owners c.loop-place-test.true))
+
+pub loop-place-preserved : goal.loop-place-preserved
+loop-place-preserved c =
+    let within = owner_within c.args.movers.now c.args.event c.args.owners.now c.loop-place.place-index c.requires.owners c.loop-place-test.true in
+    let stands : (get_or c.args.owners.now c.loop-place.place-index 0) < length c.loop-place.standing.terms.items = subst (λ n. (get_or c.args.owners.now c.loop-place.place-index 0) < n) (sym c.loop-place.invariant.form.one_each) within in
+    record {
+      form = c.do_event.ensures.form;
+      done =
+          one_done c.args.movers.now c.args.event c.args.owners.now c.args.standing.now.terms.items c.loop-place.standing.terms.items c.do_event.new.standing.terms.items c.loop-place.place-index (get_or c.args.owners.now c.loop-place.place-index 0) c.loop-place-test.true refl (owners_rise c.args.movers.now c.args.event c.args.owners.now c.loop-place.place-index c.requires.owners c.loop-place-test.true) c.loop-place.invariant.done within stands c.do_event.ensures.does.0
+          c.do_event.ensures.does.1 c.do_event.ensures.does.2;
+    }
+
+pub returns-clause-done : goal.returns-clause-done
+returns-clause-done c =
+    all_done c.args.event c.args.movers.now c.args.standing.now.terms.items c.loop-place.standing.terms.items c.requires.form.one_each c.loop-place.invariant.form.one_each (λ i below.
+    subst (λ (b : Bool). MatchBool b (RawStep (component_at c.args.movers.now i).table (get_or c.args.standing.now.terms.items i 0) (visible c.args.event) (get_or c.loop-place.standing.terms.items i 0)) (get_or c.loop-place.standing.terms.items i 0 ≡ get_or c.args.standing.now.terms.items i 0))
+    (ap (λ (ps : List ℕ). has ps i) (take_all c.loop-place.place-index c.args.owners.now c.loop-place-test.false ∙ c.requires.owners) ∙ owners_have c.args.movers.now c.args.event i below) (c.loop-place.invariant.done i below))

@@ -1,0 +1,70 @@
+-- Components given by their alphabets and their numbered tables. A state is the list of the terms where they stand.
+use Rattle.std.specs.Prelude.{◌≡◌, ℕ, Bool, Some, List, [], ◌∷◌, IsTrue, MatchBool, slice_get, slice_set, map}
+use Rattle.std.specs.List.{list_any}
+use Rattle.csp_base.specs.Members.{has}
+use Rattle.csp_tables.specs.Label.{Label}
+use Rattle.csp_tables.specs.Label.Label.{silent, visible}
+use Rattle.csp_tables.specs.RawTable.{RawStep, RawTable}
+use Rattle.numbered_walks.specs.declared.moves.Move.{Move}
+use Rattle.numbered_walks.specs.declared.moves.Move.TheVariants as move
+
+pub record Numbered : Type 0 where
+  pub alphabet : List ℕ
+  pub table : RawTable
+
+-- each event of the table's steps is in the alphabet
+abbrev pub OwnsItsSteps : List ℕ → RawTable → Type 0
+OwnsItsSteps alphabet table = (m e n : ℕ) → RawStep table m (visible e) n → IsTrue (has alphabet e)
+
+-- the component has a step with this label where it stands
+abbrev pub Can : Label → Numbered → ℕ → Type 0
+Can l c x = (y : ℕ) × RawStep c.table x l y
+
+-- whether a component has the event in its alphabet
+abbrev pub has_owner : List Numbered → ℕ → Bool
+has_owner cs e = list_any (λ c. has c.alphabet e) cs
+
+-- each component with the event in its alphabet can do it
+abbrev pub AllCan : ℕ → List Numbered → List ℕ → Type 0
+AllCan e [] [] = Unit {0}
+AllCan e [] (x ∷ xs) = ⊥
+AllCan e (c ∷ cs) [] = ⊥
+AllCan e (c ∷ cs) (x ∷ xs) = (IsTrue (has c.alphabet e) → Can (visible e) c x) × AllCan e cs xs
+
+-- each component with the event in its alphabet does it, and the others stay
+abbrev pub AllDo : ℕ → List Numbered → List ℕ → List ℕ → Type 0
+AllDo e [] [] [] = Unit {0}
+AllDo e (c ∷ cs) (x ∷ xs) (y ∷ ys) = MatchBool (has c.alphabet e) (RawStep c.table x (visible e) y) (x ≡ y) × AllDo e cs xs ys
+AllDo e cs xs ys = ⊥
+
+-- the component in this place can move silently
+pub record OneCan (cs : List Numbered) (xs : List ℕ) (i : ℕ) : Type 0 where
+  pub component : Numbered
+  pub there : slice_get cs i ≡ Some component
+  pub term : ℕ
+  pub at : slice_get xs i ≡ Some term
+  pub can : Can silent component term
+
+-- the component in this place moves silently, and the others stay
+pub record OneDoes (cs : List Numbered) (xs : List ℕ) (i : ℕ) (ys : List ℕ) : Type 0 where
+  pub component : Numbered
+  pub there : slice_get cs i ≡ Some component
+  pub term : ℕ
+  pub at : slice_get xs i ≡ Some term
+  pub next : ℕ
+  pub step : RawStep component.table term silent next
+  pub others : ys ≡ slice_set xs i next
+
+-- the options of a state
+abbrev pub Has : List Numbered → List ℕ → Move → Type 0
+Has cs xs (move.Silent i) = OneCan cs xs i
+Has cs xs (move.Event e) = IsTrue (has_owner cs e) × AllCan e cs xs
+
+-- the state to which an option leads
+abbrev pub Takes : List Numbered → List ℕ → Move → List ℕ → Type 0
+Takes cs xs (move.Silent i) ys = OneDoes cs xs i ys
+Takes cs xs (move.Event e) ys = IsTrue (has_owner cs e) × AllDo e cs xs ys
+
+-- each component at the first term of its table
+abbrev pub first_terms : List Numbered → List ℕ
+first_terms cs = map (λ c. 0) cs

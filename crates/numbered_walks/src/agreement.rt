@@ -1,0 +1,129 @@
+//! Which events all of their owners offer.
+
+ghost use Rattle.std.specs.Prelude.{◌≡◌, ◌+◌, ◌-◌, ◌≤◌, ◌<◌, ℕ, IfOk, length, map, replicate, slice_index, slice_set};
+ghost use Rattle.dl_limits.specs.declared.TheConstants.{MOST_COMPONENTS};
+ghost use Rattle.numbered_walks.specs.Agreements.{IsAgreement, is_agreed};
+ghost use Rattle.numbered_walks.specs.Choices.{steps_by};
+
+use containers::Items;
+use counted_marks::CountedMarks;
+use csp_base::{Event, NoMemory};
+use std::alloc::Global;
+
+/// For each event how many components have it, and how many of them offer it now; marked are the events that all of them offer.
+pub(crate) struct Agreement {
+    owners: Vec<usize>,
+    offering: Vec<usize>,
+    agreed: CountedMarks,
+}
+
+// By hand, so that a function that ends one calls this and proves no end of its own.
+impl Drop for Agreement {
+    fn drop(self) {
+        let Agreement {
+            owners: _owners,
+            offering: _offering,
+            agreed: _agreed,
+        } = self;
+    }
+}
+
+// How many owners each event has.
+fn owner_counts(alloc: Global, rows: &[Items<u32>]) -> Result<Vec<usize>, NoMemory>
+    ensures { IfOk result (λ counts. counts.items ≡ map length rows.now) }
+{
+    let mut counts = Vec::new(alloc);
+    for row in rows {
+        counts.push(row.len())?;
+    }
+    Ok(counts)
+}
+
+/// Nothing is offered of the events that have these rows of owners.
+pub(crate) fn no_offers(alloc: Global, rows: &[Items<u32>]) -> Result<Agreement, NoMemory>
+    ensures form { IfOk result IsAgreement }
+    ensures owners { IfOk result (λ made. made.owners.items ≡ map length rows.now) }
+    ensures offering { IfOk result (λ made. made.offering.items ≡ replicate (length rows.now) 0) }
+{
+    let owners = owner_counts(alloc, rows)?;
+    let offering = vec![in alloc; 0; rows.len()]?;
+    let agreed = CountedMarks::new(alloc, rows.len())?;
+    Ok(Agreement {
+        owners,
+        offering,
+        agreed,
+    })
+}
+
+/// The events that all of their owners offer.
+pub(crate) fn agreed_events(agreement: &Agreement) -> &CountedMarks
+    ensures { result.now ≡ agreement.now.agreed }
+{
+    &agreement.agreed
+}
+
+// Marks an event again, after what is counted of it has changed.
+fn mark(agreement: &mut Agreement, place: usize)
+    requires within { place < length agreement.old.owners.items }
+    requires offering { length agreement.old.offering.items ≡ length agreement.old.owners.items }
+    requires agreed { length agreement.old.agreed ≡ length agreement.old.owners.items }
+    ensures { agreement.new ≡ record agreement.old { agreed = slice_set agreement.old.agreed place (is_agreed (slice_index agreement.old.owners.items place) (slice_index agreement.old.offering.items place)) } }
+{
+    let owners = agreement.owners[place];
+    let agreed = agreement.offering[place] == owners && owners != 0;
+    agreement.agreed.set(place, agreed);
+}
+
+// One component more offers the event.
+fn offer(agreement: &mut Agreement, event: Event)
+    requires form { IsAgreement agreement.old }
+    requires within { event < length agreement.old.owners.items }
+    requires room { slice_index agreement.old.offering.items event < MOST_COMPONENTS }
+    ensures form { IsAgreement agreement.new }
+    ensures owners { agreement.new.owners.items ≡ agreement.old.owners.items }
+    ensures offering { agreement.new.offering.items ≡ slice_set agreement.old.offering.items event (slice_index agreement.old.offering.items event + 1) }
+{
+    let place = event.0 as usize;
+    agreement.offering[place] += 1;
+    mark(agreement, place);
+}
+
+// One component less offers the event.
+fn withdraw(agreement: &mut Agreement, event: Event)
+    requires form { IsAgreement agreement.old }
+    requires some { 1 ≤ slice_index agreement.old.offering.items event }
+    ensures form { IsAgreement agreement.new }
+    ensures owners { agreement.new.owners.items ≡ agreement.old.owners.items }
+    ensures offering { agreement.new.offering.items ≡ slice_set agreement.old.offering.items event (slice_index agreement.old.offering.items event - 1) }
+{
+    let place = event.0 as usize;
+    agreement.offering[place] -= 1;
+    mark(agreement, place);
+}
+
+/// Each event of the steps is offered by one component more.
+pub(crate) fn offer_all(agreement: &mut Agreement, steps: &[(Event, u32)])
+    requires form { IsAgreement agreement.old }
+    requires within { (e : ℕ) → 1 ≤ steps_by e steps.now → e < length agreement.old.owners.items }
+    requires room { (e : ℕ) → slice_index agreement.old.offering.items e + steps_by e steps.now ≤ MOST_COMPONENTS }
+    ensures form { IsAgreement agreement.new }
+    ensures owners { agreement.new.owners.items ≡ agreement.old.owners.items }
+    ensures offering { (e : ℕ) → slice_index agreement.new.offering.items e ≡ slice_index agreement.old.offering.items e + steps_by e steps.now }
+{
+    for (event, _) in steps {
+        offer(agreement, *event);
+    }
+}
+
+/// Each event of the steps is offered by one component less.
+pub(crate) fn withdraw_all(agreement: &mut Agreement, steps: &[(Event, u32)])
+    requires form { IsAgreement agreement.old }
+    requires some { (e : ℕ) → steps_by e steps.now ≤ slice_index agreement.old.offering.items e }
+    ensures form { IsAgreement agreement.new }
+    ensures owners { agreement.new.owners.items ≡ agreement.old.owners.items }
+    ensures offering { (e : ℕ) → slice_index agreement.new.offering.items e + steps_by e steps.now ≡ slice_index agreement.old.offering.items e }
+{
+    for (event, _) in steps {
+        withdraw(agreement, *event);
+    }
+}

@@ -1,0 +1,245 @@
+//! Where the components stand, and what they can do there.
+
+ghost use Rattle.std.specs.Prelude.{◌≡◌, ◌+◌, ◌≤◌, ◌<◌, ◌^◌, ◌↔◌, ℕ, false, IfNone, IfOk, IfSome, IsTrue, Some, length, slice_get, slice_index, slice_index_or, slice_set};
+ghost use Rattle.acceptances.specs.OfferTests.{is_unstable};
+ghost use Rattle.counted_marks.specs.Marks.{mark_count, marked};
+ghost use Rattle.csp_tables.specs.Label.Label.{silent, visible};
+ghost use Rattle.dl_limits.specs.declared.TheConstants.{MOST_COMPONENTS};
+ghost use Rattle.numbered_walks.specs.Agreements.{AreOwnerRows, IsAgreement, IsStanding, component_at, offer_count, owner_count, owner_marks};
+ghost use Rattle.numbered_walks.specs.Choices.{bit};
+ghost use Rattle.acceptances.specs.OfferTests.{can_do};
+ghost use Rattle.numbered_walks.specs.Numbered.{AllCan, AllDo, Can, Has, OwnsItsSteps, Takes, first_terms};
+ghost use Rattle.numbered_walks.specs.Numbers.{place_among};
+ghost use Rattle.numbered_walks.specs.Options.{AreOptions};
+ghost use Rattle.numbered_walks.specs.Steps.{Does, options};
+ghost use Rattle.numbered_walks.specs.Walks.{Chooses, HasNone};
+
+use crate::agreement::{Agreement, agreed_events, no_offers, offer_all, withdraw_all};
+use crate::mover::Mover;
+use crate::moves::Move;
+use crate::numbers::place_among;
+use containers::Items;
+use counted_marks::CountedMarks;
+use csp_base::{Event, NoMemory};
+use std::alloc::Global;
+
+/// The term of each component, which components have a silent step, and which events are offered by all of their owners.
+pub(crate) struct Standing {
+    terms: Vec<u32>,
+    restless: CountedMarks,
+    agreement: Agreement,
+}
+
+// By hand, so that a function that ends one calls this and proves no end of its own.
+impl Drop for Standing {
+    fn drop(self) {
+        let Standing {
+            terms: _terms,
+            restless: _restless,
+            agreement: _agreement,
+        } = self;
+    }
+}
+
+// Marks whether a component has a silent step, now that it stands at this term, and counts what it offers there.
+fn enter(
+    restless: &mut CountedMarks,
+    agreement: &mut Agreement,
+    mover: &Mover<'_>,
+    place: usize,
+    term: u32,
+)
+    requires place { place < length restless.old }
+    requires term { term < mover.now.table.count }
+    requires form { IsAgreement agreement.old }
+    requires within { (e : ℕ) → IsTrue (can_do mover.now.table term e) → e < length agreement.old.owners.items }
+    requires room { (e : ℕ) → slice_index agreement.old.offering.items e + bit (can_do mover.now.table term e) ≤ MOST_COMPONENTS }
+    ensures restless { restless.new ≡ slice_set restless.old place (is_unstable mover.now.table term) }
+    ensures form { IsAgreement agreement.new }
+    ensures owners { agreement.new.owners.items ≡ agreement.old.owners.items }
+    ensures offering { (e : ℕ) → slice_index agreement.new.offering.items e ≡ slice_index agreement.old.offering.items e + bit (can_do mover.now.table term e) }
+{
+    restless.set(place, mover.is_restless(term));
+    offer_all(agreement, mover.choices(term));
+}
+
+// Each component enters its first term.
+fn enter_all(restless: &mut CountedMarks, agreement: &mut Agreement, movers: &[Mover<'_>])
+    requires few { length movers.now ≤ MOST_COMPONENTS }
+    requires form { IsAgreement agreement.old }
+    requires none { (e : ℕ) → slice_index agreement.old.offering.items e ≡ 0 }
+    requires owners { (e : ℕ) → slice_index agreement.old.owners.items e ≡ owner_count e movers.now }
+    requires marks { length restless.old ≡ length movers.now }
+    ensures form { IsAgreement agreement.new }
+    ensures owners { agreement.new.owners.items ≡ agreement.old.owners.items }
+    ensures offering { (e : ℕ) → slice_index agreement.new.offering.items e ≡ offer_count e movers.now (first_terms movers.now) }
+    ensures marks { length restless.new ≡ length movers.now }
+    ensures restless { (i : ℕ) → i < length movers.now → slice_index_or restless.new i false ≡ is_unstable (component_at movers.now i).table 0 }
+    ensures within { (i : ℕ) → i < length movers.now → 0 < (component_at movers.now i).table.count }
+    ensures own { (i : ℕ) → i < length movers.now → OwnsItsSteps (component_at movers.now i).alphabet (component_at movers.now i).table }
+{
+    for (place, mover) in movers.iter().enumerate() {
+        let _alphabet = mover.alphabet();
+        enter(restless, agreement, mover, place, 0);
+    }
+}
+
+/// Each component at its first term.
+pub(crate) fn first_standing(
+    alloc: Global,
+    movers: &[Mover<'_>],
+    owners: &[Items<u32>],
+) -> Result<Standing, NoMemory>
+    requires few { length movers.now ≤ MOST_COMPONENTS }
+    requires owners { AreOwnerRows movers.now owners.now }
+    requires small { length owners.now ≤ 2 ^ 32 }
+    ensures form { IfOk result (IsStanding movers.now) }
+    ensures first { IfOk result (λ made. made.terms.items ≡ first_terms movers.now) }
+{
+    let terms = vec![in alloc; 0; movers.len()]?;
+    let mut restless = CountedMarks::new(alloc, movers.len())?;
+    let mut agreement = no_offers(alloc, owners)?;
+    enter_all(&mut restless, &mut agreement, movers);
+    Ok(Standing {
+        terms,
+        restless,
+        agreement,
+    })
+}
+
+// The option in a place among those that there are.
+fn option_at(restless: &CountedMarks, agreed: &CountedMarks, place: usize) -> Move
+    requires place { place < mark_count restless.now + mark_count agreed.now }
+    requires few { length restless.now ≤ MOST_COMPONENTS }
+    requires small { length agreed.now ≤ 2 ^ 32 }
+    ensures { slice_get (options restless.now agreed.now) place ≡ Some result }
+{
+    let silent = restless.count();
+    if place < silent {
+        Move::Silent(restless.nth(place) as u32)
+    } else {
+        Move::Event(Event(agreed.nth(place - silent) as u32))
+    }
+}
+
+// How many options there are.
+fn option_count(standing: &Standing) -> usize
+    ensures { result ≡ length (options standing.now.restless standing.now.agreement.agreed) }
+{
+    standing.restless.count() + agreed_events(&standing.agreement).count()
+}
+
+/// Whether there is no option.
+pub(crate) fn is_stuck(movers: &[Mover<'_>], standing: &Standing) -> bool
+    requires { IsStanding movers.now standing.now }
+    ensures { IsTrue result ↔ HasNone (Has movers.now standing.now.terms.items) }
+{
+    option_count(standing) == 0
+}
+
+/// The option that a number chooses, if there is one.
+pub(crate) fn chosen(movers: &[Mover<'_>], standing: &Standing, number: u32) -> Option<Move>
+    requires form { IsStanding movers.now standing.now }
+    requires few { length movers.now ≤ MOST_COMPONENTS }
+    ensures chosen { IfSome result (Chooses (Has movers.now standing.now.terms.items) number) }
+    ensures has { IfSome result (Has movers.now standing.now.terms.items) }
+    ensures none { IfNone result (HasNone (Has movers.now standing.now.terms.items)) }
+{
+    let count = option_count(standing);
+    if count == 0 {
+        return None;
+    }
+    let agreed = agreed_events(&standing.agreement);
+    Some(option_at(&standing.restless, agreed, place_among(number, count)))
+}
+
+// Puts a component to another term of its table.
+fn put(movers: &[Mover<'_>], standing: &mut Standing, place: usize, to: u32)
+    requires form { IsStanding movers.now standing.old }
+    requires few { length movers.now ≤ MOST_COMPONENTS }
+    requires place { place < length movers.now }
+    requires to { to < (component_at movers.now place).table.count }
+    ensures form { IsStanding movers.now standing.new }
+    ensures moved { standing.new.terms.items ≡ slice_set standing.old.terms.items place to }
+{
+    let mover = &movers[place];
+    withdraw_all(
+        &mut standing.agreement,
+        mover.choices(standing.terms[place]),
+    );
+    enter(
+        &mut standing.restless,
+        &mut standing.agreement,
+        mover,
+        place,
+        to,
+    );
+    standing.terms[place] = to;
+}
+
+// One component moves by a silent step.
+fn move_silently(movers: &[Mover<'_>], standing: &mut Standing, place: usize)
+    requires form { IsStanding movers.now standing.old }
+    requires few { length movers.now ≤ MOST_COMPONENTS }
+    requires place { place < length movers.now }
+    requires can { Can silent (component_at movers.now place) (slice_index standing.old.terms.items place) }
+    ensures form { IsStanding movers.now standing.new }
+    ensures does { Does movers.now place silent standing.old.terms.items standing.new.terms.items }
+{
+    if let Some(to) = movers[place].silent_target(standing.terms[place]) {
+        put(movers, standing, place, to);
+    }
+}
+
+// One component does an event.
+fn do_event(movers: &[Mover<'_>], standing: &mut Standing, place: usize, event: Event)
+    requires form { IsStanding movers.now standing.old }
+    requires few { length movers.now ≤ MOST_COMPONENTS }
+    requires place { place < length movers.now }
+    requires can { Can (visible event) (component_at movers.now place) (slice_index standing.old.terms.items place) }
+    ensures form { IsStanding movers.now standing.new }
+    ensures does { Does movers.now place (visible event) standing.old.terms.items standing.new.terms.items }
+{
+    if let Some(to) = movers[place].target(standing.terms[place], event) {
+        put(movers, standing, place, to);
+    }
+}
+
+// Each owner of an event does it.
+fn do_together(movers: &[Mover<'_>], owners: &[u32], standing: &mut Standing, event: Event)
+    requires form { IsStanding movers.now standing.old }
+    requires few { length movers.now ≤ MOST_COMPONENTS }
+    requires owners { owners.now ≡ marked (owner_marks event movers.now) }
+    requires can { AllCan event movers.now standing.old.terms.items }
+    ensures form { IsStanding movers.now standing.new }
+    ensures done { AllDo event movers.now standing.old.terms.items standing.new.terms.items }
+{
+    for place in owners {
+        do_event(movers, standing, *place as usize, event);
+    }
+}
+
+/// Takes an option.
+pub(crate) fn take(
+    movers: &[Mover<'_>],
+    owners: &[Items<u32>],
+    standing: &mut Standing,
+    option: &Move,
+)
+    requires form { IsStanding movers.now standing.old }
+    requires few { length movers.now ≤ MOST_COMPONENTS }
+    requires owners { AreOwnerRows movers.now owners.now }
+    requires has { Has movers.now standing.old.terms.items option.now }
+    ensures form { IsStanding movers.now standing.new }
+    ensures takes { Takes movers.now standing.old.terms.items option.now standing.new.terms.items }
+{
+    match option {
+        Move::Silent(place) => move_silently(movers, standing, *place as usize),
+        Move::Event(event) => do_together(
+            movers,
+            owners[event.0 as usize].as_slice(),
+            standing,
+            *event,
+        ),
+    }
+}
