@@ -30,6 +30,7 @@ site_text (site.Declaration d) = codes " in declaration " ++ decimal d
 site_text site.Network = codes " in the network"
 site_text (site.Component i) = codes " in component " ++ decimal i
 site_text (site.Annotation i) = codes " in the annotation of component " ++ decimal i
+site_text site.HiddenSet = codes " in the hidden set"
 
 -- where an operand, whose first component has this number and which has so many, differs from its alphabet
 abbrev pub nesting_text : ℕ → ℕ → List ℕ → List ℕ
@@ -75,3 +76,5 @@ refusal_text s (refusal.NoComponent n) = codes "35 there are " ++ decimal n ++ c
 refusal_text s refusal.TooLong = codes "36 " ++ side_name s ++ codes " is too long"
 refusal_text s (refusal.DifferentEvents n) = codes "41 the events differ at number " ++ decimal n
 refusal_text s (refusal.DifferentComponents i) = codes "42 components differ at " ++ decimal i
+refusal_text s refusal.NoSet = codes "37 no such set"
+refusal_text s (refusal.BoundLimit i) = codes "38 hidden bound passes 64 bits at component " ++ decimal i

@@ -14,6 +14,8 @@ use Rattle.report.specs.declared.answer.Done.{Done}
 use Rattle.report.specs.declared.answer.Done.TheVariants as done
 use Rattle.report.specs.declared.answer.OutsideFault.{OutsideFault}
 use Rattle.report.specs.declared.answer.OutsideFault.TheVariants as outside
+use Rattle.report.specs.declared.answer.PrintedMove.{PrintedMove}
+use Rattle.report.specs.declared.answer.PrintedMove.TheVariants as printed
 use Rattle.report.specs.declared.answer.PrintedNode.{PrintedNode}
 use Rattle.report.specs.declared.answer.Side.{Side}
 use Rattle.csp_base.specs.Texts.{line}
@@ -61,23 +63,40 @@ outside_text side outside.NotRead = codes "outside fault: " ++ side_name side ++
 abbrev pub conforms_text : (components bound : ℕ) → List ℕ
 conforms_text components bound = line (codes "conforms") ++ line (codes "components " ++ decimal components) ++ line (codes "silent bound " ++ decimal bound)
 
+-- a step of a run
+abbrev pub move_text : PrintedMove → List ℕ
+move_text (printed.Silent i) = line (codes "component " ++ decimal i ++ codes " silent")
+move_text (printed.Event event) = line event
+
+-- the report of a run, with its last line
+abbrev pub run_text : List PrintedMove → List ℕ → List ℕ
+run_text moves last = line (codes "run of " ++ decimal (length moves) ++ codes " steps") ++ flat_map move_text moves ++ line last
+
+-- the report of a network whose hidden events are bounded
+abbrev pub livelock_free_text : (components bound : ℕ) → List ℕ
+livelock_free_text components bound = line (codes "livelock-free") ++ line (codes "components " ++ decimal components) ++ line (codes "hidden bound " ++ decimal bound)
+
 abbrev pub done_text : Done → List ℕ
 done_text (done.Shown text) = text
 done_text (done.Table i count nodes) = table_text i count nodes
 done_text (done.DeadlockFree rule components nodes bound rank) = deadlock_free_text rule components nodes bound rank
 done_text (done.Conforms components bound) = conforms_text components bound
+done_text (done.Walked moves) = run_text moves (codes "goes on")
+done_text (done.LivelockFree components bound) = livelock_free_text components bound
 
 abbrev pub report_text : Answer → List ℕ
-report_text answer.Usage = line (codes "usage: dlcheck check RULE SCRIPT | show SCRIPT | table SCRIPT INDEX | trial FAMILY N | conform SCRIPT SPEC")
+report_text answer.Usage = line (codes "usage: dlcheck check RULE SCRIPT | show SCRIPT | table SCRIPT INDEX | trial FAMILY N | run SCRIPT SEED STEPS | livelock SCRIPT SET | conform SCRIPT SPEC")
 report_text (answer.Outside side fault) = line (outside_text side fault)
 report_text (answer.Refused side refusal) = line (codes "refused") ++ side_line side ++ line (refusal_text side refusal)
 report_text (answer.NotProved shortfall) = line (codes "not proved") ++ shortfall_text shortfall
+report_text (answer.Stuck moves) = run_text moves (codes "stuck")
 report_text (answer.Done what) = done_text what
 
--- 0 done, 1 not proved, 2 refused, 3 no command, 4 a fault outside
+-- 0 done, 1 not proved or stuck, 2 refused, 3 no command, 4 a fault outside
 abbrev pub status : Answer → ℕ
 status answer.Usage = 3
 status (answer.Outside side fault) = 4
 status (answer.Refused side refusal) = 2
 status (answer.NotProved shortfall) = 1
+status (answer.Stuck moves) = 1
 status (answer.Done what) = 0

@@ -57,3 +57,4 @@ shortfall_text (shortfall.ClientsCircle components) = line (codes "27 clients in
 shortfall_text (shortfall.ResourcesCircle components) = line (codes "29 resources in a circle" ++ numbers_text components)
 shortfall_text (shortfall.Outside i trace) = line (codes "43 component " ++ decimal i ++ codes " does " ++ trace_text trace ++ codes " outside its specification")
 shortfall_text (shortfall.Refuses i trace) = line (codes "44 component " ++ decimal i ++ codes " refuses too much after " ++ trace_text trace)
+shortfall_text (shortfall.NoOrder components) = line (codes "39 no order for components" ++ numbers_text components)

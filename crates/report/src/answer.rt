@@ -17,6 +17,8 @@ pub enum Site {
     Component(u32),
     /// In the annotation of the component with this number.
     Annotation(u32),
+    /// In the set of hidden events.
+    HiddenSet,
 }
 
 /// What is wrong in a declaration.
@@ -192,6 +194,13 @@ pub enum Refusal {
         /// The least such component.
         component: u32,
     },
+    /// No data definition without parameters has the name that was asked for (37).
+    NoSet,
+    /// The bounds on hidden events add up to more than 64 bits hold (38).
+    BoundLimit {
+        /// The component in their order at which they first do.
+        component: u32,
+    },
 }
 
 // By hand, so that a crate that ends one calls this and proves no end of its own.
@@ -218,6 +227,10 @@ impl Drop for Refusal {
             Refusal::NoComponent { count: _count } => {}
             Refusal::DifferentEvents { number: _number } => {}
             Refusal::DifferentComponents {
+                component: _component,
+            } => {}
+            Refusal::NoSet => {}
+            Refusal::BoundLimit {
                 component: _component,
             } => {}
         }
@@ -298,6 +311,11 @@ pub enum Shortfall {
         /// Events after which it can.
         trace: Items<Bytes>,
     },
+    /// No order of the components bounds the hidden events (39).
+    NoOrder {
+        /// Those that have no place in it.
+        components: Items<u32>,
+    },
 }
 
 // By hand, so that a crate that ends one calls this and proves no end of its own.
@@ -343,6 +361,9 @@ impl Drop for Shortfall {
                 component: _component,
                 trace: _trace,
             } => {}
+            Shortfall::NoOrder {
+                components: _components,
+            } => {}
         }
     }
 }
@@ -362,6 +383,24 @@ impl Drop for PrintedNode {
             next: _next,
             accept: _accept,
         } = self;
+    }
+}
+
+/// A step of a run.
+pub enum PrintedMove {
+    /// A silent step of the component with this number.
+    Silent(u32),
+    /// An event.
+    Event(Bytes),
+}
+
+// By hand, so that a crate that ends one calls this and proves no end of its own.
+impl Drop for PrintedMove {
+    fn drop(self) {
+        match self {
+            PrintedMove::Silent(_component) => {}
+            PrintedMove::Event(_event) => {}
+        }
     }
 }
 
@@ -401,6 +440,18 @@ pub enum Done {
         /// The greatest number of silent steps of the network in a row.
         bound: u32,
     },
+    /// The network was run for as many steps as were asked for, and can go on.
+    Walked {
+        /// The steps.
+        moves: Items<PrintedMove>,
+    },
+    /// Hidden events of the network that follow one another are bounded.
+    LivelockFree {
+        /// How many components the network has.
+        components: u32,
+        /// At most so many steps in a row are silent or by a hidden event.
+        bound: u64,
+    },
 }
 
 // By hand, so that a crate that ends one calls this and proves no end of its own.
@@ -421,6 +472,11 @@ impl Drop for Done {
                 greatest_rank: _greatest_rank,
             } => {}
             Done::Conforms {
+                components: _components,
+                bound: _bound,
+            } => {}
+            Done::Walked { moves: _moves } => {}
+            Done::LivelockFree {
                 components: _components,
                 bound: _bound,
             } => {}
@@ -447,6 +503,8 @@ pub enum Answer {
     Refused(Side, Refusal),
     /// The network is not proved.
     NotProved(Shortfall),
+    /// The network ran into a state without a step, by these steps.
+    Stuck(Items<PrintedMove>),
     /// What was asked for is done.
     Done(Done),
 }
@@ -459,6 +517,7 @@ impl Drop for Answer {
             Answer::Outside(_side, _fault) => {}
             Answer::Refused(_side, _refusal) => {}
             Answer::NotProved(_first) => {}
+            Answer::Stuck(_moves) => {}
             Answer::Done(_first) => {}
         }
     }

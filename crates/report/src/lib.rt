@@ -7,12 +7,13 @@ mod lines;
 mod printed;
 mod refusals;
 pub mod reports;
+mod runs;
 mod shortfalls;
 mod stop;
 
 pub use answer::{
-    Answer, ComponentFault, Done, NameFault, NetworkFault, OutsideFault, PrintedNode, Refusal,
-    Shortfall, Side, Site,
+    Answer, ComponentFault, Done, NameFault, NetworkFault, OutsideFault, PrintedMove, PrintedNode,
+    Refusal, Shortfall, Side, Site,
 };
 pub use events::event_text;
 pub use printed::rule_name;

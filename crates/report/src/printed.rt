@@ -78,5 +78,6 @@ pub(crate) fn site(alloc: Global, site: Site) -> Result<Bytes, NoMemory>
                 Part::Number(u64::from(i)),
             ],
         ),
+        Site::HiddenSet => Bytes::from_slice(alloc, b" in the hidden set"),
     }
 }

@@ -271,5 +271,11 @@ pub(crate) fn refusal_line(alloc: Global, side: Side, refusal: &Refusal) -> Resu
         Refusal::DifferentComponents { component } => {
             numbered(alloc, b"42 components differ at ", *component)
         }
+        Refusal::NoSet => Bytes::from_slice(alloc, b"37 no such set"),
+        Refusal::BoundLimit { component } => numbered(
+            alloc,
+            b"38 hidden bound passes 64 bits at component ",
+            *component,
+        ),
     }
 }

@@ -6,26 +6,27 @@ ghost use Rattle.std.specs.Fmt.{decimal};
 ghost use Rattle.report.specs.Refusals.{refusal_text};
 ghost use Rattle.report.specs.Sides.{side_line};
 ghost use Rattle.report.specs.Shortfalls.{shortfall_text};
-ghost use Rattle.report.specs.Report.{accept_text, conforms_text, deadlock_free_text, done_text, next_text, node_text, nodes_text, outside_text, report_text, status, table_text};
+ghost use Rattle.report.specs.Report.{accept_text, conforms_text, deadlock_free_text, done_text, livelock_free_text, next_text, node_text, nodes_text, outside_text, report_text, status, table_text};
 ghost use Rattle.csp_base.specs.Texts.{line};
 
 use crate::answer::{Answer, Done, OutsideFault, PrintedNode, Refusal, Shortfall, Side};
 use crate::lines::{Part, push_line, written, written_line};
 use crate::printed::{rule_name, side_line, side_name};
 use crate::refusals::refusal_line;
+use crate::runs::run;
 use crate::shortfalls::shortfall_lines;
 use containers::Items;
 use csp_base::{Bytes, NoMemory};
 use csp_tables::Rule;
 use std::alloc::Global;
 
-/// The exit status of an answer: 0 done, 1 not proved, 2 refused, 3 no command, 4 a fault outside.
+/// The exit status of an answer: 0 done, 1 not proved or stuck, 2 refused, 3 no command, 4 a fault outside.
 pub fn status_of(answer: &Answer) -> u8
     ensures { result ≡ status answer.now }
 {
     match answer {
         Answer::Done(_) => 0,
-        Answer::NotProved(_) => 1,
+        Answer::NotProved(_) | Answer::Stuck(_) => 1,
         Answer::Refused(_, _) => 2,
         Answer::Usage => 3,
         Answer::Outside(_, _) => 4,
@@ -43,7 +44,7 @@ fn one_line(alloc: Global, text: &[u8]) -> Result<Bytes, NoMemory>
 fn push_step(
     alloc: Global,
     report: &mut Bytes,
-    node: u32,
+    node: u64,
     step: &(Bytes, u32),
 ) -> Result<(), NoMemory>
     ensures { OnOk result (report.new ≡ report.old ++ next_text node step.now) }
@@ -52,7 +53,7 @@ fn push_step(
         alloc,
         report,
         &[
-            Part::Number(u64::from(node)),
+            Part::Number(node),
             Part::Text(b" "),
             Part::Text(step.0.as_slice()),
             Part::Text(b" -> "),
@@ -65,7 +66,7 @@ fn push_step(
 fn push_offer(
     alloc: Global,
     report: &mut Bytes,
-    node: u32,
+    node: u64,
     events: &Items<Bytes>,
 ) -> Result<(), NoMemory>
     ensures { OnOk result (report.new ≡ report.old ++ accept_text node events.now) }
@@ -74,7 +75,7 @@ fn push_offer(
         alloc,
         report,
         &[
-            Part::Number(u64::from(node)),
+            Part::Number(node),
             Part::Text(b" accepts "),
             Part::Set(events.as_slice()),
         ],
@@ -85,7 +86,7 @@ fn push_offer(
 fn push_next(
     alloc: Global,
     report: &mut Bytes,
-    node: u32,
+    node: u64,
     steps: &[(Bytes, u32)],
 ) -> Result<(), NoMemory>
     ensures { OnOk result (report.new ≡ report.old ++ flat_map (next_text node) steps.now) }
@@ -100,7 +101,7 @@ fn push_next(
 fn push_accept(
     alloc: Global,
     report: &mut Bytes,
-    node: u32,
+    node: u64,
     sets: &[Items<Bytes>],
 ) -> Result<(), NoMemory>
     ensures { OnOk result (report.new ≡ report.old ++ flat_map (accept_text node) sets.now) }
@@ -115,7 +116,7 @@ fn push_accept(
 fn push_node(
     alloc: Global,
     report: &mut Bytes,
-    number: u32,
+    number: u64,
     node: &PrintedNode,
 ) -> Result<(), NoMemory>
     ensures { OnOk result (report.new ≡ report.old ++ node_text number node.now) }
@@ -124,24 +125,12 @@ fn push_node(
     push_accept(alloc, report, number, node.accept.as_slice())
 }
 
-// The number after this one, which is refused like want of memory where its type has none.
-fn next_number(number: u32) -> Result<u32, NoMemory>
-    ensures { IfOk result (λ next. next ≡ number + 1) }
-{
-    match number.checked_add(1) {
-        Some(next) => Ok(next),
-        None => Err(NoMemory),
-    }
-}
-
 // Adds the lines of nodes.
 fn push_nodes(alloc: Global, report: &mut Bytes, nodes: &[PrintedNode]) -> Result<(), NoMemory>
     ensures { OnOk result (report.new ≡ report.old ++ nodes_text 0 nodes.now) }
 {
-    let mut number: u32 = 0;
-    for node in nodes {
-        push_node(alloc, report, number, node)?;
-        number = next_number(number)?;
+    for (number, node) in nodes.iter().enumerate() {
+        push_node(alloc, report, number as u64, node)?;
     }
     Ok(())
 }
@@ -223,6 +212,22 @@ fn conforms(alloc: Global, components: u32, bound: u32) -> Result<Bytes, NoMemor
     Ok(made)
 }
 
+// The report of a network whose hidden events are bounded.
+fn livelock_free(alloc: Global, components: u32, bound: u64) -> Result<Bytes, NoMemory>
+    ensures { IfOk result (λ made. made ≡ livelock_free_text components bound) }
+{
+    let made = written_line(
+        alloc,
+        &[
+            Part::Text(b"livelock-free\ncomponents "),
+            Part::Number(u64::from(components)),
+            Part::Text(b"\nhidden bound "),
+            Part::Number(bound),
+        ],
+    )?;
+    Ok(made)
+}
+
 // The report where the text of this side is refused.
 fn refused(alloc: Global, side: Side, refusal: &Refusal) -> Result<Bytes, NoMemory>
     ensures { IfOk result (λ made. made ≡ line (codes "refused") ++ side_line side ++ line (refusal_text side refusal.now)) }
@@ -292,6 +297,8 @@ fn done(alloc: Global, done: &Done) -> Result<Bytes, NoMemory>
             greatest_rank,
         } => deadlock_free(alloc, *rule, *components, *nodes, *bound, *greatest_rank),
         Done::Conforms { components, bound } => conforms(alloc, *components, *bound),
+        Done::Walked { moves } => run(alloc, moves.as_slice(), b"goes on"),
+        Done::LivelockFree { components, bound } => livelock_free(alloc, *components, *bound),
     }
 }
 
@@ -302,11 +309,12 @@ pub fn report_of(alloc: Global, answer: &Answer) -> Result<Bytes, NoMemory>
     match answer {
         Answer::Usage => one_line(
             alloc,
-            b"usage: dlcheck check RULE SCRIPT | show SCRIPT | table SCRIPT INDEX | trial FAMILY N | conform SCRIPT SPEC",
+            b"usage: dlcheck check RULE SCRIPT | show SCRIPT | table SCRIPT INDEX | trial FAMILY N | run SCRIPT SEED STEPS | livelock SCRIPT SET | conform SCRIPT SPEC",
         ),
         Answer::Outside(side, fault) => outside(alloc, *side, *fault),
         Answer::Refused(side, refusal) => refused(alloc, *side, refusal),
         Answer::NotProved(shortfall) => not_proved(alloc, shortfall),
+        Answer::Stuck(moves) => run(alloc, moves.as_slice(), b"stuck"),
         Answer::Done(what) => done(alloc, what),
     }
 }

@@ -14,7 +14,7 @@ use design_rules::Condition;
 use std::alloc::Global;
 
 // A line of a text and numbers.
-fn circle<'a>(alloc: Global, text: &'a [u8], components: &'a [u32]) -> Result<Bytes, NoMemory>
+fn listed<'a>(alloc: Global, text: &'a [u8], components: &'a [u32]) -> Result<Bytes, NoMemory>
     ensures { IfOk result (λ made. made ≡ line (text.now ++ numbers_text components.now)) }
 {
     written_line(alloc, &[Part::Text(text), Part::Numbers(components)])
@@ -281,10 +281,10 @@ pub(crate) fn shortfall_lines(alloc: Global, shortfall: &Shortfall) -> Result<By
             trace,
         } => broken(alloc, *condition, *component, trace.as_slice()),
         Shortfall::ClientsCircle { components } => {
-            circle(alloc, b"27 clients in a circle", components.as_slice())
+            listed(alloc, b"27 clients in a circle", components.as_slice())
         }
         Shortfall::ResourcesCircle { components } => {
-            circle(alloc, b"29 resources in a circle", components.as_slice())
+            listed(alloc, b"29 resources in a circle", components.as_slice())
         }
         Shortfall::Outside { component, trace } => outside(alloc, *component, trace.as_slice()),
         Shortfall::Refuses { component, trace } => after(
@@ -293,6 +293,11 @@ pub(crate) fn shortfall_lines(alloc: Global, shortfall: &Shortfall) -> Result<By
             *component,
             b" refuses too much after ",
             trace.as_slice(),
+        ),
+        Shortfall::NoOrder { components } => listed(
+            alloc,
+            b"39 no order for components",
+            components.as_slice(),
         ),
     }
 }

@@ -3,7 +3,4 @@ use Rattle.report.specs.Report.{nodes_text}
 use Rattle.report.proofs.reports.push_nodes.Given as goal
 
 abbrev pub invariant-loop-node : goal.invariant-loop-node
-invariant-loop-node l = record {
-  number : l.number ≡ l.node-index;
-  text : l.report ≡ l.fn.report ++ nodes_text 0 (take l.node-index l.nodes);
-}
+invariant-loop-node l = l.report ≡ l.fn.report ++ nodes_text 0 (take l.node-index l.nodes)
