@@ -1,5 +1,5 @@
 -- Marks: for each number below a bound whether it is marked. The marked numbers in rising order.
-use Rattle.std.specs.Prelude.{ℕ, ◌+◌, Bool, true, false, List, [], ◌∷◌, length}
+use Rattle.std.specs.Prelude.{ℕ, ◌+◌, Bool, true, false, List, [], ◌∷◌}
 
 -- the places of the marks, of which the first has the place k
 abbrev pub places_from : ℕ → List Bool → List ℕ

@@ -1,19 +1,19 @@
 -- The order and its end, as a call tells them.
-use Rattle.std.proofs.Common.{◌≡◌, ◌⊎◌, ◌≢◌, ℕ, zero, suc, ◌+◌, ◌<◌, ◌≤◌, Bool, true, false, ◌&&◌, IsTrue, Result, IfErr, List, [], ◌∷◌, ◌++◌, Some, None, slice_get, length, take, drop, get_or, replicate, refl, sym, ap, subst, ◌∙◌, arith, inl, inr}
+use Rattle.std.proofs.Common.{◌≡◌, ◌⊎◌, ◌≢◌, ℕ, zero, suc, ◌+◌, ◌<◌, Bool, true, false, ◌&&◌, IsTrue, Result, IfErr, List, [], ◌∷◌, ◌++◌, length, take, drop, replicate, refl, sym, ap, subst, ◌∙◌, arith, inl, inr}
 use Rattle.std.specs.Prelude.{◌↔◌}
 use Rattle.std.specs.Result.{IsErrAnd}
 use Rattle.std.proofs.lemmas.Result.{err_from_is_err_and}
-use Rattle.std.proofs.lemmas.Bool.{cases_Bool, false≢true}
+use Rattle.std.proofs.lemmas.Bool.{false≢true}
 use Rattle.std.proofs.lemmas.List.{length-replicate, take-append-le, take_all}
 use Rattle.csp_base.specs.Members.{has}
 use Rattle.csp_base.proofs.Listed.{has_first}
 use Rattle.std.proofs.lemmas.Option.{none-some, slice_get_within}
 use Rattle.csp_tables.specs.Label.{Label}
 use Rattle.csp_tables.specs.Network.{Component}
-use Rattle.hidden_steps.specs.Order.{AllAreTaken, AreTaken, GoesRound, IsAmong, Taken, hidden_bound}
+use Rattle.hidden_steps.specs.Order.{AreTaken, IsAmong, Taken, hidden_bound}
 use Rattle.own_graphs.specs.Exact.{AreOpen}
-use Rattle.hidden_bounds.specs.Found.{HasNoOrder, IsBound, PassesAt, PassesLimit, TellsLoop}
-use Rattle.hidden_bounds.specs.Standings.{AreKnown, IsSoFar, IsTakenAll, IsTakenFar, left_from, standing_at}
+use Rattle.hidden_bounds.specs.Found.{HasNoOrder, IsBound, TellsLoop}
+use Rattle.hidden_bounds.specs.Standings.{IsSoFar, IsTakenAll, IsTakenFar, left_from, standing_at}
 use Rattle.hidden_bounds.specs.Sums.{TellsSum}
 use Rattle.hidden_bounds.specs.Taking.{IsOrder, taken_in}
 use Rattle.hidden_bounds.specs.declared.bounding.HiddenBound.{HiddenBound}

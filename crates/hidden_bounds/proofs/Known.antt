@@ -1,18 +1,18 @@
 -- What is known of components, after one more is known to go round or is taken.
-use Rattle.std.proofs.Common.{◌≡◌, ◌⊎◌, ◌≢◌, ℕ, zero, suc, ◌+◌, ◌<◌, ◌≤◌, Bool, true, false, ◌&&◌, ◌||◌, not, IsTrue, List, [], ◌∷◌, ◌++◌, Some, None, slice_get, length, get_or, refl, sym, ap, ap₂, subst, ◌∙◌, arith, inl, inr}
+use Rattle.std.proofs.Common.{◌≡◌, ◌⊎◌, ◌≢◌, ℕ, zero, suc, ◌+◌, ◌<◌, ◌≤◌, Bool, true, false, ◌&&◌, ◌||◌, not, List, [], ◌∷◌, ◌++◌, Some, slice_get, length, refl, sym, ap, subst, ◌∙◌, arith, inl, inr}
 use Rattle.std.proofs.Math.ListN.{set}
-use Rattle.std.proofs.lemmas.Bool.{cases_Bool, cases_eq, false≢true}
+use Rattle.std.proofs.lemmas.Bool.{cases_eq}
 use Rattle.std.proofs.lemmas.List.{get_or-set_same, get_or-set_other, length-set}
 use Rattle.std.proofs.lemmas.Option.{same_Some, slice_get_within}
 use Rattle.csp_base.specs.Events.{diff_of, inter_of, meets_of}
 use Rattle.csp_base.specs.Members.{has}
 use Rattle.csp_base.proofs.SetLaws.{has-diff_of}
-use Rattle.csp_base.proofs.Lists.{push_cases, slice_get_some}
+use Rattle.csp_base.proofs.Lists.{push_cases}
 use Rattle.csp_tables.specs.Label.{Label}
 use Rattle.csp_tables.specs.Network.{Component}
-use Rattle.hidden_steps.specs.Order.{AreTaken, GoesRound, IsAmong, IsHeight, IsNext, Taken, is_passed, shared_bounds}
+use Rattle.hidden_steps.specs.Order.{AreTaken, GoesRound, IsAmong, IsNext, Taken, is_passed}
 use Rattle.own_graphs.specs.Exact.{AreOpen}
-use Rattle.hidden_bounds.specs.Standings.{AreKnown, AreReopened, IsFreeHere, IsLeastFree, IsSoFar, StayKnown, is_taken, one_waiting, reopened_to, standing_at, waiting}
+use Rattle.hidden_bounds.specs.Standings.{AreKnown, AreReopened, IsLeastFree, IsSoFar, StayKnown, one_waiting, reopened_to, standing_at, waiting}
 use Rattle.hidden_bounds.specs.Taking.{alphabet_at, alphabet_of, placed_after, taken_in}
 use Rattle.hidden_bounds.specs.declared.ordering.Placed.{Placed}
 use Rattle.hidden_bounds.specs.declared.standings.Standing.{Standing}

@@ -1,15 +1,15 @@
 -- The bounds of components one after another, and their sums.
-use Rattle.std.proofs.Common.{◌≡◌, ℕ, zero, suc, ◌+◌, ◌-◌, ◌*◌, ◌^◌, ◌<◌, ◌≤◌, Bool, true, false, if◌then◌else◌, List, [], ◌∷◌, ◌++◌, Some, slice_get, length, take, get_or, add-one, IfNone, IfSome, Option, None, refl, sym, ap, ap₂, subst, ◌∙◌, arith, inl, inr}
+use Rattle.std.proofs.Common.{◌≡◌, ℕ, zero, suc, ◌+◌, ◌-◌, ◌^◌, ◌<◌, ◌≤◌, Bool, true, false, if◌then◌else◌, List, [], ◌∷◌, ◌++◌, Some, slice_get, length, take, get_or, IfNone, IfSome, Option, None, refl, sym, ap, ap₂, subst, ◌∙◌, arith, inl, inr}
 use Rattle.std.proofs.lemmas.Bool.{cases_lt}
 use Rattle.std.proofs.lemmas.List.{get_or_append_left, get_or_push, length_push, take_all}
-use Rattle.std.proofs.lemmas.Option.{same_Some, slice_get-get_or, slice_get_within}
+use Rattle.std.proofs.lemmas.Option.{same_Some, slice_get-get_or}
 use Rattle.csp_base.specs.Events.{inter_of, meets_of}
 use Rattle.csp_base.proofs.Lists.{slice_get_some}
 use Rattle.csp_tables.specs.Network.{Component}
 use Rattle.hidden_steps.specs.Order.{Taken, hidden_bound, share_hidden, shared_bounds}
 use Rattle.hidden_bounds.specs.Found.{PassesAt}
 use Rattle.hidden_bounds.specs.Sums.{AreBounds, IsNextSum, bound_at, sum_before}
-use Rattle.hidden_bounds.specs.Taking.{AreWithin, alphabet_at, placed_after, taken_in}
+use Rattle.hidden_bounds.specs.Taking.{AreWithin, alphabet_at, taken_in}
 use Rattle.hidden_bounds.specs.declared.ordering.Placed.{Placed}
 use Rattle.hidden_bounds.proofs.Taken.{next_taken, shares_of}
 

@@ -1,7 +1,6 @@
 -- Components that are taken one after another: one more, and what stays as it was.
-use Rattle.std.proofs.Common.{◌≡◌, ◌⊎◌, ◌≢◌, ℕ, zero, suc, ◌+◌, ◌*◌, ◌<◌, ◌≤◌, Bool, true, false, ◌&&◌, ◌||◌, not, nat_eq, IsTrue, if◌then◌else◌, List, [], ◌∷◌, ◌++◌, Some, None, slice_get, length, take, get_or, add-one, refl, sym, ap, ap₂, subst, ◌∙◌, arith, inl, inr}
+use Rattle.std.proofs.Common.{◌≡◌, ◌≢◌, ℕ, zero, suc, ◌+◌, ◌<◌, true, false, ◌&&◌, List, [], ◌∷◌, ◌++◌, length, take, get_or, add-one, refl, sym, ap, ap₂, ◌∙◌, inl, inr}
 use Rattle.std.specs.Cmp.{first_so, second_so}
-use Rattle.std.specs.List.{fold, list_any}
 use Rattle.std.proofs.Math.Seq.{take-suc}
 use Rattle.std.proofs.lemmas.Bool.{cases_Bool, false≢true, or_from}
 use Rattle.std.proofs.lemmas.List.Sums.{fold_push}
@@ -13,12 +12,12 @@ use Rattle.csp_base.proofs.Rising.{meets_of_from_member}
 use Rattle.csp_base.proofs.SetLaws.{has-inter_of}
 use Rattle.csp_tables.specs.Label.{Label}
 use Rattle.csp_tables.specs.Label.Label.{silent, visible}
-use Rattle.csp_tables.specs.Network.{Component, ComponentStep}
+use Rattle.csp_tables.specs.Network.{Component}
 use Rattle.digraph.specs.Walk.{Walk}
-use Rattle.hidden_steps.specs.Order.{GoesRound, OwnEvent, OwnStep, Taken, hidden_bound, is_passed, share_hidden, shared_bounds}
+use Rattle.hidden_steps.specs.Order.{GoesRound, OwnStep, Taken, is_passed, share_hidden}
 use Rattle.net_sound.proofs.FlatLists.{step_alphabet}
 use Rattle.net_sound.proofs.Soundness.{path_alphabet}
-use Rattle.hidden_bounds.specs.Taking.{alphabet_at, alphabet_of, placed_after, taken_in, with_placed}
+use Rattle.hidden_bounds.specs.Taking.{placed_after, taken_in, with_placed}
 use Rattle.hidden_bounds.specs.declared.ordering.Placed.{Placed}
 
 -- ---- one more

@@ -1,5 +1,5 @@
 -- The bounds of components one after another, and their sums. (For private contracts.)
-use Rattle.std.specs.Prelude.{◌≡◌, ◌+◌, ◌<◌, ◌≤◌, ◌^◌, ℕ, Some, List, length, slice_get, slice_index, take}
+use Rattle.std.specs.Prelude.{◌≡◌, ◌+◌, ◌<◌, ℕ, Some, List, length, slice_get, slice_index, take}
 use Rattle.csp_tables.specs.Network.{Component}
 use Rattle.hidden_steps.specs.Order.{hidden_bound}
 use Rattle.hidden_bounds.specs.Found.{PassesAt}

@@ -1,12 +1,11 @@
 -- What is counted of events, while components offer more or fewer.
-use Rattle.std.proofs.Common.{◌≡◌, ℕ, zero, suc, ◌+◌, ◌-◌, ◌<◌, ◌≤◌, ◌⊎◌, inl, inr, Bool, true, false, ◌&&◌, not, nat_eq, IsTrue, List, [], ◌∷◌, ◌++◌, length, map, replicate, take, set, get_or, refl, sym, ap, subst, ◌∙◌, add-one, arith}
-use Rattle.std.proofs.lemmas.Bool.{cases_eq, cases_lt, eq-eqb, ne_eqb}
-use Rattle.std.proofs.lemmas.List.{get_or-set_other, get_or-set_same, length-set}
+use Rattle.std.proofs.Common.{◌≡◌, ℕ, zero, suc, ◌+◌, ◌-◌, ◌<◌, ◌≤◌, inl, inr, Bool, false, nat_eq, List, [], ◌∷◌, length, replicate, take, set, get_or, refl, sym, ap, subst, ◌∙◌, arith}
+use Rattle.std.proofs.lemmas.Bool.{cases_eq, eq-eqb, ne_eqb}
+use Rattle.std.proofs.lemmas.List.{get_or-set_other, get_or-set_same}
 use Rattle.numbered_walks.proofs.Choosing.{one_here, steps_more, steps_within}
 use Rattle.numbered_walks.proofs.Owning.{none_at}
-use Rattle.numbered_walks.specs.Agreements.{IsAgreement, is_agreed}
+use Rattle.numbered_walks.specs.Agreements.{is_agreed}
 use Rattle.numbered_walks.specs.Choices.{bit, steps_by}
-use Rattle.numbered_walks.specs.declared.agreement.Agreement.{Agreement}
 
 -- what is not 0 is within
 pub some_within : (xs : List ℕ) (i : ℕ) → 1 ≤ get_or xs i 0 → i < length xs

@@ -1,5 +1,5 @@
 -- A walk over some states is one over others, where these have the same options and take them alike.
-use Rattle.std.proofs.Common.{◌≡◌, ◌↔◌, ◌⊎◌, ◌<◌, inl, inr, ℕ, Bool, IsTrue, List, [], ◌∷◌, length, refl, subst}
+use Rattle.std.proofs.Common.{◌↔◌, inl, inr, ℕ, Bool, List, [], ◌∷◌, refl, subst}
 use Rattle.numbered_walks.specs.Numbers.{next_number}
 use Rattle.numbered_walks.specs.Walks.{Chooses, HasNone, IsWalk, IsWalkOf}
 use Rattle.numbered_walks.specs.declared.moves.Move.{Move}

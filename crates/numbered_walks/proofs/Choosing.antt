@@ -1,12 +1,10 @@
 -- One step of a term by each of its events.
-use Rattle.std.proofs.Common.{◌≡◌, ◌↔◌, ℕ, zero, suc, ◌+◌, ◌<◌, ◌≤◌, ◌⊎◌, inl, inr, Bool, true, false, ◌&&◌, ◌||◌, nat_eq, IsTrue, List, [], ◌∷◌, ◌++◌, length, take, get_or, refl, sym, ap, subst, ◌∙◌, add-one, arith, Option, Some, None}
-use Rattle.std.specs.List.{list_any}
-use Rattle.std.specs.Cmp.{first_so, second_so}
-use Rattle.std.proofs.lemmas.Bool.{cases_Bool, cases_eq, eq-eqb, eqb-true, false≢true, ne_eqb, or_cases, or_left, or_right}
-use Rattle.std.proofs.lemmas.List.{get_or_default}
+use Rattle.std.proofs.Common.{◌≡◌, ℕ, zero, suc, ◌+◌, ◌<◌, ◌≤◌, ◌⊎◌, inl, inr, Bool, true, false, ◌&&◌, ◌||◌, nat_eq, IsTrue, List, [], ◌∷◌, ◌++◌, length, take, get_or, refl, sym, ap, subst, ◌∙◌, arith}
+use Rattle.std.specs.Cmp.{first_so}
+use Rattle.std.proofs.lemmas.Bool.{cases_eq, eq-eqb, eqb-true, false≢true, ne_eqb, or_cases, or_left, or_right}
 use Rattle.std.proofs.lemmas.List.Folds.{list_any-append, list_any_at, list_any_more}
-use Rattle.acceptances.proofs.Terms.{offers_by_test, test_by_offers, test_by_stable, unstable_by_step}
-use Rattle.acceptances.specs.OfferTests.{can_do, is_unstable}
+use Rattle.acceptances.proofs.Terms.{offers_by_test, test_by_offers}
+use Rattle.acceptances.specs.OfferTests.{can_do}
 use Rattle.csp_base.proofs.Booleans.{or_none, same_tests}
 use Rattle.csp_base.proofs.Listed.{has_first, same_number}
 use Rattle.csp_base.proofs.Lists.{take_read}
@@ -21,8 +19,7 @@ use Rattle.digraph.specs.Digraph.{Digraph, targets_of}
 use Rattle.tau_order.proofs.SilentWalks.{arc_of, step_of}
 use Rattle.tau_order.specs.SilentRows.{AreSilentRows}
 use Rattle.term_sets.specs.Moves.{AreMovesOf, has_event, has_move}
-use Rattle.numbered_walks.specs.Choices.{AreChoices, AreChoicesOf, bit, steps_by}
-use Rattle.numbered_walks.specs.Numbered.{Can, Numbered}
+use Rattle.numbered_walks.specs.Choices.{AreChoicesOf, bit, steps_by}
 
 pub steps_push : (e : ℕ) (row : List (ℕ × ℕ)) (s : ℕ × ℕ) → steps_by e (row ++ s ∷ []) ≡ steps_by e row + bit (nat_eq e s.0)
 steps_push e [] s = omega arith

@@ -1,5 +1,5 @@
 -- A walk with one more step at its end.
-use Rattle.std.proofs.Common.{◌≡◌, ℕ, List, [], ◌∷◌, ◌++◌, refl, sym, ap, subst, ◌∙◌}
+use Rattle.std.proofs.Common.{◌≡◌, ℕ, List, [], ◌∷◌, ◌++◌, refl, sym, subst}
 use Rattle.numbered_walks.specs.Numbers.{next_number}
 use Rattle.numbered_walks.specs.Steps.{number_after}
 use Rattle.numbered_walks.specs.Walks.{Chooses, IsWalk}

@@ -1,16 +1,13 @@
 -- How many components offer an event, and when all of its owners do.
-use Rattle.std.proofs.Common.{◌≡◌, ◌↔◌, ℕ, zero, suc, ◌+◌, ◌<◌, ◌≤◌, ◌⊎◌, inl, inr, Bool, true, false, ◌&&◌, not, nat_eq, IsTrue, List, [], ◌∷◌, ◌++◌, length, map, take, set, get_or, slice_get, Some, refl, sym, ap, subst, ◌∙◌, add-one, arith}
+use Rattle.std.proofs.Common.{◌≡◌, ℕ, zero, suc, ◌+◌, ◌<◌, ◌≤◌, inl, inr, Bool, true, false, not, nat_eq, IsTrue, List, [], ◌∷◌, length, take, set, get_or, refl, sym, ap, ◌∙◌, add-one, arith}
 use Rattle.std.specs.Cmp.{first_so, second_so}
-use Rattle.std.specs.List.{list_any}
-use Rattle.std.proofs.lemmas.Bool.{cases_Bool, cases_eq, eq-eqb, eqb-true, false≢true, ne_eqb, or_cases, or_left, or_right}
+use Rattle.std.proofs.lemmas.Bool.{cases_Bool, eq-eqb, eqb-true, false≢true, ne_eqb, or_cases, or_left, or_right}
 use Rattle.acceptances.proofs.Terms.{offers_by_test, test_by_offers}
 use Rattle.acceptances.specs.OfferTests.{can_do}
 use Rattle.csp_base.specs.Members.{has}
-use Rattle.csp_tables.specs.Label.Label.{visible}
-use Rattle.csp_tables.specs.RawTable.{RawStep, RawTable}
 use Rattle.numbered_walks.specs.Agreements.{component_at, is_agreed, offer_count, owner_count}
 use Rattle.numbered_walks.specs.Choices.{bit}
-use Rattle.numbered_walks.specs.Numbered.{AllCan, Can, Numbered, OwnsItsSteps, first_terms, has_owner}
+use Rattle.numbered_walks.specs.Numbered.{AllCan, Numbered, OwnsItsSteps, first_terms, has_owner}
 
 bit_most : (b : Bool) → bit b ≤ 1
 bit_most true = omega arith

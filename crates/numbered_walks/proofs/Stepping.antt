@@ -1,13 +1,12 @@
 -- Components that move, one after another.
-use Rattle.std.proofs.Common.{◌≡◌, ◌↔◌, ℕ, zero, suc, ◌+◌, ◌<◌, ◌≤◌, ◌⊎◌, inl, inr, Bool, true, false, ◌||◌, nat_eq, IsTrue, MatchBool, List, [], ◌∷◌, ◌++◌, length, replicate, take, set, get_or, slice_get, Some, refl, sym, ap, subst, ◌∙◌, add-one, arith}
-use Rattle.std.specs.List.{list_any}
+use Rattle.std.proofs.Common.{◌≡◌, ◌↔◌, ℕ, zero, suc, ◌+◌, ◌<◌, ◌≤◌, inl, inr, Bool, true, false, ◌||◌, nat_eq, IsTrue, MatchBool, List, [], ◌∷◌, length, replicate, take, set, get_or, slice_get, Some, refl, sym, ap, subst, ◌∙◌, arith}
 use Rattle.std.proofs.lemmas.Bool.{cases_Bool, cases_eq, eq-eqb, eqb-true, false≢true, ne_eqb, or_cases, or_left, or_right}
 use Rattle.std.proofs.lemmas.List.{get_or-set_other, get_or-set_same, length-replicate, length-set}
 use Rattle.std.proofs.lemmas.List.Folds.{list_any_more}
 use Rattle.std.proofs.lemmas.Option.{none-some, same_Some}
 use Rattle.acceptances.proofs.Terms.{offers_by_test, unstable_by_step}
 use Rattle.acceptances.specs.OfferTests.{can_do, is_unstable}
-use Rattle.counted_marks.proofs.Places.{is_marked, marked_is, place_of_mark, places_rise}
+use Rattle.counted_marks.proofs.Places.{marked_is, place_of_mark, places_rise}
 use Rattle.counted_marks.specs.Marks.{marked, places_from}
 use Rattle.csp_base.proofs.Booleans.{same_tests}
 use Rattle.csp_base.specs.Members.{has}
@@ -19,10 +18,9 @@ use Rattle.numbered_walks.proofs.Owning.{none_at}
 use Rattle.numbered_walks.proofs.Offering.{agreed_can, at_most_all, can_agreed, count_set, front_most, one_first, one_of_all, owner_counts}
 use Rattle.numbered_walks.specs.Agreements.{AreOwnerRows, IsAgreement, IsStanding, component_at, is_agreed, offer_count, owner_count, owner_marks}
 use Rattle.numbered_walks.specs.Choices.{AreChoicesOf, bit, steps_by}
-use Rattle.numbered_walks.specs.Numbered.{AllCan, AllDo, Can, Has, Numbered, OneCan, OneDoes, OwnsItsSteps, Takes, first_terms, has_owner}
+use Rattle.numbered_walks.specs.Numbered.{AllCan, AllDo, Can, Has, Numbered, OneCan, OneDoes, OwnsItsSteps, first_terms, has_owner}
 use Rattle.numbered_walks.specs.Steps.{Does}
 use Rattle.numbered_walks.specs.declared.agreement.Agreement.{Agreement}
-use Rattle.numbered_walks.specs.declared.moves.Move.{Move}
 use Rattle.numbered_walks.specs.declared.moves.Move.TheVariants as move
 use Rattle.numbered_walks.specs.declared.standing.Standing.{Standing}
 

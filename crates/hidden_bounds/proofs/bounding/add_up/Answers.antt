@@ -1,7 +1,5 @@
-use Rattle.std.proofs.Common.{◌≡◌, ◌<◌, List, [], length, ap, sym, arith, ◌∙◌}
-use Rattle.std.proofs.lemmas.Option.{slice_get-get_or}
+use Rattle.std.proofs.Common.{◌≡◌, length, ap, sym, arith}
 use Rattle.hidden_steps.specs.Order.{hidden_bound}
-use Rattle.hidden_bounds.proofs.Sums.{bounds_further, sum_further, whole_sum}
 use Rattle.hidden_bounds.proofs.Taken.{none_taken}
 use Rattle.hidden_bounds.proofs.bounding.add_up.Goals as goal
 

@@ -1,4 +1,4 @@
-use Rattle.std.proofs.Common.{◌≡◌, ◌+◌, ◌<◌, ◌≤◌, length, take, ap, refl, sym, arith, ◌∙◌}
+use Rattle.std.proofs.Common.{◌≡◌, ◌+◌, ◌<◌, ◌≤◌, length, take, ap, refl, sym, arith}
 use Rattle.hidden_steps.specs.Order.{shared_bounds}
 use Rattle.hidden_bounds.specs.Sums.{sum_before}
 use Rattle.hidden_bounds.specs.Taking.{alphabet_at, taken_in}

@@ -1,4 +1,4 @@
-use Rattle.std.proofs.Common.{◌<◌, ℕ, List, length, sym, ap, subst, ◌∙◌, arith}
+use Rattle.std.proofs.Common.{◌<◌, ℕ, List, length, sym, subst, ◌∙◌, arith}
 use Rattle.numbered_walks.proofs.Agreeing.{here_within, offered_more, room_left}
 use Rattle.numbered_walks.proofs.agreement.offer_all.Goals as goal
 

@@ -1,4 +1,4 @@
-use Rattle.std.proofs.Common.{◌≡◌, sym, ◌∙◌}
+use Rattle.std.proofs.Common.{sym, ◌∙◌}
 use Rattle.numbered_walks.proofs.Choosing.{added_once, seen_now}
 use Rattle.numbered_walks.proofs.choices.add_new.Goals as goal
 

@@ -1,4 +1,4 @@
-use Rattle.std.proofs.Common.{◌≡◌, ◌+◌, ap, subst, ◌∙◌, length}
+use Rattle.std.proofs.Common.{◌+◌, ap, subst, ◌∙◌, length}
 use Rattle.std.proofs.lemmas.List.{length_push}
 use Rattle.csp_tables.specs.RawTable.{RawTable}
 use Rattle.numbered_walks.proofs.Choosing.{choices_more}

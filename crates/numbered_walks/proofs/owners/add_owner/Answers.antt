@@ -1,4 +1,4 @@
-use Rattle.std.proofs.Common.{ℕ, List, ◌∷◌, sym, ap, ◌∙◌}
+use Rattle.std.proofs.Common.{ℕ, ◌∷◌, sym, ap, ◌∙◌}
 use Rattle.numbered_walks.proofs.Owning.{all_added, none_added, one_added, place_within}
 use Rattle.numbered_walks.proofs.owners.add_owner.Goals as goal
 

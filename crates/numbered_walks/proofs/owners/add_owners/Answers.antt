@@ -1,4 +1,4 @@
-use Rattle.std.proofs.Common.{◌<◌, ℕ, List, ◌++◌, [], get_or, length, sym, ap, subst, ◌∙◌}
+use Rattle.std.proofs.Common.{◌<◌, ℕ, List, ◌++◌, [], get_or, sym, ap, subst, ◌∙◌}
 use Rattle.csp_base.specs.Members.{has}
 use Rattle.numbered_walks.proofs.Owning.{owned, owner_among, owners_more}
 use Rattle.numbered_walks.proofs.owners.add_owners.Goals as goal

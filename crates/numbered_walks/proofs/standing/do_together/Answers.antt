@@ -1,9 +1,9 @@
-use Rattle.std.proofs.Common.{◌≡◌, ◌<◌, ℕ, Bool, List, get_or, length, MatchBool, refl, sym, ap, subst, ◌∙◌, arith}
+use Rattle.std.proofs.Common.{◌≡◌, ◌<◌, ℕ, Bool, List, get_or, length, MatchBool, refl, sym, ap, subst, ◌∙◌}
 use Rattle.std.proofs.lemmas.List.{take_all}
 use Rattle.csp_base.specs.Members.{has}
 use Rattle.csp_tables.specs.Label.Label.{visible}
 use Rattle.csp_tables.specs.RawTable.{RawStep}
-use Rattle.numbered_walks.proofs.Stepping.{all_done, none_done, one_done, owner_can, owner_has, owner_within, owners_have, owners_rise, still_there}
+use Rattle.numbered_walks.proofs.Stepping.{all_done, one_done, owner_can, owner_has, owner_within, owners_have, owners_rise, still_there}
 use Rattle.numbered_walks.specs.Agreements.{component_at}
 use Rattle.numbered_walks.specs.Numbered.{Can}
 use Rattle.numbered_walks.proofs.standing.do_together.Goals as goal

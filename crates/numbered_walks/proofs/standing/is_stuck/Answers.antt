@@ -1,6 +1,5 @@
-use Rattle.std.proofs.Common.{◌≡◌, ◌+◌, ℕ, sym, ◌∙◌, arith}
+use Rattle.std.proofs.Common.{arith}
 use Rattle.std.proofs.lemmas.Bool.{eq-eqb, eqb-true}
-use Rattle.counted_marks.specs.Marks.{mark_count}
 use Rattle.numbered_walks.proofs.Optioning.{counted_none, none_counted, option_count}
 use Rattle.numbered_walks.proofs.Stepping.{event_marks, silent_marks}
 use Rattle.numbered_walks.specs.Numbered.{Has}

@@ -1,4 +1,4 @@
-use Rattle.std.proofs.Common.{◌≡◌, ◌+◌, ℕ, List, Bool, length, sym, ap, ◌∙◌, arith}
+use Rattle.std.proofs.Common.{◌≡◌, ap, ◌∙◌, arith}
 use Rattle.counted_marks.specs.Marks.{mark_count}
 use Rattle.numbered_walks.proofs.Optioning.{option_count}
 use Rattle.numbered_walks.proofs.standing.option_count.Goals as goal

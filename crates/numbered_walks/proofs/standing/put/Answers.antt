@@ -1,10 +1,9 @@
-use Rattle.std.proofs.Common.{◌≡◌, ◌<◌, ◌+◌, ◌≤◌, ℕ, Bool, List, IsTrue, get_or, set, length, sym, ap, subst, refl, ◌∙◌}
+use Rattle.std.proofs.Common.{◌≡◌, ◌<◌, ◌+◌, ◌≤◌, ℕ, List, IsTrue, get_or, set, length, sym, ap, subst, refl, ◌∙◌}
 use Rattle.std.proofs.lemmas.List.{get_or_default}
 use Rattle.acceptances.specs.OfferTests.{can_do, is_unstable}
 use Rattle.numbered_walks.proofs.Stepping.{component_read, offered, offers_within, place_stands, put_there, room_there, without}
 use Rattle.numbered_walks.specs.Choices.{AreChoicesOf, bit}
 use Rattle.numbered_walks.specs.Numbered.{Numbered}
-use Rattle.numbered_walks.specs.declared.standing.Standing.{Standing}
 use Rattle.numbered_walks.proofs.standing.put.Goals as goal
 
 pub withdraw_all-requires-clause-some : goal.withdraw_all-requires-clause-some

@@ -1,4 +1,4 @@
-use Rattle.std.proofs.Common.{◌≡◌, ◌<◌, ℕ, List, [], length, sym, subst, ◌∙◌}
+use Rattle.std.proofs.Common.{◌<◌, ℕ, [], length, sym, subst, ◌∙◌}
 use Rattle.std.proofs.lemmas.List.{get_or_default}
 use Rattle.numbered_walks.proofs.Stepping.{one_does, one_within, row_there}
 use Rattle.numbered_walks.specs.Numbered.{Has, Takes}

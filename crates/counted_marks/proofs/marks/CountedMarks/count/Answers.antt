@@ -1,4 +1,4 @@
-use Rattle.std.proofs.Common.{◌≡◌, ◌<◌, arith}
+use Rattle.std.proofs.Common.{arith}
 use Rattle.counted_marks.proofs.Counting.{at_most}
 use Rattle.counted_marks.proofs.marks.CountedMarks.count.Goals as goal
 

@@ -1,6 +1,4 @@
-use Rattle.std.proofs.Common.{◌≡◌, ◌+◌, ◌/◌, ◌*◌, ◌<◌, List, ℕ, Bool, false, replicate, arith, sym, subst}
-use Rattle.counted_marks.specs.Blocks.{AreBlockCounts}
-use Rattle.counted_marks.specs.Marks.{mark_count}
+use Rattle.std.proofs.Common.{◌+◌, ◌/◌, arith, sym}
 use Rattle.counted_marks.proofs.Counting.{block_to, none_counted, none_marked}
 use Rattle.counted_marks.proofs.marks.CountedMarks.new.Goals as goal
 

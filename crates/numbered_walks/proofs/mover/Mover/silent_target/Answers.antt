@@ -1,4 +1,4 @@
-use Rattle.std.proofs.Common.{◌≡◌, ℕ, get_or, sym, subst, ◌∙◌}
+use Rattle.std.proofs.Common.{get_or, sym, subst, ◌∙◌}
 use Rattle.csp_tables.specs.Label.Label.{silent}
 use Rattle.csp_tables.specs.RawTable.{RawStep}
 use Rattle.numbered_walks.proofs.Choosing.{empty_is, first_target, head_is, no_target}
