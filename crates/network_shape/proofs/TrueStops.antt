@@ -1,39 +1,14 @@
 -- The first part of a network's shape that stops is the first component that does.
-use Rattle.std.proofs.Common.{◌≡◌, ◌∙◌, ℕ, zero, suc, ◌<◌, List, [], ◌∷◌, Some, slice_get, length, refl, sym, subst, arith}
+use Rattle.std.proofs.Common.{◌∙◌, ℕ, List, [], sym, subst}
 use Rattle.std.proofs.lemmas.Bool.{false≢true}
-use Rattle.std.proofs.lemmas.Option.{none-some, same_Some}
 use Rattle.csp_tables.specs.Label.{Label}
 use Rattle.csp_tables.specs.Network.{Component, ComponentStep, leaves}
 use Rattle.csp_tables.specs.Trace.{IsAcceptance, IsBusy}
 use Rattle.csp_tables.specs.Table.{IsRun, acceptances_after}
 use Rattle.csp_tables.specs.Part.{Part, part_at}
-use Rattle.csp_tables.specs.ShapeOf.{IsPartOf, ArePartsOf}
+use Rattle.csp_tables.specs.ShapeOf.{IsPartOf}
+use Rattle.net_sound.proofs.Parts.{component_of, part_of}
 use Rattle.network_shape.specs.Stops.{IsBusyPart, HasEmpty, StopsAreTrue}
-
--- the component of a part
-record ComponentOf {T : Type 0} (Step : T → Label → T → Type 0) (cs : List (Component T)) (ps : List Part) (i : ℕ) : Type 0 where
-  component : Component T
-  listed : slice_get cs i ≡ Some component
-  part : IsPartOf Step component (part_at ps i)
-
-component_of : {T : Type 0} (Step : T → Label → T → Type 0) (cs : List (Component T)) (ps : List Part) → ArePartsOf Step cs ps
-    → (i : ℕ) → i < length ps → ComponentOf Step cs ps i
-component_of Step [] [] parts i below = absurd (omega arith)
-component_of Step [] (p ∷ ps) parts i below = absurd parts
-component_of Step (c ∷ cs) [] parts i below = absurd parts
-component_of Step (c ∷ cs) (p ∷ ps) parts zero below = record { component = c; listed = refl; part = parts.0 }
-component_of Step (c ∷ cs) (p ∷ ps) parts (suc i) below =
-    let r = component_of Step cs ps parts.1 i (omega arith) in
-    record { component = r.component; listed = r.listed; part = r.part }
-
--- the part of a component
-part_of : {T : Type 0} (Step : T → Label → T → Type 0) (cs : List (Component T)) (ps : List Part) → ArePartsOf Step cs ps
-    → (i : ℕ) (c : Component T) → slice_get cs i ≡ Some c → IsPartOf Step c (part_at ps i)
-part_of Step [] [] parts i c at = absurd (none-some c at)
-part_of Step [] (p ∷ ps) parts i c at = absurd parts
-part_of Step (d ∷ cs) [] parts i c at = absurd parts
-part_of Step (d ∷ cs) (p ∷ ps) parts zero c at = subst (λ (x : Component _). IsPartOf Step x p) (same_Some d c at) parts.0
-part_of Step (d ∷ cs) (p ∷ ps) parts (suc i) c at = part_of Step cs ps parts.1 i c at
 
 -- an empty acceptance of a part after a run is one of its component after this trace
 stops : {T : Type 0} (Step : T → Label → T → Type 0) (c : Component T) (p : Part) (s : List ℕ) → IsPartOf Step c p → IsRun p.table s → HasEmpty (acceptances_after p.table s) → IsAcceptance (ComponentStep Step) c s []
