@@ -1,4 +1,3 @@
+pub mod Forms
 pub mod Outcomes
-pub mod SubstitutionFolds
-pub mod SubstitutionLaws
 pub mod UsesWithin

@@ -9,7 +9,7 @@ use Rattle.csp_program.specs.Value.{Uses, Meaning, Turn, Front, meaning, turn, f
 use Rattle.csp_program.specs.Outcome.{Outcome, and_then}
 use Rattle.csp_atoms.specs.declared.value.Value.{Value}
 use Rattle.csp_program.specs.declared.expressions.Expr.{Expr}
-use Rattle.csp_program.specs.declared.expressions.Expr.TheFolds.{fold-Gen, fold-EventPart, fold-roll-Expr, fold-roll-Gen, fold-roll-EventPart, ind-Expr, map-Expr, map-Gen, map-EventPart}
+use Rattle.csp_program.specs.declared.expressions.Expr.TheFolds.{fold-Gen, fold-EventPart, fold-roll-Expr, fold-roll-Gen, fold-roll-EventPart, map-Expr, map-Gen}
 use Rattle.csp_program.specs.declared.expressions.Expr.TheOpen.{Expr-F, Gen-F, EventPart-F}
 use Rattle.csp_program.specs.declared.expressions.Expr.TheViews.{roll-Expr, roll-Gen, roll-EventPart}
 use Rattle.csp_program.specs.declared.expressions.EventPart.{EventPart}
@@ -19,6 +19,7 @@ use Rattle.csp_program.specs.declared.programs.Body.TheVariants as body
 use Rattle.csp_program.specs.declared.programs.Channel.{Channel}
 use Rattle.csp_program.specs.declared.programs.Content.{Content}
 use Rattle.csp_program.specs.declared.programs.Def.{Def}
+use Rattle.csp_program.proofs.Forms.{Every, ExprHas, GenHas, PartHas, each_expr}
 use Rattle.csp_base.proofs.Booleans.{is_or_first, is_or_second}
 
 abbrev pub gen_uses : Gen → Names
@@ -53,100 +54,84 @@ module _ (u w : Uses) (channels : List Channel) where
   abbrev pub SamePart : EventPart → Type 0
   SamePart p = Agree (part_uses p) → front u channels p ≡ front w channels p
 
-  abbrev KnownExpr : Type 0
-  KnownExpr = (e : Expr) × SameExpr e
+  exprs_same : (es : List Expr) → Every SameExpr es → Agree (any_of (map expr_uses es)) → map (meaning u channels) es ≡ map (meaning w channels) es
+  exprs_same [] same h = refl
+  exprs_same (e ∷ es) same h = λ i. same.0 (left (expr_uses e) (any_of (map expr_uses es)) h) i ∷ exprs_same es same.1 (right (expr_uses e) (any_of (map expr_uses es)) h) i
 
-  abbrev KnownGen : Type 0
-  KnownGen = (g : Gen) × SameGen g
+  gens_same : (gs : List Gen) → Every SameGen gs → Agree (any_of (map gen_uses gs)) → map (turn u channels) gs ≡ map (turn w channels) gs
+  gens_same [] same h = refl
+  gens_same (g ∷ gs) same h = λ i. same.0 (left (gen_uses g) (any_of (map gen_uses gs)) h) i ∷ gens_same gs same.1 (right (gen_uses g) (any_of (map gen_uses gs)) h) i
 
-  abbrev KnownPart : Type 0
-  KnownPart = (p : EventPart) × SamePart p
+  parts_same : (ps : List EventPart) → Every SamePart ps → Agree (any_of (map part_uses ps)) → map (front u channels) ps ≡ map (front w channels) ps
+  parts_same [] same h = refl
+  parts_same (p ∷ ps) same h = λ i. same.0 (left (part_uses p) (any_of (map part_uses ps)) h) i ∷ parts_same ps same.1 (right (part_uses p) (any_of (map part_uses ps)) h) i
 
-  exprs_same : (es : List KnownExpr) → Agree (any_of (map expr_uses (map (λ e. e.0) es))) → map (meaning u channels) (map (λ e. e.0) es) ≡ map (meaning w channels) (map (λ e. e.0) es)
-  exprs_same [] h = refl
-  exprs_same (e ∷ es) h = λ i. e.1 (left (expr_uses e.0) (any_of (map expr_uses (map (λ e. e.0) es))) h) i ∷ exprs_same es (right (expr_uses e.0) (any_of (map expr_uses (map (λ e. e.0) es))) h) i
+  -- what one form of an expression uses, and what it means
+  abbrev form_uses : Expr-F Expr Gen EventPart → Names
+  form_uses d = expr_uses_of_layer (map-Expr Expr Gen EventPart Names Names Names expr_uses gen_uses part_uses d)
 
-  gens_same : (es : List KnownGen) → Agree (any_of (map gen_uses (map (λ e. e.0) es))) → map (turn u channels) (map (λ e. e.0) es) ≡ map (turn w channels) (map (λ e. e.0) es)
-  gens_same [] h = refl
-  gens_same (e ∷ es) h = λ i. e.1 (left (gen_uses e.0) (any_of (map gen_uses (map (λ e. e.0) es))) h) i ∷ gens_same es (right (gen_uses e.0) (any_of (map gen_uses (map (λ e. e.0) es))) h) i
+  abbrev form_means : Uses → Expr-F Expr Gen EventPart → Meaning
+  form_means u d = meaning_of_layer u channels (map-Expr Expr Gen EventPart Meaning Turn Front (meaning u channels) (turn u channels) (front u channels) d)
 
-  parts_same : (es : List KnownPart) → Agree (any_of (map part_uses (map (λ e. e.0) es))) → map (front u channels) (map (λ e. e.0) es) ≡ map (front w channels) (map (λ e. e.0) es)
-  parts_same [] h = refl
-  parts_same (e ∷ es) h = λ i. e.1 (left (part_uses e.0) (any_of (map part_uses (map (λ e. e.0) es))) h) i ∷ parts_same es (right (part_uses e.0) (any_of (map part_uses (map (λ e. e.0) es))) h) i
+  two_same : (a b : Expr) → SameExpr a → SameExpr b → Agree (either (expr_uses a) (expr_uses b)) → (meaning u channels a ≡ meaning w channels a) × (meaning u channels b ≡ meaning w channels b)
+  two_same a b first second h = (first (left (expr_uses a) (expr_uses b) h), second (right (expr_uses a) (expr_uses b) h))
 
-  abbrev bare : Expr-F KnownExpr KnownGen KnownPart → Expr-F Expr Gen EventPart
-  bare y = map-Expr KnownExpr KnownGen KnownPart Expr Gen EventPart (λ e. e.0) (λ e. e.0) (λ e. e.0) y
+  form_same : (d : Expr-F Expr Gen EventPart) → ExprHas SameExpr SameGen SamePart d → Agree (form_uses d) → form_means u d ≡ form_means w d
+  form_same (Expr-F.Neg a) same h = λ i. meaning_of_layer u channels (Expr-F.Neg (same h i))
+  form_same (Expr-F.Not a) same h = λ i. meaning_of_layer u channels (Expr-F.Not (same h i))
+  form_same (Expr-F.Binary o a b) same h =
+      let two = two_same a b same.0 same.1 h in
+      λ i. meaning_of_layer u channels (Expr-F.Binary o (two.0 i) (two.1 i))
+  form_same (Expr-F.If c a b) same h =
+      let two = two_same a b same.1 same.2 (right (expr_uses c) (either (expr_uses a) (expr_uses b)) h) in
+      λ i. meaning_of_layer u channels (Expr-F.If (same.0 (left (expr_uses c) (either (expr_uses a) (expr_uses b)) h) i) (two.0 i) (two.1 i))
+  form_same (Expr-F.Call d args) same h = λ i env.
+      called (exprs_same args same (right (λ n. nat_eq d n) (any_of (map expr_uses args)) h) i)
+      (h d (is_or_first (nat_eq d d) (any_of (map expr_uses args) d) (eq-eqb d d refl)) i) env
+  form_same (Expr-F.SetName d) same h = λ i env. named (h d (eq-eqb d d refl) i) env
+  form_same (Expr-F.Event c fields) same h = λ i. meaning_of_layer u channels (Expr-F.Event c (exprs_same fields same h i))
+  form_same (Expr-F.Display items) same h = λ i. meaning_of_layer u channels (Expr-F.Display (exprs_same items same h i))
+  form_same (Expr-F.Range a b) same h =
+      let two = two_same a b same.0 same.1 h in
+      λ i. meaning_of_layer u channels (Expr-F.Range (two.0 i) (two.1 i))
+  form_same (Expr-F.Comp items gens) same h = λ i. meaning_of_layer u channels (Expr-F.Comp
+      (exprs_same items same.0 (left (any_of (map expr_uses items)) (any_of (map gen_uses gens)) h) i) (gens_same gens same.1 (right (any_of (map expr_uses items)) (any_of (map gen_uses gens)) h) i))
+  form_same (Expr-F.Product parts gens) same h = λ i. meaning_of_layer u channels (Expr-F.Product
+      (parts_same parts same.0 (left (any_of (map part_uses parts)) (any_of (map gen_uses gens)) h) i) (gens_same gens same.1 (right (any_of (map part_uses parts)) (any_of (map gen_uses gens)) h) i))
+  form_same (Expr-F.SetOp o a b) same h =
+      let two = two_same a b same.0 same.1 h in
+      λ i. meaning_of_layer u channels (Expr-F.SetOp o (two.0 i) (two.1 i))
+  form_same d same h = refl
 
-  -- what one layer of an expression uses
-  abbrev layer_uses : Expr-F Expr Gen EventPart → Names
-  layer_uses d = expr_uses_of_layer (map-Expr Expr Gen EventPart Names Names Names expr_uses gen_uses part_uses d)
-
-  layer : (d : Expr-F Expr Gen EventPart)
-      → (Agree (layer_uses d) → meaning_of_layer u channels (map-Expr Expr Gen EventPart Meaning Turn Front (meaning u channels) (turn u channels) (front u channels) d)
-      ≡ meaning_of_layer w channels (map-Expr Expr Gen EventPart Meaning Turn Front (meaning w channels) (turn w channels) (front w channels) d))
-      → SameExpr (roll-Expr d)
-  layer d same h =
+  expr_step : (d : Expr-F Expr Gen EventPart) → ExprHas SameExpr SameGen SamePart d → SameExpr (roll-Expr d)
+  expr_step d same h =
       fold-roll-Expr Meaning Turn Front (meaning_of_layer u channels) (turn_of_layer u channels) (front_of_layer u channels) d ∙
-      (same (subst Agree (fold-roll-Expr Names Names Names expr_uses_of_layer gen_uses_of_layer part_uses_of_layer d) h) ∙
+      (form_same d same (subst Agree (fold-roll-Expr Names Names Names expr_uses_of_layer gen_uses_of_layer part_uses_of_layer d) h) ∙
       sym (fold-roll-Expr Meaning Turn Front (meaning_of_layer w channels) (turn_of_layer w channels) (front_of_layer w channels) d))
 
-  expr_layer : (y : Expr-F KnownExpr KnownGen KnownPart) → SameExpr (roll-Expr (bare y))
-  expr_layer (Expr-F.Num n) = layer (Expr-F.Num n) (λ h. refl)
-  expr_layer (Expr-F.Truth b) = layer (Expr-F.Truth b) (λ h. refl)
-  expr_layer (Expr-F.Const k) = layer (Expr-F.Const k) (λ h. refl)
-  expr_layer (Expr-F.Bound x) = layer (Expr-F.Bound x) (λ h. refl)
-  expr_layer (Expr-F.Lit v) = layer (Expr-F.Lit v) (λ h. refl)
-  expr_layer (Expr-F.Neg a) = layer (Expr-F.Neg a.0) (λ h i. meaning_of_layer u channels (Expr-F.Neg (a.1 h i)))
-  expr_layer (Expr-F.Not a) = layer (Expr-F.Not a.0) (λ h i. meaning_of_layer u channels (Expr-F.Not (a.1 h i)))
-  expr_layer (Expr-F.Binary o a b) = layer (Expr-F.Binary o a.0 b.0)
-      (λ h i. meaning_of_layer u channels (Expr-F.Binary o (a.1 (left (expr_uses a.0) (expr_uses b.0) h) i) (b.1 (right (expr_uses a.0) (expr_uses b.0) h) i)))
-  expr_layer (Expr-F.If c a b) = layer (Expr-F.If c.0 a.0 b.0)
-      (λ h i. meaning_of_layer u channels (Expr-F.If (c.1 (left (expr_uses c.0) (either (expr_uses a.0) (expr_uses b.0)) h) i)
-      (a.1 (left (expr_uses a.0) (expr_uses b.0) (right (expr_uses c.0) (either (expr_uses a.0) (expr_uses b.0)) h)) i)
-      (b.1 (right (expr_uses a.0) (expr_uses b.0) (right (expr_uses c.0) (either (expr_uses a.0) (expr_uses b.0)) h)) i)))
-  expr_layer (Expr-F.Call d args) = layer (Expr-F.Call d (map (λ e. e.0) args))
-      (λ h i env. called (exprs_same args (right (λ n. nat_eq d n) (any_of (map expr_uses (map (λ e. e.0) args))) h) i)
-      (h d (is_or_first (nat_eq d d) (any_of (map expr_uses (map (λ e. e.0) args)) d) (eq-eqb d d refl)) i) env)
-  expr_layer (Expr-F.SetName d) = layer (Expr-F.SetName d) (λ h i env. named (h d (eq-eqb d d refl) i) env)
-  expr_layer (Expr-F.Event c fields) = layer (Expr-F.Event c (map (λ e. e.0) fields)) (λ h i. meaning_of_layer u channels (Expr-F.Event c (exprs_same fields h i)))
-  expr_layer (Expr-F.Display items) = layer (Expr-F.Display (map (λ e. e.0) items)) (λ h i. meaning_of_layer u channels (Expr-F.Display (exprs_same items h i)))
-  expr_layer (Expr-F.Range a b) = layer (Expr-F.Range a.0 b.0)
-      (λ h i. meaning_of_layer u channels (Expr-F.Range (a.1 (left (expr_uses a.0) (expr_uses b.0) h) i) (b.1 (right (expr_uses a.0) (expr_uses b.0) h) i)))
-  expr_layer (Expr-F.Comp items gens) = layer (Expr-F.Comp (map (λ e. e.0) items) (map (λ e. e.0) gens))
-      (λ h i. meaning_of_layer u channels (Expr-F.Comp (exprs_same items (left (any_of (map expr_uses (map (λ e. e.0) items))) (any_of (map gen_uses (map (λ e. e.0) gens))) h) i) (gens_same gens (right (any_of (map expr_uses (map (λ e. e.0) items))) (any_of (map gen_uses (map (λ e. e.0) gens))) h) i)))
-  expr_layer (Expr-F.Product parts gens) = layer (Expr-F.Product (map (λ e. e.0) parts) (map (λ e. e.0) gens))
-      (λ h i. meaning_of_layer u channels (Expr-F.Product (parts_same parts (left (any_of (map part_uses (map (λ e. e.0) parts))) (any_of (map gen_uses (map (λ e. e.0) gens))) h) i) (gens_same gens (right (any_of (map part_uses (map (λ e. e.0) parts))) (any_of (map gen_uses (map (λ e. e.0) gens))) h) i)))
-  expr_layer (Expr-F.SetOp o a b) = layer (Expr-F.SetOp o a.0 b.0)
-      (λ h i. meaning_of_layer u channels (Expr-F.SetOp o (a.1 (left (expr_uses a.0) (expr_uses b.0) h) i) (b.1 (right (expr_uses a.0) (expr_uses b.0) h) i)))
+  gen_form_same : (d : Gen-F Expr Gen EventPart) → GenHas SameExpr SameGen SamePart d → Agree (gen_uses_of_layer (map-Gen Expr Gen EventPart Names Names Names expr_uses gen_uses part_uses d))
+      → turn_of_layer u channels (map-Gen Expr Gen EventPart Meaning Turn Front (meaning u channels) (turn u channels) (front u channels) d)
+      ≡ turn_of_layer w channels (map-Gen Expr Gen EventPart Meaning Turn Front (meaning w channels) (turn w channels) (front w channels) d)
+  gen_form_same (Gen-F.From n s) same h = λ i. turn_of_layer u channels (Gen-F.From n (same h i))
+  gen_form_same (Gen-F.Cond c) same h = λ i. turn_of_layer u channels (Gen-F.Cond (same h i))
 
-  gen_rolls : (d : Gen-F Expr Gen EventPart) → gen_uses (roll-Gen d) ≡ gen_uses_of_layer (map-Gen Expr Gen EventPart Names Names Names expr_uses gen_uses part_uses d)
-  gen_rolls = fold-roll-Gen Names Names Names expr_uses_of_layer gen_uses_of_layer part_uses_of_layer
+  gen_step : (d : Gen-F Expr Gen EventPart) → GenHas SameExpr SameGen SamePart d → SameGen (roll-Gen d)
+  gen_step d same h =
+      fold-roll-Gen Meaning Turn Front (meaning_of_layer u channels) (turn_of_layer u channels) (front_of_layer u channels) d ∙
+      (gen_form_same d same (subst Agree (fold-roll-Gen Names Names Names expr_uses_of_layer gen_uses_of_layer part_uses_of_layer d) h) ∙
+      sym (fold-roll-Gen Meaning Turn Front (meaning_of_layer w channels) (turn_of_layer w channels) (front_of_layer w channels) d))
 
-  gen_layer : (y : Gen-F KnownExpr KnownGen KnownPart) → SameGen (roll-Gen (map-Gen KnownExpr KnownGen KnownPart Expr Gen EventPart (λ e. e.0) (λ e. e.0) (λ e. e.0) y))
-  gen_layer (Gen-F.From n s) h =
-      fold-roll-Gen Meaning Turn Front (meaning_of_layer u channels) (turn_of_layer u channels) (front_of_layer u channels) (Gen-F.From n s.0) ∙
-      ((λ i. turn_of_layer u channels (Gen-F.From n (s.1 (subst Agree (gen_rolls (Gen-F.From n s.0)) h) i))) ∙
-      sym (fold-roll-Gen Meaning Turn Front (meaning_of_layer w channels) (turn_of_layer w channels) (front_of_layer w channels) (Gen-F.From n s.0)))
-  gen_layer (Gen-F.Cond c) h =
-      fold-roll-Gen Meaning Turn Front (meaning_of_layer u channels) (turn_of_layer u channels) (front_of_layer u channels) (Gen-F.Cond c.0) ∙
-      ((λ i. turn_of_layer u channels (Gen-F.Cond (c.1 (subst Agree (gen_rolls (Gen-F.Cond c.0)) h) i))) ∙
-      sym (fold-roll-Gen Meaning Turn Front (meaning_of_layer w channels) (turn_of_layer w channels) (front_of_layer w channels) (Gen-F.Cond c.0)))
-
-  part_layer : (y : EventPart-F KnownExpr KnownGen KnownPart) → SamePart (roll-EventPart (map-EventPart KnownExpr KnownGen KnownPart Expr Gen EventPart (λ e. e.0) (λ e. e.0) (λ e. e.0) y))
-  part_layer y h =
-      fold-roll-EventPart Meaning Turn Front (meaning_of_layer u channels) (turn_of_layer u channels) (front_of_layer u channels) (record { channel = y.channel; fields = map (λ e. e.0) y.fields }) ∙
+  part_step : (d : EventPart-F Expr Gen EventPart) → PartHas SameExpr SameGen SamePart d → SamePart (roll-EventPart d)
+  part_step d same h =
+      fold-roll-EventPart Meaning Turn Front (meaning_of_layer u channels) (turn_of_layer u channels) (front_of_layer u channels) d ∙
       ((λ i. front_of_layer u channels (record {
-        channel = y.channel;
-        fields = exprs_same y.fields
-            (subst Agree (fold-roll-EventPart Names Names Names expr_uses_of_layer gen_uses_of_layer part_uses_of_layer (record { channel = y.channel; fields = map (λ e. e.0) y.fields })) h) i;
+        channel = d.channel;
+        fields = exprs_same d.fields same (subst Agree (fold-roll-EventPart Names Names Names expr_uses_of_layer gen_uses_of_layer part_uses_of_layer d) h) i;
       })) ∙
-      sym (fold-roll-EventPart Meaning Turn Front (meaning_of_layer w channels) (turn_of_layer w channels) (front_of_layer w channels) (record { channel = y.channel; fields = map (λ e. e.0) y.fields })))
+      sym (fold-roll-EventPart Meaning Turn Front (meaning_of_layer w channels) (turn_of_layer w channels) (front_of_layer w channels) d))
 
   pub meaning_same : (e : Expr) → Agree (expr_uses e) → meaning u channels e ≡ meaning w channels e
-  meaning_same = ind-Expr SameExpr SameGen SamePart
-      (λ z y is. subst (λ t. SameExpr (roll-Expr t)) is (expr_layer y))
-      (λ z y is. subst (λ t. SameGen (roll-Gen t)) is (gen_layer y))
-      (λ z y is. subst (λ t. SamePart (roll-EventPart t)) is (part_layer y))
+  meaning_same = each_expr SameExpr SameGen SamePart expr_step gen_step part_step
 
 body_same : (f g : Expr → Meaning) (within : Expr → Type 0) → ((e : Expr) → within e → f e ≡ g e) → (params : List ℕ) (b : Body) → BodyNests within b → body_value f params b ≡ body_value g params b
 body_same f g within same params (body.Datum e) h = λ i args. same e h i (bound_to params args)

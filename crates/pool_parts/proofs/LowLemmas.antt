@@ -8,12 +8,13 @@ use Rattle.csp_base.specs.declared.operators.SetOp.{SetOp}
 use Rattle.csp_program.specs.Substitution.{any_binds, binds}
 use Rattle.csp_program.specs.declared.expressions.EventPart.{EventPart}
 use Rattle.csp_program.specs.declared.expressions.Expr.{Expr}
+use Rattle.csp_program.specs.declared.expressions.Expr.TheOpen.{Expr-F}
 use Rattle.csp_program.specs.declared.expressions.Expr.TheVariants as expr
-use Rattle.csp_program.specs.declared.expressions.Expr.TheViews.{out-EventPart, roll-EventPart, roll-out-EventPart}
+use Rattle.csp_program.specs.declared.expressions.Expr.TheViews.{out-EventPart, roll-EventPart, roll-Expr, roll-out-EventPart}
 use Rattle.csp_program.specs.declared.expressions.Gen.{Gen}
 use Rattle.csp_program.specs.declared.expressions.Gen.TheVariants as generator
-use Rattle.substitution.proofs.ExprEquations as puts
-use Rattle.substitution.specs.Parts.{expr_after, gen_after, part_after, exprs_after, gens_after, parts_after}
+use Rattle.substitution.proofs.FormsAfter.{expr_form, expr_is, gen_after-Cond, gen_after-From, part_is}
+use Rattle.substitution.specs.Parts.{all_after, expr_after, gen_after, part_after, exprs_after, gens_after}
 use Rattle.csp_program.specs.declared.processes.Field.{Field}
 use Rattle.csp_program.specs.declared.processes.Field.TheVariants as field
 use Rattle.csp_program.specs.declared.processes.Head.{Head}
@@ -58,109 +59,113 @@ pub either_way : {T : Type 0} (b : Bool) (was is : T) → is ≡ was → cond b 
 either_way true was is h = refl
 either_way false was is h = h
 
-pub exprs_stay : (m : ℕ) (es : List Expr) → AllLow ExprLow m es → (x : ℕ) (v : Value) → x < m → (b : Bool) → exprs_after x v b es ≡ es
+-- a value in place of a name below the number: what that leaves as it is
+module _ (m x : ℕ) (v : Value) (l : x < m) where
+  expr_stays : (e : Expr) → ExprLow m e → expr_after x v e ≡ e
+  unfolding ExprLow expr_after
+  expr_stays e low = low x v l
+
+  gen_stays : (g : Gen) → GenLow m g → gen_after x v g ≡ g
+  unfolding GenLow gen_after
+  gen_stays g low = low x v l
+
+  part_stays : (p : EventPart) → PartLow m p → part_after x v p ≡ p
+  unfolding PartLow part_after
+  part_stays p low = low x v l
+
+  all_stay : {T : Type 0} (P : ℕ → T → Type 0) (put : T → T) → ((t : T) → P m t → put t ≡ t) → (xs : List T) → AllLow P m xs → (b : Bool) → all_after put b xs ≡ xs
+  all_stay P put stays [] low b = refl
+  all_stay P put stays (t ∷ xs) low b = λ i. either_way b t (put t) (stays t low.0) i ∷ all_stay P put stays xs low.1 b i
+
+  exprs_stay : (es : List Expr) → AllLow ExprLow m es → (b : Bool) → exprs_after x v b es ≡ es
+  exprs_stay = all_stay ExprLow (expr_after x v) expr_stays
+
+  gens_stay : (gs : List Gen) → AllLow GenLow m gs → (b : Bool) → gens_after x v b gs ≡ gs
+  gens_stay [] low b = refl
+  gens_stay (g ∷ gs) low b = λ i. either_way b g (gen_after x v g) (gen_stays g low.0) i ∷ gens_stay gs low.1 (b || binds x g) i
+
+-- an expression of a form that a value leaves as it is
+form_low : (m : ℕ) (e : Expr) (d : Expr-F Expr Gen EventPart) → e ≡ roll-Expr d → ((x : ℕ) (v : Value) → x < m → expr_form x v false d ≡ d) → ExprLow m e
 unfolding ExprLow expr_after
-exprs_stay m [] low x v l b = refl
-exprs_stay m (e ∷ es) low x v l b = λ i. either_way b e (expr_after x v e) (low.0 x v l) i ∷ exprs_stay m es low.1 x v l b i
-
-pub gens_stay : (m : ℕ) (gs : List Gen) → AllLow GenLow m gs → (x : ℕ) (v : Value) → x < m → (b : Bool) → gens_after x v b gs ≡ gs
-unfolding GenLow gen_after
-gens_stay m [] low x v l b = refl
-gens_stay m (g ∷ gs) low x v l b = λ i. either_way b g (gen_after x v g) (low.0 x v l) i ∷ gens_stay m gs low.1 x v l (b || binds x g) i
-
-pub parts_stay : (m : ℕ) (ps : List EventPart) → AllLow PartLow m ps → (x : ℕ) (v : Value) → x < m → (b : Bool) → parts_after x v b ps ≡ ps
-unfolding PartLow part_after
-parts_stay m [] low x v l b = refl
-parts_stay m (p ∷ ps) low x v l b = λ i. either_way b p (part_after x v p) (low.0 x v l) i ∷ parts_stay m ps low.1 x v l b i
-
--- an expression that a value leaves as it is, seen through an equation
-seen : (m : ℕ) (e e' : Expr) → e ≡ e' → ExprLow m e' → ExprLow m e
-seen m e e' h low = subst (λ (t : Expr). ExprLow m t) (sym h) low
+form_low m e d is stays x v l = ap (expr_after x v) is ∙ (expr_is x v d ∙ ((λ i. roll-Expr (stays x v l i)) ∙ sym is))
 
 pub low_Num : (m : ℕ) (e : Expr) (n : ℤ) → e ≡ expr.Num n → ExprLow m e
-unfolding ExprLow expr_after
-low_Num m e n is = seen m e (expr.Num n) is (λ x v l. puts.expr_after-Num x v n)
+low_Num m e n is = form_low m e (Expr-F.Num n) (is ∙ sym (expr.rolls-Num n)) (λ x v l. refl)
 
 pub low_Truth : (m : ℕ) (e : Expr) (b : Bool) → e ≡ expr.Truth b → ExprLow m e
-unfolding ExprLow expr_after
-low_Truth m e b is = seen m e (expr.Truth b) is (λ x v l. puts.expr_after-Truth x v b)
+low_Truth m e b is = form_low m e (Expr-F.Truth b) (is ∙ sym (expr.rolls-Truth b)) (λ x v l. refl)
 
 pub low_Const : (m : ℕ) (e : Expr) (k : ℕ) → e ≡ expr.Const k → ExprLow m e
-unfolding ExprLow expr_after
-low_Const m e k is = seen m e (expr.Const k) is (λ x v l. puts.expr_after-Const x v k)
+low_Const m e k is = form_low m e (Expr-F.Const k) (is ∙ sym (expr.rolls-Const k)) (λ x v l. refl)
 
-other_name : (x y : ℕ) (v : Value) → x < y → (b : Bool) → nat_eq y x ≡ b → cond b (expr.Lit v) (expr.Bound y) ≡ expr.Bound y
+pub low_Lit : (m : ℕ) (e : Expr) (w : Value) → e ≡ expr.Lit w → ExprLow m e
+low_Lit m e w is = form_low m e (Expr-F.Lit w) (is ∙ sym (expr.rolls-Lit w)) (λ x v l. refl)
+
+pub low_SetName : (m : ℕ) (e : Expr) (d : ℕ) → e ≡ expr.SetName d → ExprLow m e
+low_SetName m e d is = form_low m e (Expr-F.SetName d) (is ∙ sym (expr.rolls-SetName d)) (λ x v l. refl)
+
+abbrev name : ℕ → Expr-F Expr Gen EventPart
+name y = Expr-F.Bound y
+
+other_name : (x y : ℕ) (v : Value) → x < y → (b : Bool) → nat_eq y x ≡ b → cond b (Expr-F.Lit v) (name y) ≡ name y
 other_name x y v l true h = let same = eqb-true y x h in absurd (omega (arith, same, l))
 other_name x y v l false h = refl
 
 pub low_Bound : (e : Expr) (y : ℕ) → e ≡ expr.Bound y → ExprLow y e
-unfolding ExprLow expr_after
-low_Bound e y is = seen y e (expr.Bound y) is (λ x v l. puts.expr_after-Bound x v y ∙ other_name x y v l (nat_eq y x) refl)
-
-pub low_Lit : (m : ℕ) (e : Expr) (w : Value) → e ≡ expr.Lit w → ExprLow m e
-unfolding ExprLow expr_after
-low_Lit m e w is = seen m e (expr.Lit w) is (λ x v l. puts.expr_after-Lit x v w)
-
-pub low_SetName : (m : ℕ) (e : Expr) (d : ℕ) → e ≡ expr.SetName d → ExprLow m e
-unfolding ExprLow expr_after
-low_SetName m e d is = seen m e (expr.SetName d) is (λ x v l. puts.expr_after-SetName x v d)
+low_Bound e y is = form_low y e (Expr-F.Bound y) (is ∙ sym (expr.rolls-Bound y)) (λ x v l. other_name x y v l (nat_eq y x) refl)
 
 pub low_Neg : (m : ℕ) (e a : Expr) → e ≡ expr.Neg a → ExprLow m a → ExprLow m e
-unfolding ExprLow expr_after
-low_Neg m e a is low = seen m e (expr.Neg a) is (λ x v l. puts.expr_after-Neg x v a ∙ (λ i. expr.Neg (low x v l i)))
+low_Neg m e a is low = form_low m e (Expr-F.Neg a) (is ∙ sym (expr.rolls-Neg a)) (λ x v l i. Expr-F.Neg (expr_stays m x v l a low i))
 
 pub low_Not : (m : ℕ) (e a : Expr) → e ≡ expr.Not a → ExprLow m a → ExprLow m e
-unfolding ExprLow expr_after
-low_Not m e a is low = seen m e (expr.Not a) is (λ x v l. puts.expr_after-Not x v a ∙ (λ i. expr.Not (low x v l i)))
+low_Not m e a is low = form_low m e (Expr-F.Not a) (is ∙ sym (expr.rolls-Not a)) (λ x v l i. Expr-F.Not (expr_stays m x v l a low i))
 
 pub low_Binary : (m : ℕ) (e : Expr) (op : BinOp) (a b : Expr) → e ≡ expr.Binary op a b → ExprLow m a → ExprLow m b → ExprLow m e
-unfolding ExprLow expr_after
-low_Binary m e op a b is left right = seen m e (expr.Binary op a b) is (λ x v l. puts.expr_after-Binary x v op a b ∙ (λ i. expr.Binary op (left x v l i) (right x v l i)))
+low_Binary m e op a b is left right = form_low m e (Expr-F.Binary op a b) (is ∙ sym (expr.rolls-Binary op a b)) (λ x v l i. Expr-F.Binary op (expr_stays m x v l a left i) (expr_stays m x v l b right i))
 
 pub low_Range : (m : ℕ) (e a b : Expr) → e ≡ expr.Range a b → ExprLow m a → ExprLow m b → ExprLow m e
-unfolding ExprLow expr_after
-low_Range m e a b is left right = seen m e (expr.Range a b) is (λ x v l. puts.expr_after-Range x v a b ∙ (λ i. expr.Range (left x v l i) (right x v l i)))
+low_Range m e a b is left right = form_low m e (Expr-F.Range a b) (is ∙ sym (expr.rolls-Range a b)) (λ x v l i. Expr-F.Range (expr_stays m x v l a left i) (expr_stays m x v l b right i))
 
 pub low_SetOp : (m : ℕ) (e : Expr) (op : SetOp) (a b : Expr) → e ≡ expr.SetOp op a b → ExprLow m a → ExprLow m b → ExprLow m e
-unfolding ExprLow expr_after
-low_SetOp m e op a b is left right = seen m e (expr.SetOp op a b) is (λ x v l. puts.expr_after-SetOp x v op a b ∙ (λ i. expr.SetOp op (left x v l i) (right x v l i)))
+low_SetOp m e op a b is left right = form_low m e (Expr-F.SetOp op a b) (is ∙ sym (expr.rolls-SetOp op a b)) (λ x v l i. Expr-F.SetOp op (expr_stays m x v l a left i) (expr_stays m x v l b right i))
 
 pub low_If : (m : ℕ) (e c a b : Expr) → e ≡ expr.If c a b → ExprLow m c → ExprLow m a → ExprLow m b → ExprLow m e
-unfolding ExprLow expr_after
-low_If m e c a b is first left right = seen m e (expr.If c a b) is (λ x v l. puts.expr_after-If x v c a b ∙ (λ i. expr.If (first x v l i) (left x v l i) (right x v l i)))
+low_If m e c a b is first left right =
+    form_low m e (Expr-F.If c a b) (is ∙ sym (expr.rolls-If c a b)) (λ x v l i. Expr-F.If (expr_stays m x v l c first i) (expr_stays m x v l a left i) (expr_stays m x v l b right i))
 
 pub low_Call : (m : ℕ) (e : Expr) (d : ℕ) (args : List Expr) → e ≡ expr.Call d args → AllLow ExprLow m args → ExprLow m e
-unfolding ExprLow expr_after
-low_Call m e d args is low = seen m e (expr.Call d args) is (λ x v l. puts.expr_after-Call x v d args ∙ (λ i. expr.Call d (exprs_stay m args low x v l false i)))
+low_Call m e d args is low = form_low m e (Expr-F.Call d args) (is ∙ sym (expr.rolls-Call d args)) (λ x v l i. Expr-F.Call d (exprs_stay m x v l args low false i))
 
 pub low_Event : (m : ℕ) (e : Expr) (c : ℕ) (fields : List Expr) → e ≡ expr.Event c fields → AllLow ExprLow m fields → ExprLow m e
-unfolding ExprLow expr_after
-low_Event m e c fields is low = seen m e (expr.Event c fields) is (λ x v l. puts.expr_after-Event x v c fields ∙ (λ i. expr.Event c (exprs_stay m fields low x v l false i)))
+low_Event m e c fields is low = form_low m e (Expr-F.Event c fields) (is ∙ sym (expr.rolls-Event c fields)) (λ x v l i. Expr-F.Event c (exprs_stay m x v l fields low false i))
 
 pub low_Display : (m : ℕ) (e : Expr) (items : List Expr) → e ≡ expr.Display items → AllLow ExprLow m items → ExprLow m e
-unfolding ExprLow expr_after
-low_Display m e items is low = seen m e (expr.Display items) is (λ x v l. puts.expr_after-Display x v items ∙ (λ i. expr.Display (exprs_stay m items low x v l false i)))
+low_Display m e items is low = form_low m e (Expr-F.Display items) (is ∙ sym (expr.rolls-Display items)) (λ x v l i. Expr-F.Display (exprs_stay m x v l items low false i))
 
 pub low_Comp : (m : ℕ) (e : Expr) (items : List Expr) (gens : List Gen) → e ≡ expr.Comp items gens → AllLow ExprLow m items → AllLow GenLow m gens → ExprLow m e
-unfolding ExprLow expr_after
-low_Comp m e items gens is low under = seen m e (expr.Comp items gens) is (λ x v l. puts.expr_after-Comp x v items gens ∙ (λ i. expr.Comp (exprs_stay m items low x v l (any_binds x gens) i) (gens_stay m gens under x v l false i)))
+low_Comp m e items gens is low under =
+    form_low m e (Expr-F.Comp items gens) (is ∙ sym (expr.rolls-Comp items gens))
+    (λ x v l i. Expr-F.Comp (exprs_stay m x v l items low (any_binds x gens) i) (gens_stay m x v l gens under false i))
 
 pub low_Product : (m : ℕ) (e : Expr) (parts : List EventPart) (gens : List Gen) → e ≡ expr.Product parts gens → AllLow PartLow m parts → AllLow GenLow m gens → ExprLow m e
-unfolding ExprLow expr_after
-low_Product m e parts gens is low under = seen m e (expr.Product parts gens) is (λ x v l. puts.expr_after-Product x v parts gens ∙ (λ i. expr.Product (parts_stay m parts low x v l (any_binds x gens) i) (gens_stay m gens under x v l false i)))
+low_Product m e parts gens is low under =
+    form_low m e (Expr-F.Product parts gens) (is ∙ sym (expr.rolls-Product parts gens))
+    (λ x v l i. Expr-F.Product (all_stay m x v l PartLow (part_after x v) (part_stays m x v l) parts low (any_binds x gens) i) (gens_stay m x v l gens under false i))
 
 pub low_From : (m : ℕ) (g : Gen) (y : ℕ) (s : Expr) → g ≡ generator.From y s → ExprLow m s → GenLow m g
-unfolding ExprLow GenLow expr_after gen_after
-low_From m g y s is low x v l = ap (gen_after x v) is ∙ (puts.gen_after-From x v y s ∙ ((λ i. generator.From y (low x v l i)) ∙ sym is))
+unfolding GenLow gen_after
+low_From m g y s is low x v l = ap (gen_after x v) is ∙ (gen_after-From x v y s ∙ ((λ i. generator.From y (expr_stays m x v l s low i)) ∙ sym is))
 
 pub low_Cond : (m : ℕ) (g : Gen) (c : Expr) → g ≡ generator.Cond c → ExprLow m c → GenLow m g
-unfolding ExprLow GenLow expr_after gen_after
-low_Cond m g c is low x v l = ap (gen_after x v) is ∙ (puts.gen_after-Cond x v c ∙ ((λ i. generator.Cond (low x v l i)) ∙ sym is))
+unfolding GenLow gen_after
+low_Cond m g c is low x v l = ap (gen_after x v) is ∙ (gen_after-Cond x v c ∙ ((λ i. generator.Cond (expr_stays m x v l c low i)) ∙ sym is))
 
 pub low_part : (m : ℕ) (p : EventPart) → AllLow ExprLow m (out-EventPart p).fields → PartLow m p
 unfolding PartLow part_after
 low_part m p low x v l =
-    puts.part_after-is x v p ∙ ((λ i. roll-EventPart (record { channel = (out-EventPart p).channel; fields = exprs_stay m (out-EventPart p).fields low x v l false i })) ∙ roll-out-EventPart p)
+    (λ i. part_after x v (sym (roll-out-EventPart p) i)) ∙
+    (part_is x v (out-EventPart p) ∙
+    ((λ i. roll-EventPart (record { channel = (out-EventPart p).channel; fields = exprs_stay m x v l (out-EventPart p).fields low false i })) ∙ roll-out-EventPart p))
 
 -- a part as it is reached
 pub expr_at : (m : ℕ) (e' e : Expr) → e' ≡ e → ExprLow m e' → ExprLow m e
@@ -190,9 +195,3 @@ pub head_lower : (m n : ℕ) (h : Head) → m ≤ n → HeadLow n h → HeadLow 
 head_lower m n (head.Channel c) h low = tt
 head_lower m n (head.Bound y) h low = omega (arith, h, low)
 head_lower m n (head.Put w) h low = tt
-
-pub fields_of : (m n : ℕ) (fs' fs : List Field) → fs' ≡ fs → m ≤ n → AllLow FieldLow n fs' → AllLow FieldLow m fs
-fields_of m n fs' fs h l low = subst (λ (ts : List Field). AllLow FieldLow m ts) h (all_lower FieldLow field_lower m n fs' l low)
-
-pub pairs_of : (m n : ℕ) (ps' ps : List (EventPart × EventPart)) → ps' ≡ ps → m ≤ n → AllLow PairLow n ps' → AllLow PairLow m ps
-pairs_of m n ps' ps h l low = subst (λ (ts : List (EventPart × EventPart)). AllLow PairLow m ts) h (all_lower PairLow pair_lower m n ps' l low)

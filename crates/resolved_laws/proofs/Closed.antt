@@ -1,6 +1,6 @@
 -- What a tree is read as is closed but for the bound names of its scope.
 use Rattle.std.proofs.Common.{◌≡◌, ◌⊎◌, ℕ, ◌+◌, Bool, true, false, not, ◌&&◌, nat_eq, IsTrue, Option, Some, None, List, [], ◌∷◌, map, refl, sym, ◌∙◌, ap, subst, inl, inr}
-use Rattle.std.specs.Prelude.{pos, if◌then◌else◌}
+use Rattle.std.specs.Prelude.{if◌then◌else◌}
 use Rattle.std.proofs.lemmas.Bool.{false≢true, or_cases, eq-eqb, eqb-true}
 use Rattle.csp_program.specs.Free.{Names, nowhere, either, apart_from, any_of, expr_free, expr_free_of_layer, gen_binding, gen_free_of_layer, part_free, part_free_of_layer, head_free, before, pair_free, proc_free, proc_free_of_layer, net_free, net_free_of_layer}
 use Rattle.csp_program.specs.Free as free
@@ -91,10 +91,10 @@ one_within scope x k h = record { at = λ y t. subst (λ z. IsTrue (has (numbers
 
 -- ---- one layer
 
-expr_within : {scope : Scope} (d : Expr-F Expr Gen EventPart) (e : Expr) → roll-Expr d ≡ e
+expr_within : {scope : Scope} (d : Expr-F Expr Gen EventPart) {e : Expr} → roll-Expr d ≡ e
     → IsWithin (expr_free_of_layer (map-Expr Expr Gen EventPart Names free.Binding Names expr_free gen_binding part_free d)) scope
     → IsWithin (expr_free e) scope
-expr_within {scope} d e is h =
+expr_within {scope} d is h =
     subst (λ z. IsWithin (expr_free z) scope) is
     (subst (λ z. IsWithin z scope) (sym (fold-roll-Expr Names free.Binding Names expr_free_of_layer gen_free_of_layer part_free_of_layer d)) h)
 
@@ -114,30 +114,30 @@ condition_binding c =
     ap gen_binding (sym (generator.rolls-Cond c)) ∙ fold-roll-Gen Names free.Binding Names expr_free_of_layer gen_free_of_layer part_free_of_layer
     (Gen-F.Cond c)
 
-proc_within : {scope : Scope} (d : Proc-F Proc) (q : Proc) → roll-Proc d ≡ q → IsWithin (proc_free_of_layer (map-Proc Proc Names proc_free d)) scope
+proc_within : {scope : Scope} (d : Proc-F Proc) {q : Proc} → roll-Proc d ≡ q → IsWithin (proc_free_of_layer (map-Proc Proc Names proc_free d)) scope
     → IsWithin (proc_free q) scope
-proc_within {scope} d q is h =
+proc_within {scope} d is h =
     subst (λ z. IsWithin (proc_free z) scope) is (subst (λ z. IsWithin z scope) (sym (fold-roll-Proc Names proc_free_of_layer d)) h)
 
-net_within : {scope : Scope} (d : Net-F Net) (q : Net) → roll-Net d ≡ q → IsWithin (net_free_of_layer (map-Net Net Names net_free d)) scope
+net_within : {scope : Scope} (d : Net-F Net) {q : Net} → roll-Net d ≡ q → IsWithin (net_free_of_layer (map-Net Net Names net_free d)) scope
     → IsWithin (net_free q) scope
-net_within {scope} d q is h =
+net_within {scope} d is h =
     subst (λ z. IsWithin (net_free z) scope) is (subst (λ z. IsWithin z scope) (sym (fold-roll-Net Names net_free_of_layer d)) h)
 
 -- ---- names
 
 const_within : (scope : Scope) (k : ℕ) → IsWithin (expr_free (expr.Const k)) scope
-const_within scope k = expr_within (Expr-F.Const k) (expr.Const k) (expr.rolls-Const k) (nowhere_within scope)
+const_within scope k = expr_within _ (expr.rolls-Const _) (nowhere_within scope)
 
 zero_within : (scope : Scope) → IsWithin (expr_free no_expr) scope
-zero_within scope = expr_within (Expr-F.Num (pos 0)) no_expr (expr.rolls-Num (pos 0)) (nowhere_within scope)
+zero_within scope = expr_within _ (expr.rolls-Num _) (nowhere_within scope)
 
 named_within : (scope : Scope) (x : Name) (bound : Option ℕ) (e : Option Entity) → number_of scope x ≡ bound → IsWithin (expr_free (named bound e)) scope
-named_within scope x (Some k) e is = expr_within (Expr-F.Bound k) (expr.Bound k) (expr.rolls-Bound k) (one_within scope x k is)
-named_within scope x None (Some (entity.Channel c n)) is = expr_within (Expr-F.Event c []) (expr.Event c []) (expr.rolls-Event c []) (nowhere_within scope)
+named_within scope x (Some k) e is = expr_within _ (expr.rolls-Bound _) (one_within scope x k is)
+named_within scope x None (Some (entity.Channel c n)) is = expr_within _ (expr.rolls-Event _ _) (nowhere_within scope)
 named_within scope x None (Some (entity.Constant k)) is = const_within scope k
-named_within scope x None (Some (entity.Definition d n)) is = expr_within (Expr-F.Call d []) (expr.Call d []) (expr.rolls-Call d []) (nowhere_within scope)
-named_within scope x None (Some (entity.Set d)) is = expr_within (Expr-F.SetName d) (expr.SetName d) (expr.rolls-SetName d) (nowhere_within scope)
+named_within scope x None (Some (entity.Definition d n)) is = expr_within _ (expr.rolls-Call _ _) (nowhere_within scope)
+named_within scope x None (Some (entity.Set d)) is = expr_within _ (expr.rolls-SetName _) (nowhere_within scope)
 named_within scope x None None is = zero_within scope
 
 head_within : (scope : Scope) (x : Name) (bound : Option ℕ) (e : Option Entity) → number_of scope x ≡ bound → IsWithin (head_free (head_of bound e)) scope
@@ -235,10 +235,10 @@ gen_condition c scope gens inner h w =
 -- ---- forms of data, of processes and of networks
 
 stop_within : (scope : Scope) (n : ℕ) → IsWithin (proc_free proc.Stop) scope
-stop_within scope n = proc_within Proc-F.Stop proc.Stop proc.rolls-Stop (nowhere_within scope)
+stop_within scope n = proc_within _ proc.rolls-Stop (nowhere_within scope)
 
 leaf_within : (q : Proc) (scope : Scope) → IsWithin (proc_free q) scope → IsWithin (net_free (net.Leaf q)) scope
-leaf_within q scope h = net_within (Net-F.Leaf q) (net.Leaf q) (net.rolls-Leaf q) h
+leaf_within q scope h = net_within _ (net.rolls-Leaf _) h
 
 pub leaf_stop : (scope : Scope) (n : ℕ) → IsWithin (net_free (net.Leaf proc.Stop)) scope
 leaf_stop scope n = leaf_within proc.Stop scope (stop_within scope n)
@@ -272,129 +272,78 @@ of_network binds e q k b h g w = record {
 }
 
 call_within : (d : ℕ) (es : List Expr) (scope : Scope) → IsWithin (any_of (map expr_free es)) scope → IsWithin (proc_free (proc.Call d es)) scope
-call_within d es scope h = proc_within (Proc-F.Call d es) (proc.Call d es) (proc.rolls-Call d es) h
+call_within d es scope h = proc_within _ (proc.rolls-Call _ _) h
 
 net_call_within : (d : ℕ) (es : List Expr) (scope : Scope) → IsWithin (any_of (map expr_free es)) scope → IsWithin (net_free (net.Call d es)) scope
-net_call_within d es scope h = net_within (Net-F.Call d es) (net.Call d es) (net.rolls-Call d es) h
+net_call_within d es scope h = net_within _ (net.rolls-Call _ _) h
 
 module _ (m : Meanings) (ks : List Kind) where
   mutual
     pub closed : {s : Said} {r : Reading} {e : Ends} → Reads m ks s r e → Closed r
-    closed (f.num k) = of_data _ _ (λ scope n. expr_within (Expr-F.Num (pos k)) (expr.Num (pos k)) (expr.rolls-Num (pos k)) (nowhere_within scope))
-    closed f.truth = of_data _ _ (λ scope n. expr_within (Expr-F.Truth true) (expr.Truth true) (expr.rolls-Truth true) (nowhere_within scope))
-    closed f.falsehood = of_data _ _ (λ scope n. expr_within (Expr-F.Truth false) (expr.Truth false) (expr.rolls-Truth false) (nowhere_within scope))
+    closed (f.num k) = of_data _ _ (λ scope n. expr_within _ (expr.rolls-Num _) (nowhere_within scope))
+    closed f.truth = of_data _ _ (λ scope n. expr_within _ (expr.rolls-Truth _) (nowhere_within scope))
+    closed f.falsehood = of_data _ _ (λ scope n. expr_within _ (expr.rolls-Truth _) (nowhere_within scope))
     closed (f.name x) = of_network _ _ _ _ _
         (λ scope n. named_within scope x (number_of scope x) (m x) refl)
         (λ scope n. call_within (definition_number (m x)) [] scope (nowhere_within scope))
         (λ scope n. net_call_within (definition_number (m x)) [] scope (nowhere_within scope))
     closed (f.call x {args' = args} h) = of_network _ _ _ _ _
-        (λ scope n. expr_within (Expr-F.Call (definition_number (m x)) (exprs args scope n)) (expr.Call (definition_number (m x)) (exprs args scope n))
-        (expr.rolls-Call (definition_number (m x)) (exprs args scope n))
-        (exprs_within args (all_closed h) scope n))
+        (λ scope n. expr_within _ (expr.rolls-Call _ _) (exprs_within args (all_closed h) scope n))
         (λ scope n. call_within (definition_number (m x)) (exprs args scope n) scope (exprs_within args (all_closed h) scope n))
         (λ scope n. net_call_within (definition_number (m x)) (exprs args scope n) scope (exprs_within args (all_closed h) scope n))
     closed (f.dotted c {fields' = fields} h) = of_data _ _
-        (λ scope n. expr_within (Expr-F.Event (channel_number (m c)) (exprs fields scope n)) (expr.Event (channel_number (m c)) (exprs fields scope n))
-        (expr.rolls-Event (channel_number (m c)) (exprs fields scope n))
-        (exprs_within fields (all_closed h) scope n))
+        (λ scope n. expr_within _ (expr.rolls-Event _ _) (exprs_within fields (all_closed h) scope n))
     closed (f.negative {a' = a} h) = of_data _ _
-        (λ scope n. expr_within (Expr-F.Neg (a.expr scope n)) (expr.Neg (a.expr scope n)) (expr.rolls-Neg (a.expr scope n)) ((closed h).expr scope n))
+        (λ scope n. expr_within _ (expr.rolls-Neg _) ((closed h).expr scope n))
     closed (f.negated {a' = a} h) = of_data _ _
-        (λ scope n. expr_within (Expr-F.Not (a.expr scope n)) (expr.Not (a.expr scope n)) (expr.rolls-Not (a.expr scope n)) ((closed h).expr scope n))
+        (λ scope n. expr_within _ (expr.rolls-Not _) ((closed h).expr scope n))
     closed (f.binary op {a' = a} {b' = b} h g) = of_data _ _
-        (λ scope n. expr_within (Expr-F.Binary op (a.expr scope n) (b.expr scope (n + a.binds))) (expr.Binary op (a.expr scope n) (b.expr scope (n + a.binds)))
-        (expr.rolls-Binary op (a.expr scope n) (b.expr scope (n + a.binds))) (either_within ((closed h).expr scope n) ((closed g).expr scope (n + a.binds))))
+        (λ scope n. expr_within _ (expr.rolls-Binary _ _ _) (either_within ((closed h).expr scope n) ((closed g).expr scope (n + a.binds))))
     closed (f.either_part {c' = c} {p' = p} {q' = q} h g k) = of_network _ _ _ _ _
-        (λ scope n. expr_within (Expr-F.If (c.expr scope n) (p.expr scope (n + c.binds)) (q.expr scope (n + c.binds + p.binds)))
-        (expr.If (c.expr scope n) (p.expr scope (n + c.binds)) (q.expr scope (n + c.binds + p.binds)))
-        (expr.rolls-If (c.expr scope n) (p.expr scope (n + c.binds)) (q.expr scope (n + c.binds + p.binds)))
-        (either_within ((closed h).expr scope n) (either_within ((closed g).expr scope (n + c.binds)) ((closed k).expr scope (n + c.binds + p.binds)))))
-        (λ scope n. proc_within (Proc-F.If (c.expr scope n) (p.proc scope (n + c.binds)) (q.proc scope (n + c.binds + p.binds)))
-        (proc.If (c.expr scope n) (p.proc scope (n + c.binds)) (q.proc scope (n + c.binds + p.binds)))
-        (proc.rolls-If (c.expr scope n) (p.proc scope (n + c.binds)) (q.proc scope (n + c.binds + p.binds)))
-        (either_within ((closed h).expr scope n) (either_within ((closed g).proc scope (n + c.binds)) ((closed k).proc scope (n + c.binds + p.binds)))))
-        (λ scope n. net_within (Net-F.If (c.expr scope n) (p.net scope (n + c.binds)) (q.net scope (n + c.binds + p.binds)))
-        (net.If (c.expr scope n) (p.net scope (n + c.binds)) (q.net scope (n + c.binds + p.binds)))
-        (net.rolls-If (c.expr scope n) (p.net scope (n + c.binds)) (q.net scope (n + c.binds + p.binds)))
-        (either_within ((closed h).expr scope n) (either_within ((closed g).net scope (n + c.binds)) ((closed k).net scope (n + c.binds + p.binds)))))
+        (λ scope n. expr_within _ (expr.rolls-If _ _ _) (either_within ((closed h).expr scope n) (either_within ((closed g).expr scope (n + c.binds)) ((closed k).expr scope (n + c.binds + p.binds)))))
+        (λ scope n. proc_within _ (proc.rolls-If _ _ _) (either_within ((closed h).expr scope n) (either_within ((closed g).proc scope (n + c.binds)) ((closed k).proc scope (n + c.binds + p.binds)))))
+        (λ scope n. net_within _ (net.rolls-If _ _ _) (either_within ((closed h).expr scope n) (either_within ((closed g).net scope (n + c.binds)) ((closed k).net scope (n + c.binds + p.binds)))))
     closed (f.display {items' = items} h) = of_data _ _
-        (λ scope n. expr_within (Expr-F.Display (exprs items scope n)) (expr.Display (exprs items scope n)) (expr.rolls-Display (exprs items scope n))
-        (exprs_within items (all_closed h) scope n))
+        (λ scope n. expr_within _ (expr.rolls-Display _) (exprs_within items (all_closed h) scope n))
     closed (f.span {a' = a} {b' = b} h g) = of_data _ _
-        (λ scope n. expr_within (Expr-F.Range (a.expr scope n) (b.expr scope (n + a.binds))) (expr.Range (a.expr scope n) (b.expr scope (n + a.binds)))
-        (expr.rolls-Range (a.expr scope n) (b.expr scope (n + a.binds))) (either_within ((closed h).expr scope n) ((closed g).expr scope (n + a.binds))))
+        (λ scope n. expr_within _ (expr.rolls-Range _ _) (either_within ((closed h).expr scope n) ((closed g).expr scope (n + a.binds))))
     closed (f.comprehension {items' = items} {gens' = gens} h g) = of_data _ _
-        (λ scope n. expr_within (Expr-F.Comp (exprs items (under gens scope (n + all_bind items)) n) (bindings gens scope (n + all_bind items)))
-        (expr.Comp (exprs items (under gens scope (n + all_bind items)) n) (bindings gens scope (n + all_bind items)))
-        (expr.rolls-Comp (exprs items (under gens scope (n + all_bind items)) n) (bindings gens scope (n + all_bind items)))
-        (gens_within gens (gens_closed g) scope (n + all_bind items) (any_of (map expr_free (exprs items (under gens scope (n + all_bind items)) n)))
+        (λ scope n. expr_within _ (expr.rolls-Comp _ _) (gens_within gens (gens_closed g) scope (n + all_bind items) (any_of (map expr_free (exprs items (under gens scope (n + all_bind items)) n)))
         (exprs_within items (all_closed h) (under gens scope (n + all_bind items)) n)))
     closed (f.production {parts' = fronts} {gens' = gens} h g) = of_data _ _
-        (λ scope n. expr_within (Expr-F.Product (parts m ks fronts (under gens scope (n + parts_bind fronts)) n) (bindings gens scope (n + parts_bind fronts)))
-        (expr.Product (parts m ks fronts (under gens scope (n + parts_bind fronts)) n) (bindings gens scope (n + parts_bind fronts)))
-        (expr.rolls-Product (parts m ks fronts (under gens scope (n + parts_bind fronts)) n) (bindings gens scope (n + parts_bind fronts)))
-        (gens_within gens (gens_closed g) scope (n + parts_bind fronts)
+        (λ scope n. expr_within _ (expr.rolls-Product _ _) (gens_within gens (gens_closed g) scope (n + parts_bind fronts)
         (any_of (map part_free (parts m ks fronts (under gens scope (n + parts_bind fronts)) n)))
         (parts_within m ks fronts (parts_closed h) (under gens scope (n + parts_bind fronts)) n)))
     closed (f.set_operator op {a' = a} {b' = b} h g) = of_data _ _
-        (λ scope n. expr_within (Expr-F.SetOp op (a.expr scope n) (b.expr scope (n + a.binds))) (expr.SetOp op (a.expr scope n) (b.expr scope (n + a.binds)))
-        (expr.rolls-SetOp op (a.expr scope n) (b.expr scope (n + a.binds))) (either_within ((closed h).expr scope n) ((closed g).expr scope (n + a.binds))))
+        (λ scope n. expr_within _ (expr.rolls-SetOp _ _ _) (either_within ((closed h).expr scope n) ((closed g).expr scope (n + a.binds))))
     closed f.stop = of_process _ _ stop_within
-    closed f.skip = of_process _ _ (λ scope n. proc_within Proc-F.Skip proc.Skip proc.rolls-Skip (nowhere_within scope))
+    closed f.skip = of_process _ _ (λ scope n. proc_within _ proc.rolls-Skip (nowhere_within scope))
     closed (f.prefix {p' = p} (f.head_with x {fs = fs} h) g) = of_process _ _
-        (λ scope n. proc_within (Proc-F.Prefix (head_of (number_of scope x) (m x)) (bindings fs scope n) (p.proc (under fs scope n) (n + bindings_bind fs)))
-        (proc.Prefix (head_of (number_of scope x) (m x)) (bindings fs scope n) (p.proc (under fs scope n) (n + bindings_bind fs)))
-        (proc.rolls-Prefix (head_of (number_of scope x) (m x)) (bindings fs scope n) (p.proc (under fs scope n) (n + bindings_bind fs)))
-        (either_within (head_within scope x (number_of scope x) (m x) refl)
+        (λ scope n. proc_within _ (proc.rolls-Prefix _ _ _) (either_within (head_within scope x (number_of scope x) (m x) refl)
         (fields_within fs (fields_closed h) scope n (proc_free (p.proc (under fs scope n) (n + bindings_bind fs)))
         ((closed g).proc (under fs scope n) (n + bindings_bind fs)))))
     closed (f.guard {c' = c} {p' = p} h g) = of_process _ _
-        (λ scope n. proc_within (Proc-F.Guard (c.expr scope n) (p.proc scope (n + c.binds))) (proc.Guard (c.expr scope n) (p.proc scope (n + c.binds)))
-        (proc.rolls-Guard (c.expr scope n) (p.proc scope (n + c.binds))) (either_within ((closed h).expr scope n) ((closed g).proc scope (n + c.binds))))
+        (λ scope n. proc_within _ (proc.rolls-Guard _ _) (either_within ((closed h).expr scope n) ((closed g).proc scope (n + c.binds))))
     closed (f.external {ps' = ps} h) = of_process _ _
-        (λ scope n. proc_within (Proc-F.External (procs ps scope n)) (proc.External (procs ps scope n)) (proc.rolls-External (procs ps scope n))
-        (procs_within ps (all_closed h) scope n))
+        (λ scope n. proc_within _ (proc.rolls-External _) (procs_within ps (all_closed h) scope n))
     closed (f.internal {ps' = ps} h) = of_process _ _
-        (λ scope n. proc_within (Proc-F.Internal (procs ps scope n)) (proc.Internal (procs ps scope n)) (proc.rolls-Internal (procs ps scope n))
-        (procs_within ps (all_closed h) scope n))
+        (λ scope n. proc_within _ (proc.rolls-Internal _) (procs_within ps (all_closed h) scope n))
     closed (f.each_external x {s' = s} {p' = p} h g) = of_process _ _
-        (λ scope n. proc_within (Proc-F.EachExternal n (s.expr scope (n + 1)) (p.proc (with scope x n) (n + 1 + s.binds)))
-        (proc.EachExternal n (s.expr scope (n + 1)) (p.proc (with scope x n) (n + 1 + s.binds)))
-        (proc.rolls-EachExternal n (s.expr scope (n + 1)) (p.proc (with scope x n) (n + 1 + s.binds)))
-        (either_within ((closed h).expr scope (n + 1)) (apart_within x n ((closed g).proc (with scope x n) (n + 1 + s.binds)))))
+        (λ scope n. proc_within _ (proc.rolls-EachExternal _ _ _) (either_within ((closed h).expr scope (n + 1)) (apart_within x n ((closed g).proc (with scope x n) (n + 1 + s.binds)))))
     closed (f.each_internal x {s' = s} {p' = p} h g) = of_process _ _
-        (λ scope n. proc_within (Proc-F.EachInternal n (s.expr scope (n + 1)) (p.proc (with scope x n) (n + 1 + s.binds)))
-        (proc.EachInternal n (s.expr scope (n + 1)) (p.proc (with scope x n) (n + 1 + s.binds)))
-        (proc.rolls-EachInternal n (s.expr scope (n + 1)) (p.proc (with scope x n) (n + 1 + s.binds)))
-        (either_within ((closed h).expr scope (n + 1)) (apart_within x n ((closed g).proc (with scope x n) (n + 1 + s.binds)))))
+        (λ scope n. proc_within _ (proc.rolls-EachInternal _ _ _) (either_within ((closed h).expr scope (n + 1)) (apart_within x n ((closed g).proc (with scope x n) (n + 1 + s.binds)))))
     closed (f.pair {p' = p} {a' = a} {b' = b} {q' = q} h g k l) = of_network _ _ _ _ _ (λ scope n. zero_within scope) stop_within
-        (λ scope n. net_within (Net-F.Pair (p.net scope n) (a.expr scope (n + p.binds)) (b.expr scope (n + p.binds + a.binds))
-        (q.net scope (n + p.binds + a.binds + b.binds)))
-        (net.Pair (p.net scope n) (a.expr scope (n + p.binds)) (b.expr scope (n + p.binds + a.binds)) (q.net scope (n + p.binds + a.binds + b.binds)))
-        (net.rolls-Pair (p.net scope n) (a.expr scope (n + p.binds)) (b.expr scope (n + p.binds + a.binds)) (q.net scope (n + p.binds + a.binds + b.binds)))
-        (either_within ((closed h).net scope n) (either_within ((closed g).expr scope (n + p.binds))
+        (λ scope n. net_within _ (net.rolls-Pair _ _ _ _) (either_within ((closed h).net scope n) (either_within ((closed g).expr scope (n + p.binds))
         (either_within ((closed k).expr scope (n + p.binds + a.binds)) ((closed l).net scope (n + p.binds + a.binds + b.binds))))))
     closed (f.each_parallel x {s' = s} {a' = a} {p' = p} h g k) = of_network _ _ _ _ _ (λ scope n. zero_within scope) stop_within
-        (λ scope n. net_within (Net-F.Each n (s.expr scope (n + 1)) (a.expr (with scope x n) (n + 1 + s.binds))
-        (p.net (with scope x n) (n + 1 + s.binds + a.binds)))
-        (net.Each n (s.expr scope (n + 1)) (a.expr (with scope x n) (n + 1 + s.binds)) (p.net (with scope x n) (n + 1 + s.binds + a.binds)))
-        (net.rolls-Each n (s.expr scope (n + 1)) (a.expr (with scope x n) (n + 1 + s.binds)) (p.net (with scope x n) (n + 1 + s.binds + a.binds)))
-        (either_within ((closed h).expr scope (n + 1))
+        (λ scope n. net_within _ (net.rolls-Each _ _ _ _) (either_within ((closed h).expr scope (n + 1))
         (apart_within x n (either_within ((closed g).expr (with scope x n) (n + 1 + s.binds)) ((closed k).net (with scope x n) (n + 1 + s.binds + a.binds))))))
     closed (f.sequence {p' = p} {q' = q} h g) = of_process _ _
-        (λ scope n. proc_within (Proc-F.Seq (p.proc scope n) (q.proc scope (n + p.binds))) (proc.Seq (p.proc scope n) (q.proc scope (n + p.binds)))
-        (proc.rolls-Seq (p.proc scope n) (q.proc scope (n + p.binds))) (either_within ((closed h).proc scope n) ((closed g).proc scope (n + p.binds))))
+        (λ scope n. proc_within _ (proc.rolls-Seq _ _) (either_within ((closed h).proc scope n) ((closed g).proc scope (n + p.binds))))
     closed (f.hiding {p' = p} {s' = s} h g) = of_process _ _
-        (λ scope n. proc_within (Proc-F.Hide (p.proc scope n) (s.expr scope (n + p.binds))) (proc.Hide (p.proc scope n) (s.expr scope (n + p.binds)))
-        (proc.rolls-Hide (p.proc scope n) (s.expr scope (n + p.binds))) (either_within ((closed h).proc scope n) ((closed g).expr scope (n + p.binds))))
+        (λ scope n. proc_within _ (proc.rolls-Hide _ _) (either_within ((closed h).proc scope n) ((closed g).expr scope (n + p.binds))))
     closed (f.renaming {p' = p} {pairs' = fronts} {gens' = gens} h g k) = of_process _ _
-        (λ scope n. proc_within (Proc-F.Rename (p.proc scope n) (pairs m ks fronts (under gens scope (n + p.binds + pairs_bind fronts)) (n + p.binds))
-        (bindings gens scope (n + p.binds + pairs_bind fronts)))
-        (proc.Rename (p.proc scope n) (pairs m ks fronts (under gens scope (n + p.binds + pairs_bind fronts)) (n + p.binds))
-        (bindings gens scope (n + p.binds + pairs_bind fronts)))
-        (proc.rolls-Rename (p.proc scope n) (pairs m ks fronts (under gens scope (n + p.binds + pairs_bind fronts)) (n + p.binds))
-        (bindings gens scope (n + p.binds + pairs_bind fronts)))
-        (either_within ((closed h).proc scope n)
+        (λ scope n. proc_within _ (proc.rolls-Rename _ _ _) (either_within ((closed h).proc scope n)
         (gens_within gens (gens_closed k) scope (n + p.binds + pairs_bind fronts)
         (any_of (map pair_free (pairs m ks fronts (under gens scope (n + p.binds + pairs_bind fronts)) (n + p.binds))))
         (pairs_within m ks fronts (pairs_closed g) (under gens scope (n + p.binds + pairs_bind fronts)) (n + p.binds)))))

@@ -1,6 +1,5 @@
 -- An expression that is read from a tree without a fault uses only definitions that the tree says, and reaches below each of them.
-use Rattle.std.proofs.Common.{◌≡◌, ◌⊎◌, ℕ, zero, suc, ◌+◌, ◌<◌, ◌≤◌, max, Bool, true, false, nat_eq, IsTrue, Option, Some, None, List, [], ◌∷◌, ◌++◌, length, map, sym, subst, inl, inr, arith}
-use Rattle.std.specs.Prelude.{pos}
+use Rattle.std.proofs.Common.{◌≡◌, ◌⊎◌, ℕ, zero, suc, ◌+◌, ◌<◌, ◌≤◌, max, Bool, false, nat_eq, IsTrue, Option, Some, None, List, [], ◌∷◌, ◌++◌, length, map, sym, subst, inl, inr, arith}
 use Rattle.std.proofs.lemmas.Bool.{false≢true, or_cases, eqb-true}
 use Rattle.csp_program.specs.Free.{Names, nowhere, either, any_of}
 use Rattle.csp_program.specs.Uses.{expr_uses, expr_uses_of_layer, gen_uses_of_layer, part_uses_of_layer}
@@ -24,7 +23,7 @@ use Rattle.script_names.specs.Names.{Name, Meanings, sense_in, sense_of}
 use Rattle.script_names.specs.Occurrence.{Occurrence, uses, form, parallel}
 use Rattle.script_names.specs.Says.{Binder, Fields, Said, all_say, in_turn, part_says}
 use Rattle.script_names.specs.Says as says
-use Rattle.script_names.specs.Typed.{Binding, Front, Reading, Scope, all_bind, bindings, channel_number, definition_number, exprs, named, names_of, no_expr, part, parts, parts_bind, under}
+use Rattle.script_names.specs.Typed.{Binding, Front, Reading, Scope, all_bind, bindings, channel_number, definition_number, exprs, named, names_of, part, parts, parts_bind, under}
 use Rattle.resolved_laws.proofs.Faultless.{AllFine, IsFine, fine_two, fine_three}
 use Rattle.resolved_laws.proofs.Fitting.{data_at}
 use Rattle.resolved_laws.proofs.Formed.{Ends, Reads, AllRead, GenRead, GensRead, PartRead, PartsRead}
@@ -87,9 +86,9 @@ module _ (depth : ℕ → ℕ) where
 
   -- ---- one layer
 
-  expr_below : {os : List Occurrence} (d : Expr-F Expr Gen EventPart) (e : Expr) → roll-Expr d ≡ e
+  expr_below : {os : List Occurrence} (d : Expr-F Expr Gen EventPart) {e : Expr} → roll-Expr d ≡ e
       → IsBelow (expr_uses_of_layer (map-Expr Expr Gen EventPart Names Names Names expr_uses gen_uses part_uses d)) os → IsBelow (expr_uses e) os
-  expr_below {os} d e is h =
+  expr_below {os} d is h =
       subst (λ z. IsBelow (expr_uses z) os) is
       (subst (λ z. IsBelow z os) (sym (fold-roll-Expr Names Names Names expr_uses_of_layer gen_uses_of_layer part_uses_of_layer d)) h)
 
@@ -116,19 +115,17 @@ module _ (depth : ℕ → ℕ) where
 
   alone_below : (x : Name) (e : Option Entity) (b : Bool) (l : ℕ) → 0 < l → IsBelow (expr_uses (named None e))
       (uses x (sense_of e) (how.Alone (data_at b l)) ∷ [])
-  alone_below x None b l h = expr_below (Expr-F.Num (pos 0)) no_expr (expr.rolls-Num (pos 0)) (nowhere_below _)
-  alone_below x (Some (entity.Channel c n)) b l h = expr_below (Expr-F.Event c []) (expr.Event c []) (expr.rolls-Event c []) (nowhere_below _)
-  alone_below x (Some (entity.Constant k)) b l h = expr_below (Expr-F.Const k) (expr.Const k) (expr.rolls-Const k) (nowhere_below _)
+  alone_below x None b l h = expr_below _ (expr.rolls-Num _) (nowhere_below _)
+  alone_below x (Some (entity.Channel c n)) b l h = expr_below _ (expr.rolls-Event _ _) (nowhere_below _)
+  alone_below x (Some (entity.Constant k)) b l h = expr_below _ (expr.rolls-Const _) (nowhere_below _)
   alone_below x (Some (entity.Definition d n)) b l h =
-      expr_below (Expr-F.Call d []) (expr.Call d []) (expr.rolls-Call d [])
-      (first_below d (uses x (sense_of (Some (entity.Definition d n))) (how.Alone (data_at b l))) (under_level (depth d) l h) (nowhere_below []))
+      expr_below _ (expr.rolls-Call _ _) (first_below d (uses x (sense_of (Some (entity.Definition d n))) (how.Alone (data_at b l))) (under_level (depth d) l h) (nowhere_below []))
   alone_below x (Some (entity.Set d)) b l h =
-      expr_below (Expr-F.SetName d) (expr.SetName d) (expr.rolls-SetName d)
-      (one_below d (uses x (sense_of (Some (entity.Set d))) (how.Alone (data_at b l))) (under_level (depth d) l h))
+      expr_below _ (expr.rolls-SetName _) (one_below d (uses x (sense_of (Some (entity.Set d))) (how.Alone (data_at b l))) (under_level (depth d) l h))
 
   named_below : {m : Meanings} {x : Name} {o : Option ℕ} {s : Sense} → NameIs m x o s → (b : Bool) (l : ℕ) → 0 < l
       → IsBelow (expr_uses (named o (m x))) (uses x s (how.Alone (data_at b l)) ∷ [])
-  named_below (is_bound k) b l h = expr_below (Expr-F.Bound k) (expr.Bound k) (expr.rolls-Bound k) (nowhere_below _)
+  named_below (is_bound k) b l h = expr_below _ (expr.rolls-Bound _) (nowhere_below _)
   named_below {m} {x} is_free b l h = alone_below x (m x) b l h
 
   module _ (ks : List Kind) where
@@ -174,56 +171,39 @@ module _ (depth : ℕ → ℕ) where
     module _ (m : Meanings) where
       mutual
         pub leads : {s : Said} {r : Reading} {e : Ends} → Reads m ks s r e → Leads s r
-        leads (f.num k) = of_data _ _ (λ scope n b l z fine. expr_below (Expr-F.Num (pos k)) (expr.Num (pos k)) (expr.rolls-Num (pos k)) (nowhere_below _))
-        leads f.truth = of_data _ _ (λ scope n b l z fine. expr_below (Expr-F.Truth true) (expr.Truth true) (expr.rolls-Truth true) (nowhere_below _))
-        leads f.falsehood = of_data _ _ (λ scope n b l z fine. expr_below (Expr-F.Truth false) (expr.Truth false) (expr.rolls-Truth false) (nowhere_below _))
+        leads (f.num k) = of_data _ _ (λ scope n b l z fine. expr_below _ (expr.rolls-Num _) (nowhere_below _))
+        leads f.truth = of_data _ _ (λ scope n b l z fine. expr_below _ (expr.rolls-Truth _) (nowhere_below _))
+        leads f.falsehood = of_data _ _ (λ scope n b l z fine. expr_below _ (expr.rolls-Truth _) (nowhere_below _))
         leads (f.name x) = record { expr = λ scope n b l z fine. named_below (name_is m scope x) b l z }
         leads (f.call x {args = ss} {args' = args} h) = record {
           expr = λ scope n b l z fine.
-              expr_below (Expr-F.Call (definition_number (m x)) (exprs args scope n)) (expr.Call (definition_number (m x)) (exprs args scope n))
-              (expr.rolls-Call (definition_number (m x)) (exprs args scope n))
-              (first_below (definition_number (m x)) (uses x (sense_in m (names_of scope) x) (how.Called (length ss) (data_at b l)))
+              expr_below _ (expr.rolls-Call _ _) (first_below (definition_number (m x)) (uses x (sense_in m (names_of scope) x) (how.Called (length ss) (data_at b l)))
               (called_below (name_is m scope x) (length ss) b l z fine.0)
               (exprs_lead h scope n false (l + 1) (more l) fine.1));
         }
         leads (f.dotted c {fields' = fields} h) = of_data _ _
-            (λ scope n b l z fine. expr_below (Expr-F.Event (channel_number (m c)) (exprs fields scope n))
-            (expr.Event (channel_number (m c)) (exprs fields scope n)) (expr.rolls-Event (channel_number (m c)) (exprs fields scope n))
-            (later_below _ (exprs_lead h scope n false (l + 1) (more l) fine.1)))
+            (λ scope n b l z fine. expr_below _ (expr.rolls-Event _ _) (later_below _ (exprs_lead h scope n false (l + 1) (more l) fine.1)))
         leads (f.negative {a' = a} h) = of_data _ _
-            (λ scope n b l z fine. expr_below (Expr-F.Neg (a.expr scope n)) (expr.Neg (a.expr scope n)) (expr.rolls-Neg (a.expr scope n))
-            ((leads h).expr scope n false (l + 1) (more l) fine))
+            (λ scope n b l z fine. expr_below _ (expr.rolls-Neg _) ((leads h).expr scope n false (l + 1) (more l) fine))
         leads (f.negated {a' = a} h) = of_data _ _
-            (λ scope n b l z fine. expr_below (Expr-F.Not (a.expr scope n)) (expr.Not (a.expr scope n)) (expr.rolls-Not (a.expr scope n))
-            ((leads h).expr scope n false (l + 1) (more l) fine))
+            (λ scope n b l z fine. expr_below _ (expr.rolls-Not _) ((leads h).expr scope n false (l + 1) (more l) fine))
         leads (f.binary op {a' = a} {b' = c} h g) = of_data _ _
             (λ scope n b l z fine. let w = fine_two ks _ _ fine in
-            expr_below (Expr-F.Binary op (a.expr scope n) (c.expr scope (n + a.binds))) (expr.Binary op (a.expr scope n) (c.expr scope (n + a.binds)))
-            (expr.rolls-Binary op (a.expr scope n) (c.expr scope (n + a.binds)))
-            (either_below _ _ ((leads h).expr scope n false (l + 1) (more l) w.0) ((leads g).expr scope (n + a.binds) false (l + 1) (more l) w.1)))
+            expr_below _ (expr.rolls-Binary _ _ _) (either_below _ _ ((leads h).expr scope n false (l + 1) (more l) w.0) ((leads g).expr scope (n + a.binds) false (l + 1) (more l) w.1)))
         leads (f.either_part {c' = c} {p' = t} {q' = u} h g k) = record {
           expr = λ scope n b l z fine. let w = fine_three ks _ _ _ fine in
-              expr_below (Expr-F.If (c.expr scope n) (t.expr scope (n + c.binds)) (u.expr scope (n + c.binds + t.binds)))
-              (expr.If (c.expr scope n) (t.expr scope (n + c.binds)) (u.expr scope (n + c.binds + t.binds)))
-              (expr.rolls-If (c.expr scope n) (t.expr scope (n + c.binds)) (u.expr scope (n + c.binds + t.binds)))
-              (either_below _ _ ((leads h).expr scope n false (l + 1) (more l) w.0)
+              expr_below _ (expr.rolls-If _ _ _) (either_below _ _ ((leads h).expr scope n false (l + 1) (more l) w.0)
               (either_below _ _ ((leads g).expr scope (n + c.binds) b (l + 1) (more l) w.1)
               ((leads k).expr scope (n + c.binds + t.binds) b (l + 1) (more l) w.2)));
         }
         leads (f.display {items' = items} h) = of_data _ _
-            (λ scope n b l z fine. expr_below (Expr-F.Display (exprs items scope n)) (expr.Display (exprs items scope n))
-            (expr.rolls-Display (exprs items scope n)) (exprs_lead h scope n false (l + 1) (more l) fine))
+            (λ scope n b l z fine. expr_below _ (expr.rolls-Display _) (exprs_lead h scope n false (l + 1) (more l) fine))
         leads (f.span {a' = a} {b' = c} h g) = of_data _ _
             (λ scope n b l z fine. let w = fine_two ks _ _ fine in
-            expr_below (Expr-F.Range (a.expr scope n) (c.expr scope (n + a.binds))) (expr.Range (a.expr scope n) (c.expr scope (n + a.binds)))
-            (expr.rolls-Range (a.expr scope n) (c.expr scope (n + a.binds)))
-            (either_below _ _ ((leads h).expr scope n false (l + 1) (more l) w.0) ((leads g).expr scope (n + a.binds) false (l + 1) (more l) w.1)))
+            expr_below _ (expr.rolls-Range _ _) (either_below _ _ ((leads h).expr scope n false (l + 1) (more l) w.0) ((leads g).expr scope (n + a.binds) false (l + 1) (more l) w.1)))
         leads (f.comprehension {items = ss} {items' = items} {gens = gs} {gens' = gens} h g) = of_data _ _
             (λ scope n b l z fine. let w = fine_two ks _ _ fine in
-            expr_below (Expr-F.Comp (exprs items (under gens scope (n + all_bind items)) n) (bindings gens scope (n + all_bind items)))
-            (expr.Comp (exprs items (under gens scope (n + all_bind items)) n) (bindings gens scope (n + all_bind items)))
-            (expr.rolls-Comp (exprs items (under gens scope (n + all_bind items)) n) (bindings gens scope (n + all_bind items)))
-            (either_below _ _
+            expr_below _ (expr.rolls-Comp _ _) (either_below _ _
             (back (all_say ss) (data_at false (l + 1)) (says.under gs (names_of scope)) (under gens scope (n + all_bind items))
             (gens_names m ks g scope (n + all_bind items))
             (exprs_lead h (under gens scope (n + all_bind items)) n false (l + 1) (more l)
@@ -232,10 +212,7 @@ module _ (depth : ℕ → ℕ) where
             (gens_lead g scope (n + all_bind items) (data_at b l) w.1)))
         leads (f.production {parts = ss} {parts' = fronts} {gens = gs} {gens' = gens} h g) = of_data _ _
             (λ scope n b l z fine. let w = fine_two ks _ _ fine in
-            expr_below (Expr-F.Product (parts m ks fronts (under gens scope (n + parts_bind fronts)) n) (bindings gens scope (n + parts_bind fronts)))
-            (expr.Product (parts m ks fronts (under gens scope (n + parts_bind fronts)) n) (bindings gens scope (n + parts_bind fronts)))
-            (expr.rolls-Product (parts m ks fronts (under gens scope (n + parts_bind fronts)) n) (bindings gens scope (n + parts_bind fronts)))
-            (either_below _ _
+            expr_below _ (expr.rolls-Product _ _) (either_below _ _
             (back (all_say (map (part_says m) ss)) (data_at b l) (says.under gs (names_of scope)) (under gens scope (n + parts_bind fronts))
             (gens_names m ks g scope (n + parts_bind fronts))
             (parts_lead h (under gens scope (n + parts_bind fronts)) n (data_at b l)
@@ -244,9 +221,7 @@ module _ (depth : ℕ → ℕ) where
             (gens_lead g scope (n + parts_bind fronts) (data_at b l) w.1)))
         leads (f.set_operator op {a' = a} {b' = c} h g) = of_data _ _
             (λ scope n b l z fine. let w = fine_two ks _ _ fine in
-            expr_below (Expr-F.SetOp op (a.expr scope n) (c.expr scope (n + a.binds))) (expr.SetOp op (a.expr scope n) (c.expr scope (n + a.binds)))
-            (expr.rolls-SetOp op (a.expr scope n) (c.expr scope (n + a.binds)))
-            (either_below _ _ ((leads h).expr scope n false (l + 1) (more l) w.0) ((leads g).expr scope (n + a.binds) false (l + 1) (more l) w.1)))
+            expr_below _ (expr.rolls-SetOp _ _ _) (either_below _ _ ((leads h).expr scope n false (l + 1) (more l) w.0) ((leads g).expr scope (n + a.binds) false (l + 1) (more l) w.1)))
         leads f.stop = of_process _ _
         leads f.skip = of_process _ _
         leads (f.prefix h g) = of_process _ _

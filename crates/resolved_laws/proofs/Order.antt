@@ -1,5 +1,5 @@
 -- What a tree without a fault is read as is in order, where the declared names fit the program.
-use Rattle.std.proofs.Common.{◌≡◌, ℕ, zero, suc, ◌-◌, Bool, true, false, not, ◌&&◌, ◌||◌, nat_eq, nat_lt, nat_le, IsTrue, Option, Some, None, List, [], ◌∷◌, length, map, refl, sym, ◌∙◌, ap, subst, arith}
+use Rattle.std.proofs.Common.{◌≡◌, ℕ, zero, suc, ◌-◌, Bool, true, false, not, ◌&&◌, ◌||◌, nat_eq, nat_lt, nat_le, IsTrue, Option, Some, None, List, ◌∷◌, length, map, refl, sym, ◌∙◌, ap, subst, arith}
 use Rattle.std.specs.Prelude.{if◌then◌else◌, slice_get}
 use Rattle.std.proofs.lemmas.Bool.{false≢true, eqb-true, eq-eqb}
 use Rattle.csp_program.specs.InOrder.{expr_in_order, expr_in_order_of_layer, field_count, fields_left, gen_in_order, gen_in_order_of_layer, head_in_order, is_process, net_in_order, net_in_order_of_layer, part_in_order, part_in_order_of_layer, proc_in_order, proc_in_order_of_layer, takes, with_fields}
@@ -54,10 +54,10 @@ fits_under n k j h g = grind arith
 module _ (p : Content) (ks : List Kind) where
   -- ---- one layer
 
-  pub expr_order : (d : Expr-F Expr Gen EventPart) (e : Expr) → roll-Expr d ≡ e
+  pub expr_order : (d : Expr-F Expr Gen EventPart) {e : Expr} → roll-Expr d ≡ e
       → IsTrue (expr_in_order_of_layer p (map-Expr Expr Gen EventPart Bool Bool Bool (expr_in_order p) (gen_in_order p) (part_in_order p) d))
       → IsTrue (expr_in_order p e)
-  expr_order d e is h =
+  expr_order d is h =
       subst (λ z. IsTrue (expr_in_order p z)) is
       (subst IsTrue (sym (fold-roll-Expr Bool Bool Bool (expr_in_order_of_layer p) (gen_in_order_of_layer p) (part_in_order_of_layer p) d)) h)
 
@@ -79,16 +79,16 @@ module _ (p : Content) (ks : List Kind) where
       (record { channel = c; fields = es })))
       (is_and (with_fields (nat_le (length (map (expr_in_order p) es))) (slice_get p.channels c)) (all_true (map (expr_in_order p) es)) h g)
 
-  pub proc_order : (d : Proc-F Proc) (q : Proc) → roll-Proc d ≡ q → IsTrue (proc_in_order_of_layer p (map-Proc Proc Bool (proc_in_order p) d))
+  pub proc_order : (d : Proc-F Proc) {q : Proc} → roll-Proc d ≡ q → IsTrue (proc_in_order_of_layer p (map-Proc Proc Bool (proc_in_order p) d))
       → IsTrue (proc_in_order p q)
-  proc_order d q is h = subst (λ z. IsTrue (proc_in_order p z)) is (subst IsTrue (sym (fold-roll-Proc Bool (proc_in_order_of_layer p) d)) h)
+  proc_order d is h = subst (λ z. IsTrue (proc_in_order p z)) is (subst IsTrue (sym (fold-roll-Proc Bool (proc_in_order_of_layer p) d)) h)
 
-  pub net_order : (d : Net-F Net) (q : Net) → roll-Net d ≡ q → IsTrue (net_in_order_of_layer p (map-Net Net Bool (net_in_order p) d))
+  pub net_order : (d : Net-F Net) {q : Net} → roll-Net d ≡ q → IsTrue (net_in_order_of_layer p (map-Net Net Bool (net_in_order p) d))
       → IsTrue (net_in_order p q)
-  net_order d q is h = subst (λ z. IsTrue (net_in_order p z)) is (subst IsTrue (sym (fold-roll-Net Bool (net_in_order_of_layer p) d)) h)
+  net_order d is h = subst (λ z. IsTrue (net_in_order p z)) is (subst IsTrue (sym (fold-roll-Net Bool (net_in_order_of_layer p) d)) h)
 
   pub leaf_order : (q : Proc) → IsTrue (proc_in_order p q) → IsTrue (net_in_order p (net.Leaf q))
-  leaf_order q h = net_order (Net-F.Leaf q) (net.Leaf q) (net.rolls-Leaf q) h
+  leaf_order q h = net_order _ (net.rolls-Leaf _) h
 
   -- ---- a tree in each of its roles
 
@@ -135,11 +135,11 @@ module _ (p : Content) (ks : List Kind) where
 
   pub call_order : (d : ℕ) (es : List Expr) → IsTrue (takes is_process (length es) (slice_get p.defs d)) → IsTrue (all_true (map (expr_in_order p) es))
       → IsTrue (proc_in_order p (proc.Call d es))
-  call_order d es h g = proc_order (Proc-F.Call d es) (proc.Call d es) (proc.rolls-Call d es) (and h g)
+  call_order d es h g = proc_order _ (proc.rolls-Call _ _) (and h g)
 
   pub net_call_order : (d : ℕ) (es : List Expr) → IsTrue (takes order.is_network (length es) (slice_get p.defs d))
       → IsTrue (all_true (map (expr_in_order p) es)) → IsTrue (net_in_order p (net.Call d es))
-  net_call_order d es h g = net_order (Net-F.Call d es) (net.Call d es) (net.rolls-Call d es) (and h g)
+  net_call_order d es h g = net_order _ (net.rolls-Call _ _) (and h g)
 
   -- how many fields or arguments there are
   with_count : (n k : ℕ) (channel : Option Channel) → n ≡ k → IsTrue (with_fields (λ i. nat_eq i n) channel) → IsTrue (with_fields (λ i. nat_eq i k) channel)
@@ -155,12 +155,10 @@ module _ (p : Content) (ks : List Kind) where
       → IsTrue (expr_in_order p (named None e))
   alone_expr x None b l h fine = absurd (let g = fine.known in cc)
   alone_expr x (Some (entity.Channel c n)) b l h fine =
-      expr_order (Expr-F.Event c []) (expr.Event c []) (expr.rolls-Event c [])
-      (and (with_count n 0 (slice_get p.channels c) (same_count n 0 (when_none (not (nat_eq n 0)) x fine.count)) h) refl)
-  alone_expr x (Some (entity.Constant k)) b l h fine = expr_order (Expr-F.Const k) (expr.Const k) (expr.rolls-Const k) h
+      expr_order _ (expr.rolls-Event _ _) (and (with_count n 0 (slice_get p.channels c) (same_count n 0 (when_none (not (nat_eq n 0)) x fine.count)) h) refl)
+  alone_expr x (Some (entity.Constant k)) b l h fine = expr_order _ (expr.rolls-Const _) h
   alone_expr x (Some (entity.Definition d n)) b l h fine =
-      expr_order (Expr-F.Call d []) (expr.Call d []) (expr.rolls-Call d [])
-      (and (use_datum p ks (Some (entity.Definition d n)) (sense.Declared (entity.Definition d n)) 0 b l h (record {
+      expr_order _ (expr.rolls-Call _ _) (and (use_datum p ks (Some (entity.Definition d n)) (sense.Declared (entity.Definition d n)) 0 b l h (record {
         number = d;
         is = ap (λ i. Some (entity.Definition d i))
             (same_count n 0 (when_none (not (nat_eq n 0)) x (ap (λ t. when t x) (sym (or-false (not (nat_eq n 0)))) ∙ fine.count)));
@@ -168,12 +166,12 @@ module _ (p : Content) (ks : List Kind) where
         inside = fine.inside;
         network = refl;
       })) refl)
-  alone_expr x (Some (entity.Set d)) b l h fine = expr_order (Expr-F.SetName d) (expr.SetName d) (expr.rolls-SetName d) h
+  alone_expr x (Some (entity.Set d)) b l h fine = expr_order _ (expr.rolls-SetName _) h
 
   pub named_expr : {m : Meanings} {x : Name} {o : Option ℕ} {s : Sense} → NameIs m x o s → AllFit p ks m → (b : Bool) (l : ℕ)
       → IsFine ks (uses x s (how.Alone (data_at b l)))
       → IsTrue (expr_in_order p (named o (m x)))
-  named_expr (is_bound k) fits b l fine = expr_order (Expr-F.Bound k) (expr.Bound k) (expr.rolls-Bound k) refl
+  named_expr (is_bound k) fits b l fine = expr_order _ (expr.rolls-Bound _) refl
   named_expr {m} {x} is_free fits b l fine = alone_expr x (m x) b l (fits.fit x) fine
 
   -- the channel of an event with all of its fields

@@ -1,18 +1,15 @@
 -- What a tree without a fault is read as is in order in each of its roles: the induction by the forms.
 use Rattle.std.proofs.Common.{◌≡◌, ℕ, suc, ◌+◌, Bool, true, false, ◌&&◌, ◌||◌, nat_eq, nat_le, IsTrue, List, [], ◌∷◌, ◌++◌, length, map, refl, ap, subst}
-use Rattle.std.specs.Prelude.{pos, slice_get}
+use Rattle.std.specs.Prelude.{slice_get}
 use Rattle.csp_program.specs.InOrder.{expr_in_order, field_in_order, fields_left, gen_in_order, head_in_order, is_datum, is_process, pair_in_order, part_in_order, proc_in_order, takes, with_fields}
 use Rattle.csp_program.specs.InOrder as order
 use Rattle.csp_program.specs.Lists.{all_true}
 use Rattle.csp_program.specs.declared.expressions.Expr.{Expr}
-use Rattle.csp_program.specs.declared.expressions.Expr.TheOpen.{Expr-F}
 use Rattle.csp_program.specs.declared.expressions.Expr.TheVariants as expr
 use Rattle.csp_program.specs.declared.expressions.Gen.{Gen}
-use Rattle.csp_program.specs.declared.networks.Net.TheOpen.{Net-F}
 use Rattle.csp_program.specs.declared.networks.Net.TheVariants as net
 use Rattle.csp_program.specs.declared.processes.Field.{Field}
 use Rattle.csp_program.specs.declared.processes.Proc.{Proc}
-use Rattle.csp_program.specs.declared.processes.Proc.TheOpen.{Proc-F}
 use Rattle.csp_program.specs.declared.processes.Proc.TheVariants as proc
 use Rattle.csp_program.specs.declared.programs.Content.{Content}
 use Rattle.script_names.specs.declared.kinds.Kind.{Kind}
@@ -95,7 +92,7 @@ module _ (p : Content) (m : Meanings) (ks : List Kind) (fits : AllFit p ks m) wh
 
   if_proc : (c : Expr) (t u : Proc) → IsTrue (expr_in_order p c) → IsTrue (proc_in_order p t) → IsTrue (proc_in_order p u)
       → IsTrue (proc_in_order p (proc.If c t u))
-  if_proc c t u h g k = proc_order p ks (Proc-F.If c t u) (proc.If c t u) (proc.rolls-If c t u) (and h (and g k))
+  if_proc c t u h g k = proc_order p ks _ (proc.rolls-If _ _ _) (and h (and g k))
 
   -- the two sides of a renaming leave the same number of fields
   sides : {s s' : Fields Said} {r r' : Front Reading} → PartRead m ks s r → PartRead m ks s' r' → (scope : Scope) (n k : ℕ) (place : Place)
@@ -109,9 +106,9 @@ module _ (p : Content) (m : Meanings) (ks : List Kind) (fits : AllFit p ks m) wh
 
   mutual
     pub ordered : {s : Said} {r : Reading} {e : Ends} → Reads m ks s r e → Ordered p ks s r
-    ordered (f.num k) = of_data p ks _ _ _ _ _ _ (λ scope n b l fine. expr_order p ks (Expr-F.Num (pos k)) (expr.Num (pos k)) (expr.rolls-Num (pos k)) refl)
-    ordered f.truth = of_data p ks _ _ _ _ _ _ (λ scope n b l fine. expr_order p ks (Expr-F.Truth true) (expr.Truth true) (expr.rolls-Truth true) refl)
-    ordered f.falsehood = of_data p ks _ _ _ _ _ _ (λ scope n b l fine. expr_order p ks (Expr-F.Truth false) (expr.Truth false) (expr.rolls-Truth false) refl)
+    ordered (f.num k) = of_data p ks _ _ _ _ _ _ (λ scope n b l fine. expr_order p ks _ (expr.rolls-Num _) refl)
+    ordered f.truth = of_data p ks _ _ _ _ _ _ (λ scope n b l fine. expr_order p ks _ (expr.rolls-Truth _) refl)
+    ordered f.falsehood = of_data p ks _ _ _ _ _ _ (λ scope n b l fine. expr_order p ks _ (expr.rolls-Truth _) refl)
     ordered (f.name x) = record {
       expr = λ scope n b l fine. named_expr p ks (name_is m scope x) fits b l fine.0;
       proc = λ scope n b l is fine. call_order p ks (definition_number (m x)) [] (process_name x scope b l is fine.0) refl;
@@ -122,9 +119,7 @@ module _ (p : Content) (m : Meanings) (ks : List Kind) (fits : AllFit p ks m) wh
           (call_order p ks (definition_number (m x)) [] (process_name x scope true l is fine.0) refl));
     }
     ordered (f.call x {args' = args} h) = record {
-      expr = λ scope n b l fine. expr_order p ks (Expr-F.Call (definition_number (m x)) (exprs args scope n))
-          (expr.Call (definition_number (m x)) (exprs args scope n)) (expr.rolls-Call (definition_number (m x)) (exprs args scope n))
-          (and (data_call x h scope n b l fine.0) (exprs_ordered h scope n false (l + 1) fine.1));
+      expr = λ scope n b l fine. expr_order p ks _ (expr.rolls-Call _ _) (and (data_call x h scope n b l fine.0) (exprs_ordered h scope n false (l + 1) fine.1));
       proc = λ scope n b l is fine. call_order p ks (definition_number (m x)) (exprs args scope n) (process_call x h scope n b l is fine.0)
           (exprs_ordered h scope n false (l + 1) fine.1);
       net = λ scope n l fine. if_order p ks (is_network ks (sense_in m (names_of scope) x)) (net.Call (definition_number (m x)) (exprs args scope n))
@@ -136,29 +131,20 @@ module _ (p : Content) (m : Meanings) (ks : List Kind) (fits : AllFit p ks m) wh
           (exprs_ordered h scope n false (l + 1) fine.1)));
     }
     ordered (f.dotted c {fields = ss} {fields' = fields} h) = of_data p ks _ _ _ _ _ _
-        (λ scope n b l fine. expr_order p ks (Expr-F.Event (channel_number (m c)) (exprs fields scope n))
-        (expr.Event (channel_number (m c)) (exprs fields scope n)) (expr.rolls-Event (channel_number (m c)) (exprs fields scope n))
-        (and
+        (λ scope n b l fine. expr_order p ks _ (expr.rolls-Event _ _) (and
         (subst (λ k. IsTrue (with_fields (λ i. nat_eq i k) (slice_get p.channels (channel_number (m c))))) (count_order h scope n)
         (event_order p ks (name_is m scope c) fits (length ss) fine.0))
         (exprs_ordered h scope n false (l + 1) fine.1)))
     ordered (f.negative {a' = a} h) = of_data p ks _ _ _ _ _ _
-        (λ scope n b l fine. expr_order p ks (Expr-F.Neg (a.expr scope n)) (expr.Neg (a.expr scope n)) (expr.rolls-Neg (a.expr scope n))
-        ((ordered h).expr scope n false (l + 1) fine))
+        (λ scope n b l fine. expr_order p ks _ (expr.rolls-Neg _) ((ordered h).expr scope n false (l + 1) fine))
     ordered (f.negated {a' = a} h) = of_data p ks _ _ _ _ _ _
-        (λ scope n b l fine. expr_order p ks (Expr-F.Not (a.expr scope n)) (expr.Not (a.expr scope n)) (expr.rolls-Not (a.expr scope n))
-        ((ordered h).expr scope n false (l + 1) fine))
+        (λ scope n b l fine. expr_order p ks _ (expr.rolls-Not _) ((ordered h).expr scope n false (l + 1) fine))
     ordered (f.binary op {a' = a} {b' = c} h g) = of_data p ks _ _ _ _ _ _
         (λ scope n b l fine. let w = fine_two ks _ _ fine in
-        expr_order p ks (Expr-F.Binary op (a.expr scope n) (c.expr scope (n + a.binds))) (expr.Binary op (a.expr scope n) (c.expr scope (n + a.binds)))
-        (expr.rolls-Binary op (a.expr scope n) (c.expr scope (n + a.binds)))
-        (and ((ordered h).expr scope n false (l + 1) w.0) ((ordered g).expr scope (n + a.binds) false (l + 1) w.1)))
+        expr_order p ks _ (expr.rolls-Binary _ _ _) (and ((ordered h).expr scope n false (l + 1) w.0) ((ordered g).expr scope (n + a.binds) false (l + 1) w.1)))
     ordered (f.either_part {c' = c} {p' = t} {q' = u} h g k) = record {
       expr = λ scope n b l fine. let w = fine_three ks _ _ _ fine in
-          expr_order p ks (Expr-F.If (c.expr scope n) (t.expr scope (n + c.binds)) (u.expr scope (n + c.binds + t.binds)))
-          (expr.If (c.expr scope n) (t.expr scope (n + c.binds)) (u.expr scope (n + c.binds + t.binds)))
-          (expr.rolls-If (c.expr scope n) (t.expr scope (n + c.binds)) (u.expr scope (n + c.binds + t.binds)))
-          (and ((ordered h).expr scope n false (l + 1) w.0) (and ((ordered g).expr scope (n + c.binds) b (l + 1) w.1)
+          expr_order p ks _ (expr.rolls-If _ _ _) (and ((ordered h).expr scope n false (l + 1) w.0) (and ((ordered g).expr scope (n + c.binds) b (l + 1) w.1)
           ((ordered k).expr scope (n + c.binds + t.binds) b (l + 1) w.2)));
       proc = λ scope n b l is fine. let w = fine_three ks _ _ _ fine in
           if_proc (c.expr scope n) (t.proc scope (n + c.binds)) (u.proc scope (n + c.binds + t.binds)) ((ordered h).expr scope n false (l + 1) w.0)
@@ -167,10 +153,7 @@ module _ (p : Content) (m : Meanings) (ks : List Kind) (fits : AllFit p ks m) wh
       net = λ scope n l fine. let w = fine_three ks _ _ _ fine in
           if_order p ks (t.networked scope || u.networked scope) (net.If (c.expr scope n) (t.net scope (n + c.binds)) (u.net scope (n + c.binds + t.binds)))
           (net.Leaf (proc.If (c.expr scope n) (t.proc scope (n + c.binds)) (u.proc scope (n + c.binds + t.binds))))
-          (λ is. net_order p ks (Net-F.If (c.expr scope n) (t.net scope (n + c.binds)) (u.net scope (n + c.binds + t.binds)))
-          (net.If (c.expr scope n) (t.net scope (n + c.binds)) (u.net scope (n + c.binds + t.binds)))
-          (net.rolls-If (c.expr scope n) (t.net scope (n + c.binds)) (u.net scope (n + c.binds + t.binds)))
-          (and ((ordered h).expr scope n false (l + 1) w.0) (and ((ordered g).net scope (n + c.binds) (l + 1) w.1)
+          (λ is. net_order p ks _ (net.rolls-If _ _ _) (and ((ordered h).expr scope n false (l + 1) w.0) (and ((ordered g).net scope (n + c.binds) (l + 1) w.1)
           ((ordered k).net scope (n + c.binds + t.binds) (l + 1) w.2))))
           (λ is. leaf_order p ks (proc.If (c.expr scope n) (t.proc scope (n + c.binds)) (u.proc scope (n + c.binds + t.binds)))
           (if_proc (c.expr scope n) (t.proc scope (n + c.binds)) (u.proc scope (n + c.binds + t.binds)) ((ordered h).expr scope n false (l + 1) w.0)
@@ -178,46 +161,32 @@ module _ (p : Content) (m : Meanings) (ks : List Kind) (fits : AllFit p ks m) wh
           ((ordered k).proc scope (n + c.binds + t.binds) true (l + 1) (and_right_false true (t.networked scope) (u.networked scope) is) w.2)));
     }
     ordered (f.display {items' = items} h) = of_data p ks _ _ _ _ _ _
-        (λ scope n b l fine. expr_order p ks (Expr-F.Display (exprs items scope n)) (expr.Display (exprs items scope n))
-        (expr.rolls-Display (exprs items scope n)) (exprs_ordered h scope n false (l + 1) fine))
+        (λ scope n b l fine. expr_order p ks _ (expr.rolls-Display _) (exprs_ordered h scope n false (l + 1) fine))
     ordered (f.span {a' = a} {b' = c} h g) = of_data p ks _ _ _ _ _ _
         (λ scope n b l fine. let w = fine_two ks _ _ fine in
-        expr_order p ks (Expr-F.Range (a.expr scope n) (c.expr scope (n + a.binds))) (expr.Range (a.expr scope n) (c.expr scope (n + a.binds)))
-        (expr.rolls-Range (a.expr scope n) (c.expr scope (n + a.binds)))
-        (and ((ordered h).expr scope n false (l + 1) w.0) ((ordered g).expr scope (n + a.binds) false (l + 1) w.1)))
+        expr_order p ks _ (expr.rolls-Range _ _) (and ((ordered h).expr scope n false (l + 1) w.0) ((ordered g).expr scope (n + a.binds) false (l + 1) w.1)))
     ordered (f.comprehension {items = ss} {items' = items} {gens = gs} {gens' = gens} h g) = of_data p ks _ _ _ _ _ _
         (λ scope n b l fine. let w = fine_two ks _ _ fine in
-        expr_order p ks (Expr-F.Comp (exprs items (under gens scope (n + all_bind items)) n) (bindings gens scope (n + all_bind items)))
-        (expr.Comp (exprs items (under gens scope (n + all_bind items)) n) (bindings gens scope (n + all_bind items)))
-        (expr.rolls-Comp (exprs items (under gens scope (n + all_bind items)) n) (bindings gens scope (n + all_bind items)))
-        (and
+        expr_order p ks _ (expr.rolls-Comp _ _) (and
         (exprs_ordered h (under gens scope (n + all_bind items)) n false (l + 1)
         (renamed ks (all_say ss) (data_at false (l + 1)) (says.under gs (names_of scope)) (under gens scope (n + all_bind items))
         (gens_names m ks g scope (n + all_bind items)) w.0))
         (gens_ordered g scope (n + all_bind items) (data_at b l) w.1)))
     ordered (f.production {parts = ss} {parts' = fronts} {gens = gs} {gens' = gens} h g) = of_data p ks _ _ _ _ _ _
         (λ scope n b l fine. let w = fine_two ks _ _ fine in
-        expr_order p ks (Expr-F.Product (parts m ks fronts (under gens scope (n + parts_bind fronts)) n) (bindings gens scope (n + parts_bind fronts)))
-        (expr.Product (parts m ks fronts (under gens scope (n + parts_bind fronts)) n) (bindings gens scope (n + parts_bind fronts)))
-        (expr.rolls-Product (parts m ks fronts (under gens scope (n + parts_bind fronts)) n) (bindings gens scope (n + parts_bind fronts)))
-        (and
+        expr_order p ks _ (expr.rolls-Product _ _) (and
         (parts_ordered h (under gens scope (n + parts_bind fronts)) n (data_at b l)
         (renamed ks (all_say (map (part_says m) ss)) (data_at b l) (says.under gs (names_of scope)) (under gens scope (n + parts_bind fronts))
         (gens_names m ks g scope (n + parts_bind fronts)) w.0))
         (gens_ordered g scope (n + parts_bind fronts) (data_at b l) w.1)))
     ordered (f.set_operator op {a' = a} {b' = c} h g) = of_data p ks _ _ _ _ _ _
         (λ scope n b l fine. let w = fine_two ks _ _ fine in
-        expr_order p ks (Expr-F.SetOp op (a.expr scope n) (c.expr scope (n + a.binds))) (expr.SetOp op (a.expr scope n) (c.expr scope (n + a.binds)))
-        (expr.rolls-SetOp op (a.expr scope n) (c.expr scope (n + a.binds)))
-        (and ((ordered h).expr scope n false (l + 1) w.0) ((ordered g).expr scope (n + a.binds) false (l + 1) w.1)))
-    ordered f.stop = of_process p ks _ _ _ _ (λ scope n b l fine. proc_order p ks Proc-F.Stop proc.Stop proc.rolls-Stop refl)
-    ordered f.skip = of_process p ks _ _ _ _ (λ scope n b l fine. proc_order p ks Proc-F.Skip proc.Skip proc.rolls-Skip refl)
+        expr_order p ks _ (expr.rolls-SetOp _ _ _) (and ((ordered h).expr scope n false (l + 1) w.0) ((ordered g).expr scope (n + a.binds) false (l + 1) w.1)))
+    ordered f.stop = of_process p ks _ _ _ _ (λ scope n b l fine. proc_order p ks _ proc.rolls-Stop refl)
+    ordered f.skip = of_process p ks _ _ _ _ (λ scope n b l fine. proc_order p ks _ proc.rolls-Skip refl)
     ordered (f.prefix {p = t0} {p' = t} (f.head_with x {bs = bs} {fs = fs} h) g) = of_process p ks _ _ _ _
         (λ scope n b l fine. let w = fine_two ks _ _ fine.1 in
-        proc_order p ks (Proc-F.Prefix (head_of (number_of scope x) (m x)) (bindings fs scope n) (t.proc (under fs scope n) (n + bindings_bind fs)))
-        (proc.Prefix (head_of (number_of scope x) (m x)) (bindings fs scope n) (t.proc (under fs scope n) (n + bindings_bind fs)))
-        (proc.rolls-Prefix (head_of (number_of scope x) (m x)) (bindings fs scope n) (t.proc (under fs scope n) (n + bindings_bind fs)))
-        (and
+        proc_order p ks _ (proc.rolls-Prefix _ _ _) (and
         (subst (λ k. IsTrue (head_in_order p (head_of (number_of scope x) (m x)) k)) (count_fields h scope n)
         (head_order p ks (name_is m scope x) fits (length bs) fine.0))
         (and (fields_ordered h scope n (process_at b l) w.0)
@@ -225,68 +194,41 @@ module _ (p : Content) (m : Meanings) (ks : List Kind) (fits : AllFit p ks m) wh
         (renamed ks t0 (process_at false (l + 1)) (says.under bs (names_of scope)) (under fs scope n) (fields_names m ks h scope n) w.1)))))
     ordered (f.guard {c' = c} {p' = t} h g) = of_process p ks _ _ _ _
         (λ scope n b l fine. let w = fine_two ks _ _ fine in
-        proc_order p ks (Proc-F.Guard (c.expr scope n) (t.proc scope (n + c.binds))) (proc.Guard (c.expr scope n) (t.proc scope (n + c.binds)))
-        (proc.rolls-Guard (c.expr scope n) (t.proc scope (n + c.binds)))
-        (and ((ordered h).expr scope n false (l + 1) w.0) ((ordered g).proc scope (n + c.binds) false (l + 1) refl w.1)))
+        proc_order p ks _ (proc.rolls-Guard _ _) (and ((ordered h).expr scope n false (l + 1) w.0) ((ordered g).proc scope (n + c.binds) false (l + 1) refl w.1)))
     ordered (f.external {ps' = ts} h) = of_process p ks _ _ _ _
-        (λ scope n b l fine. proc_order p ks (Proc-F.External (procs ts scope n)) (proc.External (procs ts scope n)) (proc.rolls-External (procs ts scope n))
-        (procs_ordered h scope n (l + 1) fine))
+        (λ scope n b l fine. proc_order p ks _ (proc.rolls-External _) (procs_ordered h scope n (l + 1) fine))
     ordered (f.internal {ps' = ts} h) = of_process p ks _ _ _ _
-        (λ scope n b l fine. proc_order p ks (Proc-F.Internal (procs ts scope n)) (proc.Internal (procs ts scope n)) (proc.rolls-Internal (procs ts scope n))
-        (procs_ordered h scope n (l + 1) fine))
+        (λ scope n b l fine. proc_order p ks _ (proc.rolls-Internal _) (procs_ordered h scope n (l + 1) fine))
     ordered (f.each_external x {s' = s} {p = t0} {p' = t} h g) = of_process p ks _ _ _ _
         (λ scope n b l fine. let w = fine_two ks _ _ fine.1 in
-        proc_order p ks (Proc-F.EachExternal n (s.expr scope (n + 1)) (t.proc (with scope x n) (n + 1 + s.binds)))
-        (proc.EachExternal n (s.expr scope (n + 1)) (t.proc (with scope x n) (n + 1 + s.binds)))
-        (proc.rolls-EachExternal n (s.expr scope (n + 1)) (t.proc (with scope x n) (n + 1 + s.binds)))
-        (and ((ordered h).expr scope (n + 1) false (l + 1) w.0)
+        proc_order p ks _ (proc.rolls-EachExternal _ _ _) (and ((ordered h).expr scope (n + 1) false (l + 1) w.0)
         ((ordered g).proc (with scope x n) (n + 1 + s.binds) false (l + 1) refl
         (renamed ks t0 (process_at false (l + 1)) (names_of scope ++ x ∷ []) (with scope x n) (names_with scope x n) w.1))))
     ordered (f.each_internal x {s' = s} {p = t0} {p' = t} h g) = of_process p ks _ _ _ _
         (λ scope n b l fine. let w = fine_two ks _ _ fine.1 in
-        proc_order p ks (Proc-F.EachInternal n (s.expr scope (n + 1)) (t.proc (with scope x n) (n + 1 + s.binds)))
-        (proc.EachInternal n (s.expr scope (n + 1)) (t.proc (with scope x n) (n + 1 + s.binds)))
-        (proc.rolls-EachInternal n (s.expr scope (n + 1)) (t.proc (with scope x n) (n + 1 + s.binds)))
-        (and ((ordered h).expr scope (n + 1) false (l + 1) w.0)
+        proc_order p ks _ (proc.rolls-EachInternal _ _ _) (and ((ordered h).expr scope (n + 1) false (l + 1) w.0)
         ((ordered g).proc (with scope x n) (n + 1 + s.binds) false (l + 1) refl
         (renamed ks t0 (process_at false (l + 1)) (names_of scope ++ x ∷ []) (with scope x n) (names_with scope x n) w.1))))
     ordered (f.pair {p' = t} {a' = a} {b' = c} {q' = u} h g k j) = of_network p ks _ _ _ _ _
         (λ scope n l fine. let w = fine_four ks _ _ _ _ fine in
-        net_order p ks (Net-F.Pair (t.net scope n) (a.expr scope (n + t.binds)) (c.expr scope (n + t.binds + a.binds))
-        (u.net scope (n + t.binds + a.binds + c.binds)))
-        (net.Pair (t.net scope n) (a.expr scope (n + t.binds)) (c.expr scope (n + t.binds + a.binds)) (u.net scope (n + t.binds + a.binds + c.binds)))
-        (net.rolls-Pair (t.net scope n) (a.expr scope (n + t.binds)) (c.expr scope (n + t.binds + a.binds)) (u.net scope (n + t.binds + a.binds + c.binds)))
-        (and ((ordered h).net scope n (l + 1) w.0) (and ((ordered g).expr scope (n + t.binds) false (l + 1) w.1)
+        net_order p ks _ (net.rolls-Pair _ _ _ _) (and ((ordered h).net scope n (l + 1) w.0) (and ((ordered g).expr scope (n + t.binds) false (l + 1) w.1)
         (and ((ordered k).expr scope (n + t.binds + a.binds) false (l + 1) w.2) ((ordered j).net scope (n + t.binds + a.binds + c.binds) (l + 1) w.3)))))
     ordered (f.each_parallel x {s' = s} {a = a0} {a' = a} {p = t0} {p' = t} h g k) = of_network p ks _ _ _ _ _
         (λ scope n l fine. let w = fine_three ks _ _ _ fine.1 in
-        net_order p ks (Net-F.Each n (s.expr scope (n + 1)) (a.expr (with scope x n) (n + 1 + s.binds)) (t.net (with scope x n) (n + 1 + s.binds + a.binds)))
-        (net.Each n (s.expr scope (n + 1)) (a.expr (with scope x n) (n + 1 + s.binds)) (t.net (with scope x n) (n + 1 + s.binds + a.binds)))
-        (net.rolls-Each n (s.expr scope (n + 1)) (a.expr (with scope x n) (n + 1 + s.binds)) (t.net (with scope x n) (n + 1 + s.binds + a.binds)))
-        (and ((ordered h).expr scope (n + 1) false (l + 1) w.0)
+        net_order p ks _ (net.rolls-Each _ _ _ _) (and ((ordered h).expr scope (n + 1) false (l + 1) w.0)
         (and ((ordered g).expr (with scope x n) (n + 1 + s.binds) false (l + 1)
         (renamed ks a0 (data_at false (l + 1)) (names_of scope ++ x ∷ []) (with scope x n) (names_with scope x n) w.1))
         ((ordered k).net (with scope x n) (n + 1 + s.binds + a.binds) (l + 1)
         (renamed ks t0 (process_at true (l + 1)) (names_of scope ++ x ∷ []) (with scope x n) (names_with scope x n) w.2)))))
     ordered (f.sequence {p' = t} {q' = u} h g) = of_process p ks _ _ _ _
         (λ scope n b l fine. let w = fine_two ks _ _ fine in
-        proc_order p ks (Proc-F.Seq (t.proc scope n) (u.proc scope (n + t.binds))) (proc.Seq (t.proc scope n) (u.proc scope (n + t.binds)))
-        (proc.rolls-Seq (t.proc scope n) (u.proc scope (n + t.binds)))
-        (and ((ordered h).proc scope n false (l + 1) refl w.0) ((ordered g).proc scope (n + t.binds) false (l + 1) refl w.1)))
+        proc_order p ks _ (proc.rolls-Seq _ _) (and ((ordered h).proc scope n false (l + 1) refl w.0) ((ordered g).proc scope (n + t.binds) false (l + 1) refl w.1)))
     ordered (f.hiding {p' = t} {s' = s} h g) = of_process p ks _ _ _ _
         (λ scope n b l fine. let w = fine_two ks _ _ fine in
-        proc_order p ks (Proc-F.Hide (t.proc scope n) (s.expr scope (n + t.binds))) (proc.Hide (t.proc scope n) (s.expr scope (n + t.binds)))
-        (proc.rolls-Hide (t.proc scope n) (s.expr scope (n + t.binds)))
-        (and ((ordered h).proc scope n false (l + 1) refl w.0) ((ordered g).expr scope (n + t.binds) false (l + 1) w.1)))
+        proc_order p ks _ (proc.rolls-Hide _ _) (and ((ordered h).proc scope n false (l + 1) refl w.0) ((ordered g).expr scope (n + t.binds) false (l + 1) w.1)))
     ordered (f.renaming {p' = t} {pairs = ss} {pairs' = fronts} {gens = gs} {gens' = gens} h g k) = of_process p ks _ _ _ _
         (λ scope n b l fine. let w = fine_three ks _ _ _ fine in
-        proc_order p ks (Proc-F.Rename (t.proc scope n) (pairs m ks fronts (under gens scope (n + t.binds + pairs_bind fronts)) (n + t.binds))
-        (bindings gens scope (n + t.binds + pairs_bind fronts)))
-        (proc.Rename (t.proc scope n) (pairs m ks fronts (under gens scope (n + t.binds + pairs_bind fronts)) (n + t.binds))
-        (bindings gens scope (n + t.binds + pairs_bind fronts)))
-        (proc.rolls-Rename (t.proc scope n) (pairs m ks fronts (under gens scope (n + t.binds + pairs_bind fronts)) (n + t.binds))
-        (bindings gens scope (n + t.binds + pairs_bind fronts)))
-        (and ((ordered h).proc scope n false (l + 1) refl w.0)
+        proc_order p ks _ (proc.rolls-Rename _ _ _) (and ((ordered h).proc scope n false (l + 1) refl w.0)
         (and
         (pairs_ordered g (under gens scope (n + t.binds + pairs_bind fronts)) (n + t.binds) (process_at b l)
         (renamed ks (all_say (map (pair_says m) ss)) (process_at b l) (says.under gs (names_of scope)) (under gens scope (n + t.binds + pairs_bind fronts))

@@ -230,7 +230,7 @@ module _ (script : List Decl) (ks : List Kind) (p : Content) (fits : AllFit p ks
       (resources_order (earlier ++ d ∷ []) rest (rest_faultless script ks earlier d rest h))
 
   pub root_order : (earlier rest : List Decl) → first_fault script ks earlier rest ≡ None → IsTrue (net_in_order p (root_of m ks (first_assertion rest)))
-  root_order earlier [] h = leaf_order p ks proc.Stop (proc_order p ks Proc-F.Stop proc.Stop proc.rolls-Stop refl)
+  root_order earlier [] h = leaf_order p ks proc.Stop (proc_order p ks Proc-F.Stop proc.rolls-Stop refl)
   root_order earlier (decl.Assert t ∷ rest) h = (ordered p m ks fits (made m ks t)).net [] 0 1 (first_faultless script ks earlier (decl.Assert t) rest h).fine
   root_order earlier (decl.Channel xs types ∷ rest) h = root_order (earlier ++ decl.Channel xs types ∷ []) rest
       (rest_faultless script ks earlier (decl.Channel xs types) rest h)

@@ -1,5 +1,5 @@
 -- Values put into lists of parts: one value, and then the others.
-use Rattle.std.proofs.Common.{◌≡◌, ℕ, Bool, true, false, cond, ◌||◌, nat_eq, Some, None, List, [], ◌∷◌, map, refl, ap, sym, ◌∙◌}
+use Rattle.std.proofs.Common.{◌≡◌, ℕ, Bool, true, false, cond, Some, None, List, [], ◌∷◌, map, refl, ap, sym, ◌∙◌}
 use Rattle.csp_program.specs.Substitution.{any_binds, any_gets, binds, layer_binds, expr_with, fields_with, gen_with, pair_with, part_with, proc_with}
 use Rattle.csp_program.specs.Value.{Env}
 use Rattle.csp_atoms.specs.declared.value.Value.{Value}
@@ -13,7 +13,7 @@ use Rattle.csp_program.specs.declared.processes.Field.{Field}
 use Rattle.csp_program.specs.declared.processes.Field.TheVariants as field
 use Rattle.csp_program.specs.declared.processes.Proc.{Proc}
 use Rattle.substitution.proofs.BoundWorth.{binds_from, binds_none}
-use Rattle.substitution.proofs.ExprEquations.{gen_after-From, gen_after-Cond}
+use Rattle.substitution.proofs.FormsAfter.{gen_after-Cond, gen_after-From}
 use Rattle.substitution.proofs.ListEquations.{gens_bound, fields_bound, fields_with_from}
 use Rattle.substitution.specs.Bindings.{apart, expr_put, field_put, fields_put, gen_put, gens_put, pair_put, part_put, passed, past, proc_put}
 use Rattle.substitution.specs.Parts.{expr_after, exprs_after, field_after, fields_after, gen_after, gens_after, gets, pairs_after, part_after, parts_after, proc_after, procs_after}

@@ -1,6 +1,7 @@
--- What several values make of each form of a process.
-use Rattle.std.proofs.Common.{◌≡◌, ℕ, Bool, true, false, cond, nat_eq, Some, None, List, [], ◌∷◌, map, refl, ap, sym, ◌∙◌}
-use Rattle.csp_program.specs.Substitution.{any_binds, any_gets, expr_with, head_with, proc_with}
+-- What several values make of each form of a process: again a form. One that is new gets a clause of `put_form` and, where it has lists or binds a name,
+-- of `none` and `more`, and an equation in the ruleset.
+use Rattle.std.proofs.Common.{◌≡◌, ℕ, Bool, true, false, cond, nat_eq, Some, List, [], ◌∷◌, map, refl, ap, sym, ◌∙◌}
+use Rattle.csp_program.specs.Substitution.{any_binds, any_gets}
 use Rattle.csp_program.specs.Value.{Env}
 use Rattle.csp_atoms.specs.declared.value.Value.{Value}
 use Rattle.csp_program.specs.declared.expressions.EventPart.{EventPart}
@@ -10,12 +11,14 @@ use Rattle.csp_program.specs.declared.processes.Field.{Field}
 use Rattle.csp_program.specs.declared.processes.Head.{Head}
 use Rattle.csp_program.specs.declared.processes.Head.TheVariants as head
 use Rattle.csp_program.specs.declared.processes.Proc.{Proc}
+use Rattle.csp_program.specs.declared.processes.Proc.TheOpen.{Proc-F}
 use Rattle.csp_program.specs.declared.processes.Proc.TheVariants as proc
+use Rattle.csp_program.specs.declared.processes.Proc.TheViews.{roll-Proc}
 use Rattle.substitution.proofs.ExprPut.{exprs_none}
+use Rattle.substitution.proofs.FormsAfter.{proc_form, proc_is}
 use Rattle.substitution.proofs.ListPut.{any_binds_kept, any_gets_kept, exprs_more, fields_more, fields_none, gens_more, gens_none, pairs_more, procs_more, same_items}
-use Rattle.substitution.proofs.ProcEquations as one
 use Rattle.substitution.specs.Bindings.{apart, expr_put, fields_put, gens_put, head_named, head_put, pair_put, part_put, passed_all, past_all, proc_put, value_in, without}
-use Rattle.substitution.specs.Parts.{expr_after, exprs_after, fields_after, gens_after, pairs_after, proc_after, procs_after}
+use Rattle.substitution.specs.Parts.{expr_after, pairs_after, proc_after, proc_below}
 
 -- heads
 pub put-head-Channel : (env : Env) (c : ℕ) → head_put env (head.Channel c) ≡ head.Channel c
@@ -39,6 +42,20 @@ put-head-Bound [] x = refl
 put-head-Bound (first ∷ env) x = head_next env x first.1 (nat_eq x first.0) (put-head-Bound env x)
 
 -- processes
+abbrev put_form : Env → Proc-F Proc → Proc-F Proc
+put_form env (Proc-F.Prefix h fields p) = Proc-F.Prefix (head_put env h) (fields_put env fields) (proc_put (passed_all fields env) p)
+put_form env (Proc-F.Guard c p) = Proc-F.Guard (expr_put env c) (proc_put env p)
+put_form env (Proc-F.If c p q) = Proc-F.If (expr_put env c) (proc_put env p) (proc_put env q)
+put_form env (Proc-F.External ps) = Proc-F.External (map (proc_put env) ps)
+put_form env (Proc-F.Internal ps) = Proc-F.Internal (map (proc_put env) ps)
+put_form env (Proc-F.EachExternal y s p) = Proc-F.EachExternal y (expr_put env s) (proc_put (without y env) p)
+put_form env (Proc-F.EachInternal y s p) = Proc-F.EachInternal y (expr_put env s) (proc_put (without y env) p)
+put_form env (Proc-F.Hide p s) = Proc-F.Hide (proc_put env p) (expr_put env s)
+put_form env (Proc-F.Rename p pairs gens) = Proc-F.Rename (proc_put env p) (map (pair_put (past_all gens env)) pairs) (gens_put env gens)
+put_form env (Proc-F.Call d es) = Proc-F.Call d (map (expr_put env) es)
+put_form env (Proc-F.Seq p q) = Proc-F.Seq (proc_put env p) (proc_put env q)
+put_form env d = d
+
 procs_none : (ps : List Proc) → ps ≡ map (proc_put []) ps
 unfolding proc_put
 procs_none ps = same_items (proc_put []) (λ p. refl) ps
@@ -47,104 +64,88 @@ pairs_none : (ps : List (EventPart × EventPart)) → ps ≡ map (pair_put []) p
 unfolding part_put
 pairs_none ps = same_items (pair_put []) (λ p. refl) ps
 
-pub put-Stop : (env : Env) → proc_put env proc.Stop ≡ proc.Stop
+none : (d : Proc-F Proc) → d ≡ put_form [] d
+unfolding expr_put head_put proc_put
+none (Proc-F.Prefix h fields p) = λ i. Proc-F.Prefix h (fields_none fields i) p
+none (Proc-F.External ps) = λ i. Proc-F.External (procs_none ps i)
+none (Proc-F.Internal ps) = λ i. Proc-F.Internal (procs_none ps i)
+none (Proc-F.Rename p pairs gens) = λ i. Proc-F.Rename p (pairs_none pairs i) (gens_none gens i)
+none (Proc-F.Call d es) = λ i. Proc-F.Call d (exprs_none es i)
+none d = refl
+
+-- one value, unless its name is bound, and then the others
+module _ (x : ℕ) (v : Value) where
+  below : (env : Env) (bound : Bool) (p : Proc) → proc_put env (cond bound p (proc_after x v p)) ≡ proc_put (cond bound env ((x, v) ∷ env)) p
+  unfolding proc_put proc_after
+  below env true p = refl
+  below env false p = refl
+
+  more : (env : Env) (d : Proc-F Proc) → put_form env (proc_form x v d) ≡ put_form ((x, v) ∷ env) d
+  unfolding expr_put head_put proc_put expr_after proc_after
+  more env (Proc-F.Prefix h fields p) =
+      let bound = any_gets x fields in
+      let under = (λ i. proc_put (apart (λ (y : ℕ). any_gets_kept x v y false fields i) env) (proc_below x v bound p)) ∙ below (passed_all fields env) bound p in
+      λ i. Proc-F.Prefix (head_put ((x, v) ∷ env) h) (fields_more x v env false fields i) (under i)
+  more env (Proc-F.External ps) = λ i. Proc-F.External (procs_more x v env ps i)
+  more env (Proc-F.Internal ps) = λ i. Proc-F.Internal (procs_more x v env ps i)
+  more env (Proc-F.EachExternal y s p) = λ i. Proc-F.EachExternal y (expr_put ((x, v) ∷ env) s) (below (without y env) (nat_eq y x) p i)
+  more env (Proc-F.EachInternal y s p) = λ i. Proc-F.EachInternal y (expr_put ((x, v) ∷ env) s) (below (without y env) (nat_eq y x) p i)
+  more env (Proc-F.Rename p pairs gens) =
+      let bound = any_binds x gens in
+      let under = (λ i. map (pair_put (apart (λ (y : ℕ). any_binds_kept x v y false gens i) env)) (pairs_after x v bound pairs)) ∙ pairs_more x v (past_all gens env) bound pairs in
+      λ i. Proc-F.Rename (proc_put ((x, v) ∷ env) p) (under i) (gens_more x v env false gens i)
+  more env (Proc-F.Call d es) = λ i. Proc-F.Call d (exprs_more x v env false es i)
+  more env d = refl
+
+put_is : (env : Env) (d : Proc-F Proc) → proc_put env (roll-Proc d) ≡ roll-Proc (put_form env d)
 unfolding proc_put proc_after
-put-Stop [] = refl
-put-Stop (first ∷ env) = ap (proc_put env) (one.proc_after-Stop first.0 first.1) ∙ put-Stop env
+put_is [] d = λ i. roll-Proc (none d i)
+put_is (first ∷ env) d = ap (proc_put env) (proc_is first.0 first.1 d) ∙ (put_is env (proc_form first.0 first.1 d) ∙ (λ i. roll-Proc (more first.0 first.1 env d i)))
+
+at : (env : Env) (d : Proc-F Proc) {p p' : Proc} → roll-Proc d ≡ p → roll-Proc (put_form env d) ≡ p' → proc_put env p ≡ p'
+at env d r r' = ap (proc_put env) (sym r) ∙ (put_is env d ∙ r')
+
+pub put-Stop : (env : Env) → proc_put env proc.Stop ≡ proc.Stop
+put-Stop env = at env Proc-F.Stop proc.rolls-Stop proc.rolls-Stop
 
 pub put-Skip : (env : Env) → proc_put env proc.Skip ≡ proc.Skip
-unfolding proc_put proc_after
-put-Skip [] = refl
-put-Skip (first ∷ env) = ap (proc_put env) (one.proc_after-Skip first.0 first.1) ∙ put-Skip env
+put-Skip env = at env Proc-F.Skip proc.rolls-Skip proc.rolls-Skip
 
 pub put-Ended : (env : Env) → proc_put env proc.Ended ≡ proc.Ended
-unfolding proc_put proc_after
-put-Ended [] = refl
-put-Ended (first ∷ env) = ap (proc_put env) (one.proc_after-Ended first.0 first.1) ∙ put-Ended env
+put-Ended env = at env Proc-F.Ended proc.rolls-Ended proc.rolls-Ended
 
 pub put-Guard : (env : Env) (c : Expr) (p : Proc) → proc_put env (proc.Guard c p) ≡ proc.Guard (expr_put env c) (proc_put env p)
-unfolding expr_put proc_put expr_after proc_after
-put-Guard [] c p = refl
-put-Guard (first ∷ env) c p = ap (proc_put env) (one.proc_after-Guard first.0 first.1 c p) ∙ put-Guard env (expr_with first.0 first.1 c) (proc_with first.0 first.1 p)
+put-Guard env c p = at env (Proc-F.Guard c p) (proc.rolls-Guard c p) (proc.rolls-Guard (expr_put env c) (proc_put env p))
 
 pub put-If : (env : Env) (c : Expr) (p : Proc) (q : Proc) → proc_put env (proc.If c p q) ≡ proc.If (expr_put env c) (proc_put env p) (proc_put env q)
-unfolding expr_put proc_put expr_after proc_after
-put-If [] c p q = refl
-put-If (first ∷ env) c p q = ap (proc_put env) (one.proc_after-If first.0 first.1 c p q) ∙ put-If env (expr_with first.0 first.1 c) (proc_with first.0 first.1 p) (proc_with first.0 first.1 q)
+put-If env c p q = at env (Proc-F.If c p q) (proc.rolls-If c p q) (proc.rolls-If (expr_put env c) (proc_put env p) (proc_put env q))
 
 pub put-Hide : (env : Env) (p : Proc) (s : Expr) → proc_put env (proc.Hide p s) ≡ proc.Hide (proc_put env p) (expr_put env s)
-unfolding expr_put proc_put expr_after proc_after
-put-Hide [] p s = refl
-put-Hide (first ∷ env) p s = ap (proc_put env) (one.proc_after-Hide first.0 first.1 p s) ∙ put-Hide env (proc_with first.0 first.1 p) (expr_with first.0 first.1 s)
+put-Hide env p s = at env (Proc-F.Hide p s) (proc.rolls-Hide p s) (proc.rolls-Hide (proc_put env p) (expr_put env s))
 
 pub put-Seq : (env : Env) (p : Proc) (q : Proc) → proc_put env (proc.Seq p q) ≡ proc.Seq (proc_put env p) (proc_put env q)
-unfolding expr_put proc_put expr_after proc_after
-put-Seq [] p q = refl
-put-Seq (first ∷ env) p q = ap (proc_put env) (one.proc_after-Seq first.0 first.1 p q) ∙ put-Seq env (proc_with first.0 first.1 p) (proc_with first.0 first.1 q)
+put-Seq env p q = at env (Proc-F.Seq p q) (proc.rolls-Seq p q) (proc.rolls-Seq (proc_put env p) (proc_put env q))
 
 pub put-External : (env : Env) (ps : List Proc) → proc_put env (proc.External ps) ≡ proc.External (map (proc_put env) ps)
-unfolding proc_put proc_after
-put-External [] ps = ap (λ (all : List Proc). proc.External all) (procs_none ps)
-put-External (first ∷ env) ps =
-    ap (proc_put env) (one.proc_after-External first.0 first.1 ps) ∙
-    (put-External env (procs_after first.0 first.1 ps) ∙ ap (λ (all : List Proc). proc.External all) (procs_more first.0 first.1 env ps))
+put-External env ps = at env (Proc-F.External ps) (proc.rolls-External ps) (proc.rolls-External (map (proc_put env) ps))
 
 pub put-Internal : (env : Env) (ps : List Proc) → proc_put env (proc.Internal ps) ≡ proc.Internal (map (proc_put env) ps)
-unfolding proc_put proc_after
-put-Internal [] ps = ap (λ (all : List Proc). proc.Internal all) (procs_none ps)
-put-Internal (first ∷ env) ps =
-    ap (proc_put env) (one.proc_after-Internal first.0 first.1 ps) ∙
-    (put-Internal env (procs_after first.0 first.1 ps) ∙ ap (λ (all : List Proc). proc.Internal all) (procs_more first.0 first.1 env ps))
-
--- the first value, unless its name is bound, and then the others
-below : (x : ℕ) (v : Value) (env : Env) (bound : Bool) (p : Proc) → proc_put env (cond bound p (proc_with x v p)) ≡ proc_put (cond bound env ((x, v) ∷ env)) p
-unfolding proc_put
-below x v env true p = refl
-below x v env false p = refl
+put-Internal env ps = at env (Proc-F.Internal ps) (proc.rolls-Internal ps) (proc.rolls-Internal (map (proc_put env) ps))
 
 pub put-EachExternal : (env : Env) (y : ℕ) (s : Expr) (p : Proc) → proc_put env (proc.EachExternal y s p) ≡ proc.EachExternal y (expr_put env s) (proc_put (without y env) p)
-unfolding expr_put proc_put expr_after proc_after
-put-EachExternal [] y s p = refl
-put-EachExternal (first ∷ env) y s p =
-    ap (proc_put env) (one.proc_after-EachExternal first.0 first.1 y s p) ∙
-    (put-EachExternal env y (expr_with first.0 first.1 s) (cond (nat_eq y first.0) p (proc_with first.0 first.1 p)) ∙
-    ap (λ (q : Proc). proc.EachExternal y (expr_put (first ∷ env) s) q) (below first.0 first.1 (without y env) (nat_eq y first.0) p))
+put-EachExternal env y s p = at env (Proc-F.EachExternal y s p) (proc.rolls-EachExternal y s p) (proc.rolls-EachExternal y (expr_put env s) (proc_put (without y env) p))
 
 pub put-EachInternal : (env : Env) (y : ℕ) (s : Expr) (p : Proc) → proc_put env (proc.EachInternal y s p) ≡ proc.EachInternal y (expr_put env s) (proc_put (without y env) p)
-unfolding expr_put proc_put expr_after proc_after
-put-EachInternal [] y s p = refl
-put-EachInternal (first ∷ env) y s p =
-    ap (proc_put env) (one.proc_after-EachInternal first.0 first.1 y s p) ∙
-    (put-EachInternal env y (expr_with first.0 first.1 s) (cond (nat_eq y first.0) p (proc_with first.0 first.1 p)) ∙
-    ap (λ (q : Proc). proc.EachInternal y (expr_put (first ∷ env) s) q) (below first.0 first.1 (without y env) (nat_eq y first.0) p))
+put-EachInternal env y s p = at env (Proc-F.EachInternal y s p) (proc.rolls-EachInternal y s p) (proc.rolls-EachInternal y (expr_put env s) (proc_put (without y env) p))
 
 pub put-Call : (env : Env) (d : ℕ) (es : List Expr) → proc_put env (proc.Call d es) ≡ proc.Call d (map (expr_put env) es)
-unfolding expr_put proc_put expr_after proc_after
-put-Call [] d es = ap (λ (all : List Expr). proc.Call d all) (exprs_none es)
-put-Call (first ∷ env) d es =
-    ap (proc_put env) (one.proc_after-Call first.0 first.1 d es) ∙
-    (put-Call env d (exprs_after first.0 first.1 false es) ∙ ap (λ (all : List Expr). proc.Call d all) (exprs_more first.0 first.1 env false es))
+put-Call env d es = at env (Proc-F.Call d es) (proc.rolls-Call d es) (proc.rolls-Call d (map (expr_put env) es))
 
 pub put-Prefix : (env : Env) (h : Head) (fields : List Field) (p : Proc) → proc_put env (proc.Prefix h fields p) ≡ proc.Prefix (head_put env h) (fields_put env fields) (proc_put (passed_all fields env) p)
-unfolding head_put proc_put proc_after
-put-Prefix [] h fields p = ap (λ (all : List Field). proc.Prefix h all p) (fields_none fields)
-put-Prefix (first ∷ env) h fields p =
-    let x = first.0 in let v = first.1 in let bound = any_gets x fields in
-    let under = (λ i. proc_put (apart (λ (y : ℕ). any_gets_kept x v y false fields i) env) (cond bound p (proc_with x v p))) ∙ below x v (passed_all fields env) bound p in
-    ap (proc_put env) (one.proc_after-Prefix x v h fields p) ∙
-    (put-Prefix env (head_with x v h) (fields_after x v false fields) (cond bound p (proc_with x v p)) ∙
-    (λ i. proc.Prefix (head_put (first ∷ env) h) (fields_more x v env false fields i) (under i)))
+put-Prefix env h fields p = at env (Proc-F.Prefix h fields p) (proc.rolls-Prefix h fields p) (proc.rolls-Prefix (head_put env h) (fields_put env fields) (proc_put (passed_all fields env) p))
 
-pub put-Rename : (env : Env) (p : Proc) (pairs : List (EventPart × EventPart)) (gens : List Gen)
-    → proc_put env (proc.Rename p pairs gens) ≡ proc.Rename (proc_put env p) (map (pair_put (past_all gens env)) pairs) (gens_put env gens)
-unfolding proc_put proc_after
-put-Rename [] p pairs gens = λ i. proc.Rename p (pairs_none pairs i) (gens_none gens i)
-put-Rename (first ∷ env) p pairs gens =
-    let x = first.0 in let v = first.1 in let bound = any_binds x gens in
-    let under = (λ i. map (pair_put (apart (λ (y : ℕ). any_binds_kept x v y false gens i) env)) (pairs_after x v bound pairs)) ∙ pairs_more x v (past_all gens env) bound pairs in
-    ap (proc_put env) (one.proc_after-Rename x v p pairs gens) ∙
-    (put-Rename env (proc_with x v p) (pairs_after x v bound pairs) (gens_after x v false gens) ∙
-    (λ i. proc.Rename (proc_put (first ∷ env) p) (under i) (gens_more x v env false gens i)))
+pub put-Rename : (env : Env) (p : Proc) (pairs : List (EventPart × EventPart)) (gens : List Gen) → proc_put env (proc.Rename p pairs gens) ≡ proc.Rename (proc_put env p) (map (pair_put (past_all gens env)) pairs) (gens_put env gens)
+put-Rename env p pairs gens = at env (Proc-F.Rename p pairs gens) (proc.rolls-Rename p pairs gens) (proc.rolls-Rename (proc_put env p) (map (pair_put (past_all gens env)) pairs) (gens_put env gens))
 
 pub ruleset head_forms = (put-head-Channel, put-head-Put, put-head-Bound)
 

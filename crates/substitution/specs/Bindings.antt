@@ -1,6 +1,6 @@
 -- Values in place of several names, one after another. A value holds no name, so of two values for one name the first one counts; and where a name is bound
 -- its value is left out.
-use Rattle.std.specs.Prelude.{◌≡◌, ℕ, ◌+◌, Bool, true, false, ◌&&◌, nat_eq, nat_lt, if◌then◌else◌, Option, Some, None, List, [], ◌∷◌, map}
+use Rattle.std.specs.Prelude.{◌≡◌, ℕ, ◌+◌, Bool, true, false, ◌&&◌, nat_eq, nat_lt, if◌then◌else◌, Option, Some, None, List, [], ◌∷◌}
 use Rattle.csp_program.specs.Substitution.{any_binds, any_gets, binds, expr_with, gen_with, head_with, net_with, part_with, proc_with}
 use Rattle.csp_program.specs.Value.{Env}
 use Rattle.substitution.specs.Parts.{gets}

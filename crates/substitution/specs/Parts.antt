@@ -15,6 +15,11 @@ abbrev pub gets : ℕ → Field → Bool
 gets x (field.Put e) = false
 gets x (field.Get y s) = nat_eq y x
 
+-- parts, kept where the name is bound
+abbrev pub all_after : {A : Type 0} → (A → A) → Bool → List A → List A
+all_after put bound [] = []
+all_after put bound (part ∷ parts) = (if bound then part else put part) ∷ all_after put bound parts
+
 module _ (x : ℕ) (v : Value) where
   -- an expression with the value v in place of the free name x
   unfoldable pub expr_after : Expr → Expr
@@ -32,18 +37,14 @@ module _ (x : ℕ) (v : Value) where
   unfoldable pub proc_after : Proc → Proc
   proc_after p = proc_with x v p
 
-  -- expressions, kept where the name is bound
   abbrev pub exprs_after : Bool → List Expr → List Expr
-  exprs_after bound [] = []
-  exprs_after bound (e ∷ es) = (if bound then e else expr_after e) ∷ exprs_after bound es
+  exprs_after bound es = all_after expr_after bound es
 
   abbrev pub parts_after : Bool → List EventPart → List EventPart
-  parts_after bound [] = []
-  parts_after bound (p ∷ ps) = (if bound then p else part_after p) ∷ parts_after bound ps
+  parts_after bound ps = all_after part_after bound ps
 
   abbrev pub pairs_after : Bool → List (EventPart × EventPart) → List (EventPart × EventPart)
-  pairs_after bound [] = []
-  pairs_after bound (p ∷ ps) = (if bound then p else pair_after p) ∷ pairs_after bound ps
+  pairs_after bound ps = all_after pair_after bound ps
 
   -- generators, of which those before these bind the name or not
   abbrev pub gens_after : Bool → List Gen → List Gen
@@ -66,5 +67,4 @@ module _ (x : ℕ) (v : Value) where
   proc_below bound p = if bound then p else proc_after p
 
   abbrev pub procs_after : List Proc → List Proc
-  procs_after [] = []
-  procs_after (p ∷ ps) = proc_after p ∷ procs_after ps
+  procs_after ps = all_after proc_after false ps

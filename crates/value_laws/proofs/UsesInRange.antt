@@ -7,7 +7,7 @@ use Rattle.csp_program.specs.InOrder.{is_datum, is_set_name, takes, with_fields,
 use Rattle.csp_program.specs.Lists.{all_true}
 use Rattle.csp_program.specs.Uses.{expr_uses, expr_uses_of_layer, gen_uses_of_layer, part_uses_of_layer}
 use Rattle.csp_program.specs.declared.expressions.Expr.{Expr}
-use Rattle.csp_program.specs.declared.expressions.Expr.TheFolds.{fold-roll-Expr, fold-roll-Gen, fold-roll-EventPart, ind-Expr, map-Expr, map-Gen, map-EventPart}
+use Rattle.csp_program.specs.declared.expressions.Expr.TheFolds.{fold-roll-Expr, fold-roll-Gen, fold-roll-EventPart, map-Expr, map-Gen}
 use Rattle.csp_program.specs.declared.expressions.Expr.TheOpen.{Expr-F, Gen-F, EventPart-F}
 use Rattle.csp_program.specs.declared.expressions.Expr.TheViews.{roll-Expr, roll-Gen, roll-EventPart}
 use Rattle.csp_program.specs.declared.expressions.EventPart.{EventPart}
@@ -16,6 +16,7 @@ use Rattle.csp_program.specs.declared.programs.Body.{Body}
 use Rattle.csp_program.specs.declared.programs.Content.{Content}
 use Rattle.csp_program.specs.declared.programs.Def.{Def}
 use Rattle.csp_base.proofs.Booleans.{is_first, is_second}
+use Rattle.csp_program.proofs.Forms.{Every, ExprHas, GenHas, PartHas, each_expr}
 use Rattle.csp_program.proofs.UsesWithin.{gen_uses, part_uses}
 
 taken_within : (of_class : Body → Bool) (count : ℕ) (defs : List Def) (d : ℕ) → IsTrue (takes of_class count (slice_get defs d)) → d < length defs
@@ -49,105 +50,71 @@ module _ (p : Content) where
   abbrev pub RangePart : EventPart → Type 0
   RangePart f = InRange (part_in_order p f) (part_uses f)
 
-  abbrev KnownExpr : Type 0
-  KnownExpr = (e : Expr) × RangeExpr e
+  -- what stands in a list is there, if each of it is
+  all_range : {A : Type 0} (ordered : A → Bool) (uses : A → Names) (xs : List A) → Every (λ x. InRange (ordered x) (uses x)) xs → InRange (all_true (map ordered xs)) (any_of (map uses xs))
+  all_range ordered uses [] h = nothing true
+  all_range ordered uses (x ∷ xs) h = both (ordered x) (all_true (map ordered xs)) (uses x) (any_of (map uses xs)) h.0 (all_range ordered uses xs h.1)
 
-  abbrev KnownGen : Type 0
-  KnownGen = (g : Gen) × RangeGen g
+  exprs_range : (es : List Expr) → Every RangeExpr es → InRange (all_true (map (expr_in_order p) es)) (any_of (map expr_uses es))
+  exprs_range = all_range (expr_in_order p) expr_uses
 
-  abbrev KnownPart : Type 0
-  KnownPart = (f : EventPart) × RangePart f
+  gens_range : (gs : List Gen) → Every RangeGen gs → InRange (all_true (map (gen_in_order p) gs)) (any_of (map gen_uses gs))
+  gens_range = all_range (gen_in_order p) gen_uses
 
-  exprs_range : (es : List KnownExpr) → InRange (all_true (map (expr_in_order p) (map (λ e. e.0) es))) (any_of (map expr_uses (map (λ e. e.0) es)))
-  exprs_range [] = nothing true
-  exprs_range (e ∷ es) =
-      both (expr_in_order p e.0) (all_true (map (expr_in_order p) (map (λ e. e.0) es))) (expr_uses e.0) (any_of (map expr_uses (map (λ e. e.0) es))) e.1 (exprs_range es)
+  abbrev form_order : Expr-F Expr Gen EventPart → Bool
+  form_order d = expr_in_order_of_layer p (map-Expr Expr Gen EventPart Bool Bool Bool (expr_in_order p) (gen_in_order p) (part_in_order p) d)
 
-  gens_range : (es : List KnownGen) → InRange (all_true (map (gen_in_order p) (map (λ e. e.0) es))) (any_of (map gen_uses (map (λ e. e.0) es)))
-  gens_range [] = nothing true
-  gens_range (e ∷ es) =
-      both (gen_in_order p e.0) (all_true (map (gen_in_order p) (map (λ e. e.0) es))) (gen_uses e.0) (any_of (map gen_uses (map (λ e. e.0) es))) e.1 (gens_range es)
+  abbrev form_uses : Expr-F Expr Gen EventPart → Names
+  form_uses d = expr_uses_of_layer (map-Expr Expr Gen EventPart Names Names Names expr_uses gen_uses part_uses d)
 
-  parts_range : (es : List KnownPart) → InRange (all_true (map (part_in_order p) (map (λ e. e.0) es))) (any_of (map part_uses (map (λ e. e.0) es)))
-  parts_range [] = nothing true
-  parts_range (e ∷ es) =
-      both (part_in_order p e.0) (all_true (map (part_in_order p) (map (λ e. e.0) es))) (part_uses e.0) (any_of (map part_uses (map (λ e. e.0) es))) e.1 (parts_range es)
+  moved : {a b : Bool} {f g : Names} → a ≡ b → f ≡ g → InRange b g → InRange a f
+  moved e n h o d t = h (sym e ∙ o) d (ap (λ (k : Names). k d) (sym n) ∙ t)
 
-  abbrev bare : Expr-F KnownExpr KnownGen KnownPart → Expr-F Expr Gen EventPart
-  bare y = map-Expr KnownExpr KnownGen KnownPart Expr Gen EventPart (λ e. e.0) (λ e. e.0) (λ e. e.0) y
+  two : (a b : Expr) → RangeExpr a → RangeExpr b → InRange (expr_in_order p a && expr_in_order p b) (either (expr_uses a) (expr_uses b))
+  two a b h k = both (expr_in_order p a) (expr_in_order p b) (expr_uses a) (expr_uses b) h k
 
-  abbrev layer_order : Expr-F Expr Gen EventPart → Bool
-  layer_order d = expr_in_order_of_layer p (map-Expr Expr Gen EventPart Bool Bool Bool (expr_in_order p) (gen_in_order p) (part_in_order p) d)
+  form_range : (d : Expr-F Expr Gen EventPart) → ExprHas RangeExpr RangeGen RangePart d → InRange (form_order d) (form_uses d)
+  form_range (Expr-F.Neg a) h = h
+  form_range (Expr-F.Not a) h = h
+  form_range (Expr-F.Binary o a b) h = two a b h.0 h.1
+  form_range (Expr-F.If c a b) h =
+      both (expr_in_order p c) (expr_in_order p a && expr_in_order p b) (expr_uses c) (either (expr_uses a) (expr_uses b)) h.0 (two a b h.1 h.2)
+  form_range (Expr-F.Call d args) h =
+      let count = length (map (expr_in_order p) args) in
+      both (takes is_datum count (slice_get p.defs d)) (all_true (map (expr_in_order p) args)) (λ j. nat_eq d j) (any_of (map expr_uses args)) (one_use is_datum count d) (exprs_range args h)
+  form_range (Expr-F.SetName d) h = one_use is_set_name 0 d
+  form_range (Expr-F.Event c fields) h =
+      beside (with_fields (λ n. nat_eq n (length (map (expr_in_order p) fields))) (slice_get p.channels c)) (all_true (map (expr_in_order p) fields)) (any_of (map expr_uses fields)) (exprs_range fields h)
+  form_range (Expr-F.Display items) h = exprs_range items h
+  form_range (Expr-F.Range a b) h = two a b h.0 h.1
+  form_range (Expr-F.Comp items gens) h =
+      both (all_true (map (expr_in_order p) items)) (all_true (map (gen_in_order p) gens)) (any_of (map expr_uses items)) (any_of (map gen_uses gens)) (exprs_range items h.0) (gens_range gens h.1)
+  form_range (Expr-F.Product parts gens) h =
+      both (all_true (map (part_in_order p) parts)) (all_true (map (gen_in_order p) gens)) (any_of (map part_uses parts)) (any_of (map gen_uses gens))
+      (all_range (part_in_order p) part_uses parts h.0) (gens_range gens h.1)
+  form_range (Expr-F.SetOp o a b) h = two a b h.0 h.1
+  form_range d h = nothing (form_order d)
 
-  abbrev layer_uses : Expr-F Expr Gen EventPart → Names
-  layer_uses d = expr_uses_of_layer (map-Expr Expr Gen EventPart Names Names Names expr_uses gen_uses part_uses d)
+  expr_step : (d : Expr-F Expr Gen EventPart) → ExprHas RangeExpr RangeGen RangePart d → RangeExpr (roll-Expr d)
+  expr_step d h =
+      moved (fold-roll-Expr Bool Bool Bool (expr_in_order_of_layer p) (gen_in_order_of_layer p) (part_in_order_of_layer p) d)
+      (fold-roll-Expr Names Names Names expr_uses_of_layer gen_uses_of_layer part_uses_of_layer d) (form_range d h)
 
-  moved : (a b : Bool) (f g : Names) → a ≡ b → f ≡ g → InRange b g → InRange a f
-  moved a b f g e n h o d t = h (sym e ∙ o) d (ap (λ (k : Names). k d) (sym n) ∙ t)
-
-  layer : (d : Expr-F Expr Gen EventPart) → InRange (layer_order d) (layer_uses d) → RangeExpr (roll-Expr d)
-  layer d h =
-      moved (expr_in_order p (roll-Expr d)) (layer_order d) (expr_uses (roll-Expr d)) (layer_uses d)
-      (fold-roll-Expr Bool Bool Bool (expr_in_order_of_layer p) (gen_in_order_of_layer p) (part_in_order_of_layer p) d)
-      (fold-roll-Expr Names Names Names expr_uses_of_layer gen_uses_of_layer part_uses_of_layer d) h
-
-  two : (a b : KnownExpr) → InRange (expr_in_order p a.0 && expr_in_order p b.0) (either (expr_uses a.0) (expr_uses b.0))
-  two a b = both (expr_in_order p a.0) (expr_in_order p b.0) (expr_uses a.0) (expr_uses b.0) a.1 b.1
-
-  expr_layer : (y : Expr-F KnownExpr KnownGen KnownPart) → RangeExpr (roll-Expr (bare y))
-  expr_layer (Expr-F.Num n) = layer (Expr-F.Num n) (nothing (layer_order (Expr-F.Num n)))
-  expr_layer (Expr-F.Truth b) = layer (Expr-F.Truth b) (nothing (layer_order (Expr-F.Truth b)))
-  expr_layer (Expr-F.Const k) = layer (Expr-F.Const k) (nothing (layer_order (Expr-F.Const k)))
-  expr_layer (Expr-F.Bound x) = layer (Expr-F.Bound x) (nothing (layer_order (Expr-F.Bound x)))
-  expr_layer (Expr-F.Lit v) = layer (Expr-F.Lit v) (nothing (layer_order (Expr-F.Lit v)))
-  expr_layer (Expr-F.Neg a) = layer (Expr-F.Neg a.0) a.1
-  expr_layer (Expr-F.Not a) = layer (Expr-F.Not a.0) a.1
-  expr_layer (Expr-F.Binary o a b) = layer (Expr-F.Binary o a.0 b.0) (two a b)
-  expr_layer (Expr-F.If c a b) = layer (Expr-F.If c.0 a.0 b.0)
-      (both (expr_in_order p c.0) (expr_in_order p a.0 && expr_in_order p b.0) (expr_uses c.0) (either (expr_uses a.0) (expr_uses b.0)) c.1 (two a b))
-  expr_layer (Expr-F.Call d args) = layer (Expr-F.Call d (map (λ e. e.0) args))
-      (both (takes is_datum (length (map (expr_in_order p) (map (λ e. e.0) args))) (slice_get p.defs d)) (all_true (map (expr_in_order p) (map (λ e. e.0) args)))
-      (λ j. nat_eq d j) (any_of (map expr_uses (map (λ e. e.0) args)))
-      (one_use is_datum (length (map (expr_in_order p) (map (λ e. e.0) args))) d) (exprs_range args))
-  expr_layer (Expr-F.SetName d) = layer (Expr-F.SetName d) (one_use is_set_name 0 d)
-  expr_layer (Expr-F.Event c fields) = layer (Expr-F.Event c (map (λ e. e.0) fields))
-      (beside (with_fields (λ n. nat_eq n (length (map (expr_in_order p) (map (λ e. e.0) fields)))) (slice_get p.channels c)) (all_true (map (expr_in_order p) (map (λ e. e.0) fields)))
-      (any_of (map expr_uses (map (λ e. e.0) fields))) (exprs_range fields))
-  expr_layer (Expr-F.Display items) = layer (Expr-F.Display (map (λ e. e.0) items)) (exprs_range items)
-  expr_layer (Expr-F.Range a b) = layer (Expr-F.Range a.0 b.0) (two a b)
-  expr_layer (Expr-F.Comp items gens) = layer (Expr-F.Comp (map (λ e. e.0) items) (map (λ e. e.0) gens))
-      (both (all_true (map (expr_in_order p) (map (λ e. e.0) items))) (all_true (map (gen_in_order p) (map (λ e. e.0) gens)))
-      (any_of (map expr_uses (map (λ e. e.0) items))) (any_of (map gen_uses (map (λ e. e.0) gens))) (exprs_range items) (gens_range gens))
-  expr_layer (Expr-F.Product parts gens) = layer (Expr-F.Product (map (λ e. e.0) parts) (map (λ e. e.0) gens))
-      (both (all_true (map (part_in_order p) (map (λ e. e.0) parts))) (all_true (map (gen_in_order p) (map (λ e. e.0) gens)))
-      (any_of (map part_uses (map (λ e. e.0) parts))) (any_of (map gen_uses (map (λ e. e.0) gens))) (parts_range parts) (gens_range gens))
-  expr_layer (Expr-F.SetOp o a b) = layer (Expr-F.SetOp o a.0 b.0) (two a b)
-
-  gen_moved : (d : Gen-F Expr Gen EventPart)
+  gen_form_range : (d : Gen-F Expr Gen EventPart) → GenHas RangeExpr RangeGen RangePart d
       → InRange (gen_in_order_of_layer p (map-Gen Expr Gen EventPart Bool Bool Bool (expr_in_order p) (gen_in_order p) (part_in_order p) d)) (gen_uses_of_layer (map-Gen Expr Gen EventPart Names Names Names expr_uses gen_uses part_uses d))
-      → RangeGen (roll-Gen d)
-  gen_moved d h =
-      moved (gen_in_order p (roll-Gen d)) (gen_in_order_of_layer p (map-Gen Expr Gen EventPart Bool Bool Bool (expr_in_order p) (gen_in_order p) (part_in_order p) d))
-      (gen_uses (roll-Gen d)) (gen_uses_of_layer (map-Gen Expr Gen EventPart Names Names Names expr_uses gen_uses part_uses d))
-      (fold-roll-Gen Bool Bool Bool (expr_in_order_of_layer p) (gen_in_order_of_layer p) (part_in_order_of_layer p) d)
-      (fold-roll-Gen Names Names Names expr_uses_of_layer gen_uses_of_layer part_uses_of_layer d) h
+  gen_form_range (Gen-F.From n s) h = h
+  gen_form_range (Gen-F.Cond c) h = h
 
-  gen_layer : (y : Gen-F KnownExpr KnownGen KnownPart) → RangeGen (roll-Gen (map-Gen KnownExpr KnownGen KnownPart Expr Gen EventPart (λ e. e.0) (λ e. e.0) (λ e. e.0) y))
-  gen_layer (Gen-F.From n s) = gen_moved (Gen-F.From n s.0) s.1
-  gen_layer (Gen-F.Cond c) = gen_moved (Gen-F.Cond c.0) c.1
+  gen_step : (d : Gen-F Expr Gen EventPart) → GenHas RangeExpr RangeGen RangePart d → RangeGen (roll-Gen d)
+  gen_step d h =
+      moved (fold-roll-Gen Bool Bool Bool (expr_in_order_of_layer p) (gen_in_order_of_layer p) (part_in_order_of_layer p) d)
+      (fold-roll-Gen Names Names Names expr_uses_of_layer gen_uses_of_layer part_uses_of_layer d) (gen_form_range d h)
 
-  part_layer : (y : EventPart-F KnownExpr KnownGen KnownPart) → RangePart (roll-EventPart (map-EventPart KnownExpr KnownGen KnownPart Expr Gen EventPart (λ e. e.0) (λ e. e.0) (λ e. e.0) y))
-  part_layer y =
-      let d : EventPart-F Expr Gen EventPart = record { channel = y.channel; fields = map (λ e. e.0) y.fields } in
-      let ordered = part_in_order_of_layer p (map-EventPart Expr Gen EventPart Bool Bool Bool (expr_in_order p) (gen_in_order p) (part_in_order p) d) in
-      let used = part_uses_of_layer (map-EventPart Expr Gen EventPart Names Names Names expr_uses gen_uses part_uses d) in
-      moved (part_in_order p (roll-EventPart d)) ordered (part_uses (roll-EventPart d)) used
-      (fold-roll-EventPart Bool Bool Bool (expr_in_order_of_layer p) (gen_in_order_of_layer p) (part_in_order_of_layer p) d)
+  part_step : (d : EventPart-F Expr Gen EventPart) → PartHas RangeExpr RangeGen RangePart d → RangePart (roll-EventPart d)
+  part_step d h =
+      moved (fold-roll-EventPart Bool Bool Bool (expr_in_order_of_layer p) (gen_in_order_of_layer p) (part_in_order_of_layer p) d)
       (fold-roll-EventPart Names Names Names expr_uses_of_layer gen_uses_of_layer part_uses_of_layer d)
-      (λ o j t. exprs_range y.fields (is_second _ (all_true (map (expr_in_order p) (map (λ e. e.0) y.fields))) o) j t)
+      (λ o j t. exprs_range d.fields h (is_second _ (all_true (map (expr_in_order p) d.fields)) o) j t)
 
   pub uses_in_range : (e : Expr) → RangeExpr e
-  uses_in_range = ind-Expr RangeExpr RangeGen RangePart
-      (λ z y is. subst (λ t. RangeExpr (roll-Expr t)) is (expr_layer y))
-      (λ z y is. subst (λ t. RangeGen (roll-Gen t)) is (gen_layer y))
-      (λ z y is. subst (λ t. RangePart (roll-EventPart t)) is (part_layer y))
+  uses_in_range = each_expr RangeExpr RangeGen RangePart expr_step gen_step part_step

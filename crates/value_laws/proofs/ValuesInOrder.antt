@@ -37,7 +37,7 @@ use Rattle.csp_base.specs.declared.operators.BinOp.TheVariants as op
 use Rattle.csp_base.specs.declared.operators.SetOp.{SetOp}
 use Rattle.csp_base.specs.declared.operators.SetOp.TheVariants as set_op
 use Rattle.csp_program.specs.declared.expressions.Expr.{Expr}
-use Rattle.csp_program.specs.declared.expressions.Expr.TheFolds.{fold-roll-Expr, fold-roll-Gen, ind-Expr, map-Expr, map-Gen}
+use Rattle.csp_program.specs.declared.expressions.Expr.TheFolds.{fold-roll-Expr, fold-roll-Gen, map-Expr, map-Gen}
 use Rattle.csp_program.specs.declared.expressions.Expr.TheOpen.{Expr-F, Gen-F}
 use Rattle.csp_program.specs.declared.expressions.Expr.TheViews.{roll-Expr, roll-Gen}
 use Rattle.csp_program.specs.declared.expressions.EventPart.{EventPart}
@@ -49,6 +49,7 @@ use Rattle.csp_program.specs.declared.programs.Body.TheVariants as body
 use Rattle.csp_program.specs.declared.programs.Content.{Content}
 use Rattle.csp_program.specs.declared.programs.Def.{Def}
 use Rattle.csp_base.proofs.Booleans.{is_and, is_first, is_second}
+use Rattle.csp_program.proofs.Forms.{Every, ExprHas, GenHas, each_expr}
 use Rattle.csp_program.proofs.Outcomes.{came_through}
 use Rattle.csp_atoms.proofs.OrderLaws.{less_number}
 
@@ -264,45 +265,27 @@ module _ (p : Content) where
       abbrev pub AnyPart : EventPart → Type 0
       AnyPart part = Unit {0}
 
-      abbrev KnownExpr : Type 0
-      KnownExpr = (e : Expr) × FineExpr e
+      abbrev all_exprs : List Expr → Bool
+      all_exprs es = all_true (map (expr_in_order p) es)
 
-      abbrev KnownGen : Type 0
-      KnownGen = (g : Gen) × FineGen g
+      abbrev all_gens : List Gen → Bool
+      all_gens gs = all_true (map (gen_in_order p) gs)
 
-      abbrev KnownPart : Type 0
-      KnownPart = (f : EventPart) × AnyPart f
-
-      abbrev exprs_of : List KnownExpr → List Expr
-      exprs_of es = map (λ e. e.0) es
-
-      abbrev gens_of : List KnownGen → List Gen
-      gens_of gs = map (λ g. g.0) gs
-
-      abbrev parts_of : List KnownPart → List EventPart
-      parts_of ps = map (λ f. f.0) ps
-
-      abbrev all_exprs : List KnownExpr → Bool
-      all_exprs es = all_true (map (expr_in_order p) (exprs_of es))
-
-      abbrev all_gens : List KnownGen → Bool
-      all_gens gs = all_true (map (gen_in_order p) (gens_of gs))
-
-      values_fine : (es : List KnownExpr) → IsTrue (all_exprs es) → (env : Env) → EnvIsInOrder p env → (vs : List Value) → values_of (map M (exprs_of es)) env ≡ Ok vs → AllOrdered vs
-      values_fine [] o env r vs h = subst AllOrdered (same_outcome h) tt
-      values_fine (e ∷ es) o env r vs h =
-          let first = came_through (M e.0 env) (λ w. and_then (values_of (map M (exprs_of es)) env) (λ ws. Ok (w ∷ ws))) vs h in
-          let second = came_through (values_of (map M (exprs_of es)) env) (λ ws. Ok (first.0 ∷ ws)) vs first.2 in
+      values_fine : (es : List Expr) → Every FineExpr es → IsTrue (all_exprs es) → (env : Env) → EnvIsInOrder p env → (vs : List Value) → values_of (map M es) env ≡ Ok vs → AllOrdered vs
+      values_fine [] fine o env r vs h = subst AllOrdered (same_outcome h) tt
+      values_fine (e ∷ es) fine o env r vs h =
+          let first = came_through (M e env) (λ w. and_then (values_of (map M es) env) (λ ws. Ok (w ∷ ws))) vs h in
+          let second = came_through (values_of (map M es) env) (λ ws. Ok (first.0 ∷ ws)) vs first.2 in
           let all : AllOrdered (first.0 ∷ second.0) = (
-            e.1 (is_first (expr_in_order p e.0) (all_exprs es) o) env r first.0 first.1,
-            values_fine es (is_second (expr_in_order p e.0) (all_exprs es) o) env r second.0 second.1,
+            fine.0 (is_first (expr_in_order p e) (all_exprs es) o) env r first.0 first.1,
+            values_fine es fine.1 (is_second (expr_in_order p e) (all_exprs es) o) env r second.0 second.1,
           ) in
           subst AllOrdered (same_outcome second.2) all
 
-      item_fine : (es : List KnownExpr) → IsTrue (all_exprs es) → (env : Env) → EnvIsInOrder p env → (a : Atom) → IsItem (map M (exprs_of es)) env a → IsTrue (atom_in_order p a)
-      item_fine [] o env r a n = absurd n
-      item_fine (e ∷ es) o env r a (inl h) = e.1 (is_first (expr_in_order p e.0) (all_exprs es) o) env r (One a) h
-      item_fine (e ∷ es) o env r a (inr n) = item_fine es (is_second (expr_in_order p e.0) (all_exprs es) o) env r a n
+      item_fine : (es : List Expr) → Every FineExpr es → IsTrue (all_exprs es) → (env : Env) → EnvIsInOrder p env → (a : Atom) → IsItem (map M es) env a → IsTrue (atom_in_order p a)
+      item_fine [] fine o env r a n = absurd n
+      item_fine (e ∷ es) fine o env r a (inl h) = fine.0 (is_first (expr_in_order p e) (all_exprs es) o) env r (One a) h
+      item_fine (e ∷ es) fine o env r a (inr n) = item_fine es fine.1 (is_second (expr_in_order p e) (all_exprs es) o) env r a n
 
       one_turn : (t : Turn) (turns : List Turn) → FineTurn t → ((env bound : Env) → EnvIsInOrder p env → IsBinding turns env bound → EnvIsInOrder p bound)
           → (env bound : Env) → EnvIsInOrder p env → IsBinding (t ∷ turns) env bound → EnvIsInOrder p bound
@@ -310,134 +293,128 @@ module _ (p : Content) where
           rest ((x, One n.1) ∷ env) bound ((value_set n.0 (fine env r (Many n.0) n.2)).0 n.1 n.3, r) n.4
       one_turn (when c) turns fine rest env bound r n = rest env bound r n.1
 
-      binding_fine : (gs : List KnownGen) → IsTrue (all_gens gs) → (env bound : Env) → EnvIsInOrder p env → IsBinding (map T (gens_of gs)) env bound → EnvIsInOrder p bound
-      binding_fine [] o env bound r n = subst (EnvIsInOrder p) n r
-      binding_fine (g ∷ gs) o env bound r n =
-          one_turn (T g.0) (map T (gens_of gs)) (g.1 (is_first (gen_in_order p g.0) (all_gens gs) o))
-          (binding_fine gs (is_second (gen_in_order p g.0) (all_gens gs) o)) env bound r n
+      binding_fine : (gs : List Gen) → Every FineGen gs → IsTrue (all_gens gs) → (env bound : Env) → EnvIsInOrder p env → IsBinding (map T gs) env bound → EnvIsInOrder p bound
+      binding_fine [] fine o env bound r n = subst (EnvIsInOrder p) n r
+      binding_fine (g ∷ gs) fine o env bound r n =
+          one_turn (T g) (map T gs) (fine.0 (is_first (gen_in_order p g) (all_gens gs) o))
+          (binding_fine gs fine.1 (is_second (gen_in_order p g) (all_gens gs) o)) env bound r n
 
-      abbrev bare : Expr-F KnownExpr KnownGen KnownPart → Expr-F Expr Gen EventPart
-      bare y = map-Expr KnownExpr KnownGen KnownPart Expr Gen EventPart (λ e. e.0) (λ e. e.0) (λ e. e.0) y
+      abbrev form_order : Expr-F Expr Gen EventPart → Bool
+      form_order d = expr_in_order_of_layer p (map-Expr Expr Gen EventPart Bool Bool Bool (expr_in_order p) (gen_in_order p) (part_in_order p) d)
 
-      abbrev layer_order : Expr-F Expr Gen EventPart → Bool
-      layer_order d = expr_in_order_of_layer p (map-Expr Expr Gen EventPart Bool Bool Bool (expr_in_order p) (gen_in_order p) (part_in_order p) d)
+      abbrev of_form : Expr-F Expr Gen EventPart → Meaning
+      of_form d = meaning_of_layer u p.channels (map-Expr Expr Gen EventPart Meaning Turn Front M T F d)
 
-      abbrev layer_of : Expr-F Expr Gen EventPart → Meaning
-      layer_of d = meaning_of_layer u p.channels (map-Expr Expr Gen EventPart Meaning Turn Front M T F d)
-
-      layer : (d : Expr-F Expr Gen EventPart) → (IsTrue (layer_order d) → FineMeaning (layer_of d)) → FineExpr (roll-Expr d)
-      layer d f o env r v h =
-          f (sym (fold-roll-Expr Bool Bool Bool (expr_in_order_of_layer p) (gen_in_order_of_layer p) (part_in_order_of_layer p) d) ∙ o) env r v
-          ((λ i. sym (fold-roll-Expr Meaning Turn Front (meaning_of_layer u p.channels) (turn_of_layer u p.channels) (front_of_layer u p.channels) d) i env) ∙ h)
-
-      event_fine : (c : ℕ) (fields : List KnownExpr) → IsTrue (layer_order (Expr-F.Event c (exprs_of fields))) → FineMeaning (layer_of (Expr-F.Event c (exprs_of fields)))
+      event_fine : (c : ℕ) (fields : List Expr) → IsTrue (form_order (Expr-F.Event c fields)) → FineMeaning (of_form (Expr-F.Event c fields))
       event_fine c fields o env r =
-          let ms : List Meaning = map M (exprs_of fields) in
-          let count : ℕ = length (map (expr_in_order p) (exprs_of fields)) in
+          let ms : List Meaning = map M fields in
+          let count : ℕ = length (map (expr_in_order p) fields) in
           fine_then (front_number (first_of (slice_get p.channels c)) (sets_of (slice_get p.channels c)) ms env) (λ e. Ok (One (atom.Event e)))
           (λ e g.
           let s = has_sets (first_of (slice_get p.channels c)) (sets_of (slice_get p.channels c)) ms env e g in
-          let long : length ms ≡ count = length-map (exprs_of fields) M ∙ sym (length-map (exprs_of fields) (expr_in_order p)) in
+          let long : length ms ≡ count = length-map fields M ∙ sym (length-map fields (expr_in_order p)) in
           let asked = is_first (with_fields (λ n. nat_eq n count) (slice_get p.channels c)) (all_exprs fields) o in
           let found = numbers_are_places p ordered c s.0 ms env e s.1 (long ∙ as_many p p.channels c s.0 count ordered.channels_used s.1 asked) g in
           fine_ok (One (atom.Event e)) (event_there c e found.0 s.0 s.1 found.2))
 
-      comp_fine : (items : List KnownExpr) (gens : List KnownGen) → IsTrue (layer_order (Expr-F.Comp (exprs_of items) (gens_of gens))) → FineMeaning (layer_of (Expr-F.Comp (exprs_of items) (gens_of gens)))
-      comp_fine items gens o env r v h =
-          let c = items_held (map M (exprs_of items)) (map T (gens_of gens)) env v h in
+      comp_fine : (items : List Expr) (gens : List Gen) → Every FineExpr items → Every FineGen gens → IsTrue (form_order (Expr-F.Comp items gens)) → FineMeaning (of_form (Expr-F.Comp items gens))
+      comp_fine items gens fine fine_gens o env r v h =
+          let c = items_held (map M items) (map T gens) env v h in
           subst (λ (z : Value). IsTrue (value_in_order p z)) (sym c.1)
           (set_value c.0 (
             λ z m.
                 let f = (c.3 z).0 m in
-                item_fine items (is_first (all_exprs items) (all_gens gens) o) f.0 (binding_fine gens (is_second (all_exprs items) (all_gens gens) o) env f.0 r f.1) z f.2,
+                item_fine items fine (is_first (all_exprs items) (all_gens gens) o) f.0 (binding_fine gens fine_gens (is_second (all_exprs items) (all_gens gens) o) env f.0 r f.1) z f.2,
             c.2.0,
           ))
 
-      product_fine : (parts : List KnownPart) (gens : List KnownGen) → FineMeaning (layer_of (Expr-F.Product (parts_of parts) (gens_of gens)))
+      product_fine : (parts : List EventPart) (gens : List Gen) → FineMeaning (of_form (Expr-F.Product parts gens))
       product_fine parts gens env r v h =
-          let c = events_held p ordered (map F (parts_of parts)) (map T (gens_of gens)) env v (with_sets (lack_sets p.channels (map F (parts_of parts))) _ v h) in
+          let c = events_held p ordered (map F parts) (map T gens) env v (with_sets (lack_sets p.channels (map F parts)) _ v h) in
           subst (λ (z : Value). IsTrue (value_in_order p z)) (sym c.1)
           (set_value c.0 (
             λ z m.
                 let f = (c.3 z).0 m in
-                subst (λ (y : Atom). IsTrue (atom_in_order p y)) (sym f.3) (begun_there (map F (parts_of parts)) f.0 f.1 f.4),
+                subst (λ (y : Atom). IsTrue (atom_in_order p y)) (sym f.3) (begun_there (map F parts) f.0 f.1 f.4),
             c.2.0,
           ))
 
-      display_fine : (items : List KnownExpr) → IsTrue (all_exprs items) → FineMeaning (layer_of (Expr-F.Display (exprs_of items)))
-      display_fine items o env r =
-          fine_many (items_added (map M (exprs_of items)) env [])
+      display_fine : (items : List Expr) → Every FineExpr items → IsTrue (all_exprs items) → FineMeaning (of_form (Expr-F.Display items))
+      display_fine items fine o env r =
+          fine_many (items_added (map M items) env [])
           (λ set h.
-          let g = items_grow (map M (exprs_of items)) env [] set h in
-          (λ z m. elim ((g.1 z).0 m) [ inl n ↦ absurd (false≢true n) | inr i ↦ item_fine items o env r z i ], (g.0 ((tt, tt), omega arith)).0))
+          let g = items_grow (map M items) env [] set h in
+          (λ z m. elim ((g.1 z).0 m) [ inl n ↦ absurd (false≢true n) | inr i ↦ item_fine items fine o env r z i ], (g.0 ((tt, tt), omega arith)).0))
 
-      range_fine : (a b : KnownExpr) → FineMeaning (layer_of (Expr-F.Range a.0 b.0))
+      range_fine : (a b : Expr) → FineMeaning (of_form (Expr-F.Range a b))
       range_fine a b env r =
-          fine_then (M a.0 env) (λ v. and_then (as_number v) (λ m. and_then (M b.0 env) (λ w. and_then (as_number w) (λ n. many (meant.range m n)))))
-          (λ v e. fine_then (as_number v) (λ m. and_then (M b.0 env) (λ w. and_then (as_number w) (λ n. many (meant.range m n))))
-          (λ m f. fine_then (M b.0 env) (λ w. and_then (as_number w) (λ n. many (meant.range m n)))
+          fine_then (M a env) (λ v. and_then (as_number v) (λ m. and_then (M b env) (λ w. and_then (as_number w) (λ n. many (meant.range m n)))))
+          (λ v e. fine_then (as_number v) (λ m. and_then (M b env) (λ w. and_then (as_number w) (λ n. many (meant.range m n))))
+          (λ m f. fine_then (M b env) (λ w. and_then (as_number w) (λ n. many (meant.range m n)))
           (λ w g. fine_then (as_number w) (λ n. many (meant.range m n)) (λ n h. fine_many (meant.range m n) (fine_range m n)))))
 
-      set_op_fine : (q : SetOp) (a b : KnownExpr) → IsTrue (expr_in_order p a.0 && expr_in_order p b.0) → FineMeaning (layer_of (Expr-F.SetOp q a.0 b.0))
-      set_op_fine q a b o env r =
-          fine_then (M a.0 env) (λ v. and_then (as_set v) (λ xs. and_then (M b.0 env) (λ w. and_then (as_set w) (λ ys. many (set_binary q xs ys)))))
-          (λ v e. fine_then (as_set v) (λ xs. and_then (M b.0 env) (λ w. and_then (as_set w) (λ ys. many (set_binary q xs ys))))
-          (λ xs f. fine_then (M b.0 env) (λ w. and_then (as_set w) (λ ys. many (set_binary q xs ys)))
+      set_op_fine : (q : SetOp) (a b : Expr) → FineExpr a → FineExpr b → IsTrue (expr_in_order p a && expr_in_order p b) → FineMeaning (of_form (Expr-F.SetOp q a b))
+      set_op_fine q a b first second o env r =
+          fine_then (M a env) (λ v. and_then (as_set v) (λ xs. and_then (M b env) (λ w. and_then (as_set w) (λ ys. many (set_binary q xs ys)))))
+          (λ v e. fine_then (as_set v) (λ xs. and_then (M b env) (λ w. and_then (as_set w) (λ ys. many (set_binary q xs ys))))
+          (λ xs f. fine_then (M b env) (λ w. and_then (as_set w) (λ ys. many (set_binary q xs ys)))
           (λ w g. fine_then (as_set w) (λ ys. many (set_binary q xs ys))
           (λ ys h. fine_many (set_binary q xs ys) (fine_set_binary q xs ys
-          (fine_as_set v (a.1 (is_first (expr_in_order p a.0) (expr_in_order p b.0) o) env r v e) xs f)
-          (fine_as_set w (b.1 (is_second (expr_in_order p a.0) (expr_in_order p b.0) o) env r w g) ys h))))))
+          (fine_as_set v (first (is_first (expr_in_order p a) (expr_in_order p b) o) env r v e) xs f)
+          (fine_as_set w (second (is_second (expr_in_order p a) (expr_in_order p b) o) env r w g) ys h))))))
 
-      if_fine : (c a b : KnownExpr) → IsTrue (expr_in_order p c.0 && (expr_in_order p a.0 && expr_in_order p b.0)) → FineMeaning (layer_of (Expr-F.If c.0 a.0 b.0))
-      if_fine c a b o env r =
-          let two = is_second (expr_in_order p c.0) (expr_in_order p a.0 && expr_in_order p b.0) o in
-          fine_then (M c.0 env) (λ v. and_then (as_truth v) (λ t. cond t (M a.0 env) (M b.0 env)))
-          (λ v e. fine_then (as_truth v) (λ t. cond t (M a.0 env) (M b.0 env))
-          (λ t f. fine_if t (M a.0 env) (M b.0 env)
-          (a.1 (is_first (expr_in_order p a.0) (expr_in_order p b.0) two) env r) (b.1 (is_second (expr_in_order p a.0) (expr_in_order p b.0) two) env r)))
+      if_fine : (c a b : Expr) → FineExpr a → FineExpr b → IsTrue (expr_in_order p c && (expr_in_order p a && expr_in_order p b)) → FineMeaning (of_form (Expr-F.If c a b))
+      if_fine c a b first second o env r =
+          let two = is_second (expr_in_order p c) (expr_in_order p a && expr_in_order p b) o in
+          fine_then (M c env) (λ v. and_then (as_truth v) (λ t. cond t (M a env) (M b env)))
+          (λ v e. fine_then (as_truth v) (λ t. cond t (M a env) (M b env))
+          (λ t f. fine_if t (M a env) (M b env)
+          (first (is_first (expr_in_order p a) (expr_in_order p b) two) env r) (second (is_second (expr_in_order p a) (expr_in_order p b) two) env r)))
 
-      expr_layer : (y : Expr-F KnownExpr KnownGen KnownPart) → FineExpr (roll-Expr (bare y))
-      expr_layer (Expr-F.Num n) = layer (Expr-F.Num n) (λ o env r. fine_number n)
-      expr_layer (Expr-F.Truth b) = layer (Expr-F.Truth b) (λ o env r. fine_truth b)
-      expr_layer (Expr-F.Const k) = layer (Expr-F.Const k) (λ o env r. fine_ok (One (atom.Const k)) o)
-      expr_layer (Expr-F.Bound x) = layer (Expr-F.Bound x) (λ o env r. bound_fine env r x)
-      expr_layer (Expr-F.Lit w) = layer (Expr-F.Lit w) (λ o env r. fine_ok w o)
-      expr_layer (Expr-F.Neg a) = layer (Expr-F.Neg a.0)
-          (λ o env r. fine_then (M a.0 env) (λ v. and_then (as_number v) (λ n. in_range (neg_ℤ n)))
-          (λ v e. fine_then (as_number v) (λ n. in_range (neg_ℤ n)) (λ n f. fine_in_range (neg_ℤ n))))
-      expr_layer (Expr-F.Not a) = layer (Expr-F.Not a.0)
-          (λ o env r. fine_then (M a.0 env) (λ v. and_then (as_truth v) (λ b. Ok (truth (not b))))
-          (λ v e. fine_then (as_truth v) (λ b. Ok (truth (not b))) (λ b f. fine_truth (not b))))
-      expr_layer (Expr-F.Binary q a b) = layer (Expr-F.Binary q a.0 b.0) (λ o env r. fine_then (M a.0 env) (λ v. binary q v (M b.0 env)) (λ v e. fine_binary q v (M b.0 env)))
-      expr_layer (Expr-F.If c a b) = layer (Expr-F.If c.0 a.0 b.0) (if_fine c a b)
-      expr_layer (Expr-F.Call d args) = layer (Expr-F.Call d (exprs_of args))
-          (λ o env r. fine_then (values_of (map M (exprs_of args)) env) (λ vs. u d vs)
-          (λ vs e. uses_fine d vs (values_fine args
-          (is_second (takes is_datum (length (map (expr_in_order p) (exprs_of args))) (slice_get p.defs d)) (all_exprs args) o) env r vs e)))
-      expr_layer (Expr-F.SetName d) = layer (Expr-F.SetName d)
-          (λ o env r. fine_then (u d []) (λ v. many (as_set v)) (λ v e. fine_many (as_set v) (fine_as_set v (uses_fine d [] tt v e))))
-      expr_layer (Expr-F.Event c fields) = layer (Expr-F.Event c (exprs_of fields)) (event_fine c fields)
-      expr_layer (Expr-F.Display items) = layer (Expr-F.Display (exprs_of items)) (display_fine items)
-      expr_layer (Expr-F.Range a b) = layer (Expr-F.Range a.0 b.0) (λ o. range_fine a b)
-      expr_layer (Expr-F.Comp items gens) = layer (Expr-F.Comp (exprs_of items) (gens_of gens)) (comp_fine items gens)
-      expr_layer (Expr-F.Product parts gens) = layer (Expr-F.Product (parts_of parts) (gens_of gens)) (λ o. product_fine parts gens)
-      expr_layer (Expr-F.SetOp q a b) = layer (Expr-F.SetOp q a.0 b.0) (set_op_fine q a b)
+      form_fine : (d : Expr-F Expr Gen EventPart) → ExprHas FineExpr FineGen AnyPart d → IsTrue (form_order d) → FineMeaning (of_form d)
+      form_fine (Expr-F.Num n) fine o env r = fine_number n
+      form_fine (Expr-F.Truth b) fine o env r = fine_truth b
+      form_fine (Expr-F.Const k) fine o env r = fine_ok (One (atom.Const k)) o
+      form_fine (Expr-F.Bound x) fine o env r = bound_fine env r x
+      form_fine (Expr-F.Lit w) fine o env r = fine_ok w o
+      form_fine (Expr-F.Neg a) fine o env r =
+          fine_then (M a env) (λ v. and_then (as_number v) (λ n. in_range (neg_ℤ n)))
+          (λ v e. fine_then (as_number v) (λ n. in_range (neg_ℤ n)) (λ n f. fine_in_range (neg_ℤ n)))
+      form_fine (Expr-F.Not a) fine o env r =
+          fine_then (M a env) (λ v. and_then (as_truth v) (λ b. Ok (truth (not b))))
+          (λ v e. fine_then (as_truth v) (λ b. Ok (truth (not b))) (λ b f. fine_truth (not b)))
+      form_fine (Expr-F.Binary q a b) fine o env r = fine_then (M a env) (λ v. binary q v (M b env)) (λ v e. fine_binary q v (M b env))
+      form_fine (Expr-F.If c a b) fine o env r = if_fine c a b fine.1 fine.2 o env r
+      form_fine (Expr-F.Call d args) fine o env r =
+          fine_then (values_of (map M args) env) (λ vs. u d vs)
+          (λ vs e. uses_fine d vs (values_fine args fine
+          (is_second (takes is_datum (length (map (expr_in_order p) args)) (slice_get p.defs d)) (all_exprs args) o) env r vs e))
+      form_fine (Expr-F.SetName d) fine o env r =
+          fine_then (u d []) (λ v. many (as_set v)) (λ v e. fine_many (as_set v) (fine_as_set v (uses_fine d [] tt v e)))
+      form_fine (Expr-F.Event c fields) fine o env r = event_fine c fields o env r
+      form_fine (Expr-F.Display items) fine o env r = display_fine items fine o env r
+      form_fine (Expr-F.Range a b) fine o env r = range_fine a b env r
+      form_fine (Expr-F.Comp items gens) fine o env r = comp_fine items gens fine.0 fine.1 o env r
+      form_fine (Expr-F.Product parts gens) fine o env r = product_fine parts gens env r
+      form_fine (Expr-F.SetOp q a b) fine o env r = set_op_fine q a b fine.0 fine.1 o env r
 
-      gen_rolls : (d : Gen-F Expr Gen EventPart) → gen_in_order p (roll-Gen d) ≡ gen_in_order_of_layer p (map-Gen Expr Gen EventPart Bool Bool Bool (expr_in_order p) (gen_in_order p) (part_in_order p) d)
-      gen_rolls = fold-roll-Gen Bool Bool Bool (expr_in_order_of_layer p) (gen_in_order_of_layer p) (part_in_order_of_layer p)
+      expr_step : (d : Expr-F Expr Gen EventPart) → ExprHas FineExpr FineGen AnyPart d → FineExpr (roll-Expr d)
+      expr_step d fine o env r v h =
+          form_fine d fine (sym (fold-roll-Expr Bool Bool Bool (expr_in_order_of_layer p) (gen_in_order_of_layer p) (part_in_order_of_layer p) d) ∙ o) env r v
+          ((λ i. sym (fold-roll-Expr Meaning Turn Front (meaning_of_layer u p.channels) (turn_of_layer u p.channels) (front_of_layer u p.channels) d) i env) ∙ h)
 
-      turn_rolls : (d : Gen-F Expr Gen EventPart) → T (roll-Gen d) ≡ turn_of_layer u p.channels (map-Gen Expr Gen EventPart Meaning Turn Front M T F d)
-      turn_rolls = fold-roll-Gen Meaning Turn Front (meaning_of_layer u p.channels) (turn_of_layer u p.channels) (front_of_layer u p.channels)
+      gen_form_fine : (d : Gen-F Expr Gen EventPart) → GenHas FineExpr FineGen AnyPart d
+          → IsTrue (gen_in_order_of_layer p (map-Gen Expr Gen EventPart Bool Bool Bool (expr_in_order p) (gen_in_order p) (part_in_order p) d)) → FineTurn (turn_of_layer u p.channels (map-Gen Expr Gen EventPart Meaning Turn Front M T F d))
+      gen_form_fine (Gen-F.From n s) fine o = fine o
+      gen_form_fine (Gen-F.Cond c) fine o = tt
 
-      gen_layer : (y : Gen-F KnownExpr KnownGen KnownPart) → FineGen (roll-Gen (map-Gen KnownExpr KnownGen KnownPart Expr Gen EventPart (λ e. e.0) (λ e. e.0) (λ e. e.0) y))
-      gen_layer (Gen-F.From n s) o = subst FineTurn (sym (turn_rolls (Gen-F.From n s.0))) (s.1 (sym (gen_rolls (Gen-F.From n s.0)) ∙ o))
-      gen_layer (Gen-F.Cond c) o = subst FineTurn (sym (turn_rolls (Gen-F.Cond c.0))) tt
+      gen_step : (d : Gen-F Expr Gen EventPart) → GenHas FineExpr FineGen AnyPart d → FineGen (roll-Gen d)
+      gen_step d fine o =
+          subst FineTurn (sym (fold-roll-Gen Meaning Turn Front (meaning_of_layer u p.channels) (turn_of_layer u p.channels) (front_of_layer u p.channels) d))
+          (gen_form_fine d fine (sym (fold-roll-Gen Bool Bool Bool (expr_in_order_of_layer p) (gen_in_order_of_layer p) (part_in_order_of_layer p) d) ∙ o))
 
       pub expr_fine : (e : Expr) → FineExpr e
-      expr_fine = ind-Expr FineExpr FineGen AnyPart
-          (λ z y is. subst (λ t. FineExpr (roll-Expr t)) is (expr_layer y))
-          (λ z y is. subst (λ t. FineGen (roll-Gen t)) is (gen_layer y))
-          (λ z y is. tt)
+      expr_fine = each_expr FineExpr FineGen AnyPart expr_step gen_step (λ d fine. tt)
 
       body_fine : (params : List ℕ) (b : Body) → IsTrue (body_in_order p params b) → (args : List Value) → AllOrdered args → Fine (body_value M params b args)
       body_fine params (body.Datum e) o args a = expr_fine e o (bound_to params args) (bound_to_fine params args a)

@@ -1,6 +1,6 @@
 -- In a program in order, the number that is computed for an event from the values of its fields is the place of the event in the event table of the
 -- program's channels. The events that begin with given values stand there one after another.
-use Rattle.std.specs.Prelude.{◌≡◌, ◌↔◌, ℕ, ◌+◌, ◌<◌, ◌≤◌, Some, Ok, List, ◌∷◌, ◌++◌, map, length, slice_get}
+use Rattle.std.specs.Prelude.{◌≡◌, ◌↔◌, ℕ, ◌+◌, ◌<◌, ◌≤◌, Some, Ok, List, ◌++◌, map, length, slice_get}
 use Rattle.csp_program.specs.EventTable.{event_of, event_table}
 use Rattle.csp_program.specs.InOrder.{IsInOrder}
 use Rattle.csp_program.specs.Outcome.{Outcome, and_then}

@@ -1,16 +1,18 @@
-use Rattle.csp_program.proofs.SubstitutionLaws.{substitution_keeps_depth, substitution_keeps_order}
+use Rattle.csp_program.specs.Value.{uses_within}
 use Rattle.substitution.specs.Parts.{expr_after}
 use Rattle.substitution.proofs.BoundWorth.{worth_bound}
-use Rattle.csp_program.specs.Value.{uses_within}
+use Rattle.substitution.proofs.ExprFolds.{expr_keeps_depth, expr_keeps_order}
 use Rattle.substitution.proofs.ExprFree.{expr_loses}
 use Rattle.substitution.proofs.ExprStays.{expr_stays}
 use Rattle.substitution.proofs.laws.expressions_keep.Goals as goal
 
 pub returns-clause-depth : goal.returns-clause-depth
-returns-clause-depth c = substitution_keeps_depth
+unfolding expr_after
+returns-clause-depth c = expr_keeps_depth
 
 pub returns-clause-order : goal.returns-clause-order
-returns-clause-order c = substitution_keeps_order
+unfolding expr_after
+returns-clause-order c = expr_keeps_order
 
 pub returns-clause-free : goal.returns-clause-free
 unfolding expr_after
