@@ -20,42 +20,7 @@ use Rattle.csp_grammar.specs.Precedence.Level.{disjunction, conjunction, negatio
 use Rattle.script_printer.specs.declared.shape.Shape.TheVariants.{Atom, Dotted, Compound}
 use Rattle.script_printer.specs.PrintedTree.{as_item, as_operand, in_parentheses, item_tokens, operand_tokens, operator_token, printed_tokens, shape_of}
 use Rattle.csp_text.specs.Written.{set_op_word}
-
--- from an atom upwards
-
-pub at_level : {n : ℕ} {ts : List Token} {t : Tree} {r : List Token} → (l : Level) → AtomText n ts t r → ExpressionText n l ts t r
-at_level renaming a = g.expression-atom a
-at_level minus a = g.expression-tighter minus-renaming (g.expression-atom a)
-at_level product a = g.expression-tighter product-minus (g.expression-tighter minus-renaming (g.expression-atom a))
-at_level sum a = g.expression-tighter sum-product (g.expression-tighter product-minus (g.expression-tighter minus-renaming (g.expression-atom a)))
-at_level comparison a =
-    g.expression-tighter comparison-sum (g.expression-tighter sum-product (g.expression-tighter product-minus (g.expression-tighter minus-renaming (g.expression-atom a))))
-at_level negation a =
-    g.expression-tighter negation-comparison (g.expression-tighter comparison-sum
-    (g.expression-tighter sum-product (g.expression-tighter product-minus (g.expression-tighter minus-renaming (g.expression-atom a)))))
-at_level conjunction a =
-    g.expression-tighter conjunction-negation (g.expression-tighter negation-comparison (g.expression-tighter comparison-sum
-    (g.expression-tighter sum-product (g.expression-tighter product-minus (g.expression-tighter minus-renaming (g.expression-atom a))))))
-at_level disjunction a =
-    g.expression-tighter disjunction-conjunction (g.expression-tighter conjunction-negation (g.expression-tighter negation-comparison
-    (g.expression-tighter comparison-sum (g.expression-tighter sum-product (g.expression-tighter product-minus (g.expression-tighter minus-renaming (g.expression-atom a)))))))
-
-pub from_level : {n : ℕ} {ts : List Token} {t : Tree} {r : List Token} → (l : Level) → ExpressionText n l ts t r → ExpressionText n disjunction ts t r
-from_level disjunction e = e
-from_level conjunction e = g.expression-tighter disjunction-conjunction e
-from_level negation e = g.expression-tighter disjunction-conjunction (g.expression-tighter conjunction-negation e)
-from_level comparison e = g.expression-tighter disjunction-conjunction (g.expression-tighter conjunction-negation (g.expression-tighter negation-comparison e))
-from_level sum e =
-    g.expression-tighter disjunction-conjunction (g.expression-tighter conjunction-negation (g.expression-tighter negation-comparison (g.expression-tighter comparison-sum e)))
-from_level product e =
-    g.expression-tighter disjunction-conjunction (g.expression-tighter conjunction-negation (g.expression-tighter negation-comparison
-    (g.expression-tighter comparison-sum (g.expression-tighter sum-product e))))
-from_level minus e =
-    g.expression-tighter disjunction-conjunction (g.expression-tighter conjunction-negation (g.expression-tighter negation-comparison
-    (g.expression-tighter comparison-sum (g.expression-tighter sum-product (g.expression-tighter product-minus e)))))
-from_level renaming e =
-    g.expression-tighter disjunction-conjunction (g.expression-tighter conjunction-negation (g.expression-tighter negation-comparison
-    (g.expression-tighter comparison-sum (g.expression-tighter sum-product (g.expression-tighter product-minus (g.expression-tighter minus-renaming e))))))
+use Rattle.tree_reading.proofs.Meaning.{at_level, from_level}
 
 pub as_prefix : {n : ℕ} {ts : List Token} {t : Tree} {r : List Token} → AtomText n ts t r → ClosedPrefixText n ts t r
 as_prefix a = g.closed-prefix-expression (at_level disjunction a)

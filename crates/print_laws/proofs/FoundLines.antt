@@ -120,12 +120,8 @@ one_of true u h X p q = p refl
 one_of false u h X p q = q h
 
 rejects_assert : (test : Token → Bool) (t : Token) → ((w : Word) → test (token.Word w) ≡ false) → test t ≡ true → is_assert t ≡ false
-rejects_assert test (token.Name x) r h = refl
-rejects_assert test (token.Num n) r h = refl
-rejects_assert test (token.Symbol s) r h = refl
 rejects_assert test (token.Word w) r h = absurd (false≢true (sym (r w) ∙ h))
-rejects_assert test (token.Roles names) r h = refl
-rejects_assert test (token.Resource names) r h = refl
+rejects_assert test _ r h = refl
 
 -- tests that no reserved word passes
 abbrev Rejects : List (Token → Bool) → Type 0

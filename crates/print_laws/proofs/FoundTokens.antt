@@ -154,23 +154,8 @@ pub record IsToken (text : List ℕ) (t : Token) : Type 0 where
   pub asserts : is_assert t ≡ true → begins_assertion text ≡ true
 
 word_asserts : (text : List ℕ) (w : Word) → reserved_word (take (word_len text) text) ≡ Some w → is_assert (token.Word w) ≡ true → begins_assertion text ≡ true
-word_asserts text word.And h a = absurd (false≢true a)
 word_asserts text word.Assert h a = begins text ∙ reserved_is (take (word_len text) text) word.Assert h
-word_asserts text word.Channel h a = absurd (false≢true a)
-word_asserts text word.Datatype h a = absurd (false≢true a)
-word_asserts text word.Diff h a = absurd (false≢true a)
-word_asserts text word.Else h a = absurd (false≢true a)
-word_asserts text word.False h a = absurd (false≢true a)
-word_asserts text word.If h a = absurd (false≢true a)
-word_asserts text word.Inter h a = absurd (false≢true a)
-word_asserts text word.Nametype h a = absurd (false≢true a)
-word_asserts text word.Not h a = absurd (false≢true a)
-word_asserts text word.Or h a = absurd (false≢true a)
-word_asserts text word.Then h a = absurd (false≢true a)
-word_asserts text word.True h a = absurd (false≢true a)
-word_asserts text word.Union h a = absurd (false≢true a)
-word_asserts text word.Stop h a = absurd (false≢true a)
-word_asserts text word.Skip h a = absurd (false≢true a)
+word_asserts text _ h a = absurd (false≢true a)
 
 word_token_fits : (text : List ℕ) → nat_lt 0 (word_len text) ≡ true → (o : Option Word) → reserved_word (take (word_len text) text) ≡ o → Of (IsToken text) (word_or_name o (take (word_len text) text))
 word_token_fits text h (Some w) e = record { fits = tt; asserts = word_asserts text w e }
@@ -248,44 +233,10 @@ not_both : (t : Bool) → t ≡ true → t ≡ false → ⊥
 not_both t h k = false≢true (sym k ∙ h)
 
 single_is : (text : List ℕ) (s : Symbol) → starts_with nat_eq text (codes "[") ≡ false → starts_with nat_eq text (codes "]") ≡ false → starts_with nat_eq text (symbol_text s) ≡ true → is_single s ≡ true
-single_is text symbol.Arrow h k l = refl
 single_is text symbol.ExternalChoice h k l = absurd (not_both _ (first_byte 0 91 93 text l) h)
-single_is text symbol.InternalChoice h k l = refl
-single_is text symbol.Parallel h k l = refl
 single_is text symbol.OpenRename h k l = absurd (not_both _ (first_byte 0 91 91 text l) h)
 single_is text symbol.CloseRename h k l = absurd (not_both _ (first_byte 0 93 93 text l) k)
-single_is text symbol.OpenProduct h k l = refl
-single_is text symbol.CloseProduct h k l = refl
-single_is text symbol.LeftArrow h k l = refl
-single_is text symbol.DotDot h k l = refl
-single_is text symbol.Dot h k l = refl
-single_is text symbol.Bang h k l = refl
-single_is text symbol.Question h k l = refl
-single_is text symbol.Colon h k l = refl
-single_is text symbol.At h k l = refl
-single_is text symbol.Defines h k l = refl
-single_is text symbol.Equal h k l = refl
-single_is text symbol.NotEqual h k l = refl
-single_is text symbol.Less h k l = refl
-single_is text symbol.LessEqual h k l = refl
-single_is text symbol.Greater h k l = refl
-single_is text symbol.GreaterEqual h k l = refl
-single_is text symbol.Plus h k l = refl
-single_is text symbol.Minus h k l = refl
-single_is text symbol.Star h k l = refl
-single_is text symbol.Slash h k l = refl
-single_is text symbol.Percent h k l = refl
-single_is text symbol.OpenParen h k l = refl
-single_is text symbol.CloseParen h k l = refl
-single_is text symbol.OpenBrace h k l = refl
-single_is text symbol.CloseBrace h k l = refl
-single_is text symbol.OpenBracket h k l = refl
-single_is text symbol.CloseBracket h k l = refl
-single_is text symbol.Comma h k l = refl
-single_is text symbol.Ampersand h k l = refl
-single_is text symbol.Bar h k l = refl
-single_is text symbol.Backslash h k l = refl
-single_is text symbol.Semicolon h k l = refl
+single_is text _ h k l = refl
 
 longest_single : (text : List ℕ) → starts_with nat_eq text (codes "[") ≡ false → starts_with nat_eq text (codes "]") ≡ false → (o : Option Symbol) → longest_symbol text ≡ o → Of (λ s. is_single s ≡ true) o
 longest_single text h k None e = tt

@@ -36,10 +36,7 @@ is_own (token.Symbol ExternalChoice) = true
 is_own (token.Symbol InternalChoice) = true
 is_own (token.Symbol OpenRename) = true
 is_own (token.Symbol CloseRename) = true
-is_own (token.Symbol _) = false
-is_own (token.Word _) = false
-is_own (token.Roles _) = false
-is_own (token.Resource _) = false
+is_own _ = false
 
 -- any other token of a tree, but for parentheses
 abbrev pub is_other : Token → Bool
@@ -51,30 +48,15 @@ is_other (token.Symbol OpenParen) = false
 is_other (token.Symbol CloseParen) = false
 is_other (token.Symbol _) = true
 is_other (token.Word w) = is_common w
-is_other (token.Name _) = false
-is_other (token.Num _) = false
-is_other (token.Roles _) = false
-is_other (token.Resource _) = false
+is_other _ = false
 
 operator_other : (o : BinOp) → is_other (operator_token o) ≡ true
 operator_other op.Or = refl
-operator_other op.And = refl
-operator_other op.Eq = refl
-operator_other op.Ne = refl
-operator_other op.Lt = refl
-operator_other op.Le = refl
-operator_other op.Gt = refl
-operator_other op.Ge = refl
-operator_other op.Add = refl
-operator_other op.Sub = refl
-operator_other op.Mul = refl
-operator_other op.Div = refl
-operator_other op.Rem = refl
+operator_other _ = refl
 
 set_op_other : (o : SetOp) → is_other (set_op_word o) ≡ true
 set_op_other set_op.Union = refl
-set_op_other set_op.Inter = refl
-set_op_other set_op.Diff = refl
+set_op_other _ = refl
 
 choice_own : (c : Choice) → is_own (choice_sign c) ≡ true
 choice_own grammar.external = refl

@@ -1,7 +1,6 @@
 pub mod AnnotationLines
 pub mod CutScripts
 pub mod Cuts
-pub mod Depths
 pub mod Forms
 pub mod FoundLines
 pub mod FoundTokens

@@ -141,22 +141,7 @@ quiet_number n h = weaker is_digit is_quiet quiet_digit (decimal n) (decimal_dig
 
 quiet_word : (w : Word) → list_all is_quiet (word_text w) ≡ true
 quiet_word word.And = refl
-quiet_word word.Assert = refl
-quiet_word word.Channel = refl
-quiet_word word.Datatype = refl
-quiet_word word.Diff = refl
-quiet_word word.Else = refl
-quiet_word word.False = refl
-quiet_word word.If = refl
-quiet_word word.Inter = refl
-quiet_word word.Nametype = refl
-quiet_word word.Not = refl
-quiet_word word.Or = refl
-quiet_word word.Then = refl
-quiet_word word.True = refl
-quiet_word word.Union = refl
-quiet_word word.Stop = refl
-quiet_word word.Skip = refl
+quiet_word _ = refl
 
 quiet_behind : (b : ℕ) (x text : List ℕ) → ends_line (b ∷ x ++ text) ≡ false → list_all is_quiet x ≡ true → rest_len (b ∷ x ++ text) ≡ length (b ∷ x) + rest_len text
 quiet_behind b x text e h =
@@ -167,47 +152,15 @@ quiet_behind b x text e h =
 symbol_rest : (s : Symbol) {text : List ℕ} → Gap text → rest_len (symbol_text s ++ text) ≡ length (symbol_text s) + rest_len text
 symbol_rest symbol.Arrow (space {r = r}) = quiet_behind 45 (62 ∷ []) (32 ∷ r) refl refl
 symbol_rest symbol.Arrow (feed {r = r}) = quiet_behind 45 (62 ∷ []) (10 ∷ r) refl refl
-symbol_rest symbol.ExternalChoice {text = text} p = quiet_rest (symbol_text symbol.ExternalChoice) text refl
-symbol_rest symbol.InternalChoice {text = text} p = quiet_rest (symbol_text symbol.InternalChoice) text refl
-symbol_rest symbol.Parallel {text = text} p = quiet_rest (symbol_text symbol.Parallel) text refl
-symbol_rest symbol.OpenRename {text = text} p = quiet_rest (symbol_text symbol.OpenRename) text refl
-symbol_rest symbol.CloseRename {text = text} p = quiet_rest (symbol_text symbol.CloseRename) text refl
 symbol_rest symbol.OpenProduct (space {r = r}) = quiet_behind 123 (124 ∷ []) (32 ∷ r) refl refl
 symbol_rest symbol.OpenProduct (feed {r = r}) = quiet_behind 123 (124 ∷ []) (10 ∷ r) refl refl
-symbol_rest symbol.CloseProduct {text = text} p = quiet_rest (symbol_text symbol.CloseProduct) text refl
 symbol_rest symbol.LeftArrow (space {r = r}) = let more = quiet_behind 45 [] (32 ∷ r) refl refl in let here = rest_step 60 (45 ∷ 32 ∷ r) refl in omega (arith, here, more)
 symbol_rest symbol.LeftArrow (feed {r = r}) = let more = quiet_behind 45 [] (10 ∷ r) refl refl in let here = rest_step 60 (45 ∷ 10 ∷ r) refl in omega (arith, here, more)
-symbol_rest symbol.DotDot {text = text} p = quiet_rest (symbol_text symbol.DotDot) text refl
-symbol_rest symbol.Dot {text = text} p = quiet_rest (symbol_text symbol.Dot) text refl
-symbol_rest symbol.Bang {text = text} p = quiet_rest (symbol_text symbol.Bang) text refl
-symbol_rest symbol.Question {text = text} p = quiet_rest (symbol_text symbol.Question) text refl
-symbol_rest symbol.Colon {text = text} p = quiet_rest (symbol_text symbol.Colon) text refl
-symbol_rest symbol.At {text = text} p = quiet_rest (symbol_text symbol.At) text refl
-symbol_rest symbol.Defines {text = text} p = quiet_rest (symbol_text symbol.Defines) text refl
-symbol_rest symbol.Equal {text = text} p = quiet_rest (symbol_text symbol.Equal) text refl
-symbol_rest symbol.NotEqual {text = text} p = quiet_rest (symbol_text symbol.NotEqual) text refl
-symbol_rest symbol.Less {text = text} p = quiet_rest (symbol_text symbol.Less) text refl
-symbol_rest symbol.LessEqual {text = text} p = quiet_rest (symbol_text symbol.LessEqual) text refl
-symbol_rest symbol.Greater {text = text} p = quiet_rest (symbol_text symbol.Greater) text refl
-symbol_rest symbol.GreaterEqual {text = text} p = quiet_rest (symbol_text symbol.GreaterEqual) text refl
-symbol_rest symbol.Plus {text = text} p = quiet_rest (symbol_text symbol.Plus) text refl
 symbol_rest symbol.Minus (space {r = r}) = quiet_behind 45 ([]) (32 ∷ r) refl refl
 symbol_rest symbol.Minus (feed {r = r}) = quiet_behind 45 ([]) (10 ∷ r) refl refl
-symbol_rest symbol.Star {text = text} p = quiet_rest (symbol_text symbol.Star) text refl
-symbol_rest symbol.Slash {text = text} p = quiet_rest (symbol_text symbol.Slash) text refl
-symbol_rest symbol.Percent {text = text} p = quiet_rest (symbol_text symbol.Percent) text refl
-symbol_rest symbol.OpenParen {text = text} p = quiet_rest (symbol_text symbol.OpenParen) text refl
-symbol_rest symbol.CloseParen {text = text} p = quiet_rest (symbol_text symbol.CloseParen) text refl
 symbol_rest symbol.OpenBrace (space {r = r}) = quiet_behind 123 ([]) (32 ∷ r) refl refl
 symbol_rest symbol.OpenBrace (feed {r = r}) = quiet_behind 123 ([]) (10 ∷ r) refl refl
-symbol_rest symbol.CloseBrace {text = text} p = quiet_rest (symbol_text symbol.CloseBrace) text refl
-symbol_rest symbol.OpenBracket {text = text} p = quiet_rest (symbol_text symbol.OpenBracket) text refl
-symbol_rest symbol.CloseBracket {text = text} p = quiet_rest (symbol_text symbol.CloseBracket) text refl
-symbol_rest symbol.Comma {text = text} p = quiet_rest (symbol_text symbol.Comma) text refl
-symbol_rest symbol.Ampersand {text = text} p = quiet_rest (symbol_text symbol.Ampersand) text refl
-symbol_rest symbol.Bar {text = text} p = quiet_rest (symbol_text symbol.Bar) text refl
-symbol_rest symbol.Backslash {text = text} p = quiet_rest (symbol_text symbol.Backslash) text refl
-symbol_rest symbol.Semicolon {text = text} p = quiet_rest (symbol_text symbol.Semicolon) text refl
+symbol_rest s {text = text} p = quiet_rest (symbol_text s) text refl
 
 pub token_rest : (t : Token) {text : List ℕ} → FitsLine t → Gap text → rest_len (token_text t ++ text) ≡ length (token_text t) + rest_len text
 token_rest (token.Name x) {text = text} f p = quiet_rest x text (quiet_name x f)

@@ -41,12 +41,8 @@ abbrev Within : ℕ → List Token → Type 0
 Within k ts = Every Fits ts × Lines (position.within k) ts
 
 no_assertion : (t : Token) → is_special t ≡ false → is_assert t ≡ false
-no_assertion (token.Name x) e = refl
-no_assertion (token.Num n) e = refl
 no_assertion (token.Word w) e = e
-no_assertion (token.Symbol s) e = refl
-no_assertion (token.Roles names) e = refl
-no_assertion (token.Resource names) e = refl
+no_assertion _ e = refl
 
 step : (k : ℕ) (t : Token) (ts : List Token) → is_special t ≡ false → Outside k (t ∷ ts) → Fits t × Outside k ts
 unfolding Lines

@@ -17,11 +17,10 @@ use Rattle.script_printer.specs.PrintedTree.{operand_tokens, printed_tokens, sep
 use Rattle.script_printer.specs.PrintedScript.{deadlock_free_tokens, decl_tokens, names_tokens, parameters_tokens, types_tokens}
 use Rattle.print_laws.specs.Made.{MadeTrees, MadeNames, MadeTypes, MadeParameters, MadeDecl, MadeDecls}
 use Rattle.print_laws.specs.Made as m
-use Rattle.print_laws.proofs.Depths.{depth-Call}
 use Rattle.print_laws.proofs.Onto as onto
 use Rattle.print_laws.proofs.Forms.{Texted}
 use Rattle.print_laws.proofs.Texts.{texted, texted_trees}
-use Rattle.tree_reading.proofs.NodeDepths.{depth-Name}
+use Rattle.tree_reading.proofs.NodeDepths as depths
 
 -- a name by itself
 abbrev pub name_alone : List ℕ → List Token
@@ -99,7 +98,7 @@ assert_text t a d r =
     (g.assertion (a _) d g.none)
 
 name_depth : (x : List ℕ) → tree_depth (tree.Name x) ≤ 200
-name_depth x = omega (arith, depth-Name x)
+name_depth x = omega (arith, depths.of_tree _ (tree.rolls-Name x))
 
 asserted_name : (x : List ℕ) (r : List Token) → AssertedText (printed_tokens (tree.Name x) ++ r) (tree.Name x) r
 asserted_name x r = subst (λ l. AssertedText l (tree.Name x) r) (sym (onto.onto-Name x r)) g.name
@@ -108,7 +107,7 @@ asserted_call : {Q : Token → Type 0} (x : List ℕ) (items : List Tree) → Ma
     AssertedText (printed_tokens (tree.Call x items) ++ r) (tree.Call x items) r
 asserted_call x items p d r =
     subst (λ l. AssertedText l (tree.Call x items) r) (sym (onto.onto-Call x items r))
-    (g.call ((texted_trees p).items 399 (Symbol CloseParen ∷ r) (omega (arith, depth-Call x items, d))))
+    (g.call ((texted_trees p).items 399 (Symbol CloseParen ∷ r) (omega (arith, depths.of_tree _ (tree.rolls-Call x items), d))))
 
 declaration_text : {P Q : Token → Type 0} {d : Decl} → MadeDecl P Q d → (r : List Token) → DeclarationText (decl_tokens d ++ r) d r
 declaration_text (m.made-channel {cs = cs} p) r = channel_text cs p r

@@ -21,11 +21,11 @@ use Rattle.script_printer.specs.PrintedTree.{conditions, dotted, field_tokens, g
 use Rattle.script_printer.proofs.PrintedEquations as equation
 use Rattle.print_laws.specs.Made.{MadeTree, MadeTrees, MadeDots, MadeFields, MadePart, MadeParts, MadePairs, MadeGen, MadeGens, MadeConditions}
 use Rattle.print_laws.specs.Made as m
-use Rattle.print_laws.proofs.Depths.{pair_depths}
-use Rattle.print_laws.proofs.Depths as depth
 use Rattle.print_laws.proofs.Onto as onto
-use Rattle.print_laws.proofs.Forms.{Texted, at_level, from_level, as_prefix, as_sequence, prefix_tree, expression_tree, open_tree, operator_text, set_operator_text, from_atom, from_leaf, from_dotted, from_compound, with_bracket}
-use Rattle.tree_reading.proofs.NodeDepths.{depth-event, depth-dot, depth-input-from, depth-Output, depth-Cond, depth-From, depth-part, depth-Name, depth-Num, depth-False, depth-True, depth-Skip, depth-Stop}
+use Rattle.print_laws.proofs.Forms.{Texted, as_prefix, as_sequence, prefix_tree, expression_tree, open_tree, operator_text, set_operator_text, from_atom, from_leaf, from_dotted, from_compound, with_bracket}
+use Rattle.tree_reading.proofs.Levels.{pairs_depth}
+use Rattle.tree_reading.proofs.Meaning.{at_level, from_level}
+use Rattle.tree_reading.proofs.NodeDepths as depths
 use Rattle.csp_base.specs.Lists.{greatest}
 
 -- lists of trees and the like
@@ -49,7 +49,7 @@ pub record TextedParts (cs : List PartTree) : Type 0 where
   pub parts : (n : ℕ) (r : List Token) → 2 * greatest (map part_depth cs) ≤ n → PartsText n (separated part_tokens (Symbol Comma) cs ++ r) cs r
 
 pub record TextedPairs (ps : List (PartTree × PartTree)) : Type 0 where
-  pub pairs : (n : ℕ) (r : List Token) → 2 * greatest_of_pairs (map pair_depths ps) ≤ n → PairsText n (separated renamed_tokens (Symbol Comma) ps ++ r) ps r
+  pub pairs : (n : ℕ) (r : List Token) → 2 * pairs_depth ps ≤ n → PairsText n (separated renamed_tokens (Symbol Comma) ps ++ r) ps r
 
 pub record TextedGen (x : GenTree) : Type 0 where
   pub gen : (n : ℕ) (r : List Token) → 2 * gen_depth x ≤ n → GenText n (gen_tokens x ++ r) x r
@@ -97,7 +97,7 @@ no_fields dot = record { fields = λ n r h. g.fields-none }
 field_dot : (a : Tree) (fs : List FieldTree) → Texted a → TextedFields true fs → TextedFields true (field.Dot a ∷ fs)
 field_dot a fs p ps = record {
   fields = λ n r h.
-      let d = depth-dot a in
+      let d = depths.of_field _ (field.rolls-Dot a) in
       subst (λ l. FieldsText n true l (field.Dot a ∷ fs) r) (sym (onto.fields-Dot a fs r))
       (g.fields-dot (at_level sum (p.operand n _ (omega arith))) (ps.fields n r (omega arith)));
 }
@@ -105,7 +105,7 @@ field_dot a fs p ps = record {
 field_output : (dot : Bool) (a : Tree) (fs : List FieldTree) → Texted a → TextedFields true fs → TextedFields dot (field.Output a ∷ fs)
 field_output dot a fs p ps = record {
   fields = λ n r h.
-      let d = depth-Output a in
+      let d = depths.of_field _ (field.rolls-Output a) in
       subst (λ l. FieldsText n dot l (field.Output a ∷ fs) r) (sym (onto.fields-Output a fs r))
       (g.fields-output (at_level sum (p.operand n _ (omega arith))) (ps.fields n r (omega arith)));
 }
@@ -119,7 +119,7 @@ field_input dot x fs ps = record {
 field_input_from : (dot : Bool) (x : List ℕ) (s : Tree) (fs : List FieldTree) → Texted s → TextedFields false fs → TextedFields dot (field.Input x (Some s) ∷ fs)
 field_input_from dot x s fs p ps = record {
   fields = λ n r h.
-      let d = depth-input-from x s in
+      let d = depths.of_field _ (field.rolls-Input x (Some s)) in
       subst (λ l. FieldsText n dot l (field.Input x (Some s) ∷ fs) r) (sym (onto.fields-Input-from x s fs r))
       (g.fields-input-from (p.operand n _ (omega arith)) (ps.fields n r (omega arith)));
 }
@@ -127,7 +127,7 @@ field_input_from dot x s fs p ps = record {
 a_part : (c : List ℕ) (fields : List Tree) → TextedDots fields → TextedPart (part_tree c fields)
 a_part c fields p = record {
   part = λ n r h.
-      let d = depth-part c fields in
+      let d = depths.depth-part c fields in
       subst (λ l. PartText n l (part_tree c fields) r) (sym (onto.onto-part c fields r)) (g.part-dots (p.dots n r (omega arith)));
 }
 
@@ -162,14 +162,14 @@ more_pairs c d (e ∷ es) p q ps = record {
 gen_from : (x : List ℕ) (s : Tree) → Texted s → TextedGen (generator.From x s)
 gen_from x s p = record {
   gen = λ n r h.
-      let d = depth-From x s in
+      let d = depths.of_generator _ (generator.rolls-From x s) in
       subst (λ l. GenText n l (generator.From x s) r) (sym (onto.onto-From x s r)) (g.gen-from (p.operand n r (omega arith)));
 }
 
 gen_condition : (c : Tree) → Texted c → TextedGen (generator.Cond c)
 gen_condition c p = record {
   gen = λ n r h.
-      let d = depth-Cond c in
+      let d = depths.of_generator _ (generator.rolls-Cond c) in
       subst (λ l. GenText n l (generator.Cond c) r) (sym (onto.onto-Cond c r)) (g.gen-condition (at_level disjunction (p.operand n r (omega arith))));
 }
 
@@ -196,108 +196,108 @@ some_gens (x ∷ xs) p = record { conditions = λ n r h. g.conditions-some (p.ge
 -- the forms of trees
 
 a_call : (x : List ℕ) (items : List Tree) → TextedTrees items → Texted (tree.Call x items)
-a_call x items p = from_atom _ (greatest (map tree_depth items)) (depth.depth-Call x items) (equation.shape-Call x items)
+a_call x items p = from_atom _ (greatest (map tree_depth items)) (depths.of_tree _ (tree.rolls-Call x items)) (equation.shape-Call x items)
     (λ n r h. with_bracket (λ n. AtomText n (printed_tokens (tree.Call x items) ++ r) (tree.Call x items) r) _ n h
     (λ n h. subst (λ l. AtomText (suc n) l (tree.Call x items) r) (sym (onto.onto-Call x items r)) (g.atom-call (p.items n _ h))))
 
 a_dotted : (c : List ℕ) (a : Tree) (fields : List Tree) → Texted a → TextedDots fields → Texted (tree.Dot c (a ∷ fields))
-a_dotted c a fields p ps = from_dotted _ (greatest (map tree_depth (a ∷ fields))) (depth.depth-Dot c (a ∷ fields)) (equation.shape-Dot c (a ∷ fields))
+a_dotted c a fields p ps = from_dotted _ (greatest (map tree_depth (a ∷ fields))) (depths.of_tree _ (tree.rolls-Dot c (a ∷ fields))) (equation.shape-Dot c (a ∷ fields))
     (λ n r h. subst (λ l. DottedText n l (tree.Dot c (a ∷ fields)) r) (sym (onto.onto-Dot c (a ∷ fields) r ∙ ap (λ l. Name c ∷ l) (onto.dotted_more a fields r)))
     (g.dotted-fields (at_level sum (p.operand n _ (omega arith))) (ps.dots n r (omega arith))))
 
 a_negative : (a : Tree) → Texted a → Texted (tree.Neg a)
-a_negative a p = from_compound _ (tree_depth a) (depth.depth-Neg a) (equation.shape-Neg a)
+a_negative a p = from_compound _ (tree_depth a) (depths.of_tree _ (tree.rolls-Neg a)) (equation.shape-Neg a)
     (λ n r h. subst (λ l. TreeText n l (tree.Neg a) r) (sym (onto.onto-Neg a r))
     (expression_tree (from_level minus (g.expression-negative (at_level minus (p.operand n r (omega arith)))))))
 
 a_negated : (a : Tree) → Texted a → Texted (tree.Not a)
-a_negated a p = from_compound _ (tree_depth a) (depth.depth-Not a) (equation.shape-Not a)
+a_negated a p = from_compound _ (tree_depth a) (depths.of_tree _ (tree.rolls-Not a)) (equation.shape-Not a)
     (λ n r h. subst (λ l. TreeText n l (tree.Not a) r) (sym (onto.onto-Not a r))
     (expression_tree (from_level negation (g.expression-negated (at_level negation (p.operand n r (omega arith)))))))
 
 a_binary : (o : BinOp) (a b : Tree) → Texted a → Texted b → Texted (tree.Binary o a b)
-a_binary o a b p q = from_compound _ (max (tree_depth a) (tree_depth b)) (depth.depth-Binary o a b) (equation.shape-Binary o a b)
+a_binary o a b p q = from_compound _ (max (tree_depth a) (tree_depth b)) (depths.of_tree _ (tree.rolls-Binary o a b)) (equation.shape-Binary o a b)
     (λ n r h. subst (λ l. TreeText n l (tree.Binary o a b) r) (sym (onto.onto-Binary o a b r))
     (expression_tree (operator_text o (p.operand n _ (omega arith)) (q.operand n r (omega arith)))))
 
 an_if : (c p q : Tree) → Texted c → Texted p → Texted q → Texted (tree.If c p q)
-an_if c p q c' p' q' = from_compound _ (max (tree_depth c) (max (tree_depth p) (tree_depth q))) (depth.depth-If c p q) (equation.shape-If c p q)
+an_if c p q c' p' q' = from_compound _ (max (tree_depth c) (max (tree_depth p) (tree_depth q))) (depths.of_tree _ (tree.rolls-If c p q)) (equation.shape-If c p q)
     (λ n r h. subst (λ l. TreeText n l (tree.If c p q) r) (sym (onto.onto-If c p q r))
     (open_tree (g.open-if-then-else (at_level disjunction (c'.operand n _ (omega arith))) (p'.bare n _ (omega arith)) (q'.bare n r (omega arith)))))
 
 an_empty : Texted (tree.Display [])
-an_empty = from_atom _ 0 (depth.depth-Display []) (equation.shape-Display [])
+an_empty = from_atom _ 0 (depths.of_tree _ (tree.rolls-Display [])) (equation.shape-Display [])
     (λ n r h. with_bracket (λ n. AtomText n (printed_tokens (tree.Display []) ++ r) (tree.Display []) r) 0 n h
     (λ n h. subst (λ l. AtomText (suc n) l (tree.Display []) r) (sym (onto.onto-Display [] r)) g.atom-empty))
 
 a_display : (items : List Tree) → TextedTrees items → Texted (tree.Display items)
-a_display items p = from_atom _ (greatest (map tree_depth items)) (depth.depth-Display items) (equation.shape-Display items)
+a_display items p = from_atom _ (greatest (map tree_depth items)) (depths.of_tree _ (tree.rolls-Display items)) (equation.shape-Display items)
     (λ n r h. with_bracket (λ n. AtomText n (printed_tokens (tree.Display items) ++ r) (tree.Display items) r) _ n h
     (λ n h. subst (λ l. AtomText (suc n) l (tree.Display items) r) (sym (onto.onto-Display items r)) (g.atom-display (p.items n _ h))))
 
 a_range : (a b : Tree) → Texted a → Texted b → Texted (tree.Range a b)
-a_range a b p q = from_atom _ (max (tree_depth a) (tree_depth b)) (depth.depth-Range a b) (equation.shape-Range a b)
+a_range a b p q = from_atom _ (max (tree_depth a) (tree_depth b)) (depths.of_tree _ (tree.rolls-Range a b)) (equation.shape-Range a b)
     (λ n r h. with_bracket (λ n. AtomText n (printed_tokens (tree.Range a b) ++ r) (tree.Range a b) r) _ n h
     (λ n h. subst (λ l. AtomText (suc n) l (tree.Range a b) r) (sym (onto.onto-Range a b r))
     (g.atom-range (at_level sum (p.operand n _ (omega arith))) (at_level sum (q.operand n _ (omega arith))))))
 
 a_comprehension : (items : List Tree) (gs : List GenTree) → TextedTrees items → TextedGens gs → Texted (tree.Comp items gs)
-a_comprehension items gs p q = from_atom _ (max (greatest (map tree_depth items)) (greatest (map gen_depth gs))) (depth.depth-Comp items gs) (equation.shape-Comp items gs)
+a_comprehension items gs p q = from_atom _ (max (greatest (map tree_depth items)) (greatest (map gen_depth gs))) (depths.of_tree _ (tree.rolls-Comp items gs)) (equation.shape-Comp items gs)
     (λ n r h. with_bracket (λ n. AtomText n (printed_tokens (tree.Comp items gs) ++ r) (tree.Comp items gs) r) _ n h
     (λ n h. subst (λ l. AtomText (suc n) l (tree.Comp items gs) r) (sym (onto.onto-Comp items gs r))
     (g.atom-comprehension (p.items n _ (omega arith)) (q.gens n _ (omega arith)))))
 
 a_production : (parts : List PartTree) (gs : List GenTree) → TextedParts parts → TextedConditions gs → Texted (tree.Product parts gs)
-a_production parts gs p q = from_atom _ (max (greatest (map part_depth parts)) (greatest (map gen_depth gs))) (depth.depth-Product parts gs) (equation.shape-Product parts gs)
+a_production parts gs p q = from_atom _ (max (greatest (map part_depth parts)) (greatest (map gen_depth gs))) (depths.of_tree _ (tree.rolls-Product parts gs)) (equation.shape-Product parts gs)
     (λ n r h. with_bracket (λ n. AtomText n (printed_tokens (tree.Product parts gs) ++ r) (tree.Product parts gs) r) _ n h
     (λ n h. subst (λ l. AtomText (suc n) l (tree.Product parts gs) r) (sym (onto.onto-Product parts gs r))
     (g.atom-production (p.parts n _ (omega arith)) (q.conditions n _ (omega arith)))))
 
 a_set_operator : (o : SetOp) (a b : Tree) → Texted a → Texted b → Texted (tree.SetOp o a b)
-a_set_operator o a b p q = from_atom _ (max (tree_depth a) (tree_depth b)) (depth.depth-SetOp o a b) (equation.shape-SetOp o a b)
+a_set_operator o a b p q = from_atom _ (max (tree_depth a) (tree_depth b)) (depths.of_tree _ (tree.rolls-SetOp o a b)) (equation.shape-SetOp o a b)
     (λ n r h. with_bracket (λ n. AtomText n (printed_tokens (tree.SetOp o a b) ++ r) (tree.SetOp o a b) r) _ n h
     (λ n h. subst (λ l. AtomText (suc n) l (tree.SetOp o a b) r) (sym (onto.onto-SetOp o a b r))
     (set_operator_text o (p.item n _ (omega arith)) (q.item n _ (omega arith)))))
 
 a_prefix : (c : List ℕ) (fs : List FieldTree) (p : Tree) → TextedFields true fs → Texted p → Texted (tree.Prefix (event_tree c fs) p)
 a_prefix c fs p fs' p' =
-    from_compound _ (max (event_depth (event_tree c fs)) (tree_depth p)) (depth.depth-Prefix (event_tree c fs) p) (equation.shape-Prefix (event_tree c fs) p)
+    from_compound _ (max (event_depth (event_tree c fs)) (tree_depth p)) (depths.of_tree _ (tree.rolls-Prefix (event_tree c fs) p)) (equation.shape-Prefix (event_tree c fs) p)
     (λ n r h.
-    let d = depth-event c fs in
+    let d = depths.depth-event c fs in
     subst (λ l. TreeText n l (tree.Prefix (event_tree c fs) p) r) (sym (onto.onto-Prefix (event_tree c fs) p r ∙ onto.onto-event c fs _))
     (prefix_tree (g.closed-prefix-event (g.event-fields (fs'.fields n _ (omega arith))) (as_prefix (p'.operand n r (omega arith))))))
 
 a_guard : (c p : Tree) → Texted c → Texted p → Texted (tree.Guard c p)
-a_guard c p c' p' = from_compound _ (max (tree_depth c) (tree_depth p)) (depth.depth-Guard c p) (equation.shape-Guard c p)
+a_guard c p c' p' = from_compound _ (max (tree_depth c) (tree_depth p)) (depths.of_tree _ (tree.rolls-Guard c p)) (equation.shape-Guard c p)
     (λ n r h. subst (λ l. TreeText n l (tree.Guard c p) r) (sym (onto.onto-Guard c p r))
     (prefix_tree (g.closed-prefix-guard (at_level disjunction (c'.operand n _ (omega arith))) (as_prefix (p'.operand n r (omega arith))))))
 
 a_choice : (c : Choice) (p : Tree) (ps : List Tree) → Texted p → TextedTrees ps → Texted (choice_of c (p ∷ ps))
 a_choice c p [] p' ps' = absurd (let h : 0 < 0 = ps'.filled in omega arith)
 a_choice g.external p (q ∷ qs) p' ps' =
-    from_compound _ (greatest (map tree_depth (p ∷ q ∷ qs))) (depth.depth-External (p ∷ q ∷ qs)) (equation.shape-External (p ∷ q ∷ qs))
+    from_compound _ (greatest (map tree_depth (p ∷ q ∷ qs))) (depths.of_tree _ (tree.rolls-External (p ∷ q ∷ qs))) (equation.shape-External (p ∷ q ∷ qs))
     (λ n r h. subst (λ l. TreeText n l (tree.External (p ∷ q ∷ qs)) r)
     (sym (onto.onto-External (p ∷ q ∷ qs) r ∙ onto.separated_more operand_tokens (Symbol ExternalChoice) p q qs r))
     (g.tree-side (g.side-closed (g.closed-side-choice g.external (ps'.chain g.external n p r p' (omega arith) (omega arith))))))
 a_choice g.internal p (q ∷ qs) p' ps' =
-    from_compound _ (greatest (map tree_depth (p ∷ q ∷ qs))) (depth.depth-Internal (p ∷ q ∷ qs)) (equation.shape-Internal (p ∷ q ∷ qs))
+    from_compound _ (greatest (map tree_depth (p ∷ q ∷ qs))) (depths.of_tree _ (tree.rolls-Internal (p ∷ q ∷ qs))) (equation.shape-Internal (p ∷ q ∷ qs))
     (λ n r h. subst (λ l. TreeText n l (tree.Internal (p ∷ q ∷ qs)) r)
     (sym (onto.onto-Internal (p ∷ q ∷ qs) r ∙ onto.separated_more operand_tokens (Symbol InternalChoice) p q qs r))
     (g.tree-side (g.side-closed (g.closed-side-choice g.internal (ps'.chain g.internal n p r p' (omega arith) (omega arith))))))
 
 an_each_external : (x : List ℕ) (s p : Tree) → Texted s → Texted p → Texted (tree.EachExternal x s p)
-an_each_external x s p s' p' = from_compound _ (max (tree_depth s) (tree_depth p)) (depth.depth-EachExternal x s p) (equation.shape-EachExternal x s p)
+an_each_external x s p s' p' = from_compound _ (max (tree_depth s) (tree_depth p)) (depths.of_tree _ (tree.rolls-EachExternal x s p)) (equation.shape-EachExternal x s p)
     (λ n r h. subst (λ l. TreeText n l (tree.EachExternal x s p) r) (sym (onto.onto-EachExternal x s p r))
     (open_tree (g.open-external (s'.operand n _ (omega arith)) (p'.bare n r (omega arith)))))
 
 an_each_internal : (x : List ℕ) (s p : Tree) → Texted s → Texted p → Texted (tree.EachInternal x s p)
-an_each_internal x s p s' p' = from_compound _ (max (tree_depth s) (tree_depth p)) (depth.depth-EachInternal x s p) (equation.shape-EachInternal x s p)
+an_each_internal x s p s' p' = from_compound _ (max (tree_depth s) (tree_depth p)) (depths.of_tree _ (tree.rolls-EachInternal x s p)) (equation.shape-EachInternal x s p)
     (λ n r h. subst (λ l. TreeText n l (tree.EachInternal x s p) r) (sym (onto.onto-EachInternal x s p r))
     (open_tree (g.open-internal (s'.operand n _ (omega arith)) (p'.bare n r (omega arith)))))
 
 a_parallel : (p a b q : Tree) → Texted p → Texted a → Texted b → Texted q → Texted (tree.Parallel p a b q)
 a_parallel p a b q p' a' b' q' =
-    from_compound _ (max (max (tree_depth p) (tree_depth a)) (max (tree_depth b) (tree_depth q))) (depth.depth-Parallel p a b q) (equation.shape-Parallel p a b q)
+    from_compound _ (max (max (tree_depth p) (tree_depth a)) (max (tree_depth b) (tree_depth q))) (depths.of_tree _ (tree.rolls-Parallel p a b q)) (equation.shape-Parallel p a b q)
     (λ n r h. with_bracket (λ n. TreeText n (printed_tokens (tree.Parallel p a b q) ++ r) (tree.Parallel p a b q) r) _ n h
     (λ n h. subst (λ l. TreeText (suc n) l (tree.Parallel p a b q) r) (sym (onto.onto-Parallel p a b q r))
     (g.tree-parallel (g.closed-side-sequence (as_sequence (p'.operand (suc n) _ (omega arith)))) (a'.operand n _ (omega arith)) (b'.operand n _ (omega arith))
@@ -305,45 +305,45 @@ a_parallel p a b q p' a' b' q' =
 
 an_each_parallel : (x : List ℕ) (s a p : Tree) → Texted s → Texted a → Texted p → Texted (tree.EachParallel x s a p)
 an_each_parallel x s a p s' a' p' =
-    from_compound _ (max (tree_depth s) (max (tree_depth a) (tree_depth p))) (depth.depth-EachParallel x s a p) (equation.shape-EachParallel x s a p)
+    from_compound _ (max (tree_depth s) (max (tree_depth a) (tree_depth p))) (depths.of_tree _ (tree.rolls-EachParallel x s a p)) (equation.shape-EachParallel x s a p)
     (λ n r h. with_bracket (λ n. TreeText n (printed_tokens (tree.EachParallel x s a p) ++ r) (tree.EachParallel x s a p) r) _ n h
     (λ n h. subst (λ l. TreeText (suc n) l (tree.EachParallel x s a p) r) (sym (onto.onto-EachParallel x s a p r))
     (open_tree (g.open-parallel (s'.operand (suc n) _ (omega arith)) (a'.operand n _ (omega arith)) (p'.bare (suc n) r (omega arith))))))
 
 a_sequence : (p q : Tree) → Texted p → Texted q → Texted (tree.Seq p q)
-a_sequence p q p' q' = from_compound _ (max (tree_depth p) (tree_depth q)) (depth.depth-Seq p q) (equation.shape-Seq p q)
+a_sequence p q p' q' = from_compound _ (max (tree_depth p) (tree_depth q)) (depths.of_tree _ (tree.rolls-Seq p q)) (equation.shape-Seq p q)
     (λ n r h. subst (λ l. TreeText n l (tree.Seq p q) r) (sym (onto.onto-Seq p q r))
     (g.tree-side (g.side-closed (g.closed-side-sequence (g.closed-sequence-more (as_prefix (p'.operand n _ (omega arith))) (as_sequence (q'.operand n r (omega arith))))))))
 
 a_hiding : (p s : Tree) → Texted p → Texted s → Texted (tree.Hide p s)
-a_hiding p s p' s' = from_compound _ (max (tree_depth p) (tree_depth s)) (depth.depth-Hide p s) (equation.shape-Hide p s)
+a_hiding p s p' s' = from_compound _ (max (tree_depth p) (tree_depth s)) (depths.of_tree _ (tree.rolls-Hide p s)) (equation.shape-Hide p s)
     (λ n r h. subst (λ l. TreeText n l (tree.Hide p s) r) (sym (onto.onto-Hide p s r))
     (g.tree-side (g.side-closed (g.closed-side-hiding (g.hiding-one (at_level renaming (p'.operand n _ (omega arith))) (s'.operand n r (omega arith)))))))
 
 a_renaming : (p : Tree) (pairs : List (PartTree × PartTree)) (gs : List GenTree) → Texted p → TextedPairs pairs → TextedConditions gs → Texted (tree.Rename p pairs gs)
 a_renaming p pairs gs p' pairs' gs' =
-    from_compound _ (max (tree_depth p) (max (greatest_of_pairs (map pair_depths pairs)) (greatest (map gen_depth gs)))) (depth.depth-Rename p pairs gs) (equation.shape-Rename p pairs gs)
+    from_compound _ (max (tree_depth p) (max (pairs_depth pairs) (greatest (map gen_depth gs)))) (depths.of_tree _ (tree.rolls-Rename p pairs gs)) (equation.shape-Rename p pairs gs)
     (λ n r h. with_bracket (λ n. TreeText n (printed_tokens (tree.Rename p pairs gs) ++ r) (tree.Rename p pairs gs) r) _ n h
     (λ n h. subst (λ l. TreeText (suc n) l (tree.Rename p pairs gs) r) (sym (onto.onto-Rename p pairs gs r))
     (expression_tree (from_level renaming (g.expression-rename (at_level renaming (p'.operand (suc n) _ (omega arith))) (pairs'.pairs n _ (omega arith)) (gs'.conditions n _ (omega arith)))))))
 
 a_leaf_stop : Texted tree.Stop
-a_leaf_stop = from_leaf _ depth-Stop equation.shape-Stop (λ n r. subst (λ l. AtomText n l tree.Stop r) (sym (onto.onto-Stop r)) g.atom-stop)
+a_leaf_stop = from_leaf _ (depths.of_tree _ tree.rolls-Stop) equation.shape-Stop (λ n r. subst (λ l. AtomText n l tree.Stop r) (sym (onto.onto-Stop r)) g.atom-stop)
 
 a_leaf_skip : Texted tree.Skip
-a_leaf_skip = from_leaf _ depth-Skip equation.shape-Skip (λ n r. subst (λ l. AtomText n l tree.Skip r) (sym (onto.onto-Skip r)) g.atom-skip)
+a_leaf_skip = from_leaf _ (depths.of_tree _ tree.rolls-Skip) equation.shape-Skip (λ n r. subst (λ l. AtomText n l tree.Skip r) (sym (onto.onto-Skip r)) g.atom-skip)
 
 a_leaf_true : Texted tree.True
-a_leaf_true = from_leaf _ depth-True equation.shape-True (λ n r. subst (λ l. AtomText n l tree.True r) (sym (onto.onto-True r)) g.atom-truth)
+a_leaf_true = from_leaf _ (depths.of_tree _ tree.rolls-True) equation.shape-True (λ n r. subst (λ l. AtomText n l tree.True r) (sym (onto.onto-True r)) g.atom-truth)
 
 a_leaf_false : Texted tree.False
-a_leaf_false = from_leaf _ depth-False equation.shape-False (λ n r. subst (λ l. AtomText n l tree.False r) (sym (onto.onto-False r)) g.atom-falsehood)
+a_leaf_false = from_leaf _ (depths.of_tree _ tree.rolls-False) equation.shape-False (λ n r. subst (λ l. AtomText n l tree.False r) (sym (onto.onto-False r)) g.atom-falsehood)
 
 a_number : (x : ℕ) → Texted (tree.Num x)
-a_number x = from_leaf _ (depth-Num x) (equation.shape-Num x) (λ n r. subst (λ l. AtomText n l (tree.Num x) r) (sym (onto.onto-Num x r)) g.atom-number)
+a_number x = from_leaf _ (depths.of_tree _ (tree.rolls-Num x)) (equation.shape-Num x) (λ n r. subst (λ l. AtomText n l (tree.Num x) r) (sym (onto.onto-Num x r)) g.atom-number)
 
 a_name : (x : List ℕ) → Texted (tree.Name x)
-a_name x = from_leaf _ (depth-Name x) (equation.shape-Name x) (λ n r. subst (λ l. AtomText n l (tree.Name x) r) (sym (onto.onto-Name x r)) g.atom-name)
+a_name x = from_leaf _ (depths.of_tree _ (tree.rolls-Name x)) (equation.shape-Name x) (λ n r. subst (λ l. AtomText n l (tree.Name x) r) (sym (onto.onto-Name x r)) g.atom-name)
 
 mutual
   pub texted : {P : Token → Type 0} {t : Tree} → MadeTree P t → Texted t

@@ -59,22 +59,7 @@ line_space_stands r = record { stands = λ at. blank_is (line_space at r); short
 
 word_long : (w : Word) → 0 < length (word_text w)
 word_long word.And = lit< tt
-word_long word.Assert = lit< tt
-word_long word.Channel = lit< tt
-word_long word.Datatype = lit< tt
-word_long word.Diff = lit< tt
-word_long word.Else = lit< tt
-word_long word.False = lit< tt
-word_long word.If = lit< tt
-word_long word.Inter = lit< tt
-word_long word.Nametype = lit< tt
-word_long word.Not = lit< tt
-word_long word.Or = lit< tt
-word_long word.Then = lit< tt
-word_long word.True = lit< tt
-word_long word.Union = lit< tt
-word_long word.Stop = lit< tt
-word_long word.Skip = lit< tt
+word_long _ = lit< tt
 
 from_lt : (n : ℕ) → nat_lt 0 n ≡ true → 0 < n
 from_lt n h = grind (arith)

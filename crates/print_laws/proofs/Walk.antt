@@ -25,29 +25,16 @@ use Rattle.csp_text.specs.Written.{set_op_word}
 abbrev pub is_special : Token → Bool
 is_special (token.Symbol symbol.OpenParen) = true
 is_special (token.Symbol symbol.CloseParen) = true
-is_special (token.Symbol _) = false
-is_special (token.Name _) = false
-is_special (token.Num _) = false
 is_special (token.Word w) = not (is_common w)
-is_special (token.Roles _) = false
-is_special (token.Resource _) = false
+is_special _ = false
 
 left_plain : {l : Level} {sign : Token} {op : BinOp} → IsLeftOperator l sign op → is_special sign ≡ false
 left_plain table.or = refl
-left_plain table.and = refl
-left_plain table.plus = refl
-left_plain table.minus-sign = refl
-left_plain table.star = refl
-left_plain table.slash = refl
-left_plain table.percent = refl
+left_plain _ = refl
 
 comparison_plain : {sign : Token} {op : BinOp} → IsComparison sign op → is_special sign ≡ false
 comparison_plain table.equal = refl
-comparison_plain table.not-equal = refl
-comparison_plain table.less = refl
-comparison_plain table.less-equal = refl
-comparison_plain table.greater = refl
-comparison_plain table.greater-equal = refl
+comparison_plain _ = refl
 
 choice_plain : (c : Choice) → is_special (choice_sign c) ≡ false
 choice_plain g.external = refl
@@ -55,8 +42,7 @@ choice_plain g.internal = refl
 
 set_op_plain : (op : SetOp) → is_special (set_op_word op) ≡ false
 set_op_plain set_op.Union = refl
-set_op_plain set_op.Inter = refl
-set_op_plain set_op.Diff = refl
+set_op_plain _ = refl
 
 module _ (P : Token → Type 0) (S : ℕ → List Token → Type 0)
     (step : (k : ℕ) (t : Token) (ts : List Token) → is_special t ≡ false → S k (t ∷ ts) → P t × S k ts)

@@ -16,11 +16,7 @@ pub data Position : Type 0 where
 
 abbrev pub is_assert : Token → Bool
 is_assert (token.Word w) = not (is_common w)
-is_assert (token.Name x) = false
-is_assert (token.Num n) = false
-is_assert (token.Symbol s) = false
-is_assert (token.Roles names) = false
-is_assert (token.Resource names) = false
+is_assert _ = false
 
 -- behind a closed parenthesis
 abbrev pub closed : ℕ → Position

@@ -1,11 +1,13 @@
 -- What the grammar has within the limits, the readers give, in front of every rest that does not go on with the tree.
-use Rattle.std.proofs.Common.{◌≡◌, ℕ, suc, ◌+◌, ◌≤◌, max, Bool, true, nat_le, None, List, [], ◌∷◌, map, refl, ap, ◌∙◌, arith}
+use Rattle.std.proofs.Common.{◌≡◌, ℕ, suc, ◌+◌, ◌≤◌, max, Bool, true, nat_le, Some, None, List, [], ◌∷◌, map, refl, ap, ◌∙◌, arith}
 use Rattle.csp_text.specs.Depth.{field_depth, gen_depth, part_depth, tree_depth}
 use Rattle.csp_text.specs.declared.token.Token.{Token}
 use Rattle.csp_text.specs.declared.token.Token.TheVariants as token
 use Rattle.csp_text.specs.declared.token.Symbol.TheVariants as symbol
 use Rattle.csp_text.specs.declared.tree.Tree.{Tree}
 use Rattle.csp_text.specs.declared.tree.Tree.TheVariants as tree
+use Rattle.csp_text.specs.declared.tree.FieldTree.TheVariants as field
+use Rattle.csp_text.specs.declared.tree.GenTree.TheVariants as generator
 use Rattle.csp_base.specs.declared.operators.BinOp.{BinOp}
 use Rattle.csp_base.specs.declared.operators.SetOp.{SetOp}
 use Rattle.csp_base.specs.declared.operators.SetOp.TheVariants as set_op
@@ -31,7 +33,6 @@ use Rattle.tree_reading.proofs.Levels.{Reads, follow, next_follow, pairs_depth, 
 use Rattle.tree_reading.proofs.NodeDepths as depths
 use Rattle.tree_reading.proofs.Parts.{Bounded, chain_of, chosen_depth, looser, one_of_two, still_closed, dots_begin, fields_begin, fields_no_colon, dots_more, AreDots, no_dots, more_dots, conditions_begin, into_guard, prefix_alone, sequence_alone, side_alone, tree_alone, choice_stops, last_choice, more_choices, side_of_choices, bound_alone}
 use Rattle.tree_reading.proofs.Starts.{no_event, no_arrow, plain, atom_operand, items_no_brace}
-use Rattle.csp_text.proofs.DepthLemmas.{rename_depth}
 use Rattle.csp_base.specs.Lists.{greatest}
 use Rattle.csp_text.specs.Written.{set_op_word}
 
@@ -54,7 +55,7 @@ pub first_of_four : (p a b q : ℕ) → p ≤ max (max p a) (max b q)
 first_of_four p a b q = grind (arith)
 
 pub prefix_depth : (c : List ℕ) (fs : List FieldTree) (p : Tree) → tree_depth (tree.Prefix (event_tree c fs) p) ≡ 1 + max (greatest (map field_depth fs)) (tree_depth p)
-prefix_depth c fs p = depths.depth-Prefix (event_tree c fs) p ∙ ap (λ x. 1 + max x (tree_depth p)) (depths.depth-event c fs)
+prefix_depth c fs p = depths.of_tree _ (tree.rolls-Prefix (event_tree c fs) p) ∙ ap (λ x. 1 + max x (tree_depth p)) (depths.depth-event c fs)
 
 alike : {a b d : ℕ} → a ≡ b → a ≤ d → b ≤ d
 alike {a} {b} {d} e h = omega arith
@@ -67,52 +68,37 @@ rest_fit c p ps d h = right (tree_depth p) (greatest (map tree_depth ps)) (parts
 
 before_left : {l : Level} {t : Token} {op : BinOp} (us : List Token) → IsLeftOperator l t op → Stops (follow l) (t ∷ us)
 before_left us table.or = refl
-before_left us table.and = refl
-before_left us table.plus = refl
-before_left us table.minus-sign = refl
-before_left us table.star = refl
-before_left us table.slash = refl
-before_left us table.percent = refl
+before_left us _ = refl
 
 before_comparison : {t : Token} {op : BinOp} (us : List Token) → IsComparison t op → Stops 16 (t ∷ us)
 before_comparison us table.equal = refl
-before_comparison us table.not-equal = refl
-before_comparison us table.less = refl
-before_comparison us table.less-equal = refl
-before_comparison us table.greater = refl
-before_comparison us table.greater-equal = refl
+before_comparison us _ = refl
 
 -- a condition is no generator
 condition_first : {n d : ℕ} {x : GenTree × List Token} (ts : List Token) → skip symbol.LeftArrow (behind_name ts) ≡ None →
     Gives (λ L. read_condition L (limits n d) ts) x → Gives (λ L. read_gen L (limits n d) ts) x
-condition_first [] e h = h
 condition_first (token.Name y ∷ ts) e h = not_there _ _ e h
-condition_first (token.Word _ ∷ ts) e h = h
-condition_first (token.Symbol _ ∷ ts) e h = h
-condition_first (token.Num _ ∷ ts) e h = h
-condition_first (token.Roles _ ∷ ts) e h = h
-condition_first (token.Resource _ ∷ ts) e h = h
+condition_first _ e h = h
 
 set_operator_starts : {n d : ℕ} {x : Tree × List Token} (op : SetOp) {ts : List Token} →
     Gives (λ L. and_then (inside (limits n d)) λ e. read_set_operator L e op (token.Symbol symbol.OpenParen ∷ ts)) x →
     Gives (λ L. L.atom (limits (suc n) d) (set_op_word op ∷ token.Symbol symbol.OpenParen ∷ ts)) x
 set_operator_starts set_op.Union h = later h
-set_operator_starts set_op.Inter h = later h
-set_operator_starts set_op.Diff h = later h
+set_operator_starts _ h = later h
 
 mutual
   pub tree_read : {n : ℕ} {ts : List Token} {t : Tree} {r : List Token} → TreeText n ts t r → (d : ℕ) → tree_depth t ≤ d → Stops 6 r → Gives (λ L. L.tree (limits n d) ts) (t, r)
   tree_read {r = r} (g.tree-dotted (g.dotted-fields {c = c} {a = a'} {us = us} {fields = others} a ds)) d fits s =
-      let within : greatest (map tree_depth (a' ∷ others)) ≤ less d = parts d (depths.depth-Dot c (a' ∷ others)) fits in
+      let within : greatest (map tree_depth (a' ∷ others)) ≤ less d = parts d (depths.of_tree _ (tree.rolls-Dot c (a' ∷ others))) fits in
       let rest : Stops 11 us = dots_begin ds (more 6 10 r refl s) in
       let front = read_at (expression_read a (less d) (left _ _ within) (more 11 16 us refl rest)) bound.Sum refl (more 11 15 us refl rest) in
       let fields = more_dots front (dots_before ds (less d) (right _ _ within) (more 6 10 r refl s)) in
       tree_alone s (side_alone (more 6 7 r refl s) (sequence_alone (more 6 8 r refl s)
-      (later (inner _ d _ (depths.depth-Dot c (a' ∷ others)) fits (bind _ fields.gives (not_there _ _ (not_symbol symbol.Arrow 6 r refl s)
+      (later (inner _ d _ (depths.of_tree _ (tree.rolls-Dot c (a' ∷ others))) fits (bind _ fields.gives (not_there _ _ (not_symbol symbol.Arrow 6 r refl s)
       (look _ (ap (λ o. and_then o λ fs. dotted_tree c fs) fields.dots) now)))))))
   tree_read (g.tree-side p) d fits s = tree_alone s (side_read p d fits s).gives
   tree_read {r = r} (g.tree-parallel {p = p'} {a = a'} {b = b'} {q = q'} p a b q) d fits s =
-      let is = depths.depth-Parallel p' a' b' q' in
+      let is = depths.of_tree _ (tree.rolls-Parallel p' a' b' q') in
       let within : max (max (tree_depth p') (tree_depth a')) (max (tree_depth b') (tree_depth q')) ≤ less d = parts d is fits in
       let before : max (tree_depth p') (tree_depth a') ≤ less d = left _ _ within in
       let after : max (tree_depth b') (tree_depth q') ≤ less d = right _ _ within in
@@ -156,13 +142,13 @@ mutual
   hiding_read : {n : ℕ} {ts : List Token} {t : Tree} {r : List Token} → HidingText n ts t r → (d : ℕ) → tree_depth t ≤ d → Stops 20 r →
       (x : Binding × Tree × List Token) → Gives (λ L. L.hidings (limits n d) t r) x → Gives (λ L. read_side L (limits n d) ts) x
   hiding_read (g.hiding-one {p = p'} {a = a'} p a) d fits s x h =
-      let within : max (tree_depth p') (tree_depth a') ≤ less d = parts d (depths.depth-Hide p' a') fits in
+      let within : max (tree_depth p') (tree_depth a') ≤ less d = parts d (depths.of_tree _ (tree.rolls-Hide p' a')) fits in
       let front = prefix_alone refl (no_event p refl) (plain p) (expression_read p d (up d (left _ _ within)) refl) refl in
-      bind _ (sequence_alone refl front.gives) (granted _ front.tight (later (bind _ (about d p' _ (depths.depth-Hide p' a') (first_part (tree_depth p') (tree_depth a')) fits
+      bind _ (sequence_alone refl front.gives) (granted _ front.tight (later (bind _ (about d p' _ (depths.of_tree _ (tree.rolls-Hide p' a')) (first_part (tree_depth p') (tree_depth a')) fits
       (bind _ (atom_read a (less d) (right _ _ within) s) now)) h)))
   hiding_read (g.hiding-more {p = p'} {a = a'} p a) d fits s x h =
-      let within : max (tree_depth p') (tree_depth a') ≤ less d = parts d (depths.depth-Hide p' a') fits in
-      hiding_read p d (up d (left _ _ within)) refl x (later (bind _ (about d p' _ (depths.depth-Hide p' a') (first_part (tree_depth p') (tree_depth a')) fits
+      let within : max (tree_depth p') (tree_depth a') ≤ less d = parts d (depths.of_tree _ (tree.rolls-Hide p' a')) fits in
+      hiding_read p d (up d (left _ _ within)) refl x (later (bind _ (about d p' _ (depths.of_tree _ (tree.rolls-Hide p' a')) (first_part (tree_depth p') (tree_depth a')) fits
       (bind _ (atom_read a (less d) (right _ _ within) s) now)) h))
 
   closed_choices_read : {n : ℕ} {c : Choice} {ts : List Token} {ps : List Tree} {r : List Token} → ClosedChoiceText n c ts ps r → (d : ℕ) → greatest (map tree_depth ps) ≤ d → Stops 7 r →
@@ -190,22 +176,22 @@ mutual
       let p' = closed_prefix_read p d fits (more 8 9 r refl s) in
       record { k = p'.k; tight = p'.tight; gives = sequence_alone s p'.gives }
   closed_sequence_read (g.closed-sequence-more {p = p'} {q = q'} p q) d fits s =
-      let within : max (tree_depth p') (tree_depth q') ≤ less d = parts d (depths.depth-Seq p' q') fits in
+      let within : max (tree_depth p') (tree_depth q') ≤ less d = parts d (depths.of_tree _ (tree.rolls-Seq p' q')) fits in
       let front = closed_prefix_read p d (up d (left _ _ within)) refl in
       let back = closed_sequence_read q (less d) (right _ _ within) s in
       record {
         k = of_process back.k;
         tight = still_closed back.k back.tight;
-        gives = later (bind _ front.gives (granted _ front.tight (about d p' _ (depths.depth-Seq p' q') (first_part (tree_depth p') (tree_depth q')) fits
+        gives = later (bind _ front.gives (granted _ front.tight (about d p' _ (depths.of_tree _ (tree.rolls-Seq p' q')) (first_part (tree_depth p') (tree_depth q')) fits
             (bind _ back.gives (granted _ (one_of_two back.k back.tight) now)))));
       }
 
   open_sequence_read : {n : ℕ} {ts : List Token} {t : Tree} {r : List Token} → OpenSequenceText n ts t r → (d : ℕ) → tree_depth t ≤ d → Stops 6 r → Gives (λ L. L.sequence (limits n d) ts) (bound.Open, t, r)
   open_sequence_read {r = r} (g.open-sequence-one p) d fits s = sequence_alone (more 6 8 r refl s) (open_prefix_read p d fits s)
   open_sequence_read (g.open-sequence-more {p = p'} {q = q'} p q) d fits s =
-      let within : max (tree_depth p') (tree_depth q') ≤ less d = parts d (depths.depth-Seq p' q') fits in
+      let within : max (tree_depth p') (tree_depth q') ≤ less d = parts d (depths.of_tree _ (tree.rolls-Seq p' q')) fits in
       let front = closed_prefix_read p d (up d (left _ _ within)) refl in
-      later (bind _ front.gives (granted _ front.tight (about d p' _ (depths.depth-Seq p' q') (first_part (tree_depth p') (tree_depth q')) fits
+      later (bind _ front.gives (granted _ front.tight (about d p' _ (depths.of_tree _ (tree.rolls-Seq p' q')) (first_part (tree_depth p') (tree_depth q')) fits
       (bind _ (open_sequence_read q (less d) (right _ _ within) s) now))))
 
   closed_prefix_read : {n : ℕ} {ts : List Token} {t : Tree} {r : List Token} → ClosedPrefixText n ts t r → (d : ℕ) → tree_depth t ≤ d → Stops 9 r → Bounded bound.Closed (λ L. L.prefix (limits n d) ts) t r
@@ -219,13 +205,13 @@ mutual
             (bind _ (fields_read fs (less d) (left _ _ within) (arrow_ends us)) (bind _ back.gives (granted _ (one_of_two back.k back.tight) now)))));
       }
   closed_prefix_read (g.closed-prefix-guard {c = c'} {p = p'} c p) d fits s =
-      let within : max (tree_depth c') (tree_depth p') ≤ less d = parts d (depths.depth-Guard c' p') fits in
+      let within : max (tree_depth c') (tree_depth p') ≤ less d = parts d (depths.of_tree _ (tree.rolls-Guard c' p')) fits in
       let back = closed_prefix_read p (less d) (right _ _ within) s in
       record {
         k = of_process back.k;
         tight = still_closed back.k back.tight;
         gives = into_guard (no_event c refl) (plain c) (bind _ (read_at (expression_read c d (up d (left _ _ within)) refl) bound.Disjunction refl refl)
-            (about d c' _ (depths.depth-Guard c' p') (first_part (tree_depth c') (tree_depth p')) fits (bind _ back.gives (granted _ (one_of_two back.k back.tight) now))));
+            (about d c' _ (depths.of_tree _ (tree.rolls-Guard c' p')) (first_part (tree_depth c') (tree_depth p')) fits (bind _ back.gives (granted _ (one_of_two back.k back.tight) now))));
       }
   closed_prefix_read {r = r} (g.closed-prefix-expression e) d fits s =
       let p' = prefix_alone refl (no_event e (stops_no_event r s)) (plain e) (expression_read e d fits (more 9 12 r refl s)) s in
@@ -237,27 +223,27 @@ mutual
       later (bind _ (first _ _ (fields_begin fs refl) now) (inner _ d _ (prefix_depth c fs' p') fits
       (bind _ (fields_read fs (less d) (left _ _ within) (arrow_ends us)) (bind _ (open_prefix_read p (less d) (right _ _ within) s) now))))
   open_prefix_read (g.open-prefix-guard {c = c'} {p = p'} c p) d fits s =
-      let within : max (tree_depth c') (tree_depth p') ≤ less d = parts d (depths.depth-Guard c' p') fits in
+      let within : max (tree_depth c') (tree_depth p') ≤ less d = parts d (depths.of_tree _ (tree.rolls-Guard c' p')) fits in
       into_guard (no_event c refl) (plain c) (bind _ (read_at (expression_read c d (up d (left _ _ within)) refl) bound.Disjunction refl refl)
-      (about d c' _ (depths.depth-Guard c' p') (first_part (tree_depth c') (tree_depth p')) fits (bind _ (open_prefix_read p (less d) (right _ _ within) s) now)))
+      (about d c' _ (depths.of_tree _ (tree.rolls-Guard c' p')) (first_part (tree_depth c') (tree_depth p')) fits (bind _ (open_prefix_read p (less d) (right _ _ within) s) now)))
   open_prefix_read (g.open-prefix-open-form p) d fits s = open_read p d fits s
 
   open_read : {n : ℕ} {ts : List Token} {t : Tree} {r : List Token} → OpenText n ts t r → (d : ℕ) → tree_depth t ≤ d → Stops 6 r → Gives (λ L. L.prefix (limits n d) ts) (bound.Open, t, r)
   open_read (g.open-if-then-else {c = c'} {p = p'} {q = q'} c p q) d fits s =
-      let within : max (tree_depth c') (max (tree_depth p') (tree_depth q')) ≤ less d = parts d (depths.depth-If c' p' q') fits in
+      let within : max (tree_depth c') (max (tree_depth p') (tree_depth q')) ≤ less d = parts d (depths.of_tree _ (tree.rolls-If c' p' q')) fits in
       let branches : max (tree_depth p') (tree_depth q') ≤ less d = right _ _ within in
-      later (inner _ d _ (depths.depth-If c' p' q') fits (bind _ (read_at (expression_read c (less d) (left _ _ within) refl) bound.Disjunction refl refl)
+      later (inner _ d _ (depths.of_tree _ (tree.rolls-If c' p' q')) fits (bind _ (read_at (expression_read c (less d) (left _ _ within) refl) bound.Disjunction refl refl)
       (bind _ (tree_read p (less d) (left _ _ branches) refl) (bind _ (tree_read q (less d) (right _ _ branches) s) now))))
   open_read (g.open-external {x = x} {s = s'} {p = p'} a p) d fits s =
-      let within : max (tree_depth s') (tree_depth p') ≤ less d = parts d (depths.depth-EachExternal x s' p') fits in
-      later (inner _ d _ (depths.depth-EachExternal x s' p') fits (bind _ (bind _ (atom_read a (less d) (left _ _ within) refl) now) (bind _ (tree_read p (less d) (right _ _ within) s) now)))
+      let within : max (tree_depth s') (tree_depth p') ≤ less d = parts d (depths.of_tree _ (tree.rolls-EachExternal x s' p')) fits in
+      later (inner _ d _ (depths.of_tree _ (tree.rolls-EachExternal x s' p')) fits (bind _ (bind _ (atom_read a (less d) (left _ _ within) refl) now) (bind _ (tree_read p (less d) (right _ _ within) s) now)))
   open_read (g.open-internal {x = x} {s = s'} {p = p'} a p) d fits s =
-      let within : max (tree_depth s') (tree_depth p') ≤ less d = parts d (depths.depth-EachInternal x s' p') fits in
-      later (inner _ d _ (depths.depth-EachInternal x s' p') fits (bind _ (bind _ (atom_read a (less d) (left _ _ within) refl) now) (bind _ (tree_read p (less d) (right _ _ within) s) now)))
+      let within : max (tree_depth s') (tree_depth p') ≤ less d = parts d (depths.of_tree _ (tree.rolls-EachInternal x s' p')) fits in
+      later (inner _ d _ (depths.of_tree _ (tree.rolls-EachInternal x s' p')) fits (bind _ (bind _ (atom_read a (less d) (left _ _ within) refl) now) (bind _ (tree_read p (less d) (right _ _ within) s) now)))
   open_read (g.open-parallel {x = x} {s = s'} {a = a'} {p = p'} a b p) d fits s =
-      let within : max (tree_depth s') (max (tree_depth a') (tree_depth p')) ≤ less d = parts d (depths.depth-EachParallel x s' a' p') fits in
+      let within : max (tree_depth s') (max (tree_depth a') (tree_depth p')) ≤ less d = parts d (depths.of_tree _ (tree.rolls-EachParallel x s' a' p')) fits in
       let behind : max (tree_depth a') (tree_depth p') ≤ less d = right _ _ within in
-      later (inner _ d _ (depths.depth-EachParallel x s' a' p') fits (bind _ (bind _ (atom_read a (less d) (left _ _ within) refl) now)
+      later (inner _ d _ (depths.of_tree _ (tree.rolls-EachParallel x s' a' p')) fits (bind _ (bind _ (atom_read a (less d) (left _ _ within) refl) now)
       (bind _ (atom_read b (less d) (left _ _ behind) refl) (bind _ (tree_read p (less d) (right _ _ behind) s) now))))
 
   fields_read : {n : ℕ} {dot : Bool} {ts : List Token} {fs : List FieldTree} {r : List Token} → FieldsText n dot ts fs r → (d : ℕ) → greatest (map field_depth fs) ≤ d → EndsFields r →
@@ -265,16 +251,16 @@ mutual
   fields_read g.fields-none d fits e = later (bind _ (not_there _ _ e.no_dot (not_there _ _ e.no_bang (not_there _ _ e.no_question now))) now)
   fields_read (g.fields-dot {a = a'} {us = us} a fs) d fits e =
       let b = fields_begin fs e.event in
-      later (bind _ (bind _ (read_at (expression_read a d (alike (depths.depth-dot a') (left _ _ fits)) (stops_ten 16 us refl b)) bound.Sum refl (stops_ten 15 us refl b)) now)
+      later (bind _ (bind _ (read_at (expression_read a d (alike (depths.of_field _ (field.rolls-Dot a')) (left _ _ fits)) (stops_ten 16 us refl b)) bound.Sum refl (stops_ten 15 us refl b)) now)
       (bind _ (fields_read fs d (right _ _ fits) e) now))
   fields_read (g.fields-output {a = a'} {us = us} a fs) d fits e =
       let b = fields_begin fs e.event in
-      later (bind _ (bind _ (read_at (expression_read a d (alike (depths.depth-Output a') (left _ _ fits)) (stops_ten 16 us refl b)) bound.Sum refl (stops_ten 15 us refl b)) now)
+      later (bind _ (bind _ (read_at (expression_read a d (alike (depths.of_field _ (field.rolls-Output a')) (left _ _ fits)) (stops_ten 16 us refl b)) bound.Sum refl (stops_ten 15 us refl b)) now)
       (bind _ (fields_read fs d (right _ _ fits) e) now))
   fields_read (g.fields-input fs) d fits e =
       later (bind _ (bind _ (not_there _ _ (fields_no_colon fs e.no_colon) now) now) (bind _ (fields_read fs d (right _ _ fits) e) now))
   fields_read (g.fields-input-from {x = x} {s = s'} {us = us} a fs) d fits e =
-      later (bind _ (bind _ (bind _ (atom_read a d (alike (depths.depth-input-from x s') (left _ _ fits)) (stops_ten 20 us refl (fields_begin fs e.event))) now) now)
+      later (bind _ (bind _ (bind _ (atom_read a d (alike (depths.of_field _ (field.rolls-Input x (Some s'))) (left _ _ fits)) (stops_ten 20 us refl (fields_begin fs e.event))) now) now)
       (bind _ (fields_read fs d (right _ _ fits) e) now))
 
   dots_before : {n : ℕ} {ts : List Token} {fields : List Tree} {r : List Token} → DotsText n ts fields r → (d : ℕ) → greatest (map tree_depth fields) ≤ d → Stops 10 r → AreDots n d ts fields r
@@ -292,16 +278,16 @@ mutual
   pub expression_read : {n : ℕ} {l : Level} {ts : List Token} {t : Tree} {r : List Token} → ExpressionText n l ts t r → (d : ℕ) → tree_depth t ≤ d → Stops (follow l) r → Reads n d l ts t r
   expression_read {r = r} (g.expression-tighter {l = l} {m = m} next e) d fits s = read_tighter next (expression_read e d fits (more (follow l) (follow m) r (next_follow next) s))
   expression_read {r = r} (g.expression-left-operator {l = l} {m = m} {op = op'} {a = a'} {us = us} {b = b'} next op a b) d fits s =
-      let within : max (tree_depth a') (tree_depth b') ≤ less d = parts d (depths.depth-Binary op' a' b') fits in
+      let within : max (tree_depth a') (tree_depth b') ≤ less d = parts d (depths.of_tree _ (tree.rolls-Binary op' a' b')) fits in
       read_left next op fits (expression_read a d (up d (left _ _ within)) (before_left us op)) (expression_read b (less d) (right _ _ within) (more (follow l) (follow m) r (next_follow next) s)) s
-  expression_read (g.expression-negated {a = a'} a) d fits s = read_negated fits (expression_read a (less d) (parts d (depths.depth-Not a') fits) s) s
+  expression_read (g.expression-negated {a = a'} a) d fits s = read_negated fits (expression_read a (less d) (parts d (depths.of_tree _ (tree.rolls-Not a')) fits) s) s
   expression_read {r = r} (g.expression-compare {op = op'} {a = a'} {us = us} {b = b'} c a b) d fits s =
-      let within : max (tree_depth a') (tree_depth b') ≤ less d = parts d (depths.depth-Binary op' a' b') fits in
+      let within : max (tree_depth a') (tree_depth b') ≤ less d = parts d (depths.of_tree _ (tree.rolls-Binary op' a' b')) fits in
       read_compare c fits (expression_read a d (up d (left _ _ within)) (before_comparison us c)) (expression_read b (less d) (right _ _ within) (more 14 16 r refl s)) s
-  expression_read (g.expression-negative {a = a'} a) d fits s = read_negative fits (expression_read a (less d) (parts d (depths.depth-Neg a') fits) s) s
+  expression_read (g.expression-negative {a = a'} a) d fits s = read_negative fits (expression_read a (less d) (parts d (depths.of_tree _ (tree.rolls-Neg a')) fits) s) s
   expression_read (g.expression-rename {p = p'} {pairs = pairs'} {vs = vs} {gs = gs'} p pairs conditions) d fits s =
       let begin = conditions_begin conditions refl refl in
-      let within : max (tree_depth p') (max (pairs_depth pairs') (greatest (map gen_depth gs'))) ≤ less d = parts d (rename_depth p' pairs' gs') fits in
+      let within : max (tree_depth p') (max (pairs_depth pairs') (greatest (map gen_depth gs'))) ≤ less d = parts d (depths.of_tree _ (tree.rolls-Rename p' pairs' gs')) fits in
       let behind : max (pairs_depth pairs') (greatest (map gen_depth gs')) ≤ less d = right _ _ within in
       read_rename fits (expression_read p d (up d (left _ _ within)) refl) (pairs_read pairs (less d) (left _ _ behind) (more 1 10 vs refl begin.0) begin.1)
       (conditions_read conditions (less d) (right _ _ behind) refl refl refl)
@@ -335,17 +321,17 @@ mutual
   gens_read (g.gens-more c gs) d fits s h = later (bind _ (gen_read c d (left _ _ fits) refl) (bind _ (gens_read gs d (right _ _ fits) s h) now))
 
   gen_read : {n : ℕ} {ts : List Token} {c : GenTree} {r : List Token} → GenText n ts c r → (d : ℕ) → gen_depth c ≤ d → Stops 9 r → Gives (λ L. read_gen L (limits n d) ts) (c, r)
-  gen_read {r = r} (g.gen-from {x = x} {s = s'} a) d fits s = bind _ (atom_read a d (alike (depths.depth-From x s') fits) (more 9 20 r refl s)) now
+  gen_read {r = r} (g.gen-from {x = x} {s = s'} a) d fits s = bind _ (atom_read a d (alike (depths.of_generator _ (generator.rolls-From x s')) fits) (more 9 20 r refl s)) now
   gen_read {r = r} (g.gen-condition {ts = ts} {c = c'} e) d fits s =
       condition_first ts (no_arrow e (not_symbol symbol.LeftArrow 9 r refl s))
-      (bind _ (read_at (expression_read e d (alike (depths.depth-Cond c') fits) (more 9 12 r refl s)) bound.Disjunction refl (more 9 11 r refl s)) now)
+      (bind _ (read_at (expression_read e d (alike (depths.of_generator _ (generator.rolls-Cond c')) fits) (more 9 12 r refl s)) bound.Disjunction refl (more 9 11 r refl s)) now)
 
   item_read : {n : ℕ} {ts : List Token} {t : Tree} {r : List Token} → ItemText n ts t r → (d : ℕ) → tree_depth t ≤ d → Stops 9 r → Bounded bound.Dotted (λ L. read_item L (limits n d) ts) t r
   item_read {r = r} (g.item-dotted (g.dotted-fields {c = c} {a = a'} {us = us} {fields = others} a ds)) d fits s =
-      let within : greatest (map tree_depth (a' ∷ others)) ≤ less d = parts d (depths.depth-Dot c (a' ∷ others)) fits in
+      let within : greatest (map tree_depth (a' ∷ others)) ≤ less d = parts d (depths.of_tree _ (tree.rolls-Dot c (a' ∷ others))) fits in
       let rest : Stops 11 us = dots_begin ds (more 9 10 r refl s) in
       let front = read_at (expression_read a (less d) (left _ _ within) (more 11 16 us refl rest)) bound.Sum refl (more 11 15 us refl rest) in
-      record { k = bound.Dotted; tight = refl; gives = inner _ d _ (depths.depth-Dot c (a' ∷ others)) fits (bind _ (dots_more front (dots_read ds (less d) (right _ _ within) (more 9 10 r refl s))) now) }
+      record { k = bound.Dotted; tight = refl; gives = inner _ d _ (depths.of_tree _ (tree.rolls-Dot c (a' ∷ others))) fits (bind _ (dots_more front (dots_read ds (less d) (right _ _ within) (more 9 10 r refl s))) now) }
   item_read {r = r} (g.item-expression e) d fits s =
       let e' = expression_read e d fits (more 9 12 r refl s) in
       record { k = e'.k; tight = no_bound e'.k; gives = second _ _ (no_event e (stops_no_event r s)) (read_at e' bound.Disjunction refl (more 9 11 r refl s)) }
@@ -359,37 +345,37 @@ mutual
       record { k = bound.Dotted; tight = refl; gives = later (bind _ (item_read i d (left _ _ fits) refl).gives (bind _ (items_read items d (right _ _ fits) s h).gives now)) }
 
   pub atom_read : {n : ℕ} {ts : List Token} {t : Tree} {r : List Token} → AtomText n ts t r → (d : ℕ) → tree_depth t ≤ d → Stops 20 r → Gives (λ L. L.atom (limits n d) ts) (t, r)
-  atom_read g.atom-stop d fits s = later (inner 0 d _ depths.depth-Stop fits now)
-  atom_read g.atom-skip d fits s = later (inner 0 d _ depths.depth-Skip fits now)
-  atom_read g.atom-truth d fits s = later (inner 0 d _ depths.depth-True fits now)
-  atom_read g.atom-falsehood d fits s = later (inner 0 d _ depths.depth-False fits now)
-  atom_read (g.atom-number {x = k}) d fits s = later (inner 0 d _ (depths.depth-Num k) fits now)
+  atom_read g.atom-stop d fits s = later (inner 0 d _ (depths.of_tree _ tree.rolls-Stop) fits now)
+  atom_read g.atom-skip d fits s = later (inner 0 d _ (depths.of_tree _ tree.rolls-Skip) fits now)
+  atom_read g.atom-truth d fits s = later (inner 0 d _ (depths.of_tree _ tree.rolls-True) fits now)
+  atom_read g.atom-falsehood d fits s = later (inner 0 d _ (depths.of_tree _ tree.rolls-False) fits now)
+  atom_read (g.atom-number {x = k}) d fits s = later (inner 0 d _ (depths.of_tree _ (tree.rolls-Num k)) fits now)
   atom_read {r = r} (g.atom-name {x = x}) d fits s =
-      later (bind _ (not_there _ _ (not_symbol symbol.OpenParen 20 r refl s) now) (inner 0 d _ (depths.depth-Name x) fits now))
+      later (bind _ (not_there _ _ (not_symbol symbol.OpenParen 20 r refl s) now) (inner 0 d _ (depths.of_tree _ (tree.rolls-Name x)) fits now))
   atom_read (g.atom-call {x = x} {items = items'} items) d fits s =
-      let is = depths.depth-Call x items' in
+      let is = depths.of_tree _ (tree.rolls-Call x items') in
       later (inner _ d _ is fits (bind _ (items_read items (less d) (parts d is fits) refl refl).gives now))
   atom_read (g.atom-parentheses t) d fits s = later (bind _ (tree_read t d fits refl) now)
-  atom_read g.atom-empty d fits s = later (inner 0 d _ (depths.depth-Display []) fits now)
+  atom_read g.atom-empty d fits s = later (inner 0 d _ (depths.of_tree _ (tree.rolls-Display [])) fits now)
   atom_read (g.atom-display {items = items'} items) d fits s =
-      let is = depths.depth-Display items' in
+      let is = depths.of_tree _ (tree.rolls-Display items') in
       later (inner _ d _ is fits (not_there _ _ (items_no_brace items) (bind _ (items_read items (less d) (parts d is fits) refl refl).gives now)))
   atom_read (g.atom-range {a = a'} {b = b'} a b) d fits s =
-      let is = depths.depth-Range a' b' in
+      let is = depths.of_tree _ (tree.rolls-Range a' b') in
       let within : max (tree_depth a') (tree_depth b') ≤ less d = parts d is fits in
       let front = expression_read a (less d) (left _ _ within) refl in
       later (inner _ d _ is fits (not_there _ _ (plain a).no_brace (bind _ (bound_alone (no_event a refl) (read_at front bound.Disjunction refl refl))
       (granted _ front.tight (bind _ (read_at (expression_read b (less d) (right _ _ within) refl) bound.Sum refl refl) now)))))
   atom_read (g.atom-comprehension {items = items'} {gs = gs'} items gs) d fits s =
-      let is = depths.depth-Comp items' gs' in
+      let is = depths.of_tree _ (tree.rolls-Comp items' gs') in
       let within : max (greatest (map tree_depth items')) (greatest (map gen_depth gs')) ≤ less d = parts d is fits in
       later (inner _ d _ is fits (not_there _ _ (items_no_brace items) (bind _ (items_read items (less d) (left _ _ within) refl refl).gives (bind _ (gens_read gs (less d) (right _ _ within) refl refl) now))))
   atom_read (g.atom-production {parts = parts'} {us = us} {gs = gs'} cs conditions) d fits s =
-      let is = depths.depth-Product parts' gs' in
+      let is = depths.of_tree _ (tree.rolls-Product parts' gs') in
       let within : max (greatest (map part_depth parts')) (greatest (map gen_depth gs')) ≤ less d = parts d is fits in
       let begin = conditions_begin conditions refl refl in
       later (inner _ d _ is fits (bind _ (parts_read cs (less d) (left _ _ within) (more 1 10 us refl begin.0) begin.1) (bind _ (conditions_read conditions (less d) (right _ _ within) refl refl refl) now)))
   atom_read (g.atom-set-operator {op = op} {a = a'} {b = b'} a b) d fits s =
-      let is = depths.depth-SetOp op a' b' in
+      let is = depths.of_tree _ (tree.rolls-SetOp op a' b') in
       let within : max (tree_depth a') (tree_depth b') ≤ less d = parts d is fits in
       set_operator_starts op (inner _ d _ is fits (bind _ (item_read a (less d) (left _ _ within) refl).gives (bind _ (item_read b (less d) (right _ _ within) refl).gives now)))

@@ -56,10 +56,13 @@ inner {x = x} a (suc d) K is h s = s
 pub first_part : (a b : ℕ) → a ≤ max a b
 first_part a b = grind (arith)
 
+pub second_part : (a b : ℕ) → b ≤ max a b
+second_part a b = grind (arith)
+
 test : (a e : ℕ) → a ≤ e → nat_le a e ≡ true
 test a e h = grind (arith)
 
-through : (a b e : ℕ) → a ≤ b → b ≤ e → a ≤ e
+pub through : (a b e : ℕ) → a ≤ b → b ≤ e → a ≤ e
 through a b e h k = omega arith
 
 tested : {B : Type 0} {n : ℕ} (e : ℕ) (t : Tree) {o : Option B} (K : Limited → Limits → Option B) → tree_depth t ≤ e → Settles (λ L. K L (limits n e)) o →

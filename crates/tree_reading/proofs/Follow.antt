@@ -24,14 +24,9 @@ lower a k b h le = grind (arith)
 
 -- a symbol that binds as tightly as the number does not stand at the front
 pub not_symbol : (s : Symbol) (k : ℕ) (r : List Token) → nat_le k (symbol_binding s) ≡ true → Stops k r → skip s r ≡ None
-not_symbol s k [] le h = refl
 not_symbol s k (token.Symbol u ∷ r) le h =
     ap (λ b. if b then Some r else None) (other (symbol_binding u) (symbol_binding s) (symbol_place u) (symbol_place s) (lower (symbol_binding u) k (symbol_binding s) h le))
-not_symbol s k (token.Word _ ∷ r) le h = refl
-not_symbol s k (token.Name _ ∷ r) le h = refl
-not_symbol s k (token.Num _ ∷ r) le h = refl
-not_symbol s k (token.Roles _ ∷ r) le h = refl
-not_symbol s k (token.Resource _ ∷ r) le h = refl
+not_symbol s k _ le h = refl
 
 no_ten : (b : ℕ) → nat_lt b 9 ≡ true → nat_eq b 10 ≡ false
 no_ten b h = grind (arith)

@@ -32,7 +32,6 @@ use Rattle.tree_reading.proofs.Looks as look
 use Rattle.tree_reading.proofs.Looks.{IsSign, binding_of, token_signs}
 use Rattle.tree_reading.proofs.NodeDepths as depths
 use Rattle.tree_reading.proofs.Starts.{IsOperand}
-use Rattle.csp_text.proofs.DepthLemmas.{rename_depth}
 use Rattle.csp_base.specs.Lists.{greatest}
 
 abbrev pub tightness : Level → ℕ
@@ -51,30 +50,15 @@ follow renaming = 19
 
 next_number : {l m : Level} → IsNext l m → tightness m ≡ suc (tightness l)
 next_number table.disjunction-conjunction = refl
-next_number table.conjunction-negation = refl
-next_number table.negation-comparison = refl
-next_number table.comparison-sum = refl
-next_number table.sum-product = refl
-next_number table.product-minus = refl
-next_number table.minus-renaming = refl
+next_number _ = refl
 
 next_tighter : {l m : Level} → IsNext l m → nat_le (number (tighter (binding_of l))) (tightness m) ≡ true
 next_tighter table.disjunction-conjunction = refl
-next_tighter table.conjunction-negation = refl
-next_tighter table.negation-comparison = refl
-next_tighter table.comparison-sum = refl
-next_tighter table.sum-product = refl
-next_tighter table.product-minus = refl
-next_tighter table.minus-renaming = refl
+next_tighter _ = refl
 
 pub next_follow : {l m : Level} → IsNext l m → nat_le (follow l) (follow m) ≡ true
 next_follow table.disjunction-conjunction = refl
-next_follow table.conjunction-negation = refl
-next_follow table.negation-comparison = refl
-next_follow table.comparison-sum = refl
-next_follow table.sum-product = refl
-next_follow table.product-minus = refl
-next_follow table.minus-renaming = refl
+next_follow _ = refl
 
 -- SIGNS
 
@@ -89,35 +73,18 @@ left_behind m k us table.or le tight = found (nat_le (number m) 11) (nat_le 11 (
 left_behind m k us table.and le tight = found (nat_le (number m) 12) (nat_le 12 (number k)) _ le tight
 left_behind m k us table.plus le tight = found (nat_le (number m) 15) (nat_le 15 (number k)) _ le tight
 left_behind m k us table.minus-sign le tight = found (nat_le (number m) 15) (nat_le 15 (number k)) _ le tight
-left_behind m k us table.star le tight = found (nat_le (number m) 16) (nat_le 16 (number k)) _ le tight
-left_behind m k us table.slash le tight = found (nat_le (number m) 16) (nat_le 16 (number k)) _ le tight
-left_behind m k us table.percent le tight = found (nat_le (number m) 16) (nat_le 16 (number k)) _ le tight
+left_behind m k us _ le tight = found (nat_le (number m) 16) (nat_le 16 (number k)) _ le tight
 
 comparison_behind : {t : Token} {op : BinOp} (m k : Binding) (us : List Token) → IsComparison t op → nat_le (number m) 14 ≡ true → nat_le 15 (number k) ≡ true →
     sign_behind m k (t ∷ us) ≡ Some (sign.Operator op bound.Comparison, us)
 comparison_behind m k us table.equal le tight = found (nat_le (number m) 14) (nat_le 15 (number k)) _ le tight
-comparison_behind m k us table.not-equal le tight = found (nat_le (number m) 14) (nat_le 15 (number k)) _ le tight
-comparison_behind m k us table.less le tight = found (nat_le (number m) 14) (nat_le 15 (number k)) _ le tight
-comparison_behind m k us table.less-equal le tight = found (nat_le (number m) 14) (nat_le 15 (number k)) _ le tight
-comparison_behind m k us table.greater le tight = found (nat_le (number m) 14) (nat_le 15 (number k)) _ le tight
-comparison_behind m k us table.greater-equal le tight = found (nat_le (number m) 14) (nat_le 15 (number k)) _ le tight
+comparison_behind m k us _ le tight = found (nat_le (number m) 14) (nat_le 15 (number k)) _ le tight
 
 -- a sign binds as its token does
 sign_binds : {t : Token} {s : Sign} → IsSign t s → number (sign_binding s) ≡ binding t
 sign_binds (look.operator (look.left table.or)) = refl
-sign_binds (look.operator (look.left table.and)) = refl
-sign_binds (look.operator (look.left table.plus)) = refl
-sign_binds (look.operator (look.left table.minus-sign)) = refl
-sign_binds (look.operator (look.left table.star)) = refl
-sign_binds (look.operator (look.left table.slash)) = refl
-sign_binds (look.operator (look.left table.percent)) = refl
 sign_binds (look.operator (look.compared table.equal)) = refl
-sign_binds (look.operator (look.compared table.not-equal)) = refl
-sign_binds (look.operator (look.compared table.less)) = refl
-sign_binds (look.operator (look.compared table.less-equal)) = refl
-sign_binds (look.operator (look.compared table.greater)) = refl
-sign_binds (look.operator (look.compared table.greater-equal)) = refl
-sign_binds look.pairs = refl
+sign_binds _ = refl
 
 not_both : (m s b : ℕ) (c : Bool) → s ≡ b → nat_lt b m ≡ true → (nat_le m s && c) ≡ false
 not_both m s b c e h = grind (arith)
@@ -166,12 +133,7 @@ read_tighter {n} {d} {l} {m} next e = record {
 
 left_stops : {l : Level} {t : Token} {op : BinOp} (r : List Token) → IsLeftOperator l t op → Stops (follow l) r → Stops (number (tighter (binding_of l))) r
 left_stops r table.or s = s
-left_stops r table.and s = s
-left_stops r table.plus s = s
-left_stops r table.minus-sign s = s
-left_stops r table.star s = s
-left_stops r table.slash s = s
-left_stops r table.percent s = s
+left_stops r _ s = s
 
 pub read_left : {n d : ℕ} {l m : Level} {t : Token} {op : BinOp} {ts : List Token} {a : Tree} {us : List Token} {b : Tree} {r : List Token} →
     IsNext l m → IsLeftOperator l t op → tree_depth (tree.Binary op a b) ≤ d → Reads n d l ts a (t ∷ us) → Reads n (less d) m us b r → Stops (follow l) r →
@@ -181,7 +143,7 @@ read_left {n} {d} {l} {m} {t} {op} {ts} {a} {us} {b} {r} next is fits p q s = re
   tight = le_same (tightness l);
   reads = λ level x le h.
       p.reads level x le (later (there _ _ (left_behind level p.k us is le p.tight)
-      (bind _ (about d a _ (depths.depth-Binary op a b) (first_part (tree_depth a) (tree_depth b)) fits
+      (bind _ (about d a _ (depths.of_tree _ (tree.rolls-Binary op a b)) (first_part (tree_depth a) (tree_depth b)) fits
       (bind _ (read_at q (tighter (binding_of l)) (next_tighter next) (left_stops r is s)) now)) h)));
 }
 
@@ -199,7 +161,7 @@ read_compare {n} {d} {t} {op} {ts} {a} {us} {b} {r} is fits p q s = record {
   tight = refl;
   reads = λ level x le h.
       p.reads level x (to_fifteen (number level) le) (later (there _ _ (comparison_behind level p.k us is le p.tight)
-      (bind _ (about d a _ (depths.depth-Binary op a b) (first_part (tree_depth a) (tree_depth b)) fits
+      (bind _ (about d a _ (depths.of_tree _ (tree.rolls-Binary op a b)) (first_part (tree_depth a) (tree_depth b)) fits
       (bind _ (read_at q bound.Sum refl (fifteen (begins r) s)) now)) h)));
 }
 
@@ -209,7 +171,7 @@ read_negated {n} {d} {ts} {a} {r} fits p s = record {
   k = bound.Complement;
   tight = refl;
   reads = λ level x le h.
-      later (granted _ le (inner _ d _ (depths.depth-Not a) fits (bind _ (read_at p bound.Complement refl s) h)));
+      later (granted _ le (inner _ d _ (depths.of_tree _ (tree.rolls-Not a)) fits (bind _ (read_at p bound.Complement refl s) h)));
 }
 
 pub read_negative : {n d : ℕ} {ts : List Token} {a : Tree} {r : List Token} → tree_depth (tree.Neg a) ≤ d → Reads n (less d) minus ts a r → Stops 17 r →
@@ -218,7 +180,7 @@ read_negative {n} {d} {ts} {a} {r} fits p s = record {
   k = bound.Negative;
   tight = refl;
   reads = λ level x le h.
-      later (granted _ le (inner _ d _ (depths.depth-Neg a) fits (bind _ (read_at p bound.Negative refl s) h)));
+      later (granted _ le (inner _ d _ (depths.of_tree _ (tree.rolls-Neg a)) fits (bind _ (read_at p bound.Negative refl s) h)));
 }
 
 -- the depth of pairs
@@ -235,7 +197,7 @@ read_rename {n} {d} {ts} {p} {us} {pairs} {vs} {gs} {r} fits front given conditi
   tight = refl;
   reads = λ level x le h.
       front.reads level x le (later (there _ _ (found (nat_le (number level) 18) (nat_le 18 (number front.k)) _ le front.tight)
-      (bind _ (about d p _ (rename_depth p pairs gs)
+      (bind _ (about d p _ (depths.of_tree _ (tree.rolls-Rename p pairs gs))
       (first_part (tree_depth p) (max (pairs_depth pairs) (greatest (map gen_depth gs)))) fits
       (bind _ (bind _ given (bind _ conditions now)) now)) h)));
 }

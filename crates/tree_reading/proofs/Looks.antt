@@ -39,63 +39,12 @@ at (x ∷ xs) (suc n) = at xs n
 symbol_at : (s : Symbol) → at symbols (symbol_place s) ≡ Some s
 unfolding symbols
 symbol_at symbol.Arrow = refl
-symbol_at symbol.ExternalChoice = refl
-symbol_at symbol.InternalChoice = refl
-symbol_at symbol.Parallel = refl
-symbol_at symbol.OpenRename = refl
-symbol_at symbol.CloseRename = refl
-symbol_at symbol.OpenProduct = refl
-symbol_at symbol.CloseProduct = refl
-symbol_at symbol.LeftArrow = refl
-symbol_at symbol.DotDot = refl
-symbol_at symbol.Dot = refl
-symbol_at symbol.Bang = refl
-symbol_at symbol.Question = refl
-symbol_at symbol.Colon = refl
-symbol_at symbol.At = refl
-symbol_at symbol.Defines = refl
-symbol_at symbol.Equal = refl
-symbol_at symbol.NotEqual = refl
-symbol_at symbol.Less = refl
-symbol_at symbol.LessEqual = refl
-symbol_at symbol.Greater = refl
-symbol_at symbol.GreaterEqual = refl
-symbol_at symbol.Plus = refl
-symbol_at symbol.Minus = refl
-symbol_at symbol.Star = refl
-symbol_at symbol.Slash = refl
-symbol_at symbol.Percent = refl
-symbol_at symbol.OpenParen = refl
-symbol_at symbol.CloseParen = refl
-symbol_at symbol.OpenBrace = refl
-symbol_at symbol.CloseBrace = refl
-symbol_at symbol.OpenBracket = refl
-symbol_at symbol.CloseBracket = refl
-symbol_at symbol.Comma = refl
-symbol_at symbol.Ampersand = refl
-symbol_at symbol.Bar = refl
-symbol_at symbol.Backslash = refl
-symbol_at symbol.Semicolon = refl
+symbol_at _ = refl
 
 word_at : (w : Word) → at words (word_place w) ≡ Some w
 unfolding words
 word_at word.And = refl
-word_at word.Assert = refl
-word_at word.Channel = refl
-word_at word.Datatype = refl
-word_at word.Diff = refl
-word_at word.Else = refl
-word_at word.False = refl
-word_at word.If = refl
-word_at word.Inter = refl
-word_at word.Nametype = refl
-word_at word.Not = refl
-word_at word.Or = refl
-word_at word.Then = refl
-word_at word.True = refl
-word_at word.Union = refl
-word_at word.Stop = refl
-word_at word.Skip = refl
+word_at _ = refl
 
 second_half : (b : Bool) (p q : ℕ) → (b && nat_eq p q) ≡ true → p ≡ q
 second_half b p q h = grind (arith)
@@ -115,31 +64,16 @@ when_true false x f = none
 when_true true x f = some (f refl)
 
 pub skips : (s : Symbol) (ts : List Token) → Holds (λ us. ts ≡ token.Symbol s ∷ us) (skip s ts)
-skips s [] = none
 skips s (token.Symbol u ∷ ts) = when_true (is_symbol s u) ts (λ h. ap (λ v. token.Symbol v ∷ ts) (symbol_same s u h))
-skips s (token.Word _ ∷ ts) = none
-skips s (token.Name _ ∷ ts) = none
-skips s (token.Num _ ∷ ts) = none
-skips s (token.Roles _ ∷ ts) = none
-skips s (token.Resource _ ∷ ts) = none
+skips s _ = none
 
 pub skips_word : (w : Word) (ts : List Token) → Holds (λ us. ts ≡ token.Word w ∷ us) (skip_word w ts)
-skips_word w [] = none
 skips_word w (token.Word u ∷ ts) = when_true (nat_eq (word_place u) (word_place w)) ts (λ h. ap (λ v. token.Word v ∷ ts) (word_same w u h))
-skips_word w (token.Symbol _ ∷ ts) = none
-skips_word w (token.Name _ ∷ ts) = none
-skips_word w (token.Num _ ∷ ts) = none
-skips_word w (token.Roles _ ∷ ts) = none
-skips_word w (token.Resource _ ∷ ts) = none
+skips_word w _ = none
 
 pub names : (ts : List Token) → Holds (λ x. ts ≡ token.Name x.0 ∷ x.1) (named ts)
-names [] = none
 names (token.Name x ∷ ts) = some refl
-names (token.Word _ ∷ ts) = none
-names (token.Symbol _ ∷ ts) = none
-names (token.Num _ ∷ ts) = none
-names (token.Roles _ ∷ ts) = none
-names (token.Resource _ ∷ ts) = none
+names _ = none
 
 -- how tightly an operator binds
 abbrev pub binding_of : Level → Binding
@@ -163,22 +97,7 @@ pub data IsSign : Token → Sign → Type 0 where
   pairs : IsSign (token.Symbol symbol.OpenRename) sign.Renaming
 
 symbol_signs : (s : Symbol) → Holds (IsSign (token.Symbol s)) (symbol_sign s)
-symbol_signs symbol.Arrow = none
-symbol_signs symbol.ExternalChoice = none
-symbol_signs symbol.InternalChoice = none
-symbol_signs symbol.Parallel = none
 symbol_signs symbol.OpenRename = some pairs
-symbol_signs symbol.CloseRename = none
-symbol_signs symbol.OpenProduct = none
-symbol_signs symbol.CloseProduct = none
-symbol_signs symbol.LeftArrow = none
-symbol_signs symbol.DotDot = none
-symbol_signs symbol.Dot = none
-symbol_signs symbol.Bang = none
-symbol_signs symbol.Question = none
-symbol_signs symbol.Colon = none
-symbol_signs symbol.At = none
-symbol_signs symbol.Defines = none
 symbol_signs symbol.Equal = some (operator (compared table.equal))
 symbol_signs symbol.NotEqual = some (operator (compared table.not-equal))
 symbol_signs symbol.Less = some (operator (compared table.less))
@@ -190,44 +109,17 @@ symbol_signs symbol.Minus = some (operator (left table.minus-sign))
 symbol_signs symbol.Star = some (operator (left table.star))
 symbol_signs symbol.Slash = some (operator (left table.slash))
 symbol_signs symbol.Percent = some (operator (left table.percent))
-symbol_signs symbol.OpenParen = none
-symbol_signs symbol.CloseParen = none
-symbol_signs symbol.OpenBrace = none
-symbol_signs symbol.CloseBrace = none
-symbol_signs symbol.OpenBracket = none
-symbol_signs symbol.CloseBracket = none
-symbol_signs symbol.Comma = none
-symbol_signs symbol.Ampersand = none
-symbol_signs symbol.Bar = none
-symbol_signs symbol.Backslash = none
-symbol_signs symbol.Semicolon = none
+symbol_signs _ = none
 
 word_signs : (w : Word) → Holds (IsSign (token.Word w)) (word_sign w)
 word_signs word.And = some (operator (left table.and))
-word_signs word.Assert = none
-word_signs word.Channel = none
-word_signs word.Datatype = none
-word_signs word.Diff = none
-word_signs word.Else = none
-word_signs word.False = none
-word_signs word.If = none
-word_signs word.Inter = none
-word_signs word.Nametype = none
-word_signs word.Not = none
 word_signs word.Or = some (operator (left table.or))
-word_signs word.Then = none
-word_signs word.True = none
-word_signs word.Union = none
-word_signs word.Stop = none
-word_signs word.Skip = none
+word_signs _ = none
 
 pub token_signs : (t : Token) → Holds (IsSign t) (token_sign t)
 token_signs (token.Symbol s) = symbol_signs s
 token_signs (token.Word w) = word_signs w
-token_signs (token.Name _) = none
-token_signs (token.Num _) = none
-token_signs (token.Roles _) = none
-token_signs (token.Resource _) = none
+token_signs _ = none
 
 -- the list begins with a sign that goes on with an operand bound like this
 pub record GoesOn (level k : Binding) (ts : List Token) (p : Sign × List Token) : Type 0 where

@@ -104,13 +104,7 @@ pub record Sound (L : Limited) : Type 0 where
 
 eleven : (l : Level) → 11 ≤ tightness l
 eleven disjunction = omega arith
-eleven conjunction = omega arith
-eleven negation = omega arith
-eleven comparison = omega arith
-eleven sum = omega arith
-eleven product = omega arith
-eleven minus = omega arith
-eleven renaming = omega arith
+eleven _ = omega arith
 
 apart : (a k : ℕ) → 11 ≤ a → k ≤ 2 → a ≤ k → ⊥
 apart a k e few le = omega arith
@@ -121,83 +115,47 @@ not_so_tight l k few le = absurd (apart (tightness l) k (eleven l) few le)
 
 from_disjunction : {n : ℕ} {ts : List Token} {t : Tree} {r : List Token} → ExpressionText n disjunction ts t r → Expressions n 11 ts t r
 from_disjunction e disjunction le = e
-from_disjunction e conjunction le = absurd (omega arith)
-from_disjunction e negation le = absurd (omega arith)
-from_disjunction e comparison le = absurd (omega arith)
-from_disjunction e sum le = absurd (omega arith)
-from_disjunction e product le = absurd (omega arith)
-from_disjunction e minus le = absurd (omega arith)
-from_disjunction e renaming le = absurd (omega arith)
+from_disjunction e _ le = absurd (omega arith)
 
 from_conjunction : {n : ℕ} {ts : List Token} {t : Tree} {r : List Token} → ExpressionText n conjunction ts t r → Expressions n 12 ts t r
-from_conjunction e disjunction le = from_disjunction (g.expression-tighter table.disjunction-conjunction e) disjunction (omega arith)
 from_conjunction e conjunction le = e
-from_conjunction e negation le = absurd (omega arith)
-from_conjunction e comparison le = absurd (omega arith)
-from_conjunction e sum le = absurd (omega arith)
-from_conjunction e product le = absurd (omega arith)
-from_conjunction e minus le = absurd (omega arith)
-from_conjunction e renaming le = absurd (omega arith)
+from_conjunction e disjunction le = from_disjunction (g.expression-tighter table.disjunction-conjunction e) disjunction (omega arith)
+from_conjunction e _ le = absurd (omega arith)
 
 from_negation : {n : ℕ} {ts : List Token} {t : Tree} {r : List Token} → ExpressionText n negation ts t r → Expressions n 13 ts t r
+from_negation e negation le = e
 from_negation e disjunction le = from_conjunction (g.expression-tighter table.conjunction-negation e) disjunction (omega arith)
 from_negation e conjunction le = from_conjunction (g.expression-tighter table.conjunction-negation e) conjunction (omega arith)
-from_negation e negation le = e
-from_negation e comparison le = absurd (omega arith)
-from_negation e sum le = absurd (omega arith)
-from_negation e product le = absurd (omega arith)
-from_negation e minus le = absurd (omega arith)
-from_negation e renaming le = absurd (omega arith)
+from_negation e _ le = absurd (omega arith)
 
 from_comparison : {n : ℕ} {ts : List Token} {t : Tree} {r : List Token} → ExpressionText n comparison ts t r → Expressions n 14 ts t r
+from_comparison e comparison le = e
 from_comparison e disjunction le = from_negation (g.expression-tighter table.negation-comparison e) disjunction (omega arith)
 from_comparison e conjunction le = from_negation (g.expression-tighter table.negation-comparison e) conjunction (omega arith)
 from_comparison e negation le = from_negation (g.expression-tighter table.negation-comparison e) negation (omega arith)
-from_comparison e comparison le = e
-from_comparison e sum le = absurd (omega arith)
-from_comparison e product le = absurd (omega arith)
-from_comparison e minus le = absurd (omega arith)
-from_comparison e renaming le = absurd (omega arith)
+from_comparison e _ le = absurd (omega arith)
 
 from_sum : {n : ℕ} {ts : List Token} {t : Tree} {r : List Token} → ExpressionText n sum ts t r → Expressions n 15 ts t r
-from_sum e disjunction le = from_comparison (g.expression-tighter table.comparison-sum e) disjunction (omega arith)
-from_sum e conjunction le = from_comparison (g.expression-tighter table.comparison-sum e) conjunction (omega arith)
-from_sum e negation le = from_comparison (g.expression-tighter table.comparison-sum e) negation (omega arith)
-from_sum e comparison le = from_comparison (g.expression-tighter table.comparison-sum e) comparison (omega arith)
 from_sum e sum le = e
 from_sum e product le = absurd (omega arith)
 from_sum e minus le = absurd (omega arith)
 from_sum e renaming le = absurd (omega arith)
+from_sum e l le = from_comparison (g.expression-tighter table.comparison-sum e) l (omega arith)
 
 from_product : {n : ℕ} {ts : List Token} {t : Tree} {r : List Token} → ExpressionText n product ts t r → Expressions n 16 ts t r
-from_product e disjunction le = from_sum (g.expression-tighter table.sum-product e) disjunction (omega arith)
-from_product e conjunction le = from_sum (g.expression-tighter table.sum-product e) conjunction (omega arith)
-from_product e negation le = from_sum (g.expression-tighter table.sum-product e) negation (omega arith)
-from_product e comparison le = from_sum (g.expression-tighter table.sum-product e) comparison (omega arith)
-from_product e sum le = from_sum (g.expression-tighter table.sum-product e) sum (omega arith)
 from_product e product le = e
 from_product e minus le = absurd (omega arith)
 from_product e renaming le = absurd (omega arith)
+from_product e l le = from_sum (g.expression-tighter table.sum-product e) l (omega arith)
 
 from_minus : {n : ℕ} {ts : List Token} {t : Tree} {r : List Token} → ExpressionText n minus ts t r → Expressions n 17 ts t r
-from_minus e disjunction le = from_product (g.expression-tighter table.product-minus e) disjunction (omega arith)
-from_minus e conjunction le = from_product (g.expression-tighter table.product-minus e) conjunction (omega arith)
-from_minus e negation le = from_product (g.expression-tighter table.product-minus e) negation (omega arith)
-from_minus e comparison le = from_product (g.expression-tighter table.product-minus e) comparison (omega arith)
-from_minus e sum le = from_product (g.expression-tighter table.product-minus e) sum (omega arith)
-from_minus e product le = from_product (g.expression-tighter table.product-minus e) product (omega arith)
 from_minus e minus le = e
 from_minus e renaming le = absurd (omega arith)
+from_minus e l le = from_product (g.expression-tighter table.product-minus e) l (omega arith)
 
 from_renaming : {n : ℕ} {ts : List Token} {t : Tree} {r : List Token} → ExpressionText n renaming ts t r → Expressions n 18 ts t r
-from_renaming e disjunction le = from_minus (g.expression-tighter table.minus-renaming e) disjunction (omega arith)
-from_renaming e conjunction le = from_minus (g.expression-tighter table.minus-renaming e) conjunction (omega arith)
-from_renaming e negation le = from_minus (g.expression-tighter table.minus-renaming e) negation (omega arith)
-from_renaming e comparison le = from_minus (g.expression-tighter table.minus-renaming e) comparison (omega arith)
-from_renaming e sum le = from_minus (g.expression-tighter table.minus-renaming e) sum (omega arith)
-from_renaming e product le = from_minus (g.expression-tighter table.minus-renaming e) product (omega arith)
-from_renaming e minus le = from_minus (g.expression-tighter table.minus-renaming e) minus (omega arith)
 from_renaming e renaming le = e
+from_renaming e l le = from_minus (g.expression-tighter table.minus-renaming e) l (omega arith)
 
 -- an expression of a level is one of each looser level
 pub loosen : (l : Level) {n : ℕ} {ts : List Token} {t : Tree} {r : List Token} → ExpressionText n l ts t r → Expressions n (tightness l) ts t r
@@ -212,14 +170,15 @@ loosen renaming e = from_renaming e
 
 at_most : (l : Level) → tightness l ≤ 18
 at_most disjunction = omega arith
-at_most conjunction = omega arith
-at_most negation = omega arith
-at_most comparison = omega arith
-at_most sum = omega arith
-at_most product = omega arith
-at_most minus = omega arith
-at_most renaming = omega arith
+at_most _ = omega arith
 
 -- an atom is an expression of each level
 pub of_atom : {n : ℕ} {ts : List Token} {t : Tree} {r : List Token} → AtomText n ts t r → Expressions n 19 ts t r
 of_atom a l le = from_renaming (g.expression-atom a) l (at_most l)
+
+pub at_level : {n : ℕ} {ts : List Token} {t : Tree} {r : List Token} → (l : Level) → AtomText n ts t r → ExpressionText n l ts t r
+at_level l a = from_renaming (g.expression-atom a) l (at_most l)
+
+-- and each expression is one of the loosest level
+pub from_level : {n : ℕ} {ts : List Token} {t : Tree} {r : List Token} → (l : Level) → ExpressionText n l ts t r → ExpressionText n disjunction ts t r
+from_level l e = loosen l e disjunction (eleven l)

@@ -7,6 +7,7 @@ use Rattle.csp_text.specs.declared.token.Symbol.TheVariants as symbol
 use Rattle.csp_text.specs.declared.tree.Tree.{Tree}
 use Rattle.csp_text.specs.declared.tree.FieldTree.{FieldTree}
 use Rattle.csp_text.specs.declared.tree.FieldTree.TheVariants as field
+use Rattle.csp_text.specs.declared.tree.Tree.TheVariants as tree
 use Rattle.csp_text.specs.declared.tree.GenTree.{GenTree}
 use Rattle.csp_grammar.specs.Grammar.{Choice, choice_of, choice_sign, DotsText, FieldsText, ConditionsText}
 use Rattle.csp_grammar.specs.Grammar as g
@@ -62,18 +63,12 @@ dots_begin (g.dots-more a d) s = refl
 pub fields_begin : {n : ℕ} {dot : Bool} {ts : List Token} {fs : List FieldTree} {r : List Token} →
     FieldsText n dot ts fs r → nat_eq (begins r) 10 ≡ true → nat_eq (begins ts) 10 ≡ true
 fields_begin g.fields-none h = h
-fields_begin (g.fields-dot a fs) h = refl
-fields_begin (g.fields-output a fs) h = refl
-fields_begin (g.fields-input fs) h = refl
-fields_begin (g.fields-input-from a fs) h = refl
+fields_begin _ h = refl
 
 pub fields_no_colon : {n : ℕ} {dot : Bool} {ts : List Token} {fs : List FieldTree} {r : List Token} →
     FieldsText n dot ts fs r → skip symbol.Colon r ≡ None → skip symbol.Colon ts ≡ None
 fields_no_colon g.fields-none h = h
-fields_no_colon (g.fields-dot a fs) h = refl
-fields_no_colon (g.fields-output a fs) h = refl
-fields_no_colon (g.fields-input fs) h = refl
-fields_no_colon (g.fields-input-from a fs) h = refl
+fields_no_colon _ h = refl
 
 pub dots_more : {n d : ℕ} {k : Binding} {ts : List Token} {a : Tree} {us : List Token} {fields : List Tree} {r : List Token} →
     Gives (λ L. L.expression (limits n d) bound.Sum ts) (k, a, us) → Gives (λ L. L.dots (limits n d) us) (fields, r) →
@@ -172,8 +167,8 @@ more_choices c {us = us} p h =
     later (bind _ p.gives (granted _ (one_of_two p.k p.tight) (there _ _ (choice_skipped c us) (granted _ p.tight (bind _ h now)))))
 
 pub chosen_depth : (c : Choice) (p : Tree) (ps : List Tree) → tree_depth (choice_of c (p ∷ ps)) ≡ 1 + max (tree_depth p) (greatest (map tree_depth ps))
-chosen_depth external p ps = depths.depth-External (p ∷ ps)
-chosen_depth internal p ps = depths.depth-Internal (p ∷ ps)
+chosen_depth external p ps = depths.of_tree _ (tree.rolls-External (p ∷ ps))
+chosen_depth internal p ps = depths.of_tree _ (tree.rolls-Internal (p ∷ ps))
 
 pub side_of_choices : {n d : ℕ} {k : Binding} {ts : List Token} {p : Tree} {us : List Token} {ps : List Tree} {r : List Token} (c : Choice) → tree_depth (choice_of c (p ∷ ps)) ≤ d →
     Bounded bound.Closed (λ L. L.sequence (limits n d) ts) p (choice_sign c ∷ us) →

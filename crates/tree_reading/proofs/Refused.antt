@@ -17,19 +17,13 @@ use Rattle.tree_reading.specs.Limited.{limited}
 use Rattle.tree_reading.specs.Nesting.{limits}
 use Rattle.tree_reading.specs.Settled.{Settles}
 use Rattle.tree_reading.proofs.Complete.{atom_read, closed_sequence_read, closed_side_read, first_fits, first_of_four, rest_fit, tree_read}
-use Rattle.tree_reading.proofs.Fitting.{about, left, less, parts, right, up}
+use Rattle.tree_reading.proofs.Fitting.{about, first_part, left, less, parts, right, second_part, up}
 use Rattle.tree_reading.proofs.Follow.{Stops}
 use Rattle.tree_reading.proofs.Gives.{Gives}
 use Rattle.tree_reading.proofs.NodeDepths as depths
 use Rattle.tree_reading.proofs.Parts.{one_of_two, side_of_choices}
 use Rattle.tree_reading.proofs.Settling.{bind, granted, later, not_there, now, one_answer, same}
 use Rattle.std.proofs.lemmas.Option.{none-some}
-
-max_left : (a b : ℕ) → a ≤ max a b
-max_left a b = grind (arith)
-
-max_right : (a b : ℕ) → b ≤ max a b
-max_right a b = grind (arith)
 
 left_over : (sign : Token) (r : List Token) → ◌≡◌ {A = List Token} (sign ∷ r) [] → ⊥
 left_over sign r e = cc
@@ -61,14 +55,14 @@ pub mixed : MixedChoiceHasNoTree
 mixed n a p t h =
     let one = plain_prefix a (tree.Name p) in
     let front = tree_depth (tree.External (one ∷ one ∷ [])) in
-    not_all (choice_read n (max (tree_depth t) front) one one (Symbol InternalChoice) (prefix_tokens a p []) (max_right (tree_depth t) front) prefixed prefixed refl refl refl)
-    (tree_read h (max (tree_depth t) front) (max_left (tree_depth t) front) refl)
+    not_all (choice_read n (max (tree_depth t) front) one one (Symbol InternalChoice) (prefix_tokens a p []) (second_part (tree_depth t) front) prefixed prefixed refl refl refl)
+    (tree_read h (max (tree_depth t) front) (first_part (tree_depth t) front) refl)
 
 pub hiding : HidingBesideChoiceHasNoTree
 hiding n a p q t h =
     let front = tree_depth (tree.External (tree.Name p ∷ tree.Name q ∷ [])) in
-    not_all (choice_read n (max (tree_depth t) front) (tree.Name p) (tree.Name q) (Symbol Backslash) (Name a ∷ []) (max_right (tree_depth t) front) named named refl refl refl)
-    (tree_read h (max (tree_depth t) front) (max_left (tree_depth t) front) refl)
+    not_all (choice_read n (max (tree_depth t) front) (tree.Name p) (tree.Name q) (Symbol Backslash) (Name a ∷ []) (second_part (tree_depth t) front) named named refl refl refl)
+    (tree_read h (max (tree_depth t) front) (first_part (tree_depth t) front) refl)
 
 side : {n : ℕ} {p : List ℕ} {r : List Token} → ClosedSideText n (Name p ∷ r) (tree.Name p) r
 side = g.closed-side-sequence named
@@ -76,7 +70,7 @@ side = g.closed-side-sequence named
 both_parallel : (n d : ℕ) (a b p q : List ℕ) (r : List Token) → tree_depth (tree.Parallel (tree.Name p) (tree.Name a) (tree.Name b) (tree.Name q)) ≤ d → Stops 7 r →
     Gives (λ L. L.tree (limits (suc n) d) (Name p ∷ alphabets_between a b (Name q ∷ r))) (tree.Parallel (tree.Name p) (tree.Name a) (tree.Name b) (tree.Name q), r)
 both_parallel n d a b p q r fits s =
-    let is = depths.depth-Parallel (tree.Name p) (tree.Name a) (tree.Name b) (tree.Name q) in
+    let is = depths.of_tree _ (tree.rolls-Parallel (tree.Name p) (tree.Name a) (tree.Name b) (tree.Name q)) in
     let within : max (max (tree_depth (tree.Name p)) (tree_depth (tree.Name a))) (max (tree_depth (tree.Name b)) (tree_depth (tree.Name q))) ≤ less d = parts d is fits in
     let before : max (tree_depth (tree.Name p)) (tree_depth (tree.Name a)) ≤ less d = left _ _ within in
     let after : max (tree_depth (tree.Name b)) (tree_depth (tree.Name q)) ≤ less d = right _ _ within in
@@ -90,7 +84,7 @@ both_parallel n d a b p q r fits s =
 no_bracket : (d : ℕ) (a b p : List ℕ) (r : List Token) (q : Tree) → tree_depth (tree.Parallel (tree.Name p) (tree.Name a) (tree.Name b) q) ≤ d →
     Settles (λ L. L.tree (limits 0 d) (Name p ∷ alphabets_between a b r)) None
 no_bracket d a b p r q fits =
-    let is = depths.depth-Parallel (tree.Name p) (tree.Name a) (tree.Name b) q in
+    let is = depths.of_tree _ (tree.rolls-Parallel (tree.Name p) (tree.Name a) (tree.Name b) q) in
     let within : max (max (tree_depth (tree.Name p)) (tree_depth (tree.Name a))) (max (tree_depth (tree.Name b)) (tree_depth q)) ≤ less d = parts d is fits in
     let before : max (tree_depth (tree.Name p)) (tree_depth (tree.Name a)) ≤ less d = left _ _ within in
     let front = closed_side_read side d (up d (left _ _ before)) refl in
@@ -100,12 +94,12 @@ no_bracket d a b p r q fits =
 pub parallels : ChainOfParallelsHasNoTree
 parallels zero a b p q s t h =
     let front = tree_depth (tree.Parallel (tree.Name p) (tree.Name a) (tree.Name b) (tree.Name q)) in
-    none_read (no_bracket (max (tree_depth t) front) a b p (Name q ∷ alphabets_between a b (Name s ∷ [])) (tree.Name q) (max_right (tree_depth t) front))
-    (tree_read h (max (tree_depth t) front) (max_left (tree_depth t) front) refl)
+    none_read (no_bracket (max (tree_depth t) front) a b p (Name q ∷ alphabets_between a b (Name s ∷ [])) (tree.Name q) (second_part (tree_depth t) front))
+    (tree_read h (max (tree_depth t) front) (first_part (tree_depth t) front) refl)
 parallels (suc n) a b p q s t h =
     let front = tree_depth (tree.Parallel (tree.Name p) (tree.Name a) (tree.Name b) (tree.Name q)) in
-    not_all (both_parallel n (max (tree_depth t) front) a b p q (alphabets_between a b (Name s ∷ [])) (max_right (tree_depth t) front) refl)
-    (tree_read h (max (tree_depth t) front) (max_left (tree_depth t) front) refl)
+    not_all (both_parallel n (max (tree_depth t) front) a b p q (alphabets_between a b (Name s ∷ [])) (second_part (tree_depth t) front) refl)
+    (tree_read h (max (tree_depth t) front) (first_part (tree_depth t) front) refl)
 
 -- texts in which nothing is read
 

@@ -68,13 +68,7 @@ declaration_read d.resource e = now
 
 declaration_begins : {ts : List Token} {x : Decl} {r : List Token} → DeclarationText ts x r → IsApart ts × ((t : Token) × (first_token ts ≡ Some t))
 declaration_begins (d.channel names) = (record { stops = refl; no_symbol = λ s. refl }, (_, refl))
-declaration_begins (d.channel-of names types) = (record { stops = refl; no_symbol = λ s. refl }, (_, refl))
-declaration_begins (d.datatype names) = (record { stops = refl; no_symbol = λ s. refl }, (_, refl))
-declaration_begins (d.nametype a h) = (record { stops = refl; no_symbol = λ s. refl }, (_, refl))
-declaration_begins (d.define parameters p h) = (record { stops = refl; no_symbol = λ s. refl }, (_, refl))
-declaration_begins (d.assertion asserted h model) = (record { stops = refl; no_symbol = λ s. refl }, (_, refl))
-declaration_begins d.roles = (record { stops = refl; no_symbol = λ s. refl }, (_, refl))
-declaration_begins d.resource = (record { stops = refl; no_symbol = λ s. refl }, (_, refl))
+declaration_begins _ = (record { stops = refl; no_symbol = λ s. refl }, (_, refl))
 
 declarations_begin : {ts : List Token} {ds : List Decl} → DeclarationsText ts ds → IsApart ts
 declarations_begin d.none = record { stops = refl; no_symbol = λ s. refl }

@@ -41,7 +41,6 @@ use Rattle.tree_reading.proofs.Looks.{IsOperator, IsSign}
 use Rattle.tree_reading.proofs.Meaning.{Sound, Expressions, ExpressionRead, ItemRead, ItemsRead, OperatorsRead, not_so_tight, loosen, of_atom}
 use Rattle.tree_reading.proofs.NodeDepths as depths
 use Rattle.csp_base.proofs.Booleans.{and_first, and_second}
-use Rattle.csp_text.proofs.DepthLemmas.{rename_depth}
 use Rattle.csp_base.specs.Lists.{greatest}
 use Rattle.csp_text.specs.Written.{set_op_word}
 
@@ -63,7 +62,7 @@ leaf x d e is deep = omega arith
 pub dotted_read : (n d e : ℕ) (c : List ℕ) (ts : List Token) (fields : List Tree) (r : List Token) → d ≡ suc e → DotsText n ts fields r → greatest (map tree_depth fields) ≤ e →
     Holds (λ t. DottedText n (Name c ∷ ts) t r × (tree_depth t ≤ d)) (dotted_tree c fields)
 dotted_read n d e c ts fields r deep g.dots-none fits = none
-dotted_read n d e c ts fields r deep (g.dots-more {a = a'} {fields = more} a ds) fits = some (g.dotted-fields a ds, node (depths.depth-Dot c (a' ∷ more)) deep fits)
+dotted_read n d e c ts fields r deep (g.dots-more {a = a'} {fields = more} a ds) fits = some (g.dotted-fields a ds, node (depths.of_tree _ (tree.rolls-Dot c (a' ∷ more))) deep fits)
 
 only_one : (items : List Tree) → Holds (λ a. items ≡ a ∷ []) (only items)
 only_one [] = none
@@ -89,13 +88,7 @@ joined {k = k} (look.compared table.greater-equal) h e q = loosen comparison (g.
 
 low : {t : Token} {op : BinOp} {m : Binding} → IsOperator t op m → number (tighter m) ≤ 18
 low (look.left table.or) = omega arith
-low (look.left table.and) = omega arith
-low (look.left table.plus) = omega arith
-low (look.left table.minus-sign) = omega arith
-low (look.left table.star) = omega arith
-low (look.left table.slash) = omega arith
-low (look.left table.percent) = omega arith
-low (look.compared c) = omega arith
+low _ = omega arith
 
 renamed : {n m : ℕ} {us : List Token} {t : Tree} {ts : List Token} {pairs : List (PartTree × PartTree)} {vs : List Token} {gs : List GenTree} {r : List Token} → n ≡ suc m →
     ExpressionText n renaming us t (Symbol symbol.OpenRename ∷ ts) → PairsText m ts pairs vs → ConditionsText m vs gs (Symbol symbol.CloseRename ∷ r) →
@@ -169,14 +162,14 @@ module _ (L : Limited) (S : Sound L) where
       (some (g.pairs-one c.0.1 c.0.2, alone (max (part_depth p.0.0) (part_depth p.0.1)) c.1))
 
   condition : (n d : ℕ) (ts : List Token) → Holds (λ p. GenText n ts p.0 p.1 × (gen_depth p.0 ≤ d)) (read_condition L (limits n d) ts)
-  condition n d ts = by_then _ (S.expression n d bound.Disjunction ts (omega arith)) λ p a. some (g.gen-condition (a.is disjunction a.above), as_deep (depths.depth-Cond p.1) a.fits)
+  condition n d ts = by_then _ (S.expression n d bound.Disjunction ts (omega arith)) λ p a. some (g.gen-condition (a.is disjunction a.above), as_deep (depths.of_generator _ (generator.rolls-Cond p.1)) a.fits)
 
   pub gen : (n d : ℕ) (ts : List Token) → Holds (λ p. GenText n ts p.0 p.1 × (gen_depth p.0 ≤ d)) (read_gen L (limits n d) ts)
   gen n d ts =
       by_case _ _ (look.names ts)
       (λ x f. by_case _ _ (look.skips symbol.LeftArrow x.1)
       (λ us e. by_then _ (S.atom n d us) λ p a.
-      some (subst (λ z. GenText n z (generator.From x.0 p.0) p.1) (sym (f ∙ ap (λ z. Name x.0 ∷ z) e)) (g.gen-from a.0), as_deep (depths.depth-From x.0 p.0) a.1))
+      some (subst (λ z. GenText n z (generator.From x.0 p.0) p.1) (sym (f ∙ ap (λ z. Name x.0 ∷ z) e)) (g.gen-from a.0), as_deep (depths.of_generator _ (generator.rolls-From x.0 p.0)) a.1))
       (condition n d ts))
       (condition n d ts)
 
@@ -198,7 +191,7 @@ module _ (L : Limited) (S : Sound L) where
   call : (m d e : ℕ) (x : List ℕ) (ts : List Token) → d ≡ suc e → Holds (λ p. AtomText (suc m) (Name x ∷ Symbol symbol.OpenParen ∷ ts) p.0 p.1 × (tree_depth p.0 ≤ d)) (read_call L (limits m e) x ts)
   call m d e x ts deep =
       by_then _ (S.items m e ts) λ p i. by_then _ (look.skips symbol.CloseParen p.2) λ us f.
-      some (g.atom-call (subst (λ z. ItemsText m ts p.1 z) f i.items), node (depths.depth-Call x p.1) deep i.fit)
+      some (g.atom-call (subst (λ z. ItemsText m ts p.1 z) f i.items), node (depths.of_tree _ (tree.rolls-Call x p.1)) deep i.fit)
 
   set_operator : (m d e : ℕ) (op : SetOp) (ts : List Token) → d ≡ suc e → Holds (λ p. AtomText (suc m) (set_op_word op ∷ ts) p.0 p.1 × (tree_depth p.0 ≤ d)) (read_set_operator L (limits m e) op ts)
   set_operator m d e op ts deep =
@@ -208,7 +201,7 @@ module _ (L : Limited) (S : Sound L) where
       some (
         subst (λ z. AtomText (suc m) (set_op_word op ∷ z) (tree.SetOp op p.1 q.1) ws) (sym o)
             (g.atom-set-operator (subst (λ z. ItemText m us p.1 z) f i.item) (subst (λ z. ItemText m vs q.1 z) h j.item)),
-        node (depths.depth-SetOp op p.1 q.1) deep (both i.fits j.fits),
+        node (depths.of_tree _ (tree.rolls-SetOp op p.1 q.1)) deep (both i.fits j.fits),
       )
 
   first_fits : (a e : ℕ) → max a 0 ≤ e → a ≤ e
@@ -223,32 +216,32 @@ module _ (L : Limited) (S : Sound L) where
       by_sure (at_least bound.Sum p.0) _ λ h. by_then _ (only_one p.1) λ a one. by_then _ (S.expression m e bound.Sum us (omega arith)) λ q b. by_then _ (look.skips symbol.CloseBrace q.2) λ vs f.
       some (
         g.atom-range (subst (λ z. ExpressionText m sum ts a z) is (i.single a one sum (is_le 15 (number p.0) h))) (subst (λ z. ExpressionText m sum us q.1 z) f (b.is sum b.above)),
-        node (depths.depth-Range a q.1) deep (both (one_fits p.1 a e one i.fit) b.fits),
+        node (depths.of_tree _ (tree.rolls-Range a q.1)) deep (both (one_fits p.1 a e one i.fit) b.fits),
       )
 
   comprehension : (m d e : ℕ) (ts : List Token) (items : List Tree) (us : List Token) → d ≡ suc e → ItemsText m ts items (Symbol symbol.Bar ∷ us) → greatest (map tree_depth items) ≤ e →
       Holds (λ q. AtomText (suc m) (Symbol symbol.OpenBrace ∷ ts) q.0 q.1 × (tree_depth q.0 ≤ d)) (read_comprehension L (limits m e) items us)
   comprehension m d e ts listed us deep i fit =
       by_then _ (S.gens m e us) λ q gs. by_then _ (look.skips symbol.CloseBrace q.1) λ vs f.
-      some (g.atom-comprehension i (subst (λ z. GensText m us q.0 z) f gs.0), node (depths.depth-Comp listed q.0) deep (both fit gs.1))
+      some (g.atom-comprehension i (subst (λ z. GensText m us q.0 z) f gs.0), node (depths.of_tree _ (tree.rolls-Comp listed q.0)) deep (both fit gs.1))
 
   filled : (m d e : ℕ) (ts : List Token) → d ≡ suc e → Holds (λ p. AtomText (suc m) (Symbol symbol.OpenBrace ∷ ts) p.0 p.1 × (tree_depth p.0 ≤ d)) (read_filled L (limits m e) ts)
   filled m d e ts deep =
       by_then _ (S.items m e ts) λ p i.
       by_case _ _ (look.skips symbol.DotDot p.2) (λ us f. range m d e ts p us deep i f)
       (by_case _ _ (look.skips symbol.Bar p.2) (λ us f. comprehension m d e ts p.1 us deep (subst (λ z. ItemsText m ts p.1 z) f i.items) i.fit)
-      (by_then _ (look.skips symbol.CloseBrace p.2) λ us f. some (g.atom-display (subst (λ z. ItemsText m ts p.1 z) f i.items), node (depths.depth-Display p.1) deep i.fit)))
+      (by_then _ (look.skips symbol.CloseBrace p.2) λ us f. some (g.atom-display (subst (λ z. ItemsText m ts p.1 z) f i.items), node (depths.of_tree _ (tree.rolls-Display p.1)) deep i.fit)))
 
   set : (m d e : ℕ) (ts : List Token) → d ≡ suc e → Holds (λ p. AtomText (suc m) (Symbol symbol.OpenBrace ∷ ts) p.0 p.1 × (tree_depth p.0 ≤ d)) (read_set L (limits m e) ts)
   set m d e ts deep =
       by_case _ _ (look.skips symbol.CloseBrace ts)
-      (λ us f. some (subst (λ z. AtomText (suc m) (Symbol symbol.OpenBrace ∷ z) (tree.Display []) us) (sym f) g.atom-empty, node (depths.depth-Display []) deep (nothing e)))
+      (λ us f. some (subst (λ z. AtomText (suc m) (Symbol symbol.OpenBrace ∷ z) (tree.Display []) us) (sym f) g.atom-empty, node (depths.of_tree _ (tree.rolls-Display [])) deep (nothing e)))
       (filled m d e ts deep)
 
   production : (m d e : ℕ) (ts : List Token) → d ≡ suc e → Holds (λ p. AtomText (suc m) (Symbol symbol.OpenProduct ∷ ts) p.0 p.1 × (tree_depth p.0 ≤ d)) (read_product L (limits m e) ts)
   production m d e ts deep =
       by_then _ (S.parts m e ts) λ p ps. by_then _ (conditions m e p.1) λ q cs. by_then _ (look.skips symbol.CloseProduct q.1) λ us f.
-      some (g.atom-production ps.0 (subst (λ z. ConditionsText m p.1 q.0 z) f cs.0), node (depths.depth-Product p.0 q.0) deep (both ps.1 cs.1))
+      some (g.atom-production ps.0 (subst (λ z. ConditionsText m p.1 q.0 z) f cs.0), node (depths.of_tree _ (tree.rolls-Product p.0 q.0)) deep (both ps.1 cs.1))
 
   parentheses : (m d : ℕ) (ts : List Token) → Holds (λ p. AtomText (suc m) (Symbol symbol.OpenParen ∷ ts) p.0 p.1 × (tree_depth p.0 ≤ d)) (read_parentheses L (limits m d) ts)
   parentheses m d ts = by_then _ (S.tree m d ts) λ p t. by_then _ (look.skips symbol.CloseParen p.1) λ us e. some (g.atom-parentheses (subst (λ z. TreeText m ts p.0 z) e t.0), t.1)
@@ -268,72 +261,26 @@ module _ (L : Limited) (S : Sound L) where
   begun_set_operator n d op us = by_bracketed n d _ λ m within. by_inside m d _ λ e deep. opened n d (set_op_word op ∷ us) (λ m e. read_set_operator L (limits m e) op us) (λ m e. set_operator m d e op us) m e within deep
 
   begun_word : (n d : ℕ) (w : words.Word) (us : List Token) → Holds (λ s. Begun n d (Word w ∷ us) (s, us)) (word_start w)
-  begun_word n d word.And us = none
-  begun_word n d word.Assert us = none
-  begun_word n d word.Channel us = none
-  begun_word n d word.Datatype us = none
   begun_word n d word.Diff us = some (begun_set_operator n d set_op.Diff us)
-  begun_word n d word.Else us = none
-  begun_word n d word.False us = some (begun_leaf n d _ us tree.False g.atom-falsehood depths.depth-False)
-  begun_word n d word.If us = none
+  begun_word n d word.False us = some (begun_leaf n d _ us tree.False g.atom-falsehood (depths.of_tree _ tree.rolls-False))
   begun_word n d word.Inter us = some (begun_set_operator n d set_op.Inter us)
-  begun_word n d word.Nametype us = none
-  begun_word n d word.Not us = none
-  begun_word n d word.Or us = none
-  begun_word n d word.Then us = none
-  begun_word n d word.True us = some (begun_leaf n d _ us tree.True g.atom-truth depths.depth-True)
+  begun_word n d word.True us = some (begun_leaf n d _ us tree.True g.atom-truth (depths.of_tree _ tree.rolls-True))
   begun_word n d word.Union us = some (begun_set_operator n d set_op.Union us)
-  begun_word n d word.Stop us = some (begun_leaf n d _ us tree.Stop g.atom-stop depths.depth-Stop)
-  begun_word n d word.Skip us = some (begun_leaf n d _ us tree.Skip g.atom-skip depths.depth-Skip)
+  begun_word n d word.Stop us = some (begun_leaf n d _ us tree.Stop g.atom-stop (depths.of_tree _ tree.rolls-Stop))
+  begun_word n d word.Skip us = some (begun_leaf n d _ us tree.Skip g.atom-skip (depths.of_tree _ tree.rolls-Skip))
+  begun_word n d _ us = none
 
   begun_symbol : (n d : ℕ) (s : symbols.Symbol) (us : List Token) → Holds (λ x. Begun n d (Symbol s ∷ us) (x, us)) (symbol_start s)
   begun_symbol n d symbol.OpenParen us = some (by_bracketed n d _ λ m within. mapped (λ p a. (subst (λ z. AtomText z (Symbol symbol.OpenParen ∷ us) p.0 p.1) (sym within) a.0, a.1)) (parentheses m d us))
   begun_symbol n d symbol.OpenBrace us = some (by_bracketed n d _ λ m within. by_inside m d _ λ e deep. opened n d (Symbol symbol.OpenBrace ∷ us) (λ m e. read_set L (limits m e) us) (λ m e. set m d e us) m e within deep)
   begun_symbol n d symbol.OpenProduct us = some (by_bracketed n d _ λ m within. by_inside m d _ λ e deep. opened n d (Symbol symbol.OpenProduct ∷ us) (λ m e. read_product L (limits m e) us) (λ m e. production m d e us) m e within deep)
-  begun_symbol n d symbol.Arrow us = none
-  begun_symbol n d symbol.ExternalChoice us = none
-  begun_symbol n d symbol.InternalChoice us = none
-  begun_symbol n d symbol.Parallel us = none
-  begun_symbol n d symbol.OpenRename us = none
-  begun_symbol n d symbol.CloseRename us = none
-  begun_symbol n d symbol.CloseProduct us = none
-  begun_symbol n d symbol.LeftArrow us = none
-  begun_symbol n d symbol.DotDot us = none
-  begun_symbol n d symbol.Dot us = none
-  begun_symbol n d symbol.Bang us = none
-  begun_symbol n d symbol.Question us = none
-  begun_symbol n d symbol.Colon us = none
-  begun_symbol n d symbol.At us = none
-  begun_symbol n d symbol.Defines us = none
-  begun_symbol n d symbol.Equal us = none
-  begun_symbol n d symbol.NotEqual us = none
-  begun_symbol n d symbol.Less us = none
-  begun_symbol n d symbol.LessEqual us = none
-  begun_symbol n d symbol.Greater us = none
-  begun_symbol n d symbol.GreaterEqual us = none
-  begun_symbol n d symbol.Plus us = none
-  begun_symbol n d symbol.Minus us = none
-  begun_symbol n d symbol.Star us = none
-  begun_symbol n d symbol.Slash us = none
-  begun_symbol n d symbol.Percent us = none
-  begun_symbol n d symbol.CloseParen us = none
-  begun_symbol n d symbol.CloseBrace us = none
-  begun_symbol n d symbol.OpenBracket us = none
-  begun_symbol n d symbol.CloseBracket us = none
-  begun_symbol n d symbol.Comma us = none
-  begun_symbol n d symbol.Ampersand us = none
-  begun_symbol n d symbol.Bar us = none
-  begun_symbol n d symbol.Backslash us = none
-  begun_symbol n d symbol.Semicolon us = none
+  begun_symbol n d _ us = none
 
   begun_other : (n d : ℕ) (ts : List Token) → Holds (Begun n d ts) (other_start ts)
-  begun_other n d [] = none
   begun_other n d (token.Word w ∷ us) = by_then _ (begun_word n d w us) λ s h. some h
   begun_other n d (token.Symbol s ∷ us) = by_then _ (begun_symbol n d s us) λ x h. some h
-  begun_other n d (token.Num k ∷ us) = some (begun_leaf n d _ us (tree.Num k) g.atom-number (depths.depth-Num k))
-  begun_other n d (token.Name _ ∷ us) = none
-  begun_other n d (token.Roles _ ∷ us) = none
-  begun_other n d (token.Resource _ ∷ us) = none
+  begun_other n d (token.Num k ∷ us) = some (begun_leaf n d _ us (tree.Num k) g.atom-number (depths.of_tree _ (tree.rolls-Num k)))
+  begun_other n d _ = none
 
   begun : (n d : ℕ) (ts : List Token) → Holds (Begun n d ts) (atom_start ts)
   begun n d ts =
@@ -341,7 +288,7 @@ module _ (L : Limited) (S : Sound L) where
       (λ x f. by_case _ _ (look.skips symbol.OpenParen x.1)
       (λ us e. some (subst (λ z. Begun n d z (start.Call x.0, us)) (sym (f ∙ ap (λ z. Name x.0 ∷ z) e))
       (by_bracketed n d _ λ m within. by_inside m d _ λ e deep. opened n d (Name x.0 ∷ Symbol symbol.OpenParen ∷ us) (λ m e. read_call L (limits m e) x.0 us) (λ m e. call m d e x.0 us) m e within deep)))
-      (some (subst (λ z. Begun n d z (start.Leaf (tree.Name x.0), x.1)) (sym f) (begun_leaf n d (Name x.0 ∷ x.1) x.1 (tree.Name x.0) g.atom-name (depths.depth-Name x.0)))))
+      (some (subst (λ z. Begun n d z (start.Leaf (tree.Name x.0), x.1)) (sym f) (begun_leaf n d (Name x.0 ∷ x.1) x.1 (tree.Name x.0) g.atom-name (depths.of_tree _ (tree.rolls-Name x.0))))))
       (begun_other n d ts)
 
   pub atom : (n d : ℕ) (ts : List Token) → Holds (λ p. AtomText n ts p.0 p.1 × (tree_depth p.0 ≤ d)) (read_atom L (limits n d) ts)
@@ -352,12 +299,12 @@ module _ (L : Limited) (S : Sound L) where
   complement : (n d : ℕ) (m : Binding) (us : List Token) → Holds (ExpressionRead n d m (Word word.Not ∷ us)) (read_complement L (limits n d) m us)
   complement n d m us =
       by_sure (at_least m bound.Complement) _ λ h. by_inside n d _ λ e deep. by_then _ (S.expression n e bound.Complement us (omega arith)) λ p a.
-      mapped (λ x f. f (Word word.Not ∷ us) (is_le (number m) 13 h) (loosen negation (g.expression-negated (a.is negation a.above))) (node (depths.depth-Not p.1) deep a.fits)) (S.operators n d m bound.Complement (tree.Not p.1) p.2)
+      mapped (λ x f. f (Word word.Not ∷ us) (is_le (number m) 13 h) (loosen negation (g.expression-negated (a.is negation a.above))) (node (depths.of_tree _ (tree.rolls-Not p.1)) deep a.fits)) (S.operators n d m bound.Complement (tree.Not p.1) p.2)
 
   negative : (n d : ℕ) (m : Binding) (us : List Token) → Holds (ExpressionRead n d m (Symbol symbol.Minus ∷ us)) (read_negative L (limits n d) m us)
   negative n d m us =
       by_sure (at_least m bound.Negative) _ λ h. by_inside n d _ λ e deep. by_then _ (S.expression n e bound.Negative us (omega arith)) λ p a.
-      mapped (λ x f. f (Symbol symbol.Minus ∷ us) (is_le (number m) 17 h) (loosen minus (g.expression-negative (a.is minus a.above))) (node (depths.depth-Neg p.1) deep a.fits)) (S.operators n d m bound.Negative (tree.Neg p.1) p.2)
+      mapped (λ x f. f (Symbol symbol.Minus ∷ us) (is_le (number m) 17 h) (loosen minus (g.expression-negative (a.is minus a.above))) (node (depths.of_tree _ (tree.rolls-Neg p.1)) deep a.fits)) (S.operators n d m bound.Negative (tree.Neg p.1) p.2)
 
   pub expression : (n d : ℕ) (m : Binding) (ts : List Token) → number m ≤ 18 → Holds (ExpressionRead n d m ts) (read_expression L (limits n d) m ts)
   expression n d m ts low =
@@ -369,14 +316,14 @@ module _ (L : Limited) (S : Sound L) where
       Holds (λ p. ((us : List Token) → ExpressionText n renaming us t (Symbol symbol.OpenRename ∷ ts) → ExpressionText n renaming us p.0 p.1) × (tree_depth p.0 ≤ d)) (read_renaming L (limits n e) t ts)
   rename n d e t ts deep fits =
       by_bracketed n e _ λ m within. by_then _ (S.pairs m e ts) λ p ps. by_then _ (conditions m e p.1) λ q cs. by_then _ (look.skips symbol.CloseRename q.1) λ vs f.
-      some ((λ us front. renamed within front ps.0 (subst (λ z. ConditionsText m p.1 q.0 z) f cs.0)), node (rename_depth t p.0 q.0) deep (both fits (both ps.1 cs.1)))
+      some ((λ us front. renamed within front ps.0 (subst (λ z. ConditionsText m p.1 q.0 z) f cs.0)), node (depths.of_tree _ (tree.rolls-Rename t p.0 q.0)) deep (both fits (both ps.1 cs.1)))
 
   -- the sign with what it takes to its right
   joins : (n d : ℕ) (k : Binding) (t : Tree) (first : Token) (s : Sign) (ts : List Token) → IsSign first s → nat_le (number (left_operand (sign_binding s))) (number k) ≡ true →
       Holds (WithRead n d k t (first ∷ ts) s) (read_with L (limits n d) t s ts)
   joins n d k t first s ts (look.operator {op = op} {m = m} is) h =
       by_around n d t _ λ e deep fits. by_then _ (S.expression n e (tighter m) ts (low is)) λ p q.
-      some (record { bound = refl; is = λ us ex. joined is h ex q; fits = node (depths.depth-Binary op t p.1) deep (both fits q.fits) })
+      some (record { bound = refl; is = λ us ex. joined is h ex q; fits = node (depths.of_tree _ (tree.rolls-Binary op t p.1)) deep (both fits q.fits) })
   joins n d k t first s ts look.pairs h =
       by_around n d t _ λ e deep fits. by_then _ (rename n d e t ts deep fits) λ p a.
       some (record { bound = refl; is = λ us ex. loosen renaming (a.0 us (ex renaming (is_le 18 (number k) h))); fits = a.1 })
@@ -398,11 +345,11 @@ module _ (L : Limited) (S : Sound L) where
       (λ vs ev. by_then _ (S.atom n d vs) λ p a.
       some (
         (λ fs r rest. subst (λ z. FieldsText n dot z (field.Input x.0 (Some p.0) ∷ fs) r) (sym (is ∙ ap (λ z. Symbol symbol.Question ∷ z) (ex ∙ ap (λ z. Name x.0 ∷ z) ev))) (g.fields-input-from a.0 rest)),
-        as_deep (depths.depth-input-from x.0 p.0) a.1,
+        as_deep (depths.of_field _ (field.rolls-Input x.0 (Some p.0))) a.1,
       ))
       (some (
         (λ fs r rest. subst (λ z. FieldsText n dot z (field.Input x.0 None ∷ fs) r) (sym (is ∙ ap (λ z. Symbol symbol.Question ∷ z) ex)) (g.fields-input rest)),
-        as_deep (depths.depth-input x.0) (nothing d),
+        as_deep (depths.of_field _ (field.rolls-Input x.0 None)) (nothing d),
       ))
 
   a_field : (n d : ℕ) (dot : Bool) (ts : List Token) → Holds (FieldRead n d dot ts) (read_field L (limits n d) dot ts)
@@ -411,11 +358,11 @@ module _ (L : Limited) (S : Sound L) where
       (λ us e. by_sure dot _ λ may. by_then _ (S.expression n d bound.Sum us (omega arith)) λ p a.
       some (
         (λ fs r rest. subst (λ z. FieldsText n z ts (field.Dot p.1 ∷ fs) r) (sym may) (subst (λ z. FieldsText n true z (field.Dot p.1 ∷ fs) r) (sym e) (g.fields-dot (a.is sum a.above) rest))),
-        as_deep (depths.depth-dot p.1) a.fits,
+        as_deep (depths.of_field _ (field.rolls-Dot p.1)) a.fits,
       ))
       (by_case _ _ (look.skips symbol.Bang ts)
       (λ us e. by_then _ (S.expression n d bound.Sum us (omega arith)) λ p a.
-      some ((λ fs r rest. subst (λ z. FieldsText n dot z (field.Output p.1 ∷ fs) r) (sym e) (g.fields-output (a.is sum a.above) rest)), as_deep (depths.depth-Output p.1) a.fits))
+      some ((λ fs r rest. subst (λ z. FieldsText n dot z (field.Output p.1 ∷ fs) r) (sym e) (g.fields-output (a.is sum a.above) rest)), as_deep (depths.of_field _ (field.rolls-Output p.1)) a.fits))
       (by_case _ _ (look.skips symbol.Question ts) (λ us e. by_then _ (input n d dot ts us e) λ p f. some f) (some tt)))
 
   with_field : (n d : ℕ) (dot : Bool) (ts : List Token) (o : Option (FieldTree × Bool × List Token)) → FieldRead n d dot ts o →

@@ -23,7 +23,7 @@ use Rattle.tree_reading.specs.declared.read.Binding.{Binding}
 use Rattle.tree_reading.specs.declared.read.Binding.TheVariants as bound
 use Rattle.tree_reading.proofs.Complete.{prefix_depth}
 use Rattle.tree_reading.proofs.DotFields as fields
-use Rattle.tree_reading.proofs.Fitting.{both, node}
+use Rattle.tree_reading.proofs.Fitting.{both, node, through}
 use Rattle.tree_reading.proofs.Holds.{Holds, by_then, by_case, by_sure, by_if, by_bracketed, by_inside, by_around, is_le, itself, mapped}
 use Rattle.tree_reading.proofs.Holds.Holds.{some}
 use Rattle.tree_reading.proofs.Looks as look
@@ -33,7 +33,7 @@ use Rattle.tree_reading.proofs.NodeDepths as depths
 use Rattle.tree_reading.proofs.Parts.{chosen_depth}
 use Rattle.tree_reading.proofs.SoundExpressions.{alone, dotted_read}
 use Rattle.tree_reading.proofs.Tests.{open_one, closed_two, one_or_two, not_zero, at_least_one, none_or_more}
-use Rattle.std.proofs.lemmas.Option.{none-some}
+use Rattle.std.proofs.lemmas.Option.{none-some, same_Some}
 use Rattle.csp_base.specs.Lists.{greatest}
 
 not_one : {A : Type 0} (k : ℕ) → 2 ≤ k → k ≡ 1 → A
@@ -148,14 +148,8 @@ each_of chain.External a t = g.open-external a t
 each_of chain.Internal a t = g.open-internal a t
 
 each_depth : (c : Chain) (x : List ℕ) (s p : Tree) → tree_depth (each_tree c x s p) ≡ 1 + max (tree_depth s) (tree_depth p)
-each_depth chain.External x s p = depths.depth-EachExternal x s p
-each_depth chain.Internal x s p = depths.depth-EachInternal x s p
-
-through : (a b e : ℕ) → a ≤ b → b ≤ e → a ≤ e
-through a b e h k = omega arith
-
-in_some : {A : Type 0} {x y : A} → ◌≡◌ {A = Option A} (Some x) (Some y) → x ≡ y
-in_some e = cc
+each_depth chain.External x s p = depths.of_tree _ (tree.rolls-EachExternal x s p)
+each_depth chain.Internal x s p = depths.of_tree _ (tree.rolls-EachInternal x s p)
 
 both_deep : (x a b c : ℕ) → x ≡ a → b ≤ c → max a b ≤ max x c
 both_deep x a b c e h = grind (arith)
@@ -166,7 +160,7 @@ of_first : {n : ℕ} {ts us : List Token} {r : List Token} {x deep : ℕ} (a : T
 of_first a None ds e f t is = absurd (none-some ds e)
 of_first {n} {ts} {us} {r} {x} {deep} a (Some es) ds e f t is =
     let rest = f es refl in
-    subst (λ z. DotsText n (Symbol symbol.Dot ∷ ts) z r × (greatest (map tree_depth z) ≤ max x deep)) (in_some e)
+    subst (λ z. DotsText n (Symbol symbol.Dot ∷ ts) z r × (greatest (map tree_depth z) ≤ max x deep)) (same_Some _ _ e)
     (g.dots-more t rest.0, both_deep x (tree_depth a) (greatest (map tree_depth es)) deep is rest.1)
 
 -- THE FIELDS OF A DOTTED EVENT
@@ -174,9 +168,9 @@ of_first {n} {ts} {us} {r} {x} {deep} a (Some es) ds e f t is =
 -- fields that all have a dot are the fields of a dotted event, as deep as they are
 dots_of : {n : ℕ} {dot : Bool} {ts : List Token} {fs : List FieldTree} {r : List Token} (ds : List Tree) → FieldsText n dot ts fs r → dot_fields fs ≡ Some ds →
     DotsText n ts ds r × (greatest (map tree_depth ds) ≤ greatest (map field_depth fs))
-dots_of {n = n} {ts = ts} ds g.fields-none e = subst (λ z. DotsText n ts z ts × (greatest (map tree_depth z) ≤ 0)) (in_some e) (g.dots-none, omega arith)
+dots_of {n = n} {ts = ts} ds g.fields-none e = subst (λ z. DotsText n ts z ts × (greatest (map tree_depth z) ≤ 0)) (same_Some _ _ e) (g.dots-none, omega arith)
 dots_of ds (g.fields-dot {a = a'} {fs = fs'} a fs) e =
-    of_first a' (dot_fields fs') ds (sym (fields.dots_more a' fs') ∙ e) (λ es f. dots_of es fs f) a (depths.depth-dot a')
+    of_first a' (dot_fields fs') ds (sym (fields.dots_more a' fs') ∙ e) (λ es f. dots_of es fs f) a (depths.of_field _ (field.rolls-Dot a'))
 dots_of ds (g.fields-output {a = a'} {fs = fs'} a fs) e = absurd (none-some ds (sym (fields.no_dots (field.Output a') fs' (fields.output_is a')) ∙ e))
 dots_of ds (g.fields-input {x = x} {fs = fs'} fs) e = absurd (none-some ds (sym (fields.no_dots (field.Input x None) fs' (fields.input_is x None)) ∙ e))
 dots_of ds (g.fields-input-from {x = x} {s = s'} {fs = fs'} a fs) e = absurd (none-some ds (sym (fields.no_dots (field.Input x (Some s')) fs' (fields.input_is x (Some s'))) ∙ e))
@@ -202,7 +196,7 @@ module _ (L : Limited) (S : Sound L) where
       Holds (PrefixRead n d (Word word.If ∷ ts)) (read_branches L (limits n e) c us)
   branches n d e ts c us deep front fits =
       by_then _ (S.tree n e us) λ p pt. by_then _ (look.skips_word word.Else p.1) λ vs f. by_then _ (S.tree n e vs) λ q qt.
-      some (is_open (g.open-if-then-else front (subst (λ z. TreeText n us p.0 z) f pt.0) qt.0) (node (depths.depth-If c p.0 q.0) deep (both fits (both pt.1 qt.1))))
+      some (is_open (g.open-if-then-else front (subst (λ z. TreeText n us p.0 z) f pt.0) qt.0) (node (depths.of_tree _ (tree.rolls-If c p.0 q.0)) deep (both fits (both pt.1 qt.1))))
 
   conditional : (n d : ℕ) (ts : List Token) → Holds (PrefixRead n d (Word word.If ∷ ts)) (read_if L (limits n d) ts)
   conditional n d ts =
@@ -226,13 +220,13 @@ module _ (L : Limited) (S : Sound L) where
       by_bracketed n e _ λ m en. by_then _ (S.atom m e ws) λ a at. by_then _ (look.skips symbol.CloseBracket a.1) λ zs ez. by_then _ (S.tree n e zs) λ p pt.
       some (subst (λ z. PrefixRead n d (Symbol symbol.Parallel ∷ z) (bound.Open, tree.EachParallel b.0 b.1 a.0 p.0, p.1)) (sym bt.split)
       (is_open (each_parallel_of en (subst (λ z. AtomText n bt.behind b.1 (Symbol symbol.At ∷ z)) ew bt.is) (subst (λ z. AtomText m ws a.0 z) ez at.0) pt.0)
-      (node (depths.depth-EachParallel b.0 b.1 a.0 p.0) deep (both bt.fits (both at.1 pt.1)))))
+      (node (depths.of_tree _ (tree.rolls-EachParallel b.0 b.1 a.0 p.0)) deep (both bt.fits (both at.1 pt.1)))))
 
   guarded : (n d e : ℕ) (ts : List Token) (c : Tree) (us : List Token) → d ≡ suc e → ExpressionText n disjunction ts c (Symbol symbol.Ampersand ∷ us) → tree_depth c ≤ e →
       Holds (PrefixRead n d ts) (read_guarded L (limits n e) c us)
   guarded n d e ts c us deep front fits =
       by_then _ (S.prefix n e us) λ q pr. by_sure (at_least bound.Open q.0) _ λ h.
-      some (prefixed q.0 h (λ z. g.open-prefix-guard front (pr.opened z)) (λ z. g.closed-prefix-guard front (pr.closed z)) (node (depths.depth-Guard c q.1) deep (both fits pr.fits)))
+      some (prefixed q.0 h (λ z. g.open-prefix-guard front (pr.opened z)) (λ z. g.closed-prefix-guard front (pr.closed z)) (node (depths.of_tree _ (tree.rolls-Guard c q.1)) deep (both fits pr.fits)))
 
   guard : (n d : ℕ) (ts : List Token) → Holds (PrefixRead n d ts) (read_guard L (limits n d) ts)
   guard n d ts =
@@ -255,7 +249,7 @@ module _ (L : Limited) (S : Sound L) where
       Holds (SequenceRead n d ts) (read_followed L (limits n e) t us)
   followed n d e ts t us deep front fits =
       by_then _ (S.sequence n e us) λ q sq. by_sure (at_least bound.Open q.0) _ λ h.
-      some (sequenced q.0 h (λ z. g.open-sequence-more front (sq.opened z)) (λ z. g.closed-sequence-more front (sq.closed z)) (node (depths.depth-Seq t q.1) deep (both fits sq.fits)))
+      some (sequenced q.0 h (λ z. g.open-sequence-more front (sq.opened z)) (λ z. g.closed-sequence-more front (sq.closed z)) (node (depths.of_tree _ (tree.rolls-Seq t q.1)) deep (both fits sq.fits)))
 
   pub sequence : (n d : ℕ) (ts : List Token) → Holds (SequenceRead n d ts) (read_sequence L (limits n d) ts)
   sequence n d ts =
@@ -292,7 +286,7 @@ module _ (L : Limited) (S : Sound L) where
   hiding : (n d : ℕ) (t : Tree) (us : List Token) →
       Holds (λ p. ((vs : List Token) → Hideable n vs t (Symbol symbol.Backslash ∷ us) → HidingText n vs p.0 p.1) × (tree_depth p.0 ≤ d)) (read_hiding L (limits n d) t us)
   hiding n d t us =
-      by_around n d t _ λ e deep fits. by_then _ (S.atom n e us) λ a at. some ((λ vs h. hide h at.0), node (depths.depth-Hide t a.0) deep (both fits at.1))
+      by_around n d t _ λ e deep fits. by_then _ (S.atom n e us) λ a at. some ((λ vs h. hide h at.0), node (depths.of_tree _ (tree.rolls-Hide t a.0)) deep (both fits at.1))
 
   pub hidings : (n d : ℕ) (t : Tree) (ts : List Token) → Holds (HidingsRead n d t ts) (read_hidings L (limits n d) t ts)
   hidings n d t ts =
@@ -332,7 +326,7 @@ module _ (L : Limited) (S : Sound L) where
       by_then _ (side n e ws) λ q sr. by_sure (at_least bound.Open q.0) _ λ h.
       some (
         paralleled en front (subst (λ z. AtomText m ts a.0 z) ev at.0) (subst (λ z. AtomText m vs b.0 z) f bt.0) (side_of q (is_le 1 (number q.0) h) sr),
-        node (depths.depth-Parallel t a.0 b.0 q.1) deep (both (both fits at.1) (both bt.1 sr.fits)),
+        node (depths.of_tree _ (tree.rolls-Parallel t a.0 b.0 q.1)) deep (both (both fits at.1) (both bt.1 sr.fits)),
       )
 
   pub a_tree : (n d : ℕ) (ts : List Token) → Holds (λ p. TreeText n ts p.0 p.1 × (tree_depth p.0 ≤ d)) (read_tree L (limits n d) ts)

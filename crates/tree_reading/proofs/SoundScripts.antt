@@ -161,28 +161,14 @@ module _ (L : Limited) (S : Sound L) where
   word_declaration word.Datatype ts = datatype ts
   word_declaration word.Nametype ts = nametype ts
   word_declaration word.Assert ts = assertion ts
-  word_declaration word.And ts = none
-  word_declaration word.Diff ts = none
-  word_declaration word.Else ts = none
-  word_declaration word.False ts = none
-  word_declaration word.If ts = none
-  word_declaration word.Inter ts = none
-  word_declaration word.Not ts = none
-  word_declaration word.Or ts = none
-  word_declaration word.Then ts = none
-  word_declaration word.True ts = none
-  word_declaration word.Union ts = none
-  word_declaration word.Stop ts = none
-  word_declaration word.Skip ts = none
+  word_declaration _ ts = none
 
   declaration : (ts : List Token) → Holds (λ p. DeclarationText ts p.0 p.1) (read_declaration L ts)
-  declaration [] = none
   declaration (token.Name f ∷ ts) = definition f ts
   declaration (token.Word w ∷ ts) = word_declaration w ts
   declaration (token.Roles names' ∷ ts) = some d.roles
   declaration (token.Resource names' ∷ ts) = some d.resource
-  declaration (token.Num _ ∷ ts) = none
-  declaration (token.Symbol _ ∷ ts) = none
+  declaration _ = none
 
   declarations : (ts : List Token) → Holds (λ ds. DeclarationsText ts ds) (read_declarations L ts)
   declarations [] = some d.none

@@ -15,55 +15,26 @@ use Rattle.csp_grammar.specs.Tokens.{begins, binding, skip, skip_word, behind_na
 
 left_no_event : {l : Level} {sign : Token} {op : BinOp} → IsLeftOperator l sign op → nat_eq (binding sign) 10 ≡ false
 left_no_event table.or = refl
-left_no_event table.and = refl
-left_no_event table.plus = refl
-left_no_event table.minus-sign = refl
-left_no_event table.star = refl
-left_no_event table.slash = refl
-left_no_event table.percent = refl
+left_no_event _ = refl
 
 comparison_no_event : {sign : Token} {op : BinOp} → IsComparison sign op → nat_eq (binding sign) 10 ≡ false
 comparison_no_event table.equal = refl
-comparison_no_event table.not-equal = refl
-comparison_no_event table.less = refl
-comparison_no_event table.less-equal = refl
-comparison_no_event table.greater = refl
-comparison_no_event table.greater-equal = refl
+comparison_no_event _ = refl
 
 left_no_arrow : {l : Level} {sign : Token} {op : BinOp} (us : List Token) → IsLeftOperator l sign op → skip symbol.LeftArrow (sign ∷ us) ≡ None
 left_no_arrow us table.or = refl
-left_no_arrow us table.and = refl
-left_no_arrow us table.plus = refl
-left_no_arrow us table.minus-sign = refl
-left_no_arrow us table.star = refl
-left_no_arrow us table.slash = refl
-left_no_arrow us table.percent = refl
+left_no_arrow us _ = refl
 
 comparison_no_arrow : {sign : Token} {op : BinOp} (us : List Token) → IsComparison sign op → skip symbol.LeftArrow (sign ∷ us) ≡ None
 comparison_no_arrow us table.equal = refl
-comparison_no_arrow us table.not-equal = refl
-comparison_no_arrow us table.less = refl
-comparison_no_arrow us table.less-equal = refl
-comparison_no_arrow us table.greater = refl
-comparison_no_arrow us table.greater-equal = refl
+comparison_no_arrow us _ = refl
 
 atom_no_event : {n : ℕ} {ts : List Token} {t : Tree} {r : List Token} → AtomText n ts t r → nat_eq (begins r) 10 ≡ false → begins_event ts ≡ false
-atom_no_event g.atom-stop h = refl
-atom_no_event g.atom-skip h = refl
-atom_no_event g.atom-truth h = refl
-atom_no_event g.atom-falsehood h = refl
-atom_no_event g.atom-number h = refl
 atom_no_event g.atom-name h = h
-atom_no_event (g.atom-call i) h = refl
-atom_no_event (g.atom-parentheses i) h = refl
-atom_no_event g.atom-empty h = refl
-atom_no_event (g.atom-display i) h = refl
-atom_no_event (g.atom-range i j) h = refl
-atom_no_event (g.atom-comprehension i j) h = refl
-atom_no_event (g.atom-production i j) h = refl
 atom_no_event (g.atom-set-operator {op = set_op.Union} i j) h = refl
 atom_no_event (g.atom-set-operator {op = set_op.Inter} i j) h = refl
 atom_no_event (g.atom-set-operator {op = set_op.Diff} i j) h = refl
+atom_no_event _ h = refl
 
 pub no_event : {n : ℕ} {l : Level} {ts : List Token} {t : Tree} {r : List Token} → ExpressionText n l ts t r → nat_eq (begins r) 10 ≡ false → begins_event ts ≡ false
 no_event (g.expression-tighter next e) h = no_event e h
@@ -75,22 +46,11 @@ no_event (g.expression-rename p pairs gens) h = no_event p refl
 no_event (g.expression-atom a) h = atom_no_event a h
 
 atom_no_arrow : {n : ℕ} {ts : List Token} {t : Tree} {r : List Token} → AtomText n ts t r → skip symbol.LeftArrow r ≡ None → skip symbol.LeftArrow (behind_name ts) ≡ None
-atom_no_arrow g.atom-stop h = refl
-atom_no_arrow g.atom-skip h = refl
-atom_no_arrow g.atom-truth h = refl
-atom_no_arrow g.atom-falsehood h = refl
-atom_no_arrow g.atom-number h = refl
 atom_no_arrow g.atom-name h = h
-atom_no_arrow (g.atom-call i) h = refl
-atom_no_arrow (g.atom-parentheses i) h = refl
-atom_no_arrow g.atom-empty h = refl
-atom_no_arrow (g.atom-display i) h = refl
-atom_no_arrow (g.atom-range i j) h = refl
-atom_no_arrow (g.atom-comprehension i j) h = refl
-atom_no_arrow (g.atom-production i j) h = refl
 atom_no_arrow (g.atom-set-operator {op = set_op.Union} i j) h = refl
 atom_no_arrow (g.atom-set-operator {op = set_op.Inter} i j) h = refl
 atom_no_arrow (g.atom-set-operator {op = set_op.Diff} i j) h = refl
+atom_no_arrow _ h = refl
 
 pub no_arrow : {n : ℕ} {l : Level} {ts : List Token} {t : Tree} {r : List Token} → ExpressionText n l ts t r → skip symbol.LeftArrow r ≡ None → skip symbol.LeftArrow (behind_name ts) ≡ None
 no_arrow (g.expression-tighter next e) h = no_arrow e h
@@ -115,40 +75,16 @@ pub record IsOperand (ts : List Token) : Type 0 where
   pub no_minus : skip symbol.Minus ts ≡ None
 
 atom_plain : {n : ℕ} {ts : List Token} {t : Tree} {r : List Token} → AtomText n ts t r → IsPlain ts
-atom_plain g.atom-stop = record { no_if = refl; no_external = refl; no_internal = refl; no_parallel = refl; no_brace = refl }
-atom_plain g.atom-skip = record { no_if = refl; no_external = refl; no_internal = refl; no_parallel = refl; no_brace = refl }
-atom_plain g.atom-truth = record { no_if = refl; no_external = refl; no_internal = refl; no_parallel = refl; no_brace = refl }
-atom_plain g.atom-falsehood = record { no_if = refl; no_external = refl; no_internal = refl; no_parallel = refl; no_brace = refl }
-atom_plain g.atom-number = record { no_if = refl; no_external = refl; no_internal = refl; no_parallel = refl; no_brace = refl }
-atom_plain g.atom-name = record { no_if = refl; no_external = refl; no_internal = refl; no_parallel = refl; no_brace = refl }
-atom_plain (g.atom-call i) = record { no_if = refl; no_external = refl; no_internal = refl; no_parallel = refl; no_brace = refl }
-atom_plain (g.atom-parentheses i) = record { no_if = refl; no_external = refl; no_internal = refl; no_parallel = refl; no_brace = refl }
-atom_plain g.atom-empty = record { no_if = refl; no_external = refl; no_internal = refl; no_parallel = refl; no_brace = refl }
-atom_plain (g.atom-display i) = record { no_if = refl; no_external = refl; no_internal = refl; no_parallel = refl; no_brace = refl }
-atom_plain (g.atom-range i j) = record { no_if = refl; no_external = refl; no_internal = refl; no_parallel = refl; no_brace = refl }
-atom_plain (g.atom-comprehension i j) = record { no_if = refl; no_external = refl; no_internal = refl; no_parallel = refl; no_brace = refl }
-atom_plain (g.atom-production i j) = record { no_if = refl; no_external = refl; no_internal = refl; no_parallel = refl; no_brace = refl }
 atom_plain (g.atom-set-operator {op = set_op.Union} i j) = record { no_if = refl; no_external = refl; no_internal = refl; no_parallel = refl; no_brace = refl }
 atom_plain (g.atom-set-operator {op = set_op.Inter} i j) = record { no_if = refl; no_external = refl; no_internal = refl; no_parallel = refl; no_brace = refl }
 atom_plain (g.atom-set-operator {op = set_op.Diff} i j) = record { no_if = refl; no_external = refl; no_internal = refl; no_parallel = refl; no_brace = refl }
+atom_plain _ = record { no_if = refl; no_external = refl; no_internal = refl; no_parallel = refl; no_brace = refl }
 
 pub atom_operand : {n : ℕ} {ts : List Token} {t : Tree} {r : List Token} → AtomText n ts t r → IsOperand ts
-atom_operand g.atom-stop = record { no_not = refl; no_minus = refl }
-atom_operand g.atom-skip = record { no_not = refl; no_minus = refl }
-atom_operand g.atom-truth = record { no_not = refl; no_minus = refl }
-atom_operand g.atom-falsehood = record { no_not = refl; no_minus = refl }
-atom_operand g.atom-number = record { no_not = refl; no_minus = refl }
-atom_operand g.atom-name = record { no_not = refl; no_minus = refl }
-atom_operand (g.atom-call i) = record { no_not = refl; no_minus = refl }
-atom_operand (g.atom-parentheses i) = record { no_not = refl; no_minus = refl }
-atom_operand g.atom-empty = record { no_not = refl; no_minus = refl }
-atom_operand (g.atom-display i) = record { no_not = refl; no_minus = refl }
-atom_operand (g.atom-range i j) = record { no_not = refl; no_minus = refl }
-atom_operand (g.atom-comprehension i j) = record { no_not = refl; no_minus = refl }
-atom_operand (g.atom-production i j) = record { no_not = refl; no_minus = refl }
 atom_operand (g.atom-set-operator {op = set_op.Union} i j) = record { no_not = refl; no_minus = refl }
 atom_operand (g.atom-set-operator {op = set_op.Inter} i j) = record { no_not = refl; no_minus = refl }
 atom_operand (g.atom-set-operator {op = set_op.Diff} i j) = record { no_not = refl; no_minus = refl }
+atom_operand _ = record { no_not = refl; no_minus = refl }
 
 pub plain : {n : ℕ} {l : Level} {ts : List Token} {t : Tree} {r : List Token} → ExpressionText n l ts t r → IsPlain ts
 plain (g.expression-tighter next e) = plain e

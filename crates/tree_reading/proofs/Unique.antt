@@ -5,22 +5,17 @@ use Rattle.csp_text.specs.declared.script.Decl.{Decl}
 use Rattle.csp_text.specs.declared.script.Script.{Script}
 use Rattle.tree_reading.specs.Laws.{EachTextHasOneTree, EachTextIsOneScript, ReaderIsComplete, ReaderGivesTrees, ReaderIsSound, ReadTreesAreTrees, SettledScriptIsOne, SettledNothingIsNone, ScriptsSettle}
 use Rattle.tree_reading.proofs.Complete.{tree_read}
+use Rattle.tree_reading.proofs.Fitting.{first_part, second_part}
 use Rattle.tree_reading.proofs.Follow.{below_stops}
 use Rattle.tree_reading.proofs.Scripts.{declarations_read}
 use Rattle.tree_reading.proofs.Settling.{one_answer, same}
 use Rattle.tree_reading.proofs.SoundScripts.{script_sound, tree_sound}
 use Rattle.std.proofs.lemmas.Option.{none-some}
 
-max_left : (a b : ℕ) → a ≤ max a b
-max_left a b = grind (arith)
-
-max_right : (a b : ℕ) → b ≤ max a b
-max_right a b = grind (arith)
-
 pub one_tree : EachTextHasOneTree
 one_tree n tokens t u p q =
-    ap (λ x. x.0) (same (tree_read p (max (tree_depth t) (tree_depth u)) (max_left (tree_depth t) (tree_depth u)) refl)
-    (tree_read q (max (tree_depth t) (tree_depth u)) (max_right (tree_depth t) (tree_depth u)) refl))
+    ap (λ x. x.0) (same (tree_read p (max (tree_depth t) (tree_depth u)) (first_part (tree_depth t) (tree_depth u)) refl)
+    (tree_read q (max (tree_depth t) (tree_depth u)) (second_part (tree_depth t) (tree_depth u)) refl))
 
 of_decls : List Decl → Script
 of_decls ds = record { decls = ds }
