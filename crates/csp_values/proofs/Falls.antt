@@ -9,7 +9,6 @@ use Rattle.csp_program.specs.declared.expressions.Expr.TheVariants as expr
 use Rattle.csp_program.specs.declared.expressions.Expr.TheViews.{out-EventPart}
 use Rattle.csp_program.specs.declared.expressions.Gen.{Gen}
 use Rattle.csp_program.specs.declared.expressions.Gen.TheVariants as generator
-use Rattle.csp_program.specs.declared.programs.Body.{Body}
 use Rattle.csp_program.specs.declared.programs.Body.TheVariants as body
 use Rattle.csp_program.specs.declared.programs.Content.{Content}
 use Rattle.csp_program.specs.declared.programs.Def.{Def}
@@ -60,12 +59,6 @@ weight_product e parts parts' gens gens' is got_parts got_gens =
 
 pub weight_part : (part : EventPart) (fields : List Expr) → fields ≡ (out-EventPart part).fields → part_weight part ≡ weights fields + 5
 weight_part part fields got = w.part_weight-is part ∙ ap (λ x. weights x + 5) (sym got)
-
-pub weight_datum : (b : Body) (e : Expr) → b ≡ body.Datum e → body_weight b ≡ weight e
-weight_datum b e is = ap body_weight is
-
-pub weight_nametype : (b : Body) (e : Expr) → b ≡ body.Nametype e → body_weight b ≡ weight e
-weight_nametype b e is = ap body_weight is
 
 pub use_falls : (p : Content) (n d : ℕ) (def : Def) → (n ≡ 0 → ⊥) → Some def ≡ slice_get p.defs d → cost p (n - 1) + body_weight def.body + 1 < cost p n
 use_falls p n d def some is = w.cost-less p n (body_weight def.body) (omega arith) (w.body_in p.defs d def (sym is))

@@ -3,6 +3,5 @@ pub mod Courses
 pub mod Equations
 pub mod Falls
 pub mod FieldSteps
-pub mod HalfLaws
 pub mod Steps
 pub mod Weights

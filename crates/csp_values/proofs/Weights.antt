@@ -18,11 +18,6 @@ use Rattle.csp_program.specs.declared.programs.Def.{Def}
 use Rattle.csp_base.specs.Lists.{total}
 
 abbrev of_expr : Expr-F ℕ ℕ ℕ → ℕ
-of_expr (Expr-F.Num n) = 1
-of_expr (Expr-F.Truth b) = 1
-of_expr (Expr-F.Const k) = 1
-of_expr (Expr-F.Bound x) = 1
-of_expr (Expr-F.Lit v) = 1
 of_expr (Expr-F.Neg a) = a + 2
 of_expr (Expr-F.Not a) = a + 2
 of_expr (Expr-F.Binary op a b) = a + b + 3
@@ -35,6 +30,7 @@ of_expr (Expr-F.Range a b) = a + b + 3
 of_expr (Expr-F.Comp items gens) = total items + total gens + 6
 of_expr (Expr-F.Product parts gens) = total parts + total gens + 7
 of_expr (Expr-F.SetOp op a b) = a + b + 3
+of_expr _ = 1
 
 abbrev of_gen : Gen-F ℕ ℕ ℕ → ℕ
 of_gen (Gen-F.From x s) = s + 5
@@ -158,9 +154,7 @@ part_weight_in (x ∷ ps) (suc i) p lt is = let below : part_weight p ≤ part_w
 abbrev pub body_weight : Body → ℕ
 body_weight (body.Datum e) = weight e
 body_weight (body.Nametype e) = weight e
-body_weight (body.Datatype ks) = 0
-body_weight (body.Process p) = 0
-body_weight (body.Network n) = 0
+body_weight _ = 0
 
 unfoldable pub bodies_weight : List Def → ℕ
 bodies_weight defs = total (map (λ def. body_weight def.body) defs)

@@ -46,9 +46,6 @@ take-front (x ∷ xs) ys = ap (λ zs. x ∷ zs) (take-front xs ys)
 pub restored : (new b1 b2 old more : List Name) (mark : ℕ) → mark ≡ length old → b1 ≡ old ++ more → b2 ≡ b1 → new ≡ take mark b2 → new ≡ old
 restored new b1 b2 old more mark mark_is bound kept left = left ∙ (λ i. take (mark_is i) ((kept ∙ bound) i)) ∙ take-front old more
 
-pub none_bound : (old more : List Name) → more ≡ [] → old ≡ old ++ more
-none_bound old more none = sym (append-nil old) ∙ ap (λ xs. old ++ xs) (sym none)
-
 pub map-take : {X Y : Type 0} (f : X → Y) (n : ℕ) (xs : List X) → map f (take n xs) ≡ take n (map f xs)
 map-take f zero xs = refl
 map-take f (suc n) [] = refl

@@ -52,13 +52,7 @@ unknown_is x sense.Unknown h = refl
 
 wrong_count_is : (x : Name) (s : Sense) (h : Use) → when (is_wrong_count s h) x ≡ wrong_count (uses x s h)
 wrong_count_is x s (how.Alone place) = refl
-wrong_count_is x s (how.Called n place) = refl
-wrong_count_is x s (how.Dotted n) = refl
-wrong_count_is x s (how.Heads n) = refl
-wrong_count_is x s (how.Begins n) = refl
-wrong_count_is x s (how.Renamed n new m) = refl
-wrong_count_is x s how.Annotated = refl
-wrong_count_is x s (how.Annotates process) = refl
+wrong_count_is x s _ = refl
 
 wrong_use_is : (kinds : List Kind) (x : Name) (s : Sense) (h : Use) → is_wrong_use kinds s h ≡ is_wrong_kind kinds (uses x s h)
 wrong_use_is kinds x s (how.Alone place) = clash_is kinds (class_of kinds s) place.need
@@ -73,13 +67,7 @@ wrong_use_is kinds x s (how.Annotates process) = ap (λ b. not (is_definition s)
 
 inside_is : (kinds : List Kind) (x : Name) (s : Sense) (h : Use) → is_use_inside kinds s h ≡ is_inside kinds (uses x s h)
 inside_is kinds x s (how.Alone place) = refl
-inside_is kinds x s (how.Called n place) = refl
-inside_is kinds x s (how.Dotted n) = refl
-inside_is kinds x s (how.Heads n) = refl
-inside_is kinds x s (how.Begins n) = refl
-inside_is kinds x s (how.Renamed n new m) = refl
-inside_is kinds x s how.Annotated = refl
-inside_is kinds x s (how.Annotates process) = refl
+inside_is kinds x s _ = refl
 
 module _ (m : Meanings) (kinds : List Kind) where
   -- a test of names that goes along the occurrences
@@ -100,48 +88,33 @@ module _ (m : Meanings) (kinds : List Kind) where
 
   unknown_step : (n : Notes) (o : Occurrence) → (heard m kinds n o).findings.unknown ≡ first_found n.findings.unknown (unknown_name o)
   unfolding again_heard use_heard form_heard parallel_heard
-  unknown_step n (declares x b) = none_more n.findings.unknown
-  unknown_step n (binds x b) = none_more n.findings.unknown
-  unknown_step n (notes x b) = none_more n.findings.unknown
   unknown_step n (uses x s h) = ap (first_found n.findings.unknown) (unknown_is x s h)
-  unknown_step n (form c place) = none_more n.findings.unknown
-  unknown_step n (parallel place) = none_more n.findings.unknown
+  unknown_step n _ = none_more n.findings.unknown
 
   twice_step : (n : Notes) (o : Occurrence) → (heard m kinds n o).findings.twice ≡ first_found n.findings.twice (repeated_name m o)
   unfolding again_heard use_heard form_heard parallel_heard
-  twice_step n (declares x b) = refl
-  twice_step n (binds x b) = refl
-  twice_step n (notes x b) = refl
   twice_step n (uses x s h) = none_more n.findings.twice
   twice_step n (form c place) = none_more n.findings.twice
   twice_step n (parallel place) = none_more n.findings.twice
+  twice_step n _ = refl
 
   wrong_kind_step : (n : Notes) (o : Occurrence) → (heard m kinds n o).findings.wrong_kind ≡ (n.findings.wrong_kind || is_wrong_kind kinds o)
   unfolding again_heard use_heard form_heard parallel_heard
-  wrong_kind_step n (declares x b) = or_none n.findings.wrong_kind
-  wrong_kind_step n (binds x b) = or_none n.findings.wrong_kind
-  wrong_kind_step n (notes x b) = or_none n.findings.wrong_kind
   wrong_kind_step n (uses x s h) = ap (λ b. n.findings.wrong_kind || b) (wrong_use_is kinds x s h)
   wrong_kind_step n (form c place) = ap (λ b. n.findings.wrong_kind || b) (clash_is kinds c place.need)
   wrong_kind_step n (parallel place) = ap (λ b. n.findings.wrong_kind || b) (clash_is kinds class.Process place.need)
+  wrong_kind_step n _ = or_none n.findings.wrong_kind
 
   wrong_count_step : (n : Notes) (o : Occurrence) → (heard m kinds n o).findings.wrong_count ≡ first_found n.findings.wrong_count (wrong_count o)
   unfolding again_heard use_heard form_heard parallel_heard
-  wrong_count_step n (declares x b) = none_more n.findings.wrong_count
-  wrong_count_step n (binds x b) = none_more n.findings.wrong_count
-  wrong_count_step n (notes x b) = none_more n.findings.wrong_count
   wrong_count_step n (uses x s h) = ap (first_found n.findings.wrong_count) (wrong_count_is x s h)
-  wrong_count_step n (form c place) = none_more n.findings.wrong_count
-  wrong_count_step n (parallel place) = none_more n.findings.wrong_count
+  wrong_count_step n _ = none_more n.findings.wrong_count
 
   inside_step : (n : Notes) (o : Occurrence) → (heard m kinds n o).findings.inside ≡ (n.findings.inside || is_inside kinds o)
   unfolding again_heard use_heard form_heard parallel_heard
-  inside_step n (declares x b) = or_none n.findings.inside
-  inside_step n (binds x b) = or_none n.findings.inside
-  inside_step n (notes x b) = or_none n.findings.inside
   inside_step n (uses x s h) = ap (λ b. n.findings.inside || b) (inside_is kinds x s h)
-  inside_step n (form c place) = or_none n.findings.inside
   inside_step n (parallel place) = refl
+  inside_step n _ = or_none n.findings.inside
 
   level_step : (n : Notes) (o : Occurrence) → (heard m kinds n o).body.level ≡ max n.body.level (level_of o)
   unfolding again_heard use_heard form_heard parallel_heard

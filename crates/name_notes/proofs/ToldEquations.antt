@@ -1,4 +1,6 @@
--- What is noted after each form of tree, step by step.
+-- What is noted after each form of tree, step by step: the notes after the parts of the form, in the order in which the walk hears of them. Each equation rolls
+-- the form up, and cuts what it says into what its parts say (`heard_all-append`), with the names under its generators or fields where it has such. A tree
+-- of a new form gets an equation here and a place in `told_forms`.
 use Rattle.std.proofs.Common.{◌≡◌, ℕ, false, ◌||◌, Some, None, List, [], ◌∷◌, ◌++◌, length, map, refl, ap, sym, ◌∙◌, append_assoc}
 use Rattle.std.specs.List.{flat_map}
 use Rattle.csp_base.specs.declared.operators.BinOp.{BinOp}

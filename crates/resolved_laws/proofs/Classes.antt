@@ -107,10 +107,7 @@ module _ (script : List Decl) (ks : List Kind) where
       (known ks (meanings_of script) (made (meanings_of script) ks t) (body_place (slice_get ks (next_definition earlier))) params w.2, tt)
   decl_known earlier (decl.Nametype x t) rest h = ((tt, tt), tt)
   decl_known earlier (decl.Datatype x cs) rest h = ((tt, tt), tt)
-  decl_known earlier (decl.Channel xs types) rest h = tt
-  decl_known earlier (decl.Assert t) rest h = tt
-  decl_known earlier (decl.Roles names) rest h = tt
-  decl_known earlier (decl.Resource names) rest h = tt
+  decl_known earlier _ rest h = tt
 
   pub script_known : (earlier rest : List Decl) → first_fault script ks earlier rest ≡ None → EachKnown (flat_map (body_ends (meanings_of script)) rest)
   script_known earlier [] h = tt

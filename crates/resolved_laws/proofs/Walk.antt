@@ -120,11 +120,7 @@ module _ (script : List Decl) (ks : List Kind) (p : Content) (fits : AllFit p ks
       same_types xs types (types_order types 0 (fine_right ks (declared_after (names_declared earlier) xs) (types_say m ks types)
       (first_faultless script ks earlier (decl.Channel xs types) rest h).fine))
   channel_order earlier (decl.Define x params t) rest h = refl
-  channel_order earlier (decl.Nametype x t) rest h = refl
-  channel_order earlier (decl.Datatype x cs) rest h = refl
-  channel_order earlier (decl.Assert t) rest h = refl
-  channel_order earlier (decl.Roles names) rest h = refl
-  channel_order earlier (decl.Resource names) rest h = refl
+  channel_order earlier _ rest h = refl
 
   pub channels_order : (earlier rest : List Decl) → first_fault script ks earlier rest ≡ None
       → IsTrue (all_true (map have_order (flat_map (channels_of m ks) rest)))
@@ -196,11 +192,7 @@ module _ (script : List Decl) (ks : List Kind) (p : Content) (fits : AllFit p ks
       (and (set_order names.process names.sreq w.1.0 w.1.1.1.1.0)
       (set_order names.process names.sack w.1.0 w.1.1.1.1.1.0))))) refl
   role_order earlier (decl.Channel xs types) rest h = refl
-  role_order earlier (decl.Define x params t) rest h = refl
-  role_order earlier (decl.Nametype x t) rest h = refl
-  role_order earlier (decl.Datatype x cs) rest h = refl
-  role_order earlier (decl.Assert t) rest h = refl
-  role_order earlier (decl.Resource names) rest h = refl
+  role_order earlier _ rest h = refl
 
   pub roles_order : (earlier rest : List Decl) → first_fault script ks earlier rest ≡ None → IsTrue
       (all_true (map (roles_in_order p) (flat_map (roles_of m ks) rest)))
@@ -216,11 +208,7 @@ module _ (script : List Decl) (ks : List Kind) (p : Content) (fits : AllFit p ks
       and (and (note_entity p ks names.process (m names.process) (fits.fit names.process) w.1.0)
       (and (set_order names.process names.acquire w.1.0 w.1.1.0) (set_order names.process names.release w.1.0 w.1.1.1.0))) refl
   resource_order earlier (decl.Channel xs types) rest h = refl
-  resource_order earlier (decl.Define x params t) rest h = refl
-  resource_order earlier (decl.Nametype x t) rest h = refl
-  resource_order earlier (decl.Datatype x cs) rest h = refl
-  resource_order earlier (decl.Assert t) rest h = refl
-  resource_order earlier (decl.Roles names) rest h = refl
+  resource_order earlier _ rest h = refl
 
   pub resources_order : (earlier rest : List Decl) → first_fault script ks earlier rest ≡ None
       → IsTrue (all_true (map (resource_in_order p) (flat_map (resources_of m ks) rest)))

@@ -75,17 +75,12 @@ module _ (x : ℕ) (v : Value) where
   name_free false y = refl
 
   form_loses : (d : Expr-F Expr Gen EventPart) → ExprHas LosesExpr LosesGen LosesPart d → form_free (expr_form x v false d) ≡ apart_from x (form_free d)
-  form_loses (Expr-F.Num n) h = nowhere_lost x
-  form_loses (Expr-F.Truth b) h = nowhere_lost x
-  form_loses (Expr-F.Const k) h = nowhere_lost x
   form_loses (Expr-F.Bound y) h = name_free (nat_eq y x) y ∙ name_lost x y
-  form_loses (Expr-F.Lit w) h = nowhere_lost x
   form_loses (Expr-F.Neg a) h = h
   form_loses (Expr-F.Not a) h = h
   form_loses (Expr-F.Binary o a b) h = (λ i. either (h.0 i) (h.1 i)) ∙ either_lost x (expr_free a) (expr_free b)
   form_loses (Expr-F.If c a b) h = (λ i. either (h.0 i) (either (h.1 i) (h.2 i))) ∙ three_lost x (expr_free c) (expr_free a) (expr_free b)
   form_loses (Expr-F.Call d args) h = all_lose x expr_free (expr_after x v) false args h
-  form_loses (Expr-F.SetName d) h = nowhere_lost x
   form_loses (Expr-F.Event c fields) h = all_lose x expr_free (expr_after x v) false fields h
   form_loses (Expr-F.Display items) h = all_lose x expr_free (expr_after x v) false items h
   form_loses (Expr-F.Range a b) h = (λ i. either (h.0 i) (h.1 i)) ∙ either_lost x (expr_free a) (expr_free b)
@@ -96,6 +91,7 @@ module _ (x : ℕ) (v : Value) where
       let bound = any_binds x gens in
       gens_lose gens (any_of (map part_free (all_after (part_after x v) bound parts))) (any_of (map part_free parts)) h.1 (all_lose x part_free (part_after x v) bound parts h.0)
   form_loses (Expr-F.SetOp o a b) h = (λ i. either (h.0 i) (h.1 i)) ∙ either_lost x (expr_free a) (expr_free b)
+  form_loses _ h = nowhere_lost x
 
   expr_step : (d : Expr-F Expr Gen EventPart) → ExprHas LosesExpr LosesGen LosesPart d → LosesExpr (roll-Expr d)
   expr_step d h = ap expr_free (expr_is x v d) ∙ (expr_rolls (expr_form x v false d) ∙ (form_loses d h ∙ ap (apart_from x) (sym (expr_rolls d))))

@@ -78,7 +78,6 @@ module _ (x : ℕ) (v : Value) where
       bound_lost x y (expr_free s) (proc_free (proc_below x v (nat_eq y x) p)) (proc_free p) (below (nat_eq y x) p h)
 
   form_loses : (d : Proc-F Proc) → ProcHas LosesProc d → form_free (proc_form x v d) ≡ apart_from x (form_free d)
-  form_loses Proc-F.Stop h = nowhere_lost x
   form_loses (Proc-F.Prefix k fields p) h =
       let after = proc_free (proc_below x v (any_gets x fields) p) in
       (λ i. either (head_loses k i) (fields_lose fields after (proc_free p) (below (any_gets x fields) p h) i)) ∙
@@ -96,9 +95,8 @@ module _ (x : ℕ) (v : Value) where
       (λ i. either (h i) (gens_lose x v gens (any_of (map pair_free (pairs_after x v bound pairs))) (any_of (map pair_free pairs)) (every (LosesGen x v) (gen_loses x v) gens) inner i)) ∙
       either_lost x (proc_free p) (under (map gen_binding gens) (any_of (map pair_free pairs)))
   form_loses (Proc-F.Call d args) h = exprs_lose args
-  form_loses Proc-F.Skip h = nowhere_lost x
   form_loses (Proc-F.Seq p q) h = (λ i. either (h.0 i) (h.1 i)) ∙ either_lost x (proc_free p) (proc_free q)
-  form_loses Proc-F.Ended h = nowhere_lost x
+  form_loses _ h = nowhere_lost x
 
   pub proc_loses : (p : Proc) → LosesProc p
   proc_loses = each_proc LosesProc

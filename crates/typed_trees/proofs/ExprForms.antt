@@ -14,9 +14,9 @@ use Rattle.csp_program.specs.declared.expressions.Expr.TheViews.{roll-EventPart}
 use Rattle.csp_program.specs.declared.expressions.Gen.TheVariants as generator
 use Rattle.script_names.specs.declared.kinds.Kind.{Kind}
 use Rattle.script_names.specs.Names.{Name, Entities, first_of}
-use Rattle.script_names.specs.Typed.{Scope, bindings, exprs, under, with, named, number_of, all_bind, bindings_bind, parts_bind, channel_number, definition_number}
+use Rattle.script_names.specs.Typed.{Scope, bindings, exprs, under, with, named, number_of, all_bind, parts_bind, channel_number, definition_number}
 use Rattle.script_names.specs.Typed as typed
-use Rattle.typed_trees.specs.Tokens.{tokens, all_tokens, gens_tokens, parts_tokens}
+use Rattle.typed_trees.specs.Tokens.{tokens, all_tokens, parts_tokens}
 use Rattle.typed_trees.specs.Words.{tree_read, gen_read, part_read, expr_of, exprs_of, gen_of, gen_scope, gens_of, gens_scope, part_of, parts_of}
 use Rattle.typed_trees.proofs.TokenForms.{tokens-Num, tokens-True, tokens-False, tokens-Name, tokens-Call, tokens-Dot, tokens-Neg, tokens-Not, tokens-Binary, tokens-Display, tokens-Range, tokens-SetOp}
 use Rattle.typed_trees.proofs.Rolls.{tree_rolls, gen_rolls, part_rolls}
@@ -26,10 +26,6 @@ module _ (es : Entities) (ks : List Kind) where
   pub trees_bind : (ts : List Tree) → all_bind (map (tree_read es ks) ts) ≡ all_tokens ts
   trees_bind [] = refl
   trees_bind (t ∷ ts) = λ i. same_tree es ks t i + trees_bind ts i
-
-  pub gens_bind : (gs : List GenTree) → bindings_bind (map (gen_read es ks) gs) ≡ gens_tokens gs
-  gens_bind [] = refl
-  gens_bind (g ∷ gs) = λ i. same_gen es ks g i + gens_bind gs i
 
   pub fronts_bind : (ps : List PartTree) → parts_bind (map (part_read es ks) ps) ≡ parts_tokens ps
   fronts_bind [] = refl

@@ -80,10 +80,6 @@ module _ (es : Entities) (ks : List Kind) where
       ≡ tokens_of_layer (map-Tree FieldTree GenTree Tree EventTree PartTree ℕ ℕ ℕ ℕ ℕ field_tokens gen_tokens tokens event_tokens part_tokens d)
 
   layer : (y : Tree-F KnownField KnownGen KnownTree KnownEvent KnownPart) → Layers (bare y)
-  layer (Tree-F.Num k) = refl
-  layer Tree-F.True = refl
-  layer Tree-F.False = refl
-  layer (Tree-F.Name x) = refl
   layer (Tree-F.Call f args) = λ i. trees_same args i
   layer (Tree-F.«Tree::Dot» c fields) = λ i. trees_same fields i
   layer (Tree-F.Neg a) = λ i. a.1 i
@@ -95,8 +91,6 @@ module _ (es : Entities) (ks : List Kind) where
   layer (Tree-F.Comp items gens) = λ i. trees_same items i + gens_same gens i
   layer (Tree-F.Product fronts gens) = λ i. parts_same fronts i + gens_same gens i
   layer (Tree-F.SetOp op a b) = λ i. a.1 i + b.1 i
-  layer Tree-F.Stop = refl
-  layer Tree-F.Skip = refl
   layer (Tree-F.Prefix event p) = λ i. event.1 i + p.1 i
   layer (Tree-F.Guard c p) = λ i. c.1 i + p.1 i
   layer (Tree-F.External ps) = λ i. trees_same ps i
@@ -108,6 +102,7 @@ module _ (es : Entities) (ks : List Kind) where
   layer (Tree-F.Seq p q) = λ i. p.1 i + q.1 i
   layer (Tree-F.Hide p s) = λ i. p.1 i + s.1 i
   layer (Tree-F.Rename p fronts gens) = λ i. p.1 i + pairs_same fronts i + gens_same gens i
+  layer _ = refl
 
   tree_step : (z : Tree-F FieldTree GenTree Tree EventTree PartTree) (y : Tree-F KnownField KnownGen KnownTree KnownEvent KnownPart) → bare y ≡ z
       → SameTree (roll-Tree z)

@@ -42,9 +42,7 @@ module _ (p : Content) where
       → ((e : Expr) → IsTrue (expr_in_order p e) → ((j : ℕ) → IsTrue (expr_uses e j) → IsTrue (body_uses b j)) → within e) → IsTrue (body_in_order p params b) → BodyNests within b
   body_nests within params (body.Datum e) h o = h e o (λ j t. t)
   body_nests within params (body.Nametype e) h o = h e (is_second (nat_eq (length params) 0) (expr_in_order p e) o) (λ j t. t)
-  body_nests within params (body.Datatype ks) h o = tt
-  body_nests within params (body.Process q) h o = tt
-  body_nests within params (body.Network n) h o = tt
+  body_nests within params _ h o = tt
 
   -- definitions that lead here, each of which comes once
   pub record Way (seen : List ℕ) (e : Expr) : Type 0 where

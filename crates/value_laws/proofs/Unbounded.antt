@@ -23,9 +23,7 @@ module _ (p : Content) (f g : Expr → Meaning) (within : Expr → Type 0) (agre
   bodies_agree : (params : List ℕ) (b : Body) → IsTrue (body_in_order p params b) → BodyNests within b → body_value f params b ≡ body_value g params b
   bodies_agree params (body.Datum e) o h = λ i args. agree e o h i (bound_to params args)
   bodies_agree params (body.Nametype e) o h = λ i args. agree e (is_second (nat_eq (length params) 0) (expr_in_order p e) o) h i []
-  bodies_agree params (body.Datatype ks) o h = refl
-  bodies_agree params (body.Process q) o h = refl
-  bodies_agree params (body.Network n) o h = refl
+  bodies_agree params _ o h = refl
 
   pub defs_agree : (def : Option Def) → ((d : Def) → def ≡ Some d → IsTrue (def_in_order p d)) → DefNests within def → def_value f def ≡ def_value g def
   defs_agree None o h = refl

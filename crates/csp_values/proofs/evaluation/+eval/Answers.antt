@@ -1,3 +1,7 @@
+-- Evaluation finds what an expression is worth. Each function has its answers together, one for each way out: `Arms` says what a form is worth whose parts
+-- are worth what the calls gave, `Falls` that each call is for less, and the other files what a loop has come to after one step more. An expression of
+-- a new form gets an equation in `Equations` and in `Weights`, a lemma in `Arms` and in `Falls`, and two answers at `eval_expr`: that its call is for less,
+-- and that what the call gives is its worth.
 use Rattle.std.specs.Prelude.{slice_get}
 use Rattle.std.proofs.lemmas.Option.{slice_get_read}
 use Rattle.std.proofs.Common.{◌≡◌, ◌+◌, length, Some, Ok, Err, ap, refl, sym, ◌∙◌, arith, to_z, of_z, w64, drop_of_length-le}
