@@ -63,7 +63,6 @@ decided_inside (Check rule) s a judged =
     judged_cases s rule IsInside refused_inside (λ why four. let no : 1 ≡ 4 = four in cc) (λ b free four. clash b _ free.free.is four (λ e. cc)) a judged
 decided_inside Show s a is = λ four. clash a _ is four (λ e. cc)
 decided_inside (Table i) s a tabulated = tabulated_cases s i IsInside refused_inside (λ b whole four. clash b _ whole.is four (λ e. cc)) a tabulated
-
 decided_inside (Run seed steps) s a walked = walked_cases s seed steps IsInside refused_inside (λ b whole four. clash b _ whole.tells.is four (run_inside whole.tells.is_stuck _)) a walked
 decided_inside (Livelock set) s a bounded =
     bounded_cases s set IsInside refused_inside (λ why four. let no : 1 ≡ 4 = four in cc) (λ b whole four. clash b _ whole.is four (λ e. cc)) a bounded

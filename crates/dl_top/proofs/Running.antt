@@ -73,7 +73,7 @@ is_run network seed steps moves b nested walk =
     record {
       walk = walk;
       path = path;
-      count = elim walk.count [ | inl as_many ↦ inl as_many | inr fewer ↦ inr (fewer.0, none.0 fewer.1) ];
+      count = elim walk.count [ inl as_many ↦ inl as_many | inr fewer ↦ inr (fewer.0, none.0 fewer.1) ];
       stuck = (λ h. none.0 (walk.stuck.0 h), λ h. walk.stuck.1 (none.1 h));
       dead = λ h bound. stuck_walks_refute_live Step seed steps bound network.tree moves nested (subst (λ (x : Bool). IsNetworkWalk network seed steps moves x) h walk);
     }

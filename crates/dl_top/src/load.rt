@@ -42,12 +42,7 @@ fn unloaded(side: Side, fault: LoadFault) -> Result<Reply, NoMemory>
 }
 
 // The reply that the text of a script calls for.
-fn replied(
-    alloc: Global,
-    trial: Option<Trial>,
-    job: &Job,
-    text: &[u8],
-) -> Result<Reply, NoMemory>
+fn replied(alloc: Global, trial: Option<Trial>, job: &Job, text: &[u8]) -> Result<Reply, NoMemory>
     ensures { IfOk result (λ reply. (reply.trial ≡ trial) × TextCallsFor text.now job.now reply.answer) }
 {
     match judge(alloc, job, text) {
