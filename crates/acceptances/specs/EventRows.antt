@@ -2,7 +2,7 @@
 use Rattle.std.specs.Prelude.{◌≡◌, ◌⊎◌, ℕ, ◌<◌, ◌%◌, List, [], length, slice_index_or, IsTrue}
 use Rattle.csp_base.specs.Members.{has}
 
--- among so many rows it is the row of an event of the set, or row 0 where the set is empty
+-- among so many rows it is the row of an event of the set, or the first row where the set is empty
 abbrev pub IsRowFor : ℕ → List ℕ → ℕ → Type 0
 IsRowFor count set row = ((set ≡ []) × (row ≡ 0)) ⊎ ((e : ℕ) × IsTrue (has set e) × (row ≡ e % count))
 

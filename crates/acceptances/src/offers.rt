@@ -70,22 +70,6 @@ impl<'a> Offers<'a> {
     }
 }
 
-/// Of the sets of events that the stable ones among the terms offer, those that contain no smaller one, in the order of
-/// lists.
-pub fn minimal(alloc: Global, table: &RawTable, terms: &[u32]) -> Result<Vec<EventSet>, NoMemory>
-    requires { All (λ n. n < table.now.count) terms.now }
-    ensures sound { IfOk result (λ sets. All (IsMinimalOffer table.now terms.now) sets.items) }
-    ensures complete { IfOk result (λ sets. (M : List ℕ) → IsMinimalOffer table.now terms.now M → IsListed sets.items M) }
-
-    // Each stable term among them offers every event of one of the sets.
-    ensures covered { IfOk result (λ sets. (n : ℕ) → IsTrue (has terms.now n) → Stable (RawStep table.now) n → OffersAcceptance (RawStep table.now) n sets.items) }
-    ensures rising { IfOk result (λ sets. All IsStrictlyIncreasing sets.items) }
-    ensures order { IfOk result (λ sets. IsStrictlySortedBy (slice_cmp nat_cmp) sets.items) }
-{
-    let offers = Offers::new(alloc, table)?;
-    offers.minimal(alloc, terms)
-}
-
 // A mark at each term that has a silent step.
 fn unstable_marks(alloc: Global, table: &RawTable) -> Result<Vec<bool>, NoMemory>
     ensures { IfOk result (λ marks. AreMarks table.now marks.items) }

@@ -9,7 +9,7 @@ use containers::Items;
 use csp_base::{Event, EventSet, NoMemory};
 use std::alloc::Global;
 
-// The places of the sets in rows. A set stands in the row of one of its events, the empty one in row 0.
+// The places of the sets in rows. A set stands in the row of one of its events, the empty one in the first row.
 pub(crate) fn event_rows(alloc: Global, sets: &[EventSet]) -> Result<Vec<Items<usize>>, NoMemory>
     ensures { IfOk result (λ rows. AreEventRows sets.now rows.items) }
 {

@@ -1,11 +1,11 @@
 -- No words ask for two things: the first word tells which request it is, and the others what it is for.
-use Rattle.std.proofs.Common.{◌≡◌, ℕ, ◌<◌, ◌≤◌, List, [], ◌∷◌, get_or, sym, ap, ◌∙◌, arith}
+use Rattle.std.proofs.Common.{◌≡◌, ℕ, ◌+◌, ◌<◌, ◌≤◌, List, [], ◌∷◌, get_or, sym, ap, ◌∙◌, arith}
 use Rattle.csp_tables.specs.declared.rule.Rule.{Rule}
 use Rattle.net_maker.specs.Families.{greatest}
 use Rattle.net_maker.specs.declared.families.Family.{Family}
 use Rattle.net_maker.specs.declared.families.Family.TheVariants.{Chain, Forks, Mesh}
 use Rattle.command_words.specs.Request.{IsWithin, WordsAskOnce, written}
-use Rattle.command_words.specs.declared.request.Job.TheVariants.{Check, Show, Table}
+use Rattle.command_words.specs.declared.request.Job.TheVariants.{Check, Livelock, Run, Show, Table}
 use Rattle.command_words.specs.declared.request.Request.{Request}
 use Rattle.command_words.specs.declared.request.Request.TheVariants.{Conform, Script, Trial as trial}
 use Rattle.command_words.specs.declared.request.Trial.{Trial}
@@ -16,9 +16,12 @@ use Rattle.command_words.proofs.Names.{apart, same_family, same_rule}
 word : (k : ℕ) (xs ys : List (List ℕ)) → xs ≡ ys → get_or xs k [] ≡ get_or ys k []
 word k xs ys is = ap (λ (ws : List (List ℕ)). get_or ws k []) is
 
--- first words with different letters in this place
-differ : (k : ℕ) (xs ys : List (List ℕ)) → xs ≡ ys → (get_or (get_or xs 0 []) k 0 ≡ get_or (get_or ys 0 []) k 0 → ⊥) → ⊥
-differ k xs ys is never = apart k _ _ (word 0 xs ys is) never
+-- the second and the third letter of the first word together tell the forms of requests apart
+letters : List (List ℕ) → ℕ
+letters words = let first = get_or words 0 [] in get_or first 1 0 + get_or first 2 0
+
+differ : (xs ys : List (List ℕ)) → xs ≡ ys → (letters xs ≡ letters ys → ⊥) → ⊥
+differ xs ys is never = never (ap letters is)
 
 pub few : (f : Family) → greatest f ≤ 512
 few Forks = omega arith
@@ -34,39 +37,27 @@ one_request : (r s : Request) → IsWithin r → IsWithin s → written r ≡ wr
 one_request (Script (Check rule) name) (Script (Check other) more) a b is =
     let rules : rule ≡ other = same_rule rule other (word 1 _ _ is) in
     let scripts : name ≡ more = word 2 _ _ is in cc
-one_request (Script (Check rule) name) (Script Show more) a b is = absurd (differ 0 _ _ is (λ e. omega (arith, e)))
-one_request (Script (Check rule) name) (Script (Table i) more) a b is = absurd (differ 0 _ _ is (λ e. omega (arith, e)))
-one_request (Script (Check rule) name) (trial t) a b is = absurd (differ 0 _ _ is (λ e. omega (arith, e)))
-one_request (Script Show name) (Script (Check other) more) a b is = absurd (differ 0 _ _ is (λ e. omega (arith, e)))
 one_request (Script Show name) (Script Show more) a b is = ap (Script Show) (word 1 _ _ is)
-one_request (Script Show name) (Script (Table i) more) a b is = absurd (differ 0 _ _ is (λ e. omega (arith, e)))
-one_request (Script Show name) (trial t) a b is = absurd (differ 0 _ _ is (λ e. omega (arith, e)))
-one_request (Script (Table i) name) (Script (Check other) more) a b is = absurd (differ 0 _ _ is (λ e. omega (arith, e)))
-one_request (Script (Table i) name) (Script Show more) a b is = absurd (differ 0 _ _ is (λ e. omega (arith, e)))
 one_request (Script (Table i) name) (Script (Table j) more) a b is =
     let indices : i ≡ j = same_number i j a b (word 2 _ _ is) in
     let scripts : name ≡ more = word 1 _ _ is in cc
-one_request (Script (Table i) name) (trial t) a b is = absurd (differ 1 _ _ is (λ e. omega (arith, e)))
-one_request (trial t) (Script (Check other) more) a b is = absurd (differ 0 _ _ is (λ e. omega (arith, e)))
-one_request (trial t) (Script Show more) a b is = absurd (differ 0 _ _ is (λ e. omega (arith, e)))
-one_request (trial t) (Script (Table i) more) a b is = absurd (differ 1 _ _ is (λ e. omega (arith, e)))
+one_request (Script (Run seed steps) name) (Script (Run other number) more) a b is =
+    let seeds : seed ≡ other = same_number seed other a.0 b.0 (word 2 _ _ is) in
+    let counts : steps ≡ number = same_number steps number a.1 b.1 (word 3 _ _ is) in
+    let scripts : name ≡ more = word 1 _ _ is in cc
+one_request (Script (Livelock set) name) (Script (Livelock other) more) a b is =
+    let sets : set ≡ other = word 2 _ _ is in
+    let scripts : name ≡ more = word 1 _ _ is in cc
 one_request (trial t) (trial u) a b is =
     let families = same_family t.family u.family (word 1 _ _ is) in
     let low = few t.family in
     let high = few u.family in
     let sizes = same_number t.size u.size (let top = a.1 in omega arith) (let top = b.1 in omega arith) (word 2 _ _ is) in
     ap trial (same_trial t u families sizes)
-one_request (Script (Check rule) name) (Conform script specification) a b is = absurd (differ 1 _ _ is (λ e. omega (arith, e)))
-one_request (Script Show name) (Conform script specification) a b is = absurd (differ 0 _ _ is (λ e. omega (arith, e)))
-one_request (Script (Table i) name) (Conform script specification) a b is = absurd (differ 0 _ _ is (λ e. omega (arith, e)))
-one_request (trial t) (Conform script specification) a b is = absurd (differ 0 _ _ is (λ e. omega (arith, e)))
-one_request (Conform script specification) (Script (Check rule) name) a b is = absurd (differ 1 _ _ is (λ e. omega (arith, e)))
-one_request (Conform script specification) (Script Show name) a b is = absurd (differ 0 _ _ is (λ e. omega (arith, e)))
-one_request (Conform script specification) (Script (Table i) name) a b is = absurd (differ 0 _ _ is (λ e. omega (arith, e)))
-one_request (Conform script specification) (trial t) a b is = absurd (differ 0 _ _ is (λ e. omega (arith, e)))
 one_request (Conform script specification) (Conform more other) a b is =
     let scripts : script ≡ more = word 1 _ _ is in
     let specifications : specification ≡ other = word 2 _ _ is in cc
+one_request r s a b is = absurd (differ _ _ is (λ e. omega (arith, e)))
 
 pub words_ask_once : WordsAskOnce
 words_ask_once words r s a b = one_request r s a.within b.within (sym a.are ∙ b.are)

@@ -5,24 +5,29 @@ use Rattle.csp_tables.specs.declared.rule.Rule.{Rule}
 use Rattle.net_maker.specs.Families.{family_name, greatest, least}
 use Rattle.report.specs.Report.{rule_text}
 use Rattle.command_words.specs.declared.request.Job.{Job}
-use Rattle.command_words.specs.declared.request.Job.TheVariants.{Check, Show, Table}
+use Rattle.command_words.specs.declared.request.Job.TheVariants.{Check, Livelock, Run, Show, Table}
 use Rattle.command_words.specs.declared.request.Request.{Request}
 use Rattle.command_words.specs.declared.request.Request.TheVariants as request
 use Rattle.command_words.specs.declared.request.Trial.{Trial}
 
--- how a request is written: `check RULE SCRIPT`, `show SCRIPT`, `table SCRIPT INDEX`, `trial FAMILY N` or `conform SCRIPT SPEC`
+-- how a request is written: `check RULE SCRIPT`, `show SCRIPT`, `table SCRIPT INDEX`, `trial FAMILY N`, `run SCRIPT SEED STEPS`, `livelock SCRIPT SET` or
+-- `conform SCRIPT SPEC`
 abbrev pub written : Request → List (List ℕ)
 written (request.Script (Check rule) name) = codes "check" ∷ rule_text rule ∷ name ∷ []
 written (request.Script Show name) = codes "show" ∷ name ∷ []
 written (request.Script (Table i) name) = codes "table" ∷ name ∷ decimal i ∷ []
+written (request.Script (Run seed steps) name) = codes "run" ∷ name ∷ decimal seed ∷ decimal steps ∷ []
+written (request.Script (Livelock set) name) = codes "livelock" ∷ name ∷ set ∷ []
 written (request.Trial trial) = codes "trial" ∷ family_name trial.family ∷ decimal trial.size ∷ []
 written (request.Conform script specification) = codes "conform" ∷ script ∷ specification ∷ []
 
--- an index has one to six digits, and a size is one that the family has
+-- an index, a seed and a number of steps have one to six digits, and a size is one that the family has
 abbrev pub IsWithin : Request → Type 0
 IsWithin (request.Script (Check rule) name) = Unit {0}
 IsWithin (request.Script Show name) = Unit {0}
 IsWithin (request.Script (Table i) name) = i < 1000000
+IsWithin (request.Script (Run seed steps) name) = (seed < 1000000) × (steps < 1000000)
+IsWithin (request.Script (Livelock set) name) = Unit {0}
 IsWithin (request.Trial trial) = (least trial.family ≤ trial.size) × (trial.size ≤ greatest trial.family)
 IsWithin (request.Conform script specification) = Unit {0}
 
@@ -60,6 +65,14 @@ AsksForShow words = (script : List ℕ) × Asks words (request.Script Show scrip
 -- The words ask for the table of a component.
 abbrev pub AsksForTable : List (List ℕ) → Type 0
 AsksForTable words = (i : ℕ) × (script : List ℕ) × Asks words (request.Script (Table i) script)
+
+-- The words ask for a run of a script's network.
+abbrev pub AsksForRun : List (List ℕ) → Type 0
+AsksForRun words = (seed steps : ℕ) × (script : List ℕ) × Asks words (request.Script (Run seed steps) script)
+
+-- The words ask for a bound on the hidden events of a script's network.
+abbrev pub AsksForLivelock : List (List ℕ) → Type 0
+AsksForLivelock words = (set : List ℕ) × (script : List ℕ) × Asks words (request.Script (Livelock set) script)
 
 -- The words ask for a trial.
 abbrev pub AsksForTrial : List (List ℕ) → Type 0

@@ -6,7 +6,7 @@ ghost use Rattle.net_maker.specs.declared.families.Family.{Family as FamilyValue
 ghost use Rattle.net_maker.specs.Families.{family_name, greatest, least};
 ghost use Rattle.report.specs.Report.{rule_text};
 ghost use Rattle.command_words.specs.declared.request.Job.{Job as JobValue};
-ghost use Rattle.command_words.specs.declared.request.Job.TheVariants.{Check, Show, Table};
+ghost use Rattle.command_words.specs.declared.request.Job.TheVariants.{Check, Livelock, Run, Show, Table};
 ghost use Rattle.command_words.specs.declared.request.Request.TheVariants as request;
 ghost use Rattle.command_words.specs.declared.request.Trial.{Trial as TrialValue};
 ghost use Rattle.command_words.specs.Request.{Asks, IsNoRequest, written};
@@ -28,10 +28,14 @@ const TABLE: &[u8] = b"table";
 
 const TRIAL: &[u8] = b"trial";
 
+const RUN: &[u8] = b"run";
+
+const LIVELOCK: &[u8] = b"livelock";
+
 const CONFORM: &[u8] = b"conform";
 
 /// What is to be done with a script.
-#[derive(Clone, Copy)]
+#[derive(Drop)]
 pub enum Job {
     /// Its network is judged by a rule.
     Check(Rule),
@@ -39,6 +43,15 @@ pub enum Job {
     Show,
     /// The normal table of the component with this number is printed.
     Table(u32),
+    /// A run of its network is printed.
+    Run {
+        /// The number that chooses the steps.
+        seed: u32,
+        /// How many steps are asked for.
+        steps: u32,
+    },
+    /// The events of the set of this name are taken to be hidden, and how many steps in a row are hidden is bounded.
+    Livelock(Bytes),
 }
 
 /// A network of a family, to be judged by the family's rule.
@@ -136,21 +149,60 @@ fn asked_table(words: &[Bytes]) -> Option<(u32, &[u8])>
     }
 }
 
+// The seed, the number of steps and the script's name of the words `run SCRIPT SEED STEPS`.
+fn asked_run(words: &[Bytes]) -> Option<(u32, u32, &[u8])>
+    ensures asks { IfSome result (λ asked. Asks words.now (request.Script (Run asked.0 asked.1) asked.2.now)) }
+    ensures none { IfNone result ((seed steps : ℕ) (script : List ℕ) → Asks words.now (request.Script (Run seed steps) script) → ⊥) }
+{
+    match words {
+        [run, script, seed, steps] if run.as_slice() == RUN => {
+            let Some(seed) = spelled_number(seed.as_slice()) else {
+                return None;
+            };
+            let Some(steps) = spelled_number(steps.as_slice()) else {
+                return None;
+            };
+            Some((seed, steps, script.as_slice()))
+        }
+        _ => None,
+    }
+}
+
+// The set's name and the script's name of the words `livelock SCRIPT SET`.
+fn asked_livelock(words: &[Bytes]) -> Option<(&[u8], &[u8])>
+    ensures asks { IfSome result (λ asked. Asks words.now (request.Script (Livelock asked.0.now) asked.1.now)) }
+    ensures none { IfNone result ((set script : List ℕ) → Asks words.now (request.Script (Livelock set) script) → ⊥) }
+{
+    match words {
+        [livelock, script, set] if livelock.as_slice() == LIVELOCK => {
+            Some((set.as_slice(), script.as_slice()))
+        }
+        _ => None,
+    }
+}
+
 // What the words ask for a script, and the script's name.
-fn asked_job(words: &[Bytes]) -> Option<(Job, &[u8])>
-    ensures asks { IfSome result (λ asked. Asks words.now (request.Script asked.0 asked.1.now)) }
-    ensures none { IfNone result ((job : JobValue) (script : List ℕ) → Asks words.now (request.Script job script) → ⊥) }
+fn asked_job(alloc: Global, words: &[Bytes]) -> Result<Option<(Job, &[u8])>, NoMemory>
+    ensures asks { IfOk result (λ found. IfSome found (λ asked. Asks words.now (request.Script asked.0 asked.1.now))) }
+    ensures none { IfOk result (λ found. IfNone found ((job : JobValue) (script : List ℕ) → Asks words.now (request.Script job script) → ⊥)) }
 {
     if let Some((rule, script)) = asked_check(words) {
-        return Some((Job::Check(rule), script));
+        return Ok(Some((Job::Check(rule), script)));
     }
     if let Some((index, script)) = asked_table(words) {
-        return Some((Job::Table(index), script));
+        return Ok(Some((Job::Table(index), script)));
+    }
+    if let Some((seed, steps, script)) = asked_run(words) {
+        return Ok(Some((Job::Run { seed, steps }, script)));
+    }
+    if let Some((set, script)) = asked_livelock(words) {
+        let set = Bytes::from_slice(alloc, set)?;
+        return Ok(Some((Job::Livelock(set), script)));
     }
     let Some(script) = asked_show(words) else {
-        return None;
+        return Ok(None);
     };
-    Some((Job::Show, script))
+    Ok(Some((Job::Show, script)))
 }
 
 // The trial of a family, where the family has the size.
@@ -226,7 +278,8 @@ pub fn asked(alloc: Global, words: &Words) -> Result<Option<Request>, NoMemory>
         let request = conform_of(alloc, script, specification)?;
         return Ok(Some(request));
     }
-    let Some((job, script)) = asked_job(words) else {
+    let found = asked_job(alloc, words)?;
+    let Some((job, script)) = found else {
         return Ok(None);
     };
     let name = Bytes::from_slice(alloc, script)?;

@@ -1,7 +1,6 @@
 -- Over the shape of a network, the components' own steps and the parts' tables tell the same traces, the same events after each, and the same acceptances.
-use Rattle.std.proofs.Common.{◌≡◌, ℕ, zero, suc, ◌<◌, List, [], ◌∷◌, ◌++◌, Some, slice_get, length, map, true, refl, sym, ap, subst, ◌∙◌, arith}
+use Rattle.std.proofs.Common.{◌≡◌, ℕ, List, [], ◌∷◌, ◌++◌, map, true, refl, sym, ap, subst, ◌∙◌}
 use Rattle.std.proofs.lemmas.Bool.{and_parts, and_from}
-use Rattle.std.proofs.lemmas.Option.{none-some, same_Some}
 use Rattle.csp_base.specs.Members.{has}
 use Rattle.csp_tables.specs.Label.{Label}
 use Rattle.csp_tables.specs.Network.{Component, ComponentStep, Tree, leaves}
@@ -9,9 +8,10 @@ use Rattle.csp_tables.specs.Trace.{IsAcceptance}
 use Rattle.csp_tables.specs.Table.{Node, node_at, node_after, is_possible, is_run, end_of}
 use Rattle.csp_tables.specs.Part.{Part, part_at, alphabets_of}
 use Rattle.csp_tables.specs.Shape.{Shape}
-use Rattle.csp_tables.specs.ShapeOf.{IsPartOf, ArePartsOf, IsShapeOf}
+use Rattle.csp_tables.specs.ShapeOf.{ArePartsOf, IsShapeOf}
 use Rattle.csp_tables.specs.Standing.{RunsTo, IsPossible, Accepts, accepted}
 use Rattle.csp_tables.proofs.Runs.{run_push}
+use Rattle.net_sound.proofs.Parts.{component_of, part_of, part_within}
 use Rattle.design_rules.specs.Agreement.{SameOutline, AcceptsSame, OutlinesAgree, ReadingsAgree, NetworksMeet, NetworksBreak, NetworkFaultsRefute}
 use Rattle.design_rules.specs.Behaviours.{HasTrace, HasAcceptance, by_steps}
 use Rattle.design_rules.specs.ByTables.{AcceptsSet, by_tables}
@@ -28,27 +28,6 @@ run_pop table n (x ∷ s) e h =
     let p = and_parts (is_possible (node_at table n).next x) (is_run table (node_after table n x) (s ++ e ∷ [])) h in
     let q = run_pop table (node_after table n x) s e p.1 in
     (and_from (is_possible (node_at table n).next x) (is_run table (node_after table n x) s) p.0 q.0, q.1)
-
--- the component of a part
-record ComponentOf {T : Type 0} (Step : T → Label → T → Type 0) (cs : List (Component T)) (ps : List Part) (i : ℕ) : Type 0 where
-  component : Component T
-  listed : slice_get cs i ≡ Some component
-  part : IsPartOf Step component (part_at ps i)
-
-component_of : {T : Type 0} (Step : T → Label → T → Type 0) (cs : List (Component T)) (ps : List Part) → ArePartsOf Step cs ps → (i : ℕ) → i < length ps → ComponentOf Step cs ps i
-component_of Step [] [] parts i below = absurd (omega arith)
-component_of Step [] (p ∷ ps) parts i below = absurd parts
-component_of Step (c ∷ cs) [] parts i below = absurd parts
-component_of Step (c ∷ cs) (p ∷ ps) parts zero below = record { component = c; listed = refl; part = parts.0 }
-component_of Step (c ∷ cs) (p ∷ ps) parts (suc i) below = let r = component_of Step cs ps parts.1 i (omega arith) in record { component = r.component; listed = r.listed; part = r.part }
-
--- the part of a component
-part_of : {T : Type 0} (Step : T → Label → T → Type 0) (cs : List (Component T)) (ps : List Part) → ArePartsOf Step cs ps → (i : ℕ) (c : Component T) → slice_get cs i ≡ Some c → (i < length ps) × IsPartOf Step c (part_at ps i)
-part_of Step [] [] parts i c at = absurd (none-some c at)
-part_of Step [] (p ∷ ps) parts i c at = absurd parts
-part_of Step (d ∷ cs) [] parts i c at = absurd parts
-part_of Step (d ∷ cs) (p ∷ ps) parts zero c at = let same : d ≡ c = same_Some d c at in (omega arith, subst (λ (x : Component _). IsPartOf Step x p) same parts.0)
-part_of Step (d ∷ cs) (p ∷ ps) parts (suc i) c at = let r = part_of Step cs ps parts.1 i c at in (let below : i < length ps = r.0 in omega arith, r.1)
 
 -- the components have the alphabets of the parts
 same_alphabets : {T : Type 0} (Step : T → Label → T → Type 0) (cs : List (Component T)) (ps : List Part) → ArePartsOf Step cs ps → alphabets_of ps ≡ map (λ (c : Component T). c.alphabet) cs
@@ -69,7 +48,7 @@ module _ {T : Type 0} (Step : T → Label → T → Type 0) (cs : List (Componen
   run_of_trace : (i : ℕ) (s : List ℕ) → HasTrace Step cs i s → RunsTo shape i s
   run_of_trace i s t =
       let p = part_of Step cs shape.parts parts i t.component t.listed in
-      record { part = p.0; follows = (p.1.table.traces s).0 t.trace }
+      record { part = part_within Step cs shape.parts parts i t.component t.listed; follows = (p.table.traces s).0 t.trace }
 
   goes_on : (i : ℕ) (s : List ℕ) (e : ℕ) → IsPossible shape i s e → HasTrace Step cs i (s ++ e ∷ [])
   goes_on i s e x = trace_of_run i (s ++ e ∷ []) (record { part = x.runs.part; follows = run_push (part_at shape.parts i).table 0 s e x.runs.follows x.next })
@@ -93,10 +72,10 @@ module _ {T : Type 0} (Step : T → Label → T → Type 0) (cs : List (Componen
   set_of_acceptance : (i : ℕ) (s M : List ℕ) → HasAcceptance Step cs vocabulary i s M → AcceptsSame (by_tables shape) i s M
   set_of_acceptance i s M x =
       let p = part_of Step cs shape.parts parts i x.component x.listed in
-      let found = p.1.table.acceptances.complete s M x.accepts in
-      let run = (p.1.table.traces s).0 (x.accepts.offer.state, x.accepts.offer.reached) in
+      let found = p.table.acceptances.complete s M x.accepts in
+      let run = (p.table.traces s).0 (x.accepts.offer.state, x.accepts.offer.reached) in
       let at : Accepts shape i s found.place = record {
-        runs = record { part = p.0; follows = run };
+        runs = record { part = part_within Step cs shape.parts parts i x.component x.listed; follows = run };
         listed = found.within;
         shared = λ e h. same e ∙ x.shared e (sym (found.members e) ∙ h);
       } in

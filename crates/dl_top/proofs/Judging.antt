@@ -1,5 +1,5 @@
 -- What was read of a text decides what the text calls for, and with which status.
-use Rattle.std.proofs.Common.{◌≡◌, ℕ, List, Result, refl, sym, ap, ◌∙◌}
+use Rattle.std.proofs.Common.{◌≡◌, ℕ, Bool, true, false, List, Result, refl, sym, ap, ◌∙◌}
 use Rattle.std.specs.Result.{IsErrAnd}
 use Rattle.csp_text.specs.declared.script.Script.{Script}
 use Rattle.csp_parser.specs.Fault.{IfNoScript}
@@ -8,15 +8,19 @@ use Rattle.csp_parser.specs.declared.fault.ParseFault.TheVariants as fault
 use Rattle.csp_parser.specs.Places.{IsPlaceOf}
 use Rattle.csp_parser.specs.Spells.{EachTextSpellsOneScript, Spells}
 use Rattle.command_words.specs.declared.request.Job.{Job}
-use Rattle.command_words.specs.declared.request.Job.TheVariants.{Check, Show, Table}
+use Rattle.command_words.specs.declared.request.Job.TheVariants.{Check, Livelock, Run, Show, Table}
 use Rattle.judgement.proofs.Cases.{judged_cases}
+use Rattle.livelock.proofs.Status.{bounded_cases}
 use Rattle.network_stages.proofs.Exits.{at_refusal}
+use Rattle.network_walks.proofs.Status.{walked_cases}
+use Rattle.network_walks.specs.Walked.{walk_answer}
 use Rattle.report.proofs.Points.{goes_on, refused_or}
 use Rattle.report.specs.Report.{status}
 use Rattle.report.specs.Stops.{Answers, Tells, refused}
 use Rattle.report.specs.declared.answer.Answer.{Answer}
 use Rattle.report.specs.declared.answer.Answer.TheVariants as answer
 use Rattle.report.specs.declared.answer.Done.{Done}
+use Rattle.report.specs.declared.answer.PrintedMove.{PrintedMove}
 use Rattle.report.specs.declared.answer.Refusal.{Refusal}
 use Rattle.report.specs.declared.answer.Side.TheVariants as side
 use Rattle.report.specs.declared.stop.Stop.{Stop}
@@ -50,11 +54,19 @@ IsInside a = status a ≡ 4 → ⊥
 refused_inside : (r : Refusal) → IsInside (answer.Refused side.Script r)
 refused_inside r four = let no : 2 ≡ 4 = four in cc
 
+run_inside : (is_stuck : Bool) (moves : List PrintedMove) → IsInside (walk_answer is_stuck moves)
+run_inside true moves four = let no : 1 ≡ 4 = four in cc
+run_inside false moves four = let no : 0 ≡ 4 = four in cc
+
 decided_inside : (job : Job) (s : Script) (a : Answer) → ScriptDecides job s a → IsInside a
 decided_inside (Check rule) s a judged =
     judged_cases s rule IsInside refused_inside (λ why four. let no : 1 ≡ 4 = four in cc) (λ b free four. clash b _ free.free.is four (λ e. cc)) a judged
 decided_inside Show s a is = λ four. clash a _ is four (λ e. cc)
 decided_inside (Table i) s a tabulated = tabulated_cases s i IsInside refused_inside (λ b whole four. clash b _ whole.is four (λ e. cc)) a tabulated
+
+decided_inside (Run seed steps) s a walked = walked_cases s seed steps IsInside refused_inside (λ b whole four. clash b _ whole.tells.is four (run_inside whole.tells.is_stuck _)) a walked
+decided_inside (Livelock set) s a bounded =
+    bounded_cases s set IsInside refused_inside (λ why four. let no : 1 ≡ 4 = four in cc) (λ b whole four. clash b _ whole.is four (λ e. cc)) a bounded
 
 pub text_inside : (text : List ℕ) (job : Job) (a : Answer) → TextCallsFor text job a → IsInside a
 text_inside text job a calls = refused_or _ _ _ _ IsInside refused_inside (λ s b only decides. decided_inside job s b decides) a calls

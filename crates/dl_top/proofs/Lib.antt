@@ -6,3 +6,4 @@ pub mod Pairs
 pub mod Printing
 pub mod Proving
 pub mod Sending
+pub mod Running

@@ -1,5 +1,5 @@
 -- Texts that are loaded, and the reply for which they call.
-use Rattle.std.proofs.Common.{◌≡◌, ℕ, List, [], ◌∷◌, Option, None, Some, Result, Ok, Err, IfNone, IfOk, IfSome, inl, inr, refl, sym, ap, subst, ◌∙◌}
+use Rattle.std.proofs.Common.{◌≡◌, ◌≤◌, ℕ, List, [], ◌∷◌, Option, None, Some, Result, Ok, Err, IfNone, IfOk, IfSome, inl, inr, refl, sym, ap, subst, ◌∙◌}
 use Rattle.command_words.specs.Request.{Asks, IsNoRequest, names}
 use Rattle.command_words.proofs.AskOnce.{words_ask_once}
 use Rattle.command_words.specs.declared.request.Job.{Job}
@@ -18,7 +18,7 @@ use Rattle.report.specs.declared.answer.OutsideFault.{OutsideFault}
 use Rattle.report.specs.declared.answer.Side.{Side}
 use Rattle.report.specs.declared.answer.Side.TheVariants as side
 use Rattle.dl_top.proofs.Judging.{IsInside, text_inside}
-use Rattle.dl_top.proofs.Pairs.{HeldBoth, held_both, held_pair_inside, is_text, tells_zero}
+use Rattle.dl_top.proofs.Pairs.{HeldBoth, held_both, held_pair_inside, is_text, tells_more}
 use Rattle.dl_top.specs.Cause.{CallsFor, HoldsAll, HoldsAllNamed, Loaded, MayGive, Replies, ShelfSigns, TellsLoad, TextsCallFor, loads, quiet}
 use Rattle.dl_top.specs.Judgement.{TextCallsFor}
 use Rattle.dl_top.specs.Proved.{IsTextOf}
@@ -75,22 +75,22 @@ pub only : (texts : Option (List NamedText)) (signs : ShelfSigns) (words : List 
 only texts signs words r reply asked (inl none) = absurd (none.0 r asked)
 only texts signs words r reply asked (inr (s, asked', replies)) = subst (λ (q : Request). Replies texts signs q reply) (words_ask_once words s r asked' asked) replies
 
--- the text of a name, which decides with status 0
+-- the text of a name, which decides with status 0 or 1
 pub record Held (texts : Option (List NamedText)) (name : List ℕ) (job : Job) (a : Answer) : Type 0 where
   pub text : List ℕ
   pub held : IsTextOf texts name text
   pub calls : TextCallsFor text job a
 
 held_text : (texts : Option (List NamedText)) (signs : ShelfSigns) (name : List ℕ) (job : Job) (a : Answer)
-    → Loaded side.Script texts signs (name ∷ []) (TextsCallFor (request.Script job name)) a → status a ≡ 0 → Held texts name job a
-held_text texts signs name job a (told f load tells) zero = absurd (tells_zero side.Script f a tells zero)
-held_text texts signs name job a (passed text load calls) zero = record { text = text; held = is_text texts signs name text load; calls = calls }
+    → Loaded side.Script texts signs (name ∷ []) (TextsCallFor (request.Script job name)) a → status a ≤ 1 → Held texts name job a
+held_text texts signs name job a (told f load tells) few = absurd (tells_more side.Script f a tells few)
+held_text texts signs name job a (passed text load calls) few = record { text = text; held = is_text texts signs name text load; calls = calls }
 
 pub held_script : (texts : Option (List NamedText)) (words : List (List ℕ)) (signs : ShelfSigns) (job : Job) (name : List ℕ) (reply : Reply) → Asks words (request.Script job name)
-    → MayGive texts words signs reply → reply_status reply ≡ 0 → (reply.trial ≡ None) × Held texts name job reply.answer
-held_script texts words signs job name reply asked given zero =
+    → MayGive texts words signs reply → reply_status reply ≤ 1 → (reply.trial ≡ None) × Held texts name job reply.answer
+held_script texts words signs job name reply asked given few =
     let replies = only texts signs words (request.Script job name) reply asked given in
-    (replies.trial, held_text texts signs name job reply.answer replies.calls zero)
+    (replies.trial, held_text texts signs name job reply.answer replies.calls few)
 
 pub held_scripts : (texts : Option (List NamedText)) (words : List (List ℕ)) (signs : ShelfSigns) (script specification : List ℕ) (reply : Reply) → Asks words (request.Conform script specification)
     → MayGive texts words signs reply → reply_status reply ≡ 0 → (reply.trial ≡ None) × HeldBoth texts script specification reply.answer
@@ -106,6 +106,7 @@ outside answer.Usage four = absurd (let no : 3 ≡ 4 = four in cc)
 outside (answer.Outside s f) four = (s, f, refl)
 outside (answer.Refused s r) four = absurd (let no : 2 ≡ 4 = four in cc)
 outside (answer.NotProved s) four = absurd (let no : 1 ≡ 4 = four in cc)
+outside (answer.Stuck moves) four = absurd (let no : 1 ≡ 4 = four in cc)
 outside (answer.Done what) four = absurd (let no : 0 ≡ 4 = four in cc)
 
 plain_is : (reply : Reply) (x : Answer) → reply.trial ≡ None → reply.answer ≡ x → reply ≡ plain x

@@ -1,6 +1,6 @@
 -- Status 0 has one cause under each request: the text spells exactly one network, which is free of deadlock; or exactly one script, which is shown; or
 -- the table of a component of exactly one network.
-use Rattle.std.proofs.Common.{◌≡◌, ℕ, List, ◌++◌, Option, None, Some, sym, ◌∙◌, ap, subst}
+use Rattle.std.proofs.Common.{◌≡◌, ◌≤◌, ℕ, List, ◌++◌, Option, None, Some, sym, ◌∙◌, ap, subst, arith}
 use Rattle.command_words.specs.Request.{AsksForCheck, AsksForConform, AsksForShow, AsksForTable, AsksForTrial}
 use Rattle.command_words.specs.declared.request.Job.TheVariants.{Check, Show, Table}
 use Rattle.command_words.specs.declared.request.Request.TheVariants as request
@@ -44,12 +44,12 @@ refused : (P : Answer → Type 0) (r : Refusal) → IfZero P (answer.Refused sid
 refused P r zero = absurd (let no : 2 ≡ 0 = zero in cc)
 
 -- the script of a text that decides with status 0
-deciding : (text : List ℕ) (P : Answer → Type 0) (Decides : Script → Answer → Type 0) (Fails : Refusal → Type 0) → ((s : Script) (a : Answer) → SpellsOnlyScript text s → Decides s a → status a ≡ 0 → P a)
+pub deciding : (text : List ℕ) (P : Answer → Type 0) (Decides : Script → Answer → Type 0) (Fails : Refusal → Type 0) → ((s : Script) (a : Answer) → SpellsOnlyScript text s → Decides s a → status a ≡ 0 → P a)
     → (a : Answer) → RefusedOr side.Script Fails (SpellsOnlyScript text) Decides a → status a ≡ 0 → P a
 deciding text P Decides Fails is a calls = refused_or side.Script Fails (SpellsOnlyScript text) Decides (IfZero P) (refused P) (λ s b spells decides. is s b spells decides) a calls
 
 -- the network of the only script that a text spells is the only one
-only_network : (text : List ℕ) (script : Script) (network : Network) → SpellsOnlyScript text script → IsNetworkOf script network → SpellsOnlyNetwork text network
+pub only_network : (text : List ℕ) (script : Script) (network : Network) → SpellsOnlyScript text script → IsNetworkOf script network → SpellsOnlyNetwork text network
 only_network text script network spells is = record {
   spelled = record { script = script; spelled = spells.spelled; is = is };
   only = λ other spells'.
@@ -146,7 +146,7 @@ printed_again text script same other spells =
 
 module _ (old new : Option (List ℕ)) (reply : Reply) where
   -- the report of a reply, with the heading of its trial
-  headed : (trial : Option Trial) → reply.trial ≡ trial → GrowsBy old new (reply_text reply) → GrowsBy old new (heading_text trial ++ report_text reply.answer)
+  pub headed : (trial : Option Trial) → reply.trial ≡ trial → GrowsBy old new (reply_text reply) → GrowsBy old new (heading_text trial ++ report_text reply.answer)
   headed trial is grew = subst (λ (t : Option Trial). GrowsBy old new (heading_text t ++ report_text reply.answer)) is grew
 
   -- where the report is known
@@ -155,9 +155,12 @@ module _ (old new : Option (List ℕ)) (reply : Reply) where
 
   module _ (texts : Option (List NamedText)) (words : List (List ℕ)) (signs : ShelfSigns) (cause : MayGive texts words signs reply) (zero : reply_status reply ≡ 0)
       (grew : GrowsBy old new (reply_text reply)) where
+    few : reply_status reply ≤ 1
+    few = omega (arith, zero)
+
     is_proved : AsksForCheck words → IsProved texts words old new
     is_proved (rule, name, asks) =
-        let there = held_script texts words signs (Check rule) name reply asks cause zero in
+        let there = held_script texts words signs (Check rule) name reply asks cause few in
         record {
           rule = rule;
           name = name;
@@ -171,7 +174,7 @@ module _ (old new : Option (List ℕ)) (reply : Reply) where
 
     is_ranked : AsksForCheck words → IsRanked texts words old new
     is_ranked (rule, name, asks) =
-        let there = held_script texts words signs (Check rule) name reply asks cause zero in
+        let there = held_script texts words signs (Check rule) name reply asks cause few in
         record {
           rule = rule;
           name = name;
@@ -185,7 +188,7 @@ module _ (old new : Option (List ℕ)) (reply : Reply) where
 
     is_shown : PrintedTextSpellsTheScript → PrintedTextSpellsNoOther → AsksForShow words → IsShown texts words old new
     is_shown same other (name, asks) =
-        let there = held_script texts words signs Show name reply asks cause zero in
+        let there = held_script texts words signs Show name reply asks cause few in
         let shown = text_shown there.1.text reply.answer there.1.calls zero in
         record {
           name = name;
@@ -217,7 +220,7 @@ module _ (old new : Option (List ℕ)) (reply : Reply) where
 
     is_told : AsksForTable words → IsTold texts words old new
     is_told (i, name, asks) =
-        let there = held_script texts words signs (Table i) name reply asks cause zero in
+        let there = held_script texts words signs (Table i) name reply asks cause few in
         let told = text_told there.1.text i reply.answer there.1.calls zero in
         record {
           i = i;

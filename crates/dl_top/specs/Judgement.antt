@@ -7,11 +7,13 @@ use Rattle.csp_parser.specs.Spells.{Spells}
 use Rattle.script_printer.specs.PrintedScript.{script_text}
 use Rattle.comparison.specs.Compared.{IsCompared}
 use Rattle.judgement.specs.Judged.{IsJudged}
+use Rattle.livelock.specs.Bounded.{IsBounded}
+use Rattle.network_walks.specs.Walked.{IsWalked}
 use Rattle.tabulation.specs.Tabulated.{IsTabulated}
 use Rattle.network_stages.specs.Networks.{IsNetworkOf, Network}
 use Rattle.network_stages.specs.Stages.{HasNoNetwork}
 use Rattle.command_words.specs.declared.request.Job.{Job}
-use Rattle.command_words.specs.declared.request.Job.TheVariants.{Check, Show, Table}
+use Rattle.command_words.specs.declared.request.Job.TheVariants.{Check, Livelock, Run, Show, Table}
 use Rattle.report.specs.Points.{RefusedOr}
 use Rattle.report.specs.declared.answer.Answer.{Answer}
 use Rattle.report.specs.declared.answer.Answer.TheVariants.{Done}
@@ -40,6 +42,8 @@ abbrev pub ScriptDecides : Job → Script → Answer → Type 0
 ScriptDecides (Check rule) script answer = IsJudged script rule answer
 ScriptDecides Show script answer = answer ≡ Done (Shown (script_text script))
 ScriptDecides (Table i) script answer = IsTabulated script i answer
+ScriptDecides (Run seed steps) script answer = IsWalked script seed steps answer
+ScriptDecides (Livelock set) script answer = IsBounded script set answer
 
 -- A text is refused where it spells no script; else it spells exactly one, which decides.
 abbrev pub TextCallsFor : List ℕ → Job → Answer → Type 0

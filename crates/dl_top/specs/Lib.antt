@@ -6,3 +6,5 @@ pub mod Printing
 pub mod Proved
 pub mod Ranked
 pub mod Reply
+pub mod Bounded
+pub mod Ran

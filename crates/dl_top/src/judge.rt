@@ -17,7 +17,9 @@ use csp_base::NoMemory;
 use csp_parser::{ParseFault, each_text_spells_one_script, read};
 use csp_text::Script;
 use judgement::judged;
+use livelock::bounded;
 use network_stages::{Spelled, spell_network};
+use network_walks::walked;
 use report::{Answer, Done, Refusal, Side, Stop, finished, refused};
 use script_printer::print_script;
 use std::alloc::Global;
@@ -48,12 +50,14 @@ fn spell_script(alloc: Global, text: &[u8]) -> Result<Script, Stop<Refusal>>
 }
 
 // What a script decides, with which this is to be done.
-fn decided(alloc: Global, job: Job, script: &Script) -> Result<Done, Stop<Answer>>
-    ensures { Answers (ScriptDecides job script.now) result }
+fn decided(alloc: Global, job: &Job, script: &Script) -> Result<Done, Stop<Answer>>
+    ensures { Answers (ScriptDecides job.now script.now) result }
 {
     match job {
-        Job::Check(rule) => judged(alloc, rule, script),
-        Job::Table(index) => tabulated(alloc, script, index),
+        Job::Check(rule) => judged(alloc, *rule, script),
+        Job::Table(index) => tabulated(alloc, script, *index),
+        Job::Run { seed, steps } => walked(alloc, script, *seed, *steps),
+        Job::Livelock(set) => bounded(alloc, script, set.as_slice()),
         Job::Show => {
             let text = print_script(alloc, script)?;
             Ok(Done::Shown { text })
@@ -62,29 +66,29 @@ fn decided(alloc: Global, job: Job, script: &Script) -> Result<Done, Stop<Answer
 }
 
 // The walk from the text of a script to its answer.
-fn walked(alloc: Global, job: Job, text: &[u8]) -> Result<Done, Stop<Answer>>
-    ensures { Answers (TextCallsFor text.now job) result }
+fn text_decided(alloc: Global, job: &Job, text: &[u8]) -> Result<Done, Stop<Answer>>
+    ensures { Answers (TextCallsFor text.now job.now) result }
 {
     let script = spell_script(alloc, text)?;
     decided(alloc, job, &script)
 }
 
 // The answer to which that walk comes.
-fn called_for(alloc: Global, job: Job, text: &[u8]) -> Result<Answer, NoMemory>
-    ensures { IfOk result (TextCallsFor text.now job) }
+fn called_for(alloc: Global, job: &Job, text: &[u8]) -> Result<Answer, NoMemory>
+    ensures { IfOk result (TextCallsFor text.now job.now) }
 {
-    finished(walked(alloc, job, text))
+    finished(text_decided(alloc, job, text))
 }
 
 /// The answer that the text of a script calls for, with which this is to be done: what `dl_main` reports of a text that it loaded.
-pub fn judge(alloc: Global, job: Job, text: &[u8]) -> Result<Answer, NoMemory>
-    ensures answer { IfOk result (TextCallsFor text.now job) }
+pub fn judge(alloc: Global, job: &Job, text: &[u8]) -> Result<Answer, NoMemory>
+    ensures answer { IfOk result (TextCallsFor text.now job.now) }
 
     // The theorem: where a script is judged with status 0, its text spells exactly one network, which is free of deadlock.
-    ensures free { IfOk result (λ answer. (rule : RuleValue) → job ≡ Check rule → status answer ≡ 0 → SpellsDeadlockFree text.now rule (report_text answer)) }
+    ensures free { IfOk result (λ answer. (rule : RuleValue) → job.now ≡ Check rule → status answer ≡ 0 → SpellsDeadlockFree text.now rule (report_text answer)) }
 
     // Completeness: a network within the limits that meets the rule is judged with status 0.
-    ensures complete { IfOk result (λ answer. (rule : RuleValue) → job ≡ Check rule → SpellsPassing text.now rule → status answer ≡ 0) }
+    ensures complete { IfOk result (λ answer. (rule : RuleValue) → job.now ≡ Check rule → SpellsPassing text.now rule → status answer ≡ 0) }
 {
     called_for(alloc, job, text)
 }

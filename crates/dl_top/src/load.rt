@@ -42,8 +42,13 @@ fn unloaded(side: Side, fault: LoadFault) -> Result<Reply, NoMemory>
 }
 
 // The reply that the text of a script calls for.
-fn replied(alloc: Global, trial: Option<Trial>, job: Job, text: &[u8]) -> Result<Reply, NoMemory>
-    ensures { IfOk result (λ reply. (reply.trial ≡ trial) × TextCallsFor text.now job reply.answer) }
+fn replied(
+    alloc: Global,
+    trial: Option<Trial>,
+    job: &Job,
+    text: &[u8],
+) -> Result<Reply, NoMemory>
+    ensures { IfOk result (λ reply. (reply.trial ≡ trial) × TextCallsFor text.now job.now reply.answer) }
 {
     match judge(alloc, job, text) {
         Ok(answer) => Ok(Reply { trial, answer }),
@@ -59,7 +64,7 @@ fn tried(alloc: Global, trial: Trial) -> Result<Reply, NoMemory>
     replied(
         alloc,
         Some(trial),
-        Job::Check(rule_of(trial.family)),
+        &Job::Check(rule_of(trial.family)),
         text.as_slice(),
     )
 }
@@ -67,12 +72,12 @@ fn tried(alloc: Global, trial: Trial) -> Result<Reply, NoMemory>
 // The reply to a request for the script of this name.
 fn scripted<S: Shelf>(
     alloc: Global,
-    job: Job,
+    job: &Job,
     name: &[u8],
     shelf: &mut S,
 ) -> Result<Reply, NoMemory>
     ensures cause { IfOk result (Replies (S.texts shelf.old)
-        (shelf_signs (S.faults shelf.old) (S.faults shelf.new) (S.taken shelf.old) (S.taken shelf.new)) (asking.Script job name.now)) }
+        (shelf_signs (S.faults shelf.old) (S.faults shelf.new) (S.taken shelf.old) (S.taken shelf.new)) (asking.Script job.now name.now)) }
     ensures texts_stay { S.texts shelf.new ≡ S.texts shelf.old }
     ensures faults_never_fall { S.faults shelf.old ≤ S.faults shelf.new }
     ensures taken_never_falls { S.taken shelf.old ≤ S.taken shelf.new }
@@ -140,7 +145,7 @@ fn requested<S: Shelf>(alloc: Global, request: Request, shelf: &mut S) -> Result
 {
     match request {
         Request::Trial(trial) => tried(alloc, trial),
-        Request::Script(job, name) => scripted(alloc, job, name.as_slice(), shelf),
+        Request::Script(job, name) => scripted(alloc, &job, name.as_slice(), shelf),
         Request::Conform(script, specification) => {
             conforming(alloc, script.as_slice(), specification.as_slice(), shelf)
         }

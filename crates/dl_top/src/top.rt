@@ -1,12 +1,14 @@
 //! The top call, and what it promises.
 
-ghost use Rattle.std.specs.Prelude.{◌≡◌, ◌≢◌, ◌≤◌, IfSome};
+ghost use Rattle.std.specs.Prelude.{◌≡◌, ◌≢◌, ◌≤◌, IfSome, false, true};
 ghost use Rattle.dl_outside.specs.Count.{HasRisen};
 ghost use Rattle.dl_top.specs.Cause.{CallsFor, MayGive, shelf_signs};
-ghost use Rattle.command_words.specs.Request.{AsksForCheck, AsksForConform, AsksForShow, AsksForTable, AsksForTrial, NamesNoScript};
+ghost use Rattle.command_words.specs.Request.{AsksForCheck, AsksForConform, AsksForLivelock, AsksForRun, AsksForShow, AsksForTable, AsksForTrial, NamesNoScript};
 ghost use Rattle.dl_top.specs.Ending.{Ends, EndsInShelfFault, EndsWhole, sink_signs};
+ghost use Rattle.dl_top.specs.Bounded.{IsHeldBounded};
 ghost use Rattle.dl_top.specs.Complete.{AsksForMatching, AsksForPassing};
 ghost use Rattle.dl_top.specs.Proved.{IsConformed, IsProved, IsShown, IsTold, IsTried};
+ghost use Rattle.dl_top.specs.Ran.{IsRan};
 ghost use Rattle.dl_top.specs.Ranked.{IsRanked, IsTriedRanked};
 
 use crate::load::printed_reply;
@@ -22,7 +24,7 @@ const NO_MEMORY: u8 = 5;
 /// The exit status for a fault outside.
 const OUTSIDE_FAULT: u8 = 4;
 
-/// Does what the words ask for, sends the report, and answers the exit status: 0 proved or shown, 1 not proved, 2 refused, 3 no command, 4 a
+/// Does what the words ask for, sends the report, and answers the exit status: 0 proved or shown, 1 not proved or stuck, 2 refused, 3 no command, 4 a
 /// fault of the shelf or the sink, 5 want of memory.
 pub fn dl_main<S: Shelf, O: Sink>(alloc: Global, words: &Words, shelf: &mut S, out: &mut O) -> u8
     // The theorem: where a script is judged with status 0, its text spells exactly one network, which is free of deadlock. Where the shelf tells no
@@ -46,6 +48,14 @@ pub fn dl_main<S: Shelf, O: Sink>(alloc: Global, words: &Words, shelf: &mut S, o
 
     // Where the table of a component is printed with status 0, it is exactly the component's normal table.
     ensures told { AsksForTable words.now → result ≡ 0 → IsTold (S.texts shelf.old) words.now (O.sent out.old) (O.sent out.new) }
+
+    // Where a run ends with status 0 or 1, what was printed is a run of the network, as long as was asked for or up to a state without a step. The status
+    // is 1 exactly where that state has none, and then the network is live for no bound.
+    ensures ran { AsksForRun words.now → result ≡ 0 → IsRan (S.texts shelf.old) words.now (O.sent out.old) (O.sent out.new) false }
+    ensures stuck { AsksForRun words.now → result ≡ 1 → IsRan (S.texts shelf.old) words.now (O.sent out.old) (O.sent out.new) true }
+
+    // Where hidden events are bounded with status 0, at most so many steps of the network in a row are silent or by one of them.
+    ensures bounded { AsksForLivelock words.now → result ≡ 0 → IsHeldBounded (S.texts shelf.old) words.now (O.sent out.old) (O.sent out.new) }
 
     // Where a script is held against its specification with status 0, each component of its network conforms to the one in its place in that of the
     // specification, and if that is live, so is the network.

@@ -25,7 +25,8 @@ use Rattle.local_tables.specs.declared.fault.LocalFault.TheVariants as local
 use Rattle.local_tables.specs.declared.local_table.LocalTable.{LocalTable}
 use Rattle.local_tables.specs.declared.local_table.Room.{Room}
 use Rattle.local_tables.proofs.Excluding.{excluded}
-use Rattle.net_sound.proofs.Heights.{heights_are_exact, stands}
+use Rattle.net_sound.proofs.Heights.{heights_are_exact}
+use Rattle.net_sound.proofs.Numbered.{stands}
 use Rattle.net_sound.proofs.Soundness.{path_alphabet}
 use Rattle.network_stages.specs.Stages.{HaveNoTables}
 use Rattle.network_stages.specs.Tells.{TellsComponent}

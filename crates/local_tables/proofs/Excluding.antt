@@ -18,7 +18,7 @@ use Rattle.local_tables.specs.declared.fault.LocalFault.TheVariants as fault
 use Rattle.local_tables.proofs.Injecting.{Partner, no_heavier, no_longer}
 use Rattle.local_tables.proofs.Lists.{one_at}
 use Rattle.net_sound.proofs.FlatLists.{step_alphabet}
-use Rattle.net_sound.proofs.Heights.{stands}
+use Rattle.net_sound.proofs.Numbered.{stands}
 use Rattle.csp_base.specs.Lists.{total}
 
 module _ (p : Content) (c : Component Proc) (terms : List Proc) (raw : RawTable) (table : IsTableOf (ProcessStep p) c terms raw) where

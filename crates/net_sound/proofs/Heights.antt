@@ -1,20 +1,17 @@
 -- Silent walks of a component and of its numbered table.
-use Rattle.std.proofs.Common.{◌≡◌, ℕ, zero, suc, ◌<◌, ◌≤◌, List, [], ◌∷◌, Some, slice_get, get_or, length, refl, sym, ap, subst, ◌∙◌, arith, inl, inr}
+use Rattle.std.proofs.Common.{◌≡◌, ℕ, zero, suc, ◌<◌, ◌≤◌, List, [], ◌∷◌, Some, slice_get, get_or, length, refl, sym, subst, ◌∙◌, arith, inl, inr}
 use Rattle.std.proofs.lemmas.Bool.{cases_lt}
 use Rattle.std.proofs.lemmas.Option.{same_Some, slice_get_within}
 use Rattle.csp_tables.specs.Label.{Label}
 use Rattle.csp_tables.specs.Label.Label.{silent}
-use Rattle.csp_tables.specs.Path.{Path, Silently}
+use Rattle.csp_tables.specs.Path.{Silently}
 use Rattle.csp_tables.specs.Network.{Component, ComponentStep}
 use Rattle.csp_tables.specs.RawTable.{RawTable, RawStep, standing_at, IsTableOf}
 use Rattle.net_sound.specs.Heights.{HeightsAreExact, HeightsAddUp, sum_of_greatest}
 use Rattle.net_sound.proofs.FlatLists.{step_alphabet}
+use Rattle.net_sound.proofs.Numbered.{run_down, stands}
 use Rattle.csp_base.proofs.Lists.{slice_get_some}
 use Rattle.csp_base.specs.Lists.{greatest}
-
--- a component with the alphabet of c is c standing at its term
-pub stands : {T : Type 0} (c d : Component T) → c.alphabet ≡ d.alphabet → d ≡ standing_at c d.term
-stands c d h = ap (λ al. record { alphabet = al; term = d.term }) (sym h)
 
 walk_up : {T : Type 0} (Step : T → Label → T → Type 0) (c : Component T) (terms : List T) (raw : RawTable) (k m n : ℕ) (x : T) → IsTableOf Step c terms raw → slice_get terms m ≡ Some x → Silently (RawStep raw) k m n → (d : Component T) × Silently (ComponentStep Step) k (standing_at c x) d
 walk_up Step c terms raw zero m n x t h w = (standing_at c x, refl)
@@ -31,19 +28,6 @@ walk_down Step c terms raw (suc k) m x d t h w =
     let same : w.0 ≡ standing_at c w.0.term = stands c w.0 (step_alphabet Step (standing_at c x) silent w.0 w.1) in
     let r = walk_down Step c terms raw k s.number w.0.term d t s.listed (subst (λ y. Silently (ComponentStep Step) k y d) same w.2) in
     (r.0, (s.number, s.step, r.1))
-
--- a state that the component reaches is in the table
-record IsNumbered {T : Type 0} (c : Component T) (terms : List T) (d : Component T) : Type 0 where
-  number : ℕ
-  listed : slice_get terms number ≡ Some d.term
-  alphabet : c.alphabet ≡ d.alphabet
-
-numbered : {T : Type 0} (Step : T → Label → T → Type 0) (c : Component T) (terms : List T) (raw : RawTable) (ls : List Label) (b d : Component T) → IsTableOf Step c terms raw → IsNumbered c terms b → Path (ComponentStep Step) b ls d → IsNumbered c terms d
-numbered Step c terms raw [] b d t i h = subst (IsNumbered c terms) h i
-numbered Step c terms raw (l ∷ ls) b d t i h =
-    let step = subst (λ y. ComponentStep Step y l h.0) (stands c b i.alphabet) h.1 in
-    let s = t.complete i.number b.term l h.0 i.listed step in
-    numbered Step c terms raw ls h.0 d t (record { number = s.number; listed = s.listed; alphabet = step_alphabet Step (standing_at c b.term) l h.0 step }) h.2
 
 at_most_greatest : (ns : List ℕ) (i : ℕ) → get_or ns i 0 ≤ greatest ns
 at_most_greatest [] i = omega arith
@@ -75,7 +59,7 @@ heights_are_exact Step c terms raw heights t hs =
     record {
       attained = (standing_at c x.0, up.0, t.reached top.0 x.0 x.1, subst (λ k. Silently (ComponentStep Step) k (standing_at c x.0) up.0) top.2 up.1);
       most = λ d e k r w.
-          let i = numbered Step c terms raw r.0 c d t (record { number = 0; listed = t.first; alphabet = refl }) r.1 in
+          let i = run_down Step c terms raw r.0 c d 0 t t.first refl r.1 in
           let down = walk_down Step c terms raw k i.number d.term e t i.listed (subst (λ y. Silently (ComponentStep Step) k y e) (stands c d i.alphabet) w) in
           let inside : i.number < length terms = slice_get_within terms i.number d.term i.listed in
           let le : k ≤ get_or heights i.number 0 = (hs.each i.number (omega arith)).most k down.0 down.1 in

@@ -7,6 +7,8 @@ pub mod Heights
 pub mod Laps
 pub mod Local
 pub mod Normal
+pub mod Numbered
+pub mod Parts
 pub mod Shape
 pub mod ShapeOf
 pub mod Sharers

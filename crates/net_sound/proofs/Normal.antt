@@ -1,45 +1,16 @@
 -- A component and its numbered table do the same, so the normal table of the one is that of the other.
-use Rattle.std.proofs.Common.{◌≡◌, ℕ, List, [], ◌∷◌, ◌++◌, Some, slice_get, get_or, refl, sym, ap, subst, ◌∙◌}
+use Rattle.std.proofs.Common.{◌≡◌, ℕ, List, [], ◌++◌, Some, slice_get, get_or, refl, sym, subst, ◌∙◌}
 use Rattle.std.proofs.lemmas.Option.{same_Some}
 use Rattle.csp_tables.specs.Label.{Label}
 use Rattle.csp_tables.specs.Label.Label.{silent, visible}
-use Rattle.csp_tables.specs.Path.{Path, Stable}
+use Rattle.csp_tables.specs.Path.{Stable}
 use Rattle.csp_tables.specs.Network.{Component, ComponentStep}
 use Rattle.csp_tables.specs.Trace.{IsTrace, IsStableOffer, IsAcceptance, HaveSameFuture}
 use Rattle.csp_tables.specs.RawTable.{RawTable, RawStep, standing_at, IsTableOf}
 use Rattle.csp_tables.specs.Table.{acceptances_after}
 use Rattle.csp_tables.specs.Behaviour.{OffersAcceptance}
 use Rattle.net_sound.specs.Normal.{NormalTablesCarryOver}
-use Rattle.net_sound.proofs.FlatLists.{step_alphabet}
-use Rattle.net_sound.proofs.Heights.{stands}
-
--- a run of the component from the term numbered m is a run of the table
-record RunsDown {T : Type 0} (c : Component T) (terms : List T) (raw : RawTable) (m : ℕ) (ls : List Label) (d : Component T) : Type 0 where
-  number : ℕ
-  path : Path (RawStep raw) m ls number
-  listed : slice_get terms number ≡ Some d.term
-  alphabet : c.alphabet ≡ d.alphabet
-
-down : {T : Type 0} (Step : T → Label → T → Type 0) (c : Component T) (terms : List T) (raw : RawTable) (ls : List Label) (b d : Component T) (m : ℕ) → IsTableOf Step c terms raw → slice_get terms m ≡ Some b.term → c.alphabet ≡ b.alphabet → Path (ComponentStep Step) b ls d → RunsDown c terms raw m ls d
-down Step c terms raw [] b d m t h a path = record { number = m; path = refl; listed = h ∙ ap (λ (x : Component _). Some x.term) path; alphabet = a ∙ ap (λ (x : Component _). x.alphabet) path }
-down Step c terms raw (l ∷ ls) b d m t h a path =
-    let step = subst (λ y. ComponentStep Step y l path.0) (stands c b a) path.1 in
-    let s = t.complete m b.term l path.0 h step in
-    let r = down Step c terms raw ls path.0 d s.number t s.listed (step_alphabet Step (standing_at c b.term) l path.0 step) path.2 in
-    record { number = r.number; path = (s.number, s.step, r.path); listed = r.listed; alphabet = r.alphabet }
-
--- a run of the table from the term numbered m is a run of the component
-record RunsUp {T : Type 0} (Step : T → Label → T → Type 0) (c : Component T) (terms : List T) (x : T) (ls : List Label) (n : ℕ) : Type 0 where
-  goal : T
-  path : Path (ComponentStep Step) (standing_at c x) ls (standing_at c goal)
-  listed : slice_get terms n ≡ Some goal
-
-up : {T : Type 0} (Step : T → Label → T → Type 0) (c : Component T) (terms : List T) (raw : RawTable) (ls : List Label) (m n : ℕ) (x : T) → IsTableOf Step c terms raw → slice_get terms m ≡ Some x → Path (RawStep raw) m ls n → RunsUp Step c terms x ls n
-up Step c terms raw [] m n x t h path = record { goal = x; path = refl; listed = ap (slice_get terms) (sym path) ∙ h }
-up Step c terms raw (l ∷ ls) m n x t h path =
-    let s = t.sound m path.0 l path.1 in
-    let r = up Step c terms raw ls path.0 n s.goal t s.to path.2 in
-    record { goal = r.goal; path = (standing_at c s.goal, subst (λ y. ComponentStep Step (standing_at c y) l (standing_at c s.goal)) (same_Some s.source x (sym s.from ∙ h)) s.step, r.path); listed = r.listed }
+use Rattle.net_sound.proofs.Numbered.{run_down, run_up, stands}
 
 -- a step of the table from the term x is a step of the component that stands there
 step_up : {T : Type 0} (Step : T → Label → T → Type 0) (c : Component T) (terms : List T) (raw : RawTable) (m n : ℕ) (l : Label) (x : T) → IsTableOf Step c terms raw → slice_get terms m ≡ Some x → RawStep raw m l n → (y : T) × ComponentStep Step (standing_at c x) l (standing_at c y)
@@ -49,12 +20,12 @@ step_up Step c terms raw m n l x t h step =
 
 pub trace_down : {T : Type 0} (Step : T → Label → T → Type 0) (c : Component T) (terms : List T) (raw : RawTable) (s : List ℕ) → IsTableOf Step c terms raw → IsTrace (ComponentStep Step) c s → IsTrace (RawStep raw) 0 s
 trace_down Step c terms raw s t (d, a) =
-    let r = down Step c terms raw a.0 c d 0 t t.first refl a.1 in
+    let r = run_down Step c terms raw a.0 c d 0 t t.first refl a.1 in
     (r.number, (a.0, r.path, a.2))
 
 pub trace_up : {T : Type 0} (Step : T → Label → T → Type 0) (c : Component T) (terms : List T) (raw : RawTable) (s : List ℕ) → IsTableOf Step c terms raw → IsTrace (RawStep raw) 0 s → IsTrace (ComponentStep Step) c s
 trace_up Step c terms raw s t (n, a) =
-    let r = up Step c terms raw a.0 0 n c.term t t.first a.1 in
+    let r = run_up Step c terms raw a.0 0 n c.term t t.first a.1 in
     (standing_at c r.goal, (a.0, r.path, a.2))
 
 offers_up : {T : Type 0} (Step : T → Label → T → Type 0) (c : Component T) (terms : List T) (raw : RawTable) (d : Component T) (n : ℕ) (acceptances : List (List ℕ)) → IsTableOf Step c terms raw → slice_get terms n ≡ Some d.term → c.alphabet ≡ d.alphabet → OffersAcceptance (RawStep raw) n acceptances → OffersAcceptance (ComponentStep Step) d acceptances
@@ -76,7 +47,7 @@ stable_down Step c terms raw d n t h a stable m step =
 -- what is offered after a trace of the table is offered after the same trace of the component
 offer_up : {T : Type 0} (Step : T → Label → T → Type 0) (c : Component T) (terms : List T) (raw : RawTable) (s M : List ℕ) → IsTableOf Step c terms raw → IsStableOffer (RawStep raw) 0 s M → IsStableOffer (ComponentStep Step) c s M
 offer_up Step c terms raw s M t o =
-    let r = up Step c terms raw o.reached.0 0 o.state c.term t t.first o.reached.1 in
+    let r = run_up Step c terms raw o.reached.0 0 o.state c.term t t.first o.reached.1 in
     record {
       state = standing_at c r.goal;
       reached = (o.reached.0, r.path, o.reached.2);
@@ -90,7 +61,7 @@ offer_up Step c terms raw s M t o =
 offer_down : {T : Type 0} (Step : T → Label → T → Type 0) (c : Component T) (terms : List T) (raw : RawTable) (s M : List ℕ) → IsTableOf Step c terms raw → IsStableOffer (ComponentStep Step) c s M → IsStableOffer (RawStep raw) 0 s M
 offer_down Step c terms raw s M t o =
     let d = o.state in
-    let r = down Step c terms raw o.reached.0 c d 0 t t.first refl o.reached.1 in
+    let r = run_down Step c terms raw o.reached.0 c d 0 t t.first refl o.reached.1 in
     record {
       state = r.number;
       reached = (o.reached.0, r.path, o.reached.2);
@@ -144,7 +115,7 @@ normal_tables_carry_over Step c terms raw most table t normal = record {
     sound = λ s k h within. acceptance_up Step c terms raw s (get_or (acceptances_after table s) k []) t (normal.acceptances.sound s k (trace_down Step c terms raw s t h) within);
     complete = λ s M a. normal.acceptances.complete s M (acceptance_down Step c terms raw s M t a);
     covered = λ s d a stable.
-        let r = down Step c terms raw a.0 c d 0 t t.first refl a.1 in
+        let r = run_down Step c terms raw a.0 c d 0 t t.first refl a.1 in
         offers_up Step c terms raw d r.number (acceptances_after table s) t r.listed r.alphabet
         (normal.acceptances.covered s r.number (a.0, r.path, a.2) (stable_down Step c terms raw d r.number t r.listed r.alphabet stable));
   };

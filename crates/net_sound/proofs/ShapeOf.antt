@@ -1,7 +1,7 @@
 -- The shape of a network that is never empty-handed has its components' behaviour.
-use Rattle.std.proofs.Common.{◌≡◌, ℕ, zero, suc, ◌<◌, List, [], ◌∷◌, Some, slice_get, get_or, length, nat_eq, refl, sym, subst, ◌∙◌, eq-eqb, arith}
+use Rattle.std.proofs.Common.{ℕ, suc, List, [], ◌∷◌, get_or, nat_eq, refl, sym, subst, ◌∙◌, eq-eqb}
 use Rattle.std.proofs.lemmas.Bool.{false≢true, or_left}
-use Rattle.std.proofs.lemmas.Option.{none-some, same_Some, slice_get_within, get_or_from_slice_get}
+use Rattle.std.proofs.lemmas.Option.{slice_get_within, get_or_from_slice_get}
 use Rattle.csp_base.specs.Members.{has}
 use Rattle.csp_tables.specs.Label.{Label}
 use Rattle.csp_tables.specs.Network.{Component, ComponentStep, leaves}
@@ -11,6 +11,7 @@ use Rattle.csp_tables.specs.Part.{Part, part_at, IsNonEmpty}
 use Rattle.csp_tables.specs.Behaviour.{HasBehaviour, HaveBehaviours}
 use Rattle.csp_tables.specs.ShapeOf.{IsPartOf, ArePartsOf, AreBusy, ShapesAreBusy}
 use Rattle.net_sound.specs.Normal.{NormalTablesBehave, ShapesBehave}
+use Rattle.net_sound.proofs.Parts.{component_of, part_of, part_within}
 
 pub not_empty : {S : Type 0} (Step : S → Label → S → Type 0) (start : S) (s M : List ℕ) → IsBusy Step start → IsAcceptance Step start s M → IsNonEmpty M
 not_empty Step start s [] busy a = absurd (busy s a)
@@ -38,34 +39,13 @@ parts_behave Step (c ∷ cs) (p ∷ ps) parts busy = (part_behaves Step c p (bus
 pub shapes_behave : {T : Type 0} (Step : T → Label → T → Type 0) → ShapesBehave Step
 shapes_behave Step tree shape is busy = parts_behave Step (leaves tree) shape.parts is.parts busy
 
--- the component of a part
-record HasComponent {T : Type 0} (Step : T → Label → T → Type 0) (cs : List (Component T)) (ps : List Part) (i : ℕ) : Type 0 where
-  component : Component T
-  listed : slice_get cs i ≡ Some component
-  part : IsPartOf Step component (part_at ps i)
-
-component_of : {T : Type 0} (Step : T → Label → T → Type 0) (cs : List (Component T)) (ps : List Part) → ArePartsOf Step cs ps → (i : ℕ) → i < length ps → HasComponent Step cs ps i
-component_of Step [] [] parts i below = absurd (omega arith)
-component_of Step [] (p ∷ ps) parts i below = absurd parts
-component_of Step (c ∷ cs) [] parts i below = absurd parts
-component_of Step (c ∷ cs) (p ∷ ps) parts zero below = record { component = c; listed = refl; part = parts.0 }
-component_of Step (c ∷ cs) (p ∷ ps) parts (suc i) below = let r = component_of Step cs ps parts.1 i (omega arith) in record { component = r.component; listed = r.listed; part = r.part }
-
--- the part of a component
-part_of : {T : Type 0} (Step : T → Label → T → Type 0) (cs : List (Component T)) (ps : List Part) → ArePartsOf Step cs ps → (i : ℕ) (c : Component T) → slice_get cs i ≡ Some c → (i < length ps) × IsPartOf Step c (part_at ps i)
-part_of Step [] [] parts i c at = absurd (none-some c at)
-part_of Step [] (p ∷ ps) parts i c at = absurd parts
-part_of Step (d ∷ cs) [] parts i c at = absurd parts
-part_of Step (d ∷ cs) (p ∷ ps) parts zero c at = let same : d ≡ c = same_Some d c at in (omega arith, subst (λ (x : Component _). IsPartOf Step x p) same parts.0)
-part_of Step (d ∷ cs) (p ∷ ps) parts (suc i) c at = let r = part_of Step cs ps parts.1 i c at in (let below : i < length ps = r.0 in omega arith, r.1)
-
 pub shapes_are_busy : {T : Type 0} (Step : T → Label → T → Type 0) → ShapesAreBusy Step
 shapes_are_busy Step tree shape is = (
   λ busy i c at s a.
       let r = part_of Step (leaves tree) shape.parts is.parts i c at in
-      let found = r.1.table.acceptances.complete s [] a in
-      let run = (r.1.table.traces s).0 (a.offer.state, a.offer.reached) in
-      let some = busy i s found.place (record { part = r.0; follows = run }) found.within in
+      let found = r.table.acceptances.complete s [] a in
+      let run = (r.table.traces s).0 (a.offer.state, a.offer.reached) in
+      let some = busy i s found.place (record { part = part_within Step (leaves tree) shape.parts is.parts i c at; follows = run }) found.within in
       false≢true (sym (found.members some.0) ∙ some.1),
   λ busy i s k runs within.
       let r = component_of Step (leaves tree) shape.parts is.parts i runs.part in

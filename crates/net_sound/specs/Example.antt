@@ -1,4 +1,4 @@
--- The theorem speaks of networks that there are, and not of all networks. Two components take the event 0 and the event 1 in
+-- Good rankings are had by networks that there are, and not by all networks. Two components take the event 0 and the event 1 in
 -- turn. Where the first one has a silent step to do and then both begin with 0, a ranking is good, and the network is live
 -- with the silent bound 1. Where one begins with 0 and the other with 1, the network is stuck where it begins. Nothing
 -- else is wrong with it, and no ranking over any tables is good for it.

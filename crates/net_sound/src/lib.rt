@@ -3,7 +3,6 @@
 
 ghost use Rattle.csp_tables.specs.Label.{Label};
 ghost use Rattle.net_sound.specs.Flattening.{TreeStepsAreFlat, FlatStepsAreTreeSteps, StepsAreToldByLeaves, StepsKeepNesting, StepsKeepAlphabets};
-ghost use Rattle.net_sound.specs.Soundness.{GoodRankingsMeanLive};
 ghost use Rattle.net_sound.specs.Heights.{HeightsAreExact, HeightsAddUp};
 ghost use Rattle.net_sound.specs.Example.{ExampleIsLive, ExampleIsStuck};
 ghost use Rattle.net_sound.specs.NoneStuck.{NoneIsStuck};
@@ -63,11 +62,6 @@ pub fn shapes_are_busy<S: Transitions>()
 /// Over tables alone: ranks that fall along ungranted requests leave no state in which no event is agreed.
 pub fn none_is_stuck()
     ensures { NoneIsStuck }
-{}
-
-/// A network with a good ranking is live, with its silent bound.
-pub fn good_rankings_mean_live<S: Transitions>()
-    ensures { GoodRankingsMeanLive S.step }
 {}
 
 /// A network with a good ranking, and a network that is stuck, for which no ranking is good.

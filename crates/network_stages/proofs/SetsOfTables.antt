@@ -12,7 +12,7 @@ use Rattle.determinise.specs.ManySets.{HaveSameStates, ReachesSets}
 use Rattle.determinise.specs.declared.fault.SetFault.{SetFault}
 use Rattle.determinise.specs.declared.fault.SetFault.TheVariants as fault
 use Rattle.net_sound.proofs.FlatLists.{step_alphabet}
-use Rattle.net_sound.proofs.Heights.{stands}
+use Rattle.net_sound.proofs.Numbered.{stands}
 use Rattle.net_sound.proofs.Normal.{trace_down, trace_up}
 use Rattle.network_tables.specs.Tables.{HasTable}
 use Rattle.network_tables.specs.declared.component_tables.ComponentTable.{ComponentTable}

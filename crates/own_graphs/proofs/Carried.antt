@@ -13,7 +13,7 @@ use Rattle.csp_tables.specs.RawTable.{IsTableOf, RawTable, standing_at}
 use Rattle.digraph.specs.Circle.{IsCircle, Leads}
 use Rattle.digraph.specs.Walk.{Walk}
 use Rattle.net_sound.proofs.FlatLists.{step_alphabet}
-use Rattle.net_sound.proofs.Heights.{stands}
+use Rattle.net_sound.proofs.Numbered.{stands}
 use Rattle.hidden_steps.specs.Order.{GoesRound, IsHeight, OwnStep, Taken, is_passed}
 use Rattle.own_graphs.specs.Exact.{AreOpen, OwnCirclesAreExact, OwnHeightsAreExact}
 use Rattle.own_graphs.specs.Own.{IsOwnHeight, OwnArc}

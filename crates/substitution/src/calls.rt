@@ -1,17 +1,15 @@
 //! Values in place of bound names, in networks, in processes and in all that a process holds.
 
 ghost use Rattle.std.specs.Prelude.{◌≡◌, IfOk, map};
-ghost use Rattle.csp_program.specs.Substitution.{expr_with, fields_with, net_with, proc_with};
-ghost use Rattle.substitution.specs.Bindings.{expr_put, net_put, proc_put};
+ghost use Rattle.csp_program.specs.Substitution.{expr_with, net_with};
+ghost use Rattle.substitution.specs.Bindings.{expr_put, net_put};
 
 use crate::expressions::{replace_expr, replace_exprs};
-use crate::fields::put_fields;
 use crate::networks::replace_net;
-use crate::processes::replace_proc;
 use crate::values::Values;
 use containers::Items;
 use csp_base::NoMemory;
-use csp_program::{Expr, Field, Net, Proc, Value};
+use csp_program::{Expr, Net, Value};
 use std::alloc::Global;
 
 /// The expression with the values in place of the names, wherever these are free.
@@ -49,25 +47,6 @@ pub fn substitute_expr(
     ensures { IfOk result (λ made. made ≡ expr_with name value.now expr.now) }
 {
     replace_expr(alloc, expr, &Values::one(alloc, &name, value))
-}
-
-/// The fields of a prefix with the value in place of the name, up to the one that binds the name. Those after it stay as they are.
-pub fn substitute_fields(
-    alloc: Global,
-    fields: &[Field],
-    name: u32,
-    value: &Value,
-) -> Result<Items<Field>, NoMemory>
-    ensures { IfOk result (λ made. made ≡ fields_with name value.now fields.now) }
-{
-    put_fields(alloc, fields, &Values::one(alloc, &name, value))
-}
-
-/// The process with the value in place of the bound name with this number, wherever that name is free.
-pub fn substitute(alloc: Global, process: &Proc, name: u32, value: &Value) -> Result<Proc, NoMemory>
-    ensures { IfOk result (λ made. made ≡ proc_with name value.now process.now) }
-{
-    replace_proc(alloc, process, &Values::one(alloc, &name, value))
 }
 
 /// The network with the value in place of the bound name with this number, wherever that name is free.

@@ -9,9 +9,7 @@ mod networks;
 mod processes;
 mod values;
 
-pub use calls::{
-    put_expr, put_exprs, put_net, substitute, substitute_expr, substitute_fields, substitute_net,
-};
+pub use calls::{put_expr, put_exprs, put_net, substitute_expr, substitute_net};
 pub use fields::{
     any_field_binds, any_gets_name, pass_fields, put_fields, put_gens, put_head, put_pairs,
 };

@@ -3,4 +3,4 @@ use Rattle.dl_top.specs.Judgement.{ScriptDecides}
 use Rattle.dl_top.proofs.judge.decided.Goals as goal
 
 pub returns-in_err-text-in-Show : goal.returns-in_err-text-in-Show
-returns-in_err-text-in-Show c = at_want c.from_residual.result (ScriptDecides c.args.job c.args.script.now) c.from_residual.ensures.1
+returns-in_err-text-in-Show c = at_want c.from_residual.result (ScriptDecides c.args.job.now c.args.script.now) c.from_residual.ensures.1

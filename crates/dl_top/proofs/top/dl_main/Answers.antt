@@ -1,10 +1,11 @@
-use Rattle.std.proofs.Common.{Err, ap, ◌∙◌}
+use Rattle.std.proofs.Common.{Err, false, true, ap, ◌∙◌}
 use Rattle.dl_top.specs.Cause.{MayGive, shelf_signs}
 use Rattle.dl_top.specs.Ending.{sink_signs}
 use Rattle.dl_top.proofs.Printing.{ends_broken, ends_in_shelf_fault, ends_short, ends_whole, settled}
 use Rattle.dl_top.proofs.Completing.{completes}
 use Rattle.dl_top.proofs.Matching.{matching_completes}
 use Rattle.dl_top.proofs.Proving.{conformed, proved, ranked, shown, told, tried, tried_ranked}
+use Rattle.dl_top.proofs.Running.{bounded, ran}
 use Rattle.dl_top.proofs.top.dl_main.Goals as goal
 
 pub returns-in-Ok-send-clause-proved : goal.returns-in-Ok-send-clause-proved
@@ -27,6 +28,27 @@ returns-in-Ok-send-clause-told g c asks zero =
     let sink = g.O.Sink in
     told (shelf.texts c.args.shelf.now) c.args.words.now (shelf_signs (shelf.faults c.args.shelf.now) (shelf.faults c.printed_reply.new.shelf) (shelf.taken c.args.shelf.now) (shelf.taken c.printed_reply.new.shelf))
     (sink.sent c.args.out.now) (sink.sent c.send.new.out) c.in-Ok.printed c.in-Ok.ensures.prints c.as_slice.result.now c.as_slice.ensures c.in-Ok-send.ensures.ok zero asks
+
+pub returns-in-Ok-send-clause-ran : goal.returns-in-Ok-send-clause-ran
+returns-in-Ok-send-clause-ran g c asks is =
+    let shelf = g.S.Shelf in
+    let sink = g.O.Sink in
+    ran (shelf.texts c.args.shelf.now) c.args.words.now (shelf_signs (shelf.faults c.args.shelf.now) (shelf.faults c.printed_reply.new.shelf) (shelf.taken c.args.shelf.now) (shelf.taken c.printed_reply.new.shelf))
+    (sink.sent c.args.out.now) (sink.sent c.send.new.out) c.in-Ok.printed c.in-Ok.ensures.prints c.as_slice.result.now c.as_slice.ensures c.in-Ok-send.ensures.ok false is asks
+
+pub returns-in-Ok-send-clause-stuck : goal.returns-in-Ok-send-clause-stuck
+returns-in-Ok-send-clause-stuck g c asks is =
+    let shelf = g.S.Shelf in
+    let sink = g.O.Sink in
+    ran (shelf.texts c.args.shelf.now) c.args.words.now (shelf_signs (shelf.faults c.args.shelf.now) (shelf.faults c.printed_reply.new.shelf) (shelf.taken c.args.shelf.now) (shelf.taken c.printed_reply.new.shelf))
+    (sink.sent c.args.out.now) (sink.sent c.send.new.out) c.in-Ok.printed c.in-Ok.ensures.prints c.as_slice.result.now c.as_slice.ensures c.in-Ok-send.ensures.ok true is asks
+
+pub returns-in-Ok-send-clause-bounded : goal.returns-in-Ok-send-clause-bounded
+returns-in-Ok-send-clause-bounded g c asks is =
+    let shelf = g.S.Shelf in
+    let sink = g.O.Sink in
+    bounded (shelf.texts c.args.shelf.now) c.args.words.now (shelf_signs (shelf.faults c.args.shelf.now) (shelf.faults c.printed_reply.new.shelf) (shelf.taken c.args.shelf.now) (shelf.taken c.printed_reply.new.shelf))
+    (sink.sent c.args.out.now) (sink.sent c.send.new.out) c.in-Ok.printed c.in-Ok.ensures.prints c.as_slice.result.now c.as_slice.ensures c.in-Ok-send.ensures.ok is asks
 
 pub returns-in-Ok-send-clause-conformed : goal.returns-in-Ok-send-clause-conformed
 returns-in-Ok-send-clause-conformed g c asks zero =
