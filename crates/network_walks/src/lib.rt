@@ -1,7 +1,7 @@
 //! One run of a script's network, step by step: which options each state has, and which of them a number chooses. And what such a walk says of the network.
 #![tactic(auto)]
 
-ghost use Rattle.network_walks.specs.Laws.{NoOptionMeansStuck, StuckIsNotLive, StuckWalksRefuteLive, WalksAreRuns};
+ghost use Rattle.network_walks.specs.Laws.{NoMoveMeansStuck, StuckIsNotLive, StuckWalksRefuteLive, WalksAreRuns};
 
 use net_sound::Transitions;
 
@@ -9,7 +9,7 @@ use net_sound::Transitions;
 /// live for no bound.
 pub fn walks_are_runs<S: Transitions>()
     ensures runs { WalksAreRuns S.step }
-    ensures none { NoOptionMeansStuck S.step }
+    ensures none { NoMoveMeansStuck S.step }
     ensures stuck { StuckIsNotLive S.step }
     ensures refute { StuckWalksRefuteLive S.step }
 {}
