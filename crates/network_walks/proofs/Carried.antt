@@ -1,0 +1,93 @@
+-- From a walk by the numbers of terms to one of the network: where the components of a network stand at the terms with these numbers, the moves are the same,
+-- and each leads to where they stand so again. The steps of the list of components are those of the tree.
+use Rattle.std.proofs.Common.{◌≡◌, ◌↔◌, ◌<◌, ℕ, Bool, List, [], ◌∷◌, length, set, refl, sym, subst, ◌∙◌, arith}
+use Rattle.std.proofs.lemmas.Option.{same_Some, slice_get_within}
+use Rattle.csp_tables.specs.Label.{Label}
+use Rattle.csp_tables.specs.Label.Label.{silent, visible}
+use Rattle.csp_tables.specs.Network.{Component, ComponentStep, Tree, leaves}
+use Rattle.csp_tables.specs.RawTable.{RawStep}
+use Rattle.csp_tables.specs.WellNested.{WellNested}
+use Rattle.net_sound.proofs.Flattening.{back, forth, kept}
+use Rattle.numbered_walks.specs.Numbered.{Has as HasByNumber, Numbered, Takes as TakesByNumber, first_terms}
+use Rattle.numbered_walks.specs.Walks.{IsWalkOf}
+use Rattle.numbered_walks.specs.declared.moves.Move.{Move}
+use Rattle.numbered_walks.specs.declared.moves.Move.TheVariants as move
+use Rattle.network_walks.specs.Moves.{Has, Takes}
+use Rattle.network_walks.proofs.Likewise.{StepsAlike, walk_alike}
+use Rattle.network_walks.proofs.Numbers.{leads, led}
+use Rattle.network_walks.proofs.Rows.{Row, Stand, all_by_number, all_by_term, as_many, by_number, by_term, components, in_place, numbered_row, numbered_rows, same_owner}
+use Rattle.network_walks.proofs.Runs.{moves_there}
+
+module _ {T : Type 0} (Step : T → Label → T → Type 0) (rows : List (Row Step)) where
+  abbrev ns : List Numbered
+  ns = numbered_rows Step rows
+
+  -- the components of the network stand at the terms with these numbers
+  pub record StandsBy (xs : List ℕ) (t : Tree T) : Type 0 where
+    pub nested : WellNested t
+    pub stand : Stand Step rows (leaves t) xs
+
+  -- a step by numbers is one of the network
+  abbrev Goes : Tree T → Move → List ℕ → Type 0
+  Goes t m ys = StepsAlike (HasByNumber ns) (TakesByNumber ns) (Has Step) (Takes Step) StandsBy t m ys
+
+  goes : (xs ys : List ℕ) (t : Tree T) (m : Move) → StandsBy xs t → TakesByNumber ns xs m ys → Goes t m ys
+  goes xs ys t (move.Silent i) by does =
+      let p = in_place Step rows (leaves t) xs i by.stand (slice_get_within xs i does.term does.at) in
+      let row : does.component ≡ numbered_row Step p.row = same_Some does.component (numbered_row Step p.row) (sym does.there ∙ p.row_there) in
+      let number : does.term ≡ p.number = same_Some does.term p.number (sym does.at ∙ p.number_there) in
+      let raw = subst (λ (n : ℕ). RawStep p.row.table n silent does.next) number (subst (λ (c : Numbered). RawStep c.table does.term silent does.next) row does.step) in
+      let s = by_term Step p.row p.component p.number does.next silent p.stands raw in
+      let b = back Step t silent (set (leaves t) i s.next) by.nested (moves_there Step (leaves t) i p.component s.next p.there s.step) in
+      let stand = subst (λ (zs : List ℕ). Stand Step rows (set (leaves t) i s.next) zs) (sym does.others) (p.others s.next does.next s.stands) in
+      record {
+        state = b.tree;
+        takes = record { component = p.component; there = p.there; next = s.next; moves = s.step; others = b.whole; step = b.step };
+        alike = record { nested = kept Step t silent b.tree by.nested b.step; stand = subst (λ (cs : List (Component T)). Stand Step rows cs ys) (sym b.whole) stand };
+      }
+  goes xs ys t (move.Event e) by does =
+      let s = all_by_term Step e rows (leaves t) xs ys by.stand does.1 in
+      let b = back Step t (visible e) s.next by.nested (sym (same_owner Step e rows (leaves t) xs by.stand) ∙ does.0, s.take) in
+      record {
+        state = b.tree;
+        takes = b.step;
+        alike = record { nested = kept Step t (visible e) b.tree by.nested b.step; stand = subst (λ (cs : List (Component T)). Stand Step rows cs ys) (sym b.whole) s.stand };
+      }
+
+  -- a step of the network is one by numbers
+  comes : (xs : List ℕ) (t u : Tree T) (m : Move) → StandsBy xs t → Takes Step t m u → (ys : List ℕ) × TakesByNumber ns xs m ys
+  comes xs t u (move.Silent i) by takes =
+      let many : length (leaves t) ≡ length xs = as_many Step rows (leaves t) xs by.stand in
+      let p = in_place Step rows (leaves t) xs i by.stand (let below : i < length (leaves t) = slice_get_within (leaves t) i takes.component takes.there in omega (arith, many, below)) in
+      let here = subst (λ (c : Component T). ComponentStep Step c silent takes.next) (same_Some takes.component p.component (sym takes.there ∙ p.there)) takes.moves in
+      let s = by_number Step p.row p.component takes.next p.number silent p.stands here in (
+        set xs i s.number,
+        record {
+          component = numbered_row Step p.row;
+          there = p.row_there;
+          term = p.number;
+          at = p.number_there;
+          next = s.number;
+          step = s.step;
+          others = refl;
+        },
+      )
+  comes xs t u (move.Event e) by takes =
+      let flat = forth Step t (visible e) u by.nested takes in
+      let s = all_by_number Step e rows (leaves t) (leaves u) xs by.stand flat.1 in
+      (s.numbers, (same_owner Step e rows (leaves t) xs by.stand ∙ flat.0, s.does))
+
+  same_moves : (xs : List ℕ) (t : Tree T) → StandsBy xs t → (m : Move) → HasByNumber ns xs m ↔ Has Step t m
+  same_moves xs t by m = (
+    λ has. let r = leads ns xs m has in let g = goes xs r.0 t m by r.1 in (g.state, g.takes),
+    λ has. let r = comes xs t has.0 m by has.1 in led ns xs m r.0 r.1,
+  )
+
+  pub carried : (seed steps : ℕ) (xs : List ℕ) (t : Tree T) (moves : List Move) (is_stuck : Bool) → StandsBy xs t → IsWalkOf (HasByNumber ns) (TakesByNumber ns) seed steps xs moves is_stuck
+      → IsWalkOf (Has Step) (Takes Step) seed steps t moves is_stuck
+  carried seed steps xs t moves is_stuck by walk = walk_alike (HasByNumber ns) (TakesByNumber ns) (Has Step) (Takes Step) StandsBy same_moves goes seed steps xs t moves is_stuck by walk
+
+  -- where components begin
+  pub stand_first : (some : List (Row Step)) → Stand Step some (components Step some) (first_terms (numbered_rows Step some))
+  stand_first [] = tt
+  stand_first (r ∷ some) = (record { listed = r.is.first; alphabet = refl }, stand_first some)

@@ -1,0 +1,29 @@
+-- What a walk of a network says of its runs.
+--
+-- Each move is a step of the network, so the moves of a walk are the labels of a run. A silent step of a well-nested network is one of a component, so where
+-- the network has no option it has no step. A state without steps is stable and has no event, so a network that reaches one is not live.
+use Rattle.std.specs.Prelude.{◌↔◌, ℕ, true, List, map}
+use Rattle.csp_tables.specs.Label.{Label}
+use Rattle.csp_tables.specs.Live.{Live}
+use Rattle.csp_tables.specs.Network.{NetworkStep, Tree}
+use Rattle.csp_tables.specs.Path.{Path, Reached}
+use Rattle.csp_tables.specs.WellNested.{WellNested}
+use Rattle.numbered_walks.specs.Walks.{HasNone, IsWalk, IsWalkOf}
+use Rattle.numbered_walks.specs.declared.moves.Move.{Move}
+use Rattle.network_walks.specs.Moves.{Has, IsStuck, Takes, label}
+
+-- the moves of a walk are the labels of a run
+abbrev pub WalksAreRuns : {T : Type 0} → (T → Label → T → Type 0) → Type 0
+WalksAreRuns {T} Step = (number : ℕ) (t u : Tree T) (moves : List Move) → IsWalk (Has Step) (Takes Step) number t moves u → Path (NetworkStep Step) t (map label moves) u
+
+-- a network has no option exactly where it has no step
+abbrev pub NoMoveMeansStuck : {T : Type 0} → (T → Label → T → Type 0) → Type 0
+NoMoveMeansStuck {T} Step = (t : Tree T) → WellNested t → HasNone (Has Step t) ↔ IsStuck Step t
+
+-- a network that reaches a state without steps is live for no bound
+abbrev pub StuckIsNotLive : {T : Type 0} → (T → Label → T → Type 0) → Type 0
+StuckIsNotLive {T} Step = (t u : Tree T) (bound : ℕ) → Reached (NetworkStep Step) t u → IsStuck Step u → Live (NetworkStep Step) t bound → ⊥
+
+-- a network with a walk that ends stuck is live for no bound
+abbrev pub StuckWalksRefuteLive : {T : Type 0} → (T → Label → T → Type 0) → Type 0
+StuckWalksRefuteLive {T} Step = (seed steps bound : ℕ) (t : Tree T) (moves : List Move) → WellNested t → IsWalkOf (Has Step) (Takes Step) seed steps t moves true → Live (NetworkStep Step) t bound → ⊥

@@ -1,0 +1,35 @@
+-- What a network of components takes by a move, over any step relation of terms.
+use Rattle.std.specs.Prelude.{◌≡◌, ℕ, Some, slice_get, slice_set}
+use Rattle.csp_tables.specs.Label.{Label}
+use Rattle.csp_tables.specs.Label.Label.{silent, visible}
+use Rattle.csp_tables.specs.Network.{Component, ComponentStep, NetworkStep, Tree, leaves}
+use Rattle.numbered_walks.specs.declared.moves.Move.{Move}
+use Rattle.numbered_walks.specs.declared.moves.Move.TheVariants as move
+
+-- the label of a move
+abbrev pub label : Move → Label
+label (move.Silent i) = silent
+label (move.Event e) = visible e
+
+module _ {T : Type 0} (Step : T → Label → T → Type 0) where
+  -- a silent step of the network, by which the component in this place moves, and the others stay
+  pub record MovesSilently (t : Tree T) (i : ℕ) (u : Tree T) : Type 0 where
+    pub component : Component T
+    pub there : slice_get (leaves t) i ≡ Some component
+    pub next : Component T
+    pub moves : ComponentStep Step component silent next
+    pub others : leaves u ≡ slice_set (leaves t) i next
+    pub step : NetworkStep Step t silent u
+
+  -- the network to which a move leads
+  abbrev pub Takes : Tree T → Move → Tree T → Type 0
+  Takes t (move.Silent i) u = MovesSilently t i u
+  Takes t (move.Event e) u = NetworkStep Step t (visible e) u
+
+  -- the options of a network
+  abbrev pub Has : Tree T → Move → Type 0
+  Has t m = (u : Tree T) × Takes t m u
+
+  -- it has no step
+  abbrev pub IsStuck : Tree T → Type 0
+  IsStuck t = (l : Label) (u : Tree T) → NetworkStep Step t l u → ⊥
