@@ -9,7 +9,7 @@ use Rattle.csp_tables.specs.Label.Label.{visible}
 use Rattle.csp_tables.specs.Network.{Component, ComponentStep}
 use Rattle.csp_tables.specs.RawTable.{IsTableOf, RawStep, RawTable, standing_at}
 use Rattle.net_sound.proofs.FlatLists.{match_false, match_true, step_alphabet}
-use Rattle.net_sound.proofs.Heights.{stands}
+use Rattle.net_sound.proofs.Numbered.{stands}
 use Rattle.numbered_walks.specs.Numbered.{AllDo, Numbered, has_owner}
 
 -- a component with its table

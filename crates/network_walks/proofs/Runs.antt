@@ -11,7 +11,7 @@ use Rattle.net_sound.proofs.Flattening.{forth, kept}
 use Rattle.numbered_walks.specs.Numbers.{next_number}
 use Rattle.numbered_walks.specs.declared.moves.Move.{Move}
 use Rattle.numbered_walks.specs.declared.moves.Move.TheVariants as move
-use Rattle.network_walks.specs.Laws.{NoOptionMeansStuck, StuckIsNotLive, StuckWalksRefuteLive, WalksAreRuns}
+use Rattle.network_walks.specs.Laws.{NoMoveMeansStuck, StuckIsNotLive, StuckWalksRefuteLive, WalksAreRuns}
 use Rattle.network_walks.specs.Moves.{Takes, label}
 
 module _ {T : Type 0} (Step : T → Label → T → Type 0) where
@@ -49,8 +49,8 @@ module _ {T : Type 0} (Step : T → Label → T → Type 0) where
       (move.Silent r.place, record { component = r.component; there = r.there; next = r.next; moves = r.moves; others = r.others; step = step })
   has_move t (visible e) u nested step = (move.Event e, step)
 
-  pub no_option_means_stuck : NoOptionMeansStuck Step
-  no_option_means_stuck t nested = (
+  pub no_move_means_stuck : NoMoveMeansStuck Step
+  no_move_means_stuck t nested = (
     λ none l u step. let r = has_move t l u nested step in none r.0 (u, r.1),
     λ stuck m has. stuck (label m) has.0 (step_of t m has.0 has.1),
   )
@@ -66,12 +66,12 @@ module _ {T : Type 0} (Step : T → Label → T → Type 0) where
       stuck (visible moves.0) moves.1 moves.2
 
   -- a run keeps the nesting
-  stays_nested : (t u : Tree T) (ls : List Label) → WellNested t → Path (NetworkStep Step) t ls u → WellNested u
+  pub stays_nested : (t u : Tree T) (ls : List Label) → WellNested t → Path (NetworkStep Step) t ls u → WellNested u
   stays_nested t u [] nested path = subst WellNested path nested
   stays_nested t u (l ∷ ls) nested path = stays_nested path.0 u ls (kept Step t l path.0 nested path.1) path.2
 
   pub stuck_walks_refute_live : StuckWalksRefuteLive Step
   stuck_walks_refute_live seed steps bound t moves nested walk live =
       let path = walks_are_runs seed t walk.last moves walk.walk in
-      let stuck = (no_option_means_stuck walk.last (stays_nested t walk.last (map label moves) nested path)).0 (walk.stuck.0 refl) in
+      let stuck = (no_move_means_stuck walk.last (stays_nested t walk.last (map label moves) nested path)).0 (walk.stuck.0 refl) in
       stuck_is_not_live t walk.last bound (map label moves, path) stuck live

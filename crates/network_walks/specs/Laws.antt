@@ -17,8 +17,8 @@ abbrev pub WalksAreRuns : {T : Type 0} → (T → Label → T → Type 0) → Ty
 WalksAreRuns {T} Step = (number : ℕ) (t u : Tree T) (moves : List Move) → IsWalk (Has Step) (Takes Step) number t moves u → Path (NetworkStep Step) t (map label moves) u
 
 -- a network has no option exactly where it has no step
-abbrev pub NoOptionMeansStuck : {T : Type 0} → (T → Label → T → Type 0) → Type 0
-NoOptionMeansStuck {T} Step = (t : Tree T) → WellNested t → HasNone (Has Step t) ↔ IsStuck Step t
+abbrev pub NoMoveMeansStuck : {T : Type 0} → (T → Label → T → Type 0) → Type 0
+NoMoveMeansStuck {T} Step = (t : Tree T) → WellNested t → HasNone (Has Step t) ↔ IsStuck Step t
 
 -- a network that reaches a state without steps is live for no bound
 abbrev pub StuckIsNotLive : {T : Type 0} → (T → Label → T → Type 0) → Type 0
