@@ -1,2 +1,5 @@
 pub mod Laws
 pub mod Moves
+pub mod Tabled
+pub mod Walked
+pub mod Whole

@@ -1,0 +1,11 @@
+use Rattle.network_walks.proofs.Runs.{no_move_means_stuck, stuck_is_not_live, stuck_walks_refute_live, walks_are_runs}
+use Rattle.process_steps.specs.ComponentStep.{ProcessStep}
+use Rattle.network_walks.proofs.laws.walks_are_runs.Goals as goal
+
+pub returns : goal.returns
+returns c = record {
+  runs = λ p. walks_are_runs (ProcessStep p);
+  none = λ p. no_move_means_stuck (ProcessStep p);
+  stuck = λ p. stuck_is_not_live (ProcessStep p);
+  refute = λ p. stuck_walks_refute_live (ProcessStep p);
+}
