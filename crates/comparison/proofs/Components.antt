@@ -1,19 +1,19 @@
 -- From the parts of two networks to their components: which conform, and which is the first that does not.
-use Rattle.std.proofs.Common.{◌≡◌, ℕ, zero, suc, ◌<◌, ◌≤◌, inl, inr, List, [], ◌∷◌, length, Option, None, Some, Ok, refl, sym, ap, subst, ◌∙◌, arith}
+use Rattle.std.proofs.Common.{◌≡◌, ℕ, suc, ◌<◌, inl, inr, List, [], ◌∷◌, length, Some, Ok, refl, sym, ap, ◌∙◌, arith}
 use Rattle.std.specs.Prelude.{slice_get}
-use Rattle.std.proofs.lemmas.Option.{same_Some, slice_get_past, slice_get_within}
+use Rattle.std.proofs.lemmas.Option.{same_Some}
 use Rattle.csp_program.specs.declared.processes.Proc.{Proc}
 use Rattle.csp_program.specs.declared.programs.Content.{Content}
-use Rattle.csp_tables.specs.Label.{Label}
 use Rattle.csp_tables.specs.Live.{Live}
 use Rattle.csp_tables.specs.Network.{Component, NetworkStep, leaves}
 use Rattle.csp_tables.specs.Part.{Part, part_at}
-use Rattle.csp_tables.specs.ShapeOf.{ArePartsOf, IsPartOf}
+use Rattle.csp_tables.specs.ShapeOf.{ArePartsOf}
 use Rattle.csp_tables.specs.SilentBound.{IsSilentBound}
 use Rattle.conformance.specs.Conforming.{TableConforms}
 use Rattle.conformance.proofs.Telling.{tables_tell}
+use Rattle.net_sound.proofs.Parts.{component_of, part_of, part_within}
 use Rattle.network_layout.specs.Triple.{alphabets}
-use Rattle.network_stages.specs.Networks.{Network, network_at, tree_at}
+use Rattle.network_stages.specs.Networks.{Network, tree_at}
 use Rattle.network_trees.specs.NetworkOf.{network_of}
 use Rattle.network_trees.proofs.InOrder.{network_is_tree}
 use Rattle.process_steps.specs.ComponentStep.{ProcessStep}
@@ -23,28 +23,6 @@ use Rattle.report.specs.declared.answer.Shortfall.{Shortfall}
 use Rattle.comparison.specs.Conforming.{FailsToConform}
 use Rattle.comparison.specs.Walk.{PartFails, PartsConformBefore}
 use Rattle.comparison.proofs.Lists.{alphabet_there}
-
-module _ {T : Type 0} (Step : T → Label → T → Type 0) where
-  pub as_many_parts : (cs : List (Component T)) (ps : List Part) → ArePartsOf Step cs ps → length cs ≡ length ps
-  as_many_parts [] [] are = refl
-  as_many_parts [] (p ∷ ps) are = absurd are
-  as_many_parts (c ∷ cs) [] are = absurd are
-  as_many_parts (c ∷ cs) (p ∷ ps) are = let rest = as_many_parts cs ps are.1 in omega (arith, rest)
-
-  -- the component of a part
-  pub component_at : (cs : List (Component T)) (ps : List Part) → ArePartsOf Step cs ps → (k : ℕ) → k < length ps → (c : Component T) × (slice_get cs k ≡ Some c) × IsPartOf Step c (part_at ps k)
-  component_at [] [] are k h = absurd (omega arith)
-  component_at [] (p ∷ ps) are k h = absurd are
-  component_at (c ∷ cs) [] are k h = absurd are
-  component_at (c ∷ cs) (p ∷ ps) are zero h = (c, refl, are.0)
-  component_at (c ∷ cs) (p ∷ ps) are (suc k) h = component_at cs ps are.1 k (omega arith)
-
-  -- and the part of a component
-  pub part_of : (cs : List (Component T)) (ps : List Part) → ArePartsOf Step cs ps → (k : ℕ) (c : Component T) → slice_get cs k ≡ Some c → IsPartOf Step c (part_at ps k)
-  part_of cs ps are k c at =
-      let within = slice_get_within cs k c at in
-      let there = component_at cs ps are k (let as_many = as_many_parts cs ps are in omega (arith, within)) in
-      subst (λ (d : Component T). IsPartOf Step d (part_at ps k)) (same_Some there.0 c (sym there.1 ∙ at)) there.2
 
 module _ (p q : Content) (cs ds : List (Component Proc)) (ps qs : List Part) (are : ArePartsOf (ProcessStep p) cs ps) (others : ArePartsOf (ProcessStep q) ds qs) (same : alphabets cs ≡ alphabets ds) where
   same_alphabet : (k : ℕ) (c d : Component Proc) → slice_get cs k ≡ Some c → slice_get ds k ≡ Some d → c.alphabet ≡ d.alphabet
@@ -67,10 +45,7 @@ each_conforms p q (c ∷ cs) (d ∷ ds) same each =
 
 module _ (p q : Content) (cs ds : List (Component Proc)) (ps qs : List Part) (are : ArePartsOf (ProcessStep p) cs ps) (others : ArePartsOf (ProcessStep q) ds qs) (same : alphabets cs ≡ alphabets ds) where
   pub all_conform : PartsConformBefore ps qs (length ps) → AllConform (ProcessStep p) (ProcessStep q) cs ds
-  all_conform conform = each_conforms p q cs ds same (λ k c d here there.
-      let within = slice_get_within cs k c here in
-      let as_many = as_many_parts (ProcessStep p) cs ps are in
-      one_conforms p q cs ds ps qs are others same k c d here there (conform k (omega (arith, within))))
+  all_conform conform = each_conforms p q cs ds same (λ k c d here there. one_conforms p q cs ds ps qs are others same k c d here there (conform k (part_within (ProcessStep p) cs ps are k c here)))
 
 -- the first part that does not conform is that of the first component
 module _ (p q : Content) (network : Network) (specified : Network) where
@@ -81,22 +56,22 @@ module _ (p q : Content) (network : Network) (specified : Network) where
       let Q = ProcessStep specified.program in
       let cs = leaves network.tree in
       let ds = leaves specified.tree in
-      let here = component_at P cs ps are fails.place fails.within in
+      let here = component_of P cs ps are fails.place fails.within in
       let within : fails.place < length ps = fails.within in
-      let there = component_at Q ds qs others fails.place (omega (arith, as_many)) in
+      let there = component_of Q ds qs others fails.place (omega (arith, as_many)) in
       let tell = tables_tell P Q in (
         fails.place,
-        here.0,
-        there.0,
+        here.component,
+        there.component,
         fails.trace,
         record {
-          here = here.1;
-          there = there.1;
+          here = here.listed;
+          there = there.listed;
           earlier = λ j a b less at other. one_conforms network.program specified.program cs ds ps qs are others same j a b at other (fails.earlier j less);
         },
         elim fails.told [
-          | inl f ↦ inl (tell.outside here.0 there.0 (part_at ps fails.place) (part_at qs fails.place) fails.trace here.2 there.2 f.0, f.1)
-          | inr f ↦ inr (tell.refuses here.0 there.0 (part_at ps fails.place) (part_at qs fails.place) fails.trace here.2 there.2 f.0, f.1)
+          | inl f ↦ inl (tell.outside here.component there.component (part_at ps fails.place) (part_at qs fails.place) fails.trace here.part there.part f.0, f.1)
+          | inr f ↦ inr (tell.refuses here.component there.component (part_at ps fails.place) (part_at qs fails.place) fails.trace here.part there.part f.0, f.1)
         ],
       )
 

@@ -1,11 +1,14 @@
 -- The walk of a comparison: what it answers at each of its exits.
-use Rattle.std.proofs.Common.{◌≡◌, ℕ, List, Result, Ok, Err, inl, inr, refl, sym, ap, subst, ◌∙◌, length, arith}
+use Rattle.std.proofs.Common.{◌≡◌, ◌≤◌, ℕ, List, Result, Ok, inl, inr, refl, ap, subst, length, arith}
 use Rattle.std.specs.Result.{IsErrAnd}
 use Rattle.csp_program.specs.declared.processes.Proc.{Proc}
 use Rattle.csp_program.specs.declared.programs.Content.{Content}
 use Rattle.csp_tables.specs.Network.{Component, leaves}
 use Rattle.csp_tables.specs.Part.{Part}
+use Rattle.csp_tables.specs.SilentBound.{IsSilentBound}
+use Rattle.net_sound.proofs.Parts.{one_part_each}
 use Rattle.network_layout.specs.Triple.{alphabets}
+use Rattle.network_stages.proofs.Networks.{few_components}
 use Rattle.network_stages.proofs.Exits.{at_refusal, at_shortfall, at_stop}
 use Rattle.network_stages.specs.Networks.{Network, components_at, network_at, tree_at}
 use Rattle.network_stages.specs.Sets.{ArePartsBy}
@@ -20,6 +23,7 @@ use Rattle.report.specs.Stops.{Answers, Tells, refused, unproved}
 use Rattle.report.specs.declared.answer.Answer.{Answer}
 use Rattle.report.specs.declared.answer.Answer.TheVariants as answer
 use Rattle.report.specs.declared.answer.Done.{Done}
+use Rattle.report.specs.declared.answer.Done.TheVariants as done
 use Rattle.report.specs.declared.answer.Refusal.{Refusal}
 use Rattle.report.specs.declared.answer.Shortfall.{Shortfall}
 use Rattle.report.specs.declared.answer.Side.TheVariants as side
@@ -29,7 +33,7 @@ use Rattle.comparison.specs.Agreement.{HaveOtherEvents, HaveOtherShape, printed_
 use Rattle.comparison.specs.Compared.{ConformanceDecides, IsCompared, IsConforming, PartsOr}
 use Rattle.comparison.specs.Conforming.{ComponentsConform, FailsToConform}
 use Rattle.comparison.specs.Walk.{HasNoParts, HasParts, IsToldConforming, PartFails, PartsConformBefore, SpecificationHasNoParts}
-use Rattle.comparison.proofs.Components.{all_conform, as_many_parts, inherits, part_fails}
+use Rattle.comparison.proofs.Components.{all_conform, inherits, part_fails}
 use Rattle.comparison.proofs.Lists.{as_many_alphabets}
 
 -- ---- of one network
@@ -123,10 +127,13 @@ fails_weaker network specified (stop.Told s) ps qs weak tells = weak s tells
 module _ (p q : Content) (ps qs : List Part) (has : HasParts (network_at p) ps) (others : HasParts (network_at q) qs) (same : alphabets (components_at p) ≡ alphabets (components_at q)) where
   pub as_many : length ps ≡ length qs
   as_many =
-      let a = as_many_parts (ProcessStep p) (components_at p) ps has.by.are in
-      let b = as_many_parts (ProcessStep q) (components_at q) qs others.by.are in
+      let a = one_part_each (ProcessStep p) (components_at p) ps has.by.are in
+      let b = one_part_each (ProcessStep q) (components_at q) qs others.by.are in
       let c : length (alphabets (components_at p)) ≡ length (alphabets (components_at q)) = ap length same in
       omega (arith, a, b, c, as_many_alphabets (components_at p), as_many_alphabets (components_at q))
+
+  pub few_parts : network_of p ≡ Ok (tree_at p) → length ps ≤ 512
+  few_parts spelled = subst (λ n. n ≤ 512) (one_part_each (ProcessStep p) (components_at p) ps has.by.are) (few_components p spelled)
 
   pub fails : (x : Content) → x ≡ p → (why : Stop Shortfall) → Tells (PartFails x ps qs) why → Tells (FailsToConform (network_at p) (network_at q)) why
   fails x is why tells =
@@ -146,14 +153,15 @@ module _ (p q : Content) (ps qs : List Part) (has : HasParts (network_at p) ps) 
     at_end each rest = goes_on _ _ _ _ tt each r rest
 
   -- what is told in the end
-  pub is_conforming : network_of p ≡ Ok (tree_at p) → network_of q ≡ Ok (tree_at q) → ComponentsConform (network_at p) (network_at q) → (x : Content) (cs : List (Component Proc)) (what : Done)
-      → x ≡ p → cs ≡ components_at p → IsToldConforming x cs what → IsConforming (network_at p) (network_at q) (answer.Done what)
-  is_conforming spelled other each x cs what programs components tells =
-      let there : IsToldConforming p (components_at p) what =
-      subst (λ (y : Content). IsToldConforming y (components_at p) what) programs (subst (λ (ds : List (Component Proc)). IsToldConforming x ds what) components tells) in
-      record {
-        bound = there.bound;
-        exact = there.exact;
-        inherits = inherits p q spelled other ps has.by.are each there.bound there.exact;
-        is = ap answer.Done there.is;
-      }
+  pub is_conforming : network_of p ≡ Ok (tree_at p) → network_of q ≡ Ok (tree_at q) → ComponentsConform (network_at p) (network_at q) → (what : Done)
+      → IsToldConforming p (components_at p) what → IsConforming (network_at p) (network_at q) (answer.Done what)
+  is_conforming spelled other each what told = record {
+    bound = told.bound;
+    exact = told.exact;
+    inherits = inherits p q spelled other ps has.by.are each told.bound told.exact;
+    is = ap answer.Done told.is;
+  }
+
+pub told_conforming : (p : Content) (count bound : ℕ) → IsSilentBound (ProcessStep p) (components_at p) bound → count ≡ length (components_at p)
+    → IsToldConforming p (components_at p) (done.Conforms count bound)
+told_conforming p count bound exact counted = record { bound = bound; exact = exact; is = ap (λ (k : ℕ). done.Conforms k bound) counted }

@@ -14,7 +14,6 @@ ghost use Rattle.comparison.specs.Walk.{HasNoParts, HasParts, IsToldConforming, 
 use crate::conforming::check_parts;
 use crate::events::same_events;
 use crate::shapes::same_shape;
-use csp_base::NoMemory;
 use csp_tables::Part;
 use network_stages::{Spelled, Tabled, make_parts, make_tables};
 use network_tables::silent_bound;
@@ -72,8 +71,7 @@ fn conform_parts(
 {
     let _spelled = specified.program();
     check_parts(alloc, network.program(), parts, others)?;
-    let done = told_conforming(tables)?;
-    Ok(done)
+    Ok(told_conforming(network, tables))
 }
 
 // The parts of a specification, as a walk needs them.
@@ -98,13 +96,14 @@ fn parts_of(alloc: Global, network: &Spelled) -> Result<Vec<Part>, Stop<Refusal>
     make_parts(alloc, 0, &tables)
 }
 
-// That the network with these tables conforms. A count that its type does not hold is refused like want of memory.
-fn told_conforming(tabled: &Tabled<'_>) -> Result<Done, NoMemory>
-    ensures { IfOk result (IsToldConforming tabled.now.program tabled.now.components) }
+// That the network with these tables conforms.
+fn told_conforming(network: &Spelled, tables: &Tabled<'_>) -> Done
+    requires program { tables.now.program ≡ network.now }
+    requires components { tables.now.components ≡ components_at network.now }
+    ensures { IsToldConforming network.now (components_at network.now) result }
 {
-    let Ok(components) = u32::try_from(tabled.seats().len()) else {
-        return Err(NoMemory);
-    };
-    let bound = silent_bound(tabled.tables())?;
-    Ok(Done::Conforms { components, bound })
+    Done::Conforms {
+        components: network.seats().len() as u32,
+        bound: silent_bound(tables.tables()),
+    }
 }

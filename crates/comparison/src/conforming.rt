@@ -1,7 +1,8 @@
 //! Whether each component of a network conforms to the one in its place.
 
-ghost use Rattle.std.specs.Prelude.{◌≡◌, IfErr, IfOk, OnOk, length};
+ghost use Rattle.std.specs.Prelude.{◌≡◌, ◌≤◌, IfErr, IfOk, OnOk, length};
 ghost use Rattle.std.specs.List.{All};
+ghost use Rattle.dl_limits.specs.declared.TheConstants.{MOST_COMPONENTS};
 ghost use Rattle.network_shape.specs.Parts.{IsWellFormedPart};
 ghost use Rattle.report.specs.Stops.{Tells};
 ghost use Rattle.comparison.specs.Walk.{PartFails, PartsConformBefore, TellsFault};
@@ -21,6 +22,7 @@ pub(crate) fn check_parts(
     parts: &[Part],
     specified: &[Part],
 ) -> Result<(), Stop<Shortfall>>
+    requires few { length parts.now ≤ MOST_COMPONENTS }
     requires as_many { length parts.now ≡ length specified.now }
     requires form { All IsWellFormedPart parts.now }
     requires specified_form { All IsWellFormedPart specified.now }
@@ -29,25 +31,21 @@ pub(crate) fn check_parts(
 {
     for place in 0..parts.len() {
         if let Err(fault) = conform_part(alloc, &parts[place], &specified[place]) {
-            return Err(stopped(failure(alloc, program, place, fault)));
+            return Err(stopped(failure(alloc, program, place as u32, fault)));
         }
     }
     Ok(())
 }
 
-// How it is told that the component in this place does not conform to its specification. A place that its type does not hold is refused like want of
-// memory.
+// How it is told that this component does not conform to its specification.
 fn failure(
     alloc: Global,
     program: &Program,
-    place: usize,
+    component: u32,
     fault: ConformFault,
 ) -> Result<Shortfall, NoMemory>
-    ensures { IfOk result (TellsFault program.now place fault) }
+    ensures { IfOk result (TellsFault program.now component fault) }
 {
-    let Ok(component) = u32::try_from(place) else {
-        return Err(NoMemory);
-    };
     match fault {
         ConformFault::NoMemory => Err(NoMemory),
         ConformFault::Outside { trace } => {

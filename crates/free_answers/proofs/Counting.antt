@@ -1,10 +1,12 @@
 -- Counting over lists of parts and of ranks, from the front.
-use Rattle.std.proofs.Common.{◌≡◌, ℕ, ◌+◌, ◌<◌, ℤ, max, List, [], ◌∷◌, ◌++◌, Vec, length, map, take, get_or, refl, sym, ap, ◌∙◌, add-one, arith}
+use Rattle.std.proofs.Common.{◌≡◌, ℕ, zero, suc, ◌+◌, ◌*◌, ◌<◌, ◌≤◌, ℤ, max, List, [], ◌∷◌, ◌++◌, Vec, length, map, take, get_or, refl, sym, ap, ◌∙◌, add-one, arith}
 use Rattle.std.specs.declared.alloc.Global.{Global}
 use Rattle.std.specs.List.{flat_map}
 use Rattle.std.proofs.Math.Seq.{take-suc}
+use Rattle.csp_tables.specs.Form.{HaveForm}
 use Rattle.csp_tables.specs.Part.{Part}
 use Rattle.csp_tables.specs.Ranking.{PartRanks}
+use Rattle.csp_tables.specs.Shape.{IsWellFormed, Shape}
 use Rattle.free_answers.specs.Counts.{greatest_from, node_count}
 use Rattle.csp_base.proofs.Lists.{flat_map_push}
 use Rattle.csp_program.specs.Value.{natural}
@@ -26,6 +28,36 @@ pub one_count : (parts : List Part) (i : ℕ) (part : Part) (count next : ℕ) �
 one_count parts i part count next within is so_far now =
     now ∙ ap (λ n. n + length part.table) so_far ∙ sym (one_more_part (take i parts) part)
     ∙ ap node_count (ap (λ x. take i parts ++ x ∷ []) is ∙ grown parts i part within)
+
+-- ---- the nodes are counted in 32 bits
+
+front_count : (parts : List Part) (n : ℕ) → node_count (take n parts) ≤ node_count parts
+front_count [] zero = omega arith
+front_count [] (suc n) = omega arith
+front_count (p ∷ parts) zero = omega arith
+front_count (p ∷ parts) (suc n) = let rest = front_count parts n in omega (arith, rest)
+
+pub still_fits : (parts : List Part) (i : ℕ) (part : Part) (count : ℕ) → i < length parts → part ≡ get_or parts i part → count ≡ node_count (take i parts)
+    → node_count parts < 4294967296 → count + length part.table < 4294967296
+still_fits parts i part count within is so_far fits =
+    let grown = one_count parts i part count (count + length part.table) within is so_far refl in
+    let front = front_count parts (i + 1) in
+    omega (arith, grown, front, fits)
+
+low_count : (parts : List Part) → HaveForm parts → node_count parts ≤ length parts * 2048
+low_count [] form = omega arith
+low_count (p ∷ parts) form =
+    let first : length p.table ≤ 2048 = form.0.most in
+    let rest = low_count parts form.1 in
+    omega (arith, first, rest)
+
+pub few_nodes : (shape : Shape) → IsWellFormed shape → node_count shape.parts < 4294967296
+few_nodes shape form =
+    let few : length shape.parts ≤ 512 = form.most in
+    let low = low_count shape.parts form.form in
+    omega (arith, few, low)
+
+-- ---- ranks
 
 -- one more rank
 pub one_rank : (m : ℕ) (xs : List ℤ) (i : ℕ) (d : ℤ) (most next : ℕ) → i < length xs → most ≡ greatest_from m (take i xs) → next ≡ max most (natural (get_or xs i d))

@@ -1,35 +1,31 @@
 //! That a network is free of deadlock, as it is told.
 
-ghost use Rattle.std.specs.Prelude.{IfOk};
+ghost use Rattle.std.specs.Prelude.{◌≡◌};
+ghost use Rattle.network_stages.specs.Networks.{components_at};
 ghost use Rattle.free_answers.specs.Told.{IsToldFree};
 
 use crate::counts::{count_nodes, greatest};
-use csp_base::NoMemory;
-use csp_tables::{Ranking, Rule, Shape};
-use network_stages::Tabled;
+use csp_tables::{Ranking, Rule};
+use network_stages::{Shaped, Tabled};
 use network_tables::silent_bound;
 use report::Done;
 
-/// That the network with these tables is free of deadlock, by a rule with its ranking. A count that its type does not hold is refused like want of memory.
+/// That the network with these tables and this shape is free of deadlock, by a rule with its ranking.
 pub fn deadlock_free(
     rule: Rule,
-    tabled: &Tabled<'_>,
-    shape: &Shape,
+    tables: &Tabled<'_>,
+    shaped: &Shaped<'_>,
     ranking: &Ranking,
-) -> Result<Done, NoMemory>
-    ensures { IfOk result (IsToldFree tabled.now.program tabled.now.components rule shape.now ranking.now) }
+) -> Done
+    requires program { tables.now.program ≡ shaped.now.program }
+    requires components { tables.now.components ≡ components_at shaped.now.program }
+    ensures { IsToldFree shaped.now.program (components_at shaped.now.program) rule shaped.now.shape ranking.now result }
 {
-    let Ok(components) = u32::try_from(tabled.seats().len()) else {
-        return Err(NoMemory);
-    };
-    let bound = silent_bound(tabled.tables())?;
-    let nodes = count_nodes(shape.parts())?;
-    let greatest_rank = greatest(ranking)?;
-    Ok(Done::DeadlockFree {
+    Done::DeadlockFree {
         rule,
-        components,
-        nodes,
-        bound,
-        greatest_rank,
-    })
+        components: shaped.network().seats().len() as u32,
+        nodes: count_nodes(shaped.shape().parts()),
+        bound: silent_bound(tables.tables()),
+        greatest_rank: greatest(ranking),
+    }
 }

@@ -3,10 +3,9 @@ use Rattle.std.proofs.Common.{◌≡◌, ◌+◌, ℕ, List, [], ◌∷◌, Ok, 
 use Rattle.csp_program.specs.Outcome.{Outcome, and_then}
 use Rattle.csp_program.specs.declared.processes.Proc.{Proc}
 use Rattle.csp_program.specs.declared.programs.Content.{Content}
-use Rattle.csp_tables.specs.Label.{Label}
 use Rattle.csp_tables.specs.Network.{Component, NetworkStep}
 use Rattle.csp_tables.specs.Live.{Live}
-use Rattle.csp_tables.specs.Part.{Part, TripleDisjoint}
+use Rattle.csp_tables.specs.Part.{TripleDisjoint}
 use Rattle.csp_tables.specs.Ranking.{Ranking}
 use Rattle.csp_tables.specs.Shape.{Shape}
 use Rattle.csp_tables.specs.ShapeOf.{AreBusy, ArePartsOf, IsShapeOf}
@@ -17,6 +16,7 @@ use Rattle.design_rules.proofs.Live.{met_rules_mean_live}
 use Rattle.design_rules.proofs.Readings.{networks_meet}
 use Rattle.design_rules.specs.Rules.{HasNotes}
 use Rattle.net_sound.specs.Soundness.{IsSound}
+use Rattle.net_sound.proofs.Parts.{one_part_each}
 use Rattle.net_sound.proofs.ShapeOf.{shapes_behave}
 use Rattle.network_layout.specs.Triple.{alphabets}
 use Rattle.network_stages.specs.Networks.{components_at, tree_at}
@@ -51,12 +51,6 @@ as_many_more (Ok y) (Ok zs) n ys rest is =
 as_many : {C A : Type 0} (f : C → Outcome A) (xs : List C) (ys : List A) → all_outcomes f xs ≡ Ok ys → length ys ≡ length xs
 as_many f [] ys is = let none : [] ≡ ys = cc in ap length (sym none)
 as_many f (x ∷ xs) ys is = let more = as_many_more (f x) (all_outcomes f xs) (length xs) ys (λ zs there. as_many f xs zs there) is in omega (arith, more)
-
-one_part_each : {T : Type 0} (Step : T → Label → T → Type 0) (cs : List (Component T)) (ps : List Part) → ArePartsOf Step cs ps → length cs ≡ length ps
-one_part_each Step [] [] are = refl
-one_part_each Step [] (p ∷ ps) are = absurd are
-one_part_each Step (c ∷ cs) [] are = absurd are
-one_part_each Step (c ∷ cs) (p ∷ ps) are = let rest = one_part_each Step cs ps are.1 in omega (arith, rest)
 
 -- the notes are as many as the parts
 pub has_notes : (p : Content) (cs : List (Component Proc)) (r : Rule) (notes : NotedRule) (shape : Shape) → Notes p cs r notes → ArePartsOf (ProcessStep p) cs shape.parts → HasNotes notes shape

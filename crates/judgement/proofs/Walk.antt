@@ -1,26 +1,24 @@
 -- The walk of a judgement: what it answers at each of its exits.
-use Rattle.std.proofs.Common.{◌≡◌, List, Result, Ok, ap, subst}
+use Rattle.std.proofs.Common.{◌≡◌, List, Result, ap, subst}
 use Rattle.std.specs.Result.{IsErrAnd}
 use Rattle.csp_program.specs.declared.processes.Proc.{Proc}
 use Rattle.csp_program.specs.declared.programs.Content.{Content}
 use Rattle.csp_tables.specs.Network.{Component}
-use Rattle.csp_tables.specs.Part.{Part, TripleDisjoint}
+use Rattle.csp_tables.specs.Part.{Part}
 use Rattle.csp_tables.specs.Ranking.{Ranking}
 use Rattle.csp_tables.specs.Shape.{Shape}
-use Rattle.csp_tables.specs.ShapeOf.{AreBusy, IsShapeOf}
+use Rattle.csp_tables.specs.ShapeOf.{AreBusy}
 use Rattle.csp_tables.specs.declared.rule.Rule.{Rule}
 use Rattle.csp_text.specs.declared.script.Script.{Script}
 use Rattle.free_answers.specs.Told.{IsToldFree}
-use Rattle.network_layout.specs.Triple.{alphabets}
 use Rattle.network_stages.proofs.Exits.{at_refusal, at_shortfall}
-use Rattle.network_stages.specs.Networks.{IsNetworkOf, components_at, network_at, tree_at}
+use Rattle.network_stages.specs.Networks.{IsNetworkOf, components_at, network_at}
 use Rattle.network_stages.specs.Sets.{ArePartsBy}
 use Rattle.network_stages.specs.Stages.{CanStop, HasNoNetwork, HaveNoParts, HaveNoTables, ShareEvent}
 use Rattle.network_stages.specs.Tables.{Tables}
 use Rattle.network_shape.specs.Made.{AreMadeFor}
 use Rattle.network_tables.specs.Tables.{AreTablesOf}
 use Rattle.network_tables.specs.declared.component_tables.ComponentTable.{ComponentTable}
-use Rattle.network_trees.specs.NetworkOf.{network_of}
 use Rattle.process_steps.specs.ComponentStep.{ProcessStep}
 use Rattle.report.proofs.Points.{goes_on}
 use Rattle.report.specs.Stops.{Answers, Tells, refused, unproved}
@@ -32,7 +30,8 @@ use Rattle.report.specs.declared.answer.Shortfall.{Shortfall}
 use Rattle.report.specs.declared.answer.Side.TheVariants as side
 use Rattle.report.specs.declared.stop.Stop.{Stop}
 use Rattle.judgement.proofs.Free.{free}
-use Rattle.judgement.specs.Judged.{IsApart, IsDeadlockFree, IsJudged, RuleDecides}
+use Rattle.network_stages.specs.Shapes.{IsApart, IsShaped}
+use Rattle.judgement.specs.Judged.{IsDeadlockFree, IsJudged, RuleDecides}
 use Rattle.judgement.specs.Noted.{BreaksRule, HasUntold, IsRanked, Notes}
 use Rattle.design_rules.specs.declared.noted_rule.NotedRule.{NotedRule}
 
@@ -81,20 +80,24 @@ module _ (s : Script) (rule : Rule) (r : Result Done (Stop Answer)) where
             goes_on _ _ _ _ (network_at p) is r (goes_on _ _ _ _ t.tables are r (goes_on _ _ _ _ parts by r (at_shortfall r _ _ _ why exit tells)))
 
         module _ (shape : Shape) (apart : IsApart (network_at p) shape) where
-          pub at_busy : (why : Stop Shortfall) → IsErrAnd r (λ x. x ≡ unproved why) → Tells (CanStop p (components_at p)) why → Answers (IsJudged s rule) r
+          pub at_busy : (q : Content) → q ≡ p → (why : Stop Shortfall) → IsErrAnd r (λ x. x ≡ unproved why) → Tells (CanStop q (components_at q)) why → Answers (IsJudged s rule) r
           unfolding IsJudged
-          at_busy why exit tells =
-              goes_on _ _ _ _ (network_at p) is r (goes_on _ _ _ _ t.tables are r (goes_on _ _ _ _ parts by r (goes_on _ _ _ _ shape apart r (at_shortfall r _ _ _ why exit tells))))
+          at_busy q same why exit tells =
+              let there : Tells (CanStop p (components_at p)) why = subst (λ (x : Content). Tells (CanStop x (components_at x)) why) same tells in
+              goes_on _ _ _ _ (network_at p) is r (goes_on _ _ _ _ t.tables are r (goes_on _ _ _ _ parts by r (goes_on _ _ _ _ shape apart r (at_shortfall r _ _ _ why exit there))))
 
-          pub at_rule : AreBusy (ProcessStep p) (components_at p) → Answers (RuleDecides (network_at p) rule shape) r → Answers (IsJudged s rule) r
+          pub at_rule : (q : Content) → q ≡ p → AreBusy (ProcessStep q) (components_at q) → Answers (RuleDecides (network_at q) rule shape) r → Answers (IsJudged s rule) r
           unfolding IsJudged
-          at_rule busy rest =
-              goes_on _ _ _ _ (network_at p) is r (goes_on _ _ _ _ t.tables are r (goes_on _ _ _ _ parts by r (goes_on _ _ _ _ shape apart r (goes_on _ _ _ _ tt busy r rest))))
+          at_rule q same busy rest =
+              let busy_there : AreBusy (ProcessStep p) (components_at p) = subst (λ (x : Content). AreBusy (ProcessStep x) (components_at x)) same busy in
+              let there : Answers (RuleDecides (network_at p) rule shape) r = subst (λ (x : Content). Answers (RuleDecides (network_at x) rule shape) r) same rest in
+              goes_on _ _ _ _ (network_at p) is r (goes_on _ _ _ _ t.tables are r (goes_on _ _ _ _ parts by r (goes_on _ _ _ _ shape apart r (goes_on _ _ _ _ tt busy_there r there))))
 
 module _ (p : Content) (rule : Rule) (shape : Shape) (r : Result Done (Stop Answer)) where
-  pub at_notes : (why : Stop Refusal) → IsErrAnd r (λ x. x ≡ refused side.Script why) → Tells (HasUntold p (components_at p) rule) why → Answers (RuleDecides (network_at p) rule shape) r
+  pub at_notes : (q : Content) → q ≡ p → (why : Stop Refusal) → IsErrAnd r (λ x. x ≡ refused side.Script why) → Tells (HasUntold q (components_at q) rule) why
+      → Answers (RuleDecides (network_at p) rule shape) r
   unfolding RuleDecides
-  at_notes why exit tells = at_refusal r _ _ _ _ why exit tells
+  at_notes q same why exit tells = at_refusal r _ _ _ _ why exit (subst (λ (x : Content). Tells (HasUntold x (components_at x) rule) why) same tells)
 
   module _ (notes : NotedRule) (are : Notes p (components_at p) rule notes) where
     pub at_ranking : (why : Stop Shortfall) → IsErrAnd r (λ x. x ≡ unproved why) → Tells (BreaksRule p (components_at p) notes) why → Answers (RuleDecides (network_at p) rule shape) r
@@ -106,17 +109,11 @@ module _ (p : Content) (rule : Rule) (shape : Shape) (r : Result Done (Stop Answ
     at_free ranking ranked rest = goes_on _ _ _ _ notes are r (goes_on _ _ _ _ ranking ranked r rest)
 
 -- what was told of a network free of deadlock
-pub is_free : (p : Content) (spelled : network_of p ≡ Ok (tree_at p)) (rule : Rule) (notes : NotedRule) (shape : Shape) (ranking : Ranking) (q : Content) (cs : List (Component Proc)) (what : Done)
-    → q ≡ p → cs ≡ components_at p → TripleDisjoint (alphabets (components_at p)) → IsShapeOf (ProcessStep p) (tree_at p) shape → AreBusy (ProcessStep p) (components_at p)
-    → IsRanked p (components_at p) notes shape ranking
-    → IsToldFree q cs rule shape ranking what → IsDeadlockFree (network_at p) rule shape ranking (answer.Done what)
-is_free p spelled rule notes shape ranking q cs what programs components apart is busy ranked told =
-    let there : IsToldFree p (components_at p) rule shape ranking what =
-    subst (λ (x : Content). IsToldFree x (components_at p) rule shape ranking what) programs
-    (subst (λ (ds : List (Component Proc)). IsToldFree q ds rule shape ranking what) components told) in
-    record {
-      bound = there.bound;
-      exact = there.exact;
-      live = free p spelled shape apart is busy notes ranking there.bound ranked there.exact;
-      is = ap answer.Done there.is;
-    }
+pub is_free : (p : Content) (shape : Shape) → IsShaped p shape → AreBusy (ProcessStep p) (components_at p) → (rule : Rule) (notes : NotedRule) (ranking : Ranking) (what : Done)
+    → IsRanked p (components_at p) notes shape ranking → IsToldFree p (components_at p) rule shape ranking what → IsDeadlockFree (network_at p) rule shape ranking (answer.Done what)
+is_free p shape shaped busy rule notes ranking what ranked told = record {
+  bound = told.bound;
+  exact = told.exact;
+  live = free p shaped.spelled shape shaped.network.apart shaped.network.is busy notes ranking told.bound ranked told.exact;
+  is = ap answer.Done told.is;
+}

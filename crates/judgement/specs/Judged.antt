@@ -2,16 +2,15 @@
 -- of deadlock.
 use Rattle.std.specs.Prelude.{◌≡◌, ℕ, length}
 use Rattle.csp_tables.specs.Network.{leaves}
-use Rattle.csp_tables.specs.Part.{TripleDisjoint}
 use Rattle.csp_tables.specs.Ranking.{Ranking}
 use Rattle.csp_tables.specs.Shape.{Shape}
-use Rattle.csp_tables.specs.ShapeOf.{AreBusy, IsShapeOf}
+use Rattle.csp_tables.specs.ShapeOf.{AreBusy}
 use Rattle.csp_tables.specs.declared.rule.Rule.{Rule}
 use Rattle.csp_text.specs.declared.script.Script.{Script}
 use Rattle.free_answers.specs.Counts.{greatest_rank, node_count}
-use Rattle.network_layout.specs.Triple.{alphabets}
 use Rattle.network_stages.specs.Networks.{HasSilentBound, IsLive, IsNetworkOf, Network}
 use Rattle.network_stages.specs.Sets.{ArePartsBy}
+use Rattle.network_stages.specs.Shapes.{IsApart}
 use Rattle.network_stages.specs.Stages.{CanStop, HasNoNetwork, HaveNoParts, HaveNoTables, ShareEvent}
 use Rattle.network_tables.specs.Tables.{AreTablesOf}
 use Rattle.process_steps.specs.ComponentStep.{ProcessStep}
@@ -35,11 +34,6 @@ RuleDecides network rule shape =
     RefusedOr side.Script (HasUntold network.program (leaves network.tree) rule) (Notes network.program (leaves network.tree) rule) (λ noted.
     UnprovedOr (BreaksRule network.program (leaves network.tree) noted) (IsRanked network.program (leaves network.tree) noted shape) (λ ranking.
     IsDeadlockFree network rule shape ranking))
-
--- the shape of a network in which no event is in three alphabets
-pub record IsApart (network : Network) (shape : Shape) : Type 0 where
-  pub apart : TripleDisjoint (alphabets (leaves network.tree))
-  pub is : IsShapeOf (ProcessStep network.program) network.tree shape
 
 -- the script has no network; a component has no table; it has too many sets of terms; an event is in three alphabets; a component can stop
 unfoldable pub IsJudged : Script → Rule → Answer → Type 0

@@ -1,21 +1,18 @@
 //! The judgement of a script by a rule.
 
-ghost use Rattle.std.specs.Prelude.{◌≡◌, Ok};
-ghost use Rattle.csp_tables.specs.Part.{TripleDisjoint, alphabets_of};
-ghost use Rattle.csp_tables.specs.ShapeOf.{AreBusy, IsShapeOf};
-ghost use Rattle.network_layout.specs.Triple.{alphabets};
-ghost use Rattle.network_stages.specs.Networks.{components_at, network_at, tree_at};
-ghost use Rattle.network_trees.specs.NetworkOf.{network_of};
+ghost use Rattle.std.specs.Prelude.{◌≡◌};
+ghost use Rattle.csp_tables.specs.ShapeOf.{AreBusy};
+ghost use Rattle.network_stages.specs.Networks.{components_at, network_at};
 ghost use Rattle.process_steps.specs.ComponentStep.{ProcessStep};
 ghost use Rattle.report.specs.Stops.{Answers};
 ghost use Rattle.judgement.specs.Judged.{IsJudged, RuleDecides};
 
 use crate::rules::{noted, ranked};
-use csp_tables::{Rule, Shape};
+use csp_tables::Rule;
 use csp_text::Script;
 use free_answers::deadlock_free;
 use network_stages::{
-    Spelled, Tabled, check_busy, make_parts, make_shape, make_tables, spell_network,
+    Shaped, Tabled, check_busy, make_parts, make_shape, make_tables, spell_network,
 };
 use report::{Answer, Done, Stop};
 use std::alloc::Global;
@@ -24,23 +21,18 @@ use std::alloc::Global;
 fn ruled(
     alloc: Global,
     rule: Rule,
-    network: &Spelled,
     tables: &Tabled<'_>,
-    shape: &Shape,
+    shaped: &Shaped<'_>,
 ) -> Result<Done, Stop<Answer>>
-    requires spelled { network_of network.now ≡ Ok (tree_at network.now) }
-    requires program { tables.now.program ≡ network.now }
-    requires components { tables.now.components ≡ components_at network.now }
-    requires shape { IsShapeOf (ProcessStep network.now) (tree_at network.now) shape.now }
-    requires apart { TripleDisjoint (alphabets (components_at network.now)) }
-    requires parts_apart { TripleDisjoint (alphabets_of shape.now.parts) }
-    requires busy { AreBusy (ProcessStep network.now) (components_at network.now) }
-    ensures { Answers (RuleDecides (network_at network.now) rule shape.now) result }
+    requires program { tables.now.program ≡ shaped.now.program }
+    requires components { tables.now.components ≡ components_at shaped.now.program }
+    requires busy { AreBusy (ProcessStep shaped.now.program) (components_at shaped.now.program) }
+    ensures { Answers (RuleDecides (network_at shaped.now.program) rule shaped.now.shape) result }
 {
-    let notes = noted(alloc, rule, network)?;
-    let ranking = ranked(alloc, network, &notes, shape)?;
-    let done = deadlock_free(rule, tables, shape, &ranking)?;
-    Ok(done)
+    let _shape = shaped.shape();
+    let notes = noted(alloc, rule, shaped.network())?;
+    let ranking = ranked(alloc, &notes, shaped)?;
+    Ok(deadlock_free(rule, tables, shaped, &ranking))
 }
 
 /// The answer to a script that is judged by a rule.
@@ -50,7 +42,7 @@ pub fn judged(alloc: Global, rule: Rule, script: &Script) -> Result<Done, Stop<A
     let network = spell_network(alloc, script)?;
     let tables = make_tables(alloc, network.program(), 0, network.seats())?;
     let parts = make_parts(alloc, 0, &tables)?;
-    let shape = make_shape(alloc, &network, parts)?;
-    check_busy(alloc, &network, &shape)?;
-    ruled(alloc, rule, &network, &tables, &shape)
+    let shaped = make_shape(alloc, &network, parts)?;
+    check_busy(alloc, &shaped)?;
+    ruled(alloc, rule, &tables, &shaped)
 }

@@ -1,19 +1,16 @@
 //! The rules, with what a script notes of each component.
 
 ghost use Rattle.std.specs.Prelude.{IfErr, IfOk};
-ghost use Rattle.csp_tables.specs.Part.{TripleDisjoint, alphabets_of};
-ghost use Rattle.csp_tables.specs.ShapeOf.{IsShapeOf};
 ghost use Rattle.design_rules.specs.Rules.{HasNotes};
-ghost use Rattle.network_stages.specs.Networks.{components_at, tree_at};
-ghost use Rattle.process_steps.specs.ComponentStep.{ProcessStep};
+ghost use Rattle.network_stages.specs.Networks.{components_at};
 ghost use Rattle.report.specs.Stops.{Tells};
 ghost use Rattle.judgement.specs.Noted.{BreaksRule, HasUntold, IsRanked, Notes};
 
 use crate::telling::{noted_refusal, rule_shortfall};
-use csp_tables::{Ranking, Rule, Shape};
+use csp_tables::{Ranking, Rule};
 use design_rules::NotedRule;
 use network_layout::{roles_of, uses_of};
-use network_stages::Spelled;
+use network_stages::{Shaped, Spelled};
 use report::{Refusal, Shortfall, Stop, stopped};
 use rule_decider::decided;
 use std::alloc::Global;
@@ -40,21 +37,22 @@ pub(crate) fn noted(
     }
 }
 
-// The ranking that the rule gives to a network of this shape, or what breaks the rule.
+// The ranking that the rule gives to a network with its shape, or what breaks the rule.
 pub(crate) fn ranked(
     alloc: Global,
-    network: &Spelled,
     rule: &NotedRule,
-    shape: &Shape,
+    shaped: &Shaped<'_>,
 ) -> Result<Ranking, Stop<Shortfall>>
-    requires shape { IsShapeOf (ProcessStep network.now) (tree_at network.now) shape.now }
-    requires apart { TripleDisjoint (alphabets_of shape.now.parts) }
-    requires notes { HasNotes rule.now shape.now }
-    ensures ok { IfOk result (IsRanked network.now (components_at network.now) rule.now shape.now) }
-    ensures told { IfErr result (Tells (BreaksRule network.now (components_at network.now) rule.now)) }
+    requires { HasNotes rule.now shaped.now.shape }
+    ensures ok { IfOk result (IsRanked shaped.now.program (components_at shaped.now.program) rule.now shaped.now.shape) }
+    ensures told { IfErr result (Tells (BreaksRule shaped.now.program (components_at shaped.now.program) rule.now)) }
 {
+    let shape = shaped.shape();
     match decided(alloc, rule, shape) {
         Ok(ranking) => Ok(ranking),
-        Err(fault) => Err(stopped(rule_shortfall(alloc, network.program(), rule, shape, fault))),
+        Err(fault) => {
+            let program = shaped.network().program();
+            Err(stopped(rule_shortfall(alloc, program, rule, shape, fault)))
+        }
     }
 }

@@ -41,7 +41,8 @@ use Rattle.report.specs.declared.answer.Refusal.{Refusal}
 use Rattle.report.specs.declared.answer.Shortfall.{Shortfall}
 use Rattle.report.specs.declared.answer.Side.TheVariants as side
 use Rattle.judgement.proofs.OneNetwork.{one_network}
-use Rattle.judgement.specs.Judged.{IsApart, IsDeadlockFree, IsJudged, RuleDecides}
+use Rattle.network_stages.specs.Shapes.{IsApart}
+use Rattle.judgement.specs.Judged.{IsDeadlockFree, IsJudged, RuleDecides}
 use Rattle.judgement.specs.Noted.{BreaksRule, HasUntold, IsRanked, Notes}
 use Rattle.judgement.specs.Tells.{TellsNoted, TellsRule}
 use Rattle.judgement_laws.specs.Complete.{EachScriptHasOneStatus, JudgementIsComplete, Passes}

@@ -22,7 +22,7 @@ use Rattle.process_steps.specs.ComponentStep.{ProcessStep}
 use Rattle.judgement_laws.specs.Heart.{GoodRankingsMeanLive, IsFlat, bound_of}
 
 silent_bound : (p : Content) (cs : List (Component Proc)) (ts : List ComponentTable) → AreTablesOf p cs ts → IsSilentBound (ProcessStep p) cs (bound_of ts)
-silent_bound p cs ts are = bound_is {E = Unit {0}} ts (Ok (bound_of ts)) refl p cs are
+silent_bound p cs ts are = bound_is ts (bound_of ts) refl p cs are
 
 is_flat : (p : Content) (tree : Tree Proc) → network_of p ≡ Ok tree → IsFlat p tree
 is_flat p tree spelled =

@@ -1,5 +1,5 @@
 -- Where a component has its table, whatever it is said to have stands in that.
-use Rattle.std.proofs.Common.{◌≡◌, ℕ, ◌+◌, ◌<◌, ◌≤◌, Ok, Err, List, [], ◌∷◌, length, refl, sym, ap, subst, ◌∙◌, arith}
+use Rattle.std.proofs.Common.{◌≡◌, ℕ, ◌+◌, ◌<◌, ◌≤◌, Ok, Err, List, length, refl, sym, ap, subst, ◌∙◌, arith}
 use Rattle.std.specs.Prelude.{map, min, slice_get, Some}
 use Rattle.csp_program.specs.Depth.{proc_depth}
 use Rattle.csp_program.specs.Size.{proc_size}
@@ -8,7 +8,7 @@ use Rattle.csp_program.specs.declared.programs.Content.{Content}
 use Rattle.csp_tables.specs.Label.{Label}
 use Rattle.csp_tables.specs.Label.Label.{silent, visible}
 use Rattle.csp_tables.specs.Network.{Component, ComponentStep}
-use Rattle.csp_tables.specs.Path.{Path, Reached}
+use Rattle.csp_tables.specs.Path.{Reached}
 use Rattle.csp_tables.specs.RawTable.{IsTableOf, RawStep, RawTable, standing_at}
 use Rattle.process_steps.specs.ComponentStep.{ProcessStep}
 use Rattle.local_tables.specs.Component.{AreSteps, AreTerms}
@@ -17,26 +17,13 @@ use Rattle.local_tables.specs.Laws.{FaultsExcludeTables}
 use Rattle.local_tables.specs.declared.fault.LocalFault.TheVariants as fault
 use Rattle.local_tables.proofs.Injecting.{Partner, no_heavier, no_longer}
 use Rattle.local_tables.proofs.Lists.{one_at}
-use Rattle.net_sound.proofs.FlatLists.{step_alphabet}
-use Rattle.net_sound.proofs.Numbered.{stands}
+use Rattle.net_sound.proofs.Numbered.{run_down}
 use Rattle.csp_base.specs.Lists.{total}
 
 module _ (p : Content) (c : Component Proc) (terms : List Proc) (raw : RawTable) (table : IsTableOf (ProcessStep p) c terms raw) where
   -- a term that is reached has a number
-  record HasNumber (d : Component Proc) : Type 0 where
-    number : ℕ
-    listed : slice_get terms number ≡ Some d.term
-    alphabet : c.alphabet ≡ d.alphabet
-
-  numbered : (ls : List Label) (b d : Component Proc) → HasNumber b → Path (ComponentStep (ProcessStep p)) b ls d → HasNumber d
-  numbered [] b d i h = subst HasNumber h i
-  numbered (l ∷ ls) b d i h =
-      let step = subst (λ y. ComponentStep (ProcessStep p) y l h.0) (stands c b i.alphabet) h.1 in
-      let s = table.complete i.number b.term l h.0 i.listed step in
-      numbered ls h.0 d (record { number = s.number; listed = s.listed; alphabet = step_alphabet (ProcessStep p) (standing_at c b.term) l h.0 step }) h.2
-
   listed_of : (x : Proc) → Reached (ComponentStep (ProcessStep p)) c (standing_at c x) → (n : ℕ) × (slice_get terms n ≡ Some x)
-  listed_of x r = let i = numbered r.0 c (standing_at c x) (record { number = 0; listed = table.first; alphabet = refl }) r.1 in (i.number, i.listed)
+  listed_of x r = let i = run_down (ProcessStep p) c terms raw r.0 c (standing_at c x) 0 table table.first refl r.1 in (i.number, i.listed)
 
   -- terms that are reached
   partner : (xs : List Proc) → AreTerms (ProcessStep p) c xs → (k : ℕ) (x : Proc) → slice_get xs k ≡ Some x → Partner (λ (a b : Proc). a ≡ b) terms x

@@ -1,5 +1,5 @@
 -- Traces of a component lead to as many sets of terms as the same traces of its table: the table has exactly the component's terms, each under one number.
-use Rattle.std.proofs.Common.{◌≡◌, ◌↔◌, ℕ, List, [], ◌∷◌, Some, Result, Ok, Err, IfOk, IfErr, OnOk, slice_get, get_or, refl, sym, ap, subst, ◌∙◌}
+use Rattle.std.proofs.Common.{◌≡◌, ℕ, List, [], Result, Ok, Err, IfErr, get_or, refl, sym, ap, subst, ◌∙◌}
 use Rattle.std.proofs.lemmas.Option.{same_Some}
 use Rattle.csp_program.specs.declared.processes.Proc.{Proc}
 use Rattle.csp_program.specs.declared.programs.Content.{Content}
@@ -8,61 +8,32 @@ use Rattle.csp_tables.specs.Network.{Component, ComponentStep}
 use Rattle.csp_tables.specs.Path.{Path}
 use Rattle.csp_tables.specs.RawTable.{IsTableOf, RawStep, RawTable, standing_at}
 use Rattle.csp_tables.specs.Trace.{After}
-use Rattle.determinise.specs.ManySets.{HaveSameStates, ReachesSets}
+use Rattle.determinise.specs.ManySets.{ReachesSets}
 use Rattle.determinise.specs.declared.fault.SetFault.{SetFault}
 use Rattle.determinise.specs.declared.fault.SetFault.TheVariants as fault
-use Rattle.net_sound.proofs.FlatLists.{step_alphabet}
-use Rattle.net_sound.proofs.Numbered.{stands}
 use Rattle.net_sound.proofs.Normal.{trace_down, trace_up}
+use Rattle.net_sound.proofs.Numbered.{run_down, run_up, stands}
 use Rattle.network_tables.specs.Tables.{HasTable}
 use Rattle.network_tables.specs.declared.component_tables.ComponentTable.{ComponentTable}
 use Rattle.process_steps.specs.ComponentStep.{ProcessStep}
 use Rattle.network_stages.specs.Sets.{HasManySets, TellsSets}
 
 module _ {T : Type 0} (Step : T → Label → T → Type 0) (c : Component T) (terms : List T) (raw : RawTable) (t : IsTableOf Step c terms raw) where
-  -- a state of the component after a trace, under its number
-  record Numbered (ls : List Label) (m : ℕ) (d : Component T) : Type 0 where
-    number : ℕ
-    path : Path (RawStep raw) m ls number
-    listed : slice_get terms number ≡ Some d.term
-    alphabet : c.alphabet ≡ d.alphabet
-
-  numbered : (ls : List Label) (b d : Component T) (m : ℕ) → slice_get terms m ≡ Some b.term → c.alphabet ≡ b.alphabet → Path (ComponentStep Step) b ls d → Numbered ls m d
-  numbered [] b d m at same path = record { number = m; path = refl; listed = at ∙ ap (λ (x : Component T). Some x.term) path; alphabet = same ∙ ap (λ (x : Component T). x.alphabet) path }
-  numbered (l ∷ ls) b d m at same path =
-      let step = subst (λ y. ComponentStep Step y l path.0) (stands c b same) path.1 in
-      let next = t.complete m b.term l path.0 at step in
-      let r = numbered ls path.0 d next.number next.listed (step_alphabet Step (standing_at c b.term) l path.0 step) path.2 in
-      record { number = r.number; path = (next.number, next.step, r.path); listed = r.listed; alphabet = r.alphabet }
-
-  -- the term of a number that the table reaches
-  record Named (ls : List Label) (x : T) (n : ℕ) : Type 0 where
-    goal : T
-    path : Path (ComponentStep Step) (standing_at c x) ls (standing_at c goal)
-    listed : slice_get terms n ≡ Some goal
-
-  named : (ls : List Label) (m n : ℕ) (x : T) → slice_get terms m ≡ Some x → Path (RawStep raw) m ls n → Named ls x n
-  named [] m n x at path = record { goal = x; path = refl; listed = ap (slice_get terms) (sym path) ∙ at }
-  named (l ∷ ls) m n x at path =
-      let s = t.sound m path.0 l path.1 in
-      let r = named ls path.0 n s.goal s.to path.2 in
-      record { goal = r.goal; path = (standing_at c s.goal, subst (λ y. ComponentStep Step (standing_at c y) l (standing_at c s.goal)) (same_Some s.source x (sym s.from ∙ at)) s.step, r.path); listed = r.listed }
-
   -- a state of the component after one trace, where the numbers after it are those after the other
   over : (s w : List ℕ) → ((n : ℕ) → After (RawStep raw) 0 s n → After (RawStep raw) 0 w n) → (d : Component T) → After (ComponentStep Step) c s d → After (ComponentStep Step) c w d
   over s w same d a =
-      let r = numbered a.0 c d 0 t.first refl a.1 in
+      let r = run_down Step c terms raw a.0 c d 0 t t.first refl a.1 in
       let b = same r.number (a.0, r.path, a.2) in
-      let q = named b.0 0 r.number c.term t.first b.1 in
+      let q = run_up Step c terms raw b.0 0 r.number c.term t t.first b.1 in
       let state : standing_at c q.goal ≡ d = ap (standing_at c) (same_Some q.goal d.term (sym q.listed ∙ r.listed)) ∙ sym (stands c d r.alphabet) in
       (b.0, subst (λ (y : Component T). Path (ComponentStep Step) c b.0 y) state q.path, b.2)
 
   -- a number after one trace, where the component's states after it are those after the other
   under : (s w : List ℕ) → ((d : Component T) → After (ComponentStep Step) c s d → After (ComponentStep Step) c w d) → (n : ℕ) → After (RawStep raw) 0 s n → After (RawStep raw) 0 w n
   under s w same n a =
-      let r = named a.0 0 n c.term t.first a.1 in
+      let r = run_up Step c terms raw a.0 0 n c.term t t.first a.1 in
       let b = same (standing_at c r.goal) (a.0, r.path, a.2) in
-      let q = numbered b.0 c (standing_at c r.goal) 0 t.first refl b.1 in
+      let q = run_down Step c terms raw b.0 c (standing_at c r.goal) 0 t t.first refl b.1 in
       let one : q.number ≡ n = t.terms_once q.number n r.goal q.listed r.listed in
       (b.0, subst (λ m. Path (RawStep raw) 0 b.0 m) one q.path, b.2)
 

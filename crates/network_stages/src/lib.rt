@@ -10,7 +10,7 @@ mod telling;
 mod texts;
 
 pub use parts::make_parts;
-pub use shapes::{check_busy, make_shape};
+pub use shapes::{Shaped, check_busy, make_shape};
 pub use spelled::{Spelled, spell_network};
 pub use tabled::{Tabled, make_tables};
 pub use texts::event_texts;

@@ -1,5 +1,5 @@
 -- The silent bound from the heights of tables.
-use Rattle.std.proofs.Common.{◌≡◌, ℕ, ◌+◌, ◌<◌, length, take, get_or, add-one, List, [], ◌∷◌, ◌++◌, map, max, Result, Ok, Err, IfOk, sym, ap, subst, ◌∙◌, arith}
+use Rattle.std.proofs.Common.{◌≡◌, ℕ, ◌+◌, ◌<◌, length, take, get_or, add-one, List, [], ◌∷◌, ◌++◌, map, max, sym, ap, subst, ◌∙◌, arith}
 use Rattle.std.proofs.Math.Seq.{take-suc}
 use Rattle.csp_program.specs.declared.processes.Proc.{Proc}
 use Rattle.csp_program.specs.declared.programs.Content.{Content}
@@ -25,11 +25,9 @@ have_heights p room (c ∷ cs) (t ∷ ts) are = (
   have_heights p (room_after room t.local.used) cs ts are.1,
 )
 
-pub bound_is : {E : Type 0} (ts : List ComponentTable) (r : Result ℕ E) → IfOk r (λ n. n ≡ sum_of_greatest (all_heights ts))
-    → (p : Content) (cs : List (Component Proc)) → AreTablesOf p cs ts → IfOk r (IsSilentBound (ProcessStep p) cs)
-bound_is ts (Err e) sum p cs are = tt
-bound_is ts (Ok n) sum p cs are =
-    subst (IsSilentBound (ProcessStep p) cs) (sym sum) (heights_add_up (ProcessStep p) cs (all_heights ts) (have_heights p whole_room cs ts are))
+pub bound_is : (ts : List ComponentTable) (n : ℕ) → n ≡ sum_of_greatest (all_heights ts) → (p : Content) (cs : List (Component Proc)) → AreTablesOf p cs ts
+    → IsSilentBound (ProcessStep p) cs n
+bound_is ts n sum p cs are = subst (IsSilentBound (ProcessStep p) cs) (sym sum) (heights_add_up (ProcessStep p) cs (all_heights ts) (have_heights p whole_room cs ts are))
 
 three_max : (a b c : ℕ) → max a (max b c) ≡ max (max a b) c
 three_max a b c = omega arith

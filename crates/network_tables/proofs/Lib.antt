@@ -1,2 +1,3 @@
 pub mod HeightSums
+pub mod LowHeights
 pub mod Rows

@@ -28,6 +28,9 @@ module _ (p : Content) where
   as_many room (d ∷ cs) [] are = absurd are
   as_many room (d ∷ cs) (u ∷ ts) are = let rest = as_many (room_after room u.local.used) cs ts are.1 in omega (arith, rest)
 
+  pub few_tables : (cs : List (Component Proc)) (ts : List ComponentTable) → AreTablesOf p cs ts → length cs ≤ 512 → length ts ≤ 512
+  few_tables cs ts are few = subst (λ n. n ≤ 512) (as_many whole_room cs ts are) few
+
   pub table_at : (room : Room) (cs : List (Component Proc)) (ts : List ComponentTable) → AreTablesWithin p room cs ts → (i : ℕ) (c : Component Proc) (t : ComponentTable)
       → slice_get cs i ≡ Some c → slice_get ts i ≡ Some t → HasTable p c t
   table_at room [] [] are i c t at at' = absurd (none-some c at)

@@ -1,6 +1,7 @@
 //! The silent bound of a network.
 
-ghost use Rattle.std.specs.Prelude.{◌≡◌, ◌+◌, ◌<◌, List, max, map, IfOk};
+ghost use Rattle.std.specs.Prelude.{◌≡◌, ◌≤◌, ◌+◌, ◌<◌, List, length, max, map};
+ghost use Rattle.dl_limits.specs.declared.TheConstants.{MOST_COMPONENTS};
 ghost use Rattle.csp_program.specs.declared.processes.Proc.{Proc};
 ghost use Rattle.csp_program.specs.declared.programs.Content.{Content};
 ghost use Rattle.csp_tables.specs.Network.{Component};
@@ -11,7 +12,6 @@ ghost use Rattle.network_tables.specs.Tables.{AreTablesOf};
 ghost use Rattle.csp_base.specs.Lists.{greatest};
 
 use crate::component_tables::ComponentTable;
-use csp_base::NoMemory;
 
 // The larger of two numbers.
 fn larger(a: u32, b: &u32) -> u32
@@ -33,30 +33,30 @@ fn greatest_of(numbers: &[u32]) -> u32
 }
 
 // The bound with that of one more component.
-fn with_bound(bound: u32, table: &ComponentTable) -> Result<u32, NoMemory>
-    ensures { IfOk result (λ made. made ≡ bound + greatest table.now.heights) }
+fn with_bound(bound: u32, table: &ComponentTable) -> u32
+    requires { bound + greatest table.now.heights < 4294967296 }
+    ensures { result ≡ bound + greatest table.now.heights }
 {
-    match bound.checked_add(greatest_of(table.heights.as_slice())) {
-        Some(made) => Ok(made),
-        None => Err(NoMemory),
-    }
+    bound + greatest_of(table.heights.as_slice())
 }
 
 // The sum of the greatest heights.
-fn sum(tables: &[ComponentTable]) -> Result<u32, NoMemory>
-    ensures { IfOk result (λ made. made ≡ sum_of_greatest (map (λ t. t.heights) tables.now)) }
+fn sum(tables: &[ComponentTable]) -> u32
+    requires { sum_of_greatest (map (λ t. t.heights) tables.now) < 4294967296 }
+    ensures { result ≡ sum_of_greatest (map (λ t. t.heights) tables.now) }
 {
     let mut bound = 0;
     for table in tables {
-        bound = with_bound(bound, table)?;
+        bound = with_bound(bound, table);
     }
-    Ok(bound)
+    bound
 }
 
-/// The silent bound of the network whose components have these tables: the sum over the components of the greatest number of silent steps in a row. One
-/// that 32 bits don't hold is refused like want of memory.
-pub fn silent_bound(tables: &[ComponentTable]) -> Result<u32, NoMemory>
-    ensures { (p : Content) (cs : List (Component Proc)) → AreTablesOf p cs tables.now → IfOk result (IsSilentBound (ProcessStep p) cs) }
+/// The silent bound of the network whose components have these tables: the sum over the components of the greatest number of silent steps in a row.
+pub fn silent_bound(tables: &[ComponentTable]) -> u32
+    requires few { length tables.now ≤ MOST_COMPONENTS }
+    requires are { (p : Content) × (cs : List (Component Proc)) × AreTablesOf p cs tables.now }
+    ensures { (p : Content) (cs : List (Component Proc)) → AreTablesOf p cs tables.now → IsSilentBound (ProcessStep p) cs result }
 {
     sum(tables)
 }

@@ -1,10 +1,10 @@
-use Rattle.std.proofs.Common.{◌≤◌, List, sym, subst}
+use Rattle.std.proofs.Common.{◌≤◌, List, subst}
 use Rattle.csp_program.specs.declared.processes.Proc.{Proc}
 use Rattle.csp_tables.specs.Network.{Component}
-use Rattle.csp_tables.specs.Part.{Part, TripleDisjoint, alphabets_of}
+use Rattle.csp_tables.specs.Part.{TripleDisjoint}
 use Rattle.network_layout.specs.Triple.{alphabets}
 use Rattle.network_stages.specs.Networks.{components_at}
-use Rattle.network_stages.proofs.MadeShape.{is_shape, parts_apart}
+use Rattle.network_stages.proofs.MadeShape.{is_shaped, parts_apart}
 use Rattle.network_stages.proofs.Networks.{few_components, some_components}
 use Rattle.network_stages.proofs.shapes.make_shape.Goals as goal
 
@@ -19,12 +19,12 @@ shape-requires-clause-apart c =
     parts_apart c.args.network.now (components_at c.args.network.now) c.args.parts.items c.requires.made
     (subst (λ (cs : List (Component Proc)). TripleDisjoint (alphabets cs)) c.layout.ensures.layout c.in-Ok.ensures.ok)
 
-pub returns-in_ok-made-in-Ok-clause-shape : goal.returns-in_ok-made-in-Ok-clause-shape
-returns-in_ok-made-in-Ok-clause-shape c =
-    is_shape c.args.network.now c.args.parts.items c.in_ok-made-in-Ok.made c.requires.made c.in_ok-made-in-Ok.ensures.parts c.in_ok-made-in-Ok.ensures.form
+pub invariant_of-result : goal.invariant_of-result
+invariant_of-result c =
+    is_shaped c.args.network.now c.args.parts.items c.in_ok-made-in-Ok.made c.requires.made c.layout.ensures.spelled
+    (subst (λ (cs : List (Component Proc)). TripleDisjoint (alphabets cs)) c.layout.ensures.layout c.in-Ok.ensures.ok) c.in_ok-made-in-Ok.ensures.parts c.in_ok-made-in-Ok.ensures.form
 
-pub returns-in_ok-made-in-Ok-clause-parts_apart : goal.returns-in_ok-made-in-Ok-clause-parts_apart
-returns-in_ok-made-in-Ok-clause-parts_apart c =
-    subst (λ (ps : List Part). TripleDisjoint (alphabets_of ps)) (sym c.in_ok-made-in-Ok.ensures.parts)
-    (parts_apart c.args.network.now (components_at c.args.network.now) c.args.parts.items c.requires.made
-    (subst (λ (cs : List (Component Proc)). TripleDisjoint (alphabets cs)) c.layout.ensures.layout c.in-Ok.ensures.ok))
+pub returns-in_ok-made-in-Ok-clause-apart : goal.returns-in_ok-made-in-Ok-clause-apart
+returns-in_ok-made-in-Ok-clause-apart c =
+    (is_shaped c.args.network.now c.args.parts.items c.in_ok-made-in-Ok.made c.requires.made c.layout.ensures.spelled
+    (subst (λ (cs : List (Component Proc)). TripleDisjoint (alphabets cs)) c.layout.ensures.layout c.in-Ok.ensures.ok) c.in_ok-made-in-Ok.ensures.parts c.in_ok-made-in-Ok.ensures.form).network
