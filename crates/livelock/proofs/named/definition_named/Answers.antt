@@ -1,0 +1,8 @@
+use Rattle.std.proofs.Common.{rules, tests}
+use Rattle.std.proofs.lemmas.Iterator.{YieldsList-from_slice}
+use Rattle.std.proofs.lemmas.Iterator.Search.{find_from_yields_List}
+use Rattle.livelock.specs.Named.{is_data_named}
+use Rattle.livelock.proofs.named.definition_named.Goals as goal
+
+pub returns : goal.returns
+returns c = find_from_yields_List (is_data_named c.args.name.now) _ _ _ c.find.ensures.ran (YieldsList-from_slice _ c.iter.ensures.rest) (λ x b q k. search (rules, tests))

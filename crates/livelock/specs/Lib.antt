@@ -1,0 +1,4 @@
+pub mod Named
+pub mod Bounded
+pub mod Whole
+pub mod Stopping

@@ -1,0 +1,7 @@
+//! A bound on the hidden events of a script's network.
+#![tactic(auto)]
+
+mod bounding;
+mod named;
+
+pub use bounding::bounded;
