@@ -13,6 +13,7 @@ use Rattle.csp_base.specs.declared.operators.BinOp.{BinOp}
 use Rattle.csp_base.specs.declared.operators.SetOp.{SetOp}
 use Rattle.csp_program.specs.declared.expressions.EventPart.{EventPart}
 use Rattle.csp_program.specs.declared.expressions.Expr.{Expr}
+use Rattle.csp_program.specs.declared.expressions.Expr.TheOpen.{Expr-F}
 use Rattle.csp_program.specs.declared.expressions.Expr.TheVariants as expr
 use Rattle.csp_program.specs.declared.expressions.Expr.TheViews.{out-EventPart}
 use Rattle.csp_program.specs.declared.expressions.Gen.{Gen}
@@ -93,56 +94,71 @@ atoms_are p n env e = refl
 -- forms of expressions
 module _ (p : Content) (n : ℕ) (env : Env) where
   pub worth_num : (e : Expr) (k m : ℤ) → e ≡ expr.Num k → m ≡ k → worth p n env e ≡ Ok (number m)
-  worth_num e k m is got = ap (worth p n env) is ∙ (eq.worth-Num p n env k ∙ (λ i. Ok (number (sym got i))))
+  unfolding worth worths use_worth front_worth with_items with_fronts walk_worth
+  worth_num e k m is got = ap (worth p n env) is ∙ (eq.at p n env (expr.Num k) (Expr-F.Num k) (expr.rolls-Num k) ∙ (λ i. Ok (number (sym got i))))
 
   pub worth_truth : (e : Expr) (b : Bool) → e ≡ expr.Truth b → worth p n env e ≡ Ok (One (atom.Truth b))
-  worth_truth e b is = ap (worth p n env) is ∙ eq.worth-Truth p n env b
+  unfolding worth worths use_worth front_worth with_items with_fronts walk_worth
+  worth_truth e b is = ap (worth p n env) is ∙ eq.at p n env (expr.Truth b) (Expr-F.Truth b) (expr.rolls-Truth b)
 
   pub worth_const : (e : Expr) (k : ℕ) → e ≡ expr.Const k → worth p n env e ≡ Ok (One (atom.Const k))
-  worth_const e k is = ap (worth p n env) is ∙ eq.worth-Const p n env k
+  unfolding worth worths use_worth front_worth with_items with_fronts walk_worth
+  worth_const e k is = ap (worth p n env) is ∙ eq.at p n env (expr.Const k) (Expr-F.Const k) (expr.rolls-Const k)
 
   pub worth_bound : (e : Expr) (x : ℕ) → e ≡ expr.Bound x → worth p n env e ≡ bound_value env x
-  worth_bound e x is = ap (worth p n env) is ∙ eq.worth-Bound p n env x
+  unfolding worth worths use_worth front_worth with_items with_fronts walk_worth
+  worth_bound e x is = ap (worth p n env) is ∙ eq.at p n env (expr.Bound x) (Expr-F.Bound x) (expr.rolls-Bound x)
 
   pub worth_lit : (e : Expr) (v w : Value) → e ≡ expr.Lit v → w ≡ v → worth p n env e ≡ Ok w
-  worth_lit e v w is got = ap (worth p n env) is ∙ (eq.worth-Lit p n env v ∙ (λ i. Ok (sym got i)))
+  unfolding worth worths use_worth front_worth with_items with_fronts walk_worth
+  worth_lit e v w is got = ap (worth p n env) is ∙ (eq.at p n env (expr.Lit v) (Expr-F.Lit v) (expr.rolls-Lit v) ∙ (λ i. Ok (sym got i)))
 
   pub worth_neg : (e a a' : Expr) → e ≡ expr.Neg a → a' ≡ a → worth p n env e ≡ negative (worth p n env a')
-  worth_neg e a a' is got = ap (worth p n env) is ∙ (eq.worth-Neg p n env a ∙ ap (λ x. negative (worth p n env x)) (sym got))
+  unfolding worth worths use_worth front_worth with_items with_fronts walk_worth
+  worth_neg e a a' is got = ap (worth p n env) is ∙ (eq.at p n env (expr.Neg a) (Expr-F.Neg a) (expr.rolls-Neg a) ∙ ap (λ x. negative (worth p n env x)) (sym got))
 
   pub worth_not : (e a a' : Expr) → e ≡ expr.Not a → a' ≡ a → worth p n env e ≡ inverse (worth p n env a')
-  worth_not e a a' is got = ap (worth p n env) is ∙ (eq.worth-Not p n env a ∙ ap (λ x. inverse (worth p n env x)) (sym got))
+  unfolding worth worths use_worth front_worth with_items with_fronts walk_worth
+  worth_not e a a' is got = ap (worth p n env) is ∙ (eq.at p n env (expr.Not a) (Expr-F.Not a) (expr.rolls-Not a) ∙ ap (λ x. inverse (worth p n env x)) (sym got))
 
   pub worth_binary : (e : Expr) (op : BinOp) (a b a' b' : Expr) → e ≡ expr.Binary op a b → a' ≡ a → b' ≡ b → worth p n env e ≡ operation op (worth p n env a') (worth p n env b')
-  worth_binary e op a b a' b' is got_a got_b = ap (worth p n env) is ∙ (eq.worth-Binary p n env op a b ∙ (λ i. operation op (worth p n env (sym got_a i)) (worth p n env (sym got_b i))))
+  unfolding worth worths use_worth front_worth with_items with_fronts walk_worth
+  worth_binary e op a b a' b' is got_a got_b = ap (worth p n env) is ∙ (eq.at p n env (expr.Binary op a b) (Expr-F.Binary op a b) (expr.rolls-Binary op a b) ∙ (λ i. operation op (worth p n env (sym got_a i)) (worth p n env (sym got_b i))))
 
   pub worth_if : (e c a b c' a' b' : Expr) → e ≡ expr.If c a b → c' ≡ c → a' ≡ a → b' ≡ b → worth p n env e ≡ chosen (truth_worth p n env c') (worth p n env a') (worth p n env b')
+  unfolding worth worths use_worth front_worth with_items with_fronts walk_worth
   worth_if e c a b c' a' b' is got_c got_a got_b =
-      ap (worth p n env) is ∙ (eq.worth-If p n env c a b ∙ ((λ i. choice (worth p n env (sym got_c i)) (worth p n env (sym got_a i)) (worth p n env (sym got_b i))) ∙
+      ap (worth p n env) is ∙ (eq.at p n env (expr.If c a b) (Expr-F.If c a b) (expr.rolls-If c a b) ∙ ((λ i. choice (worth p n env (sym got_c i)) (worth p n env (sym got_a i)) (worth p n env (sym got_b i))) ∙
       (and_then_regroup (worth p n env c') (λ v. as_truth v) (λ t. if t then worth p n env a' else worth p n env b') ∙
       ap (λ o. chosen o (worth p n env a') (worth p n env b')) (truth_is p n env c'))))
 
   pub worth_call : (e : Expr) (d : ℕ) (args args' : List Expr) → e ≡ expr.Call d args → args' ≡ args → worth p n env e ≡ and_then (worths p n env args') (λ vs. use_worth p n d vs)
-  worth_call e d args args' is got = ap (worth p n env) is ∙ (eq.worth-Call p n env d args ∙ ap (λ x. and_then (worths p n env x) (λ vs. use_worth p n d vs)) (sym got))
+  unfolding worth worths use_worth front_worth with_items with_fronts walk_worth
+  worth_call e d args args' is got = ap (worth p n env) is ∙ (eq.at p n env (expr.Call d args) (Expr-F.Call d args) (expr.rolls-Call d args) ∙ ap (λ x. and_then (worths p n env x) (λ vs. use_worth p n d vs)) (sym got))
 
   pub worth_set_name : (e : Expr) (d : ℕ) → e ≡ expr.SetName d → worth p n env e ≡ named_set (use_worth p n d [])
-  worth_set_name e d is = ap (worth p n env) is ∙ eq.worth-SetName p n env d
+  unfolding worth worths use_worth front_worth with_items with_fronts walk_worth
+  worth_set_name e d is = ap (worth p n env) is ∙ eq.at p n env (expr.SetName d) (Expr-F.SetName d) (expr.rolls-SetName d)
 
   pub worth_event : (e : Expr) (c : ℕ) (fields fields' : List Expr) → e ≡ expr.Event c fields → fields' ≡ fields → worth p n env e ≡ an_event (front_worth p n env c fields')
-  worth_event e c fields fields' is got = ap (worth p n env) is ∙ (eq.worth-Event p n env c fields ∙ ap (λ x. an_event (front_worth p n env c x)) (sym got))
+  unfolding worth worths use_worth front_worth with_items with_fronts walk_worth
+  worth_event e c fields fields' is got = ap (worth p n env) is ∙ (eq.at p n env (expr.Event c fields) (Expr-F.Event c fields) (expr.rolls-Event c fields) ∙ ap (λ x. an_event (front_worth p n env c x)) (sym got))
 
   pub worth_display : (e : Expr) (items items' : List Expr) → e ≡ expr.Display items → items' ≡ items → worth p n env e ≡ a_set (with_items p n env items' [])
-  worth_display e items items' is got = ap (worth p n env) is ∙ (eq.worth-Display p n env items ∙ ap (λ x. a_set (with_items p n env x [])) (sym got))
+  unfolding worth worths use_worth front_worth with_items with_fronts walk_worth
+  worth_display e items items' is got = ap (worth p n env) is ∙ (eq.at p n env (expr.Display items) (Expr-F.Display items) (expr.rolls-Display items) ∙ ap (λ x. a_set (with_items p n env x [])) (sym got))
 
   pub worth_range : (e a b a' b' : Expr) → e ≡ expr.Range a b → a' ≡ a → b' ≡ b → worth p n env e ≡ range_of (number_worth p n env a') (number_worth p n env b')
+  unfolding worth worths use_worth front_worth with_items with_fronts walk_worth
   worth_range e a b a' b' is got_a got_b =
-      ap (worth p n env) is ∙ (eq.worth-Range p n env a b ∙ ((λ i. a_range (worth p n env (sym got_a i)) (worth p n env (sym got_b i))) ∙
+      ap (worth p n env) is ∙ (eq.at p n env (expr.Range a b) (Expr-F.Range a b) (expr.rolls-Range a b) ∙ ((λ i. a_range (worth p n env (sym got_a i)) (worth p n env (sym got_b i))) ∙
       (both_parts (λ v. as_number v) (λ k m. many (range k m)) (worth p n env a') (worth p n env b') ∙
       (λ i. range_of (number_is p n env a' i) (number_is p n env b' i)))))
 
   pub worth_set_op : (e : Expr) (op : SetOp) (a b a' b' : Expr) → e ≡ expr.SetOp op a b → a' ≡ a → b' ≡ b → worth p n env e ≡ set_of op (atoms_worth p n env a') (atoms_worth p n env b')
+  unfolding worth worths use_worth front_worth with_items with_fronts walk_worth
   worth_set_op e op a b a' b' is got_a got_b =
-      ap (worth p n env) is ∙ (eq.worth-SetOp p n env op a b ∙ ((λ i. set_operation op (worth p n env (sym got_a i)) (worth p n env (sym got_b i))) ∙
+      ap (worth p n env) is ∙ (eq.at p n env (expr.SetOp op a b) (Expr-F.SetOp op a b) (expr.rolls-SetOp op a b) ∙ ((λ i. set_operation op (worth p n env (sym got_a i)) (worth p n env (sym got_b i))) ∙
       (both_parts (λ v. as_set v) (λ xs ys. many (set_binary op xs ys)) (worth p n env a') (worth p n env b') ∙
       (λ i. set_of op (atoms_are p n env a' i) (atoms_are p n env b' i)))))
 

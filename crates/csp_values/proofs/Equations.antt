@@ -1,16 +1,13 @@
 -- What each form of an expression, of a list and of generators comes to, in terms of its parts.
 use Rattle.std.proofs.Common.{◌≡◌, ℕ, zero, suc, ◌+◌, ◌-◌, ◌<◌, ◌≤◌, Bool, true, false, cond, List, [], ◌∷◌, Some, None, Ok, Err, map, length, drop, refl, ap, sym, ◌∙◌, arith, ◌*◌}
-use Rattle.std.specs.Prelude.{ℤ, ◌||◌, is_none, nat_lt, slice_get, Option}
+use Rattle.std.specs.Prelude.{◌||◌, is_none, nat_lt, slice_get, Option}
 use Rattle.csp_program.specs.Atoms.{added, all_added, events_from}
 use Rattle.csp_program.specs.EventNumber.{row_count}
 use Rattle.csp_program.specs.Outcome.{Outcome, and_then}
-use Rattle.csp_program.specs.Value.{lack_sets, first_of, Env, Meaning, Turn, Front, value_of, value_within, Gathered, from, when, meaning, turn, front, meaning_of_layer, turn_of_layer, front_of_layer, uses_within, number, truth, bound_value, as_atom, items_added, walked, gathered, sets_of, field_place, bound_to, many, body_value, def_value, front_count, front_number, fronts_added, meanings}
+use Rattle.csp_program.specs.Value.{lack_sets, first_of, Env, Meaning, Turn, Front, value_of, value_within, Gathered, from, when, meaning, turn, front, meaning_of_layer, turn_of_layer, front_of_layer, uses_within, as_atom, items_added, walked, gathered, sets_of, field_place, bound_to, many, body_value, def_value, front_count, front_number, fronts_added, meanings}
 use Rattle.csp_atoms.specs.declared.atom.Atom.{Atom}
 use Rattle.csp_atoms.specs.declared.atom.Atom.TheVariants as atom
 use Rattle.csp_atoms.specs.declared.value.Value.{Value}
-use Rattle.csp_atoms.specs.declared.value.Value.TheVariants.{One}
-use Rattle.csp_base.specs.declared.operators.BinOp.{BinOp}
-use Rattle.csp_base.specs.declared.operators.SetOp.{SetOp}
 use Rattle.csp_program.specs.declared.expressions.Expr.{Expr}
 use Rattle.csp_program.specs.declared.expressions.Expr.TheVariants as expr
 use Rattle.csp_program.specs.declared.expressions.Expr.TheFolds.{fold-roll-Expr, fold-roll-Gen, fold-roll-EventPart, map-Expr}
@@ -25,11 +22,12 @@ use Rattle.csp_program.specs.declared.programs.Content.{Content}
 use Rattle.csp_program.specs.declared.programs.Def.{Def}
 use Rattle.csp_program.specs.declared.networks.Net.{Net}
 use Rattle.csp_program.specs.declared.processes.Proc.{Proc}
-use Rattle.value_operators.specs.Forms.{negative, inverse, operation, choice, named_set, an_event, a_set, a_range, set_operation, gathered_set, nothing_yet, count_with, produced}
+use Rattle.value_operators.specs.Forms.{gathered_set, nothing_yet, count_with, produced}
 use Rattle.value_operators.specs.Forms as form
 use Rattle.csp_values.specs.Worth.{worth, worths, use_worth, body_worth, with_items, fields_worth, front_worth, with_front, with_fronts, yielded, one_more_binding, walk_worth}
 
-at : (p : Content) (n : ℕ) (env : Env) (e : Expr) (d : Expr-F Expr Gen EventPart) → roll-Expr d ≡ e
+-- what a form comes to, in terms of its parts
+pub at : (p : Content) (n : ℕ) (env : Env) (e : Expr) (d : Expr-F Expr Gen EventPart) → roll-Expr d ≡ e
     → meaning (uses_within p n) p.channels e env ≡ meaning_of_layer (uses_within p n) p.channels (map-Expr Expr Gen EventPart Meaning Turn Front (meaning (uses_within p n) p.channels) (turn (uses_within p n) p.channels) (front (uses_within p n) p.channels) d) env
 at p n env e d is =
     ap (λ z. meaning (uses_within p n) p.channels z env) (sym is) ∙
@@ -38,66 +36,6 @@ at p n env e d is =
 and_then_ok : {A : Type 0} (o : Outcome A) → and_then o (λ x. Ok x) ≡ o
 and_then_ok (Ok x) = refl
 and_then_ok (Err k) = refl
-
-pub worth-Num : (p : Content) (n : ℕ) (env : Env) (k : ℤ) → worth p n env (expr.Num k) ≡ Ok (number k)
-unfolding worth worths use_worth front_worth with_items with_fronts walk_worth
-worth-Num p n env k = at p n env (expr.Num k) (Expr-F.Num k) (expr.rolls-Num k)
-
-pub worth-Truth : (p : Content) (n : ℕ) (env : Env) (b : Bool) → worth p n env (expr.Truth b) ≡ Ok (truth b)
-unfolding worth worths use_worth front_worth with_items with_fronts walk_worth
-worth-Truth p n env b = at p n env (expr.Truth b) (Expr-F.Truth b) (expr.rolls-Truth b)
-
-pub worth-Const : (p : Content) (n : ℕ) (env : Env) (k : ℕ) → worth p n env (expr.Const k) ≡ Ok (One (atom.Const k))
-unfolding worth worths use_worth front_worth with_items with_fronts walk_worth
-worth-Const p n env k = at p n env (expr.Const k) (Expr-F.Const k) (expr.rolls-Const k)
-
-pub worth-Bound : (p : Content) (n : ℕ) (env : Env) (x : ℕ) → worth p n env (expr.Bound x) ≡ bound_value env x
-unfolding worth worths use_worth front_worth with_items with_fronts walk_worth
-worth-Bound p n env x = at p n env (expr.Bound x) (Expr-F.Bound x) (expr.rolls-Bound x)
-
-pub worth-Lit : (p : Content) (n : ℕ) (env : Env) (v : Value) → worth p n env (expr.Lit v) ≡ Ok v
-unfolding worth worths use_worth front_worth with_items with_fronts walk_worth
-worth-Lit p n env v = at p n env (expr.Lit v) (Expr-F.Lit v) (expr.rolls-Lit v)
-
-pub worth-Neg : (p : Content) (n : ℕ) (env : Env) (a : Expr) → worth p n env (expr.Neg a) ≡ negative (worth p n env a)
-unfolding worth worths use_worth front_worth with_items with_fronts walk_worth
-worth-Neg p n env a = at p n env (expr.Neg a) (Expr-F.Neg a) (expr.rolls-Neg a)
-
-pub worth-Not : (p : Content) (n : ℕ) (env : Env) (a : Expr) → worth p n env (expr.Not a) ≡ inverse (worth p n env a)
-unfolding worth worths use_worth front_worth with_items with_fronts walk_worth
-worth-Not p n env a = at p n env (expr.Not a) (Expr-F.Not a) (expr.rolls-Not a)
-
-pub worth-Binary : (p : Content) (n : ℕ) (env : Env) (op : BinOp) (a b : Expr) → worth p n env (expr.Binary op a b) ≡ operation op (worth p n env a) (worth p n env b)
-unfolding worth worths use_worth front_worth with_items with_fronts walk_worth
-worth-Binary p n env op a b = at p n env (expr.Binary op a b) (Expr-F.Binary op a b) (expr.rolls-Binary op a b)
-
-pub worth-If : (p : Content) (n : ℕ) (env : Env) (c a b : Expr) → worth p n env (expr.If c a b) ≡ choice (worth p n env c) (worth p n env a) (worth p n env b)
-unfolding worth worths use_worth front_worth with_items with_fronts walk_worth
-worth-If p n env c a b = at p n env (expr.If c a b) (Expr-F.If c a b) (expr.rolls-If c a b)
-
-pub worth-Call : (p : Content) (n : ℕ) (env : Env) (d : ℕ) (args : List Expr) → worth p n env (expr.Call d args) ≡ and_then (worths p n env args) (λ vs. use_worth p n d vs)
-unfolding worth worths use_worth front_worth with_items with_fronts walk_worth
-worth-Call p n env d args = at p n env (expr.Call d args) (Expr-F.Call d args) (expr.rolls-Call d args)
-
-pub worth-SetName : (p : Content) (n : ℕ) (env : Env) (d : ℕ) → worth p n env (expr.SetName d) ≡ named_set (use_worth p n d [])
-unfolding worth worths use_worth front_worth with_items with_fronts walk_worth
-worth-SetName p n env d = at p n env (expr.SetName d) (Expr-F.SetName d) (expr.rolls-SetName d)
-
-pub worth-Event : (p : Content) (n : ℕ) (env : Env) (c : ℕ) (fields : List Expr) → worth p n env (expr.Event c fields) ≡ an_event (front_worth p n env c fields)
-unfolding worth worths use_worth front_worth with_items with_fronts walk_worth
-worth-Event p n env c fields = at p n env (expr.Event c fields) (Expr-F.Event c fields) (expr.rolls-Event c fields)
-
-pub worth-Display : (p : Content) (n : ℕ) (env : Env) (items : List Expr) → worth p n env (expr.Display items) ≡ a_set (with_items p n env items [])
-unfolding worth worths use_worth front_worth with_items with_fronts walk_worth
-worth-Display p n env items = at p n env (expr.Display items) (Expr-F.Display items) (expr.rolls-Display items)
-
-pub worth-Range : (p : Content) (n : ℕ) (env : Env) (a b : Expr) → worth p n env (expr.Range a b) ≡ a_range (worth p n env a) (worth p n env b)
-unfolding worth worths use_worth front_worth with_items with_fronts walk_worth
-worth-Range p n env a b = at p n env (expr.Range a b) (Expr-F.Range a b) (expr.rolls-Range a b)
-
-pub worth-SetOp : (p : Content) (n : ℕ) (env : Env) (op : SetOp) (a b : Expr) → worth p n env (expr.SetOp op a b) ≡ set_operation op (worth p n env a) (worth p n env b)
-unfolding worth worths use_worth front_worth with_items with_fronts walk_worth
-worth-SetOp p n env op a b = at p n env (expr.SetOp op a b) (Expr-F.SetOp op a b) (expr.rolls-SetOp op a b)
 
 front-is : (p : Content) (n : ℕ) (part : EventPart) → front (uses_within p n) p.channels part ≡ record { channel = (out-EventPart part).channel; fields = meanings p n (out-EventPart part).fields }
 front-is p n part =
@@ -120,8 +58,6 @@ unfolding worth worths use_worth front_worth with_items with_fronts walk_worth
 worth-Comp p n env items gens =
     at p n env (expr.Comp items gens) (Expr-F.Comp items gens) (expr.rolls-Comp items gens) ∙
     (λ i. gathered_set (walked (map (turn (uses_within p n) p.channels) gens) (gathered (λ inner atoms. sym (and_then_ok (items_added (meanings p n items) inner atoms)) i)) env nothing_yet))
-
-pub ruleset worth_forms = (worth-Num, worth-Truth, worth-Const, worth-Bound, worth-Lit, worth-Neg, worth-Not, worth-Binary, worth-If, worth-Call, worth-SetName, worth-Event, worth-Display, worth-Range, worth-SetOp, worth-Product, worth-Comp)
 
 pub worths-nil : (p : Content) (n : ℕ) (env : Env) → worths p n env [] ≡ Ok []
 unfolding worths

@@ -2,14 +2,12 @@
 use Rattle.std.proofs.Common.{◌≡◌, ℕ, zero, suc, ◌+◌, ◌-◌, ◌*◌, ◌<◌, ◌≤◌, List, [], ◌∷◌, Some, map, length, get_or, refl, ap, sym, ◌∙◌, arith}
 use Rattle.std.specs.Prelude.{slice_get}
 use Rattle.csp_program.specs.declared.expressions.Expr.{Expr, fold-Expr}
-use Rattle.csp_program.specs.declared.expressions.Expr.TheVariants as expr
-use Rattle.csp_program.specs.declared.expressions.Expr.TheFolds.{fold-Gen, fold-EventPart, fold-roll-Expr, fold-roll-Gen, fold-roll-EventPart}
+use Rattle.csp_program.specs.declared.expressions.Expr.TheFolds.{fold-Gen, fold-EventPart, fold-roll-Expr, fold-roll-Gen, fold-roll-EventPart, map-Expr}
 use Rattle.csp_program.specs.declared.expressions.Expr.TheOpen.{Expr-F, Gen-F, EventPart-F}
-use Rattle.csp_program.specs.declared.expressions.Expr.TheViews.{out-EventPart, roll-out-EventPart}
+use Rattle.csp_program.specs.declared.expressions.Expr.TheViews.{out-EventPart, roll-Expr, roll-out-EventPart}
 use Rattle.csp_program.specs.declared.expressions.EventPart.{EventPart}
 use Rattle.csp_program.specs.declared.expressions.Gen.{Gen}
 use Rattle.csp_program.specs.declared.expressions.Gen.TheVariants as generator
-use Rattle.csp_base.specs.declared.operators.BinOp.{BinOp}
 use Rattle.csp_base.specs.declared.operators.SetOp.{SetOp}
 use Rattle.csp_program.specs.declared.programs.Body.{Body}
 use Rattle.csp_program.specs.declared.programs.Body.TheVariants as body
@@ -17,7 +15,7 @@ use Rattle.csp_program.specs.declared.programs.Content.{Content}
 use Rattle.csp_program.specs.declared.programs.Def.{Def}
 use Rattle.csp_base.specs.Lists.{total}
 
-abbrev of_expr : Expr-F ℕ ℕ ℕ → ℕ
+abbrev pub of_expr : Expr-F ℕ ℕ ℕ → ℕ
 of_expr (Expr-F.Neg a) = a + 2
 of_expr (Expr-F.Not a) = a + 2
 of_expr (Expr-F.Binary op a b) = a + b + 3
@@ -57,53 +55,10 @@ gen_weights gs = total (map gen_weight gs)
 unfoldable pub part_weights : List EventPart → ℕ
 part_weights ps = total (map part_weight ps)
 
-pub weight-Neg : (a : Expr) → weight (expr.Neg a) ≡ weight a + 2
-unfolding weight weights gen_weight gen_weights part_weight part_weights
-weight-Neg a = ap (fold-Expr ℕ ℕ ℕ of_expr of_gen of_part) (sym (expr.rolls-Neg a)) ∙ fold-roll-Expr ℕ ℕ ℕ of_expr of_gen of_part (Expr-F.Neg a)
-
-pub weight-Not : (a : Expr) → weight (expr.Not a) ≡ weight a + 2
-unfolding weight weights gen_weight gen_weights part_weight part_weights
-weight-Not a = ap (fold-Expr ℕ ℕ ℕ of_expr of_gen of_part) (sym (expr.rolls-Not a)) ∙ fold-roll-Expr ℕ ℕ ℕ of_expr of_gen of_part (Expr-F.Not a)
-
-pub weight-Binary : (op : BinOp) (a b : Expr) → weight (expr.Binary op a b) ≡ weight a + weight b + 3
-unfolding weight weights gen_weight gen_weights part_weight part_weights
-weight-Binary op a b = ap (fold-Expr ℕ ℕ ℕ of_expr of_gen of_part) (sym (expr.rolls-Binary op a b)) ∙ fold-roll-Expr ℕ ℕ ℕ of_expr of_gen of_part (Expr-F.Binary op a b)
-
-pub weight-If : (c a b : Expr) → weight (expr.If c a b) ≡ weight c + weight a + weight b + 3
-unfolding weight weights gen_weight gen_weights part_weight part_weights
-weight-If c a b = ap (fold-Expr ℕ ℕ ℕ of_expr of_gen of_part) (sym (expr.rolls-If c a b)) ∙ fold-roll-Expr ℕ ℕ ℕ of_expr of_gen of_part (Expr-F.If c a b)
-
-pub weight-Call : (d : ℕ) (args : List Expr) → weight (expr.Call d args) ≡ weights args + 3
-unfolding weight weights gen_weight gen_weights part_weight part_weights
-weight-Call d args = ap (fold-Expr ℕ ℕ ℕ of_expr of_gen of_part) (sym (expr.rolls-Call d args)) ∙ fold-roll-Expr ℕ ℕ ℕ of_expr of_gen of_part (Expr-F.Call d args)
-
-pub weight-SetName : (d : ℕ) → weight (expr.SetName d) ≡ 2
-unfolding weight weights gen_weight gen_weights part_weight part_weights
-weight-SetName d = ap (fold-Expr ℕ ℕ ℕ of_expr of_gen of_part) (sym (expr.rolls-SetName d)) ∙ fold-roll-Expr ℕ ℕ ℕ of_expr of_gen of_part (Expr-F.SetName d)
-
-pub weight-Event : (c : ℕ) (fields : List Expr) → weight (expr.Event c fields) ≡ weights fields + 6
-unfolding weight weights gen_weight gen_weights part_weight part_weights
-weight-Event c fields = ap (fold-Expr ℕ ℕ ℕ of_expr of_gen of_part) (sym (expr.rolls-Event c fields)) ∙ fold-roll-Expr ℕ ℕ ℕ of_expr of_gen of_part (Expr-F.Event c fields)
-
-pub weight-Display : (items : List Expr) → weight (expr.Display items) ≡ weights items + 4
-unfolding weight weights gen_weight gen_weights part_weight part_weights
-weight-Display items = ap (fold-Expr ℕ ℕ ℕ of_expr of_gen of_part) (sym (expr.rolls-Display items)) ∙ fold-roll-Expr ℕ ℕ ℕ of_expr of_gen of_part (Expr-F.Display items)
-
-pub weight-Range : (a b : Expr) → weight (expr.Range a b) ≡ weight a + weight b + 3
-unfolding weight weights gen_weight gen_weights part_weight part_weights
-weight-Range a b = ap (fold-Expr ℕ ℕ ℕ of_expr of_gen of_part) (sym (expr.rolls-Range a b)) ∙ fold-roll-Expr ℕ ℕ ℕ of_expr of_gen of_part (Expr-F.Range a b)
-
-pub weight-Comp : (items : List Expr) (gens : List Gen) → weight (expr.Comp items gens) ≡ weights items + gen_weights gens + 6
-unfolding weight weights gen_weight gen_weights part_weight part_weights
-weight-Comp items gens = ap (fold-Expr ℕ ℕ ℕ of_expr of_gen of_part) (sym (expr.rolls-Comp items gens)) ∙ fold-roll-Expr ℕ ℕ ℕ of_expr of_gen of_part (Expr-F.Comp items gens)
-
-pub weight-Product : (parts : List EventPart) (gens : List Gen) → weight (expr.Product parts gens) ≡ part_weights parts + gen_weights gens + 7
-unfolding weight weights gen_weight gen_weights part_weight part_weights
-weight-Product parts gens = ap (fold-Expr ℕ ℕ ℕ of_expr of_gen of_part) (sym (expr.rolls-Product parts gens)) ∙ fold-roll-Expr ℕ ℕ ℕ of_expr of_gen of_part (Expr-F.Product parts gens)
-
-pub weight-SetOp : (op : SetOp) (a b : Expr) → weight (expr.SetOp op a b) ≡ weight a + weight b + 3
-unfolding weight weights gen_weight gen_weights part_weight part_weights
-weight-SetOp op a b = ap (fold-Expr ℕ ℕ ℕ of_expr of_gen of_part) (sym (expr.rolls-SetOp op a b)) ∙ fold-roll-Expr ℕ ℕ ℕ of_expr of_gen of_part (Expr-F.SetOp op a b)
+-- what a form weighs, in terms of its parts
+pub at : (d : Expr-F Expr Gen EventPart) {e : Expr} → roll-Expr d ≡ e → weight e ≡ of_expr (map-Expr Expr Gen EventPart ℕ ℕ ℕ weight gen_weight part_weight d)
+unfolding weight gen_weight part_weight
+at d is = ap (fold-Expr ℕ ℕ ℕ of_expr of_gen of_part) (sym is) ∙ fold-roll-Expr ℕ ℕ ℕ of_expr of_gen of_part d
 
 pub weight-From : (x : ℕ) (s : Expr) → gen_weight (generator.From x s) ≡ weight s + 5
 unfolding weight gen_weight
@@ -116,8 +71,6 @@ weight-Cond c = ap (fold-Gen ℕ ℕ ℕ of_expr of_gen of_part) (sym (generator
 pub part_weight-is : (part : EventPart) → part_weight part ≡ weights (out-EventPart part).fields + 5
 unfolding weight part_weight weights
 part_weight-is part = ap (fold-EventPart ℕ ℕ ℕ of_expr of_gen of_part) (sym (roll-out-EventPart part)) ∙ fold-roll-EventPart ℕ ℕ ℕ of_expr of_gen of_part (out-EventPart part)
-
-pub ruleset weight_forms = (weight-Neg, weight-Not, weight-Binary, weight-If, weight-Call, weight-SetName, weight-Event, weight-Display, weight-Range, weight-Comp, weight-Product, weight-SetOp, weight-From, weight-Cond)
 
 pub weights-cons : (e : Expr) (es : List Expr) → weights (e ∷ es) ≡ weight e + weights es
 unfolding weights

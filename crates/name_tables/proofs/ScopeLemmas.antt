@@ -1,8 +1,8 @@
 -- Scopes that grow and shrink at their end.
-use Rattle.std.proofs.Common.{◌≡◌, ℕ, zero, suc, take, Bool, true, false, cond, List, [], ◌∷◌, ◌++◌, map, Option, Some, None, is_some, refl, sym, ◌∙◌, ap, subst, append_assoc}
+use Rattle.std.proofs.Common.{◌≡◌, ℕ, zero, suc, take, Bool, true, false, cond, ◌||◌, List, [], ◌∷◌, ◌++◌, map, Option, Some, None, is_some, refl, sym, ◌∙◌, ap, subst, append_assoc}
 use Rattle.std.specs.BTreeMap.{BTreeMap}
-use Rattle.script_names.specs.Names.{Name, same_name}
-use Rattle.script_names.specs.Typed.{Scope, number_of, or_else}
+use Rattle.script_names.specs.Names.{Name, is_among, same_name}
+use Rattle.script_names.specs.Typed.{Scope, names_of, number_of, or_else}
 use Rattle.name_tables.specs.declared.scope.Binding.{Binding}
 use Rattle.name_tables.specs.Hidden.{shown, KeepHidden, HasNumbers, Writes}
 use Rattle.name_tables.specs.Spelling.{Spelling, at_name}
@@ -91,3 +91,15 @@ pub map-take : (n : ℕ) (bs : List Binding) → map shown (take n bs) ≡ take 
 map-take zero bs = refl
 map-take (suc n) [] = refl
 map-take (suc n) (b ∷ bs) = ap (λ t. shown b ∷ t) (map-take n bs)
+
+or_some : (b : Bool) (n : ℕ) (o : Option ℕ) → is_some (or_else o (cond b (Some n) None)) ≡ (b || is_some o)
+or_some true n (Some m) = refl
+or_some true n None = refl
+or_some false n (Some m) = refl
+or_some false n None = refl
+
+-- a name is bound where it has a number
+pub bound_if_found : (scope : Scope) (x : Name) → is_among (names_of scope) x ≡ is_some (number_of scope x)
+bound_if_found [] x = refl
+bound_if_found (b ∷ scope) x =
+    ap (λ c. same_name x b.0 || c) (bound_if_found scope x) ∙ sym (or_some (same_name x b.0) b.1 (number_of scope x))

@@ -49,7 +49,6 @@ starts_both old mid new a b = record {
 
 module _ (old new : OwnParts) (start : PartsStart old new) where
   pub fits_more : (e : Entry) → Fits old e → Fits new e
-  fits_more entry.Stop h = tt
   fits_more (entry.Prefix b f p) h = (within_more old.heads new.heads start.heads b (head.Channel 0) h.0, within_more old.fields new.fields start.fields f [] h.1)
   fits_more (entry.Guard c p) h = within_more old.exprs new.exprs start.exprs c (expr.Const 0) h
   fits_more (entry.If c p q) h = within_more old.exprs new.exprs start.exprs c (expr.Const 0) h
@@ -60,12 +59,9 @@ module _ (old new : OwnParts) (start : PartsStart old new) where
   fits_more (entry.Hide p s) h = within_more old.exprs new.exprs start.exprs s (expr.Const 0) h
   fits_more (entry.Rename p a w) h = (within_more old.pairs new.pairs start.pairs a [] h.0, within_more old.gens new.gens start.gens w [] h.1)
   fits_more (entry.Call d args) h = within_more old.arguments new.arguments start.arguments args [] h
-  fits_more entry.Skip h = tt
-  fits_more (entry.Seq p q) h = tt
-  fits_more entry.Ended h = tt
+  fits_more _ h = tt
 
   pub layer_stays : (e : Entry) → Fits old e → entry_layer new e ≡ entry_layer old e
-  layer_stays entry.Stop h = refl
   layer_stays (entry.Prefix b f p) h = λ i. Layer.Prefix (stays old.heads new.heads start.heads b (head.Channel 0) h.0 i) (stays old.fields new.fields start.fields f [] h.1 i) p
   layer_stays (entry.Guard c p) h = λ i. Layer.Guard (stays old.exprs new.exprs start.exprs c (expr.Const 0) h i) p
   layer_stays (entry.If c p q) h = λ i. Layer.If (stays old.exprs new.exprs start.exprs c (expr.Const 0) h i) p q
@@ -76,9 +72,7 @@ module _ (old new : OwnParts) (start : PartsStart old new) where
   layer_stays (entry.Hide p s) h = λ i. Layer.Hide p (stays old.exprs new.exprs start.exprs s (expr.Const 0) h i)
   layer_stays (entry.Rename p a w) h = λ i. Layer.Rename p (stays old.pairs new.pairs start.pairs a [] h.0 i) (stays old.gens new.gens start.gens w [] h.1 i)
   layer_stays (entry.Call d args) h = λ i. Layer.Call d (stays old.arguments new.arguments start.arguments args [] h i)
-  layer_stays entry.Skip h = refl
-  layer_stays (entry.Seq p q) h = refl
-  layer_stays entry.Ended h = refl
+  layer_stays _ h = refl
 
 module _ (parts : OwnParts) where
   -- the layer shows the entry
@@ -101,19 +95,15 @@ module _ (parts : OwnParts) where
 
   shows_own : (e : Entry) → Shows e (entry_layer parts e)
   shows_own entry.Stop = tt
-  shows_own (entry.Prefix b f p) = (refl, (refl, refl))
   shows_own (entry.Guard c p) = (refl, refl)
-  shows_own (entry.If c p q) = (refl, (refl, refl))
   shows_own (entry.External ps) = refl
   shows_own (entry.Internal ps) = refl
-  shows_own (entry.EachExternal x s p) = (refl, (refl, refl))
-  shows_own (entry.EachInternal x s p) = (refl, (refl, refl))
   shows_own (entry.Hide p s) = (refl, refl)
-  shows_own (entry.Rename p a w) = (refl, (refl, refl))
   shows_own (entry.Call d args) = (refl, refl)
   shows_own entry.Skip = tt
   shows_own (entry.Seq p q) = (refl, refl)
   shows_own entry.Ended = tt
+  shows_own _ = (refl, (refl, refl))
 
   shown_same : ArePartsOnce parts → (e d : Entry) → Fits parts e → Fits parts d → Shows e (entry_layer parts d) → e ≡ d
   shown_same once entry.Stop entry.Stop h g z = refl
@@ -138,7 +128,6 @@ module _ (parts : OwnParts) where
 
   -- the own parts of what an entry stands for are kept
   has_own : (e : Entry) → Fits parts e → HasParts parts (entry_layer parts e)
-  has_own entry.Stop h = tt
   has_own (entry.Prefix b f p) h = ((b, slice_get-get_or parts.heads b (head.Channel 0) h.0), (f, slice_get-get_or parts.fields f [] h.1))
   has_own (entry.Guard c p) h = (c, slice_get-get_or parts.exprs c (expr.Const 0) h)
   has_own (entry.If c p q) h = (c, slice_get-get_or parts.exprs c (expr.Const 0) h)
@@ -149,9 +138,7 @@ module _ (parts : OwnParts) where
   has_own (entry.Hide p s) h = (s, slice_get-get_or parts.exprs s (expr.Const 0) h)
   has_own (entry.Rename p a w) h = ((a, slice_get-get_or parts.pairs a [] h.0), (w, slice_get-get_or parts.gens w [] h.1))
   has_own (entry.Call d args) h = (args, slice_get-get_or parts.arguments args [] h)
-  has_own entry.Skip h = tt
-  has_own (entry.Seq p q) h = tt
-  has_own entry.Ended h = tt
+  has_own _ h = tt
 
   pub has_parts : (e : Entry) (n : Layer) → StandsAs parts e n → HasParts parts n
   has_parts e n h = subst (λ (m : Layer). HasParts parts m) h.is (has_own e h.fits)

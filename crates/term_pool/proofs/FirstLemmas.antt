@@ -5,8 +5,6 @@ use Rattle.std.specs.Cmp.{second_so}
 use Rattle.csp_program.specs.declared.expressions.EventPart.{EventPart}
 use Rattle.csp_program.specs.declared.expressions.Expr.{Expr}
 use Rattle.csp_program.specs.declared.expressions.Gen.{Gen}
-use Rattle.csp_program.specs.declared.processes.Field.{Field}
-use Rattle.csp_program.specs.declared.processes.Head.{Head}
 use Rattle.csp_program.specs.declared.processes.Proc.{Proc}
 use Rattle.csp_program.specs.declared.processes.Proc.TheOpen.{Proc-F}
 use Rattle.csp_program.specs.declared.processes.Proc.TheVariants as proc
@@ -18,39 +16,6 @@ use Rattle.term_pool.specs.Trees.{tree_at, layer_tree, layer_ids, all_below, lay
 use Rattle.term_pool.specs.Layers.{Layer}
 use Rattle.pool_parts.specs.declared.place.ProcId.{ProcId}
 
--- what each form becomes
-pub first_Stop : (q : Proc) → with_first proc.Stop q ≡ proc.Stop
-unfolding with_first
-first_Stop q = ap (λ (l : Proc-F Proc). layer_with_first l q) (ap out-Proc (sym proc.rolls-Stop) ∙ out-roll-Proc Proc-F.Stop)
-
-pub first_Prefix : (head : Head) (fields : List Field) (p : Proc) (q : Proc) → with_first (proc.Prefix head fields p) q ≡ proc.Prefix head fields q
-unfolding with_first
-first_Prefix head fields p q = ap (λ (l : Proc-F Proc). layer_with_first l q) (ap out-Proc (sym (proc.rolls-Prefix head fields p)) ∙ out-roll-Proc (Proc-F.Prefix head fields p))
-
-pub first_Guard : (c : Expr) (p : Proc) (q : Proc) → with_first (proc.Guard c p) q ≡ proc.Guard c q
-unfolding with_first
-first_Guard c p q = ap (λ (l : Proc-F Proc). layer_with_first l q) (ap out-Proc (sym (proc.rolls-Guard c p)) ∙ out-roll-Proc (Proc-F.Guard c p))
-
-pub first_If : (c : Expr) (p : Proc) (r : Proc) (q : Proc) → with_first (proc.If c p r) q ≡ proc.If c q r
-unfolding with_first
-first_If c p r q = ap (λ (l : Proc-F Proc). layer_with_first l q) (ap out-Proc (sym (proc.rolls-If c p r)) ∙ out-roll-Proc (Proc-F.If c p r))
-
-pub first_External : (ps : List Proc) (q : Proc) → with_first (proc.External ps) q ≡ proc.External (other_first ps q)
-unfolding with_first
-first_External ps q = ap (λ (l : Proc-F Proc). layer_with_first l q) (ap out-Proc (sym (proc.rolls-External ps)) ∙ out-roll-Proc (Proc-F.External ps))
-
-pub first_Internal : (ps : List Proc) (q : Proc) → with_first (proc.Internal ps) q ≡ proc.Internal (other_first ps q)
-unfolding with_first
-first_Internal ps q = ap (λ (l : Proc-F Proc). layer_with_first l q) (ap out-Proc (sym (proc.rolls-Internal ps)) ∙ out-roll-Proc (Proc-F.Internal ps))
-
-pub first_EachExternal : (x : ℕ) (s : Expr) (p : Proc) (q : Proc) → with_first (proc.EachExternal x s p) q ≡ proc.EachExternal x s q
-unfolding with_first
-first_EachExternal x s p q = ap (λ (l : Proc-F Proc). layer_with_first l q) (ap out-Proc (sym (proc.rolls-EachExternal x s p)) ∙ out-roll-Proc (Proc-F.EachExternal x s p))
-
-pub first_EachInternal : (x : ℕ) (s : Expr) (p : Proc) (q : Proc) → with_first (proc.EachInternal x s p) q ≡ proc.EachInternal x s q
-unfolding with_first
-first_EachInternal x s p q = ap (λ (l : Proc-F Proc). layer_with_first l q) (ap out-Proc (sym (proc.rolls-EachInternal x s p)) ∙ out-roll-Proc (Proc-F.EachInternal x s p))
-
 pub first_Hide : (p : Proc) (s : Expr) (q : Proc) → with_first (proc.Hide p s) q ≡ proc.Hide q s
 unfolding with_first
 first_Hide p s q = ap (λ (l : Proc-F Proc). layer_with_first l q) (ap out-Proc (sym (proc.rolls-Hide p s)) ∙ out-roll-Proc (Proc-F.Hide p s))
@@ -59,41 +24,14 @@ pub first_Rename : (p : Proc) (pairs : List (EventPart × EventPart)) (gens : Li
 unfolding with_first
 first_Rename p pairs gens q = ap (λ (l : Proc-F Proc). layer_with_first l q) (ap out-Proc (sym (proc.rolls-Rename p pairs gens)) ∙ out-roll-Proc (Proc-F.Rename p pairs gens))
 
-pub first_Call : (d : ℕ) (args : List Expr) (q : Proc) → with_first (proc.Call d args) q ≡ proc.Call d args
-unfolding with_first
-first_Call d args q = ap (λ (l : Proc-F Proc). layer_with_first l q) (ap out-Proc (sym (proc.rolls-Call d args)) ∙ out-roll-Proc (Proc-F.Call d args))
-
-pub first_Skip : (q : Proc) → with_first proc.Skip q ≡ proc.Skip
-unfolding with_first
-first_Skip q = ap (λ (l : Proc-F Proc). layer_with_first l q) (ap out-Proc (sym proc.rolls-Skip) ∙ out-roll-Proc Proc-F.Skip)
-
-pub first_Seq : (p : Proc) (r : Proc) (q : Proc) → with_first (proc.Seq p r) q ≡ proc.Seq q r
-unfolding with_first
-first_Seq p r q = ap (λ (l : Proc-F Proc). layer_with_first l q) (ap out-Proc (sym (proc.rolls-Seq p r)) ∙ out-roll-Proc (Proc-F.Seq p r))
-
-pub first_Ended : (q : Proc) → with_first proc.Ended q ≡ proc.Ended
-unfolding with_first
-first_Ended q = ap (λ (l : Proc-F Proc). layer_with_first l q) (ap out-Proc (sym proc.rolls-Ended) ∙ out-roll-Proc Proc-F.Ended)
-
 others_at : (ts : List Proc) (ps : List ProcId) (q : ProcId) → other_first (map (tree_at ts) ps) (tree_at ts q) ≡ map (tree_at ts) (other_first ps q)
 others_at ts [] q = refl
 others_at ts (p ∷ ps) q = refl
 
 layer_first : (ts : List Proc) (n : Layer) (q : ProcId) → layer_with_first (layer_of ts n) (tree_at ts q) ≡ layer_tree ts (node_with_first n q)
-layer_first ts Layer.Stop q = refl
-layer_first ts (Layer.Prefix head fields p) q = refl
-layer_first ts (Layer.Guard c p) q = refl
-layer_first ts (Layer.If c p r) q = refl
 layer_first ts (Layer.External ps) q = ap (λ (us : List Proc). proc.External us) (others_at ts ps q)
 layer_first ts (Layer.Internal ps) q = ap (λ (us : List Proc). proc.Internal us) (others_at ts ps q)
-layer_first ts (Layer.EachExternal x s p) q = refl
-layer_first ts (Layer.EachInternal x s p) q = refl
-layer_first ts (Layer.Hide p s) q = refl
-layer_first ts (Layer.Rename p pairs gens) q = refl
-layer_first ts (Layer.Call d args) q = refl
-layer_first ts Layer.Skip q = refl
-layer_first ts (Layer.Seq p r) q = refl
-layer_first ts Layer.Ended q = refl
+layer_first ts _ q = refl
 
 -- a node with another first place is its process with what stands there
 pub first_at : (ts : List Proc) (n : Layer) (q : ProcId) → with_first (layer_tree ts n) (tree_at ts q) ≡ layer_tree ts (node_with_first n q)
@@ -106,19 +44,7 @@ others_below b (p ∷ ps) q h g = and_from (nat_lt q.0 b) (all_below b ps) g (se
 
 first_places : (n : Layer) (q : ProcId) → layer_ids (node_with_first n q) ≡ other_first (layer_ids n) q
 first_places Layer.Stop q = refl
-first_places (Layer.Prefix head fields p) q = refl
-first_places (Layer.Guard c p) q = refl
-first_places (Layer.If c p r) q = refl
-first_places (Layer.External ps) q = refl
-first_places (Layer.Internal ps) q = refl
-first_places (Layer.EachExternal x s p) q = refl
-first_places (Layer.EachInternal x s p) q = refl
-first_places (Layer.Hide p s) q = refl
-first_places (Layer.Rename p pairs gens) q = refl
-first_places (Layer.Call d args) q = refl
-first_places Layer.Skip q = refl
-first_places (Layer.Seq p r) q = refl
-first_places Layer.Ended q = refl
+first_places _ q = refl
 
 pub first_below : (b : ℕ) (n : Layer) (q : ProcId) → layer_below b n ≡ true → q.0 < b → layer_below b (node_with_first n q) ≡ true
 first_below b n q h g = ap (all_below b) (first_places n q) ∙ others_below b (layer_ids n) q h (lt-ltb q.0 b g)

@@ -7,7 +7,7 @@ use Rattle.std.specs.Set.{is_member}
 use Rattle.csp_program.specs.declared.processes.Proc.{Proc}
 use Rattle.csp_program.specs.declared.processes.Proc.TheVariants as proc
 use Rattle.term_pool.proofs.EntryLemmas.{fits_more, layer_stays, same_entry, has_parts}
-use Rattle.term_pool.proofs.HeldLemmas.{below_measures, held_push, is_known, places_fall, puts_known, puts_new, puts_none, tree_stands, trees_length, unknown_push}
+use Rattle.term_pool.proofs.HeldLemmas.{held_push, is_known, places_fall, puts_known, puts_new, puts_none, tree_stands, trees_length, unknown_push}
 use Rattle.pool_parts.proofs.StoreLemmas.{is_absent}
 use Rattle.term_pool.specs.Entries.{entry_layer, layers, ArePartsOnce, Fits, HasParts, PartsStart, StandsAs}
 use Rattle.term_pool.specs.ExactEntry.{eq_entry}
@@ -66,9 +66,6 @@ module _ (parts : OwnParts) (es : List Entry) (ms : List Measure) (kept : IsKept
   module _ (e : Entry) (fits : Fits parts e) (below : layer_below (length (processes parts es)) (entry_layer parts e) ≡ true) where
     below_layers : layer_below (length (layers parts es)) (entry_layer parts e) ≡ true
     below_layers = subst (λ (c : ℕ). layer_below c (entry_layer parts e) ≡ true) (trees_length (layers parts es)) below
-
-    pub measures_below : layer_below (length ms) (entry_layer parts e) ≡ true
-    measures_below = below_measures (layers parts es) ms kept.held (entry_layer parts e) below_layers
 
     absent : is_member eq_entry es e ≡ false → IsAbsent (layers parts es) (entry_layer parts e)
     absent unknown k g =

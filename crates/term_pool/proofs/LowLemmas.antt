@@ -10,17 +10,12 @@ pub place_lower : (leasts : List ℕ) (m n : ℕ) (id : ProcId) → m ≤ n → 
 place_lower leasts m n id h low = omega (arith, h, low)
 
 pub own_lower : (m n : ℕ) (l : Layer) → m ≤ n → OwnLow n l → OwnLow m l
-own_lower m n Layer.Stop h low = tt
 own_lower m n (Layer.Prefix k fields p) h low = (head_lower m n k h low.0, all_lower FieldLow field_lower m n fields h low.1)
 own_lower m n (Layer.Guard c p) h low = expr_lower m n c h low
 own_lower m n (Layer.If c p q) h low = expr_lower m n c h low
-own_lower m n (Layer.External ps) h low = tt
-own_lower m n (Layer.Internal ps) h low = tt
 own_lower m n (Layer.EachExternal y s p) h low = expr_lower m n s h low
 own_lower m n (Layer.EachInternal y s p) h low = expr_lower m n s h low
 own_lower m n (Layer.Hide p s) h low = expr_lower m n s h low
 own_lower m n (Layer.Rename p pairs gens) h low = (all_lower PairLow pair_lower m n pairs h low.0, all_lower GenLow gen_lower m n gens h low.1)
 own_lower m n (Layer.Call d args) h low = all_lower ExprLow expr_lower m n args h low
-own_lower m n Layer.Skip h low = tt
-own_lower m n (Layer.Seq p q) h low = tt
-own_lower m n Layer.Ended h low = tt
+own_lower m n _ h low = tt

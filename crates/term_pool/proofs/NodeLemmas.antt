@@ -49,19 +49,7 @@ layer_out ts n = ap out-Proc (rolls ts n) ∙ out-roll-Proc (layer_of ts n)
 
 layer_places : (ts : List Proc) (n : Layer) → layer_parts (layer_of ts n) ≡ map (tree_at ts) (layer_ids n)
 layer_places ts Layer.Stop = refl
-layer_places ts (Layer.Prefix k fields p) = refl
-layer_places ts (Layer.Guard c p) = refl
-layer_places ts (Layer.If c p q) = refl
-layer_places ts (Layer.External ps) = refl
-layer_places ts (Layer.Internal ps) = refl
-layer_places ts (Layer.EachExternal y s p) = refl
-layer_places ts (Layer.EachInternal y s p) = refl
-layer_places ts (Layer.Hide p s) = refl
-layer_places ts (Layer.Rename p pairs gens) = refl
-layer_places ts (Layer.Call d args) = refl
-layer_places ts Layer.Skip = refl
-layer_places ts (Layer.Seq p q) = refl
-layer_places ts Layer.Ended = refl
+layer_places ts _ = refl
 
 -- the sub-processes of a node's tree are the trees at its places
 pub parts_at : (ts : List Proc) (n : Layer) → parts (layer_tree ts n) ≡ map (tree_at ts) (layer_ids n)
@@ -88,19 +76,15 @@ Shows ts n other = ⊥
 
 shows_own : (ts : List Proc) (n : Layer) → Shows ts n (layer_of ts n)
 shows_own ts Layer.Stop = tt
-shows_own ts (Layer.Prefix k fields p) = (refl, (refl, refl))
 shows_own ts (Layer.Guard c p) = (refl, refl)
-shows_own ts (Layer.If c p q) = (refl, (refl, refl))
 shows_own ts (Layer.External ps) = refl
 shows_own ts (Layer.Internal ps) = refl
-shows_own ts (Layer.EachExternal y s p) = (refl, (refl, refl))
-shows_own ts (Layer.EachInternal y s p) = (refl, (refl, refl))
 shows_own ts (Layer.Hide p s) = (refl, refl)
-shows_own ts (Layer.Rename p pairs gens) = (refl, (refl, refl))
 shows_own ts (Layer.Call d args) = (refl, refl)
 shows_own ts Layer.Skip = tt
 shows_own ts (Layer.Seq p q) = (refl, refl)
 shows_own ts Layer.Ended = tt
+shows_own ts _ = (refl, (refl, refl))
 
 -- where the trees at the first b places differ, nodes that look at no other places have different trees
 module _ (ts : List Proc) (b : ℕ) (different : (i j : ℕ) → i < b → j < b → (tree_at ts (record { 0 = i })) ≡ (tree_at ts (record { 0 = j })) → i ≡ j) where
@@ -147,7 +131,6 @@ module _ (ts us : List Proc) (b : ℕ) (agree : (id : ProcId) → nat_lt id.0 b 
   agree_all (id ∷ ids) h = λ i. agree id (first_so (nat_lt id.0 b) (all_below b ids) h) i ∷ agree_all ids (second_so (nat_lt id.0 b) (all_below b ids) h) i
 
   pub agree_node : (n : Layer) → layer_below b n ≡ true → layer_tree ts n ≡ layer_tree us n
-  agree_node Layer.Stop h = refl
   agree_node (Layer.Prefix k fields p) h = λ i. proc.Prefix k fields (agree p (first_so (nat_lt p.0 b) (all_below b ([])) h) i)
   agree_node (Layer.Guard c p) h = λ i. proc.Guard c (agree p (first_so (nat_lt p.0 b) (all_below b ([])) h) i)
   agree_node (Layer.If c p q) h = λ i. proc.If c (agree p (first_so (nat_lt p.0 b) (all_below b (q ∷ [])) h) i) (agree q (first_so (nat_lt q.0 b) (all_below b ([])) (second_so (nat_lt p.0 b) (all_below b (q ∷ [])) h)) i)
@@ -157,7 +140,5 @@ module _ (ts us : List Proc) (b : ℕ) (agree : (id : ProcId) → nat_lt id.0 b 
   agree_node (Layer.EachInternal y s p) h = λ i. proc.EachInternal y s (agree p (first_so (nat_lt p.0 b) (all_below b ([])) h) i)
   agree_node (Layer.Hide p s) h = λ i. proc.Hide (agree p (first_so (nat_lt p.0 b) (all_below b ([])) h) i) s
   agree_node (Layer.Rename p pairs gens) h = λ i. proc.Rename (agree p (first_so (nat_lt p.0 b) (all_below b ([])) h) i) pairs gens
-  agree_node (Layer.Call d args) h = refl
-  agree_node Layer.Skip h = refl
   agree_node (Layer.Seq p q) h = λ i. proc.Seq (agree p (first_so (nat_lt p.0 b) (all_below b (q ∷ [])) h) i) (agree q (first_so (nat_lt q.0 b) (all_below b ([])) (second_so (nat_lt p.0 b) (all_below b (q ∷ [])) h)) i)
-  agree_node Layer.Ended h = refl
+  agree_node _ h = refl

@@ -1,17 +1,20 @@
 -- What a node becomes where values are put in: its own parts, and what stands at its places.
-use Rattle.std.proofs.Common.{◌≡◌, ℕ, zero, suc, Some, List, [], ◌∷◌, map, get_or, slice_get, refl, ◌∙◌}
+use Rattle.std.proofs.Common.{◌≡◌, ℕ, zero, suc, Some, List, [], ◌∷◌, map, get_or, slice_get, refl, sym, ◌∙◌, subst}
 use Rattle.csp_program.specs.Value.{Env}
 use Rattle.csp_program.specs.declared.processes.Proc.{Proc}
 use Rattle.csp_program.specs.declared.processes.Proc.TheVariants as proc
 use Rattle.pool_parts.specs.declared.place.ProcId.{ProcId}
 use Rattle.substitution.proofs.ProcPut as put
 use Rattle.substitution.specs.Bindings.{expr_put, fields_put, gens_put, head_put, pair_put, passed_all, past_all, proc_put, without}
-use Rattle.term_pool.proofs.PutLemmas as lemmas
+use Rattle.term_pool.proofs.NodeLemmas.{layer_of, rolls}
+use Rattle.term_pool.proofs.OverLemmas.{stands_form}
 use Rattle.term_pool.specs.Layers.{Layer}
 use Rattle.term_pool.specs.Moved.{id_or, moved}
+use Rattle.term_pool.specs.Over.{StandOver, layer_at}
 use Rattle.term_pool.specs.Put.{StandAt, StandsFor}
 use Rattle.term_pool.specs.Substituted.{all_put, left_below, own_put}
 use Rattle.term_pool.specs.Trees.{layer_ids, tree_at, layer_tree}
+use Rattle.term_pool.specs.declared.below.Below.{Below}
 
 -- the first and the second place of a list at which processes stand
 one_at : (trees : List Proc) (ids : List ProcId) (t : Proc) (ts : List Proc) → StandAt trees ids (t ∷ ts) → slice_get trees (id_or ids 0).0 ≡ Some t
@@ -23,40 +26,36 @@ two_at trees [] t u ts h = absurd h
 two_at trees (id ∷ ids) t u ts h = one_at trees ids u ts h.1
 
 -- a node that has moved to places where the processes of its own stand is the same process
+abbrev at_places : List ProcId → Below
+at_places ids = record { first = id_or ids 0; second = id_or ids 1; all = ids }
+
+module _ (us : List Proc) (ids : List ProcId) where
+  moved_is : (n : Layer) → layer_at (layer_of us n) (at_places ids) ≡ moved n ids
+  moved_is Layer.Stop = refl
+  moved_is _ = refl
+
+  stand_moved : (trees : List Proc) (n : Layer) → StandAt trees ids (map (tree_at us) (layer_ids n)) → StandOver trees (layer_of us n) (at_places ids)
+  stand_moved trees (Layer.Prefix k fields p) h = one_at trees ids (tree_at us p) [] h
+  stand_moved trees (Layer.Guard c p) h = one_at trees ids (tree_at us p) [] h
+  stand_moved trees (Layer.If c p q) h = (one_at trees ids (tree_at us p) (tree_at us q ∷ []) h, two_at trees ids (tree_at us p) (tree_at us q) [] h)
+  stand_moved trees (Layer.External ps) h = h
+  stand_moved trees (Layer.Internal ps) h = h
+  stand_moved trees (Layer.EachExternal y s p) h = one_at trees ids (tree_at us p) [] h
+  stand_moved trees (Layer.EachInternal y s p) h = one_at trees ids (tree_at us p) [] h
+  stand_moved trees (Layer.Hide p s) h = one_at trees ids (tree_at us p) [] h
+  stand_moved trees (Layer.Rename p pairs gens) h = one_at trees ids (tree_at us p) [] h
+  stand_moved trees (Layer.Seq p q) h = (one_at trees ids (tree_at us p) (tree_at us q ∷ []) h, two_at trees ids (tree_at us p) (tree_at us q) [] h)
+  stand_moved trees n h = tt
+
 pub stands_moved : (trees us : List Proc) (n : Layer) (ids : List ProcId) → StandAt trees ids (map (tree_at us) (layer_ids n)) → StandsFor trees (moved n ids) (layer_tree us n)
-stands_moved trees us Layer.Stop ids h = lemmas.stands_Stop trees
-stands_moved trees us (Layer.Prefix k fields p) ids h = lemmas.stands_Prefix trees k fields (id_or ids 0) (tree_at us p) (one_at trees ids (tree_at us p) [] h)
-stands_moved trees us (Layer.Guard c p) ids h = lemmas.stands_Guard trees c (id_or ids 0) (tree_at us p) (one_at trees ids (tree_at us p) [] h)
-stands_moved trees us (Layer.If c p q) ids h =
-    lemmas.stands_If trees c (id_or ids 0) (tree_at us p) (id_or ids 1) (tree_at us q) (one_at trees ids (tree_at us p) (tree_at us q ∷ []) h) (two_at trees ids (tree_at us p) (tree_at us q) [] h)
-stands_moved trees us (Layer.External ps) ids h = lemmas.stands_External trees ids (map (tree_at us) ps) h
-stands_moved trees us (Layer.Internal ps) ids h = lemmas.stands_Internal trees ids (map (tree_at us) ps) h
-stands_moved trees us (Layer.EachExternal y s p) ids h = lemmas.stands_EachExternal trees y s (id_or ids 0) (tree_at us p) (one_at trees ids (tree_at us p) [] h)
-stands_moved trees us (Layer.EachInternal y s p) ids h = lemmas.stands_EachInternal trees y s (id_or ids 0) (tree_at us p) (one_at trees ids (tree_at us p) [] h)
-stands_moved trees us (Layer.Hide p s) ids h = lemmas.stands_Hide trees s (id_or ids 0) (tree_at us p) (one_at trees ids (tree_at us p) [] h)
-stands_moved trees us (Layer.Rename p pairs gens) ids h = lemmas.stands_Rename trees pairs gens (id_or ids 0) (tree_at us p) (one_at trees ids (tree_at us p) [] h)
-stands_moved trees us (Layer.Call d args) ids h = lemmas.stands_Call trees d args
-stands_moved trees us Layer.Skip ids h = lemmas.stands_Skip trees
-stands_moved trees us (Layer.Seq p q) ids h =
-    lemmas.stands_Seq trees (id_or ids 0) (tree_at us p) (id_or ids 1) (tree_at us q) (one_at trees ids (tree_at us p) (tree_at us q ∷ []) h) (two_at trees ids (tree_at us p) (tree_at us q) [] h)
-stands_moved trees us Layer.Ended ids h = lemmas.stands_Ended trees
+stands_moved trees us n ids h =
+    let stands = stands_form trees (at_places ids) (layer_of us n) (stand_moved us ids trees n h) in
+    subst (λ (m : Layer). StandsFor trees m (layer_tree us n)) (moved_is us ids n) (record { below = stands.below; tree = stands.tree ∙ sym (rolls us n) })
 
 module _ (env : Env) where
   pub places_own : (n : Layer) → layer_ids (own_put env n) ≡ layer_ids n
   places_own Layer.Stop = refl
-  places_own (Layer.Prefix k fields p) = refl
-  places_own (Layer.Guard c p) = refl
-  places_own (Layer.If c p q) = refl
-  places_own (Layer.External ps) = refl
-  places_own (Layer.Internal ps) = refl
-  places_own (Layer.EachExternal y s p) = refl
-  places_own (Layer.EachInternal y s p) = refl
-  places_own (Layer.Hide p s) = refl
-  places_own (Layer.Rename p pairs gens) = refl
-  places_own (Layer.Call d args) = refl
-  places_own Layer.Skip = refl
-  places_own (Layer.Seq p q) = refl
-  places_own Layer.Ended = refl
+  places_own _ = refl
 
   -- a place of the processes with the values put in
   pub place_with : (trees : List Proc) (id : ProcId) → proc_put env (tree_at trees id) ≡ tree_at (all_put env trees) id

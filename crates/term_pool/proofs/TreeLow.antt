@@ -105,37 +105,22 @@ module _ (m : ℕ) where
   fields_stay env h (field.Get y None ∷ fs) low = λ i. field.Get y None ∷ fields_stay (passed (field.Get y None) env) (less_apart (λ x. gets x (field.Get y None)) env h) fs low.1 i
 
   pub own_stays : (env : Env) → all_less m env ≡ true → (n : Layer) → OwnLow m n → own_put env n ≡ n
-  own_stays env h Layer.Stop low = refl
   own_stays env h (Layer.Prefix k fields p) low = λ i. Layer.Prefix (head_stays env h k low.0 i) (fields_stay env h fields low.1 i) p
   own_stays env h (Layer.Guard c p) low = λ i. Layer.Guard (expr_stays env h c low i) p
   own_stays env h (Layer.If c p q) low = λ i. Layer.If (expr_stays env h c low i) p q
-  own_stays env h (Layer.External ps) low = refl
-  own_stays env h (Layer.Internal ps) low = refl
   own_stays env h (Layer.EachExternal y s p) low = λ i. Layer.EachExternal y (expr_stays env h s low i) p
   own_stays env h (Layer.EachInternal y s p) low = λ i. Layer.EachInternal y (expr_stays env h s low i) p
   own_stays env h (Layer.Hide p s) low = λ i. Layer.Hide p (expr_stays env h s low i)
   own_stays env h (Layer.Rename p pairs gens) low =
       λ i. Layer.Rename p (pairs_stay (past_all gens env) (less_apart (λ x. any_binds x gens) env h) pairs low.0 i) (gens_stay env h gens low.1 i)
   own_stays env h (Layer.Call d args) low = ap (λ (es : List Expr). Layer.Call d es) (exprs_stay env h args low)
-  own_stays env h Layer.Skip low = refl
-  own_stays env h (Layer.Seq p q) low = refl
-  own_stays env h Layer.Ended low = refl
+  own_stays env h _ low = refl
 
   left_less : (env : Env) → all_less m env ≡ true → (n : Layer) → all_less m (left_below n env) ≡ true
-  left_less env h Layer.Stop = h
   left_less env h (Layer.Prefix k fields p) = less_apart (λ x. any_gets x fields) env h
-  left_less env h (Layer.Guard c p) = h
-  left_less env h (Layer.If c p q) = h
-  left_less env h (Layer.External ps) = h
-  left_less env h (Layer.Internal ps) = h
   left_less env h (Layer.EachExternal y s p) = less_apart (nat_eq y) env h
   left_less env h (Layer.EachInternal y s p) = less_apart (nat_eq y) env h
-  left_less env h (Layer.Hide p s) = h
-  left_less env h (Layer.Rename p pairs gens) = h
-  left_less env h (Layer.Call d args) = h
-  left_less env h Layer.Skip = h
-  left_less env h (Layer.Seq p q) = h
-  left_less env h Layer.Ended = h
+  left_less env h _ = h
 
   module _ (trees : List Proc) (leasts : List ℕ) (are : AreLow trees leasts) where
     found : (x : ℕ) (xs : List ℕ) (k : ℕ) → x < get_or xs k 0 → slice_get xs k ≡ Some (get_or xs k 0)
@@ -159,7 +144,6 @@ module _ (m : ℕ) where
       places_same (id ∷ ids) low = λ i. place_same id low.0 i ∷ places_same ids low.1 i
 
       layer_same : (n : Layer) → AllLow (PlaceLow leasts) m (layer_ids n) → layer_tree (all_put env trees) n ≡ layer_tree trees n
-      layer_same Layer.Stop low = refl
       layer_same (Layer.Prefix k fields p) low = λ i. proc.Prefix k fields (place_same p low.0 i)
       layer_same (Layer.Guard c p) low = λ i. proc.Guard c (place_same p low.0 i)
       layer_same (Layer.If c p q) low = λ i. proc.If c (place_same p low.0 i) (place_same q low.1.0 i)
@@ -169,10 +153,8 @@ module _ (m : ℕ) where
       layer_same (Layer.EachInternal y s p) low = λ i. proc.EachInternal y s (place_same p low.0 i)
       layer_same (Layer.Hide p s) low = λ i. proc.Hide (place_same p low.0 i) s
       layer_same (Layer.Rename p pairs gens) low = λ i. proc.Rename (place_same p low.0 i) pairs gens
-      layer_same (Layer.Call d args) low = refl
-      layer_same Layer.Skip low = refl
       layer_same (Layer.Seq p q) low = λ i. proc.Seq (place_same p low.0 i) (place_same q low.1.0 i)
-      layer_same Layer.Ended low = refl
+      layer_same _ low = refl
 
     layer_stays : (env : Env) → all_less m env ≡ true → (n : Layer) → OwnLow m n → AllLow (PlaceLow leasts) m (layer_ids n) → proc_put env (layer_tree trees n) ≡ layer_tree trees n
     layer_stays env h n own low =

@@ -56,9 +56,6 @@ module _ (env : Env) where
 
   -- what stands below a place says of what its process becomes
   module _ (trees : List Proc) (id : ProcId) (under : Under) (is : IsUnder env trees id under) where
-    pub under_below : (ids : List ProcId) → ids ≡ under.ids → all_below id.0 ids ≡ true
-    under_below ids e = ap (all_below id.0) (e ∙ is.listed) ∙ is.below
-
     -- with the values that are left there
     pub under_with : (left : Env) → left ≡ left_below is.node env → (ids : List ProcId) → ids ≡ under.ids → map (tree_at (all_put left trees)) ids ≡ parts (proc_put env (tree_at trees id))
     under_with left e ids listed =

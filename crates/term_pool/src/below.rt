@@ -1,9 +1,10 @@
 //! The places of the sub-processes of a process.
-#![tactic(auto, using(crate::proofs::OverLemmas::over_forms))]
+#![tactic(auto, using(crate::proofs::OverLemmas::out_forms))]
 
 ghost use Rattle.std.specs.Prelude.{◌≡◌, []};
+ghost use Rattle.csp_program.specs.declared.processes.Proc.TheViews.{out-Proc};
 ghost use Rattle.term_pool.specs.Layers.{shown};
-ghost use Rattle.term_pool.specs.Over.{layer_over};
+ghost use Rattle.term_pool.specs.Over.{layer_at};
 
 use crate::node::Node;
 use containers::Items;
@@ -47,7 +48,7 @@ pub(crate) fn all(ids: Items<ProcId>) -> Below
 
 /// The node of the process whose sub-processes stand at the places.
 pub(crate) fn node_over<'a>(proc: &'a Proc, below: &'a Below) -> Node<'a>
-    ensures { shown result ≡ layer_over proc.now below.now }
+    ensures { shown result ≡ layer_at (out-Proc proc.now) below.now }
 {
     match proc {
         Proc::Stop => Node::Stop,

@@ -1,9 +1,10 @@
 //! Putting whole processes into a pool.
 
 ghost use Rattle.std.specs.Prelude.{◌≡◌, ◌∷◌, [], Some, slice_get, IfOk};
-ghost use Rattle.term_pool.specs.Over.{layer_over};
-ghost use Rattle.term_pool.specs.Pooled.{parts};
-ghost use Rattle.term_pool.specs.Put.{Grows, StandAt, StandsFor};
+ghost use Rattle.csp_program.specs.declared.processes.Proc.TheViews.{out-Proc};
+ghost use Rattle.term_pool.specs.Over.{StandOver};
+ghost use Rattle.term_pool.specs.Pooled.{layer_parts};
+ghost use Rattle.term_pool.specs.Put.{Grows, StandAt};
 
 use crate::below::{Below, all, few, node_over};
 use crate::pool::Pool;
@@ -26,8 +27,8 @@ pub(crate) fn put_tree(pool: &mut Pool, alloc: Global, proc: &Proc) -> Result<Pr
 // The places of the sub-processes of the process, which are put into the pool.
 #[cycle(put_tree)]
 fn put_below(pool: &mut Pool, alloc: Global, proc: &Proc) -> Result<Below, NoMemory>
-    ensures node { IfOk result (λ below. StandsFor pool.new (layer_over proc.now below) proc.now) }
-    ensures grows { Grows pool.old pool.new (parts proc.now) }
+    ensures below { IfOk result (λ below. StandOver pool.new (out-Proc proc.now) below) }
+    ensures grows { Grows pool.old pool.new (layer_parts (out-Proc proc.now)) }
 {
     match proc {
         Proc::Stop => Ok(few(alloc, ProcId(0), ProcId(0))),
