@@ -40,11 +40,16 @@ proved_lines rule components nodes bound rank =
     ∙ ap (λ t. t ++ line (codes "nodes " ++ nodes)) (one_more ruled (codes "components ") components
     ∙ ap (λ t. t ++ line (codes "components " ++ components)) (one_more (codes "deadlock-free") (codes "rule ") rule))))
 
--- two line feeds in a text end two lines
-pub two_lines_more : (first label value label' value' : List ℕ)
-    → line (first ++ 10 ∷ label ++ value ++ 10 ∷ label' ++ value') ≡ line first ++ line (label ++ value) ++ line (label' ++ value')
-two_lines_more first label value label' value' =
-    ap line (sym (append_assoc first (10 ∷ label ++ value) (10 ∷ label' ++ value')) ∙ ap (λ t. first ++ 10 ∷ t) (append_assoc label value _))
-    ∙ one_more (first ++ 10 ∷ label ++ value) label' value'
-    ∙ ap (λ t. t ++ line (label' ++ value')) (one_more first label value)
-    ∙ append_assoc (line first) (line (label ++ value)) (line (label' ++ value'))
+pub conforming_lines : (components bound : List ℕ) → line (codes "conforms\ncomponents " ++ components ++ codes "\nsilent bound " ++ bound)
+    ≡ line (codes "conforms") ++ line (codes "components " ++ components) ++ line (codes "silent bound " ++ bound)
+conforming_lines components bound =
+    let counted = codes "conforms\ncomponents " ++ components in
+    one_more counted (codes "silent bound ") bound
+    ∙ ap (λ t. t ++ line (codes "silent bound " ++ bound)) (one_more (codes "conforms") (codes "components ") components)
+
+pub livelock_lines : (components bound : List ℕ) → line (codes "livelock-free\ncomponents " ++ components ++ codes "\nhidden bound " ++ bound)
+    ≡ line (codes "livelock-free") ++ line (codes "components " ++ components) ++ line (codes "hidden bound " ++ bound)
+livelock_lines components bound =
+    let counted = codes "livelock-free\ncomponents " ++ components in
+    one_more counted (codes "hidden bound ") bound
+    ∙ ap (λ t. t ++ line (codes "hidden bound " ++ bound)) (one_more (codes "livelock-free") (codes "components ") components)

@@ -2,5 +2,5 @@ use Rattle.std.proofs.Common.{◌≡◌, ◌++◌, take}
 use Rattle.report.specs.Report.{nodes_text}
 use Rattle.report.proofs.reports.push_nodes.Given as goal
 
-abbrev pub invariant-loop-node : goal.invariant-loop-node
-invariant-loop-node l = l.report ≡ l.fn.report ++ nodes_text 0 (take l.node-index l.nodes)
+abbrev pub invariant-loop-number : goal.invariant-loop-number
+invariant-loop-number l = l.report ≡ l.fn.report ++ nodes_text 0 (take l.number l.nodes)
