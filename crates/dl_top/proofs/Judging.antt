@@ -1,5 +1,5 @@
 -- What was read of a text decides what the text calls for, and with which status.
-use Rattle.std.proofs.Common.{◌≡◌, ℕ, Bool, true, false, List, Result, refl, sym, ap, ◌∙◌}
+use Rattle.std.proofs.Common.{◌≡◌, ℕ, Bool, true, false, List, Result, refl, sym, ap, subst, ◌∙◌}
 use Rattle.std.specs.Result.{IsErrAnd}
 use Rattle.csp_text.specs.declared.script.Script.{Script}
 use Rattle.csp_parser.specs.Fault.{IfNoScript}
@@ -11,6 +11,7 @@ use Rattle.command_words.specs.declared.request.Job.{Job}
 use Rattle.command_words.specs.declared.request.Job.TheVariants.{Check, Livelock, Run, Show, Table}
 use Rattle.judgement.proofs.Cases.{judged_cases}
 use Rattle.livelock.proofs.Status.{bounded_cases}
+use Rattle.livelock.specs.Bounded.{IsBounded}
 use Rattle.network_stages.proofs.Exits.{at_refusal}
 use Rattle.network_walks.proofs.Status.{walked_cases}
 use Rattle.network_walks.specs.Walked.{walk_answer}
@@ -39,6 +40,11 @@ no_script_read text (fault.NoScript at) none place = (at, none, place, refl)
 -- what a script decides, the text that it was read of calls for
 pub script_decides : (text : List ℕ) (job : Job) (s : Script) (r : Result Done (Stop Answer)) → SpellsOnlyScript text s → Answers (ScriptDecides job s) r → Answers (TextCallsFor text job) r
 script_decides text job s r only decides = goes_on _ _ _ _ s only r decides
+
+-- the name of a set, read from a job
+pub set_decides : (job : Job) (s : Script) (set slice : List ℕ) (r : Result Done (Stop Answer)) → job ≡ Livelock set → slice ≡ set → Answers (IsBounded s slice) r → Answers (ScriptDecides job s) r
+set_decides job s set slice r is same bounded =
+    subst (λ (j : Job). Answers (ScriptDecides j s) r) (sym is) (subst (λ (name : List ℕ). Answers (IsBounded s name) r) same bounded)
 
 pub at_script : (text : List ℕ) (job : Job) (r : Result Done (Stop Answer)) (why : Stop Refusal) → IsErrAnd r (λ t. t ≡ refused side.Script why) → Tells (HasNoScript text) why
     → Answers (TextCallsFor text job) r

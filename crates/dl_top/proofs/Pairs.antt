@@ -215,9 +215,9 @@ held_pair_inside texts script specification a held (passed text load (passed oth
 
 -- a text that can't be loaded has a status of more than 1
 pub tells_more : (s : Side) (f : LoadFault) (a : Answer) → TellsLoad s f a → status a ≤ 1 → ⊥
-tells_more s Missing a is few = let four : status a ≡ 4 = ap status is in absurd (omega (arith, few))
-tells_more s TooLong a is few = let two : status a ≡ 2 = ap status is in absurd (omega (arith, few))
-tells_more s Failed a is few = let four : status a ≡ 4 = ap status is in absurd (omega (arith, few))
+tells_more s Missing a is few = let four : status a ≡ 4 = ap status is in absurd (omega (arith, four, few))
+tells_more s TooLong a is few = let two : status a ≡ 2 = ap status is in absurd (omega (arith, two, few))
+tells_more s Failed a is few = let four : status a ≡ 4 = ap status is in absurd (omega (arith, four, few))
 tells_more s NoMemory a is few = absurd is
 
 -- a text that may be loaded may be that of the name
@@ -235,7 +235,7 @@ pub record HeldBoth (texts : Option (List NamedText)) (script specification : Li
 
 pub held_both : (texts : Option (List NamedText)) (signs : ShelfSigns) (script specification : List ℕ) (a : Answer)
     → Loaded side.Script texts signs (script ∷ specification ∷ []) (TextsCallFor (request.Conform script specification)) a → status a ≡ 0 → HeldBoth texts script specification a
-held_both texts signs script specification a (told f load tells) zero = absurd (tells_more side.Script f a tells (let few : status a ≤ 1 = omega arith in few))
-held_both texts signs script specification a (passed text load (told f fails tells)) zero = absurd (tells_more side.Specification f a tells (let few : status a ≤ 1 = omega arith in few))
+held_both texts signs script specification a (told f load tells) zero = absurd (tells_more side.Script f a tells (omega (arith, zero)))
+held_both texts signs script specification a (passed text load (told f fails tells)) zero = absurd (tells_more side.Specification f a tells (omega (arith, zero)))
 held_both texts signs script specification a (passed text load (passed other there compare)) zero =
     record { text = text; held = is_text texts quiet script text load; other = other; other_held = is_text texts signs specification other there; compare = compare }
