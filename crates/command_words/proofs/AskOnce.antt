@@ -17,11 +17,9 @@ word : (k : ℕ) (xs ys : List (List ℕ)) → xs ≡ ys → get_or xs k [] ≡ 
 word k xs ys is = ap (λ (ws : List (List ℕ)). get_or ws k []) is
 
 -- the second and the third letter of the first word together tell the forms of requests apart
-letters : List (List ℕ) → ℕ
-letters words = let first = get_or words 0 [] in get_or first 1 0 + get_or first 2 0
-
-differ : (xs ys : List (List ℕ)) → xs ≡ ys → (letters xs ≡ letters ys → ⊥) → ⊥
-differ xs ys is never = never (ap letters is)
+differ : (xs ys : List (List ℕ)) → xs ≡ ys
+    → (get_or (get_or xs 0 []) 1 0 + get_or (get_or xs 0 []) 2 0 ≡ get_or (get_or ys 0 []) 1 0 + get_or (get_or ys 0 []) 2 0 → ⊥) → ⊥
+differ xs ys is never = never (ap (λ (words : List (List ℕ)). get_or (get_or words 0 []) 1 0 + get_or (get_or words 0 []) 2 0) is)
 
 pub few : (f : Family) → greatest f ≤ 512
 few Forks = omega arith
@@ -57,6 +55,8 @@ one_request (trial t) (trial u) a b is =
 one_request (Conform script specification) (Conform more other) a b is =
     let scripts : script ≡ more = word 1 _ _ is in
     let specifications : specification ≡ other = word 2 _ _ is in cc
+one_request (trial t) (Script Show name) a b is = absurd (differ _ _ is (λ e. omega (arith, e)))
+one_request (Conform script specification) (Script Show name) a b is = absurd (differ _ _ is (λ e. omega (arith, e)))
 one_request r s a b is = absurd (differ _ _ is (λ e. omega (arith, e)))
 
 pub words_ask_once : WordsAskOnce

@@ -7,6 +7,6 @@ pub returns-in-len3-clause-asks : goal.returns-in-len3-clause-asks
 returns-in-len3-clause-asks c = record {
   within = tt;
   are = three_words _ _ _ _ _ _ _ _ _ _ c.in-len3.len_at_least c.in-len3.len_below c.livelock-item.is c.script-item.is c.set-item.is
-      c.as_slice.ensures c.as_slice-in-len3.ensures c.as_slice-in-len3-2.ensures ((bytes_eq-Decides _ _).0 (sym c.eq.ensures ∙ c.if-eq.true))
+      c.as_slice.ensures c.as_slice-in-len3-2.ensures c.as_slice-in-len3.ensures ((bytes_eq-Decides _ _).0 (sym c.eq.ensures ∙ c.if-eq.true))
       refl refl;
 }
