@@ -155,11 +155,11 @@ module _ (p q : Content) (ps qs : List Part) (has : HasParts (network_at p) ps) 
   -- what is told in the end
   pub is_conforming : network_of p ≡ Ok (tree_at p) → network_of q ≡ Ok (tree_at q) → ComponentsConform (network_at p) (network_at q) → (what : Done)
       → IsToldConforming p (components_at p) what → IsConforming (network_at p) (network_at q) (answer.Done what)
-  is_conforming spelled other each what told = record {
-    bound = told.bound;
-    exact = told.exact;
-    inherits = inherits p q spelled other ps has.by.are each told.bound told.exact;
-    is = ap answer.Done told.is;
+  is_conforming spelled other each what tells = record {
+    bound = tells.bound;
+    exact = tells.exact;
+    inherits = inherits p q spelled other ps has.by.are each tells.bound tells.exact;
+    is = ap answer.Done tells.is;
   }
 
 pub told_conforming : (p : Content) (count bound : ℕ) → IsSilentBound (ProcessStep p) (components_at p) bound → count ≡ length (components_at p)
