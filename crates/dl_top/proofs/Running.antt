@@ -15,7 +15,7 @@ use Rattle.network_trees.proofs.InOrder.{network_is_tree}
 use Rattle.network_walks.proofs.Runs.{no_move_means_stuck, stays_nested, stuck_walks_refute_live, walks_are_runs}
 use Rattle.network_walks.proofs.Status.{walked_cases}
 use Rattle.network_walks.specs.Moves.{label}
-use Rattle.network_walks.specs.Walked.{IsNetworkWalk, walk_answer}
+use Rattle.network_walks.specs.Walked.{IsNetworkWalk, printed_move, walk_answer}
 use Rattle.network_walks.specs.Whole.{IsWalkedWhole}
 use Rattle.numbered_walks.specs.declared.moves.Move.{Move}
 use Rattle.process_steps.specs.ComponentStep.{ProcessStep}
@@ -106,7 +106,8 @@ spells_run text seed steps b a ran =
       spells = only_network text ran.script network ran.spells ran.whole.spelled;
       moves = tells.moves;
       run = is_run network seed steps tells.moves b (nested ran.script network ran.whole.spelled) (subst (λ (x : Bool). IsNetworkWalk network seed steps tells.moves x) ran.end tells.walk);
-      is = ap report_text tells.is ∙ walk_text tells.is_stuck _ ∙ ap (λ (x : Bool). run_text _ (last_line x)) ran.end;
+      is = ap report_text tells.is ∙ walk_text tells.is_stuck (map (printed_move network.program) tells.moves)
+          ∙ ap (λ (x : Bool). run_text (map (printed_move network.program) tells.moves) (last_line x)) ran.end;
     }
 
 -- ---- bounds
