@@ -9,53 +9,30 @@ use Rattle.csp_text.specs.declared.script.Script.{Script}
 use Rattle.csp_resolve.specs.Answers.{Answers, Grows}
 use Rattle.event_tables.specs.declared.sets.SharedSets.{SharedSets}
 use Rattle.script_names.specs.declared.fault.ResolveFault.{ResolveFault}
-use Rattle.script_names.specs.declared.fault.ResolveFault.TheVariants as fault
+use Rattle.script_names.specs.declared.fault.Unresolved.{Unresolved}
+use Rattle.script_names.specs.declared.fault.Unresolved.TheVariants as unresolved
 use Rattle.script_names.specs.declared.kinds.Kind.{Kind}
 use Rattle.script_names.specs.Kinds.{AreKinds}
 use Rattle.script_names.specs.Resolved.{Answer, IsProgram, Resolves, resolved}
 
 -- an error is owed where the whole has each fault of the part
-pub err_from : {A B C D : Type 0} (shown : A → B) (also : C → D) (f : ResolveFault) (part : Answer B) (whole : Answer D)
+pub err_from : {A B C D : Type 0} (shown : A → B) (also : C → D) (f : Unresolved) (part : Answer B) (whole : Answer D)
     → ((g : ResolveFault) → part ≡ Err g → whole ≡ Err g) → Answers shown (Err f) part → Answers also (Err f) whole
-err_from shown also fault.NoMemory part whole along owed = tt
-err_from shown also fault.NoAssert part whole along owed = along fault.NoAssert owed
-err_from shown also (fault.Unknown i x) part whole along owed = along (fault.Unknown i x) owed
-err_from shown also (fault.Twice i x) part whole along owed = along (fault.Twice i x) owed
-err_from shown also (fault.WrongKind i) part whole along owed = along (fault.WrongKind i) owed
-err_from shown also (fault.WrongCount i x) part whole along owed = along (fault.WrongCount i x) owed
-err_from shown also (fault.ParallelInside i) part whole along owed = along (fault.ParallelInside i) owed
-err_from shown also (fault.EventLimit n) part whole along owed = along (fault.EventLimit n) owed
-err_from shown also (fault.DataDepth i) part whole along owed = along (fault.DataDepth i) owed
-err_from shown also (fault.Value i k) part whole along owed = along (fault.Value i k) owed
+err_from shown also unresolved.NoMemory part whole along owed = tt
+err_from shown also (unresolved.Refused f) part whole along owed = along f owed
 
-pub grows_err : {A B : Type 0} (shown : A → B) (f : ResolveFault) (old new : List SharedSets) (part : Answer (List (List (List Atom)))) (whole : Answer B)
+pub grows_err : {A B : Type 0} (shown : A → B) (f : Unresolved) (old new : List SharedSets) (part : Answer (List (List (List Atom)))) (whole : Answer B)
     → ((g : ResolveFault) → part ≡ Err g → whole ≡ Err g) → Grows (Err f) old new part → Answers shown (Err f) whole
-grows_err shown fault.NoMemory old new part whole along owed = tt
-grows_err shown fault.NoAssert old new part whole along owed = along fault.NoAssert owed
-grows_err shown (fault.Unknown i x) old new part whole along owed = along (fault.Unknown i x) owed
-grows_err shown (fault.Twice i x) old new part whole along owed = along (fault.Twice i x) owed
-grows_err shown (fault.WrongKind i) old new part whole along owed = along (fault.WrongKind i) owed
-grows_err shown (fault.WrongCount i x) old new part whole along owed = along (fault.WrongCount i x) owed
-grows_err shown (fault.ParallelInside i) old new part whole along owed = along (fault.ParallelInside i) owed
-grows_err shown (fault.EventLimit n) old new part whole along owed = along (fault.EventLimit n) owed
-grows_err shown (fault.DataDepth i) old new part whole along owed = along (fault.DataDepth i) owed
-grows_err shown (fault.Value i k) old new part whole along owed = along (fault.Value i k) owed
+grows_err shown unresolved.NoMemory old new part whole along owed = tt
+grows_err shown (unresolved.Refused f) old new part whole along owed = along f owed
 
 module _ (script : Script) (kinds : List Kind) (are : AreKinds script.decls kinds) where
-  pub refused : (f : ResolveFault) → Answers (λ (p : Content). p) (Err f) (resolved script.decls kinds) → Resolves script (Err f)
-  refused fault.NoMemory owed = tt
-  refused fault.NoAssert owed = record { kinds = kinds; are = are; is = owed }
-  refused (fault.Unknown i x) owed = record { kinds = kinds; are = are; is = owed }
-  refused (fault.Twice i x) owed = record { kinds = kinds; are = are; is = owed }
-  refused (fault.WrongKind i) owed = record { kinds = kinds; are = are; is = owed }
-  refused (fault.WrongCount i x) owed = record { kinds = kinds; are = are; is = owed }
-  refused (fault.ParallelInside i) owed = record { kinds = kinds; are = are; is = owed }
-  refused (fault.EventLimit n) owed = record { kinds = kinds; are = are; is = owed }
-  refused (fault.DataDepth i) owed = record { kinds = kinds; are = are; is = owed }
-  refused (fault.Value i k) owed = record { kinds = kinds; are = are; is = owed }
+  pub refused : (f : Unresolved) → Answers (λ (p : Content). p) (Err f) (resolved script.decls kinds) → Resolves script (Err f)
+  refused unresolved.NoMemory owed = tt
+  refused (unresolved.Refused f) owed = record { kinds = kinds; are = are; is = owed }
 
 -- the same, of the list of declarations that a script keeps
-pub refused_from : (script : Script) (decls : List Decl) (kinds : List Kind) (f : ResolveFault) → decls ≡ script.decls → AreKinds decls kinds
+pub refused_from : (script : Script) (decls : List Decl) (kinds : List Kind) (f : Unresolved) → decls ≡ script.decls → AreKinds decls kinds
     → Answers (λ (p : Content). p) (Err f) (resolved decls kinds) → Resolves script (Err f)
 refused_from script decls kinds f is are owed =
     refused script kinds (subst (λ ds. AreKinds ds kinds) is are) f (subst (λ ds. Answers (λ (p : Content). p) (Err f) (resolved ds kinds)) is owed)
@@ -69,21 +46,21 @@ program_is script decls kinds p q is are answer same = record {
 }
 
 -- the exit of a `?`
-pub passed : {A B C D : Type 0} (r : Result C ResolveFault) (f : ResolveFault) (shown : A → B) (also : C → D) (part : Answer B) (whole : Answer D)
+pub passed : {A B C D : Type 0} (r : Result C Unresolved) (f : Unresolved) (shown : A → B) (also : C → D) (part : Answer B) (whole : Answer D)
     → IsErrAnd r (λ y. y ≡ f) → Answers shown (Err f) part → ((g : ResolveFault) → part ≡ Err g → whole ≡ Err g) → Answers also r whole
 passed (Ok x) f shown also part whole is owed along = absurd is
 passed (Err y) f shown also part whole is owed along = rw is (err_from shown also f part whole along owed)
 
-pub passed_grown : {B C : Type 0} (r : Result C ResolveFault) (f : ResolveFault) (also : C → B) (old new : List SharedSets) (part : Answer (List (List (List Atom)))) (whole : Answer B)
+pub passed_grown : {B C : Type 0} (r : Result C Unresolved) (f : Unresolved) (also : C → B) (old new : List SharedSets) (part : Answer (List (List (List Atom)))) (whole : Answer B)
     → IsErrAnd r (λ y. y ≡ f) → Grows (Err f) old new part → ((g : ResolveFault) → part ≡ Err g → whole ≡ Err g) → Answers also r whole
 passed_grown (Ok x) f also old new part whole is owed along = absurd is
 passed_grown (Err y) f also old new part whole is owed along = rw is (grows_err also f old new part whole along owed)
 
-pub refused_at : (script : Script) (decls : List Decl) (kinds : List Kind) (r : Result Content ResolveFault) (f : ResolveFault) → decls ≡ script.decls → AreKinds decls kinds
+pub refused_at : (script : Script) (decls : List Decl) (kinds : List Kind) (r : Result Content Unresolved) (f : Unresolved) → decls ≡ script.decls → AreKinds decls kinds
     → IsErrAnd r (λ y. y ≡ f) → Answers (λ (p : Content). p) (Err f) (resolved decls kinds) → Resolves script r
 refused_at script decls kinds (Ok x) f decls_are are is owed = absurd is
 refused_at script decls kinds (Err y) f decls_are are is owed = rw is (refused_from script decls kinds f decls_are are owed)
 
-pub resolves_at : (script : Script) (r : Result Content ResolveFault) (f : ResolveFault) → IsErrAnd r (λ y. y ≡ f) → Resolves script (Err f) → Resolves script r
+pub resolves_at : (script : Script) (r : Result Content Unresolved) (f : Unresolved) → IsErrAnd r (λ y. y ≡ f) → Resolves script (Err f) → Resolves script r
 resolves_at script (Ok x) f is owed = absurd is
 resolves_at script (Err y) f is owed = rw is owed

@@ -8,18 +8,18 @@ use Rattle.csp_text.specs.declared.script.Decl.TheVariants as decl
 use Rattle.csp_text.specs.declared.tree.Tree.{Tree}
 use Rattle.event_tables.specs.declared.sets.SharedSets.{SharedSets}
 use Rattle.event_tables.specs.Spread.{spread}
-use Rattle.script_names.specs.declared.fault.ResolveFault.{ResolveFault}
-use Rattle.script_names.specs.declared.fault.ResolveFault.TheVariants as fault
+use Rattle.script_names.specs.declared.fault.Unresolved.{Unresolved}
+use Rattle.script_names.specs.declared.fault.Unresolved.TheVariants as unresolved
 use Rattle.script_names.specs.declared.kinds.Kind.{Kind}
 use Rattle.script_names.specs.Names.{Meanings}
 use Rattle.script_names.specs.Resolved.{Answer, and_next, field_sets, told_in}
 use Rattle.script_names.specs.Typed.{exprs, reading}
 
 -- the value exactly where there is one, the fault exactly where there is that one; want of memory is free
-abbrev pub Answers : {A B : Type 0} → (A → B) → Result A ResolveFault → Answer B → Type 0
+abbrev pub Answers : {A B : Type 0} → (A → B) → Result A Unresolved → Answer B → Type 0
 Answers shown (Ok a) answer = answer ≡ Ok (shown a)
-Answers shown (Err fault.NoMemory) answer = Unit {0}
-Answers shown (Err f) answer = answer ≡ Err f
+Answers shown (Err (unresolved.Refused f)) answer = answer ≡ Err f
+Answers shown (Err unresolved.NoMemory) answer = Unit {0}
 
 -- the types of channels, where names mean this
 abbrev pub types_read : Meanings → List Kind → List Tree → List Expr
@@ -35,7 +35,7 @@ abbrev pub GrowsBy : List SharedSets → List SharedSets → Answer (List (List 
 GrowsBy old new answer = (more : List (List (List Atom))) × (answer ≡ Ok more) × (spread new ≡ spread old ++ more)
 
 -- the list has grown by the field sets of a declaration
-abbrev pub Grows : Result (Unit {0}) ResolveFault → List SharedSets → List SharedSets → Answer (List (List (List Atom))) → Type 0
+abbrev pub Grows : Result (Unit {0}) Unresolved → List SharedSets → List SharedSets → Answer (List (List (List Atom))) → Type 0
 Grows (Ok done) old new answer = GrowsBy old new answer
-Grows (Err fault.NoMemory) old new answer = Unit {0}
-Grows (Err f) old new answer = answer ≡ Err f
+Grows (Err (unresolved.Refused f)) old new answer = answer ≡ Err f
+Grows (Err unresolved.NoMemory) old new answer = Unit {0}

@@ -19,7 +19,7 @@ use event_tables::{SharedSets, event_count, field_sets, fill_events};
 use name_tables::Meanings;
 use name_tables::declared::{next, short};
 use script_contents::types_of;
-use script_names::ResolveFault;
+use script_names::{ResolveFault, Unresolved};
 use std::alloc::Global;
 
 /// The field sets of the channels of declarations. A type that has no value that fits is told in its declaration.
@@ -27,7 +27,7 @@ pub fn channel_sets(
     meanings: &Meanings<'_>,
     content: &Content,
     decls: &[Decl],
-) -> Result<Vec<SharedSets>, ResolveFault>
+) -> Result<Vec<SharedSets>, Unresolved>
     ensures { Answers (λ shared. spread shared.items) result (meant.channel_sets content.now (types_read (first_of meanings.now.names.now) meanings.now.kinds.now) 0 decls.now) }
 {
     let mut shared = Vec::new(meanings.alloc);
@@ -46,7 +46,7 @@ fn add_sets(
     shared: &mut Vec<SharedSets>,
     i: u32,
     decl: &Decl,
-) -> Result<(), ResolveFault>
+) -> Result<(), Unresolved>
     ensures { Grows result shared.old.items shared.new.items (sets_of content.now (types_read (first_of meanings.now.names.now) meanings.now.kinds.now) i decl.now) }
 {
     match decl {
@@ -80,7 +80,7 @@ fn shared_in(
     i: u32,
     channels: usize,
     types: &[Expr],
-) -> Result<SharedSets, ResolveFault>
+) -> Result<SharedSets, Unresolved>
     ensures channels { IfOk result (λ one. one.channels ≡ channels) }
     ensures sets { Answers (λ (one : SharedSets). one.sets) result (meant.told_in i (meant.field_sets content.now types.now)) }
 {
@@ -95,13 +95,15 @@ fn sets_in(
     content: &Content,
     i: u32,
     types: &[Expr],
-) -> Result<Items<AtomSet>, ResolveFault>
+) -> Result<Items<AtomSet>, Unresolved>
     ensures { Answers (λ (sets : List (List Atom)). sets) result (meant.told_in i (meant.field_sets content.now types.now)) }
 {
     match field_sets(alloc, content, types) {
         Ok(sets) => Ok(sets),
-        Err(EvalFault::Value { kind }) => Err(ResolveFault::Value { inside: i, kind }),
-        Err(EvalFault::NoMemory) => Err(ResolveFault::NoMemory),
+        Err(EvalFault::Value { kind }) => {
+            Err(Unresolved::Refused(ResolveFault::Value { inside: i, kind }))
+        }
+        Err(EvalFault::NoMemory) => Err(Unresolved::NoMemory),
     }
 }
 
@@ -110,12 +112,12 @@ pub fn fill_table(
     alloc: Global,
     content: &mut Content,
     shared: &[SharedSets],
-) -> Result<(), ResolveFault>
+) -> Result<(), Unresolved>
     ensures { Answers (λ (done : Unit {0}). content.new) result (meant.with_table content.old (spread shared.now)) }
 {
     let count = event_count(shared);
     if count > MOST_EVENTS {
-        return Err(ResolveFault::EventLimit { count });
+        return Err(Unresolved::Refused(ResolveFault::EventLimit { count }));
     }
     fill_events(alloc, content, shared)?;
     Ok(())

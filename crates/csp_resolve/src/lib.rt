@@ -5,4 +5,4 @@ mod events;
 mod resolution;
 
 pub use resolution::resolve;
-pub use script_names::ResolveFault;
+pub use script_names::Unresolved;

@@ -24,7 +24,7 @@ use name_tables::declared::short;
 use name_tables::{Dictionary, Meanings, dictionary_of};
 use resolved_laws::programs_are_in_order;
 use script_contents::plain_content;
-use script_names::ResolveFault;
+use script_names::{ResolveFault, Unresolved};
 use std::alloc::Global;
 
 // The program on the heap, where it ends in a function of its own.
@@ -36,7 +36,7 @@ fn boxed(alloc: Global, program: Program) -> Result<Boxed<Program>, NoMemory>
 
 /// The program of a script. A fault is told exactly where the script has no program, and it is the first in this order: no deadlock assertion, a name
 /// fault, a type of a channel without a value that fits, too many events.
-pub fn resolve(alloc: Global, script: &Script) -> Result<Boxed<Program>, ResolveFault>
+pub fn resolve(alloc: Global, script: &Script) -> Result<Boxed<Program>, Unresolved>
     ensures { meant.Resolves script.now result }
 {
     let names = dictionary_of(alloc, script.decls.as_slice())?;
@@ -46,7 +46,7 @@ pub fn resolve(alloc: Global, script: &Script) -> Result<Boxed<Program>, Resolve
 }
 
 // What the program of a script holds whose names stand for what `names` says.
-fn content_of(alloc: Global, script: &Script, names: &Dictionary) -> Result<Content, ResolveFault>
+fn content_of(alloc: Global, script: &Script, names: &Dictionary) -> Result<Content, Unresolved>
     requires { SameFirsts names.now (declared script.now.decls) }
     ensures resolves { meant.Resolves script.now result }
     ensures in_order { IfOk result IsInOrder }
@@ -64,16 +64,16 @@ fn content_of(alloc: Global, script: &Script, names: &Dictionary) -> Result<Cont
 }
 
 // What the program of declarations holds whose names and definitions mean what `meanings` says.
-fn resolved(meanings: &Meanings<'_>, decls: &[Decl]) -> Result<Content, ResolveFault>
+fn resolved(meanings: &Meanings<'_>, decls: &[Decl]) -> Result<Content, Unresolved>
     requires names { SameFirsts meanings.now.names.now (declared decls.now) }
     ensures answer { Answers (λ (p : Content). p) result (meant.resolved decls.now meanings.now.kinds.now) }
     ensures few { OnOk result (HasFew (contents.plain_content decls.now meanings.now.kinds.now)) }
 {
     let Some(root) = first_assertion(decls) else {
-        return Err(ResolveFault::NoAssert);
+        return Err(Unresolved::Refused(ResolveFault::NoAssert));
     };
     match name_fault(meanings, decls)? {
-        Some(fault) => Err(fault),
+        Some(fault) => Err(Unresolved::Refused(fault)),
         None => {
             let content = plain_content(meanings, decls, root)?;
             with_events(meanings, decls, content)
@@ -98,7 +98,7 @@ fn with_events(
     meanings: &Meanings<'_>,
     decls: &[Decl],
     mut content: Content,
-) -> Result<Content, ResolveFault>
+) -> Result<Content, Unresolved>
     ensures answer { Answers (λ (p : Content). p) result
         (and_next (meant.channel_sets content (types_read (first_of meanings.now.names.now) meanings.now.kinds.now) 0 decls.now) (λ all. meant.with_table content all)) }
     ensures few { OnOk result (HasFew content) }
@@ -117,7 +117,7 @@ fn put_events(
     meanings: &Meanings<'_>,
     decls: &[Decl],
     content: &mut Content,
-) -> Result<(), ResolveFault>
+) -> Result<(), Unresolved>
     ensures answer { Answers (λ (done : Unit {0}). content.new) result
         (and_next (meant.channel_sets content.old (types_read (first_of meanings.now.names.now) meanings.now.kinds.now) 0 decls.now) (λ all. meant.with_table content.old all)) }
     ensures few { OnOk result (HasFew content.old) }

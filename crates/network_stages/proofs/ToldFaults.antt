@@ -1,5 +1,6 @@
 -- A fault that was told is the one that is there.
-use Rattle.std.proofs.Common.{◌≡◌, ℕ, List, Result, Ok, Err, IfErr, IfOk, inl, inr}
+use Rattle.std.proofs.Common.{◌≡◌, ℕ, ◌+◌, ◌<◌, ◌≤◌, ◌^◌, List, Result, Some, Ok, Err, IfErr, IfOk, arith, inr, length, slice_get}
+use Rattle.std.proofs.lemmas.Option.{slice_get_within}
 use Rattle.std.proofs.lemmas.Result.{IfOk-weaker}
 use Rattle.csp_program.specs.declared.processes.Proc.{Proc}
 use Rattle.csp_program.specs.declared.programs.Content.{Content}
@@ -13,6 +14,9 @@ use Rattle.network_layout.specs.declared.triple.TripleFault.{TripleFault}
 use Rattle.network_layout.specs.declared.triple.TripleFault.TheVariants as triple
 use Rattle.network_shape.proofs.TrueStops.{stops_are_true}
 use Rattle.network_shape.specs.Stops.{StopsFirst}
+use Rattle.network_tables.specs.Faults.{TellsTable}
+use Rattle.network_tables.specs.declared.fault.TableFault.{TableFault}
+use Rattle.network_tables.specs.declared.fault.TableFault.TheVariants as tables
 use Rattle.process_steps.specs.ComponentStep.{ProcessStep}
 use Rattle.network_shape.specs.declared.fault.BusyFault.{BusyFault}
 use Rattle.network_shape.specs.declared.fault.BusyFault.TheVariants as busy
@@ -24,12 +28,10 @@ use Rattle.report.specs.declared.answer.Refusal.{Refusal}
 use Rattle.report.specs.declared.answer.Shortfall.{Shortfall}
 use Rattle.report.specs.declared.stop.Stop.{Stop}
 use Rattle.report.specs.declared.stop.Stop.TheVariants as stop
-use Rattle.script_names.specs.Resolved.{IsProgram, IsRefused, Resolves}
-use Rattle.script_names.specs.declared.fault.ResolveFault.{ResolveFault}
-use Rattle.script_names.specs.declared.fault.ResolveFault.TheVariants as script
-use Rattle.network_stages.specs.Shortfalls.{TellsBusy, TellsTriple}
+use Rattle.script_names.specs.Resolved.{IsProgram}
+use Rattle.network_stages.specs.Shortfalls.{FitsAfter, TellsBusy, TellsTriple}
 use Rattle.network_stages.specs.Stages.{CanStop, HasNoNetwork, ShareEvent, SpellsNone}
-use Rattle.network_stages.specs.Tells.{TellsLayout, TellsScript}
+use Rattle.network_stages.specs.Tells.{TellsLayout}
 
 layout_fails : (p : Content) (f : LayoutFault) (r : Refusal) → Fails f (network_of p) → TellsLayout p f r → network_of p ≡ Err f
 layout_fails p layout.NoMemory r fails told = absurd told
@@ -41,21 +43,6 @@ layout_fails p layout.NetworkDepth r fails told = fails
 
 pub spells_none : {E : Type 0} (p : Content) (f : LayoutFault) (told : Result Refusal E) → Fails f (network_of p) → IfOk told (TellsLayout p f) → IfOk told (SpellsNone p)
 spells_none p f told fails tells = IfOk-weaker told _ _ (λ r t. (f, layout_fails p f r fails t, t)) tells
-
-is_refused : (s : Script) (f : ResolveFault) (r : Refusal) → Resolves s (Err f) → TellsScript f r → IsRefused s f
-is_refused s script.NoMemory r is told = absurd told
-is_refused s script.NoAssert r is told = is
-is_refused s (script.Unknown i x) r is told = is
-is_refused s (script.Twice i x) r is told = is
-is_refused s (script.WrongKind i) r is told = is
-is_refused s (script.WrongCount i x) r is told = is
-is_refused s (script.ParallelInside i) r is told = is
-is_refused s (script.EventLimit n) r is told = is
-is_refused s (script.DataDepth i) r is told = is
-is_refused s (script.Value i why) r is told = is
-
-pub has_no_program : {E : Type 0} (s : Script) (f : ResolveFault) (told : Result Refusal E) → Resolves s (Err f) → IfOk told (TellsScript f) → IfOk told (HasNoNetwork s)
-has_no_program s f told is tells = IfOk-weaker told _ _ (λ r t. inl (f, is_refused s f r is t, t)) tells
 
 pub has_no_network : {A : Type 0} (s : Script) (p : Content) (made : Result A (Stop Refusal)) → IsProgram s p → IfErr made (Tells (SpellsNone p)) → IfErr made (Tells (HasNoNetwork s))
 has_no_network s p (Ok a) is tells = tt
@@ -71,3 +58,12 @@ pub can_stop : {A E : Type 0} (p : Content) (tree : Tree Proc) (shape : Shape) (
 can_stop p tree shape f found (Err e) made stops is tells = tt
 can_stop p tree shape busy.NoMemory found (Ok s) made stops is tells = absurd tells
 can_stop p tree shape (busy.Stops i trace) found (Ok s) made stops is tells = (i, trace, stops_are_true (ProcessStep p) tree shape i trace made (stops i trace is), tells)
+
+-- the number of a component in a list of which the first has this number
+pub number_fits : (cs : List (Component Proc)) (first i : ℕ) (c : Component Proc) → first + length cs ≤ 512 → slice_get cs i ≡ Some c → first + i < 2 ^ 32
+number_fits cs first i c few at = let within = slice_get_within cs i c at in omega (arith, few, within)
+
+pub fits_after : (p : Content) (cs : List (Component Proc)) (first : ℕ) (f : TableFault) → first + length cs ≤ 512 → TellsTable p cs f → FitsAfter first f
+fits_after p cs first tables.NoMemory few told = tt
+fits_after p cs first (tables.Local i fault) few told = number_fits cs first i told.component few told.at
+fits_after p cs first (tables.Diverges i circle) few told = number_fits cs first i told.component few told.at

@@ -20,7 +20,7 @@ use Rattle.report.specs.declared.answer.ComponentFault.TheVariants as table
 use Rattle.script_names.specs.Resolved.{IsProgram, IsRefused}
 use Rattle.script_names.specs.declared.fault.ResolveFault.{ResolveFault}
 use Rattle.network_stages.specs.Sets.{IsFirstWithManySets}
-use Rattle.network_stages.specs.Tells.{TellsComponent, TellsLayout, TellsScript, texts}
+use Rattle.network_stages.specs.Tells.{TellsComponent, TellsLayout, texts}
 
 -- the program spells no network
 abbrev pub SpellsNone : Content → Refusal → Type 0
@@ -29,7 +29,7 @@ SpellsNone p r = (f : LayoutFault) × (network_of p ≡ Err f) × TellsLayout p 
 -- the script has no program, or its program spells no network
 abbrev pub HasNoNetwork : Script → Refusal → Type 0
 HasNoNetwork script r =
-    ((f : ResolveFault) × IsRefused script f × TellsScript f r)
+    ((f : ResolveFault) × IsRefused script f × (r ≡ refusal.NoProgram f))
     ⊎ ((p : Content) × IsProgram script p × SpellsNone p r)
 
 -- one of the components has no table; the first of them has the number n in its network

@@ -1,4 +1,4 @@
--- How it is told why a script has no program, why a program spells no network, or why a component has no table. Want of memory is not told.
+-- How it is told why a program spells no network, or why a component has no table. Want of memory is not told.
 use Rattle.std.specs.Prelude.{◌≡◌, ℕ, ◌+◌, List, map}
 use Rattle.csp_program.specs.declared.programs.Content.{Content}
 use Rattle.local_tables.specs.declared.fault.LocalFault.{LocalFault}
@@ -8,30 +8,15 @@ use Rattle.network_tables.specs.declared.fault.TableFault.TheVariants as tables
 use Rattle.network_trees.specs.declared.fault.LayoutFault.{LayoutFault}
 use Rattle.network_trees.specs.declared.fault.LayoutFault.TheVariants as layout
 use Rattle.report.specs.EventText.{event_text}
-use Rattle.report.specs.declared.answer.NameFault.TheVariants as name
 use Rattle.report.specs.declared.answer.NetworkFault.TheVariants as network
 use Rattle.report.specs.declared.answer.Refusal.{Refusal}
 use Rattle.report.specs.declared.answer.Refusal.TheVariants as refusal
 use Rattle.report.specs.declared.answer.Site.TheVariants as site
 use Rattle.report.specs.declared.answer.ComponentFault.TheVariants as table
-use Rattle.script_names.specs.declared.fault.ResolveFault.{ResolveFault}
-use Rattle.script_names.specs.declared.fault.ResolveFault.TheVariants as script
 
 -- the printed texts of events
 abbrev pub texts : Content → List ℕ → List (List ℕ)
 texts p events = map (event_text p) events
-
-abbrev pub TellsScript : ResolveFault → Refusal → Type 0
-TellsScript script.NoMemory r = ⊥
-TellsScript script.NoAssert r = r ≡ refusal.NoAssert
-TellsScript (script.Unknown i x) r = r ≡ refusal.Declaration i (name.Unknown x)
-TellsScript (script.Twice i x) r = r ≡ refusal.Declaration i (name.Twice x)
-TellsScript (script.WrongKind i) r = r ≡ refusal.Declaration i name.WrongKind
-TellsScript (script.WrongCount i x) r = r ≡ refusal.Declaration i (name.WrongCount x)
-TellsScript (script.ParallelInside i) r = r ≡ refusal.Declaration i name.ParallelInside
-TellsScript (script.EventLimit n) r = r ≡ refusal.EventLimit n
-TellsScript (script.DataDepth i) r = r ≡ refusal.Declaration i name.DataDepth
-TellsScript (script.Value i kind) r = r ≡ refusal.Value kind (site.Declaration i)
 
 abbrev pub TellsLayout : Content → LayoutFault → Refusal → Type 0
 TellsLayout p layout.NoMemory r = ⊥

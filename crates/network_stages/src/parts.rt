@@ -1,13 +1,13 @@
 //! The parts of components: alphabets with normal tables.
 
-ghost use Rattle.std.specs.Prelude.{◌≡◌, ◌≤◌, ◌++◌, ◌∷◌, [], All, IfErr, IfOk, OnOk, length};
+ghost use Rattle.std.specs.Prelude.{◌≡◌, ◌≤◌, ◌+◌, ◌++◌, ◌∷◌, [], All, IfErr, IfOk, OnOk, length};
 ghost use Rattle.dl_limits.specs.declared.TheConstants.{MOST_COMPONENTS};
 ghost use Rattle.network_shape.specs.Made.{AreMadeFor, IsMadeFor};
 ghost use Rattle.network_shape.specs.Parts.{IsWellFormedPart};
 ghost use Rattle.network_tables.specs.Tables.{AreTablesOf, HasTable};
 ghost use Rattle.process_steps.specs.ComponentStep.{ProcessStep};
 ghost use Rattle.report.specs.Stops.{Tells};
-ghost use Rattle.network_stages.specs.Sets.{ArePartsBy, HasManySets, HaveFewSets, IsFirstWithManySets, TellsSets};
+ghost use Rattle.network_stages.specs.Sets.{ArePartsBy, HasManySets, HaveFewSets, TellsSets};
 ghost use Rattle.network_stages.specs.Stages.{HaveNoParts};
 
 use crate::tabled::Tabled;
@@ -18,7 +18,7 @@ use csp_tables::Part;
 use network_layout::Seat;
 use network_shape::{SetFault, part};
 use network_tables::ComponentTable;
-use report::{Refusal, Stop, stopped};
+use report::{Refusal, Stop};
 use std::alloc::Global;
 
 // The part of a component.
@@ -46,26 +46,29 @@ fn add(made: &mut Vec<Part>, part: Part) -> Result<(), NoMemory>
     Ok(())
 }
 
-// The part of each component, or the place of the first component whose traces lead to more than 2,048 sets of terms.
+// The part of each component, or that traces of one lead to more than 2,048 sets of terms.
 fn all_parts(
     alloc: Global,
     program: &Program,
+    first: u32,
     seats: &[Seat],
     tables: &[ComponentTable],
-) -> Result<Vec<Part>, Stop<u32>>
+) -> Result<Vec<Part>, Stop<Refusal>>
     requires tables { AreTablesOf program.now seats.now tables.now }
-    requires most { length seats.now ≤ MOST_COMPONENTS }
+    requires most { first + length seats.now ≤ MOST_COMPONENTS }
     ensures parts { IfOk result (λ parts. AreMadeFor (ProcessStep program.now) seats.now parts.items) }
     ensures form { IfOk result (λ parts. All IsWellFormedPart parts.items) }
     ensures few { IfOk result (λ _. HaveFewSets program.now seats.now) }
-    ensures told { IfErr result (Tells (IsFirstWithManySets program.now seats.now)) }
+    ensures told { IfErr result (Tells (HaveNoParts program.now first seats.now)) }
 {
     let mut made = Vec::new(alloc);
     for place in 0..seats.len() {
         match part_of(alloc, program, &seats[place], &tables[place]) {
             Ok(part) => add(&mut made, part)?,
             Err(SetFault::NoMemory) => return Err(Stop::NoMemory),
-            Err(SetFault::SubsetLimit) => return Err(Stop::Told(place as u32)),
+            Err(SetFault::SubsetLimit) => {
+                return Err(Stop::Told(sets_refusal(first, place as u32)));
+            }
         }
     }
     Ok(made)
@@ -78,15 +81,13 @@ pub fn make_parts(
     first: u32,
     tabled: &Tabled<'_>,
 ) -> Result<Vec<Part>, Stop<Refusal>>
-    requires most { length tabled.now.components ≤ MOST_COMPONENTS }
+    requires most { first + length tabled.now.components ≤ MOST_COMPONENTS }
     ensures parts { IfOk result (λ parts. AreMadeFor (ProcessStep tabled.now.program) tabled.now.components parts.items) }
     ensures form { IfOk result (λ parts. All IsWellFormedPart parts.items) }
     ensures made_by { IfOk result (λ parts. ArePartsBy tabled.now.program tabled.now.components parts.items) }
     ensures told { IfErr result (Tells (HaveNoParts tabled.now.program first tabled.now.components)) }
 {
-    match all_parts(alloc, tabled.program(), tabled.seats(), tabled.tables()) {
-        Ok(parts) => Ok(parts),
-        Err(Stop::NoMemory) => Err(Stop::NoMemory),
-        Err(Stop::Told(place)) => Err(stopped(sets_refusal(first, place))),
-    }
+    let program = tabled.program();
+    let parts = all_parts(alloc, program, first, tabled.seats(), tabled.tables())?;
+    Ok(parts)
 }

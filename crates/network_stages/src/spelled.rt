@@ -7,10 +7,10 @@ ghost use Rattle.report.specs.Stops.{Tells};
 ghost use Rattle.network_stages.specs.Networks.{IsNetworkOf, components_at, network_at, tree_at};
 ghost use Rattle.network_stages.specs.Stages.{HasNoNetwork, SpellsNone};
 
-use crate::telling::{layout_refusal, script_refusal};
+use crate::telling::layout_refusal;
 use containers::Boxed;
 use csp_program::Program;
-use csp_resolve::resolve;
+use csp_resolve::{Unresolved, resolve};
 use csp_text::Script;
 use network_layout::{Layout, Seat, layout};
 use report::{Refusal, Stop, stopped};
@@ -97,6 +97,7 @@ pub fn spell_network(alloc: Global, script: &Script) -> Result<Spelled, Stop<Ref
 {
     match resolve(alloc, script) {
         Ok(program) => seated(alloc, program),
-        Err(fault) => Err(stopped(script_refusal(fault))),
+        Err(Unresolved::Refused(fault)) => Err(Stop::Told(Refusal::NoProgram(fault))),
+        Err(Unresolved::NoMemory) => Err(Stop::NoMemory),
     }
 }

@@ -1,6 +1,7 @@
 //! Components of a program with their tables.
 
-ghost use Rattle.std.specs.Prelude.{◌≡◌, IfErr, IfOk};
+ghost use Rattle.std.specs.Prelude.{◌≡◌, ◌≤◌, ◌+◌, IfErr, IfOk, length};
+ghost use Rattle.dl_limits.specs.declared.TheConstants.{MOST_COMPONENTS};
 ghost use Rattle.network_tables.specs.Tables.{AreTablesOf};
 ghost use Rattle.report.specs.Stops.{Tells};
 ghost use Rattle.network_stages.specs.Stages.{HaveNoTables};
@@ -81,6 +82,7 @@ pub fn make_tables<'a>(
     first: u32,
     seats: &'a [Seat],
 ) -> Result<Tabled<'a>, Stop<Refusal>>
+    requires most { first + length seats.now ≤ MOST_COMPONENTS }
     ensures program { IfOk result (λ made. made.program ≡ program.now) }
     ensures components { IfOk result (λ made. made.components ≡ seats.now) }
     ensures ok { IfOk result (λ made. AreTablesOf program.now seats.now made.tables) }

@@ -1,9 +1,10 @@
-//! What is told where a script, a program or a component is refused.
+//! What is told where a program or a component is refused.
 
-ghost use Rattle.std.specs.Prelude.{◌≡◌, ◌+◌, IfOk};
+ghost use Rattle.std.specs.Prelude.{◌≡◌, ◌<◌, ◌+◌, ◌^◌, IfOk};
 ghost use Rattle.report.specs.declared.answer.Refusal.TheVariants as refusal;
 ghost use Rattle.report.specs.declared.answer.ComponentFault.TheVariants as table;
-ghost use Rattle.network_stages.specs.Tells.{TellsComponent, TellsLayout, TellsLocal, TellsScript};
+ghost use Rattle.network_stages.specs.Shortfalls.{FitsAfter};
+ghost use Rattle.network_stages.specs.Tells.{TellsComponent, TellsLayout, TellsLocal};
 
 use crate::texts::event_texts;
 use csp_base::NoMemory;
@@ -11,42 +12,14 @@ use csp_program::{Program, ValueKind};
 use local_tables::LocalFault;
 use network_tables::TableFault;
 use network_trees::LayoutFault;
-use report::{NameFault, NetworkFault, Refusal, Site, event_text};
-use script_names::ResolveFault;
+use report::{NetworkFault, Refusal, Site, event_text};
 use std::alloc::Global;
-
-// A fault of a declaration.
-fn declared(inside: u32, fault: NameFault) -> Refusal
-    ensures { result ≡ refusal.Declaration inside fault }
-{
-    Refusal::Declaration { inside, fault }
-}
 
 // A value that there isn't.
 fn valueless(kind: ValueKind, site: Site) -> Refusal
     ensures { result ≡ refusal.Value kind site }
 {
     Refusal::Value { kind, site }
-}
-
-// Why a script has no program.
-pub(crate) fn script_refusal(fault: ResolveFault) -> Result<Refusal, NoMemory>
-    ensures { IfOk result (TellsScript fault) }
-{
-    match fault {
-        ResolveFault::NoMemory => Err(NoMemory),
-        ResolveFault::NoAssert => Ok(Refusal::NoAssert),
-        ResolveFault::Unknown { inside, name } => Ok(declared(inside, NameFault::Unknown { name })),
-        ResolveFault::Twice { inside, name } => Ok(declared(inside, NameFault::Twice { name })),
-        ResolveFault::WrongKind { inside } => Ok(declared(inside, NameFault::WrongKind)),
-        ResolveFault::WrongCount { inside, name } => {
-            Ok(declared(inside, NameFault::WrongCount { name }))
-        }
-        ResolveFault::ParallelInside { inside } => Ok(declared(inside, NameFault::ParallelInside)),
-        ResolveFault::EventLimit { count } => Ok(Refusal::EventLimit { count }),
-        ResolveFault::DataDepth { inside } => Ok(declared(inside, NameFault::DataDepth)),
-        ResolveFault::Value { inside, kind } => Ok(valueless(kind, Site::Declaration(inside))),
-    }
 }
 
 // Why a program spells no network.
@@ -116,17 +89,6 @@ fn local_refusal(
     }
 }
 
-// The number of the component in the place `place` of a list of which the first has the number `first`. One that its type does not hold is refused
-// like want of memory.
-fn number(first: u32, place: u32) -> Result<u32, NoMemory>
-    ensures { IfOk result (λ n. n ≡ first + place) }
-{
-    match first.checked_add(place) {
-        Some(number) => Ok(number),
-        None => Err(NoMemory),
-    }
-}
-
 // Why components have no tables, of which the first has the number `first`.
 pub(crate) fn tables_refusal(
     alloc: Global,
@@ -134,22 +96,22 @@ pub(crate) fn tables_refusal(
     first: u32,
     fault: TableFault,
 ) -> Result<Refusal, NoMemory>
+    requires { FitsAfter first fault }
     ensures { IfOk result (TellsComponent program.now first fault) }
 {
     match fault {
         TableFault::NoMemory => Err(NoMemory),
-        TableFault::Local { part, fault } => {
-            local_refusal(alloc, program, number(first, part)?, fault)
-        }
+        TableFault::Local { part, fault } => local_refusal(alloc, program, first + part, fault),
         TableFault::Diverges { part, circle: _ } => {
-            Ok(on_component(number(first, part)?, report::ComponentFault::Diverges))
+            Ok(on_component(first + part, report::ComponentFault::Diverges))
         }
     }
 }
 
 // Traces of the component in this place lead to too many sets of terms.
-pub(crate) fn sets_refusal(first: u32, place: u32) -> Result<Refusal, NoMemory>
-    ensures { IfOk result (λ told. told ≡ refusal.Component (first + place) table.SubsetLimit) }
+pub(crate) fn sets_refusal(first: u32, place: u32) -> Refusal
+    requires { first + place < 2 ^ 32 }
+    ensures { result ≡ refusal.Component (first + place) table.SubsetLimit }
 {
-    Ok(on_component(number(first, place)?, report::ComponentFault::SubsetLimit))
+    on_component(first + place, report::ComponentFault::SubsetLimit)
 }

@@ -1,6 +1,7 @@
 //! The tables of the components, one after another.
 
 ghost use Rattle.std.specs.Prelude.{◌≡◌, ◌≤◌, ◌<◌, ◌++◌, ◌∷◌, [], IfErr, IfOk, OnOk, length};
+ghost use Rattle.dl_limits.specs.declared.TheConstants.{MOST_COMPONENTS};
 ghost use Rattle.local_tables.specs.Component.{component};
 ghost use Rattle.local_tables.specs.declared.local_table.Room.{Room as RoomValue};
 ghost use Rattle.net_sound.specs.Heights.{AreSilentHeights};
@@ -57,16 +58,6 @@ fn after(room: Room, used: Room) -> Room
     }
 }
 
-// The number of the next table.
-fn number(made: &[ComponentTable]) -> Result<u32, NoMemory>
-    ensures { IfOk result (λ n. n ≡ length made.now) }
-{
-    match u32::try_from(made.len()) {
-        Ok(number) => Ok(number),
-        Err(_) => Err(NoMemory),
-    }
-}
-
 // A table with its silent heights.
 fn with_heights(alloc: Global, part: u32, local: LocalTable) -> Result<ComponentTable, TableFault>
     ensures local { IfOk result (λ made. made.local ≡ local) }
@@ -114,14 +105,14 @@ pub fn tables(
     program: &Program,
     seats: &[Seat],
 ) -> Result<Vec<ComponentTable>, TableFault>
+    requires most { length seats.now ≤ MOST_COMPONENTS }
     ensures tables { IfOk result (λ tables. AreTablesOf program.now seats.now tables.items) }
     ensures fault { IfErr result (TellsTable program.now seats.now) }
 {
     let mut made = Vec::new(alloc);
     let mut room = whole();
-    for seat in seats {
-        let part = number(made.as_slice())?;
-        match table_within(alloc, program, part, seat, room) {
+    for (part, seat) in seats.iter().enumerate() {
+        match table_within(alloc, program, part as u32, seat, room) {
             Ok(table) => {
                 room = after(room, table.local.used);
                 add(&mut made, table)?;

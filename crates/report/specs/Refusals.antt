@@ -5,8 +5,6 @@ use Rattle.csp_program.specs.declared.kinds.ValueKind.{ValueKind}
 use Rattle.csp_program.specs.declared.kinds.ValueKind.TheVariants as kind
 use Rattle.report.specs.Lines.{trace_text}
 use Rattle.report.specs.Sides.{side_name}
-use Rattle.report.specs.declared.answer.NameFault.{NameFault}
-use Rattle.report.specs.declared.answer.NameFault.TheVariants as name
 use Rattle.report.specs.declared.answer.NetworkFault.{NetworkFault}
 use Rattle.report.specs.declared.answer.NetworkFault.TheVariants as network
 use Rattle.report.specs.declared.answer.ComponentFault.{ComponentFault}
@@ -16,6 +14,8 @@ use Rattle.report.specs.declared.answer.Refusal.TheVariants as refusal
 use Rattle.report.specs.declared.answer.Side.{Side}
 use Rattle.report.specs.declared.answer.Site.{Site}
 use Rattle.report.specs.declared.answer.Site.TheVariants as site
+use Rattle.script_names.specs.declared.fault.ResolveFault.{ResolveFault}
+use Rattle.script_names.specs.declared.fault.ResolveFault.TheVariants as program
 
 abbrev pub kind_text : ValueKind → List ℕ
 kind_text kind.Range = codes "Range"
@@ -26,7 +26,6 @@ kind_text kind.EmptyChoice = codes "EmptyChoice"
 kind_text kind.SetLimit = codes "SetLimit"
 
 abbrev pub site_text : Site → List ℕ
-site_text (site.Declaration d) = codes " in declaration " ++ decimal d
 site_text site.Network = codes " in the network"
 site_text (site.Component i) = codes " in component " ++ decimal i
 site_text (site.Annotation i) = codes " in the annotation of component " ++ decimal i
@@ -38,14 +37,17 @@ nesting_text first zero event = codes "14 an empty operand has " ++ event ++ cod
 nesting_text first (suc more) event =
     codes "14 components " ++ decimal first ++ codes " to " ++ decimal (first + more) ++ codes " differ from their alphabet at " ++ event
 
--- what is wrong in the declaration with the number d
-abbrev pub declaration_text : ℕ → NameFault → List ℕ
-declaration_text d (name.Unknown x) = codes "4 unknown name " ++ x ++ codes " in declaration " ++ decimal d
-declaration_text d (name.Twice x) = codes "5 name " ++ x ++ codes " is declared twice in declaration " ++ decimal d
-declaration_text d name.WrongKind = codes "6 wrong kind in declaration " ++ decimal d
-declaration_text d (name.WrongCount x) = codes "7 wrong count for " ++ x ++ codes " in declaration " ++ decimal d
-declaration_text d name.ParallelInside = codes "8 parallel inside a component in declaration " ++ decimal d
-declaration_text d name.DataDepth = codes "33 data too deep in declaration " ++ decimal d
+-- why a script has no program
+abbrev pub program_text : ResolveFault → List ℕ
+program_text program.NoAssert = codes "3 no deadlock assertion"
+program_text (program.Unknown d x) = codes "4 unknown name " ++ x ++ codes " in declaration " ++ decimal d
+program_text (program.Twice d x) = codes "5 name " ++ x ++ codes " is declared twice in declaration " ++ decimal d
+program_text (program.WrongKind d) = codes "6 wrong kind in declaration " ++ decimal d
+program_text (program.WrongCount d x) = codes "7 wrong count for " ++ x ++ codes " in declaration " ++ decimal d
+program_text (program.ParallelInside d) = codes "8 parallel inside a component in declaration " ++ decimal d
+program_text (program.EventLimit n) = codes "9 there are " ++ decimal n ++ codes " events"
+program_text (program.DataDepth d) = codes "33 data too deep in declaration " ++ decimal d
+program_text (program.Value d k) = codes "2 value fault " ++ kind_text k ++ codes " in declaration " ++ decimal d
 
 -- why the component with the number i has no normal table
 abbrev pub component_text : ℕ → ComponentFault → List ℕ
@@ -67,9 +69,7 @@ network_text network.NetworkDepth = codes "34 the network is nested deeper than 
 abbrev pub refusal_text : Side → Refusal → List ℕ
 refusal_text s (refusal.NoScript at) = codes "1 no script near line " ++ decimal at.line ++ codes " column " ++ decimal at.column
 refusal_text s (refusal.Value k at) = codes "2 value fault " ++ kind_text k ++ site_text at
-refusal_text s refusal.NoAssert = codes "3 no deadlock assertion"
-refusal_text s (refusal.Declaration d fault) = declaration_text d fault
-refusal_text s (refusal.EventLimit n) = codes "9 there are " ++ decimal n ++ codes " events"
+refusal_text s (refusal.NoProgram fault) = program_text fault
 refusal_text s (refusal.Network fault) = network_text fault
 refusal_text s (refusal.Component i fault) = component_text i fault
 refusal_text s (refusal.NoComponent n) = codes "35 there are " ++ decimal n ++ codes " components"

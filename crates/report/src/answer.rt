@@ -1,16 +1,15 @@
 //! What a command is answered, with the values that its report prints. Components, declarations and nodes are numbered from 0.
 
 use containers::Items;
-use csp_base::{Bytes, Name, Place};
+use csp_base::{Bytes, Place};
 use csp_program::ValueKind;
 use csp_tables::Rule;
 use design_rules::Condition;
+use script_names::ResolveFault;
 
 /// Where a value is needed.
 #[derive(Clone, Copy)]
 pub enum Site {
-    /// In the declaration with this number.
-    Declaration(u32),
     /// In the walk of the network.
     Network,
     /// In the component with this number.
@@ -19,45 +18,6 @@ pub enum Site {
     Annotation(u32),
     /// In the set of hidden events.
     HiddenSet,
-}
-
-/// What is wrong in a declaration.
-pub enum NameFault {
-    /// A name is neither bound nor declared (4).
-    Unknown {
-        /// The name.
-        name: Name,
-    },
-    /// A name is declared, bound or annotated that may not be again (5).
-    Twice {
-        /// The name.
-        name: Name,
-    },
-    /// What stands at a place is not what the place needs (6).
-    WrongKind,
-    /// A name has the wrong number of arguments, fields or parameters (7).
-    WrongCount {
-        /// The name.
-        name: Name,
-    },
-    /// A parallel or the use of a network definition stands inside a component (8).
-    ParallelInside,
-    /// A definition of data is more than 800 deep, or without an end (33).
-    DataDepth,
-}
-
-// By hand, so that a crate that ends one calls this and proves no end of its own.
-impl Drop for NameFault {
-    fn drop(self) {
-        match self {
-            NameFault::Unknown { name: _name } => {}
-            NameFault::Twice { name: _name } => {}
-            NameFault::WrongKind => {}
-            NameFault::WrongCount { name: _name } => {}
-            NameFault::ParallelInside => {}
-            NameFault::DataDepth => {}
-        }
-    }
 }
 
 /// Why a component has no normal table.
@@ -156,20 +116,8 @@ pub enum Refusal {
         /// Where it is needed.
         site: Site,
     },
-    /// The script has no deadlock assertion (3).
-    NoAssert,
-    /// A declaration is at fault.
-    Declaration {
-        /// The declaration.
-        inside: u32,
-        /// What is wrong in it.
-        fault: NameFault,
-    },
-    /// There are more than 16,384 events (9).
-    EventLimit {
-        /// Their number.
-        count: u64,
-    },
+    /// The script has no program (2 to 9 and 33).
+    NoProgram(ResolveFault),
     /// The program spells no network.
     Network(NetworkFault),
     /// A component has no normal table.
@@ -213,12 +161,7 @@ impl Drop for Refusal {
                 kind: _kind,
                 site: _site,
             } => {}
-            Refusal::NoAssert => {}
-            Refusal::Declaration {
-                inside: _inside,
-                fault: _fault,
-            } => {}
-            Refusal::EventLimit { count: _count } => {}
+            Refusal::NoProgram(_fault) => {}
             Refusal::Network(_first) => {}
             Refusal::Component {
                 component: _component,

@@ -62,10 +62,6 @@ pub(crate) fn site(alloc: Global, site: Site) -> Result<Bytes, NoMemory>
     ensures { IfOk result (λ made. made ≡ site_text site) }
 {
     match site {
-        Site::Declaration(d) => written(
-            alloc,
-            &[Part::Text(b" in declaration "), Part::Number(u64::from(d))],
-        ),
         Site::Network => Bytes::from_slice(alloc, b" in the network"),
         Site::Component(i) => written(
             alloc,

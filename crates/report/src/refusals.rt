@@ -4,13 +4,14 @@ ghost use Rattle.std.specs.Prelude.{◌≡◌, ◌+◌, ◌++◌, IfOk, codes};
 ghost use Rattle.std.specs.Fmt.{decimal};
 ghost use Rattle.report.specs.Lines.{trace_text};
 ghost use Rattle.report.specs.Sides.{side_name};
-ghost use Rattle.report.specs.Refusals.{component_text, declaration_text, kind_text, nesting_text, network_text, refusal_text, site_text};
+ghost use Rattle.report.specs.Refusals.{component_text, kind_text, nesting_text, network_text, program_text, refusal_text, site_text};
 
-use crate::answer::{ComponentFault, NameFault, NetworkFault, Refusal, Side, Site};
+use crate::answer::{ComponentFault, NetworkFault, Refusal, Side, Site};
 use crate::lines::{Part, written};
 use crate::printed::{kind_name, side_name, site};
 use csp_base::{Bytes, NoMemory, Place};
 use csp_program::ValueKind;
+use script_names::ResolveFault;
 use std::alloc::Global;
 
 // A value that there isn't.
@@ -110,39 +111,61 @@ fn between<'a>(
     )
 }
 
-// What is wrong in a declaration.
-fn declared(alloc: Global, inside: u32, fault: &NameFault) -> Result<Bytes, NoMemory>
-    ensures { IfOk result (λ made. made ≡ declaration_text inside fault.now) }
+// A value that there isn't in a declaration.
+fn valueless(alloc: Global, kind: ValueKind, inside: u32) -> Result<Bytes, NoMemory>
+    ensures { IfOk result (λ made. made ≡ codes "2 value fault " ++ kind_text kind ++ codes " in declaration " ++ decimal inside) }
+{
+    written(
+        alloc,
+        &[
+            Part::Text(b"2 value fault "),
+            Part::Text(kind_name(kind)),
+            Part::Text(b" in declaration "),
+            Part::Number(u64::from(inside)),
+        ],
+    )
+}
+
+// Why a script has no program.
+fn program(alloc: Global, fault: &ResolveFault) -> Result<Bytes, NoMemory>
+    ensures { IfOk result (λ made. made ≡ program_text fault.now) }
 {
     match fault {
-        NameFault::Unknown { name } => named(
+        ResolveFault::NoAssert => Bytes::from_slice(alloc, b"3 no deadlock assertion"),
+        ResolveFault::Unknown { inside, name } => named(
             alloc,
             b"4 unknown name ",
             name.as_slice(),
             b" in declaration ",
-            inside,
+            *inside,
         ),
-        NameFault::Twice { name } => named(
+        ResolveFault::Twice { inside, name } => named(
             alloc,
             b"5 name ",
             name.as_slice(),
             b" is declared twice in declaration ",
-            inside,
+            *inside,
         ),
-        NameFault::WrongKind => numbered(alloc, b"6 wrong kind in declaration ", inside),
-        NameFault::WrongCount { name } => named(
+        ResolveFault::WrongKind { inside } => {
+            numbered(alloc, b"6 wrong kind in declaration ", *inside)
+        }
+        ResolveFault::WrongCount { inside, name } => named(
             alloc,
             b"7 wrong count for ",
             name.as_slice(),
             b" in declaration ",
-            inside,
+            *inside,
         ),
-        NameFault::ParallelInside => numbered(
+        ResolveFault::ParallelInside { inside } => numbered(
             alloc,
             b"8 parallel inside a component in declaration ",
-            inside,
+            *inside,
         ),
-        NameFault::DataDepth => numbered(alloc, b"33 data too deep in declaration ", inside),
+        ResolveFault::EventLimit { count } => between(alloc, b"9 there are ", *count, b" events"),
+        ResolveFault::DataDepth { inside } => {
+            numbered(alloc, b"33 data too deep in declaration ", *inside)
+        }
+        ResolveFault::Value { inside, kind } => valueless(alloc, *kind, *inside),
     }
 }
 
@@ -253,9 +276,7 @@ pub(crate) fn refusal_line(alloc: Global, side: Side, refusal: &Refusal) -> Resu
     match refusal {
         Refusal::NoScript { at } => no_script(alloc, at),
         Refusal::Value { kind, site } => value(alloc, *kind, *site),
-        Refusal::NoAssert => Bytes::from_slice(alloc, b"3 no deadlock assertion"),
-        Refusal::Declaration { inside, fault } => declared(alloc, *inside, fault),
-        Refusal::EventLimit { count } => between(alloc, b"9 there are ", *count, b" events"),
+        Refusal::NoProgram(fault) => program(alloc, fault),
         Refusal::Network(fault) => network(alloc, fault),
         Refusal::Component {
             component: number,

@@ -20,6 +20,8 @@ use Rattle.csp_text.specs.declared.script.Script.{Script}
 use Rattle.csp_text.specs.declared.tree.Tree.{Tree}
 use Rattle.script_names.specs.declared.fault.ResolveFault.{ResolveFault}
 use Rattle.script_names.specs.declared.fault.ResolveFault.TheVariants as fault
+use Rattle.script_names.specs.declared.fault.Unresolved.{Unresolved}
+use Rattle.script_names.specs.declared.fault.Unresolved.TheVariants as unresolved
 use Rattle.script_names.specs.declared.kinds.Kind.{Kind as DefinitionKind}
 use Rattle.script_names.specs.Contents.{first_assertion, plain_content}
 use Rattle.script_names.specs.Kinds.{AreKinds}
@@ -115,7 +117,7 @@ pub record IsRefused (script : Script) (f : ResolveFault) : Type 0 where
   pub is : resolved script.decls kinds ≡ Err f
 
 -- what a call owes that resolves a script: want of memory is free
-abbrev pub Resolves : Script → Result Content ResolveFault → Type 0
+abbrev pub Resolves : Script → Result Content Unresolved → Type 0
 Resolves script (Ok p) = IsProgram script p
-Resolves script (Err fault.NoMemory) = Unit {0}
-Resolves script (Err f) = IsRefused script f
+Resolves script (Err (unresolved.Refused f)) = IsRefused script f
+Resolves script (Err unresolved.NoMemory) = Unit {0}

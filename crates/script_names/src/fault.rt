@@ -4,7 +4,6 @@ use csp_base::{Name, NoMemory};
 use csp_program::ValueKind;
 
 /// Why a script has no program. Declarations are numbered from 0 in the order of the text.
-#[derive(Drop)]
 pub enum ResolveFault {
     /// No deadlock assertion is in the script.
     NoAssert,
@@ -56,17 +55,53 @@ pub enum ResolveFault {
         /// Why.
         kind: ValueKind,
     },
-    /// There was no memory for the program.
+}
+
+// By hand, so that a crate that ends one calls this and proves no end of its own.
+impl Drop for ResolveFault {
+    fn drop(self) {
+        match self {
+            ResolveFault::NoAssert => {}
+            ResolveFault::Unknown {
+                inside: _inside,
+                name: _name,
+            } => {}
+            ResolveFault::Twice {
+                inside: _inside,
+                name: _name,
+            } => {}
+            ResolveFault::WrongKind { inside: _inside } => {}
+            ResolveFault::WrongCount {
+                inside: _inside,
+                name: _name,
+            } => {}
+            ResolveFault::ParallelInside { inside: _inside } => {}
+            ResolveFault::EventLimit { count: _count } => {}
+            ResolveFault::DataDepth { inside: _inside } => {}
+            ResolveFault::Value {
+                inside: _inside,
+                kind: _kind,
+            } => {}
+        }
+    }
+}
+
+/// Why no program was made of a script.
+#[derive(Drop)]
+pub enum Unresolved {
+    /// It has none.
+    Refused(ResolveFault),
+    /// There was no memory for it.
     NoMemory,
 }
 
-impl From<NoMemory> for ResolveFault {
+impl From<NoMemory> for Unresolved {
     ghost use Rattle.std.specs.Prelude.{◌≡◌};
-    ghost use Rattle.script_names.specs.declared.fault.ResolveFault.TheVariants as fault;
+    ghost use Rattle.script_names.specs.declared.fault.Unresolved.TheVariants as unresolved;
 
-    ghost from_gives = { λ _ e. e ≡ fault.NoMemory };
+    ghost from_gives = { λ _ e. e ≡ unresolved.NoMemory };
 
-    fn from(_error: NoMemory) -> ResolveFault {
-        ResolveFault::NoMemory
+    fn from(_error: NoMemory) -> Unresolved {
+        Unresolved::NoMemory
     }
 }

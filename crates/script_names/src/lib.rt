@@ -4,5 +4,5 @@
 pub mod fault;
 pub mod kinds;
 
-pub use fault::ResolveFault;
+pub use fault::{ResolveFault, Unresolved};
 pub use kinds::{Class, End, Entity, Kind, Need, Place, Sense, Use};

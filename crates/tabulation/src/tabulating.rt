@@ -1,6 +1,7 @@
 //! The normal table of one component of a script's network.
 
-ghost use Rattle.std.specs.Prelude.{◌≡◌, ◌≤◌, [], ◌∷◌, IfErr, IfOk, Some, length, map, slice_get};
+ghost use Rattle.std.specs.Prelude.{◌≡◌, ◌≤◌, ◌<◌, [], ◌∷◌, IfErr, IfOk, Some, length, map, slice_get};
+ghost use Rattle.dl_limits.specs.declared.TheConstants.{MOST_COMPONENTS};
 ghost use Rattle.network_stages.specs.Networks.{components_at};
 ghost use Rattle.report.specs.Stops.{Answers, Tells};
 ghost use Rattle.tabulation.specs.Tabulated.{HasNoComponent, IsTabulated};
@@ -16,6 +17,7 @@ use std::slice;
 // The component with the number `index`, or that none has it.
 fn seat_at(network: &Spelled, index: u32) -> Result<&Seat, Stop<Refusal>>
     ensures ok { IfOk result (λ seat. slice_get (components_at network.now) index ≡ Some seat.now) }
+    ensures few { IfOk result (λ _. index < MOST_COMPONENTS) }
     ensures told { IfErr result (Tells (HasNoComponent (components_at network.now) index)) }
 {
     let seats = network.seats();

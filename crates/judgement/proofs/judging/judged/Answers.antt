@@ -1,4 +1,4 @@
-use Rattle.std.proofs.Common.{◌≤◌, length, ap, subst, sym, ◌∙◌}
+use Rattle.std.proofs.Common.{◌≤◌, arith, length, ap, subst, sym, ◌∙◌}
 use Rattle.network_stages.specs.Networks.{components_at}
 use Rattle.judgement.proofs.Walk.{at_busy, at_network, at_parts, at_rule, at_shape, at_tables, made_here, parts_here, tables_here}
 use Rattle.judgement.proofs.judging.judged.Goals as goal
@@ -14,7 +14,8 @@ returns-in_err-tables c =
 
 pub make_parts-requires : goal.make_parts-requires
 make_parts-requires c =
-    record { most = subst (λ n. n ≤ 512) (sym (ap length c.in_ok-tables.ensures.components)) c.seats.ensures.few }
+    let few : length c.in_ok-tables.tables.components ≤ 512 = subst (λ n. n ≤ 512) (sym (ap length c.in_ok-tables.ensures.components)) c.seats.ensures.few in
+    record { most = omega (arith, few) }
 
 pub returns-in_err-parts : goal.returns-in_err-parts
 returns-in_err-parts c =

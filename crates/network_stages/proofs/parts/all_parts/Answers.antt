@@ -15,9 +15,12 @@ loop-place-preserved c =
     c.in-Ok.ensures.few c.in_ok-add-in-Ok.ensures
 
 pub returns-in-Err-SubsetLimit-clause-told : goal.returns-in-Err-SubsetLimit-clause-told
-returns-in-Err-SubsetLimit-clause-told c =
-    first_many c.args.program.now c.args.seats.now _ _ c.loop-place-test.true c.index-seats-place.is c.loop-place.invariant.few
-    (many_told c.args.program.now c.index-seats-place.result c.part_of.result _ c.in-Err-SubsetLimit.is c.in-Err-SubsetLimit.field-0-is c.part_of.ensures.fault)
+returns-in-Err-SubsetLimit-clause-told c = (
+  c.loop-place.place,
+  first_many c.args.program.now c.args.seats.now _ _ c.loop-place-test.true c.index-seats-place.is c.loop-place.invariant.few
+  (many_told c.args.program.now c.index-seats-place.result c.part_of.result _ c.in-Err-SubsetLimit.is c.in-Err-SubsetLimit.field-0-is c.part_of.ensures.fault),
+  c.sets_refusal.ensures,
+)
 
 pub returns-clause-few : goal.returns-clause-few
 returns-clause-few c = (all_made c.args.program.now c.args.seats.now _ _ c.loop-place.invariant c.loop-place-test.false).1
