@@ -84,16 +84,13 @@ alike xs (b ∷ bs) = fits xs b
 
 -- the number of the event that an atom is
 abbrev pub event_number : Atom → Option ℕ
-event_number (atom.Num n) = None
-event_number (atom.Truth b) = None
-event_number (atom.Const k) = None
 event_number (atom.Event e) = Some e
+event_number _ = None
 
 -- the numbers of the events of the list, None if one of its atoms is no event
 abbrev pub both_events : Option ℕ → Option (List ℕ) → Option (List ℕ)
-both_events None rest = None
-both_events (Some e) None = None
 both_events (Some e) (Some es) = Some (e ∷ es)
+both_events _ _ = None
 
 abbrev pub event_numbers : List Atom → Option (List ℕ)
 event_numbers [] = Some []

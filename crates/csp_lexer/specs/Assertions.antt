@@ -35,34 +35,21 @@ line_front at (b ∷ text) = if is_space b then Some (nothing text) else one_at 
 -- tests of one token
 abbrev pub is_symbol : Symbol → Token → Bool
 is_symbol symbol (token.Symbol other) = bytes_eq (symbol_text other) (symbol_text symbol)
-is_symbol symbol (token.Name name) = false
-is_symbol symbol (token.Num n) = false
-is_symbol symbol (token.Word word) = false
-is_symbol symbol (token.Roles names) = false
-is_symbol symbol (token.Resource names) = false
+is_symbol _ _ = false
 
 abbrev pub is_the_name : List ℕ → Token → Bool
 is_the_name bytes (token.Name name) = bytes_eq name bytes
-is_the_name bytes (token.Symbol symbol) = false
-is_the_name bytes (token.Num n) = false
-is_the_name bytes (token.Word word) = false
-is_the_name bytes (token.Roles names) = false
-is_the_name bytes (token.Resource names) = false
+is_the_name _ _ = false
 
 abbrev pub is_some_name : Token → Bool
 is_some_name (token.Name name) = true
-is_some_name (token.Symbol symbol) = false
-is_some_name (token.Num n) = false
-is_some_name (token.Word word) = false
-is_some_name (token.Roles names) = false
-is_some_name (token.Resource names) = false
+is_some_name _ = false
 
 -- there are as many tokens as tests, and each passes its own
 unfoldable pub fit : List (Token → Bool) → List Token → Bool
 fit [] [] = true
-fit [] (t ∷ tokens) = false
-fit (test ∷ tests) [] = false
 fit (test ∷ tests) (t ∷ tokens) = test t && fit tests tokens
+fit _ _ = false
 
 -- `: [ deadlock free ]`, or `: [ deadlock free [ F ] ]` with the model F or FD
 abbrev pub deadlock_free : List (Token → Bool) → List (Token → Bool)

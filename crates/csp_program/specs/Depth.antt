@@ -14,23 +14,18 @@ use Rattle.csp_base.specs.Lists.{greatest}
 
 -- one layer of an expression, with the depths of its parts in their places
 abbrev pub expr_depth_of_layer : Expr-F ℕ ℕ ℕ → ℕ
-expr_depth_of_layer (Expr-F.Num n) = 1
-expr_depth_of_layer (Expr-F.Truth b) = 1
-expr_depth_of_layer (Expr-F.Const k) = 1
-expr_depth_of_layer (Expr-F.Bound x) = 1
-expr_depth_of_layer (Expr-F.Lit v) = 1
 expr_depth_of_layer (Expr-F.Neg a) = 1 + a
 expr_depth_of_layer (Expr-F.Not a) = 1 + a
 expr_depth_of_layer (Expr-F.Binary op a b) = 1 + max a b
 expr_depth_of_layer (Expr-F.If c a b) = 1 + max c (max a b)
 expr_depth_of_layer (Expr-F.Call d args) = 1 + greatest args
-expr_depth_of_layer (Expr-F.SetName d) = 1
 expr_depth_of_layer (Expr-F.Event c fields) = 1 + greatest fields
 expr_depth_of_layer (Expr-F.Display items) = 1 + greatest items
 expr_depth_of_layer (Expr-F.Range a b) = 1 + max a b
 expr_depth_of_layer (Expr-F.Comp items gens) = 1 + max (greatest items) (greatest gens)
 expr_depth_of_layer (Expr-F.Product parts gens) = 1 + max (greatest parts) (greatest gens)
 expr_depth_of_layer (Expr-F.SetOp op a b) = 1 + max a b
+expr_depth_of_layer _ = 1
 
 -- a generator is as deep as its expression
 abbrev pub gen_depth_of_layer : Gen-F ℕ ℕ ℕ → ℕ
@@ -61,7 +56,6 @@ pair_depth pair = max (part_depth pair.0) (part_depth pair.1)
 
 -- one layer of a process, with the depths of its processes in their places
 abbrev pub proc_depth_of_layer : Proc-F ℕ → ℕ
-proc_depth_of_layer Proc-F.Stop = 1
 proc_depth_of_layer (Proc-F.Prefix head fields p) = 1 + max (greatest (map field_depth fields)) p
 proc_depth_of_layer (Proc-F.Guard c p) = 1 + max (expr_depth c) p
 proc_depth_of_layer (Proc-F.If c p q) = 1 + max (expr_depth c) (max p q)
@@ -72,9 +66,8 @@ proc_depth_of_layer (Proc-F.EachInternal x s p) = 1 + max (expr_depth s) p
 proc_depth_of_layer (Proc-F.Hide p s) = 1 + max p (expr_depth s)
 proc_depth_of_layer (Proc-F.Rename p pairs gens) = 1 + max p (max (greatest (map pair_depth pairs)) (greatest (map gen_depth gens)))
 proc_depth_of_layer (Proc-F.Call d args) = 1 + greatest (map expr_depth args)
-proc_depth_of_layer Proc-F.Skip = 1
 proc_depth_of_layer (Proc-F.Seq p q) = 1 + max p q
-proc_depth_of_layer Proc-F.Ended = 1
+proc_depth_of_layer _ = 1
 
 abbrev pub proc_depth : Proc → ℕ
 proc_depth = fold-Proc ℕ proc_depth_of_layer

@@ -39,9 +39,8 @@ bound_value (b ∷ env) x = if nat_eq b.0 x then Ok b.1 else bound_value env x
 
 -- the parameters with the values of the arguments
 abbrev pub bound_to : List ℕ → List Value → Env
-bound_to [] vs = []
-bound_to (x ∷ xs) [] = []
 bound_to (x ∷ xs) (v ∷ vs) = (x, v) ∷ bound_to xs vs
+bound_to _ _ = []
 
 -- an atom is needed
 abbrev pub as_atom : Value → Outcome Atom
@@ -51,18 +50,12 @@ as_atom (Many atoms) = Err Kind
 -- a number is needed
 abbrev pub as_number : Value → Outcome ℤ
 as_number (One (atom.Num n)) = Ok n
-as_number (One (atom.Truth b)) = Err Kind
-as_number (One (atom.Const k)) = Err Kind
-as_number (One (atom.Event e)) = Err Kind
-as_number (Many atoms) = Err Kind
+as_number _ = Err Kind
 
 -- a truth value is needed
 abbrev pub as_truth : Value → Outcome Bool
-as_truth (One (atom.Num n)) = Err Kind
 as_truth (One (atom.Truth b)) = Ok b
-as_truth (One (atom.Const k)) = Err Kind
-as_truth (One (atom.Event e)) = Err Kind
-as_truth (Many atoms) = Err Kind
+as_truth _ = Err Kind
 
 -- a set is needed
 abbrev pub as_set : Value → Outcome (List Atom)
@@ -92,9 +85,8 @@ remainder (pos m) d = pos (m % d)
 remainder (negsuc m) d = pos (d - 1 - m % d)
 
 abbrev pub divided : (ℤ → ℕ → ℤ) → ℤ → ℤ → Outcome Value
-divided f m (pos zero) = Err Division
 divided f m (pos (suc d)) = Ok (number (f m (suc d)))
-divided f m (negsuc d) = Err Division
+divided _ _ _ = Err Division
 
 -- an operator on two numbers, the first of which has its value
 abbrev pub on_numbers : (ℤ → ℤ → Outcome Value) → Value → Outcome Value → Outcome Value
@@ -293,8 +285,7 @@ abbrev pub body_value : (Expr → Meaning) → List ℕ → Body → List Value 
 body_value value params (body.Datum e) args = value e (bound_to params args)
 body_value value params (body.Nametype e) args = value e []
 body_value value params (body.Datatype ks) args = many (all_added [] (map (λ k. atom.Const k) ks))
-body_value value params (body.Process p) args = Err Kind
-body_value value params (body.Network n) args = Err Kind
+body_value _ _ _ _ = Err Kind
 
 abbrev pub def_value : (Expr → Meaning) → Option Def → List Value → Outcome Value
 def_value value None args = Err Kind

@@ -38,22 +38,18 @@ abbrev mutual
   NetworkStep Step (leaf c) l (leaf d) = ComponentStep Step c l d
   NetworkStep Step (parallel os) silent (parallel qs) = OneSilent Step os qs
   NetworkStep Step (parallel os) (visible e) (parallel qs) = IsTrue (in_some_alphabet os e) × AllTogether Step e os qs
-  NetworkStep Step (leaf c) l (parallel qs) = ⊥
-  NetworkStep Step (parallel os) silent (leaf d) = ⊥
-  NetworkStep Step (parallel os) (visible e) (leaf d) = ⊥
+  NetworkStep _ _ _ _ = ⊥
 
   -- one operand has a silent step, and the others stay
   pub OneSilent : {T : Type 0} → (T → Label → T → Type 0) → Operands T → Operands T → Type 0
-  OneSilent Step none qs = ⊥
-  OneSilent Step (operand a t os) none = ⊥
   OneSilent Step (operand a t os) (operand b u qs) = (a ≡ b) × ((NetworkStep Step t silent u × (os ≡ qs)) ⊎ ((t ≡ u) × OneSilent Step os qs))
+  OneSilent _ _ _ = ⊥
 
   -- each operand with the event in its alphabet does it, and the others stay
   pub AllTogether : {T : Type 0} → (T → Label → T → Type 0) → ℕ → Operands T → Operands T → Type 0
   AllTogether Step e none none = Unit {0}
-  AllTogether Step e none (operand b u qs) = ⊥
-  AllTogether Step e (operand a t os) none = ⊥
   AllTogether Step e (operand a t os) (operand b u qs) = (a ≡ b) × MatchBool (has a e) (NetworkStep Step t (visible e) u) (t ≡ u) × AllTogether Step e os qs
+  AllTogether _ _ _ _ = ⊥
 
 -- the components, from left to right
 abbrev mutual

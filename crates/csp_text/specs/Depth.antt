@@ -17,12 +17,6 @@ greatest_of_pairs (pair ∷ pairs) = max (max pair.0 pair.1) (greatest_of_pairs 
 
 -- one layer of a tree, with the depths of its parts in their places
 abbrev pub tree_layer_depth : Tree-F ℕ ℕ ℕ ℕ ℕ → ℕ
-tree_layer_depth Tree-F.Stop = 1
-tree_layer_depth Tree-F.Skip = 1
-tree_layer_depth (Tree-F.Num n) = 1
-tree_layer_depth Tree-F.True = 1
-tree_layer_depth Tree-F.False = 1
-tree_layer_depth (Tree-F.Name x) = 1
 tree_layer_depth (Tree-F.Call f items) = 1 + greatest items
 tree_layer_depth (Tree-F.«Tree::Dot» c items) = 1 + greatest items
 tree_layer_depth (Tree-F.Neg a) = 1 + a
@@ -45,6 +39,7 @@ tree_layer_depth (Tree-F.EachParallel x s a p) = 1 + max s (max a p)
 tree_layer_depth (Tree-F.Seq p q) = 1 + max p q
 tree_layer_depth (Tree-F.Hide p s) = 1 + max p s
 tree_layer_depth (Tree-F.Rename p pairs gens) = 1 + max p (max (greatest_of_pairs pairs) (greatest gens))
+tree_layer_depth _ = 1
 
 -- a field is as deep as its tree, 0 without one
 abbrev pub field_layer_depth : FieldTree-F ℕ ℕ ℕ ℕ ℕ → ℕ

@@ -61,17 +61,13 @@ nested k alphabet tree = agreed k tree (odd_event alphabet (joint (leaves tree))
 
 -- a network with values in place of names, one after another
 abbrev pub network_with : List ℕ → List Value → Net → Net
-network_with [] vs n = n
-network_with (x ∷ xs) [] n = n
 network_with (x ∷ xs) (v ∷ vs) n = network_with xs vs (net_with x v n)
+network_with _ _ n = n
 
 -- the body of a definition of a network, with the values of the arguments in place of the parameters
 abbrev pub network_in : List ℕ → Body → List Value → Outcome Net
-network_in params (body.Datum e) vs = Err Kind
-network_in params (body.Nametype e) vs = Err Kind
-network_in params (body.Datatype ks) vs = Err Kind
-network_in params (body.Process q) vs = Err Kind
 network_in params (body.Network n) vs = Ok (network_with params vs n)
+network_in _ _ _ = Err Kind
 
 abbrev pub network_called : Option Def → List Value → Outcome Net
 network_called None vs = Err Kind
@@ -109,10 +105,7 @@ module _ (p : Content) (below : ℕ → List ℕ → Net → Walked (Tree Proc))
 -- where no more nodes may be entered, one inside another
 abbrev pub walked_leaf : ℕ → List ℕ → Net-F Net → Walked (Tree Proc)
 walked_leaf k alphabet (Net-F.Leaf q) = next_component k alphabet q
-walked_leaf k alphabet (Net-F.Call d args) = Err fault.NetworkDepth
-walked_leaf k alphabet (Net-F.If c n m) = Err fault.NetworkDepth
-walked_leaf k alphabet (Net-F.Pair n a b m) = Err fault.NetworkDepth
-walked_leaf k alphabet (Net-F.Each x s a n) = Err fault.NetworkDepth
+walked_leaf _ _ _ = Err fault.NetworkDepth
 
 -- the walk of a network, where so many nodes may still be entered, one inside another
 unfoldable pub tree_within : Content → ℕ → ℕ → List ℕ → Net → Walked (Tree Proc)

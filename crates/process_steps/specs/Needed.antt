@@ -46,11 +46,8 @@ arguments_in p args = all_outcomes (value_of p) args
 
 -- the body of a definition of a process, with the values of the arguments in place of the parameters
 abbrev pub process_of : List ℕ → Body → List Value → Outcome Proc
-process_of params (body.Datum e) vs = Err Kind
-process_of params (body.Nametype e) vs = Err Kind
-process_of params (body.Datatype ks) vs = Err Kind
 process_of params (body.Process q) vs = Ok (with_values params vs q)
-process_of params (body.Network n) vs = Err Kind
+process_of _ _ _ = Err Kind
 
 abbrev pub called : Option Def → List Value → Outcome Proc
 called None vs = Err Kind

@@ -31,11 +31,8 @@ of_channel first (Some sets) = Ok (record { first = first; sets = sets })
 
 -- a value in place of a head is a whole event
 abbrev pub of_value : Value → Outcome Choice
-of_value (One (atom.Num n)) = Err Kind
-of_value (One (atom.Truth b)) = Err Kind
-of_value (One (atom.Const k)) = Err Kind
 of_value (One (atom.Event e)) = Ok (record { first = e; sets = [] })
-of_value (Many atoms) = Err Kind
+of_value _ = Err Kind
 
 -- the events that a head stands for
 abbrev pub of_head : Content → Head → Outcome Choice

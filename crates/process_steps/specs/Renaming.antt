@@ -24,9 +24,8 @@ Renamed = ℕ × ℕ
 -- the number of the event that has these values as its fields, after others with the number n
 abbrev pub number_with : List Value → List (List Atom) → ℕ → Outcome ℕ
 number_with [] [] n = Ok n
-number_with [] (set ∷ sets) n = Err OutsideChannel
-number_with (v ∷ vs) [] n = Err OutsideChannel
 number_with (v ∷ vs) (set ∷ sets) n = and_then (field_place set v) (λ k. number_with vs sets (n * length set + k))
+number_with _ _ _ = Err OutsideChannel
 
 -- the event of a channel that has these values as its fields, where the channel's first event has the number first
 abbrev pub event_with : ℕ → Option (List (List Atom)) → List Value → Outcome ℕ

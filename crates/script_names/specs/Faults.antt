@@ -58,12 +58,9 @@ kind_network (Some kind) = kind.network
 module _ (kinds : List Kind) where
   -- the class of what a name stands for
   abbrev pub class_of : Sense → Class
-  class_of sense.Bound = class.Data
-  class_of (sense.Declared (entity.Channel c n)) = class.Data
-  class_of (sense.Declared (entity.Constant k)) = class.Data
-  class_of (sense.Declared (entity.Set d)) = class.Data
   class_of (sense.Declared (entity.Definition d n)) = kind_class (slice_get kinds d)
   class_of sense.Unknown = class.Unknown
+  class_of _ = class.Data
 
   abbrev pub is_network : Sense → Bool
   is_network (sense.Declared (entity.Definition d n)) = kind_network (slice_get kinds d)

@@ -18,21 +18,14 @@ use Rattle.script_names.specs.Names.{Name, Meanings, sense_in, meanings_of}
 
 -- the end at a name alone
 abbrev pub end_of_name : Sense → End
-end_of_name sense.Bound = end.Data
-end_of_name (sense.Declared (entity.Channel c n)) = end.Data
-end_of_name (sense.Declared (entity.Constant k)) = end.Data
-end_of_name (sense.Declared (entity.Set d)) = end.Data
 end_of_name (sense.Declared (entity.Definition d n)) = end.Use d
 end_of_name sense.Unknown = end.Nothing
+end_of_name _ = end.Data
 
 -- the end at a call: one that names no definition has no meaning
 abbrev pub end_of_call : Sense → End
-end_of_call sense.Bound = end.Nothing
-end_of_call (sense.Declared (entity.Channel c n)) = end.Nothing
-end_of_call (sense.Declared (entity.Constant k)) = end.Nothing
-end_of_call (sense.Declared (entity.Set d)) = end.Nothing
 end_of_call (sense.Declared (entity.Definition d n)) = end.Use d
-end_of_call sense.Unknown = end.Nothing
+end_of_call _ = end.Nothing
 
 module _ (meanings : Meanings) (names : List Name) where
   abbrev pub ends_of_layer : Tree-F (Unit {0}) (Unit {0}) (List End) (Unit {0}) (Unit {0}) → List End
@@ -63,10 +56,7 @@ abbrev pub body_ends : Meanings → Decl → List (List End)
 body_ends meanings (decl.Define x params t) = ends meanings params t ∷ []
 body_ends meanings (decl.Nametype x t) = (end.Data ∷ []) ∷ []
 body_ends meanings (decl.Datatype x ks) = (end.Data ∷ []) ∷ []
-body_ends meanings (decl.Channel xs types) = []
-body_ends meanings (decl.Assert t) = []
-body_ends meanings (decl.Roles names) = []
-body_ends meanings (decl.Resource names) = []
+body_ends _ _ = []
 
 abbrev pub script_ends : List Decl → List (List End)
 script_ends decls = flat_map (body_ends (meanings_of decls)) decls

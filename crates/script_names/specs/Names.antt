@@ -34,9 +34,7 @@ counted n (decl.Channel xs types) = record n { channels = n.channels + length xs
 counted n (decl.Datatype x ks) = record n { constants = n.constants + length ks; definitions = n.definitions + 1 }
 counted n (decl.Nametype x t) = record n { definitions = n.definitions + 1 }
 counted n (decl.Define x params t) = record n { definitions = n.definitions + 1 }
-counted n (decl.Assert t) = n
-counted n (decl.Roles names) = n
-counted n (decl.Resource names) = n
+counted n _ = n
 
 -- names with what they stand for, in the order of the text
 abbrev pub Entities : Type 0
@@ -56,9 +54,7 @@ declares n (decl.Channel xs types) = channels_from n.channels (length types) xs
 declares n (decl.Datatype x ks) = (x, entity.Set n.definitions) ∷ constants_from n.constants ks
 declares n (decl.Nametype x t) = (x, entity.Set n.definitions) ∷ []
 declares n (decl.Define x params t) = (x, entity.Definition n.definitions (length params)) ∷ []
-declares n (decl.Assert t) = []
-declares n (decl.Roles names) = []
-declares n (decl.Resource names) = []
+declares _ _ = []
 
 abbrev pub declared_from : Counts → List Decl → Entities
 declared_from n [] = []

@@ -144,10 +144,6 @@ module _ (meanings : Meanings) (kinds : List Kind) where
   Layer = Tree-F (Binding Field) (Binding Gen) Reading (Front (Binding Field)) (Front Reading)
 
   abbrev pub binds_of_layer : Layer → ℕ
-  binds_of_layer (Tree-F.Num n) = 0
-  binds_of_layer Tree-F.True = 0
-  binds_of_layer Tree-F.False = 0
-  binds_of_layer (Tree-F.Name x) = 0
   binds_of_layer (Tree-F.Call f args) = all_bind args
   binds_of_layer (Tree-F.«Tree::Dot» c fields) = all_bind fields
   binds_of_layer (Tree-F.Neg a) = a.binds
@@ -159,8 +155,6 @@ module _ (meanings : Meanings) (kinds : List Kind) where
   binds_of_layer (Tree-F.Comp items gens) = all_bind items + bindings_bind gens
   binds_of_layer (Tree-F.Product fronts gens) = parts_bind fronts + bindings_bind gens
   binds_of_layer (Tree-F.SetOp op a b) = a.binds + b.binds
-  binds_of_layer Tree-F.Stop = 0
-  binds_of_layer Tree-F.Skip = 0
   binds_of_layer (Tree-F.Prefix event p) = bindings_bind event.fields + p.binds
   binds_of_layer (Tree-F.Guard c p) = c.binds + p.binds
   binds_of_layer (Tree-F.External ps) = all_bind ps
@@ -172,6 +166,7 @@ module _ (meanings : Meanings) (kinds : List Kind) where
   binds_of_layer (Tree-F.Seq p q) = p.binds + q.binds
   binds_of_layer (Tree-F.Hide p s) = p.binds + s.binds
   binds_of_layer (Tree-F.Rename p fronts gens) = p.binds + pairs_bind fronts + bindings_bind gens
+  binds_of_layer _ = 0
 
   abbrev pub expr_of_layer : Layer → Scope → ℕ → Expr
   expr_of_layer (Tree-F.Num k) scope n = expr.Num (pos k)

@@ -6,6 +6,5 @@ use Rattle.csp_program.specs.declared.processes.Proc.{Proc}
 
 -- a process with values in place of names, one after another
 abbrev pub with_values : List ℕ → List Value → Proc → Proc
-with_values [] vs q = q
-with_values (x ∷ xs) [] q = q
 with_values (x ∷ xs) (v ∷ vs) q = with_values xs vs (proc_with x v q)
+with_values _ _ q = q
