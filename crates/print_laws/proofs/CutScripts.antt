@@ -212,7 +212,7 @@ name_is_assertion x = refl
 cuts_asserted_name : (x : List ℕ) (rest : List ℕ) (us : List Token) → IsName x → Cuts front rest us →
     Cuts front (line (decl_tokens (decl.Assert (tree.Name x))) ++ rest) (decl_tokens (decl.Assert (tree.Name x)) ++ us)
 cuts_asserted_name x rest us f c =
-    subst (λ l. Cuts front (line (Word word.Assert ∷ l) ++ rest) (Word word.Assert ∷ l ++ us)) (sym (onto.onto-Name x deadlock_free_tokens))
+    subst (λ l. Cuts front (line (Word word.Assert ∷ l) ++ rest) (Word word.Assert ∷ l ++ us)) (sym (onto.onto _ (tree.rolls-Name x) deadlock_free_tokens))
     (cuts_assertion (Name x) [] rest us (f, claim_on_line) (f, deadlock_free_on_line) (name_is_assertion x) c)
 
 -- an asserted call
@@ -258,7 +258,7 @@ cuts_asserted_call x items rest us f p c =
     let same_front : separated item_tokens (Symbol Comma) items ++ Symbol CloseParen ∷ [] ++ claim ≡ separated item_tokens (Symbol Comma) items ++ (Symbol CloseParen ∷ claim) =
     append_assoc (separated item_tokens (Symbol Comma) items) (Symbol CloseParen ∷ []) claim in
     subst (λ l. Cuts front (line (Word word.Assert ∷ l) ++ rest) (Word word.Assert ∷ l ++ us))
-    (ap (λ l. Name x ∷ Symbol OpenParen ∷ l) same ∙ sym (onto.onto-Call x items deadlock_free_tokens))
+    (ap (λ l. Name x ∷ Symbol OpenParen ∷ l) same ∙ sym (onto.onto _ (tree.rolls-Call x items) deadlock_free_tokens))
     (cuts_assertion (Name x) (Symbol OpenParen ∷ ts) rest us
     (f, (refl, subst (Every FitsLine) (sym same_front) front_part.fits))
     (f, (refl, subst (Every FitsLine) (sym same) whole.fits))

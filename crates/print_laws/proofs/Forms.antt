@@ -1,10 +1,16 @@
--- Texts of printed forms, from those of their parts. The brackets that a printed tree opens are at most two a level: an operand or an item of depth d
+-- Texts of printed forms, from those of their parts: a form is an atom, a dotted event or compound, and may open a bracket of its own. The brackets that a printed tree opens are at most two a level: an operand or an item of depth d
 -- is a text where 2 * d brackets may be opened, and a bare tree where one fewer may be.
-use Rattle.std.proofs.Common.{◌≡◌, ℕ, zero, suc, ◌+◌, ◌*◌, ◌≤◌, List, [], ◌∷◌, ◌++◌, ap, sym, refl, ◌∙◌, subst, append_assoc, arith}
+use Rattle.std.proofs.Common.{◌≡◌, ℕ, zero, suc, ◌+◌, ◌*◌, ◌<◌, ◌≤◌, List, [], ◌∷◌, ◌++◌, ap, sym, refl, ◌∙◌, subst, append_assoc, arith}
 use Rattle.csp_text.specs.Depth.{tree_depth}
 use Rattle.csp_text.specs.declared.token.Token.{Token}
 use Rattle.csp_text.specs.declared.token.Token.TheVariants.{Symbol}
 use Rattle.csp_text.specs.declared.token.Symbol.TheVariants.{OpenParen, CloseParen, Comma}
+use Rattle.csp_text.specs.declared.tree.FieldTree.TheOpen.{Tree-F}
+use Rattle.csp_text.specs.declared.tree.FieldTree.TheViews.{roll-Tree}
+use Rattle.csp_text.specs.declared.tree.FieldTree.{FieldTree}
+use Rattle.csp_text.specs.declared.tree.GenTree.{GenTree}
+use Rattle.csp_text.specs.declared.tree.EventTree.{EventTree}
+use Rattle.csp_text.specs.declared.tree.PartTree.{PartTree}
 use Rattle.csp_text.specs.declared.tree.Tree.{Tree}
 use Rattle.csp_text.specs.declared.tree.Tree.TheVariants as tree
 use Rattle.csp_base.specs.declared.operators.BinOp.{BinOp}
@@ -17,10 +23,14 @@ use Rattle.csp_grammar.specs.Precedence.{Level}
 use Rattle.csp_grammar.specs.Precedence as table
 use Rattle.csp_grammar.specs.Precedence.IsNext.{disjunction-conjunction, conjunction-negation, negation-comparison, comparison-sum, sum-product, product-minus, minus-renaming}
 use Rattle.csp_grammar.specs.Precedence.Level.{disjunction, conjunction, negation, comparison, sum, product, minus, renaming}
+use Rattle.script_printer.specs.declared.shape.Shape.{Shape}
 use Rattle.script_printer.specs.declared.shape.Shape.TheVariants.{Atom, Dotted, Compound}
-use Rattle.script_printer.specs.PrintedTree.{as_item, as_operand, in_parentheses, item_tokens, operand_tokens, operator_token, printed_tokens, shape_of}
+use Rattle.script_printer.specs.PrintedTree.{as_item, as_operand, form, in_parentheses, item_tokens, operand_tokens, operator_token, printed_tokens, shape_of}
 use Rattle.csp_text.specs.Written.{set_op_word}
+use Rattle.script_printer.proofs.PrintedEquations.{shape_is}
+use Rattle.print_laws.proofs.Onto as onto
 use Rattle.tree_reading.proofs.Meaning.{at_level, from_level}
+use Rattle.tree_reading.proofs.NodeDepths as depths
 
 pub as_prefix : {n : ℕ} {ts : List Token} {t : Tree} {r : List Token} → AtomText n ts t r → ClosedPrefixText n ts t r
 as_prefix a = g.closed-prefix-expression (at_level disjunction a)
@@ -75,46 +85,67 @@ pub item_is : (t : Tree) → item_tokens t ≡ as_item (shape_of t) (printed_tok
 unfolding item_tokens
 item_is t = refl
 
--- an atom with parts of depth e
-pub from_atom : (t : Tree) (e : ℕ) → tree_depth t ≡ 1 + e → shape_of t ≡ Atom → ((n : ℕ) (r : List Token) → 2 * e + 1 ≤ n → AtomText n (printed_tokens t ++ r) t r) → Texted t
-from_atom t e d s a = record {
-  bare = λ n r h. expression_tree (at_level disjunction (a n r (omega arith)));
-  operand = λ n r h. subst (λ l. AtomText n (l ++ r) t r) (sym (operand_is t ∙ ap (λ x. as_operand x (printed_tokens t)) s)) (a n r (omega arith));
-  item = λ n r h. subst (λ l. ItemText n (l ++ r) t r) (sym (item_is t ∙ ap (λ x. as_item x (printed_tokens t)) s)) (g.item-expression (at_level disjunction (a n r (omega arith))));
-}
-
--- an atom without parts
-pub from_leaf : (t : Tree) → tree_depth t ≡ 1 → shape_of t ≡ Atom → ((n : ℕ) (r : List Token) → AtomText n (printed_tokens t ++ r) t r) → Texted t
-from_leaf t d s a = from_atom t 0 (omega arith) s (λ n r h. a n r)
-
-parenthesised : (t : Tree) (e n : ℕ) (r : List Token) → 2 * e + 2 ≤ n → ((n : ℕ) (r : List Token) → 2 * e + 1 ≤ n → TreeText n (printed_tokens t ++ r) t r) → AtomText n (in_parentheses (printed_tokens t) ++ r) t r
-parenthesised t e zero r h b = absurd (omega arith)
-parenthesised t e (suc n) r h b =
+parenthesised : (t : Tree) (n : ℕ) (r : List Token) → 0 < tree_depth t → 2 * tree_depth t ≤ n → ((n : ℕ) (r : List Token) → 2 * tree_depth t ≤ n + 1 → TreeText n (printed_tokens t ++ r) t r) →
+    AtomText n (in_parentheses (printed_tokens t) ++ r) t r
+parenthesised t zero r p h b = absurd (omega arith)
+parenthesised t (suc n) r p h b =
     subst (λ l. AtomText (suc n) (Symbol OpenParen ∷ l) t r) (sym (append_assoc (printed_tokens t) (Symbol CloseParen ∷ []) r))
     (g.atom-parentheses (b n (Symbol CloseParen ∷ r) (omega arith)))
 
--- a dotted event with fields of depth e
-pub from_dotted : (t : Tree) (e : ℕ) → tree_depth t ≡ 1 + e → shape_of t ≡ Dotted → ((n : ℕ) (r : List Token) → 2 * e + 1 ≤ n → DottedText n (printed_tokens t ++ r) t r) → Texted t
-from_dotted t e d s a = record {
-  bare = λ n r h. g.tree-dotted (a n r (omega arith));
-  operand = λ n r h.
-      subst (λ l. AtomText n (l ++ r) t r) (sym (operand_is t ∙ ap (λ x. as_operand x (printed_tokens t)) s))
-      (parenthesised t e n r (omega arith) (λ m q k. g.tree-dotted (a m q k)));
-  item = λ n r h. subst (λ l. ItemText n (l ++ r) t r) (sym (item_is t ∙ ap (λ x. as_item x (printed_tokens t)) s)) (g.item-dotted (a n r (omega arith)));
-}
+as_operand_of : (t : Tree) (s : Shape) → shape_of t ≡ s → operand_tokens t ≡ as_operand s (printed_tokens t)
+as_operand_of t s e = operand_is t ∙ ap (λ x. as_operand x (printed_tokens t)) e
 
--- any other tree with parts of depth e
-pub from_compound : (t : Tree) (e : ℕ) → tree_depth t ≡ 1 + e → shape_of t ≡ Compound → ((n : ℕ) (r : List Token) → 2 * e + 1 ≤ n → TreeText n (printed_tokens t ++ r) t r) → Texted t
-from_compound t e d s b = record {
-  bare = λ n r h. b n r (omega arith);
-  operand = λ n r h.
-      subst (λ l. AtomText n (l ++ r) t r) (sym (operand_is t ∙ ap (λ x. as_operand x (printed_tokens t)) s)) (parenthesised t e n r (omega arith) b);
-  item = λ n r h.
-      subst (λ l. ItemText n (l ++ r) t r) (sym (item_is t ∙ ap (λ x. as_item x (printed_tokens t)) s))
-      (g.item-expression (at_level disjunction (parenthesised t e n r (omega arith) b)));
-}
+as_item_of : (t : Tree) (s : Shape) → shape_of t ≡ s → item_tokens t ≡ as_item s (printed_tokens t)
+as_item_of t s e = item_is t ∙ ap (λ x. as_item x (printed_tokens t)) e
+
+pub atom_form : (d : Tree-F FieldTree GenTree Tree EventTree PartTree) {t : Tree} → roll-Tree d ≡ t → (form d).shape ≡ Atom →
+    ((n : ℕ) (r : List Token) → 2 * depths.layer_depth d ≤ n + 1 → AtomText n (onto.form_onto d r) t r) → Texted t
+atom_form d {t} is s a =
+    let e = depths.of_tree d is in
+    let b : (n : ℕ) (r : List Token) → 2 * depths.layer_depth d ≤ n + 1 → AtomText n (printed_tokens t ++ r) t r = λ n r h. subst (λ l. AtomText n l t r) (sym (onto.onto d is r)) (a n r h) in
+    record {
+      bare = λ n r h. expression_tree (at_level disjunction (b n r (omega arith)));
+      operand = λ n r h. subst (λ l. AtomText n (l ++ r) t r) (sym (as_operand_of t Atom (shape_is d is ∙ s))) (b n r (omega arith));
+      item = λ n r h. subst (λ l. ItemText n (l ++ r) t r) (sym (as_item_of t Atom (shape_is d is ∙ s))) (g.item-expression (at_level disjunction (b n r (omega arith))));
+    }
+
+pub dotted_form : (d : Tree-F FieldTree GenTree Tree EventTree PartTree) {t : Tree} → roll-Tree d ≡ t → (form d).shape ≡ Dotted →
+    ((n : ℕ) (r : List Token) → 2 * depths.layer_depth d ≤ n + 1 → DottedText n (onto.form_onto d r) t r) → Texted t
+dotted_form d {t} is s a =
+    let e = depths.of_tree d is in
+    let p = depths.deep d in
+    let b : (n : ℕ) (r : List Token) → 2 * depths.layer_depth d ≤ n + 1 → DottedText n (printed_tokens t ++ r) t r = λ n r h. subst (λ l. DottedText n l t r) (sym (onto.onto d is r)) (a n r h) in
+    record {
+      bare = λ n r h. g.tree-dotted (b n r (omega arith));
+      operand = λ n r h.
+          subst (λ l. AtomText n (l ++ r) t r) (sym (as_operand_of t Dotted (shape_is d is ∙ s)))
+          (parenthesised t n r (omega arith) h (λ m q k. g.tree-dotted (b m q (omega arith))));
+      item = λ n r h. subst (λ l. ItemText n (l ++ r) t r) (sym (as_item_of t Dotted (shape_is d is ∙ s))) (g.item-dotted (b n r (omega arith)));
+    }
+
+pub compound_form : (d : Tree-F FieldTree GenTree Tree EventTree PartTree) {t : Tree} → roll-Tree d ≡ t → (form d).shape ≡ Compound →
+    ((n : ℕ) (r : List Token) → 2 * depths.layer_depth d ≤ n + 1 → TreeText n (onto.form_onto d r) t r) → Texted t
+compound_form d {t} is s a =
+    let e = depths.of_tree d is in
+    let p = depths.deep d in
+    let b : (n : ℕ) (r : List Token) → 2 * tree_depth t ≤ n + 1 → TreeText n (printed_tokens t ++ r) t r = λ n r h. subst (λ l. TreeText n l t r) (sym (onto.onto d is r)) (a n r (omega arith)) in
+    record {
+      bare = b;
+      operand = λ n r h. subst (λ l. AtomText n (l ++ r) t r) (sym (as_operand_of t Compound (shape_is d is ∙ s))) (parenthesised t n r (omega arith) h b);
+      item = λ n r h.
+          subst (λ l. ItemText n (l ++ r) t r) (sym (as_item_of t Compound (shape_is d is ∙ s)))
+          (g.item-expression (at_level disjunction (parenthesised t n r (omega arith) h b)));
+    }
 
 -- a form that opens a bracket
-pub with_bracket : (Q : ℕ → Type 0) (e n : ℕ) → 2 * e + 1 ≤ n → ((m : ℕ) → 2 * e ≤ m → Q (suc m)) → Q n
-with_bracket Q e zero h f = absurd (omega arith)
-with_bracket Q e (suc n) h f = f n (omega arith)
+opening : (e : ℕ) → 0 < e → (Q : ℕ → Type 0) (n : ℕ) → 2 * e ≤ n + 1 → ((m : ℕ) → 2 * e ≤ m + 2 → Q (suc m)) → Q n
+opening e p Q zero h f = absurd (omega arith)
+opening e p Q (suc n) h f = f n (omega arith)
+
+pub closed_form : (d : Tree-F FieldTree GenTree Tree EventTree PartTree) {t : Tree} → roll-Tree d ≡ t → (form d).shape ≡ Atom →
+    ((n : ℕ) (r : List Token) → 2 * depths.layer_depth d ≤ n + 2 → AtomText (suc n) (onto.form_onto d r) t r) → Texted t
+closed_form d {t} is s a = atom_form d is s (λ n r h. opening (depths.layer_depth d) (depths.deep d) (λ n. AtomText n (onto.form_onto d r) t r) n h (λ m k. a m r k))
+
+pub bracket_form : (d : Tree-F FieldTree GenTree Tree EventTree PartTree) {t : Tree} → roll-Tree d ≡ t → (form d).shape ≡ Compound →
+    ((n : ℕ) (r : List Token) → 2 * depths.layer_depth d ≤ n + 2 → TreeText (suc n) (onto.form_onto d r) t r) → Texted t
+bracket_form d {t} is s a = compound_form d is s (λ n r h. opening (depths.layer_depth d) (depths.deep d) (λ n. TreeText n (onto.form_onto d r) t r) n h (λ m k. a m r k))

@@ -14,6 +14,9 @@ use Rattle.csp_base.specs.declared.operators.BinOp.TheVariants as op
 use Rattle.csp_base.specs.declared.operators.SetOp.{SetOp}
 use Rattle.csp_base.specs.declared.operators.SetOp.TheVariants as set_op
 use Rattle.csp_text.specs.declared.tree.PartTree.{PartTree}
+use Rattle.csp_text.specs.declared.tree.FieldTree.TheOpen.{Tree-F}
+use Rattle.csp_text.specs.declared.tree.FieldTree.TheViews.{roll-Tree}
+use Rattle.csp_text.specs.declared.tree.EventTree.{EventTree}
 use Rattle.csp_text.specs.declared.tree.FieldTree.{FieldTree}
 use Rattle.csp_text.specs.declared.tree.GenTree.{GenTree}
 use Rattle.csp_grammar.specs.Grammar.{Choice, choice_sign, choice_of, event_tree}
@@ -63,8 +66,8 @@ choice_own grammar.external = refl
 choice_own grammar.internal = refl
 
 choice_onto : (c : Choice) (ps : List Tree) (r : List Token) → printed_tokens (choice_of c ps) ++ r ≡ separated operand_tokens (choice_sign c) ps ++ r
-choice_onto grammar.external ps r = onto.onto-External ps r
-choice_onto grammar.internal ps r = onto.onto-Internal ps r
+choice_onto grammar.external ps r = onto.onto _ (tree.rolls-External ps) r
+choice_onto grammar.internal ps r = onto.onto _ (tree.rolls-Internal ps) r
 
 module _ (P : Token → Type 0) (G : ℕ → List Token → Type 0)
     (own : (k : ℕ) (t : Token) (ts : List Token) → is_own t ≡ true → P t → G k ts → G k (t ∷ ts))
@@ -110,6 +113,9 @@ module _ (P : Token → Type 0) (G : ℕ → List Token → Type 0)
     item = λ k r g. subst (λ l. G k (l ++ r)) (sym (item_is t)) (shaped_item (shape_of t) (printed_tokens t) b k r g);
   }
 
+  held_form : (d : Tree-F FieldTree GenTree Tree EventTree PartTree) {t : Tree} → roll-Tree d ≡ t → ((k : ℕ) (r : List Token) → G k r → G k (onto.form_onto d r)) → Held t
+  held_form d {t} is b = held t (λ k r g. subst (G k) (sym (onto.onto d is r)) (b k r g))
+
   -- a list with a sign between two
   listed : {X : Type 0} (shown : X → List Token) (sign : Token) (x : X) (xs : List X) → ((k : ℕ) (r : List Token) → G k r → G k (shown x ++ r)) →
       ((k : ℕ) (ts : List Token) → G k ts → G k (sign ∷ ts)) →
@@ -130,33 +136,33 @@ module _ (P : Token → Type 0) (G : ℕ → List Token → Type 0)
 
   mutual
     pub held_tree : {t : Tree} → MadeTree P t → Held t
-    held_tree m.made-stop = held tree.Stop (λ k r g. subst (G k) (sym (onto.onto-Stop r)) (goes {t = Word word.Stop} refl g))
-    held_tree m.made-skip = held tree.Skip (λ k r g. subst (G k) (sym (onto.onto-Skip r)) (goes {t = Word word.Skip} refl g))
-    held_tree m.made-truth = held tree.True (λ k r g. subst (G k) (sym (onto.onto-True r)) (goes {t = Word word.True} refl g))
-    held_tree m.made-falsehood = held tree.False (λ k r g. subst (G k) (sym (onto.onto-False r)) (goes {t = Word word.False} refl g))
-    held_tree (m.made-number {n = n} x) = held (tree.Num n) (λ k r g. subst (G k) (sym (onto.onto-Num n r)) (kept {t = Num n} refl x g))
-    held_tree (m.made-name {x = x} y) = held (tree.Name x) (λ k r g. subst (G k) (sym (onto.onto-Name x r)) (kept {t = Name x} refl y g))
-    held_tree (m.made-call {x = x} {items = items} y is) = held (tree.Call x items) (λ k r g. subst (G k) (sym (onto.onto-Call x items r)) (kept {t = Name x} refl y (opened (held_items is _ _ (shut g)))))
-    held_tree (m.made-dotted {c = c} {a = a} {fields = fields} y a' ds) = held (tree.Dot c (a ∷ fields)) (λ k r g. subst (G k) (sym (onto.onto-Dot c (a ∷ fields) r ∙ ap (λ l. Name c ∷ l) (onto.dotted_more a fields r))) (kept {t = Name c} refl y (goes {t = Symbol Dot} refl ((held_tree a').operand _ _ ((held_dots ds) _ _ g)))))
-    held_tree (m.made-negative {a = a} a') = held (tree.Neg a) (λ k r g. subst (G k) (sym (onto.onto-Neg a r)) (goes {t = Symbol Minus} refl ((held_tree a').operand _ _ g)))
-    held_tree (m.made-negated {a = a} a') = held (tree.Not a) (λ k r g. subst (G k) (sym (onto.onto-Not a r)) (goes {t = Word word.Not} refl ((held_tree a').operand _ _ g)))
-    held_tree (m.made-binary {op = o} {a = a} {b = b} a' b') = held (tree.Binary o a b) (λ k r g. subst (G k) (sym (onto.onto-Binary o a b r)) ((held_tree a').operand _ _ (goes {t = operator_token o} (operator_other o) ((held_tree b').operand _ _ g))))
-    held_tree (m.made-if {c = c} {p = p} {q = q} c' p' q') = held (tree.If c p q) (λ k r g. subst (G k) (sym (onto.onto-If c p q r)) (goes {t = Word word.If} refl ((held_tree c').operand _ _ (goes {t = Word word.Then} refl ((held_tree p').bare _ _ (goes {t = Word word.Else} refl ((held_tree q').bare _ _ g)))))))
-    held_tree m.made-empty = held (tree.Display []) (λ k r g. subst (G k) (sym (onto.onto-Display [] r)) (goes {t = Symbol OpenBrace} refl (goes {t = Symbol CloseBrace} refl g)))
-    held_tree (m.made-display {items = items} is) = held (tree.Display items) (λ k r g. subst (G k) (sym (onto.onto-Display items r)) (goes {t = Symbol OpenBrace} refl (held_items is _ _ (goes {t = Symbol CloseBrace} refl g))))
-    held_tree (m.made-range {a = a} {b = b} a' b') = held (tree.Range a b) (λ k r g. subst (G k) (sym (onto.onto-Range a b r)) (goes {t = Symbol OpenBrace} refl ((held_tree a').operand _ _ (goes {t = Symbol DotDot} refl ((held_tree b').operand _ _ (goes {t = Symbol CloseBrace} refl g))))))
-    held_tree (m.made-comprehension {items = items} {gs = gs} is gs') = held (tree.Comp items gs) (λ k r g. subst (G k) (sym (onto.onto-Comp items gs r)) (goes {t = Symbol OpenBrace} refl (held_items is _ _ (goes {t = Symbol Bar} refl (held_gens gs' _ _ (goes {t = Symbol CloseBrace} refl g))))))
-    held_tree (m.made-production {parts = parts} {gs = gs} ps gs') = held (tree.Product parts gs) (λ k r g. subst (G k) (sym (onto.onto-Product parts gs r)) (goes {t = Symbol OpenProduct} refl (held_parts ps _ _ (held_conditions gs' _ _ (goes {t = Symbol CloseProduct} refl g)))))
-    held_tree (m.made-set-operator {op = o} {a = a} {b = b} a' b') = held (tree.SetOp o a b) (λ k r g. subst (G k) (sym (onto.onto-SetOp o a b r)) (goes {t = set_op_word o} (set_op_other o) (opened ((held_tree a').item _ _ (goes {t = Symbol Comma} refl ((held_tree b').item _ _ (shut g)))))))
-    held_tree (m.made-prefix {c = c} {fs = fs} {p = p} y fs' p') = held (tree.Prefix (event_tree c fs) p) (λ k r g. subst (G k) (sym (onto.onto-Prefix (event_tree c fs) p r ∙ onto.onto-event c fs _)) (kept {t = Name c} refl y (held_fields fs' _ _ (goes {t = Symbol Arrow} refl ((held_tree p').operand _ _ g)))))
-    held_tree (m.made-guard {c = c} {p = p} c' p') = held (tree.Guard c p) (λ k r g. subst (G k) (sym (onto.onto-Guard c p r)) ((held_tree c').operand _ _ (goes {t = Symbol Ampersand} refl ((held_tree p').operand _ _ g))))
-    held_tree (m.made-each-external {x = x} {s = s} {p = p} y z s' p') = held (tree.EachExternal x s p) (λ k r g. subst (G k) (sym (onto.onto-EachExternal x s p r)) (kept {t = Symbol ExternalChoice} refl y (kept {t = Name x} refl z (goes {t = Symbol Colon} refl ((held_tree s').operand _ _ (goes {t = Symbol At} refl ((held_tree p').bare _ _ g)))))))
-    held_tree (m.made-each-internal {x = x} {s = s} {p = p} y z s' p') = held (tree.EachInternal x s p) (λ k r g. subst (G k) (sym (onto.onto-EachInternal x s p r)) (kept {t = Symbol InternalChoice} refl y (kept {t = Name x} refl z (goes {t = Symbol Colon} refl ((held_tree s').operand _ _ (goes {t = Symbol At} refl ((held_tree p').bare _ _ g)))))))
-    held_tree (m.made-parallel {p = p} {a = a} {b = b} {q = q} p' a' b' q') = held (tree.Parallel p a b q) (λ k r g. subst (G k) (sym (onto.onto-Parallel p a b q r)) ((held_tree p').operand _ _ (goes {t = Symbol OpenBracket} refl ((held_tree a').operand _ _ (goes {t = Symbol Parallel} refl ((held_tree b').operand _ _ (goes {t = Symbol CloseBracket} refl ((held_tree q').operand _ _ g))))))))
-    held_tree (m.made-each-parallel {x = x} {s = s} {a = a} {p = p} z s' a' p') = held (tree.EachParallel x s a p) (λ k r g. subst (G k) (sym (onto.onto-EachParallel x s a p r)) (goes {t = Symbol Parallel} refl (kept {t = Name x} refl z (goes {t = Symbol Colon} refl ((held_tree s').operand _ _ (goes {t = Symbol At} refl (goes {t = Symbol OpenBracket} refl ((held_tree a').operand _ _ (goes {t = Symbol CloseBracket} refl ((held_tree p').bare _ _ g))))))))))
-    held_tree (m.made-sequence {p = p} {q = q} p' q') = held (tree.Seq p q) (λ k r g. subst (G k) (sym (onto.onto-Seq p q r)) ((held_tree p').operand _ _ (goes {t = Symbol Semicolon} refl ((held_tree q').operand _ _ g))))
-    held_tree (m.made-hiding {p = p} {s = s} p' s') = held (tree.Hide p s) (λ k r g. subst (G k) (sym (onto.onto-Hide p s r)) ((held_tree p').operand _ _ (goes {t = Symbol Backslash} refl ((held_tree s').operand _ _ g))))
-    held_tree (m.made-renaming {p = p} {pairs = pairs} {gs = gs} y z p' pairs' gs') = held (tree.Rename p pairs gs) (λ k r g. subst (G k) (sym (onto.onto-Rename p pairs gs r)) ((held_tree p').operand _ _ (kept {t = Symbol OpenRename} refl y (held_pairs pairs' _ _ (held_conditions gs' _ _ (kept {t = Symbol CloseRename} refl z g))))))
+    held_tree m.made-stop = held_form _ tree.rolls-Stop (λ k r g. goes {t = Word word.Stop} refl g)
+    held_tree m.made-skip = held_form _ tree.rolls-Skip (λ k r g. goes {t = Word word.Skip} refl g)
+    held_tree m.made-truth = held_form _ tree.rolls-True (λ k r g. goes {t = Word word.True} refl g)
+    held_tree m.made-falsehood = held_form _ tree.rolls-False (λ k r g. goes {t = Word word.False} refl g)
+    held_tree (m.made-number {n = n} x) = held_form _ (tree.rolls-Num n) (λ k r g. kept {t = Num n} refl x g)
+    held_tree (m.made-name {x = x} y) = held_form _ (tree.rolls-Name x) (λ k r g. kept {t = Name x} refl y g)
+    held_tree (m.made-call {x = x} {items = items} y is) = held_form _ (tree.rolls-Call x items) (λ k r g. kept {t = Name x} refl y (opened (held_items is _ _ (shut g))))
+    held_tree (m.made-dotted {c = c} {a = a} {fields = fields} y a' ds) = held (tree.Dot c (a ∷ fields)) (λ k r g. subst (G k) (sym (onto.onto _ (tree.rolls-Dot c (a ∷ fields)) r ∙ ap (λ l. Name c ∷ l) (onto.dotted_more a fields r))) (kept {t = Name c} refl y (goes {t = Symbol Dot} refl ((held_tree a').operand _ _ ((held_dots ds) _ _ g)))))
+    held_tree (m.made-negative {a = a} a') = held_form _ (tree.rolls-Neg a) (λ k r g. goes {t = Symbol Minus} refl ((held_tree a').operand _ _ g))
+    held_tree (m.made-negated {a = a} a') = held_form _ (tree.rolls-Not a) (λ k r g. goes {t = Word word.Not} refl ((held_tree a').operand _ _ g))
+    held_tree (m.made-binary {op = o} {a = a} {b = b} a' b') = held_form _ (tree.rolls-Binary o a b) (λ k r g. (held_tree a').operand _ _ (goes {t = operator_token o} (operator_other o) ((held_tree b').operand _ _ g)))
+    held_tree (m.made-if {c = c} {p = p} {q = q} c' p' q') = held_form _ (tree.rolls-If c p q) (λ k r g. goes {t = Word word.If} refl ((held_tree c').operand _ _ (goes {t = Word word.Then} refl ((held_tree p').bare _ _ (goes {t = Word word.Else} refl ((held_tree q').bare _ _ g))))))
+    held_tree m.made-empty = held_form _ (tree.rolls-Display []) (λ k r g. goes {t = Symbol OpenBrace} refl (goes {t = Symbol CloseBrace} refl g))
+    held_tree (m.made-display {items = items} is) = held_form _ (tree.rolls-Display items) (λ k r g. goes {t = Symbol OpenBrace} refl (held_items is _ _ (goes {t = Symbol CloseBrace} refl g)))
+    held_tree (m.made-range {a = a} {b = b} a' b') = held_form _ (tree.rolls-Range a b) (λ k r g. goes {t = Symbol OpenBrace} refl ((held_tree a').operand _ _ (goes {t = Symbol DotDot} refl ((held_tree b').operand _ _ (goes {t = Symbol CloseBrace} refl g)))))
+    held_tree (m.made-comprehension {items = items} {gs = gs} is gs') = held_form _ (tree.rolls-Comp items gs) (λ k r g. goes {t = Symbol OpenBrace} refl (held_items is _ _ (goes {t = Symbol Bar} refl (held_gens gs' _ _ (goes {t = Symbol CloseBrace} refl g)))))
+    held_tree (m.made-production {parts = parts} {gs = gs} ps gs') = held_form _ (tree.rolls-Product parts gs) (λ k r g. goes {t = Symbol OpenProduct} refl (held_parts ps _ _ (held_conditions gs' _ _ (goes {t = Symbol CloseProduct} refl g))))
+    held_tree (m.made-set-operator {op = o} {a = a} {b = b} a' b') = held_form _ (tree.rolls-SetOp o a b) (λ k r g. goes {t = set_op_word o} (set_op_other o) (opened ((held_tree a').item _ _ (goes {t = Symbol Comma} refl ((held_tree b').item _ _ (shut g))))))
+    held_tree (m.made-prefix {c = c} {fs = fs} {p = p} y fs' p') = held (tree.Prefix (event_tree c fs) p) (λ k r g. subst (G k) (sym (onto.onto _ (tree.rolls-Prefix (event_tree c fs) p) r ∙ onto.onto-event c fs _)) (kept {t = Name c} refl y (held_fields fs' _ _ (goes {t = Symbol Arrow} refl ((held_tree p').operand _ _ g)))))
+    held_tree (m.made-guard {c = c} {p = p} c' p') = held_form _ (tree.rolls-Guard c p) (λ k r g. (held_tree c').operand _ _ (goes {t = Symbol Ampersand} refl ((held_tree p').operand _ _ g)))
+    held_tree (m.made-each-external {x = x} {s = s} {p = p} y z s' p') = held_form _ (tree.rolls-EachExternal x s p) (λ k r g. kept {t = Symbol ExternalChoice} refl y (kept {t = Name x} refl z (goes {t = Symbol Colon} refl ((held_tree s').operand _ _ (goes {t = Symbol At} refl ((held_tree p').bare _ _ g))))))
+    held_tree (m.made-each-internal {x = x} {s = s} {p = p} y z s' p') = held_form _ (tree.rolls-EachInternal x s p) (λ k r g. kept {t = Symbol InternalChoice} refl y (kept {t = Name x} refl z (goes {t = Symbol Colon} refl ((held_tree s').operand _ _ (goes {t = Symbol At} refl ((held_tree p').bare _ _ g))))))
+    held_tree (m.made-parallel {p = p} {a = a} {b = b} {q = q} p' a' b' q') = held_form _ (tree.rolls-Parallel p a b q) (λ k r g. (held_tree p').operand _ _ (goes {t = Symbol OpenBracket} refl ((held_tree a').operand _ _ (goes {t = Symbol Parallel} refl ((held_tree b').operand _ _ (goes {t = Symbol CloseBracket} refl ((held_tree q').operand _ _ g)))))))
+    held_tree (m.made-each-parallel {x = x} {s = s} {a = a} {p = p} z s' a' p') = held_form _ (tree.rolls-EachParallel x s a p) (λ k r g. goes {t = Symbol Parallel} refl (kept {t = Name x} refl z (goes {t = Symbol Colon} refl ((held_tree s').operand _ _ (goes {t = Symbol At} refl (goes {t = Symbol OpenBracket} refl ((held_tree a').operand _ _ (goes {t = Symbol CloseBracket} refl ((held_tree p').bare _ _ g)))))))))
+    held_tree (m.made-sequence {p = p} {q = q} p' q') = held_form _ (tree.rolls-Seq p q) (λ k r g. (held_tree p').operand _ _ (goes {t = Symbol Semicolon} refl ((held_tree q').operand _ _ g)))
+    held_tree (m.made-hiding {p = p} {s = s} p' s') = held_form _ (tree.rolls-Hide p s) (λ k r g. (held_tree p').operand _ _ (goes {t = Symbol Backslash} refl ((held_tree s').operand _ _ g)))
+    held_tree (m.made-renaming {p = p} {pairs = pairs} {gs = gs} y z p' pairs' gs') = held_form _ (tree.rolls-Rename p pairs gs) (λ k r g. (held_tree p').operand _ _ (kept {t = Symbol OpenRename} refl y (held_pairs pairs' _ _ (held_conditions gs' _ _ (kept {t = Symbol CloseRename} refl z g)))))
     held_tree (m.made-choice {p = p} {ps = ps} c x p' ps') = held (choice_of c (p ∷ ps)) (λ k r g. subst (G k) (sym (choice_onto c (p ∷ ps) r))
         (listed operand_tokens (choice_sign c) p ps (held_tree p').operand (λ k ts g. kept (choice_own c) x g) (held_operands (choice_sign c) (λ k ts g. kept (choice_own c) x g) ps') k r g))
 

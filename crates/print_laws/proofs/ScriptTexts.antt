@@ -101,12 +101,12 @@ name_depth : (x : List ℕ) → tree_depth (tree.Name x) ≤ 200
 name_depth x = omega (arith, depths.of_tree _ (tree.rolls-Name x))
 
 asserted_name : (x : List ℕ) (r : List Token) → AssertedText (printed_tokens (tree.Name x) ++ r) (tree.Name x) r
-asserted_name x r = subst (λ l. AssertedText l (tree.Name x) r) (sym (onto.onto-Name x r)) g.name
+asserted_name x r = subst (λ l. AssertedText l (tree.Name x) r) (sym (onto.onto _ (tree.rolls-Name x) r)) g.name
 
 asserted_call : {Q : Token → Type 0} (x : List ℕ) (items : List Tree) → MadeTrees Q items → tree_depth (tree.Call x items) ≤ 200 → (r : List Token) →
     AssertedText (printed_tokens (tree.Call x items) ++ r) (tree.Call x items) r
 asserted_call x items p d r =
-    subst (λ l. AssertedText l (tree.Call x items) r) (sym (onto.onto-Call x items r))
+    subst (λ l. AssertedText l (tree.Call x items) r) (sym (onto.onto _ (tree.rolls-Call x items) r))
     (g.call ((texted_trees p).items 399 (Symbol CloseParen ∷ r) (omega (arith, depths.of_tree _ (tree.rolls-Call x items), d))))
 
 declaration_text : {P Q : Token → Type 0} {d : Decl} → MadeDecl P Q d → (r : List Token) → DeclarationText (decl_tokens d ++ r) d r

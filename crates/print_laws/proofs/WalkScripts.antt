@@ -11,7 +11,7 @@ use Rattle.csp_grammar.specs.Declarations.{NamesText, TypesText, ParametersText,
 use Rattle.csp_grammar.specs.Declarations as g
 use Rattle.print_laws.specs.Made.{MadeNames, MadeTypes, MadeParameters, MadeDecl, MadeDecls}
 use Rattle.print_laws.specs.Made as m
-use Rattle.print_laws.proofs.Walk.{is_special, walk_tree, walk_items, walk_atom}
+use Rattle.print_laws.proofs.Walk.{two, is_special, walk_tree, walk_items, walk_atom}
 
 module _ (P : Token → Type 0) (S : ℕ → List Token → Type 0)
     (step : (k : ℕ) (t : Token) (ts : List Token) → is_special t ≡ false → S k (t ∷ ts) → P t × S k ts)
@@ -34,24 +34,15 @@ module _ (P : Token → Type 0) (S : ℕ → List Token → Type 0)
   walk_names : {sign : Symbol} {ts : List Token} {xs : List (List ℕ)} {r : List Token} {k : ℕ} → is_special (token.Symbol sign) ≡ false →
       NamesText sign ts xs r → S k ts → MadeNames P xs × S k r
   walk_names e g.one s = (m.made-one-name (has refl s), past refl s)
-  walk_names e (g.more xs) s =
-      let xs' = walk_names e xs (past e (past refl s)) in
-      (m.made-more-names (has refl s) xs'.0, xs'.1)
+  walk_names e (g.more xs) s = let xs' = walk_names e xs (past e (past refl s)) in (m.made-more-names (has refl s) xs'.0, xs'.1)
 
   walk_types : {ts : List Token} {types : List Tree} {r : List Token} → TypesText ts types r → S zero ts → MadeTypes P types × S zero r
-  walk_types (g.one a d) s =
-      let a' = walk_atom P S step opens closes a s in
-      (m.made-one-type a'.0 d, a'.1)
-  walk_types (g.more a d types) s =
-      let a' = walk_atom P S step opens closes a s in
-      let types' = walk_types types (past refl a'.1) in
-      (m.made-more-types a'.0 d types'.0, types'.1)
+  walk_types (g.one a d) s = let a' = walk_atom P S step opens closes a s in (m.made-one-type a'.0 d, a'.1)
+  walk_types (g.more a d types) s = two (walk_atom P S step opens closes a s) (λ s. walk_types types (past refl s)) (λ a' types'. m.made-more-types a' d types')
 
   walk_parameters : {ts : List Token} {xs : List (List ℕ)} {r : List Token} → ParametersText ts xs r → S zero ts → MadeParameters P xs × S zero r
   walk_parameters g.none s = (m.made-no-parameters, s)
-  walk_parameters {r = r} (g.some {ts = ts} xs) s =
-      let xs' = walk_names refl xs (opens zero ts s) in
-      (m.made-parameters xs'.0, closes zero r xs'.1)
+  walk_parameters {r = r} (g.some {ts = ts} xs) s = let xs' = walk_names refl xs (opens zero ts s) in (m.made-parameters xs'.0, closes zero r xs'.1)
 
   walk_model : {ts : List Token} {r : List Token} → ModelText ts r → S zero ts → S zero r
   walk_model g.none s = s
@@ -60,10 +51,7 @@ module _ (P : Token → Type 0) (S : ℕ → List Token → Type 0)
 
   walk_declaration : {ts : List Token} {d : Decl} {r : List Token} → DeclarationText ts d r → S zero ts → MadeDecl P Q d × S zero r
   walk_declaration (g.channel cs) s = let cs' = walk_names refl cs (past refl s) in (m.made-channel cs'.0, cs'.1)
-  walk_declaration (g.channel-of cs types) s =
-      let cs' = walk_names refl cs (past refl s) in
-      let types' = walk_types types (past refl cs'.1) in
-      (m.made-channel-of cs'.0 types'.0, types'.1)
+  walk_declaration (g.channel-of cs types) s = two (walk_names refl cs (past refl s)) (λ s. walk_types types (past refl s)) m.made-channel-of
   walk_declaration (g.datatype xs) s =
       let d = past refl s in
       let xs' = walk_names refl xs (past refl (past refl d)) in
@@ -73,9 +61,7 @@ module _ (P : Token → Type 0) (S : ℕ → List Token → Type 0)
       let a' = walk_atom P S step opens closes a (past refl (past refl x)) in
       (m.made-nametype (has refl x) a'.0 d, a'.1)
   walk_declaration (g.define xs t d) s =
-      let xs' = walk_parameters xs (past refl s) in
-      let t' = walk_tree P S step opens closes t (past refl xs'.1) in
-      (m.made-define (has refl s) xs'.0 t'.0 d, t'.1)
+      two (walk_parameters xs (past refl s)) (λ s. walk_tree P S step opens closes t (past refl s)) (λ xs' t'. m.made-define (has refl s) xs' t' d)
   walk_declaration (g.assertion g.name d model) s =
       let x' = named _ _ s in
       (m.made-assert-name x'.0, past refl (walk_model model (past refl (past refl (past refl x'.1)))))
@@ -90,6 +76,4 @@ module _ (P : Token → Type 0) (S : ℕ → List Token → Type 0)
 
   pub walk_declarations : {ts : List Token} {ds : List Decl} → DeclarationsText ts ds → S zero ts → MadeDecls P Q ds
   walk_declarations g.none s = m.made-no-decls
-  walk_declarations (g.more d ds) s =
-      let d' = walk_declaration d s in
-      m.made-decls d'.0 (walk_declarations ds d'.1)
+  walk_declarations (g.more d ds) s = let d' = walk_declaration d s in m.made-decls d'.0 (walk_declarations ds d'.1)

@@ -30,6 +30,8 @@ unfolding parameters_tokens
 some_parameters [] test = absurd (false≢true (sym test))
 some_parameters (x ∷ names) test = refl
 
+pub ruleset groups = (no_types, some_types, no_parameters, some_parameters, append-nil)
+
 -- one more is written
 pub bytes_step : {X : Type 0} (shown : X → List ℕ) (xs : List X) (i : ℕ) (x : X) (start end whole : List ℕ)
     → i < length xs → x ≡ get_or xs i x → end ≡ start ++ shown x

@@ -16,6 +16,10 @@ pub spaced_append : (a b : List Token) → spaced (a ++ b) ≡ spaced a ++ space
 unfolding spaced
 spaced_append a b = flat_map-append (λ t. 32 ∷ token_text t) a b
 
+-- for tokens of which each is written out
+pub texts_append : (a b : List Token) → flat_map (λ t. 32 ∷ token_text t) (a ++ b) ≡ flat_map (λ t. 32 ∷ token_text t) a ++ flat_map (λ t. 32 ∷ token_text t) b
+texts_append a b = flat_map-append (λ t. 32 ∷ token_text t) a b
+
 pub spaced_none : spaced [] ≡ []
 unfolding spaced
 spaced_none = refl
@@ -23,30 +27,6 @@ spaced_none = refl
 -- nothing more is written
 pub no_more : (start : List ℕ) → start ++ spaced [] ≡ start
 no_more start = ap (λ l. start ++ l) spaced_none ∙ append-nil start
-
--- two groups of tokens are written, one behind the other
-pub more : (start middle whole : List ℕ) (a b : List Token) → middle ≡ start ++ spaced a → whole ≡ middle ++ spaced b → whole ≡ start ++ spaced (a ++ b)
-more start middle whole a b first second =
-    second ∙ ap (λ l. l ++ spaced b) first ∙ append_assoc start (spaced a) (spaced b) ∙ ap (λ l. start ++ l) (sym (spaced_append a b))
-
--- the same where the second group may want memory
-pub last : {A E : Type 0} (start middle whole : List ℕ) (a b : List Token) (r : Result A E)
-    → middle ≡ start ++ spaced a → OnOk r (whole ≡ middle ++ spaced b) → OnOk r (whole ≡ start ++ spaced (a ++ b))
-last start middle whole a b (Ok x) first second = more start middle whole a b first second
-last start middle whole a b (Err e) first second = second
-
--- tokens that are the same are written alike
-pub written_as : {A E : Type 0} (start whole : List ℕ) (tokens others : List Token) (r : Result A E)
-    → tokens ≡ others → OnOk r (whole ≡ start ++ spaced others) → OnOk r (whole ≡ start ++ spaced tokens)
-written_as start whole tokens others r is h = subst (λ l. OnOk r (whole ≡ start ++ spaced l)) (sym is) h
-
--- a row is written: its first token, and the others behind it
-pub row_written : {A E : Type 0} (start middle whole : List ℕ) (t : Token) (tokens : List Token) (r : Result A E)
-    → middle ≡ start ++ token_text t → OnOk r (whole ≡ middle ++ spaced tokens) → OnOk r (whole ≡ start ++ row (t ∷ tokens))
-unfolding row
-row_written start middle whole t tokens (Ok x) first second =
-    second ∙ ap (λ l. l ++ spaced tokens) first ∙ append_assoc start (token_text t) (spaced tokens)
-row_written start middle whole t tokens (Err e) first second = second
 
 -- tokens behind other bytes
 pub behind : {A E : Type 0} (start middle whole bytes : List ℕ) (tokens : List Token) (r : Result A E)
@@ -115,6 +95,9 @@ none_left shown sign xs (suc i) at_end = ap (flat_map (λ x. sign ∷ shown x)) 
 pub separated_begin : {X : Type 0} (shown : X → List Token) (sign : Token) (xs : List X) → left_separated shown sign 0 xs ≡ separated shown sign xs
 unfolding left_separated
 separated_begin shown sign xs = refl
+
+-- what groups of tokens and loops are written by
+pub ruleset written_laws = (texts_append, append_assoc, separated_begin)
 
 pub separated_end : {X : Type 0} (shown : X → List Token) (sign : Token) (xs : List X) (i : ℕ) (end whole : List ℕ) → length xs ≤ i
     → end ++ spaced (left_separated shown sign i xs) ≡ whole → end ≡ whole

@@ -88,58 +88,63 @@ bound_in x set = Name x ∷ Symbol Colon ∷ set
 abbrev pub pair_tokens : List Token × List Token → List Token
 pair_tokens pair = pair.0 ++ Symbol LeftArrow ∷ pair.1
 
-abbrev atom : List Token → Printed
+abbrev pub atom : List Token → Printed
 atom tokens = record { shape = Atom; tokens = tokens }
 
-abbrev compound : List Token → Printed
+abbrev pub compound : List Token → Printed
 compound tokens = record { shape = Compound; tokens = tokens }
+
+-- how a form is printed whose parts are: a tree as an operand, as an item or bare, and what is no tree
+module _ {F G T E P : Type 0} (operand item bare : T → List Token) (condition : G → List Token) (event : E → List Token) (part : P → List Token) (pair : P × P → List Token) where
+  abbrev pub form_printed : Tree-F F G T E P → Printed
+  form_printed Tree-F.Stop = atom (Word word.Stop ∷ [])
+  form_printed Tree-F.Skip = atom (Word word.Skip ∷ [])
+  form_printed (Tree-F.Num n) = atom (Num n ∷ [])
+  form_printed Tree-F.True = atom (Word word.True ∷ [])
+  form_printed Tree-F.False = atom (Word word.False ∷ [])
+  form_printed (Tree-F.Name x) = atom (Name x ∷ [])
+  form_printed (Tree-F.Call f items) =
+      atom (Name f ∷ Symbol OpenParen ∷ separated item (Symbol Comma) items ++ Symbol CloseParen ∷ [])
+  form_printed (Tree-F.«Tree::Dot» c fields) = record { shape = Dotted; tokens = Name c ∷ dotted operand fields }
+  form_printed (Tree-F.Neg a) = compound (Symbol Minus ∷ operand a)
+  form_printed (Tree-F.Not a) = compound (Word word.Not ∷ operand a)
+  form_printed (Tree-F.Binary op a b) = compound (operand a ++ operator_token op ∷ operand b)
+  form_printed (Tree-F.If c a b) =
+      compound (Word word.If ∷ operand c ++ Word word.Then ∷ bare a ++ Word word.Else ∷ bare b)
+  form_printed (Tree-F.Display items) =
+      atom (Symbol OpenBrace ∷ separated item (Symbol Comma) items ++ Symbol CloseBrace ∷ [])
+  form_printed (Tree-F.Range a b) =
+      atom (Symbol OpenBrace ∷ operand a ++ Symbol DotDot ∷ operand b ++ Symbol CloseBrace ∷ [])
+  form_printed (Tree-F.Comp items gens) =
+      atom (Symbol OpenBrace ∷ separated item (Symbol Comma) items
+      ++ Symbol Bar ∷ separated condition (Symbol Comma) gens ++ Symbol CloseBrace ∷ [])
+  form_printed (Tree-F.Product parts gens) =
+      atom (Symbol OpenProduct ∷ separated part (Symbol Comma) parts
+      ++ conditions condition gens ++ Symbol CloseProduct ∷ [])
+  form_printed (Tree-F.SetOp op a b) =
+      atom (set_op_word op ∷ Symbol OpenParen ∷ item a ++ Symbol Comma ∷ item b ++ Symbol CloseParen ∷ [])
+  form_printed (Tree-F.Prefix e p) = compound (event e ++ Symbol Arrow ∷ operand p)
+  form_printed (Tree-F.Guard c p) = compound (operand c ++ Symbol Ampersand ∷ operand p)
+  form_printed (Tree-F.External ps) = compound (separated operand (Symbol ExternalChoice) ps)
+  form_printed (Tree-F.Internal ps) = compound (separated operand (Symbol InternalChoice) ps)
+  form_printed (Tree-F.EachExternal x s p) =
+      compound (Symbol ExternalChoice ∷ bound_in x (operand s) ++ Symbol At ∷ bare p)
+  form_printed (Tree-F.EachInternal x s p) =
+      compound (Symbol InternalChoice ∷ bound_in x (operand s) ++ Symbol At ∷ bare p)
+  form_printed (Tree-F.Parallel p a b q) =
+      compound (operand p ++ Symbol OpenBracket ∷ operand a ++ Symbol Parallel ∷ operand b ++ Symbol CloseBracket ∷ operand q)
+  form_printed (Tree-F.EachParallel x s a p) =
+      compound (Symbol Parallel ∷ bound_in x (operand s)
+      ++ Symbol At ∷ Symbol OpenBracket ∷ operand a ++ Symbol CloseBracket ∷ bare p)
+  form_printed (Tree-F.Seq p q) = compound (operand p ++ Symbol Semicolon ∷ operand q)
+  form_printed (Tree-F.Hide p s) = compound (operand p ++ Symbol Backslash ∷ operand s)
+  form_printed (Tree-F.Rename p pairs gens) =
+      compound (operand p ++ Symbol OpenRename ∷ separated pair (Symbol Comma) pairs
+      ++ conditions condition gens ++ Symbol CloseRename ∷ [])
 
 -- one layer of a tree, with its printed parts in their places
 abbrev pub tree_layer_printed : Tree-F (List Token) (List Token) Printed (List Token) (List Token) → Printed
-tree_layer_printed Tree-F.Stop = atom (Word word.Stop ∷ [])
-tree_layer_printed Tree-F.Skip = atom (Word word.Skip ∷ [])
-tree_layer_printed (Tree-F.Num n) = atom (Num n ∷ [])
-tree_layer_printed Tree-F.True = atom (Word word.True ∷ [])
-tree_layer_printed Tree-F.False = atom (Word word.False ∷ [])
-tree_layer_printed (Tree-F.Name x) = atom (Name x ∷ [])
-tree_layer_printed (Tree-F.Call f items) =
-    atom (Name f ∷ Symbol OpenParen ∷ separated item (Symbol Comma) items ++ Symbol CloseParen ∷ [])
-tree_layer_printed (Tree-F.«Tree::Dot» c fields) = record { shape = Dotted; tokens = Name c ∷ dotted operand fields }
-tree_layer_printed (Tree-F.Neg a) = compound (Symbol Minus ∷ operand a)
-tree_layer_printed (Tree-F.Not a) = compound (Word word.Not ∷ operand a)
-tree_layer_printed (Tree-F.Binary op a b) = compound (operand a ++ operator_token op ∷ operand b)
-tree_layer_printed (Tree-F.If c a b) =
-    compound (Word word.If ∷ operand c ++ Word word.Then ∷ a.tokens ++ Word word.Else ∷ b.tokens)
-tree_layer_printed (Tree-F.Display items) =
-    atom (Symbol OpenBrace ∷ separated item (Symbol Comma) items ++ Symbol CloseBrace ∷ [])
-tree_layer_printed (Tree-F.Range a b) =
-    atom (Symbol OpenBrace ∷ operand a ++ Symbol DotDot ∷ operand b ++ Symbol CloseBrace ∷ [])
-tree_layer_printed (Tree-F.Comp items gens) =
-    atom (Symbol OpenBrace ∷ separated item (Symbol Comma) items
-    ++ Symbol Bar ∷ separated (λ tokens. tokens) (Symbol Comma) gens ++ Symbol CloseBrace ∷ [])
-tree_layer_printed (Tree-F.Product parts gens) =
-    atom (Symbol OpenProduct ∷ separated (λ tokens. tokens) (Symbol Comma) parts
-    ++ conditions (λ tokens. tokens) gens ++ Symbol CloseProduct ∷ [])
-tree_layer_printed (Tree-F.SetOp op a b) =
-    atom (set_op_word op ∷ Symbol OpenParen ∷ item a ++ Symbol Comma ∷ item b ++ Symbol CloseParen ∷ [])
-tree_layer_printed (Tree-F.Prefix event p) = compound (event ++ Symbol Arrow ∷ operand p)
-tree_layer_printed (Tree-F.Guard c p) = compound (operand c ++ Symbol Ampersand ∷ operand p)
-tree_layer_printed (Tree-F.External ps) = compound (separated operand (Symbol ExternalChoice) ps)
-tree_layer_printed (Tree-F.Internal ps) = compound (separated operand (Symbol InternalChoice) ps)
-tree_layer_printed (Tree-F.EachExternal x s p) =
-    compound (Symbol ExternalChoice ∷ bound_in x (operand s) ++ Symbol At ∷ p.tokens)
-tree_layer_printed (Tree-F.EachInternal x s p) =
-    compound (Symbol InternalChoice ∷ bound_in x (operand s) ++ Symbol At ∷ p.tokens)
-tree_layer_printed (Tree-F.Parallel p a b q) =
-    compound (operand p ++ Symbol OpenBracket ∷ operand a ++ Symbol Parallel ∷ operand b ++ Symbol CloseBracket ∷ operand q)
-tree_layer_printed (Tree-F.EachParallel x s a p) =
-    compound (Symbol Parallel ∷ bound_in x (operand s)
-    ++ Symbol At ∷ Symbol OpenBracket ∷ operand a ++ Symbol CloseBracket ∷ p.tokens)
-tree_layer_printed (Tree-F.Seq p q) = compound (operand p ++ Symbol Semicolon ∷ operand q)
-tree_layer_printed (Tree-F.Hide p s) = compound (operand p ++ Symbol Backslash ∷ operand s)
-tree_layer_printed (Tree-F.Rename p pairs gens) =
-    compound (operand p ++ Symbol OpenRename ∷ separated pair_tokens (Symbol Comma) pairs
-    ++ conditions (λ tokens. tokens) gens ++ Symbol CloseRename ∷ [])
+tree_layer_printed d = form_printed operand item (λ p. p.tokens) (λ tokens. tokens) (λ tokens. tokens) (λ tokens. tokens) pair_tokens d
 
 -- .a, !a, ?x and ?x:S
 abbrev pub field_layer_printed : FieldTree-F (List Token) (List Token) Printed (List Token) (List Token) → List Token
@@ -193,3 +198,10 @@ item_tokens t = as_item (shape_of t) (printed_tokens t)
 -- the tokens of a pair of a renaming
 unfoldable pub renamed_tokens : PartTree × PartTree → List Token
 renamed_tokens pair = part_tokens pair.0 ++ Symbol LeftArrow ∷ part_tokens pair.1
+
+-- a form whose parts are trees
+abbrev pub form : Tree-F FieldTree GenTree Tree EventTree PartTree → Printed
+form d = form_printed operand_tokens item_tokens printed_tokens gen_tokens event_tokens part_tokens renamed_tokens d
+
+abbrev pub form_tokens : Tree-F FieldTree GenTree Tree EventTree PartTree → List Token
+form_tokens d = (form d).tokens

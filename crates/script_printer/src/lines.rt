@@ -17,6 +17,7 @@ use csp_text::{Decl, ResourceNames, RolesNames, Symbol, Tree, Word, word_text};
 const LINE_FEED: u8 = b'\n';
 
 // Adds names with a sign between them.
+#[tactic(auto, using(crate::proofs::Written::written_laws))]
 fn put_names(text: &mut Bytes, names: &[Name], sign: Symbol) -> Result<(), NoMemory>
     ensures { OnOk result (text.new ≡ text.old ++ spaced (names_tokens (token.Symbol sign) names.now)) }
 {
@@ -28,6 +29,7 @@ fn put_names(text: &mut Bytes, names: &[Name], sign: Symbol) -> Result<(), NoMem
 }
 
 // Adds the types of channels behind a colon, or nothing where there are none.
+#[tactic(auto, using(crate::proofs::Groups::groups, crate::proofs::Written::written_laws), unfolding(crate::specs::TokenText::spaced))]
 fn put_types(text: &mut Bytes, types: &[Tree]) -> Result<(), NoMemory>
     ensures { OnOk result (text.new ≡ text.old ++ spaced (types_tokens types.now)) }
 {
@@ -39,6 +41,7 @@ fn put_types(text: &mut Bytes, types: &[Tree]) -> Result<(), NoMemory>
 }
 
 // Adds parameters in parentheses, or nothing where there are none.
+#[tactic(auto, using(crate::proofs::Groups::groups, crate::proofs::Written::written_laws), unfolding(crate::specs::TokenText::spaced))]
 fn put_parameters(text: &mut Bytes, names: &[Name]) -> Result<(), NoMemory>
     ensures { OnOk result (text.new ≡ text.old ++ spaced (parameters_tokens names.now)) }
 {
@@ -66,6 +69,7 @@ fn put_deadlock_free(text: &mut Bytes) -> Result<(), NoMemory>
 }
 
 // Adds the names of a process's requests and acknowledgements, as a client and as a server.
+#[tactic(auto, unfolding(crate::specs::TokenText::spaced))]
 fn put_sides(text: &mut Bytes, names: &RolesNames) -> Result<(), NoMemory>
     ensures { OnOk result (text.new ≡ text.old
         ++ spaced (token.Name names.now.creq ∷ token.Name names.now.cack ∷ token.Name names.now.sreq ∷ token.Name names.now.sack ∷ [])) }
@@ -86,18 +90,27 @@ fn put_roles(text: &mut Bytes, names: &RolesNames) -> Result<(), NoMemory>
     put_sides(text, names)
 }
 
-// Adds an annotation that makes a process a resource.
+// Adds the names of a resource and of its events.
 #[tactic(auto, unfolding(crate::specs::TokenText::spaced))]
-fn put_resource(text: &mut Bytes, names: &ResourceNames) -> Result<(), NoMemory>
-    ensures { OnOk result (text.new ≡ text.old ++ token_text (token.Resource names.now)) }
+fn put_uses(text: &mut Bytes, names: &ResourceNames) -> Result<(), NoMemory>
+    ensures { OnOk result (text.new ≡ text.old
+        ++ spaced (token.Name names.now.process ∷ token.Name names.now.acquire ∷ token.Name names.now.release ∷ [])) }
 {
-    text.extend_from_slice(b"--@ resource")?;
     put_name(text, &names.process)?;
     put_name(text, &names.acquire)?;
     put_name(text, &names.release)
 }
 
+// Adds an annotation that makes a process a resource.
+fn put_resource(text: &mut Bytes, names: &ResourceNames) -> Result<(), NoMemory>
+    ensures { OnOk result (text.new ≡ text.old ++ token_text (token.Resource names.now)) }
+{
+    text.extend_from_slice(b"--@ resource")?;
+    put_uses(text, names)
+}
+
 // Adds the names of channels and their types.
+#[tactic(auto, using(crate::proofs::Written::written_laws), unfolding(crate::specs::TokenText::row, crate::specs::TokenText::spaced))]
 fn put_channel(text: &mut Bytes, names: &Items<Name>, types: &Items<Tree>) -> Result<(), NoMemory>
     ensures { OnOk result (text.new ≡ text.old ++ row (decl_tokens (decl.Channel names.now types.now))) }
 {
@@ -107,6 +120,7 @@ fn put_channel(text: &mut Bytes, names: &Items<Name>, types: &Items<Tree>) -> Re
 }
 
 // Adds a data type and its constants.
+#[tactic(auto, using(crate::proofs::Written::written_laws), unfolding(crate::specs::TokenText::row, crate::specs::TokenText::spaced))]
 fn put_datatype(text: &mut Bytes, name: &Name, constants: &Items<Name>) -> Result<(), NoMemory>
     ensures { OnOk result (text.new ≡ text.old ++ row (decl_tokens (decl.Datatype name.now constants.now))) }
 {
@@ -117,6 +131,7 @@ fn put_datatype(text: &mut Bytes, name: &Name, constants: &Items<Name>) -> Resul
 }
 
 // Adds a name of a set.
+#[tactic(auto, using(crate::proofs::Written::written_laws), unfolding(crate::specs::TokenText::row, crate::specs::TokenText::spaced))]
 fn put_nametype(text: &mut Bytes, name: &Name, set: &Tree) -> Result<(), NoMemory>
     ensures { OnOk result (text.new ≡ text.old ++ row (decl_tokens (decl.Nametype name.now set.now))) }
 {
@@ -127,6 +142,7 @@ fn put_nametype(text: &mut Bytes, name: &Name, set: &Tree) -> Result<(), NoMemor
 }
 
 // Adds a definition.
+#[tactic(auto, using(crate::proofs::Written::written_laws), unfolding(crate::specs::TokenText::row, crate::specs::TokenText::spaced))]
 fn put_definition(
     text: &mut Bytes,
     name: &Name,
@@ -142,6 +158,7 @@ fn put_definition(
 }
 
 // Adds an assertion.
+#[tactic(auto, using(crate::proofs::Written::written_laws), unfolding(crate::specs::TokenText::row, crate::specs::TokenText::spaced))]
 fn put_assertion(text: &mut Bytes, process: &Tree) -> Result<(), NoMemory>
     ensures { OnOk result (text.new ≡ text.old ++ row (decl_tokens (decl.Assert process.now))) }
 {

@@ -1,5 +1,5 @@
 //! The shapes of printed trees.
-#![tactic(auto, using(crate::proofs::PrintedEquations::tree_shapes))]
+#![tactic(auto, using(crate::proofs::PrintedEquations::forms), unfolding(crate::specs::PrintedTree::shape_of))]
 
 ghost use Rattle.std.specs.Prelude.{◌≡◌};
 ghost use Rattle.script_printer.specs.PrintedTree.{shape_of};

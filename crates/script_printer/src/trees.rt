@@ -1,12 +1,13 @@
 //! Trees: each form written token by token, straight into the text.
+#![tactic(auto, using(crate::proofs::Written::written_laws), unfolding(crate::specs::TokenText::spaced))]
 
 ghost use Rattle.std.specs.Prelude.{◌≡◌, ◌++◌, [], ◌∷◌, OnOk, flat_map};
 ghost use Rattle.csp_text.specs.declared.token.Token.TheVariants as token;
 ghost use Rattle.csp_text.specs.declared.token.Symbol.TheVariants.{At, Bar, Comma};
 ghost use Rattle.csp_text.specs.declared.tree.FieldTree.TheVariants as field;
-ghost use Rattle.csp_text.specs.declared.tree.Tree.TheVariants as tree;
+ghost use Rattle.csp_text.specs.declared.tree.FieldTree.TheOpen.{Tree-F};
 ghost use Rattle.script_printer.specs.TokenText.{spaced};
-ghost use Rattle.script_printer.specs.PrintedTree.{bound_in, conditions, dotted, event_tokens, field_tokens, gen_tokens, in_parentheses, item_tokens, operand_tokens, part_tokens, printed_tokens, renamed_tokens, separated};
+ghost use Rattle.script_printer.specs.PrintedTree.{bound_in, conditions, dotted, event_tokens, field_tokens, form_tokens, gen_tokens, in_parentheses, item_tokens, operand_tokens, part_tokens, printed_tokens, renamed_tokens, separated};
 
 use crate::shape::Shape;
 use crate::shapes::shape_of;
@@ -19,6 +20,7 @@ use csp_text::{EventTree, FieldTree, GenTree, PartTree, Symbol, Tree, Word};
 
 // Adds a tree without parentheses.
 #[cycle(trees)]
+#[tactic(auto, using(crate::proofs::PrintedEquations::forms), unfolding(crate::specs::TokenText::spaced, crate::specs::PrintedTree::printed_tokens))]
 pub(crate) fn put_tree(text: &mut Bytes, tree: &Tree) -> Result<(), NoMemory>
     ensures { OnOk result (text.new ≡ text.old ++ spaced (printed_tokens tree.now)) }
 {
@@ -57,7 +59,7 @@ pub(crate) fn put_tree(text: &mut Bytes, tree: &Tree) -> Result<(), NoMemory>
 // Adds a call.
 #[cycle(trees)]
 fn put_call(text: &mut Bytes, name: &Name, items: &Items<Tree>) -> Result<(), NoMemory>
-    ensures { OnOk result (text.new ≡ text.old ++ spaced (printed_tokens (tree.Call name.now items.now))) }
+    ensures { OnOk result (text.new ≡ text.old ++ spaced (form_tokens (Tree-F.Call name.now items.now))) }
 {
     put_name(text, name)?;
     put_enclosed(text, Symbol::OpenParen, items, Symbol::CloseParen)
@@ -90,7 +92,7 @@ fn put_front(text: &mut Bytes, name: &Name, fields: &Items<Tree>) -> Result<(), 
 // Adds an operator between its operands.
 #[cycle(trees)]
 fn put_binary(text: &mut Bytes, a: &Boxed<Tree>, op: BinOp, b: &Boxed<Tree>) -> Result<(), NoMemory>
-    ensures { OnOk result (text.new ≡ text.old ++ spaced (printed_tokens (tree.Binary op a.now b.now))) }
+    ensures { OnOk result (text.new ≡ text.old ++ spaced (form_tokens (Tree-F.Binary op a.now b.now))) }
 {
     put_operand(text, a.get())?;
     put_operator(text, op)?;
@@ -119,7 +121,7 @@ fn put_conditional(
     a: &Boxed<Tree>,
     b: &Boxed<Tree>,
 ) -> Result<(), NoMemory>
-    ensures { OnOk result (text.new ≡ text.old ++ spaced (printed_tokens (tree.If condition.now a.now b.now))) }
+    ensures { OnOk result (text.new ≡ text.old ++ spaced (form_tokens (Tree-F.If condition.now a.now b.now))) }
 {
     put_after_word(text, Word::If, condition.get())?;
     put_branch(text, Word::Then, a.get())?;
@@ -129,7 +131,7 @@ fn put_conditional(
 // Adds a range.
 #[cycle(trees)]
 fn put_range(text: &mut Bytes, a: &Boxed<Tree>, b: &Boxed<Tree>) -> Result<(), NoMemory>
-    ensures { OnOk result (text.new ≡ text.old ++ spaced (printed_tokens (tree.Range a.now b.now))) }
+    ensures { OnOk result (text.new ≡ text.old ++ spaced (form_tokens (Tree-F.Range a.now b.now))) }
 {
     put_after(text, Symbol::OpenBrace, a.get())?;
     put_after(text, Symbol::DotDot, b.get())?;
@@ -143,7 +145,7 @@ fn put_comprehension(
     items: &Items<Tree>,
     gens: &Items<GenTree>,
 ) -> Result<(), NoMemory>
-    ensures { OnOk result (text.new ≡ text.old ++ spaced (printed_tokens (tree.Comp items.now gens.now))) }
+    ensures { OnOk result (text.new ≡ text.old ++ spaced (form_tokens (Tree-F.Comp items.now gens.now))) }
 {
     put_symbol(text, Symbol::OpenBrace)?;
     put_items(text, items.as_slice())?;
@@ -157,7 +159,7 @@ fn put_production(
     parts: &Items<PartTree>,
     gens: &Items<GenTree>,
 ) -> Result<(), NoMemory>
-    ensures { OnOk result (text.new ≡ text.old ++ spaced (printed_tokens (tree.Product parts.now gens.now))) }
+    ensures { OnOk result (text.new ≡ text.old ++ spaced (form_tokens (Tree-F.Product parts.now gens.now))) }
 {
     put_symbol(text, Symbol::OpenProduct)?;
     put_parts(text, parts.as_slice())?;
@@ -172,7 +174,7 @@ fn put_set_operation(
     a: &Boxed<Tree>,
     b: &Boxed<Tree>,
 ) -> Result<(), NoMemory>
-    ensures { OnOk result (text.new ≡ text.old ++ spaced (printed_tokens (tree.SetOp op a.now b.now))) }
+    ensures { OnOk result (text.new ≡ text.old ++ spaced (form_tokens (Tree-F.SetOp op a.now b.now))) }
 {
     put_set_op(text, op)?;
     put_item_after(text, Symbol::OpenParen, a)?;
@@ -183,7 +185,7 @@ fn put_set_operation(
 // Adds a prefix.
 #[cycle(trees)]
 fn put_prefix(text: &mut Bytes, event: &EventTree, p: &Boxed<Tree>) -> Result<(), NoMemory>
-    ensures { OnOk result (text.new ≡ text.old ++ spaced (printed_tokens (tree.Prefix event.now p.now))) }
+    ensures { OnOk result (text.new ≡ text.old ++ spaced (form_tokens (Tree-F.Prefix event.now p.now))) }
 {
     put_event(text, event)?;
     put_after(text, Symbol::Arrow, p.get())
@@ -213,7 +215,7 @@ fn put_parallel(
     b: &Boxed<Tree>,
     q: &Boxed<Tree>,
 ) -> Result<(), NoMemory>
-    ensures { OnOk result (text.new ≡ text.old ++ spaced (printed_tokens (tree.Parallel p.now a.now b.now q.now))) }
+    ensures { OnOk result (text.new ≡ text.old ++ spaced (form_tokens (Tree-F.Parallel p.now a.now b.now q.now))) }
 {
     put_infix(text, p, Symbol::OpenBracket, a)?;
     put_symbol(text, Symbol::Parallel)?;
@@ -229,7 +231,7 @@ fn put_each_parallel(
     a: &Boxed<Tree>,
     p: &Boxed<Tree>,
 ) -> Result<(), NoMemory>
-    ensures { OnOk result (text.new ≡ text.old ++ spaced (printed_tokens (tree.EachParallel name.now s.now a.now p.now))) }
+    ensures { OnOk result (text.new ≡ text.old ++ spaced (form_tokens (Tree-F.EachParallel name.now s.now a.now p.now))) }
 {
     put_replicated(text, Symbol::Parallel, name, s.get())?;
     put_after(text, Symbol::OpenBracket, a.get())?;
@@ -244,7 +246,7 @@ fn put_renaming(
     gens: &Items<GenTree>,
     p: &Boxed<Tree>,
 ) -> Result<(), NoMemory>
-    ensures { OnOk result (text.new ≡ text.old ++ spaced (printed_tokens (tree.Rename p.now pairs.now gens.now))) }
+    ensures { OnOk result (text.new ≡ text.old ++ spaced (form_tokens (Tree-F.Rename p.now pairs.now gens.now))) }
 {
     put_operand(text, p.get())?;
     put_symbol(text, Symbol::OpenRename)?;
@@ -346,6 +348,7 @@ fn put_replicated(text: &mut Bytes, sign: Symbol, name: &Name, set: &Tree) -> Re
 
 // Adds the event of a prefix.
 #[cycle(trees)]
+#[tactic(auto, using(crate::proofs::PrintedEquations::other_forms, crate::proofs::Written::written_laws), unfolding(crate::specs::TokenText::spaced))]
 fn put_event(text: &mut Bytes, event: &EventTree) -> Result<(), NoMemory>
     ensures { OnOk result (text.new ≡ text.old ++ spaced (event_tokens event.now)) }
 {
@@ -355,6 +358,7 @@ fn put_event(text: &mut Bytes, event: &EventTree) -> Result<(), NoMemory>
 
 // Adds a field of a prefix.
 #[cycle(trees)]
+#[tactic(auto, using(crate::proofs::PrintedEquations::other_forms), unfolding(crate::specs::TokenText::spaced))]
 fn put_field(text: &mut Bytes, field: &FieldTree) -> Result<(), NoMemory>
     ensures { OnOk result (text.new ≡ text.old ++ spaced (field_tokens field.now)) }
 {
@@ -367,6 +371,7 @@ fn put_field(text: &mut Bytes, field: &FieldTree) -> Result<(), NoMemory>
 
 // Adds an input, with its set where it has one.
 #[cycle(trees)]
+#[tactic(auto, using(crate::proofs::PrintedEquations::other_forms, crate::proofs::Written::written_laws), unfolding(crate::specs::TokenText::spaced))]
 fn put_input(text: &mut Bytes, name: &Name, set: &Option<Tree>) -> Result<(), NoMemory>
     ensures { OnOk result (text.new ≡ text.old ++ spaced (field_tokens (field.Input name.now set.now))) }
 {
@@ -380,6 +385,7 @@ fn put_input(text: &mut Bytes, name: &Name, set: &Option<Tree>) -> Result<(), No
 
 // Adds a generator: a name and its set, or a condition.
 #[cycle(trees)]
+#[tactic(auto, using(crate::proofs::PrintedEquations::other_forms, crate::proofs::Written::written_laws), unfolding(crate::specs::TokenText::spaced))]
 fn put_gen(text: &mut Bytes, generator: &GenTree) -> Result<(), NoMemory>
     ensures { OnOk result (text.new ≡ text.old ++ spaced (gen_tokens generator.now)) }
 {
@@ -394,6 +400,7 @@ fn put_gen(text: &mut Bytes, generator: &GenTree) -> Result<(), NoMemory>
 
 // Adds the front of an event.
 #[cycle(trees)]
+#[tactic(auto, using(crate::proofs::PrintedEquations::other_forms), unfolding(crate::specs::TokenText::spaced))]
 fn put_part(text: &mut Bytes, part: &PartTree) -> Result<(), NoMemory>
     ensures { OnOk result (text.new ≡ text.old ++ spaced (part_tokens part.now)) }
 {
@@ -402,6 +409,7 @@ fn put_part(text: &mut Bytes, part: &PartTree) -> Result<(), NoMemory>
 
 // Adds a pair of a renaming.
 #[cycle(trees)]
+#[tactic(auto, using(crate::proofs::Written::written_laws), unfolding(crate::specs::TokenText::spaced, crate::specs::PrintedTree::renamed_tokens))]
 fn put_pair(text: &mut Bytes, pair: &(PartTree, PartTree)) -> Result<(), NoMemory>
     ensures { OnOk result (text.new ≡ text.old ++ spaced (renamed_tokens pair.now)) }
 {
@@ -422,6 +430,7 @@ fn put_generators(text: &mut Bytes, gens: &[GenTree], closing: Symbol) -> Result
 
 // The same, with no bar where there are no generators.
 #[cycle(trees)]
+#[tactic(auto, using(crate::proofs::Written::none_shown, crate::proofs::Written::some_shown), unfolding(crate::specs::TokenText::spaced))]
 fn put_conditions(text: &mut Bytes, gens: &Items<GenTree>, closing: Symbol) -> Result<(), NoMemory>
     ensures { OnOk result (text.new ≡ text.old ++ spaced (conditions gen_tokens gens.now ++ token.Symbol closing ∷ [])) }
 {

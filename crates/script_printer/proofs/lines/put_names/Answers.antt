@@ -9,9 +9,6 @@ use Rattle.script_printer.proofs.lines.put_names.Goals as goal
 abbrev one_name : List ℕ → List Token
 one_name name = token.Name name ∷ []
 
-pub loop-place-init : goal.loop-place-init
-loop-place-init c = ap (λ l. c.args.text.now ++ spaced l) (separated_begin one_name (token.Symbol c.args.sign) c.args.names.now)
-
 pub loop-place-preserved : goal.loop-place-preserved
 loop-place-preserved c =
     separated_step one_name (token.Symbol c.args.sign) c.args.names.now c.loop-place.place c.index-names-place.result _ _ _ _
