@@ -53,10 +53,8 @@ module _ (f : ℕ → ℕ) (m : Meanings) (ks : List Kind) where
       → IsUsed f (expanded_body m ks c (s (record { need = need_of c; network = network; level = 1 }) (names_of scope))) deep j
   define_used class.Data network s r scope n deep h fine shallow j t = record
       { below = (h.expr scope n network 1 (omega arith) fine).at j t; shallow = shallow }
-  define_used class.Process true s r scope n deep h fine shallow j t = absurd (false≢true t)
-  define_used class.Process false s r scope n deep h fine shallow j t = absurd (false≢true t)
-  define_used class.Unknown true s r scope n deep h fine shallow j t = absurd (false≢true t)
-  define_used class.Unknown false s r scope n deep h fine shallow j t = absurd (false≢true t)
+  define_used _ true s r scope n deep h fine shallow j t = absurd (false≢true t)
+  define_used _ false s r scope n deep h fine shallow j t = absurd (false≢true t)
 
 over : (k a b : ℕ) → k ≤ a → a < b → suc k ≤ b
 over k a b h g = omega arith

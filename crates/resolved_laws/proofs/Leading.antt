@@ -132,10 +132,8 @@ module _ (depth : ℕ → ℕ) where
     called_entity : (x : Name) (e : Option Entity) (k : ℕ) (b : Bool) (l : ℕ) → 0 < l → IsFine ks (uses x (sense_of e) (how.Called k (data_at b l)))
         → depth (definition_number e) < reach depth (uses x (sense_of e) (how.Called k (data_at b l)))
     called_entity x None k b l h fine = absurd (let g = fine.known in cc)
-    called_entity x (Some (entity.Channel c n)) k b l h fine = absurd (let g = fine.kind in cc)
-    called_entity x (Some (entity.Constant c)) k b l h fine = absurd (let g = fine.kind in cc)
-    called_entity x (Some (entity.Set d)) k b l h fine = absurd (let g = fine.kind in cc)
     called_entity x (Some (entity.Definition d n)) k b l h fine = under_level (depth d) l h
+    called_entity x _ k b l h fine = absurd (let g = fine.kind in cc)
 
     called_below : {m : Meanings} {x : Name} {o : Option ℕ} {s : Sense} → NameIs m x o s → (k : ℕ) (b : Bool) (l : ℕ) → 0 < l
         → IsFine ks (uses x s (how.Called k (data_at b l)))
@@ -222,19 +220,9 @@ module _ (depth : ℕ → ℕ) where
         leads (f.set_operator op {a' = a} {b' = c} h g) = of_data _ _
             (λ scope n b l z fine. let w = fine_two ks _ _ fine in
             expr_below _ (expr.rolls-SetOp _ _ _) (either_below _ _ ((leads h).expr scope n false (l + 1) (more l) w.0) ((leads g).expr scope (n + a.binds) false (l + 1) (more l) w.1)))
-        leads f.stop = of_process _ _
-        leads f.skip = of_process _ _
-        leads (f.prefix h g) = of_process _ _
-        leads (f.guard h g) = of_process _ _
-        leads (f.external h) = of_process _ _
-        leads (f.internal h) = of_process _ _
-        leads (f.each_external x h g) = of_process _ _
-        leads (f.each_internal x h g) = of_process _ _
         leads (f.pair h g k j) = of_network _ _
         leads (f.each_parallel x h g k) = of_network _ _
-        leads (f.sequence h g) = of_process _ _
-        leads (f.hiding h g) = of_process _ _
-        leads (f.renaming h g k) = of_process _ _
+        leads _ = of_process _ _
 
         exprs_lead : {ss : List Said} {rs : List Reading} → AllRead m ks ss rs → (scope : Scope) (n : ℕ) (b : Bool) (l : ℕ) → 0 < l
             → AllFine ks (all_say ss (data_at b l) (names_of scope))

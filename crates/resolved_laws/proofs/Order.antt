@@ -179,9 +179,7 @@ module _ (p : Content) (ks : List Kind) where
       → IsTrue (with_fields (λ i. nat_eq i k) (slice_get p.channels (channel_number e)))
   event_entity x None k h fine = absurd (let g = fine.known in cc)
   event_entity x (Some (entity.Channel c n)) k h fine = with_count n k (slice_get p.channels c) (same_count n k (when_none (not (nat_eq n k)) x fine.count)) h
-  event_entity x (Some (entity.Constant c)) k h fine = absurd (let g = fine.kind in cc)
-  event_entity x (Some (entity.Definition d n)) k h fine = absurd (let g = fine.kind in cc)
-  event_entity x (Some (entity.Set d)) k h fine = absurd (let g = fine.kind in cc)
+  event_entity x _ k h fine = absurd (let g = fine.kind in cc)
 
   pub event_order : {m : Meanings} {x : Name} {o : Option ℕ} {s : Sense} → NameIs m x o s → AllFit p ks m → (k : ℕ) → IsFine ks (uses x s (how.Dotted k))
       → IsTrue (with_fields (λ i. nat_eq i k) (slice_get p.channels (channel_number (m x))))
@@ -193,12 +191,8 @@ module _ (p : Content) (ks : List Kind) where
       → IsTrue (with_fields (λ i. nat_eq i k) (slice_get p.channels (channel_number e)))
   head_entity x None k h fine = absurd (let g = fine.known in cc)
   head_entity x (Some (entity.Channel c n)) k h fine = with_count n k (slice_get p.channels c) (same_count n k (when_none (not (nat_eq n k)) x fine.count)) h
-  head_entity x (Some (entity.Constant c)) zero h fine = absurd (let g = fine.kind in cc)
-  head_entity x (Some (entity.Constant c)) (suc k) h fine = absurd (let g = fine.kind in cc)
-  head_entity x (Some (entity.Definition d n)) zero h fine = absurd (let g = fine.kind in cc)
-  head_entity x (Some (entity.Definition d n)) (suc k) h fine = absurd (let g = fine.kind in cc)
-  head_entity x (Some (entity.Set d)) zero h fine = absurd (let g = fine.kind in cc)
-  head_entity x (Some (entity.Set d)) (suc k) h fine = absurd (let g = fine.kind in cc)
+  head_entity x _ zero h fine = absurd (let g = fine.kind in cc)
+  head_entity x _ (suc k) h fine = absurd (let g = fine.kind in cc)
 
   pub head_order : {m : Meanings} {x : Name} {o : Option ℕ} {s : Sense} → NameIs m x o s → AllFit p ks m → (k : ℕ) → IsFine ks (uses x s (how.Heads k))
       → IsTrue (head_in_order p (head_of o (m x)) k)
@@ -211,9 +205,7 @@ module _ (p : Content) (ks : List Kind) where
       → IsTrue (with_fields (nat_le k) (slice_get p.channels (channel_number e)))
   front_entity x None k h fine = absurd (let g = fine.known in cc)
   front_entity x (Some (entity.Channel c n)) k h fine = at_least n k (slice_get p.channels c) (when_none (nat_lt n k) x fine.count) h
-  front_entity x (Some (entity.Constant c)) k h fine = absurd (let g = fine.kind in cc)
-  front_entity x (Some (entity.Definition d n)) k h fine = absurd (let g = fine.kind in cc)
-  front_entity x (Some (entity.Set d)) k h fine = absurd (let g = fine.kind in cc)
+  front_entity x _ k h fine = absurd (let g = fine.kind in cc)
 
   pub front_order : {m : Meanings} {x : Name} {o : Option ℕ} {s : Sense} → NameIs m x o s → AllFit p ks m → (k : ℕ) → IsFine ks (uses x s (how.Begins k))
       → IsTrue (with_fields (nat_le k) (slice_get p.channels (channel_number (m x))))
@@ -229,14 +221,6 @@ module _ (p : Content) (ks : List Kind) where
       → IsFine ks (uses y (sense_of e') (how.Begins k'))
       → wrong_count (uses x (sense_of e) (how.Renamed k (sense_of e') k')) ≡ None
       → field_count (slice_get p.channels (channel_number e)) - k ≡ field_count (slice_get p.channels (channel_number e')) - k'
-  renamed_entity x y None e' k k' h g a b c = absurd (let z = a.known in cc)
-  renamed_entity x y (Some (entity.Constant i)) e' k k' h g a b c = absurd (let z = a.kind in cc)
-  renamed_entity x y (Some (entity.Definition d i)) e' k k' h g a b c = absurd (let z = a.kind in cc)
-  renamed_entity x y (Some (entity.Set d)) e' k k' h g a b c = absurd (let z = a.kind in cc)
-  renamed_entity x y (Some (entity.Channel i n)) None k k' h g a b c = absurd (let z = b.known in cc)
-  renamed_entity x y (Some (entity.Channel i n)) (Some (entity.Constant j)) k k' h g a b c = absurd (let z = b.kind in cc)
-  renamed_entity x y (Some (entity.Channel i n)) (Some (entity.Definition d j)) k k' h g a b c = absurd (let z = b.kind in cc)
-  renamed_entity x y (Some (entity.Channel i n)) (Some (entity.Set d)) k k' h g a b c = absurd (let z = b.kind in cc)
   renamed_entity x y (Some (entity.Channel i n)) (Some (entity.Channel j n')) k k' h g a b c =
       ap (λ z. z - k) (count_is n (slice_get p.channels i) h) ∙
       (same_count (n - k) (n' - k')
@@ -244,6 +228,10 @@ module _ (p : Content) (ks : List Kind) where
       (or_second_false (nat_lt n k) (nat_lt n' k' || not (nat_eq (n - k) (n' - k')))
       (when_none (nat_lt n k || (nat_lt n' k' || not (nat_eq (n - k) (n' - k')))) x c)))
       ∙ sym (ap (λ z. z - k') (count_is n' (slice_get p.channels j) g)))
+  renamed_entity x y None e' k k' h g a b c = absurd (let z = a.known in cc)
+  renamed_entity x y (Some (entity.Channel i n)) None k k' h g a b c = absurd (let z = b.known in cc)
+  renamed_entity x y (Some (entity.Channel i n)) _ k k' h g a b c = absurd (let z = b.kind in cc)
+  renamed_entity x y _ e' k k' h g a b c = absurd (let z = a.kind in cc)
 
   pub renamed_order : {m : Meanings} {x y : Name} {o o' : Option ℕ} {s s' : Sense} → NameIs m x o s → NameIs m y o' s' → AllFit p ks m → (k k' : ℕ)
       → IsFine ks (uses x s (how.Begins k))

@@ -140,12 +140,7 @@ module _ (p : Content) (whole : IsInOrder p) (m : Meanings) (ks : List Definitio
       subst (HaveSets p (channels_of m ks (decl.Channel xs types) ++ flat_map (channels_of m ks) decls)) (ok_same b.after)
       (sets_here xs types a.first (flat_map (channels_of m ks) decls) b.first o (told_ok i (field_sets p (types_read types)) a.first a.is)
       (λ z. have_sets (i + 1) decls b.first z b.is))
-  have_sets i (decl.Define x params t ∷ decls) all o h = have_sets (i + 1) decls all o h
-  have_sets i (decl.Nametype x t ∷ decls) all o h = have_sets (i + 1) decls all o h
-  have_sets i (decl.Datatype x cs ∷ decls) all o h = have_sets (i + 1) decls all o h
-  have_sets i (decl.Assert t ∷ decls) all o h = have_sets (i + 1) decls all o h
-  have_sets i (decl.Roles names ∷ decls) all o h = have_sets (i + 1) decls all o h
-  have_sets i (decl.Resource names ∷ decls) all o h = have_sets (i + 1) decls all o h
+  have_sets i (_ ∷ decls) all o h = have_sets (i + 1) decls all o h
 
 -- ---- the channels with these sets
 

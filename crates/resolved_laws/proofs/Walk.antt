@@ -59,30 +59,24 @@ module _ (p : Content) (ks : List Kind) where
 
   note_entity : (x : Name) (e : Option Entity) → Fits p ks e → IsFine ks (uses x (sense_of e) how.Annotated) → IsTrue (note_fits p (definition_number e))
   note_entity x None h fine = absurd (let g = fine.known in cc)
-  note_entity x (Some (entity.Channel c n)) h fine = absurd (let g = fine.kind in cc)
-  note_entity x (Some (entity.Constant c)) h fine = absurd (let g = fine.kind in cc)
-  note_entity x (Some (entity.Set d)) h fine = absurd (let g = fine.kind in cc)
   note_entity x (Some (entity.Definition d n)) h fine =
       subst (λ k. IsTrue (takes is_component k (slice_get p.defs d)))
       (takes_count (is_body_of (kind_class (slice_get ks d)) (kind_network (slice_get ks d))) n (slice_get p.defs d) h)
       (has_component p ks d n (kind_class (slice_get ks d)) (kind_network (slice_get ks d)) h fine.kind)
+  note_entity x _ h fine = absurd (let g = fine.kind in cc)
 
   set_entity : (x y : Name) (e e' : Option Entity) → Fits p ks e → Fits p ks e' → IsFine ks (uses x (sense_of e) how.Annotated)
       → IsFine ks (uses y (sense_of e') (how.Annotates (sense_of e)))
       → IsTrue (set_fits p (definition_number e) (definition_number e'))
   set_entity x y None e' h g fine fine' = absurd (let z = fine.known in cc)
-  set_entity x y (Some (entity.Channel c n)) e' h g fine fine' = absurd (let z = fine.kind in cc)
-  set_entity x y (Some (entity.Constant c)) e' h g fine fine' = absurd (let z = fine.kind in cc)
-  set_entity x y (Some (entity.Set d)) e' h g fine fine' = absurd (let z = fine.kind in cc)
   set_entity x y (Some (entity.Definition d n)) None h g fine fine' = absurd (let z = fine'.known in cc)
-  set_entity x y (Some (entity.Definition d n)) (Some (entity.Channel c k)) h g fine fine' = absurd (let z = fine'.kind in cc)
-  set_entity x y (Some (entity.Definition d n)) (Some (entity.Constant c)) h g fine fine' = absurd (let z = fine'.kind in cc)
-  set_entity x y (Some (entity.Definition d n)) (Some (entity.Set c)) h g fine fine' = absurd (let z = fine'.kind in cc)
   set_entity x y (Some (entity.Definition d n)) (Some (entity.Definition d' n')) h g fine fine' =
       subst (λ k. IsTrue (takes is_datum k (slice_get p.defs d')))
       (same_count n' n (when_none (not (nat_eq n' n)) y fine'.count) ∙ takes_count (is_body_of (kind_class (slice_get ks d)) (kind_network (slice_get ks d)))
       n (slice_get p.defs d) h)
       (has_datum p ks d' n' (kind_class (slice_get ks d')) (kind_network (slice_get ks d')) g fine'.kind)
+  set_entity x y (Some (entity.Definition d n)) _ h g fine fine' = absurd (let z = fine'.kind in cc)
+  set_entity x y _ e' h g fine fine' = absurd (let z = fine.kind in cc)
 
   -- ---- bodies
 

@@ -61,10 +61,7 @@ one_each m ks n [] = refl
 one_each m ks n (decl.Define x params t ∷ decls) = ap (λ k. suc k) (one_each m ks (counted n (decl.Define x params t)) decls)
 one_each m ks n (decl.Nametype x t ∷ decls) = ap (λ k. suc k) (one_each m ks (counted n (decl.Nametype x t)) decls)
 one_each m ks n (decl.Datatype x cs ∷ decls) = ap (λ k. suc k) (one_each m ks (counted n (decl.Datatype x cs)) decls)
-one_each m ks n (decl.Channel xs types ∷ decls) = one_each m ks (counted n (decl.Channel xs types)) decls
-one_each m ks n (decl.Assert t ∷ decls) = one_each m ks n decls
-one_each m ks n (decl.Roles names ∷ decls) = one_each m ks n decls
-one_each m ks n (decl.Resource names ∷ decls) = one_each m ks n decls
+one_each m ks n (d ∷ decls) = one_each m ks (counted n d) decls
 
 kind_at : (ks : List Kind) (d : ℕ) → d < length ks → (kind : Kind) × (slice_get ks d ≡ Some kind)
 kind_at [] d h = absurd (omega arith)
@@ -169,12 +166,7 @@ module _ (m : Meanings) (ks : List Kind) where
   channels_plain : (decls : List Decl) → ArePlain (flat_map (channels_of m ks) decls)
   channels_plain [] = tt
   channels_plain (decl.Channel xs types ∷ decls) = channel_plain xs types (flat_map (channels_of m ks) decls) (channels_plain decls)
-  channels_plain (decl.Define x params t ∷ decls) = channels_plain decls
-  channels_plain (decl.Nametype x t ∷ decls) = channels_plain decls
-  channels_plain (decl.Datatype x cs ∷ decls) = channels_plain decls
-  channels_plain (decl.Assert t ∷ decls) = channels_plain decls
-  channels_plain (decl.Roles names ∷ decls) = channels_plain decls
-  channels_plain (decl.Resource names ∷ decls) = channels_plain decls
+  channels_plain (_ ∷ decls) = channels_plain decls
 
 plain_lack : (cs : List Channel) → ArePlain cs → IsTrue (all_true (map lacks_sets cs))
 plain_lack [] h = refl
