@@ -81,18 +81,16 @@ module _ (p : Content) (ks : List Kind) where
   has_process : (d n : ℕ) (c : Class) (network : Bool) → IsTrue (takes (is_body_of c network) n (slice_get p.defs d)) → clashes ks c need.Process ≡ false
       → network ≡ false
       → IsTrue (takes is_process n (slice_get p.defs d))
-  has_process d n class.Data network h g k = absurd (cc)
-  has_process d n class.Process true h g k = absurd (cc)
   has_process d n class.Process false h g k = h
   has_process d n class.Unknown network h g k = absurd (takes_none n (slice_get p.defs d) h)
+  has_process d n _ _ h g k = absurd (cc)
 
   has_network : (d n : ℕ) (c : Class) (network : Bool) → IsTrue (takes (is_body_of c network) n (slice_get p.defs d)) → clashes ks c need.Process ≡ false
       → network ≡ true
       → IsTrue (takes order.is_network n (slice_get p.defs d))
-  has_network d n class.Data network h g k = absurd (cc)
   has_network d n class.Process true h g k = h
-  has_network d n class.Process false h g k = absurd (cc)
   has_network d n class.Unknown network h g k = absurd (takes_none n (slice_get p.defs d) h)
+  has_network d n _ _ h g k = absurd (cc)
 
   pub has_datum : (d n : ℕ) (c : Class) (network : Bool) → IsTrue (takes (is_body_of c network) n (slice_get p.defs d)) → clashes ks c need.Data ≡ false
       → IsTrue (takes is_datum n (slice_get p.defs d))

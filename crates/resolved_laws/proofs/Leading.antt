@@ -5,9 +5,9 @@ use Rattle.csp_program.specs.Free.{Names, nowhere, either, any_of}
 use Rattle.csp_program.specs.Uses.{expr_uses, expr_uses_of_layer, gen_uses_of_layer, part_uses_of_layer}
 use Rattle.csp_program.specs.declared.expressions.EventPart.{EventPart}
 use Rattle.csp_program.specs.declared.expressions.Expr.{Expr}
-use Rattle.csp_program.specs.declared.expressions.Expr.TheFolds.{fold-roll-Expr, fold-roll-Gen, fold-roll-EventPart, map-Expr}
+use Rattle.csp_program.specs.declared.expressions.Expr.TheFolds.{fold-roll-Expr, fold-roll-Gen, fold-roll-EventPart, map-Expr, map-Gen}
 use Rattle.csp_program.specs.declared.expressions.Expr.TheOpen.{Expr-F, Gen-F}
-use Rattle.csp_program.specs.declared.expressions.Expr.TheViews.{roll-Expr, roll-EventPart}
+use Rattle.csp_program.specs.declared.expressions.Expr.TheViews.{roll-Expr, roll-Gen, roll-EventPart}
 use Rattle.csp_program.specs.declared.expressions.Expr.TheVariants as expr
 use Rattle.csp_program.specs.declared.expressions.Gen.{Gen}
 use Rattle.csp_program.specs.declared.expressions.Gen.TheVariants as generator
@@ -92,15 +92,11 @@ module _ (depth : ℕ → ℕ) where
       subst (λ z. IsBelow (expr_uses z) os) is
       (subst (λ z. IsBelow z os) (sym (fold-roll-Expr Names Names Names expr_uses_of_layer gen_uses_of_layer part_uses_of_layer d)) h)
 
-  from_below : {os : List Occurrence} (n : ℕ) (s : Expr) → IsBelow (expr_uses s) os → IsBelow (gen_uses (generator.From n s)) os
-  from_below {os} n s h =
-      subst (λ z. IsBelow (gen_uses z) os) (generator.rolls-From n s)
-      (subst (λ z. IsBelow z os) (sym (fold-roll-Gen Names Names Names expr_uses_of_layer gen_uses_of_layer part_uses_of_layer (Gen-F.From n s))) h)
-
-  condition_below : {os : List Occurrence} (c : Expr) → IsBelow (expr_uses c) os → IsBelow (gen_uses (generator.Cond c)) os
-  condition_below {os} c h =
-      subst (λ z. IsBelow (gen_uses z) os) (generator.rolls-Cond c)
-      (subst (λ z. IsBelow z os) (sym (fold-roll-Gen Names Names Names expr_uses_of_layer gen_uses_of_layer part_uses_of_layer (Gen-F.Cond c))) h)
+  gen_below : {os : List Occurrence} (d : Gen-F Expr Gen EventPart) {g : Gen} → roll-Gen d ≡ g
+      → IsBelow (gen_uses_of_layer (map-Gen Expr Gen EventPart Names Names Names expr_uses gen_uses part_uses d)) os → IsBelow (gen_uses g) os
+  gen_below {os} d is h =
+      subst (λ z. IsBelow (gen_uses z) os) is
+      (subst (λ z. IsBelow z os) (sym (fold-roll-Gen Names Names Names expr_uses_of_layer gen_uses_of_layer part_uses_of_layer d)) h)
 
   part_below : {os : List Occurrence} (c : ℕ) (es : List Expr) → IsBelow (any_of (map expr_uses es)) os
       → IsBelow (part_uses (roll-EventPart (record { channel = c; fields = es }))) os
@@ -233,9 +229,9 @@ module _ (depth : ℕ → ℕ) where
 
         gen_lead : {b : Binder} {g : Binding Gen} → GenRead m ks b g → (scope : Scope) (n : ℕ) (place : Place) → AllFine ks (b.says place (names_of scope))
             → IsBelow (gen_uses (g.here scope n)) (b.says place (names_of scope))
-        gen_lead (f.from x {a' = a} h) scope n place fine = from_below n (a.expr scope (n + 1))
+        gen_lead (f.from x h) scope n place fine = gen_below _ (generator.rolls-From _ _)
             (later_below _ ((leads h).expr scope (n + 1) false (place.level + 1) (more place.level) fine.1))
-        gen_lead (f.condition {a' = a} h) scope n place fine = condition_below (a.expr scope n)
+        gen_lead (f.condition h) scope n place fine = gen_below _ (generator.rolls-Cond _)
             ((leads h).expr scope n false (place.level + 1) (more place.level) fine)
 
         gens_lead : {bs : List Binder} {gs : List (Binding Gen)} → GensRead m ks bs gs → (scope : Scope) (n : ℕ) (place : Place)

@@ -7,12 +7,11 @@ use Rattle.csp_program.specs.InOrder as order
 use Rattle.csp_program.specs.Lists.{all_true}
 use Rattle.csp_program.specs.declared.expressions.EventPart.{EventPart}
 use Rattle.csp_program.specs.declared.expressions.Expr.{Expr}
-use Rattle.csp_program.specs.declared.expressions.Expr.TheFolds.{fold-roll-Expr, fold-roll-Gen, fold-roll-EventPart, map-Expr}
+use Rattle.csp_program.specs.declared.expressions.Expr.TheFolds.{fold-roll-Expr, fold-roll-Gen, fold-roll-EventPart, map-Expr, map-Gen}
 use Rattle.csp_program.specs.declared.expressions.Expr.TheOpen.{Expr-F, Gen-F}
-use Rattle.csp_program.specs.declared.expressions.Expr.TheViews.{roll-Expr, roll-EventPart, out-roll-EventPart}
+use Rattle.csp_program.specs.declared.expressions.Expr.TheViews.{roll-Expr, roll-Gen, roll-EventPart, out-roll-EventPart}
 use Rattle.csp_program.specs.declared.expressions.Expr.TheVariants as expr
 use Rattle.csp_program.specs.declared.expressions.Gen.{Gen}
-use Rattle.csp_program.specs.declared.expressions.Gen.TheVariants as generator
 use Rattle.csp_program.specs.declared.networks.Net.{Net}
 use Rattle.csp_program.specs.declared.networks.Net.TheFolds.{fold-roll-Net, map-Net}
 use Rattle.csp_program.specs.declared.networks.Net.TheOpen.{Net-F}
@@ -61,15 +60,11 @@ module _ (p : Content) (ks : List Kind) where
       subst (λ z. IsTrue (expr_in_order p z)) is
       (subst IsTrue (sym (fold-roll-Expr Bool Bool Bool (expr_in_order_of_layer p) (gen_in_order_of_layer p) (part_in_order_of_layer p) d)) h)
 
-  pub from_order : (n : ℕ) (s : Expr) → IsTrue (expr_in_order p s) → IsTrue (gen_in_order p (generator.From n s))
-  from_order n s h =
-      subst (λ z. IsTrue (gen_in_order p z)) (generator.rolls-From n s)
-      (subst IsTrue (sym (fold-roll-Gen Bool Bool Bool (expr_in_order_of_layer p) (gen_in_order_of_layer p) (part_in_order_of_layer p) (Gen-F.From n s))) h)
-
-  pub condition_order : (c : Expr) → IsTrue (expr_in_order p c) → IsTrue (gen_in_order p (generator.Cond c))
-  condition_order c h =
-      subst (λ z. IsTrue (gen_in_order p z)) (generator.rolls-Cond c)
-      (subst IsTrue (sym (fold-roll-Gen Bool Bool Bool (expr_in_order_of_layer p) (gen_in_order_of_layer p) (part_in_order_of_layer p) (Gen-F.Cond c))) h)
+  pub gen_order : (d : Gen-F Expr Gen EventPart) {g : Gen} → roll-Gen d ≡ g
+      → IsTrue (gen_in_order_of_layer p (map-Gen Expr Gen EventPart Bool Bool Bool (expr_in_order p) (gen_in_order p) (part_in_order p) d)) → IsTrue (gen_in_order p g)
+  gen_order d is h =
+      subst (λ z. IsTrue (gen_in_order p z)) is
+      (subst IsTrue (sym (fold-roll-Gen Bool Bool Bool (expr_in_order_of_layer p) (gen_in_order_of_layer p) (part_in_order_of_layer p) d)) h)
 
   pub part_order : (c : ℕ) (es : List Expr) → IsTrue (with_fields (nat_le (length (map (expr_in_order p) es))) (slice_get p.channels c))
       → IsTrue (all_true (map (expr_in_order p) es))

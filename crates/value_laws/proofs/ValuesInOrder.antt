@@ -208,9 +208,8 @@ module _ (p : Content) where
   AllOrdered (v ∷ vs) = IsTrue (value_in_order p v) × AllOrdered vs
 
   bound_to_fine : (params : List ℕ) (args : List Value) → AllOrdered args → EnvIsInOrder p (bound_to params args)
-  bound_to_fine [] args o = tt
-  bound_to_fine (x ∷ xs) [] o = tt
   bound_to_fine (x ∷ xs) (v ∷ vs) o = (o.0, bound_to_fine xs vs o.1)
+  bound_to_fine _ _ o = tt
 
   const_fine : (ks : List ℕ) → IsTrue (all_true (map (λ k. nat_lt k (length p.consts)) ks)) → AllIn (map (λ k. atom.Const k) ks)
   const_fine [] o z h = absurd (false≢true h)
