@@ -1,11 +1,9 @@
 -- What stays as it is, form by form, where the name that gets a value is below the number of each part.
-use Rattle.std.proofs.Common.{◌≡◌, ℕ, ℤ, ◌+◌, ◌<◌, ◌≤◌, Bool, true, false, cond, ◌||◌, nat_eq, Some, None, List, [], ◌∷◌, ◌++◌, length, get_or, take, refl, ap, sym, ◌∙◌, subst, arith}
+use Rattle.std.proofs.Common.{◌≡◌, ℕ, ◌+◌, ◌<◌, ◌≤◌, Bool, true, false, cond, ◌||◌, nat_eq, Some, None, List, [], ◌∷◌, ◌++◌, length, get_or, take, refl, ap, sym, ◌∙◌, subst, arith}
 use Rattle.std.proofs.lemmas.Bool.{eqb-true}
 use Rattle.std.proofs.lemmas.List.{take_more}
 use Rattle.csp_atoms.specs.declared.value.Value.{Value}
-use Rattle.csp_base.specs.declared.operators.BinOp.{BinOp}
-use Rattle.csp_base.specs.declared.operators.SetOp.{SetOp}
-use Rattle.csp_program.specs.Substitution.{any_binds, binds}
+use Rattle.csp_program.specs.Substitution.{binds}
 use Rattle.csp_program.specs.declared.expressions.EventPart.{EventPart}
 use Rattle.csp_program.specs.declared.expressions.Expr.{Expr}
 use Rattle.csp_program.specs.declared.expressions.Expr.TheOpen.{Expr-F}
@@ -61,7 +59,7 @@ either_way false was is h = h
 
 -- a value in place of a name below the number: what that leaves as it is
 module _ (m x : ℕ) (v : Value) (l : x < m) where
-  expr_stays : (e : Expr) → ExprLow m e → expr_after x v e ≡ e
+  pub expr_stays : (e : Expr) → ExprLow m e → expr_after x v e ≡ e
   unfolding ExprLow expr_after
   expr_stays e low = low x v l
 
@@ -69,40 +67,27 @@ module _ (m x : ℕ) (v : Value) (l : x < m) where
   unfolding GenLow gen_after
   gen_stays g low = low x v l
 
-  part_stays : (p : EventPart) → PartLow m p → part_after x v p ≡ p
+  pub part_stays : (p : EventPart) → PartLow m p → part_after x v p ≡ p
   unfolding PartLow part_after
   part_stays p low = low x v l
 
-  all_stay : {T : Type 0} (P : ℕ → T → Type 0) (put : T → T) → ((t : T) → P m t → put t ≡ t) → (xs : List T) → AllLow P m xs → (b : Bool) → all_after put b xs ≡ xs
+  pub all_stay : {T : Type 0} (P : ℕ → T → Type 0) (put : T → T) → ((t : T) → P m t → put t ≡ t) → (xs : List T) → AllLow P m xs → (b : Bool) → all_after put b xs ≡ xs
   all_stay P put stays [] low b = refl
   all_stay P put stays (t ∷ xs) low b = λ i. either_way b t (put t) (stays t low.0) i ∷ all_stay P put stays xs low.1 b i
 
-  exprs_stay : (es : List Expr) → AllLow ExprLow m es → (b : Bool) → exprs_after x v b es ≡ es
+  pub exprs_stay : (es : List Expr) → AllLow ExprLow m es → (b : Bool) → exprs_after x v b es ≡ es
   exprs_stay = all_stay ExprLow (expr_after x v) expr_stays
 
-  gens_stay : (gs : List Gen) → AllLow GenLow m gs → (b : Bool) → gens_after x v b gs ≡ gs
+  pub gens_stay : (gs : List Gen) → AllLow GenLow m gs → (b : Bool) → gens_after x v b gs ≡ gs
   gens_stay [] low b = refl
   gens_stay (g ∷ gs) low b = λ i. either_way b g (gen_after x v g) (gen_stays g low.0) i ∷ gens_stay gs low.1 (b || binds x g) i
 
 -- an expression of a form that a value leaves as it is
-form_low : (m : ℕ) (e : Expr) (d : Expr-F Expr Gen EventPart) → e ≡ roll-Expr d → ((x : ℕ) (v : Value) → x < m → expr_form x v false d ≡ d) → ExprLow m e
+pub form_low : (m : ℕ) (e f : Expr) (d : Expr-F Expr Gen EventPart) → e ≡ f → roll-Expr d ≡ f → ((x : ℕ) (v : Value) → x < m → expr_form x v false d ≡ d) → ExprLow m e
 unfolding ExprLow expr_after
-form_low m e d is stays x v l = ap (expr_after x v) is ∙ (expr_is x v d ∙ ((λ i. roll-Expr (stays x v l i)) ∙ sym is))
-
-pub low_Num : (m : ℕ) (e : Expr) (n : ℤ) → e ≡ expr.Num n → ExprLow m e
-low_Num m e n is = form_low m e (Expr-F.Num n) (is ∙ sym (expr.rolls-Num n)) (λ x v l. refl)
-
-pub low_Truth : (m : ℕ) (e : Expr) (b : Bool) → e ≡ expr.Truth b → ExprLow m e
-low_Truth m e b is = form_low m e (Expr-F.Truth b) (is ∙ sym (expr.rolls-Truth b)) (λ x v l. refl)
-
-pub low_Const : (m : ℕ) (e : Expr) (k : ℕ) → e ≡ expr.Const k → ExprLow m e
-low_Const m e k is = form_low m e (Expr-F.Const k) (is ∙ sym (expr.rolls-Const k)) (λ x v l. refl)
-
-pub low_Lit : (m : ℕ) (e : Expr) (w : Value) → e ≡ expr.Lit w → ExprLow m e
-low_Lit m e w is = form_low m e (Expr-F.Lit w) (is ∙ sym (expr.rolls-Lit w)) (λ x v l. refl)
-
-pub low_SetName : (m : ℕ) (e : Expr) (d : ℕ) → e ≡ expr.SetName d → ExprLow m e
-low_SetName m e d is = form_low m e (Expr-F.SetName d) (is ∙ sym (expr.rolls-SetName d)) (λ x v l. refl)
+form_low m e f d same rolls stays x v l =
+    let is = same ∙ sym rolls in
+    ap (expr_after x v) is ∙ (expr_is x v d ∙ ((λ i. roll-Expr (stays x v l i)) ∙ sym is))
 
 abbrev name : ℕ → Expr-F Expr Gen EventPart
 name y = Expr-F.Bound y
@@ -112,45 +97,7 @@ other_name x y v l true h = let same = eqb-true y x h in absurd (omega (arith, s
 other_name x y v l false h = refl
 
 pub low_Bound : (e : Expr) (y : ℕ) → e ≡ expr.Bound y → ExprLow y e
-low_Bound e y is = form_low y e (Expr-F.Bound y) (is ∙ sym (expr.rolls-Bound y)) (λ x v l. other_name x y v l (nat_eq y x) refl)
-
-pub low_Neg : (m : ℕ) (e a : Expr) → e ≡ expr.Neg a → ExprLow m a → ExprLow m e
-low_Neg m e a is low = form_low m e (Expr-F.Neg a) (is ∙ sym (expr.rolls-Neg a)) (λ x v l i. Expr-F.Neg (expr_stays m x v l a low i))
-
-pub low_Not : (m : ℕ) (e a : Expr) → e ≡ expr.Not a → ExprLow m a → ExprLow m e
-low_Not m e a is low = form_low m e (Expr-F.Not a) (is ∙ sym (expr.rolls-Not a)) (λ x v l i. Expr-F.Not (expr_stays m x v l a low i))
-
-pub low_Binary : (m : ℕ) (e : Expr) (op : BinOp) (a b : Expr) → e ≡ expr.Binary op a b → ExprLow m a → ExprLow m b → ExprLow m e
-low_Binary m e op a b is left right = form_low m e (Expr-F.Binary op a b) (is ∙ sym (expr.rolls-Binary op a b)) (λ x v l i. Expr-F.Binary op (expr_stays m x v l a left i) (expr_stays m x v l b right i))
-
-pub low_Range : (m : ℕ) (e a b : Expr) → e ≡ expr.Range a b → ExprLow m a → ExprLow m b → ExprLow m e
-low_Range m e a b is left right = form_low m e (Expr-F.Range a b) (is ∙ sym (expr.rolls-Range a b)) (λ x v l i. Expr-F.Range (expr_stays m x v l a left i) (expr_stays m x v l b right i))
-
-pub low_SetOp : (m : ℕ) (e : Expr) (op : SetOp) (a b : Expr) → e ≡ expr.SetOp op a b → ExprLow m a → ExprLow m b → ExprLow m e
-low_SetOp m e op a b is left right = form_low m e (Expr-F.SetOp op a b) (is ∙ sym (expr.rolls-SetOp op a b)) (λ x v l i. Expr-F.SetOp op (expr_stays m x v l a left i) (expr_stays m x v l b right i))
-
-pub low_If : (m : ℕ) (e c a b : Expr) → e ≡ expr.If c a b → ExprLow m c → ExprLow m a → ExprLow m b → ExprLow m e
-low_If m e c a b is first left right =
-    form_low m e (Expr-F.If c a b) (is ∙ sym (expr.rolls-If c a b)) (λ x v l i. Expr-F.If (expr_stays m x v l c first i) (expr_stays m x v l a left i) (expr_stays m x v l b right i))
-
-pub low_Call : (m : ℕ) (e : Expr) (d : ℕ) (args : List Expr) → e ≡ expr.Call d args → AllLow ExprLow m args → ExprLow m e
-low_Call m e d args is low = form_low m e (Expr-F.Call d args) (is ∙ sym (expr.rolls-Call d args)) (λ x v l i. Expr-F.Call d (exprs_stay m x v l args low false i))
-
-pub low_Event : (m : ℕ) (e : Expr) (c : ℕ) (fields : List Expr) → e ≡ expr.Event c fields → AllLow ExprLow m fields → ExprLow m e
-low_Event m e c fields is low = form_low m e (Expr-F.Event c fields) (is ∙ sym (expr.rolls-Event c fields)) (λ x v l i. Expr-F.Event c (exprs_stay m x v l fields low false i))
-
-pub low_Display : (m : ℕ) (e : Expr) (items : List Expr) → e ≡ expr.Display items → AllLow ExprLow m items → ExprLow m e
-low_Display m e items is low = form_low m e (Expr-F.Display items) (is ∙ sym (expr.rolls-Display items)) (λ x v l i. Expr-F.Display (exprs_stay m x v l items low false i))
-
-pub low_Comp : (m : ℕ) (e : Expr) (items : List Expr) (gens : List Gen) → e ≡ expr.Comp items gens → AllLow ExprLow m items → AllLow GenLow m gens → ExprLow m e
-low_Comp m e items gens is low under =
-    form_low m e (Expr-F.Comp items gens) (is ∙ sym (expr.rolls-Comp items gens))
-    (λ x v l i. Expr-F.Comp (exprs_stay m x v l items low (any_binds x gens) i) (gens_stay m x v l gens under false i))
-
-pub low_Product : (m : ℕ) (e : Expr) (parts : List EventPart) (gens : List Gen) → e ≡ expr.Product parts gens → AllLow PartLow m parts → AllLow GenLow m gens → ExprLow m e
-low_Product m e parts gens is low under =
-    form_low m e (Expr-F.Product parts gens) (is ∙ sym (expr.rolls-Product parts gens))
-    (λ x v l i. Expr-F.Product (all_stay m x v l PartLow (part_after x v) (part_stays m x v l) parts low (any_binds x gens) i) (gens_stay m x v l gens under false i))
+low_Bound e y is = form_low y e (expr.Bound y) (Expr-F.Bound y) is (expr.rolls-Bound y) (λ x v l. other_name x y v l (nat_eq y x) refl)
 
 pub low_From : (m : ℕ) (g : Gen) (y : ℕ) (s : Expr) → g ≡ generator.From y s → ExprLow m s → GenLow m g
 unfolding GenLow gen_after

@@ -30,19 +30,7 @@ depth_of_out t = ap proc_depth (sym (roll-out-Proc t)) ∙ fold-roll-Proc ℕ pr
 pub some_depth : (d : Proc-F Proc) → 1 ≤ layer_depth d
 unfolding layer_depth
 some_depth Proc-F.Stop = omega arith
-some_depth (Proc-F.Prefix h fields q) = omega arith
-some_depth (Proc-F.Guard c q) = omega arith
-some_depth (Proc-F.If c q r) = omega arith
-some_depth (Proc-F.External qs) = omega arith
-some_depth (Proc-F.Internal qs) = omega arith
-some_depth (Proc-F.EachExternal x s q) = omega arith
-some_depth (Proc-F.EachInternal x s q) = omega arith
-some_depth (Proc-F.Hide q s) = omega arith
-some_depth (Proc-F.Rename q pairs gens) = omega arith
-some_depth (Proc-F.Call d args) = omega arith
-some_depth Proc-F.Skip = omega arith
-some_depth (Proc-F.Seq q r) = omega arith
-some_depth Proc-F.Ended = omega arith
+some_depth _ = omega arith
 
 pub put_depth : (x : ℕ) (a : Atom) (q : Proc) → proc_depth (proc_with x (One a) q) ≡ proc_depth q
 unfolding proc_after
@@ -75,29 +63,23 @@ module _ (f g : Proc → Outcome (List Move)) (n : ℕ) (agree : AgreeBelow f g 
 
   agree_layer : (p : Content) (d : Proc-F Proc) → layer_depth d ≤ n → steps_of_layer p f d ≡ steps_of_layer p g d
   unfolding layer_depth
-  agree_layer p Proc-F.Stop h = refl
-  agree_layer p (Proc-F.Prefix k fields q) h = refl
   agree_layer p (Proc-F.Guard c q) h = let e : f q ≡ g q = agree q (omega arith) in λ i. and_then (truth_in p c) (λ b. if b then e i else Ok [])
   agree_layer p (Proc-F.If c q r) h =
       let e : f q ≡ g q = agree q (omega arith) in
       let e' : f r ≡ g r = agree r (omega arith) in
       λ i. and_then (truth_in p c) (λ b. if b then e i else e' i)
   agree_layer p (Proc-F.External qs) h = agree_all qs 0 qs h
-  agree_layer p (Proc-F.Internal qs) h = refl
   agree_layer p (Proc-F.EachExternal x s q) h =
       let less : proc_depth q < n = omega arith in
       λ i. and_then (set_in p s) (λ atoms. agree_put (each_put x atoms q) 0 x q less atoms i)
-  agree_layer p (Proc-F.EachInternal x s q) h = refl
   agree_layer p (Proc-F.Hide q s) h =
       let e : f q ≡ g q = agree q (omega arith) in
       λ i. and_then (e i) (λ moves. and_then (events_in p s) (λ hidden. Ok (map (λ m. in_hiding s hidden m.0 m.1) moves)))
   agree_layer p (Proc-F.Rename q pairs gens) h =
       let e : f q ≡ g q = agree q (omega arith) in
       λ i. and_then (e i) (λ moves. and_then (renaming_in p pairs gens) (λ renamed. Ok (joined (map (λ m. in_renaming pairs gens renamed m.0 m.1) moves))))
-  agree_layer p (Proc-F.Call d args) h = refl
-  agree_layer p Proc-F.Skip h = refl
   agree_layer p (Proc-F.Seq q r) h = let e : f q ≡ g q = agree q (omega arith) in λ i. and_then (e i) (λ moves. Ok (map (λ m. in_sequence r m.0 m.1) moves))
-  agree_layer p Proc-F.Ended h = refl
+  agree_layer p _ h = refl
 
 -- two depths that are enough give the same
 pub enough : (p : Content) (n m : ℕ) (t : Proc) → proc_depth t ≤ n → proc_depth t ≤ m → steps_within p n t ≡ steps_within p m t

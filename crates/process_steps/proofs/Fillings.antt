@@ -41,8 +41,6 @@ module _ (p : Content) where
   fills_sound [] [] q n ways h w g =
       let e : (n, q) ∷ [] ≡ ways = cc in
       subst (λ (z : Way). Fills p [] [] q n z.0 z.1) (only (n, q) w ways e g) (filled q n)
-  fills_sound [] (f ∷ fields) q n ways h w g = absurd cc
-  fills_sound (set ∷ sets) [] q n ways h w g = absurd cc
   fills_sound (set ∷ sets) (field.Put e ∷ fields) q n ways h w g =
       let first = came (value_of p e) (λ v. and_then (field_place set v) (λ k. ways_to_fill p sets fields q (n * length set + k))) ways h in
       let second = came (field_place set first.value) (λ k. ways_to_fill p sets fields q (n * length set + k)) ways first.after in
@@ -57,6 +55,7 @@ module _ (p : Content) where
       let tried = is_allowed first.value next (0 + from.place) a from.list w from.among (is_given first.value a) refl from.is in
       input set sets x s fields q n w.0 w.1 first.value a (0 + from.place) first.before (subst (λ i. slice_get set i ≡ Some a) z from.at) tried.allowed
       (fills_sound sets (later_fields x a fields) (later_process x a fields q) (n * length set + (0 + from.place)) from.list tried.is w from.among)
+  fills_sound _ _ q n ways h w g = absurd cc
 
   -- each way by the relation is one
   pub fills_complete : {sets : List (List Atom)} {fields : List Field} {q : Proc} {n m : ℕ} {r : Proc} → Fills p sets fields q n m r

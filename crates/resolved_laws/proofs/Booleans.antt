@@ -1,5 +1,5 @@
 -- What `&&`, `||` and `not` say of their parts.
-use Rattle.std.proofs.Common.{Bool, true, false, ◌&&◌, ◌||◌, IsTrue, refl}
+use Rattle.std.proofs.Common.{Bool, true, false, ◌&&◌, IsTrue, refl}
 use Rattle.std.proofs.lemmas.Bool.{false≢true}
 use Rattle.csp_base.proofs.Booleans.{is_and}
 

@@ -1,5 +1,5 @@
 -- In a faultless script no definition of data reaches itself: a circle of uses would be deeper than any depth that is allowed.
-use Rattle.std.proofs.Common.{◌≡◌, ℕ, zero, suc, ◌+◌, ◌<◌, ◌≤◌, Bool, true, false, ◌&&◌, nat_lt, IsTrue, None, List, [], ◌∷◌, ◌++◌, length, refl, sym, ◌∙◌, ap, subst, arith}
+use Rattle.std.proofs.Common.{◌≡◌, ℕ, zero, suc, ◌+◌, ◌<◌, ◌≤◌, Bool, true, false, ◌&&◌, nat_lt, IsTrue, None, List, [], ◌∷◌, ◌++◌, length, refl, sym, subst, arith}
 use Rattle.std.specs.Prelude.{slice_get}
 use Rattle.std.proofs.lemmas.Bool.{false≢true}
 use Rattle.csp_program.specs.Uses.{Reaches, body_uses, def_uses}
@@ -21,7 +21,7 @@ use Rattle.script_names.specs.Typed.{Reading, Scope, names_of, reading}
 use Rattle.resolved_laws.proofs.Faultless.{AllFine, fine_three, fine_two, first_faultless, rest_faultless}
 use Rattle.resolved_laws.proofs.Leading.{Leads, leads}
 use Rattle.resolved_laws.proofs.Making.{made}
-use Rattle.resolved_laws.proofs.Walk.{counts_append}
+use Rattle.resolved_laws.proofs.Walk.{counted_on}
 use Rattle.script_names.proofs.Scopes.{names_of-parameters}
 
 -- definitions that lead on so many times
@@ -53,10 +53,8 @@ module _ (f : ℕ → ℕ) (m : Meanings) (ks : List Kind) where
       → IsUsed f (expanded_body m ks c (s (record { need = need_of c; network = network; level = 1 }) (names_of scope))) deep j
   define_used class.Data network s r scope n deep h fine shallow j t = record
       { below = (h.expr scope n network 1 (omega arith) fine).at j t; shallow = shallow }
-  define_used class.Process true s r scope n deep h fine shallow j t = absurd (false≢true t)
-  define_used class.Process false s r scope n deep h fine shallow j t = absurd (false≢true t)
-  define_used class.Unknown true s r scope n deep h fine shallow j t = absurd (false≢true t)
-  define_used class.Unknown false s r scope n deep h fine shallow j t = absurd (false≢true t)
+  define_used _ true s r scope n deep h fine shallow j t = absurd (false≢true t)
+  define_used _ false s r scope n deep h fine shallow j t = absurd (false≢true t)
 
 over : (k a b : ℕ) → k ≤ a → a < b → suc k ≤ b
 over k a b h g = omega arith
@@ -97,11 +95,6 @@ module _ (script : List Decl) (ks : List Kind) where
       (subst (λ z. AllFine ks (tree_says m t (body_place (slice_get ks n.definitions)) z)) (sym (names_of-parameters 0 params))
       (subst (λ (z : Counts). AllFine ks (tree_says m t (body_place (slice_get ks z.definitions)) params)) is w.2))
       (subst (λ (z : Counts). (is_data (kind_class (slice_get ks z.definitions)) && is_deep ks bodies z.definitions) ≡ false) is known.shallow) j u))
-  used f earlier (decl.Define x params t ∷ rest) n is h (suc i) j u =
-      one_on f n.definitions i j (said_by (slice_get (bodies_from m ks (n.definitions + 1) rest) i))
-      (used f (earlier ++ decl.Define x params t ∷ []) rest (counted n (decl.Define x params t))
-      (counts_append none_yet earlier (decl.Define x params t) ∙ ap (λ z. counted z (decl.Define x params t)) is)
-      (rest_faultless script ks earlier (decl.Define x params t) rest h) i j u)
   used f earlier (decl.Nametype x t ∷ rest) n is h zero j u =
       let known = first_faultless script ks earlier (decl.Nametype x t) rest h in
       let w = fine_two ks (declared_after (names_declared earlier) (x ∷ [])) (tree_says m t data_place []) known.fine in
@@ -110,30 +103,18 @@ module _ (script : List Decl) (ks : List Kind) where
         below = ((leads f ks m (made m ks t)).expr [] 0 false 1 (omega arith) w.1).at j u;
         shallow = subst (λ (z : Counts). is_deep ks bodies z.definitions ≡ false) is known.shallow;
       })
-  used f earlier (decl.Nametype x t ∷ rest) n is h (suc i) j u =
-      one_on f n.definitions i j (said_by (slice_get (bodies_from m ks (n.definitions + 1) rest) i))
-      (used f (earlier ++ decl.Nametype x t ∷ []) rest (counted n (decl.Nametype x t))
-      (counts_append none_yet earlier (decl.Nametype x t) ∙ ap (λ z. counted z (decl.Nametype x t)) is)
-      (rest_faultless script ks earlier (decl.Nametype x t) rest h) i j u)
   used f earlier (decl.Datatype x cs ∷ rest) n is h zero j u = absurd (false≢true u)
-  used f earlier (decl.Datatype x cs ∷ rest) n is h (suc i) j u =
-      one_on f n.definitions i j (said_by (slice_get (bodies_from m ks (n.definitions + 1) rest) i))
-      (used f (earlier ++ decl.Datatype x cs ∷ []) rest (counted n (decl.Datatype x cs))
-      (counts_append none_yet earlier (decl.Datatype x cs) ∙ ap (λ z. counted z (decl.Datatype x cs)) is)
-      (rest_faultless script ks earlier (decl.Datatype x cs) rest h) i j u)
   used f earlier (decl.Channel xs types ∷ rest) n is h i j u =
-      used f (earlier ++ decl.Channel xs types ∷ []) rest (counted n (decl.Channel xs types))
-      (counts_append none_yet earlier (decl.Channel xs types) ∙ ap (λ z. counted z (decl.Channel xs types)) is)
-      (rest_faultless script ks earlier (decl.Channel xs types) rest h) i j u
+      used f (earlier ++ decl.Channel xs types ∷ []) rest (counted n (decl.Channel xs types)) (counted_on earlier (decl.Channel xs types) n is) (rest_faultless script ks earlier (decl.Channel xs types) rest h) i j u
   used f earlier (decl.Assert t ∷ rest) n is h i j u =
-      used f (earlier ++ decl.Assert t ∷ []) rest n (counts_append none_yet earlier (decl.Assert t) ∙ is)
-      (rest_faultless script ks earlier (decl.Assert t) rest h) i j u
+      used f (earlier ++ decl.Assert t ∷ []) rest (counted n (decl.Assert t)) (counted_on earlier (decl.Assert t) n is) (rest_faultless script ks earlier (decl.Assert t) rest h) i j u
   used f earlier (decl.Roles names ∷ rest) n is h i j u =
-      used f (earlier ++ decl.Roles names ∷ []) rest n (counts_append none_yet earlier (decl.Roles names) ∙ is)
-      (rest_faultless script ks earlier (decl.Roles names) rest h) i j u
+      used f (earlier ++ decl.Roles names ∷ []) rest (counted n (decl.Roles names)) (counted_on earlier (decl.Roles names) n is) (rest_faultless script ks earlier (decl.Roles names) rest h) i j u
   used f earlier (decl.Resource names ∷ rest) n is h i j u =
-      used f (earlier ++ decl.Resource names ∷ []) rest n (counts_append none_yet earlier (decl.Resource names) ∙ is)
-      (rest_faultless script ks earlier (decl.Resource names) rest h) i j u
+      used f (earlier ++ decl.Resource names ∷ []) rest (counted n (decl.Resource names)) (counted_on earlier (decl.Resource names) n is) (rest_faultless script ks earlier (decl.Resource names) rest h) i j u
+  used f earlier (d ∷ rest) n is h (suc i) j u =
+      one_on f n.definitions i j (said_by (slice_get (bodies_from m ks (n.definitions + 1) rest) i))
+      (used f (earlier ++ d ∷ []) rest (counted n d) (counted_on earlier d n is) (rest_faultless script ks earlier d rest h) i j u)
 
   abbrev defs : List Def
   defs = definitions_from m ks none_yet script

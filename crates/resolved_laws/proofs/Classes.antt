@@ -44,54 +44,24 @@ known_append (e ∷ es) gs h g = (h.0, known_append es gs h.1 g)
 
 module _ (ks : List Kind) where
   name_known : (x : Name) (s : Sense) (place : Place) → IsFine ks (uses x s (how.Alone place)) → IsKnown (end_of_name s)
-  name_known x sense.Bound place h = tt
-  name_known x (sense.Declared (entity.Channel c n)) place h = tt
-  name_known x (sense.Declared (entity.Constant k)) place h = tt
-  name_known x (sense.Declared (entity.Set d)) place h = tt
-  name_known x (sense.Declared (entity.Definition d n)) place h = tt
   name_known x sense.Unknown place h = absurd (let g = h.known in cc)
+  name_known x (sense.Declared (entity.Channel c n)) place h = tt
+  name_known x _ place h = tt
 
   call_known : (x : Name) (s : Sense) (n : ℕ) (place : Place) → IsFine ks (uses x s (how.Called n place)) → IsKnown (end_of_call s)
-  call_known x sense.Bound n place h = absurd (let g = h.kind in cc)
-  call_known x (sense.Declared (entity.Channel c k)) n place h = absurd (let g = h.kind in cc)
-  call_known x (sense.Declared (entity.Constant k)) n place h = absurd (let g = h.kind in cc)
-  call_known x (sense.Declared (entity.Set d)) n place h = absurd (let g = h.kind in cc)
   call_known x (sense.Declared (entity.Definition d k)) n place h = tt
   call_known x sense.Unknown n place h = absurd (let g = h.known in cc)
+  call_known x _ n place h = absurd (let g = h.kind in cc)
 
   module _ (m : Meanings) where
     known : {s : Said} {r : Reading} {e : Ends} → Reads m ks s r e → (place : Place) (names : List Name) → AllFine ks (s place names) → AllKnown (e names)
-    known (f.num k) place names h = (tt, tt)
-    known f.truth place names h = (tt, tt)
-    known f.falsehood place names h = (tt, tt)
     known (f.name x) place names h = (name_known x _ place h.0, tt)
     known (f.call x {args = ss} g) place names h = (call_known x _ (length ss) place h.0, tt)
-    known (f.dotted c g) place names h = (tt, tt)
-    known (f.negative g) place names h = (tt, tt)
-    known (f.negated g) place names h = (tt, tt)
-    known (f.binary op g k) place names h = (tt, tt)
     known (f.either_part {p'' = e} {q'' = e'} g k j) place names h =
         let w = fine_three ks _ _ _ h in
         known_append (e names) (e' names) (known k (record { need = place.need; network = place.network; level = place.level + 1 }) names w.1)
         (known j (record { need = place.need; network = place.network; level = place.level + 1 }) names w.2)
-    known (f.display g) place names h = (tt, tt)
-    known (f.span g k) place names h = (tt, tt)
-    known (f.comprehension g k) place names h = (tt, tt)
-    known (f.production g k) place names h = (tt, tt)
-    known (f.set_operator op g k) place names h = (tt, tt)
-    known f.stop place names h = (tt, tt)
-    known f.skip place names h = (tt, tt)
-    known (f.prefix g k) place names h = (tt, tt)
-    known (f.guard g k) place names h = (tt, tt)
-    known (f.external g) place names h = (tt, tt)
-    known (f.internal g) place names h = (tt, tt)
-    known (f.each_external x g k) place names h = (tt, tt)
-    known (f.each_internal x g k) place names h = (tt, tt)
-    known (f.pair g k j l) place names h = (tt, tt)
-    known (f.each_parallel x g k j) place names h = (tt, tt)
-    known (f.sequence g k) place names h = (tt, tt)
-    known (f.hiding g k) place names h = (tt, tt)
-    known (f.renaming g k j) place names h = (tt, tt)
+    known _ place names h = (tt, tt)
 
 each_append : (all rest : List (List End)) → EachKnown all → EachKnown rest → EachKnown (all ++ rest)
 each_append [] rest h g = g

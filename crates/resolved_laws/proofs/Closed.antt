@@ -151,71 +151,14 @@ pub record Closed (r : Reading) : Type 0 where
   pub proc : (scope : Scope) (n : ℕ) → IsWithin (proc_free (r.proc scope n)) scope
   pub net : (scope : Scope) (n : ℕ) → IsWithin (net_free (r.net scope n)) scope
 
-abbrev AllClosed : List Reading → Type 0
-AllClosed [] = Unit {0}
-AllClosed (r ∷ rs) = Closed r × AllClosed rs
-
 -- what a field binds is bound behind it
 abbrev ClosedField : Binding Field → Type 0
 ClosedField b = (scope : Scope) (n : ℕ) (fields : List Field) (inner : Names) → IsWithin (before fields inner) (b.after scope n)
     → IsWithin (before (b.here scope n ∷ fields) inner) scope
 
-abbrev ClosedFields : List (Binding Field) → Type 0
-ClosedFields [] = Unit {0}
-ClosedFields (b ∷ bs) = ClosedField b × ClosedFields bs
-
 abbrev ClosedGen : Binding Gen → Type 0
 ClosedGen b = (scope : Scope) (n : ℕ) (gens : List free.Binding) (inner : Names) → IsWithin (free.under gens inner) (b.after scope n)
     → IsWithin (free.under (gen_binding (b.here scope n) ∷ gens) inner) scope
-
-abbrev ClosedGens : List (Binding Gen) → Type 0
-ClosedGens [] = Unit {0}
-ClosedGens (b ∷ bs) = ClosedGen b × ClosedGens bs
-
-abbrev ClosedParts : List (Front Reading) → Type 0
-ClosedParts [] = Unit {0}
-ClosedParts (part ∷ parts) = AllClosed part.fields × ClosedParts parts
-
-abbrev ClosedPairs : List (Front Reading × Front Reading) → Type 0
-ClosedPairs [] = Unit {0}
-ClosedPairs (pair ∷ pairs) = AllClosed pair.0.fields × AllClosed pair.1.fields × ClosedPairs pairs
-
-exprs_within : (rs : List Reading) → AllClosed rs → (scope : Scope) (n : ℕ) → IsWithin (any_of (map expr_free (exprs rs scope n))) scope
-exprs_within [] h scope n = nowhere_within scope
-exprs_within (r ∷ rs) h scope n = either_within (h.0.expr scope n) (exprs_within rs h.1 scope (n + r.binds))
-
-procs_within : (rs : List Reading) → AllClosed rs → (scope : Scope) (n : ℕ) → IsWithin (any_of (map proc_free (procs rs scope n))) scope
-procs_within [] h scope n = nowhere_within scope
-procs_within (r ∷ rs) h scope n = either_within (h.0.proc scope n) (procs_within rs h.1 scope (n + r.binds))
-
-fields_within : (bs : List (Binding Field)) → ClosedFields bs → (scope : Scope) (n : ℕ) (inner : Names) → IsWithin inner (under bs scope n)
-    → IsWithin (before (bindings bs scope n) inner) scope
-fields_within [] h scope n inner w = w
-fields_within (b ∷ bs) h scope n inner w = h.0 scope n (bindings bs (b.after scope n) (n + b.binds)) inner
-    (fields_within bs h.1 (b.after scope n) (n + b.binds) inner w)
-
-gens_within : (bs : List (Binding Gen)) → ClosedGens bs → (scope : Scope) (n : ℕ) (inner : Names) → IsWithin inner (under bs scope n)
-    → IsWithin (free.under (map gen_binding (bindings bs scope n)) inner) scope
-gens_within [] h scope n inner w = w
-gens_within (b ∷ bs) h scope n inner w =
-    h.0 scope n (map gen_binding (bindings bs (b.after scope n) (n + b.binds))) inner (gens_within bs h.1 (b.after scope n) (n + b.binds) inner w)
-
-module _ (m : Meanings) (ks : List Kind) where
-  parts_within : (rs : List (Front Reading)) → ClosedParts rs → (scope : Scope) (n : ℕ) → IsWithin (any_of (map part_free (parts m ks rs scope n))) scope
-  parts_within [] h scope n = nowhere_within scope
-  parts_within (r ∷ rs) h scope n =
-      either_within (part_within (channel_number (m r.name)) (exprs r.fields scope n) (exprs_within r.fields h.0 scope n))
-      (parts_within rs h.1 scope (n + all_bind r.fields))
-
-  pairs_within : (rs : List (Front Reading × Front Reading)) → ClosedPairs rs → (scope : Scope) (n : ℕ)
-      → IsWithin (any_of (map pair_free (pairs m ks rs scope n))) scope
-  pairs_within [] h scope n = nowhere_within scope
-  pairs_within (r ∷ rs) h scope n =
-      either_within (either_within
-      (part_within (channel_number (m r.0.name)) (exprs r.0.fields scope n) (exprs_within r.0.fields h.0 scope n))
-      (part_within (channel_number (m r.1.name)) (exprs r.1.fields scope (n + all_bind r.0.fields))
-      (exprs_within r.1.fields h.1 scope (n + all_bind r.0.fields))))
-      (pairs_within rs h.2 scope (n + all_bind r.0.fields + all_bind r.1.fields))
 
 put_closed : (r : Reading) → Closed r → (scope : Scope) (n : ℕ) (fields : List Field) (inner : Names) → IsWithin (before fields inner) scope
     → IsWithin (before (field.Put (r.expr scope n) ∷ fields) inner) scope
@@ -288,11 +231,11 @@ module _ (m : Meanings) (ks : List Kind) where
         (λ scope n. call_within (definition_number (m x)) [] scope (nowhere_within scope))
         (λ scope n. net_call_within (definition_number (m x)) [] scope (nowhere_within scope))
     closed (f.call x {args' = args} h) = of_network _ _ _ _ _
-        (λ scope n. expr_within _ (expr.rolls-Call _ _) (exprs_within args (all_closed h) scope n))
-        (λ scope n. call_within (definition_number (m x)) (exprs args scope n) scope (exprs_within args (all_closed h) scope n))
-        (λ scope n. net_call_within (definition_number (m x)) (exprs args scope n) scope (exprs_within args (all_closed h) scope n))
+        (λ scope n. expr_within _ (expr.rolls-Call _ _) (exprs_within h scope n))
+        (λ scope n. call_within (definition_number (m x)) (exprs args scope n) scope (exprs_within h scope n))
+        (λ scope n. net_call_within (definition_number (m x)) (exprs args scope n) scope (exprs_within h scope n))
     closed (f.dotted c {fields' = fields} h) = of_data _ _
-        (λ scope n. expr_within _ (expr.rolls-Event _ _) (exprs_within fields (all_closed h) scope n))
+        (λ scope n. expr_within _ (expr.rolls-Event _ _) (exprs_within h scope n))
     closed (f.negative {a' = a} h) = of_data _ _
         (λ scope n. expr_within _ (expr.rolls-Neg _) ((closed h).expr scope n))
     closed (f.negated {a' = a} h) = of_data _ _
@@ -304,30 +247,30 @@ module _ (m : Meanings) (ks : List Kind) where
         (λ scope n. proc_within _ (proc.rolls-If _ _ _) (either_within ((closed h).expr scope n) (either_within ((closed g).proc scope (n + c.binds)) ((closed k).proc scope (n + c.binds + p.binds)))))
         (λ scope n. net_within _ (net.rolls-If _ _ _) (either_within ((closed h).expr scope n) (either_within ((closed g).net scope (n + c.binds)) ((closed k).net scope (n + c.binds + p.binds)))))
     closed (f.display {items' = items} h) = of_data _ _
-        (λ scope n. expr_within _ (expr.rolls-Display _) (exprs_within items (all_closed h) scope n))
+        (λ scope n. expr_within _ (expr.rolls-Display _) (exprs_within h scope n))
     closed (f.span {a' = a} {b' = b} h g) = of_data _ _
         (λ scope n. expr_within _ (expr.rolls-Range _ _) (either_within ((closed h).expr scope n) ((closed g).expr scope (n + a.binds))))
     closed (f.comprehension {items' = items} {gens' = gens} h g) = of_data _ _
-        (λ scope n. expr_within _ (expr.rolls-Comp _ _) (gens_within gens (gens_closed g) scope (n + all_bind items) (any_of (map expr_free (exprs items (under gens scope (n + all_bind items)) n)))
-        (exprs_within items (all_closed h) (under gens scope (n + all_bind items)) n)))
+        (λ scope n. expr_within _ (expr.rolls-Comp _ _) (gens_within g scope (n + all_bind items) (any_of (map expr_free (exprs items (under gens scope (n + all_bind items)) n)))
+        (exprs_within h (under gens scope (n + all_bind items)) n)))
     closed (f.production {parts' = fronts} {gens' = gens} h g) = of_data _ _
-        (λ scope n. expr_within _ (expr.rolls-Product _ _) (gens_within gens (gens_closed g) scope (n + parts_bind fronts)
+        (λ scope n. expr_within _ (expr.rolls-Product _ _) (gens_within g scope (n + parts_bind fronts)
         (any_of (map part_free (parts m ks fronts (under gens scope (n + parts_bind fronts)) n)))
-        (parts_within m ks fronts (parts_closed h) (under gens scope (n + parts_bind fronts)) n)))
+        (parts_within h (under gens scope (n + parts_bind fronts)) n)))
     closed (f.set_operator op {a' = a} {b' = b} h g) = of_data _ _
         (λ scope n. expr_within _ (expr.rolls-SetOp _ _ _) (either_within ((closed h).expr scope n) ((closed g).expr scope (n + a.binds))))
     closed f.stop = of_process _ _ stop_within
     closed f.skip = of_process _ _ (λ scope n. proc_within _ proc.rolls-Skip (nowhere_within scope))
     closed (f.prefix {p' = p} (f.head_with x {fs = fs} h) g) = of_process _ _
         (λ scope n. proc_within _ (proc.rolls-Prefix _ _ _) (either_within (head_within scope x (number_of scope x) (m x) refl)
-        (fields_within fs (fields_closed h) scope n (proc_free (p.proc (under fs scope n) (n + bindings_bind fs)))
+        (fields_within h scope n (proc_free (p.proc (under fs scope n) (n + bindings_bind fs)))
         ((closed g).proc (under fs scope n) (n + bindings_bind fs)))))
     closed (f.guard {c' = c} {p' = p} h g) = of_process _ _
         (λ scope n. proc_within _ (proc.rolls-Guard _ _) (either_within ((closed h).expr scope n) ((closed g).proc scope (n + c.binds))))
     closed (f.external {ps' = ps} h) = of_process _ _
-        (λ scope n. proc_within _ (proc.rolls-External _) (procs_within ps (all_closed h) scope n))
+        (λ scope n. proc_within _ (proc.rolls-External _) (procs_within h scope n))
     closed (f.internal {ps' = ps} h) = of_process _ _
-        (λ scope n. proc_within _ (proc.rolls-Internal _) (procs_within ps (all_closed h) scope n))
+        (λ scope n. proc_within _ (proc.rolls-Internal _) (procs_within h scope n))
     closed (f.each_external x {s' = s} {p' = p} h g) = of_process _ _
         (λ scope n. proc_within _ (proc.rolls-EachExternal _ _ _) (either_within ((closed h).expr scope (n + 1)) (apart_within x n ((closed g).proc (with scope x n) (n + 1 + s.binds)))))
     closed (f.each_internal x {s' = s} {p' = p} h g) = of_process _ _
@@ -344,13 +287,17 @@ module _ (m : Meanings) (ks : List Kind) where
         (λ scope n. proc_within _ (proc.rolls-Hide _ _) (either_within ((closed h).proc scope n) ((closed g).expr scope (n + p.binds))))
     closed (f.renaming {p' = p} {pairs' = fronts} {gens' = gens} h g k) = of_process _ _
         (λ scope n. proc_within _ (proc.rolls-Rename _ _ _) (either_within ((closed h).proc scope n)
-        (gens_within gens (gens_closed k) scope (n + p.binds + pairs_bind fronts)
+        (gens_within k scope (n + p.binds + pairs_bind fronts)
         (any_of (map pair_free (pairs m ks fronts (under gens scope (n + p.binds + pairs_bind fronts)) (n + p.binds))))
-        (pairs_within m ks fronts (pairs_closed g) (under gens scope (n + p.binds + pairs_bind fronts)) (n + p.binds)))))
+        (pairs_within g (under gens scope (n + p.binds + pairs_bind fronts)) (n + p.binds)))))
 
-    all_closed : {ss : List Said} {rs : List Reading} → AllRead m ks ss rs → AllClosed rs
-    all_closed f.no_trees = tt
-    all_closed (f.more_trees h hs) = (closed h, all_closed hs)
+    exprs_within : {ss : List Said} {rs : List Reading} → AllRead m ks ss rs → (scope : Scope) (n : ℕ) → IsWithin (any_of (map expr_free (exprs rs scope n))) scope
+    exprs_within f.no_trees scope n = nowhere_within scope
+    exprs_within (f.more_trees {r = r} h hs) scope n = either_within ((closed h).expr scope n) (exprs_within hs scope (n + r.binds))
+
+    procs_within : {ss : List Said} {rs : List Reading} → AllRead m ks ss rs → (scope : Scope) (n : ℕ) → IsWithin (any_of (map proc_free (procs rs scope n))) scope
+    procs_within f.no_trees scope n = nowhere_within scope
+    procs_within (f.more_trees {r = r} h hs) scope n = either_within ((closed h).proc scope n) (procs_within hs scope (n + r.binds))
 
     field_closed : {b : Binder} {g : Binding Field} → FieldRead m ks b g → ClosedField g
     field_closed (f.dot {a' = a} h) = put_closed a (closed h)
@@ -358,25 +305,32 @@ module _ (m : Meanings) (ks : List Kind) where
     field_closed (f.input x) = λ scope n fields inner w. apart_within x n w
     field_closed (f.input_from x h) = λ scope n fields inner w. either_within ((closed h).expr scope (n + 1)) (apart_within x n w)
 
-    fields_closed : {bs : List Binder} {gs : List (Binding Field)} → FieldsRead m ks bs gs → ClosedFields gs
-    fields_closed f.no_fields = tt
-    fields_closed (f.more_fields h hs) = (field_closed h, fields_closed hs)
+    fields_within : {bs : List Binder} {gs : List (Binding Field)} → FieldsRead m ks bs gs → (scope : Scope) (n : ℕ) (inner : Names) → IsWithin inner (under gs scope n)
+        → IsWithin (before (bindings gs scope n) inner) scope
+    fields_within f.no_fields scope n inner w = w
+    fields_within (f.more_fields {f = g} {fs = gs} h hs) scope n inner w =
+        field_closed h scope n (bindings gs (g.after scope n) (n + g.binds)) inner (fields_within hs (g.after scope n) (n + g.binds) inner w)
 
     gen_closed : {b : Binder} {g : Binding Gen} → GenRead m ks b g → ClosedGen g
     gen_closed (f.from x {a' = a} h) = λ scope n gens inner w. gen_from x n (a.expr scope (n + 1)) scope gens inner ((closed h).expr scope (n + 1)) w
     gen_closed (f.condition {a' = a} h) = λ scope n gens inner w. gen_condition (a.expr scope n) scope gens inner ((closed h).expr scope n) w
 
-    gens_closed : {bs : List Binder} {gs : List (Binding Gen)} → GensRead m ks bs gs → ClosedGens gs
-    gens_closed f.no_gens = tt
-    gens_closed (f.more_gens h hs) = (gen_closed h, gens_closed hs)
+    gens_within : {bs : List Binder} {gs : List (Binding Gen)} → GensRead m ks bs gs → (scope : Scope) (n : ℕ) (inner : Names) → IsWithin inner (under gs scope n)
+        → IsWithin (free.under (map gen_binding (bindings gs scope n)) inner) scope
+    gens_within f.no_gens scope n inner w = w
+    gens_within (f.more_gens {g = g} {gs = gs} h hs) scope n inner w =
+        gen_closed h scope n (map gen_binding (bindings gs (g.after scope n) (n + g.binds))) inner (gens_within hs (g.after scope n) (n + g.binds) inner w)
 
-    part_closed : {s : Fields Said} {r : Front Reading} → PartRead m ks s r → AllClosed r.fields
-    part_closed (f.front_with x h) = all_closed h
+    part_closed : {s : Fields Said} {r : Front Reading} → PartRead m ks s r → (scope : Scope) (n : ℕ) → IsWithin (part_free (part m ks r scope n)) scope
+    part_closed (f.front_with x {rs = rs} h) scope n = part_within (channel_number (m x)) (exprs rs scope n) (exprs_within h scope n)
 
-    parts_closed : {ss : List (Fields Said)} {rs : List (Front Reading)} → PartsRead m ks ss rs → ClosedParts rs
-    parts_closed f.no_parts = tt
-    parts_closed (f.more_parts h hs) = (part_closed h, parts_closed hs)
+    parts_within : {ss : List (Fields Said)} {rs : List (Front Reading)} → PartsRead m ks ss rs → (scope : Scope) (n : ℕ) → IsWithin (any_of (map part_free (parts m ks rs scope n))) scope
+    parts_within f.no_parts scope n = nowhere_within scope
+    parts_within (f.more_parts {r = r} h hs) scope n = either_within (part_closed h scope n) (parts_within hs scope (n + all_bind r.fields))
 
-    pairs_closed : {ss : List (Fields Said × Fields Said)} {rs : List (Front Reading × Front Reading)} → PairsRead m ks ss rs → ClosedPairs rs
-    pairs_closed f.no_pairs = tt
-    pairs_closed (f.more_pairs h g hs) = (part_closed h, part_closed g, pairs_closed hs)
+    pairs_within : {ss : List (Fields Said × Fields Said)} {rs : List (Front Reading × Front Reading)} → PairsRead m ks ss rs → (scope : Scope) (n : ℕ)
+        → IsWithin (any_of (map pair_free (pairs m ks rs scope n))) scope
+    pairs_within f.no_pairs scope n = nowhere_within scope
+    pairs_within (f.more_pairs {r = r} {r' = r'} h g hs) scope n =
+        either_within (either_within (part_closed h scope n) (part_closed g scope (n + all_bind r.fields)))
+        (pairs_within hs scope (n + all_bind r.fields + all_bind r'.fields))

@@ -43,19 +43,12 @@ module _ (m : Meanings) (ks : List Kind) where
   pub channels_closed : (decls : List Decl) → AllClosedTypes (flat_map (channels_of m ks) decls)
   channels_closed [] = tt
   channels_closed (decl.Channel xs types ∷ decls) = channel_closed xs types (flat_map (channels_of m ks) decls) (channels_closed decls)
-  channels_closed (decl.Define x params t ∷ decls) = channels_closed decls
-  channels_closed (decl.Nametype x t ∷ decls) = channels_closed decls
-  channels_closed (decl.Datatype x cs ∷ decls) = channels_closed decls
-  channels_closed (decl.Assert t ∷ decls) = channels_closed decls
-  channels_closed (decl.Roles names ∷ decls) = channels_closed decls
-  channels_closed (decl.Resource names ∷ decls) = channels_closed decls
+  channels_closed (_ ∷ decls) = channels_closed decls
 
   body_closed : (c : Class) (network : Bool) (r : Reading) (n : ℕ) (scope : Scope) → Closed r → IsWithin (body_free (body_of m ks c network r n scope)) scope
   body_closed class.Data network r n scope h = h.expr scope n
-  body_closed class.Process true r n scope h = h.net scope n
-  body_closed class.Process false r n scope h = h.proc scope n
-  body_closed class.Unknown true r n scope h = h.net scope n
-  body_closed class.Unknown false r n scope h = h.proc scope n
+  body_closed _ true r n scope h = h.net scope n
+  body_closed _ false r n scope h = h.proc scope n
 
   pub defs_closed : (n : Counts) (decls : List Decl) → AllClosedBodies (definitions_from m ks n decls)
   defs_closed n [] = tt
@@ -67,10 +60,7 @@ module _ (m : Meanings) (ks : List Kind) where
   )
   defs_closed n (decl.Nametype x t ∷ decls) = (((closed m ks (made m ks t)).expr [] 0).at, defs_closed (counted n (decl.Nametype x t)) decls)
   defs_closed n (decl.Datatype x cs ∷ decls) = (λ y free. absurd (false≢true free), defs_closed (counted n (decl.Datatype x cs)) decls)
-  defs_closed n (decl.Channel xs types ∷ decls) = defs_closed (counted n (decl.Channel xs types)) decls
-  defs_closed n (decl.Assert t ∷ decls) = defs_closed n decls
-  defs_closed n (decl.Roles names ∷ decls) = defs_closed n decls
-  defs_closed n (decl.Resource names ∷ decls) = defs_closed n decls
+  defs_closed n (d ∷ decls) = defs_closed (counted n d) decls
 
   pub root_closed : (root : Option Tree) → IsClosed (net_free (root_of m ks root))
   root_closed None = nothing_free (net_free (net.Leaf proc.Stop)) (leaf_stop [] 0)

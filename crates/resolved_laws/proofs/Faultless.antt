@@ -81,12 +81,7 @@ faultless : (ks : List Kind) (os : List Occurrence) (deep : Bool) (a b c d e f :
     → (e ≡ None → list_any (is_inside ks) os ≡ false) → (f ≡ None → deep ≡ false) → IsFaultless ks os deep
 faultless ks os deep None None None None None None h ua uc ud ue uf = record
     { fine = all_fine ks os (ua refl) (uc refl) (ud refl) (ue refl); shallow = uf refl }
-faultless ks os deep (Some x) b c d e f h ua uc ud ue uf = absurd (cc)
-faultless ks os deep None (Some x) c d e f h ua uc ud ue uf = absurd (cc)
-faultless ks os deep None None (Some x) d e f h ua uc ud ue uf = absurd (cc)
-faultless ks os deep None None None (Some x) e f h ua uc ud ue uf = absurd (cc)
-faultless ks os deep None None None None (Some x) f h ua uc ud ue uf = absurd (cc)
-faultless ks os deep None None None None None (Some x) h ua uc ud ue uf = absurd (cc)
+faultless ks os deep _ _ _ _ _ _ h ua uc ud ue uf = absurd (cc)
 
 module _ (script : List Decl) (ks : List Kind) where
   -- what is known of a declaration that stands after these others, where they have no fault

@@ -81,18 +81,16 @@ module _ (p : Content) (ks : List Kind) where
   has_process : (d n : ℕ) (c : Class) (network : Bool) → IsTrue (takes (is_body_of c network) n (slice_get p.defs d)) → clashes ks c need.Process ≡ false
       → network ≡ false
       → IsTrue (takes is_process n (slice_get p.defs d))
-  has_process d n class.Data network h g k = absurd (cc)
-  has_process d n class.Process true h g k = absurd (cc)
   has_process d n class.Process false h g k = h
   has_process d n class.Unknown network h g k = absurd (takes_none n (slice_get p.defs d) h)
+  has_process d n _ _ h g k = absurd (cc)
 
   has_network : (d n : ℕ) (c : Class) (network : Bool) → IsTrue (takes (is_body_of c network) n (slice_get p.defs d)) → clashes ks c need.Process ≡ false
       → network ≡ true
       → IsTrue (takes order.is_network n (slice_get p.defs d))
-  has_network d n class.Data network h g k = absurd (cc)
   has_network d n class.Process true h g k = h
-  has_network d n class.Process false h g k = absurd (cc)
   has_network d n class.Unknown network h g k = absurd (takes_none n (slice_get p.defs d) h)
+  has_network d n _ _ h g k = absurd (cc)
 
   pub has_datum : (d n : ℕ) (c : Class) (network : Bool) → IsTrue (takes (is_body_of c network) n (slice_get p.defs d)) → clashes ks c need.Data ≡ false
       → IsTrue (takes is_datum n (slice_get p.defs d))
@@ -101,16 +99,9 @@ module _ (p : Content) (ks : List Kind) where
   has_datum d n class.Unknown network h g = absurd (takes_none n (slice_get p.defs d) h)
 
   component_body : (network : Bool) (b : Body) → IsTrue (is_body_of class.Process network b) → IsTrue (is_component b)
-  component_body true (body.Datum e) h = absurd (false≢true h)
-  component_body true (body.Nametype e) h = absurd (false≢true h)
-  component_body true (body.Datatype cs) h = absurd (false≢true h)
-  component_body true (body.Process q) h = absurd (false≢true h)
   component_body true (body.Network q) h = refl
-  component_body false (body.Datum e) h = absurd (false≢true h)
-  component_body false (body.Nametype e) h = absurd (false≢true h)
-  component_body false (body.Datatype cs) h = absurd (false≢true h)
   component_body false (body.Process q) h = refl
-  component_body false (body.Network q) h = absurd (false≢true h)
+  component_body _ _ h = absurd (false≢true h)
 
   takes_component : (network : Bool) (n : ℕ) (def : Option Def) → IsTrue (takes (is_body_of class.Process network) n def) → IsTrue (takes is_component n def)
   takes_component network n None h = h
@@ -148,19 +139,15 @@ module _ (p : Content) (ks : List Kind) where
   called_entity : (x : Name) (e : Option Entity) (k : ℕ) (place : Place) → IsFine ks (uses x (sense_of e) (how.Called k place))
       → IsDefUse e (sense_of e) k place
   called_entity x None k place h = absurd (let g = h.known in cc)
-  called_entity x (Some (entity.Channel c n)) k place h = absurd (let g = h.kind in cc)
-  called_entity x (Some (entity.Constant c)) k place h = absurd (let g = h.kind in cc)
-  called_entity x (Some (entity.Set d)) k place h = absurd (let g = h.kind in cc)
   called_entity x (Some (entity.Definition d n)) k place h = def_use x d n k place h.count h.kind h.inside
+  called_entity x _ k place h = absurd (let g = h.kind in cc)
 
   alone_entity : (x : Name) (e : Option Entity) (network : Bool) (level : ℕ) → IsFine ks (uses x (sense_of e) (how.Alone (process_at network level)))
       → IsDefUse e (sense_of e) 0 (process_at network level)
   alone_entity x None b l h = absurd (let g = h.known in cc)
-  alone_entity x (Some (entity.Channel c n)) b l h = absurd (let g = h.kind in cc)
-  alone_entity x (Some (entity.Constant c)) b l h = absurd (let g = h.kind in cc)
-  alone_entity x (Some (entity.Set d)) b l h = absurd (let g = h.kind in cc)
   alone_entity x (Some (entity.Definition d n)) b l h =
       def_use x d n 0 (process_at b l) (ap (λ t. when t x) (sym (or-false (not (nat_eq n 0)))) ∙ h.count) h.kind h.inside
+  alone_entity x _ b l h = absurd (let g = h.kind in cc)
 
   pub called : {m : Meanings} {x : Name} {o : Option ℕ} {s : Sense} → NameIs m x o s → (k : ℕ) (place : Place) → IsFine ks (uses x s (how.Called k place))
       → IsDefUse (m x) s k place

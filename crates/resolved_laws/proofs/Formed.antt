@@ -28,35 +28,27 @@ parallel_end names = end.Parallel ∷ []
 
 mutual
   pub data Reads (m : Meanings) (ks : List Kind) : Said → Reading → Ends → Type 0 where
-    num : (k : ℕ) →
-        Reads m ks (tree_says_of_layer m (Tree-F.Num k)) (reading_of_layer m ks (Tree-F.Num k)) data_end
+    num : (k : ℕ) → Reads m ks (tree_says_of_layer m (Tree-F.Num k)) (reading_of_layer m ks (Tree-F.Num k)) data_end
     truth : Reads m ks (tree_says_of_layer m Tree-F.True) (reading_of_layer m ks Tree-F.True) data_end
     falsehood : Reads m ks (tree_says_of_layer m Tree-F.False) (reading_of_layer m ks Tree-F.False) data_end
     name : (x : Name) →
         Reads m ks (tree_says_of_layer m (Tree-F.Name x)) (reading_of_layer m ks (Tree-F.Name x)) (λ names. end_of_name (sense_in m names x) ∷ [])
-    call : (f : Name) {args : List Said} {args' : List Reading} →
-        AllRead m ks args args' →
+    call : (f : Name) {args : List Said} {args' : List Reading} → AllRead m ks args args' →
         Reads m ks (tree_says_of_layer m (Tree-F.Call f args)) (reading_of_layer m ks (Tree-F.Call f args')) (λ names. end_of_call (sense_in m names f) ∷ [])
-    dotted : (c : Name) {fields : List Said} {fields' : List Reading} →
-        AllRead m ks fields fields' →
+    dotted : (c : Name) {fields : List Said} {fields' : List Reading} → AllRead m ks fields fields' →
         Reads m ks (tree_says_of_layer m (Tree-F.«Tree::Dot» c fields)) (reading_of_layer m ks (Tree-F.«Tree::Dot» c fields')) data_end
-    negative : {a : Said} {a' : Reading} {a'' : Ends} →
-        Reads m ks a a' a'' →
+    negative : {a : Said} {a' : Reading} {a'' : Ends} → Reads m ks a a' a'' →
         Reads m ks (tree_says_of_layer m (Tree-F.Neg a)) (reading_of_layer m ks (Tree-F.Neg a')) data_end
-    negated : {a : Said} {a' : Reading} {a'' : Ends} →
-        Reads m ks a a' a'' →
+    negated : {a : Said} {a' : Reading} {a'' : Ends} → Reads m ks a a' a'' →
         Reads m ks (tree_says_of_layer m (Tree-F.Not a)) (reading_of_layer m ks (Tree-F.Not a')) data_end
-    binary : (op : BinOp) {a : Said} {a' : Reading} {a'' : Ends} {b : Said} {b' : Reading} {b'' : Ends} →
-        Reads m ks a a' a'' → Reads m ks b b' b'' →
+    binary : (op : BinOp) {a : Said} {a' : Reading} {a'' : Ends} {b : Said} {b' : Reading} {b'' : Ends} → Reads m ks a a' a'' → Reads m ks b b' b'' →
         Reads m ks (tree_says_of_layer m (Tree-F.Binary op a b)) (reading_of_layer m ks (Tree-F.Binary op a' b')) data_end
     either_part : {c : Said} {c' : Reading} {c'' : Ends} {p : Said} {p' : Reading} {p'' : Ends} {q : Said} {q' : Reading} {q'' : Ends} →
         Reads m ks c c' c'' → Reads m ks p p' p'' → Reads m ks q q' q'' →
         Reads m ks (tree_says_of_layer m (Tree-F.If c p q)) (reading_of_layer m ks (Tree-F.If c' p' q')) (λ names. p'' names ++ q'' names)
-    display : {items : List Said} {items' : List Reading} →
-        AllRead m ks items items' →
+    display : {items : List Said} {items' : List Reading} → AllRead m ks items items' →
         Reads m ks (tree_says_of_layer m (Tree-F.Display items)) (reading_of_layer m ks (Tree-F.Display items')) data_end
-    span : {a : Said} {a' : Reading} {a'' : Ends} {b : Said} {b' : Reading} {b'' : Ends} →
-        Reads m ks a a' a'' → Reads m ks b b' b'' →
+    span : {a : Said} {a' : Reading} {a'' : Ends} {b : Said} {b' : Reading} {b'' : Ends} → Reads m ks a a' a'' → Reads m ks b b' b'' →
         Reads m ks (tree_says_of_layer m (Tree-F.Range a b)) (reading_of_layer m ks (Tree-F.Range a' b')) data_end
     comprehension : {items : List Said} {items' : List Reading} {gens : List Binder} {gens' : List (Binding Gen)} →
         AllRead m ks items items' → GensRead m ks gens gens' →
@@ -64,45 +56,35 @@ mutual
     production : {parts : List (Fields Said)} {parts' : List (Front Reading)} {gens : List Binder} {gens' : List (Binding Gen)} →
         PartsRead m ks parts parts' → GensRead m ks gens gens' →
         Reads m ks (tree_says_of_layer m (Tree-F.Product parts gens)) (reading_of_layer m ks (Tree-F.Product parts' gens')) data_end
-    set_operator : (op : SetOp) {a : Said} {a' : Reading} {a'' : Ends} {b : Said} {b' : Reading} {b'' : Ends} →
-        Reads m ks a a' a'' → Reads m ks b b' b'' →
+    set_operator : (op : SetOp) {a : Said} {a' : Reading} {a'' : Ends} {b : Said} {b' : Reading} {b'' : Ends} → Reads m ks a a' a'' → Reads m ks b b' b'' →
         Reads m ks (tree_says_of_layer m (Tree-F.SetOp op a b)) (reading_of_layer m ks (Tree-F.SetOp op a' b')) data_end
     stop : Reads m ks (tree_says_of_layer m Tree-F.Stop) (reading_of_layer m ks Tree-F.Stop) process_end
     skip : Reads m ks (tree_says_of_layer m Tree-F.Skip) (reading_of_layer m ks Tree-F.Skip) process_end
     prefix : {event : Fields Binder} {event' : Front (Binding Field)} {p : Said} {p' : Reading} {p'' : Ends} →
         EventRead m ks event event' → Reads m ks p p' p'' →
         Reads m ks (tree_says_of_layer m (Tree-F.Prefix event p)) (reading_of_layer m ks (Tree-F.Prefix event' p')) process_end
-    guard : {c : Said} {c' : Reading} {c'' : Ends} {p : Said} {p' : Reading} {p'' : Ends} →
-        Reads m ks c c' c'' → Reads m ks p p' p'' →
+    guard : {c : Said} {c' : Reading} {c'' : Ends} {p : Said} {p' : Reading} {p'' : Ends} → Reads m ks c c' c'' → Reads m ks p p' p'' →
         Reads m ks (tree_says_of_layer m (Tree-F.Guard c p)) (reading_of_layer m ks (Tree-F.Guard c' p')) process_end
-    external : {ps : List Said} {ps' : List Reading} →
-        AllRead m ks ps ps' →
+    external : {ps : List Said} {ps' : List Reading} → AllRead m ks ps ps' →
         Reads m ks (tree_says_of_layer m (Tree-F.External ps)) (reading_of_layer m ks (Tree-F.External ps')) process_end
-    internal : {ps : List Said} {ps' : List Reading} →
-        AllRead m ks ps ps' →
+    internal : {ps : List Said} {ps' : List Reading} → AllRead m ks ps ps' →
         Reads m ks (tree_says_of_layer m (Tree-F.Internal ps)) (reading_of_layer m ks (Tree-F.Internal ps')) process_end
-    each_external : (x : Name) {s : Said} {s' : Reading} {s'' : Ends} {p : Said} {p' : Reading} {p'' : Ends} →
-        Reads m ks s s' s'' → Reads m ks p p' p'' →
+    each_external : (x : Name) {s : Said} {s' : Reading} {s'' : Ends} {p : Said} {p' : Reading} {p'' : Ends} → Reads m ks s s' s'' → Reads m ks p p' p'' →
         Reads m ks (tree_says_of_layer m (Tree-F.EachExternal x s p)) (reading_of_layer m ks (Tree-F.EachExternal x s' p')) process_end
-    each_internal : (x : Name) {s : Said} {s' : Reading} {s'' : Ends} {p : Said} {p' : Reading} {p'' : Ends} →
-        Reads m ks s s' s'' → Reads m ks p p' p'' →
+    each_internal : (x : Name) {s : Said} {s' : Reading} {s'' : Ends} {p : Said} {p' : Reading} {p'' : Ends} → Reads m ks s s' s'' → Reads m ks p p' p'' →
         Reads m ks (tree_says_of_layer m (Tree-F.EachInternal x s p)) (reading_of_layer m ks (Tree-F.EachInternal x s' p')) process_end
     pair : {p : Said} {p' : Reading} {p'' : Ends} {a : Said} {a' : Reading} {a'' : Ends} {b : Said} {b' : Reading} {b'' : Ends} {q : Said} {q' : Reading}
-        {q'' : Ends} →
-        Reads m ks p p' p'' → Reads m ks a a' a'' → Reads m ks b b' b'' → Reads m ks q q' q'' →
+        {q'' : Ends} → Reads m ks p p' p'' → Reads m ks a a' a'' → Reads m ks b b' b'' → Reads m ks q q' q'' →
         Reads m ks (tree_says_of_layer m (Tree-F.Parallel p a b q)) (reading_of_layer m ks (Tree-F.Parallel p' a' b' q')) parallel_end
     each_parallel : (x : Name) {s : Said} {s' : Reading} {s'' : Ends} {a : Said} {a' : Reading} {a'' : Ends} {p : Said} {p' : Reading} {p'' : Ends} →
         Reads m ks s s' s'' → Reads m ks a a' a'' → Reads m ks p p' p'' →
         Reads m ks (tree_says_of_layer m (Tree-F.EachParallel x s a p)) (reading_of_layer m ks (Tree-F.EachParallel x s' a' p')) parallel_end
-    sequence : {p : Said} {p' : Reading} {p'' : Ends} {q : Said} {q' : Reading} {q'' : Ends} →
-        Reads m ks p p' p'' → Reads m ks q q' q'' →
+    sequence : {p : Said} {p' : Reading} {p'' : Ends} {q : Said} {q' : Reading} {q'' : Ends} → Reads m ks p p' p'' → Reads m ks q q' q'' →
         Reads m ks (tree_says_of_layer m (Tree-F.Seq p q)) (reading_of_layer m ks (Tree-F.Seq p' q')) process_end
-    hiding : {p : Said} {p' : Reading} {p'' : Ends} {s : Said} {s' : Reading} {s'' : Ends} →
-        Reads m ks p p' p'' → Reads m ks s s' s'' →
+    hiding : {p : Said} {p' : Reading} {p'' : Ends} {s : Said} {s' : Reading} {s'' : Ends} → Reads m ks p p' p'' → Reads m ks s s' s'' →
         Reads m ks (tree_says_of_layer m (Tree-F.Hide p s)) (reading_of_layer m ks (Tree-F.Hide p' s')) process_end
     renaming : {p : Said} {p' : Reading} {p'' : Ends} {pairs : List (Fields Said × Fields Said)} {pairs' : List (Front Reading × Front Reading)}
-        {gens : List Binder} {gens' : List (Binding Gen)} →
-        Reads m ks p p' p'' → PairsRead m ks pairs pairs' → GensRead m ks gens gens' →
+        {gens : List Binder} {gens' : List (Binding Gen)} → Reads m ks p p' p'' → PairsRead m ks pairs pairs' → GensRead m ks gens gens' →
         Reads m ks (tree_says_of_layer m (Tree-F.Rename p pairs gens)) (reading_of_layer m ks (Tree-F.Rename p' pairs' gens')) process_end
 
   pub data AllRead (m : Meanings) (ks : List Kind) : List Said → List Reading → Type 0 where

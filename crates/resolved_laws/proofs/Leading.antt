@@ -5,9 +5,9 @@ use Rattle.csp_program.specs.Free.{Names, nowhere, either, any_of}
 use Rattle.csp_program.specs.Uses.{expr_uses, expr_uses_of_layer, gen_uses_of_layer, part_uses_of_layer}
 use Rattle.csp_program.specs.declared.expressions.EventPart.{EventPart}
 use Rattle.csp_program.specs.declared.expressions.Expr.{Expr}
-use Rattle.csp_program.specs.declared.expressions.Expr.TheFolds.{fold-roll-Expr, fold-roll-Gen, fold-roll-EventPart, map-Expr}
+use Rattle.csp_program.specs.declared.expressions.Expr.TheFolds.{fold-roll-Expr, fold-roll-Gen, fold-roll-EventPart, map-Expr, map-Gen}
 use Rattle.csp_program.specs.declared.expressions.Expr.TheOpen.{Expr-F, Gen-F}
-use Rattle.csp_program.specs.declared.expressions.Expr.TheViews.{roll-Expr, roll-EventPart}
+use Rattle.csp_program.specs.declared.expressions.Expr.TheViews.{roll-Expr, roll-Gen, roll-EventPart}
 use Rattle.csp_program.specs.declared.expressions.Expr.TheVariants as expr
 use Rattle.csp_program.specs.declared.expressions.Gen.{Gen}
 use Rattle.csp_program.specs.declared.expressions.Gen.TheVariants as generator
@@ -92,15 +92,11 @@ module _ (depth : ℕ → ℕ) where
       subst (λ z. IsBelow (expr_uses z) os) is
       (subst (λ z. IsBelow z os) (sym (fold-roll-Expr Names Names Names expr_uses_of_layer gen_uses_of_layer part_uses_of_layer d)) h)
 
-  from_below : {os : List Occurrence} (n : ℕ) (s : Expr) → IsBelow (expr_uses s) os → IsBelow (gen_uses (generator.From n s)) os
-  from_below {os} n s h =
-      subst (λ z. IsBelow (gen_uses z) os) (generator.rolls-From n s)
-      (subst (λ z. IsBelow z os) (sym (fold-roll-Gen Names Names Names expr_uses_of_layer gen_uses_of_layer part_uses_of_layer (Gen-F.From n s))) h)
-
-  condition_below : {os : List Occurrence} (c : Expr) → IsBelow (expr_uses c) os → IsBelow (gen_uses (generator.Cond c)) os
-  condition_below {os} c h =
-      subst (λ z. IsBelow (gen_uses z) os) (generator.rolls-Cond c)
-      (subst (λ z. IsBelow z os) (sym (fold-roll-Gen Names Names Names expr_uses_of_layer gen_uses_of_layer part_uses_of_layer (Gen-F.Cond c))) h)
+  gen_below : {os : List Occurrence} (d : Gen-F Expr Gen EventPart) {g : Gen} → roll-Gen d ≡ g
+      → IsBelow (gen_uses_of_layer (map-Gen Expr Gen EventPart Names Names Names expr_uses gen_uses part_uses d)) os → IsBelow (gen_uses g) os
+  gen_below {os} d is h =
+      subst (λ z. IsBelow (gen_uses z) os) is
+      (subst (λ z. IsBelow z os) (sym (fold-roll-Gen Names Names Names expr_uses_of_layer gen_uses_of_layer part_uses_of_layer d)) h)
 
   part_below : {os : List Occurrence} (c : ℕ) (es : List Expr) → IsBelow (any_of (map expr_uses es)) os
       → IsBelow (part_uses (roll-EventPart (record { channel = c; fields = es }))) os
@@ -132,10 +128,8 @@ module _ (depth : ℕ → ℕ) where
     called_entity : (x : Name) (e : Option Entity) (k : ℕ) (b : Bool) (l : ℕ) → 0 < l → IsFine ks (uses x (sense_of e) (how.Called k (data_at b l)))
         → depth (definition_number e) < reach depth (uses x (sense_of e) (how.Called k (data_at b l)))
     called_entity x None k b l h fine = absurd (let g = fine.known in cc)
-    called_entity x (Some (entity.Channel c n)) k b l h fine = absurd (let g = fine.kind in cc)
-    called_entity x (Some (entity.Constant c)) k b l h fine = absurd (let g = fine.kind in cc)
-    called_entity x (Some (entity.Set d)) k b l h fine = absurd (let g = fine.kind in cc)
     called_entity x (Some (entity.Definition d n)) k b l h fine = under_level (depth d) l h
+    called_entity x _ k b l h fine = absurd (let g = fine.kind in cc)
 
     called_below : {m : Meanings} {x : Name} {o : Option ℕ} {s : Sense} → NameIs m x o s → (k : ℕ) (b : Bool) (l : ℕ) → 0 < l
         → IsFine ks (uses x s (how.Called k (data_at b l)))
@@ -222,19 +216,9 @@ module _ (depth : ℕ → ℕ) where
         leads (f.set_operator op {a' = a} {b' = c} h g) = of_data _ _
             (λ scope n b l z fine. let w = fine_two ks _ _ fine in
             expr_below _ (expr.rolls-SetOp _ _ _) (either_below _ _ ((leads h).expr scope n false (l + 1) (more l) w.0) ((leads g).expr scope (n + a.binds) false (l + 1) (more l) w.1)))
-        leads f.stop = of_process _ _
-        leads f.skip = of_process _ _
-        leads (f.prefix h g) = of_process _ _
-        leads (f.guard h g) = of_process _ _
-        leads (f.external h) = of_process _ _
-        leads (f.internal h) = of_process _ _
-        leads (f.each_external x h g) = of_process _ _
-        leads (f.each_internal x h g) = of_process _ _
         leads (f.pair h g k j) = of_network _ _
         leads (f.each_parallel x h g k) = of_network _ _
-        leads (f.sequence h g) = of_process _ _
-        leads (f.hiding h g) = of_process _ _
-        leads (f.renaming h g k) = of_process _ _
+        leads _ = of_process _ _
 
         exprs_lead : {ss : List Said} {rs : List Reading} → AllRead m ks ss rs → (scope : Scope) (n : ℕ) (b : Bool) (l : ℕ) → 0 < l
             → AllFine ks (all_say ss (data_at b l) (names_of scope))
@@ -245,9 +229,9 @@ module _ (depth : ℕ → ℕ) where
 
         gen_lead : {b : Binder} {g : Binding Gen} → GenRead m ks b g → (scope : Scope) (n : ℕ) (place : Place) → AllFine ks (b.says place (names_of scope))
             → IsBelow (gen_uses (g.here scope n)) (b.says place (names_of scope))
-        gen_lead (f.from x {a' = a} h) scope n place fine = from_below n (a.expr scope (n + 1))
+        gen_lead (f.from x h) scope n place fine = gen_below _ (generator.rolls-From _ _)
             (later_below _ ((leads h).expr scope (n + 1) false (place.level + 1) (more place.level) fine.1))
-        gen_lead (f.condition {a' = a} h) scope n place fine = condition_below (a.expr scope n)
+        gen_lead (f.condition h) scope n place fine = gen_below _ (generator.rolls-Cond _)
             ((leads h).expr scope n false (place.level + 1) (more place.level) fine)
 
         gens_lead : {bs : List Binder} {gs : List (Binding Gen)} → GensRead m ks bs gs → (scope : Scope) (n : ℕ) (place : Place)

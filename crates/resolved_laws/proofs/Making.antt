@@ -1,5 +1,5 @@
 -- Each tree is made of the forms.
-use Rattle.std.proofs.Common.{Some, None, List, [], ◌∷◌, map, sym, subst}
+use Rattle.std.proofs.Common.{◌≡◌, Some, None, List, [], ◌∷◌, map, sym, subst}
 use Rattle.csp_text.specs.declared.tree.FieldTree.TheFolds.{fold-FieldTree, fold-GenTree, fold-EventTree, fold-PartTree, fold-roll-FieldTree, fold-roll-GenTree, fold-roll-Tree, fold-roll-EventTree, fold-roll-PartTree, ind-Tree, map-FieldTree, map-GenTree, map-Tree, map-EventTree, map-PartTree}
 use Rattle.csp_text.specs.declared.tree.FieldTree.TheOpen.{FieldTree-F, GenTree-F, Tree-F, EventTree-F, PartTree-F}
 use Rattle.csp_text.specs.declared.tree.FieldTree.TheViews.{roll-FieldTree, roll-GenTree, roll-Tree, roll-EventTree, roll-PartTree}
@@ -76,44 +76,36 @@ module _ (m : Meanings) (ks : List Kind) where
   abbrev ReadPart : PartTree → Type 0
   ReadPart t = PartRead m ks (part_tree_says t) (part_reading t)
 
-  abbrev KnownField : Type 0
-  KnownField = (t : FieldTree) × ReadField t
+  abbrev Known : {A : Type 0} → (A → Type 0) → Type 0
+  Known {A} P = (t : A) × P t
 
-  abbrev KnownGen : Type 0
-  KnownGen = (t : GenTree) × ReadGen t
-
-  abbrev KnownTree : Type 0
-  KnownTree = (t : Tree) × ReadTree t
-
-  abbrev KnownEvent : Type 0
-  KnownEvent = (t : EventTree) × ReadEvent t
-
-  abbrev KnownPart : Type 0
-  KnownPart = (t : PartTree) × ReadPart t
-
-  trees_read : (es : List KnownTree) → AllRead m ks (map (tree_says m) (map (λ e. e.0) es)) (map (reading m ks) (map (λ e. e.0) es))
+  trees_read : (es : List (Known ReadTree)) → AllRead m ks (map (tree_says m) (map (λ e. e.0) es)) (map (reading m ks) (map (λ e. e.0) es))
   trees_read [] = no_trees
   trees_read (e ∷ es) = more_trees e.1 (trees_read es)
 
-  gens_read : (es : List KnownGen) → GensRead m ks (map gen_says (map (λ e. e.0) es)) (map gen_reading (map (λ e. e.0) es))
+  gens_read : (es : List (Known ReadGen)) → GensRead m ks (map gen_says (map (λ e. e.0) es)) (map gen_reading (map (λ e. e.0) es))
   gens_read [] = no_gens
   gens_read (e ∷ es) = more_gens e.1 (gens_read es)
 
-  fields_read : (es : List KnownField) → FieldsRead m ks (map field_says (map (λ e. e.0) es)) (map field_reading (map (λ e. e.0) es))
+  fields_read : (es : List (Known ReadField)) → FieldsRead m ks (map field_says (map (λ e. e.0) es)) (map field_reading (map (λ e. e.0) es))
   fields_read [] = no_fields
   fields_read (e ∷ es) = more_fields e.1 (fields_read es)
 
-  parts_read : (es : List KnownPart) → PartsRead m ks (map part_tree_says (map (λ e. e.0) es)) (map part_reading (map (λ e. e.0) es))
+  parts_read : (es : List (Known ReadPart)) → PartsRead m ks (map part_tree_says (map (λ e. e.0) es)) (map part_reading (map (λ e. e.0) es))
   parts_read [] = no_parts
   parts_read (e ∷ es) = more_parts e.1 (parts_read es)
 
   abbrev both_of : {A B : Type 0} → (A → B) → A × A → B × B
   both_of f p = (f p.0, f p.1)
 
-  pairs_read : (es : List (KnownPart × KnownPart)) → PairsRead m ks (map (both_of part_tree_says) (map (both_of (λ e. e.0)) es))
+  pairs_read : (es : List (Known ReadPart × Known ReadPart)) → PairsRead m ks (map (both_of part_tree_says) (map (both_of (λ e. e.0)) es))
       (map (both_of part_reading) (map (both_of (λ e. e.0)) es))
   pairs_read [] = no_pairs
   pairs_read (e ∷ es) = more_pairs e.0.1 e.1.1 (pairs_read es)
+
+  -- what is related stays so where it is written as its equals
+  equal_read : {A B : Type 0} (R : A → B → Type 0) {a a' : A} {b b' : B} → a ≡ a' → b ≡ b' → R a' b' → R a b
+  equal_read R {a} {a'} {b} {b'} e g h = subst (λ z. R z b) (sym e) (subst (R a') (sym g) h)
 
   abbrev says_layer : Tree-F FieldTree GenTree Tree EventTree PartTree → Said
   says_layer d = tree_says_of_layer m (map-Tree FieldTree GenTree Tree EventTree PartTree Binder Binder Said (Fields Binder) (Fields Said)
@@ -130,15 +122,12 @@ module _ (m : Meanings) (ks : List Kind) where
 
   layer : (d : Tree-F FieldTree GenTree Tree EventTree PartTree) → Reads m ks (says_layer d) (reading_layer d) (ends_layer d) → ReadTree (roll-Tree d)
   layer d h =
-      subst (λ z. Reads m ks z (reading m ks (roll-Tree d)) (λ names. ends m names (roll-Tree d)))
-      (sym (fold-roll-Tree Binder Binder Said (Fields Binder) (Fields Said) (field_says_of_layer m) (gen_says_of_layer m) (tree_says_of_layer m)
-      (event_says_of_layer m) (part_says_of_layer m) d))
-      (subst (λ z. Reads m ks (says_layer d) z (λ names. ends m names (roll-Tree d)))
-      (sym (fold-roll-Tree (Binding Field) (Binding Gen) Reading (Front (Binding Field)) (Front Reading) (field_of_layer m ks) (gen_of_layer m ks)
-      (reading_of_layer m ks) (event_of_layer m ks) (part_of_layer m ks) d))
-      (subst (λ z. Reads m ks (says_layer d) (reading_layer d) z)
+      equal_read (λ s r. Reads m ks s r (λ names. ends m names (roll-Tree d)))
+      (fold-roll-Tree Binder Binder Said (Fields Binder) (Fields Said) (field_says_of_layer m) (gen_says_of_layer m) (tree_says_of_layer m) (event_says_of_layer m) (part_says_of_layer m) d)
+      (fold-roll-Tree (Binding Field) (Binding Gen) Reading (Front (Binding Field)) (Front Reading) (field_of_layer m ks) (gen_of_layer m ks) (reading_of_layer m ks) (event_of_layer m ks) (part_of_layer m ks) d)
+      (subst (Reads m ks (says_layer d) (reading_layer d))
       (λ i names. sym (fold-roll-Tree (Unit {0}) (Unit {0}) (List End) (Unit {0}) (Unit {0}) (λ field. tt) (λ gen. tt) (ends_of_layer m names) (λ event. tt)
-      (λ part. tt) d) i) h))
+      (λ part. tt) d) i) h)
 
   rolled_field : (d : FieldTree-F FieldTree GenTree Tree EventTree PartTree)
       → FieldRead m ks (field_says_of_layer m (map-FieldTree FieldTree GenTree Tree EventTree PartTree Binder Binder Said (Fields Binder) (Fields Said)
@@ -147,16 +136,12 @@ module _ (m : Meanings) (ks : List Kind) where
       (Front Reading) field_reading gen_reading (reading m ks) event_reading part_reading d))
       → ReadField (roll-FieldTree d)
   rolled_field d h =
-      subst (λ z. FieldRead m ks z (field_reading (roll-FieldTree d)))
-      (sym (fold-roll-FieldTree Binder Binder Said (Fields Binder) (Fields Said) (field_says_of_layer m) (gen_says_of_layer m) (tree_says_of_layer m)
-      (event_says_of_layer m) (part_says_of_layer m) d))
-      (subst (FieldRead m ks (field_says_of_layer m (map-FieldTree FieldTree GenTree Tree EventTree PartTree Binder Binder Said (Fields Binder) (Fields Said)
-      field_says gen_says (tree_says m) event_says part_tree_says d)))
-      (sym (fold-roll-FieldTree (Binding Field) (Binding Gen) Reading (Front (Binding Field)) (Front Reading) (field_of_layer m ks) (gen_of_layer m ks)
-      (reading_of_layer m ks) (event_of_layer m ks) (part_of_layer m ks) d)) h)
+      equal_read (FieldRead m ks)
+      (fold-roll-FieldTree Binder Binder Said (Fields Binder) (Fields Said) (field_says_of_layer m) (gen_says_of_layer m) (tree_says_of_layer m) (event_says_of_layer m) (part_says_of_layer m) d)
+      (fold-roll-FieldTree (Binding Field) (Binding Gen) Reading (Front (Binding Field)) (Front Reading) (field_of_layer m ks) (gen_of_layer m ks) (reading_of_layer m ks) (event_of_layer m ks) (part_of_layer m ks) d) h
 
-  field_layer : (y : FieldTree-F KnownField KnownGen KnownTree KnownEvent KnownPart) → ReadField
-      (roll-FieldTree (map-FieldTree KnownField KnownGen KnownTree KnownEvent KnownPart FieldTree GenTree Tree EventTree PartTree
+  field_layer : (y : FieldTree-F (Known ReadField) (Known ReadGen) (Known ReadTree) (Known ReadEvent) (Known ReadPart)) → ReadField
+      (roll-FieldTree (map-FieldTree (Known ReadField) (Known ReadGen) (Known ReadTree) (Known ReadEvent) (Known ReadPart) FieldTree GenTree Tree EventTree PartTree
       (λ e. e.0) (λ e. e.0) (λ e. e.0) (λ e. e.0) (λ e. e.0) y))
   field_layer (FieldTree-F.«FieldTree::Dot» a) = rolled_field (FieldTree-F.«FieldTree::Dot» a.0) (dot a.1)
   field_layer (FieldTree-F.Output a) = rolled_field (FieldTree-F.Output a.0) (output a.1)
@@ -170,50 +155,38 @@ module _ (m : Meanings) (ks : List Kind) where
       field_reading gen_reading (reading m ks) event_reading part_reading d))
       → ReadGen (roll-GenTree d)
   rolled_gen d h =
-      subst (λ z. GenRead m ks z (gen_reading (roll-GenTree d)))
-      (sym (fold-roll-GenTree Binder Binder Said (Fields Binder) (Fields Said) (field_says_of_layer m) (gen_says_of_layer m) (tree_says_of_layer m)
-      (event_says_of_layer m) (part_says_of_layer m) d))
-      (subst (GenRead m ks (gen_says_of_layer m (map-GenTree FieldTree GenTree Tree EventTree PartTree Binder Binder Said (Fields Binder) (Fields Said)
-      field_says gen_says (tree_says m) event_says part_tree_says d)))
-      (sym (fold-roll-GenTree (Binding Field) (Binding Gen) Reading (Front (Binding Field)) (Front Reading) (field_of_layer m ks) (gen_of_layer m ks)
-      (reading_of_layer m ks) (event_of_layer m ks) (part_of_layer m ks) d)) h)
+      equal_read (GenRead m ks)
+      (fold-roll-GenTree Binder Binder Said (Fields Binder) (Fields Said) (field_says_of_layer m) (gen_says_of_layer m) (tree_says_of_layer m) (event_says_of_layer m) (part_says_of_layer m) d)
+      (fold-roll-GenTree (Binding Field) (Binding Gen) Reading (Front (Binding Field)) (Front Reading) (field_of_layer m ks) (gen_of_layer m ks) (reading_of_layer m ks) (event_of_layer m ks) (part_of_layer m ks) d) h
 
-  gen_layer : (y : GenTree-F KnownField KnownGen KnownTree KnownEvent KnownPart) → ReadGen
-      (roll-GenTree (map-GenTree KnownField KnownGen KnownTree KnownEvent KnownPart FieldTree GenTree Tree EventTree PartTree
+  gen_layer : (y : GenTree-F (Known ReadField) (Known ReadGen) (Known ReadTree) (Known ReadEvent) (Known ReadPart)) → ReadGen
+      (roll-GenTree (map-GenTree (Known ReadField) (Known ReadGen) (Known ReadTree) (Known ReadEvent) (Known ReadPart) FieldTree GenTree Tree EventTree PartTree
       (λ e. e.0) (λ e. e.0) (λ e. e.0) (λ e. e.0) (λ e. e.0) y))
   gen_layer (GenTree-F.From x a) = rolled_gen (GenTree-F.From x a.0) (from x a.1)
   gen_layer (GenTree-F.Cond a) = rolled_gen (GenTree-F.Cond a.0) (condition a.1)
 
-  event_layer : (y : EventTree-F KnownField KnownGen KnownTree KnownEvent KnownPart) → ReadEvent
-      (roll-EventTree (map-EventTree KnownField KnownGen KnownTree KnownEvent KnownPart FieldTree GenTree Tree EventTree PartTree
+  event_layer : (y : EventTree-F (Known ReadField) (Known ReadGen) (Known ReadTree) (Known ReadEvent) (Known ReadPart)) → ReadEvent
+      (roll-EventTree (map-EventTree (Known ReadField) (Known ReadGen) (Known ReadTree) (Known ReadEvent) (Known ReadPart) FieldTree GenTree Tree EventTree PartTree
       (λ e. e.0) (λ e. e.0) (λ e. e.0) (λ e. e.0) (λ e. e.0) y))
   event_layer y =
-      subst (λ z. EventRead m ks z (event_reading (roll-EventTree (record { name = y.name; fields = map (λ e. e.0) y.fields }))))
-      (sym (fold-roll-EventTree Binder Binder Said (Fields Binder) (Fields Said) (field_says_of_layer m) (gen_says_of_layer m) (tree_says_of_layer m)
-      (event_says_of_layer m) (part_says_of_layer m)
-      (record { name = y.name; fields = map (λ e. e.0) y.fields })))
-      (subst (EventRead m ks (record { name = y.name; fields = map field_says (map (λ e. e.0) y.fields) }))
-      (sym (fold-roll-EventTree (Binding Field) (Binding Gen) Reading (Front (Binding Field)) (Front Reading) (field_of_layer m ks) (gen_of_layer m ks)
-      (reading_of_layer m ks) (event_of_layer m ks) (part_of_layer m ks)
-      (record { name = y.name; fields = map (λ e. e.0) y.fields })))
-      (head_with y.name (fields_read y.fields)))
+      let d : EventTree-F FieldTree GenTree Tree EventTree PartTree = record { name = y.name; fields = map (λ e. e.0) y.fields } in
+      equal_read (EventRead m ks)
+      (fold-roll-EventTree Binder Binder Said (Fields Binder) (Fields Said) (field_says_of_layer m) (gen_says_of_layer m) (tree_says_of_layer m) (event_says_of_layer m) (part_says_of_layer m) d)
+      (fold-roll-EventTree (Binding Field) (Binding Gen) Reading (Front (Binding Field)) (Front Reading) (field_of_layer m ks) (gen_of_layer m ks) (reading_of_layer m ks) (event_of_layer m ks) (part_of_layer m ks) d)
+      (head_with y.name (fields_read y.fields))
 
-  part_layer : (y : PartTree-F KnownField KnownGen KnownTree KnownEvent KnownPart) → ReadPart
-      (roll-PartTree (map-PartTree KnownField KnownGen KnownTree KnownEvent KnownPart FieldTree GenTree Tree EventTree PartTree
+  part_layer : (y : PartTree-F (Known ReadField) (Known ReadGen) (Known ReadTree) (Known ReadEvent) (Known ReadPart)) → ReadPart
+      (roll-PartTree (map-PartTree (Known ReadField) (Known ReadGen) (Known ReadTree) (Known ReadEvent) (Known ReadPart) FieldTree GenTree Tree EventTree PartTree
       (λ e. e.0) (λ e. e.0) (λ e. e.0) (λ e. e.0) (λ e. e.0) y))
   part_layer y =
-      subst (λ z. PartRead m ks z (part_reading (roll-PartTree (record { name = y.name; fields = map (λ e. e.0) y.fields }))))
-      (sym (fold-roll-PartTree Binder Binder Said (Fields Binder) (Fields Said) (field_says_of_layer m) (gen_says_of_layer m) (tree_says_of_layer m)
-      (event_says_of_layer m) (part_says_of_layer m)
-      (record { name = y.name; fields = map (λ e. e.0) y.fields })))
-      (subst (PartRead m ks (record { name = y.name; fields = map (tree_says m) (map (λ e. e.0) y.fields) }))
-      (sym (fold-roll-PartTree (Binding Field) (Binding Gen) Reading (Front (Binding Field)) (Front Reading) (field_of_layer m ks) (gen_of_layer m ks)
-      (reading_of_layer m ks) (event_of_layer m ks) (part_of_layer m ks)
-      (record { name = y.name; fields = map (λ e. e.0) y.fields })))
-      (front_with y.name (trees_read y.fields)))
+      let d : PartTree-F FieldTree GenTree Tree EventTree PartTree = record { name = y.name; fields = map (λ e. e.0) y.fields } in
+      equal_read (PartRead m ks)
+      (fold-roll-PartTree Binder Binder Said (Fields Binder) (Fields Said) (field_says_of_layer m) (gen_says_of_layer m) (tree_says_of_layer m) (event_says_of_layer m) (part_says_of_layer m) d)
+      (fold-roll-PartTree (Binding Field) (Binding Gen) Reading (Front (Binding Field)) (Front Reading) (field_of_layer m ks) (gen_of_layer m ks) (reading_of_layer m ks) (event_of_layer m ks) (part_of_layer m ks) d)
+      (front_with y.name (trees_read y.fields))
 
-  tree_layer : (y : Tree-F KnownField KnownGen KnownTree KnownEvent KnownPart) → ReadTree
-      (roll-Tree (map-Tree KnownField KnownGen KnownTree KnownEvent KnownPart FieldTree GenTree Tree EventTree PartTree
+  tree_layer : (y : Tree-F (Known ReadField) (Known ReadGen) (Known ReadTree) (Known ReadEvent) (Known ReadPart)) → ReadTree
+      (roll-Tree (map-Tree (Known ReadField) (Known ReadGen) (Known ReadTree) (Known ReadEvent) (Known ReadPart) FieldTree GenTree Tree EventTree PartTree
       (λ e. e.0) (λ e. e.0) (λ e. e.0) (λ e. e.0) (λ e. e.0) y))
   tree_layer (Tree-F.Num k) = layer (Tree-F.Num k) (num k)
   tree_layer Tree-F.True = layer Tree-F.True truth

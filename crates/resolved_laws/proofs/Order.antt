@@ -7,12 +7,11 @@ use Rattle.csp_program.specs.InOrder as order
 use Rattle.csp_program.specs.Lists.{all_true}
 use Rattle.csp_program.specs.declared.expressions.EventPart.{EventPart}
 use Rattle.csp_program.specs.declared.expressions.Expr.{Expr}
-use Rattle.csp_program.specs.declared.expressions.Expr.TheFolds.{fold-roll-Expr, fold-roll-Gen, fold-roll-EventPart, map-Expr}
+use Rattle.csp_program.specs.declared.expressions.Expr.TheFolds.{fold-roll-Expr, fold-roll-Gen, fold-roll-EventPart, map-Expr, map-Gen}
 use Rattle.csp_program.specs.declared.expressions.Expr.TheOpen.{Expr-F, Gen-F}
-use Rattle.csp_program.specs.declared.expressions.Expr.TheViews.{roll-Expr, roll-EventPart, out-roll-EventPart}
+use Rattle.csp_program.specs.declared.expressions.Expr.TheViews.{roll-Expr, roll-Gen, roll-EventPart, out-roll-EventPart}
 use Rattle.csp_program.specs.declared.expressions.Expr.TheVariants as expr
 use Rattle.csp_program.specs.declared.expressions.Gen.{Gen}
-use Rattle.csp_program.specs.declared.expressions.Gen.TheVariants as generator
 use Rattle.csp_program.specs.declared.networks.Net.{Net}
 use Rattle.csp_program.specs.declared.networks.Net.TheFolds.{fold-roll-Net, map-Net}
 use Rattle.csp_program.specs.declared.networks.Net.TheOpen.{Net-F}
@@ -61,15 +60,11 @@ module _ (p : Content) (ks : List Kind) where
       subst (λ z. IsTrue (expr_in_order p z)) is
       (subst IsTrue (sym (fold-roll-Expr Bool Bool Bool (expr_in_order_of_layer p) (gen_in_order_of_layer p) (part_in_order_of_layer p) d)) h)
 
-  pub from_order : (n : ℕ) (s : Expr) → IsTrue (expr_in_order p s) → IsTrue (gen_in_order p (generator.From n s))
-  from_order n s h =
-      subst (λ z. IsTrue (gen_in_order p z)) (generator.rolls-From n s)
-      (subst IsTrue (sym (fold-roll-Gen Bool Bool Bool (expr_in_order_of_layer p) (gen_in_order_of_layer p) (part_in_order_of_layer p) (Gen-F.From n s))) h)
-
-  pub condition_order : (c : Expr) → IsTrue (expr_in_order p c) → IsTrue (gen_in_order p (generator.Cond c))
-  condition_order c h =
-      subst (λ z. IsTrue (gen_in_order p z)) (generator.rolls-Cond c)
-      (subst IsTrue (sym (fold-roll-Gen Bool Bool Bool (expr_in_order_of_layer p) (gen_in_order_of_layer p) (part_in_order_of_layer p) (Gen-F.Cond c))) h)
+  pub gen_order : (d : Gen-F Expr Gen EventPart) {g : Gen} → roll-Gen d ≡ g
+      → IsTrue (gen_in_order_of_layer p (map-Gen Expr Gen EventPart Bool Bool Bool (expr_in_order p) (gen_in_order p) (part_in_order p) d)) → IsTrue (gen_in_order p g)
+  gen_order d is h =
+      subst (λ z. IsTrue (gen_in_order p z)) is
+      (subst IsTrue (sym (fold-roll-Gen Bool Bool Bool (expr_in_order_of_layer p) (gen_in_order_of_layer p) (part_in_order_of_layer p) d)) h)
 
   pub part_order : (c : ℕ) (es : List Expr) → IsTrue (with_fields (nat_le (length (map (expr_in_order p) es))) (slice_get p.channels c))
       → IsTrue (all_true (map (expr_in_order p) es))
@@ -179,9 +174,7 @@ module _ (p : Content) (ks : List Kind) where
       → IsTrue (with_fields (λ i. nat_eq i k) (slice_get p.channels (channel_number e)))
   event_entity x None k h fine = absurd (let g = fine.known in cc)
   event_entity x (Some (entity.Channel c n)) k h fine = with_count n k (slice_get p.channels c) (same_count n k (when_none (not (nat_eq n k)) x fine.count)) h
-  event_entity x (Some (entity.Constant c)) k h fine = absurd (let g = fine.kind in cc)
-  event_entity x (Some (entity.Definition d n)) k h fine = absurd (let g = fine.kind in cc)
-  event_entity x (Some (entity.Set d)) k h fine = absurd (let g = fine.kind in cc)
+  event_entity x _ k h fine = absurd (let g = fine.kind in cc)
 
   pub event_order : {m : Meanings} {x : Name} {o : Option ℕ} {s : Sense} → NameIs m x o s → AllFit p ks m → (k : ℕ) → IsFine ks (uses x s (how.Dotted k))
       → IsTrue (with_fields (λ i. nat_eq i k) (slice_get p.channels (channel_number (m x))))
@@ -193,12 +186,8 @@ module _ (p : Content) (ks : List Kind) where
       → IsTrue (with_fields (λ i. nat_eq i k) (slice_get p.channels (channel_number e)))
   head_entity x None k h fine = absurd (let g = fine.known in cc)
   head_entity x (Some (entity.Channel c n)) k h fine = with_count n k (slice_get p.channels c) (same_count n k (when_none (not (nat_eq n k)) x fine.count)) h
-  head_entity x (Some (entity.Constant c)) zero h fine = absurd (let g = fine.kind in cc)
-  head_entity x (Some (entity.Constant c)) (suc k) h fine = absurd (let g = fine.kind in cc)
-  head_entity x (Some (entity.Definition d n)) zero h fine = absurd (let g = fine.kind in cc)
-  head_entity x (Some (entity.Definition d n)) (suc k) h fine = absurd (let g = fine.kind in cc)
-  head_entity x (Some (entity.Set d)) zero h fine = absurd (let g = fine.kind in cc)
-  head_entity x (Some (entity.Set d)) (suc k) h fine = absurd (let g = fine.kind in cc)
+  head_entity x _ zero h fine = absurd (let g = fine.kind in cc)
+  head_entity x _ (suc k) h fine = absurd (let g = fine.kind in cc)
 
   pub head_order : {m : Meanings} {x : Name} {o : Option ℕ} {s : Sense} → NameIs m x o s → AllFit p ks m → (k : ℕ) → IsFine ks (uses x s (how.Heads k))
       → IsTrue (head_in_order p (head_of o (m x)) k)
@@ -211,9 +200,7 @@ module _ (p : Content) (ks : List Kind) where
       → IsTrue (with_fields (nat_le k) (slice_get p.channels (channel_number e)))
   front_entity x None k h fine = absurd (let g = fine.known in cc)
   front_entity x (Some (entity.Channel c n)) k h fine = at_least n k (slice_get p.channels c) (when_none (nat_lt n k) x fine.count) h
-  front_entity x (Some (entity.Constant c)) k h fine = absurd (let g = fine.kind in cc)
-  front_entity x (Some (entity.Definition d n)) k h fine = absurd (let g = fine.kind in cc)
-  front_entity x (Some (entity.Set d)) k h fine = absurd (let g = fine.kind in cc)
+  front_entity x _ k h fine = absurd (let g = fine.kind in cc)
 
   pub front_order : {m : Meanings} {x : Name} {o : Option ℕ} {s : Sense} → NameIs m x o s → AllFit p ks m → (k : ℕ) → IsFine ks (uses x s (how.Begins k))
       → IsTrue (with_fields (nat_le k) (slice_get p.channels (channel_number (m x))))
@@ -229,14 +216,6 @@ module _ (p : Content) (ks : List Kind) where
       → IsFine ks (uses y (sense_of e') (how.Begins k'))
       → wrong_count (uses x (sense_of e) (how.Renamed k (sense_of e') k')) ≡ None
       → field_count (slice_get p.channels (channel_number e)) - k ≡ field_count (slice_get p.channels (channel_number e')) - k'
-  renamed_entity x y None e' k k' h g a b c = absurd (let z = a.known in cc)
-  renamed_entity x y (Some (entity.Constant i)) e' k k' h g a b c = absurd (let z = a.kind in cc)
-  renamed_entity x y (Some (entity.Definition d i)) e' k k' h g a b c = absurd (let z = a.kind in cc)
-  renamed_entity x y (Some (entity.Set d)) e' k k' h g a b c = absurd (let z = a.kind in cc)
-  renamed_entity x y (Some (entity.Channel i n)) None k k' h g a b c = absurd (let z = b.known in cc)
-  renamed_entity x y (Some (entity.Channel i n)) (Some (entity.Constant j)) k k' h g a b c = absurd (let z = b.kind in cc)
-  renamed_entity x y (Some (entity.Channel i n)) (Some (entity.Definition d j)) k k' h g a b c = absurd (let z = b.kind in cc)
-  renamed_entity x y (Some (entity.Channel i n)) (Some (entity.Set d)) k k' h g a b c = absurd (let z = b.kind in cc)
   renamed_entity x y (Some (entity.Channel i n)) (Some (entity.Channel j n')) k k' h g a b c =
       ap (λ z. z - k) (count_is n (slice_get p.channels i) h) ∙
       (same_count (n - k) (n' - k')
@@ -244,6 +223,10 @@ module _ (p : Content) (ks : List Kind) where
       (or_second_false (nat_lt n k) (nat_lt n' k' || not (nat_eq (n - k) (n' - k')))
       (when_none (nat_lt n k || (nat_lt n' k' || not (nat_eq (n - k) (n' - k')))) x c)))
       ∙ sym (ap (λ z. z - k') (count_is n' (slice_get p.channels j) g)))
+  renamed_entity x y None e' k k' h g a b c = absurd (let z = a.known in cc)
+  renamed_entity x y (Some (entity.Channel i n)) None k k' h g a b c = absurd (let z = b.known in cc)
+  renamed_entity x y (Some (entity.Channel i n)) _ k k' h g a b c = absurd (let z = b.kind in cc)
+  renamed_entity x y _ e' k k' h g a b c = absurd (let z = a.kind in cc)
 
   pub renamed_order : {m : Meanings} {x y : Name} {o o' : Option ℕ} {s s' : Sense} → NameIs m x o s → NameIs m y o' s' → AllFit p ks m → (k k' : ℕ)
       → IsFine ks (uses x s (how.Begins k))

@@ -126,9 +126,7 @@ module _ (p : Content) (m : Meanings) (ks : List Kind) where
     def_fits n.definitions (kind_class (slice_get ks n.definitions)) (kind_network (slice_get ks n.definitions)) x params t hd.0.class hd.0.at,
     entities_fit (counted n (decl.Define x params t)) decls hc hk hd.1,
   )
-  entities_fit n (decl.Assert t ∷ decls) hc hk hd = entities_fit n decls hc hk hd
-  entities_fit n (decl.Roles names ∷ decls) hc hk hd = entities_fit n decls hc hk hd
-  entities_fit n (decl.Resource names ∷ decls) hc hk hd = entities_fit n decls hc hk hd
+  entities_fit n (_ ∷ decls) hc hk hd = entities_fit n decls hc hk hd
 
   found_or : (b : Bool) (e : Entity) (rest : Option Entity) → EntityFits p ks e → Fits p ks rest → Fits p ks (cond b (Some e) rest)
   found_or true e rest h g = h

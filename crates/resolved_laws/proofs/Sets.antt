@@ -67,9 +67,8 @@ if_ok false x y k h = absurd (cc)
 module _ (p : Content) where
   value_ordered : (a : Atom) → IsTrue (may_be_field a) → IsTrue (atom_in_order p a) → IsTrue (is_field_value p a)
   value_ordered (atom.Num n) h g = refl
-  value_ordered (atom.Truth b) h g = absurd (false≢true h)
   value_ordered (atom.Const k) h g = g
-  value_ordered (atom.Event e) h g = absurd (false≢true h)
+  value_ordered _ h g = absurd (false≢true h)
 
   values_ordered : (atoms : List Atom) → IsTrue (all_true (map may_be_field atoms)) → IsTrue (all_true (map (atom_in_order p) atoms))
       → IsTrue (all_true (map (is_field_value p) atoms))
@@ -140,12 +139,7 @@ module _ (p : Content) (whole : IsInOrder p) (m : Meanings) (ks : List Definitio
       subst (HaveSets p (channels_of m ks (decl.Channel xs types) ++ flat_map (channels_of m ks) decls)) (ok_same b.after)
       (sets_here xs types a.first (flat_map (channels_of m ks) decls) b.first o (told_ok i (field_sets p (types_read types)) a.first a.is)
       (λ z. have_sets (i + 1) decls b.first z b.is))
-  have_sets i (decl.Define x params t ∷ decls) all o h = have_sets (i + 1) decls all o h
-  have_sets i (decl.Nametype x t ∷ decls) all o h = have_sets (i + 1) decls all o h
-  have_sets i (decl.Datatype x cs ∷ decls) all o h = have_sets (i + 1) decls all o h
-  have_sets i (decl.Assert t ∷ decls) all o h = have_sets (i + 1) decls all o h
-  have_sets i (decl.Roles names ∷ decls) all o h = have_sets (i + 1) decls all o h
-  have_sets i (decl.Resource names ∷ decls) all o h = have_sets (i + 1) decls all o h
+  have_sets i (_ ∷ decls) all o h = have_sets (i + 1) decls all o h
 
 -- ---- the channels with these sets
 
@@ -160,8 +154,7 @@ module _ (p : Content) where
   pub sets_same : (first : ℕ) (cs : List Channel) (all : List (List (List Atom))) → HaveSets p cs all → SameTypes (with_sets first cs all) cs
   sets_same first [] [] h = tt
   sets_same first (c ∷ cs) (sets ∷ all) h = (refl, sets_same (first + row_count sets) cs all h.1)
-  sets_same first [] (sets ∷ all) h = absurd h
-  sets_same first (c ∷ cs) [] h = absurd h
+  sets_same first _ _ h = absurd h
 
   pub sets_in_place : (first : ℕ) (cs : List Channel) (all : List (List (List Atom))) → HaveSets p cs all
       → IsTrue (all_true (map (λ c. sets_in_order p (length c.types) c.fields) (with_sets first cs all)))
@@ -171,14 +164,12 @@ module _ (p : Content) where
       (all_true (map (λ c. sets_in_order p (length c.types) c.fields) (with_sets (first + row_count sets) cs all)))
       (is_and (nat_eq (length sets) (length c.types)) (all_true (map (set_in_order p) sets)) (eq-eqb (length sets) (length c.types) h.0.count) h.0.ordered)
       (sets_in_place (first + row_count sets) cs all h.1)
-  sets_in_place first [] (sets ∷ all) h = absurd h
-  sets_in_place first (c ∷ cs) [] h = absurd h
+  sets_in_place first _ _ h = absurd h
 
   pub have_all : (first : ℕ) (cs : List Channel) (all : List (List (List Atom))) → HaveSets p cs all → IsTrue (all_true (map has_sets (with_sets first cs all)))
   have_all first [] [] h = refl
   have_all first (c ∷ cs) (sets ∷ all) h = have_all (first + row_count sets) cs all h.1
-  have_all first [] (sets ∷ all) h = absurd h
-  have_all first (c ∷ cs) [] h = absurd h
+  have_all first _ _ h = absurd h
 
   pub firsts_kept : (first : ℕ) (cs : List Channel) (all : List (List (List Atom))) → HaveSets p cs all → (i : ℕ) (c : Channel)
       → slice_get (with_sets first cs all) i ≡ Some c
@@ -190,8 +181,7 @@ module _ (p : Content) where
       ap (λ (z : Channel). z.first) (sym e) ∙ n
   firsts_kept first (d ∷ cs) (sets ∷ all) h (suc i) c g =
       firsts_kept (first + row_count sets) cs all h.1 i c g ∙ plus first (row_count sets) (first_event (with_sets (first + row_count sets) cs all) i)
-  firsts_kept first [] (sets ∷ all) h i c g = absurd h
-  firsts_kept first (d ∷ cs) [] h i c g = absurd h
+  firsts_kept first _ _ h i c g = absurd h
 
   pub count_events : (k first : ℕ) (cs : List Channel) (all : List (List (List Atom))) → HaveSets p cs all
       → length (events_from_channel k (with_sets first cs all)) ≡ all_events all
@@ -200,5 +190,4 @@ module _ (p : Content) where
       length-append (map (event_of k) (rows sets)) (events_from_channel (k + 1) (with_sets (first + row_count sets) cs all)) ∙
       (ap (λ z. z + length (events_from_channel (k + 1) (with_sets (first + row_count sets) cs all))) (length-map (rows sets) (event_of k) ∙ length-rows sets) ∙
       (ap (λ z. row_count sets + z) (count_events (k + 1) (first + row_count sets) cs all h.1) ∙ one_more_set sets all))
-  count_events k first [] (sets ∷ all) h = absurd h
-  count_events k first (c ∷ cs) [] h = absurd h
+  count_events k first _ _ h = absurd h

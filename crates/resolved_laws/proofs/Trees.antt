@@ -7,6 +7,7 @@ use Rattle.csp_program.specs.Lists.{all_true}
 use Rattle.csp_program.specs.declared.expressions.Expr.{Expr}
 use Rattle.csp_program.specs.declared.expressions.Expr.TheVariants as expr
 use Rattle.csp_program.specs.declared.expressions.Gen.{Gen}
+use Rattle.csp_program.specs.declared.expressions.Gen.TheVariants as generator
 use Rattle.csp_program.specs.declared.networks.Net.TheVariants as net
 use Rattle.csp_program.specs.declared.processes.Field.{Field}
 use Rattle.csp_program.specs.declared.processes.Proc.{Proc}
@@ -26,7 +27,7 @@ use Rattle.resolved_laws.proofs.Fitting.{AllFit, alone, called, data_at, process
 use Rattle.resolved_laws.proofs.Formed.{Ends, Reads, AllRead, FieldRead, FieldsRead, GenRead, GensRead, PartRead, PartsRead, PairsRead}
 use Rattle.resolved_laws.proofs.Formed as f
 use Rattle.resolved_laws.proofs.ScopeNames.{renamed, field_names, fields_names, gen_names, gens_names, name_is, names_with}
-use Rattle.resolved_laws.proofs.Order.{Ordered, call_order, condition_order, event_order, expr_order, from_order, front_order, head_order, if_order, leaf_order, named_expr, net_call_order, net_order, of_data, of_network, of_process, renamed_order, sides_order, part_order, proc_order}
+use Rattle.resolved_laws.proofs.Order.{Ordered, call_order, event_order, expr_order, front_order, gen_order, head_order, if_order, leaf_order, named_expr, net_call_order, net_order, of_data, of_network, of_process, renamed_order, sides_order, part_order, proc_order}
 use Rattle.resolved_laws.proofs.Booleans.{and}
 use Rattle.csp_base.proofs.Booleans.{or_first_false, or_second_false}
 
@@ -268,9 +269,8 @@ module _ (p : Content) (m : Meanings) (ks : List Kind) (fits : AllFit p ks m) wh
 
     gen_ordered : {b : Binder} {g : Binding Gen} → GenRead m ks b g → (scope : Scope) (n : ℕ) (place : Place) → AllFine ks (b.says place (names_of scope))
         → IsTrue (gen_in_order p (g.here scope n))
-    gen_ordered (f.from x {a' = a} h) scope n place fine = from_order p ks n (a.expr scope (n + 1))
-        ((ordered h).expr scope (n + 1) false (place.level + 1) fine.1)
-    gen_ordered (f.condition {a' = a} h) scope n place fine = condition_order p ks (a.expr scope n) ((ordered h).expr scope n false (place.level + 1) fine)
+    gen_ordered (f.from x h) scope n place fine = gen_order p ks _ (generator.rolls-From _ _) ((ordered h).expr scope (n + 1) false (place.level + 1) fine.1)
+    gen_ordered (f.condition h) scope n place fine = gen_order p ks _ (generator.rolls-Cond _) ((ordered h).expr scope n false (place.level + 1) fine)
 
     gens_ordered : {bs : List Binder} {gs : List (Binding Gen)} → GensRead m ks bs gs → (scope : Scope) (n : ℕ) (place : Place)
         → AllFine ks (in_turn bs place (names_of scope))

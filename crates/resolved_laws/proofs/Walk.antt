@@ -37,9 +37,13 @@ use Rattle.resolved_laws.proofs.Trees.{ordered}
 use Rattle.resolved_laws.proofs.Booleans.{and, two}
 use Rattle.script_names.proofs.Scopes.{names_of-parameters}
 
-pub counts_append : (n : Counts) (earlier : List Decl) (d : Decl) → counts_of n (earlier ++ d ∷ []) ≡ counted (counts_of n earlier) d
+counts_append : (n : Counts) (earlier : List Decl) (d : Decl) → counts_of n (earlier ++ d ∷ []) ≡ counted (counts_of n earlier) d
 counts_append n [] d = refl
 counts_append n (e ∷ earlier) d = counts_append (counted n e) earlier d
+
+-- the counts after one declaration more
+pub counted_on : (earlier : List Decl) (d : Decl) (n : Counts) → counts_of none_yet earlier ≡ n → counts_of none_yet (earlier ++ d ∷ []) ≡ counted n d
+counted_on earlier d n is = counts_append none_yet earlier d ∙ ap (λ z. counted z d) is
 
 and_split : (a b c : Bool) → IsTrue (a && b) → (IsTrue b → IsTrue c) → IsTrue (a && c)
 and_split true b c h g = g h
@@ -59,30 +63,24 @@ module _ (p : Content) (ks : List Kind) where
 
   note_entity : (x : Name) (e : Option Entity) → Fits p ks e → IsFine ks (uses x (sense_of e) how.Annotated) → IsTrue (note_fits p (definition_number e))
   note_entity x None h fine = absurd (let g = fine.known in cc)
-  note_entity x (Some (entity.Channel c n)) h fine = absurd (let g = fine.kind in cc)
-  note_entity x (Some (entity.Constant c)) h fine = absurd (let g = fine.kind in cc)
-  note_entity x (Some (entity.Set d)) h fine = absurd (let g = fine.kind in cc)
   note_entity x (Some (entity.Definition d n)) h fine =
       subst (λ k. IsTrue (takes is_component k (slice_get p.defs d)))
       (takes_count (is_body_of (kind_class (slice_get ks d)) (kind_network (slice_get ks d))) n (slice_get p.defs d) h)
       (has_component p ks d n (kind_class (slice_get ks d)) (kind_network (slice_get ks d)) h fine.kind)
+  note_entity x _ h fine = absurd (let g = fine.kind in cc)
 
   set_entity : (x y : Name) (e e' : Option Entity) → Fits p ks e → Fits p ks e' → IsFine ks (uses x (sense_of e) how.Annotated)
       → IsFine ks (uses y (sense_of e') (how.Annotates (sense_of e)))
       → IsTrue (set_fits p (definition_number e) (definition_number e'))
   set_entity x y None e' h g fine fine' = absurd (let z = fine.known in cc)
-  set_entity x y (Some (entity.Channel c n)) e' h g fine fine' = absurd (let z = fine.kind in cc)
-  set_entity x y (Some (entity.Constant c)) e' h g fine fine' = absurd (let z = fine.kind in cc)
-  set_entity x y (Some (entity.Set d)) e' h g fine fine' = absurd (let z = fine.kind in cc)
   set_entity x y (Some (entity.Definition d n)) None h g fine fine' = absurd (let z = fine'.known in cc)
-  set_entity x y (Some (entity.Definition d n)) (Some (entity.Channel c k)) h g fine fine' = absurd (let z = fine'.kind in cc)
-  set_entity x y (Some (entity.Definition d n)) (Some (entity.Constant c)) h g fine fine' = absurd (let z = fine'.kind in cc)
-  set_entity x y (Some (entity.Definition d n)) (Some (entity.Set c)) h g fine fine' = absurd (let z = fine'.kind in cc)
   set_entity x y (Some (entity.Definition d n)) (Some (entity.Definition d' n')) h g fine fine' =
       subst (λ k. IsTrue (takes is_datum k (slice_get p.defs d')))
       (same_count n' n (when_none (not (nat_eq n' n)) y fine'.count) ∙ takes_count (is_body_of (kind_class (slice_get ks d)) (kind_network (slice_get ks d)))
       n (slice_get p.defs d) h)
       (has_datum p ks d' n' (kind_class (slice_get ks d')) (kind_network (slice_get ks d')) g fine'.kind)
+  set_entity x y (Some (entity.Definition d n)) _ h g fine fine' = absurd (let z = fine'.kind in cc)
+  set_entity x y _ e' h g fine fine' = absurd (let z = fine.kind in cc)
 
   -- ---- bodies
 
@@ -119,7 +117,6 @@ module _ (script : List Decl) (ks : List Kind) (p : Content) (fits : AllFit p ks
   channel_order earlier (decl.Channel xs types) rest h =
       same_types xs types (types_order types 0 (fine_right ks (declared_after (names_declared earlier) xs) (types_say m ks types)
       (first_faultless script ks earlier (decl.Channel xs types) rest h).fine))
-  channel_order earlier (decl.Define x params t) rest h = refl
   channel_order earlier _ rest h = refl
 
   pub channels_order : (earlier rest : List Decl) → first_fault script ks earlier rest ≡ None
@@ -148,34 +145,20 @@ module _ (script : List Decl) (ks : List Kind) (p : Content) (fits : AllFit p ks
       hd.0.class (ordered p m ks fits (made m ks t))
       (subst (λ z. AllFine ks (tree_says m t (body_place (slice_get ks n.definitions)) z)) (sym (names_of-parameters 0 params))
       (subst (λ (z : Counts). AllFine ks (tree_says m t (body_place (slice_get ks z.definitions)) params)) is w.2)))
-      (defs_order (earlier ++ decl.Define x params t ∷ []) rest (counted n (decl.Define x params t))
-      (counts_append none_yet earlier (decl.Define x params t) ∙ ap (λ z. counted z (decl.Define x params t)) is)
+      (defs_order (earlier ++ decl.Define x params t ∷ []) rest (counted n (decl.Define x params t)) (counted_on earlier (decl.Define x params t) n is)
       (rest_faultless script ks earlier (decl.Define x params t) rest h) hd.1 hk)
   defs_order earlier (decl.Nametype x t ∷ rest) n is h hd hk =
       let w = fine_two ks (declared_after (names_declared earlier) (x ∷ [])) (tree_says m t data_place [])
       (first_faultless script ks earlier (decl.Nametype x t) rest h).fine in
       and ((ordered p m ks fits (made m ks t)).expr [] 0 false 1 w.1)
-      (defs_order (earlier ++ decl.Nametype x t ∷ []) rest (counted n (decl.Nametype x t))
-      (counts_append none_yet earlier (decl.Nametype x t) ∙ ap (λ z. counted z (decl.Nametype x t)) is)
+      (defs_order (earlier ++ decl.Nametype x t ∷ []) rest (counted n (decl.Nametype x t)) (counted_on earlier (decl.Nametype x t) n is)
       (rest_faultless script ks earlier (decl.Nametype x t) rest h) hd.1 hk)
   defs_order earlier (decl.Datatype x cs ∷ rest) n is h hd hk =
       and (numbers_below n.constants cs (flat_map (constants_of m ks) rest) hk)
-      (defs_order (earlier ++ decl.Datatype x cs ∷ []) rest (counted n (decl.Datatype x cs))
-      (counts_append none_yet earlier (decl.Datatype x cs) ∙ ap (λ z. counted z (decl.Datatype x cs)) is)
+      (defs_order (earlier ++ decl.Datatype x cs ∷ []) rest (counted n (decl.Datatype x cs)) (counted_on earlier (decl.Datatype x cs) n is)
       (rest_faultless script ks earlier (decl.Datatype x cs) rest h) hd.1 (each_later (HasConst p m ks) n.constants cs (flat_map (constants_of m ks) rest) hk))
-  defs_order earlier (decl.Channel xs types ∷ rest) n is h hd hk =
-      defs_order (earlier ++ decl.Channel xs types ∷ []) rest (counted n (decl.Channel xs types))
-      (counts_append none_yet earlier (decl.Channel xs types) ∙ ap (λ z. counted z (decl.Channel xs types)) is)
-      (rest_faultless script ks earlier (decl.Channel xs types) rest h) hd hk
-  defs_order earlier (decl.Assert t ∷ rest) n is h hd hk =
-      defs_order (earlier ++ decl.Assert t ∷ []) rest n (counts_append none_yet earlier (decl.Assert t) ∙ is)
-      (rest_faultless script ks earlier (decl.Assert t) rest h) hd hk
-  defs_order earlier (decl.Roles names ∷ rest) n is h hd hk =
-      defs_order (earlier ++ decl.Roles names ∷ []) rest n (counts_append none_yet earlier (decl.Roles names) ∙ is)
-      (rest_faultless script ks earlier (decl.Roles names) rest h) hd hk
-  defs_order earlier (decl.Resource names ∷ rest) n is h hd hk =
-      defs_order (earlier ++ decl.Resource names ∷ []) rest n (counts_append none_yet earlier (decl.Resource names) ∙ is)
-      (rest_faultless script ks earlier (decl.Resource names) rest h) hd hk
+  defs_order earlier (d ∷ rest) n is h hd hk =
+      defs_order (earlier ++ d ∷ []) rest (counted n d) (counted_on earlier d n is) (rest_faultless script ks earlier d rest h) hd hk
 
   set_order : (process set : Name) → IsFine ks (uses process (sense_in m [] process) how.Annotated)
       → IsFine ks (uses set (sense_in m [] set) (how.Annotates (sense_in m [] process)))
@@ -191,7 +174,6 @@ module _ (script : List Decl) (ks : List Kind) (p : Content) (fits : AllFit p ks
       (and (set_order names.process names.cack w.1.0 w.1.1.1.0)
       (and (set_order names.process names.sreq w.1.0 w.1.1.1.1.0)
       (set_order names.process names.sack w.1.0 w.1.1.1.1.1.0))))) refl
-  role_order earlier (decl.Channel xs types) rest h = refl
   role_order earlier _ rest h = refl
 
   pub roles_order : (earlier rest : List Decl) → first_fault script ks earlier rest ≡ None → IsTrue
@@ -207,7 +189,6 @@ module _ (script : List Decl) (ks : List Kind) (p : Content) (fits : AllFit p ks
       let w = (first_faultless script ks earlier (decl.Resource names) rest h).fine in
       and (and (note_entity p ks names.process (m names.process) (fits.fit names.process) w.1.0)
       (and (set_order names.process names.acquire w.1.0 w.1.1.0) (set_order names.process names.release w.1.0 w.1.1.1.0))) refl
-  resource_order earlier (decl.Channel xs types) rest h = refl
   resource_order earlier _ rest h = refl
 
   pub resources_order : (earlier rest : List Decl) → first_fault script ks earlier rest ≡ None
@@ -220,15 +201,4 @@ module _ (script : List Decl) (ks : List Kind) (p : Content) (fits : AllFit p ks
   pub root_order : (earlier rest : List Decl) → first_fault script ks earlier rest ≡ None → IsTrue (net_in_order p (root_of m ks (first_assertion rest)))
   root_order earlier [] h = leaf_order p ks proc.Stop (proc_order p ks Proc-F.Stop proc.rolls-Stop refl)
   root_order earlier (decl.Assert t ∷ rest) h = (ordered p m ks fits (made m ks t)).net [] 0 1 (first_faultless script ks earlier (decl.Assert t) rest h).fine
-  root_order earlier (decl.Channel xs types ∷ rest) h = root_order (earlier ++ decl.Channel xs types ∷ []) rest
-      (rest_faultless script ks earlier (decl.Channel xs types) rest h)
-  root_order earlier (decl.Define x params t ∷ rest) h = root_order (earlier ++ decl.Define x params t ∷ []) rest
-      (rest_faultless script ks earlier (decl.Define x params t) rest h)
-  root_order earlier (decl.Nametype x t ∷ rest) h = root_order (earlier ++ decl.Nametype x t ∷ []) rest
-      (rest_faultless script ks earlier (decl.Nametype x t) rest h)
-  root_order earlier (decl.Datatype x cs ∷ rest) h = root_order (earlier ++ decl.Datatype x cs ∷ []) rest
-      (rest_faultless script ks earlier (decl.Datatype x cs) rest h)
-  root_order earlier (decl.Roles names ∷ rest) h = root_order (earlier ++ decl.Roles names ∷ []) rest
-      (rest_faultless script ks earlier (decl.Roles names) rest h)
-  root_order earlier (decl.Resource names ∷ rest) h = root_order (earlier ++ decl.Resource names ∷ []) rest
-      (rest_faultless script ks earlier (decl.Resource names) rest h)
+  root_order earlier (d ∷ rest) h = root_order (earlier ++ d ∷ []) rest (rest_faultless script ks earlier d rest h)

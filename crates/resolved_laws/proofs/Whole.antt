@@ -42,8 +42,7 @@ SameTypes (c ∷ cs) [] = ⊥
 pub same_length : (cs ds : List Channel) → SameTypes cs ds → length cs ≡ length ds
 same_length [] [] h = refl
 same_length (c ∷ cs) (d ∷ ds) h = ap (λ k. suc k) (same_length cs ds h.1)
-same_length [] (d ∷ ds) h = absurd h
-same_length (c ∷ cs) [] h = absurd h
+same_length _ _ h = absurd h
 
 pub same_itself : (cs : List Channel) → SameTypes cs cs
 same_itself [] = tt
@@ -52,8 +51,7 @@ same_itself (c ∷ cs) = (refl, same_itself cs)
 same_closed : (cs ds : List Channel) → SameTypes cs ds → AllClosedTypes ds → AllClosedTypes cs
 same_closed [] [] h g = tt
 same_closed (c ∷ cs) (d ∷ ds) h g = (subst AllClosed (sym h.0) g.0, same_closed cs ds h.1 g.1)
-same_closed [] (d ∷ ds) h g = absurd h
-same_closed (c ∷ cs) [] h g = absurd h
+same_closed _ _ h g = absurd h
 
 -- one definition for each body
 one_each : (m : Meanings) (ks : List Kind) (n : Counts) (decls : List Decl) → length (definitions_from m ks n decls) ≡ length (flat_map (body_ends m) decls)
@@ -61,10 +59,7 @@ one_each m ks n [] = refl
 one_each m ks n (decl.Define x params t ∷ decls) = ap (λ k. suc k) (one_each m ks (counted n (decl.Define x params t)) decls)
 one_each m ks n (decl.Nametype x t ∷ decls) = ap (λ k. suc k) (one_each m ks (counted n (decl.Nametype x t)) decls)
 one_each m ks n (decl.Datatype x cs ∷ decls) = ap (λ k. suc k) (one_each m ks (counted n (decl.Datatype x cs)) decls)
-one_each m ks n (decl.Channel xs types ∷ decls) = one_each m ks (counted n (decl.Channel xs types)) decls
-one_each m ks n (decl.Assert t ∷ decls) = one_each m ks n decls
-one_each m ks n (decl.Roles names ∷ decls) = one_each m ks n decls
-one_each m ks n (decl.Resource names ∷ decls) = one_each m ks n decls
+one_each m ks n (d ∷ decls) = one_each m ks (counted n d) decls
 
 kind_at : (ks : List Kind) (d : ℕ) → d < length ks → (kind : Kind) × (slice_get ks d ≡ Some kind)
 kind_at [] d h = absurd (omega arith)
@@ -92,8 +87,7 @@ module _ (decls : List Decl) (ks : List Kind) (are : AreKinds decls ks) (none : 
   channels_have n [] [] s h = tt
   channels_have n (x ∷ xs) (y ∷ ys) s h =
       (subst (λ z. IsTrue (with_fields (λ k. nat_eq k (length z)) (slice_get cs n))) s.0 h.0, channels_have (n + 1) xs ys s.1 h.1)
-  channels_have n [] (y ∷ ys) s h = absurd s
-  channels_have n (x ∷ xs) [] s h = absurd s
+  channels_have n _ _ s h = absurd s
 
   channel_at : (i : ℕ) (c : Channel) → slice_get cs i ≡ Some c → HasChannel q m ks i c
   channel_at i c h = subst (λ o. IsTrue (with_fields (λ k. nat_eq k (length c.types)) o)) (sym h) (eq-eqb (length c.types) (length c.types) refl)
@@ -131,8 +125,7 @@ module _ (decls : List Decl) (ks : List Kind) (are : AreKinds decls ks) (none : 
       let h' = two (all_true (map (expr_in_order q) y.types)) (all_true (map (have_order decls ks q fits) ys)) h in
       let g' = two (sets_in_order q (length x.types) x.fields) (all_true (map (λ c. sets_in_order q (length c.types) c.fields) xs)) g in
       and (and (subst (λ z. IsTrue (all_true (map (expr_in_order q) z))) (sym s.0) h'.0) g'.0) (types_and_sets xs ys s.1 h'.1 g'.1)
-  types_and_sets [] (y ∷ ys) s h g = absurd s
-  types_and_sets (x ∷ xs) [] s h g = absurd s
+  types_and_sets _ _ s h g = absurd s
 
   pub in_order : length es < 2 ^ 32 → length cs < 2 ^ 32 → length q.consts < 2 ^ 32 → length q.defs < 2 ^ 32
       → IsTrue (all_true (map (λ c. sets_in_order q (length c.types) c.fields) cs))
@@ -169,12 +162,7 @@ module _ (m : Meanings) (ks : List Kind) where
   channels_plain : (decls : List Decl) → ArePlain (flat_map (channels_of m ks) decls)
   channels_plain [] = tt
   channels_plain (decl.Channel xs types ∷ decls) = channel_plain xs types (flat_map (channels_of m ks) decls) (channels_plain decls)
-  channels_plain (decl.Define x params t ∷ decls) = channels_plain decls
-  channels_plain (decl.Nametype x t ∷ decls) = channels_plain decls
-  channels_plain (decl.Datatype x cs ∷ decls) = channels_plain decls
-  channels_plain (decl.Assert t ∷ decls) = channels_plain decls
-  channels_plain (decl.Roles names ∷ decls) = channels_plain decls
-  channels_plain (decl.Resource names ∷ decls) = channels_plain decls
+  channels_plain (_ ∷ decls) = channels_plain decls
 
 plain_lack : (cs : List Channel) → ArePlain cs → IsTrue (all_true (map lacks_sets cs))
 plain_lack [] h = refl

@@ -215,14 +215,13 @@ same_option h = cc
 
 same_values : (xs ys : List Atom) → map (λ a. One a) xs ≡ map (λ a. One a) ys → xs ≡ ys
 same_values [] [] h = refl
-same_values [] (y ∷ ys) h = absurd (cc)
-same_values (x ∷ xs) [] h = absurd (cc)
 same_values (x ∷ xs) (y ∷ ys) h =
     let first : One x ≡ One y = cc in
     let e : x ≡ y = cc in
     let rest : map (λ a. One a) xs ≡ map (λ a. One a) ys = cc in
     let f = same_values xs ys rest in
     λ i. e i ∷ f i
+same_values _ _ h = absurd (cc)
 
 beginners_forth : (channels : List Channel) (c : ℕ) (sets : List (List Atom)) (fields : List Meaning) (env : Env) (row : List Atom) (first : ℕ)
     → HasSets channels c sets → HaveValues fields env row → summed_number channels c fields env ≡ Ok first

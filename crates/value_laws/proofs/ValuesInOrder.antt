@@ -1,5 +1,5 @@
 -- The value of an expression in order, over a program in order, is in order.
-use Rattle.std.proofs.Common.{◌≡◌, ℕ, zero, suc, ◌<◌, Bool, true, false, cond, ◌&&◌, not, IsTrue, Option, Some, None, Ok, Err, List, [], ◌∷◌, map, length, refl, sym, ◌∙◌, subst, inl, inr, arith}
+use Rattle.std.proofs.Common.{◌≡◌, ℕ, zero, suc, Bool, true, false, cond, ◌&&◌, not, IsTrue, Option, Some, None, Ok, Err, List, [], ◌∷◌, map, length, refl, sym, ◌∙◌, subst, inl, inr, arith}
 use Rattle.std.specs.Prelude.{ℤ, pos, negsuc, ◌+ℤ◌, ◌<ℤ◌, ◌-ℤ◌, ◌*ℤ◌, neg_ℤ, int_lt, int_le, nat_lt, nat_eq, slice_get}
 use Rattle.std.proofs.lemmas.Bool.{false≢true, lt-ltb, or_cases}
 use Rattle.std.proofs.lemmas.Int.{ints}
@@ -102,22 +102,17 @@ module _ (p : Content) where
   fine_divided f m (negsuc d) = fine_err Division
 
   fine_on_numbers : (f : ℤ → ℤ → Outcome Value) (v : Value) (second : Outcome Value) → ((m n : ℤ) → Fine (f m n)) → Fine (on_numbers f v second)
-  fine_on_numbers f v second g =
-      fine_then (as_number v) (λ m. and_then second (λ w. and_then (as_number w) (λ n. f m n)))
-      (λ m e. fine_then second (λ w. and_then (as_number w) (λ n. f m n)) (λ w e'. fine_then (as_number w) (λ n. f m n) (λ n e''. g m n)))
+  fine_on_numbers f v second g = fine_then (as_number v) _ (λ m e. fine_then second _ (λ w e'. fine_then (as_number w) _ (λ n e''. g m n)))
 
   fine_on_atoms : (f : Atom → Atom → Bool) (v : Value) (second : Outcome Value) → Fine (on_atoms f v second)
   fine_on_atoms f v second =
-      fine_then (as_atom v) (λ a. and_then second (λ w. and_then (as_atom w) (λ b. cond (same_kind a b) (Ok (truth (f a b))) (Err Kind))))
-      (λ a e. fine_then second (λ w. and_then (as_atom w) (λ b. cond (same_kind a b) (Ok (truth (f a b))) (Err Kind)))
-      (λ w e'. fine_then (as_atom w) (λ b. cond (same_kind a b) (Ok (truth (f a b))) (Err Kind))
+      fine_then (as_atom v) _ (λ a e. fine_then second _ (λ w e'. fine_then (as_atom w) _
       (λ b e''. fine_if (same_kind a b) (Ok (truth (f a b))) (Err Kind) (fine_truth (f a b)) (fine_err Kind))))
 
   fine_on_truths : (decides : Bool) (v : Value) (second : Outcome Value) → Fine (on_truths decides v second)
   fine_on_truths decides v second =
-      fine_then (as_truth v) (λ b. cond (cond decides b (not b)) (Ok (truth b)) (and_then second (λ w. and_then (as_truth w) (λ c. Ok (truth c)))))
-      (λ b e. fine_if (cond decides b (not b)) (Ok (truth b)) (and_then second (λ w. and_then (as_truth w) (λ c. Ok (truth c)))) (fine_truth b)
-      (fine_then second (λ w. and_then (as_truth w) (λ c. Ok (truth c))) (λ w e'. fine_then (as_truth w) (λ c. Ok (truth c)) (λ c e''. fine_truth c))))
+      fine_then (as_truth v) _ (λ b e. fine_if (cond decides b (not b)) (Ok (truth b)) (and_then second (λ w. and_then (as_truth w) (λ c. Ok (truth c)))) (fine_truth b)
+      (fine_then second _ (λ w e'. fine_then (as_truth w) _ (λ c e''. fine_truth c))))
 
   fine_binary : (o : BinOp) (v : Value) (second : Outcome Value) → Fine (binary o v second)
   fine_binary op.Or v second = fine_on_truths true v second
@@ -166,7 +161,7 @@ module _ (p : Content) where
   FineSet o = (set : List Atom) → o ≡ Ok set → SetFine set
 
   fine_many : (o : Outcome (List Atom)) → FineSet o → Fine (many o)
-  fine_many o f = fine_then o (λ atoms. Ok (Many atoms)) (λ set e. fine_ok (Many set) (set_value set (f set e)))
+  fine_many o f = fine_then o _ (λ set e. fine_ok (Many set) (set_value set (f set e)))
 
   fine_limited : (xs : List Atom) → SetFine xs → FineSet (limited xs)
   fine_limited xs s set h = subst SetFine (limit_back xs set h) s
@@ -213,9 +208,8 @@ module _ (p : Content) where
   AllOrdered (v ∷ vs) = IsTrue (value_in_order p v) × AllOrdered vs
 
   bound_to_fine : (params : List ℕ) (args : List Value) → AllOrdered args → EnvIsInOrder p (bound_to params args)
-  bound_to_fine [] args o = tt
-  bound_to_fine (x ∷ xs) [] o = tt
   bound_to_fine (x ∷ xs) (v ∷ vs) o = (o.0, bound_to_fine xs vs o.1)
+  bound_to_fine _ _ o = tt
 
   const_fine : (ks : List ℕ) → IsTrue (all_true (map (λ k. nat_lt k (length p.consts)) ks)) → AllIn (map (λ k. atom.Const k) ks)
   const_fine [] o z h = absurd (false≢true h)
@@ -309,7 +303,7 @@ module _ (p : Content) where
       event_fine c fields o env r =
           let ms : List Meaning = map M fields in
           let count : ℕ = length (map (expr_in_order p) fields) in
-          fine_then (front_number (first_of (slice_get p.channels c)) (sets_of (slice_get p.channels c)) ms env) (λ e. Ok (One (atom.Event e)))
+          fine_then (front_number (first_of (slice_get p.channels c)) (sets_of (slice_get p.channels c)) ms env) _
           (λ e g.
           let s = has_sets (first_of (slice_get p.channels c)) (sets_of (slice_get p.channels c)) ms env e g in
           let long : length ms ≡ count = length-map fields M ∙ sym (length-map fields (expr_in_order p)) in
@@ -348,17 +342,12 @@ module _ (p : Content) where
 
       range_fine : (a b : Expr) → FineMeaning (of_form (Expr-F.Range a b))
       range_fine a b env r =
-          fine_then (M a env) (λ v. and_then (as_number v) (λ m. and_then (M b env) (λ w. and_then (as_number w) (λ n. many (meant.range m n)))))
-          (λ v e. fine_then (as_number v) (λ m. and_then (M b env) (λ w. and_then (as_number w) (λ n. many (meant.range m n))))
-          (λ m f. fine_then (M b env) (λ w. and_then (as_number w) (λ n. many (meant.range m n)))
-          (λ w g. fine_then (as_number w) (λ n. many (meant.range m n)) (λ n h. fine_many (meant.range m n) (fine_range m n)))))
+          fine_then (M a env) _ (λ v e. fine_then (as_number v) _ (λ m f. fine_then (M b env) _ (λ w g. fine_then (as_number w) _
+          (λ n h. fine_many (meant.range m n) (fine_range m n)))))
 
       set_op_fine : (q : SetOp) (a b : Expr) → FineExpr a → FineExpr b → IsTrue (expr_in_order p a && expr_in_order p b) → FineMeaning (of_form (Expr-F.SetOp q a b))
       set_op_fine q a b first second o env r =
-          fine_then (M a env) (λ v. and_then (as_set v) (λ xs. and_then (M b env) (λ w. and_then (as_set w) (λ ys. many (set_binary q xs ys)))))
-          (λ v e. fine_then (as_set v) (λ xs. and_then (M b env) (λ w. and_then (as_set w) (λ ys. many (set_binary q xs ys))))
-          (λ xs f. fine_then (M b env) (λ w. and_then (as_set w) (λ ys. many (set_binary q xs ys)))
-          (λ w g. fine_then (as_set w) (λ ys. many (set_binary q xs ys))
+          fine_then (M a env) _ (λ v e. fine_then (as_set v) _ (λ xs f. fine_then (M b env) _ (λ w g. fine_then (as_set w) _
           (λ ys h. fine_many (set_binary q xs ys) (fine_set_binary q xs ys
           (fine_as_set v (first (is_first (expr_in_order p a) (expr_in_order p b) o) env r v e) xs f)
           (fine_as_set w (second (is_second (expr_in_order p a) (expr_in_order p b) o) env r w g) ys h))))))
@@ -366,8 +355,7 @@ module _ (p : Content) where
       if_fine : (c a b : Expr) → FineExpr a → FineExpr b → IsTrue (expr_in_order p c && (expr_in_order p a && expr_in_order p b)) → FineMeaning (of_form (Expr-F.If c a b))
       if_fine c a b first second o env r =
           let two = is_second (expr_in_order p c) (expr_in_order p a && expr_in_order p b) o in
-          fine_then (M c env) (λ v. and_then (as_truth v) (λ t. cond t (M a env) (M b env)))
-          (λ v e. fine_then (as_truth v) (λ t. cond t (M a env) (M b env))
+          fine_then (M c env) _ (λ v e. fine_then (as_truth v) _
           (λ t f. fine_if t (M a env) (M b env)
           (first (is_first (expr_in_order p a) (expr_in_order p b) two) env r) (second (is_second (expr_in_order p a) (expr_in_order p b) two) env r)))
 
@@ -377,20 +365,15 @@ module _ (p : Content) where
       form_fine (Expr-F.Const k) fine o env r = fine_ok (One (atom.Const k)) o
       form_fine (Expr-F.Bound x) fine o env r = bound_fine env r x
       form_fine (Expr-F.Lit w) fine o env r = fine_ok w o
-      form_fine (Expr-F.Neg a) fine o env r =
-          fine_then (M a env) (λ v. and_then (as_number v) (λ n. in_range (neg_ℤ n)))
-          (λ v e. fine_then (as_number v) (λ n. in_range (neg_ℤ n)) (λ n f. fine_in_range (neg_ℤ n)))
-      form_fine (Expr-F.Not a) fine o env r =
-          fine_then (M a env) (λ v. and_then (as_truth v) (λ b. Ok (truth (not b))))
-          (λ v e. fine_then (as_truth v) (λ b. Ok (truth (not b))) (λ b f. fine_truth (not b)))
-      form_fine (Expr-F.Binary q a b) fine o env r = fine_then (M a env) (λ v. binary q v (M b env)) (λ v e. fine_binary q v (M b env))
+      form_fine (Expr-F.Neg a) fine o env r = fine_then (M a env) _ (λ v e. fine_then (as_number v) _ (λ n f. fine_in_range (neg_ℤ n)))
+      form_fine (Expr-F.Not a) fine o env r = fine_then (M a env) _ (λ v e. fine_then (as_truth v) _ (λ b f. fine_truth (not b)))
+      form_fine (Expr-F.Binary q a b) fine o env r = fine_then (M a env) _ (λ v e. fine_binary q v (M b env))
       form_fine (Expr-F.If c a b) fine o env r = if_fine c a b fine.1 fine.2 o env r
       form_fine (Expr-F.Call d args) fine o env r =
-          fine_then (values_of (map M args) env) (λ vs. u d vs)
+          fine_then (values_of (map M args) env) _
           (λ vs e. uses_fine d vs (values_fine args fine
           (is_second (takes is_datum (length (map (expr_in_order p) args)) (slice_get p.defs d)) (all_exprs args) o) env r vs e))
-      form_fine (Expr-F.SetName d) fine o env r =
-          fine_then (u d []) (λ v. many (as_set v)) (λ v e. fine_many (as_set v) (fine_as_set v (uses_fine d [] tt v e)))
+      form_fine (Expr-F.SetName d) fine o env r = fine_then (u d []) _ (λ v e. fine_many (as_set v) (fine_as_set v (uses_fine d [] tt v e)))
       form_fine (Expr-F.Event c fields) fine o env r = event_fine c fields o env r
       form_fine (Expr-F.Display items) fine o env r = display_fine items fine o env r
       form_fine (Expr-F.Range a b) fine o env r = range_fine a b env r

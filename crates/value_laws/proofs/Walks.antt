@@ -32,11 +32,8 @@ atom_back (One b) a h = cc
 atom_back (Many atoms) a h = absurd (cc)
 
 pub truth_back : (v : Value) (b : Bool) → as_truth v ≡ Ok b → v ≡ truth b
-truth_back (One (atom.Num n)) b h = absurd (cc)
 truth_back (One (atom.Truth t)) b h = cc
-truth_back (One (atom.Const k)) b h = absurd (cc)
-truth_back (One (atom.Event e)) b h = absurd (cc)
-truth_back (Many atoms) b h = absurd (cc)
+truth_back _ b h = absurd (cc)
 
 -- ---- sets that grow
 

@@ -1,29 +1,28 @@
 -- Each form by its lemma.
-use Rattle.std.proofs.Common.{List, subst}
+use Rattle.std.proofs.Common.{false, List, refl, subst}
+use Rattle.csp_program.specs.Substitution.{any_binds}
 use Rattle.csp_program.specs.declared.expressions.Expr.{Expr}
+use Rattle.csp_program.specs.declared.expressions.Expr.TheOpen.{Expr-F}
+use Rattle.csp_program.specs.declared.expressions.Expr.TheVariants as expr
 use Rattle.pool_parts.proofs.LowLemmas as low
 use Rattle.pool_parts.specs.Low.{AllLow, ExprLow, GenLow, PartLow}
 use Rattle.pool_parts.proofs.least.+least_of_expr.Goals as goal
+use Rattle.substitution.specs.Parts.{part_after}
 
 pub least_of_expr-returns-in-Num : goal.least_of_expr-returns-in-Num
-least_of_expr-returns-in-Num t c =
-    low.low_Num 4294967295 c.args.expr.now c.in-Num.field-0 c.in-Num.is
+least_of_expr-returns-in-Num t c = low.form_low 4294967295 c.args.expr.now _ (Expr-F.Num _) c.in-Num.is (expr.rolls-Num _) (λ x v l. refl)
 
 pub least_of_expr-returns-in-Truth : goal.least_of_expr-returns-in-Truth
-least_of_expr-returns-in-Truth t c =
-    low.low_Truth 4294967295 c.args.expr.now c.in-Truth.field-0 c.in-Truth.is
+least_of_expr-returns-in-Truth t c = low.form_low 4294967295 c.args.expr.now _ (Expr-F.Truth _) c.in-Truth.is (expr.rolls-Truth _) (λ x v l. refl)
 
 pub least_of_expr-returns-in-Const : goal.least_of_expr-returns-in-Const
-least_of_expr-returns-in-Const t c =
-    low.low_Const 4294967295 c.args.expr.now c.in-Const.field-0 c.in-Const.is
+least_of_expr-returns-in-Const t c = low.form_low 4294967295 c.args.expr.now _ (Expr-F.Const _) c.in-Const.is (expr.rolls-Const _) (λ x v l. refl)
 
 pub least_of_expr-returns-in-Lit : goal.least_of_expr-returns-in-Lit
-least_of_expr-returns-in-Lit t c =
-    low.low_Lit 4294967295 c.args.expr.now c.in-Lit.field-0 c.in-Lit.is
+least_of_expr-returns-in-Lit t c = low.form_low 4294967295 c.args.expr.now _ (Expr-F.Lit _) c.in-Lit.is (expr.rolls-Lit _) (λ x v l. refl)
 
 pub least_of_expr-returns-in-SetName : goal.least_of_expr-returns-in-SetName
-least_of_expr-returns-in-SetName t c =
-    low.low_SetName 4294967295 c.args.expr.now c.in-SetName.field-0 c.in-SetName.is
+least_of_expr-returns-in-SetName t c = low.form_low 4294967295 c.args.expr.now _ (Expr-F.SetName _) c.in-SetName.is (expr.rolls-SetName _) (λ x v l. refl)
 
 pub least_of_expr-returns-in-Bound : goal.least_of_expr-returns-in-Bound
 least_of_expr-returns-in-Bound t c =
@@ -31,50 +30,63 @@ least_of_expr-returns-in-Bound t c =
 
 pub least_of_expr-returns-in-Neg : goal.least_of_expr-returns-in-Neg
 least_of_expr-returns-in-Neg t c =
-    low.low_Neg c.least_of_expr.result c.args.expr.now c.in-Neg.a c.in-Neg.is (low.expr_at c.least_of_expr.result c.get.result.now c.in-Neg.a c.get.ensures c.least_of_expr.ensures)
+    let below = low.expr_at c.least_of_expr.result c.get.result.now c.in-Neg.a c.get.ensures c.least_of_expr.ensures in
+    low.form_low c.least_of_expr.result c.args.expr.now _ (Expr-F.Neg c.in-Neg.a) c.in-Neg.is (expr.rolls-Neg _) (λ x v l i. Expr-F.Neg (low.expr_stays _ x v l c.in-Neg.a below i))
 
 pub least_of_expr-returns-in-Not : goal.least_of_expr-returns-in-Not
 least_of_expr-returns-in-Not t c =
-    low.low_Not c.least_of_expr-in-Not.result c.args.expr.now c.in-Not.a c.in-Not.is (low.expr_at c.least_of_expr-in-Not.result c.get-in-Not.result.now c.in-Not.a c.get-in-Not.ensures c.least_of_expr-in-Not.ensures)
+    let below = low.expr_at c.least_of_expr-in-Not.result c.get-in-Not.result.now c.in-Not.a c.get-in-Not.ensures c.least_of_expr-in-Not.ensures in
+    low.form_low c.least_of_expr-in-Not.result c.args.expr.now _ (Expr-F.Not c.in-Not.a) c.in-Not.is (expr.rolls-Not _) (λ x v l i. Expr-F.Not (low.expr_stays _ x v l c.in-Not.a below i))
 
 pub least_of_expr-returns-in-Binary : goal.least_of_expr-returns-in-Binary
 least_of_expr-returns-in-Binary t c =
-    low.low_Binary c.least_of_both.result c.args.expr.now c.in-Binary.field-0 c.in-Binary.a c.in-Binary.b c.in-Binary.is c.least_of_both.ensures.left c.least_of_both.ensures.right
+    low.form_low c.least_of_both.result c.args.expr.now _ (Expr-F.Binary c.in-Binary.field-0 c.in-Binary.a c.in-Binary.b) c.in-Binary.is (expr.rolls-Binary _ _ _)
+    (λ x v l i. Expr-F.Binary c.in-Binary.field-0 (low.expr_stays _ x v l c.in-Binary.a c.least_of_both.ensures.left i) (low.expr_stays _ x v l c.in-Binary.b c.least_of_both.ensures.right i))
 
 pub least_of_expr-returns-in-Range : goal.least_of_expr-returns-in-Range
 least_of_expr-returns-in-Range t c =
-    low.low_Range c.least_of_both-in-Range.result c.args.expr.now c.in-Range.a c.in-Range.b c.in-Range.is c.least_of_both-in-Range.ensures.left c.least_of_both-in-Range.ensures.right
+    low.form_low c.least_of_both-in-Range.result c.args.expr.now _ (Expr-F.Range c.in-Range.a c.in-Range.b) c.in-Range.is (expr.rolls-Range _ _)
+    (λ x v l i. Expr-F.Range (low.expr_stays _ x v l c.in-Range.a c.least_of_both-in-Range.ensures.left i) (low.expr_stays _ x v l c.in-Range.b c.least_of_both-in-Range.ensures.right i))
 
 pub least_of_expr-returns-in-SetOp : goal.least_of_expr-returns-in-SetOp
 least_of_expr-returns-in-SetOp t c =
-    low.low_SetOp c.least_of_both-in-SetOp.result c.args.expr.now c.in-SetOp.field-0 c.in-SetOp.a c.in-SetOp.b c.in-SetOp.is c.least_of_both-in-SetOp.ensures.left c.least_of_both-in-SetOp.ensures.right
+    low.form_low c.least_of_both-in-SetOp.result c.args.expr.now _ (Expr-F.SetOp c.in-SetOp.field-0 c.in-SetOp.a c.in-SetOp.b) c.in-SetOp.is (expr.rolls-SetOp _ _ _)
+    (λ x v l i. Expr-F.SetOp c.in-SetOp.field-0 (low.expr_stays _ x v l c.in-SetOp.a c.least_of_both-in-SetOp.ensures.left i) (low.expr_stays _ x v l c.in-SetOp.b c.least_of_both-in-SetOp.ensures.right i))
 
 pub least_of_expr-returns-in-If : goal.least_of_expr-returns-in-If
 least_of_expr-returns-in-If t c =
-    low.low_If c.lower.result c.args.expr.now c.in-If.c c.in-If.a c.in-If.b c.in-If.is
-    (low.part_of c.lower.result c.least_of_expr-in-If.result c.get-in-If.result.now c.in-If.c c.get-in-If.ensures c.lower.ensures.left c.least_of_expr-in-If.ensures)
-    (low.expr_lower c.lower.result c.least_of_both-in-If.result c.in-If.a c.lower.ensures.right c.least_of_both-in-If.ensures.left)
-    (low.expr_lower c.lower.result c.least_of_both-in-If.result c.in-If.b c.lower.ensures.right c.least_of_both-in-If.ensures.right)
+    let first = low.part_of c.lower.result c.least_of_expr-in-If.result c.get-in-If.result.now c.in-If.c c.get-in-If.ensures c.lower.ensures.left c.least_of_expr-in-If.ensures in
+    let left = low.expr_lower c.lower.result c.least_of_both-in-If.result c.in-If.a c.lower.ensures.right c.least_of_both-in-If.ensures.left in
+    let right = low.expr_lower c.lower.result c.least_of_both-in-If.result c.in-If.b c.lower.ensures.right c.least_of_both-in-If.ensures.right in
+    low.form_low c.lower.result c.args.expr.now _ (Expr-F.If c.in-If.c c.in-If.a c.in-If.b) c.in-If.is (expr.rolls-If _ _ _)
+    (λ x v l i. Expr-F.If (low.expr_stays _ x v l c.in-If.c first i) (low.expr_stays _ x v l c.in-If.a left i) (low.expr_stays _ x v l c.in-If.b right i))
 
 pub least_of_expr-returns-in-Call : goal.least_of_expr-returns-in-Call
 least_of_expr-returns-in-Call t c =
-    low.low_Call c.least_of_exprs.result c.args.expr.now c.in-Call.field-0 c.in-Call.args c.in-Call.is (subst (λ (es : List Expr). AllLow ExprLow c.least_of_exprs.result es) c.as_slice.ensures c.least_of_exprs.ensures)
+    let below = subst (λ (es : List Expr). AllLow ExprLow c.least_of_exprs.result es) c.as_slice.ensures c.least_of_exprs.ensures in
+    low.form_low c.least_of_exprs.result c.args.expr.now _ (Expr-F.Call c.in-Call.field-0 c.in-Call.args) c.in-Call.is (expr.rolls-Call _ _) (λ x v l i. Expr-F.Call c.in-Call.field-0 (low.exprs_stay _ x v l c.in-Call.args below false i))
 
 pub least_of_expr-returns-in-Event : goal.least_of_expr-returns-in-Event
 least_of_expr-returns-in-Event t c =
-    low.low_Event c.least_of_exprs-in-Event.result c.args.expr.now c.in-Event.field-0 c.in-Event.fields c.in-Event.is (subst (λ (es : List Expr). AllLow ExprLow c.least_of_exprs-in-Event.result es) c.as_slice-in-Event.ensures c.least_of_exprs-in-Event.ensures)
+    let below = subst (λ (es : List Expr). AllLow ExprLow c.least_of_exprs-in-Event.result es) c.as_slice-in-Event.ensures c.least_of_exprs-in-Event.ensures in
+    low.form_low c.least_of_exprs-in-Event.result c.args.expr.now _ (Expr-F.Event c.in-Event.field-0 c.in-Event.fields) c.in-Event.is (expr.rolls-Event _ _) (λ x v l i. Expr-F.Event c.in-Event.field-0 (low.exprs_stay _ x v l c.in-Event.fields below false i))
 
 pub least_of_expr-returns-in-Display : goal.least_of_expr-returns-in-Display
 least_of_expr-returns-in-Display t c =
-    low.low_Display c.least_of_exprs-in-Display.result c.args.expr.now c.in-Display.items c.in-Display.is (subst (λ (es : List Expr). AllLow ExprLow c.least_of_exprs-in-Display.result es) c.as_slice-in-Display.ensures c.least_of_exprs-in-Display.ensures)
+    let below = subst (λ (es : List Expr). AllLow ExprLow c.least_of_exprs-in-Display.result es) c.as_slice-in-Display.ensures c.least_of_exprs-in-Display.ensures in
+    low.form_low c.least_of_exprs-in-Display.result c.args.expr.now _ (Expr-F.Display c.in-Display.items) c.in-Display.is (expr.rolls-Display _) (λ x v l i. Expr-F.Display (low.exprs_stay _ x v l c.in-Display.items below false i))
 
 pub least_of_expr-returns-in-Comp : goal.least_of_expr-returns-in-Comp
 least_of_expr-returns-in-Comp t c =
-    low.low_Comp c.least_of_comprehension.result c.args.expr.now c.in-Comp.items c.in-Comp.gens c.in-Comp.is c.least_of_comprehension.ensures.items c.least_of_comprehension.ensures.gens
+    low.form_low c.least_of_comprehension.result c.args.expr.now _ (Expr-F.Comp c.in-Comp.items c.in-Comp.gens) c.in-Comp.is (expr.rolls-Comp _ _)
+    (λ x v l i. Expr-F.Comp (low.exprs_stay _ x v l c.in-Comp.items c.least_of_comprehension.ensures.items (any_binds x c.in-Comp.gens) i)
+    (low.gens_stay _ x v l c.in-Comp.gens c.least_of_comprehension.ensures.gens false i))
 
 pub least_of_expr-returns-in-Product : goal.least_of_expr-returns-in-Product
 least_of_expr-returns-in-Product t c =
-    low.low_Product c.least_of_production.result c.args.expr.now c.in-Product.parts c.in-Product.gens c.in-Product.is c.least_of_production.ensures.parts c.least_of_production.ensures.gens
+    low.form_low c.least_of_production.result c.args.expr.now _ (Expr-F.Product c.in-Product.parts c.in-Product.gens) c.in-Product.is (expr.rolls-Product _ _)
+    (λ x v l i. Expr-F.Product (low.all_stay _ x v l PartLow (part_after x v) (low.part_stays _ x v l) c.in-Product.parts c.least_of_production.ensures.parts (any_binds x c.in-Product.gens) i)
+    (low.gens_stay _ x v l c.in-Product.gens c.least_of_production.ensures.gens false i))
 
 pub least_of_both-returns-clause-left : goal.least_of_both-returns-clause-left
 least_of_both-returns-clause-left t c = low.part_of c.lower.result c.least_of_expr.result c.get.result.now c.args.a.now c.get.ensures c.lower.ensures.left c.least_of_expr.ensures
