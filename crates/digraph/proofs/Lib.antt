@@ -4,12 +4,9 @@ pub mod WalkLaws
 pub mod HeightLaws
 mod RowVectors
 mod Results
-mod Writes
-mod Entering
-mod Raising
-mod Finishing
-mod Looking
-mod Ending
+mod Marks
+mod Trails
+mod Stepping
+mod Finding
 mod Turning
 pub mod Reaching
-pub mod Starting
