@@ -1,36 +1,13 @@
--- What holds before the first walk, and what is found once each vertex is done.
-use Rattle.std.proofs.Common.{◌≡◌, ◌≢◌, ℕ, ◌<◌, ◌≤◌, ◌^◌, List, [], length, map, replicate, get_or, refl, ap, ◌∙◌, true, inl, inr, arith}
+-- What is found once each vertex is done.
+use Rattle.std.proofs.Common.{◌≡◌, ◌≢◌, ℕ, ◌<◌, ◌≤◌, List, [], length, map, get_or, refl, ap, ◌∙◌, true, arith}
 use Rattle.std.specs.List.{All}
-use Rattle.std.proofs.lemmas.List.{get_or_past, get_or-replicate, get_or_default, length-replicate, length-map, get_or-map}
+use Rattle.std.proofs.lemmas.List.{get_or_default, length-map, get_or-map}
 use Rattle.std.proofs.lemmas.List.Sums.{count_by-le-length}
-use Rattle.std.proofs.lemmas.Bool.{cases_lt, false≢true}
 use Rattle.digraph.specs.declared.walks.Mark.{Mark}
 use Rattle.digraph.specs.declared.walks.Mark.TheVariants.{New, Open, Done}
-use Rattle.digraph.specs.Digraph.{Digraph, HasArc, InRange}
+use Rattle.digraph.specs.Digraph.{Digraph, HasArc}
 use Rattle.digraph.specs.Walk.{IsLongestWalk, AreHeights}
 use Rattle.digraph.specs.Search.{AreMarks, IsMarked, mark_at, is_open, is_done, height_of, done_count}
-
-all_new : (n v : ℕ) → mark_at (replicate n New) v ≡ New
-all_new n v =
-    elim (cases_lt v n) as (λ _. mark_at (replicate n New) v ≡ New) [
-      | inl below ↦ get_or-replicate n v New New below
-      | inr past ↦ get_or_past (replicate n New) v New (rw length-replicate past)
-    ]
-
-pub search_first : (g : Digraph) (n : ℕ) → n ≡ length g → n < 2 ^ 32 → InRange g → AreMarks g (replicate n New) [] 0
-search_first g n size small kept = record {
-  small = rw (← size) small;
-  in_range = kept;
-  marks_len = length-replicate n New ∙ size;
-  walked = record {
-    arcs = λ k h. absurd (omega arith);
-    distinct = λ j k h l. absurd (omega arith);
-    opened = λ k h. absurd (omega arith);
-    listed = λ v h. absurd (false≢true (rw all_new at h));
-  };
-  each = λ v. rw all_new tt;
-  met = λ v h. absurd (omega arith);
-}
 
 -- a vertex that is met and not open is done
 done_then : (g : Digraph) (marks : List Mark) (v : ℕ) (m : Mark) → m ≢ New → (is_open m ≡ true → ⊥) → IsMarked g marks v m → IsLongestWalk (HasArc g) v (height_of m) × (height_of m < done_count marks)
