@@ -2,7 +2,6 @@ pub mod Listing
 pub mod Arcs
 pub mod WalkLaws
 pub mod HeightLaws
-mod RowVectors
 mod Results
 mod Marks
 mod Trails
