@@ -3,9 +3,10 @@ use Rattle.std.proofs.Common.{◌≡◌, ℕ, zero, suc, ◌+◌, ◌<◌, ◌%�
 use Rattle.std.specs.List.{All, list_any}
 use Rattle.std.specs.Cmp.{first_so}
 use Rattle.std.proofs.Math.Bool.{or-false}
-use Rattle.std.proofs.lemmas.Bool.{false≢true, cases_Bool, cases_eq, cases_lt, eqb-true, or_left, or_right, or_cases}
+use Rattle.std.proofs.lemmas.Bool.{false≢true, cases_Bool, cases_eq, cases_lt, eqb-true, or_left, or_right, or_cases, ne_eqb}
 use Rattle.std.proofs.lemmas.List.{get_or-set_same, get_or-set_other, length-set, length-replicate, get_or_default}
 use Rattle.std.proofs.lemmas.List.Folds.{list_any-append, list_any_at}
+use Rattle.csp_base.proofs.Booleans.{and_second}
 use Rattle.csp_base.specs.Members.{has}
 use Rattle.csp_base.specs.Events.{is_subset_of}
 use Rattle.csp_base.proofs.SetLaws.{member_of_superset}
@@ -22,28 +23,6 @@ BestSoFar count events left (Some row) = (row < count) × ((e : ℕ) × (has eve
 pub record IsWalked (count : ℕ) (events left : List ℕ) (best : Option ℕ) : Type 0 where
   pub best_row : BestSoFar count events left best
   pub inside : (e : ℕ) → has left e ≡ true → has events e ≡ true
-
-pub best_within : (count : ℕ) (events left : List ℕ) (best : Option ℕ) (row : ℕ) → BestSoFar count events left best → best ≡ Some row → row < count
-best_within count events left None row b is = absurd (cc)
-best_within count events left (Some r) row b is = let same : r ≡ row = cc in rw (← same) b.0
-
-better : (count : ℕ) (events left : List ℕ) (best : Option ℕ) (chosen : ℕ) → BestSoFar count events left best → best ≡ Some chosen → (chosen < count) × ((e : ℕ) × (has events e ≡ true) × (chosen ≡ e % count))
-better count events left None chosen b is = absurd (cc)
-better count events left (Some r) chosen b is = let same : r ≡ chosen = cc in subst (λ (k : ℕ). (k < count) × ((e : ℕ) × (has events e ≡ true) × (k ≡ e % count))) same b
-
-pub walked_more : (count : ℕ) (events left more : List ℕ) (e row chosen : ℕ) (best : Option ℕ) → left ≡ e ∷ more → row < count → row ≡ e % count → (best ≡ Some chosen) ⊎ (chosen ≡ row) → IsWalked count events left best → IsWalked count events more (Some chosen)
-walked_more count events left more e row chosen best is within fits choice w =
-    let here : has left e ≡ true = ap (λ (xs : List ℕ). has xs e) is ∙ or_left (nat_eq e e) (has more e) (eq-eqb e e refl) in
-    record {
-      best_row = elim choice as (λ _. BestSoFar count events more (Some chosen)) [
-        | inl old ↦ better count events left best chosen w.best_row old
-        | inr new ↦ subst (λ (k : ℕ). (k < count) × ((f : ℕ) × (has events f ≡ true) × (k ≡ f % count))) (sym new) (within, (e, w.inside e here, fits))
-      ];
-      inside = λ f h. w.inside f (ap (λ (xs : List ℕ). has xs f) is ∙ or_right (nat_eq e f) (has more f) h);
-    }
-
-pub best_found : (count : ℕ) (events left : List ℕ) (row : ℕ) (best : Option ℕ) → best ≡ Some row → BestSoFar count events left best → (row < count) × IsRowFor count events row
-best_found count events left row best is b = let r = better count events left best row b is in (r.0, inr r.1)
 
 pub none_found : (count : ℕ) (events left : List ℕ) (best : Option ℕ) → best ≡ None → left ≡ [] → BestSoFar count events left best → IsRowFor count events 0
 none_found count events left None is ends b = inl (sym b ∙ ends, refl)
@@ -62,12 +41,9 @@ has-row rows at place row v within =
           rw (there, read, test) (has-push (get_or rows at []) place v)
       | inr other ↦
           let read : get_or (set rows at (get_or rows at [] ++ place ∷ [])) row [] ≡ get_or rows row [] = get_or-set_other rows at row (get_or rows at [] ++ place ∷ []) [] other in
-          let test : nat_eq at row ≡ false = differ at row (λ e. other (sym e)) in
+          let test : nat_eq at row ≡ false = ne_eqb at row (λ e. other (sym e)) in
           rw (read, test) (sym (or-false (has (get_or rows row []) v)))
     ]
-  where
-    differ : (a b : ℕ) → (a ≡ b → ⊥) → nat_eq a b ≡ false
-    differ a b apart = elim (cases_Bool (nat_eq a b)) as (λ _. nat_eq a b ≡ false) [ inl holds ↦ absurd (apart (eqb-true a b holds)) | inr fails ↦ fails ]
 
 -- the first sets stand in rows
 pub record AreRowsSoFar (sets : List (List ℕ)) (n : ℕ) (rows : List (List ℕ)) : Type 0 where
@@ -97,7 +73,7 @@ rows_more sets n at rows new below within fits is s =
       some = rw size s.some;
       within = λ row v h. elim (or_cases (has (get_or rows row []) v) (nat_eq at row && nat_eq n v) (sym (read row v) ∙ h)) as (λ _. v < length sets) [
         | inl old ↦ s.within row v old
-        | inr new_one ↦ let same : n ≡ v = eqb-true n v (second (nat_eq at row) (nat_eq n v) new_one) in rw (← same) below
+        | inr new_one ↦ let same : n ≡ v = eqb-true n v (and_second (nat_eq at row) (nat_eq n v) new_one) in rw (← same) below
       ];
       each = λ place h. elim (cases_lt place n) as (λ _. StandsInRow (get_or sets place []) new place) [
         | inl early ↦
@@ -109,13 +85,6 @@ rows_more sets n at rows new below within fits is s =
             record { row = at; fits = subst (λ (k : ℕ). IsRowFor (length new) (get_or sets k []) at) (sym here) (subst (λ (k : ℕ). IsRowFor k (get_or sets n []) at) (sym size) fits); listed = read at place ∙ or_right (has (get_or rows at []) place) (nat_eq at at && nat_eq n place) both }
       ];
     }
-  where
-    second : (a b : Bool) → (a && b) ≡ true → b ≡ true
-    second true b h = h
-    second false b h = absurd (false≢true h)
-
-pub all_rows : (sets : List (List ℕ)) (n : ℕ) (rows : List (List ℕ)) → length sets ≡ n → AreRowsSoFar sets n rows → AreEventRows sets rows
-all_rows sets n rows whole s = record { some = s.some; within = s.within; each = λ place h. s.each place (rw whole at h) }
 
 -- ---- smaller sets are found in rows
 pub row_read : (rows : List (List ℕ)) (k : ℕ) (row read : List ℕ) → k < length rows → row ≡ get_or rows k row → read ≡ row → read ≡ get_or rows k []

@@ -3,7 +3,7 @@ use Rattle.std.proofs.Common.{◌≡◌, ℕ, suc, ◌+◌, ◌<◌, ◌⊎◌, 
 use Rattle.std.specs.List.{list_any, All}
 use Rattle.std.specs.List.Sorted.{IsStrictlyIncreasing}
 use Rattle.std.specs.Cmp.{first_so, second_so}
-use Rattle.std.proofs.lemmas.Bool.{eq-eqb, eqb-true, false≢true, or_left, or_right, or_cases, cases_Bool, cases_eq}
+use Rattle.std.proofs.lemmas.Bool.{eq-eqb, eqb-true, false≢true, or_left, or_right, or_cases, cases_Bool, cases_eq, ne_eqb}
 use Rattle.std.proofs.lemmas.List.{get_or_default, get_or-set_same, get_or-set_other, length-set}
 use Rattle.std.proofs.lemmas.List.Folds.{list_any_more}
 use Rattle.csp_base.specs.Events.{has, with_member}
@@ -19,6 +19,7 @@ use Rattle.acceptances.proofs.Member.{Member, member_of_any}
 use Rattle.csp_base.proofs.Booleans.{or_none}
 use Rattle.csp_base.proofs.Listed.{same_number}
 use Rattle.std.proofs.lemmas.Map.Keys.{any_passes_from_place}
+use Rattle.std.proofs.Math.Bool.{or_comm}
 
 same : (n : ℕ) → nat_eq n n ≡ true
 same n = eq-eqb n n refl
@@ -112,12 +113,6 @@ step_from raw form xs e k x below is =
     let same_step : x ≡ get_or raw.steps k (0, 0, 0) = is ∙ get_or_default xs k x (0, 0, 0) below ∙ ap (λ (ys : List (ℕ × ℕ × ℕ)). get_or ys k (0, 0, 0)) e in
     subst (λ (y : ℕ × ℕ × ℕ). y.0 < raw.count) (sym same_step) (form.steps_within (get_or raw.steps k (0, 0, 0)).0 (get_or raw.steps k (0, 0, 0)).1 (get_or raw.steps k (0, 0, 0)).2 (step_at raw k within)).0
 
-or_flip : (a b : Bool) → (a || b) ≡ (b || a)
-or_flip true true = refl
-or_flip true false = refl
-or_flip false true = refl
-or_flip false false = refl
-
 -- the events of a term, once one more event is in the set of the term `from`
 pub set_more : (sets : List (List ℕ)) (from event n e : ℕ) → from < length sets → has (get_or (set sets from (with_member event (get_or sets from []))) n []) e ≡ (has (get_or sets n []) e || (nat_eq n from && nat_eq e event))
 set_more sets from event n e within =
@@ -126,15 +121,12 @@ set_more sets from event n e within =
           let read : get_or (set sets from (with_member event (get_or sets from []))) from [] ≡ with_member event (get_or sets from []) = get_or-set_same sets from (with_member event (get_or sets from [])) [] within in
           let members : has (with_member event (get_or sets from [])) e ≡ (nat_eq event e || has (get_or sets from []) e) = has-with_member event (get_or sets from []) e in
           let test : nat_eq from from ≡ true = same from in
-          rw (there, read, members, test, same_number event e) (or_flip (nat_eq e event) (has (get_or sets from []) e))
+          rw (there, read, members, test, same_number event e) (or_comm (nat_eq e event) (has (get_or sets from []) e))
       | inr other ↦
           let read : get_or (set sets from (with_member event (get_or sets from []))) n [] ≡ get_or sets n [] = get_or-set_other sets from n (with_member event (get_or sets from [])) [] other in
-          let test : nat_eq n from ≡ false = differ n from other in
+          let test : nat_eq n from ≡ false = ne_eqb n from other in
           rw (read, test) (or_none (has (get_or sets n []) e))
     ]
-  where
-    differ : (a b : ℕ) → (a ≡ b → ⊥) → nat_eq a b ≡ false
-    differ a b other = elim (cases_Bool (nat_eq a b)) as (λ _. nat_eq a b ≡ false) [ inl holds ↦ absurd (other (eqb-true a b holds)) | inr fails ↦ fails ]
 
 pub rising_more : (sets : List (List ℕ)) (from event n : ℕ) → from < length sets → IsStrictlyIncreasing (get_or sets n []) → IsStrictlyIncreasing (get_or sets from []) → IsStrictlyIncreasing (get_or (set sets from (with_member event (get_or sets from []))) n [])
 rising_more sets from event n within before before_from =

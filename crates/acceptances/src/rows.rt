@@ -1,11 +1,11 @@
 //! Event sets in rows, each in the row of one of its events, so that those within a set are found among few.
 
-ghost use Rattle.std.specs.Prelude.{◌≡◌, ℕ, ◌⊎◌, ◌<◌, ◌+◌, ◌%◌, ◌∷◌, ◌++◌, [], Some, All, OnOk, IfOk, length, replicate, slice_index_or, slice_set};
+ghost use Rattle.std.specs.Prelude.{◌≡◌, ℕ, ◌⊎◌, ◌<◌, ◌%◌, [], Some, All, IfOk, length, slice_index_or};
 ghost use Rattle.std.specs.List.{list_any};
 ghost use Rattle.acceptances.specs.OfferTests.{has_smaller, is_smaller as is_smaller_set};
 ghost use Rattle.acceptances.specs.EventRows.{AreEventRows, IsRowFor};
 
-use containers::Items;
+use containers::{Items, empty_rows, push_at};
 use csp_base::{Event, EventSet, NoMemory};
 use std::alloc::Global;
 
@@ -13,21 +13,10 @@ use std::alloc::Global;
 pub(crate) fn event_rows(alloc: Global, sets: &[EventSet]) -> Result<Vec<Items<usize>>, NoMemory>
     ensures { IfOk result (λ rows. AreEventRows sets.now rows.items) }
 {
-    let mut rows = empty_rows(alloc, sets.len())?;
+    let mut rows = empty_rows(alloc, sets.len() + 1)?;
     for (place, set) in sets.iter().enumerate() {
         let row = shortest_row(&rows, set);
         push_at(&mut rows, row, place)?;
-    }
-    Ok(rows)
-}
-
-// As many empty rows as `count` says, and one more.
-fn empty_rows(alloc: Global, count: usize) -> Result<Vec<Items<usize>>, NoMemory>
-    ensures { IfOk result (λ rows. rows.items ≡ replicate (count + 1) []) }
-{
-    let mut rows = vec![in alloc; Items::new(alloc)]?;
-    for _ in 0..count {
-        rows.push(Items::new(alloc))?;
     }
     Ok(rows)
 }
@@ -73,15 +62,6 @@ fn row_of(rows: &[Items<usize>], event: Event) -> usize
     ensures within { result < length rows.now }
 {
     event.0 as usize % rows.len()
-}
-
-// Adds a place to a row.
-fn push_at(rows: &mut Vec<Items<usize>>, row: usize, place: usize) -> Result<(), NoMemory>
-    requires { row < length rows.old.items }
-    ensures { OnOk result (rows.new.items ≡ slice_set rows.old.items row (slice_index_or rows.old.items row [] ++ place ∷ [])) }
-{
-    rows[row].push(place)?;
-    Ok(())
 }
 
 // Whether one of the sets lies within the given one, and is not the same.

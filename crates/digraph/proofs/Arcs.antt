@@ -1,8 +1,9 @@
 -- What an arc that is added changes, and where arcs begin and end.
-use Rattle.std.proofs.Common.{◌≡◌, ℕ, ◌<◌, ◌==◌, ◌&&◌, ◌||◌, nat_eq, eq-eqb, ◌∷◌, ◌++◌, length, set, get_or, refl, sym, ap, ◌∙◌, inl, inr, get_or-set_same, get_or-set_other, []}
+use Rattle.std.proofs.Common.{◌≡◌, ℕ, ◌<◌, ◌==◌, ◌&&◌, ◌||◌, nat_eq, eq-eqb, List, Result, OnOk, OnErr, Ok, Err, ◌∷◌, ◌++◌, length, set, get_or, refl, sym, ap, ◌∙◌, inl, inr, get_or-set_same, get_or-set_other, []}
 use Rattle.std.specs.List.{All}
 use Rattle.csp_base.specs.Members.{has}
-use Rattle.std.proofs.lemmas.List.{length-set, get_or_past, get_or_read, get_or_default}
+use Rattle.std.specs.declared.alloc.AllocError.{AllocError}
+use Rattle.std.proofs.lemmas.List.{length-set, set-get_or, get_or_past, get_or_read, get_or_default}
 use Rattle.std.proofs.lemmas.List.Folds.{list_any-append, list_any_at, Any-from_list_any}
 use Rattle.std.proofs.lemmas.Bool.{cases_eq, cases_lt, or_cases, and_parts, eqb-true, ne_eqb, false≢true}
 use Rattle.digraph.specs.Digraph.{Digraph, targets_of, has_arc, HasArc, InRange}
@@ -47,3 +48,13 @@ InRange-add g from to a b kept v w arc =
 pub targets_below : (g : Digraph) (v : ℕ) → InRange g → All (λ w. w < length g) (targets_of g v)
 targets_below g v kept k d h =
     rw (get_or_default (targets_of g v) k d 0 h) (kept v (get_or (targets_of g v) k 0) (HasArc-at g v k h))
+
+-- ---- one target more in a row
+
+pub same_rows : (rows : List (List ℕ)) (i : ℕ) (was now : List ℕ) → i < length rows → was ≡ get_or rows i was → now ≡ was → set rows i now ≡ rows
+same_rows rows i was now h e f = ap (set rows i) (f ∙ get_or_read rows i was h e []) ∙ set-get_or rows i []
+
+-- after an arc is added, or not for want of memory
+pub InRange-either : (result : Result (Unit {0}) AllocError) (old new : Digraph) (from to : ℕ) → from < length old → to < length old → InRange old → OnOk result (new ≡ set old from (targets_of old from ++ to ∷ [])) → OnErr result (new ≡ old) → InRange new
+InRange-either (Ok _) old new from to a b kept ok err = rw ok (InRange-add old from to a b kept)
+InRange-either (Err _) old new from to a b kept ok err = rw err kept

@@ -2,14 +2,10 @@ pub mod Listing
 pub mod Arcs
 pub mod WalkLaws
 pub mod HeightLaws
-mod RowVectors
 mod Results
-mod Writes
-mod Entering
-mod Raising
-mod Finishing
-mod Looking
-mod Ending
+mod Marks
+mod Trails
+mod Stepping
+mod Finding
 mod Turning
 pub mod Reaching
-pub mod Starting

@@ -1,14 +1,9 @@
 -- A digraph, as contracts see it: for each vertex, numbered from 0, the targets of the arcs that leave it.
-use Rattle.std.specs.Prelude.{ℕ, ◌<◌, Bool, IsTrue, List, [], length, map, slice_index_or, Vec}
-use Rattle.std.specs.declared.alloc.Global.{Global}
+use Rattle.std.specs.Prelude.{ℕ, ◌<◌, Bool, IsTrue, List, [], length, slice_index_or}
 use Rattle.csp_base.specs.Members.{has}
 
 abbrev pub Digraph : Type 0
 Digraph = List (List ℕ)
-
--- a digraph from the vectors of its targets
-abbrev pub rows_of : List (Vec ℕ Global) → Digraph
-rows_of rows = map (λ row. row.items) rows
 
 -- the targets of the arcs that leave v
 abbrev pub targets_of : Digraph → ℕ → List ℕ

@@ -1,6 +1,7 @@
-ghost use Rattle.std.specs.Prelude.{◌≡◌, ℕ, ◌+◌, ◌<◌, ◌^◌, ◌↔◌, ◌==◌, ◌&&◌, ◌||◌, List, [], ◌∷◌, ◌++◌, length, map, replicate, slice_set, All, IfOk, OnOk, OnErr};
-ghost use Rattle.digraph.specs.Digraph.{rows_of, targets_of, has_arc, InRange};
+ghost use Rattle.std.specs.Prelude.{◌≡◌, ℕ, ◌+◌, ◌<◌, ◌^◌, ◌↔◌, ◌==◌, ◌&&◌, ◌||◌, List, [], ◌∷◌, ◌++◌, length, replicate, slice_set, All, IfOk, OnOk, OnErr};
+ghost use Rattle.digraph.specs.Digraph.{targets_of, has_arc, InRange};
 
+use containers::{Items, empty_rows};
 use std::alloc::{AllocError, Global};
 use std::marker::Model;
 
@@ -8,7 +9,7 @@ use std::marker::Model;
 ///
 /// The vertices are the numbers below `len`, and each target is one of them.
 pub struct Rows {
-    rows: Vec<Vec<u32>>,
+    rows: Vec<Items<u32>>,
 }
 
 // By hand, so that a crate that ends one calls this and proves no end of its own.
@@ -20,13 +21,13 @@ impl Drop for Rows {
 
 impl Model for Rows {
     ghost use Rattle.std.specs.Prelude.{ℕ, ◌<◌, ◌^◌, List, length};
-    ghost use Rattle.digraph.specs.Digraph.{InRange, rows_of};
+    ghost use Rattle.digraph.specs.Digraph.{InRange};
 
     ghost Value = { List (List ℕ) };
 
-    ghost view = { λ r. rows_of r.rows.items };
+    ghost view = { λ r. r.rows.items };
 
-    ghost invariant = { λ r. (length r.rows.items < 2 ^ 32) × InRange (rows_of r.rows.items) };
+    ghost invariant = { λ r. (length r.rows.items < 2 ^ 32) × InRange r.rows.items };
 }
 
 impl Rows {
@@ -34,17 +35,8 @@ impl Rows {
     pub fn new(alloc: Global, count: u32) -> Result<Rows, AllocError>
         ensures { IfOk result (λ g. g ≡ replicate count []) }
     {
-        let rows = empty_rows(alloc, count)?;
+        let rows = empty_rows(alloc, count as usize)?;
         Ok(Rows { rows })
-    }
-
-    /// The digraph with these rows of targets, where each target is the number of a row.
-    pub fn from_rows(rows: Vec<Vec<u32>>) -> Rows
-        requires below { length rows.items < 2 ^ 32 }
-        requires in_range { InRange (rows_of rows.items) }
-        ensures { result ≡ rows_of rows.items }
-    {
-        Rows { rows }
     }
 
     /// The number of vertices.
@@ -85,23 +77,11 @@ impl Rows {
     }
 }
 
-// As many empty rows as `count` says.
-fn empty_rows(alloc: Global, count: u32) -> Result<Vec<Vec<u32>>, AllocError>
-    ensures { IfOk result (λ rows. rows_of rows.items ≡ replicate count []) }
-{
-    let mut rows = Vec::new(alloc);
-    for _ in 0..count {
-        rows.push(Vec::new(alloc))?;
-    }
-    Ok(rows)
-}
-
 // Adds a target at the end of a row.
-fn push_target(rows: &mut Vec<Vec<u32>>, from: usize, to: u32) -> Result<(), AllocError>
+fn push_target(rows: &mut Vec<Items<u32>>, from: usize, to: u32) -> Result<(), AllocError>
     requires { from < length rows.old.items }
-    ensures ok { OnOk result (rows_of rows.new.items
-        ≡ slice_set (rows_of rows.old.items) from (targets_of (rows_of rows.old.items) from ++ to ∷ [])) }
-    ensures err { OnErr result (rows_of rows.new.items ≡ rows_of rows.old.items) }
+    ensures ok { OnOk result (rows.new.items ≡ slice_set rows.old.items from (targets_of rows.old.items from ++ to ∷ [])) }
+    ensures err { OnErr result (rows.new.items ≡ rows.old.items) }
     ensures len { length rows.new.items ≡ length rows.old.items }
 {
     rows[from].push(to)?;

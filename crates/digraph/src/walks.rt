@@ -1,9 +1,9 @@
-ghost use Rattle.std.specs.Prelude.{◌≡◌, ◌≢◌, ℕ, ◌+◌, ◌-◌, ◌<◌, ◌≤◌, ◌^◌, ◌↔◌, List, [], ◌∷◌, ◌++◌, length, max, take, slice_index, slice_set, replicate, All, IsTrue, IfOk, OnOk, OnErr};
+ghost use Rattle.std.specs.Prelude.{◌≡◌, ℕ, ◌+◌, ◌-◌, ◌<◌, ◌≤◌, ◌↔◌, List, [], true, false, length, map, max, slice_index, All, IfOk, OnOk};
 ghost use Rattle.circles.specs.Turn.{IsTurnedFrom};
-ghost use Rattle.digraph.specs.Digraph.{targets_of, HasArc};
+ghost use Rattle.digraph.specs.Digraph.{targets_of, HasArc, InRange};
 ghost use Rattle.digraph.specs.Walk.{IsLongestWalk, AreHeights};
 ghost use Rattle.digraph.specs.Circle.{HasNoCircle, IsLeastCircle};
-ghost use Rattle.digraph.specs.Search.{IsSearch, StaysMet, mark_at, work_left};
+ghost use Rattle.digraph.specs.Search.{IsSearch, IsStep, height_of, mark_at};
 
 use crate::fault::Fault;
 use crate::heights::Heights;
@@ -11,12 +11,36 @@ use crate::rows::Rows;
 use circles::circle_from;
 use std::alloc::{AllocError, Global};
 
-// How far the search is with a vertex: not come to yet, on the trail, or with its height known.
-#[derive(Clone, Copy, PartialEq, Eq)]
+// How far the search is with a vertex.
+#[derive(Clone, Copy)]
 enum Mark {
+    // Not come to yet.
     New,
-    Open,
-    Done,
+    // On the trail: so many of its targets, the first ones, are left to look at, and walks over the others have `height` arcs at most.
+    Open { left: usize, height: u32 },
+    // Walks from it have so many arcs at most.
+    Done(u32),
+}
+
+impl Mark {
+    // The height, where it is known.
+    fn height(&self) -> u32
+        ensures { result ≡ height_of self.now }
+    {
+        match self {
+            Mark::Done(height) => *height,
+            Mark::New | Mark::Open { .. } => 0,
+        }
+    }
+}
+
+// Walks that are followed to their ends: the marks of the vertices, the trail that is being walked, and the vertex below which each
+// was come to.
+#[derive(Drop)]
+struct Search {
+    marks: Vec<Mark>,
+    trail: Vec<u32>,
+    next: usize,
 }
 
 /// For each vertex the greatest number of arcs of a walk that begins there, or a circle, where there is one.
@@ -37,142 +61,133 @@ pub fn longest_walks(alloc: Global, rows: &Rows) -> Result<Heights, Fault>
     ensures unbounded { (vs : List ℕ) → result ≡ Err (Fault.Circle vs) → All (λ v. (n : ℕ) → ¬ IsLongestWalk (HasArc rows.now) v n) vs }
     ensures no_heights { (vs : List ℕ) → result ≡ Err (Fault.Circle vs) → (heights : List ℕ) → ¬ AreHeights (HasArc rows.now) (length rows.now) heights }
 {
-    let count = rows.len();
-    let mut heights = vec![in alloc; 0; count]?;
-    find_heights(alloc, rows, &mut heights)?;
+    let heights = find_heights(alloc, rows)?;
+    Ok(heights)
+}
+
+// The heights of the vertices, or a circle.
+fn find_heights(alloc: Global, rows: &Rows) -> Result<Heights, Fault>
+    ensures in_range { OnOk result (InRange rows.now) }
+    ensures heights { IfOk result (AreHeights (HasArc rows.now) (length rows.now)) }
+    ensures below { IfOk result (All (λ height. height < length rows.now)) }
+    ensures circle { (vs : List ℕ) → result ≡ Err (Fault.Circle vs) → IsLeastCircle (HasArc rows.now) vs }
+{
+    let mut search = Search::new(alloc, rows)?;
+    while search.goes_on(rows) {
+        search.step(alloc, rows)?;
+    }
+    let heights = search.heights(alloc)?;
     Ok(Heights::from_vec(heights))
 }
 
-// Writes the height of each vertex, where 0 stands before.
-fn find_heights(alloc: Global, rows: &Rows, heights: &mut [u32]) -> Result<(), Fault>
-    requires { heights.old ≡ replicate (length rows.now) 0 }
-    ensures heights { OnOk result (AreHeights (HasArc rows.now) (length rows.now) heights.new) }
-    ensures below { OnOk result (All (λ height. height < length rows.now) heights.new) }
-    ensures circle { (vs : List ℕ) → result ≡ Err (Fault.Circle vs) → IsLeastCircle (HasArc rows.now) vs }
-{
-    let (mut marks, mut rest) = first_state(alloc, rows)?;
-    walk_all(alloc, rows, &mut marks, heights, &mut rest)
-}
-
-// Before the first walk each vertex is new, with nothing of its row looked at.
-fn first_state(alloc: Global, rows: &Rows) -> Result<(Vec<Mark>, Vec<usize>), AllocError>
-    ensures { IfOk result (λ made. IsSearch rows.now made.0.items (replicate (length rows.now) 0) made.1.items []) }
-{
-    let marks = vec![in alloc; Mark::New; rows.len()]?;
-    let rest = sizes(alloc, rows)?;
-    Ok((marks, rest))
-}
-
-// One more than the number of targets of each vertex.
-fn sizes(alloc: Global, rows: &Rows) -> Result<Vec<usize>, AllocError>
-    ensures len { IfOk result (λ sizes. length sizes.items ≡ length rows.now) }
-    ensures above { IfOk result (λ sizes. (v : ℕ) → v < length rows.now → length (targets_of rows.now v) < slice_index sizes.items v) }
-{
-    let mut sizes = Vec::new(alloc);
-    for v in 0..rows.len() {
-        sizes.push(rows.targets(v as u32).len() + 1)?;
+impl Search {
+    // Before the first walk each vertex is new.
+    fn new(alloc: Global, rows: &Rows) -> Result<Search, AllocError>
+        ensures { IfOk result (IsSearch rows.now) }
+    {
+        let marks = vec![in alloc; Mark::New; rows.len()]?;
+        Ok(Search {
+            marks,
+            trail: Vec::new(alloc),
+            next: 0,
+        })
     }
-    Ok(sizes)
-}
 
-// Visits each vertex.
-fn walk_all(
-    alloc: Global,
-    rows: &Rows,
-    marks: &mut [Mark],
-    heights: &mut [u32],
-    rest: &mut [usize],
-) -> Result<(), Fault>
-    requires { IsSearch rows.now marks.old heights.old rest.old [] }
-    ensures ok { OnOk result (IsSearch rows.now marks.new heights.new rest.new []) }
-    ensures all_met { OnOk result ((v : ℕ) → v < length rows.now → mark_at marks.new v ≢ Mark.New) }
-    ensures circle { (vs : List ℕ) → result ≡ Err (Fault.Circle vs) → IsLeastCircle (HasArc rows.now) vs }
-{
-    let mut trail = Vec::new(alloc);
-    for v in 0..rows.len() {
-        visit(alloc, rows, marks, heights, rest, &mut trail, v as u32)?;
-    }
-    Ok(())
-}
-
-// Walks from a vertex, if it is new, till all that walks reach from it is done.
-fn visit(
-    alloc: Global,
-    rows: &Rows,
-    marks: &mut [Mark],
-    heights: &mut [u32],
-    rest: &mut [usize],
-    trail: &mut Vec<u32>,
-    v: u32,
-) -> Result<(), Fault>
-    requires search { IsSearch rows.now marks.old heights.old rest.old trail.old.items }
-    requires empty { trail.old.items ≡ [] }
-    requires vertex { v < length rows.now }
-    ensures ok { OnOk result (IsSearch rows.now marks.new heights.new rest.new trail.new.items) }
-    ensures empty { OnOk result (trail.new.items ≡ []) }
-    ensures stays_met { OnOk result (StaysMet marks.old marks.new) }
-    ensures met { OnOk result (mark_at marks.new v ≢ Mark.New) }
-    ensures circle { (vs : List ℕ) → result ≡ Err (Fault.Circle vs) → IsLeastCircle (HasArc rows.now) vs }
-{
-    if marks[v as usize] == Mark::New {
-        enter(rows, marks, rest, trail, v)?;
-        return follow(alloc, rows, marks, heights, rest, trail);
-    }
-    Ok(())
-}
-
-// Follows the trail till it is empty.
-fn follow(
-    alloc: Global,
-    rows: &Rows,
-    marks: &mut [Mark],
-    heights: &mut [u32],
-    rest: &mut [usize],
-    trail: &mut Vec<u32>,
-) -> Result<(), Fault>
-    requires { IsSearch rows.now marks.old heights.old rest.old trail.old.items }
-    ensures ok { OnOk result (IsSearch rows.now marks.new heights.new rest.new trail.new.items) }
-    ensures empty { OnOk result (trail.new.items ≡ []) }
-    ensures stays_met { OnOk result (StaysMet marks.old marks.new) }
-    ensures circle { (vs : List ℕ) → result ≡ Err (Fault.Circle vs) → IsLeastCircle (HasArc rows.now) vs }
-{
-    while let Some(v) = trail.last().copied() {
-        step(alloc, rows, marks, heights, rest, trail, v)?;
-    }
-    Ok(())
-}
-
-// Looks at one target of the last vertex of the trail, or ends with that vertex where none is left.
-fn step(
-    alloc: Global,
-    rows: &Rows,
-    marks: &mut [Mark],
-    heights: &mut [u32],
-    rest: &mut [usize],
-    trail: &mut Vec<u32>,
-    v: u32,
-) -> Result<(), Fault>
-    requires search { IsSearch rows.now marks.old heights.old rest.old trail.old.items }
-    requires not_empty { 0 < length trail.old.items }
-    requires last { slice_index trail.old.items (length trail.old.items - 1) ≡ v }
-    ensures ok { OnOk result (IsSearch rows.now marks.new heights.new rest.new trail.new.items) }
-    ensures stays_met { OnOk result (StaysMet marks.old marks.new) }
-    ensures less_work { OnOk result (work_left rest.new trail.new.items < work_left rest.old trail.old.items) }
-    ensures circle { (vs : List ℕ) → result ≡ Err (Fault.Circle vs) → IsLeastCircle (HasArc rows.now) vs }
-{
-    let left = rest[v as usize];
-    if left == 0 {
-        finish(marks, trail, v);
-        return Ok(());
-    }
-    let w = target(rows, v, left - 1);
-    match marks[w as usize] {
-        Mark::New => enter(rows, marks, rest, trail, w),
-        Mark::Open => Err(circle_of(alloc, trail, w)),
-        Mark::Done => {
-            raise(heights, rest, v, w);
-            Ok(())
+    // Whether a vertex is left to come to, or to go on from.
+    fn goes_on(&self, rows: &Rows) -> bool
+        ensures on { result ≡ true → self.now.trail.items ≡ [] → self.now.next < length rows.now }
+        ensures over { result ≡ false → (self.now.trail.items ≡ []) × (length rows.now ≤ self.now.next) }
+    {
+        if self.next < rows.len() {
+            return true;
         }
+        !self.trail.is_empty()
+    }
+
+    // The heights that are known.
+    fn heights(&self, alloc: Global) -> Result<Vec<u32>, AllocError>
+        ensures { IfOk result (λ heights. heights.items ≡ map height_of self.now.marks.items) }
+    {
+        self.marks.iter().map(|mark| mark.height()).collect(alloc)
+    }
+
+    // Goes on at the end of the trail, or starts a trail where there is none.
+    fn step(&mut self, alloc: Global, rows: &Rows) -> Result<(), Fault>
+        requires search { IsSearch rows.now self.old }
+        requires goes_on { self.old.trail.items ≡ [] → self.old.next < length rows.now }
+        ensures step { OnOk result (IsStep rows.now self.old self.new) }
+        ensures circle { (vs : List ℕ) → result ≡ Err (Fault.Circle vs) → IsLeastCircle (HasArc rows.now) vs }
+    {
+        match self.trail.last().copied() {
+            Some(v) => self.look(alloc, rows, v),
+            None => {
+                self.start(rows)?;
+                Ok(())
+            }
+        }
+    }
+
+    // Looks at one target of the last vertex of the trail, or ends with that vertex where none is left.
+    fn look(&mut self, alloc: Global, rows: &Rows, v: u32) -> Result<(), Fault>
+        requires search { IsSearch rows.now self.old }
+        requires not_empty { 0 < length self.old.trail.items }
+        requires last { slice_index self.old.trail.items (length self.old.trail.items - 1) ≡ v }
+        ensures step { OnOk result (IsStep rows.now self.old self.new) }
+        ensures circle { (vs : List ℕ) → result ≡ Err (Fault.Circle vs) → IsLeastCircle (HasArc rows.now) vs }
+    {
+        let Mark::Open { left, height } = self.marks[v as usize] else {
+            unreachable!()
+        };
+        if left == 0 {
+            self.marks[v as usize] = Mark::Done(height);
+            self.trail.pop();
+            return Ok(());
+        }
+        let w = target(rows, v, left - 1);
+        match self.marks[w as usize] {
+            Mark::New => {
+                self.enter(rows, w)?;
+                Ok(())
+            }
+            Mark::Open { .. } => Err(circle_of(alloc, &self.trail, w)),
+            Mark::Done(below) => {
+                self.marks[v as usize] = Mark::Open {
+                    left: left - 1,
+                    height: larger(height, below + 1),
+                };
+                Ok(())
+            }
+        }
+    }
+
+    // Starts a trail at the next vertex, or leaves it where it was come to.
+    fn start(&mut self, rows: &Rows) -> Result<(), AllocError>
+        requires search { IsSearch rows.now self.old }
+        requires empty { self.old.trail.items ≡ [] }
+        requires next { self.old.next < length rows.now }
+        ensures { OnOk result (IsStep rows.now self.old self.new) }
+    {
+        if let Mark::New = self.marks[self.next] {
+            return self.enter(rows, self.next as u32);
+        }
+        self.next += 1;
+        Ok(())
+    }
+
+    // Puts a new vertex on the trail.
+    fn enter(&mut self, rows: &Rows, w: u32) -> Result<(), AllocError>
+        requires search { IsSearch rows.now self.old }
+        requires vertex { w < length rows.now }
+        requires new { mark_at self.old.marks.items w ≡ Mark.New }
+        requires follows { (k : ℕ) → k + 1 ≡ length self.old.trail.items → HasArc rows.now (slice_index self.old.trail.items k) w }
+        ensures { OnOk result (IsStep rows.now self.old self.new) }
+    {
+        self.trail.push(w)?;
+        self.marks[w as usize] = Mark::Open {
+            left: rows.targets(w).len(),
+            height: 0,
+        };
+        Ok(())
     }
 }
 
@@ -192,54 +207,6 @@ fn circle_of(alloc: Global, trail: &[u32], first: u32) -> Fault
     ensures { (vs : List ℕ) → result ≡ Fault.Circle vs → IsTurnedFrom trail.now first vs }
 {
     circle_from(alloc, trail, first).map_or(Fault::NoMemory, Fault::Circle)
-}
-
-// Puts a new vertex on the trail.
-fn enter(
-    rows: &Rows,
-    marks: &mut [Mark],
-    rest: &mut [usize],
-    trail: &mut Vec<u32>,
-    w: u32,
-) -> Result<(), Fault>
-    requires vertex { w < length rows.now }
-    requires marks { w < length marks.old }
-    requires rest { w < length rest.old }
-    ensures marks { OnOk result (marks.new ≡ slice_set marks.old w Mark.Open) }
-    ensures rest { OnOk result (rest.new ≡ slice_set rest.old w (length (targets_of rows.now w))) }
-    ensures no_circle { (vs : List ℕ) → result ≡ Err (Fault.Circle vs) → ⊥ }
-    ensures trail { OnOk result (trail.new.items ≡ trail.old.items ++ w ∷ []) }
-{
-    let Ok(()) = trail.push(w) else {
-        return Err(Fault::NoMemory);
-    };
-    marks[w as usize] = Mark::Open;
-    rest[w as usize] = rows.targets(w).len();
-    Ok(())
-}
-
-// Takes the last vertex off the trail, with its height known.
-fn finish(marks: &mut [Mark], trail: &mut Vec<u32>, v: u32)
-    requires { v < length marks.old }
-    ensures marks { marks.new ≡ slice_set marks.old v Mark.Done }
-    ensures trail { trail.new.items ≡ take (length trail.old.items - 1) trail.old.items }
-{
-    marks[v as usize] = Mark::Done;
-    trail.pop();
-}
-
-// Takes the height of a target into account.
-fn raise(heights: &mut [u32], rest: &mut [usize], v: u32, w: u32)
-    requires heights_v { v < length heights.old }
-    requires heights_w { w < length heights.old }
-    requires rest { v < length rest.old }
-    requires left { 0 < slice_index rest.old v }
-    requires fits { slice_index heights.old w + 1 < 2 ^ 32 }
-    ensures heights { heights.new ≡ slice_set heights.old v (max (slice_index heights.old v) (slice_index heights.old w + 1)) }
-    ensures rest { rest.new ≡ slice_set rest.old v (slice_index rest.old v - 1) }
-{
-    heights[v as usize] = larger(heights[v as usize], heights[w as usize] + 1);
-    rest[v as usize] -= 1;
 }
 
 // The larger of two numbers.

@@ -1,6 +1,6 @@
 //! Refinement by splitters.
 
-ghost use Rattle.std.specs.Prelude.{◌≡◌, ◌≢◌, ◌+◌, ◌<◌, ◌≤◌, ◌^◌, ℕ, [], ◌∷◌, ◌++◌, replicate, length, slice_set, slice_index_or, All, IfOk, OnOk};
+ghost use Rattle.std.specs.Prelude.{◌≡◌, ◌≢◌, ◌+◌, ◌<◌, ◌≤◌, ◌^◌, ℕ, length, All, IfOk, OnOk};
 ghost use Rattle.std.specs.List.Sorted.{IsNonDecreasingBy};
 ghost use Rattle.equal_futures.specs.Future.{AreFutureClasses, NodesRise};
 ghost use Rattle.equal_futures.specs.Arrows.{AreAdded, AreFrom, AreGathered, AreIncoming, AreMarkSteps, IsSplitByEvents, event_at};
@@ -8,7 +8,7 @@ ghost use Rattle.partitions.specs.Blocks.{HasBlocks, IsCalm, IsWhole, count_of, 
 ghost use Rattle.equal_futures.specs.Splits.{AreAllFrom, IsSplitByBlock, IsSplitByMarks};
 
 use crate::rounds::{Classes, round};
-use containers::Items;
+use containers::{Items, empty_rows, push_at};
 use csp_base::NoMemory;
 use csp_tables::NormNode;
 use partitions::{Partition, whole};
@@ -120,17 +120,6 @@ fn incoming(alloc: Global, nodes: &[NormNode]) -> Result<Vec<Items<(u32, u32)>>,
     Ok(rows)
 }
 
-// As many empty lists as `count` says.
-fn empty_rows(alloc: Global, count: usize) -> Result<Vec<Items<(u32, u32)>>, NoMemory>
-    ensures { IfOk result (λ rows. rows.items ≡ replicate count []) }
-{
-    let mut rows = Vec::new(alloc);
-    for _ in 0..count {
-        rows.push(Items::new(alloc))?;
-    }
-    Ok(rows)
-}
-
 // Adds the steps that lead from a node.
 fn add_steps(
     rows: &mut Vec<Items<(u32, u32)>>,
@@ -143,19 +132,6 @@ fn add_steps(
     for (event, to) in node.next() {
         push_at(rows, *to as usize, (event.0, source))?;
     }
-    Ok(())
-}
-
-// Adds a step at the end of a row.
-fn push_at(
-    rows: &mut Vec<Items<(u32, u32)>>,
-    place: usize,
-    step: (u32, u32),
-) -> Result<(), NoMemory>
-    requires { place < length rows.old.items }
-    ensures { OnOk result (rows.new.items ≡ slice_set rows.old.items place (slice_index_or rows.old.items place [] ++ step ∷ [])) }
-{
-    rows[place].push(step)?;
     Ok(())
 }
 

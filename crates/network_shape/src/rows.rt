@@ -1,12 +1,12 @@
 //! The events that parts share, sorted out by the left one of the parts.
 
-ghost use Rattle.std.specs.Prelude.{◌≡◌, ◌<◌, ◌≤◌, ◌==◌, ◌++◌, ◌∷◌, [], ℕ, Some, IfOk, OnOk, length, replicate, slice_set, if◌then◌else◌};
+ghost use Rattle.std.specs.Prelude.{◌≡◌, ◌<◌, ◌≤◌, ◌==◌, ◌++◌, ℕ, Some, IfOk, OnOk, length, if◌then◌else◌};
 ghost use Rattle.dl_limits.specs.declared.TheConstants.{MOST_COMPONENTS};
 ghost use Rattle.csp_base.specs.Members.{has};
 ghost use Rattle.csp_tables.specs.Part.{TripleDisjoint, alphabets_of};
 ghost use Rattle.network_shape.specs.Rows.{AreOwners, AreRows, joint, joints, owner_of, row_at};
 
-use containers::Items;
+use containers::{Items, empty_rows, push_at};
 use csp_base::{Event, EventSet, NoMemory};
 use csp_tables::Part;
 use std::alloc::Global;
@@ -45,17 +45,6 @@ fn join_parts(
     Ok(())
 }
 
-// As many empty rows as `count` says.
-fn empty_rows(alloc: Global, count: usize) -> Result<Vec<Items<(u32, Event)>>, NoMemory>
-    ensures { IfOk result (λ rows. rows.items ≡ replicate count []) }
-{
-    let mut rows = Vec::new(alloc);
-    for _ in 0..count {
-        rows.push(Items::new(alloc))?;
-    }
-    Ok(rows)
-}
-
 // Notes for each of the events that the part shares it with the event's owner, if it has one.
 fn join_all(
     owners: &[Option<u32>],
@@ -64,7 +53,7 @@ fn join_all(
     events: &EventSet,
 ) -> Result<(), NoMemory>
     requires { (e i : ℕ) → owner_of owners.now e ≡ Some i → i < length rows.old.items }
-    ensures count { length rows.new.items ≡ length rows.old.items }
+    ensures count { OnOk result (length rows.new.items ≡ length rows.old.items) }
     ensures joined { OnOk result ((i : ℕ) → row_at rows.new.items i ≡ row_at rows.old.items i ++ joints owners.now part i events.now) }
 {
     for event in events.iter() {
@@ -81,7 +70,7 @@ fn join(
     event: Event,
 ) -> Result<(), NoMemory>
     requires { (e i : ℕ) → owner_of owners.now e ≡ Some i → i < length rows.old.items }
-    ensures count { length rows.new.items ≡ length rows.old.items }
+    ensures count { OnOk result (length rows.new.items ≡ length rows.old.items) }
     ensures joined { OnOk result ((i : ℕ) → row_at rows.new.items i ≡ row_at rows.old.items i ++ joint owners.now part i event) }
 {
     match owner_at(owners, event) {
@@ -91,20 +80,6 @@ fn join(
         }
         None => Ok(()),
     }
-}
-
-// Adds a pair at the end of the row in a place.
-fn push_at(
-    rows: &mut Vec<Items<(u32, Event)>>,
-    place: usize,
-    pair: (u32, Event),
-) -> Result<(), NoMemory>
-    requires { place < length rows.old.items }
-    ensures pushed { OnOk result (rows.new.items ≡ slice_set rows.old.items place (row_at rows.old.items place ++ pair ∷ [])) }
-    ensures count { length rows.new.items ≡ length rows.old.items }
-{
-    rows[place].push(pair)?;
-    Ok(())
 }
 
 // The owner that is kept for the event.

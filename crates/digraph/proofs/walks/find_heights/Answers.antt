@@ -1,12 +1,21 @@
-use Rattle.digraph.proofs.Ending.{heights_found, heights_below}
+use Rattle.std.proofs.Common.{◌≡◌, Err, ap}
+use Rattle.std.proofs.lemmas.Result.{err_from_is_err_and}
+use Rattle.digraph.specs.declared.fault.Fault.TheVariants.{Circle}
+use Rattle.digraph.proofs.Finding.{heights_found, heights_below}
 use Rattle.digraph.proofs.walks.find_heights.Goals as goal
-use Rattle.csp_base.proofs.Results.{on_ok2}
+
+pub returns-in_err-step-clause-circle : goal.returns-in_err-step-clause-circle
+returns-in_err-step-clause-circle c vs is =
+    let told = err_from_is_err_and c.from_residual-in_err-step.result c.from_residual-in_err-step.ensures.1 in
+    let same : c.in_err-step.field-0.0 ≡ Circle vs = cc in
+    c.in_err-step.ensures.circle vs (ap Err same)
 
 pub returns-clause-heights : goal.returns-clause-heights
-returns-clause-heights c = let e = c.walk_all.ensures in on_ok2 c.walk_all.result _ _ _ e.ok e.all_met (heights_found _ _ _ _)
+returns-clause-heights c =
+    let over = c.goes_on.ensures.over c.loop-search-test.false in
+    rw (c.from_vec.ensures, c.in_ok-heights.ensures) (heights_found _ _ _ _ c.loop-search.invariant over.0 over.1)
 
 pub returns-clause-below : goal.returns-clause-below
-returns-clause-below c = let e = c.walk_all.ensures in on_ok2 c.walk_all.result _ _ _ e.ok e.all_met (heights_below _ _ _ _)
-
-pub walk_all-requires : goal.walk_all-requires
-walk_all-requires c = rw (c.deref_mut.ensures.value, c.deref_mut-2.ensures.value, c.requires) c.in_ok-marks.ensures
+returns-clause-below c =
+    let over = c.goes_on.ensures.over c.loop-search-test.false in
+    rw (c.from_vec.ensures, c.in_ok-heights.ensures) (heights_below _ _ _ _ c.loop-search.invariant over.0 over.1)

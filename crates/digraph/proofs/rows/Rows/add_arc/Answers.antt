@@ -1,5 +1,5 @@
 use Rattle.std.proofs.Common.{arith, rules}
-use Rattle.digraph.proofs.RowVectors.{InRange-either}
+use Rattle.digraph.proofs.Arcs.{InRange-either}
 use Rattle.digraph.proofs.rows.Rows.add_arc.Goals as goal
 
 pub invariant_of-self : goal.invariant_of-self
