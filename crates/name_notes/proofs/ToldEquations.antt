@@ -107,15 +107,6 @@ module _ (m : Meanings) (kinds : List Kind) where
       tree_told m kinds p (process_in place) (names ++ flat_map field_names e.fields)
       (fields_told m kinds e.fields place names (use_heard kinds (form_heard n class.Process place) e.name (sense_in m names e.name) (how.Heads (length e.fields))))
 
-  heading : (event : Fields Binder) (p : Tree) (place : Place) (names : List Name) (n : Notes) →
-      heard_all m kinds n (tree_says_of_layer m (Tree-F.Prefix event (tree_says m p)) place names)
-      ≡ tree_told m kinds p (process_in place) (under event.fields names)
-      (heard_all m kinds (use_heard kinds (form_heard n class.Process place) event.name (sense_in m names event.name) (how.Heads (length event.fields))) (in_turn event.fields place names))
-  unfolding tree_told
-  heading event p place names n =
-      heard_all-append (use_heard kinds (form_heard n class.Process place) event.name (sense_in m names event.name) (how.Heads (length event.fields)))
-      (in_turn event.fields place names) (tree_says m p (process_in place) (under event.fields names))
-
   heard_parts : (d : Layer) (place : Place) (names : List Name) (n : Notes) → heard_all m kinds n (tree_says_of_layer m (said_parts m d) place names) ≡ told_by d place names n
   unfolding tree_told trees_told fields_told gens_told parts_told pairs_told
   heard_parts (Tree-F.Num k) place names n = refl
@@ -129,24 +120,10 @@ module _ (m : Meanings) (kinds : List Kind) where
   heard_parts (Tree-F.Display items) place names n = refl
   heard_parts (Tree-F.External ps) place names n = refl
   heard_parts (Tree-F.Internal ps) place names n = refl
-  heard_parts (Tree-F.Comp items gens) place names n =
-      heard_all-append (form_heard n class.Data place) (all_say (map (tree_says m) items) (data_in place) (under (map (gen_binder m) gens) names)) (in_turn (map (gen_binder m) gens) place names)
-      ∙ ap (λ hole. gens_told m kinds gens place names (trees_told m kinds items (data_in place) hole (form_heard n class.Data place))) (under-gens m gens names)
-  heard_parts (Tree-F.Product parts gens) place names n =
-      heard_all-append (form_heard n class.Data place) (all_say (map (part_says m) (map (part_fields m) parts)) place (under (map (gen_binder m) gens) names)) (in_turn (map (gen_binder m) gens) place names)
-      ∙ ap (λ hole. gens_told m kinds gens place names (parts_told m kinds parts place hole (form_heard n class.Data place))) (under-gens m gens names)
-  heard_parts (Tree-F.Rename p pairs gens) place names n =
-      let said = all_say (map (pair_says m) (map (pair_fields m) pairs)) place (under (map (gen_binder m) gens) names) in
-      heard_all-append (form_heard n class.Process place) (tree_says m p (process_in place) names) (said ++ in_turn (map (gen_binder m) gens) place names)
-      ∙ heard_all-append (tree_told m kinds p (process_in place) names (form_heard n class.Process place)) said (in_turn (map (gen_binder m) gens) place names)
-      ∙ ap (λ hole. gens_told m kinds gens place names (pairs_told m kinds pairs place hole (tree_told m kinds p (process_in place) names (form_heard n class.Process place)))) (under-gens m gens names)
-  heard_parts (Tree-F.Prefix event p) place names n =
-      let x = (out-EventTree event).name in
-      let fields = (out-EventTree event).fields in
-      heading (event_fields m event) p place names n
-      ∙ ap (λ (e : Fields Binder). tree_told m kinds p (process_in place) (under e.fields names) (heard_all m kinds (use_heard kinds (form_heard n class.Process place) e.name (sense_in m names e.name) (how.Heads (length e.fields))) (in_turn e.fields place names))) (event_is m event)
-      ∙ ap (λ hole. tree_told m kinds p (process_in place) hole (heard_all m kinds (use_heard kinds (form_heard n class.Process place) x (sense_in m names x) (how.Heads (length (map (field_binder m) fields)))) (in_turn (map (field_binder m) fields) place names))) (under-fields m fields names)
-      ∙ ap (λ hole. tree_told m kinds p (process_in place) (names ++ flat_map field_names fields) (fields_told m kinds fields place names (use_heard kinds (form_heard n class.Process place) x (sense_in m names x) (how.Heads hole)))) (length-map fields (field_binder m))
+  heard_parts (Tree-F.Comp items gens) place names n = simp heard_all-append (simp (under-gens m))
+  heard_parts (Tree-F.Product parts gens) place names n = simp heard_all-append (simp (under-gens m))
+  heard_parts (Tree-F.Rename p pairs gens) place names n = simp heard_all-append (simp (under-gens m))
+  heard_parts (Tree-F.Prefix event p) place names n = simp heard_all-append (simp (event_is m) (simp (under-fields m, length-map)))
   heard_parts _ place names n = simp (length-map, heard_all-append)
 
   told : (d : Layer) {t : Tree} → roll-Tree d ≡ t → (place : Place) (names : List Name) (n : Notes) → tree_told m kinds t place names n ≡ told_by d place names n
