@@ -1,16 +1,14 @@
 -- Lists that agree or differ at some place.
-use Rattle.std.proofs.Common.{◌≡◌, ℕ, suc, zero, ◌+◌, ◌<◌, ◌≤◌, inl, inr, List, [], ◌∷◌, length, Bool, true, false, MatchBool, nat_eq, Option, Some, None, refl, sym, ap, ap₂, subst, ◌∙◌, arith}
-use Rattle.std.specs.Prelude.{map, slice_get}
+use Rattle.std.proofs.Common.{◌≡◌, ℕ, suc, zero, ◌<◌, ◌≤◌, inl, inr, List, [], ◌∷◌, length, Bool, true, false, MatchBool, nat_eq, Option, Some, None, refl, sym, ap, ap₂, ◌∙◌, arith}
+use Rattle.std.specs.Prelude.{slice_get}
 use Rattle.std.specs.Cmp.Lexicographic.{bytes_decides, pointwise}
 use Rattle.std.proofs.lemmas.Bool.{cases_lt, false≢true}
 use Rattle.std.proofs.lemmas.List.{length-map}
 use Rattle.std.proofs.lemmas.Option.{same_Some, slice_get_past}
 use Rattle.csp_program.specs.declared.processes.Proc.{Proc}
 use Rattle.csp_program.specs.declared.programs.Content.{Content}
-use Rattle.csp_program.specs.declared.programs.EventInfo.{EventInfo}
 use Rattle.csp_tables.specs.Network.{Component}
 use Rattle.network_layout.specs.Triple.{alphabets}
-use Rattle.report.specs.EventText.{event_text, info_text}
 use Rattle.comparison.specs.Agreement.{printed_events}
 
 -- lists that agree at each place are the same
@@ -27,28 +25,10 @@ same_before xs ys n few others same = same_everywhere xs ys (λ k. elim (cases_l
   | inr after ↦ slice_get_past xs k (omega arith) ∙ sym (slice_get_past ys k (omega arith))
 ])
 
--- one place more
-pub same_one_more : {X : Type 0} (xs ys : List X) (n : ℕ) → ((k : ℕ) → k < n → slice_get xs k ≡ slice_get ys k) → slice_get xs n ≡ slice_get ys n → (k : ℕ) → k < n + 1 → slice_get xs k ≡ slice_get ys k
-same_one_more xs ys n same here k less = elim (cases_lt k n) [
-  | inl before ↦ same k before
-  | inr after ↦ let at : k ≡ n = omega arith in subst (λ j. slice_get xs j ≡ slice_get ys j) (sym at) here
-]
-
 -- ---- events
 
 pub as_many_events : (p : Content) → length (printed_events p) ≡ length p.events
 as_many_events p = length-map p.events _
-
-printed_at : (p : Content) (infos : List EventInfo) (k : ℕ) → k < length infos → slice_get (map (λ info. info_text p (Some info)) infos) k ≡ Some (info_text p (slice_get infos k))
-printed_at p [] k h = absurd (omega arith)
-printed_at p (info ∷ infos) zero h = refl
-printed_at p (info ∷ infos) (suc k) h = printed_at p infos k (omega arith)
-
-pub printed_there : (p : Content) (k : ℕ) → k < length p.events → Some (event_text p k) ≡ slice_get (printed_events p) k
-printed_there p k h = sym (printed_at p p.events k h)
-
-pub printed_past : (p : Content) (k : ℕ) → length p.events ≤ k → None ≡ slice_get (printed_events p) k
-printed_past p k past = let few = as_many_events p in sym (slice_get_past (printed_events p) k (omega arith))
 
 -- ---- alphabets
 
@@ -59,9 +39,6 @@ pub alphabet_there : (cs : List (Component Proc)) (k : ℕ) (c : Component Proc)
 alphabet_there [] k c at = absurd (let no : ◌≡◌ {A = Option (Component Proc)} None (Some c) = sym (slice_get_past [] k (omega arith)) ∙ at in cc)
 alphabet_there (d ∷ cs) zero c at = ap (λ (x : Component Proc). Some x.alphabet) (same_Some d c at)
 alphabet_there (d ∷ cs) (suc k) c at = alphabet_there cs k c at
-
-pub alphabet_past : (cs : List (Component Proc)) (k : ℕ) → length cs ≤ k → slice_get (alphabets cs) k ≡ None
-alphabet_past cs k past = let few = as_many_alphabets cs in slice_get_past (alphabets cs) k (omega arith)
 
 -- whether two components that are there have the same alphabet
 pub alphabets_match : (cs ds : List (Component Proc)) (k : ℕ) (c d : Component Proc) (same : Bool) → slice_get cs k ≡ Some c → slice_get ds k ≡ Some d → same ≡ pointwise nat_eq c.alphabet d.alphabet

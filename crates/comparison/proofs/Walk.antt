@@ -32,7 +32,7 @@ use Rattle.report.specs.declared.stop.Stop.TheVariants as stop
 use Rattle.comparison.specs.Agreement.{HaveOtherEvents, HaveOtherShape, printed_events}
 use Rattle.comparison.specs.Compared.{ConformanceDecides, IsCompared, IsConforming, PartsOr}
 use Rattle.comparison.specs.Conforming.{ComponentsConform, FailsToConform}
-use Rattle.comparison.specs.Walk.{HasNoParts, HasParts, IsToldConforming, PartFails, PartsConformBefore, SpecificationHasNoParts}
+use Rattle.comparison.specs.Walk.{HasParts, IsToldConforming, PartFails, PartsConformBefore, SpecificationHasNoParts}
 use Rattle.comparison.proofs.Components.{all_conform, inherits, part_fails}
 use Rattle.comparison.proofs.Lists.{as_many_alphabets}
 
@@ -58,19 +58,6 @@ no_tables_here p q cs why programs components tells =
 pub other_events_here : (p q x y : Content) (why : Stop Refusal) → x ≡ p → y ≡ q → Tells (HaveOtherEvents x y) why → Tells (HaveOtherEvents p q) why
 other_events_here p q x y why same other tells =
     subst (λ (z : Content). Tells (HaveOtherEvents z q) why) same (subst (λ (z : Content). Tells (HaveOtherEvents x z) why) other tells)
-
--- a network has no parts where it has no tables, or its tables give none
-pub no_parts_first : (network : Network) (why : Stop Refusal) → Tells (HaveNoTables network.program 0 (leaves network.tree)) why → Tells (HasNoParts network) why
-no_parts_first network stop.NoMemory tells = tt
-no_parts_first network (stop.Told r) tells = inl tells
-
-pub no_parts_then : (network : Network) (tables : List ComponentTable) (why : Stop Refusal) → AreTablesOf network.program (leaves network.tree) tables → Tells (HaveNoParts network.program 0 (leaves network.tree)) why → Tells (HasNoParts network) why
-no_parts_then network tables stop.NoMemory are tells = tt
-no_parts_then network tables (stop.Told r) are tells = inr (tables, are, tells)
-
-pub specification_refused : (network : Network) (why : Stop Refusal) → Tells (HasNoParts network) why → Tells (SpecificationHasNoParts network) (refused side.Specification why)
-specification_refused network stop.NoMemory tells = tt
-specification_refused network (stop.Told r) tells = (r, tells, refl)
 
 -- ---- of both
 

@@ -13,7 +13,7 @@ use Rattle.script_names.specs.declared.kinds.Use.{Use}
 use Rattle.script_names.specs.declared.kinds.Use.TheVariants as how
 use Rattle.script_names.specs.Faults.{class_of, clashes, is_definition, is_inside, is_wrong_kind, repeated_name, unknown_name, when, wrong_count}
 use Rattle.script_names.specs.Names.{Name, Meanings}
-use Rattle.script_names.specs.Occurrence.{Occurrence, declares, binds, notes, uses, form, parallel}
+use Rattle.script_names.specs.Occurrence.{Occurrence, uses, form, parallel}
 use Rattle.script_names.specs.Told.{first_name, first_there}
 use Rattle.name_notes.specs.declared.notes.Notes.{Notes}
 use Rattle.name_notes.specs.Found.{body_of, findings_of, greatest_level, level_of, use_of}
@@ -36,19 +36,13 @@ zero_max n = omega arith
 
 clash_is : (kinds : List Kind) (c : Class) (n : Need) → clash c n ≡ clashes kinds c n
 clash_is kinds class.Data need.Data = refl
-clash_is kinds class.Data need.Process = refl
-clash_is kinds class.Data need.Either = refl
 clash_is kinds class.Process need.Data = refl
-clash_is kinds class.Process need.Process = refl
-clash_is kinds class.Process need.Either = refl
 clash_is kinds class.Unknown need.Data = refl
-clash_is kinds class.Unknown need.Process = refl
-clash_is kinds class.Unknown need.Either = refl
+clash_is kinds _ _ = refl
 
 unknown_is : (x : Name) (s : Sense) (h : Use) → when (is_unknown s) x ≡ unknown_name (uses x s h)
-unknown_is x sense.Bound h = refl
-unknown_is x (sense.Declared e) h = refl
 unknown_is x sense.Unknown h = refl
+unknown_is x _ h = refl
 
 wrong_count_is : (x : Name) (s : Sense) (h : Use) → when (is_wrong_count s h) x ≡ wrong_count (uses x s h)
 wrong_count_is x s (how.Alone place) = refl
@@ -57,13 +51,11 @@ wrong_count_is x s _ = refl
 wrong_use_is : (kinds : List Kind) (x : Name) (s : Sense) (h : Use) → is_wrong_use kinds s h ≡ is_wrong_kind kinds (uses x s h)
 wrong_use_is kinds x s (how.Alone place) = clash_is kinds (class_of kinds s) place.need
 wrong_use_is kinds x s (how.Called n place) = ap (λ b. not (is_definition s) || b) (clash_is kinds (class_of kinds s) place.need)
-wrong_use_is kinds x s (how.Dotted n) = refl
-wrong_use_is kinds x s (how.Heads zero) = refl
-wrong_use_is kinds x s (how.Heads (suc n)) = refl
-wrong_use_is kinds x s (how.Begins n) = refl
-wrong_use_is kinds x s (how.Renamed n new m) = refl
 wrong_use_is kinds x s how.Annotated = ap (λ b. not (is_definition s) || b) (clash_is kinds (class_of kinds s) need.Process)
 wrong_use_is kinds x s (how.Annotates process) = ap (λ b. not (is_definition s) || b) (clash_is kinds (class_of kinds s) need.Data)
+wrong_use_is kinds x s (how.Heads zero) = refl
+wrong_use_is kinds x s (how.Heads (suc n)) = refl
+wrong_use_is kinds x s _ = refl
 
 inside_is : (kinds : List Kind) (x : Name) (s : Sense) (h : Use) → is_use_inside kinds s h ≡ is_inside kinds (uses x s h)
 inside_is kinds x s (how.Alone place) = refl
@@ -118,35 +110,19 @@ module _ (m : Meanings) (kinds : List Kind) where
 
   level_step : (n : Notes) (o : Occurrence) → (heard m kinds n o).body.level ≡ max n.body.level (level_of o)
   unfolding again_heard use_heard form_heard parallel_heard
-  level_step n (declares x b) = omega arith
-  level_step n (binds x b) = omega arith
-  level_step n (notes x b) = omega arith
-  level_step n (uses x s (how.Alone place)) = refl
-  level_step n (uses x s (how.Called k place)) = refl
-  level_step n (uses x s (how.Dotted k)) = omega arith
-  level_step n (uses x s (how.Heads k)) = omega arith
-  level_step n (uses x s (how.Begins k)) = omega arith
-  level_step n (uses x s (how.Renamed k new l)) = omega arith
-  level_step n (uses x s how.Annotated) = omega arith
-  level_step n (uses x s (how.Annotates process)) = omega arith
   level_step n (form c place) = refl
   level_step n (parallel place) = refl
+  level_step n (uses x s (how.Alone place)) = refl
+  level_step n (uses x s (how.Called k place)) = refl
+  level_step n (uses x s _) = omega arith
+  level_step n _ = omega arith
 
   uses_step : (n : Notes) (o : Occurrence) → (heard m kinds n o).body.uses ≡ n.body.uses ++ use_of o
   unfolding again_heard use_heard form_heard parallel_heard
-  uses_step n (declares x b) = sym (append-nil n.body.uses)
-  uses_step n (binds x b) = sym (append-nil n.body.uses)
-  uses_step n (notes x b) = sym (append-nil n.body.uses)
   uses_step n (uses x s (how.Alone place)) = refl
   uses_step n (uses x s (how.Called k place)) = refl
-  uses_step n (uses x s (how.Dotted k)) = sym (append-nil n.body.uses)
-  uses_step n (uses x s (how.Heads k)) = sym (append-nil n.body.uses)
-  uses_step n (uses x s (how.Begins k)) = sym (append-nil n.body.uses)
-  uses_step n (uses x s (how.Renamed k new l)) = sym (append-nil n.body.uses)
-  uses_step n (uses x s how.Annotated) = sym (append-nil n.body.uses)
-  uses_step n (uses x s (how.Annotates process)) = sym (append-nil n.body.uses)
-  uses_step n (form c place) = sym (append-nil n.body.uses)
-  uses_step n (parallel place) = sym (append-nil n.body.uses)
+  uses_step n (uses x s _) = sym (append-nil n.body.uses)
+  uses_step n _ = sym (append-nil n.body.uses)
 
   level_along : (n : Notes) (os : List Occurrence) → (heard_all m kinds n os).body.level ≡ max n.body.level (greatest_level os)
   level_along n [] = omega arith

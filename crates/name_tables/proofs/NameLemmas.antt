@@ -56,29 +56,8 @@ is_among-append [] ys y = refl
 is_among-append (x ∷ xs) ys y =
     ap (λ b. same_name y x || b) (is_among-append xs ys y) ∙ or_regroup (same_name y x) (is_among xs y) (is_among ys y)
 
-known_or : (b c : Bool) → b ≡ true → b ≡ (b || c)
-known_or true c h = refl
-known_or false c h = cc
-
-or_false : (b : Bool) → b ≡ (b || (false || false))
-or_false true = refl
-or_false false = refl
-
-pub same_names_known : (xs : List Name) (x : Name) → is_among xs x ≡ true → SameNames xs (xs ++ x ∷ [])
-same_names_known xs x known y = by (same_name y x) refl ∙ sym (is_among-append xs (x ∷ []) y)
-  where
-    by : (b : Bool) → same_name y x ≡ b → is_among xs y ≡ (is_among xs y || (b || false))
-    by true h = known_or (is_among xs y) (true || false) (ap (is_among xs) (same_exact y x h) ∙ known)
-    by false h = or_false (is_among xs y)
-
 pub same_names-append : (xs ys zs : List Name) → SameNames xs ys → SameNames (xs ++ zs) (ys ++ zs)
 same_names-append xs ys zs same y = is_among-append xs zs y ∙ ap (λ b. b || is_among zs y) (same y) ∙ sym (is_among-append ys zs y)
-
-pub same_firsts_longer : (es fs : Entities) → es ≡ fs → SameFirsts es fs
-same_firsts_longer es fs e y = ap (λ gs. first_of gs y) e
-
-pub same_names_longer : (xs ys : List Name) → xs ≡ ys → SameNames xs ys
-same_names_longer xs ys e y = ap (λ zs. is_among zs y) e
 
 pub none_there : (o : Option Entity) → is_some o ≡ false → o ≡ None
 none_there (Some e) h = cc

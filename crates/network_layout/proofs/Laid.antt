@@ -2,7 +2,7 @@
 use Rattle.std.proofs.Common.{◌≡◌, ℕ, ◌+◌, ◌-◌, ◌<◌, ◌≤◌, if◌then◌else◌, None, Ok, Err, List, [], ◌∷◌, ◌++◌, length, ap, sym, ◌∙◌, subst, arith, append_assoc, append-nil}
 use Rattle.std.specs.Prelude.{Option, Result}
 use Rattle.std.specs.Result.{IsErrAnd}
-use Rattle.std.proofs.lemmas.Bool.{lt-ltb, le-ltb}
+use Rattle.std.proofs.lemmas.Bool.{lt-ltb}
 use Rattle.std.proofs.lemmas.List.{length-append}
 use Rattle.csp_base.specs.Events.{union_of}
 use Rattle.csp_tables.specs.Network.{Component, Tree, Operands, leaves}
@@ -21,9 +21,6 @@ use Rattle.network_trees.specs.declared.fault.LayoutFault.{LayoutFault}
 use Rattle.network_trees.specs.declared.fault.LayoutFault.TheVariants as fault
 
 -- ---- a component
-
-pub too_many : (k : ℕ) (alphabet : List ℕ) (q : Proc) → 512 ≤ k → next_component k alphabet q ≡ Err fault.ComponentLimit
-too_many k alphabet q past = ap (λ b. if b then Ok (leaf (record { alphabet = alphabet; term = q })) else Err fault.ComponentLimit) (le-ltb k 512 past)
 
 seat_made : (k : ℕ) (alphabet : List ℕ) (q : Proc) → k < 512 → next_component k alphabet q ≡ Ok (leaf (record { alphabet = alphabet; term = q }))
 seat_made k alphabet q lt = ap (λ b. if b then Ok (leaf (record { alphabet = alphabet; term = q })) else Err fault.ComponentLimit) (lt-ltb k 512 lt)

@@ -64,14 +64,6 @@ module _ (alphabets : List (List ℕ)) (a : List ℕ) where
       joined e ∙ (ap₂ (λ b c. b || c) (many e) (ap (λ b. b && has a e) (few e)) ∙
       (more_at n (sharers alphabets e) (has a e) ∙ ap (nat_le (n + 1)) (sym (sharers-last alphabets a e))))
 
-pub counted_none : (alphabets : List (List ℕ)) (once twice thrice : List ℕ) → alphabets ≡ [] → once ≡ [] → twice ≡ [] → thrice ≡ [] → IsCounted alphabets once twice thrice
-counted_none alphabets once twice thrice is one two three =
-    subst (λ rows. IsCounted rows once twice thrice) (sym is) (record {
-      one = λ e. ap (λ xs. has xs e) one;
-      two = λ e. ap (λ xs. has xs e) two;
-      three = λ e. ap (λ xs. has xs e) three;
-    })
-
 pub counted_next : (all : List (List ℕ)) (i : ℕ) (a : List ℕ) (once twice thrice first' twice' thrice' : List ℕ)
     → i < length all → a ≡ get_or all i a → IsCounted (take i all) once twice thrice
     → ((e : ℕ) → has thrice' e ≡ (has thrice e || (has twice e && has a e))) → ((e : ℕ) → has twice' e ≡ (has twice e || (has once e && has a e)))

@@ -48,24 +48,21 @@ as_few (c ∷ cs) (t ∷ ts) = let rest = as_few cs ts in omega (arith, rest)
 module _ (p : Content) where
   pub rows_of : (room : Room) (cs : List (Component Proc)) (ts : List ComponentTable) → AreTablesWithin p room cs ts → List (Row (ProcessStep p))
   rows_of room [] [] are = []
-  rows_of room [] (t ∷ ts) are = absurd are
-  rows_of room (c ∷ cs) [] are = absurd are
   rows_of room (c ∷ cs) (t ∷ ts) are =
       record { component = c; terms = are.0.table.terms; table = t.local.table; is = are.0.table.table } ∷ rows_of (room_after room t.local.used) cs ts are.1
+  rows_of room _ _ are = absurd are
 
   pub rows_have_components : (room : Room) (cs : List (Component Proc)) (ts : List ComponentTable) (are : AreTablesWithin p room cs ts) → components (ProcessStep p) (rows_of room cs ts are) ≡ cs
   unfolding rows_of
   rows_have_components room [] [] are = refl
-  rows_have_components room [] (t ∷ ts) are = absurd are
-  rows_have_components room (c ∷ cs) [] are = absurd are
   rows_have_components room (c ∷ cs) (t ∷ ts) are = ap (λ (ds : List (Component Proc)). c ∷ ds) (rows_have_components (room_after room t.local.used) cs ts are.1)
+  rows_have_components room _ _ are = absurd are
 
   pub rows_are_numbered : (room : Room) (cs : List (Component Proc)) (ts : List ComponentTable) (are : AreTablesWithin p room cs ts) → numbered_rows (ProcessStep p) (rows_of room cs ts are) ≡ numbered cs ts
   unfolding rows_of
   rows_are_numbered room [] [] are = refl
-  rows_are_numbered room [] (t ∷ ts) are = absurd are
-  rows_are_numbered room (c ∷ cs) [] are = absurd are
   rows_are_numbered room (c ∷ cs) (t ∷ ts) are = ap (λ (ns : List Numbered). one_numbered c t ∷ ns) (rows_are_numbered (room_after room t.local.used) cs ts are.1)
+  rows_are_numbered room _ _ are = absurd are
 
 -- ---- as they are read
 pub tables_read : (p q : Content) (cs ds : List (Component Proc)) (ts us : List ComponentTable) → q ≡ p → ds ≡ cs → us ≡ ts → AreTablesOf p cs ts → AreTablesOf q ds us

@@ -27,11 +27,8 @@ all_do e (c ∷ cs) (x ∷ xs) can =
 
 all_can : (e : ℕ) (cs : List Numbered) (xs ys : List ℕ) → AllDo e cs xs ys → AllCan e cs xs
 all_can e [] [] [] does = tt
-all_can e [] [] (y ∷ ys) does = absurd does
-all_can e [] (x ∷ xs) ys does = absurd does
-all_can e (c ∷ cs) [] ys does = absurd does
-all_can e (c ∷ cs) (x ∷ xs) [] does = absurd does
 all_can e (c ∷ cs) (x ∷ xs) (y ∷ ys) does = (λ owned. (y, MatchBool-at_true _ _ owned does.0), all_can e cs xs ys does.1)
+all_can e _ _ _ does = absurd does
 
 pub leads : (cs : List Numbered) (xs : List ℕ) (m : Move) → Has cs xs m → (ys : List ℕ) × Takes cs xs m ys
 leads cs xs (move.Silent i) can = (

@@ -82,10 +82,6 @@ module _ {T : Type 0} (Step : T → Label → T → Type 0) where
 
   pub in_place : (rows : List (Row Step)) (cs : List (Component T)) (xs : List ℕ) (i : ℕ) → Stand rows cs xs → i < length xs → StandsInPlace rows cs xs i
   in_place [] [] [] i stand below = absurd (omega (arith, below))
-  in_place [] [] (x ∷ xs) i stand below = absurd stand
-  in_place [] (c ∷ cs) xs i stand below = absurd stand
-  in_place (r ∷ rows) [] xs i stand below = absurd stand
-  in_place (r ∷ rows) (c ∷ cs) [] i stand below = absurd stand
   in_place (r ∷ rows) (c ∷ cs) (x ∷ xs) zero stand below = record {
     row = r;
     row_there = refl;
@@ -108,24 +104,19 @@ module _ {T : Type 0} (Step : T → Label → T → Type 0) where
         stands = p.stands;
         others = λ d y at. (stand.0, p.others d y at);
       }
+  in_place _ _ _ i stand below = absurd stand
 
   pub as_many : (rows : List (Row Step)) (cs : List (Component T)) (xs : List ℕ) → Stand rows cs xs → length cs ≡ length xs
   as_many [] [] [] stand = refl
-  as_many [] [] (x ∷ xs) stand = absurd stand
-  as_many [] (c ∷ cs) xs stand = absurd stand
-  as_many (r ∷ rows) [] xs stand = absurd stand
-  as_many (r ∷ rows) (c ∷ cs) [] stand = absurd stand
   as_many (r ∷ rows) (c ∷ cs) (x ∷ xs) stand = let rest = as_many rows cs xs stand.1 in omega (arith, rest)
+  as_many _ _ _ stand = absurd stand
 
   -- ---- an event
   -- a component has it
   pub same_owner : (e : ℕ) (rows : List (Row Step)) (cs : List (Component T)) (xs : List ℕ) → Stand rows cs xs → has_owner (numbered_rows rows) e ≡ in_some_component cs e
   same_owner e [] [] [] stand = refl
-  same_owner e [] [] (x ∷ xs) stand = absurd stand
-  same_owner e [] (c ∷ cs) xs stand = absurd stand
-  same_owner e (r ∷ rows) [] xs stand = absurd stand
-  same_owner e (r ∷ rows) (c ∷ cs) [] stand = absurd stand
   same_owner e (r ∷ rows) (c ∷ cs) (x ∷ xs) stand = ap₂ (λ (a b : Bool). a || b) (ap (λ (al : List ℕ). has al e) stand.0.alphabet) (same_owner e rows cs xs stand.1)
+  same_owner e _ _ _ stand = absurd stand
 
   -- one component takes part in it, or stays
   record TakesByNumber (e : ℕ) (r : Row Step) (x : ℕ) (d : Component T) : Type 0 where
@@ -175,15 +166,12 @@ module _ {T : Type 0} (Step : T → Label → T → Type 0) where
   pub all_by_number : (e : ℕ) (rows : List (Row Step)) (cs ds : List (Component T)) (xs : List ℕ) → Stand rows cs xs → AllTakePart Step e cs ds → AllByNumber e rows xs ds
   all_by_number e [] [] [] [] stand take = record { numbers = []; does = tt; stand = tt }
   all_by_number e [] [] (d ∷ ds) xs stand take = absurd take
-  all_by_number e [] [] [] (x ∷ xs) stand take = absurd stand
-  all_by_number e [] (c ∷ cs) ds xs stand take = absurd stand
-  all_by_number e (r ∷ rows) [] ds xs stand take = absurd stand
   all_by_number e (r ∷ rows) (c ∷ cs) [] xs stand take = absurd take
-  all_by_number e (r ∷ rows) (c ∷ cs) (d ∷ ds) [] stand take = absurd stand
   all_by_number e (r ∷ rows) (c ∷ cs) (d ∷ ds) (x ∷ xs) stand take =
       let one = one_by_number e r c d x stand.0 take.0 in
       let rest = all_by_number e rows cs ds xs stand.1 take.1 in
       record { numbers = one.number ∷ rest.numbers; does = (one.does, rest.does); stand = (one.stands, rest.stand) }
+  all_by_number e _ _ _ _ stand take = absurd stand
 
   pub record AllByTerm (e : ℕ) (rows : List (Row Step)) (cs : List (Component T)) (ys : List ℕ) : Type 0 where
     pub next : List (Component T)
@@ -193,12 +181,9 @@ module _ {T : Type 0} (Step : T → Label → T → Type 0) where
   pub all_by_term : (e : ℕ) (rows : List (Row Step)) (cs : List (Component T)) (xs ys : List ℕ) → Stand rows cs xs → AllDo e (numbered_rows rows) xs ys → AllByTerm e rows cs ys
   all_by_term e [] [] [] [] stand does = record { next = []; take = tt; stand = tt }
   all_by_term e [] [] [] (y ∷ ys) stand does = absurd does
-  all_by_term e [] [] (x ∷ xs) ys stand does = absurd stand
-  all_by_term e [] (c ∷ cs) xs ys stand does = absurd stand
-  all_by_term e (r ∷ rows) [] xs ys stand does = absurd stand
-  all_by_term e (r ∷ rows) (c ∷ cs) [] ys stand does = absurd stand
   all_by_term e (r ∷ rows) (c ∷ cs) (x ∷ xs) [] stand does = absurd does
   all_by_term e (r ∷ rows) (c ∷ cs) (x ∷ xs) (y ∷ ys) stand does =
       let one = one_by_term e r c x y stand.0 does.0 in
       let rest = all_by_term e rows cs xs ys stand.1 does.1 in
       record { next = one.next ∷ rest.next; take = (one.takes, rest.take); stand = (one.stands, rest.stand) }
+  all_by_term e _ _ _ _ stand does = absurd stand

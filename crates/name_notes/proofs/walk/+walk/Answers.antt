@@ -2,51 +2,57 @@ use Rattle.std.proofs.Common.{◌++◌, refl, ◌∙◌, arith}
 use Rattle.std.proofs.lemmas.List.{append-nil}
 use Rattle.std.specs.List.{flat_map}
 use Rattle.script_names.specs.Names.{first_of}
-use Rattle.name_notes.specs.Told.{field_names, fields_told, gen_names, gens_told, pairs_told, parts_told, trees_told}
+use Rattle.name_notes.specs.Told.{field_names, field_told, fields_told, gen_names, gen_told, gens_told, pair_told, pairs_told, part_told, parts_told, tree_told, trees_told}
 use Rattle.name_notes.proofs.Binders.{field_names-Dot, field_names-Output, gen_names-Cond, restored}
-use Rattle.name_notes.proofs.ToldEquations.{told_forms}
-use Rattle.name_notes.proofs.WalkSteps.{fields_told-end, fields_told-step, gens_told-end, gens_told-step, pairs_told-end, pairs_told-step, parts_told-end, parts_told-step, trees_told-end, trees_told-step}
+use Rattle.name_notes.proofs.ToldEquations.{fields_told-first, gens_told-first, pairs_told-first, parts_told-first, told_forms, trees_told-first}
+use Rattle.name_notes.proofs.WalkSteps.{told_end, told_step}
 use Rattle.name_tables.proofs.DeclaredLemmas.{flat_end, flat_step}
 use Rattle.name_notes.proofs.walk.+walk.Goals as goal
 
 pub walk_all-loop-tree-preserved : goal.walk_all-loop-tree-preserved
 walk_all-loop-tree-preserved t c = record {
-  notes = trees_told-step (first_of c.args.meanings.now.names.now) c.args.meanings.now.kinds.now c.args.trees.now c.loop-tree.tree-index c.tree-item.result c.args.place c.loop-tree.bound c.walk.new.bound c.loop-tree.notes c.walk.new.notes
-      (trees_told (first_of c.args.meanings.now.names.now) c.args.meanings.now.kinds.now c.args.trees.now c.args.place c.args.bound.now c.args.notes.now)
+  notes = told_step (λ xs. trees_told (first_of c.args.meanings.now.names.now) c.args.meanings.now.kinds.now xs c.args.place) (λ x. tree_told (first_of c.args.meanings.now.names.now) c.args.meanings.now.kinds.now x c.args.place)
+      (λ x names. names) (trees_told-first (first_of c.args.meanings.now.names.now) c.args.meanings.now.kinds.now c.args.place)
+      c.args.trees.now c.loop-tree.tree-index c.tree-item.result c.loop-tree.bound c.walk.new.bound c.loop-tree.notes c.walk.new.notes _
       c.loop-tree-test.true c.tree-item.is c.in_ok-walk.ensures.notes c.in_ok-walk.ensures.bound c.loop-tree.invariant.notes;
   bound = c.in_ok-walk.ensures.bound ∙ c.loop-tree.invariant.bound;
 }
 
 pub walk_all-returns-clause-notes : goal.walk_all-returns-clause-notes
+unfolding trees_told
 walk_all-returns-clause-notes t c =
-    trees_told-end (first_of c.args.meanings.now.names.now) c.args.meanings.now.kinds.now c.args.trees.now c.loop-tree.tree-index c.args.place c.loop-tree.bound c.loop-tree.notes
-    (trees_told (first_of c.args.meanings.now.names.now) c.args.meanings.now.kinds.now c.args.trees.now c.args.place c.args.bound.now c.args.notes.now) (omega arith) c.loop-tree.invariant.notes
+    told_end (λ xs. trees_told (first_of c.args.meanings.now.names.now) c.args.meanings.now.kinds.now xs c.args.place)
+    c.args.trees.now c.loop-tree.tree-index c.loop-tree.bound c.loop-tree.notes _ refl (omega arith) c.loop-tree.invariant.notes
 
 pub walk_parts-loop-part-preserved : goal.walk_parts-loop-part-preserved
 walk_parts-loop-part-preserved t c = record {
-  notes = parts_told-step (first_of c.args.meanings.now.names.now) c.args.meanings.now.kinds.now c.args.parts.now c.loop-part.part-index c.part-item.result c.args.place c.loop-part.bound c.walk_part.new.bound c.loop-part.notes c.walk_part.new.notes
-      (parts_told (first_of c.args.meanings.now.names.now) c.args.meanings.now.kinds.now c.args.parts.now c.args.place c.args.bound.now c.args.notes.now)
+  notes = told_step (λ xs. parts_told (first_of c.args.meanings.now.names.now) c.args.meanings.now.kinds.now xs c.args.place) (λ x. part_told (first_of c.args.meanings.now.names.now) c.args.meanings.now.kinds.now x c.args.place)
+      (λ x names. names) (parts_told-first (first_of c.args.meanings.now.names.now) c.args.meanings.now.kinds.now c.args.place)
+      c.args.parts.now c.loop-part.part-index c.part-item.result c.loop-part.bound c.walk_part.new.bound c.loop-part.notes c.walk_part.new.notes _
       c.loop-part-test.true c.part-item.is c.in_ok-walk_part.ensures.notes c.in_ok-walk_part.ensures.bound c.loop-part.invariant.notes;
   bound = c.in_ok-walk_part.ensures.bound ∙ c.loop-part.invariant.bound;
 }
 
 pub walk_parts-returns-clause-notes : goal.walk_parts-returns-clause-notes
+unfolding parts_told
 walk_parts-returns-clause-notes t c =
-    parts_told-end (first_of c.args.meanings.now.names.now) c.args.meanings.now.kinds.now c.args.parts.now c.loop-part.part-index c.args.place c.loop-part.bound c.loop-part.notes
-    (parts_told (first_of c.args.meanings.now.names.now) c.args.meanings.now.kinds.now c.args.parts.now c.args.place c.args.bound.now c.args.notes.now) (omega arith) c.loop-part.invariant.notes
+    told_end (λ xs. parts_told (first_of c.args.meanings.now.names.now) c.args.meanings.now.kinds.now xs c.args.place)
+    c.args.parts.now c.loop-part.part-index c.loop-part.bound c.loop-part.notes _ refl (omega arith) c.loop-part.invariant.notes
 
 pub walk_fields-loop-field-preserved : goal.walk_fields-loop-field-preserved
 walk_fields-loop-field-preserved t c = record {
-  notes = fields_told-step (first_of c.args.meanings.now.names.now) c.args.meanings.now.kinds.now c.args.fields.now c.loop-field.field-index c.field-item.result c.args.place c.loop-field.bound c.walk_field.new.bound c.loop-field.notes c.walk_field.new.notes
-      (fields_told (first_of c.args.meanings.now.names.now) c.args.meanings.now.kinds.now c.args.fields.now c.args.place c.args.bound.now c.args.notes.now)
+  notes = told_step (λ xs. fields_told (first_of c.args.meanings.now.names.now) c.args.meanings.now.kinds.now xs c.args.place) (λ x. field_told (first_of c.args.meanings.now.names.now) c.args.meanings.now.kinds.now x c.args.place)
+      (λ x names. names ++ field_names x) (fields_told-first (first_of c.args.meanings.now.names.now) c.args.meanings.now.kinds.now c.args.place)
+      c.args.fields.now c.loop-field.field-index c.field-item.result c.loop-field.bound c.walk_field.new.bound c.loop-field.notes c.walk_field.new.notes _
       c.loop-field-test.true c.field-item.is c.in_ok-walk_field.ensures.notes c.in_ok-walk_field.ensures.bound c.loop-field.invariant.notes;
   bound = flat_step field_names c.walk_field.new.bound c.loop-field.bound (c.args.bound.now ++ flat_map field_names c.args.fields.now) c.loop-field.field-index c.args.fields.now c.field-item.result c.loop-field-test.true c.field-item.is c.in_ok-walk_field.ensures.bound c.loop-field.invariant.bound;
 }
 
 pub walk_fields-returns-clause-notes : goal.walk_fields-returns-clause-notes
+unfolding fields_told
 walk_fields-returns-clause-notes t c =
-    fields_told-end (first_of c.args.meanings.now.names.now) c.args.meanings.now.kinds.now c.args.fields.now c.loop-field.field-index c.args.place c.loop-field.bound c.loop-field.notes
-    (fields_told (first_of c.args.meanings.now.names.now) c.args.meanings.now.kinds.now c.args.fields.now c.args.place c.args.bound.now c.args.notes.now) (omega arith) c.loop-field.invariant.notes
+    told_end (λ xs. fields_told (first_of c.args.meanings.now.names.now) c.args.meanings.now.kinds.now xs c.args.place)
+    c.args.fields.now c.loop-field.field-index c.loop-field.bound c.loop-field.notes _ refl (omega arith) c.loop-field.invariant.notes
 
 pub walk_fields-returns-clause-bound : goal.walk_fields-returns-clause-bound
 walk_fields-returns-clause-bound t c =
@@ -54,16 +60,18 @@ walk_fields-returns-clause-bound t c =
 
 pub walk_gens-loop-generator-preserved : goal.walk_gens-loop-generator-preserved
 walk_gens-loop-generator-preserved t c = record {
-  notes = gens_told-step (first_of c.args.meanings.now.names.now) c.args.meanings.now.kinds.now c.args.gens.now c.loop-generator.generator-index c.generator-item.result c.args.place c.loop-generator.bound c.walk_gen.new.bound c.loop-generator.notes c.walk_gen.new.notes
-      (gens_told (first_of c.args.meanings.now.names.now) c.args.meanings.now.kinds.now c.args.gens.now c.args.place c.args.bound.now c.args.notes.now)
+  notes = told_step (λ xs. gens_told (first_of c.args.meanings.now.names.now) c.args.meanings.now.kinds.now xs c.args.place) (λ x. gen_told (first_of c.args.meanings.now.names.now) c.args.meanings.now.kinds.now x c.args.place)
+      (λ x names. names ++ gen_names x) (gens_told-first (first_of c.args.meanings.now.names.now) c.args.meanings.now.kinds.now c.args.place)
+      c.args.gens.now c.loop-generator.generator-index c.generator-item.result c.loop-generator.bound c.walk_gen.new.bound c.loop-generator.notes c.walk_gen.new.notes _
       c.loop-generator-test.true c.generator-item.is c.in_ok-walk_gen.ensures.notes c.in_ok-walk_gen.ensures.bound c.loop-generator.invariant.notes;
   bound = flat_step gen_names c.walk_gen.new.bound c.loop-generator.bound (c.args.bound.now ++ flat_map gen_names c.args.gens.now) c.loop-generator.generator-index c.args.gens.now c.generator-item.result c.loop-generator-test.true c.generator-item.is c.in_ok-walk_gen.ensures.bound c.loop-generator.invariant.bound;
 }
 
 pub walk_gens-returns-clause-notes : goal.walk_gens-returns-clause-notes
+unfolding gens_told
 walk_gens-returns-clause-notes t c =
-    gens_told-end (first_of c.args.meanings.now.names.now) c.args.meanings.now.kinds.now c.args.gens.now c.loop-generator.generator-index c.args.place c.loop-generator.bound c.loop-generator.notes
-    (gens_told (first_of c.args.meanings.now.names.now) c.args.meanings.now.kinds.now c.args.gens.now c.args.place c.args.bound.now c.args.notes.now) (omega arith) c.loop-generator.invariant.notes
+    told_end (λ xs. gens_told (first_of c.args.meanings.now.names.now) c.args.meanings.now.kinds.now xs c.args.place)
+    c.args.gens.now c.loop-generator.generator-index c.loop-generator.bound c.loop-generator.notes _ refl (omega arith) c.loop-generator.invariant.notes
 
 pub walk_gens-returns-clause-bound : goal.walk_gens-returns-clause-bound
 walk_gens-returns-clause-bound t c =
@@ -73,9 +81,10 @@ walk_gens-returns-clause-bound t c =
     c.leave.ensures
 
 pub walk_pairs-returns-clause-notes : goal.walk_pairs-returns-clause-notes
+unfolding pairs_told
 walk_pairs-returns-clause-notes t c =
-    pairs_told-end (first_of c.args.meanings.now.names.now) c.args.meanings.now.kinds.now c.args.pairs.now c.loop-pair.pair-index c.args.place c.loop-pair.bound c.loop-pair.notes
-    (pairs_told (first_of c.args.meanings.now.names.now) c.args.meanings.now.kinds.now c.args.pairs.now c.args.place c.args.bound.now c.args.notes.now) (omega arith) c.loop-pair.invariant.notes
+    told_end (λ xs. pairs_told (first_of c.args.meanings.now.names.now) c.args.meanings.now.kinds.now xs c.args.place)
+    c.args.pairs.now c.loop-pair.pair-index c.loop-pair.bound c.loop-pair.notes _ refl (omega arith) c.loop-pair.invariant.notes
 
 pub walk_all_under-returns-clause-bound : goal.walk_all_under-returns-clause-bound
 walk_all_under-returns-clause-bound t c = restored _ _ _ c.args.bound.now _ _ c.len-mark.ensures c.in_ok-bind_gens.ensures c.in_ok-walk_all.ensures.bound c.leave.ensures
@@ -97,8 +106,9 @@ walk_gen-returns-in-Cond-clause-bound t c = rw (c.in-Cond.is, gen_names-Cond, ap
 
 pub walk_pairs-loop-pair-preserved : goal.walk_pairs-loop-pair-preserved
 walk_pairs-loop-pair-preserved t c = record {
-  notes = pairs_told-step (first_of c.args.meanings.now.names.now) c.args.meanings.now.kinds.now c.args.pairs.now c.loop-pair.pair-index c.pair-item.result c.args.place c.loop-pair.bound c.walk_pair.new.bound c.loop-pair.notes c.walk_pair.new.notes
-      (pairs_told (first_of c.args.meanings.now.names.now) c.args.meanings.now.kinds.now c.args.pairs.now c.args.place c.args.bound.now c.args.notes.now)
+  notes = told_step (λ xs. pairs_told (first_of c.args.meanings.now.names.now) c.args.meanings.now.kinds.now xs c.args.place) (λ x. pair_told (first_of c.args.meanings.now.names.now) c.args.meanings.now.kinds.now x c.args.place)
+      (λ x names. names) (pairs_told-first (first_of c.args.meanings.now.names.now) c.args.meanings.now.kinds.now c.args.place)
+      c.args.pairs.now c.loop-pair.pair-index c.pair-item.result c.loop-pair.bound c.walk_pair.new.bound c.loop-pair.notes c.walk_pair.new.notes _
       c.loop-pair-test.true c.pair-item.is c.in_ok-walk_pair.ensures.notes c.in_ok-walk_pair.ensures.bound c.loop-pair.invariant.notes;
   bound = c.in_ok-walk_pair.ensures.bound ∙ c.loop-pair.invariant.bound;
 }
