@@ -18,7 +18,7 @@ pub returns-in-Err-SubsetLimit-clause-told : goal.returns-in-Err-SubsetLimit-cla
 returns-in-Err-SubsetLimit-clause-told c = (
   c.loop-place.place,
   first_many c.args.program.now c.args.seats.now _ _ c.loop-place-test.true c.index-seats-place.is c.loop-place.invariant.few
-  (many_told c.args.program.now c.index-seats-place.result c.part_of.result _ c.in-Err-SubsetLimit.is c.in-Err-SubsetLimit.field-0-is c.part_of.ensures.fault),
+      (many_told c.args.program.now c.index-seats-place.result c.part_of.result _ c.in-Err-SubsetLimit.is c.in-Err-SubsetLimit.field-0-is c.part_of.ensures.fault),
   c.sets_refusal.ensures,
 )
 
