@@ -7,4 +7,4 @@ all_parts-requires-clause-most c = subst (λ n. c.args.first + n ≤ 512) (sym (
 
 pub returns-clause-made_by : goal.returns-clause-made_by
 returns-clause-made_by c =
-    parts_by _ c.program.result.now _ c.seats.result.now c.in_ok-parts.parts.items c.program.ensures c.seats.ensures c.in_ok-parts.ensures.parts c.in_ok-parts.ensures.few
+    parts_by _ c.program-program.result.now _ c.seats.result.now c.in_ok-parts.parts.items c.program-program.ensures c.seats.ensures c.in_ok-parts.ensures.parts c.in_ok-parts.ensures.few
