@@ -93,13 +93,12 @@ module _ (ts : List Proc) (b : ℕ) (different : (i j : ℕ) → i < b → j < b
 
   same_ids : (ps qs : List ProcId) → all_below b ps ≡ true → all_below b qs ≡ true → map (tree_at ts) ps ≡ map (tree_at ts) qs → ps ≡ qs
   same_ids [] [] h g e = refl
-  same_ids [] (q ∷ qs) h g e = cc
-  same_ids (p ∷ ps) [] h g e = cc
   same_ids (p ∷ ps) (q ∷ qs) h g e =
       let first : tree_at ts p ≡ tree_at ts q = cc in
       let others : map (tree_at ts) ps ≡ map (tree_at ts) qs = cc in
       λ i. same_id p q (first_so (nat_lt p.0 b) (all_below b ps) h) (first_so (nat_lt q.0 b) (all_below b qs) g) first i ∷
       same_ids ps qs (second_so (nat_lt p.0 b) (all_below b ps) h) (second_so (nat_lt q.0 b) (all_below b qs) g) others i
+  same_ids _ _ h g e = cc
 
   shown_same : (n m : Layer) → layer_below b n ≡ true → layer_below b m ≡ true → Shows ts n (layer_of ts m) → n ≡ m
   shown_same Layer.Stop Layer.Stop h g e = refl

@@ -1,5 +1,5 @@
 -- What a node's process measures: its own parts and the processes at its places.
-use Rattle.std.proofs.Common.{◌≡◌, ℕ, ◌+◌, ◌<◌, max, true, nat_lt, List, [], ◌∷◌, map, length, get_or, refl, ap, ◌∙◌, subst, arith}
+use Rattle.std.proofs.Common.{◌≡◌, ℕ, ◌+◌, ◌<◌, max, true, nat_lt, List, [], ◌∷◌, map, length, get_or, refl, ap, sym, ◌∙◌, subst, arith}
 use Rattle.std.proofs.lemmas.Bool.{ltb-true}
 use Rattle.std.proofs.lemmas.List.{get_or-map, length-map}
 use Rattle.std.specs.Cmp.{first_so, second_so}
@@ -9,6 +9,7 @@ use Rattle.csp_program.specs.declared.processes.Proc.{Proc}
 use Rattle.csp_program.specs.declared.processes.Proc.TheVariants as proc
 use Rattle.pool_parts.proofs.MeasureLaws as laws
 use Rattle.pool_parts.specs.Counting.{capped}
+use Rattle.term_pool.proofs.NodeLemmas.{layer_of, rolls}
 use Rattle.term_pool.specs.Measured.{measured, own_depth, own_size, deepest_at, total_at, node_depth, node_size}
 use Rattle.term_pool.specs.Trees.{tree_at, layer_tree, layer_ids, all_below, layer_below}
 use Rattle.pool_parts.specs.declared.measure.Measure.{Measure}
@@ -16,37 +17,19 @@ use Rattle.term_pool.specs.Layers.{Layer}
 use Rattle.pool_parts.specs.declared.place.ProcId.{ProcId}
 use Rattle.csp_base.specs.Lists.{greatest, total}
 
+form_depth_of : (ts : List Proc) (n : Layer) → laws.proc_form_depth (layer_of ts n) ≡ 1 + max (own_depth n) (greatest (map proc_depth (map (tree_at ts) (layer_ids n))))
+form_depth_of ts Layer.Stop = omega arith
+form_depth_of ts _ = omega arith
+
+form_size_of : (ts : List Proc) (n : Layer) → laws.proc_form_size (layer_of ts n) ≡ 1 + (own_size n + total (map proc_size (map (tree_at ts) (layer_ids n))))
+form_size_of ts Layer.Stop = omega arith
+form_size_of ts _ = omega arith
+
 pub tree_depth : (ts : List Proc) (n : Layer) → proc_depth (layer_tree ts n) ≡ 1 + max (own_depth n) (greatest (map proc_depth (map (tree_at ts) (layer_ids n))))
-tree_depth ts Layer.Stop = omega (arith, laws.proc_depth-Stop)
-tree_depth ts (Layer.Prefix k fields p) = omega (arith, laws.proc_depth-Prefix k fields (tree_at ts p))
-tree_depth ts (Layer.Guard c p) = omega (arith, laws.proc_depth-Guard c (tree_at ts p))
-tree_depth ts (Layer.If c p q) = omega (arith, laws.proc_depth-If c (tree_at ts p) (tree_at ts q))
-tree_depth ts (Layer.External ps) = omega (arith, laws.proc_depth-External (map (tree_at ts) ps))
-tree_depth ts (Layer.Internal ps) = omega (arith, laws.proc_depth-Internal (map (tree_at ts) ps))
-tree_depth ts (Layer.EachExternal y s p) = omega (arith, laws.proc_depth-EachExternal y s (tree_at ts p))
-tree_depth ts (Layer.EachInternal y s p) = omega (arith, laws.proc_depth-EachInternal y s (tree_at ts p))
-tree_depth ts (Layer.Hide p s) = omega (arith, laws.proc_depth-Hide (tree_at ts p) s)
-tree_depth ts (Layer.Rename p pairs gens) = omega (arith, laws.proc_depth-Rename (tree_at ts p) pairs gens)
-tree_depth ts (Layer.Call d args) = omega (arith, laws.proc_depth-Call d args)
-tree_depth ts Layer.Skip = omega (arith, laws.proc_depth-Skip)
-tree_depth ts (Layer.Seq p q) = omega (arith, laws.proc_depth-Seq (tree_at ts p) (tree_at ts q))
-tree_depth ts Layer.Ended = omega (arith, laws.proc_depth-Ended)
+tree_depth ts n = (laws.proc_measures (layer_tree ts n) (layer_tree ts n) (layer_of ts n) refl (sym (rolls ts n))).0 ∙ form_depth_of ts n
 
 pub tree_size : (ts : List Proc) (n : Layer) → proc_size (layer_tree ts n) ≡ 1 + (own_size n + total (map proc_size (map (tree_at ts) (layer_ids n))))
-tree_size ts Layer.Stop = omega (arith, laws.proc_size-Stop)
-tree_size ts (Layer.Prefix k fields p) = omega (arith, laws.proc_size-Prefix k fields (tree_at ts p))
-tree_size ts (Layer.Guard c p) = omega (arith, laws.proc_size-Guard c (tree_at ts p))
-tree_size ts (Layer.If c p q) = omega (arith, laws.proc_size-If c (tree_at ts p) (tree_at ts q))
-tree_size ts (Layer.External ps) = omega (arith, laws.proc_size-External (map (tree_at ts) ps))
-tree_size ts (Layer.Internal ps) = omega (arith, laws.proc_size-Internal (map (tree_at ts) ps))
-tree_size ts (Layer.EachExternal y s p) = omega (arith, laws.proc_size-EachExternal y s (tree_at ts p))
-tree_size ts (Layer.EachInternal y s p) = omega (arith, laws.proc_size-EachInternal y s (tree_at ts p))
-tree_size ts (Layer.Hide p s) = omega (arith, laws.proc_size-Hide (tree_at ts p) s)
-tree_size ts (Layer.Rename p pairs gens) = omega (arith, laws.proc_size-Rename (tree_at ts p) pairs gens)
-tree_size ts (Layer.Call d args) = omega (arith, laws.proc_size-Call d args)
-tree_size ts Layer.Skip = omega (arith, laws.proc_size-Skip)
-tree_size ts (Layer.Seq p q) = omega (arith, laws.proc_size-Seq (tree_at ts p) (tree_at ts q))
-tree_size ts Layer.Ended = omega (arith, laws.proc_size-Ended)
+tree_size ts n = (laws.proc_measures (layer_tree ts n) (layer_tree ts n) (layer_of ts n) refl (sym (rolls ts n))).1 ∙ form_size_of ts n
 
 module _ (ts : List Proc) where
   measured_at : (id : ProcId) → nat_lt id.0 (length (map measured ts)) ≡ true → get_or (map measured ts) id.0 (record { depth = 0; size = 0 }) ≡ measured (tree_at ts id)

@@ -88,22 +88,19 @@ two_below trees p t q u h g = and_from (nat_lt p.0 (length trees)) (all_below (l
 
 pub stand_below : (trees : List Proc) (ids : List ProcId) (ts : List Proc) → StandAt trees ids ts → all_below (length trees) ids ≡ true
 stand_below trees [] [] h = refl
-stand_below trees [] (t ∷ ts) h = absurd h
-stand_below trees (id ∷ ids) [] h = absurd h
 stand_below trees (id ∷ ids) (t ∷ ts) h = and_from (nat_lt id.0 (length trees)) (all_below (length trees) ids) (within trees id t h.0) (stand_below trees ids ts h.1)
+stand_below trees _ _ h = absurd h
 
 pub stand_trees : (trees : List Proc) (ids : List ProcId) (ts : List Proc) → StandAt trees ids ts → map (tree_at trees) ids ≡ ts
 stand_trees trees [] [] h = refl
-stand_trees trees [] (t ∷ ts) h = absurd h
-stand_trees trees (id ∷ ids) [] h = absurd h
 stand_trees trees (id ∷ ids) (t ∷ ts) h = λ i. at trees id t h.0 i ∷ stand_trees trees ids ts h.1 i
+stand_trees trees _ _ h = absurd h
 
 -- one place more, in a list that has grown
 pub stand_push : (old new : List Proc) → IsFront old new → (ids : List ProcId) (ts : List Proc) (id : ProcId) (t : Proc) → StandAt old ids ts → slice_get new id.0 ≡ Some t → StandAt new (ids ++ id ∷ []) (ts ++ t ∷ [])
 stand_push old new front [] [] id t h g = (g, tt)
-stand_push old new front [] (u ∷ ts) id t h g = absurd h
-stand_push old new front (q ∷ ids) [] id t h g = absurd h
 stand_push old new front (q ∷ ids) (u ∷ ts) id t h g = (front q.0 u h.0, stand_push old new front ids ts id t h.1 g)
+stand_push old new front _ _ id t h g = absurd h
 
 -- the node's process after its sub-processes
 pub grows_node : (old mid new : List Proc) (t : Proc) (n : Layer) → Grows old mid (parts t) → StandsFor mid n t → IsFront mid new → (Has mid (layer_tree mid n) → new ≡ mid)

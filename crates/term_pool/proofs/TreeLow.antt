@@ -76,9 +76,8 @@ module _ (m : ℕ) where
   other_name x v l y h false e = refl
 
   head_same : (x : ℕ) (v : Value) → x < m → (h : Head) → HeadLow m h → head_with x v h ≡ h
-  head_same x v l (head.Channel c) low = refl
   head_same x v l (head.Bound y) low = other_name x v l y low (nat_eq y x) refl
-  head_same x v l (head.Put w) low = refl
+  head_same x v l _ low = refl
 
   head_stays : (env : Env) → all_less m env ≡ true → (h : Head) → HeadLow m h → head_put env h ≡ h
   unfolding head_put

@@ -164,9 +164,8 @@ module _ (env : Env) where
 -- the values of names, one after another, and those of pairs
 with_pairs : (xs : List ℕ) (vs : List Value) (q : Proc) → with_values xs vs q ≡ proc_put (bound_to xs vs) q
 unfolding proc_put
-with_pairs [] vs q = refl
-with_pairs (x ∷ xs) [] q = refl
 with_pairs (x ∷ xs) (v ∷ vs) q = with_pairs xs vs (proc_with x v q)
+with_pairs _ _ q = refl
 
 pub put_names : (xs : List ℕ) (vs : List Value) (env : Env) (q : Proc) → env ≡ bound_to xs vs → proc_put env q ≡ with_values xs vs q
 put_names xs vs env q e = ap (λ (f : Env). proc_put f q) e ∙ sym (with_pairs xs vs q)

@@ -59,7 +59,6 @@ layers parts entries = map (entry_layer parts) entries
 
 -- whether the numbers of an entry are those of parts that are there
 abbrev pub Fits : OwnParts → Entry → Type 0
-Fits parts entry.Stop = Unit {0}
 Fits parts (entry.Prefix h f p) = (h < length parts.heads) × (f < length parts.fields)
 Fits parts (entry.Guard c p) = c < length parts.exprs
 Fits parts (entry.If c p q) = c < length parts.exprs
@@ -70,9 +69,7 @@ Fits parts (entry.EachInternal x s p) = s < length parts.exprs
 Fits parts (entry.Hide p s) = s < length parts.exprs
 Fits parts (entry.Rename p pairs gens) = (pairs < length parts.pairs) × (gens < length parts.gens)
 Fits parts (entry.Call d args) = args < length parts.arguments
-Fits parts entry.Skip = Unit {0}
-Fits parts (entry.Seq p q) = Unit {0}
-Fits parts entry.Ended = Unit {0}
+Fits parts other = Unit {0}
 
 -- the entry stands for the layer
 pub record StandsAs (parts : OwnParts) (e : Entry) (n : Layer) : Type 0 where
@@ -81,7 +78,6 @@ pub record StandsAs (parts : OwnParts) (e : Entry) (n : Layer) : Type 0 where
 
 -- the own parts of a layer are kept
 abbrev pub HasParts : OwnParts → Layer → Type 0
-HasParts parts Layer.Stop = Unit {0}
 HasParts parts (Layer.Prefix h fields p) = StandsIn parts.heads h × StandsIn parts.fields fields
 HasParts parts (Layer.Guard c p) = StandsIn parts.exprs c
 HasParts parts (Layer.If c p q) = StandsIn parts.exprs c
@@ -92,9 +88,7 @@ HasParts parts (Layer.EachInternal x s p) = StandsIn parts.exprs s
 HasParts parts (Layer.Hide p s) = StandsIn parts.exprs s
 HasParts parts (Layer.Rename p pairs gens) = StandsIn parts.pairs pairs × StandsIn parts.gens gens
 HasParts parts (Layer.Call d args) = StandsIn parts.arguments args
-HasParts parts Layer.Skip = Unit {0}
-HasParts parts (Layer.Seq p q) = Unit {0}
-HasParts parts Layer.Ended = Unit {0}
+HasParts parts other = Unit {0}
 
 -- each part stands once
 pub record ArePartsOnce (parts : OwnParts) : Type 0 where

@@ -44,6 +44,7 @@ fn choice_with_first(
 }
 
 /// The entry with `below` in place of its first place, if it has any.
+#[tactic(auto, using(crate::proofs::EntryLemmas::starts_same))]
 pub(crate) fn entry_with_first(
     parts: &mut OwnParts,
     alloc: Global,
@@ -83,6 +84,7 @@ fn at(ids: &Items<ProcId>, index: usize) -> ProcId
 }
 
 // The entry with these places in place of its own, as many.
+#[tactic(auto, using(crate::proofs::EntryLemmas::starts_same))]
 fn with_places(
     parts: &mut OwnParts,
     alloc: Global,
@@ -175,6 +177,7 @@ fn put_where_read(
 }
 
 // The entry with the values in its own parts, each of which is kept.
+#[tactic(auto, using(crate::proofs::EntryLemmas::starts_same))]
 fn put_own(
     parts: &mut OwnParts,
     alloc: Global,

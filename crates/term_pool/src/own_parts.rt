@@ -140,6 +140,7 @@ fn keep_renaming(
 }
 
 /// The entry of a node, whose own parts are kept.
+#[tactic(auto, using(crate::proofs::EntryLemmas::starts_same))]
 pub(crate) fn keep_node(
     parts: &mut OwnParts,
     alloc: Global,

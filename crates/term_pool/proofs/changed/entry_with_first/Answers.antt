@@ -1,5 +1,4 @@
 use Rattle.std.proofs.Common.{rules, refl, subst}
-use Rattle.term_pool.proofs.EntryLemmas.{starts_same}
 use Rattle.term_pool.proofs.StandsLemmas.{stands_External, stands_Internal}
 use Rattle.term_pool.specs.Entries.{Fits}
 use Rattle.term_pool.specs.declared.entry.Entry.{Entry}
@@ -14,85 +13,25 @@ pub returns-in-Internal-clause-entry : goal.returns-in-Internal-clause-entry
 returns-in-Internal-clause-entry c = rw c.in-Internal.is (if_map c.choice_with_first-in-Internal.result _ c.map-in-Internal.result (λ k. entry.Internal k) _ _ c.map-in-Internal.ensures.cases (λ x y r. search rules) (λ k. stands_Internal c.choice_with_first-in-Internal.new.parts k _) c.choice_with_first-in-Internal.ensures.made)
 
 pub returns-in-Prefix-clause-entry : goal.returns-in-Prefix-clause-entry
-returns-in-Prefix-clause-entry c = record {
-  fits = subst (λ (e : Entry). Fits c.args.parts.now e) c.in-Prefix.is c.requires.fits;
-  is = rw c.in-Prefix.is refl;
-}
+returns-in-Prefix-clause-entry c = let fits = subst (λ (e : Entry). Fits c.args.parts.now e) c.in-Prefix.is c.requires.fits in rw c.in-Prefix.is (record { fits = fits; is = refl })
 
 pub returns-in-Guard-clause-entry : goal.returns-in-Guard-clause-entry
-returns-in-Guard-clause-entry c = record {
-  fits = subst (λ (e : Entry). Fits c.args.parts.now e) c.in-Guard.is c.requires.fits;
-  is = rw c.in-Guard.is refl;
-}
+returns-in-Guard-clause-entry c = let fits = subst (λ (e : Entry). Fits c.args.parts.now e) c.in-Guard.is c.requires.fits in rw c.in-Guard.is (record { fits = fits; is = refl })
 
 pub returns-in-If-clause-entry : goal.returns-in-If-clause-entry
-returns-in-If-clause-entry c = record {
-  fits = subst (λ (e : Entry). Fits c.args.parts.now e) c.in-If.is c.requires.fits;
-  is = rw c.in-If.is refl;
-}
+returns-in-If-clause-entry c = let fits = subst (λ (e : Entry). Fits c.args.parts.now e) c.in-If.is c.requires.fits in rw c.in-If.is (record { fits = fits; is = refl })
 
 pub returns-in-EachExternal-clause-entry : goal.returns-in-EachExternal-clause-entry
-returns-in-EachExternal-clause-entry c = record {
-  fits = subst (λ (e : Entry). Fits c.args.parts.now e) c.in-EachExternal.is c.requires.fits;
-  is = rw c.in-EachExternal.is refl;
-}
+returns-in-EachExternal-clause-entry c = let fits = subst (λ (e : Entry). Fits c.args.parts.now e) c.in-EachExternal.is c.requires.fits in rw c.in-EachExternal.is (record { fits = fits; is = refl })
 
 pub returns-in-EachInternal-clause-entry : goal.returns-in-EachInternal-clause-entry
-returns-in-EachInternal-clause-entry c = record {
-  fits = subst (λ (e : Entry). Fits c.args.parts.now e) c.in-EachInternal.is c.requires.fits;
-  is = rw c.in-EachInternal.is refl;
-}
+returns-in-EachInternal-clause-entry c = let fits = subst (λ (e : Entry). Fits c.args.parts.now e) c.in-EachInternal.is c.requires.fits in rw c.in-EachInternal.is (record { fits = fits; is = refl })
 
 pub returns-in-Hide-clause-entry : goal.returns-in-Hide-clause-entry
-returns-in-Hide-clause-entry c = record {
-  fits = subst (λ (e : Entry). Fits c.args.parts.now e) c.in-Hide.is c.requires.fits;
-  is = rw c.in-Hide.is refl;
-}
+returns-in-Hide-clause-entry c = let fits = subst (λ (e : Entry). Fits c.args.parts.now e) c.in-Hide.is c.requires.fits in rw c.in-Hide.is (record { fits = fits; is = refl })
 
 pub returns-in-Rename-clause-entry : goal.returns-in-Rename-clause-entry
-returns-in-Rename-clause-entry c = record {
-  fits = subst (λ (e : Entry). Fits c.args.parts.now e) c.in-Rename.is c.requires.fits;
-  is = rw c.in-Rename.is refl;
-}
+returns-in-Rename-clause-entry c = let fits = subst (λ (e : Entry). Fits c.args.parts.now e) c.in-Rename.is c.requires.fits in rw c.in-Rename.is (record { fits = fits; is = refl })
 
 pub returns-in-Call-clause-entry : goal.returns-in-Call-clause-entry
-returns-in-Call-clause-entry c = record {
-  fits = subst (λ (e : Entry). Fits c.args.parts.now e) c.in-Call.is c.requires.fits;
-  is = rw c.in-Call.is refl;
-}
-
-pub returns-in-Stop-clause-start : goal.returns-in-Stop-clause-start
-returns-in-Stop-clause-start c = starts_same c.args.parts.now
-
-pub returns-in-Prefix-clause-start : goal.returns-in-Prefix-clause-start
-returns-in-Prefix-clause-start c = starts_same c.args.parts.now
-
-pub returns-in-Guard-clause-start : goal.returns-in-Guard-clause-start
-returns-in-Guard-clause-start c = starts_same c.args.parts.now
-
-pub returns-in-If-clause-start : goal.returns-in-If-clause-start
-returns-in-If-clause-start c = starts_same c.args.parts.now
-
-pub returns-in-EachExternal-clause-start : goal.returns-in-EachExternal-clause-start
-returns-in-EachExternal-clause-start c = starts_same c.args.parts.now
-
-pub returns-in-EachInternal-clause-start : goal.returns-in-EachInternal-clause-start
-returns-in-EachInternal-clause-start c = starts_same c.args.parts.now
-
-pub returns-in-Hide-clause-start : goal.returns-in-Hide-clause-start
-returns-in-Hide-clause-start c = starts_same c.args.parts.now
-
-pub returns-in-Rename-clause-start : goal.returns-in-Rename-clause-start
-returns-in-Rename-clause-start c = starts_same c.args.parts.now
-
-pub returns-in-Call-clause-start : goal.returns-in-Call-clause-start
-returns-in-Call-clause-start c = starts_same c.args.parts.now
-
-pub returns-in-Skip-clause-start : goal.returns-in-Skip-clause-start
-returns-in-Skip-clause-start c = starts_same c.args.parts.now
-
-pub returns-in-Seq-clause-start : goal.returns-in-Seq-clause-start
-returns-in-Seq-clause-start c = starts_same c.args.parts.now
-
-pub returns-in-Ended-clause-start : goal.returns-in-Ended-clause-start
-returns-in-Ended-clause-start c = starts_same c.args.parts.now
+returns-in-Call-clause-entry c = let fits = subst (λ (e : Entry). Fits c.args.parts.now e) c.in-Call.is c.requires.fits in rw c.in-Call.is (record { fits = fits; is = refl })

@@ -1,6 +1,5 @@
 -- Each form by its lemma.
 use Rattle.std.proofs.Common.{rules, refl, subst}
-use Rattle.term_pool.proofs.EntryLemmas.{starts_same}
 use Rattle.term_pool.proofs.StandsLemmas.{stands_Guard, stands_If, stands_EachExternal, stands_EachInternal, stands_Hide, stands_Call, stands_Prefix, stands_Rename}
 use Rattle.term_pool.specs.Entries.{Fits}
 use Rattle.term_pool.specs.declared.entry.Entry.{Entry}
@@ -49,21 +48,3 @@ returns-in-Seq-clause-entry c = let fits = subst (λ (e : Entry). Fits c.args.pa
 
 pub returns-in-Ended-clause-entry : goal.returns-in-Ended-clause-entry
 returns-in-Ended-clause-entry c = let fits = subst (λ (e : Entry). Fits c.args.parts.now e) c.in-Ended.is c.requires.fits in rw c.in-Ended.is (record { fits = fits; is = refl })
-
-pub returns-in-Stop-clause-start : goal.returns-in-Stop-clause-start
-returns-in-Stop-clause-start c = starts_same c.args.parts.now
-
-pub returns-in-External-clause-start : goal.returns-in-External-clause-start
-returns-in-External-clause-start c = starts_same c.args.parts.now
-
-pub returns-in-Internal-clause-start : goal.returns-in-Internal-clause-start
-returns-in-Internal-clause-start c = starts_same c.args.parts.now
-
-pub returns-in-Skip-clause-start : goal.returns-in-Skip-clause-start
-returns-in-Skip-clause-start c = starts_same c.args.parts.now
-
-pub returns-in-Seq-clause-start : goal.returns-in-Seq-clause-start
-returns-in-Seq-clause-start c = starts_same c.args.parts.now
-
-pub returns-in-Ended-clause-start : goal.returns-in-Ended-clause-start
-returns-in-Ended-clause-start c = starts_same c.args.parts.now

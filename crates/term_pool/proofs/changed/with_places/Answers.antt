@@ -2,7 +2,6 @@ use Rattle.std.proofs.Common.{rules, refl, subst}
 use Rattle.term_pool.specs.Entries.{expr_at, fields_at, gens_at, head_at, pairs_at, Fits}
 use Rattle.term_pool.specs.Layers.{Layer}
 use Rattle.term_pool.specs.declared.entry.Entry.{Entry}
-use Rattle.term_pool.proofs.EntryLemmas.{starts_same}
 use Rattle.term_pool.proofs.StandsLemmas.{stands_External, stands_Internal}
 use Rattle.term_pool.specs.declared.entry.Entry.TheVariants as entry
 use Rattle.term_pool.proofs.changed.with_places.Goals as goal
@@ -40,39 +39,3 @@ returns-in-Call-clause-entry c = let fits = subst (λ (e : Entry). Fits c.args.p
 
 pub returns-in-Seq-clause-entry : goal.returns-in-Seq-clause-entry
 returns-in-Seq-clause-entry c = rw c.in-Seq.is (record { fits = tt; is = λ i. Layer.Seq (c.at-in-Seq.ensures i) (c.at-in-Seq-2.ensures i) })
-
-pub returns-in-Stop-clause-start : goal.returns-in-Stop-clause-start
-returns-in-Stop-clause-start c = starts_same c.args.parts.now
-
-pub returns-in-Prefix-clause-start : goal.returns-in-Prefix-clause-start
-returns-in-Prefix-clause-start c = starts_same c.args.parts.now
-
-pub returns-in-Guard-clause-start : goal.returns-in-Guard-clause-start
-returns-in-Guard-clause-start c = starts_same c.args.parts.now
-
-pub returns-in-If-clause-start : goal.returns-in-If-clause-start
-returns-in-If-clause-start c = starts_same c.args.parts.now
-
-pub returns-in-EachExternal-clause-start : goal.returns-in-EachExternal-clause-start
-returns-in-EachExternal-clause-start c = starts_same c.args.parts.now
-
-pub returns-in-EachInternal-clause-start : goal.returns-in-EachInternal-clause-start
-returns-in-EachInternal-clause-start c = starts_same c.args.parts.now
-
-pub returns-in-Hide-clause-start : goal.returns-in-Hide-clause-start
-returns-in-Hide-clause-start c = starts_same c.args.parts.now
-
-pub returns-in-Rename-clause-start : goal.returns-in-Rename-clause-start
-returns-in-Rename-clause-start c = starts_same c.args.parts.now
-
-pub returns-in-Call-clause-start : goal.returns-in-Call-clause-start
-returns-in-Call-clause-start c = starts_same c.args.parts.now
-
-pub returns-in-Skip-clause-start : goal.returns-in-Skip-clause-start
-returns-in-Skip-clause-start c = starts_same c.args.parts.now
-
-pub returns-in-Seq-clause-start : goal.returns-in-Seq-clause-start
-returns-in-Seq-clause-start c = starts_same c.args.parts.now
-
-pub returns-in-Ended-clause-start : goal.returns-in-Ended-clause-start
-returns-in-Ended-clause-start c = starts_same c.args.parts.now

@@ -1,6 +1,5 @@
 -- Each form by its lemma.
 use Rattle.std.proofs.Common.{rules, refl}
-use Rattle.term_pool.proofs.EntryLemmas.{starts_same}
 use Rattle.term_pool.proofs.StandsLemmas.{stands_Guard, stands_If, stands_EachExternal, stands_EachInternal, stands_Hide, stands_Call, stands_External, stands_Internal, stands_Prefix, stands_Rename}
 use Rattle.term_pool.specs.declared.entry.Entry.TheVariants as entry
 use Rattle.term_pool.proofs.own_parts.keep_node.Goals as goal
@@ -77,15 +76,3 @@ returns-in-Prefix-clause-err_only_new c = rw c.in-Prefix.is (err_map c.keep_pref
 
 pub returns-in-Rename-clause-err_only_new : goal.returns-in-Rename-clause-err_only_new
 returns-in-Rename-clause-err_only_new c = rw c.in-Rename.is (err_map c.keep_renaming-own.result _ c.map-in-Rename.result _ c.map-in-Rename.ensures.cases c.keep_renaming-own.ensures.err_only_new)
-
-pub returns-in-Stop-clause-start : goal.returns-in-Stop-clause-start
-returns-in-Stop-clause-start c = starts_same c.args.parts.now
-
-pub returns-in-Skip-clause-start : goal.returns-in-Skip-clause-start
-returns-in-Skip-clause-start c = starts_same c.args.parts.now
-
-pub returns-in-Seq-clause-start : goal.returns-in-Seq-clause-start
-returns-in-Seq-clause-start c = starts_same c.args.parts.now
-
-pub returns-in-Ended-clause-start : goal.returns-in-Ended-clause-start
-returns-in-Ended-clause-start c = starts_same c.args.parts.now

@@ -1,4 +1,6 @@
--- The list grows by the sub-processes of each form, which stand at the places. A form that is new gets an answer as those here.
+-- A whole process is put: first its sub-processes, and then the node over them. `put_below` has an answer for each form, which reads what the call gave at the layer of
+-- the process (`out_..` of `OverLemmas`). A form that is new gets an equation there, clauses of `StandOver`, `all_low` and `shows`, and an answer here: with one
+-- sub-process as `Prefix`, with two as `If`, with a list as `External`, with none as `Stop`.
 use Rattle.std.proofs.Common.{◌≡◌, ◌+◌, List, [], ◌∷◌, Some, take, slice_get, sym, ap, ◌∙◌, subst}
 use Rattle.std.specs.Prelude.{IfOk}
 use Rattle.csp_program.specs.declared.processes.Proc.{Proc}
