@@ -194,11 +194,6 @@ none_counted n m h = record {
   each = λ b. let front = none_in_front (64 * b) n in let more = none_in_front (64 * (b + 1)) n in let read = zero_at 0 m b in omega (arith, front, more, read);
 }
 
--- the first mark after so many blocks
-pub next_block : (ms : List Bool) (counts : List ℕ) (b left place count : ℕ) → AreBlockCounts ms counts → count ≡ get_or counts b 0 → count ≤ left
-    → mark_count (take (64 * b) ms) + left ≡ place → mark_count (take (64 * (b + 1)) ms) + (left - count) ≡ place
-next_block ms counts b left place count are is low so_far = let here = are.each b in omega (arith, here, is, low, so_far)
-
 -- the bool that is read, where it differs from one that is known
 pub unmarked_so : (b m : Bool) → beq b m ≡ false → m ≡ true → b ≡ false
 unmarked_so true m differ is = absurd (let no : beq true true ≡ false = subst (λ x. beq true x ≡ false) is differ in cc)

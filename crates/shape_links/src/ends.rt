@@ -1,10 +1,10 @@
 //! The links of each part.
 
-ghost use Rattle.std.specs.Prelude.{◌≡◌, ◌<◌, ◌+◌, ◌++◌, ◌∷◌, ◌||◌, [], ℕ, nat_eq, IfOk, OnOk, length, replicate, slice_index_or, slice_set, if◌then◌else◌};
+ghost use Rattle.std.specs.Prelude.{◌≡◌, ◌<◌, ◌+◌, ◌++◌, ◌∷◌, ◌||◌, [], ℕ, nat_eq, IfOk, OnOk, length, slice_index_or, if◌then◌else◌};
 ghost use Rattle.csp_tables.specs.Shape.{IsWellFormed};
 ghost use Rattle.shape_links.specs.Links.{AreEnds};
 
-use containers::Items;
+use containers::{Items, empty_rows, push_at};
 use csp_base::NoMemory;
 use csp_tables::{Link, Shape};
 use std::alloc::Global;
@@ -30,25 +30,5 @@ fn add_link(ends: &mut Vec<Items<u32>>, link: &Link, number: u32) -> Result<(), 
 {
     push_at(ends, link.left() as usize, number)?;
     push_at(ends, link.right() as usize, number)?;
-    Ok(())
-}
-
-// As many empty lists as `count` says.
-fn empty_rows(alloc: Global, count: usize) -> Result<Vec<Items<u32>>, NoMemory>
-    ensures { IfOk result (λ rows. rows.items ≡ replicate count []) }
-{
-    let mut rows = Vec::new(alloc);
-    for _ in 0..count {
-        rows.push(Items::new(alloc))?;
-    }
-    Ok(rows)
-}
-
-// Adds a number at the end of the list in a place.
-fn push_at(rows: &mut Vec<Items<u32>>, place: usize, number: u32) -> Result<(), NoMemory>
-    requires { place < length rows.old.items }
-    ensures { OnOk result (rows.new.items ≡ slice_set rows.old.items place (slice_index_or rows.old.items place [] ++ number ∷ [])) }
-{
-    rows[place].push(number)?;
     Ok(())
 }

@@ -1,10 +1,10 @@
 //! The steps by events, term by term.
 
-ghost use Rattle.std.specs.Prelude.{◌≡◌, ◌<◌, ◌∷◌, ◌++◌, ℕ, [], All, IsTrue, IfOk, OnOk, length, replicate, slice_index_or, slice_set};
+ghost use Rattle.std.specs.Prelude.{◌≡◌, ◌<◌, ◌++◌, [], All, IfOk, OnOk, length, replicate, slice_index_or};
 ghost use Rattle.std.specs.List.{flat_map};
 ghost use Rattle.term_sets.specs.Moves.{AreMoveRows};
 
-use containers::Items;
+use containers::{Items, empty_rows, push_at};
 use csp_base::{Event, NoMemory};
 use csp_tables::RawTable;
 use std::alloc::Global;
@@ -16,7 +16,7 @@ pub(crate) fn move_rows(
 ) -> Result<Vec<Items<(Event, u32)>>, NoMemory>
     ensures { IfOk result (λ rows. AreMoveRows table.now rows.items) }
 {
-    let mut rows = empty_rows(alloc, table.count())?;
+    let mut rows = empty_rows(alloc, table.count() as usize)?;
     add_steps(&mut rows, table)?;
     Ok(rows)
 }
@@ -27,33 +27,8 @@ fn add_steps(rows: &mut Vec<Items<(Event, u32)>>, table: &RawTable) -> Result<()
     ensures { OnOk result (AreMoveRows table.now rows.new.items) }
 {
     for (from, event, to) in table.steps() {
-        push_at(rows, *from as usize, *event, *to)?;
+        push_at(rows, *from as usize, (*event, *to))?;
     }
-    Ok(())
-}
-
-// As many empty lists as `count` says.
-fn empty_rows(alloc: Global, count: u32) -> Result<Vec<Items<(Event, u32)>>, NoMemory>
-    ensures { IfOk result (λ rows. rows.items ≡ replicate count []) }
-{
-    let mut rows = Vec::new(alloc);
-    for _ in 0..count {
-        rows.push(Items::new(alloc))?;
-    }
-    Ok(rows)
-}
-
-// Adds a step at the end of the list in a place.
-fn push_at(
-    rows: &mut Vec<Items<(Event, u32)>>,
-    place: usize,
-    event: Event,
-    to: u32,
-) -> Result<(), NoMemory>
-    requires { place < length rows.old.items }
-    ensures { OnOk result (rows.new.items ≡ slice_set rows.old.items place (slice_index_or rows.old.items place [] ++ (event, to) ∷ [])) }
-{
-    rows[place].push((event, to))?;
     Ok(())
 }
 
