@@ -125,29 +125,18 @@ quiet_first None signs name text load = load
 quiet_first (Some ts) signs name text load = (load.0, load.1, λ no. no)
 
 -- what the second load gives, as what rose in both
-module _ (texts : Option (List NamedText)) (a b c t u v : ℕ) (faults : a ≤ b) (taken : t ≤ u) (first : List ℕ) (text : List ℕ) where
-  pub second_load : (name : List ℕ) (answered : Result (List ℕ) LoadFault) → loads texts (shelf_signs a b t u) first (Ok text) → loads texts (shelf_signs b c u v) name answered
-      → loads texts (shelf_signs a c t v) name answered
-  second_load name answered = elim texts as (λ o. loads o (shelf_signs a b t u) first (Ok text) → loads o (shelf_signs b c u v) name answered → loads o (shelf_signs a c t v) name answered) [
-    | None ↦ λ load. elim answered as (λ r. loads None (shelf_signs b c u v) name r → loads None (shelf_signs a c t v) name r) [
-      | Ok bytes ↦ λ h. h
-      | Err f ↦ elim f as (λ g. loads None (shelf_signs b c u v) name (Err g) → loads None (shelf_signs a c t v) name (Err g)) [
-        | Missing ↦ λ h. rises_before a b c faults h
-        | TooLong ↦ λ h. let more : u + MOST_BYTES < v = h in let whole : t + MOST_BYTES < v = omega arith in whole
-        | Failed ↦ λ h. rises_before a b c faults h
-        | NoMemory ↦ λ h. tt
-      ]
-    ]
-    | Some ts ↦ λ load. elim answered as (λ r. loads (Some ts) (shelf_signs b c u v) name r → loads (Some ts) (shelf_signs a c t v) name r) [
-      | Ok bytes ↦ λ h. (h.0, h.1, still_both a b c load.2 h.2 faults)
-      | Err f ↦ elim f as (λ g. loads (Some ts) (shelf_signs b c u v) name (Err g) → loads (Some ts) (shelf_signs a c t v) name (Err g)) [
-        | Missing ↦ λ h. (h.0, still_both a b c load.2 h.1 faults)
-        | TooLong ↦ λ h. (h.0, still_both a b c load.2 h.1 faults)
-        | Failed ↦ λ h. rises_before a b c faults h
-        | NoMemory ↦ λ h. tt
-      ]
-    ]
-  ]
+pub second_load : (texts : Option (List NamedText)) (a b c t u v : ℕ) → a ≤ b → t ≤ u → (first text name : List ℕ) (answered : Result (List ℕ) LoadFault)
+    → loads texts (shelf_signs a b t u) first (Ok text) → loads texts (shelf_signs b c u v) name answered → loads texts (shelf_signs a c t v) name answered
+second_load None a b c t u v faults taken first text name (Ok bytes) load h = h
+second_load None a b c t u v faults taken first text name (Err Missing) load h = rises_before a b c faults h
+second_load None a b c t u v faults taken first text name (Err TooLong) load h = let more : u + MOST_BYTES < v = h in let whole : t + MOST_BYTES < v = omega arith in whole
+second_load None a b c t u v faults taken first text name (Err Failed) load h = rises_before a b c faults h
+second_load None a b c t u v faults taken first text name (Err NoMemory) load h = tt
+second_load (Some ts) a b c t u v faults taken first text name (Ok bytes) load h = (h.0, h.1, still_both a b c load.2 h.2 faults)
+second_load (Some ts) a b c t u v faults taken first text name (Err Missing) load h = (h.0, still_both a b c load.2 h.1 faults)
+second_load (Some ts) a b c t u v faults taken first text name (Err TooLong) load h = (h.0, still_both a b c load.2 h.1 faults)
+second_load (Some ts) a b c t u v faults taken first text name (Err Failed) load h = rises_before a b c faults h
+second_load (Some ts) a b c t u v faults taken first text name (Err NoMemory) load h = tt
 
 -- ---- replies
 

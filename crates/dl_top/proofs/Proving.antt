@@ -153,137 +153,115 @@ module _ (old new : Option (List ℕ)) (reply : Reply) where
   reported : (a : Answer) → reply.trial ≡ None → reply.answer ≡ a → GrowsBy old new (reply_text reply) → GrowsBy old new (report_text a)
   reported a none is grew = subst (λ (b : Answer). GrowsBy old new (report_text b)) is (headed None none grew)
 
-  module _ (texts : Option (List NamedText)) (words : List (List ℕ)) (signs : ShelfSigns) (cause : MayGive texts words signs reply) (zero : reply_status reply ≡ 0)
-      (grew : GrowsBy old new (reply_text reply)) where
-    few : reply_status reply ≤ 1
-    few = omega (arith, zero)
-
-    is_proved : AsksForCheck words → IsProved texts words old new
-    is_proved (rule, name, asks) =
-        let there = held_script texts words signs (Check rule) name reply asks cause few in
-        record {
-          rule = rule;
-          name = name;
-          asked = asks;
-          text = there.1.text;
-          held = there.1.held;
-          report = report_text reply.answer;
-          free = text_free there.1.text rule reply.answer there.1.calls zero;
-          printed = headed None there.0 grew;
-        }
-
-    is_ranked : AsksForCheck words → IsRanked texts words old new
-    is_ranked (rule, name, asks) =
-        let there = held_script texts words signs (Check rule) name reply asks cause few in
-        record {
-          rule = rule;
-          name = name;
-          asked = asks;
-          text = there.1.text;
-          held = there.1.held;
-          report = report_text reply.answer;
-          ranked = text_ranked there.1.text rule reply.answer there.1.calls zero;
-          printed = headed None there.0 grew;
-        }
-
-    is_shown : PrintedTextSpellsTheScript → PrintedTextSpellsNoOther → AsksForShow words → IsShown texts words old new
-    is_shown same other (name, asks) =
-        let there = held_script texts words signs Show name reply asks cause few in
-        let shown = text_shown there.1.text reply.answer there.1.calls zero in
-        record {
-          name = name;
-          asked = asks;
-          text = there.1.text;
-          held = there.1.held;
-          script = shown.script;
-          spelled = shown.spells.spelled;
-          only = shown.spells.only;
-          printed = reported (answer.Done (Shown (script_text shown.script))) there.0 shown.is grew;
-          again = printed_again there.1.text shown.script same other shown.spells;
-        }
-
-    is_conformed : AsksForConform words → IsConformed texts words old new
-    is_conformed (script, specification, asks) =
-        let there = held_scripts texts words signs script specification reply asks cause zero in
-        record {
-          script = script;
-          specification = specification;
-          asked = asks;
-          text = there.1.text;
-          held = there.1.held;
-          specification_text = there.1.other;
-          specification_held = there.1.other_held;
-          report = report_text reply.answer;
-          conforming = texts_conform there.1.text there.1.other reply.answer there.1.compare zero;
-          printed = headed None there.0 grew;
-        }
-
-    is_told : AsksForTable words → IsTold texts words old new
-    is_told (i, name, asks) =
-        let there = held_script texts words signs (Table i) name reply asks cause few in
-        let told = text_told there.1.text i reply.answer there.1.calls zero in
-        record {
-          i = i;
-          name = name;
-          asked = asks;
-          text = there.1.text;
-          held = there.1.held;
-          network = told.whole.network;
-          spells = only_network there.1.text told.script told.whole.network told.spells told.whole.spelled;
-          component = told.whole.component;
-          there = told.whole.at;
-          part = told.whole.part;
-          normal = told.whole.normal;
-          printed = reported _ there.0 told.whole.is grew;
-        }
-
-  is_tried : (texts : Option (List NamedText)) (words : List (List ℕ)) (signs : ShelfSigns) → MayGive texts words signs reply → reply_status reply ≡ 0
-      → GrowsBy old new (reply_text reply) → AsksForTrial words → IsTried words old new
-  is_tried texts words signs cause zero grew (trial, asks) =
-      let replies = only texts signs words (request.Trial trial) reply asks cause in
-      record {
-        trial = trial;
-        asked = asks;
-        report = report_text reply.answer;
-        free = text_free (trial_text trial) (rule_of trial.family) reply.answer replies.calls zero;
-        printed = headed (Some trial) replies.trial grew;
-      }
-
-  is_tried_ranked : (texts : Option (List NamedText)) (words : List (List ℕ)) (signs : ShelfSigns) → MayGive texts words signs reply → reply_status reply ≡ 0
-      → GrowsBy old new (reply_text reply) → AsksForTrial words → IsTriedRanked words old new
-  is_tried_ranked texts words signs cause zero grew (trial, asks) =
-      let replies = only texts signs words (request.Trial trial) reply asks cause in
-      record {
-        trial = trial;
-        asked = asks;
-        report = report_text reply.answer;
-        ranked = text_ranked (trial_text trial) (rule_of trial.family) reply.answer replies.calls zero;
-        printed = headed (Some trial) replies.trial grew;
-      }
-
 module _ (texts : Option (List NamedText)) (words : List (List ℕ)) (signs : ShelfSigns) (old new : Option (List ℕ)) (printed : Printed) (is : Prints (MayGive texts words signs) printed)
     (slice : List ℕ) (read : slice ≡ printed.text) (grew : GrowsBy old new slice) (zero : printed.status ≡ 0) where
+  ends : reply_status is.reply ≡ 0
+  ends = sym is.status ∙ zero
+
+  few : reply_status is.reply ≤ 1
+  few = omega (arith, ends)
+
   -- what a call sends that ends well
-  whole : GrowsBy old new (reply_text is.reply)
-  whole = subst (λ (sent : List ℕ). GrowsBy old new sent) (read ∙ is.text) grew
+  sent : GrowsBy old new (reply_text is.reply)
+  sent = subst (λ (text : List ℕ). GrowsBy old new text) (read ∙ is.text) grew
 
   pub tried : AsksForTrial words → IsTried words old new
-  tried asks = is_tried old new is.reply texts words signs is.cause (sym is.status ∙ zero) whole asks
+  tried (trial, asks) =
+      let replies = only texts signs words (request.Trial trial) is.reply asks is.cause in
+      record {
+        trial = trial;
+        asked = asks;
+        report = report_text is.reply.answer;
+        free = text_free (trial_text trial) (rule_of trial.family) is.reply.answer replies.calls ends;
+        printed = headed old new is.reply (Some trial) replies.trial sent;
+      }
 
   pub tried_ranked : AsksForTrial words → IsTriedRanked words old new
-  tried_ranked asks = is_tried_ranked old new is.reply texts words signs is.cause (sym is.status ∙ zero) whole asks
+  tried_ranked (trial, asks) =
+      let replies = only texts signs words (request.Trial trial) is.reply asks is.cause in
+      record {
+        trial = trial;
+        asked = asks;
+        report = report_text is.reply.answer;
+        ranked = text_ranked (trial_text trial) (rule_of trial.family) is.reply.answer replies.calls ends;
+        printed = headed old new is.reply (Some trial) replies.trial sent;
+      }
 
   pub proved : AsksForCheck words → IsProved texts words old new
-  proved asks = is_proved old new is.reply texts words signs is.cause (sym is.status ∙ zero) whole asks
+  proved (rule, name, asks) =
+      let there = held_script texts words signs (Check rule) name is.reply asks is.cause few in
+      record {
+        rule = rule;
+        name = name;
+        asked = asks;
+        text = there.1.text;
+        held = there.1.held;
+        report = report_text is.reply.answer;
+        free = text_free there.1.text rule is.reply.answer there.1.calls ends;
+        printed = headed old new is.reply None there.0 sent;
+      }
 
   pub conformed : AsksForConform words → IsConformed texts words old new
-  conformed asks = is_conformed old new is.reply texts words signs is.cause (sym is.status ∙ zero) whole asks
+  conformed (script, specification, asks) =
+      let there = held_scripts texts words signs script specification is.reply asks is.cause ends in
+      record {
+        script = script;
+        specification = specification;
+        asked = asks;
+        text = there.1.text;
+        held = there.1.held;
+        specification_text = there.1.other;
+        specification_held = there.1.other_held;
+        report = report_text is.reply.answer;
+        conforming = texts_conform there.1.text there.1.other is.reply.answer there.1.compare ends;
+        printed = headed old new is.reply None there.0 sent;
+      }
 
   pub ranked : AsksForCheck words → IsRanked texts words old new
-  ranked asks = is_ranked old new is.reply texts words signs is.cause (sym is.status ∙ zero) whole asks
+  ranked (rule, name, asks) =
+      let there = held_script texts words signs (Check rule) name is.reply asks is.cause few in
+      record {
+        rule = rule;
+        name = name;
+        asked = asks;
+        text = there.1.text;
+        held = there.1.held;
+        report = report_text is.reply.answer;
+        ranked = text_ranked there.1.text rule is.reply.answer there.1.calls ends;
+        printed = headed old new is.reply None there.0 sent;
+      }
 
   pub told : AsksForTable words → IsTold texts words old new
-  told asks = is_told old new is.reply texts words signs is.cause (sym is.status ∙ zero) whole asks
+  told (i, name, asks) =
+      let there = held_script texts words signs (Table i) name is.reply asks is.cause few in
+      let table = text_told there.1.text i is.reply.answer there.1.calls ends in
+      record {
+        i = i;
+        name = name;
+        asked = asks;
+        text = there.1.text;
+        held = there.1.held;
+        network = table.whole.network;
+        spells = only_network there.1.text table.script table.whole.network table.spells table.whole.spelled;
+        component = table.whole.component;
+        there = table.whole.at;
+        part = table.whole.part;
+        normal = table.whole.normal;
+        printed = reported old new is.reply _ there.0 table.whole.is sent;
+      }
 
   pub shown : PrintedTextSpellsTheScript → PrintedTextSpellsNoOther → AsksForShow words → IsShown texts words old new
-  shown same other asks = is_shown old new is.reply texts words signs is.cause (sym is.status ∙ zero) whole same other asks
+  shown same other (name, asks) =
+      let there = held_script texts words signs Show name is.reply asks is.cause few in
+      let by = text_shown there.1.text is.reply.answer there.1.calls ends in
+      record {
+        name = name;
+        asked = asks;
+        text = there.1.text;
+        held = there.1.held;
+        script = by.script;
+        spelled = by.spells.spelled;
+        only = by.spells.only;
+        printed = reported old new is.reply (answer.Done (Shown (script_text by.script))) there.0 by.is sent;
+        again = printed_again there.1.text by.script same other by.spells;
+      }

@@ -61,15 +61,10 @@ Loaded first texts signs (name ∷ next ∷ more) Then =
 
 -- what the texts of a request call for
 abbrev pub TextsCallFor : Request → List (List ℕ) → Answer → Type 0
-TextsCallFor (request.Script job name) [] answer = ⊥
 TextsCallFor (request.Script job name) (text ∷ []) answer = TextCallsFor text job answer
-TextsCallFor (request.Script job name) (text ∷ other ∷ more) answer = ⊥
 TextsCallFor (request.Trial trial) [] answer = TextCallsFor (trial_text trial) (Check (rule_of trial.family)) answer
-TextsCallFor (request.Trial trial) (text ∷ more) answer = ⊥
-TextsCallFor (request.Conform script specification) [] answer = ⊥
-TextsCallFor (request.Conform script specification) (text ∷ []) answer = ⊥
 TextsCallFor (request.Conform script specification) (text ∷ other ∷ []) answer = TextsCompare text other answer
-TextsCallFor (request.Conform script specification) (text ∷ other ∷ third ∷ more) answer = ⊥
+TextsCallFor _ _ answer = ⊥
 
 -- the reply to a request
 pub record Replies (texts : Option (List NamedText)) (signs : ShelfSigns) (request : Request) (reply : Reply) : Type 0 where
