@@ -1,4 +1,4 @@
-use Rattle.std.proofs.Common.{◌<◌, false, true, length, List, Bool, arith, sym, subst, ◌∙◌}
+use Rattle.std.proofs.Common.{◌<◌, length, List, Bool, arith, sym, subst, ◌∙◌}
 use Rattle.counted_marks.proofs.Counting.{few_in_all, few_in_block, marked_so, read_count, read_mark, set_one, some_here, some_in_all, unmarked_so, unset_one}
 use Rattle.counted_marks.proofs.marks.CountedMarks.set.Goals as goal
 
