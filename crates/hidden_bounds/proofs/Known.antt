@@ -77,6 +77,12 @@ waiting_same (x ∷ old) (y ∷ new) h k =
     let rest : waiting new ≡ waiting old = waiting_same old new (omega arith) (λ i below. k (suc i) (omega arith)) in
     omega arith
 
+-- where nothing stands, nothing is known
+past_unknown : (ss : List Standing) (i : ℕ) → length ss ≤ i → standing_at ss i ≡ standing.Unknown
+past_unknown [] i h = refl
+past_unknown (s ∷ ss) zero h = absurd (omega arith)
+past_unknown (s ∷ ss) (suc i) h = past_unknown ss i (omega arith)
+
 known_within : (ss : List Standing) (i : ℕ) → standing_at ss i ≢ standing.Unknown → i < length ss
 known_within [] i h = absurd (h refl)
 known_within (s ∷ ss) zero h = omega arith

@@ -6,16 +6,20 @@ use Rattle.std.proofs.Math.Seq.{take-suc}
 use Rattle.std.proofs.lemmas.List.{append-nil, append_assoc, length-take}
 use Rattle.csp_base.specs.Members.{has}
 use Rattle.csp_base.proofs.Listed.{has_first}
-use Rattle.csp_base.proofs.Rising.{RisesFrom, increasing_from_rises, RisesFrom-weaken}
+use Rattle.csp_base.proofs.Rising.{RisesFrom, increasing_from_rises}
 use Rattle.hidden_bounds.specs.Standings.{left_from, left_one, standing_at}
 use Rattle.hidden_bounds.specs.declared.standings.Standing.{Standing}
 use Rattle.hidden_bounds.specs.declared.standings.Standing.TheVariants as standing
+
+RisesFrom-later : (m n : ℕ) (xs : List ℕ) → m ≤ n → RisesFrom n xs → RisesFrom m xs
+RisesFrom-later m n [] h r = tt
+RisesFrom-later m n (x ∷ xs) h r = (let low : n ≤ x = r.0 in omega arith, r.1)
 
 left_rises : (n : ℕ) (ss : List Standing) → RisesFrom n (left_from n ss)
 left_rises n [] = tt
 left_rises n (standing.Unknown ∷ ss) = (omega arith, rw (add-one) (left_rises (suc n) ss))
 left_rises n (standing.Round ∷ ss) = (omega arith, rw (add-one) (left_rises (suc n) ss))
-left_rises n (standing.Taken ∷ ss) = RisesFrom-weaken n (suc n) (left_from (suc n) ss) (omega arith) (left_rises (suc n) ss)
+left_rises n (standing.Taken ∷ ss) = RisesFrom-later n (suc n) (left_from (suc n) ss) (omega arith) (left_rises (suc n) ss)
 
 pub left_increases : (ss : List Standing) → IsStrictlyIncreasing (left_from 0 ss)
 left_increases ss = increasing_from_rises 0 (left_from 0 ss) (left_rises 0 ss)

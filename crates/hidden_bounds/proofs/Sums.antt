@@ -17,9 +17,12 @@ if_le : (b : Bool) (n : ℕ) → (if b then n else 0) ≤ n
 if_le true n = omega arith
 if_le false n = omega arith
 
+sums : (a b c d : ℕ) → a ≤ b → c ≤ d → a + c ≤ b + d
+sums a b c d h k = omega arith
+
 shared_le : (hidden a : List ℕ) (ts : List Taken) → shared_bounds hidden a ts ≤ hidden_bound ts
 shared_le hidden a [] = omega arith
-shared_le hidden a (t ∷ ts) = omega (arith, if_le (share_hidden hidden a t.alphabet) t.bound, shared_le hidden a ts)
+shared_le hidden a (t ∷ ts) = sums _ t.bound _ (hidden_bound ts) (if_le (share_hidden hidden a t.alphabet) t.bound) (shared_le hidden a ts)
 
 pub within_read : (count : ℕ) (order : List Placed) (k : ℕ) (d : Placed) → AreWithin count order → k < length order → (get_or order k d).part < count
 within_read count order k d within below = within k (get_or order k d) (slice_get-get_or order k d below)
@@ -66,11 +69,32 @@ module _ {T : Type 0} (hidden : List ℕ) (cs : List (Component T)) (order : Lis
       let more : sum_before hidden cs order k ≤ sum_before hidden cs order n = sum_le k n h within in
       omega arith
 
+  -- one more bound
+  pub next_bounds : (bounds : List ℕ) (bound : ℕ) (p : Placed) → AreBounds hidden cs order bounds → slice_get order (length bounds) ≡ Some p → bound ≡ bound_at hidden cs order (length bounds) p
+      → AreBounds hidden cs order (bounds ++ bound ∷ [])
+  next_bounds bounds bound p are at is k q within there =
+      elim (cases_lt k (length bounds)) [
+        | inl less ↦ get_or_append_left bounds (bound ∷ []) 0 k less ∙ are k q less there
+        | inr more ↦
+            let size : length (bounds ++ bound ∷ []) ≡ length bounds + 1 = length_push bounds bound in
+            let here : k ≡ length bounds = omega arith in
+            let same : p ≡ q = same_Some p q (sym at ∙ ap (slice_get order) (sym here) ∙ there) in
+            ap (λ i. get_or (bounds ++ bound ∷ []) i 0) here ∙ get_or_push bounds bound 0 (length bounds) refl ∙ is
+            ∙ ap₂ (λ i x. bound_at hidden cs order i x) (sym here) same
+      ]
+
+  pub whole_sum : sum_before hidden cs order (length order) ≡ hidden_bound (taken_in hidden cs order)
+  whole_sum = ap (λ (xs : List Placed). hidden_bound (taken_in hidden cs xs)) (take_all (length order) order (omega arith))
+
 -- ---- the next sum
 
 pub none_then : {A : Type 0} (found : Option A) (P Q : Type 0) → IfNone found P → (P → Q) → IfNone found Q
 none_then None P Q p f = f p
 none_then (Some x) P Q p f = tt
+
+pub some_then : {A : Type 0} (found : Option A) (P Q : A → Type 0) → IfSome found P → ((x : A) → P x → Q x) → IfSome found Q
+some_then None P Q p f = tt
+some_then (Some x) P Q p f = f x p
 
 more_than : (limit bound total next : ℕ) → limit ≤ bound → next ≡ bound + total → limit ≤ next
 more_than limit bound total next h is = omega arith
@@ -118,3 +142,13 @@ module _ {T : Type 0} (hidden : List ℕ) (cs : List (Component T)) (order : Lis
     bound = λ p at. is ∙ same ∙ ap (bound_at hidden cs order k) (same_Some here p (sym at_here ∙ at));
     sum = sum_is bound (bound_at hidden cs order k here) total (sum_before hidden cs order k) second (sum_before hidden cs order (k + 1)) same so_far is' next_is;
   }
+
+  -- the bounds and the sum, one further
+  pub bounds_further : (bounds next : List ℕ) (first second : ℕ) → length bounds ≡ k → AreBounds hidden cs order bounds → IsNextSum hidden cs order (length bounds) first second → next ≡ bounds ++ first ∷ []
+      → AreBounds hidden cs order next
+  bounds_further bounds next first second many are made is =
+      let at : slice_get order (length bounds) ≡ Some here = ap (slice_get order) many ∙ at_here in
+      subst (AreBounds hidden cs order) (sym is) (next_bounds hidden cs order bounds first here are at (made.bound here at))
+
+pub sum_further : {T : Type 0} (hidden : List ℕ) (cs : List (Component T)) (order : List Placed) (k n first second : ℕ) → n ≡ k → IsNextSum hidden cs order n first second → second ≡ sum_before hidden cs order (k + 1)
+sum_further hidden cs order k n first second same made = made.sum ∙ ap (λ m. sum_before hidden cs order (m + 1)) same

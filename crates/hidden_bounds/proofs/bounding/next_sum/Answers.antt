@@ -1,7 +1,6 @@
 use Rattle.std.proofs.Common.{◌*◌, ◌^◌, ◌<◌, ◌≤◌, suc, length, get_or, ap, subst, ◌∙◌}
-use Rattle.std.proofs.lemmas.Option.{IfSome_then}
 use Rattle.hidden_bounds.specs.declared.ordering.Placed.{Placed}
-use Rattle.hidden_bounds.proofs.Sums.{none_then, own_passes, sum_fits, sum_passes, within_read}
+use Rattle.hidden_bounds.proofs.Sums.{none_then, own_passes, some_then, sum_fits, sum_passes, within_read}
 use Rattle.hidden_bounds.proofs.bounding.next_sum.Goals as goal
 
 -- what stands where none does
@@ -16,7 +15,7 @@ shared_bounds-requires-clause-fits c = subst (λ n. n < 18446744073709551616) c.
 
 pub returns-in-Some-clause-some : goal.returns-in-Some-clause-some
 returns-in-Some-clause-some c =
-    IfSome_then c.with_sum.result c.with_sum.ensures.some (λ made is.
+    some_then c.with_sum.result _ _ c.with_sum.ensures.some (λ made is.
     sum_fits c.args.scope.now.hidden.now c.args.scope.now.seats.now c.args.order.now (length c.args.bounds.now) nobody c.requires.next c.args.total c.requires.total c.in-Some.bound made.0 made.1
     (c.in-Some.ensures.some ∙ ap (λ shared. (get_or c.args.order.now (length c.args.bounds.now) nobody).height * suc shared) c.in_ok-shared.ensures) is.0 is.1)
 
