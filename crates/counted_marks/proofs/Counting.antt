@@ -183,15 +183,15 @@ none_in_front zero n = refl
 none_in_front (suc m) zero = refl
 none_in_front (suc m) (suc n) = none_in_front m n
 
-zero_at : (o n b : ℕ) → get_or (replicate n o) b o ≡ o
-zero_at o zero b = refl
-zero_at o (suc n) zero = refl
-zero_at o (suc n) (suc b) = zero_at o n b
+pub none_at : {A : Type 0} (o : A) (n i : ℕ) → get_or (replicate n o) i o ≡ o
+none_at o zero b = refl
+none_at o (suc n) zero = refl
+none_at o (suc n) (suc b) = none_at o n b
 
 pub none_counted : (n m : ℕ) → n < 64 * m → AreBlockCounts (replicate n false) (replicate m 0)
 none_counted n m h = record {
   cover = let o : ℕ = 0 in rw (length-replicate n false, length-replicate m o) (omega (arith, h));
-  each = λ b. let front = none_in_front (64 * b) n in let more = none_in_front (64 * (b + 1)) n in let read = zero_at 0 m b in omega (arith, front, more, read);
+  each = λ b. let front = none_in_front (64 * b) n in let more = none_in_front (64 * (b + 1)) n in let read = none_at {A = ℕ} 0 m b in omega (arith, front, more, read);
 }
 
 -- the bool that is read, where it differs from one that is known

@@ -6,6 +6,7 @@ use Rattle.std.proofs.lemmas.List.{length-append, get_or_append_left}
 use Rattle.std.proofs.Math.Seq.{get_or-append_seam}
 use Rattle.std.proofs.lemmas.Nat.{mod_below}
 use Rattle.std.proofs.Math.Nat.{mod-eq_of_lt, add-mod_left}
+use Rattle.std.proofs.lemmas.Option.{none-some, same_Some}
 use Rattle.csp_base.specs.Members.{has}
 use Rattle.csp_tables.specs.Table.{node_at, is_possible}
 use Rattle.csp_tables.specs.Part.{part_at, alphabets_of, TripleDisjoint}
@@ -126,11 +127,8 @@ module _ (shape : Shape) (i : ℕ) (pairs : List (ℕ × ℕ)) (firsts : List (O
 
   same_kept : (q l m : ℕ) → HasFirst firsts q l → HasFirst firsts q m → l ≡ m
   same_kept q l m y z =
-      let same : y.fact ≡ z.fact = some_same y.fact z.fact (sym y.kept ∙ z.kept) in
+      let same : y.fact ≡ z.fact = same_Some y.fact z.fact (sym y.kept ∙ z.kept) in
       sym y.link ∙ (ap (λ (f : Fact). f.link) same ∙ z.link)
-    where
-      some_same : (f g : Fact) → Some f ≡ Some g → f ≡ g
-      some_same f g h = cc
 
   pub keeps : KeepsPlaces shape i
   keeps s e b =
@@ -180,18 +178,9 @@ module _ (shape : Shape) (i : ℕ) (pairs : List (ℕ × ℕ)) (firsts : List (O
 
       in_order_all : (fs : List (Option Fact)) (q l : ℕ) → ((r : ℕ) → r < q → (m : ℕ) × HasFirst fs r m) → HasFirst fs q l → slice_get (links_in_order fs) q ≡ Some l
       in_order_all [] q l before y = absurd (let w : q < length {A = Option Fact} [] = first_within [] q l y in omega arith)
-      in_order_all (None ∷ fs) zero l before y = absurd (none y.fact y.kept)
-        where
-          none : (f : Fact) → None ≡ Some f → ⊥
-          none f e = cc
-      in_order_all (None ∷ fs) (suc q) l before y = absurd (none (before 0 (omega arith)).1.fact (before 0 (omega arith)).1.kept)
-        where
-          none : (f : Fact) → None ≡ Some f → ⊥
-          none f e = cc
-      in_order_all (Some f ∷ fs) zero l before y = ap Some (let same : f ≡ y.fact = first_is f y.fact y.kept in ap (λ (g : Fact). g.link) same ∙ y.link)
-        where
-          first_is : (f g : Fact) → Some f ≡ Some g → f ≡ g
-          first_is f g e = cc
+      in_order_all (None ∷ fs) zero l before y = absurd (none-some y.fact y.kept)
+      in_order_all (None ∷ fs) (suc q) l before y = absurd (none-some (before 0 (omega arith)).1.fact (before 0 (omega arith)).1.kept)
+      in_order_all (Some f ∷ fs) zero l before y = ap Some (let same : f ≡ y.fact = same_Some f y.fact y.kept in ap (λ (g : Fact). g.link) same ∙ y.link)
       in_order_all (Some f ∷ fs) (suc q) l before y = in_order_all fs q l (λ r h. let z = before (suc r) (omega arith) in (z.0, record { fact = z.1.fact; kept = z.1.kept; link = z.1.link })) (record { fact = y.fact; kept = y.kept; link = y.link })
 
 -- ---- the links of a part

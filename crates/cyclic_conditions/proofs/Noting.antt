@@ -2,6 +2,7 @@
 use Rattle.std.proofs.Common.{◌≡◌, ℕ, ◌<◌, inl, inr, ◌⊎◌, List, length, set, Option, Some, None, Result, Err, IsTrue, true, sym, ap, subst, ◌∙◌}
 use Rattle.std.proofs.lemmas.Bool.{cases_eq, cases_lt}
 use Rattle.std.proofs.lemmas.List.{get_or-set_same, get_or-set_other, get_or_past}
+use Rattle.std.proofs.lemmas.Option.{none-some, same_Some}
 use Rattle.csp_tables.specs.Table.{node_at, is_possible}
 use Rattle.csp_tables.specs.Form.{HasForm}
 use Rattle.csp_tables.specs.Part.{part_at}
@@ -18,15 +19,9 @@ use Rattle.cyclic_conditions.specs.declared.facts.FactFault.{FactFault}
 use Rattle.cyclic_conditions.specs.declared.facts.FactFault.TheVariants.{Clash}
 use Rattle.csp_tables.proofs.Runs.{node_form}
 
-same_fact : (f g : Fact) → Some f ≡ Some g → f ≡ g
-same_fact f g h = cc
-
-no_fact : (f : Fact) → None ≡ Some f → ⊥
-no_fact f h = cc
-
 -- a kept fact stands within the list
 pub first_within : (firsts : List (Option Fact)) (r l : ℕ) → HasFirst firsts r l → r < length firsts
-first_within firsts r l x = elim (cases_lt r (length firsts)) [ inl h ↦ h | inr h ↦ absurd (no_fact x.fact (sym (get_or_past firsts r None h) ∙ x.kept)) ]
+first_within firsts r l x = elim (cases_lt r (length firsts)) [ inl h ↦ h | inr h ↦ absurd (none-some x.fact (sym (get_or_past firsts r None h) ∙ x.kept)) ]
 
 -- ---- one more
 
@@ -39,7 +34,7 @@ module _ (firsts : List (Option Fact)) (place : ℕ) (fact : Fact) (within : pla
 
   pub set_sound : (q : ℕ) (f : Fact) → first_at (set firsts place (Some fact)) q ≡ Some f → (first_at firsts q ≡ Some f) ⊎ ((q ≡ place) × (f ≡ fact))
   set_sound q f h = elim (cases_eq q place) [
-    | inl same ↦ inr (same, sym (same_fact fact f (sym at_place ∙ subst (λ p. first_at (set firsts place (Some fact)) p ≡ Some f) same h)))
+    | inl same ↦ inr (same, sym (same_Some fact f (sym at_place ∙ subst (λ p. first_at (set firsts place (Some fact)) p ≡ Some f) same h)))
     | inr other ↦ inl (sym (elsewhere q other) ∙ h)
   ]
 

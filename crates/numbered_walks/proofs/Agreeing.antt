@@ -3,7 +3,7 @@ use Rattle.std.proofs.Common.{◌≡◌, ℕ, zero, suc, ◌+◌, ◌-◌, ◌<�
 use Rattle.std.proofs.lemmas.Bool.{cases_eq, eq-eqb, ne_eqb}
 use Rattle.std.proofs.lemmas.List.{get_or-set_other, get_or-set_same}
 use Rattle.numbered_walks.proofs.Choosing.{one_here, steps_more, steps_within}
-use Rattle.numbered_walks.proofs.Owning.{none_at}
+use Rattle.counted_marks.proofs.Counting.{none_at}
 use Rattle.numbered_walks.specs.Agreements.{is_agreed}
 use Rattle.numbered_walks.specs.Choices.{bit, steps_by}
 

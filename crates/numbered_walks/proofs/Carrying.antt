@@ -22,14 +22,3 @@ module _ {S U : Type 0} (Has : S → Move → Type 0) (Takes : S → Move → S 
 
   none : (s : S) (u : U) → R s u → HasNone (Has s) ↔ HasNone (Others u)
   none s u r = (λ h m o. h m ((has s u r m).1 o), λ h m o. h m ((has s u r m).0 o))
-
-  pub walk_carries : (seed steps : ℕ) (s : S) (u : U) (ms : List Move) (is_stuck : Bool) → R s u → IsWalkOf Has Takes seed steps s ms is_stuck → IsWalkOf Others Moves seed steps u ms is_stuck
-  walk_carries seed steps s u ms is_stuck r w =
-      let there = walk seed s w.last ms u r w.walk in
-      let same = none w.last there.0 there.2 in
-      record {
-        last = there.0;
-        walk = there.1;
-        count = elim w.count [ inl all ↦ inl all | inr fewer ↦ inr (fewer.0, same.0 fewer.1) ];
-        stuck = (λ h. same.0 (w.stuck.0 h), λ h. w.stuck.1 (same.1 h));
-      }

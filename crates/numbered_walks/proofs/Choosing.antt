@@ -3,6 +3,7 @@ use Rattle.std.proofs.Common.{◌≡◌, ℕ, zero, suc, ◌+◌, ◌<◌, ◌�
 use Rattle.std.specs.Cmp.{first_so}
 use Rattle.std.proofs.lemmas.Bool.{cases_eq, eq-eqb, eqb-true, false≢true, ne_eqb, or_cases, or_left, or_right}
 use Rattle.std.proofs.lemmas.List.Folds.{list_any-append, list_any_at, list_any_more}
+use Rattle.std.proofs.Math.Bool.{or_comm}
 use Rattle.acceptances.proofs.Terms.{offers_by_test, test_by_offers}
 use Rattle.acceptances.specs.OfferTests.{can_do}
 use Rattle.csp_base.proofs.Booleans.{or_none, same_tests}
@@ -61,27 +62,10 @@ added_once made new seen now s e is grown unseen once =
 pub seen_now : (seen now : List ℕ) (s e : ℕ) → now ≡ with_member s seen → has now e ≡ (nat_eq e s || has seen e)
 seen_now seen now s e grown = ap (λ (xs : List ℕ). has xs e) grown ∙ has-with_member s seen e ∙ ap (λ (b : Bool). b || has seen e) (same_number s e)
 
-pub seen_already : (seen : List ℕ) (s e : ℕ) → has seen s ≡ true → has seen e ≡ (nat_eq e s || has seen e)
-seen_already seen s e was = elim (cases_eq e s) [
-  | inl same ↦ ap (has seen) same ∙ was ∙ sym (or_left (nat_eq e s) (has seen e) (eq-eqb e s same))
-  | inr other ↦ ap (λ (b : Bool). b || has seen e) (sym (ne_eqb e s other))
-]
-
-pub added_move : (made new : List (ℕ × ℕ)) (s : ℕ × ℕ) (e t : ℕ) → new ≡ made ++ s ∷ [] → has_move new e t ≡ (has_move made e t || (nat_eq e s.0 && nat_eq t s.1))
-added_move made new s e t is =
-    ap (λ (ps : List (ℕ × ℕ)). has_move ps e t) is ∙ list_any-append (λ (step : ℕ × ℕ). nat_eq e step.0 && nat_eq t step.1) made (s ∷ [])
-    ∙ ap (λ (b : Bool). has_move made e t || b) (sym (or_none (nat_eq e s.0 && nat_eq t s.1)))
-
 -- ---- as the loop over the steps takes it
 pub event_more : (xs : List (ℕ × ℕ)) (i : ℕ) (x : ℕ × ℕ) (e : ℕ) → i < length xs → x ≡ get_or xs i x → has_event (take (i + 1) xs) e ≡ (nat_eq e x.0 || has_event (take i xs) e)
 event_more xs i x e below is =
-    list_any_more (λ (step : ℕ × ℕ). nat_eq e step.0) xs i x below ∙ ap (λ (y : ℕ × ℕ). has_event (take i xs) e || nat_eq e y.0) (sym is) ∙ turned (has_event (take i xs) e) (nat_eq e x.0)
-  where
-    turned : (a b : Bool) → (a || b) ≡ (b || a)
-    turned true true = refl
-    turned true false = refl
-    turned false true = refl
-    turned false false = refl
+    list_any_more (λ (step : ℕ × ℕ). nat_eq e step.0) xs i x below ∙ ap (λ (y : ℕ × ℕ). has_event (take i xs) e || nat_eq e y.0) (sym is) ∙ or_comm (has_event (take i xs) e) (nat_eq e x.0)
 
 pub move_more : (xs : List (ℕ × ℕ)) (i : ℕ) (x : ℕ × ℕ) (e t : ℕ) → i < length xs → x ≡ get_or xs i x → has_move (take (i + 1) xs) e t ≡ (has_move (take i xs) e t || (nat_eq e x.0 && nat_eq t x.1))
 move_more xs i x e t below is =
@@ -170,12 +154,6 @@ by_choice raw n e t row are h = listed_step raw n e t (are.sound e t h)
 
 pub step_within : (raw : RawTable) (n e t : ℕ) → HasRawForm raw → RawStep raw n (visible e) t → t < raw.count
 step_within raw n e t form step = (form.steps_within n e t (step_listed raw n e t step)).1
-
-pub move_here : (row : List (ℕ × ℕ)) (k e : ℕ) (x : ℕ × ℕ) → k < length row → x ≡ get_or row k x → x.0 ≡ e → IsTrue (has_move row e x.1)
-move_here row k e x below is same =
-    let first : nat_eq e (get_or row k x).0 ≡ true = eq-eqb e (get_or row k x).0 (sym same ∙ ap (λ (y : ℕ × ℕ). y.0) is) in
-    let second : nat_eq x.1 (get_or row k x).1 ≡ true = eq-eqb x.1 (get_or row k x).1 (ap (λ (y : ℕ × ℕ). y.1) is) in
-    list_any_at (λ (s : ℕ × ℕ). nat_eq e s.0 && nat_eq x.1 s.1) row k x below (rw (first, second) refl)
 
 pub none_so_far : (row : List (ℕ × ℕ)) (k e : ℕ) (x : ℕ × ℕ) → k < length row → x ≡ get_or row k x → (x.0 ≡ e → ⊥) → steps_by e (take k row) ≡ 0 → steps_by e (take (k + 1) row) ≡ 0
 none_so_far row k e x below is other none =

@@ -2,6 +2,7 @@
 use Rattle.std.proofs.Common.{◌≡◌, ◌↔◌, ℕ, zero, suc, ◌+◌, ◌-◌, ◌<◌, ◌≤◌, ◌⊎◌, inl, inr, Bool, true, false, List, [], ◌∷◌, ◌++◌, length, map, take, get_or, slice_get, Some, refl, sym, ap, subst, ◌∙◌, arith}
 use Rattle.std.proofs.lemmas.Option.{none-some, same_Some}
 use Rattle.std.proofs.lemmas.List.{length-append, length-map}
+use Rattle.containers.proofs.MembersLemmas.{slice_get-append_left}
 use Rattle.counted_marks.proofs.Places.{as_many, marked_is, place_of_mark, places_rise}
 use Rattle.counted_marks.specs.Marks.{mark_count, marked}
 use Rattle.csp_base.specs.Lists.{StandsIn}
@@ -10,11 +11,6 @@ use Rattle.numbered_walks.specs.Steps.{options}
 use Rattle.numbered_walks.specs.Walks.{HasNone}
 use Rattle.numbered_walks.specs.declared.moves.Move.{Move}
 use Rattle.numbered_walks.specs.declared.moves.Move.TheVariants as move
-
-pub front_at : {X : Type 0} (xs ys : List X) (k : ℕ) (v : X) → slice_get xs k ≡ Some v → slice_get (xs ++ ys) k ≡ Some v
-front_at [] ys k v at = absurd (none-some v at)
-front_at (x ∷ xs) ys zero v at = at
-front_at (x ∷ xs) ys (suc k) v at = front_at xs ys k v at
 
 pub back_at : {X : Type 0} (xs ys : List X) (k : ℕ) (v : X) → slice_get ys k ≡ Some v → slice_get (xs ++ ys) (length xs + k) ≡ Some v
 back_at [] ys k v at = let place : k ≡ 0 + k = omega arith in subst (λ j. slice_get ys j ≡ Some v) place at
@@ -77,7 +73,7 @@ module _ (restless agreed : List Bool) where
   option_count = let all = length-append silents events in let s = silent_count in let e = event_count in omega (arith, all, s, e)
 
   pub silent_option : (k i : ℕ) → slice_get (marked restless) k ≡ Some i → slice_get (options restless agreed) k ≡ Some (move.Silent i)
-  silent_option k i at = front_at silents events k (move.Silent i) (mapped_at (λ i. move.Silent i) (marked restless) k i at)
+  silent_option k i at = slice_get-append_left silents events k (move.Silent i) (mapped_at (λ i. move.Silent i) (marked restless) k i at)
 
   pub event_option : (k e : ℕ) → mark_count restless ≤ k → slice_get (marked agreed) (k - mark_count restless) ≡ Some e → slice_get (options restless agreed) k ≡ Some (move.Event e)
   event_option k e low at =

@@ -124,11 +124,6 @@ owners_more cs k c old new below is before grown e =
     places_push 0 (owner_marks e (take k cs)) (has c.alphabet e) ∙ ap (λ n. marked (owner_marks e (take k cs)) ++ owned (has c.alphabet e) n) (omega (arith, count)) in
     grown e ∙ ap (λ (xs : List ℕ). xs ++ owned (has c.alphabet e) k) (before e) ∙ sym push ∙ sym (ap marked (map_push (λ (d : Numbered). has d.alphabet e) (take k cs) c)) ∙ sym (ap (λ (ds : List Numbered). marked (owner_marks e ds)) (take_read cs k c below is))
 
-pub none_at : {A : Type 0} (o : A) (n i : ℕ) → get_or (replicate n o) i o ≡ o
-none_at o zero i = refl
-none_at o (suc n) zero = refl
-none_at o (suc n) (suc i) = none_at o n i
-
 -- ---- how many there are
 count_of_row : (rows : List (List ℕ)) (e : ℕ) → get_or (map length rows) e 0 ≡ length (get_or rows e [])
 count_of_row [] e = refl

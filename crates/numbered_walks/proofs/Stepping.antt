@@ -1,20 +1,20 @@
 -- Components that move, one after another.
 use Rattle.std.proofs.Common.{◌≡◌, ◌↔◌, ℕ, zero, suc, ◌+◌, ◌<◌, ◌≤◌, inl, inr, Bool, true, false, ◌||◌, nat_eq, IsTrue, MatchBool, List, [], ◌∷◌, length, replicate, take, set, get_or, slice_get, Some, refl, sym, ap, subst, ◌∙◌, arith}
 use Rattle.std.proofs.lemmas.Bool.{cases_Bool, cases_eq, eq-eqb, eqb-true, false≢true, ne_eqb, or_cases, or_left, or_right}
-use Rattle.std.proofs.lemmas.List.{get_or-set_other, get_or-set_same, length-replicate, length-set}
+use Rattle.std.proofs.lemmas.List.{get_or-set_other, get_or-set_same, length-replicate, length-set, length-take}
 use Rattle.std.proofs.lemmas.List.Folds.{list_any_more}
 use Rattle.std.proofs.lemmas.Option.{none-some, same_Some}
 use Rattle.acceptances.proofs.Terms.{offers_by_test, unstable_by_step}
 use Rattle.acceptances.specs.OfferTests.{can_do, is_unstable}
-use Rattle.counted_marks.proofs.Places.{marked_is, place_of_mark, places_rise}
+use Rattle.counted_marks.proofs.Places.{marked_is, place_of_mark, places_rise, mark_within}
 use Rattle.counted_marks.specs.Marks.{marked, places_from}
-use Rattle.csp_base.proofs.Booleans.{same_tests}
+use Rattle.csp_base.proofs.Booleans.{same_tests, or_unless}
 use Rattle.csp_base.specs.Members.{has}
 use Rattle.csp_tables.proofs.Listed.{passing}
 use Rattle.csp_tables.specs.Label.Label.{silent, visible}
 use Rattle.csp_tables.specs.RawTable.{RawStep, RawTable}
 use Rattle.numbered_walks.proofs.Agreeing.{some_within}
-use Rattle.numbered_walks.proofs.Owning.{none_at}
+use Rattle.counted_marks.proofs.Counting.{none_at}
 use Rattle.numbered_walks.proofs.Offering.{agreed_can, at_most_all, can_agreed, count_set, front_most, one_first, one_of_all, owner_counts}
 use Rattle.numbered_walks.specs.Agreements.{AreOwnerRows, IsAgreement, IsStanding, component_at, is_agreed, offer_count, owner_count, owner_marks}
 use Rattle.numbered_walks.specs.Choices.{AreChoicesOf, bit, steps_by}
@@ -65,7 +65,7 @@ module _ (cs : List Numbered) (s : Standing) (is : IsStanding cs s) where
   marked_moves : (i : ℕ) → get_or s.restless i false ≡ true → Has cs s.terms.items (move.Silent i)
   marked_moves i mark =
       let marks = is.marks in
-      let inside = mark_inside s.restless i mark in
+      let inside = mark_within s.restless i mark in
       let below : i < length cs = omega (arith, marks, inside) in
       let same = is.one_each in
       record {
@@ -75,11 +75,6 @@ module _ (cs : List Numbered) (s : Standing) (is : IsStanding cs s) where
         at = term_there s.terms.items i (omega (arith, below, same));
         can = moves_by_test (component_at cs i).table (get_or s.terms.items i 0) (sym (is.restless i below) ∙ mark);
       }
-    where
-      mark_inside : (ms : List Bool) (n : ℕ) → get_or ms n false ≡ true → n < length ms
-      mark_inside [] n is = absurd (false≢true is)
-      mark_inside (m ∷ ms) zero is = omega arith
-      mark_inside (m ∷ ms) (suc n) is = let rest = mark_inside ms n is in omega (arith, rest)
 
   moves_marked : (i : ℕ) → Has cs s.terms.items (move.Silent i) → get_or s.restless i false ≡ true
   moves_marked i can =
@@ -207,7 +202,7 @@ module _ (cs : List Numbered) (e : ℕ) (places xs now next : List ℕ) (k i : �
         let this : RawStep (component_at cs i).table (get_or xs i 0) (visible e) (get_or next i 0) = subst (λ n. RawStep (component_at cs i).table (get_or xs i 0) (visible e) n) (sym at) (subst (λ n. RawStep (component_at cs i).table n (visible e) y) (still_there done below) step) in
         to_true (has (take (k + 1) places) j) _ _ now_has (subst (λ m. RawStep (component_at cs m).table (get_or xs m 0) (visible e) (get_or next m 0)) (sym same) this)
     | inr other ↦
-        let same_has : has (take k places) j ≡ has (take (k + 1) places) j = sym (more j ∙ left_alone (has (take k places) j) (nat_eq i j) (ne_eqb i j (λ p. other (sym p)))) in
+        let same_has : has (take k places) j ≡ has (take (k + 1) places) j = sym (more j ∙ or_unless (has (take k places) j) (nat_eq i j) (ne_eqb i j (λ p. other (sym p)))) in
         let at : get_or now j 0 ≡ get_or next j 0 = sym (ap (λ (ns : List ℕ). get_or ns j 0) moved ∙ get_or-set_other now i j y 0 other) in
         subst (λ (b : Bool). MatchBool b (RawStep (component_at cs j).table (get_or xs j 0) (visible e) (get_or next j 0)) (get_or next j 0 ≡ get_or xs j 0)) same_has
         (subst (λ n. MatchBool (has (take k places) j) (RawStep (component_at cs j).table (get_or xs j 0) (visible e) n) (n ≡ get_or xs j 0)) at (done j h))
@@ -215,10 +210,6 @@ module _ (cs : List Numbered) (e : ℕ) (places xs now next : List ℕ) (k i : �
     where
       to_true : (b : Bool) (P Q : Type 0) → b ≡ true → P → MatchBool b P Q
       to_true b P Q is p = subst (λ (c : Bool). MatchBool c P Q) (sym is) p
-
-      left_alone : (a b : Bool) → b ≡ false → (a || b) ≡ a
-      left_alone true b h = refl
-      left_alone false b h = h
 
 -- the owners are the marked ones
 pub owners_have : (cs : List Numbered) (e i : ℕ) → i < length cs → has (marked (owner_marks e cs)) i ≡ has (component_at cs i).alphabet e
@@ -277,11 +268,6 @@ one_does cs xs ys i below same does = record {
   others = does.2;
 }
 
-pub one_can : (cs : List Numbered) (xs : List ℕ) (i : ℕ) → OneCan cs xs i → Can silent (component_at cs i) (get_or xs i 0)
-one_can cs xs i can =
-    let at : Can silent can.component (get_or xs i 0) = subst (λ (n : ℕ). Can silent can.component n) (sym (term_is xs i can.term can.at)) can.can in
-    subst (λ (c : Numbered). Can silent c (get_or xs i 0)) (sym (component_is cs i can.component can.there)) at
-
 pub one_within : (cs : List Numbered) (xs : List ℕ) (i : ℕ) → OneCan cs xs i → i < length cs
 one_within cs xs i can = place_below cs i can.component can.there
 
@@ -306,13 +292,7 @@ module _ (cs : List Numbered) (k : ℕ) (c : Numbered) (below : k < length cs) (
       let one = one_first e k cs c below is in
       let all = front_most e (k + 1) cs in
       let count = counts e in
-      let front = front_length (k + 1) cs in
-      omega (arith, one, all, count, front, few)
-    where
-      front_length : (n : ℕ) (ds : List Numbered) → length (take n ds) ≤ length ds
-      front_length zero ds = omega arith
-      front_length (suc n) [] = omega arith
-      front_length (suc n) (d ∷ ds) = let rest = front_length n ds in omega (arith, rest)
+      omega (arith, one, all, count, length-take (k + 1) cs, few)
 
   pub first_more : (old new : List ℕ) → ((e : ℕ) → get_or old e 0 ≡ offer_count e (take k cs) (first_terms (take k cs))) → ((e : ℕ) → get_or new e 0 ≡ get_or old e 0 + bit (can_do c.table 0 e))
       → (e : ℕ) → get_or new e 0 ≡ offer_count e (take (k + 1) cs) (first_terms (take (k + 1) cs))

@@ -15,7 +15,7 @@ push_at-requires c =
 pub loop-event-preserved : goal.loop-event-preserved
 loop-event-preserved c =
     one_added c.args.owner c.args.rows.now.items c.loop-event.rows.items c.push_at.new.rows.items c.args.alphabet.now c.loop-event.event-iterator c.next.new.self c.event.inside.0
-    (c.in-Some.ensures.steps ∙ ap (λ (n : ℕ). n ∷ c.next.new.self) (sym c.event.view_is)) c.loop-event.invariant c.in_ok-push_at.ensures.row
+    (c.in-Some.ensures.steps ∙ ap (λ (n : ℕ). n ∷ c.next.new.self) (sym c.event.view_is)) c.loop-event.invariant c.in_ok-push_at.ensures
 
 pub returns-clause-rows : goal.returns-clause-rows
 returns-clause-rows c = all_added c.args.owner c.args.rows.now.items c.loop-event.rows.items c.args.alphabet.now c.loop-event.event-iterator c.in-None.ensures.steps.0 c.loop-event.invariant
