@@ -1,6 +1,6 @@
 -- The events that begin with a row, by their places.
 use Rattle.std.proofs.Common.{◌≡◌, ℕ, zero, suc, ◌+◌, ◌*◌, ◌<◌, ◌≤◌, Bool, true, false, cond, nat_eq, IsTrue, Option, Some, None, Ok, Err, List, [], ◌∷◌, ◌++◌, map, length, drop, take, refl, sym, ◌∙◌, ap, subst, arith}
-use Rattle.std.specs.Prelude.{◌&&◌, slice_get}
+use Rattle.std.specs.Prelude.{slice_get}
 use Rattle.std.proofs.lemmas.Bool.{eqb-true, false≢true}
 use Rattle.std.proofs.lemmas.List.{append-nil, length-append}
 use Rattle.std.proofs.lemmas.Option.{slice_get_within}
@@ -9,14 +9,11 @@ use Rattle.csp_atoms.proofs.OrderLaws.{same_exact, same_itself}
 use Rattle.csp_base.proofs.Booleans.{is_first, is_second}
 use Rattle.csp_program.specs.EventNumber.{event_count, first_event, row_count}
 use Rattle.csp_program.specs.EventTable.{begins, begins_with, channel_events, event_of, event_table, events_from_channel, events_with, places_from, rows}
-use Rattle.csp_program.specs.InOrder.{IsEventTable, IsInOrder, lacks_sets}
-use Rattle.csp_program.specs.Lists.{all_true}
 use Rattle.csp_program.specs.Outcome.{Outcome, and_then}
-use Rattle.csp_program.specs.Value.{Env, Meaning, front_events, one_event, row_in, row_of, sets_of, values_of}
+use Rattle.csp_program.specs.Value.{Env, Meaning, front_events, one_event, row_in, row_of, sets_of}
 use Rattle.value_laws.specs.EventNumbers.{HasSets, HaveValues, StandsAt, computed_number}
-use Rattle.value_laws.specs.Numbers.{AllRise, ChannelsFit, EventsAreFound, events_each, fields_number, first_of, front_count, front_number, span}
+use Rattle.value_laws.specs.Numbers.{ChannelsFit, EventsAreFound, events_each, fields_number, first_of, front_count, front_number, span}
 use Rattle.value_laws.proofs.Lists.{same_outcome}
-use Rattle.value_laws.proofs.Rises.{field_sets_rise}
 use Rattle.value_laws.proofs.RowNumbers.{Numbered, length-rows, no_fields, numbered, placed, refused}
 use Rattle.value_laws.proofs.TablePlaces.{beginners_back, beginners_forth, length-channel_events, of_table, same_values, summed_number, to_computed}
 use Rattle.csp_atoms.specs.declared.atom.Atom.{Atom}
@@ -24,9 +21,7 @@ use Rattle.csp_atoms.specs.declared.atom.Atom.TheVariants as atom
 use Rattle.csp_atoms.specs.declared.value.Value.{Value}
 use Rattle.csp_atoms.specs.declared.value.Value.TheVariants.{One}
 use Rattle.csp_program.proofs.Outcomes.{came_through}
-use Rattle.csp_program.specs.declared.kinds.ValueKind.{ValueKind}
 use Rattle.csp_program.specs.declared.programs.Channel.{Channel}
-use Rattle.csp_program.specs.declared.programs.Content.{Content}
 use Rattle.csp_program.specs.declared.programs.EventInfo.{EventInfo}
 
 -- ---- what begins with a row
@@ -133,12 +128,12 @@ module _ (channels : List Channel) (fit : ChannelsFit channels) (c : ℕ) (sets 
       record {
         within = count_within n.row own first (events_each fields sets) n.values number refl refl;
         forth = λ i x at low high.
-        let f = beginners_forth channels c sets fields env n.row first has n.values number i low high in
-        let is : event_of c (n.row ++ f.0) ≡ x = cc in
-        subst (λ y. begins c n.row y ≡ true) is (event_begins c n.row f.0);
+            let f = beginners_forth channels c sets fields env n.row first has n.values number i low high in
+            let is : event_of c (n.row ++ f.0) ≡ x = cc in
+            subst (λ y. begins c n.row y ≡ true) is (event_begins c n.row f.0);
         back = λ i x at holds.
-        let f = begun c n.row x holds in
-        beginners_back channels c sets (fit.rise c sets has) fields env n.row first has n.values number i f.0 (at ∙ ap (λ (y : EventInfo). Some y) f.1);
+            let f = begun c n.row x holds in
+            beginners_back channels c sets (fit.rise c sets has) fields env n.row first has n.values number i f.0 (at ∙ ap (λ (y : EventInfo). Some y) f.1);
       }
 
   found_by : (o : Outcome ℕ) → fields_number fields sets env 0 ≡ o

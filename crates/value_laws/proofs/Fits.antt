@@ -1,13 +1,11 @@
 -- The channels of a program in order.
 use Rattle.std.proofs.Common.{◌≡◌, ℕ, zero, suc, ◌+◌, ◌<◌, ◌^◌, IsTrue, Option, Some, None, List, [], ◌∷◌, ◌++◌, map, length, refl, sym, ◌∙◌, ap, subst, inl, inr, arith}
-use Rattle.std.specs.Prelude.{is_none, slice_get}
+use Rattle.std.specs.Prelude.{is_none}
 use Rattle.std.proofs.lemmas.Bool.{false≢true}
 use Rattle.csp_base.proofs.Booleans.{is_first, is_second}
-use Rattle.csp_program.specs.EventNumber.{first_event}
 use Rattle.csp_program.specs.EventTable.{channel_events, event_table, events_from_channel}
 use Rattle.csp_program.specs.InOrder.{IsEventTable, IsInOrder, lacks_sets}
 use Rattle.csp_program.specs.Lists.{all_true}
-use Rattle.csp_program.specs.Value.{sets_of}
 use Rattle.value_laws.specs.EventNumbers.{HasSets}
 use Rattle.value_laws.specs.Numbers.{ChannelsFit}
 use Rattle.value_laws.proofs.Rises.{field_sets_rise}

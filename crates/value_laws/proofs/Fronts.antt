@@ -4,11 +4,10 @@ use Rattle.std.specs.Prelude.{◌↔◌, slice_get}
 use Rattle.std.proofs.lemmas.Bool.{false≢true, cases_eq}
 use Rattle.csp_atoms.specs.Sets.{has_atom}
 use Rattle.csp_program.specs.Atoms.{added, all_added}
-use Rattle.csp_program.specs.EventTable.{event_table}
 use Rattle.csp_program.specs.InOrder.{IsInOrder}
 use Rattle.csp_program.specs.Outcome.{and_then}
 use Rattle.csp_program.specs.Value.{Env, Front, Meaning, Turn, comprehension, front_events, fronts_added, sets_of}
-use Rattle.value_laws.specs.Numbers.{ChannelsFit, events_each, events_from, first_of, front_count, front_number, span}
+use Rattle.value_laws.specs.Numbers.{events_each, events_from, first_of, front_count, front_number, span}
 use Rattle.value_laws.specs.Bindings.{BeginsWith, BeginsWithOne, IsBinding, IsSetValue}
 use Rattle.value_laws.specs.EventNumbers.{computed_number}
 use Rattle.value_laws.proofs.Lists.{same_outcome}

@@ -6,19 +6,16 @@ use Rattle.std.proofs.lemmas.List.{length-map}
 use Rattle.csp_program.specs.EventTable.{event_table}
 use Rattle.csp_program.specs.InOrder.{IsEventTable, channel_in_order, expr_in_order, expr_in_order_of_layer, gen_in_order_of_layer, part_in_order_of_layer, lacks_sets, set_in_order, sets_in_order, with_fields}
 use Rattle.csp_program.specs.Lists.{all_true}
-use Rattle.csp_program.specs.Outcome.{and_then}
-use Rattle.csp_program.specs.Value.{Env, Front, Meaning, Turn, front_events, front_of_layer, meaning, meaning_of_layer, one_event, sets_of, turn_of_layer, uses_within, value_within, meanings}
-use Rattle.value_laws.specs.Numbers.{first_of, front_count, span}
-use Rattle.value_laws.specs.EventNumbers.{HasSets, HaveValues, StandsAt, computed_number}
+use Rattle.csp_program.specs.Value.{Env, Front, Meaning, Turn, front_of_layer, meaning, meaning_of_layer, sets_of, turn_of_layer, uses_within, value_within, meanings}
+use Rattle.value_laws.specs.Numbers.{first_of}
+use Rattle.value_laws.specs.EventNumbers.{HasSets, HaveValues, StandsAt}
 use Rattle.value_laws.specs.ProgramEvents.{IsEventAt, PlacesAreValues, ValuesArePlaces}
 use Rattle.value_laws.proofs.AtExpressions.{event_worth}
 use Rattle.value_laws.proofs.EventPlaces.{event_found, event_there}
 use Rattle.value_laws.proofs.Fits.{program_fits}
 use Rattle.value_laws.proofs.Fronts.{has_sets}
-use Rattle.value_laws.proofs.Lists.{same_outcome}
 use Rattle.value_laws.proofs.TablePlaces.{numbers_are_places, places_are_numbers}
 use Rattle.csp_atoms.specs.declared.atom.Atom.{Atom}
-use Rattle.csp_atoms.specs.declared.atom.Atom.TheVariants as atom
 use Rattle.csp_atoms.specs.declared.value.Value.{Value}
 use Rattle.csp_atoms.specs.declared.value.Value.TheVariants.{One}
 use Rattle.csp_program.specs.declared.expressions.Expr.{Expr}
@@ -28,7 +25,6 @@ use Rattle.csp_program.specs.declared.expressions.Expr.TheVariants as expr
 use Rattle.csp_program.specs.declared.programs.Channel.{Channel}
 use Rattle.csp_program.specs.declared.programs.Content.{Content}
 use Rattle.csp_program.specs.declared.programs.EventInfo.{EventInfo}
-use Rattle.csp_program.proofs.Outcomes.{came_through}
 use Rattle.csp_base.proofs.Booleans.{is_first, is_second}
 
 none_lacks : (channels : List Channel) (c : ℕ) (sets : List (List Atom)) → IsTrue (all_true (map lacks_sets channels)) → HasSets channels c sets → ⊥
