@@ -23,7 +23,7 @@ use Rattle.csp_program.specs.EventTable.{event_table}
 use Rattle.csp_base.proofs.Lists.{drop_read}
 use Rattle.csp_program.proofs.Outcomes.{and_then_regroup, came_through}
 
-abbrev found : ℕ → Outcome ℕ
+abbrev pub found : ℕ → Outcome ℕ
 found n = Ok n
 
 -- the number of fields after others, where both count so many for one
@@ -87,7 +87,7 @@ stopped p n env (e ∷ es) (set ∷ sets) each x =
     ap (λ m. capped (fields_after p n env es sets each m)) (stops_before x (length set) (place * each) greatest) ∙
     stopped p n env es sets each (x * length set + place * each))
 
-pub fields_end : (p : Content) (n : ℕ) (env : Env) (sets : List (List Atom)) (each number : ℕ) → number < 2 ^ 64 → capped (fields_after p n env [] sets each number) ≡ Ok number
+pub fields_end : (p : Content) (n : ℕ) (env : Env) (sets : List (List Atom)) (each number : ℕ) → number ≤ 2 ^ 64 - 1 → capped (fields_after p n env [] sets each number) ≡ Ok number
 unfolding fields_after
 fields_end p n env sets each number within = let same : min number greatest ≡ number = omega arith in ap (λ m. found m) same
 

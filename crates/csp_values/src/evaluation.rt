@@ -392,8 +392,9 @@ fn eval_event(
 ) -> Result<Value, EvalFault>
     ensures { Gives result (event_worth scope.now.content.now scope.now.uses (env_in names.now) channel fields.now) }
 {
+    let channels = scope.content.channels();
     let first = eval_front(scope, names, channel, fields)?;
-    let count = count_with(scope.content.channels(), channel, fields.len());
+    let count = count_with(channels, channel, fields.len());
     if count == 0 {
         return Err(OUTSIDE);
     }
@@ -658,8 +659,9 @@ fn add_front(
 ) -> Result<AtomSet, EvalFault>
     ensures { Gives result (with_front scope.now.content.now scope.now.uses (env_in names.now) part.now atoms) }
 {
+    let channels = scope.content.channels();
     let first = eval_front(scope, names, part.channel, part.fields.as_slice())?;
-    let count = count_with(scope.content.channels(), part.channel, part.fields.len());
+    let count = count_with(channels, part.channel, part.fields.len());
     with_events(atoms, first, count)
 }
 

@@ -32,21 +32,21 @@ add_front-eval_front-requires t c = (omega (arith, weight_part c.args.part.now c
 pub add_front-returns-in_err-first : goal.add_front-returns-in_err-first
 add_front-returns-in_err-first t c =
     passed _ _ _ _ c.from_residual.ensures.1 c.in_err-first.ensures
-    (λ k e. front_fault c.args.scope.now.content.now c.args.scope.now.uses (env_in c.args.names.now) c.channels.result.now c.channels.ensures.channels c.channels.ensures.fit c.args.part.now c.args.atoms c.as_slice.result.now k c.as_slice.ensures e)
+    (λ k e. front_fault c.args.scope.now.content.now c.args.scope.now.uses (env_in c.args.names.now) c.channels-channels.result.now c.channels-channels.ensures.channels c.channels-channels.ensures.fit c.args.part.now c.args.atoms c.as_slice.result.now k c.as_slice.ensures e)
 
-pub add_front-count_with-requires : goal.add_front-count_with-requires
-add_front-count_with-requires t c =
-    let fits = count_fits c.args.scope.now.content.now c.args.scope.now.uses (env_in c.args.names.now) c.channels.result.now c.channels.ensures.channels c.channels.ensures.fit (out-EventPart c.args.part.now).channel c.as_slice.result.now c.in_ok-first.first c.len.result (c.len.ensures ∙ ap length (sym c.as_slice.ensures)) c.in_ok-first.ensures in
+pub add_front-count_with-count-requires : goal.add_front-count_with-count-requires
+add_front-count_with-count-requires t c =
+    let fits = count_fits c.args.scope.now.content.now c.args.scope.now.uses (env_in c.args.names.now) c.channels-channels.result.now c.channels-channels.ensures.channels c.channels-channels.ensures.fit (out-EventPart c.args.part.now).channel c.as_slice.result.now c.in_ok-first.first c.len.result (c.len.ensures ∙ ap length (sym c.as_slice.ensures)) c.in_ok-first.ensures in
     omega arith
 
 pub add_front-with_events-requires : goal.add_front-with_events-requires
 add_front-with_events-requires t c =
-    let fits = count_fits c.args.scope.now.content.now c.args.scope.now.uses (env_in c.args.names.now) c.channels.result.now c.channels.ensures.channels c.channels.ensures.fit (out-EventPart c.args.part.now).channel c.as_slice.result.now c.in_ok-first.first c.len.result (c.len.ensures ∙ ap length (sym c.as_slice.ensures)) c.in_ok-first.ensures in
+    let fits = count_fits c.args.scope.now.content.now c.args.scope.now.uses (env_in c.args.names.now) c.channels-channels.result.now c.channels-channels.ensures.channels c.channels-channels.ensures.fit (out-EventPart c.args.part.now).channel c.as_slice.result.now c.in_ok-first.first c.len.result (c.len.ensures ∙ ap length (sym c.as_slice.ensures)) c.in_ok-first.ensures in
     omega (arith, c.count_with-count.ensures)
 
 pub add_front-returns : goal.add_front-returns
 add_front-returns t c =
-    same _ _ _ (front_added c.args.scope.now.content.now c.args.scope.now.uses (env_in c.args.names.now) c.channels.result.now c.channels.ensures.channels c.channels.ensures.fit c.args.part.now c.args.atoms c.as_slice.result.now c.in_ok-first.first c.len.result c.count_with-count.result c.as_slice.ensures c.len.ensures
+    same _ _ _ (front_added c.args.scope.now.content.now c.args.scope.now.uses (env_in c.args.names.now) c.channels-channels.result.now c.channels-channels.ensures.channels c.channels-channels.ensures.fit c.args.part.now c.args.atoms c.as_slice.result.now c.in_ok-first.first c.len.result c.count_with-count.result c.as_slice.ensures c.len.ensures
     c.count_with-count.ensures c.in_ok-first.ensures) c.with_events.ensures
 
 pub add_fronts-add_front-requires : goal.add_fronts-add_front-requires
@@ -215,19 +215,23 @@ pub eval_set_op-returns : goal.eval_set_op-returns
 eval_set_op-returns t c = same _ _ _ (λ i. set_of c.args.op (c.in_ok-left.ensures i) (c.in_ok-right.ensures i)) c.set_value.ensures
 
 pub eval_fields-loop-field-init : goal.eval_fields-loop-field-init
-eval_fields-loop-field-init t c = fields_begin c.args.scope.now.content.now c.args.scope.now.uses (env_in c.args.names.now) c.args.fields.now c.args.sets.now c.args.each
+eval_fields-loop-field-init t c = record { within = omega arith; same = fields_begin c.args.scope.now.content.now c.args.scope.now.uses (env_in c.args.names.now) c.args.fields.now c.args.sets.now c.args.each }
 
 pub eval_fields-returns-in_default : goal.eval_fields-returns-in_default
-eval_fields-returns-in_default t c = fields_too_many _ c.args.scope.now.content.now c.args.scope.now.uses (env_in c.args.names.now) c.args.fields.now c.loop-field.rest.now c.args.each c.loop-field.number c.loop-field.field-index c.field-item.result c.loop-field.invariant (omega arith) c.field-item.is c.in_default.ensures.cases
+eval_fields-returns-in_default t c = fields_too_many _ c.args.scope.now.content.now c.args.scope.now.uses (env_in c.args.names.now) c.args.fields.now c.loop-field.rest.now c.args.each c.loop-field.number c.loop-field.field-index c.field-item.result c.loop-field.invariant.same (omega arith) c.field-item.is c.in_default.ensures.cases
 
 pub eval_fields-eval_place-requires : goal.eval_fields-eval_place-requires
 eval_fields-eval_place-requires t c = let lighter = weight_in c.args.fields.now c.loop-field.field-index c.field-item.result (omega arith) c.field-item.is in (omega (arith, lighter), tt)
 
 pub eval_fields-returns-in_err-place : goal.eval_fields-returns-in_err-place
-eval_fields-returns-in_err-place t c = passed _ _ _ _ c.from_residual.ensures.1 c.in_err-place.ensures (λ k e. field_refused _ c.args.scope.now.content.now c.args.scope.now.uses (env_in c.args.names.now) c.args.fields.now c.loop-field.rest.now c.in-Some.set.now c.in-Some.others.now c.args.each c.loop-field.number c.loop-field.field-index c.field-item.result k c.loop-field.invariant (omega arith) c.field-item.is c.in-Some.ensures.cases.0 e)
+eval_fields-returns-in_err-place t c = passed _ _ _ _ c.from_residual.ensures.1 c.in_err-place.ensures (λ k e. field_refused _ c.args.scope.now.content.now c.args.scope.now.uses (env_in c.args.names.now) c.args.fields.now c.loop-field.rest.now c.in-Some.set.now c.in-Some.others.now c.args.each c.loop-field.number c.loop-field.field-index c.field-item.result k c.loop-field.invariant.same (omega arith) c.field-item.is c.in-Some.ensures.cases.0 e)
 
 pub eval_fields-loop-field-preserved : goal.eval_fields-loop-field-preserved
-eval_fields-loop-field-preserved t c = field_taken _ c.args.scope.now.content.now c.args.scope.now.uses (env_in c.args.names.now) c.args.fields.now c.loop-field.rest.now c.in-Some.set.now c.in-Some.others.now c.args.each c.loop-field.number c.with_field.result c.in_ok-place.place c.loop-field.field-index c.field-item.result c.loop-field.invariant (omega arith) c.field-item.is c.in-Some.ensures.cases.0 c.in_ok-place.ensures c.with_field.ensures
+eval_fields-loop-field-preserved t c = record {
+  within = omega (arith, c.with_field-number.ensures);
+  same =
+      field_taken _ c.args.scope.now.content.now c.args.scope.now.uses (env_in c.args.names.now) c.args.fields.now c.loop-field.rest.now c.in-Some.set.now c.in-Some.others.now c.args.each c.loop-field.number c.with_field-number.result c.in_ok-place.place c.loop-field.field-index c.field-item.result c.loop-field.invariant.same (omega arith) c.field-item.is c.in-Some.ensures.cases.0 c.in_ok-place.ensures c.with_field-number.ensures;
+}
 
 pub eval_place-returns-in_err-value : goal.eval_place-returns-in_err-value
 eval_place-returns-in_err-value t c = passed _ _ _ _ c.from_residual.ensures.1 c.in_err-value.ensures (λ k e. ap (λ o. and_then o (λ v. field_place c.args.set.now v)) e)
@@ -240,9 +244,9 @@ eval_choice-returns t c = same _ _ _ (counted_over _ _ c.each_of-each.result c.e
 
 pub eval_fields-returns : goal.eval_fields-returns
 eval_fields-returns t c =
-    c.loop-field.invariant ∙
+    c.loop-field.invariant.same ∙
     (ap (λ es. capped (fields_after c.args.scope.now.content.now c.args.scope.now.uses (env_in c.args.names.now) es c.loop-field.rest.now c.args.each c.loop-field.number)) (drop_of_length-le c.args.fields.now (omega arith)) ∙
-    fields_end c.args.scope.now.content.now c.args.scope.now.uses (env_in c.args.names.now) c.loop-field.rest.now c.args.each c.loop-field.number (omega arith))
+    fields_end c.args.scope.now.content.now c.args.scope.now.uses (env_in c.args.names.now) c.loop-field.rest.now c.args.each c.loop-field.number c.loop-field.invariant.within)
 
 pub eval_front-returns-in_err-place-in-Some : goal.eval_front-returns-in_err-place-in-Some
 eval_front-returns-in_err-place-in-Some t c =
@@ -262,20 +266,20 @@ pub eval_front-returns-in-None : goal.eval_front-returns-in-None
 eval_front-returns-in-None t c = front_without_sets c.args.scope.now.content.now c.args.scope.now.uses (env_in c.args.names.now) c.args.channel c.args.fields.now c.channels-channels.result.now c.channels-channels.ensures.channels c.in-None.ensures
 
 pub eval_event-returns-in_err-first : goal.eval_event-returns-in_err-first
-eval_event-returns-in_err-first t c = passed _ _ _ _ c.from_residual.ensures.1 c.in_err-first.ensures (λ k e. event_fault c.args.scope.now.content.now c.args.scope.now.uses (env_in c.args.names.now) c.channels.result.now c.channels.ensures.channels c.channels.ensures.fit c.args.channel c.args.fields.now k e)
+eval_event-returns-in_err-first t c = passed _ _ _ _ c.from_residual.ensures.1 c.in_err-first.ensures (λ k e. event_fault c.args.scope.now.content.now c.args.scope.now.uses (env_in c.args.names.now) c.channels-channels.result.now c.channels-channels.ensures.channels c.channels-channels.ensures.fit c.args.channel c.args.fields.now k e)
 
-pub eval_event-count_with-requires : goal.eval_event-count_with-requires
-eval_event-count_with-requires t c =
-    let fits = count_fits c.args.scope.now.content.now c.args.scope.now.uses (env_in c.args.names.now) c.channels.result.now c.channels.ensures.channels c.channels.ensures.fit c.args.channel c.args.fields.now c.in_ok-first.first c.len.result c.len.ensures c.in_ok-first.ensures in
+pub eval_event-count_with-count-requires : goal.eval_event-count_with-count-requires
+eval_event-count_with-count-requires t c =
+    let fits = count_fits c.args.scope.now.content.now c.args.scope.now.uses (env_in c.args.names.now) c.channels-channels.result.now c.channels-channels.ensures.channels c.channels-channels.ensures.fit c.args.channel c.args.fields.now c.in_ok-first.first _ refl c.in_ok-first.ensures in
     omega arith
 
 pub eval_event-returns-then-count-eq0 : goal.eval_event-returns-then-count-eq0
 eval_event-returns-then-count-eq0 t c =
-    no_event c.args.scope.now.content.now c.args.scope.now.uses (env_in c.args.names.now) c.channels.result.now c.channels.ensures.channels c.channels.ensures.fit c.args.channel c.args.fields.now c.in_ok-first.first c.len.result c.count_with-count.result c.len.ensures c.count_with-count.ensures c.in_ok-first.ensures c.if-count-eq0.true
+    no_event c.args.scope.now.content.now c.args.scope.now.uses (env_in c.args.names.now) c.channels-channels.result.now c.channels-channels.ensures.channels c.channels-channels.ensures.fit c.args.channel c.args.fields.now c.in_ok-first.first _ c.count_with-count.result refl c.count_with-count.ensures c.in_ok-first.ensures c.if-count-eq0.true
 
 pub eval_event-returns : goal.eval_event-returns
 eval_event-returns t c =
-    an_event c.args.scope.now.content.now c.args.scope.now.uses (env_in c.args.names.now) c.channels.result.now c.channels.ensures.channels c.channels.ensures.fit c.args.channel c.args.fields.now c.in_ok-first.first c.len.result c.count_with-count.result c.len.ensures c.count_with-count.ensures c.in_ok-first.ensures (omega arith)
+    an_event c.args.scope.now.content.now c.args.scope.now.uses (env_in c.args.names.now) c.channels-channels.result.now c.channels-channels.ensures.channels c.channels-channels.ensures.fit c.args.channel c.args.fields.now c.in_ok-first.first _ c.count_with-count.result refl c.count_with-count.ensures c.in_ok-first.ensures (omega arith)
 
 pub eval_use-returns-then-scope-eq0 : goal.eval_use-returns-then-scope-eq0
 eval_use-returns-then-scope-eq0 t c = ap (λ n. use_worth c.args.scope.now.content.now n c.args.def c.args.args.now) c.if-scope-eq0.true ∙ use-none_left c.args.scope.now.content.now c.args.def c.args.args.now
