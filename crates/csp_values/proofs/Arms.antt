@@ -1,5 +1,5 @@
 -- What a call answers for a form, from what calls answer for its parts.
-use Rattle.std.proofs.Common.{◌≡◌, ℕ, zero, suc, ◌+◌, ◌<◌, ◌^◌, Bool, true, false, List, [], Some, None, Ok, Err, map, length, refl, ap, sym, subst, ◌∙◌, arith}
+use Rattle.std.proofs.Common.{◌≡◌, ℕ, zero, suc, ◌+◌, ◌<◌, ◌^◌, Bool, true, false, List, [], None, Ok, Err, map, length, refl, ap, sym, subst, ◌∙◌, arith}
 use Rattle.std.specs.Prelude.{ℤ, if◌then◌else◌, slice_get, Result}
 use Rattle.std.specs.Result.{IsErrAnd}
 use Rattle.csp_program.specs.Atoms.{all_added}

@@ -155,7 +155,7 @@ same_count None p n es = refl
 same_count (Some sets) p n es = ap (λ k. row_count (drop k sets)) (same_length p n es)
 
 -- the events of a front, from the number of the first on
-fronts_of : (p : Content) (n : ℕ) (env : Env) (c : ℕ) (es : List Expr) → ChannelsFit p.channels
+pub fronts_of : (p : Content) (n : ℕ) (env : Env) (c : ℕ) (es : List Expr) → ChannelsFit p.channels
     → front_events p.channels c (meanings p n es) env ≡ and_then (front_worth p n env c es) (λ e. Ok (span e (count_with (sets_of (slice_get p.channels c)) (length es))))
 unfolding front_worth
 fronts_of p n env c es fit =

@@ -33,10 +33,10 @@ fields_after p n env (e ∷ es) [] each number = Err OutsideChannel
 fields_after p n env (e ∷ es) (set ∷ sets) each number =
     and_then (worth p n env e) (λ v. and_then (field_place set v) (λ place. fields_after p n env es sets each (number * length set + place * each)))
 
-one_field : (k l place each : ℕ) → (k * l + place) * each ≡ k * each * l + place * each
+pub one_field : (k l place each : ℕ) → (k * l + place) * each ≡ k * each * l + place * each
 one_field k l place each = omega arith
 
-scaled_place : (o : Outcome ℕ) (f g : ℕ → Outcome ℕ) (each : ℕ) → ((place : ℕ) → scaled (f place) each ≡ g place) → scaled (and_then o f) each ≡ and_then o g
+pub scaled_place : (o : Outcome ℕ) (f g : ℕ → Outcome ℕ) (each : ℕ) → ((place : ℕ) → scaled (f place) each ≡ g place) → scaled (and_then o f) each ≡ and_then o g
 scaled_place (Ok place) f g each h = h place
 scaled_place (Err k) f g each h = refl
 
@@ -59,7 +59,7 @@ pub fields_begin : (p : Content) (n : ℕ) (env : Env) (es : List Expr) (sets : 
 fields_begin p n env es sets each = ap capped (scaled_is p n env es sets each 0 ∙ ap (fields_after p n env es sets each) (omega arith))
 
 -- a number that has stopped gives what the whole one gives
-capped_place : (o : Outcome ℕ) (f g : ℕ → Outcome ℕ) → ((place : ℕ) → capped (f place) ≡ capped (g place)) → capped (and_then o f) ≡ capped (and_then o g)
+pub capped_place : (o : Outcome ℕ) (f g : ℕ → Outcome ℕ) → ((place : ℕ) → capped (f place) ≡ capped (g place)) → capped (and_then o f) ≡ capped (and_then o g)
 capped_place (Ok place) f g h = h place
 capped_place (Err k) f g h = refl
 
@@ -68,13 +68,13 @@ capped_step : (o : Outcome Value) (set : List Atom) (f g : ℕ → Outcome ℕ) 
 capped_step (Ok v) set f g h = capped_place (field_place set v) f g h
 capped_step (Err k) set f g h = refl
 
-stops_before : (x l r most : ℕ) → min (min x most * l + r) most ≡ min (x * l + r) most
+pub stops_before : (x l r most : ℕ) → min (min x most * l + r) most ≡ min (x * l + r) most
 stops_before x l r most = let left = stops_left x l most in omega arith
 
-stops_twice : (x most : ℕ) → min (min x most) most ≡ min x most
+pub stops_twice : (x most : ℕ) → min (min x most) most ≡ min x most
 stops_twice x most = omega arith
 
-abbrev greatest : ℕ
+abbrev pub greatest : ℕ
 greatest = 2 ^ 64 - 1
 
 stopped : (p : Content) (n : ℕ) (env : Env) (es : List Expr) (sets : List (List Atom)) (each x : ℕ) → capped (fields_after p n env es sets each (min x greatest)) ≡ capped (fields_after p n env es sets each x)
@@ -132,12 +132,12 @@ field_taken whole p n env es all set others each number more place i e w lt is s
     ap (λ m. capped (fields_after p n env (drop (i + 1) es) others each m)) (sym counted))
 
 -- where a channel has no event, its first fields have no value or the others leave no choice
-place_in_some : (set : List Atom) (v : Value) (place : ℕ) → field_place set v ≡ Ok place → length set ≡ 0 → ⊥
+pub place_in_some : (set : List Atom) (v : Value) (place : ℕ) → field_place set v ≡ Ok place → length set ≡ 0 → ⊥
 place_in_some [] (One a) place h none = absurd (cc)
 place_in_some [] (Many atoms) place h none = absurd (cc)
 place_in_some (b ∷ set) v place h none = omega arith
 
-other_is_none : (l r : ℕ) → (l ≡ 0 → ⊥) → l * r ≡ 0 → r ≡ 0
+pub other_is_none : (l r : ℕ) → (l ≡ 0 → ⊥) → l * r ≡ 0 → r ≡ 0
 other_is_none zero r some h = absurd (some refl)
 other_is_none (suc l) zero some h = refl
 other_is_none (suc l) (suc r) some h = absurd (omega arith)
@@ -154,13 +154,13 @@ none_left p n env (e ∷ es) (set ∷ sets) k m h none =
 is_zero : (r : ℕ) → nat_eq r 0 ≡ true → r ≡ 0
 is_zero r h = grind arith
 
-each_same : (p : Content) (n : ℕ) (env : Env) (es : List Expr) (sets : List (List Atom)) (o : Outcome ℕ) (given : ℕ) → ((m : ℕ) → o ≡ Ok m → row_count sets ≡ 0 → row_count (drop given sets) ≡ 0) → (b : Bool) → nat_eq (row_count sets) 0 ≡ b
+pub each_same : (sets : List (List Atom)) (o : Outcome ℕ) (given : ℕ) → ((m : ℕ) → o ≡ Ok m → row_count sets ≡ 0 → row_count (drop given sets) ≡ 0) → (b : Bool) → nat_eq (row_count sets) 0 ≡ b
     → scaled o (cond b 0 (row_count (drop given sets))) ≡ and_then o (λ k. Ok (k * row_count (drop given sets)))
-each_same p n env es sets (Err k) given h b is = refl
-each_same p n env es sets (Ok m) given h false is = refl
-each_same p n env es sets (Ok m) given h true is = ap (λ r. found (m * r)) (sym (h m refl (is_zero (row_count sets) is)))
+each_same sets (Err k) given h b is = refl
+each_same sets (Ok m) given h false is = refl
+each_same sets (Ok m) given h true is = ap (λ r. found (m * r)) (sym (h m refl (is_zero (row_count sets) is)))
 
-front_some_then : (fields o : Outcome ℕ) (first each : ℕ) (whole : Outcome ℕ) → whole ≡ and_then fields (λ k. Ok (first + k * each)) → o ≡ and_then fields (λ k. Ok (k * each)) → whole ≡ and_then o (λ place. Ok (first + place))
+pub front_some_then : (fields o : Outcome ℕ) (first each : ℕ) (whole : Outcome ℕ) → whole ≡ and_then fields (λ k. Ok (first + k * each)) → o ≡ and_then fields (λ k. Ok (k * each)) → whole ≡ and_then o (λ place. Ok (first + place))
 front_some_then (Ok k) o first each whole w is = w ∙ ap (λ z. and_then z (λ place. found (first + place))) (sym is)
 front_some_then (Err k) o first each whole w is = w ∙ ap (λ z. and_then z (λ place. found (first + place))) (sym is)
 
@@ -168,7 +168,7 @@ pub front_scaled : (p : Content) (n : ℕ) (env : Env) (c : ℕ) (es : List Expr
     → front_worth p n env c es ≡ and_then o (λ place. Ok (first_of (slice_get p.channels c) + place))
 front_scaled p n env c es sets o has is =
     front_some_then (fields_worth p n env es sets 0) o (first_of (slice_get p.channels c)) (row_count (drop (length es) sets)) (front_worth p n env c es) (front-some p n env c es sets has)
-    (sym is ∙ each_same p n env es sets (fields_worth p n env es sets 0) (length es) (λ m h none. none_left p n env es sets 0 m h none) (nat_eq (row_count sets) 0) refl)
+    (sym is ∙ each_same sets (fields_worth p n env es sets 0) (length es) (λ m h none. none_left p n env es sets 0 m h none) (nat_eq (row_count sets) 0) refl)
 
 -- ---- numbers of events that fit
 
@@ -180,7 +180,7 @@ counted_over (Ok k) count each is =
     let same : min (k * count) greatest ≡ min (k * each) greatest = ap (λ m. min m greatest) (omega arith) ∙ sym stops ∙ ap (λ m. min (m * k) greatest) (sym is) ∙ ap (λ m. min m greatest) (omega arith) in
     ap (λ m. found m) same
 
-same_number : (m k most place : ℕ) → found (min k most) ≡ found place → m + k < most → place ≡ k
+pub same_number : (m k most place : ℕ) → found (min k most) ≡ found place → m + k < most → place ≡ k
 same_number m k most place h within = let is : min k most ≡ place = same_found (min k most) place h in omega arith
 
 below : (e count total : ℕ) → e + count ≤ total → total < 2 ^ 32 → e + count < 2 ^ 32
@@ -212,7 +212,7 @@ front_placed p n env c es sets channels place got fit has is =
     let first : first_of (slice_get p.channels c) ≡ first_of (slice_get channels c) = ap (λ cs. first_of (slice_get cs c)) (sym got) in
     place_found p n env c es o (first_of (slice_get channels c)) place (subst ChannelsFit got fit) (front_scaled p n env c es sets o has_sets refl ∙ ap (λ m. and_then o (λ k. found (m + k))) first) is
 
-capped_fault : (o : Outcome ℕ) (k : ValueKind) → capped o ≡ Err k → o ≡ Err k
+pub capped_fault : (o : Outcome ℕ) (k : ValueKind) → capped o ≡ Err k → o ≡ Err k
 capped_fault (Err j) k h = cc
 capped_fault (Ok m) k h = absurd (cc)
 
