@@ -20,7 +20,7 @@ use csp_atoms::{Atom, AtomSet};
 use csp_program::{Expr, Field, Program, ValueKind};
 use csp_values::{EvalFault, eval_under};
 use std::alloc::Global;
-use value_operators::numbers::{place_in, with_field};
+use value_operators::numbers::place_in;
 use value_operators::operators::to_set;
 
 const OUTSIDE: EvalFault = EvalFault::Value {
@@ -109,7 +109,13 @@ fn values_given(
 pub(crate) fn number_after(number: u64, set: &AtomSet, place: u64) -> Result<u64, EvalFault>
     ensures { Gives result (Ok (number * length set.now + place)) }
 {
-    with_field(number, set, place, 1)
+    let Some(before) = number.checked_mul(set.len() as u64) else {
+        return Err(EvalFault::NoMemory);
+    };
+    match before.checked_add(place) {
+        Some(number) => Ok(number),
+        None => Err(EvalFault::NoMemory),
+    }
 }
 
 // The number of fields with one more, which has the value of an output.
