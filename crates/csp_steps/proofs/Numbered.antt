@@ -1,5 +1,5 @@
 -- The ways to fill fields, by the values of their events and by the numbers of their events.
-use Rattle.std.proofs.Common.{◌≡◌, ℕ, ◌+◌, ◌*◌, Bool, true, false, cond, Option, Some, None, Ok, Err, List, [], ◌∷◌, ◌++◌, map, length, slice_get, refl, ap, sym, ◌∙◌, append_assoc, append-nil, arith}
+use Rattle.std.proofs.Common.{◌≡◌, ℕ, suc, ◌+◌, ◌*◌, Bool, true, false, cond, Option, Some, None, Ok, Err, List, [], ◌∷◌, ◌++◌, map, length, slice_get, refl, ap, sym, ◌∙◌, append_assoc, append-nil, arith}
 use Rattle.std.specs.Prelude.{is_some, if◌then◌else◌}
 use Rattle.std.proofs.lemmas.List.{map-append}
 use Rattle.csp_atoms.proofs.SearchLaws.{has_place}
@@ -69,11 +69,11 @@ each_moved f g given next next' k (a ∷ set) same =
 
 -- an event that is found by values, and by the place of these among all choices of values
 module _ (p : Content) (event : List Atom → ℕ) (first : ℕ) where
-  by_row : prefix.Way → Move
+  abbrev by_row : prefix.Way → Move
   by_row w = (Visible (event w.0), w.1)
 
   -- the values before the sets are the row, and have the number n
-  Counts : List (List Atom) → List Atom → ℕ → Type 0
+  abbrev Counts : List (List Atom) → List Atom → ℕ → Type 0
   Counts sets row n = (j : ℕ) (rest : List Atom) → slice_get (rows sets) j ≡ Some rest → event (row ++ rest) ≡ first + (n * row_count sets + j)
 
   one_more : (set : List Atom) (sets : List (List Atom)) (row : List Atom) (n k : ℕ) (a : Atom) → Counts (set ∷ sets) row n → slice_get set k ≡ Some a → Counts sets (row ++ a ∷ []) (n * length set + k)
@@ -82,7 +82,7 @@ module _ (p : Content) (event : List Atom → ℕ) (first : ℕ) where
       counts (k * row_count sets + j) (a ∷ rest) (to_rows set sets k a j rest at there (k * row_count sets + j) refl) ∙
       ap (λ (m : ℕ). first + m) (omega arith)
 
-  Same : List (List Atom) → List Field → Proc → List Atom → ℕ → Type 0
+  abbrev Same : List (List Atom) → List Field → Proc → List Atom → ℕ → Type 0
   Same sets fields q row n = moved by_row (ways_to_fill p sets fields q row) ≡ moved (event_move first) (ways_by_number p sets fields q n)
 
   at_field : (o : Outcome ℕ) (set : List Atom) (sets : List (List Atom)) (fields : List Field) (q : Proc) (row : List Atom) (n : ℕ) (v : Value) → field_place set v ≡ o

@@ -5,11 +5,11 @@ ghost use Rattle.csp_atoms.specs.declared.atom.Atom.{Atom};
 ghost use Rattle.csp_program.specs.EventTable as meant;
 ghost use Rattle.event_tables.specs.Spread.{extended};
 
-use value_operators::numbers::row_count;
 use containers::Items;
 use csp_atoms::{Atom, AtomSet};
 use csp_base::NoMemory;
 use std::alloc::Global;
+use value_operators::numbers::row_count;
 
 /// The lists that take one value from each set, the first set slowest.
 pub fn rows(alloc: Global, sets: &[AtomSet]) -> Result<Vec<Items<Atom>>, NoMemory>

@@ -19,9 +19,7 @@ use csp_program::copies::copy_value;
 use csp_program::{EventInfo, EventPart, Program, ValueKind};
 use csp_values::{EvalFault, eval_all_under, front_under};
 use std::alloc::Global;
-use value_operators::numbers::{
-    count_with, each_of, event_at, field_sets, place_in, with_field,
-};
+use value_operators::numbers::{count_with, each_of, event_at, field_sets, place_in, with_field};
 
 const KIND: EvalFault = EvalFault::Value {
     kind: ValueKind::Kind,
