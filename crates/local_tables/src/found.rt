@@ -1,6 +1,6 @@
 //! What an exploration has found so far, and the terms that come to it.
 
-ghost use Rattle.std.specs.Prelude.{◌≡◌, ◌<◌, ◌≤◌, ◌^◌, ℕ, Some, [], length, slice_get, IfOk, IfErr, OnOk};
+ghost use Rattle.std.specs.Prelude.{◌≡◌, ◌+◌, ◌<◌, ◌≤◌, ◌^◌, ℕ, Some, [], length, slice_get, IfOk, IfErr, OnOk};
 ghost use Rattle.dl_limits.specs.declared.TheConstants.{MOST_TERMS};
 ghost use Rattle.term_pool.specs.Pooled.{AreDifferent};
 ghost use Rattle.local_tables.specs.Component.{component};
@@ -92,7 +92,7 @@ pub(crate) fn term_number(
     ensures stop { IfErr result (StopsAt task.now.program.now (component task.now.alphabet.now task.now.start.now) task.now.room found.new) }
 {
     if let Some(number) = found.terms.find(&to) {
-        return Ok(number);
+        return Ok(number as u32);
     }
     admit(task, found, from, event, to)
 }
@@ -138,13 +138,14 @@ fn add(found: &mut Found, origin: (u32, Option<Event>), to: ProcId) -> Result<u3
     let number = found.terms.number(to)?;
     found.table.add_term();
     found.nodes += u64::from(found.pool.size(to));
-    Ok(number)
+    Ok(number as u32)
 }
 
 // Whether the terms are within the limits and the room, where those before the newest are.
 fn check(task: &Task<'_>, found: &Found, newest: ProcId) -> Result<(), Stop>
     requires so_far { IsSoFar task.now.program.now (component task.now.alphabet.now task.now.start.now) found.now }
     requires known { (k : ℕ) × (slice_get found.now.terms k ≡ Some newest) }
+    requires few { length found.now.terms ≤ MOST_TERMS + 1 }
     ensures fitting { OnOk result (IsFitting task.now.room found.now newest) }
     ensures stop { IfErr result (StopsAt task.now.program.now (component task.now.alphabet.now task.now.start.now) task.now.room found.now) }
 {
