@@ -164,7 +164,11 @@ pub(crate) fn renamed_number(
 }
 
 // Keeps the number for the place that the step leads to, unless it is a tick.
-fn note_step(numbers: &mut HashMap<usize, usize>, number: usize, step: StepTo) -> Result<(), NoMemory>
+fn note_step(
+    numbers: &mut HashMap<usize, usize>,
+    number: usize,
+    step: StepTo,
+) -> Result<(), NoMemory>
     ensures { OnOk result (HasMoreNumbers numbers.old numbers.new number (step ∷ [])) }
 {
     match step.label {

@@ -75,7 +75,11 @@ impl Explored {
 }
 
 // The events along the way to the pair in this place.
-fn events_to(alloc: Global, origins: &[(usize, Event)], place: usize) -> Result<Vec<Event>, NoMemory>
+fn events_to(
+    alloc: Global,
+    origins: &[(usize, Event)],
+    place: usize,
+) -> Result<Vec<Event>, NoMemory>
     requires within { place < length origins.now + 1 }
     requires earlier { (k : ℕ) → k < length origins.now → (pair_at origins.now k).0 ≤ k }
     ensures { (table : List Node) (step : ℕ → ℕ → ℕ) (start : ℕ) (pairs : List (ℕ × ℕ)) → AreFound table step start (record { pairs = pairs; origins = origins.now })

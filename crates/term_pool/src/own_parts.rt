@@ -84,7 +84,11 @@ fn keep_expr(parts: &mut OwnParts, alloc: Global, part: &Expr) -> Result<usize, 
 }
 
 // The number of arguments.
-fn keep_arguments(parts: &mut OwnParts, alloc: Global, part: &Items<Expr>) -> Result<usize, NoMemory>
+fn keep_arguments(
+    parts: &mut OwnParts,
+    alloc: Global,
+    part: &Items<Expr>,
+) -> Result<usize, NoMemory>
     ensures start { PartsStart parts.old parts.new }
     ensures place { IfOk result (λ place. slice_get parts.new.arguments place ≡ Some part.now) }
     ensures err_only_new { OnErr result (StandsIn parts.old.arguments part.now → ⊥) }
