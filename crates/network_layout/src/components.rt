@@ -6,6 +6,7 @@ ghost use Rattle.std.specs.List.{range_with_len};
 ghost use Rattle.network_trees.specs.NetworkOf.{all_events, network_of, tree_within};
 ghost use Rattle.network_layout.specs.Lays.{AreSeats, Fails};
 
+use crate::fault::Unlaid;
 use crate::nesting::short;
 use crate::seat::{Layout, Seat};
 use crate::values::Scope;
@@ -37,7 +38,7 @@ fn all_events(alloc: Global, program: &Program) -> Result<EventSet, NoMemory>
 }
 
 // The components that the walk of a program's network meets.
-fn seats_of(alloc: Global, program: &Program) -> Result<Items<Seat>, LayoutFault>
+fn seats_of(alloc: Global, program: &Program) -> Result<Items<Seat>, Unlaid>
     ensures seats { IfOk result (AreSeats (tree_within program.now MOST_NETWORK_DEPTH 0 (all_events program.now) program.now.root)) }
     ensures few { IfOk result (λ seats. length seats ≤ MOST_COMPONENTS) }
     ensures fault { IfErr result (λ fault. Fails fault (tree_within program.now MOST_NETWORK_DEPTH 0 (all_events program.now) program.now.root)) }
@@ -56,13 +57,13 @@ fn seats_of(alloc: Global, program: &Program) -> Result<Items<Seat>, LayoutFault
 }
 
 /// The components of the network that a program spells, from left to right. A fault is the first that the walk of the network meets.
-pub fn layout(alloc: Global, program: &Program) -> Result<Layout, LayoutFault>
+pub fn layout(alloc: Global, program: &Program) -> Result<Layout, Unlaid>
     ensures seats { IfOk result (AreSeats (network_of program.now)) }
     ensures fault { IfErr result (λ fault. Fails fault (network_of program.now)) }
 {
     let seats = seats_of(alloc, program)?;
     if seats.is_empty() {
-        return Err(LayoutFault::EmptyNetwork);
+        return Err(Unlaid::Refused(LayoutFault::EmptyNetwork));
     }
     let layout = Layout::new(alloc, seats)?;
     Ok(layout)

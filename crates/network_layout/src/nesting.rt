@@ -4,6 +4,7 @@ ghost use Rattle.std.specs.Prelude.{◌≡◌, ◌≤◌, ◌-◌, IfOk};
 ghost use Rattle.network_trees.specs.Joint.{lesser, odd_event};
 ghost use Rattle.network_layout.specs.Lays.{Agrees};
 
+use crate::fault::Unlaid;
 use csp_base::{Event, EventSet, NoMemory};
 use network_trees::LayoutFault;
 use std::alloc::Global;
@@ -45,7 +46,7 @@ pub(crate) fn agree(
     end: usize,
     given: &EventSet,
     joint: &EventSet,
-) -> Result<(), LayoutFault>
+) -> Result<(), Unlaid>
     requires { first ≤ end }
     ensures { Agrees result first (end - first) (odd_event given.now joint.now) }
 {
@@ -54,9 +55,9 @@ pub(crate) fn agree(
     };
     let count = short(end - first)?;
     let first = short(first)?;
-    Err(LayoutFault::BadNesting {
+    Err(Unlaid::Refused(LayoutFault::BadNesting {
         first,
         count,
         event,
-    })
+    }))
 }

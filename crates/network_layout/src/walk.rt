@@ -4,10 +4,11 @@ ghost use Rattle.std.specs.Prelude.{◌≡◌, [], IfErr, IfOk, length};
 ghost use Rattle.csp_base.specs.Events.{union_of};
 ghost use Rattle.csp_program.specs.declared.networks.Net.TheOpen.{Net-F};
 ghost use Rattle.network_trees.specs.NetworkOf.{next_component, tree_within};
-ghost use Rattle.network_trees.specs.declared.fault.LayoutFault.TheVariants.{NoMemory as OutOfMemory};
+ghost use Rattle.network_layout.specs.declared.fault.Unlaid.TheVariants as unlaid;
 ghost use Rattle.network_layout.specs.Lays.{Lays, node, one_operand, operand_walked, operands_each, two};
 
 use crate::calls::{called, operand_at};
+use crate::fault::Unlaid;
 use crate::nesting::agree;
 use crate::seat::Seat;
 use crate::values::{Scope, both_events, set, truth};
@@ -20,7 +21,7 @@ use dl_limits::MOST_COMPONENTS;
 use network_trees::LayoutFault;
 use std::alloc::Global;
 
-const TOO_DEEP: LayoutFault = LayoutFault::NetworkDepth;
+const TOO_DEEP: Unlaid = Unlaid::Refused(LayoutFault::NetworkDepth);
 
 // A component.
 fn seat_of(alloc: Global, process: &Proc, alphabet: &EventSet) -> Result<Seat, NoMemory>
@@ -32,9 +33,9 @@ fn seat_of(alloc: Global, process: &Proc, alphabet: &EventSet) -> Result<Seat, N
 }
 
 // The events of two alphabets together.
-fn both(scope: &Scope<'_>, left: &EventSet, right: &EventSet) -> Result<EventSet, LayoutFault>
+fn both(scope: &Scope<'_>, left: &EventSet, right: &EventSet) -> Result<EventSet, Unlaid>
     ensures joint { IfOk result (λ made. made ≡ union_of left.now right.now) }
-    ensures fault { IfErr result (λ fault. fault ≡ OutOfMemory) }
+    ensures fault { IfErr result (λ fault. fault ≡ unlaid.NoMemory) }
 {
     let joint = left.union(scope.alloc, right)?;
     Ok(joint)
@@ -46,11 +47,11 @@ fn sit(
     process: &Proc,
     alphabet: &EventSet,
     seats: &mut Items<Seat>,
-) -> Result<EventSet, LayoutFault>
+) -> Result<EventSet, Unlaid>
     ensures { Lays result (next_component (length seats.old) alphabet.now process.now) seats.old seats.new }
 {
     if seats.len() >= MOST_COMPONENTS {
-        return Err(LayoutFault::ComponentLimit);
+        return Err(Unlaid::Refused(LayoutFault::ComponentLimit));
     }
     seats.push_made(seat_of(scope.alloc, process, alphabet))?;
     both(scope, alphabet, &EventSet::new(scope.alloc))
@@ -62,7 +63,7 @@ fn walk_leaf(
     net: &Net,
     alphabet: &EventSet,
     seats: &mut Items<Seat>,
-) -> Result<EventSet, LayoutFault>
+) -> Result<EventSet, Unlaid>
     ensures { Lays result (tree_within scope.now.program.now 0 (length seats.old) alphabet.now net.now) seats.old seats.new }
 {
     match net {
@@ -82,7 +83,7 @@ pub(crate) fn walk(
     net: &Net,
     alphabet: &EventSet,
     seats: &mut Items<Seat>,
-) -> Result<EventSet, LayoutFault>
+) -> Result<EventSet, Unlaid>
     ensures { Lays result (tree_within scope.now.program.now levels (length seats.old) alphabet.now net.now) seats.old seats.new }
 {
     if levels == 0 {
@@ -107,7 +108,7 @@ fn walk_call(
     args: &[Expr],
     alphabet: &EventSet,
     seats: &mut Items<Seat>,
-) -> Result<EventSet, LayoutFault>
+) -> Result<EventSet, Unlaid>
     ensures { Lays result (node scope.now.program.now levels (length seats.old) alphabet.now (Net-F.Call def args.now)) seats.old seats.new }
 {
     let net = called(scope, def, args)?;
@@ -124,7 +125,7 @@ fn walk_if(
     right: &Net,
     alphabet: &EventSet,
     seats: &mut Items<Seat>,
-) -> Result<EventSet, LayoutFault>
+) -> Result<EventSet, Unlaid>
     ensures { Lays result (node scope.now.program.now levels (length seats.old) alphabet.now (Net-F.If condition.now left.now right.now)) seats.old seats.new }
 {
     let holds = truth(scope, condition)?;
@@ -142,7 +143,7 @@ fn operand(
     net: &Net,
     alphabet: &EventSet,
     seats: &mut Items<Seat>,
-) -> Result<EventSet, LayoutFault>
+) -> Result<EventSet, Unlaid>
     ensures { Lays result (operand_walked scope.now.program.now levels (length seats.old) alphabet.now net.now) seats.old seats.new }
 {
     let first = seats.len();
@@ -161,7 +162,7 @@ fn walk_pair(
     right_alphabet: &Expr,
     right: &Net,
     seats: &mut Items<Seat>,
-) -> Result<EventSet, LayoutFault>
+) -> Result<EventSet, Unlaid>
     ensures { Lays result (node scope.now.program.now levels (length seats.old) [] (Net-F.Pair left.now left_alphabet.now right_alphabet.now right.now)) seats.old seats.new }
 {
     let alphabets = both_events(scope, left_alphabet, right_alphabet)?;
@@ -186,7 +187,7 @@ fn walk_both(
     right: &Net,
     right_alphabet: &EventSet,
     seats: &mut Items<Seat>,
-) -> Result<EventSet, LayoutFault>
+) -> Result<EventSet, Unlaid>
     ensures { Lays result (two scope.now.program.now levels (length seats.old) left_alphabet.now left.now right_alphabet.now right.now) seats.old seats.new }
 {
     let first = operand(scope, levels, left, left_alphabet, seats)?;
@@ -204,7 +205,7 @@ fn walk_set(
     alphabet: &Expr,
     net: &Net,
     seats: &mut Items<Seat>,
-) -> Result<EventSet, LayoutFault>
+) -> Result<EventSet, Unlaid>
     ensures { Lays result (node scope.now.program.now levels (length seats.old) [] (Net-F.Each name values.now alphabet.now net.now)) seats.old seats.new }
 {
     let atoms = set(scope, values)?;
@@ -221,7 +222,7 @@ fn walk_each(
     alphabet: &Expr,
     net: &Net,
     seats: &mut Items<Seat>,
-) -> Result<EventSet, LayoutFault>
+) -> Result<EventSet, Unlaid>
     ensures { Lays result (operands_each scope.now.program.now levels (length seats.old) name alphabet.now net.now atoms.now) seats.old seats.new }
 {
     let mut joint = EventSet::new(scope.alloc);
@@ -242,7 +243,7 @@ fn walk_one(
     alphabet: &Expr,
     net: &Net,
     seats: &mut Items<Seat>,
-) -> Result<EventSet, LayoutFault>
+) -> Result<EventSet, Unlaid>
     ensures { Lays result (one_operand scope.now.program.now levels (length seats.old) name alphabet.now net.now atom.now) seats.old seats.new }
 {
     let part = operand_at(scope, alphabet, net, name, atom)?;

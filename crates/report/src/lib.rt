@@ -12,7 +12,7 @@ mod shortfalls;
 mod stop;
 
 pub use answer::{
-    Answer, ComponentFault, Done, NetworkFault, OutsideFault, PrintedMove, PrintedNode, Refusal,
+    Answer, Done, OutsideFault, PrintedMove, PrintedNode, Refusal,
     Shortfall, Side, Site,
 };
 pub use events::event_text;
