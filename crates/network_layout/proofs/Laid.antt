@@ -10,7 +10,6 @@ use Rattle.csp_tables.specs.Network.Tree.{leaf, parallel}
 use Rattle.csp_tables.specs.Network.Operands.{none, operand}
 use Rattle.network_trees.specs.Joint.{joint, odd_event}
 use Rattle.network_trees.specs.NetworkOf.{Walked, agreed, next_component, goes_on, nested, operand_first, side_by_side, tree_within}
-use Rattle.network_trees.proofs.InOrder.{makes_tree}
 use Rattle.network_layout.specs.Lays.{Differs, Fails, IsLaid, Lays, operand_walked, two}
 use Rattle.network_layout.proofs.Passed.{lays_fault}
 use Rattle.network_layout.proofs.Together.{joint-append}
@@ -134,12 +133,3 @@ module _ (p : Content) (levels : ℕ) (left : List ℕ) (n : Net) (right : List 
         together = together ∙ (ap (λ xs. union_of xs next) one.together ∙ (ap (union_of (joint (leaves one.tree))) other.together ∙
             (sym (joint-append (leaves one.tree) (leaves other.tree)) ∙ ap (λ xs. joint (leaves one.tree ++ xs)) (sym (append-nil (leaves other.tree))))));
       }
-
--- ---- how many components there are
-
-pub few_seats : (p : Content) (levels : ℕ) (alphabet : List ℕ) (n : Net) (old new : List (Component Proc)) (events : List ℕ)
-    → length old ≤ 512 → IsLaid (tree_within p levels (length old) alphabet n) old new events → length new ≤ 512
-few_seats p levels alphabet n old new events fits laid =
-    let more : length new ≡ length old + length (leaves laid.tree) = grown_by (tree_within p levels (length old) alphabet n) old new events laid in
-    let few : length old + length (leaves laid.tree) ≤ 512 = (makes_tree p levels alphabet n (length old) laid.tree fits laid.made).few in
-    omega arith

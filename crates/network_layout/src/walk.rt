@@ -10,9 +10,8 @@ ghost use Rattle.network_layout.specs.Lays.{Lays, node, one_operand, operand_wal
 use crate::calls::{called, operand_at};
 use crate::fault::Unlaid;
 use crate::nesting::agree;
-use crate::seat::Seat;
+use crate::seat::{Seat, Seats};
 use crate::values::{Scope, both_events, set, truth};
-use containers::Items;
 use csp_atoms::Atom;
 use csp_base::{EventSet, NoMemory};
 use csp_program::proc_copies::copy_boxed_proc;
@@ -46,7 +45,7 @@ fn sit(
     scope: &Scope<'_>,
     process: &Proc,
     alphabet: &EventSet,
-    seats: &mut Items<Seat>,
+    seats: &mut Seats,
 ) -> Result<EventSet, Unlaid>
     ensures { Lays result (next_component (length seats.old) alphabet.now process.now) seats.old seats.new }
 {
@@ -62,7 +61,7 @@ fn walk_leaf(
     scope: &Scope<'_>,
     net: &Net,
     alphabet: &EventSet,
-    seats: &mut Items<Seat>,
+    seats: &mut Seats,
 ) -> Result<EventSet, Unlaid>
     ensures { Lays result (tree_within scope.now.program.now 0 (length seats.old) alphabet.now net.now) seats.old seats.new }
 {
@@ -82,7 +81,7 @@ pub(crate) fn walk(
     levels: u32,
     net: &Net,
     alphabet: &EventSet,
-    seats: &mut Items<Seat>,
+    seats: &mut Seats,
 ) -> Result<EventSet, Unlaid>
     ensures { Lays result (tree_within scope.now.program.now levels (length seats.old) alphabet.now net.now) seats.old seats.new }
 {
@@ -107,7 +106,7 @@ fn walk_call(
     def: u32,
     args: &[Expr],
     alphabet: &EventSet,
-    seats: &mut Items<Seat>,
+    seats: &mut Seats,
 ) -> Result<EventSet, Unlaid>
     ensures { Lays result (node scope.now.program.now levels (length seats.old) alphabet.now (Net-F.Call def args.now)) seats.old seats.new }
 {
@@ -124,7 +123,7 @@ fn walk_if(
     left: &Net,
     right: &Net,
     alphabet: &EventSet,
-    seats: &mut Items<Seat>,
+    seats: &mut Seats,
 ) -> Result<EventSet, Unlaid>
     ensures { Lays result (node scope.now.program.now levels (length seats.old) alphabet.now (Net-F.If condition.now left.now right.now)) seats.old seats.new }
 {
@@ -142,7 +141,7 @@ fn operand(
     levels: u32,
     net: &Net,
     alphabet: &EventSet,
-    seats: &mut Items<Seat>,
+    seats: &mut Seats,
 ) -> Result<EventSet, Unlaid>
     ensures { Lays result (operand_walked scope.now.program.now levels (length seats.old) alphabet.now net.now) seats.old seats.new }
 {
@@ -161,7 +160,7 @@ fn walk_pair(
     left_alphabet: &Expr,
     right_alphabet: &Expr,
     right: &Net,
-    seats: &mut Items<Seat>,
+    seats: &mut Seats,
 ) -> Result<EventSet, Unlaid>
     ensures { Lays result (node scope.now.program.now levels (length seats.old) [] (Net-F.Pair left.now left_alphabet.now right_alphabet.now right.now)) seats.old seats.new }
 {
@@ -186,7 +185,7 @@ fn walk_both(
     left_alphabet: &EventSet,
     right: &Net,
     right_alphabet: &EventSet,
-    seats: &mut Items<Seat>,
+    seats: &mut Seats,
 ) -> Result<EventSet, Unlaid>
     ensures { Lays result (two scope.now.program.now levels (length seats.old) left_alphabet.now left.now right_alphabet.now right.now) seats.old seats.new }
 {
@@ -204,7 +203,7 @@ fn walk_set(
     values: &Expr,
     alphabet: &Expr,
     net: &Net,
-    seats: &mut Items<Seat>,
+    seats: &mut Seats,
 ) -> Result<EventSet, Unlaid>
     ensures { Lays result (node scope.now.program.now levels (length seats.old) [] (Net-F.Each name values.now alphabet.now net.now)) seats.old seats.new }
 {
@@ -221,7 +220,7 @@ fn walk_each(
     atoms: &[Atom],
     alphabet: &Expr,
     net: &Net,
-    seats: &mut Items<Seat>,
+    seats: &mut Seats,
 ) -> Result<EventSet, Unlaid>
     ensures { Lays result (operands_each scope.now.program.now levels (length seats.old) name alphabet.now net.now atoms.now) seats.old seats.new }
 {
@@ -242,7 +241,7 @@ fn walk_one(
     atom: &Atom,
     alphabet: &Expr,
     net: &Net,
-    seats: &mut Items<Seat>,
+    seats: &mut Seats,
 ) -> Result<EventSet, Unlaid>
     ensures { Lays result (one_operand scope.now.program.now levels (length seats.old) name alphabet.now net.now atom.now) seats.old seats.new }
 {
