@@ -1,15 +1,12 @@
 -- Components that have their tables: no term that they reach ends or lacks a value, and no fault tells the truth of them.
-use Rattle.std.proofs.Common.{◌≡◌, ℕ, zero, suc, ◌+◌, ◌<◌, ◌≤◌, ◌-◌, Ok, Err, List, [], ◌∷◌, Some, length, take, slice_get, inl, inr, refl, sym, ap, subst, ◌∙◌, arith}
-use Rattle.std.specs.Prelude.{map}
+use Rattle.std.proofs.Common.{◌≡◌, ℕ, zero, suc, ◌<◌, ◌≤◌, ◌-◌, Ok, Err, List, [], ◌∷◌, Some, take, slice_get, inl, inr, refl, sym, ap, subst, ◌∙◌, arith}
 use Rattle.std.proofs.lemmas.Bool.{cases_lt}
 use Rattle.std.proofs.lemmas.Option.{none-some, same_Some}
-use Rattle.csp_base.specs.Lists.{greatest, total}
+use Rattle.csp_base.specs.Lists.{greatest}
 use Rattle.csp_program.specs.Outcome.{Outcome}
-use Rattle.csp_program.specs.Size.{proc_size}
 use Rattle.csp_program.specs.declared.kinds.ValueKind.{ValueKind}
 use Rattle.csp_program.specs.declared.processes.Proc.{Proc}
 use Rattle.csp_program.specs.declared.programs.Content.{Content}
-use Rattle.csp_tables.specs.Label.{Label}
 use Rattle.csp_tables.specs.Label.Label.{silent}
 use Rattle.csp_tables.specs.Network.{Component, ComponentStep}
 use Rattle.csp_tables.specs.Path.{Reached, SilentStep, Silently}
@@ -17,7 +14,7 @@ use Rattle.csp_tables.specs.RawTable.{IsTableOf, RawStep, RawTable, standing_at}
 use Rattle.csp_tables.specs.Trace.{visible_events}
 use Rattle.digraph.specs.Circle.{IsCircle, Leads}
 use Rattle.digraph.specs.Walk.{Walk}
-use Rattle.local_tables.specs.Component.{AreSteps, AreTerms, HasList, step_count}
+use Rattle.local_tables.specs.Component.{AreSteps, AreTerms, HasList}
 use Rattle.local_tables.specs.LocalTable.{IsLocalTable}
 use Rattle.local_tables.specs.declared.local_table.LocalTable.{LocalTable}
 use Rattle.local_tables.specs.declared.local_table.Room.{Room}
@@ -28,7 +25,7 @@ use Rattle.net_sound.proofs.Soundness.{path_alphabet}
 use Rattle.network_tables.specs.Tables.{AreTablesOf, AreTablesWithin, HasTable, IsTableWithin, room_after, room_left, whole_room}
 use Rattle.network_tables.specs.declared.component_tables.ComponentTable.{ComponentTable}
 use Rattle.process_steps.specs.declared.component_fault.ComponentFault.TheVariants as fault
-use Rattle.process_steps.specs.ComponentStep.{ProcessStep, Ticks}
+use Rattle.process_steps.specs.ComponentStep.{ProcessStep}
 use Rattle.process_steps.specs.StepList.{Move, steps_of}
 use Rattle.judgement_laws.specs.Lasting.{AllGoOn, GoesOn}
 use Rattle.judgement_laws.specs.Laws.{FaultsExcludeAllTables}

@@ -16,7 +16,6 @@ use Rattle.local_tables.specs.Progress.{AreFollowed, ArePart, IsUpTo, Origin, co
 use Rattle.local_tables.specs.declared.found.Found.{Found}
 use Rattle.local_tables.specs.declared.local_table.LocalTable.{LocalTable}
 use Rattle.local_tables.specs.declared.local_table.Room.{Room}
-use Rattle.local_tables.proofs.Lists.{one_at}
 use Rattle.std.proofs.lemmas.List.{length-map}
 use Rattle.csp_base.specs.Lists.{total}
 

@@ -1,6 +1,6 @@
 //! The exploration of a component.
 
-ghost use Rattle.std.specs.Prelude.{[], ◌≡◌, ◌+◌, ◌<◌, ◌≤◌, ◌^◌, ◌↔◌, ℕ, Some, length, slice_get, IfOk, IfErr, IsTrue, OnOk};
+ghost use Rattle.std.specs.Prelude.{[], ◌≡◌, ◌+◌, ◌<◌, ◌^◌, ◌↔◌, ℕ, Some, length, slice_get, IfOk, IfErr, IsTrue, OnOk};
 ghost use Rattle.csp_steps.specs.Evaluated.{Fits};
 ghost use Rattle.csp_tables.specs.RawTable.{RawStep};
 ghost use Rattle.local_tables.specs.Component.{component, step_count};

@@ -8,30 +8,22 @@ use Rattle.csp_tables.specs.Network.{Component, Tree, leaves}
 use Rattle.csp_tables.specs.Shape.{Shape}
 use Rattle.csp_tables.specs.ShapeOf.{IsShapeOf}
 use Rattle.csp_text.specs.declared.script.Script.{Script}
-use Rattle.network_layout.specs.Lays.{Fails}
 use Rattle.network_layout.specs.Triple.{SharesEvent, alphabets}
 use Rattle.network_layout.specs.declared.triple.TripleFault.{TripleFault}
 use Rattle.network_layout.specs.declared.triple.TripleFault.TheVariants as triple
 use Rattle.network_shape.proofs.TrueStops.{stops_are_true}
 use Rattle.network_shape.specs.Stops.{StopsFirst}
-use Rattle.network_tables.specs.Faults.{TellsTable}
-use Rattle.network_tables.specs.declared.fault.TableFault.{TableFault}
-use Rattle.network_tables.specs.declared.fault.TableFault.TheVariants as tables
 use Rattle.process_steps.specs.ComponentStep.{ProcessStep}
 use Rattle.network_shape.specs.declared.fault.BusyFault.{BusyFault}
 use Rattle.network_shape.specs.declared.fault.BusyFault.TheVariants as busy
-use Rattle.network_trees.specs.NetworkOf.{network_of}
-use Rattle.network_trees.specs.declared.fault.LayoutFault.{LayoutFault}
-use Rattle.network_trees.specs.declared.fault.LayoutFault.TheVariants as layout
 use Rattle.report.specs.Stops.{Tells}
 use Rattle.report.specs.declared.answer.Refusal.{Refusal}
 use Rattle.report.specs.declared.answer.Shortfall.{Shortfall}
 use Rattle.report.specs.declared.stop.Stop.{Stop}
 use Rattle.report.specs.declared.stop.Stop.TheVariants as stop
 use Rattle.script_names.specs.Resolved.{IsProgram}
-use Rattle.network_stages.specs.Shortfalls.{FitsAfter, TellsBusy, TellsTriple}
+use Rattle.network_stages.specs.Shortfalls.{TellsBusy, TellsTriple}
 use Rattle.network_stages.specs.Stages.{CanStop, HasNoNetwork, ShareEvent, SpellsNone}
-use Rattle.network_stages.specs.Tells.{TellsLayout}
 
 pub has_no_network : {A : Type 0} (s : Script) (p : Content) (made : Result A (Stop Refusal)) → IsProgram s p → IfErr made (Tells (SpellsNone p)) → IfErr made (Tells (HasNoNetwork s))
 has_no_network s p (Ok a) is tells = tt

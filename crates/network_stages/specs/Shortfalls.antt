@@ -1,5 +1,5 @@
 -- How it is told that an event is in three alphabets, or that a component can stop. (For private contracts: no public one cites this.)
-use Rattle.std.specs.Prelude.{◌≡◌, ℕ, [], ◌∷◌}
+use Rattle.std.specs.Prelude.{◌≡◌, [], ◌∷◌}
 use Rattle.csp_program.specs.declared.programs.Content.{Content}
 use Rattle.network_layout.specs.declared.triple.TripleFault.{TripleFault}
 use Rattle.network_layout.specs.declared.triple.TripleFault.TheVariants as triple

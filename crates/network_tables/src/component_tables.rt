@@ -2,8 +2,6 @@
 
 ghost use Rattle.std.specs.Prelude.{◌≡◌, ◌≤◌, ◌<◌, ◌++◌, ◌∷◌, [], IfErr, IfOk, OnOk, length};
 ghost use Rattle.dl_limits.specs.declared.TheConstants.{MOST_COMPONENTS};
-ghost use Rattle.local_tables.specs.Component.{component};
-ghost use Rattle.local_tables.specs.declared.local_table.Room.{Room as RoomValue};
 ghost use Rattle.net_sound.specs.Heights.{AreSilentHeights};
 ghost use Rattle.network_tables.specs.Faults.{TellsHere, TellsRound, TellsTable};
 ghost use Rattle.network_tables.specs.Tables.{AreTablesOf, IsTableWithin, room_after, whole_room};

@@ -7,7 +7,6 @@ use Rattle.pool_parts.specs.declared.place.ProcId.{ProcId}
 use Rattle.local_tables.specs.Component.{component}
 use Rattle.local_tables.specs.Progress.{IsAt}
 use Rattle.local_tables.specs.Faults.{Lacks, valueless}
-use Rattle.local_tables.specs.declared.found.Found.{Found}
 use Rattle.local_tables.proofs.Lists.{map_at}
 use Rattle.local_tables.proofs.Results.{err_is, lacks_value}
 use Rattle.local_tables.proofs.Taking.{begin_at}
