@@ -12,10 +12,6 @@ use Rattle.value_operators.specs.declared.fault.EvalFault.TheVariants as evaluat
 use Rattle.local_tables.specs.Faults.{Lacks, Reaches, valueless}
 use Rattle.local_tables.specs.declared.local_table.Room.{Room}
 
-pub always : {T E : Type 0} (r : Result T E) (P : Type 0) → P → OnOk r P
-always (Ok x) P h = h
-always (Err e) P h = tt
-
 pub err_is : {T E : Type 0} (r : Result T E) (e : E) (P : E → Type 0) → IsErrAnd r (λ z. z ≡ e) → P e → IfErr r P
 err_is (Ok x) e P is h = tt
 err_is (Err z) e P is h = subst P (sym is) h
