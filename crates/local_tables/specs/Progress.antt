@@ -72,10 +72,6 @@ pub record AreFound (p : Content) (c : Component Proc) (trees : List Proc) (ids 
 abbrev pub IsSoFar : Content → Component Proc → Found → Type 0
 IsSoFar p c found = AreFound p c found.pool found.terms found.origins.items found.table found.nodes
 
--- Each number of the room has a greater one of its type.
-abbrev pub CanBePassed : Room → Type 0
-CanBePassed room = (room.nodes < 4294967295) × (room.steps < 4294967295)
-
 -- it is within the limits and the room
 pub record IsWithin (room : Room) (found : Found) : Type 0 where
   pub few : length found.terms ≤ MOST_TERMS

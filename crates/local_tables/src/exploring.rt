@@ -1,12 +1,12 @@
 //! The exploration of a component.
 
-ghost use Rattle.std.specs.Prelude.{[], ◌≡◌, ◌+◌, ◌<◌, ◌^◌, ◌↔◌, ℕ, Some, length, slice_get, IfOk, IfErr, IsTrue, OnOk};
+ghost use Rattle.std.specs.Prelude.{[], ◌≡◌, ◌+◌, ◌<◌, ◌≤◌, ◌↔◌, ℕ, Some, length, slice_get, IfOk, IfErr, IsTrue, OnOk};
 ghost use Rattle.csp_steps.specs.Evaluated.{Fits};
 ghost use Rattle.csp_tables.specs.RawTable.{RawStep};
 ghost use Rattle.local_tables.specs.Component.{component, step_count};
 ghost use Rattle.local_tables.specs.Faults.{Lacks};
 ghost use Rattle.local_tables.specs.LocalTable.{IsLocalTable};
-ghost use Rattle.local_tables.specs.Progress.{CanBePassed, HasMore, HasStepMore, IsAt, IsSoFar, IsUpTo, IsWithin, Steps, label_of};
+ghost use Rattle.local_tables.specs.Progress.{HasMore, HasStepMore, IsAt, IsSoFar, IsUpTo, IsWithin, Steps, label_of};
 
 use crate::fault::Unexplored;
 use crate::found::{Found, Task, begin, term_number};
@@ -33,7 +33,6 @@ pub fn explore(
     room: Room,
 ) -> Result<LocalTable, Unexplored>
     requires nodes { room.nodes < 4294967295 }
-    requires steps { room.steps < 4294967295 }
     ensures table { IfOk result (IsLocalTable program.now (component alphabet.now start.now) room) }
     ensures fault { IfErr result (Lacks program.now (component alphabet.now start.now) room) }
 {
@@ -49,7 +48,7 @@ pub fn explore(
 
 // The table of the task's component.
 fn table_of(alloc: Global, task: &Task<'_>) -> Result<LocalTable, Unexplored>
-    requires room { CanBePassed task.now.room }
+    requires room { task.now.room.nodes < 4294967295 }
     ensures table { IfOk result (IsLocalTable task.now.program.now (component task.now.alphabet.now task.now.start.now) task.now.room) }
     ensures fault { IfErr result (Lacks task.now.program.now (component task.now.alphabet.now task.now.start.now) task.now.room) }
 {
@@ -61,7 +60,7 @@ fn table_of(alloc: Global, task: &Task<'_>) -> Result<LocalTable, Unexplored>
 
 // The same, from where nothing is found yet.
 fn explored(alloc: Global, task: &Task<'_>, found: &mut Found) -> Result<LocalTable, Unexplored>
-    requires room { CanBePassed task.now.room }
+    requires room { task.now.room.nodes < 4294967295 }
     requires pool { found.old.pool ≡ [] }
     requires terms { found.old.terms ≡ [] }
     requires origins { found.old.origins.items ≡ [] }
@@ -70,13 +69,14 @@ fn explored(alloc: Global, task: &Task<'_>, found: &mut Found) -> Result<LocalTa
     ensures fault { IfErr result (Lacks task.now.program.now (component task.now.alphabet.now task.now.start.now) task.now.room) }
 {
     fill(alloc, task, found)?;
-    Ok(finished(alloc, found))
+    let room = task.room;
+    Ok(finished(alloc, found, room))
 }
 
 // The table, once all terms are followed.
-fn finished(alloc: Global, found: &mut Found) -> LocalTable
-    requires nodes { found.old.nodes < 2 ^ 32 }
-    requires steps { step_count found.old.table < 2 ^ 32 }
+fn finished(alloc: Global, found: &mut Found, room: Room) -> LocalTable
+    requires nodes { found.old.nodes ≤ room.nodes }
+    requires steps { step_count found.old.table ≤ room.steps }
     ensures table { result.table ≡ found.old.table }
     ensures nodes { result.used.nodes ≡ found.old.nodes }
     ensures steps { result.used.steps ≡ step_count found.old.table }
@@ -94,7 +94,7 @@ fn finished(alloc: Global, found: &mut Found) -> LocalTable
 
 // Follows the first term, and each that is found.
 fn fill(alloc: Global, task: &Task<'_>, found: &mut Found) -> Result<(), Unexplored>
-    requires room { CanBePassed task.now.room }
+    requires room { task.now.room.nodes < 4294967295 }
     requires pool { found.old.pool ≡ [] }
     requires terms { found.old.terms ≡ [] }
     requires origins { found.old.origins.items ≡ [] }
@@ -114,7 +114,7 @@ fn follow_all(
     found: &mut Found,
     evaluated: &mut Evaluated,
 ) -> Result<(), Unexplored>
-    requires room { CanBePassed task.now.room }
+    requires room { task.now.room.nodes < 4294967295 }
     requires fits { Fits task.now.program.now found.old.pool evaluated.old }
     requires up_to { IsUpTo task.now.program.now (component task.now.alphabet.now task.now.start.now) task.now.room found.old 0 }
     ensures up_to { OnOk result (IsUpTo task.now.program.now (component task.now.alphabet.now task.now.start.now) task.now.room found.new found.new.table.count) }
@@ -136,7 +136,7 @@ fn follow(
     evaluated: &mut Evaluated,
     at: u32,
 ) -> Result<(), Unexplored>
-    requires room { CanBePassed task.now.room }
+    requires room { task.now.room.nodes < 4294967295 }
     requires here { at < length found.old.terms }
     requires fits { Fits task.now.program.now found.old.pool evaluated.old }
     requires up_to { IsUpTo task.now.program.now (component task.now.alphabet.now task.now.start.now) task.now.room found.old at }
@@ -151,7 +151,7 @@ fn follow(
 
 // Takes the steps of the term with the number `at` into the table.
 fn take_all(task: &Task<'_>, found: &mut Found, at: u32, steps: &[StepTo]) -> Result<(), Unexplored>
-    requires room { CanBePassed task.now.room }
+    requires room { task.now.room.nodes < 4294967295 }
     requires at { IsAt task.now.program.now (component task.now.alphabet.now task.now.start.now) task.now.room found.old at steps.now 0 }
     ensures pool { OnOk result (found.new.pool ≡ found.old.pool) }
     ensures up_to { OnOk result (IsUpTo task.now.program.now (component task.now.alphabet.now task.now.start.now) task.now.room found.new (at + 1)) }
@@ -171,7 +171,7 @@ fn take(
     steps: &[StepTo],
     place: usize,
 ) -> Result<(), Unexplored>
-    requires room { CanBePassed task.now.room }
+    requires room { task.now.room.nodes < 4294967295 }
     requires inside { place < length steps.now }
     requires at { IsAt task.now.program.now (component task.now.alphabet.now task.now.start.now) task.now.room found.old at steps.now place }
     ensures pool { OnOk result (found.new.pool ≡ found.old.pool) }
@@ -202,7 +202,7 @@ fn lead(
     event: Option<Event>,
     to: ProcId,
 ) -> Result<(), Unexplored>
-    requires room { CanBePassed task.now.room }
+    requires room { task.now.room.nodes < 4294967295 }
     requires so_far { IsSoFar task.now.program.now (component task.now.alphabet.now task.now.start.now) found.old }
     requires within { IsWithin task.now.room found.old }
     requires step { Steps task.now.program.now (component task.now.alphabet.now task.now.start.now) found.old from (label_of event) to }

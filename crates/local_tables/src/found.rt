@@ -4,7 +4,7 @@ ghost use Rattle.std.specs.Prelude.{◌≡◌, ◌<◌, ◌≤◌, ◌^◌, ℕ,
 ghost use Rattle.dl_limits.specs.declared.TheConstants.{MOST_TERMS};
 ghost use Rattle.term_pool.specs.Pooled.{AreDifferent};
 ghost use Rattle.local_tables.specs.Component.{component};
-ghost use Rattle.local_tables.specs.Progress.{CanBePassed, HasMoreTerms, IsAdded, IsFitting, IsSoFar, IsWithin, Steps, label_of};
+ghost use Rattle.local_tables.specs.Progress.{HasMoreTerms, IsAdded, IsFitting, IsSoFar, IsWithin, Steps, label_of};
 ghost use Rattle.local_tables.specs.Faults.{Lacks};
 
 use crate::fault::Unexplored;
@@ -83,7 +83,7 @@ pub(crate) fn term_number(
     event: &Option<Event>,
     to: ProcId,
 ) -> Result<u32, Unexplored>
-    requires room { CanBePassed task.now.room }
+    requires room { task.now.room.nodes < 4294967295 }
     requires so_far { IsSoFar task.now.program.now (component task.now.alphabet.now task.now.start.now) found.old }
     requires within { IsWithin task.now.room found.old }
     requires step { Steps task.now.program.now (component task.now.alphabet.now task.now.start.now) found.old from (label_of event.now) to }
@@ -107,7 +107,7 @@ fn admit(
     event: &Option<Event>,
     to: ProcId,
 ) -> Result<u32, Unexplored>
-    requires room { CanBePassed task.now.room }
+    requires room { task.now.room.nodes < 4294967295 }
     requires so_far { IsSoFar task.now.program.now (component task.now.alphabet.now task.now.start.now) found.old }
     requires within { IsWithin task.now.room found.old }
     requires step { Steps task.now.program.now (component task.now.alphabet.now task.now.start.now) found.old from (label_of event.now) to }

@@ -1,4 +1,4 @@
-use Rattle.std.proofs.Common.{◌≡◌, ◌<◌, ◌≤◌, arith}
+use Rattle.std.proofs.Common.{◌≡◌, ◌≤◌, arith}
 use Rattle.std.specs.Prelude.{map, min}
 use Rattle.csp_base.specs.Lists.{total}
 use Rattle.csp_program.specs.Depth.{proc_depth}
