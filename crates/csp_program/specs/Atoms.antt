@@ -23,8 +23,3 @@ all_added atoms (a ∷ rest) = and_then (added atoms a) (λ more. all_added more
 abbrev pub numbers_from : ℤ → ℕ → List Atom
 numbers_from m zero = []
 numbers_from m (suc k) = atom.Num m ∷ numbers_from (m +ℤ pos 1) k
-
--- the events from e on, so many of them
-abbrev pub events_from : ℕ → ℕ → List Atom
-events_from e zero = []
-events_from e (suc k) = atom.Event e ∷ events_from (e + 1) k

@@ -2,12 +2,12 @@
 --
 -- An operand's kind is looked at as soon as the operand has its value. Names of definitions are worth what their bodies are, with the values of the
 -- arguments; the number of uses that may still be entered goes down by one with each. Bound names have their values in an environment.
-use Rattle.std.specs.Prelude.{ℕ, zero, suc, ◌+◌, ◌-◌, ◌*◌, ◌/◌, ◌%◌, ℤ, pos, negsuc, neg_ℤ, ◌+ℤ◌, ◌-ℤ◌, ◌*ℤ◌, int_lt, int_le, Bool, true, false, not, ◌&&◌, ◌||◌, is_none, nat_eq, nat_lt, if◌then◌else◌, Option, Some, None, Ok, Err, List, [], ◌∷◌, map, length, drop, slice_get}
+use Rattle.std.specs.Prelude.{ℕ, zero, suc, ◌+◌, ◌-◌, ◌*◌, ◌/◌, ◌%◌, ℤ, pos, negsuc, neg_ℤ, ◌+ℤ◌, ◌-ℤ◌, ◌*ℤ◌, int_lt, int_le, Bool, true, false, not, ◌&&◌, ◌||◌, is_none, nat_eq, nat_lt, if◌then◌else◌, Option, Some, None, Ok, Err, List, [], ◌∷◌, map, length, slice_get}
 use Rattle.dl_limits.specs.declared.TheConstants.{GREATEST_NUMBER, MOST_BINDINGS}
 use Rattle.csp_atoms.specs.Order.{same, same_kind}
-use Rattle.csp_atoms.specs.Sets.{alike, diff_of, inter_of, place_of, union_of}
-use Rattle.csp_program.specs.Atoms.{added, all_added, events_from, limited, numbers_from}
-use Rattle.csp_program.specs.EventNumber.{row_count}
+use Rattle.csp_atoms.specs.Sets.{alike, diff_of, has_atom, inter_of, union_of}
+use Rattle.csp_program.specs.Atoms.{added, all_added, limited, numbers_from}
+use Rattle.csp_program.specs.EventTable.{events_with}
 use Rattle.csp_program.specs.Outcome.{Outcome, and_then}
 use Rattle.csp_atoms.specs.declared.atom.Atom.{Atom}
 use Rattle.csp_atoms.specs.declared.atom.Atom.TheVariants as atom
@@ -154,52 +154,40 @@ abbrev pub items_added : List Meaning → Env → List Atom → Outcome (List At
 items_added [] env atoms = Ok atoms
 items_added (e ∷ es) env atoms = and_then (e env) (λ v. and_then (as_atom v) (λ a. and_then (added atoms a) (λ more. items_added es env more)))
 
-abbrev pub found_place : Option ℕ → Outcome ℕ
-found_place None = Err OutsideChannel
-found_place (Some n) = Ok n
+-- a value that is one of a field's values
+abbrev pub in_field : List Atom → Value → Outcome Atom
+in_field set (One a) = if has_atom set a then Ok a else Err OutsideChannel
+in_field set (Many atoms) = Err OutsideChannel
 
--- the place of a value in the values of a field
-abbrev pub field_place : List Atom → Value → Outcome ℕ
-field_place set (One a) = found_place (place_of set a)
-field_place set (Many atoms) = Err OutsideChannel
-
--- the number of the first fields of an event among all that these fields can be, where the fields before them have the number n
-abbrev pub fields_number : List Meaning → List (List Atom) → Env → ℕ → Outcome ℕ
-fields_number [] sets env n = Ok n
-fields_number (e ∷ es) [] env n = Err OutsideChannel
-fields_number (e ∷ es) (set ∷ sets) env n =
-    and_then (e env) (λ v. and_then (field_place set v) (λ k. fields_number es sets env (n * length set + k)))
-
--- how many events begin with one choice of the first fields
-abbrev pub events_each : List Meaning → List (List Atom) → ℕ
-events_each fields sets = row_count (drop (length fields) sets)
+-- the values of the first fields of an event, from the left
+abbrev pub row_of : List Meaning → List (List Atom) → Env → Outcome (List Atom)
+row_of [] sets env = Ok []
+row_of (e ∷ es) [] env = Err OutsideChannel
+row_of (e ∷ es) (set ∷ sets) env = and_then (e env) (λ v. and_then (in_field set v) (λ a. and_then (row_of es sets env) (λ row. Ok (a ∷ row))))
 
 abbrev pub sets_of : Option Channel → Option (List (List Atom))
 sets_of None = None
 sets_of (Some channel) = channel.fields
 
--- the number of the first event of a channel
-abbrev pub first_of : Option Channel → ℕ
-first_of None = 0
-first_of (Some channel) = channel.first
+-- While a channel has no field sets, nothing of it has a value: of a production over it no generator is walked.
+abbrev pub row_in : Option (List (List Atom)) → List Meaning → Env → Outcome (List Atom)
+row_in None fields env = Err Kind
+row_in (Some sets) fields env = row_of fields sets env
 
--- The number of the first event that begins with these fields, where the channel's first event has the number first. While a channel has no field
--- sets, nothing of it has a value: of a production over it no generator is walked.
-abbrev pub front_number : ℕ → Option (List (List Atom)) → List Meaning → Env → Outcome ℕ
-front_number first None fields env = Err Kind
-front_number first (Some sets) fields env = and_then (fields_number fields sets env 0) (λ n. Ok (first + n * events_each fields sets))
+-- the events of a channel that begin with these fields
+abbrev pub front_events : List Channel → ℕ → List Meaning → Env → Outcome (List ℕ)
+front_events channels c fields env = and_then (row_in (sets_of (slice_get channels c)) fields env) (λ row. Ok (events_with channels c row))
 
-abbrev pub front_count : Option (List (List Atom)) → List Meaning → ℕ
-front_count None fields = 0
-front_count (Some sets) fields = events_each fields sets
+-- the event that begins so, of a channel that has no more fields
+abbrev pub one_event : List ℕ → Outcome ℕ
+one_event [] = Err OutsideChannel
+one_event (e ∷ es) = Ok e
 
 -- the set with all events of the fronts in it
 abbrev pub fronts_added : List Channel → List Front → Env → List Atom → Outcome (List Atom)
 fronts_added channels [] env atoms = Ok atoms
 fronts_added channels (f ∷ fs) env atoms =
-    and_then (front_number (first_of (slice_get channels f.channel)) (sets_of (slice_get channels f.channel)) f.fields env) (λ e.
-    and_then (all_added atoms (events_from e (front_count (sets_of (slice_get channels f.channel)) f.fields))) (λ more.
-    fronts_added channels fs env more))
+    and_then (front_events channels f.channel f.fields env) (λ es. and_then (all_added atoms (map (λ e. atom.Event e) es)) (λ more. fronts_added channels fs env more))
 
 -- whether one of the fronts is of a channel that has no field sets
 abbrev pub lack_sets : List Channel → List Front → Bool
@@ -254,7 +242,7 @@ module _ (uses : Uses) (channels : List Channel) where
   meaning_of_layer (Expr-F.Call d args) env = and_then (values_of args env) (λ vs. uses d vs)
   meaning_of_layer (Expr-F.SetName d) env = and_then (uses d []) (λ v. many (as_set v))
   meaning_of_layer (Expr-F.Event c fields) env =
-      and_then (front_number (first_of (slice_get channels c)) (sets_of (slice_get channels c)) fields env) (λ e. Ok (One (atom.Event e)))
+      and_then (front_events channels c fields env) (λ es. and_then (one_event es) (λ e. Ok (One (atom.Event e))))
   meaning_of_layer (Expr-F.Display items) env = many (items_added items env [])
   meaning_of_layer (Expr-F.Range a b) env =
       and_then (a env) (λ v. and_then (as_number v) (λ m. and_then (b env) (λ w. and_then (as_number w) (λ n. many (range m n)))))

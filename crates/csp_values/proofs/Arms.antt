@@ -1,10 +1,11 @@
 -- What a call answers for a form, from what calls answer for its parts.
-use Rattle.std.proofs.Common.{◌≡◌, ℕ, ◌+◌, ◌<◌, Bool, true, false, List, [], Some, None, Ok, Err, map, length, refl, ap, sym, subst, ◌∙◌}
+use Rattle.std.proofs.Common.{◌≡◌, ℕ, zero, suc, ◌+◌, ◌<◌, ◌^◌, Bool, true, false, List, [], None, Ok, Err, map, length, refl, ap, sym, subst, ◌∙◌, arith}
 use Rattle.std.specs.Prelude.{ℤ, if◌then◌else◌, slice_get, Result}
 use Rattle.std.specs.Result.{IsErrAnd}
-use Rattle.csp_program.specs.Atoms.{all_added, events_from}
+use Rattle.csp_program.specs.Atoms.{all_added}
+use Rattle.value_laws.specs.Numbers.{ChannelsFit, events_from, span}
 use Rattle.csp_program.specs.Outcome.{Outcome, and_then}
-use Rattle.csp_program.specs.Value.{first_of, Env, Gathered, bound_to, bound_value, many, number, range, set_binary, as_number, as_set, sets_of, as_truth}
+use Rattle.csp_program.specs.Value.{Env, Gathered, bound_to, bound_value, many, number, one_event, range, set_binary, as_number, as_set, sets_of, as_truth}
 use Rattle.csp_atoms.specs.declared.atom.Atom.{Atom}
 use Rattle.csp_atoms.specs.declared.atom.Atom.TheVariants as atom
 use Rattle.csp_atoms.specs.declared.value.Value.{Value}
@@ -18,22 +19,22 @@ use Rattle.csp_program.specs.declared.expressions.Expr.TheVariants as expr
 use Rattle.csp_program.specs.declared.expressions.Expr.TheViews.{out-EventPart}
 use Rattle.csp_program.specs.declared.expressions.Gen.{Gen}
 use Rattle.csp_program.specs.declared.kinds.ValueKind.{ValueKind}
-use Rattle.csp_program.specs.declared.kinds.ValueKind.TheVariants.{Kind}
+use Rattle.csp_program.specs.declared.kinds.ValueKind.TheVariants.{Kind, OutsideChannel}
 use Rattle.csp_program.specs.declared.programs.Body.TheVariants as body
 use Rattle.csp_program.specs.declared.programs.Channel.{Channel}
 use Rattle.csp_program.specs.declared.programs.Content.{Content}
 use Rattle.csp_program.specs.declared.programs.Def.{Def}
 use Rattle.value_operators.specs.Forms as form
-use Rattle.value_operators.specs.Forms.{negative, inverse, operation, choice, named_set, an_event, a_set, a_range, set_operation, gathered_set, produced, nothing_yet, count_with, each_of, scaled}
+use Rattle.value_operators.specs.Forms.{negative, inverse, operation, choice, named_set, a_set, a_range, set_operation, gathered_set, produced, nothing_yet, count_with}
 use Rattle.value_operators.specs.Gives.{Gives}
 use Rattle.value_operators.specs.declared.fault.EvalFault.{EvalFault}
 use Rattle.value_operators.specs.declared.fault.EvalFault.TheVariants as fault
-use Rattle.csp_values.specs.Worth.{worth, worths, number_worth, truth_worth, atoms_worth, chosen, range_of, set_of, use_worth, body_worth, with_items, fields_worth, front_worth, with_front, with_fronts, one_more_binding, walk_worth, GivesTally}
+use Rattle.csp_values.specs.Worth.{worth, worths, number_worth, truth_worth, atoms_worth, chosen, range_of, set_of, use_worth, body_worth, with_items, event_worth, front_worth, with_front, with_fronts, one_more_binding, walk_worth, GivesTally}
 use Rattle.csp_values.specs.Course.{Course, GivesBinding, faulty, skipped}
 use Rattle.csp_values.specs.declared.tally.Tally.{Tally}
 use Rattle.csp_values.specs.declared.walk.Walk.{Walk}
 use Rattle.csp_values.proofs.Equations as eq
-use Rattle.csp_values.proofs.FieldSteps.{front_scaled, same_found}
+use Rattle.csp_values.proofs.FieldSteps.{front_fits}
 use Rattle.csp_program.proofs.Outcomes.{and_then_regroup}
 
 pub same : {A : Type 0} (r : Result A EvalFault) (o o' : Outcome A) → o ≡ o' → Gives r o' → Gives r o
@@ -140,9 +141,9 @@ module _ (p : Content) (n : ℕ) (env : Env) where
   unfolding worth worths use_worth front_worth with_items with_fronts walk_worth
   worth_set_name e d is = ap (worth p n env) is ∙ eq.at p n env (expr.SetName d) (Expr-F.SetName d) (expr.rolls-SetName d)
 
-  pub worth_event : (e : Expr) (c : ℕ) (fields fields' : List Expr) → e ≡ expr.Event c fields → fields' ≡ fields → worth p n env e ≡ an_event (front_worth p n env c fields')
-  unfolding worth worths use_worth front_worth with_items with_fronts walk_worth
-  worth_event e c fields fields' is got = ap (worth p n env) is ∙ (eq.at p n env (expr.Event c fields) (Expr-F.Event c fields) (expr.rolls-Event c fields) ∙ ap (λ x. an_event (front_worth p n env c x)) (sym got))
+  pub worth_event : (e : Expr) (c : ℕ) (fields fields' : List Expr) → e ≡ expr.Event c fields → fields' ≡ fields → worth p n env e ≡ event_worth p n env c fields'
+  unfolding worth event_worth
+  worth_event e c fields fields' is got = ap (worth p n env) is ∙ (eq.at p n env (expr.Event c fields) (Expr-F.Event c fields) (expr.rolls-Event c fields) ∙ ap (λ x. event_worth p n env c x) (sym got))
 
   pub worth_display : (e : Expr) (items items' : List Expr) → e ≡ expr.Display items → items' ≡ items → worth p n env e ≡ a_set (with_items p n env items' [])
   unfolding worth worths use_worth front_worth with_items with_fronts walk_worth
@@ -188,41 +189,61 @@ pub datatype_worth : (p : Content) (n : ℕ) (def : Def) (args : List Value) (ks
 datatype_worth p n def args ks ks' o is got came = eq.body-Datatype p n def args ks is ∙ (ap (λ x. many (all_added [] (map (λ k. atom.Const k) x))) (sym got) ∙ ap many came)
 
 -- numbers of events
-abbrev found : ℕ → Outcome ℕ
-found k = Ok k
-
-pub front_of_sets : (p : Content) (n : ℕ) (env : Env) (c : ℕ) (es : List Expr) (channels : List Channel) (sets : List (List Atom)) (o : Outcome ℕ) → channels ≡ p.channels → sets_of (slice_get channels c) ≡ Some sets
-    → scaled (fields_worth p n env es sets 0) (each_of sets (length es)) ≡ o → front_worth p n env c es ≡ and_then o (λ place. Ok (first_of (slice_get channels c) + place))
-front_of_sets p n env c es channels sets o got has came =
-    let has_sets : sets_of (slice_get p.channels c) ≡ Some sets = ap (λ cs. sets_of (slice_get cs c)) (sym got) ∙ has in
-    front_scaled p n env c es sets o has_sets came ∙
-    ap (λ cs. and_then o (λ place. found (first_of (slice_get cs c) + place))) (sym got)
-
--- fields that are counted over the choices of the others
-pub counted_over : (fields : Outcome ℕ) (count each : ℕ) → found count ≡ found each → scaled fields count ≡ scaled fields each
-counted_over fields count each is = ap (scaled fields) (same_found count each is)
-
 pub front_without_sets : (p : Content) (n : ℕ) (env : Env) (c : ℕ) (es : List Expr) (channels : List Channel) → channels ≡ p.channels → sets_of (slice_get channels c) ≡ None → front_worth p n env c es ≡ Err Kind
 front_without_sets p n env c es channels got has = eq.front-none p n env c es (ap (λ cs. sets_of (slice_get cs c)) (sym got) ∙ has)
 
-pub front_fault : (p : Content) (n : ℕ) (env : Env) (part : EventPart) (atoms : List Atom) (fields : List Expr) (k : ValueKind) → fields ≡ (out-EventPart part).fields
-    → front_worth p n env (out-EventPart part).channel fields ≡ Err k → with_front p n env part atoms ≡ Err k
-front_fault p n env part atoms fields k got bad =
-    eq.with_front-is p n env part atoms ∙
-    ap (λ o. and_then o (λ e. all_added atoms (events_from e (count_with (sets_of (slice_get p.channels (out-EventPart part).channel)) (length (out-EventPart part).fields)))))
-    (ap (front_worth p n env (out-EventPart part).channel) (sym got) ∙ bad)
+-- what a front adds, and the event that has its fields
+module _ (p : Content) (n : ℕ) (env : Env) (channels : List Channel) (got : channels ≡ p.channels) (fit : ChannelsFit channels) where
+  own_fit : ChannelsFit p.channels
+  own_fit = subst ChannelsFit got fit
 
-pub front_added : (p : Content) (n : ℕ) (env : Env) (part : EventPart) (atoms : List Atom) (fields : List Expr) (channels : List Channel) (first given count : ℕ) → fields ≡ (out-EventPart part).fields → channels ≡ p.channels
-    → given ≡ length (out-EventPart part).fields → front_worth p n env (out-EventPart part).channel fields ≡ Ok first → found (count_with (sets_of (slice_get channels (out-EventPart part).channel)) given) ≡ found count
-    → with_front p n env part atoms ≡ all_added atoms (events_from first count)
-front_added p n env part atoms fields channels first given count got_fields got_channels got_given good counted =
-    let here : count_with (sets_of (slice_get channels (out-EventPart part).channel)) given ≡ count = same_found (count_with (sets_of (slice_get channels (out-EventPart part).channel)) given) count counted in
-    let is : count_with (sets_of (slice_get p.channels (out-EventPart part).channel)) (length (out-EventPart part).fields) ≡ count =
-    (λ i. count_with (sets_of (slice_get (sym got_channels i) (out-EventPart part).channel)) (sym got_given i)) ∙ here in
-    eq.with_front-is p n env part atoms ∙
-    (ap (λ o. and_then o (λ e. all_added atoms (events_from e (count_with (sets_of (slice_get p.channels (out-EventPart part).channel)) (length (out-EventPart part).fields)))))
-    (ap (front_worth p n env (out-EventPart part).channel) (sym got_fields) ∙ good) ∙
-    ap (λ z. all_added atoms (events_from first z)) is)
+  -- the count of its events is one of 32 bits
+  pub count_fits : (c : ℕ) (es : List Expr) (first given : ℕ) → given ≡ length es → front_worth p n env c es ≡ Ok first → first + count_with (sets_of (slice_get channels c)) given < 2 ^ 32
+  count_fits c es first given got_given good =
+      subst (λ cs. first + count_with (sets_of (slice_get cs c)) given < 2 ^ 32) (sym got)
+      (subst (λ m. first + count_with (sets_of (slice_get p.channels c)) m < 2 ^ 32) (sym got_given) (front_fits p n env c es first own_fit good))
+
+  same_counts : (c : ℕ) (es : List Expr) (given count : ℕ) → given ≡ length es → count ≡ count_with (sets_of (slice_get channels c)) given → count_with (sets_of (slice_get p.channels c)) (length es) ≡ count
+  same_counts c es given count got_given counted = (λ i. count_with (sets_of (slice_get (sym got i) c)) (sym got_given i)) ∙ sym counted
+
+  pub event_fault : (c : ℕ) (es : List Expr) (k : ValueKind) → front_worth p n env c es ≡ Err k → event_worth p n env c es ≡ Err k
+  event_fault c es k bad = eq.event-is p n env c es own_fit ∙ ap (λ o. and_then o (λ e. and_then (one_event (span e (count_with (sets_of (slice_get p.channels c)) (length es)))) (λ d. Ok (One (atom.Event d))))) bad
+
+  event_at : (c : ℕ) (es : List Expr) (first given count : ℕ) → given ≡ length es → count ≡ count_with (sets_of (slice_get channels c)) given → front_worth p n env c es ≡ Ok first
+      → event_worth p n env c es ≡ and_then (one_event (span first count)) (λ d. Ok (One (atom.Event d)))
+  event_at c es first given count got_given counted good =
+      eq.event-is p n env c es own_fit ∙
+      ap (λ o. and_then o (λ e. and_then (one_event (span e (count_with (sets_of (slice_get p.channels c)) (length es)))) (λ d. Ok (One (atom.Event d))))) good ∙
+      ap (λ m. and_then (one_event (span first m)) (λ d. Ok (One (atom.Event d)))) (same_counts c es given count got_given counted)
+
+  pub no_event : (c : ℕ) (es : List Expr) (first given count : ℕ) → given ≡ length es → count ≡ count_with (sets_of (slice_get channels c)) given → front_worth p n env c es ≡ Ok first
+      → count ≡ 0 → event_worth p n env c es ≡ Err OutsideChannel
+  no_event c es first given count got_given counted good none =
+      event_at c es first given count got_given counted good ∙ ap (λ m. and_then (one_event (span first m)) (λ d. Ok (One (atom.Event d)))) none
+
+  some_event : (first count : ℕ) → 0 < count → and_then (one_event (span first count)) (λ d. Ok (One (atom.Event d))) ≡ Ok (One (atom.Event first))
+  some_event first zero l = absurd (omega arith)
+  some_event first (suc m) l = refl
+
+  pub an_event : (c : ℕ) (es : List Expr) (first given count : ℕ) → given ≡ length es → count ≡ count_with (sets_of (slice_get channels c)) given → front_worth p n env c es ≡ Ok first
+      → 0 < count → event_worth p n env c es ≡ Ok (One (atom.Event first))
+  an_event c es first given count got_given counted good some = event_at c es first given count got_given counted good ∙ some_event first count some
+
+  pub front_added : (part : EventPart) (atoms : List Atom) (fields : List Expr) (first given count : ℕ) → fields ≡ (out-EventPart part).fields → given ≡ length (out-EventPart part).fields
+      → count ≡ count_with (sets_of (slice_get channels (out-EventPart part).channel)) given → front_worth p n env (out-EventPart part).channel fields ≡ Ok first
+      → with_front p n env part atoms ≡ all_added atoms (events_from first count)
+  front_added part atoms fields first given count got_fields got_given counted good =
+      eq.with_front-is p n env part atoms own_fit ∙
+      (ap (λ o. and_then o (λ e. all_added atoms (events_from e (count_with (sets_of (slice_get p.channels (out-EventPart part).channel)) (length (out-EventPart part).fields)))))
+      (ap (front_worth p n env (out-EventPart part).channel) (sym got_fields) ∙ good) ∙
+      ap (λ z. all_added atoms (events_from first z)) (same_counts (out-EventPart part).channel (out-EventPart part).fields given count got_given counted))
+
+  pub front_fault : (part : EventPart) (atoms : List Atom) (fields : List Expr) (k : ValueKind) → fields ≡ (out-EventPart part).fields
+      → front_worth p n env (out-EventPart part).channel fields ≡ Err k → with_front p n env part atoms ≡ Err k
+  front_fault part atoms fields k got_fields bad =
+      eq.with_front-is p n env part atoms own_fit ∙
+      ap (λ o. and_then o (λ e. all_added atoms (events_from e (count_with (sets_of (slice_get p.channels (out-EventPart part).channel)) (length (out-EventPart part).fields)))))
+      (ap (front_worth p n env (out-EventPart part).channel) (sym got_fields) ∙ bad)
 
 -- one more binding
 module _ (p : Content) (n : ℕ) (items : List Expr) (parts : List EventPart) (env : Env) (state : Gathered) (room : state.bindings < 1048576) where

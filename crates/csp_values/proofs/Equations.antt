@@ -1,13 +1,16 @@
 -- What each form of an expression, of a list and of generators comes to, in terms of its parts.
 use Rattle.std.proofs.Common.{◌≡◌, ℕ, zero, suc, ◌+◌, ◌-◌, ◌<◌, ◌≤◌, Bool, true, false, cond, List, [], ◌∷◌, Some, None, Ok, Err, map, length, drop, refl, ap, sym, ◌∙◌, arith, ◌*◌}
 use Rattle.std.specs.Prelude.{◌||◌, is_none, nat_lt, slice_get, Option}
-use Rattle.csp_program.specs.Atoms.{added, all_added, events_from}
+use Rattle.csp_program.specs.Atoms.{added, all_added}
 use Rattle.csp_program.specs.EventNumber.{row_count}
 use Rattle.csp_program.specs.Outcome.{Outcome, and_then}
-use Rattle.csp_program.specs.Value.{lack_sets, first_of, Env, Meaning, Turn, Front, value_of, value_within, Gathered, from, when, meaning, turn, front, meaning_of_layer, turn_of_layer, front_of_layer, uses_within, as_atom, items_added, walked, gathered, sets_of, field_place, bound_to, many, body_value, def_value, front_count, front_number, fronts_added, meanings}
+use Rattle.csp_program.specs.Value.{lack_sets, Env, Meaning, Turn, Front, value_of, value_within, Gathered, from, when, meaning, turn, front, meaning_of_layer, turn_of_layer, front_of_layer, uses_within, as_atom, items_added, walked, gathered, sets_of, bound_to, many, body_value, def_value, front_events, fronts_added, one_event, meanings}
+use Rattle.value_laws.specs.Numbers.{ChannelsFit, events_from, field_place, first_of, front_count, front_number, span}
+use Rattle.value_laws.proofs.EventPlaces.{events_are_found}
 use Rattle.csp_atoms.specs.declared.atom.Atom.{Atom}
 use Rattle.csp_atoms.specs.declared.atom.Atom.TheVariants as atom
 use Rattle.csp_atoms.specs.declared.value.Value.{Value}
+use Rattle.csp_atoms.specs.declared.value.Value.TheVariants.{One}
 use Rattle.csp_program.specs.declared.expressions.Expr.{Expr}
 use Rattle.csp_program.specs.declared.expressions.Expr.TheVariants as expr
 use Rattle.csp_program.specs.declared.expressions.Expr.TheFolds.{fold-roll-Expr, fold-roll-Gen, fold-roll-EventPart, map-Expr}
@@ -24,7 +27,7 @@ use Rattle.csp_program.specs.declared.networks.Net.{Net}
 use Rattle.csp_program.specs.declared.processes.Proc.{Proc}
 use Rattle.value_operators.specs.Forms.{gathered_set, nothing_yet, count_with, produced}
 use Rattle.value_operators.specs.Forms as form
-use Rattle.csp_values.specs.Worth.{worth, worths, use_worth, body_worth, with_items, fields_worth, front_worth, with_front, with_fronts, yielded, one_more_binding, walk_worth}
+use Rattle.csp_values.specs.Worth.{worth, worths, use_worth, body_worth, with_items, event_worth, fields_worth, front_worth, with_front, with_fronts, yielded, one_more_binding, walk_worth}
 
 -- what a form comes to, in terms of its parts
 pub at : (p : Content) (n : ℕ) (env : Env) (e : Expr) (d : Expr-F Expr Gen EventPart) → roll-Expr d ≡ e
@@ -102,8 +105,8 @@ pub fronts-cons : (p : Content) (n : ℕ) (env : Env) (part : EventPart) (parts 
 unfolding with_fronts with_front
 fronts-cons p n env part parts atoms =
     let f : Front = front (uses_within p n) p.channels part in
-    chained (front_number (first_of (slice_get p.channels f.channel)) (sets_of (slice_get p.channels f.channel)) f.fields env)
-    (λ e. all_added atoms (events_from e (front_count (sets_of (slice_get p.channels f.channel)) f.fields)))
+    chained (front_events p.channels f.channel f.fields env)
+    (λ es. all_added atoms (map (λ e. atom.Event e) es))
     (λ more. fronts_added p.channels (map (front (uses_within p n) p.channels) parts) env more)
 
 pub front-none : (p : Content) (n : ℕ) (env : Env) (c : ℕ) (fields : List Expr) → sets_of (slice_get p.channels c) ≡ None → front_worth p n env c fields ≡ Err Kind
@@ -151,19 +154,37 @@ pub same_count : (o : Option (List (List Atom))) (p : Content) (n : ℕ) (es : L
 same_count None p n es = refl
 same_count (Some sets) p n es = ap (λ k. row_count (drop k sets)) (same_length p n es)
 
-last_front : (o : Outcome ℕ) (atoms : List Atom) (c d : ℕ) → c ≡ d → and_then o (λ e. and_then (all_added atoms (events_from e c)) (λ more. Ok more)) ≡ and_then o (λ e. all_added atoms (events_from e d))
-last_front (Ok e) atoms c d h = and_then_ok (all_added atoms (events_from e c)) ∙ ap (λ z. all_added atoms (events_from e z)) h
-last_front (Err k) atoms c d h = refl
+-- the events of a front, from the number of the first on
+pub fronts_of : (p : Content) (n : ℕ) (env : Env) (c : ℕ) (es : List Expr) → ChannelsFit p.channels
+    → front_events p.channels c (meanings p n es) env ≡ and_then (front_worth p n env c es) (λ e. Ok (span e (count_with (sets_of (slice_get p.channels c)) (length es))))
+unfolding front_worth
+fronts_of p n env c es fit =
+    events_are_found p.channels fit c (meanings p n es) env ∙
+    ap (λ m. and_then (front_number (first_of (slice_get p.channels c)) (sets_of (slice_get p.channels c)) (meanings p n es) env) (λ e. Ok (span e m))) (same_count (sets_of (slice_get p.channels c)) p n es)
 
-pub with_front-is : (p : Content) (n : ℕ) (env : Env) (part : EventPart) (atoms : List Atom)
+event_of_front : (o : Outcome ℕ) (count : ℕ) → and_then (and_then o (λ e. Ok (span e count))) (λ ds. and_then (one_event ds) (λ d. Ok (One (atom.Event d)))) ≡ and_then o (λ e. and_then (one_event (span e count)) (λ d. Ok (One (atom.Event d))))
+event_of_front (Ok e) count = refl
+event_of_front (Err k) count = refl
+
+pub event-is : (p : Content) (n : ℕ) (env : Env) (c : ℕ) (es : List Expr) → ChannelsFit p.channels
+    → event_worth p n env c es ≡ and_then (front_worth p n env c es) (λ e. and_then (one_event (span e (count_with (sets_of (slice_get p.channels c)) (length es)))) (λ d. Ok (One (atom.Event d))))
+unfolding event_worth
+event-is p n env c es fit =
+    ap (λ o. and_then o (λ ds. and_then (one_event ds) (λ d. Ok (One (atom.Event d))))) (fronts_of p n env c es fit) ∙
+    event_of_front (front_worth p n env c es) (count_with (sets_of (slice_get p.channels c)) (length es))
+
+last_front : (o : Outcome ℕ) (atoms : List Atom) (count : ℕ)
+    → and_then (and_then o (λ e. Ok (span e count))) (λ ds. and_then (all_added atoms (map (λ d. atom.Event d) ds)) (λ more. Ok more)) ≡ and_then o (λ e. all_added atoms (events_from e count))
+last_front (Ok e) atoms count = and_then_ok (all_added atoms (events_from e count))
+last_front (Err k) atoms count = refl
+
+pub with_front-is : (p : Content) (n : ℕ) (env : Env) (part : EventPart) (atoms : List Atom) → ChannelsFit p.channels
     → with_front p n env part atoms ≡ and_then (front_worth p n env (out-EventPart part).channel (out-EventPart part).fields) (λ e. all_added atoms (events_from e (count_with (sets_of (slice_get p.channels (out-EventPart part).channel)) (length (out-EventPart part).fields))))
-unfolding with_front front_worth
-with_front-is p n env part atoms =
+unfolding with_front
+with_front-is p n env part atoms fit =
     ap (λ f. fronts_added p.channels (f ∷ []) env atoms) (front-is p n part) ∙
-    last_front (front_number (first_of (slice_get p.channels (out-EventPart part).channel)) (sets_of (slice_get p.channels (out-EventPart part).channel)) (meanings p n (out-EventPart part).fields) env) atoms
-    (front_count (sets_of (slice_get p.channels (out-EventPart part).channel)) (meanings p n (out-EventPart part).fields))
-    (count_with (sets_of (slice_get p.channels (out-EventPart part).channel)) (length (out-EventPart part).fields))
-    (same_count (sets_of (slice_get p.channels (out-EventPart part).channel)) p n (out-EventPart part).fields)
+    ap (λ o. and_then o (λ ds. and_then (all_added atoms (map (λ d. atom.Event d) ds)) (λ more. Ok more))) (fronts_of p n env (out-EventPart part).channel (out-EventPart part).fields fit) ∙
+    last_front (front_worth p n env (out-EventPart part).channel (out-EventPart part).fields) atoms (count_with (sets_of (slice_get p.channels (out-EventPart part).channel)) (length (out-EventPart part).fields))
 
 pub body-Datum : (p : Content) (n : ℕ) (def : Def) (args : List Value) (e : Expr) → def.body ≡ body.Datum e → body_worth p n def args ≡ worth p n (bound_to def.params args) e
 unfolding body_worth worth

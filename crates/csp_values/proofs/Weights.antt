@@ -8,7 +8,6 @@ use Rattle.csp_program.specs.declared.expressions.Expr.TheViews.{out-EventPart, 
 use Rattle.csp_program.specs.declared.expressions.EventPart.{EventPart}
 use Rattle.csp_program.specs.declared.expressions.Gen.{Gen}
 use Rattle.csp_program.specs.declared.expressions.Gen.TheVariants as generator
-use Rattle.csp_base.specs.declared.operators.SetOp.{SetOp}
 use Rattle.csp_program.specs.declared.programs.Body.{Body}
 use Rattle.csp_program.specs.declared.programs.Body.TheVariants as body
 use Rattle.csp_program.specs.declared.programs.Content.{Content}

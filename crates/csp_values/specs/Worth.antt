@@ -2,9 +2,12 @@
 -- of an expression, applied to trees.
 use Rattle.std.specs.Prelude.{◌≡◌, ℕ, ℤ, Bool, if◌then◌else◌, Result, Ok, Err, Some, List, [], ◌∷◌, map, slice_get}
 use Rattle.csp_program.specs.Outcome.{Outcome, and_then}
-use Rattle.csp_program.specs.Value.{first_of, as_number, as_truth, as_set, many, range, set_binary, Env, Gathered, meaning, turn, front, values_of, items_added, fields_number, front_number, fronts_added, sets_of, walked, gathered, uses_within, def_value, value_within, meanings}
+use Rattle.csp_program.specs.Value.{as_number, as_truth, as_set, many, range, set_binary, Env, Gathered, meaning, turn, front, front_events, values_of, items_added, fronts_added, one_event, sets_of, walked, gathered, uses_within, def_value, value_within, meanings}
+use Rattle.value_laws.specs.Numbers.{fields_number, first_of, front_number}
 use Rattle.csp_atoms.specs.declared.atom.Atom.{Atom}
+use Rattle.csp_atoms.specs.declared.atom.Atom.TheVariants as atom
 use Rattle.csp_atoms.specs.declared.value.Value.{Value}
+use Rattle.csp_atoms.specs.declared.value.Value.TheVariants.{One}
 use Rattle.csp_base.specs.declared.operators.SetOp.{SetOp}
 use Rattle.csp_program.specs.declared.expressions.EventPart.{EventPart}
 use Rattle.csp_program.specs.declared.expressions.Expr.{Expr}
@@ -58,6 +61,10 @@ with_items p n env es atoms = items_added (meanings p n es) env atoms
 -- the number of the fields of an event, after others with the number k
 unfoldable pub fields_worth : Content → ℕ → Env → List Expr → List (List Atom) → ℕ → Outcome ℕ
 fields_worth p n env es sets k = fields_number (meanings p n es) sets env k
+
+-- the event of the channel c that has these fields
+unfoldable pub event_worth : Content → ℕ → Env → ℕ → List Expr → Outcome Value
+event_worth p n env c es = and_then (front_events p.channels c (meanings p n es) env) (λ ds. and_then (one_event ds) (λ e. Ok (One (atom.Event e))))
 
 -- the number of the first event of the channel c that begins with the fields
 unfoldable pub front_worth : Content → ℕ → Env → ℕ → List Expr → Outcome ℕ

@@ -4,19 +4,21 @@ ghost use Rattle.std.specs.Prelude.{◌≡◌, Ok, Some, [], length, map};
 ghost use Rattle.csp_atoms.specs.declared.atom.Atom.TheVariants as atom;
 ghost use Rattle.csp_program.specs.Atoms.{added, all_added};
 ghost use Rattle.csp_program.specs.Outcome.{and_then};
-ghost use Rattle.csp_program.specs.Value.{as_atom, as_set, binary, field_place, value_of};
+ghost use Rattle.csp_program.specs.Value.{as_atom, as_set, binary, value_of};
 ghost use Rattle.csp_program.specs.Value as meant;
+ghost use Rattle.value_laws.specs.Numbers.{field_place, ChannelsFit};
 ghost use Rattle.value_operators.specs.Env.{env_in, parameters, with_bound};
 ghost use Rattle.value_operators.specs.Gives.{Gives};
 ghost use Rattle.value_operators.specs.Forms as form;
-ghost use Rattle.csp_values.specs.Worth.{worth, worths, number_worth, truth_worth, atoms_worth, chosen, range_of, set_of, use_worth, body_worth, with_items, fields_worth, front_worth, with_front, with_fronts, one_more_binding, walk_worth, gathered_of, GivesTally};
+ghost use Rattle.csp_values.specs.Worth.{worth, worths, number_worth, truth_worth, atoms_worth, chosen, range_of, set_of, use_worth, body_worth, with_items, event_worth, fields_worth, front_worth, with_front, with_fronts, one_more_binding, walk_worth, gathered_of, GivesTally};
 ghost use Rattle.csp_values.specs.Course.{GivesBinding, GivesStep, IsUnder, course, course_under};
 
+use crate::fitting::Fitting;
 use crate::tally::Tally;
 use crate::walk::{Step, Walk, pop, take};
 use containers::Items;
 use csp_atoms::{Atom, AtomSet, Value};
-use csp_base::{BinOp, SetOp};
+use csp_base::{BinOp, Event, SetOp};
 use csp_program::{Body, Content, Def, EventPart, Expr, Gen, Program, ValueKind};
 use dl_limits::MOST_BINDINGS;
 use std::alloc::Global;
@@ -28,7 +30,7 @@ use value_operators::numbers::{
 use value_operators::operators::{
     applied, decided, inverted, negated, to_number, to_set, to_truth,
 };
-use value_operators::sets::{combined, constants, numbered, numbers, with_events, with_item};
+use value_operators::sets::{combined, constants, numbers, with_events, with_item};
 
 const KIND: EvalFault = EvalFault::Value {
     kind: ValueKind::Kind,
@@ -48,7 +50,7 @@ struct Scope<'a> {
     /// Where memory comes from.
     alloc: Global,
     /// The program.
-    content: &'a Content,
+    content: &'a Fitting<'a>,
     /// How many uses of definitions may still be entered, one inside another.
     uses: usize,
 }
@@ -66,17 +68,25 @@ struct Yield<'a> {
 pub fn eval(alloc: Global, program: &Program, expr: &Expr) -> Result<Value, EvalFault>
     ensures { Gives result (value_of program.now expr.now) }
 {
-    eval_in(alloc, program.content(), expr)
+    eval_fitting(alloc, &Fitting::of(program), expr)
 }
 
 /// The value of an expression over what a program holds, also while that is still being put together. Faults are those of `eval`.
 pub fn eval_in(alloc: Global, content: &Content, expr: &Expr) -> Result<Value, EvalFault>
+    requires fit { ChannelsFit content.now.channels }
+    ensures { Gives result (value_of content.now expr.now) }
+{
+    eval_fitting(alloc, &Fitting::new(content), expr)
+}
+
+// The value of a closed expression.
+fn eval_fitting(alloc: Global, content: &Fitting<'_>, expr: &Expr) -> Result<Value, EvalFault>
     ensures { Gives result (value_of content.now expr.now) }
 {
     let scope = Scope {
         alloc,
         content,
-        uses: content.defs.len(),
+        uses: content.content().defs.len(),
     };
     let names = Names {
         params: &[],
@@ -104,11 +114,11 @@ pub fn eval_under(
 ) -> Result<Value, EvalFault>
     ensures { Gives result (worth program.now (length program.now.defs) (with_bound bound.now []) expr.now) }
 {
-    let content = program.content();
+    let content = Fitting::of(program);
     let scope = Scope {
         alloc,
-        content,
-        uses: content.defs.len(),
+        content: &content,
+        uses: program.content().defs.len(),
     };
     let names = Names {
         params: &[],
@@ -128,11 +138,11 @@ pub fn eval_all_under(
 ) -> Result<Items<Value>, EvalFault>
     ensures { Gives result (worths program.now (length program.now.defs) (with_bound bound.now []) exprs.now) }
 {
-    let content = program.content();
+    let content = Fitting::of(program);
     let scope = Scope {
         alloc,
-        content,
-        uses: content.defs.len(),
+        content: &content,
+        uses: program.content().defs.len(),
     };
     let names = Names {
         params: &[],
@@ -150,14 +160,14 @@ pub fn front_under(
     bound: &[(u32, Atom)],
     channel: u32,
     fields: &[Expr],
-) -> Result<u64, EvalFault>
+) -> Result<u32, EvalFault>
     ensures { Gives result (front_worth program.now (length program.now.defs) (with_bound bound.now []) channel fields.now) }
 {
-    let content = program.content();
+    let content = Fitting::of(program);
     let scope = Scope {
         alloc,
-        content,
-        uses: content.defs.len(),
+        content: &content,
+        uses: program.content().defs.len(),
     };
     let names = Names {
         params: &[],
@@ -178,11 +188,11 @@ pub fn binding_under(
     requires { IsUnder [] walk.old }
     ensures { GivesBinding result (course_under program.now gens.now walk.old) (course_under program.now gens.now walk.new) [] [] walk.new }
 {
-    let content = program.content();
+    let content = Fitting::of(program);
     let scope = Scope {
         alloc,
-        content,
-        uses: content.defs.len(),
+        content: &content,
+        uses: program.content().defs.len(),
     };
     let names = Names {
         params: &[],
@@ -380,11 +390,15 @@ fn eval_event(
     channel: u32,
     fields: &[Expr],
 ) -> Result<Value, EvalFault>
-    ensures { Gives result (form.an_event (front_worth scope.now.content.now scope.now.uses (env_in names.now) channel fields.now)) }
+    ensures { Gives result (event_worth scope.now.content.now scope.now.uses (env_in names.now) channel fields.now) }
 {
-    let number = eval_front(scope, names, channel, fields)?;
-    let event = numbered(number)?;
-    Ok(Value::One(event))
+    let channels = scope.content.channels();
+    let first = eval_front(scope, names, channel, fields)?;
+    let count = count_with(channels, channel, fields.len());
+    if count == 0 {
+        return Err(OUTSIDE);
+    }
+    Ok(Value::One(Atom::Event(Event(first))))
 }
 
 // The set of the values of items.
@@ -432,7 +446,7 @@ fn eval_product(
 ) -> Result<Value, EvalFault>
     ensures { Gives result (form.produced (form.lack_sets scope.now.content.now.channels parts.now) (walk_worth scope.now.content.now scope.now.uses gens.now [] parts.now (env_in names.now) form.nothing_yet)) }
 {
-    if lack_sets(scope.content.channels.as_slice(), parts) {
+    if lack_sets(scope.content.channels(), parts) {
         return Err(KIND);
     }
     eval_comprehension(scope, names, &[], parts, gens)
@@ -484,7 +498,7 @@ fn eval_use(scope: &Scope<'_>, def: u32, args: &[Value]) -> Result<Value, EvalFa
         content: scope.content,
         uses: scope.uses - 1,
     };
-    match scope.content.defs.get(def as usize) {
+    match scope.content.content().defs.get(def as usize) {
         Some(def) => eval_body(&inner, def, args),
         None => Err(KIND),
     }
@@ -546,7 +560,7 @@ fn add_item(
     with_item(atoms, &value)
 }
 
-// The number of fields among all choices of values of these sets, each counted `each` times.
+// The number of fields among all choices of values of these sets, each counted `each` times. Counting stops at the end of 64 bits.
 #[cycle(eval)]
 fn eval_fields(
     scope: &Scope<'_>,
@@ -555,7 +569,7 @@ fn eval_fields(
     sets: &[AtomSet],
     each: u64,
 ) -> Result<u64, EvalFault>
-    ensures { Gives result (form.scaled (fields_worth scope.now.content.now scope.now.uses (env_in names.now) fields.now sets.now 0) each) }
+    ensures { Gives result (form.capped (form.scaled (fields_worth scope.now.content.now scope.now.uses (env_in names.now) fields.now sets.now 0) each)) }
 {
     let mut number = 0;
     let mut rest = sets;
@@ -564,7 +578,7 @@ fn eval_fields(
             return Err(OUTSIDE);
         };
         let place = eval_place(scope, names, field, set)?;
-        number = with_field(number, set, place, each)?;
+        number = with_field(number, set, place, each);
         rest = others;
     }
     Ok(number)
@@ -584,7 +598,7 @@ fn eval_place(
     place_in(set, &value)
 }
 
-// The number of fields among all choices of values of these sets, counted over the choices of those that are not given.
+// The number of fields among all choices of values of these sets, counted over the choices of those that are not given, up to the end of 64 bits.
 #[cycle(eval)]
 fn eval_choice(
     scope: &Scope<'_>,
@@ -592,9 +606,9 @@ fn eval_choice(
     fields: &[Expr],
     sets: &[AtomSet],
 ) -> Result<u64, EvalFault>
-    ensures { Gives result (form.scaled (fields_worth scope.now.content.now scope.now.uses (env_in names.now) fields.now sets.now 0) (form.each_of sets.now (length fields.now))) }
+    ensures { Gives result (form.capped (form.scaled (fields_worth scope.now.content.now scope.now.uses (env_in names.now) fields.now sets.now 0) (form.each_of sets.now (length fields.now)))) }
 {
-    let each = each_of(sets, fields.len())?;
+    let each = each_of(sets, fields.len());
     eval_fields(scope, names, fields, sets, each)
 }
 
@@ -605,14 +619,14 @@ fn eval_front(
     names: &Names<'_>,
     channel: u32,
     fields: &[Expr],
-) -> Result<u64, EvalFault>
+) -> Result<u32, EvalFault>
     ensures { Gives result (front_worth scope.now.content.now scope.now.uses (env_in names.now) channel fields.now) }
 {
-    let channels = scope.content.channels.as_slice();
+    let channels = scope.content.channels();
     match field_sets(channels, channel) {
         Some(sets) => {
             let place = eval_choice(scope, names, fields, sets)?;
-            event_at(channels, channel, place)
+            Ok(event_at(channels, channel, place))
         }
         None => Err(KIND),
     }
@@ -645,12 +659,9 @@ fn add_front(
 ) -> Result<AtomSet, EvalFault>
     ensures { Gives result (with_front scope.now.content.now scope.now.uses (env_in names.now) part.now atoms) }
 {
+    let channels = scope.content.channels();
     let first = eval_front(scope, names, part.channel, part.fields.as_slice())?;
-    let count = count_with(
-        scope.content.channels.as_slice(),
-        part.channel,
-        part.fields.len(),
-    )?;
+    let count = count_with(channels, part.channel, part.fields.len());
     with_events(atoms, first, count)
 }
 

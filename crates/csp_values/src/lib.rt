@@ -2,6 +2,7 @@
 #![tactic(auto)]
 
 mod evaluation;
+mod fitting;
 mod tally;
 mod walk;
 

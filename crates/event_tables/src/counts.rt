@@ -8,17 +8,7 @@ ghost use Rattle.script_names.specs.Resolved.{all_events};
 use crate::sets::SharedSets;
 use csp_atoms::AtomSet;
 use csp_base::NoMemory;
-
-/// How many events a channel with these field sets has. Counting stops at the end of 64 bits.
-pub fn row_count(sets: &[AtomSet]) -> u64
-    ensures { result ≡ min (meant.row_count sets.now) (2 ^ 64 - 1) }
-{
-    let mut count: u64 = 1;
-    for set in sets {
-        count = count.saturating_mul(set.len() as u64);
-    }
-    count
-}
+use value_operators::numbers::row_count;
 
 /// How many events the channels with these field sets have. Counting stops at the end of 64 bits.
 pub fn event_count(shared: &[SharedSets]) -> u64

@@ -5,7 +5,7 @@ ghost use Rattle.csp_atoms.specs.declared.atom.Atom.{Atom};
 ghost use Rattle.csp_program.specs.EventTable as meant;
 ghost use Rattle.event_tables.specs.Spread.{extended};
 
-use crate::counts::row_count;
+use value_operators::numbers::row_count;
 use containers::Items;
 use csp_atoms::{Atom, AtomSet};
 use csp_base::NoMemory;

@@ -80,14 +80,14 @@ module _ (p : Content) where
       let h' : Ok ((Tick, proc.Ended) ∷ []) ≡ Ok moves = sym (steps-Skip p) ∙ h in
       let e : (Tick, proc.Ended) ∷ [] ≡ moves = cc in
       same_list ((Tick, proc.Ended) ∷ []) moves (Tick, proc.Ended) e (inl refl)
-  lists (prefix k fields q r choice n head fills) moves h =
-      let first = came (of_head p k) (λ choice. and_then (ways_to_fill p choice.sets fields q 0) (λ ways. Ok (map (λ w. (Visible (choice.first + w.0), w.1)) ways))) moves (sym (steps-Prefix p k fields q) ∙ h) in
+  lists (prefix k fields q r choice row head fills) moves h =
+      let first = came (of_head p k) (λ choice. and_then (ways_to_fill p choice.sets fields q []) (λ ways. Ok (map (λ w. (Visible (choice.event w.0), w.1)) ways))) moves (sym (steps-Prefix p k fields q) ∙ h) in
       let same : first.value ≡ choice = cc in
-      let after = subst (λ choice. and_then (ways_to_fill p choice.sets fields q 0) (λ ways. Ok (map (λ w. (Visible (choice.first + w.0), w.1)) ways)) ≡ Ok moves) same first.after in
-      let second = came (ways_to_fill p choice.sets fields q 0) (λ ways. Ok (map (λ w. (Visible (choice.first + w.0), w.1)) ways)) moves after in
-      let e : map (λ w. (Visible (choice.first + w.0), w.1)) second.value ≡ moves = cc in
-      same_list (map (λ w. (Visible (choice.first + w.0), w.1)) second.value) moves (Visible (choice.first + n), r) e
-      (in_map (λ w. (Visible (choice.first + w.0), w.1)) second.value (n, r) (fills_complete p fills second.value second.before))
+      let after = subst (λ choice. and_then (ways_to_fill p choice.sets fields q []) (λ ways. Ok (map (λ w. (Visible (choice.event w.0), w.1)) ways)) ≡ Ok moves) same first.after in
+      let second = came (ways_to_fill p choice.sets fields q []) (λ ways. Ok (map (λ w. (Visible (choice.event w.0), w.1)) ways)) moves after in
+      let e : map (λ w. (Visible (choice.event w.0), w.1)) second.value ≡ moves = cc in
+      same_list (map (λ w. (Visible (choice.event w.0), w.1)) second.value) moves (Visible (choice.event row), r) e
+      (in_map (λ w. (Visible (choice.event w.0), w.1)) second.value (row, r) (fills_complete p fills second.value second.before))
   lists (call d args vs q worth is) moves h =
       let first = came (arguments_in p args) (λ vs. and_then (called (slice_get p.defs d) vs) (λ q. Ok ((Silent, q) ∷ []))) moves (sym (steps-Call p d args) ∙ h) in
       let same : first.value ≡ vs = cc in

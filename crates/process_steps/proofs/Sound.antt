@@ -108,13 +108,13 @@ module _ (p : Content) (below : Proc → Outcome (List Move)) (sound : (q : Proc
 
   sound_prefix : (k : Head) (fields : List Field) (q : Proc) → IsSound p (proc.Prefix k fields q) (steps_of_layer p below (Proc-F.Prefix k fields q))
   sound_prefix k fields q moves h l u g =
-      let first = came (of_head p k) (λ choice. and_then (ways_to_fill p choice.sets fields q 0) (λ ways. Ok (map (λ w. (Visible (choice.first + w.0), w.1)) ways))) moves h in
+      let first = came (of_head p k) (λ choice. and_then (ways_to_fill p choice.sets fields q []) (λ ways. Ok (map (λ w. (Visible (choice.event w.0), w.1)) ways))) moves h in
       let choice = first.value in
-      let second = came (ways_to_fill p choice.sets fields q 0) (λ ways. Ok (map (λ w. (Visible (choice.first + w.0), w.1)) ways)) moves first.after in
-      let e : map (λ w. (Visible (choice.first + w.0), w.1)) second.value ≡ moves = cc in
-      let from = from_map (λ w. (Visible (choice.first + w.0), w.1)) second.value (l, u) (same_list moves (map (λ w. (Visible (choice.first + w.0), w.1)) second.value) (l, u) (sym e) g) in
-      same_step p (proc.Prefix k fields q) (Visible (choice.first + from.source.0)) l from.source.1 u from.made
-      (prefix k fields q from.source.1 choice from.source.0 first.before (fills_sound p choice.sets fields q 0 second.value second.before from.source from.among))
+      let second = came (ways_to_fill p choice.sets fields q []) (λ ways. Ok (map (λ w. (Visible (choice.event w.0), w.1)) ways)) moves first.after in
+      let e : map (λ w. (Visible (choice.event w.0), w.1)) second.value ≡ moves = cc in
+      let from = from_map (λ w. (Visible (choice.event w.0), w.1)) second.value (l, u) (same_list moves (map (λ w. (Visible (choice.event w.0), w.1)) second.value) (l, u) (sym e) g) in
+      same_step p (proc.Prefix k fields q) (Visible (choice.event from.source.0)) l from.source.1 u from.made
+      (prefix k fields q from.source.1 choice from.source.0 first.before (fills_sound p choice.sets fields q [] second.value second.before from.source from.among))
 
   sound_call : (d : ℕ) (args : List Expr) → IsSound p (proc.Call d args) (steps_of_layer p below (Proc-F.Call d args))
   sound_call d args moves h l u g =

@@ -1,19 +1,19 @@
 -- What a renaming makes of an event. Each pair of it names, under each binding of its generators, all events that begin with the old side; such an
 -- event becomes the one that begins with the new side and has the same fields after it. One event may become several, and several one. An event
 -- that no pair names stays itself.
-use Rattle.std.specs.Prelude.{ℕ, ◌+◌, ◌*◌, nat_eq, nat_lt, if◌then◌else◌, Option, Some, None, Ok, Err, List, [], ◌∷◌, ◌++◌, map, length, drop, take, slice_get}
+use Rattle.std.specs.Prelude.{ℕ, ◌+◌, nat_eq, nat_lt, if◌then◌else◌, Option, Some, None, Ok, Err, List, [], ◌∷◌, ◌++◌, map, length, drop, slice_get}
 use Rattle.std.specs.List.{filter}
 use Rattle.dl_limits.specs.declared.TheConstants.{MOST_BINDINGS}
 use Rattle.csp_program.specs.Outcome.{Outcome, and_then}
-use Rattle.csp_program.specs.Value.{Env, Meaning, field_place, first_of, front_count, front_number, meaning, sets_of, turn, uses_within, values_of, walked}
+use Rattle.csp_program.specs.Value.{Env, Meaning, front_events, meaning, one_event, turn, uses_within, values_of, walked}
 use Rattle.process_steps.specs.Needed.{each_joined}
-use Rattle.csp_atoms.specs.declared.atom.Atom.{Atom}
 use Rattle.csp_atoms.specs.declared.value.Value.{Value}
 use Rattle.csp_atoms.specs.declared.value.Value.TheVariants.{One}
 use Rattle.csp_program.specs.declared.expressions.EventPart.{EventPart, out-EventPart}
 use Rattle.csp_program.specs.declared.expressions.Expr.{Expr}
 use Rattle.csp_program.specs.declared.expressions.Gen.{Gen}
-use Rattle.csp_program.specs.declared.kinds.ValueKind.TheVariants.{Kind, OutsideChannel, SetLimit}
+use Rattle.csp_program.specs.declared.kinds.ValueKind.TheVariants.{SetLimit}
+use Rattle.csp_program.specs.declared.programs.Channel.{Channel}
 use Rattle.csp_program.specs.declared.programs.Content.{Content}
 use Rattle.csp_program.specs.declared.programs.EventInfo.{EventInfo}
 
@@ -21,20 +21,14 @@ use Rattle.csp_program.specs.declared.programs.EventInfo.{EventInfo}
 abbrev pub Renamed : Type 0
 Renamed = ℕ × ℕ
 
--- the number of the event that has these values as its fields, after others with the number n
-abbrev pub number_with : List Value → List (List Atom) → ℕ → Outcome ℕ
-number_with [] [] n = Ok n
-number_with (v ∷ vs) (set ∷ sets) n = and_then (field_place set v) (λ k. number_with vs sets (n * length set + k))
-number_with _ _ _ = Err OutsideChannel
+-- the event of a channel that has these values
+abbrev pub event_with : List Channel → ℕ → List Value → Outcome ℕ
+event_with channels c vs = and_then (front_events channels c (map (λ v env. Ok v) vs) []) one_event
 
--- the event of a channel that has these values as its fields, where the channel's first event has the number first
-abbrev pub event_with : ℕ → Option (List (List Atom)) → List Value → Outcome ℕ
-event_with first None vs = Err Kind
-event_with first (Some sets) vs = and_then (number_with vs sets 0) (λ n. Ok (first + n))
-
--- an event with its new one, which comes from the values of its fields but for the first ones, so many as are given
-abbrev pub renamed_as : (List Atom → Outcome ℕ) → ℕ → ℕ → EventInfo → Outcome (List Renamed)
-renamed_as new given e info = and_then (new (drop given info.fields)) (λ d. Ok ((e, d) ∷ []))
+-- the values of an event but for the first ones, so many as are given
+abbrev pub values_after : ℕ → Option EventInfo → List Value
+values_after given None = []
+values_after given (Some event) = map (λ a. One a) (drop given event.fields)
 
 -- the values of a renaming's bindings, and what it has renamed so far
 pub record Gathering : Type 0 where
@@ -51,10 +45,9 @@ module _ (p : Content) where
   pair_renamed env pair =
       let old = out-EventPart pair.0 in
       let new = out-EventPart pair.1 in
-      and_then (front_number (first_of (slice_get p.channels old.channel)) (sets_of (slice_get p.channels old.channel)) (meanings p old.fields) env) (λ e.
+      and_then (front_events p.channels old.channel (meanings p old.fields) env) (λ es.
       and_then (values_of (meanings p new.fields) env) (λ vs.
-      each_joined (renamed_as (λ rest. event_with (first_of (slice_get p.channels new.channel)) (sets_of (slice_get p.channels new.channel)) (vs ++ map (λ a. One a) rest)) (length old.fields))
-      e (take (front_count (sets_of (slice_get p.channels old.channel)) (meanings p old.fields)) (drop e p.events))))
+      each_joined (λ k e. and_then (event_with p.channels new.channel (vs ++ values_after (length old.fields) (slice_get p.events e))) (λ d. Ok ((e, d) ∷ []))) 0 es))
 
   -- the pairs from the left
   abbrev pub pairs_renamed : Env → List (EventPart × EventPart) → Outcome (List Renamed)

@@ -1,6 +1,6 @@
 -- The steps of a process over a program (Roscoe, The Theory and Practice of Concurrency, 1997, chapter 7). A label is silent, an event or tick.
 -- A call keeps its arguments as they are written until it is entered.
-use Rattle.std.specs.Prelude.{◌≡◌, ℕ, ◌+◌, true, false, Some, Ok, List, map, slice_get, slice_set}
+use Rattle.std.specs.Prelude.{◌≡◌, ℕ, true, false, Some, Ok, List, [], map, slice_get, slice_set}
 use Rattle.csp_base.specs.Members.{has}
 use Rattle.csp_program.specs.Substitution.{proc_with}
 use Rattle.process_steps.specs.Needed.{arguments_in, called, events_in, set_in, truth_in}
@@ -28,9 +28,9 @@ each_put x atoms q = map (λ a. proc_with x (One a) q) atoms
 pub data Step (p : Content) : Proc → Label → Proc → Type 0 where
   skip : Step p proc.Skip Tick proc.Ended
   -- an event for each way to fill the fields
-  prefix : (h : Head) (fields : List Field) (q r : Proc) (choice : Choice) (n : ℕ) →
-      of_head p h ≡ Ok choice → Fills p choice.sets fields q 0 n r →
-      Step p (proc.Prefix h fields q) (Visible (choice.first + n)) r
+  prefix : (h : Head) (fields : List Field) (q r : Proc) (choice : Choice) (row : List Atom) →
+      of_head p h ≡ Ok choice → Fills p choice.sets fields q [] row r →
+      Step p (proc.Prefix h fields q) (Visible (choice.event row)) r
   -- the body of the definition, with the values of the arguments
   call : (d : ℕ) (args : List Expr) (vs : List Value) (q : Proc) →
       arguments_in p args ≡ Ok vs → called (slice_get p.defs d) vs ≡ Ok q →

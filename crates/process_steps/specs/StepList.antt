@@ -1,6 +1,6 @@
 -- The steps of a process as a list, or the first fault that is met where their values are needed: fields and operands from the left, values in
 -- rising order, the set of a hiding and the pairs of a renaming after the steps of the process below, and also where that has none.
-use Rattle.std.specs.Prelude.{◌≡◌, ℕ, zero, suc, ◌+◌, if◌then◌else◌, Some, Ok, Err, List, [], ◌∷◌, map, slice_get, slice_set}
+use Rattle.std.specs.Prelude.{◌≡◌, ℕ, zero, suc, if◌then◌else◌, Some, Ok, Err, List, [], ◌∷◌, map, slice_get, slice_set}
 use Rattle.csp_base.specs.Members.{has}
 use Rattle.csp_program.specs.Depth.{proc_depth}
 use Rattle.csp_program.specs.Lists.{joined}
@@ -71,7 +71,7 @@ module _ (p : Content) (below : Proc → Outcome (List Move)) where
   abbrev pub steps_of_layer : Proc-F Proc → Outcome (List Move)
   steps_of_layer Proc-F.Stop = Ok []
   steps_of_layer (Proc-F.Prefix h fields q) =
-      and_then (of_head p h) (λ choice. and_then (ways_to_fill p choice.sets fields q 0) (λ ways. Ok (map (λ w. (Visible (choice.first + w.0), w.1)) ways)))
+      and_then (of_head p h) (λ choice. and_then (ways_to_fill p choice.sets fields q []) (λ ways. Ok (map (λ w. (Visible (choice.event w.0), w.1)) ways)))
   steps_of_layer (Proc-F.Guard c q) = and_then (truth_in p c) (λ b. if b then below q else Ok [])
   steps_of_layer (Proc-F.If c q r) = and_then (truth_in p c) (λ b. if b then below q else below r)
   steps_of_layer (Proc-F.External qs) = steps_of_choice qs

@@ -1,17 +1,16 @@
 //! What a pair of a renaming renames under a binding of its generators.
 
-ghost use Rattle.std.specs.Prelude.{◌≡◌, ◌+◌, ◌*◌, ◌++◌, [], drop, take, length, map, slice_get, IfOk, Ok};
+ghost use Rattle.std.specs.Prelude.{◌≡◌, ◌+◌, ◌<◌, ◌≤◌, ◌^◌, ◌++◌, [], drop, take, length, map, IfOk, Ok};
 ghost use Rattle.csp_atoms.specs.declared.value.Value.TheVariants as value;
 ghost use Rattle.csp_program.specs.Outcome.{and_then};
-ghost use Rattle.csp_program.specs.Value.{field_place, first_of, sets_of};
 ghost use Rattle.csp_program.specs.declared.expressions.EventPart.{out-EventPart};
 ghost use Rattle.csp_values.specs.Worth.{front_worth};
 ghost use Rattle.process_steps.specs.Needed.{each_joined};
 ghost use Rattle.process_steps.specs.Renaming as meant;
 ghost use Rattle.value_operators.specs.Env.{with_bound};
-ghost use Rattle.value_operators.specs.Forms.{count_with};
+ghost use Rattle.value_operators.specs.Forms as form;
 ghost use Rattle.value_operators.specs.Gives.{Gives};
-ghost use Rattle.step_values.specs.Walked.{new_event};
+ghost use Rattle.step_values.specs.Walked.{new_event, place_after, renamed_as};
 
 use containers::Items;
 use csp_atoms::{Atom, AtomSet, Value};
@@ -20,7 +19,9 @@ use csp_program::copies::copy_value;
 use csp_program::{EventInfo, EventPart, Program, ValueKind};
 use csp_values::{EvalFault, eval_all_under, front_under};
 use std::alloc::Global;
-use value_operators::numbers::{count_with, event_at, field_sets, place_in, with_field};
+use value_operators::numbers::{
+    count_with, each_of, event_at, field_sets, place_in, with_field,
+};
 
 const KIND: EvalFault = EvalFault::Value {
     kind: ValueKind::Kind,
@@ -41,16 +42,15 @@ struct NewSide<'a> {
     given: usize,
 }
 
-// The events of the table from one on, so many where there are as many.
-fn events_from(program: &Program, first: u64, count: u64) -> &[EventInfo]
-    ensures { result.now ≡ take count (drop first program.now.events) }
+// The events from one on, so many where there are as many.
+fn events_from(events: &[EventInfo], first: u32, count: u32) -> &[EventInfo]
+    ensures { result.now ≡ take count (drop first events.now) }
 {
-    let events = program.content().events.as_slice();
-    if first >= events.len() as u64 {
+    if first as usize >= events.len() {
         return &[];
     }
     let rest = &events[first as usize..];
-    if count >= rest.len() as u64 {
+    if count as usize >= rest.len() {
         return rest;
     }
     &rest[..count as usize]
@@ -88,17 +88,9 @@ fn values_then(alloc: Global, values: &[Value], atoms: &[Atom]) -> Result<Items<
     Ok(made)
 }
 
-// The number of fields with one more.
-fn number_after(number: u64, set: &AtomSet, value: &Value) -> Result<u64, EvalFault>
-    ensures { Gives result (and_then (field_place set.now value.now) (λ k. Ok (number * length set.now + k))) }
-{
-    let place = place_in(set, value)?;
-    with_field(number, set, place, 1)
-}
-
-// The number of the fields with these values.
-fn number_with(values: &[Value], sets: &[AtomSet]) -> Result<u64, EvalFault>
-    ensures { Gives result (meant.number_with values.now sets.now 0) }
+// The number of the fields with these values among all choices of values of these sets, each counted `each` times. Counting stops at the end of 64 bits.
+fn place_with(values: &[Value], sets: &[AtomSet], each: u64) -> Result<u64, EvalFault>
+    ensures { Gives result (form.capped (place_after values.now sets.now each 0)) }
 {
     let mut number = 0;
     let mut rest = sets;
@@ -106,48 +98,40 @@ fn number_with(values: &[Value], sets: &[AtomSet]) -> Result<u64, EvalFault>
         let [set, others @ ..] = rest else {
             return Err(OUTSIDE);
         };
-        number = number_after(number, set, value)?;
+        let place = place_in(set, value)?;
+        number = with_field(number, set, place, each);
         rest = others;
     }
-    match rest {
-        [] => Ok(number),
-        _ => Err(OUTSIDE),
-    }
-}
-
-// The event with this number. One that 32 bits don't hold is refused like want of memory.
-fn event(number: u64) -> Result<Event, EvalFault>
-    ensures { Gives result (Ok number) }
-{
-    match u32::try_from(number) {
-        Ok(number) => Ok(Event(number)),
-        Err(_) => Err(EvalFault::NoMemory),
-    }
+    Ok(number)
 }
 
 // The event of a channel that has these values as its fields.
 fn event_with(program: &Program, channel: u32, values: &[Value]) -> Result<Event, EvalFault>
-    ensures { Gives result (meant.event_with (first_of (slice_get program.now.channels channel)) (sets_of (slice_get program.now.channels channel)) values.now) }
+    ensures { Gives result (meant.event_with program.now.channels channel values.now) }
 {
-    let channels = program.content().channels.as_slice();
+    let content = program.content();
+    let channels = content.channels.as_slice();
     match field_sets(channels, channel) {
         Some(sets) => {
-            let number = number_with(values, sets)?;
-            let number = event_at(channels, channel, number)?;
-            event(number)
+            let each = each_of(sets, values.len());
+            let place = place_with(values, sets, each)?;
+            let first = event_at(channels, channel, place);
+            let count = count_with(channels, channel, values.len());
+            if count == 0 {
+                return Err(OUTSIDE);
+            }
+            Ok(Event(first))
         }
         None => Err(KIND),
     }
 }
 
 // The event that has `place` among those from `first` on.
-fn event_after(first: u64, place: usize) -> Result<Event, NoMemory>
-    ensures { IfOk result (λ event. event ≡ first + place) }
+fn event_after(first: u32, place: usize) -> Event
+    requires { first + place < 2 ^ 32 }
+    ensures { result ≡ first + place }
 {
-    match first.checked_add(place as u64) {
-        Some(number) => event(number).map_err(|_| NoMemory),
-        None => Err(NoMemory),
-    }
+    Event(first + place as u32)
 }
 
 // What an event becomes.
@@ -169,18 +153,17 @@ fn add_event(
     alloc: Global,
     program: &Program,
     new: &NewSide<'_>,
-    first: u64,
+    first: u32,
     place: usize,
     info: &EventInfo,
     renamed: Items<(Event, Event)>,
 ) -> Result<Items<(Event, Event)>, EvalFault>
-    ensures { Gives result (and_then (meant.renamed_as (new_event program.now new.now.channel new.now.values.now) new.now.given (first + place) info.now) (λ more. Ok (renamed ++ more))) }
+    requires { first + place < 2 ^ 32 }
+    ensures { Gives result (and_then (renamed_as (new_event program.now new.now.channel new.now.values.now) new.now.given (first + place) info.now) (λ more. Ok (renamed ++ more))) }
 {
     let becomes = new_of(alloc, program, new, info)?;
     let mut renamed = renamed;
-    let Ok(()) = renamed.push_made(event_after(first, place).map(|event| (event, becomes))) else {
-        return Err(EvalFault::NoMemory);
-    };
+    renamed.push((event_after(first, place), becomes))?;
     Ok(renamed)
 }
 
@@ -189,11 +172,12 @@ fn add_events(
     alloc: Global,
     program: &Program,
     new: &NewSide<'_>,
-    first: u64,
+    first: u32,
     events: &[EventInfo],
     renamed: Items<(Event, Event)>,
 ) -> Result<Items<(Event, Event)>, EvalFault>
-    ensures { Gives result (and_then (each_joined (meant.renamed_as (new_event program.now new.now.channel new.now.values.now) new.now.given) first events.now) (λ more. Ok (renamed ++ more))) }
+    requires { first + length events.now ≤ 2 ^ 32 }
+    ensures { Gives result (and_then (each_joined (renamed_as (new_event program.now new.now.channel new.now.values.now) new.now.given) first events.now) (λ more. Ok (renamed ++ more))) }
 {
     let mut renamed = renamed;
     for (place, info) in events.iter().enumerate() {
@@ -202,34 +186,17 @@ fn add_events(
     Ok(renamed)
 }
 
-// What is renamed, with the events of a channel from `first` on that begin with one choice of the fields that the old side gives, and what each
-// becomes.
-fn add_choice(
-    alloc: Global,
-    program: &Program,
-    channel: u32,
-    first: u64,
-    new: &NewSide<'_>,
-    renamed: Items<(Event, Event)>,
-) -> Result<Items<(Event, Event)>, EvalFault>
-    ensures { Gives result (and_then (each_joined (meant.renamed_as (new_event program.now new.now.channel new.now.values.now) new.now.given) first (take (count_with (sets_of (slice_get program.now.channels channel)) new.now.given) (drop first program.now.events))) (λ more. Ok (renamed ++ more))) }
-{
-    let count = count_with(program.content().channels.as_slice(), channel, new.given)?;
-    let events = events_from(program, first, count);
-    add_events(alloc, program, new, first, events, renamed)
-}
-
 // What is renamed, with what a pair renames under a binding, where the old side begins with the event `first`.
 fn add_from(
     alloc: Global,
     program: &Program,
     bound: &[(u32, Atom)],
     pair: &(EventPart, EventPart),
-    first: u64,
+    first: u32,
     renamed: Items<(Event, Event)>,
 ) -> Result<Items<(Event, Event)>, EvalFault>
-    ensures { front_worth program.now (length program.now.defs) (with_bound bound.now []) (out-EventPart pair.now.0).channel (out-EventPart pair.now.0).fields ≡ Ok first
-        → Gives result (and_then (meant.pair_renamed program.now (with_bound bound.now []) pair.now) (λ more. Ok (renamed ++ more))) }
+    requires { front_worth program.now (length program.now.defs) (with_bound bound.now []) (out-EventPart pair.now.0).channel (out-EventPart pair.now.0).fields ≡ Ok first }
+    ensures { Gives result (and_then (meant.pair_renamed program.now (with_bound bound.now []) pair.now) (λ more. Ok (renamed ++ more))) }
 {
     let old = &pair.0;
     let new = &pair.1;
@@ -239,7 +206,10 @@ fn add_from(
         values: values.as_slice(),
         given: old.fields.len(),
     };
-    add_choice(alloc, program, old.channel, first, &side, renamed)
+    let content = program.content();
+    let count = count_with(content.channels.as_slice(), old.channel, side.given);
+    let events = events_from(content.events.as_slice(), first, count);
+    add_events(alloc, program, &side, first, events, renamed)
 }
 
 /// What is renamed, with what a pair renames under a binding.

@@ -1,12 +1,12 @@
 -- An expression with a value put in place of a name is worth what it is worth where the name is bound to the value.
-use Rattle.std.proofs.Common.{◌≡◌, ℕ, suc, ◌+◌, ◌*◌, ◌⊎◌, Bool, true, false, cond, ◌||◌, nat_eq, Option, Some, None, Ok, Err, List, [], ◌∷◌, map, length, drop, refl, ap, sym, ◌∙◌, subst, inl, inr}
+use Rattle.std.proofs.Common.{◌≡◌, ℕ, ◌+◌, ◌⊎◌, Bool, true, false, cond, ◌||◌, nat_eq, Option, Some, None, Ok, Err, List, [], ◌∷◌, map, refl, ap, sym, ◌∙◌, subst, inl, inr}
 use Rattle.std.specs.Prelude.{is_none, nat_lt, slice_get}
 use Rattle.std.proofs.lemmas.Bool.{false≢true, eq-eqb, eqb-true}
-use Rattle.csp_program.specs.Atoms.{added, all_added, events_from}
-use Rattle.csp_program.specs.EventNumber.{row_count}
+use Rattle.csp_program.specs.Atoms.{added, all_added}
+use Rattle.csp_program.specs.EventTable.{events_with}
 use Rattle.csp_program.specs.Outcome.{Outcome, and_then}
 use Rattle.csp_program.specs.Substitution.{any_binds, binds, layer_binds}
-use Rattle.csp_program.specs.Value.{Env, Front, Gathered, Meaning, Turn, Uses, as_atom, as_number, as_set, as_truth, binary, bound_value, field_place, fields_number, first_of, from, front, front_count, front_number, front_of_layer, fronts_added, gathered, items_added, lack_sets, many, meaning, meaning_of_layer, over, range, set_binary, sets_of, turn, turn_of_layer, values_of, walked, when}
+use Rattle.csp_program.specs.Value.{Env, Front, Gathered, Meaning, Turn, Uses, as_atom, as_number, as_set, as_truth, binary, bound_value, from, front, front_events, front_of_layer, fronts_added, gathered, in_field, items_added, lack_sets, many, meaning, meaning_of_layer, one_event, over, range, row_in, row_of, set_binary, sets_of, turn, turn_of_layer, values_of, walked, when}
 use Rattle.csp_atoms.specs.declared.atom.Atom.{Atom}
 use Rattle.csp_atoms.specs.declared.atom.Atom.TheVariants as atom
 use Rattle.csp_atoms.specs.declared.value.Value.{Value}
@@ -98,25 +98,21 @@ module _ (u : Uses) (channels : List Channel) (x : ℕ) (v : Value) where
   items_same (e ∷ es) same b env env' r atoms =
       λ i. and_then (same.0 b env env' r i) (λ w. and_then (as_atom w) (λ a. and_then (added atoms a) (λ more. items_same es same.1 b env env' r more i)))
 
-  numbers_same : (es : List Expr) → Every SameExpr es → (sets : List (List Atom)) (n : ℕ) (b : Bool) (env env' : Env) → Alike b env env'
-      → fields_number (map M (exprs_after x v b es)) sets env n ≡ fields_number (map M es) sets env' n
-  numbers_same [] same sets n b env env' r = refl
-  numbers_same (e ∷ es) same [] n b env env' r = refl
-  numbers_same (e ∷ es) same (set ∷ sets) n b env env' r =
-      λ i. and_then (same.0 b env env' r i) (λ w. and_then (field_place set w) (λ k. numbers_same es same.1 sets (n * length set + k) b env env' r i))
+  rows_same : (es : List Expr) → Every SameExpr es → (sets : List (List Atom)) (b : Bool) (env env' : Env) → Alike b env env'
+      → row_of (map M (exprs_after x v b es)) sets env ≡ row_of (map M es) sets env'
+  rows_same [] same sets b env env' r = refl
+  rows_same (e ∷ es) same [] b env env' r = refl
+  rows_same (e ∷ es) same (set ∷ sets) b env env' r =
+      λ i. and_then (same.0 b env env' r i) (λ w. and_then (in_field set w) (λ a. and_then (rows_same es same.1 sets b env env' r i) (λ row. Ok (a ∷ row))))
 
-  lengths_same : (es : List Expr) (b : Bool) → length (map M (exprs_after x v b es)) ≡ length (map M es)
-  lengths_same [] b = refl
-  lengths_same (e ∷ es) b = λ i. suc (lengths_same es b i)
+  row_same : (o : Option (List (List Atom))) (es : List Expr) → Every SameExpr es → (b : Bool) (env env' : Env) → Alike b env env'
+      → row_in o (map M (exprs_after x v b es)) env ≡ row_in o (map M es) env'
+  row_same None es same b env env' r = refl
+  row_same (Some sets) es same b env env' r = rows_same es same sets b env env' r
 
-  front_same : (first : ℕ) (o : Option (List (List Atom))) (es : List Expr) → Every SameExpr es → (b : Bool) (env env' : Env) → Alike b env env'
-      → front_number first o (map M (exprs_after x v b es)) env ≡ front_number first o (map M es) env'
-  front_same first None es same b env env' r = refl
-  front_same first (Some sets) es same b env env' r = λ i. and_then (numbers_same es same sets 0 b env env' r i) (λ n. Ok (first + n * row_count (drop (lengths_same es b i) sets)))
-
-  count_same : (o : Option (List (List Atom))) (es : List Expr) (b : Bool) → front_count o (map M (exprs_after x v b es)) ≡ front_count o (map M es)
-  count_same None es b = refl
-  count_same (Some sets) es b = λ i. row_count (drop (lengths_same es b i) sets)
+  front_same : (c : ℕ) (es : List Expr) → Every SameExpr es → (b : Bool) (env env' : Env) → Alike b env env'
+      → front_events channels c (map M (exprs_after x v b es)) env ≡ front_events channels c (map M es) env'
+  front_same c es same b env env' r = ap (λ o. and_then o (λ row. Ok (events_with channels c row))) (row_same (sets_of (slice_get channels c)) es same b env env' r)
 
   abbrev part_after_all : Bool → EventPart → EventPart
   part_after_all b p = cond b p (part_after x v p)
@@ -141,11 +137,9 @@ module _ (u : Uses) (channels : List Channel) (x : ℕ) (v : Value) where
       → fronts_added channels (map F (parts_after x v b ps)) env atoms ≡ fronts_added channels (map F ps) env' atoms
   fronts_same [] same b env env' r atoms = refl
   fronts_same (p ∷ ps) same b env env' r atoms =
-      let c = same.0.0 in
-      let sets = sets_of (slice_get channels c) in
       ap (λ (f : Front). fronts_added channels (f ∷ map F (parts_after x v b ps)) env atoms) (front_after b p same.0) ∙
-      ((λ i. and_then (front_same (first_of (slice_get channels c)) sets same.0.1 same.0.3 b env env' r i)
-      (λ e. and_then (all_added atoms (events_from e (count_same sets same.0.1 b i))) (λ more. fronts_same ps same.1 b env env' r more i))) ∙
+      ((λ i. and_then (front_same same.0.0 same.0.1 same.0.3 b env env' r i)
+      (λ es. and_then (all_added atoms (map (λ e. atom.Event e) es)) (λ more. fronts_same ps same.1 b env env' r more i))) ∙
       ap (λ (f : Front). fronts_added channels (f ∷ map F ps) env' atoms) (sym (front_before p same.0)))
 
   lack_same : (ps : List EventPart) → Every SamePart ps → (b : Bool) → lack_sets channels (map F (parts_after x v b ps)) ≡ lack_sets channels (map F ps)
@@ -237,7 +231,7 @@ module _ (u : Uses) (channels : List Channel) (x : ℕ) (v : Value) where
       λ i. and_then (same.0 b env env' r i) (λ w. and_then (as_truth w) (λ t. cond t (same.1 b env env' r i) (same.2 b env env' r i)))
   form_same (Expr-F.Call d args) same b env env' r = λ i. and_then (values_same args same b env env' r i) (λ ws. u d ws)
   form_same (Expr-F.Event c fields) same b env env' r =
-      λ i. and_then (front_same (first_of (slice_get channels c)) (sets_of (slice_get channels c)) fields same b env env' r i) (λ e. Ok (One (atom.Event e)))
+      λ i. and_then (front_same c fields same b env env' r i) (λ es. and_then (one_event es) (λ e. Ok (One (atom.Event e))))
   form_same (Expr-F.Display items) same b env env' r = λ i. many (items_same items same b env env' r [] i)
   form_same (Expr-F.Range a c) same b env env' r =
       λ i. and_then (same.0 b env env' r i) (λ w. and_then (as_number w) (λ m. and_then (same.1 b env env' r i) (λ z. and_then (as_number z) (λ n. many (range m n)))))

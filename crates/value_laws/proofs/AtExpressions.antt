@@ -1,12 +1,13 @@
 -- The laws of events, comprehensions and productions, at expressions.
-use Rattle.std.proofs.Common.{◌≡◌, ℕ, Bool, true, false, cond, Ok, Err, sym, ◌∙◌, ap}
-use Rattle.csp_program.specs.Outcome.{Outcome}
-use Rattle.csp_program.specs.Value.{Env, Front, Meaning, lack_sets, Turn, front, front_of_layer, meaning, meaning_of_layer, turn, turn_of_layer, uses_within, meanings}
+use Rattle.std.proofs.Common.{◌≡◌, ℕ, Bool, true, false, cond, List, Ok, Err, sym, ◌∙◌, ap}
+use Rattle.csp_program.specs.Outcome.{Outcome, and_then}
+use Rattle.csp_program.specs.Value.{Env, Front, Meaning, lack_sets, one_event, Turn, front, front_events, front_of_layer, meaning, meaning_of_layer, turn, turn_of_layer, uses_within, value_within, meanings}
 use Rattle.value_laws.specs.Bindings.{ComprehensionsHoldTheirItems, ProductionsHoldWhatBegins, fronts_within, turns_within}
-use Rattle.value_laws.specs.EventNumbers.{EventsAreWorthTheirNumbers}
 use Rattle.value_laws.proofs.Fronts.{events_held}
 use Rattle.value_laws.proofs.Walks.{items_held}
+use Rattle.csp_atoms.specs.declared.atom.Atom.TheVariants as atom
 use Rattle.csp_atoms.specs.declared.value.Value.{Value}
+use Rattle.csp_atoms.specs.declared.value.Value.TheVariants.{One}
 use Rattle.csp_program.specs.declared.kinds.ValueKind.TheVariants.{Kind}
 use Rattle.csp_program.specs.declared.expressions.EventPart.{EventPart}
 use Rattle.csp_program.specs.declared.expressions.Expr.{Expr}
@@ -24,8 +25,9 @@ form_meaning p n e d rolls env =
     ap (λ z. meaning (uses_within p n) p.channels z env) (sym rolls) ∙
     (λ i. fold-roll-Expr Meaning Turn Front (meaning_of_layer (uses_within p n) p.channels) (turn_of_layer (uses_within p n) p.channels) (front_of_layer (uses_within p n) p.channels) d i env)
 
-pub events_are_worth_their_numbers : EventsAreWorthTheirNumbers
-events_are_worth_their_numbers p n c fields env = form_meaning p n (expr.Event c fields) (Expr-F.Event c fields) (expr.rolls-Event c fields) env
+pub event_worth : (p : Content) (n c : ℕ) (fields : List Expr) (env : Env)
+    → value_within p n (expr.Event c fields) env ≡ and_then (front_events p.channels c (meanings p n fields) env) (λ es. and_then (one_event es) (λ e. Ok (One (atom.Event e))))
+event_worth p n c fields env = form_meaning p n (expr.Event c fields) (Expr-F.Event c fields) (expr.rolls-Event c fields) env
 
 pub comprehensions_hold_their_items : ComprehensionsHoldTheirItems
 comprehensions_hold_their_items p n items gens env v h =

@@ -1,16 +1,19 @@
 -- The events that the fronts of a production add.
-use Rattle.std.proofs.Common.{◌≡◌, ℕ, zero, suc, ◌+◌, ◌<◌, ◌≤◌, ◌⊎◌, IsTrue, Option, Some, None, Ok, List, [], ◌∷◌, refl, sym, ◌∙◌, ap, inl, inr, arith}
+use Rattle.std.proofs.Common.{◌≡◌, ℕ, zero, suc, ◌+◌, ◌<◌, ◌≤◌, ◌⊎◌, IsTrue, Option, Some, None, Ok, List, [], ◌∷◌, map, refl, sym, ◌∙◌, ap, inl, inr, arith}
 use Rattle.std.specs.Prelude.{◌↔◌, slice_get}
 use Rattle.std.proofs.lemmas.Bool.{false≢true, cases_eq}
 use Rattle.csp_atoms.specs.Sets.{has_atom}
-use Rattle.csp_program.specs.Atoms.{added, all_added, events_from}
+use Rattle.csp_program.specs.Atoms.{added, all_added}
 use Rattle.csp_program.specs.InOrder.{IsInOrder}
 use Rattle.csp_program.specs.Outcome.{and_then}
-use Rattle.csp_program.specs.Value.{Env, Front, Meaning, Turn, comprehension, events_each, first_of, front_count, front_number, fronts_added, sets_of}
+use Rattle.csp_program.specs.Value.{Env, Front, Meaning, Turn, comprehension, front_events, fronts_added, sets_of}
+use Rattle.value_laws.specs.Numbers.{events_each, events_from, first_of, front_count, front_number, span}
 use Rattle.value_laws.specs.Bindings.{BeginsWith, BeginsWithOne, IsBinding, IsSetValue}
 use Rattle.value_laws.specs.EventNumbers.{computed_number}
 use Rattle.value_laws.proofs.Lists.{same_outcome}
 use Rattle.value_laws.proofs.RowNumbers.{numbered}
+use Rattle.value_laws.proofs.EventPlaces.{events_are_found, same_list}
+use Rattle.value_laws.proofs.Fits.{program_fits}
 use Rattle.value_laws.proofs.TablePlaces.{as_summed, computed, beginners_stand_together}
 use Rattle.value_laws.proofs.Walks.{Grows, grows_by_one, has_here, has_after, has_cases, same_growth, no_growth, two_growths, comprehension_holds}
 use Rattle.csp_atoms.specs.declared.atom.Atom.{Atom}
@@ -89,14 +92,18 @@ fronts_grow : (p : Content) → IsInOrder p → (fronts : List Front) (env : Env
 fronts_grow p ordered [] env atoms more h = no_growth atoms more (same_outcome h) (BegunWithOne p.channels [] env) (λ z n. n.2)
 fronts_grow p ordered (f ∷ fs) env atoms more h =
     let sets = sets_of (slice_get p.channels f.channel) in
-    let first = came_through (front_number (first_of (slice_get p.channels f.channel)) sets f.fields env)
-    (λ e. and_then (all_added atoms (events_from e (front_count sets f.fields))) (λ l. fronts_added p.channels fs env l)) more h in
-    let second = came_through (all_added atoms (events_from first.0 (front_count sets f.fields))) (λ l. fronts_added p.channels fs env l) more first.2 in
+    let first = came_through (front_events p.channels f.channel f.fields env)
+    (λ es. and_then (all_added atoms (map (λ e. atom.Event e) es)) (λ l. fronts_added p.channels fs env l)) more h in
+    let found = came_through (computed_number p.channels f.channel f.fields env) (λ e. Ok (span e (front_count sets f.fields))) first.0
+    (sym (events_are_found p.channels (program_fits p ordered) f.channel f.fields env) ∙ first.1) in
+    let all : all_added atoms (events_from found.0 (front_count sets f.fields)) ≡ all_added atoms (map (λ e. atom.Event e) first.0) =
+    ap (λ es. all_added atoms (map (λ e. atom.Event e) es)) (same_list found.2) in
+    let second = came_through (all_added atoms (map (λ e. atom.Event e) first.0)) (λ l. fronts_added p.channels fs env l) more first.2 in
     same_growth atoms more (λ z. Begun p.channels f env z ⊎ BegunWithOne p.channels fs env z) (BegunWithOne p.channels (f ∷ fs) env)
     (λ z n. elim n [ inl b ↦ (b.0, b.1, inl b.2) | inr r ↦ (r.0, r.1, inr r.2) ])
     (λ z n. elim n.2 [ inl b ↦ inl (n.0, n.1, b) | inr r ↦ inr (n.0, n.1, r) ])
     (two_growths atoms second.0 more (Begun p.channels f env) (BegunWithOne p.channels fs env)
-    (front_grows p ordered f env first.0 atoms second.0 first.1 second.1) (fronts_grow p ordered fs env second.0 more second.2))
+    (front_grows p ordered f env found.0 atoms second.0 found.1 (all ∙ second.1)) (fronts_grow p ordered fs env second.0 more second.2))
 
 -- where a production has a value, its set has the events that begin with one of its fronts under some binding
 pub events_held : (p : Content) → IsInOrder p → (fronts : List Front) (turns : List Turn) (env : Env) (v : Value) → comprehension turns (fronts_added p.channels fronts) env ≡ Ok v

@@ -1,4 +1,6 @@
 pub mod AtExpressions
+pub mod EventPlaces
+pub mod Fits
 pub mod Fronts
 pub mod Lists
 pub mod Nests

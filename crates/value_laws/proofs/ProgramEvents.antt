@@ -6,16 +6,16 @@ use Rattle.std.proofs.lemmas.List.{length-map}
 use Rattle.csp_program.specs.EventTable.{event_table}
 use Rattle.csp_program.specs.InOrder.{IsEventTable, channel_in_order, expr_in_order, expr_in_order_of_layer, gen_in_order_of_layer, part_in_order_of_layer, lacks_sets, set_in_order, sets_in_order, with_fields}
 use Rattle.csp_program.specs.Lists.{all_true}
-use Rattle.csp_program.specs.Outcome.{and_then}
-use Rattle.csp_program.specs.Value.{Env, Front, Meaning, Turn, first_of, front_of_layer, meaning, meaning_of_layer, sets_of, turn_of_layer, uses_within, value_within, meanings}
-use Rattle.value_laws.specs.EventNumbers.{HasSets, HaveValues, StandsAt, computed_number}
+use Rattle.csp_program.specs.Value.{Env, Front, Meaning, Turn, front_of_layer, meaning, meaning_of_layer, sets_of, turn_of_layer, uses_within, value_within, meanings}
+use Rattle.value_laws.specs.Numbers.{first_of}
+use Rattle.value_laws.specs.EventNumbers.{HasSets, HaveValues, StandsAt}
 use Rattle.value_laws.specs.ProgramEvents.{IsEventAt, PlacesAreValues, ValuesArePlaces}
-use Rattle.value_laws.proofs.AtExpressions.{events_are_worth_their_numbers}
+use Rattle.value_laws.proofs.AtExpressions.{event_worth}
+use Rattle.value_laws.proofs.EventPlaces.{event_found, event_there}
+use Rattle.value_laws.proofs.Fits.{program_fits}
 use Rattle.value_laws.proofs.Fronts.{has_sets}
-use Rattle.value_laws.proofs.Lists.{same_outcome}
 use Rattle.value_laws.proofs.TablePlaces.{numbers_are_places, places_are_numbers}
 use Rattle.csp_atoms.specs.declared.atom.Atom.{Atom}
-use Rattle.csp_atoms.specs.declared.atom.Atom.TheVariants as atom
 use Rattle.csp_atoms.specs.declared.value.Value.{Value}
 use Rattle.csp_atoms.specs.declared.value.Value.TheVariants.{One}
 use Rattle.csp_program.specs.declared.expressions.Expr.{Expr}
@@ -25,7 +25,6 @@ use Rattle.csp_program.specs.declared.expressions.Expr.TheVariants as expr
 use Rattle.csp_program.specs.declared.programs.Channel.{Channel}
 use Rattle.csp_program.specs.declared.programs.Content.{Content}
 use Rattle.csp_program.specs.declared.programs.EventInfo.{EventInfo}
-use Rattle.csp_program.proofs.Outcomes.{came_through}
 use Rattle.csp_base.proofs.Booleans.{is_first, is_second}
 
 none_lacks : (channels : List Channel) (c : ℕ) (sets : List (List Atom)) → IsTrue (all_true (map lacks_sets channels)) → HasSets channels c sets → ⊥
@@ -85,17 +84,17 @@ module _ (p : Content) where
 pub values_are_places : ValuesArePlaces
 values_are_places p ordered n c fields env v o h =
     let ms = meanings p n fields in
-    let through = came_through (computed_number p.channels c ms env) (λ number. Ok (One (atom.Event number))) v (sym (events_are_worth_their_numbers p n c fields env) ∙ h) in
+    let through = event_found p.channels (program_fits p ordered) c ms env v (sym (event_worth p n c fields env) ∙ h) in
     let s = has_sets (first_of (slice_get p.channels c)) (sets_of (slice_get p.channels c)) ms env through.0 through.1 in
     let same_length : length ms ≡ length (map (expr_in_order p) fields) = length-map fields (meaning (uses_within p n) p.channels) ∙ sym (length-map fields (expr_in_order p)) in
     let found = numbers_are_places p ordered c s.0 ms env through.0 s.1
     (same_length ∙ as_many p p.channels c s.0 (length (map (expr_in_order p) fields)) ordered.channels_used s.1 (asks p c fields o)) through.1 in
-    (through.0, found.0, sym (same_outcome through.2), found.1, stands_in p c through.0 found.0 (table_from_sets p ordered.table c s.0 s.1) found.2)
+    (through.0, found.0, through.2, found.1, stands_in p c through.0 found.0 (table_from_sets p ordered.table c s.0 s.1) found.2)
 
 pub places_are_values : PlacesAreValues
 places_are_values p ordered n place c row env h =
     let table = table_from_event p ordered.table place _ h in
     let stands = ap (λ (l : List EventInfo). slice_get l place) (sym table) ∙ h in
-    events_are_worth_their_numbers p n c (map (λ a. expr.Lit (One a)) row) env ∙
-    ap (λ o. and_then o (λ number. Ok (One (atom.Event number))))
+    event_worth p n c (map (λ a. expr.Lit (One a)) row) env ∙
+    event_there p.channels (program_fits p ordered) c (meanings p n (map (λ a. expr.Lit (One a)) row)) env row (put_values p n row env) place stands
     (places_are_numbers p ordered c place row stands (meanings p n (map (λ a. expr.Lit (One a)) row)) env (put_values p n row env))

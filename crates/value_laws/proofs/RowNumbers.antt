@@ -1,22 +1,25 @@
 -- The number of the first fields of an event, and the rows that begin with them.
 use Rattle.std.proofs.Common.{◌≡◌, ℕ, zero, suc, ◌+◌, ◌*◌, Bool, true, false, cond, Option, Some, None, Ok, List, [], ◌∷◌, ◌++◌, map, length, take, drop, refl, sym, ◌∙◌, ap, subst, arith}
-use Rattle.std.specs.Prelude.{slice_get}
+use Rattle.std.specs.Prelude.{Err, is_some, slice_get}
 use Rattle.std.specs.Option.{option_map}
 use Rattle.std.proofs.lemmas.List.{length-map}
 use Rattle.std.proofs.lemmas.Option.{slice_get-map, slice_get_within}
 use Rattle.csp_atoms.specs.Order.{less, same}
-use Rattle.csp_atoms.specs.Sets.{AllAbove, IsRising, one_more, place_of}
+use Rattle.csp_atoms.specs.Sets.{AllAbove, IsRising, has_atom, one_more, place_of}
 use Rattle.csp_atoms.proofs.OrderLaws.{same_exact, same_itself, before_from_less}
+use Rattle.csp_atoms.proofs.SearchLaws.{has_place}
 use Rattle.csp_program.specs.EventNumber.{row_count}
 use Rattle.csp_program.specs.EventTable.{rows}
-use Rattle.csp_program.specs.Outcome.{and_then}
-use Rattle.csp_program.specs.Value.{Env, Meaning, events_each, field_place, fields_number, found_place, values_of}
+use Rattle.csp_program.specs.Outcome.{Outcome, and_then}
+use Rattle.csp_program.specs.Value.{Env, Meaning, in_field, row_of, values_of}
+use Rattle.value_laws.specs.Numbers.{AllRise, events_each, field_place, fields_number, found_place}
 use Rattle.value_laws.specs.EventNumbers.{HaveValues}
-use Rattle.value_laws.proofs.Rises.{AllRise}
 use Rattle.value_laws.proofs.Lists.{same_outcome, length-joined, get_joined, from_joined}
 use Rattle.csp_atoms.specs.declared.atom.Atom.{Atom}
 use Rattle.csp_atoms.specs.declared.value.Value.{Value}
 use Rattle.csp_atoms.specs.declared.value.Value.TheVariants.{One, Many}
+use Rattle.csp_program.specs.declared.kinds.ValueKind.{ValueKind}
+use Rattle.csp_program.specs.declared.kinds.ValueKind.TheVariants.{OutsideChannel}
 use Rattle.csp_program.proofs.Outcomes.{came_through}
 
 -- ---- the place of a value among the values of a field
@@ -57,10 +60,25 @@ found_back : (o : Option ℕ) (k : ℕ) → found_place o ≡ Ok k → o ≡ Som
 found_back None k h = absurd (cc)
 found_back (Some n) k h = cc
 
+none_back : (o : Option ℕ) (why : ValueKind) → found_place o ≡ Err why → (o ≡ None) × (OutsideChannel ≡ why)
+none_back None why h = (refl, cc)
+none_back (Some n) why h = absurd (cc)
+
 -- a field's value that has a place is an atom of the field's set
-pub field_found : (set : List Atom) (v : Value) (k : ℕ) → field_place set v ≡ Ok k → (a : Atom) × (v ≡ One a) × (slice_get set k ≡ Some a)
-field_found set (One a) k h = (a, refl, at_place set a k (found_back (place_of set a) k h))
+pub field_found : (set : List Atom) (v : Value) (k : ℕ) → field_place set v ≡ Ok k → (a : Atom) × (v ≡ One a) × (slice_get set k ≡ Some a) × (in_field set v ≡ Ok a)
+field_found set (One a) k h =
+    let at = found_back (place_of set a) k h in
+    let has : has_atom set a ≡ true = sym (has_place set a) ∙ ap is_some at in
+    (a, refl, at_place set a k at, ap (λ t. cond t (Ok a) (Err OutsideChannel)) has)
 field_found set (Many atoms) k h = absurd (cc)
+
+-- and one that has none is refused
+field_refused : (set : List Atom) (v : Value) (why : ValueKind) → field_place set v ≡ Err why → in_field set v ≡ Err why
+field_refused set (One a) why h =
+    let none = none_back (place_of set a) why h in
+    let has : has_atom set a ≡ false = sym (has_place set a) ∙ ap is_some none.0 in
+    ap (λ t. cond t (Ok a) (Err OutsideChannel)) has ∙ ap (λ (z : ValueKind). Err z) none.1
+field_refused set (Many atoms) why h = cc
 
 -- ---- rows
 
@@ -129,6 +147,7 @@ split_count (suc l) (set ∷ sets) = let h = split_count l sets in ap (λ n. len
 pub record Numbered (fields : List Meaning) (sets : List (List Atom)) (env : Env) (n : ℕ) (number : ℕ) : Type 0 where
   pub row : List Atom
   pub values : HaveValues fields env row
+  pub found : row_of fields sets env ≡ Ok row
   pub own : ℕ
   pub is : number ≡ n * row_count (take (length fields) sets) + own
   pub at : (j : ℕ) (rest : List Atom) → slice_get (rows (drop (length fields) sets)) j ≡ Some rest → (i : ℕ) → i ≡ own * events_each fields sets + j → slice_get (rows sets) i ≡ Some (row ++ rest)
@@ -146,6 +165,8 @@ numbered_more e fields set sets env n number k v h f r =
     record {
       row = found.0 ∷ r.row;
       values = rw (value, values) refl;
+      found = ap (λ o. and_then o (λ w. and_then (in_field set w) (λ a. and_then (row_of fields sets env) (λ row. Ok (a ∷ row))))) h ∙
+          (ap (λ o. and_then o (λ a. and_then (row_of fields sets env) (λ row. Ok (a ∷ row)))) found.3 ∙ ap (λ o. and_then o (λ row. Ok (found.0 ∷ row))) r.found);
       own = k * count + r.own;
       is = omega arith;
       at = λ j rest g i at. to_rows set sets k found.0 (r.own * each + j) (r.row ++ rest) found.2 (r.at j rest g (r.own * each + j) refl) i (rw split (omega arith));
@@ -157,6 +178,7 @@ numbered [] sets env n number h =
     record {
       row = [];
       values = refl;
+      found = refl;
       own = 0;
       is = omega arith;
       at = λ j rest g i at. let same_place : j ≡ i = omega arith in subst (λ m. slice_get (rows sets) m ≡ Some rest) same_place g;
@@ -166,6 +188,27 @@ numbered (e ∷ fields) (set ∷ sets) env n number h =
     let first = came_through (e env) (λ v. and_then (field_place set v) (λ k. fields_number fields sets env (n * length set + k))) number h in
     let second = came_through (field_place set first.0) (λ k. fields_number fields sets env (n * length set + k)) number first.2 in
     numbered_more e fields set sets env n number second.0 first.0 first.1 second.1 (numbered fields sets env (n * length set + second.0) number second.2)
+
+refused_place : (o : Outcome ℕ) (set : List Atom) (v : Value) → field_place set v ≡ o → (fields : List Meaning) (sets : List (List Atom)) (env : Env) (n : ℕ) (why : ValueKind)
+    → ((m : ℕ) → fields_number fields sets env m ≡ Err why → row_of fields sets env ≡ Err why) → and_then o (λ k. fields_number fields sets env (n * length set + k)) ≡ Err why
+    → and_then (in_field set v) (λ a. and_then (row_of fields sets env) (λ row. Ok (a ∷ row))) ≡ Err why
+refused_place (Err other) set v is fields sets env n why rest h =
+    ap (λ o. and_then o (λ a. and_then (row_of fields sets env) (λ row. Ok (a ∷ row)))) (field_refused set v other is) ∙ cc
+refused_place (Ok k) set v is fields sets env n why rest h =
+    let found = field_found set v k is in
+    ap (λ o. and_then o (λ a. and_then (row_of fields sets env) (λ row. Ok (a ∷ row)))) found.3 ∙ ap (λ o. and_then o (λ row. Ok (found.0 ∷ row))) (rest (n * length set + k) h)
+
+refused_value : (o : Outcome Value) (set : List Atom) (fields : List Meaning) (sets : List (List Atom)) (env : Env) (n : ℕ) (why : ValueKind)
+    → ((m : ℕ) → fields_number fields sets env m ≡ Err why → row_of fields sets env ≡ Err why) → and_then o (λ v. and_then (field_place set v) (λ k. fields_number fields sets env (n * length set + k))) ≡ Err why
+    → and_then o (λ v. and_then (in_field set v) (λ a. and_then (row_of fields sets env) (λ row. Ok (a ∷ row)))) ≡ Err why
+refused_value (Err other) set fields sets env n why rest h = cc
+refused_value (Ok v) set fields sets env n why rest h = refused_place (field_place set v) set v refl fields sets env n why rest h
+
+-- where there is no number, there is no row, for the same reason
+pub refused : (fields : List Meaning) (sets : List (List Atom)) (env : Env) (n : ℕ) (why : ValueKind) → fields_number fields sets env n ≡ Err why → row_of fields sets env ≡ Err why
+refused [] sets env n why h = absurd (cc)
+refused (e ∷ fields) [] env n why h = cc
+refused (e ∷ fields) (set ∷ sets) env n why h = refused_value (e env) set fields sets env n why (λ m g. refused fields sets env m why g) h
 
 -- the number of the first fields of a row, from the place of the row
 pub record Placed (fields : List Meaning) (sets : List (List Atom)) (env : Env) (n : ℕ) (i : ℕ) (rest : List Atom) : Type 0 where

@@ -9,10 +9,11 @@ use Rattle.std.proofs.Math.Seq.{drop-length}
 use Rattle.csp_program.specs.EventNumber.{KeepFirsts, event_count, first_event, row_count}
 use Rattle.csp_program.specs.EventTable.{event_of, events_from_channel, channel_events, rows}
 use Rattle.csp_program.specs.Outcome.{Outcome, and_then}
-use Rattle.csp_program.specs.Value.{Env, Meaning, events_each, fields_number, first_of, front_number, sets_of}
+use Rattle.csp_program.specs.Value.{Env, Meaning, sets_of}
+use Rattle.value_laws.specs.Numbers.{AllRise, events_each, fields_number, first_of, front_number}
 use Rattle.value_laws.specs.EventNumbers.{HasSets, HaveValues, StandsAt, computed_number, NumbersArePlaces, PlacesAreNumbers, BeginnersStandTogether}
 use Rattle.value_laws.proofs.Lists.{get_left, get_right, same_outcome}
-use Rattle.value_laws.proofs.Rises.{AllRise, FieldsRise, FieldSetsRise, field_sets_rise}
+use Rattle.value_laws.proofs.Rises.{FieldsRise, FieldSetsRise, field_sets_rise}
 use Rattle.value_laws.proofs.RowNumbers.{length-rows, no_fields, numbered, placed}
 use Rattle.csp_atoms.specs.declared.atom.Atom.{Atom}
 use Rattle.csp_atoms.specs.declared.value.Value.TheVariants.{One}
@@ -38,7 +39,7 @@ pub as_summed : (channels : List Channel) → KeepFirsts channels → (c : ℕ) 
     → computed_number channels c fields env ≡ summed_number channels c fields env
 as_summed channels keep c sets fields env h = ap (λ (n : ℕ). front_number n (sets_of (slice_get channels c)) fields env) (first_is channels keep c sets h)
 
-length-channel_events : (b : ℕ) (o : Option (List (List Atom))) → length (channel_events b o) ≡ event_count o
+pub length-channel_events : (b : ℕ) (o : Option (List (List Atom))) → length (channel_events b o) ≡ event_count o
 length-channel_events b None = refl
 length-channel_events b (Some sets) = length-map (rows sets) (event_of b) ∙ length-rows sets
 
@@ -140,11 +141,11 @@ of_row (channel ∷ channels) b c place row h =
 pub of_table : (channels : List Channel) (c place : ℕ) (row : List Atom) → StandsAt channels place c row → OfRow channels c place row
 of_table channels c place row h = let e : c ≡ 0 + c = omega arith in of_row channels 0 c place row (h ∙ ap (λ m. Some (event_of m row)) e)
 
-to_table : (channels : List Channel) (c : ℕ) (sets : List (List Atom)) (i : ℕ) (row : List Atom) → HasSets channels c sets → slice_get (rows sets) i ≡ Some row
+pub to_table : (channels : List Channel) (c : ℕ) (sets : List (List Atom)) (i : ℕ) (row : List Atom) → HasSets channels c sets → slice_get (rows sets) i ≡ Some row
     → (place : ℕ) → place ≡ first_event channels c + i → StandsAt channels place c row
 to_table channels c sets i row h g place e = let same_channel : 0 + c ≡ c = omega arith in in_table channels 0 c sets i row h g place e ∙ ap (λ m. Some (event_of m row)) same_channel
 
-rise_at : (channels : List Channel) (c : ℕ) (sets : List (List Atom)) → FieldSetsRise channels → HasSets channels c sets → AllRise sets
+pub rise_at : (channels : List Channel) (c : ℕ) (sets : List (List Atom)) → FieldSetsRise channels → HasSets channels c sets → AllRise sets
 rise_at [] c sets r h = absurd (cc)
 rise_at (channel ∷ channels) zero sets r h = subst FieldsRise h r.0
 rise_at (channel ∷ channels) (suc c) sets r h = rise_at channels c sets r.1 h
@@ -162,7 +163,7 @@ computed channels c sets fields env number h g =
     record { own = through.0; found = through.1; is = same_outcome through.2 }
 
 -- and back
-to_computed : (channels : List Channel) (c : ℕ) (sets : List (List Atom)) (fields : List Meaning) (env : Env) (own number : ℕ) → HasSets channels c sets → fields_number fields sets env 0 ≡ Ok own
+pub to_computed : (channels : List Channel) (c : ℕ) (sets : List (List Atom)) (fields : List Meaning) (env : Env) (own number : ℕ) → HasSets channels c sets → fields_number fields sets env 0 ≡ Ok own
     → first_event channels c + own * events_each fields sets ≡ number → summed_number channels c fields env ≡ Ok number
 to_computed channels c sets fields env own number h f is =
     ap (λ (o : Option (List (List Atom))). front_number (first_event channels c) o fields env) h ∙
@@ -213,7 +214,7 @@ row_there (x ∷ xs) (suc j) l = row_there xs j (omega arith)
 same_option : {A : Type 0} {a b : A} → Some a ≡ Some b → a ≡ b
 same_option h = cc
 
-same_values : (xs ys : List Atom) → map (λ a. One a) xs ≡ map (λ a. One a) ys → xs ≡ ys
+pub same_values : (xs ys : List Atom) → map (λ a. One a) xs ≡ map (λ a. One a) ys → xs ≡ ys
 same_values [] [] h = refl
 same_values (x ∷ xs) (y ∷ ys) h =
     let first : One x ≡ One y = cc in
@@ -223,7 +224,7 @@ same_values (x ∷ xs) (y ∷ ys) h =
     λ i. e i ∷ f i
 same_values _ _ h = absurd (cc)
 
-beginners_forth : (channels : List Channel) (c : ℕ) (sets : List (List Atom)) (fields : List Meaning) (env : Env) (row : List Atom) (first : ℕ)
+pub beginners_forth : (channels : List Channel) (c : ℕ) (sets : List (List Atom)) (fields : List Meaning) (env : Env) (row : List Atom) (first : ℕ)
     → HasSets channels c sets → HaveValues fields env row → summed_number channels c fields env ≡ Ok first
     → (place : ℕ) → first ≤ place → place < first + events_each fields sets → (rest : List Atom) × StandsAt channels place c (row ++ rest)
 beginners_forth channels c sets fields env row first h values g place from_first below =
@@ -244,15 +245,15 @@ beginners_forth channels c sets fields env row first h values g place from_first
           (sum ∙ ap (λ m. m + j) (sym first_is) ∙ rw own (omega arith)),
     )
 
-beginners_back : (channels : List Channel) → FieldSetsRise channels → (c : ℕ) (sets : List (List Atom)) (fields : List Meaning) (env : Env) (row : List Atom) (first : ℕ)
+pub beginners_back : (channels : List Channel) (c : ℕ) (sets : List (List Atom)) → AllRise sets → (fields : List Meaning) (env : Env) (row : List Atom) (first : ℕ)
     → HasSets channels c sets → HaveValues fields env row → summed_number channels c fields env ≡ Ok first
     → (place : ℕ) (rest : List Atom) → StandsAt channels place c (row ++ rest) → (first ≤ place) × (place < first + events_each fields sets)
-beginners_back channels rise c sets fields env row first h values g place rest stands =
+beginners_back channels c sets rise fields env row first h values g place rest stands =
     let k = computed channels c sets fields env first h g in
     let t = of_table channels c place (row ++ rest) stands in
     let one_list : t.sets ≡ sets = same_option (sym t.has ∙ h) in
     let at : slice_get (rows sets) t.i ≡ Some (row ++ rest) = ap (λ (s : List (List Atom)). slice_get (rows s) t.i) (sym one_list) ∙ t.at in
-    let r = placed fields sets env (rise_at channels c sets rise h) row rest values t.i at 0 in
+    let r = placed fields sets env rise row rest values t.i at 0 in
     let below : r.beyond < length (rows (drop (length fields) sets)) = slice_get_within (rows (drop (length fields) sets)) r.beyond rest r.rest_at in
     let count : length (rows (drop (length fields) sets)) ≡ events_each fields sets = length-rows (drop (length fields) sets) in
     let own : k.own ≡ 0 * row_count (take (length fields) sets) + r.own = same_outcome (sym k.found ∙ r.number) in
@@ -277,5 +278,5 @@ beginners_stand_together p ordered c sets fields env row first h values g place 
     let rise = field_sets_rise p p.channels ordered.channels_used in
     let summed = sym (as_summed p.channels ordered.firsts c sets fields env h) ∙ g in (
       λ within. beginners_forth p.channels c sets fields env row first h values summed place within.0 within.1,
-      λ found. beginners_back p.channels rise c sets fields env row first h values summed place found.0 found.1,
+      λ found. beginners_back p.channels c sets (rise_at p.channels c sets rise h) fields env row first h values summed place found.0 found.1,
     )

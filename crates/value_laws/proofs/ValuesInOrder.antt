@@ -15,13 +15,16 @@ use Rattle.csp_program.specs.Atoms.{all_added, limited, numbers_from}
 use Rattle.csp_program.specs.InOrder.{IsInOrder, atom_in_order, body_in_order, def_in_order, expr_in_order, expr_in_order_of_layer, gen_in_order, gen_in_order_of_layer, is_datum, part_in_order, part_in_order_of_layer, takes, value_in_order, with_fields}
 use Rattle.csp_program.specs.Lists.{all_true}
 use Rattle.csp_program.specs.Outcome.{Outcome, and_then}
-use Rattle.csp_program.specs.Value.{Env, Front, Meaning, Turn, Uses, as_atom, as_number, as_set, as_truth, binary, body_value, bound_to, bound_value, def_value, divided, first_of, from, front, front_number, front_of_layer, in_range, items_added, lack_sets, many, meaning, meaning_of_layer, number, on_numbers, on_truths, on_atoms, quotient, remainder, set_binary, sets_of, truth, turn, turn_of_layer, uses_within, value_within, values_of, when}
+use Rattle.csp_program.specs.Value.{Env, Front, Meaning, Turn, Uses, as_atom, as_number, as_set, as_truth, binary, body_value, bound_to, bound_value, def_value, divided, from, front, front_of_layer, in_range, items_added, lack_sets, many, meaning, meaning_of_layer, number, on_numbers, on_truths, on_atoms, quotient, remainder, set_binary, sets_of, truth, turn, turn_of_layer, uses_within, value_within, values_of, when}
 use Rattle.csp_program.specs.Value as meant
 use Rattle.value_laws.specs.Bindings.{BeginsWithOne, IsBinding, IsItem}
 use Rattle.csp_program.specs.EventTable.{event_of}
 use Rattle.value_laws.specs.EventNumbers.{HasSets, StandsAt}
+use Rattle.value_laws.specs.Numbers.{first_of}
 use Rattle.value_laws.specs.ValuesInOrder.{EnvIsInOrder, ValuesAreInOrder}
 use Rattle.value_laws.proofs.AtExpressions.{with_sets}
+use Rattle.value_laws.proofs.EventPlaces.{event_found}
+use Rattle.value_laws.proofs.Fits.{program_fits}
 use Rattle.value_laws.proofs.Fronts.{all_grow, events_held, has_sets}
 use Rattle.value_laws.proofs.Lists.{same_outcome}
 use Rattle.value_laws.proofs.Nests.{all_at}
@@ -300,16 +303,15 @@ module _ (p : Content) where
       of_form d = meaning_of_layer u p.channels (map-Expr Expr Gen EventPart Meaning Turn Front M T F d)
 
       event_fine : (c : ℕ) (fields : List Expr) → IsTrue (form_order (Expr-F.Event c fields)) → FineMeaning (of_form (Expr-F.Event c fields))
-      event_fine c fields o env r =
+      event_fine c fields o env r v h =
           let ms : List Meaning = map M fields in
           let count : ℕ = length (map (expr_in_order p) fields) in
-          fine_then (front_number (first_of (slice_get p.channels c)) (sets_of (slice_get p.channels c)) ms env) _
-          (λ e g.
-          let s = has_sets (first_of (slice_get p.channels c)) (sets_of (slice_get p.channels c)) ms env e g in
+          let t = event_found p.channels (program_fits p ordered) c ms env v h in
+          let s = has_sets (first_of (slice_get p.channels c)) (sets_of (slice_get p.channels c)) ms env t.0 t.1 in
           let long : length ms ≡ count = length-map fields M ∙ sym (length-map fields (expr_in_order p)) in
           let asked = is_first (with_fields (λ n. nat_eq n count) (slice_get p.channels c)) (all_exprs fields) o in
-          let found = numbers_are_places p ordered c s.0 ms env e s.1 (long ∙ as_many p p.channels c s.0 count ordered.channels_used s.1 asked) g in
-          fine_ok (One (atom.Event e)) (event_there c e found.0 s.0 s.1 found.2))
+          let found = numbers_are_places p ordered c s.0 ms env t.0 s.1 (long ∙ as_many p p.channels c s.0 count ordered.channels_used s.1 asked) t.1 in
+          subst (λ (z : Value). IsTrue (value_in_order p z)) (sym t.2) (event_there c t.0 found.0 s.0 s.1 found.2)
 
       comp_fine : (items : List Expr) (gens : List Gen) → Every FineExpr items → Every FineGen gens → IsTrue (form_order (Expr-F.Comp items gens)) → FineMeaning (of_form (Expr-F.Comp items gens))
       comp_fine items gens fine fine_gens o env r v h =

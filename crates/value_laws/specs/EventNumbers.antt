@@ -3,13 +3,11 @@
 use Rattle.std.specs.Prelude.{◌≡◌, ◌↔◌, ℕ, ◌+◌, ◌<◌, ◌≤◌, Some, Ok, List, ◌++◌, map, length, slice_get}
 use Rattle.csp_program.specs.EventTable.{event_of, event_table}
 use Rattle.csp_program.specs.InOrder.{IsInOrder}
-use Rattle.csp_program.specs.Outcome.{Outcome, and_then}
-use Rattle.csp_program.specs.Value.{Env, Meaning, events_each, first_of, front_number, sets_of, value_within, values_of, meanings}
+use Rattle.csp_program.specs.Outcome.{Outcome}
+use Rattle.csp_program.specs.Value.{Env, Meaning, sets_of, values_of}
+use Rattle.value_laws.specs.Numbers.{events_each, first_of, front_number}
 use Rattle.csp_atoms.specs.declared.atom.Atom.{Atom}
-use Rattle.csp_atoms.specs.declared.atom.Atom.TheVariants as atom
 use Rattle.csp_atoms.specs.declared.value.Value.TheVariants.{One}
-use Rattle.csp_program.specs.declared.expressions.Expr.{Expr}
-use Rattle.csp_program.specs.declared.expressions.Expr.TheVariants as expr
 use Rattle.csp_program.specs.declared.programs.Channel.{Channel}
 use Rattle.csp_program.specs.declared.programs.Content.{Content}
 
@@ -28,12 +26,6 @@ computed_number channels c fields env = front_number (first_of (slice_get channe
 -- at that place of the event table stands the event of the channel with the number c that has these values
 abbrev pub StandsAt : List Channel → ℕ → ℕ → List Atom → Type 0
 StandsAt channels place c row = slice_get (event_table channels) place ≡ Some (event_of c row)
-
--- an event is worth the number that is computed for it
-abbrev pub EventsAreWorthTheirNumbers : Type 0
-EventsAreWorthTheirNumbers =
-    (p : Content) (n c : ℕ) (fields : List Expr) (env : Env) →
-    value_within p n (expr.Event c fields) env ≡ and_then (computed_number p.channels c (meanings p n fields) env) (λ number. Ok (One (atom.Event number)))
 
 -- where a number is computed for an event with all of its fields, the fields have values, and the event stands at that place
 abbrev pub NumbersArePlaces : Type 0

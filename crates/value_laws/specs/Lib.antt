@@ -1,5 +1,6 @@
 pub mod Bindings
 pub mod EnoughUses
 pub mod EventNumbers
+pub mod Numbers
 pub mod ProgramEvents
 pub mod ValuesInOrder

@@ -1,22 +1,35 @@
--- Events counted set by set.
-use Rattle.std.proofs.Common.{◌≡◌, ℕ, suc, ◌+◌, ◌*◌, ◌<◌, List, Ok, length, drop, get_or, drop-cons, add-one, ap, sym, ◌∙◌, arith}
+-- Counting that stops at a greatest number.
+use Rattle.std.proofs.Common.{◌≡◌, ℕ, zero, suc, ◌+◌, ◌*◌, ◌<◌, min, List, length, inl, inr, drop, get_or, sym, ap, ◌∙◌, arith}
+use Rattle.std.proofs.lemmas.Bool.{cases_lt}
 use Rattle.csp_atoms.specs.declared.atom.Atom.{Atom}
 use Rattle.csp_program.specs.EventNumber.{row_count}
-use Rattle.csp_program.specs.Outcome.{Outcome}
+use Rattle.csp_base.proofs.Lists.{drop_read}
 
-abbrev pub counted : ℕ → Outcome ℕ
-counted n = Ok n
+-- a factor may stop before
+pub stops_left : (x y most : ℕ) → min (min x most * y) most ≡ min (x * y) most
+stops_left x zero most = omega arith
+stops_left x (suc y) most =
+    elim (cases_lt most x) as (λ _. min (min x most * suc y) most ≡ min (x * suc y) most) [
+      | inl over ↦
+          let e : min x most ≡ most = omega arith in
+          let lesser : min (most * suc y) most ≡ most = omega arith in
+          let greater : min (x * suc y) most ≡ most = omega arith in
+          ap (λ m. min (m * suc y) most) e ∙ lesser ∙ sym greater
+      | inr within ↦ let e : min x most ≡ x = omega arith in ap (λ m. min (m * suc y) most) e
+    ]
 
-same_count : (m n : ℕ) → counted m ≡ counted n → m ≡ n
-same_count m n h = cc
+-- one more set
+pub count_step : (count next most i : ℕ) (sets : List (List Atom)) (set : List Atom) (whole : ℕ) → i < length sets → set ≡ get_or sets i set
+    → next ≡ min (count * length set) most → min (count * row_count (drop i sets)) most ≡ min whole most → min (next * row_count (drop (i + 1) sets)) most ≡ min whole most
+count_step count next most i sets set whole within is next_is so_far =
+    let rest : ℕ = row_count (drop (i + 1) sets) in
+    let here : row_count (drop i sets) ≡ length set * rest = ap row_count (drop_read sets i set within is) in
+    ap (λ n. min (n * rest) most) next_is
+    ∙ stops_left (count * length set) rest most
+    ∙ ap (λ n. min n most) (omega arith)
+    ∙ ap (λ n. min (count * n) most) (sym here)
+    ∙ so_far
 
-rows_left : (sets : List (List Atom)) (i : ℕ) (set : List Atom) → i < length sets → set ≡ get_or sets i set → row_count (drop i sets) ≡ length set * row_count (drop (i + 1) sets)
-rows_left sets i set lt is = rw (add-one i) (ap row_count (drop-cons sets i set lt) ∙ ap (λ s. length s * row_count (drop (suc i) sets)) (sym is))
-
-times_assoc : (a b c d : ℕ) → d ≡ a * b → a * (b * c) ≡ d * c
-times_assoc a b c d e = let h : a * (b * c) ≡ a * b * c = omega arith in h ∙ ap (λ z. z * c) (sym e)
-
-pub rows_next : (whole count more : ℕ) (sets : List (List Atom)) (i : ℕ) (set : List Atom) → whole ≡ count * row_count (drop i sets) → i < length sets → set ≡ get_or sets i set
-    → counted (count * length set) ≡ counted more → whole ≡ more * row_count (drop (i + 1) sets)
-rows_next whole count more sets i set w lt is e =
-    w ∙ (ap (λ r. count * r) (rows_left sets i set lt is) ∙ times_assoc count (length set) (row_count (drop (i + 1) sets)) more (sym (same_count (count * length set) more e)))
+-- a sum of what stopped before
+pub sum_stops : (before here x y most : ℕ) → before ≡ min x most → here ≡ min y most → min (before + here) most ≡ min (x + y) most
+sum_stops before here x y most b h = omega arith

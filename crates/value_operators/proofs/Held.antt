@@ -10,7 +10,8 @@ use Rattle.csp_atoms.specs.declared.atom.Atom.TheVariants as atom
 use Rattle.csp_atoms.proofs.ListLaws.{IsRising-with_atom}
 use Rattle.csp_atoms.proofs.MemberLaws.{has-with_atom, same_set}
 use Rattle.csp_atoms.proofs.OrderLaws.{same_exact, same_itself}
-use Rattle.csp_program.specs.Atoms.{added, all_added, events_from, limited}
+use Rattle.csp_program.specs.Atoms.{added, all_added, limited}
+use Rattle.value_laws.specs.Numbers.{events_from}
 use Rattle.csp_program.specs.Outcome.{Outcome, and_then}
 use Rattle.csp_program.specs.declared.kinds.ValueKind.TheVariants.{Kind}
 use Rattle.value_operators.proofs.SetSteps.{limited_few}
@@ -148,17 +149,12 @@ members_added xs e (suc n) set few has =
     ap (λ o. and_then o (λ more. all_added more (events_from (e + 1) n))) (member_added xs (atom.Event e) set few (ap (λ d. has_atom xs (atom.Event d)) (sym first) ∙ has 0 (omega arith))) ∙
     members_added xs (e + 1) n set few (λ i lt. let next : e + 1 + i ≡ e + (i + 1) = omega arith in ap (λ d. has_atom xs (atom.Event d)) next ∙ has (i + 1) (omega arith))
 
-abbrev found : Atom → Outcome Atom
-found a = Ok a
-
-event_found : (a : Atom) (e d : ℕ) → found (atom.Event e) ≡ found a → e ≡ d → a ≡ atom.Event d
-event_found a e d h same_number = let same_atom : atom.Event e ≡ a = cc in sym same_atom ∙ ap (λ n. atom.Event n) same_number
-
 -- events whose first and last stand as far apart in the set as they are
-pub held_added : (xs : List Atom) (first last : Atom) (e n p : ℕ) → IsRising xs → IsOneKind xs → length xs ≤ 16384 → 0 < n → found (atom.Event (e + 0)) ≡ found first → found (atom.Event (e + (n - 1))) ≡ found last
+pub held_added : (xs : List Atom) (first last : Atom) (e n p : ℕ) → IsRising xs → IsOneKind xs → length xs ≤ 16384 → 0 < n → first ≡ atom.Event (e + 0) → last ≡ atom.Event (e + (n - 1))
     → place_of xs first ≡ Some p → place_of xs last ≡ Some (p + (n - 1)) → all_added xs (events_from e n) ≡ Ok xs
 held_added xs first last e n p rise kinds few some is_first is_last at_first at_last =
-    let low : place_of xs (atom.Event e) ≡ Some p = ap (place_of xs) (sym (event_found first (e + 0) e is_first (omega arith))) ∙ at_first in
+    let here : e ≡ e + 0 = omega arith in
+    let low : place_of xs (atom.Event e) ≡ Some p = ap (place_of xs) (ap (λ (d : ℕ). atom.Event d) here ∙ sym is_first) ∙ at_first in
     let high : slice_get xs (p + (n - 1)) ≡ Some (atom.Event (e + (n - 1))) =
-    standing xs (atom.Event (e + (n - 1))) (p + (n - 1)) (ap (place_of xs) (sym (event_found last (e + (n - 1)) (e + (n - 1)) is_last refl)) ∙ at_last) in
+    standing xs (atom.Event (e + (n - 1))) (p + (n - 1)) (ap (place_of xs) (sym is_last) ∙ at_last) in
     members_added xs e n (rise, kinds) few (λ i lt. rest_held e p i xs (n - 1) rise low high (omega arith))

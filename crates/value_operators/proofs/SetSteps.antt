@@ -7,7 +7,8 @@ use Rattle.csp_atoms.specs.Order.{less}
 use Rattle.csp_atoms.specs.Sets.{with_atom, fits}
 use Rattle.csp_atoms.specs.declared.atom.Atom.{Atom}
 use Rattle.csp_atoms.specs.declared.atom.Atom.TheVariants as atom
-use Rattle.csp_program.specs.Atoms.{added, all_added, events_from, limited, numbers_from}
+use Rattle.csp_program.specs.Atoms.{added, all_added, limited, numbers_from}
+use Rattle.value_laws.specs.Numbers.{events_from}
 use Rattle.csp_program.specs.Outcome.{Outcome, and_then}
 use Rattle.csp_program.specs.Value.{range, natural}
 use Rattle.csp_program.specs.declared.kinds.ValueKind.{ValueKind}
@@ -27,15 +28,11 @@ list_fault whole atoms rest all one k w is e = w ∙ (ap (all_added atoms) is �
 pub list_next : (whole : Outcome (List Atom)) (atoms rest all more : List Atom) (one : Atom) → whole ≡ all_added atoms all → all ≡ one ∷ rest → added atoms one ≡ Ok more → whole ≡ all_added more rest
 list_next whole atoms rest all more one w is e = w ∙ (ap (all_added atoms) is ∙ ap (λ o. more_of o rest) e)
 
-abbrev found : Atom → Outcome Atom
-found a = Ok a
-
-pub events_left : (e i n : ℕ) (one : Atom) → i < n → found (atom.Event (e + i)) ≡ found one → events_from (e + i) (n - i) ≡ one ∷ events_from (e + (i + 1)) (n - (i + 1))
+pub events_left : (e i n : ℕ) (one : Atom) → i < n → one ≡ atom.Event (e + i) → events_from (e + i) (n - i) ≡ one ∷ events_from (e + (i + 1)) (n - (i + 1))
 events_left e i n one lt is =
     let left : n - i ≡ suc (n - (i + 1)) = omega arith in
     let next : e + i + 1 ≡ e + (i + 1) = omega arith in
-    let same : atom.Event (e + i) ≡ one = cc in
-    ap (events_from (e + i)) left ∙ (ap (λ s. atom.Event (e + i) ∷ events_from s (n - (i + 1))) next ∙ ap (λ a. a ∷ events_from (e + (i + 1)) (n - (i + 1))) same)
+    ap (events_from (e + i)) left ∙ (ap (λ s. atom.Event (e + i) ∷ events_from s (n - (i + 1))) next ∙ ap (λ a. a ∷ events_from (e + (i + 1)) (n - (i + 1))) (sym is))
 
 pub constants_left : (ks : List ℕ) (i : ℕ) → i < length ks → map (λ k. atom.Const k) (drop i ks) ≡ atom.Const (get_or ks i 0) ∷ map (λ k. atom.Const k) (drop (i + 1) ks)
 constants_left ks i lt = rw (add-one i) (ap (map (λ k. atom.Const k)) (drop-cons ks i 0 lt))

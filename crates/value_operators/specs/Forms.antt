@@ -1,14 +1,13 @@
 -- The forms of expressions, on what their parts come to.
-use Rattle.std.specs.Prelude.{ℕ, ◌*◌, nat_eq, neg_ℤ, Bool, false, not, ◌||◌, if◌then◌else◌, is_none, Option, Some, None, Ok, Err, List, [], ◌∷◌, drop, slice_get}
+use Rattle.std.specs.Prelude.{ℕ, ◌-◌, ◌*◌, ◌^◌, min, nat_eq, neg_ℤ, Bool, false, not, ◌||◌, if◌then◌else◌, is_none, Option, Some, None, Ok, Err, List, [], ◌∷◌, drop, slice_get}
 use Rattle.csp_program.specs.EventNumber.{row_count}
 use Rattle.csp_program.specs.Outcome.{Outcome, and_then}
 use Rattle.csp_program.specs.Value.{Gathered, as_number, as_truth, as_set, truth, in_range, binary, many, range, set_binary, sets_of}
 use Rattle.csp_base.specs.declared.operators.BinOp.{BinOp}
 use Rattle.csp_base.specs.declared.operators.SetOp.{SetOp}
 use Rattle.csp_atoms.specs.declared.atom.Atom.{Atom}
-use Rattle.csp_atoms.specs.declared.atom.Atom.TheVariants as atom
 use Rattle.csp_atoms.specs.declared.value.Value.{Value}
-use Rattle.csp_atoms.specs.declared.value.Value.TheVariants.{One, Many}
+use Rattle.csp_atoms.specs.declared.value.Value.TheVariants.{Many}
 use Rattle.csp_program.specs.declared.expressions.EventPart.{EventPart, out-EventPart}
 use Rattle.csp_program.specs.declared.kinds.ValueKind.TheVariants.{Kind}
 use Rattle.csp_program.specs.declared.programs.Channel.{Channel}
@@ -27,9 +26,6 @@ choice c a b = and_then c (λ v. and_then (as_truth v) (λ t. if t then a else b
 
 abbrev pub named_set : Outcome Value → Outcome Value
 named_set o = and_then o (λ v. many (as_set v))
-
-abbrev pub an_event : Outcome ℕ → Outcome Value
-an_event o = and_then o (λ e. Ok (One (atom.Event e)))
 
 abbrev pub a_set : Outcome (List Atom) → Outcome Value
 a_set o = many o
@@ -58,6 +54,10 @@ each_of sets given = if nat_eq (row_count sets) 0 then 0 else row_count (drop gi
 -- a number that counts so many for one
 abbrev pub scaled : Outcome ℕ → ℕ → Outcome ℕ
 scaled o each = and_then o (λ k. Ok (k * each))
+
+-- a number that stops at the end of 64 bits
+abbrev pub capped : Outcome ℕ → Outcome ℕ
+capped o = and_then o (λ k. Ok (min k (2 ^ 64 - 1)))
 
 -- whether one of the parts is of a channel that has no field sets
 abbrev pub lack_sets : List Channel → List EventPart → Bool

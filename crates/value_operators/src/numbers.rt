@@ -1,10 +1,10 @@
-//! The numbers of events, from the places of values in the sets of a channel's fields. A number that doesn't fit is that of an event table that
-//! doesn't fit into memory.
+//! The numbers of events, from the places of values in the sets of a channel's fields.
 
-ghost use Rattle.std.specs.Prelude.{◌≡◌, ◌+◌, ◌*◌, nat_eq, Ok, None, Some, drop, length, slice_get, MatchOption};
+ghost use Rattle.std.specs.Prelude.{◌≡◌, ◌+◌, ◌-◌, ◌*◌, ◌<◌, ◌^◌, min, nat_eq, None, Some, drop, length, slice_get, MatchOption};
 ghost use Rattle.csp_program.specs.EventNumber.{row_count};
-ghost use Rattle.csp_program.specs.Value as meant;
-ghost use Rattle.csp_program.specs.Value.{field_place, sets_of};
+ghost use Rattle.csp_program.specs.Value.{sets_of};
+ghost use Rattle.value_laws.specs.Numbers as meant;
+ghost use Rattle.value_laws.specs.Numbers.{field_place};
 ghost use Rattle.value_operators.specs.Forms as form;
 ghost use Rattle.value_operators.specs.Gives.{Gives};
 
@@ -15,33 +15,6 @@ use csp_program::{Channel, EventPart, ValueKind};
 const OUTSIDE: EvalFault = EvalFault::Value {
     kind: ValueKind::OutsideChannel,
 };
-
-// The sum of two numbers.
-fn plus(left: u64, right: u64) -> Result<u64, EvalFault>
-    ensures { Gives result (Ok (left + right)) }
-{
-    match left.checked_add(right) {
-        Some(number) => Ok(number),
-        None => Err(EvalFault::NoMemory),
-    }
-}
-
-// The product of two numbers.
-fn times(left: u64, right: u64) -> Result<u64, EvalFault>
-    ensures { Gives result (Ok (left * right)) }
-{
-    match left.checked_mul(right) {
-        Some(number) => Ok(number),
-        None => Err(EvalFault::NoMemory),
-    }
-}
-
-// The product of a number and the size of a set.
-fn with_set(number: u64, set: &AtomSet) -> Result<u64, EvalFault>
-    ensures { Gives result (Ok (number * length set.now)) }
-{
-    times(number, set.len() as u64)
-}
 
 // Whether no list takes one value from each set, since one of them is empty.
 fn has_empty(sets: &[AtomSet]) -> bool
@@ -55,26 +28,23 @@ fn has_empty(sets: &[AtomSet]) -> bool
     false
 }
 
-// How many lists take one value from each set. Where there are none, no product of the sizes of the others is looked at, which may be very large.
-fn rows(sets: &[AtomSet]) -> Result<u64, EvalFault>
-    ensures { Gives result (Ok (row_count sets.now)) }
+/// How many lists take one value from each set. Counting stops at the end of 64 bits.
+pub fn row_count(sets: &[AtomSet]) -> u64
+    ensures { result ≡ min (row_count sets.now) (2 ^ 64 - 1) }
 {
-    if has_empty(sets) {
-        return Ok(0);
-    }
-    let mut count = 1;
+    let mut count: u64 = 1;
     for set in sets {
-        count = with_set(count, set)?;
+        count = count.saturating_mul(set.len() as u64);
     }
-    Ok(count)
+    count
 }
 
 // The number of the first event of a channel.
-fn first_of(channels: &[Channel], channel: u32) -> u64
+fn first_of(channels: &[Channel], channel: u32) -> u32
     ensures { result ≡ meant.first_of (slice_get channels.now channel) }
 {
     match channels.get(channel as usize) {
-        Some(channel) => u64::from(channel.first),
+        Some(channel) => channel.first,
         None => 0,
     }
 }
@@ -92,13 +62,14 @@ pub fn place_in(set: &AtomSet, value: &Value) -> Result<u64, EvalFault>
     }
 }
 
-/// The number of fields with one more, which has `place` in its set, where those before have the number `number`; both numbers count `each` for one.
-pub fn with_field(number: u64, set: &AtomSet, place: u64, each: u64) -> Result<u64, EvalFault>
-    ensures { Gives result (Ok (number * length set.now + place * each)) }
+/// The number of fields with one more, which has `place` in its set, where those before have the number `number`; both numbers count `each` for one,
+/// and stop at the end of 64 bits.
+pub fn with_field(number: u64, set: &AtomSet, place: u64, each: u64) -> u64
+    ensures { result ≡ min (number * length set.now + place * each) (2 ^ 64 - 1) }
 {
-    let number = with_set(number, set)?;
-    let more = times(place, each)?;
-    plus(number, more)
+    let before = number.saturating_mul(set.len() as u64);
+    let here = place.saturating_mul(each);
+    before.saturating_add(here)
 }
 
 /// The sets of a channel's fields, where it has them.
@@ -115,39 +86,50 @@ pub fn field_sets(channels: &[Channel], channel: u32) -> Option<&[AtomSet]>
 }
 
 // How many events begin with one choice of the first fields, `given` of them.
-fn count_each(sets: &[AtomSet], given: usize) -> Result<u64, EvalFault>
-    ensures { Gives result (Ok (row_count (drop given sets.now))) }
+fn count_each(sets: &[AtomSet], given: usize) -> u64
+    ensures { result ≡ min (row_count (drop given sets.now)) (2 ^ 64 - 1) }
 {
     if given >= sets.len() {
-        return Ok(1);
+        return 1;
     }
-    rows(&sets[given..])
+    row_count(&sets[given..])
 }
 
-/// How many events begin with one choice of the first fields, `given` of them; 0 where the channel has no event at all.
-pub fn each_of(sets: &[AtomSet], given: usize) -> Result<u64, EvalFault>
-    ensures { Gives result (Ok (form.each_of sets.now given)) }
+/// How many events begin with one choice of the first fields, `given` of them; 0 where the channel has no event at all. Counting stops at the end of
+/// 64 bits.
+pub fn each_of(sets: &[AtomSet], given: usize) -> u64
+    ensures { result ≡ min (form.each_of sets.now given) (2 ^ 64 - 1) }
 {
     if has_empty(sets) {
-        return Ok(0);
+        return 0;
     }
     count_each(sets, given)
 }
 
-/// The number of the event that stands at `place` among those of a channel.
-pub fn event_at(channels: &[Channel], channel: u32, place: u64) -> Result<u64, EvalFault>
-    ensures { Gives result (Ok (meant.first_of (slice_get channels.now channel) + place)) }
+// A number of 32 bits.
+fn small(number: u64) -> u32
+    requires { number < 2 ^ 32 }
+    ensures { result ≡ number }
 {
-    plus(first_of(channels, channel), place)
+    number as u32
 }
 
-/// How many events of a channel begin with one choice of the first fields, `given` of them.
-pub fn count_with(channels: &[Channel], channel: u32, given: usize) -> Result<u64, EvalFault>
-    ensures { Gives result (Ok (form.count_with (sets_of (slice_get channels.now channel)) given)) }
+/// The number of the event that stands at `place` among those of a channel, within 32 bits.
+pub fn event_at(channels: &[Channel], channel: u32, place: u64) -> u32
+    requires { meant.first_of (slice_get channels.now channel) + place < 2 ^ 32 }
+    ensures { result ≡ meant.first_of (slice_get channels.now channel) + place }
+{
+    first_of(channels, channel) + small(place)
+}
+
+/// How many events of a channel begin with one choice of the first fields, `given` of them, within 32 bits.
+pub fn count_with(channels: &[Channel], channel: u32, given: usize) -> u32
+    requires { form.count_with (sets_of (slice_get channels.now channel)) given < 2 ^ 32 }
+    ensures { result ≡ form.count_with (sets_of (slice_get channels.now channel)) given }
 {
     match field_sets(channels, channel) {
-        Some(sets) => count_each(sets, given),
-        None => Ok(0),
+        Some(sets) => small(count_each(sets, given)),
+        None => 0,
     }
 }
 

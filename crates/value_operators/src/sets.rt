@@ -4,10 +4,11 @@ ghost use Rattle.std.specs.Prelude.{◌≡◌, ℕ, ◌+◌, ◌<◌, ◌≤◌,
 ghost use Rattle.dl_limits.specs.declared.TheConstants.{MOST_ELEMENTS};
 ghost use Rattle.csp_atoms.specs.Sets.{place_of};
 ghost use Rattle.csp_atoms.specs.declared.atom.Atom.TheVariants as atom;
-ghost use Rattle.csp_program.specs.Atoms.{added, all_added, events_from, limited, numbers_from};
+ghost use Rattle.csp_program.specs.Atoms.{added, all_added, limited, numbers_from};
 ghost use Rattle.csp_program.specs.Outcome.{and_then};
 ghost use Rattle.csp_program.specs.Value as meant;
 ghost use Rattle.csp_program.specs.Value.{as_atom, set_binary};
+ghost use Rattle.value_laws.specs.Numbers.{events_from};
 ghost use Rattle.value_operators.specs.Gives.{Gives};
 
 use crate::fault::EvalFault;
@@ -66,24 +67,12 @@ pub fn constants(alloc: Global, numbers: &[u32]) -> Result<AtomSet, EvalFault>
     Ok(atoms)
 }
 
-// The event with the number `first + place`. Event tables stand in memory, so that their numbers have 32 bits.
-fn event(first: u64, place: u64) -> Result<Atom, EvalFault>
-    ensures { Gives result (Ok (atom.Event (first + place))) }
+// The event with the number `first + place`.
+fn event(first: u32, place: u32) -> Atom
+    requires { first + place < 2 ^ 32 }
+    ensures { result ≡ atom.Event (first + place) }
 {
-    match first.checked_add(place) {
-        Some(number) => numbered(number),
-        None => Err(EvalFault::NoMemory),
-    }
-}
-
-/// The event with this number.
-pub fn numbered(number: u64) -> Result<Atom, EvalFault>
-    ensures { Gives result (Ok (atom.Event number)) }
-{
-    match u32::try_from(number) {
-        Ok(number) => Ok(Atom::Event(Event(number))),
-        Err(_) => Err(EvalFault::NoMemory),
-    }
+    Atom::Event(Event(first + place))
 }
 
 // Whether the second atom stands so many places after the first.
@@ -101,7 +90,8 @@ fn stands_after(atoms: &AtomSet, first: Atom, last: Atom, distance: u64) -> bool
 
 // Whether the set, which is within the limit, holds the events from `first` on, so many of them: the last then stands as far after the first as their
 // numbers are apart.
-fn holds_events(atoms: &AtomSet, first: u64, count: u64) -> bool
+fn holds_events(atoms: &AtomSet, first: u32, count: u32) -> bool
+    requires { first + count < 2 ^ 32 }
     ensures { IsTrue result → all_added atoms.now (events_from first count) ≡ Ok atoms.now }
 {
     if count < 2 || atoms.len() > MOST_ELEMENTS {
@@ -109,17 +99,14 @@ fn holds_events(atoms: &AtomSet, first: u64, count: u64) -> bool
     }
     // Its contract says that the atoms rise and are of one kind.
     let _ = atoms.as_slice();
-    let Ok(lowest) = event(first, 0) else {
-        return false;
-    };
-    let Ok(highest) = event(first, count - 1) else {
-        return false;
-    };
-    stands_after(atoms, lowest, highest, count - 1)
+    let lowest = event(first, 0);
+    let highest = event(first, count - 1);
+    stands_after(atoms, lowest, highest, u64::from(count - 1))
 }
 
 /// The set with the events from `first` on, so many of them.
-pub fn with_events(atoms: AtomSet, first: u64, count: u64) -> Result<AtomSet, EvalFault>
+pub fn with_events(atoms: AtomSet, first: u32, count: u32) -> Result<AtomSet, EvalFault>
+    requires { first + count < 2 ^ 32 }
     ensures { Gives result (all_added atoms (events_from first count)) }
 {
     if holds_events(&atoms, first, count) {
@@ -127,7 +114,7 @@ pub fn with_events(atoms: AtomSet, first: u64, count: u64) -> Result<AtomSet, Ev
     }
     let mut atoms = atoms;
     for place in 0..count {
-        let one = event(first, place)?;
+        let one = event(first, place);
         atoms = with_one_more(atoms, one)?;
     }
     Ok(atoms)

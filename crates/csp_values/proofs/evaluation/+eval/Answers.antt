@@ -8,15 +8,18 @@ use Rattle.std.proofs.Common.{◌≡◌, ◌+◌, length, Some, Ok, Err, ap, ref
 use Rattle.std.proofs.lemmas.Int.{ints}
 use Rattle.csp_program.specs.Outcome.{and_then}
 use Rattle.csp_program.specs.Atoms.{added}
-use Rattle.csp_program.specs.Value.{as_atom, as_number, as_set, as_truth, field_place, many, range}
+use Rattle.csp_program.specs.Value.{as_atom, as_number, as_set, as_truth, many, range}
+use Rattle.csp_program.specs.declared.expressions.Expr.TheViews.{out-EventPart}
+use Rattle.value_laws.specs.Numbers.{field_place}
+use Rattle.value_operators.specs.Forms.{capped}
 use Rattle.value_operators.specs.Env.{env_in, parameters, with_bound}
 use Rattle.value_operators.proofs.Faults.{passed}
 use Rattle.csp_values.specs.Worth.{worth, number_worth, truth_worth, atoms_worth, range_of, set_of, use_worth, with_items, with_fronts, gathered_of, one_more_binding}
-use Rattle.csp_values.proofs.Arms.{binding_passed, lacking, not_lacking, same, part_passed, walk_passed, worth_num, worth_truth, worth_const, worth_bound, worth_lit, worth_neg, worth_not, worth_binary, worth_if, worth_call, worth_set_name, worth_event, worth_display, worth_range, worth_set_op, worth_comp, worth_product, datum_worth, datatype_worth, counted_over, front_of_sets, front_without_sets, front_fault, front_added, binding_item_fault, binding_with_items}
+use Rattle.csp_values.proofs.Arms.{binding_passed, lacking, not_lacking, same, part_passed, walk_passed, worth_num, worth_truth, worth_const, worth_bound, worth_lit, worth_neg, worth_not, worth_binary, worth_if, worth_call, worth_set_name, worth_event, worth_display, worth_range, worth_set_op, worth_comp, worth_product, datum_worth, datatype_worth, an_event, count_fits, event_fault, front_without_sets, front_fault, front_added, no_event, binding_item_fault, binding_with_items}
 use Rattle.csp_values.proofs.Equations.{body-Nametype, body-Process, body-Network, use-none_left, use-unknown, use-known, fronts-nil, with_items-nil, binding-full}
 use Rattle.csp_values.proofs.Courses.{begun_under, binding_found, binding_less, condition_fails, condition_fault, condition_holds, ends, gathering_begun, gathering_fault, gathering_next, goes_on, goes_under, over_end, over_fault, set_entered, set_fault, step_less, step_passed}
 use Rattle.csp_values.proofs.Falls.{condition_falls, set_falls, weight_neg, weight_not, weight_binary, weight_if, weight_call, weight_set_name, weight_event, weight_display, weight_range, weight_set_op, weight_comp, weight_product, weight_part, use_falls}
-use Rattle.csp_values.proofs.FieldSteps.{fields_after, fields_begin, fields_end, fields_too_many, field_refused, field_taken}
+use Rattle.csp_values.proofs.FieldSteps.{counted_over, fields_after, fields_begin, fields_end, fields_too_many, field_refused, field_taken, found, front_placed, front_unplaced}
 use Rattle.csp_values.proofs.Steps.{worths_after, worths_begin, worths_end, worths_fault, worths_next, items_refused, items_taken, fronts_fault, fronts_next}
 use Rattle.csp_values.proofs.Weights.{weights-nil, weight_in, part_weight_in}
 use Rattle.csp_values.proofs.evaluation.+eval.Goals as goal
@@ -27,10 +30,24 @@ pub add_front-eval_front-requires : goal.add_front-eval_front-requires
 add_front-eval_front-requires t c = (omega (arith, weight_part c.args.part.now c.as_slice.result.now c.as_slice.ensures), tt)
 
 pub add_front-returns-in_err-first : goal.add_front-returns-in_err-first
-add_front-returns-in_err-first t c = passed _ _ _ _ c.from_residual.ensures.1 c.in_err-first.ensures (λ k e. front_fault c.args.scope.now.content.now c.args.scope.now.uses (env_in c.args.names.now) c.args.part.now c.args.atoms c.as_slice.result.now k c.as_slice.ensures e)
+add_front-returns-in_err-first t c =
+    passed _ _ _ _ c.from_residual.ensures.1 c.in_err-first.ensures
+    (λ k e. front_fault c.args.scope.now.content.now c.args.scope.now.uses (env_in c.args.names.now) c.channels-channels.result.now c.channels-channels.ensures.channels c.channels-channels.ensures.fit c.args.part.now c.args.atoms c.as_slice.result.now k c.as_slice.ensures e)
+
+pub add_front-count_with-count-requires : goal.add_front-count_with-count-requires
+add_front-count_with-count-requires t c =
+    let fits = count_fits c.args.scope.now.content.now c.args.scope.now.uses (env_in c.args.names.now) c.channels-channels.result.now c.channels-channels.ensures.channels c.channels-channels.ensures.fit (out-EventPart c.args.part.now).channel c.as_slice.result.now c.in_ok-first.first c.len.result (c.len.ensures ∙ ap length (sym c.as_slice.ensures)) c.in_ok-first.ensures in
+    omega arith
+
+pub add_front-with_events-requires : goal.add_front-with_events-requires
+add_front-with_events-requires t c =
+    let fits = count_fits c.args.scope.now.content.now c.args.scope.now.uses (env_in c.args.names.now) c.channels-channels.result.now c.channels-channels.ensures.channels c.channels-channels.ensures.fit (out-EventPart c.args.part.now).channel c.as_slice.result.now c.in_ok-first.first c.len.result (c.len.ensures ∙ ap length (sym c.as_slice.ensures)) c.in_ok-first.ensures in
+    omega (arith, c.count_with-count.ensures)
 
 pub add_front-returns : goal.add_front-returns
-add_front-returns t c = same _ _ _ (front_added c.args.scope.now.content.now c.args.scope.now.uses (env_in c.args.names.now) c.args.part.now c.args.atoms c.as_slice.result.now c.as_slice-2.result.now c.in_ok-first.first c.len.result c.in_ok-count.count c.as_slice.ensures c.as_slice-2.ensures c.len.ensures c.in_ok-first.ensures c.in_ok-count.ensures) c.with_events.ensures
+add_front-returns t c =
+    same _ _ _ (front_added c.args.scope.now.content.now c.args.scope.now.uses (env_in c.args.names.now) c.channels-channels.result.now c.channels-channels.ensures.channels c.channels-channels.ensures.fit c.args.part.now c.args.atoms c.as_slice.result.now c.in_ok-first.first c.len.result c.count_with-count.result c.as_slice.ensures c.len.ensures
+    c.count_with-count.ensures c.in_ok-first.ensures) c.with_events.ensures
 
 pub add_fronts-add_front-requires : goal.add_fronts-add_front-requires
 add_fronts-add_front-requires t c = let lighter = part_weight_in c.args.parts.now c.loop-part.part-index c.part-item.result (omega arith) c.part-item.is in (omega (arith, lighter), tt)
@@ -198,19 +215,23 @@ pub eval_set_op-returns : goal.eval_set_op-returns
 eval_set_op-returns t c = same _ _ _ (λ i. set_of c.args.op (c.in_ok-left.ensures i) (c.in_ok-right.ensures i)) c.set_value.ensures
 
 pub eval_fields-loop-field-init : goal.eval_fields-loop-field-init
-eval_fields-loop-field-init t c = fields_begin c.args.scope.now.content.now c.args.scope.now.uses (env_in c.args.names.now) c.args.fields.now c.args.sets.now c.args.each
+eval_fields-loop-field-init t c = record { within = omega arith; same = fields_begin c.args.scope.now.content.now c.args.scope.now.uses (env_in c.args.names.now) c.args.fields.now c.args.sets.now c.args.each }
 
 pub eval_fields-returns-in_default : goal.eval_fields-returns-in_default
-eval_fields-returns-in_default t c = fields_too_many _ c.args.scope.now.content.now c.args.scope.now.uses (env_in c.args.names.now) c.args.fields.now c.loop-field.rest.now c.args.each c.loop-field.number c.loop-field.field-index c.field-item.result c.loop-field.invariant (omega arith) c.field-item.is c.in_default.ensures.cases
+eval_fields-returns-in_default t c = fields_too_many _ c.args.scope.now.content.now c.args.scope.now.uses (env_in c.args.names.now) c.args.fields.now c.loop-field.rest.now c.args.each c.loop-field.number c.loop-field.field-index c.field-item.result c.loop-field.invariant.same (omega arith) c.field-item.is c.in_default.ensures.cases
 
 pub eval_fields-eval_place-requires : goal.eval_fields-eval_place-requires
 eval_fields-eval_place-requires t c = let lighter = weight_in c.args.fields.now c.loop-field.field-index c.field-item.result (omega arith) c.field-item.is in (omega (arith, lighter), tt)
 
 pub eval_fields-returns-in_err-place : goal.eval_fields-returns-in_err-place
-eval_fields-returns-in_err-place t c = passed _ _ _ _ c.from_residual.ensures.1 c.in_err-place.ensures (λ k e. field_refused _ c.args.scope.now.content.now c.args.scope.now.uses (env_in c.args.names.now) c.args.fields.now c.loop-field.rest.now c.in-Some.set.now c.in-Some.others.now c.args.each c.loop-field.number c.loop-field.field-index c.field-item.result k c.loop-field.invariant (omega arith) c.field-item.is c.in-Some.ensures.cases.0 e)
+eval_fields-returns-in_err-place t c = passed _ _ _ _ c.from_residual.ensures.1 c.in_err-place.ensures (λ k e. field_refused _ c.args.scope.now.content.now c.args.scope.now.uses (env_in c.args.names.now) c.args.fields.now c.loop-field.rest.now c.in-Some.set.now c.in-Some.others.now c.args.each c.loop-field.number c.loop-field.field-index c.field-item.result k c.loop-field.invariant.same (omega arith) c.field-item.is c.in-Some.ensures.cases.0 e)
 
 pub eval_fields-loop-field-preserved : goal.eval_fields-loop-field-preserved
-eval_fields-loop-field-preserved t c = field_taken _ c.args.scope.now.content.now c.args.scope.now.uses (env_in c.args.names.now) c.args.fields.now c.loop-field.rest.now c.in-Some.set.now c.in-Some.others.now c.args.each c.loop-field.number c.in_ok-number.number c.in_ok-place.place c.loop-field.field-index c.field-item.result c.loop-field.invariant (omega arith) c.field-item.is c.in-Some.ensures.cases.0 c.in_ok-place.ensures c.in_ok-number.ensures
+eval_fields-loop-field-preserved t c = record {
+  within = omega (arith, c.with_field-number.ensures);
+  same =
+      field_taken _ c.args.scope.now.content.now c.args.scope.now.uses (env_in c.args.names.now) c.args.fields.now c.loop-field.rest.now c.in-Some.set.now c.in-Some.others.now c.args.each c.loop-field.number c.with_field-number.result c.in_ok-place.place c.loop-field.field-index c.field-item.result c.loop-field.invariant.same (omega arith) c.field-item.is c.in-Some.ensures.cases.0 c.in_ok-place.ensures c.with_field-number.ensures;
+}
 
 pub eval_place-returns-in_err-value : goal.eval_place-returns-in_err-value
 eval_place-returns-in_err-value t c = passed _ _ _ _ c.from_residual.ensures.1 c.in_err-value.ensures (λ k e. ap (λ o. and_then o (λ v. field_place c.args.set.now v)) e)
@@ -219,31 +240,58 @@ pub eval_place-returns : goal.eval_place-returns
 eval_place-returns t c = same _ _ _ (ap (λ o. and_then o (λ v. field_place c.args.set.now v)) c.in_ok-value.ensures) c.place_in.ensures
 
 pub eval_choice-returns : goal.eval_choice-returns
-eval_choice-returns t c = same _ _ _ (counted_over _ _ c.in_ok-each.each c.in_ok-each.ensures) c.eval_fields.ensures
+eval_choice-returns t c = same _ _ _ (counted_over _ _ c.each_of-each.result c.each_of-each.ensures) c.eval_fields.ensures
 
 pub eval_fields-returns : goal.eval_fields-returns
-eval_fields-returns t c = c.loop-field.invariant ∙ (ap (λ es. fields_after c.args.scope.now.content.now c.args.scope.now.uses (env_in c.args.names.now) es c.loop-field.rest.now c.args.each c.loop-field.number) (drop_of_length-le c.args.fields.now (omega arith)) ∙ fields_end c.args.scope.now.content.now c.args.scope.now.uses (env_in c.args.names.now) c.loop-field.rest.now c.args.each c.loop-field.number)
+eval_fields-returns t c =
+    c.loop-field.invariant.same ∙
+    (ap (λ es. capped (fields_after c.args.scope.now.content.now c.args.scope.now.uses (env_in c.args.names.now) es c.loop-field.rest.now c.args.each c.loop-field.number)) (drop_of_length-le c.args.fields.now (omega arith)) ∙
+    fields_end c.args.scope.now.content.now c.args.scope.now.uses (env_in c.args.names.now) c.loop-field.rest.now c.args.each c.loop-field.number c.loop-field.invariant.within)
 
 pub eval_front-returns-in_err-place-in-Some : goal.eval_front-returns-in_err-place-in-Some
-eval_front-returns-in_err-place-in-Some t c = passed _ _ _ _ c.from_residual.ensures.1 c.in_err-place-in-Some.ensures (λ k e. front_of_sets c.args.scope.now.content.now c.args.scope.now.uses (env_in c.args.names.now) c.args.channel c.args.fields.now c.as_slice-channels.result.now c.in-Some.sets.now (Err k) c.as_slice-channels.ensures c.in-Some.ensures e)
+eval_front-returns-in_err-place-in-Some t c =
+    passed _ _ _ _ c.from_residual.ensures.1 c.in_err-place-in-Some.ensures
+    (λ k e. front_unplaced c.args.scope.now.content.now c.args.scope.now.uses (env_in c.args.names.now) c.args.channel c.args.fields.now c.in-Some.sets.now c.channels-channels.result.now k c.channels-channels.ensures.channels c.in-Some.ensures e)
+
+pub eval_front-event_at-requires : goal.eval_front-event_at-requires
+eval_front-event_at-requires t c =
+    (front_placed c.args.scope.now.content.now c.args.scope.now.uses (env_in c.args.names.now) c.args.channel c.args.fields.now c.in-Some.sets.now c.channels-channels.result.now c.in_ok-place-in-Some.place c.channels-channels.ensures.channels c.channels-channels.ensures.fit c.in-Some.ensures c.in_ok-place-in-Some.ensures).1
 
 pub eval_front-returns-in_ok-place-in-Some : goal.eval_front-returns-in_ok-place-in-Some
-eval_front-returns-in_ok-place-in-Some t c = same _ _ _ (front_of_sets c.args.scope.now.content.now c.args.scope.now.uses (env_in c.args.names.now) c.args.channel c.args.fields.now c.as_slice-channels.result.now c.in-Some.sets.now (Ok c.in_ok-place-in-Some.place) c.as_slice-channels.ensures c.in-Some.ensures c.in_ok-place-in-Some.ensures) c.event_at.ensures
+eval_front-returns-in_ok-place-in-Some t c =
+    (front_placed c.args.scope.now.content.now c.args.scope.now.uses (env_in c.args.names.now) c.args.channel c.args.fields.now c.in-Some.sets.now c.channels-channels.result.now c.in_ok-place-in-Some.place c.channels-channels.ensures.channels c.channels-channels.ensures.fit c.in-Some.ensures c.in_ok-place-in-Some.ensures).0
+    ∙ ap found (sym c.event_at.ensures)
 
 pub eval_front-returns-in-None : goal.eval_front-returns-in-None
-eval_front-returns-in-None t c = front_without_sets c.args.scope.now.content.now c.args.scope.now.uses (env_in c.args.names.now) c.args.channel c.args.fields.now c.as_slice-channels.result.now c.as_slice-channels.ensures c.in-None.ensures
+eval_front-returns-in-None t c = front_without_sets c.args.scope.now.content.now c.args.scope.now.uses (env_in c.args.names.now) c.args.channel c.args.fields.now c.channels-channels.result.now c.channels-channels.ensures.channels c.in-None.ensures
+
+pub eval_event-returns-in_err-first : goal.eval_event-returns-in_err-first
+eval_event-returns-in_err-first t c = passed _ _ _ _ c.from_residual.ensures.1 c.in_err-first.ensures (λ k e. event_fault c.args.scope.now.content.now c.args.scope.now.uses (env_in c.args.names.now) c.channels-channels.result.now c.channels-channels.ensures.channels c.channels-channels.ensures.fit c.args.channel c.args.fields.now k e)
+
+pub eval_event-count_with-count-requires : goal.eval_event-count_with-count-requires
+eval_event-count_with-count-requires t c =
+    let fits = count_fits c.args.scope.now.content.now c.args.scope.now.uses (env_in c.args.names.now) c.channels-channels.result.now c.channels-channels.ensures.channels c.channels-channels.ensures.fit c.args.channel c.args.fields.now c.in_ok-first.first _ refl c.in_ok-first.ensures in
+    omega arith
+
+pub eval_event-returns-then-count-eq0 : goal.eval_event-returns-then-count-eq0
+eval_event-returns-then-count-eq0 t c =
+    no_event c.args.scope.now.content.now c.args.scope.now.uses (env_in c.args.names.now) c.channels-channels.result.now c.channels-channels.ensures.channels c.channels-channels.ensures.fit c.args.channel c.args.fields.now c.in_ok-first.first _ c.count_with-count.result refl c.count_with-count.ensures c.in_ok-first.ensures c.if-count-eq0.true
+
+pub eval_event-returns : goal.eval_event-returns
+eval_event-returns t c =
+    an_event c.args.scope.now.content.now c.args.scope.now.uses (env_in c.args.names.now) c.channels-channels.result.now c.channels-channels.ensures.channels c.channels-channels.ensures.fit c.args.channel c.args.fields.now c.in_ok-first.first _ c.count_with-count.result refl c.count_with-count.ensures c.in_ok-first.ensures (omega arith)
 
 pub eval_use-returns-then-scope-eq0 : goal.eval_use-returns-then-scope-eq0
 eval_use-returns-then-scope-eq0 t c = ap (λ n. use_worth c.args.scope.now.content.now n c.args.def c.args.args.now) c.if-scope-eq0.true ∙ use-none_left c.args.scope.now.content.now c.args.def c.args.args.now
 
 pub eval_use-eval_body-requires : goal.eval_use-eval_body-requires
-eval_use-eval_body-requires t c = (omega (arith, use_falls c.args.scope.now.content.now c.args.scope.now.uses c.args.def c.in-Some.def.now c.if-scope-eq0.false c.in-Some.ensures), tt)
+eval_use-eval_body-requires t c = (omega (arith, use_falls c.args.scope.now.content.now c.args.scope.now.uses c.args.def c.in-Some.def.now c.if-scope-eq0.false (c.in-Some.ensures ∙ ap (λ q. slice_get q.defs c.args.def) c.content.ensures)), tt)
 
 pub eval_use-returns-in-Some : goal.eval_use-returns-in-Some
-eval_use-returns-in-Some t c = same _ _ _ (use-known c.args.scope.now.content.now c.args.scope.now.uses c.args.def c.args.args.now c.in-Some.def.now (omega arith) (sym c.in-Some.ensures)) c.eval_body.ensures
+eval_use-returns-in-Some t c = same _ _ _ (use-known c.args.scope.now.content.now c.args.scope.now.uses c.args.def c.args.args.now c.in-Some.def.now (omega arith) (ap (λ q. slice_get q.defs c.args.def) (sym c.content.ensures) ∙ sym c.in-Some.ensures)) c.eval_body.ensures
 
 pub eval_use-returns-in-None : goal.eval_use-returns-in-None
-eval_use-returns-in-None t c = use-unknown c.args.scope.now.content.now c.args.scope.now.uses c.args.def c.args.args.now (sym c.in-None.ensures)
+eval_use-returns-in-None t c = use-unknown c.args.scope.now.content.now c.args.scope.now.uses c.args.def c.args.args.now (ap (λ q. slice_get q.defs c.args.def) (sym c.content.ensures) ∙ sym c.in-None.ensures)
 
 pub gather-returns-then-bindings-ge-MOST_BINDINGS : goal.gather-returns-then-bindings-ge-MOST_BINDINGS
 gather-returns-then-bindings-ge-MOST_BINDINGS t c = binding-full c.args.scope.now.content.now c.args.scope.now.uses c.args.yields.now.items.now c.args.yields.now.parts.now (env_in c.args.names.now) (gathered_of c.args.tally) (omega arith)
@@ -288,11 +336,11 @@ pub eval_product-eval_comprehension-requires : goal.eval_product-eval_comprehens
 eval_product-eval_comprehension-requires t c = (omega (arith, weights-nil), tt)
 
 pub eval_product-returns-then-lack_sets : goal.eval_product-returns-then-lack_sets
-eval_product-returns-then-lack_sets t c = lacking c.args.scope.now.content.now c.as_slice.result.now c.args.parts.now c.lack_sets.result _ c.as_slice.ensures c.lack_sets.ensures c.if-lack_sets.true
+eval_product-returns-then-lack_sets t c = lacking c.args.scope.now.content.now c.channels.result.now c.args.parts.now c.lack_sets.result _ c.channels.ensures.channels c.lack_sets.ensures c.if-lack_sets.true
 
 pub eval_product-returns : goal.eval_product-returns
 eval_product-returns t c =
-    same _ _ _ (not_lacking c.args.scope.now.content.now c.as_slice.result.now c.args.parts.now c.lack_sets.result _ c.as_slice.ensures c.lack_sets.ensures c.if-lack_sets.false) c.eval_comprehension.ensures
+    same _ _ _ (not_lacking c.args.scope.now.content.now c.channels.result.now c.args.parts.now c.lack_sets.result _ c.channels.ensures.channels c.lack_sets.ensures c.if-lack_sets.false) c.eval_comprehension.ensures
 
 pub advance-returns-in_default : goal.advance-returns-in_default
 advance-returns-in_default t c = ends c.args.scope.now.content.now c.args.scope.now.uses c.args.gens.now c.args.names.now.bound.now (parameters c.args.names.now) c.args.walk.now c.in-None.is c.in_default.ensures

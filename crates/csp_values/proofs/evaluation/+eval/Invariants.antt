@@ -1,6 +1,6 @@
-use Rattle.std.proofs.Common.{◌≡◌, ◌+◌, drop}
+use Rattle.std.proofs.Common.{◌≡◌, ◌≤◌, ◌+◌, ◌-◌, ◌^◌, drop}
 use Rattle.value_operators.specs.Env.{env_in}
-use Rattle.value_operators.specs.Forms.{scaled}
+use Rattle.value_operators.specs.Forms.{capped, scaled}
 use Rattle.csp_values.specs.Course.{IsUnder, course, skipped}
 use Rattle.csp_values.specs.Worth.{worths, with_items, with_fronts, fields_worth, gathered_of, one_more_binding, walk_worth}
 use Rattle.csp_values.proofs.Courses.{over_course, size}
@@ -120,8 +120,10 @@ invariant-add_items-loop-item l =
 
 -- the fields that are left are still to be counted
 abbrev pub invariant-eval_fields-loop-field : goal.invariant-eval_fields-loop-field
-invariant-eval_fields-loop-field l =
-    scaled (fields_worth l.scope.content.now l.scope.uses (env_in l.names) l.fields l.fn.sets 0) l.each ≡ fields_after l.scope.content.now l.scope.uses (env_in l.names) (drop l.field-index l.fields) l.rest l.each l.number
+invariant-eval_fields-loop-field l = record {
+  within : l.number ≤ 2 ^ 64 - 1;
+  same : capped (scaled (fields_worth l.scope.content.now l.scope.uses (env_in l.names) l.fields l.fn.sets 0) l.each) ≡ capped (fields_after l.scope.content.now l.scope.uses (env_in l.names) (drop l.field-index l.fields) l.rest l.each l.number);
+}
 
 -- the fronts that are left are still to be added
 abbrev pub invariant-add_fronts-loop-part : goal.invariant-add_fronts-loop-part

@@ -5,9 +5,9 @@ use Rattle.value_operators.proofs.sets.with_events.Goals as goal
 
 pub returns-in_err-atoms : goal.returns-in_err-atoms
 returns-in_err-atoms c =
-    passed _ _ _ _ c.from_residual-in_err-atoms.ensures.1 c.in_err-atoms.ensures
-    (λ k e. list_fault _ _ _ _ _ k c.loop-place.invariant (events_left c.args.first c.loop-place.place c.args.count _ (omega arith) c.in_ok-one.ensures) e)
+    passed _ _ _ _ c.from_residual.ensures.1 c.in_err-atoms.ensures
+    (λ k e. list_fault _ _ _ _ _ k c.loop-place.invariant (events_left c.args.first c.loop-place.place c.args.count _ (omega arith) c.event-one.ensures) e)
 
 pub loop-place-preserved : goal.loop-place-preserved
 loop-place-preserved c =
-    list_next _ _ _ _ _ _ c.loop-place.invariant (events_left c.args.first c.loop-place.place c.args.count _ (omega arith) c.in_ok-one.ensures) c.in_ok-atoms.ensures
+    list_next _ _ _ _ _ _ c.loop-place.invariant (events_left c.args.first c.loop-place.place c.args.count _ (omega arith) c.event-one.ensures) c.in_ok-atoms.ensures

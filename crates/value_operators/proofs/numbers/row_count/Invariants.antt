@@ -1,6 +1,6 @@
 use Rattle.std.proofs.Common.{◌≡◌, ◌≤◌, ◌*◌, ◌-◌, ◌^◌, min, drop}
 use Rattle.csp_program.specs.EventNumber.{row_count}
-use Rattle.event_tables.proofs.counts.row_count.Given as goal
+use Rattle.value_operators.proofs.numbers.row_count.Given as goal
 
 abbrev pub invariant-loop-set : goal.invariant-loop-set
 invariant-loop-set l = record {

@@ -1,7 +1,7 @@
 use Rattle.std.proofs.Common.{◌*◌, ap, ◌∙◌, min, arith}
 use Rattle.csp_program.specs.EventNumber.{row_count}
-use Rattle.event_tables.proofs.CountLaws.{count_step}
-use Rattle.event_tables.proofs.counts.row_count.Goals as goal
+use Rattle.value_operators.proofs.EventSteps.{count_step}
+use Rattle.value_operators.proofs.numbers.row_count.Goals as goal
 
 pub loop-set-preserved : goal.loop-set-preserved
 loop-set-preserved c = record {
