@@ -1,6 +1,8 @@
 //! The field sets of a script's channels, and its event table.
 
-ghost use Rattle.std.specs.Prelude.{◌≡◌, List, [], ◌∷◌, ◌++◌, IfOk, OnOk};
+ghost use Rattle.std.specs.Prelude.{◌≡◌, IsTrue, List, [], ◌∷◌, ◌++◌, map, IfOk, OnOk};
+ghost use Rattle.csp_program.specs.InOrder.{lacks_sets};
+ghost use Rattle.csp_program.specs.Lists.{all_true};
 ghost use Rattle.csp_resolve.specs.Answers.{Answers, Grows, sets_of, types_read};
 ghost use Rattle.event_tables.specs.declared.sets.SharedSets.{SharedSets};
 ghost use Rattle.event_tables.specs.Spread.{spread};
@@ -28,6 +30,7 @@ pub fn channel_sets(
     content: &Content,
     decls: &[Decl],
 ) -> Result<Vec<SharedSets>, Unresolved>
+    requires { IsTrue (all_true (map lacks_sets content.now.channels)) }
     ensures { Answers (λ shared. spread shared.items) result (meant.channel_sets content.now (types_read (first_of meanings.now.names.now) meanings.now.kinds.now) 0 decls.now) }
 {
     let mut shared = Vec::new(meanings.alloc);
@@ -47,6 +50,7 @@ fn add_sets(
     i: u32,
     decl: &Decl,
 ) -> Result<(), Unresolved>
+    requires { IsTrue (all_true (map lacks_sets content.now.channels)) }
     ensures { Grows result shared.old.items shared.new.items (sets_of content.now (types_read (first_of meanings.now.names.now) meanings.now.kinds.now) i decl.now) }
 {
     match decl {
@@ -81,6 +85,7 @@ fn shared_in(
     channels: usize,
     types: &[Expr],
 ) -> Result<SharedSets, Unresolved>
+    requires { IsTrue (all_true (map lacks_sets content.now.channels)) }
     ensures channels { IfOk result (λ one. one.channels ≡ channels) }
     ensures sets { Answers (λ (one : SharedSets). one.sets) result (meant.told_in i (meant.field_sets content.now types.now)) }
 {
@@ -96,6 +101,7 @@ fn sets_in(
     i: u32,
     types: &[Expr],
 ) -> Result<Items<AtomSet>, Unresolved>
+    requires { IsTrue (all_true (map lacks_sets content.now.channels)) }
     ensures { Answers (λ (sets : List (List Atom)). sets) result (meant.told_in i (meant.field_sets content.now types.now)) }
 {
     match field_sets(alloc, content, types) {

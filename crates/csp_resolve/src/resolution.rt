@@ -1,9 +1,10 @@
 //! The program of a script.
 
-ghost use Rattle.std.specs.Prelude.{◌≡◌, Some, List, IfOk, OnOk};
+ghost use Rattle.std.specs.Prelude.{◌≡◌, IsTrue, Some, List, map, IfOk, OnOk};
 ghost use Rattle.std.specs.Option.{option_copied};
 ghost use Rattle.csp_program.specs.declared.programs.Content.{Content};
-ghost use Rattle.csp_program.specs.InOrder.{IsInOrder};
+ghost use Rattle.csp_program.specs.InOrder.{IsInOrder, lacks_sets};
+ghost use Rattle.csp_program.specs.Lists.{all_true};
 ghost use Rattle.csp_resolve.specs.Answers.{Answers, types_read};
 ghost use Rattle.name_tables.specs.Firsts.{SameFirsts};
 ghost use Rattle.resolved_laws.specs.Laws.{HasFew};
@@ -99,6 +100,7 @@ fn with_events(
     decls: &[Decl],
     mut content: Content,
 ) -> Result<Content, Unresolved>
+    requires { IsTrue (all_true (map lacks_sets content.channels)) }
     ensures answer { Answers (λ (p : Content). p) result
         (and_next (meant.channel_sets content (types_read (first_of meanings.now.names.now) meanings.now.kinds.now) 0 decls.now) (λ all. meant.with_table content all)) }
     ensures few { OnOk result (HasFew content) }
@@ -118,6 +120,7 @@ fn put_events(
     decls: &[Decl],
     content: &mut Content,
 ) -> Result<(), Unresolved>
+    requires { IsTrue (all_true (map lacks_sets content.old.channels)) }
     ensures answer { Answers (λ (done : Unit {0}). content.new) result
         (and_next (meant.channel_sets content.old (types_read (first_of meanings.now.names.now) meanings.now.kinds.now) 0 decls.now) (λ all. meant.with_table content.old all)) }
     ensures few { OnOk result (HasFew content.old) }

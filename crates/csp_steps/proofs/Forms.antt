@@ -31,6 +31,10 @@ use Rattle.term_pool.specs.Trees.{all_below, places, places_below, tree_at, tree
 use Rattle.term_pool.specs.declared.node.Node.{Node}
 use Rattle.pool_parts.specs.declared.place.ProcId.{ProcId}
 use Rattle.value_operators.specs.declared.fault.EvalFault.{EvalFault}
+use Rattle.step_values.specs.Starts.{IsStart}
+use Rattle.step_values.specs.declared.heads.Start.{Start}
+use Rattle.csp_steps.specs.Walked.{ways_by_number}
+use Rattle.csp_steps.proofs.Numbered.{moves_by_number}
 use Rattle.csp_steps.specs.Computed.{all_within, around_layer, AreAround, AreAt, AreOfChoice, AreThoseAt, filled, GivesLook, IsListing, IsPlaceOf}
 use Rattle.csp_steps.specs.Listed.{seen}
 use Rattle.csp_steps.specs.declared.look.Look.{Look}
@@ -205,24 +209,26 @@ module _ (p : Content) where
   ended trees = record { same = forms.steps-Ended p; within = refl }
 
   -- a prefix
-  prefix_steps : (h : Head) (fields : List Field) (q : Proc) (choice : Choice) → of_head p h ≡ Ok choice
-      → steps_of p (proc.Prefix h fields q) ≡ filled [] choice.first (ways_to_fill p choice.sets fields q 0)
-  prefix_steps h fields q choice e =
+  prefix_steps : (h : Head) (fields : List Field) (q : Proc) (start : Start) (choice : Choice) → of_head p h ≡ Ok choice → IsStart start choice
+      → steps_of p (proc.Prefix h fields q) ≡ filled [] start.first (ways_by_number p start.sets.now fields q 0)
+  prefix_steps h fields q start choice e is =
       forms.steps-Prefix p h fields q ∙
-      ap (λ o. and_then o (λ found. and_then (ways_to_fill p found.sets fields q 0) (λ ways. Ok (map (λ w. (Visible (found.first + w.0), w.1)) ways)))) e
+      ap (λ o. and_then o (λ found. and_then (ways_to_fill p found.sets fields q []) (λ ways. Ok (map (λ w. (Visible (found.event w.0), w.1)) ways)))) e ∙
+      ap (λ sets. and_then (ways_to_fill p sets fields q []) (λ ways. Ok (map (λ w. (Visible (choice.event w.0), w.1)) ways))) is.sets ∙
+      moves_by_number p choice.event start.first start.sets.now fields q is.event
 
-  pub prefix : (trees : List Proc) (steps : List StepTo) (h : Head) (fields : List Field) (q : Proc) (choice : Choice) → of_head p h ≡ Ok choice
-      → IsListing trees steps (filled [] choice.first (ways_to_fill p choice.sets fields q 0)) → IsListing trees steps (steps_of p (proc.Prefix h fields q))
-  prefix trees steps h fields q choice e is = record { same = prefix_steps h fields q choice e ∙ is.same; within = is.within }
+  pub prefix : (trees : List Proc) (steps : List StepTo) (h : Head) (fields : List Field) (q : Proc) (start : Start) (choice : Choice) → of_head p h ≡ Ok choice → IsStart start choice
+      → IsListing trees steps (filled [] start.first (ways_by_number p start.sets.now fields q 0)) → IsListing trees steps (steps_of p (proc.Prefix h fields q))
+  prefix trees steps h fields q start choice e from is = record { same = prefix_steps h fields q start choice e from ∙ is.same; within = is.within }
 
-  pub prefix_fault : (h : Head) (fields : List Field) (q : Proc) (choice : Choice) (k : ValueKind) → of_head p h ≡ Ok choice
-      → filled [] choice.first (ways_to_fill p choice.sets fields q 0) ≡ Err k → steps_of p (proc.Prefix h fields q) ≡ Err k
-  prefix_fault h fields q choice k e is = prefix_steps h fields q choice e ∙ is
+  pub prefix_fault : (h : Head) (fields : List Field) (q : Proc) (start : Start) (choice : Choice) (k : ValueKind) → of_head p h ≡ Ok choice → IsStart start choice
+      → filled [] start.first (ways_by_number p start.sets.now fields q 0) ≡ Err k → steps_of p (proc.Prefix h fields q) ≡ Err k
+  prefix_fault h fields q start choice k e from is = prefix_steps h fields q start choice e from ∙ is
 
   pub head_fault : (h : Head) (fields : List Field) (q : Proc) (k : ValueKind) → of_head p h ≡ Err k → steps_of p (proc.Prefix h fields q) ≡ Err k
   head_fault h fields q k e =
       forms.steps-Prefix p h fields q ∙
-      ap (λ o. and_then o (λ found. and_then (ways_to_fill p found.sets fields q 0) (λ ways. Ok (map (λ w. (Visible (found.first + w.0), w.1)) ways)))) e
+      ap (λ o. and_then o (λ found. and_then (ways_to_fill p found.sets fields q []) (λ ways. Ok (map (λ w. (Visible (found.event w.0), w.1)) ways)))) e
 
   -- operators round one process
   pub hide : (trees : List Proc) (id : ProcId) (s : Expr) → id.0 < length trees → AreAround p trees id (proc.Hide (tree_at trees id) s)

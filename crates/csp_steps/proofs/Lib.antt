@@ -6,6 +6,7 @@ pub mod Entering
 pub mod Forms
 pub mod Looking
 pub mod Noting
+pub mod Numbered
 pub mod Own
 pub mod Places
 pub mod Rounds

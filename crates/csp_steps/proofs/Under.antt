@@ -6,7 +6,7 @@ use Rattle.csp_atoms.specs.declared.value.Value.{Value}
 use Rattle.csp_atoms.specs.declared.value.Value.TheVariants as value
 use Rattle.csp_program.specs.Outcome.{Outcome, and_then}
 use Rattle.csp_program.specs.Substitution.{any_gets, expr_with, fields_with, proc_with}
-use Rattle.csp_program.specs.Value.{Env, as_set, bound_value, field_place, uses_within, value_within}
+use Rattle.csp_program.specs.Value.{Env, as_set, bound_value, uses_within, value_within}
 use Rattle.csp_program.specs.declared.expressions.Expr.{Expr}
 use Rattle.csp_program.specs.declared.processes.Field.{Field}
 use Rattle.csp_program.specs.declared.processes.Field.TheVariants as field
@@ -14,10 +14,12 @@ use Rattle.csp_program.specs.declared.processes.Proc.{Proc}
 use Rattle.csp_program.specs.declared.programs.Content.{Content}
 use Rattle.csp_values.specs.Worth.{worth}
 use Rattle.process_steps.specs.Needed.{each_joined}
-use Rattle.process_steps.specs.Prefix.{Way, later_process, ways_to_fill, where_given}
+use Rattle.value_laws.specs.Numbers.{field_place}
+use Rattle.process_steps.specs.Prefix.{later_process, where_given}
+use Rattle.csp_steps.specs.Computed.{Way}
 use Rattle.substitution.specs.Parts.{expr_after}
 use Rattle.substitution.proofs.BoundWorth.{worth_bound, worth_same}
-use Rattle.csp_steps.specs.Walked.{is_blocked, ways_under}
+use Rattle.csp_steps.specs.Walked.{ways_by_number, is_blocked, ways_under}
 
 -- ---- what is known of names
 
@@ -146,7 +148,7 @@ module _ (p : Content) where
   nothing_known known x false e = absurd (false≢true (sym e ∙ eq-eqb x x refl))
 
   ways_same : {known : Known} {fs fs' : List Field} → FieldsMean known fs fs' → (env : Env) → Under known env [] → (sets : List (List Atom)) (q : Proc) (n : ℕ)
-      → ways_under p env sets fs q n ≡ ways_to_fill p sets fs' q n
+      → ways_under p env sets fs q n ≡ ways_by_number p sets fs' q n
   unfolding worth
   ways_same (ended k) env r [] q n = refl
   ways_same (ended k) env r (set ∷ sets) q n = refl
@@ -167,7 +169,7 @@ module _ (p : Content) where
       ((y, value.One a) ∷ env) (extended k env [] y (value.One a) r) sets (later_process y a fs' q) (n * length set + m)) i)) 0 set)
 
   -- no name is bound at first
-  pub ways_at_first : (sets : List (List Atom)) (fs : List Field) (q : Proc) (n : ℕ) → ways_under p [] sets fs q n ≡ ways_to_fill p sets fs q n
+  pub ways_at_first : (sets : List (List Atom)) (fs : List Field) (q : Proc) (n : ℕ) → ways_under p [] sets fs q n ≡ ways_by_number p sets fs q n
   ways_at_first sets fs q n = ways_same (same_fields (λ y. None) (λ y. refl) fs) [] (λ y. refl) sets q n
 
   -- ---- fields that can't be filled

@@ -11,7 +11,7 @@ use Rattle.csp_program.specs.declared.kinds.ValueKind.{ValueKind}
 use Rattle.csp_program.specs.declared.processes.Proc.{Proc}
 use Rattle.csp_program.specs.declared.programs.Content.{Content}
 use Rattle.process_steps.specs.Needed.{each_joined}
-use Rattle.process_steps.specs.Prefix.{Way, later_process, where_given}
+use Rattle.process_steps.specs.Prefix.{later_process, where_given}
 use Rattle.process_steps.specs.StepList.{Move}
 use Rattle.process_steps.specs.declared.label.Label.TheVariants.{Visible}
 use Rattle.term_pool.specs.Pooled.{IsFront}
@@ -20,7 +20,7 @@ use Rattle.std.specs.Prelude.{Result}
 use Rattle.value_operators.specs.declared.fault.EvalFault.{EvalFault}
 use Rattle.value_operators.specs.Env.{with_bound}
 use Rattle.value_operators.proofs.NameLaws.{with_bound-last}
-use Rattle.csp_steps.specs.Computed.{all_within, event_move, filled}
+use Rattle.csp_steps.specs.Computed.{Way, all_within, event_move, filled}
 use Rattle.csp_steps.specs.Listed.{seen, FaultIs}
 use Rattle.csp_steps.specs.Walked.{frames_left, frames_weight, frames_within, input_ways, name_of, next_ways, next_weight, then_ways, turn_ways, turned_ways, turned_weight, values_left, values_weight, walk_moves, walk_ways, ways_under, weight, HasGone, IsBegun, IsSound, IsTaken, IsTurnWithin}
 use Rattle.csp_steps.specs.declared.fields.Next.{Next}

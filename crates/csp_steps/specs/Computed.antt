@@ -2,7 +2,6 @@
 use Rattle.std.specs.Prelude.{◌≡◌, ◌<◌, ◌+◌, ℕ, Bool, true, false, ◌&&◌, if◌then◌else◌, nat_lt, Result, Ok, Err, List, [], ◌∷◌, ◌++◌, map, length}
 use Rattle.csp_base.specs.Members.{has}
 use Rattle.process_steps.specs.Needed.{events_in}
-use Rattle.process_steps.specs.Prefix.{Way}
 use Rattle.process_steps.specs.Renaming.{renaming_in}
 use Rattle.process_steps.specs.StepList.{Move, in_hiding, in_renaming, in_sequence, steps_of, steps_of_choice}
 use Rattle.term_pool.specs.First.{with_first}
@@ -81,6 +80,10 @@ pub record AreAt (trees : List Proc) (ids : List ProcId) (processes : List Proc)
 pub record IsMove (trees : List Proc) (step : StepTo) (move : Move) : Type 0 where
   pub same : seen trees step ≡ move
   pub within : step.to.0 < length trees
+
+-- a way to fill fields: the number of its event among those of the prefix, and the process after it
+abbrev pub Way : Type 0
+Way = ℕ × Proc
 
 -- moves, and after them those of ways to fill fields
 abbrev pub event_move : ℕ → Way → Move

@@ -1,14 +1,15 @@
 -- What a walk over the ways to fill the fields of a prefix still comes to, for the contracts of the functions that make it.
 use Rattle.std.specs.Prelude.{◌≡◌, ◌<◌, ℕ, ◌+◌, ◌*◌, Bool, true, false, ◌&&◌, nat_lt, Option, Some, None, Result, Ok, Err, List, [], ◌∷◌, ◌++◌, map, drop, length}
 use Rattle.process_steps.specs.Needed.{each_joined}
-use Rattle.process_steps.specs.Prefix.{Way, later_process, where_given}
+use Rattle.process_steps.specs.Prefix.{given_in, later_fields, later_process, where_given}
 use Rattle.process_steps.specs.StepList.{Move}
 use Rattle.term_pool.specs.Trees.{tree_at}
 use Rattle.pool_parts.specs.declared.place.ProcId.{ProcId}
 use Rattle.csp_atoms.specs.declared.atom.Atom.{Atom}
 use Rattle.csp_atoms.specs.declared.value.Value.TheVariants.{One}
 use Rattle.csp_program.specs.Outcome.{Outcome, and_then}
-use Rattle.csp_program.specs.Value.{Env, as_set, field_place}
+use Rattle.csp_program.specs.Value.{Env, as_set, value_of}
+use Rattle.value_laws.specs.Numbers.{field_place}
 use Rattle.csp_program.specs.declared.expressions.Expr.{Expr}
 use Rattle.csp_program.specs.declared.kinds.ValueKind.TheVariants.{OutsideChannel}
 use Rattle.csp_program.specs.declared.processes.Field.{Field}
@@ -19,7 +20,7 @@ use Rattle.csp_values.specs.Worth.{worth}
 use Rattle.value_operators.specs.Env.{with_bound}
 use Rattle.value_operators.specs.declared.fault.EvalFault.{EvalFault}
 use Rattle.value_operators.specs.declared.fault.EvalFault.TheVariants as fault
-use Rattle.csp_steps.specs.Computed.{all_within, filled}
+use Rattle.csp_steps.specs.Computed.{Way, all_within, filled}
 use Rattle.csp_steps.specs.Listed.{seen}
 use Rattle.csp_steps.specs.declared.fields.Next.{Next}
 use Rattle.csp_steps.specs.declared.fields.Next.TheVariants as next
@@ -52,7 +53,18 @@ abbrev pub given_under : Content → Env → Option Expr → Outcome (Option (Li
 given_under p env None = Ok None
 given_under p env (Some s) = and_then (set_under p env s) (λ atoms. Ok (Some atoms))
 
--- All ways to fill fields, as `ways_to_fill` has them, where the values of the inputs before are not put into the fields but stand in an environment.
+-- All ways to fill fields, where each has the number of its event in place of the event's values: the first field is slowest.
+abbrev pub ways_by_number : Content → List (List Atom) → List Field → Proc → ℕ → Outcome (List Way)
+ways_by_number p [] [] q n = Ok ((n, q) ∷ [])
+ways_by_number p [] (f ∷ fields) q n = Err OutsideChannel
+ways_by_number p (set ∷ sets) [] q n = Err OutsideChannel
+ways_by_number p (set ∷ sets) (field.Put e ∷ fields) q n =
+    and_then (value_of p e) (λ v. and_then (field_place set v) (λ k. ways_by_number p sets fields q (n * length set + k)))
+ways_by_number p (set ∷ sets) (field.Get x s ∷ fields) q n =
+    and_then (given_in p s) (λ given.
+    each_joined (where_given given (λ k a. ways_by_number p sets (later_fields x a fields) (later_process x a fields q) (n * length set + k))) 0 set)
+
+-- All ways to fill fields, as `ways_by_number` has them, where the values of the inputs before are not put into the fields but stand in an environment.
 abbrev pub ways_under : Content → Env → List (List Atom) → List Field → Proc → ℕ → Outcome (List Way)
 ways_under p env [] [] q n = Ok ((n, q) ∷ [])
 ways_under p env [] (f ∷ fields) q n = Err OutsideChannel

@@ -2,10 +2,11 @@
 
 ghost use Rattle.std.specs.Prelude.{◌≡◌, ◌≤◌, ◌+◌, ◌*◌, [], length, List, IfOk, Ok};
 ghost use Rattle.csp_program.specs.Outcome.{and_then};
-ghost use Rattle.csp_program.specs.Value.{Env, field_place};
+ghost use Rattle.csp_program.specs.Value.{Env};
 ghost use Rattle.csp_program.specs.declared.processes.Proc.{Proc};
 ghost use Rattle.csp_program.specs.declared.programs.Content.{Content};
 ghost use Rattle.csp_values.specs.Worth.{worth};
+ghost use Rattle.value_laws.specs.Numbers.{field_place};
 ghost use Rattle.value_operators.specs.Env.{with_bound};
 ghost use Rattle.value_operators.specs.Gives.{Gives};
 ghost use Rattle.pool_parts.specs.declared.place.ProcId.{ProcId};

@@ -13,7 +13,7 @@ ghost use Rattle.term_pool.specs.Pooled.{IsFront};
 ghost use Rattle.term_pool.specs.Trees.{all_below, tree_at};
 ghost use Rattle.csp_steps.specs.Computed.{GivesLook};
 ghost use Rattle.csp_steps.specs.Evaluated.{Fits};
-ghost use Rattle.step_values.specs.Starts.{choice_in};
+ghost use Rattle.step_values.specs.Starts.{IsStart};
 ghost use Rattle.value_operators.specs.Gives.{Gives};
 
 use crate::around::put_ended;
@@ -116,7 +116,7 @@ fn look_prefix(
     id: ProcId,
 ) -> Result<Look, EvalFault>
     requires within { id.0 < length pool.old }
-    ensures look { (head : LogicHead) → (written : List LogicField) → IfOk fields (λ fs. fs ≡ written) → meant.of_head program.now head ≡ Ok (choice_in start.now) → GivesLook program.now pool.new result (proc.Prefix head written (tree_at pool.old id)) }
+    ensures look { (head : LogicHead) → (written : List LogicField) → IfOk fields (λ fs. fs ≡ written) → (choice : meant.Choice) → meant.of_head program.now head ≡ Ok choice → IsStart start.now choice → GivesLook program.now pool.new result (proc.Prefix head written (tree_at pool.old id)) }
     ensures front { IsFront pool.old pool.new }
 {
     let fields = fields?;

@@ -6,12 +6,11 @@ ghost use Rattle.csp_program.specs.Substitution.{any_gets, proc_with};
 ghost use Rattle.csp_program.specs.Value.{Env};
 ghost use Rattle.csp_program.specs.declared.programs.Content.{Content};
 ghost use Rattle.process_steps.specs.Prefix as meant;
-ghost use Rattle.process_steps.specs.Prefix.{ways_to_fill};
 ghost use Rattle.process_steps.specs.declared.label.Label.TheVariants as label;
 ghost use Rattle.term_pool.specs.Pooled.{IsFront};
 ghost use Rattle.term_pool.specs.Trees.{tree_at};
 ghost use Rattle.csp_steps.specs.Computed.{filled, GivesMoves, IsPlaceOf};
-ghost use Rattle.csp_steps.specs.Walked.{input_ways, turned_ways, turned_weight, walk_moves, weight, GivesTurn, GivesWalk, IsSound, IsTaken, IsTurnWithin};
+ghost use Rattle.csp_steps.specs.Walked.{input_ways, turned_ways, ways_by_number, turned_weight, walk_moves, weight, GivesTurn, GivesWalk, IsSound, IsTaken, IsTurnWithin};
 
 use crate::choice::put_atom;
 use crate::fields::{Filling, Next, are_blocked, next_of, number_after};
@@ -223,7 +222,7 @@ pub(crate) fn prefix_steps(
     to: ProcId,
 ) -> Result<Items<StepTo>, EvalFault>
     requires within { to.0 < length pool.old }
-    ensures steps { GivesMoves pool.new result (filled [] start.now.first (ways_to_fill program.now start.now.sets.now fields.now (tree_at pool.old to) 0)) }
+    ensures steps { GivesMoves pool.new result (filled [] start.now.first (ways_by_number program.now start.now.sets.now fields.now (tree_at pool.old to) 0)) }
     ensures front { IsFront pool.old pool.new }
 {
     if are_blocked(start.sets, fields) {

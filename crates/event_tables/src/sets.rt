@@ -1,7 +1,8 @@
 //! The field sets of channels.
 
-ghost use Rattle.std.specs.Prelude.{◌≡◌, ◌++◌, map, IfOk, OnOk, replicate, slice_get};
+ghost use Rattle.std.specs.Prelude.{◌≡◌, ◌++◌, map, IfOk, IsTrue, OnOk, replicate, slice_get};
 ghost use Rattle.std.specs.Option.{option_copied};
+ghost use Rattle.csp_program.specs.InOrder.{lacks_sets};
 ghost use Rattle.csp_program.specs.Lists.{all_true};
 ghost use Rattle.csp_program.specs.Outcome.{and_then};
 ghost use Rattle.csp_program.specs.Value.{value_of};
@@ -32,6 +33,7 @@ pub fn field_sets(
     content: &Content,
     types: &[Expr],
 ) -> Result<Items<AtomSet>, EvalFault>
+    requires { IsTrue (all_true (map lacks_sets content.now.channels)) }
     ensures { Gives result (meant.field_sets content.now types.now) }
 {
     let mut sets = Items::new(alloc);
@@ -48,6 +50,7 @@ fn add_set(
     sets: &mut Items<AtomSet>,
     expr: &Expr,
 ) -> Result<(), EvalFault>
+    requires { IsTrue (all_true (map lacks_sets content.now.channels)) }
     ensures { GivesOneMore result sets.old sets.new (and_then (value_of content.now expr.now) meant.field_set) }
 {
     let set = set_of(eval_in(alloc, content, expr)?)?;

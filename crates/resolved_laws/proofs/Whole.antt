@@ -168,6 +168,9 @@ plain_lack : (cs : List Channel) → ArePlain cs → IsTrue (all_true (map lacks
 plain_lack [] h = refl
 plain_lack (c ∷ cs) h = is_and (lacks_sets c) (all_true (map lacks_sets cs)) (ap is_none h.0) (plain_lack cs h.2)
 
+pub plain_lacks : (decls : List Decl) (ks : List Kind) → IsTrue (all_true (map lacks_sets (plain_content decls ks).channels))
+plain_lacks decls ks = plain_lack (flat_map (channels_of (meanings_of decls) ks) decls) (channels_plain (meanings_of decls) ks decls)
+
 plain_sets : (p : Content) (cs : List Channel) → ArePlain cs → IsTrue (all_true (map (λ c. sets_in_order p (length c.types) c.fields) cs))
 plain_sets p [] h = refl
 plain_sets p (c ∷ cs) h =

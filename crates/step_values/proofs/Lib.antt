@@ -1,5 +1,7 @@
 pub mod Arguments
+pub mod ChannelEvents
 pub mod Lists
 pub mod Naming
+pub mod NewEvents
 pub mod Pairs
 pub mod Walking

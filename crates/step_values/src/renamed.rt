@@ -198,6 +198,7 @@ fn add_from(
     requires { front_worth program.now (length program.now.defs) (with_bound bound.now []) (out-EventPart pair.now.0).channel (out-EventPart pair.now.0).fields ≡ Ok first }
     ensures { Gives result (and_then (meant.pair_renamed program.now (with_bound bound.now []) pair.now) (λ more. Ok (renamed ++ more))) }
 {
+    let content = program.content();
     let old = &pair.0;
     let new = &pair.1;
     let values = eval_all_under(alloc, program, bound, new.fields.as_slice())?;
@@ -206,7 +207,6 @@ fn add_from(
         values: values.as_slice(),
         given: old.fields.len(),
     };
-    let content = program.content();
     let count = count_with(content.channels.as_slice(), old.channel, side.given);
     let events = events_from(content.events.as_slice(), first, count);
     add_events(alloc, program, &side, first, events, renamed)
@@ -222,6 +222,8 @@ pub(crate) fn add_pair(
 ) -> Result<Items<(Event, Event)>, EvalFault>
     ensures { Gives result (and_then (meant.pair_renamed program.now (with_bound bound.now []) pair.now) (λ more. Ok (renamed ++ more))) }
 {
+    // Its contract says that the program is in order.
+    let _ = program.content();
     let old = &pair.0;
     let first = front_under(alloc, program, bound, old.channel, old.fields.as_slice())?;
     add_from(alloc, program, bound, pair, first, renamed)

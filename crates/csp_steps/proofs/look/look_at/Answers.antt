@@ -77,7 +77,7 @@ pub returns-in_ok-start-in-Prefix-clause-look : goal.returns-in_ok-start-in-Pref
 returns-in_ok-start-in-Prefix-clause-look c =
     look_at c.args.program.now c.args.pool.now c.look_prefix.new.pool c.look_prefix.result c.node.result _ (tree_at c.args.pool.now c.args.id) c.node.ensures.process c.in-Prefix.is
     (c.look_prefix.ensures.look c.in-Prefix.head.now c.in-Prefix.fields.now
-    (subst (λ (written : List Field). IfOk c.copy_fields-fields.result (λ fs. fs ≡ written)) c.as_slice-in-Prefix.ensures c.copy_fields-fields.ensures) c.in_ok-start-in-Prefix.ensures)
+    (subst (λ (written : List Field). IfOk c.copy_fields-fields.result (λ fs. fs ≡ written)) c.as_slice-in-Prefix.ensures c.copy_fields-fields.ensures) c.in_ok-start-in-Prefix.ensures.0 c.in_ok-start-in-Prefix.ensures.1 c.in_ok-start-in-Prefix.ensures.2)
 
 pub returns-in-EachExternal-clause-look : goal.returns-in-EachExternal-clause-look
 returns-in-EachExternal-clause-look c =

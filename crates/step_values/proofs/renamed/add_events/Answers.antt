@@ -1,7 +1,6 @@
 use Rattle.std.proofs.Common.{◌+◌, drop, refl, ap, ◌∙◌, arith}
-use Rattle.process_steps.specs.Renaming.{renamed_as}
 use Rattle.value_operators.proofs.Faults.{passed}
-use Rattle.step_values.specs.Walked.{new_event}
+use Rattle.step_values.specs.Walked.{new_event, renamed_as}
 use Rattle.step_values.proofs.Lists.{left, left_begin, left_end, left_fault, left_next}
 use Rattle.step_values.proofs.renamed.add_events.Goals as goal
 

@@ -10,9 +10,9 @@ use Rattle.step_values.proofs.renamed.add_pair.Goals as goal
 pub returns-in_err-first : goal.returns-in_err-first
 returns-in_err-first c =
     passed _ _ _ _ c.from_residual.ensures.1 c.in_err-first.ensures
-    (λ k e. front_fault c.args.program.now (with_bound c.args.bound.now []) c.args.pair.now c.args.renamed c.as_slice.result.now k c.as_slice.ensures e)
+    (λ k e. front_fault c.args.program.now (with_bound c.args.bound.now []) c.args.pair.now c.args.renamed c.content.ensures.in_order k
+    (ap (λ (fields : List Expr). front_worth c.args.program.now (length c.args.program.now.defs) (with_bound c.args.bound.now []) (out-EventPart c.args.pair.now.0).channel fields) (sym c.as_slice.ensures) ∙ e))
 
-pub returns : goal.returns
-returns c =
-    c.add_from.ensures
-    (ap (λ (fields : List Expr). front_worth c.args.program.now (length c.args.program.now.defs) (with_bound c.args.bound.now []) (out-EventPart c.args.pair.now.0).channel fields) (sym c.as_slice.ensures) ∙ c.in_ok-first.ensures)
+pub add_from-requires : goal.add_from-requires
+add_from-requires c =
+    ap (λ (fields : List Expr). front_worth c.args.program.now (length c.args.program.now.defs) (with_bound c.args.bound.now []) (out-EventPart c.args.pair.now.0).channel fields) (sym c.as_slice.ensures) ∙ c.in_ok-first.ensures

@@ -1,0 +1,128 @@
+-- The ways to fill fields, by the values of their events and by the numbers of their events.
+use Rattle.std.proofs.Common.{◌≡◌, ℕ, ◌+◌, ◌*◌, Bool, true, false, cond, Option, Some, None, Ok, Err, List, [], ◌∷◌, ◌++◌, map, length, slice_get, refl, ap, sym, ◌∙◌, append_assoc, append-nil, arith}
+use Rattle.std.specs.Prelude.{is_some, if◌then◌else◌}
+use Rattle.std.proofs.lemmas.List.{map-append}
+use Rattle.csp_atoms.proofs.SearchLaws.{has_place}
+use Rattle.csp_atoms.specs.Sets.{has_atom, place_of}
+use Rattle.csp_program.specs.EventNumber.{row_count}
+use Rattle.csp_program.specs.EventTable.{rows}
+use Rattle.csp_program.specs.Outcome.{Outcome, and_then}
+use Rattle.csp_program.specs.Value.{in_field, value_of}
+use Rattle.csp_atoms.specs.declared.atom.Atom.{Atom}
+use Rattle.csp_atoms.specs.declared.value.Value.{Value}
+use Rattle.csp_atoms.specs.declared.value.Value.TheVariants.{One, Many}
+use Rattle.csp_program.specs.declared.kinds.ValueKind.{ValueKind}
+use Rattle.csp_program.specs.declared.kinds.ValueKind.TheVariants.{OutsideChannel}
+use Rattle.csp_program.specs.declared.processes.Field.{Field}
+use Rattle.csp_program.specs.declared.processes.Field.TheVariants as field
+use Rattle.csp_program.specs.declared.processes.Proc.{Proc}
+use Rattle.csp_program.specs.declared.programs.Content.{Content}
+use Rattle.process_steps.specs.Needed.{each_joined}
+use Rattle.process_steps.specs.Prefix.{given_in, is_given, later_fields, later_process, ways_to_fill, where_given}
+use Rattle.process_steps.specs.Prefix as prefix
+use Rattle.process_steps.specs.StepList.{Move}
+use Rattle.process_steps.specs.declared.label.Label.TheVariants.{Visible}
+use Rattle.value_laws.proofs.RowNumbers.{field_found, to_rows}
+use Rattle.value_laws.specs.Numbers.{field_place, found_place}
+use Rattle.csp_steps.specs.Computed.{Way, event_move}
+use Rattle.csp_steps.specs.Walked.{ways_by_number}
+
+no_place : (o : Option ℕ) (why : ValueKind) → found_place o ≡ Err why → (o ≡ None) × (OutsideChannel ≡ why)
+no_place None why h = (refl, cc)
+no_place (Some n) why h = absurd (cc)
+
+outside : (set : List Atom) (v : Value) (why : ValueKind) → field_place set v ≡ Err why → in_field set v ≡ Err why
+outside set (One a) why h =
+    let none = no_place (place_of set a) why h in
+    let has : has_atom set a ≡ false = sym (has_place set a) ∙ ap is_some none.0 in
+    ap (λ t. cond t (Ok a) (Err OutsideChannel)) has ∙ ap (λ (z : ValueKind). Err z) none.1
+outside set (Many atoms) why h = cc
+
+-- the moves that ways come to
+abbrev moved : {W : Type 0} → (W → Move) → Outcome (List W) → Outcome (List Move)
+moved f o = and_then o (λ ways. Ok (map f ways))
+
+abbrev then_moves : Outcome (List Move) → Outcome (List Move) → Outcome (List Move)
+then_moves first second = and_then first (λ us. and_then second (λ vs. Ok (us ++ vs)))
+
+moved_join : {W : Type 0} (f : W → Move) (x y : Outcome (List W)) → moved f (and_then x (λ ys. and_then y (λ more. Ok (ys ++ more)))) ≡ then_moves (moved f x) (moved f y)
+moved_join f (Ok xs) (Ok ys) = ap (λ (l : List Move). Ok l) (map-append f xs ys)
+moved_join f (Ok xs) (Err k) = refl
+moved_join f (Err k) y = refl
+
+given_same : {W V : Type 0} (f : W → Move) (g : V → Move) (b : Bool) (x : Outcome (List W)) (y : Outcome (List V)) → moved f x ≡ moved g y → moved f (if b then x else Ok []) ≡ moved g (if b then y else Ok [])
+given_same f g true x y h = h
+given_same f g false x y h = refl
+
+each_moved : {W V : Type 0} (f : W → Move) (g : V → Move) (given : Option (List Atom)) (next : ℕ → Atom → Outcome (List W)) (next' : ℕ → Atom → Outcome (List V)) (k : ℕ) (set : List Atom)
+    → ((i : ℕ) (a : Atom) → slice_get set i ≡ Some a → moved f (next (k + i) a) ≡ moved g (next' (k + i) a))
+    → moved f (each_joined (where_given given next) k set) ≡ moved g (each_joined (where_given given next') k set)
+each_moved f g given next next' k [] same = refl
+each_moved f g given next next' k (a ∷ set) same =
+    let here : k + 0 ≡ k = omega arith in
+    let first : moved f (next k a) ≡ moved g (next' k a) = ap (λ n. moved f (next n a)) (sym here) ∙ same 0 a refl ∙ ap (λ n. moved g (next' n a)) here in
+    let rest = each_moved f g given next next' (k + 1) set
+    (λ i b at. let there : k + 1 + i ≡ k + suc i = omega arith in ap (λ n. moved f (next n b)) there ∙ same (suc i) b at ∙ ap (λ n. moved g (next' n b)) (sym there)) in
+    moved_join f (where_given given next k a) (each_joined (where_given given next) (k + 1) set) ∙
+    (λ i. then_moves (given_same f g (is_given given a) (next k a) (next' k a) first i) (rest i)) ∙
+    sym (moved_join g (where_given given next' k a) (each_joined (where_given given next') (k + 1) set))
+
+-- an event that is found by values, and by the place of these among all choices of values
+module _ (p : Content) (event : List Atom → ℕ) (first : ℕ) where
+  by_row : prefix.Way → Move
+  by_row w = (Visible (event w.0), w.1)
+
+  -- the values before the sets are the row, and have the number n
+  Counts : List (List Atom) → List Atom → ℕ → Type 0
+  Counts sets row n = (j : ℕ) (rest : List Atom) → slice_get (rows sets) j ≡ Some rest → event (row ++ rest) ≡ first + (n * row_count sets + j)
+
+  one_more : (set : List Atom) (sets : List (List Atom)) (row : List Atom) (n k : ℕ) (a : Atom) → Counts (set ∷ sets) row n → slice_get set k ≡ Some a → Counts sets (row ++ a ∷ []) (n * length set + k)
+  one_more set sets row n k a counts at j rest there =
+      ap event (append_assoc row (a ∷ []) rest) ∙
+      counts (k * row_count sets + j) (a ∷ rest) (to_rows set sets k a j rest at there (k * row_count sets + j) refl) ∙
+      ap (λ (m : ℕ). first + m) (omega arith)
+
+  Same : List (List Atom) → List Field → Proc → List Atom → ℕ → Type 0
+  Same sets fields q row n = moved by_row (ways_to_fill p sets fields q row) ≡ moved (event_move first) (ways_by_number p sets fields q n)
+
+  at_field : (o : Outcome ℕ) (set : List Atom) (sets : List (List Atom)) (fields : List Field) (q : Proc) (row : List Atom) (n : ℕ) (v : Value) → field_place set v ≡ o
+      → ((k : ℕ) (a : Atom) → slice_get set k ≡ Some a → Same sets fields q (row ++ a ∷ []) (n * length set + k))
+      → moved by_row (and_then (in_field set v) (λ a. ways_to_fill p sets fields q (row ++ a ∷ []))) ≡ moved (event_move first) (and_then o (λ k. ways_by_number p sets fields q (n * length set + k)))
+  at_field (Err why) set sets fields q row n v is rest = ap (λ o. moved by_row (and_then o (λ a. ways_to_fill p sets fields q (row ++ a ∷ [])))) (outside set v why is)
+  at_field (Ok k) set sets fields q row n v is rest =
+      let found = field_found set v k is in
+      ap (λ o. moved by_row (and_then o (λ a. ways_to_fill p sets fields q (row ++ a ∷ [])))) found.3 ∙ rest k found.0 found.2
+
+  at_output : (o : Outcome Value) (set : List Atom) (sets : List (List Atom)) (fields : List Field) (q : Proc) (row : List Atom) (n : ℕ)
+      → ((k : ℕ) (a : Atom) → slice_get set k ≡ Some a → Same sets fields q (row ++ a ∷ []) (n * length set + k))
+      → moved by_row (and_then o (λ v. and_then (in_field set v) (λ a. ways_to_fill p sets fields q (row ++ a ∷ []))))
+      ≡ moved (event_move first) (and_then o (λ v. and_then (field_place set v) (λ k. ways_by_number p sets fields q (n * length set + k))))
+  at_output (Err why) set sets fields q row n rest = refl
+  at_output (Ok v) set sets fields q row n rest = at_field (field_place set v) set sets fields q row n v refl rest
+
+  at_input : (o : Outcome (Option (List Atom))) (set : List Atom) (sets : List (List Atom)) (x : ℕ) (fields : List Field) (q : Proc) (row : List Atom) (n : ℕ)
+      → ((k : ℕ) (a : Atom) → slice_get set k ≡ Some a → Same sets (later_fields x a fields) (later_process x a fields q) (row ++ a ∷ []) (n * length set + k))
+      → moved by_row (and_then o (λ given. each_joined (where_given given (λ k a. ways_to_fill p sets (later_fields x a fields) (later_process x a fields q) (row ++ a ∷ []))) 0 set))
+      ≡ moved (event_move first) (and_then o (λ given. each_joined (where_given given (λ k a. ways_by_number p sets (later_fields x a fields) (later_process x a fields q) (n * length set + k))) 0 set))
+  at_input (Err why) set sets x fields q row n rest = refl
+  at_input (Ok given) set sets x fields q row n rest =
+      each_moved by_row (event_move first) given (λ k a. ways_to_fill p sets (later_fields x a fields) (later_process x a fields q) (row ++ a ∷ []))
+      (λ k a. ways_by_number p sets (later_fields x a fields) (later_process x a fields q) (n * length set + k)) 0 set
+      (λ i a at. let here : i ≡ 0 + i = omega arith in
+      rest i a at ∙ ap (λ k. moved (event_move first) (ways_by_number p sets (later_fields x a fields) (later_process x a fields q) (n * length set + k))) here)
+
+  same_moves : (sets : List (List Atom)) (fields : List Field) (q : Proc) (row : List Atom) (n : ℕ) → Counts sets row n → Same sets fields q row n
+  same_moves [] [] q row n counts =
+      let last : event row ≡ first + n = ap event (sym (append-nil row)) ∙ counts 0 [] refl ∙ ap (λ (m : ℕ). first + m) (omega arith) in
+      ap (λ (e : ℕ). Ok ((Visible e, q) ∷ [])) last
+  same_moves [] (f ∷ fields) q row n counts = refl
+  same_moves (set ∷ sets) [] q row n counts = refl
+  same_moves (set ∷ sets) (field.Put e ∷ fields) q row n counts =
+      at_output (value_of p e) set sets fields q row n (λ k a at. same_moves sets fields q (row ++ a ∷ []) (n * length set + k) (one_more set sets row n k a counts at))
+  same_moves (set ∷ sets) (field.Get x s ∷ fields) q row n counts =
+      at_input (given_in p s) set sets x fields q row n
+      (λ k a at. same_moves sets (later_fields x a fields) (later_process x a fields q) (row ++ a ∷ []) (n * length set + k) (one_more set sets row n k a counts at))
+
+  pub moves_by_number : (sets : List (List Atom)) (fields : List Field) (q : Proc) → ((i : ℕ) (row : List Atom) → slice_get (rows sets) i ≡ Some row → event row ≡ first + i)
+      → and_then (ways_to_fill p sets fields q []) (λ ways. Ok (map (λ w. (Visible (event w.0), w.1)) ways)) ≡ and_then (ways_by_number p sets fields q 0) (λ ways. Ok (map (event_move first) ways))
+  moves_by_number sets fields q is = same_moves sets fields q [] 0 (λ j rest at. is j rest at ∙ ap (λ (m : ℕ). first + m) (omega arith))
