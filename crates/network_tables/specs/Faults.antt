@@ -51,3 +51,8 @@ TellsHere p room c (unexplored.Refused f) = HasFault p f room c
 abbrev pub TellsRound : LocalTable → Unexplored → Type 0
 TellsRound made unexplored.NoMemory = Unit {0}
 TellsRound made (unexplored.Refused f) = (f ≡ fault.Diverges) × ((circle : List ℕ) × IsCircle (SilentStep (RawStep made.table)) circle)
+
+-- a fault of the component with the number i
+abbrev pub at_part : ℕ → Unexplored → Untabled
+at_part i unexplored.NoMemory = untabled.NoMemory
+at_part i (unexplored.Refused f) = untabled.Refused i f

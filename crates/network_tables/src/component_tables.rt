@@ -3,7 +3,7 @@
 ghost use Rattle.std.specs.Prelude.{◌≡◌, ◌≤◌, ◌<◌, ◌++◌, ◌∷◌, [], IfErr, IfOk, OnOk, length};
 ghost use Rattle.dl_limits.specs.declared.TheConstants.{MOST_COMPONENTS};
 ghost use Rattle.net_sound.specs.Heights.{AreSilentHeights};
-ghost use Rattle.network_tables.specs.Faults.{TellsHere, TellsRound, TellsTable};
+ghost use Rattle.network_tables.specs.Faults.{TellsHere, TellsRound, TellsTable, at_part};
 ghost use Rattle.network_tables.specs.Tables.{AreTablesOf, IsTableWithin, room_after, whole_room};
 
 use crate::fault::Untabled;
@@ -87,6 +87,16 @@ fn table_within(
     with_heights(alloc, local)
 }
 
+// Why no tables are made, where this component has none.
+fn untabled(part: u32, fault: Unexplored) -> Untabled
+    ensures { result ≡ at_part part fault }
+{
+    match fault {
+        Unexplored::NoMemory => Untabled::NoMemory,
+        Unexplored::Refused(fault) => Untabled::Refused { part, fault },
+    }
+}
+
 // Adds a table.
 fn add(made: &mut Vec<ComponentTable>, table: ComponentTable) -> Result<(), NoMemory>
     ensures { OnOk result (made.new.items ≡ made.old.items ++ table ∷ []) }
@@ -114,13 +124,7 @@ pub fn tables(
                 room = after(room, table.local.used);
                 add(&mut made, table)?;
             }
-            Err(Unexplored::NoMemory) => return Err(Untabled::NoMemory),
-            Err(Unexplored::Refused(fault)) => {
-                return Err(Untabled::Refused {
-                    part: part as u32,
-                    fault,
-                });
-            }
+            Err(fault) => return Err(untabled(part as u32, fault)),
         }
     }
     Ok(made)
