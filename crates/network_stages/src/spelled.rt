@@ -88,7 +88,7 @@ fn seated(alloc: Global, program: Boxed<Program>) -> Result<Spelled, Stop<Refusa
         Ok(layout) => Ok(Spelled { program, layout }),
         Err(Unlaid::NoMemory) => Err(Stop::NoMemory),
         Err(Unlaid::Refused(fault)) => {
-            let fault = network_told(alloc, program.get(), fault)?;
+            let fault = network_told(alloc, program.get(), &fault)?;
             Err(Stop::Told(Refusal::Network(fault)))
         }
     }

@@ -96,7 +96,7 @@ pub fn make_tables<'a>(
         }),
         Err(Untabled::NoMemory) => Err(Stop::NoMemory),
         Err(Untabled::Refused { part, fault }) => {
-            let fault = component_told(alloc, program, fault)?;
+            let fault = component_told(alloc, program, &fault)?;
             Err(Stop::Told(Refusal::Component {
                 component: first + part,
                 fault,

@@ -17,20 +17,20 @@ use std::alloc::Global;
 pub(crate) fn network_told(
     alloc: Global,
     program: &Program,
-    fault: LayoutFault<Event>,
+    fault: &LayoutFault<Event>,
 ) -> Result<LayoutFault<Bytes>, NoMemory>
-    ensures { IfOk result (λ told. told ≡ network_told (event_text program.now) fault) }
+    ensures { IfOk result (λ told. told ≡ network_told (event_text program.now) fault.now) }
 {
     Ok(match fault {
-        LayoutFault::Value { kind } => LayoutFault::Value { kind },
+        LayoutFault::Value { kind } => LayoutFault::Value { kind: *kind },
         LayoutFault::BadNesting {
             first,
             count,
             event,
         } => LayoutFault::BadNesting {
-            first,
-            count,
-            event: event_text(alloc, program, event)?,
+            first: *first,
+            count: *count,
+            event: event_text(alloc, program, *event)?,
         },
         LayoutFault::EmptyNetwork => LayoutFault::EmptyNetwork,
         LayoutFault::ComponentLimit => LayoutFault::ComponentLimit,
@@ -42,12 +42,12 @@ pub(crate) fn network_told(
 pub(crate) fn component_told(
     alloc: Global,
     program: &Program,
-    fault: ComponentFault<Trace>,
+    fault: &ComponentFault<Trace>,
 ) -> Result<ComponentFault<Items<Bytes>>, NoMemory>
-    ensures { IfOk result (λ told. told ≡ component_told (texts program.now) fault) }
+    ensures { IfOk result (λ told. told ≡ component_told (texts program.now) fault.now) }
 {
     Ok(match fault {
-        ComponentFault::Value { kind } => ComponentFault::Value { kind },
+        ComponentFault::Value { kind } => ComponentFault::Value { kind: *kind },
         ComponentFault::TermCount => ComponentFault::TermCount,
         ComponentFault::TermDepth => ComponentFault::TermDepth,
         ComponentFault::TermTotal => ComponentFault::TermTotal,

@@ -1,12 +1,18 @@
 -- The events of a channel, by their numbers from the channel's first on.
-use Rattle.std.proofs.Common.{◌≡◌, ℕ, ◌+◌, get_or, Some, None, Ok, Err, List, slice_get, ap}
+use Rattle.std.proofs.Common.{◌≡◌, ℕ, zero, suc, ◌+◌, get_or, Some, None, Ok, Err, List, [], slice_get, refl, ap, sym, ◌∙◌, arith}
 use Rattle.csp_program.specs.EventTable.{events_with, rows}
 use Rattle.csp_program.specs.InOrder.{IsInOrder}
 use Rattle.csp_program.specs.Outcome.{Outcome}
 use Rattle.csp_program.specs.Value.{sets_of}
 use Rattle.csp_atoms.specs.declared.atom.Atom.{Atom}
+use Rattle.csp_atoms.specs.declared.atom.Atom.TheVariants as atom
+use Rattle.csp_atoms.specs.declared.value.Value.{Value}
+use Rattle.csp_atoms.specs.declared.value.Value.TheVariants.{One}
+use Rattle.csp_program.specs.declared.programs.Channel.{Channel}
 use Rattle.csp_program.specs.declared.programs.Content.{Content}
-use Rattle.process_steps.specs.Prefix.{Choice, of_channel}
+use Rattle.process_steps.specs.Prefix.{Choice, of_channel, of_value}
+use Rattle.step_values.specs.Starts.{IsStart}
+use Rattle.step_values.specs.declared.heads.Start.{Start}
 use Rattle.value_laws.proofs.EventPlaces.{event_of_row}
 use Rattle.value_laws.proofs.Fits.{program_fits}
 use Rattle.value_laws.specs.Numbers.{first_of}
@@ -23,3 +29,34 @@ channel_is p c sets has = ap (of_channel p.channels c) has
 pub channel_event : (p : Content) → IsInOrder p → (c : ℕ) (sets : List (List Atom)) → sets_of (slice_get p.channels c) ≡ Some sets → (i : ℕ) (row : List Atom) → slice_get (rows sets) i ≡ Some row
     → get_or (events_with p.channels c row) 0 0 ≡ first_of (slice_get p.channels c) + i
 channel_event p ordered c sets has i row at = ap (λ es. get_or es 0 0) (event_of_row p.channels (program_fits p ordered) c sets has i row at)
+
+-- a head of a channel, and a value in place of a head, as they are kept
+abbrev pub Starts : Outcome Choice → Start → Type 0
+Starts o start = (choice : Choice) × (o ≡ Ok choice) × IsStart start choice
+
+pub channel_start : (p : Content) → IsInOrder p → (c : ℕ) (channel : Channel) (sets : List (List Atom)) → slice_get p.channels c ≡ Some channel → channel.fields ≡ Some sets
+    → (start : Start) → start.first ≡ channel.first → start.sets.now ≡ sets → Starts (of_channel p.channels c (sets_of (slice_get p.channels c))) start
+channel_start p ordered c channel sets at fields start first same_sets =
+    let has : sets_of (slice_get p.channels c) ≡ Some sets = ap sets_of at ∙ fields in
+    let kept : first_of (slice_get p.channels c) ≡ start.first = ap first_of at ∙ sym first in (
+      choice_of p c sets,
+      channel_is p c sets has,
+      record {
+        sets = sym same_sets;
+        event = λ i row there. channel_event p ordered c sets has i row (ap (λ (s : List (List Atom)). slice_get (rows s) i) (sym same_sets) ∙ there) ∙ ap (λ (n : ℕ). n + i) kept;
+      },
+    )
+
+only_row : (e i : ℕ) (row : List Atom) → slice_get (rows []) i ≡ Some row → e ≡ e + i
+only_row e zero row h = omega arith
+only_row e (suc i) row h = absurd (cc)
+
+pub value_start : (v : Value) (e : ℕ) → v ≡ One (atom.Event e) → (start : Start) → start.first ≡ e → start.sets.now ≡ [] → Starts (of_value v) start
+value_start v e is start first same_sets = (
+  record { sets = []; event = λ row. e },
+  ap of_value is,
+  record {
+    sets = sym same_sets;
+    event = λ i row there. only_row e i row (ap (λ (s : List (List Atom)). slice_get (rows s) i) (sym same_sets) ∙ there) ∙ ap (λ (n : ℕ). n + i) (sym first);
+  },
+)

@@ -73,7 +73,7 @@ none_left [] sets k m h none = none
 none_left (v ∷ vs) [] k m h none = absurd (omega arith)
 none_left (v ∷ vs) (set ∷ sets) k m h none =
     let step = came_through (field_place set v) (λ place. fields_number (as_fields vs) sets [] (k * length set + place)) m h in
-    none_left vs sets (k * length set + step.0) m step.1.1 (other_is_none (length set) (row_count sets) (place_in_some set v step.0 step.1.0) none)
+    none_left vs sets (k * length set + step.0) m step.2 (other_is_none (length set) (row_count sets) (place_in_some set v step.0 step.1) none)
 
 same_length : (vs : List Value) → length (as_fields vs) ≡ length vs
 same_length vs = length-map vs (λ v env. Ok v)
@@ -94,7 +94,7 @@ one_of (Ok e) count = refl
 one_of (Err k) count = refl
 
 module _ (p : Content) (fit : ChannelsFit p.channels) (c : ℕ) (vs : List Value) where
-  front : Outcome ℕ
+  abbrev front : Outcome ℕ
   front = front_number (first_of (slice_get p.channels c)) (sets_of (slice_get p.channels c)) (as_fields vs) []
 
   event-is : event_with p.channels c vs ≡ and_then front (λ e. one_event (span e (count_with (sets_of (slice_get p.channels c)) (length vs))))
@@ -116,10 +116,10 @@ module _ (p : Content) (fit : ChannelsFit p.channels) (c : ℕ) (vs : List Value
       event-is ∙ ap (λ o. and_then (front_number (first_of (slice_get p.channels c)) o (as_fields vs) []) (λ e. one_event (span e (count_with (sets_of (slice_get p.channels c)) (length vs))))) has
 
   module _ (sets : List (List Atom)) (has : sets_of (slice_get p.channels c) ≡ Some sets) (each : ℕ) (counted : each ≡ min (each_of sets (length vs)) greatest) where
-    fields : Outcome ℕ
+    abbrev fields : Outcome ℕ
     fields = fields_number (as_fields vs) sets [] 0
 
-    place : Outcome ℕ
+    abbrev place : Outcome ℕ
     place = scaled fields (each_of sets (length vs))
 
     front-is : front ≡ and_then place (λ k. Ok (first_of (slice_get p.channels c) + k))

@@ -35,14 +35,14 @@ there (x ∷ xs) (suc i) l =
 
 -- events by their places, and as they stand one after another
 one_by_one : (new : List Value → Outcome ℕ) (after : List Value → List Value) (events : List EventInfo) (given j first count : ℕ) → first + count ≤ length events
-    → each_joined (λ k e. and_then (new (after (values_after given (slice_get events e)))) (λ d. Ok ((e, d) ∷ []))) j (span first count) ≡
-    each_joined (λ e info. and_then (new (after (values_after given (Some info)))) (λ d. Ok ((e, d) ∷ []))) first (take count (drop first events))
+    → each_joined {B = Renamed} (λ k e. and_then (new (after (values_after given (slice_get events e)))) (λ d. Ok ((e, d) ∷ []))) j (span first count) ≡
+    each_joined {B = Renamed} (λ e info. and_then (new (after (values_after given (Some info)))) (λ d. Ok ((e, d) ∷ []))) first (take count (drop first events))
 one_by_one new after events given j first zero within = refl
 one_by_one new after events given j first (suc n) within =
     let t = there events first (omega arith) in
     let rest = one_by_one new after events given (j + 1) (first + 1) n (omega arith) in
-    (λ i. and_then (and_then (new (after (values_after given (t.1.0 i)))) (λ d. Ok ((first, d) ∷ []))) (λ ys. and_then (rest i) (λ more. Ok (ys ++ more)))) ∙
-    ap (λ xs. each_joined (λ e info. and_then (new (after (values_after given (Some info)))) (λ d. Ok ((e, d) ∷ []))) first (take (suc n) xs)) (sym t.1.1)
+    (λ i. and_then (and_then (new (after (values_after given (t.1 i)))) (λ d. Ok ((first, d) ∷ []))) (λ ys. and_then (rest i) (λ more. Ok (ys ++ more)))) ∙
+    ap (λ xs. each_joined {B = Renamed} (λ e info. and_then (new (after (values_after given (Some info)))) (λ d. Ok ((e, d) ∷ []))) first (take (suc n) xs)) (sym t.2)
 
 module _ (p : Content) (env : Env) (pair : EventPart × EventPart) (renamed : List Renamed) (ordered : IsInOrder p) where
   fit : ChannelsFit p.channels

@@ -1,9 +1,12 @@
 //! The events that the head of a prefix stands for.
 
+ghost use Rattle.std.specs.Prelude.{◌≡◌, []};
+ghost use Rattle.csp_atoms.specs.declared.value.Value.TheVariants as value;
 ghost use Rattle.process_steps.specs.Prefix as meant;
 ghost use Rattle.step_values.specs.Starts.{GivesStart};
 
 use csp_atoms::{Atom, AtomSet, Value};
+use csp_base::Event;
 use csp_program::{Head, Program, ValueKind};
 use csp_values::EvalFault;
 
@@ -36,16 +39,34 @@ fn of_channel(program: &Program, channel: u32) -> Result<Start<'_>, EvalFault>
     }
 }
 
+// An event alone.
+fn of_event<'a>(event: Event) -> Start<'a>
+    ensures first { result.first ≡ event }
+    ensures sets { result.sets.now ≡ [] }
+{
+    Start {
+        first: u64::from(event.0),
+        sets: &[],
+    }
+}
+
+// The event that an atom is.
+fn of_atom<'a>(atom: Atom) -> Result<Start<'a>, EvalFault>
+    ensures { GivesStart result (meant.of_value (value.One atom)) }
+{
+    match atom {
+        Atom::Event(event) => Ok(of_event(event)),
+        _ => Err(KIND),
+    }
+}
+
 // The event that a value is.
 fn of_value<'a>(value: &Value) -> Result<Start<'a>, EvalFault>
     ensures { GivesStart result (meant.of_value value.now) }
 {
     match value {
-        Value::One(Atom::Event(event)) => Ok(Start {
-            first: u64::from(event.0),
-            sets: &[],
-        }),
-        _ => Err(KIND),
+        Value::One(atom) => of_atom(*atom),
+        Value::Many(_) => Err(KIND),
     }
 }
 

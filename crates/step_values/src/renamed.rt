@@ -95,7 +95,7 @@ fn place_with(values: &[Value], sets: &[AtomSet], each: u64) -> Result<u64, Eval
     let mut number = 0;
     let mut rest = sets;
     for value in values {
-        let [set, others @ ..] = rest else {
+        let Some((set, others)) = rest.split_first() else {
             return Err(OUTSIDE);
         };
         let place = place_in(set, value)?;

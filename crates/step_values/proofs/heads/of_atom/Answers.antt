@@ -1,0 +1,8 @@
+use Rattle.std.proofs.Common.{ap}
+use Rattle.csp_atoms.specs.declared.atom.Atom.{Atom}
+use Rattle.csp_atoms.specs.declared.value.Value.TheVariants.{One}
+use Rattle.step_values.proofs.ChannelEvents.{value_start}
+use Rattle.step_values.proofs.heads.of_atom.Goals as goal
+
+pub returns-in-Event : goal.returns-in-Event
+returns-in-Event c = value_start (One c.args.atom) c.in-Event.event (ap (λ (a : Atom). One a) c.in-Event.is) _ c.of_event.ensures.first c.of_event.ensures.sets
