@@ -1,7 +1,6 @@
 -- When a link is open, as the exploration of one end shows it; and which events of the link are acknowledgements.
-use Rattle.std.proofs.Common.{◌≡◌, ℕ, suc, ◌+◌, List, [], ◌∷◌, Bool, true, false, not, ◌&&◌, ◌||◌, cond, IsTrue, nat_eq, inl, inr, refl, sym, ap, subst, ◌∙◌, arith, eq-eqb}
-use Rattle.std.specs.List.{list_any}
-use Rattle.std.proofs.lemmas.Bool.{cases_Bool, and_from, or_cases, or_left, or_right, false≢true, cond-true, cond-false, and_parts, eqb-true}
+use Rattle.std.proofs.Common.{◌≡◌, ℕ, suc, ◌+◌, List, [], ◌∷◌, Bool, true, false, not, ◌&&◌, ◌||◌, cond, IsTrue, nat_eq, inl, inr, refl, sym, ap, ◌∙◌, arith, eq-eqb}
+use Rattle.std.proofs.lemmas.Bool.{cases_Bool, and_from, or_left, false≢true, cond-true, cond-false, and_parts}
 use Rattle.csp_base.specs.Members.{has}
 use Rattle.csp_tables.specs.Table.{Node}
 use Rattle.csp_tables.specs.Shape.{Joins, link_at}
@@ -14,6 +13,7 @@ use Rattle.observed_runs.specs.Observers.{parity_step}
 use Rattle.client_server_conditions.specs.Network.{Network, Asks, Grants}
 use Rattle.client_server_conditions.specs.Conditions.{AreAcknowledgements, is_open_at}
 use Rattle.csp_base.proofs.Booleans.{or_unless}
+use Rattle.csp_base.proofs.Listed.{any_member, any_of}
 
 -- ---- parities
 
@@ -106,20 +106,6 @@ module _ (network : Network) (i l : ℕ) where
   ends_are false e h on = ends_grant e (h.server refl) on
 
   -- the link has acknowledgements where its set of them is not empty
-  some_member : (test : ℕ → Bool) (xs : List ℕ) → list_any test xs ≡ true → (e : ℕ) × IsTrue (has xs e) × (test e ≡ true)
-  some_member test [] h = absurd (false≢true h)
-  some_member test (x ∷ xs) h = elim (or_cases (test x) (list_any test xs) h) [
-    | inl here ↦ (x, or_left (nat_eq x x) (has xs x) (eq-eqb x x refl), here)
-    | inr later ↦ let r = some_member test xs later in (r.0, or_right (nat_eq x r.0) (has xs r.0) r.1, r.2)
-  ]
-
-  member_some : (test : ℕ → Bool) (xs : List ℕ) (e : ℕ) → has xs e ≡ true → test e ≡ true → list_any test xs ≡ true
-  member_some test [] e h k = absurd (false≢true h)
-  member_some test (x ∷ xs) e h k = elim (or_cases (nat_eq x e) (has xs e) h) [
-    | inl same ↦ or_left (test x) (list_any test xs) (subst (λ y. test y ≡ true) (sym (eqb-true x e same)) k)
-    | inr later ↦ or_right (test x) (list_any test xs) (member_some test xs e later k)
-  ]
-
   some_first : (xs : List ℕ) → (xs ≡ [] → ⊥) → (e : ℕ) × IsTrue (has xs e)
   some_first [] h = absurd (h refl)
   some_first (x ∷ xs) h = (x, or_left (nat_eq x x) (has xs x) (eq-eqb x x refl))
@@ -128,11 +114,11 @@ module _ (network : Network) (i l : ℕ) where
   acknowledged_is asks M true side are is = elim (cases_Bool (has_acknowledgements network.shape network.roles l)) [
     | inr none ↦ sym none
     | inl some ↦
-        let x = some_member for_ends (link_at network.shape l).shared some in
+        let x = any_member for_ends (link_at network.shape l).shared some in
         let member : has M x.0 ≡ true = are x.0 ∙ and_from (has (link_at network.shape l).shared x.0) (is_acknowledgement network.roles i x.0) x.1 (sym (ends_are asks x.0 side x.1) ∙ x.2) in
         absurd (false≢true (ap (λ (zs : List ℕ). has zs x.0) (sym (is.0 refl)) ∙ member))
   ]
   acknowledged_is asks M false side are is =
       let x = some_first M (λ none. false≢true (is.1 none)) in
       let p = and_parts (has (link_at network.shape l).shared x.0) (is_acknowledgement network.roles i x.0) (sym (are x.0) ∙ x.1) in
-      sym (member_some for_ends (link_at network.shape l).shared x.0 p.0 (ends_are asks x.0 side p.0 ∙ p.1))
+      sym (any_of for_ends (link_at network.shape l).shared x.0 p.0 (ends_are asks x.0 side p.0 ∙ p.1))

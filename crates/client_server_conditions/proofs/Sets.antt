@@ -1,6 +1,6 @@
 -- Sets of events as tests.
 use Rattle.std.proofs.Common.{◌≡◌, ℕ, ◌+◌, ◌≤◌, List, Bool, true, false, ◌&&◌, ◌||◌, cond, inl, inr, refl, sym, ap, ◌∙◌, arith}
-use Rattle.std.proofs.lemmas.Bool.{cases_Bool, and_from, false≢true, both_ways}
+use Rattle.std.proofs.lemmas.Bool.{cases_Bool, and_from, and_parts, false≢true, both_ways}
 use Rattle.csp_base.specs.Members.{has}
 use Rattle.csp_base.specs.Events.{is_subset_of, meets_of}
 use Rattle.csp_base.proofs.SetLaws.{common_member, member_of_superset, is_subset_of_from_members, meets_of_from_member}
@@ -28,11 +28,7 @@ agree_on E a b mine other m o first second e on = elim (cases_Bool (has a e)) [
 ]
 
 pub agree_within : (E a b mine : List ℕ) → ((x : ℕ) → has mine x ≡ (has E x && has a x)) → AgreeOn E a b → is_subset_of mine b ≡ true
-agree_within E a b mine m agree = is_subset_of_from_members mine b (λ x h. let p = parts (has E x) (has a x) (sym (m x) ∙ h) in sym (agree x p.0) ∙ p.1)
-  where
-    parts : (p q : Bool) → (p && q) ≡ true → (p ≡ true) × (q ≡ true)
-    parts true q h = (refl, h)
-    parts false q h = absurd (false≢true h)
+agree_within E a b mine m agree = is_subset_of_from_members mine b (λ x h. let p = and_parts (has E x) (has a x) (sym (m x) ∙ h) in sym (agree x p.0) ∙ p.1)
 
 pub agree_turned : (E a b : List ℕ) → AgreeOn E a b → AgreeOn E b a
 agree_turned E a b h e on = sym (h e on)

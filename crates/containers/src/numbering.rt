@@ -1,4 +1,4 @@
-ghost use Rattle.std.specs.Prelude.{◌≡◌, ◌<◌, ◌^◌, ◌↔◌, false, [], ◌∷◌, ◌++◌, length, not, position, slice_get, IsTrue, IfOk, IfSome, MatchOption, is_some, OnOk, OnErr};
+ghost use Rattle.std.specs.Prelude.{◌≡◌, ◌↔◌, false, [], ◌∷◌, ◌++◌, length, not, position, slice_get, IsTrue, IfOk, IfSome, MatchOption, is_some, OnOk, OnErr};
 ghost use Rattle.std.specs.List.{IsDistinct, position_or_len};
 ghost use Rattle.std.specs.Option.{option_copied};
 ghost use Rattle.std.specs.Set.{is_member};
@@ -10,7 +10,7 @@ use std::alloc::{AllocError, Global};
 use std::hash::Hash;
 use std::marker::Model;
 
-/// Values numbered from 0 on in the order in which they are first seen, fewer than 2^32 of them.
+/// Values numbered from 0 on in the order in which they are first seen.
 ///
 /// Contracts see it as the list of its values, in which no value stands twice. A value is found by its hash.
 pub struct Numbering<T: Eq + Hash> {
@@ -25,7 +25,7 @@ impl<T: Eq + Hash + Drop> Drop for Numbering<T> {
 }
 
 impl<T: Eq + Hash> Model for Numbering<T> {
-    ghost use Rattle.std.specs.Prelude.{List, ◌<◌, ◌^◌, length};
+    ghost use Rattle.std.specs.Prelude.{List};
     ghost use Rattle.std.specs.Coded.{coded_list};
 
     ghost Value = { List T };
@@ -33,8 +33,6 @@ impl<T: Eq + Hash> Model for Numbering<T> {
     ghost coded = { coded_list T.code };
 
     ghost view = { λ n. n.values.keys };
-
-    ghost invariant = { λ n. length n.values.keys < 2 ^ 32 };
 }
 
 impl<T: Eq + Hash> Numbering<T> {
@@ -49,8 +47,7 @@ impl<T: Eq + Hash> Numbering<T> {
 
     /// How many values have a number.
     pub fn len(&self) -> usize
-        ensures value { result ≡ length self.now }
-        ensures small { result < 2 ^ 32 }
+        ensures { result ≡ length self.now }
     {
         self.values.len()
     }
@@ -73,7 +70,6 @@ impl<T: Eq + Hash> Numbering<T> {
     pub fn as_slice(&self) -> &[T]
         ensures value { result.now ≡ self.now }
         ensures distinct { IsDistinct T.eq self.now }
-        ensures small { length self.now < 2 ^ 32 }
     {
         self.values.as_slice()
     }
@@ -81,7 +77,7 @@ impl<T: Eq + Hash> Numbering<T> {
 
 impl<T: Exact + Hash + Drop> Numbering<T> {
     /// The number of `x`, if it has one.
-    pub fn find(&self, x: &T) -> Option<u32>
+    pub fn find(&self, x: &T) -> Option<usize>
         ensures first { result ≡ position (T.eq x.now) self.now }
         ensures found { IfSome result (λ place. slice_get self.now place ≡ Some x.now) }
         ensures known { is_some result ≡ is_member T.eq self.now x.now }
@@ -90,12 +86,12 @@ impl<T: Exact + Hash + Drop> Numbering<T> {
     }
 
     /// The number of `x`, which is the next one where `x` has none yet.
-    pub fn number(&mut self, x: T) -> Result<u32, AllocError>
+    pub fn number(&mut self, x: T) -> Result<usize, AllocError>
         ensures list { OnOk result (self.new ≡ with_new T.eq self.old x) }
         ensures first { IfOk result (λ place. place ≡ position_or_len (T.eq x) self.old) }
         ensures place { IfOk result (λ place. slice_get self.new place ≡ Some x) }
 
-        // A known value needs no memory. With 2^32 - 1 values there is none for another.
+        // Only want of memory, and a known value needs none.
         ensures err { OnErr result (self.new ≡ self.old) }
         ensures err_only_new { OnErr result (is_member T.eq self.old x ≡ false) }
     {
@@ -104,12 +100,12 @@ impl<T: Exact + Hash + Drop> Numbering<T> {
     }
 
     /// The number of `x`, and whether it is new.
-    pub fn insert_full(&mut self, x: T) -> Result<(u32, bool), AllocError>
+    pub fn insert_full(&mut self, x: T) -> Result<(usize, bool), AllocError>
         ensures list { OnOk result (self.new ≡ with_new T.eq self.old x) }
         ensures place { IfOk result (λ made. slice_get self.new made.0 ≡ Some x) }
         ensures new { IfOk result (λ made. made.1 ≡ not (is_member T.eq self.old x)) }
 
-        // A known value needs no memory. With 2^32 - 1 values there is none for another.
+        // Only want of memory, and a known value needs none.
         ensures err { OnErr result (self.new ≡ self.old) }
         ensures err_only_new { OnErr result (is_member T.eq self.old x ≡ false) }
     {
@@ -125,14 +121,13 @@ impl<T: Exact + Hash + Drop> Numbering<T> {
 }
 
 // The place of x among the values.
-fn find_in<T: Exact + Hash>(values: &IndexSet<T>, x: &T) -> Option<u32>
-    requires { length values.now.keys < 2 ^ 32 }
+fn find_in<T: Exact + Hash>(values: &IndexSet<T>, x: &T) -> Option<usize>
     ensures first { result ≡ position (T.eq x.now) values.now.keys }
     ensures found { IfSome result (λ place. slice_get values.now.keys place ≡ Some x.now) }
     ensures known { is_some result ≡ is_member T.eq values.now.keys x.now }
 {
     match values.get_full(x) {
-        Some((place, _)) => Some(place as u32),
+        Some((place, _)) => Some(place),
         None => None,
     }
 }
@@ -141,22 +136,14 @@ fn find_in<T: Exact + Hash>(values: &IndexSet<T>, x: &T) -> Option<u32>
 fn number_in<T: Exact + Hash + Drop>(
     values: &mut IndexSet<T>,
     x: T,
-) -> Result<(u32, bool), AllocError>
-    requires { length values.old.keys < 2 ^ 32 }
+) -> Result<(usize, bool), AllocError>
     ensures list { OnOk result (values.new.keys ≡ with_new T.eq values.old.keys x) }
     ensures first { IfOk result (λ made. made.0 ≡ position_or_len (T.eq x) values.old.keys) }
     ensures place { IfOk result (λ made. slice_get values.new.keys made.0 ≡ Some x) }
     ensures new { IfOk result (λ made. made.1 ≡ not (is_member T.eq values.old.keys x)) }
     ensures err { OnErr result (values.new.keys ≡ values.old.keys) }
     ensures err_only_new { OnErr result (is_member T.eq values.old.keys x ≡ false) }
-    ensures small { length values.new.keys < 2 ^ 32 }
 {
-    if values.len() == u32::MAX as usize {
-        return match find_in(values, &x) {
-            Some(place) => Ok((place, false)),
-            None => Err(AllocError),
-        };
-    }
-    let (place, new) = values.insert_full(x)?;
-    Ok((place as u32, new))
+    let full = values.insert_full(x)?;
+    Ok(full)
 }

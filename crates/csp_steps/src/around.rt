@@ -150,7 +150,7 @@ fn hide(
     pool: &mut Pool,
     evaluated: &mut Evaluated,
     id: ProcId,
-    number: u32,
+    number: usize,
     below: &[StepTo],
 ) -> Result<Items<StepTo>, NoMemory>
     requires id { id.0 < length pool.old }
@@ -160,7 +160,7 @@ fn hide(
     ensures front { IsFront pool.old pool.new }
     ensures fits { (p : Content) → (hidden : List ℕ) → slice_get evaluated.old.sets number ≡ Some hidden → Hides p (out-Proc (tree_at pool.old id)) hidden → Fits p pool.old evaluated.old → OnOk result (Fits p pool.new evaluated.new) }
 {
-    let hidden = &evaluated.sets.as_slice()[number as usize];
+    let hidden = &evaluated.sets.as_slice()[number];
     let steps = hiding(alloc, pool, id, hidden, below)?;
     note_steps(&mut evaluated.hidings, number, steps.as_slice())?;
     Ok(steps)
@@ -274,7 +274,7 @@ fn rename(
     pool: &mut Pool,
     evaluated: &mut Evaluated,
     id: ProcId,
-    number: u32,
+    number: usize,
     below: &[StepTo],
 ) -> Result<Items<StepTo>, NoMemory>
     requires id { id.0 < length pool.old }
@@ -284,7 +284,7 @@ fn rename(
     ensures front { IsFront pool.old pool.new }
     ensures fits { (p : Content) → (images : Kept) → slice_get evaluated.old.images number ≡ Some images → Renames p (out-Proc (tree_at pool.old id)) images → Fits p pool.old evaluated.old → OnOk result (Fits p pool.new evaluated.new) }
 {
-    let images = &evaluated.images.as_slice()[number as usize];
+    let images = &evaluated.images.as_slice()[number];
     let steps = renaming(alloc, pool, id, images, below)?;
     note_steps(&mut evaluated.renamings, number, steps.as_slice())?;
     Ok(steps)

@@ -35,17 +35,17 @@ pub struct Evaluated {
     /// Sets of hidden events.
     pub(crate) sets: Items<EventSet>,
     /// The number of its set, for the place of a hiding.
-    pub(crate) hidings: HashMap<u32, u32>,
+    pub(crate) hidings: HashMap<usize, usize>,
     /// What events become by renamings.
     pub(crate) images: Items<Images>,
     /// The number of what events become by it, for the place of a renaming.
-    pub(crate) renamings: HashMap<u32, u32>,
+    pub(crate) renamings: HashMap<usize, usize>,
     /// The place of its body, for the number of a definition.
-    pub(crate) bodies: HashMap<u32, u32>,
+    pub(crate) bodies: HashMap<usize, usize>,
     /// The steps of choices, hidings, renamings and sequences.
     pub(crate) lists: Items<Items<StepTo>>,
     /// The number of its steps, for the place of each of them.
-    pub(crate) stepped: HashMap<u32, u32>,
+    pub(crate) stepped: HashMap<usize, usize>,
     /// How many steps are kept.
     pub(crate) kept: usize,
 }
@@ -69,14 +69,14 @@ impl Evaluated {
 }
 
 // The number that is kept for the key.
-fn known(numbers: &HashMap<u32, u32>, key: u32) -> Option<u32>
+fn known(numbers: &HashMap<usize, usize>, key: usize) -> Option<usize>
     ensures { result ≡ get nat_eq numbers.now key }
 {
     numbers.get(&key).copied()
 }
 
 // Keeps a number for the key.
-fn keep(numbers: &mut HashMap<u32, u32>, key: u32, number: u32) -> Result<(), NoMemory>
+fn keep(numbers: &mut HashMap<usize, usize>, key: usize, number: usize) -> Result<(), NoMemory>
     ensures ok { OnOk result (Updates nat_eq numbers.old numbers.new key (Some number)) }
     ensures err { OnErr result (IsUnchanged numbers.old numbers.new) }
 {
@@ -89,17 +89,15 @@ fn keep(numbers: &mut HashMap<u32, u32>, key: u32, number: u32) -> Result<(), No
 // Keeps a value, and its number for the key.
 fn put_value<T: Drop>(
     values: &mut Items<T>,
-    numbers: &mut HashMap<u32, u32>,
-    key: u32,
+    numbers: &mut HashMap<usize, usize>,
+    key: usize,
     value: T,
-) -> Result<u32, NoMemory>
+) -> Result<usize, NoMemory>
     ensures number { IfOk result (λ number. number ≡ length values.old) }
     ensures values { OnOk result (values.new ≡ values.old ++ value ∷ []) }
     ensures numbers { IfOk result (λ number. Updates nat_eq numbers.old numbers.new key (Some number)) }
 {
-    let Ok(number) = u32::try_from(values.len()) else {
-        return Err(NoMemory);
-    };
+    let number = values.len();
     values.push(value)?;
     keep(numbers, key, number)?;
     Ok(number)
@@ -112,7 +110,7 @@ pub(crate) fn hidden_number(
     evaluated: &mut Evaluated,
     id: ProcId,
     set: &Expr,
-) -> Result<u32, EvalFault>
+) -> Result<usize, EvalFault>
     ensures { (trees : List Process) → id.0 < length trees → hidden_by program.now (out-Proc (tree_at trees id)) ≡ meant.events_in program.now set.now → Fits program.now trees evaluated.old → GivesNumber program.now trees evaluated.new evaluated.new.sets result (λ hidden. meant.events_in program.now set.now ≡ Ok hidden) (meant.events_in program.now set.now) }
 {
     if let Some(number) = known(&evaluated.hidings, id.0) {
@@ -147,7 +145,7 @@ pub(crate) fn renamed_number(
     id: ProcId,
     pairs: &[(EventPart, EventPart)],
     gens: &[Gen],
-) -> Result<u32, EvalFault>
+) -> Result<usize, EvalFault>
     ensures { (trees : List Process) → id.0 < length trees → renamed_by program.now (out-Proc (tree_at trees id)) ≡ renaming.renaming_in program.now pairs.now gens.now → Fits program.now trees evaluated.old → GivesNumber program.now trees evaluated.new evaluated.new.images result (λ images. KeepsOutcome images (renaming.renaming_in program.now pairs.now gens.now)) (renaming.renaming_in program.now pairs.now gens.now) }
 {
     if let Some(number) = known(&evaluated.renamings, id.0) {
@@ -166,7 +164,11 @@ pub(crate) fn renamed_number(
 }
 
 // Keeps the number for the place that the step leads to, unless it is a tick.
-fn note_step(numbers: &mut HashMap<u32, u32>, number: u32, step: StepTo) -> Result<(), NoMemory>
+fn note_step(
+    numbers: &mut HashMap<usize, usize>,
+    number: usize,
+    step: StepTo,
+) -> Result<(), NoMemory>
     ensures { OnOk result (HasMoreNumbers numbers.old numbers.new number (step ∷ [])) }
 {
     match step.label {
@@ -178,8 +180,8 @@ fn note_step(numbers: &mut HashMap<u32, u32>, number: u32, step: StepTo) -> Resu
 
 /// Keeps the number for each of the places that the steps lead to, but for those of ticks.
 pub(crate) fn note_steps(
-    numbers: &mut HashMap<u32, u32>,
-    number: u32,
+    numbers: &mut HashMap<usize, usize>,
+    number: usize,
     steps: &[StepTo],
 ) -> Result<(), NoMemory>
     ensures { OnOk result (HasMoreNumbers numbers.old numbers.new number steps.now) }
@@ -193,7 +195,7 @@ pub(crate) fn note_steps(
 /// The place of the body of the definition with this number, which is put into the pool if it isn't there yet.
 pub(crate) fn body_place(
     pool: &mut Pool,
-    bodies: &mut HashMap<u32, u32>,
+    bodies: &mut HashMap<usize, usize>,
     number: u32,
     body: &Proc,
 ) -> Result<ProcId, NoMemory>
@@ -201,11 +203,11 @@ pub(crate) fn body_place(
     ensures front { IsFront pool.old pool.new }
     ensures bodies { (p : Content) → AreBodies p pool.old bodies.old → body_of (slice_get p.defs number) ≡ Some body.now → OnOk result (AreBodies p pool.new bodies.new) }
 {
-    if let Some(place) = known(bodies, number) {
+    if let Some(place) = known(bodies, number as usize) {
         return Ok(ProcId(place));
     }
     let id = pool.put(body)?;
-    keep(bodies, number, id.0)?;
+    keep(bodies, number as usize, id.0)?;
     Ok(id)
 }
 
@@ -220,7 +222,7 @@ pub(crate) fn known_steps(
     let Some(number) = known(&evaluated.stepped, id.0) else {
         return Ok(None);
     };
-    let Some(steps) = evaluated.lists.get(number as usize) else {
+    let Some(steps) = evaluated.lists.get(number) else {
         return Ok(None);
     };
     let copy = Items::from_slice(alloc, steps.as_slice())?;

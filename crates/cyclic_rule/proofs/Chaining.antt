@@ -85,16 +85,13 @@ module _ (shape : Shape) (orders : List (List ℕ)) (w : IsWellFormed shape) (ke
               let high : number last.0 < number m = next last.0 m (record { part = b.part; within = h; next = inr (record { place = length (order_at orders b.part) - 1; last = last.1; end = omega arith; link = ends_complete shape b.part (length shape.links) m b.within b.end; absent = absent }) }) in
               elim (cases_eq (place_after shape b.run % links_of shape b.part) (length (order_at orders b.part) - 1)) [
                 | inl same ↦
-                    let is : last.0 ≡ l = some_same last.0 l (sym last.1 ∙ subst (λ j. slice_get (order_at orders b.part) j ≡ Some l) same at) in
+                    let is : last.0 ≡ l = same_Some last.0 l (sym last.1 ∙ subst (λ j. slice_get (order_at orders b.part) j ≡ Some l) same at) in
                     subst (λ j. number j < number m) is high
                 | inr other ↦
                     let low : number l < number last.0 = rises b.part (place_after shape b.run % links_of shape b.part) (length (order_at orders b.part) - 1) l last.0 h at last.1 (omega arith) in
                     omega arith
               ]
         ]
-      where
-        some_same : (x y : ℕ) → Some x ≡ Some y → x ≡ y
-        some_same x y e = cc
 
   -- longest walks over the arcs are longest chains
   pub chain_numbers : (Arc : ℕ → ℕ → Type 0) (number : ℕ → ℕ) → ((m l : ℕ) → Arc m l → IsNextAt shape orders (length shape.parts) l m) → ((l : ℕ) → l < length shape.links → IsLongestWalk Arc l (number l)) → NumbersRise shape number → AreChainNumbers shape number

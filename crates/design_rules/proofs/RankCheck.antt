@@ -151,7 +151,7 @@ others_zero_is shape ranking fit h i n k a not_one =
 -- ---- laps
 
 -- an event that is not possible has no lap
-lap_absent : (steps : List (ℕ × ℕ)) (laps : List ℕ) (e : ℕ) → is_possible steps e ≡ false → lap_of steps laps e ≡ 0
+pub lap_absent : (steps : List (ℕ × ℕ)) (laps : List ℕ) (e : ℕ) → is_possible steps e ≡ false → lap_of steps laps e ≡ 0
 lap_absent [] laps e h = refl
 lap_absent (step ∷ steps) [] e h = refl
 lap_absent (step ∷ steps) (lap ∷ laps) e h =

@@ -45,7 +45,7 @@ impl Known {
         ensures set { (raw : RawSteps) (sets : List (List ℕ)) → AreKnown raw sets self.now.starts self.now.numbers.items → IfSome result (λ n. IsSilentClosure raw starts.now (set_at sets n)) }
     {
         match self.starts.find(starts) {
-            Some(place) => Some(self.numbers[place as usize]),
+            Some(place) => Some(self.numbers[place]),
             None => None,
         }
     }

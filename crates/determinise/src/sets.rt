@@ -143,7 +143,7 @@ fn number_of_closure(
     if sets.len() > MOST_SETS {
         return Err(SetFault::SubsetLimit);
     }
-    Ok(number)
+    Ok(number as u32)
 }
 
 // The terms to which the steps lead.

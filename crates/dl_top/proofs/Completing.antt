@@ -1,5 +1,5 @@
 -- A script that the shelf holds, and whose network passes, is answered with status 0.
-use Rattle.std.proofs.Common.{◌≡◌, ◌≤◌, ℕ, List, [], ◌∷◌, Option, None, Some, Result, Ok, Err, IfOk, IfSome, refl, sym, ap, subst, ◌∙◌, arith}
+use Rattle.std.proofs.Common.{◌≡◌, ◌≤◌, ℕ, List, [], ◌∷◌, Option, None, Some, Result, Ok, Err, IfOk, IfSome, sym, subst, ◌∙◌, arith}
 use Rattle.std.specs.Prelude.{length}
 use Rattle.std.proofs.lemmas.Option.{same_Some}
 use Rattle.dl_limits.specs.declared.TheConstants.{MOST_BYTES}
@@ -12,7 +12,6 @@ use Rattle.dl_outside.specs.declared.shelf.LoadFault.TheVariants.{Missing, TooLo
 use Rattle.dl_outside.specs.declared.texts.NamedText.{NamedText}
 use Rattle.dl_outside.specs.Texts.{text_of}
 use Rattle.judgement_laws.proofs.Complete.{complete, goes_past}
-use Rattle.judgement_laws.specs.Complete.{Passes}
 use Rattle.network_stages.specs.Networks.{IsNetworkOf, Network}
 use Rattle.report.specs.Points.Point.{passed, told}
 use Rattle.report.specs.Report.{report_text, status}

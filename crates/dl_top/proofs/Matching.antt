@@ -1,5 +1,5 @@
 -- A script and its specification that the shelf holds, and whose networks match, are answered with status 0.
-use Rattle.std.proofs.Common.{◌≡◌, ◌≤◌, ℕ, List, [], ◌∷◌, Option, None, Some, Ok, Err, IfSome, inl, inr, sym, ap, subst, ◌∙◌, arith}
+use Rattle.std.proofs.Common.{◌≡◌, ◌≤◌, ℕ, List, [], ◌∷◌, Option, None, Some, Err, IfSome, inl, inr, sym, subst, ◌∙◌, arith}
 use Rattle.std.specs.Prelude.{length}
 use Rattle.std.proofs.lemmas.Option.{same_Some}
 use Rattle.dl_limits.specs.declared.TheConstants.{MOST_BYTES}

@@ -1,16 +1,15 @@
 -- A run that goes on or is stuck, and a bound on hidden events: what was printed tells it of the only network that the text spells.
-use Rattle.std.proofs.Common.{◌≡◌, ◌≤◌, ◌↔◌, ◌⊎◌, ℕ, Bool, true, false, IsTrue, List, Option, None, map, length, inl, inr, refl, sym, ap, subst, ◌∙◌, arith}
+use Rattle.std.proofs.Common.{◌≡◌, ◌≤◌, ℕ, Bool, true, false, List, Option, None, map, inl, inr, refl, sym, ap, subst, ◌∙◌, arith}
 use Rattle.command_words.specs.Request.{AsksForLivelock, AsksForRun}
 use Rattle.command_words.specs.declared.request.Job.TheVariants.{Livelock, Run}
 use Rattle.csp_text.specs.declared.script.Script.{Script}
-use Rattle.csp_tables.specs.Network.{NetworkStep, Tree}
 use Rattle.csp_tables.specs.WellNested.{WellNested}
 use Rattle.csp_program.specs.declared.processes.Proc.{Proc}
 use Rattle.dl_outside.specs.declared.texts.NamedText.{NamedText}
 use Rattle.dl_outside.specs.Write.{GrowsBy}
 use Rattle.livelock.proofs.Status.{bounded_cases}
 use Rattle.livelock.specs.Whole.{IsBoundedWhole}
-use Rattle.network_stages.specs.Networks.{IsLive, IsNetworkOf, Network}
+use Rattle.network_stages.specs.Networks.{IsNetworkOf, Network}
 use Rattle.network_trees.proofs.InOrder.{network_is_tree}
 use Rattle.network_walks.proofs.Runs.{no_move_means_stuck, stays_nested, stuck_walks_refute_live, walks_are_runs}
 use Rattle.network_walks.proofs.Status.{walked_cases}
@@ -35,7 +34,6 @@ use Rattle.dl_top.specs.Printing.{Prints}
 use Rattle.dl_top.specs.Ran.{IsRan, IsRun, SpellsRun, last_line, run_status}
 use Rattle.dl_top.specs.Reply.{reply_status, reply_text}
 use Rattle.dl_top.specs.declared.reply.Printed.{Printed}
-use Rattle.dl_top.specs.declared.reply.Reply.{Reply}
 
 -- ---- runs
 

@@ -1,5 +1,5 @@
 -- Keys numbered in the order in which they are first seen.
-use Rattle.std.proofs.Common.{◌≡◌, ℕ, suc, ◌+◌, ◌<◌, inl, inr, List, [], ◌∷◌, ◌++◌, length, get_or, Bool, true, false, cond, nat_eq, refl, sym, ap, ◌∙◌, subst, arith, below_more}
+use Rattle.std.proofs.Common.{◌≡◌, ℕ, suc, ◌+◌, ◌<◌, ◌≤◌, inl, inr, List, [], ◌∷◌, ◌++◌, length, get_or, Bool, true, false, cond, nat_eq, refl, sym, ap, ◌∙◌, subst, arith, below_more}
 use Rattle.std.specs.List.{position_or_len, list_any}
 use Rattle.std.specs.Set.{is_member}
 use Rattle.std.specs.Cmp.Lexicographic.{pointwise}
@@ -35,6 +35,7 @@ pub record IsNumbered (key : ℕ → List ℕ) (n : ℕ) (seen : List (List ℕ)
   pub first : (k : ℕ) → k < n → get_or numbers k 0 ≡ position_or_len (same_key (key k)) seen
   pub below : (k : ℕ) → k < n → get_or numbers k 0 < length seen
   pub order : SeenInOrder 0 numbers (length seen)
+  pub few : length seen ≤ n
 
 -- a key that is found keeps its place when the list grows
 keeps_place : (p : List ℕ → Bool) (seen : List (List ℕ)) (x : List ℕ) → position_or_len p seen < length seen → position_or_len p (seen ++ x ∷ []) ≡ position_or_len p seen
@@ -72,6 +73,7 @@ module _ (key : ℕ → List ℕ) (n : ℕ) (seen : List (List ℕ)) (numbers : 
             (λ k l. rw (old_number k l) (s.below k l))
             (rw (get_or_push numbers place 0 n s.one_each) below);
         order = seen_old 0 numbers (length seen) place s.order below;
+        few = let old = s.few in omega arith;
       }
 
   fresh : is_member same_key seen (key n) ≡ false → IsNumbered key (n + 1) (seen ++ key n ∷ []) (numbers ++ place ∷ [])
@@ -92,6 +94,7 @@ module _ (key : ℕ → List ℕ) (n : ℕ) (seen : List (List ℕ)) (numbers : 
             (λ k l. let b = s.below k l in rw (old_number k l) (omega arith))
             (rw (get_or_push numbers place 0 n s.one_each) (omega arith));
         order = rw (longer, is) (seen_new 0 numbers (length seen) s.order);
+        few = let old = s.few in omega arith;
       }
 
   pub one_more_numbered : IsNumbered key (n + 1) (with_new same_key seen (key n)) (numbers ++ place ∷ [])

@@ -25,6 +25,7 @@ pub struct Classes {
 pub(crate) fn round(alloc: Global, nodes: &[NormNode], classes: &[u32]) -> Result<Classes, NoMemory>
     requires rising { NodesRise nodes.now }
     requires one_each { length classes.now ≡ length nodes.now }
+    requires numbered { length nodes.now < 2 ^ 32 }
     ensures { IfOk result (λ made. AreTold nodes.now classes.now made.numbers.items made.count) }
 {
     let mut numbering = Numbering::new(alloc);
@@ -40,6 +41,7 @@ fn numbered(
 ) -> Result<Classes, NoMemory>
     requires rising { NodesRise nodes.now }
     requires one_each { length classes.now ≡ length nodes.now }
+    requires numbered { length nodes.now < 2 ^ 32 }
     requires empty { numbering.old ≡ [] }
     ensures { IfOk result (λ made. AreTold nodes.now classes.now made.numbers.items made.count) }
 {
@@ -59,9 +61,11 @@ fn add_numbers(
 ) -> Result<(), NoMemory>
     requires rising { NodesRise nodes.now }
     requires one_each { length classes.now ≡ length nodes.now }
+    requires numbered { length nodes.now < 2 ^ 32 }
     requires empty { numbering.old ≡ [] }
     requires none { numbers.old.items ≡ [] }
-    ensures { OnOk result (AreTold nodes.now classes.now numbers.new.items (length numbering.new)) }
+    ensures told { OnOk result (AreTold nodes.now classes.now numbers.new.items (length numbering.new)) }
+    ensures few { OnOk result (length numbering.new ≤ length nodes.now) }
 {
     for (place, node) in nodes.iter().enumerate() {
         add_number(alloc, node, classes[place], classes, numbering, numbers)?;
@@ -78,13 +82,14 @@ fn add_number(
     numbering: &mut Numbering<Items<u32>>,
     numbers: &mut Vec<u32>,
 ) -> Result<(), NoMemory>
-    requires { StepsRise (length classes.now) node.now.next }
+    requires rising { StepsRise (length classes.now) node.now.next }
+    requires few { length numbering.old < 2 ^ 32 }
     ensures list { OnOk result (numbering.new ≡ with_new same_key numbering.old (key_of classes.now class node.now)) }
     ensures numbers { OnOk result (numbers.new.items ≡ numbers.old.items ++ position_or_len (same_key (key_of classes.now class node.now)) numbering.old ∷ []) }
 {
     let row = key(alloc, node, class, classes)?;
     let number = numbering.number(row)?;
-    numbers.push(number)?;
+    numbers.push(number as u32)?;
     Ok(())
 }
 

@@ -37,6 +37,7 @@ fn refined_classes(
 ) -> Result<Classes, NoMemory>
     requires rising { NodesRise nodes.now }
     requires marks { length marks.now ≡ length nodes.now }
+    requires numbered { length nodes.now < 2 ^ 32 }
     requires whole { IsWhole (length nodes.now) (state_of partition.old) }
     ensures { IfOk result (λ made. AreFutureClasses nodes.now marks.now made.numbers.items made.count) }
 {
@@ -54,6 +55,7 @@ fn classes_by_rows(
 ) -> Result<Classes, NoMemory>
     requires rising { NodesRise nodes.now }
     requires marks { length marks.now ≡ length nodes.now }
+    requires numbered { length nodes.now < 2 ^ 32 }
     requires incoming { AreIncoming nodes.now rows.now (length nodes.now) }
     requires whole { IsWhole (length nodes.now) (state_of partition.old) }
     ensures { IfOk result (λ made. AreFutureClasses nodes.now marks.now made.numbers.items made.count) }

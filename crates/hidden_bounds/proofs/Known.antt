@@ -1,5 +1,5 @@
 -- What is known of components, after one more is known to go round or is taken.
-use Rattle.std.proofs.Common.{◌≡◌, ◌⊎◌, ◌≢◌, ℕ, zero, suc, ◌+◌, ◌<◌, ◌≤◌, Bool, true, false, ◌&&◌, ◌||◌, not, List, [], ◌∷◌, ◌++◌, Some, slice_get, length, refl, sym, ap, subst, ◌∙◌, arith, inl, inr}
+use Rattle.std.proofs.Common.{◌≡◌, ◌⊎◌, ◌≢◌, ℕ, zero, suc, ◌+◌, ◌<◌, Bool, true, false, ◌&&◌, ◌||◌, not, List, [], ◌∷◌, ◌++◌, Some, slice_get, length, refl, sym, ap, subst, ◌∙◌, arith, inl, inr}
 use Rattle.std.proofs.Math.ListN.{set}
 use Rattle.std.proofs.lemmas.Bool.{cases_eq}
 use Rattle.std.proofs.lemmas.List.{get_or-set_same, get_or-set_other, length-set}
@@ -76,12 +76,6 @@ waiting_same (x ∷ old) (y ∷ new) h k =
     let first : one_waiting y ≡ one_waiting x = k 0 (omega arith) in
     let rest : waiting new ≡ waiting old = waiting_same old new (omega arith) (λ i below. k (suc i) (omega arith)) in
     omega arith
-
--- where nothing stands, nothing is known
-past_unknown : (ss : List Standing) (i : ℕ) → length ss ≤ i → standing_at ss i ≡ standing.Unknown
-past_unknown [] i h = refl
-past_unknown (s ∷ ss) zero h = absurd (omega arith)
-past_unknown (s ∷ ss) (suc i) h = past_unknown ss i (omega arith)
 
 known_within : (ss : List Standing) (i : ℕ) → standing_at ss i ≢ standing.Unknown → i < length ss
 known_within [] i h = absurd (h refl)

@@ -1,7 +1,5 @@
--- The bounds of components one after another, and their sums.
-use Rattle.std.proofs.Common.{◌≡◌, ℕ, zero, suc, ◌+◌, ◌-◌, ◌^◌, ◌<◌, ◌≤◌, Bool, true, false, if◌then◌else◌, List, [], ◌∷◌, ◌++◌, Some, slice_get, length, take, get_or, IfNone, IfSome, Option, None, refl, sym, ap, ap₂, subst, ◌∙◌, arith, inl, inr}
-use Rattle.std.proofs.lemmas.Bool.{cases_lt}
-use Rattle.std.proofs.lemmas.List.{get_or_append_left, get_or_push, length_push, take_all}
+-- The sums of the bounds of components, one after another.
+use Rattle.std.proofs.Common.{◌≡◌, ℕ, zero, suc, ◌+◌, ◌-◌, ◌^◌, ◌<◌, ◌≤◌, Bool, true, false, if◌then◌else◌, List, [], ◌∷◌, Some, slice_get, length, take, get_or, IfNone, IfSome, Option, None, refl, sym, ap, ap₂, subst, ◌∙◌, arith}
 use Rattle.std.proofs.lemmas.Option.{same_Some, slice_get-get_or}
 use Rattle.csp_base.specs.Events.{inter_of, meets_of}
 use Rattle.csp_base.proofs.Lists.{slice_get_some}
@@ -69,23 +67,6 @@ module _ {T : Type 0} (hidden : List ℕ) (cs : List (Component T)) (order : Lis
       let more : sum_before hidden cs order k ≤ sum_before hidden cs order n = sum_le k n h within in
       omega arith
 
-  -- one more bound
-  pub next_bounds : (bounds : List ℕ) (bound : ℕ) (p : Placed) → AreBounds hidden cs order bounds → slice_get order (length bounds) ≡ Some p → bound ≡ bound_at hidden cs order (length bounds) p
-      → AreBounds hidden cs order (bounds ++ bound ∷ [])
-  next_bounds bounds bound p are at is k q within there =
-      elim (cases_lt k (length bounds)) [
-        | inl less ↦ get_or_append_left bounds (bound ∷ []) 0 k less ∙ are k q less there
-        | inr more ↦
-            let size : length (bounds ++ bound ∷ []) ≡ length bounds + 1 = length_push bounds bound in
-            let here : k ≡ length bounds = omega arith in
-            let same : p ≡ q = same_Some p q (sym at ∙ ap (slice_get order) (sym here) ∙ there) in
-            ap (λ i. get_or (bounds ++ bound ∷ []) i 0) here ∙ get_or_push bounds bound 0 (length bounds) refl ∙ is
-            ∙ ap₂ (λ i x. bound_at hidden cs order i x) (sym here) same
-      ]
-
-  pub whole_sum : sum_before hidden cs order (length order) ≡ hidden_bound (taken_in hidden cs order)
-  whole_sum = ap (λ (xs : List Placed). hidden_bound (taken_in hidden cs xs)) (take_all (length order) order (omega arith))
-
 -- ---- the next sum
 
 pub none_then : {A : Type 0} (found : Option A) (P Q : Type 0) → IfNone found P → (P → Q) → IfNone found Q
@@ -142,13 +123,3 @@ module _ {T : Type 0} (hidden : List ℕ) (cs : List (Component T)) (order : Lis
     bound = λ p at. is ∙ same ∙ ap (bound_at hidden cs order k) (same_Some here p (sym at_here ∙ at));
     sum = sum_is bound (bound_at hidden cs order k here) total (sum_before hidden cs order k) second (sum_before hidden cs order (k + 1)) same so_far is' next_is;
   }
-
-  -- the bounds and the sum, one further
-  pub bounds_further : (bounds next : List ℕ) (first second : ℕ) → length bounds ≡ k → AreBounds hidden cs order bounds → IsNextSum hidden cs order (length bounds) first second → next ≡ bounds ++ first ∷ []
-      → AreBounds hidden cs order next
-  bounds_further bounds next first second many are made is =
-      let at : slice_get order (length bounds) ≡ Some here = ap (slice_get order) many ∙ at_here in
-      subst (AreBounds hidden cs order) (sym is) (next_bounds hidden cs order bounds first here are at (made.bound here at))
-
-pub sum_further : {T : Type 0} (hidden : List ℕ) (cs : List (Component T)) (order : List Placed) (k n first second : ℕ) → n ≡ k → IsNextSum hidden cs order n first second → second ≡ sum_before hidden cs order (k + 1)
-sum_further hidden cs order k n first second same made = made.sum ∙ ap (λ m. sum_before hidden cs order (m + 1)) same

@@ -1,15 +1,12 @@
 -- Components that have their tables: no term that they reach ends or lacks a value, and no fault tells the truth of them.
-use Rattle.std.proofs.Common.{◌≡◌, ℕ, zero, suc, ◌+◌, ◌<◌, ◌≤◌, ◌-◌, Ok, Err, List, [], ◌∷◌, Some, length, take, slice_get, inl, inr, refl, sym, ap, subst, ◌∙◌, arith}
-use Rattle.std.specs.Prelude.{map, min}
+use Rattle.std.proofs.Common.{◌≡◌, ℕ, zero, suc, ◌<◌, ◌≤◌, ◌-◌, Ok, Err, List, [], ◌∷◌, Some, take, slice_get, inl, inr, refl, sym, ap, subst, ◌∙◌, arith}
 use Rattle.std.proofs.lemmas.Bool.{cases_lt}
 use Rattle.std.proofs.lemmas.Option.{none-some, same_Some}
-use Rattle.csp_base.specs.Lists.{greatest, total}
+use Rattle.csp_base.specs.Lists.{greatest}
 use Rattle.csp_program.specs.Outcome.{Outcome}
-use Rattle.csp_program.specs.Size.{proc_size}
 use Rattle.csp_program.specs.declared.kinds.ValueKind.{ValueKind}
 use Rattle.csp_program.specs.declared.processes.Proc.{Proc}
 use Rattle.csp_program.specs.declared.programs.Content.{Content}
-use Rattle.csp_tables.specs.Label.{Label}
 use Rattle.csp_tables.specs.Label.Label.{silent}
 use Rattle.csp_tables.specs.Network.{Component, ComponentStep}
 use Rattle.csp_tables.specs.Path.{Reached, SilentStep, Silently}
@@ -17,27 +14,19 @@ use Rattle.csp_tables.specs.RawTable.{IsTableOf, RawStep, RawTable, standing_at}
 use Rattle.csp_tables.specs.Trace.{visible_events}
 use Rattle.digraph.specs.Circle.{IsCircle, Leads}
 use Rattle.digraph.specs.Walk.{Walk}
-use Rattle.local_tables.specs.Component.{AreSteps, AreTerms, HasList, step_count}
-use Rattle.local_tables.specs.Faults.{LacksTable, counted_size}
+use Rattle.local_tables.specs.Component.{AreSteps, AreTerms, HasList}
 use Rattle.local_tables.specs.LocalTable.{IsLocalTable}
-use Rattle.local_tables.specs.declared.fault.LocalFault.{LocalFault}
-use Rattle.local_tables.specs.declared.fault.LocalFault.TheVariants as local
 use Rattle.local_tables.specs.declared.local_table.LocalTable.{LocalTable}
 use Rattle.local_tables.specs.declared.local_table.Room.{Room}
 use Rattle.local_tables.proofs.Excluding.{excluded}
 use Rattle.net_sound.proofs.Heights.{heights_are_exact}
 use Rattle.net_sound.proofs.Numbered.{stands}
 use Rattle.net_sound.proofs.Soundness.{path_alphabet}
-use Rattle.network_stages.specs.Stages.{HaveNoTables}
-use Rattle.network_stages.specs.Tells.{TellsComponent}
-use Rattle.network_tables.specs.Faults.{GoesRound, TellsTable}
 use Rattle.network_tables.specs.Tables.{AreTablesOf, AreTablesWithin, HasTable, IsTableWithin, room_after, room_left, whole_room}
 use Rattle.network_tables.specs.declared.component_tables.ComponentTable.{ComponentTable}
-use Rattle.network_tables.specs.declared.fault.TableFault.{TableFault}
-use Rattle.network_tables.specs.declared.fault.TableFault.TheVariants as fault
-use Rattle.process_steps.specs.ComponentStep.{ProcessStep, Ticks}
+use Rattle.process_steps.specs.declared.component_fault.ComponentFault.TheVariants as fault
+use Rattle.process_steps.specs.ComponentStep.{ProcessStep}
 use Rattle.process_steps.specs.StepList.{Move, steps_of}
-use Rattle.report.specs.declared.answer.Refusal.{Refusal}
 use Rattle.judgement_laws.specs.Lasting.{AllGoOn, GoesOn}
 use Rattle.judgement_laws.specs.Laws.{FaultsExcludeAllTables}
 
@@ -57,13 +46,8 @@ module _ (p : Content) where
 
   fit : (c : Component Proc) (room : Room) (made : LocalTable) (x : Proc) → IsLocalTable p c room made → Reached (ComponentStep (ProcessStep p)) c (standing_at c x) → GoesOn p x
   fit c room made x table r = record {
-    endless = λ ticks.
-        let clash : local.Terminates (visible_events r.0) ≡ local.NoMemory =
-        excluded p c room made (local.Terminates (visible_events r.0)) table (record { term = x; after = (r.0, r.1, refl); ends = ticks }) in
-        cc;
-    whole = list_of x (steps_of p x) refl (λ why none.
-        let clash : local.Value why ≡ local.NoMemory = excluded p c room made (local.Value why) table (record { term = x; reached = r; none = none }) in
-        cc);
+    endless = λ ticks. excluded p c room made (fault.Terminates (visible_events r.0)) table (record { term = x; after = (r.0, r.1, refl); ends = ticks });
+    whole = list_of x (steps_of p x) refl (λ why none. excluded p c room made (fault.Value why) table (record { term = x; reached = r; none = none }));
   }
 
   pub all_go_on : (cs : List (Component Proc)) (ts : List ComponentTable) → AreTablesOf p cs ts → AllGoOn p cs
@@ -74,14 +58,7 @@ module _ (p : Content) where
 
   -- ---- two tables of a component take the same room
 
-  all_counted : (xs : List Proc) → total (map proc_size xs) ≤ 4294967295 → total (map counted_size xs) ≡ total (map proc_size xs)
-  all_counted [] few = refl
-  all_counted (x ∷ xs) few =
-      let rest = all_counted xs (omega (arith, few)) in
-      let one : min (proc_size x) 4294967295 ≡ proc_size x = omega (arith, few) in
-      omega (arith, rest, one)
-
-  module _ (c : Component Proc) (room : Room) (a b : LocalTable) (is : IsLocalTable p c room a) (other : IsLocalTable p c room b) (few : room.nodes ≤ 4294967295) where
+  module _ (c : Component Proc) (room : Room) (a b : LocalTable) (is : IsLocalTable p c room a) (other : IsLocalTable p c room b) where
     terms : AreTerms (ProcessStep p) c is.terms
     terms = record { once = is.table.terms_once; reached = is.table.reached }
 
@@ -105,12 +82,8 @@ module _ (p : Content) where
     no_more_nodes =
         elim (cases_lt b.used.nodes a.used.nodes) as (λ _. a.used.nodes ≤ b.used.nodes) [
           | inl less ↦
-              let sizes : total (map proc_size is.terms) ≡ a.used.nodes = is.nodes in
-              let within : a.used.nodes ≤ room.nodes = is.room_for_nodes in
-              let counted = all_counted is.terms (omega (arith, sizes, within, few)) ∙ sizes in
-              let clash : local.TermTotal a.used.nodes ≡ local.NoMemory =
-              excluded p c b.used b (local.TermTotal a.used.nodes) tight (less, record { terms = is.terms; are = terms; sizes = counted }) in
-              absurd (let no : ⊥ = cc in no)
+              absurd (excluded p c b.used b fault.TermTotal tight
+              (record { terms = is.terms; are = terms; large = subst (λ n. b.used.nodes < n) (sym is.nodes) less }))
           | inr more ↦ more
         ]
 
@@ -118,18 +91,17 @@ module _ (p : Content) where
     no_more_steps =
         elim (cases_lt b.used.steps a.used.steps) as (λ _. a.used.steps ≤ b.used.steps) [
           | inl less ↦
-              let clash : local.StepCount a.used.steps ≡ local.NoMemory =
-              excluded p c b.used b (local.StepCount a.used.steps) tight (less, record { terms = is.terms; raw = a.table; are = terms; steps = steps; count = is.steps }) in
-              absurd (let no : ⊥ = cc in no)
+              absurd (excluded p c b.used b fault.StepCount tight
+              (record { terms = is.terms; raw = a.table; are = terms; steps = steps; many = subst (λ n. b.used.steps < n) (sym is.steps) less }))
           | inr more ↦ more
         ]
 
-  same_left : (c : Component Proc) (room : Room) (a b : LocalTable) → IsLocalTable p c room a → IsLocalTable p c room b → room.nodes ≤ 4294967295 → room_after room a.used ≡ room_after room b.used
-  same_left c room a b is other few =
-      let n = no_more_nodes c room a b is other few in
-      let n' = no_more_nodes c room b a other is few in
-      let s = no_more_steps c room a b is other few in
-      let s' = no_more_steps c room b a other is few in
+  same_left : (c : Component Proc) (room : Room) (a b : LocalTable) → IsLocalTable p c room a → IsLocalTable p c room b → room_after room a.used ≡ room_after room b.used
+  same_left c room a b is other =
+      let n = no_more_nodes c room a b is other in
+      let n' = no_more_nodes c room b a other is in
+      let s = no_more_steps c room a b is other in
+      let s' = no_more_steps c room b a other is in
       let nodes : a.used.nodes ≡ b.used.nodes = omega (arith, n, n') in
       let steps : a.used.steps ≡ b.used.steps = omega (arith, s, s') in
       let first : room_after room a.used ≡ record { nodes = room.nodes - b.used.nodes; steps = room.steps - a.used.steps } =
@@ -139,16 +111,16 @@ module _ (p : Content) where
       first ∙ second
 
   -- the table of the component in the place i, within the room that other tables of those before it leave
-  at_place : (room : Room) (cs : List (Component Proc)) (es ts : List ComponentTable) (i : ℕ) (c : Component Proc) → room.nodes ≤ 4294967295 → AreTablesWithin p room (take i cs) es
+  at_place : (room : Room) (cs : List (Component Proc)) (es ts : List ComponentTable) (i : ℕ) (c : Component Proc) → AreTablesWithin p room (take i cs) es
       → AreTablesWithin p room cs ts → slice_get cs i ≡ Some c → (t : ComponentTable) × IsTableWithin p (room_left room es) c t
-  at_place room [] es ts i c few earlier are at = absurd (none-some c at)
-  at_place room (d ∷ cs) es [] i c few earlier are at = absurd are
-  at_place room (d ∷ cs) [] (t ∷ ts) zero c few earlier are at = (t, subst (λ x. IsTableWithin p room x t) (same_Some d c at) are.0)
-  at_place room (d ∷ cs) (e ∷ es) (t ∷ ts) zero c few earlier are at = absurd earlier
-  at_place room (d ∷ cs) [] (t ∷ ts) (suc i) c few earlier are at = absurd earlier
-  at_place room (d ∷ cs) (e ∷ es) (t ∷ ts) (suc i) c few earlier are at =
-      let same = same_left d room e.local t.local earlier.0.table are.0.table few in
-      at_place (room_after room e.local.used) cs es ts i c (omega (arith, few)) earlier.1 (subst (λ r. AreTablesWithin p r cs ts) (sym same) are.1) at
+  at_place room [] es ts i c earlier are at = absurd (none-some c at)
+  at_place room (d ∷ cs) es [] i c earlier are at = absurd are
+  at_place room (d ∷ cs) [] (t ∷ ts) zero c earlier are at = (t, subst (λ x. IsTableWithin p room x t) (same_Some d c at) are.0)
+  at_place room (d ∷ cs) (e ∷ es) (t ∷ ts) zero c earlier are at = absurd earlier
+  at_place room (d ∷ cs) [] (t ∷ ts) (suc i) c earlier are at = absurd earlier
+  at_place room (d ∷ cs) (e ∷ es) (t ∷ ts) (suc i) c earlier are at =
+      let same = same_left d room e.local t.local earlier.0.table are.0.table in
+      at_place (room_after room e.local.used) cs es ts i c earlier.1 (subst (λ r. AreTablesWithin p r cs ts) (sym same) are.1) at
 
 -- ---- walks along a circle get as long as may be
 
@@ -176,31 +148,26 @@ module _ (p : Content) (c : Component Proc) (terms : List Proc) (raw : RawTable)
       let r = climb k w.0 n s.goal s.to w.2 in
       (r.0, (standing_at c s.goal, subst (λ y. ComponentStep (ProcessStep p) (standing_at c y) silent (standing_at c s.goal)) (same_Some s.source x (sym s.from ∙ h)) s.step, r.1))
 
-never_round : (p : Content) (c : Component Proc) (room : Room) (circle : List ℕ) (u : ComponentTable) → IsTableWithin p room c u → GoesRound p circle room c → ⊥
-never_round p c room [] u is goes = goes.round.circle
-never_round p c room (v ∷ vs) u is goes =
+never_round : (p : Content) (c : Component Proc) (room : Room) (u : ComponentTable) (made : LocalTable) (circle : List ℕ) → IsTableWithin p room c u → IsLocalTable p c room made
+    → IsCircle (SilentStep (RawStep made.table)) circle → ⊥
+never_round p c room u made [] is other leads = leads
+never_round p c room u made (v ∷ vs) is other leads =
     let exact = heights_are_exact (ProcessStep p) c is.table.terms u.local.table u.heights is.table.table is.heights in
-    let walk = round (SilentStep (RawStep goes.made.table)) v vs goes.round.circle (suc (greatest u.heights)) in
-    let arc = first_arc (SilentStep (RawStep goes.made.table)) v v vs goes.round.circle in
-    let s = goes.table.table.sound v arc.0 silent arc.1 in
-    let up = climb p c goes.table.terms goes.made.table goes.table.table walk.0 v v s.source s.from walk.2 in
+    let walk = round (SilentStep (RawStep made.table)) v vs leads (suc (greatest u.heights)) in
+    let arc = first_arc (SilentStep (RawStep made.table)) v v vs leads in
+    let s = other.table.sound v arc.0 silent arc.1 in
+    let up = climb p c other.terms made.table other.table walk.0 v v s.source s.from walk.2 in
     let many : suc (greatest u.heights) ≤ walk.0 = walk.1 in
-    let few : walk.0 ≤ greatest u.heights = exact.most (standing_at c s.source) up.0 walk.0 (goes.table.table.reached v s.source s.from) up.1 in
+    let few : walk.0 ≤ greatest u.heights = exact.most (standing_at c s.source) up.0 walk.0 (other.table.reached v s.source s.from) up.1 in
     omega (arith, many, few)
 
 -- ---- no fault tells the truth of components that have tables
 
-never_local : (p : Content) (c : Component Proc) (room : Room) (made : LocalTable) (f : LocalFault) (n i : ℕ) (r : Refusal) → IsLocalTable p c room made → LacksTable p c room f
-    → TellsComponent p n (fault.Local i f) r → ⊥
-never_local p c room made f n i r table lacks tells =
-    let same = excluded p c room made f table lacks in
-    subst (λ (g : LocalFault). TellsComponent p n (fault.Local i g) r) same tells
-
 pub faults_exclude_tables : FaultsExcludeAllTables
-faults_exclude_tables p cs ts n r are (fault.NoMemory, tells, told) = told
-faults_exclude_tables p cs ts n r are (fault.Local i f, tells, told) =
-    let t = at_place p whole_room cs tells.tables ts i tells.component (omega arith) tells.earlier are tells.at in
-    never_local p tells.component (room_left whole_room tells.tables) t.0.local f n i r t.1.table tells.has told
-faults_exclude_tables p cs ts n r are (fault.Diverges i circle, tells, told) =
-    let t = at_place p whole_room cs tells.tables ts i tells.component (omega arith) tells.earlier are tells.at in
-    never_round p tells.component (room_left whole_room tells.tables) circle t.0 t.1 tells.has
+faults_exclude_tables p cs ts n r are (i, f, first, told) =
+    let t = at_place p whole_room cs first.tables ts i first.component first.earlier are first.at in
+    let room = room_left whole_room first.tables in
+    elim first.has as (λ _. ⊥) [
+      | inl lacks ↦ excluded p first.component room t.0.local f t.1.table lacks
+      | inr goes ↦ never_round p first.component room t.0 goes.1.made goes.1.circle t.1 goes.1.table goes.1.round
+    ]

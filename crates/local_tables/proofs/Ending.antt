@@ -7,18 +7,15 @@ use Rattle.csp_program.specs.declared.processes.Proc.{Proc}
 use Rattle.csp_program.specs.declared.programs.Content.{Content}
 use Rattle.csp_tables.specs.Network.{Component}
 use Rattle.csp_tables.specs.RawTable.{IsTableOf, RawTable}
-use Rattle.process_steps.specs.ComponentStep.{ProcessStep, Ticks}
+use Rattle.process_steps.specs.ComponentStep.{ProcessStep}
 use Rattle.pool_parts.specs.Counting.{capped}
 use Rattle.term_pool.specs.Trees.{tree_at}
 use Rattle.local_tables.specs.Component.{step_count}
-use Rattle.local_tables.specs.Faults.{CanEnd, counted_size}
 use Rattle.local_tables.specs.LocalTable.{IsLocalTable}
-use Rattle.local_tables.specs.Progress.{AreFollowed, ArePart, IsUpTo, LeadsToTerm, Origin, terms_at}
-use Rattle.local_tables.specs.Stops.{HasEnd}
+use Rattle.local_tables.specs.Progress.{AreFollowed, ArePart, IsUpTo, Origin, counted_size, terms_at}
 use Rattle.local_tables.specs.declared.found.Found.{Found}
 use Rattle.local_tables.specs.declared.local_table.LocalTable.{LocalTable}
 use Rattle.local_tables.specs.declared.local_table.Room.{Room}
-use Rattle.local_tables.proofs.Lists.{one_at}
 use Rattle.std.proofs.lemmas.List.{length-map}
 use Rattle.csp_base.specs.Lists.{total}
 
@@ -32,6 +29,14 @@ sizes_exact (t ∷ ts) h =
     let one : proc_size t ≡ counted_size t = uncapped (proc_size t) (omega arith) in
     let others : total (map proc_size ts) ≡ total (map counted_size ts) = sizes_exact ts (omega arith) in
     λ i. one i + others i
+
+-- sizes whose counting stops are no larger
+pub no_larger : (ts : List Proc) → total (map counted_size ts) ≤ total (map proc_size ts)
+no_larger [] = omega arith
+no_larger (t ∷ ts) =
+    let others : total (map counted_size ts) ≤ total (map proc_size ts) = no_larger ts in
+    let one : min (proc_size t) 4294967295 ≤ proc_size t = omega arith in
+    omega (arith, others, one)
 
 whole : (p : Content) (c : Component Proc) (terms : List Proc) (origins : List Origin) (raw : RawTable) (at : ℕ) → ArePart p c terms origins raw → AreFollowed p c terms raw at → length terms ≤ at → IsTableOf (ProcessStep p) c terms raw
 whole p c terms origins raw at part followed all = record {
@@ -80,9 +85,3 @@ local_table p c room found made up small table nodes steps =
       room_for_nodes = omega arith;
       room_for_steps = let fits : step_count found.table ≤ room.steps = up.within.steps in omega arith;
     }
-
--- the way to a term that can end
-pub can_end : (p : Content) (c : Component Proc) (found : Found) (number : ℕ) (trace : List ℕ) → HasEnd p c found number → LeadsToTerm p c (terms_at found.pool found.terms) trace number → CanEnd p c trace
-can_end p c found number trace has leads =
-    let is : has.term ≡ leads.term = one_at (terms_at found.pool found.terms) number has.term leads.term has.listed leads.listed in
-    record { term = leads.term; after = leads.after; ends = subst (λ x. Ticks p x) is has.ends }

@@ -1,6 +1,6 @@
 -- Where a component has its table, whatever it is said to have stands in that.
 use Rattle.std.proofs.Common.{◌≡◌, ℕ, ◌+◌, ◌<◌, ◌≤◌, Ok, Err, List, length, refl, sym, ap, subst, ◌∙◌, arith}
-use Rattle.std.specs.Prelude.{map, min, slice_get, Some}
+use Rattle.std.specs.Prelude.{map, slice_get, Some}
 use Rattle.csp_program.specs.Depth.{proc_depth}
 use Rattle.csp_program.specs.Size.{proc_size}
 use Rattle.csp_program.specs.declared.processes.Proc.{Proc}
@@ -12,9 +12,8 @@ use Rattle.csp_tables.specs.Path.{Reached}
 use Rattle.csp_tables.specs.RawTable.{IsTableOf, RawStep, RawTable, standing_at}
 use Rattle.process_steps.specs.ComponentStep.{ProcessStep}
 use Rattle.local_tables.specs.Component.{AreSteps, AreTerms}
-use Rattle.local_tables.specs.Faults.{counted_size}
 use Rattle.local_tables.specs.Laws.{FaultsExcludeTables}
-use Rattle.local_tables.specs.declared.fault.LocalFault.TheVariants as fault
+use Rattle.process_steps.specs.declared.component_fault.ComponentFault.TheVariants as fault
 use Rattle.local_tables.proofs.Injecting.{Partner, no_heavier, no_longer}
 use Rattle.local_tables.proofs.Lists.{one_at}
 use Rattle.net_sound.proofs.Numbered.{run_down}
@@ -35,9 +34,9 @@ module _ (p : Content) (c : Component Proc) (terms : List Proc) (raw : RawTable)
   few_terms : (xs : List Proc) → AreTerms (ProcessStep p) c xs → length xs ≤ length terms
   few_terms xs are = no_longer (λ (a b : Proc). a ≡ b) same_partner xs terms are.once (partner xs are)
 
-  small_terms : (xs : List Proc) → AreTerms (ProcessStep p) c xs → total (map counted_size xs) ≤ total (map proc_size terms)
-  small_terms xs are = no_heavier (λ (a b : Proc). a ≡ b) counted_size proc_size same_partner
-      (λ x y e. subst (λ z. counted_size x ≤ proc_size z) e (let low : min (proc_size x) 4294967295 ≤ proc_size x = omega arith in low)) xs terms are.once (partner xs are)
+  small_terms : (xs : List Proc) → AreTerms (ProcessStep p) c xs → total (map proc_size xs) ≤ total (map proc_size terms)
+  small_terms xs are = no_heavier (λ (a b : Proc). a ≡ b) proc_size proc_size same_partner
+      (λ x y e. subst (λ z. proc_size x ≤ proc_size z) e (omega arith)) xs terms are.once (partner xs are)
 
   -- steps between such terms
   module _ (xs : List Proc) (are : AreTerms (ProcessStep p) c xs) (other : RawTable) (steps : AreSteps (ProcessStep p) c xs other) where
@@ -91,39 +90,36 @@ module _ (p : Content) (c : Component Proc) (terms : List Proc) (raw : RawTable)
         (λ k x h. let f = found x.0 x.2 (visible x.1) (k, h) in record { place = f.step.0; partner = (f.from, x.1, f.to); at = f.step.1; pair = (f.from_same, refl, f.to_same) })
 
 pub excluded : FaultsExcludeTables
-excluded p c room made fault.NoMemory table tells = refl
 excluded p c room made (fault.Value reason) table tells =
     let l = listed_of p c table.terms made.table table.table tells.term tells.reached in
     let list = (table.fit l.0 tells.term l.1).list in
     let clash : Ok list.0 ≡ Err reason = sym list.1 ∙ tells.none in
     cc
-excluded p c room made (fault.TermCount found) table tells =
-    let more : 16384 < found = tells.0 in
-    let count : length tells.1.terms ≡ found = tells.1.count in
-    let few : length tells.1.terms ≤ length table.terms = few_terms p c table.terms made.table table.table tells.1.terms tells.1.are in
+excluded p c room made fault.TermCount table tells =
+    let many : 16384 < length tells.terms = tells.many in
+    let few : length tells.terms ≤ length table.terms = few_terms p c table.terms made.table table.table tells.terms tells.are in
     let most : length table.terms ≤ 16384 = table.few in
-    absurd (omega arith)
-excluded p c room made (fault.TermDepth found) table tells =
-    let more : 800 < found = tells.0 in
-    let depth : min (proc_depth tells.1.term) 4294967295 ≡ found = tells.1.depth in
-    let l = listed_of p c table.terms made.table table.table tells.1.term tells.1.reached in
-    let most : proc_depth tells.1.term ≤ 800 = (table.fit l.0 tells.1.term l.1).shallow in
-    absurd (omega arith)
-excluded p c room made (fault.TermTotal found) table tells =
-    let more : room.nodes < found = tells.0 in
-    let sizes : total (map counted_size tells.1.terms) ≡ found = tells.1.sizes in
-    let less : total (map counted_size tells.1.terms) ≤ total (map proc_size table.terms) = small_terms p c table.terms made.table table.table tells.1.terms tells.1.are in
+    omega arith
+excluded p c room made fault.TermDepth table tells =
+    let deep : 800 < proc_depth tells.term = tells.deep in
+    let l = listed_of p c table.terms made.table table.table tells.term tells.reached in
+    let most : proc_depth tells.term ≤ 800 = (table.fit l.0 tells.term l.1).shallow in
+    omega arith
+excluded p c room made fault.TermTotal table tells =
+    let large : room.nodes < total (map proc_size tells.terms) = tells.large in
+    let less : total (map proc_size tells.terms) ≤ total (map proc_size table.terms) = small_terms p c table.terms made.table table.table tells.terms tells.are in
     let used : total (map proc_size table.terms) ≡ made.used.nodes = table.nodes in
     let most : made.used.nodes ≤ room.nodes = table.room_for_nodes in
-    absurd (omega arith)
-excluded p c room made (fault.StepCount found) table tells =
-    let more : room.steps < found = tells.0 in
-    let count : length tells.1.raw.silent + length tells.1.raw.steps ≡ found = tells.1.count in
-    let a : length tells.1.raw.silent ≤ length made.table.silent = few_silent p c table.terms made.table table.table tells.1.terms tells.1.are tells.1.raw tells.1.steps in
-    let b : length tells.1.raw.steps ≤ length made.table.steps = few_visible p c table.terms made.table table.table tells.1.terms tells.1.are tells.1.raw tells.1.steps in
+    omega arith
+excluded p c room made fault.StepCount table tells =
+    let many : room.steps < length tells.raw.silent + length tells.raw.steps = tells.many in
+    let a : length tells.raw.silent ≤ length made.table.silent = few_silent p c table.terms made.table table.table tells.terms tells.are tells.raw tells.steps in
+    let b : length tells.raw.steps ≤ length made.table.steps = few_visible p c table.terms made.table table.table tells.terms tells.are tells.raw tells.steps in
     let used : length made.table.silent + length made.table.steps ≡ made.used.steps = table.steps in
     let most : made.used.steps ≤ room.steps = table.room_for_steps in
-    absurd (omega arith)
+    omega arith
+excluded p c room made fault.Diverges table tells = tells
+excluded p c room made fault.SubsetLimit table tells = tells
 excluded p c room made (fault.Terminates trace) table tells =
     let l = listed_of p c table.terms made.table table.table tells.term (tells.after.0, tells.after.1) in
-    absurd ((table.fit l.0 tells.term l.1).goes_on tells.ends)
+    (table.fit l.0 tells.term l.1).goes_on tells.ends

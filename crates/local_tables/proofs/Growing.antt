@@ -20,8 +20,7 @@ use Rattle.term_pool.specs.Pooled.{AreDifferent, IsFront}
 use Rattle.term_pool.specs.Trees.{tree_at}
 use Rattle.pool_parts.specs.declared.place.ProcId.{ProcId}
 use Rattle.local_tables.specs.Component.{AreSteps, AreTerms}
-use Rattle.local_tables.specs.Faults.{counted_size}
-use Rattle.local_tables.specs.Progress.{AreFound, AreLed, ArePart, HasMoreTerms, IsAdded, IsFitting, IsSoFar, IsWithin, Origin, Steps, label_of, terms_at}
+use Rattle.local_tables.specs.Progress.{AreFound, AreLed, ArePart, HasMoreTerms, IsAdded, IsFitting, IsSoFar, IsWithin, Origin, Steps, counted_size, label_of, terms_at}
 use Rattle.local_tables.specs.declared.found.Found.{Found}
 use Rattle.local_tables.specs.declared.local_table.Room.{Room}
 use Rattle.local_tables.proofs.Labels.{reached_on}

@@ -18,8 +18,8 @@ use Rattle.term_pool.specs.Pooled.{IsFront}
 use Rattle.term_pool.specs.Trees.{tree_at}
 use Rattle.pool_parts.specs.declared.place.ProcId.{ProcId}
 use Rattle.local_tables.specs.Component.{AreSteps, HasList, step_count}
-use Rattle.local_tables.specs.Progress.{AreFollowed, AreFound, AreTaken, ComesFrom, HasMore, HasMoreTerms, HasStepMore, IsAt, IsFollowed, IsInside, IsSoFar, IsTaken, IsUpTo, IsWithin, LeadsTo, Origin, Steps, process_label, terms_at}
-use Rattle.local_tables.specs.Stops.{HasEnd}
+use Rattle.local_tables.specs.Progress.{AreFollowed, AreFound, AreTaken, ComesFrom, HasMore, HasMoreTerms, HasStepMore, IsAt, IsFollowed, IsInside, IsSoFar, IsTaken, IsUpTo, IsWithin, LeadsTo, LeadsToTerm, Origin, Steps, process_label, terms_at}
+use Rattle.local_tables.specs.Faults.{CanEnd}
 use Rattle.local_tables.specs.declared.found.Found.{Found}
 use Rattle.local_tables.specs.declared.local_table.Room.{Room}
 use Rattle.local_tables.proofs.Growing.{found_kept, in_table_more, same_step}
@@ -316,12 +316,12 @@ module _ (p : Content) (c : Component Proc) (room : Room) (found : Found) (at : 
         more.step more.kept more.only));
   }
 
-  pub at_tick : s.label ≡ Tick → HasEnd p c found at
-  at_tick label = record {
-    led = are.so_far.part.led;
-    term = are.taken.term;
-    listed = are.taken.here;
-    ends = ticks_now p c found.pool found.terms found.table at steps i are.taken s now label;
+  pub at_tick : (trace : List ℕ) → s.label ≡ Tick → LeadsToTerm p c (terms_at found.pool found.terms) trace at → CanEnd p c trace
+  at_tick trace label leads = record {
+    term = leads.term;
+    after = leads.after;
+    ends = subst (λ x. Ticks p x) (one_at (terms_at found.pool found.terms) at are.taken.term leads.term are.taken.here leads.listed)
+        (ticks_now p c found.pool found.terms found.table at steps i are.taken s now label);
   }
 
 -- the first term alone

@@ -12,16 +12,15 @@ use Rattle.csp_tables.specs.RawTable.{RawTable, standing_at}
 use Rattle.csp_tables.specs.Trace.{After}
 use Rattle.process_steps.specs.ComponentStep.{ProcessStep, Ticks}
 use Rattle.process_steps.specs.StepList.{steps_of}
-use Rattle.pool_parts.specs.Counting.{capped}
 use Rattle.local_tables.specs.Component.{AreSteps, AreTerms, step_count}
-use Rattle.local_tables.specs.declared.fault.LocalFault.{LocalFault}
-use Rattle.local_tables.specs.declared.fault.LocalFault.TheVariants.{NoMemory, StepCount, TermCount, TermDepth, TermTotal, Terminates, Value}
+use Rattle.local_tables.specs.declared.fault.Unexplored.{Unexplored}
+use Rattle.local_tables.specs.declared.fault.Unexplored.TheVariants as unexplored
+use Rattle.process_steps.specs.declared.component_fault.ComponentFault.{ComponentFault}
+use Rattle.process_steps.specs.declared.component_fault.ComponentFault.TheVariants as fault
+use Rattle.value_operators.specs.declared.fault.EvalFault.{EvalFault}
+use Rattle.value_operators.specs.declared.fault.EvalFault.TheVariants as evaluation
 use Rattle.local_tables.specs.declared.local_table.Room.{Room}
 use Rattle.csp_base.specs.Lists.{total}
-
--- the size of a term, whose counting stops at 4,294,967,295
-abbrev pub counted_size : Proc → ℕ
-counted_size x = capped (proc_size x)
 
 module _ (p : Content) (c : Component Proc) where
   -- the component reaches the term
@@ -34,31 +33,31 @@ module _ (p : Content) (c : Component Proc) where
     pub reached : Reaches term
     pub none : steps_of p term ≡ Err kind
 
-  -- it reaches so many terms
-  pub record HasTerms (found : ℕ) : Type 0 where
+  -- it reaches more terms than a component may
+  pub record HasManyTerms : Type 0 where
     pub terms : List Proc
     pub are : AreTerms (ProcessStep p) c terms
-    pub count : length terms ≡ found
+    pub many : MOST_TERMS < length terms
 
-  -- it reaches a term of this depth, whose counting stops at 4,294,967,295
-  pub record HasDepth (found : ℕ) : Type 0 where
+  -- it reaches a term that is too deep
+  pub record HasDeepTerm : Type 0 where
     pub term : Proc
     pub reached : Reaches term
-    pub depth : capped (proc_depth term) ≡ found
+    pub deep : MOST_TERM_DEPTH < proc_depth term
 
-  -- it reaches terms whose sizes add up to this number
-  pub record HasSizes (found : ℕ) : Type 0 where
+  -- it reaches terms whose sizes add up to more than this number
+  pub record HasLargeTerms (most : ℕ) : Type 0 where
     pub terms : List Proc
     pub are : AreTerms (ProcessStep p) c terms
-    pub sizes : total (map counted_size terms) ≡ found
+    pub large : most < total (map proc_size terms)
 
-  -- terms that it reaches have so many steps within its alphabet
-  pub record HasSteps (found : ℕ) : Type 0 where
+  -- terms that it reaches have more steps than so many within its alphabet
+  pub record HasManySteps (most : ℕ) : Type 0 where
     pub terms : List Proc
     pub raw : RawTable
     pub are : AreTerms (ProcessStep p) c terms
     pub steps : AreSteps (ProcessStep p) c terms raw
-    pub count : step_count raw ≡ found
+    pub many : most < step_count raw
 
   -- the trace leads to a term that can end
   pub record CanEnd (trace : List ℕ) : Type 0 where
@@ -66,11 +65,22 @@ module _ (p : Content) (c : Component Proc) where
     pub after : After (ComponentStep (ProcessStep p)) c trace (standing_at c term)
     pub ends : Ticks p term
 
-abbrev pub LacksTable : Content → Component Proc → Room → LocalFault → Type 0
-LacksTable p c room NoMemory = Unit {0}
-LacksTable p c room (Value kind) = LacksValue p c kind
-LacksTable p c room (TermCount found) = (MOST_TERMS < found) × HasTerms p c found
-LacksTable p c room (TermDepth found) = (MOST_TERM_DEPTH < found) × HasDepth p c found
-LacksTable p c room (TermTotal found) = (room.nodes < found) × HasSizes p c found
-LacksTable p c room (StepCount found) = (room.steps < found) × HasSteps p c found
-LacksTable p c room (Terminates trace) = CanEnd p c trace
+-- It has no table within the room, for this reason. (That its table goes round, or leads to too many sets, is told where there is one.)
+abbrev pub LacksTable : Content → Component Proc → Room → ComponentFault (List ℕ) → Type 0
+LacksTable p c room (fault.Value kind) = LacksValue p c kind
+LacksTable p c room fault.TermCount = HasManyTerms p c
+LacksTable p c room fault.TermDepth = HasDeepTerm p c
+LacksTable p c room fault.TermTotal = HasLargeTerms p c room.nodes
+LacksTable p c room fault.StepCount = HasManySteps p c room.steps
+LacksTable p c room fault.Diverges = ⊥
+LacksTable p c room fault.SubsetLimit = ⊥
+LacksTable p c room (fault.Terminates trace) = CanEnd p c trace
+
+abbrev pub Lacks : Content → Component Proc → Room → Unexplored → Type 0
+Lacks p c room unexplored.NoMemory = Unit {0}
+Lacks p c room (unexplored.Refused f) = LacksTable p c room f
+
+-- a fault of an evaluation (for a private call)
+abbrev pub valueless : EvalFault → Unexplored
+valueless evaluation.NoMemory = unexplored.NoMemory
+valueless (evaluation.Value kind) = unexplored.Refused (fault.Value kind)

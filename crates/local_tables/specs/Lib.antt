@@ -3,4 +3,3 @@ pub mod Faults
 pub mod Laws
 pub mod LocalTable
 pub mod Progress
-pub mod Stops

@@ -3,6 +3,7 @@ use Rattle.std.specs.Prelude.{◌≡◌, ◌⊎◌, ℕ, ◌+◌, ◌<◌, ◌�
 use Rattle.dl_limits.specs.declared.TheConstants.{MOST_TERMS, MOST_TERM_DEPTH}
 use Rattle.csp_base.specs.Members.{has}
 use Rattle.csp_program.specs.Depth.{proc_depth}
+use Rattle.csp_program.specs.Size.{proc_size}
 use Rattle.csp_program.specs.declared.processes.Proc.{Proc}
 use Rattle.csp_program.specs.declared.programs.Content.{Content}
 use Rattle.csp_steps.specs.Listed.{AreStepsOf}
@@ -16,9 +17,9 @@ use Rattle.process_steps.specs.ComponentStep.{ProcessStep, Ticks}
 use Rattle.process_steps.specs.declared.label.Label.{Label as ProcessLabel}
 use Rattle.process_steps.specs.declared.label.Label.TheVariants.{Silent, Visible, Tick}
 use Rattle.term_pool.specs.Trees.{tree_at}
+use Rattle.pool_parts.specs.Counting.{capped}
 use Rattle.pool_parts.specs.declared.place.ProcId.{ProcId}
 use Rattle.local_tables.specs.Component.{AreSteps, AreTerms, HasList, step_count}
-use Rattle.local_tables.specs.Faults.{counted_size}
 use Rattle.local_tables.specs.declared.found.Found.{Found}
 use Rattle.local_tables.specs.declared.local_table.Room.{Room}
 use Rattle.csp_base.specs.Lists.{total}
@@ -39,6 +40,10 @@ process_label (visible e) = Visible e
 abbrev pub IsInside : List ℕ → Label → Type 0
 IsInside alphabet silent = Unit {0}
 IsInside alphabet (visible e) = IsTrue (has alphabet e)
+
+-- the size of a term, whose counting stops at 4,294,967,295
+abbrev pub counted_size : Proc → ℕ
+counted_size x = capped (proc_size x)
 
 -- the terms at the places of a pool
 abbrev pub terms_at : List Proc → List ProcId → List Proc
@@ -66,10 +71,6 @@ pub record AreFound (p : Content) (c : Component Proc) (trees : List Proc) (ids 
 
 abbrev pub IsSoFar : Content → Component Proc → Found → Type 0
 IsSoFar p c found = AreFound p c found.pool found.terms found.origins.items found.table found.nodes
-
--- Each number of the room has a greater one of its type.
-abbrev pub CanBePassed : Room → Type 0
-CanBePassed room = (room.nodes < 4294967295) × (room.steps < 4294967295)
 
 -- it is within the limits and the room
 pub record IsWithin (room : Room) (found : Found) : Type 0 where

@@ -1,15 +1,14 @@
 //! The exploration of a component.
 
-ghost use Rattle.std.specs.Prelude.{[], ◌≡◌, ◌+◌, ◌<◌, ◌≤◌, ◌^◌, ℕ, Some, length, slice_get, IfOk, IfErr, OnOk};
+ghost use Rattle.std.specs.Prelude.{[], ◌≡◌, ◌+◌, ◌<◌, ◌≤◌, ◌↔◌, ℕ, Some, length, slice_get, IfOk, IfErr, IsTrue, OnOk};
 ghost use Rattle.csp_steps.specs.Evaluated.{Fits};
 ghost use Rattle.csp_tables.specs.RawTable.{RawStep};
 ghost use Rattle.local_tables.specs.Component.{component, step_count};
-ghost use Rattle.local_tables.specs.Faults.{LacksTable};
+ghost use Rattle.local_tables.specs.Faults.{Lacks};
 ghost use Rattle.local_tables.specs.LocalTable.{IsLocalTable};
-ghost use Rattle.local_tables.specs.Progress.{CanBePassed, HasMore, HasStepMore, IsAt, IsSoFar, IsUpTo, IsWithin, Steps, label_of};
-ghost use Rattle.local_tables.specs.Stops.{PassesSteps, StopsAt};
+ghost use Rattle.local_tables.specs.Progress.{HasMore, HasStepMore, IsAt, IsSoFar, IsUpTo, IsWithin, Steps, label_of};
 
-use crate::fault::{LocalFault, Stop};
+use crate::fault::Unexplored;
 use crate::found::{Found, Task, begin, term_number};
 use crate::local_table::{LocalTable, Room};
 use crate::origins::trace_to;
@@ -17,7 +16,7 @@ use csp_base::{Event, EventSet, NoMemory};
 use csp_program::{Proc, Program};
 use csp_steps::{Evaluated, StepTo, steps_in};
 use csp_tables::RawTable;
-use process_steps::Label;
+use process_steps::{ComponentFault, Label};
 use std::alloc::Global;
 use std::mem;
 use term_pool::ProcId;
@@ -32,13 +31,13 @@ pub fn explore(
     start: &Proc,
     alphabet: &EventSet,
     room: Room,
-) -> Result<LocalTable, LocalFault>
+) -> Result<LocalTable, Unexplored>
     requires nodes { room.nodes < 4294967295 }
-    requires steps { room.steps < 4294967295 }
     ensures table { IfOk result (IsLocalTable program.now (component alphabet.now start.now) room) }
-    ensures fault { IfErr result (LacksTable program.now (component alphabet.now start.now) room) }
+    ensures fault { IfErr result (Lacks program.now (component alphabet.now start.now) room) }
 {
     let task = Task {
+        alloc,
         program,
         start,
         alphabet,
@@ -48,10 +47,10 @@ pub fn explore(
 }
 
 // The table of the task's component.
-fn table_of(alloc: Global, task: &Task<'_>) -> Result<LocalTable, LocalFault>
-    requires room { CanBePassed task.now.room }
+fn table_of(alloc: Global, task: &Task<'_>) -> Result<LocalTable, Unexplored>
+    requires room { task.now.room.nodes < 4294967295 }
     ensures table { IfOk result (IsLocalTable task.now.program.now (component task.now.alphabet.now task.now.start.now) task.now.room) }
-    ensures fault { IfErr result (LacksTable task.now.program.now (component task.now.alphabet.now task.now.start.now) task.now.room) }
+    ensures fault { IfErr result (Lacks task.now.program.now (component task.now.alphabet.now task.now.start.now) task.now.room) }
 {
     let mut found = Found::new(alloc);
     let table = explored(alloc, task, &mut found);
@@ -60,25 +59,24 @@ fn table_of(alloc: Global, task: &Task<'_>) -> Result<LocalTable, LocalFault>
 }
 
 // The same, from where nothing is found yet.
-fn explored(alloc: Global, task: &Task<'_>, found: &mut Found) -> Result<LocalTable, LocalFault>
-    requires room { CanBePassed task.now.room }
+fn explored(alloc: Global, task: &Task<'_>, found: &mut Found) -> Result<LocalTable, Unexplored>
+    requires room { task.now.room.nodes < 4294967295 }
     requires pool { found.old.pool ≡ [] }
     requires terms { found.old.terms ≡ [] }
     requires origins { found.old.origins.items ≡ [] }
     requires table { found.old.table ≡ record { silent = []; steps = []; count = 1 } }
     ensures table { IfOk result (IsLocalTable task.now.program.now (component task.now.alphabet.now task.now.start.now) task.now.room) }
-    ensures fault { IfErr result (LacksTable task.now.program.now (component task.now.alphabet.now task.now.start.now) task.now.room) }
+    ensures fault { IfErr result (Lacks task.now.program.now (component task.now.alphabet.now task.now.start.now) task.now.room) }
 {
-    match fill(alloc, task, found) {
-        Ok(()) => Ok(finished(alloc, found)),
-        Err(stop) => Err(told(alloc, task, found, stop)),
-    }
+    fill(alloc, task, found)?;
+    let room = task.room;
+    Ok(finished(alloc, found, room))
 }
 
 // The table, once all terms are followed.
-fn finished(alloc: Global, found: &mut Found) -> LocalTable
-    requires nodes { found.old.nodes < 2 ^ 32 }
-    requires steps { step_count found.old.table < 2 ^ 32 }
+fn finished(alloc: Global, found: &mut Found, room: Room) -> LocalTable
+    requires nodes { found.old.nodes ≤ room.nodes }
+    requires steps { step_count found.old.table ≤ room.steps }
     ensures table { result.table ≡ found.old.table }
     ensures nodes { result.used.nodes ≡ found.old.nodes }
     ensures steps { result.used.steps ≡ step_count found.old.table }
@@ -94,34 +92,15 @@ fn finished(alloc: Global, found: &mut Found) -> LocalTable
     }
 }
 
-// The fault for which the exploration stopped.
-fn told(alloc: Global, task: &Task<'_>, found: &Found, stop: Stop) -> LocalFault
-    requires { StopsAt task.now.program.now (component task.now.alphabet.now task.now.start.now) task.now.room found.now stop }
-    ensures { LacksTable task.now.program.now (component task.now.alphabet.now task.now.start.now) task.now.room result }
-{
-    match stop {
-        Stop::NoMemory => LocalFault::NoMemory,
-        Stop::Value { kind } => LocalFault::Value { kind },
-        Stop::TermCount { found } => LocalFault::TermCount { found },
-        Stop::TermDepth { found } => LocalFault::TermDepth { found },
-        Stop::TermTotal { found } => LocalFault::TermTotal { found },
-        Stop::StepCount { found } => LocalFault::StepCount { found },
-        Stop::Ends { number } => match trace_to(alloc, found.origins.as_slice(), number) {
-            Ok(trace) => LocalFault::Terminates { trace },
-            Err(_) => LocalFault::NoMemory,
-        },
-    }
-}
-
 // Follows the first term, and each that is found.
-fn fill(alloc: Global, task: &Task<'_>, found: &mut Found) -> Result<(), Stop>
-    requires room { CanBePassed task.now.room }
+fn fill(alloc: Global, task: &Task<'_>, found: &mut Found) -> Result<(), Unexplored>
+    requires room { task.now.room.nodes < 4294967295 }
     requires pool { found.old.pool ≡ [] }
     requires terms { found.old.terms ≡ [] }
     requires origins { found.old.origins.items ≡ [] }
     requires table { found.old.table ≡ record { silent = []; steps = []; count = 1 } }
     ensures up_to { OnOk result (IsUpTo task.now.program.now (component task.now.alphabet.now task.now.start.now) task.now.room found.new found.new.table.count) }
-    ensures stop { IfErr result (StopsAt task.now.program.now (component task.now.alphabet.now task.now.start.now) task.now.room found.new) }
+    ensures fault { IfErr result (Lacks task.now.program.now (component task.now.alphabet.now task.now.start.now) task.now.room) }
 {
     begin(task, found)?;
     let mut evaluated = Evaluated::new(alloc);
@@ -134,12 +113,12 @@ fn follow_all(
     task: &Task<'_>,
     found: &mut Found,
     evaluated: &mut Evaluated,
-) -> Result<(), Stop>
-    requires room { CanBePassed task.now.room }
+) -> Result<(), Unexplored>
+    requires room { task.now.room.nodes < 4294967295 }
     requires fits { Fits task.now.program.now found.old.pool evaluated.old }
     requires up_to { IsUpTo task.now.program.now (component task.now.alphabet.now task.now.start.now) task.now.room found.old 0 }
     ensures up_to { OnOk result (IsUpTo task.now.program.now (component task.now.alphabet.now task.now.start.now) task.now.room found.new found.new.table.count) }
-    ensures stop { IfErr result (StopsAt task.now.program.now (component task.now.alphabet.now task.now.start.now) task.now.room found.new) }
+    ensures fault { IfErr result (Lacks task.now.program.now (component task.now.alphabet.now task.now.start.now) task.now.room) }
 {
     let mut at = 0;
     while at < found.table.count() {
@@ -156,14 +135,14 @@ fn follow(
     found: &mut Found,
     evaluated: &mut Evaluated,
     at: u32,
-) -> Result<(), Stop>
-    requires room { CanBePassed task.now.room }
+) -> Result<(), Unexplored>
+    requires room { task.now.room.nodes < 4294967295 }
     requires here { at < length found.old.terms }
     requires fits { Fits task.now.program.now found.old.pool evaluated.old }
     requires up_to { IsUpTo task.now.program.now (component task.now.alphabet.now task.now.start.now) task.now.room found.old at }
     ensures fits { OnOk result (Fits task.now.program.now found.new.pool evaluated.new) }
     ensures up_to { OnOk result (IsUpTo task.now.program.now (component task.now.alphabet.now task.now.start.now) task.now.room found.new (at + 1)) }
-    ensures stop { IfErr result (StopsAt task.now.program.now (component task.now.alphabet.now task.now.start.now) task.now.room found.new) }
+    ensures fault { IfErr result (Lacks task.now.program.now (component task.now.alphabet.now task.now.start.now) task.now.room) }
 {
     let id = found.terms.as_slice()[at as usize];
     let steps = steps_in(alloc, task.program, &mut found.pool, evaluated, id)?;
@@ -171,12 +150,12 @@ fn follow(
 }
 
 // Takes the steps of the term with the number `at` into the table.
-fn take_all(task: &Task<'_>, found: &mut Found, at: u32, steps: &[StepTo]) -> Result<(), Stop>
-    requires room { CanBePassed task.now.room }
+fn take_all(task: &Task<'_>, found: &mut Found, at: u32, steps: &[StepTo]) -> Result<(), Unexplored>
+    requires room { task.now.room.nodes < 4294967295 }
     requires at { IsAt task.now.program.now (component task.now.alphabet.now task.now.start.now) task.now.room found.old at steps.now 0 }
     ensures pool { OnOk result (found.new.pool ≡ found.old.pool) }
     ensures up_to { OnOk result (IsUpTo task.now.program.now (component task.now.alphabet.now task.now.start.now) task.now.room found.new (at + 1)) }
-    ensures stop { IfErr result (StopsAt task.now.program.now (component task.now.alphabet.now task.now.start.now) task.now.room found.new) }
+    ensures fault { IfErr result (Lacks task.now.program.now (component task.now.alphabet.now task.now.start.now) task.now.room) }
 {
     for place in 0..steps.len() {
         take(task, found, at, steps, place)?;
@@ -191,13 +170,13 @@ fn take(
     at: u32,
     steps: &[StepTo],
     place: usize,
-) -> Result<(), Stop>
-    requires room { CanBePassed task.now.room }
+) -> Result<(), Unexplored>
+    requires room { task.now.room.nodes < 4294967295 }
     requires inside { place < length steps.now }
     requires at { IsAt task.now.program.now (component task.now.alphabet.now task.now.start.now) task.now.room found.old at steps.now place }
     ensures pool { OnOk result (found.new.pool ≡ found.old.pool) }
     ensures at { OnOk result (IsAt task.now.program.now (component task.now.alphabet.now task.now.start.now) task.now.room found.new at steps.now (place + 1)) }
-    ensures stop { IfErr result (StopsAt task.now.program.now (component task.now.alphabet.now task.now.start.now) task.now.room found.new) }
+    ensures fault { IfErr result (Lacks task.now.program.now (component task.now.alphabet.now task.now.start.now) task.now.room) }
 {
     let StepTo { label, to } = steps[place];
     match label {
@@ -208,7 +187,10 @@ fn take(
             }
             lead(task, found, at, Some(event), to)
         }
-        Label::Tick => Err(Stop::Ends { number: at }),
+        Label::Tick => {
+            let trace = trace_to(task.alloc, found.origins.as_slice(), at)?;
+            Err(Unexplored::Refused(ComponentFault::Terminates { trace }))
+        }
     }
 }
 
@@ -219,8 +201,8 @@ fn lead(
     from: u32,
     event: Option<Event>,
     to: ProcId,
-) -> Result<(), Stop>
-    requires room { CanBePassed task.now.room }
+) -> Result<(), Unexplored>
+    requires room { task.now.room.nodes < 4294967295 }
     requires so_far { IsSoFar task.now.program.now (component task.now.alphabet.now task.now.start.now) found.old }
     requires within { IsWithin task.now.room found.old }
     requires step { Steps task.now.program.now (component task.now.alphabet.now task.now.start.now) found.old from (label_of event) to }
@@ -228,26 +210,21 @@ fn lead(
     ensures more { OnOk result (HasMore found.old found.new from (label_of event) to) }
     ensures so_far { OnOk result (IsSoFar task.now.program.now (component task.now.alphabet.now task.now.start.now) found.new) }
     ensures within { OnOk result (IsWithin task.now.room found.new) }
-    ensures stop { IfErr result (StopsAt task.now.program.now (component task.now.alphabet.now task.now.start.now) task.now.room found.new) }
+    ensures fault { IfErr result (Lacks task.now.program.now (component task.now.alphabet.now task.now.start.now) task.now.room) }
 {
     let number = term_number(task, found, from, &event, to)?;
     add_step(&mut found.table, from, event, number)?;
-    check_steps(&task.room, &found.table)
-}
-
-// Whether the steps are within the room.
-fn check_steps(room: &Room, table: &RawTable) -> Result<(), Stop>
-    requires few { step_count table.now < 2 ^ 32 }
-    ensures within { OnOk result (step_count table.now ≤ room.now.steps) }
-    ensures stop { IfErr result (λ stop. PassesSteps room.now table.now stop) }
-{
-    let count = table.silent().len() + table.steps().len();
-    if count > room.steps as usize {
-        return Err(Stop::StepCount {
-            found: count as u32,
-        });
+    if passes(&task.room, &found.table) {
+        return Err(Unexplored::Refused(ComponentFault::StepCount));
     }
     Ok(())
+}
+
+// Whether there are more steps than there is room for.
+fn passes(room: &Room, table: &RawTable) -> bool
+    ensures { IsTrue result ↔ (room.now.steps < step_count table.now) }
+{
+    table.silent().len() + table.steps().len() > room.steps as usize
 }
 
 // Adds a silent step, or one by the event.

@@ -1,25 +1,27 @@
 //! What an exploration has found so far, and the terms that come to it.
 
-ghost use Rattle.std.specs.Prelude.{◌≡◌, ◌<◌, ◌≤◌, ◌^◌, ℕ, Some, [], length, slice_get, IfOk, IfErr, OnOk};
+ghost use Rattle.std.specs.Prelude.{◌≡◌, ◌+◌, ◌<◌, ◌≤◌, ◌^◌, ℕ, Some, [], length, slice_get, IfOk, IfErr, OnOk};
 ghost use Rattle.dl_limits.specs.declared.TheConstants.{MOST_TERMS};
 ghost use Rattle.term_pool.specs.Pooled.{AreDifferent};
 ghost use Rattle.local_tables.specs.Component.{component};
-ghost use Rattle.local_tables.specs.Progress.{CanBePassed, HasMoreTerms, IsAdded, IsFitting, IsSoFar, IsWithin, Steps, label_of};
-ghost use Rattle.local_tables.specs.Stops.{StopsAt};
+ghost use Rattle.local_tables.specs.Progress.{HasMoreTerms, IsAdded, IsFitting, IsSoFar, IsWithin, Steps, label_of};
+ghost use Rattle.local_tables.specs.Faults.{Lacks};
 
-use crate::fault::Stop;
+use crate::fault::Unexplored;
 use crate::local_table::Room;
 use containers::Numbering;
 use csp_base::{Event, EventSet, NoMemory};
 use csp_program::{Proc, Program};
 use csp_tables::RawTable;
 use dl_limits::{MOST_TERM_DEPTH, MOST_TERMS};
+use process_steps::ComponentFault;
 use std::alloc::Global;
 use term_pool::{Pool, ProcId};
 
 // A component of a program, and the room for its table.
 #[derive(Drop)]
 pub(crate) struct Task<'a> {
+    pub(crate) alloc: Global,
     pub(crate) program: &'a Program,
     pub(crate) start: &'a Proc,
     pub(crate) alphabet: &'a EventSet,
@@ -55,7 +57,7 @@ impl Found {
 }
 
 // Takes the first term in.
-pub(crate) fn begin(task: &Task<'_>, found: &mut Found) -> Result<(), Stop>
+pub(crate) fn begin(task: &Task<'_>, found: &mut Found) -> Result<(), Unexplored>
     requires pool { found.old.pool ≡ [] }
     requires terms { found.old.terms ≡ [] }
     requires origins { found.old.origins.items ≡ [] }
@@ -64,7 +66,7 @@ pub(crate) fn begin(task: &Task<'_>, found: &mut Found) -> Result<(), Stop>
     ensures within { OnOk result (IsWithin task.now.room found.new) }
     ensures silent { OnOk result (found.new.table.silent ≡ []) }
     ensures steps { OnOk result (found.new.table.steps ≡ []) }
-    ensures stop { IfErr result (StopsAt task.now.program.now (component task.now.alphabet.now task.now.start.now) task.now.room found.new) }
+    ensures fault { IfErr result (Lacks task.now.program.now (component task.now.alphabet.now task.now.start.now) task.now.room) }
 {
     let first = found.pool.put(task.start)?;
     found.nodes = u64::from(found.pool.size(first));
@@ -80,8 +82,8 @@ pub(crate) fn term_number(
     from: u32,
     event: &Option<Event>,
     to: ProcId,
-) -> Result<u32, Stop>
-    requires room { CanBePassed task.now.room }
+) -> Result<u32, Unexplored>
+    requires room { task.now.room.nodes < 4294967295 }
     requires so_far { IsSoFar task.now.program.now (component task.now.alphabet.now task.now.start.now) found.old }
     requires within { IsWithin task.now.room found.old }
     requires step { Steps task.now.program.now (component task.now.alphabet.now task.now.start.now) found.old from (label_of event.now) to }
@@ -89,10 +91,10 @@ pub(crate) fn term_number(
     ensures more { OnOk result (HasMoreTerms found.old found.new) }
     ensures so_far { OnOk result (IsSoFar task.now.program.now (component task.now.alphabet.now task.now.start.now) found.new) }
     ensures within { OnOk result (IsWithin task.now.room found.new) }
-    ensures stop { IfErr result (StopsAt task.now.program.now (component task.now.alphabet.now task.now.start.now) task.now.room found.new) }
+    ensures fault { IfErr result (Lacks task.now.program.now (component task.now.alphabet.now task.now.start.now) task.now.room) }
 {
     if let Some(number) = found.terms.find(&to) {
-        return Ok(number);
+        return Ok(number as u32);
     }
     admit(task, found, from, event, to)
 }
@@ -104,8 +106,8 @@ fn admit(
     from: u32,
     event: &Option<Event>,
     to: ProcId,
-) -> Result<u32, Stop>
-    requires room { CanBePassed task.now.room }
+) -> Result<u32, Unexplored>
+    requires room { task.now.room.nodes < 4294967295 }
     requires so_far { IsSoFar task.now.program.now (component task.now.alphabet.now task.now.start.now) found.old }
     requires within { IsWithin task.now.room found.old }
     requires step { Steps task.now.program.now (component task.now.alphabet.now task.now.start.now) found.old from (label_of event.now) to }
@@ -114,7 +116,7 @@ fn admit(
     ensures more { OnOk result (HasMoreTerms found.old found.new) }
     ensures so_far { OnOk result (IsSoFar task.now.program.now (component task.now.alphabet.now task.now.start.now) found.new) }
     ensures within { OnOk result (IsWithin task.now.room found.new) }
-    ensures stop { IfErr result (StopsAt task.now.program.now (component task.now.alphabet.now task.now.start.now) task.now.room found.new) }
+    ensures fault { IfErr result (Lacks task.now.program.now (component task.now.alphabet.now task.now.start.now) task.now.room) }
 {
     let number = add(found, (from, *event), to)?;
     check(task, found, to)?;
@@ -138,28 +140,26 @@ fn add(found: &mut Found, origin: (u32, Option<Event>), to: ProcId) -> Result<u3
     let number = found.terms.number(to)?;
     found.table.add_term();
     found.nodes += u64::from(found.pool.size(to));
-    Ok(number)
+    Ok(number as u32)
 }
 
 // Whether the terms are within the limits and the room, where those before the newest are.
-fn check(task: &Task<'_>, found: &Found, newest: ProcId) -> Result<(), Stop>
+fn check(task: &Task<'_>, found: &Found, newest: ProcId) -> Result<(), Unexplored>
     requires so_far { IsSoFar task.now.program.now (component task.now.alphabet.now task.now.start.now) found.now }
     requires known { (k : ℕ) × (slice_get found.now.terms k ≡ Some newest) }
+    requires few { length found.now.terms ≤ MOST_TERMS + 1 }
     ensures fitting { OnOk result (IsFitting task.now.room found.now newest) }
-    ensures stop { IfErr result (StopsAt task.now.program.now (component task.now.alphabet.now task.now.start.now) task.now.room found.now) }
+    ensures fault { IfErr result (Lacks task.now.program.now (component task.now.alphabet.now task.now.start.now) task.now.room) }
 {
-    let count = found.terms.len();
-    if count > MOST_TERMS {
-        return Err(Stop::TermCount {
-            found: count as u32,
-        });
+    if found.terms.len() > MOST_TERMS {
+        return Err(Unexplored::Refused(ComponentFault::TermCount));
     }
     let depth = found.pool.depth(newest);
     if depth > MOST_TERM_DEPTH {
-        return Err(Stop::TermDepth { found: depth });
+        return Err(Unexplored::Refused(ComponentFault::TermDepth));
     }
     if found.nodes > u64::from(task.room.nodes) {
-        return Err(Stop::TermTotal { found: found.nodes });
+        return Err(Unexplored::Refused(ComponentFault::TermTotal));
     }
     Ok(())
 }

@@ -10,10 +10,10 @@ mod local_table;
 mod origins;
 
 pub use exploring::explore;
-pub use fault::LocalFault;
+pub use fault::Unexplored;
 pub use local_table::{LocalTable, Room};
 
-/// Where a component has a table within the room, no fault but want of memory is true of it.
+/// Where a component has a table within the room, no fault is true of it.
 pub fn faults_exclude_tables()
     ensures { FaultsExcludeTables }
 {}

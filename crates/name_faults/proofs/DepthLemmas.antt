@@ -1,8 +1,7 @@
 -- Depths by rounds: they are those of the definition, and once a round changes nothing no later one does.
-use Rattle.std.proofs.Common.{◌≡◌, ℕ, zero, suc, ◌+◌, ◌-◌, ◌≤◌, ◌<◌, max, min, Bool, true, IsTrue, ◌↔◌, Option, Some, None, List, [], ◌∷◌, ◌++◌, map, slice_get, slice_index, nat_lt, length, drop, get_or, add-one, append_assoc, refl, sym, ap, ◌∙◌, subst, arith}
-use Rattle.std.proofs.Math.ListN.{drop_of_length-le}
-use Rattle.std.proofs.lemmas.List.{append-nil}
+use Rattle.std.proofs.Common.{◌≡◌, ℕ, zero, suc, ◌+◌, ◌-◌, ◌≤◌, ◌<◌, max, min, Bool, true, IsTrue, ◌↔◌, Option, Some, None, List, [], ◌∷◌, ◌++◌, map, slice_get, slice_index, nat_lt, add-one, refl, sym, ap, ◌∙◌, subst, arith}
 use Rattle.std.proofs.lemmas.Bool.{lt-ltb, ltb-true, ltb_from_iff}
+use Rattle.std.proofs.lemmas.Option.{slice_get-map}
 use Rattle.std.specs.List.{flat_map}
 use Rattle.std.specs.Option.{option_map}
 use Rattle.script_names.specs.declared.kinds.Entity.TheVariants as entity
@@ -15,7 +14,6 @@ use Rattle.name_notes.specs.declared.notes.Body.{Body}
 use Rattle.name_notes.specs.Found.{body_of, greatest_level, level_of, use_of}
 use Rattle.name_notes.specs.Heard.{used}
 use Rattle.name_faults.specs.Depths.{AreDepths, deepest_if, deepest_of, deepest_use, within}
-use Rattle.csp_base.proofs.Lists.{drop_read}
 
 -- what a body says, from what was noted of it
 module _ (f : ℕ → ℕ) where
@@ -60,18 +58,12 @@ module _ (f : ℕ → ℕ) where
   deepest_if_is None = refl
   deepest_if_is (Some os) = deepest_is os
 
-get-map : (bodies : List (List Occurrence)) (d : ℕ) → slice_get (map body_of bodies) d ≡ option_map body_of (slice_get bodies d)
-get-map [] zero = refl
-get-map [] (suc d) = refl
-get-map (b ∷ bodies) zero = refl
-get-map (b ∷ bodies) (suc d) = get-map bodies d
-
 pub depth_is : (n : ℕ) (bodies : List (List Occurrence)) (d : ℕ) → within n (map body_of bodies) d ≡ depth_within n bodies d
 unfolding within
 depth_is zero bodies d = refl
 depth_is (suc n) bodies d =
     let depths : within n (map body_of bodies) ≡ depth_within n bodies = λ i e. depth_is n bodies e i in
-    ap (deepest_if (within n (map body_of bodies))) (get-map bodies d)
+    ap (deepest_if (within n (map body_of bodies))) (slice_get-map body_of bodies d)
     ∙ deepest_if_is (within n (map body_of bodies)) (slice_get bodies d)
     ∙ ap (λ (f : ℕ → ℕ). deepest f (said_by (slice_get bodies d))) depths
 
@@ -123,16 +115,12 @@ stay_so (suc k) n bodies depths are fixed =
     let e : suc (k + n) ≡ suc k + n = omega arith in
     subst P e (next_depths (k + n) bodies depths depths (stay_so k n bodies depths are fixed) fixed)
 
--- what a test of two lists tells
-tells : (r : Bool) (P : Type 0) → (IsTrue r ↔ P) → r ≡ true → P
-tells r P h is = h.0 is
-
 pub depths_stay : (n m : ℕ) (bodies : List Body) (depths next slice a b : List ℕ) (r : Bool) → n ≤ m → AreDepths n bodies depths → slice ≡ depths
     → next ≡ map (λ b. min (deepest_of (λ d. slice_index slice d) b) 801) bodies → a ≡ next → b ≡ depths → (IsTrue r ↔ (a ≡ b)) → r ≡ true → AreDepths m bodies depths
 depths_stay n m bodies depths next slice a b r within_m are slice_is made a_is b_is test holds =
     let P : ℕ → Type 0 = λ k. AreDepths k bodies depths in
     let e : (m - n) + n ≡ m = omega arith in
-    let same : depths ≡ next = sym b_is ∙ sym (tells r (a ≡ b) test holds) ∙ a_is in
+    let same : depths ≡ next = sym b_is ∙ sym (test.0 holds) ∙ a_is in
     let fixed : depths ≡ map (λ b. min (deepest_of (λ d. slice_index depths d) b) 801) bodies =
     same ∙ made ∙ ap (λ (xs : List ℕ). map (λ b. min (deepest_of (λ d. slice_index xs d) b) 801) bodies) slice_is in
     subst P e (stay_so (m - n) n bodies depths are fixed)
@@ -159,18 +147,6 @@ pub over_depth : (n : ℕ) (bodies : List (List Occurrence)) (depths : List ℕ)
 unfolding AreDepths
 over_depth n bodies depths d are =
     over_is (depth_within n bodies d) ∙ ap (λ x. nat_lt 800 x) (ap (λ x. min x 801) (sym (depth_is n bodies d)) ∙ sym (are d))
-
-pub map_step : {X Y : Type 0} (f : X → Y) (new old whole : List Y) (y : Y) (i : ℕ) (xs : List X) (x : X) → i < length xs → x ≡ get_or xs i x → y ≡ f x → new ≡ old ++ y ∷ []
-    → old ++ map f (drop i xs) ≡ whole → new ++ map f (drop (i + 1) xs) ≡ whole
-map_step f new old whole y i xs x within is made now so_far =
-    (λ j. now j ++ map f (drop (i + 1) xs))
-    ∙ append_assoc old (y ∷ []) (map f (drop (i + 1) xs))
-    ∙ ap (λ z. old ++ z ∷ map f (drop (i + 1) xs)) made
-    ∙ ap (λ ys. old ++ map f ys) (sym (drop_read xs i x within is))
-    ∙ so_far
-
-pub map_end : {X Y : Type 0} (f : X → Y) (old whole : List Y) (i : ℕ) (xs : List X) → length xs ≤ i → old ++ map f (drop i xs) ≡ whole → old ≡ whole
-map_end f old whole i xs at_end so_far = sym (append-nil old) ∙ ap (λ ys. old ++ map f ys) (sym (drop_of_length-le xs at_end)) ∙ so_far
 
 pub more_depths : (n : ℕ) (bodies : List Body) (depths next slice : List ℕ) → AreDepths n bodies depths → slice ≡ depths
     → next ≡ map (λ b. min (deepest_of (λ d. slice_index slice d) b) 801) bodies → AreDepths (n + 1) bodies next

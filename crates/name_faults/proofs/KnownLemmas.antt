@@ -1,5 +1,5 @@
 -- What is known of declarations, and what one says after them.
-use Rattle.std.proofs.Common.{◌≡◌, ℕ, ◌+◌, ◌<◌, ◌≤◌, Bool, ◌&&◌, ◌||◌, Option, Some, None, List, [], ◌∷◌, ◌++◌, length, map, take, drop, get_or, slice_get, slice_index, nat_lt, refl, sym, ap, ◌∙◌, append_assoc, add-zero, subst, arith}
+use Rattle.std.proofs.Common.{◌≡◌, ℕ, ◌+◌, ◌<◌, ◌≤◌, Bool, ◌&&◌, ◌||◌, Option, Some, None, List, [], ◌∷◌, ◌++◌, length, map, take, drop, get_or, slice_get, slice_index, nat_lt, refl, sym, ap, ◌∙◌, append_assoc, subst, arith}
 use Rattle.std.proofs.Math.ListN.{drop_of_length-le}
 use Rattle.std.proofs.lemmas.List.{append-nil, map-append, length_push}
 use Rattle.std.specs.List.{flat_map}
@@ -7,27 +7,24 @@ use Rattle.csp_text.specs.declared.script.Decl.{Decl}
 use Rattle.csp_text.specs.declared.script.Decl.TheVariants as decl
 use Rattle.csp_text.specs.declared.tree.Tree.{Tree}
 use Rattle.script_names.specs.declared.fault.ResolveFault.{ResolveFault}
-use Rattle.script_names.specs.declared.kinds.Class.{Class}
-use Rattle.script_names.specs.declared.kinds.Class.TheVariants as class
 use Rattle.script_names.specs.declared.kinds.Kind.{Kind}
 use Rattle.script_names.specs.Faults.{is_constant, kind_class}
-use Rattle.script_names.specs.Names.{Name, Meanings, Entities, Counts, channels_from, constants_from, counted, declared, declared_from, declares as declares_of, is_among, meanings_of, none_yet}
+use Rattle.script_names.specs.Names.{Name, Meanings, Entities, Counts, channels_from, constants_from, counted, declared_from, declares as declares_of, is_among, meanings_of, none_yet}
 use Rattle.script_names.specs.Occurrence.{Occurrence, declares}
 use Rattle.script_names.specs.Says.{tree_says}
-use Rattle.script_names.specs.Told.{annotation_says, bodies_from, body_place, counts_of, data_place, decl_says, declared_after, expanded_body, fault_in, first_fault, first_there, is_data, is_deep, name_fault, names_declared, next_definition, parameters_after, too_deep, types_say, with_roles, with_uses}
+use Rattle.script_names.specs.Told.{annotation_says, bodies_from, body_place, counts_of, data_place, decl_says, declared_after, fault_in, first_fault, first_there, is_data, is_deep, name_fault, names_declared, next_definition, parameters_after, too_deep, types_say, with_roles, with_uses}
 use Rattle.name_tables.specs.Firsts.{SameNames}
 use Rattle.name_tables.proofs.NameLemmas.{same_names-append}
 use Rattle.name_notes.specs.declared.notes.Notes.{Notes}
 use Rattle.name_notes.specs.declared.notes.Body.{Body}
 use Rattle.name_notes.specs.declared.notes.Findings.{Findings}
 use Rattle.name_notes.specs.Found.{body_of, findings_of}
-use Rattle.name_notes.specs.Heard.{again_heard, heard_all, nothing_heard}
-use Rattle.name_notes.proofs.HeardLemmas.{body_heard, findings_heard}
+use Rattle.name_notes.specs.Heard.{again_heard, heard_all}
 use Rattle.name_notes.proofs.ToldEquations.{heard_all-append}
 use Rattle.name_faults.specs.declared.known.Known.{Known}
 use Rattle.name_faults.specs.Depths.{AreDepths}
 use Rattle.name_faults.proofs.DepthLemmas.{over_depth}
-use Rattle.name_faults.specs.Known.{IsKnown, IsNext, declared_heard, deep_at, defines, fault_after, fault_from, names_in, nothing_known, parameters_heard, says_after, told}
+use Rattle.name_faults.specs.Known.{IsKnown, IsNext, declared_heard, deep_at, defines, fault_after, fault_from, names_heard, names_in, nothing_known, parameters_heard, says_after, told}
 use Rattle.csp_base.proofs.Lists.{drop_read, take_read, flat_map_push}
 
 -- names that are declared after the same ones
@@ -36,13 +33,16 @@ declared_same xs ys [] same = refl
 declared_same xs ys (z ∷ zs) same = λ i. declares z (same z i) ∷ declared_same (xs ++ z ∷ []) (ys ++ z ∷ []) zs (same_names-append xs ys (z ∷ []) same) i
 
 module _ (m : Meanings) (kinds : List Kind) where
-  pub declared_is : (before : List Name) (n : Notes) (xs : List Name) → declared_heard before n xs ≡ heard_all m kinds n (declared_after before xs)
+  pub declared_is : (before : List Name) (n : Notes) (xs : List Name) → heard_all m kinds n (declared_after before xs) ≡ declared_heard before n xs
   declared_is before n [] = refl
   declared_is before n (x ∷ xs) = declared_is (before ++ x ∷ []) (again_heard n x (is_among before x)) xs
 
-  pub parameters_are : (before : List Name) (n : Notes) (xs : List Name) → parameters_heard m before n xs ≡ heard_all m kinds n (parameters_after before xs)
+  pub parameters_are : (before : List Name) (n : Notes) (xs : List Name) → heard_all m kinds n (parameters_after before xs) ≡ parameters_heard m before n xs
   parameters_are before n [] = refl
   parameters_are before n (x ∷ xs) = parameters_are (before ++ x ∷ []) (again_heard n x (is_among before x || is_constant (m x))) xs
+
+  pub heard_append : (n : Notes) (os ps : List Occurrence) → heard_all m kinds n (os ++ ps) ≡ heard_all m kinds (heard_all m kinds n os) ps
+  heard_append = heard_all-append m kinds
 
   says_is : (earlier : List Decl) (k : Known) (d : Decl) → IsKnown earlier k → says_after m kinds k d ≡ decl_says m kinds earlier d
   says_is earlier k (decl.Channel xs types) known = ap (λ os. os ++ types_say m kinds types) (declared_same k.declared (names_declared earlier) xs known.declared)
@@ -58,10 +58,21 @@ module _ (m : Meanings) (kinds : List Kind) where
   says_is earlier k (decl.Resource names) known =
       ap (λ b. annotation_says m kinds b names.process (names.acquire ∷ names.release ∷ [])) (known.uses names.process)
 
+pub ruleset heard_names = (declared_is, parameters_are, heard_append)
+
+-- types of a channel: one more
+pub types_step : (m : Meanings) (kinds : List Kind) (start n new : Notes) (i : ℕ) (ts : List Tree) (t : Tree) → i < length ts → t ≡ get_or ts i t
+    → n ≡ heard_all m kinds start (types_say m kinds (take i ts)) → new ≡ heard_all m kinds n (tree_says m t data_place [])
+    → new ≡ heard_all m kinds start (types_say m kinds (take (i + 1) ts))
+types_step m kinds start n new i ts t within is so_far now =
+    now
+    ∙ ap (λ k. heard_all m kinds k (tree_says m t data_place [])) so_far
+    ∙ sym (heard_all-append m kinds start (types_say m kinds (take i ts)) (tree_says m t data_place []))
+    ∙ ap (heard_all m kinds start) (sym (flat_map_push (λ u. tree_says m u data_place []) (take i ts) t) ∙ ap (types_say m kinds) (sym (take_read ts i t within is)))
+
 -- one more declaration
 names_of-append : (es fs : Entities) → map (λ e. e.0) (es ++ fs) ≡ map (λ e. e.0) es ++ map (λ e. e.0) fs
-names_of-append [] fs = refl
-names_of-append (e ∷ es) fs = ap (λ xs. e.0 ∷ xs) (names_of-append es fs)
+names_of-append = map-append (λ e. e.0)
 
 channel_names : (n fields : ℕ) (xs : List Name) → map (λ e. e.0) (channels_from n fields xs) ≡ xs
 channel_names n fields [] = refl
@@ -199,131 +210,56 @@ deep_so script kinds m same depths are n =
     over_depth 801 (bodies_from (meanings_of script) kinds 0 script) depths n
     (subst (λ (k : Meanings). AreDepths 801 (map body_of (bodies_from k kinds 0 script)) depths) same are)
 
--- the bodies of one more declaration
-pub bodies_split : (m : Meanings) (kinds : List Kind) (n : ℕ) (d : Decl) (rest : List Decl) →
-    bodies_from m kinds n (d ∷ rest) ≡ bodies_from m kinds n (d ∷ []) ++ bodies_from m kinds (n + defines d) rest
-bodies_split m kinds n (decl.Channel xs types) rest = ap (λ k. bodies_from m kinds k rest) (sym (add-zero n))
-bodies_split m kinds n (decl.Datatype x ks) rest = refl
-bodies_split m kinds n (decl.Nametype x t) rest = refl
-bodies_split m kinds n (decl.Define x params t) rest = refl
-bodies_split m kinds n (decl.Assert t) rest = ap (λ k. bodies_from m kinds k rest) (sym (add-zero n))
-bodies_split m kinds n (decl.Roles names) rest = ap (λ k. bodies_from m kinds k rest) (sym (add-zero n))
-bodies_split m kinds n (decl.Resource names) rest = ap (λ k. bodies_from m kinds k rest) (sym (add-zero n))
+-- the bodies of a declaration come before those of the declarations after it
+one_first : (old : List Body) (b : Body) (after : ℕ → List Body) → (old ++ b ∷ []) ++ after (length (old ++ b ∷ [])) ≡ old ++ b ∷ after (length old + 1)
+one_first old b after = append_assoc old (b ∷ []) (after (length (old ++ b ∷ []))) ∙ ap (λ n. old ++ b ∷ after n) (length_push old b)
 
-bodies_count : (m : Meanings) (kinds : List Kind) (n : ℕ) (d : Decl) → length (map body_of (bodies_from m kinds n (d ∷ []))) ≡ defines d
-bodies_count m kinds n (decl.Channel xs types) = refl
-bodies_count m kinds n (decl.Datatype x ks) = refl
-bodies_count m kinds n (decl.Nametype x t) = refl
-bodies_count m kinds n (decl.Define x params t) = refl
-bodies_count m kinds n (decl.Assert t) = refl
-bodies_count m kinds n (decl.Roles names) = refl
-bodies_count m kinds n (decl.Resource names) = refl
+no_first : (old : List Body) (after : ℕ → List Body) → (old ++ []) ++ after (length (old ++ [])) ≡ old ++ after (length old)
+no_first old after = ap (λ bs. bs ++ after (length bs)) (append-nil old)
 
-length-both : {X : Type 0} (xs ys : List X) → length (xs ++ ys) ≡ length xs + length ys
-length-both [] ys = omega arith
-length-both (x ∷ xs) ys = let h : length (xs ++ ys) ≡ length xs + length ys = length-both xs ys in omega arith
+module _ (m : Meanings) (kinds : List Kind) (rest : List Decl) (old : List Body) where
+  abbrev after : ℕ → List Body
+  after n = map body_of (bodies_from m kinds n rest)
 
-pub bodies_step : (m : Meanings) (kinds : List Kind) (decls : List Decl) (i : ℕ) (d : Decl) (old new whole : List Body) → i < length decls → d ≡ get_or decls i d
-    → new ≡ old ++ map body_of (bodies_from m kinds (length old) (d ∷ []))
-    → old ++ map body_of (bodies_from m kinds (length old) (drop i decls)) ≡ whole → new ++ map body_of (bodies_from m kinds (length new) (drop (i + 1) decls)) ≡ whole
-bodies_step m kinds decls i d old new whole within is now so_far =
-    let here = bodies_from m kinds (length old) (d ∷ []) in
-    let rest = drop (i + 1) decls in
-    let count : length new ≡ length old + defines d =
-    ap length now ∙ length-both old (map body_of here) ∙ ap (λ n. length old + n) (bodies_count m kinds (length old) d) in
-    (λ j. now j ++ map body_of (bodies_from m kinds (count j) rest))
-    ∙ append_assoc old (map body_of here) (map body_of (bodies_from m kinds (length old + defines d) rest))
-    ∙ ap (λ bs. old ++ bs) (sym (map-append body_of here (bodies_from m kinds (length old + defines d) rest)))
-    ∙ ap (λ bs. old ++ map body_of bs) (sym (bodies_split m kinds (length old) d rest))
-    ∙ ap (λ ds. old ++ map body_of (bodies_from m kinds (length old) ds)) (sym (drop_read decls i d within is))
-    ∙ so_far
+  abbrev so_far_with : Decl → List Body
+  so_far_with d = old ++ map body_of (bodies_from m kinds (length old) (d ∷ []))
 
-pub bodies_end : (m : Meanings) (kinds : List Kind) (decls : List Decl) (i : ℕ) (old whole : List Body) → length decls ≤ i
-    → old ++ map body_of (bodies_from m kinds (length old) (drop i decls)) ≡ whole → old ≡ whole
-bodies_end m kinds decls i old whole at_end so_far =
-    sym (append-nil old) ∙ ap (λ ds. old ++ map body_of (bodies_from m kinds (length old) ds)) (sym (drop_of_length-le decls at_end)) ∙ so_far
+  pub bodies_on : (d : Decl) → so_far_with d ++ after (length (so_far_with d)) ≡ old ++ map body_of (bodies_from m kinds (length old) (d ∷ rest))
+  bodies_on (decl.Channel xs types) = no_first old after
+  bodies_on (decl.Datatype x ks) = one_first old _ after
+  bodies_on (decl.Nametype x t) = one_first old _ after
+  bodies_on (decl.Define x params t) = one_first old _ after
+  bodies_on (decl.Assert t) = no_first old after
+  bodies_on (decl.Roles names) = no_first old after
+  bodies_on (decl.Resource names) = no_first old after
 
--- loops over names: one more, and no more
-pub heard_same : (xs ys zs : List Name) (n : Notes) → SameNames xs ys → declared_heard xs n zs ≡ declared_heard ys n zs
-heard_same xs ys [] n same = refl
-heard_same xs ys (z ∷ zs) n same =
-    ap (λ b. declared_heard (xs ++ z ∷ []) (again_heard n z b) zs) (same z)
-    ∙ heard_same (xs ++ z ∷ []) (ys ++ z ∷ []) zs (again_heard n z (is_among ys z)) (same_names-append xs ys (z ∷ []) same)
+-- loops over names: the same after the same names, and one more
+module _ (again : Name → Bool → Bool) where
+  pub heard_same : (xs ys zs : List Name) (n : Notes) → SameNames xs ys → names_heard again xs n zs ≡ names_heard again ys n zs
+  heard_same xs ys [] n same = refl
+  heard_same xs ys (z ∷ zs) n same =
+      ap (λ b. names_heard again (xs ++ z ∷ []) (again_heard n z (again z b)) zs) (same z)
+      ∙ heard_same (xs ++ z ∷ []) (ys ++ z ∷ []) zs (again_heard n z (again z (is_among ys z))) (same_names-append xs ys (z ∷ []) same)
 
-pub declared_step : (before after : List Name) (n new whole : Notes) (i : ℕ) (xs : List Name) (x : Name) → i < length xs → x ≡ get_or xs i x
-    → SameNames after (before ++ x ∷ []) → new ≡ again_heard n x (is_among before x)
-    → declared_heard before n (drop i xs) ≡ whole → declared_heard after new (drop (i + 1) xs) ≡ whole
-declared_step before after n new whole i xs x within is same now so_far =
-    heard_same after (before ++ x ∷ []) (drop (i + 1) xs) new same
-    ∙ ap (λ k. declared_heard (before ++ x ∷ []) k (drop (i + 1) xs)) now
-    ∙ ap (λ ys. declared_heard before n ys) (sym (drop_read xs i x within is))
-    ∙ so_far
+  heard_push : (before : List Name) (n : Notes) (xs : List Name) (x : Name)
+      → names_heard again before n (xs ++ x ∷ []) ≡ again_heard (names_heard again before n xs) x (again x (is_among (before ++ xs) x))
+  heard_push before n [] x = ap (λ ys. again_heard n x (again x (is_among ys x))) (sym (append-nil before))
+  heard_push before n (y ∷ xs) x =
+      let next = again_heard n y (again y (is_among before y)) in
+      heard_push (before ++ y ∷ []) next xs x
+      ∙ ap (λ ys. again_heard (names_heard again (before ++ y ∷ []) next xs) x (again x (is_among ys x))) (append_assoc before (y ∷ []) xs)
 
-pub declared_end : (before : List Name) (n whole : Notes) (i : ℕ) (xs : List Name) → length xs ≤ i → declared_heard before n (drop i xs) ≡ whole → n ≡ whole
-declared_end before n whole i xs at_end so_far = ap (λ ys. declared_heard before n ys) (sym (drop_of_length-le xs at_end)) ∙ so_far
+  pub heard_step : (before seen : List Name) (start n new : Notes) (i : ℕ) (xs : List Name) (x : Name) → i < length xs → x ≡ get_or xs i x
+      → SameNames seen (before ++ take i xs) → n ≡ names_heard again before start (take i xs) → new ≡ again_heard n x (again x (is_among seen x))
+      → new ≡ names_heard again before start (take (i + 1) xs)
+  heard_step before seen start n new i xs x within is same so_far now =
+      now
+      ∙ (λ j. again_heard (so_far j) x (again x (same x j)))
+      ∙ sym (heard_push before start (take i xs) x)
+      ∙ ap (λ ys. names_heard again before start ys) (sym (take_read xs i x within is))
 
-pub names_step : (new old whole : List Name) (i : ℕ) (xs : List Name) (x : Name) → i < length xs → x ≡ get_or xs i x → SameNames new (old ++ x ∷ [])
-    → SameNames (old ++ drop i xs) whole → SameNames (new ++ drop (i + 1) xs) whole
-names_step new old whole i xs x within is now so_far y =
-    same_names-append new (old ++ x ∷ []) (drop (i + 1) xs) now y
-    ∙ ap (λ ys. is_among ys y) (append_assoc old (x ∷ []) (drop (i + 1) xs) ∙ ap (λ ys. old ++ ys) (sym (drop_read xs i x within is)))
-    ∙ so_far y
-
-pub names_end : (old whole : List Name) (i : ℕ) (xs : List Name) → length xs ≤ i → SameNames (old ++ drop i xs) whole → SameNames old whole
-names_end old whole i xs at_end so_far y = ap (λ ys. is_among ys y) (sym (append-nil old) ∙ ap (λ ys. old ++ ys) (sym (drop_of_length-le xs at_end))) ∙ so_far y
-
-module _ (m : Meanings) where
-  parameters_same : (xs ys zs : List Name) (n : Notes) → SameNames xs ys → parameters_heard m xs n zs ≡ parameters_heard m ys n zs
-  parameters_same xs ys [] n same = refl
-  parameters_same xs ys (z ∷ zs) n same =
-      ap (λ b. parameters_heard m (xs ++ z ∷ []) (again_heard n z (b || is_constant (m z))) zs) (same z)
-      ∙ parameters_same (xs ++ z ∷ []) (ys ++ z ∷ []) zs (again_heard n z (is_among ys z || is_constant (m z))) (same_names-append xs ys (z ∷ []) same)
-
-  pub parameters_step : (before after : List Name) (n new whole : Notes) (i : ℕ) (xs : List Name) (x : Name) → i < length xs → x ≡ get_or xs i x
-      → SameNames after (before ++ x ∷ []) → new ≡ again_heard n x (is_among before x || is_constant (m x))
-      → parameters_heard m before n (drop i xs) ≡ whole → parameters_heard m after new (drop (i + 1) xs) ≡ whole
-  parameters_step before after n new whole i xs x within is same now so_far =
-      parameters_same after (before ++ x ∷ []) (drop (i + 1) xs) new same
-      ∙ ap (λ k. parameters_heard m (before ++ x ∷ []) k (drop (i + 1) xs)) now
-      ∙ ap (λ ys. parameters_heard m before n ys) (sym (drop_read xs i x within is))
-      ∙ so_far
-
-  pub parameters_end : (before : List Name) (n whole : Notes) (i : ℕ) (xs : List Name) → length xs ≤ i → parameters_heard m before n (drop i xs) ≡ whole → n ≡ whole
-  parameters_end before n whole i xs at_end so_far = ap (λ ys. parameters_heard m before n ys) (sym (drop_of_length-le xs at_end)) ∙ so_far
-
-  pub types_step : (kinds : List Kind) (n new whole : Notes) (i : ℕ) (ts : List Tree) (t : Tree) → i < length ts → t ≡ get_or ts i t
-      → new ≡ heard_all m kinds n (tree_says m t data_place [])
-      → heard_all m kinds n (types_say m kinds (drop i ts)) ≡ whole → heard_all m kinds new (types_say m kinds (drop (i + 1) ts)) ≡ whole
-  types_step kinds n new whole i ts t within is now so_far =
-      ap (λ k. heard_all m kinds k (types_say m kinds (drop (i + 1) ts))) now
-      ∙ sym (heard_all-append m kinds n (tree_says m t data_place []) (types_say m kinds (drop (i + 1) ts)))
-      ∙ ap (λ us. heard_all m kinds n (types_say m kinds us)) (sym (drop_read ts i t within is))
-      ∙ so_far
-
-  pub types_end : (kinds : List Kind) (n whole : Notes) (i : ℕ) (ts : List Tree) → length ts ≤ i → heard_all m kinds n (types_say m kinds (drop i ts)) ≡ whole → n ≡ whole
-  types_end kinds n whole i ts at_end so_far = ap (λ us. heard_all m kinds n (types_say m kinds us)) (sym (drop_of_length-le ts at_end)) ∙ so_far
-
--- the body of a process is not expanded
-pub process_body : (m : Meanings) (kinds : List Kind) (c : Class) (os : List Occurrence) (b : Body) (n : Notes) → class.Process ≡ c → n ≡ nothing_heard → b ≡ n.body
-    → b ≡ body_of (expanded_body m kinds c os)
-process_body m kinds c os b n is none now =
-    now ∙ ap (λ (k : Notes). k.body) none ∙ body_heard m kinds [] ∙ ap (λ e. body_of (expanded_body m kinds e os)) is
-
-pub fault_now : (m : Meanings) (kinds : List Kind) (depths : List ℕ) (k new : Known) (d : Decl) (n n1 : Notes) (found : Findings) (deep : Bool) (f : Option ResolveFault)
-    → n ≡ nothing_heard → n1 ≡ heard_all m kinds n (says_after m kinds k d) → new.declarations ≡ k.declarations → new.definitions ≡ k.definitions
-    → deep ≡ deep_at kinds depths new.definitions d → found ≡ n1.findings → f ≡ told new.declarations found deep → f ≡ fault_after m kinds depths k d
-fault_now m kinds depths k new d n n1 found deep f none heard declarations definitions deep_is found_is told_is =
-    let says = says_after m kinds k d in
-    let all : found ≡ findings_of m kinds says =
-    found_is ∙ ap (λ (p : Notes). p.findings) (heard ∙ ap (λ (p : Notes). heard_all m kinds p says) none) ∙ findings_heard m kinds says in
-    told_is
-    ∙ (λ i. told (declarations i) (all i) (deep_is i))
-    ∙ ap (λ n. told k.declarations (findings_of m kinds says) (deep_at kinds depths n d)) definitions
-
--- a datatype is a node without parts
-pub datatype_body : (m : Meanings) (kinds : List Kind) (d : Decl) (x : Name) (ks : List Name) (old new : List Body) (b : Body) (n : Notes) → d ≡ decl.Datatype x ks → n ≡ nothing_heard → b ≡ n.body → new ≡ old ++ b ∷ []
-    → new ≡ old ++ map body_of (bodies_from m kinds (length old) (d ∷ []))
-datatype_body m kinds d x ks old new b n is none now pushed =
-    pushed
-    ∙ ap (λ c. old ++ c ∷ []) (now ∙ ap (λ (p : Notes). p.body) none ∙ body_heard m kinds [])
-    ∙ ap (λ e. old ++ map body_of (bodies_from m kinds (length old) (e ∷ []))) (sym is)
+pub names_step : (before seen after : List Name) (i : ℕ) (xs : List Name) (x : Name) → i < length xs → x ≡ get_or xs i x → SameNames after (seen ++ x ∷ [])
+    → SameNames seen (before ++ take i xs) → SameNames after (before ++ take (i + 1) xs)
+names_step before seen after i xs x within is now same =
+    more_names after seen (before ++ take i xs) (x ∷ []) (before ++ take (i + 1) xs) now same
+    (ap (λ ys. before ++ ys) (take_read xs i x within is) ∙ sym (append_assoc before (take i xs) (x ∷ [])))

@@ -1,3 +1,2 @@
 pub mod DepthLemmas
 pub mod KnownLemmas
-pub mod DeclLemmas

@@ -56,16 +56,18 @@ pub record IsNext (k : Known) (d : Decl) (new : Known) : Type 0 where
   pub roles : SameNames new.roles (k.roles ++ with_roles d)
   pub uses : SameNames new.uses (k.uses ++ with_uses d)
 
--- what is noted after names that are declared after others
+-- what is noted after names that come after others, where `again` says which of them may not come: those that stand before, or others besides
+abbrev pub names_heard : (Name → Bool → Bool) → List Name → Notes → List Name → Notes
+names_heard again before n [] = n
+names_heard again before n (x ∷ xs) = names_heard again (before ++ x ∷ []) (again_heard n x (again x (is_among before x))) xs
+
+-- after names that are declared
 abbrev pub declared_heard : List Name → Notes → List Name → Notes
-declared_heard before n [] = n
-declared_heard before n (x ∷ xs) = declared_heard (before ++ x ∷ []) (again_heard n x (is_among before x)) xs
+declared_heard = names_heard (λ x known. known)
 
 -- and after parameters
 abbrev pub parameters_heard : Meanings → List Name → Notes → List Name → Notes
-parameters_heard meanings before n [] = n
-parameters_heard meanings before n (x ∷ xs) =
-    parameters_heard meanings (before ++ x ∷ []) (again_heard n x (is_among before x || is_constant (meanings x))) xs
+parameters_heard meanings = names_heard (λ x known. known || is_constant (meanings x))
 
 module _ (meanings : Meanings) (kinds : List Kind) where
   -- what an annotation of roles says, after those of these processes

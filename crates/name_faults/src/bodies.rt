@@ -14,6 +14,7 @@ use csp_text::{Decl, Tree};
 use name_notes::{Body, Notes, note_tree};
 use name_tables::Meanings;
 use script_names::{Class, Place};
+use std::alloc::Global;
 
 /// How deep the body of each definition reaches, as far as it is expanded where the definition is used.
 pub(crate) fn bodies_of(meanings: &Meanings<'_>, decls: &[Decl]) -> Result<Items<Body>, NoMemory>
@@ -38,7 +39,7 @@ fn add_body(meanings: &Meanings<'_>, bodies: &mut Items<Body>, decl: &Decl) -> R
         Decl::Nametype(_, tree) => {
             bodies.push_made(body_at(meanings, &[], places::data_place(), tree))
         }
-        Decl::Datatype(_, _) => bodies.push(Notes::new(meanings.alloc).into_body()),
+        Decl::Datatype(_, _) => bodies.push(no_body(meanings.alloc)),
         Decl::Channel(_, _) | Decl::Assert(_) | Decl::Roles(_) | Decl::Resource(_) => Ok(()),
     }
 }
@@ -53,7 +54,7 @@ fn expanded_body(
     ensures { IfOk result (λ body. body ≡ found.body_of (expanded_body (first_of meanings.now.names.now) meanings.now.kinds.now (kind_class (slice_get meanings.now.kinds.now d)) (tree_says (first_of meanings.now.names.now) tree.now (body_place (slice_get meanings.now.kinds.now d)) params.now))) }
 {
     match places::class_at(meanings.kinds, d) {
-        Class::Process => Ok(Notes::new(meanings.alloc).into_body()),
+        Class::Process => Ok(no_body(meanings.alloc)),
         Class::Data | Class::Unknown => {
             body_at(
                 meanings,
@@ -65,7 +66,16 @@ fn expanded_body(
     }
 }
 
+// How deep a body reaches that says nothing.
+#[tactic(auto, unfolding(name_notes::specs::Heard::nothing_heard))]
+fn no_body(alloc: Global) -> Body
+    ensures { result ≡ found.body_of [] }
+{
+    Notes::new(alloc).into_body()
+}
+
 // How deep a tree reaches.
+#[tactic(auto, using(name_notes::proofs::HeardLemmas::body_heard))]
 fn body_at(
     meanings: &Meanings<'_>,
     params: &[Name],

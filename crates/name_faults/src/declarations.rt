@@ -20,6 +20,7 @@ use script_names::{Place, Sense, Use};
 use std::alloc::Global;
 
 /// Notes what a declaration says that comes after those that are known.
+#[tactic(auto, using(crate::proofs::KnownLemmas::heard_names))]
 pub(crate) fn note_decl(
     meanings: &Meanings<'_>,
     known: &mut Known,
@@ -207,7 +208,7 @@ fn note_parameters(
     noted
 }
 
-// Notes parameters, of which none comes before the first.
+// Notes parameters that come after others.
 fn note_each(
     alloc: Global,
     names: &Dictionary,
@@ -215,8 +216,7 @@ fn note_each(
     notes: &mut Notes,
     xs: &[Name],
 ) -> Result<(), NoMemory>
-    requires { before.old ≡ [] }
-    ensures { OnOk result (notes.new ≡ parameters_heard (first_of names.now) [] notes.old xs.now) }
+    ensures { OnOk result (notes.new ≡ parameters_heard (first_of names.now) before.old notes.old xs.now) }
 {
     for x in xs {
         let repeats = before.add(alloc, x)?;

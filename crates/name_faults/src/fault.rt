@@ -71,6 +71,7 @@ fn first_after(
 }
 
 // The fault of a declaration that comes after those that are known.
+#[tactic(auto, using(name_notes::proofs::HeardLemmas::findings_heard))]
 fn fault_in(
     meanings: &Meanings<'_>,
     depths: &[u32],

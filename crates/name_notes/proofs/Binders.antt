@@ -1,7 +1,6 @@
 -- The names that generators and fields bind.
-use Rattle.std.proofs.Common.{◌≡◌, ℕ, zero, suc, Option, Some, None, List, [], ◌∷◌, ◌++◌, length, map, take, drop, get_or, ◌+◌, ◌<◌, ◌≤◌, append_assoc, refl, ap, sym, ◌∙◌}
-use Rattle.std.proofs.Math.ListN.{drop_of_length-le}
-use Rattle.std.proofs.lemmas.List.{append-nil}
+use Rattle.std.proofs.Common.{◌≡◌, ℕ, Option, Some, None, List, [], ◌∷◌, ◌++◌, length, take, ap, sym, ◌∙◌}
+use Rattle.std.proofs.Math.Seq.{take-append_seam}
 use Rattle.csp_text.specs.declared.tree.FieldTree.{FieldTree}
 use Rattle.csp_text.specs.declared.tree.FieldTree.TheFolds.{fold-roll-FieldTree, fold-roll-GenTree}
 use Rattle.csp_text.specs.declared.tree.FieldTree.TheOpen.{FieldTree-F, GenTree-F}
@@ -15,7 +14,6 @@ use Rattle.csp_text.specs.declared.tree.Tree.{Tree}
 use Rattle.script_names.specs.Names.{Name, Meanings}
 use Rattle.script_names.specs.Says.{Binder, Fields, Said, event_says_of_layer, field_says_of_layer, gen_says_of_layer, part_says_of_layer, tree_says_of_layer}
 use Rattle.name_notes.specs.Told.{field_binder, field_names, gen_binder, gen_names, names_of_field, names_of_gen}
-use Rattle.csp_base.proofs.Lists.{drop_read}
 
 pub gen_names-From : (x : List ℕ) (s : Tree) → gen_names (generator.From x s) ≡ x ∷ []
 unfolding gen_names
@@ -37,31 +35,9 @@ pub field_names-Input : (x : List ℕ) (s : Option Tree) → field_names (field.
 unfolding field_names
 field_names-Input x s = ap field_names (sym (field.rolls-Input x s)) ∙ ap (λ (d : FieldTree-F FieldTree GenTree Tree EventTree PartTree). names_of_field d) (out-roll-FieldTree (FieldTree-F.Input x s))
 
--- a list after which others were bound, without them
-pub take-front : (xs ys : List Name) → take (length xs) (xs ++ ys) ≡ xs
-take-front [] ys = refl
-take-front (x ∷ xs) ys = ap (λ zs. x ∷ zs) (take-front xs ys)
-
 -- bound names that are left again
 pub restored : (new b1 b2 old more : List Name) (mark : ℕ) → mark ≡ length old → b1 ≡ old ++ more → b2 ≡ b1 → new ≡ take mark b2 → new ≡ old
-restored new b1 b2 old more mark mark_is bound kept left = left ∙ (λ i. take (mark_is i) ((kept ∙ bound) i)) ∙ take-front old more
-
-pub map-take : {X Y : Type 0} (f : X → Y) (n : ℕ) (xs : List X) → map f (take n xs) ≡ take n (map f xs)
-map-take f zero xs = refl
-map-take f (suc n) [] = refl
-map-take f (suc n) (x ∷ xs) = ap (λ ys. f x ∷ ys) (map-take f n xs)
-
--- one more name, and no more
-pub bound_step : (new old whole : List Name) (i : ℕ) (xs : List Name) (x : Name) → i < length xs → x ≡ get_or xs i x → new ≡ old ++ x ∷ []
-    → old ++ drop i xs ≡ whole → new ++ drop (i + 1) xs ≡ whole
-bound_step new old whole i xs x within is now so_far =
-    ap (λ ys. ys ++ drop (i + 1) xs) now
-    ∙ append_assoc old (x ∷ []) (drop (i + 1) xs)
-    ∙ ap (λ ys. old ++ ys) (sym (drop_read xs i x within is))
-    ∙ so_far
-
-pub bound_end : (old whole : List Name) (i : ℕ) (xs : List Name) → length xs ≤ i → old ++ drop i xs ≡ whole → old ≡ whole
-bound_end old whole i xs at_end so_far = sym (append-nil old) ∙ ap (λ ys. old ++ ys) (sym (drop_of_length-le xs at_end)) ∙ so_far
+restored new b1 b2 old more mark mark_is bound kept left = left ∙ (λ i. take (mark_is i) ((kept ∙ bound) i)) ∙ take-append_seam old more
 
 pub ruleset bound_names = (gen_names-From, gen_names-Cond, field_names-Dot, field_names-Output, field_names-Input)
 

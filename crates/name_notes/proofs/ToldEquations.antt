@@ -28,26 +28,22 @@ use Rattle.name_notes.specs.declared.notes.Notes.{Notes}
 use Rattle.name_notes.specs.Heard.{again_heard, form_heard, heard, heard_all, parallel_heard, use_heard}
 use Rattle.name_notes.specs.Told.{event_fields, field_binder, field_names, field_told, fields_told, gen_binder, gen_names, gen_told, gens_told, pair_fields, pair_told, pairs_told, part_fields, part_told, parts_told, tree_told, trees_told}
 use Rattle.name_notes.proofs.Binders.{field_binds, gen_binds}
-use Rattle.std.proofs.lemmas.List.{length-map}
+use Rattle.std.proofs.lemmas.List.{append-nil, length-map}
 
 abbrev Layer : Type 0
 Layer = Tree-F FieldTree GenTree Tree EventTree PartTree
 
-nothing_after : (xs : List Name) → xs ≡ xs ++ []
-nothing_after [] = refl
-nothing_after (x ∷ xs) = ap (λ ys. x ∷ ys) (nothing_after xs)
-
 module _ (m : Meanings) where
   -- the names that are bound after generators, and after fields
   under-gens : (gens : List GenTree) (names : List Name) → under (map (gen_binder m) gens) names ≡ names ++ flat_map gen_names gens
-  under-gens [] names = nothing_after names
+  under-gens [] names = sym (append-nil names)
   under-gens (g ∷ gens) names =
       under-gens gens (names ++ (gen_binder m g).names)
       ∙ ap (λ ys. (names ++ ys) ++ flat_map gen_names gens) (gen_binds m g)
       ∙ append_assoc names (gen_names g) (flat_map gen_names gens)
 
   under-fields : (fields : List FieldTree) (names : List Name) → under (map (field_binder m) fields) names ≡ names ++ flat_map field_names fields
-  under-fields [] names = nothing_after names
+  under-fields [] names = sym (append-nil names)
   under-fields (f ∷ fields) names =
       under-fields fields (names ++ (field_binder m f).names)
       ∙ ap (λ ys. (names ++ ys) ++ flat_map field_names fields) (field_binds m f)

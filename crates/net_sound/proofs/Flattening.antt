@@ -1,7 +1,8 @@
 -- In a well-nested tree the steps of the tree are the flat steps over its leaves, and a step keeps the nesting.
-use Rattle.std.proofs.Common.{◌≡◌, ℕ, inl, inr, List, [], ◌∷◌, ◌++◌, Bool, true, false, ◌||◌, refl, sym, ap, ap₂, subst, ◌∙◌}
+use Rattle.std.proofs.Common.{◌≡◌, ℕ, inl, inr, List, [], ◌∷◌, ◌++◌, false, ◌||◌, refl, sym, ap, ap₂, subst, ◌∙◌}
 use Rattle.std.proofs.lemmas.Bool.{MatchBool-at_true, or_cases, or_left, false≢true, cases_Bool}
 use Rattle.csp_base.specs.Members.{has}
+use Rattle.csp_base.proofs.Booleans.{or_regroup}
 use Rattle.csp_tables.specs.Label.{Label}
 use Rattle.csp_tables.specs.Label.Label.{silent, visible}
 use Rattle.csp_tables.specs.Network.{Component, ComponentStep, Tree, Operands, in_some_alphabet, NetworkStep, OneSilent, AllTogether, leaves, leaves_of_operands}
@@ -15,11 +16,7 @@ use Rattle.net_sound.proofs.FlatLists.{alphabets, by_test, match_true, match_fal
 -- an event is in an operand's alphabet exactly where it is in a component's
 some_append : {T : Type 0} (xs ys : List (Component T)) (e : ℕ) → in_some_component (xs ++ ys) e ≡ (in_some_component xs e || in_some_component ys e)
 some_append [] ys e = refl
-some_append (x ∷ xs) ys e = ap (λ b. has x.alphabet e || b) (some_append xs ys e) ∙ or_assoc (has x.alphabet e) (in_some_component xs e) (in_some_component ys e)
-  where
-    or_assoc : (a b c : Bool) → (a || (b || c)) ≡ ((a || b) || c)
-    or_assoc true b c = refl
-    or_assoc false b c = refl
+some_append (x ∷ xs) ys e = ap (λ b. has x.alphabet e || b) (some_append xs ys e) ∙ or_regroup (has x.alphabet e) (in_some_component xs e) (in_some_component ys e)
 
 pub same_events : {T : Type 0} (os : Operands T) (e : ℕ) → OperandsWellNested os → in_some_alphabet os e ≡ in_some_component (leaves_of_operands os) e
 same_events none e w = refl

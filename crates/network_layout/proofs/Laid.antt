@@ -10,13 +10,14 @@ use Rattle.csp_tables.specs.Network.Tree.{leaf, parallel}
 use Rattle.csp_tables.specs.Network.Operands.{none, operand}
 use Rattle.network_trees.specs.Joint.{joint, odd_event}
 use Rattle.network_trees.specs.NetworkOf.{Walked, agreed, next_component, goes_on, nested, operand_first, side_by_side, tree_within}
-use Rattle.network_trees.proofs.InOrder.{makes_tree}
 use Rattle.network_layout.specs.Lays.{Differs, Fails, IsLaid, Lays, operand_walked, two}
 use Rattle.network_layout.proofs.Passed.{lays_fault}
 use Rattle.network_layout.proofs.Together.{joint-append}
 use Rattle.csp_program.specs.declared.networks.Net.{Net}
 use Rattle.csp_program.specs.declared.processes.Proc.{Proc}
 use Rattle.csp_program.specs.declared.programs.Content.{Content}
+use Rattle.network_layout.specs.declared.fault.Unlaid.{Unlaid}
+use Rattle.network_layout.specs.declared.fault.Unlaid.TheVariants as unlaid
 use Rattle.network_trees.specs.declared.fault.LayoutFault.{LayoutFault}
 use Rattle.network_trees.specs.declared.fault.LayoutFault.TheVariants as fault
 
@@ -58,16 +59,11 @@ operand_agrees p levels alphabet n old new events laid agree =
     }
 
 -- the fault of an operand that differs from its alphabet
-bad_nesting : (k : ℕ) (tree : Tree Proc) (count : ℕ) (odd : Option ℕ) (f : LayoutFault) → count ≡ length (leaves tree) → Differs f k count odd → Fails f (agreed k tree odd)
-bad_nesting k tree count odd fault.NoMemory is h = tt
-bad_nesting k tree count odd (fault.Value why) is h = absurd h
-bad_nesting k tree count odd (fault.BadNesting j n e) is h =
-    ap (agreed k tree) h.2 ∙ (ap (λ c. Err (fault.BadNesting k c e)) (sym (h.1 ∙ is)) ∙ ap (λ i. Err (fault.BadNesting i n e)) (sym h.0))
-bad_nesting k tree count odd fault.EmptyNetwork is h = absurd h
-bad_nesting k tree count odd fault.ComponentLimit is h = absurd h
-bad_nesting k tree count odd fault.NetworkDepth is h = absurd h
+bad_nesting : (k : ℕ) (tree : Tree Proc) (count : ℕ) (odd : Option ℕ) (u : Unlaid) → count ≡ length (leaves tree) → Differs u k count odd → Fails u (agreed k tree odd)
+bad_nesting k tree count odd unlaid.NoMemory is h = tt
+bad_nesting k tree count odd (unlaid.Refused f) is h = ap (agreed k tree) h.1 ∙ (ap (λ n. Err (fault.BadNesting k n h.0)) (sym is) ∙ ap (λ g. Err g) (sym h.2))
 
-pub operand_differs : (r : Result (List ℕ) LayoutFault) (f : LayoutFault) (p : Content) (levels : ℕ) (alphabet : List ℕ) (n : Net) (old new : List (Component Proc)) (events : List ℕ) (first end : ℕ)
+pub operand_differs : (r : Result (List ℕ) Unlaid) (f : Unlaid) (p : Content) (levels : ℕ) (alphabet : List ℕ) (n : Net) (old new : List (Component Proc)) (events : List ℕ) (first end : ℕ)
     → IsErrAnd r (λ y. y ≡ f) → IsLaid (tree_within p levels (length old) alphabet n) old new events → first ≡ length old → end ≡ length new
     → Differs f first (end - first) (odd_event alphabet events) → Lays r (operand_walked p levels (length old) alphabet n) old new
 operand_differs r f p levels alphabet n old new events first end is laid begins ends differs =
@@ -80,7 +76,7 @@ operand_differs r f p levels alphabet n old new events first end is laid begins 
 
 -- ---- an operand before others
 
-pub first_fault : (p : Content) (levels k : ℕ) (alphabet : List ℕ) (n : Net) (others : ℕ → Walked (Operands Proc)) (f : LayoutFault)
+pub first_fault : (p : Content) (levels k : ℕ) (alphabet : List ℕ) (n : Net) (others : ℕ → Walked (Operands Proc)) (f : LayoutFault ℕ)
     → operand_walked p levels k alphabet n ≡ Err f → operand_first p (tree_within p levels) k alphabet n others ≡ Err f
 unfolding operand_walked
 first_fault p levels k alphabet n others f is =
@@ -99,7 +95,7 @@ module _ (p : Content) (levels : ℕ) (left : List ℕ) (n : Net) (right : List 
   second : ℕ → Walked (Operands Proc)
   second j = operand_first p (tree_within p levels) j right m (λ _. Ok none)
 
-  pub pair_fault : (k : ℕ) (f : LayoutFault) → operand_walked p levels k left n ≡ Err f → two p levels k left n right m ≡ Err f
+  pub pair_fault : (k : ℕ) (f : LayoutFault ℕ) → operand_walked p levels k left n ≡ Err f → two p levels k left n right m ≡ Err f
   unfolding two second
   pair_fault k f is = ap (side_by_side p (tree_within p levels)) (first_fault p levels k left n second f is)
 
@@ -108,7 +104,7 @@ module _ (p : Content) (levels : ℕ) (left : List ℕ) (n : Net) (right : List 
   unfolding two second
   pair_first k tree is = ap (side_by_side p (tree_within p levels)) (first_made p levels k left n second tree is)
 
-  pub pair_second_fault : (old mid : List (Component Proc)) (events : List ℕ) (f : LayoutFault) → IsLaid (operand_walked p levels (length old) left n) old mid events
+  pub pair_second_fault : (old mid : List (Component Proc)) (events : List ℕ) (f : LayoutFault ℕ) → IsLaid (operand_walked p levels (length old) left n) old mid events
       → operand_walked p levels (length mid) right m ≡ Err f → two p levels (length old) left n right m ≡ Err f
   unfolding second
   pair_second_fault old mid events f laid is =
@@ -137,12 +133,3 @@ module _ (p : Content) (levels : ℕ) (left : List ℕ) (n : Net) (right : List 
         together = together ∙ (ap (λ xs. union_of xs next) one.together ∙ (ap (union_of (joint (leaves one.tree))) other.together ∙
             (sym (joint-append (leaves one.tree) (leaves other.tree)) ∙ ap (λ xs. joint (leaves one.tree ++ xs)) (sym (append-nil (leaves other.tree))))));
       }
-
--- ---- how many components there are
-
-pub few_seats : (p : Content) (levels : ℕ) (alphabet : List ℕ) (n : Net) (old new : List (Component Proc)) (events : List ℕ)
-    → length old ≤ 512 → IsLaid (tree_within p levels (length old) alphabet n) old new events → length new ≤ 512
-few_seats p levels alphabet n old new events fits laid =
-    let more : length new ≡ length old + length (leaves laid.tree) = grown_by (tree_within p levels (length old) alphabet n) old new events laid in
-    let few : length old + length (leaves laid.tree) ≤ 512 = (makes_tree p levels alphabet n (length old) laid.tree fits laid.made).few in
-    omega arith

@@ -4,11 +4,11 @@ use Rattle.std.specs.Prelude.{slice_get}
 use Rattle.csp_program.specs.Outcome.{Outcome, and_then}
 use Rattle.process_steps.specs.Needed.{all_outcomes}
 use Rattle.network_trees.specs.Annotations.{IsFirstWithout}
-use Rattle.network_layout.specs.Lays.{Lacks}
-use Rattle.network_layout.specs.Told.{IsUntold, TellsNoted}
+use Rattle.network_layout.specs.Told.{IsUntold, noted_fault}
 use Rattle.network_layout.specs.declared.told.NotedFault.{NotedFault}
-use Rattle.network_layout.specs.declared.told.NotedFault.TheVariants as noted
-use Rattle.network_trees.specs.declared.fault.LayoutFault.{LayoutFault}
+use Rattle.value_operators.specs.Gives.{Gives}
+use Rattle.value_operators.specs.declared.fault.EvalFault.{EvalFault}
+use Rattle.value_operators.specs.declared.fault.EvalFault.TheVariants as evaluation
 use Rattle.csp_program.specs.declared.kinds.ValueKind.{ValueKind}
 use Rattle.csp_program.specs.declared.processes.Proc.{Proc}
 use Rattle.csp_tables.specs.Network.{Component}
@@ -82,12 +82,10 @@ first_without f seats i c ys why far lt is bad =
     }
 
 -- the fault of the first component without
-pub untold_first : {A : Type 0} (f : Component Proc → Outcome A) (seats : List (Component Proc)) (i : ℕ) (c : Component Proc) (ys : List A) (r : NotedFault) (why : LayoutFault)
-    → all_outcomes f (take i seats) ≡ Ok ys → i < length seats → c ≡ get_or seats i c → Lacks why (f c) → TellsNoted r why i → IsUntold f seats r
-untold_first f seats i c ys noted.NoMemory why far lt is bad tells = tt
-untold_first f seats i c ys (noted.Value part k) why far lt is bad tells =
-    let lacks : f c ≡ Err k = subst (λ w. Lacks w (f c)) tells.1 bad in
-    subst (λ j. IsFirstWithout f seats j k) (sym tells.0) (first_without f seats i c ys k far lt is lacks)
+pub untold_first : {A : Type 0} (f : Component Proc → Outcome A) (seats : List (Component Proc)) (i : ℕ) (c : Component Proc) (ys : List A) (r : NotedFault) (e : EvalFault)
+    → all_outcomes f (take i seats) ≡ Ok ys → i < length seats → c ≡ get_or seats i c → Gives {A = A} (Err e) (f c) → r ≡ noted_fault i e → IsUntold f seats r
+untold_first f seats i c ys r evaluation.NoMemory far lt is bad tells = subst (IsUntold f seats) (sym tells) tt
+untold_first f seats i c ys r (evaluation.Value k) far lt is bad tells = subst (IsUntold f seats) (sym tells) (first_without f seats i c ys k far lt is bad)
 
 -- the front of a list that is the whole
 pub told_end : {C A : Type 0} (f : C → Outcome A) (xs : List C) (i : ℕ) (ys : List A) → all_outcomes f (take i xs) ≡ Ok ys → length xs ≤ i → all_outcomes f xs ≡ Ok ys

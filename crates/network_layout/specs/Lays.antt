@@ -1,6 +1,5 @@
 -- What the calls of the walk of a network answer. A fault is that of the definition, and want of memory is free.
 use Rattle.std.specs.Prelude.{◌≡◌, ℕ, ◌+◌, Option, Some, None, Result, Ok, Err, List, ◌++◌}
-use Rattle.csp_program.specs.Outcome.{Outcome}
 use Rattle.csp_program.specs.Substitution.{expr_with, net_with}
 use Rattle.csp_tables.specs.Network.{Component, Tree, leaves}
 use Rattle.process_steps.specs.Needed.{events_in}
@@ -13,30 +12,21 @@ use Rattle.csp_program.specs.declared.networks.Net.{Net}
 use Rattle.csp_program.specs.declared.networks.Net.TheOpen.{Net-F}
 use Rattle.csp_program.specs.declared.processes.Proc.{Proc}
 use Rattle.csp_program.specs.declared.programs.Content.{Content}
-use Rattle.network_trees.specs.declared.fault.LayoutFault.{LayoutFault}
+use Rattle.network_layout.specs.declared.fault.Unlaid.{Unlaid}
+use Rattle.network_layout.specs.declared.fault.Unlaid.TheVariants as unlaid
 use Rattle.network_trees.specs.declared.fault.LayoutFault.TheVariants as fault
+use Rattle.value_operators.specs.declared.fault.EvalFault.{EvalFault}
+use Rattle.value_operators.specs.declared.fault.EvalFault.TheVariants as evaluation
 
 -- the fault is the one that the walk meets
-abbrev pub Fails : {A : Type 0} → LayoutFault → Walked A → Type 0
-Fails fault.NoMemory outcome = Unit {0}
-Fails (fault.Value why) outcome = outcome ≡ Err (fault.Value why)
-Fails (fault.BadNesting first count e) outcome = outcome ≡ Err (fault.BadNesting first count e)
-Fails fault.EmptyNetwork outcome = outcome ≡ Err fault.EmptyNetwork
-Fails fault.ComponentLimit outcome = outcome ≡ Err fault.ComponentLimit
-Fails fault.NetworkDepth outcome = outcome ≡ Err fault.NetworkDepth
+abbrev pub Fails : {A : Type 0} → Unlaid → Walked A → Type 0
+Fails unlaid.NoMemory outcome = Unit {0}
+Fails (unlaid.Refused f) outcome = outcome ≡ Err f
 
--- a value that the walk needs, or why there is none
-abbrev pub Lacks : {A : Type 0} → LayoutFault → Outcome A → Type 0
-Lacks fault.NoMemory outcome = Unit {0}
-Lacks (fault.Value why) outcome = outcome ≡ Err why
-Lacks (fault.BadNesting first count e) outcome = ⊥
-Lacks fault.EmptyNetwork outcome = ⊥
-Lacks fault.ComponentLimit outcome = ⊥
-Lacks fault.NetworkDepth outcome = ⊥
-
-abbrev pub Finds : {A : Type 0} → Result A LayoutFault → Outcome A → Type 0
-Finds (Ok a) outcome = outcome ≡ Ok a
-Finds (Err f) outcome = Lacks f outcome
+-- what a value that there isn't comes to
+abbrev pub valueless : EvalFault → Unlaid
+valueless evaluation.NoMemory = unlaid.NoMemory
+valueless (evaluation.Value why) = unlaid.Refused (fault.Value why)
 
 -- the walk makes a tree, and these are its components
 pub record AreSeats (outcome : Walked (Tree Proc)) (seats : List (Component Proc)) : Type 0 where
@@ -51,20 +41,16 @@ pub record IsLaid (outcome : Walked (Tree Proc)) (old new : List (Component Proc
   pub seats : new ≡ old ++ leaves tree
   pub together : events ≡ joint (leaves tree)
 
-abbrev pub Lays : Result (List ℕ) LayoutFault → Walked (Tree Proc) → List (Component Proc) → List (Component Proc) → Type 0
+abbrev pub Lays : Result (List ℕ) Unlaid → Walked (Tree Proc) → List (Component Proc) → List (Component Proc) → Type 0
 Lays (Ok events) outcome old new = IsLaid outcome old new events
 Lays (Err f) outcome old new = Fails f outcome
 
 -- whether an operand agrees with its alphabet, where this event is the least that only one of the two has
-abbrev pub Differs : LayoutFault → ℕ → ℕ → Option ℕ → Type 0
-Differs fault.NoMemory first count odd = Unit {0}
-Differs (fault.Value why) first count odd = ⊥
-Differs (fault.BadNesting k n e) first count odd = (k ≡ first) × (n ≡ count) × (odd ≡ Some e)
-Differs fault.EmptyNetwork first count odd = ⊥
-Differs fault.ComponentLimit first count odd = ⊥
-Differs fault.NetworkDepth first count odd = ⊥
+abbrev pub Differs : Unlaid → ℕ → ℕ → Option ℕ → Type 0
+Differs unlaid.NoMemory first count odd = Unit {0}
+Differs (unlaid.Refused f) first count odd = (e : ℕ) × (odd ≡ Some e) × (f ≡ fault.BadNesting first count e)
 
-abbrev pub Agrees : {A : Type 0} → Result A LayoutFault → ℕ → ℕ → Option ℕ → Type 0
+abbrev pub Agrees : {A : Type 0} → Result A Unlaid → ℕ → ℕ → Option ℕ → Type 0
 Agrees (Ok a) first count odd = odd ≡ None
 Agrees (Err f) first count odd = Differs f first count odd
 

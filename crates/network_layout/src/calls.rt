@@ -7,16 +7,16 @@ ghost use Rattle.csp_program.specs.Substitution.{expr_with, net_with};
 ghost use Rattle.substitution.specs.Bindings.{net_put};
 ghost use Rattle.process_steps.specs.Needed.{arguments_in, events_in};
 ghost use Rattle.network_trees.specs.NetworkOf.{network_called, network_with};
-ghost use Rattle.network_layout.specs.Lays.{Finds};
+ghost use Rattle.value_operators.specs.Gives.{Gives};
 
 use crate::values::{KIND, Scope, arguments, events_at};
 use containers::Boxed;
 use csp_atoms::{Atom, Value};
 use csp_base::{EventSet, NoMemory};
 use csp_program::{Body, Expr, Net};
-use network_trees::LayoutFault;
 use std::alloc::Global;
 use substitution::{Values, put_net, substitute_net};
+use value_operators::EvalFault;
 
 // A network with a value in place of a name.
 fn with_value(alloc: Global, net: &Net, name: u32, value: &Value) -> Result<Boxed<Net>, NoMemory>
@@ -39,8 +39,8 @@ pub(crate) fn operand_at(
     net: &Net,
     name: u32,
     atom: &Atom,
-) -> Result<(EventSet, Boxed<Net>), LayoutFault>
-    ensures { Finds result (and_then (events_in scope.now.program.now (expr_with name (One atom.now) alphabet.now)) (λ events. Ok (events, net_with name (One atom.now) net.now))) }
+) -> Result<(EventSet, Boxed<Net>), EvalFault>
+    ensures { Gives result (and_then (events_in scope.now.program.now (expr_with name (One atom.now) alphabet.now)) (λ events. Ok (events, net_with name (One atom.now) net.now))) }
 {
     let events = events_at(scope, alphabet, name, atom)?;
     let body = body_at(scope.alloc, net, name, atom)?;
@@ -67,8 +67,8 @@ fn with_values(
 }
 
 // The network of a definition, with these values.
-fn defined(scope: &Scope<'_>, def: u32, values: &[Value]) -> Result<Boxed<Net>, LayoutFault>
-    ensures { Finds result (network_called (slice_get scope.now.program.now.defs def) values.now) }
+fn defined(scope: &Scope<'_>, def: u32, values: &[Value]) -> Result<Boxed<Net>, EvalFault>
+    ensures { Gives result (network_called (slice_get scope.now.program.now.defs def) values.now) }
 {
     match scope.program.content().defs.get(def as usize) {
         None => Err(KIND),
@@ -83,10 +83,9 @@ fn defined(scope: &Scope<'_>, def: u32, values: &[Value]) -> Result<Boxed<Net>, 
 }
 
 // The network that a call of a definition stands for.
-pub(crate) fn called(scope: &Scope<'_>, def: u32, args: &[Expr]) -> Result<Boxed<Net>, LayoutFault>
-    ensures { Finds result (and_then (arguments_in scope.now.program.now args.now) (network_called (slice_get scope.now.program.now.defs def))) }
+pub(crate) fn called(scope: &Scope<'_>, def: u32, args: &[Expr]) -> Result<Boxed<Net>, EvalFault>
+    ensures { Gives result (and_then (arguments_in scope.now.program.now args.now) (network_called (slice_get scope.now.program.now.defs def))) }
 {
     let values = arguments(scope, args)?;
-    let net = defined(scope, def, values.as_slice())?;
-    Ok(net)
+    defined(scope, def, values.as_slice())
 }

@@ -3,6 +3,7 @@
 
 mod calls;
 mod components;
+mod fault;
 mod nesting;
 mod seat;
 mod told;
@@ -11,6 +12,7 @@ mod values;
 mod walk;
 
 pub use components::layout;
+pub use fault::Unlaid;
 pub use seat::{Layout, Seat};
 pub use told::{NotedFault, roles_of, uses_of};
 pub use triple::{TripleFault, triple_disjoint};

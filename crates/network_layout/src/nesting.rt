@@ -1,9 +1,11 @@
 //! Whether an operand has the alphabet of its components together.
 
 ghost use Rattle.std.specs.Prelude.{◌≡◌, ◌≤◌, ◌-◌, IfOk};
+ghost use Rattle.dl_limits.specs.declared.TheConstants.{MOST_COMPONENTS};
 ghost use Rattle.network_trees.specs.Joint.{lesser, odd_event};
 ghost use Rattle.network_layout.specs.Lays.{Agrees};
 
+use crate::fault::Unlaid;
 use csp_base::{Event, EventSet, NoMemory};
 use network_trees::LayoutFault;
 use std::alloc::Global;
@@ -28,16 +30,6 @@ fn odd(alloc: Global, left: &EventSet, right: &EventSet) -> Result<Option<Event>
     Ok(lesser(missing.first_from(Event(0)), extra.first_from(Event(0))))
 }
 
-// A number of 32 bits, which is refused like want of memory where it needs more.
-pub(crate) fn short(n: usize) -> Result<u32, NoMemory>
-    ensures { IfOk result (λ made. made ≡ n) }
-{
-    match u32::try_from(n) {
-        Ok(n) => Ok(n),
-        Err(_) => Err(NoMemory),
-    }
-}
-
 // Refuses an operand that has the components from `first` on, before `end`, and differs from their alphabets together.
 pub(crate) fn agree(
     alloc: Global,
@@ -45,18 +37,17 @@ pub(crate) fn agree(
     end: usize,
     given: &EventSet,
     joint: &EventSet,
-) -> Result<(), LayoutFault>
-    requires { first ≤ end }
+) -> Result<(), Unlaid>
+    requires order { first ≤ end }
+    requires few { end ≤ MOST_COMPONENTS }
     ensures { Agrees result first (end - first) (odd_event given.now joint.now) }
 {
     let Some(event) = odd(alloc, given, joint)? else {
         return Ok(());
     };
-    let count = short(end - first)?;
-    let first = short(first)?;
-    Err(LayoutFault::BadNesting {
-        first,
-        count,
+    Err(Unlaid::Refused(LayoutFault::BadNesting {
+        first: first as u32,
+        count: (end - first) as u32,
         event,
-    })
+    }))
 }

@@ -1,6 +1,7 @@
 //! Seats: a component of a network with its alphabet.
 
-ghost use Rattle.std.specs.Prelude.{◌≡◌, ◌≤◌, ◌&&◌, ◌||◌, ℕ, IfOk, OnOk, length};
+ghost use Rattle.std.specs.Prelude.{◌≡◌, ◌<◌, ◌≤◌, ◌&&◌, ◌||◌, ℕ, [], ◌∷◌, ◌++◌, IfOk, OnOk, length};
+ghost use Rattle.std.specs.Result.{IsOkAnd};
 ghost use Rattle.dl_limits.specs.declared.TheConstants.{MOST_COMPONENTS};
 ghost use Rattle.csp_base.specs.Members.{has};
 ghost use Rattle.network_layout.specs.Triple.{AreCrowded, alphabets};
@@ -63,19 +64,76 @@ impl Seat {
     }
 }
 
-/// The components of a network, from left to right, at most 512.
+// The seats that a walk has taken, at most 512.
 #[derive(Drop)]
-pub struct Layout {
+pub(crate) struct Seats {
     seats: Items<Seat>,
-    crowded: EventSet,
 }
 
-impl Model for Layout {
+impl Model for Seats {
     ghost use Rattle.std.specs.Coded.{codes};
     ghost use Rattle.std.specs.Prelude.{◌≤◌, List, length};
     ghost use Rattle.csp_program.specs.contracts.processes.Proc as process;
     ghost use Rattle.csp_program.specs.declared.processes.Proc.{Proc};
     ghost use Rattle.dl_limits.specs.declared.TheConstants.{MOST_COMPONENTS};
+    ghost use Rattle.csp_tables.specs.Network.{Component};
+
+    ghost Value = { List (Component Proc) };
+
+    ghost coded = { Prim.hlevel (codes, process.the_row.coded) };
+
+    ghost view = { λ s. s.seats };
+
+    ghost invariant = { λ s. length s.seats ≤ MOST_COMPONENTS };
+}
+
+impl Seats {
+    // None yet.
+    pub(crate) fn new(alloc: Global) -> Seats
+        ensures { result ≡ [] }
+    {
+        Seats {
+            seats: Items::new(alloc),
+        }
+    }
+
+    // How many there are.
+    pub(crate) fn len(&self) -> usize
+        ensures value { result ≡ length self.now }
+        ensures few { result ≤ MOST_COMPONENTS }
+    {
+        self.seats.len()
+    }
+
+    // The seats.
+    pub(crate) fn as_slice(&self) -> &[Seat]
+        ensures seats { result.now ≡ self.now }
+        ensures few { length self.now ≤ MOST_COMPONENTS }
+    {
+        self.seats.as_slice()
+    }
+
+    // One more, which was made.
+    pub(crate) fn push_made(&mut self, made: Result<Seat, NoMemory>) -> Result<(), NoMemory>
+        requires room { length self.old < MOST_COMPONENTS }
+        ensures ok { OnOk result (IsOkAnd made (λ seat. self.new ≡ self.old ++ seat ∷ [])) }
+    {
+        self.seats.push_made(made)
+    }
+}
+
+/// The components of a network, from left to right, at most 512.
+#[derive(Drop)]
+pub struct Layout {
+    seats: Seats,
+    crowded: EventSet,
+}
+
+impl Model for Layout {
+    ghost use Rattle.std.specs.Coded.{codes};
+    ghost use Rattle.std.specs.Prelude.{List};
+    ghost use Rattle.csp_program.specs.contracts.processes.Proc as process;
+    ghost use Rattle.csp_program.specs.declared.processes.Proc.{Proc};
     ghost use Rattle.csp_tables.specs.Network.{Component};
     ghost use Rattle.network_layout.specs.Triple.{AreCrowded, alphabets};
 
@@ -85,13 +143,12 @@ impl Model for Layout {
 
     ghost view = { λ l. l.seats };
 
-    ghost invariant = { λ l. (length l.seats ≤ MOST_COMPONENTS) × AreCrowded (alphabets l.seats) l.crowded };
+    ghost invariant = { λ l. AreCrowded (alphabets l.seats) l.crowded };
 }
 
 impl Layout {
-    /// The components of the list, which are at most 512.
-    pub fn new(alloc: Global, seats: Items<Seat>) -> Result<Layout, NoMemory>
-        requires few { length seats ≤ MOST_COMPONENTS }
+    // The components in these seats.
+    pub(crate) fn new(alloc: Global, seats: Seats) -> Result<Layout, NoMemory>
         ensures { IfOk result (λ made. made ≡ seats) }
     {
         let crowded = crowded(alloc, seats.as_slice())?;

@@ -5,8 +5,8 @@ ghost use Rattle.dl_limits.specs.declared.TheConstants.{MOST_COMPONENTS};
 ghost use Rattle.std.specs.Option.{option_copied};
 ghost use Rattle.process_steps.specs.Needed.{all_outcomes};
 ghost use Rattle.network_trees.specs.Annotations.{component_roles, component_uses, resource_note, roles_note, told_roles, told_set, told_uses};
-ghost use Rattle.network_layout.specs.Lays.{Finds};
-ghost use Rattle.network_layout.specs.Told.{IsUntold, TellsNoted};
+ghost use Rattle.network_layout.specs.Told.{IsUntold, noted_fault};
+ghost use Rattle.value_operators.specs.Gives.{Gives};
 
 use crate::seat::{Layout, Seat};
 use crate::values::{Scope, events};
@@ -15,8 +15,8 @@ use csp_base::{EventSet, NoMemory};
 use csp_program::copies::copy_exprs;
 use csp_program::{Expr, Proc, Program, ResourceNote, RolesNote, ValueKind};
 use csp_tables::{RoleSets, UseSets};
-use network_trees::LayoutFault;
 use std::alloc::Global;
+use value_operators::EvalFault;
 
 /// Why there are no sets of the components, or no answer was found.
 #[derive(Clone, Copy, Drop)]
@@ -52,16 +52,16 @@ fn use_of(alloc: Global, def: u32, args: &[Expr]) -> Result<Boxed<Expr>, NoMemor
 }
 
 // The set that a definition is, with these arguments.
-fn told_set(scope: &Scope<'_>, args: &[Expr], def: u32) -> Result<EventSet, LayoutFault>
-    ensures { Finds result (told_set scope.now.program.now args.now def) }
+fn told_set(scope: &Scope<'_>, args: &[Expr], def: u32) -> Result<EventSet, EvalFault>
+    ensures { Gives result (told_set scope.now.program.now args.now def) }
 {
     let call = use_of(scope.alloc, def, args)?;
     events(scope, call.get())
 }
 
 // The sets that an annotation tells.
-fn noted_roles(scope: &Scope<'_>, args: &[Expr], note: &RolesNote) -> Result<RoleSets, LayoutFault>
-    ensures { Finds result (told_roles scope.now.program.now args.now (Some note.now)) }
+fn noted_roles(scope: &Scope<'_>, args: &[Expr], note: &RolesNote) -> Result<RoleSets, EvalFault>
+    ensures { Gives result (told_roles scope.now.program.now args.now (Some note.now)) }
 {
     let creq = told_set(scope, args, note.creq)?;
     let cack = told_set(scope, args, note.cack)?;
@@ -71,8 +71,8 @@ fn noted_roles(scope: &Scope<'_>, args: &[Expr], note: &RolesNote) -> Result<Rol
 }
 
 // The sets that an annotation of a resource tells.
-fn noted_uses(scope: &Scope<'_>, args: &[Expr], note: &ResourceNote) -> Result<UseSets, LayoutFault>
-    ensures { Finds result (told_uses scope.now.program.now args.now (Some note.now)) }
+fn noted_uses(scope: &Scope<'_>, args: &[Expr], note: &ResourceNote) -> Result<UseSets, EvalFault>
+    ensures { Gives result (told_uses scope.now.program.now args.now (Some note.now)) }
 {
     let acquire = told_set(scope, args, note.acquire)?;
     let release = told_set(scope, args, note.release)?;
@@ -111,8 +111,8 @@ fn find_resource(notes: &[ResourceNote], process: u32) -> Option<&ResourceNote>
 }
 
 // What is told of a component.
-fn seat_roles(scope: &Scope<'_>, seat: &Seat) -> Result<RoleSets, LayoutFault>
-    ensures { Finds result (component_roles scope.now.program.now seat.now) }
+fn seat_roles(scope: &Scope<'_>, seat: &Seat) -> Result<RoleSets, EvalFault>
+    ensures { Gives result (component_roles scope.now.program.now seat.now) }
 {
     match seat.term() {
         Proc::Call(def, args) => match find_roles(scope.program.content().roles.as_slice(), *def) {
@@ -123,8 +123,8 @@ fn seat_roles(scope: &Scope<'_>, seat: &Seat) -> Result<RoleSets, LayoutFault>
     }
 }
 
-fn seat_uses(scope: &Scope<'_>, seat: &Seat) -> Result<UseSets, LayoutFault>
-    ensures { Finds result (component_uses scope.now.program.now seat.now) }
+fn seat_uses(scope: &Scope<'_>, seat: &Seat) -> Result<UseSets, EvalFault>
+    ensures { Gives result (component_uses scope.now.program.now seat.now) }
 {
     match seat.term() {
         Proc::Call(def, args) => match find_resource(
@@ -139,12 +139,12 @@ fn seat_uses(scope: &Scope<'_>, seat: &Seat) -> Result<UseSets, LayoutFault>
 }
 
 // The fault of a component.
-fn untold(fault: LayoutFault, part: u32) -> NotedFault
-    ensures { TellsNoted result fault part }
+fn untold(fault: EvalFault, part: u32) -> NotedFault
+    ensures { result ≡ noted_fault part fault }
 {
     match fault {
-        LayoutFault::Value { kind } => NotedFault::Value { part, kind },
-        _ => NotedFault::NoMemory,
+        EvalFault::NoMemory => NotedFault::NoMemory,
+        EvalFault::Value { kind } => NotedFault::Value { part, kind },
     }
 }
 

@@ -5,18 +5,18 @@ ghost use Rattle.csp_atoms.specs.declared.value.Value.TheVariants.{One};
 ghost use Rattle.csp_program.specs.Outcome.{and_then};
 ghost use Rattle.csp_program.specs.Substitution.{expr_with};
 ghost use Rattle.process_steps.specs.Needed.{arguments_in, events_in, set_in, truth_in};
-ghost use Rattle.network_layout.specs.Lays.{Finds};
+ghost use Rattle.value_operators.specs.Gives.{Gives};
 
 use containers::{Boxed, Items};
 use csp_atoms::{Atom, AtomSet, Value};
 use csp_base::{EventSet, NoMemory};
 use csp_program::{Expr, Program, ValueKind};
-use network_trees::LayoutFault;
 use std::alloc::Global;
 use step_values::needed;
 use substitution::substitute_expr;
+use value_operators::EvalFault;
 
-pub(crate) const KIND: LayoutFault = LayoutFault::Value {
+pub(crate) const KIND: EvalFault = EvalFault::Value {
     kind: ValueKind::Kind,
 };
 
@@ -30,35 +30,31 @@ pub(crate) struct Scope<'a> {
 }
 
 // Whether a condition holds.
-pub(crate) fn truth(scope: &Scope<'_>, expr: &Expr) -> Result<bool, LayoutFault>
-    ensures { Finds result (truth_in scope.now.program.now expr.now) }
+pub(crate) fn truth(scope: &Scope<'_>, expr: &Expr) -> Result<bool, EvalFault>
+    ensures { Gives result (truth_in scope.now.program.now expr.now) }
 {
-    let holds = needed::truth_in(scope.alloc, scope.program, expr)?;
-    Ok(holds)
+    needed::truth_in(scope.alloc, scope.program, expr)
 }
 
 // The atoms of a set.
-pub(crate) fn set(scope: &Scope<'_>, expr: &Expr) -> Result<AtomSet, LayoutFault>
-    ensures { Finds result (set_in scope.now.program.now expr.now) }
+pub(crate) fn set(scope: &Scope<'_>, expr: &Expr) -> Result<AtomSet, EvalFault>
+    ensures { Gives result (set_in scope.now.program.now expr.now) }
 {
-    let atoms = needed::set_in(scope.alloc, scope.program, expr)?;
-    Ok(atoms)
+    needed::set_in(scope.alloc, scope.program, expr)
 }
 
 // The events of a set.
-pub(crate) fn events(scope: &Scope<'_>, expr: &Expr) -> Result<EventSet, LayoutFault>
-    ensures { Finds result (events_in scope.now.program.now expr.now) }
+pub(crate) fn events(scope: &Scope<'_>, expr: &Expr) -> Result<EventSet, EvalFault>
+    ensures { Gives result (events_in scope.now.program.now expr.now) }
 {
-    let events = needed::events_in(scope.alloc, scope.program, expr)?;
-    Ok(events)
+    needed::events_in(scope.alloc, scope.program, expr)
 }
 
 // The values of arguments, from the left.
-pub(crate) fn arguments(scope: &Scope<'_>, exprs: &[Expr]) -> Result<Items<Value>, LayoutFault>
-    ensures { Finds result (arguments_in scope.now.program.now exprs.now) }
+pub(crate) fn arguments(scope: &Scope<'_>, exprs: &[Expr]) -> Result<Items<Value>, EvalFault>
+    ensures { Gives result (arguments_in scope.now.program.now exprs.now) }
 {
-    let values = needed::arguments_in(scope.alloc, scope.program, exprs)?;
-    Ok(values)
+    needed::arguments_in(scope.alloc, scope.program, exprs)
 }
 
 // The events of two sets.
@@ -66,8 +62,8 @@ pub(crate) fn both_events(
     scope: &Scope<'_>,
     left: &Expr,
     right: &Expr,
-) -> Result<(EventSet, EventSet), LayoutFault>
-    ensures { Finds result (and_then (events_in scope.now.program.now left.now) (λ first. and_then (events_in scope.now.program.now right.now) (λ second. Ok (first, second)))) }
+) -> Result<(EventSet, EventSet), EvalFault>
+    ensures { Gives result (and_then (events_in scope.now.program.now left.now) (λ first. and_then (events_in scope.now.program.now right.now) (λ second. Ok (first, second)))) }
 {
     let first = events(scope, left)?;
     let second = events(scope, right)?;
@@ -88,8 +84,8 @@ pub(crate) fn events_at(
     expr: &Expr,
     name: u32,
     atom: &Atom,
-) -> Result<EventSet, LayoutFault>
-    ensures { Finds result (events_in scope.now.program.now (expr_with name (One atom.now) expr.now)) }
+) -> Result<EventSet, EvalFault>
+    ensures { Gives result (events_in scope.now.program.now (expr_with name (One atom.now) expr.now)) }
 {
     let put = with_atom(scope.alloc, expr, name, atom)?;
     events(scope, put.get())

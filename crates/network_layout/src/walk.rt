@@ -4,14 +4,14 @@ ghost use Rattle.std.specs.Prelude.{◌≡◌, [], IfErr, IfOk, length};
 ghost use Rattle.csp_base.specs.Events.{union_of};
 ghost use Rattle.csp_program.specs.declared.networks.Net.TheOpen.{Net-F};
 ghost use Rattle.network_trees.specs.NetworkOf.{next_component, tree_within};
-ghost use Rattle.network_trees.specs.declared.fault.LayoutFault.TheVariants.{NoMemory as OutOfMemory};
+ghost use Rattle.network_layout.specs.declared.fault.Unlaid.TheVariants as unlaid;
 ghost use Rattle.network_layout.specs.Lays.{Lays, node, one_operand, operand_walked, operands_each, two};
 
 use crate::calls::{called, operand_at};
+use crate::fault::Unlaid;
 use crate::nesting::agree;
-use crate::seat::Seat;
+use crate::seat::{Seat, Seats};
 use crate::values::{Scope, both_events, set, truth};
-use containers::Items;
 use csp_atoms::Atom;
 use csp_base::{EventSet, NoMemory};
 use csp_program::proc_copies::copy_boxed_proc;
@@ -20,7 +20,7 @@ use dl_limits::MOST_COMPONENTS;
 use network_trees::LayoutFault;
 use std::alloc::Global;
 
-const TOO_DEEP: LayoutFault = LayoutFault::NetworkDepth;
+const TOO_DEEP: Unlaid = Unlaid::Refused(LayoutFault::NetworkDepth);
 
 // A component.
 fn seat_of(alloc: Global, process: &Proc, alphabet: &EventSet) -> Result<Seat, NoMemory>
@@ -32,9 +32,9 @@ fn seat_of(alloc: Global, process: &Proc, alphabet: &EventSet) -> Result<Seat, N
 }
 
 // The events of two alphabets together.
-fn both(scope: &Scope<'_>, left: &EventSet, right: &EventSet) -> Result<EventSet, LayoutFault>
+fn both(scope: &Scope<'_>, left: &EventSet, right: &EventSet) -> Result<EventSet, Unlaid>
     ensures joint { IfOk result (λ made. made ≡ union_of left.now right.now) }
-    ensures fault { IfErr result (λ fault. fault ≡ OutOfMemory) }
+    ensures fault { IfErr result (λ fault. fault ≡ unlaid.NoMemory) }
 {
     let joint = left.union(scope.alloc, right)?;
     Ok(joint)
@@ -45,12 +45,12 @@ fn sit(
     scope: &Scope<'_>,
     process: &Proc,
     alphabet: &EventSet,
-    seats: &mut Items<Seat>,
-) -> Result<EventSet, LayoutFault>
+    seats: &mut Seats,
+) -> Result<EventSet, Unlaid>
     ensures { Lays result (next_component (length seats.old) alphabet.now process.now) seats.old seats.new }
 {
     if seats.len() >= MOST_COMPONENTS {
-        return Err(LayoutFault::ComponentLimit);
+        return Err(Unlaid::Refused(LayoutFault::ComponentLimit));
     }
     seats.push_made(seat_of(scope.alloc, process, alphabet))?;
     both(scope, alphabet, &EventSet::new(scope.alloc))
@@ -61,8 +61,8 @@ fn walk_leaf(
     scope: &Scope<'_>,
     net: &Net,
     alphabet: &EventSet,
-    seats: &mut Items<Seat>,
-) -> Result<EventSet, LayoutFault>
+    seats: &mut Seats,
+) -> Result<EventSet, Unlaid>
     ensures { Lays result (tree_within scope.now.program.now 0 (length seats.old) alphabet.now net.now) seats.old seats.new }
 {
     match net {
@@ -81,8 +81,8 @@ pub(crate) fn walk(
     levels: u32,
     net: &Net,
     alphabet: &EventSet,
-    seats: &mut Items<Seat>,
-) -> Result<EventSet, LayoutFault>
+    seats: &mut Seats,
+) -> Result<EventSet, Unlaid>
     ensures { Lays result (tree_within scope.now.program.now levels (length seats.old) alphabet.now net.now) seats.old seats.new }
 {
     if levels == 0 {
@@ -106,8 +106,8 @@ fn walk_call(
     def: u32,
     args: &[Expr],
     alphabet: &EventSet,
-    seats: &mut Items<Seat>,
-) -> Result<EventSet, LayoutFault>
+    seats: &mut Seats,
+) -> Result<EventSet, Unlaid>
     ensures { Lays result (node scope.now.program.now levels (length seats.old) alphabet.now (Net-F.Call def args.now)) seats.old seats.new }
 {
     let net = called(scope, def, args)?;
@@ -123,8 +123,8 @@ fn walk_if(
     left: &Net,
     right: &Net,
     alphabet: &EventSet,
-    seats: &mut Items<Seat>,
-) -> Result<EventSet, LayoutFault>
+    seats: &mut Seats,
+) -> Result<EventSet, Unlaid>
     ensures { Lays result (node scope.now.program.now levels (length seats.old) alphabet.now (Net-F.If condition.now left.now right.now)) seats.old seats.new }
 {
     let holds = truth(scope, condition)?;
@@ -141,8 +141,8 @@ fn operand(
     levels: u32,
     net: &Net,
     alphabet: &EventSet,
-    seats: &mut Items<Seat>,
-) -> Result<EventSet, LayoutFault>
+    seats: &mut Seats,
+) -> Result<EventSet, Unlaid>
     ensures { Lays result (operand_walked scope.now.program.now levels (length seats.old) alphabet.now net.now) seats.old seats.new }
 {
     let first = seats.len();
@@ -160,8 +160,8 @@ fn walk_pair(
     left_alphabet: &Expr,
     right_alphabet: &Expr,
     right: &Net,
-    seats: &mut Items<Seat>,
-) -> Result<EventSet, LayoutFault>
+    seats: &mut Seats,
+) -> Result<EventSet, Unlaid>
     ensures { Lays result (node scope.now.program.now levels (length seats.old) [] (Net-F.Pair left.now left_alphabet.now right_alphabet.now right.now)) seats.old seats.new }
 {
     let alphabets = both_events(scope, left_alphabet, right_alphabet)?;
@@ -185,8 +185,8 @@ fn walk_both(
     left_alphabet: &EventSet,
     right: &Net,
     right_alphabet: &EventSet,
-    seats: &mut Items<Seat>,
-) -> Result<EventSet, LayoutFault>
+    seats: &mut Seats,
+) -> Result<EventSet, Unlaid>
     ensures { Lays result (two scope.now.program.now levels (length seats.old) left_alphabet.now left.now right_alphabet.now right.now) seats.old seats.new }
 {
     let first = operand(scope, levels, left, left_alphabet, seats)?;
@@ -203,8 +203,8 @@ fn walk_set(
     values: &Expr,
     alphabet: &Expr,
     net: &Net,
-    seats: &mut Items<Seat>,
-) -> Result<EventSet, LayoutFault>
+    seats: &mut Seats,
+) -> Result<EventSet, Unlaid>
     ensures { Lays result (node scope.now.program.now levels (length seats.old) [] (Net-F.Each name values.now alphabet.now net.now)) seats.old seats.new }
 {
     let atoms = set(scope, values)?;
@@ -220,8 +220,8 @@ fn walk_each(
     atoms: &[Atom],
     alphabet: &Expr,
     net: &Net,
-    seats: &mut Items<Seat>,
-) -> Result<EventSet, LayoutFault>
+    seats: &mut Seats,
+) -> Result<EventSet, Unlaid>
     ensures { Lays result (operands_each scope.now.program.now levels (length seats.old) name alphabet.now net.now atoms.now) seats.old seats.new }
 {
     let mut joint = EventSet::new(scope.alloc);
@@ -241,8 +241,8 @@ fn walk_one(
     atom: &Atom,
     alphabet: &Expr,
     net: &Net,
-    seats: &mut Items<Seat>,
-) -> Result<EventSet, LayoutFault>
+    seats: &mut Seats,
+) -> Result<EventSet, Unlaid>
     ensures { Lays result (one_operand scope.now.program.now levels (length seats.old) name alphabet.now net.now atom.now) seats.old seats.new }
 {
     let part = operand_at(scope, alphabet, net, name, atom)?;

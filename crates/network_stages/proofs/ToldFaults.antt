@@ -8,41 +8,22 @@ use Rattle.csp_tables.specs.Network.{Component, Tree, leaves}
 use Rattle.csp_tables.specs.Shape.{Shape}
 use Rattle.csp_tables.specs.ShapeOf.{IsShapeOf}
 use Rattle.csp_text.specs.declared.script.Script.{Script}
-use Rattle.network_layout.specs.Lays.{Fails}
 use Rattle.network_layout.specs.Triple.{SharesEvent, alphabets}
 use Rattle.network_layout.specs.declared.triple.TripleFault.{TripleFault}
 use Rattle.network_layout.specs.declared.triple.TripleFault.TheVariants as triple
 use Rattle.network_shape.proofs.TrueStops.{stops_are_true}
 use Rattle.network_shape.specs.Stops.{StopsFirst}
-use Rattle.network_tables.specs.Faults.{TellsTable}
-use Rattle.network_tables.specs.declared.fault.TableFault.{TableFault}
-use Rattle.network_tables.specs.declared.fault.TableFault.TheVariants as tables
 use Rattle.process_steps.specs.ComponentStep.{ProcessStep}
 use Rattle.network_shape.specs.declared.fault.BusyFault.{BusyFault}
 use Rattle.network_shape.specs.declared.fault.BusyFault.TheVariants as busy
-use Rattle.network_trees.specs.NetworkOf.{network_of}
-use Rattle.network_trees.specs.declared.fault.LayoutFault.{LayoutFault}
-use Rattle.network_trees.specs.declared.fault.LayoutFault.TheVariants as layout
 use Rattle.report.specs.Stops.{Tells}
 use Rattle.report.specs.declared.answer.Refusal.{Refusal}
 use Rattle.report.specs.declared.answer.Shortfall.{Shortfall}
 use Rattle.report.specs.declared.stop.Stop.{Stop}
 use Rattle.report.specs.declared.stop.Stop.TheVariants as stop
 use Rattle.script_names.specs.Resolved.{IsProgram}
-use Rattle.network_stages.specs.Shortfalls.{FitsAfter, TellsBusy, TellsTriple}
+use Rattle.network_stages.specs.Shortfalls.{TellsBusy, TellsTriple}
 use Rattle.network_stages.specs.Stages.{CanStop, HasNoNetwork, ShareEvent, SpellsNone}
-use Rattle.network_stages.specs.Tells.{TellsLayout}
-
-layout_fails : (p : Content) (f : LayoutFault) (r : Refusal) → Fails f (network_of p) → TellsLayout p f r → network_of p ≡ Err f
-layout_fails p layout.NoMemory r fails told = absurd told
-layout_fails p (layout.Value why) r fails told = fails
-layout_fails p (layout.BadNesting first count e) r fails told = fails
-layout_fails p layout.EmptyNetwork r fails told = fails
-layout_fails p layout.ComponentLimit r fails told = fails
-layout_fails p layout.NetworkDepth r fails told = fails
-
-pub spells_none : {E : Type 0} (p : Content) (f : LayoutFault) (told : Result Refusal E) → Fails f (network_of p) → IfOk told (TellsLayout p f) → IfOk told (SpellsNone p)
-spells_none p f told fails tells = IfOk-weaker told _ _ (λ r t. (f, layout_fails p f r fails t, t)) tells
 
 pub has_no_network : {A : Type 0} (s : Script) (p : Content) (made : Result A (Stop Refusal)) → IsProgram s p → IfErr made (Tells (SpellsNone p)) → IfErr made (Tells (HasNoNetwork s))
 has_no_network s p (Ok a) is tells = tt
@@ -62,8 +43,3 @@ can_stop p tree shape (busy.Stops i trace) found (Ok s) made stops is tells = (i
 -- the number of a component in a list of which the first has this number
 pub number_fits : (cs : List (Component Proc)) (first i : ℕ) (c : Component Proc) → first + length cs ≤ 512 → slice_get cs i ≡ Some c → first + i < 2 ^ 32
 number_fits cs first i c few at = let within = slice_get_within cs i c at in omega (arith, few, within)
-
-pub fits_after : (p : Content) (cs : List (Component Proc)) (first : ℕ) (f : TableFault) → first + length cs ≤ 512 → TellsTable p cs f → FitsAfter first f
-fits_after p cs first tables.NoMemory few told = tt
-fits_after p cs first (tables.Local i fault) few told = number_fits cs first i told.component few told.at
-fits_after p cs first (tables.Diverges i circle) few told = number_fits cs first i told.component few told.at

@@ -1,13 +1,10 @@
--- How it is told that an event is in three alphabets, or that a component can stop, and that the number of a component that is told has 32 bits.
--- (For private contracts: no public one cites this.)
-use Rattle.std.specs.Prelude.{◌≡◌, ℕ, ◌<◌, ◌+◌, ◌^◌, [], ◌∷◌}
+-- How it is told that an event is in three alphabets, or that a component can stop. (For private contracts: no public one cites this.)
+use Rattle.std.specs.Prelude.{◌≡◌, [], ◌∷◌}
 use Rattle.csp_program.specs.declared.programs.Content.{Content}
 use Rattle.network_layout.specs.declared.triple.TripleFault.{TripleFault}
 use Rattle.network_layout.specs.declared.triple.TripleFault.TheVariants as triple
 use Rattle.network_shape.specs.declared.fault.BusyFault.{BusyFault}
 use Rattle.network_shape.specs.declared.fault.BusyFault.TheVariants as busy
-use Rattle.network_tables.specs.declared.fault.TableFault.{TableFault}
-use Rattle.network_tables.specs.declared.fault.TableFault.TheVariants as tables
 use Rattle.report.specs.EventText.{event_text}
 use Rattle.report.specs.declared.answer.Shortfall.{Shortfall}
 use Rattle.report.specs.declared.answer.Shortfall.TheVariants as shortfall
@@ -19,9 +16,3 @@ TellsTriple p (triple.Shared e parts) s = s ≡ shortfall.NotTripleDisjoint (eve
 abbrev pub TellsBusy : Content → BusyFault → Shortfall → Type 0
 TellsBusy p busy.NoMemory s = ⊥
 TellsBusy p (busy.Stops i trace) s = s ≡ shortfall.Stops i (texts p trace)
-
--- the number of the component that a fault tells, where the first one has this number
-abbrev pub FitsAfter : ℕ → TableFault → Type 0
-FitsAfter first tables.NoMemory = Unit {0}
-FitsAfter first (tables.Local part fault) = first + part < 2 ^ 32
-FitsAfter first (tables.Diverges part circle) = first + part < 2 ^ 32

@@ -6,25 +6,25 @@ use Rattle.csp_tables.specs.Network.{Component}
 use Rattle.csp_text.specs.declared.script.Script.{Script}
 use Rattle.network_layout.specs.Triple.{IsTriple, alphabets}
 use Rattle.network_shape.specs.Stops.{StopsFirstIn}
-use Rattle.network_tables.specs.Faults.{TellsTable}
-use Rattle.network_tables.specs.declared.fault.TableFault.{TableFault}
+use Rattle.network_tables.specs.Faults.{HasFault, IsFirst}
 use Rattle.network_trees.specs.NetworkOf.{network_of}
 use Rattle.network_trees.specs.declared.fault.LayoutFault.{LayoutFault}
 use Rattle.process_steps.specs.ComponentStep.{ProcessStep}
+use Rattle.process_steps.specs.declared.component_fault.ComponentFault.{ComponentFault}
+use Rattle.process_steps.specs.declared.component_fault.ComponentFault.TheVariants as fault
 use Rattle.report.specs.EventText.{event_text}
 use Rattle.report.specs.declared.answer.Refusal.{Refusal}
 use Rattle.report.specs.declared.answer.Refusal.TheVariants as refusal
 use Rattle.report.specs.declared.answer.Shortfall.{Shortfall}
 use Rattle.report.specs.declared.answer.Shortfall.TheVariants as shortfall
-use Rattle.report.specs.declared.answer.ComponentFault.TheVariants as table
 use Rattle.script_names.specs.Resolved.{IsProgram, IsRefused}
 use Rattle.script_names.specs.declared.fault.ResolveFault.{ResolveFault}
 use Rattle.network_stages.specs.Sets.{IsFirstWithManySets}
-use Rattle.network_stages.specs.Tells.{TellsComponent, TellsLayout, texts}
+use Rattle.network_stages.specs.Tells.{component_told, network_told, texts}
 
 -- the program spells no network
 abbrev pub SpellsNone : Content → Refusal → Type 0
-SpellsNone p r = (f : LayoutFault) × (network_of p ≡ Err f) × TellsLayout p f r
+SpellsNone p r = (f : LayoutFault ℕ) × (network_of p ≡ Err f) × (r ≡ refusal.Network (network_told (event_text p) f))
 
 -- the script has no program, or its program spells no network
 abbrev pub HasNoNetwork : Script → Refusal → Type 0
@@ -34,11 +34,12 @@ HasNoNetwork script r =
 
 -- one of the components has no table; the first of them has the number n in its network
 abbrev pub HaveNoTables : Content → ℕ → List (Component Proc) → Refusal → Type 0
-HaveNoTables p n cs r = (f : TableFault) × TellsTable p cs f × TellsComponent p n f r
+HaveNoTables p n cs r =
+    (i : ℕ) × (f : ComponentFault (List ℕ)) × IsFirst p cs i (HasFault p f) × (r ≡ refusal.Component (n + i) (component_told (texts p) f))
 
 -- traces of one of the components lead to too many sets of terms; the first of them has the number n in its network
 abbrev pub HaveNoParts : Content → ℕ → List (Component Proc) → Refusal → Type 0
-HaveNoParts p n cs r = (i : ℕ) × IsFirstWithManySets p cs i × (r ≡ refusal.Component (n + i) table.SubsetLimit)
+HaveNoParts p n cs r = (i : ℕ) × IsFirstWithManySets p cs i × (r ≡ refusal.Component (n + i) fault.SubsetLimit)
 
 -- an event is in the alphabets of three components
 abbrev pub ShareEvent : Content → List (Component Proc) → Shortfall → Type 0

@@ -1,42 +1,31 @@
--- How it is told why a program spells no network, or why a component has no table. Want of memory is not told.
-use Rattle.std.specs.Prelude.{◌≡◌, ℕ, ◌+◌, List, map}
+-- Faults of networks and of components, told with texts in place of events.
+use Rattle.std.specs.Prelude.{ℕ, List, map}
 use Rattle.csp_program.specs.declared.programs.Content.{Content}
-use Rattle.local_tables.specs.declared.fault.LocalFault.{LocalFault}
-use Rattle.local_tables.specs.declared.fault.LocalFault.TheVariants as local
-use Rattle.network_tables.specs.declared.fault.TableFault.{TableFault}
-use Rattle.network_tables.specs.declared.fault.TableFault.TheVariants as tables
 use Rattle.network_trees.specs.declared.fault.LayoutFault.{LayoutFault}
-use Rattle.network_trees.specs.declared.fault.LayoutFault.TheVariants as layout
+use Rattle.network_trees.specs.declared.fault.LayoutFault.TheVariants as network
+use Rattle.process_steps.specs.declared.component_fault.ComponentFault.{ComponentFault}
+use Rattle.process_steps.specs.declared.component_fault.ComponentFault.TheVariants as component
 use Rattle.report.specs.EventText.{event_text}
-use Rattle.report.specs.declared.answer.NetworkFault.TheVariants as network
-use Rattle.report.specs.declared.answer.Refusal.{Refusal}
-use Rattle.report.specs.declared.answer.Refusal.TheVariants as refusal
-use Rattle.report.specs.declared.answer.Site.TheVariants as site
-use Rattle.report.specs.declared.answer.ComponentFault.TheVariants as table
 
 -- the printed texts of events
 abbrev pub texts : Content → List ℕ → List (List ℕ)
 texts p events = map (event_text p) events
 
-abbrev pub TellsLayout : Content → LayoutFault → Refusal → Type 0
-TellsLayout p layout.NoMemory r = ⊥
-TellsLayout p (layout.Value kind) r = r ≡ refusal.Value kind site.Network
-TellsLayout p (layout.BadNesting first count e) r = r ≡ refusal.Network (network.BadNesting first count (event_text p e))
-TellsLayout p layout.EmptyNetwork r = r ≡ refusal.Network network.EmptyNetwork
-TellsLayout p layout.ComponentLimit r = r ≡ refusal.Network network.ComponentLimit
-TellsLayout p layout.NetworkDepth r = r ≡ refusal.Network network.NetworkDepth
+-- the same fault of a network, where an event is told so
+abbrev pub network_told : {A B : Type 0} → (A → B) → LayoutFault A → LayoutFault B
+network_told tell (network.Value kind) = network.Value kind
+network_told tell (network.BadNesting first count event) = network.BadNesting first count (tell event)
+network_told tell network.EmptyNetwork = network.EmptyNetwork
+network_told tell network.ComponentLimit = network.ComponentLimit
+network_told tell network.NetworkDepth = network.NetworkDepth
 
-abbrev pub TellsLocal : Content → ℕ → LocalFault → Refusal → Type 0
-TellsLocal p i local.NoMemory r = ⊥
-TellsLocal p i (local.Value kind) r = r ≡ refusal.Value kind (site.Component i)
-TellsLocal p i (local.TermCount found) r = r ≡ refusal.Component i table.TermCount
-TellsLocal p i (local.TermDepth found) r = r ≡ refusal.Component i table.TermDepth
-TellsLocal p i (local.TermTotal found) r = r ≡ refusal.Component i table.TermTotal
-TellsLocal p i (local.StepCount found) r = r ≡ refusal.Component i table.StepCount
-TellsLocal p i (local.Terminates trace) r = r ≡ refusal.Component i (table.Terminates (texts p trace))
-
--- of components the first of which has the number n
-abbrev pub TellsComponent : Content → ℕ → TableFault → Refusal → Type 0
-TellsComponent p n tables.NoMemory r = ⊥
-TellsComponent p n (tables.Local i fault) r = TellsLocal p (n + i) fault r
-TellsComponent p n (tables.Diverges i circle) r = r ≡ refusal.Component (n + i) table.Diverges
+-- the same fault of a component, where a trace is told so
+abbrev pub component_told : {A B : Type 0} → (A → B) → ComponentFault A → ComponentFault B
+component_told tell (component.Value kind) = component.Value kind
+component_told tell component.TermCount = component.TermCount
+component_told tell component.TermDepth = component.TermDepth
+component_told tell component.TermTotal = component.TermTotal
+component_told tell component.StepCount = component.StepCount
+component_told tell component.Diverges = component.Diverges
+component_told tell component.SubsetLimit = component.SubsetLimit
+component_told tell (component.Terminates trace) = component.Terminates (tell trace)

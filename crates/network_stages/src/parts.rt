@@ -11,13 +11,13 @@ ghost use Rattle.network_stages.specs.Sets.{ArePartsBy, HasManySets, HaveFewSets
 ghost use Rattle.network_stages.specs.Stages.{HaveNoParts};
 
 use crate::tabled::Tabled;
-use crate::telling::sets_refusal;
 use csp_base::NoMemory;
 use csp_program::Program;
 use csp_tables::Part;
 use network_layout::Seat;
 use network_shape::{SetFault, part};
 use network_tables::ComponentTable;
+use process_steps::ComponentFault;
 use report::{Refusal, Stop};
 use std::alloc::Global;
 
@@ -67,7 +67,10 @@ fn all_parts(
             Ok(part) => add(&mut made, part)?,
             Err(SetFault::NoMemory) => return Err(Stop::NoMemory),
             Err(SetFault::SubsetLimit) => {
-                return Err(Stop::Told(sets_refusal(first, place as u32)));
+                return Err(Stop::Told(Refusal::Component {
+                    component: first + place as u32,
+                    fault: ComponentFault::SubsetLimit,
+                }));
             }
         }
     }

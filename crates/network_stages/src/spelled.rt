@@ -7,13 +7,13 @@ ghost use Rattle.report.specs.Stops.{Tells};
 ghost use Rattle.network_stages.specs.Networks.{IsNetworkOf, components_at, network_at, tree_at};
 ghost use Rattle.network_stages.specs.Stages.{HasNoNetwork, SpellsNone};
 
-use crate::telling::layout_refusal;
+use crate::telling::network_told;
 use containers::Boxed;
 use csp_program::Program;
 use csp_resolve::{Unresolved, resolve};
 use csp_text::Script;
-use network_layout::{Layout, Seat, layout};
-use report::{Refusal, Stop, stopped};
+use network_layout::{Layout, Seat, Unlaid, layout};
+use report::{Refusal, Stop};
 use std::alloc::Global;
 use std::marker::Model;
 
@@ -86,7 +86,11 @@ fn seated(alloc: Global, program: Boxed<Program>) -> Result<Spelled, Stop<Refusa
 {
     match layout(alloc, program.get()) {
         Ok(layout) => Ok(Spelled { program, layout }),
-        Err(fault) => Err(stopped(layout_refusal(alloc, program.get(), fault))),
+        Err(Unlaid::NoMemory) => Err(Stop::NoMemory),
+        Err(Unlaid::Refused(fault)) => {
+            let fault = network_told(alloc, program.get(), &fault)?;
+            Err(Stop::Told(Refusal::Network(fault)))
+        }
     }
 }
 

@@ -6,11 +6,11 @@ ghost use Rattle.network_tables.specs.Tables.{AreTablesOf};
 ghost use Rattle.report.specs.Stops.{Tells};
 ghost use Rattle.network_stages.specs.Stages.{HaveNoTables};
 
-use crate::telling::tables_refusal;
+use crate::telling::component_told;
 use csp_program::Program;
 use network_layout::Seat;
-use network_tables::{ComponentTable, tables};
-use report::{Refusal, Stop, stopped};
+use network_tables::{ComponentTable, Untabled, tables};
+use report::{Refusal, Stop};
 use std::alloc::Global;
 use std::marker::Model;
 
@@ -94,6 +94,13 @@ pub fn make_tables<'a>(
             seats,
             tables,
         }),
-        Err(fault) => Err(stopped(tables_refusal(alloc, program, first, fault))),
+        Err(Untabled::NoMemory) => Err(Stop::NoMemory),
+        Err(Untabled::Refused { part, fault }) => {
+            let fault = component_told(alloc, program, &fault)?;
+            Err(Stop::Told(Refusal::Component {
+                component: first + part,
+                fault,
+            }))
+        }
     }
 }

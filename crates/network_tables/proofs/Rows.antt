@@ -6,11 +6,11 @@ use Rattle.csp_program.specs.declared.processes.Proc.{Proc}
 use Rattle.csp_program.specs.declared.programs.Content.{Content}
 use Rattle.csp_tables.specs.Network.{Component}
 use Rattle.local_tables.specs.declared.local_table.Room.{Room}
-use Rattle.local_tables.specs.Faults.{LacksTable}
-use Rattle.network_tables.specs.Faults.{GoesRound, TellsHere, TellsTable}
+use Rattle.network_tables.specs.Faults.{HasFault, IsFirst, TellsHere, TellsTable, at_part}
+use Rattle.network_tables.specs.declared.fault.Untabled.{Untabled}
+use Rattle.local_tables.specs.declared.fault.Unexplored.{Unexplored}
+use Rattle.local_tables.specs.declared.fault.Unexplored.TheVariants as unexplored
 use Rattle.network_tables.specs.Tables.{AreTablesOf, AreTablesWithin, HasTable, IsTableWithin, room_after, room_left, whole_room}
-use Rattle.network_tables.specs.declared.fault.TableFault.{TableFault}
-use Rattle.network_tables.specs.declared.fault.TableFault.TheVariants as fault
 use Rattle.network_tables.specs.declared.component_tables.ComponentTable.{ComponentTable}
 use Rattle.std.proofs.lemmas.List.{length_push, take_all}
 
@@ -49,17 +49,14 @@ module _ (p : Content) where
       subst (λ cs. AreTablesOf p cs (made ++ t ∷ [])) grown (one_more whole_room (take i seats) made c t so_far (subst (λ r. IsTableWithin p r c t) left one))
 
   -- a fault is that of the first component that has one
-  pub first_fault : (seats : List (Component Proc)) (made : List ComponentTable) (i n : ℕ) (c : Component Proc) (room : Room) (f : TableFault) → i < length seats
-      → c ≡ get_or seats i c → AreTablesOf p (take i seats) made → room ≡ room_left whole_room made → length made ≡ i → n ≡ length made → TellsHere p n room c f → TellsTable p seats f
-  first_fault seats made i n c room fault.NoMemory within is so_far left count number tells = tt
-  first_fault seats made i n c room (fault.Local j local) within is so_far left count number tells =
+  pub first_fault : (seats : List (Component Proc)) (made : List ComponentTable) (i n : ℕ) (c : Component Proc) (room : Room) (u : Unexplored) (told : Untabled) → i < length seats
+      → c ≡ get_or seats i c → AreTablesOf p (take i seats) made → room ≡ room_left whole_room made → length made ≡ i → n ≡ length made → TellsHere p room c u → told ≡ at_part n u → TellsTable p seats told
+  first_fault seats made i n c room unexplored.NoMemory told within is so_far left count number has tells = subst (TellsTable p seats) (sym tells) tt
+  first_fault seats made i n c room (unexplored.Refused f) told within is so_far left count number has tells =
       let at : slice_get seats i ≡ Some c = slice_get-get_or seats i c within ∙ ap Some (sym is) in
-      let place : i ≡ j = sym (number ∙ count) ∙ sym tells.0 in
-      subst (λ k. TellsTable p seats (fault.Local k local)) place (record { tables = made; earlier = so_far; component = c; at = at; has = subst (λ r. LacksTable p c r local) left tells.1 })
-  first_fault seats made i n c room (fault.Diverges j circle) within is so_far left count number tells =
-      let at : slice_get seats i ≡ Some c = slice_get-get_or seats i c within ∙ ap Some (sym is) in
-      let place : i ≡ j = sym (number ∙ count) ∙ sym tells.0 in
-      subst (λ k. TellsTable p seats (fault.Diverges k circle)) place (record { tables = made; earlier = so_far; component = c; at = at; has = subst (λ r. GoesRound p circle r c) left tells.1 })
+      subst (TellsTable p seats) (sym tells)
+      (subst (λ k. IsFirst p seats k (HasFault p f)) (sym (number ∙ count))
+      (record { tables = made; earlier = so_far; component = c; at = at; has = subst (λ r. HasFault p f r c) left has }))
 
 pub left_after : (room : Room) (ts : List ComponentTable) (t : ComponentTable) → room_left room (ts ++ t ∷ []) ≡ room_after (room_left room ts) t.local.used
 left_after room [] t = refl

@@ -2,19 +2,18 @@
 
 ghost use Rattle.std.specs.Prelude.{◌≡◌, ◌≤◌, ◌<◌, ◌++◌, ◌∷◌, [], IfErr, IfOk, OnOk, length};
 ghost use Rattle.dl_limits.specs.declared.TheConstants.{MOST_COMPONENTS};
-ghost use Rattle.local_tables.specs.Component.{component};
-ghost use Rattle.local_tables.specs.declared.local_table.Room.{Room as RoomValue};
 ghost use Rattle.net_sound.specs.Heights.{AreSilentHeights};
-ghost use Rattle.network_tables.specs.Faults.{TellsHere, TellsRound, TellsTable};
+ghost use Rattle.network_tables.specs.Faults.{TellsHere, TellsRound, TellsTable, at_part};
 ghost use Rattle.network_tables.specs.Tables.{AreTablesOf, IsTableWithin, room_after, whole_room};
 
-use crate::fault::TableFault;
+use crate::fault::Untabled;
 use csp_base::NoMemory;
 use csp_program::Program;
 use digraph::Heights;
 use dl_limits::{MOST_NODES, MOST_STEPS};
-use local_tables::{LocalTable, Room, explore};
+use local_tables::{LocalTable, Room, Unexplored, explore};
 use network_layout::Seat;
+use process_steps::ComponentFault;
 use std::alloc::Global;
 use tau_order::{HeightFault, heights};
 
@@ -59,34 +58,42 @@ fn after(room: Room, used: Room) -> Room
 }
 
 // A table with its silent heights.
-fn with_heights(alloc: Global, part: u32, local: LocalTable) -> Result<ComponentTable, TableFault>
+fn with_heights(alloc: Global, local: LocalTable) -> Result<ComponentTable, Unexplored>
     ensures local { IfOk result (λ made. made.local ≡ local) }
     ensures heights { IfOk result (λ made. AreSilentHeights local.table made.heights) }
-    ensures fault { IfErr result (TellsRound part local) }
+    ensures fault { IfErr result (TellsRound local) }
 {
     match heights(alloc, &local.table) {
         Ok(heights) => Ok(ComponentTable { local, heights }),
-        Err(HeightFault::NoMemory) => Err(TableFault::NoMemory),
-        Err(HeightFault::Diverges { circle }) => Err(TableFault::Diverges { part, circle }),
+        Err(HeightFault::NoMemory) => Err(Unexplored::NoMemory),
+        Err(HeightFault::Diverges { circle: _circle }) => {
+            Err(Unexplored::Refused(ComponentFault::Diverges))
+        }
     }
 }
 
-// The table of the component with the number `part`, within a room.
+// The table of a component, within a room.
 fn table_within(
     alloc: Global,
     program: &Program,
-    part: u32,
     seat: &Seat,
     room: Room,
-) -> Result<ComponentTable, TableFault>
+) -> Result<ComponentTable, Unexplored>
     requires nodes { room.nodes < 4294967295 }
-    requires steps { room.steps < 4294967295 }
     ensures table { IfOk result (IsTableWithin program.now room seat.now) }
-    ensures fault { IfErr result (TellsHere program.now part room seat.now) }
+    ensures fault { IfErr result (TellsHere program.now room seat.now) }
 {
-    match explore(alloc, program, seat.term(), seat.alphabet(), room) {
-        Ok(local) => with_heights(alloc, part, local),
-        Err(fault) => Err(TableFault::Local { part, fault }),
+    let local = explore(alloc, program, seat.term(), seat.alphabet(), room)?;
+    with_heights(alloc, local)
+}
+
+// Why no tables are made, where this component has none.
+fn untabled(part: u32, fault: Unexplored) -> Untabled
+    ensures { result ≡ at_part part fault }
+{
+    match fault {
+        Unexplored::NoMemory => Untabled::NoMemory,
+        Unexplored::Refused(fault) => Untabled::Refused { part, fault },
     }
 }
 
@@ -104,7 +111,7 @@ pub fn tables(
     alloc: Global,
     program: &Program,
     seats: &[Seat],
-) -> Result<Vec<ComponentTable>, TableFault>
+) -> Result<Vec<ComponentTable>, Untabled>
     requires most { length seats.now ≤ MOST_COMPONENTS }
     ensures tables { IfOk result (λ tables. AreTablesOf program.now seats.now tables.items) }
     ensures fault { IfErr result (TellsTable program.now seats.now) }
@@ -112,12 +119,12 @@ pub fn tables(
     let mut made = Vec::new(alloc);
     let mut room = whole();
     for (part, seat) in seats.iter().enumerate() {
-        match table_within(alloc, program, part as u32, seat, room) {
+        match table_within(alloc, program, seat, room) {
             Ok(table) => {
                 room = after(room, table.local.used);
                 add(&mut made, table)?;
             }
-            Err(fault) => return Err(fault),
+            Err(fault) => return Err(untabled(part as u32, fault)),
         }
     }
     Ok(made)

@@ -1,37 +1,29 @@
 //! Why the components of a network have no tables.
 
-use csp_base::NoMemory;
-use digraph::Circle;
-use local_tables::LocalFault;
+use csp_base::{NoMemory, Trace};
+use process_steps::ComponentFault;
 
-/// Why the components of a network have no tables. Components are numbered from 0; the first one that has a fault is told.
+/// Why no tables are made of the components of a network.
 #[derive(Drop)]
-pub enum TableFault {
+pub enum Untabled {
     /// Memory ran out.
     NoMemory,
-    /// A component has no table within the room that is left for it.
-    Local {
-        /// The component.
+    /// A component has no table within the room that is left for it, or its table goes round in silent steps.
+    Refused {
+        /// The first such component, counted from 0.
         part: u32,
-        /// Why it has none.
-        fault: LocalFault,
-    },
-    /// Silent steps of a component go round in a circle.
-    Diverges {
-        /// The component.
-        part: u32,
-        /// Terms of its table, each with a silent step to the next, and the last to the first.
-        circle: Circle,
+        /// Why.
+        fault: ComponentFault<Trace>,
     },
 }
 
-impl From<NoMemory> for TableFault {
+impl From<NoMemory> for Untabled {
     ghost use Rattle.std.specs.Prelude.{◌≡◌};
-    ghost use Rattle.network_tables.specs.declared.fault.TableFault.TheVariants.{NoMemory as OutOfMemory};
+    ghost use Rattle.network_tables.specs.declared.fault.Untabled.TheVariants.{NoMemory as OutOfMemory};
 
     ghost from_gives = { λ _ fault. fault ≡ OutOfMemory };
 
-    fn from(_error: NoMemory) -> TableFault {
-        TableFault::NoMemory
+    fn from(_error: NoMemory) -> Untabled {
+        Untabled::NoMemory
     }
 }

@@ -7,4 +7,4 @@ mod fault;
 
 pub use bound::silent_bound;
 pub use component_tables::{ComponentTable, tables};
-pub use fault::TableFault;
+pub use fault::Untabled;

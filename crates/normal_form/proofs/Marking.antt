@@ -13,11 +13,6 @@ use Rattle.csp_tables.specs.Table.{Node, node_at}
 use Rattle.normal_form.specs.Marks.{AreMarksOf}
 use Rattle.csp_base.proofs.Lists.{same_list}
 
--- what was made and pushed, and what holds of it
-pub pushed : {E : Type 0} (made : Result ℕ E) (old new : List ℕ) (L : Type 0) (P : ℕ → Type 0) → IsOkAnd made (λ item. new ≡ old ++ item ∷ []) → OnOk made L → IfOk made P → (item : ℕ) × L × P item × (new ≡ old ++ item ∷ [])
-pushed (Ok x) old new L P is l p = (x, l, p, is)
-pushed (Err e) old new L P is l p = absurd is
-
 -- equality of lists of sets, as a test
 abbrev pub same_sets : List (List ℕ) → List (List ℕ) → Bool
 same_sets = pointwise (pointwise nat_eq)
@@ -35,9 +30,10 @@ pub record AreMarkedSoFar (nodes : List Node) (n : ℕ) (seen : List (List (List
   pub within : (k : ℕ) → k < n → slice_index marks k < length seen
   pub read : (k : ℕ) → k < n → get_or seen (slice_index marks k) [] ≡ (node_at nodes k).accept
   pub apart : (p q : ℕ) → p < q → q < length seen → get_or seen p [] ≢ get_or seen q []
+  pub few : length seen ≤ n
 
 pub none_marked : (nodes : List Node) → AreMarkedSoFar nodes 0 [] []
-none_marked nodes = record { one_each = refl; within = λ k h. absurd (omega arith); read = λ k h. absurd (omega arith); apart = λ p q a b. absurd (omega arith) }
+none_marked nodes = record { one_each = refl; within = λ k h. absurd (omega arith); read = λ k h. absurd (omega arith); apart = λ p q a b. absurd (omega arith); few = omega arith }
 
 module _ (nodes : List Node) (n : ℕ) (seen new : List (List (List ℕ))) (marks more : List ℕ) (mark : ℕ) (key : List (List ℕ)) (s : AreMarkedSoFar nodes n seen marks) where
   -- what was seen is seen still
@@ -45,6 +41,7 @@ module _ (nodes : List Node) (n : ℕ) (seen new : List (List (List ℕ))) (mark
     longer : length seen ≤ length new
     kept : (p : ℕ) → p < length seen → At new p ≡ At seen p
     apart : (p q : ℕ) → p < q → q < length new → At new p ≢ At new q
+    few : length new ≤ length seen + 1
 
   kept_all : new ≡ with_new same_sets seen key → AreKept
   kept_all is = elim (cases_Bool (is_member same_sets seen key)) as (λ _. AreKept) [
@@ -54,6 +51,7 @@ module _ (nodes : List Node) (n : ℕ) (seen new : List (List (List ℕ))) (mark
           longer = rw same (omega arith);
           kept = λ p h. ap (λ (ss : List (List (List ℕ))). At ss p) same;
           apart = subst (λ (ss : List (List (List ℕ))). (p q : ℕ) → p < q → q < length ss → At ss p ≢ At ss q) (sym same) s.apart;
+          few = rw same (omega arith);
         }
     | inr fresh ↦
         let same : new ≡ seen ++ key ∷ [] = is ∙ cond-false (is_member same_sets seen key) seen (seen ++ key ∷ []) fresh in
@@ -62,6 +60,7 @@ module _ (nodes : List Node) (n : ℕ) (seen new : List (List (List ℕ))) (mark
         record {
           longer = omega arith;
           kept = old;
+          few = omega arith;
           apart = λ p q low high e. elim (cases_lt q (length seen)) as (λ _. ⊥) [
             | inl early ↦ s.apart p q low early (sym (old p (omega arith)) ∙ e ∙ old q early)
             | inr late ↦
@@ -88,6 +87,7 @@ module _ (nodes : List Node) (n : ℕ) (seen new : List (List (List ℕ))) (mark
             (λ j h. ap (At new) (old j h) ∙ k.kept (slice_index marks j) (s.within j h) ∙ s.read j h)
             (ap (At new) last ∙ get_or_from_slice_get new mark key [] place ∙ read);
         apart = k.apart;
+        few = let old_few = s.few in let grown = k.few in omega arith;
       }
 
 pub all_marked : (nodes : List Node) (n : ℕ) (seen : List (List (List ℕ))) (marks : List ℕ) → n ≡ length nodes → AreMarkedSoFar nodes n seen marks → AreMarksOf nodes marks

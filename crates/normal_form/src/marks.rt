@@ -1,6 +1,6 @@
 //! Marks that tell nodes with different acceptances apart.
 
-ghost use Rattle.std.specs.Prelude.{◌≡◌, [], IfOk, OnOk, ◌<◌, length, ℕ, ◌↔◌, slice_index};
+ghost use Rattle.std.specs.Prelude.{◌≡◌, [], IfOk, OnOk, ◌<◌, ◌^◌, length, ℕ, ◌↔◌, slice_index};
 ghost use Rattle.normal_form.specs.Marks.{AreMarksOf};
 
 use containers::{Items, Numbering};
@@ -10,6 +10,7 @@ use std::alloc::Global;
 
 // A number for each node. Two nodes have one number exactly where they have the same acceptances.
 pub(crate) fn accept_marks(alloc: Global, nodes: &[NormNode]) -> Result<Vec<u32>, NoMemory>
+    requires { length nodes.now < 2 ^ 32 }
     ensures { IfOk result (λ marks. AreMarksOf nodes.now marks.items) }
 {
     let mut numbering = Numbering::new(alloc);
@@ -27,11 +28,13 @@ fn add_marks(
 ) -> Result<(), NoMemory>
     requires empty { numbering.old ≡ [] }
     requires none { marks.old ≡ [] }
+    requires numbered { length nodes.now < 2 ^ 32 }
     ensures { OnOk result (AreMarksOf nodes.now marks.new) }
 {
     for node in nodes {
         let key = accept_key(alloc, node.accept())?;
-        marks.push_made(numbering.number(key))?;
+        let mark = numbering.number(key)?;
+        marks.push(mark as u32)?;
     }
     Ok(())
 }

@@ -14,7 +14,7 @@ use std::marker::Model;
 #[derive(Drop)]
 pub struct Explored {
     pairs: Numbering<(u32, u32)>,
-    origins: Vec<(u32, Event)>,
+    origins: Vec<(usize, Event)>,
 }
 
 impl Model for Explored {
@@ -29,7 +29,7 @@ impl Model for Explored {
 
 impl Explored {
     // What was found so far, with the place and the event from which each pair but the first was found.
-    pub(crate) fn new(pairs: Numbering<(u32, u32)>, origins: Vec<(u32, Event)>) -> Explored
+    pub(crate) fn new(pairs: Numbering<(u32, u32)>, origins: Vec<(usize, Event)>) -> Explored
         requires { HaveOrigins (record { pairs = pairs; origins = origins.items }) }
         ensures { result ≡ record { pairs = pairs; origins = origins.items } }
     {
@@ -75,7 +75,11 @@ impl Explored {
 }
 
 // The events along the way to the pair in this place.
-fn events_to(alloc: Global, origins: &[(u32, Event)], place: usize) -> Result<Vec<Event>, NoMemory>
+fn events_to(
+    alloc: Global,
+    origins: &[(usize, Event)],
+    place: usize,
+) -> Result<Vec<Event>, NoMemory>
     requires within { place < length origins.now + 1 }
     requires earlier { (k : ℕ) → k < length origins.now → (pair_at origins.now k).0 ≤ k }
     ensures { (table : List Node) (step : ℕ → ℕ → ℕ) (start : ℕ) (pairs : List (ℕ × ℕ)) → AreFound table step start (record { pairs = pairs; origins = origins.now })
@@ -86,7 +90,7 @@ fn events_to(alloc: Global, origins: &[(u32, Event)], place: usize) -> Result<Ve
     while at > 0 {
         let (earlier, event) = origins[at - 1];
         events.push(event)?;
-        at = earlier as usize;
+        at = earlier;
     }
     events.reverse();
     Ok(events)

@@ -41,7 +41,7 @@ fn find<O: Observer>(
     rows: &[Items<(Event, u32)>],
     observer: &O,
     pairs: &mut Numbering<(u32, u32)>,
-    origins: &mut Vec<(u32, Event)>,
+    origins: &mut Vec<(usize, Event)>,
 ) -> Result<(), NoMemory>
     requires form { HasForm part.now }
     requires enough { SeesEnough (O.step observer.now) part.now.table rows.now }
@@ -61,7 +61,7 @@ fn follow_all<O: Observer>(
     rows: &[Items<(Event, u32)>],
     observer: &O,
     pairs: &mut Numbering<(u32, u32)>,
-    origins: &mut Vec<(u32, Event)>,
+    origins: &mut Vec<(usize, Event)>,
 ) -> Result<(), NoMemory>
     requires form { HasForm part.now }
     requires enough { SeesEnough (O.step observer.now) part.now.table rows.now }
@@ -73,7 +73,7 @@ fn follow_all<O: Observer>(
 {
     let mut place = 0;
     while place < pairs.as_slice().len() {
-        follow(part, rows, observer, pairs, origins, place as u32)?;
+        follow(part, rows, observer, pairs, origins, place)?;
         place += 1;
     }
     Ok(())
@@ -85,8 +85,8 @@ fn follow<O: Observer>(
     rows: &[Items<(Event, u32)>],
     observer: &O,
     pairs: &mut Numbering<(u32, u32)>,
-    origins: &mut Vec<(u32, Event)>,
-    place: u32,
+    origins: &mut Vec<(usize, Event)>,
+    place: usize,
 ) -> Result<(), NoMemory>
     requires form { HasForm part.now }
     requires enough { SeesEnough (O.step observer.now) part.now.table rows.now }
@@ -106,14 +106,14 @@ fn follow<O: Observer>(
 fn steps_from<'a>(
     rows: &'a [Items<(Event, u32)>],
     pairs: &Numbering<(u32, u32)>,
-    place: u32,
+    place: usize,
 ) -> (&'a [(Event, u32)], u32)
     requires place { place < length pairs.now }
     requires node { (pair_at pairs.now place).0 < length rows.now }
     ensures steps { result.0.now ≡ get_or rows.now (pair_at pairs.now place).0 [] }
     ensures state { result.1 ≡ (pair_at pairs.now place).1 }
 {
-    let (node, state) = pairs.as_slice()[place as usize];
+    let (node, state) = pairs.as_slice()[place];
     (rows[node as usize].as_slice(), state)
 }
 
@@ -121,8 +121,8 @@ fn steps_from<'a>(
 fn add_target<O: Observer>(
     observer: &O,
     pairs: &mut Numbering<(u32, u32)>,
-    origins: &mut Vec<(u32, Event)>,
-    place: u32,
+    origins: &mut Vec<(usize, Event)>,
+    place: usize,
     state: u32,
     step: (Event, u32),
 ) -> Result<(), NoMemory>
@@ -137,9 +137,9 @@ fn add_target<O: Observer>(
 // Lists the pair, with its origin, if it is new.
 fn add(
     pairs: &mut Numbering<(u32, u32)>,
-    origins: &mut Vec<(u32, Event)>,
+    origins: &mut Vec<(usize, Event)>,
     pair: (u32, u32),
-    origin: (u32, Event),
+    origin: (usize, Event),
 ) -> Result<(), NoMemory>
     ensures added { OnOk result (IsAdded pairs.old origins.old.items pair origin pairs.new origins.new.items) }
     ensures listed { OnOk result (HasPair pairs.new pair) }

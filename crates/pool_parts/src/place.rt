@@ -6,7 +6,7 @@ use containers::Exact;
 
 /// The place of a process in a pool, from 0 on.
 #[derive(Clone, Copy, PartialEq, Eq, Hash)]
-pub struct ProcId(pub u32);
+pub struct ProcId(pub usize);
 
 impl Exact for ProcId {
     ghost exact = { exact_id };

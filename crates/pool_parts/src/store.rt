@@ -51,7 +51,7 @@ pub struct Store<T: Part> {
     parts: Numbering<T>,
     notes: Items<Note>,
     // the number that was told last: the same part is often asked for again
-    latest: u32,
+    latest: usize,
 }
 
 // By hand, so that a crate that ends one calls this and proves no end of its own.
@@ -100,15 +100,15 @@ impl<T: Part> Store<T> {
     }
 
     /// The part with the number `place`.
-    pub fn get(&self, place: u32) -> &T
+    pub fn get(&self, place: usize) -> &T
         requires { place < length self.now }
         ensures { (other : T) → result.now ≡ slice_index_or self.now place other }
     {
-        &self.as_slice()[place as usize]
+        &self.as_slice()[place]
     }
 
     /// What the part with the number `place` measures.
-    pub fn measure(&self, place: u32) -> Measure
+    pub fn measure(&self, place: usize) -> Measure
         requires { place < length self.now }
         ensures depth { (other : T) → result.depth ≡ capped (T.depth (slice_index_or self.now place other)) }
         ensures size { (other : T) → result.size ≡ capped (T.size (slice_index_or self.now place other)) }
@@ -117,7 +117,7 @@ impl<T: Part> Store<T> {
     }
 
     /// A number below which the part with the number `place` reads no name.
-    pub fn least(&self, place: u32) -> u32
+    pub fn least(&self, place: usize) -> u32
         requires { place < length self.now }
         ensures { (other : T) → T.low result (slice_index_or self.now place other) }
     {
@@ -125,7 +125,7 @@ impl<T: Part> Store<T> {
     }
 
     /// The number of the part, of which a copy is kept where it is new.
-    pub fn keep(&mut self, alloc: Global, part: &T) -> Result<u32, NoMemory>
+    pub fn keep(&mut self, alloc: Global, part: &T) -> Result<usize, NoMemory>
         ensures place { IfOk result (λ place. slice_get self.new place ≡ Some part.now) }
         ensures start { IsStart self.old self.new }
         ensures once { EachOnce self.new }
@@ -137,7 +137,7 @@ impl<T: Part> Store<T> {
     }
 
     /// The number of a part that was made, which is kept itself where it is new; none where it was not made.
-    pub fn keep_made(&mut self, made: Result<T, NoMemory>) -> Result<u32, NoMemory>
+    pub fn keep_made(&mut self, made: Result<T, NoMemory>) -> Result<usize, NoMemory>
         ensures place { (part : T) → IfOk made (λ it. it ≡ part) → IfOk result (λ place. slice_get self.new place ≡ Some part) }
         ensures start { IsStart self.old self.new }
         ensures once { EachOnce self.new }
@@ -166,14 +166,14 @@ fn note_of<T: Part>(part: &T) -> Note
 }
 
 // What is noted of the part with the number `place`, or is to be.
-fn note_at<T: Part>(parts: &Numbering<T>, notes: &Items<Note>, place: u32) -> Note
+fn note_at<T: Part>(parts: &Numbering<T>, notes: &Items<Note>, place: usize) -> Note
     requires noted { AreNoted T.depth T.size T.low notes.now parts.now }
     requires within { place < length parts.now }
     ensures { (other : T) → IsNote T.depth T.size T.low (slice_index_or parts.now place other) result }
 {
-    match notes.get(place as usize) {
+    match notes.get(place) {
         Some(note) => *note,
-        None => note_of(&parts.as_slice()[place as usize]),
+        None => note_of(&parts.as_slice()[place]),
     }
 }
 
@@ -190,17 +190,17 @@ fn note_next<T: Part>(parts: &Numbering<T>, notes: &mut Items<Note>)
 }
 
 // Whether the part stands at a place.
-fn is_at<T: Part>(parts: &Numbering<T>, place: u32, part: &T) -> bool
+fn is_at<T: Part>(parts: &Numbering<T>, place: usize, part: &T) -> bool
     ensures { IsTrue result → slice_get parts.now place ≡ Some part.now }
 {
-    match parts.get(place as usize) {
+    match parts.get(place) {
         Some(other) => *other == *part,
         None => false,
     }
 }
 
 // The number of the part, if it has one: `latest` is looked at first.
-fn find_in<T: Part>(parts: &Numbering<T>, latest: u32, part: &T) -> Option<u32>
+fn find_in<T: Part>(parts: &Numbering<T>, latest: usize, part: &T) -> Option<usize>
     ensures { MatchOption result (IsAbsent parts.now part.now) (λ place. slice_get parts.now place ≡ Some part.now) }
 {
     if is_at(parts, latest, part) {
@@ -213,10 +213,10 @@ fn find_in<T: Part>(parts: &Numbering<T>, latest: u32, part: &T) -> Option<u32>
 fn keep_in<T: Part>(
     parts: &mut Numbering<T>,
     notes: &mut Items<Note>,
-    latest: u32,
+    latest: usize,
     alloc: Global,
     part: &T,
-) -> Result<u32, NoMemory>
+) -> Result<usize, NoMemory>
     requires noted { AreNoted T.depth T.size T.low notes.old parts.old }
     ensures noted { AreNoted T.depth T.size T.low notes.new parts.new }
     ensures place { IfOk result (λ place. slice_get parts.new place ≡ Some part.now) }
@@ -236,7 +236,7 @@ fn keep_made_in<T: Part>(
     parts: &mut Numbering<T>,
     notes: &mut Items<Note>,
     made: Result<T, NoMemory>,
-) -> Result<u32, NoMemory>
+) -> Result<usize, NoMemory>
     requires noted { AreNoted T.depth T.size T.low notes.old parts.old }
     ensures noted { AreNoted T.depth T.size T.low notes.new parts.new }
     ensures place { (part : T) → IfOk made (λ it. it ≡ part) → IfOk result (λ place. slice_get parts.new place ≡ Some part) }
@@ -254,7 +254,7 @@ fn keep_own_in<T: Part>(
     parts: &mut Numbering<T>,
     notes: &mut Items<Note>,
     part: T,
-) -> Result<u32, NoMemory>
+) -> Result<usize, NoMemory>
     requires noted { AreNoted T.depth T.size T.low notes.old parts.old }
     ensures noted { AreNoted T.depth T.size T.low notes.new parts.new }
     ensures place { IfOk result (λ place. slice_get parts.new place ≡ Some part) }
@@ -268,7 +268,7 @@ fn keep_own_in<T: Part>(
 }
 
 // The number of the part, which is the next one where it is new.
-fn number<T: Part>(parts: &mut Numbering<T>, part: T) -> Result<u32, NoMemory>
+fn number<T: Part>(parts: &mut Numbering<T>, part: T) -> Result<usize, NoMemory>
     ensures place { IfOk result (λ place. slice_get parts.new place ≡ Some part) }
     ensures start { IsStart parts.old parts.new }
     ensures once { EachOnce parts.new }

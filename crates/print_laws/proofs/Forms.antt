@@ -19,10 +19,9 @@ use Rattle.csp_base.specs.declared.operators.SetOp.{SetOp}
 use Rattle.csp_base.specs.declared.operators.SetOp.TheVariants as set_op
 use Rattle.csp_grammar.specs.Grammar.{TreeText, ClosedPrefixText, ClosedSequenceText, OpenText, DottedText, ExpressionText, ItemText, AtomText}
 use Rattle.csp_grammar.specs.Grammar as g
-use Rattle.csp_grammar.specs.Precedence.{Level}
 use Rattle.csp_grammar.specs.Precedence as table
-use Rattle.csp_grammar.specs.Precedence.IsNext.{disjunction-conjunction, conjunction-negation, negation-comparison, comparison-sum, sum-product, product-minus, minus-renaming}
-use Rattle.csp_grammar.specs.Precedence.Level.{disjunction, conjunction, negation, comparison, sum, product, minus, renaming}
+use Rattle.csp_grammar.specs.Precedence.IsNext.{disjunction-conjunction, conjunction-negation, sum-product, product-minus}
+use Rattle.csp_grammar.specs.Precedence.Level.{disjunction, conjunction, negation, comparison, sum, product, minus}
 use Rattle.script_printer.specs.declared.shape.Shape.{Shape}
 use Rattle.script_printer.specs.declared.shape.Shape.TheVariants.{Atom, Dotted, Compound}
 use Rattle.script_printer.specs.PrintedTree.{as_item, as_operand, form, in_parentheses, item_tokens, operand_tokens, operator_token, printed_tokens, shape_of}

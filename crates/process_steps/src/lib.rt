@@ -3,8 +3,10 @@
 
 ghost use Rattle.process_steps.specs.Laws.{ListsAreOfLayers, ListsAreSteps};
 
+pub mod component_fault;
 pub mod label;
 
+pub use component_fault::ComponentFault;
 pub use label::Label;
 
 /// Where a process has a list of steps, it is exactly its steps. The list is that of the process's layer over the lists of the processes below.

@@ -3,12 +3,12 @@ use Rattle.std.specs.Prelude.{ℕ, zero, suc, ◌+◌, List, ◌++◌, codes}
 use Rattle.std.specs.Fmt.{decimal}
 use Rattle.csp_program.specs.declared.kinds.ValueKind.{ValueKind}
 use Rattle.csp_program.specs.declared.kinds.ValueKind.TheVariants as kind
+use Rattle.network_trees.specs.declared.fault.LayoutFault.{LayoutFault}
+use Rattle.network_trees.specs.declared.fault.LayoutFault.TheVariants as network
+use Rattle.process_steps.specs.declared.component_fault.ComponentFault.{ComponentFault}
+use Rattle.process_steps.specs.declared.component_fault.ComponentFault.TheVariants as table
 use Rattle.report.specs.Lines.{trace_text}
 use Rattle.report.specs.Sides.{side_name}
-use Rattle.report.specs.declared.answer.NetworkFault.{NetworkFault}
-use Rattle.report.specs.declared.answer.NetworkFault.TheVariants as network
-use Rattle.report.specs.declared.answer.ComponentFault.{ComponentFault}
-use Rattle.report.specs.declared.answer.ComponentFault.TheVariants as table
 use Rattle.report.specs.declared.answer.Refusal.{Refusal}
 use Rattle.report.specs.declared.answer.Refusal.TheVariants as refusal
 use Rattle.report.specs.declared.answer.Side.{Side}
@@ -31,6 +31,10 @@ site_text (site.Component i) = codes " in component " ++ decimal i
 site_text (site.Annotation i) = codes " in the annotation of component " ++ decimal i
 site_text site.HiddenSet = codes " in the hidden set"
 
+-- a value that there isn't
+abbrev pub value_text : ValueKind → Site → List ℕ
+value_text k at = codes "2 value fault " ++ kind_text k ++ site_text at
+
 -- where an operand, whose first component has this number and which has so many, differs from its alphabet
 abbrev pub nesting_text : ℕ → ℕ → List ℕ → List ℕ
 nesting_text first zero event = codes "14 an empty operand has " ++ event ++ codes " in its alphabet"
@@ -50,7 +54,8 @@ program_text (program.DataDepth d) = codes "33 data too deep in declaration " ++
 program_text (program.Value d k) = codes "2 value fault " ++ kind_text k ++ codes " in declaration " ++ decimal d
 
 -- why the component with the number i has no normal table
-abbrev pub component_text : ℕ → ComponentFault → List ℕ
+abbrev pub component_text : ℕ → ComponentFault (List (List ℕ)) → List ℕ
+component_text i (table.Value k) = value_text k (site.Component i)
 component_text i table.TermCount = codes "10 component " ++ decimal i ++ codes " has more than 16384 terms"
 component_text i table.TermDepth = codes "10 component " ++ decimal i ++ codes " has a term of depth over 800"
 component_text i table.TermTotal = codes "10 component " ++ decimal i ++ codes " has terms that are too large"
@@ -59,7 +64,8 @@ component_text i table.Diverges = codes "12 component " ++ decimal i ++ codes " 
 component_text i table.SubsetLimit = codes "13 component " ++ decimal i ++ codes " has more than 2048 sets of terms"
 component_text i (table.Terminates trace) = codes "19 component " ++ decimal i ++ codes " can terminate after " ++ trace_text trace
 
-abbrev pub network_text : NetworkFault → List ℕ
+abbrev pub network_text : LayoutFault (List ℕ) → List ℕ
+network_text (network.Value k) = value_text k site.Network
 network_text (network.BadNesting first count event) = nesting_text first count event
 network_text network.EmptyNetwork = codes "15 the network has no components"
 network_text network.ComponentLimit = codes "16 more than 512 components"
@@ -68,7 +74,7 @@ network_text network.NetworkDepth = codes "34 the network is nested deeper than 
 -- of the text of a side
 abbrev pub refusal_text : Side → Refusal → List ℕ
 refusal_text s (refusal.NoScript at) = codes "1 no script near line " ++ decimal at.line ++ codes " column " ++ decimal at.column
-refusal_text s (refusal.Value k at) = codes "2 value fault " ++ kind_text k ++ site_text at
+refusal_text s (refusal.Value k at) = value_text k at
 refusal_text s (refusal.NoProgram fault) = program_text fault
 refusal_text s (refusal.Network fault) = network_text fault
 refusal_text s (refusal.Component i fault) = component_text i fault

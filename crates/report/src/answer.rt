@@ -5,6 +5,8 @@ use csp_base::{Bytes, Place};
 use csp_program::ValueKind;
 use csp_tables::Rule;
 use design_rules::Condition;
+use network_trees::LayoutFault;
+use process_steps::ComponentFault;
 use script_names::ResolveFault;
 
 /// Where a value is needed.
@@ -18,77 +20,6 @@ pub enum Site {
     Annotation(u32),
     /// In the set of hidden events.
     HiddenSet,
-}
-
-/// Why a component has no normal table.
-pub enum ComponentFault {
-    /// It has more than 16,384 terms (10).
-    TermCount,
-    /// It has a term of a depth over 800 (10).
-    TermDepth,
-    /// Its terms and those of the components before it are too large together (10).
-    TermTotal,
-    /// It and the components before it have too many steps together (11).
-    StepCount,
-    /// It can do silent steps without an end (12).
-    Diverges,
-    /// More than 2,048 sets of its terms are reached by traces (13).
-    SubsetLimit,
-    /// It can end (19).
-    Terminates {
-        /// Events after which it can.
-        trace: Items<Bytes>,
-    },
-}
-
-// By hand, so that a crate that ends one calls this and proves no end of its own.
-impl Drop for ComponentFault {
-    fn drop(self) {
-        match self {
-            ComponentFault::TermCount => {}
-            ComponentFault::TermDepth => {}
-            ComponentFault::TermTotal => {}
-            ComponentFault::StepCount => {}
-            ComponentFault::Diverges => {}
-            ComponentFault::SubsetLimit => {}
-            ComponentFault::Terminates { trace: _trace } => {}
-        }
-    }
-}
-
-/// Why a program spells no network.
-pub enum NetworkFault {
-    /// The alphabet of an operand is not the union of those of its components (14).
-    BadNesting {
-        /// The first component of the operand.
-        first: u32,
-        /// How many components it has.
-        count: u32,
-        /// An event that is in one of the two alone.
-        event: Bytes,
-    },
-    /// It has no components (15).
-    EmptyNetwork,
-    /// It has more than 512 components (16).
-    ComponentLimit,
-    /// It is nested deeper than 800 (34).
-    NetworkDepth,
-}
-
-// By hand, so that a crate that ends one calls this and proves no end of its own.
-impl Drop for NetworkFault {
-    fn drop(self) {
-        match self {
-            NetworkFault::BadNesting {
-                first: _first,
-                count: _count,
-                event: _event,
-            } => {}
-            NetworkFault::EmptyNetwork => {}
-            NetworkFault::ComponentLimit => {}
-            NetworkFault::NetworkDepth => {}
-        }
-    }
 }
 
 /// Which of the texts that a request names is meant.
@@ -109,7 +40,7 @@ pub enum Refusal {
         /// Where its first piece begins that is no token; where there is none, the place of a token or of its end.
         at: Place,
     },
-    /// A value is needed that there isn't (2).
+    /// A value is needed that there isn't (2), elsewhere than in the walk of the network or the steps of a component.
     Value {
         /// Why there is none.
         kind: ValueKind,
@@ -119,13 +50,13 @@ pub enum Refusal {
     /// The script has no program (2 to 9 and 33).
     NoProgram(ResolveFault),
     /// The program spells no network.
-    Network(NetworkFault),
+    Network(LayoutFault<Bytes>),
     /// A component has no normal table.
     Component {
         /// The component.
         component: u32,
         /// Why it has none.
-        fault: ComponentFault,
+        fault: ComponentFault<Items<Bytes>>,
     },
     /// No component has the number that was asked for (35).
     NoComponent {

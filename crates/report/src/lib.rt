@@ -12,8 +12,7 @@ mod shortfalls;
 mod stop;
 
 pub use answer::{
-    Answer, ComponentFault, Done, NetworkFault, OutsideFault, PrintedMove, PrintedNode, Refusal,
-    Shortfall, Side, Site,
+    Answer, Done, OutsideFault, PrintedMove, PrintedNode, Refusal, Shortfall, Side, Site,
 };
 pub use events::event_text;
 pub use printed::rule_name;

@@ -4,19 +4,22 @@ ghost use Rattle.std.specs.Prelude.{◌≡◌, ◌+◌, ◌++◌, IfOk, codes};
 ghost use Rattle.std.specs.Fmt.{decimal};
 ghost use Rattle.report.specs.Lines.{trace_text};
 ghost use Rattle.report.specs.Sides.{side_name};
-ghost use Rattle.report.specs.Refusals.{component_text, kind_text, nesting_text, network_text, program_text, refusal_text, site_text};
+ghost use Rattle.report.specs.Refusals.{component_text, kind_text, nesting_text, network_text, program_text, refusal_text, value_text};
 
-use crate::answer::{ComponentFault, NetworkFault, Refusal, Side, Site};
+use crate::answer::{Refusal, Side, Site};
 use crate::lines::{Part, written};
 use crate::printed::{kind_name, side_name, site};
+use containers::Items;
 use csp_base::{Bytes, NoMemory, Place};
 use csp_program::ValueKind;
+use network_trees::LayoutFault;
+use process_steps::ComponentFault;
 use script_names::ResolveFault;
 use std::alloc::Global;
 
 // A value that there isn't.
 fn value(alloc: Global, kind: ValueKind, at: Site) -> Result<Bytes, NoMemory>
-    ensures { IfOk result (λ made. made ≡ codes "2 value fault " ++ kind_text kind ++ site_text at) }
+    ensures { IfOk result (λ made. made ≡ value_text kind at) }
 {
     let place = site(alloc, at)?;
     written(
@@ -186,11 +189,16 @@ fn terminates(alloc: Global, component: u64, trace: &[Bytes]) -> Result<Bytes, N
 }
 
 // Why a component has no normal table.
-fn component(alloc: Global, component: u32, fault: &ComponentFault) -> Result<Bytes, NoMemory>
+fn component(
+    alloc: Global,
+    component: u32,
+    fault: &ComponentFault<Items<Bytes>>,
+) -> Result<Bytes, NoMemory>
     ensures { IfOk result (λ made. made ≡ component_text component fault.now) }
 {
     let i = u64::from(component);
     match fault {
+        ComponentFault::Value { kind } => value(alloc, *kind, Site::Component(component)),
         ComponentFault::TermCount => between(
             alloc,
             b"10 component ",
@@ -222,18 +230,19 @@ fn component(alloc: Global, component: u32, fault: &ComponentFault) -> Result<By
 }
 
 // Why a program spells no network.
-fn network(alloc: Global, fault: &NetworkFault) -> Result<Bytes, NoMemory>
+fn network(alloc: Global, fault: &LayoutFault<Bytes>) -> Result<Bytes, NoMemory>
     ensures { IfOk result (λ made. made ≡ network_text fault.now) }
 {
     match fault {
-        NetworkFault::BadNesting {
+        LayoutFault::Value { kind } => value(alloc, *kind, Site::Network),
+        LayoutFault::BadNesting {
             first,
             count,
             event,
         } => nesting(alloc, *first, *count, event.as_slice()),
-        NetworkFault::EmptyNetwork => Bytes::from_slice(alloc, b"15 the network has no components"),
-        NetworkFault::ComponentLimit => Bytes::from_slice(alloc, b"16 more than 512 components"),
-        NetworkFault::NetworkDepth => {
+        LayoutFault::EmptyNetwork => Bytes::from_slice(alloc, b"15 the network has no components"),
+        LayoutFault::ComponentLimit => Bytes::from_slice(alloc, b"16 more than 512 components"),
+        LayoutFault::NetworkDepth => {
             Bytes::from_slice(alloc, b"34 the network is nested deeper than 800")
         }
     }

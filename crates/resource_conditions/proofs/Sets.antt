@@ -1,41 +1,23 @@
 -- Sets of events, and tests of all members of a list.
-use Rattle.std.proofs.Common.{◌≡◌, ℕ, zero, suc, ◌<◌, inl, inr, List, [], ◌∷◌, length, get_or, Bool, true, false, not, ◌||◌, nat_eq, refl, sym, subst, arith, eq-eqb}
-use Rattle.std.specs.List.{list_all, list_any, filter}
-use Rattle.std.proofs.lemmas.Bool.{cases_Bool, cond-true, cond-false, and_parts, or_cases, or_left, or_right, eqb-true, false≢true}
+use Rattle.std.proofs.Common.{◌≡◌, ℕ, suc, ◌<◌, inl, inr, List, [], ◌∷◌, length, get_or, Bool, true, false, not, ◌||◌, nat_eq, refl, sym, subst, ◌∙◌, arith, eq-eqb}
+use Rattle.std.specs.List.{list_all, list_any}
+use Rattle.std.proofs.lemmas.Bool.{cases_Bool, and_from, and_parts, or_cases, or_left, or_right, eqb-true, both_ways, false≢true}
 use Rattle.std.proofs.lemmas.List.{get_or_read}
 use Rattle.std.proofs.lemmas.List.Folds.{list_all_at}
 use Rattle.csp_base.specs.Members.{has}
 use Rattle.csp_base.specs.Events.{inter_of}
 use Rattle.csp_tables.specs.Table.{is_possible}
 use Rattle.csp_base.proofs.Booleans.{and_second_false}
+use Rattle.csp_base.proofs.SetLaws.{has-inter_of}
 
 -- ---- members
 
-has_later : (z : ℕ) (zs : List ℕ) (e : ℕ) → has zs e ≡ true → has (z ∷ zs) e ≡ true
-has_later z zs e x = elim (cases_Bool (nat_eq z e)) [ inl k ↦ rw k refl | inr k ↦ rw k x ]
-
 -- the members of both
 pub in_both : (M N : List ℕ) (e : ℕ) → has M e ≡ true → has N e ≡ true → has (inter_of M N) e ≡ true
-in_both [] N e x y = absurd (false≢true x)
-in_both (z ∷ zs) N e x y = elim (or_cases (nat_eq z e) (has zs e) x) [
-  | inl same ↦
-      let there : has N z ≡ true = subst (λ w. has N w ≡ true) (sym (eqb-true z e same)) y in
-      subst (λ ws. has ws e ≡ true) (sym (cond-true (has N z) (z ∷ filter (has N) zs) (filter (has N) zs) there)) (or_left (nat_eq z e) (has (filter (has N) zs) e) same)
-  | inr later ↦ elim (cases_Bool (has N z)) [
-    | inl there ↦ subst (λ ws. has ws e ≡ true) (sym (cond-true (has N z) (z ∷ filter (has N) zs) (filter (has N) zs) there)) (or_right (nat_eq z e) (has (filter (has N) zs) e) (in_both zs N e later y))
-    | inr lacks ↦ subst (λ ws. has ws e ≡ true) (sym (cond-false (has N z) (z ∷ filter (has N) zs) (filter (has N) zs) lacks)) (in_both zs N e later y)
-  ]
-]
+in_both M N e x y = has-inter_of M N e ∙ and_from (has M e) (has N e) x y
 
 pub of_both : (M N : List ℕ) (e : ℕ) → has (inter_of M N) e ≡ true → (has M e ≡ true) × (has N e ≡ true)
-of_both [] N e x = absurd (false≢true x)
-of_both (z ∷ zs) N e x = elim (cases_Bool (has N z)) [
-  | inl there ↦ elim (or_cases (nat_eq z e) (has (filter (has N) zs) e) (subst (λ ws. has ws e ≡ true) (cond-true (has N z) (z ∷ filter (has N) zs) (filter (has N) zs) there) x)) [
-    | inl same ↦ (or_left (nat_eq z e) (has zs e) same, subst (λ w. has N w ≡ true) (eqb-true z e same) there)
-    | inr later ↦ let r = of_both zs N e later in (or_right (nat_eq z e) (has zs e) r.0, r.1)
-  ]
-  | inr lacks ↦ let r = of_both zs N e (subst (λ ws. has ws e ≡ true) (cond-false (has N z) (z ∷ filter (has N) zs) (filter (has N) zs) lacks) x) in (or_right (nat_eq z e) (has zs e) r.0, r.1)
-]
+of_both M N e x = and_parts (has M e) (has N e) (sym (has-inter_of M N e) ∙ x)
 
 pub inter_none : (M : List ℕ) → inter_of M [] ≡ []
 inter_none [] = refl
@@ -64,9 +46,7 @@ some_possible test (step ∷ steps) none = elim (cases_Bool (test step.0)) [
 
 -- of each acceptance
 pub all_at : (test : List ℕ → Bool) (Ms : List (List ℕ)) (k : ℕ) → k < length Ms → list_all test Ms ≡ true → test (get_or Ms k []) ≡ true
-all_at test [] k h all = absurd (omega arith)
-all_at test (M ∷ Ms) zero h all = (and_parts (test M) (list_all test Ms) all).0
-all_at test (M ∷ Ms) (suc k) h all = all_at test Ms k (omega arith) (and_parts (test M) (list_all test Ms) all).1
+all_at test Ms k h all = elim (cases_Bool (test (get_or Ms k []))) [ inl passes ↦ passes | inr fails ↦ absurd (both_ways (list_all test Ms) (list_all_at test Ms k [] h fails) all) ]
 
 pub some_at : (test : List ℕ → Bool) (Ms : List (List ℕ)) → list_all test Ms ≡ false → (k : ℕ) × (k < length Ms) × (test (get_or Ms k []) ≡ false)
 some_at test [] none = absurd (false≢true (sym none))

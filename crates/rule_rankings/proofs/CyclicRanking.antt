@@ -1,5 +1,5 @@
 -- The ranks and the laps of a cyclic network.
-use Rattle.std.proofs.Common.{◌≡◌, ℕ, zero, suc, ◌+◌, ◌<◌, ◌≤◌, inl, inr, pos, List, [], ◌∷◌, length, get_or, Bool, true, false, ◌&&◌, ◌||◌, cond, max, IsTrue, nat_eq, nat_lt, refl, sym, ap, subst, ◌∙◌, arith, eq-eqb, ne_eqb, lt-ltb}
+use Rattle.std.proofs.Common.{◌≡◌, ℕ, zero, suc, ◌+◌, ◌<◌, ◌≤◌, inl, inr, pos, List, [], ◌∷◌, length, get_or, Bool, true, false, ◌&&◌, cond, max, IsTrue, nat_eq, nat_lt, sym, ap, subst, ◌∙◌, arith, eq-eqb, ne_eqb, lt-ltb}
 use Rattle.std.proofs.lemmas.Bool.{cases_Bool, cases_eq, cases_lt, cond-true, cond-false, and_from, or_cases, eqb-true, both_ways, false≢true}
 use Rattle.std.proofs.lemmas.List.{get_or_past}
 use Rattle.std.proofs.lemmas.Option.{get_or_from_slice_get, slice_get_within}
@@ -14,6 +14,7 @@ use Rattle.design_rules.specs.Vertices.{IsVertex}
 use Rattle.design_rules.specs.Cyclic.{links_of, ReachesLink, AllKeepPlaces, NumbersRise}
 use Rattle.design_rules.specs.CyclicRanking.{place_of, ends_lap, AreCyclicRanks}
 use Rattle.design_rules.proofs.Counts.{count_mono}
+use Rattle.design_rules.proofs.RankCheck.{lap_absent}
 use Rattle.design_rules.proofs.Shapes.{link_shared}
 use Rattle.design_rules.proofs.Places.{reached_differ}
 use Rattle.design_rules.proofs.Cyclic.{earlier_place, place_below}
@@ -136,17 +137,6 @@ module _ (shape : Shape) (number : ℕ → ℕ) (w : IsWellFormed shape) (triple
         (suc r.0, (let b : r.0 < length xs = r.1 in omega arith), r.2, cond-false (nat_eq x.0 e) y (lap_of xs ys e) other ∙ r.3)
   ]
 
-  lap_missing : (next : List (ℕ × ℕ)) (laps : List ℕ) (e : ℕ) → is_possible next e ≡ false → lap_of next laps e ≡ 0
-  lap_missing [] laps e h = refl
-  lap_missing (x ∷ xs) [] e h = refl
-  lap_missing (x ∷ xs) (y ∷ ys) e h =
-      let p = neither (nat_eq x.0 e) (is_possible xs e) h in
-      cond-false (nat_eq x.0 e) y (lap_of xs ys e) p.0 ∙ lap_missing xs ys e p.1
-    where
-      neither : (a b : Bool) → (a || b) ≡ false → (a ≡ false) × (b ≡ false)
-      neither true b k = absurd (false≢true (sym k))
-      neither false b k = (refl, k)
-
   laps_of_node : (i n : ℕ) (r : PartRanks) (a : ArePartRanks shape number i r) → n < length (part_at shape.parts i).table → AreNodeLaps shape number a.top (node_at (part_at shape.parts i).table n) (get_or r.laps n [])
   laps_of_node i n r a h = (a.laps_are).each n h
 
@@ -168,7 +158,7 @@ module _ (shape : Shape) (number : ℕ → ℕ) (w : IsWellFormed shape) (triple
 
   pub hidden_lap : (i n e : ℕ) (r : PartRanks) → i < length shape.parts → ArePartRanks shape number i r → has shape.vocabulary e ≡ false → lap_of (node_at (part_at shape.parts i).table n).next (get_or r.laps n []) e ≡ 0
   hidden_lap i n e r h a hidden = elim (cases_Bool (is_possible (node_at (part_at shape.parts i).table n).next e)) [
-    | inr no_step ↦ lap_missing (node_at (part_at shape.parts i).table n).next (get_or r.laps n []) e no_step
+    | inr no_step ↦ lap_absent (node_at (part_at shape.parts i).table n).next (get_or r.laps n []) e no_step
     | inl possible ↦
         let below = possible_node i n e possible in
         let laps = laps_of_node i n r a below in

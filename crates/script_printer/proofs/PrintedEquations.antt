@@ -5,9 +5,8 @@ use Rattle.std.proofs.Common.{◌≡◌, ℕ, Some, None, List, [], ◌∷◌, �
 use Rattle.std.specs.Prelude.{flat_map}
 use Rattle.std.proofs.lemmas.List.Folds.{flat_map-map}
 use Rattle.csp_text.specs.declared.token.Token.{Token}
-use Rattle.csp_text.specs.declared.token.Token.TheVariants.{Name, Num, Word, Symbol}
-use Rattle.csp_text.specs.declared.token.Word.TheVariants as word
-use Rattle.csp_text.specs.declared.token.Symbol.TheVariants.{Arrow, ExternalChoice, InternalChoice, Parallel, OpenRename, CloseRename, OpenProduct, CloseProduct, LeftArrow, DotDot, Dot, Bang, Question, At, Minus, OpenParen, CloseParen, OpenBrace, CloseBrace, OpenBracket, CloseBracket, Comma, Ampersand, Bar, Backslash, Semicolon}
+use Rattle.csp_text.specs.declared.token.Token.TheVariants.{Name, Num, Symbol}
+use Rattle.csp_text.specs.declared.token.Symbol.TheVariants.{Arrow, ExternalChoice, InternalChoice, Parallel, OpenRename, CloseRename, OpenProduct, CloseProduct, LeftArrow, Dot, Bang, Question, OpenParen, CloseParen, OpenBrace, CloseBrace, Comma, Bar}
 use Rattle.csp_base.specs.declared.operators.BinOp.{BinOp}
 use Rattle.csp_base.specs.declared.operators.SetOp.{SetOp}
 use Rattle.csp_text.specs.declared.tree.FieldTree.TheFolds.{map-FieldTree, map-GenTree, map-Tree, fold-roll-FieldTree, fold-roll-GenTree, fold-roll-Tree, fold-roll-EventTree, fold-roll-PartTree}
@@ -21,9 +20,8 @@ use Rattle.csp_text.specs.declared.tree.Tree.{Tree}
 use Rattle.csp_text.specs.declared.tree.Tree.TheVariants as tree
 use Rattle.csp_text.specs.declared.tree.EventTree.{EventTree}
 use Rattle.csp_text.specs.declared.tree.PartTree.{PartTree}
-use Rattle.script_printer.specs.declared.shape.Shape.TheVariants.{Atom, Dotted, Compound}
-use Rattle.script_printer.specs.PrintedTree.{Printed, atom, compound, form, form_tokens, operand, item, operator_token, separated, dotted, conditions, bound_in, pair_tokens, renamed_tokens, printed, printed_tokens, shape_of, operand_tokens, item_tokens, field_tokens, gen_tokens, event_tokens, part_tokens, tree_layer_printed, field_layer_printed, gen_layer_printed, event_layer_printed, part_layer_printed}
-use Rattle.csp_text.specs.Written.{set_op_word}
+use Rattle.script_printer.specs.declared.shape.Shape.TheVariants.{Dotted}
+use Rattle.script_printer.specs.PrintedTree.{Printed, atom, compound, form, form_tokens, operand, item, separated, dotted, conditions, bound_in, pair_tokens, renamed_tokens, printed, printed_tokens, shape_of, operand_tokens, item_tokens, field_tokens, gen_tokens, event_tokens, part_tokens, tree_layer_printed, field_layer_printed, gen_layer_printed, event_layer_printed, part_layer_printed}
 
 separated_map : {X Y : Type 0} (shown : Y → List Token) (f : X → Y) (sign : Token) (xs : List X) → separated shown sign (map f xs) ≡ separated (λ x. shown (f x)) sign xs
 separated_map shown f sign [] = refl

@@ -1,5 +1,5 @@
 -- The link of an event, the links of a part, and what is read of a shape.
-use Rattle.std.proofs.Common.{◌≡◌, ℕ, zero, suc, ◌+◌, ◌<◌, ◌≤◌, inl, inr, List, [], ◌∷◌, ◌++◌, length, get_or, cond, true, false, Some, None, IsTrue, nat_eq, refl, sym, ap, subst, ◌∙◌, arith, eq-eqb}
+use Rattle.std.proofs.Common.{◌≡◌, ℕ, zero, suc, ◌+◌, ◌<◌, ◌≤◌, inl, inr, List, [], ◌∷◌, ◌++◌, length, get_or, cond, true, false, Some, IsTrue, nat_eq, refl, sym, ap, subst, ◌∙◌, arith, eq-eqb}
 use Rattle.std.specs.Prelude.{slice_get, slice_index}
 use Rattle.std.proofs.lemmas.Bool.{cases_Bool, cases_eq, cond-true, cond-false, or_cases, or_left, or_right, eqb-true, both_ways, false≢true}
 use Rattle.std.proofs.lemmas.List.Folds.{list_any-append}
@@ -79,9 +79,6 @@ on_one shape i n k w triple keep h below l m e f hl hm xe xf le mf =
 pub record AreOwnersBelow (shape : Shape) (n : ℕ) (owners : List ℕ) : Type 0 where
   pub sound : (e l : ℕ) → slice_index owners e ≡ suc l → (l < n) × IsOwner shape l e
   pub complete : (e l : ℕ) → l < n → IsOwner shape l e → slice_index owners e ≡ suc l
-
-pub no_number : (a : ℕ) → None ≡ Some a → ⊥
-no_number a h = cc
 
 pub owners_more : (shape : Shape) (n : ℕ) (owners more : List ℕ) → IsWellFormed shape → TripleDisjoint (alphabets_of shape.parts) → n < length shape.links → AreOwnersBelow shape n owners → ((e : ℕ) → slice_index more e ≡ cond (has (link_at shape n).shared e) (n + 1) (slice_index owners e)) → AreOwnersBelow shape (n + 1) more
 owners_more shape n owners more w triple h a is = record {

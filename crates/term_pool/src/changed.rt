@@ -32,9 +32,9 @@ fn with_other_first(alloc: Global, ids: &[ProcId], below: ProcId) -> Result<Item
 fn choice_with_first(
     parts: &mut OwnParts,
     alloc: Global,
-    place: u32,
+    place: usize,
     below: ProcId,
-) -> Result<u32, NoMemory>
+) -> Result<usize, NoMemory>
     requires within { place < length parts.old.choices }
     ensures start { PartsStart parts.old parts.new }
     ensures made { IfOk result (λ made. slice_get parts.new.choices made ≡ Some (other_first (choice_at parts.old place) below)) }
@@ -117,9 +117,9 @@ fn with_places(
 fn put_expr_in(
     parts: &mut OwnParts,
     alloc: Global,
-    place: u32,
+    place: usize,
     values: &Values<'_>,
-) -> Result<u32, NoMemory>
+) -> Result<usize, NoMemory>
     requires within { place < length parts.old.exprs }
     ensures start { PartsStart parts.old parts.new }
     ensures made { IfOk result (λ made. slice_get parts.new.exprs made ≡ Some (expr_put values.now (expr_at parts.old place))) }
@@ -132,9 +132,9 @@ fn put_expr_in(
 fn put_arguments(
     parts: &mut OwnParts,
     alloc: Global,
-    place: u32,
+    place: usize,
     values: &Values<'_>,
-) -> Result<u32, NoMemory>
+) -> Result<usize, NoMemory>
     requires within { place < length parts.old.arguments }
     ensures start { PartsStart parts.old parts.new }
     ensures made { IfOk result (λ made. slice_get parts.new.arguments made ≡ Some (map (expr_put values.now) (arguments_at parts.old place))) }
@@ -224,10 +224,10 @@ fn put_own(
 fn put_prefix(
     parts: &mut OwnParts,
     alloc: Global,
-    head: u32,
-    fields: u32,
+    head: usize,
+    fields: usize,
     values: &Values<'_>,
-) -> Result<(u32, u32), NoMemory>
+) -> Result<(usize, usize), NoMemory>
     requires head { head < length parts.old.heads }
     requires fields { fields < length parts.old.fields }
     ensures start { PartsStart parts.old parts.new }
@@ -245,10 +245,10 @@ fn put_prefix(
 fn put_renaming(
     parts: &mut OwnParts,
     alloc: Global,
-    pairs: u32,
-    gens: u32,
+    pairs: usize,
+    gens: usize,
     values: &Values<'_>,
-) -> Result<(u32, u32), NoMemory>
+) -> Result<(usize, usize), NoMemory>
     requires pairs { pairs < length parts.old.pairs }
     requires gens { gens < length parts.old.gens }
     ensures start { PartsStart parts.old parts.new }

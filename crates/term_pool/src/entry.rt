@@ -11,25 +11,25 @@ pub(crate) enum Entry {
     /// `STOP`
     Stop,
     /// The number of its head, that of its fields, and the place of the process after them.
-    Prefix(u32, u32, ProcId),
+    Prefix(usize, usize, ProcId),
     /// The number of the condition, and the place of the process under it.
-    Guard(u32, ProcId),
+    Guard(usize, ProcId),
     /// The number of the condition, and the place of either process.
-    If(u32, ProcId, ProcId),
+    If(usize, ProcId, ProcId),
     /// The number of the list of the places of its processes.
-    External(u32),
+    External(usize),
     /// The same.
-    Internal(u32),
+    Internal(usize),
     /// The bound name, the number of its set, and the place of the process.
-    EachExternal(u32, u32, ProcId),
+    EachExternal(u32, usize, ProcId),
     /// The same.
-    EachInternal(u32, u32, ProcId),
+    EachInternal(u32, usize, ProcId),
     /// The place of the process, and the number of the set.
-    Hide(ProcId, u32),
+    Hide(ProcId, usize),
     /// The place of the process, the number of its pairs, and that of its generators.
-    Rename(ProcId, u32, u32),
+    Rename(ProcId, usize, usize),
     /// The definition, and the number of its arguments.
-    Call(u32, u32),
+    Call(u32, usize),
     /// `SKIP`
     Skip,
     /// The places of both processes.

@@ -34,7 +34,7 @@ pub(crate) fn entry_at(
     ensures below { layer_below id.0 (entry_layer parts.now result) ≡ true }
     ensures process { layer_tree (processes parts.now entries.now) (entry_layer parts.now result) ≡ tree_at (processes parts.now entries.now) id }
 {
-    entries.as_slice()[id.0 as usize]
+    entries.as_slice()[id.0]
 }
 
 // The place of an entry, which is the next one where it is new. Where there is no memory for its measure, it is taken out again.

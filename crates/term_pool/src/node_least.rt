@@ -41,7 +41,7 @@ pub(crate) fn least_of_own(parts: &OwnParts, entry: Entry) -> u32
 pub(crate) fn least_at(leasts: &[u32], id: ProcId) -> u32
     ensures { result ≡ slice_index_or leasts.now id.0 0 }
 {
-    match leasts.get(id.0 as usize) {
+    match leasts.get(id.0) {
         Some(least) => *least,
         None => 0,
     }

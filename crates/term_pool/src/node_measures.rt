@@ -43,7 +43,7 @@ fn at_place(measures: &[Measure], place: ProcId) -> Measure
     ensures depth { result.depth ≡ depth_at measures.now place }
     ensures size { result.size ≡ size_at measures.now place }
 {
-    measures[place.0 as usize]
+    measures[place.0]
 }
 
 // What is at the places measures together.

@@ -25,7 +25,7 @@ pub(crate) fn note_least(
     if place >= entries.len() {
         return;
     }
-    let entry = entry_at(parts, entries, measures, ProcId(place as u32));
+    let entry = entry_at(parts, entries, measures, ProcId(place));
     let least = least_of_entry(parts, leasts.as_slice(), entry);
     let _ = leasts.push(least);
 }

@@ -75,7 +75,7 @@ pub(crate) fn parts_once(parts: &OwnParts)
 }
 
 // The number of an expression.
-fn keep_expr(parts: &mut OwnParts, alloc: Global, part: &Expr) -> Result<u32, NoMemory>
+fn keep_expr(parts: &mut OwnParts, alloc: Global, part: &Expr) -> Result<usize, NoMemory>
     ensures start { PartsStart parts.old parts.new }
     ensures place { IfOk result (λ place. slice_get parts.new.exprs place ≡ Some part.now) }
     ensures err_only_new { OnErr result (StandsIn parts.old.exprs part.now → ⊥) }
@@ -84,7 +84,11 @@ fn keep_expr(parts: &mut OwnParts, alloc: Global, part: &Expr) -> Result<u32, No
 }
 
 // The number of arguments.
-fn keep_arguments(parts: &mut OwnParts, alloc: Global, part: &Items<Expr>) -> Result<u32, NoMemory>
+fn keep_arguments(
+    parts: &mut OwnParts,
+    alloc: Global,
+    part: &Items<Expr>,
+) -> Result<usize, NoMemory>
     ensures start { PartsStart parts.old parts.new }
     ensures place { IfOk result (λ place. slice_get parts.new.arguments place ≡ Some part.now) }
     ensures err_only_new { OnErr result (StandsIn parts.old.arguments part.now → ⊥) }
@@ -97,7 +101,7 @@ pub(crate) fn keep_choice(
     parts: &mut OwnParts,
     alloc: Global,
     part: &Items<ProcId>,
-) -> Result<u32, NoMemory>
+) -> Result<usize, NoMemory>
     ensures start { PartsStart parts.old parts.new }
     ensures place { IfOk result (λ place. slice_get parts.new.choices place ≡ Some part.now) }
     ensures err_only_new { OnErr result (StandsIn parts.old.choices part.now → ⊥) }
@@ -111,7 +115,7 @@ fn keep_prefix(
     alloc: Global,
     head: &Head,
     fields: &Items<Field>,
-) -> Result<(u32, u32), NoMemory>
+) -> Result<(usize, usize), NoMemory>
     ensures start { PartsStart parts.old parts.new }
     ensures heads { IfOk result (λ own. slice_get parts.new.heads own.0 ≡ Some head.now) }
     ensures fields { IfOk result (λ own. slice_get parts.new.fields own.1 ≡ Some fields.now) }
@@ -128,7 +132,7 @@ fn keep_renaming(
     alloc: Global,
     pairs: &Items<(EventPart, EventPart)>,
     gens: &Items<Gen>,
-) -> Result<(u32, u32), NoMemory>
+) -> Result<(usize, usize), NoMemory>
     ensures start { PartsStart parts.old parts.new }
     ensures pairs { IfOk result (λ own. slice_get parts.new.pairs own.0 ≡ Some pairs.now) }
     ensures gens { IfOk result (λ own. slice_get parts.new.gens own.1 ≡ Some gens.now) }

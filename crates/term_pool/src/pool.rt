@@ -1,6 +1,6 @@
 //! A pool of processes: each stands in it once, and its sub-processes stand at smaller places.
 
-ghost use Rattle.std.specs.Prelude.{◌≡◌, ◌↔◌, IsTrue, ◌<◌, ◌^◌, ◌++◌, [], ◌∷◌, true, false, length, map, slice_get, IfOk, OnOk, OnErr, Some};
+ghost use Rattle.std.specs.Prelude.{◌≡◌, ◌↔◌, IsTrue, ◌<◌, ◌++◌, [], ◌∷◌, true, false, length, map, slice_get, IfOk, OnOk, OnErr, Some};
 ghost use Rattle.csp_program.specs.Depth.{proc_depth};
 ghost use Rattle.csp_program.specs.Size.{proc_size};
 ghost use Rattle.csp_program.specs.Substitution.{proc_with};
@@ -32,7 +32,7 @@ use std::marker::Model;
 use std::slice::from_ref;
 use substitution::Values;
 
-/// A list of processes, fewer than 2^32 of them and all different. It keeps the allocator.
+/// A list of processes, all different. It keeps the allocator.
 ///
 /// Contracts see the processes, and not the nodes by which they are kept.
 pub struct Pool {
@@ -90,7 +90,6 @@ impl Pool {
     /// How many processes there are.
     pub fn len(&self) -> usize
         ensures value { result ≡ length self.now }
-        ensures small { result < 2 ^ 32 }
         ensures different { AreDifferent self.now }
         ensures parts { PartsStandBelow self.now }
     {
@@ -112,7 +111,7 @@ impl Pool {
         requires { id.0 < length self.now }
         ensures { result ≡ capped (proc_depth (tree_at self.now id)) }
     {
-        self.measures.as_slice()[id.0 as usize].depth
+        self.measures.as_slice()[id.0].depth
     }
 
     /// The size of the process at a place, as `term_size` counts it.
@@ -120,7 +119,7 @@ impl Pool {
         requires { id.0 < length self.now }
         ensures { result ≡ capped (proc_size (tree_at self.now id)) }
     {
-        self.measures.as_slice()[id.0 as usize].size
+        self.measures.as_slice()[id.0].size
     }
 
     // A number below which the process at a place reads no name: a value in place of such a name leaves it as it is.

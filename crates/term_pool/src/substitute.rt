@@ -18,14 +18,14 @@ use std::collections::HashMap;
 use substitution::Values;
 
 // What a place became, if it has been visited.
-fn known(visited: &HashMap<u32, ProcId>, id: &ProcId) -> Option<ProcId>
+fn known(visited: &HashMap<usize, ProcId>, id: &ProcId) -> Option<ProcId>
     ensures { result ≡ get nat_eq visited.now id.now.0 }
 {
     visited.get(&id.0).copied()
 }
 
 // Keeps what a place became.
-fn remember(visited: &mut HashMap<u32, ProcId>, id: ProcId, made: ProcId) -> Result<(), NoMemory>
+fn remember(visited: &mut HashMap<usize, ProcId>, id: ProcId, made: ProcId) -> Result<(), NoMemory>
     ensures ok { OnOk result (Updates nat_eq visited.old visited.new id.0 (Some made)) }
     ensures err { OnErr result (IsUnchanged visited.old visited.new) }
 {
@@ -46,7 +46,7 @@ fn stays(pool: &Pool, id: ProcId, values: &Values<'_>) -> bool
 #[cycle(substitute_at)]
 pub(crate) fn substitute_at(
     pool: &mut Pool,
-    visited: &mut HashMap<u32, ProcId>,
+    visited: &mut HashMap<usize, ProcId>,
     alloc: Global,
     id: &ProcId,
     values: &Values<'_>,
@@ -72,7 +72,7 @@ pub(crate) fn substitute_at(
 #[cycle(substitute_at)]
 fn put_layer(
     pool: &mut Pool,
-    visited: &mut HashMap<u32, ProcId>,
+    visited: &mut HashMap<usize, ProcId>,
     alloc: Global,
     id: ProcId,
     values: &Values<'_>,
@@ -91,7 +91,7 @@ fn put_layer(
 #[cycle(substitute_at)]
 fn put_below(
     pool: &mut Pool,
-    visited: &mut HashMap<u32, ProcId>,
+    visited: &mut HashMap<usize, ProcId>,
     alloc: Global,
     id: ProcId,
     values: &Values<'_>,
@@ -110,7 +110,7 @@ fn put_below(
 #[cycle(substitute_at)]
 fn put_under(
     pool: &mut Pool,
-    visited: &mut HashMap<u32, ProcId>,
+    visited: &mut HashMap<usize, ProcId>,
     alloc: Global,
     id: ProcId,
     under: &Under<'_>,
@@ -152,7 +152,7 @@ fn put_anew(
 #[cycle(substitute_at)]
 fn put_all(
     pool: &mut Pool,
-    visited: &mut HashMap<u32, ProcId>,
+    visited: &mut HashMap<usize, ProcId>,
     alloc: Global,
     id: ProcId,
     ids: &[ProcId],

@@ -1,4 +1,9 @@
--- What is read of expressions and sets, the grammar has.
+-- What is read of expressions and sets, the grammar has: a wall of cases, one lemma for each form, with the name of its reader. `Holds P` says P of what is
+-- read, if there is something; `Sound L` says of the readers `L` of the parts that what they read the grammar has, within their limits of open brackets and
+-- of depth. A case goes along its reader, by `by_then` at each part that may be missing: what the parts gave is put together by the grammar's own
+-- constructor, and the depth of the node by `node`. `begun`, `joins` and `a_field` choose the case by the token in front, as the reader does.
+-- A new form gets a lemma of its own, as `call` (an atom in brackets) or `negative` (an expression behind a sign), and a case in `begun_word`,
+-- `begun_symbol` or `joins`, by the token with which it begins.
 use Rattle.std.proofs.Common.{◌≡◌, ℕ, suc, ◌≤◌, max, Bool, true, ◌&&◌, nat_le, Option, Some, None, List, [], ◌∷◌, map, refl, sym, ap, subst, ◌∙◌, arith}
 use Rattle.csp_text.specs.Depth.{field_depth, gen_depth, part_depth, tree_depth}
 use Rattle.csp_text.specs.declared.token.Token.{Token}

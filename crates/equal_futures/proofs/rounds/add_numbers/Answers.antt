@@ -10,7 +10,7 @@ loop-place-preserved c =
     (key_read c.args.classes.now c.args.nodes.now c.loop-place.place c.index-nodes-place.result c.loop-place-test.true c.index-nodes-place.is)
     refl c.in_ok-add_number.ensures.list c.in_ok-add_number.ensures.numbers
 
-pub returns : goal.returns
-returns c =
+pub returns-clause-told : goal.returns-clause-told
+returns-clause-told c =
     let whole : c.loop-place.place ≡ length c.args.nodes.now = omega arith in
     told_from_numbered c.args.nodes.now c.args.classes.now c.requires.rising _ _ (subst (λ n. IsNumbered (key_at c.args.classes.now c.args.nodes.now) n c.loop-place.numbering c.loop-place.numbers.items) whole c.loop-place.invariant)

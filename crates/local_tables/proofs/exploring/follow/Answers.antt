@@ -6,10 +6,9 @@ use Rattle.term_pool.specs.Trees.{tree_at}
 use Rattle.pool_parts.specs.declared.place.ProcId.{ProcId}
 use Rattle.local_tables.specs.Component.{component}
 use Rattle.local_tables.specs.Progress.{IsAt}
-use Rattle.local_tables.specs.Stops.{StopsAt, as_stop}
-use Rattle.local_tables.specs.declared.found.Found.{Found}
+use Rattle.local_tables.specs.Faults.{Lacks, valueless}
 use Rattle.local_tables.proofs.Lists.{map_at}
-use Rattle.local_tables.proofs.Results.{err_is, stops_of}
+use Rattle.local_tables.proofs.Results.{err_is, lacks_value}
 use Rattle.local_tables.proofs.Taking.{begin_at}
 use Rattle.local_tables.proofs.exploring.follow.Goals as goal
 
@@ -17,16 +16,15 @@ use Rattle.local_tables.proofs.exploring.follow.Goals as goal
 there : (read terms : List ProcId) (at : _) → read ≡ terms → at < length terms → slice_get terms at ≡ Some (slice_index_or read at (record { 0 = 0 }))
 there read terms at same inside = subst (λ (ids : List ProcId). slice_get terms at ≡ Some (slice_index_or ids at (record { 0 = 0 }))) (sym same) (slice_get-get_or terms at (record { 0 = 0 }) inside)
 
-pub returns-in_err-steps-clause-stop : goal.returns-in_err-steps-clause-stop
-returns-in_err-steps-clause-stop c =
+pub returns-in_err-steps-clause-fault : goal.returns-in_err-steps-clause-fault
+returns-in_err-steps-clause-fault c =
     let p = c.args.task.now.program.now in
     let d = component c.args.task.now.alphabet.now c.args.task.now.start.now in
     let room = c.args.task.now.room in
     let found = c.args.found.now in
-    let new : Found = record found { pool = c.steps_in.new.pool } in
     let id : ProcId = slice_index_or c.as_slice.result.now c.args.at (record { 0 = 0 }) in
     let reached = c.requires.up_to.so_far.part.reached.reached c.args.at (tree_at found.pool id) (map_at (tree_at found.pool) found.terms c.args.at id (there c.as_slice.result.now found.terms c.args.at c.as_slice.ensures.value c.requires.here)) in
-    err_is c.from_residual.result (as_stop c.in_err-steps.field-0.0) (StopsAt p d room new) c.from_residual.ensures.1 (stops_of p d room new (tree_at found.pool id) c.steps_in.result c.in_err-steps.field-0.0 c.in_err-steps.was reached c.steps_in.ensures.fault)
+    err_is c.from_residual.result (valueless c.in_err-steps.field-0.0) (Lacks p d room) c.from_residual.ensures.1 (lacks_value p d room (tree_at found.pool id) c.steps_in.result c.in_err-steps.field-0.0 c.in_err-steps.was reached c.steps_in.ensures.fault)
 
 pub take_all-requires-clause-at : goal.take_all-requires-clause-at
 take_all-requires-clause-at c =

@@ -1,11 +1,11 @@
-use Rattle.std.proofs.Common.{◌≡◌, ◌+◌, ◌<◌, List, Some, length, sym, ◌∙◌}
+use Rattle.std.proofs.Common.{◌≡◌, ◌+◌, ◌<◌, List, Some, length, sym, subst, ◌∙◌}
 use Rattle.std.specs.Prelude.{slice_get, slice_index_or}
 use Rattle.std.proofs.lemmas.Bool.{false≢true}
 use Rattle.std.proofs.lemmas.Option.{slice_get-get_or}
 use Rattle.csp_tables.specs.Label.Label.{silent, visible}
 use Rattle.csp_steps.specs.declared.step.StepTo.{StepTo}
 use Rattle.local_tables.specs.Component.{component}
-use Rattle.local_tables.specs.Progress.{HasMore, IsAt, IsSoFar, IsWithin}
+use Rattle.local_tables.specs.Progress.{AreLed, HasMore, IsAt, IsSoFar, IsWithin, Origin, terms_at}
 use Rattle.local_tables.proofs.Taking.{at_led, at_new, at_outside, at_steps, at_tick}
 use Rattle.local_tables.proofs.exploring.take.Goals as goal
 use Rattle.csp_base.proofs.Results.{on_ok3}
@@ -69,8 +69,14 @@ returns-else-not-contains-clause-at c =
     (stands c.args.steps.now c.args.place c.index-steps-place.result c.requires.inside) (stands c.args.steps.now c.args.place c.index-steps-place-2.result c.requires.inside)
     new (visible c.in-Visible.event) c.in-Visible.is)
 
-pub returns-in-Tick-clause-stop : goal.returns-in-Tick-clause-stop
-returns-in-Tick-clause-stop c = at_tick c.args.task.now.program.now (component c.args.task.now.alphabet.now c.args.task.now.start.now) c.args.task.now.room c.args.found.now c.args.at c.args.steps.now c.args.place c.requires.at
+pub returns-in_ok-trace-in-Tick-clause-fault : goal.returns-in_ok-trace-in-Tick-clause-fault
+returns-in_ok-trace-in-Tick-clause-fault c =
+    let p = c.args.task.now.program.now in
+    let d = component c.args.task.now.alphabet.now c.args.task.now.start.now in
+    let found = c.args.found.now in
+    let terms = terms_at found.pool found.terms in
+    let led : AreLed p d terms c.as_slice.result.now = subst (λ (os : List Origin). AreLed p d terms os) (sym c.as_slice.ensures.value) c.requires.at.so_far.part.led in
+    at_tick p d c.args.task.now.room found c.args.at c.args.steps.now c.args.place c.requires.at
     (slice_index_or c.args.steps.now c.args.place c.index-steps-place.result) (slice_index_or c.args.steps.now c.args.place c.index-steps-place-2.result)
     (stands c.args.steps.now c.args.place c.index-steps-place.result c.requires.inside) (stands c.args.steps.now c.args.place c.index-steps-place-2.result c.requires.inside)
-    c.in-Tick.is
+    c.in_ok-trace-in-Tick.trace c.in-Tick.is (c.in_ok-trace-in-Tick.ensures p d terms led)

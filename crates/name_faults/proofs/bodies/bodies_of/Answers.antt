@@ -1,17 +1,18 @@
-use Rattle.std.proofs.Common.{map, arith}
+use Rattle.std.proofs.Common.{◌++◌, ◌∙◌, ◌+◌, ap, drop, length, map, sym}
+use Rattle.csp_base.proofs.Lists.{drop_read}
 use Rattle.script_names.specs.Names.{first_of}
 use Rattle.script_names.specs.Told.{bodies_from}
 use Rattle.name_notes.specs.Found.{body_of}
-use Rattle.name_faults.proofs.KnownLemmas.{bodies_end, bodies_step}
+use Rattle.name_faults.proofs.KnownLemmas.{bodies_on}
 use Rattle.name_faults.proofs.bodies.bodies_of.Goals as goal
 
 pub loop-decl-preserved : goal.loop-decl-preserved
 loop-decl-preserved c =
-    bodies_step (first_of c.args.meanings.now.names.now) c.args.meanings.now.kinds.now c.args.decls.now c.loop-decl.decl-index c.decl-item.result c.loop-decl.bodies c.add_body.new.bodies
-    (map body_of (bodies_from (first_of c.args.meanings.now.names.now) c.args.meanings.now.kinds.now 0 c.args.decls.now))
-    c.loop-decl-test.true c.decl-item.is c.in_ok-add_body.ensures c.loop-decl.invariant
-
-pub returns : goal.returns
-returns c =
-    bodies_end (first_of c.args.meanings.now.names.now) c.args.meanings.now.kinds.now c.args.decls.now c.loop-decl.decl-index c.loop-decl.bodies
-    (map body_of (bodies_from (first_of c.args.meanings.now.names.now) c.args.meanings.now.kinds.now 0 c.args.decls.now)) (omega arith) c.loop-decl.invariant
+    let m = first_of c.args.meanings.now.names.now in
+    let kinds = c.args.meanings.now.kinds.now in
+    let old = c.loop-decl.bodies in
+    let rest = drop (c.loop-decl.decl-index + 1) c.args.decls.now in
+    ap (λ bs. bs ++ map body_of (bodies_from m kinds (length bs) rest)) c.in_ok-add_body.ensures
+    ∙ bodies_on m kinds rest old c.decl-item.result
+    ∙ ap (λ ds. old ++ map body_of (bodies_from m kinds (length old) ds)) (sym (drop_read _ _ _ c.loop-decl-test.true c.decl-item.is))
+    ∙ c.loop-decl.invariant

@@ -9,6 +9,6 @@ returns-clause-notes c =
     let named = c.args.declared.now ++ c.args.x.now ∷ [] in
     on_ok_weaker c.note_declared.result (λ heard.
     heard
-    ∙ heard_same c.note_name.new.declared named c.args.ks.now c.note_name.new.notes c.in_ok-note_name.ensures.declared
+    ∙ heard_same (λ x known. known) c.note_name.new.declared named c.args.ks.now c.note_name.new.notes c.in_ok-note_name.ensures.declared
     ∙ ap (λ p. declared_heard named p c.args.ks.now) c.in_ok-note_name.ensures.notes)
     c.note_declared.ensures.notes

@@ -1,4 +1,4 @@
-use Rattle.std.proofs.Common.{◌≡◌, drop}
+use Rattle.std.proofs.Common.{◌≡◌, take}
 use Rattle.script_names.specs.Names.{first_of}
 use Rattle.script_names.specs.Told.{types_say}
 use Rattle.name_notes.specs.Heard.{heard_all}
@@ -6,5 +6,4 @@ use Rattle.name_faults.proofs.declarations.note_types.Given as goal
 
 abbrev pub invariant-loop-tree : goal.invariant-loop-tree
 invariant-loop-tree l =
-    heard_all (first_of l.meanings.names.now) l.meanings.kinds.now l.notes (types_say (first_of l.meanings.names.now) l.meanings.kinds.now (drop l.tree-index l.types))
-    ≡ heard_all (first_of l.meanings.names.now) l.meanings.kinds.now l.initial.notes (types_say (first_of l.meanings.names.now) l.meanings.kinds.now l.types)
+    l.notes ≡ heard_all (first_of l.meanings.names.now) l.meanings.kinds.now l.initial.notes (types_say (first_of l.meanings.names.now) l.meanings.kinds.now (take l.tree-index l.types))

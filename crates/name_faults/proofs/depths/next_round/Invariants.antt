@@ -1,8 +1,6 @@
-use Rattle.std.proofs.Common.{◌≡◌, ◌++◌, drop, map, min, slice_index}
+use Rattle.std.proofs.Common.{◌≡◌, map, min, slice_index, take}
 use Rattle.name_faults.specs.Depths.{deepest_of}
 use Rattle.name_faults.proofs.depths.next_round.Given as goal
 
 abbrev pub invariant-loop-body : goal.invariant-loop-body
-invariant-loop-body l =
-    l.next.items ++ map (λ b. min (deepest_of (λ d. slice_index l.depths d) b) 801) (drop l.body-index l.bodies)
-    ≡ map (λ b. min (deepest_of (λ d. slice_index l.depths d) b) 801) l.bodies
+invariant-loop-body l = l.next.items ≡ map (λ b. min (deepest_of (λ d. slice_index l.depths d) b) 801) (take l.body-index l.bodies)

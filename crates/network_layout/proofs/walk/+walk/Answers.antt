@@ -19,7 +19,7 @@ operand-returns-in_err-joint t c =
 pub operand-returns-in_err-agree : goal.operand-returns-in_err-agree
 operand-returns-in_err-agree t c =
     operand_differs _ _ c.args.scope.now.program.now c.args.levels c.args.alphabet.now c.args.net.now c.args.seats.now c.walk.new.seats c.in_ok-joint.joint c.len-first.result c.len.result
-    c.from_residual-in_err-agree.ensures.1 c.in_ok-joint.ensures c.len-first.ensures c.len.ensures c.in_err-agree.ensures
+    c.from_residual-in_err-agree.ensures.1 c.in_ok-joint.ensures c.len-first.ensures.value c.len.ensures.value c.in_err-agree.ensures
 
 pub operand-returns : goal.operand-returns
 operand-returns t c =

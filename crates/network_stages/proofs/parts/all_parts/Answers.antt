@@ -1,3 +1,4 @@
+use Rattle.std.proofs.Common.{refl}
 use Rattle.network_stages.proofs.MadeParts.{all_made, first_many, many_told, one_made, placed, still_within}
 use Rattle.network_stages.proofs.parts.all_parts.Goals as goal
 
@@ -19,7 +20,7 @@ returns-in-Err-SubsetLimit-clause-told c = (
   c.loop-place.place,
   first_many c.args.program.now c.args.seats.now _ _ c.loop-place-test.true c.index-seats-place.is c.loop-place.invariant.few
       (many_told c.args.program.now c.index-seats-place.result c.part_of.result _ c.in-Err-SubsetLimit.is c.in-Err-SubsetLimit.field-0-is c.part_of.ensures.fault),
-  c.sets_refusal.ensures,
+  refl,
 )
 
 pub returns-clause-few : goal.returns-clause-few

@@ -9,5 +9,5 @@ loop-part-preserved c =
 
 pub returns-in-Err-clause-fault : goal.returns-in-Err-clause-fault
 returns-in-Err-clause-fault c =
-    first_fault c.args.program.now c.args.seats.now _ c.loop-part.part _ _ _ _ (omega arith) c.index-seats-part.is c.loop-part.invariant.so_far
-    c.loop-part.invariant.left c.loop-part.invariant.count (sym c.loop-part.invariant.count) c.in-Err.ensures.fault
+    first_fault c.args.program.now c.args.seats.now _ c.loop-part.part _ _ _ _ _ (omega arith) c.index-seats-part.is c.loop-part.invariant.so_far
+    c.loop-part.invariant.left c.loop-part.invariant.count (sym c.loop-part.invariant.count) c.in-Err.ensures.fault c.untabled.ensures

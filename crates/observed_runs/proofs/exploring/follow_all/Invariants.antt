@@ -11,4 +11,4 @@ invariant-loop-place g l = record {
 }
 
 abbrev pub decreases-loop-place : goal.decreases-loop-place
-decreases-loop-place g l = 2 ^ 32 - l.place
+decreases-loop-place g l = 2 ^ 64 - l.place

@@ -5,7 +5,7 @@ use Rattle.pool_parts.proofs.store.note_next.Goals as goal
 
 pub returns-then-place-len : goal.returns-then-place-len
 returns-then-place-len g c =
-    let count = c.len.ensures.value in
+    let count = c.len.ensures in
     let test = c.if-place-len.true in
     let within : c.len-place.result < length c.args.parts.now = omega (arith, count, test) in
     record {

@@ -1,7 +1,7 @@
-use Rattle.std.proofs.Common.{◌≡◌, ◌++◌, drop}
+use Rattle.std.proofs.Common.{◌≡◌, take}
 use Rattle.std.specs.List.{flat_map}
 use Rattle.script_contents.specs.Plain.{constants_in}
 use Rattle.script_contents.proofs.channels.constants.Given as goal
 
 abbrev pub invariant-loop-decl : goal.invariant-loop-decl
-invariant-loop-decl l = l.made ++ flat_map constants_in (drop l.decl-index l.decls) ≡ flat_map constants_in l.decls
+invariant-loop-decl l = l.made ≡ flat_map constants_in (take l.decl-index l.decls)

@@ -1,8 +1,8 @@
-use Rattle.std.proofs.Common.{◌≡◌, ◌++◌, drop}
+use Rattle.std.proofs.Common.{◌≡◌, take}
 use Rattle.std.specs.List.{flat_map}
 use Rattle.script_contents.specs.Plain.{roles_in}
 use Rattle.script_names.specs.Names.{first_of}
 use Rattle.script_contents.proofs.notes.roles.Given as goal
 
 abbrev pub invariant-loop-decl : goal.invariant-loop-decl
-invariant-loop-decl l = l.made ++ flat_map (roles_in (first_of l.names)) (drop l.decl-index l.decls) ≡ flat_map (roles_in (first_of l.names)) l.decls
+invariant-loop-decl l = l.made ≡ flat_map (roles_in (first_of l.names)) (take l.decl-index l.decls)

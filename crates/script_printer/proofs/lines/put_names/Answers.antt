@@ -1,9 +1,8 @@
-use Rattle.std.proofs.Common.{◌++◌, [], ◌∷◌, List, ℕ, ap, arith}
+use Rattle.std.proofs.Common.{[], ◌∷◌, List, ℕ, arith}
 use Rattle.csp_text.specs.declared.token.Token.{Token}
 use Rattle.csp_text.specs.declared.token.Token.TheVariants as token
-use Rattle.script_printer.specs.TokenText.{spaced}
 use Rattle.script_printer.specs.PrintedScript.{names_tokens}
-use Rattle.script_printer.proofs.Written.{separated_begin, separated_step, separated_end}
+use Rattle.script_printer.proofs.Written.{separated_step, separated_end}
 use Rattle.script_printer.proofs.lines.put_names.Goals as goal
 
 abbrev one_name : List ℕ → List Token

@@ -1,14 +1,14 @@
 use Rattle.std.proofs.Common.{◌≡◌, ◌∙◌, Some, true, false, ap, sym, subst, refl}
+use Rattle.std.proofs.lemmas.Option.{none-some}
 use Rattle.csp_tables.specs.Shape.{Link}
 use Rattle.shape_links.specs.Acquired.{is_acquired_by}
-use Rattle.shape_links.proofs.Links.{no_number}
 use Rattle.shape_links.proofs.Acquiring.{acquired_link, at_left, at_right, at_none}
 use Rattle.shape_links.proofs.acquisition.acquired.Goals as goal
 
 pub returns-in_err-link-clause-owned : goal.returns-in_err-link-clause-owned
 returns-in_err-link-clause-owned c j a =
     let x = acquired_link c.args.setting.now c.shape-form.ensures.form c.shape-form.ensures.apart c.shape-form.ensures.uses c.requires j c.args.event a in
-    absurd (no_number x.0 (c.in_err-link.ensures.owned x.0 x.1))
+    absurd (none-some x.0 (c.in_err-link.ensures.owned x.0 x.1))
 
 pub link-ends-requires : goal.link-ends-requires
 link-ends-requires c = (c.in_ok-link.ensures.found c.in_ok-link.link refl).within

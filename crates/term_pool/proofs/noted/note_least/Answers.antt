@@ -13,7 +13,7 @@ use Rattle.term_pool.proofs.noted.note_least.Goals as goal
 pub entry_at-entry-requires-clause-within : goal.entry_at-entry-requires-clause-within
 entry_at-entry-requires-clause-within c =
     let trees = processes_length c.args.parts.now c.args.entries.now in
-    let count = c.len.ensures.value in
+    let count = c.len.ensures in
     let less = c.if-place-len.false in
     omega (arith, trees, count, less)
 
@@ -23,7 +23,7 @@ returns c =
     let place : c.len-place.result ≡ length c.args.leasts.now = c.len-place.ensures in
     let within : length c.args.leasts.now < length trees =
     (let all = processes_length c.args.parts.now c.args.entries.now in
-    let count = c.len.ensures.value in
+    let count = c.len.ensures in
     let less = c.if-place-len.false in
     omega (arith, all, count, less, place)) in
     let low : ProcLow c.least_of_entry-least.result (tree_at trees (record { 0 = c.len-place.result })) =

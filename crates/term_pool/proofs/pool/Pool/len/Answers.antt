@@ -8,7 +8,7 @@ use Rattle.term_pool.specs.Pooled.{AreDifferent, PartsStandBelow}
 use Rattle.term_pool.proofs.pool.Pool.len.Goals as goal
 
 pub returns-clause-value : goal.returns-clause-value
-returns-clause-value c = c.len.ensures.value ∙ (sym (processes_length c.self.inside.parts c.self.inside.entries) ∙ ap (λ (ts : List Proc). length ts) c.self.view_is)
+returns-clause-value c = c.len.ensures ∙ (sym (processes_length c.self.inside.parts c.self.inside.entries) ∙ ap (λ (ts : List Proc). length ts) c.self.view_is)
 
 pub returns-clause-different : goal.returns-clause-different
 returns-clause-different c = subst AreDifferent c.self.view_is (are_different (layers c.self.inside.parts c.self.inside.entries) c.self.invariant.kept.held.smaller c.self.invariant.kept.held.distinct)
