@@ -147,7 +147,6 @@ fn add(found: &mut Found, origin: (u32, Option<Event>), to: ProcId) -> Result<u3
 fn check(task: &Task<'_>, found: &Found, newest: ProcId) -> Result<(), Unexplored>
     requires so_far { IsSoFar task.now.program.now (component task.now.alphabet.now task.now.start.now) found.now }
     requires known { (k : ℕ) × (slice_get found.now.terms k ≡ Some newest) }
-    requires few { length found.now.terms ≤ MOST_TERMS + 1 }
     ensures fitting { OnOk result (IsFitting task.now.room found.now newest) }
     ensures fault { IfErr result (Lacks task.now.program.now (component task.now.alphabet.now task.now.start.now) task.now.room) }
 {
