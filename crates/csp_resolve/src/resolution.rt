@@ -1,6 +1,6 @@
 //! The program of a script.
 
-ghost use Rattle.std.specs.Prelude.{◌≡◌, IsTrue, Some, List, map, IfOk, OnOk};
+ghost use Rattle.std.specs.Prelude.{◌≡◌, IsTrue, Some, map, IfOk, OnOk};
 ghost use Rattle.std.specs.Option.{option_copied};
 ghost use Rattle.csp_program.specs.declared.programs.Content.{Content};
 ghost use Rattle.csp_program.specs.InOrder.{IsInOrder, lacks_sets};
@@ -9,7 +9,6 @@ ghost use Rattle.csp_resolve.specs.Answers.{Answers, types_read};
 ghost use Rattle.name_tables.specs.Firsts.{SameFirsts};
 ghost use Rattle.resolved_laws.specs.Laws.{HasFew};
 ghost use Rattle.script_names.specs.Contents as contents;
-ghost use Rattle.script_names.specs.Kinds.{AreKinds};
 ghost use Rattle.script_names.specs.Names.{declared, first_of};
 ghost use Rattle.script_names.specs.Resolved as meant;
 ghost use Rattle.script_names.specs.Resolved.{and_next};

@@ -1,6 +1,6 @@
 //! What was evaluated for the processes of a pool, so that it is evaluated once.
 
-ghost use Rattle.std.specs.Prelude.{◌≡◌, ◌<◌, ℕ, [], ◌∷◌, ◌++◌, length, List, nat_eq, slice_get, IfOk, IfSome, OnOk, OnErr, Ok, Some};
+ghost use Rattle.std.specs.Prelude.{◌≡◌, ◌<◌, [], ◌∷◌, ◌++◌, length, List, nat_eq, slice_get, IfOk, IfSome, OnOk, OnErr, Ok, Some};
 ghost use Rattle.std.specs.HashMap.{get, IsUnchanged, Updates};
 ghost use Rattle.csp_program.specs.declared.processes.Proc.{Proc as Process};
 ghost use Rattle.csp_program.specs.declared.processes.Proc.TheViews.{out-Proc};

@@ -1,6 +1,6 @@
 //! The ways to fill the fields of a prefix.
 
-ghost use Rattle.std.specs.Prelude.{◌≡◌, ◌<◌, ◌≤◌, ◌+◌, ◌*◌, ◌++◌, [], ◌∷◌, true, if◌then◌else◌, drop, length, IfOk, Ok, OnOk, Some};
+ghost use Rattle.std.specs.Prelude.{◌≡◌, ◌<◌, ◌≤◌, ◌+◌, ◌*◌, ◌++◌, [], ◌∷◌, true, if◌then◌else◌, length, IfOk, Ok, OnOk, Some};
 ghost use Rattle.csp_atoms.specs.declared.value.Value.TheVariants as value;
 ghost use Rattle.csp_program.specs.Substitution.{any_gets, proc_with};
 ghost use Rattle.csp_program.specs.Value.{Env};

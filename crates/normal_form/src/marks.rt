@@ -1,6 +1,6 @@
 //! Marks that tell nodes with different acceptances apart.
 
-ghost use Rattle.std.specs.Prelude.{◌≡◌, [], IfOk, OnOk, ◌<◌, ◌^◌, length, ℕ, ◌↔◌, slice_index};
+ghost use Rattle.std.specs.Prelude.{◌≡◌, [], IfOk, OnOk, ◌<◌, ◌^◌, length};
 ghost use Rattle.normal_form.specs.Marks.{AreMarksOf};
 
 use containers::{Items, Numbering};

@@ -1,5 +1,5 @@
 -- The events of a channel, by their numbers from the channel's first on.
-use Rattle.std.proofs.Common.{◌≡◌, ℕ, zero, suc, ◌+◌, get_or, Some, None, Ok, Err, List, [], slice_get, refl, ap, sym, ◌∙◌, arith}
+use Rattle.std.proofs.Common.{◌≡◌, ℕ, zero, suc, ◌+◌, get_or, Some, Ok, List, [], slice_get, ap, sym, ◌∙◌, arith}
 use Rattle.csp_program.specs.EventTable.{events_with, rows}
 use Rattle.csp_program.specs.InOrder.{IsInOrder}
 use Rattle.csp_program.specs.Outcome.{Outcome}

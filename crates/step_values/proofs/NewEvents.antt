@@ -7,12 +7,11 @@ use Rattle.csp_program.proofs.Outcomes.{came_through}
 use Rattle.csp_program.specs.EventNumber.{row_count}
 use Rattle.csp_program.specs.EventTable.{event_table}
 use Rattle.csp_program.specs.Outcome.{Outcome, and_then}
-use Rattle.csp_program.specs.Value.{Meaning, front_events, one_event, sets_of}
+use Rattle.csp_program.specs.Value.{Meaning, one_event, sets_of}
 use Rattle.csp_atoms.specs.declared.atom.Atom.{Atom}
 use Rattle.csp_atoms.specs.declared.value.Value.{Value}
 use Rattle.csp_program.specs.declared.kinds.ValueKind.{ValueKind}
 use Rattle.csp_program.specs.declared.kinds.ValueKind.TheVariants.{Kind, OutsideChannel}
-use Rattle.csp_program.specs.declared.programs.Channel.{Channel}
 use Rattle.csp_program.specs.declared.programs.Content.{Content}
 use Rattle.csp_values.proofs.FieldSteps.{capped_fault, capped_place, counted_over, each_same, found, front_some_then, greatest, one_field, other_is_none, place_in_some, same_number, scaled_place, stops_before, stops_twice}
 use Rattle.process_steps.specs.Renaming.{event_with}

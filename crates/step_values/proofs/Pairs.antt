@@ -21,7 +21,7 @@ use Rattle.value_laws.proofs.EventPlaces.{number_fits}
 use Rattle.value_laws.proofs.Fits.{program_fits}
 use Rattle.value_laws.proofs.Fronts.{has_sets}
 use Rattle.value_laws.proofs.ProgramEvents.{table_from_sets}
-use Rattle.value_laws.specs.Numbers.{ChannelsFit, first_of, front_count, span}
+use Rattle.value_laws.specs.Numbers.{ChannelsFit, first_of, span}
 use Rattle.value_operators.specs.Forms.{count_with}
 
 -- the event at a place of a list, and those after it

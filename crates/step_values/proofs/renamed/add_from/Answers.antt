@@ -1,4 +1,4 @@
-use Rattle.std.proofs.Common.{◌+◌, [], refl, ap, sym, subst, ◌∙◌, arith}
+use Rattle.std.proofs.Common.{[], ap, sym, subst, ◌∙◌, arith}
 use Rattle.csp_program.specs.InOrder.{IsInOrder}
 use Rattle.csp_program.specs.declared.programs.Content.{Content}
 use Rattle.value_operators.proofs.Faults.{passed}
