@@ -1,6 +1,5 @@
 -- No words ask for two things: the first word tells which request it is, and the others what it is for.
-use Rattle.std.proofs.Common.{◌≡◌, ℕ, ◌+◌, ◌<◌, ◌≤◌, List, [], ◌∷◌, get_or, sym, ap, ◌∙◌, arith}
-use Rattle.csp_tables.specs.declared.rule.Rule.{Rule}
+use Rattle.std.proofs.Common.{◌≡◌, ℕ, ◌+◌, ◌≤◌, List, [], get_or, sym, ap, ◌∙◌, arith}
 use Rattle.net_maker.specs.Families.{greatest}
 use Rattle.net_maker.specs.declared.families.Family.{Family}
 use Rattle.net_maker.specs.declared.families.Family.TheVariants.{Chain, Forks, Mesh}
@@ -10,7 +9,7 @@ use Rattle.command_words.specs.declared.request.Request.{Request}
 use Rattle.command_words.specs.declared.request.Request.TheVariants.{Conform, Script, Trial as trial}
 use Rattle.command_words.specs.declared.request.Trial.{Trial}
 use Rattle.command_words.proofs.Digits.{same_number}
-use Rattle.command_words.proofs.Names.{apart, same_family, same_rule}
+use Rattle.command_words.proofs.Names.{same_family, same_rule}
 
 -- the word in a place
 word : (k : ℕ) (xs ys : List (List ℕ)) → xs ≡ ys → get_or xs k [] ≡ get_or ys k []

@@ -4,7 +4,6 @@ use Rattle.std.specs.Fmt.{decimal}
 use Rattle.csp_tables.specs.declared.rule.Rule.{Rule}
 use Rattle.net_maker.specs.Families.{family_name, greatest, least}
 use Rattle.report.specs.Report.{rule_text}
-use Rattle.command_words.specs.declared.request.Job.{Job}
 use Rattle.command_words.specs.declared.request.Job.TheVariants.{Check, Livelock, Run, Show, Table}
 use Rattle.command_words.specs.declared.request.Request.{Request}
 use Rattle.command_words.specs.declared.request.Request.TheVariants as request

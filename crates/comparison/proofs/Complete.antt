@@ -1,5 +1,5 @@
 -- Where a network matches its specification, no point of their comparison can tell a fault.
-use Rattle.std.proofs.Common.{◌≡◌, ℕ, zero, suc, List, [], ◌∷◌, Some, slice_get, inl, inr, sym, ap, subst, ◌∙◌}
+use Rattle.std.proofs.Common.{◌≡◌, ℕ, zero, suc, List, [], ◌∷◌, Some, slice_get, inl, inr, ap, subst}
 use Rattle.std.proofs.lemmas.Option.{none-some, same_Some, slice_get_within}
 use Rattle.conformance.proofs.Telling.{faults_refute}
 use Rattle.csp_program.specs.declared.processes.Proc.{Proc}
@@ -19,7 +19,7 @@ use Rattle.report.specs.declared.answer.Answer.{Answer}
 use Rattle.report.specs.declared.answer.Refusal.{Refusal}
 use Rattle.report.specs.declared.answer.Shortfall.{Shortfall}
 use Rattle.report.specs.declared.answer.Side.{Side}
-use Rattle.comparison.specs.Agreement.{DifferFirstAt, HaveOtherEvents, HaveOtherShape, printed_events}
+use Rattle.comparison.specs.Agreement.{DifferFirstAt, printed_events}
 use Rattle.comparison.specs.Compared.{ConformanceDecides, IsCompared, PartsOr}
 use Rattle.comparison.specs.Complete.{IsWithinLimits, Matches}
 use Rattle.comparison.specs.Conforming.{ComponentsConform, FailsToConform}

@@ -12,7 +12,7 @@ use Rattle.dl_outside.specs.declared.shelf.LoadFault.TheVariants.{Missing, TooLo
 use Rattle.dl_outside.specs.declared.texts.NamedText.{NamedText}
 use Rattle.dl_outside.specs.Texts.{text_of}
 use Rattle.judgement_laws.proofs.Complete.{complete, goes_past}
-use Rattle.network_stages.specs.Networks.{IsNetworkOf, Network}
+use Rattle.network_stages.specs.Networks.{IsNetworkOf}
 use Rattle.report.specs.Points.Point.{passed, told}
 use Rattle.report.specs.Report.{report_text, status}
 use Rattle.report.specs.declared.answer.Answer.{Answer}

@@ -4,7 +4,6 @@ use Rattle.command_words.specs.Request.{AsksForLivelock, AsksForRun}
 use Rattle.command_words.specs.declared.request.Job.TheVariants.{Livelock, Run}
 use Rattle.csp_text.specs.declared.script.Script.{Script}
 use Rattle.csp_tables.specs.WellNested.{WellNested}
-use Rattle.csp_program.specs.declared.processes.Proc.{Proc}
 use Rattle.dl_outside.specs.declared.texts.NamedText.{NamedText}
 use Rattle.dl_outside.specs.Write.{GrowsBy}
 use Rattle.livelock.proofs.Status.{bounded_cases}

@@ -4,7 +4,6 @@ use Rattle.std.proofs.lemmas.Bool.{cases_lt}
 use Rattle.std.proofs.lemmas.Option.{same_Some, slice_get_within}
 use Rattle.csp_tables.specs.Label.{Label}
 use Rattle.csp_tables.specs.Network.{Component, ComponentStep, Tree, leaves}
-use Rattle.csp_tables.specs.Trace.{HaveSameFuture, IsTrace}
 use Rattle.csp_tables.specs.Table.{IsReached, IsRun, Node, end_of}
 use Rattle.csp_tables.specs.Form.{HasForm, HaveForm}
 use Rattle.csp_tables.specs.Part.{Part}
@@ -12,7 +11,7 @@ use Rattle.csp_tables.specs.Shape.{Shape}
 use Rattle.csp_tables.specs.ShapeOf.{ArePartsOf, IsPartOf, IsShapeOf}
 use Rattle.design_rules.proofs.Runs.{end_within}
 use Rattle.free_answers.specs.Counts.{node_count}
-use Rattle.judgement_laws.specs.Classes.{HasClasses, HaveClasses, IsOfClass}
+use Rattle.judgement_laws.specs.Classes.{HasClasses, HaveClasses}
 
 -- the members f k, f (k + 1) and so on, m of them
 abbrev row_of : {A : Type 0} → (ℕ → A) → ℕ → ℕ → List A

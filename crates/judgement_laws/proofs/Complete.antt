@@ -1,5 +1,5 @@
 -- Where a network passes, no point of its judgement can tell a fault.
-use Rattle.std.proofs.Common.{◌≡◌, ◌+◌, ◌≤◌, ℕ, zero, suc, Ok, Err, List, [], ◌∷◌, Some, length, take, slice_get, refl, sym, ap, subst, ◌∙◌, arith}
+use Rattle.std.proofs.Common.{◌≡◌, ◌≤◌, ℕ, zero, suc, Ok, Err, List, [], ◌∷◌, Some, length, take, slice_get, refl, sym, ap, subst, ◌∙◌, arith}
 use Rattle.std.specs.Prelude.{min}
 use Rattle.std.proofs.lemmas.List.{length-take}
 use Rattle.std.proofs.lemmas.Option.{none-some, same_Some, slice_get_within}
@@ -29,7 +29,6 @@ use Rattle.network_stages.specs.Networks.{IsNetworkOf, Network}
 use Rattle.network_stages.specs.Sets.{ArePartsBy, HaveFewSets}
 use Rattle.network_stages.specs.Stages.{CanStop, HaveNoParts, HaveNoTables, ShareEvent}
 use Rattle.network_tables.specs.Tables.{AreTablesOf}
-use Rattle.network_tables.specs.declared.component_tables.ComponentTable.{ComponentTable}
 use Rattle.process_steps.specs.ComponentStep.{ProcessStep}
 use Rattle.process_steps.specs.Needed.{all_outcomes}
 use Rattle.report.specs.Points.{Point, RefusedOr, UnprovedOr}

@@ -1,8 +1,5 @@
 -- A script that has a network has no reason why it should have none.
 use Rattle.std.proofs.Common.{◌≡◌, Result, Ok, Err, inl, inr, sym, ap, ◌∙◌}
-use Rattle.csp_tables.specs.Network.{Tree}
-use Rattle.csp_program.specs.declared.processes.Proc.{Proc}
-use Rattle.csp_program.specs.declared.programs.Content.{Content}
 use Rattle.script_names.specs.Resolved.{resolved}
 use Rattle.network_trees.specs.NetworkOf.{network_of}
 use Rattle.judgement.proofs.KindsUnique.{kinds_are_unique}

@@ -1,7 +1,7 @@
 -- A walk over some states is one over others, where these have the same options and take them alike.
-use Rattle.std.proofs.Common.{◌↔◌, inl, inr, ℕ, Bool, List, [], ◌∷◌, refl, subst}
+use Rattle.std.proofs.Common.{◌↔◌, ℕ, List, [], ◌∷◌, refl, subst}
 use Rattle.numbered_walks.specs.Numbers.{next_number}
-use Rattle.numbered_walks.specs.Walks.{Chooses, HasNone, IsWalk, IsWalkOf}
+use Rattle.numbered_walks.specs.Walks.{Chooses, HasNone, IsWalk}
 use Rattle.numbered_walks.specs.declared.moves.Move.{Move}
 
 module _ {S U : Type 0} (Has : S → Move → Type 0) (Takes : S → Move → S → Type 0) (Others : U → Move → Type 0) (Moves : U → Move → U → Type 0) (R : S → U → Type 0)

@@ -2,11 +2,11 @@
 use Rattle.std.proofs.Common.{◌≡◌, ℕ, zero, suc, ◌+◌, ◌<◌, ◌≤◌, ◌⊎◌, inl, inr, Bool, true, false, ◌&&◌, ◌||◌, nat_eq, IsTrue, List, [], ◌∷◌, ◌++◌, length, take, get_or, refl, sym, ap, subst, ◌∙◌, arith}
 use Rattle.std.specs.Cmp.{first_so}
 use Rattle.std.proofs.lemmas.Bool.{cases_eq, eq-eqb, eqb-true, false≢true, ne_eqb, or_cases, or_left, or_right}
-use Rattle.std.proofs.lemmas.List.Folds.{list_any-append, list_any_at, list_any_more}
+use Rattle.std.proofs.lemmas.List.Folds.{list_any_more}
 use Rattle.std.proofs.Math.Bool.{or_comm}
 use Rattle.acceptances.proofs.Terms.{offers_by_test, test_by_offers}
 use Rattle.acceptances.specs.OfferTests.{can_do}
-use Rattle.csp_base.proofs.Booleans.{or_none, same_tests}
+use Rattle.csp_base.proofs.Booleans.{same_tests}
 use Rattle.csp_base.proofs.Listed.{has_first, same_number}
 use Rattle.csp_base.proofs.Lists.{take_read}
 use Rattle.csp_base.proofs.Rising.{has-with_member}

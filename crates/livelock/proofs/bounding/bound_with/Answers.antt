@@ -5,7 +5,6 @@ use Rattle.report.specs.Stops.{Tells}
 use Rattle.report.specs.declared.answer.Answer.{Answer}
 use Rattle.report.specs.declared.stop.Stop.{Stop}
 use Rattle.livelock.specs.Bounded.{OrderDecides}
-use Rattle.livelock.proofs.Status.{bounded_cases}
 use Rattle.livelock.proofs.Walk.{bound_decides, fault_stops, here}
 use Rattle.livelock.proofs.bounding.bound_with.Goals as goal
 
