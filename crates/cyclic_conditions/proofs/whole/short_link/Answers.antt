@@ -3,7 +3,8 @@ use Rattle.std.proofs.lemmas.Bool.{false≢true}
 use Rattle.csp_base.specs.Events.{is_subset_of}
 use Rattle.csp_tables.specs.Shape.{Link, Shape, link_at}
 use Rattle.cyclic_conditions.specs.Shorts.{IsShort}
-use Rattle.shape_links.proofs.Links.{no_number, vocabulary_owner}
+use Rattle.std.proofs.lemmas.Option.{none-some}
+use Rattle.shape_links.proofs.Links.{vocabulary_owner}
 use Rattle.cyclic_conditions.proofs.Shortness.{short_set, short_subset, short_owner, short_lacks}
 use Rattle.cyclic_conditions.proofs.whole.short_link.Goals as goal
 use Rattle.std.proofs.lemmas.Option.{same_Some}
@@ -20,7 +21,7 @@ pub returns-in_err-link-clause-all : goal.returns-in_err-link-clause-all
 returns-in_err-link-clause-all c l one s =
     let e = c.in_ok-event.event in
     let o = vocabulary_owner c.args.prepared.now e c.shape-shape.ensures.form (s.shared e (find_has (nat_le 0) c.args.set.now e (sym c.in_ok-event.ensures.least))) in
-    absurd (no_number o.0 (c.in_err-link.ensures.owned o.0 o.1))
+    absurd (none-some o.0 (c.in_err-link.ensures.owned o.0 o.1))
 
 pub link-requires : goal.link-requires
 link-requires c = (c.in_ok-link.ensures.found c.in_ok-link.link refl).within

@@ -4,7 +4,8 @@ use Rattle.std.specs.Prelude.{slice_index}
 use Rattle.std.proofs.lemmas.Bool.{false≢true}
 use Rattle.csp_base.specs.Events.{is_subset_of}
 use Rattle.csp_tables.specs.Shape.{Shape}
-use Rattle.shape_links.proofs.Links.{no_number, vocabulary_owner}
+use Rattle.std.proofs.lemmas.Option.{none-some}
+use Rattle.shape_links.proofs.Links.{vocabulary_owner}
 use Rattle.rule_rankings.proofs.cyclic.rank_of.Goals as goal
 use Rattle.csp_base.proofs.Listed.{find_has, none_found}
 use Rattle.csp_base.proofs.Rising.{member_of_superset, is_subset_of_from_members}
@@ -27,7 +28,7 @@ pub returns-in_default-owner : goal.returns-in_default-owner
 returns-in_default-owner c = record {
   on_link = λ l one within h m.
       let o = vocabulary_owner c.args.prepared.now c.in-Some.event c.shape.ensures.form (within c.in-Some.event (find_has (nat_le 0) c.args.set.now c.in-Some.event (sym c.in-Some.ensures.least))) in
-      absurd (no_number o.0 (c.in_default-owner.ensures.owned o.0 o.1));
+      absurd (none-some o.0 (c.in_default-owner.ensures.owned o.0 o.1));
   other = λ _. refl;
 }
 
