@@ -13,6 +13,6 @@ mod Places
 mod Walk
 mod Circle
 mod ClosedContent
-mod Whole
+pub mod Whole
 mod Sets
 mod Tabled
