@@ -19,7 +19,7 @@ use csp_values::EvalFault;
 use dl_limits::MOST_EVENTS;
 use event_tables::{SharedSets, event_count, field_sets, fill_events};
 use name_tables::Meanings;
-use name_tables::declared::{next, short};
+use name_tables::declared::next;
 use script_contents::types_of;
 use script_names::{ResolveFault, Unresolved};
 use std::alloc::Global;
@@ -89,7 +89,6 @@ fn shared_in(
     ensures channels { IfOk result (λ one. one.channels ≡ channels) }
     ensures sets { Answers (λ (one : SharedSets). one.sets) result (meant.told_in i (meant.field_sets content.now types.now)) }
 {
-    let channels = short(channels)?;
     let sets = sets_in(alloc, content, i, types)?;
     Ok(SharedSets { channels, sets })
 }

@@ -215,7 +215,7 @@ module _ (p : Content) where
       forms.steps-Prefix p h fields q ∙
       ap (λ o. and_then o (λ found. and_then (ways_to_fill p found.sets fields q []) (λ ways. Ok (map (λ w. (Visible (found.event w.0), w.1)) ways)))) e ∙
       ap (λ sets. and_then (ways_to_fill p sets fields q []) (λ ways. Ok (map (λ w. (Visible (choice.event w.0), w.1)) ways))) is.sets ∙
-      moves_by_number p choice.event start.first start.sets.now fields q is.event
+      moves_by_number p choice.event start.first start.sets.now fields q is.event is.few
 
   pub prefix : (trees : List Proc) (steps : List StepTo) (h : Head) (fields : List Field) (q : Proc) (start : Start) (choice : Choice) → of_head p h ≡ Ok choice → IsStart start choice
       → IsListing trees steps (filled [] start.first (ways_by_number p start.sets.now fields q 0)) → IsListing trees steps (steps_of p (proc.Prefix h fields q))

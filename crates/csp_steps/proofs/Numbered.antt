@@ -1,7 +1,8 @@
 -- The ways to fill fields, by the values of their events and by the numbers of their events.
-use Rattle.std.proofs.Common.{◌≡◌, ℕ, suc, ◌+◌, ◌*◌, Bool, true, false, cond, Option, Some, None, Ok, Err, List, [], ◌∷◌, ◌++◌, map, length, slice_get, refl, ap, sym, ◌∙◌, append_assoc, append-nil, arith}
+use Rattle.std.proofs.Common.{◌≡◌, ℕ, zero, suc, ◌+◌, ◌*◌, ◌^◌, ◌<◌, ◌≤◌, Bool, true, false, cond, Option, Some, None, Ok, Err, List, [], ◌∷◌, ◌++◌, map, length, slice_get, refl, ap, sym, ◌∙◌, subst, append_assoc, append-nil, arith}
 use Rattle.std.specs.Prelude.{is_some, if◌then◌else◌}
 use Rattle.std.proofs.lemmas.List.{map-append}
+use Rattle.std.proofs.lemmas.Option.{slice_get_within}
 use Rattle.csp_atoms.proofs.SearchLaws.{has_place}
 use Rattle.csp_atoms.specs.Sets.{has_atom, place_of}
 use Rattle.csp_program.specs.EventNumber.{row_count}
@@ -22,10 +23,10 @@ use Rattle.process_steps.specs.Prefix.{given_in, is_given, later_fields, later_p
 use Rattle.process_steps.specs.Prefix as prefix
 use Rattle.process_steps.specs.StepList.{Move}
 use Rattle.process_steps.specs.declared.label.Label.TheVariants.{Visible}
-use Rattle.value_laws.proofs.RowNumbers.{field_found, to_rows}
+use Rattle.value_laws.proofs.RowNumbers.{field_found, length-rows, to_rows}
 use Rattle.value_laws.specs.Numbers.{field_place, found_place}
-use Rattle.csp_steps.specs.Computed.{Way, event_move}
-use Rattle.csp_steps.specs.Walked.{ways_by_number}
+use Rattle.csp_steps.specs.Computed.{Way, event_move, nth_event}
+use Rattle.csp_steps.specs.Walked.{number_with, ways_by_number}
 
 no_place : (o : Option ℕ) (why : ValueKind) → found_place o ≡ Err why → (o ≡ None) × (OutsideChannel ≡ why)
 no_place None why h = (refl, cc)
@@ -67,62 +68,82 @@ each_moved f g given next next' k (a ∷ set) same =
     (λ i. then_moves (given_same f g (is_given given a) (next k a) (next' k a) first i) (rest i)) ∙
     sym (moved_join g (where_given given next' k a) (each_joined (where_given given next') (k + 1) set))
 
+at_least : (m count : ℕ) → 0 < count → m ≤ m * count
+at_least m zero h = absurd (omega (arith, h))
+at_least m (suc count) h = omega arith
+
 -- an event that is found by values, and by the place of these among all choices of values
 module _ (p : Content) (event : List Atom → ℕ) (first : ℕ) where
   abbrev by_row : prefix.Way → Move
   by_row w = (Visible (event w.0), w.1)
 
-  -- the values before the sets are the row, and have the number n
+  -- the values before the sets are the row, and have the number n; each event of theirs has a number of 32 bits
   abbrev Counts : List (List Atom) → List Atom → ℕ → Type 0
-  Counts sets row n = (j : ℕ) (rest : List Atom) → slice_get (rows sets) j ≡ Some rest → event (row ++ rest) ≡ first + (n * row_count sets + j)
+  Counts sets row n = (j : ℕ) (rest : List Atom) → slice_get (rows sets) j ≡ Some rest → (event (row ++ rest) ≡ first + (n * row_count sets + j)) × (event (row ++ rest) < 2 ^ 32)
 
-  one_more : (set : List Atom) (sets : List (List Atom)) (row : List Atom) (n k : ℕ) (a : Atom) → Counts (set ∷ sets) row n → slice_get set k ≡ Some a → Counts sets (row ++ a ∷ []) (n * length set + k)
+  one_more : (set : List Atom) (sets : List (List Atom)) (row : List Atom) (n k : ℕ) (a : Atom) → Counts (set ∷ sets) row n → slice_get set k ≡ Some a → Counts sets (row ++ a ∷ []) (number_with n set k)
   one_more set sets row n k a counts at j rest there =
-      ap event (append_assoc row (a ∷ []) rest) ∙
-      counts (k * row_count sets + j) (a ∷ rest) (to_rows set sets k a j rest at there (k * row_count sets + j) refl) ∙
-      ap (λ (m : ℕ). first + m) (omega arith)
+      let c = counts (k * row_count sets + j) (a ∷ rest) (to_rows set sets k a j rest at there (k * row_count sets + j) refl) in
+      let same = ap event (append_assoc row (a ∷ []) rest) in
+      let is : event ((row ++ a ∷ []) ++ rest) ≡ first + (n * (length set * row_count sets) + (k * row_count sets + j)) = same ∙ c.0 in
+      let few : event ((row ++ a ∷ []) ++ rest) < 2 ^ 32 = subst (λ (e : ℕ). e < 2 ^ 32) (sym same) c.1 in
+      let within : j < length (rows sets) = slice_get_within (rows sets) j rest there in
+      let count : length (rows sets) ≡ row_count sets = length-rows sets in
+      let least : n * length set + k ≤ (n * length set + k) * row_count sets = at_least (n * length set + k) (row_count sets) (omega (arith, within, count)) in
+      let exact : number_with n set k ≡ n * length set + k = omega (arith, is, few, least) in
+      (is ∙ ap (λ (m : ℕ). first + m) (omega arith) ∙ ap (λ (m : ℕ). first + (m * row_count sets + j)) (sym exact), few)
 
   abbrev Same : List (List Atom) → List Field → Proc → List Atom → ℕ → Type 0
   Same sets fields q row n = moved by_row (ways_to_fill p sets fields q row) ≡ moved (event_move first) (ways_by_number p sets fields q n)
 
   at_field : (o : Outcome ℕ) (set : List Atom) (sets : List (List Atom)) (fields : List Field) (q : Proc) (row : List Atom) (n : ℕ) (v : Value) → field_place set v ≡ o
-      → ((k : ℕ) (a : Atom) → slice_get set k ≡ Some a → Same sets fields q (row ++ a ∷ []) (n * length set + k))
-      → moved by_row (and_then (in_field set v) (λ a. ways_to_fill p sets fields q (row ++ a ∷ []))) ≡ moved (event_move first) (and_then o (λ k. ways_by_number p sets fields q (n * length set + k)))
+      → ((k : ℕ) (a : Atom) → slice_get set k ≡ Some a → Same sets fields q (row ++ a ∷ []) (number_with n set k))
+      → moved by_row (and_then (in_field set v) (λ a. ways_to_fill p sets fields q (row ++ a ∷ []))) ≡ moved (event_move first) (and_then o (λ k. ways_by_number p sets fields q (number_with n set k)))
   at_field (Err why) set sets fields q row n v is rest = ap (λ o. moved by_row (and_then o (λ a. ways_to_fill p sets fields q (row ++ a ∷ [])))) (outside set v why is)
   at_field (Ok k) set sets fields q row n v is rest =
       let found = field_found set v k is in
       ap (λ o. moved by_row (and_then o (λ a. ways_to_fill p sets fields q (row ++ a ∷ [])))) found.3 ∙ rest k found.0 found.2
 
   at_output : (o : Outcome Value) (set : List Atom) (sets : List (List Atom)) (fields : List Field) (q : Proc) (row : List Atom) (n : ℕ)
-      → ((k : ℕ) (a : Atom) → slice_get set k ≡ Some a → Same sets fields q (row ++ a ∷ []) (n * length set + k))
+      → ((k : ℕ) (a : Atom) → slice_get set k ≡ Some a → Same sets fields q (row ++ a ∷ []) (number_with n set k))
       → moved by_row (and_then o (λ v. and_then (in_field set v) (λ a. ways_to_fill p sets fields q (row ++ a ∷ []))))
-      ≡ moved (event_move first) (and_then o (λ v. and_then (field_place set v) (λ k. ways_by_number p sets fields q (n * length set + k))))
+      ≡ moved (event_move first) (and_then o (λ v. and_then (field_place set v) (λ k. ways_by_number p sets fields q (number_with n set k))))
   at_output (Err why) set sets fields q row n rest = refl
   at_output (Ok v) set sets fields q row n rest = at_field (field_place set v) set sets fields q row n v refl rest
 
   at_input : (o : Outcome (Option (List Atom))) (set : List Atom) (sets : List (List Atom)) (x : ℕ) (fields : List Field) (q : Proc) (row : List Atom) (n : ℕ)
-      → ((k : ℕ) (a : Atom) → slice_get set k ≡ Some a → Same sets (later_fields x a fields) (later_process x a fields q) (row ++ a ∷ []) (n * length set + k))
+      → ((k : ℕ) (a : Atom) → slice_get set k ≡ Some a → Same sets (later_fields x a fields) (later_process x a fields q) (row ++ a ∷ []) (number_with n set k))
       → moved by_row (and_then o (λ given. each_joined (where_given given (λ k a. ways_to_fill p sets (later_fields x a fields) (later_process x a fields q) (row ++ a ∷ []))) 0 set))
-      ≡ moved (event_move first) (and_then o (λ given. each_joined (where_given given (λ k a. ways_by_number p sets (later_fields x a fields) (later_process x a fields q) (n * length set + k))) 0 set))
+      ≡ moved (event_move first) (and_then o (λ given. each_joined (where_given given (λ k a. ways_by_number p sets (later_fields x a fields) (later_process x a fields q) (number_with n set k))) 0 set))
   at_input (Err why) set sets x fields q row n rest = refl
   at_input (Ok given) set sets x fields q row n rest =
       each_moved by_row (event_move first) given (λ k a. ways_to_fill p sets (later_fields x a fields) (later_process x a fields q) (row ++ a ∷ []))
-      (λ k a. ways_by_number p sets (later_fields x a fields) (later_process x a fields q) (n * length set + k)) 0 set
+      (λ k a. ways_by_number p sets (later_fields x a fields) (later_process x a fields q) (number_with n set k)) 0 set
       (λ i a at. let here : i ≡ 0 + i = omega arith in
-      rest i a at ∙ ap (λ k. moved (event_move first) (ways_by_number p sets (later_fields x a fields) (later_process x a fields q) (n * length set + k))) here)
+      rest i a at ∙ ap (λ k. moved (event_move first) (ways_by_number p sets (later_fields x a fields) (later_process x a fields q) (number_with n set k))) here)
 
   same_moves : (sets : List (List Atom)) (fields : List Field) (q : Proc) (row : List Atom) (n : ℕ) → Counts sets row n → Same sets fields q row n
   same_moves [] [] q row n counts =
-      let last : event row ≡ first + n = ap event (sym (append-nil row)) ∙ counts 0 [] refl ∙ ap (λ (m : ℕ). first + m) (omega arith) in
+      let c = counts 0 [] refl in
+      let own = ap event (append-nil row) in
+      let number = c.0 in
+      let few = c.1 in
+      let last : event row ≡ nth_event first n = omega (arith, own, number, few) in
       ap (λ (e : ℕ). Ok ((Visible e, q) ∷ [])) last
   same_moves [] (f ∷ fields) q row n counts = refl
   same_moves (set ∷ sets) [] q row n counts = refl
   same_moves (set ∷ sets) (field.Put e ∷ fields) q row n counts =
-      at_output (value_of p e) set sets fields q row n (λ k a at. same_moves sets fields q (row ++ a ∷ []) (n * length set + k) (one_more set sets row n k a counts at))
+      at_output (value_of p e) set sets fields q row n (λ k a at. same_moves sets fields q (row ++ a ∷ []) (number_with n set k) (one_more set sets row n k a counts at))
   same_moves (set ∷ sets) (field.Get x s ∷ fields) q row n counts =
       at_input (given_in p s) set sets x fields q row n
-      (λ k a at. same_moves sets (later_fields x a fields) (later_process x a fields q) (row ++ a ∷ []) (n * length set + k) (one_more set sets row n k a counts at))
+      (λ k a at. same_moves sets (later_fields x a fields) (later_process x a fields q) (row ++ a ∷ []) (number_with n set k) (one_more set sets row n k a counts at))
 
-  pub moves_by_number : (sets : List (List Atom)) (fields : List Field) (q : Proc) → ((i : ℕ) (row : List Atom) → slice_get (rows sets) i ≡ Some row → event row ≡ first + i)
+  pub moves_by_number : (sets : List (List Atom)) (fields : List Field) (q : Proc) → ((i : ℕ) (row : List Atom) → slice_get (rows sets) i ≡ Some row → event row ≡ first + i) → first + row_count sets ≤ 2 ^ 32
       → and_then (ways_to_fill p sets fields q []) (λ ways. Ok (map (λ w. (Visible (event w.0), w.1)) ways)) ≡ and_then (ways_by_number p sets fields q 0) (λ ways. Ok (map (event_move first) ways))
-  moves_by_number sets fields q is = same_moves sets fields q [] 0 (λ j rest at. is j rest at ∙ ap (λ (m : ℕ). first + m) (omega arith))
+  moves_by_number sets fields q is few =
+      same_moves sets fields q [] 0
+      (λ j row at.
+      let e : event row ≡ first + j = is j row at in
+      let within : j < length (rows sets) = slice_get_within (rows sets) j row at in
+      let count : length (rows sets) ≡ row_count sets = length-rows sets in
+      (omega (arith, e), omega (arith, e, within, count, few)))

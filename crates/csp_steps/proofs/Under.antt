@@ -1,5 +1,5 @@
 -- The ways to fill fields whose names stand in an environment are those of the fields with the values put in.
-use Rattle.std.proofs.Common.{◌≡◌, ℕ, ◌+◌, ◌*◌, Bool, true, false, cond, nat_eq, Option, Some, None, Ok, List, [], ◌∷◌, ◌++◌, length, refl, ap, sym, ◌∙◌, subst}
+use Rattle.std.proofs.Common.{◌≡◌, ℕ, ◌+◌, Bool, true, false, cond, nat_eq, Option, Some, None, Ok, List, [], ◌∷◌, ◌++◌, length, refl, ap, sym, ◌∙◌, subst}
 use Rattle.std.proofs.lemmas.Bool.{false≢true, eq-eqb, eqb-true}
 use Rattle.csp_atoms.specs.declared.atom.Atom.{Atom}
 use Rattle.csp_atoms.specs.declared.value.Value.{Value}
@@ -19,7 +19,7 @@ use Rattle.process_steps.specs.Prefix.{later_process, where_given}
 use Rattle.csp_steps.specs.Computed.{Way}
 use Rattle.substitution.specs.Parts.{expr_after}
 use Rattle.substitution.proofs.BoundWorth.{worth_bound, worth_same}
-use Rattle.csp_steps.specs.Walked.{ways_by_number, is_blocked, ways_under}
+use Rattle.csp_steps.specs.Walked.{number_with, ways_by_number, is_blocked, ways_under}
 
 -- ---- what is known of names
 
@@ -154,19 +154,19 @@ module _ (p : Content) where
   ways_same (ended k) env r (set ∷ sets) q n = refl
   ways_same (output k e e' fs fs' means rest) env r [] q n = refl
   ways_same (output k e e' fs fs' means rest) env r (set ∷ sets) q n =
-      λ i. and_then (means env [] r i) (λ v. and_then (field_place set v) (λ m. ways_same {known = k} {fs = fs} {fs' = fs'} rest env r sets q (n * length set + m) i))
+      λ i. and_then (means env [] r i) (λ v. and_then (field_place set v) (λ m. ways_same {known = k} {fs = fs} {fs' = fs'} rest env r sets q (number_with n set m) i))
   ways_same (plain k y fs fs' rest) env r [] q n = refl
   ways_same (plain k y fs fs' rest) env r (set ∷ sets) q n =
       λ i. each_joined (where_given None (λ m a.
-      (ap (λ t. ways_under p ((y, value.One a) ∷ env) sets fs (cond t q (proc_with y (value.One a) q)) (n * length set + m)) (same_names y rest) ∙
+      (ap (λ t. ways_under p ((y, value.One a) ∷ env) sets fs (cond t q (proc_with y (value.One a) q)) (number_with n set m)) (same_names y rest) ∙
       ways_same {known = also y (value.One a) (but y k)} {fs = fs} {fs' = fields_with y (value.One a) fs'} (put_fields y (value.One a) (nothing_known k y (nat_eq y y) refl) rest)
-      ((y, value.One a) ∷ env) (extended k env [] y (value.One a) r) sets (later_process y a fs' q) (n * length set + m)) i)) 0 set
+      ((y, value.One a) ∷ env) (extended k env [] y (value.One a) r) sets (later_process y a fs' q) (number_with n set m)) i)) 0 set
   ways_same (within k y s s' fs fs' means rest) env r [] q n = refl
   ways_same (within k y s s' fs fs' means rest) env r (set ∷ sets) q n =
       λ i. and_then (and_then (and_then (means env [] r i) as_set) (λ atoms. Ok (Some atoms))) (λ given. each_joined (where_given given (λ m a.
-      (ap (λ t. ways_under p ((y, value.One a) ∷ env) sets fs (cond t q (proc_with y (value.One a) q)) (n * length set + m)) (same_names y rest) ∙
+      (ap (λ t. ways_under p ((y, value.One a) ∷ env) sets fs (cond t q (proc_with y (value.One a) q)) (number_with n set m)) (same_names y rest) ∙
       ways_same {known = also y (value.One a) (but y k)} {fs = fs} {fs' = fields_with y (value.One a) fs'} (put_fields y (value.One a) (nothing_known k y (nat_eq y y) refl) rest)
-      ((y, value.One a) ∷ env) (extended k env [] y (value.One a) r) sets (later_process y a fs' q) (n * length set + m)) i)) 0 set)
+      ((y, value.One a) ∷ env) (extended k env [] y (value.One a) r) sets (later_process y a fs' q) (number_with n set m)) i)) 0 set)
 
   -- no name is bound at first
   pub ways_at_first : (sets : List (List Atom)) (fs : List Field) (q : Proc) (n : ℕ) → ways_under p [] sets fs q n ≡ ways_by_number p sets fs q n
@@ -185,5 +185,5 @@ module _ (p : Content) where
   no_ways (set ∷ sets) (field.Get x (Some s) ∷ fs) h env q n = absurd (false≢true h)
   no_ways ([] ∷ sets) (field.Get x None ∷ fs) h env q n = refl
   no_ways ((b ∷ set) ∷ sets) (field.Get x None ∷ fs) h env q n =
-      none_joined (where_given None (λ k a. ways_under p ((x, value.One a) ∷ env) sets fs (later_process x a fs q) (n * length (b ∷ set) + k)))
-      (λ k a. no_ways sets fs h ((x, value.One a) ∷ env) (later_process x a fs q) (n * length (b ∷ set) + k)) 0 (b ∷ set)
+      none_joined (where_given None (λ k a. ways_under p ((x, value.One a) ∷ env) sets fs (later_process x a fs q) (number_with n (b ∷ set) k)))
+      (λ k a. no_ways sets fs h ((x, value.One a) ∷ env) (later_process x a fs q) (number_with n (b ∷ set) k)) 0 (b ∷ set)

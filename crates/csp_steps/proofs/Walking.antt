@@ -1,5 +1,5 @@
 -- What walks over the ways to fill fields come to, as they go on.
-use Rattle.std.proofs.Common.{◌≡◌, ℕ, zero, suc, ◌+◌, ◌*◌, ◌<◌, ◌≤◌, true, nat_lt, Option, Some, None, Ok, Err, List, [], ◌∷◌, ◌++◌, map, drop, length, slice_get, refl, ap, sym, ◌∙◌, subst, arith, append_assoc, append-nil}
+use Rattle.std.proofs.Common.{◌≡◌, ℕ, zero, suc, ◌+◌, ◌<◌, ◌≤◌, true, nat_lt, Option, Some, None, Ok, Err, List, [], ◌∷◌, ◌++◌, map, drop, length, slice_get, refl, ap, sym, ◌∙◌, subst, arith, append_assoc, append-nil}
 use Rattle.std.proofs.lemmas.Bool.{and_from, lt-ltb, ltb-true}
 use Rattle.std.specs.Cmp.{first_so, second_so}
 use Rattle.csp_base.proofs.Lists.{map_push}
@@ -20,9 +20,9 @@ use Rattle.std.specs.Prelude.{Result}
 use Rattle.value_operators.specs.declared.fault.EvalFault.{EvalFault}
 use Rattle.value_operators.specs.Env.{with_bound}
 use Rattle.value_operators.proofs.NameLaws.{with_bound-last}
-use Rattle.csp_steps.specs.Computed.{Way, all_within, event_move, filled}
+use Rattle.csp_steps.specs.Computed.{Way, all_within, event_move, filled, nth_event}
 use Rattle.csp_steps.specs.Listed.{seen, FaultIs}
-use Rattle.csp_steps.specs.Walked.{frames_left, frames_weight, frames_within, input_ways, name_of, next_ways, next_weight, then_ways, turn_ways, turned_ways, turned_weight, values_left, values_weight, walk_moves, walk_ways, ways_under, weight, HasGone, IsBegun, IsSound, IsTaken, IsTurnWithin}
+use Rattle.csp_steps.specs.Walked.{frames_left, frames_weight, frames_within, input_ways, name_of, next_ways, next_weight, number_with, then_ways, turn_ways, turned_ways, turned_weight, values_left, values_weight, walk_moves, walk_ways, ways_under, weight, HasGone, IsBegun, IsSound, IsTaken, IsTurnWithin}
 use Rattle.csp_steps.specs.declared.fields.Next.{Next}
 use Rattle.csp_steps.specs.declared.fields.Next.TheVariants as next
 use Rattle.csp_steps.specs.declared.step.StepTo.{StepTo}
@@ -102,7 +102,7 @@ within_last count (g ∷ frames) f h = within_last count frames f (second_so (na
 module _ (p : Content) (old new : List Proc) (front : IsFront old new) where
   values_stay : (env : Env) (i : Input) (k : ℕ) → i.to.0 < length old → values_left p new env i k ≡ values_left p old env i k
   values_stay env i k within =
-      ap (λ (to : Proc). each_joined (where_given i.given (λ j a. ways_under p ((i.name, One a) ∷ env) i.sets.now i.fields.now (later_process i.name a i.fields.now to) (i.number * length i.set.now + j))) k (drop k i.set.now))
+      ap (λ (to : Proc). each_joined (where_given i.given (λ j a. ways_under p ((i.name, One a) ∷ env) i.sets.now i.fields.now (later_process i.name a i.fields.now to) (number_with i.number i.set.now j))) k (drop k i.set.now))
       (tree_stays old new front i.to within)
 
   pub frames_stay : (frames : List Frame) (env : Env) (rest : Outcome (List Way)) → frames_within (length old) frames ≡ true → frames_left p new frames env rest ≡ frames_left p old frames env rest
@@ -237,9 +237,9 @@ one_more_way moves first w (Err k) = refl
 module _ (p : Content) (first : ℕ) (trees : List Proc) (walk after : Walk) (sound : IsSound trees walk) where
   pub gone_to_end : (t : Turn) (n : Next) (m : ℕ) → walk.turn ≡ Some t → n ≡ next.End m → turn_ways p trees (with_bound walk.bound []) t ≡ next_ways p trees (with_bound walk.bound []) t.to n
       → next_weight n ≤ weight t.sets.now
-      → after.bound ≡ walk.bound → after.frames ≡ walk.frames → after.turn ≡ None → after.steps ≡ walk.steps ++ record { label = Visible (first + m); to = t.to } ∷ [] → HasGone p first trees trees walk after
+      → after.bound ≡ walk.bound → after.frames ≡ walk.frames → after.turn ≡ None → after.steps ≡ walk.steps ++ record { label = Visible (nth_event first m); to = t.to } ∷ [] → HasGone p first trees trees walk after
   gone_to_end t n m on is same lighter bound frames off steps =
-      let s : StepTo = record { label = Visible (first + m); to = t.to } in
+      let s : StepTo = record { label = Visible (nth_event first m); to = t.to } in
       record {
         moves = (λ i. filled (map (seen trees) walk.steps) first (then_ways ((ap (turned_ways p trees (with_bound walk.bound [])) on ∙ (same ∙ ap (next_ways p trees (with_bound walk.bound []) t.to) is)) i) (frames_left p trees walk.frames [] (Ok [])))) ∙
             (one_more_way (map (seen trees) walk.steps) first (m, tree_at trees t.to) (frames_left p trees walk.frames [] (Ok [])) ∙

@@ -1,5 +1,5 @@
 -- What the functions of this crate answer on their way, for their own contracts alone.
-use Rattle.std.specs.Prelude.{◌≡◌, ◌<◌, ◌+◌, ℕ, Bool, true, false, ◌&&◌, if◌then◌else◌, nat_lt, Result, Ok, Err, List, [], ◌∷◌, ◌++◌, map, length}
+use Rattle.std.specs.Prelude.{◌≡◌, ◌<◌, ◌+◌, ◌-◌, ◌^◌, ℕ, min, Bool, true, false, ◌&&◌, if◌then◌else◌, nat_lt, Result, Ok, Err, List, [], ◌∷◌, ◌++◌, map, length}
 use Rattle.csp_base.specs.Members.{has}
 use Rattle.process_steps.specs.Needed.{events_in}
 use Rattle.process_steps.specs.Renaming.{renaming_in}
@@ -85,9 +85,14 @@ pub record IsMove (trees : List Proc) (step : StepTo) (move : Move) : Type 0 whe
 abbrev pub Way : Type 0
 Way = ℕ × Proc
 
--- moves, and after them those of ways to fill fields
+-- the number of an event, by that of the first one; counting stops at the end of 32 bits
+abbrev pub nth_event : ℕ → ℕ → ℕ
+nth_event first n = min (first + n) (2 ^ 32 - 1)
+
 abbrev pub event_move : ℕ → Way → Move
-event_move first way = (Visible (first + way.0), way.1)
+event_move first way = (Visible (nth_event first way.0), way.1)
+
+-- moves, and after them those of ways to fill fields
 
 abbrev pub filled : List Move → ℕ → Outcome (List Way) → Outcome (List Move)
 filled moves first ways = and_then ways (λ found. Ok (moves ++ map (event_move first) found))

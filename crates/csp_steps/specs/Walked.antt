@@ -1,5 +1,5 @@
 -- What a walk over the ways to fill the fields of a prefix still comes to, for the contracts of the functions that make it.
-use Rattle.std.specs.Prelude.{◌≡◌, ◌<◌, ℕ, ◌+◌, ◌*◌, Bool, true, false, ◌&&◌, nat_lt, Option, Some, None, Result, Ok, Err, List, [], ◌∷◌, ◌++◌, map, drop, length}
+use Rattle.std.specs.Prelude.{◌≡◌, ◌<◌, ℕ, ◌+◌, ◌-◌, ◌*◌, ◌^◌, min, Bool, true, false, ◌&&◌, nat_lt, Option, Some, None, Result, Ok, Err, List, [], ◌∷◌, ◌++◌, map, drop, length}
 use Rattle.process_steps.specs.Needed.{each_joined}
 use Rattle.process_steps.specs.Prefix.{given_in, later_fields, later_process, where_given}
 use Rattle.process_steps.specs.StepList.{Move}
@@ -53,16 +53,21 @@ abbrev pub given_under : Content → Env → Option Expr → Outcome (Option (Li
 given_under p env None = Ok None
 given_under p env (Some s) = and_then (set_under p env s) (λ atoms. Ok (Some atoms))
 
+-- The number of fields with one more, which has the place k in its set, where those before have the number n. Counting stops at the end of 64 bits: no event
+-- has a number beyond.
+abbrev pub number_with : ℕ → List Atom → ℕ → ℕ
+number_with n set k = min (n * length set + k) (2 ^ 64 - 1)
+
 -- All ways to fill fields, where each has the number of its event in place of the event's values: the first field is slowest.
 abbrev pub ways_by_number : Content → List (List Atom) → List Field → Proc → ℕ → Outcome (List Way)
 ways_by_number p [] [] q n = Ok ((n, q) ∷ [])
 ways_by_number p [] (f ∷ fields) q n = Err OutsideChannel
 ways_by_number p (set ∷ sets) [] q n = Err OutsideChannel
 ways_by_number p (set ∷ sets) (field.Put e ∷ fields) q n =
-    and_then (value_of p e) (λ v. and_then (field_place set v) (λ k. ways_by_number p sets fields q (n * length set + k)))
+    and_then (value_of p e) (λ v. and_then (field_place set v) (λ k. ways_by_number p sets fields q (number_with n set k)))
 ways_by_number p (set ∷ sets) (field.Get x s ∷ fields) q n =
     and_then (given_in p s) (λ given.
-    each_joined (where_given given (λ k a. ways_by_number p sets (later_fields x a fields) (later_process x a fields q) (n * length set + k))) 0 set)
+    each_joined (where_given given (λ k a. ways_by_number p sets (later_fields x a fields) (later_process x a fields q) (number_with n set k))) 0 set)
 
 -- All ways to fill fields, as `ways_by_number` has them, where the values of the inputs before are not put into the fields but stand in an environment.
 abbrev pub ways_under : Content → Env → List (List Atom) → List Field → Proc → ℕ → Outcome (List Way)
@@ -70,10 +75,10 @@ ways_under p env [] [] q n = Ok ((n, q) ∷ [])
 ways_under p env [] (f ∷ fields) q n = Err OutsideChannel
 ways_under p env (set ∷ sets) [] q n = Err OutsideChannel
 ways_under p env (set ∷ sets) (field.Put e ∷ fields) q n =
-    and_then (worth p (length p.defs) env e) (λ v. and_then (field_place set v) (λ k. ways_under p env sets fields q (n * length set + k)))
+    and_then (worth p (length p.defs) env e) (λ v. and_then (field_place set v) (λ k. ways_under p env sets fields q (number_with n set k)))
 ways_under p env (set ∷ sets) (field.Get x s ∷ fields) q n =
     and_then (given_under p env s) (λ given.
-    each_joined (where_given given (λ k a. ways_under p ((x, One a) ∷ env) sets fields (later_process x a fields q) (n * length set + k))) 0 set)
+    each_joined (where_given given (λ k a. ways_under p ((x, One a) ∷ env) sets fields (later_process x a fields q) (number_with n set k))) 0 set)
 
 -- the ways of an outcome, and after them those of another
 abbrev pub then_ways : Outcome (List Way) → Outcome (List Way) → Outcome (List Way)
@@ -91,7 +96,7 @@ module _ (p : Content) (trees : List Proc) where
   -- those of the value a of an input, which has the place k in the set of the field
   abbrev pub input_ways : Env → Input → ℕ → Atom → Outcome (List Way)
   input_ways env i =
-      where_given i.given (λ k a. ways_under p ((i.name, One a) ∷ env) i.sets.now i.fields.now (later_process i.name a i.fields.now (tree_at trees i.to)) (i.number * length i.set.now + k))
+      where_given i.given (λ k a. ways_under p ((i.name, One a) ∷ env) i.sets.now i.fields.now (later_process i.name a i.fields.now (tree_at trees i.to)) (number_with i.number i.set.now k))
 
   -- those of its values from a place on
   abbrev pub values_left : Env → Input → ℕ → Outcome (List Way)

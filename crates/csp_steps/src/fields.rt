@@ -1,6 +1,6 @@
 //! What comes next in the fields of a prefix, under the values of the inputs before.
 
-ghost use Rattle.std.specs.Prelude.{◌≡◌, ◌≤◌, ◌+◌, ◌*◌, [], length, List, IfOk, Ok};
+ghost use Rattle.std.specs.Prelude.{◌≡◌, ◌≤◌, [], length, List, IfOk, Ok};
 ghost use Rattle.csp_program.specs.Outcome.{and_then};
 ghost use Rattle.csp_program.specs.Value.{Env};
 ghost use Rattle.csp_program.specs.declared.processes.Proc.{Proc};
@@ -13,14 +13,14 @@ ghost use Rattle.pool_parts.specs.declared.place.ProcId.{ProcId};
 ghost use Rattle.term_pool.specs.Trees.{tree_at};
 ghost use Rattle.csp_steps.specs.Listed.{FaultIs};
 ghost use Rattle.csp_steps.specs.Walked as meant;
-ghost use Rattle.csp_steps.specs.Walked.{given_under, is_blocked, is_plain, next_ways, next_weight, turn_ways, ways_under, weight, IsNextTo};
+ghost use Rattle.csp_steps.specs.Walked.{given_under, is_blocked, is_plain, next_ways, next_weight, number_with, turn_ways, ways_under, weight, IsNextTo};
 
 use crate::walk::{Input, Turn};
 use csp_atoms::{Atom, AtomSet};
 use csp_program::{Expr, Field, Program, ValueKind};
 use csp_values::{EvalFault, eval_under};
 use std::alloc::Global;
-use value_operators::numbers::place_in;
+use value_operators::numbers::{place_in, with_field};
 use value_operators::operators::to_set;
 
 const OUTSIDE: EvalFault = EvalFault::Value {
@@ -105,17 +105,11 @@ fn values_given(
     }
 }
 
-/// The number of fields with one more, which has `place` in its set.
-pub(crate) fn number_after(number: u64, set: &AtomSet, place: u64) -> Result<u64, EvalFault>
-    ensures { Gives result (Ok (number * length set.now + place)) }
+/// The number of fields with one more, which has `place` in its set. Counting stops at the end of 64 bits.
+pub(crate) fn number_after(number: u64, set: &AtomSet, place: u64) -> u64
+    ensures { result ≡ number_with number set.now place }
 {
-    let Some(before) = number.checked_mul(set.len() as u64) else {
-        return Err(EvalFault::NoMemory);
-    };
-    match before.checked_add(place) {
-        Some(number) => Ok(number),
-        None => Err(EvalFault::NoMemory),
-    }
+    with_field(number, set, place, 1)
 }
 
 // The number of fields with one more, which has the value of an output.
@@ -126,10 +120,11 @@ fn number_with_output(
     output: &Expr,
     number: u64,
 ) -> Result<u64, EvalFault>
-    ensures { Gives result (and_then (worth filling.now.program.now (length filling.now.program.now.defs) (with_bound bound.now []) output.now) (λ v. and_then (field_place set.now v) (λ k. Ok (number * length set.now + k)))) }
+    ensures { Gives result (and_then (worth filling.now.program.now (length filling.now.program.now.defs) (with_bound bound.now []) output.now) (λ v. and_then (field_place set.now v) (λ k. Ok (number_with number set.now k)))) }
 {
     let value = eval_under(filling.alloc, filling.program, bound, output)?;
-    number_after(number, set, place_in(set, &value)?)
+    let place = place_in(set, &value)?;
+    Ok(number_after(number, set, place))
 }
 
 // What comes after outputs where no set is left.

@@ -1,6 +1,6 @@
 //! The ways to fill the fields of a prefix.
 
-ghost use Rattle.std.specs.Prelude.{◌≡◌, ◌<◌, ◌≤◌, ◌+◌, ◌*◌, ◌++◌, [], ◌∷◌, true, if◌then◌else◌, length, IfOk, Ok, OnOk, Some};
+ghost use Rattle.std.specs.Prelude.{◌≡◌, ◌<◌, ◌≤◌, ◌++◌, [], ◌∷◌, true, if◌then◌else◌, length, IfOk, Ok, OnOk, Some};
 ghost use Rattle.csp_atoms.specs.declared.value.Value.TheVariants as value;
 ghost use Rattle.csp_program.specs.Substitution.{any_gets, proc_with};
 ghost use Rattle.csp_program.specs.Value.{Env};
@@ -9,7 +9,7 @@ ghost use Rattle.process_steps.specs.Prefix as meant;
 ghost use Rattle.process_steps.specs.declared.label.Label.TheVariants as label;
 ghost use Rattle.term_pool.specs.Pooled.{IsFront};
 ghost use Rattle.term_pool.specs.Trees.{tree_at};
-ghost use Rattle.csp_steps.specs.Computed.{filled, GivesMoves, IsPlaceOf};
+ghost use Rattle.csp_steps.specs.Computed.{nth_event, filled, GivesMoves, IsPlaceOf};
 ghost use Rattle.csp_steps.specs.Walked.{input_ways, turned_ways, ways_by_number, turned_weight, walk_moves, weight, GivesTurn, GivesWalk, IsSound, IsTaken, IsTurnWithin};
 
 use crate::choice::put_atom;
@@ -56,16 +56,6 @@ fn later_process(
     Ok(made)
 }
 
-// The number of the fields up to an input that takes the value at a place.
-fn number_of(input: &Input<'_>, place: usize) -> Result<u64, NoMemory>
-    ensures { IfOk result (λ number. number ≡ input.now.number * length input.now.set.now + place) }
-{
-    match number_after(input.number, input.set, place as u64) {
-        Ok(number) => Ok(number),
-        Err(_) => Err(NoMemory),
-    }
-}
-
 // What comes after an input that takes the value at a place; nothing, where it may not take it.
 fn turn_after<'a>(
     pool: &mut Pool,
@@ -82,7 +72,7 @@ fn turn_after<'a>(
     if !is_given(&input.given, *atom) {
         return Ok(None);
     }
-    let number = number_of(input, place)?;
+    let number = number_after(input.number, input.set, place as u64);
     let to = input.to;
     let to = later_process(pool, input.name, *atom, input.fields, to)?;
     Ok(Some(Turn {
@@ -122,24 +112,21 @@ fn take<'a>(
     Ok(())
 }
 
-// The event that has `number` among those of its channel, whose first one has the number `first`.
-fn event_at(first: u64, number: u64) -> Result<Event, NoMemory>
-    ensures { IfOk result (λ event. event ≡ first + number) }
+// The event that has `number` among those of its channel, whose first one has the number `first`. Counting stops at the end of 32 bits.
+fn event_at(first: u64, number: u64) -> Event
+    ensures { result ≡ nth_event first number }
 {
-    let Some(sum) = first.checked_add(number) else {
-        return Err(NoMemory);
-    };
-    match u32::try_from(sum) {
-        Ok(event) => Ok(Event(event)),
-        Err(_) => Err(NoMemory),
+    match u32::try_from(first.saturating_add(number)) {
+        Ok(event) => Event(event),
+        Err(_) => Event(u32::MAX),
     }
 }
 
 // Adds a step by this event.
 fn add_event(first: u64, number: u64, to: ProcId, steps: &mut Items<StepTo>) -> Result<(), NoMemory>
-    ensures { OnOk result (steps.new ≡ steps.old ++ record { label = label.Visible (first + number); to = to } ∷ []) }
+    ensures { OnOk result (steps.new ≡ steps.old ++ record { label = label.Visible (nth_event first number); to = to } ∷ []) }
 {
-    let event = event_at(first, number)?;
+    let event = event_at(first, number);
     steps.push(StepTo {
         label: Label::Visible(event),
         to,

@@ -1,10 +1,13 @@
--- Counting that stops at a greatest number.
-use Rattle.std.proofs.Common.{◌≡◌, ℕ, zero, suc, ◌+◌, ◌*◌, ◌<◌, min, List, ◌++◌, length, map, replicate, drop, get_or, ap, ◌∙◌, arith}
+-- How many events channels have, counted to the end of a type, and those of the channels that are left.
+use Rattle.std.proofs.Common.{◌≡◌, ℕ, zero, suc, ◌+◌, ◌*◌, ◌<◌, ◌≤◌, min, Ok, Err, List, [], ◌∷◌, ◌++◌, length, length-append, map, replicate, drop, get_or, ap, sym, ◌∙◌, arith}
+use Rattle.std.specs.Prelude.{Result, Some, IfOk, OnOk, slice_get}
+use Rattle.std.proofs.lemmas.Option.{get_or_from_slice_get, slice_get_within}
 use Rattle.std.proofs.lemmas.List.Sums.{sum_by-cons}
 use Rattle.csp_atoms.specs.declared.atom.Atom.{Atom}
 use Rattle.csp_program.specs.EventNumber.{row_count}
+use Rattle.csp_program.specs.declared.programs.Channel.{Channel}
 use Rattle.event_tables.specs.declared.sets.SharedSets.{SharedSets}
-use Rattle.event_tables.specs.Spread.{spread}
+use Rattle.event_tables.specs.Spread.{events_left, spread}
 use Rattle.script_names.specs.Resolved.{all_events}
 use Rattle.csp_base.proofs.Lists.{drop_read}
 
@@ -15,6 +18,25 @@ events_of_copies (suc n) sets rest =
     let here : all_events (replicate (suc n) sets ++ rest) ≡ row_count sets + all_events (replicate n sets ++ rest) =
     sum_by-cons (λ (k : ℕ). k) (row_count sets) (map row_count (replicate n sets ++ rest)) in
     omega arith
+
+-- one more channel
+pub events_then : (all : List (List (List Atom))) (c : ℕ) (sets : List (List Atom)) → slice_get all c ≡ Some sets → all_events (drop c all) ≡ row_count sets + all_events (drop (c + 1) all)
+events_then all c sets at =
+    ap all_events (drop_read all c sets (slice_get_within all c sets at) (sym (get_or_from_slice_get all c sets sets at)))
+    ∙ sum_by-cons (λ (k : ℕ). k) (row_count sets) (map row_count (drop (c + 1) all))
+
+pub one_left : (made new : List Channel) (one : Channel) (first next : ℕ) (all : List (List (List Atom))) (sets : List (List Atom)) → slice_get all (length made) ≡ Some sets
+    → next ≡ first + row_count sets → new ≡ made ++ one ∷ [] → events_left next new all ≡ events_left first made all
+one_left made new one first next all sets at next_is new_is =
+    let longer : length new ≡ length made + 1 = ap length new_is ∙ length-append made (one ∷ []) in
+    let here = events_then all (length made) sets at in
+    let there : all_events (drop (length new) all) ≡ all_events (drop (length made + 1) all) = ap (λ k. all_events (drop k all)) longer in
+    omega (arith, here, there, next_is)
+
+pub left_ok : {E : Type 0} (r : Result ℕ E) (made new : List Channel) (one : Channel) (first : ℕ) (all : List (List (List Atom))) (sets : List (List Atom)) → slice_get all (length made) ≡ Some sets
+    → IfOk r (λ next. next ≡ first + row_count sets) → OnOk r (new ≡ made ++ one ∷ []) → IfOk r (λ next. events_left next new all ≤ events_left first made all)
+left_ok (Ok next) made new one first all sets at next_is new_is = let same = one_left made new one first next all sets at next_is new_is in omega (arith, same)
+left_ok (Err e) made new one first all sets at next_is new_is = tt
 
 -- one more declaration
 pub events_step : (count next own most i : ℕ) (shared : List SharedSets) (one : SharedSets) (whole : ℕ) → i < length shared → one ≡ get_or shared i one

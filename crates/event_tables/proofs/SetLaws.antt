@@ -1,12 +1,12 @@
 -- Field sets, one after another.
-use Rattle.std.proofs.Common.{◌≡◌, ℕ, zero, suc, ◌+◌, ◌<◌, ◌≤◌, List, [], ◌∷◌, ◌++◌, length, drop, get_or, replicate, refl, sym, ap, ◌∙◌, append_assoc, add-one, arith}
+use Rattle.std.proofs.Common.{◌≡◌, ℕ, zero, suc, ◌+◌, ◌<◌, ◌≤◌, List, [], ◌∷◌, ◌++◌, length, drop, get_or, replicate, refl, sym, ap, ◌∙◌, append_assoc, add-one}
 use Rattle.std.specs.Prelude.{Option, Some, None, Result, Ok, Err, IfOk, OnOk, slice_get}
 use Rattle.std.specs.Borrow.{Bor}
 use Rattle.std.specs.Option.{option_copied}
 use Rattle.std.specs.Result.{IsErrAnd}
 use Rattle.std.specs.Slice.{IsItemAt}
 use Rattle.std.proofs.Math.ListN.{drop_of_length-le}
-use Rattle.std.proofs.lemmas.List.{append-nil}
+use Rattle.std.proofs.lemmas.List.{append-nil, length-append}
 use Rattle.std.proofs.lemmas.Option.{get_or_from_slice_get, slice_get_past, slice_get_read, slice_get_within}
 use Rattle.csp_atoms.specs.declared.atom.Atom.{Atom}
 use Rattle.csp_program.specs.EventNumber.{row_count}
@@ -132,16 +132,12 @@ fill_none made channels channel first all at =
     ap (λ sets. made ++ with_sets first channels sets) rest ∙ ap (λ xs. made ++ xs) (none_left first channels)
     ∙ ap (λ sets. made ++ with_sets first (channel ∷ channels) sets) (sym rest)
 
-length_longer : {X : Type 0} (xs : List X) (x : X) → length (xs ++ x ∷ []) ≡ length xs + 1
-length_longer [] x = refl
-length_longer (y ∷ xs) x = let e : length (xs ++ x ∷ []) ≡ length xs + 1 = length_longer xs x in omega arith
-
 fill_some : (made new channels : List Channel) (channel : Channel) (first next : ℕ) (all : List (List (List Atom))) (sets : List (List Atom))
     → slice_get all (length made) ≡ Some sets → next ≡ first + row_count sets → new ≡ made ++ record channel { fields = Some sets; first = first } ∷ []
     → new ++ with_sets next channels (drop (length new) all) ≡ made ++ with_sets first (channel ∷ channels) (drop (length made) all)
 fill_some made new channels channel first next all sets at next_is new_is =
     let one : Channel = record channel { fields = Some sets; first = first } in
-    let longer : length new ≡ length made + 1 = ap length new_is ∙ length_longer made one in
+    let longer : length new ≡ length made + 1 = ap length new_is ∙ length-append made (one ∷ []) in
     let here : drop (length made) all ≡ sets ∷ drop (length made + 1) all =
     drop_read all (length made) sets (slice_get_within all (length made) sets at) (sym (get_or_from_slice_get all (length made) sets sets at)) in
     (λ j. new_is j ++ with_sets (next_is j) channels (drop (longer j) all))

@@ -1,10 +1,12 @@
 -- The field sets of channels while a program is put together: those of a declaration are kept once for all of its channels. Contracts of the crate
 -- that resolves scripts cite it.
-use Rattle.std.specs.Prelude.{◌≡◌, Result, Ok, Err, List, [], ◌∷◌, ◌++◌, map, replicate}
+use Rattle.std.specs.Prelude.{◌≡◌, ℕ, ◌+◌, Result, Ok, Err, List, [], ◌∷◌, ◌++◌, map, drop, length, replicate}
 use Rattle.std.specs.Borrow.{Bor}
 use Rattle.csp_atoms.specs.declared.atom.Atom.{Atom}
 use Rattle.csp_program.specs.Lists.{joined}
 use Rattle.csp_program.specs.Outcome.{Outcome}
+use Rattle.csp_program.specs.declared.programs.Channel.{Channel}
+use Rattle.script_names.specs.Resolved.{all_events}
 use Rattle.value_operators.specs.declared.fault.EvalFault.{EvalFault}
 use Rattle.value_operators.specs.declared.fault.EvalFault.TheVariants as fault
 use Rattle.event_tables.specs.declared.sets.SharedSets.{SharedSets}
@@ -17,6 +19,10 @@ spread (one ∷ shared) = replicate one.channels one.sets ++ spread shared
 -- field sets that are lent
 abbrev pub lent : List (Bor (List (List Atom))) → List (List (List Atom))
 lent all = map (λ sets. sets.now) all
+
+-- the number of the first event after all, where the next channel's first one is first and the channels that are left have these sets
+abbrev pub events_left : ℕ → List Channel → List (List (List Atom)) → ℕ
+events_left first made all = first + all_events (drop (length made) all)
 
 -- each list with each value of the set at its end
 abbrev pub extended : List (List Atom) → List Atom → List (List Atom)

@@ -1,13 +1,12 @@
 //! How many events channels have.
 
-ghost use Rattle.std.specs.Prelude.{◌≡◌, ◌+◌, ◌-◌, ◌*◌, ◌^◌, min, IfOk};
+ghost use Rattle.std.specs.Prelude.{◌≡◌, ◌+◌, ◌-◌, ◌*◌, ◌<◌, ◌^◌, min};
 ghost use Rattle.csp_program.specs.EventNumber as meant;
 ghost use Rattle.event_tables.specs.Spread.{spread};
 ghost use Rattle.script_names.specs.Resolved.{all_events};
 
 use crate::sets::SharedSets;
 use csp_atoms::AtomSet;
-use csp_base::NoMemory;
 use value_operators::numbers::row_count;
 
 /// How many events the channels with these field sets have. Counting stops at the end of 64 bits.
@@ -25,18 +24,13 @@ pub fn event_count(shared: &[SharedSets]) -> u64
 fn shared_count(one: &SharedSets) -> u64
     ensures { result ≡ min (one.now.channels * meant.row_count one.now.sets) (2 ^ 64 - 1) }
 {
-    u64::from(one.channels).saturating_mul(row_count(one.sets.as_slice()))
+    (one.channels as u64).saturating_mul(row_count(one.sets.as_slice()))
 }
 
 /// The number of the first event after those of a channel with these field sets, which begin with `first`.
-pub fn after(first: u32, sets: &[AtomSet]) -> Result<u32, NoMemory>
-    ensures { IfOk result (λ next. next ≡ first + meant.row_count sets.now) }
+pub fn after(first: u32, sets: &[AtomSet]) -> u32
+    requires { first + meant.row_count sets.now < 2 ^ 32 }
+    ensures { result ≡ first + meant.row_count sets.now }
 {
-    let Ok(count) = u32::try_from(row_count(sets)) else {
-        return Err(NoMemory);
-    };
-    match first.checked_add(count) {
-        Some(next) => Ok(next),
-        None => Err(NoMemory),
-    }
+    first + row_count(sets) as u32
 }

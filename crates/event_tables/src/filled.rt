@@ -1,9 +1,9 @@
 //! Channels with their field sets, and what a program holds with its event table.
 
-ghost use Rattle.std.specs.Prelude.{◌≡◌, ◌+◌, [], ◌∷◌, ◌++◌, Some, List, drop, length, IfOk, OnOk};
+ghost use Rattle.std.specs.Prelude.{◌≡◌, ◌+◌, ◌<◌, ◌≤◌, ◌^◌, [], ◌∷◌, ◌++◌, Some, List, drop, length, IfOk, OnOk};
 ghost use Rattle.csp_program.specs.EventNumber.{row_count};
 ghost use Rattle.csp_program.specs.declared.programs.Channel.{Channel};
-ghost use Rattle.event_tables.specs.Spread.{lent, spread};
+ghost use Rattle.event_tables.specs.Spread.{events_left, lent, spread};
 ghost use Rattle.script_names.specs.Resolved as meant;
 
 use crate::counts::after;
@@ -22,6 +22,7 @@ pub fn fill_events(
     content: &mut Content,
     shared: &[SharedSets],
 ) -> Result<(), NoMemory>
+    requires { meant.all_events (spread shared.now) < 2 ^ 32 }
     ensures { OnOk result (content.new ≡ meant.with_events content.old (meant.with_sets 0 content.old.channels (spread shared.now))) }
 {
     let channels = replace(&mut content.channels, Items::new(alloc));
@@ -36,6 +37,7 @@ fn filled(
     channels: Items<Channel>,
     shared: &[SharedSets],
 ) -> Result<Items<Channel>, NoMemory>
+    requires { meant.all_events (spread shared.now) < 2 ^ 32 }
     ensures { IfOk result (λ made. made ≡ meant.with_sets 0 channels (spread shared.now)) }
 {
     let all = spread_sets(alloc, shared)?;
@@ -49,6 +51,7 @@ fn with_sets(
     channels: Items<Channel>,
     all: &[&[AtomSet]],
 ) -> Result<Items<Channel>, NoMemory>
+    requires { meant.all_events (lent all.now) < 2 ^ 32 }
     ensures { IfOk result (λ made. made ≡ meant.with_sets 0 channels (lent all.now)) }
 {
     let mut made = Items::new(alloc);
@@ -67,7 +70,9 @@ fn add_channel(
     channel: Channel,
     all: &[&[AtomSet]],
 ) -> Result<u32, NoMemory>
-    ensures { IfOk result (λ next. (channels : List Channel) →
+    requires { events_left first made.old (lent all.now) < 2 ^ 32 }
+    ensures few { IfOk result (λ next. events_left next made.new (lent all.now) ≤ events_left first made.old (lent all.now)) }
+    ensures made { IfOk result (λ next. (channels : List Channel) →
         made.new ++ meant.with_sets next channels (drop (length made.new) (lent all.now))
         ≡ made.old ++ meant.with_sets first (channel ∷ channels) (drop (length made.old) (lent all.now))) }
 {
@@ -88,26 +93,18 @@ fn add_filled(
     channel: Channel,
     sets: &[AtomSet],
 ) -> Result<u32, NoMemory>
+    requires { first + row_count sets.now < 2 ^ 32 }
     ensures next { IfOk result (λ next. next ≡ first + row_count sets.now) }
     ensures made { OnOk result (made.new ≡ made.old ++ record channel { fields = Some sets.now; first = first } ∷ []) }
 {
-    match filling(alloc, first, sets) {
-        Ok((fields, next)) => push_filled(made, first, channel, fields).map(|()| next),
+    let next = after(first, sets);
+    match copy_sets(alloc, sets) {
+        Ok(fields) => push_filled(made, first, channel, fields).map(|()| next),
         Err(error) => {
             let_go(channel);
             Err(error)
         }
     }
-}
-
-// The same sets, and the number of the first event after those of a channel that has them.
-fn filling(alloc: Global, first: u32, sets: &[AtomSet]) -> Result<(Items<AtomSet>, u32), NoMemory>
-    ensures sets { IfOk result (λ made. made.0 ≡ sets.now) }
-    ensures next { IfOk result (λ made. made.1 ≡ first + row_count sets.now) }
-{
-    let next = after(first, sets)?;
-    let fields = copy_sets(alloc, sets)?;
-    Ok((fields, next))
 }
 
 // Puts a channel with these field sets at the end.

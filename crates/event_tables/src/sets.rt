@@ -22,7 +22,7 @@ use value_operators::operators::to_set;
 #[derive(Drop)]
 pub struct SharedSets {
     /// How many channels there are.
-    pub channels: u32,
+    pub channels: usize,
     /// The values of each field.
     pub sets: Items<AtomSet>,
 }

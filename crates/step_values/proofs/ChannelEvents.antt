@@ -1,5 +1,6 @@
 -- The events of a channel, by their numbers from the channel's first on.
-use Rattle.std.proofs.Common.{◌≡◌, ℕ, zero, suc, ◌+◌, get_or, Some, Ok, List, [], slice_get, ap, sym, ◌∙◌, arith}
+use Rattle.std.proofs.Common.{◌≡◌, ℕ, zero, suc, ◌+◌, ◌<◌, ◌^◌, get_or, Some, Ok, List, [], slice_get, ap, sym, ◌∙◌, arith}
+use Rattle.csp_program.specs.EventNumber.{row_count}
 use Rattle.csp_program.specs.EventTable.{events_with, rows}
 use Rattle.csp_program.specs.InOrder.{IsInOrder}
 use Rattle.csp_program.specs.Outcome.{Outcome}
@@ -13,9 +14,9 @@ use Rattle.csp_program.specs.declared.programs.Content.{Content}
 use Rattle.process_steps.specs.Prefix.{Choice, of_channel, of_value}
 use Rattle.step_values.specs.Starts.{IsStart}
 use Rattle.step_values.specs.declared.heads.Start.{Start}
-use Rattle.value_laws.proofs.EventPlaces.{event_of_row}
+use Rattle.value_laws.proofs.EventPlaces.{event_of_row, number_fits}
 use Rattle.value_laws.proofs.Fits.{program_fits}
-use Rattle.value_laws.specs.Numbers.{first_of}
+use Rattle.value_laws.specs.Numbers.{first_of, front_count, front_number}
 
 abbrev pub choice_of : Content → ℕ → List (List Atom) → Choice
 choice_of p c sets = record { sets = sets; event = λ row. get_or (events_with p.channels c row) 0 0 }
@@ -29,6 +30,18 @@ channel_is p c sets has = ap (of_channel p.channels c) has
 pub channel_event : (p : Content) → IsInOrder p → (c : ℕ) (sets : List (List Atom)) → sets_of (slice_get p.channels c) ≡ Some sets → (i : ℕ) (row : List Atom) → slice_get (rows sets) i ≡ Some row
     → get_or (events_with p.channels c row) 0 0 ≡ first_of (slice_get p.channels c) + i
 channel_event p ordered c sets has i row at = ap (λ es. get_or es 0 0) (event_of_row p.channels (program_fits p ordered) c sets has i row at)
+
+-- its events have numbers of 32 bits
+events_fit : (p : Content) → IsInOrder p → (c : ℕ) (sets : List (List Atom)) → sets_of (slice_get p.channels c) ≡ Some sets → first_of (slice_get p.channels c) + row_count sets < 2 ^ 32
+events_fit p ordered c sets has =
+    let fit = program_fits p ordered in
+    let few = fit.few in
+    let first : ℕ = first_of (slice_get p.channels c) in
+    let number : front_number first (sets_of (slice_get p.channels c)) [] [] ≡ Ok first =
+    ap (λ o. front_number first o [] []) has ∙ ap (λ (n : ℕ). Ok n) (omega arith) in
+    let within = number_fits p.channels fit c [] [] first number in
+    let count : front_count (sets_of (slice_get p.channels c)) [] ≡ row_count sets = ap (λ o. front_count o []) has in
+    omega (arith, within, count, few)
 
 -- a head of a channel, and a value in place of a head, as they are kept
 abbrev pub Starts : Outcome Choice → Start → Type 0
@@ -44,6 +57,10 @@ channel_start p ordered c channel sets at fields start first same_sets =
       record {
         sets = sym same_sets;
         event = λ i row there. channel_event p ordered c sets has i row (ap (λ (s : List (List Atom)). slice_get (rows s) i) (sym same_sets) ∙ there) ∙ ap (λ (n : ℕ). n + i) kept;
+        few =
+            let fits = events_fit p ordered c sets has in
+            let count : row_count start.sets.now ≡ row_count sets = ap row_count same_sets in
+            omega (arith, fits, kept, count);
       },
     )
 
@@ -51,12 +68,13 @@ only_row : (e i : ℕ) (row : List Atom) → slice_get (rows []) i ≡ Some row 
 only_row e zero row h = omega arith
 only_row e (suc i) row h = absurd (cc)
 
-pub value_start : (v : Value) (e : ℕ) → v ≡ One (atom.Event e) → (start : Start) → start.first ≡ e → start.sets.now ≡ [] → Starts (of_value v) start
-value_start v e is start first same_sets = (
+pub value_start : (v : Value) (e : ℕ) → v ≡ One (atom.Event e) → (start : Start) → start.first ≡ e → e < 2 ^ 32 → start.sets.now ≡ [] → Starts (of_value v) start
+value_start v e is start first few same_sets = (
   record { sets = []; event = λ row. e },
   ap of_value is,
   record {
     sets = sym same_sets;
     event = λ i row there. only_row e i row (ap (λ (s : List (List Atom)). slice_get (rows s) i) (sym same_sets) ∙ there) ∙ ap (λ (n : ℕ). n + i) (sym first);
+    few = let count : row_count start.sets.now ≡ 1 = ap row_count same_sets in omega (arith, first, few, count);
   },
 )

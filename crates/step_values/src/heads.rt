@@ -1,6 +1,6 @@
 //! The events that the head of a prefix stands for.
 
-ghost use Rattle.std.specs.Prelude.{◌≡◌, []};
+ghost use Rattle.std.specs.Prelude.{◌≡◌, ◌<◌, ◌^◌, []};
 ghost use Rattle.csp_atoms.specs.declared.value.Value.TheVariants as value;
 ghost use Rattle.process_steps.specs.Prefix as meant;
 ghost use Rattle.step_values.specs.Starts.{GivesStart};
@@ -42,6 +42,7 @@ fn of_channel(program: &Program, channel: u32) -> Result<Start<'_>, EvalFault>
 // An event alone.
 fn of_event<'a>(event: Event) -> Start<'a>
     ensures first { result.first ≡ event }
+    ensures few { result.first < 2 ^ 32 }
     ensures sets { result.sets.now ≡ [] }
 {
     Start {
