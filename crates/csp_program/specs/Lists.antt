@@ -1,5 +1,5 @@
 -- What the definitions of this crate say of lists.
-use Rattle.std.specs.Prelude.{ℕ, ◌+◌, Bool, true, false, ◌&&◌, ◌||◌, nat_eq, List, [], ◌∷◌, ◌++◌}
+use Rattle.std.specs.Prelude.{◌+◌, Bool, true, ◌&&◌, List, [], ◌∷◌, ◌++◌}
 
 -- whether all of the list are true
 abbrev pub all_true : List Bool → Bool

@@ -2,7 +2,6 @@ pub mod EachSteps
 pub mod Equations
 pub mod FirstEvents
 pub mod Laid
-pub mod ListSteps
 pub mod Passed
 pub mod Together
 pub mod ToldSteps

@@ -1,5 +1,5 @@
 -- Values in place of several names.
-use Rattle.std.specs.Prelude.{ℕ, List, [], ◌∷◌}
+use Rattle.std.specs.Prelude.{ℕ, List, ◌∷◌}
 use Rattle.csp_program.specs.Substitution.{proc_with}
 use Rattle.csp_atoms.specs.declared.value.Value.{Value}
 use Rattle.csp_program.specs.declared.processes.Proc.{Proc}

@@ -4,7 +4,7 @@
 -- constructor, and the depth of the node by `node`. `begun`, `joins` and `a_field` choose the case by the token in front, as the reader does.
 -- A new form gets a lemma of its own, as `call` (an atom in brackets) or `negative` (an expression behind a sign), and a case in `begun_word`,
 -- `begun_symbol` or `joins`, by the token with which it begins.
-use Rattle.std.proofs.Common.{◌≡◌, ℕ, suc, ◌≤◌, max, Bool, true, ◌&&◌, nat_le, Option, Some, None, List, [], ◌∷◌, map, refl, sym, ap, subst, ◌∙◌, arith}
+use Rattle.std.proofs.Common.{◌≡◌, ℕ, suc, ◌≤◌, max, Bool, true, nat_le, Option, Some, None, List, [], ◌∷◌, map, refl, sym, ap, subst, ◌∙◌, arith}
 use Rattle.csp_text.specs.Depth.{field_depth, gen_depth, part_depth, tree_depth}
 use Rattle.csp_text.specs.declared.token.Token.{Token}
 use Rattle.csp_text.specs.declared.token.Token.TheVariants.{Name, Num, Word, Symbol}

@@ -1,5 +1,5 @@
 -- What is read is one, so the grammar has one; and a reading decides what a text is.
-use Rattle.std.proofs.Common.{◌≡◌, ℕ, ◌≤◌, max, List, refl, ap, arith}
+use Rattle.std.proofs.Common.{max, List, refl, ap, arith}
 use Rattle.csp_text.specs.Depth.{tree_depth}
 use Rattle.csp_text.specs.declared.script.Decl.{Decl}
 use Rattle.csp_text.specs.declared.script.Script.{Script}

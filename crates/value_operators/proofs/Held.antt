@@ -12,7 +12,7 @@ use Rattle.csp_atoms.proofs.MemberLaws.{has-with_atom, same_set}
 use Rattle.csp_atoms.proofs.OrderLaws.{same_exact, same_itself}
 use Rattle.csp_program.specs.Atoms.{added, all_added, limited}
 use Rattle.value_laws.specs.Numbers.{events_from}
-use Rattle.csp_program.specs.Outcome.{Outcome, and_then}
+use Rattle.csp_program.specs.Outcome.{and_then}
 use Rattle.csp_program.specs.declared.kinds.ValueKind.TheVariants.{Kind}
 use Rattle.value_operators.proofs.SetSteps.{limited_few}
 

@@ -1,4 +1,4 @@
-use Rattle.std.proofs.Common.{◌≡◌, subst}
+use Rattle.std.proofs.Common.{subst}
 use Rattle.std.specs.Prelude.{IfOk, OnOk}
 use Rattle.csp_tables.specs.RawTable.{RawTable, RawStep}
 use Rattle.csp_tables.specs.NormalTable.{HasAcceptances}

@@ -1,4 +1,4 @@
-use Rattle.std.proofs.Common.{ap, arith, sym, Ok, ◌∙◌}
+use Rattle.std.proofs.Common.{ap, arith, sym, Ok}
 use Rattle.network_trees.specs.Annotations.{component_roles}
 use Rattle.network_layout.proofs.ToldSteps.{told_end, told_next, untold_first}
 use Rattle.network_layout.proofs.told.all_roles.Goals as goal

@@ -1,4 +1,4 @@
-use Rattle.std.proofs.Common.{arith, length, sym, subst, Some, None, ◌+◌, ◌≤◌, ◌∙◌, ◌≡◌}
+use Rattle.std.proofs.Common.{arith, length, sym, subst, Some, None, ◌+◌, ◌≤◌, ◌≡◌}
 use Rattle.std.specs.Prelude.{nat_le}
 use Rattle.std.specs.List.{find}
 use Rattle.network_layout.specs.Triple.{AreCrowded, IsTriple, alphabets, holders_from}
