@@ -1,4 +1,4 @@
-ghost use Rattle.std.specs.Prelude.{◌≡◌, ℕ, ◌<◌, ◌==◌, ◌++◌, length, take, drop, slice_index, nat_lt, IfOk};
+ghost use Rattle.std.specs.Prelude.{◌≡◌, ℕ, ◌<◌, ◌==◌, length, slice_index, nat_lt, IfOk};
 ghost use Rattle.std.specs.List.{IsFirstBest};
 ghost use Rattle.circles.specs.Turn.{IsTurnedFrom};
 

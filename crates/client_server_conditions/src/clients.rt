@@ -1,7 +1,6 @@
 //! Which end of each link is the client.
 
-ghost use Rattle.std.specs.Prelude.{◌≡◌, ◌<◌, ◌⊎◌, ◌↔◌, ◌++◌, ◌∷◌, [], ℕ, None, IfErr, IfOk, OnOk, IsTrue, length};
-ghost use Rattle.csp_tables.specs.Roles.{role_at};
+ghost use Rattle.std.specs.Prelude.{◌≡◌, ◌<◌, ◌⊎◌, ◌↔◌, [], ℕ, None, IfErr, IfOk, IsTrue, length};
 ghost use Rattle.csp_tables.specs.Shape.{IsWellFormed, link_at};
 ghost use Rattle.design_rules.specs.ClientServer.{HasRoles};
 ghost use Rattle.client_server_conditions.specs.Sides.{AgreeOn, AreSides, HaveNoOther, IsClient, IsSide, IsSideOrNone};

@@ -1,6 +1,6 @@
 //! What one node of a component's table shows: what is out of turn there, and how requests and acknowledgements are accepted.
 
-ghost use Rattle.std.specs.Prelude.{◌≡◌, ℕ};
+ghost use Rattle.std.specs.Prelude.{◌≡◌};
 ghost use Rattle.std.specs.List.{list_any};
 ghost use Rattle.client_server_conditions.specs.Nodes.{is_in_turn, is_out_of_turn, refuses, splits, takes};
 

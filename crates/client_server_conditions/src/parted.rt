@@ -1,10 +1,6 @@
 //! Whether the four sets of each component part the events that it shares.
 
-ghost use Rattle.std.specs.Prelude.{◌≡◌, ◌<◌, ◌↔◌, ◌&&◌, ℕ, IfErr, IfOk, OnOk, IsTrue, length};
-ghost use Rattle.csp_base.specs.Members.{has};
-ghost use Rattle.csp_tables.specs.Part.{part_at};
-ghost use Rattle.csp_tables.specs.Roles.{role_at};
-ghost use Rattle.csp_tables.specs.Shape.{IsWellFormed};
+ghost use Rattle.std.specs.Prelude.{◌≡◌, ◌<◌, ◌↔◌, ℕ, IfErr, IfOk, OnOk, IsTrue, length};
 ghost use Rattle.design_rules.specs.ClientServer.{HasRoles};
 ghost use Rattle.client_server_conditions.specs.Sides.{PartOwn};
 ghost use Rattle.design_rules.specs.Rules.{BreaksClientServer};

@@ -5,7 +5,7 @@ ghost use Rattle.design_rules.specs.ClientServer.{KeepRoles, Serves};
 ghost use Rattle.digraph.specs.Circle.{HasNoCircle};
 ghost use Rattle.digraph.specs.Digraph.{HasArc};
 ghost use Rattle.digraph.specs.Walk.{AreHeights};
-ghost use Rattle.client_server_rule.specs.Serving.{ServesBelow, ServesOn};
+ghost use Rattle.client_server_rule.specs.Serving.{ServesOn};
 ghost use Rattle.design_rules.specs.Rules.{BreaksClientServer};
 
 use client_server_conditions::Network;

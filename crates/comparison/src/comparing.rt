@@ -1,6 +1,6 @@
 //! The answer to a network and its specification.
 
-ghost use Rattle.std.specs.Prelude.{◌≡◌, IfErr, IfOk, OnOk, length};
+ghost use Rattle.std.specs.Prelude.{◌≡◌, IfErr, IfOk, OnOk};
 ghost use Rattle.std.specs.List.{All};
 ghost use Rattle.network_layout.specs.Triple.{alphabets};
 ghost use Rattle.network_shape.specs.Parts.{IsWellFormedPart};

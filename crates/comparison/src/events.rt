@@ -1,6 +1,6 @@
 //! Whether two programs have the same events.
 
-ghost use Rattle.std.specs.Prelude.{◌≡◌, ◌≤◌, ◌<◌, ◌^◌, ℕ, IfErr, IfNone, IfOk, IfSome, MatchBool, OnOk, length, slice_get};
+ghost use Rattle.std.specs.Prelude.{◌≡◌, ◌≤◌, ◌<◌, IfErr, IfNone, IfOk, IfSome, MatchBool, OnOk, length, slice_get};
 ghost use Rattle.report.specs.Stops.{Tells};
 ghost use Rattle.comparison.specs.Agreement.{DifferFirstAt, HaveOtherEvents, printed_events};
 

@@ -1,6 +1,6 @@
 //! Whether two networks have the same components, by their alphabets.
 
-ghost use Rattle.std.specs.Prelude.{◌≡◌, ◌≤◌, ◌<◌, ℕ, IfErr, IfNone, IfSome, MatchBool, OnOk, Some, length, slice_get};
+ghost use Rattle.std.specs.Prelude.{◌≡◌, ◌≤◌, ◌<◌, IfErr, IfNone, IfSome, MatchBool, OnOk, Some, length, slice_get};
 ghost use Rattle.dl_limits.specs.declared.TheConstants.{MOST_COMPONENTS};
 ghost use Rattle.network_layout.specs.Triple.{alphabets};
 ghost use Rattle.comparison.specs.Agreement.{DifferFirstAt, HaveOtherShape};

@@ -1,5 +1,4 @@
 ghost use Rattle.std.specs.Prelude.{◌≡◌, IfOk};
-ghost use Rattle.std.specs.Hash.{on_Alike};
 
 use std::alloc::{AllocError, Global};
 use std::hash::{Hash, Hasher};

@@ -1,6 +1,6 @@
 //! Marks with counts.
 
-ghost use Rattle.std.specs.Prelude.{◌≡◌, ◌+◌, ◌*◌, ◌<◌, ◌≤◌, ◌^◌, Bool, Some, false, length, replicate, slice_get, slice_index_or, slice_set, take, IfOk};
+ghost use Rattle.std.specs.Prelude.{◌≡◌, ◌+◌, ◌*◌, ◌<◌, ◌^◌, Bool, Some, false, length, replicate, slice_get, slice_set, take, IfOk};
 ghost use Rattle.counted_marks.specs.Blocks.{AreBlockCounts};
 ghost use Rattle.counted_marks.specs.Marks.{mark_count, marked};
 

@@ -1,7 +1,6 @@
 //! Sets of atoms of one kind. Contracts see the list of the members, which rises strictly.
 
 ghost use Rattle.std.specs.Prelude.{◌≡◌, ◌↔◌, ◌&&◌, ◌||◌, not, [], false, length, slice_get, IfOk, OnOk, OnErr, IsErrOf, IsTrue};
-ghost use Rattle.std.specs.Option.{option_map};
 ghost use Rattle.csp_atoms.specs.Order.{same};
 ghost use Rattle.csp_atoms.specs.declared.atom.Atom.{Atom};
 ghost use Rattle.csp_atoms.specs.Sets.{IsAtomSet, IsRising, IsOneKind, alike, diff_of, event_atoms, event_numbers, fits, has_atom, inter_of, place_of, union_of, with_atom};

@@ -1,8 +1,7 @@
 //! Rising lists of atoms: the work of sets of atoms, over slices and vectors.
 
-ghost use Rattle.std.specs.Prelude.{◌≡◌, ◌+◌, ◌<◌, length, slice_get, Some, None, IfOk, OnOk, OnErr};
+ghost use Rattle.std.specs.Prelude.{◌≡◌, ◌+◌, ◌<◌, Some, None, IfOk, OnOk, OnErr};
 ghost use Rattle.std.specs.Option.{option_map};
-ghost use Rattle.csp_atoms.specs.Order.{less, same};
 ghost use Rattle.csp_atoms.specs.Sets.{IsRising, alike, event_atoms, event_number, event_numbers, fits, has_atom, place_of, with_atom};
 ghost use Rattle.csp_atoms.specs.Merge.{result_of, least_of, begins_with, rest_after, with_last};
 ghost use Rattle.csp_atoms.specs.Search.{count_before, stands_at};

@@ -1,7 +1,7 @@
 //! Events and sets of events. A set is kept as blocks of 64 events, and contracts see the strictly rising list of its
 //! members.
 
-ghost use Rattle.std.specs.Prelude.{◌≡◌, ◌↔◌, ◌==◌, ◌||◌, ◌&&◌, ◌+◌, ◌*◌, ◌<◌, Some, not, nat_eq, nat_le, refl, ℕ, List, [], length, IsTrue, IfOk, OnOk, OnErr};
+ghost use Rattle.std.specs.Prelude.{◌≡◌, ◌↔◌, ◌||◌, ◌&&◌, ◌+◌, ◌*◌, ◌<◌, Some, not, nat_eq, nat_le, refl, ℕ, List, [], length, IsTrue, IfOk, OnOk, OnErr};
 ghost use Rattle.std.proofs.Common.{rules};
 ghost use Rattle.std.specs.Cmp.Lexicographic.{pointwise, slice_cmp, nat_list_cmp_total, texts_ties, texts_po, bytes_decides};
 ghost use Rattle.std.specs.Cmp.Rules.{comparing};

@@ -1,7 +1,6 @@
 //! Assertions.
 
 ghost use Rattle.std.specs.Prelude.{◌≡◌, ◌++◌, ◌∷◌, ◌≤◌, length, IfOk, OnOk, Ok, Some};
-ghost use Rattle.std.specs.Option.{option_copied};
 ghost use Rattle.csp_lexer.specs.Assertions.{asserted, assertion};
 ghost use Rattle.csp_lexer.specs.Passed.{Passed};
 ghost use Rattle.csp_text.specs.declared.token.Token.TheVariants as token;

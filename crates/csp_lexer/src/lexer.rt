@@ -1,6 +1,6 @@
 //! The lexer: it cuts a text into its tokens.
 
-ghost use Rattle.std.specs.Prelude.{◌≡◌, ◌<◌, ◌≤◌, true, nat_eq, codes, [], length, slice_index, IsTrue, IfOk, IfErr, IfSome, Ok, Err};
+ghost use Rattle.std.specs.Prelude.{◌≡◌, ◌<◌, ◌≤◌, true, nat_eq, codes, [], length, IsTrue, IfOk, IfErr, IfSome, Ok, Err};
 ghost use Rattle.std.specs.List.{starts_with};
 ghost use Rattle.std.specs.Option.{option_copied};
 ghost use Rattle.csp_lexer.specs.Front.{begins_assertion, front, is_blank, assertion_or_token};

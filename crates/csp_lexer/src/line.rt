@@ -1,6 +1,6 @@
 //! The rest of an assertion's line.
 
-ghost use Rattle.std.specs.Prelude.{◌≡◌, ◌<◌, ◌≤◌, [], length, slice_index, IfOk, IfSome, Ok, Err, MatchOption};
+ghost use Rattle.std.specs.Prelude.{◌≡◌, ◌<◌, ◌≤◌, [], length, IfOk, IfSome, Ok, Err, MatchOption};
 ghost use Rattle.std.specs.Option.{option_copied};
 ghost use Rattle.csp_lexer.specs.Assertions.{cut_line, ends_line, line_front, rest_len};
 ghost use Rattle.csp_lexer.specs.Passed.{Passed};

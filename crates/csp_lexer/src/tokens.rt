@@ -1,6 +1,6 @@
 //! What the lexer makes of a text.
 
-ghost use Rattle.std.specs.Prelude.{◌≡◌, ◌++◌, [], ◌∷◌, length, IfOk, OnOk, OnErr};
+ghost use Rattle.std.specs.Prelude.{◌≡◌, ◌++◌, [], ◌∷◌, length, IfOk, OnOk};
 ghost use Rattle.csp_lexer.specs.Placed.{place_at, tokens_of};
 
 use containers::Items;

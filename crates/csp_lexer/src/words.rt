@@ -1,7 +1,6 @@
 //! Words of a text: how long the one at the front is, and which of them are reserved.
 
 ghost use Rattle.std.specs.Prelude.{◌≡◌, ◌≤◌, ℕ, List, ◌∷◌, None, false, length, IsTrue};
-ghost use Rattle.std.specs.Option.{option_copied};
 ghost use Rattle.csp_lexer.specs.Words.{is_foreign, is_name, reserved_word, word_len, word_rest_len};
 
 use crate::classes::{Class, bytes_of, is_letter};

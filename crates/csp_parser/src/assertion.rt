@@ -1,6 +1,6 @@
 //! Assertions of deadlock freedom.
 
-ghost use Rattle.std.specs.Prelude.{◌≡◌, ◌<◌, ◌≤◌, [], length, IfOk, Some, None};
+ghost use Rattle.std.specs.Prelude.{◌≡◌, ◌<◌, ◌≤◌, length, IfOk, Some, None};
 ghost use Rattle.tree_reading.specs.Limited.{read_asserted, read_assertion};
 ghost use Rattle.csp_grammar.specs.Tokens.{is_text};
 ghost use Rattle.tree_reading.specs.Asserted.{deadlock_free, ending, is_model, model, name_that};

@@ -1,6 +1,6 @@
 //! The declarations of a script.
 
-ghost use Rattle.std.specs.Prelude.{◌≡◌, ◌<◌, ◌≤◌, List, [], ◌∷◌, ◌++◌, length, IfOk, Some, None};
+ghost use Rattle.std.specs.Prelude.{◌≡◌, ◌<◌, List, [], ◌∷◌, ◌++◌, length, IfOk, Some, None};
 ghost use Rattle.csp_text.specs.declared.script.Decl.{Decl as DeclValue};
 ghost use Rattle.csp_text.specs.declared.script.Decl.TheVariants as decl;
 ghost use Rattle.csp_text.specs.declared.token.Token.{Token as TokenValue};

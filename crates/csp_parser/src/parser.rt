@@ -1,6 +1,6 @@
 //! Scripts, of tokens and of texts.
 
-ghost use Rattle.std.specs.Prelude.{◌≡◌, ◌≤◌, List, ℕ, length, IfOk, IfErr};
+ghost use Rattle.std.specs.Prelude.{◌≡◌, IfOk, IfErr};
 ghost use Rattle.csp_grammar.specs.Declarations.{ScriptText};
 ghost use Rattle.csp_lexer.specs.Placed.{tokens_of};
 ghost use Rattle.csp_parser.specs.Fault.{IfNoScript};

@@ -1,6 +1,6 @@
 //! The types of a channel's fields.
 
-ghost use Rattle.std.specs.Prelude.{◌≡◌, ◌<◌, ◌≤◌, [], ◌∷◌, ◌++◌, length, IfOk, Some, None};
+ghost use Rattle.std.specs.Prelude.{◌≡◌, ◌<◌, [], ◌∷◌, ◌++◌, length, IfOk, Some, None};
 ghost use Rattle.csp_text.specs.declared.tree.Tree.{Tree as TreeValue};
 ghost use Rattle.tree_reading.specs.Answers.{IfNoText};
 ghost use Rattle.tree_reading.specs.Nesting.{whole};

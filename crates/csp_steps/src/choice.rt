@@ -1,6 +1,6 @@
 //! Choices between processes at places of a pool.
 
-ghost use Rattle.std.specs.Prelude.{◌≡◌, ◌<◌, ◌++◌, true, length, map, slice_get, slice_set, IfOk, Some};
+ghost use Rattle.std.specs.Prelude.{◌≡◌, ◌<◌, true, length, map, slice_get, slice_set, IfOk, Some};
 ghost use Rattle.csp_atoms.specs.declared.value.Value.TheVariants as value;
 ghost use Rattle.csp_program.specs.Substitution.{proc_with};
 ghost use Rattle.csp_program.specs.declared.processes.Proc.TheVariants as proc;

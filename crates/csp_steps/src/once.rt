@@ -1,6 +1,6 @@
 //! Each step once.
 
-ghost use Rattle.std.specs.Prelude.{◌≡◌, ◌↔◌, ℕ, slice_get, IfOk, OnOk, Some};
+ghost use Rattle.std.specs.Prelude.{IfOk, OnOk};
 ghost use Rattle.csp_steps.specs.Once.{IsOnce, AreJoined};
 
 use crate::step::StepTo;

@@ -1,6 +1,5 @@
 //! Where a walk over the ways to fill the fields of a prefix stands, with a stack of its own: no number of inputs costs stack of the program.
 
-ghost use Rattle.std.specs.Prelude.{◌≡◌, [], OnOk};
 ghost use Rattle.csp_steps.specs.Walked.{IsBegun, IsPopped};
 
 use crate::step::StepTo;

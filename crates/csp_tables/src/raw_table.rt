@@ -1,6 +1,6 @@
 //! Raw tables: the numbered terms of one component with their steps.
 
-ghost use Rattle.std.specs.Prelude.{◌≡◌, ◌+◌, ◌<◌, ◌^◌, List, [], ◌∷◌, ◌++◌, OnOk, OnErr};
+ghost use Rattle.std.specs.Prelude.{◌≡◌, ◌+◌, ◌<◌, ◌^◌, [], ◌∷◌, ◌++◌, OnOk, OnErr};
 ghost use Rattle.csp_tables.specs.RawForm.{HasRawForm};
 
 use csp_base::{Event, NoMemory};

@@ -1,7 +1,7 @@
 //! How deep trees are.
 
-ghost use Rattle.std.specs.Prelude.{◌≡◌, ◌+◌, ◌-◌, ◌^◌, max, min, map};
-ghost use Rattle.csp_text.specs.Depth.{capped, event_depth, field_depth, gen_depth, greatest_of_pairs, part_depth, tree_depth};
+ghost use Rattle.std.specs.Prelude.{◌≡◌, ◌+◌, ◌-◌, max, map};
+ghost use Rattle.csp_text.specs.Depth.{capped, field_depth, gen_depth, greatest_of_pairs, part_depth, tree_depth};
 ghost use Rattle.csp_base.specs.Lists.{greatest};
 
 use crate::tree::{EventTree, FieldTree, GenTree, PartTree, Tree};

@@ -2,7 +2,7 @@
 
 ghost use Rattle.std.specs.Prelude.{◌≡◌, ◌<◌, ◌≤◌, ◌-◌, ◌++◌, ◌∷◌, [], ℕ, List, IfErr, IfOk, OnOk, length};
 ghost use Rattle.csp_tables.specs.Part.{part_at};
-ghost use Rattle.design_rules.specs.Cyclic.{AllKeepPlaces, BreaksOrder, KeepsPlaces, links_of};
+ghost use Rattle.design_rules.specs.Cyclic.{AllKeepPlaces, KeepsPlaces, links_of};
 ghost use Rattle.observed_runs.specs.Exploration.{AreFound, IsExploration};
 ghost use Rattle.observed_runs.specs.Observers.{lap_step};
 ghost use Rattle.cyclic_conditions.specs.Facts.{AreClashing};

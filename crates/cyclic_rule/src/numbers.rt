@@ -1,12 +1,11 @@
 //! The numbers of the links: how many must come before each, in a chain.
 
-ghost use Rattle.std.specs.Prelude.{◌≡◌, ◌<◌, ◌+◌, ◌⊎◌, ℕ, All, false, IfErr, IfOk, OnOk, length, slice_get, slice_index};
+ghost use Rattle.std.specs.Prelude.{◌≡◌, ◌<◌, ◌⊎◌, ℕ, All, false, IfErr, IfOk, OnOk, length, slice_index};
 ghost use Rattle.csp_base.specs.Members.{has};
 ghost use Rattle.digraph.specs.Digraph.{HasArc};
 ghost use Rattle.design_rules.specs.Cyclic.{AllKeepPlaces, NumbersRise};
 ghost use Rattle.design_rules.specs.CyclicRanking.{AreChainNumbers};
-ghost use Rattle.cyclic_rule.specs.Chains.{ComesNext, IsNextAt, IsNextIn, IsRestAfter};
-ghost use Rattle.shape_links.specs.Links.{ends_of};
+ghost use Rattle.cyclic_rule.specs.Chains.{IsNextAt, IsNextIn, IsRestAfter};
 ghost use Rattle.cyclic_conditions.specs.Orders.{AreOrders};
 ghost use Rattle.design_rules.specs.Rules.{BreaksCyclic};
 

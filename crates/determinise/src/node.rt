@@ -1,6 +1,6 @@
 //! The node of a set of terms.
 
-ghost use Rattle.std.specs.Prelude.{◌≡◌, ◌+◌, ◌<◌, ◌≤◌, ℕ, IfOk, OnOk, length};
+ghost use Rattle.std.specs.Prelude.{◌≡◌, ◌+◌, ◌<◌, ◌≤◌, IfOk, OnOk, length};
 ghost use Rattle.dl_limits.specs.declared.TheConstants.{MOST_SETS};
 ghost use Rattle.csp_tables.specs.BreadthFirst.{MeetsInOrder, targets_of_steps};
 ghost use Rattle.determinise.specs.Progress.{AreMoreSets, AreStepsOf, IsNodeOf, IsReachedFromSet, set_at};

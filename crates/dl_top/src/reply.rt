@@ -1,7 +1,6 @@
 //! What is sent for the words: the report of an answer, and for a trial a line before it.
 
 ghost use Rattle.std.specs.Prelude.{◌≡◌, IfOk};
-ghost use Rattle.csp_tables.specs.declared.rule.Rule.{Rule as RuleValue};
 ghost use Rattle.dl_top.specs.Reply.{heading_text, reply_status, reply_text, rule_of};
 
 use command_words::Trial;

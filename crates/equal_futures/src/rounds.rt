@@ -1,6 +1,6 @@
 //! One round of refinement, which numbers the classes as they are first seen.
 
-ghost use Rattle.std.specs.Prelude.{◌≡◌, ◌<◌, ◌≤◌, ◌^◌, ◌++◌, [], ◌∷◌, length, slice_index, IfOk, OnOk};
+ghost use Rattle.std.specs.Prelude.{◌≡◌, ◌<◌, ◌≤◌, ◌^◌, ◌++◌, [], ◌∷◌, length, IfOk, OnOk};
 ghost use Rattle.equal_futures.specs.Future.{NodesRise, StepsRise};
 ghost use Rattle.equal_futures.specs.Alike.{AreTold};
 ghost use Rattle.equal_futures.specs.Rows.{key_of, row_of, same_key};

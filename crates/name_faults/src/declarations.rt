@@ -1,7 +1,6 @@
 //! What is noted of a declaration.
 
 ghost use Rattle.std.specs.Prelude.{◌≡◌, [], ◌∷◌, ◌++◌, OnOk, IfOk};
-ghost use Rattle.std.specs.List.{flat_map};
 ghost use Rattle.script_names.specs.declared.kinds.Use.TheVariants as how;
 ghost use Rattle.script_names.specs.Names.{first_of, is_among, sense_in};
 ghost use Rattle.script_names.specs.Says.{tree_says};

@@ -1,10 +1,10 @@
 //! The name fault of a script.
 
-ghost use Rattle.std.specs.Prelude.{◌≡◌, [], ◌∷◌, Some, map, slice_index, nat_lt, IfOk, OnOk};
+ghost use Rattle.std.specs.Prelude.{◌≡◌, [], Some, map, slice_index, nat_lt, IfOk, OnOk};
 ghost use Rattle.dl_limits.specs.declared.TheConstants.{MOST_DATA_DEPTH};
 ghost use Rattle.script_names.specs.Names.{declared, first_of};
 ghost use Rattle.script_names.specs.Told as meant;
-ghost use Rattle.name_tables.specs.Firsts.{SameFirsts, SameNames};
+ghost use Rattle.name_tables.specs.Firsts.{SameFirsts};
 ghost use Rattle.name_notes.specs.Found.{body_of};
 ghost use Rattle.name_faults.specs.Depths.{AreDepths};
 ghost use Rattle.name_faults.specs.Known.{IsNext, deep_at, fault_after, fault_from, nothing_known, told};

@@ -1,6 +1,6 @@
 //! What is known of the declarations that were passed.
 
-ghost use Rattle.std.specs.Prelude.{◌≡◌, ◌+◌, [], OnOk};
+ghost use Rattle.std.specs.Prelude.{◌≡◌, ◌+◌, OnOk};
 ghost use Rattle.name_faults.specs.Known.{nothing_known, defines};
 
 use csp_base::NoMemory;

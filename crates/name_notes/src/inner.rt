@@ -1,6 +1,6 @@
 //! The places in what stands at a place.
 
-ghost use Rattle.std.specs.Prelude.{◌≡◌, ◌+◌, IfOk};
+ghost use Rattle.std.specs.Prelude.{◌≡◌, IfOk};
 ghost use Rattle.script_names.specs.Says as meant;
 
 use csp_base::NoMemory;

@@ -1,9 +1,7 @@
 //! The tests of a use of a name.
 
-ghost use Rattle.std.specs.Prelude.{◌≡◌, ◌||◌, ◌&&◌, ◌-◌, not, [], ℕ, List, nat_eq, nat_lt, slice_get};
+ghost use Rattle.std.specs.Prelude.{◌≡◌, ◌||◌, ◌&&◌, ◌-◌, not, nat_eq, nat_lt, slice_get};
 ghost use Rattle.script_names.specs.Faults as meant;
-ghost use Rattle.script_names.specs.Names.{Name};
-ghost use Rattle.script_names.specs.Occurrence.{uses};
 ghost use Rattle.name_notes.specs.Heard as heard;
 
 use script_names::{Class, Entity, Kind, Need, Sense, Use};

@@ -1,6 +1,6 @@
 //! The dictionary of a script.
 
-ghost use Rattle.std.specs.Prelude.{◌≡◌, ◌+◌, ℕ, [], ◌∷◌, ◌++◌, length, IfOk, OnOk};
+ghost use Rattle.std.specs.Prelude.{◌≡◌, ◌+◌, [], ◌∷◌, ◌++◌, length, IfOk, OnOk};
 ghost use Rattle.script_names.specs.Names.{channels_from, constants_from, counted, declared, declares};
 ghost use Rattle.name_tables.specs.Firsts.{SameFirsts};
 ghost use Rattle.name_tables.specs.Counted.{counts};

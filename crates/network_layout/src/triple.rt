@@ -1,6 +1,6 @@
 //! Whether an event is in three alphabets.
 
-ghost use Rattle.std.specs.Prelude.{◌≡◌, ◌<◌, ◌≤◌, ◌+◌, ◌∷◌, IfErr, OnOk, length};
+ghost use Rattle.std.specs.Prelude.{◌≡◌, ◌<◌, ◌+◌, ◌∷◌, IfErr, OnOk, length};
 ghost use Rattle.csp_tables.specs.Part.{TripleDisjoint};
 ghost use Rattle.network_layout.specs.Triple.{SharesEvent, alphabets, holders_from};
 

@@ -1,11 +1,10 @@
 //! Whether a network is busy: whether no component ever comes to accept nothing.
 
-ghost use Rattle.std.specs.Prelude.{◌≡◌, ◌<◌, ◌↔◌, ℕ, List, [], IsTrue, IfNone, IfOk, IfSome, OnOk, length, get_or};
-ghost use Rattle.csp_tables.specs.Form.{HasForm};
+ghost use Rattle.std.specs.Prelude.{◌≡◌, ◌<◌, ◌↔◌, ℕ, List, [], IsTrue, IfNone, IfSome, OnOk, length, get_or};
 ghost use Rattle.csp_tables.specs.Part.{IsNonEmpty};
 ghost use Rattle.csp_tables.specs.Shape.{IsWellFormed};
 ghost use Rattle.csp_tables.specs.Standing.{IsBusyShape};
-ghost use Rattle.csp_tables.specs.Table.{IsReached, node_at};
+ghost use Rattle.csp_tables.specs.Table.{node_at};
 ghost use Rattle.network_shape.specs.Stops.{HasEmpty, StopsFirst};
 
 use crate::fault::BusyFault;

@@ -1,6 +1,6 @@
 //! The shape of a network, and whether it is busy.
 
-ghost use Rattle.std.specs.Prelude.{◌≡◌, ◌≤◌, All, IfErr, IfOk, OnOk, length};
+ghost use Rattle.std.specs.Prelude.{◌≡◌, All, IfErr, IfOk, OnOk};
 ghost use Rattle.csp_tables.specs.ShapeOf.{AreBusy};
 ghost use Rattle.network_shape.specs.Made.{AreMadeFor};
 ghost use Rattle.network_shape.specs.Parts.{IsWellFormedPart};

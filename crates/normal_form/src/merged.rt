@@ -1,6 +1,6 @@
 //! The nodes of a table merged by equal future.
 
-ghost use Rattle.std.specs.Prelude.{◌≡◌, ◌<◌, ◌≤◌, ◌^◌, IfOk, length};
+ghost use Rattle.std.specs.Prelude.{◌<◌, ◌≤◌, IfOk, length};
 ghost use Rattle.dl_limits.specs.declared.TheConstants.{MOST_SETS};
 ghost use Rattle.equal_futures.specs.Future.{NodesRise};
 ghost use Rattle.normal_form.specs.Merged.{IsMergedTable};

@@ -10,7 +10,6 @@ ghost use Rattle.numbered_walks.specs.Choices.{bit};
 ghost use Rattle.acceptances.specs.OfferTests.{can_do};
 ghost use Rattle.numbered_walks.specs.Numbered.{AllCan, AllDo, Can, Has, OwnsItsSteps, Takes, first_terms};
 ghost use Rattle.numbered_walks.specs.Numbers.{place_among};
-ghost use Rattle.numbered_walks.specs.Options.{AreOptions};
 ghost use Rattle.numbered_walks.specs.Steps.{Does, options};
 ghost use Rattle.numbered_walks.specs.Walks.{Chooses, HasNone};
 

@@ -1,6 +1,6 @@
 //! The exploration of a table with an observer.
 
-ghost use Rattle.std.specs.Prelude.{◌≡◌, ◌<◌, ◌^◌, ◌⊎◌, ◌++◌, ◌∷◌, [], ℕ, List, IfOk, OnOk, get_or, length};
+ghost use Rattle.std.specs.Prelude.{◌≡◌, ◌<◌, ◌∷◌, [], IfOk, OnOk, get_or, length};
 ghost use Rattle.csp_tables.specs.Form.{HasForm};
 ghost use Rattle.observed_runs.specs.Exploration.{AreFound, HaveOrigins, IsExploration};
 ghost use Rattle.observed_runs.specs.Observed.{pair_at};

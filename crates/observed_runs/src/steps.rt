@@ -1,6 +1,6 @@
 //! The steps of a table that an observer of some events has to follow.
 
-ghost use Rattle.std.specs.Prelude.{◌≡◌, ◌<◌, ◌≤◌, ◌++◌, ◌∷◌, ℕ, List, IfOk, OnOk, get_or, length, replicate, slice_index};
+ghost use Rattle.std.specs.Prelude.{◌≡◌, ◌<◌, ◌≤◌, ℕ, IfOk, OnOk, length, replicate, slice_index};
 ghost use Rattle.csp_tables.specs.Form.{HasForm};
 ghost use Rattle.observed_runs.specs.Enough.{AreEnough, HaveEnough};
 ghost use Rattle.observed_runs.specs.Observed.{pair_at};

@@ -1,6 +1,6 @@
 //! The own graph of a table, and its height.
 
-ghost use Rattle.std.specs.Prelude.{◌≡◌, ◌<◌, ◌≤◌, ◌⊎◌, ◌&&◌, ◌||◌, ℕ, nat_eq, length, max, slice_index, All, IfNone, IfOk, IfSome, OnOk};
+ghost use Rattle.std.specs.Prelude.{◌≡◌, ◌<◌, ◌&&◌, ◌||◌, ℕ, nat_eq, length, max, IfNone, IfOk, IfSome, OnOk};
 ghost use Rattle.csp_base.specs.Lists.{greatest};
 ghost use Rattle.csp_base.specs.Members.{has};
 ghost use Rattle.digraph.specs.Digraph.{has_arc};

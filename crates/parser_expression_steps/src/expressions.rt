@@ -1,6 +1,6 @@
 //! Expressions: operators before and behind their operands.
 
-ghost use Rattle.std.specs.Prelude.{◌≡◌, ◌+◌, ◌*◌, ◌<◌, length, IfOk, Some};
+ghost use Rattle.std.specs.Prelude.{◌+◌, ◌*◌, ◌<◌, length, IfOk, Some};
 ghost use Rattle.tree_reading.specs.Gives.{Gives};
 ghost use Rattle.parser_expression_steps.specs.Expressions.{move_complement, move_expression, move_negative, move_operand, move_operator, move_operators, move_plain, move_renaming, move_sign, renaming_of, resume_expression};
 ghost use Rattle.parser_expression_steps.specs.Moved.{moved, weight};

@@ -2,7 +2,6 @@
 
 ghost use Rattle.tree_reading.specs.Gives.{Gives};
 ghost use Rattle.tree_reading.specs.Nesting.{around, bracketed};
-ghost use Rattle.csp_grammar.specs.Reader.{and_then};
 ghost use Rattle.parser_expression_steps.specs.Nesting.{bracket_limits, operand_limits, parallel_limits};
 
 use csp_text::{Token, Tree};

@@ -1,7 +1,7 @@
 //! A partition of the nodes into blocks that can be split, at the cost of the nodes that move. Blocks that were split wait
 //! until they are used as splitters.
 
-ghost use Rattle.std.specs.Prelude.{◌≡◌, ◌↔◌, ◌||◌, ◌+◌, ◌<◌, ◌≤◌, ◌≢◌, ◌^◌, ℕ, [], ◌∷◌, ◌++◌, false, true, nat_eq, replicate, length, All, slice_index, slice_index_or, slice_set, IsTrue, IfOk, OnOk, MatchOption};
+ghost use Rattle.std.specs.Prelude.{◌≡◌, ◌↔◌, ◌||◌, ◌+◌, ◌<◌, ◌≤◌, ◌^◌, ℕ, [], ◌∷◌, ◌++◌, false, true, replicate, length, All, slice_index, IsTrue, IfOk, OnOk, MatchOption};
 ghost use Rattle.partitions.specs.Blocks.{count_of, state_of, HasBlocks, AreBoth, AreCut, AreMarked, AreTouched, IsCalm, IsCut, IsDone, IsMarked, IsSplit, IsTaken, IsWhole};
 ghost use Rattle.csp_base.specs.Members.{has};
 ghost use Rattle.partitions.specs.BlockSteps.{AreCounted, HasLongerSpans, IsAdvanced, IsAwaited, IsCalmed, IsDivided, IsLonger};

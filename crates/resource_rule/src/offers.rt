@@ -1,6 +1,6 @@
 //! What a user offers while it holds a resource, and which resources that acquires.
 
-ghost use Rattle.std.specs.Prelude.{◌≡◌, ◌<◌, ◌&&◌, ◌||◌, ℕ, List, Some, true, IfOk, OnOk, length, nat_eq};
+ghost use Rattle.std.specs.Prelude.{◌≡◌, ◌<◌, ◌&&◌, ◌||◌, ℕ, List, Some, IfOk, OnOk, length, nat_eq};
 ghost use Rattle.csp_base.specs.Members.{has};
 ghost use Rattle.csp_base.specs.Events.{is_subset_of};
 ghost use Rattle.csp_tables.specs.Part.{part_at};

@@ -1,9 +1,7 @@
 //! The ranking of a network of clients and servers.
 
-ghost use Rattle.std.specs.Prelude.{◌≡◌, ◌<◌, ◌≤◌, ◌^◌, ◌*◌, ◌++◌, ◌∷◌, [], ℕ, List, All, pos, IfOk, OnOk, length, map, replicate, slice_index};
-ghost use Rattle.csp_tables.specs.Part.{part_at};
+ghost use Rattle.std.specs.Prelude.{◌≡◌, ◌<◌, ◌≤◌, ◌*◌, [], All, pos, IfOk, length, map, slice_index};
 ghost use Rattle.csp_tables.specs.Roles.{role_at};
-ghost use Rattle.csp_tables.specs.Shape.{IsWellFormed};
 ghost use Rattle.design_rules.specs.ClientServer.{Serves};
 ghost use Rattle.design_rules.specs.ClientServerRanking.{IsClientServerRanking};
 ghost use Rattle.digraph.specs.Walk.{AreHeights};

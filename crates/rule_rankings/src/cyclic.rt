@@ -1,13 +1,11 @@
 //! The ranking of a cyclic network.
 
-ghost use Rattle.std.specs.Prelude.{◌≡◌, ◌<◌, ◌≤◌, ◌^◌, ◌++◌, ◌∷◌, [], ℕ, List, pos, IfOk, OnOk, IsTrue, length, map, slice_index, max};
+ghost use Rattle.std.specs.Prelude.{◌≡◌, ◌<◌, ◌≤◌, ◌^◌, [], ℕ, pos, IfOk, IsTrue, length, map, slice_index, max};
 ghost use Rattle.csp_base.specs.Members.{has};
-ghost use Rattle.csp_tables.specs.Part.{part_at};
-ghost use Rattle.csp_tables.specs.Table.{node_at, no_node};
+ghost use Rattle.csp_tables.specs.Table.{no_node};
 ghost use Rattle.design_rules.specs.Counts.{above_all};
 ghost use Rattle.design_rules.specs.Cyclic.{AllKeepPlaces, NumbersRise};
 ghost use Rattle.design_rules.specs.CyclicRanking.{AreCyclicRanks};
-ghost use Rattle.shape_links.specs.Links.{ends_of};
 ghost use Rattle.rule_rankings.specs.CyclicRanks.{AreNodeLaps, AreNodeRanks, ArePartRanks, IsGreatest, IsLap, IsRank};
 ghost use Rattle.rule_rankings.specs.Rows.{AreEach};
 

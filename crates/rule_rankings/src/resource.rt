@@ -1,6 +1,6 @@
 //! The ranking of a network of users and resources.
 
-ghost use Rattle.std.specs.Prelude.{◌≡◌, ◌<◌, ◌≤◌, ◌⊎◌, ◌+◌, ◌-◌, ◌*◌, if◌then◌else◌, ◌++◌, ◌∷◌, [], ℕ, true, pos, min, All, IfOk, OnOk, length, map};
+ghost use Rattle.std.specs.Prelude.{◌≡◌, ◌<◌, ◌≤◌, ◌⊎◌, ◌+◌, ◌-◌, ◌*◌, if◌then◌else◌, [], ℕ, true, pos, min, All, IfOk, length, map};
 ghost use Rattle.csp_tables.specs.Roles.{use_at};
 ghost use Rattle.design_rules.specs.Resource.{KeepUses};
 ghost use Rattle.design_rules.specs.ResourceRanking.{AreResourceRanks, top_number};

@@ -1,6 +1,6 @@
 //! The definitions of a script.
 
-ghost use Rattle.std.specs.Prelude.{◌≡◌, ◌+◌, [], ◌∷◌, ◌++◌, length, slice_get, IfOk, OnOk};
+ghost use Rattle.std.specs.Prelude.{◌≡◌, ◌+◌, ◌++◌, length, slice_get, IfOk, OnOk};
 ghost use Rattle.name_tables.specs.Counted.{counts};
 ghost use Rattle.script_contents.specs.Plain.{body_at, datatype_of, definition_at, nametype_of, process_body};
 ghost use Rattle.script_names.specs.Contents as meant;

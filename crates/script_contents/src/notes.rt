@@ -2,7 +2,6 @@
 
 ghost use Rattle.std.specs.Prelude.{◌≡◌, ◌++◌, IfOk, OnOk};
 ghost use Rattle.std.specs.List.{flat_map};
-ghost use Rattle.script_names.specs.Contents as meant;
 ghost use Rattle.script_names.specs.Names.{first_of};
 ghost use Rattle.script_contents.specs.Plain.{resources_in, roles_in};
 ghost use Rattle.script_names.specs.Typed.{definition_number};

@@ -1,7 +1,7 @@
 //! Values in place of names in networks.
 
 ghost use Rattle.std.specs.Prelude.{◌≡◌, map, IfOk};
-ghost use Rattle.substitution.specs.Bindings.{expr_put, net_put, proc_put, without};
+ghost use Rattle.substitution.specs.Bindings.{expr_put, net_put, without};
 
 use crate::expressions::{replace_expr, replace_exprs};
 use crate::processes::replace_proc;

@@ -1,6 +1,6 @@
 //! Nodes of a normal table with their events as texts.
 
-ghost use Rattle.std.specs.Prelude.{◌≡◌, IfOk, OnOk, map, ◌++◌, ◌∷◌, []};
+ghost use Rattle.std.specs.Prelude.{◌≡◌, IfOk, map};
 ghost use Rattle.network_stages.specs.Tells.{texts};
 ghost use Rattle.tabulation.specs.Printed.{printed_node, printed_step};
 

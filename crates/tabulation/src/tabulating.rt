@@ -1,6 +1,6 @@
 //! The normal table of one component of a script's network.
 
-ghost use Rattle.std.specs.Prelude.{◌≡◌, ◌≤◌, ◌<◌, [], ◌∷◌, IfErr, IfOk, Some, length, map, slice_get};
+ghost use Rattle.std.specs.Prelude.{◌≡◌, ◌<◌, IfErr, IfOk, Some, slice_get};
 ghost use Rattle.dl_limits.specs.declared.TheConstants.{MOST_COMPONENTS};
 ghost use Rattle.network_stages.specs.Networks.{components_at};
 ghost use Rattle.report.specs.Stops.{Answers, Tells};

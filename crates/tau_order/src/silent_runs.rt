@@ -1,4 +1,4 @@
-ghost use Rattle.std.specs.Prelude.{◌≡◌, ◌≢◌, ◌+◌, ◌-◌, ◌<◌, ◌≤◌, ◌^◌, ◌||◌, ◌&&◌, ◌==◌, ℕ, List, [], ◌∷◌, length, slice_index, IfOk, OnOk, nat_eq};
+ghost use Rattle.std.specs.Prelude.{◌≡◌, ◌-◌, ◌<◌, ℕ, List, slice_index, IfOk, OnOk};
 ghost use Rattle.csp_tables.specs.Path.{SilentStep};
 ghost use Rattle.csp_tables.specs.RawTable.{RawStep};
 ghost use Rattle.digraph.specs.Walk.{AreHeights};

@@ -1,7 +1,7 @@
 //! The places of the sub-processes of a process.
 #![tactic(auto, using(crate::proofs::OverLemmas::out_forms))]
 
-ghost use Rattle.std.specs.Prelude.{◌≡◌, []};
+ghost use Rattle.std.specs.Prelude.{◌≡◌};
 ghost use Rattle.csp_program.specs.declared.processes.Proc.TheViews.{out-Proc};
 ghost use Rattle.term_pool.specs.Layers.{shown};
 ghost use Rattle.term_pool.specs.Over.{layer_at};

@@ -1,6 +1,6 @@
 //! Entries with other places, or with values in their own parts.
 
-ghost use Rattle.std.specs.Prelude.{◌≡◌, ◌<◌, [], length, map, slice_get, IfOk, Some};
+ghost use Rattle.std.specs.Prelude.{◌≡◌, ◌<◌, length, map, slice_get, IfOk, Some};
 ghost use Rattle.substitution.specs.Bindings.{expr_put, fields_put, gens_put, head_put, pair_put, past_all};
 ghost use Rattle.term_pool.specs.Entries.{arguments_at, choice_at, entry_layer, expr_at, fields_at, gens_at, head_at, pairs_at, Fits, PartsStart, StandsAs};
 ghost use Rattle.term_pool.specs.First.{node_with_first, other_first};

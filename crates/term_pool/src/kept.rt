@@ -1,6 +1,6 @@
 //! The nodes of a pool: entries, their own parts, and what each measures.
 
-ghost use Rattle.std.specs.Prelude.{◌≡◌, ◌<◌, ◌++◌, ◌∷◌, [], true, false, length, slice_get, IfOk, OnErr, OnOk, Some};
+ghost use Rattle.std.specs.Prelude.{◌≡◌, ◌<◌, true, length, OnErr};
 ghost use Rattle.substitution.specs.Bindings.{proc_put};
 ghost use Rattle.term_pool.specs.Entries.{entry_layer, Fits};
 ghost use Rattle.term_pool.specs.First.{with_first};

@@ -1,6 +1,6 @@
 //! A pool of processes: each stands in it once, and its sub-processes stand at smaller places.
 
-ghost use Rattle.std.specs.Prelude.{◌≡◌, ◌↔◌, IsTrue, ◌<◌, ◌++◌, [], ◌∷◌, true, false, length, map, slice_get, IfOk, OnOk, OnErr, Some};
+ghost use Rattle.std.specs.Prelude.{◌≡◌, ◌↔◌, IsTrue, ◌<◌, [], true, length, slice_get, IfOk, OnErr, Some};
 ghost use Rattle.csp_program.specs.Depth.{proc_depth};
 ghost use Rattle.csp_program.specs.Size.{proc_size};
 ghost use Rattle.csp_program.specs.Substitution.{proc_with};

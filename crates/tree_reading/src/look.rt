@@ -1,6 +1,6 @@
 //! Looks at the front of tokens.
 
-ghost use Rattle.std.specs.Prelude.{◌≡◌, ◌≤◌, ◌<◌, suc, length, nat_eq, IfOk, IfSome, MatchOption, Some, None};
+ghost use Rattle.std.specs.Prelude.{◌≡◌, ◌≤◌, ◌<◌, length, nat_eq, IfOk, IfSome, MatchOption, Some, None};
 ghost use Rattle.std.specs.Option.{option_copied};
 ghost use Rattle.csp_grammar.specs.Reader.{begins_event};
 ghost use Rattle.csp_grammar.specs.Tokens.{begins, binding, skip, skip_word};
