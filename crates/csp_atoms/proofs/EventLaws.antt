@@ -1,6 +1,6 @@
 -- Laws of sets of events as atoms.
-use Rattle.std.proofs.Common.{◌≡◌, ℕ, zero, suc, ◌+◌, ◌<◌, ◌≤◌, refl, sym, ◌∙◌, ap, List, [], ◌∷◌, ◌++◌, length, get_or, take, Option, Some, None, arith, append_assoc}
-use Rattle.std.proofs.lemmas.List.{take_more, take_all, append-nil}
+use Rattle.std.proofs.Common.{◌≡◌, ℕ, zero, suc, ◌+◌, ◌<◌, ◌≤◌, refl, sym, ◌∙◌, ap, List, [], ◌∷◌, ◌++◌, length, get_or, take, Option, Some, None, arith}
+use Rattle.std.proofs.lemmas.List.{take_more, take_all}
 use Rattle.csp_atoms.specs.Sets.{event_atoms, event_number, event_numbers, both_events}
 use Rattle.csp_atoms.specs.declared.atom.Atom.{Atom}
 use Rattle.csp_atoms.specs.declared.atom.Atom.TheVariants as atom
@@ -40,12 +40,6 @@ no_event (x ∷ xs) zero d l h = ap (λ o. both_events o (event_numbers xs)) h
 no_event (x ∷ xs) (suc k) d l h = sym (none_after (event_number x)) ∙ ap (both_events (event_number x)) (no_event xs k d (omega arith) h)
 
 -- ---- a walk over the events of a set
-
-pub walk_step : (made : List Atom) (e : ℕ) (left more whole : List ℕ) → left ≡ e ∷ more → made ++ event_atoms left ≡ event_atoms whole → (made ++ atom.Event e ∷ []) ++ event_atoms more ≡ event_atoms whole
-walk_step made e left more whole is h = append_assoc made (atom.Event e ∷ []) (event_atoms more) ∙ ap (λ l. made ++ event_atoms l) (sym is) ∙ h
-
-pub walk_end : (made : List Atom) (left whole : List ℕ) → left ≡ [] → made ++ event_atoms left ≡ event_atoms whole → made ≡ event_atoms whole
-walk_end made left whole is h = sym (append-nil made) ∙ ap (λ l. made ++ event_atoms l) (sym is) ∙ h
 
 -- ---- the atoms of the numbers of a list of events
 

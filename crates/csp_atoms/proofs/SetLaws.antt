@@ -9,9 +9,7 @@ use Rattle.std.specs.List.Sorted.{IsStrictlyIncreasing}
 use Rattle.std.specs.Ordering.{int_cmp, is_lt}
 use Rattle.std.specs.declared.cmp.Ordering.{Ordering}
 use Rattle.std.specs.declared.cmp.Ordering.TheVariants.{Less, Equal, Greater}
-use Rattle.csp_base.specs.Blocks.{AreBlocks, events_of}
-use Rattle.csp_base.proofs.Rising.{RisesFrom, rises_from_increasing, increasing_from_rises}
-use Rattle.csp_base.proofs.Sets.{set_increases}
+use Rattle.csp_base.proofs.Rising.{RisesFrom, increasing_from_rises}
 use Rattle.csp_atoms.specs.Order.{kind_of, less}
 use Rattle.csp_atoms.specs.Sets.{AllAbove, IsRising, AllOfKind, IsOneKind, IsAtomSet, with_atom, union_of, fits, alike, event_atoms, event_numbers}
 use Rattle.csp_atoms.specs.declared.atom.Atom.{Atom}
@@ -67,14 +65,6 @@ events_above d n (e ∷ es) l r =
     let h : n ≤ e = r.0 in
     (less_event d e (omega arith), events_above d (e + 1) es (omega arith) r.1)
 
-rising_events : (n : ℕ) (es : List ℕ) → RisesFrom n es → IsRising (event_atoms es)
-rising_events n [] r = tt
-rising_events n (e ∷ es) r = (events_above e (e + 1) es (omega arith) r.1, rising_events (e + 1) es r.1)
-
-kind_events : (es : List ℕ) → AllOfKind 3 (event_atoms es)
-kind_events [] = tt
-kind_events (e ∷ es) = (refl, kind_events es)
-
 increase_from : (d : ℕ) (es : List ℕ) → AllAbove (atom.Event d) (event_atoms es) → IsRising (event_atoms es) → RisesFrom (d + 1) es
 increase_from d [] a r = tt
 increase_from d (e ∷ es) a r = (let l : d < e = below_event d e a.0 in omega arith, increase_from e es r.0 r.1)
@@ -86,12 +76,6 @@ increasing_atoms (e ∷ es) r = increasing_from_rises 0 (e ∷ es) (omega arith,
 -- the numbers of events that rise as atoms
 pub increasing_numbers : (xs : List Atom) (es : List ℕ) → IsAtomSet xs → Some es ≡ event_numbers xs → IsStrictlyIncreasing es
 increasing_numbers xs es r h = increasing_atoms es (subst IsRising (atoms_of_numbers xs es h) r.0)
-
-pub IsAtomSet-event_atoms : (es : List ℕ) → IsStrictlyIncreasing es → IsAtomSet (event_atoms es)
-IsAtomSet-event_atoms es s = (rising_events 0 es (rises_from_increasing es s), one_kind 3 (event_atoms es) (kind_events es))
-
-pub IsAtomSet-blocks : (ps : List (ℕ × ℕ)) (es : List ℕ) → AreBlocks ps → es ≡ events_of ps → IsAtomSet (event_atoms es)
-IsAtomSet-blocks ps es r is = IsAtomSet-event_atoms es (set_increases ps es r (sym is))
 
 -- the events that a call found, read through a slice of them
 pub increasing_slice : (xs : List Atom) (ds es : List ℕ) (found : Option (List ℕ)) (slice : List Atom) → ds ≡ es → found ≡ Some es → found ≡ event_numbers slice → slice ≡ xs → IsAtomSet xs → IsStrictlyIncreasing ds

@@ -3,7 +3,7 @@
 ghost use Rattle.std.specs.Prelude.{◌≡◌, ◌↔◌, ◌&&◌, ◌||◌, not, [], false, length, slice_get, IfOk, OnOk, OnErr, IsErrOf, IsTrue};
 ghost use Rattle.csp_atoms.specs.Order.{same};
 ghost use Rattle.csp_atoms.specs.declared.atom.Atom.{Atom};
-ghost use Rattle.csp_atoms.specs.Sets.{IsAtomSet, IsRising, IsOneKind, alike, diff_of, event_atoms, event_numbers, fits, has_atom, inter_of, place_of, union_of, with_atom};
+ghost use Rattle.csp_atoms.specs.Sets.{IsAtomSet, IsRising, IsOneKind, alike, diff_of, event_numbers, fits, has_atom, inter_of, place_of, union_of, with_atom};
 
 use crate::atom::Atom;
 use crate::error::AtomSetError;
@@ -48,18 +48,6 @@ impl AtomSet {
         AtomSet {
             atoms: Items::new(alloc),
         }
-    }
-
-    /// The atoms of a set of events.
-    pub fn from_event_set(alloc: Global, set: &EventSet) -> Result<Self, NoMemory>
-        ensures { IfOk result (λ made. made ≡ event_atoms set.now) }
-    {
-        // Its contract says that the events rise.
-        let _ = set.blocks();
-        let atoms = sorted::atoms_of(alloc, set)?;
-        Ok(AtomSet {
-            atoms: Items::from_vec(atoms),
-        })
     }
 
     /// The set of the events that the atoms are, `None` where one of them is no event.

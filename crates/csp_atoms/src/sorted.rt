@@ -2,7 +2,7 @@
 
 ghost use Rattle.std.specs.Prelude.{◌≡◌, ◌+◌, ◌<◌, Some, None, IfOk, OnOk, OnErr};
 ghost use Rattle.std.specs.Option.{option_map};
-ghost use Rattle.csp_atoms.specs.Sets.{IsRising, alike, event_atoms, event_number, event_numbers, fits, has_atom, place_of, with_atom};
+ghost use Rattle.csp_atoms.specs.Sets.{IsRising, alike, event_number, event_numbers, fits, has_atom, place_of, with_atom};
 ghost use Rattle.csp_atoms.specs.Merge.{result_of, least_of, begins_with, rest_after, with_last};
 ghost use Rattle.csp_atoms.specs.Search.{count_before, stands_at};
 ghost use Rattle.csp_base.specs.Operations.{keeps};
@@ -199,15 +199,4 @@ pub(crate) fn events(alloc: Global, atoms: &[Atom]) -> Result<Option<Vec<Event>>
         }
     }
     Ok(Some(made))
-}
-
-/// The events of the set as atoms.
-pub(crate) fn atoms_of(alloc: Global, set: &EventSet) -> Result<Vec<Atom>, NoMemory>
-    ensures { IfOk result (λ made. made.items ≡ event_atoms set.now) }
-{
-    let mut made = Vec::new(alloc);
-    for event in set.iter() {
-        made.push(Atom::Event(event))?;
-    }
-    Ok(made)
 }

@@ -4,10 +4,6 @@ use Rattle.std.specs.Prelude.{IfOk, IsOkAnd, MatchResult, OnOk, OnErr}
 
 -- ---- several facts of each success
 
-pub on_ok2 : {T E : Type 0} (r : Result T E) (P Q R : Type 0) → OnOk r P → OnOk r Q → (P → Q → R) → OnOk r R
-on_ok2 (Ok x) P Q R p q f = f p q
-on_ok2 (Err e) P Q R p q f = tt
-
 pub on_ok3 : {T E : Type 0} (r : Result T E) (P Q R S : Type 0) → OnOk r P → OnOk r Q → OnOk r R → (P → Q → R → S) → OnOk r S
 on_ok3 (Ok x) P Q R S p q r f = f p q r
 on_ok3 (Err e) P Q R S p q r f = tt

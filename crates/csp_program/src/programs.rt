@@ -206,13 +206,4 @@ impl Program {
     {
         &self.content
     }
-
-    /// Takes what the program holds out, to be changed.
-    pub fn into_content(self) -> Content
-        ensures content { result ≡ self }
-        ensures in_order { IsInOrder result }
-    {
-        let Program { content } = self;
-        content
-    }
 }

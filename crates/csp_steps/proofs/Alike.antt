@@ -63,16 +63,6 @@ inside_joined f xs ys h y m =
 same_joined : {X Y : Type 0} (f : X → List Y) (xs ys : List X) → HaveSame xs ys → HaveSame (joined (map f xs)) (joined (map f ys))
 same_joined f xs ys h = both_inside (joined (map f xs)) (joined (map f ys)) (inside_joined f xs ys (forth xs ys h)) (inside_joined f ys xs (over xs ys h))
 
-either_inside : {X : Type 0} (xs ys us vs : List X) → Inside xs us → Inside ys vs → (x : X) → Among xs x ⊎ Among ys x → Among (us ++ vs) x
-either_inside xs ys us vs f g x (inl m) = in_left us vs x (f x m)
-either_inside xs ys us vs f g x (inr m) = in_right us vs x (g x m)
-
-inside_both : {X : Type 0} (xs ys us vs : List X) → Inside xs us → Inside ys vs → Inside (xs ++ ys) (us ++ vs)
-inside_both xs ys us vs f g x m = either_inside xs ys us vs f g x (in_either xs ys x m)
-
-pub same_both : {X : Type 0} (xs ys us vs : List X) → HaveSame xs us → HaveSame ys vs → HaveSame (xs ++ ys) (us ++ vs)
-same_both xs ys us vs h g = both_inside (xs ++ ys) (us ++ vs) (inside_both xs ys us vs (forth xs us h) (forth ys vs g)) (inside_both us vs xs ys (over xs us h) (over ys vs g))
-
 -- ---- outcomes with the same members
 
 abbrev pub Alike : Outcome (List Move) → Outcome (List Move) → Type 0

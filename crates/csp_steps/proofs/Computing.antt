@@ -28,17 +28,6 @@ listing trees steps moves o e h = record { same = e ∙ ap (λ ms. Ok ms) (sym h
 pub same_moves : (trees : List Proc) (r : Result (List StepTo) EvalFault) (o o' : Outcome (List Move)) → o ≡ o' → GivesMoves trees r o' → GivesMoves trees r o
 same_moves trees r o o' e h = subst (GivesMoves trees r) (sym e) h
 
--- A fault of a part is a fault of the whole.
-moves_gone : (trees mid : List Proc) (f : EvalFault) (part whole : Outcome (List Move)) → GivesMoves mid (Err f) part
-    → ((k : ValueKind) → part ≡ Err k → whole ≡ Err k) → GivesMoves trees (Err f) whole
-moves_gone trees mid fault.NoMemory part whole h passes = tt
-moves_gone trees mid (fault.Value kind) part whole h passes = passes kind h
-
-pub moves_passed : (trees mid : List Proc) (r : Result (List StepTo) EvalFault) (f : EvalFault) (part whole : Outcome (List Move))
-    → IsErrAnd r (λ y. y ≡ f) → GivesMoves mid (Err f) part → ((k : ValueKind) → part ≡ Err k → whole ≡ Err k) → GivesMoves trees r whole
-moves_passed trees mid (Ok x) f part whole is h passes = absurd is
-moves_passed trees mid (Err y) f part whole is h passes = rw is (moves_gone trees mid f part whole h passes)
-
 look_gone : {A : Type 0} (p : Content) (trees : List Proc) (t : Proc) (f : EvalFault) (part : Outcome A) → Gives {A = A} (Err f) part
     → ((k : ValueKind) → part ≡ Err k → steps_of p t ≡ Err k) → GivesLook p trees (Err f) t
 look_gone p trees t fault.NoMemory part h passes = tt

@@ -1,6 +1,5 @@
 -- A list of steps without its doubles, which is made one step after another.
-use Rattle.std.proofs.Common.{◌≡◌, ◌⊎◌, inl, inr, ℕ, zero, suc, ◌+◌, ◌<◌, ◌≤◌, Bool, true, false, cond, Some, List, [], ◌∷◌, ◌++◌, take, length, get_or, slice_get, refl, ap, sym, ◌∙◌, subst, arith}
-use Rattle.std.proofs.lemmas.Option.{slice_get_within}
+use Rattle.std.proofs.Common.{◌≡◌, ◌⊎◌, inl, inr, ℕ, zero, suc, ◌+◌, ◌<◌, ◌≤◌, Bool, true, false, cond, Some, List, [], ◌∷◌, ◌++◌, take, length, get_or, slice_get, refl, ap, sym, ◌∙◌, subst}
 use Rattle.std.proofs.lemmas.Bool.{false≢true}
 use Rattle.std.proofs.lemmas.Map.Keys.{IsDistinct-head, IsDistinct-tail}
 use Rattle.std.specs.List.{AllByRecursion, IsDistinct}
@@ -113,10 +112,3 @@ once_of xs numbered made h g = record {
 pub numbered_once : (numbered made : List StepTo) → IsDistinct eq_step numbered → made ≡ numbered → IsOnce numbered made
 numbered_once numbered made distinct e =
     subst (λ ys. IsOnce numbered ys) (sym e) (record { same = record { there = λ x h. h; back = λ x h. h }; once = step_once numbered distinct })
-
--- fewer than two steps
-pub few_once : (xs : List StepTo) → length xs < 2 → IsOnce xs xs
-few_once xs few = record { same = record { there = λ x h. h; back = λ x h. h }; once = λ i j x h g. single xs few i j x h g }
-  where
-    single : (ys : List StepTo) → length ys < 2 → (i j : ℕ) (x : StepTo) → slice_get ys i ≡ Some x → slice_get ys j ≡ Some x → i ≡ j
-    single ys small i j x h g = let a = slice_get_within ys i x h in let b = slice_get_within ys j x g in omega (arith, a, b)

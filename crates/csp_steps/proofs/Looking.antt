@@ -57,9 +57,6 @@ choice_steps p trees ids slice t h e = h.same ∙ ap (λ (qs : List ProcId). ste
 pub choice_below : (p : Content) (trees : List Proc) (ids slice : List ProcId) (t : Proc) → AreOfChoice p trees ids t → slice ≡ ids → all_below (length trees) slice ≡ true
 choice_below p trees ids slice t h e = ap (all_below (length trees)) e ∙ h.within
 
-pub around_fault : (p : Content) (trees : List Proc) (id : ProcId) (t : Proc) (k : ValueKind) → AreAround p trees id t → steps_of p (tree_at trees id) ≡ Err k → steps_of p t ≡ Err k
-around_fault p trees id t k h e = h.same ∙ ap (λ o. and_then o (around p t)) e
-
 pub around_is : (p : Content) (trees : List Proc) (id : ProcId) (t : Proc) (moves : List Move) → AreAround p trees id t → steps_of p (tree_at trees id) ≡ Ok moves → steps_of p t ≡ around p t moves
 around_is p trees id t moves is e = is.same ∙ ap (λ o. and_then o (around p t)) e
 

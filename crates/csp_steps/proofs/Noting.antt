@@ -109,15 +109,6 @@ stepped_at p trees kept id k steps copy h g listed e =
     some_same : (xs ys : List StepTo) → Some xs ≡ Some ys → xs ≡ ys
     some_same xs ys h = cc
 
--- nothing is kept at first
-pub fits_new : (p : Content) (trees : List Proc) (kept : Evaluated) → IsEmpty kept.hidings → IsEmpty kept.renamings → IsEmpty kept.bodies → IsEmpty kept.stepped → Fits p trees kept
-fits_new p trees kept h r b s = record {
-  hidings = no_key (λ q k. HasValue kept.sets k (λ x. StandsAs trees q (λ t. Hides p (out-Proc t) x))) kept.hidings h;
-  renamings = no_key (λ q k. HasValue kept.images k (λ x. StandsAs trees q (λ t. Renames p (out-Proc t) x))) kept.renamings r;
-  bodies = no_key (λ d q. StandsAs trees q (λ t. body_of (slice_get p.defs d) ≡ Some t)) kept.bodies b;
-  stepped = none_stepped p trees kept.lists kept.stepped s;
-}
-
 pub bodies_stay : {S : Type 0} (p : Content) (old new : List Proc) → IsFront old new → (bodies : HashMap ℕ ℕ S) → AreBodies p old bodies → AreBodies p new bodies
 bodies_stay p old new front bodies h d q g = stands_stay old new front q (λ t. body_of (slice_get p.defs d) ≡ Some t) (h d q g)
 

@@ -271,14 +271,6 @@ module _ (p : Content) (first : ℕ) (trees : List Proc) (walk after : Walk) (so
 
 -- ---- a walk that begins
 
-pub begins_sound : (trees : List Proc) (t : Turn) (walk : Walk) → IsBegun t walk → t.to.0 < length trees → IsSound trees walk
-begins_sound trees t walk is within = record {
-  bound = is.bound ∙ ap (map name_of) (sym is.frames);
-  frames = ap (frames_within (length trees)) is.frames;
-  turn = subst (IsTurnWithin (length trees)) (sym is.turn) within;
-  steps = ap (all_within (length trees)) is.steps;
-}
-
 pub begins : (p : Content) (first : ℕ) (trees : List Proc) (t : Turn) (walk : Walk) → IsBegun t walk → filled [] first (turn_ways p trees [] t) ≡ walk_moves p trees first walk
 unfolding frames_left
 begins p first trees t walk is =

@@ -48,22 +48,6 @@ impl RawTable {
         }
     }
 
-    /// The table of these steps over `count` terms.
-    pub fn from_steps(
-        silent: Vec<(u32, u32)>,
-        steps: Vec<(u32, Event, u32)>,
-        count: u32,
-    ) -> RawTable
-        requires { HasRawForm (record { silent = silent.items; steps = steps.items; count = count }) }
-        ensures { result ≡ record { silent = silent.items; steps = steps.items; count = count } }
-    {
-        RawTable {
-            silent,
-            steps,
-            count,
-        }
-    }
-
     /// The silent steps: from which term to which.
     pub fn silent(&self) -> &[(u32, u32)]
         ensures value { result.now ≡ self.now.silent }

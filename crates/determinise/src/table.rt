@@ -36,19 +36,4 @@ impl SetTable {
     {
         self.nodes.as_slice()
     }
-
-    /// The sets of terms, in the order of their nodes.
-    pub fn sets(&self) -> &[Items<u32>]
-        ensures { result.now ≡ self.now.sets }
-    {
-        self.sets.as_slice()
-    }
-
-    /// The nodes alone.
-    pub fn into_nodes(self) -> Vec<NormNode>
-        ensures { result.items ≡ self.nodes }
-    {
-        let SetTable { nodes, sets: _ } = self;
-        nodes
-    }
 }

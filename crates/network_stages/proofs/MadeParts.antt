@@ -9,9 +9,7 @@ use Rattle.csp_program.specs.declared.processes.Proc.{Proc}
 use Rattle.csp_program.specs.declared.programs.Content.{Content}
 use Rattle.csp_tables.specs.Network.{Component}
 use Rattle.csp_tables.specs.Part.{Part}
-use Rattle.csp_tables.specs.NormalTable.{IsNormalTable}
 use Rattle.csp_tables.specs.ShapeOf.{ArePartsOf}
-use Rattle.csp_tables.specs.RawTable.{RawStep}
 use Rattle.process_steps.specs.ComponentStep.{ProcessStep}
 use Rattle.network_shape.specs.Made.{AreMadeFor, IsMadeFor}
 use Rattle.network_shape.specs.Parts.{HasEventsWithin, IsWellFormedPart}
@@ -30,17 +28,6 @@ stays_within p c t (room, has) = tables_stay_within (ProcessStep p) c has.table.
 
 pub few_terms : (p : Content) (c : Component Proc) (t : ComponentTable) → HasTable p c t → t.local.table.count ≤ 16384
 few_terms p c t (room, has) = subst (λ n. n ≤ 16384) has.table.table.count has.table.few
-
--- the part that was made is the component's
-pub made_for : (p : Content) (c : Component Proc) (t : ComponentTable) (part : Part) → HasTable p c t → part.alphabet ≡ c.alphabet
-    → IsNormalTable (RawStep t.local.table) 0 16384 part.table → IsMadeFor (ProcessStep p) c part
-made_for p c t part (room, has) same normal = record {
-  terms = has.table.terms;
-  raw = t.local.table;
-  numbered = has.table.table;
-  alphabet = sym same;
-  normal = normal;
-}
 
 module _ (p : Content) (seats : List (Component Proc)) (tables : List ComponentTable) (are : AreTablesOf p seats tables) where
   -- the seat and the table in the same place

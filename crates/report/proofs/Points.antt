@@ -2,7 +2,7 @@
 use Rattle.std.proofs.Common.{Result, Ok, Err, IfOk, refl, sym, subst}
 use Rattle.report.specs.Points.{Point, RefusedOr, UnprovedOr}
 use Rattle.report.specs.Points.Point.{passed, told}
-use Rattle.report.specs.Stops.{Answers, IsAnswer, Tells, refused, stop_of, unproved}
+use Rattle.report.specs.Stops.{Answers, Tells, refused, stop_of, unproved}
 use Rattle.report.specs.declared.answer.Answer.{Answer}
 use Rattle.report.specs.declared.answer.Answer.TheVariants as answer
 use Rattle.report.specs.declared.answer.Done.{Done}
@@ -42,13 +42,6 @@ module _ {F X : Type 0} (Fails : F → Type 0) (Told : F → Answer → Type 0) 
   pub goes_on : (r : Result Done (Stop Answer)) → Answers (Then x) r → Answers (Point Fails Told Is Then) r
   goes_on (Ok what) answers = passed x is answers
   goes_on (Err s) answers = stops_later s answers
-
--- the answer to which such a walk comes
-pub finishes : {E : Type 0} (Is : Answer → Type 0) (walk : Result Done (Stop Answer)) (r : Result Answer E) → Answers Is walk → IfOk r (IsAnswer walk) → IfOk r Is
-finishes Is (Ok what) (Ok a) answers same = subst Is (sym same) answers
-finishes Is (Err (stop.Told b)) (Ok a) answers same = subst Is (sym same) answers
-finishes Is (Err stop.NoMemory) (Ok a) answers same = absurd same
-finishes Is walk (Err e) answers same = tt
 
 -- What holds of each fault, and of what follows, holds of the answer.
 pub refused_or : {X : Type 0} (side : Side) (Fails : Refusal → Type 0) (Is : X → Type 0) (Then : X → Answer → Type 0) (Q : Answer → Type 0) → ((r : Refusal) → Q (answer.Refused side r))

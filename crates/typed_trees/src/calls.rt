@@ -1,8 +1,7 @@
 //! Trees as what they stand for, once each of their names has its meaning.
 
-ghost use Rattle.std.specs.Prelude.{◌≡◌, ◌+◌, List, map, IfOk, OnOk};
-ghost use Rattle.script_names.specs.declared.kinds.Kind.{Kind};
-ghost use Rattle.script_names.specs.Names.{Entities, first_of};
+ghost use Rattle.std.specs.Prelude.{◌≡◌, ◌+◌, map, IfOk, OnOk};
+ghost use Rattle.script_names.specs.Names.{first_of};
 ghost use Rattle.script_names.specs.Typed.{all_bind, exprs, reading};
 
 use crate::binders::Binders;
@@ -17,14 +16,6 @@ use csp_text::Tree;
 use name_tables::{Meanings, Scope};
 use std::alloc::Global;
 use std::mem::replace;
-
-/// How many binding tokens a tree has. Its names may mean anything.
-pub fn binds(tree: &Tree) -> Result<u32, NoMemory>
-    ensures { IfOk result (λ n. (names : Entities) (kinds : List Kind) → n ≡ (reading (first_of names) kinds tree.now).binds) }
-{
-    let count = after(0, count_tree(tree))?;
-    Ok(count)
-}
 
 // The bound names, taken out of `scope`, with the number of the next binding token.
 fn taken(alloc: Global, scope: &mut Scope, next: u32) -> Binders

@@ -9,4 +9,4 @@ mod names;
 mod networks;
 mod processes;
 
-pub use calls::{binds, typed_expr, typed_exprs, typed_net, typed_proc};
+pub use calls::{typed_expr, typed_exprs, typed_net, typed_proc};
