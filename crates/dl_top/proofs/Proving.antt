@@ -56,43 +56,31 @@ only_network text script network spells is = record {
       one_network script other network (subst (λ (s : Script). IsNetworkOf s other) (spells.only spells'.script spells'.spelled) spells'.is) is;
 }
 
-judged_free : (text : List ℕ) (rule : Rule) (script : Script) (a : Answer) → SpellsOnlyScript text script → IsJudgedWhole script rule a → SpellsDeadlockFree text rule (report_text a)
-judged_free text rule script a spells whole = record {
-  network = whole.network;
-  spells = only_network text script whole.network spells whole.spelled;
-  bound = whole.free.bound;
-  live = whole.free.live;
-  exact = whole.free.exact;
-  lasting = goes_on script rule a whole;
-  nodes = node_count whole.shape.parts;
-  classes = classes script rule a whole;
-  greatest_rank = greatest_rank whole.ranking;
-  is = ap report_text whole.free.is;
-}
-
 judged_ranked : (text : List ℕ) (rule : Rule) (script : Script) (a : Answer) → SpellsOnlyScript text script → IsJudgedWhole script rule a → TellsRank text rule (report_text a)
 judged_ranked text rule script a spells whole = record {
-  network = whole.network;
-  spelled = record { script = script; spelled = spells.spelled; is = whole.spelled };
-  rank = greatest_rank whole.ranking;
+  free = record {
+    network = whole.network;
+    spells = only_network text script whole.network spells whole.spelled;
+    bound = whole.free.bound;
+    live = whole.free.live;
+    exact = whole.free.exact;
+    lasting = goes_on script rule a whole;
+    nodes = node_count whole.shape.parts;
+    classes = classes script rule a whole;
+    greatest_rank = greatest_rank whole.ranking;
+    is = ap report_text whole.free.is;
+  };
   greatest = has_greatest_rank script rule a whole;
-  nodes = node_count whole.shape.parts;
-  bound = whole.free.bound;
-  is = ap report_text whole.free.is;
 }
 
--- what follows from all that a walk found, where a text is judged with status 0
-text_judged : (text : List ℕ) (rule : Rule) (P : Answer → Type 0) → ((s : Script) (a : Answer) → SpellsOnlyScript text s → IsJudgedWhole s rule a → P a)
-    → (a : Answer) → TextCallsFor text (Check rule) a → status a ≡ 0 → P a
-text_judged text rule P is a calls =
-    deciding text P _ _ (λ s b spells judged.
-    judged_whole s rule (IfZero P) (refused P) (λ why zero. absurd (let no : 1 ≡ 0 = zero in cc)) (λ d whole zero. is s d spells whole) b judged) a calls
+pub text_ranked : (text : List ℕ) (rule : Rule) (a : Answer) → TextCallsFor text (Check rule) a → status a ≡ 0 → TellsRank text rule (report_text a)
+text_ranked text rule a calls =
+    deciding text (λ b. TellsRank text rule (report_text b)) _ _ (λ s b spells judged.
+    judged_whole s rule (IfZero (λ d. TellsRank text rule (report_text d))) (refused (λ d. TellsRank text rule (report_text d))) (λ why zero. absurd (let no : 1 ≡ 0 = zero in cc))
+    (λ d whole zero. judged_ranked text rule s d spells whole) b judged) a calls
 
 pub text_free : (text : List ℕ) (rule : Rule) (a : Answer) → TextCallsFor text (Check rule) a → status a ≡ 0 → SpellsDeadlockFree text rule (report_text a)
-text_free text rule a calls = text_judged text rule (λ b. SpellsDeadlockFree text rule (report_text b)) (λ s b spells whole. judged_free text rule s b spells whole) a calls
-
-pub text_ranked : (text : List ℕ) (rule : Rule) (a : Answer) → TextCallsFor text (Check rule) a → status a ≡ 0 → TellsRank text rule (report_text a)
-text_ranked text rule a calls = text_judged text rule (λ b. TellsRank text rule (report_text b)) (λ s b spells whole. judged_ranked text rule s b spells whole) a calls
+text_free text rule a calls zero = (text_ranked text rule a calls zero).free
 
 -- a script that is shown
 record IsShownBy (text : List ℕ) (a : Answer) : Type 0 where
