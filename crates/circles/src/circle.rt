@@ -1,3 +1,5 @@
+//! A circle of a digraph, as vertices in the order in which its arcs pass them.
+
 ghost use Rattle.std.specs.Prelude.{◌≡◌, ℕ, ◌<◌, ◌==◌, length, slice_index, nat_lt, IfOk};
 ghost use Rattle.std.specs.List.{IsFirstBest};
 ghost use Rattle.circles.specs.Turn.{IsTurnedFrom};

@@ -1,3 +1,5 @@
+//! Why a component does not conform to its specification.
+
 use csp_base::{NoMemory, Trace};
 
 /// Why a component does not conform to its specification, or no answer was found.

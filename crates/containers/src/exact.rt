@@ -1,3 +1,5 @@
+//! Types whose `==` is exact.
+
 ghost use Rattle.std.specs.Prelude.{◌≡◌, true};
 ghost use Rattle.std.specs.Cmp.{first_so, second_so};
 ghost use Rattle.std.proofs.lemmas.Bool.{eqb-true};

@@ -1,3 +1,5 @@
+//! Values numbered as first seen.
+
 ghost use Rattle.std.specs.Prelude.{◌≡◌, ◌↔◌, false, [], ◌∷◌, ◌++◌, length, not, position, slice_get, IsTrue, IfOk, IfSome, MatchOption, is_some, OnOk, OnErr};
 ghost use Rattle.std.specs.List.{IsDistinct, position_or_len};
 ghost use Rattle.std.specs.Option.{option_copied};

@@ -1,3 +1,5 @@
+//! Rows of items that grow.
+
 ghost use Rattle.std.specs.Prelude.{◌≡◌, ◌<◌, ◌++◌, ◌∷◌, [], length, replicate, slice_index_or, slice_set, IfOk, OnOk};
 
 use crate::items::Items;

@@ -7,7 +7,7 @@ use csp_base::{NoMemory, Place};
 pub enum LexFault {
     /// Memory ran out.
     NoMemory,
-    /// The text is no script: here the first piece begins that is no token, blank, comment or skipped assertion.
+    /// The text is no script: at `at` the first piece begins that is no token, blank, comment or skipped assertion.
     NoScript { at: Place },
 }
 

@@ -7,7 +7,7 @@ use csp_base::{NoMemory, Place};
 pub enum ParseFault {
     /// Memory ran out.
     NoMemory,
-    /// The text is no script: this is the place at which it turned out to be none.
+    /// The text is no script: `at` is the place at which it turned out to be none.
     NoScript { at: Place },
 }
 

@@ -47,6 +47,9 @@ pub fn parse(alloc: Global, tokens: &Tokens) -> Result<Script, ParseFault>
 }
 
 /// The script that the text spells.
+///
+/// The fault, but for want of memory, is that it spells none within the limits of nesting, and tells a place: where the first piece begins that is no
+/// token, or else the place of the token at which reading stopped, or that of the text's end.
 pub fn read(alloc: Global, text: &[u8]) -> Result<Script, ParseFault>
     ensures found { IfOk result (λ script. Spells text.now script) }
 

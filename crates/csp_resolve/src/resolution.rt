@@ -81,7 +81,7 @@ fn resolved(meanings: &Meanings<'_>, decls: &[Decl]) -> Result<Content, Unresolv
     }
 }
 
-// The first name that is asserted.
+// The first name or call that is asserted.
 fn first_assertion(decls: &[Decl]) -> Option<&Tree>
     ensures { option_copied result ≡ contents.first_assertion decls.now }
 {

@@ -129,7 +129,7 @@ pub fn eval_under(
     eval_expr(&scope, &names, expr)
 }
 
-/// The values of expressions of a program under names that generators bind, from the left.
+/// The values of expressions of a program under names that generators bind, from the left. Faults are those of `eval`, of the first that has one.
 pub fn eval_all_under(
     alloc: Global,
     program: &Program,
@@ -153,7 +153,9 @@ pub fn eval_all_under(
     eval_all(&scope, &names, exprs)
 }
 
-/// The number of the first event of a channel that begins with these fields, under names that generators bind.
+/// The number of the first event of a channel that begins with these fields, under names that generators bind. Faults are those of `eval`, of the
+/// fields from the left; a field too many, or a value that is none of its field's, has the kind `OutsideChannel`, and a channel without field sets
+/// the kind `Kind`.
 pub fn front_under(
     alloc: Global,
     program: &Program,

@@ -13,7 +13,7 @@ use name_tables::declared::next;
 use script_names::End;
 use std::alloc::Global;
 
-// Whether an end is the one that is looked for, and no use.
+// Whether an end is the one looked for; no process and no use is.
 fn is_last(target: End, end: End) -> bool
     ensures { result ≡ meant.is_last target end }
 {

@@ -15,7 +15,7 @@ use name_tables::declared::short;
 use script_names::End;
 use std::alloc::Global;
 
-/// For each definition whether it leads to `target`, which is the class of a form or no meaning.
+/// For each definition whether it leads to `target`, which is data, a parallel or no meaning.
 pub fn leading(alloc: Global, all: &[Vec<End>], target: End) -> Result<Vec<bool>, NoMemory>
     requires { is_last target target ≡ true }
     ensures { IfOk result (λ marks. AreLeading target (rows all.now) marks.items) }

@@ -1,3 +1,5 @@
+//! The conditions that the rules with notes make of components and links.
+
 /// What the rules with notes ask of a component or of a link: S1 to S5 of clients and servers, U1 to U4 of users and resources.
 #[derive(Clone, Copy, Debug)]
 pub enum Condition {

@@ -1,3 +1,5 @@
+//! The rules, with what a script notes for them.
+
 use containers::Items;
 use csp_tables::{RoleSets, UseSets};
 

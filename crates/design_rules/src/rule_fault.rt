@@ -1,3 +1,5 @@
+//! Why a network does not meet a rule.
+
 use crate::condition::Condition;
 use containers::Items;
 use csp_base::{Event, NoMemory, Trace};
@@ -10,25 +12,35 @@ pub enum RuleFault {
     /// A component goes through its links in no fixed order: the event is possible after the trace, and it clashes with one
     /// that is possible after a trace that is not longer.
     NoOrder {
+        /// The place of the component.
         part: u32,
+        /// Events after which it breaks the order.
         trace: Trace,
+        /// The event by which it does.
         event: Event,
     },
     /// On a link each end, after its trace, accepts some of the link's events and not all.
     NoWholeEnd {
+        /// The place of the link.
         link: u32,
+        /// Events after which its left end falls short.
         left: Trace,
+        /// Events after which its right end does.
         right: Trace,
     },
     /// The least condition of the rule that is broken, the first component that breaks it, and a run after which it does.
     Broken {
+        /// The condition.
         condition: Condition,
+        /// The place of the component. Where a link breaks it (S2, U1), its left end.
         part: u32,
+        /// Events after which the component breaks it; none for S1, S2 and U1.
         trace: Trace,
     },
     /// Links that must come before one another, components that are clients of one another, or resources that are held while
     /// the next are offered: each of the next one, and the last of the first.
     Circle {
+        /// The places of the links, or of the components.
         members: Items<u32>,
     },
 }

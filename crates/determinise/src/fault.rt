@@ -1,3 +1,5 @@
+//! Why a table has no determinised table.
+
 use csp_base::NoMemory;
 
 /// Why a table has no determinised table, or none was found.

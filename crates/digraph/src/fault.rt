@@ -1,3 +1,5 @@
+//! Why a digraph has no heights.
+
 use circles::Circle;
 use std::alloc::AllocError;
 

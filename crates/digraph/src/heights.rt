@@ -1,3 +1,5 @@
+//! A number for each vertex of a digraph.
+
 ghost use Rattle.std.specs.Prelude.{◌≡◌, ◌==◌, ◌<◌, ℕ, length, slice_index};
 
 use std::marker::Model;

@@ -1,3 +1,5 @@
+//! The vertices that walks from given ones reach.
+
 ghost use Rattle.std.specs.Prelude.{◌≡◌, [], ℕ, ◌<◌, ◌↔◌, All, nat_eq, length, IsTrue, IfOk, OnOk};
 ghost use Rattle.std.specs.List.{IsDistinct};
 ghost use Rattle.csp_base.specs.Members.{has};

@@ -1,3 +1,5 @@
+//! Digraphs as rows of the targets of arcs.
+
 ghost use Rattle.std.specs.Prelude.{◌≡◌, ℕ, ◌+◌, ◌<◌, ◌^◌, ◌==◌, ◌&&◌, ◌||◌, List, [], ◌∷◌, ◌++◌, length, replicate, slice_set, All, IfOk, OnOk, OnErr};
 ghost use Rattle.digraph.specs.Digraph.{targets_of, has_arc, InRange};
 

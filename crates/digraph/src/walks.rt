@@ -1,3 +1,5 @@
+//! The longest walks of a digraph, or a circle where they have no end.
+
 ghost use Rattle.std.specs.Prelude.{◌≡◌, ℕ, ◌+◌, ◌-◌, ◌<◌, ◌≤◌, ◌↔◌, List, [], true, false, length, map, max, slice_index, All, IfOk, OnOk};
 ghost use Rattle.circles.specs.Turn.{IsTurnedFrom};
 ghost use Rattle.digraph.specs.Digraph.{targets_of, HasArc, InRange};

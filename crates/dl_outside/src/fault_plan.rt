@@ -44,6 +44,7 @@ impl PlannedFaults {
         ensures small { self.new.faults < 2 ^ 32 }
     {
         self.calls = self.calls.saturating_add(1);
+        // The count stops at `u32::MAX`: a plan that names it would fail for ever, so no call of that number fails.
         let fails = self.calls < u32::MAX && self.failing.contains(&self.calls);
         if fails {
             self.fault_count = raised(self.fault_count);

@@ -70,7 +70,7 @@ fn fault_of(kind: ErrorKind) -> LoadFault
     }
 }
 
-/// Counts a read that failed.
+/// Counts a fault: a read failed, or gave more bytes than are counted.
 fn failed(faults: &mut u64) -> LoadFault
     ensures fault { result ≡ LoadFault.Failed }
     ensures counted { faults.new ≡ one_more faults.old }
@@ -117,7 +117,8 @@ fn append(
     Ok(piece.len())
 }
 
-/// Reads to the end, or until more than `limit` bytes are there.
+/// Reads to the end, or until more than `limit` bytes are there, which is the fault `TooLong`. `Failed` is a read that failed, or gave more bytes than
+/// are counted.
 pub fn read_text<R: Read>(
     alloc: Global,
     reader: &mut R,

@@ -11,12 +11,16 @@ use std::alloc::Global;
 /// Why a text wasn't loaded.
 #[derive(Clone, Copy, Debug, PartialEq, Eq, Drop, thiserror::Error)]
 pub enum LoadFault {
+    /// There is no text of that name.
     #[error("there is no text of that name")]
     Missing,
+    /// The text has more bytes than were asked for.
     #[error("the text is too long")]
     TooLong,
+    /// The text could not be looked for or read.
     #[error("the text could not be read")]
     Failed,
+    /// Memory ran out.
     #[error("out of memory")]
     NoMemory,
 }
@@ -43,7 +47,8 @@ pub trait Shelf {
     // How many bytes its loads have taken. A shelf that tells its texts may leave it at 0.
     ghost taken: { Self → ℕ };
 
-    /// The text of this name, if it has at most `limit` bytes.
+    /// The text of this name, if it has at most `limit` bytes. The fault is `TooLong` where it has more, `Missing` where there is none, and `Failed`
+    /// where it could not be looked for or read.
     fn load(&mut self, alloc: Global, name: &[u8], limit: u32) -> Result<Bytes, LoadFault>
         ensures answer { LoadAnswers (texts self.old) name.now limit
             (HasRisen (faults self.old) (faults self.new)) (taken self.old + limit < taken self.new) result }

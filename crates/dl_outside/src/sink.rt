@@ -9,8 +9,10 @@ use csp_base::NoMemory;
 /// Why nothing of a piece was taken.
 #[derive(Clone, Copy, Debug, PartialEq, Eq, Drop, thiserror::Error)]
 pub enum SinkFault {
+    /// The bytes could not be written.
     #[error("the bytes could not be written")]
     Failed,
+    /// Memory ran out.
     #[error("out of memory")]
     NoMemory,
 }

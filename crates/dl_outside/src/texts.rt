@@ -13,7 +13,9 @@ use std::alloc::Global;
 /// A text and the name that it is held under.
 #[derive(Drop)]
 pub struct NamedText {
+    /// The name.
     pub name: Bytes,
+    /// The text.
     pub text: Bytes,
 }
 

@@ -18,6 +18,9 @@ use std::alloc::Global;
 /// each block, for each event, into the nodes from which the event leads into the splitter and the others. Both halves of a
 /// block that is split wait then, the smaller one first in turn; so the partition is stable under each block that doesn't
 /// wait.
+///
+/// `marks` holds a number for each node, in their order: equal where the same is accepted there. Nodes of one class can do the same lists of
+/// events, and each list leads from them to nodes with equal marks.
 pub fn refine(alloc: Global, nodes: &[NormNode], marks: &[u32]) -> Result<Classes, NoMemory>
     requires rising { NodesRise nodes.now }
     requires marks { length marks.now ≡ length nodes.now }

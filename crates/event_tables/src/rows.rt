@@ -15,6 +15,7 @@ use value_operators::numbers::row_count;
 pub fn rows(alloc: Global, sets: &[AtomSet]) -> Result<Vec<Items<Atom>>, NoMemory>
     ensures { IfOk result (λ made. made.items ≡ meant.rows sets.now) }
 {
+    // Without this, the lists before a later empty set would be built in vain.
     if row_count(sets) == 0 {
         return Ok(Vec::new(alloc));
     }

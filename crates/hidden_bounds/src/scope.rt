@@ -1,4 +1,4 @@
-//! What the calls of this crate go by.
+//! What each function here reads: where memory comes from, the program, components, tables, hidden events.
 
 ghost use Rattle.std.specs.Prelude.{◌≡◌, ◌<◌, length, IfOk};
 ghost use Rattle.csp_base.specs.Events.{inter_of, meets_of};
@@ -10,7 +10,7 @@ use network_layout::Seat;
 use network_tables::ComponentTable;
 use std::alloc::Global;
 
-// What the calls of this crate go by.
+// What each function here reads: where memory comes from, the program, components, tables, hidden events.
 #[derive(Drop)]
 pub(crate) struct Scope<'a> {
     /// Where memory comes from.

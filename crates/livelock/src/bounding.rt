@@ -16,7 +16,7 @@ use network_stages::{Tabled, make_tables, spell_network};
 use report::{Answer, Done, Refusal, Shortfall, Side, Stop, stopped};
 use std::alloc::Global;
 
-// How it is told that there is no bound.
+// How it is told why no bound is printed.
 fn no_bound(alloc: Global, fault: &LoopFault) -> Result<Answer, NoMemory>
     ensures { IfOk result (TellsFault fault.now) }
 {
@@ -45,7 +45,7 @@ fn livelock_free(tabled: &Tabled<'_>, bound: u64) -> Done
     }
 }
 
-// The bound of components with these events hidden, or that there is none.
+// The bound of components with these events hidden, or why none is told.
 fn bound_with(alloc: Global, tabled: &Tabled<'_>, events: &EventSet) -> Result<Done, Stop<Answer>>
     requires { length tabled.now.components ≤ MOST_COMPONENTS }
     ensures { Answers (OrderDecides tabled.now.program tabled.now.components events.now) result }

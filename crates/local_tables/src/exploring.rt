@@ -24,6 +24,10 @@ use term_pool::ProcId;
 /// The table of the component with this term and this alphabet: exactly the terms that it reaches by itself, its own one first, and exactly their steps
 /// within the alphabet.
 ///
+/// A fault, but for want of memory, says that it has none: a step needs a value that there isn't (`Value`), there are more than 16,384 terms
+/// (`TermCount`), one is deeper than 800 (`TermDepth`), they or their steps are more than there is room for (`TermTotal`, `StepCount`), or it can end
+/// (`Terminates`).
+///
 /// It takes time in proportion to the terms and their steps.
 pub fn explore(
     alloc: Global,

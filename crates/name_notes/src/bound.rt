@@ -59,7 +59,7 @@ impl BoundNames {
         self.scope.bind(x, 0)
     }
 
-    /// Leaves the first names alone, so many of them.
+    /// Takes out the names that were bound after the first `count`.
     pub(crate) fn leave(&mut self, count: usize)
         requires { count ≤ length self.old }
         ensures { self.new ≡ take count self.old }

@@ -96,7 +96,7 @@ impl Scope {
         bind_in(&mut self.bindings, &mut self.last, name, spelling, number)
     }
 
-    /// Leaves the first names alone, so many of them.
+    /// Takes out the names that were bound after the first `count`.
     pub fn leave(&mut self, count: usize)
         requires { count ≤ length self.old }
         ensures { self.new ≡ take count self.old }
@@ -161,7 +161,7 @@ fn unbind_in(bindings: &mut Vec<Binding>, last: &mut BTreeMap<Vec<u8>, u32>)
     }
 }
 
-// Leaves the first names alone, so many of them.
+// Takes out the names that were bound after the first `count`.
 fn leave_in(bindings: &mut Vec<Binding>, last: &mut BTreeMap<Vec<u8>, u32>, count: usize)
     requires count { count ≤ length bindings.old.items }
     requires kept { KeepHidden [] bindings.old.items }

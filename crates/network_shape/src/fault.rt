@@ -1,3 +1,5 @@
+//! Why a network is not busy.
+
 use csp_base::{NoMemory, Trace};
 
 /// Why a network isn't busy, or no answer was found.
@@ -5,7 +7,7 @@ use csp_base::{NoMemory, Trace};
 pub enum BusyFault {
     /// Memory ran out.
     NoMemory,
-    /// After the trace the component can come to accept nothing.
+    /// After the events of `trace` the component at the place `part` can come to accept nothing. It is the first that ever can.
     Stops { part: u32, trace: Trace },
 }
 

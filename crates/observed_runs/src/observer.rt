@@ -1,3 +1,5 @@
+//! What watches the events of a run.
+
 ghost use Rattle.std.specs.Prelude.{◌≡◌, ℕ};
 
 use csp_base::Event;

@@ -1,4 +1,5 @@
 //! Numbers below which an expression reads no name: with a value in place of such a name it stays as it is.
+//! Each lower number is one too. 0 always is one, and only costs time.
 
 ghost use Rattle.std.specs.Prelude.{◌≤◌};
 ghost use Rattle.pool_parts.specs.Low.{AllLow, ExprLow, FieldLow, GenLow, HeadLow, PairLow, PartLow};
@@ -14,6 +15,7 @@ pub fn lower(left: u32, right: u32) -> u32
     if left < right { left } else { right }
 }
 
+/// A number below which an expression reads no name.
 #[cycle(least_of_expr)]
 pub fn least_of_expr(expr: &Expr) -> u32
     ensures { ExprLow result expr.now }
@@ -72,6 +74,7 @@ fn least_of_production(parts: &Items<EventPart>, gens: &Items<Gen>) -> u32
     )
 }
 
+/// A number below which no expression of a list reads a name.
 #[cycle(least_of_expr)]
 pub fn least_of_exprs(exprs: &[Expr]) -> u32
     ensures { AllLow ExprLow result exprs.now }
@@ -93,6 +96,7 @@ fn least_of_gen(generator: &Gen) -> u32
     }
 }
 
+/// A number below which no generator of a list reads a name.
 #[cycle(least_of_expr)]
 pub fn least_of_gens(gens: &[Gen]) -> u32
     ensures { AllLow GenLow result gens.now }
@@ -132,6 +136,7 @@ fn least_of_field(field: &Field) -> u32
     }
 }
 
+/// A number below which no field of a prefix reads a name.
 pub fn least_of_fields(fields: &[Field]) -> u32
     ensures { AllLow FieldLow result fields.now }
 {
@@ -148,6 +153,7 @@ fn least_of_pair(pair: &(EventPart, EventPart)) -> u32
     lower(least_of_part(&pair.0), least_of_part(&pair.1))
 }
 
+/// A number below which no pair of a renaming reads a name.
 pub fn least_of_pairs(pairs: &[(EventPart, EventPart)]) -> u32
     ensures { AllLow PairLow result pairs.now }
 {
@@ -158,6 +164,7 @@ pub fn least_of_pairs(pairs: &[(EventPart, EventPart)]) -> u32
     least
 }
 
+/// A number below which a head reads no name.
 pub fn least_of_head(head: &Head) -> u32
     ensures { HeadLow result head.now }
 {

@@ -21,6 +21,7 @@ fn of_value(value: &Value) -> Measure
     }
 }
 
+/// What an expression measures.
 #[cycle(of_expr)]
 pub fn of_expr(expr: &Expr) -> Measure
     ensures depth { result.depth ≡ capped (expr_depth expr.now) }
@@ -82,6 +83,7 @@ fn of_production(parts: &Items<EventPart>, gens: &Items<Gen>) -> Measure
     together(of_parts(parts.as_slice()), of_gens(gens.as_slice()))
 }
 
+/// What expressions measure together.
 #[cycle(of_expr)]
 pub fn of_exprs(exprs: &[Expr]) -> Measure
     ensures depth { result.depth ≡ capped (greatest (map expr_depth exprs.now)) }
@@ -106,6 +108,7 @@ fn of_gen(generator: &Gen) -> Measure
     }
 }
 
+/// What generators measure together.
 #[cycle(of_expr)]
 pub fn of_gens(gens: &[Gen]) -> Measure
     ensures depth { result.depth ≡ capped (greatest (map gen_depth gens.now)) }
@@ -150,6 +153,7 @@ fn of_field(field: &Field) -> Measure
     }
 }
 
+/// What the fields of a prefix measure together.
 pub fn of_fields(fields: &[Field]) -> Measure
     ensures depth { result.depth ≡ capped (greatest (map field_depth fields.now)) }
     ensures size { result.size ≡ capped (total (map field_size fields.now)) }
@@ -168,6 +172,7 @@ fn of_pair(pair: &(EventPart, EventPart)) -> Measure
     counted(together(of_part(&pair.0), of_part(&pair.1)))
 }
 
+/// What the pairs of a renaming measure together.
 pub fn of_pairs(pairs: &[(EventPart, EventPart)]) -> Measure
     ensures depth { result.depth ≡ capped (greatest (map pair_depth pairs.now)) }
     ensures size { result.size ≡ capped (total (map pair_size pairs.now)) }
@@ -179,6 +184,7 @@ pub fn of_pairs(pairs: &[(EventPart, EventPart)]) -> Measure
     all
 }
 
+/// What a process measures.
 #[cycle(of_proc)]
 pub fn of_proc(proc: &Proc) -> Measure
     ensures depth { result.depth ≡ capped (proc_depth proc.now) }

@@ -278,7 +278,7 @@ impl Drop for PrintedMove {
     }
 }
 
-/// What a walk did that came to its end.
+/// What a job answers that was done.
 pub enum Done {
     /// The script is shown.
     Shown {

@@ -10,7 +10,7 @@ use csp_base::NoMemory;
 pub enum Stop<F> {
     /// Memory ran out.
     NoMemory,
-    /// This is told.
+    /// The walk ends with this answer or fault.
     Told(F),
 }
 
@@ -62,7 +62,7 @@ pub fn refused(side: Side, stop: Stop<Refusal>) -> Stop<Answer>
     }
 }
 
-/// Why a step stops whose fault is told so, unless memory runs out for that.
+/// The stop that tells this fault, or want of memory where telling it ran out of memory.
 pub fn stopped<F>(told: Result<F, NoMemory>) -> Stop<F>
     ensures { result ≡ stop_of told }
 {

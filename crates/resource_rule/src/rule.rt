@@ -33,7 +33,7 @@ pub fn resource(alloc: Global, shape: &Shape, uses: &[UseSets]) -> Result<Rankin
     ranked(alloc, &setting)
 }
 
-// The same of a shape that is setting.
+// The same of a shape that is sorted out, with its resources.
 fn ranked(alloc: Global, setting: &Setting<'_>) -> Result<Ranking, RuleFault>
     ensures resource { OnOk result (IsResource setting.now.shape setting.now.uses) }
     ensures ranking { IfOk result (λ ranking. IsResourceRanking setting.now.shape setting.now.uses ranking) }

@@ -71,7 +71,8 @@ fn of_value<'a>(value: &Value) -> Result<Start<'a>, EvalFault>
     }
 }
 
-/// The events that a head stands for.
+/// The events that a head stands for. Its fault has the kind `Kind`: there is no such channel, or one without field sets, or the head is a bound name
+/// or a value that is no event.
 pub fn of_head<'a>(program: &'a Program, head: &Head) -> Result<Start<'a>, EvalFault>
     ensures { GivesStart result (meant.of_head program.now head.now) }
 {

@@ -15,7 +15,7 @@ const KIND: EvalFault = EvalFault::Value {
     kind: ValueKind::Kind,
 };
 
-/// Whether a condition is true.
+/// Whether a condition is true. Faults are those of `eval`; a value that is no truth value has the kind `Kind`.
 pub fn truth_in(alloc: Global, program: &Program, c: &Expr) -> Result<bool, EvalFault>
     ensures { Gives result (meant.truth_in program.now c.now) }
 {
@@ -23,14 +23,14 @@ pub fn truth_in(alloc: Global, program: &Program, c: &Expr) -> Result<bool, Eval
     to_truth(&value)
 }
 
-/// A set of values.
+/// A set of values. Faults are those of `eval_set`.
 pub fn set_in(alloc: Global, program: &Program, s: &Expr) -> Result<AtomSet, EvalFault>
     ensures { Gives result (meant.set_in program.now s.now) }
 {
     eval_set(alloc, program, s)
 }
 
-/// A set that holds nothing but events.
+/// A set that holds nothing but events. Faults are those of `eval_set`; a set that holds anything else has the kind `Kind`.
 pub fn events_in(alloc: Global, program: &Program, s: &Expr) -> Result<EventSet, EvalFault>
     ensures { Gives result (meant.events_in program.now s.now) }
 {
@@ -41,7 +41,7 @@ pub fn events_in(alloc: Global, program: &Program, s: &Expr) -> Result<EventSet,
     }
 }
 
-/// The values of arguments, from the left.
+/// The values of arguments, from the left. Faults are those of `eval`, of the first argument that has one.
 pub fn arguments_in(
     alloc: Global,
     program: &Program,

@@ -83,6 +83,9 @@ fn gather_all(scope: &Scope<'_>, gens: &[Gen], tally: Tally) -> Result<Tally, Ev
 }
 
 /// What a renaming makes of events: pairs of an old event and a new one.
+///
+/// Faults are those of `eval`, of the generators and, under each binding, of the events that the pairs name, from the left. More than 1,048,576
+/// bindings have the kind `SetLimit`.
 pub fn renaming_in(
     alloc: Global,
     program: &Program,

@@ -1,3 +1,5 @@
+//! Why a table has no heights.
+
 use csp_base::NoMemory;
 use digraph::Circle;
 
@@ -6,7 +8,7 @@ use digraph::Circle;
 pub enum HeightFault {
     /// Memory ran out.
     NoMemory,
-    /// Silent steps lead round a circle, so some run of them has no end.
+    /// Silent steps lead round the circle of terms `circle`, so some run of them has no end.
     Diverges { circle: Circle },
 }
 

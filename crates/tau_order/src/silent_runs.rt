@@ -1,3 +1,5 @@
+//! How many silent steps follow one another from each term.
+
 ghost use Rattle.std.specs.Prelude.{◌≡◌, ◌-◌, ◌<◌, ℕ, List, slice_index, IfOk, OnOk};
 ghost use Rattle.csp_tables.specs.Path.{SilentStep};
 ghost use Rattle.csp_tables.specs.RawTable.{RawStep};

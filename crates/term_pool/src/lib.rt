@@ -1,4 +1,5 @@
-//! Terms: depth, size and equality of processes, and a pool in which each stands once.
+//! A pool of terms, in which each process stands once, with its depth, which is how far its parts are nested, and its size, which is how many parts
+//! it has, the elements of sets that were put in among them.
 #![tactic(auto)]
 
 mod below;

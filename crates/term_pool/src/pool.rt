@@ -106,7 +106,8 @@ impl Pool {
         node_at(&self.parts, entry)
     }
 
-    /// The depth of the process at a place, as `term_depth` counts it.
+    /// The depth of the process at a place: 1 without parts, else one more than the greatest depth among its processes and expressions, those in
+    /// fields, pairs and generators included. Counting stops at 4,294,967,295.
     pub fn depth(&self, id: ProcId) -> u32
         requires { id.0 < length self.now }
         ensures { result ≡ capped (proc_depth (tree_at self.now id)) }
@@ -114,7 +115,8 @@ impl Pool {
         self.measures.as_slice()[id.0].depth
     }
 
-    /// The size of the process at a place, as `term_size` counts it.
+    /// The size of the process at a place: 1 for each process, expression, field, pair and generator in it, and 1 more for each element of a set that
+    /// was put in. Counting stops at 4,294,967,295.
     pub fn size(&self, id: ProcId) -> u32
         requires { id.0 < length self.now }
         ensures { result ≡ capped (proc_size (tree_at self.now id)) }

@@ -27,7 +27,7 @@ pub struct Names<'a> {
     pub bound: &'a [(u32, Atom)],
 }
 
-/// The same value.
+/// The same value. The only fault is want of memory.
 pub fn copied(alloc: Global, value: &Value) -> Result<Value, EvalFault>
     ensures { Gives result (Ok value.now) }
 {
@@ -111,7 +111,7 @@ fn argument(
     at_place(alloc, placed, slot)
 }
 
-/// The value of the name with the number `slot`.
+/// The value of the name with the number `slot`, of the one bound last. Where no name has the number, there is a fault of kind `Kind`.
 pub fn named(alloc: Global, names: &Names<'_>, slot: u32) -> Result<Value, EvalFault>
     ensures { Gives result (bound_value (env_in names.now) slot) }
 {

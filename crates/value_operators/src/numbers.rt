@@ -49,7 +49,7 @@ fn first_of(channels: &[Channel], channel: u32) -> u32
     }
 }
 
-/// The place of a value among the values of a field.
+/// The place of a value among the values of a field. A value that is none of them has the kind `OutsideChannel`.
 pub fn place_in(set: &AtomSet, value: &Value) -> Result<u64, EvalFault>
     ensures { Gives result (field_place set.now value.now) }
 {

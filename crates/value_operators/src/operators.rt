@@ -29,7 +29,7 @@ const DIVISION: EvalFault = EvalFault::Value {
     kind: ValueKind::Division,
 };
 
-/// The atom that a value is.
+/// The atom that a value is. A set has the fault `Kind`.
 pub fn to_atom(value: &Value) -> Result<Atom, EvalFault>
     ensures { Gives result (as_atom value.now) }
 {
@@ -39,7 +39,7 @@ pub fn to_atom(value: &Value) -> Result<Atom, EvalFault>
     }
 }
 
-/// The number that a value is.
+/// The number that a value is. Any other value has the fault `Kind`.
 pub fn to_number(value: &Value) -> Result<i64, EvalFault>
     ensures { Gives result (as_number value.now) }
 {
@@ -49,7 +49,7 @@ pub fn to_number(value: &Value) -> Result<i64, EvalFault>
     }
 }
 
-/// The truth value that a value is.
+/// The truth value that a value is. Any other value has the fault `Kind`.
 pub fn to_truth(value: &Value) -> Result<bool, EvalFault>
     ensures { Gives result (as_truth value.now) }
 {
@@ -59,7 +59,7 @@ pub fn to_truth(value: &Value) -> Result<bool, EvalFault>
     }
 }
 
-/// The set that a value is.
+/// The set that a value is. An atom has the fault `Kind`.
 pub fn to_set(value: Value) -> Result<AtomSet, EvalFault>
     ensures { Gives result (as_set value) }
 {
@@ -80,7 +80,7 @@ fn ranged(number: i64) -> Result<Value, EvalFault>
     }
 }
 
-/// The negative of a number.
+/// The negative of a number. Any other value has the fault `Kind`; a negative below -1,000,000 or above 1,000,000 has the fault `Range`.
 pub fn negated(value: &Value) -> Result<Value, EvalFault>
     ensures { Gives result (and_then (as_number value.now) (λ n. in_range (neg_ℤ n))) }
 {
@@ -91,7 +91,7 @@ pub fn negated(value: &Value) -> Result<Value, EvalFault>
     }
 }
 
-/// The other truth value.
+/// The other truth value. Any other value has the fault `Kind`.
 pub fn inverted(value: &Value) -> Result<Value, EvalFault>
     ensures { Gives result (and_then (as_truth value.now) (λ b. Ok (truth (not b)))) }
 {
@@ -278,7 +278,8 @@ fn joined(decides: bool, first: &Value, second: &Value) -> Result<Value, EvalFau
     truth_value(right)
 }
 
-/// What an operator gives of two values.
+/// What an operator gives of two values. An operand of a kind that the operator doesn't take has the fault `Kind`, a result below -1,000,000 or above
+/// 1,000,000 the fault `Range`, and a divisor below 1 the fault `Division`; where the first operand decides, the second may be anything.
 pub fn applied(op: BinOp, first: &Value, second: &Value) -> Result<Value, EvalFault>
     ensures { Gives result (binary op first.now (Ok second.now)) }
 {

@@ -48,7 +48,8 @@ fn with_one_more(mut atoms: AtomSet, one: Atom) -> Result<AtomSet, EvalFault>
     }
 }
 
-/// The set with the atom that a value is.
+/// The set with the atom that a value is. A set, or an atom of another kind than the set's, has the fault `Kind`; more than 16,384 elements have the
+/// fault `SetLimit`.
 pub fn with_item(atoms: AtomSet, item: &Value) -> Result<AtomSet, EvalFault>
     ensures { Gives result (and_then (as_atom item.now) (λ a. added atoms a)) }
 {
@@ -56,7 +57,7 @@ pub fn with_item(atoms: AtomSet, item: &Value) -> Result<AtomSet, EvalFault>
     with_one_more(atoms, one)
 }
 
-/// The set of constants.
+/// The set of constants. More than 16,384 different ones have the fault `SetLimit`.
 pub fn constants(alloc: Global, numbers: &[u32]) -> Result<AtomSet, EvalFault>
     ensures { Gives result (all_added [] (map (λ k. atom.Const k) numbers.now)) }
 {
@@ -104,7 +105,8 @@ fn holds_events(atoms: &AtomSet, first: u32, count: u32) -> bool
     stands_after(atoms, lowest, highest, u64::from(count - 1))
 }
 
-/// The set with the events from `first` on, so many of them.
+/// The set with the events from `first` on, so many of them. Atoms of another kind in it have the fault `Kind`, and more than 16,384 elements the
+/// fault `SetLimit`.
 pub fn with_events(atoms: AtomSet, first: u32, count: u32) -> Result<AtomSet, EvalFault>
     requires { first + count < 2 ^ 32 }
     ensures { Gives result (all_added atoms (events_from first count)) }
@@ -131,7 +133,7 @@ fn united(alloc: Global, left: &AtomSet, right: &AtomSet) -> Result<AtomSet, Eva
     }
 }
 
-/// What an operator gives of two sets.
+/// What an operator gives of two sets. A union of two kinds of atoms has the fault `Kind`, and more than 16,384 elements have the fault `SetLimit`.
 pub fn combined(
     alloc: Global,
     op: SetOp,
@@ -185,7 +187,7 @@ fn distance(first: i64, last: i64) -> Option<u16>
     }
 }
 
-/// The numbers from `first` to `last`.
+/// The numbers from `first` to `last`, none where `last` is below `first`. More than 16,384 have the fault `SetLimit`.
 pub fn numbers(alloc: Global, first: i64, last: i64) -> Result<AtomSet, EvalFault>
     ensures { Gives result (meant.range first last) }
 {
