@@ -1,4 +1,4 @@
-//! Terms: depth, size and equality of processes, and a pool in which each stands once.
+//! A pool of terms, in which each stands once, with its depth and its size.
 #![tactic(auto)]
 
 mod below;
@@ -13,10 +13,8 @@ mod own_parts;
 pub mod pool;
 mod put;
 mod substitute;
-pub mod terms;
 mod under;
 
 pub use node::Node;
 pub use pool::Pool;
 pub use pool_parts::ProcId;
-pub use terms::{term_depth, term_size};

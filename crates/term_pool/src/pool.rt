@@ -1,6 +1,6 @@
 //! A pool of processes: each stands in it once, and its sub-processes stand at smaller places.
 
-ghost use Rattle.std.specs.Prelude.{◌≡◌, ◌↔◌, IsTrue, ◌<◌, [], true, length, slice_get, IfOk, OnErr, Some};
+ghost use Rattle.std.specs.Prelude.{◌≡◌, ◌<◌, [], true, length, slice_get, IfOk, OnErr, Some};
 ghost use Rattle.csp_program.specs.Depth.{proc_depth};
 ghost use Rattle.csp_program.specs.Size.{proc_size};
 ghost use Rattle.csp_program.specs.Substitution.{proc_with};
@@ -106,7 +106,8 @@ impl Pool {
         node_at(&self.parts, entry)
     }
 
-    /// The depth of the process at a place, as `term_depth` counts it.
+    /// The depth of the process at a place: 1 without parts, else one more than the greatest depth among its processes and expressions.
+    /// Counting stops at 4,294,967,295.
     pub fn depth(&self, id: ProcId) -> u32
         requires { id.0 < length self.now }
         ensures { result ≡ capped (proc_depth (tree_at self.now id)) }
@@ -114,7 +115,8 @@ impl Pool {
         self.measures.as_slice()[id.0].depth
     }
 
-    /// The size of the process at a place, as `term_size` counts it.
+    /// The size of the process at a place: 1 for each process, expression, field, pair and generator in it, and 1 more for each element of a set
+    /// that was put in. Counting stops at 4,294,967,295.
     pub fn size(&self, id: ProcId) -> u32
         requires { id.0 < length self.now }
         ensures { result ≡ capped (proc_size (tree_at self.now id)) }
@@ -127,17 +129,6 @@ impl Pool {
         ensures { ProcLow result (tree_at self.now id) }
     {
         least_at(self.leasts.as_slice(), id)
-    }
-
-    /// Whether the processes at two places are one process.
-    pub fn same(&self, left: ProcId, right: ProcId) -> bool
-        requires left { left.0 < length self.now }
-        requires right { right.0 < length self.now }
-        ensures { IsTrue result ↔ (tree_at self.now left ≡ tree_at self.now right) }
-    {
-        // Its contract says that no process stands at two places.
-        let _ = self.len();
-        left.0 == right.0
     }
 
     /// The place of the process that the node is with the processes at its places. A new one goes to the end; for one that is known no memory is needed.
